@@ -1,0 +1,7 @@
+//! The normaliser: of all lists of slices with the same value at each instant, the normal one.
+#![tactic(auto)]
+
+pub mod joined;
+pub mod normal;
+
+pub use normal::normal;
