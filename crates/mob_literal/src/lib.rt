@@ -1,0 +1,6 @@
+//! Literals of temporal values: what their texts mean, and how the values print.
+#![tactic(auto)]
+
+pub mod printing;
+pub mod scalar;
+pub mod written;

@@ -1,0 +1,188 @@
+ghost use Rattle.std.specs.Prelude.{◌≡◌, ◌<◌, ◌≤◌, ◌^◌, length, option_map, List, ℕ, Option, Some, IfSome};
+ghost use Rattle.std.specs.Str.Parse.{digits_value};
+ghost use Rattle.mob_language.specs.Readers.{run_of, maybe_at};
+ghost use Rattle.mob_scalar.specs.Figures.{is_digit as digit, AreFigures};
+ghost use Rattle.mob_scalar.specs.Number.{has_digits as has_enough};
+ghost use Rattle.mob_scalar.specs.NumberReaders.{digits_at as digits_in, sign_at as sign_in, point_at as point_in, power_at as power_in, exponent_at as exponent_in, over_at as over_in, decimal_at as decimal_in, tail_at as tail_in, number_at as number_in};
+
+use crate::numeral::{Exponent, Figures, Numeral, Tail};
+
+fn is_digit(c: u8) -> bool
+    ensures { result ≡ digit c }
+{
+    48 <= c && c <= 57
+}
+
+/// The digits in front, and what stands behind them.
+fn split_digits(bytes: &[u8]) -> (&[u8], &[u8])
+    ensures { (result.0.now, result.1.now) ≡ run_of digit bytes.now }
+{
+    let mut i = 0;
+    while i < bytes.len() {
+        if !is_digit(bytes[i]) {
+            return bytes.split_at(i);
+        }
+        i += 1;
+    }
+    bytes.split_at(i)
+}
+
+/// The number that the digits stand for.
+fn value_of(digits: &[u8]) -> u128
+    requires short { length digits.now ≤ 36 }
+    requires all { AreFigures digits.now }
+    ensures value { result ≡ digits_value 10 digits.now }
+    ensures bound { result < 10 ^ length digits.now }
+{
+    let mut value: u128 = 0;
+    for c in digits {
+        value = value * 10 + (*c - 48) as u128;
+    }
+    value
+}
+
+#[tactic(auto, unfolding(crate::specs::NumberReaders::digits_at))]
+pub fn digits_at(bytes: &[u8]) -> Option<(Figures, &[u8])>
+    ensures value { option_map (λ x. (x.0, x.1.now)) result ≡ digits_in bytes.now }
+    ensures bound { IfSome result (λ x. x.0.count ≤ 36) }
+    ensures small { IfSome result (λ x. x.0.value < 10 ^ x.0.count) }
+{
+    let (digits, rest) = split_digits(bytes);
+    if digits.len() > 36 {
+        return None;
+    }
+    let size = Figures {
+        value: value_of(digits),
+        count: digits.len() as u32,
+    };
+    Some((size, rest))
+}
+
+#[tactic(auto, unfolding(crate::specs::NumberReaders::sign_at))]
+fn sign_at(bytes: &[u8]) -> Option<(bool, &[u8])>
+    ensures { option_map (λ x. (x.0, x.1.now)) result ≡ sign_in bytes.now }
+{
+    match bytes {
+        [43, rest @ ..] => Some((false, rest)),
+        [45, rest @ ..] => Some((true, rest)),
+        _ => Some((false, bytes)),
+    }
+}
+
+#[tactic(auto, unfolding(crate::specs::NumberReaders::point_at))]
+fn point_at(bytes: &[u8]) -> Option<(Figures, &[u8])>
+    ensures { option_map (λ x. (x.0, x.1.now)) result ≡ point_in bytes.now }
+{
+    match bytes {
+        [46, rest @ ..] => digits_at(rest),
+        _ => None,
+    }
+}
+
+#[tactic(auto, unfolding(crate::specs::NumberReaders::exponent_at))]
+fn exponent_at(bytes: &[u8]) -> Option<(Exponent, &[u8])>
+    ensures { option_map (λ x. (x.0, x.1.now)) result ≡ exponent_in bytes.now }
+{
+    match bytes {
+        [101, rest @ ..] | [69, rest @ ..] => power_at(rest),
+        _ => None,
+    }
+}
+
+#[tactic(auto, unfolding(crate::specs::NumberReaders::power_at))]
+fn power_at(bytes: &[u8]) -> Option<(Exponent, &[u8])>
+    ensures { option_map (λ x. (x.0, x.1.now)) result ≡ power_in bytes.now }
+{
+    let (negative, rest) = sign_at(bytes)?;
+    let (size, rest) = digits_at(rest)?;
+    if 0 < size.count && size.value <= 18 {
+        Some((Exponent { negative, size }, rest))
+    } else {
+        None
+    }
+}
+
+#[tactic(auto, unfolding(crate::specs::NumberReaders::over_at))]
+fn over_at(bytes: &[u8]) -> Option<(Tail, &[u8])>
+    ensures { option_map (λ x. (x.0, x.1.now)) result ≡ over_in bytes.now }
+{
+    match bytes {
+        [47, rest @ ..] => {
+            let (bottom, rest) = digits_at(rest)?;
+            Some((Tail::Over(bottom), rest))
+        }
+        _ => None,
+    }
+}
+
+fn maybe_point(bytes: &[u8]) -> (Option<Figures>, &[u8])
+    ensures { Some (result.0, result.1.now) ≡ maybe_at point_in bytes.now }
+{
+    match point_at(bytes) {
+        Some((part, rest)) => (Some(part), rest),
+        None => (None, bytes),
+    }
+}
+
+fn maybe_exponent(bytes: &[u8]) -> (Option<Exponent>, &[u8])
+    ensures { Some (result.0, result.1.now) ≡ maybe_at exponent_in bytes.now }
+{
+    match exponent_at(bytes) {
+        Some((exponent, rest)) => (Some(exponent), rest),
+        None => (None, bytes),
+    }
+}
+
+#[tactic(auto, unfolding(crate::specs::NumberReaders::decimal_at))]
+fn decimal_at(bytes: &[u8]) -> Option<(Tail, &[u8])>
+    ensures { option_map (λ x. (x.0, x.1.now)) result ≡ decimal_in bytes.now }
+{
+    let (part, rest) = maybe_point(bytes);
+    let (exponent, rest) = maybe_exponent(rest);
+    Some((Tail::Decimal(part, exponent), rest))
+}
+
+#[tactic(auto, unfolding(crate::specs::NumberReaders::tail_at))]
+fn tail_at(bytes: &[u8]) -> Option<(Tail, &[u8])>
+    ensures { option_map (λ x. (x.0, x.1.now)) result ≡ tail_in bytes.now }
+{
+    match over_at(bytes) {
+        Some(found) => Some(found),
+        None => decimal_at(bytes),
+    }
+}
+
+fn has_digits(whole: Figures, tail: Tail) -> bool
+    requires { whole.count ≤ 36 }
+    ensures { result ≡ has_enough whole tail }
+{
+    match tail {
+        Tail::Over(bottom) => 0 < whole.count && 0 < bottom.value,
+        Tail::Decimal(None, _) => 0 < whole.count,
+        Tail::Decimal(Some(part), _) => {
+            part.count <= 36 && 0 < whole.count + part.count && whole.count + part.count <= 36
+        }
+    }
+}
+
+/// The number in front, as it is written.
+#[tactic(auto, unfolding(crate::specs::NumberReaders::number_at))]
+pub fn number_at(bytes: &[u8]) -> Option<(Numeral, &[u8])>
+    ensures { option_map (λ x. (x.0, x.1.now)) result ≡ number_in bytes.now }
+{
+    let (negative, rest) = sign_at(bytes)?;
+    let (digits, rest) = digits_at(rest)?;
+    let (tail, rest) = tail_at(rest)?;
+    if has_digits(digits, tail) {
+        Some((
+            Numeral {
+                negative,
+                digits,
+                tail,
+            },
+            rest,
+        ))
+    } else {
+        None
+    }
+}
