@@ -2,6 +2,6 @@
 #![tactic(auto)]
 
 pub mod joined;
-pub mod normal;
+pub mod normaliser;
 
-pub use normal::normal;
+pub use normaliser::normal;
