@@ -2,6 +2,7 @@
 #![tactic(auto)]
 
 pub mod joined;
+pub mod laws;
 pub mod normaliser;
 
 pub use normaliser::normal;
