@@ -4,7 +4,8 @@ use Rattle.std.specs.Prelude.{◌≡◌, ◌≢◌, Bool, true, false, cond, Opt
 use Rattle.std.proofs.Common.{ap, sym, ◌∙◌, subst, append_assoc}
 use Rattle.mob_ratio.specs.Ratio.{Ratio}
 use Rattle.mob_span.specs.Span.{has}
-use Rattle.mob_slice.specs.Slices.{value_at, OfHead, Chained, Clear, IsSound, IsNormalPair, AreNormal, IsOrdered, IsNormal, IsJoin}
+use Rattle.mob_slice.specs.Slices.{value_at, OfHead, Chained, Clear, IsSound, IsNormalPair, AreNormal, IsOrdered}
+use Rattle.mob_normal.specs.Joined.{IsJoin}
 use Rattle.mob_slice.specs.declared.slice.Slice.{Slice}
 
 -- the first value there is

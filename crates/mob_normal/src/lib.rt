@@ -2,6 +2,7 @@
 #![tactic(auto)]
 
 pub mod joined;
-pub mod normal;
+pub mod laws;
+pub mod normaliser;
 
-pub use normal::normal;
+pub use normaliser::normal;

@@ -2,13 +2,12 @@ use Rattle.std.proofs.Common.{rules, ◌≡◌, List, [], ◌∷◌, ◌++◌, �
 use Rattle.std.proofs.lemmas.Grind.{common_steps}
 use Rattle.std.proofs.lemmas.List.{nil_from_length}
 use Rattle.std.specs.Vec.Iter.{into_iter_items, into_iter_len}
-use Rattle.mob_slice.specs.Slices.{IsJoin, IsOrdered, value_at}
 use Rattle.mob_normal.proofs.Runs.{step_normal, step_ordered, step_keeps, counted_down}
-use Rattle.mob_normal.proofs.normal.normal.Goals as goal
+use Rattle.mob_normal.proofs.normaliser.normal.Goals as goal
 
 pub loop-next-preserved-in-One : goal.loop-next-preserved-in-One
 loop-next-preserved-in-One g c =
-    let j = rw c.in-One.is at c.in_ok-slice.ensures in
+    let j = rw c.in-One.is at c.in_ok-slice.ensures.joined in
     let o = c.loop-next.done.items in
     let rest = into_iter_items c.next-in-loop-next.new.self in
     let s = c.loop-next.last in
@@ -25,7 +24,7 @@ loop-next-preserved-in-One g c =
 
 pub loop-next-preserved : goal.loop-next-preserved
 loop-next-preserved g c =
-    let j = rw c.in-Two.is at c.in_ok-slice.ensures in
+    let j = rw c.in-Two.is at c.in_ok-slice.ensures.joined in
     let o = c.loop-next.done.items in
     let d = c.in-Two.slice ∷ [] in
     let rest = into_iter_items c.next-in-loop-next.new.self in
@@ -44,4 +43,4 @@ loop-next-preserved g c =
 pub returns-clause-same : goal.returns-clause-same
 returns-clause-same g c t =
     let none = nil_from_length _ (sym c.loop-next.invariant.counted ∙ c.in-None.ensures.steps.0) in
-    rw (c.from_normal.ensures, c.in_ok-push.ensures.items) (rw none at (c.loop-next.invariant.same t))
+    rw (c.from_normal.ensures.same, c.in_ok-push.ensures.items) (rw none at (c.loop-next.invariant.same t))

@@ -2,7 +2,7 @@ use Rattle.std.proofs.Common.{◌≡◌, List, [], ◌∷◌, ◌++◌, length}
 use Rattle.std.specs.Vec.Iter.{into_iter_items, into_iter_len}
 use Rattle.mob_ratio.specs.Ratio.{Ratio}
 use Rattle.mob_slice.specs.Slices.{IsNormal, IsOrdered, AreNormal, value_at}
-use Rattle.mob_normal.proofs.normal.normal.Given as goal
+use Rattle.mob_normal.proofs.normaliser.normal.Given as goal
 
 abbrev pub invariant-loop-next : goal.invariant-loop-next
 invariant-loop-next g l =
