@@ -13,15 +13,15 @@ use Rattle.mob_ratio.specs.Ratio.{Ratio, over}
 use Rattle.mob_ratio.proofs.RatioLemmas.{over-self, den_pos}
 use Rattle.mob_frac.specs.Fits.{Fits}
 use Rattle.mob_frac.specs.Signed.{signed}
-use Rattle.mob_language.specs.Language.{Text, Language, ◌▷◌, ◌∣◌, Maybe, Means, Where, Word, OneOf, AreAll, Run}
+use Rattle.mob_language.specs.Language.{Text, Language, ◌▷◌, ◌∣◌, Maybe, Means, Where, Word, OneOf, AreAll, Run, behind}
 use Rattle.mob_scalar.specs.declared.numeral.Figures.{Figures}
 use Rattle.mob_scalar.specs.declared.numeral.Tail.{Tail}
 use Rattle.mob_scalar.specs.declared.numeral.Tail.TheVariants.{Over, Decimal}
 use Rattle.mob_scalar.specs.declared.numeral.Numeral.{Numeral}
 use Rattle.mob_scalar.specs.Figures.{is_digit, is_run, figures, digits, AreFigures}
-use Rattle.mob_scalar.specs.Number.{is_sign, is_minus, is_numeral, numeral_of, decimal_of, has_digits, sign, tail, number, behind}
-use Rattle.mob_scalar.specs.Value.{value}
-use Rattle.mob_scalar.specs.Printing.{number_text}
+use Rattle.mob_scalar.specs.Number.{is_sign, is_minus, is_numeral, numeral_of, decimal_of, has_digits, sign, tail, number}
+use Rattle.mob_scalar.specs.NumberValue.{value}
+use Rattle.mob_scalar.specs.NumberText.{number_text}
 use Rattle.mob_scalar.specs.Verdict.{Lit}
 use Rattle.mob_scalar.specs.Numbers.{numbers}
 

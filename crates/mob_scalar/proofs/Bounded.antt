@@ -5,15 +5,15 @@ use Rattle.std.specs.Str.Parse.{digits_value}
 use Rattle.std.proofs.lemmas.Nat.{pow-add}
 use Rattle.std.proofs.Math.Nat.{mul-le-mul_right}
 use Rattle.std.proofs.lemmas.Int.Digits.{digits_value-lt}
-use Rattle.mob_language.specs.Language.{Text, Language, ◌▷◌, ◌∣◌, Maybe, Means, Where, Word, OneOf, Run}
+use Rattle.mob_language.specs.Language.{Text, Language, ◌▷◌, ◌∣◌, Maybe, Means, Where, Word, OneOf, Run, behind}
 use Rattle.mob_scalar.specs.declared.numeral.Figures.{Figures}
 use Rattle.mob_scalar.specs.declared.numeral.Exponent.{Exponent}
 use Rattle.mob_scalar.specs.declared.numeral.Tail.{Tail}
 use Rattle.mob_scalar.specs.declared.numeral.Tail.TheVariants.{Over, Decimal}
 use Rattle.mob_scalar.specs.declared.numeral.Numeral.{Numeral}
 use Rattle.mob_scalar.specs.Figures.{is_digit, is_run, figures, digits}
-use Rattle.mob_scalar.specs.Number.{count_of, has_digits, is_exponent, decimal_of, numeral_of, power, exponent, tail, number, behind}
-use Rattle.mob_scalar.specs.Value.{value_in, up_of, down_of, IsSmall, IsTailSmall, IsBounded}
+use Rattle.mob_scalar.specs.Number.{count_of, has_digits, is_exponent, decimal_of, numeral_of, power, exponent, tail, number}
+use Rattle.mob_scalar.specs.NumberValue.{value_in, up_of, down_of, IsSmall, IsTailSmall, IsBounded}
 use Rattle.mob_scalar.proofs.Digits.{all_digits}
 use Rattle.mob_scalar.proofs.Powers.{ten_le, ten_pos}
 
@@ -62,8 +62,8 @@ small_lt f h = let a = ten_le f.count 36 h.1 in omega (arith, a, h.0)
 pub enough : (whole : Figures) (part : Option Figures) (e : Option Exponent) → has_digits whole (Decimal part e) ≡ true → whole.count + count_of part ≤ 36
 enough whole part e h = search rules
 
-pub bottom_positive : (whole bottom : Figures) → has_digits whole (Over bottom) ≡ true → 0 < bottom.value
-bottom_positive whole bottom h = search rules
+pub bottom_positive : (whole denominator : Figures) → has_digits whole (Over denominator) ≡ true → 0 < denominator.value
+bottom_positive whole denominator h = search rules
 
 part_lt : (o : Option Figures) → IfSome o IsSmall → value_in o < 10 ^ count_of o
 part_lt None h = omega arith

@@ -1,15 +1,16 @@
 -- A sign with blanks before it may follow a moment.
 use Rattle.std.proofs.Common.{◌≡◌, ℕ, List, [], ◌∷◌, ◌++◌, length, Bool, true, false, Option, Some, None, refl, sym, ap, subst, ◌∙◌, rules}
 use Rattle.std.specs.Prelude.{◌||◌, nat_eq}
-use Rattle.mob_language.specs.Language.{Text, AreAll}
+use Rattle.mob_language.specs.Language.{Text, AreAll, behind, is_blank}
 use Rattle.mob_language.specs.Readers.{run_of}
 use Rattle.mob_language.proofs.Exact.{Stops, run_again, run_stops}
-use Rattle.mob_scalar.specs.declared.instant.Clock.{Clock}
-use Rattle.mob_scalar.specs.declared.instant.Offset.{Offset}
+use Rattle.mob_scalar.specs.declared.stamp.Clock.{Clock}
+use Rattle.mob_scalar.specs.declared.stamp.Offset.{Offset}
 use Rattle.mob_scalar.specs.Figures.{is_digit}
 use Rattle.mob_scalar.specs.NumberReaders.{digits_at}
-use Rattle.mob_scalar.specs.Moment.{is_blank, is_t, is_some_text}
-use Rattle.mob_scalar.specs.MomentReaders.{fixed_at, up_to_at, clock_at, blanks_at, t_at, gap_at, time_at}
+use Rattle.mob_scalar.specs.CalendarReaders.{fixed_at}
+use Rattle.mob_scalar.specs.Moment.{is_t, is_some_text}
+use Rattle.mob_scalar.specs.MomentReaders.{up_to_at, clock_at, blanks_at, t_at, gap_at, time_at}
 use Rattle.mob_scalar.proofs.MomentExact.{moment_on, Closes}
 
 -- a byte that goes on no moment

@@ -11,7 +11,7 @@ use Rattle.mob_ratio.proofs.RatioLemmas.{over-lowest, over-parts, den_pos}
 use Rattle.mob_ratio.proofs.Field.{add_comm, add_assoc, add_zero, sub_self}
 use Rattle.mob_frac.specs.Fits.{Fits}
 use Rattle.mob_scalar.specs.Moment.{IsPartSmall, instant}
-use Rattle.mob_scalar.specs.declared.instant.Part.{Part}
+use Rattle.mob_scalar.specs.declared.stamp.Part.{Part}
 
 whole_parts : (n : ℤ) → ((whole n).num ≡ n) × ((whole n).den ≡ 1)
 unfolding whole
@@ -21,11 +21,11 @@ pub whole_fits : (n : ℤ) → nat_abs n < 2 ^ 62 → Fits (whole n)
 whole_fits n h = let p = whole_parts n in record { num_fits = rw p.0 h; den_fits = rw p.1 (omega arith) }
 
 -- a part's numbers are at most its denominator
-part_le : (top bottom : ℕ) → top < bottom → nat_abs (over (pos top) bottom).num ≤ (over (pos top) bottom).den
-part_le top bottom h =
-    let p = over-parts (pos top) bottom (omega (arith, h)) in
-    let e = div-mul_cancel (gcd top bottom) (gcd-is top bottom).1 in
-    rw (p.0, p.1) (div-le_of_le-mul (gcd top bottom) (omega (arith, h, e, mul_comm (gcd top bottom) (bottom / gcd top bottom))))
+part_le : (numerator denominator : ℕ) → numerator < denominator → nat_abs (over (pos numerator) denominator).num ≤ (over (pos numerator) denominator).den
+part_le numerator denominator h =
+    let p = over-parts (pos numerator) denominator (omega (arith, h)) in
+    let e = div-mul_cancel (gcd numerator denominator) (gcd-is numerator denominator).1 in
+    rw (p.0, p.1) (div-le_of_le-mul (gcd numerator denominator) (omega (arith, h, e, mul_comm (gcd numerator denominator) (denominator / gcd numerator denominator))))
 
 den_le : (n : ℤ) (d : ℕ) → 0 < d → (over n d).den ≤ d
 den_le n d h = rw ((over-parts n d h).1) (div-le_self d (gcd (nat_abs n) d))
@@ -54,10 +54,10 @@ part_den n f =
     let e : f.den ≡ (s +ℚ neg_ℚ w).den = ap (λ (x : Ratio). x.den) (back w f) in
     omega (arith, a, c, e)
 
-pub part_fits : (n : ℤ) (top bottom : ℕ) → top < bottom → Fits (whole n +ℚ over (pos top) bottom) → Fits (over (pos top) bottom)
-part_fits n top bottom h fits =
-    let a = part_den n (over (pos top) bottom) in
-    let b = part_le top bottom h in
+pub part_fits : (n : ℤ) (numerator denominator : ℕ) → numerator < denominator → Fits (whole n +ℚ over (pos numerator) denominator) → Fits (over (pos numerator) denominator)
+part_fits n numerator denominator h fits =
+    let a = part_den n (over (pos numerator) denominator) in
+    let b = part_le numerator denominator h in
     record { num_fits = omega (arith, a, b, fits.den_fits); den_fits = omega (arith, a, fits.den_fits) }
 
 pub whole_over : (n : ℤ) → whole n ≡ whole n /ℚ whole (pos 1)

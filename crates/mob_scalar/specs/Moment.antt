@@ -1,40 +1,16 @@
 -- The texts of moments.
 use Rattle.std.specs.Prelude.{◌≡◌, ℕ, ◌+◌, ◌*◌, ◌^◌, ◌<◌, List, [], ◌∷◌, length, codes, Bool, true, false, ◌&&◌, ◌||◌, cond, nat_le, nat_lt, nat_eq, Option, Some, None, ℤ, pos, neg_ℤ, ◌+ℤ◌, ◌-ℤ◌, ◌*ℤ◌}
-use Rattle.jiff_core.specs.Calendar.{days_from_civil, days_in_month}
 use Rattle.mob_ratio.specs.Ratio.{Ratio, over, whole, ◌+ℚ◌}
-use Rattle.mob_language.specs.Language.{Text, Language, ◌▷◌, ◌∣◌, Maybe, Means, Where, Word, OneOf, Run}
+use Rattle.mob_language.specs.Language.{Text, Language, ◌▷◌, ◌∣◌, Maybe, Means, Where, Word, OneOf, Run, behind, is_blank}
 use Rattle.mob_scalar.specs.declared.numeral.Figures.{Figures}
-use Rattle.mob_scalar.specs.declared.instant.Civil.{Civil}
-use Rattle.mob_scalar.specs.declared.instant.Part.{Part}
-use Rattle.mob_scalar.specs.declared.instant.Clock.{Clock}
-use Rattle.mob_scalar.specs.declared.instant.Offset.{Offset}
-use Rattle.mob_scalar.specs.declared.instant.Stamp.{Stamp}
+use Rattle.mob_scalar.specs.declared.civil.Civil.{Civil}
+use Rattle.mob_scalar.specs.declared.stamp.Part.{Part}
+use Rattle.mob_scalar.specs.declared.stamp.Clock.{Clock}
+use Rattle.mob_scalar.specs.declared.stamp.Offset.{Offset}
+use Rattle.mob_scalar.specs.declared.stamp.Stamp.{Stamp}
 use Rattle.mob_scalar.specs.Figures.{digits}
-use Rattle.mob_scalar.specs.Number.{is_sign, behind}
-
-abbrev pub has_count : ℕ → Figures → Bool
-has_count k f = nat_eq f.count k
-
-abbrev pub number_in : Figures → ℕ
-number_in f = f.value
-
--- exactly k digits
-abbrev pub fixed : ℕ → Language ℕ
-fixed k = Means number_in (Where (has_count k) digits)
-
-abbrev pub civil_of : ℕ × (ℕ × ℕ) → Civil
-civil_of v = record { year = v.0; month = v.1.0; day = v.1.1 }
-
--- the calendar has this date
-abbrev pub is_civil : Civil → Bool
-is_civil c = nat_le 1 c.year && (nat_le c.year 9999 && (nat_le 1 c.month && (nat_le c.month 12 && (nat_le 1 c.day && nat_le c.day (days_in_month (pos c.year) c.month)))))
-
--- YYYY-MM-DD
-abbrev pub date : Language Civil
-date = Where is_civil (Means civil_of (fixed 4 ▷ (behind (codes "-") (fixed 2) ▷ behind (codes "-") (fixed 2))))
-
-abbrev pub is_blank : ℕ → Bool
-is_blank c = nat_eq c 32 || (nat_eq c 9 || (nat_eq c 13 || nat_eq c 10))
+use Rattle.mob_scalar.specs.Number.{is_sign}
+use Rattle.mob_scalar.specs.Calendar.{fixed, date, day_of, int_le}
 
 abbrev pub is_below : ℕ → ℕ → Bool
 is_below limit n = nat_lt n limit
@@ -43,13 +19,13 @@ abbrev pub up_to : ℕ → Language ℕ
 up_to limit = Where (is_below limit) (fixed 2)
 
 abbrev pub point_part : Figures → Part
-point_part f = record { top = f.value; bottom = 10 ^ f.count }
+point_part f = record { numerator = f.value; denominator = 10 ^ f.count }
 
 abbrev pub is_point_part : Figures → Bool
 is_point_part f = nat_le 1 f.count && nat_le f.count 18
 
 abbrev pub fraction_part : Figures × (Figures × Unit {0}) → Part
-fraction_part v = record { top = v.0.value; bottom = v.1.0.value }
+fraction_part v = record { numerator = v.0.value; denominator = v.1.0.value }
 
 abbrev pub is_fraction_part : Figures × (Figures × Unit {0}) → Bool
 is_fraction_part v = nat_le 1 v.0.count && nat_lt v.0.value v.1.0.value
@@ -60,7 +36,7 @@ part = Means point_part (Where is_point_part (behind (codes ".") digits))
     ∣ Means fraction_part (Where is_fraction_part (behind (codes "(") (digits ▷ (behind (codes "/") digits ▷ Word (codes ")")))))
 
 abbrev pub part_of : Option Part → Part
-part_of None = record { top = 0; bottom = 1 }
+part_of None = record { numerator = 0; denominator = 1 }
 part_of (Some p) = p
 
 abbrev pub seconds_of : Option (ℕ × Option Part) → ℕ
@@ -130,14 +106,7 @@ shift o = cond o.west (pos o.seconds) (neg_ℤ (pos o.seconds))
 
 -- whole seconds since midnight UTC of 1970-01-01
 unfoldable pub seconds : Stamp → ℤ
-seconds s = days_from_civil (pos s.date.year) s.date.month s.date.day *ℤ pos 86400 +ℤ pos s.clock.seconds +ℤ shift s.offset
-
-abbrev pub int_le : ℤ → ℤ → Bool
-int_le a b = is_from_zero (b -ℤ a)
-  where
-    is_from_zero : ℤ → Bool
-    is_from_zero (pos n) = true
-    is_from_zero z = false
+seconds s = day_of s.date *ℤ pos 86400 +ℤ pos s.clock.seconds +ℤ shift s.offset
 
 -- in the years 0001 to 9999 in UTC
 abbrev pub is_in_years : Stamp → Bool
@@ -148,9 +117,9 @@ moment = Where is_in_years (Means stamp_of (date ▷ Maybe time))
 
 -- the moment in seconds since midnight of the epoch
 unfoldable pub instant : ℤ → Stamp → Ratio
-instant epoch s = whole (seconds s -ℤ epoch *ℤ pos 86400) +ℚ over (pos s.clock.part.top) s.clock.part.bottom
+instant epoch s = whole (seconds s -ℤ epoch *ℤ pos 86400) +ℚ over (pos s.clock.part.numerator) s.clock.part.denominator
 
 -- a part of a second, of numbers that 126 bits hold
 pub record IsPartSmall (p : Part) : Type 0 where
-  pub below : p.top < p.bottom
-  pub fits : p.top < 2 ^ 126
+  pub below : p.numerator < p.denominator
+  pub fits : p.numerator < 2 ^ 126

@@ -1,25 +1,17 @@
 -- The readers of the languages of moments.
 use Rattle.std.specs.Prelude.{ℕ, codes, Bool, Option, Some}
-use Rattle.mob_language.specs.Language.{Text}
-use Rattle.mob_language.specs.Readers.{Reader, ◌>>=◌, then_at, or_at, maybe_at, means_at, where_at, word_at, one_at, run_at}
+use Rattle.mob_language.specs.Language.{Text, is_blank}
+use Rattle.mob_language.specs.Readers.{Reader, ◌>>=◌, then_at, or_at, maybe_at, means_at, where_at, word_at, one_at, run_at, behind_at}
 use Rattle.mob_scalar.specs.declared.numeral.Figures.{Figures}
-use Rattle.mob_scalar.specs.declared.instant.Civil.{Civil}
-use Rattle.mob_scalar.specs.declared.instant.Part.{Part}
-use Rattle.mob_scalar.specs.declared.instant.Clock.{Clock}
-use Rattle.mob_scalar.specs.declared.instant.Offset.{Offset}
-use Rattle.mob_scalar.specs.declared.instant.Stamp.{Stamp}
+use Rattle.mob_scalar.specs.declared.civil.Civil.{Civil}
+use Rattle.mob_scalar.specs.declared.stamp.Part.{Part}
+use Rattle.mob_scalar.specs.declared.stamp.Clock.{Clock}
+use Rattle.mob_scalar.specs.declared.stamp.Offset.{Offset}
+use Rattle.mob_scalar.specs.declared.stamp.Stamp.{Stamp}
 use Rattle.mob_scalar.specs.Number.{is_sign}
-use Rattle.mob_scalar.specs.NumberReaders.{digits_at, behind_at}
-use Rattle.mob_scalar.specs.Moment.{has_count, number_in, civil_of, is_civil, is_blank, is_below, point_part, is_point_part, fraction_part, is_fraction_part, clock_of, offset_of, utc, is_z, is_t, is_some_text, time_of, stamp_of, is_in_years}
-
-unfoldable pub fixed_at : ℕ → Reader ℕ
-fixed_at k = means_at number_in (where_at (has_count k) digits_at)
-
-unfoldable pub dash_at : Reader ℕ
-dash_at = behind_at (codes "-") (fixed_at 2)
-
-unfoldable pub date_at : Reader Civil
-date_at = where_at is_civil (means_at civil_of (then_at (fixed_at 4) (then_at dash_at dash_at)))
+use Rattle.mob_scalar.specs.NumberReaders.{digits_at}
+use Rattle.mob_scalar.specs.CalendarReaders.{fixed_at, date_at}
+use Rattle.mob_scalar.specs.Moment.{is_below, point_part, is_point_part, fraction_part, is_fraction_part, clock_of, offset_of, utc, is_z, is_t, is_some_text, time_of, stamp_of, is_in_years}
 
 unfoldable pub up_to_at : ℕ → Reader ℕ
 up_to_at limit = where_at (is_below limit) (fixed_at 2)

@@ -2,7 +2,7 @@
 use Rattle.std.specs.Prelude.{◌≡◌, ℤ}
 use Rattle.mob_ratio.specs.Ratio.{Ratio}
 use Rattle.mob_frac.specs.Fits.{Fits}
-use Rattle.mob_scalar.specs.declared.instant.Stamp.{Stamp}
+use Rattle.mob_scalar.specs.declared.stamp.Stamp.{Stamp}
 use Rattle.mob_scalar.specs.Moment.{moment, instant}
 use Rattle.mob_scalar.specs.Verdict.{Form}
 

@@ -1,7 +1,7 @@
 -- The texts of numbers, and the number that each stands for.
 use Rattle.std.specs.Prelude.{◌≡◌, ℕ, ◌+◌, ◌*◌, ◌-◌, ◌^◌, List, [], ◌∷◌, length, codes, Bool, true, false, ◌&&◌, ◌||◌, nat_le, nat_lt, nat_eq, not, Option, Some, None, ℤ, pos, neg_ℤ}
 use Rattle.mob_ratio.specs.Ratio.{Ratio, over}
-use Rattle.mob_language.specs.Language.{Text, Language, ◌▷◌, ◌∣◌, Maybe, Means, Where, Word, OneOf}
+use Rattle.mob_language.specs.Language.{Text, Language, ◌▷◌, ◌∣◌, Maybe, Means, Where, Word, OneOf, behind}
 use Rattle.mob_scalar.specs.declared.numeral.Figures.{Figures}
 use Rattle.mob_scalar.specs.declared.numeral.Exponent.{Exponent}
 use Rattle.mob_scalar.specs.declared.numeral.Tail.{Tail}
@@ -19,9 +19,6 @@ is_minus (Some c) = nat_eq c 45
 -- a plus, a minus or nothing
 abbrev pub sign : Language Bool
 sign = Means is_minus (Maybe (OneOf is_sign))
-
-abbrev pub behind : {A : Type 0} → Text → Language A → Language A
-behind word l = Means (λ (v : Unit × _). v.1) (Word word ▷ l)
 
 abbrev pub is_e : ℕ → Bool
 is_e c = nat_eq c 101 || nat_eq c 69
@@ -52,7 +49,7 @@ count_of None = 0
 count_of (Some f) = f.count
 
 abbrev pub has_digits : Figures → Tail → Bool
-has_digits whole (Over bottom) = nat_lt 0 whole.count && nat_lt 0 bottom.value
+has_digits whole (Over denominator) = nat_lt 0 whole.count && nat_lt 0 denominator.value
 has_digits whole (Decimal part raised) = nat_lt 0 (whole.count + count_of part) && nat_le (whole.count + count_of part) 36
 
 abbrev pub is_numeral : Numeral → Bool

@@ -1,7 +1,7 @@
 -- The readers of the languages of numbers.
 use Rattle.std.specs.Prelude.{ℕ, List, codes, Bool, Option, Some, None}
 use Rattle.mob_language.specs.Language.{Text}
-use Rattle.mob_language.specs.Readers.{Reader, then_at, or_at, maybe_at, means_at, where_at, word_at, one_at, run_at}
+use Rattle.mob_language.specs.Readers.{Reader, then_at, or_at, maybe_at, means_at, where_at, word_at, one_at, run_at, behind_at}
 use Rattle.mob_scalar.specs.declared.numeral.Figures.{Figures}
 use Rattle.mob_scalar.specs.declared.numeral.Exponent.{Exponent}
 use Rattle.mob_scalar.specs.declared.numeral.Tail.{Tail}
@@ -15,9 +15,6 @@ digits_at = means_at figures (where_at is_run (run_at is_digit))
 
 unfoldable pub sign_at : Reader Bool
 sign_at = means_at is_minus (maybe_at (one_at is_sign))
-
-abbrev pub behind_at : {A : Type 0} → Text → Reader A → Reader A
-behind_at word r = means_at (λ (v : Unit × _). v.1) (then_at (word_at word) r)
 
 unfoldable pub power_at : Reader Exponent
 power_at = where_at is_exponent (means_at exponent_of (then_at sign_at digits_at))

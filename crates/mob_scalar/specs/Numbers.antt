@@ -4,7 +4,7 @@ use Rattle.mob_ratio.specs.Ratio.{Ratio}
 use Rattle.mob_frac.specs.Fits.{Fits}
 use Rattle.mob_scalar.specs.declared.numeral.Numeral.{Numeral}
 use Rattle.mob_scalar.specs.Number.{number}
-use Rattle.mob_scalar.specs.Value.{value}
+use Rattle.mob_scalar.specs.NumberValue.{value}
 use Rattle.mob_scalar.specs.Verdict.{Form}
 
 abbrev pub numbers : Form Numeral Ratio

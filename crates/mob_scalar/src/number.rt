@@ -3,15 +3,14 @@ ghost use Rattle.mob_language.specs.Readers.{all_of};
 ghost use Rattle.mob_ratio.specs.Ratio.{over};
 ghost use Rattle.mob_frac.specs.Fits.{IsExact};
 ghost use Rattle.mob_frac.specs.Signed.{signed};
-ghost use Rattle.mob_scalar.specs.Value.{IsBounded, value, up_of, down_of, value_in};
+ghost use Rattle.mob_scalar.specs.NumberValue.{IsBounded, value, up_of, down_of, value_in};
 ghost use Rattle.mob_scalar.specs.Number.{count_of};
 ghost use Rattle.mob_scalar.specs.NumberReaders.{number_at as number_in};
 ghost use Rattle.mob_scalar.specs.Verdict.{Lit};
 ghost use Rattle.mob_scalar.specs.Numbers.{numbers};
 
 use crate::fault::ReadText;
-use crate::numeral::{Exponent, Figures, Numeral, Tail};
-use crate::reading::number_at;
+use crate::numeral::{Exponent, Figures, Numeral, Tail, number_at};
 use mob_frac::{Frac, Overflow, over_product};
 
 const SIZE: u128 = 1 << 62;
@@ -101,13 +100,13 @@ fn part_value(part: Option<Figures>) -> u128
 }
 
 /// The number that a numeral stands for.
-#[tactic(auto, unfolding(crate::specs::Value::value))]
+#[tactic(auto, unfolding(crate::specs::NumberValue::value))]
 pub fn evaluate(n: Numeral) -> Result<Frac, Overflow>
     requires { IsBounded n }
     ensures { IsExact (value n) result }
 {
     match n.tail {
-        Tail::Over(bottom) => over_product(n.negative, n.digits.value, bottom.value, 1),
+        Tail::Over(denominator) => over_product(n.negative, n.digits.value, denominator.value, 1),
         Tail::Decimal(part, exponent) => {
             let size = n.digits.value * ten_to(places(part)) + part_value(part);
             let up = up(exponent) as u32;

@@ -3,7 +3,7 @@ ghost use Rattle.std.specs.Fmt.{signed_decimal};
 ghost use Rattle.mob_ratio.specs.Ratio.{Ratio};
 ghost use Rattle.mob_frac.specs.Fits.{Fits};
 ghost use Rattle.std.specs.Prelude.{Ok};
-ghost use Rattle.mob_scalar.specs.Printing.{number_text};
+ghost use Rattle.mob_scalar.specs.NumberText.{number_text};
 ghost use Rattle.mob_scalar.specs.Verdict.{Lit};
 ghost use Rattle.mob_scalar.specs.Numbers.{numbers};
 
@@ -24,14 +24,14 @@ pub fn write_number(n: &Frac, into: &mut String) -> Result<(), AllocError>
     ensures ok { OnOk result (string_bytes into.new ≡ string_bytes into.old ++ number_text n.now) }
     ensures err { OnErr result (string_bytes into.new ≡ string_bytes into.old) }
 {
-    let mut top = Buffer::new();
-    let num = top.format(n.num());
+    let mut numerator = Buffer::new();
+    let num = numerator.format(n.num());
     let den = n.den();
     if den == 1 {
         return into.push_str(num);
     }
-    let mut bottom = Buffer::new();
-    let den = bottom.format(den);
+    let mut denominator = Buffer::new();
+    let den = denominator.format(den);
     into.reserve(num.len() + 1 + den.len())?;
     into.push_str(num)?;
     into.push_str("/")?;

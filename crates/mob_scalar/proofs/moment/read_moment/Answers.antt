@@ -4,7 +4,7 @@ use Rattle.mob_frac.specs.Fits.{Fits}
 use Rattle.mob_scalar.specs.Moment.{instant}
 use Rattle.mob_scalar.proofs.MomentExact.{moment_exact, nothing_closes}
 use Rattle.mob_scalar.proofs.MomentBounds.{moment_small}
-use Rattle.mob_scalar.proofs.ReadLemmas.{is_said, not_said}
+use Rattle.mob_language.proofs.Exact.{is_said, not_said}
 use Rattle.mob_scalar.proofs.moment.read_moment.Goals as goal
 
 pub place-requires-clause-part : goal.place-requires-clause-part

@@ -5,7 +5,7 @@ use Rattle.mob_scalar.specs.declared.numeral.Tail.{Tail}
 use Rattle.mob_scalar.specs.declared.numeral.Tail.TheVariants.{Over, Decimal}
 use Rattle.mob_scalar.specs.declared.numeral.Numeral.{Numeral}
 use Rattle.mob_scalar.specs.Number.{count_of, has_digits}
-use Rattle.mob_scalar.specs.Value.{value_in, IsTailSmall, IsBounded}
+use Rattle.mob_scalar.specs.NumberValue.{value_in, IsTailSmall, IsBounded}
 use Rattle.mob_scalar.proofs.Bounded.{small_lt, enough, joined_lt}
 use Rattle.mob_scalar.proofs.number.evaluate.Goals as goal
 

@@ -1,6 +1,6 @@
 use Rattle.mob_scalar.proofs.NumberExact.{number_exact}
 use Rattle.mob_scalar.proofs.Bounded.{number_bounded}
-use Rattle.mob_scalar.proofs.ReadLemmas.{is_said, not_said}
+use Rattle.mob_language.proofs.Exact.{is_said, not_said}
 use Rattle.mob_scalar.proofs.number.read_number.Goals as goal
 
 pub evaluate-requires : goal.evaluate-requires

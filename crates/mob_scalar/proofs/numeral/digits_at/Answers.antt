@@ -3,7 +3,7 @@ use Rattle.mob_language.specs.Language.{Text, AreAll}
 use Rattle.mob_language.specs.Readers.{run_of}
 use Rattle.mob_language.proofs.Exact.{run_parts}
 use Rattle.mob_scalar.specs.Figures.{is_digit, AreFigures}
-use Rattle.mob_scalar.proofs.reading.digits_at.Goals as goal
+use Rattle.mob_scalar.proofs.numeral.digits_at.Goals as goal
 
 pub value_of-requires-clause-all : goal.value_of-requires-clause-all
 value_of-requires-clause-all c =

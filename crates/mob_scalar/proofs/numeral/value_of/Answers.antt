@@ -2,7 +2,7 @@ use Rattle.std.proofs.Common.{◌≡◌, ◌<◌, ◌≤◌, ◌+◌, ◌-◌, �
 use Rattle.std.specs.Str.Parse.{digits_value}
 use Rattle.mob_scalar.specs.Figures.{is_digit}
 use Rattle.mob_scalar.proofs.Digits.{front_lt, front_more, figure_at, digit_range}
-use Rattle.mob_scalar.proofs.reading.value_of.Goals as goal
+use Rattle.mob_scalar.proofs.numeral.value_of.Goals as goal
 
 pub overflow_mul-value : goal.overflow_mul-value
 overflow_mul-value c =

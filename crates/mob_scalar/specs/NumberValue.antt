@@ -23,7 +23,7 @@ down_of None = 0
 down_of (Some e) = cond e.negative e.size.value 0
 
 abbrev pub value_of : Bool → Figures → Tail → Ratio
-value_of negative whole (Over bottom) = over (signed negative whole.value) bottom.value
+value_of negative whole (Over denominator) = over (signed negative whole.value) denominator.value
 value_of negative whole (Decimal part exponent) = over
     (signed negative ((whole.value * 10 ^ count_of part + value_in part) * 10 ^ up_of exponent))
     (10 ^ (count_of part + down_of exponent))
@@ -36,7 +36,7 @@ abbrev pub IsSmall : Figures → Type 0
 IsSmall f = (f.value < 10 ^ f.count) × (f.count ≤ 36)
 
 abbrev pub IsTailSmall : Tail → Type 0
-IsTailSmall (Over bottom) = IsSmall bottom
+IsTailSmall (Over denominator) = IsSmall denominator
 IsTailSmall (Decimal part exponent) = IfSome part IsSmall × IfSome exponent (λ e. e.size.value ≤ 18)
 
 pub record IsBounded (n : Numeral) : Type 0 where
