@@ -1,4 +1,5 @@
 pub mod Steps
+pub mod Sequence
 pub mod Slices
 pub mod Means
 pub mod Printed

@@ -2,5 +2,8 @@
 #![tactic(auto)]
 
 pub mod printing;
+pub mod reading;
 pub mod scalar;
+pub mod sequence;
+pub mod steps;
 pub mod written;
