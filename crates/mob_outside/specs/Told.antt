@@ -1,6 +1,6 @@
 -- What files tell: a map from names to bytes, and the names that were asked for. Where nothing is told, nothing is claimed.
 use Rattle.std.specs.declared.alloc.Global.{Global}
-use Rattle.std.specs.Prelude.{String, Vec, string_bytes, ◌≡◌, ◌⊎◌, ◌++◌, ◌∷◌, ⊤, ℕ, List, [], Option, Some, None, IsSome, option_map, find, bytes_eq}
+use Rattle.std.specs.Prelude.{String, Vec, string_bytes, ◌≡◌, ◌⊎◌, ◌++◌, ◌∷◌, ⊤, ℕ, List, [], Option, Some, None, Bool, IsSome, option_map, find, bytes_eq}
 
 -- a map from names to bytes, as a list of pairs; of two pairs with one name the first counts
 abbrev pub Contents : Type 0
@@ -37,3 +37,13 @@ MayAskFor name old new = KeepsNames old new ⊎ AsksFor name old new
 abbrev pub Opens : List ℕ → Option Contents → Option (List ℕ) → Type 0
 Opens name None left = ⊤
 Opens name (Some files) left = left ≡ file_of name files × IsSome left
+
+-- An end over a stream of the process: the bytes that it has left or took, where the stream tells them, and its faults.
+pub record Stream : Type 0 where
+  pub told : Option (List ℕ)
+  pub faults : ℕ
+
+-- The files of a folder: whether one is open, and the faults.
+pub record Folder : Type 0 where
+  pub is_ready : Bool
+  pub faults : ℕ

@@ -1,11 +1,11 @@
 // Files by their names.
-ghost use Rattle.std.specs.Prelude.{◌≡◌, ◌↔◌, ◌⊎◌, ◌<◌, ◌≤◌, ◌∷◌, ◌++◌, List, ℕ, Bool, true, Option, [], Some, None, Contains, IsErr, IfOk, OnOk, OnErr, IfSome, IfNone, map, drop, length, is_some, string_bytes, option_map};
+ghost use Rattle.std.specs.Prelude.{◌≡◌, ◌↔◌, ◌⊎◌, ◌<◌, ◌≤◌, ◌∷◌, ◌++◌, List, ℕ, Bool, true, false, Option, [], Some, None, Contains, IsErr, IfOk, OnOk, OnErr, IfSome, IfNone, map, drop, length, is_some, string_bytes, option_map};
 ghost use Rattle.std.specs.Result.{is_ok};
 ghost use Rattle.std.specs.Io.{ReadsAtMost};
 ghost use Rattle.std.specs.Io.KnownBytes.{ReadConsumes};
 ghost use Rattle.mob_outside.specs.Faults.{HasCause, next_count};
 ghost use Rattle.mob_outside.specs.Memory.{Drawer, new_drawer};
-ghost use Rattle.mob_outside.specs.Told.{AsksFor, Contents, KeepsFiles, KeepsNames, MayAskFor, Opens, entry, file_of};
+ghost use Rattle.mob_outside.specs.Told.{AsksFor, Contents, KeepsFiles, KeepsNames, MayAskFor, Opens, Folder, entry, file_of};
 
 use crate::Failed;
 use crate::source::give;
@@ -73,14 +73,14 @@ impl Model for MemFiles {
     ghost Value = { Drawer };
 
     ghost view = { λ s. record {
-        files = map entry s.files.items;
-        asked = map string_bytes s.asked.items;
-        left = drop s.at s.opened.items;
-        is_ready = s.ready;
-        failing = s.failing.items;
-        step = s.step;
-        calls = s.calls;
-        faults = s.faults;
+      files = map entry s.files.items;
+      asked = map string_bytes s.asked.items;
+      left = drop s.at s.opened.items;
+      is_ready = s.ready;
+      failing = s.failing.items;
+      step = s.step;
+      calls = s.calls;
+      faults = s.faults;
     } };
 
     ghost invariant = { λ s. (0 < s.step) × (s.at ≤ length s.opened.items) };
@@ -218,7 +218,7 @@ fn find<'a>(files: &'a [(String, Vec<u8>)], name: &str) -> Option<&'a [u8]>
     None
 }
 
-/// The files of the current folder. They tell nothing.
+/// The files of the current folder. They tell neither their bytes nor the names asked. Contracts see them as a `Folder`.
 #[derive(Drop)]
 pub struct DirFiles<D: Disk + Drop> {
     disk: D,
@@ -226,9 +226,17 @@ pub struct DirFiles<D: Disk + Drop> {
     faults: u64,
 }
 
+impl<D: Disk + Drop> Model for DirFiles<D> {
+    ghost Value = { Folder };
+
+    ghost view = { λ s. record { is_ready = is_some s.file; faults = s.faults } };
+}
+
 impl<D: Disk + Drop> DirFiles<D> {
-    /// The files that this runtime opens, none of them open yet.
-    pub fn new(disk: D) -> DirFiles<D> {
+    /// The files of the folder that this runtime runs in, none of them open yet.
+    pub fn new(disk: D) -> DirFiles<D>
+        ensures starts { result ≡ record { is_ready = false; faults = 0 } }
+    {
         DirFiles {
             disk,
             file: None,
@@ -244,7 +252,7 @@ impl<D: Disk + Drop> Files for DirFiles<D> {
 
     ghost left = { λ _. None };
 
-    ghost is_ready = { λ s. is_some s.file };
+    ghost is_ready = { λ s. s.is_ready };
 
     ghost faults = { λ s. s.faults };
 

@@ -17,4 +17,4 @@ pub use fault::Failed;
 pub use files::{DirFiles, Files, MemFiles};
 pub use gate::{Gate, OpenGate};
 pub use sink::{MemSink, Sink, StdSink};
-pub use source::{MemSource, Source, SteadySource, StdSource};
+pub use source::{MemSource, Source, StdSource, SteadySource};

@@ -3,6 +3,7 @@ ghost use Rattle.std.specs.Prelude.{◌≡◌, ◌<◌, ◌≤◌, List, ℕ, Op
 ghost use Rattle.std.specs.Io.KnownBytes.{WriteAppends};
 ghost use Rattle.mob_outside.specs.Faults.{HasCause, next_count};
 ghost use Rattle.mob_outside.specs.Memory.{Heap, new_heap};
+ghost use Rattle.mob_outside.specs.Told.{Stream};
 
 use crate::Failed;
 use std::alloc::Global;
@@ -40,11 +41,11 @@ impl Model for MemSink {
     ghost Value = { Heap };
 
     ghost view = { λ s. record {
-        held = s.bytes.items;
-        failing = s.failing.items;
-        step = s.step;
-        calls = s.calls;
-        faults = s.faults;
+      held = s.bytes.items;
+      failing = s.failing.items;
+      step = s.step;
+      calls = s.calls;
+      faults = s.faults;
     } };
 
     ghost invariant = { λ s. 0 < s.step };
@@ -102,22 +103,30 @@ impl Sink for MemSink {
     }
 }
 
-/// A writer, as standard output. It tells what it took where the writer does.
+/// A writer, as standard output. It tells what it took where the writer does. Contracts see it as a `Stream`.
 #[derive(Drop)]
 pub struct StdSink<W: Write + Drop> {
     writer: W,
     faults: u64,
 }
 
+impl<W: Write + Drop> Model for StdSink<W> {
+    ghost Value = { Stream };
+
+    ghost view = { λ s. record { told = W.contents s.writer; faults = s.faults } };
+}
+
 impl<W: Write + Drop> StdSink<W> {
     /// A sink over this writer, with no fault so far.
-    pub fn new(writer: W) -> StdSink<W> {
+    pub fn new(writer: W) -> StdSink<W>
+        ensures starts { result ≡ record { told = W.contents writer; faults = 0 } }
+    {
         StdSink { writer, faults: 0 }
     }
 }
 
 impl<W: Write + Drop> Sink for StdSink<W> {
-    ghost held = { λ s. W.contents s.writer };
+    ghost held = { λ s. s.told };
 
     ghost faults = { λ s. s.faults };
 

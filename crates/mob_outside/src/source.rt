@@ -4,6 +4,7 @@ ghost use Rattle.std.specs.Io.{ReadsAtMost};
 ghost use Rattle.std.specs.Io.KnownBytes.{ReadConsumes};
 ghost use Rattle.mob_outside.specs.Faults.{HasCause, next_count};
 ghost use Rattle.mob_outside.specs.Memory.{Feed, new_feed};
+ghost use Rattle.mob_outside.specs.Told.{Stream};
 
 use crate::Failed;
 use std::io::Read;
@@ -55,11 +56,11 @@ impl Model for MemSource {
     ghost Value = { Feed };
 
     ghost view = { λ s. record {
-        left = drop s.at s.bytes.items;
-        failing = s.failing.items;
-        step = s.step;
-        calls = s.calls;
-        faults = s.faults;
+      left = drop s.at s.bytes.items;
+      failing = s.failing.items;
+      step = s.step;
+      calls = s.calls;
+      faults = s.faults;
     } };
 
     ghost invariant = { λ s. (0 < s.step) × (s.at ≤ length s.bytes.items) };
@@ -147,22 +148,31 @@ impl Source for SteadySource {
     }
 }
 
-/// The bytes of a reader, as standard input. It tells what is left where the reader does.
+/// The bytes of a reader, as standard input. It tells what is left where the reader does. Contracts see it as a
+/// `Stream`.
 #[derive(Drop)]
 pub struct StdSource<R: Read + Drop> {
     reader: R,
     faults: u64,
 }
 
+impl<R: Read + Drop> Model for StdSource<R> {
+    ghost Value = { Stream };
+
+    ghost view = { λ s. record { told = R.remaining s.reader; faults = s.faults } };
+}
+
 impl<R: Read + Drop> StdSource<R> {
     /// A source over this reader, with no fault so far.
-    pub fn new(reader: R) -> StdSource<R> {
+    pub fn new(reader: R) -> StdSource<R>
+        ensures starts { result ≡ record { told = R.remaining reader; faults = 0 } }
+    {
         StdSource { reader, faults: 0 }
     }
 }
 
 impl<R: Read + Drop> Source for StdSource<R> {
-    ghost left = { λ s. R.remaining s.reader };
+    ghost left = { λ s. s.told };
 
     ghost faults = { λ s. s.faults };
 
