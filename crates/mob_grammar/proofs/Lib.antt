@@ -1,1 +1,4 @@
-mod Marks
+pub mod Laws
+pub mod Lawful
+pub mod Marks
+pub mod Steps

@@ -44,5 +44,5 @@ abbrev pub ◌∣◌ : {A : Type 0} → Form A → Form A → Form A
 
 -- the form, once or more often, with this mark between: F { mark F }
 pub data Listed {A : Type 0} (m : Mark) (F : List Tok → A → List Tok → Type 0) : List Tok → List A → List Tok → Type 0 where
-  one : {l r : List Tok} {x : A} → F l x r → Listed m F l (x ∷ []) r
-  more : {l u r : List Tok} {x : A} {xs : List A} {p : ℕ} → F l x (sign m p ∷ u) → Listed m F u xs r → Listed m F l (x ∷ xs) r
+  single : {l r : List Tok} {x : A} → F l x r → Listed m F l (x ∷ []) r
+  several : {l u r : List Tok} {x : A} {xs : List A} {p : ℕ} → F l x (sign m p ∷ u) → Listed m F u xs r → Listed m F l (x ∷ xs) r
