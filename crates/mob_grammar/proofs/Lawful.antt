@@ -86,11 +86,11 @@ module _ {A : Type 0} (test : Tok → Bool) (F G : Form A) (n : ℕ) (s z : Read
         (tells_same G (F ∣ G) (λ m. z) (λ m. either) l (λ y a m. passed (begins test y) (s y) (z y) (alike_begins test l y a ∙ none_here)) (λ u x r p. inr p) (z l) (two l short)) ]
 
 -- names, numbers and strings
-alike_end : {A : Type 0} (s : Reader A) → s [] ≡ Err [] → (y : List Tok) → Alike [] y → s y ≡ Err y
+pub alike_end : {A : Type 0} (s : Reader A) → s [] ≡ Err [] → (y : List Tok) → Alike [] y → s y ≡ Err y
 alike_end s h [] a = h
 alike_end s h (u ∷ y) a = absurd a
 
-alike_wrong : {A : Type 0} (s : Reader A) (t : Tok) → ((l : List Tok) → s (t ∷ l) ≡ Err (t ∷ l)) → (l y : List Tok) → Alike (t ∷ l) y → s y ≡ Err y
+pub alike_wrong : {A : Type 0} (s : Reader A) (t : Tok) → ((l : List Tok) → s (t ∷ l) ≡ Err (t ∷ l)) → (l y : List Tok) → Alike (t ∷ l) y → s y ≡ Err y
 alike_wrong s t h l [] a = absurd a
 alike_wrong s t h l (u ∷ y) a = subst (λ v. s (v ∷ y) ≡ Err (v ∷ y)) a (h y)
 
