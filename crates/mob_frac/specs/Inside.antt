@@ -4,7 +4,7 @@ use mathlib.Core.Path.{ap, ◌∙◌}
 use Rattle.mob_ratio.specs.Lowest.{in_lowest_terms}
 use Rattle.mob_ratio.specs.Ratio.{Ratio, over}
 use Rattle.mob_ratio.proofs.RatioLemmas.{over-lowest}
-use Rattle.mob_frac.specs.declared.Frac.TheInside.{Inside}
+use Rattle.mob_frac.specs.declared.fraction.Frac.TheInside.{Inside}
 
 -- what holds of the fields
 pub record IsFraction (f : Inside) : Type 0 where

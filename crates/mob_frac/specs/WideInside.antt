@@ -1,7 +1,7 @@
 -- The fields of a `Wide` and the rational that they are.
 use Rattle.std.specs.Prelude.{◌^◌, ◌<◌, pos, ◌<ℤ◌, nat_abs}
 use Rattle.mob_ratio.specs.Ratio.{Ratio, over}
-use Rattle.mob_frac.specs.declared.Wide.TheInside.{Inside}
+use Rattle.mob_frac.specs.declared.wide.Wide.TheInside.{Inside}
 
 -- what holds of the fields
 pub record IsWide (f : Inside) : Type 0 where

@@ -1,5 +1,5 @@
 -- Lines.
-use Rattle.std.proofs.Common.{◌≡◌, ℤ, pos, ◌+ℤ◌, neg_ℤ, ◌*ℤ◌, ◌<ℤ◌, ◌≤ℤ◌, ap, arith}
+use Rattle.std.proofs.Common.{◌≡◌, pos, ◌+ℤ◌, neg_ℤ, ◌*ℤ◌, ◌<ℤ◌, ◌≤ℤ◌, ap, arith}
 use Rattle.mob_ratio.specs.Ratio.{Ratio, whole, ◌<ℚ◌, ◌≤ℚ◌}
 use Rattle.mob_ratio.specs.Line.{IsOnLine}
 use Rattle.mob_ratio.proofs.IntRing.{linear, products, lt_mul, lt_of_mul, le_mul, le_of_mul, eq_of_mul}
