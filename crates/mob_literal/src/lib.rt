@@ -6,3 +6,6 @@ pub mod reading;
 pub mod sequence;
 pub mod steps;
 pub mod written;
+
+#[cfg(test)]
+mod tests;
