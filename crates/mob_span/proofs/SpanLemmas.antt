@@ -107,7 +107,8 @@ has_exact s t = (
     from_lower = from_end s.lower t s.lower_inc (left_of _ _ h) (before s.lower t) refl;
     to_upper = to_end t s.upper s.upper_inc (right_of _ _ h) (before t s.upper) refl;
   },
-  λ h. both _ _ (from_end-back s.lower t s.lower_inc h.from_lower) (to_end-back t s.upper s.upper_inc h.to_upper))
+  λ h. both _ _ (from_end-back s.lower t s.lower_inc h.from_lower) (to_end-back t s.upper s.upper_inc h.to_upper),
+)
 
 pub has_exact_as : (s : SpanOf) (t : Ratio) (b : Bool) → b ≡ has s t → IsTrue b ↔ InSpan s t
 has_exact_as s t b e = rw e (has_exact s t)
@@ -116,7 +117,8 @@ has_exact_as s t b e = rw e (has_exact s t)
 pub has_instant_exact : (s : SpanOf) → IsTrue (has_instant s) ↔ ((t : Ratio) × InSpan s t)
 has_instant_exact s = (
   λ h. let m = some_instant s h in (m.0, (has_exact s m.0).0 m.1),
-  λ m. instant_some s m.0 ((has_exact s m.0).1 m.1))
+  λ m. instant_some s m.0 ((has_exact s m.0).1 m.1),
+)
 
 -- no instant is in it exactly where its ends say so
 pub none_exact : (s : SpanOf) (b : Bool) → b ≡ has_instant s → (b ≡ false) ↔ ((t : Ratio) → has s t ≡ false)
@@ -126,12 +128,14 @@ none_exact s b e = (λ h t. no_instant s t (sym e ∙ h), λ h. e ∙ none_has s
 pub meet_none : (s r : SpanOf) → (has_instant (meet_of s r) ≡ false) ↔ ((t : Ratio) → (has s t && has r t) ≡ false)
 meet_none s r = (
   λ h t. sym (meet_has s r t) ∙ no_instant (meet_of s r) t h,
-  λ h. none_has (meet_of s r) (λ t. meet_has s r t ∙ h t))
+  λ h. none_has (meet_of s r) (λ t. meet_has s r t ∙ h t),
+)
 
 pub meet_some : (s r : SpanOf) → IsTrue (has_instant (meet_of s r)) ↔ ((t : Ratio) × ((has s t && has r t) ≡ true))
 meet_some s r = (
   λ h. let m = some_instant (meet_of s r) h in (m.0, sym (meet_has s r m.0) ∙ m.1),
-  λ m. instant_some (meet_of s r) m.0 (meet_has s r m.0 ∙ m.1))
+  λ m. instant_some (meet_of s r) m.0 (meet_has s r m.0 ∙ m.1),
+)
 
 pub meet_some_as : (s r : SpanOf) (b : Bool) → b ≡ has_instant (meet_of s r) → IsTrue b ↔ ((t : Ratio) × ((has s t && has r t) ≡ true))
 meet_some_as s r b e = rw e (meet_some s r)
