@@ -3,3 +3,4 @@ pub mod Course
 pub mod SteadyLaws
 pub mod Look
 pub mod Slices
+pub mod Parts
