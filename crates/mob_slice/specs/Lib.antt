@@ -4,3 +4,4 @@ pub mod SteadyLaws
 pub mod Look
 pub mod Slices
 pub mod Parts
+pub mod Pieces

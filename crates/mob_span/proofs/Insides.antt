@@ -105,3 +105,6 @@ meet_left a b = joined _ _ (low_a a.lower b.lower a.lower_inc b.lower_inc (start
 
 pub meet_right : (a b : SpanOf) → is_inside b (meet_of a b) ≡ true
 meet_right a b = joined _ _ (low_b a.lower b.lower a.lower_inc b.lower_inc (starts_before a b) refl) (high_b a.upper b.upper a.upper_inc b.upper_inc (ends_before a b) refl)
+
+pub inside_self : (s : SpanOf) → is_inside s s ≡ true
+inside_self s = grind (arith, before-self s.lower, before-self s.upper)
