@@ -3,7 +3,7 @@
 -- A moment is an instant, in seconds since midnight UTC of the epoch's day. Its text is `YYYY-MM-DD HH:MM:SS`, then the part of a
 -- second (nothing for a whole second, a point and the fewest digits where at most six digits give it exactly, else the fraction in
 -- brackets), then `+00`. Outside the years 0001 to 9999 it is `epoch+(n)`, where n is the number of seconds.
-use Rattle.std.specs.Prelude.{ℕ, zero, suc, ◌+◌, ◌*◌, ◌-◌, ◌/◌, ◌%◌, ◌==◌, List, [], ◌∷◌, ◌++◌, length, codes, replicate, position, ◌^◌, if◌then◌else◌, Option, Some, None, ℤ, pos, unsigned_abs, ◌+ℤ◌, ◌*ℤ◌}
+use Rattle.std.specs.Prelude.{ℕ, zero, suc, ◌*◌, ◌-◌, ◌/◌, ◌%◌, ◌==◌, List, [], ◌∷◌, ◌++◌, length, codes, replicate, position, ◌^◌, if◌then◌else◌, Option, Some, None, ℤ, pos, unsigned_abs, ◌+ℤ◌, ◌*ℤ◌}
 use Rattle.std.specs.Fmt.{decimal}
 use Rattle.std.specs.Int.{int_div_euclid, int_rem_euclid}
 use Rattle.mob_ratio.specs.Ratio.{Ratio}
