@@ -4,4 +4,6 @@
 pub mod laws;
 pub mod lexer;
 pub mod scan;
+#[cfg(test)]
+mod tests;
 pub mod token;
