@@ -1,2 +1,4 @@
-mod Known
-mod Pieces
+pub mod Known
+pub mod Pieces
+mod WholeScript
+mod Select
