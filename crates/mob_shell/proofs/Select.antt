@@ -23,7 +23,6 @@ same_last : (xs ys : List ℕ) (a b : ℕ) → xs ++ a ∷ [] ≡ ys ++ b ∷ []
 same_last xs ys a b e = sym (last_of-append xs a) ∙ ap last_of e ∙ last_of-append ys b
 
 module _ (script line literal : List ℕ) (cut : IsCut script line) where
-
   -- a script without line feed does not end with one
   ends_otherwise : (text : List ℕ) → text ++ 10 ∷ [] ≡ opening ++ literal ++ closing → ⊥
   ends_otherwise text e =
