@@ -1,7 +1,8 @@
 -- Dates of the calendar, of the years 0001 to 9999: their texts, and the date of a day.
 --
 -- The calendar is the Gregorian one carried back before its time. A day has a number: 0 is 1970-01-01, and the day before it is -1.
-use Rattle.std.specs.Prelude.{◌≡◌, ℕ, zero, suc, ◌+◌, codes, Bool, true, false, ◌&&◌, cond, nat_le, nat_eq, nat_abs, ℤ, pos, neg_ℤ, ◌-ℤ◌}
+use Rattle.std.specs.Prelude.{ℕ, zero, suc, ◌+◌, codes, Bool, ◌&&◌, cond, nat_le, nat_eq, unsigned_abs, ℤ, pos, neg_ℤ, ◌-ℤ◌, ◌≤ℤ◌}
+use Rattle.std.specs.Int.Signed.{le_z}
 use Rattle.jiff_core.specs.Calendar.{days_from_civil, days_in_month}
 use Rattle.mob_language.specs.Language.{Language, ◌▷◌, Means, Where, behind}
 use Rattle.mob_scalar.specs.declared.civil.Civil.{Civil}
@@ -33,13 +34,6 @@ date = Where is_civil (Means civil_of (fixed 4 ▷ (behind (codes "-") (fixed 2)
 abbrev pub day_of : Civil → ℤ
 day_of c = days_from_civil (pos c.year) c.month c.day
 
-abbrev pub int_le : ℤ → ℤ → Bool
-int_le a b = is_from_zero (b -ℤ a)
-  where
-    is_from_zero : ℤ → Bool
-    is_from_zero (pos n) = true
-    is_from_zero z = false
-
 -- the greatest of the numbers 1 to n that passes the test, or 0 where none does
 abbrev pub last_of : (ℕ → Bool) → ℕ → ℕ
 last_of test zero = zero
@@ -47,23 +41,21 @@ last_of test (suc n) = cond (test (suc n)) (suc n) (last_of test n)
 
 -- the year of a day: the last of the years 0001 to 9999 whose first day is not after it
 unfoldable pub year_of : ℤ → ℕ
-year_of day = last_of (λ y. int_le (days_from_civil (pos y) 1 1) day) 9999
+year_of day = last_of (λ y. le_z (days_from_civil (pos y) 1 1) day) 9999
 
 -- the month of a day in a year: the last of its twelve months whose first day is not after it
 unfoldable pub month_of : ℕ → ℤ → ℕ
-month_of y day = last_of (λ m. int_le (days_from_civil (pos y) m 1) day) 12
+month_of y day = last_of (λ m. le_z (days_from_civil (pos y) m 1) day) 12
 
 -- the place of a day in a month, from 1
 unfoldable pub place_in : ℕ → ℕ → ℤ → ℕ
-place_in y m day = nat_abs (day -ℤ days_from_civil (pos y) m 1) + 1
+place_in y m day = unsigned_abs (day -ℤ days_from_civil (pos y) m 1) + 1
 
 -- the date of the day with this number, of the years 0001 to 9999
 unfoldable pub date_of : ℤ → Civil
 date_of day = let y = year_of day in let m = month_of y day in record { year = y; month = m; day = place_in y m day }
 
--- 0001-01-01 and 9999-12-31
-abbrev pub first_day : ℤ
-first_day = neg_ℤ (pos 719162)
-
-abbrev pub last_day : ℤ
-last_day = pos 2932896
+-- a day of the years 0001 to 9999: from 0001-01-01 to 9999-12-31
+pub record IsInYears (day : ℤ) : Type 0 where
+  pub from_first : neg_ℤ (pos 719162) ≤ℤ day
+  pub to_last : day ≤ℤ pos 2932896

@@ -1,5 +1,6 @@
 -- The texts of moments.
-use Rattle.std.specs.Prelude.{◌≡◌, ℕ, ◌+◌, ◌*◌, ◌^◌, ◌<◌, List, [], ◌∷◌, length, codes, Bool, true, false, ◌&&◌, ◌||◌, cond, nat_le, nat_lt, nat_eq, Option, Some, None, ℤ, pos, neg_ℤ, ◌+ℤ◌, ◌-ℤ◌, ◌*ℤ◌}
+use Rattle.std.specs.Prelude.{ℕ, ◌+◌, ◌*◌, ◌^◌, ◌<◌, length, codes, Bool, false, ◌&&◌, ◌||◌, cond, nat_le, nat_lt, nat_eq, Option, Some, None, ℤ, pos, neg_ℤ, ◌+ℤ◌, ◌-ℤ◌, ◌*ℤ◌}
+use Rattle.std.specs.Int.Signed.{le_z}
 use Rattle.mob_ratio.specs.Ratio.{Ratio, over, whole, ◌+ℚ◌}
 use Rattle.mob_language.specs.Language.{Text, Language, ◌▷◌, ◌∣◌, Maybe, Means, Where, Word, OneOf, Run, behind, is_blank}
 use Rattle.mob_scalar.specs.declared.numeral.Figures.{Figures}
@@ -10,7 +11,7 @@ use Rattle.mob_scalar.specs.declared.stamp.Offset.{Offset}
 use Rattle.mob_scalar.specs.declared.stamp.Stamp.{Stamp}
 use Rattle.mob_scalar.specs.Figures.{digits}
 use Rattle.mob_scalar.specs.Number.{is_sign}
-use Rattle.mob_scalar.specs.Calendar.{fixed, date, day_of, int_le}
+use Rattle.mob_scalar.specs.Calendar.{fixed, date, day_of}
 
 abbrev pub is_below : ℕ → ℕ → Bool
 is_below limit n = nat_lt n limit
@@ -108,9 +109,13 @@ shift o = cond o.west (pos o.seconds) (neg_ℤ (pos o.seconds))
 unfoldable pub seconds : Stamp → ℤ
 seconds s = day_of s.date *ℤ pos 86400 +ℤ pos s.clock.seconds +ℤ shift s.offset
 
+-- a second of the years 0001 to 9999: from 0001-01-01 00:00:00 to 9999-12-31 23:59:59
+abbrev pub is_year_second : ℤ → Bool
+is_year_second n = le_z (neg_ℤ (pos 62135596800)) n && le_z n (pos 253402300799)
+
 -- in the years 0001 to 9999 in UTC
 abbrev pub is_in_years : Stamp → Bool
-is_in_years s = int_le (neg_ℤ (pos 62135596800)) (seconds s) && int_le (seconds s) (pos 253402300799)
+is_in_years s = is_year_second (seconds s)
 
 abbrev pub moment : Language Stamp
 moment = Where is_in_years (Means stamp_of (date ▷ Maybe time))

@@ -1,7 +1,8 @@
 //! Dates of the calendar, of the years 0001 to 9999.
 ghost use Rattle.std.specs.Prelude.{◌≡◌, ◌<◌, ◌≤◌, ◌^◌, length, option_map, List, ℕ, ℤ, pos, nat_abs, ◌*ℤ◌, ◌+ℤ◌, ◌-ℤ◌, Option, Some, None, IfSome, true, Bool};
+ghost use Rattle.mob_language.specs.Readers.{all_of};
 ghost use Rattle.jiff_core.specs.Calendar.{days_from_civil, days_in_month as month_length};
-ghost use Rattle.mob_scalar.specs.Calendar.{is_civil as civil, day_of as day_number};
+ghost use Rattle.mob_scalar.specs.Calendar.{is_civil as civil, day_of as day_number, date_of as date_of_day, IsInYears};
 ghost use Rattle.mob_scalar.specs.CalendarReaders.{fixed_at as fixed_in, dash_at as dash_in, date_at as date_in};
 
 use crate::numeral::{Figures, digits_at};
@@ -98,3 +99,33 @@ pub fn day_of(date: Civil) -> i32
     }
 }
 
+/// All of the bytes, as a date.
+pub fn date_in_all(bytes: &[u8]) -> Option<Civil>
+    ensures value { result ≡ all_of date_in bytes.now }
+    ensures there { IfSome result (λ date. civil date ≡ true) }
+{
+    match date_at(bytes) {
+        Some((date, rest)) => { if rest.is_empty() { Some(date) } else { None } }
+        None => None,
+    }
+}
+
+/// The date of a day.
+pub fn date_of(day: i64) -> Civil
+    requires { IsInYears day }
+    ensures value { result ≡ date_of_day day }
+    ensures there { civil result ≡ true }
+{
+    match Date::from_unix_epoch_day(day) {
+        Ok(date) => Civil {
+            year: date.year as u32,
+            month: date.month as u32,
+            day: date.day as u32,
+        },
+        Err(_) => Civil {
+            year: 1,
+            month: 1,
+            day: 1,
+        },
+    }
+}

@@ -193,7 +193,10 @@ fn clock_from(hour: u128, minute: u128, seconds: Option<(u128, Option<Part>)>) -
     requires seconds { IfSome seconds (λ x. x.0 < 100) }
     ensures { result ≡ clock_made (hour, (minute, seconds)) }
 {
-    let none = Part { numerator: 0, denominator: 1 };
+    let none = Part {
+        numerator: 0,
+        denominator: 1,
+    };
     match seconds {
         None => Clock {
             seconds: (hour * 3600 + minute * 60) as u32,
@@ -364,7 +367,10 @@ fn stamp_from(date: Civil, time: Option<(Clock, Offset)>) -> Stamp
             date,
             clock: Clock {
                 seconds: 0,
-                part: Part { numerator: 0, denominator: 1 },
+                part: Part {
+                    numerator: 0,
+                    denominator: 1,
+                },
             },
             offset: Offset {
                 west: false,
@@ -442,4 +448,3 @@ pub fn moment_at(bytes: &[u8]) -> Option<(Stamp, &[u8])>
         None
     }
 }
-
