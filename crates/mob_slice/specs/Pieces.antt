@@ -1,5 +1,5 @@
 -- Pieces of time in order.
-use Rattle.std.specs.Prelude.{◌≡◌, true, cond, List, [], ◌∷◌, Option, None, Some}
+use Rattle.std.specs.Prelude.{◌≡◌, ◌⊎◌, true, cond, List, [], ◌∷◌, Option, None, Some}
 use Rattle.mob_ratio.specs.Ratio.{Ratio}
 use Rattle.mob_span.specs.Span.{SpanOf, has, has_instant}
 use Rattle.mob_span.specs.Neighbours.{is_clear, is_inside}
@@ -10,6 +10,11 @@ use Rattle.mob_slice.specs.declared.slice.Slice.{Slice}
 abbrev pub Each : {A : Type 0} → (A → Type 0) → List A → Type 0
 Each P [] = Unit {0}
 Each P (x ∷ xs) = P x × Each P xs
+
+-- x stands in a list
+abbrev pub IsIn : {A : Type 0} → A → List A → Type 0
+IsIn x [] = ⊥
+IsIn x (y ∷ ys) = (x ≡ y) ⊎ IsIn x ys
 
 -- the parts are ordered and disjoint, and each has an instant
 abbrev pub PartsClear : {P : Type 0} → (P → SpanOf) → List P → Type 0

@@ -1,16 +1,19 @@
 -- What the steps of a walk over one value give together.
-use Rattle.std.specs.Prelude.{◌≡◌, true, List, [], ◌∷◌, refl}
-use Rattle.std.proofs.Common.{ap, sym, ◌∙◌, subst}
+use Rattle.std.specs.Prelude.{◌≡◌, true, List, [], ◌∷◌, refl, Some}
+use Rattle.std.proofs.Common.{ap, sym, ◌∙◌, subst, ⊎_elim}
 use Rattle.std.specs.Iterator.{Yields, Drains}
+use Rattle.mob_ratio.specs.Ratio.{Ratio}
+use Rattle.mob_span.specs.Span.{has}
 use Rattle.mob_span.specs.Neighbours.{is_clear, is_inside}
 use Rattle.mob_span.proofs.Insides.{inside_self}
-use Rattle.mob_slice.specs.Slices.{OfHead, Clear, IsOrdered, IsSound}
+use Rattle.mob_slice.specs.Slices.{slice_at, OfHead, Clear, IsOrdered, IsSound}
 use Rattle.mob_slice.specs.Parts.{IsOneFit}
 use Rattle.mob_slice.specs.declared.slice.Slice.{Slice}
 use Rattle.mob_slice.specs.declared.part.One.{One}
-use Rattle.mob_slice.specs.Pieces.{Each, PartsClear}
+use Rattle.mob_slice.specs.Pieces.{Each, IsIn, PartsClear}
 use Rattle.mob_sync.specs.Ones.{CanWalkOne, IsOneStep, OneSteps, AreOnes}
 use Rattle.mob_sync.specs.declared.ones.Ones.{Ones}
+use Rattle.mob_sync.proofs.Pairs.{InOrder, ordered-in_order, later_at}
 
 module _ {C X : Type 0} (start end : C → X) where
   rest_ordered : (v : List (Slice C)) (s : Slice C) (w : List (Slice C)) → IsOrdered start end v → v ≡ s ∷ w → IsOrdered start end (s ∷ w)
@@ -35,6 +38,16 @@ module _ {C X : Type 0} (start end : C → X) where
   ones_fit s (x ∷ xs) t o y =
       let k = rest_ordered s.slices.now x.slice.now y.0.slices.now o y.1.next in
       (record { inside = rw y.1.whole (inside_self x.slice.now.span); sound = k.0 }, ones_fit y.0 xs t k.2 y.2)
+
+-- at each instant of a piece its slice is that of the list
+pub ones_here : {C X : Type 0} (start end : C → X) (s : Ones C) (xs : List (One C)) (t : Ones C) (p : One C) (u : Ratio) → IsOrdered start end s.slices.now → Yields OneSteps s xs t → IsIn p xs → has p.span u ≡ true → slice_at s.slices.now u ≡ Some p.slice.now
+ones_here {C} start end s [] t p u o y i h = absurd i
+ones_here {C} start end s (x ∷ xs) t p u o y i h =
+    let k = ordered-in_order start end s.slices.now o in
+    rw y.1.next (⊎_elim
+    (λ e. let g : has x.slice.now.span u ≡ true = subst (λ r. has r u ≡ true) y.1.whole (subst (λ z. has z.span u ≡ true) e h) in rw g (ap (λ (z : One C). Some z.slice.now) (sym e)))
+    (λ j. later_at x.slice.now y.0.slices.now u p.slice.now (subst InOrder y.1.next k) (ones_here start end y.0 xs t p u (rest_ordered start end s.slices.now x.slice.now y.0.slices.now o y.1.next).2 y.2 j h) (has x.slice.now.span u) refl)
+    i)
 
 ones_yielded : {C : Type 0} (s : Ones C) (xs : List (One C)) (t : Ones C) → Yields OneSteps s xs t → t.slices.now ≡ [] → AreOnes s.slices.now xs
 ones_yielded s [] t y h = ap (λ u. u.slices.now) y ∙ h

@@ -1,6 +1,6 @@
 -- The common pairs of two lists, built from the front.
 use Rattle.std.specs.Prelude.{◌≡◌, Bool, true, false, cond, ◌&&◌, Option, Some, None, option_map, List, [], ◌∷◌, ◌++◌, refl}
-use Rattle.std.proofs.Common.{ap, sym, ◌∙◌, append_assoc}
+use Rattle.std.proofs.Common.{ap, sym, ◌∙◌, append_assoc, true≢false}
 use Rattle.mob_ratio.specs.Ratio.{Ratio}
 use Rattle.mob_span.specs.Span.{SpanOf, has, has_instant}
 use Rattle.mob_span.specs.Neighbours.{is_clear}
@@ -122,3 +122,39 @@ ordered start end continues (s ∷ v) h = (h.0, head_ordered start end continues
 pub ordered-in_order : {C B : Type 0} (start end : C → B) (v : List (Slice C)) → IsOrdered start end v → InOrder v
 ordered-in_order start end [] h = tt
 ordered-in_order start end (s ∷ v) h = (h.0.some, h.1, ordered-in_order start end v h.2)
+
+some_none : {X : Type 0} (x : X) (o : Option X) → o ≡ Some x → o ≡ None → ⊥
+some_none x o h k = let e : Some x ≡ None = sym h ∙ k in cc
+
+-- what a later slice has, the first does not have
+pub later_at : {C : Type 0} (a : Slice C) (v : List (Slice C)) (t : Ratio) (x : Slice C) → InOrder (a ∷ v) → slice_at v t ≡ Some x → (h : Bool) → has a.span t ≡ h → slice_at (a ∷ v) t ≡ Some x
+later_at a v t x n e true i = absurd (some_none x (slice_at v t) e (none_in_end a.span v t (all_after a v n) (in_end a.span t i)))
+later_at a v t x n e false i = rw i e
+
+both_parts : {A B : Type 0} (o : Option A) (u : Option B) (x : A) (y : B) → both o u ≡ Some (x, y) → (o ≡ Some x) × (u ≡ Some y)
+both_parts None u x y h = let e : None ≡ Some (x, y) = h in absurd (some_none (x, y) None e refl)
+both_parts (Some a) None x y h = let e : None ≡ Some (x, y) = h in absurd (some_none (x, y) None e refl)
+both_parts {A} {B} (Some a) (Some b) x y h = let e : Some (a, b) ≡ Some (x, y) = h in (ap (λ o. option_map (λ (z : A × B). z.0) o) e, ap (λ o. option_map (λ (z : A × B). z.1) o) e)
+
+both_of : {A B : Type 0} (o : Option A) (u : Option B) (x : A) (y : B) → o ≡ Some x → u ≡ Some y → both o u ≡ Some (x, y)
+both_of o u x y h k = rw (h, k) refl
+
+two_of : (p q : Bool) → (p && q) ≡ true → (p ≡ true) × (q ≡ true)
+two_of true q h = (refl, h)
+two_of false q h = let e : false ≡ true = h in absurd (true≢false (sym e))
+
+module _ {A B : Type 0} (u : Ratio) where
+  pub kept_left : (v v' : List (Slice A)) (w : List (Slice B)) (a : Slice A) → InOrder v → v ≡ a ∷ v' → (x : Slice A) (y : Slice B) → both (slice_at v' u) (slice_at w u) ≡ Some (x, y) → both (slice_at v u) (slice_at w u) ≡ Some (x, y)
+  kept_left v v' w a n e x y h =
+      let p = both_parts (slice_at v' u) (slice_at w u) x y h in
+      both_of (slice_at v u) (slice_at w u) x y (rw e (later_at a v' u x (rw e at n) p.0 (has a.span u) refl)) p.1
+
+  pub kept_right : (v : List (Slice A)) (w w' : List (Slice B)) (b : Slice B) → InOrder w → w ≡ b ∷ w' → (x : Slice A) (y : Slice B) → both (slice_at v u) (slice_at w' u) ≡ Some (x, y) → both (slice_at v u) (slice_at w u) ≡ Some (x, y)
+  kept_right v w w' b n e x y h =
+      let p = both_parts (slice_at v u) (slice_at w' u) x y h in
+      both_of (slice_at v u) (slice_at w u) x y p.0 (rw e (later_at b w' u y (rw e at n) p.1 (has b.span u) refl))
+
+  pub met_here : (v v' : List (Slice A)) (w w' : List (Slice B)) (a : Slice A) (b : Slice B) (s : SpanOf) → v ≡ a ∷ v' → w ≡ b ∷ w' → s ≡ meet_of a.span b.span → has s u ≡ true → both (slice_at v u) (slice_at w u) ≡ Some (a, b)
+  met_here v v' w w' a b s e f m h =
+      let k = two_of (has a.span u) (has b.span u) (sym (ap (λ r. has r u) m ∙ meet_has a.span b.span u) ∙ h) in
+      both_of (slice_at v u) (slice_at w u) a b (rw e (rw k.0 refl)) (rw f (rw k.1 refl))

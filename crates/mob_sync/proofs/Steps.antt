@@ -1,17 +1,18 @@
 -- What the steps of a walk over common pieces give together.
-use Rattle.std.specs.Prelude.{◌≡◌, true, List, [], ◌∷◌, ◌++◌}
+use Rattle.std.specs.Prelude.{◌≡◌, true, List, [], ◌∷◌, ◌++◌, Some}
 use Rattle.std.proofs.Common.{append-nil, ⊎_elim, sym, subst}
 use Rattle.std.specs.Iterator.{Yields, Drains}
-use Rattle.mob_span.specs.Span.{SpanOf}
+use Rattle.mob_ratio.specs.Ratio.{Ratio}
+use Rattle.mob_span.specs.Span.{SpanOf, has}
 use Rattle.mob_span.specs.Neighbours.{is_clear}
 use Rattle.mob_span.specs.Meet.{meet_of}
 use Rattle.mob_span.proofs.Insides.{meet_clear, meet_clear', meet_left, meet_right}
-use Rattle.mob_slice.specs.Slices.{OfHead, IsSound}
+use Rattle.mob_slice.specs.Slices.{slice_at, OfHead, IsSound}
 use Rattle.mob_slice.specs.Parts.{IsPairFit}
 use Rattle.mob_slice.specs.declared.slice.Slice.{Slice}
 use Rattle.mob_slice.specs.declared.part.Pair.{Pair}
-use Rattle.mob_slice.specs.Pieces.{Each, PartsClear, AllAfter}
-use Rattle.mob_sync.specs.Common.{IsCommon}
+use Rattle.mob_slice.specs.Pieces.{Each, IsIn, PartsClear, AllAfter}
+use Rattle.mob_sync.specs.Common.{both, IsCommon}
 use Rattle.mob_sync.specs.Walk.{IsWalkStep, WalkSteps}
 use Rattle.mob_sync.specs.declared.common.Common.{Common}
 use Rattle.mob_sync.proofs.Pairs.{InOrder, all_after}
@@ -57,3 +58,8 @@ module _ {A B X Y : Type 0} (start end : A → X) (start' end' : B → Y) where
   pub walk_fits : (s : Common A B) (xs : List (Pair A B)) (t : Common A B) → Yields (WalkSteps start end start' end') s xs t → Each (IsPairFit start end start' end') xs
   walk_fits s [] t y = tt
   walk_fits s (x ∷ xs) t y = (y.1.fit, walk_fits y.0 xs t y.2)
+
+  -- at each instant of a pair its slices are those of the two lists
+  pub walk_here : (s : Common A B) (xs : List (Pair A B)) (t : Common A B) (p : Pair A B) (u : Ratio) → Yields (WalkSteps start end start' end') s xs t → IsIn p xs → has p.span u ≡ true → both (slice_at s.lefts.now u) (slice_at s.rights.now u) ≡ Some (p.left.now, p.right.now)
+  walk_here s [] t p u y i h = absurd i
+  walk_here s (x ∷ xs) t p u y i h = ⊎_elim (λ e. subst (λ z. both (slice_at s.lefts.now u) (slice_at s.rights.now u) ≡ Some (z.left.now, z.right.now)) (sym e) (y.1.here u (subst (λ z. has z.span u ≡ true) e h))) (λ k. y.1.kept u p.left.now p.right.now (walk_here y.0 xs t p u y.2 k h)) i

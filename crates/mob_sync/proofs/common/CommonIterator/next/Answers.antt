@@ -1,7 +1,7 @@
 use Rattle.mob_slice.specs.declared.part.Pair.{Pair}
 use Rattle.std.proofs.Common.{[], ◌∷◌, refl, sym, ◌∙◌, arith}
 use Rattle.std.proofs.lemmas.List.{nil_from_length}
-use Rattle.mob_sync.proofs.Pairs.{ordered-in_order, more_left, more_right, common_left_end, common_right_end}
+use Rattle.mob_sync.proofs.Pairs.{ordered-in_order, kept_left, kept_right, met_here, more_left, more_right, common_left_end, common_right_end}
 use Rattle.std.proofs.Common.{inl, inr}
 use Rattle.mob_span.proofs.Insides.{clear_meet, clear_meet'}
 use Rattle.mob_sync.proofs.Steps.{after_meet, after_meet', pair_fits}
@@ -35,6 +35,8 @@ returns-in-Some-met-clause-steps g c =
         after_left = λ q h. rw e' (clear_meet q c.in-Some.left.now.span c.in-Some-split_first.right.now.span (rw e at (i.left_part q h)).0);
         after_right = λ q h. rw e' (clear_meet' q c.in-Some.left.now.span c.in-Some-split_first.right.now.span (rw f at (i.right_part q h)).0);
         before_rest = inr (after_meet' c.in-Some.left.now c.in-Some-split_first.right.now p y' e' (rw f at ro));
+        here = λ u h. i.kept u c.in-Some.left.now c.in-Some-split_first.right.now (met_here u x x' y y' c.in-Some.left.now c.in-Some-split_first.right.now p.span e f e' h);
+        kept = λ u v w h. i.kept u v w (kept_right u x y y' c.in-Some-split_first.right.now ro f v w h);
         to_come = more_right c.args.self.now.lefts.now c.args.self.now.rights.now x x' y y' c.in-Some.left.now c.in-Some-split_first.right.now [] (p ∷ []) (p ∷ []) lo ro e f (sym c.ends_before.ensures.value ∙ w.if-ends_before.true) (e', some', refl, refl) refl i.to_come;
       })
       | else-ends_before w ↦ rw w.self-is (record {
@@ -43,6 +45,8 @@ returns-in-Some-met-clause-steps g c =
         after_left = λ q h. rw e' (clear_meet q c.in-Some.left.now.span c.in-Some-split_first.right.now.span (rw e at (i.left_part q h)).0);
         after_right = λ q h. rw e' (clear_meet' q c.in-Some.left.now.span c.in-Some-split_first.right.now.span (rw f at (i.right_part q h)).0);
         before_rest = inl (after_meet c.in-Some.left.now c.in-Some-split_first.right.now p x' e' (rw e at lo));
+        here = λ u h. i.kept u c.in-Some.left.now c.in-Some-split_first.right.now (met_here u x x' y y' c.in-Some.left.now c.in-Some-split_first.right.now p.span e f e' h);
+        kept = λ u v w h. i.kept u v w (kept_left u x x' y c.in-Some.left.now lo e v w h);
         to_come = more_left c.args.self.now.lefts.now c.args.self.now.rights.now x x' y y' c.in-Some.left.now c.in-Some-split_first.right.now [] (p ∷ []) (p ∷ []) lo ro e f (sym c.ends_before.ensures.value ∙ w.if-ends_before.false) (e', some', refl, refl) refl i.to_come;
       })
     ]
@@ -65,6 +69,7 @@ walk-preserved g c =
         left_order = i.left_order;
         right_order = (rw f at i.right_order).2;
         to_come = more_right c.args.self.now.lefts.now c.args.self.now.rights.now x x' y y' c.in-Some.left.now c.in-Some-split_first.right.now [] [] [] lo ro e f (sym c.ends_before.ensures.value ∙ w.if-ends_before.true) c.in_default-met.ensures.test refl i.to_come;
+        kept = λ u v w h. i.kept u v w (kept_right u x y y' c.in-Some-split_first.right.now ro f v w h);
         left_part = i.left_part;
         right_part = λ q h. (rw f at (i.right_part q h)).1;
         shorter = omega (arith, less, less', i.shorter);
@@ -73,6 +78,7 @@ walk-preserved g c =
         left_order = (rw e at i.left_order).2;
         right_order = i.right_order;
         to_come = more_left c.args.self.now.lefts.now c.args.self.now.rights.now x x' y y' c.in-Some.left.now c.in-Some-split_first.right.now [] [] [] lo ro e f (sym c.ends_before.ensures.value ∙ w.if-ends_before.false) c.in_default-met.ensures.test refl i.to_come;
+        kept = λ u v w h. i.kept u v w (kept_left u x x' y c.in-Some.left.now lo e v w h);
         left_part = λ q h. (rw e at (i.left_part q h)).1;
         right_part = i.right_part;
         shorter = omega (arith, less, less', i.shorter);
