@@ -1,5 +1,5 @@
 -- Where the signs stand longest first, the first that a text begins with is the longest.
-use Rattle.std.specs.Prelude.{max, nat_eq, ◌&&◌, IfSome}
+use Rattle.std.specs.Prelude.{nat_eq, ◌&&◌, IfSome}
 use Rattle.std.specs.List.{starts_with}
 use Rattle.std.proofs.Common.{◌≡◌, ◌≤◌, ◌<◌, ◌∙◌, ◌⊎◌, inl, inr, ℕ, List, [], ◌∷◌, length, Bool, true, false, cond, Option, Some, None, refl, sym, ap, subst, arith}
 use Rattle.std.proofs.Math.Dec.{leb}

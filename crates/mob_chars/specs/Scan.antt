@@ -1,5 +1,5 @@
 -- What stands at the front of a text: blanks, comments, words, numbers and strings, and how long they are in bytes.
-use Rattle.std.specs.Prelude.{◌≡◌, ◌==◌, ◌+◌, ◌&&◌, ◌||◌, ℕ, List, [], ◌∷◌, length, drop, Bool, true, false, not, cond, nat_le, option_map, Option, Some, None, take_while}
+use Rattle.std.specs.Prelude.{◌==◌, ◌+◌, ◌&&◌, ◌||◌, ℕ, List, [], ◌∷◌, length, drop, Bool, false, not, cond, nat_le, option_map, Option, Some, None, take_while}
 
 -- a blank is a space, a tab, a carriage return or a line feed
 abbrev pub is_blank : ℕ → Bool

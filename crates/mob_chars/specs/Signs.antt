@@ -1,5 +1,5 @@
 -- The signs of the language.
-use Rattle.std.specs.Prelude.{ℕ, List, [], ◌∷◌, map, length, cond, max, nat_eq, Option, Some, None, codes}
+use Rattle.std.specs.Prelude.{ℕ, List, [], ◌∷◌, length, cond, max, nat_eq, Option, Some, None, codes}
 use Rattle.std.specs.List.{starts_with}
 
 -- the signs: of three characters, of two and of one

@@ -1,5 +1,5 @@
 -- The tokens of a text.
-use Rattle.std.specs.Prelude.{◌≡◌, ◌==◌, ◌+◌, ◌-◌, ℕ, zero, suc, List, [], ◌∷◌, cond, Option, Some, None, option_map, Result, Ok, Err}
+use Rattle.std.specs.Prelude.{◌≡◌, ◌+◌, ◌-◌, ℕ, zero, suc, List, [], ◌∷◌, cond, Option, Some, None, option_map, Result, Ok, Err}
 use Rattle.mob_chars.specs.declared.token.TokenKind.{TokenKind}
 use Rattle.mob_chars.specs.declared.token.TokenKind.TheVariants.{Word, Number, Str, Sign, End}
 use Rattle.mob_chars.specs.declared.token.Token.{Token}

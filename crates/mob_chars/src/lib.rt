@@ -3,5 +3,7 @@
 
 pub mod laws;
 pub mod lexer;
-pub mod scan;
+mod scan;
+#[cfg(test)]
+mod tests;
 pub mod token;

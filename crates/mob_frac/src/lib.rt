@@ -13,3 +13,6 @@ mod wide;
 pub use fraction::{Frac, Overflow};
 pub use products::over_product;
 pub use wide::{Wide, same_ratio};
+
+#[cfg(test)]
+mod tests;

@@ -1,10 +1,9 @@
 -- The printed text of a number is a text of that number.
-use Rattle.std.proofs.Common.{◌≡◌, ℕ, zero, suc, ◌+◌, ◌*◌, ◌^◌, ◌<◌, ◌≤◌, List, [], ◌∷◌, ◌++◌, length, Bool, true, false, cond, Option, Some, None, ℤ, pos, negsuc, neg_ℤ, nat_abs, refl, sym, ap, subst, ◌∙◌, append_assoc, arith, rules, codes, inl, inr, eqb}
+use Rattle.std.proofs.Common.{◌≡◌, ℕ, ◌^◌, ◌<◌, ◌≤◌, [], ◌∷◌, ◌++◌, length, Bool, true, false, cond, Some, None, ℤ, pos, negsuc, nat_abs, refl, sym, ap, subst, ◌∙◌, append_assoc, arith, rules, codes, inl, inr}
 use Rattle.std.specs.Prelude.{nat_eq, Ok}
 use Rattle.std.specs.Int.{IsInRange}
-use Rattle.std.specs.Char.{digit_value}
 use Rattle.std.specs.Fmt.{decimal, signed_decimal}
-use Rattle.std.specs.Str.Parse.{AllDigits, digits_value}
+use Rattle.std.specs.Str.Parse.{AllDigits}
 use Rattle.std.proofs.lemmas.Bool.{eqb-true}
 use Rattle.std.proofs.lemmas.List.{append-nil}
 use Rattle.std.proofs.lemmas.Fmt.{decimal_is_IsNumeral, length-decimal-le}
@@ -13,13 +12,13 @@ use Rattle.mob_ratio.specs.Ratio.{Ratio, over}
 use Rattle.mob_ratio.proofs.RatioLemmas.{over-self, den_pos}
 use Rattle.mob_frac.specs.Fits.{Fits}
 use Rattle.mob_frac.specs.Signed.{signed}
-use Rattle.mob_language.specs.Language.{Text, Language, ◌▷◌, ◌∣◌, Maybe, Means, Where, Word, OneOf, AreAll, Run, behind}
+use Rattle.mob_language.specs.Language.{Text}
 use Rattle.mob_scalar.specs.declared.numeral.Figures.{Figures}
 use Rattle.mob_scalar.specs.declared.numeral.Tail.{Tail}
 use Rattle.mob_scalar.specs.declared.numeral.Tail.TheVariants.{Over, Decimal}
 use Rattle.mob_scalar.specs.declared.numeral.Numeral.{Numeral}
-use Rattle.mob_scalar.specs.Figures.{is_digit, is_run, figures, digits, AreFigures}
-use Rattle.mob_scalar.specs.Number.{is_sign, is_minus, is_numeral, numeral_of, decimal_of, has_digits, sign, tail, number}
+use Rattle.mob_scalar.specs.Figures.{is_digit, is_run, digits, AreFigures}
+use Rattle.mob_scalar.specs.Number.{numeral_of, has_digits, sign, tail, number}
 use Rattle.mob_scalar.specs.NumberValue.{value}
 use Rattle.mob_scalar.specs.NumberText.{number_text}
 use Rattle.mob_scalar.specs.Verdict.{Lit}
@@ -28,17 +27,17 @@ use Rattle.mob_scalar.specs.Numbers.{numbers}
 digit_test : (c : ℕ) → IsInRange 48 57 c → is_digit c ≡ true
 digit_test c h = search rules
 
-are_figures : (ds : Text) → AllDigits 10 ds → AreFigures ds
+pub are_figures : (ds : Text) → AllDigits 10 ds → AreFigures ds
 are_figures [] h = tt
 are_figures (c ∷ cs) h = (digit_test c (digit_from_value c h.0), are_figures cs h.1)
 
 pub run_test : (ds : Text) → length ds ≤ 36 → is_run ds ≡ true
 run_test ds h = search rules
 
-size_of : ℕ → Figures
+unfoldable pub size_of : ℕ → Figures
 size_of n = record { value = n; count = length (decimal n) }
 
-digits_said : (n : ℕ) → n < 2 ^ 62 → digits (decimal n) (size_of n)
+pub digits_said : (n : ℕ) → n < 2 ^ 62 → digits (decimal n) (size_of n)
 unfolding size_of
 digits_said n h =
     let is = decimal_is_IsNumeral n (omega (arith, h)) in
@@ -89,7 +88,7 @@ number_said z back t h said enough = record {
   holds = enough;
 }
 
-nonempty : (n : ℕ) → n < 2 ^ 62 → 0 < length (decimal n)
+pub nonempty : (n : ℕ) → n < 2 ^ 62 → 0 < length (decimal n)
 nonempty n h = (decimal_is_IsNumeral n (omega (arith, h))).0.0
 
 enough_whole : (n : ℕ) → n < 2 ^ 62 → has_digits (size_of n) (Decimal None None) ≡ true

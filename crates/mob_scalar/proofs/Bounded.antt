@@ -1,21 +1,20 @@
 -- Texts of numbers stand for bounded numerals.
-use Rattle.std.proofs.Common.{◌≡◌, ℕ, zero, suc, ◌+◌, ◌*◌, ◌^◌, ◌<◌, ◌≤◌, List, length, Bool, true, false, Option, Some, None, refl, sym, ap, subst, ◌∙◌, arith, rules, codes, inl, inr, ◌⊎◌}
+use Rattle.std.proofs.Common.{◌≡◌, ℕ, suc, ◌+◌, ◌*◌, ◌^◌, ◌<◌, ◌≤◌, length, true, Option, Some, None, sym, subst, arith, rules, codes, inl, inr}
 use Rattle.std.specs.Prelude.{IfSome}
-use Rattle.std.specs.Str.Parse.{digits_value}
 use Rattle.std.proofs.lemmas.Nat.{pow-add}
 use Rattle.std.proofs.Math.Nat.{mul-le-mul_right}
 use Rattle.std.proofs.lemmas.Int.Digits.{digits_value-lt}
-use Rattle.mob_language.specs.Language.{Text, Language, ◌▷◌, ◌∣◌, Maybe, Means, Where, Word, OneOf, Run, behind}
+use Rattle.mob_language.specs.Language.{Text, Maybe, behind}
 use Rattle.mob_scalar.specs.declared.numeral.Figures.{Figures}
 use Rattle.mob_scalar.specs.declared.numeral.Exponent.{Exponent}
 use Rattle.mob_scalar.specs.declared.numeral.Tail.{Tail}
 use Rattle.mob_scalar.specs.declared.numeral.Tail.TheVariants.{Over, Decimal}
 use Rattle.mob_scalar.specs.declared.numeral.Numeral.{Numeral}
-use Rattle.mob_scalar.specs.Figures.{is_digit, is_run, figures, digits}
-use Rattle.mob_scalar.specs.Number.{count_of, has_digits, is_exponent, decimal_of, numeral_of, power, exponent, tail, number}
-use Rattle.mob_scalar.specs.NumberValue.{value_in, up_of, down_of, IsSmall, IsTailSmall, IsBounded}
+use Rattle.mob_scalar.specs.Figures.{is_run, digits}
+use Rattle.mob_scalar.specs.Number.{count_of, has_digits, is_exponent, exponent, tail, number}
+use Rattle.mob_scalar.specs.NumberValue.{value_in, IsSmall, IsTailSmall, IsBounded}
 use Rattle.mob_scalar.proofs.Digits.{all_digits}
-use Rattle.mob_scalar.proofs.Powers.{ten_le, ten_pos}
+use Rattle.mob_scalar.proofs.Powers.{ten_le}
 
 short : (ds : Text) → is_run ds ≡ true → length ds ≤ 36
 short ds e = search rules

@@ -1,11 +1,7 @@
 -- A sign with blanks before it may follow a moment.
-use Rattle.std.proofs.Common.{◌≡◌, ℕ, List, [], ◌∷◌, ◌++◌, length, Bool, true, false, Option, Some, None, refl, sym, ap, subst, ◌∙◌, rules}
-use Rattle.std.specs.Prelude.{◌||◌, nat_eq}
-use Rattle.mob_language.specs.Language.{Text, AreAll, behind, is_blank}
-use Rattle.mob_language.specs.Readers.{run_of}
-use Rattle.mob_language.proofs.Exact.{Stops, run_again, run_stops}
-use Rattle.mob_scalar.specs.declared.stamp.Clock.{Clock}
-use Rattle.mob_scalar.specs.declared.stamp.Offset.{Offset}
+use Rattle.std.proofs.Common.{◌≡◌, ℕ, [], ◌∷◌, ◌++◌, true, false, Some, None, refl, rules}
+use Rattle.mob_language.specs.Language.{Text, AreAll, is_blank}
+use Rattle.mob_language.proofs.Exact.{run_again, run_stops}
 use Rattle.mob_scalar.specs.Figures.{is_digit}
 use Rattle.mob_scalar.specs.NumberReaders.{digits_at}
 use Rattle.mob_scalar.specs.CalendarReaders.{fixed_at}

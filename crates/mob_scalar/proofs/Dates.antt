@@ -1,14 +1,14 @@
 -- The date of a day is the one whose day it is.
-use Rattle.std.proofs.Common.{◌≡◌, ℕ, zero, suc, ◌+◌, ◌-◌, ◌^◌, ◌<◌, ◌≤◌, ◌⊎◌, Bool, true, false, cond, ℤ, pos, neg_ℤ, ◌+ℤ◌, ◌-ℤ◌, ◌≤ℤ◌, ◌<ℤ◌, negsuc, unsigned_abs, to_z, of_z, refl, sym, ap, subst, ◌∙◌, arith, rules, inl, inr}
+use Rattle.std.proofs.Common.{◌≡◌, ℕ, zero, suc, ◌-◌, ◌^◌, ◌<◌, ◌≤◌, Bool, true, false, ℤ, pos, neg_ℤ, ◌+ℤ◌, ◌-ℤ◌, ◌≤ℤ◌, ◌<ℤ◌, negsuc, unsigned_abs, to_z, of_z, refl, sym, ap, subst, ◌∙◌, arith, rules, inl, inr}
 use Rattle.std.specs.Prelude.{◌&&◌, nat_le}
 use Rattle.std.specs.Int.Signed.{le_z}
 use Rattle.std.specs.Int.{IsInRange, w16, w32}
-use Rattle.std.proofs.lemmas.Bool.{cases_lt, cases_order}
+use Rattle.std.proofs.lemmas.Bool.{cases_lt}
 use Rattle.std.proofs.lemmas.Int.{ints, by_lt_z}
 use Rattle.jiff_core.specs.declared.civil.date.Date.{Date}
 use Rattle.jiff_core.specs.Date.{epoch_day}
-use Rattle.jiff_core.specs.Calendar.{days_from_civil, day_count, days_in_month, IsCivilDate, days_of_months}
-use Rattle.jiff_core.proofs.CalendarLemmas.{day_count-lt_year, day_count-lt_month, day_count-day, day_count-day_of_year, day_count-later_year, day_count-end, day_count_bounds, days_from_civil-day_count}
+use Rattle.jiff_core.specs.Calendar.{days_from_civil, day_count, days_in_month, IsCivilDate}
+use Rattle.jiff_core.proofs.CalendarLemmas.{day_count-lt_year, day_count-lt_month, day_count-day, day_count-day_of_year, day_count-later_year, day_count_bounds, days_from_civil-day_count}
 use Rattle.jiff_core.proofs.DateLemmas.{civil}
 use Rattle.jiff_core.proofs.MarchLemmas.{day_count-early}
 use Rattle.jiff_core.proofs.SignedLemmas.{signed_arith, back_small}
@@ -22,7 +22,7 @@ last_is test (suc n) k one le there later = elim (cases_lt k (suc n)) [
   | inr ge ↦ let e : k ≡ suc n = omega (arith, ge, le) in rw (sym e, there) refl
 ]
 
-le_yes : (a b : ℤ) → a ≤ℤ b → le_z a b ≡ true
+pub le_yes : (a b : ℤ) → a ≤ℤ b → le_z a b ≡ true
 le_yes a b h = grind (arith, ints)
 
 le_no : (a b : ℤ) → b <ℤ a → le_z a b ≡ false
@@ -41,7 +41,7 @@ dated c h = record { from = search rules; to = search rules; month = search rule
 as_civil : (y m d : ℕ) → IsDated y m d → IsCivilDate (pos y) m d
 as_civil y m d h = let a = h.from in let b = h.to in ((omega (arith, signed_arith, a, b), omega (arith, signed_arith, a, b)), h.month, h.day)
 
-first : day_count (pos 1) 1 1 ≡ 3_652_791
+pub first : day_count (pos 1) 1 1 ≡ 3_652_791
 first = day_count-early (pos 1) 10000 1 1 refl (omega arith) (omega arith) (omega arith)
 
 from_first : (y m d : ℕ) → IsDated y m d → 3_652_791 ≤ day_count (pos y) m d

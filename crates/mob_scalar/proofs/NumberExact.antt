@@ -1,15 +1,13 @@
 -- The reader of numbers reads exactly the texts of numbers.
-use Rattle.std.proofs.Common.{◌≡◌, ℕ, List, [], ◌∷◌, ◌++◌, Bool, true, false, Option, Some, None, refl, sym, ap, subst, ◌∙◌, arith, rules, codes}
+use Rattle.std.proofs.Common.{◌≡◌, ℕ, [], Bool, true, false, refl, rules, codes}
 use Rattle.std.specs.Prelude.{◌||◌, nat_eq}
-use Rattle.mob_language.specs.Language.{Text, Language, ◌▷◌, ◌∣◌, Maybe, Means, Where, Word, OneOf, AreAll, Run, behind}
-use Rattle.mob_language.specs.Readers.{Reader, then_at, or_at, maybe_at, means_at, where_at, word_at, one_at, run_at, behind_at}
-use Rattle.mob_language.proofs.Exact.{Exact, Stops, Any, means_exact, where_exact, one_exact, word_exact, run_exact}
-use Rattle.mob_language.proofs.Heads.{NoHead, Apart, Nothing, exact_less, stops_less, then_head, word_then_head, one_then_head, or_head, maybe_head, means_head, where_head, word_head, one_head, run_head, one_nothing, word_nothing, then_nothing, means_nothing, where_nothing, then_stops, after_any, maybe_stops, or_stops}
+use Rattle.mob_language.specs.Language.{Language, ◌▷◌, Maybe, Means, behind}
+use Rattle.mob_language.proofs.Exact.{Exact, Stops, means_exact, where_exact, one_exact, word_exact, run_exact}
+use Rattle.mob_language.proofs.Heads.{NoHead, Apart, Nothing, exact_less, stops_less, then_head, word_then_head, one_then_head, or_head, maybe_head, means_head, where_head, run_head, one_nothing, word_nothing, then_nothing, means_nothing, then_stops, after_any, maybe_stops, or_stops}
 use Rattle.mob_scalar.specs.declared.numeral.Figures.{Figures}
 use Rattle.mob_scalar.specs.declared.numeral.Exponent.{Exponent}
 use Rattle.mob_scalar.specs.declared.numeral.Tail.{Tail}
-use Rattle.mob_scalar.specs.declared.numeral.Tail.TheVariants.{Over, Decimal}
-use Rattle.mob_scalar.specs.declared.numeral.Numeral.{Numeral}
+use Rattle.mob_scalar.specs.declared.numeral.Tail.TheVariants.{Over}
 use Rattle.mob_scalar.specs.Figures.{is_digit, is_run, figures, digits}
 use Rattle.mob_scalar.specs.Number.{is_sign, is_minus, is_e, is_exponent, exponent_of, decimal_of, is_numeral, numeral_of, sign, power, exponent, tail, number}
 use Rattle.mob_scalar.specs.NumberReaders.{digits_at, sign_at, power_at, exponent_at, over_at, point_at, decimal_at, tail_at, number_at}

@@ -1,5 +1,5 @@
 -- How long a number in digits is.
-use Rattle.std.proofs.Common.{◌≡◌, ℕ, zero, suc, ◌%◌, ◌==◌, Some, get_or, true, refl, sym, position, inl, inr, ◌+◌, ◌-◌, ◌^◌, ◌<◌, ◌≤◌, length, arith, ap, ◌∙◌}
+use Rattle.std.proofs.Common.{◌≡◌, ℕ, zero, suc, ◌%◌, ◌==◌, Some, get_or, refl, sym, inl, inr, ◌^◌, ◌<◌, ◌≤◌, length, arith, ap, ◌∙◌}
 use Rattle.std.specs.Fmt.{decimal}
 use Rattle.std.proofs.lemmas.Bool.{eqb-true, cases_lt}
 use Rattle.std.proofs.lemmas.List.Quantifiers.{position-Some}

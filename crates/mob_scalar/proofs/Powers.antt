@@ -1,13 +1,12 @@
 -- Numbers scaled by powers of ten.
-use Rattle.std.proofs.Common.{◌≡◌, ℕ, zero, suc, ◌+◌, ◌-◌, ◌*◌, ◌^◌, ◌<◌, ◌≤◌, Bool, true, false, ℤ, pos, ◌*ℤ◌, neg_ℤ, nat_abs, refl, sym, ap, subst, ◌∙◌, arith, T}
-use Rattle.std.proofs.Math.Nat.{pow-le-pow_right, pow-suc, one-le-pow, mul-le-mul, le-mul_of_pos_right, mul_comm, mul-pos}
+use Rattle.std.proofs.Common.{◌≡◌, ℕ, ◌+◌, ◌-◌, ◌*◌, ◌^◌, ◌<◌, ◌≤◌, Bool, nat_abs, sym, ap, ◌∙◌, arith}
+use Rattle.std.proofs.Math.Nat.{pow-le-pow_right, one-le-pow, le-mul_of_pos_right}
 use Rattle.std.proofs.lemmas.Nat.{pow-add}
-use Rattle.mob_ratio.specs.Gcd.{gcd}
 use Rattle.mob_ratio.specs.GcdLaws.{gcd_one_right}
 use Rattle.mob_ratio.specs.LowestLaws.{lowest_in}
 use Rattle.mob_ratio.specs.Ratio.{over}
 use Rattle.mob_ratio.proofs.RatioLemmas.{over-same, over-lowest}
-use Rattle.mob_frac.specs.Fits.{Fits, IsExact}
+use Rattle.mob_frac.specs.Fits.{Fits}
 use Rattle.mob_frac.specs.Signed.{signed}
 use Rattle.mob_frac.proofs.Shares.{abs-signed, cross}
 

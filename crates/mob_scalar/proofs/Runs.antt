@@ -1,8 +1,8 @@
 -- Splitting off a run, as a loop does.
-use Rattle.std.proofs.Common.{◌≡◌, ℕ, suc, ◌+◌, ◌<◌, ◌≤◌, List, [], ◌∷◌, ◌++◌, length, get_or, take, drop, Bool, true, false, refl, sym, ap, ◌∙◌, append_assoc, arith, add-one, drop-cons}
+use Rattle.std.proofs.Common.{◌≡◌, ℕ, ◌+◌, ◌<◌, [], ◌∷◌, ◌++◌, length, get_or, take, drop, Bool, true, false, refl, sym, ap, ◌∙◌, append_assoc, add-one, drop-cons}
 use Rattle.std.proofs.lemmas.List.{append-nil, take_more}
 use Rattle.mob_language.specs.Language.{Text}
-use Rattle.mob_language.specs.Readers.{run_of, grown}
+use Rattle.mob_language.specs.Readers.{run_of}
 
 -- the run begins with the first i bytes
 abbrev pub IsSplit : (ℕ → Bool) → Text → ℕ → Type 0

@@ -1,5 +1,5 @@
 -- Runs of digits.
-use Rattle.std.specs.Prelude.{ℕ, List, [], ◌∷◌, length, Bool, true, false, ◌&&◌, nat_le}
+use Rattle.std.specs.Prelude.{ℕ, length, Bool, ◌&&◌, nat_le}
 use Rattle.std.specs.Str.Parse.{digits_value}
 use Rattle.mob_language.specs.Language.{Text, Language, Means, Where, Run, AreAll}
 use Rattle.mob_scalar.specs.declared.numeral.Figures.{Figures}

@@ -1,9 +1,8 @@
 -- The readers of the languages of moments.
-use Rattle.std.specs.Prelude.{ℕ, codes, Bool, Option, Some}
+use Rattle.std.specs.Prelude.{ℕ, codes, Option, Some}
 use Rattle.mob_language.specs.Language.{Text, is_blank}
 use Rattle.mob_language.specs.Readers.{Reader, ◌>>=◌, then_at, or_at, maybe_at, means_at, where_at, word_at, one_at, run_at, behind_at}
 use Rattle.mob_scalar.specs.declared.numeral.Figures.{Figures}
-use Rattle.mob_scalar.specs.declared.civil.Civil.{Civil}
 use Rattle.mob_scalar.specs.declared.stamp.Part.{Part}
 use Rattle.mob_scalar.specs.declared.stamp.Clock.{Clock}
 use Rattle.mob_scalar.specs.declared.stamp.Offset.{Offset}

@@ -1,7 +1,6 @@
 -- The texts of numbers, and the number that each stands for.
-use Rattle.std.specs.Prelude.{◌≡◌, ℕ, ◌+◌, ◌*◌, ◌-◌, ◌^◌, List, [], ◌∷◌, length, codes, Bool, true, false, ◌&&◌, ◌||◌, nat_le, nat_lt, nat_eq, not, Option, Some, None, ℤ, pos, neg_ℤ}
-use Rattle.mob_ratio.specs.Ratio.{Ratio, over}
-use Rattle.mob_language.specs.Language.{Text, Language, ◌▷◌, ◌∣◌, Maybe, Means, Where, Word, OneOf, behind}
+use Rattle.std.specs.Prelude.{ℕ, ◌+◌, codes, Bool, false, ◌&&◌, ◌||◌, nat_le, nat_lt, nat_eq, Option, Some, None}
+use Rattle.mob_language.specs.Language.{Language, ◌▷◌, ◌∣◌, Maybe, Means, Where, OneOf, behind}
 use Rattle.mob_scalar.specs.declared.numeral.Figures.{Figures}
 use Rattle.mob_scalar.specs.declared.numeral.Exponent.{Exponent}
 use Rattle.mob_scalar.specs.declared.numeral.Tail.{Tail}

@@ -1,11 +1,10 @@
 -- The readers of the languages of numbers.
-use Rattle.std.specs.Prelude.{ℕ, List, codes, Bool, Option, Some, None}
-use Rattle.mob_language.specs.Language.{Text}
-use Rattle.mob_language.specs.Readers.{Reader, then_at, or_at, maybe_at, means_at, where_at, word_at, one_at, run_at, behind_at}
+use Rattle.std.specs.Prelude.{ℕ, codes, Bool}
+use Rattle.mob_language.specs.Readers.{Reader, then_at, or_at, maybe_at, means_at, where_at, one_at, run_at, behind_at}
 use Rattle.mob_scalar.specs.declared.numeral.Figures.{Figures}
 use Rattle.mob_scalar.specs.declared.numeral.Exponent.{Exponent}
 use Rattle.mob_scalar.specs.declared.numeral.Tail.{Tail}
-use Rattle.mob_scalar.specs.declared.numeral.Tail.TheVariants.{Over, Decimal}
+use Rattle.mob_scalar.specs.declared.numeral.Tail.TheVariants.{Over}
 use Rattle.mob_scalar.specs.declared.numeral.Numeral.{Numeral}
 use Rattle.mob_scalar.specs.Figures.{is_digit, is_run, figures}
 use Rattle.mob_scalar.specs.Number.{is_sign, is_minus, is_e, is_exponent, exponent_of, decimal_of, is_numeral, numeral_of}

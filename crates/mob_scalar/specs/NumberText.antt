@@ -1,5 +1,5 @@
 -- The text of a number.
-use Rattle.std.specs.Prelude.{ℕ, ◌++◌, Bool, cond, codes, nat_eq}
+use Rattle.std.specs.Prelude.{◌++◌, cond, codes, nat_eq}
 use Rattle.std.specs.Fmt.{decimal, signed_decimal}
 use Rattle.mob_ratio.specs.Ratio.{Ratio}
 use Rattle.mob_language.specs.Language.{Text}

@@ -1,5 +1,5 @@
 -- The number that a numeral stands for.
-use Rattle.std.specs.Prelude.{◌≡◌, ℕ, ◌+◌, ◌*◌, ◌^◌, ◌<◌, ◌≤◌, Bool, true, false, cond, Option, Some, None, IfSome, ℤ}
+use Rattle.std.specs.Prelude.{◌≡◌, ℕ, ◌+◌, ◌*◌, ◌^◌, ◌<◌, ◌≤◌, Bool, true, cond, Option, Some, None, IfSome}
 use Rattle.mob_ratio.specs.Ratio.{Ratio, over}
 use Rattle.mob_frac.specs.Signed.{signed}
 use Rattle.mob_scalar.specs.declared.numeral.Figures.{Figures}

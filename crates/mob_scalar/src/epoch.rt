@@ -1,5 +1,5 @@
 //! The epoch: the day from whose midnight the instants count.
-ghost use Rattle.std.specs.Prelude.{◌≡◌, ℤ, pos};
+ghost use Rattle.std.specs.Prelude.{◌≡◌, ◌<◌, ◌^◌, ℤ, pos, nat_abs, ◌*ℤ◌};
 ghost use Rattle.mob_scalar.specs.Calendar.{IsInYears};
 ghost use Rattle.mob_scalar.specs.Epochs.{epochs};
 ghost use Rattle.mob_scalar.specs.Verdict.{Lit};
@@ -55,5 +55,13 @@ impl Epoch {
         ensures years { IsInYears result }
     {
         self.day as i64
+    }
+
+    /// Midnight UTC of its day, in seconds since 1970-01-01 00:00:00.
+    pub fn start(&self) -> i64
+        ensures value { result ≡ self.now *ℤ pos 86400 }
+        ensures bound { nat_abs result < 2 ^ 50 }
+    {
+        self.day() * 86400
     }
 }

@@ -9,17 +9,18 @@ ghost use Rattle.mob_scalar.specs.MomentReaders.{moment_at as moment_in};
 ghost use Rattle.mob_scalar.specs.Moments.{moments};
 ghost use Rattle.mob_scalar.specs.Verdict.{Lit};
 
+use crate::epoch::Epoch;
 use crate::fault::ReadText;
 use crate::stamp::{Part, Stamp, moment_at, seconds_of};
 use mob_frac::{Frac, Overflow, over_product};
 
-/// Seconds since midnight of the epoch's day.
-fn since(seconds: i64, epoch: i32) -> i64
+// Seconds since midnight of the epoch's day.
+fn since(seconds: i64, epoch: &Epoch) -> i64
     requires { nat_abs seconds < 2 ^ 51 }
-    ensures value { result ≡ seconds -ℤ epoch *ℤ pos 86400 }
+    ensures value { result ≡ seconds -ℤ epoch.now *ℤ pos 86400 }
     ensures bound { nat_abs result < 2 ^ 62 }
 {
-    seconds - epoch as i64 * 86400
+    seconds - epoch.start()
 }
 
 fn whole_number(n: i64) -> Result<Frac, Overflow>
@@ -44,10 +45,10 @@ fn plus_part(n: i64, part: Part) -> Result<Frac, Overflow>
 
 /// The place of a moment in time.
 #[tactic(auto, unfolding(crate::specs::Moment::instant))]
-fn place(stamp: Stamp, epoch: i32) -> Result<Frac, Overflow>
+fn place(stamp: Stamp, epoch: &Epoch) -> Result<Frac, Overflow>
     requires date { civil stamp.date ≡ true }
     requires part { IsPartSmall stamp.clock.part }
-    ensures { IsExact (instant epoch stamp) result }
+    ensures { IsExact (instant epoch.now stamp) result }
 {
     plus_part(since(seconds_of(stamp), epoch), stamp.clock.part)
 }
@@ -63,9 +64,14 @@ fn stamp_of(bytes: &[u8]) -> Option<Stamp>
     }
 }
 
-/// The moment that the text is, with the day number of the epoch.
-pub fn read_moment(text: &str, epoch: i32) -> Result<Frac, ReadText>
-    ensures { Lit (moments epoch) text.now result }
+/// The instant of a moment, in seconds since midnight UTC of the epoch's day.
+///
+/// A moment is `YYYY-MM-DD`, then perhaps blanks or `T` and `HH:MM`, perhaps `:SS`, perhaps a part
+/// of the second (`.` and 1 to 18 digits, or `(p/q)`), perhaps `Z`, `+HH`, `-HH`, `+HH:MM` or
+/// `-HH:MM`. The date exists, and the instant lies in the years 0001 to 9999 in UTC. Any other text
+/// is `NotText`, and `TooLarge` an instant that has more than 62 bits. It takes no memory.
+pub fn read_moment(text: &str, epoch: &Epoch) -> Result<Frac, ReadText>
+    ensures reading { Lit (moments epoch.now) text.now result }
 {
     match stamp_of(text.as_bytes()) {
         None => Err(ReadText::NotText),

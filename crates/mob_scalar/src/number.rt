@@ -126,9 +126,14 @@ fn numeral_of(bytes: &[u8]) -> Option<Numeral>
     }
 }
 
-/// The number that the text is.
+/// The number that a text says.
+///
+/// A number is an optional sign, digits with at most one point, and perhaps an exponent from -18 to
+/// 18; or an optional sign, digits, `/` and digits that are not all 0. Each run of digits, the two
+/// sides of a point together, has at most 36. Any other text is `NotText`, and `TooLarge` a number
+/// whose reduced fraction has a part of more than 62 bits. It takes no memory.
 pub fn read_number(text: &str) -> Result<Frac, ReadText>
-    ensures { Lit numbers text.now result }
+    ensures reading { Lit numbers text.now result }
 {
     match numeral_of(text.as_bytes()) {
         None => Err(ReadText::NotText),

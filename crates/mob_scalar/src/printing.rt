@@ -266,18 +266,10 @@ fn denominator_of(t: &Frac) -> u64
     t.den() as u64
 }
 
-// Midnight of the epoch's day, in seconds since 1970-01-01 00:00:00.
-fn start_of(epoch: &Epoch) -> i64
-    ensures value { result ≡ epoch.now *ℤ pos 86400 }
-    ensures bound { nat_abs result < 2 ^ 50 }
-{
-    epoch.day() * 86400
-}
-
 fn second_of(t: &Frac, epoch: &Epoch) -> i64
     ensures { result ≡ whole_seconds t.now +ℤ epoch.now *ℤ pos 86400 }
 {
-    whole_part(t) + start_of(epoch)
+    whole_part(t) + epoch.start()
 }
 
 fn day_of_second(second: i64) -> i64

@@ -3,3 +3,5 @@ pub mod Course
 pub mod SteadyLaws
 pub mod Look
 pub mod Slices
+pub mod Parts
+pub mod Pieces

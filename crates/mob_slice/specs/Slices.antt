@@ -2,7 +2,7 @@
 use Rattle.std.specs.Prelude.{◌≡◌, ◌≢◌, Bool, true, false, cond, List, [], ◌∷◌, Option, Some, None, ◌&&◌}
 use Rattle.mob_ratio.specs.Ratio.{Ratio}
 use Rattle.mob_ratio.specs.Order.{before}
-use Rattle.mob_span.specs.Span.{SpanOf, has, has_instant}
+use Rattle.mob_span.specs.Span.{has, has_instant}
 use Rattle.mob_span.specs.Neighbours.{Meets, is_clear}
 use Rattle.mob_slice.specs.declared.slice.Slice.{Slice}
 
@@ -11,6 +11,11 @@ use Rattle.mob_slice.specs.declared.slice.Slice.{Slice}
 abbrev pub value_at : {C B : Type 0} → (C → Ratio → Ratio → Ratio → B) → List (Slice C) → Ratio → Option B
 value_at value [] t = None
 value_at value (s ∷ rest) t = cond (has s.span t) (Some (value s.course s.span.lower s.span.upper t)) (value_at value rest t)
+
+-- the slice of a list whose span has the instant t
+abbrev pub slice_at : {C : Type 0} → List (Slice C) → Ratio → Option (Slice C)
+slice_at [] t = None
+slice_at (s ∷ rest) t = cond (has s.span t) (Some s) (slice_at rest t)
 
 -- R holds of x and the first of a list, if there is one
 abbrev pub OfHead : {A : Type 0} → (A → A → Type 0) → A → List A → Type 0

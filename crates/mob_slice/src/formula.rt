@@ -34,3 +34,15 @@ pub enum LookFault {
     /// Memory was refused. Only the copy of a text asks for memory.
     NoMemory,
 }
+
+/// Why an operator gave no value.
+#[derive(Drop, Debug)]
+pub enum OpFault {
+    /// A part of this formula does not fit.
+    Passed {
+        /// The formula.
+        formula: Formula,
+    },
+    /// Memory was refused.
+    NoMemory,
+}

@@ -9,12 +9,14 @@ pub mod base_value;
 pub mod course;
 pub mod formula;
 pub mod moving;
+pub mod part;
 pub mod slice;
 pub mod steady;
 
 pub use base_value::BaseValue;
 pub use course::Course;
-pub use formula::{Formula, LookFault};
+pub use formula::{Formula, LookFault, OpFault};
 pub use moving::Moving;
+pub use part::{One, Pair, Part};
 pub use slice::Slice;
 pub use steady::Steady;

@@ -72,3 +72,45 @@ impl<B: BaseValue + Drop> Course for Steady<B> {
 
     ghost laws = { steady_laws B.is_same B.exact };
 }
+
+#[cfg(test)]
+mod tests {
+    use super::*;
+    use mob_list::text::Text;
+    use std::marker::{Send, Sync};
+    use std::test::Fail;
+
+    fn crosses_threads<T: Send + Sync>(_value: &T) {}
+
+    // The span between two whole numbers.
+    fn span(lower: i64, upper: i64, lower_inc: bool, upper_inc: bool) -> Option<Span> {
+        let from = Frac::new(lower, 1).ok()?;
+        let to = Frac::new(upper, 1).ok()?;
+        Span::new(from, to, lower_inc, upper_inc)
+    }
+
+    // Whether a steady course of that value has it at an instant of its span, in a copy and on the next span.
+    fn is_steady<B: BaseValue + Drop>(alloc: Global, value: B) -> Option<bool> {
+        let first = span(0, 1, true, false)?;
+        let next = span(1, 2, true, true)?;
+        if !first.has(first.lower()) || !first.meets(&next) {
+            return None;
+        }
+        let course = Steady { value };
+        let value = course.at(alloc, &first, first.lower()).ok()?;
+        let copy = Steady::<B>::copy_base(alloc, &value).ok()?;
+        let made = Steady { value: copy };
+        Some(Steady::same(course.start(), made.end()) && course.continues(&first, &made, &next))
+    }
+
+    #[test]
+    fn steady_courses_of_each_base(rt: HostRuntime) -> Result<(), Fail> {
+        let half = Frac::new(1, 2).ok().ok_or("fits")?;
+        let text = Text::from_string(String::from_str(rt.alloc(), "red")?);
+        crosses_threads(&Steady { value: half });
+        assert_eq!(rt; is_steady(rt.alloc(), true), Some(true));
+        assert_eq!(rt; is_steady(rt.alloc(), half), Some(true));
+        assert_eq!(rt; is_steady(rt.alloc(), text), Some(true));
+        Ok(())
+    }
+}

@@ -1,5 +1,5 @@
 -- Spans of time and membership.
-use Rattle.std.specs.Prelude.{◌≡◌, ◌⊎◌, Bool, true, ◌||◌, ◌&&◌, not}
+use Rattle.std.specs.Prelude.{◌≡◌, ◌⊎◌, Bool, true, ◌||◌, ◌&&◌}
 use Rattle.mob_ratio.specs.Ratio.{Ratio, ◌<ℚ◌}
 use Rattle.mob_ratio.specs.Order.{before, upto}
 

@@ -3,7 +3,7 @@ ghost use Rattle.mob_ratio.specs.Ratio.{Ratio};
 ghost use Rattle.mob_ratio.specs.Order.{before};
 ghost use Rattle.mob_span.specs.Span.{SpanOf, InSpan, has, has_instant};
 ghost use Rattle.mob_span.specs.Meet.{ends_before, starts_before, meet_of};
-ghost use Rattle.mob_span.specs.Neighbours.{Meets, joined, without_upper, with_lower};
+ghost use Rattle.mob_span.specs.Neighbours.{is_clear, Meets, joined, without_upper, with_lower};
 
 use mob_frac::Frac;
 use std::marker::Model;
@@ -146,6 +146,14 @@ impl Span {
 }
 
 impl Span {
+    /// Whether each instant of this span is before each instant of the next.
+    pub fn is_clear(&self, next: &Span) -> bool
+        ensures value { result ≡ is_clear self.now next.now }
+    {
+        self.upper.is_before(&next.lower)
+            || (!next.lower.is_before(&self.upper) && !(self.upper_inc && next.lower_inc))
+    }
+
     /// Whether this span ends where the next begins and exactly one of the two has that instant.
     #[tactic(auto, using(mob_ratio::proofs::Order::same_exact))]
     pub fn meets(&self, next: &Span) -> bool
@@ -192,5 +200,44 @@ impl Span {
             lower_inc: true,
             upper_inc: self.upper_inc,
         }
+    }
+}
+
+#[cfg(test)]
+mod tests {
+    use super::*;
+    use std::marker::{Send, Sync};
+    use std::test::Fail;
+
+    fn crosses_threads<T: Send + Sync>(_value: &T) {}
+
+    // The span between two whole numbers.
+    fn span(lower: i64, upper: i64, lower_inc: bool, upper_inc: bool) -> Option<Span> {
+        let from = Frac::new(lower, 1).ok()?;
+        let to = Frac::new(upper, 1).ok()?;
+        Span::new(from, to, lower_inc, upper_inc)
+    }
+
+    #[test]
+    fn spans_between_whole_numbers(rt: HostRuntime) -> Result<(), Fail> {
+        assert!(rt; span(2, 1, true, true).is_none());
+        assert!(rt; span(1, 1, true, false).is_none());
+        assert!(rt; span(1, 2, false, false).is_some());
+        let early = span(1, 3, true, false).ok_or("has an instant")?;
+        let late = span(2, 5, false, true).ok_or("has an instant")?;
+        crosses_threads(&early);
+        let two = Frac::new(2, 1).ok().ok_or("fits")?;
+        let three = Frac::new(3, 1).ok().ok_or("fits")?;
+        assert!(rt; early.has(&two) && !early.has(&three));
+        assert!(rt; !late.has(&two) && late.has(&three));
+        assert!(rt; early.overlaps(&late) && early.is_long());
+        let meet = early.meet(&late).ok_or("share an instant")?;
+        assert!(rt; meet.lower().is_same(&two) && !meet.lower_inc());
+        assert!(rt; meet.upper().is_same(&three) && !meet.upper_inc());
+        let next = span(3, 4, true, true).ok_or("has an instant")?;
+        assert!(rt; early.meet(&next).is_none());
+        assert!(rt; early.meets(&next) && early.is_clear(&next) && !next.is_clear(&early));
+        assert!(rt; early.starts_before(&next) && early.ends_before(&next));
+        Ok(())
     }
 }

@@ -1,4 +1,4 @@
-use Rattle.std.proofs.Common.{◌≡◌, ◌∙◌, ◌≤◌, arith}
+use Rattle.std.proofs.Common.{◌∙◌, arith}
 use Rattle.mob_chars.proofs.Quoted.{plain_at, doubled_at}
 use Rattle.mob_chars.proofs.scan.quoted_length.Goals as goal
 

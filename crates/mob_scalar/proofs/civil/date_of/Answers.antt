@@ -1,8 +1,7 @@
-use Rattle.std.proofs.Common.{◌≡◌, ℕ, ℤ, ap, subst, sym, ◌∙◌, unsigned_abs, arith}
+use Rattle.std.proofs.Common.{◌≡◌, ℕ, ap, subst, sym, ◌∙◌, unsigned_abs, arith}
 use Rattle.std.proofs.lemmas.Int.{to_z-of_z}
 use Rattle.jiff_core.specs.Date.{epoch_day}
 use Rattle.mob_scalar.specs.Calendar.{IsInYears}
-use Rattle.mob_scalar.specs.declared.civil.Civil.{Civil}
 use Rattle.mob_scalar.proofs.Dates.{date_of_day, year_back, year_is_natural, year_small, civil_again, dated_date}
 use Rattle.mob_scalar.proofs.civil.date_of.Goals as goal
 

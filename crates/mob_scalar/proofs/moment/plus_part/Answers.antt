@@ -1,6 +1,4 @@
-use Rattle.std.proofs.Common.{◌≡◌, ℕ, ◌*◌, pos, ap, sym, subst, arith}
-use Rattle.mob_ratio.specs.Ratio.{over}
-use Rattle.mob_frac.specs.Fits.{Fits}
+use Rattle.std.proofs.Common.{◌≡◌, ℕ, ◌*◌, arith}
 use Rattle.std.proofs.lemmas.Int.{to_z-of_z}
 use Rattle.mob_scalar.proofs.Parts.{whole_fits, part_fits}
 use Rattle.mob_scalar.proofs.moment.plus_part.Goals as goal

@@ -1,7 +1,4 @@
-use Rattle.std.proofs.Common.{◌≡◌, pos, FitsSigned, arith, sym, rules}
-use Rattle.std.specs.Int.{w64}
 use Rattle.std.proofs.lemmas.Int.{to_z-of_z}
-use Rattle.mob_frac.specs.Fits.{IsExact}
 use Rattle.mob_scalar.proofs.Parts.{whole_over}
 use Rattle.mob_scalar.proofs.moment.whole_number.Goals as goal
 

@@ -1,4 +1,4 @@
-use Rattle.std.proofs.Common.{◌≡◌, ◌^◌, ◌-◌, ◌*◌, ap, sym, ◌∙◌, arith}
+use Rattle.std.proofs.Common.{◌≡◌, ◌^◌, ◌-◌, ◌*◌}
 use Rattle.mob_scalar.proofs.Powers.{ten_pos, halves}
 use Rattle.mob_scalar.proofs.number.lowered.Goals as goal
 

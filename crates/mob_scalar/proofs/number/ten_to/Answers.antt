@@ -1,4 +1,4 @@
-use Rattle.std.proofs.Common.{◌≡◌, ◌<◌, ◌^◌, arith}
+use Rattle.std.proofs.Common.{◌≡◌, ◌^◌, arith}
 use Rattle.mob_scalar.proofs.Powers.{ten_le}
 use Rattle.mob_scalar.proofs.number.ten_to.Goals as goal
 

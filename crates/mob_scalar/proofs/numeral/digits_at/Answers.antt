@@ -1,6 +1,5 @@
-use Rattle.std.proofs.Common.{◌≡◌, ap, subst, sym}
-use Rattle.mob_language.specs.Language.{Text, AreAll}
-use Rattle.mob_language.specs.Readers.{run_of}
+use Rattle.std.proofs.Common.{ap, subst, sym}
+use Rattle.mob_language.specs.Language.{Text}
 use Rattle.mob_language.proofs.Exact.{run_parts}
 use Rattle.mob_scalar.specs.Figures.{is_digit, AreFigures}
 use Rattle.mob_scalar.proofs.numeral.digits_at.Goals as goal

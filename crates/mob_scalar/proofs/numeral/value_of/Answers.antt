@@ -1,6 +1,5 @@
-use Rattle.std.proofs.Common.{◌≡◌, ◌<◌, ◌≤◌, ◌+◌, ◌-◌, ◌*◌, ◌^◌, length, get_or, take, Fits, arith, rules}
+use Rattle.std.proofs.Common.{◌≡◌, length, get_or, take, arith, rules}
 use Rattle.std.specs.Str.Parse.{digits_value}
-use Rattle.mob_scalar.specs.Figures.{is_digit}
 use Rattle.mob_scalar.proofs.Digits.{front_lt, front_more, figure_at, digit_range}
 use Rattle.mob_scalar.proofs.numeral.value_of.Goals as goal
 

@@ -1,4 +1,4 @@
-use Rattle.std.proofs.Common.{◌≡◌, Some, sym, ◌∙◌}
+use Rattle.std.proofs.Common.{sym}
 use Rattle.mob_scalar.proofs.Padding.{placed}
 use Rattle.mob_scalar.proofs.printing.push_part.Goals as goal
 

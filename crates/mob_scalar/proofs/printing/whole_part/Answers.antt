@@ -1,4 +1,3 @@
-use Rattle.std.proofs.Common.{◌≡◌}
 use Rattle.mob_ratio.proofs.RatioLemmas.{den_pos}
 use Rattle.mob_scalar.proofs.Instants.{nonzero}
 use Rattle.mob_scalar.proofs.printing.whole_part.Goals as goal

@@ -1,4 +1,4 @@
-use Rattle.std.proofs.Common.{◌≡◌, sym, subst, ◌∙◌}
+use Rattle.std.proofs.Common.{sym, subst, ◌∙◌}
 use Rattle.mob_language.proofs.Exact.{is_said, not_said}
 use Rattle.mob_scalar.specs.Calendar.{IsInYears}
 use Rattle.mob_scalar.proofs.Dates.{day_back, read_day}

@@ -1,0 +1,4 @@
+pub mod Known
+pub mod Pieces
+mod WholeScript
+mod Select

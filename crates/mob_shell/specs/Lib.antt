@@ -1,0 +1,4 @@
+pub mod Ending
+pub mod Script
+pub mod Sequence
+pub mod Streams
