@@ -7,7 +7,7 @@ use Rattle.mob_span.specs.Neighbours.{is_clear}
 use Rattle.mob_span.specs.Meet.{ends_before, meet_of}
 use Rattle.mob_span.proofs.SpanLemmas.{meet_has, no_instant}
 use Rattle.mob_span.proofs.Insides.{clear_trans, clear_meet, clear_meet', meet_clear, meet_clear', is_within_end, end_has, in_end, shorter_end, longer_end}
-use Rattle.mob_slice.specs.Slices.{slice_at, OfHead, Chained, Clear, IsSound, IsNormalPair, AreNormal, IsOrdered}
+use Rattle.mob_slice.specs.Slices.{slice_at, OfHead, Chained, Clear, IsNormalPair, AreNormal, IsOrdered}
 use Rattle.mob_slice.specs.declared.slice.Slice.{Slice}
 use Rattle.mob_slice.specs.declared.part.Pair.{Pair}
 use Rattle.mob_slice.specs.Pieces.{part_at, PartsClear, AllAfter}
