@@ -1,6 +1,7 @@
-//! The tokens of a script.
+//! The tokens of a script: words, numbers, strings and signs, with blanks and comments between them.
 #![tactic(auto)]
 
+pub mod laws;
+pub mod lexer;
+pub mod scan;
 pub mod token;
-
-pub use token::{LexFault, Token, TokenKind};

@@ -1,0 +1,7 @@
+pub mod Groups
+pub mod Listing
+pub mod Made
+pub mod Parted
+pub mod ReadSequences
+pub mod SequenceExact
+pub mod StepLemmas

@@ -1,0 +1,9 @@
+//! Literals of temporal values: what their texts mean, and how the values print.
+#![tactic(auto)]
+
+pub mod printing;
+pub mod reading;
+pub mod scalar;
+pub mod sequence;
+pub mod steps;
+pub mod written;

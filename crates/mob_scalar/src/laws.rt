@@ -1,0 +1,12 @@
+//! Laws of reading and printing: each is a promise without running code.
+ghost use Rattle.std.specs.Prelude.{Ok};
+ghost use Rattle.mob_ratio.specs.Ratio.{Ratio};
+ghost use Rattle.mob_frac.specs.Fits.{Fits};
+ghost use Rattle.mob_scalar.specs.Numbers.{numbers};
+ghost use Rattle.mob_scalar.specs.NumberText.{number_text};
+ghost use Rattle.mob_scalar.specs.Verdict.{Lit};
+
+/// A number that is printed is read again as itself.
+pub fn number_read_again()
+    ensures again { (q : Ratio) → Fits q → Lit numbers (number_text q) (Ok q) }
+{}
