@@ -4,4 +4,5 @@ pub mod Made
 pub mod Parted
 pub mod ReadSequences
 pub mod SequenceExact
+pub mod Standard
 pub mod StepLemmas

@@ -3,7 +3,6 @@
 
 pub mod printing;
 pub mod reading;
-pub mod scalar;
 pub mod sequence;
 pub mod steps;
 pub mod written;
