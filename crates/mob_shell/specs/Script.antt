@@ -1,15 +1,14 @@
 -- Which scripts are accepted, and what is written for them.
-use Rattle.std.specs.Prelude.{◌≡◌, ◌⊎◌, ◌≤◌, ◌++◌, ◌∷◌, ℕ, List, [], codes, length}
+use Rattle.std.specs.Prelude.{◌≡◌, ◌⊎◌, ◌≤◌, ◌++◌, ◌∷◌, ℕ, List, [], codes, length, true}
 use Rattle.mob_tail.specs.AnswerText.{text_of}
 use Rattle.mob_ratio.specs.Ratio.{Ratio}
 use Rattle.mob_ratio.specs.Order.{same}
-use Rattle.mob_scalar.specs.MomentText.{moment_text}
 use Rattle.mob_slice.specs.declared.slice.Slice.{Slice}
 use Rattle.mob_slice.specs.declared.steady.Steady.{Steady}
 use Rattle.mob_literal.specs.declared.written.Written.{Written}
 use Rattle.mob_literal.specs.Means.{Means}
-use Rattle.mob_literal.specs.Printed.{steps_text}
-use Rattle.mob_literal.specs.Sequence.{IsSequence}
+use Rattle.mob_literal.specs.Sequence.{IsSequence, standard_day}
+use Rattle.mob_literal.specs.Style.{tint_text}
 
 -- the greatest length of a script in bytes
 abbrev pub script_limit : ℕ
@@ -48,16 +47,12 @@ Accepts script = (written : List (Written Ratio)) × IsScript script written
 abbrev pub column : List ℕ
 column = codes "c1"
 
--- the printed text of a step value of numbers
-abbrev pub value_text : List (Slice (Steady Ratio)) → List ℕ
-value_text slices = steps_text (style_of number_text standard_day) slices
-
 -- The field is the printed text of the value that the written instants define: the one normal value that has at each
 -- instant what they say.
 pub record Prints (written : List (Written Ratio)) (field : List ℕ) : Type 0 where
   pub value : List (Slice (Steady Ratio))
   pub means : Means same true written true value
-  pub text : field ≡ value_text value
+  pub text : field ≡ tint_text standard_day value
 
 -- The text that is written for a script: the answer of one column and one row with the field of its literal.
 pub record OutText (script text : List ℕ) : Type 0 where

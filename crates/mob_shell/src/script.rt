@@ -9,7 +9,8 @@ ghost use Rattle.std.specs.Prelude.{string_bytes};
 
 use mob_list::items::Items;
 use mob_list::text::Text;
-use mob_literal::{read_sequence, write_steps};
+use mob_literal::printing::write_steps;
+use mob_literal::reading::read_sequence;
 use mob_scalar::Epoch;
 use mob_tail::{Answer, answer_text};
 use std::alloc::{AllocError, Global};
@@ -39,6 +40,7 @@ fn literal_of(script: &[u8]) -> Option<&[u8]>
 }
 
 // The printed text of the value that a literal of a tint stands for.
+#[tactic(auto, using(mob_literal::proofs::Standard::standard))]
 fn field_of(alloc: Global, literal: &[u8]) -> Result<Option<String>, AllocError>
     ensures some { IfOk result (λ o. IfSome o (λ field. (written : List (Written Ratio)) × IsSequence literal.now written × Prints written (string_bytes field))) }
     ensures none { IfOk result (λ o. IfNone o ((written : List (Written Ratio)) → IsSequence literal.now written → ⊥)) }
