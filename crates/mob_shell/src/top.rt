@@ -58,12 +58,16 @@ pub fn run<R: Threads + Sync, S: Source, F: Files, K: Sink, E: Sink, G: Gate>(
     // Under every other status nothing is written.
     ensures silent { result ≢ 0 → result ≢ 4 → Keeps (K.held out.old) (K.held out.new) }
 
-    // With words that are taken, a told script and no fault the status is 0 or 7 as the script is, but for want of memory.
+    // With words that are taken and no fault, a script that is accepted gives 0, but for want of memory.
     ensures complete { (IsUsage (map string_bytes words.now) → ⊥)
         → (Rose (S.faults script.old) (S.faults script.new) → ⊥)
         → (Rose (K.faults out.old) (K.faults out.new) → ⊥)
-        → IfSome (S.left script.old) (λ text. (Accepts text → (result ≡ 0) ⊎ (result ≡ 5))
-        × ((Accepts text → ⊥) → (result ≡ 7) ⊎ (result ≡ 5))) }
+        → IfSome (S.left script.old) (λ text. Accepts text → (result ≡ 0) ⊎ (result ≡ 5)) }
+
+    // With words that are taken and no fault of the script, one that is not accepted gives 7, but for want of memory.
+    ensures refuses { (IsUsage (map string_bytes words.now) → ⊥)
+        → (Rose (S.faults script.old) (S.faults script.new) → ⊥)
+        → IfSome (S.left script.old) (λ text. (Accepts text → ⊥) → (result ≡ 7) ⊎ (result ≡ 5)) }
 
     // The note is the line of the ending with this status and this cause. It is whole, or cut short by a fault of the notes.
     ensures note { (ending : Ending) × (result ≡ status_of ending)
