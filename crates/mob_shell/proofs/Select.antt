@@ -88,8 +88,8 @@ select-cut script literal select =
     let parts = select.parts in
     elim select.ends [
       | inl none ↦
-        let whole : script ≡ opening ++ literal ++ closing = parts ∙ ap (λ (w : List ℕ). opening ++ literal ++ closing ++ w) none ∙ append-nil (opening ++ literal ++ closing) in
-        inr (whole, λ text e. ends_otherwise literal text (sym e ∙ whole))
+          let whole : script ≡ opening ++ literal ++ closing = parts ∙ ap (λ (w : List ℕ). opening ++ literal ++ closing ++ w) none ∙ append-nil (opening ++ literal ++ closing) in
+          inr (whole, λ text e. ends_otherwise literal text (sym e ∙ whole))
       | inr one ↦ inl (parts ∙ ap (λ (w : List ℕ). opening ++ literal ++ closing ++ w) one)
     ]
 
