@@ -114,3 +114,13 @@ module _ {B X Y : Type 0} (parts : X → Y → List Ratio) where
 
   pub unfit_right : (g : B → Ratio → Ratio → Ratio → Y) (x : X) (w : List (Slice B)) (b : Slice B) (t : Ratio) → slice_at w t ≡ Some b → ¬ AllFit (parts x (at_slice g t b)) → ¬ FitBoth parts (Some x) (value_at g w t)
   unfit_right g x w b t h n k = n (rw (value_of_slice g w t b h) at k)
+
+-- the same slices in the same lists
+pub here_in : {A B : Type 0} (u : Ratio) (l l' : List (Slice A)) (r r' : List (Slice B)) (o : Option (Slice A × Slice B)) → l ≡ l' → r ≡ r' → both (slice_at l u) (slice_at r u) ≡ o → both (slice_at l' u) (slice_at r' u) ≡ o
+here_in u l l' r r' o e f h = subst (λ z. both (slice_at z u) (slice_at r' u) ≡ o) e (subst (λ z. both (slice_at l u) (slice_at z u) ≡ o) f h)
+
+pub here_of : {C : Type 0} (u : Ratio) (l l' : List (Slice C)) (o : Option (Slice C)) → l ≡ l' → slice_at l u ≡ o → slice_at l' u ≡ o
+here_of u l l' o e h = subst (λ z. slice_at z u ≡ o) e h
+
+pub common_in : {A B : Type 0} (l l' : List (Slice A)) (r r' : List (Slice B)) (pairs : List (Pair A B)) → l ≡ l' → r ≡ r' → IsCommon l r pairs → IsCommon l' r' pairs
+common_in l l' r r' pairs e f h = subst (λ z. IsCommon z r' pairs) e (subst (λ z. IsCommon l z pairs) f h)
