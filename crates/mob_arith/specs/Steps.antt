@@ -4,20 +4,13 @@ use Rattle.mob_ratio.specs.Ratio.{Ratio}
 use Rattle.mob_frac.specs.Formula.{AllFit}
 use Rattle.mob_span.specs.Span.{SpanOf}
 use Rattle.mob_slice.specs.Slices.{value_at, IsOrdered}
-use Rattle.mob_slice.specs.Operands.{map_both, FitBoth}
+use Rattle.mob_slice.specs.Operands.{map_both, FitBoth, steady_value, steady_limit}
 use Rattle.mob_slice.specs.declared.slice.Slice.{Slice}
 use Rattle.mob_slice.specs.declared.steady.Steady.{Steady}
 use Rattle.mob_slice.specs.declared.formula.Formula.TheVariants.{F2}
 use Rattle.mob_slice.specs.declared.formula.OpFault.{OpFault}
 use Rattle.mob_slice.specs.declared.formula.OpFault.TheVariants.{Passed, NoMemory}
 use Rattle.mob_arith.specs.Operations.{IsFault}
-
--- the one value of a steady course
-abbrev pub steady_value : {B : Type 0} → Steady B → Ratio → Ratio → Ratio → B
-steady_value c lower upper t = c.value
-
-abbrev pub steady_limit : {B : Type 0} → Steady B → B
-steady_limit c = c.value
 
 -- one slice of that value on a span, where the parts fit, or a refusal with its cause
 abbrev pub IsPiece : {Z V : Type 0} → (V → List (Slice (Steady Z))) → List Ratio → SpanOf → Z → Result V OpFault → Type 0
@@ -35,8 +28,3 @@ pub record AreSteps {X Y Z : Type 0} (op : X → Y → Z) (parts : X → Y → L
 abbrev pub IsStepsFault : {X Y : Type 0} → (X → Y → List Ratio) → (Ratio → Option X) → (Ratio → Option Y) → OpFault → Type 0
 IsStepsFault parts left right (Passed formula) = (formula ≡ F2) × ((t : Ratio) × (¬ FitBoth parts (left t) (right t)))
 IsStepsFault parts left right NoMemory = Unit {0}
-
--- The value of an operator is at each instant the operation on the two operands, and there is no value exactly where at
--- no instant both have one.
-abbrev pub IsPointwise : {X Y Z : Type 0} → (X → Y → Z) → (Ratio → Option X) → (Ratio → Option Y) → Option (List (Slice (Steady Z))) → Type 0
-IsPointwise op left right r = MatchOption r ((t : Ratio) → map_both op (left t) (right t) ≡ None) (λ v. (t : Ratio) → value_at steady_value v t ≡ map_both op (left t) (right t))

@@ -5,7 +5,7 @@ ghost use Rattle.mob_ratio.specs.Ratio.{Ratio};
 ghost use Rattle.mob_slice.specs.Slices.{value_at};
 ghost use Rattle.mob_slice.specs.Operands.{operand_at, is_moving};
 ghost use Rattle.mob_arith.specs.Operations.{both_hold, one_holds};
-ghost use Rattle.mob_arith.specs.Steps.{steady_value, IsPointwise};
+ghost use Rattle.mob_slice.specs.Operands.{steady_value, IsPointwise};
 
 use crate::operate::{beside, operate};
 use crate::operation::{Conjunction, Disjunction, Exclusion};

@@ -4,29 +4,15 @@ ghost use Rattle.std.specs.Prelude.{◌≡◌, true, ◌||◌, [], ◌∷◌, So
 ghost use Rattle.mob_ratio.specs.Ratio.{Ratio};
 ghost use Rattle.mob_slice.specs.Slices.{value_at, IsOrdered};
 ghost use Rattle.mob_slice.specs.Operands.{operand_at, is_moving, FitBoth};
-ghost use Rattle.mob_arith.specs.Steps.{steady_value, steady_limit, IsPiece, AreSteps, IsStepsFault, IsPointwise};
+ghost use Rattle.mob_slice.specs.Operands.{steady_value, steady_limit, IsPointwise};
+ghost use Rattle.mob_arith.specs.Steps.{IsPiece, AreSteps, IsStepsFault};
 
 use crate::operation::Operation;
-use mob_lift::lift;
+use mob_lift::{lift, single};
 use mob_normal::normal;
 use mob_slice::{BaseValue, Moving, One, OpFault, Operand, Pair, Slice, Steady};
-use mob_span::Span;
 use mob_sync::{Common, Ones};
 use std::alloc::Global;
-
-// One slice, of that value.
-fn single<V: Drop>(alloc: Global, span: Span, value: V) -> Result<Vec<Slice<Steady<V>>>, OpFault>
-    ensures one { MatchResult result (λ v. v.items ≡ record { span = span; course = record { value = value } } ∷ []) (λ e. e ≡ OpFault.NoMemory) }
-{
-    let mut slices = Vec::new(alloc);
-    match slices.push(Slice {
-        span,
-        course: Steady { value },
-    }) {
-        Ok(()) => Ok(slices),
-        Err(_) => Err(OpFault::NoMemory),
-    }
-}
 
 // On two temporal values.
 fn on_both<A: BaseValue + Drop, B: BaseValue + Drop, O: Operation<A, B>>(

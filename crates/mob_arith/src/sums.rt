@@ -5,7 +5,8 @@ ghost use Rattle.mob_ratio.specs.Ratio.{Ratio};
 ghost use Rattle.mob_slice.specs.Slices.{value_at};
 ghost use Rattle.mob_slice.specs.Operands.{operand_at, is_moving, FitBoth};
 ghost use Rattle.mob_arith.specs.Operations.{sum_of, sum_parts, difference_of, difference_parts, product_of, product_parts};
-ghost use Rattle.mob_arith.specs.Steps.{steady_value, IsStepsFault, IsPointwise};
+ghost use Rattle.mob_slice.specs.Operands.{steady_value, IsPointwise};
+ghost use Rattle.mob_arith.specs.Steps.{IsStepsFault};
 
 use crate::operate::{beside, operate};
 use crate::operation::{Difference, Product, Sum};

@@ -3,7 +3,7 @@
 ghost use Rattle.std.specs.Prelude.{◌≡◌, true, ◌||◌, IfOk};
 ghost use Rattle.mob_slice.specs.Operands.{operand_at, is_moving};
 ghost use Rattle.mob_arith.specs.Operations.{text_of};
-ghost use Rattle.mob_arith.specs.Steps.{steady_value, IsPointwise};
+ghost use Rattle.mob_slice.specs.Operands.{steady_value, IsPointwise};
 
 use crate::operate::operate;
 use crate::operation::Joining;

@@ -6,7 +6,7 @@ use Rattle.mob_slice.specs.Slices.{value_at}
 use Rattle.mob_slice.specs.declared.formula.OpFault.TheVariants.{Passed}
 use Rattle.mob_lift.proofs.Pointwise.{mapped_at, one_given, each_at, on_fault, part_some}
 use Rattle.mob_arith.specs.Operations.{IsFault}
-use Rattle.mob_arith.specs.Steps.{steady_value, steady_limit}
+use Rattle.mob_slice.specs.Operands.{steady_value, steady_limit}
 use Rattle.mob_arith.proofs.Answers.{refused}
 use Rattle.mob_sync.proofs.OneSteps.{ones_clear, ones_fit, ones_all, ones_here}
 use Rattle.mob_sync.proofs.Sides.{ones_map, here_of, left_fixed, fit_right, unfit_right}
