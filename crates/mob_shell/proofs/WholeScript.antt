@@ -2,7 +2,6 @@
 use Rattle.std.proofs.Common.{arith, ◌≡◌, ◌∙◌, ap, subst, sym, ℕ, ◌+◌, ◌<◌, ◌≤◌, List, ◌++◌, length, map, Some, None}
 use Rattle.std.specs.Prelude.{Option, IfSome, String, string_bytes}
 use Rattle.std.specs.declared.alloc.Global.{Global}
-use Rattle.std.specs.Io.KnownBytes.{IsAtEnd}
 use Rattle.std.proofs.lemmas.List.{append-nil, length-append, length-map}
 use Rattle.mob_shell.specs.Ending.{IsOutput, Seen}
 use Rattle.mob_shell.specs.Script.{Accepts, OutText, script_limit}
