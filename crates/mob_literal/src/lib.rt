@@ -4,8 +4,8 @@
 pub mod laws;
 pub mod printing;
 pub mod reading;
-pub mod sequence;
-pub mod steps;
+mod sequence;
+mod steps;
 pub mod written;
 
 #[cfg(test)]
