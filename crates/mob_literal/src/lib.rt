@@ -6,7 +6,6 @@ pub mod printing;
 pub mod reading;
 mod sequence;
 mod steps;
-pub mod written;
-
 #[cfg(test)]
 mod tests;
+pub mod written;
