@@ -32,5 +32,5 @@ pub one_value : (lower_inc upper_inc : Bool) (instants : List (Written Ratio)) (
     → Means same lower_inc instants upper_inc v → Means same lower_inc instants upper_inc w → v ≡ w
 one_value lower_inc upper_inc instants v w p q =
     unique (steady_laws same same_exact) v w p.normal.chained q.normal.chained
-        (λ t. one_option (value_at step_value v t) (value_at step_value w t)
-        (λ x. (λ e. (q.same t x).1 ((p.same t x).0 e), λ e. (p.same t x).1 ((q.same t x).0 e))))
+    (λ t. one_option (value_at step_value v t) (value_at step_value w t)
+    (λ x. (λ e. (q.same t x).1 ((p.same t x).0 e), λ e. (p.same t x).1 ((q.same t x).0 e))))

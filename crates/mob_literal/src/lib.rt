@@ -4,9 +4,8 @@
 pub mod laws;
 pub mod printing;
 pub mod reading;
-pub mod sequence;
-pub mod steps;
-pub mod written;
-
+mod sequence;
+mod steps;
 #[cfg(test)]
 mod tests;
+pub mod written;
