@@ -3,5 +3,7 @@ pub mod Listing
 pub mod Made
 pub mod Parted
 pub mod ReadSequences
+pub mod Rows
 pub mod SequenceExact
+pub mod Standard
 pub mod StepLemmas

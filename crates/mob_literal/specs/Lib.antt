@@ -5,4 +5,3 @@ pub mod Means
 pub mod Printed
 pub mod Runs
 pub mod Style
-pub mod Scalar

@@ -22,7 +22,7 @@ is_short f = nat_le 1 f.count && nat_le f.count 18
 abbrev pub short : Language Figures
 short = Where is_short digits
 
--- the day from which instants are counted: 2000-01-01, by its number of days from 1970-01-01
+-- the day from whose midnight instants are counted: 2000-01-01, by its number of days from 1970-01-01
 abbrev pub standard_day : ℤ
 standard_day = pos 10957
 

@@ -3,7 +3,9 @@
 
 pub mod printing;
 pub mod reading;
-pub mod scalar;
 pub mod sequence;
 pub mod steps;
 pub mod written;
+
+#[cfg(test)]
+mod tests;

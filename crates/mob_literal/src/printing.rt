@@ -1,11 +1,11 @@
 ghost use Rattle.std.specs.Prelude.{◌≡◌, ◌++◌, ◌&&◌, List, ℕ, [], ◌∷◌, map, codes, not, OnOk, OnErr, string_bytes, IsTrue, ◌↔◌};
 ghost use Rattle.std.specs.List.{list_all};
-ghost use Rattle.mob_literal.specs.Scalar.{moment_text, number_text};
+ghost use Rattle.mob_scalar.specs.NumberText.{number_text};
 ghost use Rattle.mob_literal.specs.Printed.{Style, instant_text, is_long as long, goes_on as continued, start_text, opening, closing, group_text, groups_of, groups_text, set_text, steps_text, listed};
 ghost use Rattle.mob_literal.specs.Runs.{end_part, between as gap, run_text, is_one_group, more_starts};
 ghost use Rattle.mob_literal.specs.Style.{style_of};
 
-use crate::scalar::{Epoch, write_moment, write_number};
+use mob_scalar::{Epoch, write_moment, write_number};
 use mob_frac::Frac;
 use mob_slice::{BaseValue, Course, Moving, Slice, Steady};
 use std::alloc::{AllocError, Global};
@@ -30,7 +30,7 @@ impl Printed for Frac {
 }
 
 fn write_instant<B: Printed>(value: &B, instant: &Frac, epoch: &Epoch, into: &mut String) -> Result<(), AllocError>
-    ensures { OnOk result (string_bytes into.new ≡ string_bytes into.old ++ instant_text (style_of B.text epoch.now.day) value.now instant.now) }
+    ensures { OnOk result (string_bytes into.new ≡ string_bytes into.old ++ instant_text (style_of B.text epoch.now) value.now instant.now) }
 {
     value.write(into)?;
     into.push_str("@")?;
@@ -53,7 +53,7 @@ fn goes_on<B: BaseValue + Drop>(slice: &Slice<Steady<B>>, next: &Slice<Steady<B>
 }
 
 fn write_start<B: BaseValue + Printed + Drop>(slice: &Slice<Steady<B>>, epoch: &Epoch, into: &mut String) -> Result<(), AllocError>
-    ensures { OnOk result (string_bytes into.new ≡ string_bytes into.old ++ start_text (style_of B.text epoch.now.day) slice.now) }
+    ensures { OnOk result (string_bytes into.new ≡ string_bytes into.old ++ start_text (style_of B.text epoch.now) slice.now) }
 {
     write_instant(slice.course.start(), slice.span.lower(), epoch, into)
 }
@@ -79,7 +79,7 @@ fn write_closing<B: BaseValue + Drop>(slice: &Slice<Steady<B>>, into: &mut Strin
 }
 
 fn write_end<B: BaseValue + Printed + Drop>(slice: &Slice<Steady<B>>, epoch: &Epoch, into: &mut String) -> Result<(), AllocError>
-    ensures { OnOk result (string_bytes into.new ≡ string_bytes into.old ++ end_part (style_of B.text epoch.now.day) slice.now) }
+    ensures { OnOk result (string_bytes into.new ≡ string_bytes into.old ++ end_part (style_of B.text epoch.now) slice.now) }
 {
     if is_long(slice) {
         into.push_str(", ")?;
@@ -89,7 +89,7 @@ fn write_end<B: BaseValue + Printed + Drop>(slice: &Slice<Steady<B>>, epoch: &Ep
 }
 
 fn write_between<B: BaseValue + Printed + Drop>(slice: &Slice<Steady<B>>, next: &Slice<Steady<B>>, epoch: &Epoch, into: &mut String) -> Result<(), AllocError>
-    ensures { OnOk result (string_bytes into.new ≡ string_bytes into.old ++ gap (style_of B.text epoch.now.day) slice.now next.now) }
+    ensures { OnOk result (string_bytes into.new ≡ string_bytes into.old ++ gap (style_of B.text epoch.now) slice.now next.now) }
 {
     if goes_on(slice, next) {
         return into.push_str(", ");
@@ -101,7 +101,7 @@ fn write_between<B: BaseValue + Printed + Drop>(slice: &Slice<Steady<B>>, next: 
 
 /// The groups, with a comma between each two.
 fn write_groups<B: BaseValue + Printed + Drop>(slices: &[Slice<Steady<B>>], epoch: &Epoch, into: &mut String) -> Result<(), AllocError>
-    ensures { OnOk result (string_bytes into.new ≡ string_bytes into.old ++ listed (map (group_text (style_of B.text epoch.now.day)) (groups_of slices.now))) }
+    ensures { OnOk result (string_bytes into.new ≡ string_bytes into.old ++ listed (map (group_text (style_of B.text epoch.now)) (groups_of slices.now))) }
 {
     let [first, rest @ ..] = slices else {
         return Ok(());
@@ -119,7 +119,7 @@ fn write_groups<B: BaseValue + Printed + Drop>(slices: &[Slice<Steady<B>>], epoc
 
 /// The instants at which the slices start, with a comma between each two.
 fn write_starts<B: BaseValue + Printed + Drop>(slices: &[Slice<Steady<B>>], epoch: &Epoch, into: &mut String) -> Result<(), AllocError>
-    ensures { OnOk result (string_bytes into.new ≡ string_bytes into.old ++ listed (map (start_text (style_of B.text epoch.now.day)) slices.now)) }
+    ensures { OnOk result (string_bytes into.new ≡ string_bytes into.old ++ listed (map (start_text (style_of B.text epoch.now)) slices.now)) }
 {
     let [first, rest @ ..] = slices else {
         return Ok(());
@@ -158,7 +158,7 @@ fn is_group<B: BaseValue + Drop>(slices: &[Slice<Steady<B>>]) -> bool
 
 /// A set of instants, or one instant alone.
 fn write_set<B: BaseValue + Printed + Drop>(slices: &[Slice<Steady<B>>], epoch: &Epoch, into: &mut String) -> Result<(), AllocError>
-    ensures { OnOk result (string_bytes into.new ≡ string_bytes into.old ++ set_text (style_of B.text epoch.now.day) slices.now) }
+    ensures { OnOk result (string_bytes into.new ≡ string_bytes into.old ++ set_text (style_of B.text epoch.now) slices.now) }
 {
     match slices {
         [only] => write_start(only, epoch, into),
@@ -172,7 +172,7 @@ fn write_set<B: BaseValue + Printed + Drop>(slices: &[Slice<Steady<B>>], epoch: 
 
 /// One group alone, or groups in braces.
 fn write_sequences<B: BaseValue + Printed + Drop>(slices: &[Slice<Steady<B>>], epoch: &Epoch, into: &mut String) -> Result<(), AllocError>
-    ensures { OnOk result (string_bytes into.new ≡ string_bytes into.old ++ groups_text (style_of B.text epoch.now.day) (groups_of slices.now)) }
+    ensures { OnOk result (string_bytes into.new ≡ string_bytes into.old ++ groups_text (style_of B.text epoch.now) (groups_of slices.now)) }
 {
     if is_group(slices) {
         return write_groups(slices, epoch, into);
@@ -183,7 +183,7 @@ fn write_sequences<B: BaseValue + Printed + Drop>(slices: &[Slice<Steady<B>>], e
 }
 
 fn write_slices<B: BaseValue + Printed + Drop>(slices: &[Slice<Steady<B>>], epoch: &Epoch, into: &mut String) -> Result<(), AllocError>
-    ensures { OnOk result (string_bytes into.new ≡ string_bytes into.old ++ steps_text (style_of B.text epoch.now.day) slices.now) }
+    ensures { OnOk result (string_bytes into.new ≡ string_bytes into.old ++ steps_text (style_of B.text epoch.now) slices.now) }
 {
     if is_set(slices) {
         write_set(slices, epoch, into)
@@ -194,7 +194,7 @@ fn write_slices<B: BaseValue + Printed + Drop>(slices: &[Slice<Steady<B>>], epoc
 
 /// Appends the printed text of a step value. Where memory is refused `into` stays as it was.
 pub fn write_steps<B: BaseValue + Printed + Drop>(value: &Moving<Steady<B>>, epoch: &Epoch, into: &mut String) -> Result<(), AllocError>
-    ensures written { OnOk result (string_bytes into.new ≡ string_bytes into.old ++ steps_text (style_of B.text epoch.now.day) value.now) }
+    ensures written { OnOk result (string_bytes into.new ≡ string_bytes into.old ++ steps_text (style_of B.text epoch.now) value.now) }
     ensures unchanged { OnErr result (string_bytes into.new ≡ string_bytes into.old) }
 {
     let mut text = String::new(*into.allocator());

@@ -27,17 +27,17 @@ use Rattle.mob_scalar.specs.Numbers.{numbers}
 digit_test : (c : ℕ) → IsInRange 48 57 c → is_digit c ≡ true
 digit_test c h = search rules
 
-are_figures : (ds : Text) → AllDigits 10 ds → AreFigures ds
+pub are_figures : (ds : Text) → AllDigits 10 ds → AreFigures ds
 are_figures [] h = tt
 are_figures (c ∷ cs) h = (digit_test c (digit_from_value c h.0), are_figures cs h.1)
 
 pub run_test : (ds : Text) → length ds ≤ 36 → is_run ds ≡ true
 run_test ds h = search rules
 
-size_of : ℕ → Figures
+unfoldable pub size_of : ℕ → Figures
 size_of n = record { value = n; count = length (decimal n) }
 
-digits_said : (n : ℕ) → n < 2 ^ 62 → digits (decimal n) (size_of n)
+pub digits_said : (n : ℕ) → n < 2 ^ 62 → digits (decimal n) (size_of n)
 unfolding size_of
 digits_said n h =
     let is = decimal_is_IsNumeral n (omega (arith, h)) in
@@ -88,7 +88,7 @@ number_said z back t h said enough = record {
   holds = enough;
 }
 
-nonempty : (n : ℕ) → n < 2 ^ 62 → 0 < length (decimal n)
+pub nonempty : (n : ℕ) → n < 2 ^ 62 → 0 < length (decimal n)
 nonempty n h = (decimal_is_IsNumeral n (omega (arith, h))).0.0
 
 enough_whole : (n : ℕ) → n < 2 ^ 62 → has_digits (size_of n) (Decimal None None) ≡ true

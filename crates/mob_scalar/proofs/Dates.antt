@@ -22,7 +22,7 @@ last_is test (suc n) k one le there later = elim (cases_lt k (suc n)) [
   | inr ge ↦ let e : k ≡ suc n = omega (arith, ge, le) in rw (sym e, there) refl
 ]
 
-le_yes : (a b : ℤ) → a ≤ℤ b → le_z a b ≡ true
+pub le_yes : (a b : ℤ) → a ≤ℤ b → le_z a b ≡ true
 le_yes a b h = grind (arith, ints)
 
 le_no : (a b : ℤ) → b <ℤ a → le_z a b ≡ false
@@ -41,7 +41,7 @@ dated c h = record { from = search rules; to = search rules; month = search rule
 as_civil : (y m d : ℕ) → IsDated y m d → IsCivilDate (pos y) m d
 as_civil y m d h = let a = h.from in let b = h.to in ((omega (arith, signed_arith, a, b), omega (arith, signed_arith, a, b)), h.month, h.day)
 
-first : day_count (pos 1) 1 1 ≡ 3_652_791
+pub first : day_count (pos 1) 1 1 ≡ 3_652_791
 first = day_count-early (pos 1) 10000 1 1 refl (omega arith) (omega arith) (omega arith)
 
 from_first : (y m d : ℕ) → IsDated y m d → 3_652_791 ≤ day_count (pos y) m d

@@ -3,7 +3,7 @@
 -- A moment is an instant, in seconds since midnight UTC of the epoch's day. Its text is `YYYY-MM-DD HH:MM:SS`, then the part of a
 -- second (nothing for a whole second, a point and the fewest digits where at most six digits give it exactly, else the fraction in
 -- brackets), then `+00`. Outside the years 0001 to 9999 it is `epoch+(n)`, where n is the number of seconds.
-use Rattle.std.specs.Prelude.{ℕ, zero, suc, ◌*◌, ◌-◌, ◌/◌, ◌%◌, ◌==◌, List, [], ◌∷◌, ◌++◌, length, codes, replicate, position, ◌^◌, if◌then◌else◌, Option, Some, None, ℤ, pos, unsigned_abs, ◌+ℤ◌, ◌*ℤ◌}
+use Rattle.std.specs.Prelude.{◌≡◌, true, ℕ, zero, suc, ◌*◌, ◌-◌, ◌/◌, ◌%◌, ◌==◌, List, [], ◌∷◌, ◌++◌, length, codes, replicate, position, ◌^◌, if◌then◌else◌, Option, Some, None, ℤ, pos, unsigned_abs, ◌+ℤ◌, ◌*ℤ◌}
 use Rattle.std.specs.Fmt.{decimal}
 use Rattle.std.specs.Int.{int_div_euclid, int_rem_euclid}
 use Rattle.mob_ratio.specs.Ratio.{Ratio}
@@ -71,8 +71,15 @@ second_text second numerator denominator =
 unfoldable pub far_text : Ratio → Text
 far_text q = codes "epoch+(" ++ (number_text q ++ codes ")")
 
+-- the second of the instant q, counted from 1970-01-01 00:00:00
+abbrev pub second_of : ℤ → Ratio → ℤ
+second_of epoch q = whole_seconds q +ℤ epoch *ℤ pos 86400
+
+-- the instant q lies in the years 0001 to 9999
+abbrev pub HasDate : ℤ → Ratio → Type 0
+HasDate epoch q = is_year_second (second_of epoch q) ≡ true
+
 -- the text of the instant q, in seconds since midnight UTC of the epoch's day
 unfoldable pub moment_text : ℤ → Ratio → Text
 moment_text epoch q =
-    let second = whole_seconds q +ℤ epoch *ℤ pos 86400 in
-    if is_year_second second then second_text second (part_numerator q) q.den else far_text q
+    if is_year_second (second_of epoch q) then second_text (second_of epoch q) (part_numerator q) q.den else far_text q

@@ -1,5 +1,5 @@
 -- What a reader of texts answers: a value, or the first fault. The shape of the whole text comes first.
-use Rattle.std.specs.Prelude.{Result, Ok, Err}
+use Rattle.std.specs.Prelude.{◌≡◌, ◌≢◌, Result, Ok, Err}
 use Rattle.mob_language.specs.Language.{Text, Language}
 use Rattle.mob_scalar.specs.declared.fault.ReadText.{ReadText}
 use Rattle.mob_scalar.specs.declared.fault.ReadText.TheVariants.{NotText, Limit, TooLarge, Unsound, NoMemory}
@@ -20,3 +20,7 @@ Lit {S} f text (Err Limit) = (s : S) × f.shape text s × f.long s
 Lit {S} f text (Err TooLarge) = (s : S) × f.shape text s × ¬ f.long s × f.large s
 Lit {S} f text (Err Unsound) = (s : S) × f.shape text s × ¬ f.long s × ¬ f.large s × f.unsound s
 Lit f text (Err NoMemory) = Unit {0}
+
+-- each text has one reading: two verdicts on it, neither of them want of memory, are the same
+abbrev pub HasOneReading : {S V : Type 0} → Form S V → Type 0
+HasOneReading {S} {V} f = (text : Text) (a b : Result V ReadText) → a ≢ Err NoMemory → b ≢ Err NoMemory → Lit f text a → Lit f text b → a ≡ b

@@ -3,9 +3,9 @@ ghost use Rattle.std.specs.Prelude.{◌≡◌, ◌≢◌, ◌↔◌, ◌⊎◌, 
 ghost use Rattle.std.specs.Io.KnownBytes.{Appends, IsAtEnd, Keeps};
 ghost use Rattle.mob_outside.specs.Faults.{Rose};
 ghost use Rattle.mob_outside.specs.Told.{KeepsFiles, KeepsNames};
-ghost use Rattle.mob_shell.specs.Ending.{Causes, CutsShort, IsUsage, Writes, line_of, seen, status_of};
-ghost use Rattle.mob_shell.specs.Script.{Accepts, OutText};
-ghost use Rattle.mob_shell.specs.Streams.{Puts};
+ghost use Rattle.mob_shell.specs.Ending.{Causes, CutsShort, IsUsage, ReadsThrough, Writes, line_of, seen, status_of};
+ghost use Rattle.mob_shell.specs.Script.{Accepts, OutText, script_limit};
+ghost use Rattle.mob_shell.specs.Streams.{Puts, ReadsPart};
 ghost use Rattle.mob_shell.specs.declared.ending.Ending.{Ending};
 
 use crate::decide::decide;
@@ -48,8 +48,12 @@ pub fn run<R: Threads + Sync, S: Source, F: Files, K: Sink, E: Sink, G: Gate>(
     // 4: only where the count of `out` rose, which took a proper prefix of the answers.
     ensures write_fault { result ≡ 4 → CutsShort (seen S.left S.faults K.held K.faults (map string_bytes words.now) script.old script.new out.old out.new) }
 
-    // 7: only where the script is not accepted.
+    // 7: only where the script was read to its end, or to one byte past the limit, and is not accepted.
+    ensures read_through { result ≡ 7 → ReadsThrough (seen S.left S.faults K.held K.faults (map string_bytes words.now) script.old script.new out.old out.new) }
     ensures refused { result ≡ 7 → IfSome (S.left script.old) (λ text. Accepts text → ⊥) }
+
+    // Under every status at most one byte past the limit is taken from the script.
+    ensures reads { ReadsPart script_limit (S.left script.old) (S.left script.new) }
 
     // Under every other status nothing is written.
     ensures silent { result ≢ 0 → result ≢ 4 → Keeps (K.held out.old) (K.held out.new) }
