@@ -118,3 +118,85 @@ pub fn compare<C: Compared>(
         Err(_) => Err(OpFault::NoMemory),
     }
 }
+
+#[cfg(test)]
+mod tests {
+    use super::*;
+    use mob_frac::Frac;
+    use mob_list::text::Text;
+    use mob_slice::BaseValue;
+    use mob_span::Span;
+    use std::test::Fail;
+
+    // The value of one slice, on the span between two whole numbers.
+    fn one<V: BaseValue + Drop>(
+        alloc: Global,
+        lower: i64,
+        upper: i64,
+        value: V,
+    ) -> Option<Moving<Steady<V>>> {
+        let from = Frac::new(lower, 1).ok()?;
+        let to = Frac::new(upper, 1).ok()?;
+        let span = Span::new(from, to, true, true)?;
+        let mut slices = Vec::new(alloc);
+        let slice = Slice {
+            span,
+            course: Steady { value },
+        };
+        if slices.push(slice).is_err() {
+            return None;
+        }
+        normal(alloc, slices).ok()?
+    }
+
+    // The truth value of the first slice.
+    fn truth(value: Option<Moving<Steady<bool>>>) -> Option<bool> {
+        let value = value?;
+        let slice = value.slices().first()?;
+        Some(slice.course.value)
+    }
+
+    #[test]
+    fn numbers_and_texts_are_compared(rt: HostRuntime) -> Result<(), Fail> {
+        let alloc = rt.alloc();
+        let two = Frac::new(2, 1).ok().ok_or("fits")?;
+        let three = Frac::new(3, 1).ok().ok_or("fits")?;
+        let early = one(alloc, 1, 2, three).ok_or("early")?;
+        let late = one(alloc, 3, 4, two).ok_or("late")?;
+        let more = compare(
+            alloc,
+            Operand::Moving(&early),
+            Operand::Fixed(&two),
+            Rel::Gt,
+        );
+        assert_eq!(rt; truth(more.ok().ok_or("memory")?), Some(true));
+        let less = compare(
+            alloc,
+            Operand::Fixed(&three),
+            Operand::Moving(&early),
+            Rel::Lt,
+        );
+        assert_eq!(rt; truth(less.ok().ok_or("memory")?), Some(false));
+        let apart = compare(
+            alloc,
+            Operand::Moving(&early),
+            Operand::Moving(&late),
+            Rel::Eq,
+        );
+        assert!(rt; apart.ok().ok_or("memory")?.is_none());
+        let a = Text::from_string(String::from_str(alloc, "a")?);
+        let b = Text::from_string(String::from_str(alloc, "ab")?);
+        let text = one(alloc, 1, 2, a).ok_or("text")?;
+        let at_most = compare(alloc, Operand::Moving(&text), Operand::Fixed(&b), Rel::Le);
+        assert_eq!(rt; truth(at_most.ok().ok_or("memory")?), Some(true));
+        let truths = one(alloc, 1, 2, true).ok_or("truths")?;
+        let same = compare(
+            alloc,
+            Operand::Moving(&truths),
+            Operand::Fixed(&true),
+            Rel::Ne,
+        );
+        assert_eq!(rt; truth(same.ok().ok_or("memory")?), Some(false));
+        Ok(())
+    }
+}
