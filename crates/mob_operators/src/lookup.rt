@@ -1,0 +1,219 @@
+//! Looking an operator up in the table.
+ghost use Rattle.std.specs.Prelude.{◌≡◌, map};
+ghost use Rattle.std.specs.List.{list_any, list_all};
+ghost use Rattle.mob_operators.specs.Table.{table, is_irrational};
+ghost use Rattle.mob_operators.specs.Lookup.{line_of, lines_of, same_type, same_form, has, is_moving, is_whole, fits, are_same, meets, given, named, operator_in, takes, answer_of, found_in, has_function};
+
+use crate::operator::{Form, Op};
+use crate::table::{Bond, Gives, ROWS, Row};
+use mob_ast::SqlType;
+
+// Whether two types are one.
+fn is_same(a: SqlType, b: SqlType) -> bool
+    ensures { result ≡ same_type a b }
+{
+    a == b
+}
+
+// Whether a type is among these.
+fn has(class: &[SqlType], ty: SqlType) -> bool
+    ensures { result ≡ has class.now ty }
+{
+    class.iter().any(|t| is_same(*t, ty))
+}
+
+fn is_moving(ty: SqlType) -> bool
+    ensures { result ≡ is_moving ty }
+{
+    matches!(
+        ty,
+        SqlType::TBool | SqlType::TInt | SqlType::TFrac | SqlType::TText | SqlType::TPoint
+    )
+}
+
+fn is_whole(ty: SqlType) -> bool
+    ensures { result ≡ is_whole ty }
+{
+    matches!(ty, SqlType::Int | SqlType::TInt)
+}
+
+fn any_moving(types: &[SqlType]) -> bool
+    ensures { result ≡ list_any is_moving types.now }
+{
+    types.iter().any(|ty| is_moving(*ty))
+}
+
+fn all_whole(types: &[SqlType]) -> bool
+    ensures { result ≡ list_all is_whole types.now }
+{
+    types.iter().all(|ty| is_whole(*ty))
+}
+
+// Whether the arguments have one for one a type that is taken.
+fn fits(classes: &[&[SqlType]], types: &[SqlType]) -> bool
+    ensures { result ≡ fits (map (λ c. c.now) classes.now) types.now }
+{
+    let Some((class, other_classes)) = classes.split_first() else {
+        return types.is_empty();
+    };
+    let Some((ty, other_types)) = types.split_first() else {
+        return false;
+    };
+    has(class, *ty) && fits(other_classes, other_types)
+}
+
+fn are_same(types: &[SqlType]) -> bool
+    ensures { result ≡ are_same types.now }
+{
+    match types {
+        [a, b] => is_same(*a, *b),
+        _ => false,
+    }
+}
+
+impl Bond {
+    fn meets(self, types: &[SqlType], by_literal: bool) -> bool
+        ensures { result ≡ meets self types.now by_literal }
+    {
+        match self {
+            Bond::Free => true,
+            Bond::OneMoving => any_moving(types),
+            Bond::SameType => are_same(types),
+            Bond::ByLiteral => by_literal,
+        }
+    }
+}
+
+impl Gives {
+    fn given(self, types: &[SqlType]) -> Option<SqlType>
+        ensures { result ≡ given self types.now }
+    {
+        match self {
+            Gives::Only(ty) => Some(ty),
+            Gives::First => types.first().copied(),
+            Gives::Whole(whole, other) => Some(if all_whole(types) { whole } else { other }),
+        }
+    }
+}
+
+impl Row {
+    // The operator of this form and name.
+    fn operator(&self, form: Form, name: &str) -> Option<Op>
+        ensures { result ≡ operator_in (line_of self.now) form name.now }
+    {
+        if self.form == form {
+            named(self.names, name)
+        } else {
+            None
+        }
+    }
+
+    // Whether it takes these arguments.
+    fn takes(&self, types: &[SqlType], by_literal: bool) -> bool
+        ensures { result ≡ takes (line_of self.now) types.now by_literal }
+    {
+        fits(self.takes, types) && self.bond.meets(types, by_literal)
+    }
+
+    fn answer(
+        &self,
+        form: Form,
+        name: &str,
+        types: &[SqlType],
+        by_literal: bool,
+    ) -> Option<(Op, SqlType)>
+        ensures { result ≡ answer_of (line_of self.now) form name.now types.now by_literal }
+    {
+        let op = self.operator(form, name)?;
+        if !self.takes(types, by_literal) {
+            return None;
+        }
+        let ty = self.gives.given(types)?;
+        Some((op, ty))
+    }
+}
+
+// The operator of this name.
+fn named(names: &[(&str, Op)], name: &str) -> Option<Op>
+    ensures { result ≡ named (map (λ n. (n.0.now, n.1)) names.now) name.now }
+{
+    for (other, op) in names {
+        if *other == name {
+            return Some(*op);
+        }
+    }
+    None
+}
+
+// The answer of the first row that gives one.
+fn first_of(
+    rows: &[Row],
+    form: Form,
+    name: &str,
+    types: &[SqlType],
+    by_literal: bool,
+) -> Option<(Op, SqlType)>
+    ensures { result ≡ found_in (lines_of rows.now) form name.now types.now by_literal }
+{
+    for row in rows {
+        if let Some(answer) = row.answer(form, name, types, by_literal) {
+            return Some(answer);
+        }
+    }
+    None
+}
+
+// Whether some row is about a function of this name.
+fn any_function(rows: &[Row], name: &str) -> bool
+    ensures { result ≡ has_function (lines_of rows.now) name.now }
+{
+    for row in rows {
+        if row.operator(Form::Call, name).is_some() {
+            return true;
+        }
+    }
+    false
+}
+
+// The rows of the table.
+fn rows() -> &'static [Row]
+    ensures { lines_of result.now ≡ table }
+{
+    &ROWS
+}
+
+/// The operator that a call of this form and name stands for, and the type of its result, for arguments of these types, the
+/// last a number literal under any number of signs or not. None where the table has no row for them.
+pub fn operator_for(
+    form: Form,
+    name: &str,
+    types: &[SqlType],
+    by_literal: bool,
+) -> Option<(Op, SqlType)>
+    ensures first_row { result ≡ found_in table form name.now types.now by_literal }
+{
+    first_of(rows(), form, name, types, by_literal)
+}
+
+/// Whether the table has a function of this name, in lower case.
+pub fn is_function(name: &str) -> bool
+    ensures known { result ≡ has_function table name.now }
+{
+    any_function(rows(), name)
+}
+
+/// Whether a sign or function of this name may have irrational results, and is refused for that.
+pub fn is_irrational(form: Form, name: &str) -> bool
+    ensures listed { result ≡ is_irrational form name.now }
+{
+    match form {
+        Form::Word => false,
+        Form::Sign => name == "<->" || name == "|=|",
+        Form::Call => {
+            name == "tdwithin"
+                || name == "nearestapproachdistance"
+                || name == "length"
+                || name == "speed"
+        }
+    }
+}
