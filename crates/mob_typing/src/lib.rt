@@ -1,0 +1,4 @@
+//! Names and types of whole scripts.
+#![tactic(auto)]
+
+mod names;
