@@ -1,1 +1,6 @@
+pub mod Answers
+pub mod Expressions
 pub mod Names
+pub mod Scopes
+pub mod Trees
+pub mod Words

@@ -1,4 +1,12 @@
 //! Names and types of whole scripts.
 #![tactic(auto)]
 
+mod columns;
+mod fault;
 mod names;
+mod scope;
+pub mod typed;
+mod words;
+
+pub use mob_operators::Op;
+pub use typed::{ConstText, TExpr, Typed, TypedSelect, TypedStatement};

@@ -1,0 +1,7 @@
+-- The columns of a name, as far as they are found.
+use Rattle.std.proofs.Common.{List, [], ◌∷◌, Option, Some, None}
+use Rattle.mob_typing.specs.declared.scope.Found.{Found}
+
+abbrev pub listed : Option Found → List Found → List Found
+listed None fs = fs
+listed (Some f) fs = f ∷ fs
