@@ -1,6 +1,6 @@
 -- Names and types of expressions: the typed tree of a tree, or what is wrong first. What is settled before the operands
 -- comes first, then the operands from left to right, then the operator.
-use Rattle.std.specs.Prelude.{◌==◌, ◌&&◌, ◌||◌, not, ◌+◌, ℕ, List, [], ◌∷◌, ◌++◌, Bool, true, false, Option, Some, None, Result, Ok, codes, length, map, is_some, option_map, if◌then◌else◌}
+use Rattle.std.specs.Prelude.{◌==◌, ◌&&◌, ◌||◌, not, ◌+◌, ℕ, List, [], ◌∷◌, ◌++◌, Bool, true, false, Option, Some, None, Result, Ok, codes, length, map, is_some, option_map, option_and_then, if◌then◌else◌}
 use Rattle.std.specs.List.{list_any}
 use Rattle.std.specs.Str.{bytes_eq}
 use Rattle.mob_ast.specs.declared.types.Word.{Word}
@@ -55,15 +55,23 @@ abbrev pub string_of : Tree → Option (List ℕ × ℕ)
 string_of (tree (node.Str s) p args) = Some (s, p)
 string_of (tree _ p args) = None
 
+-- the only one of these trees, where there is one alone
+abbrev pub only : Trees → Option Tree
+only no_trees = None
+only (more_trees t no_trees) = Some t
+only (more_trees t (more_trees u us)) = None
+
 abbrev pub lone_string : Trees → Option (List ℕ × ℕ)
-lone_string no_trees = None
-lone_string (more_trees t no_trees) = string_of t
-lone_string (more_trees t (more_trees u ts)) = None
+lone_string ts = option_and_then string_of (only ts)
 
 -- a bare string under a cast is read as the type at once
 abbrev pub cast_of_string : ScopeParts → TypeWord → ℕ → Option (List ℕ × ℕ) → Step (Option TypedTree)
 cast_of_string s w p None cs = Ok (None, cs)
 cast_of_string s w p (Some text) cs = found kind.UnknownName w.name.place (type_named w.name.text w.inner) >>= λ ty. constant s ty text.0 text.1 cs >>= λ r. Ok (Some (typed op.Cast ty p (more r.0 none)), r.1)
+
+-- a typed string is a constant of the type that its words name
+abbrev pub literal : ScopeParts → TypeWord → List ℕ → ℕ → Step TypedTree
+literal s w text p cs = found kind.UnknownName w.name.place (literal_type w.name.text w.inner text) >>= λ ty. constant s ty text p cs
 
 abbrev pub settled : Step TypedTree → Step (Option TypedTree)
 settled step cs = step cs >>= λ r. Ok (Some r.0, r.1)
@@ -76,7 +84,7 @@ early s node.True p args cs = settled (constant s sql.Bool (codes "true") p) cs
 early s node.False p args cs = settled (constant s sql.Bool (codes "false") p) cs
 early s (node.Number n) p args cs = settled (constant s (number_type n) n p) cs
 early s (node.Str t) p args cs = settled (constant s sql.Text t p) cs
-early s (node.Literal w t) p args cs = found kind.UnknownName w.name.place (literal_type w.name.text w.inner t) >>= λ ty. settled (constant s ty t p) cs
+early s (node.Literal w t) p args cs = settled (literal s w t p) cs
 early s (node.Column t c) p args cs = column_at s t c >>= λ f. Ok (Some (typed (op.Column f.from f.column) f.ty p none), cs)
 early s (node.Call f) p args cs = unless (is_irrational form.Call f) kind.Irrational p >>= λ _. Ok (None, cs)
 early s (node.Sign g) p args cs = Ok (None, cs)
@@ -87,10 +95,13 @@ early s node.Or p args cs = Ok (None, cs)
 early s node.IsNull p args cs = Ok (None, cs)
 early s node.IsNotNull p args cs = Ok (None, cs)
 
+abbrev pub is_signed : List ℕ → Bool
+is_signed g = bytes_eq g (codes "-") || bytes_eq g (codes "+")
+
 -- the digits of a number literal under any number of signs
 abbrev pub signed_digits : Node → Option (List ℕ) → Option (List ℕ)
 signed_digits (node.Number n) inner = Some n
-signed_digits (node.Sign g) inner = if bytes_eq g (codes "-") || bytes_eq g (codes "+") then inner else None
+signed_digits (node.Sign g) inner = if is_signed g then inner else None
 signed_digits _ inner = None
 
 abbrev pub is_none_left : Trees → Bool
@@ -108,9 +119,7 @@ unfoldable mutual
 -- the digits of the second of two operands, where it is a number literal
 abbrev pub divisor_of : Trees → Option (List ℕ)
 divisor_of no_trees = None
-divisor_of (more_trees a no_trees) = None
-divisor_of (more_trees a (more_trees b no_trees)) = digits_of b
-divisor_of (more_trees a (more_trees b (more_trees c ts))) = None
+divisor_of (more_trees a ts) = option_and_then digits_of (only ts)
 
 -- whether it divides by 0, where the divisor is a literal that is 0 or not, or none
 abbrev pub divides_by_zero : Op → Option Bool → Bool
@@ -121,10 +130,13 @@ abbrev pub are_linear : List SqlType → Bool
 are_linear (a ∷ b ∷ []) = same_type a sql.TFrac && same_type b sql.TFrac
 are_linear _ = false
 
+abbrev pub missing_sign : List ℕ → List SqlType → Kind
+missing_sign name ts = if is_irrational form.Sign name then kind.Irrational else if bytes_eq name (codes "*") && are_linear ts then kind.LinearProduct else kind.NoSuchOperator
+
 -- why an operator has no line in the table for these types
 abbrev pub missing : Form → List ℕ → List SqlType → Kind
 missing form.Word name ts = kind.NoSuchOperator
-missing form.Sign name ts = if is_irrational form.Sign name then kind.Irrational else if bytes_eq name (codes "*") && are_linear ts then kind.LinearProduct else kind.NoSuchOperator
+missing form.Sign name ts = missing_sign name ts
 missing form.Call name ts = if has_function table name then kind.NoSuchOperator else kind.UnknownName
 
 abbrev pub applied : Form → List ℕ → ℕ → Option Bool → List TypedTree → Option (Op × SqlType) → Result TypedTree Wrong

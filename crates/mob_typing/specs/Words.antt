@@ -1,8 +1,8 @@
 -- Words and numbers of a script: which type they name, and what a number is worth.
-use Rattle.std.specs.Prelude.{◌==◌, ◌&&◌, ◌||◌, not, ℕ, List, [], ◌∷◌, Bool, true, false, Option, Some, None, codes, drop, take_while, nat_eq, if◌then◌else◌}
-use Rattle.std.specs.List.{list_all, starts_with}
-use Rattle.std.specs.Char.{is_ascii_digit}
-use Rattle.std.specs.Str.{bytes_eq, str_to_ascii_lowercase}
+use Rattle.std.specs.Prelude.{◌==◌, ◌&&◌, ◌||◌, not, ℕ, List, [], ◌∷◌, Bool, true, false, Option, Some, None, codes, drop, take_while, if◌then◌else◌}
+use Rattle.std.specs.List.{list_all}
+use Rattle.std.specs.Char.{is_ascii_digit, to_ascii_lowercase}
+use Rattle.std.specs.Str.{bytes_eq}
 use Rattle.mob_ast.specs.declared.types.Word.{Word}
 use Rattle.mob_ast.specs.declared.types.TypeWord.{TypeWord}
 use Rattle.mob_ast.specs.declared.types.SqlType.{SqlType}
@@ -44,9 +44,11 @@ abbrev pub skip_blanks : List ℕ → List ℕ
 skip_blanks [] = []
 skip_blanks (b ∷ bs) = if is_blank b then skip_blanks bs else b ∷ bs
 
--- whether a text begins with this word in letters of either case
+-- whether a text begins with this word, which has small letters alone, in letters of either case
 abbrev pub begins : List ℕ → List ℕ → Bool
-begins s word = starts_with nat_eq (str_to_ascii_lowercase s) word
+begins s [] = true
+begins [] (w ∷ ws) = false
+begins (b ∷ bs) (w ∷ ws) = to_ascii_lowercase b == w && begins bs ws
 
 -- behind `SRID=0;` and the blanks round its sign, where the text begins so
 abbrev pub after_semicolon : List ℕ → List ℕ → List ℕ
@@ -60,7 +62,10 @@ after_srid s = if begins s (codes "srid=0") then after_semicolon s (skip_blanks 
 abbrev pub is_polygon : List ℕ → Bool
 is_polygon s = begins (after_srid (skip_blanks s)) (codes "polygon")
 
+abbrev pub geometry_type : List ℕ → SqlType
+geometry_type s = if is_polygon s then sql.Polygon else sql.Point
+
 -- the type of a typed string: `geometry` alone is decided by the string
 abbrev pub literal_type : List ℕ → Option Word → List ℕ → Option SqlType
-literal_type name None s = if bytes_eq name (codes "geometry") then Some (if is_polygon s then sql.Polygon else sql.Point) else type_named name None
+literal_type name None s = if bytes_eq name (codes "geometry") then Some (geometry_type s) else type_named name None
 literal_type name (Some inner) s = type_named name (Some inner)

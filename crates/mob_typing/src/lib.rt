@@ -2,8 +2,11 @@
 #![tactic(auto)]
 
 mod columns;
+mod constants;
+mod expression;
 mod fault;
 mod names;
+mod operators;
 mod scope;
 pub mod typed;
 mod words;

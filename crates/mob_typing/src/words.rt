@@ -2,7 +2,7 @@
 ghost use Rattle.std.specs.Prelude.{◌≡◌, map};
 ghost use Rattle.std.specs.List.{list_all};
 ghost use Rattle.std.specs.Char.{is_ascii_digit};
-ghost use Rattle.mob_typing.specs.Words.{type_among, type_words, geometry_words, type_named, number_type, is_zero, is_blank, skip_blanks, begins, after_srid, after_semicolon, is_polygon, literal_type};
+ghost use Rattle.mob_typing.specs.Words.{type_among, type_words, geometry_words, type_named, number_type, is_zero, is_blank, skip_blanks, begins, after_srid, after_semicolon, is_polygon, geometry_type, literal_type};
 
 use mob_ast::{SqlType, TypeWord};
 
@@ -116,7 +116,13 @@ fn skip_blanks(text: &[u8]) -> &[u8]
 fn begins(text: &[u8], word: &[u8]) -> bool
     ensures { result ≡ begins text.now word.now }
 {
-    text.len() >= word.len() && text[..word.len()].eq_ignore_ascii_case(word)
+    let Some((small, word)) = word.split_first() else {
+        return true;
+    };
+    let Some((letter, text)) = text.split_first() else {
+        return false;
+    };
+    letter.to_ascii_lowercase() == *small && begins(text, word)
 }
 
 // What stands behind `SRID=0;` and the blanks round its sign, where the text begins so, else the text.
@@ -139,16 +145,28 @@ fn is_polygon(text: &[u8]) -> bool
     begins(after_srid(skip_blanks(text)), b"polygon")
 }
 
+fn geometry_type(text: &str) -> SqlType
+    ensures { result ≡ geometry_type text.now }
+{
+    if is_polygon(text.as_bytes()) {
+        SqlType::Polygon
+    } else {
+        SqlType::Point
+    }
+}
+
 /// The type of a typed string: `geometry` alone is decided by the string.
 pub fn literal_type(word: &TypeWord, text: &str) -> Option<SqlType>
     ensures named { result ≡ literal_type word.now.name.text word.now.inner text.now }
 {
-    if word.inner.is_none() && word.name.text.as_str() == "geometry" {
-        return Some(if is_polygon(text.as_bytes()) {
-            SqlType::Polygon
-        } else {
-            SqlType::Point
-        });
+    match &word.inner {
+        Some(_) => type_named(word),
+        None => {
+            if word.name.text.as_str() == "geometry" {
+                Some(geometry_type(text))
+            } else {
+                type_named(word)
+            }
+        }
     }
-    type_named(word)
 }
