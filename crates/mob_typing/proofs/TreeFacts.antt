@@ -1,5 +1,5 @@
 -- Trees and typed trees as they stand in memory, one level at a time.
-use Rattle.std.proofs.Common.{◌≡◌, ◌<◌, ◌≤◌, length, get_or, arith, ◌∙◌, refl, sym, ap, ℕ, List, [], ◌∷◌, map, Option, Some, None, Vec, Global}
+use Rattle.std.proofs.Common.{◌≡◌, ◌<◌, ◌≤◌, length, get_or, arith, ◌∙◌, refl, sym, ap, ℕ, List, [], ◌∷◌, map, Option, Some, None, Vec, Global, Bool, true, false, cond}
 use Rattle.std.specs.Prelude.{option_and_then}
 use Rattle.mob_ast.specs.declared.types.SqlType.{SqlType}
 use Rattle.mob_ast.specs.declared.expression.Expr.{Expr}
@@ -11,7 +11,8 @@ use Rattle.mob_typing.specs.declared.typed.TExpr.{TExpr}
 use Rattle.mob_typing.specs.declared.typed.TExpr.TheViews.{out-TExpr, roll-TExpr}
 use Rattle.mob_typing.specs.declared.typed.TExpr.TheFolds.{fold_out-TExpr, fold-roll-TExpr}
 use Rattle.mob_typing.specs.Trees.{TypedTree, typed, typed_trees, typed_step, typed_of, type_of, types_of}
-use Rattle.mob_typing.specs.Expressions.{digits_of, digits_in, signed_digits, only}
+use Rattle.mob_typing.specs.Expressions.{is_signed, digits_of, digits_in, signed_digits, only}
+use Rattle.mob_ast.specs.declared.expression.Node.TheVariants.{Sign}
 
 pub tree_is : (e : Expr) → tree_of e ≡ tree (out-Expr e).node (out-Expr e).place (trees_of (out-Expr e).args.items)
 tree_is = fold_out-Expr Tree tree_step
@@ -50,3 +51,16 @@ unfolding digits_in
 digits_of_more [] many = refl
 digits_of_more (y ∷ []) many = absurd (omega arith)
 digits_of_more (y ∷ z ∷ es) many = refl
+
+abbrev nothing : Option (List ℕ)
+nothing = None
+
+sign_same : (b : Bool) → cond b nothing nothing ≡ nothing
+sign_same true = refl
+sign_same false = refl
+
+pub sign_none : (e : Expr) (g : List ℕ) → (out-Expr e).node ≡ Sign g → digits_in (trees_of (out-Expr e).args.items) ≡ None → digits_of (tree_of e) ≡ None
+sign_none e g is none = digits_is e ∙ ap (λ n. signed_digits n (digits_in (trees_of (out-Expr e).args.items))) is ∙ ap (λ d. cond (is_signed g) d None) none ∙ sign_same (is_signed g)
+
+pub sign_one : (e : Expr) (g : List ℕ) (x : Expr) → (out-Expr e).node ≡ Sign g → is_signed g ≡ true → digits_in (trees_of (out-Expr e).args.items) ≡ digits_of (tree_of x) → digits_of (tree_of e) ≡ digits_of (tree_of x)
+sign_one e g x is signed one = digits_is e ∙ ap (λ n. signed_digits n (digits_in (trees_of (out-Expr e).args.items))) is ∙ ap (λ b. cond b (digits_in (trees_of (out-Expr e).args.items)) None) signed ∙ one

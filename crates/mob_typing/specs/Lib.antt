@@ -2,5 +2,6 @@ pub mod Answers
 pub mod Expressions
 pub mod Names
 pub mod Scopes
+pub mod Selects
 pub mod Trees
 pub mod Words
