@@ -57,11 +57,11 @@ module _ (s : ScopeParts) (e : Expr) (cs : List ConstText) (xs : List Expr) (is 
     operand_fails f x rest ts es so_far wrong =
         let on : List TypedTree × List ConstText → Result (TypedTree × List ConstText) Wrong = last in
         fails_along f _ (typed_expression s (tree_of e) cs) (behind ∙ ap (λ a. a >>= on) (so_far ∙ operand_more s x rest ts es))
-          (fails_bind f (typed_expression s (tree_of x) es >>= λ r. typed_operands s (trees_of rest) (ts ++ r.0 ∷ []) r.1) on (fails_bind f (typed_expression s (tree_of x) es) (λ r. typed_operands s (trees_of rest) (ts ++ r.0 ∷ []) r.1) wrong))
+        (fails_bind f (typed_expression s (tree_of x) es >>= λ r. typed_operands s (trees_of rest) (ts ++ r.0 ∷ []) r.1) on (fails_bind f (typed_expression s (tree_of x) es) (λ r. typed_operands s (trees_of rest) (ts ++ r.0 ∷ []) r.1) wrong))
 
     pub all_typed : (r : Result TExpr Fault) (ts : List TypedTree) (es : List ConstText)
         → typed_operands s (trees_of xs) [] ds ≡ typed_operands s no_trees ts es → Answers typed_of r (finished node place (trees_of xs) ts) → Gives typed_of r es (typed_expression s (tree_of e) cs)
     all_typed (Ok t) ts es so_far h = behind ∙ ap (λ a. a >>= last) (so_far ∙ operands_done s ts es) ∙ ap (λ a. a >>= λ t. Ok (t, es)) h
     all_typed (Err f) ts es so_far h =
         fails_along f (finished node place (trees_of xs) ts >>= λ t. Ok (t, es)) (typed_expression s (tree_of e) cs) (behind ∙ ap (λ a. a >>= last) (so_far ∙ operands_done s ts es))
-          (fails_bind f (finished node place (trees_of xs) ts) (λ t. Ok (t, es)) h)
+        (fails_bind f (finished node place (trees_of xs) ts) (λ t. Ok (t, es)) h)

@@ -5,9 +5,13 @@ mod columns;
 mod constants;
 mod expression;
 mod fault;
+mod from;
+mod keys;
 mod names;
 mod operators;
+mod outputs;
 mod scope;
+mod select;
 pub mod typed;
 mod words;
 

@@ -14,9 +14,9 @@ use mob_ast::{Expr, Kind, Node, SqlType, TypeWord};
 use mob_operators::{Form, Op, is_function, is_irrational, operator_for};
 use std::alloc::{AllocError, Global};
 
-// The type of a typed expression.
+/// The type of a typed expression.
 #[tactic(auto, using(crate::proofs::TreeFacts::typed_is))]
-fn type_of(e: &TExpr) -> SqlType
+pub fn type_of(e: &TExpr) -> SqlType
     ensures { result ≡ type_of (typed_of e.now) }
 {
     e.ty

@@ -4,9 +4,10 @@ ghost use Rattle.mob_typing.specs.Answers.{Answers};
 
 use crate::fault::Fault;
 use crate::names::Columns;
-use mob_ast::{Kind, SqlType, Word};
+use mob_ast::SqlType;
 
 /// A table of FROM under the name that it goes by there.
+#[derive(Clone, Copy)]
 pub struct Source<'a> {
     /// The name.
     pub name: &'a str,

@@ -32,9 +32,11 @@ returns-in_err-typed t c =
     let here : drop c.loop-operand.operand-index xs ≡ x ∷ rest = drop_more xs c.loop-operand.operand-index x (omega arith) ∙ ap (λ y. y ∷ rest) (sym c.operand-item.is) in
     let back : xs ≡ c.deref.result.now = c.deref-operand-items.ensures.value ∙ sym c.deref.ensures.value in
     let ts = map typed_of c.loop-operand.args.items in
-    record { typed = rw (p.1, p.2) (operand_fails s e cs xs c.deref-operand-items.ensures.value c.in_ok-done.field-0 c.early.new.consts
-      (ap (λ ys. early s (out-Expr e).node (out-Expr e).place (trees_of ys) cs) back ∙ c.in_ok-done.ensures.settled) c.in_default.is c.in_err-typed.field-0.0 x rest ts c.loop-operand.consts
-      (c.loop-operand.invariant ∙ ap (λ ys. typed_operands s (trees_of ys) ts c.loop-operand.consts) here) c.in_err-typed.ensures.typed) }
+    record {
+      typed = rw (p.1, p.2) (operand_fails s e cs xs c.deref-operand-items.ensures.value c.in_ok-done.field-0 c.early.new.consts
+          (ap (λ ys. early s (out-Expr e).node (out-Expr e).place (trees_of ys) cs) back ∙ c.in_ok-done.ensures.settled) c.in_default.is c.in_err-typed.field-0.0 x rest ts c.loop-operand.consts
+          (c.loop-operand.invariant ∙ ap (λ ys. typed_operands s (trees_of ys) ts c.loop-operand.consts) here) c.in_err-typed.ensures.typed);
+    }
 
 pub loop-operand-preserved : goal.loop-operand-preserved
 loop-operand-preserved t c =
@@ -59,7 +61,9 @@ returns t c =
     let back : xs ≡ c.deref.result.now = c.deref-operand-items.ensures.value ∙ sym c.deref.ensures.value in
     let ts = map typed_of c.loop-operand.args.items in
     let P : List Expr → Type 0 = λ ys. Answers typed_of c.finished.result (finished (out-Expr e).node (out-Expr e).place (trees_of ys) ts) in
-    record { typed = all_typed s e cs xs c.deref-operand-items.ensures.value c.in_ok-done.field-0 c.early.new.consts
-      (ap (λ ys. early s (out-Expr e).node (out-Expr e).place (trees_of ys) cs) back ∙ c.in_ok-done.ensures.settled) c.in_default.is c.finished.result ts c.loop-operand.consts
-      (c.loop-operand.invariant ∙ ap (λ ys. typed_operands s (trees_of ys) ts c.loop-operand.consts) gone)
-      (subst P (c.deref-2.ensures.value ∙ sym c.deref-operand-items.ensures.value) c.finished.ensures.typed) }
+    record {
+      typed = all_typed s e cs xs c.deref-operand-items.ensures.value c.in_ok-done.field-0 c.early.new.consts
+          (ap (λ ys. early s (out-Expr e).node (out-Expr e).place (trees_of ys) cs) back ∙ c.in_ok-done.ensures.settled) c.in_default.is c.finished.result ts c.loop-operand.consts
+          (c.loop-operand.invariant ∙ ap (λ ys. typed_operands s (trees_of ys) ts c.loop-operand.consts) gone)
+          (subst P (c.deref-2.ensures.value ∙ sym c.deref-operand-items.ensures.value) c.finished.ensures.typed);
+    }
