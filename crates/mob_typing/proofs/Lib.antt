@@ -1,5 +1,6 @@
 pub mod Entries
 pub mod ExpressionSteps
+pub mod Limits
 pub mod Matches
 pub mod TreeFacts
 pub mod Wrongs

@@ -85,13 +85,17 @@ abbrev pub with_items : ScopeParts → OutputLists → List ItemParts → Step O
 with_items s o [] cs = Ok (o, cs)
 with_items s o (i ∷ is) cs = with_item s o i cs >>= λ r. with_items s r.0 is r.1
 
--- a condition is a bool
+-- the place of an expression as a whole
 abbrev pub place_of : Tree → ℕ
 place_of (tree n p args) = p
 
+abbrev pub is_bool : SqlType → Bool
+is_bool ty = has (sql.Bool ∷ []) ty
+
+-- a condition is a bool
 abbrev pub condition : ScopeParts → Option Tree → Step (Option TypedTree)
 condition s None cs = Ok (None, cs)
-condition s (Some t) cs = typed_expression s t cs >>= λ r. unless (not (has (sql.Bool ∷ []) (type_of r.0))) kind.NoSuchOperator (place_of t) >>= λ _. Ok (Some r.0, r.1)
+condition s (Some t) cs = typed_expression s t cs >>= λ r. unless (not (is_bool (type_of r.0))) kind.NoSuchOperator (place_of t) >>= λ _. Ok (Some r.0, r.1)
 
 -- a key that is one bare word means the first column of the answer that has this name behind AS
 abbrev pub aliased_node : OutputLists → Node → Option TypedTree
@@ -105,12 +109,13 @@ abbrev pub or_typed : ScopeParts → Tree → Option TypedTree → Step TypedTre
 or_typed s t None cs = typed_expression s t cs
 or_typed s t (Some x) cs = Ok (x, cs)
 
-abbrev pub key_types : List SqlType
-key_types = sql.Bool ∷ sql.Int ∷ sql.Numeric ∷ sql.Text ∷ sql.Moment ∷ []
+-- a key is of one of these types
+abbrev pub is_key : SqlType → Bool
+is_key ty = has (sql.Bool ∷ sql.Int ∷ sql.Numeric ∷ sql.Text ∷ sql.Moment ∷ []) ty
 
 -- a key is typed first and then judged
 abbrev pub typed_key : ScopeParts → OutputLists → KeyParts → Step (TypedTree × Bool)
-typed_key s o k cs = or_typed s k.value (aliased o k.value) cs >>= λ r. unless (not (has key_types (type_of r.0))) kind.NoSuchOperator (place_of k.value) >>= λ _. Ok ((r.0, k.descending), r.1)
+typed_key s o k cs = or_typed s k.value (aliased o k.value) cs >>= λ r. unless (not (is_key (type_of r.0))) kind.NoSuchOperator (place_of k.value) >>= λ _. Ok ((r.0, k.descending), r.1)
 
 -- the keys in order, behind those that are typed already
 abbrev pub typed_keys : ScopeParts → OutputLists → List (TypedTree × Bool) → List KeyParts → Step (List (TypedTree × Bool))

@@ -1,5 +1,5 @@
 //! The tables, columns and indexes that a script has made so far, by name and by number.
-ghost use Rattle.std.specs.Prelude.{◌≡◌, ◌∷◌, ◌++◌, [], None, false, length, OnOk, is_some, option_map, slice_get};
+ghost use Rattle.std.specs.Prelude.{◌≡◌, ◌<◌, Some, ◌∷◌, ◌++◌, [], None, false, length, OnOk, is_some, option_map, slice_get};
 ghost use Rattle.mob_typing.specs.Names.{column_of, table_of, has_name};
 
 use indexmap::{IndexMap, IndexSet};
@@ -48,11 +48,14 @@ impl Columns {
     }
 
     /// The name and the type of the column of this number.
-    pub fn at(&self, index: usize) -> Option<(&str, SqlType)>
-        ensures stored { option_map (λ c. (c.0.now, c.1)) result ≡ slice_get self.now index }
+    pub fn at(&self, index: usize) -> (&str, SqlType)
+        requires { index < length self.now }
+        ensures stored { slice_get self.now index ≡ Some (result.0.now, result.1) }
     {
-        let (name, ty) = self.types.get_index(index)?;
-        Some((name.as_str(), *ty))
+        let Some((name, ty)) = self.types.get_index(index) else {
+            unreachable!()
+        };
+        (name.as_str(), *ty)
     }
 
     /// Adds a column of a new name behind the others.

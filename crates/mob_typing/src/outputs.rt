@@ -1,9 +1,9 @@
 //! The columns of the answer: the select list.
-ghost use Rattle.std.specs.Prelude.{◌≡◌, ◌+◌, ◌++◌, map, codes, decimal, IfOk, OnOk, Ok};
+ghost use Rattle.std.specs.Prelude.{◌≡◌, ◌+◌, ◌++◌, ◌∷◌, [], map, codes, decimal, IfOk, OnOk, Ok};
 ghost use Rattle.mob_ast.specs.Trees.{tree_of, item_of, one};
 ghost use Rattle.mob_typing.specs.Answers.{Answers, Gives};
 ghost use Rattle.mob_typing.specs.Scopes.{sources_of, scope_of};
-ghost use Rattle.mob_typing.specs.Trees.{typed_of};
+ghost use Rattle.mob_typing.specs.Trees.{typed, typed_of, none};
 ghost use Rattle.mob_typing.specs.Selects.{columns_of_table, all_outputs, own_name, tree_name, output_name, with_alias, with_item, with_items, output_of, outputs_seen, no_outputs};
 
 use crate::constants::leaf;
@@ -12,7 +12,7 @@ use crate::fault::Fault;
 use crate::names::Columns;
 use crate::scope::{Scope, Source, number};
 use crate::typed::{ConstText, TExpr};
-use mob_ast::{Expr, Item, Kind, Node, Word};
+use mob_ast::{Expr, Item, Kind, Node, SqlType, Word};
 use mob_list::items::Items;
 use mob_list::text::Text;
 use mob_operators::Op;
@@ -27,6 +27,22 @@ pub struct Outputs<'a> {
     pub aliases: Vec<(&'a str, usize)>,
 }
 
+// Adds a column of a table of FROM.
+fn push_column(
+    alloc: Global,
+    columns: &mut Vec<(TExpr, Text)>,
+    op: Op,
+    ty: SqlType,
+    name: &str,
+    place: u32,
+) -> Result<(), Fault>
+    ensures { Answers (λ _. map output_of columns.new.items) result (Ok (map output_of columns.old.items ++ (typed op ty place none, name.now) ∷ [])) }
+{
+    let name = Text::from_string(String::from_str(alloc, name)?);
+    columns.push((leaf(alloc, op, ty, place), name))?;
+    Ok(())
+}
+
 // Adds the columns of a table of FROM.
 fn push_columns(
     alloc: Global,
@@ -38,14 +54,9 @@ fn push_columns(
     ensures { Answers (λ _. map output_of columns.new.items) result (Ok (map output_of columns.old.items ++ columns_of_table from 0 source.now place)) }
 {
     for index in 0..source.len() {
-        if let Some((name, ty)) = source.at(index) {
-            let name = Text::from_string(String::from_str(alloc, name)?);
-            let op = Op::Column {
-                from,
-                column: number(index)?,
-            };
-            columns.push((leaf(alloc, op, ty, place), name))?;
-        }
+        let (name, ty) = source.at(index);
+        let column = number(index)?;
+        push_column(alloc, columns, Op::Column { from, column }, ty, name, place)?;
     }
     Ok(())
 }

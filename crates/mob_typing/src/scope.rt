@@ -18,6 +18,7 @@ pub struct Source<'a> {
 }
 
 /// What an expression sees: the tables of FROM, and the number of its statement.
+#[derive(Clone, Copy)]
 pub struct Scope<'a> {
     /// The tables of FROM.
     pub from: &'a [Source<'a>],
