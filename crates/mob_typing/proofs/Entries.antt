@@ -1,6 +1,6 @@
 -- Names in a map: where the first of a name stands, and that a new name goes last.
 use Rattle.std.proofs.Common.{◌≡◌, ◌∙◌, sym, ap, refl, ℕ, ◌+◌, List, [], ◌∷◌, ◌++◌, map, Bool, true, false, cond, ◌||◌, Option, Some, None, String, Global, position}
-use Rattle.std.specs.Prelude.{string_bytes}
+use Rattle.std.specs.Prelude.{string_bytes, is_some}
 use Rattle.std.specs.List.{position_from, list_any}
 use Rattle.std.specs.Str.{bytes_eq}
 use Rattle.std.specs.String.{string_eq}
@@ -8,7 +8,7 @@ use Rattle.std.specs.Map.{keys_of, lookup}
 use Rattle.std.proofs.lemmas.Iterator.Adapters.{position_from-zero}
 use Rattle.indexmap.specs.IndexMap.{insert_entry}
 use Rattle.indexmap.specs.IndexSet.{insert_key}
-use Rattle.mob_typing.specs.Names.{entry_from}
+use Rattle.mob_typing.specs.Names.{entry_from, has_entry}
 
 abbrev is : List ℕ → String Global → Bool
 is name k = bytes_eq name (string_bytes k)
@@ -47,10 +47,14 @@ module _ {V : Type 0} where
   map_last k v [] = refl
   map_last k v (e ∷ es) = ap (λ xs. seen e ∷ xs) (map_last k v es)
 
+  none_there : (o : Option (ℕ × V)) → is_some o ≡ false → o ≡ None
+  none_there None h = refl
+  none_there (Some x) h = absurd (cc)
+
   -- a new name goes last
-  pub new_last : (name : List ℕ) (k : String Global) (v : V) (es fs : List (String Global × V)) (xs : List (List ℕ × V)) → xs ≡ map seen es → string_bytes k ≡ name → entry_from 0 xs name ≡ None → fs ≡ insert_entry string_eq es k v → map seen fs ≡ xs ++ (name, v) ∷ []
+  pub new_last : (name : List ℕ) (k : String Global) (v : V) (es fs : List (String Global × V)) (xs : List (List ℕ × V)) → xs ≡ map seen es → string_bytes k ≡ name → has_entry xs name ≡ false → fs ≡ insert_entry string_eq es k v → map seen fs ≡ xs ++ (name, v) ∷ []
   new_last name k v es fs xs view is_name absent inserted =
-      ap (map seen) (inserted ∙ new_last_from 0 k v es (ap (λ n. entry_from 0 (map seen es) n) is_name ∙ ap (λ ys. entry_from 0 ys name) (sym view) ∙ absent)) ∙ map_last k v es
+      ap (map seen) (inserted ∙ new_last_from 0 k v es (ap (λ n. entry_from 0 (map seen es) n) is_name ∙ ap (λ ys. entry_from 0 ys name) (sym view) ∙ none_there (entry_from 0 xs name) absent)) ∙ map_last k v es
       ∙ ap (λ n. map seen es ++ (n, v) ∷ []) is_name ∙ ap (λ ys. ys ++ (name, v) ∷ []) (sym view)
 
 pub any_bytes : (name : List ℕ) (ks : List (String Global)) (xs : List (List ℕ)) → xs ≡ map string_bytes ks → list_any (λ k. bytes_eq name (string_bytes k)) ks ≡ list_any (λ n. bytes_eq name n) xs

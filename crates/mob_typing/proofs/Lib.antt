@@ -2,5 +2,6 @@ pub mod Entries
 pub mod ExpressionSteps
 pub mod Limits
 pub mod Matches
+pub mod RowSteps
 pub mod TreeFacts
 pub mod Wrongs

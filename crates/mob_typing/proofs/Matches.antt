@@ -40,3 +40,8 @@ column_pushed from k j columns name ty p before after h number pushed =
     let rest = columns_of_table from (k + 1) (drop (k + 1) columns) p in
     ap (λ ys. before ++ ys) (column_more from k columns name ty p h) ∙ sym (append_assoc before ((typed (Column from k) ty p none, name) ∷ []) rest)
     ∙ ap (λ ys. ys ++ rest) (ap (λ i. before ++ (typed (Column from i) ty p none, name) ∷ []) (ok_same k j number) ∙ ok_same (before ++ (typed (Column from j) ty p none, name) ∷ []) after pushed)
+
+-- one item more of a list
+pub list_more : {A : Type 0} (xs : List A) (k : ℕ) (x : A) (before after : List A) → slice_get xs k ≡ Some x → after ≡ before ++ x ∷ [] → before ++ drop k xs ≡ after ++ drop (k + 1) xs
+list_more xs k x before after h pushed =
+    ap (λ ys. before ++ ys) (drop_at xs k x h) ∙ sym (append_assoc before (x ∷ []) (drop (k + 1) xs)) ∙ ap (λ ys. ys ++ drop (k + 1) xs) (sym pushed)

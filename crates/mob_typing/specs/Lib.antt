@@ -3,5 +3,6 @@ pub mod Expressions
 pub mod Names
 pub mod Scopes
 pub mod Selects
+pub mod Statements
 pub mod Trees
 pub mod Words

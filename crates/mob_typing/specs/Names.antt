@@ -1,5 +1,5 @@
 -- The tables, columns and indexes that a script has made, as lists.
-use Rattle.std.specs.Prelude.{◌+◌, ℕ, List, [], ◌∷◌, Bool, Option, Some, None, if◌then◌else◌}
+use Rattle.std.specs.Prelude.{◌+◌, ℕ, List, [], ◌∷◌, Bool, Option, Some, None, is_some, if◌then◌else◌}
 use Rattle.std.specs.List.{list_any}
 use Rattle.std.specs.Str.{bytes_eq}
 use Rattle.mob_ast.specs.declared.types.SqlType.{SqlType}
@@ -17,6 +17,10 @@ pub record NameLists : Type 0 where
 abbrev pub entry_from : {A : Type 0} → ℕ → List (List ℕ × A) → List ℕ → Option (ℕ × A)
 entry_from n [] name = None
 entry_from n (e ∷ es) name = if bytes_eq name e.0 then Some (n, e.1) else entry_from (n + 1) es name
+
+-- whether an entry has this name
+abbrev pub has_entry : {A : Type 0} → List (List ℕ × A) → List ℕ → Bool
+has_entry es name = is_some (entry_from 0 es name)
 
 -- the number and the type of the column of this name
 abbrev pub column_of : ColumnList → List ℕ → Option (ℕ × SqlType)

@@ -17,13 +17,10 @@ use Rattle.mob_typing.specs.declared.typed.TExpr.{TExpr}
 use Rattle.mob_typing.specs.declared.typed.TypedSelect.{TypedSelect}
 use Rattle.mob_typing.specs.declared.outputs.Outputs.{Outputs}
 use Rattle.mob_typing.specs.Answers.{Wrong, refuse, ◌>>=◌, unless, found, Step}
-use Rattle.mob_typing.specs.Names.{ColumnList, table_of, entry_from}
+use Rattle.mob_typing.specs.Names.{ColumnList, table_of, entry_from, has_entry}
 use Rattle.mob_typing.specs.Scopes.{SourceParts, ScopeParts}
 use Rattle.mob_typing.specs.Trees.{TypedTree, typed, none, type_of, typed_of}
 use Rattle.mob_typing.specs.Expressions.{typed_expression}
-
-abbrev pub has_entry : {A : Type 0} → List (List ℕ × A) → List ℕ → Bool
-has_entry es name = is_some (entry_from 0 es name)
 
 -- The name that a table goes by in FROM. There are at most four tables, and no two go by one name. What stands at an
 -- earlier place comes first, and at one place a name that is there already comes before the limit.

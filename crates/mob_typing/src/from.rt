@@ -2,7 +2,8 @@
 ghost use Rattle.std.specs.Prelude.{◌≡◌, ◌++◌, ◌∷◌, [], map, IfOk};
 ghost use Rattle.mob_typing.specs.Answers.{Answers};
 ghost use Rattle.mob_typing.specs.Scopes.{source_of, sources_of};
-ghost use Rattle.mob_typing.specs.Selects.{has_entry, from_name, from_table, from_tables};
+ghost use Rattle.mob_typing.specs.Names.{has_entry};
+ghost use Rattle.mob_typing.specs.Selects.{from_name, from_table, from_tables};
 
 use crate::columns::source_named;
 use crate::fault::Fault;

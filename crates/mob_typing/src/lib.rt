@@ -10,10 +10,14 @@ mod keys;
 mod names;
 mod operators;
 mod outputs;
+mod rows;
 mod scope;
+mod script;
 mod select;
+mod tables;
 pub mod typed;
 mod words;
 
 pub use mob_operators::Op;
+pub use script::type_script;
 pub use typed::{ConstText, TExpr, Typed, TypedSelect, TypedStatement};

@@ -1,6 +1,6 @@
 //! The tables, columns and indexes that a script has made so far, by name and by number.
 ghost use Rattle.std.specs.Prelude.{◌≡◌, ◌<◌, Some, ◌∷◌, ◌++◌, [], None, false, length, OnOk, is_some, option_map, slice_get};
-ghost use Rattle.mob_typing.specs.Names.{column_of, table_of, has_name};
+ghost use Rattle.mob_typing.specs.Names.{column_of, table_of, has_name, has_entry};
 
 use indexmap::{IndexMap, IndexSet};
 use mob_ast::SqlType;
@@ -47,6 +47,13 @@ impl Columns {
         Some((index, *ty))
     }
 
+    /// Whether there is a column of this name.
+    pub fn has(&self, name: &str) -> bool
+        ensures known { result ≡ has_entry self.now name.now }
+    {
+        self.find(name).is_some()
+    }
+
     /// The name and the type of the column of this number.
     pub fn at(&self, index: usize) -> (&str, SqlType)
         requires { index < length self.now }
@@ -60,7 +67,7 @@ impl Columns {
 
     /// Adds a column of a new name behind the others.
     pub fn add(&mut self, alloc: Global, name: &str, ty: SqlType) -> Result<(), AllocError>
-        requires { column_of self.old name.now ≡ None }
+        requires { has_entry self.old name.now ≡ false }
         ensures last { OnOk result (self.new ≡ self.old ++ (name.now, ty) ∷ []) }
     {
         self.types.insert(String::from_str(alloc, name)?, ty)?;
@@ -111,6 +118,13 @@ impl Names {
         Some((index, columns))
     }
 
+    /// Whether there is a table of this name.
+    pub fn has(&self, name: &str) -> bool
+        ensures known { result ≡ has_entry self.now.tables name.now }
+    {
+        self.find(name).is_some()
+    }
+
     /// Whether there is an index of this name.
     pub fn has_index(&self, name: &str) -> bool
         ensures known { result ≡ has_name self.now.indexes name.now }
@@ -125,7 +139,7 @@ impl Names {
         name: &str,
         columns: Columns,
     ) -> Result<(), AllocError>
-        requires { table_of self.old.tables name.now ≡ None }
+        requires { has_entry self.old.tables name.now ≡ false }
         ensures last { OnOk result (self.new.tables ≡ self.old.tables ++ (name.now, columns) ∷ []) }
         ensures same_indexes { OnOk result (self.new.indexes ≡ self.old.indexes) }
     {

@@ -33,8 +33,9 @@ fn types_of(alloc: Global, args: &[TExpr]) -> Result<Vec<SqlType>, AllocError>
     Ok(types)
 }
 
-fn is_signed(sign: &str) -> bool
-    ensures { result ≡ is_signed sign.now }
+/// Whether a sign is `-` or `+`.
+pub fn is_signed(sign: &str) -> bool
+    ensures sign { result ≡ is_signed sign.now }
 {
     sign == "-" || sign == "+"
 }
