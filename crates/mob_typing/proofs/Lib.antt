@@ -1,4 +1,5 @@
 pub mod Entries
+pub mod Examples
 pub mod ExpressionSteps
 pub mod Limits
 pub mod Matches
