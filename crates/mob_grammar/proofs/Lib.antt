@@ -1,0 +1,5 @@
+pub mod Laws
+pub mod Lawful
+pub mod Marks
+pub mod Ranks
+pub mod Steps

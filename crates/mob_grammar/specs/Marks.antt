@@ -1,0 +1,332 @@
+-- The reserved words and the signs: their texts, and how tight a sign binds.
+use Rattle.std.specs.Prelude.{◌==◌, ℕ, List, Bool, codes}
+use Rattle.mob_grammar.specs.declared.mark.Mark.{Mark}
+use Rattle.mob_grammar.specs.declared.mark.Mark.TheVariants.{Select, Distinct, From, Where, Order, By, Asc, Desc, Limit, Create, Table, Index, On, Using, Gist, Insert, Into, Values, Copy, With, Format, Csv, Header, Delimiter, Explain, And, Or, Not, Is, Null, True, False, As, Left, Join, Delete, Group, LiftedEqual, LiftedNotEqual, LiftedLess, LiftedLessEqual, LiftedGreater, LiftedGreaterEqual, EverEqual, EverNotEqual, EverLess, EverLessEqual, EverGreater, EverGreaterEqual, AlwaysEqual, AlwaysNotEqual, AlwaysLess, AlwaysLessEqual, AlwaysGreater, AlwaysGreaterEqual, Equal, NotEqual, Less, LessEqual, Greater, GreaterEqual, Distance, Approach, Plus, Minus, Times, Divide, Ampersand, Bar, Tilde, Concat, Overlap, Cast, Open, Close, Comma, Semicolon, Dot}
+
+-- a number for each, by which two are told apart
+abbrev pub code : Mark → ℕ
+code Select = 0
+code Distinct = 1
+code From = 2
+code Where = 3
+code Order = 4
+code By = 5
+code Asc = 6
+code Desc = 7
+code Limit = 8
+code Create = 9
+code Table = 10
+code Index = 11
+code On = 12
+code Using = 13
+code Gist = 14
+code Insert = 15
+code Into = 16
+code Values = 17
+code Copy = 18
+code With = 19
+code Format = 20
+code Csv = 21
+code Header = 22
+code Delimiter = 23
+code Explain = 24
+code And = 25
+code Or = 26
+code Not = 27
+code Is = 28
+code Null = 29
+code True = 30
+code False = 31
+code As = 32
+code Left = 33
+code Join = 34
+code Delete = 35
+code Group = 36
+code LiftedEqual = 37
+code LiftedNotEqual = 38
+code LiftedLess = 39
+code LiftedLessEqual = 40
+code LiftedGreater = 41
+code LiftedGreaterEqual = 42
+code EverEqual = 43
+code EverNotEqual = 44
+code EverLess = 45
+code EverLessEqual = 46
+code EverGreater = 47
+code EverGreaterEqual = 48
+code AlwaysEqual = 49
+code AlwaysNotEqual = 50
+code AlwaysLess = 51
+code AlwaysLessEqual = 52
+code AlwaysGreater = 53
+code AlwaysGreaterEqual = 54
+code Equal = 55
+code NotEqual = 56
+code Less = 57
+code LessEqual = 58
+code Greater = 59
+code GreaterEqual = 60
+code Distance = 61
+code Approach = 62
+code Plus = 63
+code Minus = 64
+code Times = 65
+code Divide = 66
+code Ampersand = 67
+code Bar = 68
+code Tilde = 69
+code Concat = 70
+code Overlap = 71
+code Cast = 72
+code Open = 73
+code Close = 74
+code Comma = 75
+code Semicolon = 76
+code Dot = 77
+
+abbrev pub is : Mark → Mark → Bool
+is a b = code a == code b
+
+-- the text, in lower case
+abbrev pub text_of : Mark → List ℕ
+text_of Select = codes "select"
+text_of Distinct = codes "distinct"
+text_of From = codes "from"
+text_of Where = codes "where"
+text_of Order = codes "order"
+text_of By = codes "by"
+text_of Asc = codes "asc"
+text_of Desc = codes "desc"
+text_of Limit = codes "limit"
+text_of Create = codes "create"
+text_of Table = codes "table"
+text_of Index = codes "index"
+text_of On = codes "on"
+text_of Using = codes "using"
+text_of Gist = codes "gist"
+text_of Insert = codes "insert"
+text_of Into = codes "into"
+text_of Values = codes "values"
+text_of Copy = codes "copy"
+text_of With = codes "with"
+text_of Format = codes "format"
+text_of Csv = codes "csv"
+text_of Header = codes "header"
+text_of Delimiter = codes "delimiter"
+text_of Explain = codes "explain"
+text_of And = codes "and"
+text_of Or = codes "or"
+text_of Not = codes "not"
+text_of Is = codes "is"
+text_of Null = codes "null"
+text_of True = codes "true"
+text_of False = codes "false"
+text_of As = codes "as"
+text_of Left = codes "left"
+text_of Join = codes "join"
+text_of Delete = codes "delete"
+text_of Group = codes "group"
+text_of LiftedEqual = codes "#="
+text_of LiftedNotEqual = codes "#<>"
+text_of LiftedLess = codes "#<"
+text_of LiftedLessEqual = codes "#<="
+text_of LiftedGreater = codes "#>"
+text_of LiftedGreaterEqual = codes "#>="
+text_of EverEqual = codes "?="
+text_of EverNotEqual = codes "?<>"
+text_of EverLess = codes "?<"
+text_of EverLessEqual = codes "?<="
+text_of EverGreater = codes "?>"
+text_of EverGreaterEqual = codes "?>="
+text_of AlwaysEqual = codes "%="
+text_of AlwaysNotEqual = codes "%<>"
+text_of AlwaysLess = codes "%<"
+text_of AlwaysLessEqual = codes "%<="
+text_of AlwaysGreater = codes "%>"
+text_of AlwaysGreaterEqual = codes "%>="
+text_of Equal = codes "="
+text_of NotEqual = codes "<>"
+text_of Less = codes "<"
+text_of LessEqual = codes "<="
+text_of Greater = codes ">"
+text_of GreaterEqual = codes ">="
+text_of Distance = codes "<->"
+text_of Approach = codes "|=|"
+text_of Plus = codes "+"
+text_of Minus = codes "-"
+text_of Times = codes "*"
+text_of Divide = codes "/"
+text_of Ampersand = codes "&"
+text_of Bar = codes "|"
+text_of Tilde = codes "~"
+text_of Concat = codes "||"
+text_of Overlap = codes "&&"
+text_of Cast = codes "::"
+text_of Open = codes "("
+text_of Close = codes ")"
+text_of Comma = codes ","
+text_of Semicolon = codes ";"
+text_of Dot = codes "."
+
+-- How tight a sign binds to what stands before it, as the rank of the phrase that it goes on: 0 where it goes on none.
+-- The point and the opening bracket stand behind a name alone.
+abbrev pub strength : Mark → ℕ
+strength Select = 0
+strength Distinct = 0
+strength From = 0
+strength Where = 0
+strength Order = 0
+strength By = 0
+strength Asc = 0
+strength Desc = 0
+strength Limit = 0
+strength Create = 0
+strength Table = 0
+strength Index = 0
+strength On = 0
+strength Using = 0
+strength Gist = 0
+strength Insert = 0
+strength Into = 0
+strength Values = 0
+strength Copy = 0
+strength With = 0
+strength Format = 0
+strength Csv = 0
+strength Header = 0
+strength Delimiter = 0
+strength Explain = 0
+strength And = 2
+strength Or = 1
+strength Not = 0
+strength Is = 4
+strength Null = 0
+strength True = 0
+strength False = 0
+strength As = 0
+strength Left = 0
+strength Join = 0
+strength Delete = 0
+strength Group = 0
+strength LiftedEqual = 6
+strength LiftedNotEqual = 6
+strength LiftedLess = 6
+strength LiftedLessEqual = 6
+strength LiftedGreater = 6
+strength LiftedGreaterEqual = 6
+strength EverEqual = 6
+strength EverNotEqual = 6
+strength EverLess = 6
+strength EverLessEqual = 6
+strength EverGreater = 6
+strength EverGreaterEqual = 6
+strength AlwaysEqual = 6
+strength AlwaysNotEqual = 6
+strength AlwaysLess = 6
+strength AlwaysLessEqual = 6
+strength AlwaysGreater = 6
+strength AlwaysGreaterEqual = 6
+strength Equal = 5
+strength NotEqual = 5
+strength Less = 5
+strength LessEqual = 5
+strength Greater = 5
+strength GreaterEqual = 5
+strength Distance = 6
+strength Approach = 6
+strength Plus = 8
+strength Minus = 8
+strength Times = 9
+strength Divide = 9
+strength Ampersand = 6
+strength Bar = 6
+strength Tilde = 0
+strength Concat = 6
+strength Overlap = 6
+strength Cast = 11
+strength Open = 12
+strength Close = 0
+strength Comma = 0
+strength Semicolon = 0
+strength Dot = 12
+
+-- Which part of a SELECT a word begins, from FROM on; the `;` ends them all.
+abbrev pub clause : Mark → ℕ
+clause Select = 0
+clause Distinct = 0
+clause From = 1
+clause Where = 2
+clause Order = 3
+clause By = 0
+clause Asc = 0
+clause Desc = 0
+clause Limit = 4
+clause Create = 0
+clause Table = 0
+clause Index = 0
+clause On = 0
+clause Using = 0
+clause Gist = 0
+clause Insert = 0
+clause Into = 0
+clause Values = 0
+clause Copy = 0
+clause With = 0
+clause Format = 0
+clause Csv = 0
+clause Header = 0
+clause Delimiter = 0
+clause Explain = 0
+clause And = 0
+clause Or = 0
+clause Not = 0
+clause Is = 0
+clause Null = 0
+clause True = 0
+clause False = 0
+clause As = 0
+clause Left = 0
+clause Join = 0
+clause Delete = 0
+clause Group = 0
+clause LiftedEqual = 0
+clause LiftedNotEqual = 0
+clause LiftedLess = 0
+clause LiftedLessEqual = 0
+clause LiftedGreater = 0
+clause LiftedGreaterEqual = 0
+clause EverEqual = 0
+clause EverNotEqual = 0
+clause EverLess = 0
+clause EverLessEqual = 0
+clause EverGreater = 0
+clause EverGreaterEqual = 0
+clause AlwaysEqual = 0
+clause AlwaysNotEqual = 0
+clause AlwaysLess = 0
+clause AlwaysLessEqual = 0
+clause AlwaysGreater = 0
+clause AlwaysGreaterEqual = 0
+clause Equal = 0
+clause NotEqual = 0
+clause Less = 0
+clause LessEqual = 0
+clause Greater = 0
+clause GreaterEqual = 0
+clause Distance = 0
+clause Approach = 0
+clause Plus = 0
+clause Minus = 0
+clause Times = 0
+clause Divide = 0
+clause Ampersand = 0
+clause Bar = 0
+clause Tilde = 0
+clause Concat = 0
+clause Overlap = 0
+clause Cast = 0
+clause Open = 0
+clause Close = 0
+clause Comma = 0
+clause Semicolon = 5
+clause Dot = 0

@@ -1,0 +1,12 @@
+//! Literals of temporal values: what their texts mean, and how the values print.
+#![tactic(auto)]
+
+pub mod laws;
+pub mod printing;
+pub mod reading;
+pub mod sequence;
+pub mod steps;
+pub mod written;
+
+#[cfg(test)]
+mod tests;
