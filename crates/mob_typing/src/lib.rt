@@ -1,4 +1,5 @@
-//! Names and types of whole scripts.
+//! Names and types of whole scripts: each name becomes a number, each expression gets its operator and its type, and each
+//! constant its number in written order; or the first thing that is wrong is said, with its place.
 #![tactic(auto)]
 
 mod columns;
@@ -15,6 +16,8 @@ mod scope;
 mod script;
 mod select;
 mod tables;
+#[cfg(test)]
+mod tests;
 pub mod typed;
 mod words;
 
