@@ -5,10 +5,7 @@ use mob_ast::{Expr, Item, Kind, Node, Refusal, Script, SelectTree, Statement, Wo
 use mob_list::items::Items;
 use mob_list::text::Text;
 use std::alloc::{AllocError, Global};
-use std::marker::{Send, Sync};
 use std::test::Fail;
-
-fn crosses_threads<T: Send + Sync>(_value: &T) {}
 
 fn text(alloc: Global, characters: &str) -> Result<Text, AllocError> {
     Ok(Text::from_string(String::from_str(alloc, characters)?))
@@ -49,7 +46,6 @@ fn select_one(alloc: Global, value: Expr) -> Result<Script, AllocError> {
 fn a_script_is_typed(rt: HostRuntime) -> Result<(), Fail> {
     let script = select_one(rt.alloc(), number(rt.alloc(), "1.5", 7)?)?;
     let typed: Typed = type_script(rt.alloc(), script)?;
-    crosses_threads(&typed);
     assert_eq!(rt; typed.statements.len(), 1);
     assert_eq!(rt; typed.consts.len(), 1);
     Ok(())
