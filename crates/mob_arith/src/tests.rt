@@ -12,12 +12,11 @@ fn one<V: BaseValue + Drop>(
     alloc: Global,
     lower: i64,
     upper: i64,
-    upper_inc: bool,
     value: V,
 ) -> Option<Moving<Steady<V>>> {
     let from = Frac::new(lower, 1).ok()?;
     let to = Frac::new(upper, 1).ok()?;
-    let span = Span::new(from, to, true, upper_inc)?;
+    let span = Span::new(from, to, true, true)?;
     let mut slices = Vec::new(alloc);
     let slice = Slice {
         span,
@@ -29,86 +28,111 @@ fn one<V: BaseValue + Drop>(
     normal(alloc, slices).ok()?
 }
 
-// Whether a value has one slice, from one whole number to another, with that truth value.
-fn is_truth(value: &Moving<Steady<bool>>, lower: i64, upper: i64, truth: bool) -> Option<bool> {
-    let from = Frac::new(lower, 1).ok()?;
-    let to = Frac::new(upper, 1).ok()?;
-    let slice = value.slices().first()?;
-    Some(
-        value.slices().len() == 1
-            && slice.span.lower().is_same(&from)
-            && slice.span.upper().is_same(&to)
-            && slice.course.value == truth,
-    )
+// The number from instant 1 to instant 2.
+fn number(alloc: Global, value: i64) -> Option<Moving<Steady<Frac>>> {
+    one(alloc, 1, 2, Frac::new(value, 1).ok()?)
 }
 
-// Whether a value has one slice, with that number.
-fn is_number(value: &Moving<Steady<Frac>>, number: i64) -> Option<bool> {
-    let wanted = Frac::new(number, 1).ok()?;
-    let slice = value.slices().first()?;
-    Some(value.slices().len() == 1 && slice.course.value.is_same(&wanted))
+// The number of the first slice, as a whole number.
+fn first(value: &Moving<Steady<Frac>>) -> Option<i64> {
+    Some(value.slices().first()?.course.value.num())
+}
+
+fn sum(alloc: Global, x: i64, y: i64) -> Option<i64> {
+    let a = number(alloc, x)?;
+    let b = number(alloc, y)?;
+    first(&plus(alloc, Operand::Moving(&a), Operand::Moving(&b)).ok()??)
+}
+
+fn sum_with_a_constant(alloc: Global, x: i64, y: i64) -> Option<i64> {
+    let a = Frac::new(x, 1).ok()?;
+    let b = number(alloc, y)?;
+    first(&plus(alloc, Operand::Fixed(&a), Operand::Moving(&b)).ok()??)
+}
+
+fn difference(alloc: Global, x: i64, y: i64) -> Option<i64> {
+    let a = number(alloc, x)?;
+    let b = Frac::new(y, 1).ok()?;
+    first(&minus(alloc, Operand::Moving(&a), Operand::Fixed(&b)).ok()??)
+}
+
+fn multiple(alloc: Global, x: i64, y: i64) -> Option<i64> {
+    let a = number(alloc, x)?;
+    let b = Frac::new(y, 1).ok()?;
+    first(&times_const(alloc, &a, &b).ok()?)
+}
+
+fn product(alloc: Global, x: i64, y: i64) -> Option<i64> {
+    let a = number(alloc, x)?;
+    let b = number(alloc, y)?;
+    first(&times_step(alloc, &a, &b).ok()??)
+}
+
+// Whether the sum passes what a number holds.
+fn is_passed(alloc: Global, x: i64, y: i64) -> Option<bool> {
+    let a = number(alloc, x)?;
+    let b = number(alloc, y)?;
+    match plus(alloc, Operand::Moving(&a), Operand::Moving(&b)) {
+        Err(OpFault::Passed { formula }) => Some(formula == Formula::F2),
+        _ => None,
+    }
 }
 
 #[test]
 fn sums_of_numbers(rt: HostRuntime) -> Result<(), Fail> {
-    let alloc = rt.alloc();
-    let two = Frac::new(2, 1).ok().ok_or("fits")?;
-    let unit = Frac::new(1, 1).ok().ok_or("fits")?;
-    let largest = Frac::new(4611686018427387903, 1).ok().ok_or("fits")?;
-    let early = one(alloc, 1, 2, false, unit).ok_or("early")?;
-    let late = one(alloc, 2, 3, true, unit).ok_or("late")?;
-    let large = one(alloc, 1, 2, true, largest).ok_or("large")?;
-    let apart = plus(alloc, Operand::Moving(&early), Operand::Moving(&late))
-        .ok()
-        .ok_or("memory")?;
-    assert!(rt; apart.is_none());
-    let three = plus(alloc, Operand::Fixed(&two), Operand::Moving(&late))
-        .ok()
-        .ok_or("memory")?
-        .ok_or("some")?;
-    assert_eq!(rt; is_number(&three, 3), Some(true));
-    let less = minus(alloc, Operand::Moving(&large), Operand::Fixed(&unit))
-        .ok()
-        .ok_or("fits")?
-        .ok_or("some")?;
-    assert_eq!(rt; is_number(&less, 4611686018427387902), Some(true));
-    let passed = match plus(alloc, Operand::Moving(&large), Operand::Fixed(&unit)) {
-        Err(OpFault::Passed { formula }) => formula == Formula::F2,
-        _ => false,
-    };
-    assert!(rt; passed);
-    let six = times_const(alloc, &three, &two).ok().ok_or("memory")?;
-    assert_eq!(rt; is_number(&six, 6), Some(true));
-    let square = times_step(alloc, &three, &three)
-        .ok()
-        .ok_or("memory")?
-        .ok_or("some")?;
-    assert_eq!(rt; is_number(&square, 9), Some(true));
+    let largest = 4611686018427387903;
+    assert_eq!(rt; sum(rt.alloc(), 2, 3), Some(5));
+    assert_eq!(rt; sum_with_a_constant(rt.alloc(), 2, 3), Some(5));
+    assert_eq!(rt; difference(rt.alloc(), largest, 1), Some(4611686018427387902));
+    assert_eq!(rt; multiple(rt.alloc(), 3, -2), Some(-6));
+    assert_eq!(rt; product(rt.alloc(), 3, 4), Some(12));
+    assert_eq!(rt; is_passed(rt.alloc(), largest, 1), Some(true));
     Ok(())
+}
+
+// The truth value of the first slice, and where that slice ends.
+fn truth(value: &Moving<Steady<bool>>) -> Option<(bool, i64)> {
+    let slice = value.slices().first()?;
+    Some((slice.course.value, slice.span.upper().num()))
+}
+
+fn conjunction(alloc: Global, x: bool, y: bool) -> Option<(bool, i64)> {
+    let a = one(alloc, 1, 3, x)?;
+    let b = one(alloc, 2, 4, y)?;
+    truth(&and(alloc, Operand::Moving(&a), Operand::Moving(&b)).ok()??)
+}
+
+fn disjunction(alloc: Global, x: bool, y: bool) -> Option<(bool, i64)> {
+    let a = one(alloc, 1, 3, x)?;
+    let b = one(alloc, 2, 4, y)?;
+    truth(&or(alloc, Operand::Moving(&a), Operand::Moving(&b)).ok()??)
+}
+
+fn negation(alloc: Global, x: bool) -> Option<(bool, i64)> {
+    let a = one(alloc, 1, 3, x)?;
+    truth(&not(alloc, &a).ok()?)
 }
 
 #[test]
 fn logic_of_truth_values(rt: HostRuntime) -> Result<(), Fail> {
-    let alloc = rt.alloc();
-    let yes = one(alloc, 1, 3, true, true).ok_or("yes")?;
-    let no = one(alloc, 2, 4, true, false).ok_or("no")?;
-    let both = and(alloc, Operand::Moving(&yes), Operand::Moving(&no))?.ok_or("some")?;
-    assert_eq!(rt; is_truth(&both, 2, 3, false), Some(true));
-    let either = or(alloc, Operand::Moving(&yes), Operand::Moving(&no))?.ok_or("some")?;
-    assert_eq!(rt; is_truth(&either, 2, 3, true), Some(true));
-    let other = not(alloc, &yes)?;
-    assert_eq!(rt; is_truth(&other, 1, 3, false), Some(true));
+    assert_eq!(rt; conjunction(rt.alloc(), true, false), Some((false, 3)));
+    assert_eq!(rt; disjunction(rt.alloc(), true, false), Some((true, 3)));
+    assert_eq!(rt; negation(rt.alloc(), true), Some((false, 3)));
     Ok(())
+}
+
+// Whether a text joined to a mark is that text.
+fn is_joined(alloc: Global, text: &str, mark: &str, wanted: &str) -> Option<bool> {
+    let text = Text::from_string(String::from_str(alloc, text).ok()?);
+    let mark = Text::from_string(String::from_str(alloc, mark).ok()?);
+    let value = one(alloc, 1, 2, text)?;
+    let joined = join_text(alloc, Operand::Moving(&value), Operand::Fixed(&mark)).ok()??;
+    let slice = joined.slices().first()?;
+    Some(slice.course.value.as_str() == wanted)
 }
 
 #[test]
 fn joined_texts(rt: HostRuntime) -> Result<(), Fail> {
-    let alloc = rt.alloc();
-    let front = Text::from_string(String::from_str(alloc, "b\"")?);
-    let mark = Text::from_string(String::from_str(alloc, "!")?);
-    let value = one(alloc, 1, 2, true, front).ok_or("value")?;
-    let joined = join_text(alloc, Operand::Moving(&value), Operand::Fixed(&mark))?.ok_or("some")?;
-    let slice = joined.slices().first().ok_or("a slice")?;
-    assert_eq!(rt; slice.course.value.as_str(), "b\"!");
+    assert_eq!(rt; is_joined(rt.alloc(), "b\"", "!", "b\"!"), Some(true));
     Ok(())
 }

@@ -83,20 +83,39 @@ mod tests {
         Some(Moving::from_normal(slices))
     }
 
+    // Whether two values have one common piece, with these ends.
+    fn is_shared(
+        a: &Moving<Steady<bool>>,
+        b: &Moving<Steady<bool>>,
+        ends: (i64, i64),
+    ) -> Option<bool> {
+        let low = Frac::new(ends.0, 1).ok()?;
+        let high = Frac::new(ends.1, 1).ok()?;
+        let mut walk = Common::new(a, b);
+        let Some(pair) = walk.next() else {
+            return None;
+        };
+        let meets = pair.span.lower().is_same(&low) && pair.span.upper().is_same(&high);
+        Some(meets && walk.next().is_none())
+    }
+
+    // Whether a value has one piece, up to this number.
+    fn is_single(a: &Moving<Steady<bool>>, upper: i64) -> Option<bool> {
+        let high = Frac::new(upper, 1).ok()?;
+        let mut walk = Ones::new(a);
+        let Some(piece) = walk.next() else {
+            return None;
+        };
+        let ends = piece.span.upper().is_same(&high);
+        Some(ends && walk.next().is_none())
+    }
+
     #[test]
     fn two_values_share_the_meet_of_their_slices(rt: HostRuntime) -> Result<(), Fail> {
         let a = one(rt.alloc(), 0, 2).ok_or("a")?;
         let b = one(rt.alloc(), 1, 3).ok_or("b")?;
-        let mut walk = Common::new(&a, &b);
-        let pair = walk.next().ok_or("a common piece")?;
-        let low = Frac::new(1, 1).ok().ok_or("fits")?;
-        let high = Frac::new(2, 1).ok().ok_or("fits")?;
-        assert!(rt; pair.span.lower().is_same(&low) && pair.span.upper().is_same(&high));
-        assert!(rt; walk.next().is_none());
-        let mut pieces = Ones::new(&a);
-        let piece = pieces.next().ok_or("a piece")?;
-        assert!(rt; piece.span.upper().is_same(&high));
-        assert!(rt; pieces.next().is_none());
+        assert_eq!(rt; is_shared(&a, &b, (1, 2)), Some(true));
+        assert_eq!(rt; is_single(&a, 2), Some(true));
         Ok(())
     }
 }
