@@ -83,7 +83,10 @@ fn sums_of_numbers(rt: HostRuntime) -> Result<(), Fail> {
     let largest = 4611686018427387903;
     assert_eq!(rt; sum(rt.alloc(), 2, 3), Some(5));
     assert_eq!(rt; sum_with_a_constant(rt.alloc(), 2, 3), Some(5));
-    assert_eq!(rt; difference(rt.alloc(), largest, 1), Some(4611686018427387902));
+    assert_eq!(rt;
+        difference(rt.alloc(), largest, 1),
+        Some(4611686018427387902)
+    );
     assert_eq!(rt; multiple(rt.alloc(), 3, -2), Some(-6));
     assert_eq!(rt; product(rt.alloc(), 3, 4), Some(12));
     assert_eq!(rt; is_passed(rt.alloc(), largest, 1), Some(true));
