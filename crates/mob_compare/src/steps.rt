@@ -149,54 +149,54 @@ mod tests {
         normal(alloc, slices).ok()?
     }
 
+    // The number from instant 1 to instant 2.
+    fn number(alloc: Global, value: i64) -> Option<Moving<Steady<Frac>>> {
+        one(alloc, 1, 2, Frac::new(value, 1).ok()?)
+    }
+
     // The truth value of the first slice.
-    fn truth(value: Option<Moving<Steady<bool>>>) -> Option<bool> {
-        let value = value?;
-        let slice = value.slices().first()?;
-        Some(slice.course.value)
+    fn first(value: &Moving<Steady<bool>>) -> Option<bool> {
+        Some(value.slices().first()?.course.value)
+    }
+
+    // The comparison of two temporal numbers.
+    fn numbers(alloc: Global, x: i64, rel: Rel, y: i64) -> Option<bool> {
+        let a = number(alloc, x)?;
+        let b = number(alloc, y)?;
+        first(&compare(alloc, Operand::Moving(&a), Operand::Moving(&b), rel).ok()??)
+    }
+
+    // The comparison of a number with a temporal number.
+    fn constant(alloc: Global, x: i64, rel: Rel, y: i64) -> Option<bool> {
+        let a = Frac::new(x, 1).ok()?;
+        let b = number(alloc, y)?;
+        first(&compare(alloc, Operand::Fixed(&a), Operand::Moving(&b), rel).ok()??)
+    }
+
+    // The comparison of a temporal text with a text.
+    fn texts(alloc: Global, x: &str, rel: Rel, y: &str) -> Option<bool> {
+        let a = one(
+            alloc,
+            1,
+            2,
+            Text::from_string(String::from_str(alloc, x).ok()?),
+        )?;
+        let b = Text::from_string(String::from_str(alloc, y).ok()?);
+        first(&compare(alloc, Operand::Moving(&a), Operand::Fixed(&b), rel).ok()??)
+    }
+
+    // The comparison of a temporal truth value with a truth value.
+    fn truths(alloc: Global, x: bool, rel: Rel, y: bool) -> Option<bool> {
+        let a = one(alloc, 1, 2, x)?;
+        first(&compare(alloc, Operand::Moving(&a), Operand::Fixed(&y), rel).ok()??)
     }
 
     #[test]
     fn numbers_and_texts_are_compared(rt: HostRuntime) -> Result<(), Fail> {
-        let alloc = rt.alloc();
-        let two = Frac::new(2, 1).ok().ok_or("fits")?;
-        let three = Frac::new(3, 1).ok().ok_or("fits")?;
-        let early = one(alloc, 1, 2, three).ok_or("early")?;
-        let late = one(alloc, 3, 4, two).ok_or("late")?;
-        let more = compare(
-            alloc,
-            Operand::Moving(&early),
-            Operand::Fixed(&two),
-            Rel::Gt,
-        );
-        assert_eq!(rt; truth(more.ok().ok_or("memory")?), Some(true));
-        let less = compare(
-            alloc,
-            Operand::Fixed(&three),
-            Operand::Moving(&early),
-            Rel::Lt,
-        );
-        assert_eq!(rt; truth(less.ok().ok_or("memory")?), Some(false));
-        let apart = compare(
-            alloc,
-            Operand::Moving(&early),
-            Operand::Moving(&late),
-            Rel::Eq,
-        );
-        assert!(rt; apart.ok().ok_or("memory")?.is_none());
-        let a = Text::from_string(String::from_str(alloc, "a")?);
-        let b = Text::from_string(String::from_str(alloc, "ab")?);
-        let text = one(alloc, 1, 2, a).ok_or("text")?;
-        let at_most = compare(alloc, Operand::Moving(&text), Operand::Fixed(&b), Rel::Le);
-        assert_eq!(rt; truth(at_most.ok().ok_or("memory")?), Some(true));
-        let truths = one(alloc, 1, 2, true).ok_or("truths")?;
-        let same = compare(
-            alloc,
-            Operand::Moving(&truths),
-            Operand::Fixed(&true),
-            Rel::Ne,
-        );
-        assert_eq!(rt; truth(same.ok().ok_or("memory")?), Some(false));
+        assert_eq!(rt; numbers(rt.alloc(), 3, Rel::Gt, 2), Some(true));
+        assert_eq!(rt; constant(rt.alloc(), 3, Rel::Lt, 3), Some(false));
+        assert_eq!(rt; texts(rt.alloc(), "a", Rel::Le, "ab"), Some(true));
+        assert_eq!(rt; truths(rt.alloc(), true, Rel::Ne, true), Some(false));
         Ok(())
     }
 }
