@@ -2,4 +2,5 @@ pub mod Laws
 pub mod Lawful
 pub mod Marks
 pub mod Ranks
+pub mod Same
 pub mod Steps
