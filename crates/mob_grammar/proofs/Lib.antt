@@ -1,3 +1,4 @@
+pub mod Complete
 pub mod Laws
 pub mod Lawful
 pub mod Marks
