@@ -4,4 +4,5 @@ pub mod Lawful
 pub mod Marks
 pub mod Ranks
 pub mod Same
+pub mod StatementLaws
 pub mod Steps
