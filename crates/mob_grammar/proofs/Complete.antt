@@ -8,7 +8,7 @@ use Rattle.mob_ast.specs.declared.expression.Node.{Node}
 use Rattle.mob_ast.specs.declared.expression.Node.TheVariants as node
 use Rattle.mob_ast.specs.Trees.{Tree, tree, Trees, none, more, trees_from}
 use Rattle.mob_grammar.specs.declared.mark.Mark.{Mark}
-use Rattle.mob_grammar.specs.declared.mark.Mark.TheVariants.{Not, Is, Null, True, False, Tilde, Times, Cast, Open, Close, Comma, Dot}
+use Rattle.mob_grammar.specs.declared.mark.Mark.TheVariants.{Distinct, Not, Is, Null, True, False, Tilde, Times, Cast, Open, Close, Comma, Dot}
 use Rattle.mob_grammar.specs.Marks.{is, strength}
 use Rattle.mob_grammar.specs.Symbols.{Symbol, fixed, name, number, quoted, Tok, sign, named, numeral, string, is_mark, symbol_strength, is_sign, is_name, is_string, is_string_symbol, binding, begins, starts, goes_on, first, rest, binary, unary, leaf}
 use Rattle.mob_grammar.specs.Expressions.{Rank, disjunction, conjunction, negation, nullness, comparison, other, complement, sum, product, signed, cast, primary, next, tight, chains, prefixes, word, plain_type, inner_type, TypeName, plain, inner, Phrase, up, chain, prefixed, is_null, is_not_null, compared, cast_to, a_number, a_string, is_true, is_false, a_null, a_literal, a_call, a_column, a_table_column, in_brackets, Arguments, nothing, something, Behind, end, another}
@@ -293,26 +293,26 @@ read_prefix signed t l r a h c = prefix_goes_on (λ t. binding t == 8) (cast_ran
 read_prefix cast t l r a h c = cc
 read_prefix primary t l r a h c = cc
 
--- what begins a phrase is no closing bracket and no *
-head_prefix : (k : Rank) (t : Tok) → prefixes k t ≡ true → (is_sign Close t ≡ false) × (is_sign Times t ≡ false)
+-- what begins a phrase is no closing bracket, no * and no DISTINCT
+head_prefix : (k : Rank) (t : Tok) → prefixes k t ≡ true → (is_sign Close t ≡ false) × (is_sign Times t ≡ false) × (is_sign Distinct t ≡ false)
 head_prefix disjunction t h = cc
 head_prefix conjunction t h = cc
-head_prefix negation t h = (ap (is_sign Close) (token_is Not t h), ap (is_sign Times) (token_is Not t h))
+head_prefix negation t h = (ap (is_sign Close) (token_is Not t h), ap (is_sign Times) (token_is Not t h), ap (is_sign Distinct) (token_is Not t h))
 head_prefix nullness t h = cc
 head_prefix comparison t h = cc
 head_prefix other t h = cc
-head_prefix complement t h = (ap (is_sign Close) (token_is Tilde t h), ap (is_sign Times) (token_is Tilde t h))
+head_prefix complement t h = (ap (is_sign Close) (token_is Tilde t h), ap (is_sign Times) (token_is Tilde t h), ap (is_sign Distinct) (token_is Tilde t h))
 head_prefix sum t h = cc
 head_prefix product t h = cc
-head_prefix signed t h = (not_mark Close t 8 (eqb-true _ _ h) (λ e. omega arith), not_mark Times t 8 (eqb-true _ _ h) (λ e. omega arith))
+head_prefix signed t h = (not_mark Close t 8 (eqb-true _ _ h) (λ e. omega arith), not_mark Times t 8 (eqb-true _ _ h) (λ e. omega arith), not_mark Distinct t 8 (eqb-true _ _ h) (λ e. omega arith))
 head_prefix cast t h = cc
 head_prefix primary t h = cc
 
-head_type : {l r : List Tok} {ty : TypeWord} → TypeName l ty r → (starts Close l ≡ false) × (starts Times l ≡ false)
-head_type plain = (refl, refl)
-head_type inner = (refl, refl)
+head_type : {l r : List Tok} {ty : TypeWord} → TypeName l ty r → (starts Close l ≡ false) × (starts Times l ≡ false) × (starts Distinct l ≡ false)
+head_type plain = (refl, refl, refl)
+head_type inner = (refl, refl, refl)
 
-pub head_not : {k : Rank} {l r : List Tok} {e : Tree} → Phrase k l e r → (starts Close l ≡ false) × (starts Times l ≡ false)
+pub head_not : {k : Rank} {l r : List Tok} {e : Tree} → Phrase k l e r → (starts Close l ≡ false) × (starts Times l ≡ false) × (starts Distinct l ≡ false)
 head_not (up d) = head_not d
 head_not (chain a c b) = head_not a
 head_not (prefixed {k} {t = t} c a) = head_prefix k t c
@@ -320,16 +320,16 @@ head_not (is_null a) = head_not a
 head_not (is_not_null a) = head_not a
 head_not (compared a c b) = head_not a
 head_not (cast_to a t) = head_not a
-head_not a_number = (refl, refl)
-head_not a_string = (refl, refl)
-head_not is_true = (refl, refl)
-head_not is_false = (refl, refl)
-head_not a_null = (refl, refl)
+head_not a_number = (refl, refl, refl)
+head_not a_string = (refl, refl, refl)
+head_not is_true = (refl, refl, refl)
+head_not is_false = (refl, refl, refl)
+head_not a_null = (refl, refl, refl)
 head_not (a_literal t) = head_type t
-head_not (a_call es) = (refl, refl)
-head_not a_column = (refl, refl)
-head_not a_table_column = (refl, refl)
-head_not (in_brackets a) = (refl, refl)
+head_not (a_call es) = (refl, refl, refl)
+head_not a_column = (refl, refl, refl)
+head_not a_table_column = (refl, refl, refl)
+head_not (in_brackets a) = (refl, refl, refl)
 
 -- trees behind a list of them
 abbrev trees_before : List Tree → Trees → Trees

@@ -5,4 +5,5 @@ pub mod Marks
 pub mod Ranks
 pub mod Same
 pub mod StatementLaws
+pub mod StatementsRead
 pub mod Steps

@@ -18,10 +18,10 @@ use Rattle.mob_grammar.proofs.Ranks.{column_args, lawful_primary, lawful_cast, l
 abbrev Same : {A : Type 0} → ℕ → Reader A → Reader A → Type 0
 Same n s z = (l : List Tok) → length l < n → s l ≡ z l
 
-abbrev Shrinks : {A : Type 0} → ℕ → Reader A → Type 0
+abbrev pub Shrinks : {A : Type 0} → ℕ → Reader A → Type 0
 Shrinks {A} n s = (l : List Tok) → length l < n → (x : A) (r : List Tok) → s l ≡ Ok (x, r) → length r ≤ length l
 
-shrinks : {A : Type 0} (R : List Tok → A → List Tok → Type 0) (n : ℕ) (s : Reader A) → Lawful R n s → Shrinks n s
+pub shrinks : {A : Type 0} (R : List Tok → A → List Tok → Type 0) (n : ℕ) (s : Reader A) → Lawful R n s → Shrinks n s
 shrinks R n s law l short x r h = let t = subst (Tells R (λ m. s) l) h (law l short) in omega (arith, ap length t.parts, length-append t.taken r)
 
 bind_same : {A B : Type 0} (a b : Answer A) (f g : A × List Tok → Answer B) → a ≡ b → ((x : A) (r : List Tok) → a ≡ Ok (x, r) → f (x, r) ≡ g (x, r)) → (a >>= f) ≡ (b >>= g)
