@@ -7,3 +7,4 @@ pub mod Same
 pub mod StatementLaws
 pub mod StatementsRead
 pub mod Steps
+pub mod Whole
