@@ -1,6 +1,9 @@
-//! The tokens of a script.
+//! The tokens of a script: words, numbers, strings and signs, with blanks and comments between them.
 #![tactic(auto)]
 
+pub mod laws;
+pub mod lexer;
+mod scan;
+#[cfg(test)]
+mod tests;
 pub mod token;
-
-pub use token::{LexFault, Token, TokenKind};

@@ -1,0 +1,5 @@
+pub mod Along
+pub mod Longest
+pub mod Sizes
+pub mod Quoted
+pub mod Walk

@@ -1,0 +1,5 @@
+use Rattle.mob_chars.proofs.Along.{are_laid}
+use Rattle.mob_chars.proofs.laws.tokens_are_laid.Goals as goal
+
+pub returns : goal.returns
+returns c = are_laid

@@ -1,0 +1,52 @@
+-- How tokens lie in their text: one behind the other, with blanks and comments between them and nothing else.
+use Rattle.std.specs.Prelude.{◌≡◌, ◌+◌, ◌<◌, ◌≤◌, ◌++◌, ℕ, List, [], ◌∷◌, length, drop, true, Some, None, Ok, Err}
+use Rattle.mob_chars.specs.declared.token.TokenKind.{TokenKind}
+use Rattle.mob_chars.specs.declared.token.Token.{Token}
+use Rattle.mob_chars.specs.Scan.{is_blank, begins_comment, comment_length, gap_length}
+use Rattle.mob_chars.specs.Tokens.{token_at, token, end_at, tokens_of}
+
+-- `Leads p l ts q m`: from the place p, where the text goes on as l, the tokens ts with blanks and comments before,
+-- between and behind them lead to the place q, where it goes on as m.
+pub data Leads : ℕ → List ℕ → List Token → ℕ → List ℕ → Type 0 where
+  here : {p : ℕ} {l : List ℕ} → Leads p l [] p l
+  blank : {p q b : ℕ} {l m : List ℕ} {ts : List Token} → is_blank b ≡ true → Leads (p + 1) l ts q m → Leads p (b ∷ l) ts q m
+  comment : {p q : ℕ} {l m : List ℕ} {ts : List Token} → begins_comment l ≡ true
+      → Leads (p + comment_length l) (drop (comment_length l) l) ts q m → Leads p l ts q m
+  next : {p q n : ℕ} {l m : List ℕ} {k : TokenKind} {ts : List Token} → gap_length l ≡ 0 → token_at l ≡ Some (k, n)
+      → Leads (p + n) (drop n l) ts q m → Leads p l (token k p n ∷ ts) q m
+
+-- the tokens of a whole text: they lead to its end, and the last of them is that end
+pub record IsLaid (text : List ℕ) (ts : List Token) : Type 0 where
+  pub all : List Token
+  pub parts : ts ≡ all ++ end_at (length text) ∷ []
+  pub leads : Leads 0 text all (length text) []
+
+-- a text that goes on, but with no gap and no token: a character that begins none, or a string that is not closed
+pub record BeginsNone (l : List ℕ) : Type 0 where
+  pub goes_on : 0 < length l
+  pub no_gap : gap_length l ≡ 0
+  pub no_token : token_at l ≡ None
+
+-- a text in which tokens lead to a place where none begins
+pub record IsStuck (text : List ℕ) (place : ℕ) : Type 0 where
+  pub before : List Token
+  pub rest : List ℕ
+  pub leads : Leads 0 text before place rest
+  pub none_begins : BeginsNone rest
+
+-- Between the places p and e the tokens stand in order: each begins where the one before it has ended, or later.
+abbrev pub InOrder : ℕ → ℕ → List Token → Type 0
+InOrder p e [] = p ≤ e
+InOrder p e (t ∷ ts) = (p ≤ t.from) × (t.from ≤ t.to) × InOrder t.to e ts
+
+-- the tokens of a text lie in it as `IsLaid` says
+abbrev pub TokensAreLaid : Type 0
+TokensAreLaid = (text : List ℕ) (ts : List Token) → tokens_of text ≡ Ok ts → IsLaid text ts
+
+-- a text without tokens has none at the place of its fault, and tokens before it
+abbrev pub FaultsAreStuck : Type 0
+FaultsAreStuck = (text : List ℕ) (place : ℕ) → tokens_of text ≡ Err place → IsStuck text place
+
+-- the tokens of a text are in order and do not overlap
+abbrev pub TokensAreInOrder : Type 0
+TokensAreInOrder = (text : List ℕ) (ts : List Token) → tokens_of text ≡ Ok ts → InOrder 0 (length text) ts

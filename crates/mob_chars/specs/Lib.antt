@@ -1,0 +1,4 @@
+pub mod Scan
+pub mod Signs
+pub mod Tokens
+pub mod Layout
