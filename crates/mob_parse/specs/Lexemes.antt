@@ -11,6 +11,10 @@ use Rattle.mob_grammar.specs.Symbols.{Tok, fixed, name, number, quoted}
 abbrev pub lower : List ℕ → List ℕ
 lower s = map to_ascii_lowercase s
 
+abbrev pub without_quote : List ℕ → List ℕ
+without_quote [] = []
+without_quote (b ∷ l) = cond (b == 39) l (b ∷ l)
+
 -- two quotes in a string are one
 abbrev pub unquoted : List ℕ → List ℕ
 unquoted [] = []

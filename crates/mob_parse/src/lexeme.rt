@@ -1,5 +1,10 @@
 //! What the parser reads: tokens of which it is known what they are.
 
+ghost use Rattle.std.specs.Prelude.{◌≡◌, ◌==◌, ◌<◌, false, MatchOption};
+ghost use Rattle.mob_grammar.specs.Symbols.{is_sign, is_name, is_string, binding, sign};
+ghost use Rattle.mob_grammar.specs.Marks.{strength as strength_of};
+ghost use Rattle.mob_parse.specs.Lexemes.{tok_of};
+
 use mob_grammar::mark::Mark;
 
 /// What stands at a place.
@@ -20,4 +25,56 @@ pub enum Symbol<'a> {
 pub struct Lexeme<'a> {
     pub symbol: Symbol<'a>,
     pub place: u32,
+}
+
+impl<'a> Lexeme<'a> {
+    /// Whether it is this mark.
+    pub fn is(&self, mark: Mark) -> bool
+        ensures { result ≡ is_sign mark (tok_of self.now) }
+    {
+        match self.symbol {
+            Symbol::Fixed(found) => found.is(mark),
+            Symbol::Name(_) | Symbol::Number(_) | Symbol::Quoted(_) => false,
+        }
+    }
+
+    /// The mark that it is, if that binds so tight.
+    pub fn operator(&self, strength: u8) -> Option<Mark>
+        requires least { 0 < strength }
+        requires most { strength < 12 }
+        ensures { MatchOption result
+            ((binding (tok_of self.now) == strength) ≡ false)
+            (λ m. (tok_of self.now ≡ sign m self.now.place) × (strength_of m ≡ strength)) }
+    {
+        match self.symbol {
+            Symbol::Fixed(mark) => {
+                if mark.strength() == strength {
+                    Some(mark)
+                } else {
+                    None
+                }
+            }
+            Symbol::Name(_) | Symbol::Number(_) | Symbol::Quoted(_) => None,
+        }
+    }
+
+    /// Whether it is a name.
+    pub fn is_name(&self) -> bool
+        ensures { result ≡ is_name (tok_of self.now) }
+    {
+        match self.symbol {
+            Symbol::Name(_) => true,
+            Symbol::Fixed(_) | Symbol::Number(_) | Symbol::Quoted(_) => false,
+        }
+    }
+
+    /// Whether it is a string.
+    pub fn is_string(&self) -> bool
+        ensures { result ≡ is_string (tok_of self.now) }
+    {
+        match self.symbol {
+            Symbol::Quoted(_) => true,
+            Symbol::Fixed(_) | Symbol::Number(_) | Symbol::Name(_) => false,
+        }
+    }
 }
