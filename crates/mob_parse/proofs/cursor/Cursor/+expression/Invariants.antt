@@ -6,7 +6,7 @@ use Rattle.mob_parse.specs.Cursors.{left}
 use Rattle.mob_parse.specs.Levels.{level_number, operand_at}
 use Rattle.mob_parse.specs.declared.expression.Level.{Level}
 use Rattle.mob_parse.specs.declared.expression.Level.TheVariants.{Disjunction, Conjunction, Other, Sum, Product}
-use Rattle.mob_parse.proofs.expression.Cursor.+expression.Given as goal
+use Rattle.mob_parse.proofs.cursor.Cursor.+expression.Given as goal
 
 -- how far a level is above the innermost
 abbrev height : Level → ℕ
