@@ -1,7 +1,7 @@
 //! Expressions, rank by rank.
 ghost use Rattle.std.specs.Prelude.{◌≡◌, ◌<◌, ◌≤◌, false, length, map, OnOk};
 ghost use Rattle.mob_ast.specs.Trees.{tree_of};
-ghost use Rattle.mob_grammar.specs.Reading.{chain, expression_at, cast_rank, signed_rank, complement_rank, comparison_rank, nullness_rank, negation_rank, primary, named_at, opened, args, type_at, name_at, inner_at, null_at, is_literal, literal_at, column_at};
+ghost use Rattle.mob_grammar.specs.Reading.{chain, expression_at, cast_rank, signed_rank, complement_rank, comparison_rank, nullness_rank, negation_rank, primary, named_at, opened, args, listed, type_at, name_at, inner_at, null_at, is_literal, literal_at, column_at};
 ghost use Rattle.mob_grammar.specs.Symbols.{begins, starts, is_name, is_string};
 ghost use Rattle.mob_parse.specs.Columns.{column_alone};
 ghost use Rattle.mob_parse.specs.Lexemes.{lower};
@@ -9,6 +9,7 @@ ghost use Rattle.mob_parse.specs.Cursors.{left, Gives};
 ghost use Rattle.mob_parse.specs.Levels.{level_number, operand_at};
 
 use crate::cursor::{Cursor, Fault};
+use crate::lexeme::begins_literal;
 use crate::nodes::{copy_text, leaf, operator, pair, single, unquoted_text, word};
 use mob_ast::expression::{Expr, Node};
 use mob_ast::types::{TypeWord, Word};
@@ -88,7 +89,8 @@ impl<'a> Cursor<'a> {
     }
 
     /// An expression.
-    fn expression(&mut self) -> Result<Expr, Fault>
+    #[cycle(expression)]
+    pub fn expression(&mut self) -> Result<Expr, Fault>
         ensures shorter { OnOk result (length (left self.new) < length (left self.old)) }
         ensures reads { Gives tree_of result (left self.new) (expression_at (left self.old)) }
     {
@@ -226,7 +228,7 @@ impl<'a> Cursor<'a> {
             let name = word(self.alloc, text, place)?;
             self.named(name)
         } else if self.skip(Mark::Open) {
-            let value = self.chain(Level::Disjunction)?;
+            let value = self.expression()?;
             self.expect(Mark::Close)?;
             Ok(value)
         } else {
@@ -259,7 +261,7 @@ impl<'a> Cursor<'a> {
         ensures reads { Gives tree_of result (left self.new) (opened expression_at name (left self.old)) }
         ensures shorter { OnOk result (length (left self.new) ≤ length (left self.old)) }
     {
-        if self.next_is_literal() {
+        if begins_literal(self.lexemes) {
             let ty = self.inner_type(name)?;
             self.literal(ty)
         } else {
@@ -275,22 +277,33 @@ impl<'a> Cursor<'a> {
 
     // The arguments behind an opening bracket, with the closing bracket.
     #[cycle(expression)]
-    #[tactic(auto, using(mob_grammar::proofs::Steps::listed_goes_on, mob_grammar::proofs::Steps::listed_stops), unfolding(mob_grammar::specs::Reading::args, mob_grammar::specs::Reading::listed, mob_grammar::specs::Reading::closed))]
+    #[tactic(auto, unfolding(mob_grammar::specs::Reading::args, mob_grammar::specs::Reading::closed))]
     fn arguments(&mut self) -> Result<Vec<Expr>, Fault>
         ensures reads { Gives (λ v. map tree_of v.items) result (left self.new) (args expression_at (left self.old)) }
         ensures shorter { OnOk result (length (left self.new) ≤ length (left self.old)) }
     {
-        let mut found = Vec::new(self.alloc);
         if self.skip(Mark::Close) {
-            return Ok(found);
+            return Ok(Vec::new(self.alloc));
         }
-        let value = self.chain(Level::Disjunction)?;
-        found.push(value)?;
-        'arguments: while self.skip(Mark::Comma) {
-            let value = self.chain(Level::Disjunction)?;
-            found.push(value)?;
-        }
+        let found = self.expressions()?;
         self.expect(Mark::Close)?;
+        Ok(found)
+    }
+
+    // Expressions with commas between them.
+    #[cycle(expression)]
+    #[tactic(auto, using(mob_grammar::proofs::Steps::listed_goes_on, mob_grammar::proofs::Steps::listed_stops), unfolding(mob_grammar::specs::Reading::listed))]
+    fn expressions(&mut self) -> Result<Vec<Expr>, Fault>
+        ensures reads { Gives (λ v. map tree_of v.items) result (left self.new) (listed Mark.Comma expression_at (left self.old)) }
+        ensures shorter { OnOk result (length (left self.new) < length (left self.old)) }
+    {
+        let mut found = Vec::new(self.alloc);
+        let first = self.expression()?;
+        found.push(first)?;
+        'more: while self.skip(Mark::Comma) {
+            let next = self.expression()?;
+            found.push(next)?;
+        }
         Ok(found)
     }
 }
@@ -312,7 +325,7 @@ impl<'a> Cursor<'a> {
     }
 
     // Whether a string comes next.
-    fn next_is_string(&self) -> bool
+    pub fn next_is_string(&self) -> bool
         ensures { result ≡ begins is_string (left self.now) }
     {
         match self.lexemes {
@@ -321,21 +334,9 @@ impl<'a> Cursor<'a> {
         }
     }
 
-    // Whether a name, a closing bracket and a string come next.
-    fn next_is_literal(&self) -> bool
-        ensures { result ≡ is_literal (left self.now) }
-    {
-        match self.lexemes {
-            [first, second, third, ..] => {
-                first.is_name() && second.is(Mark::Close) && third.is_string()
-            }
-            _ => false,
-        }
-    }
-
     // A string of that type.
     #[tactic(auto, unfolding(mob_grammar::specs::Reading::literal_at, mob_grammar::specs::Reading::string_at))]
-    fn literal(&mut self, ty: TypeWord) -> Result<Expr, Fault>
+    pub fn literal(&mut self, ty: TypeWord) -> Result<Expr, Fault>
         ensures reads { Gives tree_of result (left self.new) (literal_at ty (left self.old)) }
         ensures shorter { OnOk result (length (left self.new) < length (left self.old)) }
     {

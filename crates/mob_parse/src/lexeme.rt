@@ -3,7 +3,8 @@
 ghost use Rattle.std.specs.Prelude.{◌≡◌, ◌==◌, ◌<◌, false, MatchOption};
 ghost use Rattle.mob_grammar.specs.Symbols.{is_sign, is_name, is_string, binding, sign};
 ghost use Rattle.mob_grammar.specs.Marks.{strength as strength_of};
-ghost use Rattle.mob_parse.specs.Lexemes.{tok_of};
+ghost use Rattle.mob_grammar.specs.Reading.{is_number, is_literal};
+ghost use Rattle.mob_parse.specs.Lexemes.{tok_of, toks};
 
 use mob_grammar::mark::Mark;
 
@@ -76,5 +77,27 @@ impl<'a> Lexeme<'a> {
             Symbol::Quoted(_) => true,
             Symbol::Fixed(_) | Symbol::Number(_) | Symbol::Name(_) => false,
         }
+    }
+
+    /// Whether it is a number.
+    pub fn is_number(&self) -> bool
+        ensures { result ≡ is_number (tok_of self.now) }
+    {
+        match self.symbol {
+            Symbol::Number(_) => true,
+            Symbol::Fixed(_) | Symbol::Name(_) | Symbol::Quoted(_) => false,
+        }
+    }
+}
+
+/// Whether a name, a closing bracket and a string come first.
+pub fn begins_literal(lexemes: &[Lexeme<'_>]) -> bool
+    ensures { result ≡ is_literal (toks lexemes.now) }
+{
+    match lexemes {
+        [first, second, third, ..] => {
+            first.is_name() && second.is(Mark::Close) && third.is_string()
+        }
+        _ => false,
     }
 }

@@ -5,3 +5,5 @@ mod cursor;
 mod expression;
 mod lexeme;
 mod nodes;
+mod select;
+mod statement;
