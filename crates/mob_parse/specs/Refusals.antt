@@ -38,9 +38,13 @@ place_of (t ∷ l) end = t.place
 abbrev pub IsSyntax : List Tok → ℕ → Refusal → Type 0
 IsSyntax l end e = (r : List Tok) × (w : IsFirstWrong (Listed Semicolon Statement) l r) × (e.place ≡ place_of r end) × (e.statement ≡ 1 + semicolons w.before)
 
+-- some script begins with these tokens
+abbrev pub BeginsScript : List Tok → Type 0
+BeginsScript l = BeginsText (Listed Semicolon Statement) l
+
 -- TooComplex: at the first 257th counted token of an expression, where a script begins with the tokens up to that one
 abbrev pub IsTooComplex : List Tok → ℕ → Refusal → Type 0
-IsTooComplex l end e = (n : ℕ) × (first_heavy l ≡ Some n) × BeginsText (Listed Semicolon Statement) (take (n + 1) l) × (e.place ≡ place_of (drop n l) end) × (e.statement ≡ 1 + semicolons (take n l))
+IsTooComplex l end e = (n : ℕ) × (first_heavy l ≡ Some n) × BeginsScript (take (n + 1) l) × (e.place ≡ place_of (drop n l) end) × (e.statement ≡ 1 + semicolons (take n l))
 
 -- no expression has a 257th counted token
 abbrev pub IsLight : List Tok → Type 0
@@ -65,10 +69,14 @@ IsRefusedAt l end e = CauseAt e.kind l end e
 abbrev pub IsLightText : List ℕ → Type 0
 IsLightText bytes = (l : List Tok) → HasTokens bytes l → IsLight l
 
+-- the number of the statement behind a text: 1 and its `;` tokens
+abbrev pub IsStatementBehind : List ℕ → ℕ → Type 0
+IsStatementBehind text n = (l : List Tok) × HasTokens text l × (n ≡ 1 + semicolons l)
+
 -- why a script is refused
 abbrev pub Cause : Kind → List ℕ → Refusal → Type 0
 Cause NotUtf8 bytes e = (IsUtf8 bytes → ⊥) × IsValidUpTo bytes e.place × (e.statement ≡ 1)
-Cause Lexical bytes e = (tokens_of bytes ≡ Err e.place) × ((l : List Tok) × HasTokens (take e.place bytes) l × (e.statement ≡ 1 + semicolons l))
+Cause Lexical bytes e = (tokens_of bytes ≡ Err e.place) × IsStatementBehind (take e.place bytes) e.statement
 Cause Syntax bytes e = (l : List Tok) × HasTokens bytes l × IsSyntax l (length bytes) e
 Cause TooComplex bytes e = (l : List Tok) × HasTokens bytes l × IsTooComplex l (length bytes) e
 Cause NoMemory bytes e = (e.place ≡ 0) × (e.statement ≡ 0)

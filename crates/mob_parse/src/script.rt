@@ -1,14 +1,12 @@
 //! Whole scripts: from bytes to the tree, or the first refusal.
-ghost use Rattle.std.specs.Prelude.{◌≡◌, ◌≤◌, ◌<◌, ◌+◌, ◌^◌, List, length, take, drop, map, Some, Err, IfOk, IfErr, MatchResult};
+ghost use Rattle.std.specs.Prelude.{◌≡◌, ◌≤◌, ◌<◌, ◌+◌, ◌^◌, List, length, take, drop, map, Some, Err, IfOk, IfErr, IfSome, MatchResult};
 ghost use Rattle.mob_ast.specs.Trees.{StatementParts, statement_of, script_of};
-ghost use Rattle.mob_grammar.specs.Scripts.{Statement, IsScript};
-ghost use Rattle.mob_grammar.specs.Forms.{Listed};
-ghost use Rattle.mob_grammar.specs.Texts.{BeginsText};
+ghost use Rattle.mob_grammar.specs.Scripts.{IsScript};
 ghost use Rattle.mob_parse.specs.Lexemes.{toks};
 ghost use Rattle.mob_parse.specs.Heavy.{first_heavy};
 ghost use Rattle.mob_ast.specs.Kinds.{no_memory};
 ghost use Rattle.mob_chars.specs.Tokens.{tokens_of};
-ghost use Rattle.mob_parse.specs.Refusals.{semicolons, place_of, IsWrong, IsRefusedAt, IsRefused, IsTreeOf, IsLightText};
+ghost use Rattle.mob_parse.specs.Refusals.{semicolons, place_of, BeginsScript, IsWrong, IsRefusedAt, IsRefused, IsTreeOf, IsLightText, IsStatementBehind};
 
 use crate::classify::lexemes;
 use crate::cursor::{Cursor, Fault};
@@ -122,14 +120,13 @@ fn whole(alloc: Global, lexemes: &[Lexeme<'_>], end: u32) -> Result<Script, Refu
 }
 
 // Nothing, where some script begins with the tokens; else the first that is wrong.
+#[tactic(auto, using(crate::proofs::Scripts::script_begins))]
 fn begin(alloc: Global, lexemes: &[Lexeme<'_>]) -> Result<(), Wrong>
-    ensures begins { IfOk result (λ _. BeginsText (Listed Mark.Semicolon Statement) (toks lexemes.now)) }
+    ensures begins { IfOk result (λ _. BeginsScript (toks lexemes.now)) }
     ensures wrong { IfErr result (λ e. IsWrong (toks lexemes.now) e) }
 {
-    match read(alloc, lexemes) {
-        Ok(_) => Ok(()),
-        Err(wrong) => Err(wrong),
-    }
+    let _statements = read(alloc, lexemes)?;
+    Ok(())
 }
 
 // Why tokens are refused whose first 257th counted one has that number.
@@ -166,6 +163,20 @@ fn parse_lexemes(alloc: Global, lexemes: &[Lexeme<'_>], end: u32) -> Result<Scri
     }
 }
 
+// The number of the statement behind a text; none where there was no memory.
+fn statement_behind(alloc: Global, text: &str) -> Option<u32>
+    requires { length text.now ≤ 4194304 }
+    ensures { IfSome result (λ n. IsStatementBehind text.now n) }
+{
+    let Ok(found) = tokens(alloc, text) else {
+        return None;
+    };
+    let Ok(before) = lexemes(alloc, text, found.as_slice()) else {
+        return None;
+    };
+    Some(1 + semicolons(before.as_slice()))
+}
+
 // A refusal at a place of a text where no token begins.
 fn lexical(alloc: Global, text: &str, place: u32) -> Refusal
     requires short { length text.now ≤ 4194304 }
@@ -175,17 +186,13 @@ fn lexical(alloc: Global, text: &str, place: u32) -> Refusal
     let Some(front) = text.get(..place as usize) else {
         return no_memory();
     };
-    let Ok(found) = tokens(alloc, front) else {
-        return no_memory();
-    };
-    let Ok(before) = lexemes(alloc, front, found.as_slice()) else {
-        return no_memory();
-    };
-    let statement = 1 + semicolons(before.as_slice());
-    Refusal {
-        kind: Kind::Lexical,
-        statement,
-        place,
+    match statement_behind(alloc, front) {
+        Some(statement) => Refusal {
+            kind: Kind::Lexical,
+            statement,
+            place,
+        },
+        None => no_memory(),
     }
 }
 
