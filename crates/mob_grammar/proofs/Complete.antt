@@ -52,14 +52,16 @@ stops_chain k j (t ∷ r) e h = not_equal (binding t) j (omega arith)
 pub stops_mark : (k : Rank) (m : Mark) (r : List Tok) → tight k ≤ strength m → Stops k r → starts m r ≡ false
 stops_mark k m [] e h = refl
 stops_mark k m (t ∷ r) e h = elim (told (is_sign m t)) [
-    inl is_one ↦ let same : binding t ≡ strength m = ap binding (token_is m t is_one) in absurd (omega arith)
-  | inr none_there ↦ none_there ]
+  | inl is_one ↦ let same : binding t ≡ strength m = ap binding (token_is m t is_one) in absurd (omega arith)
+  | inr none_there ↦ none_there
+]
 
 stops_string : (r : List Tok) → Stops primary r → begins is_string r ≡ false
 stops_string [] h = refl
 stops_string (t ∷ r) h = elim (told (is_string t)) [
-    inl is_one ↦ let s = string_is t is_one in let same : binding t ≡ 12 = ap binding s.1 in absurd (omega arith)
-  | inr none_there ↦ none_there ]
+  | inl is_one ↦ let s = string_is t is_one in let same : binding t ≡ 12 = ap binding s.1 in absurd (omega arith)
+  | inr none_there ↦ none_there
+]
 
 -- a phrase takes a token
 shorter_type : {l r : List Tok} {ty : TypeWord} → TypeName l ty r → length r < length l
@@ -126,8 +128,9 @@ begins_looser primary l h = h
 -- a token that binds otherwise than a mark is not that mark
 not_mark : (m : Mark) (t : Tok) (j : ℕ) → binding t ≡ j → (strength m ≡ j → ⊥) → is_sign m t ≡ false
 not_mark m t j b apart = elim (told (is_sign m t)) [
-    inl is_one ↦ absurd (apart (sym (ap binding (token_is m t is_one)) ∙ b))
-  | inr none_there ↦ none_there ]
+  | inl is_one ↦ absurd (apart (sym (ap binding (token_is m t is_one)) ∙ b))
+  | inr none_there ↦ none_there
+]
 
 begins_prefix : (k : Rank) (t : Tok) (l : List Tok) → prefixes k t ≡ true → Begins k (t ∷ l)
 begins_prefix disjunction t l h = tt
@@ -355,18 +358,21 @@ not_literal [] r ts h s = refl
 not_literal (a ∷ []) r ts h s = refl
 not_literal (a ∷ b ∷ []) r ts h s = refl
 not_literal (a ∷ b ∷ c ∷ y) r ts h s = elim (told (is_name a)) [
-    inr no_name ↦ ap (λ v. cond v (cond (is_sign Close b) (is_string c) false) false) no_name
+  | inr no_name ↦ ap (λ v. cond v (cond (is_sign Close b) (is_string c) false) false) no_name
   | inl a_name ↦ elim (told (is_sign Close b)) [
-      inr no_close ↦ ap₂ (λ u v. cond u (cond v (is_string c) false) false) a_name no_close
+    | inr no_close ↦ ap₂ (λ u v. cond u (cond v (is_string c) false) false) a_name no_close
     | inl a_close ↦ elim (told (is_string c)) [
-        inr no_string ↦ ap₂ (λ u v. cond u (cond v (is_string c) false) false) a_name a_close ∙ no_string
+      | inr no_string ↦ ap₂ (λ u v. cond u (cond v (is_string c) false) false) a_name a_close ∙ no_string
       | inl is_one ↦
           let w = name_is a a_name in
           let read_it : args expression_at (a ∷ b ∷ c ∷ y) ≡ Ok (leaf (node.Column None (word w.0 a.place)) a.place ∷ [], c ∷ y) = ap₂ (λ u v. args expression_at (u ∷ v ∷ c ∷ y)) w.1 (token_is Close b a_close) ∙ column_arguments w.0 a.place b.place (c ∷ y) in
           let same : r ≡ c ∷ y = ap rest_of (sym h ∙ read_it) in
           let low : binding c < 12 = subst (Stops primary) same s in
           let high : binding c ≡ 12 = ap binding (string_is c is_one).1 in
-          absurd (omega arith) ] ] ]
+          absurd (omega arith)
+    ]
+  ]
+]
 
 -- a type is read where no bracket follows it
 pub type_read : {l r : List Tok} {ty : TypeWord} → TypeName l ty r → starts Open r ≡ false → type_at l ≡ Ok (ty, r)

@@ -39,8 +39,9 @@ mark_wrong m l h = subst (Tells (At m) (λ i. mark_at m) l) (sym (mark_not m l h
 pub lawful_mark : (m : Mark) (n : ℕ) → Lawful (At m) n (mark_at m)
 lawful_mark m n [] short = mark_wrong m [] refl
 lawful_mark m n (t ∷ l) short = elim (told (is_sign m t)) [
-    inl is_one ↦ subst (Tells (At m) (λ i. mark_at m) (t ∷ l)) (sym (mark_there m t l is_one)) (tells_one (At m) (λ i. mark_at m) t l t.place (λ y. ap (λ v. v ∷ y) (token_is m t is_one)) (λ y a i. mark_there m t y is_one))
-  | inr none_there ↦ mark_wrong m (t ∷ l) none_there ]
+  | inl is_one ↦ subst (Tells (At m) (λ i. mark_at m) (t ∷ l)) (sym (mark_there m t l is_one)) (tells_one (At m) (λ i. mark_at m) t l t.place (λ y. ap (λ v. v ∷ y) (token_is m t is_one)) (λ y a i. mark_there m t y is_one))
+  | inr none_there ↦ mark_wrong m (t ∷ l) none_there
+]
 
 plus_ready : Ready PlusOrMinus
 plus_ready = record { closing = sign Plus 0 ∷ []; plain = (tt, tt); value = sign Plus 0; closes = λ z. (refl, refl) }
@@ -59,8 +60,9 @@ plus_wrong l h = subst (Tells PlusOrMinus (λ i. plus_or_minus_at) l) (sym (plus
 pub lawful_plus_or_minus : (n : ℕ) → Lawful PlusOrMinus n plus_or_minus_at
 lawful_plus_or_minus n [] short = plus_wrong [] refl
 lawful_plus_or_minus n (t ∷ l) short = elim (told (is_plus_or_minus t)) [
-    inl is_one ↦ subst (Tells PlusOrMinus (λ i. plus_or_minus_at) (t ∷ l)) (sym (plus_there t l is_one)) (tells_one PlusOrMinus (λ i. plus_or_minus_at) t l t (λ y. (refl, eqb-true _ _ is_one)) (λ y a i. plus_there t y is_one))
-  | inr none_there ↦ plus_wrong (t ∷ l) none_there ]
+  | inl is_one ↦ subst (Tells PlusOrMinus (λ i. plus_or_minus_at) (t ∷ l)) (sym (plus_there t l is_one)) (tells_one PlusOrMinus (λ i. plus_or_minus_at) t l t (λ y. (refl, eqb-true _ _ is_one)) (λ y a i. plus_there t y is_one))
+  | inr none_there ↦ plus_wrong (t ∷ l) none_there
+]
 
 pub lawful_mark_leaf : (m : Mark) (x : Node) (n : ℕ) → Lawful (At m ⇒ λ p. Says (leaf x p)) n (mark_leaf_at m x)
 unfolding mark_leaf_at

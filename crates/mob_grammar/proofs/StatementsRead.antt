@@ -139,8 +139,9 @@ other_mark m k e (t ∷ r) h = ap (is_sign k) (token_is m t h) ∙ e
 clause_other : (k : ℕ) (m : Mark) (r : List Tok) → clause m < k → Clause k r → starts m r ≡ false
 clause_other k m [] low h = refl
 clause_other k m (t ∷ r) low h = elim (told (is_sign m t)) [
-    inl is_one ↦ let same : symbol_clause t.symbol ≡ clause m = ap (λ t. symbol_clause t.symbol) (token_is m t is_one) in absurd (omega arith)
-  | inr none_there ↦ none_there ]
+  | inl is_one ↦ let same : symbol_clause t.symbol ≡ clause m = ap (λ t. symbol_clause t.symbol) (token_is m t is_one) in absurd (omega arith)
+  | inr none_there ↦ none_there
+]
 
 clause_above : (k : ℕ) (r : List Tok) → 1 ≤ k → Clause k r → Clause 1 r
 clause_above k r a h = omega arith
@@ -246,8 +247,9 @@ plus_yes d = ap (begins is_plus_or_minus) d.2.0 ∙ eq-eqb _ _ d.2.1
 
 plus_no_string : (t : Tok) → binding t ≡ 8 → is_string t ≡ false
 plus_no_string t b = elim (told (is_string t)) [
-    inl is_one ↦ let same : binding t ≡ 12 = ap binding (string_is t is_one).1 in absurd (omega arith)
-  | inr none_there ↦ none_there ]
+  | inl is_one ↦ let same : binding t ≡ 12 = ap binding (string_is t is_one).1 in absurd (omega arith)
+  | inr none_there ↦ none_there
+]
 
 signed_begins : {l r : List Tok} {y : Tree} → FromSign l y r → begins is_string l ≡ false
 signed_begins (inl d) = ap (begins is_string) d.2.0 ∙ plus_no_string d.0 d.2.1

@@ -35,38 +35,41 @@ module _ {A : Type 0} (F : List Tok → A → List Tok → Type 0) (s : Reader A
   left_over l x t r h =
       let k = tells l (Ok (x, t ∷ r)) h in
       record {
-      before = k.taken;
-      parts = k.parts;
-      begins = ([], tt, x, k.phrase []);
-      wrong = λ (c, y, d).
-        let longer = k.taken ++ (t ∷ c) in
-        let found : s longer ≡ Ok (x, t ∷ c) = k.again (t ∷ c) refl (length longer) (omega arith) in
-        let other : s longer ≡ Ok (y, []) = complete longer y (subst (λ v. F v y []) (append_assoc k.taken (t ∷ []) c) d) in
-        let never : ◌≡◌ {A = List Tok} (t ∷ c) [] = ap left_of (sym found ∙ other) in cc }
+        before = k.taken;
+        parts = k.parts;
+        begins = ([], tt, x, k.phrase []);
+        wrong = λ (c, y, d).
+            let longer = k.taken ++ (t ∷ c) in
+            let found : s longer ≡ Ok (x, t ∷ c) = k.again (t ∷ c) refl (length longer) (omega arith) in
+            let other : s longer ≡ Ok (y, []) = complete longer y (subst (λ v. F v y []) (append_assoc k.taken (t ∷ []) c) d) in
+            let never : ◌≡◌ {A = List Tok} (t ∷ c) [] = ap left_of (sym found ∙ other) in cc;
+      }
 
   -- a text breaks off
   pub broken : (l r : List Tok) → s l ≡ Err r → IsFirstWrong F l r
   broken l [] h =
       let k = tells l (Err []) h in
       record {
-      before = k.taken;
-      parts = k.parts;
-      begins = (k.closing, k.plain, k.value, subst (λ v. F v k.value []) (ap (λ v. k.taken ++ v) (append_nil k.closing)) (k.closes []));
-      wrong = λ (y, d).
-        let found : s (k.taken ++ []) ≡ Err [] = k.again [] tt (length (k.taken ++ [])) (omega arith) in
-        let other : s k.taken ≡ Ok (y, []) = complete k.taken y d in
-        let never : ◌≡◌ {A = Answer A} (Err []) (Ok (y, [])) = sym found ∙ ap s (append_nil k.taken) ∙ other in cc }
+        before = k.taken;
+        parts = k.parts;
+        begins = (k.closing, k.plain, k.value, subst (λ v. F v k.value []) (ap (λ v. k.taken ++ v) (append_nil k.closing)) (k.closes []));
+        wrong = λ (y, d).
+            let found : s (k.taken ++ []) ≡ Err [] = k.again [] tt (length (k.taken ++ [])) (omega arith) in
+            let other : s k.taken ≡ Ok (y, []) = complete k.taken y d in
+            let never : ◌≡◌ {A = Answer A} (Err []) (Ok (y, [])) = sym found ∙ ap s (append_nil k.taken) ∙ other in cc;
+      }
   broken l (t ∷ r) h =
       let k = tells l (Err (t ∷ r)) h in
       record {
-      before = k.taken;
-      parts = k.parts;
-      begins = (k.closing, k.plain, k.value, subst (λ v. F v k.value []) (ap (λ v. k.taken ++ v) (append_nil k.closing)) (k.closes []));
-      wrong = λ (c, y, d).
-        let longer = k.taken ++ (t ∷ c) in
-        let found : s longer ≡ Err (t ∷ c) = k.again (t ∷ c) refl (length longer) (omega arith) in
-        let other : s longer ≡ Ok (y, []) = complete longer y (subst (λ v. F v y []) (append_assoc k.taken (t ∷ []) c) d) in
-        let never : ◌≡◌ {A = Answer A} (Err (t ∷ c)) (Ok (y, [])) = sym found ∙ other in cc }
+        before = k.taken;
+        parts = k.parts;
+        begins = (k.closing, k.plain, k.value, subst (λ v. F v k.value []) (ap (λ v. k.taken ++ v) (append_nil k.closing)) (k.closes []));
+        wrong = λ (c, y, d).
+            let longer = k.taken ++ (t ∷ c) in
+            let found : s longer ≡ Err (t ∷ c) = k.again (t ∷ c) refl (length longer) (omega arith) in
+            let other : s longer ≡ Ok (y, []) = complete longer y (subst (λ v. F v y []) (append_assoc k.taken (t ∷ []) c) d) in
+            let never : ◌≡◌ {A = Answer A} (Err (t ∷ c)) (Ok (y, [])) = sym found ∙ other in cc;
+      }
 
 module _ {A : Type 0} (F : List Tok → A → List Tok → Type 0) where
   -- what goes wrong in a front of a text goes wrong in the text

@@ -179,8 +179,36 @@ impl Mark {
             Mark::Or => 1,
             Mark::And => 2,
             Mark::Is => 4,
-            Mark::Equal | Mark::NotEqual | Mark::Less | Mark::LessEqual | Mark::Greater | Mark::GreaterEqual => 5,
-            Mark::LiftedEqual | Mark::LiftedNotEqual | Mark::LiftedLess | Mark::LiftedLessEqual | Mark::LiftedGreater | Mark::LiftedGreaterEqual | Mark::EverEqual | Mark::EverNotEqual | Mark::EverLess | Mark::EverLessEqual | Mark::EverGreater | Mark::EverGreaterEqual | Mark::AlwaysEqual | Mark::AlwaysNotEqual | Mark::AlwaysLess | Mark::AlwaysLessEqual | Mark::AlwaysGreater | Mark::AlwaysGreaterEqual | Mark::Distance | Mark::Approach | Mark::Ampersand | Mark::Bar | Mark::Concat | Mark::Overlap => 6,
+            Mark::Equal
+            | Mark::NotEqual
+            | Mark::Less
+            | Mark::LessEqual
+            | Mark::Greater
+            | Mark::GreaterEqual => 5,
+            Mark::LiftedEqual
+            | Mark::LiftedNotEqual
+            | Mark::LiftedLess
+            | Mark::LiftedLessEqual
+            | Mark::LiftedGreater
+            | Mark::LiftedGreaterEqual
+            | Mark::EverEqual
+            | Mark::EverNotEqual
+            | Mark::EverLess
+            | Mark::EverLessEqual
+            | Mark::EverGreater
+            | Mark::EverGreaterEqual
+            | Mark::AlwaysEqual
+            | Mark::AlwaysNotEqual
+            | Mark::AlwaysLess
+            | Mark::AlwaysLessEqual
+            | Mark::AlwaysGreater
+            | Mark::AlwaysGreaterEqual
+            | Mark::Distance
+            | Mark::Approach
+            | Mark::Ampersand
+            | Mark::Bar
+            | Mark::Concat
+            | Mark::Overlap => 6,
             Mark::Plus | Mark::Minus => 8,
             Mark::Times | Mark::Divide => 9,
             Mark::Cast => 11,

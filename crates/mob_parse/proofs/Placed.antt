@@ -47,17 +47,19 @@ lt_or_le (suc i) (suc n) = elim (lt_or_le i n) [ inl h ↦ inl (omega arith) | i
 
 ascii_more : (n m : ℕ) (l : List ℕ) → Ascii n l → Ascii m (drop n l) → Ascii (n + m) l
 ascii_more n m l a c i h = elim (lt_or_le i n) [
-    inl low ↦ a i low
+  | inl low ↦ a i low
   | inr high ↦
       let back : n + (i - n) ≡ i = omega arith in
       let same : get_or (drop n l) (i - n) 0 ≡ get_or l i 0 = get_or-drop n l (i - n) 0 ∙ ap (λ j. get_or l j 0) back in
-      let there : get_or (drop n l) (i - n) 0 < 128 = c (i - n) (omega arith) in omega arith ]
+      let there : get_or (drop n l) (i - n) 0 < 128 = c (i - n) (omega arith) in omega arith
+]
 
 ascii_taken : (p : ℕ → Bool) → ((b : ℕ) → p b ≡ true → b < 128) → (l : List ℕ) → Ascii (length (take_while p l)) l
 ascii_taken p low [] = ascii_none []
 ascii_taken p low (b ∷ l) = elim (told (p b)) [
-    inl e ↦ subst (λ n. Ascii n (b ∷ l)) (sym (ap length (take_while-cons p b l ∙ ap (λ v. cond v (b ∷ take_while p l) []) e))) (ascii_cons b (length (take_while p l)) l (low b e) (ascii_taken p low l))
-  | inr e ↦ subst (λ n. Ascii n (b ∷ l)) (sym (ap length (take_while-cons p b l ∙ ap (λ v. cond v (b ∷ take_while p l) []) e))) (ascii_none (b ∷ l)) ]
+  | inl e ↦ subst (λ n. Ascii n (b ∷ l)) (sym (ap length (take_while-cons p b l ∙ ap (λ v. cond v (b ∷ take_while p l) []) e))) (ascii_cons b (length (take_while p l)) l (low b e) (ascii_taken p low l))
+  | inr e ↦ subst (λ n. Ascii n (b ∷ l)) (sym (ap length (take_while-cons p b l ∙ ap (λ v. cond v (b ∷ take_while p l) []) e))) (ascii_none (b ∷ l))
+]
 
 word_low : (b : ℕ) → is_word b ≡ true → b < 128
 word_low b h = grind (arith, nat_tests)
@@ -82,7 +84,7 @@ ascii_power : (b : ℕ) (l : List ℕ) → b < 128 → Ascii (power_length l) (b
 ascii_power b [] low = ascii_none (b ∷ [])
 ascii_power b (c ∷ l) low = ascii_if (is_plus c) (with_digits 2 (digits_length l)) (with_digits 1 (digits_length (c ∷ l))) (b ∷ c ∷ l)
     (λ e. ascii_if (digits_length l == 0) 0 (2 + digits_length l) (b ∷ c ∷ l) (λ z. ascii_none (b ∷ c ∷ l))
-      (let two_more : 2 + digits_length l ≡ 1 + (1 + digits_length l) = omega arith in subst (λ m. Ascii m (b ∷ c ∷ l)) (sym two_more) (ascii_first b (1 + digits_length l) (c ∷ l) low (ascii_first c (digits_length l) l (plus_low c e) (ascii_taken is_digit digit_low l)))))
+    (let two_more : 2 + digits_length l ≡ 1 + (1 + digits_length l) = omega arith in subst (λ m. Ascii m (b ∷ c ∷ l)) (sym two_more) (ascii_first b (1 + digits_length l) (c ∷ l) low (ascii_first c (digits_length l) l (plus_low c e) (ascii_taken is_digit digit_low l)))))
     (ascii_if (digits_length (c ∷ l) == 0) 0 (1 + digits_length (c ∷ l)) (b ∷ c ∷ l) (λ z. ascii_none (b ∷ c ∷ l)) (ascii_first b (digits_length (c ∷ l)) (c ∷ l) low (ascii_taken is_digit digit_low (c ∷ l))))
 
 ascii_exponent : (l : List ℕ) → Ascii (exponent_length l) l

@@ -11,8 +11,9 @@ told false = inr refl
 pub no_quote_first : (s : List ℕ) → ((r : List ℕ) → s ≢ 39 ∷ r) → s ≡ without_quote s
 no_quote_first [] h = refl
 no_quote_first (b ∷ l) h = elim (told (b == 39)) [
-    inl e ↦ absurd (h l (ap (λ v. v ∷ l) (eqb-true b 39 e)))
-  | inr e ↦ sym (ap (λ v. cond v l (b ∷ l)) e) ]
+  | inl e ↦ absurd (h l (ap (λ v. v ∷ l) (eqb-true b 39 e)))
+  | inr e ↦ sym (ap (λ v. cond v l (b ∷ l)) e)
+]
 
 abbrev pub quote : ℕ → Bool
 quote b = b == 39
@@ -26,8 +27,9 @@ other_byte b (c ∷ l) h = ap (λ v. cond v (cond (c == 39) (39 ∷ unquoted l) 
 quote_byte : (l : List ℕ) → unquoted (39 ∷ l) ≡ 39 ∷ unquoted (without_quote l)
 quote_byte [] = refl
 quote_byte (c ∷ l) = elim (told (c == 39)) [
-    inl e ↦ ap (λ v. cond v (39 ∷ unquoted l) (39 ∷ unquoted (c ∷ l))) e ∙ sym (ap (λ v. 39 ∷ unquoted (cond v l (c ∷ l))) e)
-  | inr e ↦ ap (λ v. cond v (39 ∷ unquoted l) (39 ∷ unquoted (c ∷ l))) e ∙ sym (ap (λ v. 39 ∷ unquoted (cond v l (c ∷ l))) e) ]
+  | inl e ↦ ap (λ v. cond v (39 ∷ unquoted l) (39 ∷ unquoted (c ∷ l))) e ∙ sym (ap (λ v. 39 ∷ unquoted (cond v l (c ∷ l))) e)
+  | inr e ↦ ap (λ v. cond v (39 ∷ unquoted l) (39 ∷ unquoted (c ∷ l))) e ∙ sym (ap (λ v. 39 ∷ unquoted (cond v l (c ∷ l))) e)
+]
 
 place_there : (b : ℕ) (l : List ℕ) → quote b ≡ true → position_or_len quote (b ∷ l) ≡ 0
 place_there b l h = ap (λ v. cond (not v) (1 + position_or_len quote l) 0) h
@@ -39,21 +41,24 @@ place_step b l h = ap (λ v. cond (not v) (1 + position_or_len quote l) 0) h
 pub no_quotes : (s : List ℕ) → position_or_len quote s ≡ length s → unquoted s ≡ s
 no_quotes [] h = refl
 no_quotes (b ∷ l) h = elim (told (quote b)) [
-    inl e ↦ let z = place_there b l e in absurd (omega arith)
-  | inr e ↦ let z = place_step b l e in other_byte b l e ∙ ap (λ v. b ∷ v) (no_quotes l (omega arith)) ]
+  | inl e ↦ let z = place_there b l e in absurd (omega arith)
+  | inr e ↦ let z = place_step b l e in other_byte b l e ∙ ap (λ v. b ∷ v) (no_quotes l (omega arith))
+]
 
 -- up to its first quote a string stays
 first_quote_at : (s : List ℕ) (k : ℕ) → position_or_len quote s ≡ k → k < length s → unquoted s ≡ take k s ++ 39 ∷ unquoted (without_quote (drop (k + 1) s))
 first_quote_at [] k at h = absurd (omega arith)
 first_quote_at (b ∷ l) zero at h = elim (told (quote b)) [
-    inl e ↦ ap (λ v. unquoted (v ∷ l)) (eqb-true b 39 e) ∙ quote_byte l
-  | inr e ↦ let z = place_step b l e in absurd (omega arith) ]
+  | inl e ↦ ap (λ v. unquoted (v ∷ l)) (eqb-true b 39 e) ∙ quote_byte l
+  | inr e ↦ let z = place_step b l e in absurd (omega arith)
+]
 first_quote_at (b ∷ l) (suc k) at h = elim (told (quote b)) [
-    inl e ↦ let z = place_there b l e in absurd (omega arith)
+  | inl e ↦ let z = place_there b l e in absurd (omega arith)
   | inr e ↦
       let z = place_step b l e in
       let turn : suc k + 1 ≡ suc (k + 1) = omega arith in
-      other_byte b l e ∙ ap (λ v. b ∷ v) (first_quote_at l k (omega arith) (omega arith)) ∙ ap (λ j. (b ∷ take k l) ++ 39 ∷ unquoted (without_quote (drop j (b ∷ l)))) (sym turn) ]
+      other_byte b l e ∙ ap (λ v. b ∷ v) (first_quote_at l k (omega arith) (omega arith)) ∙ ap (λ j. (b ∷ take k l) ++ 39 ∷ unquoted (without_quote (drop j (b ∷ l)))) (sym turn)
+]
 
 pub first_quote : (s : List ℕ) → position_or_len quote s < length s → unquoted s ≡ before_first quote s ++ 39 ∷ unquoted (without_quote (after_first quote s))
 first_quote s h = first_quote_at s (position_or_len quote s) refl h

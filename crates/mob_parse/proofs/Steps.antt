@@ -42,6 +42,9 @@ first_read m inner l r x xs h short e = (length l, short, listed_begins m inner 
 pub next_read : {A : Type 0} (m : Mark) (inner : Reader A) (whole l u r : List Tok) (xs ys : List A) (x : A) → ReadSoFar m inner whole xs l → starts m l ≡ true → u ≡ rest l → inner u ≡ Ok (x, r) → length r ≤ length u → ys ≡ xs ++ x ∷ [] → ReadSoFar m inner whole ys r
 next_read m inner whole l u r xs ys x so_far there passed h short e =
     let gone = skipped m l there in
-    let long = ap length passed in
-    (so_far.0 - 1, omega (arith, so_far.1), so_far.2 ∙ turn m inner so_far.0 xs l there so_far.1 ∙ ap (λ v. inner v >>= λ x. listed_from m inner (so_far.0 - 1) (xs ++ x.0 ∷ []) x.1) (sym passed)
-      ∙ through (inner u) x r _ h ∙ ap (λ v. listed_from m inner (so_far.0 - 1) v r) (sym e))
+    let long = ap length passed in (
+      so_far.0 - 1,
+      omega (arith, so_far.1),
+      so_far.2 ∙ turn m inner so_far.0 xs l there so_far.1 ∙ ap (λ v. inner v >>= λ x. listed_from m inner (so_far.0 - 1) (xs ++ x.0 ∷ []) x.1) (sym passed)
+          ∙ through (inner u) x r _ h ∙ ap (λ v. listed_from m inner (so_far.0 - 1) v r) (sym e),
+    )

@@ -36,7 +36,8 @@ standing_after s x after = record {
   selects = selects_after s.selects x;
   depth = cond (ends s x) 0 (depth_after s.depth x);
   weight = cond (ends s x) 0 (weight_after s x after);
-  casts = is_mark Cast x }
+  casts = is_mark Cast x;
+}
 
 -- whether a token is counted behind 256 others
 abbrev pub is_heavy : Standing → Symbol → List Tok → Bool

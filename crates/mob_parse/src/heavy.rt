@@ -5,7 +5,7 @@ ghost use Rattle.mob_parse.specs.Lexemes.{tok_of, toks};
 ghost use Rattle.mob_parse.specs.Heavy.{ends, depth_after, selects_after, weight_after, standing_after, is_heavy, first_heavy};
 ghost use Rattle.mob_parse.specs.Standings.{standing_of};
 
-use crate::lexeme::{begins_literal, Lexeme, Symbol};
+use crate::lexeme::{Lexeme, Symbol, begins_literal};
 use mob_grammar::mark::Mark;
 
 /// Where a token stands.

@@ -10,3 +10,5 @@ mod nodes;
 pub mod script;
 mod select;
 mod statement;
+#[cfg(test)]
+mod tests;

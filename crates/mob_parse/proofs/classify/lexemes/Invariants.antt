@@ -7,7 +7,8 @@ abbrev pub invariant-tokens : goal.invariant-tokens
 invariant-tokens l = record {
   placed : ArePlaced l.text l.rest;
   so_far : toks l.found.items ++ lexed l.text l.rest ≡ lexed l.text l.tokens;
-  few : length l.found.items + length l.rest ≤ length l.tokens }
+  few : length l.found.items + length l.rest ≤ length l.tokens;
+}
 
 abbrev pub decreases-tokens : goal.decreases-tokens
 decreases-tokens l = length l.rest

@@ -9,7 +9,8 @@ invariant-tokens l = record {
   so_far : heavy_from (standing_of l.standing) l.at (toks l.rest) ≡ first_heavy (toks l.lexemes);
   depth : l.standing.depth ≤ l.at;
   weight : l.standing.weight ≤ l.at;
-  along : l.at + length l.rest ≡ length l.lexemes }
+  along : l.at + length l.rest ≡ length l.lexemes;
+}
 
 abbrev pub decreases-tokens : goal.decreases-tokens
 decreases-tokens l = length l.rest

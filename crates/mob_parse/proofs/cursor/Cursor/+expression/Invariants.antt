@@ -61,7 +61,8 @@ decreases-signed l = 32 * length (left l.self.now) + 3
 abbrev pub invariant-expressions-more : goal.invariant-expressions-more
 invariant-expressions-more l = record {
   shorter : length (left l.self) < length (left l.fn.self);
-  reads : (m : ℕ) × (length (left l.self) ≤ m) × (listed Comma expression_at (left l.fn.self) ≡ listed_from Comma expression_at m (map tree_of l.found.items) (left l.self)) }
+  reads : (m : ℕ) × (length (left l.self) ≤ m) × (listed Comma expression_at (left l.fn.self) ≡ listed_from Comma expression_at m (map tree_of l.found.items) (left l.self));
+}
 
 abbrev pub decreases-expressions-more : goal.decreases-expressions-more
 decreases-expressions-more l = length (left l.self)
@@ -69,7 +70,8 @@ decreases-expressions-more l = length (left l.self)
 abbrev pub invariant-cast-casts : goal.invariant-cast-casts
 invariant-cast-casts l = record {
   shorter : length (left l.self) < length (left l.fn.self);
-  reads : (m : ℕ) × (length (left l.self) ≤ m) × (cast_rank expression_at (left l.fn.self) ≡ postfix_from Cast cast_at m (tree_of l.value) (left l.self)) }
+  reads : (m : ℕ) × (length (left l.self) ≤ m) × (cast_rank expression_at (left l.fn.self) ≡ postfix_from Cast cast_at m (tree_of l.value) (left l.self));
+}
 
 abbrev pub decreases-cast-casts : goal.decreases-cast-casts
 decreases-cast-casts l = length (left l.self)
@@ -77,7 +79,8 @@ decreases-cast-casts l = length (left l.self)
 abbrev pub invariant-nullness-tests : goal.invariant-nullness-tests
 invariant-nullness-tests l = record {
   shorter : length (left l.self) < length (left l.fn.self);
-  reads : (m : ℕ) × (length (left l.self) ≤ m) × (nullness_rank expression_at (left l.fn.self) ≡ postfix_from Is null_at m (tree_of l.value) (left l.self)) }
+  reads : (m : ℕ) × (length (left l.self) ≤ m) × (nullness_rank expression_at (left l.fn.self) ≡ postfix_from Is null_at m (tree_of l.value) (left l.self));
+}
 
 abbrev pub decreases-nullness-tests : goal.decreases-nullness-tests
 decreases-nullness-tests l = length (left l.self)
@@ -85,7 +88,8 @@ decreases-nullness-tests l = length (left l.self)
 abbrev pub invariant-chain-operators : goal.invariant-chain-operators
 invariant-chain-operators l = record {
   shorter : length (left l.self) < length (left l.fn.self);
-  reads : (m : ℕ) × (length (left l.self) ≤ m) × (chain (level_number l.level) (operand_at l.level) (left l.fn.self) ≡ chain_from (level_number l.level) (operand_at l.level) m (tree_of l.value) (left l.self)) }
+  reads : (m : ℕ) × (length (left l.self) ≤ m) × (chain (level_number l.level) (operand_at l.level) (left l.fn.self) ≡ chain_from (level_number l.level) (operand_at l.level) m (tree_of l.value) (left l.self));
+}
 
 abbrev pub decreases-chain-operators : goal.decreases-chain-operators
 decreases-chain-operators l = length (left l.self)
