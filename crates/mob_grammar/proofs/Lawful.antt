@@ -143,7 +143,7 @@ lawful_string n [] short = tells_wrong AString (λ m. string_at) [] (λ y a m. a
 lawful_string n (t ∷ l) short = string_symbol t.symbol t.place l
 
 -- lists
-append_once : {A : Type 0} (xs : List A) (x : A) (zs : List A) → (xs ++ x ∷ []) ++ zs ≡ xs ++ (x ∷ zs)
+pub append_once : {A : Type 0} (xs : List A) (x : A) (zs : List A) → (xs ++ x ∷ []) ++ zs ≡ xs ++ (x ∷ zs)
 append_once xs x zs = append_assoc xs (x ∷ []) zs
 
 module _ {A : Type 0} (m : Mark) (F : Form A) (n : ℕ) (inner : Reader A) (law : Lawful F n inner) where

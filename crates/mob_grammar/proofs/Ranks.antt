@@ -381,3 +381,146 @@ module _ (n : ℕ) (inside : Reader Tree) (law : Lawful (Phrase disjunction) n i
       (literal_at (record { name = w; inner = None })) (if_mark Open (opened inside w) (if_mark Dot (column_at w) (λ u. Ok (leaf (node.Column None w) w.place, u)))) (lawful_literal (record { name = w; inner = None }))
       (lawful_if Open (OpenedIs w) n (opened inside w) (lawful_opened w) ((Dot ▸ AName ⇒ λ c. Says (leaf (node.Column (Some w) c) w.place)) ∣ Says (leaf (node.Column None w) w.place)) (if_mark Dot (column_at w) (λ u. Ok (leaf (node.Column None w) w.place, u)))
       (lawful_if Dot (AName ⇒ λ c. Says (leaf (node.Column (Some w) c) w.place)) n (column_at w) (lawful_column w) (Says (leaf (node.Column None w) w.place)) (λ u. Ok (leaf (node.Column None w) w.place, u)) (lawful_says n (leaf (node.Column None w) w.place)))) l short)
+
+  -- the innermost
+  primary_ready : Ready (Phrase primary)
+  primary_ready = record { closing = string [] 0 ∷ []; plain = (tt, tt); value = leaf (node.Str []) 0; closes = λ z. a_string }
+
+  BracketsAre : List Tok → Tree → List Tok → Type 0
+  BracketsAre u y r = (p : ℕ) → Phrase primary (sign Open p ∷ u) y r
+
+  brackets_are : (l : List Tok) (y : Tree) (r : List Tok) → (Phrase disjunction ⇒ λ e. Close ▸ Says e) l y r → BracketsAre l y r
+  unfolding BracketsAre
+  brackets_are l y r (e, u, d, (p, v, at_close, (says, left))) q = subst (λ z. Phrase primary (sign Open q ∷ l) z r) (sym says) (in_brackets (subst (Phrase disjunction l e) (at_close ∙ ap (λ z. sign Close p ∷ z) left) d))
+
+  bracketed : Reader Tree
+  bracketed l = inside l >>= λ x. closed Close x.0 x.1
+
+  lawful_brackets : Lawful BracketsAre n bracketed
+  unfolding bracketed
+  lawful_brackets l short = tells_same (Phrase disjunction ⇒ λ e. Close ▸ Says e) BracketsAre (λ m. bracketed) (λ m. bracketed) l (λ y a m. refl) brackets_are (bracketed l)
+      (lawful_then (Phrase disjunction) (λ e. Close ▸ Says e) n inside (closed Close) law (λ e. lawful_closed Close n e) l short)
+
+  brackets_turn : (g : Mark) (p : ℕ) (l : List Tok) → is g Open ≡ true → read.primary inside (sign g p ∷ l) ≡ bracketed l
+  unfolding read.primary mark_primary bracketed
+  brackets_turn g p l h = chosen _ _ _ h
+
+  true_turn : (p : ℕ) (l : List Tok) → read.primary inside (sign True p ∷ l) ≡ Ok (leaf node.True p, l)
+  unfolding read.primary mark_primary
+  true_turn p l = refl
+
+  false_turn : (p : ℕ) (l : List Tok) → read.primary inside (sign False p ∷ l) ≡ Ok (leaf node.False p, l)
+  unfolding read.primary mark_primary
+  false_turn p l = refl
+
+  null_turn : (p : ℕ) (l : List Tok) → read.primary inside (sign Null p ∷ l) ≡ Ok (leaf node.Null p, l)
+  unfolding read.primary mark_primary
+  null_turn p l = refl
+
+  no_turn : (g : Mark) (p : ℕ) (l : List Tok) → is g Open ≡ false → is g True ≡ false → is g False ≡ false → is g Null ≡ false → read.primary inside (sign g p ∷ l) ≡ Err (sign g p ∷ l)
+  unfolding read.primary mark_primary
+  no_turn g p l a b c d = passed _ _ _ a ∙ passed _ _ _ b ∙ passed _ _ _ c ∙ passed _ _ _ d
+
+  name_turn : (w : List ℕ) (p : ℕ) (l : List Tok) → read.primary inside (named w p ∷ l) ≡ named_at inside (word w p) l
+  unfolding read.primary
+  name_turn w p l = refl
+
+  number_turn : (w : List ℕ) (p : ℕ) (l : List Tok) → read.primary inside (numeral w p ∷ l) ≡ Ok (leaf (node.Number w) p, l)
+  unfolding read.primary
+  number_turn w p l = refl
+
+  string_turn : (w : List ℕ) (p : ℕ) (l : List Tok) → read.primary inside (string w p ∷ l) ≡ Ok (leaf (node.Str w) p, l)
+  unfolding read.primary
+  string_turn w p l = refl
+
+  primary_end : read.primary inside [] ≡ Err []
+  unfolding read.primary
+  primary_end = refl
+
+  tells_word : (g m : Mark) (p : ℕ) (l : List Tok) (x : Node) → is g m ≡ true → ((y : List Tok) → read.primary inside (sign m p ∷ y) ≡ Ok (leaf x p, y)) → ((y : List Tok) → Phrase primary (sign m p ∷ y) (leaf x p) y)
+      → Tells (Phrase primary) (λ m. read.primary inside) (sign g p ∷ l) (read.primary inside (sign g p ∷ l))
+  tells_word g m p l x h reads d = subst (λ z. Tells (Phrase primary) (λ m. read.primary inside) (sign z p ∷ l) (read.primary inside (sign z p ∷ l))) (sym (same_mark g m h))
+      (subst (Tells (Phrase primary) (λ m. read.primary inside) (sign m p ∷ l)) (sym (reads l)) (tells_one (Phrase primary) (λ m. read.primary inside) (sign m p) l (leaf x p) d (λ y a i. reads y)))
+
+  tells_mark : (g : Mark) (p : ℕ) (l : List Tok) → length l < n → Tells (Phrase primary) (λ m. read.primary inside) (sign g p ∷ l) (read.primary inside (sign g p ∷ l))
+  unfolding BracketsAre
+  tells_mark g p l short = elim (told (is g Open)) [
+    | inl is_open ↦ subst (Tells (Phrase primary) (λ m. read.primary inside) (sign g p ∷ l)) (sym (brackets_turn g p l is_open))
+        (tells_token BracketsAre (Phrase primary) (λ m. bracketed) (λ m. read.primary inside) (sign g p) (λ i u. brackets_turn g p u is_open) (λ u x r h. subst (λ z. Phrase primary (sign z p ∷ u) x r) (sym (same_mark g Open is_open)) (h p)) l _ (lawful_brackets l short))
+    | inr no_open ↦ elim (told (is g True)) [
+      | inl yes_true ↦ tells_word g True p l node.True yes_true (true_turn p) (λ y. is_true)
+      | inr no_true ↦ elim (told (is g False)) [
+        | inl yes_false ↦ tells_word g False p l node.False yes_false (false_turn p) (λ y. is_false)
+        | inr no_false ↦ elim (told (is g Null)) [
+          | inl yes_null ↦ tells_word g Null p l node.Null yes_null (null_turn p) (λ y. a_null)
+          | inr no_null ↦ subst (Tells (Phrase primary) (λ m. read.primary inside) (sign g p ∷ l)) (sym (no_turn g p l no_open no_true no_false no_null))
+              (tells_wrong (Phrase primary) (λ m. read.primary inside) (sign g p ∷ l) (λ y a m. alike_wrong (read.primary inside) (sign g p) (λ v. no_turn g p v no_open no_true no_false no_null) l y a) primary_ready)
+        ]
+      ]
+    ]
+  ]
+
+  tells_primary : (x : Symbol) (p : ℕ) (l : List Tok) → length l < n → Tells (Phrase primary) (λ m. read.primary inside) (record { symbol = x; place = p } ∷ l) (read.primary inside (record { symbol = x; place = p } ∷ l))
+  tells_primary (fixed g) p l short = tells_mark g p l short
+  tells_primary (name w) p l short = subst (Tells (Phrase primary) (λ m. read.primary inside) (named w p ∷ l)) (sym (name_turn w p l))
+      (tells_token (NamedIs (word w p)) (Phrase primary) (λ m. named_at inside (word w p)) (λ m. read.primary inside) (named w p) (λ i u. name_turn w p u) (λ u x r h. h) l _ (lawful_named (word w p) l short))
+  tells_primary (number w) p l short = subst (Tells (Phrase primary) (λ m. read.primary inside) (numeral w p ∷ l)) (sym (number_turn w p l))
+      (tells_one (Phrase primary) (λ m. read.primary inside) (numeral w p) l (leaf (node.Number w) p) (λ y. a_number) (λ y a m. number_turn w p y))
+  tells_primary (quoted w) p l short = subst (Tells (Phrase primary) (λ m. read.primary inside) (string w p ∷ l)) (sym (string_turn w p l))
+      (tells_one (Phrase primary) (λ m. read.primary inside) (string w p) l (leaf (node.Str w) p) (λ y. a_string) (λ y a m. string_turn w p y))
+
+  pub lawful_primary : Lawful (Phrase primary) (suc n) (read.primary inside)
+  lawful_primary [] short = subst (Tells (Phrase primary) (λ m. read.primary inside) []) (sym primary_end) (tells_wrong (Phrase primary) (λ m. read.primary inside) [] (λ y a m. alike_end (read.primary inside) primary_end y a) primary_ready)
+  lawful_primary (t ∷ l) short = tells_primary t.symbol t.place l (omega arith)
+
+  pub lawful_cast : Lawful (Phrase cast) (suc n) (cast_rank inside)
+  lawful_cast = lawful_postfix cast Cast CastTail cast_at cast_joins (suc n) (lawful_cast_tail (suc n)) (read.primary inside) lawful_primary
+
+  pub lawful_signed : Lawful (Phrase signed) (suc n) (signed_rank inside)
+  lawful_signed = lawful_prefix signed (λ t. binding t == 8) (λ t h. h) (suc n) (cast_rank inside) lawful_cast
+
+  pub lawful_product : Lawful (Phrase product) (suc n) (product_rank inside)
+  lawful_product = lawful_chain product (λ t h. eq-eqb _ _ h) (suc n) (signed_rank inside) lawful_signed
+
+  pub lawful_sum : Lawful (Phrase sum) (suc n) (sum_rank inside)
+  lawful_sum = lawful_chain sum (λ t h. eq-eqb _ _ h) (suc n) (product_rank inside) lawful_product
+
+  pub lawful_complement : Lawful (Phrase complement) (suc n) (complement_rank inside)
+  lawful_complement = lawful_prefix complement (is_sign Tilde) (λ t h. h) (suc n) (sum_rank inside) lawful_sum
+
+  pub lawful_other : Lawful (Phrase other) (suc n) (other_rank inside)
+  lawful_other = lawful_chain other (λ t h. eq-eqb _ _ h) (suc n) (complement_rank inside) lawful_complement
+
+  pub lawful_compared : Lawful (Phrase comparison) (suc n) (comparison_rank inside)
+  lawful_compared = lawful_comparison (suc n) (other_rank inside) lawful_other
+
+  pub lawful_nullness : Lawful (Phrase nullness) (suc n) (nullness_rank inside)
+  lawful_nullness = lawful_postfix nullness Is NullTail null_at null_joins (suc n) (lawful_null (suc n)) (comparison_rank inside) lawful_compared
+
+  pub lawful_negation : Lawful (Phrase negation) (suc n) (negation_rank inside)
+  lawful_negation = lawful_prefix negation (is_sign Not) (λ t h. h) (suc n) (nullness_rank inside) lawful_nullness
+
+  pub lawful_conjunction : Lawful (Phrase conjunction) (suc n) (conjunction_rank inside)
+  lawful_conjunction = lawful_chain conjunction (λ t h. eq-eqb _ _ h) (suc n) (negation_rank inside) lawful_negation
+
+  pub lawful_disjunction : Lawful (Phrase disjunction) (suc n) (disjunction_rank inside)
+  lawful_disjunction = lawful_chain disjunction (λ t h. eq-eqb _ _ h) (suc n) (conjunction_rank inside) lawful_conjunction
+
+-- a name before a closing bracket is a column
+column_read : (n : ℕ) (v : List ℕ) (o q : ℕ) (y : List Tok) → nest (suc n) (named v o ∷ sign Close q ∷ y) ≡ Ok (leaf (node.Column None (word v o)) o, sign Close q ∷ y)
+unfolding nest read.chain chain_from read.prefix read.comparison read.compared read.postfix postfix_from read.primary named_at if_mark
+column_read n v o q y = refl
+
+column_listed : (inside : Reader Tree) (v : List ℕ) (o q : ℕ) (y : List Tok) → inside (named v o ∷ sign Close q ∷ y) ≡ Ok (leaf (node.Column None (word v o)) o, sign Close q ∷ y) → args inside (named v o ∷ sign Close q ∷ y) ≡ Ok (leaf (node.Column None (word v o)) o ∷ [], y)
+unfolding args listed listed_from closed
+column_listed inside v o q y h = ap (λ a. (a >>= λ x. listed_from Comma inside (length (named v o ∷ sign Close q ∷ y)) (x.0 ∷ []) x.1) >>= λ x. closed Close x.0 x.1) h
+
+pub column_args : (n : ℕ) (v : List ℕ) (o q : ℕ) (y : List Tok) → 0 < n → args (nest n) (named v o ∷ sign Close q ∷ y) ≡ Ok (leaf (node.Column None (word v o)) o ∷ [], y)
+column_args zero v o q y pos = absurd (omega arith)
+column_args (suc n) v o q y pos = column_listed (nest (suc n)) v o q y (column_read n v o q y)
+
+-- with brackets that nest less deep than n, on lists that are shorter than n
+pub lawful_nest : (n : ℕ) → Lawful (Phrase disjunction) n (nest n)
+unfolding nest
+lawful_nest zero l short = absurd (omega arith)
+lawful_nest (suc n) l short = lawful_disjunction n (nest n) (lawful_nest n) (λ pos v o q y. column_args n v o q y pos) l short

@@ -5,3 +5,4 @@ pub mod Reading
 pub mod Scripts
 pub mod Symbols
 pub mod Texts
+pub mod Weights

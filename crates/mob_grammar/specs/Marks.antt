@@ -1,5 +1,5 @@
 -- The reserved words and the signs: their texts, and how tight a sign binds.
-use Rattle.std.specs.Prelude.{◌==◌, ℕ, List, Bool, codes}
+use Rattle.std.specs.Prelude.{◌==◌, ℕ, List, Bool, true, false, codes}
 use Rattle.mob_grammar.specs.declared.mark.Mark.{Mark}
 use Rattle.mob_grammar.specs.declared.mark.Mark.TheVariants.{Select, Distinct, From, Where, Order, By, Asc, Desc, Limit, Create, Table, Index, On, Using, Gist, Insert, Into, Values, Copy, With, Format, Csv, Header, Delimiter, Explain, And, Or, Not, Is, Null, True, False, As, Left, Join, Delete, Group, LiftedEqual, LiftedNotEqual, LiftedLess, LiftedLessEqual, LiftedGreater, LiftedGreaterEqual, EverEqual, EverNotEqual, EverLess, EverLessEqual, EverGreater, EverGreaterEqual, AlwaysEqual, AlwaysNotEqual, AlwaysLess, AlwaysLessEqual, AlwaysGreater, AlwaysGreaterEqual, Equal, NotEqual, Less, LessEqual, Greater, GreaterEqual, Distance, Approach, Plus, Minus, Times, Divide, Ampersand, Bar, Tilde, Concat, Overlap, Cast, Open, Close, Comma, Semicolon, Dot}
 
@@ -330,3 +330,84 @@ clause Close = 0
 clause Comma = 0
 clause Semicolon = 5
 clause Dot = 0
+
+-- whether it is a word
+abbrev pub is_word : Mark → Bool
+is_word Select = true
+is_word Distinct = true
+is_word From = true
+is_word Where = true
+is_word Order = true
+is_word By = true
+is_word Asc = true
+is_word Desc = true
+is_word Limit = true
+is_word Create = true
+is_word Table = true
+is_word Index = true
+is_word On = true
+is_word Using = true
+is_word Gist = true
+is_word Insert = true
+is_word Into = true
+is_word Values = true
+is_word Copy = true
+is_word With = true
+is_word Format = true
+is_word Csv = true
+is_word Header = true
+is_word Delimiter = true
+is_word Explain = true
+is_word And = true
+is_word Or = true
+is_word Not = true
+is_word Is = true
+is_word Null = true
+is_word True = true
+is_word False = true
+is_word As = true
+is_word Left = true
+is_word Join = true
+is_word Delete = true
+is_word Group = true
+is_word LiftedEqual = false
+is_word LiftedNotEqual = false
+is_word LiftedLess = false
+is_word LiftedLessEqual = false
+is_word LiftedGreater = false
+is_word LiftedGreaterEqual = false
+is_word EverEqual = false
+is_word EverNotEqual = false
+is_word EverLess = false
+is_word EverLessEqual = false
+is_word EverGreater = false
+is_word EverGreaterEqual = false
+is_word AlwaysEqual = false
+is_word AlwaysNotEqual = false
+is_word AlwaysLess = false
+is_word AlwaysLessEqual = false
+is_word AlwaysGreater = false
+is_word AlwaysGreaterEqual = false
+is_word Equal = false
+is_word NotEqual = false
+is_word Less = false
+is_word LessEqual = false
+is_word Greater = false
+is_word GreaterEqual = false
+is_word Distance = false
+is_word Approach = false
+is_word Plus = false
+is_word Minus = false
+is_word Times = false
+is_word Divide = false
+is_word Ampersand = false
+is_word Bar = false
+is_word Tilde = false
+is_word Concat = false
+is_word Overlap = false
+is_word Cast = false
+is_word Open = false
+is_word Close = false
+is_word Comma = false
+is_word Semicolon = false
+is_word Dot = false

@@ -190,3 +190,163 @@ nest (suc n) l = disjunction_rank (nest n) l
 -- an expression, with a number that is enough
 unfoldable pub expression_at : Reader Tree
 expression_at l = nest (length l + 1) l
+
+-- constants, rows and columns
+abbrev pub is_number_symbol : Symbol → Bool
+is_number_symbol (fixed g) = false
+is_number_symbol (name n) = false
+is_number_symbol (number n) = true
+is_number_symbol (quoted s) = false
+
+abbrev pub is_number : Tok → Bool
+is_number t = is_number_symbol t.symbol
+
+abbrev pub is_plus_or_minus : Tok → Bool
+is_plus_or_minus t = binding t == 8
+
+unfoldable pub plus_or_minus_at : Reader Tok
+plus_or_minus_at l = cond (begins is_plus_or_minus l) (Ok (first l, rest l)) (Err l)
+
+unfoldable pub signed_number_at : Reader Tree
+signed_number_at l = plus_or_minus_at l >>= λ t. number_at t.1 >>= λ n. Ok (unary t.0 (leaf (node.Number n.0.text) n.0.place), n.1)
+
+unfoldable pub number_leaf_at : Reader Tree
+number_leaf_at l = number_at l >>= λ n. Ok (leaf (node.Number n.0.text) n.0.place, n.1)
+
+unfoldable pub string_leaf_at : Reader Tree
+string_leaf_at l = string_at l >>= λ s. Ok (leaf (node.Str s.0.text) s.0.place, s.1)
+
+unfoldable pub mark_leaf_at : Mark → Node → Reader Tree
+mark_leaf_at m x l = mark_at m l >>= λ p. Ok (leaf x p.0, p.1)
+
+unfoldable pub typed_string_at : Reader Tree
+typed_string_at l = type_at l >>= λ ty. literal_at ty.0 ty.1
+
+unfoldable pub word_leaf_at : Reader Tree
+word_leaf_at l =
+    cond (starts True l) (mark_leaf_at True node.True l)
+    (cond (starts False l) (mark_leaf_at False node.False l)
+    (cond (starts Null l) (mark_leaf_at Null node.Null l) (typed_string_at l)))
+
+unfoldable pub const_at : Reader Tree
+const_at l =
+    cond (begins is_string l) (string_leaf_at l)
+    (cond (begins is_plus_or_minus l) (signed_number_at l)
+    (cond (begins is_number l) (number_leaf_at l) (word_leaf_at l)))
+
+unfoldable pub row_at : Reader RowParts
+row_at l = mark_at Open l >>= λ p. listed Comma const_at p.1 >>= λ values. closed Close (record { place = p.0; values = values.0 }) values.1
+
+unfoldable pub column_type_at : Reader (Word × TypeWord)
+column_type_at l = name_at l >>= λ name. type_at name.1 >>= λ ty. Ok ((name.0, ty.0), ty.1)
+
+-- statements
+unfoldable pub columns_at : Word → Reader StatementParts
+columns_at w l = listed Comma column_type_at l >>= λ columns. closed Close (create_table w columns.0) columns.1
+
+unfoldable pub create_table_at : Reader StatementParts
+create_table_at l = name_at l >>= λ name. after Open (columns_at name.0) name.1
+
+unfoldable pub index_column_at : Word → Word → Reader StatementParts
+index_column_at w table l = name_at l >>= λ column. closed Close (create_index w table column.0) column.1
+
+unfoldable pub index_table_at : Word → Reader StatementParts
+index_table_at w l = name_at l >>= λ table. after Using (after Gist (after Open (index_column_at w table.0))) table.1
+
+unfoldable pub create_index_at : Reader StatementParts
+create_index_at l = name_at l >>= λ name. after On (index_table_at name.0) name.1
+
+unfoldable pub create_at : Reader StatementParts
+create_at = if_mark Table create_table_at (after Index create_index_at)
+
+unfoldable pub rows_at : Word → Reader StatementParts
+rows_at table l = listed Comma row_at l >>= λ rows. Ok (insert table rows.0, rows.1)
+
+unfoldable pub insert_at : Reader StatementParts
+insert_at = after Into (λ l. name_at l >>= λ table. after Values (rows_at table.0) table.1)
+
+unfoldable pub header_at : Reader (Option Quoted)
+header_at = if_mark True (closed Close None) (closed Close None)
+
+unfoldable pub format_at : Reader (Option Quoted)
+format_at = after Open (after Format (after Csv (after Comma (after Header header_at))))
+
+unfoldable pub delimiter_at : Reader (Option Quoted)
+delimiter_at l = string_at l >>= λ s. after Csv (closed Header (Some s.0)) s.1
+
+unfoldable pub copy_form_at : Reader (Option Quoted)
+copy_form_at = if_mark With format_at (after Delimiter delimiter_at)
+
+unfoldable pub copy_file_at : Word → Reader StatementParts
+copy_file_at table l = string_at l >>= λ file. copy_form_at file.1 >>= λ delimiter. Ok (copy table file.0 delimiter.0, delimiter.1)
+
+unfoldable pub copy_at : Reader StatementParts
+copy_at l = name_at l >>= λ table. after From (copy_file_at table.0) table.1
+
+-- the parts of a SELECT
+unfoldable pub some_name_at : Reader (Option Word)
+some_name_at l = name_at l >>= λ name. Ok (Some name.0, name.1)
+
+unfoldable pub name_or_none_at : Reader (Option Word)
+name_or_none_at l = cond (begins is_name l) (some_name_at l) (Ok (None, l))
+
+unfoldable pub second_name_at : Reader (Option Word)
+second_name_at = if_mark As some_name_at name_or_none_at
+
+unfoldable pub from_entry_at : Reader FromTable
+from_entry_at l = name_at l >>= λ table. second_name_at table.1 >>= λ alias. Ok (record { table = table.0; alias = alias.0 }, alias.1)
+
+unfoldable pub alias_at : Reader (Option Word)
+alias_at = if_mark As some_name_at (λ l. Ok (None, l))
+
+unfoldable pub every_at : Reader ItemParts
+every_at l = mark_at Times l >>= λ p. Ok (every p.0, p.1)
+
+unfoldable pub one_at : Reader ItemParts
+one_at l = expression_at l >>= λ value. alias_at value.1 >>= λ alias. Ok (one value.0 alias.0, alias.1)
+
+unfoldable pub item_at : Reader ItemParts
+item_at l = cond (starts Times l) (every_at l) (one_at l)
+
+unfoldable pub direction_at : Reader Bool
+direction_at = if_mark Asc (λ l. Ok (false, l)) (if_mark Desc (λ l. Ok (true, l)) (λ l. Ok (false, l)))
+
+unfoldable pub key_at : Reader KeyParts
+key_at l = expression_at l >>= λ value. direction_at value.1 >>= λ descending. Ok (record { value = value.0; descending = descending.0 }, descending.1)
+
+unfoldable pub distinct_at : Reader Bool
+distinct_at = if_mark Distinct (λ l. Ok (true, l)) (λ l. Ok (false, l))
+
+unfoldable pub from_at : Reader (List FromTable)
+from_at = if_mark From (listed Comma from_entry_at) (λ l. Ok ([], l))
+
+unfoldable pub some_expression_at : Reader (Option Tree)
+some_expression_at l = expression_at l >>= λ e. Ok (Some e.0, e.1)
+
+unfoldable pub where_at : Reader (Option Tree)
+where_at = if_mark Where some_expression_at (λ l. Ok (None, l))
+
+unfoldable pub order_at : Reader (List KeyParts)
+order_at = if_mark Order (after By (listed Comma key_at)) (λ l. Ok ([], l))
+
+unfoldable pub some_number_at : Reader (Option Word)
+some_number_at l = number_at l >>= λ n. Ok (Some n.0, n.1)
+
+unfoldable pub limit_at : Reader (Option Word)
+limit_at = if_mark Limit some_number_at (λ l. Ok (None, l))
+
+unfoldable pub select_at : Reader SelectParts
+select_at l = distinct_at l >>= λ distinct. listed Comma item_at distinct.1 >>= λ items. from_at items.1 >>= λ from. where_at from.1 >>= λ cond. order_at cond.1 >>= λ keys. limit_at keys.1 >>= λ limit.
+    Ok (record { distinct = distinct.0; items = items.0; from = from.0; cond = cond.0; keys = keys.0; limit = limit.0 }, limit.1)
+
+unfoldable pub select_statement_at : Reader StatementParts
+select_statement_at l = select_at l >>= λ s. Ok (select s.0, s.1)
+
+unfoldable pub explain_at : Reader StatementParts
+explain_at = after Select (λ l. select_at l >>= λ s. Ok (explain s.0, s.1))
+
+unfoldable pub statement_at : Reader StatementParts
+statement_at = if_mark Create create_at (if_mark Insert insert_at (if_mark Copy copy_at (if_mark Select select_statement_at (if_mark Explain explain_at (λ l. Ok (empty, l))))))
+
+unfoldable pub script_at : Reader (List StatementParts)
+script_at = listed Semicolon statement_at
