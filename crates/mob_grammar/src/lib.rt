@@ -1,4 +1,0 @@
-//! The grammar of scripts: its definition, and its laws.
-#![tactic(auto)]
-
-pub mod mark;
