@@ -26,16 +26,20 @@ mutual
     none : Trees
     more : Tree → Trees → Trees
 
+-- the trees of a list, in order
 abbrev pub trees_from : List Tree → Trees
 trees_from [] = none
 trees_from (t ∷ ts) = more t (trees_from ts)
 
+-- the tree of a node whose arguments are trees
 abbrev pub tree_step : Expr-F Tree → Tree
 tree_step e = tree e.node e.place (trees_from e.args.items)
 
+-- the tree of an expression
 abbrev pub tree_of : Expr → Tree
 tree_of = fold-Expr Tree tree_step
 
+-- the trees of expressions
 abbrev pub trees_of : List Expr → Trees
 trees_of es = trees_from (map tree_of es)
 

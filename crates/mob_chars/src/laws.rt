@@ -3,15 +3,15 @@ ghost use Rattle.mob_chars.specs.Layout.{TokensAreLaid, FaultsAreStuck, TokensAr
 
 /// The tokens of a text lie one behind the other, with blanks and comments alone between them, up to its end.
 pub fn tokens_are_laid()
-    ensures { TokensAreLaid }
+    ensures laid { TokensAreLaid }
 {}
 
 /// Where a text has no tokens, tokens lead to the place of the fault, and there none begins.
 pub fn faults_are_stuck()
-    ensures { FaultsAreStuck }
+    ensures stuck { FaultsAreStuck }
 {}
 
 /// The tokens of a text stand in order and do not overlap.
 pub fn tokens_are_in_order()
-    ensures { TokensAreInOrder }
+    ensures in_order { TokensAreInOrder }
 {}

@@ -31,7 +31,7 @@ fn token_length(text: &[u8]) -> Option<(TokenKind, usize)>
 ///
 /// Answers `Lexical` exactly where a character begins no token or a string is not closed, with the first such place.
 pub fn tokens(alloc: Global, text: &str) -> Result<Items<Token>, LexFault>
-    requires { length text.now < 2 ^ 32 }
+    requires short { length text.now < 2 ^ 32 }
     ensures all { IfOk result (λ ts. tokens_of text.now ≡ Ok ts) }
     ensures fault { IfErr result (IsFault text.now) }
 {

@@ -1,6 +1,6 @@
+pub mod FormulaLemmas
 pub mod Operations
-pub mod Reductions
-pub mod WideLemmas
 pub mod OrderLemmas
-pub mod Interpolation
+pub mod Reductions
 pub mod Shares
+pub mod WideLemmas

@@ -7,13 +7,13 @@ use Rattle.std.specs.Int.{w64}
 use Rattle.std.proofs.lemmas.Bool.Decides.{nat_tests}
 use Rattle.std.proofs.lemmas.Int.{ints}
 use native.Mathlib.Nat.{mul-pos}
-use Rattle.mob_ratio.specs.Ratio.{over, whole, ◌+ℚ◌, ◌-ℚ◌, ◌*ℚ◌, neg_ℚ, ◌/ℚ◌, ◌<ℚ◌}
+use Rattle.mob_ratio.specs.Ratio.{Ratio, over, whole, ◌+ℚ◌, ◌-ℚ◌, ◌*ℚ◌, neg_ℚ, ◌/ℚ◌, ◌<ℚ◌}
 use Rattle.mob_ratio.proofs.IntRing.{linear, products, lt_of_mul, lt_mul, mul_comm, neg_mul}
 use Rattle.mob_ratio.specs.Lowest.{in_lowest_terms}
-use Rattle.mob_ratio.proofs.RatioLemmas.{over-add, over-mul, over-neg, over-lowest}
-use Rattle.mob_ratio.proofs.Clear.{fractions, cleared, over_lt, over_eq, eq_zero, zero_lt, lt_zero, whole-over}
+use Rattle.mob_ratio.proofs.RatioLemmas.{over-add, over-mul, over-neg, over-lowest, over-self, den_pos}
+use Rattle.mob_ratio.proofs.Clear.{fractions, cleared, same_add, over_lt, over_eq, eq_zero, zero_lt, lt_zero, whole-over}
 use Rattle.mob_ratio.proofs.Divide.{over-pos, over-negsuc, quotient_is}
-use Rattle.mob_frac.specs.declared.Frac.TheInside.{Inside}
+use Rattle.mob_frac.specs.declared.fraction.Frac.TheInside.{Inside}
 use Rattle.mob_frac.specs.Inside.{IsFraction, value}
 use Rattle.mob_frac.specs.Fits.{ratio}
 
@@ -35,6 +35,10 @@ sum_is f g h k =
     let d = abs_positive f.den h.den_positive in
     let e = abs_positive g.den k.den_positive in
     rw unsigned_abs-mul (rw e.0 at (rw d.0 at (over-add f.num g.num (nat_abs f.den) (nat_abs g.den) d.1 e.1)))
+
+-- the sum of fractions with one denominator
+pub same_sum_is : (f g : Inside) → IsFraction f → IsFraction g → f.den ≡ g.den → value f +ℚ value g ≡ over (f.num +ℤ g.num) (nat_abs f.den)
+same_sum_is f g h k e = rw (← e) (same_add f.num g.num (nat_abs f.den) (abs_positive f.den h.den_positive).1)
 
 matched : (o : Ordering) {P Q R P' Q' R' : Type 0} → (P → P') → (Q → Q') → (R → R') → MatchOrdering o P Q R → MatchOrdering o P' Q' R'
 matched Less p q r m = p m
@@ -138,9 +142,14 @@ opposite_positive d m b h k e =
     let p = simp products at (lt_mul m (pos 0) d h k) in
     rw e (omega (arith, linear, mul_comm d m))
 
-pub difference_is : (f g : Inside) → IsFraction f → IsFraction g → value f -ℚ value g ≡ over (f.num *ℤ g.den -ℤ g.num *ℤ f.den) (nat_abs (f.den *ℤ g.den))
-difference_is f g h k =
-    let d = abs_positive f.den h.den_positive in
-    let e = abs_positive g.den k.den_positive in
-    let s = over-add f.num (neg_ℤ g.num) (nat_abs f.den) (nat_abs g.den) d.1 e.1 in
-    rw (over-neg g.num (nat_abs g.den) e.1, unsigned_abs-mul) (rw (e.0, d.0, neg_mul g.num f.den) at s)
+pub difference_is : (a b : Ratio) → a -ℚ b ≡ over (a.num *ℤ pos b.den -ℤ b.num *ℤ pos a.den) (a.den * b.den)
+difference_is a b =
+    let s = over-add a.num (neg_ℤ b.num) a.den b.den (den_pos a) (den_pos b) in
+    ap (λ z. z -ℚ b) (sym (over-self a)) ∙ ap (λ z. over a.num a.den -ℚ z) (sym (over-self b)) ∙ rw (over-neg b.num b.den (den_pos b)) (rw (neg_mul b.num (pos a.den)) at s)
+
+pub denominators_positive : (a b : Ratio) → pos 0 <ℤ (pos a.den *ℤ pos b.den)
+denominators_positive a b =
+    let p : 0 < a.den = den_pos a in
+    let q : 0 < b.den = den_pos b in
+    let r : 0 < a.den * b.den = mul-pos p q in
+    omega (arith, linear)

@@ -8,7 +8,7 @@ use Rattle.mob_ratio.proofs.IntRing.{linear, lt_cancel, lt_times}
 use Rattle.mob_ratio.proofs.RatioLemmas.{over-mul}
 use Rattle.mob_ratio.proofs.Clear.{over_eq, eq_zero, whole-over}
 use Rattle.mob_ratio.proofs.Divide.{quotients_same}
-use Rattle.mob_frac.specs.declared.Wide.TheInside.{Inside}
+use Rattle.mob_frac.specs.declared.wide.Wide.TheInside.{Inside}
 use Rattle.mob_frac.specs.WideInside.{IsWide, wide_value}
 
 pub wide_den : (f : Inside) → IsWide f → (pos (nat_abs f.den) ≡ f.den) × (0 < nat_abs f.den)

@@ -1,4 +1,4 @@
-ghost use Rattle.std.specs.Prelude.{◌≡◌, ◌↔◌, IfOk, IsTrue, string_bytes};
+ghost use Rattle.std.specs.Prelude.{◌≡◌, IfOk, string_bytes};
 
 use std::alloc::{AllocError, Global};
 use std::marker::Model;
@@ -48,13 +48,6 @@ impl Text {
             text: String::from_str(alloc, self.as_str())?,
         })
     }
-
-    /// Whether two texts have the same bytes.
-    pub fn is_same(&self, other: &Text) -> bool
-        ensures exact { IsTrue result ↔ (self.now ≡ other.now) }
-    {
-        self.as_str().as_bytes() == other.as_str().as_bytes()
-    }
 }
 
 #[cfg(test)]
@@ -71,7 +64,6 @@ mod tests {
         crosses_threads(&text);
         let copy = text.copy(rt.alloc())?;
         assert_eq!(rt; copy.as_str(), "Żagiel");
-        assert!(rt; copy.is_same(&text));
         assert_eq!(rt; copy.into_string().as_str(), "Żagiel");
         Ok(())
     }

@@ -1,4 +1,13 @@
 -- Statements on rationals become statements on integers: all the rationals are given one denominator.
+--
+-- `clearK` speaks of K rationals as x1/D .. xK/D. `simp cleared` then turns a sum, a product, an equation or an inequality
+-- into the one of the numerators, multiplied out, which `omega (arith, linear)` decides. `simp fractions` does the same and
+-- does not multiply out. It has to be written without the rationals as arguments, so that the statement is found:
+--
+--     add_mul : (a b c : Ratio) → (a +ℚ b) *ℚ c ≡ a *ℚ c +ℚ b *ℚ c
+--     add_mul = clear3 _ (λ D x y z p. simp cleared (omega (arith, linear)))
+--
+-- A statement that is homogeneous, as `w *ℚ b ≡ a` for w = a/b, leaves no D in what `omega` sees. So state it that way.
 use Rattle.std.proofs.Common.{◌≡◌, ℕ, ◌+◌, ◌*◌, ◌<◌, ◌≤◌, ℤ, pos, ◌+ℤ◌, neg_ℤ, ◌*ℤ◌, ◌≤ℤ◌, ◌<ℤ◌, ◌↔◌, arith, refl, ap, sym, subst, ◌∙◌}
 use native.Mathlib.Nat.{mul-pos}
 use Rattle.mob_ratio.specs.Ratio.{Ratio, over, whole, ◌+ℚ◌, ◌*ℚ◌, ◌≤ℚ◌, ◌<ℚ◌}
@@ -84,13 +93,6 @@ clear11 P f a1 a2 a3 a4 a5 a6 a7 a8 a9 a10 a11 =
     clear10 (λ a1 a2 a3 a4 a5 a6 a7 a8 a9 a10. P a1 a2 a3 a4 a5 a6 a7 a8 a9 a10 a11) (λ D x1 x2 x3 x4 x5 x6 x7 x8 x9 x10 p.
     rw (lift_self a11 D p, lift x1 D a11.den p q, lift x2 D a11.den p q, lift x3 D a11.den p q, lift x4 D a11.den p q, lift x5 D a11.den p q, lift x6 D a11.den p q, lift x7 D a11.den p q, lift x8 D a11.den p q, lift x9 D a11.den p q, lift x10 D a11.den p q) (f (D * a11.den) (x1 *ℤ pos a11.den) (x2 *ℤ pos a11.den) (x3 *ℤ pos a11.den) (x4 *ℤ pos a11.den) (x5 *ℤ pos a11.den) (x6 *ℤ pos a11.den) (x7 *ℤ pos a11.den) (x8 *ℤ pos a11.den) (x9 *ℤ pos a11.den) (x10 *ℤ pos a11.den) (a11.num *ℤ pos D) (mul-pos p q)))
     a1 a2 a3 a4 a5 a6 a7 a8 a9 a10
-
-pub clear12 : (P : Ratio → Ratio → Ratio → Ratio → Ratio → Ratio → Ratio → Ratio → Ratio → Ratio → Ratio → Ratio → Type 0) → ((D : ℕ) (x1 x2 x3 x4 x5 x6 x7 x8 x9 x10 x11 x12 : ℤ) → 0 < D → P (over x1 D) (over x2 D) (over x3 D) (over x4 D) (over x5 D) (over x6 D) (over x7 D) (over x8 D) (over x9 D) (over x10 D) (over x11 D) (over x12 D)) → (a1 a2 a3 a4 a5 a6 a7 a8 a9 a10 a11 a12 : Ratio) → P a1 a2 a3 a4 a5 a6 a7 a8 a9 a10 a11 a12
-clear12 P f a1 a2 a3 a4 a5 a6 a7 a8 a9 a10 a11 a12 =
-    let q = den_pos a12 in
-    clear11 (λ a1 a2 a3 a4 a5 a6 a7 a8 a9 a10 a11. P a1 a2 a3 a4 a5 a6 a7 a8 a9 a10 a11 a12) (λ D x1 x2 x3 x4 x5 x6 x7 x8 x9 x10 x11 p.
-    rw (lift_self a12 D p, lift x1 D a12.den p q, lift x2 D a12.den p q, lift x3 D a12.den p q, lift x4 D a12.den p q, lift x5 D a12.den p q, lift x6 D a12.den p q, lift x7 D a12.den p q, lift x8 D a12.den p q, lift x9 D a12.den p q, lift x10 D a12.den p q, lift x11 D a12.den p q) (f (D * a12.den) (x1 *ℤ pos a12.den) (x2 *ℤ pos a12.den) (x3 *ℤ pos a12.den) (x4 *ℤ pos a12.den) (x5 *ℤ pos a12.den) (x6 *ℤ pos a12.den) (x7 *ℤ pos a12.den) (x8 *ℤ pos a12.den) (x9 *ℤ pos a12.den) (x10 *ℤ pos a12.den) (x11 *ℤ pos a12.den) (a12.num *ℤ pos D) (mul-pos p q)))
-    a1 a2 a3 a4 a5 a6 a7 a8 a9 a10 a11
 
 -- ---- at one denominator
 pub same_add : (x y : ℤ) (d : ℕ) → 0 < d → over x d +ℚ over y d ≡ over (x +ℤ y) d

@@ -1,14 +1,14 @@
 -- The values of a line from end to end.
-use Rattle.std.proofs.Common.{◌≡◌, Bool, true, false, cond, not, ◌&&◌, IsTrue, ◌↔◌, ℤ, pos, ◌+ℤ◌, neg_ℤ, ◌*ℤ◌, arith, refl, sym, ap, ◌∙◌}
-use Rattle.mob_ratio.specs.Ratio.{Ratio, whole, ◌+ℚ◌, ◌-ℚ◌, neg_ℚ, ◌*ℚ◌, ◌/ℚ◌, ◌<ℚ◌, ◌≤ℚ◌}
-use Rattle.mob_ratio.specs.Order.{before, upto, same}
-use Rattle.mob_ratio.specs.Line.{IsOnLine, line_value, line_at, line_continues}
+use Rattle.std.proofs.Common.{◌≡◌, Bool, true, false, ◌↔◌, arith, refl, sym, ap, ◌∙◌}
+use Rattle.mob_ratio.specs.Ratio.{Ratio, ◌+ℚ◌, ◌-ℚ◌, ◌*ℚ◌, ◌/ℚ◌}
+use Rattle.mob_ratio.specs.Order.{before}
+use Rattle.mob_ratio.specs.Line.{IsOnLine, line_value, line_at}
 use Rattle.mob_ratio.proofs.Field.{mul_assoc}
-use Rattle.mob_ratio.proofs.IntRing.{linear, products}
-use Rattle.mob_ratio.proofs.Clear.{clear3, clear4, clear6, cleared}
+use Rattle.mob_ratio.proofs.IntRing.{linear}
+use Rattle.mob_ratio.proofs.Clear.{clear4, clear6, cleared}
 use Rattle.mob_ratio.proofs.Divide.{line_value-is, quotients_same, sub_ne-zero, div-mul}
 use Rattle.mob_ratio.proofs.Lines.{line_unique, line_through}
-use Rattle.mob_ratio.proofs.Order.{before-lt, lt-before, before-self, before-neither, same_exact}
+use Rattle.mob_ratio.proofs.Order.{before-lt}
 
 pub line_at-long : (x0 x1 l u t : Ratio) → before l u ≡ true → line_at x0 x1 l u t ≡ line_value l x0 u x1 t
 unfolding line_at
@@ -66,9 +66,10 @@ is_slopes = clear6 _ (λ D x0 x1 y l m u p h. let h' = simp cleared at h.is in s
 
 pub slopes-same : (x0 x1 y l m u : Ratio) → before l m ≡ true → before m u ≡ true → before l u ≡ true → ((x1 -ℚ x0) /ℚ (m -ℚ l) ≡ (y -ℚ x1) /ℚ (u -ℚ m)) ↔ (line_at x0 y l u m ≡ x1)
 slopes-same x0 x1 y l m u h k e =
-    let q = quotients_same (x1 -ℚ x0) (m -ℚ l) (y -ℚ x1) (u -ℚ m) (sub_ne-zero l m (before-lt l m h)) (sub_ne-zero m u (before-lt m u k)) in
-    (λ f. line_at-known x0 y l u m x1 e (slopes_is x0 x1 y l m u (q.0 f)),
-     λ f. q.1 (is_slopes x0 x1 y l m u (rw (sym f) (line_at-is x0 y l u m e))))
+    let q = quotients_same (x1 -ℚ x0) (m -ℚ l) (y -ℚ x1) (u -ℚ m) (sub_ne-zero l m (before-lt l m h)) (sub_ne-zero m u (before-lt m u k)) in (
+      λ f. line_at-known x0 y l u m x1 e (slopes_is x0 x1 y l m u (q.0 f)),
+      λ f. q.1 (is_slopes x0 x1 y l m u (rw (sym f) (line_at-is x0 y l u m e))),
+    )
 
 -- the value by what it adds to the first
 by_rise : (x0 x1 l u t w : Ratio) → w *ℚ (u -ℚ l) ≡ (x1 -ℚ x0) *ℚ (t -ℚ l) → IsOnLine l x0 u x1 t (x0 +ℚ w)

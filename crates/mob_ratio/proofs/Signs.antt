@@ -1,17 +1,17 @@
 -- The signs of a line.
-use Rattle.std.proofs.Common.{◌≡◌, Bool, true, false, cond, not, ◌&&◌, ◌||◌, IsTrue, ◌↔◌, ◌⊎◌, inl, inr, ℤ, pos, negsuc, ◌+ℤ◌, neg_ℤ, ◌*ℤ◌, ◌<ℤ◌, ◌≤ℤ◌, arith, refl, sym, ap, ◌∙◌, subst, true≢false}
+use Rattle.std.proofs.Common.{◌≡◌, Bool, true, false, cond, ◌&&◌, ◌⊎◌, inl, inr, pos, ◌+ℤ◌, neg_ℤ, ◌<ℤ◌, arith, refl, sym, ap, ◌∙◌, true≢false}
 use Rattle.std.specs.declared.cmp.Ordering.{Ordering}
 use Rattle.std.specs.declared.cmp.Ordering.TheVariants.{Less, Equal, Greater}
-use Rattle.mob_ratio.specs.Ratio.{Ratio, whole, ◌+ℚ◌, ◌-ℚ◌, neg_ℚ, ◌*ℚ◌, ◌/ℚ◌, ◌<ℚ◌, ◌≤ℚ◌}
+use Rattle.mob_ratio.specs.Ratio.{Ratio, whole, ◌+ℚ◌, ◌-ℚ◌, ◌*ℚ◌, ◌/ℚ◌, ◌<ℚ◌, ◌≤ℚ◌}
 use Rattle.mob_ratio.specs.Order.{before, upto, same}
 use Rattle.mob_ratio.specs.Line.{IsOnLine, line_at}
 use Rattle.mob_ratio.specs.Sign.{nil, sign_of, opposite, root_at, sign_on, IsRoot, IsClearCell}
-use Rattle.mob_ratio.proofs.IntRing.{linear, products, lt_mul, lt_of_mul, le_mul, le_of_mul}
+use Rattle.mob_ratio.proofs.IntRing.{linear, products, lt_mul, lt_of_mul, le_mul}
 use Rattle.mob_ratio.proofs.Clear.{clear2, clear5, clear6, clear7, clear9, fractions, cleared}
 use Rattle.mob_ratio.proofs.Field.{mul_assoc, sub_self}
-use Rattle.mob_ratio.proofs.Divide.{sub_ne-zero, div-mul}
+use Rattle.mob_ratio.proofs.Divide.{div-mul}
 use Rattle.mob_ratio.proofs.Lines.{line_rises, line_falls, falling_before, root_between}
-use Rattle.mob_ratio.proofs.Order.{before-lt, lt-before, before-self, before-back, before-trans, before-neither, same_exact, upto-le, false_unless}
+use Rattle.mob_ratio.proofs.Order.{before-lt, lt-before, before-self, before-back, before-trans, before-neither, same_exact, upto-le}
 use Rattle.mob_ratio.proofs.LineAt.{line_at-is, line_at-lower, line_at-upper, line_at-known, line_at-level, line_at-short}
 
 pub falling_after : (t0 x0 t1 x1 r t x : Ratio) → t0 <ℚ t1 → x1 <ℚ x0 → IsOnLine t0 x0 t1 x1 r (whole (pos 0)) → IsOnLine t0 x0 t1 x1 t x → r <ℚ t → x <ℚ whole (pos 0)

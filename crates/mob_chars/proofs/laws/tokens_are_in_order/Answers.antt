@@ -2,4 +2,4 @@ use Rattle.mob_chars.proofs.Along.{are_in_order}
 use Rattle.mob_chars.proofs.laws.tokens_are_in_order.Goals as goal
 
 pub returns : goal.returns
-returns c = are_in_order
+returns c = record { in_order = are_in_order }

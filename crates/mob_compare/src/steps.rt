@@ -1,0 +1,202 @@
+ghost use Rattle.std.specs.Prelude.{◌≡◌, true, ◌||◌, [], ◌∷◌, Some, MatchResult, IfOk, IfErr};
+ghost use Rattle.mob_ratio.specs.Ratio.{Ratio};
+ghost use Rattle.mob_slice.specs.Slices.{value_at};
+ghost use Rattle.mob_slice.specs.Operands.{operand_at, is_moving, steady_value, steady_limit, IsPointwise};
+ghost use Rattle.mob_compare.specs.Truths.{AreTruths};
+
+use mob_lift::{lift, single};
+use mob_normal::normal;
+use mob_slice::{Compared, Moving, One, OpFault, Operand, Pair, Rel, Slice, Steady};
+use mob_sync::{Common, Ones};
+use std::alloc::Global;
+
+// The comparison of two temporal values.
+fn on_both<C: Compared>(
+    alloc: Global,
+    a: &Moving<C>,
+    b: &Moving<C>,
+    rel: Rel,
+) -> Result<Vec<Slice<Steady<bool>>>, OpFault>
+    requires steady { C.STEADY ≡ true }
+    ensures truths { IfOk result (λ all. AreTruths (C.relation rel) (value_at C.value_of a.now) (value_at C.value_of b.now) all.items) }
+    ensures fault { IfErr result (λ e. e ≡ OpFault.NoMemory) }
+{
+    lift(
+        alloc,
+        Common::new(a, b),
+        |part: &Pair<'_, C, C>| -> Result<Vec<Slice<Steady<bool>>>, OpFault>
+            ensures { MatchResult result (λ v. v.items ≡ record { span = part.now.span; course = record { value = C.relation rel (C.start_of part.now.left.now.course) (C.start_of part.now.right.now.course) } } ∷ []) (λ e. e ≡ OpFault.NoMemory) }
+        {
+            let value = C::relates(rel, part.left.course.start(), part.right.course.start());
+            single(alloc, part.span, value)
+        },
+    )
+}
+
+// The comparison of a temporal value with a base value.
+fn on_left<C: Compared>(
+    alloc: Global,
+    a: &Moving<C>,
+    b: &C::Base,
+    rel: Rel,
+) -> Result<Vec<Slice<Steady<bool>>>, OpFault>
+    requires steady { C.STEADY ≡ true }
+    ensures truths { IfOk result (λ all. AreTruths (C.relation rel) (value_at C.value_of a.now) (λ t. Some b.now) all.items) }
+    ensures fault { IfErr result (λ e. e ≡ OpFault.NoMemory) }
+{
+    lift(
+        alloc,
+        Ones::new(a),
+        |part: &One<'_, C>| -> Result<Vec<Slice<Steady<bool>>>, OpFault>
+            ensures { MatchResult result (λ v. v.items ≡ record { span = part.now.span; course = record { value = C.relation rel (C.start_of part.now.slice.now.course) b.entry.now } } ∷ []) (λ e. e ≡ OpFault.NoMemory) }
+        {
+            let value = C::relates(rel, part.slice.course.start(), b);
+            single(alloc, part.span, value)
+        },
+    )
+}
+
+// The comparison of a base value with a temporal value.
+fn on_right<C: Compared>(
+    alloc: Global,
+    a: &C::Base,
+    b: &Moving<C>,
+    rel: Rel,
+) -> Result<Vec<Slice<Steady<bool>>>, OpFault>
+    requires steady { C.STEADY ≡ true }
+    ensures truths { IfOk result (λ all. AreTruths (C.relation rel) (λ t. Some a.now) (value_at C.value_of b.now) all.items) }
+    ensures fault { IfErr result (λ e. e ≡ OpFault.NoMemory) }
+{
+    lift(
+        alloc,
+        Ones::new(b),
+        |part: &One<'_, C>| -> Result<Vec<Slice<Steady<bool>>>, OpFault>
+            ensures { MatchResult result (λ v. v.items ≡ record { span = part.now.span; course = record { value = C.relation rel a.entry.now (C.start_of part.now.slice.now.course) } } ∷ []) (λ e. e ≡ OpFault.NoMemory) }
+        {
+            let value = C::relates(rel, a, part.slice.course.start());
+            single(alloc, part.span, value)
+        },
+    )
+}
+
+// The comparison of two operands.
+fn truths_of<C: Compared>(
+    alloc: Global,
+    a: Operand<'_, C>,
+    b: Operand<'_, C>,
+    rel: Rel,
+) -> Result<Vec<Slice<Steady<bool>>>, OpFault>
+    requires steady { C.STEADY ≡ true }
+    requires moving { (is_moving a || is_moving b) ≡ true }
+    ensures truths { IfOk result (λ all. AreTruths (C.relation rel) (operand_at C.value_of a.entry) (operand_at C.value_of b.entry) all.items) }
+    ensures fault { IfErr result (λ e. e ≡ OpFault.NoMemory) }
+{
+    match (a, b) {
+        (Operand::Moving(a), Operand::Moving(b)) => on_both(alloc, a, b, rel),
+        (Operand::Moving(a), Operand::Fixed(b)) => on_left(alloc, a, b, rel),
+        (Operand::Fixed(a), Operand::Moving(b)) => on_right(alloc, a, b, rel),
+        (Operand::Fixed(_), Operand::Fixed(_)) => unreachable!(),
+    }
+}
+
+/// The ordinary comparison of two operands at each instant at which both have a value. None exactly where there is no such
+/// instant. On values that go by steps the one refusal is want of memory.
+pub fn compare<C: Compared>(
+    alloc: Global,
+    a: Operand<'_, C>,
+    b: Operand<'_, C>,
+    rel: Rel,
+) -> Result<Option<Moving<Steady<bool>>>, OpFault>
+    requires steady { C.STEADY ≡ true }
+    requires moving { (is_moving a || is_moving b) ≡ true }
+    ensures value { IfOk result (λ r. IsPointwise (C.relation rel) (operand_at C.value_of a.entry) (operand_at C.value_of b.entry) r) }
+    ensures fault { IfErr result (λ e. e ≡ OpFault.NoMemory) }
+{
+    let truths = truths_of(alloc, a, b, rel)?;
+    match normal(alloc, truths) {
+        Ok(value) => Ok(value),
+        Err(_) => Err(OpFault::NoMemory),
+    }
+}
+
+#[cfg(test)]
+mod tests {
+    use super::*;
+    use mob_frac::Frac;
+    use mob_list::text::Text;
+    use mob_slice::BaseValue;
+    use mob_span::Span;
+    use std::test::Fail;
+
+    // The value of one slice, on the span between two whole numbers.
+    fn one<V: BaseValue + Drop>(
+        alloc: Global,
+        lower: i64,
+        upper: i64,
+        value: V,
+    ) -> Option<Moving<Steady<V>>> {
+        let from = Frac::new(lower, 1).ok()?;
+        let to = Frac::new(upper, 1).ok()?;
+        let span = Span::new(from, to, true, true)?;
+        let mut slices = Vec::new(alloc);
+        let slice = Slice {
+            span,
+            course: Steady { value },
+        };
+        if slices.push(slice).is_err() {
+            return None;
+        }
+        normal(alloc, slices).ok()?
+    }
+
+    // The number from instant 1 to instant 2.
+    fn number(alloc: Global, value: i64) -> Option<Moving<Steady<Frac>>> {
+        one(alloc, 1, 2, Frac::new(value, 1).ok()?)
+    }
+
+    // The truth value of the first slice.
+    fn first(value: &Moving<Steady<bool>>) -> Option<bool> {
+        Some(value.slices().first()?.course.value)
+    }
+
+    // The comparison of two temporal numbers.
+    fn numbers(alloc: Global, x: i64, rel: Rel, y: i64) -> Option<bool> {
+        let a = number(alloc, x)?;
+        let b = number(alloc, y)?;
+        first(&compare(alloc, Operand::Moving(&a), Operand::Moving(&b), rel).ok()??)
+    }
+
+    // The comparison of a number with a temporal number.
+    fn constant(alloc: Global, x: i64, rel: Rel, y: i64) -> Option<bool> {
+        let a = Frac::new(x, 1).ok()?;
+        let b = number(alloc, y)?;
+        first(&compare(alloc, Operand::Fixed(&a), Operand::Moving(&b), rel).ok()??)
+    }
+
+    // The comparison of a temporal text with a text.
+    fn texts(alloc: Global, x: &str, rel: Rel, y: &str) -> Option<bool> {
+        let a = one(
+            alloc,
+            1,
+            2,
+            Text::from_string(String::from_str(alloc, x).ok()?),
+        )?;
+        let b = Text::from_string(String::from_str(alloc, y).ok()?);
+        first(&compare(alloc, Operand::Moving(&a), Operand::Fixed(&b), rel).ok()??)
+    }
+
+    // The comparison of a temporal truth value with a truth value.
+    fn truths(alloc: Global, x: bool, rel: Rel, y: bool) -> Option<bool> {
+        let a = one(alloc, 1, 2, x)?;
+        first(&compare(alloc, Operand::Moving(&a), Operand::Fixed(&y), rel).ok()??)
+    }
+
+    #[test]
+    fn numbers_and_texts_are_compared(rt: HostRuntime) -> Result<(), Fail> {
+        assert_eq!(rt; numbers(rt.alloc(), 3, Rel::Gt, 2), Some(true));
+        assert_eq!(rt; constant(rt.alloc(), 3, Rel::Lt, 3), Some(false));
+        assert_eq!(rt; texts(rt.alloc(), "a", Rel::Le, "ab"), Some(true));
+        assert_eq!(rt; truths(rt.alloc(), true, Rel::Ne, true), Some(false));
+        Ok(())
+    }
+}

@@ -1,0 +1,4 @@
+pub mod Exact
+pub mod Heads
+pub mod Lists
+mod Examples

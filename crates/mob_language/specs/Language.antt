@@ -1,0 +1,103 @@
+-- Languages of texts.
+--
+-- A language says which texts there are, and what each of them stands for. It is a relation between a text and a value, so a
+-- definition made of these words is the meaning of a text and names no way of reading it. The words are those of a grammar:
+--
+--   l ▷ m             a text of l, and behind it a text of m; it stands for the pair of the two values
+--   l ∣ m             a text of l, or a text of m
+--   Maybe l           a text of l, or nothing at all
+--   Word w            the word w alone
+--   AnyCase w         the word w, each letter of it small or capital
+--   OneOf test        one byte that passes the test; it stands for that byte
+--   Run test          any number of bytes that all pass the test; it stands for these bytes
+--   Separated l s     one text of l or more, with a text of s between each two; it stands for the list of the values
+--   behind w l        the word w, and behind it a text of l; it stands for what the latter stands for
+--   Means f l         a text of l; where it stands for a there, it stands for f a here
+--   Where test l      a text of l whose value passes the test
+use Rattle.std.specs.Prelude.{◌≡◌, ℕ, ◌+◌, List, [], ◌∷◌, ◌++◌, map, Bool, true, ◌&&◌, ◌||◌, cond, nat_le, nat_eq, Option, Some, None, ◌⊎◌}
+
+-- a text as the list of its bytes
+abbrev pub Text : Type 0
+Text = List ℕ
+
+-- for each text and each value, whether the text stands for the value
+abbrev pub Language : Type 0 → Type 1
+Language A = Text → A → Type 0
+
+infixr 5 ◌▷◌
+infixr 4 ◌∣◌
+-- a text of the one, and behind it a text of the other
+pub record ◌▷◌ {A B : Type 0} (l : Language A) (m : Language B) (text : Text) (v : A × B) : Type 0 where
+  pub front : Text
+  pub back : Text
+  pub whole : text ≡ front ++ back
+  pub first : l front v.0
+  pub second : m back v.1
+
+-- a text of the one, or a text of the other
+abbrev pub ◌∣◌ : {A : Type 0} → Language A → Language A → Language A
+(l ∣ m) text v = l text v ⊎ m text v
+
+-- a text of the language, or nothing
+abbrev pub Maybe : {A : Type 0} → Language A → Language (Option A)
+Maybe l text None = text ≡ []
+Maybe l text (Some a) = l text a
+
+-- a text that stands for a in the language stands for f a
+pub record Means {A B : Type 0} (f : A → B) (l : Language A) (text : Text) (v : B) : Type 0 where
+  pub meant : A
+  pub said : l text meant
+  pub is : v ≡ f meant
+
+-- a text whose value passes the test
+pub record Where {A : Type 0} (test : A → Bool) (l : Language A) (text : Text) (v : A) : Type 0 where
+  pub said : l text v
+  pub holds : test v ≡ true
+
+-- this word alone
+abbrev pub Word : Text → Language (Unit {0})
+Word word text v = text ≡ word
+
+-- the small letter of a capital one, and every other byte as it is
+abbrev pub small : ℕ → ℕ
+small c = cond (nat_le 65 c && nat_le c 90) (c + 32) c
+
+-- a word whose letters may be small or capital; `word` is written in small letters
+abbrev pub AnyCase : Text → Language (Unit {0})
+AnyCase word text v = map small text ≡ word
+
+-- one byte that passes the test
+abbrev pub OneOf : (ℕ → Bool) → Language ℕ
+OneOf test text c = (text ≡ c ∷ []) × (test c ≡ true)
+
+-- each of the bytes passes the test
+abbrev pub AreAll : (ℕ → Bool) → Text → Type 0
+AreAll test [] = Unit {0}
+AreAll test (c ∷ cs) = (test c ≡ true) × AreAll test cs
+
+-- any number of bytes that all pass the test
+pub record Run (test : ℕ → Bool) (text : Text) (v : Text) : Type 0 where
+  pub is : text ≡ v
+  pub each : AreAll test v
+
+-- one text or more, with a text of another language between each two
+abbrev pub Separated : {A : Type 0} → Language A → Language (Unit {0}) → Language (List A)
+Separated l s text [] = ⊥
+Separated l s text (v ∷ []) = l text v
+Separated l s text (v ∷ w ∷ vs) = (x : Text) × (y : Text) × (z : Text) × (text ≡ x ++ (y ++ z)) × l x v × s y tt × Separated l s z (w ∷ vs)
+
+-- a text of the language behind a word
+abbrev pub behind : {A : Type 0} → Text → Language A → Language A
+behind word l = Means (λ (v : Unit {0} × _). v.1) (Word word ▷ l)
+
+-- a blank is a space, a tab, a carriage return or a line feed
+abbrev pub is_blank : ℕ → Bool
+is_blank c = nat_eq c 32 || (nat_eq c 9 || (nat_eq c 13 || nat_eq c 10))
+
+-- any number of blanks
+abbrev pub blanks : Language Text
+blanks = Run is_blank
+
+-- a sign with any number of blanks on both sides of it
+abbrev pub spaced : Text → Language (Unit {0})
+spaced sign = Means (λ (v : Text × (Unit {0} × Text)). tt) (blanks ▷ (Word sign ▷ blanks))

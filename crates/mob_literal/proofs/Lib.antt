@@ -1,0 +1,10 @@
+pub mod Groups
+pub mod Listing
+pub mod Made
+pub mod OneValue
+pub mod Parted
+pub mod ReadSequences
+pub mod Rows
+pub mod SequenceExact
+pub mod Standard
+pub mod StepLemmas

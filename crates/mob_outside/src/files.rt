@@ -1,0 +1,278 @@
+// Files by their names.
+ghost use Rattle.std.specs.Prelude.{◌≡◌, ◌↔◌, ◌⊎◌, ◌<◌, ◌≤◌, ◌∷◌, ◌++◌, List, ℕ, Bool, true, false, Option, [], Some, None, Contains, IsErr, IfOk, OnOk, OnErr, IfSome, IfNone, map, drop, length, is_some, string_bytes, option_map};
+ghost use Rattle.std.specs.Result.{is_ok};
+ghost use Rattle.std.specs.Io.{ReadsAtMost};
+ghost use Rattle.std.specs.Io.KnownBytes.{ReadConsumes};
+ghost use Rattle.mob_outside.specs.Faults.{HasCause, next_count};
+ghost use Rattle.mob_outside.specs.Memory.{Drawer, new_drawer};
+ghost use Rattle.mob_outside.specs.Told.{AsksFor, Contents, KeepsFiles, KeepsNames, MayAskFor, Opens, Folder, entry, file_of};
+
+use crate::Failed;
+use crate::source::give;
+use std::alloc::Global;
+use std::fs;
+use std::io::Read;
+use std::marker::Model;
+use std::rt::Files as Disk;
+
+/// Files by their names. At first none is open.
+pub trait Files {
+    /// The files, where they are told. No call changes them.
+    ghost files: { Self → Option Contents };
+
+    /// The names that were asked for, in order, where that is told.
+    ghost asked: { Self → Option (List (List ℕ)) };
+
+    /// The bytes that the opened file has left, where that is told.
+    ghost left: { Self → Option (List ℕ) };
+
+    /// A file is open, and no call has failed since.
+    ghost is_ready: { Self → Bool };
+
+    /// How many calls have failed. It never falls.
+    ghost faults: { Self → ℕ };
+
+    /// Opens a file at its start. A name that is not there is a fault. After a fault no file is open.
+    fn open(&mut self, name: &str) -> Result<(), Failed>
+        ensures files { KeepsFiles (files self.old) (files self.new) }
+        ensures asked { OnOk result (AsksFor name.now (asked self.old) (asked self.new)) }
+        ensures refused { OnErr result (MayAskFor name.now (asked self.old) (asked self.new)) }
+        ensures opens { OnOk result (Opens name.now (files self.old) (left self.new)) }
+        ensures ready { is_ready self.new ≡ is_ok result }
+        ensures cause { HasCause (faults self.old) (faults self.new) result };
+
+    /// Moves the first bytes that the opened file has left to the front of `into`, and answers how many. That is 0 only
+    /// at the end. After a fault no file is open.
+    fn take(&mut self, into: &mut [u8]) -> Result<usize, Failed>
+        requires ready { is_ready self.old ≡ true }
+        requires room { 0 < length into.old }
+        ensures files { KeepsFiles (files self.old) (files self.new) }
+        ensures asked { KeepsNames (asked self.old) (asked self.new) }
+        ensures bound { ReadsAtMost result into.new }
+        ensures bytes { ReadConsumes (left self.old) (left self.new) result into.new }
+        ensures ready { is_ready self.new ≡ is_ok result }
+        ensures cause { HasCause (faults self.old) (faults self.new) result };
+}
+
+/// Files in memory whose calls fail and are cut short as their maker says. Contracts see them as a `Drawer`.
+#[derive(Drop)]
+pub struct MemFiles {
+    alloc: Global,
+    files: Vec<(String, Vec<u8>)>,
+    asked: Vec<String>,
+    opened: Vec<u8>,
+    at: usize,
+    ready: bool,
+    failing: Vec<u64>,
+    step: usize,
+    calls: u64,
+    faults: u64,
+}
+
+impl Model for MemFiles {
+    ghost Value = { Drawer };
+
+    ghost view = { λ s. record {
+      files = map entry s.files.items;
+      asked = map string_bytes s.asked.items;
+      left = drop s.at s.opened.items;
+      is_ready = s.ready;
+      failing = s.failing.items;
+      step = s.step;
+      calls = s.calls;
+      faults = s.faults;
+    } };
+
+    ghost invariant = { λ s. (0 < s.step) × (s.at ≤ length s.opened.items) };
+}
+
+impl MemFiles {
+    /// These files, none of them open; of two with one name the first counts. The calls whose numbers stand in
+    /// `failing`, opens and takes counted together from 1, fail; each other take gives at most `step` bytes.
+    pub fn new(
+        alloc: Global,
+        files: Vec<(String, Vec<u8>)>,
+        failing: Vec<u64>,
+        step: usize,
+    ) -> MemFiles
+        requires moves { 0 < step }
+        ensures starts { result ≡ new_drawer (map entry files.items) failing.items step }
+    {
+        MemFiles {
+            alloc,
+            files,
+            asked: Vec::new(alloc),
+            opened: Vec::new(alloc),
+            at: 0,
+            ready: false,
+            failing,
+            step,
+            calls: 0,
+            faults: 0,
+        }
+    }
+
+    /// The names that were asked for, in order. A failed open may have noted its name or not.
+    pub fn asked(&self) -> &[String]
+        ensures names { map string_bytes result.now ≡ self.now.asked }
+    {
+        &self.asked
+    }
+
+    // Notes the name and copies the file. None where the call is to fail, where there is no such file, and for want of
+    // memory.
+    fn look(&mut self, name: &str) -> Option<Vec<u8>>
+        ensures asked { IfSome result (λ _. self.new.asked ≡ self.old.asked ++ name.now ∷ []) }
+        ensures other { IfNone result ((self.new.asked ≡ self.old.asked)
+            ⊎ (self.new.asked ≡ self.old.asked ++ name.now ∷ [])) }
+        ensures bytes { IfSome result (λ b. Some b.items ≡ file_of name.now self.old.files) }
+        ensures files { self.new.files ≡ self.old.files }
+        ensures faults { self.new.faults ≡ self.old.faults }
+        ensures fails { Contains self.old.failing (next_count self.old.calls) → result ≡ None }
+        ensures counts { self.new.calls ≡ next_count self.old.calls }
+    {
+        self.calls = self.calls.saturating_add(1);
+        if self.failing.contains(&self.calls) {
+            return None;
+        }
+        let word = String::from_str(self.alloc, name).ok()?;
+        self.asked.push(word).ok()?;
+        find(&self.files, name)?.to_vec(self.alloc).ok()
+    }
+}
+
+impl Files for MemFiles {
+    ghost files = { λ s. Some s.files };
+
+    ghost asked = { λ s. Some s.asked };
+
+    ghost left = { λ s. Some s.left };
+
+    ghost is_ready = { λ s. s.is_ready };
+
+    ghost faults = { λ s. s.faults };
+
+    /// As all files; fails at the calls that their maker named, where no file has this name, and where there is no
+    /// memory to note the name or to copy the file.
+    fn open(&mut self, name: &str) -> Result<(), Failed>
+        ensures files { KeepsFiles (Some self.old.files) (Some self.new.files) }
+        ensures asked { OnOk result (AsksFor name.now (Some self.old.asked) (Some self.new.asked)) }
+        ensures refused { OnErr result (MayAskFor name.now (Some self.old.asked) (Some self.new.asked)) }
+        ensures opens { OnOk result (Opens name.now (Some self.old.files) (Some self.new.left)) }
+        ensures ready { self.new.is_ready ≡ is_ok result }
+        ensures cause { HasCause self.old.faults self.new.faults result }
+        ensures fails { Contains self.old.failing (next_count self.old.calls) → IsErr result }
+        ensures counts { self.new.calls ≡ next_count self.old.calls }
+    {
+        match self.look(name) {
+            Some(bytes) => {
+                self.opened = bytes;
+                self.at = 0;
+                self.ready = true;
+                Ok(())
+            }
+            None => {
+                self.ready = false;
+                self.faults = self.faults.saturating_add(1);
+                Err(Failed)
+            }
+        }
+    }
+
+    /// As all files; fails exactly at the calls that their maker named.
+    #[tactic(auto, using(crate::proofs::Rest::drop_rest))]
+    fn take(&mut self, into: &mut [u8]) -> Result<usize, Failed>
+        requires ready { self.old.is_ready ≡ true }
+        requires room { 0 < length into.old }
+        ensures files { KeepsFiles (Some self.old.files) (Some self.new.files) }
+        ensures asked { KeepsNames (Some self.old.asked) (Some self.new.asked) }
+        ensures bound { ReadsAtMost result into.new }
+        ensures bytes { ReadConsumes (Some self.old.left) (Some self.new.left) result into.new }
+        ensures ready { self.new.is_ready ≡ is_ok result }
+        ensures cause { HasCause self.old.faults self.new.faults result }
+        ensures fails { IsErr result ↔ Contains self.old.failing (next_count self.old.calls) }
+        ensures step { IfOk result (λ n. n ≤ self.old.step) }
+        ensures counts { self.new.calls ≡ next_count self.old.calls }
+    {
+        self.calls = self.calls.saturating_add(1);
+        if self.failing.contains(&self.calls) {
+            self.ready = false;
+            self.faults = self.faults.saturating_add(1);
+            return Err(Failed);
+        }
+        let count = give(&self.opened[self.at..], self.step, into);
+        self.at += count;
+        Ok(count)
+    }
+}
+
+// The bytes of the first file with this name.
+fn find<'a>(files: &'a [(String, Vec<u8>)], name: &str) -> Option<&'a [u8]>
+    ensures first { option_map (λ s. s.now) result ≡ file_of name.now (map entry files.now) }
+{
+    for (other, bytes) in files {
+        if other.as_str() == name {
+            return Some(bytes);
+        }
+    }
+    None
+}
+
+/// The files of the current folder. They tell neither their bytes nor the names asked. Contracts see them as a `Folder`.
+#[derive(Drop)]
+pub struct DirFiles<D: Disk + Drop> {
+    disk: D,
+    file: Option<D::File>,
+    faults: u64,
+}
+
+impl<D: Disk + Drop> Model for DirFiles<D> {
+    ghost Value = { Folder };
+
+    ghost view = { λ s. record { is_ready = is_some s.file; faults = s.faults } };
+}
+
+impl<D: Disk + Drop> DirFiles<D> {
+    /// The files of the folder that this runtime runs in, none of them open yet.
+    pub fn new(disk: D) -> DirFiles<D>
+        ensures starts { result ≡ record { is_ready = false; faults = 0 } }
+    {
+        DirFiles {
+            disk,
+            file: None,
+            faults: 0,
+        }
+    }
+}
+
+impl<D: Disk + Drop> Files for DirFiles<D> {
+    ghost files = { λ _. None };
+
+    ghost asked = { λ _. None };
+
+    ghost left = { λ _. None };
+
+    ghost is_ready = { λ s. s.is_ready };
+
+    ghost faults = { λ s. s.faults };
+
+    fn open(&mut self, name: &str) -> Result<(), Failed> {
+        self.file = fs::open(&self.disk, name).ok();
+        if self.file.is_some() {
+            return Ok(());
+        }
+        self.faults = self.faults.saturating_add(1);
+        Err(Failed)
+    }
+
+    fn take(&mut self, into: &mut [u8]) -> Result<usize, Failed> {
+        if let Some(file) = &mut self.file {
+            if let Ok(count) = file.read(into) {
+                return Ok(count);
+            }
+        }
+        self.file = None;
+        self.faults = self.faults.saturating_add(1);
+        Err(Failed)
+    }
+}

@@ -1,0 +1,20 @@
+//! The outside of a run: where its script comes from, the files that it reads, where its answers and its notes go, and
+//! the gate that each piece of its work passes.
+//!
+//! Each end counts its faults, and a call fails only where the count rose. What an end holds or has left is told by the
+//! ends in memory; those over the process's streams and its folder need not tell it.
+#![tactic(auto)]
+
+mod fault;
+mod files;
+mod gate;
+mod sink;
+mod source;
+#[cfg(test)]
+mod tests;
+
+pub use fault::Failed;
+pub use files::{DirFiles, Files, MemFiles};
+pub use gate::{Gate, OpenGate};
+pub use sink::{MemSink, Sink, StdSink};
+pub use source::{MemSource, Source, StdSource, SteadySource};

@@ -1,0 +1,73 @@
+// Ends whose k-th call fails, for each k until no call is the k-th.
+
+use crate::runs::{Failing, STEP, run_once};
+use std::test::Fail;
+
+const SCRIPT: &[u8] = b"SELECT tint '[5@2001-01-01]';\n";
+
+const ANSWER: &[u8] = b"c1\n5@2001-01-01 00:00:00+00\n(1 rows)\n";
+
+// The script has 30 bytes, so there are 6 calls: five with bytes, and one that meets the end.
+#[test]
+fn a_script_that_cannot_be_read(rt: HostRuntime) -> Result<(), Fail> {
+    let alloc = rt.alloc();
+    for k in 1..9u64 {
+        let mut failing = Failing::none(alloc);
+        failing.script.push(k)?;
+        let seen = run_once(&rt, alloc, &[], SCRIPT, failing)?;
+        if k <= 6 {
+            assert_eq!(rt; seen.status, 3, "call {k}");
+            assert_eq!(rt; seen.out.as_slice(), b"".as_slice(), "call {k}");
+            assert_eq!(rt;
+                seen.notes.as_slice(),
+                b"read fault: script\n".as_slice(),
+                "call {k}"
+            );
+        } else {
+            assert_eq!(rt; seen.status, 0, "call {k}");
+            assert_eq!(rt; seen.out.as_slice(), ANSWER, "call {k}");
+        }
+    }
+    Ok(())
+}
+
+// The answer has 37 bytes, so there are 6 calls, of which each before the failing one took 7 bytes.
+#[test]
+fn answers_that_cannot_be_written(rt: HostRuntime) -> Result<(), Fail> {
+    let alloc = rt.alloc();
+    for k in 1..9u64 {
+        let mut failing = Failing::none(alloc);
+        failing.out.push(k)?;
+        let seen = run_once(&rt, alloc, &[], SCRIPT, failing)?;
+        if k <= 6 {
+            let taken = (k as usize - 1) * STEP;
+            assert_eq!(rt; seen.status, 4, "call {k}");
+            assert_eq!(rt; seen.out.as_slice(), &ANSWER[..taken], "call {k}");
+            assert_eq!(rt;
+                seen.notes.as_slice(),
+                b"write fault\n".as_slice(),
+                "call {k}"
+            );
+        } else {
+            assert_eq!(rt; seen.status, 0, "call {k}");
+        }
+    }
+    Ok(())
+}
+
+// The note of a refusal is put in nine pieces of 10, 1, 7, 1, 10, 1, 2, 8 and 2 bytes, so in 12 calls.
+#[test]
+fn notes_that_cannot_be_written(rt: HostRuntime) -> Result<(), Fail> {
+    let alloc = rt.alloc();
+    let whole = b"statement 1, byte 0: refusal 0 (NotBuilt)\n";
+    let taken = [0, 7, 10, 11, 18, 19, 26, 29, 30, 32, 39, 40, 42, 42];
+    for (call, length) in taken.iter().enumerate() {
+        let mut failing = Failing::none(alloc);
+        failing.notes.push(call as u64 + 1)?;
+        let seen = run_once(&rt, alloc, &[], b"SELECT 1;", failing)?;
+        assert_eq!(rt; seen.status, 7, "call {call}");
+        assert_eq!(rt; seen.notes.len(), *length, "call {call}");
+        assert!(rt; whole.starts_with(&seen.notes), "call {call}");
+    }
+    Ok(())
+}

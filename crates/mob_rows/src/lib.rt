@@ -1,0 +1,9 @@
+//! Tests of whole runs, as tables: scripts with what they answer, and ends whose calls fail.
+#![tactic(auto)]
+
+#[cfg(test)]
+mod failing;
+#[cfg(test)]
+mod runs;
+#[cfg(test)]
+mod scripts;

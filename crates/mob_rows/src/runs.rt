@@ -1,0 +1,69 @@
+// One run over ends in memory.
+
+use mob_outside::{MemFiles, MemSink, MemSource, OpenGate};
+use mob_shell::run;
+use std::alloc::{AllocError, Global};
+use std::thread::Threads;
+
+/// How many bytes a call of an end in memory moves at most.
+pub const STEP: usize = 7;
+
+/// The numbers of the calls that fail: those of the script, of `out` and of the notes.
+#[derive(Drop)]
+pub struct Failing {
+    pub script: Vec<u64>,
+    pub out: Vec<u64>,
+    pub notes: Vec<u64>,
+}
+
+impl Failing {
+    /// No call fails.
+    pub fn none(alloc: Global) -> Failing {
+        Failing {
+            script: Vec::new(alloc),
+            out: Vec::new(alloc),
+            notes: Vec::new(alloc),
+        }
+    }
+}
+
+/// What a run gave.
+#[derive(Drop)]
+pub struct Report {
+    pub status: u8,
+    pub out: Vec<u8>,
+    pub notes: Vec<u8>,
+}
+
+/// One run with these words and this script.
+pub fn run_once(
+    rt: &(impl Threads + Sync),
+    alloc: Global,
+    words: &[&str],
+    script: &[u8],
+    failing: Failing,
+) -> Result<Report, AllocError> {
+    let mut list = Vec::new(alloc);
+    for word in words {
+        list.push(String::from_str(alloc, word)?)?;
+    }
+    let mut source = MemSource::new(script.to_vec(alloc)?, failing.script, STEP);
+    let mut files = MemFiles::new(alloc, Vec::new(alloc), Vec::new(alloc), STEP);
+    let mut out = MemSink::new(alloc, failing.out, STEP);
+    let mut notes = MemSink::new(alloc, failing.notes, STEP);
+    let status = run(
+        rt,
+        alloc,
+        &list,
+        &mut source,
+        &mut files,
+        &mut out,
+        &mut notes,
+        &OpenGate,
+    );
+    Ok(Report {
+        status,
+        out: out.taken().to_vec(alloc)?,
+        notes: notes.taken().to_vec(alloc)?,
+    })
+}

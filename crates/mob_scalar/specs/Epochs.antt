@@ -1,0 +1,15 @@
+-- The form of epochs.
+use Rattle.std.specs.Prelude.{◌≡◌, ℤ}
+use Rattle.mob_scalar.specs.declared.civil.Civil.{Civil}
+use Rattle.mob_scalar.specs.Calendar.{date, day_of}
+use Rattle.mob_scalar.specs.Verdict.{Form}
+
+-- an epoch is written as a date, and stands for the number of its day
+abbrev pub epochs : Form Civil ℤ
+epochs = record {
+  shape = date;
+  long = λ c. ⊥;
+  large = λ c. ⊥;
+  unsound = λ c. ⊥;
+  means = λ c day. day ≡ day_of c;
+}

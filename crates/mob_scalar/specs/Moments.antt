@@ -1,0 +1,16 @@
+-- The form of moments.
+use Rattle.std.specs.Prelude.{◌≡◌, ℤ}
+use Rattle.mob_ratio.specs.Ratio.{Ratio}
+use Rattle.mob_frac.specs.Fits.{Fits}
+use Rattle.mob_scalar.specs.declared.stamp.Stamp.{Stamp}
+use Rattle.mob_scalar.specs.Moment.{moment, instant}
+use Rattle.mob_scalar.specs.Verdict.{Form}
+
+abbrev pub moments : ℤ → Form Stamp Ratio
+moments epoch = record {
+  shape = moment;
+  long = λ s. ⊥;
+  large = λ s. ¬ Fits (instant epoch s);
+  unsound = λ s. ⊥;
+  means = λ s q. q ≡ instant epoch s;
+}

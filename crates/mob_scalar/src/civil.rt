@@ -1,0 +1,131 @@
+//! Dates of the calendar, of the years 0001 to 9999.
+ghost use Rattle.std.specs.Prelude.{◌≡◌, ◌<◌, ◌≤◌, ◌^◌, length, option_map, List, ℕ, ℤ, pos, nat_abs, ◌*ℤ◌, ◌+ℤ◌, ◌-ℤ◌, Option, Some, None, IfSome, true, Bool};
+ghost use Rattle.mob_language.specs.Readers.{all_of};
+ghost use Rattle.jiff_core.specs.Calendar.{days_from_civil, days_in_month as month_length};
+ghost use Rattle.mob_scalar.specs.Calendar.{is_civil as civil, day_of as day_number, date_of as date_of_day, IsInYears};
+ghost use Rattle.mob_scalar.specs.CalendarReaders.{fixed_at as fixed_in, dash_at as dash_in, date_at as date_in};
+
+use crate::numeral::{Figures, digits_at};
+use jiff_core::civil::Date;
+
+/// A date of the calendar.
+#[derive(Clone, Copy, Debug, PartialEq, Eq)]
+pub struct Civil {
+    pub year: u32,
+    pub month: u32,
+    pub day: u32,
+}
+
+/// Exactly `count` digits.
+#[tactic(auto, unfolding(crate::specs::CalendarReaders::fixed_at))]
+pub fn fixed_at(count: u32, bytes: &[u8]) -> Option<(u128, &[u8])>
+    ensures value { option_map (λ x. (x.0, x.1.now)) result ≡ fixed_in count bytes.now }
+    ensures bound { IfSome result (λ x. x.0 < 10 ^ count) }
+{
+    let (digits, rest) = digits_at(bytes)?;
+    if digits.count == count {
+        Some((digits.value, rest))
+    } else {
+        None
+    }
+}
+
+#[tactic(auto, unfolding(crate::specs::CalendarReaders::dash_at))]
+fn dash_at(bytes: &[u8]) -> Option<(u128, &[u8])>
+    ensures value { option_map (λ x. (x.0, x.1.now)) result ≡ dash_in bytes.now }
+    ensures bound { IfSome result (λ x. x.0 < 100) }
+{
+    match bytes {
+        [45, rest @ ..] => fixed_at(2, rest),
+        _ => None,
+    }
+}
+
+fn days_in_month(year: u32, month: u32) -> u32
+    ensures { result ≡ month_length (pos year) month }
+{
+    if month == 2 {
+        if (year % 4 == 0) && (year % 100 != 0 || year % 400 == 0) {
+            return 29;
+        }
+        return 28;
+    }
+    if month == 4 || month == 6 || month == 9 || month == 11 {
+        30
+    } else {
+        31
+    }
+}
+
+fn is_civil(date: Civil) -> bool
+    ensures { result ≡ civil date }
+{
+    1 <= date.year
+        && date.year <= 9999
+        && 1 <= date.month
+        && date.month <= 12
+        && 1 <= date.day
+        && date.day <= days_in_month(date.year, date.month)
+}
+
+#[tactic(auto, unfolding(crate::specs::CalendarReaders::date_at))]
+pub fn date_at(bytes: &[u8]) -> Option<(Civil, &[u8])>
+    ensures value { option_map (λ x. (x.0, x.1.now)) result ≡ date_in bytes.now }
+    ensures there { IfSome result (λ x. civil x.0 ≡ true) }
+{
+    let (year, rest) = fixed_at(4, bytes)?;
+    let (month, rest) = dash_at(rest)?;
+    let (day, rest) = dash_at(rest)?;
+    let date = Civil {
+        year: year as u32,
+        month: month as u32,
+        day: day as u32,
+    };
+    if is_civil(date) {
+        Some((date, rest))
+    } else {
+        None
+    }
+}
+
+/// The number of the day, from 1970-01-01.
+pub fn day_of(date: Civil) -> i32
+    requires { civil date ≡ true }
+    ensures { result ≡ day_number date }
+{
+    match Date::new(date.year as i16, date.month as i8, date.day as i8) {
+        Ok(day) => day.to_unix_epoch_day(),
+        Err(_) => 0,
+    }
+}
+
+/// All of the bytes, as a date.
+pub fn date_in_all(bytes: &[u8]) -> Option<Civil>
+    ensures value { result ≡ all_of date_in bytes.now }
+    ensures there { IfSome result (λ date. civil date ≡ true) }
+{
+    match date_at(bytes) {
+        Some((date, rest)) => { if rest.is_empty() { Some(date) } else { None } }
+        None => None,
+    }
+}
+
+/// The date of a day.
+pub fn date_of(day: i64) -> Civil
+    requires { IsInYears day }
+    ensures value { result ≡ date_of_day day }
+    ensures there { civil result ≡ true }
+{
+    match Date::from_unix_epoch_day(day) {
+        Ok(date) => Civil {
+            year: date.year as u32,
+            month: date.month as u32,
+            day: date.day as u32,
+        },
+        Err(_) => Civil {
+            year: 1,
+            month: 1,
+            day: 1,
+        },
+    }
+}

@@ -1,0 +1,67 @@
+//! The epoch: the day from whose midnight the instants count.
+ghost use Rattle.std.specs.Prelude.{◌≡◌, ◌<◌, ◌^◌, ℤ, pos, nat_abs, ◌*ℤ◌};
+ghost use Rattle.mob_scalar.specs.Calendar.{IsInYears};
+ghost use Rattle.mob_scalar.specs.Epochs.{epochs};
+ghost use Rattle.mob_scalar.specs.Verdict.{Lit};
+ghost use Rattle.jiff_core.specs.Calendar.{days_from_civil};
+
+use crate::civil::{date_in_all, day_of};
+use crate::fault::ReadText;
+use std::marker::Model;
+
+/// The epoch, a day of the years 0001 to 9999. An instant is the number of seconds since midnight
+/// UTC of this day. Clauses see an epoch as the number of its day, where 1970-01-01 is 0.
+#[derive(Clone, Copy, Debug, PartialEq, Eq)]
+pub struct Epoch {
+    day: i32,
+}
+
+impl Model for Epoch {
+    ghost use Rattle.std.specs.Prelude.{ℤ};
+    ghost use Rattle.mob_scalar.specs.Calendar.{IsInYears};
+
+    ghost Value = { ℤ };
+
+    ghost view = { λ e. e.day };
+
+    ghost invariant = { λ e. IsInYears e.day };
+
+    ghost inverse = { λ n. record { day = n } };
+}
+
+impl Epoch {
+    /// The standard epoch, 2000-01-01.
+    pub fn standard() -> Epoch
+        ensures day { result ≡ days_from_civil (pos 2000) 1 1 }
+    {
+        Epoch { day: 10957 }
+    }
+
+    /// The epoch that a text names: ten characters `YYYY-MM-DD`, a date of the years 0001 to 9999.
+    ///
+    /// Any other text is `NotText`. Blanks are not taken.
+    pub fn read(text: &str) -> Result<Epoch, ReadText>
+        ensures reading { Lit epochs text.now result }
+    {
+        match date_in_all(text.as_bytes()) {
+            None => Err(ReadText::NotText),
+            Some(date) => Ok(Epoch { day: day_of(date) }),
+        }
+    }
+
+    /// The number of its day, where 1970-01-01 is 0.
+    pub fn day(&self) -> i64
+        ensures day { result ≡ self.now }
+        ensures years { IsInYears result }
+    {
+        self.day as i64
+    }
+
+    /// Midnight UTC of its day, in seconds since 1970-01-01 00:00:00.
+    pub fn start(&self) -> i64
+        ensures value { result ≡ self.now *ℤ pos 86400 }
+        ensures bound { nat_abs result < 2 ^ 50 }
+    {
+        self.day() * 86400
+    }
+}

@@ -1,0 +1,27 @@
+//! Laws of reading and printing: each is a promise without running code.
+ghost use Rattle.std.specs.Prelude.{ℤ, Ok};
+ghost use Rattle.mob_ratio.specs.Ratio.{Ratio};
+ghost use Rattle.mob_frac.specs.Fits.{Fits};
+ghost use Rattle.mob_scalar.specs.Numbers.{numbers};
+ghost use Rattle.mob_scalar.specs.NumberText.{number_text};
+ghost use Rattle.mob_scalar.specs.Epochs.{epochs};
+ghost use Rattle.mob_scalar.specs.Moments.{moments};
+ghost use Rattle.mob_scalar.specs.MomentText.{HasDate, moment_text};
+ghost use Rattle.mob_scalar.specs.Verdict.{HasOneReading, Lit};
+
+/// A number that is printed is read again as itself.
+pub fn number_read_again()
+    ensures again { (q : Ratio) → Fits q → Lit numbers (number_text q) (Ok q) }
+{}
+
+/// A moment that is printed is read again as itself, where it lies in the years 0001 to 9999.
+pub fn moment_read_again()
+    ensures again { (epoch : ℤ) (t : Ratio) → Fits t → HasDate epoch t → Lit (moments epoch) (moment_text epoch t) (Ok t) }
+{}
+
+/// A text has one reading as a number, as a moment and as an epoch.
+pub fn one_reading()
+    ensures numbers { HasOneReading numbers }
+    ensures moments { (epoch : ℤ) → HasOneReading (moments epoch) }
+    ensures epochs { HasOneReading epochs }
+{}

@@ -1,0 +1,145 @@
+ghost use Rattle.std.specs.Prelude.{◌≡◌, ◌<◌, ◌≤◌, ◌^◌, ◌*◌, ◌+◌, length, Option, Some, None};
+ghost use Rattle.mob_language.specs.Readers.{all_of};
+ghost use Rattle.mob_ratio.specs.Ratio.{over};
+ghost use Rattle.mob_frac.specs.Fits.{IsExact};
+ghost use Rattle.mob_frac.specs.Signed.{signed};
+ghost use Rattle.mob_scalar.specs.NumberValue.{IsBounded, value, up_of, down_of, value_in};
+ghost use Rattle.mob_scalar.specs.Number.{count_of};
+ghost use Rattle.mob_scalar.specs.NumberReaders.{number_at as number_in};
+ghost use Rattle.mob_scalar.specs.Verdict.{Lit};
+ghost use Rattle.mob_scalar.specs.Numbers.{numbers};
+
+use crate::fault::ReadText;
+use crate::numeral::{Exponent, Figures, Numeral, Tail, number_at};
+use mob_frac::{Frac, Overflow, over_product};
+
+const SIZE: u128 = 1 << 62;
+
+pub fn ten_to(k: u32) -> u128
+    requires { k ≤ 36 }
+    ensures { result ≡ 10 ^ k }
+{
+    let mut power: u128 = 1;
+    for _ in 0..k {
+        power *= 10;
+    }
+    power
+}
+
+/// A whole number with zeros behind it.
+fn raised(negative: bool, size: u128, up: u32) -> Result<Frac, Overflow>
+    requires { up ≤ 18 }
+    ensures { IsExact (over (signed negative (size * 10 ^ up)) 1) result }
+{
+    if size >= SIZE {
+        return Err(Overflow);
+    }
+    over_product(negative, size * ten_to(up), 1, 1)
+}
+
+/// A number whose point moves to the left.
+fn lowered(negative: bool, size: u128, down: u32) -> Result<Frac, Overflow>
+    requires size { size < 10 ^ 36 }
+    requires down { down ≤ 54 }
+    ensures { IsExact (over (signed negative size) (10 ^ down)) result }
+{
+    if down > 27 {
+        over_product(negative, size, ten_to(27), ten_to(down - 27))
+    } else {
+        over_product(negative, size, ten_to(down), 1)
+    }
+}
+
+fn scaled(negative: bool, size: u128, up: u32, down: u32) -> Result<Frac, Overflow>
+    requires size { size < 10 ^ 36 }
+    requires up { up ≤ 18 }
+    requires down { down ≤ 54 }
+    ensures { IsExact (over (signed negative (size * 10 ^ up)) (10 ^ down)) result }
+{
+    if up >= down {
+        raised(negative, size, up - down)
+    } else {
+        lowered(negative, size, down - up)
+    }
+}
+
+fn up(exponent: Option<Exponent>) -> u128
+    ensures { result ≡ up_of exponent }
+{
+    match exponent {
+        None => 0,
+        Some(e) => { if e.negative { 0 } else { e.size.value } }
+    }
+}
+
+fn down(exponent: Option<Exponent>) -> u128
+    ensures { result ≡ down_of exponent }
+{
+    match exponent {
+        None => 0,
+        Some(e) => { if e.negative { e.size.value } else { 0 } }
+    }
+}
+
+fn places(part: Option<Figures>) -> u32
+    ensures { result ≡ count_of part }
+{
+    match part {
+        None => 0,
+        Some(f) => f.count,
+    }
+}
+
+fn part_value(part: Option<Figures>) -> u128
+    ensures { result ≡ value_in part }
+{
+    match part {
+        None => 0,
+        Some(f) => f.value,
+    }
+}
+
+/// The number that a numeral stands for.
+#[tactic(auto, unfolding(crate::specs::NumberValue::value))]
+pub fn evaluate(n: Numeral) -> Result<Frac, Overflow>
+    requires { IsBounded n }
+    ensures { IsExact (value n) result }
+{
+    match n.tail {
+        Tail::Over(denominator) => over_product(n.negative, n.digits.value, denominator.value, 1),
+        Tail::Decimal(part, exponent) => {
+            let size = n.digits.value * ten_to(places(part)) + part_value(part);
+            let up = up(exponent) as u32;
+            let down = places(part) + down(exponent) as u32;
+            scaled(n.negative, size, up, down)
+        }
+    }
+}
+
+/// All of the bytes, as a numeral.
+fn numeral_of(bytes: &[u8]) -> Option<Numeral>
+    ensures { result ≡ all_of number_in bytes.now }
+{
+    match number_at(bytes) {
+        Some((n, rest)) => { if rest.is_empty() { Some(n) } else { None } }
+        None => None,
+    }
+}
+
+/// The number that a text says.
+///
+/// A number is an optional sign, digits with at most one point, and perhaps an exponent from -18 to
+/// 18; or an optional sign, digits, `/` and digits that are not all 0. Each run of digits, the two
+/// sides of a point together, has at most 36. Any other text is `NotText`, and `TooLarge` a number
+/// whose reduced fraction has a part of more than 62 bits. It takes no memory.
+pub fn read_number(text: &str) -> Result<Frac, ReadText>
+    ensures reading { Lit numbers text.now result }
+{
+    match numeral_of(text.as_bytes()) {
+        None => Err(ReadText::NotText),
+        Some(n) => match evaluate(n) {
+            Ok(q) => Ok(q),
+            Err(_) => Err(ReadText::TooLarge),
+        },
+    }
+}

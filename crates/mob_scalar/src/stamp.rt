@@ -1,0 +1,450 @@
+//! Moments as they are written.
+ghost use Rattle.std.specs.Prelude.{◌≡◌, ◌<◌, ◌≤◌, ◌^◌, length, option_map, List, ℕ, ℤ, pos, nat_abs, ◌*ℤ◌, ◌+ℤ◌, ◌-ℤ◌, Option, Some, None, IfSome, true, Bool};
+ghost use Rattle.mob_language.specs.Language.{is_blank as blank};
+ghost use Rattle.mob_language.specs.Readers.{all_of, run_of, maybe_at, word_at};
+ghost use Rattle.mob_scalar.specs.Calendar.{is_civil as civil};
+ghost use Rattle.mob_scalar.specs.Moment.{stamp_of as stamp_made, clock_of as clock_made, offset_of as offset_made, zone_of as zone_made, is_in_years as in_years, seconds, shift as moved};
+ghost use Rattle.mob_scalar.specs.MomentReaders.{up_to_at as up_to_in, colon_at as colon_in, decimals_at as decimals_in, below_at as below_in, quotient_at as quotient_in, part_at as part_in, seconds_at as seconds_in, clock_at as clock_in, z_at as z_in, hours_at as hours_in, after_sign_in, zone_at as zone_in, blanks_at as blanks_in, t_at as t_in, gap_at as gap_in, time_at as time_in, moment_at as moment_in};
+
+use crate::civil::{Civil, date_at, day_of, fixed_at};
+use crate::number::ten_to;
+use crate::numeral::{Figures, digits_at};
+
+/// A part of a second, `numerator / denominator`.
+#[derive(Clone, Copy, Debug, PartialEq, Eq)]
+pub struct Part {
+    pub numerator: u128,
+    pub denominator: u128,
+}
+
+/// A time of day: whole seconds since midnight, and a part of a second.
+#[derive(Clone, Copy, Debug, PartialEq, Eq)]
+pub struct Clock {
+    pub seconds: u32,
+    pub part: Part,
+}
+
+/// An offset from UTC in seconds.
+#[derive(Clone, Copy, Debug, PartialEq, Eq)]
+pub struct Offset {
+    pub west: bool,
+    pub seconds: u32,
+}
+
+/// A moment: a day, a time of that day and the offset.
+#[derive(Clone, Copy, Debug, PartialEq, Eq)]
+pub struct Stamp {
+    pub date: Civil,
+    pub clock: Clock,
+    pub offset: Offset,
+}
+
+#[tactic(auto, unfolding(crate::specs::MomentReaders::up_to_at))]
+fn up_to_at(limit: u128, bytes: &[u8]) -> Option<(u128, &[u8])>
+    ensures value { option_map (λ x. (x.0, x.1.now)) result ≡ up_to_in limit bytes.now }
+    ensures bound { IfSome result (λ x. x.0 < 100) }
+{
+    let (n, rest) = fixed_at(2, bytes)?;
+    if n < limit { Some((n, rest)) } else { None }
+}
+
+#[tactic(auto, unfolding(crate::specs::MomentReaders::colon_at))]
+fn colon_at(bytes: &[u8]) -> Option<(u128, &[u8])>
+    ensures value { option_map (λ x. (x.0, x.1.now)) result ≡ colon_in bytes.now }
+    ensures bound { IfSome result (λ x. x.0 < 100) }
+{
+    match bytes {
+        [58, rest @ ..] => up_to_at(60, rest),
+        _ => None,
+    }
+}
+
+#[tactic(auto, unfolding(crate::specs::MomentReaders::z_at))]
+fn z_at(bytes: &[u8]) -> Option<(Offset, &[u8])>
+    ensures { option_map (λ x. (x.0, x.1.now)) result ≡ z_in bytes.now }
+{
+    match bytes {
+        [90, rest @ ..] | [122, rest @ ..] => Some((
+            Offset {
+                west: false,
+                seconds: 0,
+            },
+            rest,
+        )),
+        _ => None,
+    }
+}
+
+#[tactic(auto, unfolding(crate::specs::MomentReaders::t_at))]
+fn t_at(bytes: &[u8]) -> Option<((), &[u8])>
+    ensures { option_map (λ x. (x.0, x.1.now)) result ≡ t_in bytes.now }
+{
+    match bytes {
+        [84, rest @ ..] | [116, rest @ ..] => Some(((), rest)),
+        _ => None,
+    }
+}
+
+#[tactic(auto, unfolding(crate::specs::MomentReaders::decimals_at))]
+fn decimals_at(bytes: &[u8]) -> Option<(Part, &[u8])>
+    ensures { option_map (λ x. (x.0, x.1.now)) result ≡ decimals_in bytes.now }
+{
+    match bytes {
+        [46, rest @ ..] => {
+            let (digits, rest) = digits_at(rest)?;
+            if 1 <= digits.count && digits.count <= 18 {
+                let part = Part {
+                    numerator: digits.value,
+                    denominator: ten_to(digits.count),
+                };
+                Some((part, rest))
+            } else {
+                None
+            }
+        }
+        _ => None,
+    }
+}
+
+#[tactic(auto, unfolding(crate::specs::MomentReaders::below_at))]
+fn below_at(bytes: &[u8]) -> Option<(Figures, &[u8])>
+    ensures { option_map (λ x. (x.0, x.1.now)) result ≡ below_in bytes.now }
+{
+    match bytes {
+        [47, rest @ ..] => digits_at(rest),
+        _ => None,
+    }
+}
+
+#[tactic(auto, unfolding(crate::specs::MomentReaders::quotient_at))]
+fn quotient_at(bytes: &[u8]) -> Option<(Part, &[u8])>
+    ensures { option_map (λ x. (x.0, x.1.now)) result ≡ quotient_in bytes.now }
+{
+    match bytes {
+        [40, rest @ ..] => {
+            let (numerator, rest) = digits_at(rest)?;
+            let (denominator, rest) = below_at(rest)?;
+            match rest {
+                [41, rest @ ..] => {
+                    if 1 <= numerator.count && numerator.value < denominator.value {
+                        let part = Part {
+                            numerator: numerator.value,
+                            denominator: denominator.value,
+                        };
+                        Some((part, rest))
+                    } else {
+                        None
+                    }
+                }
+                _ => None,
+            }
+        }
+        _ => None,
+    }
+}
+
+#[tactic(auto, unfolding(crate::specs::MomentReaders::part_at))]
+fn part_at(bytes: &[u8]) -> Option<(Part, &[u8])>
+    ensures { option_map (λ x. (x.0, x.1.now)) result ≡ part_in bytes.now }
+{
+    match decimals_at(bytes) {
+        Some(found) => Some(found),
+        None => quotient_at(bytes),
+    }
+}
+
+fn maybe_part(bytes: &[u8]) -> (Option<Part>, &[u8])
+    ensures { Some (result.0, result.1.now) ≡ maybe_at part_in bytes.now }
+{
+    match part_at(bytes) {
+        Some((part, rest)) => (Some(part), rest),
+        None => (None, bytes),
+    }
+}
+
+#[tactic(auto, unfolding(crate::specs::MomentReaders::seconds_at))]
+fn seconds_at(bytes: &[u8]) -> Option<((u128, Option<Part>), &[u8])>
+    ensures value { option_map (λ x. (x.0, x.1.now)) result ≡ seconds_in bytes.now }
+    ensures bound { IfSome result (λ x. x.0.0 < 100) }
+{
+    match bytes {
+        [58, rest @ ..] => {
+            let (seconds, rest) = up_to_at(60, rest)?;
+            let (part, rest) = maybe_part(rest);
+            Some(((seconds, part), rest))
+        }
+        _ => None,
+    }
+}
+
+fn maybe_seconds(bytes: &[u8]) -> (Option<(u128, Option<Part>)>, &[u8])
+    ensures value { Some (result.0, result.1.now) ≡ maybe_at seconds_in bytes.now }
+    ensures bound { IfSome result.0 (λ x. x.0 < 100) }
+{
+    match seconds_at(bytes) {
+        Some((seconds, rest)) => (Some(seconds), rest),
+        None => (None, bytes),
+    }
+}
+
+fn clock_from(hour: u128, minute: u128, seconds: Option<(u128, Option<Part>)>) -> Clock
+    requires hour { hour < 100 }
+    requires minute { minute < 100 }
+    requires seconds { IfSome seconds (λ x. x.0 < 100) }
+    ensures { result ≡ clock_made (hour, (minute, seconds)) }
+{
+    let none = Part {
+        numerator: 0,
+        denominator: 1,
+    };
+    match seconds {
+        None => Clock {
+            seconds: (hour * 3600 + minute * 60) as u32,
+            part: none,
+        },
+        Some((second, None)) => Clock {
+            seconds: (hour * 3600 + minute * 60 + second) as u32,
+            part: none,
+        },
+        Some((second, Some(part))) => Clock {
+            seconds: (hour * 3600 + minute * 60 + second) as u32,
+            part,
+        },
+    }
+}
+
+#[tactic(auto, unfolding(crate::specs::MomentReaders::clock_at))]
+fn clock_at(bytes: &[u8]) -> Option<(Clock, &[u8])>
+    ensures { option_map (λ x. (x.0, x.1.now)) result ≡ clock_in bytes.now }
+{
+    let (hour, rest) = up_to_at(24, bytes)?;
+    let (minute, rest) = colon_at(rest)?;
+    let (seconds, rest) = maybe_seconds(rest);
+    Some((clock_from(hour, minute, seconds), rest))
+}
+
+fn maybe_colon(bytes: &[u8]) -> (Option<u128>, &[u8])
+    ensures value { Some (result.0, result.1.now) ≡ maybe_at colon_in bytes.now }
+    ensures bound { IfSome result.0 (λ n. n < 100) }
+{
+    match colon_at(bytes) {
+        Some((minutes, rest)) => (Some(minutes), rest),
+        None => (None, bytes),
+    }
+}
+
+fn offset_from(sign: u8, hours: u128, minutes: Option<u128>) -> Offset
+    requires hours { hours < 100 }
+    requires minutes { IfSome minutes (λ n. n < 100) }
+    ensures { result ≡ offset_made (sign, (hours, minutes)) }
+{
+    let minutes = match minutes {
+        None => 0,
+        Some(n) => n,
+    };
+    Offset {
+        west: sign == 45,
+        seconds: (hours * 3600 + minutes * 60) as u32,
+    }
+}
+
+fn after_sign(sign: u8, bytes: &[u8]) -> Option<(Offset, &[u8])>
+    ensures { option_map (λ x. (x.0, x.1.now)) result ≡ after_sign_in sign bytes.now }
+{
+    let (hours, rest) = up_to_at(16, bytes)?;
+    let (minutes, rest) = maybe_colon(rest);
+    Some((offset_from(sign, hours, minutes), rest))
+}
+
+#[tactic(auto, unfolding(crate::specs::MomentReaders::hours_at))]
+fn hours_at(bytes: &[u8]) -> Option<(Offset, &[u8])>
+    ensures { option_map (λ x. (x.0, x.1.now)) result ≡ hours_in bytes.now }
+{
+    match bytes {
+        [43, rest @ ..] => after_sign(43, rest),
+        [45, rest @ ..] => after_sign(45, rest),
+        _ => None,
+    }
+}
+
+#[tactic(auto, unfolding(crate::specs::MomentReaders::zone_at))]
+fn zone_at(bytes: &[u8]) -> Option<(Offset, &[u8])>
+    ensures { option_map (λ x. (x.0, x.1.now)) result ≡ zone_in bytes.now }
+{
+    match z_at(bytes) {
+        Some(found) => Some(found),
+        None => hours_at(bytes),
+    }
+}
+
+fn maybe_zone(bytes: &[u8]) -> (Option<Offset>, &[u8])
+    ensures { Some (result.0, result.1.now) ≡ maybe_at zone_in bytes.now }
+{
+    match zone_at(bytes) {
+        Some((offset, rest)) => (Some(offset), rest),
+        None => (None, bytes),
+    }
+}
+
+fn zone_or_utc(zone: Option<Offset>) -> Offset
+    ensures { result ≡ zone_made zone }
+{
+    match zone {
+        None => Offset {
+            west: false,
+            seconds: 0,
+        },
+        Some(offset) => offset,
+    }
+}
+
+fn is_blank(c: u8) -> bool
+    ensures { result ≡ blank c }
+{
+    c == 32 || c == 9 || c == 13 || c == 10
+}
+
+/// The blanks in front, and what stands behind them.
+pub fn blanks(bytes: &[u8]) -> (&[u8], &[u8])
+    ensures { (result.0.now, result.1.now) ≡ run_of blank bytes.now }
+{
+    let mut i = 0;
+    while i < bytes.len() {
+        if !is_blank(bytes[i]) {
+            return bytes.split_at(i);
+        }
+        i += 1;
+    }
+    bytes.split_at(i)
+}
+
+#[tactic(auto, unfolding(crate::specs::MomentReaders::blanks_at))]
+fn blanks_at(bytes: &[u8]) -> Option<((), &[u8])>
+    ensures { option_map (λ x. (x.0, x.1.now)) result ≡ blanks_in bytes.now }
+{
+    let (blanks, rest) = blanks(bytes);
+    if 0 < blanks.len() {
+        Some(((), rest))
+    } else {
+        None
+    }
+}
+
+#[tactic(auto, unfolding(crate::specs::MomentReaders::gap_at))]
+fn gap_at(bytes: &[u8]) -> Option<((), &[u8])>
+    ensures { option_map (λ x. (x.0, x.1.now)) result ≡ gap_in bytes.now }
+{
+    match blanks_at(bytes) {
+        Some(found) => Some(found),
+        None => t_at(bytes),
+    }
+}
+
+#[tactic(auto, unfolding(crate::specs::MomentReaders::time_at))]
+fn time_at(bytes: &[u8]) -> Option<((Clock, Offset), &[u8])>
+    ensures { option_map (λ x. (x.0, x.1.now)) result ≡ time_in bytes.now }
+{
+    let (_, rest) = gap_at(bytes)?;
+    let (clock, rest) = clock_at(rest)?;
+    let (zone, rest) = maybe_zone(rest);
+    Some(((clock, zone_or_utc(zone)), rest))
+}
+
+fn maybe_time(bytes: &[u8]) -> (Option<(Clock, Offset)>, &[u8])
+    ensures { Some (result.0, result.1.now) ≡ maybe_at time_in bytes.now }
+{
+    match time_at(bytes) {
+        Some((time, rest)) => (Some(time), rest),
+        None => (None, bytes),
+    }
+}
+
+fn stamp_from(date: Civil, time: Option<(Clock, Offset)>) -> Stamp
+    ensures { result ≡ stamp_made (date, time) }
+{
+    match time {
+        None => Stamp {
+            date,
+            clock: Clock {
+                seconds: 0,
+                part: Part {
+                    numerator: 0,
+                    denominator: 1,
+                },
+            },
+            offset: Offset {
+                west: false,
+                seconds: 0,
+            },
+        },
+        Some((clock, offset)) => Stamp {
+            date,
+            clock,
+            offset,
+        },
+    }
+}
+
+fn shift(offset: Offset) -> i64
+    ensures value { result ≡ moved offset }
+    ensures bound { nat_abs result < 2 ^ 32 }
+{
+    if offset.west {
+        offset.seconds as i64
+    } else {
+        -(offset.seconds as i64)
+    }
+}
+
+fn day_seconds(day: i32) -> i64
+    ensures value { result ≡ day *ℤ pos 86400 }
+    ensures bound { nat_abs result < 2 ^ 50 }
+{
+    day as i64 * 86400
+}
+
+fn total(day: i64, clock: u32, shift: i64) -> i64
+    requires day { nat_abs day < 2 ^ 50 }
+    requires shift { nat_abs shift < 2 ^ 32 }
+    ensures value { result ≡ day +ℤ pos clock +ℤ shift }
+    ensures bound { nat_abs result < 2 ^ 51 }
+{
+    day + clock as i64 + shift
+}
+
+/// Whole seconds since midnight UTC of 1970-01-01.
+#[tactic(auto, unfolding(crate::specs::Moment::seconds))]
+pub fn seconds_of(stamp: Stamp) -> i64
+    requires { civil stamp.date ≡ true }
+    ensures value { result ≡ seconds stamp }
+    ensures bound { nat_abs result < 2 ^ 51 }
+{
+    total(
+        day_seconds(day_of(stamp.date)),
+        stamp.clock.seconds,
+        shift(stamp.offset),
+    )
+}
+
+fn is_in_years(stamp: Stamp) -> bool
+    requires { civil stamp.date ≡ true }
+    ensures { result ≡ in_years stamp }
+{
+    let seconds = seconds_of(stamp);
+    -62135596800 <= seconds && seconds <= 253402300799
+}
+
+#[tactic(auto, unfolding(crate::specs::MomentReaders::moment_at))]
+pub fn moment_at(bytes: &[u8]) -> Option<(Stamp, &[u8])>
+    ensures value { option_map (λ x. (x.0, x.1.now)) result ≡ moment_in bytes.now }
+    ensures there { IfSome result (λ x. civil x.0.date ≡ true) }
+{
+    let (date, rest) = date_at(bytes)?;
+    let (time, rest) = maybe_time(rest);
+    let stamp = stamp_from(date, time);
+    if is_in_years(stamp) {
+        Some((stamp, rest))
+    } else {
+        None
+    }
+}

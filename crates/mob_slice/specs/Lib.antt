@@ -1,0 +1,9 @@
+pub mod Sameness
+pub mod Course
+pub mod SteadyLaws
+pub mod Look
+pub mod Slices
+pub mod Parts
+pub mod Pieces
+pub mod Ranks
+pub mod Operands

@@ -1,0 +1,26 @@
+//! Temporal values as lists of slices, in the sliced representation of Forlizzi, Güting, Nardelli and Schneider
+//! ("A Data Model and Data Structures for Moving Objects Databases", SIGMOD 2000).
+//!
+//! A slice is a span with a course, which gives the value at each instant of the span. A temporal value is a normal list
+//! of slices: of all lists of slices with the same value at each instant, one is normal.
+#![tactic(auto)]
+
+pub mod base_value;
+pub mod comparison;
+pub mod course;
+pub mod formula;
+pub mod moving;
+pub mod operand;
+pub mod part;
+pub mod slice;
+pub mod steady;
+
+pub use base_value::BaseValue;
+pub use comparison::{Compared, Ranked, Rel};
+pub use course::Course;
+pub use formula::{Formula, LookFault, OpFault};
+pub use moving::Moving;
+pub use operand::Operand;
+pub use part::{One, Pair, Part};
+pub use slice::Slice;
+pub use steady::Steady;

@@ -1,0 +1,3 @@
+pub mod SpanLemmas
+pub mod Insides
+pub mod Clearness

@@ -1,0 +1,3 @@
+pub mod Common
+pub mod Walk
+pub mod Ones

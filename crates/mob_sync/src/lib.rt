@@ -1,0 +1,8 @@
+//! Walks over the pieces of temporal values, in order of time. A walk takes no memory and has no refusal.
+#![tactic(auto)]
+
+pub mod common;
+pub mod ones;
+
+pub use common::Common;
+pub use ones::Ones;

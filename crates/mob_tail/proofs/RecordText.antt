@@ -1,0 +1,78 @@
+-- The text of a record is that of `csv`.
+use Rattle.std.proofs.Common.{◌≡◌, ◌∙◌, ap, ap₂, sym, refl, ℕ, ◌+◌, ◌<◌, List, [], ◌∷◌, ◌++◌, true, false, Bool, take, get_or, Some}
+use Rattle.std.specs.Prelude.{◌||◌, ◌==◌, if◌then◌else◌, length, map, Option, unwrap_or}
+use Rattle.std.specs.List.{concat, join_with_byte, list_any}
+use Rattle.std.proofs.lemmas.List.{append-nil, append_assoc, map-append, take_more}
+use Rattle.std.proofs.lemmas.List.Folds.{concat-append}
+use Rattle.csv.specs.declared.writer.WriterBuilder.{WriterBuilder}
+use Rattle.std.proofs.Math.Dec.{eqb-suc-zero}
+use Rattle.csv.specs.Writing as csv
+use Rattle.mob_tail.specs.AnswerText.{doubled, field_text, is_special, record_text}
+
+-- the writer of an answer: the usual one, for records of any length
+abbrev pub writer : WriterBuilder
+writer = csv.with_flexible csv.default_writer true
+
+regroup : (p q r s : Bool) → (p || (q || (r || s))) ≡ ((((p || q) || (r || s)) || false) || false)
+regroup true q r s = refl
+regroup false true r s = refl
+regroup false false true s = refl
+regroup false false false true = refl
+regroup false false false false = refl
+
+special : (b : ℕ) → is_special b ≡ csv.needs_byte writer b
+special b = regroup (b == 44) (b == 34) (b == 13) (b == 10)
+
+any_special : (xs : List ℕ) → list_any is_special xs ≡ csv.needs_quotes writer xs
+any_special [] = refl
+any_special (b ∷ rest) = ap₂ (λ (x y : Bool). x || y) (special b) (any_special rest)
+
+same_doubled : (xs : List ℕ) → doubled xs ≡ csv.escaped writer xs
+unfolding csv.escaped
+same_doubled [] = refl
+same_doubled (b ∷ rest) = ap (λ (w : List ℕ). if b == 34 then 34 ∷ b ∷ w else b ∷ w) (same_doubled rest)
+
+same_field : (f : List ℕ) → field_text f ≡ csv.field_text writer f
+same_field f = ap₂ (λ (t : Bool) (w : List ℕ). if t then 34 ∷ (w ++ 34 ∷ []) else f) (any_special f) (same_doubled f)
+
+-- the fields after a first one, each behind a comma
+same_rest : (f : List ℕ) (rest : List (List ℕ)) → join_with_byte 44 (map field_text (f ∷ rest)) ≡ csv.field_text writer f ++ csv.fields_text writer rest
+unfolding csv.fields_text
+same_rest f [] = same_field f ∙ sym (append-nil (csv.field_text writer f))
+same_rest f (g ∷ rest) = ap₂ (λ (x y : List ℕ). x ++ (44 ∷ y)) (same_field f) (same_rest g rest)
+
+shown : (x : ℕ) (xs : List ℕ) → (length (csv.field_text writer (x ∷ xs)) == 0) ≡ false
+shown x xs = go (csv.needs_quotes writer (x ∷ xs)) (csv.escaped writer (x ∷ xs))
+  where
+    go : (t : Bool) (w : List ℕ) → (length (if t then 34 ∷ (w ++ 34 ∷ []) else x ∷ xs) == 0) ≡ false
+    go true w = eqb-suc-zero _
+    go false w = eqb-suc-zero _
+
+same_body : (f : List ℕ) (rest : List (List ℕ)) → join_with_byte 44 (map field_text (f ∷ rest)) ++ 10 ∷ [] ≡ (csv.field_text writer f ++ csv.fields_text writer rest) ++ 10 ∷ []
+same_body f rest = ap (λ (w : List ℕ). w ++ 10 ∷ []) (same_rest f rest)
+
+-- what the writer writes of a record is the record's text
+pub record_text-csv : (fs : List (List ℕ)) → record_text fs ≡ csv.row_text writer fs
+unfolding csv.is_blank csv.fields_text
+record_text-csv [] = refl
+record_text-csv ([] ∷ []) = refl
+record_text-csv ((x ∷ xs) ∷ []) = same_body (x ∷ xs) [] ∙ ap (λ (t : Bool). (csv.field_text writer (x ∷ xs) ++ []) ++ ((if t then 34 ∷ 34 ∷ [] else []) ++ 10 ∷ [])) (sym (shown x xs))
+record_text-csv ([] ∷ g ∷ rest) = same_body [] (g ∷ rest)
+record_text-csv ((x ∷ xs) ∷ g ∷ rest) = same_body (x ∷ xs) (g ∷ rest)
+
+-- one more row in the text of the records
+pub records_more : (names : List (List ℕ)) (rows : List (List (List ℕ))) (i : ℕ) (d : List (List ℕ)) (old new : List ℕ) → i < length rows
+    → Some old ≡ Some (concat (map record_text (names ∷ take i rows))) → new ≡ old ++ record_text (get_or rows i d)
+    → Some new ≡ Some (concat (map record_text (names ∷ take (i + 1) rows)))
+records_more names rows i d old new lt before next =
+    let row = get_or rows i d in
+    let front = take i rows in
+    let more : concat (map record_text (take (i + 1) rows)) ≡ concat (map record_text front) ++ record_text row =
+    ap (λ (w : List (List (List ℕ))). concat (map record_text w)) (take_more rows i d lt)
+    ∙ ap concat (map-append record_text front (row ∷ []))
+    ∙ concat-append (map record_text front) (record_text row ∷ [])
+    ∙ ap (λ (w : List ℕ). concat (map record_text front) ++ w) (append-nil (record_text row)) in
+    let same : old ≡ record_text names ++ concat (map record_text front) = ap (λ (o : Option (List ℕ)). unwrap_or o []) before in
+    ap (λ (w : List ℕ). Some w) (next ∙ ap (λ (w : List ℕ). w ++ record_text row) same
+    ∙ append_assoc (record_text names) (concat (map record_text front)) (record_text row)
+    ∙ ap (λ (w : List ℕ). record_text names ++ w) (sym more))
