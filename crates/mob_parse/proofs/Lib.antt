@@ -1,0 +1,5 @@
+pub mod Placed
+pub mod Quotes
+pub mod Refused
+pub mod Scripts
+pub mod Steps

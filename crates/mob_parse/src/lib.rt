@@ -1,0 +1,14 @@
+//! The parser of scripts: from bytes to the tree of the grammar, or the first refusal.
+#![tactic(auto)]
+
+mod classify;
+mod cursor;
+mod expression;
+mod heavy;
+mod lexeme;
+mod nodes;
+pub mod script;
+mod select;
+mod statement;
+#[cfg(test)]
+mod tests;
