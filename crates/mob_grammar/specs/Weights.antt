@@ -1,5 +1,6 @@
--- How many counted tokens an expression has. The counted tokens are the signs other than `,` `.` `)`, the words OR, AND,
--- NOT and IS, and the names of functions; an opening bracket counts beside the name before it.
+-- How many counted tokens an expression has. The counted tokens are its signs other than `,` `.` `)`, the words OR, AND,
+-- NOT and IS, and the names of functions; an opening bracket counts beside the name before it. The `;` that ends an
+-- expression is no sign of it.
 use Rattle.std.specs.Prelude.{◌==◌, ◌+◌, ◌-◌, ℕ, List, [], ◌∷◌, Bool, true, false, cond, Option, Some, None}
 use Rattle.mob_grammar.specs.declared.mark.Mark.{Mark}
 use Rattle.mob_grammar.specs.declared.mark.Mark.TheVariants.{Select, Or, And, Not, Is, Null, True, False, Cast, Open, Close, Comma, Semicolon, Dot}
@@ -8,15 +9,15 @@ use Rattle.mob_grammar.specs.Symbols.{Symbol, fixed, name, number, quoted, Tok, 
 use Rattle.mob_grammar.specs.Reading.{is_literal}
 
 -- Where a token stands: whether in a SELECT; in how many open brackets; behind how many counted tokens of its expression;
--- and whether right behind a `::`, where a type stands.
+-- and whether right behind a `::` or a `.`, where a type or a column stands and no call.
 pub record Standing : Type 0 where
   pub selects : Bool
   pub depth : ℕ
   pub weight : ℕ
-  pub casts : Bool
+  pub no_call : Bool
 
 abbrev pub outside : Standing
-outside = record { selects = false; depth = 0; weight = 0; casts = false }
+outside = record { selects = false; depth = 0; weight = 0; no_call = false }
 
 -- whether a mark is counted
 abbrev pub mark_counts : Mark → Bool
@@ -27,16 +28,18 @@ mark_counts Is = true
 mark_counts Comma = false
 mark_counts Dot = false
 mark_counts Close = false
+mark_counts Semicolon = false
 mark_counts m = cond (is_word m) false true
 
--- A name is that of a function before an opening bracket, but not behind `::`, and not where `name ( name ) string` stands.
+-- A name is that of a function before an opening bracket, but not behind `::` or `.`, and not where `name ( name ) string`
+-- stands.
 abbrev pub is_function : Bool → List Tok → Bool
-is_function casts after = cond casts false (cond (starts Open after) (cond (is_literal (rest after)) false true) false)
+is_function no_call after = cond no_call false (cond (starts Open after) (cond (is_literal (rest after)) false true) false)
 
 -- whether a token is counted that stands so, before these tokens
 abbrev pub counts : Standing → Symbol → List Tok → Bool
 counts s (fixed m) after = cond s.selects (mark_counts m) false
-counts s (name n) after = cond s.selects (is_function s.casts after) false
+counts s (name n) after = cond s.selects (is_function s.no_call after) false
 counts s (number n) after = false
 counts s (quoted t) after = false
 

@@ -11,7 +11,7 @@ use Rattle.mob_chars.specs.Tokens.{tokens_of}
 use Rattle.mob_grammar.specs.Symbols.{Tok}
 use Rattle.mob_grammar.specs.Scripts.{IsScript}
 use Rattle.mob_parse.specs.Tokens.{lexed}
-use Rattle.mob_parse.specs.Refusals.{HasTokens, IsTreeOf, IsLightText, Cause, IsRefused}
+use Rattle.mob_parse.specs.Refusals.{HasTokens, IsTreeOf, IsLight, IsLightText, Cause, IsRefused}
 use Rattle.mob_parse.proofs.Scripts.{no_script}
 
 -- a text has its tokens once
@@ -20,13 +20,20 @@ same_tokens bytes l m a b = let same : a.0 ≡ b.0 = cc (a.1, b.1) in a.2 ∙ ap
 
 pub no_tree : (k : Kind) (bytes : List ℕ) (e : Refusal) → Cause k bytes e → (x : List StatementParts) → IsTreeOf bytes x → IsLightText bytes → k ≡ NoMemory
 no_tree NotUtf8 bytes e h x d light = absurd (h.0 d.0)
-no_tree Lexical bytes e h x d light = let one = h.0 in let other = d.1.1.1 in cc
-no_tree Syntax bytes e h x d light = absurd (no_script h.0 h.2.0 h.2.1 x (subst (λ l. IsScript l x) (same_tokens bytes d.1.0 h.0 d.1.1 h.1) d.1.2))
-no_tree TooComplex bytes e h x d light = let some = h.2.1 in let none = light h.0 h.1 in cc
+no_tree Lexical bytes e h x d light = let one = h.1.0 in let other = d.1.1.1 in cc
+no_tree Syntax bytes e h x d light = absurd (no_script h.1.0 h.1.2.0 h.1.2.1 x (subst (λ l. IsScript l x) (same_tokens bytes d.1.0 h.1.0 d.1.1 h.1.1) d.1.2))
+no_tree TooComplex bytes e h x d light = let some = h.1.2.1 in let none = light h.1.0 h.1.1 in cc
 no_tree NoMemory bytes e h x d light = refl
 no_tree _ bytes e h x d light = absurd h
 
+-- a text is light where its tokens are
+pub light_text : (bytes : List ℕ) (l : List Tok) → HasTokens bytes l → IsLight l → IsLightText bytes
+light_text bytes l has light m other = subst IsLight (same_tokens bytes l m has other) light
+
 -- what a text that is those bytes says of them
+pub light_along : (r : Result Script Refusal) (a b : List ℕ) → a ≡ b → IfOk r (λ _. IsLightText a) → IfOk r (λ _. IsLightText b)
+light_along r a b e h = subst (λ v. IfOk r (λ _. IsLightText v)) e h
+
 pub only_along : (r : Result Script Refusal) (a b : List ℕ) → a ≡ b → IfOk r (λ s. (x : List StatementParts) → IsTreeOf a x → x ≡ script_of s) → IfOk r (λ s. (x : List StatementParts) → IsTreeOf b x → x ≡ script_of s)
 only_along (Ok s) a b e h = λ x d. h x (subst (λ v. IsTreeOf v x) (sym e) d)
 only_along (Err f) a b e h = tt

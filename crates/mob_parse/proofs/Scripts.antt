@@ -18,7 +18,7 @@ use Rattle.mob_ast.specs.declared.refusal.Kind.{Kind}
 use Rattle.mob_ast.specs.declared.refusal.Kind.TheVariants.{TooComplex}
 use Rattle.mob_parse.specs.declared.lexeme.Lexeme.{Lexeme}
 use Rattle.mob_parse.specs.Lexemes.{tok_of, toks}
-use Rattle.mob_parse.specs.Refusals.{semicolons, place_of, IsSyntax, IsTooComplex, CauseAt, IsRefusedAt}
+use Rattle.mob_parse.specs.Refusals.{semicolons, place_of, NoneAmong, IsSyntax, IsTooComplex, IsLight, CauseAt, IsRefusedAt}
 use Rattle.mob_parse.specs.Heavy.{first_heavy}
 
 abbrev pub Scripts : List Tok → List StatementParts → List Tok → Type 0
@@ -50,6 +50,9 @@ cut_parts [] r (suc n) h = absurd (omega arith)
 cut_parts (t ∷ before) r zero h = absurd (omega arith)
 cut_parts (t ∷ before) r (suc n) h = let rest = cut_parts before r n (omega arith) in (ap (λ v. t ∷ v) rest.0, rest.1)
 
+long_before : (l before r : List Tok) (n : ℕ) → l ≡ before ++ r → n + length r ≡ length l → n ≡ length before
+long_before l before r n parts h = let long = length-append before r in let same = ap length parts in omega arith
+
 pub parts_at : (l before r : List Tok) (n : ℕ) → l ≡ before ++ r → n + length r ≡ length l → (take n l ≡ before) × (drop n l ≡ r)
 parts_at l before r n parts h =
     let long = length-append before r in
@@ -61,10 +64,10 @@ pub shorter_rest : (l r : List Tok) → IsFirstWrong Scripts l r → length r �
 shorter_rest l r w = let long = length-append w.before r in let same = ap length w.parts in omega arith
 
 -- a refusal at the token of that number is one of syntax
-pub syntax_at : (l r : List Tok) (n end : ℕ) (e : Refusal) → IsFirstWrong Scripts l r → n + length r ≡ length l → e.place ≡ place_of (drop n l) end → e.statement ≡ 1 + semicolons (take n l) → IsSyntax l end e
-syntax_at l r n end e w h p s =
+pub syntax_at : (l r : List Tok) (n end : ℕ) (e : Refusal) → IsFirstWrong Scripts l r → n + length r ≡ length l → e.place ≡ place_of (drop n l) end → e.statement ≡ 1 + semicolons (take n l) → NoneAmong n l → IsSyntax l end e
+syntax_at l r n end e w h p s none =
     let c = parts_at l w.before r n w.parts h in
-    (r, w, p ∙ ap (λ v. place_of v end) c.1, s ∙ ap (λ v. 1 + semicolons v) c.0)
+    (r, w, p ∙ ap (λ v. place_of v end) c.1, s ∙ ap (λ v. 1 + semicolons v) c.0, subst (λ k. NoneAmong k l) (long_before l w.before r n w.parts h) none)
 
 take_drop : (n : ℕ) (l : List Tok) → take n l ++ drop n l ≡ l
 take_drop zero l = refl
@@ -72,15 +75,15 @@ take_drop (suc n) [] = refl
 take_drop (suc n) (t ∷ l) = ap (λ v. t ∷ v) (take_drop n l)
 
 -- what is wrong in a front is wrong in the whole
-pub front_syntax : (l r : List Tok) (k n end : ℕ) (e : Refusal) → IsFirstWrong Scripts (take k l) r → 0 < length r → n + length r ≡ length (take k l) → e.place ≡ place_of (drop n l) end → e.statement ≡ 1 + semicolons (take n l) → IsSyntax l end e
-front_syntax l [] k n end e w some h p s = absurd (omega arith)
-front_syntax l (t ∷ r) k n end e w some h p s =
+pub front_syntax : (l r : List Tok) (k n end : ℕ) (e : Refusal) → IsFirstWrong Scripts (take k l) r → 0 < length r → n + length r ≡ length (take k l) → e.place ≡ place_of (drop n l) end → e.statement ≡ 1 + semicolons (take n l) → NoneAmong n l → IsSyntax l end e
+front_syntax l [] k n end e w some h p s none = absurd (omega arith)
+front_syntax l (t ∷ r) k n end e w some h p s none =
     let all = take_drop k l in
     let long = length-append (take k l) (drop k l) in
     let same = ap length all in
     let more = length-append (t ∷ r) (drop k l) in
     let wide : IsFirstWrong Scripts l (t ∷ (r ++ drop k l)) = subst (λ v. IsFirstWrong Scripts v (t ∷ (r ++ drop k l))) all (whole.front_wrong Scripts (take k l) (drop k l) t r w) in
-    syntax_at l (t ∷ (r ++ drop k l)) n end e wide (omega arith) p s
+    syntax_at l (t ∷ (r ++ drop k l)) n end e wide (omega arith) p s none
 
 -- a front that is a script, or wants more tokens, is how a script begins
 pub front_begins : (l r : List Tok) (k : ℕ) → IsFirstWrong Scripts (take k l) r → length r ≡ 0 → BeginsText Scripts (take k l)
@@ -100,6 +103,13 @@ toks_drop n ls = sym (drop-map tok_of n ls)
 -- a refusal of that kind has its cause
 pub caused : (k : Kind) (l : List Tok) (end : ℕ) (e : Refusal) → e.kind ≡ k → CauseAt k l end e → IsRefusedAt l end e
 caused k l end e h d = subst (λ k. CauseAt k l end e) (sym h) d
+
+-- no heavy token stands before one that stands no further than the first of them
+pub none_before : (l : List Tok) (k n : ℕ) → first_heavy l ≡ Some n → k ≤ n → NoneAmong k l
+none_before l k n heavy near m other = let same : n ≡ m = cc (heavy, other) in omega arith
+
+pub none_light : (l : List Tok) (k : ℕ) → IsLight l → NoneAmong k l
+none_light l k light n heavy = absurd (cc (light, heavy))
 
 -- a front that begins a script, up to the first heavy token
 pub too_complex : (l : List Tok) (n end : ℕ) (e : Refusal) → first_heavy l ≡ Some n → BeginsText Scripts (take (n + 1) l) → e.kind ≡ TooComplex → e.place ≡ place_of (drop n l) end → e.statement ≡ 1 + semicolons (take n l) → IsRefusedAt l end e

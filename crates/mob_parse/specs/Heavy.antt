@@ -1,6 +1,6 @@
 -- Which token is the first 257th counted one of its expression.
 use Rattle.std.specs.Prelude.{◌==◌, ◌+◌, ◌-◌, ℕ, List, [], ◌∷◌, Bool, true, false, cond, Option, Some, None}
-use Rattle.mob_grammar.specs.declared.mark.Mark.TheVariants.{Select, Semicolon, Open, Close, Comma, Cast}
+use Rattle.mob_grammar.specs.declared.mark.Mark.TheVariants.{Select, Semicolon, Open, Close, Comma, Cast, Dot}
 use Rattle.mob_grammar.specs.Marks.{is}
 use Rattle.mob_grammar.specs.Symbols.{Symbol, fixed, name, number, quoted, Tok, is_mark}
 use Rattle.mob_grammar.specs.Weights.{Standing, outside, counts, mark_ends}
@@ -26,6 +26,10 @@ selects_after b (name n) = b
 selects_after b (number n) = b
 selects_after b (quoted t) = b
 
+-- a type stands behind `::`, and a column behind the point
+abbrev pub no_call_after : Symbol → Bool
+no_call_after x = cond (is_mark Cast x) true (is_mark Dot x)
+
 -- counted tokens behind a token that ends nothing
 abbrev pub weight_after : Standing → Symbol → List Tok → ℕ
 weight_after s x after = cond (counts s x after) (s.weight + 1) s.weight
@@ -36,7 +40,7 @@ standing_after s x after = record {
   selects = selects_after s.selects x;
   depth = cond (ends s x) 0 (depth_after s.depth x);
   weight = cond (ends s x) 0 (weight_after s x after);
-  casts = is_mark Cast x;
+  no_call = no_call_after x;
 }
 
 -- whether a token is counted behind 256 others

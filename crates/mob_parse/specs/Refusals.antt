@@ -1,5 +1,5 @@
 -- Which trees a script has, and when it is refused.
-use Rattle.std.specs.Prelude.{◌≡◌, ◌+◌, ℕ, List, [], ◌∷◌, length, take, drop, cond, Some, None, Ok, Err}
+use Rattle.std.specs.Prelude.{◌≡◌, ◌≤◌, ◌+◌, ℕ, List, [], ◌∷◌, length, take, drop, cond, Some, None, Ok, Err}
 use Rattle.std.specs.Str.{IsUtf8, IsValidUpTo}
 use Rattle.mob_ast.specs.declared.refusal.Kind.{Kind}
 use Rattle.mob_parse.specs.declared.script.Wrong.{Wrong}
@@ -34,9 +34,13 @@ abbrev pub place_of : List Tok → ℕ → ℕ
 place_of [] end = end
 place_of (t ∷ l) end = t.place
 
--- Syntax: at the first token with which no script begins, given the tokens before it
+-- no 257th counted token of an expression stands among the first k tokens
+abbrev pub NoneAmong : ℕ → List Tok → Type 0
+NoneAmong k l = (n : ℕ) → first_heavy l ≡ Some n → k ≤ n
+
+-- Syntax: at the first token with which no script begins, given the tokens before it, where no 257th counted token is before it
 abbrev pub IsSyntax : List Tok → ℕ → Refusal → Type 0
-IsSyntax l end e = (r : List Tok) × (w : IsFirstWrong (Listed Semicolon Statement) l r) × (e.place ≡ place_of r end) × (e.statement ≡ 1 + semicolons w.before)
+IsSyntax l end e = (r : List Tok) × (w : IsFirstWrong (Listed Semicolon Statement) l r) × (e.place ≡ place_of r end) × (e.statement ≡ 1 + semicolons w.before) × NoneAmong (length w.before) l
 
 -- some script begins with these tokens
 abbrev pub BeginsScript : List Tok → Type 0
@@ -73,12 +77,12 @@ IsLightText bytes = (l : List Tok) → HasTokens bytes l → IsLight l
 abbrev pub IsStatementBehind : List ℕ → ℕ → Type 0
 IsStatementBehind text n = (l : List Tok) × HasTokens text l × (n ≡ 1 + semicolons l)
 
--- why a script is refused
+-- why a script is refused: only one of whole characters is refused by its tokens
 abbrev pub Cause : Kind → List ℕ → Refusal → Type 0
 Cause NotUtf8 bytes e = (IsUtf8 bytes → ⊥) × IsValidUpTo bytes e.place × (e.statement ≡ 1)
-Cause Lexical bytes e = (tokens_of bytes ≡ Err e.place) × IsStatementBehind (take e.place bytes) e.statement
-Cause Syntax bytes e = (l : List Tok) × HasTokens bytes l × IsSyntax l (length bytes) e
-Cause TooComplex bytes e = (l : List Tok) × HasTokens bytes l × IsTooComplex l (length bytes) e
+Cause Lexical bytes e = IsUtf8 bytes × (tokens_of bytes ≡ Err e.place) × IsStatementBehind (take e.place bytes) e.statement
+Cause Syntax bytes e = IsUtf8 bytes × ((l : List Tok) × HasTokens bytes l × IsSyntax l (length bytes) e)
+Cause TooComplex bytes e = IsUtf8 bytes × ((l : List Tok) × HasTokens bytes l × IsTooComplex l (length bytes) e)
 Cause NoMemory bytes e = (e.place ≡ 0) × (e.statement ≡ 0)
 Cause _ bytes e = ⊥
 

@@ -96,14 +96,14 @@ pub static SIGNS: [Mark; 40] = [
 
 // Whether two texts are the same but for the case of letters.
 fn same_letters(a: &str, b: &str) -> bool
-    ensures { result ≡ str_eq_ignore_ascii_case a.now b.now }
+    ensures same { result ≡ str_eq_ignore_ascii_case a.now b.now }
 {
     a.eq_ignore_ascii_case(b)
 }
 
 // The first of the marks that has this text, in letters of either case.
 fn word_mark(marks: &[Mark], text: &str) -> Option<Mark>
-    ensures { result ≡ word_mark marks.now text.now }
+    ensures first { result ≡ word_mark marks.now text.now }
 {
     for mark in marks {
         if same_letters(mark.text(), text) {
@@ -115,7 +115,7 @@ fn word_mark(marks: &[Mark], text: &str) -> Option<Mark>
 
 // The first of the marks that has this text; the point where none has it.
 fn other_sign(marks: &[Mark], text: &[u8]) -> Mark
-    ensures { result ≡ other_sign marks.now text.now }
+    ensures first { result ≡ other_sign marks.now text.now }
 {
     for mark in marks {
         if mark.text().as_bytes() == text {
@@ -127,7 +127,7 @@ fn other_sign(marks: &[Mark], text: &[u8]) -> Mark
 
 // The mark of a sign; `!=` is `<>`.
 fn sign_mark(text: &[u8]) -> Mark
-    ensures { result ≡ sign_mark text.now }
+    ensures exact { result ≡ sign_mark text.now }
 {
     if text == b"!=".as_slice() {
         return Mark::NotEqual;
@@ -137,7 +137,7 @@ fn sign_mark(text: &[u8]) -> Mark
 
 // What a word is.
 fn word_symbol<'a>(text: &'a str) -> Symbol<'a>
-    ensures { symbol_of result ≡ word_symbol text.now }
+    ensures exact { symbol_of result ≡ word_symbol text.now }
 {
     match word_mark(&WORDS, text) {
         Some(mark) => Symbol::Fixed(mark),
@@ -147,16 +147,16 @@ fn word_symbol<'a>(text: &'a str) -> Symbol<'a>
 
 // The text between two places.
 fn piece(text: &str, from: usize, to: usize) -> &str
-    requires { IsSlice text.now from to }
-    ensures { result.now ≡ piece text.now from to }
+    requires whole { IsSlice text.now from to }
+    ensures exact { result.now ≡ piece text.now from to }
 {
     &text[from..to]
 }
 
 // What a token is; none for the end.
 fn symbol<'a>(text: &'a str, token: &Token) -> Option<Symbol<'a>>
-    requires { IsPlaced text.now token.now.kind token.now.from token.now.to }
-    ensures { option_map symbol_of result ≡ symbol_at text.now token.now.kind token.now.from token.now.to }
+    requires placed { IsPlaced text.now token.now.kind token.now.from token.now.to }
+    ensures exact { option_map symbol_of result ≡ symbol_at text.now token.now.kind token.now.from token.now.to }
 {
     let from = token.from as usize;
     let to = token.to as usize;
@@ -175,7 +175,7 @@ pub fn lexemes<'a>(
     text: &'a str,
     tokens: &[Token],
 ) -> Result<Vec<Lexeme<'a>>, AllocError>
-    requires { ArePlaced text.now tokens.now }
+    requires placed { ArePlaced text.now tokens.now }
     ensures all { IfOk result (λ ls. toks ls.items ≡ lexed text.now tokens.now) }
     ensures few { IfOk result (λ ls. length ls.items ≤ length tokens.now) }
 {

@@ -64,7 +64,7 @@ impl<'a> Cursor<'a> {
 
     /// Passes this mark.
     pub fn expect(&mut self, mark: Mark) -> Result<(), Fault>
-        ensures { MatchResult result
+        ensures passes { MatchResult result
             (λ _. (starts mark (left self.old) ≡ true) × (left self.new ≡ rest (left self.old)))
             (λ e. (e ≡ Fault.Syntax) × (starts mark (left self.old) ≡ false) × (left self.new ≡ left self.old)) }
     {
@@ -77,7 +77,7 @@ impl<'a> Cursor<'a> {
 
     /// Passes this mark, if it comes next, and says its place.
     pub fn take(&mut self, mark: Mark) -> Option<u32>
-        ensures { MatchOption result
+        ensures passes { MatchOption result
             ((starts mark (left self.old) ≡ false) × (left self.new ≡ left self.old))
             (λ p. left self.old ≡ sign mark p ∷ left self.new) }
     {
@@ -94,7 +94,7 @@ impl<'a> Cursor<'a> {
     pub fn take_operator(&mut self, strength: u8) -> Option<(Mark, u32)>
         requires least { 0 < strength }
         requires most { strength < 12 }
-        ensures { MatchOption result
+        ensures passes { MatchOption result
             ((goes_on strength (left self.old) ≡ false) × (left self.new ≡ left self.old))
             (λ x. (left self.old ≡ sign x.0 x.1 ∷ left self.new) × (binding (sign x.0 x.1) ≡ strength)) }
     {
@@ -110,7 +110,7 @@ impl<'a> Cursor<'a> {
 
     /// Passes a name, if one comes next.
     pub fn take_name(&mut self) -> Option<(&'a str, u32)>
-        ensures { MatchOption result
+        ensures passes { MatchOption result
             ((begins is_name (left self.old) ≡ false) × (left self.new ≡ left self.old))
             (λ x. left self.old ≡ named (lower x.0.now) x.1 ∷ left self.new) }
     {
@@ -128,7 +128,7 @@ impl<'a> Cursor<'a> {
 
     /// Passes a number, if one comes next.
     pub fn take_number(&mut self) -> Option<(&'a str, u32)>
-        ensures { MatchOption result
+        ensures passes { MatchOption result
             ((begins is_number (left self.old) ≡ false) × (left self.new ≡ left self.old))
             (λ x. left self.old ≡ numeral x.0.now x.1 ∷ left self.new) }
     {
@@ -146,7 +146,7 @@ impl<'a> Cursor<'a> {
 
     /// Passes a string, if one comes next.
     pub fn take_string(&mut self) -> Option<(&'a str, u32)>
-        ensures { MatchOption result
+        ensures passes { MatchOption result
             ((begins is_string (left self.old) ≡ false) × (left self.new ≡ left self.old))
             (λ x. left self.old ≡ string (unquoted x.0.now) x.1 ∷ left self.new) }
     {

@@ -326,7 +326,7 @@ impl<'a> Cursor<'a> {
 
     // Whether a string comes next.
     pub fn next_is_string(&self) -> bool
-        ensures { result ≡ begins is_string (left self.now) }
+        ensures exact { result ≡ begins is_string (left self.now) }
     {
         match self.lexemes {
             [first, ..] => first.is_string(),

@@ -17,24 +17,24 @@ pub struct Standing {
     pub depth: usize,
     /// Behind how many counted tokens of its expression.
     pub weight: usize,
-    /// Whether right behind a `::`.
-    pub casts: bool,
+    /// Whether right behind a `::` or a `.`, where no call begins.
+    pub no_call: bool,
 }
 
 // Whether a mark is counted.
 fn mark_counts(mark: Mark) -> bool
-    ensures { result ≡ mark_counts mark }
+    ensures exact { result ≡ mark_counts mark }
 {
     match mark {
         Mark::Or | Mark::And | Mark::Not | Mark::Is => true,
-        Mark::Comma | Mark::Dot | Mark::Close => false,
+        Mark::Comma | Mark::Dot | Mark::Close | Mark::Semicolon => false,
         _ => !mark.is_word(),
     }
 }
 
 // Whether a mark ends the expression before it.
 fn mark_ends(mark: Mark) -> bool
-    ensures { result ≡ mark_ends mark }
+    ensures exact { result ≡ mark_ends mark }
 {
     match mark {
         Mark::Or | Mark::And | Mark::Not | Mark::Is => false,
@@ -45,10 +45,10 @@ fn mark_ends(mark: Mark) -> bool
 }
 
 // Whether a name before these tokens is that of a function.
-fn is_function(casts: bool, after: &[Lexeme<'_>]) -> bool
-    ensures { result ≡ is_function casts (toks after.now) }
+fn is_function(no_call: bool, after: &[Lexeme<'_>]) -> bool
+    ensures exact { result ≡ is_function no_call (toks after.now) }
 {
-    if casts {
+    if no_call {
         return false;
     }
     match after {
@@ -59,23 +59,23 @@ fn is_function(casts: bool, after: &[Lexeme<'_>]) -> bool
 
 impl Standing {
     fn counts(&self, lexeme: &Lexeme<'_>, after: &[Lexeme<'_>]) -> bool
-        ensures { result ≡ counts (standing_of self.now) (tok_of lexeme.now).symbol (toks after.now) }
+        ensures exact { result ≡ counts (standing_of self.now) (tok_of lexeme.now).symbol (toks after.now) }
     {
         match lexeme.symbol {
             Symbol::Fixed(mark) => self.selects && mark_counts(mark),
-            Symbol::Name(_) => self.selects && is_function(self.casts, after),
+            Symbol::Name(_) => self.selects && is_function(self.no_call, after),
             Symbol::Number(_) | Symbol::Quoted(_) => false,
         }
     }
 
     fn is_heavy(&self, lexeme: &Lexeme<'_>, after: &[Lexeme<'_>]) -> bool
-        ensures { result ≡ is_heavy (standing_of self.now) (tok_of lexeme.now).symbol (toks after.now) }
+        ensures exact { result ≡ is_heavy (standing_of self.now) (tok_of lexeme.now).symbol (toks after.now) }
     {
         self.weight == 256 && self.counts(lexeme, after)
     }
 
     fn ends(&self, lexeme: &Lexeme<'_>) -> bool
-        ensures { result ≡ ends (standing_of self.now) (tok_of lexeme.now).symbol }
+        ensures exact { result ≡ ends (standing_of self.now) (tok_of lexeme.now).symbol }
     {
         match lexeme.symbol {
             Symbol::Fixed(mark) => mark_ends(mark) || (mark.is(Mark::Comma) && self.depth == 0),
@@ -85,7 +85,7 @@ impl Standing {
 
     // How many brackets are open behind the lexeme.
     fn depth_after(&self, lexeme: &Lexeme<'_>) -> usize
-        requires { self.now.depth < 2 ^ 62 }
+        requires shallow { self.now.depth < 2 ^ 62 }
         ensures depth { result ≡ depth_after self.now.depth (tok_of lexeme.now).symbol }
         ensures near { result ≤ self.now.depth + 1 }
     {
@@ -104,7 +104,7 @@ impl Standing {
     }
 
     fn selects_after(&self, lexeme: &Lexeme<'_>) -> bool
-        ensures { result ≡ selects_after self.now.selects (tok_of lexeme.now).symbol }
+        ensures exact { result ≡ selects_after self.now.selects (tok_of lexeme.now).symbol }
     {
         match lexeme.symbol {
             Symbol::Fixed(mark) => {
@@ -122,7 +122,7 @@ impl Standing {
 
     // How many counted tokens stand behind the lexeme, with it.
     fn weight_after(&self, lexeme: &Lexeme<'_>, after: &[Lexeme<'_>]) -> usize
-        requires { self.now.weight < 2 ^ 62 }
+        requires light { self.now.weight < 2 ^ 62 }
         ensures weight { result ≡ weight_after (standing_of self.now) (tok_of lexeme.now).symbol (toks after.now) }
         ensures near { result ≤ self.now.weight + 1 }
     {
@@ -142,20 +142,20 @@ impl Standing {
         ensures weight_near { result.weight ≤ self.now.weight + 1 }
     {
         let selects = self.selects_after(lexeme);
-        let casts = lexeme.is(Mark::Cast);
+        let no_call = lexeme.is(Mark::Cast) || lexeme.is(Mark::Dot);
         if self.ends(lexeme) {
             Standing {
                 selects,
                 depth: 0,
                 weight: 0,
-                casts,
+                no_call,
             }
         } else {
             Standing {
                 selects,
                 depth: self.depth_after(lexeme),
                 weight: self.weight_after(lexeme, after),
-                casts,
+                no_call,
             }
         }
     }
@@ -170,7 +170,7 @@ pub fn first_heavy(lexemes: &[Lexeme<'_>]) -> Option<usize>
         selects: false,
         depth: 0,
         weight: 0,
-        casts: false,
+        no_call: false,
     };
     let mut at = 0;
     let mut rest = lexemes;

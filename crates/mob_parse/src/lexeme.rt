@@ -31,7 +31,7 @@ pub struct Lexeme<'a> {
 impl<'a> Lexeme<'a> {
     /// Whether it is this mark.
     pub fn is(&self, mark: Mark) -> bool
-        ensures { result ≡ is_sign mark (tok_of self.now) }
+        ensures exact { result ≡ is_sign mark (tok_of self.now) }
     {
         match self.symbol {
             Symbol::Fixed(found) => found.is(mark),
@@ -43,7 +43,7 @@ impl<'a> Lexeme<'a> {
     pub fn operator(&self, strength: u8) -> Option<Mark>
         requires least { 0 < strength }
         requires most { strength < 12 }
-        ensures { MatchOption result
+        ensures exact { MatchOption result
             ((binding (tok_of self.now) == strength) ≡ false)
             (λ m. (tok_of self.now ≡ sign m self.now.place) × (strength_of m ≡ strength)) }
     {
@@ -61,7 +61,7 @@ impl<'a> Lexeme<'a> {
 
     /// Whether it is a name.
     pub fn is_name(&self) -> bool
-        ensures { result ≡ is_name (tok_of self.now) }
+        ensures exact { result ≡ is_name (tok_of self.now) }
     {
         match self.symbol {
             Symbol::Name(_) => true,
@@ -71,7 +71,7 @@ impl<'a> Lexeme<'a> {
 
     /// Whether it is a string.
     pub fn is_string(&self) -> bool
-        ensures { result ≡ is_string (tok_of self.now) }
+        ensures exact { result ≡ is_string (tok_of self.now) }
     {
         match self.symbol {
             Symbol::Quoted(_) => true,
@@ -81,7 +81,7 @@ impl<'a> Lexeme<'a> {
 
     /// Whether it is a number.
     pub fn is_number(&self) -> bool
-        ensures { result ≡ is_number (tok_of self.now) }
+        ensures exact { result ≡ is_number (tok_of self.now) }
     {
         match self.symbol {
             Symbol::Number(_) => true,
@@ -92,7 +92,7 @@ impl<'a> Lexeme<'a> {
 
 /// Whether a name, a closing bracket and a string come first.
 pub fn begins_literal(lexemes: &[Lexeme<'_>]) -> bool
-    ensures { result ≡ is_literal (toks lexemes.now) }
+    ensures exact { result ≡ is_literal (toks lexemes.now) }
 {
     match lexemes {
         [first, second, third, ..] => {

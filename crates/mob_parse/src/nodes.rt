@@ -12,21 +12,21 @@ use std::alloc::{AllocError, Global};
 
 /// A text of the same bytes.
 pub fn copy_text(alloc: Global, text: &str) -> Result<Text, AllocError>
-    ensures { IfOk result (λ t. t ≡ text.now) }
+    ensures copied { IfOk result (λ t. t ≡ text.now) }
 {
     Ok(Text::from_string(String::from_str(alloc, text)?))
 }
 
 /// A text in lower case.
 pub fn lower_text(alloc: Global, text: &str) -> Result<Text, AllocError>
-    ensures { IfOk result (λ t. t ≡ lower text.now) }
+    ensures lowered { IfOk result (λ t. t ≡ lower text.now) }
 {
     Ok(Text::from_string(text.to_ascii_lowercase(alloc)?))
 }
 
 // A text without the quote that it begins with, if it does.
 fn without_quote(text: &str) -> &str
-    ensures { result.now ≡ without_quote text.now }
+    ensures exact { result.now ≡ without_quote text.now }
 {
     match text.strip_prefix('\'') {
         Some(rest) => rest,
@@ -36,7 +36,7 @@ fn without_quote(text: &str) -> &str
 
 /// The text of a string, with `''` as one quote.
 pub fn unquoted_text(alloc: Global, text: &str) -> Result<Text, AllocError>
-    ensures { IfOk result (λ t. t ≡ unquoted text.now) }
+    ensures exact { IfOk result (λ t. t ≡ unquoted text.now) }
 {
     let mut found = String::new(alloc);
     let mut rest = text;
@@ -51,7 +51,7 @@ pub fn unquoted_text(alloc: Global, text: &str) -> Result<Text, AllocError>
 
 /// A word in lower case, at a place.
 pub fn word(alloc: Global, text: &str, place: u32) -> Result<Word, AllocError>
-    ensures { IfOk result (λ w. w ≡ record { text = lower text.now; place = place }) }
+    ensures exact { IfOk result (λ w. w ≡ record { text = lower text.now; place = place }) }
 {
     let text = lower_text(alloc, text)?;
     Ok(Word { text, place })
@@ -59,7 +59,7 @@ pub fn word(alloc: Global, text: &str, place: u32) -> Result<Word, AllocError>
 
 /// The word of a number, as it is written.
 pub fn number_word(alloc: Global, text: &str, place: u32) -> Result<Word, AllocError>
-    ensures { IfOk result (λ w. w ≡ record { text = text.now; place = place }) }
+    ensures exact { IfOk result (λ w. w ≡ record { text = text.now; place = place }) }
 {
     let text = copy_text(alloc, text)?;
     Ok(Word { text, place })
@@ -67,7 +67,7 @@ pub fn number_word(alloc: Global, text: &str, place: u32) -> Result<Word, AllocE
 
 /// A node without arguments.
 pub fn leaf(alloc: Global, node: Node, place: u32) -> Expr
-    ensures { tree_of result ≡ tree node place none }
+    ensures exact { tree_of result ≡ tree node place none }
 {
     Expr {
         node,
@@ -78,7 +78,7 @@ pub fn leaf(alloc: Global, node: Node, place: u32) -> Expr
 
 /// A node with one argument.
 pub fn single(alloc: Global, node: Node, place: u32, argument: Expr) -> Result<Expr, AllocError>
-    ensures { IfOk result (λ e. tree_of e ≡ tree node place (more (tree_of argument) none)) }
+    ensures exact { IfOk result (λ e. tree_of e ≡ tree node place (more (tree_of argument) none)) }
 {
     let mut args = Vec::new(alloc);
     args.push(argument)?;
@@ -93,7 +93,7 @@ pub fn pair(
     first: Expr,
     second: Expr,
 ) -> Result<Expr, AllocError>
-    ensures { IfOk result (λ e. tree_of e ≡ tree node place (more (tree_of first) (more (tree_of second) none))) }
+    ensures exact { IfOk result (λ e. tree_of e ≡ tree node place (more (tree_of first) (more (tree_of second) none))) }
 {
     let mut args = Vec::new(alloc);
     args.push(first)?;
@@ -103,7 +103,7 @@ pub fn pair(
 
 /// The node of an operator.
 pub fn operator(alloc: Global, mark: Mark) -> Result<Node, AllocError>
-    ensures { IfOk result (λ n. n ≡ mark_node mark) }
+    ensures exact { IfOk result (λ n. n ≡ mark_node mark) }
 {
     match mark {
         Mark::And => Ok(Node::And),

@@ -6,7 +6,7 @@ ghost use Rattle.mob_parse.specs.Lexemes.{toks};
 ghost use Rattle.mob_parse.specs.Heavy.{first_heavy};
 ghost use Rattle.mob_ast.specs.Kinds.{no_memory};
 ghost use Rattle.mob_chars.specs.Tokens.{tokens_of};
-ghost use Rattle.mob_parse.specs.Refusals.{semicolons, place_of, BeginsScript, IsWrong, IsRefusedAt, IsRefused, IsTreeOf, IsLightText, IsStatementBehind};
+ghost use Rattle.mob_parse.specs.Refusals.{semicolons, place_of, BeginsScript, IsWrong, IsRefusedAt, IsRefused, IsTreeOf, IsLight, IsLightText, IsStatementBehind};
 
 use crate::classify::lexemes;
 use crate::cursor::{Cursor, Fault};
@@ -20,12 +20,12 @@ use mob_grammar::mark::Mark;
 use mob_list::items::Items;
 use std::alloc::Global;
 
-/// Why tokens are no script.
+// Why tokens are no script.
 #[derive(Clone, Copy, Debug, PartialEq, Eq)]
-pub enum Wrong {
-    /// No script begins with the token of this number, given those before it; at the count of all, more are wanted.
+enum Wrong {
+    // No script begins with the token of this number, given those before it; at the count of all, more are wanted.
     At(usize),
-    /// There was no memory.
+    // There was no memory.
     NoMemory,
 }
 
@@ -51,7 +51,7 @@ fn read(alloc: Global, lexemes: &[Lexeme<'_>]) -> Result<Items<Statement>, Wrong
 
 // How many `;` there are.
 fn semicolons(lexemes: &[Lexeme<'_>]) -> u32
-    requires { length lexemes.now < 2 ^ 31 }
+    requires few { length lexemes.now < 2 ^ 31 }
     ensures count { result ≡ semicolons (toks lexemes.now) }
     ensures few { result ≤ length lexemes.now }
 {
@@ -68,7 +68,7 @@ fn semicolons(lexemes: &[Lexeme<'_>]) -> u32
 
 // The place of the first token, or the end.
 fn place_of(lexemes: &[Lexeme<'_>], end: u32) -> u32
-    ensures { result ≡ place_of (toks lexemes.now) end }
+    ensures exact { result ≡ place_of (toks lexemes.now) end }
 {
     match lexemes {
         [first, ..] => first.place,
@@ -96,7 +96,7 @@ fn refusal(kind: Kind, lexemes: &[Lexeme<'_>], at: usize, end: u32) -> Refusal
 }
 
 fn no_memory() -> Refusal
-    ensures { result ≡ no_memory }
+    ensures exact { result ≡ no_memory }
 {
     Refusal {
         kind: Kind::NoMemory,
@@ -108,6 +108,7 @@ fn no_memory() -> Refusal
 // The script that tokens without a 257th counted one are.
 fn whole(alloc: Global, lexemes: &[Lexeme<'_>], end: u32) -> Result<Script, Refusal>
     requires few { length lexemes.now < 2 ^ 31 }
+    requires light { IsLight (toks lexemes.now) }
     ensures tree { IfOk result (λ s. IsScript (toks lexemes.now) (script_of s)) }
     ensures only { IfOk result (λ s. (x : List StatementParts) → IsScript (toks lexemes.now) x → x ≡ script_of s) }
     ensures refused { IfErr result (λ e. IsRefusedAt (toks lexemes.now) end e) }
@@ -134,7 +135,7 @@ fn cut(alloc: Global, lexemes: &[Lexeme<'_>], end: u32, heavy: usize) -> Refusal
     requires few { length lexemes.now < 2 ^ 31 }
     requires heavy { first_heavy (toks lexemes.now) ≡ Some heavy }
     requires within { heavy < length lexemes.now }
-    ensures { IsRefusedAt (toks lexemes.now) end result }
+    ensures refused { IsRefusedAt (toks lexemes.now) end result }
 {
     let (front, _) = lexemes.split_at(heavy + 1);
     match begin(alloc, front) {
@@ -155,6 +156,7 @@ fn parse_lexemes(alloc: Global, lexemes: &[Lexeme<'_>], end: u32) -> Result<Scri
     requires few { length lexemes.now < 2 ^ 31 }
     ensures tree { IfOk result (λ s. IsScript (toks lexemes.now) (script_of s)) }
     ensures only { IfOk result (λ s. (x : List StatementParts) → IsScript (toks lexemes.now) x → x ≡ script_of s) }
+    ensures light { IfOk result (λ _. IsLight (toks lexemes.now)) }
     ensures refused { IfErr result (λ e. IsRefusedAt (toks lexemes.now) end e) }
 {
     match first_heavy(lexemes) {
@@ -165,8 +167,8 @@ fn parse_lexemes(alloc: Global, lexemes: &[Lexeme<'_>], end: u32) -> Result<Scri
 
 // The number of the statement behind a text; none where there was no memory.
 fn statement_behind(alloc: Global, text: &str) -> Option<u32>
-    requires { length text.now ≤ 4194304 }
-    ensures { IfSome result (λ n. IsStatementBehind text.now n) }
+    requires short { length text.now ≤ 4194304 }
+    ensures exact { IfSome result (λ n. IsStatementBehind text.now n) }
 {
     let Ok(found) = tokens(alloc, text) else {
         return None;
@@ -181,7 +183,7 @@ fn statement_behind(alloc: Global, text: &str) -> Option<u32>
 fn lexical(alloc: Global, text: &str, place: u32) -> Refusal
     requires short { length text.now ≤ 4194304 }
     requires fault { tokens_of text.now ≡ Err place }
-    ensures { IsRefused text.now result }
+    ensures refused { IsRefused text.now result }
 {
     let Some(front) = text.get(..place as usize) else {
         return no_memory();
@@ -198,9 +200,10 @@ fn lexical(alloc: Global, text: &str, place: u32) -> Refusal
 
 // The tree of a text, or the first refusal.
 fn parse_text(alloc: Global, text: &str) -> Result<Script, Refusal>
-    requires { length text.now ≤ 4194304 }
+    requires short { length text.now ≤ 4194304 }
     ensures tree { IfOk result (λ s. IsTreeOf text.now (script_of s)) }
     ensures only { IfOk result (λ s. (x : List StatementParts) → IsTreeOf text.now x → x ≡ script_of s) }
+    ensures light { IfOk result (λ _. IsLightText text.now) }
     ensures refused { IfErr result (IsRefused text.now) }
 {
     match tokens(alloc, text) {
@@ -220,10 +223,11 @@ fn parse_text(alloc: Global, text: &str) -> Result<Script, Refusal>
 /// tokens before it, or at the end; `TooComplex` at the 257th counted token of an expression, where a script begins with
 /// the tokens up to it; and `NoMemory`, with the place and the statement 0, where there was no memory.
 pub fn parse(alloc: Global, bytes: &[u8]) -> Result<Script, Refusal>
-    requires { length bytes.now ≤ 4194304 }
+    requires short { length bytes.now ≤ 4194304 }
     ensures tree { IfOk result (λ s. IsTreeOf bytes.now (script_of s)) }
     ensures only { IfOk result (λ s. (x : List StatementParts) → IsTreeOf bytes.now x → x ≡ script_of s) }
     ensures complete { (x : List StatementParts) → IsTreeOf bytes.now x → IsLightText bytes.now → MatchResult result (λ s. script_of s ≡ x) (λ e. e.kind ≡ Kind.NoMemory) }
+    ensures light { IfOk result (λ _. IsLightText bytes.now) }
     ensures refused { IfErr result (IsRefused bytes.now) }
 {
     match str::from_utf8(bytes) {

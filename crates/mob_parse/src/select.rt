@@ -15,7 +15,7 @@ use mob_list::items::Items;
 impl<'a> Cursor<'a> {
     // Whether a name comes next.
     fn next_is_name(&self) -> bool
-        ensures { result ≡ begins is_name (left self.now) }
+        ensures exact { result ≡ begins is_name (left self.now) }
     {
         match self.lexemes {
             [first, ..] => first.is_name(),

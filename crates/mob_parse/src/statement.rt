@@ -42,7 +42,7 @@ impl<'a> Cursor<'a> {
 
     // Whether a number comes next.
     fn next_is_number(&self) -> bool
-        ensures { result ≡ begins is_number (left self.now) }
+        ensures exact { result ≡ begins is_number (left self.now) }
     {
         match self.lexemes {
             [first, ..] => first.is_number(),
@@ -52,7 +52,7 @@ impl<'a> Cursor<'a> {
 
     // Whether + or - comes next.
     fn next_is_plus_or_minus(&self) -> bool
-        ensures { result ≡ begins is_plus_or_minus (left self.now) }
+        ensures exact { result ≡ begins is_plus_or_minus (left self.now) }
     {
         match self.lexemes {
             [first, ..] => first.operator(8).is_some(),

@@ -8,4 +8,4 @@ tested : (xs ys : List ℕ) (r : Bool) → Decides r (xs ≡ ys) → r ≡ bytes
 tested xs ys r h = search (rules, bytes_eq-Decides)
 
 pub returns : goal.returns
-returns c = tested (str_to_ascii_lowercase c.args.a.now) (str_to_ascii_lowercase c.args.b.now) c.eq_ignore_ascii_case.result c.eq_ignore_ascii_case.ensures.test
+returns c = record { same = tested (str_to_ascii_lowercase c.args.a.now) (str_to_ascii_lowercase c.args.b.now) c.eq_ignore_ascii_case.result c.eq_ignore_ascii_case.ensures.test }

@@ -9,7 +9,7 @@ lexemes-requires c = subst (ArePlaced c.args.text.now) (sym c.as_slice.ensures.s
 pub parse_lexemes-requires : goal.parse_lexemes-requires
 parse_lexemes-requires c =
     let few = are_few c.args.text.now c.in-Ok.found c.in-Ok.ensures.all in
-    let short = c.requires in
+    let short = c.requires.short in
     let same : length c.as_slice.result.now ≡ length c.in-Ok.found = ap (λ v. length v) c.as_slice.ensures.same in
     let fewer = c.in-Ok-lexemes.ensures.few in
     let value : length c.as_slice-in-Ok-lexemes.result.now ≡ length c.in-Ok-lexemes.lexemes.items = ap (λ v. length v) c.as_slice-in-Ok-lexemes.ensures.value in

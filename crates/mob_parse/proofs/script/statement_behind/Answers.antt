@@ -9,7 +9,7 @@ lexemes-requires c = subst (ArePlaced c.args.text.now) (sym c.as_slice.ensures.s
 pub semicolons-requires : goal.semicolons-requires
 semicolons-requires c =
     let few = are_few c.args.text.now c.in-Ok.found c.in-Ok.ensures.all in
-    let short = c.requires in
+    let short = c.requires.short in
     let same : length c.as_slice.result.now ≡ length c.in-Ok.found = ap (λ v. length v) c.as_slice.ensures.same in
     let fewer = c.in-Ok-lexemes.ensures.few in
     let value : length c.as_slice-2.result.now ≡ length c.in-Ok-lexemes.before.items = ap (λ v. length v) c.as_slice-2.ensures.value in omega arith
@@ -17,7 +17,7 @@ semicolons-requires c =
 pub overflow_add-result : goal.overflow_add-result
 overflow_add-result c =
     let few = are_few c.args.text.now c.in-Ok.found c.in-Ok.ensures.all in
-    let short = c.requires in
+    let short = c.requires.short in
     let same : length c.as_slice.result.now ≡ length c.in-Ok.found = ap (λ v. length v) c.as_slice.ensures.same in
     let fewer = c.in-Ok-lexemes.ensures.few in
     let value : length c.as_slice-2.result.now ≡ length c.in-Ok-lexemes.before.items = ap (λ v. length v) c.as_slice-2.ensures.value in
