@@ -4,7 +4,7 @@ use Rattle.mob_parse.proofs.Placed.{are_placed, are_few}
 use Rattle.mob_parse.proofs.script.parse_text.Goals as goal
 
 pub lexemes-requires : goal.lexemes-requires
-lexemes-requires c = subst (ArePlaced c.args.text.now) (sym c.as_slice.ensures.same) (are_placed c.args.text.now c.utf8.text c.in-Ok.found c.in-Ok.ensures.all)
+lexemes-requires c = record { placed = subst (ArePlaced c.args.text.now) (sym c.as_slice.ensures.same) (are_placed c.args.text.now c.utf8.text c.in-Ok.found c.in-Ok.ensures.all) }
 
 pub parse_lexemes-requires : goal.parse_lexemes-requires
 parse_lexemes-requires c =
