@@ -20,7 +20,7 @@ same_tokens bytes l m a b = let same : a.0 ≡ b.0 = cc (a.1, b.1) in a.2 ∙ ap
 
 pub no_tree : (k : Kind) (bytes : List ℕ) (e : Refusal) → Cause k bytes e → (x : List StatementParts) → IsTreeOf bytes x → IsLightText bytes → k ≡ NoMemory
 no_tree NotUtf8 bytes e h x d light = absurd (h.0 d.0)
-no_tree Lexical bytes e h x d light = let one = h.1.0 in let other = d.1.1.1 in cc
+no_tree Lexical bytes e h x d light = let one = h.1 in let other = d.1.1.1 in cc
 no_tree Syntax bytes e h x d light = absurd (no_script h.1.0 h.1.2.0 h.1.2.1 x (subst (λ l. IsScript l x) (same_tokens bytes d.1.0 h.1.0 d.1.1 h.1.1) d.1.2))
 no_tree TooComplex bytes e h x d light = let some = h.1.2.1 in let none = light h.1.0 h.1.1 in cc
 no_tree NoMemory bytes e h x d light = refl
