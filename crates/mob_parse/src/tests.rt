@@ -3,6 +3,7 @@ use crate::shown::show_statement;
 use mob_ast::refusal::{Kind, Refusal};
 use mob_ast::statement::Script;
 use std::alloc::{AllocError, Global};
+use std::process::Abort;
 use std::test::Fail;
 
 // What a script of a length that may be parsed is.
@@ -178,8 +179,7 @@ static STATEMENTS: [(&str, &str); 16] = [
     ("SELECT a b", "refused"),
 ];
 
-fn check_trees(rt: HostRuntime, rows: &[(&str, &str)]) -> Result<(), Fail> {
-    let alloc = rt.alloc();
+fn check_trees(rt: &impl Abort, alloc: Global, rows: &[(&str, &str)]) -> Result<(), Fail> {
     for row in rows {
         let text = shown(alloc, row.0)?;
         assert_eq!(rt; text.as_str(), row.1);
@@ -189,17 +189,17 @@ fn check_trees(rt: HostRuntime, rows: &[(&str, &str)]) -> Result<(), Fail> {
 
 #[test]
 fn expressions(rt: HostRuntime) -> Result<(), Fail> {
-    check_trees(rt, &EXPRESSIONS)
+    check_trees(&rt, rt.alloc(), &EXPRESSIONS)
 }
 
 #[test]
 fn signs(rt: HostRuntime) -> Result<(), Fail> {
-    check_trees(rt, &SIGNS)
+    check_trees(&rt, rt.alloc(), &SIGNS)
 }
 
 #[test]
 fn statements(rt: HostRuntime) -> Result<(), Fail> {
-    check_trees(rt, &STATEMENTS)
+    check_trees(&rt, rt.alloc(), &STATEMENTS)
 }
 
 // Scripts, each with its refusal: kind, number of the statement, place.
@@ -231,13 +231,14 @@ static REFUSALS: [(&[u8], Kind, u32, u32); 24] = [
 ];
 
 fn check_refusal(
-    rt: HostRuntime,
+    rt: &impl Abort,
+    alloc: Global,
     script: &[u8],
     kind: Kind,
     statement: u32,
     place: u32,
 ) -> Result<(), Fail> {
-    match refusal_of(rt.alloc(), script) {
+    match refusal_of(alloc, script) {
         Some(refusal) => {
             assert_eq!(rt; refusal.kind, kind);
             assert_eq!(rt; refusal.statement, statement);
@@ -250,8 +251,9 @@ fn check_refusal(
 
 #[test]
 fn refusals(rt: HostRuntime) -> Result<(), Fail> {
+    let alloc = rt.alloc();
     for row in &REFUSALS {
-        check_refusal(rt, row.0, row.1, row.2, row.3)?;
+        check_refusal(&rt, alloc, row.0, row.1, row.2, row.3)?;
     }
     Ok(())
 }
@@ -302,7 +304,14 @@ static HEAVY: [(&str, usize, &str, Kind, u32, u32); 13] = [
         271,
     ),
     ("SELECT f(", 254, "1, +1)", Kind::TooComplex, 1, 266),
-    ("SELECT ", 255, "1::geometry(Point)", Kind::TooComplex, 1, 273),
+    (
+        "SELECT ",
+        255,
+        "1::geometry(Point)",
+        Kind::TooComplex,
+        1,
+        273,
+    ),
     ("SELECT ", 257, "1 FROM FROM", Kind::TooComplex, 1, 263),
     ("SELECT 1 2 ", 257, "1", Kind::Syntax, 1, 9),
     ("SELECT ", 256, "1 (", Kind::Syntax, 1, 265),
@@ -324,7 +333,7 @@ fn heavy_scripts(rt: HostRuntime) -> Result<(), Fail> {
     let alloc = rt.alloc();
     for row in &HEAVY {
         let script = repeated(alloc, row.0, b'+', row.1, row.2)?;
-        check_refusal(rt, script.as_slice(), row.3, row.4, row.5)?;
+        check_refusal(&rt, alloc, script.as_slice(), row.3, row.4, row.5)?;
     }
     Ok(())
 }
@@ -346,7 +355,7 @@ fn nesting(rt: HostRuntime) -> Result<(), Fail> {
     assert!(rt; is_read(alloc, nested(alloc, 256, ";")?.as_slice()));
     for after in ["", ";", " FROM FROM"] {
         let script = nested(alloc, 257, after)?;
-        check_refusal(rt, script.as_slice(), Kind::TooComplex, 1, 263)?;
+        check_refusal(&rt, alloc, script.as_slice(), Kind::TooComplex, 1, 263)?;
     }
     Ok(())
 }
@@ -412,26 +421,27 @@ static FRONTS: [(usize, usize, Front); 16] = [
     (29, 30, Front::Tree),
 ];
 
-fn check_front(rt: HostRuntime, script: &[u8], front: Front) -> Result<(), Fail> {
+fn check_front(rt: &impl Abort, alloc: Global, script: &[u8], front: Front) -> Result<(), Fail> {
     match front {
         Front::Tree => {
-            assert!(rt; is_read(rt.alloc(), script));
+            assert!(rt; is_read(alloc, script));
             Ok(())
         }
-        Front::At(kind, place) => check_refusal(rt, script, kind, 1, place),
-        Front::Short => check_refusal(rt, script, Kind::Syntax, 1, script.len() as u32),
+        Front::At(kind, place) => check_refusal(rt, alloc, script, kind, 1, place),
+        Front::Short => check_refusal(rt, alloc, script, Kind::Syntax, 1, script.len() as u32),
     }
 }
 
 #[test]
 fn cut_scripts(rt: HostRuntime) -> Result<(), Fail> {
+    let alloc = rt.alloc();
     let bytes = CUT.as_bytes();
     let mut next = 0;
     for row in &FRONTS {
         assert_eq!(rt; row.0, next);
         for end in row.0..=row.1 {
             match bytes.get(..end) {
-                Some(script) => check_front(rt, script, row.2)?,
+                Some(script) => check_front(&rt, alloc, script, row.2)?,
                 None => assert!(rt; false),
             }
         }
