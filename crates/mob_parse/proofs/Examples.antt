@@ -1,5 +1,5 @@
 -- Scripts by which the definition of counted tokens was checked.
-use Rattle.std.specs.Prelude.{◌≡◌, ℕ, zero, suc, List, [], ◌∷◌, ◌++◌, codes, Some, None, refl}
+use Rattle.std.specs.Prelude.{◌≡◌, ℕ, zero, suc, List, [], ◌∷◌, codes, Some, None, refl}
 use Rattle.mob_grammar.specs.declared.mark.Mark.{Mark}
 use Rattle.mob_grammar.specs.declared.mark.Mark.TheVariants.{Select, Plus, Open, Close, Comma, Semicolon, Cast, Dot}
 use Rattle.mob_grammar.specs.Symbols.{Tok, sign, named, numeral}

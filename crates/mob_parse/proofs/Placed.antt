@@ -1,5 +1,5 @@
 -- The tokens of a text begin and end at whole characters.
-use Rattle.std.specs.Prelude.{◌==◌, ◌||◌, ◌&&◌, IfSome, option_map, take_while, nat_lt, nat_le}
+use Rattle.std.specs.Prelude.{◌==◌, IfSome, option_map, take_while}
 use Rattle.std.proofs.Common.{◌≡◌, ◌<◌, ◌≤◌, ◌+◌, ◌-◌, ◌∙◌, ◌⊎◌, inl, inr, ℕ, zero, suc, List, [], ◌∷◌, ◌++◌, length, drop, length-drop, get_or, Bool, true, false, cond, Option, Some, None, Ok, refl, sym, ap, subst, arith}
 use Rattle.std.proofs.lemmas.Bool.{eqb-true}
 use Rattle.std.proofs.lemmas.Bool.Decides.{nat_tests}
@@ -8,13 +8,12 @@ use Rattle.std.proofs.lemmas.List.Sums.{take_while-cons}
 use Rattle.mob_chars.specs.declared.token.TokenKind.{TokenKind}
 use Rattle.mob_chars.specs.declared.token.TokenKind.TheVariants.{Word, Number, Str, Sign, End}
 use Rattle.mob_chars.specs.declared.token.Token.{Token}
-use Rattle.mob_chars.specs.Scan.{is_digit, is_letter, is_word, is_point, is_plus, is_exponent, is_quote, begins_digit, begins_number, word_length, digits_length, fraction_length, mantissa_length, with_digits, power_length, exponent_length, number_length, quoted_length, string_length}
+use Rattle.mob_chars.specs.Scan.{is_digit, is_letter, is_word, is_point, is_plus, is_exponent, is_quote, begins_number, word_length, digits_length, fraction_length, mantissa_length, with_digits, power_length, exponent_length, number_length, quoted_length, string_length}
 use Rattle.mob_chars.specs.Signs.{sign_length}
-use Rattle.mob_chars.specs.Tokens.{token_at, token, end_at, tokens_of}
+use Rattle.mob_chars.specs.Tokens.{token_at, end_at, tokens_of}
 use Rattle.mob_chars.specs.Layout.{Leads, here, blank, comment, next}
 use Rattle.mob_chars.proofs.Sizes.{token_within}
 use Rattle.mob_chars.specs.Scan.{comment_length}
-use Rattle.mob_chars.specs.Layout.{IsLaid}
 use Rattle.mob_chars.proofs.Along.{are_laid}
 use Rattle.std.specs.Str.{IsUtf8, IsCharBoundary}
 use Rattle.std.proofs.lemmas.Str.{IsCharBoundary-before_ascii, IsCharBoundary-after_ascii}

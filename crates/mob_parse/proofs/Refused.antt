@@ -6,8 +6,6 @@ use Rattle.mob_ast.specs.Trees.{StatementParts, script_of}
 use Rattle.mob_ast.specs.declared.refusal.Refusal.{Refusal}
 use Rattle.mob_ast.specs.declared.refusal.Kind.{Kind}
 use Rattle.mob_ast.specs.declared.refusal.Kind.TheVariants.{NotUtf8, Lexical, Syntax, TooComplex, NoMemory}
-use Rattle.mob_chars.specs.declared.token.Token.{Token}
-use Rattle.mob_chars.specs.Tokens.{tokens_of}
 use Rattle.mob_grammar.specs.Symbols.{Tok}
 use Rattle.mob_grammar.specs.Scripts.{IsScript}
 use Rattle.mob_parse.specs.Tokens.{lexed}

@@ -1,7 +1,7 @@
 -- What reading a script says of it.
-use Rattle.std.proofs.Common.{◌≡◌, ◌==◌, ◌<◌, ◌≤◌, ◌+◌, ◌-◌, ◌∙◌, ℕ, zero, suc, Bool, true, false, List, [], ◌∷◌, ◌++◌, length, take, drop, map, Some, Ok, Err, refl, sym, ap, subst, arith}
+use Rattle.std.proofs.Common.{◌≡◌, ◌==◌, ◌<◌, ◌≤◌, ◌+◌, ◌∙◌, ℕ, zero, suc, Bool, true, false, List, [], ◌∷◌, ◌++◌, length, take, drop, Some, Ok, Err, refl, sym, ap, subst, arith}
 use Rattle.std.proofs.lemmas.Bool.{eqb-true}
-use Rattle.std.proofs.lemmas.List.{length-append, length-map}
+use Rattle.std.proofs.lemmas.List.{length-append}
 use Rattle.mob_ast.specs.Trees.{StatementParts}
 use Rattle.mob_ast.specs.declared.refusal.Refusal.{Refusal}
 use Rattle.mob_grammar.specs.declared.mark.Mark.TheVariants.{Semicolon}
@@ -18,7 +18,7 @@ use Rattle.mob_ast.specs.declared.refusal.Kind.{Kind}
 use Rattle.mob_ast.specs.declared.refusal.Kind.TheVariants.{TooComplex}
 use Rattle.mob_parse.specs.declared.lexeme.Lexeme.{Lexeme}
 use Rattle.mob_parse.specs.Lexemes.{tok_of, toks}
-use Rattle.mob_parse.specs.Refusals.{semicolons, place_of, NoneAmong, IsSyntax, IsTooComplex, IsLight, CauseAt, IsRefusedAt}
+use Rattle.mob_parse.specs.Refusals.{semicolons, place_of, NoneAmong, IsSyntax, IsLight, CauseAt, IsRefusedAt}
 use Rattle.mob_parse.specs.Heavy.{first_heavy}
 
 abbrev pub Scripts : List Tok → List StatementParts → List Tok → Type 0

@@ -1,5 +1,5 @@
 -- What the tokens of a text are.
-use Rattle.std.specs.Prelude.{◌==◌, ◌≤◌, ◌<◌, length, ◌+◌, ◌-◌, ℕ, List, [], ◌∷◌, cond, Bool, take, drop, Option, Some, None, codes}
+use Rattle.std.specs.Prelude.{◌≤◌, ◌<◌, length, ◌+◌, ◌-◌, ℕ, List, [], ◌∷◌, cond, take, drop, Option, Some, None, codes}
 use Rattle.std.specs.Str.{bytes_eq, str_eq_ignore_ascii_case, IsCharBoundary}
 use Rattle.mob_chars.specs.declared.token.Token.{Token}
 use Rattle.mob_chars.specs.declared.token.TokenKind.{TokenKind}

@@ -402,7 +402,7 @@ enum Front {
 // A script whose fronts are told, from one length to another.
 static CUT: &str = "SELECT 'é', f(b) FROM t AS u;";
 
-static FRONTS: [(usize, usize, Front); 16] = [
+static FRONTS: [(u32, u32, Front); 16] = [
     (0, 0, Front::Tree),
     (1, 5, Front::At(Kind::Syntax, 0)),
     (6, 7, Front::Short),
@@ -421,14 +421,20 @@ static FRONTS: [(usize, usize, Front); 16] = [
     (29, 30, Front::Tree),
 ];
 
-fn check_front(rt: &impl Abort, alloc: Global, script: &[u8], front: Front) -> Result<(), Fail> {
+fn check_front(
+    rt: &impl Abort,
+    alloc: Global,
+    script: &[u8],
+    end: u32,
+    front: Front,
+) -> Result<(), Fail> {
     match front {
         Front::Tree => {
             assert!(rt; is_read(alloc, script));
             Ok(())
         }
         Front::At(kind, place) => check_refusal(rt, alloc, script, kind, 1, place),
-        Front::Short => check_refusal(rt, alloc, script, Kind::Syntax, 1, script.len() as u32),
+        Front::Short => check_refusal(rt, alloc, script, Kind::Syntax, 1, end),
     }
 }
 
@@ -440,8 +446,8 @@ fn cut_scripts(rt: HostRuntime) -> Result<(), Fail> {
     for row in &FRONTS {
         assert_eq!(rt; row.0, next);
         for end in row.0..=row.1 {
-            match bytes.get(..end) {
-                Some(script) => check_front(&rt, alloc, script, row.2)?,
+            match bytes.get(..end as usize) {
+                Some(script) => check_front(&rt, alloc, script, end, row.2)?,
                 None => assert!(rt; false),
             }
         }

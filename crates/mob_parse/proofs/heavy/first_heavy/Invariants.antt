@@ -1,4 +1,4 @@
-use Rattle.std.proofs.Common.{◌≡◌, ◌≤◌, ◌+◌, ℕ, length}
+use Rattle.std.proofs.Common.{◌≡◌, ◌≤◌, ◌+◌, length}
 use Rattle.mob_parse.specs.Lexemes.{toks}
 use Rattle.mob_parse.specs.Heavy.{heavy_from, first_heavy}
 use Rattle.mob_parse.specs.Standings.{standing_of}

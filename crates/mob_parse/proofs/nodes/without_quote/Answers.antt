@@ -1,4 +1,4 @@
-use Rattle.std.proofs.Common.{◌≡◌, None, arith}
+use Rattle.std.proofs.Common.{None, arith}
 use Rattle.std.proofs.lemmas.Str.Pattern.{strip_prefix_char}
 use Rattle.mob_parse.proofs.Quotes.{no_quote_first}
 use Rattle.mob_parse.proofs.nodes.without_quote.Goals as goal

@@ -1,4 +1,3 @@
-use Rattle.std.proofs.Common.{◌≡◌}
 use Rattle.mob_parse.proofs.Refused.{light_along, only_along, complete_by, refused_along}
 use Rattle.mob_parse.proofs.script.parse.Goals as goal
 

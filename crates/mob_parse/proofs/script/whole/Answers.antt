@@ -1,4 +1,3 @@
-use Rattle.std.proofs.Common.{◌≡◌}
 use Rattle.mob_ast.specs.declared.refusal.Kind.TheVariants.{Syntax}
 use Rattle.mob_parse.specs.Lexemes.{toks}
 use Rattle.mob_parse.proofs.Scripts.{caused, syntax_at, none_light}

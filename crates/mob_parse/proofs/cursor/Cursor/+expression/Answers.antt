@@ -1,4 +1,4 @@
-use Rattle.std.proofs.Common.{◌≡◌, ◌≤◌, ◌<◌, ◌∙◌, [], ◌∷◌, ◌++◌, true, length, map, arith, ap, sym}
+use Rattle.std.proofs.Common.{◌≡◌, ◌<◌, ◌∙◌, [], ◌∷◌, ◌++◌, true, length, map, arith, ap, sym}
 use Rattle.std.proofs.lemmas.List.{map_push}
 use Rattle.mob_ast.specs.Trees.{tree_of}
 use Rattle.mob_grammar.specs.Reading.{chain, postfix, expression_at, comparison_rank, primary}

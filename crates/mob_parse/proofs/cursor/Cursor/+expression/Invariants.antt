@@ -1,4 +1,4 @@
-use Rattle.std.proofs.Common.{◌≡◌, ◌≤◌, ◌<◌, ℕ, length, map, [], ◌∷◌, Ok, ◌+◌, ◌*◌, cond}
+use Rattle.std.proofs.Common.{◌≡◌, ◌≤◌, ◌<◌, ℕ, length, map, ◌+◌, ◌*◌}
 use Rattle.mob_ast.specs.Trees.{tree_of}
 use Rattle.mob_grammar.specs.declared.mark.Mark.TheVariants.{Is, Cast, Comma}
 use Rattle.mob_grammar.specs.Reading.{expression_at, chain, chain_from, nullness_rank, cast_rank, postfix_from, null_at, cast_at, listed, listed_from}
