@@ -216,12 +216,15 @@ fn parse_text(alloc: Global, text: &str) -> Result<Script, Refusal>
     }
 }
 
-/// The tree of a script, or the first refusal, as the grammar of scripts has it.
+/// The tree of a script of at most 4,194,304 bytes, or the first refusal, as the grammar of scripts has it.
 ///
-/// Answers `NotUtf8` at the first byte of a broken character; `Lexical` at a character that begins no token, or at the
-/// opening quote of a string that is not closed; `Syntax` at the first token with which no script begins, given the
-/// tokens before it, or at the end; `TooComplex` at the 257th counted token of an expression, where a script begins with
-/// the tokens up to it; and `NoMemory`, with the place and the statement 0, where there was no memory.
+/// Answers `NotUtf8` at the first byte of a broken character; in a script without one `Lexical`, at the first character that
+/// begins no token or at the opening quote of a string that is not closed; in one of whole tokens the first of `Syntax`, at
+/// the first token with which no script begins, given the tokens before it, or at the end, and of `TooComplex`, at the 257th
+/// counted token of an expression, where a script begins with the tokens up to it. At one token it is `Syntax`. `NoMemory`,
+/// with the place and the statement 0, comes where there was no memory.
+///
+/// A place counts the bytes from 0; a statement's number is 1 and the number of `;` tokens before the place.
 pub fn parse(alloc: Global, bytes: &[u8]) -> Result<Script, Refusal>
     requires short { length bytes.now ≤ 4194304 }
     ensures tree { IfOk result (λ s. IsTreeOf bytes.now (script_of s)) }
