@@ -1,5 +1,5 @@
 -- Worked scripts with tables, rows, keys and `*`, computed by the definition.
-use Rattle.std.specs.Prelude.{◌≡◌, ◌+◌, ◌*◌, ◌/◌, ◌%◌, ℕ, suc, List, [], ◌∷◌, ◌++◌, map, false, None, Some, Ok, codes, refl}
+use Rattle.std.specs.Prelude.{◌≡◌, ◌+◌, ◌*◌, ◌/◌, ◌%◌, ℕ, zero, suc, List, [], ◌∷◌, ◌++◌, map, false, None, Some, Ok, codes, refl}
 use Rattle.mob_ast.specs.declared.types.Word.{Word}
 use Rattle.mob_ast.specs.declared.types.TypeWord.{TypeWord}
 use Rattle.mob_ast.specs.declared.types.SqlType.{SqlType}
@@ -43,14 +43,14 @@ a_star_without_tables = refl
 
 -- c00 int, c01 int, ..: so many columns from the one of number k on, in a table whose first column stands at byte 16
 abbrev numbered : ℕ → List ℕ
-numbered k = codes "c" ++ 48 + k / 10 ∷ 48 + k % 10 ∷ []
+numbered k = codes "c" ++ (48 + k / 10) ∷ (48 + k % 10) ∷ []
 
 abbrev columns_from : ℕ → ℕ → List (Word × TypeWord)
-columns_from k 0 = []
+columns_from k zero = []
 columns_from k (suc n) = (word (numbered k) (16 + 9 * k), type_word (codes "int") (20 + 9 * k)) ∷ columns_from (k + 1) n
 
 abbrev ints_from : ℕ → ℕ → ColumnList
-ints_from k 0 = []
+ints_from k zero = []
 ints_from k (suc n) = (numbered k, sql.Int) ∷ ints_from (k + 1) n
 
 -- CREATE TABLE t (c00 int, c01 int, .., c63 int)
