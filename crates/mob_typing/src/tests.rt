@@ -1,6 +1,6 @@
 //! Whole scripts, built by hand. The rows that say which refusal comes first are computed by the definition.
 
-use crate::{ConstText, Op, TExpr, Typed, TypedStatement, type_script};
+use crate::{ConstText, Op, TExpr, Typed, TypedSelect, TypedStatement, type_script};
 use mob_ast::{
     Expr, Item, Kind, Node, Refusal, Script, SelectTree, SqlType, Statement, TypeWord, Word,
 };
@@ -224,4 +224,7 @@ fn typed_scripts_cross_threads() {
     crosses_threads::<Op>();
     crosses_threads::<ConstText>();
     crosses_threads::<TExpr>();
+    crosses_threads::<TypedSelect>();
+    crosses_threads::<TypedStatement>();
+    crosses_threads::<Typed>();
 }
