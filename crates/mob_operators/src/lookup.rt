@@ -223,7 +223,10 @@ mod tests {
     use super::*;
     use crate::operator::Op;
     use mob_ast::Cmp;
+    use std::marker::{Send, Sync};
     use std::test::Fail;
+
+    fn crosses_threads<T: Send + Sync>(_value: &T) {}
 
     type Expected = (
         Form,
@@ -742,5 +745,11 @@ mod tests {
         assert!(rt; is_irrational(Form::Call, "tdwithin"));
         assert!(rt; is_irrational(Form::Sign, "<->"));
         Ok(())
+    }
+
+    #[test]
+    fn operators_cross_threads() {
+        crosses_threads(&Op::Test(Cmp::Eq));
+        crosses_threads(&Form::Call);
     }
 }

@@ -1,51 +1,52 @@
 -- Worked scripts, computed by the definition.
-use Rattle.std.specs.Prelude.{◌≡◌, ℕ, List, [], ◌∷◌, Bool, true, false, Option, Some, None, Result, Ok, Err, codes, refl}
+use Rattle.std.specs.Prelude.{◌≡◌, ℕ, List, [], ◌∷◌, false, Option, Some, None, Result, Ok, Err, codes, refl}
 use Rattle.mob_ast.specs.declared.types.Word.{Word}
 use Rattle.mob_ast.specs.declared.types.TypeWord.{TypeWord}
-use Rattle.mob_ast.specs.declared.types.SqlType.{SqlType}
 use Rattle.mob_ast.specs.declared.types.SqlType.TheVariants as sql
 use Rattle.mob_ast.specs.declared.refusal.Kind.{Kind}
 use Rattle.mob_ast.specs.declared.refusal.Kind.TheVariants as kind
 use Rattle.mob_ast.specs.declared.refusal.Refusal.{Refusal}
 use Rattle.mob_ast.specs.declared.expression.Node.TheVariants.{Number, Str, Literal, Column, Call, Sign}
-use Rattle.mob_ast.specs.declared.statement.FromTable.{FromTable}
-use Rattle.mob_ast.specs.Trees.{Tree, tree, Trees, none, more, ItemParts, every, one, KeyParts, SelectParts, StatementParts, create_table, select}
+use Rattle.mob_ast.specs.Trees.{Tree, tree, Trees, none, more, one, StatementParts, create_table, select}
 use Rattle.mob_operators.specs.Table.{table}
 use Rattle.mob_operators.specs.declared.operator.Op.TheVariants as op
 use Rattle.mob_typing.specs.Words.{type_words, geometry_words}
-use Rattle.mob_typing.specs.Trees.{TypedTree, typed, none as no_args, more as and_arg}
+use Rattle.mob_typing.specs.Trees.{typed, none as no_args}
 use Rattle.mob_typing.specs.Expressions.{early, finished, digits_of, digits_in, typed_expression, typed_operands}
 use Rattle.mob_typing.specs.Statements.{typed_statement, typed_script, ScriptOut, query}
 
-abbrev word : List ℕ → ℕ → Word
+abbrev pub word : List ℕ → ℕ → Word
 word text place = record { text = text; place = place }
 
-abbrev type_word : List ℕ → ℕ → TypeWord
+abbrev pub type_word : List ℕ → ℕ → TypeWord
 type_word text place = record { name = word text place; inner = None }
 
-abbrev leaf : Tree → Trees
+abbrev pub leaf : Tree → Trees
 leaf t = more t none
 
-abbrev pair : Tree → Tree → Trees
+abbrev pub pair : Tree → Tree → Trees
 pair a b = more a (more b none)
 
-abbrev number : List ℕ → ℕ → Tree
+abbrev pub number : List ℕ → ℕ → Tree
 number text p = tree (Number text) p none
 
-abbrev string : List ℕ → ℕ → Tree
+abbrev pub string : List ℕ → ℕ → Tree
 string text p = tree (Str text) p none
 
-abbrev literal : List ℕ → ℕ → List ℕ → ℕ → Tree
+abbrev pub literal : List ℕ → ℕ → List ℕ → ℕ → Tree
 literal ty q text p = tree (Literal (type_word ty q) text) p none
 
-abbrev column : List ℕ → ℕ → Tree
+abbrev pub column : List ℕ → ℕ → Tree
 column name p = tree (Column None (word name p)) p none
 
-abbrev asked : Tree → Option Word → StatementParts
+abbrev pub asked : Tree → Option Word → StatementParts
 asked t limit = select (record { distinct = false; items = one t None ∷ []; from = []; cond = None; keys = []; limit = limit })
 
-abbrev refused : Kind → ℕ → Result ScriptOut Refusal
-refused k p = Err (record { kind = k; statement = 1; place = p })
+abbrev pub refused_in : ℕ → Kind → ℕ → Result ScriptOut Refusal
+refused_in n k p = Err (record { kind = k; statement = n; place = p })
+
+abbrev pub refused : Kind → ℕ → Result ScriptOut Refusal
+refused k p = refused_in 1 k p
 
 -- SELECT tfrac '1@2001-01-01' * tfrac '2@2001-01-01'
 a_linear_product : typed_script (asked (tree (Sign (codes "*")) 28 (pair (literal (codes "tfrac") 7 (codes "1@2001-01-01") 13) (literal (codes "tfrac") 30 (codes "2@2001-01-01") 36))) None ∷ []) ≡ refused kind.LinearProduct 28

@@ -1,10 +1,10 @@
 -- The typing of an expression in memory, step by step.
-use Rattle.std.proofs.Common.{◌≡◌, ◌∙◌, refl, sym, ap, ℕ, List, [], ◌∷◌, ◌++◌, map, Option, Some, None, Result, Ok, Err}
+use Rattle.std.proofs.Common.{◌≡◌, ◌∙◌, refl, sym, ap, ℕ, List, [], ◌∷◌, ◌++◌, Option, Some, None, Result, Ok, Err}
 use Rattle.std.specs.Prelude.{option_map}
 use Rattle.mob_ast.specs.declared.expression.Node.{Node}
 use Rattle.mob_ast.specs.declared.expression.Expr.{Expr}
 use Rattle.mob_ast.specs.declared.expression.Expr.TheViews.{out-Expr}
-use Rattle.mob_ast.specs.Trees.{Trees, none as no_trees, tree_of, trees_of}
+use Rattle.mob_ast.specs.Trees.{none as no_trees, tree_of, trees_of}
 use Rattle.mob_typing.specs.declared.fault.Fault.{Fault}
 use Rattle.mob_typing.specs.declared.typed.ConstText.{ConstText}
 use Rattle.mob_typing.specs.declared.typed.TExpr.{TExpr}

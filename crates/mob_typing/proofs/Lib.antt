@@ -4,5 +4,6 @@ pub mod ExpressionSteps
 pub mod Limits
 pub mod Matches
 pub mod RowSteps
+pub mod TableExamples
 pub mod TreeFacts
 pub mod Wrongs

@@ -1,5 +1,5 @@
 -- A text of 1 to 18 digits is read as its number.
-use Rattle.std.proofs.Common.{◌≡◌, ◌∙◌, ◌<◌, ◌≤◌, ◌≢◌, ◌^◌, ◌&&◌, refl, sym, ap, subst, ℕ, List, [], ◌∷◌, Bool, true, false, length, get_or, Option, Some, None, Result, Ok, Err, cond, arith, lit<}
+use Rattle.std.proofs.Common.{◌≡◌, ◌∙◌, ◌<◌, ◌≤◌, ◌^◌, ◌&&◌, refl, sym, ap, subst, ℕ, List, [], ◌∷◌, Bool, true, false, length, Some, None, Result, Ok, Err, cond, arith, lit<}
 use Rattle.std.specs.Prelude.{nat_le}
 use Rattle.std.specs.List.{list_all}
 use Rattle.std.specs.Char.{is_ascii_digit, digit_value}

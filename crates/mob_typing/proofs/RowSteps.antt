@@ -4,15 +4,13 @@ use Rattle.std.specs.Prelude.{slice_get}
 use Rattle.std.proofs.lemmas.List.{drop_more}
 use Rattle.mob_ast.specs.declared.types.SqlType.{SqlType}
 use Rattle.mob_ast.specs.declared.expression.Expr.{Expr}
-use Rattle.mob_ast.specs.declared.expression.Expr.TheViews.{out-Expr}
-use Rattle.mob_ast.specs.Trees.{tree_of, trees_of}
+use Rattle.mob_ast.specs.Trees.{tree_of}
 use Rattle.mob_typing.specs.declared.fault.Fault.{Fault}
 use Rattle.mob_typing.specs.declared.typed.ConstText.{ConstText}
-use Rattle.mob_typing.specs.Answers.{Wrong, ◌>>=◌, Fails, Gives}
+use Rattle.mob_typing.specs.Answers.{Wrong, ◌>>=◌, Fails}
 use Rattle.mob_typing.specs.Names.{ColumnList}
-use Rattle.mob_typing.specs.Statements.{value_of, node_value, row_values}
+use Rattle.mob_typing.specs.Statements.{value_of, row_values}
 use Rattle.mob_typing.proofs.Matches.{drop_at}
-use Rattle.mob_typing.proofs.TreeFacts.{tree_is}
 use Rattle.mob_typing.proofs.Wrongs.{fails_bind, fails_along}
 
 abbrev Values : Type 0

@@ -1,15 +1,13 @@
 -- Trees and typed trees as they stand in memory, one level at a time.
-use Rattle.std.proofs.Common.{◌≡◌, ◌<◌, ◌≤◌, length, get_or, arith, ◌∙◌, refl, sym, ap, ℕ, List, [], ◌∷◌, map, Option, Some, None, Vec, Global, Bool, true, false, cond}
+use Rattle.std.proofs.Common.{◌≡◌, ◌<◌, ◌≤◌, length, get_or, arith, ◌∙◌, refl, sym, ap, ℕ, List, [], ◌∷◌, map, Option, None, Bool, true, false, cond}
 use Rattle.std.specs.Prelude.{option_and_then}
-use Rattle.mob_ast.specs.declared.types.SqlType.{SqlType}
 use Rattle.mob_ast.specs.declared.expression.Expr.{Expr}
 use Rattle.mob_ast.specs.declared.expression.Expr.TheViews.{out-Expr}
 use Rattle.mob_ast.specs.declared.expression.Expr.TheFolds.{fold_out-Expr}
 use Rattle.mob_ast.specs.Trees.{Tree, tree, Trees, none as no_trees, more as more_trees, tree_step, tree_of, trees_of}
-use Rattle.mob_operators.specs.declared.operator.Op.{Op}
 use Rattle.mob_typing.specs.declared.typed.TExpr.{TExpr}
-use Rattle.mob_typing.specs.declared.typed.TExpr.TheViews.{out-TExpr, roll-TExpr}
-use Rattle.mob_typing.specs.declared.typed.TExpr.TheFolds.{fold_out-TExpr, fold-roll-TExpr}
+use Rattle.mob_typing.specs.declared.typed.TExpr.TheViews.{out-TExpr}
+use Rattle.mob_typing.specs.declared.typed.TExpr.TheFolds.{fold_out-TExpr}
 use Rattle.mob_typing.specs.Trees.{TypedTree, typed, typed_trees, typed_step, typed_of, type_of, types_of}
 use Rattle.mob_typing.specs.Expressions.{is_signed, digits_of, digits_in, signed_digits, only}
 use Rattle.mob_ast.specs.declared.expression.Node.TheVariants.{Sign}

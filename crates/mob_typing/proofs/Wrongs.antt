@@ -1,5 +1,5 @@
 -- What is wrong first in a part is so in the whole.
-use Rattle.std.proofs.Common.{◌≡◌, ◌∙◌, ap, Result, Ok, Err}
+use Rattle.std.proofs.Common.{◌≡◌, ◌∙◌, ap, Result}
 use Rattle.mob_typing.specs.declared.fault.Fault.{Fault}
 use Rattle.mob_typing.specs.declared.fault.Fault.TheVariants.{Wrong as Refused, NoMemory}
 use Rattle.mob_typing.specs.Answers.{Wrong, ◌>>=◌, Fails}

@@ -1,7 +1,6 @@
 -- Names and types of expressions: the typed tree of a tree, or what is wrong first. What is settled before the operands
 -- comes first, then the operands from left to right, then the operator.
-use Rattle.std.specs.Prelude.{◌==◌, ◌&&◌, ◌||◌, not, ◌+◌, ℕ, List, [], ◌∷◌, ◌++◌, Bool, true, false, Option, Some, None, Result, Ok, codes, length, map, is_some, option_map, option_and_then, if◌then◌else◌}
-use Rattle.std.specs.List.{list_any}
+use Rattle.std.specs.Prelude.{◌&&◌, ◌||◌, not, ◌+◌, ℕ, List, [], ◌∷◌, ◌++◌, Bool, true, false, Option, Some, None, Result, Ok, codes, length, is_some, option_map, option_and_then, if◌then◌else◌}
 use Rattle.std.specs.Str.{bytes_eq}
 use Rattle.mob_ast.specs.declared.types.Word.{Word}
 use Rattle.mob_ast.specs.declared.types.TypeWord.{TypeWord}
@@ -18,8 +17,7 @@ use Rattle.mob_operators.specs.declared.operator.Form.{Form}
 use Rattle.mob_operators.specs.declared.operator.Form.TheVariants as form
 use Rattle.mob_operators.specs.Lookup.{same_type, found_in, has_function}
 use Rattle.mob_operators.specs.Table.{table, is_irrational}
-use Rattle.mob_typing.specs.declared.typed.ConstText.{ConstText}
-use Rattle.mob_typing.specs.Trees.{TypedTree, typed, TypedTrees, none, more, typed_trees, type_of, types_of}
+use Rattle.mob_typing.specs.Trees.{TypedTree, typed, none, more, typed_trees, types_of}
 use Rattle.mob_typing.specs.Answers.{Wrong, refuse, ◌>>=◌, unless, found, Step}
 use Rattle.mob_typing.specs.Names.{column_of, entry_from}
 use Rattle.mob_typing.specs.Scopes.{SourceParts, ScopeParts}

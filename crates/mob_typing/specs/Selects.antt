@@ -1,5 +1,5 @@
 -- Names and types of a SELECT: FROM first, and then the select list, WHERE, ORDER BY and LIMIT in written order.
-use Rattle.std.specs.Prelude.{◌==◌, ◌&&◌, not, ◌+◌, ℕ, List, [], ◌∷◌, ◌++◌, Bool, Option, Some, None, Result, Ok, codes, length, map, is_some, slice_get, option_map, option_and_then, decimal, nat_le, if◌then◌else◌}
+use Rattle.std.specs.Prelude.{◌==◌, ◌&&◌, not, ◌+◌, ℕ, List, [], ◌∷◌, ◌++◌, Bool, Option, Some, None, Result, Ok, codes, length, map, slice_get, option_map, option_and_then, decimal, nat_le, if◌then◌else◌}
 use Rattle.std.specs.List.{list_all}
 use Rattle.std.specs.Char.{is_ascii_digit}
 use Rattle.std.specs.Str.Parse.{digits_value}
@@ -16,7 +16,7 @@ use Rattle.mob_operators.specs.Lookup.{has}
 use Rattle.mob_typing.specs.declared.typed.TExpr.{TExpr}
 use Rattle.mob_typing.specs.declared.typed.TypedSelect.{TypedSelect}
 use Rattle.mob_typing.specs.declared.outputs.Outputs.{Outputs}
-use Rattle.mob_typing.specs.Answers.{Wrong, refuse, ◌>>=◌, unless, found, Step}
+use Rattle.mob_typing.specs.Answers.{Wrong, ◌>>=◌, unless, found, Step}
 use Rattle.mob_typing.specs.Names.{ColumnList, table_of, entry_from, has_entry}
 use Rattle.mob_typing.specs.Scopes.{SourceParts, ScopeParts}
 use Rattle.mob_typing.specs.Trees.{TypedTree, typed, none, type_of, typed_of}

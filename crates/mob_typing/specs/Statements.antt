@@ -1,17 +1,16 @@
 -- Names and types of statements and whole scripts, statement by statement.
-use Rattle.std.specs.Prelude.{◌≡◌, ◌⊎◌, ◌==◌, not, ◌+◌, ℕ, List, [], ◌∷◌, ◌++◌, Bool, Option, Some, None, Result, Ok, Err, codes, length, map, nat_le, option_and_then}
+use Rattle.std.specs.Prelude.{◌≡◌, ◌⊎◌, ◌==◌, not, ◌+◌, ℕ, List, [], ◌∷◌, ◌++◌, Option, Some, None, Result, Ok, Err, codes, length, map, nat_le, option_and_then}
 use Rattle.std.specs.Str.{bytes_eq}
 use Rattle.mob_ast.specs.declared.types.Word.{Word}
 use Rattle.mob_ast.specs.declared.types.Quoted.{Quoted}
 use Rattle.mob_ast.specs.declared.types.TypeWord.{TypeWord}
 use Rattle.mob_ast.specs.declared.types.SqlType.{SqlType}
 use Rattle.mob_ast.specs.declared.types.SqlType.TheVariants as sql
-use Rattle.mob_ast.specs.declared.refusal.Kind.{Kind}
 use Rattle.mob_ast.specs.declared.refusal.Kind.TheVariants as kind
 use Rattle.mob_ast.specs.declared.refusal.Refusal.{Refusal}
 use Rattle.mob_ast.specs.declared.expression.Node.{Node}
 use Rattle.mob_ast.specs.declared.expression.Node.TheVariants as node
-use Rattle.mob_ast.specs.Trees.{Tree, tree, Trees, RowParts, SelectParts, StatementParts, empty, create_table, create_index, insert, copy, select, explain}
+use Rattle.mob_ast.specs.Trees.{Tree, tree, Trees, RowParts, StatementParts, empty, create_table, create_index, insert, copy, select, explain}
 use Rattle.mob_operators.specs.Lookup.{same_type}
 use Rattle.mob_typing.specs.declared.typed.ConstText.{ConstText}
 use Rattle.mob_typing.specs.declared.typed.TypedStatement.{TypedStatement}

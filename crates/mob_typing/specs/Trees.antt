@@ -1,5 +1,5 @@
 -- Typed trees as plain values, without where they lie in memory: what contracts compare.
-use Rattle.std.specs.Prelude.{ℕ, Bool, List, [], ◌∷◌, map, Option, option_map}
+use Rattle.std.specs.Prelude.{ℕ, List, [], ◌∷◌, map}
 use Rattle.mob_ast.specs.declared.types.SqlType.{SqlType}
 use Rattle.mob_operators.specs.declared.operator.Op.{Op}
 use Rattle.mob_typing.specs.declared.typed.TExpr.{TExpr}

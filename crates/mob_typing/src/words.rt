@@ -103,13 +103,18 @@ fn is_blank(b: u8) -> bool
     b == b' ' || b == b'\t' || b == b'\r' || b == b'\n'
 }
 
+// A loop, since a script may have any number of blanks, and a call for each would take stack.
 fn skip_blanks(text: &[u8]) -> &[u8]
     ensures { result.now ≡ skip_blanks text.now }
 {
-    match text {
-        [first, rest @ ..] if is_blank(*first) => skip_blanks(rest),
-        _ => text,
+    let mut rest = text;
+    'blanks: while let Some((first, behind)) = rest.split_first() {
+        if !is_blank(*first) {
+            return rest;
+        }
+        rest = behind;
     }
+    rest
 }
 
 // Whether a text begins with this word in letters of either case.

@@ -3,7 +3,7 @@ use Rattle.mob_ast.specs.declared.expression.Expr.{Expr}
 use Rattle.mob_ast.specs.declared.expression.Expr.TheViews.{out-Expr}
 use Rattle.std.proofs.lemmas.Result.{err_from_is_err_and}
 use Rattle.std.proofs.lemmas.List.{map_push, drop_more, drop_all}
-use Rattle.mob_ast.specs.Trees.{tree_of, trees_of}
+use Rattle.mob_ast.specs.Trees.{trees_of}
 use Rattle.mob_typing.specs.Answers.{◌>>=◌, Answers}
 use Rattle.mob_typing.specs.Scopes.{scope_of}
 use Rattle.mob_typing.specs.Trees.{typed_of}

@@ -1,5 +1,4 @@
 use Rattle.std.proofs.Common.{◌≡◌, drop, map}
-use Rattle.std.specs.Prelude.{option_map}
 use Rattle.mob_typing.specs.Names.{entry_from}
 use Rattle.mob_typing.proofs.keys.alias_index.Given as goal
 

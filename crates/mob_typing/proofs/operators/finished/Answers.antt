@@ -1,4 +1,3 @@
-use Rattle.std.proofs.Common.{ap, subst}
 use Rattle.mob_typing.specs.Expressions.{finished}
 use Rattle.mob_typing.proofs.operators.finished.Goals as goal
 

@@ -1,5 +1,4 @@
-use Rattle.std.proofs.Common.{sym, ◌∙◌, ap}
-use Rattle.std.specs.Prelude.{option_map}
+use Rattle.std.proofs.Common.{sym, ap}
 use Rattle.mob_typing.specs.Names.{NameLists}
 use Rattle.mob_typing.proofs.Entries.{entry_there, entry_missing}
 use Rattle.mob_typing.proofs.names.Names.find.Goals as goal
