@@ -1,6 +1,6 @@
 -- Each phrase of an expression is read, whatever stands behind it that does not go on the phrase.
-use Rattle.std.proofs.Common.{◌≡◌, ◌==◌, ◌<◌, ◌≤◌, ◌+◌, ◌-◌, ◌∙◌, ◌⊎◌, inl, inr, ℕ, zero, suc, List, [], ◌∷◌, ◌++◌, length, Bool, true, false, cond, Option, Some, None, Result, Ok, Err, refl, sym, ap, ap₂, subst, arith}
-use Rattle.std.proofs.lemmas.Bool.{eq-eqb, eqb-true}
+use Rattle.std.proofs.Common.{◌≡◌, ◌==◌, ◌<◌, ◌≤◌, ◌-◌, ◌∙◌, inl, inr, ℕ, List, [], ◌∷◌, ◌++◌, length, true, false, cond, Some, None, Ok, Err, refl, sym, ap, ap₂, subst, arith}
+use Rattle.std.proofs.lemmas.Bool.{eqb-true}
 use Rattle.std.proofs.lemmas.Bool.Decides.{eqb_tells}
 use Rattle.mob_ast.specs.declared.types.Word.{Word}
 use Rattle.mob_ast.specs.declared.types.TypeWord.{TypeWord}
@@ -10,11 +10,11 @@ use Rattle.mob_ast.specs.Trees.{Tree, tree, Trees, none, more, trees_from}
 use Rattle.mob_grammar.specs.declared.mark.Mark.{Mark}
 use Rattle.mob_grammar.specs.declared.mark.Mark.TheVariants.{Distinct, Not, Is, Null, True, False, Tilde, Times, Cast, Open, Close, Comma, Dot}
 use Rattle.mob_grammar.specs.Marks.{is, strength}
-use Rattle.mob_grammar.specs.Symbols.{Symbol, fixed, name, number, quoted, Tok, sign, named, numeral, string, is_mark, symbol_strength, is_sign, is_name, is_string, is_string_symbol, binding, begins, starts, goes_on, first, rest, binary, unary, leaf}
-use Rattle.mob_grammar.specs.Expressions.{Rank, disjunction, conjunction, negation, nullness, comparison, other, complement, sum, product, signed, cast, primary, next, tight, chains, prefixes, word, plain_type, inner_type, TypeName, plain, inner, Phrase, up, chain, prefixed, is_null, is_not_null, compared, cast_to, a_number, a_string, is_true, is_false, a_null, a_literal, a_call, a_column, a_table_column, in_brackets, Arguments, nothing, something, Behind, end, another}
+use Rattle.mob_grammar.specs.Symbols.{Tok, sign, named, numeral, string, is_sign, is_name, is_string, binding, begins, starts, goes_on, binary, unary, leaf}
+use Rattle.mob_grammar.specs.Expressions.{Rank, disjunction, conjunction, negation, nullness, comparison, other, complement, sum, product, signed, cast, primary, next, tight, chains, prefixes, word, TypeName, plain, inner, Phrase, up, chain, prefixed, is_null, is_not_null, compared, cast_to, a_number, a_string, is_true, is_false, a_null, a_literal, a_call, a_column, a_table_column, in_brackets, Arguments, nothing, something, Behind, end, another}
 use Rattle.mob_grammar.specs.Reading.{Answer, Reader, ◌>>=◌, closed, if_mark, name_at, string_at, inner_at, type_at, listed_from, listed, chain_from, postfix_from, null_at, cast_at, args, is_literal, literal_at, column_at, opened, named_at, mark_primary, expression_at, cast_rank, signed_rank, product_rank, sum_rank, complement_rank, other_rank, comparison_rank, nullness_rank, negation_rank, conjunction_rank, disjunction_rank}
 use Rattle.mob_grammar.specs.Reading as read
-use Rattle.mob_grammar.proofs.Steps.{chosen, passed, told, token_is, name_is, string_is, chain_goes_on, chain_stops, prefix_goes_on, prefix_stops, compared_goes_on, compared_stops, postfix_goes_on, postfix_stops, closed_there, if_there, if_not, listed_goes_on, listed_stops}
+use Rattle.mob_grammar.proofs.Steps.{passed, told, token_is, name_is, string_is, chain_goes_on, chain_stops, prefix_goes_on, prefix_stops, compared_goes_on, compared_stops, postfix_goes_on, postfix_stops, closed_there, listed_goes_on, listed_stops}
 use Rattle.mob_grammar.proofs.Laws.{through}
 use Rattle.mob_grammar.proofs.Same.{expression_unfolds, column_arguments}
 

@@ -1,15 +1,11 @@
 -- The readers of forms tell: the words that make longer forms of shorter ones.
-use Rattle.std.proofs.Common.{◌≡◌, ◌==◌, ◌<◌, ◌≤◌, ◌+◌, ◌-◌, ◌∙◌, ◌⊎◌, inl, inr, ℕ, zero, suc, List, [], ◌∷◌, ◌++◌, length, Bool, true, false, cond, Result, Ok, Err, refl, sym, ap, subst, arith, append_assoc}
-use Rattle.std.proofs.lemmas.Bool.{eq-eqb, eqb-true}
-use Rattle.mob_ast.specs.declared.types.Word.{Word}
-use Rattle.mob_ast.specs.declared.types.Quoted.{Quoted}
+use Rattle.std.proofs.Common.{◌≡◌, ◌<◌, ◌≤◌, ◌∙◌, ◌⊎◌, inl, inr, ℕ, zero, suc, List, [], ◌∷◌, ◌++◌, length, Bool, true, false, cond, Ok, Err, refl, sym, ap, subst, arith, append_assoc}
 use Rattle.mob_grammar.specs.declared.mark.Mark.{Mark}
-use Rattle.mob_grammar.specs.Symbols.{Symbol, fixed, name, number, quoted, Tok, sign, named, numeral, string, is_sign, binding, begins, starts, goes_on, first, rest}
-use Rattle.mob_grammar.specs.Forms.{Form, Says, At, AName, ANumber, AString, ◌⇒◌, ◌▸◌, ◌∣◌, Listed, single, several}
-use Rattle.mob_grammar.specs.Texts.{Plain}
-use Rattle.mob_grammar.specs.Reading.{Answer, Reader, ◌>>=◌, mark_at, closed, after, if_mark, name_at, number_at, string_at, listed_from, listed}
+use Rattle.mob_grammar.specs.Symbols.{Symbol, fixed, name, number, quoted, Tok, sign, named, numeral, string, is_sign, begins, starts}
+use Rattle.mob_grammar.specs.Forms.{Form, Says, AName, ANumber, AString, ◌⇒◌, ◌▸◌, ◌∣◌, Listed, single, several}
+use Rattle.mob_grammar.specs.Reading.{Answer, Reader, ◌>>=◌, closed, after, if_mark, name_at, number_at, string_at, listed_from, listed}
 use Rattle.mob_grammar.proofs.Steps.{chosen, passed, told, token_is, after_there, after_not, if_there, if_not, listed_stops}
-use Rattle.mob_grammar.proofs.Laws.{Alike, Taken, Failed, Tells, Lawful, Ready, tells_both, tells_token, tells_done, tells_one, tells_wrong, tells_same, tells_at_length}
+use Rattle.mob_grammar.proofs.Laws.{Alike, Tells, Lawful, Ready, tells_both, tells_token, tells_done, tells_one, tells_wrong, tells_same, tells_at_length}
 
 pub alike_begins : (test : Tok → Bool) (l y : List Tok) → Alike l y → begins test y ≡ begins test l
 alike_begins test [] [] h = refl

@@ -1,10 +1,10 @@
 -- What each outcome of reading says: which phrase the taken tokens are, whatever follows them; that what comes
 -- later plays no part; and, where reading failed, how the tokens before that place go on to a phrase.
-use Rattle.std.proofs.Common.{◌≡◌, ◌<◌, ◌≤◌, ◌+◌, ◌∙◌, ℕ, zero, suc, List, [], ◌∷◌, ◌++◌, length, Result, Ok, Err, refl, sym, ap, subst, arith, append_assoc}
+use Rattle.std.proofs.Common.{◌≡◌, ◌<◌, ◌≤◌, ◌∙◌, ℕ, zero, suc, List, [], ◌∷◌, ◌++◌, length, Ok, Err, refl, sym, ap, subst, arith, append_assoc}
 use Rattle.std.proofs.lemmas.List.{length-append}
 use Rattle.mob_grammar.specs.Symbols.{Tok}
 use Rattle.mob_grammar.specs.Reading.{Answer, Reader, ◌>>=◌}
-use Rattle.mob_grammar.specs.Texts.{IsPlain, Plain}
+use Rattle.mob_grammar.specs.Texts.{Plain}
 
 -- both end, or both begin with the same token
 abbrev pub Alike : List Tok → List Tok → Type 0

@@ -1,5 +1,5 @@
 -- The readers of the ranks of expressions tell.
-use Rattle.std.proofs.Common.{◌≡◌, ◌==◌, ◌<◌, ◌≤◌, ◌+◌, ◌-◌, ◌∙◌, ◌⊎◌, inl, inr, ℕ, zero, suc, List, [], ◌∷◌, ◌++◌, length, Bool, true, false, cond, Option, Some, None, Result, Ok, Err, refl, sym, ap, ap₂, subst, arith}
+use Rattle.std.proofs.Common.{◌≡◌, ◌==◌, ◌<◌, ◌≤◌, ◌∙◌, inl, inr, ℕ, zero, suc, List, [], ◌∷◌, ◌++◌, length, Bool, true, false, cond, Some, None, Ok, Err, refl, sym, ap, ap₂, subst, arith}
 use Rattle.std.proofs.lemmas.Bool.{eq-eqb, eqb-true}
 use Rattle.mob_ast.specs.declared.types.Word.{Word}
 use Rattle.mob_ast.specs.declared.types.TypeWord.{TypeWord}
@@ -9,16 +9,15 @@ use Rattle.mob_ast.specs.Trees.{Tree, tree, Trees, none, more, trees_from}
 use Rattle.mob_grammar.specs.declared.mark.Mark.{Mark}
 use Rattle.mob_grammar.specs.declared.mark.Mark.TheVariants.{Not, Is, Null, True, False, Tilde, Cast, Open, Close, Comma, Dot}
 use Rattle.mob_grammar.specs.Marks.{is}
-use Rattle.mob_grammar.specs.Symbols.{Symbol, fixed, name, number, quoted, Tok, sign, named, numeral, string, is_sign, is_name, is_string, binding, begins, starts, goes_on, first, rest, binary, unary, leaf}
-use Rattle.mob_grammar.specs.Expressions.{Rank, disjunction, conjunction, negation, nullness, comparison, other, complement, sum, product, signed, cast, primary, next, tight, chains, prefixes, word, plain_type, inner_type, TypeName, plain, inner, Phrase, up, chain, prefixed, is_null, is_not_null, compared, cast_to, a_number, a_string, is_true, is_false, a_null, a_literal, a_call, a_column, a_table_column, in_brackets, Arguments, nothing, something, Behind, end, another}
-use Rattle.mob_grammar.specs.Forms.{Form, Says, At, AName, ANumber, AString, ◌⇒◌, ◌▸◌, ◌∣◌, Listed, single, several}
-use Rattle.mob_grammar.specs.Texts.{Plain}
+use Rattle.mob_grammar.specs.Symbols.{Symbol, fixed, name, number, quoted, Tok, sign, named, numeral, string, is_sign, is_name, is_string, binding, begins, starts, goes_on, binary, unary, leaf}
+use Rattle.mob_grammar.specs.Expressions.{Rank, disjunction, conjunction, negation, nullness, comparison, other, complement, sum, product, signed, cast, primary, next, tight, chains, prefixes, word, TypeName, plain, inner, Phrase, up, chain, prefixed, is_null, is_not_null, compared, cast_to, a_number, a_string, is_true, is_false, a_null, a_literal, a_call, a_column, a_table_column, in_brackets, Arguments, nothing, something, Behind, end, another}
+use Rattle.mob_grammar.specs.Forms.{Form, Says, AName, AString, ◌⇒◌, ◌▸◌, ◌∣◌, Listed, single, several}
 use Rattle.mob_grammar.specs.Reading.{Answer, Reader, ◌>>=◌, closed, after, if_mark, name_at, number_at, string_at, inner_at, type_at, listed_from, listed, chain_from, postfix_from, null_at, cast_at, args, is_literal, literal_at, column_at, opened, named_at, mark_primary, nest, cast_rank, signed_rank, product_rank, sum_rank, complement_rank, other_rank, comparison_rank, nullness_rank, negation_rank, conjunction_rank, disjunction_rank}
 use Rattle.mob_grammar.specs.Reading as read
 use Rattle.mob_grammar.proofs.Marks.{same_mark}
 use Rattle.mob_grammar.proofs.Steps.{chosen, passed, told, token_is, name_is, string_is, chain_stops, prefix_stops, compared_stops, postfix_stops}
 use Rattle.mob_grammar.proofs.Laws.{Alike, Tells, Lawful, Ready, through, tells_both, tells_token, tells_done, tells_one, tells_wrong, tells_same, tells_at_length}
-use Rattle.mob_grammar.proofs.Lawful.{alike_begins, lawful_says, lawful_then, lawful_after, lawful_if, lawful_closed, lawful_either, lawful_name, lawful_string, lawful_listed, alike_end, alike_wrong}
+use Rattle.mob_grammar.proofs.Lawful.{alike_begins, lawful_says, lawful_then, lawful_if, lawful_closed, lawful_either, lawful_name, lawful_string, lawful_listed, alike_end, alike_wrong}
 
 -- what makes e, read before l, a longer phrase
 abbrev Extends : Rank → Tree → List Tok → Tree → List Tok → Type 0

@@ -1,15 +1,15 @@
 -- The number that bounds the brackets plays no part: what reads an expression is a fixed point.
-use Rattle.std.proofs.Common.{◌≡◌, ◌==◌, ◌<◌, ◌≤◌, ◌+◌, ◌∙◌, ℕ, zero, suc, List, [], ◌∷◌, ◌++◌, length, Bool, true, false, cond, Option, Some, None, Result, Ok, Err, refl, sym, ap, subst, arith}
+use Rattle.std.proofs.Common.{◌≡◌, ◌==◌, ◌<◌, ◌≤◌, ◌+◌, ◌∙◌, ℕ, zero, suc, List, [], ◌∷◌, ◌++◌, length, Bool, cond, None, Ok, Err, refl, sym, ap, subst, arith}
 use Rattle.std.proofs.lemmas.List.{length-append}
 use Rattle.mob_ast.specs.declared.types.Word.{Word}
 use Rattle.mob_ast.specs.declared.expression.Node.{Node}
 use Rattle.mob_ast.specs.declared.expression.Node.TheVariants as node
-use Rattle.mob_ast.specs.Trees.{Tree, tree, Trees, none, more, trees_from}
+use Rattle.mob_ast.specs.Trees.{Tree, tree, trees_from}
 use Rattle.mob_grammar.specs.declared.mark.Mark.{Mark}
 use Rattle.mob_grammar.specs.declared.mark.Mark.TheVariants.{Not, Is, Null, True, False, Tilde, Cast, Open, Close, Comma, Dot}
 use Rattle.mob_grammar.specs.Marks.{is}
-use Rattle.mob_grammar.specs.Symbols.{Symbol, fixed, name, number, quoted, Tok, sign, named, is_sign, is_string, binding, begins, starts, goes_on, first, rest, binary, unary, leaf}
-use Rattle.mob_grammar.specs.Expressions.{Rank, disjunction, conjunction, negation, nullness, comparison, other, complement, sum, product, signed, cast, primary, word, Phrase}
+use Rattle.mob_grammar.specs.Symbols.{Symbol, fixed, name, number, quoted, Tok, sign, named, is_sign, is_string, binding, starts, rest, binary, unary, leaf}
+use Rattle.mob_grammar.specs.Expressions.{disjunction, conjunction, negation, nullness, comparison, other, complement, sum, product, signed, cast, primary, word, Phrase}
 use Rattle.mob_grammar.specs.Reading.{Answer, Reader, ◌>>=◌, closed, if_mark, listed_from, listed, chain_from, postfix_from, null_at, cast_at, args, is_literal, inner_at, literal_at, column_at, opened, named_at, mark_primary, nest, expression_at, cast_rank, signed_rank, product_rank, sum_rank, complement_rank, other_rank, comparison_rank, nullness_rank, negation_rank, conjunction_rank, disjunction_rank}
 use Rattle.mob_grammar.specs.Reading as read
 use Rattle.mob_grammar.proofs.Laws.{Tells, Lawful, tells_same}

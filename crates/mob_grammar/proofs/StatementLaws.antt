@@ -1,23 +1,20 @@
 -- The readers of statements tell.
-use Rattle.std.proofs.Common.{◌≡◌, ◌==◌, ◌<◌, ◌≤◌, ◌+◌, ◌-◌, ◌∙◌, ◌⊎◌, inl, inr, ℕ, zero, suc, List, [], ◌∷◌, ◌++◌, length, Bool, true, false, cond, Option, Some, None, Result, Ok, Err, refl, sym, ap, ap₂, subst, arith}
-use Rattle.std.proofs.lemmas.Bool.{eq-eqb, eqb-true}
+use Rattle.std.proofs.Common.{◌≡◌, ◌∙◌, inl, inr, ℕ, List, [], ◌∷◌, true, false, cond, Some, None, Ok, Err, refl, sym, ap, subst}
+use Rattle.std.proofs.lemmas.Bool.{eqb-true}
 use Rattle.mob_ast.specs.declared.types.Word.{Word}
-use Rattle.mob_ast.specs.declared.types.Quoted.{Quoted}
 use Rattle.mob_ast.specs.declared.types.TypeWord.{TypeWord}
 use Rattle.mob_ast.specs.declared.expression.Node.{Node}
 use Rattle.mob_ast.specs.declared.expression.Node.TheVariants as node
-use Rattle.mob_ast.specs.declared.statement.FromTable.{FromTable}
-use Rattle.mob_ast.specs.Trees.{Tree, tree, StatementParts, empty, create_table, create_index, insert, copy, select, explain, RowParts, ItemParts, every, one, KeyParts, SelectParts}
+use Rattle.mob_ast.specs.Trees.{empty, create_table, create_index, insert, copy, select, explain, every, one}
 use Rattle.mob_grammar.specs.declared.mark.Mark.{Mark}
 use Rattle.mob_grammar.specs.declared.mark.Mark.TheVariants.{Select, Distinct, From, Where, Order, By, Asc, Desc, Limit, Create, Table, Index, On, Using, Gist, Insert, Into, Values, Copy, With, Format, Csv, Header, Delimiter, Explain, Null, True, False, As, Plus, Times, Open, Close, Comma, Semicolon}
-use Rattle.mob_grammar.specs.Symbols.{Symbol, fixed, name, number, quoted, Tok, sign, named, numeral, string, is_sign, is_name, is_string, binding, begins, starts, clause_at, first, rest, unary, leaf}
+use Rattle.mob_grammar.specs.Symbols.{Tok, sign, is_sign, is_name, is_string, begins, starts, unary, leaf}
 use Rattle.mob_grammar.specs.Expressions.{disjunction, Phrase, TypeName}
-use Rattle.mob_grammar.specs.Forms.{Form, Says, At, AName, ANumber, AString, ◌⇒◌, ◌▸◌, ◌∣◌, Listed, single, several}
-use Rattle.mob_grammar.specs.Scripts.{PlusOrMinus, Const, Row, ColumnType, CreateTable, CreateIndex, InsertRows, WithFormat, WithDelimiter, CopyFile, SecondName, FromEntry, Alias, SelectItem, Direction, OrderKey, OnlyDistinct, FromPart, WherePart, OrderPart, LimitPart, SelectBody, Statement}
-use Rattle.mob_grammar.specs.Reading.{Answer, Reader, ◌>>=◌, mark_at, closed, after, if_mark, name_at, number_at, string_at, type_at, literal_at, listed, listed_from, expression_at, is_number, is_plus_or_minus, plus_or_minus_at, signed_number_at, number_leaf_at, string_leaf_at, mark_leaf_at, typed_string_at, word_leaf_at, const_at, row_at, column_type_at, columns_at, create_table_at, index_column_at, index_table_at, create_index_at, create_at, rows_at, insert_at, header_at, format_at, delimiter_at, copy_form_at, copy_file_at, copy_at, some_name_at, name_or_none_at, second_name_at, from_entry_at, alias_at, every_at, one_at, item_at, direction_at, key_at, distinct_at, from_at, some_expression_at, where_at, order_at, some_number_at, limit_at, select_at, select_statement_at, explain_at, statement_at, script_at}
-use Rattle.mob_grammar.specs.Texts.{Plain}
+use Rattle.mob_grammar.specs.Forms.{Says, At, AName, ANumber, AString, ◌⇒◌, ◌▸◌, ◌∣◌, Listed}
+use Rattle.mob_grammar.specs.Scripts.{PlusOrMinus, Const, Row, ColumnType, InsertRows, WithFormat, WithDelimiter, CopyFile, SecondName, FromEntry, Alias, SelectItem, Direction, OrderKey, OnlyDistinct, FromPart, WherePart, OrderPart, LimitPart, SelectBody, Statement}
+use Rattle.mob_grammar.specs.Reading.{◌>>=◌, mark_at, closed, after, if_mark, name_at, number_at, string_at, type_at, literal_at, listed, expression_at, is_number, is_plus_or_minus, plus_or_minus_at, signed_number_at, number_leaf_at, string_leaf_at, mark_leaf_at, typed_string_at, word_leaf_at, const_at, row_at, column_type_at, columns_at, create_table_at, index_column_at, index_table_at, create_index_at, create_at, rows_at, insert_at, header_at, format_at, delimiter_at, copy_form_at, copy_file_at, copy_at, some_name_at, name_or_none_at, second_name_at, from_entry_at, alias_at, every_at, one_at, item_at, direction_at, key_at, distinct_at, from_at, some_expression_at, where_at, order_at, some_number_at, limit_at, select_at, select_statement_at, explain_at, statement_at, script_at}
 use Rattle.mob_grammar.proofs.Steps.{chosen, passed, told, token_is}
-use Rattle.mob_grammar.proofs.Laws.{Alike, Tells, Lawful, Ready, tells_one, tells_wrong}
+use Rattle.mob_grammar.proofs.Laws.{Tells, Lawful, Ready, tells_one, tells_wrong}
 use Rattle.mob_grammar.proofs.Lawful.{alike_begins, lawful_says, lawful_then, lawful_after, lawful_if, lawful_closed, lawful_either, lawful_name, lawful_number, lawful_string, lawful_listed}
 use Rattle.mob_grammar.proofs.Ranks.{lawful_type}
 use Rattle.mob_grammar.proofs.Same.{lawful_expression}

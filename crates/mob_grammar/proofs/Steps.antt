@@ -1,13 +1,11 @@
 -- One step of each reading.
-use Rattle.std.proofs.Common.{◌≡◌, ◌==◌, ◌<◌, ◌≤◌, ◌+◌, ◌-◌, ◌∙◌, ◌⊎◌, inl, inr, ℕ, zero, suc, List, [], ◌∷◌, ◌++◌, length, Bool, true, false, cond, Result, Ok, Err, refl, sym, ap, arith}
-use Rattle.std.proofs.lemmas.Bool.{eq-eqb, eqb-true}
-use Rattle.mob_ast.specs.declared.types.Word.{Word}
-use Rattle.mob_ast.specs.declared.types.Quoted.{Quoted}
+use Rattle.std.proofs.Common.{◌≡◌, ◌≤◌, ◌-◌, ◌∙◌, ◌⊎◌, inl, inr, ℕ, zero, suc, List, [], ◌∷◌, ◌++◌, length, Bool, true, false, cond, Ok, Err, refl, ap, arith}
+use Rattle.std.proofs.lemmas.Bool.{eq-eqb}
 use Rattle.mob_ast.specs.declared.expression.Node.{Node}
 use Rattle.mob_ast.specs.Trees.{Tree, tree, none, more}
 use Rattle.mob_grammar.specs.declared.mark.Mark.{Mark}
-use Rattle.mob_grammar.specs.Symbols.{Symbol, fixed, name, number, quoted, Tok, sign, named, numeral, string, is_mark, is_sign, is_name, is_string, is_name_symbol, is_string_symbol, binding, begins, starts, goes_on, first, rest, binary, unary}
-use Rattle.mob_grammar.specs.Reading.{Answer, Reader, ◌>>=◌, closed, after, if_mark, name_at, number_at, string_at, listed_from, listed, chain_from, chain, prefix, compared, comparison, postfix_from, postfix}
+use Rattle.mob_grammar.specs.Symbols.{Symbol, fixed, name, number, quoted, Tok, sign, named, string, is_mark, is_sign, is_name, is_string, is_name_symbol, is_string_symbol, binding, begins, starts, goes_on, binary, unary}
+use Rattle.mob_grammar.specs.Reading.{Reader, ◌>>=◌, closed, after, if_mark, listed_from, chain_from, prefix, compared, postfix_from}
 use Rattle.mob_grammar.proofs.Marks.{same_mark}
 
 pub chosen : {A : Type 0} (b : Bool) (x y : A) → b ≡ true → cond b x y ≡ x

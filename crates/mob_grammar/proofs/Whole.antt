@@ -1,8 +1,7 @@
 -- What is read as a whole text is one, and the only one; where nothing is read, the first token that is wrong is found.
-use Rattle.std.proofs.Common.{◌≡◌, ◌<◌, ◌≤◌, ◌+◌, ◌∙◌, ℕ, suc, List, [], ◌∷◌, ◌++◌, length, Result, Ok, Err, refl, sym, ap, subst, arith, append_assoc}
-use Rattle.std.proofs.lemmas.List.{append_cancel_right}
+use Rattle.std.proofs.Common.{◌≡◌, ◌∙◌, ℕ, suc, List, [], ◌∷◌, ◌++◌, length, Ok, Err, refl, sym, ap, subst, arith, append_assoc}
 use Rattle.mob_grammar.specs.Symbols.{Tok}
-use Rattle.mob_grammar.specs.Texts.{Plain, BeginsText, GoesOn, IsFirstWrong}
+use Rattle.mob_grammar.specs.Texts.{BeginsText, IsFirstWrong}
 use Rattle.mob_grammar.specs.Reading.{Answer, Reader}
 use Rattle.mob_grammar.proofs.Laws.{Tells, Lawful}
 

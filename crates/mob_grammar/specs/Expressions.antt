@@ -1,6 +1,6 @@
 -- The grammar of expressions, by ranks and productions. `Phrase k l e r` says that a phrase of rank k with the tree e
 -- stands at the front of the tokens l, and that r is what stands behind it.
-use Rattle.std.specs.Prelude.{◌≡◌, ◌==◌, ℕ, List, [], ◌∷◌, Bool, true, false, Option, Some, None}
+use Rattle.std.specs.Prelude.{◌≡◌, ◌==◌, ℕ, List, ◌∷◌, Bool, true, false, Some, None}
 use Rattle.mob_ast.specs.declared.types.Word.{Word}
 use Rattle.mob_ast.specs.declared.types.TypeWord.{TypeWord}
 use Rattle.mob_ast.specs.declared.expression.Node.TheVariants as node

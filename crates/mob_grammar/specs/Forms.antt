@@ -1,6 +1,6 @@
 -- Forms of text. A form says which tokens say a value: `F l x r` is that the front of l says x, and that r stands behind
 -- it. Longer forms are made of shorter ones by a few words, each named by what it says.
-use Rattle.std.specs.Prelude.{◌≡◌, ◌⊎◌, ℕ, List, [], ◌∷◌, Option, Some, None}
+use Rattle.std.specs.Prelude.{◌≡◌, ◌⊎◌, ℕ, List, [], ◌∷◌}
 use Rattle.mob_ast.specs.declared.types.Word.{Word}
 use Rattle.mob_ast.specs.declared.types.Quoted.{Quoted}
 use Rattle.mob_grammar.specs.declared.mark.Mark.{Mark}

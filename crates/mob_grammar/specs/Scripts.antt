@@ -1,5 +1,5 @@
 -- The grammar of scripts, production by production.
-use Rattle.std.specs.Prelude.{◌≡◌, ◌==◌, ℕ, List, [], ◌∷◌, Bool, true, false, Option, Some, None}
+use Rattle.std.specs.Prelude.{◌≡◌, List, [], ◌∷◌, Bool, true, false, Option, Some, None}
 use Rattle.mob_ast.specs.declared.types.Word.{Word}
 use Rattle.mob_ast.specs.declared.types.Quoted.{Quoted}
 use Rattle.mob_ast.specs.declared.types.TypeWord.{TypeWord}

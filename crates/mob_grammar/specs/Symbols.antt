@@ -1,12 +1,10 @@
 -- The tokens as the grammar sees them.
-use Rattle.std.specs.Prelude.{◌==◌, ℕ, List, [], ◌∷◌, Bool, true, false, cond, Option, Some, None}
-use Rattle.mob_ast.specs.declared.types.Word.{Word}
-use Rattle.mob_ast.specs.declared.types.Quoted.{Quoted}
+use Rattle.std.specs.Prelude.{◌==◌, ℕ, List, [], ◌∷◌, Bool, true, false}
 use Rattle.mob_ast.specs.declared.expression.Node.{Node}
 use Rattle.mob_ast.specs.declared.expression.Node.TheVariants as node
-use Rattle.mob_ast.specs.Trees.{Tree, tree, Trees, none, more}
+use Rattle.mob_ast.specs.Trees.{Tree, tree, none, more}
 use Rattle.mob_grammar.specs.declared.mark.Mark.{Mark}
-use Rattle.mob_grammar.specs.declared.mark.Mark.TheVariants.{And, Or, Not, Semicolon, Open, Close}
+use Rattle.mob_grammar.specs.declared.mark.Mark.TheVariants.{And, Or, Not, Semicolon}
 use Rattle.mob_grammar.specs.Marks.{is, text_of, strength, clause}
 
 -- what stands at a place: a reserved word or a sign, a name in lower case, a number as written, or a string without its quotes

@@ -1,10 +1,10 @@
 -- How many counted tokens an expression has. The counted tokens are its signs other than `,` `.` `)`, the words OR, AND,
 -- NOT and IS, and the names of functions; an opening bracket counts beside the name before it. The `;` that ends an
 -- expression is no sign of it.
-use Rattle.std.specs.Prelude.{◌==◌, ◌+◌, ◌-◌, ℕ, List, [], ◌∷◌, Bool, true, false, cond, Option, Some, None}
+use Rattle.std.specs.Prelude.{ℕ, List, Bool, true, false, cond}
 use Rattle.mob_grammar.specs.declared.mark.Mark.{Mark}
-use Rattle.mob_grammar.specs.declared.mark.Mark.TheVariants.{Select, Or, And, Not, Is, Null, True, False, Cast, Open, Close, Comma, Semicolon, Dot}
-use Rattle.mob_grammar.specs.Marks.{is, is_word}
+use Rattle.mob_grammar.specs.declared.mark.Mark.TheVariants.{Or, And, Not, Is, Null, True, False, Open, Close, Comma, Semicolon, Dot}
+use Rattle.mob_grammar.specs.Marks.{is_word}
 use Rattle.mob_grammar.specs.Symbols.{Symbol, fixed, name, number, quoted, Tok, starts, rest}
 use Rattle.mob_grammar.specs.Reading.{is_literal}
 

@@ -9,7 +9,7 @@ use Rattle.mob_ast.specs.declared.refusal.Kind.TheVariants.{NotUtf8, Lexical, Sy
 use Rattle.mob_grammar.specs.Symbols.{Tok}
 use Rattle.mob_grammar.specs.Scripts.{IsScript}
 use Rattle.mob_parse.specs.Tokens.{lexed}
-use Rattle.mob_parse.specs.Refusals.{HasTokens, IsTreeOf, IsLight, IsLightText, Cause, IsRefused}
+use Rattle.mob_parse.specs.Refusals.{HasTokens, IsTreeOf, IsLightText, Cause, IsRefused}
 use Rattle.mob_parse.proofs.Scripts.{no_script}
 
 -- a text has its tokens once
@@ -23,10 +23,6 @@ no_tree Syntax bytes e h x d light = absurd (no_script h.1.0 h.1.2.0 h.1.2.1 x (
 no_tree TooComplex bytes e h x d light = let some = h.1.2.1 in let none = light h.1.0 h.1.1 in cc
 no_tree NoMemory bytes e h x d light = refl
 no_tree _ bytes e h x d light = absurd h
-
--- a text is light where its tokens are
-pub light_text : (bytes : List ℕ) (l : List Tok) → HasTokens bytes l → IsLight l → IsLightText bytes
-light_text bytes l has light m other = subst IsLight (same_tokens bytes l m has other) light
 
 -- what a text that is those bytes says of them
 pub light_along : (r : Result Script Refusal) (a b : List ℕ) → a ≡ b → IfOk r (λ _. IsLightText a) → IfOk r (λ _. IsLightText b)
