@@ -1,6 +1,6 @@
 -- From what lifting ensures to what an operator answers.
-use Rattle.std.specs.Prelude.{◌≡◌, Bool, List, [], ◌∷◌, Option, Some, None, Result, Ok, Err, IfOk, IfErr}
-use Rattle.std.proofs.Common.{refl, sym, ap, ◌∙◌, inl, inr}
+use Rattle.std.specs.Prelude.{◌≡◌, Bool, List, [], ◌∷◌, Option, Some, None, Result, Ok, Err, IfErr}
+use Rattle.std.proofs.Common.{refl, sym, ap, ◌∙◌}
 use Rattle.mob_ratio.specs.Ratio.{Ratio}
 use Rattle.mob_span.proofs.SpanLemmas.{some_instant}
 use Rattle.mob_slice.specs.Slices.{value_at, IsNormal}
@@ -12,19 +12,13 @@ use Rattle.mob_slice.specs.declared.formula.Formula.TheVariants.{F2}
 use Rattle.mob_slice.specs.declared.formula.OpFault.{OpFault}
 use Rattle.mob_slice.specs.declared.formula.OpFault.TheVariants.{Passed, NoMemory}
 use Rattle.mob_slice.specs.Operands.{steady_value}
-use Rattle.mob_arith.specs.Steps.{AreSteps, IsStepsFault, Refuses}
+use Rattle.mob_arith.specs.Steps.{AreSteps, IsStepsFault}
 
 -- a refusal with its cause
 pub refused : {V X Y : Type 0} (parts : X → Y → List Ratio) (left : Ratio → Option X) (right : Ratio → Option Y) (r : Result V OpFault) → ((formula : Formula) → r ≡ Err (Passed formula) → (formula ≡ F2) × ((t : Ratio) × (¬ FitBoth parts (left t) (right t)))) → IfErr r (IsStepsFault parts left right)
 refused parts left right (Ok v) k = tt
 refused parts left right (Err (Passed formula)) k = k formula refl
 refused parts left right (Err NoMemory) k = tt
-
--- and what does not fit is refused
-pub refuses : {V X Y : Type 0} (parts : X → Y → List Ratio) (left : Ratio → Option X) (right : Ratio → Option Y) (r : Result V OpFault) → IfOk r (λ _. (t : Ratio) → FitBoth parts (left t) (right t)) → IfErr r (IsStepsFault parts left right) → Refuses parts left right r
-refuses parts left right (Ok v) f h t k = absurd (k (f t))
-refuses parts left right (Err (Passed formula)) f h t k = inl (ap (λ x. Err (Passed x)) h.0)
-refuses parts left right (Err NoMemory) f h t k = inr refl
 
 -- a normal list has a value at some instant
 some_value : {C B : Type 0} (value : C → Ratio → Ratio → Ratio → B) (start end : C → B) (continues : C → C → Ratio → Ratio → Ratio → Bool) (v : List (Slice C)) → IsNormal start end continues v → (u : Ratio) × (x : B) × (value_at value v u ≡ Some x)
