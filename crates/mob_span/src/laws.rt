@@ -1,6 +1,7 @@
 //! What holds of every span, for proofs that stand on spans. No code runs here.
 
 ghost use Rattle.std.specs.Prelude.{◌≡◌, ◌↔◌, IsTrue, true, false, ◌||◌, List};
+ghost use Rattle.std.specs.List.{AllPairs};
 ghost use Rattle.mob_ratio.specs.Ratio.{Ratio, ◌<ℚ◌};
 ghost use Rattle.mob_span.specs.Neighbours.{is_clear};
 ghost use Rattle.mob_span.specs.Sets.{in_some, Touch, is_apart, IsSpanSet};
@@ -28,6 +29,7 @@ pub fn clearness()
 /// instant, or their instants together are those of one span. So no two spans of a span set touch.
 pub fn touching()
     ensures exact { (s r : SpanOf) → has_instant s ≡ true → has_instant r ≡ true → ((is_apart s r || is_apart r s) ≡ false) ↔ Touch s r }
+    ensures none { (v : List SpanOf) → IsSpanSet v → AllPairs (λ s r. ¬ Touch s r) v }
 {}
 
 /// One set of instants has one list of spans: two span sets that have the same rational instants are the same list.

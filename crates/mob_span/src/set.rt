@@ -104,8 +104,6 @@ fn merged(alloc: Global, spans: Vec<Span>) -> Result<SpanSet, AllocError>
             spans: Items::new(alloc),
         });
     };
-    // A span has an instant, as its ends say.
-    let _ = last.lower();
     let mut done = Vec::new(alloc);
     for next in rest {
         if last.is_apart(&next) {

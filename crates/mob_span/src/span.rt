@@ -181,7 +181,6 @@ impl Span {
     /// starts the others touch: they share an instant, or their instants together are those of one span.
     pub fn is_apart(&self, next: &Span) -> bool
         ensures value { result ≡ is_apart self.now next.now }
-        ensures some { has_instant next.now ≡ true }
     {
         self.upper.is_before(&next.lower)
             || (!next.lower.is_before(&self.upper) && !(self.upper_inc || next.lower_inc))
@@ -192,7 +191,6 @@ impl Span {
         requires order { starts_before other.now self.now ≡ false }
         requires touch { is_apart self.now other.now ≡ false }
         ensures ends { result ≡ united self.now other.now }
-        ensures some { has_instant result ≡ true }
         ensures both { (t : Ratio) → has result t ≡ (has self.now t || has other.now t) }
     {
         if self.ends_before(other) {
