@@ -36,18 +36,13 @@ mod tests {
     use mob_normal::normal;
     use mob_slice::{Operand, Rel, Slice};
     use mob_span::Span;
-    use std::process::Abort;
     use std::test::Fail;
 
-    // The span between two whole numbers.
-    fn span(lower: i64, upper: i64, lower_inc: bool, upper_inc: bool) -> Option<Span> {
+    // The slice of a whole number, from one whole number on up to another.
+    fn slice(lower: i64, upper: i64, upper_inc: bool, value: i64) -> Option<Slice<Steady<Frac>>> {
         let from = Frac::new(lower, 1).ok()?;
         let to = Frac::new(upper, 1).ok()?;
-        Span::new(from, to, lower_inc, upper_inc)
-    }
-
-    // The slice of a whole number.
-    fn slice(span: Span, value: i64) -> Option<Slice<Steady<Frac>>> {
+        let span = Span::new(from, to, true, upper_inc)?;
         let value = Frac::new(value, 1).ok()?;
         Some(Slice {
             span,
@@ -55,43 +50,52 @@ mod tests {
         })
     }
 
-    // The number that is 1 from the instant 1 on, 3 from 2 on and 1 at 3.
-    fn peak(rt: &impl Abort, alloc: Global) -> Result<Moving<Steady<Frac>>, Fail> {
-        let low = slice(span(1, 2, true, false).ok_or("low")?, 1).ok_or("1")?;
-        let high = slice(span(2, 3, true, false).ok_or("high")?, 3).ok_or("3")?;
-        let last = slice(span(3, 3, true, true).ok_or("last")?, 1).ok_or("1")?;
-        assert!(rt; low.span.is_clear(&high.span));
-        assert!(rt; high.span.is_clear(&last.span));
+    // The value of two slices in order.
+    fn value(
+        alloc: Global,
+        first: Slice<Steady<Frac>>,
+        next: Slice<Steady<Frac>>,
+    ) -> Option<Moving<Steady<Frac>>> {
+        if !first.span.is_clear(&next.span) {
+            return None;
+        }
         let mut slices = Vec::new(alloc);
-        slices.push(low)?;
-        slices.push(high)?;
-        slices.push(last)?;
-        Ok(normal(alloc, slices)?.ok_or("has a slice")?)
+        if slices.push(first).is_err() {
+            return None;
+        }
+        if slices.push(next).is_err() {
+            return None;
+        }
+        normal(alloc, slices).ok()?
+    }
+
+    // When the number that is 3 from the instant 2 on, and 1 at 3, is above a bound. None within where it never is.
+    fn above(alloc: Global, bound: i64) -> Option<Option<SpanSet>> {
+        let value = value(alloc, slice(2, 3, false, 3)?, slice(3, 3, true, 1)?)?;
+        let bound = Frac::new(bound, 1).ok()?;
+        let truths = compare(
+            alloc,
+            Operand::Moving(&value),
+            Operand::Fixed(&bound),
+            Rel::Gt,
+        );
+        when_true(alloc, &truths.ok()??).ok()
+    }
+
+    // Whether a set of one span has the first instant and not the second.
+    fn is_between(set: &SpanSet, has: i64, has_not: i64) -> Option<bool> {
+        let inner = Frac::new(has, 1).ok()?;
+        let outer = Frac::new(has_not, 1).ok()?;
+        Some(set.has(&inner) && !set.has(&outer) && set.spans().len() == 1)
     }
 
     #[test]
-    fn a_number_is_above_two_from_two_to_three(rt: HostRuntime) -> Result<(), Fail> {
-        let two = Frac::new(2, 1).ok().ok_or("fits")?;
-        let three = Frac::new(3, 1).ok().ok_or("fits")?;
-        let value = peak(&rt, rt.alloc())?;
-        let above = compare(
-            rt.alloc(),
-            Operand::Moving(&value),
-            Operand::Fixed(&two),
-            Rel::Gt,
-        );
-        let above = above.ok().ok_or("ample memory")?.ok_or("an instant")?;
-        let times = when_true(rt.alloc(), &above)?.ok_or("true at some instant")?;
-        assert!(rt; times.has(&two) && !times.has(&three));
-        assert_eq!(rt; times.spans().len(), 1);
-        let more = compare(
-            rt.alloc(),
-            Operand::Moving(&value),
-            Operand::Fixed(&three),
-            Rel::Gt,
-        );
-        let more = more.ok().ok_or("ample memory")?.ok_or("an instant")?;
-        assert!(rt; when_true(rt.alloc(), &more)?.is_none());
+    fn a_number_is_above_two_until_three(rt: HostRuntime) -> Result<(), Fail> {
+        let times = above(rt.alloc(), 2).ok_or("ample memory")?;
+        let times = times.ok_or("true at some instant")?;
+        assert_eq!(rt; is_between(&times, 2, 3), Some(true));
+        let never = above(rt.alloc(), 3).ok_or("ample memory")?;
+        assert!(rt; never.is_none());
         Ok(())
     }
 }
