@@ -1,5 +1,5 @@
 -- Operations lifted over two operands, instant by instant.
-use Rattle.std.specs.Prelude.{◌≡◌, List, [], ◌∷◌, Option, Result, MatchResult}
+use Rattle.std.specs.Prelude.{◌≡◌, ◌⊎◌, List, [], ◌∷◌, Option, Result, Err, MatchResult}
 use Rattle.mob_ratio.specs.Ratio.{Ratio}
 use Rattle.mob_frac.specs.Formula.{AllFit}
 use Rattle.mob_span.specs.Span.{SpanOf}
@@ -28,3 +28,8 @@ pub record AreSteps {X Y Z : Type 0} (op : X → Y → Z) (parts : X → Y → L
 abbrev pub IsStepsFault : {X Y : Type 0} → (X → Y → List Ratio) → (Ratio → Option X) → (Ratio → Option Y) → OpFault → Type 0
 IsStepsFault parts left right (Passed formula) = (formula ≡ F2) × ((t : Ratio) × (¬ FitBoth parts (left t) (right t)))
 IsStepsFault parts left right NoMemory = Unit {0}
+
+-- Where at some instant both operands have a value and a part of the operation on the two does not fit, the operator names
+-- F2, or memory was refused.
+abbrev pub Refuses : {X Y V : Type 0} → (X → Y → List Ratio) → (Ratio → Option X) → (Ratio → Option Y) → Result V OpFault → Type 0
+Refuses parts left right r = (t : Ratio) → (¬ FitBoth parts (left t) (right t)) → (r ≡ Err (Passed F2)) ⊎ (r ≡ Err NoMemory)

@@ -4,10 +4,12 @@
 pub mod logic;
 mod operate;
 pub mod operation;
+pub mod summed;
 pub mod sums;
 pub mod texts;
 
 pub use logic::{and, not, or};
+pub use summed::Summed;
 pub use sums::{minus, plus, times_const, times_step};
 pub use texts::join_text;
 

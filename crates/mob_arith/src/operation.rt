@@ -4,9 +4,10 @@ ghost use Rattle.std.specs.Prelude.{◌≡◌, List, [], ◌++◌, IfOk, string_
 ghost use Rattle.mob_ratio.specs.Ratio.{Ratio};
 ghost use Rattle.mob_arith.specs.Operations.{IsAnswer, sum_of, sum_parts, difference_of, difference_parts, product_of, product_parts, both_hold, one_holds, differ, text_of};
 
+use crate::summed::Summed;
 use mob_frac::Frac;
 use mob_list::text::Text;
-use mob_slice::{BaseValue, Formula, OpFault};
+use mob_slice::{BaseValue, OpFault, Passed, Steady};
 use std::alloc::{AllocError, Global};
 
 /// An ordinary operation on two base values.
@@ -25,13 +26,13 @@ pub trait Operation<A, B> {
 }
 
 // The answer of an operation on numbers.
-fn answer(number: Result<Frac, mob_frac::Overflow>) -> Result<Frac, OpFault>
-    ensures answer { MatchResult number (λ x. result ≡ Ok x) (λ _. result ≡ Err (OpFault.Passed Formula.F2)) }
+fn answer(number: Result<Frac, Passed>) -> Result<Frac, OpFault>
+    ensures answer { MatchResult number (λ x. result ≡ Ok x) (λ p. result ≡ Err (OpFault.Passed p.formula)) }
 {
     match number {
         Ok(value) => Ok(value),
-        Err(_) => Err(OpFault::Passed {
-            formula: Formula::F2,
+        Err(passed) => Err(OpFault::Passed {
+            formula: passed.formula,
         }),
     }
 }
@@ -47,7 +48,7 @@ impl Operation<Frac, Frac> for Sum {
     ghost parts_of = { sum_parts };
 
     fn apply(alloc: Global, a: &Frac, b: &Frac) -> Result<Frac, OpFault> {
-        answer(a.add(b))
+        answer(Steady::sum(a, b))
     }
 }
 
@@ -62,7 +63,7 @@ impl Operation<Frac, Frac> for Difference {
     ghost parts_of = { difference_parts };
 
     fn apply(alloc: Global, a: &Frac, b: &Frac) -> Result<Frac, OpFault> {
-        answer(a.sub(b))
+        answer(Steady::difference(a, b))
     }
 }
 
@@ -77,7 +78,7 @@ impl Operation<Frac, Frac> for Product {
     ghost parts_of = { product_parts };
 
     fn apply(alloc: Global, a: &Frac, b: &Frac) -> Result<Frac, OpFault> {
-        answer(a.mul(b))
+        answer(Steady::scaled(a, b))
     }
 }
 

@@ -7,16 +7,16 @@ use mob_span::Span;
 use std::alloc::Global;
 use std::test::Fail;
 
-// The value of one slice, on the span between two whole numbers.
-fn one<V: BaseValue + Drop>(
+// The value of one slice, from a whole number on up to another.
+fn until<V: BaseValue + Drop>(
     alloc: Global,
-    lower: i64,
-    upper: i64,
+    ends: (i64, i64),
+    upper_inc: bool,
     value: V,
 ) -> Option<Moving<Steady<V>>> {
-    let from = Frac::new(lower, 1).ok()?;
-    let to = Frac::new(upper, 1).ok()?;
-    let span = Span::new(from, to, true, true)?;
+    let from = Frac::new(ends.0, 1).ok()?;
+    let to = Frac::new(ends.1, 1).ok()?;
+    let span = Span::new(from, to, true, upper_inc)?;
     let mut slices = Vec::new(alloc);
     let slice = Slice {
         span,
@@ -26,6 +26,16 @@ fn one<V: BaseValue + Drop>(
         return None;
     }
     normal(alloc, slices).ok()?
+}
+
+// The value of one slice, between two whole numbers.
+fn one<V: BaseValue + Drop>(
+    alloc: Global,
+    lower: i64,
+    upper: i64,
+    value: V,
+) -> Option<Moving<Steady<V>>> {
+    until(alloc, (lower, upper), true, value)
 }
 
 // The number from instant 1 to instant 2.
@@ -78,6 +88,15 @@ fn is_passed(alloc: Global, x: i64, y: i64) -> Option<bool> {
     }
 }
 
+// Whether the sum of a number before instant 2 and one from 2 on is nowhere.
+fn is_nowhere(alloc: Global) -> Option<bool> {
+    let value = Frac::new(1, 1).ok()?;
+    let a = until(alloc, (1, 2), false, value)?;
+    let b = until(alloc, (2, 3), true, value)?;
+    let sum = plus(alloc, Operand::Moving(&a), Operand::Moving(&b)).ok()?;
+    Some(sum.is_none())
+}
+
 #[test]
 fn sums_of_numbers(rt: HostRuntime) -> Result<(), Fail> {
     let largest = 4611686018427387903;
@@ -90,37 +109,39 @@ fn sums_of_numbers(rt: HostRuntime) -> Result<(), Fail> {
     assert_eq!(rt; multiple(rt.alloc(), 3, -2), Some(-6));
     assert_eq!(rt; product(rt.alloc(), 3, 4), Some(12));
     assert_eq!(rt; is_passed(rt.alloc(), largest, 1), Some(true));
+    assert_eq!(rt; is_nowhere(rt.alloc()), Some(true));
     Ok(())
 }
 
-// The truth value of the first slice, and where that slice ends.
-fn truth(value: &Moving<Steady<bool>>) -> Option<(bool, i64)> {
+// The truth value of the first slice, and where that slice begins and ends.
+fn truth(value: &Moving<Steady<bool>>) -> Option<(bool, i64, i64)> {
     let slice = value.slices().first()?;
-    Some((slice.course.value, slice.span.upper().num()))
+    let ends = (slice.span.lower().num(), slice.span.upper().num());
+    Some((slice.course.value, ends.0, ends.1))
 }
 
-fn conjunction(alloc: Global, x: bool, y: bool) -> Option<(bool, i64)> {
+fn conjunction(alloc: Global, x: bool, y: bool) -> Option<(bool, i64, i64)> {
     let a = one(alloc, 1, 3, x)?;
     let b = one(alloc, 2, 4, y)?;
     truth(&and(alloc, Operand::Moving(&a), Operand::Moving(&b)).ok()??)
 }
 
-fn disjunction(alloc: Global, x: bool, y: bool) -> Option<(bool, i64)> {
+fn disjunction(alloc: Global, x: bool, y: bool) -> Option<(bool, i64, i64)> {
     let a = one(alloc, 1, 3, x)?;
     let b = one(alloc, 2, 4, y)?;
     truth(&or(alloc, Operand::Moving(&a), Operand::Moving(&b)).ok()??)
 }
 
-fn negation(alloc: Global, x: bool) -> Option<(bool, i64)> {
+fn negation(alloc: Global, x: bool) -> Option<(bool, i64, i64)> {
     let a = one(alloc, 1, 3, x)?;
     truth(&not(alloc, &a).ok()?)
 }
 
 #[test]
 fn logic_of_truth_values(rt: HostRuntime) -> Result<(), Fail> {
-    assert_eq!(rt; conjunction(rt.alloc(), true, false), Some((false, 3)));
-    assert_eq!(rt; disjunction(rt.alloc(), true, false), Some((true, 3)));
-    assert_eq!(rt; negation(rt.alloc(), true), Some((false, 3)));
+    assert_eq!(rt; conjunction(rt.alloc(), true, false), Some((false, 2, 3)));
+    assert_eq!(rt; disjunction(rt.alloc(), true, false), Some((true, 2, 3)));
+    assert_eq!(rt; negation(rt.alloc(), true), Some((false, 1, 3)));
     Ok(())
 }
 
@@ -136,6 +157,7 @@ fn is_joined(alloc: Global, text: &str, mark: &str, wanted: &str) -> Option<bool
 
 #[test]
 fn joined_texts(rt: HostRuntime) -> Result<(), Fail> {
+    assert_eq!(rt; is_joined(rt.alloc(), "a", "!", "a!"), Some(true));
     assert_eq!(rt; is_joined(rt.alloc(), "b\"", "!", "b\"!"), Some(true));
     Ok(())
 }

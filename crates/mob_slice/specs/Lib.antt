@@ -7,3 +7,5 @@ pub mod Parts
 pub mod Pieces
 pub mod Ranks
 pub mod Operands
+pub mod Computed
+pub mod Comparison

@@ -1,10 +1,16 @@
 ghost use Rattle.std.specs.Prelude.{◌≡◌, Bool};
 ghost use Rattle.std.specs.declared.cmp.Ordering.{Ordering as Order};
 ghost use Rattle.mob_slice.specs.declared.comparison.Rel.{Rel as Relation};
+ghost use Rattle.mob_slice.specs.Comparison.{IsComparison, gap_parts, steady_comparison};
+ghost use Rattle.mob_slice.specs.Computed.{IsComputed};
 ghost use Rattle.mob_slice.specs.Ranks.{holds, compare_ratio, compare_bool, compare_bytes};
+ghost use Rattle.mob_slice.specs.declared.comparison.Gaps.{Gaps as Differences};
+ghost use Rattle.mob_slice.specs.declared.comparison.Gaps.TheVariants.{Constant};
+ghost use Rattle.mob_slice.specs.declared.formula.Formula.TheVariants.{F2};
 
 use crate::base_value::BaseValue;
 use crate::course::Course;
+use crate::formula::Passed;
 use crate::steady::Steady;
 use mob_frac::Frac;
 use mob_list::text::Text;
@@ -82,19 +88,48 @@ impl Ranked for Text {
     }
 }
 
+/// The differences of two values by which two courses on one span are compared: their signs decide each comparison.
+#[derive(Clone, Copy)]
+pub enum Gaps {
+    /// The courses are steady, and the two values are compared themselves.
+    Constant,
+    /// The difference of two numbers.
+    One(Frac),
+    /// The differences of two points, by coordinate.
+    Two(Frac, Frac),
+}
+
 /// A course whose values can be compared.
 pub trait Compared: Course {
     ghost relation: { Relation → Self.Base → Self.Base → Bool };
 
+    /// The gaps of two values, of any size.
+    ghost gaps_of: { Self.Base → Self.Base → Differences };
+
     /// The ordinary comparison of two values.
     fn relates(rel: Rel, a: &Self::Base, b: &Self::Base) -> bool
         ensures value { result ≡ relation rel a.now b.now };
+
+    /// The gaps of two values: `Constant` exactly where the courses are steady. The fault names F2, exactly where a
+    /// difference does not fit.
+    fn gaps(a: &Self::Base, b: &Self::Base) -> Result<Gaps, Passed>
+        ensures gaps { IsComputed F2 (gap_parts (gaps_of a.now b.now)) (gaps_of a.now b.now) result };
+
+    ghost laws: { IsComparison Self.STEADY Self.value_of Self.start_of Self.end_of relation gaps_of };
 }
 
 impl<B: Ranked + Drop> Compared for Steady<B> {
     ghost relation = { λ rel a b. holds rel (B.compare_of a b) };
 
+    ghost gaps_of = { λ a b. Constant };
+
     fn relates(rel: Rel, a: &B, b: &B) -> bool {
         rel.holds(a.compare(b))
     }
+
+    fn gaps(a: &B, b: &B) -> Result<Gaps, Passed> {
+        Ok(Gaps::Constant)
+    }
+
+    ghost laws = { steady_comparison (λ rel a b. holds rel (B.compare_of a b)) };
 }

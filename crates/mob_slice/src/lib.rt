@@ -16,9 +16,9 @@ pub mod slice;
 pub mod steady;
 
 pub use base_value::BaseValue;
-pub use comparison::{Compared, Ranked, Rel};
+pub use comparison::{Compared, Gaps, Ranked, Rel};
 pub use course::Course;
-pub use formula::{Formula, LookFault, OpFault};
+pub use formula::{Formula, LookFault, OpFault, Passed};
 pub use moving::Moving;
 pub use operand::Operand;
 pub use part::{One, Pair, Part};

@@ -1,8 +1,10 @@
 //! What holds of every span, for proofs that stand on spans. No code runs here.
 
-ghost use Rattle.std.specs.Prelude.{◌≡◌, ◌↔◌, IsTrue, true};
+ghost use Rattle.std.specs.Prelude.{◌≡◌, ◌↔◌, IsTrue, true, false, ◌||◌, List};
+ghost use Rattle.std.specs.List.{AllPairs};
 ghost use Rattle.mob_ratio.specs.Ratio.{Ratio, ◌<ℚ◌};
 ghost use Rattle.mob_span.specs.Neighbours.{is_clear};
+ghost use Rattle.mob_span.specs.Sets.{in_some, Touch, is_apart, IsSpanSet};
 ghost use Rattle.mob_span.specs.Span.{SpanOf, InSpan, has, has_instant};
 
 /// The test of membership says what it means.
@@ -21,4 +23,16 @@ pub fn existence()
 pub fn clearness()
     ensures exact { (s r : SpanOf) → has_instant s ≡ true → has_instant r ≡ true
         → (is_clear s r ≡ true) ↔ ((t u : Ratio) → InSpan s t → InSpan r u → t <ℚ u) }
+{}
+
+/// Of two spans that have an instant, neither is apart from the other exactly where they touch: where they share an
+/// instant, or their instants together are those of one span. So no two spans of a span set touch.
+pub fn touching()
+    ensures exact { (s r : SpanOf) → has_instant s ≡ true → has_instant r ≡ true → ((is_apart s r || is_apart r s) ≡ false) ↔ Touch s r }
+    ensures none { (v : List SpanOf) → IsSpanSet v → AllPairs (λ s r. ¬ Touch s r) v }
+{}
+
+/// One set of instants has one list of spans: two span sets that have the same rational instants are the same list.
+pub fn one_span_set()
+    ensures unique { (v w : List SpanOf) → IsSpanSet v → IsSpanSet w → ((t : Ratio) → in_some v t ≡ in_some w t) → v ≡ w }
 {}

@@ -1,9 +1,12 @@
 //! Spans of time: the instants between two ends, each of which is included or not.
 //!
-//! An instant is a rational number of any size. Two ends of a span are fractions that fit.
+//! An instant is a rational number of any size. Two ends of a span are fractions that fit. A set of instants is a list of
+//! spans that do not touch.
 #![tactic(auto)]
 
 pub mod laws;
+pub mod set;
 pub mod span;
 
+pub use set::SpanSet;
 pub use span::Span;

@@ -4,6 +4,7 @@ ghost use Rattle.mob_ratio.specs.Order.{before};
 ghost use Rattle.mob_span.specs.Span.{SpanOf, InSpan, has, has_instant};
 ghost use Rattle.mob_span.specs.Meet.{ends_before, starts_before, meet_of};
 ghost use Rattle.mob_span.specs.Neighbours.{is_clear, Meets, joined, without_upper, with_lower};
+ghost use Rattle.mob_span.specs.Sets.{is_apart, united};
 
 use mob_frac::Frac;
 use std::marker::Model;
@@ -173,6 +174,34 @@ impl Span {
             upper: next.upper,
             lower_inc: self.lower_inc,
             upper_inc: next.upper_inc,
+        }
+    }
+
+    /// Whether this span comes before the next and some instant lies between them. Of two spans in the order of their
+    /// starts the others touch: they share an instant, or their instants together are those of one span.
+    pub fn is_apart(&self, next: &Span) -> bool
+        ensures value { result ≡ is_apart self.now next.now }
+    {
+        self.upper.is_before(&next.lower)
+            || (!next.lower.is_before(&self.upper) && !(self.upper_inc || next.lower_inc))
+    }
+
+    /// The instants of this span and of another, which starts no earlier and touches it, as one span.
+    pub fn united(&self, other: &Span) -> Span
+        requires order { starts_before other.now self.now ≡ false }
+        requires touch { is_apart self.now other.now ≡ false }
+        ensures ends { result ≡ united self.now other.now }
+        ensures both { (t : Ratio) → has result t ≡ (has self.now t || has other.now t) }
+    {
+        if self.ends_before(other) {
+            Span {
+                lower: self.lower,
+                upper: other.upper,
+                lower_inc: self.lower_inc,
+                upper_inc: other.upper_inc,
+            }
+        } else {
+            *self
         }
     }
 

@@ -125,8 +125,3 @@ here_of u l l' o e h = subst (λ z. slice_at z u ≡ o) e h
 
 pub common_in : {A B : Type 0} (l l' : List (Slice A)) (r r' : List (Slice B)) (pairs : List (Pair A B)) → l ≡ l' → r ≡ r' → IsCommon l r pairs → IsCommon l' r' pairs
 common_in l l' r r' pairs e f h = subst (λ z. IsCommon z r' pairs) e (subst (λ z. IsCommon l z pairs) f h)
-
--- the normal value of slices with a wanted value at each instant has it, and there is none where none is wanted
-pub normal_has : {Z : Type 0} (wanted : Ratio → Option Z) (slices : List (Slice (Steady Z))) (m : Option (List (Slice (Steady Z)))) → ((t : Ratio) → value_at steady_value slices t ≡ wanted t) → (IsNone m ↔ (slices ≡ [])) → IfSome m (λ v. (t : Ratio) → value_at steady_value v t ≡ value_at steady_value slices t) → MatchOption m ((t : Ratio) → wanted t ≡ None) (λ v. (t : Ratio) → value_at steady_value v t ≡ wanted t)
-normal_has wanted slices None h n k = λ t. sym (h t) ∙ ap (λ z. value_at steady_value z t) (n.0 refl)
-normal_has wanted slices (Some v) h n k = λ t. k t ∙ h t
