@@ -7,6 +7,7 @@ ghost use Rattle.mob_scalar.specs.NumberText.{number_text};
 ghost use Rattle.mob_scalar.specs.Epochs.{epochs};
 ghost use Rattle.mob_scalar.specs.Moments.{moments};
 ghost use Rattle.mob_scalar.specs.MomentText.{HasDate, moment_text};
+ghost use Rattle.mob_scalar.specs.Truth.{truths};
 ghost use Rattle.mob_scalar.specs.Verdict.{HasOneReading, Lit};
 
 /// A number that is printed is read again as itself.
@@ -19,9 +20,10 @@ pub fn moment_read_again()
     ensures again { (epoch : ℤ) (t : Ratio) → Fits t → HasDate epoch t → Lit (moments epoch) (moment_text epoch t) (Ok t) }
 {}
 
-/// A text has one reading as a number, as a moment and as an epoch.
+/// A text has one reading as a number, as a moment, as a truth value and as an epoch.
 pub fn one_reading()
     ensures numbers { HasOneReading numbers }
     ensures moments { (epoch : ℤ) → HasOneReading (moments epoch) }
+    ensures truths { HasOneReading truths }
     ensures epochs { HasOneReading epochs }
 {}
