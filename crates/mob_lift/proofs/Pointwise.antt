@@ -45,10 +45,10 @@ each_by gives Q R none (Some p) f h = f p h.0 h.1
 pub each_at : {P D B V : Type 0} {value : D → Ratio → Ratio → Ratio → B} {start end : D → B} {span : P → SpanOf} {items : V → List (Slice D)} {gives : P → V → Type 0} {parts : List P} {slices : List (Slice D)} → IsLifted value start end span items gives parts slices → (Q : P → Type 0) → ((p : P) (v : V) → gives p v → Q p) → (t : Ratio) → MatchOption (part_at span parts t) (Unit {0}) Q
 each_at {value} {span} {items} {gives} {parts} {slices} h Q f t = each_by gives Q (λ v. value_at value slices t ≡ value_at value (items v) t) (value_at value slices t ≡ None) (part_at span parts t) f (h.at_each t)
 
--- the part on which the closure failed
-pub first_fault : {P V : Type 0} (gives : P → V → Type 0) (fails : P → Type 0) (parts : List P) → FirstFault gives fails parts → (p : P) × IsIn p parts × fails p
-first_fault gives fails [] h = absurd h
-first_fault gives fails (q ∷ parts) h = ⊎_elim (λ k. (q, inl refl, k)) (λ k. let r = first_fault gives fails parts k.2 in (r.0, inr r.1, r.2)) h
+-- what follows from the part on which the closure failed, follows
+pub on_fault : {P V : Type 0} {R : Type 0} (gives : P → V → Type 0) (fails : P → Type 0) (parts : List P) → FirstFault gives fails parts → ((p : P) → IsIn p parts → fails p → R) → R
+on_fault gives fails [] h f = absurd h
+on_fault gives fails (q ∷ parts) h f = ⊎_elim (λ k. f q (inl refl) k) (λ k. on_fault gives fails parts k.2 (λ p i l. f p (inr i) l)) h
 
 -- a part of a list of parts that are clear has an instant
 pub part_some : {P : Type 0} (span : P → SpanOf) (parts : List P) (p : P) → PartsClear span parts → IsIn p parts → has_instant (span p) ≡ true

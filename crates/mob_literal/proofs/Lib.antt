@@ -1,6 +1,7 @@
 pub mod Groups
 pub mod Listing
 pub mod Made
+pub mod OneValue
 pub mod Parted
 pub mod ReadSequences
 pub mod Rows

@@ -1,11 +1,11 @@
 //! Literals of temporal values: what their texts mean, and how the values print.
 #![tactic(auto)]
 
+pub mod laws;
 pub mod printing;
 pub mod reading;
-pub mod sequence;
-pub mod steps;
-pub mod written;
-
+mod sequence;
+mod steps;
 #[cfg(test)]
 mod tests;
+pub mod written;

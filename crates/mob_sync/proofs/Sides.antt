@@ -1,13 +1,14 @@
 -- From the pieces of values to the values themselves.
-use Rattle.std.specs.Prelude.{◌≡◌, Bool, true, false, cond, Option, Some, None, MatchOption, option_map, List, [], ◌∷◌, refl}
+use Rattle.std.specs.Prelude.{◌≡◌, ◌↔◌, IsNone, IfSome, Bool, true, false, cond, Option, Some, None, MatchOption, option_map, List, [], ◌∷◌, refl}
 use Rattle.std.proofs.Common.{ap, sym, ◌∙◌, subst}
 use Rattle.mob_ratio.specs.Ratio.{Ratio}
 use Rattle.mob_frac.specs.Formula.{AllFit}
 use Rattle.mob_span.specs.Span.{has}
 use Rattle.mob_slice.specs.Slices.{value_at, slice_at}
-use Rattle.mob_slice.specs.Operands.{map_both, FitBoth}
+use Rattle.mob_slice.specs.Operands.{map_both, FitBoth, steady_value}
 use Rattle.mob_slice.specs.Pieces.{part_at}
 use Rattle.mob_slice.specs.declared.slice.Slice.{Slice}
+use Rattle.mob_slice.specs.declared.steady.Steady.{Steady}
 use Rattle.mob_slice.specs.declared.part.One.{One}
 use Rattle.mob_slice.specs.declared.part.Pair.{Pair}
 use Rattle.mob_sync.specs.Common.{both, sides, IsCommon}
@@ -114,3 +115,18 @@ module _ {B X Y : Type 0} (parts : X → Y → List Ratio) where
 
   pub unfit_right : (g : B → Ratio → Ratio → Ratio → Y) (x : X) (w : List (Slice B)) (b : Slice B) (t : Ratio) → slice_at w t ≡ Some b → ¬ AllFit (parts x (at_slice g t b)) → ¬ FitBoth parts (Some x) (value_at g w t)
   unfit_right g x w b t h n k = n (rw (value_of_slice g w t b h) at k)
+
+-- the same slices in the same lists
+pub here_in : {A B : Type 0} (u : Ratio) (l l' : List (Slice A)) (r r' : List (Slice B)) (o : Option (Slice A × Slice B)) → l ≡ l' → r ≡ r' → both (slice_at l u) (slice_at r u) ≡ o → both (slice_at l' u) (slice_at r' u) ≡ o
+here_in u l l' r r' o e f h = subst (λ z. both (slice_at z u) (slice_at r' u) ≡ o) e (subst (λ z. both (slice_at l u) (slice_at z u) ≡ o) f h)
+
+pub here_of : {C : Type 0} (u : Ratio) (l l' : List (Slice C)) (o : Option (Slice C)) → l ≡ l' → slice_at l u ≡ o → slice_at l' u ≡ o
+here_of u l l' o e h = subst (λ z. slice_at z u ≡ o) e h
+
+pub common_in : {A B : Type 0} (l l' : List (Slice A)) (r r' : List (Slice B)) (pairs : List (Pair A B)) → l ≡ l' → r ≡ r' → IsCommon l r pairs → IsCommon l' r' pairs
+common_in l l' r r' pairs e f h = subst (λ z. IsCommon z r' pairs) e (subst (λ z. IsCommon l z pairs) f h)
+
+-- the normal value of slices with a wanted value at each instant has it, and there is none where none is wanted
+pub normal_has : {Z : Type 0} (wanted : Ratio → Option Z) (slices : List (Slice (Steady Z))) (m : Option (List (Slice (Steady Z)))) → ((t : Ratio) → value_at steady_value slices t ≡ wanted t) → (IsNone m ↔ (slices ≡ [])) → IfSome m (λ v. (t : Ratio) → value_at steady_value v t ≡ value_at steady_value slices t) → MatchOption m ((t : Ratio) → wanted t ≡ None) (λ v. (t : Ratio) → value_at steady_value v t ≡ wanted t)
+normal_has wanted slices None h n k = λ t. sym (h t) ∙ ap (λ z. value_at steady_value z t) (n.0 refl)
+normal_has wanted slices (Some v) h n k = λ t. k t ∙ h t

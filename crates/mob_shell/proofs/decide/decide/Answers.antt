@@ -12,6 +12,7 @@ returns-in-Ok-put_all g c =
           output = read_output _ c.in-Ok.bytes.items c.in-Ok-Some.text.items c.in-Ok.ensures.bytes out;
           whole = rw c.deref-2.ensures.value at c.in-Ok-put_all.ensures.whole;
         };
+        read = c.read_to.ensures.part;
         usage = λ more. absurd (few c.args.words.now more (search rules));
         read_later = search rules;
         put_later = search rules;
@@ -29,6 +30,7 @@ returns g c =
           part = rw c.deref-2.ensures.value at c.in-Err-put_all.ensures.part;
           rose = c.in-Err-put_all.ensures.cause.failed;
         };
+        read = c.read_to.ensures.part;
         usage = λ more. absurd (few c.args.words.now more (search rules));
         read_later = search rules;
         put_later = search rules;
