@@ -11,12 +11,15 @@ use jiff_core::civil::Date;
 /// A date of the calendar.
 #[derive(Clone, Copy, Debug, PartialEq, Eq)]
 pub struct Civil {
+    /// The year, from 1 to 9999 in a date of the calendar.
     pub year: u32,
+    /// The month, from 1.
     pub month: u32,
+    /// The day of the month, from 1.
     pub day: u32,
 }
 
-/// Exactly `count` digits.
+/// The number of exactly `count` digits in front, and what stands behind them.
 #[tactic(auto, unfolding(crate::specs::CalendarReaders::fixed_at))]
 pub fn fixed_at(count: u32, bytes: &[u8]) -> Option<(u128, &[u8])>
     ensures value { option_map (λ x. (x.0, x.1.now)) result ≡ fixed_in count bytes.now }
@@ -68,6 +71,7 @@ fn is_civil(date: Civil) -> bool
         && date.day <= days_in_month(date.year, date.month)
 }
 
+/// The date `YYYY-MM-DD` in front, which the calendar has, and what stands behind it.
 #[tactic(auto, unfolding(crate::specs::CalendarReaders::date_at))]
 pub fn date_at(bytes: &[u8]) -> Option<(Civil, &[u8])>
     ensures value { option_map (λ x. (x.0, x.1.now)) result ≡ date_in bytes.now }
@@ -88,10 +92,10 @@ pub fn date_at(bytes: &[u8]) -> Option<(Civil, &[u8])>
     }
 }
 
-/// The number of the day, from 1970-01-01.
+/// The number of a date's day, where 1970-01-01 is 0.
 pub fn day_of(date: Civil) -> i32
-    requires { civil date ≡ true }
-    ensures { result ≡ day_number date }
+    requires there { civil date ≡ true }
+    ensures number { result ≡ day_number date }
 {
     match Date::new(date.year as i16, date.month as i8, date.day as i8) {
         Ok(day) => day.to_unix_epoch_day(),
@@ -110,9 +114,9 @@ pub fn date_in_all(bytes: &[u8]) -> Option<Civil>
     }
 }
 
-/// The date of a day.
+/// The date of the day with this number, where 1970-01-01 is 0.
 pub fn date_of(day: i64) -> Civil
-    requires { IsInYears day }
+    requires years { IsInYears day }
     ensures value { result ≡ date_of_day day }
     ensures there { civil result ≡ true }
 {

@@ -1,5 +1,5 @@
 //! The instants that moments stand for.
-ghost use Rattle.std.specs.Prelude.{◌≡◌, ◌<◌, ◌≤◌, ◌^◌, length, option_map, List, ℕ, ℤ, pos, nat_abs, ◌*ℤ◌, ◌+ℤ◌, ◌-ℤ◌, Option, Some, None, IfSome, true, Bool};
+ghost use Rattle.std.specs.Prelude.{◌≡◌, ◌<◌, ◌≤◌, ◌^◌, length, option_map, List, ℕ, ℤ, pos, nat_abs, ◌*ℤ◌, ◌+ℤ◌, ◌-ℤ◌, Option, Some, None, IfSome, true, Bool, ◌≢◌, Err};
 ghost use Rattle.mob_frac.specs.Fits.{IsExact};
 ghost use Rattle.mob_ratio.specs.Ratio.{whole, over, ◌+ℚ◌};
 ghost use Rattle.mob_language.specs.Readers.{all_of, within_blanks_at};
@@ -7,6 +7,7 @@ ghost use Rattle.mob_scalar.specs.Calendar.{is_civil as civil};
 ghost use Rattle.mob_scalar.specs.Moment.{instant, IsPartSmall};
 ghost use Rattle.mob_scalar.specs.MomentReaders.{moment_at as moment_in};
 ghost use Rattle.mob_scalar.specs.Moments.{moments};
+ghost use Rattle.mob_scalar.specs.declared.fault.ReadText.TheVariants.{NoMemory};
 ghost use Rattle.mob_scalar.specs.Verdict.{Lit};
 
 use crate::epoch::Epoch;
@@ -75,6 +76,7 @@ fn stamp_of(bytes: &[u8]) -> Option<Stamp>
 /// is `NotText`, and `TooLarge` an instant that has more than 62 bits. It takes no memory.
 pub fn read_moment(text: &str, epoch: &Epoch) -> Result<Frac, ReadText>
     ensures reading { Lit (moments epoch.now) text.now result }
+    ensures memory { result ≢ Err NoMemory }
 {
     match stamp_of(text.as_bytes()) {
         None => Err(ReadText::NotText),

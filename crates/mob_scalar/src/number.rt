@@ -1,4 +1,4 @@
-ghost use Rattle.std.specs.Prelude.{◌≡◌, ◌<◌, ◌≤◌, ◌^◌, ◌*◌, ◌+◌, length, Option, Some, None};
+ghost use Rattle.std.specs.Prelude.{◌≡◌, ◌<◌, ◌≤◌, ◌^◌, ◌*◌, ◌+◌, length, Option, Some, None, ◌≢◌, Err};
 ghost use Rattle.mob_language.specs.Readers.{all_of, within_blanks_at};
 ghost use Rattle.mob_ratio.specs.Ratio.{over};
 ghost use Rattle.mob_frac.specs.Fits.{IsExact};
@@ -6,6 +6,7 @@ ghost use Rattle.mob_frac.specs.Signed.{signed};
 ghost use Rattle.mob_scalar.specs.NumberValue.{IsBounded, value, up_of, down_of, value_in};
 ghost use Rattle.mob_scalar.specs.Number.{count_of};
 ghost use Rattle.mob_scalar.specs.NumberReaders.{number_at as number_in};
+ghost use Rattle.mob_scalar.specs.declared.fault.ReadText.TheVariants.{NoMemory};
 ghost use Rattle.mob_scalar.specs.Verdict.{Lit};
 ghost use Rattle.mob_scalar.specs.Numbers.{numbers};
 
@@ -16,9 +17,10 @@ use mob_frac::{Frac, Overflow, over_product};
 
 const SIZE: u128 = 1 << 62;
 
+/// Ten to the power `k`.
 pub fn ten_to(k: u32) -> u128
-    requires { k ≤ 36 }
-    ensures { result ≡ 10 ^ k }
+    requires fits { k ≤ 36 }
+    ensures power { result ≡ 10 ^ k }
 {
     let mut power: u128 = 1;
     for _ in 0..k {
@@ -100,11 +102,12 @@ fn part_value(part: Option<Figures>) -> u128
     }
 }
 
-/// The number that a numeral stands for.
+/// The number that a numeral stands for. It is `Overflow` exactly where the reduced fraction has a
+/// part of more than 62 bits.
 #[tactic(auto, unfolding(crate::specs::NumberValue::value))]
 pub fn evaluate(n: Numeral) -> Result<Frac, Overflow>
-    requires { IsBounded n }
-    ensures { IsExact (value n) result }
+    requires bounded { IsBounded n }
+    ensures exact { IsExact (value n) result }
 {
     match n.tail {
         Tail::Over(denominator) => over_product(n.negative, n.digits.value, denominator.value, 1),
@@ -137,6 +140,7 @@ fn numeral_of(bytes: &[u8]) -> Option<Numeral>
 /// whose reduced fraction has a part of more than 62 bits. It takes no memory.
 pub fn read_number(text: &str) -> Result<Frac, ReadText>
     ensures reading { Lit numbers text.now result }
+    ensures memory { result ≢ Err NoMemory }
 {
     match numeral_of(text.as_bytes()) {
         None => Err(ReadText::NotText),

@@ -1,9 +1,10 @@
 //! Truth values as they are written: `t`, `true`, `f`, `false`.
-ghost use Rattle.std.specs.Prelude.{◌≡◌, ◌++◌, Some, option_map, OnOk, OnErr, string_bytes};
+ghost use Rattle.std.specs.Prelude.{◌≡◌, ◌++◌, Some, option_map, OnOk, OnErr, string_bytes, ◌≢◌, Err};
 ghost use Rattle.std.specs.Char.{is_ascii_alphabetic};
 ghost use Rattle.std.specs.Str.{str_eq_ignore_ascii_case};
 ghost use Rattle.mob_language.specs.Readers.{all_of, run_of, within_blanks_at};
 ghost use Rattle.mob_scalar.specs.Truth.{truth_at as truth_in, is_word_true as word_true, is_truth as truth_word, truth_text, truths};
+ghost use Rattle.mob_scalar.specs.declared.fault.ReadText.TheVariants.{NoMemory};
 ghost use Rattle.mob_scalar.specs.Verdict.{Lit};
 
 use crate::fault::ReadText;
@@ -71,6 +72,7 @@ fn truth_in_all(bytes: &[u8]) -> Option<bool>
 /// perhaps with blanks at its ends. Any other text is `NotText`.
 pub fn read_truth(text: &str) -> Result<bool, ReadText>
     ensures reading { Lit truths text.now result }
+    ensures memory { result ≢ Err NoMemory }
 {
     match truth_in_all(text.as_bytes()) {
         None => Err(ReadText::NotText),
