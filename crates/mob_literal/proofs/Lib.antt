@@ -1,4 +1,5 @@
 pub mod Groups
+pub mod LiteralExact
 pub mod Listing
 pub mod Made
 pub mod Parted

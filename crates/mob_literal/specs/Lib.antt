@@ -1,4 +1,7 @@
 pub mod Steps
+pub mod Fitting
+pub mod Literal
+pub mod ValueText
 pub mod Sequence
 pub mod Slices
 pub mod Means

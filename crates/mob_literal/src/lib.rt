@@ -1,6 +1,7 @@
 //! Literals of temporal values: what their texts mean, and how the values print.
 #![tactic(auto)]
 
+pub mod literal;
 pub mod printing;
 pub mod reading;
 pub mod sequence;
