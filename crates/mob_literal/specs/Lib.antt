@@ -4,6 +4,8 @@ pub mod Literal
 pub mod ValueText
 pub mod Sequence
 pub mod Slices
+pub mod Sound
+pub mod Flat
 pub mod Means
 pub mod Printed
 pub mod Runs

@@ -6,6 +6,7 @@ pub mod printing;
 pub mod reading;
 pub mod sequence;
 pub mod steps;
+pub mod temporal;
 pub mod written;
 
 #[cfg(test)]
