@@ -1,15 +1,15 @@
 -- The slices of sound sequences, one behind the other.
-use Rattle.std.proofs.Common.{◌≡◌, ℕ, suc, ◌-◌, List, [], ◌∷◌, ◌++◌, length, Bool, true, false, cond, Option, Some, None, refl, sym, ap, subst, ◌∙◌, arith, append-nil, append_assoc, option_map, inl, inr, ◌⊎◌}
-use Rattle.std.specs.Prelude.{◌&&◌, ◌||◌, not, ◌↔◌, Contains, slice_get}
+use Rattle.std.proofs.Common.{◌≡◌, suc, ◌-◌, List, [], ◌∷◌, ◌++◌, length, Bool, true, false, cond, Option, Some, None, refl, sym, ap, subst, ◌∙◌, arith, append_assoc, option_map, inl, inr}
+use Rattle.std.specs.Prelude.{◌&&◌, ◌||◌, not, ◌↔◌, slice_get}
 use Rattle.std.specs.List.{list_all}
 use Rattle.mob_language.specs.Readers.{◌>>=◌}
 use Rattle.mob_ratio.specs.Ratio.{Ratio}
 use Rattle.mob_ratio.specs.Order.{before, upto}
 use Rattle.mob_ratio.proofs.Order.{before-self}
-use Rattle.mob_span.specs.Span.{has, has_instant}
+use Rattle.mob_span.specs.Span.{has}
 use Rattle.mob_slice.specs.declared.slice.Slice.{Slice}
 use Rattle.mob_slice.specs.declared.steady.Steady.{Steady}
-use Rattle.mob_slice.specs.Slices.{IsSound, IsOrdered, Clear, OfHead, value_at, IsNormal}
+use Rattle.mob_slice.specs.Slices.{IsSound, IsOrdered, Clear, OfHead, value_at}
 use Rattle.mob_normal.proofs.Regions.{is_left, left_has, left_clear, in_left}
 use Rattle.mob_normal.proofs.Runs.{or_else, value_at-append}
 use Rattle.mob_literal.specs.declared.written.Written.{Written}
@@ -17,7 +17,7 @@ use Rattle.mob_literal.specs.declared.written.Sequence.{Sequence}
 use Rattle.mob_literal.specs.Steps.{rises, StepAt}
 use Rattle.mob_literal.specs.Slices.{slices_of, made, stretch, point}
 use Rattle.mob_literal.specs.Means.{step_value}
-use Rattle.mob_literal.specs.Sound.{ends_level, is_closed_alone, is_sound_sequence, clear_ends, is_before, are_in_order, is_sound, LitAt, Defines}
+use Rattle.mob_literal.specs.Sound.{ends_level, is_closed_alone, is_sound_sequence, clear_ends, is_before, are_in_order, is_sound, LitAt}
 use Rattle.mob_literal.specs.Flat.{made_sequence, made_all}
 use Rattle.mob_literal.proofs.Listing.{first_in, later_in, none_in, which_in}
 use Rattle.mob_literal.proofs.StepLemmas.{slices_step, step_slices}
@@ -70,7 +70,7 @@ sequence_is {B} has_value is_same q = by_values (list_all (λ (i : Written B). h
     by_values false b h = refl
 
 -- the slices of all sequences
-pub flat : {B : Type 0} → List (Sequence (Written B)) → List (Slice (Steady B))
+unfoldable pub flat : {B : Type 0} → List (Sequence (Written B)) → List (Slice (Steady B))
 flat [] = []
 flat (q ∷ qs) = slices_in q ++ flat qs
 

@@ -3,9 +3,8 @@
 -- A literal is one `value@moment`, a set of them in braces, a sequence of them between brackets, or sequences in braces. Blanks may
 -- stand at both ends, and on both sides of each sign that stands outside a value and a moment. An instant that stands alone or in a
 -- set stands for the sequence of that instant alone, so each literal stands for a list of sequences.
-use Rattle.std.specs.Prelude.{ℕ, List, [], ◌∷◌, map, codes, Bool, true, false, ◌||◌, cond, nat_eq, Option, Some, None, ℤ}
-use Rattle.mob_ratio.specs.Ratio.{Ratio}
-use Rattle.mob_language.specs.Language.{Text, Language, ◌▷◌, ◌∣◌, Means, Word, OneOf, Separated, blanks, spaced, is_blank}
+use Rattle.std.specs.Prelude.{ℕ, List, [], ◌∷◌, map, codes, Bool, true, ◌||◌, nat_eq, Option, ℤ}
+use Rattle.mob_language.specs.Language.{Text, Language, ◌▷◌, ◌∣◌, Means, Word, OneOf, Separated, blanks, spaced}
 use Rattle.mob_language.specs.Readers.{Reader, then_at, or_at, means_at, word_at, one_at, separated_at, blanks_at, spaced_at}
 use Rattle.mob_scalar.specs.declared.stamp.Stamp.{Stamp}
 use Rattle.mob_scalar.specs.Moment.{moment, instant}

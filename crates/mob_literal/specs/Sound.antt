@@ -1,5 +1,5 @@
 -- What is demanded of the sequences of a temporal literal under step interpolation.
-use Rattle.std.specs.Prelude.{◌≡◌, ◌↔◌, ℕ, ◌+◌, ◌-◌, List, [], ◌∷◌, length, Contains, slice_get, Bool, true, false, ◌&&◌, ◌||◌, not, nat_lt, Option, Some, None, MatchOption, ℤ, option_map}
+use Rattle.std.specs.Prelude.{◌≡◌, ◌↔◌, ℕ, ◌+◌, ◌-◌, List, [], ◌∷◌, length, Contains, slice_get, Bool, true, false, ◌&&◌, ◌||◌, not, nat_lt, Option, Some, None, MatchOption, ℤ}
 use Rattle.std.specs.List.{list_all}
 use Rattle.mob_ratio.specs.Ratio.{Ratio}
 use Rattle.mob_ratio.specs.Order.{before, upto}
