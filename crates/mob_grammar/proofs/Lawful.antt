@@ -53,9 +53,10 @@ module _ {A : Type 0} (m : Mark) (F : Form A) (n : ℕ) (s : Reader A) (law : La
   pub lawful_after : Lawful (m ▸ F) n (after m s)
   lawful_after [] short = mark_wrong [] short refl
   lawful_after (t ∷ l) short = elim (told (is_sign m t)) [
-      inl is_one ↦ subst (Tells (m ▸ F) (λ i. after m s) (t ∷ l)) (sym (after_there m s t l is_one))
+    | inl is_one ↦ subst (Tells (m ▸ F) (λ i. after m s) (t ∷ l)) (sym (after_there m s t l is_one))
         (tells_token F (m ▸ F) (λ i. s) (λ i. after m s) t (λ i y. after_there m s t y is_one) (mark_join t is_one) l (s l) (law l (omega arith)))
-    | inr none_there ↦ mark_wrong (t ∷ l) short none_there ]
+    | inr none_there ↦ mark_wrong (t ∷ l) short none_there
+  ]
 
   module _ (G : Form A) (z : Reader A) (other : Lawful G n z) where
     without : (l : List Tok) → length l < n → starts m l ≡ false → Tells (m ▸ F ∣ G) (λ i. if_mark m s z) l (if_mark m s z l)
@@ -65,9 +66,10 @@ module _ {A : Type 0} (m : Mark) (F : Form A) (n : ℕ) (s : Reader A) (law : La
     pub lawful_if : Lawful (m ▸ F ∣ G) n (if_mark m s z)
     lawful_if [] short = without [] short refl
     lawful_if (t ∷ l) short = elim (told (is_sign m t)) [
-        inl is_one ↦ subst (Tells (m ▸ F ∣ G) (λ i. if_mark m s z) (t ∷ l)) (sym (if_there m s z t l is_one))
+      | inl is_one ↦ subst (Tells (m ▸ F ∣ G) (λ i. if_mark m s z) (t ∷ l)) (sym (if_there m s z t l is_one))
           (tells_token F (m ▸ F ∣ G) (λ i. s) (λ i. if_mark m s z) t (λ i y. if_there m s z t y is_one) (λ u x r p. inl (mark_join t is_one u x r p)) l (s l) (law l (omega arith)))
-      | inr none_there ↦ without (t ∷ l) short none_there ]
+      | inr none_there ↦ without (t ∷ l) short none_there
+    ]
 
 pub lawful_closed : {A : Type 0} (m : Mark) (n : ℕ) (x : A) → Lawful (m ▸ Says x) n (closed m x)
 unfolding closed after
@@ -80,10 +82,11 @@ module _ {A : Type 0} (test : Tok → Bool) (F G : Form A) (n : ℕ) (s z : Read
 
   pub lawful_either : Lawful (F ∣ G) n (λ l. cond (begins test l) (s l) (z l))
   lawful_either l short = elim (told (begins test l)) [
-      inl here ↦ subst (Tells (F ∣ G) (λ m. either) l) (sym (chosen (begins test l) (s l) (z l) here))
+    | inl here ↦ subst (Tells (F ∣ G) (λ m. either) l) (sym (chosen (begins test l) (s l) (z l) here))
         (tells_same F (F ∣ G) (λ m. s) (λ m. either) l (λ y a m. chosen (begins test y) (s y) (z y) (alike_begins test l y a ∙ here)) (λ u x r p. inl p) (s l) (one l short))
     | inr none_here ↦ subst (Tells (F ∣ G) (λ m. either) l) (sym (passed (begins test l) (s l) (z l) none_here))
-        (tells_same G (F ∣ G) (λ m. z) (λ m. either) l (λ y a m. passed (begins test y) (s y) (z y) (alike_begins test l y a ∙ none_here)) (λ u x r p. inr p) (z l) (two l short)) ]
+        (tells_same G (F ∣ G) (λ m. z) (λ m. either) l (λ y a m. passed (begins test y) (s y) (z y) (alike_begins test l y a ∙ none_here)) (λ u x r p. inr p) (z l) (two l short))
+  ]
 
 -- names, numbers and strings
 pub alike_end : {A : Type 0} (s : Reader A) → s [] ≡ Err [] → (y : List Tok) → Alike [] y → s y ≡ Err y
@@ -171,15 +174,16 @@ module _ {A : Type 0} (m : Mark) (F : Form A) (n : ℕ) (inner : Reader A) (law 
   tells_list i xs [] fuel short = list_done xs [] i refl
   tells_list zero xs (t ∷ l) fuel short = absurd (omega arith)
   tells_list (suc i) xs (t ∷ l) fuel short = elim (told (is_sign m t)) [
-      inl is_one ↦ subst (Tells (Follows xs) (λ i. listed_from m inner i xs) (t ∷ l)) (sym (list_turn i xs t l is_one))
+    | inl is_one ↦ subst (Tells (Follows xs) (λ i. listed_from m inner i xs) (t ∷ l)) (sym (list_turn i xs t l is_one))
         (tells_token (λ u ys r. Follows xs (t ∷ u) ys r) (Follows xs) (λ i u. inner u >>= λ x. listed_from m inner i (xs ++ x.0 ∷ []) x.1) (λ i. listed_from m inner i xs) t (λ i u. list_turn i xs t u is_one) (λ u x r h. h) l _
-          (tells_both F (λ x. Follows (xs ++ x ∷ [])) (λ u ys r. Follows xs (t ∷ u) ys r) (λ i. inner) (λ x i. listed_from m inner i (xs ++ x ∷ []))
-            (next_joins xs t is_one) (λ x. stays (xs ++ x ∷ [])) l i (inner l) (law l (omega arith))
-            (λ x u less. tells_list i (xs ++ x ∷ []) u (omega arith) (omega arith))))
-    | inr none_there ↦ list_done xs (t ∷ l) (suc i) none_there ]
+        (tells_both F (λ x. Follows (xs ++ x ∷ [])) (λ u ys r. Follows xs (t ∷ u) ys r) (λ i. inner) (λ x i. listed_from m inner i (xs ++ x ∷ []))
+        (next_joins xs t is_one) (λ x. stays (xs ++ x ∷ [])) l i (inner l) (law l (omega arith))
+        (λ x u less. tells_list i (xs ++ x ∷ []) u (omega arith) (omega arith))))
+    | inr none_there ↦ list_done xs (t ∷ l) (suc i) none_there
+  ]
 
   pub lawful_listed : Lawful (Listed m F) n (listed m inner)
   unfolding listed
   lawful_listed l short = tells_at_length (Listed m F) (λ i u. inner u >>= λ x. listed_from m inner i (x.0 ∷ []) x.1) l _
       (tells_both F (λ x. Follows (x ∷ [])) (Listed m F) (λ i. inner) (λ x i. listed_from m inner i (x ∷ []))
-        first_joins (λ x. stays (x ∷ [])) l (length l) (inner l) (law l short) (λ x u less. tells_list (length l) (x ∷ []) u less (omega arith)))
+      first_joins (λ x. stays (x ∷ [])) l (length l) (inner l) (law l short) (λ x u less. tells_list (length l) (x ∷ []) u less (omega arith)))

@@ -59,7 +59,6 @@ pub record Ready {B : Type 0} (R : List Tok → B → List Tok → Type 0) : Typ
 module _ {A B : Type 0} (R1 : List Tok → A → List Tok → Type 0) (R2 : A → List Tok → B → List Tok → Type 0) (R : List Tok → B → List Tok → Type 0)
     (f : ℕ → Reader A) (g : A → ℕ → Reader B)
     (join : (l u r : List Tok) (x : A) (y : B) → R1 l x u → R2 x u y r → R l y r) (ready : (x : A) → Ready (R2 x)) where
-
   abbrev pair : ℕ → Reader B
   pair m l = f m l >>= λ x. g x.0 m x.1
 
@@ -78,25 +77,30 @@ module _ {A B : Type 0} (R1 : List Tok → A → List Tok → Type 0) (R2 : A �
     taken = t.taken ++ s.taken;
     parts = t.parts ∙ ap (λ v. t.taken ++ v) s.parts ∙ sym (append_assoc t.taken s.taken y.1);
     phrase = λ v. subst (λ w. R w y.0 v) (sym (append_assoc t.taken s.taken v)) (join (t.taken ++ (s.taken ++ v)) (s.taken ++ v) v x y.0 (t.phrase (s.taken ++ v)) (s.phrase v));
-    again = λ v h m fuel. step l x u t s.taken y.1 v m (Ok (y.0, v)) s.parts h (s.again v h) fuel }
+    again = λ v h m fuel. step l x u t s.taken y.1 v m (Ok (y.0, v)) s.parts h (s.again v h) fuel;
+  }
   after_ok l x u t (Err r) s = record {
     taken = t.taken ++ s.taken;
     parts = t.parts ∙ ap (λ v. t.taken ++ v) s.parts ∙ sym (append_assoc t.taken s.taken r);
     again = λ v h m fuel. step l x u t s.taken r v m (Err v) s.parts h (s.again v h) fuel;
-    closing = s.closing; plain = s.plain;
+    closing = s.closing;
+    plain = s.plain;
     value = s.value;
-    closes = λ v. subst (λ w. R w s.value v) (sym (append_assoc t.taken s.taken (s.closing ++ v))) (join (t.taken ++ (s.taken ++ (s.closing ++ v))) (s.taken ++ (s.closing ++ v)) v x s.value (t.phrase (s.taken ++ (s.closing ++ v))) (s.closes v)) }
+    closes = λ v. subst (λ w. R w s.value v) (sym (append_assoc t.taken s.taken (s.closing ++ v))) (join (t.taken ++ (s.taken ++ (s.closing ++ v))) (s.taken ++ (s.closing ++ v)) v x s.value (t.phrase (s.taken ++ (s.closing ++ v))) (s.closes v));
+  }
 
   fails : (l r : List Tok) → Failed R1 f l r → Failed R (λ m l. f m l >>= λ x. g x.0 m x.1) l r
   fails l r t =
-    let k = ready t.value in
-    record {
-    taken = t.taken;
-    parts = t.parts;
-    again = λ v h m fuel. ap (λ a. a >>= λ x. g x.0 m x.1) (t.again v h m fuel);
-    closing = t.closing ++ k.closing; plain = plain_append t.closing k.closing t.plain k.plain;
-    value = k.value;
-    closes = λ v. subst (λ w. R w k.value v) (sym (ap (λ w. t.taken ++ w) (append_assoc t.closing k.closing v))) (join (t.taken ++ (t.closing ++ (k.closing ++ v))) (k.closing ++ v) v t.value k.value (t.closes (k.closing ++ v)) (k.closes v)) }
+      let k = ready t.value in
+      record {
+        taken = t.taken;
+        parts = t.parts;
+        again = λ v h m fuel. ap (λ a. a >>= λ x. g x.0 m x.1) (t.again v h m fuel);
+        closing = t.closing ++ k.closing;
+        plain = plain_append t.closing k.closing t.plain k.plain;
+        value = k.value;
+        closes = λ v. subst (λ w. R w k.value v) (sym (ap (λ w. t.taken ++ w) (append_assoc t.closing k.closing v))) (join (t.taken ++ (t.closing ++ (k.closing ++ v))) (k.closing ++ v) v t.value k.value (t.closes (k.closing ++ v)) (k.closes v));
+      }
 
   pub tells_both : (l : List Tok) (m : ℕ) (a : Answer A) → Tells R1 f l a → ((x : A) (u : List Tok) → length u ≤ length l → Tells (R2 x) (g x) u (g x m u)) → Tells R (λ m l. f m l >>= λ x. g x.0 m x.1) l (a >>= λ x. g x.0 m x.1)
   tells_both l m (Ok x) t second = after_ok l x.0 x.1 t (g x.0 m x.1) (second x.0 x.1 (omega (arith, ap length t.parts, length-append t.taken x.1)))
@@ -114,14 +118,17 @@ module _ {A : Type 0} (R1 R : List Tok → A → List Tok → Type 0) (g f : ℕ
     taken = t ∷ s.taken;
     parts = ap (λ v. t ∷ v) s.parts;
     phrase = λ v. join (s.taken ++ v) x.0 v (s.phrase v);
-    again = λ v h m fuel. behind (s.taken ++ v) m (Ok (x.0, v)) (s.again v h) fuel }
+    again = λ v h m fuel. behind (s.taken ++ v) m (Ok (x.0, v)) (s.again v h) fuel;
+  }
   tells_token l (Err r) s = record {
     taken = t ∷ s.taken;
     parts = ap (λ v. t ∷ v) s.parts;
     again = λ v h m fuel. behind (s.taken ++ v) m (Err v) (s.again v h) fuel;
-    closing = s.closing; plain = s.plain;
+    closing = s.closing;
+    plain = s.plain;
     value = s.value;
-    closes = λ v. join (s.taken ++ (s.closing ++ v)) s.value v (s.closes v) }
+    closes = λ v. join (s.taken ++ (s.closing ++ v)) s.value v (s.closes v);
+  }
 
 module _ {A : Type 0} (R : List Tok → A → List Tok → Type 0) (f : ℕ → Reader A) where
   -- nothing more is taken
@@ -147,14 +154,17 @@ module _ {A : Type 0} (R1 R : List Tok → A → List Tok → Type 0) (g f : ℕ
     taken = s.taken;
     parts = s.parts;
     phrase = λ v. wider (s.taken ++ v) x.0 v (s.phrase v);
-    again = λ v h m fuel. same (s.taken ++ v) (alike_here s.taken x.1 v s.parts h) m ∙ s.again v h m fuel }
+    again = λ v h m fuel. same (s.taken ++ v) (alike_here s.taken x.1 v s.parts h) m ∙ s.again v h m fuel;
+  }
   tells_same (Err r) s = record {
     taken = s.taken;
     parts = s.parts;
     again = λ v h m fuel. same (s.taken ++ v) (alike_here s.taken r v s.parts h) m ∙ s.again v h m fuel;
-    closing = s.closing; plain = s.plain;
+    closing = s.closing;
+    plain = s.plain;
     value = s.value;
-    closes = λ v. wider (s.taken ++ (s.closing ++ v)) s.value v (s.closes v) }
+    closes = λ v. wider (s.taken ++ (s.closing ++ v)) s.value v (s.closes v);
+  }
 
 -- with the length of the list as the number
 module _ {A : Type 0} (R : List Tok → A → List Tok → Type 0) (f : ℕ → Reader A) where
@@ -163,11 +173,14 @@ module _ {A : Type 0} (R : List Tok → A → List Tok → Type 0) (f : ℕ → 
     taken = s.taken;
     parts = s.parts;
     phrase = s.phrase;
-    again = λ v h m fuel. s.again v h (length (s.taken ++ v)) (omega arith) }
+    again = λ v h m fuel. s.again v h (length (s.taken ++ v)) (omega arith);
+  }
   tells_at_length l (Err r) s = record {
     taken = s.taken;
     parts = s.parts;
     again = λ v h m fuel. s.again v h (length (s.taken ++ v)) (omega arith);
-    closing = s.closing; plain = s.plain;
+    closing = s.closing;
+    plain = s.plain;
     value = s.value;
-    closes = s.closes }
+    closes = s.closes;
+  }

@@ -42,22 +42,23 @@ module _ (k : Rank) (is_op : (t : Tok) → binding t ≡ tight k → chains k t 
   tells_chain_from m e [] fuel short = chain_done e [] m refl
   tells_chain_from zero e (t ∷ l) fuel short = absurd (omega arith)
   tells_chain_from (suc m) e (t ∷ l) fuel short = elim (told (binding t == tight k)) [
-      inl is_one ↦
+    | inl is_one ↦
         let b : binding t ≡ tight k = eqb-true _ _ is_one in
         subst (Tells (Extends k e) (λ i. chain_from (tight k) operand i e) (t ∷ l)) (sym (turn m e t l b))
         (tells_token (λ u y r. (v : List Tok) → Phrase k v e (t ∷ u) → Phrase k v y r) (Extends k e) (λ i u. operand u >>= λ x. chain_from (tight k) operand i (binary t e x.0) x.1) (λ i. chain_from (tight k) operand i e) t
-          (λ i u. turn i e t u b) (λ u x r h. h) l _
-          (tells_both (Phrase (next k)) (λ x. Extends k (binary t e x)) (λ u y r. (v : List Tok) → Phrase k v e (t ∷ u) → Phrase k v y r) (λ i. operand) (λ x i. chain_from (tight k) operand i (binary t e x))
-            (λ u w r x y fst snd v p. snd v (chain p (is_op t b) fst)) (λ x. stays k (binary t e x)) l m (operand l) (law l (omega arith))
-            (λ x u less. tells_chain_from m (binary t e x) u (omega arith) (omega arith))))
-    | inr none_there ↦ chain_done e (t ∷ l) (suc m) none_there ]
+        (λ i u. turn i e t u b) (λ u x r h. h) l _
+        (tells_both (Phrase (next k)) (λ x. Extends k (binary t e x)) (λ u y r. (v : List Tok) → Phrase k v e (t ∷ u) → Phrase k v y r) (λ i. operand) (λ x i. chain_from (tight k) operand i (binary t e x))
+        (λ u w r x y fst snd v p. snd v (chain p (is_op t b) fst)) (λ x. stays k (binary t e x)) l m (operand l) (law l (omega arith))
+        (λ x u less. tells_chain_from m (binary t e x) u (omega arith) (omega arith))))
+    | inr none_there ↦ chain_done e (t ∷ l) (suc m) none_there
+  ]
 
   pub lawful_chain : Lawful (Phrase k) n (read.chain (tight k) operand)
   unfolding read.chain
   lawful_chain l short = tells_at_length (Phrase k) (λ m u. operand u >>= λ x. chain_from (tight k) operand m x.0 x.1) l _
       (tells_both (Phrase (next k)) (λ x. Extends k x) (Phrase k) (λ i. operand) (λ x i. chain_from (tight k) operand i x)
-        (λ u w r x y fst snd. snd u (up fst)) (λ x. stays k x) l (length l) (operand l) (law l short)
-        (λ x u less. tells_chain_from (length l) x u less (omega arith)))
+      (λ u w r x y fst snd. snd u (up fst)) (λ x. stays k x) l (length l) (operand l) (law l short)
+      (λ x u less. tells_chain_from (length l) x u less (omega arith)))
 
 -- a reader and then a node round what it gives
 module _ {A B : Type 0} (R1 : List Tok → A → List Tok → Type 0) (R : List Tok → B → List Tok → Type 0) (node : A → B) (join : (l : List Tok) (x : A) (r : List Tok) → R1 l x r → R l (node x) r) (s : Reader A) where
@@ -65,8 +66,8 @@ module _ {A B : Type 0} (R1 : List Tok → A → List Tok → Type 0) (R : List 
   tells_node l law =
       let IsNode : A → List Tok → B → List Tok → Type 0 = λ x u y r. (y ≡ node x) × (r ≡ u) in
       tells_both R1 IsNode R (λ m. s) (λ x m u. Ok (node x, u))
-        (λ u w r x y fst snd. subst (λ z. R u z r) (sym snd.0) (join u x r (subst (R1 u x) (sym snd.1) fst))) (λ x. record { closing = []; plain = tt; value = node x; closes = λ z. (refl, refl) })
-        l 0 (s l) law (λ x u less. tells_done (IsNode x) (λ m u. Ok (node x, u)) u (node x) (λ y. (refl, refl)) (λ y a m. refl))
+      (λ u w r x y fst snd. subst (λ z. R u z r) (sym snd.0) (join u x r (subst (R1 u x) (sym snd.1) fst))) (λ x. record { closing = []; plain = tt; value = node x; closes = λ z. (refl, refl) })
+      l 0 (s l) law (λ x u less. tells_done (IsNode x) (λ m u. Ok (node x, u)) u (node x) (λ y. (refl, refl)) (λ y a m. refl))
 
 -- marks in front
 module _ (k : Rank) (test : Tok → Bool) (is_one_of : (t : Tok) → test t ≡ true → prefixes k t ≡ true) (n : ℕ) (operand : Reader Tree) (law : Lawful (Phrase (next k)) n operand) where
@@ -81,10 +82,11 @@ module _ (k : Rank) (test : Tok → Bool) (is_one_of : (t : Tok) → test t ≡ 
   pub lawful_prefix : Lawful (Phrase k) n (read.prefix test operand)
   lawful_prefix [] short = prefix_plain [] short refl
   lawful_prefix (t ∷ l) short = elim (told (test t)) [
-      inl is_one ↦ subst (Tells (Phrase k) (λ m. read.prefix test operand) (t ∷ l)) (sym (prefix_turn t l is_one))
+    | inl is_one ↦ subst (Tells (Phrase k) (λ m. read.prefix test operand) (t ∷ l)) (sym (prefix_turn t l is_one))
         (tells_token (λ u y r. Phrase k (t ∷ u) y r) (Phrase k) (λ i u. read.prefix test operand u >>= λ x. Ok (unary t x.0, x.1)) (λ i. read.prefix test operand) t (λ i u. prefix_turn t u is_one) (λ u x r h. h) l _
-          (tells_node (Phrase k) (λ u y r. Phrase k (t ∷ u) y r) (unary t) (λ u x r p. prefixed (is_one_of t is_one) p) (read.prefix test operand) l (lawful_prefix l (omega arith))))
-    | inr none_there ↦ prefix_plain (t ∷ l) short none_there ]
+        (tells_node (Phrase k) (λ u y r. Phrase k (t ∷ u) y r) (unary t) (λ u x r p. prefixed (is_one_of t is_one) p) (read.prefix test operand) l (lawful_prefix l (omega arith))))
+    | inr none_there ↦ prefix_plain (t ∷ l) short none_there
+  ]
 
 -- a comparison
 abbrev Compares : Tree → List Tok → Tree → List Tok → Type 0
@@ -102,10 +104,11 @@ module _ (n : ℕ) (operand : Reader Tree) (law : Lawful (Phrase other) n operan
   tells_compared : (e : Tree) (l : List Tok) → length l < n → Tells (Compares e) (λ m. read.compared operand e) l (read.compared operand e l)
   tells_compared e [] short = compared_plain e [] refl
   tells_compared e (t ∷ l) short = elim (told (binding t == 5)) [
-      inl is_one ↦ subst (Tells (Compares e) (λ m. read.compared operand e) (t ∷ l)) (sym (compared_turn e t l (eqb-true _ _ is_one)))
+    | inl is_one ↦ subst (Tells (Compares e) (λ m. read.compared operand e) (t ∷ l)) (sym (compared_turn e t l (eqb-true _ _ is_one)))
         (tells_token (λ u y r. (v : List Tok) → Phrase other v e (t ∷ u) → Phrase comparison v y r) (Compares e) (λ i u. operand u >>= λ x. Ok (binary t e x.0, x.1)) (λ i. read.compared operand e) t (λ i u. compared_turn e t u (eqb-true _ _ is_one)) (λ u x r h. h) l _
-          (tells_node (Phrase other) (λ u y r. (v : List Tok) → Phrase other v e (t ∷ u) → Phrase comparison v y r) (binary t e) (λ u x r p v q. compared q (eqb-true _ _ is_one) p) operand l (law l (omega arith))))
-    | inr none_there ↦ compared_plain e (t ∷ l) none_there ]
+        (tells_node (Phrase other) (λ u y r. (v : List Tok) → Phrase other v e (t ∷ u) → Phrase comparison v y r) (binary t e) (λ u x r p v q. compared q (eqb-true _ _ is_one) p) operand l (law l (omega arith))))
+    | inr none_there ↦ compared_plain e (t ∷ l) none_there
+  ]
 
   pub lawful_comparison : Lawful (Phrase comparison) n (read.comparison operand)
   unfolding read.comparison
@@ -127,22 +130,23 @@ module _ (k : Rank) (m : Mark) (Tail : Form Node) (tail : Reader Node) (join : (
   tells_postfix_from i e [] fuel short = postfix_done e [] i refl
   tells_postfix_from zero e (t ∷ l) fuel short = absurd (omega arith)
   tells_postfix_from (suc i) e (t ∷ l) fuel short = elim (told (is_sign m t)) [
-      inl is_one ↦
+    | inl is_one ↦
         let node_on : Node → Tree = λ x. tree x t.place (more e none) in
         subst (Tells (Extends k e) (λ i. postfix_from m tail i e) (t ∷ l)) (sym (postfix_turn i e t l is_one))
         (tells_token (λ u y r. (v : List Tok) → Phrase k v e (t ∷ u) → Phrase k v y r) (Extends k e) (λ i u. tail u >>= λ x. postfix_from m tail i (node_on x.0) x.1) (λ i. postfix_from m tail i e) t
-          (λ i u. postfix_turn i e t u is_one) (λ u x r h. h) l _
-          (tells_both Tail (λ x. Extends k (node_on x)) (λ u y r. (v : List Tok) → Phrase k v e (t ∷ u) → Phrase k v y r) (λ i. tail) (λ x i. postfix_from m tail i (node_on x))
-            (λ u w r x y fst snd v p. snd v (join v u w e t.place x (subst (λ z. Phrase k v e (z ∷ u)) (token_is m t is_one) p) fst)) (λ x. stays k (node_on x)) l i (tail l) (tail_law l (omega arith))
-            (λ x u less. tells_postfix_from i (node_on x) u (omega arith) (omega arith))))
-    | inr none_there ↦ postfix_done e (t ∷ l) (suc i) none_there ]
+        (λ i u. postfix_turn i e t u is_one) (λ u x r h. h) l _
+        (tells_both Tail (λ x. Extends k (node_on x)) (λ u y r. (v : List Tok) → Phrase k v e (t ∷ u) → Phrase k v y r) (λ i. tail) (λ x i. postfix_from m tail i (node_on x))
+        (λ u w r x y fst snd v p. snd v (join v u w e t.place x (subst (λ z. Phrase k v e (z ∷ u)) (token_is m t is_one) p) fst)) (λ x. stays k (node_on x)) l i (tail l) (tail_law l (omega arith))
+        (λ x u less. tells_postfix_from i (node_on x) u (omega arith) (omega arith))))
+    | inr none_there ↦ postfix_done e (t ∷ l) (suc i) none_there
+  ]
 
   pub lawful_postfix : Lawful (Phrase k) n (read.postfix m tail operand)
   unfolding read.postfix
   lawful_postfix l short = tells_at_length (Phrase k) (λ i u. operand u >>= λ x. postfix_from m tail i x.0 x.1) l _
       (tells_both (Phrase (next k)) (λ x. Extends k x) (Phrase k) (λ i. operand) (λ x i. postfix_from m tail i x)
-        (λ u w r x y fst snd. snd u (up fst)) (λ x. stays k x) l (length l) (operand l) (law l short)
-        (λ x u less. tells_postfix_from (length l) x u less (omega arith)))
+      (λ u w r x y fst snd. snd u (up fst)) (λ x. stays k x) l (length l) (operand l) (law l short)
+      (λ x u less. tells_postfix_from (length l) x u less (omega arith)))
 
 -- NULL or NOT NULL
 abbrev NullTail : Form Node
@@ -180,7 +184,7 @@ pub lawful_type : (n : ℕ) → Lawful TypeName n type_at
 unfolding type_at
 lawful_type n l short = tells_same TypeForm TypeName (λ m. type_at) (λ m. type_at) l (λ y a m. refl) type_is (type_at l)
     (lawful_then AName (λ w. (Open ▸ AName ⇒ λ v. Close ▸ Says (record { name = w; inner = Some v })) ∣ Says (record { name = w; inner = None })) n name_at (λ w. if_mark Open (inner_at w) (λ u. Ok (record { name = w; inner = None }, u))) (lawful_name n)
-      (λ w. lawful_if Open (AName ⇒ λ v. Close ▸ Says (record { name = w; inner = Some v })) n (inner_at w) (lawful_inner n w) (Says (record { name = w; inner = None })) (λ u. Ok (record { name = w; inner = None }, u)) (lawful_says n (record { name = w; inner = None }))) l short)
+    (λ w. lawful_if Open (AName ⇒ λ v. Close ▸ Says (record { name = w; inner = Some v })) n (inner_at w) (lawful_inner n w) (Says (record { name = w; inner = None })) (λ u. Ok (record { name = w; inner = None }, u)) (lawful_says n (record { name = w; inner = None }))) l short)
 
 abbrev CastTail : Form Node
 CastTail = TypeName ⇒ λ ty. Says (node.Cast ty)
@@ -217,7 +221,7 @@ module _ (n : ℕ) (inside : Reader Tree) (law : Lawful (Phrase disjunction) n i
   unfolding args if_mark
   lawful_args l short = tells_same ArgumentForm ArgumentsAre (λ m. args inside) (λ m. args inside) l (λ y a m. refl) arguments_are (args inside l)
       (lawful_if Close (Says []) n (λ u. Ok ([], u)) (lawful_says n []) (Listed Comma (Phrase disjunction) ⇒ λ ts. Close ▸ Says ts) (λ u. listed Comma inside u >>= λ x. closed Close x.0 x.1)
-        (lawful_then (Listed Comma (Phrase disjunction)) (λ ts. Close ▸ Says ts) n (listed Comma inside) (closed Close) (lawful_listed Comma (Phrase disjunction) n inside law) (λ ts. lawful_closed Close n ts)) l short)
+      (lawful_then (Listed Comma (Phrase disjunction)) (λ ts. Close ▸ Says ts) n (listed Comma inside) (closed Close) (lawful_listed Comma (Phrase disjunction) n inside law) (λ ts. lawful_closed Close n ts)) l short)
 
   -- what stands behind a name and its bracket
   abbrev OpenedIs : Word → List Tok → Tree → List Tok → Type 0
@@ -255,19 +259,22 @@ module _ (n : ℕ) (inside : Reader Tree) (law : Lawful (Phrase disjunction) n i
   still_no w pos [] [] (u ∷ y) none_here left again h = absurd h
   still_no w pos [] (a ∷ r) [] none_here left again h = refl
   still_no w pos [] (a ∷ r) (u ∷ y) none_here left again h = elim (told (is_name a)) [
-      inr no_name ↦ is_not u y (ap is_name (sym h) ∙ no_name)
+    | inr no_name ↦ is_not u y (ap is_name (sym h) ∙ no_name)
     | inl a_name ↦
         let gone : left_of (call_of w (a ∷ sign Close 0 ∷ [])) ≡ [] = simple_left w a (sign Close 0) [] pos a_name refl in
         let kept : left_of (call_of w (a ∷ sign Close 0 ∷ [])) ≡ a ∷ sign Close 0 ∷ [] = again (a ∷ sign Close 0 ∷ []) refl in
-        let never : ◌≡◌ {A = List Tok} [] (a ∷ sign Close 0 ∷ []) = sym gone ∙ kept in cc ]
+        let never : ◌≡◌ {A = List Tok} [] (a ∷ sign Close 0 ∷ []) = sym gone ∙ kept in cc
+  ]
   still_no w pos (a ∷ []) [] [] none_here left again h = refl
   still_no w pos (a ∷ []) [] (u ∷ y) none_here left again h = absurd h
   still_no w pos (a ∷ []) (b ∷ r) [] none_here left again h = absurd h
   still_no w pos (a ∷ []) (b ∷ r) (u ∷ y) none_here left again h = elim (told (is_name a)) [
-      inr no_name ↦ is_not a (u ∷ y) no_name
+    | inr no_name ↦ is_not a (u ∷ y) no_name
     | inl a_name ↦ elim (told (is_sign Close b)) [
-        inr no_close ↦ is_not_close a u y a_name (ap (is_sign Close) (sym h) ∙ no_close)
-      | inl a_close ↦ absurd (longer b r (sym (simple_left w a b r pos a_name a_close) ∙ left)) ] ]
+      | inr no_close ↦ is_not_close a u y a_name (ap (is_sign Close) (sym h) ∙ no_close)
+      | inl a_close ↦ absurd (longer b r (sym (simple_left w a b r pos a_name a_close) ∙ left))
+    ]
+  ]
   still_no w pos (a ∷ b ∷ []) [] [] none_here left again h = refl
   still_no w pos (a ∷ b ∷ []) [] (u ∷ y) none_here left again h = absurd h
   still_no w pos (a ∷ b ∷ []) (c ∷ r) [] none_here left again h = absurd h
@@ -285,22 +292,24 @@ module _ (n : ℕ) (inside : Reader Tree) (law : Lawful (Phrase disjunction) n i
   tells_call : (w : Word) (l : List Tok) → is_literal l ≡ false → length l < n → (b : Answer Tree) → call_of w l ≡ b → Tells (OpenedIs w) (λ i. call_of w) l b → Tells (OpenedIs w) (λ m. opened inside w) l b
   unfolding left_of
   tells_call w l none_here short (Ok x) made s = record {
-      taken = s.taken;
-      parts = s.parts;
-      phrase = s.phrase;
-      again = λ v h m fuel. call_turn w (s.taken ++ v)
+    taken = s.taken;
+    parts = s.parts;
+    phrase = s.phrase;
+    again = λ v h m fuel. call_turn w (s.taken ++ v)
         (still_no w (omega arith) s.taken x.1 v (subst (λ u. is_literal u ≡ false) s.parts none_here) (ap left_of (ap (call_of w) (sym s.parts) ∙ made)) (λ z k. ap left_of (s.again z k (length (s.taken ++ z)) (omega arith))) h)
-        ∙ s.again v h m fuel }
+        ∙ s.again v h m fuel;
+  }
   tells_call w l none_here short (Err r) made s = record {
-      taken = s.taken;
-      parts = s.parts;
-      again = λ v h m fuel. call_turn w (s.taken ++ v)
+    taken = s.taken;
+    parts = s.parts;
+    again = λ v h m fuel. call_turn w (s.taken ++ v)
         (still_no w (omega arith) s.taken r v (subst (λ u. is_literal u ≡ false) s.parts none_here) (ap left_of (ap (call_of w) (sym s.parts) ∙ made)) (λ z k. ap left_of (s.again z k (length (s.taken ++ z)) (omega arith))) h)
         ∙ s.again v h m fuel;
-      closing = s.closing;
-      plain = s.plain;
-      value = s.value;
-      closes = s.closes }
+    closing = s.closing;
+    plain = s.plain;
+    value = s.value;
+    closes = s.closes;
+  }
 
   literal_of : Word → List ℕ → ℕ → List ℕ → ℕ → Tree
   literal_of w v o s z = leaf (node.Literal (record { name = w; inner = Some (word v o) }) s) z
@@ -335,8 +344,9 @@ module _ (n : ℕ) (inside : Reader Tree) (law : Lawful (Phrase disjunction) n i
 
   lawful_opened : (w : Word) → Lawful (OpenedIs w) n (opened inside w)
   lawful_opened w l short = elim (told (is_literal l)) [
-      inl a_literal_one ↦ tells_literal w l a_literal_one
-    | inr none_one ↦ subst (Tells (OpenedIs w) (λ m. opened inside w) l) (sym (call_turn w l none_one)) (tells_call w l none_one short (call_of w l) refl (call_tells w l short)) ]
+    | inl a_literal_one ↦ tells_literal w l a_literal_one
+    | inr none_one ↦ subst (Tells (OpenedIs w) (λ m. opened inside w) l) (sym (call_turn w l none_one)) (tells_call w l none_one short (call_of w l) refl (call_tells w l short))
+  ]
 
   -- what stands behind a name
   abbrev NamedIs : Word → List Tok → Tree → List Tok → Type 0
@@ -368,6 +378,6 @@ module _ (n : ℕ) (inside : Reader Tree) (law : Lawful (Phrase disjunction) n i
   unfolding named_at
   lawful_named w l short = tells_same (NamedForm w) (NamedIs w) (λ m. named_at inside w) (λ m. named_at inside w) l (λ y a m. refl) (named_is w) (named_at inside w l)
       (lawful_either is_string (AString ⇒ λ s. Says (leaf (node.Literal (record { name = w; inner = None }) s.text) s.place)) (Open ▸ OpenedIs w ∣ (Dot ▸ AName ⇒ λ c. Says (leaf (node.Column (Some w) c) w.place)) ∣ Says (leaf (node.Column None w) w.place)) n
-        (literal_at (record { name = w; inner = None })) (if_mark Open (opened inside w) (if_mark Dot (column_at w) (λ u. Ok (leaf (node.Column None w) w.place, u)))) (lawful_literal (record { name = w; inner = None }))
-        (lawful_if Open (OpenedIs w) n (opened inside w) (lawful_opened w) ((Dot ▸ AName ⇒ λ c. Says (leaf (node.Column (Some w) c) w.place)) ∣ Says (leaf (node.Column None w) w.place)) (if_mark Dot (column_at w) (λ u. Ok (leaf (node.Column None w) w.place, u)))
-          (lawful_if Dot (AName ⇒ λ c. Says (leaf (node.Column (Some w) c) w.place)) n (column_at w) (lawful_column w) (Says (leaf (node.Column None w) w.place)) (λ u. Ok (leaf (node.Column None w) w.place, u)) (lawful_says n (leaf (node.Column None w) w.place)))) l short)
+      (literal_at (record { name = w; inner = None })) (if_mark Open (opened inside w) (if_mark Dot (column_at w) (λ u. Ok (leaf (node.Column None w) w.place, u)))) (lawful_literal (record { name = w; inner = None }))
+      (lawful_if Open (OpenedIs w) n (opened inside w) (lawful_opened w) ((Dot ▸ AName ⇒ λ c. Says (leaf (node.Column (Some w) c) w.place)) ∣ Says (leaf (node.Column None w) w.place)) (if_mark Dot (column_at w) (λ u. Ok (leaf (node.Column None w) w.place, u)))
+      (lawful_if Dot (AName ⇒ λ c. Says (leaf (node.Column (Some w) c) w.place)) n (column_at w) (lawful_column w) (Says (leaf (node.Column None w) w.place)) (λ u. Ok (leaf (node.Column None w) w.place, u)) (lawful_says n (leaf (node.Column None w) w.place)))) l short)

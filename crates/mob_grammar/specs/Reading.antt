@@ -142,10 +142,11 @@ mark_primary inner g p l =
 unfoldable pub primary : Reader Tree → Reader Tree
 primary inner [] = Err []
 primary inner (t ∷ l) = elim t.symbol [
-    fixed g ↦ mark_primary inner g t.place l
+  | fixed g ↦ mark_primary inner g t.place l
   | name n ↦ named_at inner (word n t.place) l
   | number n ↦ Ok (leaf (node.Number n) t.place, l)
-  | quoted s ↦ Ok (leaf (node.Str s) t.place, l) ]
+  | quoted s ↦ Ok (leaf (node.Str s) t.place, l)
+]
 
 -- the ranks, over what reads an expression in brackets
 abbrev pub cast_rank : Reader Tree → Reader Tree

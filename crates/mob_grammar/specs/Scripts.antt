@@ -22,12 +22,12 @@ PlusOrMinus l t r = (l ≡ t ∷ r) × (binding t ≡ 8)
 abbrev pub Const : Form Tree
 Const =
     (AString ⇒ λ s. Says (leaf (node.Str s.text) s.place))
-  ∣ (PlusOrMinus ⇒ λ t. ANumber ⇒ λ n. Says (unary t (leaf (node.Number n.text) n.place)))
-  ∣ (ANumber ⇒ λ n. Says (leaf (node.Number n.text) n.place))
-  ∣ (At True ⇒ λ p. Says (leaf node.True p))
-  ∣ (At False ⇒ λ p. Says (leaf node.False p))
-  ∣ (At Null ⇒ λ p. Says (leaf node.Null p))
-  ∣ (TypeName ⇒ λ ty. AString ⇒ λ s. Says (leaf (node.Literal ty s.text) s.place))
+    ∣ (PlusOrMinus ⇒ λ t. ANumber ⇒ λ n. Says (unary t (leaf (node.Number n.text) n.place)))
+    ∣ (ANumber ⇒ λ n. Says (leaf (node.Number n.text) n.place))
+    ∣ (At True ⇒ λ p. Says (leaf node.True p))
+    ∣ (At False ⇒ λ p. Says (leaf node.False p))
+    ∣ (At Null ⇒ λ p. Says (leaf node.Null p))
+    ∣ (TypeName ⇒ λ ty. AString ⇒ λ s. Says (leaf (node.Literal ty s.text) s.place))
 
 -- row = "(" const { "," const } ")"
 abbrev pub Row : Form RowParts
@@ -114,11 +114,11 @@ SelectBody = OnlyDistinct ⇒ λ distinct. Listed Comma SelectItem ⇒ λ items.
 abbrev pub Statement : Form StatementParts
 Statement =
     (Create ▸ (CreateTable ∣ CreateIndex))
-  ∣ Insert ▸ InsertRows
-  ∣ Copy ▸ CopyFile
-  ∣ (Select ▸ SelectBody ⇒ λ s. Says (select s))
-  ∣ (Explain ▸ Select ▸ SelectBody ⇒ λ s. Says (explain s))
-  ∣ Says empty
+    ∣ Insert ▸ InsertRows
+    ∣ Copy ▸ CopyFile
+    ∣ (Select ▸ SelectBody ⇒ λ s. Says (select s))
+    ∣ (Explain ▸ Select ▸ SelectBody ⇒ λ s. Says (explain s))
+    ∣ Says empty
 
 -- script = [statement] { ";" [statement] }, and nothing behind it
 abbrev pub IsScript : List Tok → List StatementParts → Type 0

@@ -1,12 +1,12 @@
 -- What is lifted instant by instant.
-use Rattle.std.specs.Prelude.{◌≡◌, Bool, true, false, cond, Option, Some, None, MatchOption, List, [], ◌∷◌, refl}
-use Rattle.std.proofs.Common.{◌∙◌}
+use Rattle.std.specs.Prelude.{◌≡◌, Bool, true, false, cond, Option, Some, None, MatchOption, option_map, List, [], ◌∷◌, refl}
+use Rattle.std.proofs.Common.{◌∙◌, sym, subst, inl, inr, ⊎_elim}
 use Rattle.mob_ratio.specs.Ratio.{Ratio}
-use Rattle.mob_span.specs.Span.{SpanOf, has}
+use Rattle.mob_span.specs.Span.{SpanOf, has, has_instant}
 use Rattle.mob_slice.specs.Slices.{value_at}
 use Rattle.mob_slice.specs.declared.slice.Slice.{Slice}
-use Rattle.mob_slice.specs.Pieces.{part_at}
-use Rattle.mob_lift.specs.Lifted.{IsLifted, wanted_at}
+use Rattle.mob_slice.specs.Pieces.{part_at, IsIn, PartsClear}
+use Rattle.mob_lift.specs.Lifted.{IsLifted, FirstFault, wanted_at}
 
 part_has_by : {P : Type 0} (span : P → SpanOf) (p : P) (parts : List P) (t : Ratio) (b : Bool) → has (span p) t ≡ b → MatchOption (part_at span parts t) (Unit {0}) (λ q. has (span q) t ≡ true) → MatchOption (cond b (Some p) (part_at span parts t)) (Unit {0}) (λ q. has (span q) t ≡ true)
 part_has_by span p parts t true h k = h
@@ -28,3 +28,29 @@ lifted_at {value} {span} {items} {gives} {parts} {slices} h wanted f t = by_part
 -- one slice that was given
 pub one_given : {D B : Type 0} (value : D → Ratio → Ratio → Ratio → B) (s : Slice D) (slices : List (Slice D)) (t : Ratio) → has s.span t ≡ true → slices ≡ s ∷ [] → value_at value slices t ≡ Some (value s.course s.span.lower s.span.upper t)
 one_given value s slices t h e = rw (e, h) refl
+
+wanted_map : {P B : Type 0} (f : P → B) (found : Option P) → wanted_at (λ p. Some (f p)) found ≡ option_map f found
+wanted_map f None = refl
+wanted_map f (Some p) = refl
+
+-- the same, where a value is wanted at each instant of each part
+pub mapped_at : {P D B V : Type 0} {value : D → Ratio → Ratio → Ratio → B} {start end : D → B} {span : P → SpanOf} {items : V → List (Slice D)} {gives : P → V → Type 0} {parts : List P} {slices : List (Slice D)} → IsLifted value start end span items gives parts slices → (wanted : P → Ratio → B) → ((p : P) (v : V) (t : Ratio) → has (span p) t ≡ true → gives p v → value_at value (items v) t ≡ Some (wanted p t)) → (t : Ratio) → value_at value slices t ≡ option_map (λ p. wanted p t) (part_at span parts t)
+mapped_at {span} {parts} h wanted f t = lifted_at h (λ p t. Some (wanted p t)) f t ∙ wanted_map (λ p. wanted p t) (part_at span parts t)
+
+each_by : {P V : Type 0} (gives : P → V → Type 0) (Q : P → Type 0) (R : V → Type 0) (none : Type 0) (found : Option P) → ((p : P) (v : V) → gives p v → Q p) → MatchOption found none (λ p. (v : V) × gives p v × R v) → MatchOption found (Unit {0}) Q
+each_by gives Q R none None f h = tt
+each_by gives Q R none (Some p) f h = f p h.0 h.1
+
+-- what holds of each part that was given something, holds of the part at an instant
+pub each_at : {P D B V : Type 0} {value : D → Ratio → Ratio → Ratio → B} {start end : D → B} {span : P → SpanOf} {items : V → List (Slice D)} {gives : P → V → Type 0} {parts : List P} {slices : List (Slice D)} → IsLifted value start end span items gives parts slices → (Q : P → Type 0) → ((p : P) (v : V) → gives p v → Q p) → (t : Ratio) → MatchOption (part_at span parts t) (Unit {0}) Q
+each_at {value} {span} {items} {gives} {parts} {slices} h Q f t = each_by gives Q (λ v. value_at value slices t ≡ value_at value (items v) t) (value_at value slices t ≡ None) (part_at span parts t) f (h.at_each t)
+
+-- what follows from the part on which the closure failed, follows
+pub on_fault : {P V : Type 0} {R : Type 0} (gives : P → V → Type 0) (fails : P → Type 0) (parts : List P) → FirstFault gives fails parts → ((p : P) → IsIn p parts → fails p → R) → R
+on_fault gives fails [] h f = absurd h
+on_fault gives fails (q ∷ parts) h f = ⊎_elim (λ k. f q (inl refl) k) (λ k. on_fault gives fails parts k.2 (λ p i l. f p (inr i) l)) h
+
+-- a part of a list of parts that are clear has an instant
+pub part_some : {P : Type 0} (span : P → SpanOf) (parts : List P) (p : P) → PartsClear span parts → IsIn p parts → has_instant (span p) ≡ true
+part_some span [] p h i = absurd i
+part_some span (q ∷ parts) p h i = ⊎_elim (λ e. subst (λ z. has_instant (span z) ≡ true) (sym e) h.0) (λ k. part_some span parts p h.2 k) i

@@ -3,4 +3,4 @@
 
 pub mod lifting;
 
-pub use lifting::lift;
+pub use lifting::{lift, single};

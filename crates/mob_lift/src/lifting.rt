@@ -1,4 +1,4 @@
-ghost use Rattle.std.specs.Prelude.{◌≡◌, true, List, Ok, Err, IfOk, OnOk, ◌++◌};
+ghost use Rattle.std.specs.Prelude.{◌≡◌, true, List, [], ◌∷◌, Ok, Err, IfOk, OnOk, MatchResult, ◌++◌};
 ghost use Rattle.std.specs.Fn.{FnReturnsAt};
 ghost use Rattle.std.specs.Iterator.{IsFinite, HoldsAlong, Drains, Yields};
 ghost use Rattle.mob_span.specs.Span.{has_instant};
@@ -7,8 +7,27 @@ ghost use Rattle.mob_slice.specs.Pieces.{Each, PartsClear, AreInside};
 ghost use Rattle.mob_slice.specs.declared.formula.Formula.{Formula};
 ghost use Rattle.mob_lift.specs.Lifted.{IsLifted, FirstFault};
 
-use mob_slice::{Course, OpFault, Part, Slice};
+use mob_slice::{Course, OpFault, Part, Slice, Steady};
+use mob_span::Span;
 use std::alloc::{AllocError, Global};
+
+/// One slice, with that value at each instant of the span.
+pub fn single<V: Drop>(
+    alloc: Global,
+    span: Span,
+    value: V,
+) -> Result<Vec<Slice<Steady<V>>>, OpFault>
+    ensures one { MatchResult result (λ v. v.items ≡ record { span = span; course = record { value = value } } ∷ []) (λ e. e ≡ OpFault.NoMemory) }
+{
+    let mut slices = Vec::new(alloc);
+    match slices.push(Slice {
+        span,
+        course: Steady { value },
+    }) {
+        Ok(()) => Ok(slices),
+        Err(_) => Err(OpFault::NoMemory),
+    }
+}
 
 // Adds a list at the end.
 fn append<T: Drop>(out: &mut Vec<T>, more: Vec<T>) -> Result<(), AllocError>
@@ -63,4 +82,21 @@ pub fn lift<
         }
     }
     Ok(out)
+}
+
+#[cfg(test)]
+mod tests {
+    use super::*;
+    use mob_frac::Frac;
+    use std::test::Fail;
+
+    #[test]
+    fn one_slice_has_its_value(rt: HostRuntime) -> Result<(), Fail> {
+        let zero = Frac::new(0, 1).ok().ok_or("fits")?;
+        let span = Span::new(zero, zero, true, true).ok_or("has an instant")?;
+        let slices = single(rt.alloc(), span, true).ok().ok_or("ample memory")?;
+        assert!(rt; slices.iter().all(|slice| slice.course.value));
+        assert_eq!(rt; slices.len(), 1);
+        Ok(())
+    }
 }

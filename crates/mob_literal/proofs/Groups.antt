@@ -85,10 +85,10 @@ pub groups-run : {B : Type 0} (style : Style B) (s : Slice (Steady B)) (rest : L
 groups-run {B} style s rest =
     let g = grouped style s rest in
     ap (λ (gs : List (List (Slice (Steady B)))). listed (map (group_text style) gs)) g.is
-      ∙ listed-cons style (group_text style (s ∷ g.group)) g.groups
-      ∙ ap (λ (x : Text). x ++ behind style g.groups) (group-inside style (s ∷ g.group))
-      ∙ append_assoc (opening (s ∷ g.group)) (inside style (s ∷ g.group)) (behind style g.groups)
-      ∙ ap (λ (x : Text). opening (s ∷ []) ++ x) g.text
+    ∙ listed-cons style (group_text style (s ∷ g.group)) g.groups
+    ∙ ap (λ (x : Text). x ++ behind style g.groups) (group-inside style (s ∷ g.group))
+    ∙ append_assoc (opening (s ∷ g.group)) (inside style (s ∷ g.group)) (behind style g.groups)
+    ∙ ap (λ (x : Text). opening (s ∷ []) ++ x) g.text
 
 -- slices that all go on are one group, and no others are
 record IsCounted {B : Type 0} (s : Slice (Steady B)) (rest : List (Slice (Steady B))) : Type 0 where

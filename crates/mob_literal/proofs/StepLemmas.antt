@@ -55,8 +55,8 @@ rise_first {B} j [] k up h = elim (which_in j [] k h) [
 rise_first {B} j (i ∷ is) k up h = elim (which_in j (i ∷ is) k h) [
   | inl e ↦ subst (λ (x : Written B). upto j.instant x.instant ≡ true) e (upto_self j.instant)
   | inr n ↦
-    let r = both (before j.instant i.instant) (rises (i ∷ is)) up in
-    upto_trans j.instant i.instant k.instant (reaches_upto false j.instant i.instant (before_reaches false j.instant i.instant r.0)) (rise_first i is k r.1 n)
+      let r = both (before j.instant i.instant) (rises (i ∷ is)) up in
+      upto_trans j.instant i.instant k.instant (reaches_upto false j.instant i.instant (before_reaches false j.instant i.instant r.0)) (rise_first i is k r.1 n)
 ]
 
 -- the value of one slice before others
@@ -97,8 +97,8 @@ first_stretch {B} lower upper i j is t v up a b e = record {
     last = λ k h n. elim (which_in i (j ∷ is) k h) [
       | inl same ↦ subst (λ (x : Written B). upto x.instant i.instant ≡ true) same (upto_self i.instant)
       | inr later ↦
-        let r = both (before i.instant j.instant) (rises (j ∷ is)) up in
-        absurd (never_both t j.instant b (upto_trans j.instant k.instant t (rise_first j is k r.1 later) n))
+          let r = both (before i.instant j.instant) (rises (j ∷ is)) up in
+          absurd (never_both t j.instant b (upto_trans j.instant k.instant t (rise_first j is k r.1 later) n))
     ];
   };
   value = e;
@@ -122,8 +122,8 @@ later_stretch {B} lower upper i j is t v up s =
         not_later = s.last.not_later;
         last = λ k h n. elim (which_in i (j ∷ is) k h) [
           | inl same ↦
-            let at_i : upto i.instant s.by.instant ≡ true = reaches_upto false i.instant s.by.instant (before_reaches false i.instant s.by.instant (before_upto i.instant j.instant s.by.instant r.0 (rise_first j is s.by r.1 s.last.listed))) in
-            subst (λ (x : Written B). upto x.instant s.by.instant ≡ true) same at_i
+              let at_i : upto i.instant s.by.instant ≡ true = reaches_upto false i.instant s.by.instant (before_reaches false i.instant s.by.instant (before_upto i.instant j.instant s.by.instant r.0 (rise_first j is s.by r.1 s.last.listed))) in
+              subst (λ (x : Written B). upto x.instant s.by.instant ≡ true) same at_i
           | inr later ↦ s.last.last k later n
         ];
       };
@@ -142,8 +142,8 @@ slices_step lower (i ∷ []) true t v up h = elim (looked (has (point lower i).s
 slices_step lower (i ∷ []) false t v up h = absurd cc
 slices_step lower (i ∷ j ∷ is) upper t v up h = elim (looked (has (stretch lower i j).span t) i.value (value_at step_value (slices_of true (j ∷ is) upper) t) v h) [
   | inl s ↦
-    let b = both (reaches lower i.instant t) (before t j.instant || (false && upto t j.instant)) s.0 in
-    first_stretch lower upper i j is t v up b.0 (only (before t j.instant) b.1) s.1
+      let b = both (reaches lower i.instant t) (before t j.instant || (false && upto t j.instant)) s.0 in
+      first_stretch lower upper i j is t v up b.0 (only (before t j.instant) b.1) s.1
   | inr n ↦ later_stretch lower upper i j is t v up (slices_step true (j ∷ is) upper t v (both (before i.instant j.instant) (rises (j ∷ is)) up).1 n.1)
 ]
   where
@@ -153,11 +153,12 @@ slices_step lower (i ∷ j ∷ is) upper t v up h = elim (looked (has (stretch l
 
 -- an instant at which a sequence of one instant has a value
 only_one : {B : Type 0} (lower upper : Bool) (i : Written B) (t : Ratio) (v : B) → StepAt lower (i ∷ []) upper t v → (reaches lower i.instant t ≡ true) × (reaches upper t i.instant ≡ true) × (upto i.instant t ≡ true) × (i.value ≡ v)
-only_one {B} lower upper i t v s =
-    (is_it (λ (x : Written B). reaches lower x.instant t ≡ true) s.within.begun.0 s.within.begun.1 s.within.begun.2,
-     is_it (λ (x : Written B). reaches upper t x.instant ≡ true) s.within.not_ended.0 s.within.not_ended.1 s.within.not_ended.2,
-     is_it (λ (x : Written B). upto x.instant t ≡ true) s.by s.last.listed s.last.not_later,
-     is_it (λ (x : Written B). x.value ≡ v) s.by s.last.listed s.value)
+only_one {B} lower upper i t v s = (
+  is_it (λ (x : Written B). reaches lower x.instant t ≡ true) s.within.begun.0 s.within.begun.1 s.within.begun.2,
+  is_it (λ (x : Written B). reaches upper t x.instant ≡ true) s.within.not_ended.0 s.within.not_ended.1 s.within.not_ended.2,
+  is_it (λ (x : Written B). upto x.instant t ≡ true) s.by s.last.listed s.last.not_later,
+  is_it (λ (x : Written B). x.value ≡ v) s.by s.last.listed s.value,
+)
   where
     is_it : (P : Written B → Type 0) (x : Written B) → Contains (i ∷ []) x → P x → P i
     is_it P x h p = elim (which_in i [] x h) [
@@ -184,8 +185,8 @@ later_step {B} lower upper i j is t v up s here =
         begun = (s.by, here, upto_reaches s.by.instant t s.last.not_later);
         not_ended = elim (which_in i (j ∷ is) end.0 end.1) [
           | inl same ↦
-            let back : upto t i.instant ≡ true = reaches_upto upper t i.instant (subst (λ (x : Written B). reaches upper t x.instant ≡ true) (sym same) end.2) in
-            absurd (never_both i.instant j.instant r.0 (upto_trans j.instant t i.instant from_j back))
+              let back : upto t i.instant ≡ true = reaches_upto upper t i.instant (subst (λ (x : Written B). reaches upper t x.instant ≡ true) (sym same) end.2) in
+              absurd (never_both i.instant j.instant r.0 (upto_trans j.instant t i.instant from_j back))
           | inr later ↦ (end.0, later, end.2)
         ];
       };
@@ -232,10 +233,10 @@ step_slices lower (i ∷ []) false t v up s =
 step_slices {B} lower (i ∷ j ∷ is) upper t v up s =
     elim (which_in i (j ∷ is) s.by s.last.listed) [
       | inl same ↦
-        let ends = first_ends lower upper i j is t v up s same in
-        rw (has_stretch lower i j t (first_begins lower upper i j is t v up s ends) ends) (ap (λ (x : B). Some x) (ap (λ (x : Written B). x.value) same ∙ s.value))
+          let ends = first_ends lower upper i j is t v up s same in
+          rw (has_stretch lower i j t (first_begins lower upper i j is t v up s ends) ends) (ap (λ (x : B). Some x) (ap (λ (x : Written B). x.value) same ∙ s.value))
       | inr here ↦
-        let r = both (before i.instant j.instant) (rises (j ∷ is)) up in
-        let from_j : upto j.instant t ≡ true = upto_trans j.instant s.by.instant t (rise_first j is s.by r.1 here) s.last.not_later in
-        rw (not_stretch lower i j t from_j) (step_slices true (j ∷ is) upper t v r.1 (later_step lower upper i j is t v up s here))
+          let r = both (before i.instant j.instant) (rises (j ∷ is)) up in
+          let from_j : upto j.instant t ≡ true = upto_trans j.instant s.by.instant t (rise_first j is s.by r.1 here) s.last.not_later in
+          rw (not_stretch lower i j t from_j) (step_slices true (j ∷ is) upper t v r.1 (later_step lower upper i j is t v up s here))
     ]

@@ -1,13 +1,13 @@
 //! Literals of temporal values: what their texts mean, and how the values print.
 #![tactic(auto)]
 
+pub mod laws;
 pub mod literal;
 pub mod printing;
 pub mod reading;
-pub mod sequence;
-pub mod steps;
+mod sequence;
+mod steps;
 pub mod temporal;
-pub mod written;
-
 #[cfg(test)]
 mod tests;
+pub mod written;

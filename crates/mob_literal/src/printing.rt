@@ -5,8 +5,8 @@ ghost use Rattle.mob_literal.specs.Printed.{Style, instant_text, is_long as long
 ghost use Rattle.mob_literal.specs.Runs.{end_part, between as gap, run_text, is_one_group, more_starts};
 ghost use Rattle.mob_literal.specs.Style.{style_of};
 
-use mob_scalar::{Epoch, write_moment, write_number};
 use mob_frac::Frac;
+use mob_scalar::{Epoch, write_moment, write_number};
 use mob_slice::{BaseValue, Course, Moving, Slice, Steady};
 use std::alloc::{AllocError, Global};
 
@@ -29,7 +29,12 @@ impl Printed for Frac {
     }
 }
 
-fn write_instant<B: Printed>(value: &B, instant: &Frac, epoch: &Epoch, into: &mut String) -> Result<(), AllocError>
+fn write_instant<B: Printed>(
+    value: &B,
+    instant: &Frac,
+    epoch: &Epoch,
+    into: &mut String,
+) -> Result<(), AllocError>
     ensures { OnOk result (string_bytes into.new ≡ string_bytes into.old ++ instant_text (style_of B.text epoch.now) value.now instant.now) }
 {
     value.write(into)?;
@@ -49,16 +54,25 @@ fn is_long<B: BaseValue + Drop>(slice: &Slice<Steady<B>>) -> bool
 fn goes_on<B: BaseValue + Drop>(slice: &Slice<Steady<B>>, next: &Slice<Steady<B>>) -> bool
     ensures { result ≡ continued slice.now next.now }
 {
-    slice.span.upper().is_same(next.span.lower()) && next.span.lower_inc() && !slice.span.upper_inc()
+    slice.span.upper().is_same(next.span.lower())
+        && next.span.lower_inc()
+        && !slice.span.upper_inc()
 }
 
-fn write_start<B: BaseValue + Printed + Drop>(slice: &Slice<Steady<B>>, epoch: &Epoch, into: &mut String) -> Result<(), AllocError>
+fn write_start<B: BaseValue + Printed + Drop>(
+    slice: &Slice<Steady<B>>,
+    epoch: &Epoch,
+    into: &mut String,
+) -> Result<(), AllocError>
     ensures { OnOk result (string_bytes into.new ≡ string_bytes into.old ++ start_text (style_of B.text epoch.now) slice.now) }
 {
     write_instant(slice.course.start(), slice.span.lower(), epoch, into)
 }
 
-fn write_opening<B: BaseValue + Drop>(slice: &Slice<Steady<B>>, into: &mut String) -> Result<(), AllocError>
+fn write_opening<B: BaseValue + Drop>(
+    slice: &Slice<Steady<B>>,
+    into: &mut String,
+) -> Result<(), AllocError>
     ensures { OnOk result (string_bytes into.new ≡ string_bytes into.old ++ opening (slice.now ∷ [])) }
 {
     if slice.span.lower_inc() {
@@ -68,7 +82,10 @@ fn write_opening<B: BaseValue + Drop>(slice: &Slice<Steady<B>>, into: &mut Strin
     }
 }
 
-fn write_closing<B: BaseValue + Drop>(slice: &Slice<Steady<B>>, into: &mut String) -> Result<(), AllocError>
+fn write_closing<B: BaseValue + Drop>(
+    slice: &Slice<Steady<B>>,
+    into: &mut String,
+) -> Result<(), AllocError>
     ensures { OnOk result (string_bytes into.new ≡ string_bytes into.old ++ closing (slice.now ∷ [])) }
 {
     if slice.span.upper_inc() {
@@ -78,7 +95,11 @@ fn write_closing<B: BaseValue + Drop>(slice: &Slice<Steady<B>>, into: &mut Strin
     }
 }
 
-fn write_end<B: BaseValue + Printed + Drop>(slice: &Slice<Steady<B>>, epoch: &Epoch, into: &mut String) -> Result<(), AllocError>
+fn write_end<B: BaseValue + Printed + Drop>(
+    slice: &Slice<Steady<B>>,
+    epoch: &Epoch,
+    into: &mut String,
+) -> Result<(), AllocError>
     ensures { OnOk result (string_bytes into.new ≡ string_bytes into.old ++ end_part (style_of B.text epoch.now) slice.now) }
 {
     if is_long(slice) {
@@ -88,7 +109,12 @@ fn write_end<B: BaseValue + Printed + Drop>(slice: &Slice<Steady<B>>, epoch: &Ep
     write_closing(slice, into)
 }
 
-fn write_between<B: BaseValue + Printed + Drop>(slice: &Slice<Steady<B>>, next: &Slice<Steady<B>>, epoch: &Epoch, into: &mut String) -> Result<(), AllocError>
+fn write_between<B: BaseValue + Printed + Drop>(
+    slice: &Slice<Steady<B>>,
+    next: &Slice<Steady<B>>,
+    epoch: &Epoch,
+    into: &mut String,
+) -> Result<(), AllocError>
     ensures { OnOk result (string_bytes into.new ≡ string_bytes into.old ++ gap (style_of B.text epoch.now) slice.now next.now) }
 {
     if goes_on(slice, next) {
@@ -100,7 +126,11 @@ fn write_between<B: BaseValue + Printed + Drop>(slice: &Slice<Steady<B>>, next: 
 }
 
 /// The groups, with a comma between each two.
-fn write_groups<B: BaseValue + Printed + Drop>(slices: &[Slice<Steady<B>>], epoch: &Epoch, into: &mut String) -> Result<(), AllocError>
+fn write_groups<B: BaseValue + Printed + Drop>(
+    slices: &[Slice<Steady<B>>],
+    epoch: &Epoch,
+    into: &mut String,
+) -> Result<(), AllocError>
     ensures { OnOk result (string_bytes into.new ≡ string_bytes into.old ++ listed (map (group_text (style_of B.text epoch.now)) (groups_of slices.now))) }
 {
     let [first, rest @ ..] = slices else {
@@ -118,7 +148,11 @@ fn write_groups<B: BaseValue + Printed + Drop>(slices: &[Slice<Steady<B>>], epoc
 }
 
 /// The instants at which the slices start, with a comma between each two.
-fn write_starts<B: BaseValue + Printed + Drop>(slices: &[Slice<Steady<B>>], epoch: &Epoch, into: &mut String) -> Result<(), AllocError>
+fn write_starts<B: BaseValue + Printed + Drop>(
+    slices: &[Slice<Steady<B>>],
+    epoch: &Epoch,
+    into: &mut String,
+) -> Result<(), AllocError>
     ensures { OnOk result (string_bytes into.new ≡ string_bytes into.old ++ listed (map (start_text (style_of B.text epoch.now)) slices.now)) }
 {
     let [first, rest @ ..] = slices else {
@@ -157,7 +191,11 @@ fn is_group<B: BaseValue + Drop>(slices: &[Slice<Steady<B>>]) -> bool
 }
 
 /// A set of instants, or one instant alone.
-fn write_set<B: BaseValue + Printed + Drop>(slices: &[Slice<Steady<B>>], epoch: &Epoch, into: &mut String) -> Result<(), AllocError>
+fn write_set<B: BaseValue + Printed + Drop>(
+    slices: &[Slice<Steady<B>>],
+    epoch: &Epoch,
+    into: &mut String,
+) -> Result<(), AllocError>
     ensures { OnOk result (string_bytes into.new ≡ string_bytes into.old ++ set_text (style_of B.text epoch.now) slices.now) }
 {
     match slices {
@@ -171,7 +209,11 @@ fn write_set<B: BaseValue + Printed + Drop>(slices: &[Slice<Steady<B>>], epoch: 
 }
 
 /// One group alone, or groups in braces.
-fn write_sequences<B: BaseValue + Printed + Drop>(slices: &[Slice<Steady<B>>], epoch: &Epoch, into: &mut String) -> Result<(), AllocError>
+fn write_sequences<B: BaseValue + Printed + Drop>(
+    slices: &[Slice<Steady<B>>],
+    epoch: &Epoch,
+    into: &mut String,
+) -> Result<(), AllocError>
     ensures { OnOk result (string_bytes into.new ≡ string_bytes into.old ++ groups_text (style_of B.text epoch.now) (groups_of slices.now)) }
 {
     if is_group(slices) {
@@ -182,7 +224,11 @@ fn write_sequences<B: BaseValue + Printed + Drop>(slices: &[Slice<Steady<B>>], e
     into.push_str("}")
 }
 
-fn write_slices<B: BaseValue + Printed + Drop>(slices: &[Slice<Steady<B>>], epoch: &Epoch, into: &mut String) -> Result<(), AllocError>
+fn write_slices<B: BaseValue + Printed + Drop>(
+    slices: &[Slice<Steady<B>>],
+    epoch: &Epoch,
+    into: &mut String,
+) -> Result<(), AllocError>
     ensures { OnOk result (string_bytes into.new ≡ string_bytes into.old ++ steps_text (style_of B.text epoch.now) slices.now) }
 {
     if is_set(slices) {
@@ -193,7 +239,11 @@ fn write_slices<B: BaseValue + Printed + Drop>(slices: &[Slice<Steady<B>>], epoc
 }
 
 /// Appends the printed text of a step value. Where memory is refused `into` stays as it was.
-pub fn write_steps<B: BaseValue + Printed + Drop>(value: &Moving<Steady<B>>, epoch: &Epoch, into: &mut String) -> Result<(), AllocError>
+pub fn write_steps<B: BaseValue + Printed + Drop>(
+    value: &Moving<Steady<B>>,
+    epoch: &Epoch,
+    into: &mut String,
+) -> Result<(), AllocError>
     ensures written { OnOk result (string_bytes into.new ≡ string_bytes into.old ++ steps_text (style_of B.text epoch.now) value.now) }
     ensures unchanged { OnErr result (string_bytes into.new ≡ string_bytes into.old) }
 {

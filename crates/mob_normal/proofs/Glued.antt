@@ -1,17 +1,17 @@
 -- Courses that agree are parts of one course.
-use Rattle.std.specs.Prelude.{◌≡◌, Bool, true, false, not, ◌&&◌, ◌||◌, ◌↔◌, List, refl}
+use Rattle.std.specs.Prelude.{◌≡◌, Bool, true, false, List, refl}
 use Rattle.std.proofs.Common.{arith, ap, sym, ◌∙◌, subst}
 use Rattle.mob_ratio.specs.Ratio.{Ratio}
 use Rattle.mob_ratio.specs.Order.{before, upto}
-use Rattle.mob_ratio.proofs.Order.{before-self, before-back, before-trans, before-neither}
-use Rattle.mob_span.specs.Span.{SpanOf, has, has_instant}
+use Rattle.mob_ratio.proofs.Order.{before-trans, before-neither}
+use Rattle.mob_span.specs.Span.{has}
 use Rattle.mob_span.specs.Neighbours.{Meets}
-use Rattle.mob_slice.specs.Course.{IsCourse, IsPart, IsWhole}
+use Rattle.mob_slice.specs.Course.{IsCourse}
 use Rattle.mob_slice.specs.Slices.{IsSound}
 use Rattle.mob_slice.specs.declared.slice.Slice.{Slice}
 use Rattle.mob_normal.proofs.Wholes.{agree}
 use Rattle.mob_span.proofs.SpanLemmas.{joined_long, some_upto}
-use Rattle.mob_normal.proofs.Instants.{is_from_to, least, most, two_between, inner_has, short_has, self_upto}
+use Rattle.mob_normal.proofs.Instants.{is_from_to, least, most, two_between, inner_has, short_has}
 
 -- a course on an extent has the values of another on its own
 abbrev pub HasPart : {C B : Type 0} → (C → Ratio → Ratio → Ratio → B) → C → Ratio → Ratio → C → Ratio → Ratio → Type 0

@@ -1,14 +1,13 @@
-use Rattle.std.specs.Prelude.{◌≡◌, ◌≢◌, Bool, true, false, cond, ◌||◌, ◌&&◌, not, Option, Some, None, List, [], ◌∷◌, refl}
+use Rattle.std.specs.Prelude.{◌≡◌, ◌≢◌, Bool, true, false, cond, ◌||◌, ◌&&◌, Some, None, List, [], ◌∷◌, refl}
 use Rattle.std.proofs.Common.{arith, ap, sym, ◌∙◌, subst}
-use Rattle.std.proofs.lemmas.Bool.Decides.{nat_tests}
 use Rattle.std.proofs.Common.{true≢false}
 use Rattle.mob_ratio.specs.Ratio.{Ratio}
 use Rattle.mob_ratio.specs.Order.{before, upto}
-use Rattle.mob_ratio.proofs.Order.{before-self, before-back, before-trans, before-neither, false_unless}
+use Rattle.mob_ratio.proofs.Order.{before-neither, false_unless}
 use Rattle.mob_span.specs.Span.{SpanOf, has, has_instant}
-use Rattle.mob_span.specs.Neighbours.{Meets, joined, without_upper, with_lower, is_clear}
+use Rattle.mob_span.specs.Neighbours.{Meets, joined, without_upper, with_lower}
 use Rattle.mob_slice.specs.Course.{IsCourse, IsWhole}
-use Rattle.mob_slice.specs.Slices.{value_at, OfHead, Chained, Clear, IsSound, IsNormalPair, AreNormal}
+use Rattle.mob_slice.specs.Slices.{value_at, Clear, IsSound}
 use Rattle.mob_normal.specs.Joined.{IsJoin}
 use Rattle.mob_slice.specs.declared.slice.Slice.{Slice}
 use Rattle.mob_normal.proofs.Wholes.{left_part, right_part, front_part}

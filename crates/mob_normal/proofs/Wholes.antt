@@ -1,10 +1,10 @@
 -- What follows from the laws of a course.
-use Rattle.std.specs.Prelude.{◌≡◌, Bool, true, false, not, ◌&&◌, ◌||◌, ◌↔◌, refl, List}
-use Rattle.std.proofs.Common.{arith, ap, sym, ◌∙◌, subst, true≢false}
+use Rattle.std.specs.Prelude.{◌≡◌, Bool, true, false, refl, List}
+use Rattle.std.proofs.Common.{arith, ap, sym, ◌∙◌, subst}
 use Rattle.mob_ratio.specs.Ratio.{Ratio}
 use Rattle.mob_ratio.specs.Order.{before, upto}
-use Rattle.mob_ratio.proofs.Order.{before-self, before-back, before-trans, before-neither}
-use Rattle.mob_slice.specs.Course.{IsCourse, IsPart, IsWhole}
+use Rattle.mob_ratio.proofs.Order.{before-trans, before-neither}
+use Rattle.mob_slice.specs.Course.{IsCourse, IsWhole}
 
 long_by : (l m u : Ratio) → before l m ≡ true → upto m u ≡ true → before l u ≡ true
 long_by l m u h k = grind (arith, h, k, before-trans l m u, before-neither m u)

@@ -50,8 +50,8 @@ date_said c h =
         said = then_said (padded 4 c.year) (codes "-" ++ (padded 2 c.month ++ (codes "-" ++ padded 2 c.day))) c.year (c.month, c.day)
             (fixed_said 4 c.year (omega arith) (omega arith) (omega (arith, d.to)))
             (regrouped c (then_said (codes "-" ++ padded 2 c.month) (codes "-" ++ padded 2 c.day) c.month c.day
-                (behind_said (codes "-") (padded 2 c.month) c.month (fixed_said 2 c.month (omega arith) (omega arith) (omega (arith, d.month.1))))
-                (behind_said (codes "-") (padded 2 c.day) c.day (fixed_said 2 c.day (omega arith) (omega arith) (day_small c h)))));
+            (behind_said (codes "-") (padded 2 c.month) c.month (fixed_said 2 c.month (omega arith) (omega arith) (omega (arith, d.month.1))))
+            (behind_said (codes "-") (padded 2 c.day) c.day (fixed_said 2 c.day (omega arith) (omega arith) (day_small c h)))));
         is = refl;
       };
       holds = h;
@@ -126,10 +126,10 @@ quotient_said numerator denominator below fits = record {
     said = record {
       said = behind_said (codes "(") (decimal numerator ++ (codes "/" ++ (decimal denominator ++ codes ")"))) (size_of numerator, (size_of denominator, tt))
           (then_said (decimal numerator) (codes "/" ++ (decimal denominator ++ codes ")")) (size_of numerator) (size_of denominator, tt)
-              (digits_said numerator (omega (arith, below, fits)))
-              (then_said (codes "/" ++ decimal denominator) (codes ")") (size_of denominator) tt
-                  (behind_said (codes "/") (decimal denominator) (size_of denominator) (digits_said denominator fits))
-                  refl));
+          (digits_said numerator (omega (arith, below, fits)))
+          (then_said (codes "/" ++ decimal denominator) (codes ")") (size_of denominator) tt
+          (behind_said (codes "/") (decimal denominator) (size_of denominator) (digits_said denominator fits))
+          refl));
       holds = is_below_one (length (decimal numerator)) numerator denominator (size_of denominator) (nonempty numerator (omega (arith, below, fits))) below;
     };
     is = refl;
@@ -165,11 +165,11 @@ clock_said s text o lt said = record {
   meant = (hour, (minute, Some (second, o)));
   said = subst (λ (t : Text). (up_to 24 ▷ (behind (codes ":") (up_to 60) ▷ Maybe (behind (codes ":") (up_to 60 ▷ Maybe part)))) t (hour, (minute, Some (second, o)))) (sym regrouped)
       (then_said (padded 2 hour) (codes ":" ++ (padded 2 minute ++ (codes ":" ++ (padded 2 second ++ text)))) hour (minute, Some (second, o))
-          (up_to_said 24 hour (omega (arith, lt)) (omega arith))
-          (then_said (codes ":" ++ padded 2 minute) (codes ":" ++ (padded 2 second ++ text)) minute (Some (second, o))
-              (behind_said (codes ":") (padded 2 minute) minute (up_to_said 60 minute (omega arith) (omega arith)))
-              (behind_said (codes ":") (padded 2 second ++ text) (second, o)
-                  (then_said (padded 2 second) text second o (up_to_said 60 second (omega arith) (omega arith)) said))));
+      (up_to_said 24 hour (omega (arith, lt)) (omega arith))
+      (then_said (codes ":" ++ padded 2 minute) (codes ":" ++ (padded 2 second ++ text)) minute (Some (second, o))
+      (behind_said (codes ":") (padded 2 minute) minute (up_to_said 60 minute (omega arith) (omega arith)))
+      (behind_said (codes ":") (padded 2 second ++ text) (second, o)
+      (then_said (padded 2 second) text second o (up_to_said 60 second (omega arith) (omega arith)) said))));
   is = ap (λ (n : ℕ). record { seconds = n; part = part_of o }) parts;
 }
   where
@@ -194,15 +194,15 @@ zone_said = inr (record {
   meant = (43, (0, None));
   said = then_said (codes "+") (codes "00") 43 (0, None) (refl, refl)
       (then_said (codes "00") [] 0 None
-          (record {
-            said = record {
-              meant = figures (codes "00");
-              said = record { said = record { meant = codes "00"; said = record { said = record { is = refl; each = (refl, (refl, tt)) }; holds = refl }; is = refl }; holds = refl };
-              is = refl;
-            };
-            holds = refl;
-          })
-          refl);
+      (record {
+        said = record {
+          meant = figures (codes "00");
+          said = record { said = record { meant = codes "00"; said = record { said = record { is = refl; each = (refl, (refl, tt)) }; holds = refl }; is = refl }; holds = refl };
+          is = refl;
+        };
+        holds = refl;
+      })
+      refl);
   is = refl;
 })
 

@@ -1,4 +1,5 @@
 pub mod Known
 pub mod Pieces
 mod WholeScript
+mod OneAnswer
 mod Select

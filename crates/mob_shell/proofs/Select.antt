@@ -22,18 +22,18 @@ last_of-append (x ∷ y ∷ xs) a = last_of-append (y ∷ xs) a
 same_last : (xs ys : List ℕ) (a b : ℕ) → xs ++ a ∷ [] ≡ ys ++ b ∷ [] → a ≡ b
 same_last xs ys a b e = sym (last_of-append xs a) ∙ ap last_of e ∙ last_of-append ys b
 
-module _ (script line literal : List ℕ) (cut : IsCut script line) where
-  -- a script without line feed does not end with one
-  ends_otherwise : (text : List ℕ) → text ++ 10 ∷ [] ≡ opening ++ literal ++ closing → ⊥
-  ends_otherwise text e =
-      let last : 10 ≡ 59 = same_last text (opening ++ literal ++ 39 ∷ []) 10 59 (e ∙ sym (append_assoc (opening ++ literal) (39 ∷ []) (59 ∷ []))) in
-      absurd (cc last)
+-- a script without line feed does not end with one
+ends_otherwise : (literal text : List ℕ) → text ++ 10 ∷ [] ≡ opening ++ literal ++ closing → ⊥
+ends_otherwise literal text e =
+    let last : 10 ≡ 59 = same_last text (opening ++ literal ++ 39 ∷ []) 10 59 (e ∙ sym (append_assoc (opening ++ literal) (39 ∷ []) (59 ∷ []))) in
+    absurd (cc last)
 
+module _ (script line literal : List ℕ) (cut : IsCut script line) where
   by_end : (end : List ℕ) → IsLineFeedOrNone end → script ≡ opening ++ literal ++ closing ++ end → line ≡ opening ++ literal ++ closing
   by_end end (inl none) parts =
       let same : script ≡ opening ++ literal ++ closing = parts ∙ ap (λ (w : List ℕ). opening ++ literal ++ closing ++ w) none ∙ append-nil (opening ++ literal ++ closing) in
       elim cut [
-        | inl feed ↦ absurd (ends_otherwise line (sym feed ∙ same))
+        | inl feed ↦ absurd (ends_otherwise literal line (sym feed ∙ same))
         | inr other ↦ sym other.0 ∙ same
       ]
   by_end end (inr one) parts =
@@ -81,3 +81,20 @@ module _ (script line rest : List ℕ) (cut : IsCut script line) (first : line �
   pub literal_only : (o : Option (Bor (List ℕ))) → Ended o → IfSome o (λ x. (other : List ℕ) → IsSelectOf script other → x.now ≡ other)
   literal_only None ended = tt
   literal_only (Some x) ended = λ other select. append_cancel_right x.now other closing (sym ended ∙ select-rest script line rest other cut first select)
+
+-- a script that selects a literal, without its line feed
+select-cut : (script literal : List ℕ) → IsSelectOf script literal → IsCut script (opening ++ literal ++ closing)
+select-cut script literal select =
+    let parts = select.parts in
+    elim select.ends [
+      | inl none ↦
+          let whole : script ≡ opening ++ literal ++ closing = parts ∙ ap (λ (w : List ℕ). opening ++ literal ++ closing ++ w) none ∙ append-nil (opening ++ literal ++ closing) in
+          inr (whole, λ text e. ends_otherwise literal text (sym e ∙ whole))
+      | inr one ↦ inl (parts ∙ ap (λ (w : List ℕ). opening ++ literal ++ closing ++ w) one)
+    ]
+
+-- a script selects one literal
+pub one_literal : (script literal other : List ℕ) → IsSelectOf script literal → IsSelectOf script other → literal ≡ other
+one_literal script literal other p q =
+    let line = select-line script (opening ++ literal ++ closing) other (select-cut script literal p) q in
+    append_cancel_left opening literal other (append_cancel_right (opening ++ literal) (opening ++ other) closing line)

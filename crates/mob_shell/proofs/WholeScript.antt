@@ -1,10 +1,11 @@
 -- What the bytes that were read say of the script.
-use Rattle.std.proofs.Common.{arith, ◌≡◌, ◌∙◌, ap, subst, sym, ℕ, ◌+◌, ◌<◌, ◌≤◌, List, ◌++◌, length, map, Some, None}
+use Rattle.std.proofs.Common.{arith, ◌≡◌, ◌∙◌, ap, subst, sym, inl, inr, ℕ, ◌+◌, ◌<◌, ◌≤◌, List, ◌++◌, length, map, Some, None}
 use Rattle.std.specs.Prelude.{Option, IfSome, String, string_bytes}
 use Rattle.std.specs.declared.alloc.Global.{Global}
 use Rattle.std.specs.Io.KnownBytes.{IsAtEnd}
+use Rattle.std.proofs.Math.Nat.{eq-or-lt_of_le}
 use Rattle.std.proofs.lemmas.List.{append-nil, length-append, length-map}
-use Rattle.mob_shell.specs.Ending.{IsOutput, Seen}
+use Rattle.mob_shell.specs.Ending.{IsOutput, ReadsThrough, Seen}
 use Rattle.mob_shell.specs.Script.{Accepts, OutText, script_limit}
 use Rattle.mob_shell.specs.Streams.{ReadsTo}
 
@@ -27,6 +28,17 @@ read_refused (Some old) new bytes reads none = λ accepted.
     let within = read-within old new bytes reads in
     let short = accepted.1.short in
     none (subst Accepts (read-whole old new bytes reads (omega arith)) accepted)
+
+-- the script was read to its end, or to one byte past the limit
+pub read_through : (s : Seen) (bytes : List ℕ) → ReadsTo script_limit s.script s.rest bytes → ReadsThrough s
+read_through s bytes reads = record {
+  bytes = bytes;
+  taken = reads.taken;
+  through = elim (eq-or-lt_of_le reads.bound) [
+    | inl full ↦ inr full
+    | inr less ↦ inl (reads.whole (omega arith))
+  ];
+}
 
 -- what is written for what was read is written for the script, which was read to its end
 pub read_output : (s : Seen) (bytes text : List ℕ) → ReadsTo script_limit s.script s.rest bytes → OutText bytes text → IsOutput s text

@@ -1,12 +1,12 @@
 -- How a run ends, and what is said of it.
-use Rattle.std.specs.Prelude.{◌≡◌, ◌<◌, ◌≤◌, ◌++◌, ℕ, List, [], length, Option, IfSome, codes, decimal}
-use Rattle.std.specs.Io.KnownBytes.{Appends, IsAtEnd, Keeps}
+use Rattle.std.specs.Prelude.{◌≡◌, ◌⊎◌, ◌<◌, ◌≤◌, ◌+◌, ◌++◌, ℕ, List, [], length, Option, IfSome, codes, decimal}
+use Rattle.std.specs.Io.KnownBytes.{Appends, Consumes, IsAtEnd, Keeps}
 use Rattle.mob_ast.specs.Kinds.{name_of, number_of}
 use Rattle.mob_ast.specs.declared.refusal.Kind.TheVariants.{NotBuilt}
 use Rattle.mob_ast.specs.declared.refusal.Refusal.{Refusal}
 use Rattle.mob_outside.specs.Faults.{Rose}
-use Rattle.mob_shell.specs.Script.{Accepts, OutText}
-use Rattle.mob_shell.specs.Streams.{PutsPart}
+use Rattle.mob_shell.specs.Script.{Accepts, OutText, script_limit}
+use Rattle.mob_shell.specs.Streams.{PutsPart, ReadsPart}
 use Rattle.mob_shell.specs.declared.ending.Ending.{Ending}
 use Rattle.mob_shell.specs.declared.ending.Ending.TheVariants.{Done, Usage, ReadFault, WriteFault, NoMemory, ScriptRefused}
 
@@ -84,12 +84,19 @@ pub record CutsShort (s : Seen) : Type 0 where
   pub part : PutsPart text s.out_before s.out_now
   pub rose : Rose s.put_before s.put_now
 
+-- the script was read to its end, or to one byte past the limit
+pub record ReadsThrough (s : Seen) : Type 0 where
+  pub bytes : List ℕ
+  pub taken : Consumes s.script s.rest bytes
+  pub through : IsAtEnd s.rest ⊎ (length bytes ≡ script_limit + 1)
+
 -- the refusal of a script that uses what is not built yet
 abbrev pub not_built : Refusal
 not_built = record { kind = NotBuilt; statement = 1; place = 0 }
 
--- the script is not accepted, and the refusal is the one for what is not built yet
+-- the script was read through and is not accepted, and the refusal is the one for what is not built yet
 pub record IsRefused (s : Seen) (refusal : Refusal) : Type 0 where
+  pub read : ReadsThrough s
   pub other : IfSome s.script (λ script. Accepts script → ⊥)
   pub says : refusal ≡ not_built
 
@@ -102,9 +109,11 @@ Causes WriteFault s = CutsShort s
 Causes NoMemory s = Keeps s.out_before s.out_now
 Causes (ScriptRefused refusal) s = IsRefused s refusal × Keeps s.out_before s.out_now
 
--- how a run ended: by its cause, by usage where the words ask for it, and with counts that do not fall
+-- how a run ended: by its cause, by usage where the words ask for it, with at most one byte past the limit read of the
+-- script, and with counts that do not fall
 pub record Ends (ending : Ending) (s : Seen) : Type 0 where
   pub cause : Causes ending s
+  pub read : ReadsPart script_limit s.script s.rest
   pub usage : IsUsage s.words → ending ≡ Usage
   pub read_later : s.read_before ≤ s.read_now
   pub put_later : s.put_before ≤ s.put_now

@@ -1,4 +1,3 @@
 pub mod Ending
 pub mod Script
-pub mod Sequence
 pub mod Streams

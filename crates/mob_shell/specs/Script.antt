@@ -1,7 +1,14 @@
 -- Which scripts are accepted, and what is written for them.
-use Rattle.std.specs.Prelude.{◌≡◌, ◌⊎◌, ◌≤◌, ◌++◌, ◌∷◌, ℕ, List, [], codes, length}
+use Rattle.std.specs.Prelude.{◌≡◌, ◌⊎◌, ◌≤◌, ◌++◌, ◌∷◌, ℕ, List, [], codes, length, true}
 use Rattle.mob_tail.specs.AnswerText.{text_of}
-use Rattle.mob_shell.specs.Sequence.{Written, IsSequence, IsField}
+use Rattle.mob_ratio.specs.Ratio.{Ratio}
+use Rattle.mob_ratio.specs.Order.{same}
+use Rattle.mob_slice.specs.declared.slice.Slice.{Slice}
+use Rattle.mob_slice.specs.declared.steady.Steady.{Steady}
+use Rattle.mob_literal.specs.declared.written.Written.{Written}
+use Rattle.mob_literal.specs.Means.{Means}
+use Rattle.mob_literal.specs.Sequence.{IsSequence, standard_day}
+use Rattle.mob_literal.specs.Style.{tint_text}
 
 -- the greatest length of a script in bytes
 abbrev pub script_limit : ℕ
@@ -26,7 +33,7 @@ pub record IsSelectOf (script literal : List ℕ) : Type 0 where
   pub parts : script ≡ opening ++ literal ++ closing ++ line_end
 
 -- A script that is taken: it is no longer than the limit, and selects a literal that writes these instants of a tint.
-pub record IsScript (script : List ℕ) (written : List Written) : Type 0 where
+pub record IsScript (script : List ℕ) (written : List (Written Ratio)) : Type 0 where
   pub short : length script ≤ script_limit
   pub literal : List ℕ
   pub select : IsSelectOf script literal
@@ -34,17 +41,23 @@ pub record IsScript (script : List ℕ) (written : List Written) : Type 0 where
 
 -- the script is taken
 abbrev pub Accepts : List ℕ → Type 0
-Accepts script = (written : List Written) × IsScript script written
+Accepts script = (written : List (Written Ratio)) × IsScript script written
 
 -- the name of the one column
 abbrev pub column : List ℕ
 column = codes "c1"
 
--- The text that is written for a script: the answer of one column and one row, whose field is the printed text of the
--- value that the written instants define.
+-- The field is the printed text of the value that the written instants define: the one normal value that has at each
+-- instant what they say.
+pub record Prints (written : List (Written Ratio)) (field : List ℕ) : Type 0 where
+  pub value : List (Slice (Steady Ratio))
+  pub means : Means same true written true value
+  pub text : field ≡ tint_text standard_day value
+
+-- The text that is written for a script: the answer of one column and one row with the field of its literal.
 pub record OutText (script text : List ℕ) : Type 0 where
-  pub written : List Written
+  pub written : List (Written Ratio)
   pub taken : IsScript script written
   pub field : List ℕ
-  pub prints : IsField written field
+  pub prints : Prints written field
   pub answer : text ≡ text_of (column ∷ []) ((field ∷ []) ∷ [])

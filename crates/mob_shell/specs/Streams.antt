@@ -9,6 +9,12 @@ pub record ReadsTo (limit : ℕ) (old new : Option (List ℕ)) (bytes : List ℕ
   pub bound : length bytes ≤ limit + 1
   pub whole : length bytes ≤ limit → IsAtEnd new
 
+-- some bytes were taken from the front: at most one past the limit
+pub record ReadsPart (limit : ℕ) (old new : Option (List ℕ)) : Type 0 where
+  pub bytes : List ℕ
+  pub taken : Consumes old new bytes
+  pub bound : length bytes ≤ limit + 1
+
 -- a proper prefix of the text was put
 abbrev pub PutsPart : List ℕ → Option (List ℕ) → Option (List ℕ) → Type 0
 PutsPart text old new = (n : ℕ) × (n < length text) × Appends old new (take n text)

@@ -2,8 +2,9 @@
 ghost use Rattle.std.specs.Prelude.{◌≡◌, map, string_bytes};
 ghost use Rattle.mob_shell.specs.Ending.{Ends, not_built, seen};
 
+use crate::Ending;
 use crate::script::{SCRIPT_LIMIT, answers};
-use crate::{Ending, ReadEnd, put_all, read_to};
+use crate::streams::{ReadEnd, put_all, read_to};
 use mob_ast::{Kind, Refusal};
 use mob_outside::{Sink, Source};
 use std::alloc::Global;

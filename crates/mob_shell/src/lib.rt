@@ -5,6 +5,7 @@
 
 mod decide;
 mod ending;
+pub mod laws;
 mod note;
 mod script;
 mod streams;
@@ -12,5 +13,4 @@ mod top;
 
 pub use ending::Ending;
 pub use note::tell;
-pub use streams::{ReadEnd, put_all, put_pieces, read_to};
 pub use top::run;

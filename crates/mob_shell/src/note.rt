@@ -2,7 +2,8 @@
 ghost use Rattle.mob_shell.specs.Ending.{line_of, refusal_line};
 ghost use Rattle.mob_shell.specs.Streams.{Puts};
 
-use crate::{Ending, put_all, put_pieces};
+use crate::Ending;
+use crate::streams::{put_all, put_pieces};
 use itoa::Buffer;
 use mob_ast::Refusal;
 use mob_outside::{Failed, Sink};

@@ -1,12 +1,17 @@
 // What a script says, and what is written for it.
 ghost use Rattle.std.specs.Prelude.{◌≡◌, ◌⊎◌, ◌++◌, ◌∷◌, ◌↔◌, IsTrue, [], List, ℕ, IfOk, IfSome, IfNone, MatchOption};
-ghost use Rattle.mob_shell.specs.Script.{Accepts, IsSelectOf, OutText, column};
-ghost use Rattle.mob_shell.specs.Sequence.{Written, IsSequence, IsField};
+ghost use Rattle.mob_literal.specs.declared.written.Written.{Written};
+ghost use Rattle.mob_literal.specs.Sequence.{IsSequence};
+ghost use Rattle.mob_ratio.specs.Ratio.{Ratio};
+ghost use Rattle.mob_shell.specs.Script.{Accepts, IsSelectOf, OutText, Prints, column};
 ghost use Rattle.mob_tail.specs.AnswerText.{text_of};
 ghost use Rattle.std.specs.Prelude.{string_bytes};
 
 use mob_list::items::Items;
 use mob_list::text::Text;
+use mob_literal::printing::write_steps;
+use mob_literal::reading::read_sequence;
+use mob_scalar::Epoch;
 use mob_tail::{Answer, answer_text};
 use std::alloc::{AllocError, Global};
 
@@ -34,16 +39,18 @@ fn literal_of(script: &[u8]) -> Option<&[u8]>
         .strip_suffix(b"';")
 }
 
-// stand-in
+// The printed text of the value that a literal of a tint stands for.
+#[tactic(auto, using(mob_literal::proofs::Standard::standard))]
 fn field_of(alloc: Global, literal: &[u8]) -> Result<Option<String>, AllocError>
-    ensures some { IfOk result (λ o. IfSome o (λ field. (written : List Written) × IsSequence literal.now written × IsField written (string_bytes field))) }
-    ensures none { IfOk result (λ o. IfNone o ((written : List Written) → IsSequence literal.now written → ⊥)) }
+    ensures some { IfOk result (λ o. IfSome o (λ field. (written : List (Written Ratio)) × IsSequence literal.now written × Prints written (string_bytes field))) }
+    ensures none { IfOk result (λ o. IfNone o ((written : List (Written Ratio)) → IsSequence literal.now written → ⊥)) }
 {
-    if literal == b"[5@2001-01-01]".as_slice() {
-        let field = String::from_str(alloc, "5@2001-01-01 00:00:00+00")?;
-        return Ok(Some(field));
-    }
-    Ok(None)
+    let Some(value) = read_sequence(alloc, literal)? else {
+        return Ok(None);
+    };
+    let mut field = String::new(alloc);
+    write_steps(&value, &Epoch::standard(), &mut field)?;
+    Ok(Some(field))
 }
 
 // The text of the answer of one column, one row and this field.

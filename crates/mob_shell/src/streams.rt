@@ -3,7 +3,7 @@ ghost use Rattle.std.specs.Prelude.{◌<◌, ◌≤◌, ◌^◌, IfOk, OnOk, OnE
 ghost use Rattle.std.specs.List.{concat};
 ghost use Rattle.std.specs.Io.KnownBytes.{Appends};
 ghost use Rattle.mob_outside.specs.Faults.{HasCause, Rose};
-ghost use Rattle.mob_shell.specs.Streams.{Puts, PutsPart, ReadsTo};
+ghost use Rattle.mob_shell.specs.Streams.{Puts, PutsPart, ReadsPart, ReadsTo};
 ghost use Rattle.mob_shell.specs.declared.streams.ReadEnd.TheVariants.{Fault};
 
 use mob_outside::{Failed, Sink, Source};
@@ -21,10 +21,12 @@ pub enum ReadEnd {
 // The most bytes that one call of a source is asked for.
 const CHUNK: usize = 4096;
 
-/// Reads to the end, or to one byte past the limit, where it stops. `Fault` comes only where the source failed.
+/// Reads to the end, or to one byte past the limit, where it stops. `Fault` comes only where the source failed. However
+/// it ends, no more than one byte past the limit is taken.
 pub fn read_to<S: Source>(alloc: Global, source: &mut S, limit: usize) -> Result<Vec<u8>, ReadEnd>
     requires small { limit < 2 ^ 32 }
     ensures bytes { IfOk result (λ v. ReadsTo limit (S.left source.old) (S.left source.new) v.items) }
+    ensures part { ReadsPart limit (S.left source.old) (S.left source.new) }
     ensures later { S.faults source.old ≤ S.faults source.new }
     ensures cause { IsErrOf result Fault → Rose (S.faults source.old) (S.faults source.new) }
 {

@@ -3,9 +3,9 @@ ghost use Rattle.std.specs.Prelude.{◌≡◌, ◌≢◌, ◌↔◌, ◌⊎◌, 
 ghost use Rattle.std.specs.Io.KnownBytes.{Appends, IsAtEnd, Keeps};
 ghost use Rattle.mob_outside.specs.Faults.{Rose};
 ghost use Rattle.mob_outside.specs.Told.{KeepsFiles, KeepsNames};
-ghost use Rattle.mob_shell.specs.Ending.{Causes, CutsShort, IsUsage, Writes, line_of, seen, status_of};
-ghost use Rattle.mob_shell.specs.Script.{Accepts, OutText};
-ghost use Rattle.mob_shell.specs.Streams.{Puts};
+ghost use Rattle.mob_shell.specs.Ending.{Causes, CutsShort, IsUsage, ReadsThrough, Writes, line_of, seen, status_of};
+ghost use Rattle.mob_shell.specs.Script.{Accepts, OutText, script_limit};
+ghost use Rattle.mob_shell.specs.Streams.{Puts, ReadsPart};
 ghost use Rattle.mob_shell.specs.declared.ending.Ending.{Ending};
 
 use crate::decide::decide;
@@ -48,18 +48,26 @@ pub fn run<R: Threads + Sync, S: Source, F: Files, K: Sink, E: Sink, G: Gate>(
     // 4: only where the count of `out` rose, which took a proper prefix of the answers.
     ensures write_fault { result ≡ 4 → CutsShort (seen S.left S.faults K.held K.faults (map string_bytes words.now) script.old script.new out.old out.new) }
 
-    // 7: only where the script is not accepted.
+    // 7: only where the script was read to its end, or to one byte past the limit, and is not accepted.
+    ensures read_through { result ≡ 7 → ReadsThrough (seen S.left S.faults K.held K.faults (map string_bytes words.now) script.old script.new out.old out.new) }
     ensures refused { result ≡ 7 → IfSome (S.left script.old) (λ text. Accepts text → ⊥) }
+
+    // Under every status at most one byte past the limit is taken from the script.
+    ensures reads { ReadsPart script_limit (S.left script.old) (S.left script.new) }
 
     // Under every other status nothing is written.
     ensures silent { result ≢ 0 → result ≢ 4 → Keeps (K.held out.old) (K.held out.new) }
 
-    // With words that are taken, a told script and no fault the status is 0 or 7 as the script is, but for want of memory.
+    // With words that are taken and no fault, a script that is accepted gives 0, but for want of memory.
     ensures complete { (IsUsage (map string_bytes words.now) → ⊥)
         → (Rose (S.faults script.old) (S.faults script.new) → ⊥)
         → (Rose (K.faults out.old) (K.faults out.new) → ⊥)
-        → IfSome (S.left script.old) (λ text. (Accepts text → (result ≡ 0) ⊎ (result ≡ 5))
-        × ((Accepts text → ⊥) → (result ≡ 7) ⊎ (result ≡ 5))) }
+        → IfSome (S.left script.old) (λ text. Accepts text → (result ≡ 0) ⊎ (result ≡ 5)) }
+
+    // With words that are taken and no fault of the script, one that is not accepted gives 7, but for want of memory.
+    ensures refuses { (IsUsage (map string_bytes words.now) → ⊥)
+        → (Rose (S.faults script.old) (S.faults script.new) → ⊥)
+        → IfSome (S.left script.old) (λ text. (Accepts text → ⊥) → (result ≡ 7) ⊎ (result ≡ 5)) }
 
     // The note is the line of the ending with this status and this cause. It is whole, or cut short by a fault of the notes.
     ensures note { (ending : Ending) × (result ≡ status_of ending)

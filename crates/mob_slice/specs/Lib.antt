@@ -5,3 +5,5 @@ pub mod Look
 pub mod Slices
 pub mod Parts
 pub mod Pieces
+pub mod Ranks
+pub mod Operands

@@ -6,17 +6,21 @@
 #![tactic(auto)]
 
 pub mod base_value;
+pub mod comparison;
 pub mod course;
 pub mod formula;
 pub mod moving;
+pub mod operand;
 pub mod part;
 pub mod slice;
 pub mod steady;
 
 pub use base_value::BaseValue;
+pub use comparison::{Compared, Ranked, Rel};
 pub use course::Course;
 pub use formula::{Formula, LookFault, OpFault};
 pub use moving::Moving;
+pub use operand::Operand;
 pub use part::{One, Pair, Part};
 pub use slice::Slice;
 pub use steady::Steady;

@@ -1,2 +1,3 @@
 pub mod SpanLemmas
 pub mod Insides
+pub mod Clearness

@@ -1,3 +1,4 @@
 pub mod Pairs
 pub mod Steps
 pub mod OneSteps
+pub mod Sides

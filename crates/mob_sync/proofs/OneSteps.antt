@@ -4,14 +4,14 @@ use Rattle.std.proofs.Common.{ap, sym, ◌∙◌, subst, ⊎_elim}
 use Rattle.std.specs.Iterator.{Yields, Drains}
 use Rattle.mob_ratio.specs.Ratio.{Ratio}
 use Rattle.mob_span.specs.Span.{has}
-use Rattle.mob_span.specs.Neighbours.{is_clear, is_inside}
+use Rattle.mob_span.specs.Neighbours.{is_clear}
 use Rattle.mob_span.proofs.Insides.{inside_self}
-use Rattle.mob_slice.specs.Slices.{slice_at, OfHead, Clear, IsOrdered, IsSound}
+use Rattle.mob_slice.specs.Slices.{slice_at, OfHead, Clear, IsOrdered}
 use Rattle.mob_slice.specs.Parts.{IsOneFit}
 use Rattle.mob_slice.specs.declared.slice.Slice.{Slice}
 use Rattle.mob_slice.specs.declared.part.One.{One}
 use Rattle.mob_slice.specs.Pieces.{Each, IsIn, PartsClear}
-use Rattle.mob_sync.specs.Ones.{CanWalkOne, IsOneStep, OneSteps, AreOnes}
+use Rattle.mob_sync.specs.Ones.{IsOneStep, OneSteps, AreOnes}
 use Rattle.mob_sync.specs.declared.ones.Ones.{Ones}
 use Rattle.mob_sync.proofs.Pairs.{InOrder, ordered-in_order, later_at}
 

@@ -7,7 +7,7 @@ use Rattle.mob_span.specs.Neighbours.{is_clear}
 use Rattle.mob_span.specs.Meet.{ends_before, meet_of}
 use Rattle.mob_span.proofs.SpanLemmas.{meet_has, no_instant}
 use Rattle.mob_span.proofs.Insides.{clear_trans, clear_meet, clear_meet', meet_clear, meet_clear', is_within_end, end_has, in_end, shorter_end, longer_end}
-use Rattle.mob_slice.specs.Slices.{slice_at, OfHead, Chained, Clear, IsSound, IsNormalPair, AreNormal, IsOrdered}
+use Rattle.mob_slice.specs.Slices.{slice_at, OfHead, Chained, Clear, IsNormalPair, AreNormal, IsOrdered}
 use Rattle.mob_slice.specs.declared.slice.Slice.{Slice}
 use Rattle.mob_slice.specs.declared.part.Pair.{Pair}
 use Rattle.mob_slice.specs.Pieces.{part_at, PartsClear, AllAfter}
@@ -131,7 +131,7 @@ pub later_at : {C : Type 0} (a : Slice C) (v : List (Slice C)) (t : Ratio) (x : 
 later_at a v t x n e true i = absurd (some_none x (slice_at v t) e (none_in_end a.span v t (all_after a v n) (in_end a.span t i)))
 later_at a v t x n e false i = rw i e
 
-both_parts : {A B : Type 0} (o : Option A) (u : Option B) (x : A) (y : B) → both o u ≡ Some (x, y) → (o ≡ Some x) × (u ≡ Some y)
+pub both_parts : {A B : Type 0} (o : Option A) (u : Option B) (x : A) (y : B) → both o u ≡ Some (x, y) → (o ≡ Some x) × (u ≡ Some y)
 both_parts None u x y h = let e : None ≡ Some (x, y) = h in absurd (some_none (x, y) None e refl)
 both_parts (Some a) None x y h = let e : None ≡ Some (x, y) = h in absurd (some_none (x, y) None e refl)
 both_parts {A} {B} (Some a) (Some b) x y h = let e : Some (a, b) ≡ Some (x, y) = h in (ap (λ o. option_map (λ (z : A × B). z.0) o) e, ap (λ o. option_map (λ (z : A × B). z.1) o) e)

@@ -7,7 +7,7 @@ use Rattle.std.proofs.lemmas.List.Folds.{concat-append}
 use Rattle.csv.specs.declared.writer.WriterBuilder.{WriterBuilder}
 use Rattle.std.proofs.Math.Dec.{eqb-suc-zero}
 use Rattle.csv.specs.Writing as csv
-use Rattle.mob_tail.specs.AnswerText.{doubled, field_text, is_special, quoted, record_text}
+use Rattle.mob_tail.specs.AnswerText.{doubled, field_text, is_special, record_text}
 
 -- the writer of an answer: the usual one, for records of any length
 abbrev pub writer : WriterBuilder

@@ -1,5 +1,5 @@
 use Rattle.std.proofs.Common.{List, ℕ, sym, subst}
-use Rattle.mob_shell.specs.Sequence.{IsSequence}
+use Rattle.mob_literal.specs.Sequence.{IsSequence}
 use Rattle.mob_shell.proofs.script.answers.Goals as goal
 
 pub returns-in_default-clause-refused : goal.returns-in_default-clause-refused

@@ -1,5 +1,3 @@
-use Rattle.std.proofs.Common.{rules, ◌≡◌, ◌++◌, get_or}
-use Rattle.mob_tail.specs.AnswerText.{record_text}
 use Rattle.mob_tail.proofs.RecordText.{records_more}
 use Rattle.mob_tail.proofs.text.records_text.Goals as goal
 

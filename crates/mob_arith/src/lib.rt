@@ -1,0 +1,15 @@
+//! Sums, logic and the joining of texts, instant by instant, on temporal values that go by steps.
+#![tactic(auto)]
+
+pub mod logic;
+mod operate;
+pub mod operation;
+pub mod sums;
+pub mod texts;
+
+pub use logic::{and, not, or};
+pub use sums::{minus, plus, times_const, times_step};
+pub use texts::join_text;
+
+#[cfg(test)]
+mod tests;
