@@ -1,7 +1,8 @@
--- The form of numbers.
+-- The form of numbers: a number, with blanks at its ends.
 use Rattle.std.specs.Prelude.{◌≡◌}
 use Rattle.mob_ratio.specs.Ratio.{Ratio}
 use Rattle.mob_frac.specs.Fits.{Fits}
+use Rattle.mob_language.specs.Language.{within_blanks}
 use Rattle.mob_scalar.specs.declared.numeral.Numeral.{Numeral}
 use Rattle.mob_scalar.specs.Number.{number}
 use Rattle.mob_scalar.specs.NumberValue.{value}
@@ -9,7 +10,7 @@ use Rattle.mob_scalar.specs.Verdict.{Form}
 
 abbrev pub numbers : Form Numeral Ratio
 numbers = record {
-  shape = number;
+  shape = within_blanks number;
   long = λ n. ⊥;
   large = λ n. ¬ Fits (value n);
   unsound = λ n. ⊥;

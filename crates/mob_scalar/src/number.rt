@@ -1,5 +1,5 @@
 ghost use Rattle.std.specs.Prelude.{◌≡◌, ◌<◌, ◌≤◌, ◌^◌, ◌*◌, ◌+◌, length, Option, Some, None};
-ghost use Rattle.mob_language.specs.Readers.{all_of};
+ghost use Rattle.mob_language.specs.Readers.{all_of, within_blanks_at};
 ghost use Rattle.mob_ratio.specs.Ratio.{over};
 ghost use Rattle.mob_frac.specs.Fits.{IsExact};
 ghost use Rattle.mob_frac.specs.Signed.{signed};
@@ -11,6 +11,7 @@ ghost use Rattle.mob_scalar.specs.Numbers.{numbers};
 
 use crate::fault::ReadText;
 use crate::numeral::{Exponent, Figures, Numeral, Tail, number_at};
+use crate::stamp::blanks;
 use mob_frac::{Frac, Overflow, over_product};
 
 const SIZE: u128 = 1 << 62;
@@ -116,13 +117,15 @@ pub fn evaluate(n: Numeral) -> Result<Frac, Overflow>
     }
 }
 
-/// All of the bytes, as a numeral.
+/// All of the bytes, as a numeral with blanks at its ends.
 fn numeral_of(bytes: &[u8]) -> Option<Numeral>
-    ensures { result ≡ all_of number_in bytes.now }
+    ensures { result ≡ all_of (within_blanks_at number_in) bytes.now }
 {
-    match number_at(bytes) {
-        Some((n, rest)) => { if rest.is_empty() { Some(n) } else { None } }
-        None => None,
+    let (n, rest) = number_at(blanks(bytes).1)?;
+    if blanks(rest).1.is_empty() {
+        Some(n)
+    } else {
+        None
     }
 }
 
@@ -130,7 +133,7 @@ fn numeral_of(bytes: &[u8]) -> Option<Numeral>
 ///
 /// A number is an optional sign, digits with at most one point, and perhaps an exponent from -18 to
 /// 18; or an optional sign, digits, `/` and digits that are not all 0. Each run of digits, the two
-/// sides of a point together, has at most 36. Any other text is `NotText`, and `TooLarge` a number
+/// sides of a point together, has at most 36. Blanks may stand at both ends. Any other text is `NotText`, and `TooLarge` a number
 /// whose reduced fraction has a part of more than 62 bits. It takes no memory.
 pub fn read_number(text: &str) -> Result<Frac, ReadText>
     ensures reading { Lit numbers text.now result }

@@ -298,7 +298,7 @@ fn zone_or_utc(zone: Option<Offset>) -> Offset
     }
 }
 
-fn is_blank(c: u8) -> bool
+pub fn is_blank(c: u8) -> bool
     ensures { result ≡ blank c }
 {
     c == 32 || c == 9 || c == 13 || c == 10
