@@ -11,7 +11,7 @@ use Rattle.mob_slice.specs.declared.formula.Formula.{Formula}
 use Rattle.mob_slice.specs.declared.formula.Formula.TheVariants.{F2}
 use Rattle.mob_slice.specs.declared.formula.OpFault.{OpFault}
 use Rattle.mob_slice.specs.declared.formula.OpFault.TheVariants.{Passed, NoMemory}
-use Rattle.mob_slice.specs.Operands.{steady_value, IsPointwise}
+use Rattle.mob_slice.specs.Operands.{steady_value}
 use Rattle.mob_arith.specs.Steps.{AreSteps, IsStepsFault}
 
 -- a refusal with its cause

@@ -1,5 +1,5 @@
 -- Operations lifted over two operands, instant by instant.
-use Rattle.std.specs.Prelude.{◌≡◌, List, [], ◌∷◌, Option, None, MatchOption, Result, MatchResult}
+use Rattle.std.specs.Prelude.{◌≡◌, List, [], ◌∷◌, Option, Result, MatchResult}
 use Rattle.mob_ratio.specs.Ratio.{Ratio}
 use Rattle.mob_frac.specs.Formula.{AllFit}
 use Rattle.mob_span.specs.Span.{SpanOf}

@@ -10,3 +10,6 @@ pub mod texts;
 pub use logic::{and, not, or};
 pub use sums::{minus, plus, times_const, times_step};
 pub use texts::join_text;
+
+#[cfg(test)]
+mod tests;

@@ -83,3 +83,20 @@ pub fn lift<
     }
     Ok(out)
 }
+
+#[cfg(test)]
+mod tests {
+    use super::*;
+    use mob_frac::Frac;
+    use std::test::Fail;
+
+    #[test]
+    fn one_slice_has_its_value(rt: HostRuntime) -> Result<(), Fail> {
+        let zero = Frac::new(0, 1).ok().ok_or("fits")?;
+        let span = Span::new(zero, zero, true, true).ok_or("has an instant")?;
+        let slices = single(rt.alloc(), span, true).ok().ok_or("ample memory")?;
+        assert!(rt; slices.iter().all(|slice| slice.course.value));
+        assert_eq!(rt; slices.len(), 1);
+        Ok(())
+    }
+}

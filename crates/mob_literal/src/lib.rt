@@ -2,10 +2,12 @@
 #![tactic(auto)]
 
 pub mod laws;
+pub mod literal;
 pub mod printing;
 pub mod reading;
 mod sequence;
 mod steps;
+pub mod temporal;
 #[cfg(test)]
 mod tests;
 pub mod written;

@@ -44,9 +44,9 @@ fn plus_part(n: i64, part: Part) -> Result<Frac, Overflow>
     }
 }
 
-/// The place of a moment in time.
+/// The instant of a moment, in seconds since midnight UTC of the epoch's day.
 #[tactic(auto, unfolding(crate::specs::Moment::instant))]
-fn place(stamp: Stamp, epoch: &Epoch) -> Result<Frac, Overflow>
+pub fn place(stamp: Stamp, epoch: &Epoch) -> Result<Frac, Overflow>
     requires date { civil stamp.date ≡ true }
     requires part { IsPartSmall stamp.clock.part }
     ensures { IsExact (instant epoch.now stamp) result }

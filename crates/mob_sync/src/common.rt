@@ -56,3 +56,47 @@ impl<'a, A: Course, B: Course> Iterator for Common<'a, A, B> {
         }
     }
 }
+
+#[cfg(test)]
+mod tests {
+    use super::*;
+    use crate::ones::Ones;
+    use mob_frac::Frac;
+    use mob_slice::{Moving, Slice, Steady};
+    use mob_span::Span;
+    use std::alloc::Global;
+    use std::test::Fail;
+
+    // The value of one slice, on the span between two whole numbers.
+    fn one(alloc: Global, lower: i64, upper: i64) -> Option<Moving<Steady<bool>>> {
+        let from = Frac::new(lower, 1).ok()?;
+        let to = Frac::new(upper, 1).ok()?;
+        let span = Span::new(from, to, true, true)?;
+        let mut slices = Vec::new(alloc);
+        let slice = Slice {
+            span,
+            course: Steady { value: true },
+        };
+        if slices.push(slice).is_err() {
+            return None;
+        }
+        Some(Moving::from_normal(slices))
+    }
+
+    #[test]
+    fn two_values_share_the_meet_of_their_slices(rt: HostRuntime) -> Result<(), Fail> {
+        let a = one(rt.alloc(), 0, 2).ok_or("a")?;
+        let b = one(rt.alloc(), 1, 3).ok_or("b")?;
+        let mut walk = Common::new(&a, &b);
+        let pair = walk.next().ok_or("a common piece")?;
+        let low = Frac::new(1, 1).ok().ok_or("fits")?;
+        let high = Frac::new(2, 1).ok().ok_or("fits")?;
+        assert!(rt; pair.span.lower().is_same(&low) && pair.span.upper().is_same(&high));
+        assert!(rt; walk.next().is_none());
+        let mut pieces = Ones::new(&a);
+        let piece = pieces.next().ok_or("a piece")?;
+        assert!(rt; piece.span.upper().is_same(&high));
+        assert!(rt; pieces.next().is_none());
+        Ok(())
+    }
+}

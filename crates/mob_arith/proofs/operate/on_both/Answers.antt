@@ -1,4 +1,4 @@
-use Rattle.std.proofs.Common.{rules, ◌∙◌, Some}
+use Rattle.std.proofs.Common.{rules, ◌∙◌}
 use Rattle.std.proofs.lemmas.Result.{IfOk-weaker}
 use Rattle.mob_frac.specs.Formula.{AllFit}
 use Rattle.mob_span.proofs.SpanLemmas.{some_instant}

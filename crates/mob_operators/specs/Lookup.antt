@@ -1,0 +1,131 @@
+-- What a table of operators answers.
+use Rattle.std.specs.Prelude.{◌≡◌, ◌==◌, ◌&&◌, ◌||◌, ℕ, List, [], ◌∷◌, Bool, true, false, Option, Some, None, map, slice_get, option_map, option_and_then, is_some, if◌then◌else◌}
+use Rattle.std.specs.List.{list_any, list_all}
+use Rattle.std.specs.Str.{bytes_eq}
+use Rattle.mob_ast.specs.declared.types.SqlType.{SqlType}
+use Rattle.mob_ast.specs.declared.types.SqlType.TheVariants as sql
+use Rattle.mob_operators.specs.declared.operator.Form.{Form}
+use Rattle.mob_operators.specs.declared.operator.Form.TheVariants as form
+use Rattle.mob_operators.specs.declared.operator.Op.{Op}
+use Rattle.mob_operators.specs.declared.table.Bond.{Bond}
+use Rattle.mob_operators.specs.declared.table.Bond.TheVariants as bond
+use Rattle.mob_operators.specs.declared.table.Gives.{Gives}
+use Rattle.mob_operators.specs.declared.table.Gives.TheVariants as gives
+use Rattle.mob_operators.specs.declared.table.Row.{Row}
+
+-- A line of the table: how its operators are written, the operators with their names, for each argument the types that
+-- are taken, what else the arguments have to meet, and the type of the result.
+pub record Line : Type 0 where
+  pub form : Form
+  pub names : List (List ℕ × Op)
+  pub takes : List (List SqlType)
+  pub bond : Bond
+  pub gives : Gives
+
+-- a row of the program's table as such a line
+abbrev pub line_of : Row → Line
+line_of r = record { form = r.form; names = map (λ n. (n.0.now, n.1)) r.names.now; takes = map (λ c. c.now) r.takes.now; bond = r.bond; gives = r.gives }
+
+abbrev pub lines_of : List Row → List Line
+lines_of rows = map line_of rows
+
+-- the place of a type among the fifteen
+abbrev pub type_number : SqlType → ℕ
+type_number sql.Bool = 0
+type_number sql.Int = 1
+type_number sql.Numeric = 2
+type_number sql.Text = 3
+type_number sql.Moment = 4
+type_number sql.Point = 5
+type_number sql.Polygon = 6
+type_number sql.Span = 7
+type_number sql.SpanSet = 8
+type_number sql.Box = 9
+type_number sql.TBool = 10
+type_number sql.TInt = 11
+type_number sql.TFrac = 12
+type_number sql.TText = 13
+type_number sql.TPoint = 14
+
+-- whether two types are one
+abbrev pub same_type : SqlType → SqlType → Bool
+same_type a b = type_number a == type_number b
+
+abbrev form_number : Form → ℕ
+form_number form.Word = 0
+form_number form.Sign = 1
+form_number form.Call = 2
+
+-- whether two forms are one
+abbrev pub same_form : Form → Form → Bool
+same_form a b = form_number a == form_number b
+
+-- whether a type is among these
+abbrev pub has : List SqlType → SqlType → Bool
+has class ty = list_any (λ t. same_type t ty) class
+
+-- whether a type is temporal
+abbrev pub is_moving : SqlType → Bool
+is_moving ty = has (sql.TBool ∷ sql.TInt ∷ sql.TFrac ∷ sql.TText ∷ sql.TPoint ∷ []) ty
+
+-- whether a type has whole numbers alone
+abbrev pub is_whole : SqlType → Bool
+is_whole ty = has (sql.Int ∷ sql.TInt ∷ []) ty
+
+-- whether the arguments have one for one a type that is taken
+abbrev pub fits : List (List SqlType) → List SqlType → Bool
+fits [] [] = true
+fits [] (t ∷ ts) = false
+fits (c ∷ cs) [] = false
+fits (c ∷ cs) (t ∷ ts) = has c t && fits cs ts
+
+-- whether two arguments have one type
+abbrev pub are_same : List SqlType → Bool
+are_same [] = false
+are_same (a ∷ []) = false
+are_same (a ∷ b ∷ []) = same_type a b
+are_same (a ∷ b ∷ c ∷ ts) = false
+
+-- whether arguments of these types, the last a number literal or not, meet what a line asks beside its types
+abbrev pub meets : Bond → List SqlType → Bool → Bool
+meets bond.Free ts literal = true
+meets bond.OneMoving ts literal = list_any is_moving ts
+meets bond.SameType ts literal = are_same ts
+meets bond.ByLiteral ts literal = literal
+
+-- the type that a line gives for arguments of these types
+abbrev pub given : Gives → List SqlType → Option SqlType
+given (gives.Only ty) ts = Some ty
+given gives.First ts = slice_get ts 0
+given (gives.Whole whole other) ts = Some (if list_all is_whole ts then whole else other)
+
+-- the operator of this name
+abbrev pub named : List (List ℕ × Op) → List ℕ → Option Op
+named [] name = None
+named (n ∷ ns) name = if bytes_eq n.0 name then Some n.1 else named ns name
+
+-- the operator that a line has for this form and name
+abbrev pub operator_in : Line → Form → List ℕ → Option Op
+operator_in l form name = if same_form l.form form then named l.names name else None
+
+-- whether a line takes these arguments
+abbrev pub takes : Line → List SqlType → Bool → Bool
+takes l ts literal = fits l.takes ts && meets l.bond ts literal
+
+-- the operator and the type that a line gives
+abbrev pub answer_of : Line → Form → List ℕ → List SqlType → Bool → Option (Op × SqlType)
+answer_of l form name ts literal = option_and_then (λ op. if takes l ts literal then option_map (λ ty. (op, ty)) (given l.gives ts) else None) (operator_in l form name)
+
+abbrev pub or_else : {A : Type 0} → Option A → Option A → Option A
+or_else None other = other
+or_else (Some a) other = Some a
+
+-- The operator and the type of a call of this form and name with arguments of these types, the last a number literal or
+-- not: by the first line that gives one.
+abbrev pub found_in : List Line → Form → List ℕ → List SqlType → Bool → Option (Op × SqlType)
+found_in [] form name ts literal = None
+found_in (l ∷ ls) form name ts literal = or_else (answer_of l form name ts literal) (found_in ls form name ts literal)
+
+-- whether some line is about a function of this name
+abbrev pub has_function : List Line → List ℕ → Bool
+has_function ls name = list_any (λ l. is_some (operator_in l form.Call name)) ls

@@ -1,0 +1,186 @@
+-- The table of operators, line by line as MobilityDB's manual and PostgreSQL have them.
+use Rattle.std.specs.Prelude.{◌||◌, ℕ, List, [], ◌∷◌, Bool, true, false, codes}
+use Rattle.std.specs.List.{list_any}
+use Rattle.std.specs.Str.{bytes_eq}
+use Rattle.mob_ast.specs.declared.types.Cmp.TheVariants.{Eq, Ne, Lt, Le, Gt, Ge}
+use Rattle.mob_ast.specs.declared.types.SqlType.{SqlType}
+use Rattle.mob_ast.specs.declared.types.SqlType.TheVariants.{Bool as ABool, Int, Numeric, Text, Moment, Point, Polygon, Span, SpanSet, Box, TBool, TInt, TFrac, TText, TPoint}
+use Rattle.mob_operators.specs.declared.operator.Form.{Form}
+use Rattle.mob_operators.specs.declared.operator.Form.TheVariants.{Word, Sign, Call}
+use Rattle.mob_operators.specs.declared.operator.Op.{Op}
+use Rattle.mob_operators.specs.declared.operator.Op.TheVariants.{Not, And, Or, IsNull, IsNotNull, Test, Add, Subtract, Multiply, Divide, Negate, Same, Join, LiftedAnd, LiftedOr, LiftedNot, Lifted, Ever, Always, Overlap, AtTime, MinusTime, AtValues, MinusValues, ValueAtTimestamp, GetTime, WhenTrue, GetX, GetY, BoxOf, ExpandSpace, AtStbox, MinusStbox, AtGeometry, MinusGeometry, EIntersects, EDwithin, NearestApproachSquared, AsText}
+use Rattle.mob_operators.specs.declared.table.Bond.{Bond}
+use Rattle.mob_operators.specs.declared.table.Bond.TheVariants.{Free, OneMoving, SameType, ByLiteral}
+use Rattle.mob_operators.specs.declared.table.Gives.{Gives}
+use Rattle.mob_operators.specs.declared.table.Gives.TheVariants.{Only, First, Whole}
+use Rattle.mob_operators.specs.Lookup.{Line}
+
+abbrev pub types : Type 0
+types = List SqlType
+
+abbrev pub names : Type 0
+names = List (List ℕ × Op)
+
+-- an int or a numeric
+abbrev pub number : types
+number = Int ∷ Numeric ∷ []
+
+-- a tint or a tfrac
+abbrev pub moving_number : types
+moving_number = TInt ∷ TFrac ∷ []
+
+-- a value of a kind, or a temporal value of that kind
+abbrev pub bool_kind : types
+bool_kind = ABool ∷ TBool ∷ []
+
+abbrev pub number_kind : types
+number_kind = Int ∷ Numeric ∷ TInt ∷ TFrac ∷ []
+
+abbrev pub text_kind : types
+text_kind = Text ∷ TText ∷ []
+
+abbrev pub point_kind : types
+point_kind = Point ∷ TPoint ∷ []
+
+abbrev pub temporal : types
+temporal = TBool ∷ TInt ∷ TFrac ∷ TText ∷ TPoint ∷ []
+
+-- what time is restricted to
+abbrev pub time : types
+time = Moment ∷ Span ∷ SpanSet ∷ []
+
+-- what has a box
+abbrev pub boxed : types
+boxed = Box ∷ TPoint ∷ []
+
+abbrev pub any : types
+any = ABool ∷ Int ∷ Numeric ∷ Text ∷ Moment ∷ Point ∷ Polygon ∷ Span ∷ SpanSet ∷ Box ∷ TBool ∷ TInt ∷ TFrac ∷ TText ∷ TPoint ∷ []
+
+abbrev pub any_but_polygon : types
+any_but_polygon = ABool ∷ Int ∷ Numeric ∷ Text ∷ Moment ∷ Point ∷ Span ∷ SpanSet ∷ Box ∷ TBool ∷ TInt ∷ TFrac ∷ TText ∷ TPoint ∷ []
+
+abbrev pub printed : types
+printed = TBool ∷ TInt ∷ TFrac ∷ TText ∷ TPoint ∷ Point ∷ Polygon ∷ Span ∷ SpanSet ∷ Box ∷ []
+
+abbrev pub equals : names
+equals = (codes "=", Test Eq) ∷ (codes "<>", Test Ne) ∷ []
+
+abbrev pub orders : names
+orders = (codes "<", Test Lt) ∷ (codes "<=", Test Le) ∷ (codes ">", Test Gt) ∷ (codes ">=", Test Ge) ∷ []
+
+abbrev pub lifted_equals : names
+lifted_equals = (codes "#=", Lifted Eq) ∷ (codes "#<>", Lifted Ne) ∷ []
+
+abbrev pub lifted_orders : names
+lifted_orders = (codes "#<", Lifted Lt) ∷ (codes "#<=", Lifted Le) ∷ (codes "#>", Lifted Gt) ∷ (codes "#>=", Lifted Ge) ∷ []
+
+-- `?` asks for some instant and `%` for every instant
+abbrev pub ever_equals : names
+ever_equals = (codes "?=", Ever Eq) ∷ (codes "?<>", Ever Ne) ∷ (codes "%=", Always Eq) ∷ (codes "%<>", Always Ne) ∷ []
+
+abbrev pub ever_orders : names
+ever_orders = (codes "?<", Ever Lt) ∷ (codes "?<=", Ever Le) ∷ (codes "?>", Ever Gt) ∷ (codes "?>=", Ever Ge) ∷ (codes "%<", Always Lt) ∷ (codes "%<=", Always Le) ∷ (codes "%>", Always Gt) ∷ (codes "%>=", Always Ge) ∷ []
+
+abbrev pub sums : names
+sums = (codes "+", Add) ∷ (codes "-", Subtract) ∷ []
+
+abbrev pub times : names
+times = (codes "*", Multiply) ∷ []
+
+abbrev pub over : names
+over = (codes "/", Divide) ∷ []
+
+abbrev pub joins : names
+joins = (codes "||", Join) ∷ []
+
+abbrev pub at_values : names
+at_values = (codes "atvalues", AtValues) ∷ (codes "minusvalues", MinusValues) ∷ []
+
+abbrev pub value_at : names
+value_at = (codes "valueattimestamp", ValueAtTimestamp) ∷ []
+
+abbrev pub to : SqlType → Gives
+to = Only
+
+-- int where every argument is whole, else numeric; tint and tfrac likewise
+abbrev pub to_number : Gives
+to_number = Whole Int Numeric
+
+abbrev pub to_moving_number : Gives
+to_moving_number = Whole TInt TFrac
+
+abbrev pub line : Form → names → List types → Bond → Gives → Line
+line f n ts b g = record { form = f; names = n; takes = ts; bond = b; gives = g }
+
+-- The table of operators. A line has how its operators are written, their names, the types of each argument, what else
+-- the arguments have to meet, and the type of the result.
+unfoldable pub table : List Line
+table =
+    line Word ((codes "not", Not) ∷ []) ((ABool ∷ []) ∷ []) Free (to ABool)
+    ∷ line Word ((codes "and", And) ∷ (codes "or", Or) ∷ []) ((ABool ∷ []) ∷ (ABool ∷ []) ∷ []) Free (to ABool)
+    ∷ line Word ((codes "is null", IsNull) ∷ (codes "is not null", IsNotNull) ∷ []) (any ∷ []) Free (to ABool)
+    ∷ line Sign equals (any_but_polygon ∷ any_but_polygon ∷ []) SameType (to ABool)
+    ∷ line Sign equals (number ∷ number ∷ []) Free (to ABool)
+    ∷ line Sign equals (moving_number ∷ moving_number ∷ []) Free (to ABool)
+    ∷ line Sign orders (number ∷ number ∷ []) Free (to ABool)
+    ∷ line Sign orders ((Text ∷ []) ∷ (Text ∷ []) ∷ []) Free (to ABool)
+    ∷ line Sign orders ((Moment ∷ []) ∷ (Moment ∷ []) ∷ []) Free (to ABool)
+    ∷ line Sign sums (number ∷ number ∷ []) Free to_number
+    ∷ line Sign times (number ∷ number ∷ []) Free to_number
+    ∷ line Sign over (number ∷ number ∷ []) ByLiteral (to Numeric)
+    ∷ line Sign ((codes "-", Negate) ∷ (codes "+", Same) ∷ []) (number ∷ []) Free First
+    ∷ line Sign sums (number_kind ∷ number_kind ∷ []) OneMoving to_moving_number
+    ∷ line Sign times (number ∷ moving_number ∷ []) Free to_moving_number
+    ∷ line Sign times (moving_number ∷ number ∷ []) Free to_moving_number
+    ∷ line Sign times ((TInt ∷ []) ∷ moving_number ∷ []) Free to_moving_number
+    ∷ line Sign times ((TFrac ∷ []) ∷ (TInt ∷ []) ∷ []) Free to_moving_number
+    ∷ line Sign over (moving_number ∷ number ∷ []) ByLiteral (to TFrac)
+    ∷ line Sign joins ((Text ∷ []) ∷ (Text ∷ []) ∷ []) Free (to Text)
+    ∷ line Sign joins (text_kind ∷ text_kind ∷ []) OneMoving (to TText)
+    ∷ line Sign ((codes "&", LiftedAnd) ∷ (codes "|", LiftedOr) ∷ []) (bool_kind ∷ bool_kind ∷ []) OneMoving (to TBool)
+    ∷ line Sign ((codes "~", LiftedNot) ∷ []) ((TBool ∷ []) ∷ []) Free (to TBool)
+    ∷ line Sign lifted_equals (bool_kind ∷ bool_kind ∷ []) OneMoving (to TBool)
+    ∷ line Sign lifted_equals (number_kind ∷ number_kind ∷ []) OneMoving (to TBool)
+    ∷ line Sign lifted_equals (text_kind ∷ text_kind ∷ []) OneMoving (to TBool)
+    ∷ line Sign lifted_equals (point_kind ∷ point_kind ∷ []) OneMoving (to TBool)
+    ∷ line Sign lifted_orders (number_kind ∷ number_kind ∷ []) OneMoving (to TBool)
+    ∷ line Sign lifted_orders (text_kind ∷ text_kind ∷ []) OneMoving (to TBool)
+    ∷ line Sign ever_equals (bool_kind ∷ bool_kind ∷ []) OneMoving (to ABool)
+    ∷ line Sign ever_equals (number_kind ∷ number_kind ∷ []) OneMoving (to ABool)
+    ∷ line Sign ever_equals (text_kind ∷ text_kind ∷ []) OneMoving (to ABool)
+    ∷ line Sign ever_equals (point_kind ∷ point_kind ∷ []) OneMoving (to ABool)
+    ∷ line Sign ever_orders (number_kind ∷ number_kind ∷ []) OneMoving (to ABool)
+    ∷ line Sign ever_orders (text_kind ∷ text_kind ∷ []) OneMoving (to ABool)
+    ∷ line Sign ((codes "&&", Overlap) ∷ []) (boxed ∷ boxed ∷ []) Free (to ABool)
+    ∷ line Call ((codes "attime", AtTime) ∷ (codes "minustime", MinusTime) ∷ []) (temporal ∷ time ∷ []) Free First
+    ∷ line Call at_values ((TBool ∷ []) ∷ (ABool ∷ []) ∷ []) Free First
+    ∷ line Call at_values ((TInt ∷ []) ∷ (Int ∷ []) ∷ []) Free First
+    ∷ line Call at_values ((TFrac ∷ []) ∷ number ∷ []) Free First
+    ∷ line Call at_values ((TText ∷ []) ∷ (Text ∷ []) ∷ []) Free First
+    ∷ line Call at_values ((TPoint ∷ []) ∷ (Point ∷ []) ∷ []) Free First
+    ∷ line Call value_at ((TBool ∷ []) ∷ (Moment ∷ []) ∷ []) Free (to ABool)
+    ∷ line Call value_at ((TInt ∷ []) ∷ (Moment ∷ []) ∷ []) Free (to Int)
+    ∷ line Call value_at ((TFrac ∷ []) ∷ (Moment ∷ []) ∷ []) Free (to Numeric)
+    ∷ line Call value_at ((TText ∷ []) ∷ (Moment ∷ []) ∷ []) Free (to Text)
+    ∷ line Call value_at ((TPoint ∷ []) ∷ (Moment ∷ []) ∷ []) Free (to Point)
+    ∷ line Call ((codes "gettime", GetTime) ∷ []) (temporal ∷ []) Free (to SpanSet)
+    ∷ line Call ((codes "whentrue", WhenTrue) ∷ []) ((TBool ∷ []) ∷ []) Free (to SpanSet)
+    ∷ line Call ((codes "getx", GetX) ∷ (codes "gety", GetY) ∷ []) ((TPoint ∷ []) ∷ []) Free (to TFrac)
+    ∷ line Call ((codes "stbox", BoxOf) ∷ []) ((TPoint ∷ []) ∷ []) Free (to Box)
+    ∷ line Call ((codes "expandspace", ExpandSpace) ∷ []) (boxed ∷ number ∷ []) Free (to Box)
+    ∷ line Call ((codes "atstbox", AtStbox) ∷ (codes "minusstbox", MinusStbox) ∷ []) ((TPoint ∷ []) ∷ (Box ∷ []) ∷ []) Free First
+    ∷ line Call ((codes "atgeometry", AtGeometry) ∷ (codes "minusgeometry", MinusGeometry) ∷ []) ((TPoint ∷ []) ∷ (Polygon ∷ []) ∷ []) Free First
+    ∷ line Call ((codes "eintersects", EIntersects) ∷ []) ((TPoint ∷ []) ∷ (Polygon ∷ []) ∷ []) Free (to ABool)
+    ∷ line Call ((codes "edwithin", EDwithin) ∷ []) (point_kind ∷ point_kind ∷ number ∷ []) OneMoving (to ABool)
+    ∷ line Call ((codes "nearestapproachsquared", NearestApproachSquared) ∷ []) (point_kind ∷ point_kind ∷ []) OneMoving (to Numeric)
+    ∷ line Call ((codes "astext", AsText) ∷ []) (printed ∷ []) Free (to Text)
+    ∷ []
+
+abbrev pub is_one_of : List (List ℕ) → List ℕ → Bool
+is_one_of ns name = list_any (λ n. bytes_eq name n) ns
+
+-- The signs and functions whose results may be irrational, whatever their arguments.
+abbrev pub is_irrational : Form → List ℕ → Bool
+is_irrational Word name = false
+is_irrational Sign name = is_one_of (codes "<->" ∷ codes "|=|" ∷ []) name
+is_irrational Call name = is_one_of (codes "tdwithin" ∷ codes "nearestapproachdistance" ∷ codes "length" ∷ codes "speed" ∷ []) name

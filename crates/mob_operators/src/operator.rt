@@ -1,0 +1,110 @@
+//! The operators of typed expressions.
+
+use mob_ast::Cmp;
+
+/// What a node of a typed expression does with the values of its arguments.
+#[derive(Clone, Copy, Debug, PartialEq, Eq)]
+pub enum Op {
+    /// NULL.
+    Null,
+    /// The constant of this number, counted from 0 in written order.
+    Const(u32),
+    /// A column of a table of FROM, both counted from 0.
+    Column {
+        /// The table of FROM.
+        from: u32,
+        /// Its column.
+        column: u32,
+    },
+    /// NOT.
+    Not,
+    /// AND.
+    And,
+    /// OR.
+    Or,
+    /// IS NULL.
+    IsNull,
+    /// IS NOT NULL.
+    IsNotNull,
+    /// A plain comparison.
+    Test(Cmp),
+    /// `+` between two arguments.
+    Add,
+    /// `-` between two arguments.
+    Subtract,
+    /// `*`
+    Multiply,
+    /// `/`
+    Divide,
+    /// `-` before its argument.
+    Negate,
+    /// `+` before its argument.
+    Same,
+    /// `||`
+    Join,
+    /// `&`
+    LiftedAnd,
+    /// `|`
+    LiftedOr,
+    /// `~`
+    LiftedNot,
+    /// A `#` sign: the comparison at each instant.
+    Lifted(Cmp),
+    /// A `?` sign: whether the comparison holds at some instant.
+    Ever(Cmp),
+    /// A `%` sign: whether the comparison holds at every instant.
+    Always(Cmp),
+    /// `&&`
+    Overlap,
+    /// atTime
+    AtTime,
+    /// minusTime
+    MinusTime,
+    /// atValues
+    AtValues,
+    /// minusValues
+    MinusValues,
+    /// valueAtTimestamp
+    ValueAtTimestamp,
+    /// getTime
+    GetTime,
+    /// whenTrue
+    WhenTrue,
+    /// getX
+    GetX,
+    /// getY
+    GetY,
+    /// stbox
+    BoxOf,
+    /// expandSpace
+    ExpandSpace,
+    /// atStbox
+    AtStbox,
+    /// minusStbox
+    MinusStbox,
+    /// atGeometry
+    AtGeometry,
+    /// minusGeometry
+    MinusGeometry,
+    /// eIntersects
+    EIntersects,
+    /// eDwithin
+    EDwithin,
+    /// nearestApproachSquared
+    NearestApproachSquared,
+    /// asText
+    AsText,
+    /// `::`
+    Cast,
+}
+
+/// How an operator is written.
+#[derive(Clone, Copy, Debug, PartialEq, Eq)]
+pub enum Form {
+    /// By words, as NOT or IS NULL.
+    Word,
+    /// By a sign.
+    Sign,
+    /// As a call of a function.
+    Call,
+}

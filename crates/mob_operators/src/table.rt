@@ -1,0 +1,523 @@
+//! The table of operators.
+
+use crate::operator::{Form, Op};
+use mob_ast::{Cmp, SqlType};
+
+/// What the arguments of a row have to meet beside their types.
+#[derive(Clone, Copy, Debug, PartialEq, Eq)]
+pub enum Bond {
+    /// Nothing.
+    Free,
+    /// At least one of them is temporal.
+    OneMoving,
+    /// Both have one type.
+    SameType,
+    /// The last one is a number literal.
+    ByLiteral,
+}
+
+/// Which type a row gives.
+#[derive(Clone, Copy, Debug, PartialEq, Eq)]
+pub enum Gives {
+    /// This type.
+    Only(SqlType),
+    /// The type of the first argument.
+    First,
+    /// The first of these types where every argument is whole, an int or a tint, else the second.
+    Whole(SqlType, SqlType),
+}
+
+/// A row of the table: how its operators are written, what they take and what they give.
+#[derive(Clone, Copy)]
+pub struct Row {
+    /// Whether they are words, signs or functions.
+    pub form: Form,
+    /// Each operator with its name, in lower case.
+    pub names: &'static [(&'static str, Op)],
+    /// For each argument the types that are taken.
+    pub takes: &'static [&'static [SqlType]],
+    /// What else the arguments have to meet.
+    pub bond: Bond,
+    /// The type of the result.
+    pub gives: Gives,
+}
+
+const BOOL: &'static [SqlType] = &[SqlType::Bool];
+
+const INT: &'static [SqlType] = &[SqlType::Int];
+
+const NUMBER: &'static [SqlType] = &[SqlType::Int, SqlType::Numeric];
+
+const TEXT: &'static [SqlType] = &[SqlType::Text];
+
+const MOMENT: &'static [SqlType] = &[SqlType::Moment];
+
+const POINT: &'static [SqlType] = &[SqlType::Point];
+
+const POLYGON: &'static [SqlType] = &[SqlType::Polygon];
+
+const BOX: &'static [SqlType] = &[SqlType::Box];
+
+const TBOOL: &'static [SqlType] = &[SqlType::TBool];
+
+const TINT: &'static [SqlType] = &[SqlType::TInt];
+
+const TFRAC: &'static [SqlType] = &[SqlType::TFrac];
+
+const TNUMBER: &'static [SqlType] = &[SqlType::TInt, SqlType::TFrac];
+
+const TTEXT: &'static [SqlType] = &[SqlType::TText];
+
+const TPOINT: &'static [SqlType] = &[SqlType::TPoint];
+
+// A value of a kind, or a temporal value of it.
+const BOOL_KIND: &'static [SqlType] = &[SqlType::Bool, SqlType::TBool];
+
+const NUMBER_KIND: &'static [SqlType] = &[
+    SqlType::Int,
+    SqlType::Numeric,
+    SqlType::TInt,
+    SqlType::TFrac,
+];
+
+const TEXT_KIND: &'static [SqlType] = &[SqlType::Text, SqlType::TText];
+
+const POINT_KIND: &'static [SqlType] = &[SqlType::Point, SqlType::TPoint];
+
+const TEMPORAL: &'static [SqlType] = &[
+    SqlType::TBool,
+    SqlType::TInt,
+    SqlType::TFrac,
+    SqlType::TText,
+    SqlType::TPoint,
+];
+
+const TIME: &'static [SqlType] = &[SqlType::Moment, SqlType::Span, SqlType::SpanSet];
+
+const PLACE: &'static [SqlType] = &[SqlType::Box, SqlType::TPoint];
+
+const PRINTED: &'static [SqlType] = &[
+    SqlType::TBool,
+    SqlType::TInt,
+    SqlType::TFrac,
+    SqlType::TText,
+    SqlType::TPoint,
+    SqlType::Point,
+    SqlType::Polygon,
+    SqlType::Span,
+    SqlType::SpanSet,
+    SqlType::Box,
+];
+
+const COMPARED: &'static [SqlType] = &[
+    SqlType::Bool,
+    SqlType::Int,
+    SqlType::Numeric,
+    SqlType::Text,
+    SqlType::Moment,
+    SqlType::Point,
+    SqlType::Span,
+    SqlType::SpanSet,
+    SqlType::Box,
+    SqlType::TBool,
+    SqlType::TInt,
+    SqlType::TFrac,
+    SqlType::TText,
+    SqlType::TPoint,
+];
+
+const ANY: &'static [SqlType] = &[
+    SqlType::Bool,
+    SqlType::Int,
+    SqlType::Numeric,
+    SqlType::Text,
+    SqlType::Moment,
+    SqlType::Point,
+    SqlType::Polygon,
+    SqlType::Span,
+    SqlType::SpanSet,
+    SqlType::Box,
+    SqlType::TBool,
+    SqlType::TInt,
+    SqlType::TFrac,
+    SqlType::TText,
+    SqlType::TPoint,
+];
+
+// The names of six comparisons, or of some of them.
+const TESTS: &'static [(&'static str, Op)] = &[("=", Op::Test(Cmp::Eq)), ("<>", Op::Test(Cmp::Ne))];
+
+const ORDERS: &'static [(&'static str, Op)] = &[
+    ("<", Op::Test(Cmp::Lt)),
+    ("<=", Op::Test(Cmp::Le)),
+    (">", Op::Test(Cmp::Gt)),
+    (">=", Op::Test(Cmp::Ge)),
+];
+
+const LIFTED_TESTS: &'static [(&'static str, Op)] = &[
+    ("#=", Op::Lifted(Cmp::Eq)),
+    ("#<>", Op::Lifted(Cmp::Ne)),
+];
+
+const LIFTED_ORDERS: &'static [(&'static str, Op)] = &[
+    ("#<", Op::Lifted(Cmp::Lt)),
+    ("#<=", Op::Lifted(Cmp::Le)),
+    ("#>", Op::Lifted(Cmp::Gt)),
+    ("#>=", Op::Lifted(Cmp::Ge)),
+];
+
+const WHOLE_TESTS: &'static [(&'static str, Op)] = &[
+    ("?=", Op::Ever(Cmp::Eq)),
+    ("?<>", Op::Ever(Cmp::Ne)),
+    ("%=", Op::Always(Cmp::Eq)),
+    ("%<>", Op::Always(Cmp::Ne)),
+];
+
+const WHOLE_ORDERS: &'static [(&'static str, Op)] = &[
+    ("?<", Op::Ever(Cmp::Lt)),
+    ("?<=", Op::Ever(Cmp::Le)),
+    ("?>", Op::Ever(Cmp::Gt)),
+    ("?>=", Op::Ever(Cmp::Ge)),
+    ("%<", Op::Always(Cmp::Lt)),
+    ("%<=", Op::Always(Cmp::Le)),
+    ("%>", Op::Always(Cmp::Gt)),
+    ("%>=", Op::Always(Cmp::Ge)),
+];
+
+const ADDED: &'static [(&'static str, Op)] = &[("+", Op::Add), ("-", Op::Subtract)];
+
+const TIMES: &'static [(&'static str, Op)] = &[("*", Op::Multiply)];
+
+const JOIN: &'static [(&'static str, Op)] = &[("||", Op::Join)];
+
+const TO_BOOL: Gives = Gives::Only(SqlType::Bool);
+
+const TO_TBOOL: Gives = Gives::Only(SqlType::TBool);
+
+const TO_NUMBER: Gives = Gives::Whole(SqlType::Int, SqlType::Numeric);
+
+const TO_TNUMBER: Gives = Gives::Whole(SqlType::TInt, SqlType::TFrac);
+
+// A row on one line.
+macro_rules! row {
+    ($form:ident, $names:expr, [$($class:expr),*], $bond:ident, $gives:expr) => {
+        Row { form: Form::$form, names: $names, takes: &[$($class),*], bond: Bond::$bond, gives: $gives }
+    };
+}
+
+/// The table, row by row.
+pub static ROWS: [Row; 58] = [
+    row!(Word, &[("not", Op::Not)], [BOOL], Free, TO_BOOL),
+    row!(
+        Word,
+        &[("and", Op::And), ("or", Op::Or)],
+        [BOOL, BOOL],
+        Free,
+        TO_BOOL
+    ),
+    row!(
+        Word,
+        &[("is null", Op::IsNull), ("is not null", Op::IsNotNull)],
+        [ANY],
+        Free,
+        TO_BOOL
+    ),
+    row!(Sign, TESTS, [COMPARED, COMPARED], SameType, TO_BOOL),
+    row!(Sign, TESTS, [NUMBER, NUMBER], Free, TO_BOOL),
+    row!(Sign, TESTS, [TNUMBER, TNUMBER], Free, TO_BOOL),
+    row!(Sign, ORDERS, [NUMBER, NUMBER], Free, TO_BOOL),
+    row!(Sign, ORDERS, [TEXT, TEXT], Free, TO_BOOL),
+    row!(Sign, ORDERS, [MOMENT, MOMENT], Free, TO_BOOL),
+    row!(Sign, ADDED, [NUMBER, NUMBER], Free, TO_NUMBER),
+    row!(Sign, TIMES, [NUMBER, NUMBER], Free, TO_NUMBER),
+    row!(
+        Sign,
+        &[("/", Op::Divide)],
+        [NUMBER, NUMBER],
+        ByLiteral,
+        Gives::Only(SqlType::Numeric)
+    ),
+    row!(
+        Sign,
+        &[("-", Op::Negate), ("+", Op::Same)],
+        [NUMBER],
+        Free,
+        Gives::First
+    ),
+    row!(
+        Sign,
+        ADDED,
+        [NUMBER_KIND, NUMBER_KIND],
+        OneMoving,
+        TO_TNUMBER
+    ),
+    row!(Sign, TIMES, [NUMBER, TNUMBER], Free, TO_TNUMBER),
+    row!(Sign, TIMES, [TNUMBER, NUMBER], Free, TO_TNUMBER),
+    row!(Sign, TIMES, [TINT, TNUMBER], Free, TO_TNUMBER),
+    row!(Sign, TIMES, [TFRAC, TINT], Free, TO_TNUMBER),
+    row!(
+        Sign,
+        &[("/", Op::Divide)],
+        [TNUMBER, NUMBER],
+        ByLiteral,
+        Gives::Only(SqlType::TFrac)
+    ),
+    row!(Sign, JOIN, [TEXT, TEXT], Free, Gives::Only(SqlType::Text)),
+    row!(
+        Sign,
+        JOIN,
+        [TEXT_KIND, TEXT_KIND],
+        OneMoving,
+        Gives::Only(SqlType::TText)
+    ),
+    row!(
+        Sign,
+        &[("&", Op::LiftedAnd), ("|", Op::LiftedOr)],
+        [BOOL_KIND, BOOL_KIND],
+        OneMoving,
+        TO_TBOOL
+    ),
+    row!(Sign, &[("~", Op::LiftedNot)], [TBOOL], Free, TO_TBOOL),
+    row!(
+        Sign,
+        LIFTED_TESTS,
+        [BOOL_KIND, BOOL_KIND],
+        OneMoving,
+        TO_TBOOL
+    ),
+    row!(
+        Sign,
+        LIFTED_TESTS,
+        [NUMBER_KIND, NUMBER_KIND],
+        OneMoving,
+        TO_TBOOL
+    ),
+    row!(
+        Sign,
+        LIFTED_TESTS,
+        [TEXT_KIND, TEXT_KIND],
+        OneMoving,
+        TO_TBOOL
+    ),
+    row!(
+        Sign,
+        LIFTED_TESTS,
+        [POINT_KIND, POINT_KIND],
+        OneMoving,
+        TO_TBOOL
+    ),
+    row!(
+        Sign,
+        LIFTED_ORDERS,
+        [NUMBER_KIND, NUMBER_KIND],
+        OneMoving,
+        TO_TBOOL
+    ),
+    row!(
+        Sign,
+        LIFTED_ORDERS,
+        [TEXT_KIND, TEXT_KIND],
+        OneMoving,
+        TO_TBOOL
+    ),
+    row!(
+        Sign,
+        WHOLE_TESTS,
+        [BOOL_KIND, BOOL_KIND],
+        OneMoving,
+        TO_BOOL
+    ),
+    row!(
+        Sign,
+        WHOLE_TESTS,
+        [NUMBER_KIND, NUMBER_KIND],
+        OneMoving,
+        TO_BOOL
+    ),
+    row!(
+        Sign,
+        WHOLE_TESTS,
+        [TEXT_KIND, TEXT_KIND],
+        OneMoving,
+        TO_BOOL
+    ),
+    row!(
+        Sign,
+        WHOLE_TESTS,
+        [POINT_KIND, POINT_KIND],
+        OneMoving,
+        TO_BOOL
+    ),
+    row!(
+        Sign,
+        WHOLE_ORDERS,
+        [NUMBER_KIND, NUMBER_KIND],
+        OneMoving,
+        TO_BOOL
+    ),
+    row!(
+        Sign,
+        WHOLE_ORDERS,
+        [TEXT_KIND, TEXT_KIND],
+        OneMoving,
+        TO_BOOL
+    ),
+    row!(Sign, &[("&&", Op::Overlap)], [PLACE, PLACE], Free, TO_BOOL),
+    row!(
+        Call,
+        &[("attime", Op::AtTime), ("minustime", Op::MinusTime)],
+        [TEMPORAL, TIME],
+        Free,
+        Gives::First
+    ),
+    row!(
+        Call,
+        &[("atvalues", Op::AtValues), ("minusvalues", Op::MinusValues)],
+        [TBOOL, BOOL],
+        Free,
+        Gives::First
+    ),
+    row!(
+        Call,
+        &[("atvalues", Op::AtValues), ("minusvalues", Op::MinusValues)],
+        [TINT, INT],
+        Free,
+        Gives::First
+    ),
+    row!(
+        Call,
+        &[("atvalues", Op::AtValues), ("minusvalues", Op::MinusValues)],
+        [TFRAC, NUMBER],
+        Free,
+        Gives::First
+    ),
+    row!(
+        Call,
+        &[("atvalues", Op::AtValues), ("minusvalues", Op::MinusValues)],
+        [TTEXT, TEXT],
+        Free,
+        Gives::First
+    ),
+    row!(
+        Call,
+        &[("atvalues", Op::AtValues), ("minusvalues", Op::MinusValues)],
+        [TPOINT, POINT],
+        Free,
+        Gives::First
+    ),
+    row!(
+        Call,
+        &[("valueattimestamp", Op::ValueAtTimestamp)],
+        [TBOOL, MOMENT],
+        Free,
+        TO_BOOL
+    ),
+    row!(
+        Call,
+        &[("valueattimestamp", Op::ValueAtTimestamp)],
+        [TINT, MOMENT],
+        Free,
+        Gives::Only(SqlType::Int)
+    ),
+    row!(
+        Call,
+        &[("valueattimestamp", Op::ValueAtTimestamp)],
+        [TFRAC, MOMENT],
+        Free,
+        Gives::Only(SqlType::Numeric)
+    ),
+    row!(
+        Call,
+        &[("valueattimestamp", Op::ValueAtTimestamp)],
+        [TTEXT, MOMENT],
+        Free,
+        Gives::Only(SqlType::Text)
+    ),
+    row!(
+        Call,
+        &[("valueattimestamp", Op::ValueAtTimestamp)],
+        [TPOINT, MOMENT],
+        Free,
+        Gives::Only(SqlType::Point)
+    ),
+    row!(
+        Call,
+        &[("gettime", Op::GetTime)],
+        [TEMPORAL],
+        Free,
+        Gives::Only(SqlType::SpanSet)
+    ),
+    row!(
+        Call,
+        &[("whentrue", Op::WhenTrue)],
+        [TBOOL],
+        Free,
+        Gives::Only(SqlType::SpanSet)
+    ),
+    row!(
+        Call,
+        &[("getx", Op::GetX), ("gety", Op::GetY)],
+        [TPOINT],
+        Free,
+        Gives::Only(SqlType::TFrac)
+    ),
+    row!(
+        Call,
+        &[("stbox", Op::BoxOf)],
+        [TPOINT],
+        Free,
+        Gives::Only(SqlType::Box)
+    ),
+    row!(
+        Call,
+        &[("expandspace", Op::ExpandSpace)],
+        [PLACE, NUMBER],
+        Free,
+        Gives::Only(SqlType::Box)
+    ),
+    row!(
+        Call,
+        &[("atstbox", Op::AtStbox), ("minusstbox", Op::MinusStbox)],
+        [TPOINT, BOX],
+        Free,
+        Gives::First
+    ),
+    row!(
+        Call,
+        &[
+            ("atgeometry", Op::AtGeometry),
+            ("minusgeometry", Op::MinusGeometry)
+        ],
+        [TPOINT, POLYGON],
+        Free,
+        Gives::First
+    ),
+    row!(
+        Call,
+        &[("eintersects", Op::EIntersects)],
+        [TPOINT, POLYGON],
+        Free,
+        TO_BOOL
+    ),
+    row!(
+        Call,
+        &[("edwithin", Op::EDwithin)],
+        [POINT_KIND, POINT_KIND, NUMBER],
+        OneMoving,
+        TO_BOOL
+    ),
+    row!(
+        Call,
+        &[("nearestapproachsquared", Op::NearestApproachSquared)],
+        [POINT_KIND, POINT_KIND],
+        OneMoving,
+        Gives::Only(SqlType::Numeric)
+    ),
+    row!(
+        Call,
+        &[("astext", Op::AsText)],
+        [PRINTED],
+        Free,
+        Gives::Only(SqlType::Text)
+    ),
+];

@@ -1,0 +1,57 @@
+-- A text of 1 to 18 digits is read as its number.
+use Rattle.std.proofs.Common.{◌≡◌, ◌∙◌, ◌<◌, ◌≤◌, ◌≢◌, ◌^◌, ◌&&◌, refl, sym, ap, subst, ℕ, List, [], ◌∷◌, Bool, true, false, length, get_or, Option, Some, None, Result, Ok, Err, cond, arith, lit<}
+use Rattle.std.specs.Prelude.{nat_le}
+use Rattle.std.specs.List.{list_all}
+use Rattle.std.specs.Char.{is_ascii_digit, digit_value}
+use Rattle.std.specs.Result.{result_ok}
+use Rattle.std.specs.Str.Parse.{AllDigits, IsNumeral, digits_value, ParsesUnsigned, without_leading_plus}
+use Rattle.std.proofs.lemmas.Bool.{leb-true}
+use Rattle.std.proofs.lemmas.Bool.Decides.{nat_tests}
+use Rattle.std.proofs.lemmas.Int.Digits.{digits_value-lt}
+use Rattle.std.proofs.lemmas.Str.Parse.{digit_at, without_leading_plus_none}
+use Rattle.std.proofs.Math.Nat.{pow-le-pow_right}
+use Rattle.mob_typing.specs.Selects.{is_limit, limit_value}
+
+and_left : (a b : Bool) → (a && b) ≡ true → a ≡ true
+and_left true b h = refl
+and_left false b h = h
+
+and_right : (a b : Bool) → (a && b) ≡ true → b ≡ true
+and_right true b h = h
+and_right false b h = absurd (cc)
+
+digit_small : (c : ℕ) → is_ascii_digit c ≡ true → digit_value c < 10
+digit_small c h = grind (arith, nat_tests)
+
+all_digits : (bs : List ℕ) → list_all is_ascii_digit bs ≡ true → AllDigits 10 bs
+all_digits [] h = tt
+all_digits (c ∷ cs) h = (digit_small c (and_left (is_ascii_digit c) (list_all is_ascii_digit cs) h), all_digits cs (and_right (is_ascii_digit c) (list_all is_ascii_digit cs) h))
+
+module _ (bs : List ℕ) (h : is_limit bs ≡ true) where
+  front : (list_all is_ascii_digit bs && nat_le 1 (length bs)) ≡ true
+  front = and_left (list_all is_ascii_digit bs && nat_le 1 (length bs)) (nat_le (length bs) 18) h
+
+  digits : AllDigits 10 bs
+  digits = all_digits bs (and_left (list_all is_ascii_digit bs) (nat_le 1 (length bs)) front)
+
+  some : 1 ≤ length bs
+  some = leb-true 1 (length bs) (and_right (list_all is_ascii_digit bs) (nat_le 1 (length bs)) front)
+
+  few : length bs ≤ 18
+  few = leb-true (length bs) 18 (and_right (list_all is_ascii_digit bs && nat_le 1 (length bs)) (nat_le (length bs) 18) h)
+
+  no_plus : without_leading_plus bs ≡ bs
+  no_plus = let r = digit_at bs 0 digits some in without_leading_plus_none bs (λ e. absurd (omega (arith, r)))
+
+  fits : digits_value 10 bs < 2 ^ 64
+  fits = let small : digits_value 10 bs < 10 ^ length bs = digits_value-lt 10 bs digits in let below : 10 ^ length bs ≤ 10 ^ 18 = pow-le-pow_right {n = 10} (lit< tt) few in omega (arith, small, below)
+
+  numeral : IsNumeral 10 bs
+  numeral = (some, digits)
+
+  value : limit_value bs ≡ Some (digits_value 10 bs)
+  value = ap (λ b. cond b (Some (digits_value 10 bs)) None) h
+
+  pub limit_parsed : {E : Type 0} (r : Result ℕ E) → ParsesUnsigned 64 10 bs r → result_ok r ≡ limit_value bs
+  limit_parsed (Ok n) p = ap (λ v. Some v) (p.1 ∙ ap (digits_value 10) no_plus) ∙ sym value
+  limit_parsed (Err e) p = absurd (p (subst (λ ds. IsNumeral 10 ds) (sym no_plus) numeral, subst (λ ds. digits_value 10 ds < 2 ^ 64) (sym no_plus) fits))

@@ -1,0 +1,11 @@
+use Rattle.std.proofs.Common.{sym, ◌∙◌, ap}
+use Rattle.std.specs.Prelude.{option_map}
+use Rattle.mob_typing.specs.Names.{NameLists}
+use Rattle.mob_typing.proofs.Entries.{entry_there, entry_missing}
+use Rattle.mob_typing.proofs.names.Names.find.Goals as goal
+
+pub returns-in_err-index : goal.returns-in_err-index
+returns-in_err-index c = record { first = rw c.from_residual.ensures (entry_missing c.args.name.now c.self.inside.tables.entries _ (ap (λ (n : NameLists). n.tables) (sym c.self.view_is)) c.in_err-index.ensures.index) }
+
+pub returns : goal.returns
+returns c = record { first = entry_there c.args.name.now c.self.inside.tables.entries _ _ _ (ap (λ (n : NameLists). n.tables) (sym c.self.view_is)) c.in_ok-index.ensures.index c.in_ok-index.ensures.value }

@@ -1,0 +1,7 @@
+use Rattle.std.proofs.Common.{ap, subst}
+use Rattle.mob_typing.specs.Expressions.{finished}
+use Rattle.mob_typing.proofs.operators.finished.Goals as goal
+
+pub returns-in-IsNotNull : goal.returns-in-IsNotNull
+unfolding finished
+returns-in-IsNotNull c = record { typed = rw c.in-IsNotNull.is c.operated-in-IsNotNull.ensures }

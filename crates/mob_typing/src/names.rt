@@ -1,0 +1,159 @@
+//! The tables, columns and indexes that a script has made so far, by name and by number.
+ghost use Rattle.std.specs.Prelude.{◌≡◌, ◌<◌, Some, ◌∷◌, ◌++◌, [], None, false, length, OnOk, is_some, option_map, slice_get};
+ghost use Rattle.mob_typing.specs.Names.{column_of, table_of, has_name, has_entry};
+
+use indexmap::{IndexMap, IndexSet};
+use mob_ast::SqlType;
+use std::alloc::{AllocError, Global};
+use std::marker::Model;
+
+/// The columns of a table in their order, each with its type.
+#[derive(Drop)]
+pub struct Columns {
+    types: IndexMap<String, SqlType>,
+}
+
+impl Model for Columns {
+    ghost use Rattle.std.specs.Prelude.{List, ℕ, map, string_bytes};
+    ghost use Rattle.mob_ast.specs.declared.types.SqlType.{SqlType};
+
+    ghost Value = { List (List ℕ × SqlType) };
+
+    ghost view = { λ c. map (λ e. (string_bytes e.0, e.1)) c.types.entries };
+}
+
+impl Columns {
+    /// No columns yet.
+    pub fn new(alloc: Global) -> Self
+        ensures empty { result ≡ [] }
+    {
+        Columns {
+            types: IndexMap::new(alloc),
+        }
+    }
+
+    /// How many columns there are.
+    pub fn len(&self) -> usize
+        ensures count { result ≡ length self.now }
+    {
+        self.types.len()
+    }
+
+    /// The number and the type of the column of this name.
+    pub fn find(&self, name: &str) -> Option<(usize, SqlType)>
+        ensures first { result ≡ column_of self.now name.now }
+    {
+        let (index, _, ty) = self.types.get_full(name)?;
+        Some((index, *ty))
+    }
+
+    /// Whether there is a column of this name.
+    pub fn has(&self, name: &str) -> bool
+        ensures known { result ≡ has_entry self.now name.now }
+    {
+        self.find(name).is_some()
+    }
+
+    /// The name and the type of the column of this number.
+    pub fn at(&self, index: usize) -> (&str, SqlType)
+        requires { index < length self.now }
+        ensures stored { slice_get self.now index ≡ Some (result.0.now, result.1) }
+    {
+        let Some((name, ty)) = self.types.get_index(index) else {
+            unreachable!()
+        };
+        (name.as_str(), *ty)
+    }
+
+    /// Adds a column of a new name behind the others.
+    pub fn add(&mut self, alloc: Global, name: &str, ty: SqlType) -> Result<(), AllocError>
+        requires { has_entry self.old name.now ≡ false }
+        ensures last { OnOk result (self.new ≡ self.old ++ (name.now, ty) ∷ []) }
+    {
+        self.types.insert(String::from_str(alloc, name)?, ty)?;
+        Ok(())
+    }
+}
+
+/// The tables and the indexes that a script has made so far.
+#[derive(Drop)]
+pub struct Names {
+    tables: IndexMap<String, Columns>,
+    indexes: IndexSet<String>,
+}
+
+impl Model for Names {
+    ghost use Rattle.std.specs.Prelude.{map, string_bytes};
+    ghost use Rattle.mob_typing.specs.Names.{NameLists};
+
+    ghost Value = { NameLists };
+
+    ghost view = { λ n. record { tables = map (λ e. (string_bytes e.0, e.1)) n.tables.entries; indexes = map string_bytes n.indexes.keys } };
+}
+
+impl Names {
+    /// No names yet.
+    pub fn new(alloc: Global) -> Self
+        ensures no_tables { result.tables ≡ [] }
+        ensures no_indexes { result.indexes ≡ [] }
+    {
+        Names {
+            tables: IndexMap::new(alloc),
+            indexes: IndexSet::new(alloc),
+        }
+    }
+
+    /// How many tables there are.
+    pub fn len(&self) -> usize
+        ensures count { result ≡ length self.now.tables }
+    {
+        self.tables.len()
+    }
+
+    /// The number and the columns of the table of this name.
+    pub fn find(&self, name: &str) -> Option<(usize, &Columns)>
+        ensures first { option_map (λ t. (t.0, t.1.now)) result ≡ table_of self.now.tables name.now }
+    {
+        let (index, _, columns) = self.tables.get_full(name)?;
+        Some((index, columns))
+    }
+
+    /// Whether there is a table of this name.
+    pub fn has(&self, name: &str) -> bool
+        ensures known { result ≡ has_entry self.now.tables name.now }
+    {
+        self.find(name).is_some()
+    }
+
+    /// Whether there is an index of this name.
+    pub fn has_index(&self, name: &str) -> bool
+        ensures known { result ≡ has_name self.now.indexes name.now }
+    {
+        self.indexes.contains(name)
+    }
+
+    /// Adds a table of a new name behind the others.
+    pub fn add_table(
+        &mut self,
+        alloc: Global,
+        name: &str,
+        columns: Columns,
+    ) -> Result<(), AllocError>
+        requires { has_entry self.old.tables name.now ≡ false }
+        ensures last { OnOk result (self.new.tables ≡ self.old.tables ++ (name.now, columns) ∷ []) }
+        ensures same_indexes { OnOk result (self.new.indexes ≡ self.old.indexes) }
+    {
+        self.tables.insert(String::from_str(alloc, name)?, columns)?;
+        Ok(())
+    }
+
+    /// Adds an index of a new name behind the others.
+    pub fn add_index(&mut self, alloc: Global, name: &str) -> Result<(), AllocError>
+        requires { has_name self.old.indexes name.now ≡ false }
+        ensures last { OnOk result (self.new.indexes ≡ self.old.indexes ++ name.now ∷ []) }
+        ensures same_tables { OnOk result (self.new.tables ≡ self.old.tables) }
+    {
+        self.indexes.insert(String::from_str(alloc, name)?)?;
+        Ok(())
+    }
+}

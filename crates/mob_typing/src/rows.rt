@@ -1,0 +1,316 @@
+//! INSERT and COPY.
+ghost use Rattle.std.specs.Prelude.{◌≡◌, [], length, map, option_map, IfOk};
+ghost use Rattle.mob_ast.specs.Trees.{tree_of, trees_of, row_of};
+ghost use Rattle.mob_operators.specs.Lookup.{same_type};
+ghost use Rattle.mob_typing.specs.Answers.{Answers, Gives};
+ghost use Rattle.mob_typing.specs.Statements.{noted, lone_number, signed_value, bool_value, typed_value, node_value, value_of, row_values, typed_row, typed_rows, inserted, good_delimiter, copied, statement_seen};
+
+use crate::constants::only;
+use crate::fault::Fault;
+use crate::names::{Columns, Names};
+use crate::operators::is_signed;
+use crate::scope::number;
+use crate::typed::{ConstText, TypedStatement};
+use crate::words::literal_type;
+use mob_ast::{Expr, Kind, Node, Quoted, Row, SqlType, TypeWord, Word};
+use mob_list::items::Items;
+use mob_list::text::Text;
+use std::alloc::{AllocError, Global};
+
+// A constant of a statement of this number.
+fn noted(
+    alloc: Global,
+    statement: u32,
+    consts: &mut Items<ConstText>,
+    ty: SqlType,
+    text: &str,
+    place: u32,
+) -> Result<Option<u32>, Fault>
+    ensures { Gives (λ v. v) result consts.new (noted statement ty text.now place consts.old) }
+{
+    let index = number(consts.len())?;
+    let text = Text::from_string(String::from_str(alloc, text)?);
+    consts.push(ConstText {
+        ty,
+        text,
+        statement,
+        place,
+    })?;
+    Ok(Some(index))
+}
+
+// The digits of a number and their place, where the operands are a number alone.
+#[tactic(auto, using(crate::proofs::TreeFacts::tree_is))]
+fn lone_number(args: &[Expr]) -> Option<(&str, u32)>
+    ensures { option_map (λ r. (r.0.now, r.1)) result ≡ lone_number (trees_of args.now) }
+{
+    let only = only(args)?;
+    match &only.node {
+        Node::Number(text) => Some((text.as_str(), only.place)),
+        _ => None,
+    }
+}
+
+// A number behind its sign.
+fn signed_value(
+    alloc: Global,
+    statement: u32,
+    consts: &mut Items<ConstText>,
+    ty: SqlType,
+    sign: &str,
+    place: u32,
+    args: &[Expr],
+) -> Result<Option<u32>, Fault>
+    ensures { Gives (λ v. v) result consts.new (signed_value statement ty sign.now place (lone_number (trees_of args.now)) consts.old) }
+{
+    let Some((digits, digits_place)) = lone_number(args) else {
+        return Err(Fault::Wrong {
+            kind: Kind::NoSuchOperator,
+            place,
+        });
+    };
+    if !is_signed(sign) {
+        return Err(Fault::Wrong {
+            kind: Kind::NoSuchOperator,
+            place,
+        });
+    }
+    let mut text = String::from_str(alloc, sign)?;
+    text.push_str(digits)?;
+    noted(alloc, statement, consts, ty, text.as_str(), digits_place)
+}
+
+// Whether two types are one.
+fn is_same(a: SqlType, b: SqlType) -> bool
+    ensures { result ≡ same_type a b }
+{
+    a == b
+}
+
+// TRUE and FALSE stand in a bool column alone.
+fn bool_value(
+    alloc: Global,
+    statement: u32,
+    consts: &mut Items<ConstText>,
+    ty: SqlType,
+    text: &str,
+    place: u32,
+) -> Result<Option<u32>, Fault>
+    ensures { Gives (λ v. v) result consts.new (bool_value statement ty text.now place consts.old) }
+{
+    if !is_same(ty, SqlType::Bool) {
+        return Err(Fault::Wrong {
+            kind: Kind::NoSuchOperator,
+            place,
+        });
+    }
+    noted(alloc, statement, consts, ty, text, place)
+}
+
+// A typed string has the column's type.
+fn typed_value(
+    alloc: Global,
+    statement: u32,
+    consts: &mut Items<ConstText>,
+    ty: SqlType,
+    word: &TypeWord,
+    text: &str,
+    place: u32,
+) -> Result<Option<u32>, Fault>
+    ensures { Gives (λ v. v) result consts.new (typed_value statement ty word.now text.now place consts.old) }
+{
+    let Some(own) = literal_type(word, text) else {
+        return Err(Fault::Wrong {
+            kind: Kind::UnknownName,
+            place: word.name.place,
+        });
+    };
+    if !is_same(own, ty) {
+        return Err(Fault::Wrong {
+            kind: Kind::NoSuchOperator,
+            place,
+        });
+    }
+    noted(alloc, statement, consts, ty, text, place)
+}
+
+// A value of a row, which is read as the column's type.
+#[tactic(auto, unfolding(crate::specs::Statements::node_value))]
+fn node_value(
+    alloc: Global,
+    statement: u32,
+    consts: &mut Items<ConstText>,
+    ty: SqlType,
+    node: &Node,
+    place: u32,
+    args: &[Expr],
+) -> Result<Option<u32>, Fault>
+    ensures { Gives (λ v. v) result consts.new (node_value statement ty node.now place (trees_of args.now) consts.old) }
+{
+    match node {
+        Node::Null => Ok(None),
+        Node::True => bool_value(alloc, statement, consts, ty, "true", place),
+        Node::False => bool_value(alloc, statement, consts, ty, "false", place),
+        Node::Number(text) => noted(alloc, statement, consts, ty, text.as_str(), place),
+        Node::Str(text) => noted(alloc, statement, consts, ty, text.as_str(), place),
+        Node::Literal { ty: word, text } => typed_value(
+            alloc,
+            statement,
+            consts,
+            ty,
+            word,
+            text.as_str(),
+            place,
+        ),
+        Node::Sign(sign) => signed_value(alloc, statement, consts, ty, sign.as_str(), place, args),
+        _ => Err(Fault::Wrong {
+            kind: Kind::NoSuchOperator,
+            place,
+        }),
+    }
+}
+
+fn value_of(
+    alloc: Global,
+    statement: u32,
+    consts: &mut Items<ConstText>,
+    ty: SqlType,
+    e: &Expr,
+) -> Result<Option<u32>, Fault>
+    ensures { Gives (λ v. v) result consts.new (value_of statement ty (tree_of e.now) consts.old) }
+{
+    node_value(alloc, statement, consts, ty, &e.node, e.place, &e.args)
+}
+
+// The values of a row, one for each column.
+fn row_values(
+    alloc: Global,
+    statement: u32,
+    consts: &mut Items<ConstText>,
+    columns: &Columns,
+    values: &[Expr],
+) -> Result<Items<Option<u32>>, Fault>
+    requires { length values.now ≡ length columns.now }
+    ensures { Gives (λ v. v) result consts.new (row_values statement columns.now [] (map tree_of values.now) consts.old) }
+{
+    let mut done = Items::new(alloc);
+    for (index, value) in values.iter().enumerate() {
+        let (_, ty) = columns.at(index);
+        let number = value_of(alloc, statement, consts, ty, value)?;
+        done.push(number)?;
+    }
+    Ok(done)
+}
+
+// A row, which has as many values as the table has columns.
+fn typed_row(
+    alloc: Global,
+    statement: u32,
+    consts: &mut Items<ConstText>,
+    columns: &Columns,
+    row: &Row,
+) -> Result<Items<Option<u32>>, Fault>
+    ensures { Gives (λ v. v) result consts.new (typed_row statement columns.now (row_of row.now) consts.old) }
+{
+    if row.values.len() != columns.len() {
+        return Err(Fault::Wrong {
+            kind: Kind::BadCount,
+            place: row.place,
+        });
+    }
+    row_values(alloc, statement, consts, columns, row.values.as_slice())
+}
+
+// The rows in order.
+fn typed_rows(
+    alloc: Global,
+    statement: u32,
+    consts: &mut Items<ConstText>,
+    columns: &Columns,
+    rows: &[Row],
+) -> Result<Items<Items<Option<u32>>>, Fault>
+    ensures { Gives (λ v. v) result consts.new (typed_rows statement columns.now [] (map row_of rows.now) consts.old) }
+{
+    let mut done = Items::new(alloc);
+    for row in rows {
+        let values = typed_row(alloc, statement, consts, columns, row)?;
+        done.push(values)?;
+    }
+    Ok(done)
+}
+
+// The places of the rows' brackets.
+fn places_of(alloc: Global, rows: &[Row]) -> Result<Items<u32>, AllocError>
+    ensures { IfOk result (λ v. v ≡ map (λ r. r.place) (map row_of rows.now)) }
+{
+    let mut places = Items::new(alloc);
+    for row in rows {
+        places.push(row.place)?;
+    }
+    Ok(places)
+}
+
+/// The rows of an INSERT, or what is wrong first.
+pub fn inserted(
+    alloc: Global,
+    statement: u32,
+    names: &Names,
+    consts: &mut Items<ConstText>,
+    table: &Word,
+    rows: &[Row],
+) -> Result<TypedStatement, Fault>
+    ensures made { Gives (λ t. record { statement = statement_seen t; names = names.now }) result consts.new (inserted statement names.now table.now (map row_of rows.now) consts.old) }
+{
+    let Some((index, columns)) = names.find(table.text.as_str()) else {
+        return Err(Fault::Wrong {
+            kind: Kind::UnknownName,
+            place: table.place,
+        });
+    };
+    let values = typed_rows(alloc, statement, consts, columns, rows)?;
+    let places = places_of(alloc, rows)?;
+    let table = number(index)?;
+    Ok(TypedStatement::Insert {
+        table,
+        rows: values,
+        places,
+    })
+}
+
+// The string behind DELIMITER is one comma.
+fn good_delimiter(delimiter: &Option<Quoted>) -> Result<(), Fault>
+    ensures { Answers (λ u. u) result (good_delimiter delimiter.now) }
+{
+    let Some(string) = delimiter else {
+        return Ok(());
+    };
+    if string.text.as_str() != "," {
+        return Err(Fault::Wrong {
+            kind: Kind::NoSuchOperator,
+            place: string.place,
+        });
+    }
+    Ok(())
+}
+
+/// A COPY, or what is wrong first.
+pub fn copied(
+    alloc: Global,
+    names: &Names,
+    table: &Word,
+    file: &Quoted,
+    delimiter: &Option<Quoted>,
+) -> Result<TypedStatement, Fault>
+    ensures made { Answers (λ t. record { statement = statement_seen t; names = names.now }) result (copied names.now table.now file.now delimiter.now) }
+{
+    let Some((index, _)) = names.find(table.text.as_str()) else {
+        return Err(Fault::Wrong {
+            kind: Kind::UnknownName,
+            place: table.place,
+        });
+    };
+    good_delimiter(delimiter)?;
+    let table = number(index)?;
+    let file = file.text.copy(alloc)?;
+    Ok(TypedStatement::Copy { table, file })
+}

@@ -1,0 +1,104 @@
+//! Names and types of whole scripts.
+ghost use Rattle.std.specs.Prelude.{◌≡◌, ◌+◌, Ok, IfOk, IfErr};
+ghost use Rattle.mob_ast.specs.Trees.{statement_of, script_of};
+ghost use Rattle.mob_typing.specs.Answers.{Answers, Gives};
+ghost use Rattle.mob_typing.specs.Statements.{statement_seen, typed_statement, typed_script, script_seen, Refuses, refusal_of};
+
+use crate::fault::Fault;
+use crate::names::Names;
+use crate::rows::{copied, inserted};
+use crate::scope::number;
+use crate::select::typed_select;
+use crate::tables::{made_index, made_table};
+use crate::typed::{ConstText, Typed, TypedStatement};
+use mob_ast::{Kind, Refusal, Script, Statement};
+use mob_list::items::Items;
+use std::alloc::Global;
+
+// A statement, or what is wrong first in it.
+#[tactic(auto, unfolding(crate::specs::Statements::typed_statement))]
+fn type_statement(
+    alloc: Global,
+    number: u32,
+    names: &mut Names,
+    consts: &mut Items<ConstText>,
+    statement: &Statement,
+) -> Result<TypedStatement, Fault>
+    ensures { Gives (λ t. record { statement = statement_seen t; names = names.new }) result consts.new (typed_statement number names.old (statement_of statement.now) consts.old) }
+{
+    match statement {
+        Statement::Empty => Ok(TypedStatement::Empty),
+        Statement::CreateTable { name, columns } => made_table(
+            alloc,
+            names,
+            name,
+            columns.as_slice(),
+        ),
+        Statement::CreateIndex {
+            name,
+            table,
+            column,
+        } => made_index(alloc, names, name, table, column),
+        Statement::Insert { table, rows } => inserted(
+            alloc,
+            number,
+            names,
+            consts,
+            table,
+            rows.as_slice(),
+        ),
+        Statement::Copy {
+            table,
+            file,
+            delimiter,
+        } => copied(alloc, names, table, file, delimiter),
+        Statement::Select(select) => Ok(TypedStatement::Select(typed_select(
+            alloc, names, number, consts, select,
+        )?)),
+        Statement::Explain(select) => Ok(TypedStatement::Explain(typed_select(
+            alloc, names, number, consts, select,
+        )?)),
+    }
+}
+
+// The refusal of a statement of this number.
+fn refusal_of(fault: Fault, statement: u32) -> Refusal
+    ensures { result ≡ refusal_of fault statement }
+{
+    match fault {
+        Fault::Wrong { kind, place } => Refusal {
+            kind,
+            statement,
+            place,
+        },
+        Fault::NoMemory => Refusal {
+            kind: Kind::NoMemory,
+            statement: 0,
+            place: 0,
+        },
+    }
+}
+
+/// The typed script, each constant with its type, text, statement and place in written order; or the first refusal of
+/// UnknownName, Duplicate, NoSuchOperator, LinearProduct, Irrational, ZeroDivisor, BadCount and Limit, statement by statement.
+/// In a statement the tables of FROM or the target table come first, then the rest by place, operands before their operator.
+pub fn type_script(alloc: Global, script: Script) -> Result<Typed, Refusal>
+    ensures typed { IfOk result (λ t. typed_script (script_of script) ≡ Ok (script_seen t)) }
+    ensures first_refusal { IfErr result (λ e. Refuses e (typed_script (script_of script))) }
+{
+    let mut names = Names::new(alloc);
+    let mut consts = Items::new(alloc);
+    let mut statements = Items::new(alloc);
+    let mut number: u32 = 1;
+    for statement in script.statements.as_slice() {
+        match type_statement(alloc, number, &mut names, &mut consts, statement) {
+            Ok(typed) => statements.push(typed)?,
+            Err(fault) => return Err(refusal_of(fault, number)),
+        }
+        let Some(next) = number.checked_add(1) else {
+            return Err(refusal_of(Fault::NoMemory, number));
+        };
+        number = next;
+    }
+    Ok(Typed { statements, consts })
+}

@@ -1,0 +1,153 @@
+//! CREATE TABLE and CREATE INDEX.
+ghost use Rattle.std.specs.Prelude.{◌≡◌, [], IfOk};
+ghost use Rattle.mob_operators.specs.Lookup.{same_type};
+ghost use Rattle.mob_ast.specs.declared.types.SqlType.TheVariants.{TPoint};
+ghost use Rattle.mob_typing.specs.Answers.{Answers};
+ghost use Rattle.mob_typing.specs.Statements.{with_column, with_columns, made_table, made_index, statement_seen};
+
+use crate::fault::Fault;
+use crate::names::{Columns, Names};
+use crate::scope::number;
+use crate::typed::TypedStatement;
+use crate::words::type_named;
+use mob_ast::{Kind, SqlType, TypeWord, Word};
+use mob_list::items::Items;
+use mob_list::text::Text;
+use std::alloc::{AllocError, Global};
+
+// How many columns a table may have, and how many tables a script.
+const MOST: usize = 64;
+
+// Adds a column.
+fn with_column(alloc: Global, columns: &mut Columns, column: &(Word, TypeWord)) -> Result<(), Fault>
+    ensures { Answers (λ _. columns.new) result (with_column columns.old column.now) }
+{
+    let (name, word) = column;
+    if columns.has(name.text.as_str()) {
+        return Err(Fault::Wrong {
+            kind: Kind::Duplicate,
+            place: name.place,
+        });
+    }
+    if columns.len() >= MOST {
+        return Err(Fault::Wrong {
+            kind: Kind::Limit,
+            place: name.place,
+        });
+    }
+    let Some(ty) = type_named(word) else {
+        return Err(Fault::Wrong {
+            kind: Kind::UnknownName,
+            place: word.name.place,
+        });
+    };
+    columns.add(alloc, name.text.as_str(), ty)?;
+    Ok(())
+}
+
+// The columns of a new table.
+fn with_columns(alloc: Global, list: &[(Word, TypeWord)]) -> Result<Columns, Fault>
+    ensures { Answers (λ c. c) result (with_columns [] list.now) }
+{
+    let mut columns = Columns::new(alloc);
+    for column in list {
+        with_column(alloc, &mut columns, column)?;
+    }
+    Ok(columns)
+}
+
+// The columns as a list.
+fn listed(alloc: Global, columns: &Columns) -> Result<Items<(Text, SqlType)>, AllocError>
+    ensures { IfOk result (λ v. v ≡ columns.now) }
+{
+    let mut list = Items::new(alloc);
+    for index in 0..columns.len() {
+        let (name, ty) = columns.at(index);
+        list.push((Text::from_string(String::from_str(alloc, name)?), ty))?;
+    }
+    Ok(list)
+}
+
+/// A new table.
+pub fn made_table(
+    alloc: Global,
+    names: &mut Names,
+    name: &Word,
+    columns: &[(Word, TypeWord)],
+) -> Result<TypedStatement, Fault>
+    ensures made { Answers (λ t. record { statement = statement_seen t; names = names.new }) result (made_table names.old name.now columns.now) }
+{
+    if names.has(name.text.as_str()) {
+        return Err(Fault::Wrong {
+            kind: Kind::Duplicate,
+            place: name.place,
+        });
+    }
+    if names.len() >= MOST {
+        return Err(Fault::Wrong {
+            kind: Kind::Limit,
+            place: name.place,
+        });
+    }
+    let columns = with_columns(alloc, columns)?;
+    let list = listed(alloc, &columns)?;
+    let table = number(names.len())?;
+    let text = name.text.copy(alloc)?;
+    names.add_table(alloc, name.text.as_str(), columns)?;
+    Ok(TypedStatement::CreateTable {
+        table,
+        name: text,
+        columns: list,
+    })
+}
+
+fn is_moving_point(ty: SqlType) -> bool
+    ensures { result ≡ same_type ty TPoint }
+{
+    matches!(ty, SqlType::TPoint)
+}
+
+/// A new index.
+pub fn made_index(
+    alloc: Global,
+    names: &mut Names,
+    name: &Word,
+    table: &Word,
+    column: &Word,
+) -> Result<TypedStatement, Fault>
+    ensures made { Answers (λ t. record { statement = statement_seen t; names = names.new }) result (made_index names.old name.now table.now column.now) }
+{
+    let Some((table_index, columns)) = names.find(table.text.as_str()) else {
+        return Err(Fault::Wrong {
+            kind: Kind::UnknownName,
+            place: table.place,
+        });
+    };
+    if names.has_index(name.text.as_str()) {
+        return Err(Fault::Wrong {
+            kind: Kind::Duplicate,
+            place: name.place,
+        });
+    }
+    let Some((column_index, ty)) = columns.find(column.text.as_str()) else {
+        return Err(Fault::Wrong {
+            kind: Kind::UnknownName,
+            place: column.place,
+        });
+    };
+    if !is_moving_point(ty) {
+        return Err(Fault::Wrong {
+            kind: Kind::NoSuchOperator,
+            place: column.place,
+        });
+    }
+    let table = number(table_index)?;
+    let column = number(column_index)?;
+    let text = name.text.copy(alloc)?;
+    names.add_index(alloc, name.text.as_str())?;
+    Ok(TypedStatement::CreateIndex {
+        table,
+        column,
+        name: text,
+    })
+}

@@ -1,0 +1,105 @@
+//! Typed scripts: names are numbers, and each expression has its operator and its type.
+
+use mob_ast::SqlType;
+use mob_list::items::Items;
+use mob_list::text::Text;
+use mob_operators::Op;
+
+/// A typed expression.
+#[derive(Drop)]
+pub struct TExpr {
+    /// What it does with its arguments.
+    pub op: Op,
+    /// Its type.
+    pub ty: SqlType,
+    /// Its place in the script, in bytes from 0.
+    pub place: u32,
+    /// Its arguments, from left to right.
+    pub args: Vec<TExpr>,
+}
+
+/// A constant of the script, which is yet to be read as its type.
+#[derive(Drop)]
+pub struct ConstText {
+    /// Its type.
+    pub ty: SqlType,
+    /// Its text.
+    pub text: Text,
+    /// The number of its statement, from 1.
+    pub statement: u32,
+    /// The place of its opening quote, first digit or word, in bytes from 0.
+    pub place: u32,
+}
+
+/// A typed SELECT.
+#[derive(Drop)]
+pub struct TypedSelect {
+    /// Whether equal rows are dropped.
+    pub distinct: bool,
+    /// The columns of the answer, each with its name.
+    pub items: Items<(TExpr, Text)>,
+    /// The numbers of the tables of FROM.
+    pub from: Items<u32>,
+    /// The names that the tables of FROM go by.
+    pub names: Items<Text>,
+    /// The condition of WHERE, a bool.
+    pub cond: Option<TExpr>,
+    /// The keys of ORDER BY; true for DESC.
+    pub keys: Items<(TExpr, bool)>,
+    /// How many rows there are at most.
+    pub limit: Option<u64>,
+}
+
+/// A typed statement. Tables, columns and constants are numbers from 0.
+#[derive(Drop)]
+pub enum TypedStatement {
+    /// Nothing.
+    Empty,
+    /// A new table.
+    CreateTable {
+        /// Its number: how many tables were made before.
+        table: u32,
+        /// Its name.
+        name: Text,
+        /// Its columns, each with its type.
+        columns: Items<(Text, SqlType)>,
+    },
+    /// A new index on a column of type tgeompoint.
+    CreateIndex {
+        /// The table.
+        table: u32,
+        /// The column.
+        column: u32,
+        /// The name of the index.
+        name: Text,
+    },
+    /// New rows.
+    Insert {
+        /// The table.
+        table: u32,
+        /// The rows: for each column the number of a constant, or None for NULL.
+        rows: Items<Items<Option<u32>>>,
+        /// The place of each row's opening bracket.
+        places: Items<u32>,
+    },
+    /// New rows from a file.
+    Copy {
+        /// The table.
+        table: u32,
+        /// The name of the file.
+        file: Text,
+    },
+    /// A query.
+    Select(TypedSelect),
+    /// A query whose plan is asked for.
+    Explain(TypedSelect),
+}
+
+/// A typed script.
+#[derive(Drop)]
+pub struct Typed {
+    /// One statement for each place before, between and after the `;` tokens.
+    pub statements: Items<TypedStatement>,
+    /// The constants in written order.
+    pub consts: Items<ConstText>,
+}
