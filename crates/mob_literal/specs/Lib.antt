@@ -2,6 +2,7 @@ pub mod Steps
 pub mod Fitting
 pub mod Literal
 pub mod ValueText
+pub mod Values
 pub mod Sequence
 pub mod Slices
 pub mod Sound

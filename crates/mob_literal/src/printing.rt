@@ -6,7 +6,7 @@ ghost use Rattle.mob_literal.specs.Runs.{end_part, between as gap, run_text, is_
 ghost use Rattle.mob_literal.specs.Style.{style_of};
 
 use mob_frac::Frac;
-use mob_scalar::{Epoch, write_moment, write_number};
+use mob_scalar::{Epoch, write_moment};
 use mob_slice::{BaseValue, Course, Moving, Slice, Steady};
 use std::alloc::{AllocError, Global};
 
@@ -21,21 +21,13 @@ pub trait Printed {
         ensures unchanged { OnErr result (string_bytes into.new ≡ string_bytes into.old) };
 }
 
-impl Printed for Frac {
-    ghost text = { number_text };
-
-    fn write(&self, into: &mut String) -> Result<(), AllocError> {
-        write_number(self, into)
-    }
-}
-
 fn write_instant<B: Printed>(
     value: &B,
     instant: &Frac,
     epoch: &Epoch,
     into: &mut String,
 ) -> Result<(), AllocError>
-    ensures { OnOk result (string_bytes into.new ≡ string_bytes into.old ++ instant_text (style_of B.text epoch.now) value.now instant.now) }
+    ensures written { OnOk result (string_bytes into.new ≡ string_bytes into.old ++ instant_text (style_of B.text epoch.now) value.now instant.now) }
 {
     value.write(into)?;
     into.push_str("@")?;
@@ -44,7 +36,7 @@ fn write_instant<B: Printed>(
 
 /// Whether a slice is longer than an instant.
 fn is_long<B: BaseValue + Drop>(slice: &Slice<Steady<B>>) -> bool
-    ensures { result ≡ long slice.now }
+    ensures value { result ≡ long slice.now }
 {
     slice.span.is_long()
 }
@@ -52,7 +44,7 @@ fn is_long<B: BaseValue + Drop>(slice: &Slice<Steady<B>>) -> bool
 /// Whether two neighbours stand in one group.
 #[tactic(auto, unfolding(mob_ratio::specs::Order::same))]
 fn goes_on<B: BaseValue + Drop>(slice: &Slice<Steady<B>>, next: &Slice<Steady<B>>) -> bool
-    ensures { result ≡ continued slice.now next.now }
+    ensures value { result ≡ continued slice.now next.now }
 {
     slice.span.upper().is_same(next.span.lower())
         && next.span.lower_inc()
@@ -64,7 +56,7 @@ fn write_start<B: BaseValue + Printed + Drop>(
     epoch: &Epoch,
     into: &mut String,
 ) -> Result<(), AllocError>
-    ensures { OnOk result (string_bytes into.new ≡ string_bytes into.old ++ start_text (style_of B.text epoch.now) slice.now) }
+    ensures written { OnOk result (string_bytes into.new ≡ string_bytes into.old ++ start_text (style_of B.text epoch.now) slice.now) }
 {
     write_instant(slice.course.start(), slice.span.lower(), epoch, into)
 }
@@ -73,7 +65,7 @@ fn write_opening<B: BaseValue + Drop>(
     slice: &Slice<Steady<B>>,
     into: &mut String,
 ) -> Result<(), AllocError>
-    ensures { OnOk result (string_bytes into.new ≡ string_bytes into.old ++ opening (slice.now ∷ [])) }
+    ensures written { OnOk result (string_bytes into.new ≡ string_bytes into.old ++ opening (slice.now ∷ [])) }
 {
     if slice.span.lower_inc() {
         into.push_str("[")
@@ -86,7 +78,7 @@ fn write_closing<B: BaseValue + Drop>(
     slice: &Slice<Steady<B>>,
     into: &mut String,
 ) -> Result<(), AllocError>
-    ensures { OnOk result (string_bytes into.new ≡ string_bytes into.old ++ closing (slice.now ∷ [])) }
+    ensures written { OnOk result (string_bytes into.new ≡ string_bytes into.old ++ closing (slice.now ∷ [])) }
 {
     if slice.span.upper_inc() {
         into.push_str("]")
@@ -100,7 +92,7 @@ fn write_end<B: BaseValue + Printed + Drop>(
     epoch: &Epoch,
     into: &mut String,
 ) -> Result<(), AllocError>
-    ensures { OnOk result (string_bytes into.new ≡ string_bytes into.old ++ end_part (style_of B.text epoch.now) slice.now) }
+    ensures written { OnOk result (string_bytes into.new ≡ string_bytes into.old ++ end_part (style_of B.text epoch.now) slice.now) }
 {
     if is_long(slice) {
         into.push_str(", ")?;
@@ -115,7 +107,7 @@ fn write_between<B: BaseValue + Printed + Drop>(
     epoch: &Epoch,
     into: &mut String,
 ) -> Result<(), AllocError>
-    ensures { OnOk result (string_bytes into.new ≡ string_bytes into.old ++ gap (style_of B.text epoch.now) slice.now next.now) }
+    ensures written { OnOk result (string_bytes into.new ≡ string_bytes into.old ++ gap (style_of B.text epoch.now) slice.now next.now) }
 {
     if goes_on(slice, next) {
         return into.push_str(", ");
@@ -131,7 +123,7 @@ fn write_groups<B: BaseValue + Printed + Drop>(
     epoch: &Epoch,
     into: &mut String,
 ) -> Result<(), AllocError>
-    ensures { OnOk result (string_bytes into.new ≡ string_bytes into.old ++ listed (map (group_text (style_of B.text epoch.now)) (groups_of slices.now))) }
+    ensures written { OnOk result (string_bytes into.new ≡ string_bytes into.old ++ listed (map (group_text (style_of B.text epoch.now)) (groups_of slices.now))) }
 {
     let [first, rest @ ..] = slices else {
         return Ok(());
@@ -153,7 +145,7 @@ fn write_starts<B: BaseValue + Printed + Drop>(
     epoch: &Epoch,
     into: &mut String,
 ) -> Result<(), AllocError>
-    ensures { OnOk result (string_bytes into.new ≡ string_bytes into.old ++ listed (map (start_text (style_of B.text epoch.now)) slices.now)) }
+    ensures written { OnOk result (string_bytes into.new ≡ string_bytes into.old ++ listed (map (start_text (style_of B.text epoch.now)) slices.now)) }
 {
     let [first, rest @ ..] = slices else {
         return Ok(());
@@ -168,14 +160,14 @@ fn write_starts<B: BaseValue + Printed + Drop>(
 
 /// Whether each slice is one instant.
 fn is_set<B: BaseValue + Drop>(slices: &[Slice<Steady<B>>]) -> bool
-    ensures { result ≡ list_all (λ s. not (long s)) slices.now }
+    ensures value { result ≡ list_all (λ s. not (long s)) slices.now }
 {
     slices.iter().all(|slice| !is_long(slice))
 }
 
 /// Whether the slices are one group.
 fn is_group<B: BaseValue + Drop>(slices: &[Slice<Steady<B>>]) -> bool
-    ensures { result ≡ is_one_group slices.now }
+    ensures value { result ≡ is_one_group slices.now }
 {
     let [first, rest @ ..] = slices else {
         return false;
@@ -196,7 +188,7 @@ fn write_set<B: BaseValue + Printed + Drop>(
     epoch: &Epoch,
     into: &mut String,
 ) -> Result<(), AllocError>
-    ensures { OnOk result (string_bytes into.new ≡ string_bytes into.old ++ set_text (style_of B.text epoch.now) slices.now) }
+    ensures written { OnOk result (string_bytes into.new ≡ string_bytes into.old ++ set_text (style_of B.text epoch.now) slices.now) }
 {
     match slices {
         [only] => write_start(only, epoch, into),
@@ -214,7 +206,7 @@ fn write_sequences<B: BaseValue + Printed + Drop>(
     epoch: &Epoch,
     into: &mut String,
 ) -> Result<(), AllocError>
-    ensures { OnOk result (string_bytes into.new ≡ string_bytes into.old ++ groups_text (style_of B.text epoch.now) (groups_of slices.now)) }
+    ensures written { OnOk result (string_bytes into.new ≡ string_bytes into.old ++ groups_text (style_of B.text epoch.now) (groups_of slices.now)) }
 {
     if is_group(slices) {
         return write_groups(slices, epoch, into);
@@ -229,7 +221,7 @@ fn write_slices<B: BaseValue + Printed + Drop>(
     epoch: &Epoch,
     into: &mut String,
 ) -> Result<(), AllocError>
-    ensures { OnOk result (string_bytes into.new ≡ string_bytes into.old ++ steps_text (style_of B.text epoch.now) slices.now) }
+    ensures written { OnOk result (string_bytes into.new ≡ string_bytes into.old ++ steps_text (style_of B.text epoch.now) slices.now) }
 {
     if is_set(slices) {
         write_set(slices, epoch, into)

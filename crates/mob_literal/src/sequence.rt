@@ -12,7 +12,7 @@ use std::alloc::{AllocError, Global};
 /// A whole number as a fraction.
 fn whole_number(n: i64) -> Frac
     requires small { nat_abs n < 2 ^ 62 }
-    ensures { result ≡ whole n }
+    ensures value { result ≡ whole n }
 {
     match Frac::new(n, 1) {
         Ok(number) => number,
@@ -31,7 +31,7 @@ fn seconds_of(day: i32) -> i64
 #[tactic(auto, unfolding(crate::specs::Sequence::midnight))]
 fn midnight(date: Civil) -> Frac
     requires there { is_civil date ≡ true }
-    ensures { result ≡ midnight_of date }
+    ensures value { result ≡ midnight_of date }
 {
     whole_number(seconds_of(day_of(date)))
 }
@@ -52,7 +52,7 @@ fn short_at(bytes: &[u8]) -> Option<(Figures, &[u8])>
 /// One instant, and what stands behind it.
 #[tactic(auto, unfolding(crate::specs::Sequence::written_at))]
 fn written_at(bytes: &[u8]) -> Option<(Written<Frac>, &[u8])>
-    ensures { option_map (λ x. (x.0, x.1.now)) result ≡ written_in bytes.now }
+    ensures value { option_map (λ x. (x.0, x.1.now)) result ≡ written_in bytes.now }
 {
     let (digits, rest) = short_at(bytes)?;
     match rest {
@@ -70,7 +70,7 @@ fn written_at(bytes: &[u8]) -> Option<(Written<Frac>, &[u8])>
 
 #[tactic(auto, unfolding(crate::specs::Sequence::comma_at))]
 fn comma_at(bytes: &[u8]) -> Option<&[u8]>
-    ensures { option_map (λ x. (tt, x.now)) result ≡ comma_in bytes.now }
+    ensures value { option_map (λ x. (tt, x.now)) result ≡ comma_in bytes.now }
 {
     match bytes {
         [44, 32, rest @ ..] => Some(rest),
@@ -82,7 +82,7 @@ type Instants = Vec<Written<Frac>>;
 
 #[tactic(auto, unfolding(crate::specs::Sequence::list_at, mob_language::specs::Readers::separated_at))]
 fn list_at(alloc: Global, bytes: &[u8]) -> Result<Option<(Instants, &[u8])>, AllocError>
-    ensures { IfOk result (λ o. option_map (λ x. (x.0.items, x.1.now)) o ≡ list_in bytes.now) }
+    ensures value { IfOk result (λ o. option_map (λ x. (x.0.items, x.1.now)) o ≡ list_in bytes.now) }
 {
     let mut instants = Vec::new(alloc);
     let mut rest = bytes;
@@ -101,7 +101,7 @@ fn list_at(alloc: Global, bytes: &[u8]) -> Result<Option<(Instants, &[u8])>, All
 
 #[tactic(auto, unfolding(crate::specs::Sequence::bracketed_at))]
 fn bracketed_at(alloc: Global, bytes: &[u8]) -> Result<Option<(Instants, &[u8])>, AllocError>
-    ensures { IfOk result (λ o. option_map (λ x. (x.0.items, x.1.now)) o ≡ bracketed_in bytes.now) }
+    ensures value { IfOk result (λ o. option_map (λ x. (x.0.items, x.1.now)) o ≡ bracketed_in bytes.now) }
 {
     let [91, rest @ ..] = bytes else {
         return Ok(None);
@@ -114,7 +114,7 @@ fn bracketed_at(alloc: Global, bytes: &[u8]) -> Result<Option<(Instants, &[u8])>
 
 /// The instants of the sequence that the whole text is.
 pub fn instants_of(alloc: Global, text: &[u8]) -> Result<Option<Instants>, AllocError>
-    ensures { IfOk result (λ o. option_map (λ x. x.items) o ≡ all_of bracketed_in text.now) }
+    ensures value { IfOk result (λ o. option_map (λ x. x.items) o ≡ all_of bracketed_in text.now) }
 {
     match bracketed_at(alloc, text)? {
         Some((instants, [])) => Ok(Some(instants)),

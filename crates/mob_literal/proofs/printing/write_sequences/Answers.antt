@@ -5,7 +5,7 @@ use Rattle.mob_literal.proofs.Groups.{group-alone, groups-braced}
 use Rattle.mob_literal.proofs.printing.write_sequences.Goals as goal
 
 pub returns-then-is_group : goal.returns-then-is_group
-returns-then-is_group g c = rw (group-alone (style_of g.B.Printed.text c.args.epoch.now) c.args.slices.now (search rules)) c.write_groups.ensures
+returns-then-is_group g c = record { written = rw (group-alone (style_of g.B.Printed.text c.args.epoch.now) c.args.slices.now (search rules)) c.write_groups.ensures.written }
 
 pub returns : goal.returns
-returns g c = rw (groups-braced (style_of g.B.Printed.text c.args.epoch.now) c.args.slices.now (search rules)) (grind (arith, common_steps))
+returns g c = record { written = rw (groups-braced (style_of g.B.Printed.text c.args.epoch.now) c.args.slices.now (search rules)) (grind (arith, common_steps)) }

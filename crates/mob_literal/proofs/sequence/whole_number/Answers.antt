@@ -7,4 +7,4 @@ pub unreachable-requires : goal.unreachable-requires
 unreachable-requires c = let f = c.ranges.n in absurd ((rw (sym (whole_over c.args.n)) at (simp to_z-of_z at c.in-Err.ensures.exact)) (whole_fits c.args.n c.requires.small))
 
 pub returns : goal.returns
-returns c = let f = c.ranges.n in rw (whole_over c.args.n) ((simp to_z-of_z at c.in-Ok.ensures.exact).0)
+returns c = record { value = let f = c.ranges.n in rw (whole_over c.args.n) ((simp to_z-of_z at c.in-Ok.ensures.exact).0) }
