@@ -1,5 +1,5 @@
 -- The form of numbers: a number, with blanks at its ends.
-use Rattle.std.specs.Prelude.{◌≡◌}
+use Rattle.std.specs.Prelude.{◌≡◌, ◌≢◌}
 use Rattle.mob_ratio.specs.Ratio.{Ratio}
 use Rattle.mob_frac.specs.Fits.{Fits}
 use Rattle.mob_language.specs.Language.{within_blanks}
@@ -14,5 +14,15 @@ numbers = record {
   long = λ n. ⊥;
   large = λ n. ¬ Fits (value n);
   unsound = λ n. ⊥;
+  means = λ n q. q ≡ value n;
+}
+
+-- the form of ints: a number that is whole
+abbrev pub whole_numbers : Form Numeral Ratio
+whole_numbers = record {
+  shape = within_blanks number;
+  long = λ n. ⊥;
+  large = λ n. ¬ Fits (value n);
+  unsound = λ n. (value n).den ≢ 1;
   means = λ n q. q ≡ value n;
 }

@@ -8,7 +8,7 @@ ghost use Rattle.mob_scalar.specs.Number.{count_of};
 ghost use Rattle.mob_scalar.specs.NumberReaders.{number_at as number_in};
 ghost use Rattle.mob_scalar.specs.declared.fault.ReadText.TheVariants.{NoMemory};
 ghost use Rattle.mob_scalar.specs.Verdict.{Lit};
-ghost use Rattle.mob_scalar.specs.Numbers.{numbers};
+ghost use Rattle.mob_scalar.specs.Numbers.{numbers, whole_numbers};
 
 use crate::fault::ReadText;
 use crate::numeral::{Exponent, Figures, Numeral, Tail, number_at};
@@ -148,5 +148,16 @@ pub fn read_number(text: &str) -> Result<Frac, ReadText>
             Ok(q) => Ok(q),
             Err(_) => Err(ReadText::TooLarge),
         },
+    }
+}
+
+/// The int that a text says: a number as `read_number` reads it, and `Unsound` where it is not whole.
+pub fn read_whole(text: &str) -> Result<Frac, ReadText>
+    ensures reading { Lit whole_numbers text.now result }
+    ensures memory { result ≢ Err NoMemory }
+{
+    match read_number(text) {
+        Ok(number) => { if number.den() == 1 { Ok(number) } else { Err(ReadText::Unsound) } }
+        Err(fault) => Err(fault),
     }
 }
