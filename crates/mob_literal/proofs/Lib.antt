@@ -1,10 +1,14 @@
+pub mod FlatLemmas
 pub mod Groups
+pub mod LiteralExact
 pub mod Listing
 pub mod Made
 pub mod OneValue
 pub mod Parted
 pub mod ReadSequences
+pub mod ReadSteps
 pub mod Rows
 pub mod SequenceExact
 pub mod Standard
 pub mod StepLemmas
+pub mod Traversed

@@ -13,6 +13,7 @@ use Rattle.mob_ratio.proofs.RatioLemmas.{over-self, den_pos}
 use Rattle.mob_frac.specs.Fits.{Fits}
 use Rattle.mob_frac.specs.Signed.{signed}
 use Rattle.mob_language.specs.Language.{Text}
+use Rattle.mob_language.proofs.Heads.{within_said}
 use Rattle.mob_scalar.specs.declared.numeral.Figures.{Figures}
 use Rattle.mob_scalar.specs.declared.numeral.Tail.{Tail}
 use Rattle.mob_scalar.specs.declared.numeral.Tail.TheVariants.{Over, Decimal}
@@ -140,4 +141,4 @@ pub number_again : (q : Ratio) → Fits q → Lit numbers (number_text q) (Ok q)
 number_again q f =
     let s = number_says (nat_eq q.den 1) q.num q.den refl f.num_fits f.den_fits (den_pos q) in
     let e : q ≡ value s.numeral = sym (s.is ∙ over-self q) in
-    (s.numeral, s.said, (λ x. x), (λ no. no (subst Fits e f)), (λ x. x), e)
+    (s.numeral, within_said (number_text q) s.numeral s.said, (λ x. x), (λ no. no (subst Fits e f)), (λ x. x), e)

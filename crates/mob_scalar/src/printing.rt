@@ -163,7 +163,7 @@ fn push_decimals(
     requires some { 1 ≤ digits }
     requires most { digits ≤ 6 }
     requires below { numerator < denominator }
-    requires divides { denominator ≤ 10 ^ digits }
+    requires covers { denominator ≤ 10 ^ digits }
     ensures ok { OnOk result (string_bytes into.new ≡ string_bytes into.old ++ decimals_text digits numerator denominator) }
     ensures len { OnOk result (string_len into.new ≤ string_len into.old + 7) }
     ensures room { string_len into.old + 7 ≤ string_capacity into.old → IsOk result }

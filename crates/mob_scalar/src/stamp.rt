@@ -13,29 +13,38 @@ use crate::numeral::{Figures, digits_at};
 /// A part of a second, `numerator / denominator`.
 #[derive(Clone, Copy, Debug, PartialEq, Eq)]
 pub struct Part {
+    /// The numerator, below the denominator.
     pub numerator: u128,
+    /// The denominator.
     pub denominator: u128,
 }
 
 /// A time of day: whole seconds since midnight, and a part of a second.
 #[derive(Clone, Copy, Debug, PartialEq, Eq)]
 pub struct Clock {
+    /// Whole seconds since midnight.
     pub seconds: u32,
+    /// The part of a second.
     pub part: Part,
 }
 
 /// An offset from UTC in seconds.
 #[derive(Clone, Copy, Debug, PartialEq, Eq)]
 pub struct Offset {
+    /// Whether its sign is a minus: the clock is behind UTC.
     pub west: bool,
+    /// Its size in seconds.
     pub seconds: u32,
 }
 
 /// A moment: a day, a time of that day and the offset.
 #[derive(Clone, Copy, Debug, PartialEq, Eq)]
 pub struct Stamp {
+    /// The day.
     pub date: Civil,
+    /// The time of that day.
     pub clock: Clock,
+    /// The offset from UTC at which they are read.
     pub offset: Offset,
 }
 
@@ -298,15 +307,16 @@ fn zone_or_utc(zone: Option<Offset>) -> Offset
     }
 }
 
-fn is_blank(c: u8) -> bool
-    ensures { result ≡ blank c }
+/// Whether a byte is a space, a tab, a carriage return or a line feed.
+pub fn is_blank(c: u8) -> bool
+    ensures test { result ≡ blank c }
 {
     c == 32 || c == 9 || c == 13 || c == 10
 }
 
 /// The blanks in front, and what stands behind them.
 pub fn blanks(bytes: &[u8]) -> (&[u8], &[u8])
-    ensures { (result.0.now, result.1.now) ≡ run_of blank bytes.now }
+    ensures split { (result.0.now, result.1.now) ≡ run_of blank bytes.now }
 {
     let mut i = 0;
     while i < bytes.len() {
@@ -415,7 +425,7 @@ fn total(day: i64, clock: u32, shift: i64) -> i64
 /// Whole seconds since midnight UTC of 1970-01-01.
 #[tactic(auto, unfolding(crate::specs::Moment::seconds))]
 pub fn seconds_of(stamp: Stamp) -> i64
-    requires { civil stamp.date ≡ true }
+    requires there { civil stamp.date ≡ true }
     ensures value { result ≡ seconds stamp }
     ensures bound { nat_abs result < 2 ^ 51 }
 {
@@ -434,6 +444,7 @@ fn is_in_years(stamp: Stamp) -> bool
     -62135596800 <= seconds && seconds <= 253402300799
 }
 
+/// The moment in front, as it is written, and what stands behind it.
 #[tactic(auto, unfolding(crate::specs::MomentReaders::moment_at))]
 pub fn moment_at(bytes: &[u8]) -> Option<(Stamp, &[u8])>
     ensures value { option_map (λ x. (x.0, x.1.now)) result ≡ moment_in bytes.now }

@@ -5,5 +5,5 @@ use Rattle.mob_scalar.proofs.printing.push_part.Goals as goal
 pub push_decimals-requires-clause-most : goal.push_decimals-requires-clause-most
 push_decimals-requires-clause-most c = (placed c.args.denominator c.in-Some.digits (sym c.in-Some.ensures)).most
 
-pub push_decimals-requires-clause-divides : goal.push_decimals-requires-clause-divides
-push_decimals-requires-clause-divides c = (placed c.args.denominator c.in-Some.digits (sym c.in-Some.ensures)).below
+pub push_decimals-requires-clause-covers : goal.push_decimals-requires-clause-covers
+push_decimals-requires-clause-covers c = (placed c.args.denominator c.in-Some.digits (sym c.in-Some.ensures)).below
