@@ -214,8 +214,8 @@ pub members_exact : {A : Type 0} {entry : Language A} {reader : Reader A} → Is
 unfolding members_at
 members_exact {A} {entry} {reader} e = or_exact (sequences_exact e) (means_exact (map alone) (instants_exact e))
     (λ text rest v said after. no_sequences reader (text ++ rest) (byte_stops is_open text rest
-        (list_head entry comma is_open (head_less mark_open e.no_mark) e.has_byte text said.meant said.said)
-        (list_byte entry comma e.has_byte text said.meant said.said)))
+    (list_head entry comma is_open (head_less mark_open e.no_mark) e.has_byte text said.meant said.said)
+    (list_byte entry comma e.has_byte text said.meant said.said)))
 
 open_brace_exact : Exact (Word (codes "{") ▷ blanks) open_brace_at (Stops is_blank)
 unfolding open_brace_at
@@ -262,7 +262,7 @@ pub literal_exact : {A : Type 0} {entry : Language A} {reader : Reader A} → Is
 unfolding literal_at
 literal_exact {A} {entry} {reader} e = or_exact (braced_exact e)
     (or_exact (means_exact one_sequence (sequence_exact e)) (means_exact one_instant e.exact)
-      (λ text rest v said after. sequence_none (text ++ rest) (byte_stops is_open text rest (head_less mark_open e.no_mark text said.meant said.said) (e.has_byte text said.meant said.said))))
+    (λ text rest v said after. sequence_none (text ++ rest) (byte_stops is_open text rest (head_less mark_open e.no_mark text said.meant said.said) (e.has_byte text said.meant said.said))))
     (λ text rest v said after. no_brace reader (text ++ rest) (byte_stops is_brace text rest (others_head text v said) (others_byte text v said)))
   where
     sequence_none : (text : Text) → Stops is_open text → means_at one_sequence (sequence_at reader) text ≡ None
@@ -316,5 +316,5 @@ pub temporal_exact : {A : Type 0} {entry : Language A} {reader : Reader A} → I
 unfolding temporal_at
 temporal_exact {A} {entry} {reader} e = means_exact in_middle (then_byte_stops (run_exact is_blank)
     (then_exact (literal_exact e) (exact_less (run_exact is_blank) (λ rest after. subst (Stops is_blank) (sym after) tt))
-      (λ text rest v said after. (tt, (tt, blanks_close (text ++ rest) (subst (AreAll is_blank) (sym (ap (λ (t : Text). text ++ t) after ∙ append-nil text ∙ said.is)) said.each)))))
+    (λ text rest v said after. (tt, (tt, blanks_close (text ++ rest) (subst (AreAll is_blank) (sym (ap (λ (t : Text). text ++ t) after ∙ append-nil text ∙ said.is)) said.each)))))
     (byte_head _ (literal_head e) (literal_byte e)) (then_byte _ (literal_byte e)))

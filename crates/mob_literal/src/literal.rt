@@ -32,7 +32,10 @@ pub trait WrittenValue {
     ghost has_value: { Self.Base → Bool };
 
     /// Reads the value in front.
-    fn value_at(alloc: Global, bytes: &[u8]) -> Result<Option<(Option<Self::Base>, &[u8])>, AllocError>
+    fn value_at(
+        alloc: Global,
+        bytes: &[u8],
+    ) -> Result<Option<(Option<Self::Base>, &[u8])>, AllocError>
         ensures read { IfOk result (λ o. option_map (λ x. (x.0, x.1.now)) o ≡ reader bytes.now) };
 
     /// Whether the type has the value.
