@@ -249,12 +249,12 @@ module _ {B : Type 0} where
       let s = sound_in has_value is_same q a.0 in
       elim (which_in q qs l.by l.listed) [
         | inl same ↦
-          let here = step_slices q.lower_inc q.instants q.upper_inc t v s.up (subst (λ (x : Sequence (Written B)). StepAt x.lower_inc x.instants x.upper_inc t v) (sym same) l.step) in
-          value_at-append step_value (slices_in q) (flat qs) t ∙ rw here refl
+            let here = step_slices q.lower_inc q.instants q.upper_inc t v s.up (subst (λ (x : Sequence (Written B)). StepAt x.lower_inc x.instants x.upper_inc t v) (sym same) l.step) in
+            value_at-append step_value (slices_in q) (flat qs) t ∙ rw here refl
         | inr later ↦
-          let there = lit_flat has_value is_same qs t v a.1 (ordered_rest (slices_in q) (flat qs) ordered) (record { by = l.by; listed = later; step = l.step }) in
-          let none = none_before t v (slices_in q) (flat qs) ordered there in
-          value_at-append step_value (slices_in q) (flat qs) t ∙ rw (none, there) refl
+            let there = lit_flat has_value is_same qs t v a.1 (ordered_rest (slices_in q) (flat qs) ordered) (record { by = l.by; listed = later; step = l.step }) in
+            let none = none_before t v (slices_in q) (flat qs) ordered there in
+            value_at-append step_value (slices_in q) (flat qs) t ∙ rw (none, there) refl
       ]
 
 -- the slices of sound sequences are ordered and have the values that the sequences have

@@ -205,10 +205,14 @@ module _ {B : Type 0} (day : ℤ) {value : List ℕ → Option B → Type 0} {re
       let d : Defines is_same qs v = record {
         normal = normal;
         same = λ t w. ((λ e. (m.flat_so.same t w).0 (sym (kept t) ∙ e)), (λ l. kept t ∙ (m.flat_so.same t w).1 l));
-      } in
-      (f.read, f.noted_so.shape, (λ e. false_true (sym f.short ∙ e)), not_large f.read qs f.are,
-       (λ e. false_true (sym (subst (λ (o : Option (List (Sequence (Written B)))). MatchOption o ⊥ (λ ws. is_sound has_value is_same ws ≡ false)) (sym f.are) e) ∙ m.sound)),
-       subst (λ (o : Option (List (Sequence (Written B)))). MatchOption o ⊥ (λ ws. Defines is_same ws v)) f.are d)
+      } in (
+        f.read,
+        f.noted_so.shape,
+        (λ e. false_true (sym f.short ∙ e)),
+        not_large f.read qs f.are,
+        (λ e. false_true (sym (subst (λ (o : Option (List (Sequence (Written B)))). MatchOption o ⊥ (λ ws. is_sound has_value is_same ws ≡ false)) (sym f.are) e) ∙ m.sound)),
+        subst (λ (o : Option (List (Sequence (Written B)))). MatchOption o ⊥ (λ ws. Defines is_same ws v)) f.are d,
+      )
 
   pub some_slices : (text : Text) (qs : List (Sequence (Written B))) (slices : List (Slice (Steady B))) → IsMadeOf text qs slices → slices ≡ [] → ⊥
   some_slices text qs slices m none =

@@ -63,12 +63,18 @@ where
 fn whole_number_literals_are_read_and_printed(rt: HostRuntime) -> Result<(), Fail> {
     let rows = [
         ("1@2001-01-01", "1@2001-01-01 00:00:00+00"),
-        (" { 2@2001-01-03 ,3@2001-01-05 } ", "{2@2001-01-03 00:00:00+00, 3@2001-01-05 00:00:00+00}"),
+        (
+            " { 2@2001-01-03 ,3@2001-01-05 } ",
+            "{2@2001-01-03 00:00:00+00, 3@2001-01-05 00:00:00+00}",
+        ),
         (
             "{[1@2001-01-01, 2@2001-01-02], (2@2001-01-02, 2@2001-01-03]}",
             "[1@2001-01-01 00:00:00+00, 2@2001-01-02 00:00:00+00, 2@2001-01-03 00:00:00+00]",
         ),
-        ("[1@2001-01-01, 1@2001-01-02)", "[1@2001-01-01 00:00:00+00, 1@2001-01-02 00:00:00+00)"),
+        (
+            "[1@2001-01-01, 1@2001-01-02)",
+            "[1@2001-01-01 00:00:00+00, 1@2001-01-02 00:00:00+00)",
+        ),
         ("1.5e1@2001-01-01 08:00+01", "15@2001-01-01 07:00:00+00"),
         ("[1@2001-01-01, 2@2001-01-02)", "Unsound"),
         ("(1@2001-01-01]", "Unsound"),
@@ -82,7 +88,11 @@ fn whole_number_literals_are_read_and_printed(rt: HostRuntime) -> Result<(), Fai
         ("1@2001-02-29", "NotText"),
     ];
     for (text, wanted) in rows {
-        assert_eq!(rt; printed_literal::<WholeNumbers>(rt.alloc(), text)?.as_str(), wanted, "{text}");
+        assert_eq!(rt;
+            printed_literal::<WholeNumbers>(rt.alloc(), text)?.as_str(),
+            wanted,
+            "{text}"
+        );
     }
     Ok(())
 }
@@ -90,8 +100,14 @@ fn whole_number_literals_are_read_and_printed(rt: HostRuntime) -> Result<(), Fai
 #[test]
 fn truth_and_text_literals_are_read_and_printed(rt: HostRuntime) -> Result<(), Fail> {
     let truths = printed_literal::<Truths>(rt.alloc(), "[T@2001-01-01, false@2001-01-02]")?;
-    assert_eq!(rt; truths.as_str(), "[t@2001-01-01 00:00:00+00, f@2001-01-02 00:00:00+00]");
+    assert_eq!(rt;
+        truths.as_str(),
+        "[t@2001-01-01 00:00:00+00, f@2001-01-02 00:00:00+00]"
+    );
     let texts = printed_literal::<Texts>(rt.alloc(), r#"[a b @2001-01-01, "c\"\\"@2001-01-02]"#)?;
-    assert_eq!(rt; texts.as_str(), r#"["a b"@2001-01-01 00:00:00+00, "c\"\\"@2001-01-02 00:00:00+00]"#);
+    assert_eq!(rt;
+        texts.as_str(),
+        r#"["a b"@2001-01-01 00:00:00+00, "c\"\\"@2001-01-02 00:00:00+00]"#
+    );
     Ok(())
 }
