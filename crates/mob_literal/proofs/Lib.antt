@@ -3,6 +3,7 @@ pub mod Groups
 pub mod LiteralExact
 pub mod Listing
 pub mod Made
+pub mod OneReading
 pub mod OneValue
 pub mod Parted
 pub mod ReadSequences
