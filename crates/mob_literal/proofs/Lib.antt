@@ -13,3 +13,9 @@ pub mod SequenceExact
 pub mod Standard
 pub mod StepLemmas
 pub mod Traversed
+pub mod GroupSlices
+pub mod GroupTexts
+pub mod StepsAgain
+pub mod SqlReading
+pub mod SqlAgain
+pub mod FieldsAgain
