@@ -137,7 +137,6 @@ doubled_again [] = refl
 doubled_again (c ∷ cs) = by_byte (nat_eq c 92) refl
   where
     by_byte : (b : Bool) → nat_eq c 92 ≡ b → undoubled (cond b (92 ∷ c ∷ cs) (c ∷ cs)) ≡ c ∷ cs
-    unfolding undoubled
     by_byte true e = rw e refl
     by_byte false e = rw e refl
 
