@@ -245,10 +245,10 @@ module _ {B : Type 0} (has_value : B → Bool) (is_same : B → B → Bool) (exa
     level = elim h.level [ inl u ↦ inl u | inr l ↦ inr (more_level (start_of s) (start_of r) rest l) ];
     values = λ t.
         let first : has (stretch s.span.lower_inc (start_of s) (start_of r)).span t ≡ has s.span t =
-            ap (λ (x : Ratio). has (record { lower = s.span.lower; upper = x; lower_inc = s.span.lower_inc; upper_inc = false }) t) (sym g.at)
-            ∙ ap (λ (x : Bool). has (record { lower = s.span.lower; upper = s.span.upper; lower_inc = s.span.lower_inc; upper_inc = x }) t) (sym g.open_end) in
+        ap (λ (x : Ratio). has (record { lower = s.span.lower; upper = x; lower_inc = s.span.lower_inc; upper_inc = false }) t) (sym g.at)
+        ∙ ap (λ (x : Bool). has (record { lower = s.span.lower; upper = s.span.upper; lower_inc = s.span.lower_inc; upper_inc = x }) t) (sym g.open_end) in
         let others : value_at step_value (slices_of true (start_of r ∷ rest) upper) t ≡ value_at step_value (r ∷ group) t =
-            subst (λ (x : Bool). value_at step_value (slices_of x (start_of r ∷ rest) upper) t ≡ value_at step_value (r ∷ group) t) g.next (h.values t) in
+        subst (λ (x : Bool). value_at step_value (slices_of x (start_of r ∷ rest) upper) t ≡ value_at step_value (r ∷ group) t) g.next (h.values t) in
         ap (λ (b : Bool). cond b (Some s.course.value) (value_at step_value (slices_of true (start_of r ∷ rest) upper) t)) first
         ∙ ap (λ (o : Option B). cond (has s.span t) (Some s.course.value) o) others;
   }
@@ -288,7 +288,7 @@ module _ {B : Type 0} (has_value : B → Bool) (is_same : B → B → Bool) (exa
   all_sound ([] ∷ groups) runs ordered values = absurd runs
   all_sound ((s ∷ group) ∷ groups) runs ordered values =
       and _ _ (sound_group s group (joined groups) runs.0 ordered values)
-          (all_sound groups runs.1 (ordered_rest (s ∷ group) (joined groups) ordered) (alls_rest (λ (x : Slice (Steady B)). has_value x.course.value ≡ true) (s ∷ group) (joined groups) values))
+      (all_sound groups runs.1 (ordered_rest (s ∷ group) (joined groups) ordered) (alls_rest (λ (x : Slice (Steady B)). has_value x.course.value ≡ true) (s ∷ group) (joined groups) values))
 
   -- ---- the groups are in order
 

@@ -173,12 +173,12 @@ module _ {B : Type 0} (day : ℤ) (value : Text → Option B → Type 0) (text :
   group_said : (s : Slice (Steady B)) (group tail : List (Slice (Steady B))) → AreSaid (s ∷ (group ++ tail)) → sequence entry (group_text style (s ∷ group)) (noted_of_group (s ∷ group))
   group_said s group tail h =
       let inner : Separated entry comma (listed (map written_text (start_of s ∷ more s group))) (map note (start_of s ∷ more s group)) =
-          listed_said entry written_text note (start_of s) (more s group) (start_said s h.0, more_said s group tail h) in
+      listed_said entry written_text note (start_of s) (more s group) (start_said s h.0, more_said s group tail h) in
       let said = bracketed_said entry s.span.lower_inc (upper_of s group) (listed (map written_text (start_of s ∷ more s group))) (map note (start_of s ∷ more s group)) inner in
       let is : group_text style (s ∷ group) ≡ cond s.span.lower_inc (codes "[") (codes "(") ++ (listed (map written_text (start_of s ∷ more s group)) ++ cond (upper_of s group) (codes "]") (codes ")")) =
-          append_assoc (opening (s ∷ group)) (listed (instants_of style (s ∷ group))) (closing (s ∷ group))
-          ∙ ap (λ (x : List Text). opening (s ∷ group) ++ (listed x ++ closing (s ∷ group))) (instants_are s group)
-          ∙ ap (λ (x : Text). opening (s ∷ group) ++ (listed (map written_text (start_of s ∷ more s group)) ++ x)) (closing_is s group) in
+      append_assoc (opening (s ∷ group)) (listed (instants_of style (s ∷ group))) (closing (s ∷ group))
+      ∙ ap (λ (x : List Text). opening (s ∷ group) ++ (listed x ++ closing (s ∷ group))) (instants_are s group)
+      ∙ ap (λ (x : Text). opening (s ∷ group) ++ (listed (map written_text (start_of s ∷ more s group)) ++ x)) (closing_is s group) in
       subst (λ (x : Text). sequence entry x (noted_of_group (s ∷ group))) (sym is) said
 
   groups_said : (groups : List (List (Slice (Steady B)))) → AreRuns groups → AreSaid (joined groups) → Each (sequence entry) (group_text style) noted_of_group groups
@@ -232,7 +232,7 @@ module _ {B : Type 0} (day : ℤ) (value : Text → Option B → Type 0) (text :
   set_literal (s ∷ []) some h = inr (inr (record { meant = start_note s; said = start_said s h.0; is = refl }))
   set_literal (s ∷ r ∷ rest) some h =
       inl (braced_said entry (listed (map (start_text style) (s ∷ r ∷ rest))) (map alone (map start_note (s ∷ r ∷ rest)))
-          (inr (record { meant = map start_note (s ∷ r ∷ rest); said = listed_said entry (start_text style) start_note s (r ∷ rest) (starts_said (s ∷ r ∷ rest) h); is = refl })))
+      (inr (record { meant = map start_note (s ∷ r ∷ rest); said = listed_said entry (start_text style) start_note s (r ∷ rest) (starts_said (s ∷ r ∷ rest) h); is = refl })))
 
   -- ---- all of a text
 

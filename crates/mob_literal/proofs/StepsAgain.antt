@@ -124,8 +124,7 @@ step_again {B} day value text IsWritten has_value is_same exact say has slices r
     let its : IsFlat (map sequence_of groups) (flat (map sequence_of groups)) = is_flat has_value is_same (map sequence_of groups) sound in
     let at : (t : Ratio) → value_at step_value (flat (map sequence_of groups)) t ≡ value_at step_value slices t = λ t. flat_values has_value is_same exact groups g.runs in_groups t ∙ ap (λ (x : List (Slice (Steady B))). value_at step_value x t) g.whole in
     let defined : Defines is_same (map sequence_of groups) slices = record { normal = r.normal; same = λ t v. ((λ e. (its.same t v).0 (at t ∙ e)), (λ l. sym (at t) ∙ (its.same t v).1 l)) } in
-    let fit = groups_fit groups in
-    (
+    let fit = groups_fit groups in (
       map noted_of_group groups,
       printed_said day value text slices r.normal.some said (all_points slices ordered),
       (λ e. not_long (count_of (map noted_of_group groups)) (subst (λ (n : ℕ). n ≤ 100000) (sym (count_is day value text groups)) r.short) e),

@@ -60,12 +60,7 @@ fn text_in(ty: SqlType, field: &str) -> &str
 ///
 /// The field `\N` is NULL, and in a column of another type than text an empty field is NULL too. In a text column a field that
 /// begins with two backslashes loses one. Else the field is read whole, as `read_value` reads it, with the same faults.
-pub fn read_field(
-    alloc: Global,
-    ty: SqlType,
-    field: &str,
-    epoch: &Epoch,
-) -> Result<Value, ReadText>
+pub fn read_field(alloc: Global, ty: SqlType, field: &str, epoch: &Epoch) -> Result<Value, ReadText>
     ensures null { is_null_field ty field.now ≡ true → result ≡ Ok Value.Null }
     ensures reading { is_null_field ty field.now ≡ false → SaysAs ty epoch.now (text_of_field ty field.now) result }
 {

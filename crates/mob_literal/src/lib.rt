@@ -18,4 +18,6 @@ pub use literal::WrittenValue;
 pub use sql::{read_value, write_value};
 
 #[cfg(test)]
+mod sql_tests;
+#[cfg(test)]
 mod tests;

@@ -98,12 +98,7 @@ fn read_ttext(alloc: Global, text: &str, epoch: &Epoch) -> Result<Value, ReadTex
 /// The first fault in the order `NotText`, `Limit`, `TooLarge` and `Unsound`, or `NoMemory`. A text of a number, a moment,
 /// a truth value and a temporal value may have blanks at its ends; a text of the type text keeps all its characters. A type
 /// that is not built yet has no texts, so each text is `NotText` there.
-pub fn read_value(
-    alloc: Global,
-    ty: SqlType,
-    text: &str,
-    epoch: &Epoch,
-) -> Result<Value, ReadText>
+pub fn read_value(alloc: Global, ty: SqlType, text: &str, epoch: &Epoch) -> Result<Value, ReadText>
     ensures reading { SaysAs ty epoch.now text.now result }
 {
     match ty {
