@@ -1,7 +1,6 @@
 -- The field of a value is read again as that value.
-use Rattle.std.proofs.Common.{◌≡◌, ℕ, ℤ, List, [], ◌∷◌, ◌++◌, length, codes, Bool, true, false, cond, Some, refl, sym, ap, subst, ◌∙◌, Ok, rules}
-use Rattle.std.specs.Prelude.{◌&&◌, not, nat_eq, Contains}
-use Rattle.std.specs.Char.{is_ascii_alphabetic}
+use Rattle.std.proofs.Common.{◌≡◌, ℕ, ℤ, List, [], ◌∷◌, ◌++◌, codes, Bool, true, false, cond, refl, sym, ap, subst, Ok, rules}
+use Rattle.std.specs.Prelude.{not, nat_eq, Contains}
 use Rattle.std.specs.List.{list_all}
 use Rattle.std.proofs.lemmas.Bool.{eqb-true}
 use Rattle.mob_ratio.specs.Ratio.{Ratio}
@@ -9,7 +8,6 @@ use Rattle.mob_frac.specs.Fits.{Fits}
 use Rattle.mob_language.specs.Language.{Text, Language}
 use Rattle.mob_language.proofs.Heads.{NoHead, Apart, HasByte}
 use Rattle.mob_language.proofs.Exact.{Stops}
-use Rattle.mob_slice.specs.Sameness.{same_bytes}
 use Rattle.mob_slice.specs.declared.slice.Slice.{Slice}
 use Rattle.mob_slice.specs.declared.steady.Steady.{Steady}
 use Rattle.mob_ast.specs.declared.types.SqlType.{SqlType}
@@ -19,18 +17,18 @@ use Rattle.mob_value.specs.declared.value.Value.TheVariants as value
 use Rattle.mob_scalar.specs.Figures.{is_digit}
 use Rattle.mob_scalar.specs.Number.{is_sign, is_e}
 use Rattle.mob_scalar.specs.NumberText.{number_text}
-use Rattle.mob_scalar.specs.MomentText.{HasDate, moment_text}
+use Rattle.mob_scalar.specs.MomentText.{moment_text}
 use Rattle.mob_scalar.specs.Truth.{truth_text}
 use Rattle.mob_scalar.specs.Quoted.{quoted_text}
 use Rattle.mob_scalar.proofs.Again.{number_plain}
 use Rattle.mob_scalar.proofs.MomentAgain.{moment_plain}
 use Rattle.mob_scalar.proofs.WholeTexts.{number_head, number_byte, moment_head, moment_byte}
-use Rattle.mob_literal.specs.Printed.{Style, is_long, groups_of, start_text, group_text, groups_text, set_text, steps_text}
+use Rattle.mob_literal.specs.Printed.{Style, is_long, groups_of, start_text, groups_text, set_text, steps_text}
 use Rattle.mob_literal.specs.Style.{style_of}
-use Rattle.mob_literal.specs.Readable.{IsDated, IsReadable, IsInt}
+use Rattle.mob_literal.specs.Readable.{IsDated, IsReadable}
 use Rattle.mob_literal.specs.SqlReadable.{IsReadableAs}
-use Rattle.mob_literal.specs.SqlText.{SaysAs, value_text}
-use Rattle.mob_literal.specs.Fields.{is_null_text, is_empty, is_null_field, begins_with_backslash, doubled, undoubled, text_of_field, field_text}
+use Rattle.mob_literal.specs.SqlText.{SaysAs}
+use Rattle.mob_literal.specs.Fields.{is_null_text, is_empty, is_null_field, doubled, undoubled, text_of_field, field_text}
 use Rattle.mob_literal.proofs.Listing.{first_in}
 use Rattle.mob_literal.proofs.GroupSlices.{AreRuns, are_groups}
 use Rattle.mob_literal.proofs.SqlAgain.{value_again}

@@ -21,11 +21,7 @@ use Rattle.mob_literal.specs.Sound.{ends_level, is_closed_alone, is_sound_sequen
 use Rattle.mob_literal.specs.Flat.{made_sequence, made_all}
 use Rattle.mob_literal.proofs.Listing.{first_in, later_in, none_in, which_in}
 use Rattle.mob_literal.proofs.StepLemmas.{slices_step, step_slices}
-
-both : (a b : Bool) → (a && b) ≡ true → (a ≡ true) × (b ≡ true)
-both true true h = (refl, refl)
-both true false h = absurd cc
-both false b h = absurd cc
+use Rattle.mob_literal.proofs.Small.{both}
 
 -- ---- a sequence is made exactly where it is sound
 
@@ -87,10 +83,10 @@ all_is {B} has_value is_same (q ∷ qs) = by_sound (is_sound_sequence has_value 
 
 -- ---- the slices are ordered
 
-sound_stretch : {B : Type 0} (lower : Bool) (i j : Written B) → before i.instant j.instant ≡ true → IsSound {B = B} (λ (c : Steady B). c.value) (λ c. c.value) (stretch lower i j)
+pub sound_stretch : {B : Type 0} (lower : Bool) (i j : Written B) → before i.instant j.instant ≡ true → IsSound {B = B} (λ (c : Steady B). c.value) (λ c. c.value) (stretch lower i j)
 sound_stretch lower i j h = record { some = rw h refl; level = λ e. refl }
 
-sound_point : {B : Type 0} (i : Written B) → IsSound {B = B} (λ (c : Steady B). c.value) (λ c. c.value) (point true i)
+pub sound_point : {B : Type 0} (i : Written B) → IsSound {B = B} (λ (c : Steady B). c.value) (λ c. c.value) (point true i)
 sound_point i = record { some = grind (arith, before-self i.instant); level = λ e. refl }
 
 -- the slice begins behind the last of the instants
@@ -199,7 +195,7 @@ flat_ordered has_value is_same (q ∷ r ∷ qs) order sound =
 -- ---- the slices have the values of the sequences
 
 module _ {B : Type 0} where
-  abbrev Ordered : List (Slice (Steady B)) → Type 0
+  abbrev pub Ordered : List (Slice (Steady B)) → Type 0
   Ordered slices = IsOrdered {B = B} (λ (c : Steady B). c.value) (λ c. c.value) slices
 
   none_left : (t : Ratio) (b : Slice (Steady B)) (rest : List (Slice (Steady B))) → Ordered (b ∷ rest) → is_left t b.span ≡ true → value_at step_value (b ∷ rest) t ≡ None
@@ -225,7 +221,7 @@ module _ {B : Type 0} where
           some_none None e = absurd cc
           some_none (Some x) e = absurd cc
 
-  ordered_rest : (xs ys : List (Slice (Steady B))) → Ordered (xs ++ ys) → Ordered ys
+  pub ordered_rest : (xs ys : List (Slice (Steady B))) → Ordered (xs ++ ys) → Ordered ys
   ordered_rest [] ys n = n
   ordered_rest (x ∷ xs) ys n = ordered_rest xs ys n.2
 

@@ -1,35 +1,24 @@
 -- The written instants of the groups of slices: they are sound sequences, and define what the slices do.
-use Rattle.std.proofs.Common.{◌≡◌, suc, ◌-◌, List, [], ◌∷◌, ◌++◌, length, map, Bool, true, false, cond, Option, Some, None, refl, sym, ap, subst, ◌∙◌, append_assoc, arith, inl, inr, ◌⊎◌}
+use Rattle.std.proofs.Common.{◌≡◌, suc, ◌-◌, List, [], ◌∷◌, ◌++◌, length, map, Bool, true, false, cond, Option, Some, None, refl, sym, ap, subst, ◌∙◌, arith, inl, inr, ◌⊎◌}
 use Rattle.std.specs.Prelude.{◌&&◌, ◌||◌, not, slice_get, IsTrue, ◌↔◌}
 use Rattle.std.specs.List.{list_all}
 use Rattle.mob_ratio.specs.Ratio.{Ratio}
 use Rattle.mob_ratio.specs.Order.{before, upto, same}
-use Rattle.mob_ratio.proofs.Order.{before-self, before-back, before-neither, same_exact}
+use Rattle.mob_ratio.proofs.Order.{before-back, before-neither, same_exact}
 use Rattle.mob_span.specs.Span.{has, has_instant}
 use Rattle.mob_slice.specs.declared.slice.Slice.{Slice}
 use Rattle.mob_slice.specs.declared.steady.Steady.{Steady}
-use Rattle.mob_slice.specs.Slices.{IsOrdered, OfHead, Clear, value_at}
+use Rattle.mob_slice.specs.Slices.{value_at}
 use Rattle.mob_normal.proofs.Runs.{or_else, value_at-append}
 use Rattle.mob_literal.specs.declared.written.Written.{Written}
 use Rattle.mob_literal.specs.declared.written.Sequence.{Sequence}
 use Rattle.mob_literal.specs.Steps.{rises}
-use Rattle.mob_literal.specs.Slices.{slices_of, stretch, point}
+use Rattle.mob_literal.specs.Slices.{slices_of, stretch}
 use Rattle.mob_literal.specs.Means.{step_value}
 use Rattle.mob_literal.specs.Sound.{ends_level, is_closed_alone, is_sound_sequence, clear_ends, is_before, are_in_order, is_sound}
 use Rattle.mob_literal.specs.Printed.{is_long, goes_on, groups_of, put_first}
-use Rattle.mob_literal.proofs.FlatLemmas.{flat}
-
-pub both : (a b : Bool) → (a && b) ≡ true → (a ≡ true) × (b ≡ true)
-both true true h = (refl, refl)
-both true false h = absurd cc
-both false b h = absurd cc
-
-and : (a b : Bool) → a ≡ true → b ≡ true → (a && b) ≡ true
-and a b h k = rw (h, k) refl
-
-pub not_true : (b : Bool) → not b ≡ true → b ≡ false
-not_true true h = absurd cc
-not_true false h = refl
+use Rattle.mob_literal.proofs.FlatLemmas.{flat, Ordered, ordered_rest}
+use Rattle.mob_literal.proofs.Small.{both, and, not_true, false_true}
 
 -- P holds of each
 abbrev pub Alls : {A : Type 0} → (A → Type 0) → List A → Type 0
@@ -94,33 +83,17 @@ module _ {B : Type 0} where
   are_groups [] = record { runs = tt; whole = refl }
   are_groups (s ∷ rest) = put_groups s rest (groups_of rest) (are_groups rest)
 
-  abbrev pub Ordered : List (Slice (Steady B)) → Type 0
-  Ordered slices = IsOrdered {B = B} (λ (c : Steady B). c.value) (λ c. c.value) slices
-
-  ordered_rest : (xs ys : List (Slice (Steady B))) → Ordered (xs ++ ys) → Ordered ys
-  ordered_rest [] ys n = n
-  ordered_rest (x ∷ xs) ys n = ordered_rest xs ys n.2
-
 -- ---- one slice, over plain variables
 
 split_test : (a p q : Bool) → (p ≡ true → q ≡ false) → (p ≡ false → q ≡ false → a ≡ true) → (a && (p || (true && not q))) ≡ ((a && (p || (false && not q))) || ((q || (true && not p)) && (p || (true && not q))))
-split_test true true true f g = absurd (true_false (f refl))
-  where
-    true_false : true ≡ false → ⊥
-    true_false e = absurd cc
+split_test true true true f g = absurd (false_true (sym (f refl)))
 split_test true true false f g = refl
 split_test true false true f g = refl
 split_test true false false f g = refl
-split_test false true true f g = absurd (true_false (f refl))
-  where
-    true_false : true ≡ false → ⊥
-    true_false e = absurd cc
+split_test false true true f g = absurd (false_true (sym (f refl)))
 split_test false true false f g = refl
 split_test false false true f g = refl
 split_test false false false f g = absurd (false_true (g refl refl))
-  where
-    false_true : false ≡ true → ⊥
-    false_true e = absurd cc
 
 begun : (included : Bool) (l u t : Ratio) → before l u ≡ true → u ≡ t → (before l t || (included && upto l t)) ≡ true
 begun included l u t h e = rw (subst (λ (x : Ratio). before l x ≡ true) e h) refl
@@ -152,10 +125,7 @@ module _ {B : Type 0} where
   short_value : (l u t : Ratio) (lower upper : Bool) (v : B) → upper ≡ true → l ≡ u
       → value_at step_value (slices_of lower (written v l ∷ []) upper) t ≡ value_at step_value (slice_on l u lower upper v ∷ []) t
   short_value l u t lower true v h e = ap (λ (x : Ratio). value_at step_value (slice_on l x lower true v ∷ []) t) e
-  short_value l u t lower false v h e = absurd (never h)
-    where
-      never : false ≡ true → ⊥
-      never e = absurd cc
+  short_value l u t lower false v h e = absurd (false_true h)
 
 -- a slice of one instant includes it
 pub record IsShort (l u : Ratio) (lower_inc upper_inc : Bool) : Type 0 where
@@ -260,10 +230,7 @@ module _ {B : Type 0} (has_value : B → Bool) (is_same : B → B → Bool) (exa
   level_test : (upper : Bool) (i : Written B) (rest : List (Written B)) → (upper ≡ true) ⊎ LevelEnds i rest → (upper || ends_level is_same (i ∷ rest)) ≡ true
   level_test true i rest h = refl
   level_test false i [] h = refl
-  level_test false i (j ∷ rest) h = elim h [ inl e ↦ absurd (never e) | inr l ↦ l ]
-    where
-      never : false ≡ true → ⊥
-      never e = absurd cc
+  level_test false i (j ∷ rest) h = elim h [ inl e ↦ absurd (false_true e) | inr l ↦ l ]
 
   -- the type has the value of each slice
   abbrev pub HasAll : List (Slice (Steady B)) → Type 0

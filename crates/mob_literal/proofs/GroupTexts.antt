@@ -1,10 +1,10 @@
 -- The printed text of slices is a literal of the sequences of their groups.
-use Rattle.std.proofs.Common.{◌≡◌, ℤ, List, [], ◌∷◌, ◌++◌, map, codes, Bool, true, false, cond, Option, Some, None, refl, sym, ap, subst, ◌∙◌, append_assoc, append-nil, inl, inr}
+use Rattle.std.proofs.Common.{◌≡◌, ℤ, List, [], ◌∷◌, ◌++◌, map, codes, Bool, true, false, cond, Option, Some, refl, sym, ap, subst, ◌∙◌, append_assoc, inl, inr}
 use Rattle.std.specs.Prelude.{◌&&◌, not, nat_eq}
 use Rattle.std.specs.List.{list_all}
 use Rattle.mob_ratio.specs.Ratio.{Ratio}
-use Rattle.mob_ratio.specs.Order.{before, same}
-use Rattle.mob_language.specs.Language.{Text, Language, Separated, is_blank}
+use Rattle.mob_ratio.specs.Order.{same}
+use Rattle.mob_language.specs.Language.{Text, Separated}
 use Rattle.mob_language.proofs.Heads.{within_said}
 use Rattle.mob_scalar.specs.declared.stamp.Stamp.{Stamp}
 use Rattle.mob_scalar.specs.Moment.{moment, instant}
@@ -15,10 +15,11 @@ use Rattle.mob_literal.specs.declared.written.Written.{Written}
 use Rattle.mob_literal.specs.declared.written.Noted.{Noted}
 use Rattle.mob_literal.specs.declared.written.Sequence.{Sequence}
 use Rattle.mob_literal.specs.Fitting.{fitting}
-use Rattle.mob_literal.specs.Literal.{at_sign, comma, noted, sequence, members, braced, alone, one_sequence, one_instant, literal, temporal, opening as opening_bracket, closing as closing_bracket}
-use Rattle.mob_literal.specs.Printed.{Style, is_long, goes_on, groups_of, put_first, listed, instant_text, instants_of, start_text, opening, closing, group_text, groups_text, set_text, steps_text, in_braces}
+use Rattle.mob_literal.specs.Literal.{at_sign, comma, noted, sequence, members, braced, alone, literal, temporal, opening as opening_bracket, closing as closing_bracket}
+use Rattle.mob_literal.specs.Printed.{Style, is_long, groups_of, put_first, listed, instant_text, instants_of, start_text, opening, closing, group_text, groups_text, set_text, steps_text, in_braces}
 use Rattle.mob_literal.specs.Style.{style_of}
-use Rattle.mob_literal.proofs.GroupSlices.{Alls, alls_rest, start_of, end_of, more, upper_of, sequence_of, AreRuns, AreGroups, are_groups, joined}
+use Rattle.mob_literal.proofs.GroupSlices.{Alls, alls_rest, start_of, end_of, more, upper_of, sequence_of, AreRuns, are_groups, joined}
+use Rattle.mob_literal.proofs.Small.{false_true}
 
 -- ---- signs as they are printed
 
@@ -208,10 +209,7 @@ module _ {B : Type 0} (day : ℤ) (value : Text → Option B → Type 0) (text :
       ends true true true e = refl
       ends true false true e = refl
       ends false b c e = refl
-      ends a b false e = absurd (never e)
-        where
-          never : false ≡ true → ⊥
-          never e = absurd cc
+      ends a b false e = absurd (false_true e)
 
   abbrev start_note : Slice (Steady B) → Noted B
   start_note s = note (start_of s)

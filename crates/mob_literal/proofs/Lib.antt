@@ -11,6 +11,7 @@ pub mod ReadSteps
 pub mod Rows
 pub mod SequenceExact
 pub mod Standard
+pub mod Small
 pub mod StepLemmas
 pub mod Traversed
 pub mod GroupSlices

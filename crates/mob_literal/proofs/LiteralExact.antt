@@ -1,18 +1,12 @@
 -- The readers of temporal literals read exactly their texts, over any exact reader of values.
-use Rattle.std.proofs.Common.{◌≡◌, ℕ, ℤ, [], ◌∷◌, ◌++◌, map, Bool, true, false, Option, Some, None, refl, sym, ap, subst, ◌∙◌, append_assoc, append-nil, rules, codes}
+use Rattle.std.proofs.Common.{◌≡◌, ℕ, ℤ, [], ◌∷◌, ◌++◌, map, Bool, true, false, Option, None, refl, sym, ap, subst, ◌∙◌, append_assoc, rules, codes}
 use Rattle.std.specs.Prelude.{◌||◌, nat_eq}
-use Rattle.mob_language.specs.Language.{Text, Language, ◌▷◌, ◌∣◌, Means, Word, AreAll, Maybe, Separated, blanks, is_blank, in_middle}
-use Rattle.mob_language.specs.Readers.{Reader, means_at, run_of, separated_at, items_at}
+use Rattle.mob_language.specs.Language.{Text, Language, ◌▷◌, ◌∣◌, Means, Word, AreAll, Separated, blanks, is_blank, in_middle}
+use Rattle.mob_language.specs.Readers.{Reader, means_at, separated_at, items_at}
 use Rattle.mob_language.proofs.Exact.{Exact, Stops, Any, then_exact, or_exact, means_exact, word_exact, one_exact, run_exact, run_again}
-use Rattle.mob_language.proofs.Heads.{NoHead, Apart, HasByte, where_head, run_head, where_byte, exact_less, stops_less, byte_stops, means_head, one_head, or_head, then_byte, means_byte, or_byte, then_byte_stops, word_then_head, one_then_head, byte_head, one_byte, word_byte, spaced_exact, IsEnd, within_exact}
+use Rattle.mob_language.proofs.Heads.{NoHead, Apart, HasByte, stops_less, byte_stops, means_head, one_head, or_head, then_byte, means_byte, or_byte, then_byte_stops, word_then_head, one_then_head, byte_head, one_byte, word_byte, spaced_exact, IsEnd, within_exact}
 use Rattle.mob_language.proofs.Lists.{separated_exact}
-use Rattle.mob_scalar.specs.Figures.{is_digit}
-use Rattle.mob_scalar.specs.Calendar.{date, fixed, civil_of, is_civil}
-use Rattle.mob_scalar.specs.Moment.{moment, time, stamp_of, is_in_years, is_some_text}
-use Rattle.mob_scalar.specs.MomentReaders.{time_at, gap_at, blanks_at as moment_blanks_at, t_at, clock_at, up_to_at}
-use Rattle.mob_scalar.specs.CalendarReaders.{fixed_at}
-use Rattle.mob_scalar.specs.NumberReaders.{digits_at}
-use Rattle.mob_scalar.proofs.MomentExact.{Closes, moment_exact, moment_on, fixed_byte}
+use Rattle.mob_scalar.proofs.MomentExact.{Closes, moment_exact}
 use Rattle.mob_scalar.proofs.WholeTexts.{moment_blank, moment_byte, blanks_close}
 use Rattle.mob_scalar.proofs.Closing.{Ends, sign_closes}
 use Rattle.mob_literal.specs.Literal.{at_sign, comma, noted_of, noted, is_open, is_close, opening, closing, sequence_of, sequence, alone, members, braced, one_sequence, one_instant, literal, temporal, at_sign_at, comma_at, noted_at, opening_at, closing_at, instants_at, sequence_at, sequences_at, members_at, open_brace_at, close_brace_at, braced_at, literal_at, temporal_at}

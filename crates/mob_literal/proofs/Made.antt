@@ -7,10 +7,12 @@ use Rattle.mob_ratio.proofs.Order.{before-self}
 use Rattle.mob_span.specs.Span.{has_instant}
 use Rattle.mob_slice.specs.declared.slice.Slice.{Slice}
 use Rattle.mob_slice.specs.declared.steady.Steady.{Steady}
-use Rattle.mob_slice.specs.Slices.{IsSound, IsOrdered, Clear, OfHead}
+use Rattle.mob_slice.specs.Slices.{IsOrdered, Clear, OfHead}
 use Rattle.mob_literal.specs.declared.written.Written.{Written}
 use Rattle.mob_literal.specs.Steps.{rises}
 use Rattle.mob_literal.specs.Slices.{slices_of, made, stretch, point}
+use Rattle.mob_literal.proofs.FlatLemmas.{sound_stretch, sound_point}
+use Rattle.mob_literal.proofs.Small.{both}
 
 -- a closed sequence is made exactly where its instants rise
 pub made_closed : {B : Type 0} (is_same : B → B → Bool) (level : Bool) (is : List (Written B)) → made is_same level true is true ≡ cond (rises is) (Some (slices_of true is true)) None
@@ -34,12 +36,6 @@ made_more {B} is_same front pushed level next_level lower upper i j is h k e = r
     regroup None = refl
     regroup (Some slices) = ap (λ (x : List (Slice (Steady B))). Some x) (append_assoc front (stretch lower i j ∷ []) slices)
 
-sound_stretch : {B : Type 0} (lower : Bool) (i j : Written B) → before i.instant j.instant ≡ true → IsSound {B = B} (λ (c : Steady B). c.value) (λ c. c.value) (stretch lower i j)
-sound_stretch lower i j h = record { some = rw h refl; level = λ e. refl }
-
-sound_point : {B : Type 0} (i : Written B) → IsSound {B = B} (λ (c : Steady B). c.value) (λ c. c.value) (point true i)
-sound_point i = record { some = grind (arith, before-self i.instant); level = λ e. refl }
-
 clear_next : {B : Type 0} (lower upper : Bool) (i j : Written B) (is : List (Written B)) → OfHead Clear (stretch lower i j) (slices_of true (j ∷ is) upper)
 clear_next lower true i j [] = grind (arith, before-self j.instant)
 clear_next lower false i j [] = tt
@@ -52,11 +48,6 @@ slices_ordered (i ∷ []) false up = tt
 slices_ordered {B} (i ∷ j ∷ is) upper up =
     let r = both (before i.instant j.instant) (rises (j ∷ is)) up in
     (sound_stretch true i j r.0, clear_next true upper i j is, slices_ordered (j ∷ is) upper r.1)
-  where
-    both : (a b : Bool) → (a && b) ≡ true → (a ≡ true) × (b ≡ true)
-    both true true h = (refl, refl)
-    both true false h = absurd cc
-    both false b h = absurd cc
 
 -- nothing made yet
 pub made_begins : {B : Type 0} (is_same : B → B → Bool) (slices : List (Slice (Steady B))) (lower upper : Bool) (i : Written B) (is all : List (Written B)) → slices ≡ [] → all ≡ i ∷ is → with_slices slices (made is_same false lower (i ∷ is) upper) ≡ made is_same false lower all upper

@@ -1,23 +1,16 @@
 -- A literal has one reading, and so has the text of an SQL value.
-use Rattle.std.proofs.Common.{◌≡◌, ◌≢◌, ℕ, ℤ, List, Bool, true, Option, Some, None, Ok, Err, refl, sym, ap, subst, ◌∙◌}
-use Rattle.std.specs.Prelude.{◌↔◌, IsTrue, MatchOption, Result}
-use Rattle.mob_ratio.specs.Ratio.{Ratio}
-use Rattle.mob_ratio.specs.Order.{same}
-use Rattle.mob_ratio.proofs.Order.{same_exact}
-use Rattle.mob_language.specs.Language.{Text}
+use Rattle.std.proofs.Common.{◌≡◌, ℕ, ℤ, List, Bool, Option, Some, None, refl, sym}
+use Rattle.std.specs.Prelude.{◌↔◌, IsTrue, MatchOption}
 use Rattle.mob_language.specs.Readers.{Reader}
 use Rattle.mob_language.proofs.Exact.{one_value}
 use Rattle.mob_normal.proofs.Unique.{unique}
-use Rattle.mob_scalar.specs.Verdict.{Form, Lit, HasOneReading}
-use Rattle.mob_scalar.specs.declared.fault.ReadText.{ReadText}
-use Rattle.mob_scalar.specs.declared.fault.ReadText.TheVariants.{NoMemory}
+use Rattle.mob_scalar.specs.Verdict.{HasOneReading}
 use Rattle.mob_scalar.proofs.Settled.{settled}
 use Rattle.mob_slice.specs.declared.slice.Slice.{Slice}
 use Rattle.mob_slice.specs.declared.steady.Steady.{Steady}
 use Rattle.mob_slice.specs.Slices.{value_at}
 use Rattle.mob_slice.specs.SteadyLaws.{steady_laws}
 use Rattle.mob_literal.specs.declared.written.Written.{Written}
-use Rattle.mob_literal.specs.declared.written.Noted.{Noted}
 use Rattle.mob_literal.specs.declared.written.Sequence.{Sequence}
 use Rattle.mob_literal.specs.ValueText.{IsValueText}
 use Rattle.mob_literal.specs.Means.{step_value}

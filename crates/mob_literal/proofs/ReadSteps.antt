@@ -23,6 +23,7 @@ use Rattle.mob_literal.specs.Sound.{is_long, traverse, written_of, fitting_seque
 use Rattle.mob_literal.specs.Flat.{made_all}
 use Rattle.mob_literal.proofs.LiteralExact.{noted_entry, temporal_exact}
 use Rattle.mob_literal.proofs.FlatLemmas.{flat, all_is, IsFlat, is_flat}
+use Rattle.mob_literal.proofs.Small.{both, false_true, cons_nil, some_none}
 
 abbrev some : {A : Type 0} → A → Option A
 some x = Some x
@@ -73,9 +74,6 @@ temporal_full {A} entry text qs said = subst (λ (x : List (Sequence A)). is_ful
 -- where the numbers fit, there are as many
 traverse_some : {A C : Type 0} (f : A → Option C) (xs : List A) (ys : List C) → is_some_list xs ≡ true → traverse f xs ≡ Some ys → is_some_list ys ≡ true
 traverse_some f [] ys h e = absurd (false_true h)
-  where
-    false_true : false ≡ true → ⊥
-    false_true e = absurd cc
 traverse_some {A} {C} f (x ∷ xs) ys h e =
     let a = bind_some (f x) (λ y. traverse f xs >>= λ zs. Some (y ∷ zs)) ys e in
     let b = bind_some (traverse f xs) (λ zs. Some (a.0 ∷ zs)) ys a.2 in
@@ -86,9 +84,6 @@ traverse_some {A} {C} f (x ∷ xs) ys h e =
 
 fitting_full : {B : Type 0} (s : List (Sequence (Noted B))) (qs : List (Sequence (Written B))) → is_full s ≡ true → fitting_all s ≡ Some qs → is_full qs ≡ true
 fitting_full [] qs h e = absurd (false_true h)
-  where
-    false_true : false ≡ true → ⊥
-    false_true e = absurd cc
 fitting_full {B} (n ∷ ns) qs h e =
     let a = bind_some (fitting_sequence n) (λ y. traverse fitting_sequence ns >>= λ zs. Some (y ∷ zs)) qs e in
     let b = bind_some (traverse fitting_sequence ns) (λ zs. Some (a.0 ∷ zs)) qs a.2 in
@@ -102,20 +97,12 @@ fitting_full {B} (n ∷ ns) qs h e =
     same : (p q : Sequence (Written B)) → ◌≡◌ {A = Option (Sequence (Written B))} (Some p) (Some q) → p ≡ q
     same p q e = cc
 
-cons_nil : {A : Type 0} (x : A) (xs : List A) → x ∷ xs ≡ [] → ⊥
-cons_nil x xs e = absurd cc
-
 sequence_slices : {B : Type 0} (lower : Bool) (is : List (Written B)) (upper : Bool) (rest : List (Slice (Steady B))) → is_some_list is ≡ true → is_closed_alone lower upper is ≡ true → slices_of lower is upper ++ rest ≡ [] → ⊥
 sequence_slices lower [] upper rest h k e = absurd cc
 sequence_slices lower (i ∷ []) true rest h k e = cons_nil _ _ e
 sequence_slices true (i ∷ []) false rest h k e = absurd cc
 sequence_slices false (i ∷ []) false rest h k e = absurd cc
 sequence_slices lower (i ∷ j ∷ is) upper rest h k e = cons_nil _ _ e
-
-both : (a b : Bool) → (a && b) ≡ true → (a ≡ true) × (b ≡ true)
-both true true h = (refl, refl)
-both true false h = absurd cc
-both false b h = absurd cc
 
 flat_some : {B : Type 0} (has_value : B → Bool) (is_same : B → B → Bool) (qs : List (Sequence (Written B))) → is_full qs ≡ true → is_sound has_value is_same qs ≡ true → flat qs ≡ [] → ⊥
 unfolding flat
@@ -127,9 +114,6 @@ flat_some {B} has_value is_same (q ∷ qs) full sound e =
     let d = both (rises q.instants) (is_closed_alone q.lower_inc q.upper_inc q.instants && (q.upper_inc || ends_level is_same q.instants)) c.1 in
     let f = both (is_closed_alone q.lower_inc q.upper_inc q.instants) (q.upper_inc || ends_level is_same q.instants) d.1 in
     sequence_slices q.lower_inc q.instants q.upper_inc (flat qs) full f.0 e
-
-false_true : false ≡ true → ⊥
-false_true e = absurd cc
 
 module _ {B : Type 0} (day : ℤ) {value : List ℕ → Option B → Type 0} {reader : Reader (Option B)} {F : List ℕ → Type 0} (law : IsValueText value reader F) (has_value : B → Bool) (is_same : B → B → Bool) where
   -- the literal of the text was read
@@ -160,9 +144,6 @@ module _ {B : Type 0} (day : ℤ) {value : List ℕ → Option B → Type 0} {re
 
   not_large : (s : List (Sequence (Noted B))) (qs : List (Sequence (Written B))) → some qs ≡ fitting_all s → fitting_all s ≡ None → ⊥
   not_large s qs e h = some_none qs (e ∙ h)
-    where
-      some_none : {A : Type 0} (x : A) → ◌≡◌ {A = Option A} (Some x) None → ⊥
-      some_none x e = absurd cc
 
   unsound_is : (text : Text) (qs : List (Sequence (Written B))) → IsFitting text qs → is_sound has_value is_same qs ≡ false → Lit (steps day value has_value is_same) text (Err Unsound)
   unsound_is text qs f h = (f.read, f.noted_so.shape, (λ e. false_true (sym f.short ∙ e)), not_large f.read qs f.are, subst (λ (o : Option (List (Sequence (Written B)))). MatchOption o ⊥ (λ ws. is_sound has_value is_same ws ≡ false)) f.are h)

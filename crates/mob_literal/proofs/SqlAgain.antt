@@ -1,5 +1,5 @@
 -- The printed text of an SQL value is read again as that value.
-use Rattle.std.proofs.Common.{◌≡◌, ℤ, refl, Ok}
+use Rattle.std.proofs.Common.{ℤ, refl, Ok}
 use Rattle.mob_ast.specs.declared.types.SqlType.{SqlType}
 use Rattle.mob_ast.specs.declared.types.SqlType.TheVariants as sql
 use Rattle.mob_value.specs.declared.value.Value.{Value}

@@ -1,5 +1,5 @@
 -- The text of an SQL value has one reading.
-use Rattle.std.proofs.Common.{◌≡◌, ◌≢◌, ℤ, Ok, Err, refl, sym, ap, ◌∙◌}
+use Rattle.std.proofs.Common.{◌≡◌, ◌≢◌, ℤ, Ok, Err, sym, ap, ◌∙◌}
 use Rattle.std.specs.Prelude.{Result}
 use Rattle.mob_ratio.specs.Order.{same}
 use Rattle.mob_ratio.proofs.Order.{same_exact}
@@ -11,7 +11,7 @@ use Rattle.mob_value.specs.declared.value.Value.{Value}
 use Rattle.mob_value.specs.declared.value.Value.TheVariants as value
 use Rattle.mob_scalar.specs.declared.fault.ReadText.{ReadText}
 use Rattle.mob_scalar.specs.declared.fault.ReadText.TheVariants.{NoMemory}
-use Rattle.mob_scalar.specs.Verdict.{Form, Lit, HasOneReading}
+use Rattle.mob_scalar.specs.Verdict.{Form, HasOneReading}
 use Rattle.mob_scalar.specs.Numbers.{numbers, whole_numbers}
 use Rattle.mob_scalar.specs.Moments.{moments}
 use Rattle.mob_scalar.specs.Truth.{truths}

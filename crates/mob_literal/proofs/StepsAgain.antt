@@ -1,6 +1,6 @@
 -- The printed text of a step value is read again as that value.
-use Rattle.std.proofs.Common.{◌≡◌, ℕ, ℤ, ◌+◌, ◌≤◌, ◌<◌, List, [], ◌∷◌, ◌++◌, length, map, Bool, true, false, cond, Option, Some, None, Ok, refl, sym, ap, subst, ◌∙◌, arith, rules, inl}
-use Rattle.std.specs.Prelude.{◌≢◌, ◌↔◌, IsTrue, Contains, MatchOption, not, ◌&&◌, sum, nat_lt}
+use Rattle.std.proofs.Common.{◌≡◌, ℕ, ℤ, ◌+◌, ◌≤◌, List, [], ◌∷◌, length, map, Bool, true, false, cond, Option, Some, None, Ok, refl, sym, ap, subst, ◌∙◌, arith, rules, inl}
+use Rattle.std.specs.Prelude.{◌↔◌, IsTrue, Contains, MatchOption, not, nat_lt}
 use Rattle.std.specs.List.{list_all}
 use Rattle.mob_ratio.specs.Ratio.{Ratio}
 use Rattle.mob_ratio.specs.Order.{same}
@@ -8,11 +8,9 @@ use Rattle.mob_ratio.proofs.Order.{same_exact}
 use Rattle.mob_slice.specs.Sameness.{same_bool, same_bool_exact, same_bytes, same_bytes_exact}
 use Rattle.mob_frac.specs.Fits.{Fits}
 use Rattle.mob_language.specs.Language.{Text}
-use Rattle.mob_language.specs.Readers.{◌>>=◌}
-use Rattle.mob_span.specs.Span.{has_instant}
 use Rattle.mob_slice.specs.declared.slice.Slice.{Slice}
 use Rattle.mob_slice.specs.declared.steady.Steady.{Steady}
-use Rattle.mob_slice.specs.Slices.{OfHead, Clear, AreNormal, IsSound, IsNormalPair, value_at}
+use Rattle.mob_slice.specs.Slices.{OfHead, Clear, AreNormal, IsNormalPair, value_at}
 use Rattle.mob_scalar.specs.Verdict.{Lit}
 use Rattle.mob_scalar.specs.Truth.{truth_text}
 use Rattle.mob_scalar.specs.NumberText.{number_text}
@@ -21,20 +19,19 @@ use Rattle.std.proofs.lemmas.List.{length-map}
 use Rattle.mob_scalar.proofs.Again.{number_plain, truth_plain}
 use Rattle.mob_scalar.proofs.MomentAgain.{moment_plain}
 use Rattle.mob_literal.specs.declared.written.Written.{Written}
-use Rattle.mob_literal.specs.declared.written.Noted.{Noted}
 use Rattle.mob_literal.specs.declared.written.Sequence.{Sequence}
 use Rattle.mob_literal.specs.Fitting.{fits, fitting}
-use Rattle.mob_literal.specs.Literal.{noted, temporal}
 use Rattle.mob_literal.specs.Means.{step_value}
-use Rattle.mob_literal.specs.Sound.{count_of, is_long as is_long_list, traverse, written_of, fitting_sequence, fitting_all, is_sound, Defines, LitAt, steps}
-use Rattle.mob_literal.specs.Printed.{Style, is_long, groups_of, instants_of, steps_text}
+use Rattle.mob_literal.specs.Sound.{count_of, traverse, written_of, fitting_sequence, fitting_all, is_sound, Defines, steps}
+use Rattle.mob_literal.specs.Printed.{is_long, groups_of, instants_of, steps_text}
 use Rattle.mob_literal.specs.Style.{style_of}
 use Rattle.mob_literal.specs.Values.{any_value, is_whole, truth_value, number_value, quoted_value}
 use Rattle.mob_literal.specs.Readable.{IsDated, IsReadable, instants_in, AnyTruth, IsInt, IsText}
 use Rattle.mob_literal.proofs.Listing.{first_in, later_in}
-use Rattle.mob_literal.proofs.FlatLemmas.{flat, IsFlat, is_flat}
-use Rattle.mob_literal.proofs.GroupSlices.{both, not_true, Alls, start_of, end_of, more, sequence_of, AreRuns, are_groups, joined, Ordered, HasAll, IsShort, is_short, sound_groups, flat_values}
-use Rattle.mob_literal.proofs.GroupTexts.{note, noted_of_group, written_text, IsMomentSaid, IsSliceSaid, AreSaid, IsPoint, ArePoints, instants_are, printed_said}
+use Rattle.mob_literal.proofs.FlatLemmas.{flat, Ordered, IsFlat, is_flat}
+use Rattle.mob_literal.proofs.GroupSlices.{Alls, start_of, more, sequence_of, are_groups, joined, HasAll, is_short, sound_groups, flat_values}
+use Rattle.mob_literal.proofs.GroupTexts.{note, noted_of_group, written_text, IsMomentSaid, IsSliceSaid, AreSaid, ArePoints, instants_are, printed_said}
+use Rattle.mob_literal.proofs.Small.{both, not_true, false_true, some_none}
 
 -- ---- numbers that fit
 
@@ -100,12 +97,6 @@ count_is {B} day value text ((s ∷ group) ∷ groups) =
 
 not_long : (count : ℕ) → count ≤ 100000 → nat_lt 100000 count ≡ true → ⊥
 not_long count h e = absurd (grind (arith, h, e))
-
-some_none : {A : Type 0} (x : A) → ◌≡◌ {A = Option A} (Some x) None → ⊥
-some_none x e = absurd cc
-
-false_true : false ≡ true → ⊥
-false_true e = absurd cc
 
 step_again : {B : Type 0} (day : ℤ) (value : Text → Option B → Type 0) (text : B → Text) (IsWritten : B → Type 0) (has_value : B → Bool) (is_same : B → B → Bool)
     → ((a b : B) → IsTrue (is_same a b) ↔ (a ≡ b))

@@ -1,5 +1,5 @@
 -- The fields of a table file.
-use Rattle.std.specs.Prelude.{ℕ, ℤ, [], ◌∷◌, codes, Bool, true, false, ◌&&◌, cond, nat_eq}
+use Rattle.std.specs.Prelude.{ℤ, [], ◌∷◌, codes, Bool, true, false, ◌&&◌, cond, nat_eq}
 use Rattle.mob_language.specs.Language.{Text}
 use Rattle.mob_slice.specs.Sameness.{same_bytes}
 use Rattle.mob_ast.specs.declared.types.SqlType.{SqlType}
