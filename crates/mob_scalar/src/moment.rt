@@ -17,7 +17,7 @@ use mob_frac::{Frac, Overflow, over_product};
 
 // Seconds since midnight of the epoch's day.
 fn since(seconds: i64, epoch: &Epoch) -> i64
-    requires { nat_abs seconds < 2 ^ 51 }
+    requires seconds { nat_abs seconds < 2 ^ 51 }
     ensures value { result ≡ seconds -ℤ epoch.now *ℤ pos 86400 }
     ensures bound { nat_abs result < 2 ^ 62 }
 {
@@ -25,7 +25,7 @@ fn since(seconds: i64, epoch: &Epoch) -> i64
 }
 
 fn whole_number(n: i64) -> Result<Frac, Overflow>
-    ensures { IsExact (whole n) result }
+    ensures exact { IsExact (whole n) result }
 {
     Frac::new(n, 1)
 }
@@ -33,7 +33,7 @@ fn whole_number(n: i64) -> Result<Frac, Overflow>
 fn plus_part(n: i64, part: Part) -> Result<Frac, Overflow>
     requires bound { nat_abs n < 2 ^ 62 }
     requires part { IsPartSmall part }
-    ensures { IsExact (whole n +ℚ over (pos part.numerator) part.denominator) result }
+    ensures exact { IsExact (whole n +ℚ over (pos part.numerator) part.denominator) result }
 {
     match over_product(false, part.numerator, part.denominator, 1) {
         Err(_) => Err(Overflow),
@@ -49,7 +49,7 @@ fn plus_part(n: i64, part: Part) -> Result<Frac, Overflow>
 pub fn place(stamp: Stamp, epoch: &Epoch) -> Result<Frac, Overflow>
     requires date { civil stamp.date ≡ true }
     requires part { IsPartSmall stamp.clock.part }
-    ensures { IsExact (instant epoch.now stamp) result }
+    ensures exact { IsExact (instant epoch.now stamp) result }
 {
     plus_part(since(seconds_of(stamp), epoch), stamp.clock.part)
 }

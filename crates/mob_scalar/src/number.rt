@@ -31,8 +31,8 @@ pub fn ten_to(k: u32) -> u128
 
 /// A whole number with zeros behind it.
 fn raised(negative: bool, size: u128, up: u32) -> Result<Frac, Overflow>
-    requires { up ≤ 18 }
-    ensures { IsExact (over (signed negative (size * 10 ^ up)) 1) result }
+    requires up { up ≤ 18 }
+    ensures exact { IsExact (over (signed negative (size * 10 ^ up)) 1) result }
 {
     if size >= SIZE {
         return Err(Overflow);
@@ -44,7 +44,7 @@ fn raised(negative: bool, size: u128, up: u32) -> Result<Frac, Overflow>
 fn lowered(negative: bool, size: u128, down: u32) -> Result<Frac, Overflow>
     requires size { size < 10 ^ 36 }
     requires down { down ≤ 54 }
-    ensures { IsExact (over (signed negative size) (10 ^ down)) result }
+    ensures exact { IsExact (over (signed negative size) (10 ^ down)) result }
 {
     if down > 27 {
         over_product(negative, size, ten_to(27), ten_to(down - 27))
@@ -57,7 +57,7 @@ fn scaled(negative: bool, size: u128, up: u32, down: u32) -> Result<Frac, Overfl
     requires size { size < 10 ^ 36 }
     requires up { up ≤ 18 }
     requires down { down ≤ 54 }
-    ensures { IsExact (over (signed negative (size * 10 ^ up)) (10 ^ down)) result }
+    ensures exact { IsExact (over (signed negative (size * 10 ^ up)) (10 ^ down)) result }
 {
     if up >= down {
         raised(negative, size, up - down)
@@ -67,7 +67,7 @@ fn scaled(negative: bool, size: u128, up: u32, down: u32) -> Result<Frac, Overfl
 }
 
 fn up(exponent: Option<Exponent>) -> u128
-    ensures { result ≡ up_of exponent }
+    ensures value { result ≡ up_of exponent }
 {
     match exponent {
         None => 0,
@@ -76,7 +76,7 @@ fn up(exponent: Option<Exponent>) -> u128
 }
 
 fn down(exponent: Option<Exponent>) -> u128
-    ensures { result ≡ down_of exponent }
+    ensures value { result ≡ down_of exponent }
 {
     match exponent {
         None => 0,
@@ -85,7 +85,7 @@ fn down(exponent: Option<Exponent>) -> u128
 }
 
 fn places(part: Option<Figures>) -> u32
-    ensures { result ≡ count_of part }
+    ensures value { result ≡ count_of part }
 {
     match part {
         None => 0,
@@ -94,7 +94,7 @@ fn places(part: Option<Figures>) -> u32
 }
 
 fn part_value(part: Option<Figures>) -> u128
-    ensures { result ≡ value_in part }
+    ensures value { result ≡ value_in part }
 {
     match part {
         None => 0,
@@ -122,7 +122,7 @@ pub fn evaluate(n: Numeral) -> Result<Frac, Overflow>
 
 /// All of the bytes, as a numeral with blanks at its ends.
 fn numeral_of(bytes: &[u8]) -> Option<Numeral>
-    ensures { result ≡ all_of (within_blanks_at number_in) bytes.now }
+    ensures value { result ≡ all_of (within_blanks_at number_in) bytes.now }
 {
     let (n, rest) = number_at(blanks(bytes).1)?;
     if blanks(rest).1.is_empty() {
@@ -157,7 +157,13 @@ pub fn read_whole(text: &str) -> Result<Frac, ReadText>
     ensures memory { result ≢ Err NoMemory }
 {
     match read_number(text) {
-        Ok(number) => { if number.den() == 1 { Ok(number) } else { Err(ReadText::Unsound) } }
+        Ok(number) => {
+            if number.den() == 1 {
+                Ok(number)
+            } else {
+                Err(ReadText::Unsound)
+            }
+        }
         Err(fault) => Err(fault),
     }
 }

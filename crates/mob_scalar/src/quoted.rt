@@ -10,13 +10,13 @@ use mob_list::text::Text;
 use std::alloc::{AllocError, Global};
 
 fn is_escaped(c: u8) -> bool
-    ensures { result ≡ escapes c }
+    ensures value { result ≡ escapes c }
 {
     c == 34 || c == 92
 }
 
 fn is_plain(c: u8) -> bool
-    ensures { result ≡ plain c }
+    ensures value { result ≡ plain c }
 {
     !matches!(c, 64 | 44 | 123 | 125 | 91 | 93 | 40 | 41 | 34)
 }
@@ -24,7 +24,7 @@ fn is_plain(c: u8) -> bool
 /// The value up to its closing quote, and what stands behind that.
 #[tactic(auto, unfolding(crate::specs::Quoted::unescaped_at))]
 fn unescaped_at(alloc: Global, bytes: &[u8]) -> Result<Option<(Vec<u8>, &[u8])>, AllocError>
-    ensures { IfOk result (λ o. option_map (λ x. (x.0.items, x.1.now)) o ≡ unescaped_in false bytes.now) }
+    ensures value { IfOk result (λ o. option_map (λ x. (x.0.items, x.1.now)) o ≡ unescaped_in false bytes.now) }
 {
     let mut value = Vec::new(alloc);
     let mut pending = false;
@@ -50,7 +50,7 @@ fn unescaped_at(alloc: Global, bytes: &[u8]) -> Result<Option<(Vec<u8>, &[u8])>,
 
 #[tactic(auto, unfolding(crate::specs::Quoted::quoted_at))]
 fn quoted_at(alloc: Global, bytes: &[u8]) -> Result<Option<(Vec<u8>, &[u8])>, AllocError>
-    ensures { IfOk result (λ o. option_map (λ x. (x.0.items, x.1.now)) o ≡ quoted_in bytes.now) }
+    ensures value { IfOk result (λ o. option_map (λ x. (x.0.items, x.1.now)) o ≡ quoted_in bytes.now) }
 {
     match bytes {
         [34, rest @ ..] => unescaped_at(alloc, rest),
@@ -60,7 +60,7 @@ fn quoted_at(alloc: Global, bytes: &[u8]) -> Result<Option<(Vec<u8>, &[u8])>, Al
 
 /// How many bytes stand in front that are plain, without the blanks at their end.
 fn bare_len(bytes: &[u8]) -> usize
-    ensures { result ≡ length (trimmed_parts (run_of plain bytes.now).0).0 }
+    ensures value { result ≡ length (trimmed_parts (run_of plain bytes.now).0).0 }
 {
     let mut i = 0;
     let mut end = 0;
@@ -78,7 +78,7 @@ fn bare_len(bytes: &[u8]) -> usize
 }
 
 fn is_bare(value: &[u8]) -> bool
-    ensures { result ≡ bare value.now }
+    ensures value { result ≡ bare value.now }
 {
     if value.is_empty() {
         return false;
@@ -88,7 +88,7 @@ fn is_bare(value: &[u8]) -> bool
 
 #[tactic(auto, unfolding(crate::specs::Quoted::bare_at))]
 fn bare_at(bytes: &[u8]) -> Option<(&[u8], &[u8])>
-    ensures { option_map (λ x. (x.0.now, x.1.now)) result ≡ bare_in bytes.now }
+    ensures value { option_map (λ x. (x.0.now, x.1.now)) result ≡ bare_in bytes.now }
 {
     let (value, rest) = bytes.split_at(bare_len(bytes));
     if is_bare(value) {
@@ -100,7 +100,7 @@ fn bare_at(bytes: &[u8]) -> Option<(&[u8], &[u8])>
 
 /// The bytes of the value in front, and what stands behind it.
 fn value_bytes_at(alloc: Global, bytes: &[u8]) -> Result<Option<(Vec<u8>, &[u8])>, AllocError>
-    ensures { IfOk result (λ o. option_map (λ x. (x.0.items, x.1.now)) o ≡ or_at quoted_in bare_in bytes.now) }
+    ensures value { IfOk result (λ o. option_map (λ x. (x.0.items, x.1.now)) o ≡ or_at quoted_in bare_in bytes.now) }
 {
     if let Some(found) = quoted_at(alloc, bytes)? {
         return Ok(Some(found));
@@ -136,7 +136,7 @@ pub fn text_value_at(alloc: Global, bytes: &[u8]) -> Result<Option<(Text, &[u8])
 }
 
 fn needs_backslash(c: char) -> bool
-    ensures { result ≡ escapes c }
+    ensures value { result ≡ escapes c }
 {
     c == '"' || c == '\\'
 }
@@ -144,7 +144,7 @@ fn needs_backslash(c: char) -> bool
 /// One character of a value, with a backslash before it where it needs one.
 #[tactic(auto, using(crate::proofs::EscapedLemmas::escape_one, crate::proofs::EscapedLemmas::escape_none))]
 fn push_escaped(c: char, into: &mut String) -> Result<(), AllocError>
-    ensures { OnOk result (string_bytes into.new ≡ string_bytes into.old ++ escaped (encode_utf8 c)) }
+    ensures written { OnOk result (string_bytes into.new ≡ string_bytes into.old ++ escaped (encode_utf8 c)) }
 {
     if needs_backslash(c) {
         into.push_str("\\")?;
@@ -154,7 +154,7 @@ fn push_escaped(c: char, into: &mut String) -> Result<(), AllocError>
 }
 
 fn push_quoted(value: &str, into: &mut String) -> Result<(), AllocError>
-    ensures { OnOk result (string_bytes into.new ≡ string_bytes into.old ++ quoted_text value.now) }
+    ensures written { OnOk result (string_bytes into.new ≡ string_bytes into.old ++ quoted_text value.now) }
 {
     into.push_str("\"")?;
     for c in value.chars() {

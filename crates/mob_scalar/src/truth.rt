@@ -13,7 +13,7 @@ use std::alloc::AllocError;
 
 /// The letters in front, and what stands behind them.
 fn letters(bytes: &[u8]) -> (&[u8], &[u8])
-    ensures { (result.0.now, result.1.now) ≡ run_of is_ascii_alphabetic bytes.now }
+    ensures value { (result.0.now, result.1.now) ≡ run_of is_ascii_alphabetic bytes.now }
 {
     let mut i = 0;
     while i < bytes.len() {
@@ -26,19 +26,19 @@ fn letters(bytes: &[u8]) -> (&[u8], &[u8])
 }
 
 fn is_word(text: &[u8], word: &[u8]) -> bool
-    ensures { result ≡ str_eq_ignore_ascii_case text.now word.now }
+    ensures value { result ≡ str_eq_ignore_ascii_case text.now word.now }
 {
     text.eq_ignore_ascii_case(word)
 }
 
 fn is_word_true(word: &[u8]) -> bool
-    ensures { result ≡ word_true word.now }
+    ensures value { result ≡ word_true word.now }
 {
     is_word(word, b"t") || is_word(word, b"true")
 }
 
 fn is_truth(word: &[u8]) -> bool
-    ensures { result ≡ truth_word word.now }
+    ensures value { result ≡ truth_word word.now }
 {
     is_word_true(word) || is_word(word, b"f") || is_word(word, b"false")
 }
@@ -58,7 +58,7 @@ pub fn truth_at(bytes: &[u8]) -> Option<(bool, &[u8])>
 
 /// All of the bytes, as a truth value with blanks at its ends.
 fn truth_in_all(bytes: &[u8]) -> Option<bool>
-    ensures { result ≡ all_of (within_blanks_at truth_in) bytes.now }
+    ensures value { result ≡ all_of (within_blanks_at truth_in) bytes.now }
 {
     let (truth, rest) = truth_at(blanks(bytes).1)?;
     if blanks(rest).1.is_empty() {

@@ -8,7 +8,7 @@ fn copy_slice<B: BaseValue + Drop>(
     alloc: Global,
     slice: &Slice<Steady<B>>,
 ) -> Result<Slice<Steady<B>>, AllocError>
-    ensures { IfOk result (λ copy. copy ≡ slice.now) }
+    ensures same { IfOk result (λ copy. copy ≡ slice.now) }
 {
     Ok(Slice {
         span: slice.span,

@@ -12,7 +12,7 @@ returns-in-None-clause-reading c = λ n said. not_said moment_whole refl c.args.
 
 pub returns-in-Ok-clause-reading : goal.returns-in-Ok-clause-reading
 returns-in-Ok-clause-reading c =
-    let e = c.in-Ok.ensures in (
+    let e = c.in-Ok.ensures.exact in (
       c.in-Some.stamp,
       is_said moment_whole c.args.text.now c.as_bytes.result.now c.in-Some.stamp c.as_bytes.ensures.value c.in-Some.ensures.value,
       (λ x. x),
@@ -26,5 +26,5 @@ returns-in-Err-clause-reading c = (
   c.in-Some.stamp,
   is_said moment_whole c.args.text.now c.as_bytes.result.now c.in-Some.stamp c.as_bytes.ensures.value c.in-Some.ensures.value,
   (λ x. x),
-  c.in-Err.ensures,
+  c.in-Err.ensures.exact,
 )

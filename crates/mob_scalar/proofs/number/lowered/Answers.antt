@@ -11,4 +11,4 @@ over_product-requires-else-down-gt27-clause-left c = rw c.ten_to-else-down-gt27.
 pub returns-then-down-gt27 : goal.returns-then-down-gt27
 returns-then-down-gt27 c =
     let e : c.ten_to.result * c.ten_to-then-down-gt27.result ≡ 10 ^ c.args.down = rw (c.ten_to.ensures.power, c.ten_to-then-down-gt27.ensures.power) (halves c.args.down c.if-down-gt27.true) in
-    rw (← e) c.over_product.ensures.exact
+    record { exact = rw (← e) c.over_product.ensures.exact }

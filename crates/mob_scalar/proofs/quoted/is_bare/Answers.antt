@@ -5,4 +5,4 @@ use Rattle.mob_scalar.proofs.quoted.is_bare.Goals as goal
 pub returns-then-not-is_blank : goal.returns-then-not-is_blank
 returns-then-not-is_blank c =
     let some : 0 < length c.args.value.now = search rules in
-    rw (begins_at c.args.value.now some, ends_at c.args.value.now some, ← c.if-not-is_blank.ensures.test, c.is_blank-then-not-is_blank.ensures.test) refl
+    record { value = rw (begins_at c.args.value.now some, ends_at c.args.value.now some, ← c.if-not-is_blank.ensures.test, c.is_blank-then-not-is_blank.ensures.test) refl }

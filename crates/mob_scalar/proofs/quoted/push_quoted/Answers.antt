@@ -7,7 +7,7 @@ use Rattle.mob_scalar.proofs.quoted.push_quoted.Goals as goal
 
 pub loop-c-preserved : goal.loop-c-preserved
 loop-c-preserved c =
-    escape_step (string_bytes c.loop-c.into) (string_bytes c.push_escaped.new.into) _ c.loop-c.c-iterator.rest.now c.next.new.self.rest.now c.in_ok-push_escaped.ensures c.in-Some.ensures.steps.0
+    escape_step (string_bytes c.loop-c.into) (string_bytes c.push_escaped.new.into) _ c.loop-c.c-iterator.rest.now c.next.new.self.rest.now c.in_ok-push_escaped.ensures.written c.in-Some.ensures.steps.0
     ∙ c.loop-c.invariant
 
 pub returns : goal.returns
