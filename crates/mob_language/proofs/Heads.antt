@@ -179,7 +179,7 @@ pub within_exact : {A : Type 0} {l : Language A} {r : Reader A} {F : Text → Ty
     → Exact l r F → NoHead l is_blank → HasByte l → ((bs : Text) → AreAll is_blank bs → F (bs ++ [])) → Exact (within_blanks l) (within_blanks_at r) IsEnd
 within_exact {F = F} p head byte before = means_exact in_middle (then_byte_stops (run_exact is_blank)
     (then_exact {G = IsEnd} p (exact_less (run_exact is_blank) (λ rest end. subst (Stops is_blank) (sym end) tt))
-        (λ text rest bs said end. subst F (ap (λ (t : Text). text ++ t) (sym end)) (before text (subst (AreAll is_blank) (sym said.is) said.each))))
+    (λ text rest bs said end. subst F (ap (λ (t : Text). text ++ t) (sym end)) (before text (subst (AreAll is_blank) (sym said.is) said.each))))
     (byte_head blanks head byte)
     (then_byte blanks byte))
 
