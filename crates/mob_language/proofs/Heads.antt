@@ -7,9 +7,10 @@
 --   HasByte l        each text of l has a byte
 -- and the laws of Exact are said again in these words (then_stops, maybe_stops, or_stops, ..).
 use Rattle.std.proofs.Common.{◌≡◌, ℕ, [], ◌∷◌, ◌++◌, Bool, true, false, Some, None, refl, sym, ap, subst, ◌∙◌, inl, inr}
-use Rattle.mob_language.specs.Language.{Text, Language, ◌▷◌, ◌∣◌, Maybe, Means, Where, Word, OneOf, AreAll, Run, blanks, spaced, is_blank}
-use Rattle.mob_language.specs.Readers.{Reader, then_at, or_at, maybe_at, means_at, where_at, word_at, one_at, spaced_at}
+use Rattle.mob_language.specs.Language.{Text, Language, ◌▷◌, ◌∣◌, Maybe, Means, Where, Word, OneOf, AreAll, Run, blanks, spaced, is_blank, in_middle, within_blanks}
+use Rattle.mob_language.specs.Readers.{Reader, then_at, or_at, maybe_at, means_at, where_at, word_at, one_at, spaced_at, within_blanks_at}
 use Rattle.std.proofs.lemmas.Bool.{ne_eqb}
+use Rattle.std.proofs.lemmas.List.{append-nil}
 use Rattle.mob_language.proofs.Exact.{Exact, Stops, Any, then_exact, or_exact, maybe_exact, means_exact, word_exact, run_exact}
 
 -- no text of the language begins with such a byte
@@ -168,3 +169,35 @@ pub spaced_exact : (w : ℕ) (ws : Text) → is_blank w ≡ false → Exact (spa
 spaced_exact w ws h = means_exact (λ (v : Text × (Unit {0} × Text)). tt) (then_byte_stops (run_exact is_blank)
     (then_exact {F = Any} (word_exact (w ∷ ws)) (run_exact is_blank) (λ text rest v said after. tt))
     (word_then_head w ws is_blank h) (then_byte blanks (word_byte w ws)))
+
+-- the end of the text
+abbrev pub IsEnd : Text → Type 0
+IsEnd rest = rest ≡ []
+
+-- a text with blanks at both ends, which itself has a byte and begins with no blank
+pub within_exact : {A : Type 0} {l : Language A} {r : Reader A} {F : Text → Type 0}
+    → Exact l r F → NoHead l is_blank → HasByte l → ((bs : Text) → AreAll is_blank bs → F (bs ++ [])) → Exact (within_blanks l) (within_blanks_at r) IsEnd
+within_exact {F = F} p head byte before = means_exact in_middle (then_byte_stops (run_exact is_blank)
+    (then_exact {G = IsEnd} p (exact_less (run_exact is_blank) (λ rest end. subst (Stops is_blank) (sym end) tt))
+    (λ text rest bs said end. subst F (ap (λ (t : Text). text ++ t) (sym end)) (before text (subst (AreAll is_blank) (sym said.is) said.each))))
+    (byte_head blanks head byte)
+    (then_byte blanks byte))
+
+-- a text without blanks at its ends
+pub within_said : {A : Type 0} {l : Language A} (text : Text) (v : A) → l text v → within_blanks l text v
+within_said text v said = record {
+  meant = ([], (v, []));
+  said = record {
+    front = [];
+    back = text;
+    whole = refl;
+    first = record { is = refl; each = tt };
+    second = record { front = text; back = []; whole = sym (append-nil text); first = said; second = record { is = refl; each = tt } };
+  };
+  is = refl;
+}
+
+-- where a byte test fails at a blank, it stops before blanks to the end
+pub blanks_stop : (test : ℕ → Bool) → Apart is_blank test → (bs : Text) → AreAll is_blank bs → Stops test (bs ++ [])
+blanks_stop test h [] each = tt
+blanks_stop test h (b ∷ bs) each = h b each.0

@@ -101,3 +101,11 @@ blanks = Run is_blank
 -- a sign with any number of blanks on both sides of it
 abbrev pub spaced : Text → Language (Unit {0})
 spaced sign = Means (λ (v : Text × (Unit {0} × Text)). tt) (blanks ▷ (Word sign ▷ blanks))
+
+-- what stands between two others
+abbrev pub in_middle : {A B C : Type 0} → A × (B × C) → B
+in_middle v = v.1.0
+
+-- a text with any number of blanks before and behind it
+abbrev pub within_blanks : {A : Type 0} → Language A → Language A
+within_blanks l = Means in_middle (blanks ▷ (l ▷ blanks))

@@ -4,7 +4,7 @@
 -- can. A reader on lists is the middle between a language, which says what a text means, and the code, which goes through the
 -- bytes: `proofs/` shows that each reader reads exactly the texts of its language, and the code answers what the reader does.
 use Rattle.std.specs.Prelude.{ℕ, zero, suc, List, [], ◌∷◌, length, Bool, true, false, cond, Option, Some, None, nat_eq}
-use Rattle.mob_language.specs.Language.{Text, small, is_blank}
+use Rattle.mob_language.specs.Language.{Text, small, is_blank, in_middle}
 
 abbrev pub Reader : Type 0 → Type 0
 Reader A = Text → Option (A × Text)
@@ -104,3 +104,7 @@ blanks_at = run_at is_blank
 -- a sign with blanks beside it
 abbrev pub spaced_at : Text → Reader (Unit {0})
 spaced_at sign = means_at (λ (v : Text × (Unit {0} × Text)). tt) (then_at blanks_at (then_at (word_at sign) blanks_at))
+
+-- a text with blanks before and behind it
+abbrev pub within_blanks_at : {A : Type 0} → Reader A → Reader A
+within_blanks_at r = means_at in_middle (then_at blanks_at (then_at r blanks_at))

@@ -7,6 +7,7 @@ use Rattle.mob_slice.specs.declared.slice.Slice.{Slice}
 use Rattle.mob_slice.specs.declared.steady.Steady.{Steady}
 use Rattle.mob_literal.specs.Printed.{Style, is_long, goes_on, start_text, end_text, opening, closing, listed, instants_of, group_text, groups_of, put_first, groups_text, in_braces}
 use Rattle.mob_literal.specs.Runs.{end_part, run_text, more_starts, all_go_on, is_one_group}
+use Rattle.mob_literal.proofs.Small.{false_true, cons_nil}
 
 -- a group without its opening bracket
 inside : {B : Type 0} → Style B → List (Slice (Steady B)) → Text
@@ -97,12 +98,6 @@ record IsCounted {B : Type 0} (s : Slice (Steady B)) (rest : List (Slice (Steady
   is : groups_of (s ∷ rest) ≡ (s ∷ group) ∷ groups
   one : all_go_on s rest ≡ true → groups ≡ []
   more : all_go_on s rest ≡ false → groups ≢ []
-
-false_true : false ≡ true → ⊥
-false_true e = absurd cc
-
-cons_nil : {A : Type 0} (x : A) (xs : List A) → x ∷ xs ≡ [] → ⊥
-cons_nil x xs e = absurd cc
 
 counted : {B : Type 0} (s : Slice (Steady B)) (rest : List (Slice (Steady B))) → IsCounted s rest
 counted s [] = record { group = []; groups = []; is = refl; one = λ h. refl; more = λ h. absurd cc }

@@ -1,5 +1,5 @@
 -- The slices of a step sequence are made where its instants rise, and are ordered.
-use Rattle.std.proofs.Common.{◌≡◌, List, [], ◌∷◌, ◌++◌, Bool, true, false, cond, Option, Some, None, refl, sym, ap, ◌∙◌, arith, append_assoc, option_map}
+use Rattle.std.proofs.Common.{◌≡◌, List, [], ◌∷◌, ◌++◌, Bool, true, false, cond, Option, Some, None, refl, sym, ap, ◌∙◌, arith, append_assoc, append-nil, option_map}
 use Rattle.std.specs.Prelude.{◌&&◌}
 use Rattle.mob_ratio.specs.Ratio.{Ratio}
 use Rattle.mob_ratio.specs.Order.{before}
@@ -7,18 +7,20 @@ use Rattle.mob_ratio.proofs.Order.{before-self}
 use Rattle.mob_span.specs.Span.{has_instant}
 use Rattle.mob_slice.specs.declared.slice.Slice.{Slice}
 use Rattle.mob_slice.specs.declared.steady.Steady.{Steady}
-use Rattle.mob_slice.specs.Slices.{IsSound, IsOrdered, Clear, OfHead}
+use Rattle.mob_slice.specs.Slices.{IsOrdered, Clear, OfHead}
 use Rattle.mob_literal.specs.declared.written.Written.{Written}
 use Rattle.mob_literal.specs.Steps.{rises}
 use Rattle.mob_literal.specs.Slices.{slices_of, made, stretch, point}
+use Rattle.mob_literal.proofs.FlatLemmas.{sound_stretch, sound_point}
+use Rattle.mob_literal.proofs.Small.{both}
 
 -- a closed sequence is made exactly where its instants rise
-pub made_closed : {B : Type 0} (is : List (Written B)) → made true is true ≡ cond (rises is) (Some (slices_of true is true)) None
-made_closed [] = refl
-made_closed (i ∷ []) = refl
-made_closed {B} (i ∷ j ∷ is) = by_order (before i.instant j.instant) (rises (j ∷ is)) (made_closed (j ∷ is))
+pub made_closed : {B : Type 0} (is_same : B → B → Bool) (level : Bool) (is : List (Written B)) → made is_same level true is true ≡ cond (rises is) (Some (slices_of true is true)) None
+made_closed is_same level [] = refl
+made_closed is_same level (i ∷ []) = refl
+made_closed {B} is_same level (i ∷ j ∷ is) = by_order (before i.instant j.instant) (rises (j ∷ is)) (made_closed is_same (is_same i.value j.value) (j ∷ is))
   where
-    by_order : (b up : Bool) → made true (j ∷ is) true ≡ cond up (Some (slices_of true (j ∷ is) true)) None → cond b (option_map (λ (slices : List (Slice (Steady B))). stretch true i j ∷ slices) (made true (j ∷ is) true)) None ≡ cond (b && up) (Some (slices_of true (i ∷ j ∷ is) true)) None
+    by_order : (b up : Bool) → made is_same (is_same i.value j.value) true (j ∷ is) true ≡ cond up (Some (slices_of true (j ∷ is) true)) None → cond b (option_map (λ (slices : List (Slice (Steady B))). stretch true i j ∷ slices) (made is_same (is_same i.value j.value) true (j ∷ is) true)) None ≡ cond (b && up) (Some (slices_of true (i ∷ j ∷ is) true)) None
     by_order true true h = rw h refl
     by_order true false h = rw h refl
     by_order false up h = refl
@@ -27,21 +29,12 @@ made_closed {B} (i ∷ j ∷ is) = by_order (before i.instant j.instant) (rises 
 abbrev pub with_slices : {B : Type 0} → List (Slice (Steady B)) → Option (List (Slice (Steady B))) → Option (List (Slice (Steady B)))
 with_slices front rest = option_map (λ slices. front ++ slices) rest
 
-pub made_more : {B : Type 0} (front pushed : List (Slice (Steady B))) (lower upper : Bool) (i j : Written B) (is : List (Written B)) → before i.instant j.instant ≡ true → pushed ≡ front ++ stretch lower i j ∷ [] → with_slices pushed (made true (j ∷ is) upper) ≡ with_slices front (made lower (i ∷ j ∷ is) upper)
-made_more {B} front pushed lower upper i j is h e = rw (h, e) (regroup (made true (j ∷ is) upper))
+pub made_more : {B : Type 0} (is_same : B → B → Bool) (front pushed : List (Slice (Steady B))) (level next_level lower upper : Bool) (i j : Written B) (is : List (Written B)) → before i.instant j.instant ≡ true → next_level ≡ is_same i.value j.value → pushed ≡ front ++ stretch lower i j ∷ [] → with_slices pushed (made is_same next_level true (j ∷ is) upper) ≡ with_slices front (made is_same level lower (i ∷ j ∷ is) upper)
+made_more {B} is_same front pushed level next_level lower upper i j is h k e = rw (h, k, e) (regroup (made is_same (is_same i.value j.value) true (j ∷ is) upper))
   where
     regroup : (o : Option (List (Slice (Steady B)))) → with_slices (front ++ stretch lower i j ∷ []) o ≡ with_slices front (option_map (λ slices. stretch lower i j ∷ slices) o)
     regroup None = refl
     regroup (Some slices) = ap (λ (x : List (Slice (Steady B))). Some x) (append_assoc front (stretch lower i j ∷ []) slices)
-
-pub made_fails : {B : Type 0} (front : List (Slice (Steady B))) (lower upper : Bool) (i j : Written B) (is : List (Written B)) → before i.instant j.instant ≡ false → with_slices front (made lower (i ∷ j ∷ is) upper) ≡ None
-made_fails front lower upper i j is h = rw h refl
-
-sound_stretch : {B : Type 0} (lower : Bool) (i j : Written B) → before i.instant j.instant ≡ true → IsSound {B = B} (λ (c : Steady B). c.value) (λ c. c.value) (stretch lower i j)
-sound_stretch lower i j h = record { some = rw h refl; level = λ e. refl }
-
-sound_point : {B : Type 0} (i : Written B) → IsSound {B = B} (λ (c : Steady B). c.value) (λ c. c.value) (point true i)
-sound_point i = record { some = grind (arith, before-self i.instant); level = λ e. refl }
 
 clear_next : {B : Type 0} (lower upper : Bool) (i j : Written B) (is : List (Written B)) → OfHead Clear (stretch lower i j) (slices_of true (j ∷ is) upper)
 clear_next lower true i j [] = grind (arith, before-self j.instant)
@@ -55,15 +48,10 @@ slices_ordered (i ∷ []) false up = tt
 slices_ordered {B} (i ∷ j ∷ is) upper up =
     let r = both (before i.instant j.instant) (rises (j ∷ is)) up in
     (sound_stretch true i j r.0, clear_next true upper i j is, slices_ordered (j ∷ is) upper r.1)
-  where
-    both : (a b : Bool) → (a && b) ≡ true → (a ≡ true) × (b ≡ true)
-    both true true h = (refl, refl)
-    both true false h = absurd cc
-    both false b h = absurd cc
 
 -- nothing made yet
-pub made_begins : {B : Type 0} (slices : List (Slice (Steady B))) (lower upper : Bool) (i : Written B) (is all : List (Written B)) → slices ≡ [] → all ≡ i ∷ is → with_slices slices (made lower (i ∷ is) upper) ≡ made lower all upper
-made_begins {B} slices lower upper i is all none e = rw (none, e) (same (made lower (i ∷ is) upper))
+pub made_begins : {B : Type 0} (is_same : B → B → Bool) (slices : List (Slice (Steady B))) (lower upper : Bool) (i : Written B) (is all : List (Written B)) → slices ≡ [] → all ≡ i ∷ is → with_slices slices (made is_same false lower (i ∷ is) upper) ≡ made is_same false lower all upper
+made_begins {B} is_same slices lower upper i is all none e = rw (none, e) (same (made is_same false lower (i ∷ is) upper))
   where
     same : (o : Option (List (Slice (Steady B)))) → with_slices [] o ≡ o
     same None = refl
@@ -73,19 +61,18 @@ made_begins {B} slices lower upper i is all none e = rw (none, e) (same (made lo
 pub opens_before : (included : Bool) (a b : Ratio) → has_instant (record { lower = a; upper = b; lower_inc = included; upper_inc = false }) ≡ true → before a b ≡ true
 opens_before included a b h = grind (arith, h)
 
-pub opens_never : (included : Bool) (a b : Ratio) → has_instant (record { lower = a; upper = b; lower_inc = included; upper_inc = false }) ≡ false → before a b ≡ false
-opens_never included a b h = grind (arith, h)
-
 pub point_included : (included : Bool) (a : Ratio) → has_instant (record { lower = a; upper = a; lower_inc = included; upper_inc = true }) ≡ true → included ≡ true
 point_included true a h = refl
 point_included false a h = grind (arith, h, before-self a)
 
-pub point_excluded : (included : Bool) (a : Ratio) → has_instant (record { lower = a; upper = a; lower_inc = included; upper_inc = true }) ≡ false → included ≡ false
-point_excluded false a h = refl
-point_excluded true a h = grind (arith, h, before-self a)
-
 -- the last slice
-pub made_ends : {B : Type 0} (slices pushed : List (Slice (Steady B))) (included upper : Bool) (last : Written B) (rest : List (Written B)) (total : Option (List (Slice (Steady B)))) → with_slices slices (made included (last ∷ rest) upper) ≡ total → rest ≡ [] → upper ≡ true → included ≡ true → pushed ≡ slices ++ point included last ∷ [] → Some pushed ≡ total
-made_ends {B} slices pushed included upper last rest total h none u k e =
-    let ends : with_slices slices (made included (last ∷ rest) upper) ≡ Some (slices ++ point included last ∷ []) = rw (none, u, k) refl in
+pub made_ends : {B : Type 0} (is_same : B → B → Bool) (slices pushed : List (Slice (Steady B))) (level included upper : Bool) (last : Written B) (rest : List (Written B)) (total : Option (List (Slice (Steady B)))) → with_slices slices (made is_same level included (last ∷ rest) upper) ≡ total → rest ≡ [] → upper ≡ true → included ≡ true → pushed ≡ slices ++ point included last ∷ [] → Some pushed ≡ total
+made_ends {B} is_same slices pushed level included upper last rest total h none u k e =
+    let ends : with_slices slices (made is_same level included (last ∷ rest) upper) ≡ Some (slices ++ point included last ∷ []) = rw (none, u, k) refl in
     ap (λ (x : List (Slice (Steady B))). Some x) e ∙ sym ends ∙ h
+
+-- no further slice: the upper end is left out
+pub made_stops : {B : Type 0} (is_same : B → B → Bool) (slices : List (Slice (Steady B))) (level included upper : Bool) (last : Written B) (rest : List (Written B)) (total : Option (List (Slice (Steady B)))) → with_slices slices (made is_same level included (last ∷ rest) upper) ≡ total → rest ≡ [] → upper ≡ false → level ≡ true → Some slices ≡ total
+made_stops {B} is_same slices level included upper last rest total h none u k =
+    let ends : with_slices slices (made is_same level included (last ∷ rest) upper) ≡ Some (slices ++ []) = rw (none, u, k) refl in
+    ap (λ (x : List (Slice (Steady B))). Some x) (sym (append-nil slices)) ∙ sym ends ∙ h

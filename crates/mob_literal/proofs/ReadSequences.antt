@@ -46,11 +46,11 @@ too_long text is e long js said =
     let count = ap length same in
     absurd (omega (arith, short, long, count))
 
-pub not_rising : (text : Text) (is : List (Written Ratio)) → some is ≡ all_of bracketed_at text → ◌≡◌ {A = Option (List (Slice (Steady Ratio)))} None (made true is true) → NoSequence text
+pub not_rising : (text : Text) (is : List (Written Ratio)) → some is ≡ all_of bracketed_at text → ◌≡◌ {A = Option (List (Slice (Steady Ratio)))} None (made same false true is true) → NoSequence text
 not_rising text is e none js said =
-    let same = the_instants text is js e said in
-    let up : rises is ≡ true = subst (λ (x : List (Written Ratio)). rises x ≡ true) (sym same) (taken js said.holds).1 in
-    absurd (none_some (slices_of true is true) (none ∙ made_closed is ∙ chosen_some (rises is) up))
+    let one = the_instants text is js e said in
+    let up : rises is ≡ true = subst (λ (x : List (Written Ratio)). rises x ≡ true) (sym one) (taken js said.holds).1 in
+    absurd (none_some (slices_of true is true) (none ∙ made_closed same false is ∙ chosen_some (rises is) up))
   where
     none_some : {A : Type 0} (x : A) → ◌≡◌ {A = Option A} None (Some x) → ⊥
     none_some x e = absurd cc
@@ -69,9 +69,9 @@ chosen : {A : Type 0} (b : Bool) (x y : A) → some x ≡ cond b (some y) None �
 chosen true x y e = (refl, cc)
 chosen false x y e = absurd cc
 
-pub all_made : (text : Text) (is : List (Written Ratio)) (slices : List (Slice (Steady Ratio))) → some is ≡ all_of bracketed_at text → length is ≤ 100000 → some slices ≡ made true is true → IsMade text is slices
+pub all_made : (text : Text) (is : List (Written Ratio)) (slices : List (Slice (Steady Ratio))) → some is ≡ all_of bracketed_at text → length is ≤ 100000 → some slices ≡ made same false true is true → IsMade text is slices
 all_made text is slices e short m =
-    let c = chosen (rises is) slices (slices_of true is true) (m ∙ made_closed is) in
+    let c = chosen (rises is) slices (slices_of true is true) (m ∙ made_closed same false is) in
     let shape = is_said bracketed_exact text text is refl e in
     record {
       sequence = record { said = shape; holds = within (nat_le (length is) 100000) (search rules) c.0 };

@@ -1,4 +1,4 @@
--- Worked examples of printed texts, by hand. A moment prints here as D and its day's place.
+-- Worked examples of printed texts and of fields, by hand. A moment prints here as D and its day's place.
 use Rattle.std.proofs.Common.{◌≡◌, ℕ, ◌+◌, [], ◌∷◌, ◌++◌, Bool, true, false, codes, refl, pos, nat_abs, arith}
 use Rattle.mob_ratio.specs.GcdLaws.{gcd_one_right}
 use Rattle.mob_ratio.specs.LowestLaws.{lowest_in}
@@ -7,7 +7,10 @@ use Rattle.mob_ratio.specs.Order.{before, same}
 use Rattle.mob_language.specs.Language.{Text}
 use Rattle.mob_slice.specs.declared.slice.Slice.{Slice}
 use Rattle.mob_slice.specs.declared.steady.Steady.{Steady}
+use Rattle.mob_ast.specs.declared.types.SqlType.TheVariants as sql
+use Rattle.mob_value.specs.declared.value.Value.TheVariants as value
 use Rattle.mob_literal.specs.Printed.{Style, steps_text}
+use Rattle.mob_literal.specs.Fields.{is_null_field, doubled, undoubled, text_of_field, field_text}
 
 abbrev day : ℕ → Ratio
 day n = record { num = pos n; den = 1; lowest = lowest_in (pos n) 1 (omega arith) (gcd_one_right n) }
@@ -67,3 +70,27 @@ ends_left_out = refl
 a_point_of_others : steps_text plain (on true d1 d2 false (codes "1") ∷ on true d3 d3 true (codes "6") ∷ []) ≡ codes "{[1@D1, 1@D2), [6@D3]}"
 unfolding before same
 a_point_of_others = refl
+
+null_in_any : is_null_field sql.Text (codes "\\N") ≡ true
+null_in_any = refl
+
+empty_number : is_null_field sql.Int [] ≡ true
+empty_number = refl
+
+empty_text : is_null_field sql.Text [] ≡ false
+empty_text = refl
+
+one_backslash : text_of_field sql.Text (codes "\\a") ≡ codes "\\a"
+unfolding undoubled
+one_backslash = refl
+
+two_backslashes : text_of_field sql.Text (codes "\\\\N") ≡ codes "\\N"
+unfolding undoubled
+two_backslashes = refl
+
+written_null : field_text (pos 0) value.Null ≡ codes "\\N"
+written_null = refl
+
+written_backslash : field_text (pos 0) (value.Text (codes "\\N")) ≡ codes "\\\\N"
+unfolding doubled
+written_backslash = refl

@@ -11,6 +11,7 @@ use Rattle.mob_literal.specs.Steps.{StepAt, reaches, rises}
 use Rattle.mob_literal.specs.Slices.{slices_of, stretch, point}
 use Rattle.mob_literal.specs.Means.{step_value}
 use Rattle.mob_literal.proofs.Listing.{first_in, later_in, none_in, which_in}
+use Rattle.mob_literal.proofs.Small.{both, and}
 
 upto_self : (a : Ratio) → upto a a ≡ true
 upto_self a = grind (arith, before-self a)
@@ -37,14 +38,6 @@ before_reaches false a b h = rw h refl
 
 upto_reaches : (a b : Ratio) → upto a b ≡ true → reaches true a b ≡ true
 upto_reaches a b h = grind (arith, h)
-
-both : (a b : Bool) → (a && b) ≡ true → (a ≡ true) × (b ≡ true)
-both true true h = (refl, refl)
-both true false h = absurd cc
-both false b h = absurd cc
-
-and : (a b : Bool) → a ≡ true → b ≡ true → (a && b) ≡ true
-and a b h k = rw (h, k) refl
 
 -- the first of the instants is not later than any other
 rise_first : {B : Type 0} (j : Written B) (is : List (Written B)) (k : Written B) → rises (j ∷ is) ≡ true → Contains (j ∷ is) k → upto j.instant k.instant ≡ true

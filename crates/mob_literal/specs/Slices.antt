@@ -19,8 +19,9 @@ slices_of lower_inc [] upper_inc = []
 slices_of lower_inc (i ∷ []) upper_inc = cond upper_inc (point lower_inc i ∷ []) []
 slices_of lower_inc (i ∷ j ∷ is) upper_inc = stretch lower_inc i j ∷ slices_of true (j ∷ is) upper_inc
 
--- the same where each slice has an instant, and none where one has not
-abbrev pub made : {B : Type 0} → Bool → List (Written B) → Bool → Option (List (Slice (Steady B)))
-made lower_inc [] upper_inc = Some []
-made lower_inc (i ∷ []) upper_inc = cond upper_inc (cond lower_inc (Some (point lower_inc i ∷ [])) None) (Some [])
-made lower_inc (i ∷ j ∷ is) upper_inc = cond (before i.instant j.instant) (option_map (λ slices. stretch lower_inc i j ∷ slices) (made true (j ∷ is) upper_inc)) None
+-- The same where the sequence is sound: its instants rise, a sequence of one instant includes both ends, and one without its upper
+-- end has there the value that it had before. None where it is not. `level` says that the first instant has the value before it.
+abbrev pub made : {B : Type 0} → (B → B → Bool) → Bool → Bool → List (Written B) → Bool → Option (List (Slice (Steady B)))
+made is_same level lower_inc [] upper_inc = Some []
+made is_same level lower_inc (i ∷ []) upper_inc = cond upper_inc (cond lower_inc (Some (point lower_inc i ∷ [])) None) (cond level (Some []) None)
+made is_same level lower_inc (i ∷ j ∷ is) upper_inc = cond (before i.instant j.instant) (option_map (λ slices. stretch lower_inc i j ∷ slices) (made is_same (is_same i.value j.value) true (j ∷ is) upper_inc)) None

@@ -6,7 +6,7 @@ ghost use Rattle.mob_literal.specs.Runs.{end_part, between as gap, run_text, is_
 ghost use Rattle.mob_literal.specs.Style.{style_of};
 
 use mob_frac::Frac;
-use mob_scalar::{Epoch, write_moment, write_number};
+use mob_scalar::{Epoch, write_moment};
 use mob_slice::{BaseValue, Course, Moving, Slice, Steady};
 use std::alloc::{AllocError, Global};
 
@@ -19,14 +19,6 @@ pub trait Printed {
     fn write(&self, into: &mut String) -> Result<(), AllocError>
         ensures written { OnOk result (string_bytes into.new ≡ string_bytes into.old ++ text self.now) }
         ensures unchanged { OnErr result (string_bytes into.new ≡ string_bytes into.old) };
-}
-
-impl Printed for Frac {
-    ghost text = { number_text };
-
-    fn write(&self, into: &mut String) -> Result<(), AllocError> {
-        write_number(self, into)
-    }
 }
 
 fn write_instant<B: Printed>(

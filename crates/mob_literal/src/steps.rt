@@ -1,4 +1,4 @@
-ghost use Rattle.std.specs.Prelude.{◌≡◌, IfOk, option_map, Bool, true};
+ghost use Rattle.std.specs.Prelude.{◌≡◌, IfOk, option_map, Bool, true, false};
 ghost use Rattle.mob_literal.specs.Slices.{made};
 
 use crate::written::Written;
@@ -9,14 +9,15 @@ use std::alloc::{AllocError, Global};
 type Slices<B> = Vec<Slice<Steady<B>>>;
 
 /// The slices of the step sequence with these instants and brackets: each value lasts until the next instant. None
-/// exactly where a slice would have no instant, since an instant is not later than the one before it.
+/// exactly where the sequence is not sound: an instant is not later than the one before it, a sequence of one instant
+/// leaves an end out, or one without its upper end changes its value there.
 pub fn slices_of<B: BaseValue + Drop>(
     alloc: Global,
     lower_inc: bool,
     instants: Vec<Written<B>>,
     upper_inc: bool,
 ) -> Result<Option<Slices<B>>, AllocError>
-    ensures made { IfOk result (λ o. option_map (λ slices. slices.items) o ≡ made lower_inc instants.items upper_inc) }
+    ensures made { IfOk result (λ o. option_map (λ slices. slices.items) o ≡ made B.is_same false lower_inc instants.items upper_inc) }
 {
     let mut slices = Vec::new(alloc);
     let mut rest = instants.into_iter();
@@ -24,16 +25,21 @@ pub fn slices_of<B: BaseValue + Drop>(
         return Ok(Some(slices));
     };
     let mut included = lower_inc;
+    let mut level = false;
     for next in rest {
         let Some(span) = Span::new(last.instant, next.instant, included, false) else {
             return Ok(None);
         };
+        level = last.value.same(&next.value);
         slices.push(slice_on(span, last))?;
         last = next;
         included = true;
     }
     if !upper_inc {
-        return Ok(Some(slices));
+        if level {
+            return Ok(Some(slices));
+        }
+        return Ok(None);
     }
     let Some(span) = Span::new(last.instant, last.instant, included, true) else {
         return Ok(None);
@@ -44,7 +50,7 @@ pub fn slices_of<B: BaseValue + Drop>(
 
 /// The value of a written instant on a span.
 fn slice_on<B: BaseValue + Drop>(span: Span, written: Written<B>) -> Slice<Steady<B>>
-    ensures { result ≡ record { span = span; course = record { value = written.value } } }
+    ensures value { result ≡ record { span = span; course = record { value = written.value } } }
 {
     let Written { value, instant: _ } = written;
     Slice {

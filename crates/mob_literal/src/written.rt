@@ -1,4 +1,5 @@
 use mob_frac::Frac;
+use mob_list::items::Items;
 
 /// A value at an instant, as one `value@moment` of a literal says it.
 #[derive(Drop)]
@@ -7,4 +8,24 @@ pub struct Written<B> {
     pub value: B,
     /// The instant, in seconds since midnight UTC of the epoch's day.
     pub instant: Frac,
+}
+
+/// What one `value@moment` of a literal says, before its numbers are known to fit.
+#[derive(Drop)]
+pub struct Noted<B> {
+    /// The value. None where its number does not fit.
+    pub value: Option<B>,
+    /// The instant. None where it does not fit.
+    pub instant: Option<Frac>,
+}
+
+/// Instants between two brackets, each of which includes its end or not.
+#[derive(Drop)]
+pub struct Sequence<A> {
+    /// Whether the first instant is included.
+    pub lower_inc: bool,
+    /// The instants, in the order in which they are written.
+    pub instants: Items<A>,
+    /// Whether the last instant is included.
+    pub upper_inc: bool,
 }

@@ -59,3 +59,7 @@ date_of day = let y = year_of day in let m = month_of y day in record { year = y
 pub record IsInYears (day : ℤ) : Type 0 where
   pub from_first : neg_ℤ (pos 719162) ≤ℤ day
   pub to_last : day ≤ℤ pos 2932896
+
+-- the day of the standard epoch, 2000-01-01
+abbrev pub standard_day : ℤ
+standard_day = days_from_civil (pos 2000) 1 1

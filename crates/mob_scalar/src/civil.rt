@@ -1,7 +1,7 @@
 //! Dates of the calendar, of the years 0001 to 9999.
 ghost use Rattle.std.specs.Prelude.{◌≡◌, ◌<◌, ◌≤◌, ◌^◌, length, option_map, List, ℕ, ℤ, pos, nat_abs, ◌*ℤ◌, ◌+ℤ◌, ◌-ℤ◌, Option, Some, None, IfSome, true, Bool};
 ghost use Rattle.mob_language.specs.Readers.{all_of};
-ghost use Rattle.jiff_core.specs.Calendar.{days_from_civil, days_in_month as month_length};
+ghost use Rattle.jiff_core.specs.Calendar.{days_from_civil};
 ghost use Rattle.mob_scalar.specs.Calendar.{is_civil as civil, day_of as day_number, date_of as date_of_day, IsInYears};
 ghost use Rattle.mob_scalar.specs.CalendarReaders.{fixed_at as fixed_in, dash_at as dash_in, date_at as date_in};
 
@@ -11,12 +11,15 @@ use jiff_core::civil::Date;
 /// A date of the calendar.
 #[derive(Clone, Copy, Debug, PartialEq, Eq)]
 pub struct Civil {
+    /// The year, from 1 to 9999 in a date of the calendar.
     pub year: u32,
+    /// The month, from 1.
     pub month: u32,
+    /// The day of the month, from 1.
     pub day: u32,
 }
 
-/// Exactly `count` digits.
+/// The number of exactly `count` digits in front, and what stands behind them.
 #[tactic(auto, unfolding(crate::specs::CalendarReaders::fixed_at))]
 pub fn fixed_at(count: u32, bytes: &[u8]) -> Option<(u128, &[u8])>
     ensures value { option_map (λ x. (x.0, x.1.now)) result ≡ fixed_in count bytes.now }
@@ -41,33 +44,20 @@ fn dash_at(bytes: &[u8]) -> Option<(u128, &[u8])>
     }
 }
 
-fn days_in_month(year: u32, month: u32) -> u32
-    ensures { result ≡ month_length (pos year) month }
-{
-    if month == 2 {
-        if (year % 4 == 0) && (year % 100 != 0 || year % 400 == 0) {
-            return 29;
-        }
-        return 28;
-    }
-    if month == 4 || month == 6 || month == 9 || month == 11 {
-        30
-    } else {
-        31
-    }
-}
-
+/// Whether the calendar has a date, of the years 0001 to 9999.
 fn is_civil(date: Civil) -> bool
-    ensures { result ≡ civil date }
+    requires year { date.year < 10000 }
+    requires month { date.month < 100 }
+    requires day { date.day < 100 }
+    ensures test { result ≡ civil date }
 {
-    1 <= date.year
-        && date.year <= 9999
-        && 1 <= date.month
-        && date.month <= 12
-        && 1 <= date.day
-        && date.day <= days_in_month(date.year, date.month)
+    if date.year == 0 {
+        return false;
+    }
+    Date::new(date.year as i16, date.month as i8, date.day as i8).is_ok()
 }
 
+/// The date `YYYY-MM-DD` in front, which the calendar has, and what stands behind it.
 #[tactic(auto, unfolding(crate::specs::CalendarReaders::date_at))]
 pub fn date_at(bytes: &[u8]) -> Option<(Civil, &[u8])>
     ensures value { option_map (λ x. (x.0, x.1.now)) result ≡ date_in bytes.now }
@@ -88,10 +78,10 @@ pub fn date_at(bytes: &[u8]) -> Option<(Civil, &[u8])>
     }
 }
 
-/// The number of the day, from 1970-01-01.
+/// The number of a date's day, where 1970-01-01 is 0.
 pub fn day_of(date: Civil) -> i32
-    requires { civil date ≡ true }
-    ensures { result ≡ day_number date }
+    requires there { civil date ≡ true }
+    ensures number { result ≡ day_number date }
 {
     match Date::new(date.year as i16, date.month as i8, date.day as i8) {
         Ok(day) => day.to_unix_epoch_day(),
@@ -110,9 +100,9 @@ pub fn date_in_all(bytes: &[u8]) -> Option<Civil>
     }
 }
 
-/// The date of a day.
+/// The date of the day with this number, where 1970-01-01 is 0.
 pub fn date_of(day: i64) -> Civil
-    requires { IsInYears day }
+    requires years { IsInYears day }
     ensures value { result ≡ date_of_day day }
     ensures there { civil result ≡ true }
 {

@@ -1,7 +1,8 @@
 //! The epoch: the day from whose midnight the instants count.
-ghost use Rattle.std.specs.Prelude.{◌≡◌, ◌<◌, ◌^◌, ℤ, pos, nat_abs, ◌*ℤ◌};
-ghost use Rattle.mob_scalar.specs.Calendar.{IsInYears};
+ghost use Rattle.std.specs.Prelude.{◌≡◌, ◌<◌, ◌^◌, ℤ, pos, nat_abs, ◌*ℤ◌, ◌≢◌, Err};
+ghost use Rattle.mob_scalar.specs.Calendar.{IsInYears, standard_day};
 ghost use Rattle.mob_scalar.specs.Epochs.{epochs};
+ghost use Rattle.mob_scalar.specs.declared.fault.ReadText.TheVariants.{NoMemory};
 ghost use Rattle.mob_scalar.specs.Verdict.{Lit};
 ghost use Rattle.jiff_core.specs.Calendar.{days_from_civil};
 
@@ -32,7 +33,7 @@ impl Model for Epoch {
 impl Epoch {
     /// The standard epoch, 2000-01-01.
     pub fn standard() -> Epoch
-        ensures day { result ≡ days_from_civil (pos 2000) 1 1 }
+        ensures day { result ≡ standard_day }
     {
         Epoch { day: 10957 }
     }
@@ -42,6 +43,7 @@ impl Epoch {
     /// Any other text is `NotText`. Blanks are not taken.
     pub fn read(text: &str) -> Result<Epoch, ReadText>
         ensures reading { Lit epochs text.now result }
+        ensures memory { result ≢ Err NoMemory }
     {
         match date_in_all(text.as_bytes()) {
             None => Err(ReadText::NotText),

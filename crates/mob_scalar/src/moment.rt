@@ -1,22 +1,23 @@
 //! The instants that moments stand for.
-ghost use Rattle.std.specs.Prelude.{◌≡◌, ◌<◌, ◌≤◌, ◌^◌, length, option_map, List, ℕ, ℤ, pos, nat_abs, ◌*ℤ◌, ◌+ℤ◌, ◌-ℤ◌, Option, Some, None, IfSome, true, Bool};
+ghost use Rattle.std.specs.Prelude.{◌≡◌, ◌<◌, ◌≤◌, ◌^◌, length, option_map, List, ℕ, ℤ, pos, nat_abs, ◌*ℤ◌, ◌+ℤ◌, ◌-ℤ◌, Option, Some, None, IfSome, true, Bool, ◌≢◌, Err};
 ghost use Rattle.mob_frac.specs.Fits.{IsExact};
 ghost use Rattle.mob_ratio.specs.Ratio.{whole, over, ◌+ℚ◌};
-ghost use Rattle.mob_language.specs.Readers.{all_of};
+ghost use Rattle.mob_language.specs.Readers.{all_of, within_blanks_at};
 ghost use Rattle.mob_scalar.specs.Calendar.{is_civil as civil};
 ghost use Rattle.mob_scalar.specs.Moment.{instant, IsPartSmall};
 ghost use Rattle.mob_scalar.specs.MomentReaders.{moment_at as moment_in};
 ghost use Rattle.mob_scalar.specs.Moments.{moments};
+ghost use Rattle.mob_scalar.specs.declared.fault.ReadText.TheVariants.{NoMemory};
 ghost use Rattle.mob_scalar.specs.Verdict.{Lit};
 
 use crate::epoch::Epoch;
 use crate::fault::ReadText;
-use crate::stamp::{Part, Stamp, moment_at, seconds_of};
+use crate::stamp::{Part, Stamp, blanks, moment_at, seconds_of};
 use mob_frac::{Frac, Overflow, over_product};
 
 // Seconds since midnight of the epoch's day.
 fn since(seconds: i64, epoch: &Epoch) -> i64
-    requires { nat_abs seconds < 2 ^ 51 }
+    requires seconds { nat_abs seconds < 2 ^ 51 }
     ensures value { result ≡ seconds -ℤ epoch.now *ℤ pos 86400 }
     ensures bound { nat_abs result < 2 ^ 62 }
 {
@@ -24,7 +25,7 @@ fn since(seconds: i64, epoch: &Epoch) -> i64
 }
 
 fn whole_number(n: i64) -> Result<Frac, Overflow>
-    ensures { IsExact (whole n) result }
+    ensures exact { IsExact (whole n) result }
 {
     Frac::new(n, 1)
 }
@@ -32,7 +33,7 @@ fn whole_number(n: i64) -> Result<Frac, Overflow>
 fn plus_part(n: i64, part: Part) -> Result<Frac, Overflow>
     requires bound { nat_abs n < 2 ^ 62 }
     requires part { IsPartSmall part }
-    ensures { IsExact (whole n +ℚ over (pos part.numerator) part.denominator) result }
+    ensures exact { IsExact (whole n +ℚ over (pos part.numerator) part.denominator) result }
 {
     match over_product(false, part.numerator, part.denominator, 1) {
         Err(_) => Err(Overflow),
@@ -43,24 +44,26 @@ fn plus_part(n: i64, part: Part) -> Result<Frac, Overflow>
     }
 }
 
-/// The place of a moment in time.
+/// The instant of a moment, in seconds since midnight UTC of the epoch's day.
 #[tactic(auto, unfolding(crate::specs::Moment::instant))]
-fn place(stamp: Stamp, epoch: &Epoch) -> Result<Frac, Overflow>
+pub fn place(stamp: Stamp, epoch: &Epoch) -> Result<Frac, Overflow>
     requires date { civil stamp.date ≡ true }
     requires part { IsPartSmall stamp.clock.part }
-    ensures { IsExact (instant epoch.now stamp) result }
+    ensures exact { IsExact (instant epoch.now stamp) result }
 {
     plus_part(since(seconds_of(stamp), epoch), stamp.clock.part)
 }
 
-/// All of the bytes, as a moment.
+/// All of the bytes, as a moment with blanks at its ends.
 fn stamp_of(bytes: &[u8]) -> Option<Stamp>
-    ensures value { result ≡ all_of moment_in bytes.now }
+    ensures value { result ≡ all_of (within_blanks_at moment_in) bytes.now }
     ensures there { IfSome result (λ s. civil s.date ≡ true) }
 {
-    match moment_at(bytes) {
-        Some((stamp, rest)) => { if rest.is_empty() { Some(stamp) } else { None } }
-        None => None,
+    let (stamp, rest) = moment_at(blanks(bytes).1)?;
+    if blanks(rest).1.is_empty() {
+        Some(stamp)
+    } else {
+        None
     }
 }
 
@@ -68,10 +71,12 @@ fn stamp_of(bytes: &[u8]) -> Option<Stamp>
 ///
 /// A moment is `YYYY-MM-DD`, then perhaps blanks or `T` and `HH:MM`, perhaps `:SS`, perhaps a part
 /// of the second (`.` and 1 to 18 digits, or `(p/q)`), perhaps `Z`, `+HH`, `-HH`, `+HH:MM` or
-/// `-HH:MM`. The date exists, and the instant lies in the years 0001 to 9999 in UTC. Any other text
+/// `-HH:MM`. The date exists, and the instant lies in the years 0001 to 9999 in UTC. Blanks may
+/// stand at both ends. Any other text
 /// is `NotText`, and `TooLarge` an instant that has more than 62 bits. It takes no memory.
 pub fn read_moment(text: &str, epoch: &Epoch) -> Result<Frac, ReadText>
     ensures reading { Lit (moments epoch.now) text.now result }
+    ensures memory { result ≢ Err NoMemory }
 {
     match stamp_of(text.as_bytes()) {
         None => Err(ReadText::NotText),

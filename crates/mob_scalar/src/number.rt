@@ -1,23 +1,26 @@
-ghost use Rattle.std.specs.Prelude.{◌≡◌, ◌<◌, ◌≤◌, ◌^◌, ◌*◌, ◌+◌, length, Option, Some, None};
-ghost use Rattle.mob_language.specs.Readers.{all_of};
+ghost use Rattle.std.specs.Prelude.{◌≡◌, ◌<◌, ◌≤◌, ◌^◌, ◌*◌, ◌+◌, length, Option, Some, None, ◌≢◌, Err};
+ghost use Rattle.mob_language.specs.Readers.{all_of, within_blanks_at};
 ghost use Rattle.mob_ratio.specs.Ratio.{over};
 ghost use Rattle.mob_frac.specs.Fits.{IsExact};
 ghost use Rattle.mob_frac.specs.Signed.{signed};
 ghost use Rattle.mob_scalar.specs.NumberValue.{IsBounded, value, up_of, down_of, value_in};
 ghost use Rattle.mob_scalar.specs.Number.{count_of};
 ghost use Rattle.mob_scalar.specs.NumberReaders.{number_at as number_in};
+ghost use Rattle.mob_scalar.specs.declared.fault.ReadText.TheVariants.{NoMemory};
 ghost use Rattle.mob_scalar.specs.Verdict.{Lit};
-ghost use Rattle.mob_scalar.specs.Numbers.{numbers};
+ghost use Rattle.mob_scalar.specs.Numbers.{numbers, whole_numbers};
 
 use crate::fault::ReadText;
 use crate::numeral::{Exponent, Figures, Numeral, Tail, number_at};
+use crate::stamp::blanks;
 use mob_frac::{Frac, Overflow, over_product};
 
 const SIZE: u128 = 1 << 62;
 
+/// Ten to the power `k`.
 pub fn ten_to(k: u32) -> u128
-    requires { k ≤ 36 }
-    ensures { result ≡ 10 ^ k }
+    requires fits { k ≤ 36 }
+    ensures power { result ≡ 10 ^ k }
 {
     let mut power: u128 = 1;
     for _ in 0..k {
@@ -28,8 +31,8 @@ pub fn ten_to(k: u32) -> u128
 
 /// A whole number with zeros behind it.
 fn raised(negative: bool, size: u128, up: u32) -> Result<Frac, Overflow>
-    requires { up ≤ 18 }
-    ensures { IsExact (over (signed negative (size * 10 ^ up)) 1) result }
+    requires up { up ≤ 18 }
+    ensures exact { IsExact (over (signed negative (size * 10 ^ up)) 1) result }
 {
     if size >= SIZE {
         return Err(Overflow);
@@ -41,7 +44,7 @@ fn raised(negative: bool, size: u128, up: u32) -> Result<Frac, Overflow>
 fn lowered(negative: bool, size: u128, down: u32) -> Result<Frac, Overflow>
     requires size { size < 10 ^ 36 }
     requires down { down ≤ 54 }
-    ensures { IsExact (over (signed negative size) (10 ^ down)) result }
+    ensures exact { IsExact (over (signed negative size) (10 ^ down)) result }
 {
     if down > 27 {
         over_product(negative, size, ten_to(27), ten_to(down - 27))
@@ -54,7 +57,7 @@ fn scaled(negative: bool, size: u128, up: u32, down: u32) -> Result<Frac, Overfl
     requires size { size < 10 ^ 36 }
     requires up { up ≤ 18 }
     requires down { down ≤ 54 }
-    ensures { IsExact (over (signed negative (size * 10 ^ up)) (10 ^ down)) result }
+    ensures exact { IsExact (over (signed negative (size * 10 ^ up)) (10 ^ down)) result }
 {
     if up >= down {
         raised(negative, size, up - down)
@@ -64,7 +67,7 @@ fn scaled(negative: bool, size: u128, up: u32, down: u32) -> Result<Frac, Overfl
 }
 
 fn up(exponent: Option<Exponent>) -> u128
-    ensures { result ≡ up_of exponent }
+    ensures value { result ≡ up_of exponent }
 {
     match exponent {
         None => 0,
@@ -73,7 +76,7 @@ fn up(exponent: Option<Exponent>) -> u128
 }
 
 fn down(exponent: Option<Exponent>) -> u128
-    ensures { result ≡ down_of exponent }
+    ensures value { result ≡ down_of exponent }
 {
     match exponent {
         None => 0,
@@ -82,7 +85,7 @@ fn down(exponent: Option<Exponent>) -> u128
 }
 
 fn places(part: Option<Figures>) -> u32
-    ensures { result ≡ count_of part }
+    ensures value { result ≡ count_of part }
 {
     match part {
         None => 0,
@@ -91,7 +94,7 @@ fn places(part: Option<Figures>) -> u32
 }
 
 fn part_value(part: Option<Figures>) -> u128
-    ensures { result ≡ value_in part }
+    ensures value { result ≡ value_in part }
 {
     match part {
         None => 0,
@@ -99,11 +102,12 @@ fn part_value(part: Option<Figures>) -> u128
     }
 }
 
-/// The number that a numeral stands for.
+/// The number that a numeral stands for. It is `Overflow` exactly where the reduced fraction has a
+/// part of more than 62 bits.
 #[tactic(auto, unfolding(crate::specs::NumberValue::value))]
 pub fn evaluate(n: Numeral) -> Result<Frac, Overflow>
-    requires { IsBounded n }
-    ensures { IsExact (value n) result }
+    requires bounded { IsBounded n }
+    ensures exact { IsExact (value n) result }
 {
     match n.tail {
         Tail::Over(denominator) => over_product(n.negative, n.digits.value, denominator.value, 1),
@@ -116,13 +120,15 @@ pub fn evaluate(n: Numeral) -> Result<Frac, Overflow>
     }
 }
 
-/// All of the bytes, as a numeral.
+/// All of the bytes, as a numeral with blanks at its ends.
 fn numeral_of(bytes: &[u8]) -> Option<Numeral>
-    ensures { result ≡ all_of number_in bytes.now }
+    ensures value { result ≡ all_of (within_blanks_at number_in) bytes.now }
 {
-    match number_at(bytes) {
-        Some((n, rest)) => { if rest.is_empty() { Some(n) } else { None } }
-        None => None,
+    let (n, rest) = number_at(blanks(bytes).1)?;
+    if blanks(rest).1.is_empty() {
+        Some(n)
+    } else {
+        None
     }
 }
 
@@ -130,10 +136,11 @@ fn numeral_of(bytes: &[u8]) -> Option<Numeral>
 ///
 /// A number is an optional sign, digits with at most one point, and perhaps an exponent from -18 to
 /// 18; or an optional sign, digits, `/` and digits that are not all 0. Each run of digits, the two
-/// sides of a point together, has at most 36. Any other text is `NotText`, and `TooLarge` a number
+/// sides of a point together, has at most 36. Blanks may stand at both ends. Any other text is `NotText`, and `TooLarge` a number
 /// whose reduced fraction has a part of more than 62 bits. It takes no memory.
 pub fn read_number(text: &str) -> Result<Frac, ReadText>
     ensures reading { Lit numbers text.now result }
+    ensures memory { result ≢ Err NoMemory }
 {
     match numeral_of(text.as_bytes()) {
         None => Err(ReadText::NotText),
@@ -141,5 +148,22 @@ pub fn read_number(text: &str) -> Result<Frac, ReadText>
             Ok(q) => Ok(q),
             Err(_) => Err(ReadText::TooLarge),
         },
+    }
+}
+
+/// The int that a text says: a number as `read_number` reads it, and `Unsound` where it is not whole.
+pub fn read_whole(text: &str) -> Result<Frac, ReadText>
+    ensures reading { Lit whole_numbers text.now result }
+    ensures memory { result ≢ Err NoMemory }
+{
+    match read_number(text) {
+        Ok(number) => {
+            if number.den() == 1 {
+                Ok(number)
+            } else {
+                Err(ReadText::Unsound)
+            }
+        }
+        Err(fault) => Err(fault),
     }
 }

@@ -41,7 +41,7 @@ pub fn write_number(n: &Frac, into: &mut String) -> Result<(), AllocError>
 }
 
 fn zeros(count: usize) -> &'static str
-    requires { count ≤ 5 }
+    requires count { count ≤ 5 }
     ensures text { result.now ≡ replicate count 48 }
     ensures len { length result.now ≡ count }
 {
@@ -88,7 +88,7 @@ fn push_date(date: Civil, into: &mut String) -> Result<(), AllocError>
 
 #[tactic(auto, unfolding(crate::specs::MomentText::clock_text))]
 fn push_clock(seconds: u64, into: &mut String) -> Result<(), AllocError>
-    requires { seconds < 86400 }
+    requires seconds { seconds < 86400 }
     ensures ok { OnOk result (string_bytes into.new ≡ string_bytes into.old ++ clock_text seconds) }
     ensures len { OnOk result (string_len into.new ≡ string_len into.old + 8) }
     ensures room { string_len into.old + 8 ≤ string_capacity into.old → IsOk result }
@@ -104,8 +104,8 @@ fn push_clock(seconds: u64, into: &mut String) -> Result<(), AllocError>
 // How many decimal digits give a fraction with this denominator exactly.
 #[tactic(auto, unfolding(crate::specs::MomentText::places))]
 fn places(denominator: u64) -> Option<usize>
-    requires { 0 < denominator }
-    ensures { result ≡ places_of denominator }
+    requires positive { 0 < denominator }
+    ensures value { result ≡ places_of denominator }
 {
     POWERS.iter().position(|power| *power % denominator == 0)
 }
@@ -163,7 +163,7 @@ fn push_decimals(
     requires some { 1 ≤ digits }
     requires most { digits ≤ 6 }
     requires below { numerator < denominator }
-    requires divides { denominator ≤ 10 ^ digits }
+    requires covers { denominator ≤ 10 ^ digits }
     ensures ok { OnOk result (string_bytes into.new ≡ string_bytes into.old ++ decimals_text digits numerator denominator) }
     ensures len { OnOk result (string_len into.new ≤ string_len into.old + 7) }
     ensures room { string_len into.old + 7 ≤ string_capacity into.old → IsOk result }
@@ -267,13 +267,13 @@ fn denominator_of(t: &Frac) -> u64
 }
 
 fn second_of(t: &Frac, epoch: &Epoch) -> i64
-    ensures { result ≡ whole_seconds t.now +ℤ epoch.now *ℤ pos 86400 }
+    ensures value { result ≡ whole_seconds t.now +ℤ epoch.now *ℤ pos 86400 }
 {
     whole_part(t) + epoch.start()
 }
 
 fn day_of_second(second: i64) -> i64
-    requires { is_year_second second ≡ true }
+    requires year { is_year_second second ≡ true }
     ensures value { result ≡ int_div_euclid second (pos 86400) }
     ensures years { IsInYears result }
 {
@@ -288,7 +288,7 @@ fn clock_of_second(second: i64) -> u64
 }
 
 fn is_in_years(second: i64) -> bool
-    ensures { result ≡ is_year_second second }
+    ensures value { result ≡ is_year_second second }
 {
     -62135596800 <= second && second <= 253402300799
 }

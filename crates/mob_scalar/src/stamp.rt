@@ -13,29 +13,38 @@ use crate::numeral::{Figures, digits_at};
 /// A part of a second, `numerator / denominator`.
 #[derive(Clone, Copy, Debug, PartialEq, Eq)]
 pub struct Part {
+    /// The numerator, below the denominator.
     pub numerator: u128,
+    /// The denominator.
     pub denominator: u128,
 }
 
 /// A time of day: whole seconds since midnight, and a part of a second.
 #[derive(Clone, Copy, Debug, PartialEq, Eq)]
 pub struct Clock {
+    /// Whole seconds since midnight.
     pub seconds: u32,
+    /// The part of a second.
     pub part: Part,
 }
 
 /// An offset from UTC in seconds.
 #[derive(Clone, Copy, Debug, PartialEq, Eq)]
 pub struct Offset {
+    /// Whether its sign is a minus: the clock is behind UTC.
     pub west: bool,
+    /// Its size in seconds.
     pub seconds: u32,
 }
 
 /// A moment: a day, a time of that day and the offset.
 #[derive(Clone, Copy, Debug, PartialEq, Eq)]
 pub struct Stamp {
+    /// The day.
     pub date: Civil,
+    /// The time of that day.
     pub clock: Clock,
+    /// The offset from UTC at which they are read.
     pub offset: Offset,
 }
 
@@ -61,7 +70,7 @@ fn colon_at(bytes: &[u8]) -> Option<(u128, &[u8])>
 
 #[tactic(auto, unfolding(crate::specs::MomentReaders::z_at))]
 fn z_at(bytes: &[u8]) -> Option<(Offset, &[u8])>
-    ensures { option_map (λ x. (x.0, x.1.now)) result ≡ z_in bytes.now }
+    ensures value { option_map (λ x. (x.0, x.1.now)) result ≡ z_in bytes.now }
 {
     match bytes {
         [90, rest @ ..] | [122, rest @ ..] => Some((
@@ -77,7 +86,7 @@ fn z_at(bytes: &[u8]) -> Option<(Offset, &[u8])>
 
 #[tactic(auto, unfolding(crate::specs::MomentReaders::t_at))]
 fn t_at(bytes: &[u8]) -> Option<((), &[u8])>
-    ensures { option_map (λ x. (x.0, x.1.now)) result ≡ t_in bytes.now }
+    ensures value { option_map (λ x. (x.0, x.1.now)) result ≡ t_in bytes.now }
 {
     match bytes {
         [84, rest @ ..] | [116, rest @ ..] => Some(((), rest)),
@@ -87,7 +96,7 @@ fn t_at(bytes: &[u8]) -> Option<((), &[u8])>
 
 #[tactic(auto, unfolding(crate::specs::MomentReaders::decimals_at))]
 fn decimals_at(bytes: &[u8]) -> Option<(Part, &[u8])>
-    ensures { option_map (λ x. (x.0, x.1.now)) result ≡ decimals_in bytes.now }
+    ensures value { option_map (λ x. (x.0, x.1.now)) result ≡ decimals_in bytes.now }
 {
     match bytes {
         [46, rest @ ..] => {
@@ -108,7 +117,7 @@ fn decimals_at(bytes: &[u8]) -> Option<(Part, &[u8])>
 
 #[tactic(auto, unfolding(crate::specs::MomentReaders::below_at))]
 fn below_at(bytes: &[u8]) -> Option<(Figures, &[u8])>
-    ensures { option_map (λ x. (x.0, x.1.now)) result ≡ below_in bytes.now }
+    ensures value { option_map (λ x. (x.0, x.1.now)) result ≡ below_in bytes.now }
 {
     match bytes {
         [47, rest @ ..] => digits_at(rest),
@@ -118,7 +127,7 @@ fn below_at(bytes: &[u8]) -> Option<(Figures, &[u8])>
 
 #[tactic(auto, unfolding(crate::specs::MomentReaders::quotient_at))]
 fn quotient_at(bytes: &[u8]) -> Option<(Part, &[u8])>
-    ensures { option_map (λ x. (x.0, x.1.now)) result ≡ quotient_in bytes.now }
+    ensures value { option_map (λ x. (x.0, x.1.now)) result ≡ quotient_in bytes.now }
 {
     match bytes {
         [40, rest @ ..] => {
@@ -145,7 +154,7 @@ fn quotient_at(bytes: &[u8]) -> Option<(Part, &[u8])>
 
 #[tactic(auto, unfolding(crate::specs::MomentReaders::part_at))]
 fn part_at(bytes: &[u8]) -> Option<(Part, &[u8])>
-    ensures { option_map (λ x. (x.0, x.1.now)) result ≡ part_in bytes.now }
+    ensures value { option_map (λ x. (x.0, x.1.now)) result ≡ part_in bytes.now }
 {
     match decimals_at(bytes) {
         Some(found) => Some(found),
@@ -154,7 +163,7 @@ fn part_at(bytes: &[u8]) -> Option<(Part, &[u8])>
 }
 
 fn maybe_part(bytes: &[u8]) -> (Option<Part>, &[u8])
-    ensures { Some (result.0, result.1.now) ≡ maybe_at part_in bytes.now }
+    ensures value { Some (result.0, result.1.now) ≡ maybe_at part_in bytes.now }
 {
     match part_at(bytes) {
         Some((part, rest)) => (Some(part), rest),
@@ -191,7 +200,7 @@ fn clock_from(hour: u128, minute: u128, seconds: Option<(u128, Option<Part>)>) -
     requires hour { hour < 100 }
     requires minute { minute < 100 }
     requires seconds { IfSome seconds (λ x. x.0 < 100) }
-    ensures { result ≡ clock_made (hour, (minute, seconds)) }
+    ensures value { result ≡ clock_made (hour, (minute, seconds)) }
 {
     let none = Part {
         numerator: 0,
@@ -215,7 +224,7 @@ fn clock_from(hour: u128, minute: u128, seconds: Option<(u128, Option<Part>)>) -
 
 #[tactic(auto, unfolding(crate::specs::MomentReaders::clock_at))]
 fn clock_at(bytes: &[u8]) -> Option<(Clock, &[u8])>
-    ensures { option_map (λ x. (x.0, x.1.now)) result ≡ clock_in bytes.now }
+    ensures value { option_map (λ x. (x.0, x.1.now)) result ≡ clock_in bytes.now }
 {
     let (hour, rest) = up_to_at(24, bytes)?;
     let (minute, rest) = colon_at(rest)?;
@@ -236,7 +245,7 @@ fn maybe_colon(bytes: &[u8]) -> (Option<u128>, &[u8])
 fn offset_from(sign: u8, hours: u128, minutes: Option<u128>) -> Offset
     requires hours { hours < 100 }
     requires minutes { IfSome minutes (λ n. n < 100) }
-    ensures { result ≡ offset_made (sign, (hours, minutes)) }
+    ensures value { result ≡ offset_made (sign, (hours, minutes)) }
 {
     let minutes = match minutes {
         None => 0,
@@ -249,7 +258,7 @@ fn offset_from(sign: u8, hours: u128, minutes: Option<u128>) -> Offset
 }
 
 fn after_sign(sign: u8, bytes: &[u8]) -> Option<(Offset, &[u8])>
-    ensures { option_map (λ x. (x.0, x.1.now)) result ≡ after_sign_in sign bytes.now }
+    ensures value { option_map (λ x. (x.0, x.1.now)) result ≡ after_sign_in sign bytes.now }
 {
     let (hours, rest) = up_to_at(16, bytes)?;
     let (minutes, rest) = maybe_colon(rest);
@@ -258,7 +267,7 @@ fn after_sign(sign: u8, bytes: &[u8]) -> Option<(Offset, &[u8])>
 
 #[tactic(auto, unfolding(crate::specs::MomentReaders::hours_at))]
 fn hours_at(bytes: &[u8]) -> Option<(Offset, &[u8])>
-    ensures { option_map (λ x. (x.0, x.1.now)) result ≡ hours_in bytes.now }
+    ensures value { option_map (λ x. (x.0, x.1.now)) result ≡ hours_in bytes.now }
 {
     match bytes {
         [43, rest @ ..] => after_sign(43, rest),
@@ -269,7 +278,7 @@ fn hours_at(bytes: &[u8]) -> Option<(Offset, &[u8])>
 
 #[tactic(auto, unfolding(crate::specs::MomentReaders::zone_at))]
 fn zone_at(bytes: &[u8]) -> Option<(Offset, &[u8])>
-    ensures { option_map (λ x. (x.0, x.1.now)) result ≡ zone_in bytes.now }
+    ensures value { option_map (λ x. (x.0, x.1.now)) result ≡ zone_in bytes.now }
 {
     match z_at(bytes) {
         Some(found) => Some(found),
@@ -278,7 +287,7 @@ fn zone_at(bytes: &[u8]) -> Option<(Offset, &[u8])>
 }
 
 fn maybe_zone(bytes: &[u8]) -> (Option<Offset>, &[u8])
-    ensures { Some (result.0, result.1.now) ≡ maybe_at zone_in bytes.now }
+    ensures value { Some (result.0, result.1.now) ≡ maybe_at zone_in bytes.now }
 {
     match zone_at(bytes) {
         Some((offset, rest)) => (Some(offset), rest),
@@ -287,7 +296,7 @@ fn maybe_zone(bytes: &[u8]) -> (Option<Offset>, &[u8])
 }
 
 fn zone_or_utc(zone: Option<Offset>) -> Offset
-    ensures { result ≡ zone_made zone }
+    ensures value { result ≡ zone_made zone }
 {
     match zone {
         None => Offset {
@@ -298,15 +307,16 @@ fn zone_or_utc(zone: Option<Offset>) -> Offset
     }
 }
 
-fn is_blank(c: u8) -> bool
-    ensures { result ≡ blank c }
+/// Whether a byte is a space, a tab, a carriage return or a line feed.
+pub fn is_blank(c: u8) -> bool
+    ensures test { result ≡ blank c }
 {
     c == 32 || c == 9 || c == 13 || c == 10
 }
 
 /// The blanks in front, and what stands behind them.
 pub fn blanks(bytes: &[u8]) -> (&[u8], &[u8])
-    ensures { (result.0.now, result.1.now) ≡ run_of blank bytes.now }
+    ensures split { (result.0.now, result.1.now) ≡ run_of blank bytes.now }
 {
     let mut i = 0;
     while i < bytes.len() {
@@ -320,7 +330,7 @@ pub fn blanks(bytes: &[u8]) -> (&[u8], &[u8])
 
 #[tactic(auto, unfolding(crate::specs::MomentReaders::blanks_at))]
 fn blanks_at(bytes: &[u8]) -> Option<((), &[u8])>
-    ensures { option_map (λ x. (x.0, x.1.now)) result ≡ blanks_in bytes.now }
+    ensures value { option_map (λ x. (x.0, x.1.now)) result ≡ blanks_in bytes.now }
 {
     let (blanks, rest) = blanks(bytes);
     if 0 < blanks.len() {
@@ -332,7 +342,7 @@ fn blanks_at(bytes: &[u8]) -> Option<((), &[u8])>
 
 #[tactic(auto, unfolding(crate::specs::MomentReaders::gap_at))]
 fn gap_at(bytes: &[u8]) -> Option<((), &[u8])>
-    ensures { option_map (λ x. (x.0, x.1.now)) result ≡ gap_in bytes.now }
+    ensures value { option_map (λ x. (x.0, x.1.now)) result ≡ gap_in bytes.now }
 {
     match blanks_at(bytes) {
         Some(found) => Some(found),
@@ -342,7 +352,7 @@ fn gap_at(bytes: &[u8]) -> Option<((), &[u8])>
 
 #[tactic(auto, unfolding(crate::specs::MomentReaders::time_at))]
 fn time_at(bytes: &[u8]) -> Option<((Clock, Offset), &[u8])>
-    ensures { option_map (λ x. (x.0, x.1.now)) result ≡ time_in bytes.now }
+    ensures value { option_map (λ x. (x.0, x.1.now)) result ≡ time_in bytes.now }
 {
     let (_, rest) = gap_at(bytes)?;
     let (clock, rest) = clock_at(rest)?;
@@ -351,7 +361,7 @@ fn time_at(bytes: &[u8]) -> Option<((Clock, Offset), &[u8])>
 }
 
 fn maybe_time(bytes: &[u8]) -> (Option<(Clock, Offset)>, &[u8])
-    ensures { Some (result.0, result.1.now) ≡ maybe_at time_in bytes.now }
+    ensures value { Some (result.0, result.1.now) ≡ maybe_at time_in bytes.now }
 {
     match time_at(bytes) {
         Some((time, rest)) => (Some(time), rest),
@@ -360,7 +370,7 @@ fn maybe_time(bytes: &[u8]) -> (Option<(Clock, Offset)>, &[u8])
 }
 
 fn stamp_from(date: Civil, time: Option<(Clock, Offset)>) -> Stamp
-    ensures { result ≡ stamp_made (date, time) }
+    ensures value { result ≡ stamp_made (date, time) }
 {
     match time {
         None => Stamp {
@@ -415,7 +425,7 @@ fn total(day: i64, clock: u32, shift: i64) -> i64
 /// Whole seconds since midnight UTC of 1970-01-01.
 #[tactic(auto, unfolding(crate::specs::Moment::seconds))]
 pub fn seconds_of(stamp: Stamp) -> i64
-    requires { civil stamp.date ≡ true }
+    requires there { civil stamp.date ≡ true }
     ensures value { result ≡ seconds stamp }
     ensures bound { nat_abs result < 2 ^ 51 }
 {
@@ -427,13 +437,14 @@ pub fn seconds_of(stamp: Stamp) -> i64
 }
 
 fn is_in_years(stamp: Stamp) -> bool
-    requires { civil stamp.date ≡ true }
-    ensures { result ≡ in_years stamp }
+    requires date { civil stamp.date ≡ true }
+    ensures value { result ≡ in_years stamp }
 {
     let seconds = seconds_of(stamp);
     -62135596800 <= seconds && seconds <= 253402300799
 }
 
+/// The moment in front, as it is written, and what stands behind it.
 #[tactic(auto, unfolding(crate::specs::MomentReaders::moment_at))]
 pub fn moment_at(bytes: &[u8]) -> Option<(Stamp, &[u8])>
     ensures value { option_map (λ x. (x.0, x.1.now)) result ≡ moment_in bytes.now }

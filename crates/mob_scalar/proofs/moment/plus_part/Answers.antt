@@ -7,7 +7,7 @@ once : (n : ℕ) → n * 1 ≡ n
 once n = omega arith
 
 pub returns-in-Err : goal.returns-in-Err
-returns-in-Err c fits = c.in-Err.ensures.exact (rw (once c.args.part.denominator) (part_fits c.args.n c.args.part.numerator c.args.part.denominator c.requires.part.below fits))
+returns-in-Err c = record { exact = λ fits. c.in-Err.ensures.exact (rw (once c.args.part.denominator) (part_fits c.args.n c.args.part.numerator c.args.part.denominator c.requires.part.below fits)) }
 
 pub returns-in-Err-whole_number : goal.returns-in-Err-whole_number
-returns-in-Err-whole_number c fits = let f = c.ranges.n in absurd ((simp to_z-of_z at c.in-Err-whole_number.ensures) (whole_fits c.args.n c.requires.bound))
+returns-in-Err-whole_number c = let f = c.ranges.n in record { exact = λ fits. absurd ((simp to_z-of_z at c.in-Err-whole_number.ensures.exact) (whole_fits c.args.n c.requires.bound)) }

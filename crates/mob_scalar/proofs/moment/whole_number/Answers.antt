@@ -3,4 +3,4 @@ use Rattle.mob_scalar.proofs.Parts.{whole_over}
 use Rattle.mob_scalar.proofs.moment.whole_number.Goals as goal
 
 pub returns : goal.returns
-returns c = let f = c.ranges.n in rw (whole_over c.args.n) (simp to_z-of_z at c.new.ensures.exact)
+returns c = let f = c.ranges.n in record { exact = rw (whole_over c.args.n) (simp to_z-of_z at c.new.ensures.exact) }

@@ -15,13 +15,13 @@ size_lt n part e ten more b is t m =
     (enough n.digits part e (subst (λ (x : Tail). has_digits n.digits x ≡ true) is b.there)))
 
 pub over_product-requires-clause-num : goal.over_product-requires-clause-num
-over_product-requires-clause-num c = let h = small_lt c.args.n.digits c.requires.digits in omega (arith, h)
+over_product-requires-clause-num c = let h = small_lt c.args.n.digits c.requires.bounded.digits in omega (arith, h)
 
 pub overflow_mul-size : goal.overflow_mul-size
-overflow_mul-size c = let h = size_lt c.args.n c.in-Decimal.part c.in-Decimal.exponent c.ten_to.result _ c.requires c.in-Decimal.is (rw (← c.places.ensures) c.ten_to.ensures) (λ i. value_in c.in-Decimal.part) in omega (arith, h)
+overflow_mul-size c = let h = size_lt c.args.n c.in-Decimal.part c.in-Decimal.exponent c.ten_to.result _ c.requires.bounded c.in-Decimal.is (rw (← c.places.ensures.value) c.ten_to.ensures.power) (λ i. value_in c.in-Decimal.part) in omega (arith, h)
 
 pub overflow_add-size : goal.overflow_add-size
-overflow_add-size c = let h = size_lt c.args.n c.in-Decimal.part c.in-Decimal.exponent c.ten_to.result c.part_value.result c.requires c.in-Decimal.is (rw (← c.places.ensures) c.ten_to.ensures) c.part_value.ensures in omega (arith, h)
+overflow_add-size c = let h = size_lt c.args.n c.in-Decimal.part c.in-Decimal.exponent c.ten_to.result c.part_value.result c.requires.bounded c.in-Decimal.is (rw (← c.places.ensures.value) c.ten_to.ensures.power) c.part_value.ensures.value in omega (arith, h)
 
 pub scaled-requires-clause-size : goal.scaled-requires-clause-size
-scaled-requires-clause-size c = let h = size_lt c.args.n c.in-Decimal.part c.in-Decimal.exponent c.ten_to.result c.part_value.result c.requires c.in-Decimal.is (rw (← c.places.ensures) c.ten_to.ensures) c.part_value.ensures in omega (arith, h)
+scaled-requires-clause-size c = let h = size_lt c.args.n c.in-Decimal.part c.in-Decimal.exponent c.ten_to.result c.part_value.result c.requires.bounded c.in-Decimal.is (rw (← c.places.ensures.value) c.ten_to.ensures.power) c.part_value.ensures.value in omega (arith, h)

@@ -1,32 +1,29 @@
-use Rattle.mob_scalar.proofs.NumberExact.{number_exact}
+use Rattle.std.proofs.Common.{refl}
+use Rattle.mob_scalar.proofs.WholeTexts.{number_whole, inner_of}
 use Rattle.mob_scalar.proofs.Bounded.{number_bounded}
 use Rattle.mob_language.proofs.Exact.{is_said, not_said}
 use Rattle.mob_scalar.proofs.number.read_number.Goals as goal
 
 pub evaluate-requires : goal.evaluate-requires
-evaluate-requires c = number_bounded _ c.in-Some.n (is_said number_exact c.args.text.now c.as_bytes.result.now c.in-Some.n c.as_bytes.ensures.value c.in-Some.ensures)
+evaluate-requires c = let i = inner_of c.args.text.now c.in-Some.n (is_said number_whole c.args.text.now c.as_bytes.result.now c.in-Some.n c.as_bytes.ensures.value c.in-Some.ensures.value) in record { bounded = number_bounded i.text c.in-Some.n i.said }
 
-pub returns-in-None : goal.returns-in-None
-returns-in-None c = record { reading = λ n said. not_said number_exact tt c.args.text.now c.as_bytes.result.now n c.as_bytes.ensures.value c.in-None.ensures said }
+pub returns-in-None-clause-reading : goal.returns-in-None-clause-reading
+returns-in-None-clause-reading c = λ n said. not_said number_whole refl c.args.text.now c.as_bytes.result.now n c.as_bytes.ensures.value c.in-None.ensures.value said
 
-pub returns-in-Ok : goal.returns-in-Ok
-returns-in-Ok c = record {
-  reading = (
-    c.in-Some.n,
-    is_said number_exact c.args.text.now c.as_bytes.result.now c.in-Some.n c.as_bytes.ensures.value c.in-Some.ensures,
-    (λ x. x),
-    (λ not_fit. not_fit c.in-Ok.ensures.1),
-    (λ x. x),
-    c.in-Ok.ensures.0,
-  );
-}
+pub returns-in-Ok-clause-reading : goal.returns-in-Ok-clause-reading
+returns-in-Ok-clause-reading c = (
+  c.in-Some.n,
+  is_said number_whole c.args.text.now c.as_bytes.result.now c.in-Some.n c.as_bytes.ensures.value c.in-Some.ensures.value,
+  (λ x. x),
+  (λ not_fit. not_fit c.in-Ok.ensures.exact.1),
+  (λ x. x),
+  c.in-Ok.ensures.exact.0,
+)
 
-pub returns-in-Err : goal.returns-in-Err
-returns-in-Err c = record {
-  reading = (
-    c.in-Some.n,
-    is_said number_exact c.args.text.now c.as_bytes.result.now c.in-Some.n c.as_bytes.ensures.value c.in-Some.ensures,
-    (λ x. x),
-    c.in-Err.ensures,
-  );
-}
+pub returns-in-Err-clause-reading : goal.returns-in-Err-clause-reading
+returns-in-Err-clause-reading c = (
+  c.in-Some.n,
+  is_said number_whole c.args.text.now c.as_bytes.result.now c.in-Some.n c.as_bytes.ensures.value c.in-Some.ensures.value,
+  (λ x. x),
+  c.in-Err.ensures.exact,
+)

@@ -6,4 +6,4 @@ use Rattle.mob_scalar.proofs.numeral.digits_at.Goals as goal
 
 pub value_of-requires-clause-all : goal.value_of-requires-clause-all
 value_of-requires-clause-all c =
-    subst AreFigures (sym (ap (λ (p : Text × Text). p.0) c.split_digits.ensures)) (run_parts is_digit c.args.bytes.now).1
+    subst AreFigures (sym (ap (λ (p : Text × Text). p.0) c.split_digits.ensures.value)) (run_parts is_digit c.args.bytes.now).1

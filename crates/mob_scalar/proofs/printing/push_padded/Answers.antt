@@ -13,7 +13,7 @@ pub zeros-requires : goal.zeros-requires
 zeros-requires c =
     let s = decimal_short c.args.width c.args.n c.requires.some c.requires.most c.requires.fits in
     let e = ap length c.format-digits.ensures.text in
-    omega (arith, s.some, e, c.requires.most)
+    record { count = omega (arith, s.some, e, c.requires.most) }
 
 pub returns-clause-len : goal.returns-clause-len
 returns-clause-len c =

@@ -1,0 +1,14 @@
+use Rattle.std.proofs.Common.{◌≡◌, length}
+use Rattle.std.specs.Vec.Iter.{into_iter_items, into_iter_len}
+use Rattle.mob_literal.specs.Sound.{traverse, fitting_sequence}
+use Rattle.mob_literal.proofs.Traversed.{with_list}
+use Rattle.mob_literal.proofs.temporal.fitting_all.Given as goal
+
+-- those that are made, and those that are still made
+abbrev pub invariant-loop-sequence : goal.invariant-loop-sequence
+invariant-loop-sequence g l = record {
+  goes : (goal.iterator-loop-sequence g).can_next l.sequence-iterator;
+  ends : (goal.iterator-loop-sequence g).is_finite l.sequence-iterator;
+  counted : into_iter_len l.sequence-iterator ≡ length (into_iter_items l.sequence-iterator);
+  together : with_list l.fitting.items (traverse fitting_sequence (into_iter_items l.sequence-iterator)) ≡ traverse fitting_sequence l.fn.sequences.items;
+}

@@ -1,0 +1,99 @@
+-- What is demanded of the sequences of a temporal literal under step interpolation.
+use Rattle.std.specs.Prelude.{◌≡◌, ◌↔◌, ℕ, ◌+◌, ◌-◌, List, [], ◌∷◌, length, Contains, slice_get, Bool, true, false, ◌&&◌, ◌||◌, not, nat_lt, Option, Some, None, MatchOption, ℤ}
+use Rattle.std.specs.List.{list_all}
+use Rattle.mob_ratio.specs.Ratio.{Ratio}
+use Rattle.mob_ratio.specs.Order.{before, upto}
+use Rattle.mob_language.specs.Language.{Text}
+use Rattle.mob_language.specs.Readers.{◌>>=◌}
+use Rattle.mob_slice.specs.declared.slice.Slice.{Slice}
+use Rattle.mob_slice.specs.declared.steady.Steady.{Steady}
+use Rattle.mob_slice.specs.Slices.{value_at, IsNormal}
+use Rattle.mob_scalar.specs.Verdict.{Form}
+use Rattle.mob_literal.specs.declared.written.Written.{Written}
+use Rattle.mob_literal.specs.declared.written.Noted.{Noted}
+use Rattle.mob_literal.specs.declared.written.Sequence.{Sequence}
+use Rattle.mob_literal.specs.Steps.{StepAt, rises}
+use Rattle.mob_literal.specs.Means.{step_value}
+use Rattle.mob_literal.specs.Literal.{noted, temporal}
+
+-- how many instants the sequences have
+abbrev pub count_of : {A : Type 0} → List (Sequence A) → ℕ
+count_of [] = 0
+count_of (q ∷ qs) = length q.instants + count_of qs
+
+-- more than 100,000 instants
+abbrev pub is_long : {A : Type 0} → List (Sequence A) → Bool
+is_long qs = nat_lt 100000 (count_of qs)
+
+-- the values of f on a list, where it has one on each entry
+abbrev pub traverse : {A C : Type 0} → (A → Option C) → List A → Option (List C)
+traverse f [] = Some []
+traverse f (x ∷ xs) = f x >>= λ y. traverse f xs >>= λ ys. Some (y ∷ ys)
+
+-- the value at the instant, where the numbers of both fit
+abbrev pub written_of : {B : Type 0} → Noted B → Option (Written B)
+written_of n = n.value >>= λ v. n.instant >>= λ t. Some (record { value = v; instant = t })
+
+abbrev pub fitting_sequence : {B : Type 0} → Sequence (Noted B) → Option (Sequence (Written B))
+fitting_sequence q = traverse written_of q.instants >>= λ is. Some (record { lower_inc = q.lower_inc; instants = is; upper_inc = q.upper_inc })
+
+-- the sequences, where each of their numbers fits
+abbrev pub fitting_all : {B : Type 0} → List (Sequence (Noted B)) → Option (List (Sequence (Written B)))
+fitting_all qs = traverse fitting_sequence qs
+
+-- where there are two instants or more, the last two have one value
+abbrev pub ends_level : {B : Type 0} → (B → B → Bool) → List (Written B) → Bool
+ends_level is_same [] = true
+ends_level is_same (i ∷ []) = true
+ends_level is_same (i ∷ j ∷ []) = is_same i.value j.value
+ends_level is_same (i ∷ j ∷ k ∷ is) = ends_level is_same (j ∷ k ∷ is)
+
+-- where there is one instant, both ends include it
+abbrev pub is_closed_alone : {A : Type 0} → Bool → Bool → List A → Bool
+is_closed_alone lower_inc upper_inc [] = true
+is_closed_alone lower_inc upper_inc (i ∷ []) = lower_inc && upper_inc
+is_closed_alone lower_inc upper_inc (i ∷ j ∷ is) = true
+
+-- A sequence is sound where the type has each of its values, its instants rise, a sequence of one instant includes both ends, and
+-- one that leaves its upper end out has one value at its last two instants.
+abbrev pub is_sound_sequence : {B : Type 0} → (B → Bool) → (B → B → Bool) → Sequence (Written B) → Bool
+is_sound_sequence has_value is_same q = list_all (λ i. has_value i.value) q.instants && (rises q.instants && (is_closed_alone q.lower_inc q.upper_inc q.instants && (q.upper_inc || ends_level is_same q.instants)))
+
+abbrev pub clear_ends : {B : Type 0} → Bool → Bool → Option (Written B) → Option (Written B) → Bool
+clear_ends upper_inc lower_inc (Some i) (Some j) = before i.instant j.instant || (upto i.instant j.instant && not (upper_inc && lower_inc))
+clear_ends upper_inc lower_inc (Some i) None = false
+clear_ends upper_inc lower_inc None j = false
+
+-- q ends before r begins, or where r begins if not both include that instant
+abbrev pub is_before : {B : Type 0} → Sequence (Written B) → Sequence (Written B) → Bool
+is_before q r = clear_ends q.upper_inc r.lower_inc (slice_get q.instants (length q.instants - 1)) (slice_get r.instants 0)
+
+-- each sequence ends before the next one begins
+abbrev pub are_in_order : {B : Type 0} → List (Sequence (Written B)) → Bool
+are_in_order [] = true
+are_in_order (q ∷ []) = true
+are_in_order (q ∷ r ∷ qs) = is_before q r && are_in_order (r ∷ qs)
+
+abbrev pub is_sound : {B : Type 0} → (B → Bool) → (B → B → Bool) → List (Sequence (Written B)) → Bool
+is_sound has_value is_same qs = are_in_order qs && list_all (is_sound_sequence has_value is_same) qs
+
+-- one of the sequences has the value v at t
+pub record LitAt {B : Type 0} (qs : List (Sequence (Written B))) (t : Ratio) (v : B) : Type 0 where
+  pub by : Sequence (Written B)
+  pub listed : Contains qs by
+  pub step : StepAt by.lower_inc by.instants by.upper_inc t v
+
+-- The slices are normal, and have at each instant the value that the sequences have there, and none where they have none.
+pub record Defines {B : Type 0} (is_same : B → B → Bool) (qs : List (Sequence (Written B))) (slices : List (Slice (Steady B))) : Type 0 where
+  pub normal : IsNormal {C = Steady B} {B = B} (λ c. c.value) (λ c. c.value) (λ c d lower middle upper. is_same c.value d.value) slices
+  pub same : (t : Ratio) (v : B) → (value_at step_value slices t ≡ Some v) ↔ LitAt qs t v
+
+-- The literals of a type of step values, with instants counted from a day.
+abbrev pub steps : {B : Type 0} → ℤ → (Text → Option B → Type 0) → (B → Bool) → (B → B → Bool) → Form (List (Sequence (Noted B))) (List (Slice (Steady B)))
+steps day value has_value is_same = record {
+  shape = temporal (noted day value);
+  long = λ s. is_long s ≡ true;
+  large = λ s. fitting_all s ≡ None;
+  unsound = λ s. MatchOption (fitting_all s) ⊥ (λ qs. is_sound has_value is_same qs ≡ false);
+  means = λ s v. MatchOption (fitting_all s) ⊥ (λ qs. Defines is_same qs v);
+}

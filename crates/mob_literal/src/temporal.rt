@@ -1,0 +1,219 @@
+//! Temporal literals of the step types, read.
+ghost use Rattle.std.specs.Prelude.{◌≡◌, ℕ, ◌+◌, List, option_map, Option, Some, None, IfOk, Bool, true};
+ghost use Rattle.std.specs.List.{list_all};
+ghost use Rattle.mob_scalar.specs.Verdict.{Lit};
+ghost use Rattle.mob_literal.specs.Sound.{count_of, is_long as long, traverse, written_of as written_in, fitting_sequence as fitting_in, fitting_all as all_fitting, clear_ends as ends_clear, is_before as precedes, are_in_order as in_order, steps};
+ghost use Rattle.mob_literal.specs.Flat.{made_sequence, made_all};
+
+use crate::literal::{WrittenValue, literal_of};
+use crate::steps::slices_of;
+use crate::written::{Noted, Sequence, Written};
+use mob_list::items::Items;
+use mob_normal::normal;
+use mob_scalar::{Epoch, ReadText};
+use mob_slice::{BaseValue, Moving, Slice, Steady};
+use std::alloc::{AllocError, Global};
+
+/// Whether there are more than 100,000 instants.
+fn is_long<A>(sequences: &[Sequence<A>]) -> bool
+    ensures value { result ≡ long sequences.now }
+{
+    let mut count = 0;
+    for sequence in sequences {
+        if sequence.instants.len() > 100_000 - count {
+            return true;
+        }
+        count += sequence.instants.len();
+    }
+    false
+}
+
+/// The value at the instant, where the numbers of both fit.
+fn written_of<B: Drop>(noted: Noted<B>) -> Option<Written<B>>
+    ensures value { result ≡ written_in noted }
+{
+    let Noted { value, instant } = noted;
+    let value = value?;
+    let instant = instant?;
+    Some(Written { value, instant })
+}
+
+fn fitting_instants<B: Drop>(
+    alloc: Global,
+    instants: Vec<Noted<B>>,
+) -> Result<Option<Vec<Written<B>>>, AllocError>
+    ensures fitting { IfOk result (λ o. option_map (λ v. v.items) o ≡ traverse written_in instants.items) }
+{
+    let mut fitting = Vec::new(alloc);
+    for noted in instants {
+        let Some(written) = written_of(noted) else {
+            return Ok(None);
+        };
+        fitting.push(written)?;
+    }
+    Ok(Some(fitting))
+}
+
+fn fitting_sequence<B: Drop>(
+    alloc: Global,
+    sequence: Sequence<Noted<B>>,
+) -> Result<Option<Sequence<Written<B>>>, AllocError>
+    ensures fitting { IfOk result (λ o. o ≡ fitting_in sequence) }
+{
+    let Sequence {
+        lower_inc,
+        instants,
+        upper_inc,
+    } = sequence;
+    let Some(fitting) = fitting_instants(alloc, instants.into_vec())? else {
+        return Ok(None);
+    };
+    Ok(Some(Sequence {
+        lower_inc,
+        instants: Items::from_vec(fitting),
+        upper_inc,
+    }))
+}
+
+/// The sequences, where each of their numbers fits.
+fn fitting_all<B: Drop>(
+    alloc: Global,
+    sequences: Vec<Sequence<Noted<B>>>,
+) -> Result<Option<Vec<Sequence<Written<B>>>>, AllocError>
+    ensures fitting { IfOk result (λ o. option_map (λ v. v.items) o ≡ all_fitting sequences.items) }
+{
+    let mut fitting = Vec::new(alloc);
+    for sequence in sequences {
+        let Some(written) = fitting_sequence(alloc, sequence)? else {
+            return Ok(None);
+        };
+        fitting.push(written)?;
+    }
+    Ok(Some(fitting))
+}
+
+fn clear_ends<B>(upper_inc: bool, lower_inc: bool, end: &Written<B>, start: &Written<B>) -> bool
+    ensures value { result ≡ ends_clear upper_inc lower_inc (Some end.now) (Some start.now) }
+{
+    end.instant.is_before(&start.instant)
+        || (!start.instant.is_before(&end.instant) && !(upper_inc && lower_inc))
+}
+
+/// Whether one sequence ends before another begins.
+fn is_before<B>(sequence: &Sequence<Written<B>>, next: &Sequence<Written<B>>) -> bool
+    ensures value { result ≡ precedes sequence.now next.now }
+{
+    let Some(end) = sequence.instants.as_slice().last() else {
+        return false;
+    };
+    let Some(start) = next.instants.as_slice().first() else {
+        return false;
+    };
+    clear_ends(sequence.upper_inc, next.lower_inc, end, start)
+}
+
+/// Whether each sequence ends before the next one begins.
+fn are_in_order<B>(sequences: &[Sequence<Written<B>>]) -> bool
+    ensures value { result ≡ in_order sequences.now }
+{
+    let [first, rest @ ..] = sequences else {
+        return true;
+    };
+    let mut last = first;
+    for next in rest {
+        if !is_before(last, next) {
+            return false;
+        }
+        last = next;
+    }
+    true
+}
+
+fn has_values<T: WrittenValue>(instants: &[Written<T::Base>]) -> bool
+    ensures value { result ≡ list_all (λ i. T.has_value i.value) instants.now }
+{
+    for instant in instants {
+        if !T::has_value(&instant.value) {
+            return false;
+        }
+    }
+    true
+}
+
+type Slices<B> = Vec<Slice<Steady<B>>>;
+
+/// The slices of a sequence, where it is sound.
+fn sequence_slices<T: WrittenValue>(
+    alloc: Global,
+    sequence: Sequence<Written<T::Base>>,
+) -> Result<Option<Slices<T::Base>>, AllocError>
+    ensures made { IfOk result (λ o. option_map (λ v. v.items) o ≡ made_sequence T.has_value T.Base.is_same sequence) }
+{
+    let Sequence {
+        lower_inc,
+        instants,
+        upper_inc,
+    } = sequence;
+    if !has_values::<T>(instants.as_slice()) {
+        return Ok(None);
+    }
+    slices_of(alloc, lower_inc, instants.into_vec(), upper_inc)
+}
+
+/// The slices of all sequences, where each of them is sound.
+fn all_slices<T: WrittenValue>(
+    alloc: Global,
+    sequences: Vec<Sequence<Written<T::Base>>>,
+) -> Result<Option<Slices<T::Base>>, AllocError>
+    ensures made { IfOk result (λ o. option_map (λ v. v.items) o ≡ made_all T.has_value T.Base.is_same sequences.items) }
+{
+    let mut all = Vec::new(alloc);
+    for sequence in sequences {
+        let Some(mut slices) = sequence_slices::<T>(alloc, sequence)? else {
+            return Ok(None);
+        };
+        all.append(&mut slices)?;
+    }
+    Ok(Some(all))
+}
+
+/// The step value that a literal stands for. Instants count from midnight UTC of the epoch's day.
+///
+/// The faults in order: `NotText` where the text is no literal, `Limit` where it has more than 100,000 instants,
+/// `TooLarge` where a value or an instant does not fit, and `Unsound` where the type does not have a value, the instants
+/// of a sequence do not rise, a sequence of one instant leaves an end out, one that leaves its upper end out does not
+/// keep its value until there, or two sequences are out of order or share an instant.
+pub fn read_steps<T: WrittenValue>(
+    alloc: Global,
+    text: &str,
+    epoch: &Epoch,
+) -> Result<Moving<Steady<T::Base>>, ReadText>
+    ensures reading { Lit (steps epoch.now T.shape T.has_value T.Base.is_same) text.now result }
+{
+    let noted = match literal_of::<T>(alloc, epoch, text.as_bytes()) {
+        Ok(Some(noted)) => noted,
+        Ok(None) => return Err(ReadText::NotText),
+        Err(_) => return Err(ReadText::NoMemory),
+    };
+    if is_long(noted.as_slice()) {
+        return Err(ReadText::Limit);
+    }
+    let written = match fitting_all(alloc, noted) {
+        Ok(Some(written)) => written,
+        Ok(None) => return Err(ReadText::TooLarge),
+        Err(_) => return Err(ReadText::NoMemory),
+    };
+    if !are_in_order(written.as_slice()) {
+        return Err(ReadText::Unsound);
+    }
+    let slices = match all_slices::<T>(alloc, written) {
+        Ok(Some(slices)) => slices,
+        Ok(None) => return Err(ReadText::Unsound),
+        Err(_) => return Err(ReadText::NoMemory),
+    };
+    match normal(alloc, slices) {
+        Ok(Some(value)) => Ok(value),
+        Ok(None) => Err(ReadText::Unsound),
+        Err(_) => Err(ReadText::NoMemory),
+    }
+}

@@ -1,0 +1,80 @@
+-- The texts of the values of a ttext.
+--
+-- A value is written in double quotes, where each double quote and each backslash of it has a backslash before it; or bare, as one
+-- character or more without blanks at its ends and without @ , { } [ ] ( ) and double quotes.
+use Rattle.std.specs.Prelude.{◌≡◌, ℕ, List, [], ◌∷◌, ◌++◌, codes, Bool, true, false, ◌||◌, ◌&&◌, not, cond, nat_eq, Option, Some, None}
+use Rattle.std.specs.Str.{is_utf8}
+use Rattle.mob_language.specs.Language.{Text, Language, ◌∣◌, Where, Run, is_blank}
+use Rattle.mob_language.specs.Readers.{Reader, ◌>>=◌, or_at, where_at, behind_at, run_of}
+
+-- a double quote or a backslash
+abbrev pub is_escaped : ℕ → Bool
+is_escaped c = nat_eq c 34 || nat_eq c 92
+
+-- the value with a backslash before each of these
+abbrev pub escaped : Text → Text
+escaped [] = []
+escaped (c ∷ cs) = cond (is_escaped c) (92 ∷ c ∷ escaped cs) (c ∷ escaped cs)
+
+-- the value in double quotes, as it is printed
+unfoldable pub quoted_text : Text → Text
+quoted_text v = codes "\"" ++ (escaped v ++ codes "\"")
+
+abbrev pub quoted : Language Text
+quoted text v = text ≡ quoted_text v
+
+-- none of @ , { } [ ] ( ) "
+abbrev pub is_plain : ℕ → Bool
+is_plain c = not (nat_eq c 64 || (nat_eq c 44 || (nat_eq c 123 || (nat_eq c 125 || (nat_eq c 91 || (nat_eq c 93 || (nat_eq c 40 || (nat_eq c 41 || nat_eq c 34))))))))
+
+abbrev pub begins_well : Text → Bool
+begins_well [] = false
+begins_well (c ∷ cs) = not (is_blank c)
+
+abbrev pub ends_well : Text → Bool
+ends_well [] = false
+ends_well (c ∷ []) = not (is_blank c)
+ends_well (c ∷ d ∷ cs) = ends_well (d ∷ cs)
+
+-- one byte or more, and no blank at the ends
+abbrev pub is_bare : Text → Bool
+is_bare v = begins_well v && ends_well v
+
+abbrev pub bare : Language Text
+bare = Where is_bare (Run is_plain)
+
+-- a value of a ttext; like all text it is UTF-8
+abbrev pub text_value : Language Text
+text_value = Where is_utf8 (quoted ∣ bare)
+
+-- ---- the readers of these languages
+
+abbrev pub put_first : ℕ → Option (Text × Text) → Option (Text × Text)
+put_first c read = read >>= λ x. Some (c ∷ x.0, x.1)
+
+-- the value up to its closing quote, and what stands behind that; a backslash may stand before the first byte
+unfoldable pub unescaped_at : Bool → Reader Text
+unescaped_at pending [] = None
+unescaped_at true (c ∷ cs) = cond (is_escaped c) (put_first c (unescaped_at false cs)) None
+unescaped_at false (c ∷ cs) = cond (nat_eq c 34) (Some ([], cs)) (cond (nat_eq c 92) (unescaped_at true cs) (put_first c (unescaped_at false cs)))
+
+unfoldable pub quoted_at : Reader Text
+quoted_at = behind_at (codes "\"") (unescaped_at false)
+
+abbrev pub put_before : ℕ → Text × Text → Text × Text
+put_before c ([], blanks) = cond (is_blank c) ([], c ∷ blanks) (c ∷ [], blanks)
+put_before c (d ∷ ds, blanks) = (c ∷ d ∷ ds, blanks)
+
+-- a text without the blanks at its end, and these blanks
+unfoldable pub trimmed : Text → Text × Text
+trimmed [] = ([], [])
+trimmed (c ∷ cs) = put_before c (trimmed cs)
+
+abbrev pub bare_of : Text × Text → Text → Option (Text × Text)
+bare_of parts rest = cond (is_bare parts.0) (Some (parts.0, parts.1 ++ rest)) None
+
+unfoldable pub bare_at : Reader Text
+bare_at text = bare_of (trimmed (run_of is_plain text).0) (run_of is_plain text).1
+
+unfoldable pub text_value_at : Reader Text
+text_value_at = where_at is_utf8 (or_at quoted_at bare_at)
