@@ -1,0 +1,3 @@
+mod FirstFaults
+mod RecordCounts
+mod Texts

@@ -1,0 +1,14 @@
+//! Constants of the script and rows of table files, read as values.
+#![tactic(auto)]
+
+mod constants;
+mod fault;
+mod field;
+mod header;
+mod records;
+mod row;
+mod table_file;
+
+pub use constants::constants;
+pub use fault::LoadFault;
+pub use table_file::read_table;
