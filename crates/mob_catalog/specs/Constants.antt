@@ -5,7 +5,7 @@ use Rattle.mob_scalar.specs.declared.fault.ReadText.{ReadText}
 use Rattle.mob_typing.specs.declared.typed.ConstText.{ConstText}
 use Rattle.mob_value.specs.declared.value.Value.{Value}
 use Rattle.mob_catalog.specs.Faults.{Refuses}
-use Rattle.mob_catalog.specs.Fields.{SaysAs}
+use Rattle.mob_literal.specs.SqlText.{SaysAs}
 
 -- the value that the constant's text says as one of its type
 abbrev pub IsConstant : ℤ → ConstText → Value → Type 0

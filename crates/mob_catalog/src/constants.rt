@@ -7,7 +7,7 @@ ghost use Rattle.mob_catalog.specs.Faults.{Refuses};
 ghost use Rattle.mob_catalog.specs.FirstFault.{IsFirstFault};
 
 use crate::fault::refusal_kind;
-use crate::field::read_value;
+use mob_literal::read_value;
 use mob_ast::{Kind, Refusal};
 use mob_list::items::Items;
 use mob_scalar::{Epoch, ReadText};

@@ -3,7 +3,6 @@
 
 mod constants;
 mod fault;
-mod field;
 mod header;
 mod records;
 mod row;

@@ -7,7 +7,7 @@ ghost use Rattle.mob_catalog.specs.FirstFault.{IsFirstFault};
 ghost use Rattle.mob_catalog.specs.TableFile.{FieldFails, IsRow, IsValue, RowFails};
 
 use crate::fault::{LoadFault, field_fault, record_fault};
-use crate::field::read_field;
+use mob_literal::read_field;
 use csv::ByteRecord;
 use mob_ast::{Kind, SqlType};
 use mob_list::items::Items;
