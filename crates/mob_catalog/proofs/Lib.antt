@@ -1,3 +1,3 @@
 mod FirstFaults
 mod RecordCounts
-mod Texts
+mod Places

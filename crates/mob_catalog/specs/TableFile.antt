@@ -35,7 +35,7 @@ in_lower_case name = map to_ascii_lowercase name
 
 -- the record is the names of the columns in order, letters of either case
 abbrev pub IsHeader : List Column → List Field → Type 0
-IsHeader columns fields = AllZip (λ c field. in_lower_case field ≡ in_lower_case c.0) columns fields
+IsHeader columns fields = map in_lower_case fields ≡ map (λ c. in_lower_case c.0) columns
 
 -- there is a first record, and it is the header
 abbrev pub HasHeader : List Column → List (List Field) → Type 0

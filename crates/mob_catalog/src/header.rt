@@ -8,14 +8,14 @@ use mob_ast::SqlType;
 use mob_list::text::Text;
 
 // Whether a record is the names of the columns in order, letters of either case.
-fn is_header(columns: &[(Text, SqlType)], record: &ByteRecord) -> bool
-    ensures test { IsTrue result ↔ IsHeader columns.now (fields_of record.now) }
+fn is_header(columns: &[(Text, SqlType)], csv_record: &ByteRecord) -> bool
+    ensures test { IsTrue result ↔ IsHeader columns.now (fields_of csv_record.now) }
 {
-    if record.len() != columns.len() {
+    if csv_record.len() != columns.len() {
         return false;
     }
     for (i, column) in columns.iter().enumerate() {
-        match record.get(i) {
+        match csv_record.get(i) {
             Some(field) => {
                 if !field.eq_ignore_ascii_case(column.0.as_str().as_bytes()) {
                     return false;

@@ -18,13 +18,13 @@ use std::alloc::{AllocError, Global};
 use std::str;
 
 // The fields of a record as texts, or None where one of them is not UTF-8.
-fn texts_of<'a>(alloc: Global, record: &'a ByteRecord) -> Result<Option<Vec<&'a str>>, AllocError>
-    ensures some { IfOk result (λ o. IfSome o (λ texts. map (λ text. text.now) texts.items ≡ fields_of record.now)) }
-    ensures utf8 { IfOk result (λ o. IfSome o (λ texts. AllText (fields_of record.now))) }
-    ensures none { IfOk result (λ o. IsNone o → AllText (fields_of record.now) → ⊥) }
+fn texts_of<'a>(alloc: Global, csv_record: &'a ByteRecord) -> Result<Option<Vec<&'a str>>, AllocError>
+    ensures some { IfOk result (λ o. IfSome o (λ texts. map (λ text. text.now) texts.items ≡ fields_of csv_record.now)) }
+    ensures utf8 { IfOk result (λ o. IfSome o (λ texts. AllText (fields_of csv_record.now))) }
+    ensures none { IfOk result (λ o. IsNone o → AllText (fields_of csv_record.now) → ⊥) }
 {
     let mut texts = Vec::new(alloc);
-    for field in record {
+    for field in csv_record {
         match str::from_utf8(field) {
             Ok(text) => texts.push(text)?,
             Err(_) => return Ok(None),
@@ -61,15 +61,15 @@ fn values_of(
 pub fn row_of(
     alloc: Global,
     columns: &[(Text, SqlType)],
-    record: &ByteRecord,
+    csv_record: &ByteRecord,
     epoch: &Epoch,
     rec: u32,
 ) -> Result<Items<Value>, LoadFault>
     requires most { length columns.now ≤ 64 }
-    ensures row { IfOk result (IsRow columns.now epoch.now (fields_of record.now)) }
-    ensures first_fault { IfErr result (OnRefused (RowFails columns.now epoch.now rec (fields_of record.now))) }
+    ensures row { IfOk result (IsRow columns.now epoch.now (fields_of csv_record.now)) }
+    ensures first_fault { IfErr result (OnRefused (RowFails columns.now epoch.now rec (fields_of csv_record.now))) }
 {
-    let Some(fields) = texts_of(alloc, record)? else {
+    let Some(fields) = texts_of(alloc, csv_record)? else {
         return Err(record_fault(Kind::BadRecord, rec));
     };
     if fields.len() != columns.len() {
