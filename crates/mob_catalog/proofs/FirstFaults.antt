@@ -1,8 +1,9 @@
 -- A loop over a list that reads a value of each item: what it has read so far, and the first item that fails.
-use Rattle.std.proofs.Common.{◌≡◌, ◌∙◌, ◌++◌, ◌∷◌, ◌+◌, ◌<◌, ◌≤◌, ℕ, List, [], take, drop, length, get_or, ap, sym, subst, arith, suc, add-one}
+use Rattle.std.proofs.Common.{◌≡◌, ◌∙◌, ◌++◌, ◌∷◌, ◌+◌, ◌<◌, ◌≤◌, ℕ, List, [], take, drop, length, get_or, map, ap, sym, subst, arith, suc, add-one}
 use Rattle.std.specs.List.{AllZip, zip}
 use Rattle.std.proofs.lemmas.List.{take_more, take_all, take-append-drop, length-take-le, append_assoc}
 use Rattle.std.proofs.lemmas.Slice.Zip.{get_or-zip}
+use Rattle.std.proofs.Math.ListN.{get_or-map}
 use Rattle.std.proofs.Math.Seq.{drop-cons}
 use Rattle.mob_catalog.specs.FirstFault.{IsFirstFault}
 
@@ -41,3 +42,7 @@ fails_here R Fails xs ys i x e lt is h f = record {
 -- the pair at a place of two lists
 pub pair_at : {A B : Type 0} (xs : List A) (ys : List B) (i : ℕ) (x : A) (y : B) → i < length xs → i < length ys → x ≡ get_or xs i x → y ≡ get_or ys i y → (x, y) ≡ get_or (zip xs ys) i (x, y)
 pair_at xs ys i x y lt le is is' = sym (get_or-zip xs ys i (x, y) lt le ∙ ap (λ a. (a, get_or ys i y)) (sym is) ∙ ap (λ b. (x, b)) (sym is'))
+
+-- the image of the item at a place
+pub mapped_at : {A B : Type 0} (f : A → B) (xs : List A) (i : ℕ) (x : A) → x ≡ get_or xs i x → f x ≡ get_or (map f xs) i (f x)
+mapped_at f xs i x is = ap f is ∙ sym (get_or-map f xs i x)

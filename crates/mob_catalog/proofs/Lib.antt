@@ -1,3 +1,4 @@
 mod FirstFaults
 mod RecordCounts
+mod Refusals
 mod Places

@@ -3,6 +3,7 @@ ghost use Rattle.std.specs.Prelude.{◌≡◌, ◌≤◌, IfErr, IfOk, IfSome, I
 ghost use Rattle.std.specs.List.{AllZip, zip};
 ghost use Rattle.csv.specs.Records.{AllText, fields_of};
 ghost use Rattle.mob_catalog.specs.Faults.{OnRefused};
+ghost use Rattle.mob_catalog.specs.Fields.{FieldSays};
 ghost use Rattle.mob_catalog.specs.FirstFault.{IsFirstFault};
 ghost use Rattle.mob_catalog.specs.TableFile.{FieldFails, IsRow, IsValue, RowFails};
 
@@ -12,7 +13,7 @@ use csv::ByteRecord;
 use mob_ast::{Kind, SqlType};
 use mob_list::items::Items;
 use mob_list::text::Text;
-use mob_scalar::Epoch;
+use mob_scalar::{Epoch, ReadText};
 use mob_value::Value;
 use std::alloc::{AllocError, Global};
 use std::str;
@@ -33,6 +34,18 @@ fn texts_of<'a>(alloc: Global, csv_record: &'a ByteRecord) -> Result<Option<Vec<
     Ok(Some(texts))
 }
 
+// The value of a field in its column.
+fn value_of(
+    alloc: Global,
+    column: &(Text, SqlType),
+    field: &str,
+    epoch: &Epoch,
+) -> Result<Value, ReadText>
+    ensures says { FieldSays column.now.1 epoch.now field.now result }
+{
+    read_field(alloc, column.1, field, epoch)
+}
+
 // The values of fields, one for each column, or the first fault from the left.
 fn values_of(
     alloc: Global,
@@ -48,7 +61,7 @@ fn values_of(
 {
     let mut values = Items::new(alloc);
     for (i, column) in columns.iter().enumerate() {
-        match read_field(alloc, column.1, fields[i], epoch) {
+        match value_of(alloc, column, fields[i], epoch) {
             Ok(value) => values.push(value)?,
             Err(fault) => return Err(field_fault(fault, rec, i as u32 + 1)),
         }
