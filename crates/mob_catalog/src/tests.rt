@@ -149,7 +149,8 @@ fn constants_in_order(rt: HostRuntime) -> Result<(), Fail> {
         constant(alloc, SqlType::TInt, literal.as_str(), 11)?,
         constant(alloc, SqlType::Bool, "maybe", 15)?,
     ];
-    let values = constants(alloc, &texts[..1], &epoch).ok().ok_or("a value")?;
+    let all = &texts[..];
+    let values = constants(alloc, &all[..1], &epoch).ok().ok_or("a value")?;
     assert_eq!(rt; values.len(), 1);
     let refusal = |kind, place| Refusal {
         kind,
@@ -157,11 +158,11 @@ fn constants_in_order(rt: HostRuntime) -> Result<(), Fail> {
         place,
     };
     assert_eq!(rt;
-        constants(alloc, &texts, &epoch).err(),
+        constants(alloc, all, &epoch).err(),
         Some(refusal(Kind::Limit, 11))
     );
     assert_eq!(rt;
-        constants(alloc, &texts[2..], &epoch).err(),
+        constants(alloc, &all[2..], &epoch).err(),
         Some(refusal(Kind::BadLiteral, 15))
     );
     Ok(())
@@ -177,10 +178,10 @@ fn tables_grow(rt: HostRuntime) -> Result<(), Fail> {
         catalog.create_table(one)?;
     }
     assert_eq!(rt; catalog.store().tables.len(), 2);
+    assert_eq!(rt; catalog.columns(1).len(), 1);
     let mut row = Items::new(alloc);
     row.push(Value::Null)?;
     catalog.add_row(1, row)?;
-    assert_eq!(rt; catalog.columns(1).len(), 1);
     let tables = catalog.store().tables.as_slice();
     assert_eq!(rt; tables.len(), 2);
     assert_eq!(rt; tables[0].rows.len(), 0);
