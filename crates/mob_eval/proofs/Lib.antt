@@ -1,2 +1,6 @@
 pub mod Numbers
 pub mod Functions
+pub mod Loops
+pub mod Nodes
+pub mod Once
+pub mod Single

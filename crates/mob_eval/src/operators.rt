@@ -1,6 +1,6 @@
 //! Each operator, on the values of its operands.
 ghost use Rattle.std.specs.Prelude.{◌≡◌, IfOk, IfErr, MatchResult, None, Some, Ok, Err};
-ghost use Rattle.mob_eval.specs.Scene.{Scene};
+ghost use Rattle.mob_eval.specs.Views.{scene_of};
 ghost use Rattle.mob_eval.specs.Operators.{OfOne, OfTwo, FirstOfTwo};
 ghost use Rattle.mob_eval.specs.Faults.{OnFormula};
 
@@ -8,14 +8,20 @@ use crate::arithmetic::{Calculation, calculate, division, negation, unchanged};
 use crate::comparison::test;
 use crate::lifting::{join, lifted_and, lifted_not, lifted_or, lifted_test};
 use crate::logic::{conjunction, disjunction, is_null, known, negation as contrary, truth_of};
+use crate::scene::View;
 use mob_operators::Op;
 use mob_slice::OpFault;
 use mob_value::Value;
 use std::alloc::{AllocError, Global};
 
 /// An operator on one operand.
-pub fn of_one(alloc: Global, op: Op, value: &Value) -> Result<Value, AllocError>
-    ensures value { (s : Scene) → IfOk result (λ v. OfOne s op value.now v) }
+pub fn of_one(
+    alloc: Global,
+    view: &View<'_>,
+    op: Op,
+    value: &Value,
+) -> Result<Value, AllocError>
+    ensures value { IfOk result (λ v. OfOne (scene_of view.now) op value.now v) }
 {
     match op {
         Op::And => Ok(known(conjunction(truth_of(value), None))),
