@@ -46,7 +46,7 @@ fn cell<'a>(view: &View<'a>, place: u32, column: u32) -> Option<&'a Value>
 }
 
 fn stored<'a>(value: Option<&'a Value>) -> Held<'a>
-    ensures value { MatchOption value (held result ≡ Null) (λ v. held result ≡ v.now) }
+    ensures value { MatchOption value.entry (held result ≡ Null) (λ v. held result ≡ v.now) }
 {
     match value {
         Some(value) => Held::Stored(value),
