@@ -4,3 +4,4 @@ pub mod Loops
 pub mod Nodes
 pub mod Once
 pub mod Single
+mod Examples

@@ -21,7 +21,7 @@ use Rattle.mob_value.specs.declared.value.Value.{Value}
 use Rattle.mob_value.specs.declared.value.Value.TheVariants.{Null, Bool as Truth, Number, Text, Moment, MovingBool, MovingInt, MovingText}
 use Rattle.mob_eval.specs.Scene.{Scene}
 use Rattle.mob_eval.specs.Ordinary.{Says, Equality, IsTest, rel_of}
-use Rattle.mob_eval.specs.Lifted.{Steps, Course, AreNormal, or_nothing, IsLifted, IsMovingBool, IsMovingInt, IsMovingText, Pair, OnPair, truths, numbers, texts, number_test, text_test, truth_test, IsOrdered, IsCompared, IsLiftedTest, IsLiftedNot}
+use Rattle.mob_eval.specs.Lifted.{Steps, OverTime, AreNormal, or_nothing, IsLifted, IsMovingBool, IsMovingInt, IsMovingText, Pair, OnPair, truths, numbers, texts, number_test, text_test, truth_test, IsOrderTest, IsAnyTest, IsLiftedTest, IsLiftedNot}
 use Rattle.mob_eval.specs.Operators.{Gives, First, OfOne, OfTwo, FirstOfTwo, IsFitting, IsFittingAt, Fitting, parts_on}
 use Rattle.mob_eval.specs.Outcomes.{IsSingle}
 use Rattle.mob_eval.proofs.Functions.{one_list}
@@ -61,7 +61,7 @@ is_once : (x : Value) → Once (λ v. v ≡ x)
 is_once x v w h k = h ∙ sym k
 
 -- the temporal values of one function of time are one
-module _ {X Y Z : Type 0} (make : Steps Z → Value) (is_same : Z → Z → Bool) (exact : (a b : Z) → IsTrue (is_same a b) ↔ (a ≡ b)) (f : X → Y → Z) (left : Course X) (right : Course Y) where
+module _ {X Y Z : Type 0} (make : Steps Z → Value) (is_same : Z → Z → Bool) (exact : (a b : Z) → IsTrue (is_same a b) ↔ (a ≡ b)) (f : X → Y → Z) (left : OverTime X) (right : OverTime Y) where
   made_once : (r q : Option (Steps Z)) → IsPointwise f left right r → IsPointwise f left right q → MatchOption r (Unit {0}) (AreNormal is_same) → MatchOption q (Unit {0}) (AreNormal is_same) → or_nothing make r ≡ or_nothing make q
   made_once None None h k n m = refl
   made_once None (Some b) h k n m = absurd (m.some (sym (unique (steady_laws is_same exact) [] b tt m.chained (λ t. sym (h t) ∙ sym (k t)))))
@@ -71,23 +71,23 @@ module _ {X Y Z : Type 0} (make : Steps Z → Value) (is_same : Z → Z → Bool
   lifted_once : Once (IsLifted make is_same f left right)
   lifted_once v w h k = h.3 ∙ made_once h.0 k.0 h.1 k.1 h.2 k.2 ∙ sym k.3
 
-bool_once : {X Y : Type 0} (f : X → Y → Bool) (left : Course X) (right : Course Y) → Once (IsMovingBool f left right)
+bool_once : {X Y : Type 0} (f : X → Y → Bool) (left : OverTime X) (right : OverTime Y) → Once (IsMovingBool f left right)
 bool_once f left right = lifted_once MovingBool same_bool same_bool_exact f left right
 
-int_once : {X Y : Type 0} (f : X → Y → Ratio) (left : Course X) (right : Course Y) → Once (IsMovingInt f left right)
+int_once : {X Y : Type 0} (f : X → Y → Ratio) (left : OverTime X) (right : OverTime Y) → Once (IsMovingInt f left right)
 int_once f left right = lifted_once MovingInt same same_exact f left right
 
-text_once : {X Y : Type 0} (f : X → Y → List ℕ) (left : Course X) (right : Course Y) → Once (IsMovingText f left right)
+text_once : {X Y : Type 0} (f : X → Y → List ℕ) (left : OverTime X) (right : OverTime Y) → Once (IsMovingText f left right)
 text_once f left right = lifted_once MovingText same_bytes same_bytes_exact f left right
 
-order_once : (r : Rel) (a b : Value) → Once (IsOrdered r a b)
+order_once : (r : Rel) (a b : Value) → Once (IsOrderTest r a b)
 order_once r a b =
     match_once (numbers a b) (OnPair (texts a b) (IsMovingBool (text_test r))) (λ p. IsMovingBool (number_test r) p.0 p.1)
     (match_once (texts a b) (λ v. v ≡ Null) (λ p. IsMovingBool (text_test r) p.0 p.1) (is_once Null) (λ p. bool_once (text_test r) p.0 p.1))
     (λ p. bool_once (number_test r) p.0 p.1)
 
-compared_once : (r : Rel) (a b : Value) → Once (IsCompared r a b)
-compared_once r a b = match_once (truths a b) (IsOrdered r a b) (λ p. IsMovingBool (truth_test r) p.0 p.1) (order_once r a b) (λ p. bool_once (truth_test r) p.0 p.1)
+compared_once : (r : Rel) (a b : Value) → Once (IsAnyTest r a b)
+compared_once r a b = match_once (truths a b) (IsOrderTest r a b) (λ p. IsMovingBool (truth_test r) p.0 p.1) (order_once r a b) (λ p. bool_once (truth_test r) p.0 p.1)
 
 lifted_test_once : (c : Cmp) (a b : Value) → Once (IsLiftedTest c a b)
 lifted_test_once cmp.Eq a b v w h k = compared_once (rel_of cmp.Eq) a b v w h k

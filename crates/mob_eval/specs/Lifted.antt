@@ -22,8 +22,8 @@ abbrev pub Steps : Type 0 → Type 0
 Steps B = List (Slice (Steady B))
 
 -- what an operand is at each instant
-abbrev pub Course : Type 0 → Type 0
-Course B = Ratio → Option B
+abbrev pub OverTime : Type 0 → Type 0
+OverTime B = Ratio → Option B
 
 -- the slices are normal, where `is_same` tells whether two values are one
 abbrev pub AreNormal : {B : Type 0} → (B → B → Bool) → Steps B → Type 0
@@ -35,26 +35,26 @@ or_nothing make None = Null
 or_nothing make (Some r) = make r
 
 -- v is the one normal value that is at each instant the operation on the two operands
-abbrev pub IsLifted : {X Y Z : Type 0} → (Steps Z → Value) → (Z → Z → Bool) → (X → Y → Z) → Course X → Course Y → Value → Type 0
+abbrev pub IsLifted : {X Y Z : Type 0} → (Steps Z → Value) → (Z → Z → Bool) → (X → Y → Z) → OverTime X → OverTime Y → Value → Type 0
 IsLifted {X} {Y} {Z} make is_same op left right v = (r : Option (Steps Z)) × IsPointwise op left right r × MatchOption r (Unit {0}) (AreNormal is_same) × (v ≡ or_nothing make r)
 
-abbrev pub IsMovingBool : {X Y : Type 0} → (X → Y → Bool) → Course X → Course Y → Value → Type 0
+abbrev pub IsMovingBool : {X Y : Type 0} → (X → Y → Bool) → OverTime X → OverTime Y → Value → Type 0
 IsMovingBool op left right v = IsLifted MovingBool same_bool op left right v
 
-abbrev pub IsMovingInt : {X Y : Type 0} → (X → Y → Ratio) → Course X → Course Y → Value → Type 0
+abbrev pub IsMovingInt : {X Y : Type 0} → (X → Y → Ratio) → OverTime X → OverTime Y → Value → Type 0
 IsMovingInt op left right v = IsLifted MovingInt same op left right v
 
-abbrev pub IsMovingText : {X Y : Type 0} → (X → Y → List ℕ) → Course X → Course Y → Value → Type 0
+abbrev pub IsMovingText : {X Y : Type 0} → (X → Y → List ℕ) → OverTime X → OverTime Y → Value → Type 0
 IsMovingText op left right v = IsLifted MovingText same_bytes op left right v
 
 -- two operands of which one at least is temporal
 abbrev pub Pair : Type 0 → Type 0
-Pair B = Option (Course B × Course B)
+Pair B = Option (OverTime B × OverTime B)
 
-abbrev at : {B : Type 0} → Steps B → Course B
+abbrev at : {B : Type 0} → Steps B → OverTime B
 at m = value_at steady_value m
 
-abbrev always : {B : Type 0} → B → Course B
+abbrev always : {B : Type 0} → B → OverTime B
 always b = λ t. Some b
 
 -- two truth values
@@ -79,11 +79,11 @@ texts (Text a) (MovingText b) = Some (always a, at b)
 texts _ _ = None
 
 -- what two operands are at each instant
-abbrev pub courses : {B : Type 0} → Operand (Steady B) B × Operand (Steady B) B → Course B × Course B
+abbrev pub courses : {B : Type 0} → Operand (Steady B) B × Operand (Steady B) B → OverTime B × OverTime B
 courses p = (operand_at steady_value p.0, operand_at steady_value p.1)
 
 -- what holds of v where the operands are such a pair; and NULL where they are none
-abbrev pub OnPair : {B : Type 0} → Pair B → (Course B → Course B → Value → Type 0) → Value → Type 0
+abbrev pub OnPair : {B : Type 0} → Pair B → (OverTime B → OverTime B → Value → Type 0) → Value → Type 0
 OnPair pair row v = MatchOption pair (v ≡ Null) (λ p. row p.0 p.1 v)
 
 abbrev pub number_test : Rel → Ratio → Ratio → Bool
@@ -96,18 +96,18 @@ abbrev pub truth_test : Rel → Bool → Bool → Bool
 truth_test r x y = holds r (compare_bool x y)
 
 -- a comparison of two numbers or two texts at each instant
-abbrev pub IsOrdered : Rel → Value → Value → Value → Type 0
-IsOrdered r a b v = MatchOption (numbers a b) (OnPair (texts a b) (IsMovingBool (text_test r)) v) (λ p. IsMovingBool (number_test r) p.0 p.1 v)
+abbrev pub IsOrderTest : Rel → Value → Value → Value → Type 0
+IsOrderTest r a b v = MatchOption (numbers a b) (OnPair (texts a b) (IsMovingBool (text_test r)) v) (λ p. IsMovingBool (number_test r) p.0 p.1 v)
 
 -- a comparison of two numbers, two texts or two truth values at each instant
-abbrev pub IsCompared : Rel → Value → Value → Value → Type 0
-IsCompared r a b v = MatchOption (truths a b) (IsOrdered r a b v) (λ p. IsMovingBool (truth_test r) p.0 p.1 v)
+abbrev pub IsAnyTest : Rel → Value → Value → Value → Type 0
+IsAnyTest r a b v = MatchOption (truths a b) (IsOrderTest r a b v) (λ p. IsMovingBool (truth_test r) p.0 p.1 v)
 
 -- The six comparisons at each instant. Truth values are equal or not, and have no order here.
 abbrev pub IsLiftedTest : Cmp → Value → Value → Value → Type 0
-IsLiftedTest cmp.Eq a b v = IsCompared (rel_of cmp.Eq) a b v
-IsLiftedTest cmp.Ne a b v = IsCompared (rel_of cmp.Ne) a b v
-IsLiftedTest c a b v = IsOrdered (rel_of c) a b v
+IsLiftedTest cmp.Eq a b v = IsAnyTest (rel_of cmp.Eq) a b v
+IsLiftedTest cmp.Ne a b v = IsAnyTest (rel_of cmp.Ne) a b v
+IsLiftedTest c a b v = IsOrderTest (rel_of c) a b v
 
 -- the other truth value at each instant
 abbrev pub IsLiftedNot : Value → Value → Type 0

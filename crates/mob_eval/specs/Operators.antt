@@ -15,7 +15,7 @@ use Rattle.mob_value.specs.declared.value.Value.{Value}
 use Rattle.mob_value.specs.declared.value.Value.TheVariants.{Null, Bool as Truth, Number, Text}
 use Rattle.mob_eval.specs.Scene.{Scene, leaf}
 use Rattle.mob_eval.specs.Ordinary.{truth_of, known, conjunction, disjunction, is_null, IsTest, negated, unchanged, is_nil}
-use Rattle.mob_eval.specs.Lifted.{Course, IsMovingBool, IsMovingInt, IsMovingText, OnPair, truths, numbers, texts, IsLiftedTest, IsLiftedNot}
+use Rattle.mob_eval.specs.Lifted.{OverTime, IsMovingBool, IsMovingInt, IsMovingText, OnPair, truths, numbers, texts, IsLiftedTest, IsLiftedNot}
 
 -- an operation on two plain numbers
 abbrev pub on_numbers : (Ratio → Ratio → Ratio) → Value → Value → Value
@@ -80,7 +80,7 @@ abbrev pub IsFitting : List Ratio → Option Formula → Type 0
 IsFitting parts f = MatchOption f (AllFit parts) (λ g. (g ≡ F2) × (¬ AllFit parts))
 
 -- no formula, where each part fits at each instant at which both operands have a value; and F2, where at one it does not
-abbrev pub IsFittingAt : (Ratio → Ratio → List Ratio) → Course Ratio → Course Ratio → Option Formula → Type 0
+abbrev pub IsFittingAt : (Ratio → Ratio → List Ratio) → OverTime Ratio → OverTime Ratio → Option Formula → Type 0
 IsFittingAt parts left right f = MatchOption f ((t : Ratio) → FitBoth parts (left t) (right t)) (λ g. (g ≡ F2) × ((t : Ratio) × (¬ FitBoth parts (left t) (right t))))
 
 -- the parts of an operation on two plain numbers

@@ -18,3 +18,6 @@ mod walk;
 
 pub use evaluate::{eval, holds};
 pub use fault::EvalFault;
+
+#[cfg(test)]
+mod tests;

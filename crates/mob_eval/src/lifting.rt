@@ -2,7 +2,7 @@
 ghost use Rattle.std.specs.Prelude.{◌≡◌, IfOk, IfErr};
 ghost use Rattle.mob_slice.specs.Operands.{operand_at, is_moving, steady_value};
 ghost use Rattle.mob_arith.specs.Operations.{both_hold, one_holds, text_of};
-ghost use Rattle.mob_eval.specs.Lifted.{OnPair, IsMovingBool, IsOrdered, IsCompared, IsLiftedTest, IsLiftedNot, truths, texts, number_test, text_test, truth_test};
+ghost use Rattle.mob_eval.specs.Lifted.{OnPair, IsMovingBool, IsOrderTest, IsAnyTest, IsLiftedTest, IsLiftedNot, truths, texts, number_test, text_test, truth_test};
 ghost use Rattle.mob_eval.specs.Operators.{joined, IsJoined};
 
 use crate::comparison::rel_of;
@@ -46,7 +46,12 @@ pub fn lifted_not(alloc: Global, value: &Value) -> Result<Value, AllocError>
     }
 }
 
-fn text_comparison(alloc: Global, rel: Rel, left: &Value, right: &Value) -> Result<Value, AllocError>
+fn text_comparison(
+    alloc: Global,
+    rel: Rel,
+    left: &Value,
+    right: &Value,
+) -> Result<Value, AllocError>
     ensures value { IfOk result (λ v. OnPair (texts left.now right.now) (IsMovingBool (text_test rel)) v) }
 {
     match texts(left, right) {
@@ -59,7 +64,7 @@ fn text_comparison(alloc: Global, rel: Rel, left: &Value, right: &Value) -> Resu
 }
 
 fn order(alloc: Global, rel: Rel, left: &Value, right: &Value) -> Result<Value, AllocError>
-    ensures value { IfOk result (λ v. IsOrdered rel left.now right.now v) }
+    ensures value { IfOk result (λ v. IsOrderTest rel left.now right.now v) }
 {
     match numbers(left, right) {
         Some((left, right)) => match compare(alloc, left, right, rel) {
@@ -71,7 +76,7 @@ fn order(alloc: Global, rel: Rel, left: &Value, right: &Value) -> Result<Value, 
 }
 
 fn comparison(alloc: Global, rel: Rel, left: &Value, right: &Value) -> Result<Value, AllocError>
-    ensures value { IfOk result (λ v. IsCompared rel left.now right.now v) }
+    ensures value { IfOk result (λ v. IsAnyTest rel left.now right.now v) }
 {
     match truths(left, right) {
         Some((left, right)) => match compare(alloc, left, right, rel) {
@@ -83,7 +88,12 @@ fn comparison(alloc: Global, rel: Rel, left: &Value, right: &Value) -> Result<Va
 }
 
 /// A comparison at each instant. Truth values have no order here.
-pub fn lifted_test(alloc: Global, sign: Cmp, left: &Value, right: &Value) -> Result<Value, AllocError>
+pub fn lifted_test(
+    alloc: Global,
+    sign: Cmp,
+    left: &Value,
+    right: &Value,
+) -> Result<Value, AllocError>
     ensures value { IfOk result (λ v. IsLiftedTest sign left.now right.now v) }
 {
     match sign {

@@ -15,12 +15,7 @@ use mob_value::Value;
 use std::alloc::{AllocError, Global};
 
 /// An operator on one operand.
-pub fn of_one(
-    alloc: Global,
-    view: &View<'_>,
-    op: Op,
-    value: &Value,
-) -> Result<Value, AllocError>
+pub fn of_one(alloc: Global, view: &View<'_>, op: Op, value: &Value) -> Result<Value, AllocError>
     ensures value { IfOk result (λ v. OfOne (scene_of view.now) op value.now v) }
 {
     match op {

@@ -17,7 +17,10 @@ pub fn truths<'a>(left: &'a Value, right: &'a Value) -> Option<Pair<'a, bool>>
     ensures moving { IfSome result (λ p. (is_moving p.0 || is_moving p.1) ≡ true) }
 {
     match (left, right) {
-        (Value::MovingBool(a), Value::MovingBool(b)) => Some((Operand::Moving(a), Operand::Moving(b))),
+        (Value::MovingBool(a), Value::MovingBool(b)) => Some((
+            Operand::Moving(a),
+            Operand::Moving(b),
+        )),
         (Value::MovingBool(a), Value::Bool(b)) => Some((Operand::Moving(a), Operand::Fixed(b))),
         (Value::Bool(a), Value::MovingBool(b)) => Some((Operand::Fixed(a), Operand::Moving(b))),
         _ => None,
@@ -30,7 +33,10 @@ pub fn numbers<'a>(left: &'a Value, right: &'a Value) -> Option<Pair<'a, Frac>>
     ensures moving { IfSome result (λ p. (is_moving p.0 || is_moving p.1) ≡ true) }
 {
     match (left, right) {
-        (Value::MovingInt(a), Value::MovingInt(b)) => Some((Operand::Moving(a), Operand::Moving(b))),
+        (Value::MovingInt(a), Value::MovingInt(b)) => Some((
+            Operand::Moving(a),
+            Operand::Moving(b),
+        )),
         (Value::MovingInt(a), Value::Number(b)) => Some((Operand::Moving(a), Operand::Fixed(b))),
         (Value::Number(a), Value::MovingInt(b)) => Some((Operand::Fixed(a), Operand::Moving(b))),
         _ => None,
@@ -43,7 +49,10 @@ pub fn texts<'a>(left: &'a Value, right: &'a Value) -> Option<Pair<'a, Text>>
     ensures moving { IfSome result (λ p. (is_moving p.0 || is_moving p.1) ≡ true) }
 {
     match (left, right) {
-        (Value::MovingText(a), Value::MovingText(b)) => Some((Operand::Moving(a), Operand::Moving(b))),
+        (Value::MovingText(a), Value::MovingText(b)) => Some((
+            Operand::Moving(a),
+            Operand::Moving(b),
+        )),
         (Value::MovingText(a), Value::Text(b)) => Some((Operand::Moving(a), Operand::Fixed(b))),
         (Value::Text(a), Value::MovingText(b)) => Some((Operand::Fixed(a), Operand::Moving(b))),
         _ => None,

@@ -55,11 +55,7 @@ fn fault_at(place: u32, fault: OpFault) -> EvalFault
 
 /// The value of an expression, where it stands or in memory of its own.
 #[cycle(walk)]
-pub fn held_value<'a>(
-    alloc: Global,
-    e: &TExpr,
-    view: &View<'a>,
-) -> Result<Held<'a>, EvalFault>
+pub fn held_value<'a>(alloc: Global, e: &TExpr, view: &View<'a>) -> Result<Held<'a>, EvalFault>
     ensures value { IfOk result (λ h. Runs (scene_of view.now) e.now (Ok (held h))) }
     ensures fault { IfErr result (OnPassed (λ f. Runs (scene_of view.now) e.now (Err f))) }
 {
