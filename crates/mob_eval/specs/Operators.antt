@@ -12,7 +12,8 @@ use Rattle.mob_ast.specs.declared.types.Cmp.{Cmp}
 use Rattle.mob_operators.specs.declared.operator.Op.{Op}
 use Rattle.mob_operators.specs.declared.operator.Op.TheVariants as op
 use Rattle.mob_value.specs.declared.value.Value.{Value}
-use Rattle.mob_value.specs.declared.value.Value.TheVariants.{Null, Bool as Truth, Number, Text}
+use Rattle.mob_value.specs.declared.value.Value.TheVariants.{Null, Bool as Truth, Number, Text, MovingBool, MovingInt, MovingText}
+use Rattle.mob_literal.specs.SqlText.{value_text}
 use Rattle.mob_eval.specs.Scene.{Scene, leaf}
 use Rattle.mob_eval.specs.Ordinary.{truth_of, known, conjunction, disjunction, is_null, IsTest, negated, unchanged, is_nil}
 use Rattle.mob_eval.specs.Lifted.{OverTime, IsMovingBool, IsMovingInt, IsMovingText, OnPair, truths, numbers, texts, IsLiftedTest, IsLiftedNot}
@@ -40,6 +41,13 @@ joined _ _ = Null
 abbrev pub IsJoined : Value → Value → Value → Type 0
 IsJoined a b v = MatchOption (texts a b) (v ≡ joined a b) (λ p. IsMovingText text_of p.0 p.1 v)
 
+-- the printed text of a temporal value, with instants counted from a day
+abbrev pub printed : ℤ → Value → Value
+printed day (MovingBool m) = Text (value_text day (MovingBool m))
+printed day (MovingInt m) = Text (value_text day (MovingInt m))
+printed day (MovingText m) = Text (value_text day (MovingText m))
+printed day _ = Null
+
 -- on one operand; AND and OR have one where it settles them
 abbrev pub OfOne : Scene → Op → Value → Value → Type 0
 OfOne s op.And a v = v ≡ known (conjunction (truth_of a) None)
@@ -50,6 +58,7 @@ OfOne s op.IsNotNull a v = v ≡ Truth (not (is_null a))
 OfOne s op.Negate a v = v ≡ negated a
 OfOne s op.Same a v = v ≡ unchanged a
 OfOne s op.LiftedNot a v = IsLiftedNot a v
+OfOne s op.AsText a v = v ≡ printed s.day a
 OfOne s op.Cast a v = v ≡ a
 OfOne s _ a v = v ≡ Null
 

@@ -27,8 +27,8 @@ pub fn result_of<'a>(
 {
     match values {
         [] => Ok(leaf(view, op)),
-        [value] => match of_one(alloc, view, op, value.get()) {
-            Ok(value) => Ok(Held::Made(value)),
+        [operand] => match of_one(alloc, view, op, operand) {
+            Ok(value) => Ok(value),
             Err(_) => Err(OpFault::NoMemory),
         },
         [left, right] => match of_two(alloc, op, left.get(), right.get()) {

@@ -24,6 +24,16 @@ impl<'a> Held<'a> {
         }
     }
 
+    /// The same value once more: a stored one where it stands, a made one in memory of its own.
+    pub fn share(&self, alloc: Global) -> Result<Held<'a>, AllocError>
+        ensures value { IfOk result (λ h. held h ≡ held self.now) }
+    {
+        match self {
+            Held::Stored(value) => Ok(Held::Stored(*value)),
+            Held::Made(value) => Ok(Held::Made(value.copy(alloc)?)),
+        }
+    }
+
     /// The value, in memory of its own.
     pub fn own(self, alloc: Global) -> Result<Value, AllocError>
         ensures value { IfOk result (λ v. v ≡ held self.entry) }

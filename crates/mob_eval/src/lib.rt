@@ -12,6 +12,7 @@ mod lifting;
 mod logic;
 mod operators;
 mod pair;
+mod printed;
 mod scene;
 mod temporal;
 mod walk;

@@ -1,34 +1,54 @@
 //! Each operator, on the values of its operands.
-ghost use Rattle.std.specs.Prelude.{◌≡◌, IfOk, IfErr, MatchResult, None, Some, Ok, Err};
+ghost use Rattle.std.specs.Prelude.{◌≡◌, IfOk, IfErr, IsErr, MatchResult, None, Some, Ok, Err};
 ghost use Rattle.mob_eval.specs.Views.{scene_of};
 ghost use Rattle.mob_eval.specs.Operators.{OfOne, OfTwo, FirstOfTwo};
 ghost use Rattle.mob_eval.specs.Faults.{OnFormula};
+ghost use Rattle.mob_eval.specs.Held.{held};
 
 use crate::arithmetic::{Calculation, calculate, division, negation, unchanged};
 use crate::comparison::test;
+use crate::held::Held;
 use crate::lifting::{join, lifted_and, lifted_not, lifted_or, lifted_test};
 use crate::logic::{conjunction, disjunction, is_null, known, negation as contrary, truth_of};
+use crate::printed::as_text;
 use crate::scene::View;
 use mob_operators::Op;
 use mob_slice::OpFault;
 use mob_value::Value;
 use std::alloc::{AllocError, Global};
 
-/// An operator on one operand.
-pub fn of_one(alloc: Global, view: &View<'_>, op: Op, value: &Value) -> Result<Value, AllocError>
-    ensures value { IfOk result (λ v. OfOne (scene_of view.now) op value.now v) }
+// A value that was made, or want of memory.
+fn made<'a>(value: Result<Value, AllocError>) -> Result<Held<'a>, AllocError>
+    ensures value { MatchResult value (λ v. IfOk result (λ h. held h ≡ v)) (λ _. IsErr result) }
 {
+    match value {
+        Ok(value) => Ok(Held::Made(value)),
+        Err(_) => Err(AllocError),
+    }
+}
+
+/// An operator on one operand.
+pub fn of_one<'a>(
+    alloc: Global,
+    view: &View<'a>,
+    op: Op,
+    operand: &Held<'a>,
+) -> Result<Held<'a>, AllocError>
+    ensures value { IfOk result (λ h. OfOne (scene_of view.now) op (held operand.now) (held h)) }
+{
+    let value = operand.get();
     match op {
-        Op::And => Ok(known(conjunction(truth_of(value), None))),
-        Op::Or => Ok(known(disjunction(truth_of(value), None))),
-        Op::Not => Ok(known(contrary(truth_of(value)))),
-        Op::IsNull => Ok(Value::Bool(is_null(value))),
-        Op::IsNotNull => Ok(Value::Bool(!is_null(value))),
-        Op::Negate => Ok(negation(value)),
-        Op::Same => Ok(unchanged(value)),
-        Op::LiftedNot => lifted_not(alloc, value),
-        Op::Cast => value.copy(alloc),
-        _ => Ok(Value::Null),
+        Op::And => Ok(Held::Made(known(conjunction(truth_of(value), None)))),
+        Op::Or => Ok(Held::Made(known(disjunction(truth_of(value), None)))),
+        Op::Not => Ok(Held::Made(known(contrary(truth_of(value))))),
+        Op::IsNull => Ok(Held::Made(Value::Bool(is_null(value)))),
+        Op::IsNotNull => Ok(Held::Made(Value::Bool(!is_null(value)))),
+        Op::Negate => Ok(Held::Made(negation(value))),
+        Op::Same => Ok(Held::Made(unchanged(value))),
+        Op::LiftedNot => made(lifted_not(alloc, value)),
+        Op::AsText => made(as_text(alloc, value, view.epoch)),
+        Op::Cast => operand.share(alloc),
+        _ => Ok(Held::Made(Value::Null)),
     }
 }
 

@@ -61,6 +61,12 @@ const TTEXT_A: u32 = 20;
 
 const TTEXT_AB: u32 = 21;
 
+const TBOOL_TEXT: u32 = 22;
+
+const TINT_TEXT: u32 = 23;
+
+const TTEXT_TEXT: u32 = 24;
+
 // The step value from one whole instant to another.
 fn steps<B: BaseValue + Drop>(
     alloc: Global,
@@ -122,6 +128,18 @@ fn constants(alloc: Global) -> Option<Vec<Value>> {
         Value::MovingBool(steps(alloc, 0, 9, false)?),
         Value::MovingText(steps(alloc, 0, 9, text(alloc, "a")?)?),
         Value::MovingText(steps(alloc, 0, 9, text(alloc, "ab")?)?),
+        Value::Text(text(
+            alloc,
+            "[t@2000-01-01 00:00:00+00, t@2000-01-01 00:00:09+00]",
+        )?),
+        Value::Text(text(
+            alloc,
+            "[2@2000-01-01 00:00:00+00, 2@2000-01-01 00:00:09+00]",
+        )?),
+        Value::Text(text(
+            alloc,
+            "[\"ab\"@2000-01-01 00:00:00+00, \"ab\"@2000-01-01 00:00:09+00]",
+        )?),
     ];
     let mut list = Vec::new(alloc);
     for value in values {
@@ -208,7 +226,7 @@ fn gives(alloc: Global, store: &Store, e: &TExpr, wanted: u32) -> bool {
 
 type Row = (Op, &'static [u32], u32);
 
-static ROWS: [Row; 64] = [
+static ROWS: [Row; 68] = [
     (Op::Null, &[], NULL),
     (Op::Const(ONE), &[], ONE),
     (Op::Const(99), &[], NULL),
@@ -270,6 +288,10 @@ static ROWS: [Row; 64] = [
     (Op::Lifted(Cmp::Lt), &[TBOOL_F, TBOOL_T], NULL),
     (Op::Lifted(Cmp::Eq), &[ONE, ONE], NULL),
     (Op::Join, &[TTEXT_A, B], TTEXT_AB),
+    (Op::AsText, &[TBOOL_T], TBOOL_TEXT),
+    (Op::AsText, &[TINT_2], TINT_TEXT),
+    (Op::AsText, &[TTEXT_AB], TTEXT_TEXT),
+    (Op::AsText, &[NULL], NULL),
     (Op::Join, &[ONE, B], NULL),
     (Op::Overlap, &[ONE, ONE], NULL),
     (Op::Add, &[ONE, ONE, ONE], NULL),
