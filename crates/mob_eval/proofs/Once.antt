@@ -1,5 +1,6 @@
 -- An expression has one outcome, where each operator has.
 use Rattle.std.proofs.Common.{◌≡◌, ◌⊎◌, inl, inr, Bool, true, false, List, [], ◌∷◌, Option, Some, None, Result, Ok, Err, MatchOption, MatchResult, refl, sym, ap, ◌∙◌, subst, true≢false}
+use Rattle.mob_language.proofs.Exact.{some_is}
 use Rattle.mob_typing.specs.Trees.{TypedTree, typed, TypedTrees, none, more}
 use Rattle.mob_value.specs.declared.value.Value.{Value}
 use Rattle.mob_eval.specs.Scene.{Scene}
@@ -15,9 +16,6 @@ err_is {A} {E} {f} {g} e = subst (λ r. MatchResult r (λ _. ⊥) (λ y. f ≡ y
 
 ok_err : {A E : Type 0} {a : A} {f : E} → ◌≡◌ {A = Result A E} (Ok a) (Err f) → ⊥
 ok_err e = subst (λ r. MatchResult r (λ _. Unit {0}) (λ _. ⊥)) e tt
-
-some_is : {A : Type 0} {a b : A} → ◌≡◌ {A = Option A} (Some a) (Some b) → a ≡ b
-some_is {A} {a} {b} e = subst (λ o. MatchOption o ⊥ (λ x. a ≡ x)) e refl
 
 none_some : {A : Type 0} {a : A} → ◌≡◌ {A = Option A} None (Some a) → ⊥
 none_some e = subst (λ o. MatchOption o (Unit {0}) (λ _. ⊥)) e tt
@@ -40,7 +38,7 @@ mutual
   one_run z s (typed o ty place args) (Err f) (Err g) (inr h) (inl k) = absurd (ok_err (one_all z s (stop_of o) args (Ok h.0) (Err g) h.1 k))
   one_run z s (typed o ty place args) (Err f) (Err g) (inr h) (inr k) =
       let same = ok_is (one_all z s (stop_of o) args (Ok h.0) (Ok k.0) h.1 k.1) in
-      let formula = some_is (z.first o k.0 (Some f.1) (Some g.1) (subst (λ vs. First o vs (Some f.1)) same h.2) k.2) in
+      let formula = some_is f.1 g.1 (z.first o k.0 (Some f.1) (Some g.1) (subst (λ vs. First o vs (Some f.1)) same h.2) k.2) in
       let at = h.3 ∙ sym k.3 in
       λ i. Err (at i, formula i)
 

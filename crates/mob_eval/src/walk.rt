@@ -1,5 +1,5 @@
 //! The walk over a typed expression.
-ghost use Rattle.std.specs.Prelude.{◌≡◌, Ok, Err, IfOk, IfErr, OnOk, ◌++◌, [], ◌∷◌, map};
+ghost use Rattle.std.specs.Prelude.{◌≡◌, Ok, Err, IfOk, IfErr, map};
 ghost use Rattle.mob_typing.specs.Trees.{typed_of};
 ghost use Rattle.mob_eval.specs.Views.{scene_of};
 ghost use Rattle.mob_eval.specs.Runs.{Runs, RunsAll, OnPassed, stops, stop_of};
@@ -11,11 +11,12 @@ use crate::apply::result_of;
 use crate::fault::EvalFault;
 use crate::held::Held;
 use crate::scene::View;
+use mob_list::items::Items;
 use mob_operators::Op;
 use mob_slice::OpFault;
 use mob_typing::TExpr;
 use mob_value::Value;
-use std::alloc::{AllocError, Global};
+use std::alloc::Global;
 
 fn stop_of(op: Op) -> Option<bool>
     ensures value { result ≡ stop_of op }
@@ -35,12 +36,6 @@ fn stops(stop: Option<bool>, value: &Value) -> bool
         (Some(false), Value::Bool(truth)) => !*truth,
         _ => false,
     }
-}
-
-fn push<T: Drop>(items: &mut Vec<T>, item: T) -> Result<(), AllocError>
-    ensures pushed { OnOk result (items.new.items ≡ items.old.items ++ item ∷ []) }
-{
-    Ok(items.push(item)?)
 }
 
 // The fault of an operator, at its place.
@@ -77,16 +72,16 @@ fn operands<'a>(
     stop: Option<bool>,
     args: &[TExpr],
     view: &View<'a>,
-) -> Result<Vec<Held<'a>>, EvalFault>
-    ensures values { IfOk result (λ hs. RunsAll (scene_of view.now) stop (trees args.now) (Ok (map held hs.items))) }
+) -> Result<Items<Held<'a>>, EvalFault>
+    ensures values { IfOk result (λ hs. RunsAll (scene_of view.now) stop (trees args.now) (Ok (map held hs))) }
     ensures fault { IfErr result (OnPassed (λ f. RunsAll (scene_of view.now) stop (trees args.now) (Err f))) }
 {
-    let mut values = Vec::new(alloc);
+    let mut values = Items::new(alloc);
     for arg in args {
         match held_value(alloc, arg, view) {
             Ok(value) => {
                 let last = stops(stop, value.get());
-                if push(&mut values, value).is_err() {
+                if values.push(value).is_err() {
                     return Err(EvalFault::NoMemory);
                 }
                 if last {
