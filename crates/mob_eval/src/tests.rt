@@ -16,56 +16,35 @@ use mob_value::{Store, Table, Value};
 use std::alloc::Global;
 use std::test::Fail;
 
-// The constants of the tests, by their numbers.
-const NULL: u32 = 0;
-
-const TRUE: u32 = 1;
-
-const FALSE: u32 = 2;
-
-const ZERO: u32 = 3;
-
-const ONE: u32 = 4;
-
-const TWO: u32 = 5;
-
-const HALF: u32 = 6;
-
-const BIGGEST: u32 = 7;
-
-const MINUS_ONE: u32 = 8;
-
-const A: u32 = 9;
-
-const AB: u32 = 10;
-
-const B: u32 = 11;
-
-const MIDNIGHT: u32 = 12;
-
-const LATER: u32 = 13;
-
-const TINT_1: u32 = 14;
-
-const TINT_2: u32 = 15;
-
-const TINT_FAR: u32 = 16;
-
-const TINT_BIGGEST: u32 = 17;
-
-const TBOOL_T: u32 = 18;
-
-const TBOOL_F: u32 = 19;
-
-const TTEXT_A: u32 = 20;
-
-const TTEXT_AB: u32 = 21;
-
-const TBOOL_TEXT: u32 = 22;
-
-const TINT_TEXT: u32 = 23;
-
-const TTEXT_TEXT: u32 = 24;
+// The constants of the tests, in the order of their numbers.
+#[derive(Clone, Copy)]
+enum Known {
+    Null,
+    True,
+    False,
+    Zero,
+    One,
+    Two,
+    Half,
+    Biggest,
+    MinusOne,
+    A,
+    Ab,
+    B,
+    Midnight,
+    Later,
+    Tint1,
+    Tint2,
+    TintFar,
+    TintBiggest,
+    TboolT,
+    TboolF,
+    TtextA,
+    TtextAb,
+    TboolText,
+    TintText,
+    TtextText,
+}
 
 // The step value from one whole instant to another.
 fn steps<B: BaseValue + Drop>(
@@ -173,11 +152,11 @@ fn store(alloc: Global) -> Option<Store> {
 }
 
 // An operator on constants, at a place.
-fn node(alloc: Global, op: Op, place: u32, operands: &[u32]) -> Option<TExpr> {
+fn node(alloc: Global, op: Op, place: u32, operands: &[Known]) -> Option<TExpr> {
     let mut args = Vec::new(alloc);
-    for number in operands {
+    for known in operands {
         let leaf = TExpr {
-            op: Op::Const(*number),
+            op: Op::Const(*known as u32),
             ty: SqlType::Bool,
             place: 0,
             args: Vec::new(alloc),
@@ -216,7 +195,7 @@ fn is(value: &Value, wanted: &Value) -> bool {
 }
 
 // Whether an expression has the value of a constant on the tuple of the second row.
-fn gives(alloc: Global, store: &Store, e: &TExpr, wanted: u32) -> bool {
+fn gives(alloc: Global, store: &Store, e: &TExpr, wanted: Known) -> bool {
     let value = eval(alloc, e, store, &[0], &[1], &Epoch::standard());
     match (value, store.consts.as_slice().get(wanted as usize)) {
         (Ok(value), Some(wanted)) => is(&value, wanted),
@@ -224,86 +203,154 @@ fn gives(alloc: Global, store: &Store, e: &TExpr, wanted: u32) -> bool {
     }
 }
 
-type Row = (Op, &'static [u32], u32);
+type Row = (Op, &'static [Known], Known);
 
-static ROWS: [Row; 68] = [
-    (Op::Null, &[], NULL),
-    (Op::Const(ONE), &[], ONE),
-    (Op::Const(99), &[], NULL),
-    (Op::Column { from: 0, column: 0 }, &[], TWO),
-    (Op::Column { from: 0, column: 1 }, &[], A),
-    (Op::Column { from: 1, column: 0 }, &[], NULL),
-    (Op::Not, &[TRUE], FALSE),
-    (Op::Not, &[NULL], NULL),
-    (Op::And, &[TRUE, FALSE], FALSE),
-    (Op::And, &[NULL, FALSE], FALSE),
-    (Op::And, &[NULL, TRUE], NULL),
-    (Op::And, &[TRUE, TRUE], TRUE),
-    (Op::Or, &[FALSE, TRUE], TRUE),
-    (Op::Or, &[NULL, TRUE], TRUE),
-    (Op::Or, &[FALSE, NULL], NULL),
-    (Op::Or, &[FALSE, FALSE], FALSE),
-    (Op::IsNull, &[NULL], TRUE),
-    (Op::IsNull, &[FALSE], FALSE),
-    (Op::IsNotNull, &[NULL], FALSE),
-    (Op::IsNotNull, &[TINT_1], TRUE),
-    (Op::Test(Cmp::Eq), &[NULL, NULL], NULL),
-    (Op::Test(Cmp::Eq), &[ONE, ONE], TRUE),
-    (Op::Test(Cmp::Ne), &[TRUE, FALSE], TRUE),
-    (Op::Test(Cmp::Eq), &[TINT_1, TINT_1], TRUE),
-    (Op::Test(Cmp::Eq), &[TINT_1, TINT_FAR], FALSE),
-    (Op::Test(Cmp::Ne), &[TTEXT_A, TTEXT_AB], TRUE),
-    (Op::Test(Cmp::Eq), &[TBOOL_T, TBOOL_F], FALSE),
-    (Op::Test(Cmp::Lt), &[A, AB], TRUE),
-    (Op::Test(Cmp::Lt), &[B, AB], FALSE),
-    (Op::Test(Cmp::Le), &[ONE, ONE], TRUE),
-    (Op::Test(Cmp::Gt), &[LATER, MIDNIGHT], TRUE),
-    (Op::Test(Cmp::Ge), &[MIDNIGHT, LATER], FALSE),
-    (Op::Test(Cmp::Lt), &[FALSE, TRUE], NULL),
-    (Op::Add, &[ONE, ONE], TWO),
-    (Op::Add, &[NULL, ONE], NULL),
-    (Op::Subtract, &[ONE, TWO], MINUS_ONE),
-    (Op::Multiply, &[TWO, HALF], ONE),
-    (Op::Divide, &[ONE, TWO], HALF),
-    (Op::Divide, &[ONE, ZERO], NULL),
-    (Op::Negate, &[ONE], MINUS_ONE),
-    (Op::Same, &[HALF], HALF),
-    (Op::Join, &[A, B], AB),
-    (Op::Join, &[A, NULL], NULL),
-    (Op::Cast, &[TINT_2], TINT_2),
-    (Op::Add, &[TINT_1, TINT_1], TINT_2),
-    (Op::Add, &[ONE, TINT_1], TINT_2),
-    (Op::Add, &[TINT_1, TINT_FAR], NULL),
-    (Op::Subtract, &[TWO, TINT_1], TINT_1),
-    (Op::Multiply, &[TINT_1, TWO], TINT_2),
-    (Op::Multiply, &[TWO, TINT_1], TINT_2),
-    (Op::Multiply, &[TINT_1, TINT_2], TINT_2),
-    (Op::LiftedAnd, &[TBOOL_T, FALSE], TBOOL_F),
-    (Op::LiftedOr, &[TRUE, TBOOL_F], TBOOL_T),
-    (Op::LiftedNot, &[TBOOL_F], TBOOL_T),
-    (Op::Lifted(Cmp::Lt), &[TINT_1, TINT_2], TBOOL_T),
-    (Op::Lifted(Cmp::Eq), &[TBOOL_T, FALSE], TBOOL_F),
-    (Op::Lifted(Cmp::Ne), &[A, TTEXT_AB], TBOOL_T),
-    (Op::Lifted(Cmp::Ge), &[TTEXT_AB, A], TBOOL_T),
-    (Op::Lifted(Cmp::Lt), &[TBOOL_F, TBOOL_T], NULL),
-    (Op::Lifted(Cmp::Eq), &[ONE, ONE], NULL),
-    (Op::Join, &[TTEXT_A, B], TTEXT_AB),
-    (Op::AsText, &[TBOOL_T], TBOOL_TEXT),
-    (Op::AsText, &[TINT_2], TINT_TEXT),
-    (Op::AsText, &[TTEXT_AB], TTEXT_TEXT),
-    (Op::AsText, &[NULL], NULL),
-    (Op::Join, &[ONE, B], NULL),
-    (Op::Overlap, &[ONE, ONE], NULL),
-    (Op::Add, &[ONE, ONE, ONE], NULL),
+static LOGIC: [Row; 20] = [
+    (Op::Null, &[], Known::Null),
+    (Op::Const(4), &[], Known::One),
+    (Op::Const(99), &[], Known::Null),
+    (Op::Column { from: 0, column: 0 }, &[], Known::Two),
+    (Op::Column { from: 0, column: 1 }, &[], Known::A),
+    (Op::Column { from: 1, column: 0 }, &[], Known::Null),
+    (Op::Not, &[Known::True], Known::False),
+    (Op::Not, &[Known::Null], Known::Null),
+    (Op::And, &[Known::True, Known::False], Known::False),
+    (Op::And, &[Known::Null, Known::False], Known::False),
+    (Op::And, &[Known::Null, Known::True], Known::Null),
+    (Op::And, &[Known::True, Known::True], Known::True),
+    (Op::Or, &[Known::False, Known::True], Known::True),
+    (Op::Or, &[Known::Null, Known::True], Known::True),
+    (Op::Or, &[Known::False, Known::Null], Known::Null),
+    (Op::Or, &[Known::False, Known::False], Known::False),
+    (Op::IsNull, &[Known::Null], Known::True),
+    (Op::IsNull, &[Known::False], Known::False),
+    (Op::IsNotNull, &[Known::Null], Known::False),
+    (Op::IsNotNull, &[Known::Tint1], Known::True),
 ];
+
+static COMPARISONS: [Row; 13] = [
+    (Op::Test(Cmp::Eq), &[Known::Null, Known::Null], Known::Null),
+    (Op::Test(Cmp::Eq), &[Known::One, Known::One], Known::True),
+    (Op::Test(Cmp::Ne), &[Known::True, Known::False], Known::True),
+    (
+        Op::Test(Cmp::Eq),
+        &[Known::Tint1, Known::Tint1],
+        Known::True,
+    ),
+    (
+        Op::Test(Cmp::Eq),
+        &[Known::Tint1, Known::TintFar],
+        Known::False,
+    ),
+    (
+        Op::Test(Cmp::Ne),
+        &[Known::TtextA, Known::TtextAb],
+        Known::True,
+    ),
+    (
+        Op::Test(Cmp::Eq),
+        &[Known::TboolT, Known::TboolF],
+        Known::False,
+    ),
+    (Op::Test(Cmp::Lt), &[Known::A, Known::Ab], Known::True),
+    (Op::Test(Cmp::Lt), &[Known::B, Known::Ab], Known::False),
+    (Op::Test(Cmp::Le), &[Known::One, Known::One], Known::True),
+    (
+        Op::Test(Cmp::Gt),
+        &[Known::Later, Known::Midnight],
+        Known::True,
+    ),
+    (
+        Op::Test(Cmp::Ge),
+        &[Known::Midnight, Known::Later],
+        Known::False,
+    ),
+    (Op::Test(Cmp::Lt), &[Known::False, Known::True], Known::Null),
+];
+
+static PLAIN: [Row; 11] = [
+    (Op::Add, &[Known::One, Known::One], Known::Two),
+    (Op::Add, &[Known::Null, Known::One], Known::Null),
+    (Op::Subtract, &[Known::One, Known::Two], Known::MinusOne),
+    (Op::Multiply, &[Known::Two, Known::Half], Known::One),
+    (Op::Divide, &[Known::One, Known::Two], Known::Half),
+    (Op::Divide, &[Known::One, Known::Zero], Known::Null),
+    (Op::Negate, &[Known::One], Known::MinusOne),
+    (Op::Same, &[Known::Half], Known::Half),
+    (Op::Join, &[Known::A, Known::B], Known::Ab),
+    (Op::Join, &[Known::A, Known::Null], Known::Null),
+    (Op::Cast, &[Known::Tint2], Known::Tint2),
+];
+
+static LIFTED: [Row; 24] = [
+    (Op::Add, &[Known::Tint1, Known::Tint1], Known::Tint2),
+    (Op::Add, &[Known::One, Known::Tint1], Known::Tint2),
+    (Op::Add, &[Known::Tint1, Known::TintFar], Known::Null),
+    (Op::Subtract, &[Known::Two, Known::Tint1], Known::Tint1),
+    (Op::Multiply, &[Known::Tint1, Known::Two], Known::Tint2),
+    (Op::Multiply, &[Known::Two, Known::Tint1], Known::Tint2),
+    (Op::Multiply, &[Known::Tint1, Known::Tint2], Known::Tint2),
+    (Op::LiftedAnd, &[Known::TboolT, Known::False], Known::TboolF),
+    (Op::LiftedOr, &[Known::True, Known::TboolF], Known::TboolT),
+    (Op::LiftedNot, &[Known::TboolF], Known::TboolT),
+    (
+        Op::Lifted(Cmp::Lt),
+        &[Known::Tint1, Known::Tint2],
+        Known::TboolT,
+    ),
+    (
+        Op::Lifted(Cmp::Eq),
+        &[Known::TboolT, Known::False],
+        Known::TboolF,
+    ),
+    (
+        Op::Lifted(Cmp::Ne),
+        &[Known::A, Known::TtextAb],
+        Known::TboolT,
+    ),
+    (
+        Op::Lifted(Cmp::Ge),
+        &[Known::TtextAb, Known::A],
+        Known::TboolT,
+    ),
+    (
+        Op::Lifted(Cmp::Lt),
+        &[Known::TboolF, Known::TboolT],
+        Known::Null,
+    ),
+    (Op::Lifted(Cmp::Eq), &[Known::One, Known::One], Known::Null),
+    (Op::Join, &[Known::TtextA, Known::B], Known::TtextAb),
+    (Op::AsText, &[Known::TboolT], Known::TboolText),
+    (Op::AsText, &[Known::Tint2], Known::TintText),
+    (Op::AsText, &[Known::TtextAb], Known::TtextText),
+    (Op::AsText, &[Known::Null], Known::Null),
+    (Op::Join, &[Known::One, Known::B], Known::Null),
+    (Op::Overlap, &[Known::One, Known::One], Known::Null),
+    (Op::Add, &[Known::One, Known::One, Known::One], Known::Null),
+];
+
+// How many rows there are before the first that is wrong.
+fn right_rows(alloc: Global, store: &Store, rows: &[Row]) -> usize {
+    for (i, (op, operands, wanted)) in rows.iter().enumerate() {
+        let is_right = match node(alloc, *op, 0, operands) {
+            Some(e) => gives(alloc, store, &e, *wanted),
+            None => false,
+        };
+        if !is_right {
+            return i;
+        }
+    }
+    rows.len()
+}
 
 #[test]
 fn each_operator_gives_its_value(rt: HostRuntime) -> Result<(), Fail> {
-    let store = store(rt.alloc()).ok_or("memory")?;
-    for (op, operands, wanted) in &ROWS {
-        let e = node(rt.alloc(), *op, 0, operands).ok_or("memory")?;
-        assert!(rt; gives(rt.alloc(), &store, &e, *wanted));
-    }
+    let alloc = rt.alloc();
+    let store = store(alloc).ok_or("memory")?;
+    assert_eq!(rt; right_rows(alloc, &store, &LOGIC), LOGIC.len());
+    assert_eq!(rt; right_rows(alloc, &store, &COMPARISONS), COMPARISONS.len());
+    assert_eq!(rt; right_rows(alloc, &store, &PLAIN), PLAIN.len());
+    assert_eq!(rt; right_rows(alloc, &store, &LIFTED), LIFTED.len());
     Ok(())
 }
 
@@ -314,8 +361,8 @@ fn passed(alloc: Global, store: &Store, e: &TExpr) -> Option<EvalFault> {
 
 // The operator on a sum that does not fit, at place 5, and one at place 9.
 fn of_two_faults(alloc: Global, op: Op) -> Option<TExpr> {
-    let left = node(alloc, Op::Add, 5, &[BIGGEST, ONE])?;
-    let right = node(alloc, Op::Multiply, 9, &[BIGGEST, TWO])?;
+    let left = node(alloc, Op::Add, 5, &[Known::Biggest, Known::One])?;
+    let right = node(alloc, Op::Multiply, 9, &[Known::Biggest, Known::Two])?;
     pair(alloc, op, 7, left, right)
 }
 
@@ -329,19 +376,19 @@ fn the_first_fault_is_named(rt: HostRuntime) -> Result<(), Fail> {
     };
     let left_first = of_two_faults(alloc, Op::Add).ok_or("memory")?;
     assert_eq!(rt; passed(alloc, &store, &left_first), Some(at(5)));
-    let lifted = node(alloc, Op::Add, 3, &[TINT_BIGGEST, ONE]).ok_or("memory")?;
+    let lifted = node(alloc, Op::Add, 3, &[Known::TintBiggest, Known::One]).ok_or("memory")?;
     assert_eq!(rt; passed(alloc, &store, &lifted), Some(at(3)));
-    let known = node(alloc, Op::IsNull, 2, &[NULL]).ok_or("memory")?;
-    let right = node(alloc, Op::Subtract, 9, &[BIGGEST, MINUS_ONE]).ok_or("memory")?;
+    let known = node(alloc, Op::IsNull, 2, &[Known::Null]).ok_or("memory")?;
+    let right = node(alloc, Op::Subtract, 9, &[Known::Biggest, Known::MinusOne]).ok_or("memory")?;
     let after_true = pair(alloc, Op::And, 6, known, right).ok_or("memory")?;
     assert_eq!(rt; passed(alloc, &store, &after_true), Some(at(9)));
     Ok(())
 }
 
 // An operator on a truth value and a sum that does not fit.
-fn before_fault(alloc: Global, op: Op, left: u32) -> Option<TExpr> {
-    let known = node(alloc, Op::Const(left), 0, &[])?;
-    let right = node(alloc, Op::Add, 9, &[BIGGEST, ONE])?;
+fn before_fault(alloc: Global, op: Op, left: Known) -> Option<TExpr> {
+    let known = node(alloc, Op::Const(left as u32), 0, &[])?;
+    let right = node(alloc, Op::Add, 9, &[Known::Biggest, Known::One])?;
     pair(alloc, op, 6, known, right)
 }
 
@@ -349,7 +396,7 @@ fn before_fault(alloc: Global, op: Op, left: u32) -> Option<TExpr> {
 fn an_operand_that_is_not_needed_is_left_out(rt: HostRuntime) -> Result<(), Fail> {
     let alloc = rt.alloc();
     let store = store(alloc).ok_or("memory")?;
-    for (op, left, wanted) in [(Op::And, FALSE, false), (Op::Or, TRUE, true)] {
+    for (op, left, wanted) in [(Op::And, Known::False, false), (Op::Or, Known::True, true)] {
         let e = before_fault(alloc, op, left).ok_or("memory")?;
         let truth = holds(alloc, &e, &store, &[0], &[1], &Epoch::standard());
         assert_eq!(rt; truth.ok(), Some(wanted));
@@ -357,7 +404,7 @@ fn an_operand_that_is_not_needed_is_left_out(rt: HostRuntime) -> Result<(), Fail
     let null = node(alloc, Op::Null, 0, &[]).ok_or("memory")?;
     let truth = holds(alloc, &null, &store, &[0], &[1], &Epoch::standard());
     assert_eq!(rt; truth.ok(), Some(false));
-    let after_null = before_fault(alloc, Op::And, NULL).ok_or("memory")?;
+    let after_null = before_fault(alloc, Op::And, Known::Null).ok_or("memory")?;
     assert!(rt; passed(alloc, &store, &after_null).is_some());
     Ok(())
 }
