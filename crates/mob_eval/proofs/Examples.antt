@@ -1,5 +1,5 @@
 -- Worked expressions, by the definition.
-use Rattle.std.proofs.Common.{◌≡◌, inl, inr, true, false, List, [], ◌∷◌, Some, None, Ok, Err, refl, arith}
+use Rattle.std.proofs.Common.{inl, inr, false, [], ◌∷◌, Some, Ok, refl, arith}
 use Rattle.std.specs.Prelude.{pos}
 use Rattle.mob_ratio.specs.Ratio.{whole, over, ◌+ℚ◌}
 use Rattle.mob_ratio.specs.Gcd.{gcd, gcd_steps}

@@ -2,7 +2,7 @@
 use Rattle.std.proofs.Common.{◌≡◌, inl, inr, Bool, List, Option, Some, None, Result, Ok, Err, [], ◌∷◌, ◌≤◌, length, arith, refl, sym, subst, map}
 use Rattle.mob_typing.specs.declared.typed.TExpr.{TExpr}
 use Rattle.mob_typing.specs.declared.typed.TExpr.TheViews.{out-TExpr}
-use Rattle.mob_typing.specs.Trees.{typed, typed_of}
+use Rattle.mob_typing.specs.Trees.{typed}
 use Rattle.mob_typing.proofs.TreeFacts.{typed_is}
 use Rattle.mob_slice.specs.declared.formula.OpFault.{OpFault}
 use Rattle.mob_slice.specs.declared.formula.OpFault.TheVariants.{Passed as Formula_passed, NoMemory as No_memory}

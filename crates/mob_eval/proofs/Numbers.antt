@@ -1,7 +1,7 @@
 -- Products in either order at each instant, and the number 0.
-use Rattle.std.proofs.Common.{◌≡◌, ◌≢◌, Bool, true, false, List, [], ◌∷◌, Option, Some, None, refl, sym, ap, subst, ◌∙◌, true≢false}
+use Rattle.std.proofs.Common.{◌≡◌, Bool, false, [], ◌∷◌, Option, Some, None, refl, sym, ap, subst, ◌∙◌, true≢false}
 use Rattle.std.specs.Prelude.{IsTrue, ◌↔◌, option_map, pos}
-use Rattle.mob_ratio.specs.Ratio.{Ratio, whole, ◌*ℚ◌}
+use Rattle.mob_ratio.specs.Ratio.{Ratio, whole}
 use Rattle.mob_ratio.specs.Order.{same}
 use Rattle.mob_ratio.proofs.Order.{same_exact, same_truth}
 use Rattle.mob_ratio.proofs.Field.{mul_comm}

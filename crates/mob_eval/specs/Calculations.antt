@@ -1,5 +1,5 @@
 -- The three operations on two numbers that temporal numbers have too.
-use Rattle.std.specs.Prelude.{List, [], ◌∷◌}
+use Rattle.std.specs.Prelude.{List}
 use Rattle.mob_ratio.specs.Ratio.{Ratio}
 use Rattle.mob_arith.specs.Operations.{sum_of, sum_parts, difference_of, difference_parts, product_of, product_parts}
 use Rattle.mob_eval.specs.declared.arithmetic.Calculation.{Calculation}

@@ -1,14 +1,12 @@
 -- What each operator gives, on numbers of any size, and which formula it passes. An operator that is not built, and a
 -- count of operands that no operator has, give NULL. No typed script has either.
-use Rattle.std.specs.Prelude.{◌≡◌, ◌≢◌, cond, Bool, true, false, not, pos, ℕ, ℤ, List, [], ◌∷◌, ◌++◌, Option, Some, None, MatchOption, option_map}
-use Rattle.mob_ratio.specs.Ratio.{Ratio, whole, ◌/ℚ◌}
-use Rattle.mob_frac.specs.Fits.{Fits}
+use Rattle.std.specs.Prelude.{◌≡◌, cond, not, ℤ, List, [], ◌∷◌, Option, None, MatchOption, option_map}
+use Rattle.mob_ratio.specs.Ratio.{Ratio, ◌/ℚ◌}
 use Rattle.mob_frac.specs.Formula.{AllFit}
 use Rattle.mob_arith.specs.Operations.{sum_of, sum_parts, difference_of, difference_parts, product_of, product_parts, both_hold, one_holds, text_of}
 use Rattle.mob_slice.specs.Operands.{FitBoth}
 use Rattle.mob_slice.specs.declared.formula.Formula.{Formula}
 use Rattle.mob_slice.specs.declared.formula.Formula.TheVariants.{F2}
-use Rattle.mob_ast.specs.declared.types.Cmp.{Cmp}
 use Rattle.mob_operators.specs.declared.operator.Op.{Op}
 use Rattle.mob_operators.specs.declared.operator.Op.TheVariants as op
 use Rattle.mob_value.specs.declared.value.Value.{Value}

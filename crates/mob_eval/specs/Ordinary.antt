@@ -1,6 +1,6 @@
 -- The ordinary operators. Each is NULL where an operand is NULL, or is no value that it takes.
-use Rattle.std.specs.Prelude.{◌≡◌, ◌↔◌, Bool, true, false, not, cond, ◌&&◌, ◌||◌, IsTrue, ◌++◌, pos, ℕ, List, Option, Some, None, option_map}
-use Rattle.mob_ratio.specs.Ratio.{Ratio, whole, ◌/ℚ◌, neg_ℚ}
+use Rattle.std.specs.Prelude.{◌≡◌, ◌↔◌, Bool, true, false, cond, ◌&&◌, ◌||◌, IsTrue, pos, List, Option, Some, None}
+use Rattle.mob_ratio.specs.Ratio.{Ratio, whole, neg_ℚ}
 use Rattle.mob_ratio.specs.Order.{same}
 use Rattle.mob_ast.specs.declared.types.Cmp.{Cmp}
 use Rattle.mob_ast.specs.declared.types.Cmp.TheVariants as cmp

@@ -1,4 +1,4 @@
-use Rattle.std.proofs.Common.{◌≡◌, ◌∙◌}
+use Rattle.std.proofs.Common.{◌∙◌}
 use Rattle.mob_slice.specs.Slices.{value_at}
 use Rattle.mob_slice.specs.Operands.{steady_value}
 use Rattle.mob_eval.proofs.Numbers.{turned_value, turned_fit, turned_fault}

@@ -1,4 +1,4 @@
-use Rattle.std.proofs.Common.{◌≡◌, ◌∙◌, sym}
+use Rattle.std.proofs.Common.{◌∙◌, sym}
 use Rattle.mob_eval.proofs.Functions.{one_list, one_function}
 use Rattle.mob_eval.proofs.comparison.same_function.Goals as goal
 

@@ -1,14 +1,11 @@
-use Rattle.std.proofs.Common.{rules, refl, None, ◌≡◌, true, false, Ok, Err, Some, ◌++◌, List, [], ◌∷◌, length, map, drop, ◌+◌, ◌<◌, arith, sym, ap, subst, ◌∙◌}
+use Rattle.std.proofs.Common.{rules, ◌≡◌, true, false, Ok, ◌++◌, [], ◌∷◌, map, drop, ◌+◌, arith, sym, ap, subst, ◌∙◌}
 use Rattle.std.proofs.lemmas.List.{drop_all}
-use Rattle.mob_typing.specs.declared.typed.TExpr.TheViews.{out-TExpr}
 use Rattle.mob_eval.specs.Views.{scene_of}
-use Rattle.mob_eval.specs.Runs.{Runs, RunsAll, stops, stop_of}
-use Rattle.mob_eval.specs.Operators.{First, Gives}
-use Rattle.mob_eval.specs.Faults.{OnFormula}
+use Rattle.mob_eval.specs.Runs.{RunsAll, stops}
 use Rattle.mob_eval.specs.Held.{held}
 use Rattle.mob_eval.specs.SoFar.{IsSoFar, trees}
 use Rattle.mob_eval.proofs.Loops.{drop_read, held_push, so_far_init, so_far_next, last_run, end_run, fault_run}
-use Rattle.mob_eval.proofs.Nodes.{node_value, node_below, node_here}
+use Rattle.mob_eval.proofs.Nodes.{node_below}
 use Rattle.mob_eval.proofs.walk.+walk.Goals as goal
 
 pub operands-loop-arg-init : goal.operands-loop-arg-init
