@@ -1,0 +1,85 @@
+//! Each operator, on the values of its operands.
+ghost use Rattle.std.specs.Prelude.{◌≡◌, IfOk, IfErr, IsErr, MatchResult, None, Some, Ok, Err};
+ghost use Rattle.mob_eval.specs.Views.{scene_of};
+ghost use Rattle.mob_eval.specs.Operators.{OfOne, OfTwo, FirstOfTwo};
+ghost use Rattle.mob_eval.specs.Faults.{OnFormula};
+ghost use Rattle.mob_eval.specs.Held.{held};
+
+use crate::arithmetic::{Calculation, calculate, division, negation, unchanged};
+use crate::comparison::test;
+use crate::held::Held;
+use crate::lifting::{join, lifted_and, lifted_not, lifted_or, lifted_test};
+use crate::logic::{conjunction, disjunction, is_null, known, negation as contrary, truth_of};
+use crate::printed::as_text;
+use crate::scene::View;
+use mob_operators::Op;
+use mob_slice::OpFault;
+use mob_value::Value;
+use std::alloc::{AllocError, Global};
+
+// A value that was made, or want of memory.
+fn made<'a>(value: Result<Value, AllocError>) -> Result<Held<'a>, AllocError>
+    ensures value { MatchResult value (λ v. IfOk result (λ h. held h ≡ v)) (λ _. IsErr result) }
+{
+    match value {
+        Ok(value) => Ok(Held::Made(value)),
+        Err(_) => Err(AllocError),
+    }
+}
+
+/// An operator on one operand.
+pub fn of_one<'a>(
+    alloc: Global,
+    view: &View<'a>,
+    op: Op,
+    operand: &Held<'a>,
+) -> Result<Held<'a>, AllocError>
+    ensures value { IfOk result (λ h. OfOne (scene_of view.now) op (held operand.now) (held h)) }
+{
+    let value = operand.get();
+    match op {
+        Op::And => Ok(Held::Made(known(conjunction(truth_of(value), None)))),
+        Op::Or => Ok(Held::Made(known(disjunction(truth_of(value), None)))),
+        Op::Not => Ok(Held::Made(known(contrary(truth_of(value))))),
+        Op::IsNull => Ok(Held::Made(Value::Bool(is_null(value)))),
+        Op::IsNotNull => Ok(Held::Made(Value::Bool(!is_null(value)))),
+        Op::Negate => Ok(Held::Made(negation(value))),
+        Op::Same => Ok(Held::Made(unchanged(value))),
+        Op::LiftedNot => made(lifted_not(alloc, value)),
+        Op::AsText => made(as_text(alloc, value, view.epoch)),
+        Op::Cast => operand.share(alloc),
+        _ => Ok(Held::Made(Value::Null)),
+    }
+}
+
+// A value, where no formula can be passed.
+fn without_formula(value: Result<Value, AllocError>) -> Result<Value, OpFault>
+    ensures value { MatchResult value (λ v. result ≡ Ok v) (λ _. result ≡ Err OpFault.NoMemory) }
+{
+    match value {
+        Ok(value) => Ok(value),
+        Err(_) => Err(OpFault::NoMemory),
+    }
+}
+
+/// An operator on two operands, or its first formula with a part that does not fit.
+pub fn of_two(alloc: Global, op: Op, left: &Value, right: &Value) -> Result<Value, OpFault>
+    ensures value { IfOk result (λ v. OfTwo op left.now right.now v) }
+    ensures fits { IfOk result (λ _. FirstOfTwo op left.now right.now None) }
+    ensures fault { IfErr result (OnFormula (λ f. FirstOfTwo op left.now right.now (Some f))) }
+{
+    match op {
+        Op::And => Ok(known(conjunction(truth_of(left), truth_of(right)))),
+        Op::Or => Ok(known(disjunction(truth_of(left), truth_of(right)))),
+        Op::Test(sign) => Ok(test(sign, left, right)),
+        Op::Add => calculate(alloc, Calculation::Sum, left, right),
+        Op::Subtract => calculate(alloc, Calculation::Difference, left, right),
+        Op::Multiply => calculate(alloc, Calculation::Product, left, right),
+        Op::Divide => division(left, right),
+        Op::Join => without_formula(join(alloc, left, right)),
+        Op::LiftedAnd => without_formula(lifted_and(alloc, left, right)),
+        Op::LiftedOr => without_formula(lifted_or(alloc, left, right)),
+        Op::Lifted(sign) => without_formula(lifted_test(alloc, sign, left, right)),
+        _ => Ok(Value::Null),
+    }
+}

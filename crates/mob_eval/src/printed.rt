@@ -1,0 +1,32 @@
+//! The printed texts of temporal values.
+ghost use Rattle.std.specs.Prelude.{◌≡◌, ◌≢◌, IfOk};
+ghost use Rattle.mob_value.specs.declared.value.Value.TheVariants.{Null, Text as TextOf};
+ghost use Rattle.mob_literal.specs.SqlText.{value_text};
+ghost use Rattle.mob_eval.specs.Operators.{printed};
+
+use mob_list::text::Text;
+use mob_literal::write_value;
+use mob_scalar::Epoch;
+use mob_value::Value;
+use std::alloc::{AllocError, Global};
+
+fn text_of(alloc: Global, value: &Value, epoch: &Epoch) -> Result<Value, AllocError>
+    requires there { value.now ≢ Null }
+    ensures text { IfOk result (λ v. v ≡ TextOf (value_text epoch.now value.now)) }
+{
+    let mut text = String::new(alloc);
+    write_value(value, epoch, &mut text)?;
+    Ok(Value::Text(Text::from_string(text)))
+}
+
+/// asText: the printed text of a temporal value.
+pub fn as_text(alloc: Global, value: &Value, epoch: &Epoch) -> Result<Value, AllocError>
+    ensures value { IfOk result (λ v. v ≡ printed epoch.now value.now) }
+{
+    match value {
+        Value::MovingBool(_) => text_of(alloc, value, epoch),
+        Value::MovingInt(_) => text_of(alloc, value, epoch),
+        Value::MovingText(_) => text_of(alloc, value, epoch),
+        _ => Ok(Value::Null),
+    }
+}
