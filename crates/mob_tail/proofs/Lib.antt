@@ -1,1 +1,2 @@
 mod RecordText
+mod Orders

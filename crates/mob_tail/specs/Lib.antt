@@ -1,2 +1,3 @@
 pub mod AnswerText
 pub mod Records
+pub mod Order

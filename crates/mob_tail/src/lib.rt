@@ -2,9 +2,12 @@
 #![tactic(auto)]
 
 mod answer;
+mod keyed;
+mod order;
 #[cfg(test)]
 mod tests;
 mod text;
 
 pub use answer::Answer;
+pub use keyed::Keyed;
 pub use text::answer_text;
