@@ -1,2 +1,3 @@
 mod RecordText
 mod Orders
+mod Seen

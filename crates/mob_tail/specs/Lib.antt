@@ -1,3 +1,5 @@
 pub mod AnswerText
 pub mod Records
 pub mod Order
+pub mod Rows
+pub mod Marks

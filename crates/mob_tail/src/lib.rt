@@ -2,6 +2,7 @@
 #![tactic(auto)]
 
 mod answer;
+mod distinct;
 mod keyed;
 mod order;
 #[cfg(test)]
