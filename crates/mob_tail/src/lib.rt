@@ -2,6 +2,7 @@
 #![tactic(auto)]
 
 mod answer;
+mod arrange;
 mod distinct;
 mod keyed;
 mod order;
