@@ -3,3 +3,5 @@ pub mod Records
 pub mod Order
 pub mod Rows
 pub mod Marks
+pub mod Each
+pub mod Answers
