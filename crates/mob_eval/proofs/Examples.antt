@@ -1,7 +1,9 @@
 -- Worked expressions, by the definition.
-use Rattle.std.proofs.Common.{◌≡◌, inl, inr, true, false, List, [], ◌∷◌, Some, None, Ok, Err, refl}
+use Rattle.std.proofs.Common.{◌≡◌, inl, inr, true, false, List, [], ◌∷◌, Some, None, Ok, Err, refl, arith}
 use Rattle.std.specs.Prelude.{pos}
 use Rattle.mob_ratio.specs.Ratio.{whole, over, ◌+ℚ◌}
+use Rattle.mob_ratio.specs.Gcd.{gcd, gcd_steps}
+use Rattle.mob_ratio.specs.Lowest.{in_lowest_terms}
 use Rattle.mob_ast.specs.declared.types.Cmp.TheVariants as cmp
 use Rattle.mob_ast.specs.declared.types.SqlType.TheVariants as sql
 use Rattle.mob_operators.specs.declared.operator.Op.{Op}
@@ -9,7 +11,8 @@ use Rattle.mob_operators.specs.declared.operator.Op.TheVariants as op
 use Rattle.mob_typing.specs.Trees.{TypedTree, typed, none, more}
 use Rattle.mob_value.specs.declared.value.Value.TheVariants.{Null, Bool as Truth, Number, Text}
 use Rattle.mob_eval.specs.Scene.{Scene}
-use Rattle.mob_eval.specs.Operators.{Gives}
+use Rattle.mob_slice.specs.declared.formula.Formula.TheVariants.{F2}
+use Rattle.mob_eval.specs.Operators.{Gives, First}
 use Rattle.mob_eval.specs.Runs.{RunsTree}
 
 -- one table with one row, (7, NULL), and the constants false, 1, 2
@@ -55,5 +58,10 @@ unlike = refl
 
 -- 1 + 2
 a_sum : Gives scene op.Add (Number (whole (pos 1)) ∷ Number (whole (pos 2)) ∷ []) (Number (whole (pos 3)))
-unfolding ◌+ℚ◌ whole over
+unfolding ◌+ℚ◌ whole over gcd gcd_steps in_lowest_terms
 a_sum = refl
+
+-- 4611686018427387903 + 1 is 2^62, which does not fit
+a_fault : First op.Add (Number (whole (pos 4611686018427387903)) ∷ Number (whole (pos 1)) ∷ []) (Some F2)
+unfolding ◌+ℚ◌ whole over gcd gcd_steps in_lowest_terms
+a_fault = (refl, λ h. omega (arith, h.0.num_fits))
