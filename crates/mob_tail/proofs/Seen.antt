@@ -11,6 +11,7 @@ use Rattle.std.proofs.lemmas.Map.Views.{list_any-from_Contains, Contains-from_an
 use Rattle.std.proofs.lemmas.List.{drop_all, map-append}
 use Rattle.indexmap.specs.IndexSet.{insert_key}
 use Rattle.mob_tail.specs.Marks.{marked}
+use Rattle.mob_tail.proofs.Reading.{drop_read}
 use Rattle.mob_tail.specs.Rows.{AreFirst}
 
 -- the texts that a vector refers to
@@ -54,9 +55,6 @@ seen_or_new {A} k keys next is_new e s = by (list_any (same_row k) keys) refl
       e ∙ ap not h,
       ap (map texts_of) (s ∙ ap (λ (b : Bool). if b then keys else keys ++ k ∷ []) h) ∙ map-append texts_of keys (k ∷ []),
     )
-
-drop_read : {X : Type 0} (xs : List X) (i : ℕ) (x : X) → i < length xs → x ≡ get_or xs i x → drop i xs ≡ x ∷ drop (i + 1) xs
-drop_read xs i x h e = rw add-one (rw (drop-cons xs i x) (ap (λ y. y ∷ drop (suc i) xs) (sym e)))
 
 module _ {X : Type 0} (all : List X) (marks : List Bool) (i : ℕ) (x : X) (before next : List X) (is_new : Bool) (lt : i < length all) (is : x ≡ get_or all i x) where
   -- the marks so far go on with what is still to come
