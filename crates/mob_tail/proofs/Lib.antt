@@ -3,3 +3,5 @@ mod Orders
 mod Reading
 mod Seen
 mod Making
+mod OneOrder
+mod OneAnswer

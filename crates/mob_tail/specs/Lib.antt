@@ -6,3 +6,4 @@ pub mod Marks
 pub mod Each
 pub mod Answers
 pub mod Evaluation
+pub mod Outcomes
