@@ -54,7 +54,6 @@ module _ {X : Type 0} (lt : X → X → Bool) (order : IsStrictWeakOrder lt) whe
       by true k later = let same : z ≡ y = let q = sym (passes p z zs k) ∙ e in cc q in subst (λ w. lt w x ≡ false) same h.0
       by false k later = later (sym (fails p z zs k) ∙ e)
 
-
   tails : (y : X) (ys zs : List X) → ((x : X) → filter (ties lt x) (y ∷ ys) ≡ filter (ties lt x) (y ∷ zs)) → (x : X) → filter (ties lt x) ys ≡ filter (ties lt x) zs
   tails y ys zs s x = by (ties lt x y) refl
     where

@@ -82,6 +82,7 @@ marked_none {X} kept xs total marks none h = sym (append-nil kept) ∙ ap (λ z.
     no_marks : (xs : List X) → marked xs [] ≡ []
     no_marks [] = refl
     no_marks (x ∷ xs) = refl
+
     by : (xs ≡ []) ⊎ (marks ≡ []) → marked xs marks ≡ []
     by (inl e) = ap (λ z. marked z marks) e
     by (inr e) = ap (λ m. marked xs m) e ∙ no_marks xs

@@ -44,19 +44,17 @@ fn falls_of(alloc: Global, keys: &[(TExpr, bool)]) -> Result<Vec<bool>, AllocErr
 }
 
 // The answer from its rows with their keys.
-fn arranged_answer(alloc: Global, select: &TypedSelect, rows: Vec<Keyed>) -> Result<Answer, AllocError>
+fn arranged_answer(
+    alloc: Global,
+    select: &TypedSelect,
+    rows: Vec<Keyed>,
+) -> Result<Answer, AllocError>
     ensures names { IfOk result (λ answer. answer.names ≡ map (λ item. item.1) (select_seen select.now).items) }
     ensures rows { IfOk result (λ answer. AreArranged (map (λ key. key.1) (select_seen select.now).keys) select.now.distinct select.now.limit rows.items answer.rows) }
 {
     let names = names_of(alloc, select.items.as_slice())?;
     let falls = falls_of(alloc, select.keys.as_slice())?;
-    let rows = arranged(
-        alloc,
-        falls.as_slice(),
-        select.distinct,
-        select.limit,
-        rows,
-    )?;
+    let rows = arranged(alloc, falls.as_slice(), select.distinct, select.limit, rows)?;
     Ok(Answer { names, rows })
 }
 

@@ -9,7 +9,7 @@ returns c =
     let at = c.loop-row.invariant in
     record {
       marked = elim c.in-None.ensures.steps [
-        inl p ↦ marked_none _ _ _ _ (inl (nil_from_length _ (sym at.counted ∙ p.1.0))) at.same
+        | inl p ↦ marked_none _ _ _ _ (inl (nil_from_length _ (sym at.counted ∙ p.1.0))) at.same
         | inr p ↦ marked_none _ _ _ _ (inr (nil_from_length _ p.1.0)) at.same
       ];
     }

@@ -12,7 +12,7 @@ loop-row-preserved c = λ rest k.
     let is : texts_of row ≡ c.row-item.result = c.in_ok-bytes_of.ensures.same ∙ c.as_slice.ensures.same in
     subst (λ m. AreFirst [] c.args.rows.now (marked c.args.rows.now (m ++ rest))) (sym c.in_ok-push.ensures.items)
     (mark_step c.args.rows.now at.marks.items at.row-index c.row-item.result (map texts_of at.seen.keys) (map texts_of c.insert.new.self.keys) c.in_ok-is_new.is_new (omega arith) c.row-item.is
-        at.invariant (subst (λ x. Taken (map texts_of at.seen.keys) x c.in_ok-is_new.is_new (map texts_of c.insert.new.self.keys)) is choice) rest k)
+    at.invariant (subst (λ x. Taken (map texts_of at.seen.keys) x c.in_ok-is_new.is_new (map texts_of c.insert.new.self.keys)) is choice) rest k)
 
 pub returns : goal.returns
 returns c = record { first = marks_end c.args.rows.now c.loop-row.marks.items c.loop-row.row-index _ (omega arith) c.loop-row.invariant }
