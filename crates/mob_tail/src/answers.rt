@@ -3,12 +3,12 @@ ghost use Rattle.std.specs.Prelude.{◌≡◌, Ok, Err, IfOk, IfErr, map};
 ghost use Rattle.mob_typing.specs.Selects.{select_seen, output_of, key_seen};
 ghost use Rattle.mob_join.specs.Query.{OnPassed};
 ghost use Rattle.mob_tail.specs.Rows.{AreArranged};
-ghost use Rattle.mob_tail.specs.Answers.{IsAnswer};
+ghost use Rattle.mob_tail.specs.Answers.{IsAnswer, Answers};
 
 use crate::arrange::arranged;
 use crate::evaluation::rows_on;
 use crate::keyed::Keyed;
-use mob_join::{Query, QueryFault};
+use mob_join::{Query, QueryFault, kept};
 use mob_list::items::Items;
 use mob_list::text::Text;
 use mob_typing::{TExpr, TypedSelect};
@@ -78,6 +78,19 @@ pub fn answer_to(
             Ok(answer) => Ok(answer),
             Err(_) => Err(QueryFault::NoMemory),
         },
+        Err(fault) => Err(fault),
+    }
+}
+
+/// What a query answers, or its first fault: that of WHERE on the tuples in order, and then that of the select list and the keys on the
+/// kept ones.
+pub fn answered(alloc: Global, query: &Query<'_>) -> Result<Answer, QueryFault>
+    ensures names { IfOk result (λ answer. answer.names ≡ map (λ item. item.1) (select_seen query.now.select.now).items) }
+    ensures rows { IfOk result (λ answer. Answers (select_seen query.now.select.now) query.now.store.now query.now.epoch.now (Ok answer.rows)) }
+    ensures fault { IfErr result (OnPassed (λ f. Answers (select_seen query.now.select.now) query.now.store.now query.now.epoch.now (Err f))) }
+{
+    match kept(alloc, query) {
+        Ok(kept) => answer_to(alloc, query, kept.as_slice()),
         Err(fault) => Err(fault),
     }
 }

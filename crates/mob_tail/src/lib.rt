@@ -14,6 +14,6 @@ mod text;
 #[cfg(test)]
 mod worked;
 
-pub use answers::{Answer, answer_to};
+pub use answers::{Answer, answer_to, answered};
 pub use keyed::Keyed;
 pub use text::answer_text;
