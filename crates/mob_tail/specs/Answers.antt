@@ -1,6 +1,5 @@
 -- What a query answers.
-use Rattle.std.specs.Prelude.{◌≡◌, ◌⊎◌, ℤ, ℕ, List, [], ◌∷◌, Bool, Result, Ok, Err, map}
-use Rattle.mob_list.specs.declared.text.Text.{Text}
+use Rattle.std.specs.Prelude.{◌≡◌, ◌⊎◌, ℤ, ℕ, List, Bool, Result, Ok, Err, map}
 use Rattle.mob_typing.specs.Trees.{TypedTree}
 use Rattle.mob_typing.specs.Selects.{TypedSelectParts}
 use Rattle.mob_value.specs.declared.value.Value.{Value}

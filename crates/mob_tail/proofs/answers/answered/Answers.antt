@@ -1,8 +1,8 @@
-use Rattle.std.proofs.Common.{inl, inr, Ok, Err}
+use Rattle.std.proofs.Common.{inl, Err}
 use Rattle.mob_typing.specs.Selects.{select_seen}
 use Rattle.mob_join.specs.Query.{IsKept}
 use Rattle.mob_join.proofs.Faults.{of_query}
-use Rattle.mob_tail.specs.Answers.{IsAnswer, Answers}
+use Rattle.mob_tail.specs.Answers.{Answers}
 use Rattle.mob_tail.proofs.answers.answered.Goals as goal
 
 pub returns-in-Err-clause-fault : goal.returns-in-Err-clause-fault

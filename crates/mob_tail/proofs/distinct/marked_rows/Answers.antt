@@ -1,5 +1,4 @@
 use Rattle.std.proofs.Common.{inl, inr, sym, ◌∙◌}
-use Rattle.std.specs.Iterator.Adapters.{zip_first, zip_second}
 use Rattle.std.proofs.lemmas.List.{nil_from_length}
 use Rattle.mob_tail.proofs.Seen.{marked_none}
 use Rattle.mob_tail.proofs.distinct.marked_rows.Goals as goal

@@ -1,4 +1,4 @@
-use Rattle.std.proofs.Common.{◌≡◌, ◌++◌, ◌∷◌, [], List, Bool, map, drop, subst, sym, ◌∙◌, arith}
+use Rattle.std.proofs.Common.{◌≡◌, ◌++◌, [], map, subst, sym, ◌∙◌, arith}
 use Rattle.mob_tail.specs.Rows.{AreFirst}
 use Rattle.mob_tail.specs.Marks.{marked}
 use Rattle.mob_tail.proofs.Seen.{texts_of, Taken, seen_or_new, mark_step, marks_end}

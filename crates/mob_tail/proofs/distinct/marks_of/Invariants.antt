@@ -1,4 +1,4 @@
-use Rattle.std.proofs.Common.{◌≡◌, ◌++◌, List, Bool, [], map, drop}
+use Rattle.std.proofs.Common.{◌++◌, List, Bool, [], map, drop}
 use Rattle.mob_tail.specs.Rows.{AreFirst}
 use Rattle.mob_tail.specs.Marks.{marked}
 use Rattle.mob_tail.proofs.Seen.{texts_of}
