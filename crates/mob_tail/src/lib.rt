@@ -1,10 +1,19 @@
 //! What a query answers, and the text in which it is written.
 #![tactic(auto)]
 
-mod answer;
+mod answers;
+mod arrange;
+mod distinct;
+mod evaluation;
+mod keyed;
+pub mod laws;
+mod order;
 #[cfg(test)]
 mod tests;
 mod text;
+#[cfg(test)]
+mod worked;
 
-pub use answer::Answer;
+pub use answers::{Answer, answer_to, answered};
+pub use keyed::Keyed;
 pub use text::answer_text;

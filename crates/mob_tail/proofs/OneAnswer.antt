@@ -1,0 +1,133 @@
+-- A query has one answer.
+use Rattle.std.proofs.Common.{◌≡◌, inl, inr, ℤ, ℕ, Bool, true, false, List, [], ◌∷◌, ◌++◌, Option, Result, Ok, Err, sym, ap, ap₂, subst, ◌∙◌, map}
+use Rattle.std.specs.Ordering.{is_lt}
+use Rattle.mob_typing.specs.Trees.{TypedTree}
+use Rattle.mob_typing.specs.Selects.{TypedSelectParts}
+use Rattle.mob_value.specs.declared.store.Store.{Store}
+use Rattle.mob_literal.specs.Fields.{field_text}
+use Rattle.mob_eval.specs.Scene.{Scene, scene}
+use Rattle.mob_eval.specs.Outcomes.{HasOneOutcome}
+use Rattle.mob_eval.specs.Runs.{Fault}
+use Rattle.mob_join.specs.Tuples.{IsOne}
+use Rattle.mob_join.specs.Query.{TupleFault, IsKept}
+use Rattle.mob_tail.specs.declared.keyed.Keyed.{Keyed}
+use Rattle.mob_tail.specs.Each.{Each}
+use Rattle.mob_tail.specs.Order.{IsOrdered, compare_rows}
+use Rattle.mob_tail.specs.Rows.{AreFirst, AreDistinct, AreArranged, limited}
+use Rattle.mob_tail.specs.Answers.{IsField, IsKey, IsRowOf, IsRow, IsAnswer, Answers}
+use Rattle.mob_tail.proofs.Orders.{rows_ranked}
+use Rattle.mob_tail.proofs.OneOrder.{one_order}
+
+module _ {X Y F : Type 0} (R : X → Result Y F → Type 0) (once : (x : X) → IsOne (R x)) where
+  one_value : (x : X) (y z : Y) → R x (Ok y) → R x (Ok z) → y ≡ z
+  one_value x y z h k = let e = once x (Ok y) (Ok z) h k in cc e
+
+  told_fault : (x : X) (y : Y) (f : F) → R x (Ok y) → R x (Err f) → ⊥
+  told_fault x y f h k = let e = once x (Ok y) (Err f) h k in absurd (cc e)
+
+  each_value : (xs : List X) (ys zs : List Y) → Each R xs (Ok ys) → Each R xs (Ok zs) → ys ≡ zs
+  each_value [] ys zs h k = h ∙ sym k
+  each_value (x ∷ xs) ys zs h k = h.2.1 ∙ ap₂ (λ a b. a ∷ b) (one_value x h.0 k.0 h.1 k.1) (each_value xs h.2.0 k.2.0 h.2.2 k.2.2) ∙ sym k.2.1
+
+  each_told : (xs : List X) (ys : List Y) (f : F) → Each R xs (Ok ys) → Each R xs (Err f) → ⊥
+  each_told [] ys f h k = k
+  each_told (x ∷ xs) ys f h (inl k) = told_fault x h.0 f h.1 k
+  each_told (x ∷ xs) ys f h (inr k) = each_told xs h.2.0 f h.2.2 k.2
+
+  each_fault_one : (xs : List X) (f g : F) → Each R xs (Err f) → Each R xs (Err g) → f ≡ g
+  each_fault_one [] f g h k = absurd h
+  each_fault_one (x ∷ xs) f g (inl h) (inl k) = let e = once x (Err f) (Err g) h k in cc e
+  each_fault_one (x ∷ xs) f g (inl h) (inr k) = absurd (told_fault x k.0 f k.1 h)
+  each_fault_one (x ∷ xs) f g (inr h) (inl k) = absurd (told_fault x h.0 g h.1 k)
+  each_fault_one (x ∷ xs) f g (inr h) (inr k) = each_fault_one xs f g h.2 k.2
+
+one_first : {X : Type 0} (before xs ks ls : List X) → AreFirst before xs ks → AreFirst before xs ls → ks ≡ ls
+one_first before [] ks ls h k = h ∙ sym k
+one_first before (x ∷ xs) ks ls (inl h) (inl k) = one_first before xs ks ls h.1 k.1
+one_first before (x ∷ xs) ks ls (inl h) (inr k) = absurd (k.0 h.0)
+one_first before (x ∷ xs) ks ls (inr h) (inl k) = absurd (h.0 k.0)
+one_first before (x ∷ xs) ks ls (inr h) (inr k) = h.1.1 ∙ ap (λ z. x ∷ z) (one_first (before ++ x ∷ []) xs h.1.0 k.1.0 h.1.2 k.1.2) ∙ sym k.1.1
+
+one_distinct : {X : Type 0} (distinct : Bool) (xs ks ls : List X) → AreDistinct distinct xs ks → AreDistinct distinct xs ls → ks ≡ ls
+one_distinct true xs ks ls h k = one_first [] xs ks ls h k
+one_distinct false xs ks ls h k = h ∙ sym k
+
+one_ordered : (falls : List Bool) (rows ys zs : List Keyed) → IsOrdered falls rows ys → IsOrdered falls rows zs → ys ≡ zs
+one_ordered falls rows ys zs h k = one_order (λ a b. is_lt (compare_rows falls a b)) (rows_ranked falls) ys zs h.sorted k.sorted (λ x. h.stable x ∙ sym (k.stable x))
+
+one_arranged : (falls : List Bool) (distinct : Bool) (limit : Option ℕ) (rows : List Keyed) (a b : List (List (List ℕ))) → AreArranged falls distinct limit rows a → AreArranged falls distinct limit rows b → a ≡ b
+one_arranged falls distinct limit rows a b h k =
+    let ordered : h.ordered ≡ k.ordered = one_ordered falls rows h.ordered k.ordered h.in_order k.in_order in
+    let there = subst (λ z. AreDistinct distinct (map (λ row. row.fields) z) h.kept) ordered h.distinct_rows in
+    let kept : h.kept ≡ k.kept = one_distinct distinct (map (λ row. row.fields) k.ordered) h.kept k.kept there k.distinct_rows in
+    h.cut ∙ ap (limited limit) kept ∙ sym k.cut
+
+module _ (one : HasOneOutcome) where
+  field_once : (s : Scene) (item : TypedTree × List ℕ) → IsOne (IsField s item)
+  field_once s item (Ok a) (Ok b) h k =
+      let same : h.0 ≡ k.0 = let v = one s item.0 (Ok h.0) (Ok k.0) h.1 k.1 in cc v in
+      ap Ok (h.2 ∙ ap (field_text s.day) same ∙ sym k.2)
+  field_once s item (Ok a) (Err g) h k = let v = one s item.0 (Ok h.0) (Err g) h.1 k in absurd (cc v)
+  field_once s item (Err f) (Ok b) h k = let v = one s item.0 (Err f) (Ok k.0) h k.1 in absurd (cc v)
+  field_once s item (Err f) (Err g) h k = let v = one s item.0 (Err f) (Err g) h k in let same : f ≡ g = cc v in ap Err same
+
+  key_once : (s : Scene) (key : TypedTree × Bool) → IsOne (IsKey s key)
+  key_once s key r q h k = one s key.0 r q h k
+
+  module _ (select : TypedSelectParts) (s : Scene) where
+    row_value : (a b : Keyed) → IsRowOf select s (Ok a) → IsRowOf select s (Ok b) → a ≡ b
+    row_value a b h k =
+        let fields : a.fields ≡ b.fields = each_value (IsField s) (field_once s) select.items a.fields b.fields h.0 k.0 in
+        let keys : a.keys ≡ b.keys = each_value (IsKey s) (key_once s) select.keys a.keys b.keys h.1 k.1 in
+        λ i. record { fields = fields i; keys = keys i }
+
+    row_told : (a : Keyed) (f : Fault) → IsRowOf select s (Ok a) → IsRowOf select s (Err f) → ⊥
+    row_told a f h (inl k) = each_told (IsField s) (field_once s) select.items a.fields f h.0 k
+    row_told a f h (inr k) = each_told (IsKey s) (key_once s) select.keys a.keys f h.1 k.2
+
+    row_fault : (f g : Fault) → IsRowOf select s (Err f) → IsRowOf select s (Err g) → f ≡ g
+    row_fault f g (inl h) (inl k) = each_fault_one (IsField s) (field_once s) select.items f g h k
+    row_fault f g (inl h) (inr k) = absurd (each_told (IsField s) (field_once s) select.items k.0 f k.1 h)
+    row_fault f g (inr h) (inl k) = absurd (each_told (IsField s) (field_once s) select.items h.0 g h.1 k)
+    row_fault f g (inr h) (inr k) = each_fault_one (IsKey s) (key_once s) select.keys f g h.2 k.2
+
+  module _ (select : TypedSelectParts) (store : Store) (day : ℤ) where
+    row_once : (tuple : List ℕ) → IsOne (IsRow select store day tuple)
+    row_once tuple (Ok a) (Ok b) h k = ap Ok (row_value select (scene store select.from tuple day) a b h k)
+    row_once tuple (Ok a) (Err g) h k = absurd (row_told select (scene store select.from tuple day) a g.1 h k.1)
+    row_once tuple (Err f) (Ok b) h k = absurd (row_told select (scene store select.from tuple day) b f.1 k h.1)
+    row_once tuple (Err f) (Err g) h k =
+        let there : f.0 ≡ g.0 = h.0 ∙ sym k.0 in
+        let fault : f.1 ≡ g.1 = row_fault select (scene store select.from tuple day) f.1 g.1 h.1 k.1 in
+        λ i. Err (there i, fault i)
+
+    answer_once : (kept : List (List ℕ)) → IsOne (IsAnswer select store day kept)
+    answer_once kept (Ok a) (Ok b) h k =
+        let rows : h.0 ≡ k.0 = each_value (IsRow select store day) row_once kept h.0 k.0 h.1 k.1 in
+        let falls = map (λ key. key.1) select.keys in
+        ap Ok (one_arranged falls select.distinct select.limit k.0 a b (subst (λ z. AreArranged falls select.distinct select.limit z a) rows h.2) k.2)
+    answer_once kept (Ok a) (Err g) h k = absurd (each_told (IsRow select store day) row_once kept h.0 g h.1 k)
+    answer_once kept (Err f) (Ok b) h k = absurd (each_told (IsRow select store day) row_once kept k.0 f k.1 h)
+    answer_once kept (Err f) (Err g) h k = ap Err (each_fault_one (IsRow select store day) row_once kept f g h k)
+
+    module _ (kept_once : IsOne (IsKept select store day)) where
+      one_kept : (a b : List (List ℕ)) → IsKept select store day (Ok a) → IsKept select store day (Ok b) → a ≡ b
+      one_kept a b h k = let e = kept_once (Ok a) (Ok b) h k in cc e
+
+      kept_told : (a : List (List ℕ)) (f : TupleFault) → IsKept select store day (Ok a) → IsKept select store day (Err f) → ⊥
+      kept_told a f h k = let e = kept_once (Ok a) (Err f) h k in absurd (cc e)
+
+      -- two outcomes on what is kept, which is one list
+      on_kept : (a b : List (List ℕ)) (r q : Result (List (List (List ℕ))) TupleFault) → IsKept select store day (Ok a) → IsKept select store day (Ok b) → IsAnswer select store day a r → IsAnswer select store day b q → r ≡ q
+      on_kept a b r q h k m n = answer_once b r q (subst (λ z. IsAnswer select store day z r) (one_kept a b h k) m) n
+
+      pub answers_once : IsOne (Answers select store day)
+      answers_once (Ok a) (Ok b) h k = on_kept h.0 k.0 (Ok a) (Ok b) h.1 k.1 h.2 k.2
+      answers_once (Ok a) (Err g) h (inl k) = absurd (kept_told h.0 g h.1 k)
+      answers_once (Ok a) (Err g) h (inr k) = on_kept h.0 k.0 (Ok a) (Err g) h.1 k.1 h.2 k.2
+      answers_once (Err f) (Ok b) (inl h) k = absurd (kept_told k.0 f k.1 h)
+      answers_once (Err f) (Ok b) (inr h) k = on_kept h.0 k.0 (Err f) (Ok b) h.1 k.1 h.2 k.2
+      answers_once (Err f) (Err g) (inl h) (inl k) = let e = kept_once (Err f) (Err g) h k in let same : f ≡ g = cc e in ap Err same
+      answers_once (Err f) (Err g) (inl h) (inr k) = absurd (kept_told k.0 f k.1 h)
+      answers_once (Err f) (Err g) (inr h) (inl k) = absurd (kept_told h.0 g h.1 k)
+      answers_once (Err f) (Err g) (inr h) (inr k) = on_kept h.0 k.0 (Err f) (Err g) h.1 k.1 h.2 k.2

@@ -1,0 +1,80 @@
+-- A list has one stable order.
+use Rattle.std.proofs.Common.{◌≡◌, ℕ, suc, ◌+◌, ◌<◌, Bool, true, false, List, [], ◌∷◌, length, get_or, refl, sym, ap, subst, ◌∙◌, arith}
+use Rattle.std.specs.List.{filter}
+use Rattle.std.specs.List.Sorted.{IsSortedBy, ties}
+use Rattle.std.specs.Cmp.{IsStrictWeakOrder}
+use Rattle.std.proofs.lemmas.List.Sorted.{sorted_far}
+
+module _ {X : Type 0} (lt : X → X → Bool) (order : IsStrictWeakOrder lt) where
+  -- no entry is less than x
+  abbrev Leads : X → List X → Type 0
+  Leads x [] = Unit {0}
+  Leads x (y ∷ ys) = (lt y x ≡ false) × Leads x ys
+
+  -- no entry is less than one before it
+  abbrev Rises : List X → Type 0
+  Rises [] = Unit {0}
+  Rises (x ∷ xs) = Leads x xs × Rises xs
+
+  leads_each : (x : X) (ys : List X) → ((k : ℕ) (d : X) → k < length ys → lt (get_or ys k d) x ≡ false) → Leads x ys
+  leads_each x [] f = tt
+  leads_each x (y ∷ ys) f = (f 0 y (omega arith), leads_each x ys (λ k d h. f (suc k) d (omega arith)))
+
+  rises_sorted : (xs : List X) → IsSortedBy lt xs → Rises xs
+  rises_sorted [] up = tt
+  rises_sorted (x ∷ xs) up = (
+    leads_each x xs (λ k d h. sorted_far lt order (x ∷ xs) up 0 (suc k) d (omega arith) (omega arith)),
+    rises_sorted xs (λ k d low h.
+        let next : suc k + 1 ≡ suc (k + 1) = omega arith in
+        subst (λ n. lt (get_or (x ∷ xs) n d) (get_or (x ∷ xs) (suc k) d) ≡ false) next (up (suc k) d (omega arith) (omega arith))),
+  )
+
+  self : (x : X) → lt x x ≡ false
+  self x = by (lt x x) refl
+    where
+      by : (b : Bool) → lt x x ≡ b → lt x x ≡ false
+      by true h = order.one_way x x h
+      by false h = h
+
+  tie : (x y : X) → lt x y ≡ false → lt y x ≡ false → ties lt x y ≡ true
+  tie x y h k = rw (h, k) refl
+
+  passes : (p : X → Bool) (x : X) (xs : List X) → p x ≡ true → filter p (x ∷ xs) ≡ x ∷ filter p xs
+  passes p x xs h = rw h refl
+
+  fails : (p : X → Bool) (x : X) (xs : List X) → p x ≡ false → filter p (x ∷ xs) ≡ filter p xs
+  fails p x xs h = rw h refl
+
+  -- the first that passes a test is not less than what leads the list
+  led : (x y : X) (p : X → Bool) (zs rest : List X) → Leads x zs → filter p zs ≡ y ∷ rest → lt y x ≡ false
+  led x y p [] rest h e = absurd (cc e)
+  led x y p (z ∷ zs) rest h e = by (p z) refl (λ k. led x y p zs rest h.1 k)
+    where
+      by : (b : Bool) → p z ≡ b → (filter p zs ≡ y ∷ rest → lt y x ≡ false) → lt y x ≡ false
+      by true k later = let same : z ≡ y = let q = sym (passes p z zs k) ∙ e in cc q in subst (λ w. lt w x ≡ false) same h.0
+      by false k later = later (sym (fails p z zs k) ∙ e)
+
+  tails : (y : X) (ys zs : List X) → ((x : X) → filter (ties lt x) (y ∷ ys) ≡ filter (ties lt x) (y ∷ zs)) → (x : X) → filter (ties lt x) ys ≡ filter (ties lt x) zs
+  tails y ys zs s x = by (ties lt x y) refl
+    where
+      by : (b : Bool) → ties lt x y ≡ b → filter (ties lt x) ys ≡ filter (ties lt x) zs
+      by true k = let q = sym (passes (ties lt x) y ys k) ∙ s x ∙ passes (ties lt x) y zs k in cc q
+      by false k = sym (fails (ties lt x) y ys k) ∙ s x ∙ fails (ties lt x) y zs k
+
+  one_rise : (ys zs : List X) → Rises ys → Rises zs → ((x : X) → filter (ties lt x) ys ≡ filter (ties lt x) zs) → ys ≡ zs
+  one_rise [] [] a b s = refl
+  one_rise [] (z ∷ zs) a b s = let q = s z ∙ passes (ties lt z) z zs (tie z z (self z) (self z)) in absurd (cc q)
+  one_rise (y ∷ ys) [] a b s = let q = sym (s y) ∙ passes (ties lt y) y ys (tie y y (self y) (self y)) in absurd (cc q)
+  one_rise (y ∷ ys) (z ∷ zs) a b s =
+      let own_y = passes (ties lt y) y ys (tie y y (self y) (self y)) in
+      let own_z = passes (ties lt z) z zs (tie z z (self z) (self z)) in
+      let up : lt y z ≡ false = led z y (ties lt y) (z ∷ zs) (filter (ties lt y) ys) (self z, b.0) (sym (s y) ∙ own_y) in
+      let down : lt z y ≡ false = led y z (ties lt z) (y ∷ ys) (filter (ties lt z) zs) (self y, a.0) (s z ∙ own_z) in
+      let both = sym own_y ∙ s y ∙ passes (ties lt y) z zs (tie y z up down) in
+      let same : y ≡ z = cc both in
+      let here : (x : X) → filter (ties lt x) (y ∷ ys) ≡ filter (ties lt x) (y ∷ zs) = λ x. s x ∙ ap (λ w. filter (ties lt x) (w ∷ zs)) (sym same) in
+      let rest : ys ≡ zs = one_rise ys zs a.1 b.1 (tails y ys zs here) in
+      λ i. same i ∷ rest i
+
+  pub one_order : (ys zs : List X) → IsSortedBy lt ys → IsSortedBy lt zs → ((x : X) → filter (ties lt x) ys ≡ filter (ties lt x) zs) → ys ≡ zs
+  one_order ys zs a b s = one_rise ys zs (rises_sorted ys a) (rises_sorted zs b) s
