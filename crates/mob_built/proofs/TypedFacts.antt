@@ -12,34 +12,38 @@ use Rattle.mob_typing.proofs.TreeFacts.{tree_is, typed_is as typed_level}
 use Rattle.mob_built.specs.Least.{earlier, least}
 use Rattle.mob_built.specs.Types.{in_node, in_tree, in_trees}
 use Rattle.mob_built.specs.Operators.{own_place, in_typed, in_all, arg_types}
-use Rattle.mob_built.proofs.Places.{earlier_none, earlier_again, least_append}
+use Rattle.mob_built.proofs.Places.{least_append}
 
 pub typed_is : (t : TExpr) → type_of (typed_of t) ≡ (out-TExpr t).ty
 typed_is t = ap type_of (typed_level t)
 
--- the places of an expression and of its arguments
-pub in_tree_is : (e : Expr) → in_tree (tree_of e) ≡ in_node (out-Expr e).node ++ in_trees (trees_of (out-Expr e).args.items)
+in_trees_is : (es : List Expr) → in_trees (trees_of es) ≡ flat_map (λ e. in_tree (tree_of e)) es
 unfolding in_tree
-in_tree_is e = ap in_tree (tree_is e)
+in_trees_is [] = refl
+in_trees_is (e ∷ es) = ap (λ ps. in_tree (tree_of e) ++ ps) (in_trees_is es)
 
-pub in_trees_more : (e : Expr) (es : List Expr) → least (in_trees (trees_of (e ∷ es))) ≡ earlier (least (in_tree (tree_of e))) (least (in_trees (trees_of es)))
+-- the places of an expression: in its node and in its arguments
+pub in_tree_is : (e : Expr) → least (in_tree (tree_of e)) ≡ earlier (least (in_node (out-Expr e).node)) (least (flat_map (λ x. in_tree (tree_of x)) (out-Expr e).args.items))
 unfolding in_tree
-in_trees_more e es = least_append (in_tree (tree_of e)) (in_trees (trees_of es))
-
-pub in_trees_none : least (in_trees (trees_of [])) ≡ least []
-unfolding in_tree
-in_trees_none = refl
+in_tree_is e = ap (λ t. least (in_tree t)) (tree_is e) ∙ ap (λ ps. least (in_node (out-Expr e).node ++ ps)) (in_trees_is (out-Expr e).args.items)
+    ∙ least_append (in_node (out-Expr e).node) (flat_map (λ x. in_tree (tree_of x)) (out-Expr e).args.items)
 
 pub types_are : (ts : List TExpr) → arg_types (typed_trees (map typed_of ts)) ≡ map (λ e. type_of (typed_of e)) ts
 types_are [] = refl
 types_are (t ∷ ts) = ap (λ xs. type_of (typed_of t) ∷ xs) (types_are ts)
 
-pub in_typed_is : (e : TExpr) → in_typed (typed_of e)
-    ≡ own_place (out-TExpr e).op (out-TExpr e).ty (out-TExpr e).place (map (λ x. type_of (typed_of x)) (out-TExpr e).args.items) ++ in_all (typed_trees (map typed_of (out-TExpr e).args.items))
+in_all_is : (es : List TExpr) → in_all (typed_trees (map typed_of es)) ≡ flat_map (λ e. in_typed (typed_of e)) es
 unfolding in_typed
-in_typed_is e = ap in_typed (typed_level e)
-    ∙ ap (λ ts. own_place (out-TExpr e).op (out-TExpr e).ty (out-TExpr e).place ts ++ in_all (typed_trees (map typed_of (out-TExpr e).args.items))) (types_are (out-TExpr e).args.items)
+in_all_is [] = refl
+in_all_is (e ∷ es) = ap (λ ps. in_typed (typed_of e) ++ ps) (in_all_is es)
 
-pub in_all_more : (e : TExpr) (es : List TExpr) → least (in_all (typed_trees (map typed_of (e ∷ es)))) ≡ earlier (least (in_typed (typed_of e))) (least (in_all (typed_trees (map typed_of es))))
+-- the place of an operator, where it is not built
+abbrev pub own : TExpr → List ℕ
+own e = own_place (out-TExpr e).op (out-TExpr e).ty (out-TExpr e).place (map (λ x. type_of (typed_of x)) (out-TExpr e).args.items)
+
+-- the places of a typed expression: its own and those of its arguments
+pub in_typed_is : (e : TExpr) → least (in_typed (typed_of e)) ≡ earlier (least (own e)) (least (flat_map (λ x. in_typed (typed_of x)) (out-TExpr e).args.items))
 unfolding in_typed
-in_all_more e es = least_append (in_typed (typed_of e)) (in_all (typed_trees (map typed_of es)))
+in_typed_is e = ap (λ t. least (in_typed t)) (typed_level e)
+    ∙ ap (λ ts. least (own_place (out-TExpr e).op (out-TExpr e).ty (out-TExpr e).place ts ++ in_all (typed_trees (map typed_of (out-TExpr e).args.items)))) (types_are (out-TExpr e).args.items)
+    ∙ ap (λ ps. least (own e ++ ps)) (in_all_is (out-TExpr e).args.items) ∙ least_append (own e) (flat_map (λ x. in_typed (typed_of x)) (out-TExpr e).args.items)

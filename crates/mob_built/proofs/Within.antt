@@ -1,7 +1,12 @@
 -- Tokens in order lie within their text.
 use Rattle.std.proofs.Common.{◌≡◌, ◌≤◌, ◌<◌, arith, ℕ, suc, zero, List, [], ◌∷◌, length, get_or}
 use Rattle.mob_chars.specs.declared.token.Token.{Token}
+use Rattle.mob_chars.specs.declared.token.TokenKind.TheVariants.{Word}
 use Rattle.mob_chars.specs.Layout.{InOrder}
+
+-- what stands past the end of a list of tokens
+abbrev pub no_token : Token
+no_token = record { kind = Word; from = 0; to = 0 }
 
 pub ends_later : (p e : ℕ) (ts : List Token) → InOrder p e ts → p ≤ e
 ends_later p e [] order = order

@@ -2,7 +2,6 @@
 ghost use Rattle.mob_built.specs.Least.{LeastIsFirst};
 
 /// The least of some places is one of them, and none of them is before it.
-#[tactic(auto, using(crate::proofs::Places::least_is_first))]
 pub fn least_is_first()
     ensures first { LeastIsFirst }
 {}
