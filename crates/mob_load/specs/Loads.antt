@@ -12,7 +12,7 @@ use Rattle.mob_outside.specs.Faults.{Rose}
 use Rattle.mob_outside.specs.Told.{Contents, file_of}
 use Rattle.mob_typing.specs.declared.typed.ConstText.{ConstText}
 use Rattle.mob_typing.specs.Names.{ColumnList}
-use Rattle.mob_typing.specs.Statements.{ScriptOut}
+use Rattle.mob_typing.specs.Statements.{ScriptOut, StatementOut, rows_from}
 use Rattle.mob_load.specs.Checks.{CheckParts, literal, table, room, file, checks_of}
 use Rattle.mob_load.specs.declared.loading.Loading.{Loading}
 use Rattle.mob_load.specs.declared.program.Program.{Program}
@@ -145,6 +145,11 @@ Gives (Err (TableRefused name k rec field)) after says = says (Err (table_refuse
 Gives (Err (ReadFault name)) after says = Unit {0}
 Gives (Err OutOfMemory) after says = Unit {0}
 
+-- no file could not be read
+abbrev pub IsNoFault : LoadEnd → Type 0
+IsNoFault (ReadFault name) = ⊥
+IsNoFault _ = Unit {0}
+
 -- the file that could not be read is that of this check
 abbrev pub IsFaultAt : CheckParts → LoadEnd → Type 0
 IsFaultAt c (ReadFault name) = IsFile c name
@@ -163,8 +168,35 @@ names_of _ = []
 abbrev pub names_in : List CheckParts → List (List ℕ)
 names_in cs = flat_map names_of cs
 
+-- why the checks ended: at the first that fails; or by a fault at a file, before which all pass; want of memory is free
+abbrev pub StopsAt : Filling → ℤ → Contents → List CheckParts → LoadEnd → Type 0
+StopsAt fills day files cs (Refused e) = Loads fills day files cs nothing_loaded (Err (refused e))
+StopsAt fills day files cs (TableRefused name k rec field) = Loads fills day files cs nothing_loaded (Err (table_refused name k rec field))
+StopsAt fills day files cs (ReadFault name) = Reaches fills day files cs nothing_loaded name
+StopsAt fills day files cs OutOfMemory = Unit {0}
+
 -- What a script reads before it runs: the values of its literals and the rows of its files, each in written order; or why it
 -- is refused first, in the script or in a file, or the first file that is not there.
 abbrev pub LoadsScript : Filling → ℤ → Contents → ScriptOut → Result Program Halt → Type 0
 LoadsScript fills day files out (Ok p) = (l : Loaded) × Loads fills day files (checks_of out) nothing_loaded (Ok l) × (p ≡ record { values = l.values; files = l.files })
 LoadsScript fills day files out (Err h) = Loads fills day files (checks_of out) nothing_loaded (Err h)
+
+-- the program's answer is what a script reads or its first refusal, or memory was wanted
+abbrev pub IsOutcome : Filling → ℤ → Contents → ScriptOut → Result Program LoadEnd → Type 0
+IsOutcome fills day files out (Ok p) = LoadsScript fills day files out (Ok p)
+IsOutcome fills day files out (Err (Refused e)) = LoadsScript fills day files out (Err (refused e))
+IsOutcome fills day files out (Err (TableRefused name k rec field)) = LoadsScript fills day files out (Err (table_refused name k rec field))
+IsOutcome fills day files out (Err (ReadFault name)) = ⊥
+IsOutcome fills day files out (Err OutOfMemory) = Unit {0}
+
+-- the names of the files of the COPY statements, in order
+abbrev pub copied_file : StatementOut → List (List ℕ)
+copied_file (rows_from t name) = name ∷ []
+copied_file _ = []
+
+abbrev pub copied_files : List StatementOut → List (List ℕ)
+copied_files ss = flat_map copied_file ss
+
+-- the value of a literal is what its text says as one of its type
+abbrev pub HasValue : ℤ → ConstText → Value → Type 0
+HasValue day c v = SaysAs c.ty day c.text (Ok v)
