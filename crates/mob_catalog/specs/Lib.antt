@@ -1,0 +1,6 @@
+pub mod Catalogue
+pub mod Constants
+pub mod Faults
+pub mod Fields
+pub mod FirstFault
+pub mod TableFile
