@@ -1,3 +1,4 @@
 pub mod Asked
 pub mod Fronts
+pub mod Narrow
 pub mod Steps

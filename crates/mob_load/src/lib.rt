@@ -3,14 +3,11 @@
 
 mod check;
 mod file;
-
 mod loading;
 mod order;
 mod passing;
 mod program;
 mod script;
-mod table;
 
 pub use script::load;
 pub use program::{LoadEnd, Program};
-pub use table::{LoadFault, Tables};

@@ -1,9 +1,11 @@
 // One check: a literal, a new table, a row of an INSERT, or a file.
-ghost use Rattle.std.specs.Prelude.{◌≡◌, ◌+◌, ◌≤◌, IfErr, IfOk, IfSome, OnOk, map, option_map, slice_get, slice_index, slice_set};
+ghost use Rattle.std.specs.Prelude.{◌≡◌, ◌+◌, ◌≤◌, IfErr, IfOk, IfSome, OnOk, length, map, option_map, slice_get, slice_index, slice_set, Some};
 ghost use Rattle.mob_outside.specs.Told.{AsksFor, KeepsFiles, MayAskFor, file_of};
+ghost use Rattle.mob_catalog.specs.Faults.{OnRefused};
+ghost use Rattle.mob_catalog.specs.TableFile.{FileFails, IsTable};
 ghost use Rattle.mob_load.specs.Checks.{check_seen, file};
 ghost use Rattle.mob_load.specs.Fronts.{AsksForAll, AsksForSome};
-ghost use Rattle.mob_load.specs.Loads.{Fills, Gives, HasFaultCause, IsFaultAt, IsNoFault, Passes, Pours, Reads, columns_or_none, literal_kind, loaded_of, names_of, one_row, with_file, with_table};
+ghost use Rattle.mob_load.specs.Loads.{Gives, HasFaultCause, HasNarrow, IsFaultAt, IsNarrow, IsNoFault, Passes, Pours, Reads, columns_or_none, literal_kind, loaded_of, names_of, one_row, with_file, with_table};
 ghost use Rattle.mob_load.specs.declared.program.LoadEnd.TheVariants.{NoMemory};
 ghost use Rattle.mob_scalar.specs.declared.fault.ReadText.TheVariants.{NoMemory as OutOfMemory};
 
@@ -11,7 +13,7 @@ use crate::check::Check;
 use crate::file::read_file;
 use crate::loading::Loading;
 use crate::program::LoadEnd;
-use crate::table::{LoadFault, Tables};
+use mob_catalog::{LoadFault, read_table};
 use mob_ast::{Kind, Refusal, SqlType};
 use mob_list::items::Items;
 use mob_list::text::Text;
@@ -55,6 +57,7 @@ fn read_literal(
 ) -> Result<(), LoadEnd>
     ensures read { Gives result (loaded_of loading.new) (Reads epoch.now constant.now (loaded_of loading.old)) }
     ensures no_fault { IfErr result IsNoFault }
+    ensures tables { OnOk result ((loaded_of loading.new).tables ≡ (loaded_of loading.old).tables) }
 {
     match read_value(alloc, constant.ty, constant.text.as_str(), epoch) {
         Ok(value) => {
@@ -113,6 +116,7 @@ fn take_row(
 ) -> Result<(), LoadEnd>
     ensures row { Gives result (loaded_of loading.new) (λ r. r ≡ one_row table statement place (loaded_of loading.old)) }
     ensures no_fault { IfErr result IsNoFault }
+    ensures tables { OnOk result ((loaded_of loading.new).tables ≡ (loaded_of loading.old).tables) }
 {
     if rows_at(&loading.rows, table) >= GREATEST_ROWS {
         return Err(LoadEnd::Refused(Refusal {
@@ -138,20 +142,22 @@ fn columns_at<'a>(
 }
 
 // The rows of a file. A table that is not there has no columns; no statement names one.
-fn fill<T: Tables>(
+fn fill(
     alloc: Global,
     bytes: &[u8],
     columns: Option<&[(Text, SqlType)]>,
     epoch: &Epoch,
     room: u32,
 ) -> Result<Items<Items<Value>>, LoadFault>
-    ensures filled { Fills (T.fills (columns_or_none (option_map (λ c. c.now) columns.entry)) epoch.now room bytes.now) result }
+    requires narrow { length (columns_or_none (option_map (λ c. c.now) columns)) ≤ 64 }
+    ensures table { IfOk result (IsTable (columns_or_none (option_map (λ c. c.now) columns.entry)) epoch.now room bytes.now) }
+    ensures first_fault { IfErr result (OnRefused (FileFails (columns_or_none (option_map (λ c. c.now) columns.entry)) epoch.now room bytes.now)) }
 {
     match columns {
-        Some(columns) => T::read(alloc, bytes, columns, epoch, room),
+        Some(columns) => read_table(alloc, bytes, columns, epoch, room),
         None => {
             let none: Vec<(Text, SqlType)> = Vec::new(alloc);
-            T::read(alloc, bytes, &none, epoch, room)
+            read_table(alloc, bytes, &none, epoch, room)
         }
     }
 }
@@ -171,7 +177,7 @@ fn put_rows(
 }
 
 // Makes rows of the bytes of a file.
-fn pour<T: Tables>(
+fn pour(
     alloc: Global,
     loading: &mut Loading<'_>,
     table: u32,
@@ -179,12 +185,14 @@ fn pour<T: Tables>(
     bytes: &[u8],
     epoch: &Epoch,
 ) -> Result<(), LoadEnd>
-    ensures poured { Gives result (loaded_of loading.new) (Pours T.fills epoch.now table name.now (loaded_of loading.old) (Some bytes.now)) }
+    requires narrow { HasNarrow (loaded_of loading.old).tables }
+    ensures poured { Gives result (loaded_of loading.new) (Pours epoch.now table name.now (loaded_of loading.old) (Some bytes.now)) }
     ensures no_fault { IfErr result IsNoFault }
+    ensures tables { OnOk result ((loaded_of loading.new).tables ≡ (loaded_of loading.old).tables) }
 {
     let room = GREATEST_ROWS.saturating_sub(rows_at(&loading.rows, table));
     let columns = columns_at(&loading.tables, table);
-    match fill::<T>(alloc, bytes, columns, epoch, room) {
+    match fill(alloc, bytes, columns, epoch, room) {
         Ok(rows) => put_rows(loading, table, rows),
         Err(LoadFault::Refused { kind, rec, field }) => Err(LoadEnd::TableRefused {
             file: name.copy(alloc)?,
@@ -197,7 +205,7 @@ fn pour<T: Tables>(
 }
 
 // Loads a file.
-fn load_file<F: Files, T: Tables>(
+fn load_file<F: Files>(
     alloc: Global,
     loading: &mut Loading<'_>,
     files: &mut F,
@@ -205,8 +213,10 @@ fn load_file<F: Files, T: Tables>(
     name: &Text,
     epoch: &Epoch,
 ) -> Result<(), LoadEnd>
-    ensures poured { IfSome (F.files files.old) (λ m. Gives result (loaded_of loading.new) (Pours T.fills epoch.now table name.now (loaded_of loading.old) (file_of name.now m))) }
+    requires narrow { HasNarrow (loaded_of loading.old).tables }
+    ensures poured { IfSome (F.files files.old) (λ m. Gives result (loaded_of loading.new) (Pours epoch.now table name.now (loaded_of loading.old) (file_of name.now m))) }
     ensures fault { IfErr result (IsFaultAt (file table name.now)) }
+    ensures tables { OnOk result ((loaded_of loading.new).tables ≡ (loaded_of loading.old).tables) }
     ensures cause { IfErr result (HasFaultCause (F.faults files.old) (F.faults files.new)) }
     ensures files { KeepsFiles (F.files files.old) (F.files files.new) }
     ensures asked { OnOk result (AsksFor name.now (F.asked files.old) (F.asked files.new)) }
@@ -218,19 +228,22 @@ fn load_file<F: Files, T: Tables>(
             file: name.copy(alloc)?,
         });
     };
-    pour::<T>(alloc, loading, table, name, &bytes, epoch)
+    pour(alloc, loading, table, name, &bytes, epoch)
 }
 
 /// One check, and what was read so far. A script is refused at the first check that fails.
-pub fn pass<'a, F: Files, T: Tables>(
+pub fn pass<'a, F: Files>(
     alloc: Global,
     check: Check<'a>,
     loading: &mut Loading<'a>,
     files: &mut F,
     epoch: &Epoch,
 ) -> Result<(), LoadEnd>
-    ensures passed { IfSome (F.files files.old) (λ m. Gives result (loaded_of loading.new) (Passes T.fills epoch.now m (check_seen check.entry) (loaded_of loading.old))) }
+    requires narrow { IsNarrow (check_seen check) }
+    requires tables { HasNarrow (loaded_of loading.old).tables }
+    ensures passed { IfSome (F.files files.old) (λ m. Gives result (loaded_of loading.new) (Passes epoch.now m (check_seen check.entry) (loaded_of loading.old))) }
     ensures fault { IfErr result (IsFaultAt (check_seen check.entry)) }
+    ensures narrow { OnOk result (HasNarrow (loaded_of loading.new).tables) }
     ensures cause { IfErr result (HasFaultCause (F.faults files.old) (F.faults files.new)) }
     ensures files { KeepsFiles (F.files files.old) (F.files files.new) }
     ensures asked { OnOk result (AsksForAll (names_of (check_seen check.entry)) (F.asked files.old) (F.asked files.new)) }
@@ -246,7 +259,7 @@ pub fn pass<'a, F: Files, T: Tables>(
             place,
         } => take_row(loading, table, statement, place),
         Check::File { table, name } => {
-            load_file::<F, T>(alloc, loading, files, table, name, epoch)
+            load_file(alloc, loading, files, table, name, epoch)
         }
     }
 }

@@ -11,5 +11,5 @@ returns-clause-poured g c =
     let read = rw c.in-Some.is at c.in_ok-bytes.ensures.bytes in
     let named = subst (λ (n : List ℕ). IfSome told (λ m. IsFront n m c.in-Some.bytes.items)) c.as_str.ensures.same read in
     let front = subst (λ (b : List ℕ). IfSome told (λ m. IsFront c.args.name.now m b)) (sym c.deref.ensures.value) named in
-    file_poured g.T.Tables.fills g.met.T.Tables.front c.args.epoch.now c.args.table c.args.name.now c.deref.result.now (loaded_of c.args.loading.now) told c.pour.result (loaded_of c.pour.new.loading)
+    file_poured c.args.epoch.now c.args.table c.args.name.now c.deref.result.now (loaded_of c.args.loading.now) told c.pour.result (loaded_of c.pour.new.loading)
     front c.pour.ensures.poured
