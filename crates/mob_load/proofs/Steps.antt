@@ -4,6 +4,7 @@ use Rattle.std.specs.Prelude.{IfSome}
 use Rattle.std.proofs.lemmas.List.{append-nil}
 use Rattle.mob_ast.specs.declared.refusal.Kind.{Kind}
 use Rattle.mob_value.specs.declared.value.Value.{Value}
+use Rattle.mob_outside.specs.Faults.{Rose}
 use Rattle.mob_outside.specs.Told.{Contents, file_of, AsksFor, KeepsFiles, KeepsNames, MayAskFor}
 use Rattle.mob_typing.specs.Names.{ColumnList}
 use Rattle.mob_typing.specs.Statements.{ScriptOut}
@@ -13,7 +14,7 @@ use Rattle.mob_load.specs.Fronts.{AsksForAll, AsksForSome, IsFront}
 use Rattle.mob_catalog.specs.Faults.{wrong}
 use Rattle.mob_catalog.specs.TableFile.{file_limit, FileFails}
 use Rattle.mob_load.proofs.Fronts.{table_front, fails_front}
-use Rattle.mob_load.specs.Loads.{Gives, Goes, Halt, HasFaultCause, refused, table_refused, missing, IsFaultAt, IsFile, Loaded, Loads, LoadsScript, Passes, Pours, Reaches, StopsAt, columns_at, greatest_rows, rows_at, nothing_loaded}
+use Rattle.mob_load.specs.Loads.{Gives, Goes, Halt, HasFaultCause, IsOutcome, refused, table_refused, missing, IsFaultAt, IsFile, Loaded, Loads, LoadsScript, Passes, Pours, Reaches, StopsAt, columns_at, greatest_rows, rows_at, nothing_loaded}
 use Rattle.mob_load.specs.declared.program.LoadEnd.{LoadEnd}
 use Rattle.mob_load.specs.declared.program.LoadEnd.TheVariants.{Refused, TableRefused, ReadFault, NoMemory}
 
@@ -127,3 +128,12 @@ program_loaded day (Some m) cs out l p same is loads = (l, subst (λ (x : List C
 pub script_stops : (day : ℤ) (told : Option Contents) (cs : List CheckParts) (out : ScriptOut) (e : LoadEnd) → cs ≡ checks_of out
     → IfSome told (λ m. StopsAt day m cs e) → IfSome told (λ m. StopsAt day m (checks_of out) e)
 script_stops day told cs out e same stops = subst (λ (x : List CheckParts). IfSome told (λ m. StopsAt day m x e)) same stops
+
+-- where no count rose, the answer is what loading gives
+pub stopped_outcome : (day : ℤ) (told : Option Contents) (out : ScriptOut) (e : LoadEnd) (before now : ℕ) → (Rose before now → ⊥) → HasFaultCause before now e
+    → IfSome told (λ m. StopsAt day m (checks_of out) e) → IfSome told (λ m. IsOutcome day m out (Err e))
+stopped_outcome day None out e before now steady cause stops = tt
+stopped_outcome day (Some m) out (Refused e) before now steady cause stops = stops
+stopped_outcome day (Some m) out (TableRefused name k rec field) before now steady cause stops = stops
+stopped_outcome day (Some m) out (ReadFault name) before now steady cause stops = absurd (steady cause)
+stopped_outcome day (Some m) out NoMemory before now steady cause stops = tt

@@ -1,6 +1,6 @@
 -- What a script reads before it runs, in written order; the first check that fails decides.
 use Rattle.std.specs.Prelude.{◌≡◌, ◌≢◌, ◌≤◌, ◌⊎◌, ◌+◌, ◌-◌, ℤ, ℕ, List, [], ◌∷◌, ◌++◌, length, map, nat_lt, slice_get, slice_index, slice_set, Option, Some, None, Result, Ok, Err, if◌then◌else◌}
-use Rattle.std.specs.List.{flat_map}
+use Rattle.std.specs.List.{flat_map, AllZip}
 use Rattle.mob_ast.specs.declared.refusal.Kind.{Kind}
 use Rattle.mob_ast.specs.declared.refusal.Kind.TheVariants as kind
 use Rattle.mob_ast.specs.declared.refusal.Refusal.{Refusal}
@@ -201,3 +201,19 @@ copied_files ss = flat_map copied_file ss
 -- the value of a literal is what its text says as one of its type
 abbrev pub HasValue : ℤ → ConstText → Value → Type 0
 HasValue day c v = SaysAs c.ty day c.text (Ok v)
+
+-- the literals among checks
+abbrev pub literal_of : CheckParts → List ConstText
+literal_of (literal c) = c ∷ []
+literal_of _ = []
+
+abbrev pub literals_in : List CheckParts → List ConstText
+literals_in cs = flat_map literal_of cs
+
+-- each literal of a script is looked at once, in written order
+abbrev pub LooksAtLiterals : Type 0
+LooksAtLiterals = (out : ScriptOut) → literals_in (checks_of out) ≡ out.consts
+
+-- the values of a program are those of the script's literals, one by one
+abbrev pub ProgramHasValues : Type 0
+ProgramHasValues = (day : ℤ) (files : Contents) (out : ScriptOut) (p : Program) → LoadsScript day files out (Ok p) → AllZip (HasValue day) out.consts p.values

@@ -3,6 +3,7 @@
 
 mod check;
 mod file;
+pub mod laws;
 mod loading;
 mod order;
 mod passing;

@@ -5,7 +5,7 @@ ghost use Rattle.mob_outside.specs.Told.{KeepsFiles};
 ghost use Rattle.mob_typing.specs.Statements.{script_seen};
 ghost use Rattle.mob_load.specs.Fronts.{AsksForAll, AsksForSome};
 ghost use Rattle.mob_load.specs.Checks.{check_seen, checks_of};
-ghost use Rattle.mob_load.specs.Loads.{AreNarrow, HasFaultCause, IsTyped, Loads, LoadsScript, StopsAt, copied_files, loaded_of, names_in, nothing_loaded};
+ghost use Rattle.mob_load.specs.Loads.{AreNarrow, HasFaultCause, IsOutcome, IsTyped, Loads, LoadsScript, StopsAt, copied_files, loaded_of, names_in, nothing_loaded};
 
 use crate::check::Check;
 use crate::loading::Loading;
@@ -81,6 +81,7 @@ pub fn load<F: Files>(
     ensures loaded { IfOk result (λ p. IfSome (F.files files.old) (λ m. LoadsScript epoch.now m (script_seen typed.now) (Ok p))) }
     ensures stopped { IfErr result (λ e. IfSome (F.files files.old) (λ m. StopsAt epoch.now m (checks_of (script_seen typed.now)) e)) }
     ensures cause { IfErr result (HasFaultCause (F.faults files.old) (F.faults files.new)) }
+    ensures complete { (Rose (F.faults files.old) (F.faults files.new) → ⊥) → IfSome (F.files files.old) (λ m. IsOutcome epoch.now m (script_seen typed.now) result) }
     ensures asked { OnOk result (AsksForAll (copied_files (script_seen typed.now).statements) (F.asked files.old) (F.asked files.new)) }
     ensures some { AsksForSome (copied_files (script_seen typed.now).statements) (F.asked files.old) (F.asked files.new) }
     ensures files { KeepsFiles (F.files files.old) (F.files files.new) }
