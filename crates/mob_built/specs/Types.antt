@@ -7,6 +7,7 @@ use Rattle.mob_ast.specs.declared.types.TypeWord.{TypeWord}
 use Rattle.mob_ast.specs.declared.expression.Node.{Node}
 use Rattle.mob_ast.specs.declared.expression.Node.TheVariants as node
 use Rattle.mob_ast.specs.Trees.{Tree, tree, Trees, none, more, RowParts, ItemParts, every, one, KeyParts, SelectParts, StatementParts, empty, create_table, create_index, insert, copy, select, explain}
+
 -- The words that begin the types whose values are not built: geometry of points and of polygons, spans, span sets, boxes,
 -- and the linear temporal types.
 abbrev pub is_unbuilt_type : List ℕ → Bool

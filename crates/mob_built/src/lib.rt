@@ -11,3 +11,6 @@ mod words;
 pub use operators::first_unbuilt_operator;
 pub use types::first_unbuilt_type;
 pub use words::{first_unbuilt_word, statement_at};
+
+#[cfg(test)]
+mod tests;

@@ -89,7 +89,7 @@ module _ (all : List Check) (i : ℕ) (c : Check) (lt : i < length all) (is : c 
       let k = next.0 in
       let few : length first + k ≤ length (names_in (map check_seen all)) = rw (parts, length-append, length-append) (let le = next.1 in omega arith) in
       let front : take (length first + k) (names_in (map check_seen all)) ≡ first ++ take k (names_of (check_seen c)) =
-          ap (take (length first + k)) parts ∙ take_front first (names_of (check_seen c)) (names_in (map check_seen (drop (i + 1) all))) k next.1 in
+      ap (take (length first + k)) parts ∙ take_front first (names_of (check_seen c)) (names_in (map check_seen (drop (i + 1) all))) k next.1 in
       (length first + k, few, subst (λ (ns : List (List ℕ)). AsksForAll ns a d) (sym front) (asks_both first (take k (names_of (check_seen c))) a b d so_far next.2))
 
 pub asked_all : (all : List Check) (i : ℕ) (a b : Option (List (List ℕ))) → length all ≤ i → AsksForAll (names_in (map check_seen (take i all))) a b → AsksForAll (names_in (map check_seen all)) a b

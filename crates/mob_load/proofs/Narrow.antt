@@ -41,9 +41,9 @@ one_more columns c =
     on_bind Few (unless (has_entry columns c.0.text) kind.Duplicate c.0.place) _ (λ u is.
     on_bind Few (unless (nat_le 64 (length columns)) kind.Limit c.0.place) _ (λ v passed.
     on_bind Few (found kind.UnknownName c.1.name.place (type_named c.1.name.text c.1.inner)) _ (λ ty named y is.
-        let small : length columns < 64 = leb-false 64 (length columns) (unless_passed (nat_le 64 (length columns)) kind.Limit c.0.place v passed) in
-        let long : length (columns ++ (c.0.text, ty) ∷ []) ≡ length columns + 1 = length-append columns ((c.0.text, ty) ∷ []) in
-        on_value Wrong Few (columns ++ (c.0.text, ty) ∷ []) y is (omega arith))))
+    let small : length columns < 64 = leb-false 64 (length columns) (unless_passed (nat_le 64 (length columns)) kind.Limit c.0.place v passed) in
+    let long : length (columns ++ (c.0.text, ty) ∷ []) ≡ length columns + 1 = length-append columns ((c.0.text, ty) ∷ []) in
+    on_value Wrong Few (columns ++ (c.0.text, ty) ∷ []) y is (omega arith))))
 
 few_columns : (columns : ColumnList) (cs : List (Word × TypeWord)) → Few columns → (y : ColumnList) → with_columns columns cs ≡ Ok y → Few y
 few_columns columns [] few y is = on_value Wrong Few columns y is few
@@ -68,7 +68,7 @@ table_narrow names name columns =
     on_bind NarrowMade (unless (has_entry names.tables name.text) kind.Duplicate name.place) _ (λ u is.
     on_bind NarrowMade (unless (nat_le 64 (length names.tables)) kind.Limit name.place) _ (λ v passed.
     on_bind NarrowMade (with_columns [] columns) _ (λ cs typed m is.
-        on_value Wrong NarrowMade (record { statement = new_table (length names.tables) name.text cs; names = with_table names name.text cs }) m is (few_columns [] columns (omega arith) cs typed))))
+    on_value Wrong NarrowMade (record { statement = new_table (length names.tables) name.text cs; names = with_table names name.text cs }) m is (few_columns [] columns (omega arith) cs typed))))
 
 index_narrow : (names : NameLists) (name table column : Word) (m : Made) → made_index names name table column ≡ Ok m → NarrowMade m
 index_narrow names name table column =
@@ -86,7 +86,7 @@ rows_narrow : (n : ℕ) (names : NameLists) (table : Word) (rows : List RowParts
 rows_narrow n names table rows cs =
     on_bind NarrowStep (found kind.UnknownName table.place (table_of names.tables table.text)) _ (λ t is.
     on_bind NarrowStep (typed_rows n t.1 [] rows cs) _ (λ r typed y is.
-        on_value Wrong NarrowStep (record { statement = new_rows t.0 r.0 (map (λ row. row.place) rows); names = names }, r.1) y is tt))
+    on_value Wrong NarrowStep (record { statement = new_rows t.0 r.0 (map (λ row. row.place) rows); names = names }, r.1) y is tt))
 
 query_narrow : (form : TypedSelectParts → StatementOut) → ((s : TypedSelectParts) → NarrowStatement (form s)) → (names : NameLists) (r : Result (TypedSelectParts × List ConstText) Wrong) (y : Made × List ConstText)
     → asked form names r ≡ Ok y → NarrowStep y

@@ -22,9 +22,11 @@ use Rattle.mob_load.specs.declared.program.LoadEnd.TheVariants.{Refused, TableRe
 pub poured_wrong : (day : ℤ) (t : ℕ) (name copy bytes : List ℕ) (l : Loaded) (columns : ColumnList) (room rec field : ℕ) (k : Kind)
     → FileFails columns day room bytes (wrong k rec field) → columns ≡ columns_at l t → room ≡ greatest_rows - rows_at l t → copy ≡ name
     → Pours day t name l (Some bytes) (Err (table_refused copy k rec field))
-poured_wrong day t name copy bytes l columns room rec field k fails p q same =
-    (wrong k rec field, subst (λ (cs : ColumnList). FileFails cs day (greatest_rows - rows_at l t) bytes (wrong k rec field)) p (subst (λ (n : ℕ). FileFails columns day n bytes (wrong k rec field)) q fails),
-        ap (λ (n : List ℕ). table_refused n k rec field) same)
+poured_wrong day t name copy bytes l columns room rec field k fails p q same = (
+  wrong k rec field,
+  subst (λ (cs : ColumnList). FileFails cs day (greatest_rows - rows_at l t) bytes (wrong k rec field)) p (subst (λ (n : ℕ). FileFails columns day n bytes (wrong k rec field)) q fails),
+  ap (λ (n : List ℕ). table_refused n k rec field) same,
+)
 
 -- what holds of an answer, by what holds of what it says
 pub gives_on : {A : Type 0} (P Q : Result Loaded Halt → Type 0) → ((x : Result Loaded Halt) → P x → Q x) → (r : Result A LoadEnd) (after : Loaded) → Gives r after P → Gives r after Q
@@ -46,7 +48,7 @@ file_poured day t name bytes l None r after is gives = tt
 file_poured day t name bytes l (Some m) r after is gives =
     gives_on (Pours day t name l (Some bytes)) (Pours day t name l (file_of name m))
     (λ x h. subst (λ (o : Option (List ℕ)). Pours day t name l o x) (sym is.1)
-        (whole_poured day t name is.0 l x (subst (λ (b : List ℕ). Pours day t name l (Some b) x) is.2 h)))
+    (whole_poured day t name is.0 l x (subst (λ (b : List ℕ). Pours day t name l (Some b) x) is.2 h)))
     r after gives
 
 -- a file that may have been asked for

@@ -10,5 +10,8 @@ mod passing;
 mod program;
 mod script;
 
-pub use script::load;
 pub use program::{LoadEnd, Program};
+pub use script::load;
+
+#[cfg(test)]
+mod tests;

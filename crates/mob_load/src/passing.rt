@@ -13,8 +13,8 @@ use crate::check::Check;
 use crate::file::read_file;
 use crate::loading::Loading;
 use crate::program::LoadEnd;
-use mob_catalog::{LoadFault, read_table};
 use mob_ast::{Kind, Refusal, SqlType};
+use mob_catalog::{LoadFault, read_table};
 use mob_list::items::Items;
 use mob_list::text::Text;
 use mob_literal::read_value;
@@ -129,10 +129,7 @@ fn take_row(
 }
 
 // The columns of the table of this number.
-fn columns_at<'a>(
-    tables: &[&'a [(Text, SqlType)]],
-    table: u32,
-) -> Option<&'a [(Text, SqlType)]>
+fn columns_at<'a>(tables: &[&'a [(Text, SqlType)]], table: u32) -> Option<&'a [(Text, SqlType)]>
     ensures { option_map (λ c. c.now) result ≡ slice_get (map (λ c. c.now) tables.now) table }
 {
     match tables.get(table as usize) {
@@ -163,11 +160,7 @@ fn fill(
 }
 
 // Puts the rows of a file into the table of this number.
-fn put_rows(
-    loading: &mut Loading<'_>,
-    table: u32,
-    rows: Items<Items<Value>>,
-) -> Result<(), LoadEnd>
+fn put_rows(loading: &mut Loading<'_>, table: u32, rows: Items<Items<Value>>) -> Result<(), LoadEnd>
     ensures put { OnOk result (loaded_of loading.new ≡ with_file (loaded_of loading.old) table rows) }
     ensures memory { IfErr result (λ e. e ≡ NoMemory) }
 {
@@ -258,8 +251,6 @@ pub fn pass<'a, F: Files>(
             statement,
             place,
         } => take_row(loading, table, statement, place),
-        Check::File { table, name } => {
-            load_file(alloc, loading, files, table, name, epoch)
-        }
+        Check::File { table, name } => { load_file(alloc, loading, files, table, name, epoch) }
     }
 }

@@ -60,11 +60,7 @@ fn load_checks<'a, F: Files>(
 fn program_of(loading: Loading<'_>) -> Program
     ensures { result ≡ record { values = (loaded_of loading.entry).values; files = (loaded_of loading.entry).files } }
 {
-    let Loading {
-        values,
-        files,
-        ..
-    } = loading;
+    let Loading { values, files, .. } = loading;
     Program { values, files }
 }
 

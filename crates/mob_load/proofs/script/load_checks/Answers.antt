@@ -23,7 +23,7 @@ loop-check-preserved g c =
     let i = c.loop-check.check-index in
     let x = c.check-item.result in
     let here : map check_seen (drop i all) ≡ check_seen x ∷ map check_seen (drop (i + 1) all) =
-        ap (map check_seen) (drop_more all i x c.loop-check-test.true ∙ ap (λ y. y ∷ drop (i + 1) all) (sym c.check-item.is)) in
+    ap (map check_seen) (drop_more all i x c.loop-check-test.true ∙ ap (λ y. y ∷ drop (i + 1) all) (sym c.check-item.is)) in
     record {
       left = check_passes c.args.epoch.now (map check_seen all) (g.F.Files.files c.args.files.now) (g.F.Files.files c.loop-check.files) c.loop-check.invariant.files
           (map check_seen (drop i all)) (map check_seen (drop (i + 1) all)) (check_seen x) here (loaded_of c.loop-check.loading) (loaded_of c.pass.new.loading) c.loop-check.invariant.left c.in-Ok.ensures.passed;
@@ -40,7 +40,7 @@ returns-in-Err-clause-stopped g c =
     let i = c.loop-check.check-index in
     let x = c.check-item.result in
     let here : map check_seen (drop i all) ≡ check_seen x ∷ map check_seen (drop (i + 1) all) =
-        ap (map check_seen) (drop_more all i x c.loop-check-test.true ∙ ap (λ y. y ∷ drop (i + 1) all) (sym c.check-item.is)) in
+    ap (map check_seen) (drop_more all i x c.loop-check-test.true ∙ ap (λ y. y ∷ drop (i + 1) all) (sym c.check-item.is)) in
     check_stops c.args.epoch.now (map check_seen all) (g.F.Files.files c.args.files.now) (g.F.Files.files c.loop-check.files) c.loop-check.invariant.files
     (map check_seen (drop i all)) (map check_seen (drop (i + 1) all)) (check_seen x) here (loaded_of c.loop-check.loading) (loaded_of c.pass.new.loading) c.in-Err.end c.loop-check.invariant.left
     c.in-Err.ensures.passed c.in-Err.ensures.fault
