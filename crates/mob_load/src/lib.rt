@@ -1,0 +1,17 @@
+//! What a script reads before it runs: its literals and the files of its COPY statements, in written order.
+#![tactic(auto)]
+
+mod check;
+mod file;
+pub mod laws;
+mod loading;
+mod order;
+mod passing;
+mod program;
+mod script;
+
+pub use program::{LoadEnd, Program};
+pub use script::load;
+
+#[cfg(test)]
+mod tests;
