@@ -1,5 +1,3 @@
-pub mod Known
-pub mod Pieces
 mod WholeScript
 mod OneAnswer
 mod Select

@@ -3,8 +3,8 @@ ghost use Rattle.std.specs.Prelude.{◌<◌, ◌≤◌, ◌^◌, IfOk, OnOk, OnE
 ghost use Rattle.std.specs.List.{concat};
 ghost use Rattle.std.specs.Io.KnownBytes.{Appends};
 ghost use Rattle.mob_outside.specs.Faults.{HasCause, Rose};
-ghost use Rattle.mob_shell.specs.Streams.{Puts, PutsPart, ReadsPart, ReadsTo};
-ghost use Rattle.mob_shell.specs.declared.streams.ReadEnd.TheVariants.{Fault};
+ghost use Rattle.mob_streams.specs.Streams.{Puts, PutsPart, ReadsPart, ReadsTo};
+ghost use Rattle.mob_streams.specs.declared.streams.ReadEnd.TheVariants.{Fault};
 
 use mob_outside::{Failed, Sink, Source};
 use std::alloc::Global;

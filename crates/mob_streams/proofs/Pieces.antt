@@ -6,8 +6,8 @@ use Rattle.std.specs.Io.KnownBytes.{Appends}
 use Rattle.std.proofs.lemmas.List.{append-nil, drop_more, length-append, map-append, take-append-drop, take-append-le, take_more}
 use Rattle.std.proofs.lemmas.List.Folds.{concat-append}
 use Rattle.std.proofs.Math.Seq.{take-append-add}
-use Rattle.mob_shell.specs.Streams.{PutsPart}
-use Rattle.mob_shell.proofs.Known.{puts_more}
+use Rattle.mob_streams.specs.Streams.{PutsPart}
+use Rattle.mob_streams.proofs.Known.{puts_more}
 
 abbrev pub joined : List (Bor (List ℕ)) → List ℕ
 joined pieces = concat (map (λ p. p.now) pieces)

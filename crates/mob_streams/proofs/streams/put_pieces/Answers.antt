@@ -1,6 +1,6 @@
 use Rattle.std.proofs.Common.{rules, inr}
-use Rattle.mob_shell.proofs.Pieces.{pieces_on, pieces_part}
-use Rattle.mob_shell.proofs.streams.put_pieces.Goals as goal
+use Rattle.mob_streams.proofs.Pieces.{pieces_on, pieces_part}
+use Rattle.mob_streams.proofs.streams.put_pieces.Goals as goal
 
 pub returns-in_err-put_all-clause-part : goal.returns-in_err-put_all-clause-part
 returns-in_err-put_all-clause-part g c =

@@ -1,6 +1,6 @@
 use Rattle.std.proofs.Common.{rules}
-use Rattle.mob_shell.proofs.Known.{reads_more}
-use Rattle.mob_shell.proofs.streams.read_to.Goals as goal
+use Rattle.mob_streams.proofs.Known.{reads_more}
+use Rattle.mob_streams.proofs.streams.read_to.Goals as goal
 
 pub returns-then-is_err-clause-part : goal.returns-then-is_err-clause-part
 returns-then-is_err-clause-part g c =

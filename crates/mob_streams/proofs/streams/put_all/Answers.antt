@@ -1,6 +1,6 @@
 use Rattle.std.proofs.Common.{rules}
-use Rattle.mob_shell.proofs.Known.{puts_on}
-use Rattle.mob_shell.proofs.streams.put_all.Goals as goal
+use Rattle.mob_streams.proofs.Known.{puts_on}
+use Rattle.mob_streams.proofs.streams.put_all.Goals as goal
 
 pub loop-at-preserved : goal.loop-at-preserved
 loop-at-preserved g c = record {

@@ -1,7 +1,7 @@
 use Rattle.std.proofs.Common.{◌≤◌, map, take}
 use Rattle.std.specs.Io.KnownBytes.{Appends}
 use Rattle.std.specs.List.{concat}
-use Rattle.mob_shell.proofs.streams.put_pieces.Given as goal
+use Rattle.mob_streams.proofs.streams.put_pieces.Given as goal
 
 abbrev pub invariant-loop-piece : goal.invariant-loop-piece
 invariant-loop-piece g l = record {
