@@ -1,0 +1,10 @@
+pub mod Complete
+pub mod Laws
+pub mod Lawful
+pub mod Marks
+pub mod Ranks
+pub mod Same
+pub mod StatementLaws
+pub mod StatementsRead
+pub mod Steps
+pub mod Whole

@@ -1,0 +1,129 @@
+-- The tokens as the grammar sees them.
+use Rattle.std.specs.Prelude.{◌==◌, ℕ, List, [], ◌∷◌, Bool, true, false, cond, Option, Some, None}
+use Rattle.mob_ast.specs.declared.types.Word.{Word}
+use Rattle.mob_ast.specs.declared.types.Quoted.{Quoted}
+use Rattle.mob_ast.specs.declared.expression.Node.{Node}
+use Rattle.mob_ast.specs.declared.expression.Node.TheVariants as node
+use Rattle.mob_ast.specs.Trees.{Tree, tree, Trees, none, more}
+use Rattle.mob_grammar.specs.declared.mark.Mark.{Mark}
+use Rattle.mob_grammar.specs.declared.mark.Mark.TheVariants.{And, Or, Not, Semicolon, Open, Close}
+use Rattle.mob_grammar.specs.Marks.{is, text_of, strength, clause}
+
+-- what stands at a place: a reserved word or a sign, a name in lower case, a number as written, or a string without its quotes
+pub data Symbol : Type 0 where
+  fixed : Mark → Symbol
+  name : List ℕ → Symbol
+  number : List ℕ → Symbol
+  quoted : List ℕ → Symbol
+
+-- a token, with the place of its first byte
+pub record Tok : Type 0 where
+  pub symbol : Symbol
+  pub place : ℕ
+
+abbrev pub sign : Mark → ℕ → Tok
+sign m p = record { symbol = fixed m; place = p }
+
+abbrev pub named : List ℕ → ℕ → Tok
+named n p = record { symbol = name n; place = p }
+
+abbrev pub numeral : List ℕ → ℕ → Tok
+numeral n p = record { symbol = number n; place = p }
+
+abbrev pub string : List ℕ → ℕ → Tok
+string s p = record { symbol = quoted s; place = p }
+
+-- tests on what stands at a place
+abbrev pub is_mark : Mark → Symbol → Bool
+is_mark m (fixed g) = is g m
+is_mark m (name n) = false
+is_mark m (number n) = false
+is_mark m (quoted s) = false
+
+abbrev pub is_name_symbol : Symbol → Bool
+is_name_symbol (fixed g) = false
+is_name_symbol (name n) = true
+is_name_symbol (number n) = false
+is_name_symbol (quoted s) = false
+
+abbrev pub is_string_symbol : Symbol → Bool
+is_string_symbol (fixed g) = false
+is_string_symbol (name n) = false
+is_string_symbol (number n) = false
+is_string_symbol (quoted s) = true
+
+-- a string binds as a point does: it stands behind the name of a type alone
+abbrev pub symbol_strength : Symbol → ℕ
+symbol_strength (fixed g) = strength g
+symbol_strength (name n) = 0
+symbol_strength (number n) = 0
+symbol_strength (quoted s) = 12
+
+abbrev pub symbol_clause : Symbol → ℕ
+symbol_clause (fixed g) = clause g
+symbol_clause (name n) = 0
+symbol_clause (number n) = 0
+symbol_clause (quoted s) = 0
+
+abbrev pub is_sign : Mark → Tok → Bool
+is_sign m t = is_mark m t.symbol
+
+abbrev pub is_name : Tok → Bool
+is_name t = is_name_symbol t.symbol
+
+abbrev pub is_string : Tok → Bool
+is_string t = is_string_symbol t.symbol
+
+abbrev pub binding : Tok → ℕ
+binding t = symbol_strength t.symbol
+
+-- the first token passes a test
+abbrev pub begins : (Tok → Bool) → List Tok → Bool
+begins test [] = false
+begins test (t ∷ l) = test t
+
+abbrev pub starts : Mark → List Tok → Bool
+starts m l = begins (is_sign m) l
+
+-- the first token goes on a phrase whose signs bind k tight
+abbrev pub goes_on : ℕ → List Tok → Bool
+goes_on k l = begins (λ t. binding t == k) l
+
+-- which part of a SELECT begins here; at the end none can follow
+abbrev pub clause_at : List Tok → ℕ
+clause_at [] = 5
+clause_at (t ∷ l) = symbol_clause t.symbol
+
+abbrev pub nowhere : Tok
+nowhere = sign Semicolon 0
+
+abbrev pub first : List Tok → Tok
+first [] = nowhere
+first (t ∷ l) = t
+
+abbrev pub rest : List Tok → List Tok
+rest [] = []
+rest (t ∷ l) = l
+
+-- the node of an operator
+abbrev pub mark_node : Mark → Node
+mark_node And = node.And
+mark_node Or = node.Or
+mark_node Not = node.Not
+mark_node g = node.Sign (text_of g)
+
+abbrev pub symbol_node : Symbol → Node
+symbol_node (fixed g) = mark_node g
+symbol_node (name n) = node.Call n
+symbol_node (number n) = node.Number n
+symbol_node (quoted s) = node.Str s
+
+-- an operator with its operands, and a node without arguments
+abbrev pub binary : Tok → Tree → Tree → Tree
+binary t a b = tree (symbol_node t.symbol) t.place (more a (more b none))
+
+abbrev pub unary : Tok → Tree → Tree
+unary t a = tree (symbol_node t.symbol) t.place (more a none)
+
+abbrev pub leaf : Node → ℕ → Tree
+leaf n p = tree n p none

@@ -1,0 +1,7 @@
+mod Examples
+pub mod Placed
+pub mod Quotes
+pub mod Refused
+pub mod Reserved
+pub mod Scripts
+pub mod Steps

@@ -1,0 +1,54 @@
+use Rattle.std.proofs.Common.{◌≡◌, ◌≤◌, ◌<◌, ◌∙◌, [], ◌∷◌, ◌++◌, true, length, map, arith, ap, sym}
+use Rattle.std.proofs.lemmas.List.{map_push}
+use Rattle.mob_ast.specs.Trees.{tree_of}
+use Rattle.mob_grammar.specs.Reading.{chain, postfix, expression_at, comparison_rank, primary}
+use Rattle.mob_grammar.specs.declared.mark.Mark.TheVariants.{Comma}
+use Rattle.mob_grammar.specs.Symbols.{starts, rest}
+use Rattle.mob_grammar.proofs.Steps.{chosen}
+use Rattle.mob_grammar.proofs.Laws.{through}
+use Rattle.mob_grammar.proofs.Same.{expression_unfolds}
+use Rattle.mob_parse.specs.Cursors.{left}
+use Rattle.mob_parse.specs.Levels.{operand_at}
+use Rattle.mob_parse.proofs.Steps.{gives_along, skipped, first_read, next_read}
+use Rattle.mob_parse.proofs.cursor.Cursor.+expression.Goals as goal
+
+pub expression-returns-clause-reads : goal.expression-returns-clause-reads
+expression-returns-clause-reads t c = gives_along tree_of _ _ _ _ (expression_unfolds (left c.args.self.now)) c.chain.ensures.reads
+
+pub chain-operators-init : goal.chain-operators-init
+unfolding chain
+chain-operators-init t c =
+    let l = left c.args.self.now in
+    let short : length (left c.operand.new.self) < length l = c.in_ok-value.ensures.shorter in
+    record { shorter = short; reads = (length l, omega arith, through (operand_at c.args.level l) _ _ _ c.in_ok-value.ensures.reads) }
+
+pub nullness-tests-init : goal.nullness-tests-init
+unfolding postfix
+nullness-tests-init t c =
+    let l = left c.args.self.now in
+    let short : length (left c.comparison.new.self) < length l = c.in_ok-value.ensures.shorter in
+    record { shorter = short; reads = (length l, omega arith, through (comparison_rank expression_at l) _ _ _ c.in_ok-value.ensures.reads) }
+
+pub cast-casts-init : goal.cast-casts-init
+unfolding postfix
+cast-casts-init t c =
+    let l = left c.args.self.now in
+    let short : length (left c.primary.new.self) < length l = c.in_ok-value.ensures.shorter in
+    record { shorter = short; reads = (length l, omega arith, through (primary expression_at l) _ _ _ c.in_ok-value.ensures.reads) }
+
+pub expressions-more-init : goal.expressions-more-init
+expressions-more-init t c =
+    let short : length (left c.expression.new.self) < length (left c.args.self.now) = c.in_ok-first.ensures.shorter in
+    let one : map tree_of c.push.new.self.items ≡ tree_of c.in_ok-first.first ∷ [] = ap (map tree_of) (c.in_ok-push.ensures.items ∙ ap (λ es. es ++ c.in_ok-first.first ∷ []) c.new-found.ensures.items) in
+    record { shorter = short; reads = first_read Comma expression_at _ _ _ _ c.in_ok-first.ensures.reads (omega arith) one }
+
+pub expressions-more-preserved : goal.expressions-more-preserved
+expressions-more-preserved t c =
+    let there : starts Comma (left c.more.self) ≡ true = sym c.skip.ensures.found ∙ c.more-test.true in
+    let now : left c.skip.new.self ≡ rest (left c.more.self) = c.skip.ensures.passed ∙ chosen _ _ _ there in
+    let one : map tree_of c.push-in-more.new.self.items ≡ map tree_of c.more.found.items ++ tree_of c.in_ok-next.next ∷ [] = ap (map tree_of) c.in_ok-push-2.ensures.items ∙ map_push tree_of c.more.found.items c.in_ok-next.next in
+    let short : length (left c.expression-in-more.new.self) < length (left c.skip.new.self) = c.in_ok-next.ensures.shorter in
+    let gone = skipped Comma (left c.more.self) there in
+    let long = ap length now in
+    let near = c.more.invariant.shorter in
+    record { shorter = omega arith; reads = next_read Comma expression_at _ _ _ _ _ _ _ c.more.invariant.reads there now c.in_ok-next.ensures.reads (omega arith) one }

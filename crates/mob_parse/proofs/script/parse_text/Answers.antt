@@ -1,0 +1,16 @@
+use Rattle.std.proofs.Common.{◌≡◌, ◌≤◌, length, ap, arith, subst, sym}
+use Rattle.mob_parse.specs.Tokens.{ArePlaced}
+use Rattle.mob_parse.proofs.Placed.{are_placed, are_few}
+use Rattle.mob_parse.proofs.script.parse_text.Goals as goal
+
+pub lexemes-requires : goal.lexemes-requires
+lexemes-requires c = record { placed = subst (ArePlaced c.args.text.now) (sym c.as_slice.ensures.same) (are_placed c.args.text.now c.utf8.text c.in-Ok.found c.in-Ok.ensures.all) }
+
+pub parse_lexemes-requires : goal.parse_lexemes-requires
+parse_lexemes-requires c =
+    let few = are_few c.args.text.now c.in-Ok.found c.in-Ok.ensures.all in
+    let short = c.requires.short in
+    let same : length c.as_slice.result.now ≡ length c.in-Ok.found = ap (λ v. length v) c.as_slice.ensures.same in
+    let fewer = c.in-Ok-lexemes.ensures.few in
+    let value : length c.as_slice-in-Ok-lexemes.result.now ≡ length c.in-Ok-lexemes.lexemes.items = ap (λ v. length v) c.as_slice-in-Ok-lexemes.ensures.value in
+    record { few = omega arith }

@@ -1,0 +1,16 @@
+//! The parser of scripts: from bytes to the tree of the grammar, or the first refusal.
+#![tactic(auto)]
+
+mod classify;
+mod cursor;
+mod expression;
+mod heavy;
+mod lexeme;
+mod nodes;
+pub mod script;
+mod select;
+#[cfg(test)]
+mod shown;
+mod statement;
+#[cfg(test)]
+mod tests;

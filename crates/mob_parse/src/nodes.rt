@@ -1,0 +1,114 @@
+//! Words, types and nodes of the trees.
+ghost use Rattle.std.specs.Prelude.{◌≡◌, ◌<◌, ◌∷◌, ◌++◌, IfOk, OnOk, OnErr, Some, None, length, map, string_bytes};
+ghost use Rattle.mob_ast.specs.Trees.{tree_of, trees_of, tree, none, more};
+ghost use Rattle.mob_grammar.specs.Symbols.{mark_node};
+ghost use Rattle.mob_parse.specs.Lexemes.{lower, without_quote, unquoted};
+
+use mob_ast::expression::{Expr, Node};
+use mob_ast::types::{Quoted, Word};
+use mob_grammar::mark::Mark;
+use mob_list::text::Text;
+use std::alloc::{AllocError, Global};
+
+/// A text of the same bytes.
+pub fn copy_text(alloc: Global, text: &str) -> Result<Text, AllocError>
+    ensures copied { IfOk result (λ t. t ≡ text.now) }
+{
+    Ok(Text::from_string(String::from_str(alloc, text)?))
+}
+
+/// A text in lower case.
+pub fn lower_text(alloc: Global, text: &str) -> Result<Text, AllocError>
+    ensures lowered { IfOk result (λ t. t ≡ lower text.now) }
+{
+    Ok(Text::from_string(text.to_ascii_lowercase(alloc)?))
+}
+
+// A text without the quote that it begins with, if it does.
+fn without_quote(text: &str) -> &str
+    ensures exact { result.now ≡ without_quote text.now }
+{
+    match text.strip_prefix('\'') {
+        Some(rest) => rest,
+        None => text,
+    }
+}
+
+/// The text of a string, with `''` as one quote.
+pub fn unquoted_text(alloc: Global, text: &str) -> Result<Text, AllocError>
+    ensures exact { IfOk result (λ t. t ≡ unquoted text.now) }
+{
+    let mut found = String::new(alloc);
+    let mut rest = text;
+    'quotes: while let Some((before, after)) = rest.split_once('\'') {
+        found.push_str(before)?;
+        found.push('\'')?;
+        rest = without_quote(after);
+    }
+    found.push_str(rest)?;
+    Ok(Text::from_string(found))
+}
+
+/// A word in lower case, at a place.
+pub fn word(alloc: Global, text: &str, place: u32) -> Result<Word, AllocError>
+    ensures exact { IfOk result (λ w. w ≡ record { text = lower text.now; place = place }) }
+{
+    let text = lower_text(alloc, text)?;
+    Ok(Word { text, place })
+}
+
+/// The word of a number, as it is written.
+pub fn number_word(alloc: Global, text: &str, place: u32) -> Result<Word, AllocError>
+    ensures exact { IfOk result (λ w. w ≡ record { text = text.now; place = place }) }
+{
+    let text = copy_text(alloc, text)?;
+    Ok(Word { text, place })
+}
+
+/// A node without arguments.
+pub fn leaf(alloc: Global, node: Node, place: u32) -> Expr
+    ensures exact { tree_of result ≡ tree node place none }
+{
+    Expr {
+        node,
+        place,
+        args: Vec::new(alloc),
+    }
+}
+
+/// A node with one argument.
+pub fn single(alloc: Global, node: Node, place: u32, argument: Expr) -> Result<Expr, AllocError>
+    ensures exact { IfOk result (λ e. tree_of e ≡ tree node place (more (tree_of argument) none)) }
+{
+    let mut args = Vec::new(alloc);
+    args.push(argument)?;
+    Ok(Expr { node, place, args })
+}
+
+/// A node with two arguments.
+pub fn pair(
+    alloc: Global,
+    node: Node,
+    place: u32,
+    first: Expr,
+    second: Expr,
+) -> Result<Expr, AllocError>
+    ensures exact { IfOk result (λ e. tree_of e ≡ tree node place (more (tree_of first) (more (tree_of second) none))) }
+{
+    let mut args = Vec::new(alloc);
+    args.push(first)?;
+    args.push(second)?;
+    Ok(Expr { node, place, args })
+}
+
+/// The node of an operator.
+pub fn operator(alloc: Global, mark: Mark) -> Result<Node, AllocError>
+    ensures exact { IfOk result (λ n. n ≡ mark_node mark) }
+{
+    match mark {
+        Mark::And => Ok(Node::And),
+        Mark::Or => Ok(Node::Or),
+        Mark::Not => Ok(Node::Not),
+        _ => Ok(Node::Sign(copy_text(alloc, mark.text())?)),
+    }
+}

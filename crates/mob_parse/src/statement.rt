@@ -1,0 +1,346 @@
+//! Statements, production by production.
+ghost use Rattle.std.specs.Prelude.{◌≡◌, ◌≤◌, Ok, length, map, OnOk, option_map};
+ghost use Rattle.mob_ast.specs.Trees.{tree_of, row_of, item_of, key_of, select_of, statement_of, insert, copy, create_table, create_index};
+ghost use Rattle.mob_grammar.specs.Symbols.{begins};
+ghost use Rattle.mob_grammar.specs.Reading.{is_number, is_plus_or_minus, string_at, number_at, signed_number_at, number_leaf_at, string_leaf_at, word_leaf_at, const_at, row_at, column_type_at, create_table_at, index_table_at, create_index_at, create_at, insert_at, header_at, format_at, delimiter_at, copy_form_at, copy_at, second_name_at, from_entry_at, alias_at, item_at, direction_at, key_at, distinct_at, from_at, where_at, order_at, limit_at, select_at, select_statement_at, explain_at, statement_at, listed, closed, after};
+ghost use Rattle.mob_parse.specs.Cursors.{left, Gives};
+
+use crate::cursor::{Cursor, Fault};
+use crate::nodes::{leaf, number_word, operator, single, unquoted_text, word};
+use mob_ast::expression::{Expr, Node};
+use mob_ast::statement::{FromTable, Item, Key, Row, SelectTree, Statement};
+use mob_ast::types::{Quoted, TypeWord, Word};
+use mob_grammar::mark::Mark;
+use mob_list::items::Items;
+
+// Constants, rows and columns.
+impl<'a> Cursor<'a> {
+    #[tactic(auto, unfolding(mob_grammar::specs::Reading::string_at))]
+    fn string(&mut self) -> Result<Quoted, Fault>
+        ensures reads { Gives (λ s. s) result (left self.new) (string_at (left self.old)) }
+        ensures within { OnOk result (length (left self.new) ≤ length (left self.old)) }
+    {
+        match self.take_string() {
+            Some((text, place)) => {
+                let text = unquoted_text(self.alloc, text)?;
+                Ok(Quoted { text, place })
+            }
+            None => Err(Fault::Syntax),
+        }
+    }
+
+    #[tactic(auto, unfolding(mob_grammar::specs::Reading::number_at))]
+    pub fn number(&mut self) -> Result<Word, Fault>
+        ensures reads { Gives (λ w. w) result (left self.new) (number_at (left self.old)) }
+        ensures within { OnOk result (length (left self.new) ≤ length (left self.old)) }
+    {
+        match self.take_number() {
+            Some((text, place)) => Ok(number_word(self.alloc, text, place)?),
+            None => Err(Fault::Syntax),
+        }
+    }
+
+    // Whether a number comes next.
+    fn next_is_number(&self) -> bool
+        ensures exact { result ≡ begins is_number (left self.now) }
+    {
+        match self.lexemes {
+            [first, ..] => first.is_number(),
+            [] => false,
+        }
+    }
+
+    // Whether + or - comes next.
+    fn next_is_plus_or_minus(&self) -> bool
+        ensures exact { result ≡ begins is_plus_or_minus (left self.now) }
+    {
+        match self.lexemes {
+            [first, ..] => first.operator(8).is_some(),
+            [] => false,
+        }
+    }
+
+    // + or - and a number.
+    #[tactic(auto, unfolding(mob_grammar::specs::Reading::signed_number_at, mob_grammar::specs::Reading::plus_or_minus_at))]
+    fn signed_number(&mut self) -> Result<Expr, Fault>
+        ensures reads { Gives tree_of result (left self.new) (signed_number_at (left self.old)) }
+        ensures within { OnOk result (length (left self.new) ≤ length (left self.old)) }
+    {
+        match self.take_operator(8) {
+            Some((mark, place)) => {
+                let Word { text, place: at } = self.number()?;
+                let node = operator(self.alloc, mark)?;
+                let value = leaf(self.alloc, Node::Number(text), at);
+                Ok(single(self.alloc, node, place, value)?)
+            }
+            None => Err(Fault::Syntax),
+        }
+    }
+
+    #[tactic(auto, unfolding(mob_grammar::specs::Reading::number_leaf_at))]
+    fn number_value(&mut self) -> Result<Expr, Fault>
+        ensures reads { Gives tree_of result (left self.new) (number_leaf_at (left self.old)) }
+        ensures within { OnOk result (length (left self.new) ≤ length (left self.old)) }
+    {
+        let Word { text, place } = self.number()?;
+        Ok(leaf(self.alloc, Node::Number(text), place))
+    }
+
+    #[tactic(auto, unfolding(mob_grammar::specs::Reading::string_leaf_at))]
+    fn string_value(&mut self) -> Result<Expr, Fault>
+        ensures reads { Gives tree_of result (left self.new) (string_leaf_at (left self.old)) }
+        ensures within { OnOk result (length (left self.new) ≤ length (left self.old)) }
+    {
+        let Quoted { text, place } = self.string()?;
+        Ok(leaf(self.alloc, Node::Str(text), place))
+    }
+
+    // TRUE, FALSE, NULL, or a string behind its type.
+    #[tactic(auto, unfolding(mob_grammar::specs::Reading::word_leaf_at, mob_grammar::specs::Reading::mark_leaf_at, mob_grammar::specs::Reading::mark_at, mob_grammar::specs::Reading::typed_string_at))]
+    fn word_value(&mut self) -> Result<Expr, Fault>
+        ensures reads { Gives tree_of result (left self.new) (word_leaf_at (left self.old)) }
+        ensures within { OnOk result (length (left self.new) ≤ length (left self.old)) }
+    {
+        if let Some(place) = self.take(Mark::True) {
+            Ok(leaf(self.alloc, Node::True, place))
+        } else if let Some(place) = self.take(Mark::False) {
+            Ok(leaf(self.alloc, Node::False, place))
+        } else if let Some(place) = self.take(Mark::Null) {
+            Ok(leaf(self.alloc, Node::Null, place))
+        } else {
+            let ty = self.type_name()?;
+            self.literal(ty)
+        }
+    }
+
+    // A constant of an INSERT.
+    #[tactic(auto, unfolding(mob_grammar::specs::Reading::const_at))]
+    fn constant_value(&mut self) -> Result<Expr, Fault>
+        ensures reads { Gives tree_of result (left self.new) (const_at (left self.old)) }
+        ensures within { OnOk result (length (left self.new) ≤ length (left self.old)) }
+    {
+        if self.next_is_string() {
+            self.string_value()
+        } else if self.next_is_plus_or_minus() {
+            self.signed_number()
+        } else if self.next_is_number() {
+            self.number_value()
+        } else {
+            self.word_value()
+        }
+    }
+
+    #[tactic(auto, using(mob_grammar::proofs::Steps::listed_goes_on, mob_grammar::proofs::Steps::listed_stops), unfolding(mob_grammar::specs::Reading::listed))]
+    fn constants(&mut self) -> Result<Items<Expr>, Fault>
+        ensures reads { Gives (map tree_of) result (left self.new) (listed Mark.Comma const_at (left self.old)) }
+        ensures within { OnOk result (length (left self.new) ≤ length (left self.old)) }
+    {
+        let mut found = Items::new(self.alloc);
+        let first = self.constant_value()?;
+        found.push(first)?;
+        'more: while self.skip(Mark::Comma) {
+            let next = self.constant_value()?;
+            found.push(next)?;
+        }
+        Ok(found)
+    }
+
+    // A row of an INSERT.
+    #[tactic(auto, unfolding(mob_grammar::specs::Reading::row_at, mob_grammar::specs::Reading::mark_at, mob_grammar::specs::Reading::closed))]
+    fn row(&mut self) -> Result<Row, Fault>
+        ensures reads { Gives row_of result (left self.new) (row_at (left self.old)) }
+        ensures within { OnOk result (length (left self.new) ≤ length (left self.old)) }
+    {
+        match self.take(Mark::Open) {
+            Some(place) => {
+                let values = self.constants()?;
+                self.expect(Mark::Close)?;
+                Ok(Row { place, values })
+            }
+            None => Err(Fault::Syntax),
+        }
+    }
+
+    #[tactic(auto, using(mob_grammar::proofs::Steps::listed_goes_on, mob_grammar::proofs::Steps::listed_stops), unfolding(mob_grammar::specs::Reading::listed))]
+    fn rows(&mut self) -> Result<Items<Row>, Fault>
+        ensures reads { Gives (map row_of) result (left self.new) (listed Mark.Comma row_at (left self.old)) }
+        ensures within { OnOk result (length (left self.new) ≤ length (left self.old)) }
+    {
+        let mut found = Items::new(self.alloc);
+        let first = self.row()?;
+        found.push(first)?;
+        'more: while self.skip(Mark::Comma) {
+            let next = self.row()?;
+            found.push(next)?;
+        }
+        Ok(found)
+    }
+
+    // A column of a new table and its type.
+    #[tactic(auto, unfolding(mob_grammar::specs::Reading::column_type_at))]
+    fn column_type(&mut self) -> Result<(Word, TypeWord), Fault>
+        ensures reads { Gives (λ c. c) result (left self.new) (column_type_at (left self.old)) }
+        ensures within { OnOk result (length (left self.new) ≤ length (left self.old)) }
+    {
+        let name = self.name()?;
+        let ty = self.type_name()?;
+        Ok((name, ty))
+    }
+
+    #[tactic(auto, using(mob_grammar::proofs::Steps::listed_goes_on, mob_grammar::proofs::Steps::listed_stops), unfolding(mob_grammar::specs::Reading::listed))]
+    fn columns(&mut self) -> Result<Items<(Word, TypeWord)>, Fault>
+        ensures reads { Gives (λ cs. cs) result (left self.new) (listed Mark.Comma column_type_at (left self.old)) }
+        ensures within { OnOk result (length (left self.new) ≤ length (left self.old)) }
+    {
+        let mut found = Items::new(self.alloc);
+        let first = self.column_type()?;
+        found.push(first)?;
+        'more: while self.skip(Mark::Comma) {
+            let next = self.column_type()?;
+            found.push(next)?;
+        }
+        Ok(found)
+    }
+}
+
+// Statements but SELECT.
+impl<'a> Cursor<'a> {
+    // CREATE TABLE, behind TABLE.
+    #[tactic(auto, unfolding(mob_grammar::specs::Reading::create_table_at, mob_grammar::specs::Reading::after, mob_grammar::specs::Reading::columns_at, mob_grammar::specs::Reading::closed))]
+    fn create_table(&mut self) -> Result<Statement, Fault>
+        ensures reads { Gives statement_of result (left self.new) (create_table_at (left self.old)) }
+        ensures within { OnOk result (length (left self.new) ≤ length (left self.old)) }
+    {
+        let name = self.name()?;
+        self.expect(Mark::Open)?;
+        let columns = self.columns()?;
+        self.expect(Mark::Close)?;
+        Ok(Statement::CreateTable { name, columns })
+    }
+
+    // CREATE INDEX, behind ON.
+    #[tactic(auto, unfolding(mob_grammar::specs::Reading::index_table_at, mob_grammar::specs::Reading::index_column_at, mob_grammar::specs::Reading::after, mob_grammar::specs::Reading::closed))]
+    fn index_table(&mut self, name: Word) -> Result<Statement, Fault>
+        ensures reads { Gives statement_of result (left self.new) (index_table_at name (left self.old)) }
+        ensures within { OnOk result (length (left self.new) ≤ length (left self.old)) }
+    {
+        let table = self.name()?;
+        self.expect(Mark::Using)?;
+        self.expect(Mark::Gist)?;
+        self.expect(Mark::Open)?;
+        let column = self.name()?;
+        self.expect(Mark::Close)?;
+        Ok(Statement::CreateIndex {
+            name,
+            table,
+            column,
+        })
+    }
+
+    // CREATE INDEX, behind INDEX.
+    #[tactic(auto, unfolding(mob_grammar::specs::Reading::create_index_at, mob_grammar::specs::Reading::after))]
+    fn create_index(&mut self) -> Result<Statement, Fault>
+        ensures reads { Gives statement_of result (left self.new) (create_index_at (left self.old)) }
+        ensures within { OnOk result (length (left self.new) ≤ length (left self.old)) }
+    {
+        let name = self.name()?;
+        self.expect(Mark::On)?;
+        self.index_table(name)
+    }
+
+    // What stands behind CREATE.
+    #[tactic(auto, unfolding(mob_grammar::specs::Reading::create_at, mob_grammar::specs::Reading::if_mark, mob_grammar::specs::Reading::after))]
+    pub fn create(&mut self) -> Result<Statement, Fault>
+        ensures reads { Gives statement_of result (left self.new) (create_at (left self.old)) }
+        ensures within { OnOk result (length (left self.new) ≤ length (left self.old)) }
+    {
+        if self.skip(Mark::Table) {
+            return self.create_table();
+        }
+        self.expect(Mark::Index)?;
+        self.create_index()
+    }
+
+    // What stands behind INSERT.
+    #[tactic(auto, unfolding(mob_grammar::specs::Reading::insert_at, mob_grammar::specs::Reading::rows_at, mob_grammar::specs::Reading::after))]
+    pub fn insert(&mut self) -> Result<Statement, Fault>
+        ensures reads { Gives statement_of result (left self.new) (insert_at (left self.old)) }
+        ensures within { OnOk result (length (left self.new) ≤ length (left self.old)) }
+    {
+        self.expect(Mark::Into)?;
+        let table = self.name()?;
+        self.expect(Mark::Values)?;
+        let rows = self.rows()?;
+        Ok(Statement::Insert { table, rows })
+    }
+
+    // HEADER's TRUE, if it is there, and the closing bracket.
+    #[tactic(auto, unfolding(mob_grammar::specs::Reading::header_at, mob_grammar::specs::Reading::if_mark, mob_grammar::specs::Reading::closed))]
+    fn header(&mut self) -> Result<Option<Quoted>, Fault>
+        ensures reads { Gives (λ d. d) result (left self.new) (header_at (left self.old)) }
+        ensures within { OnOk result (length (left self.new) ≤ length (left self.old)) }
+    {
+        if self.skip(Mark::True) {
+            self.expect(Mark::Close)?;
+            return Ok(None);
+        }
+        self.expect(Mark::Close)?;
+        Ok(None)
+    }
+
+    // What stands behind WITH.
+    #[tactic(auto, unfolding(mob_grammar::specs::Reading::format_at, mob_grammar::specs::Reading::after))]
+    fn format(&mut self) -> Result<Option<Quoted>, Fault>
+        ensures reads { Gives (λ d. d) result (left self.new) (format_at (left self.old)) }
+        ensures within { OnOk result (length (left self.new) ≤ length (left self.old)) }
+    {
+        self.expect(Mark::Open)?;
+        self.expect(Mark::Format)?;
+        self.expect(Mark::Csv)?;
+        self.expect(Mark::Comma)?;
+        self.expect(Mark::Header)?;
+        self.header()
+    }
+
+    // What stands behind DELIMITER.
+    #[tactic(auto, unfolding(mob_grammar::specs::Reading::delimiter_at, mob_grammar::specs::Reading::after, mob_grammar::specs::Reading::closed))]
+    fn delimiter(&mut self) -> Result<Option<Quoted>, Fault>
+        ensures reads { Gives (λ d. d) result (left self.new) (delimiter_at (left self.old)) }
+        ensures within { OnOk result (length (left self.new) ≤ length (left self.old)) }
+    {
+        let delimiter = self.string()?;
+        self.expect(Mark::Csv)?;
+        self.expect(Mark::Header)?;
+        Ok(Some(delimiter))
+    }
+
+    // What stands behind the file of a COPY.
+    #[tactic(auto, unfolding(mob_grammar::specs::Reading::copy_form_at, mob_grammar::specs::Reading::if_mark, mob_grammar::specs::Reading::after))]
+    fn copy_form(&mut self) -> Result<Option<Quoted>, Fault>
+        ensures reads { Gives (λ d. d) result (left self.new) (copy_form_at (left self.old)) }
+        ensures within { OnOk result (length (left self.new) ≤ length (left self.old)) }
+    {
+        if self.skip(Mark::With) {
+            return self.format();
+        }
+        self.expect(Mark::Delimiter)?;
+        self.delimiter()
+    }
+
+    // What stands behind COPY.
+    #[tactic(auto, unfolding(mob_grammar::specs::Reading::copy_at, mob_grammar::specs::Reading::copy_file_at, mob_grammar::specs::Reading::after))]
+    pub fn copy(&mut self) -> Result<Statement, Fault>
+        ensures reads { Gives statement_of result (left self.new) (copy_at (left self.old)) }
+        ensures within { OnOk result (length (left self.new) ≤ length (left self.old)) }
+    {
+        let table = self.name()?;
+        self.expect(Mark::From)?;
+        let file = self.string()?;
+        let delimiter = self.copy_form()?;
+        Ok(Statement::Copy {
+            table,
+            file,
+            delimiter,
+        })
+    }
+}
