@@ -3,6 +3,7 @@ pub mod Groups
 pub mod LiteralExact
 pub mod Listing
 pub mod Made
+pub mod OneReading
 pub mod OneValue
 pub mod Parted
 pub mod ReadSequences
@@ -12,3 +13,9 @@ pub mod SequenceExact
 pub mod Standard
 pub mod StepLemmas
 pub mod Traversed
+pub mod GroupSlices
+pub mod GroupTexts
+pub mod StepsAgain
+pub mod SqlReading
+pub mod SqlAgain
+pub mod FieldsAgain

@@ -1,10 +1,10 @@
 -- The readers of temporal literals read exactly their texts, over any exact reader of values.
 use Rattle.std.proofs.Common.{◌≡◌, ℕ, ℤ, [], ◌∷◌, ◌++◌, map, Bool, true, false, Option, Some, None, refl, sym, ap, subst, ◌∙◌, append_assoc, append-nil, rules, codes}
 use Rattle.std.specs.Prelude.{◌||◌, nat_eq}
-use Rattle.mob_language.specs.Language.{Text, Language, ◌▷◌, ◌∣◌, Means, Word, AreAll, Maybe, Separated, blanks, is_blank}
+use Rattle.mob_language.specs.Language.{Text, Language, ◌▷◌, ◌∣◌, Means, Word, AreAll, Maybe, Separated, blanks, is_blank, in_middle}
 use Rattle.mob_language.specs.Readers.{Reader, means_at, run_of, separated_at, items_at}
 use Rattle.mob_language.proofs.Exact.{Exact, Stops, Any, then_exact, or_exact, means_exact, word_exact, one_exact, run_exact, run_again}
-use Rattle.mob_language.proofs.Heads.{NoHead, Apart, HasByte, where_head, run_head, where_byte, exact_less, stops_less, byte_stops, means_head, one_head, or_head, then_byte, means_byte, or_byte, then_byte_stops, word_then_head, one_then_head, byte_head, one_byte, word_byte, spaced_exact}
+use Rattle.mob_language.proofs.Heads.{NoHead, Apart, HasByte, where_head, run_head, where_byte, exact_less, stops_less, byte_stops, means_head, one_head, or_head, then_byte, means_byte, or_byte, then_byte_stops, word_then_head, one_then_head, byte_head, one_byte, word_byte, spaced_exact, IsEnd, within_exact}
 use Rattle.mob_language.proofs.Lists.{separated_exact}
 use Rattle.mob_scalar.specs.Figures.{is_digit}
 use Rattle.mob_scalar.specs.Calendar.{date, fixed, civil_of, is_civil}
@@ -13,8 +13,9 @@ use Rattle.mob_scalar.specs.MomentReaders.{time_at, gap_at, blanks_at as moment_
 use Rattle.mob_scalar.specs.CalendarReaders.{fixed_at}
 use Rattle.mob_scalar.specs.NumberReaders.{digits_at}
 use Rattle.mob_scalar.proofs.MomentExact.{Closes, moment_exact, moment_on, fixed_byte}
+use Rattle.mob_scalar.proofs.WholeTexts.{moment_blank, moment_byte, blanks_close}
 use Rattle.mob_scalar.proofs.Closing.{Ends, sign_closes}
-use Rattle.mob_literal.specs.Literal.{at_sign, comma, noted_of, noted, is_open, is_close, opening, closing, sequence_of, sequence, alone, in_middle, members, braced, one_sequence, one_instant, literal, temporal, at_sign_at, comma_at, noted_at, opening_at, closing_at, instants_at, sequence_at, sequences_at, members_at, open_brace_at, close_brace_at, braced_at, literal_at, temporal_at}
+use Rattle.mob_literal.specs.Literal.{at_sign, comma, noted_of, noted, is_open, is_close, opening, closing, sequence_of, sequence, alone, members, braced, one_sequence, one_instant, literal, temporal, at_sign_at, comma_at, noted_at, opening_at, closing_at, instants_at, sequence_at, sequences_at, members_at, open_brace_at, close_brace_at, braced_at, literal_at, temporal_at}
 use Rattle.mob_literal.specs.ValueText.{IsValueText, is_mark}
 
 open_blank : Apart is_open is_blank
@@ -50,24 +51,6 @@ front_nil (c ∷ cs) b h = absurd cc
 comma_byte : HasByte comma
 comma_byte = means_byte (λ (v : Text × (Unit {0} × Text)). tt) (λ text v said e.
     then_byte blanks (word_byte 44 []) said.back v.1 said.second (back_nil said.front said.back (sym said.whole ∙ e)))
-
-digit_blank : Apart is_digit is_blank
-digit_blank c e = search rules
-
-fixed_blank : (k : ℕ) → NoHead (fixed k) is_blank
-fixed_blank k = means_head (where_head (means_head (where_head (run_head digit_blank))))
-
-date_byte : HasByte date
-date_byte = where_byte is_civil (means_byte civil_of (then_byte _ (fixed_byte 3)))
-
-date_blank : NoHead date is_blank
-date_blank = where_head (means_head (byte_head _ (fixed_blank 4) (fixed_byte 3)))
-
-moment_blank : NoHead moment is_blank
-moment_blank = where_head (means_head (byte_head (Maybe time) date_blank date_byte))
-
-moment_byte : HasByte moment
-moment_byte = where_byte is_in_years (means_byte stamp_of (then_byte (Maybe time) date_byte))
 
 pub noted_exact : {B : Type 0} (day : ℤ) {value : Language (Option B)} {reader : Reader (Option B)} {F : Text → Type 0} → IsValueText value reader F → Exact (noted day value) (noted_at day reader) Closes
 unfolding noted_at
@@ -274,33 +257,6 @@ literal_exact {A} {entry} {reader} e = or_exact (braced_exact e)
     others_byte : HasByte (Means one_sequence (sequence entry) ∣ Means one_instant entry)
     others_byte = or_byte (means_byte one_sequence (sequence_byte entry)) (means_byte one_instant e.has_byte)
 
--- blanks alone go on no moment
-blank_on : (c : ℕ) → is_blank c ≡ true → moment_on c ≡ false
-blank_on c e = search rules
-
-some_blank : (b : ℕ) (bs : Text) → is_some_text (b ∷ bs) ≡ true
-some_blank b bs = search rules
-
-run_all : (bs : Text) → AreAll is_blank bs → run_of is_blank bs ≡ (bs, [])
-run_all bs each = subst (λ (t : Text). run_of is_blank t ≡ (bs, [])) (append-nil bs) (run_again is_blank bs [] each tt)
-
-no_clock : clock_at [] ≡ None
-unfolding clock_at up_to_at fixed_at digits_at
-no_clock = refl
-
-gap_of_all : (b : ℕ) (bs : Text) → AreAll is_blank (b ∷ bs) → gap_at (b ∷ bs) ≡ Some (tt, [])
-unfolding gap_at moment_blanks_at
-gap_of_all b bs each = rw (run_all (b ∷ bs) each, some_blank b bs) refl
-
-no_gap : gap_at [] ≡ None
-unfolding gap_at moment_blanks_at t_at
-no_gap = refl
-
-blanks_close : (bs : Text) → AreAll is_blank bs → Closes bs
-unfolding time_at
-blanks_close [] each = record { stops = tt; no_time = rw no_gap refl }
-blanks_close (b ∷ bs) each = record { stops = blank_on b each.0; no_time = rw (gap_of_all b bs each, no_clock) refl }
-
 literal_head : {A : Type 0} {entry : Language A} {reader : Reader A} → IsEntry entry reader → NoHead (literal entry) is_blank
 literal_head {entry = entry} e = or_head (means_head (byte_head _ (word_then_head 123 [] is_blank refl) (then_byte blanks (word_byte 123 []))))
     (or_head (means_head (head_less other_blank (sequence_head entry))) (means_head (head_less mark_blank e.no_mark)))
@@ -309,12 +265,6 @@ literal_byte : {A : Type 0} {entry : Language A} {reader : Reader A} → IsEntry
 literal_byte {entry = entry} e = or_byte (means_byte in_middle (then_byte _ (then_byte blanks (word_byte 123 []))))
     (or_byte (means_byte one_sequence (sequence_byte entry)) (means_byte one_instant e.has_byte))
 
-abbrev pub IsEnd : Text → Type 0
-IsEnd rest = rest ≡ []
-
 pub temporal_exact : {A : Type 0} {entry : Language A} {reader : Reader A} → IsEntry entry reader → Exact (temporal entry) (temporal_at reader) IsEnd
 unfolding temporal_at
-temporal_exact {A} {entry} {reader} e = means_exact in_middle (then_byte_stops (run_exact is_blank)
-    (then_exact (literal_exact e) (exact_less (run_exact is_blank) (λ rest after. subst (Stops is_blank) (sym after) tt))
-    (λ text rest v said after. (tt, (tt, blanks_close (text ++ rest) (subst (AreAll is_blank) (sym (ap (λ (t : Text). text ++ t) after ∙ append-nil text ∙ said.is)) said.each)))))
-    (byte_head _ (literal_head e) (literal_byte e)) (then_byte _ (literal_byte e)))
+temporal_exact e = within_exact (literal_exact e) (literal_head e) (literal_byte e) (λ bs each. (tt, (tt, blanks_close bs each)))

@@ -14,6 +14,7 @@ use Rattle.mob_normal.proofs.Unique.{unique}
 use Rattle.mob_literal.specs.declared.written.Written.{Written}
 use Rattle.mob_literal.specs.Means.{Means, step_value}
 use Rattle.mob_literal.specs.Sequence.{IsSequence}
+use Rattle.mob_literal.proofs.OneReading.{one_option}
 use Rattle.mob_literal.proofs.SequenceExact.{bracketed_exact}
 
 pub one_sequence : (text : Text) (v w : List (Written Ratio)) → IsSequence text v → IsSequence text w → v ≡ w
@@ -21,12 +22,6 @@ one_sequence text v w p q =
     let first = bracketed_exact.complete text [] v p.said tt in
     let second = bracketed_exact.complete text [] w q.said tt in
     ap (λ (x : List (Written Ratio) × Text). x.0) (some_is (v, []) (w, []) (sym first ∙ second))
-
--- two options with the same value are the same
-one_option : {B : Type 0} (o p : Option B) → ((x : B) → (o ≡ Some x) ↔ (p ≡ Some x)) → o ≡ p
-one_option None None h = refl
-one_option None (Some y) h = (h y).1 refl
-one_option (Some x) p h = sym ((h x).0 refl)
 
 pub one_value : (lower_inc upper_inc : Bool) (instants : List (Written Ratio)) (v w : List (Slice (Steady Ratio)))
     → Means same lower_inc instants upper_inc v → Means same lower_inc instants upper_inc w → v ≡ w

@@ -11,3 +11,7 @@ pub mod Means
 pub mod Printed
 pub mod Runs
 pub mod Style
+pub mod SqlText
+pub mod Fields
+pub mod Readable
+pub mod SqlReadable

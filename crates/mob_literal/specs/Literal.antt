@@ -4,8 +4,8 @@
 -- stand at both ends, and on both sides of each sign that stands outside a value and a moment. An instant that stands alone or in a
 -- set stands for the sequence of that instant alone, so each literal stands for a list of sequences.
 use Rattle.std.specs.Prelude.{ℕ, List, [], ◌∷◌, map, codes, Bool, true, ◌||◌, nat_eq, Option, ℤ}
-use Rattle.mob_language.specs.Language.{Text, Language, ◌▷◌, ◌∣◌, Means, Word, OneOf, Separated, blanks, spaced}
-use Rattle.mob_language.specs.Readers.{Reader, then_at, or_at, means_at, word_at, one_at, separated_at, blanks_at, spaced_at}
+use Rattle.mob_language.specs.Language.{Text, Language, ◌▷◌, ◌∣◌, Means, Word, OneOf, Separated, blanks, spaced, in_middle, within_blanks}
+use Rattle.mob_language.specs.Readers.{Reader, then_at, or_at, means_at, word_at, one_at, separated_at, blanks_at, spaced_at, within_blanks_at}
 use Rattle.mob_scalar.specs.declared.stamp.Stamp.{Stamp}
 use Rattle.mob_scalar.specs.Moment.{moment, instant}
 use Rattle.mob_scalar.specs.MomentReaders.{moment_at}
@@ -52,9 +52,6 @@ sequence entry = Means sequence_of (opening ▷ (Separated entry comma ▷ closi
 abbrev pub alone : {A : Type 0} → A → Sequence A
 alone i = record { lower_inc = true; instants = i ∷ []; upper_inc = true }
 
-abbrev pub in_middle : {A B C : Type 0} → A × (B × C) → B
-in_middle v = v.1.0
-
 -- sequences, or instants, with commas between
 abbrev pub members : {A : Type 0} → (Text → A → Type 0) → Language (List (Sequence A))
 members entry = Separated (sequence entry) comma ∣ Means (map alone) (Separated entry comma)
@@ -73,7 +70,7 @@ literal entry = braced entry ∣ (Means one_sequence (sequence entry) ∣ Means 
 
 -- a literal, with blanks at both ends
 abbrev pub temporal : {A : Type 0} → (Text → A → Type 0) → Language (List (Sequence A))
-temporal entry = Means in_middle (blanks ▷ (literal entry ▷ blanks))
+temporal entry = within_blanks (literal entry)
 
 -- ---- the readers of these languages
 
@@ -117,4 +114,4 @@ unfoldable pub literal_at : {A : Type 0} → Reader A → Reader (List (Sequence
 literal_at entry = or_at (braced_at entry) (or_at (means_at one_sequence (sequence_at entry)) (means_at one_instant entry))
 
 unfoldable pub temporal_at : {A : Type 0} → Reader A → Reader (List (Sequence A))
-temporal_at entry = means_at in_middle (then_at blanks_at (then_at (literal_at entry) blanks_at))
+temporal_at entry = within_blanks_at (literal_at entry)

@@ -1,18 +1,69 @@
 //! What holds of every literal. No code runs here.
 
-ghost use Rattle.std.specs.Prelude.{◌≡◌, List, true};
+ghost use Rattle.std.specs.Prelude.{◌≡◌, ◌≢◌, List, Bool, ℕ, ℤ, Result, Ok, Err, true, false};
 ghost use Rattle.mob_language.specs.Language.{Text};
+ghost use Rattle.mob_ast.specs.declared.types.SqlType.{SqlType};
+ghost use Rattle.mob_literal.specs.Fields.{is_null_field, text_of_field, field_text};
 ghost use Rattle.mob_literal.specs.Means.{Means};
+ghost use Rattle.mob_literal.specs.Printed.{steps_text};
+ghost use Rattle.mob_literal.specs.Readable.{AnyTruth, IsInt, IsReadable, IsText};
 ghost use Rattle.mob_literal.specs.Sequence.{IsSequence};
+ghost use Rattle.mob_literal.specs.Sound.{steps};
+ghost use Rattle.mob_literal.specs.SqlReadable.{IsReadableAs};
+ghost use Rattle.mob_literal.specs.SqlText.{SaysAs, value_text};
+ghost use Rattle.mob_literal.specs.Style.{style_of};
+ghost use Rattle.mob_literal.specs.Values.{any_value, is_whole, number_value, quoted_value, truth_value};
 ghost use Rattle.mob_literal.specs.declared.written.Written.{Written};
 ghost use Rattle.mob_ratio.specs.Order.{same};
 ghost use Rattle.mob_ratio.specs.Ratio.{Ratio};
+ghost use Rattle.mob_scalar.specs.NumberText.{number_text};
+ghost use Rattle.mob_scalar.specs.Quoted.{quoted_text};
+ghost use Rattle.mob_scalar.specs.Truth.{truth_text};
+ghost use Rattle.mob_scalar.specs.Verdict.{HasOneReading, Lit};
+ghost use Rattle.mob_scalar.specs.declared.fault.ReadText.{ReadText};
+ghost use Rattle.mob_scalar.specs.declared.fault.ReadText.TheVariants.{NoMemory};
+ghost use Rattle.mob_slice.specs.Sameness.{same_bool, same_bytes};
 ghost use Rattle.mob_slice.specs.declared.slice.Slice.{Slice};
 ghost use Rattle.mob_slice.specs.declared.steady.Steady.{Steady};
+ghost use Rattle.mob_value.specs.declared.value.Value.{Value};
+ghost use Rattle.mob_value.specs.declared.value.Value.TheVariants.{Null};
 
 /// A text is a sequence of one list of instants, and these define one value.
 pub fn one_value()
     ensures instants { (text : Text) (v w : List (Written Ratio)) → IsSequence text v → IsSequence text w → v ≡ w }
     ensures value { (instants : List (Written Ratio)) (v w : List (Slice (Steady Ratio)))
         → Means same true instants true v → Means same true instants true w → v ≡ w }
+{}
+
+/// A literal of a step type has one reading, and so has the text of a value of each type.
+pub fn one_reading()
+    ensures truths { (day : ℤ) → HasOneReading (steps day truth_value any_value same_bool) }
+    ensures numbers { (day : ℤ) → HasOneReading (steps day number_value is_whole same) }
+    ensures texts { (day : ℤ) → HasOneReading (steps day quoted_value any_value same_bytes) }
+    ensures values { (ty : SqlType) (day : ℤ) (text : Text) (a b : Result Value ReadText)
+        → a ≢ Err NoMemory → b ≢ Err NoMemory → SaysAs ty day text a → SaysAs ty day text b → a ≡ b }
+{}
+
+/// What is printed of a step value is read again as that value, where its instants lie in the years 0001 to 9999 and at most
+/// 100,000 of them are printed.
+pub fn steps_read_again()
+    ensures truths { (day : ℤ) (v : List (Slice (Steady Bool))) → IsReadable day truth_text AnyTruth same_bool v
+        → Lit (steps day truth_value any_value same_bool) (steps_text (style_of truth_text day) v) (Ok v) }
+    ensures numbers { (day : ℤ) (v : List (Slice (Steady Ratio))) → IsReadable day number_text IsInt same v
+        → Lit (steps day number_value is_whole same) (steps_text (style_of number_text day) v) (Ok v) }
+    ensures texts { (day : ℤ) (v : List (Slice (Steady (List ℕ)))) → IsReadable day quoted_text IsText same_bytes v
+        → Lit (steps day quoted_value any_value same_bytes) (steps_text (style_of quoted_text day) v) (Ok v) }
+{}
+
+/// What is printed of a value of a type is read again as that value, under the same conditions on its instants.
+pub fn value_read_again()
+    ensures again { (ty : SqlType) (day : ℤ) (v : Value) → IsReadableAs ty day v → SaysAs ty day (value_text day v) (Ok v) }
+{}
+
+/// The field of NULL is NULL, and the field of a value is read again as that value, under the same conditions on its instants.
+pub fn field_read_again()
+    ensures null { (ty : SqlType) (day : ℤ) → is_null_field ty (field_text day Null) ≡ true }
+    ensures there { (ty : SqlType) (day : ℤ) (v : Value) → IsReadableAs ty day v → is_null_field ty (field_text day v) ≡ false }
+    ensures again { (ty : SqlType) (day : ℤ) (v : Value) → IsReadableAs ty day v
+        → SaysAs ty day (text_of_field ty (field_text day v)) (Ok v) }
 {}

@@ -1,17 +1,21 @@
-//! Literals of temporal values: what their texts mean, and how the values print.
+//! Literals of temporal values and texts of SQL values: what they mean, and how the values print.
 #![tactic(auto)]
 
+mod fields;
 pub mod laws;
 mod literal;
 pub mod printing;
 pub mod reading;
 mod sequence;
+mod sql;
 mod steps;
 pub mod temporal;
 pub mod values;
 pub mod written;
 
+pub use fields::{read_field, write_field};
 pub use literal::WrittenValue;
+pub use sql::{read_value, write_value};
 
 #[cfg(test)]
 mod tests;

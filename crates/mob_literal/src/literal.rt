@@ -47,7 +47,7 @@ pub trait WrittenValue {
 
 #[tactic(auto, unfolding(crate::specs::Literal::at_sign_at))]
 fn at_sign_at(bytes: &[u8]) -> Option<&[u8]>
-    ensures { option_map (λ x. (tt, x.now)) result ≡ at_sign_in bytes.now }
+    ensures read { option_map (λ x. (tt, x.now)) result ≡ at_sign_in bytes.now }
 {
     match blanks(bytes).1 {
         [64, rest @ ..] => Some(blanks(rest).1),
@@ -57,7 +57,7 @@ fn at_sign_at(bytes: &[u8]) -> Option<&[u8]>
 
 #[tactic(auto, unfolding(crate::specs::Literal::comma_at))]
 fn comma_at(bytes: &[u8]) -> Option<&[u8]>
-    ensures { option_map (λ x. (tt, x.now)) result ≡ comma_in bytes.now }
+    ensures read { option_map (λ x. (tt, x.now)) result ≡ comma_in bytes.now }
 {
     match blanks(bytes).1 {
         [44, rest @ ..] => Some(blanks(rest).1),
@@ -67,7 +67,7 @@ fn comma_at(bytes: &[u8]) -> Option<&[u8]>
 
 #[tactic(auto, unfolding(crate::specs::Literal::opening_at))]
 fn opening_at(bytes: &[u8]) -> Option<(u8, &[u8])>
-    ensures { option_map (λ x. (x.0, x.1.now)) result ≡ opening_in bytes.now }
+    ensures read { option_map (λ x. (x.0, x.1.now)) result ≡ opening_in bytes.now }
 {
     match bytes {
         [91, rest @ ..] => Some((91, blanks(rest).1)),
@@ -78,7 +78,7 @@ fn opening_at(bytes: &[u8]) -> Option<(u8, &[u8])>
 
 #[tactic(auto, unfolding(crate::specs::Literal::closing_at))]
 fn closing_at(bytes: &[u8]) -> Option<(u8, &[u8])>
-    ensures { option_map (λ x. (x.0, x.1.now)) result ≡ closing_in bytes.now }
+    ensures read { option_map (λ x. (x.0, x.1.now)) result ≡ closing_in bytes.now }
 {
     match blanks(bytes).1 {
         [93, rest @ ..] => Some((93, rest)),
@@ -92,7 +92,7 @@ fn closing_at(bytes: &[u8]) -> Option<(u8, &[u8])>
 fn instant_of(stamp: Stamp, epoch: &Epoch) -> Option<Frac>
     requires date { is_civil stamp.date ≡ true }
     requires part { IsPartSmall stamp.clock.part }
-    ensures { result ≡ fitting (instant epoch.now stamp) }
+    ensures value { result ≡ fitting (instant epoch.now stamp) }
 {
     match place(stamp, epoch) {
         Ok(instant) => Some(instant),
@@ -107,7 +107,7 @@ fn noted_at<'a, T: WrittenValue>(
     epoch: &Epoch,
     bytes: &'a [u8],
 ) -> Result<Option<(Noted<T::Base>, &'a [u8])>, AllocError>
-    ensures { IfOk result (λ o. option_map (λ x. (x.0, x.1.now)) o ≡ noted_in epoch.now T.reader bytes.now) }
+    ensures read { IfOk result (λ o. option_map (λ x. (x.0, x.1.now)) o ≡ noted_in epoch.now T.reader bytes.now) }
 {
     let Some((value, rest)) = T::value_at(alloc, bytes)? else {
         return Ok(None);
@@ -134,7 +134,7 @@ fn instants_at<'a, T: WrittenValue>(
     epoch: &Epoch,
     bytes: &'a [u8],
 ) -> Result<Option<(Instants<T::Base>, &'a [u8])>, AllocError>
-    ensures { IfOk result (λ o. option_map (λ x. (x.0.items, x.1.now)) o ≡ instants_in (noted_in epoch.now T.reader) bytes.now) }
+    ensures read { IfOk result (λ o. option_map (λ x. (x.0.items, x.1.now)) o ≡ instants_in (noted_in epoch.now T.reader) bytes.now) }
 {
     let mut instants = Vec::new(alloc);
     let mut rest = bytes;
@@ -158,7 +158,7 @@ fn sequence_at<'a, T: WrittenValue>(
     epoch: &Epoch,
     bytes: &'a [u8],
 ) -> Result<Option<(Sequence<Noted<T::Base>>, &'a [u8])>, AllocError>
-    ensures { IfOk result (λ o. option_map (λ x. (x.0, x.1.now)) o ≡ sequence_in (noted_in epoch.now T.reader) bytes.now) }
+    ensures read { IfOk result (λ o. option_map (λ x. (x.0, x.1.now)) o ≡ sequence_in (noted_in epoch.now T.reader) bytes.now) }
 {
     let Some((bracket, rest)) = opening_at(bytes) else {
         return Ok(None);
@@ -186,7 +186,7 @@ fn sequences_at<'a, T: WrittenValue>(
     epoch: &Epoch,
     bytes: &'a [u8],
 ) -> Result<Option<(Sequences<T::Base>, &'a [u8])>, AllocError>
-    ensures { IfOk result (λ o. option_map (λ x. (x.0.items, x.1.now)) o ≡ sequences_in (noted_in epoch.now T.reader) bytes.now) }
+    ensures read { IfOk result (λ o. option_map (λ x. (x.0.items, x.1.now)) o ≡ sequences_in (noted_in epoch.now T.reader) bytes.now) }
 {
     let mut sequences = Vec::new(alloc);
     let mut rest = bytes;
@@ -205,7 +205,7 @@ fn sequences_at<'a, T: WrittenValue>(
 
 /// The sequence of one instant alone.
 fn alone<A: Drop>(alloc: Global, instant: A) -> Result<Sequence<A>, AllocError>
-    ensures { IfOk result (λ q. q ≡ alone_of instant) }
+    ensures made { IfOk result (λ q. q ≡ alone_of instant) }
 {
     let mut instants = Items::new(alloc);
     instants.push(instant)?;
@@ -218,7 +218,7 @@ fn alone<A: Drop>(alloc: Global, instant: A) -> Result<Sequence<A>, AllocError>
 
 /// Each instant as the sequence of it alone.
 fn each_alone<A: Drop>(alloc: Global, instants: Vec<A>) -> Result<Vec<Sequence<A>>, AllocError>
-    ensures { IfOk result (λ v. v.items ≡ map alone_of instants.items) }
+    ensures made { IfOk result (λ v. v.items ≡ map alone_of instants.items) }
 {
     let mut sequences = Vec::new(alloc);
     for instant in instants {
@@ -234,7 +234,7 @@ fn members_at<'a, T: WrittenValue>(
     epoch: &Epoch,
     bytes: &'a [u8],
 ) -> Result<Option<(Sequences<T::Base>, &'a [u8])>, AllocError>
-    ensures { IfOk result (λ o. option_map (λ x. (x.0.items, x.1.now)) o ≡ members_in (noted_in epoch.now T.reader) bytes.now) }
+    ensures read { IfOk result (λ o. option_map (λ x. (x.0.items, x.1.now)) o ≡ members_in (noted_in epoch.now T.reader) bytes.now) }
 {
     if let Some(found) = sequences_at::<T>(alloc, epoch, bytes)? {
         return Ok(Some(found));
@@ -251,7 +251,7 @@ fn braced_at<'a, T: WrittenValue>(
     epoch: &Epoch,
     bytes: &'a [u8],
 ) -> Result<Option<(Sequences<T::Base>, &'a [u8])>, AllocError>
-    ensures { IfOk result (λ o. option_map (λ x. (x.0.items, x.1.now)) o ≡ braced_in (noted_in epoch.now T.reader) bytes.now) }
+    ensures read { IfOk result (λ o. option_map (λ x. (x.0.items, x.1.now)) o ≡ braced_in (noted_in epoch.now T.reader) bytes.now) }
 {
     let [123, rest @ ..] = bytes else {
         return Ok(None);
@@ -271,7 +271,7 @@ fn one_sequence_at<'a, T: WrittenValue>(
     epoch: &Epoch,
     bytes: &'a [u8],
 ) -> Result<Option<(Sequences<T::Base>, &'a [u8])>, AllocError>
-    ensures { IfOk result (λ o. option_map (λ x. (x.0.items, x.1.now)) o ≡ means_at one_sequence (sequence_in (noted_in epoch.now T.reader)) bytes.now) }
+    ensures read { IfOk result (λ o. option_map (λ x. (x.0.items, x.1.now)) o ≡ means_at one_sequence (sequence_in (noted_in epoch.now T.reader)) bytes.now) }
 {
     let Some((sequence, rest)) = sequence_at::<T>(alloc, epoch, bytes)? else {
         return Ok(None);
@@ -287,7 +287,7 @@ fn one_instant_at<'a, T: WrittenValue>(
     epoch: &Epoch,
     bytes: &'a [u8],
 ) -> Result<Option<(Sequences<T::Base>, &'a [u8])>, AllocError>
-    ensures { IfOk result (λ o. option_map (λ x. (x.0.items, x.1.now)) o ≡ means_at one_instant (noted_in epoch.now T.reader) bytes.now) }
+    ensures read { IfOk result (λ o. option_map (λ x. (x.0.items, x.1.now)) o ≡ means_at one_instant (noted_in epoch.now T.reader) bytes.now) }
 {
     let Some((instant, rest)) = noted_at::<T>(alloc, epoch, bytes)? else {
         return Ok(None);
@@ -303,7 +303,7 @@ fn literal_at<'a, T: WrittenValue>(
     epoch: &Epoch,
     bytes: &'a [u8],
 ) -> Result<Option<(Sequences<T::Base>, &'a [u8])>, AllocError>
-    ensures { IfOk result (λ o. option_map (λ x. (x.0.items, x.1.now)) o ≡ literal_in (noted_in epoch.now T.reader) bytes.now) }
+    ensures read { IfOk result (λ o. option_map (λ x. (x.0.items, x.1.now)) o ≡ literal_in (noted_in epoch.now T.reader) bytes.now) }
 {
     if let Some(found) = braced_at::<T>(alloc, epoch, bytes)? {
         return Ok(Some(found));
@@ -321,7 +321,7 @@ pub fn literal_of<T: WrittenValue>(
     epoch: &Epoch,
     bytes: &[u8],
 ) -> Result<Option<Sequences<T::Base>>, AllocError>
-    ensures { IfOk result (λ o. option_map (λ x. x.items) o ≡ all_of (temporal_in (noted_in epoch.now T.reader)) bytes.now) }
+    ensures read { IfOk result (λ o. option_map (λ x. x.items) o ≡ all_of (temporal_in (noted_in epoch.now T.reader)) bytes.now) }
 {
     let Some((sequences, rest)) = literal_at::<T>(alloc, epoch, blanks(bytes).1)? else {
         return Ok(None);

@@ -50,7 +50,7 @@ pub fn slices_of<B: BaseValue + Drop>(
 
 /// The value of a written instant on a span.
 fn slice_on<B: BaseValue + Drop>(span: Span, written: Written<B>) -> Slice<Steady<B>>
-    ensures { result ≡ record { span = span; course = record { value = written.value } } }
+    ensures value { result ≡ record { span = span; course = record { value = written.value } } }
 {
     let Written { value, instant: _ } = written;
     Slice {

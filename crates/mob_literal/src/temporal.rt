@@ -16,7 +16,7 @@ use std::alloc::{AllocError, Global};
 
 /// Whether there are more than 100,000 instants.
 fn is_long<A>(sequences: &[Sequence<A>]) -> bool
-    ensures { result ≡ long sequences.now }
+    ensures value { result ≡ long sequences.now }
 {
     let mut count = 0;
     for sequence in sequences {
@@ -30,7 +30,7 @@ fn is_long<A>(sequences: &[Sequence<A>]) -> bool
 
 /// The value at the instant, where the numbers of both fit.
 fn written_of<B: Drop>(noted: Noted<B>) -> Option<Written<B>>
-    ensures { result ≡ written_in noted }
+    ensures value { result ≡ written_in noted }
 {
     let Noted { value, instant } = noted;
     let value = value?;
@@ -42,7 +42,7 @@ fn fitting_instants<B: Drop>(
     alloc: Global,
     instants: Vec<Noted<B>>,
 ) -> Result<Option<Vec<Written<B>>>, AllocError>
-    ensures { IfOk result (λ o. option_map (λ v. v.items) o ≡ traverse written_in instants.items) }
+    ensures fitting { IfOk result (λ o. option_map (λ v. v.items) o ≡ traverse written_in instants.items) }
 {
     let mut fitting = Vec::new(alloc);
     for noted in instants {
@@ -58,7 +58,7 @@ fn fitting_sequence<B: Drop>(
     alloc: Global,
     sequence: Sequence<Noted<B>>,
 ) -> Result<Option<Sequence<Written<B>>>, AllocError>
-    ensures { IfOk result (λ o. o ≡ fitting_in sequence) }
+    ensures fitting { IfOk result (λ o. o ≡ fitting_in sequence) }
 {
     let Sequence {
         lower_inc,
@@ -80,7 +80,7 @@ fn fitting_all<B: Drop>(
     alloc: Global,
     sequences: Vec<Sequence<Noted<B>>>,
 ) -> Result<Option<Vec<Sequence<Written<B>>>>, AllocError>
-    ensures { IfOk result (λ o. option_map (λ v. v.items) o ≡ all_fitting sequences.items) }
+    ensures fitting { IfOk result (λ o. option_map (λ v. v.items) o ≡ all_fitting sequences.items) }
 {
     let mut fitting = Vec::new(alloc);
     for sequence in sequences {
@@ -93,7 +93,7 @@ fn fitting_all<B: Drop>(
 }
 
 fn clear_ends<B>(upper_inc: bool, lower_inc: bool, end: &Written<B>, start: &Written<B>) -> bool
-    ensures { result ≡ ends_clear upper_inc lower_inc (Some end.now) (Some start.now) }
+    ensures value { result ≡ ends_clear upper_inc lower_inc (Some end.now) (Some start.now) }
 {
     end.instant.is_before(&start.instant)
         || (!start.instant.is_before(&end.instant) && !(upper_inc && lower_inc))
@@ -101,7 +101,7 @@ fn clear_ends<B>(upper_inc: bool, lower_inc: bool, end: &Written<B>, start: &Wri
 
 /// Whether one sequence ends before another begins.
 fn is_before<B>(sequence: &Sequence<Written<B>>, next: &Sequence<Written<B>>) -> bool
-    ensures { result ≡ precedes sequence.now next.now }
+    ensures value { result ≡ precedes sequence.now next.now }
 {
     let Some(end) = sequence.instants.as_slice().last() else {
         return false;
@@ -114,7 +114,7 @@ fn is_before<B>(sequence: &Sequence<Written<B>>, next: &Sequence<Written<B>>) ->
 
 /// Whether each sequence ends before the next one begins.
 fn are_in_order<B>(sequences: &[Sequence<Written<B>>]) -> bool
-    ensures { result ≡ in_order sequences.now }
+    ensures value { result ≡ in_order sequences.now }
 {
     let [first, rest @ ..] = sequences else {
         return true;
@@ -130,7 +130,7 @@ fn are_in_order<B>(sequences: &[Sequence<Written<B>>]) -> bool
 }
 
 fn has_values<T: WrittenValue>(instants: &[Written<T::Base>]) -> bool
-    ensures { result ≡ list_all (λ i. T.has_value i.value) instants.now }
+    ensures value { result ≡ list_all (λ i. T.has_value i.value) instants.now }
 {
     for instant in instants {
         if !T::has_value(&instant.value) {
@@ -147,7 +147,7 @@ fn sequence_slices<T: WrittenValue>(
     alloc: Global,
     sequence: Sequence<Written<T::Base>>,
 ) -> Result<Option<Slices<T::Base>>, AllocError>
-    ensures { IfOk result (λ o. option_map (λ v. v.items) o ≡ made_sequence T.has_value T.Base.is_same sequence) }
+    ensures made { IfOk result (λ o. option_map (λ v. v.items) o ≡ made_sequence T.has_value T.Base.is_same sequence) }
 {
     let Sequence {
         lower_inc,
@@ -165,7 +165,7 @@ fn all_slices<T: WrittenValue>(
     alloc: Global,
     sequences: Vec<Sequence<Written<T::Base>>>,
 ) -> Result<Option<Slices<T::Base>>, AllocError>
-    ensures { IfOk result (λ o. option_map (λ v. v.items) o ≡ made_all T.has_value T.Base.is_same sequences.items) }
+    ensures made { IfOk result (λ o. option_map (λ v. v.items) o ≡ made_all T.has_value T.Base.is_same sequences.items) }
 {
     let mut all = Vec::new(alloc);
     for sequence in sequences {

@@ -1,4 +1,4 @@
--- The printed text of a number is a text of that number.
+-- The printed text of a number, and of a truth value, is a text of that number, and of that truth value.
 use Rattle.std.proofs.Common.{◌≡◌, ℕ, ◌^◌, ◌<◌, ◌≤◌, [], ◌∷◌, ◌++◌, length, Bool, true, false, cond, Some, None, ℤ, pos, negsuc, nat_abs, refl, sym, ap, subst, ◌∙◌, append_assoc, arith, rules, codes, inl, inr}
 use Rattle.std.specs.Prelude.{nat_eq, Ok}
 use Rattle.std.specs.Int.{IsInRange}
@@ -23,7 +23,8 @@ use Rattle.mob_scalar.specs.Number.{numeral_of, has_digits, sign, tail, number}
 use Rattle.mob_scalar.specs.NumberValue.{value}
 use Rattle.mob_scalar.specs.NumberText.{number_text}
 use Rattle.mob_scalar.specs.Verdict.{Lit}
-use Rattle.mob_scalar.specs.Numbers.{numbers}
+use Rattle.mob_scalar.specs.Numbers.{numbers, whole_numbers}
+use Rattle.mob_scalar.specs.Truth.{truth, truth_text, truths}
 
 digit_test : (c : ℕ) → IsInRange 48 57 c → is_digit c ≡ true
 digit_test c h = search rules
@@ -137,8 +138,24 @@ number_says false z d e h k p = record {
   is = ap (λ (y : ℤ). over y d) (value_is z);
 }
 
+pub number_plain : (q : Ratio) → Fits q → (n : Numeral) × number (number_text q) n × (q ≡ value n)
+number_plain q f =
+    let s = number_says (nat_eq q.den 1) q.num q.den refl f.num_fits f.den_fits (den_pos q) in
+    (s.numeral, s.said, sym (s.is ∙ over-self q))
+
 pub number_again : (q : Ratio) → Fits q → Lit numbers (number_text q) (Ok q)
 number_again q f =
-    let s = number_says (nat_eq q.den 1) q.num q.den refl f.num_fits f.den_fits (den_pos q) in
-    let e : q ≡ value s.numeral = sym (s.is ∙ over-self q) in
-    (s.numeral, within_said (number_text q) s.numeral s.said, (λ x. x), (λ no. no (subst Fits e f)), (λ x. x), e)
+    let n = number_plain q f in
+    (n.0, within_said (number_text q) n.0 n.1, (λ x. x), (λ no. no (subst Fits n.2 f)), (λ x. x), n.2)
+
+pub whole_again : (q : Ratio) → Fits q → q.den ≡ 1 → Lit whole_numbers (number_text q) (Ok q)
+whole_again q f one =
+    let n = number_plain q f in
+    (n.0, within_said (number_text q) n.0 n.1, (λ x. x), (λ no. no (subst Fits n.2 f)), (λ no. no (subst (λ (x : Ratio). x.den ≡ 1) n.2 one)), n.2)
+
+pub truth_plain : (b : Bool) → truth (truth_text b) b
+truth_plain true = record { meant = codes "t"; said = record { said = record { is = refl; each = (refl, tt) }; holds = refl }; is = refl }
+truth_plain false = record { meant = codes "f"; said = record { said = record { is = refl; each = (refl, tt) }; holds = refl }; is = refl }
+
+pub truth_again : (b : Bool) → Lit truths (truth_text b) (Ok b)
+truth_again b = (b, within_said (truth_text b) b (truth_plain b), (λ x. x), (λ x. x), (λ x. x), refl)

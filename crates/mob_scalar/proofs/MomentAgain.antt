@@ -293,9 +293,9 @@ unfolding stamp_for
 stamp_part q d s p = part_is (part_numerator q) q.den (part_of p.o) (den_pos q) p.is
 
 -- the text of an instant of the years 0001 to 9999 is a text of that instant
-pub moment_again : (epoch : ℤ) (q : Ratio) → Fits q → HasDate epoch q → Lit (moments epoch) (moment_text epoch q) (Ok q)
+pub moment_plain : (epoch : ℤ) (q : Ratio) → Fits q → HasDate epoch q → (s : Stamp) × moment (moment_text epoch q) s × (q ≡ instant epoch s)
 unfolding second_text
-moment_again epoch q fits date =
+moment_plain epoch q fits date =
     let n = second_of epoch q in
     let day = int_div_euclid n (pos 86400) in
     let clock = unsigned_abs (int_rem_euclid n (pos 86400)) in
@@ -307,7 +307,12 @@ moment_again epoch q fits date =
     let years : is_in_years s ≡ true = ap is_year_second same ∙ date in
     let said = stamp_said (date_of day) clock (part_numerator q) q.den its.there lt p years in
     let e : q ≡ instant epoch s = stamp_instant epoch q (date_of day) clock p same in
-    (s, within_said (moment_text epoch q) s (subst (λ (t : Text). moment t s) (text_is epoch q date) said), (λ x. x), (λ no. no (subst Fits e fits)), (λ x. x), e)
+    (s, subst (λ (t : Text). moment t s) (text_is epoch q date) said, e)
   where
     stamp_instant : (epoch : ℤ) (q : Ratio) (d : Civil) (clock : ℕ) (p : SaysPart (part_text (part_numerator q) q.den) (part_numerator q) q.den) → seconds (stamp_for d clock (part_of p.o)) ≡ second_of epoch q → q ≡ instant epoch (stamp_for d clock (part_of p.o))
     stamp_instant epoch q d clock p same = instant_is epoch q (stamp_for d clock (part_of p.o)) same (stamp_part q d clock p)
+
+pub moment_again : (epoch : ℤ) (q : Ratio) → Fits q → HasDate epoch q → Lit (moments epoch) (moment_text epoch q) (Ok q)
+moment_again epoch q fits date =
+    let m = moment_plain epoch q fits date in
+    (m.0, within_said (moment_text epoch q) m.0 m.1, (λ x. x), (λ no. no (subst Fits m.2 fits)), (λ x. x), m.2)

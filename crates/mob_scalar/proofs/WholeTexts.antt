@@ -98,17 +98,21 @@ number_whole = within_exact number_exact (number_head is_blank sign_blank digit_
 
 -- ---- moments
 
-fixed_blank : (k : ℕ) → NoHead (fixed k) is_blank
-fixed_blank k = means_head (where_head (means_head (where_head (run_head digit_blank))))
-
 date_byte : HasByte date
 date_byte = where_byte is_civil (means_byte civil_of (then_byte _ (fixed_byte 3)))
 
-date_blank : NoHead date is_blank
-date_blank = where_head (means_head (byte_head _ (fixed_blank 4) (fixed_byte 3)))
+-- a moment begins with a digit
+pub moment_head : (test : ℕ → Bool) → Apart is_digit test → NoHead moment test
+moment_head test d = where_head (means_head (byte_head (Maybe time) date_head date_byte))
+  where
+    year_head : NoHead (fixed 4) test
+    year_head = means_head (where_head (means_head (where_head (run_head d))))
+
+    date_head : NoHead date test
+    date_head = where_head (means_head (byte_head _ year_head (fixed_byte 3)))
 
 pub moment_blank : NoHead moment is_blank
-moment_blank = where_head (means_head (byte_head (Maybe time) date_blank date_byte))
+moment_blank = moment_head is_blank digit_blank
 
 pub moment_byte : HasByte moment
 moment_byte = where_byte is_in_years (means_byte stamp_of (then_byte (Maybe time) date_byte))

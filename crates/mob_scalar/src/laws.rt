@@ -1,15 +1,15 @@
 //! Laws of reading and printing: each is a promise without running code.
-ghost use Rattle.std.specs.Prelude.{◌≡◌, ℕ, ℤ, List, Ok, true};
+ghost use Rattle.std.specs.Prelude.{◌≡◌, ℕ, ℤ, List, Ok, true, Bool};
 ghost use Rattle.mob_ratio.specs.Ratio.{Ratio};
 ghost use Rattle.mob_frac.specs.Fits.{Fits};
-ghost use Rattle.mob_scalar.specs.Numbers.{numbers};
+ghost use Rattle.mob_scalar.specs.Numbers.{numbers, whole_numbers};
 ghost use Rattle.mob_scalar.specs.NumberText.{number_text};
 ghost use Rattle.mob_scalar.specs.Epochs.{epochs};
 ghost use Rattle.mob_scalar.specs.Moments.{moments};
 ghost use Rattle.mob_scalar.specs.MomentText.{HasDate, moment_text};
 ghost use Rattle.std.specs.Str.{is_utf8};
 ghost use Rattle.mob_scalar.specs.Quoted.{quoted_text, text_value};
-ghost use Rattle.mob_scalar.specs.Truth.{truths};
+ghost use Rattle.mob_scalar.specs.Truth.{truth_text, truths};
 ghost use Rattle.mob_scalar.specs.Verdict.{HasOneReading, Lit};
 
 /// A number that is printed is read again as itself.
@@ -17,14 +17,25 @@ pub fn number_read_again()
     ensures again { (q : Ratio) → Fits q → Lit numbers (number_text q) (Ok q) }
 {}
 
+/// An int that is printed is read again as itself.
+pub fn whole_read_again()
+    ensures again { (q : Ratio) → Fits q → q.den ≡ 1 → Lit whole_numbers (number_text q) (Ok q) }
+{}
+
+/// A truth value that is printed is read again as itself.
+pub fn truth_read_again()
+    ensures again { (b : Bool) → Lit truths (truth_text b) (Ok b) }
+{}
+
 /// A moment that is printed is read again as itself, where it lies in the years 0001 to 9999.
 pub fn moment_read_again()
     ensures again { (epoch : ℤ) (t : Ratio) → Fits t → HasDate epoch t → Lit (moments epoch) (moment_text epoch t) (Ok t) }
 {}
 
-/// A text has one reading as a number, as a moment, as a truth value and as an epoch.
+/// A text has one reading as a number, as an int, as a moment, as a truth value and as an epoch.
 pub fn one_reading()
     ensures numbers { HasOneReading numbers }
+    ensures wholes { HasOneReading whole_numbers }
     ensures moments { (epoch : ℤ) → HasOneReading (moments epoch) }
     ensures truths { HasOneReading truths }
     ensures epochs { HasOneReading epochs }

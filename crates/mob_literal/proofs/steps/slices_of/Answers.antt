@@ -22,7 +22,7 @@ loop-next-preserved g c =
       goes = tt;
       ends = tt;
       counted = counted_down _ _ _ _ _ left c.in-Some-next.ensures.steps.1 c.loop-next.invariant.counted;
-      together = made_more g.B.BaseValue.is_same c.loop-next.slices.items c.push.new.self.items c.loop-next.level c.same-level.result c.loop-next.included c.args.upper_inc c.loop-next.last c.in-Some-next.next (into_iter_items c.next-in-loop-next.new.self) first c.same-level.ensures.exact (rw (c.in_ok-push.ensures.items, c.slice_on.ensures, c.in-Some-new.ensures.ends) refl) ∙ (rw left at c.loop-next.invariant.together);
+      together = made_more g.B.BaseValue.is_same c.loop-next.slices.items c.push.new.self.items c.loop-next.level c.same-level.result c.loop-next.included c.args.upper_inc c.loop-next.last c.in-Some-next.next (into_iter_items c.next-in-loop-next.new.self) first c.same-level.ensures.exact (rw (c.in_ok-push.ensures.items, c.slice_on.ensures.value, c.in-Some-new.ensures.ends) refl) ∙ (rw left at c.loop-next.invariant.together);
     }
 
 pub returns : goal.returns
@@ -30,5 +30,5 @@ returns g c =
     let none = nil_from_length (into_iter_items c.loop-next.next-iterator) (sym c.loop-next.invariant.counted ∙ c.in-None.ensures.steps.0) in
     let included = point_included c.loop-next.included c.loop-next.last.instant (rw c.in-Some-new-2.ensures.ends at c.in-Some-new-2.ensures.test) in
     record {
-      made = made_ends g.B.BaseValue.is_same c.loop-next.slices.items c.push-2.new.self.items c.loop-next.level c.loop-next.included c.args.upper_inc c.loop-next.last (into_iter_items c.loop-next.next-iterator) (made g.B.BaseValue.is_same false c.args.lower_inc c.args.instants.items c.args.upper_inc) c.loop-next.invariant.together none (search rules) included (rw (c.in_ok-push-2.ensures.items, c.slice_on-2.ensures, c.in-Some-new-2.ensures.ends) refl);
+      made = made_ends g.B.BaseValue.is_same c.loop-next.slices.items c.push-2.new.self.items c.loop-next.level c.loop-next.included c.args.upper_inc c.loop-next.last (into_iter_items c.loop-next.next-iterator) (made g.B.BaseValue.is_same false c.args.lower_inc c.args.instants.items c.args.upper_inc) c.loop-next.invariant.together none (search rules) included (rw (c.in_ok-push-2.ensures.items, c.slice_on-2.ensures.value, c.in-Some-new-2.ensures.ends) refl);
     }

@@ -12,5 +12,5 @@ loop-sequence-preserved g c =
       goes = tt;
       ends = tt;
       counted = counted_down _ _ _ _ _ left c.in-Some.ensures.steps.1 c.loop-sequence.invariant.counted;
-      together = traverse_more fitting_sequence c.loop-sequence.fitting.items c.push.new.self.items c.in-Some.sequence c.in-Some-2.written (into_iter_items c.next.new.self) (traverse fitting_sequence c.args.sequences.items) (sym (rw c.in-Some-2.is at c.in_ok-written.ensures)) c.in_ok-push.ensures.items (rw left at c.loop-sequence.invariant.together);
+      together = traverse_more fitting_sequence c.loop-sequence.fitting.items c.push.new.self.items c.in-Some.sequence c.in-Some-2.written (into_iter_items c.next.new.self) (traverse fitting_sequence c.args.sequences.items) (sym (rw c.in-Some-2.is at c.in_ok-written.ensures.fitting)) c.in_ok-push.ensures.items (rw left at c.loop-sequence.invariant.together);
     }

@@ -1,0 +1,3 @@
+pub mod Places
+pub mod TypedFacts
+pub mod Within

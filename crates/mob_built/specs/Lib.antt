@@ -1,0 +1,4 @@
+pub mod Least
+pub mod Operators
+pub mod Types
+pub mod Words

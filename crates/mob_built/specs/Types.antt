@@ -1,0 +1,65 @@
+-- Where a script names a type whose values are not built.
+use Rattle.std.specs.Prelude.{◌||◌, ℕ, List, [], ◌∷◌, ◌++◌, Bool, Option, Some, None, codes, if◌then◌else◌}
+use Rattle.std.specs.List.{flat_map}
+use Rattle.std.specs.Str.{bytes_eq}
+use Rattle.mob_ast.specs.declared.types.Word.{Word}
+use Rattle.mob_ast.specs.declared.types.TypeWord.{TypeWord}
+use Rattle.mob_ast.specs.declared.expression.Node.{Node}
+use Rattle.mob_ast.specs.declared.expression.Node.TheVariants as node
+use Rattle.mob_ast.specs.Trees.{Tree, tree, Trees, none, more, RowParts, ItemParts, every, one, KeyParts, SelectParts, StatementParts, empty, create_table, create_index, insert, copy, select, explain}
+-- The words that begin the types whose values are not built: geometry of points and of polygons, spans, span sets, boxes,
+-- and the linear temporal types.
+abbrev pub is_unbuilt_type : List ℕ → Bool
+is_unbuilt_type name = bytes_eq name (codes "geometry") || bytes_eq name (codes "tstzspan") || bytes_eq name (codes "tstzspanset") || bytes_eq name (codes "stbox")
+    || bytes_eq name (codes "tfrac") || bytes_eq name (codes "tfloat") || bytes_eq name (codes "tgeompoint")
+
+-- the place of a type, where it is not built
+abbrev pub in_type : TypeWord → List ℕ
+in_type w = if is_unbuilt_type w.name.text then w.name.place ∷ [] else []
+
+abbrev pub in_node : Node → List ℕ
+in_node (node.Literal w text) = in_type w
+in_node (node.Cast w) = in_type w
+in_node _ = []
+
+-- the places in an expression: in its node and in its arguments
+unfoldable mutual
+  pub in_tree : Tree → List ℕ
+  in_tree (tree n p args) = in_node n ++ in_trees args
+
+  pub in_trees : Trees → List ℕ
+  in_trees none = []
+  in_trees (more t ts) = in_tree t ++ in_trees ts
+
+abbrev pub in_column : Word × TypeWord → List ℕ
+in_column c = in_type c.1
+
+abbrev pub in_row : RowParts → List ℕ
+in_row r = flat_map in_tree r.values
+
+abbrev pub in_item : ItemParts → List ℕ
+in_item (every p) = []
+in_item (one t a) = in_tree t
+
+abbrev pub in_key : KeyParts → List ℕ
+in_key k = in_tree k.value
+
+abbrev pub in_condition : Option Tree → List ℕ
+in_condition None = []
+in_condition (Some t) = in_tree t
+
+abbrev pub in_select : SelectParts → List ℕ
+in_select s = flat_map in_item s.items ++ in_condition s.cond ++ flat_map in_key s.keys
+
+abbrev pub in_statement : StatementParts → List ℕ
+in_statement empty = []
+in_statement (create_table name columns) = flat_map in_column columns
+in_statement (create_index name table column) = []
+in_statement (insert table rows) = flat_map in_row rows
+in_statement (copy table file delimiter) = []
+in_statement (select s) = in_select s
+in_statement (explain s) = in_select s
+
+-- the places at which a script names a type that is not built
+abbrev pub unbuilt_types : List StatementParts → List ℕ
+unbuilt_types ss = flat_map in_statement ss

@@ -1,0 +1,161 @@
+-- The field of a value is read again as that value.
+use Rattle.std.proofs.Common.{◌≡◌, ℕ, ℤ, List, [], ◌∷◌, ◌++◌, length, codes, Bool, true, false, cond, Some, refl, sym, ap, subst, ◌∙◌, Ok, rules}
+use Rattle.std.specs.Prelude.{◌&&◌, not, nat_eq, Contains}
+use Rattle.std.specs.Char.{is_ascii_alphabetic}
+use Rattle.std.specs.List.{list_all}
+use Rattle.std.proofs.lemmas.Bool.{eqb-true}
+use Rattle.mob_ratio.specs.Ratio.{Ratio}
+use Rattle.mob_frac.specs.Fits.{Fits}
+use Rattle.mob_language.specs.Language.{Text, Language}
+use Rattle.mob_language.proofs.Heads.{NoHead, Apart, HasByte}
+use Rattle.mob_language.proofs.Exact.{Stops}
+use Rattle.mob_slice.specs.Sameness.{same_bytes}
+use Rattle.mob_slice.specs.declared.slice.Slice.{Slice}
+use Rattle.mob_slice.specs.declared.steady.Steady.{Steady}
+use Rattle.mob_ast.specs.declared.types.SqlType.{SqlType}
+use Rattle.mob_ast.specs.declared.types.SqlType.TheVariants as sql
+use Rattle.mob_value.specs.declared.value.Value.{Value}
+use Rattle.mob_value.specs.declared.value.Value.TheVariants as value
+use Rattle.mob_scalar.specs.Figures.{is_digit}
+use Rattle.mob_scalar.specs.Number.{is_sign, is_e}
+use Rattle.mob_scalar.specs.NumberText.{number_text}
+use Rattle.mob_scalar.specs.MomentText.{HasDate, moment_text}
+use Rattle.mob_scalar.specs.Truth.{truth_text}
+use Rattle.mob_scalar.specs.Quoted.{quoted_text}
+use Rattle.mob_scalar.proofs.Again.{number_plain}
+use Rattle.mob_scalar.proofs.MomentAgain.{moment_plain}
+use Rattle.mob_scalar.proofs.WholeTexts.{number_head, number_byte, moment_head, moment_byte}
+use Rattle.mob_literal.specs.Printed.{Style, is_long, groups_of, start_text, group_text, groups_text, set_text, steps_text}
+use Rattle.mob_literal.specs.Style.{style_of}
+use Rattle.mob_literal.specs.Readable.{IsDated, IsReadable, IsInt}
+use Rattle.mob_literal.specs.SqlReadable.{IsReadableAs}
+use Rattle.mob_literal.specs.SqlText.{SaysAs, value_text}
+use Rattle.mob_literal.specs.Fields.{is_null_text, is_empty, is_null_field, begins_with_backslash, doubled, undoubled, text_of_field, field_text}
+use Rattle.mob_literal.proofs.Listing.{first_in}
+use Rattle.mob_literal.proofs.GroupSlices.{AreRuns, are_groups}
+use Rattle.mob_literal.proofs.SqlAgain.{value_again}
+
+-- ---- texts that begin with another byte than a backslash
+
+record IsPlain (text : Text) : Type 0 where
+  first : ℕ
+  rest : Text
+  is : text ≡ first ∷ rest
+  plain : nat_eq first 92 ≡ false
+
+is_backslash : ℕ → Bool
+is_backslash c = nat_eq c 92
+
+plain_front : (a b : Text) → IsPlain a → IsPlain (a ++ b)
+plain_front a b p = record { first = p.first; rest = p.rest ++ b; is = ap (λ (t : Text). t ++ b) p.is; plain = p.plain }
+
+plain_said : {A : Type 0} {l : Language A} → NoHead l is_backslash → HasByte l → (text : Text) (v : A) → l text v → IsPlain text
+unfolding is_backslash
+plain_said {A} {l} head byte text v said = by_text text (head text v said) (byte text v said)
+  where
+    by_text : (t : Text) → Stops is_backslash t → (t ≡ [] → ⊥) → IsPlain t
+    by_text [] stops some = absurd (some refl)
+    by_text (c ∷ cs) stops some = record { first = c; rest = cs; is = refl; plain = stops }
+
+sign_plain : Apart is_sign is_backslash
+unfolding is_backslash
+sign_plain c e = search rules
+
+digit_plain : Apart is_digit is_backslash
+unfolding is_backslash
+digit_plain c e = search rules
+
+e_plain : Apart is_e is_backslash
+unfolding is_backslash
+e_plain c e = search rules
+
+truth_is_plain : (b : Bool) → IsPlain (truth_text b)
+truth_is_plain true = record { first = 116; rest = []; is = refl; plain = refl }
+truth_is_plain false = record { first = 102; rest = []; is = refl; plain = refl }
+
+number_is_plain : (q : Ratio) → Fits q → IsPlain (number_text q)
+unfolding is_backslash
+number_is_plain q h = let n = number_plain q h in plain_said (number_head is_backslash sign_plain digit_plain refl refl e_plain) number_byte (number_text q) n.0 n.1
+
+moment_is_plain : (day : ℤ) (t : Ratio) → IsDated day t → IsPlain (moment_text day t)
+moment_is_plain day t d = let m = moment_plain day t d.fits d.dated in plain_said (moment_head is_backslash digit_plain) moment_byte (moment_text day t) m.0 m.1
+
+quoted_is_plain : (v : Text) → IsPlain (quoted_text v)
+unfolding quoted_text
+quoted_is_plain v = record { first = 34; rest = _; is = refl; plain = refl }
+
+module _ {B : Type 0} (style : Style B) where
+  start_is_plain : (s : Slice (Steady B)) → IsPlain (style.value_text s.course.value) → IsPlain (start_text style s)
+  start_is_plain s p = plain_front (style.value_text s.course.value ++ codes "@") (style.moment_text s.span.lower) (plain_front (style.value_text s.course.value) (codes "@") p)
+
+  set_is_plain : (slices : List (Slice (Steady B))) → ((s : Slice (Steady B)) (rest : List (Slice (Steady B))) → slices ≡ s ∷ rest → IsPlain (style.value_text s.course.value)) → IsPlain (set_text style slices)
+  set_is_plain [] h = record { first = 123; rest = _; is = refl; plain = refl }
+  set_is_plain (s ∷ []) h = start_is_plain s (h s [] refl)
+  set_is_plain (s ∷ r ∷ rest) h = record { first = 123; rest = _; is = refl; plain = refl }
+
+  bracket_is_plain : (included : Bool) → IsPlain (cond included (codes "[") (codes "("))
+  bracket_is_plain true = record { first = 91; rest = []; is = refl; plain = refl }
+  bracket_is_plain false = record { first = 40; rest = []; is = refl; plain = refl }
+
+  groups_are_plain : (groups : List (List (Slice (Steady B)))) → AreRuns groups → IsPlain (groups_text style groups)
+  groups_are_plain [] runs = record { first = 123; rest = _; is = refl; plain = refl }
+  groups_are_plain ([] ∷ []) runs = absurd runs
+  groups_are_plain ((s ∷ group) ∷ []) runs = plain_front _ _ (plain_front _ _ (bracket_is_plain s.span.lower_inc))
+  groups_are_plain (group ∷ next ∷ groups) runs = record { first = 123; rest = _; is = refl; plain = refl }
+
+  steps_are_plain : (slices : List (Slice (Steady B))) → ((s : Slice (Steady B)) (rest : List (Slice (Steady B))) → slices ≡ s ∷ rest → IsPlain (style.value_text s.course.value)) → IsPlain (steps_text style slices)
+  steps_are_plain slices h = by_lengths (list_all (λ (s : Slice (Steady B)). not (is_long s)) slices)
+    where
+      by_lengths : (set : Bool) → IsPlain (cond set (set_text style slices) (groups_text style (groups_of slices)))
+      by_lengths true = set_is_plain slices h
+      by_lengths false = groups_are_plain (groups_of slices) (are_groups slices).runs
+
+first_value : {B : Type 0} {day : ℤ} {text : B → Text} {IsWritten : B → Type 0} {is_same : B → B → Bool} → ((v : B) → IsWritten v → IsPlain (text v)) → (slices : List (Slice (Steady B))) → IsReadable day text IsWritten is_same slices → IsPlain (steps_text (style_of text day) slices)
+first_value {B} {day} {text} {IsWritten} {is_same} plain slices r = steps_are_plain (style_of text day) slices (λ s rest e. plain s.course.value (subst (λ (xs : List (Slice (Steady B))). ((x : Slice (Steady B)) → Contains xs x → IsWritten x.course.value) → IsWritten s.course.value) (sym e) (λ f. f s (first_in s rest)) r.values))
+
+-- ---- fields
+
+-- a field that is no NULL in any column
+plain_null : (text : Text) → IsPlain text → (is_empty text ≡ false) × (is_null_text text ≡ false)
+plain_null text p = subst (λ (t : Text). (is_empty t ≡ false) × (is_null_text t ≡ false)) (sym p.is) (refl, rw p.plain refl)
+
+not_null : (text : Text) → IsPlain text → cond (is_empty text) true (is_null_text text) ≡ false
+not_null text p = let n = plain_null text p in rw (n.0, n.1) refl
+
+doubled_null : (t : Text) → is_null_text (doubled t) ≡ false
+unfolding doubled
+doubled_null [] = refl
+doubled_null (c ∷ cs) = by_byte (nat_eq c 92) refl
+  where
+    by_byte : (b : Bool) → nat_eq c 92 ≡ b → is_null_text (cond b (92 ∷ c ∷ cs) (c ∷ cs)) ≡ false
+    by_byte true e = rw (eqb-true c 92 e) refl
+    by_byte false e = rw e refl
+
+doubled_again : (t : Text) → undoubled (doubled t) ≡ t
+unfolding doubled undoubled
+doubled_again [] = refl
+doubled_again (c ∷ cs) = by_byte (nat_eq c 92) refl
+  where
+    by_byte : (b : Bool) → nat_eq c 92 ≡ b → undoubled (cond b (92 ∷ c ∷ cs) (c ∷ cs)) ≡ c ∷ cs
+    by_byte true e = rw e refl
+    by_byte false e = rw e refl
+
+-- a field says the value: it is not NULL, and its text is read as the value
+pub record SaysField (type : SqlType) (day : ℤ) (field : Text) (v : Value) : Type 0 where
+  pub there : is_null_field type field ≡ false
+  pub says : SaysAs type day (text_of_field type field) (Ok v)
+
+pub field_again : (type : SqlType) (day : ℤ) (v : Value) → IsReadableAs type day v → SaysField type day (field_text day v) v
+field_again sql.Bool day (value.Bool b) h = record { there = not_null _ (truth_is_plain b); says = value_again sql.Bool day (value.Bool b) h }
+field_again sql.Int day (value.Number q) h = record { there = not_null _ (number_is_plain q h.fits); says = value_again sql.Int day (value.Number q) h }
+field_again sql.Numeric day (value.Number q) h = record { there = not_null _ (number_is_plain q h); says = value_again sql.Numeric day (value.Number q) h }
+field_again sql.Text day (value.Text t) h = record { there = doubled_null t; says = subst (λ (x : Text). SaysAs sql.Text day x (Ok (value.Text t))) (sym (doubled_again t)) (value_again sql.Text day (value.Text t) h) }
+field_again sql.Moment day (value.Moment t) h = record { there = not_null _ (moment_is_plain day t h); says = value_again sql.Moment day (value.Moment t) h }
+field_again sql.TBool day (value.MovingBool v) h = record { there = not_null _ (first_value (λ b w. truth_is_plain b) v h); says = value_again sql.TBool day (value.MovingBool v) h }
+field_again sql.TInt day (value.MovingInt v) h = record { there = not_null _ (first_value (λ q w. number_is_plain q w.fits) v h); says = value_again sql.TInt day (value.MovingInt v) h }
+field_again sql.TText day (value.MovingText v) h = record { there = not_null _ (first_value (λ t w. quoted_is_plain t) v h); says = value_again sql.TText day (value.MovingText v) h }
+field_again type day v h = absurd h
+
+pub null_again : (type : SqlType) (day : ℤ) → is_null_field type (field_text day value.Null) ≡ true
+null_again sql.Text day = refl
+null_again type day = refl

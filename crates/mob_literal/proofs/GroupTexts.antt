@@ -1,0 +1,251 @@
+-- The printed text of slices is a literal of the sequences of their groups.
+use Rattle.std.proofs.Common.{◌≡◌, ℤ, List, [], ◌∷◌, ◌++◌, map, codes, Bool, true, false, cond, Option, Some, None, refl, sym, ap, subst, ◌∙◌, append_assoc, append-nil, inl, inr}
+use Rattle.std.specs.Prelude.{◌&&◌, not, nat_eq}
+use Rattle.std.specs.List.{list_all}
+use Rattle.mob_ratio.specs.Ratio.{Ratio}
+use Rattle.mob_ratio.specs.Order.{before, same}
+use Rattle.mob_language.specs.Language.{Text, Language, Separated, is_blank}
+use Rattle.mob_language.proofs.Heads.{within_said}
+use Rattle.mob_scalar.specs.declared.stamp.Stamp.{Stamp}
+use Rattle.mob_scalar.specs.Moment.{moment, instant}
+use Rattle.mob_scalar.specs.MomentText.{moment_text}
+use Rattle.mob_slice.specs.declared.slice.Slice.{Slice}
+use Rattle.mob_slice.specs.declared.steady.Steady.{Steady}
+use Rattle.mob_literal.specs.declared.written.Written.{Written}
+use Rattle.mob_literal.specs.declared.written.Noted.{Noted}
+use Rattle.mob_literal.specs.declared.written.Sequence.{Sequence}
+use Rattle.mob_literal.specs.Fitting.{fitting}
+use Rattle.mob_literal.specs.Literal.{at_sign, comma, noted, sequence, members, braced, alone, one_sequence, one_instant, literal, temporal, opening as opening_bracket, closing as closing_bracket}
+use Rattle.mob_literal.specs.Printed.{Style, is_long, goes_on, groups_of, put_first, listed, instant_text, instants_of, start_text, opening, closing, group_text, groups_text, set_text, steps_text, in_braces}
+use Rattle.mob_literal.specs.Style.{style_of}
+use Rattle.mob_literal.proofs.GroupSlices.{Alls, alls_rest, start_of, end_of, more, upper_of, sequence_of, AreRuns, AreGroups, are_groups, joined}
+
+-- ---- signs as they are printed
+
+at_said : at_sign (codes "@") tt
+at_said = record {
+  meant = ([], (tt, []));
+  said = record { front = []; back = codes "@"; whole = refl; first = record { is = refl; each = tt }; second = record { front = codes "@"; back = []; whole = refl; first = refl; second = record { is = refl; each = tt } } };
+  is = refl;
+}
+
+comma_said : comma (codes ", ") tt
+comma_said = record {
+  meant = ([], (tt, codes " "));
+  said = record { front = []; back = codes ", "; whole = refl; first = record { is = refl; each = tt }; second = record { front = codes ","; back = codes " "; whole = refl; first = refl; second = record { is = refl; each = (refl, tt) } } };
+  is = refl;
+}
+
+opening_said : (included : Bool) → opening_bracket (cond included (codes "[") (codes "(")) (cond included 91 40)
+opening_said true = record { meant = (91, []); said = record { front = codes "["; back = []; whole = refl; first = (refl, refl); second = record { is = refl; each = tt } }; is = refl }
+opening_said false = record { meant = (40, []); said = record { front = codes "("; back = []; whole = refl; first = (refl, refl); second = record { is = refl; each = tt } }; is = refl }
+
+closing_said : (included : Bool) → closing_bracket (cond included (codes "]") (codes ")")) (cond included 93 41)
+closing_said true = record { meant = ([], 93); said = record { front = []; back = codes "]"; whole = refl; first = record { is = refl; each = tt }; second = (refl, refl) }; is = refl }
+closing_said false = record { meant = ([], 41); said = record { front = []; back = codes ")"; whole = refl; first = record { is = refl; each = tt }; second = (refl, refl) }; is = refl }
+
+-- the language says each of the values with its text
+abbrev pub Each : {A X : Type 0} → (Text → A → Type 0) → (X → Text) → (X → A) → List X → Type 0
+Each l f g [] = Unit {0}
+Each l f g (x ∷ xs) = l (f x) (g x) × Each l f g xs
+
+pub listed_said : {A X : Type 0} (l : Text → A → Type 0) (f : X → Text) (g : X → A) (x : X) (xs : List X) → Each l f g (x ∷ xs) → Separated l comma (listed (map f (x ∷ xs))) (map g (x ∷ xs))
+listed_said l f g x [] h = h.0
+listed_said l f g x (y ∷ ys) h = (f x, codes ", ", listed (map f (y ∷ ys)), append_assoc (f x) (codes ", ") (listed (map f (y ∷ ys))), h.0, comma_said, listed_said l f g y ys h.1)
+
+bracketed_said : {A : Type 0} (entry : Text → A → Type 0) (lower upper : Bool) (inner : Text) (is : List A) → Separated entry comma inner is
+    → sequence entry (cond lower (codes "[") (codes "(") ++ (inner ++ cond upper (codes "]") (codes ")"))) (record { lower_inc = lower; instants = is; upper_inc = upper })
+bracketed_said {A} entry lower upper inner is h = record {
+  meant = (cond lower 91 40, (is, cond upper 93 41));
+  said = record {
+    front = cond lower (codes "[") (codes "(");
+    back = inner ++ cond upper (codes "]") (codes ")");
+    whole = refl;
+    first = opening_said lower;
+    second = record { front = inner; back = cond upper (codes "]") (codes ")"); whole = refl; first = h; second = closing_said upper };
+  };
+  is = by_ends lower upper;
+} where
+  by_ends : (lower upper : Bool) → ◌≡◌ {A = Sequence A} (record { lower_inc = lower; instants = is; upper_inc = upper }) (record { lower_inc = nat_eq (cond lower 91 40) 91; instants = is; upper_inc = nat_eq (cond upper 93 41) 93 })
+  by_ends true true = refl
+  by_ends true false = refl
+  by_ends false true = refl
+  by_ends false false = refl
+
+braced_said : {A : Type 0} (entry : Text → A → Type 0) (inner : Text) (qs : List (Sequence A)) → members entry inner qs → braced entry (in_braces inner) qs
+braced_said entry inner qs h = record {
+  meant = ((tt, []), (qs, ([], tt)));
+  said = record {
+    front = codes "{";
+    back = inner ++ codes "}";
+    whole = append_assoc (codes "{") inner (codes "}");
+    first = record { front = codes "{"; back = []; whole = refl; first = refl; second = record { is = refl; each = tt } };
+    second = record { front = inner; back = codes "}"; whole = refl; first = h; second = record { front = []; back = codes "}"; whole = refl; first = record { is = refl; each = tt }; second = refl } };
+  };
+  is = refl;
+}
+
+-- ---- values and moments as they are printed
+
+abbrev pub note : {B : Type 0} → Written B → Noted B
+note w = record { value = Some w.value; instant = Some w.instant }
+
+-- a moment that is printed is read, and fits
+pub record IsMomentSaid (day : ℤ) (t : Ratio) : Type 0 where
+  pub stamp : Stamp
+  pub said : moment (moment_text day t) stamp
+  pub fits : fitting (instant day stamp) ≡ Some t
+
+-- the sequence of a group as it is noted
+abbrev pub noted_of_group : {B : Type 0} → List (Slice (Steady B)) → Sequence (Noted B)
+noted_of_group group = record { lower_inc = (sequence_of group).lower_inc; instants = map note (sequence_of group).instants; upper_inc = (sequence_of group).upper_inc }
+
+-- a slice of one instant, both of whose ends are included
+abbrev pub IsPoint : {B : Type 0} → Slice (Steady B) → Type 0
+IsPoint s = (is_long s ≡ false) × (s.span.lower_inc ≡ true) × (s.span.upper_inc ≡ true)
+
+abbrev pub ArePoints : {B : Type 0} → List (Slice (Steady B)) → Type 0
+ArePoints slices = Alls IsPoint slices
+
+module _ {B : Type 0} (day : ℤ) (value : Text → Option B → Type 0) (text : B → Text) where
+  -- what is printed of a slice is read
+  pub record IsSliceSaid (s : Slice (Steady B)) : Type 0 where
+    pub value_said : value (text s.course.value) (Some s.course.value)
+    pub lower_said : IsMomentSaid day s.span.lower
+    pub upper_said : IsMomentSaid day s.span.upper
+
+  abbrev pub AreSaid : List (Slice (Steady B)) → Type 0
+  AreSaid slices = Alls IsSliceSaid slices
+
+  abbrev pub style : Style B
+  style = style_of text day
+
+  abbrev entry : Text → Noted B → Type 0
+  entry = noted day value
+
+  abbrev pub written_text : Written B → Text
+  written_text w = instant_text style w.value w.instant
+
+  noted_said : (v : B) (t : Ratio) → value (text v) (Some v) → IsMomentSaid day t → entry (instant_text style v t) (record { value = Some v; instant = Some t })
+  noted_said v t h m = record {
+    meant = (Some v, (tt, m.stamp));
+    said = record {
+      front = text v;
+      back = codes "@" ++ moment_text day t;
+      whole = append_assoc (text v) (codes "@") (moment_text day t);
+      first = h;
+      second = record { front = codes "@"; back = moment_text day t; whole = refl; first = at_said; second = m.said };
+    };
+    is = ap (λ (o : Option Ratio). record { value = Some v; instant = o }) (sym m.fits);
+  }
+
+  abbrev EachWritten : List (Written B) → Type 0
+  EachWritten is = Each entry written_text note is
+
+  start_said : (s : Slice (Steady B)) → IsSliceSaid s → entry (written_text (start_of s)) (note (start_of s))
+  start_said s h = noted_said s.course.value s.span.lower h.value_said h.lower_said
+
+  end_said : (s : Slice (Steady B)) → IsSliceSaid s → entry (written_text (end_of s)) (note (end_of s))
+  end_said s h = noted_said s.course.value s.span.upper h.value_said h.upper_said
+
+  -- ---- a group
+
+  more_said : (s : Slice (Steady B)) (group tail : List (Slice (Steady B))) → AreSaid (s ∷ (group ++ tail)) → EachWritten (more s group)
+  more_said s [] tail h = by_length (is_long s)
+    where
+      by_length : (long : Bool) → EachWritten (cond long (end_of s ∷ []) [])
+      by_length true = (end_said s h.0, tt)
+      by_length false = tt
+  more_said s (r ∷ group) tail h = (start_said r h.1.0, more_said r group tail h.1)
+
+  pub instants_are : (s : Slice (Steady B)) (group : List (Slice (Steady B))) → instants_of style (s ∷ group) ≡ map written_text (start_of s ∷ more s group)
+  instants_are s [] = by_length (is_long s)
+    where
+      by_length : (long : Bool) → start_text style s ∷ cond long (written_text (end_of s) ∷ []) [] ≡ map written_text (start_of s ∷ cond long (end_of s ∷ []) [])
+      by_length true = refl
+      by_length false = refl
+  instants_are s (r ∷ group) = ap (λ (x : List Text). start_text style s ∷ x) (instants_are r group)
+
+  closing_is : (s : Slice (Steady B)) (group : List (Slice (Steady B))) → closing (s ∷ group) ≡ cond (upper_of s group) (codes "]") (codes ")")
+  closing_is s [] = refl
+  closing_is s (r ∷ group) = closing_is r group
+
+  group_said : (s : Slice (Steady B)) (group tail : List (Slice (Steady B))) → AreSaid (s ∷ (group ++ tail)) → sequence entry (group_text style (s ∷ group)) (noted_of_group (s ∷ group))
+  group_said s group tail h =
+      let inner : Separated entry comma (listed (map written_text (start_of s ∷ more s group))) (map note (start_of s ∷ more s group)) =
+          listed_said entry written_text note (start_of s) (more s group) (start_said s h.0, more_said s group tail h) in
+      let said = bracketed_said entry s.span.lower_inc (upper_of s group) (listed (map written_text (start_of s ∷ more s group))) (map note (start_of s ∷ more s group)) inner in
+      let is : group_text style (s ∷ group) ≡ cond s.span.lower_inc (codes "[") (codes "(") ++ (listed (map written_text (start_of s ∷ more s group)) ++ cond (upper_of s group) (codes "]") (codes ")")) =
+          append_assoc (opening (s ∷ group)) (listed (instants_of style (s ∷ group))) (closing (s ∷ group))
+          ∙ ap (λ (x : List Text). opening (s ∷ group) ++ (listed x ++ closing (s ∷ group))) (instants_are s group)
+          ∙ ap (λ (x : Text). opening (s ∷ group) ++ (listed (map written_text (start_of s ∷ more s group)) ++ x)) (closing_is s group) in
+      subst (λ (x : Text). sequence entry x (noted_of_group (s ∷ group))) (sym is) said
+
+  groups_said : (groups : List (List (Slice (Steady B)))) → AreRuns groups → AreSaid (joined groups) → Each (sequence entry) (group_text style) noted_of_group groups
+  groups_said [] runs h = tt
+  groups_said ([] ∷ groups) runs h = absurd runs
+  groups_said ((s ∷ group) ∷ groups) runs h = (group_said s group (joined groups) h, groups_said groups runs.1 (alls_rest IsSliceSaid (s ∷ group) (joined groups) h))
+
+  -- ---- groups, alone or in braces
+
+  groups_literal : (groups : List (List (Slice (Steady B)))) → (groups ≡ [] → ⊥) → Each (sequence entry) (group_text style) noted_of_group groups → literal entry (groups_text style groups) (map noted_of_group groups)
+  groups_literal [] some h = absurd (some refl)
+  groups_literal (group ∷ []) some h = inr (inl (record { meant = noted_of_group group; said = h.0; is = refl }))
+  groups_literal (group ∷ next ∷ groups) some h =
+      inl (braced_said entry (listed (map (group_text style) (group ∷ next ∷ groups))) (map noted_of_group (group ∷ next ∷ groups)) (inl (listed_said (sequence entry) (group_text style) noted_of_group group (next ∷ groups) h)))
+
+  -- ---- single instants
+
+  abbrev lone : Slice (Steady B) → List (Slice (Steady B))
+  lone s = s ∷ []
+
+  point_groups : (slices : List (Slice (Steady B))) → ArePoints slices → groups_of slices ≡ map lone slices
+  point_groups [] h = refl
+  point_groups (s ∷ []) h = refl
+  point_groups (s ∷ r ∷ rest) h = ap (put_first s) (point_groups (r ∷ rest) h.1) ∙ ends (same s.span.upper r.span.lower) r.span.lower_inc s.span.upper_inc h.0.2
+    where
+      ends : (a b c : Bool) → c ≡ true → cond (a && (b && not c)) ((s ∷ r ∷ []) ∷ map lone rest) ((s ∷ []) ∷ (r ∷ []) ∷ map lone rest) ≡ (s ∷ []) ∷ (r ∷ []) ∷ map lone rest
+      ends true true true e = refl
+      ends true false true e = refl
+      ends false b c e = refl
+      ends a b false e = absurd (never e)
+        where
+          never : false ≡ true → ⊥
+          never e = absurd cc
+
+  abbrev start_note : Slice (Steady B) → Noted B
+  start_note s = note (start_of s)
+
+  lone_is : (s : Slice (Steady B)) → IsPoint s → noted_of_group (lone s) ≡ alone (start_note s)
+  lone_is s h = rw (h.0, h.1, h.2) refl
+
+  points_are : (slices : List (Slice (Steady B))) → ArePoints slices → map noted_of_group (map lone slices) ≡ map alone (map start_note slices)
+  points_are [] h = refl
+  points_are (s ∷ rest) h = ap (λ (q : Sequence (Noted B)). q ∷ map noted_of_group (map lone rest)) (lone_is s h.0) ∙ ap (λ (qs : List (Sequence (Noted B))). alone (start_note s) ∷ qs) (points_are rest h.1)
+
+  starts_said : (slices : List (Slice (Steady B))) → AreSaid slices → Each entry (start_text style) start_note slices
+  starts_said [] h = tt
+  starts_said (s ∷ rest) h = (start_said s h.0, starts_said rest h.1)
+
+  set_literal : (slices : List (Slice (Steady B))) → (slices ≡ [] → ⊥) → AreSaid slices → literal entry (set_text style slices) (map alone (map start_note slices))
+  set_literal [] some h = absurd (some refl)
+  set_literal (s ∷ []) some h = inr (inr (record { meant = start_note s; said = start_said s h.0; is = refl }))
+  set_literal (s ∷ r ∷ rest) some h =
+      inl (braced_said entry (listed (map (start_text style) (s ∷ r ∷ rest))) (map alone (map start_note (s ∷ r ∷ rest)))
+          (inr (record { meant = map start_note (s ∷ r ∷ rest); said = listed_said entry (start_text style) start_note s (r ∷ rest) (starts_said (s ∷ r ∷ rest) h); is = refl })))
+
+  -- ---- all of a text
+
+  groups_some : (slices : List (Slice (Steady B))) → (slices ≡ [] → ⊥) → groups_of slices ≡ [] → ⊥
+  groups_some slices some e = some (sym (are_groups slices).whole ∙ ap joined e)
+
+  pub printed_said : (slices : List (Slice (Steady B))) → (slices ≡ [] → ⊥) → AreSaid slices → (list_all (λ (s : Slice (Steady B)). not (is_long s)) slices ≡ true → ArePoints slices) → temporal entry (steps_text style slices) (map noted_of_group (groups_of slices))
+  printed_said slices some said points = within_said (steps_text style slices) (map noted_of_group (groups_of slices)) (by_lengths (list_all (λ (s : Slice (Steady B)). not (is_long s)) slices) points)
+    where
+      by_lengths : (set : Bool) → (set ≡ true → ArePoints slices) → literal entry (cond set (set_text style slices) (groups_text style (groups_of slices))) (map noted_of_group (groups_of slices))
+      by_lengths true p =
+          let are : map noted_of_group (groups_of slices) ≡ map alone (map start_note slices) = ap (map noted_of_group) (point_groups slices (p refl)) ∙ points_are slices (p refl) in
+          subst (λ (qs : List (Sequence (Noted B))). literal entry (set_text style slices) qs) (sym are) (set_literal slices some said)
+      by_lengths false p =
+          let g = are_groups slices in
+          groups_literal (groups_of slices) (groups_some slices some) (groups_said (groups_of slices) g.runs (subst AreSaid (sym g.whole) said))

@@ -1,0 +1,22 @@
+-- The printed text of an SQL value is read again as that value.
+use Rattle.std.proofs.Common.{◌≡◌, ℤ, refl, Ok}
+use Rattle.mob_ast.specs.declared.types.SqlType.{SqlType}
+use Rattle.mob_ast.specs.declared.types.SqlType.TheVariants as sql
+use Rattle.mob_value.specs.declared.value.Value.{Value}
+use Rattle.mob_value.specs.declared.value.Value.TheVariants as value
+use Rattle.mob_scalar.proofs.Again.{number_again, whole_again, truth_again}
+use Rattle.mob_scalar.proofs.MomentAgain.{moment_again}
+use Rattle.mob_literal.specs.SqlText.{SaysAs, value_text}
+use Rattle.mob_literal.specs.SqlReadable.{IsReadableAs}
+use Rattle.mob_literal.proofs.StepsAgain.{truths_again, numbers_again, texts_again}
+
+pub value_again : (type : SqlType) (day : ℤ) (v : Value) → IsReadableAs type day v → SaysAs type day (value_text day v) (Ok v)
+value_again sql.Bool day (value.Bool b) h = (b, refl, truth_again b)
+value_again sql.Int day (value.Number q) h = (q, refl, whole_again q h.fits h.is_whole)
+value_again sql.Numeric day (value.Number q) h = (q, refl, number_again q h)
+value_again sql.Text day (value.Text t) h = (t, refl, (t, refl, (λ x. x), (λ x. x), (λ x. x), refl))
+value_again sql.Moment day (value.Moment t) h = (t, refl, moment_again day t h.fits h.dated)
+value_again sql.TBool day (value.MovingBool v) h = (v, refl, truths_again day v h)
+value_again sql.TInt day (value.MovingInt v) h = (v, refl, numbers_again day v h)
+value_again sql.TText day (value.MovingText v) h = (v, refl, texts_again day v h)
+value_again type day v h = absurd h

@@ -1,0 +1,68 @@
+-- The text of an SQL value has one reading.
+use Rattle.std.proofs.Common.{◌≡◌, ◌≢◌, ℤ, Ok, Err, refl, sym, ap, ◌∙◌}
+use Rattle.std.specs.Prelude.{Result}
+use Rattle.mob_ratio.specs.Order.{same}
+use Rattle.mob_ratio.proofs.Order.{same_exact}
+use Rattle.mob_language.specs.Language.{Text}
+use Rattle.mob_slice.specs.Sameness.{same_bool, same_bool_exact, same_bytes, same_bytes_exact}
+use Rattle.mob_ast.specs.declared.types.SqlType.{SqlType}
+use Rattle.mob_ast.specs.declared.types.SqlType.TheVariants as sql
+use Rattle.mob_value.specs.declared.value.Value.{Value}
+use Rattle.mob_value.specs.declared.value.Value.TheVariants as value
+use Rattle.mob_scalar.specs.declared.fault.ReadText.{ReadText}
+use Rattle.mob_scalar.specs.declared.fault.ReadText.TheVariants.{NoMemory}
+use Rattle.mob_scalar.specs.Verdict.{Form, Lit, HasOneReading}
+use Rattle.mob_scalar.specs.Numbers.{numbers, whole_numbers}
+use Rattle.mob_scalar.specs.Moments.{moments}
+use Rattle.mob_scalar.specs.Truth.{truths}
+use Rattle.mob_scalar.proofs.OneReadings.{one_number, one_whole, one_moment, one_truth}
+use Rattle.mob_scalar.proofs.Settled.{settled}
+use Rattle.mob_literal.specs.Sound.{steps}
+use Rattle.mob_literal.specs.Values.{any_value, is_whole, truth_values, number_values, quoted_values, truth_value, number_value, quoted_value}
+use Rattle.mob_literal.specs.SqlText.{texts, no_texts, Says, SaysAs}
+use Rattle.mob_literal.proofs.OneReading.{one_reading}
+
+module _ {S V : Type 0} (f : Form S V) (made : V → Value) (one : HasOneReading f) (text : Text) where
+  err : ReadText → Result V ReadText
+  err fault = Err fault
+
+  ok : V → Result V ReadText
+  ok v = Ok v
+
+  fault_is : (a b : ReadText) → ◌≡◌ {A = Result V ReadText} (Err a) (Err b) → a ≡ b
+  fault_is a b e = cc
+
+  value_is : (v w : V) → ◌≡◌ {A = Result V ReadText} (Ok v) (Ok w) → v ≡ w
+  value_is v w e = cc
+
+  ok_some : (v : V) → ◌≡◌ {A = Result V ReadText} (Ok v) (Err NoMemory) → ⊥
+  ok_some v e = absurd cc
+
+  ok_err : (v : V) (a : ReadText) → ◌≡◌ {A = Result V ReadText} (Ok v) (Err a) → ⊥
+  ok_err v a e = absurd cc
+
+  still : (a : ReadText) → (◌≡◌ {A = Result Value ReadText} (Err a) (Err NoMemory) → ⊥) → ◌≡◌ {A = Result V ReadText} (Err a) (Err NoMemory) → ⊥
+  still a n e = n (ap (λ (x : ReadText). Err x) (fault_is a NoMemory e))
+
+  says_one : (a b : Result Value ReadText) → a ≢ Err NoMemory → b ≢ Err NoMemory → Says f made text a → Says f made text b → a ≡ b
+  says_one (Ok v) (Ok w) n m a b = ap (λ (x : Value). Ok x) (a.1 ∙ ap made (value_is a.0 b.0 (one text (Ok a.0) (Ok b.0) (ok_some a.0) (ok_some b.0) a.2 b.2)) ∙ sym b.1)
+  says_one (Ok v) (Err e) n m a b = absurd (ok_err a.0 e (one text (Ok a.0) (Err e) (ok_some a.0) (still e m) a.2 b))
+  says_one (Err e) (Ok w) n m a b = absurd (ok_err b.0 e (one text (Ok b.0) (Err e) (ok_some b.0) (still e n) b.2 a))
+  says_one (Err e) (Err d) n m a b = ap (λ (x : ReadText). Err x) (fault_is e d (one text (Err e) (Err d) (still e n) (still d m) a b))
+
+one_text : HasOneReading texts
+one_text text = settled texts text (λ s t a b. sym a ∙ b) (λ s v w a b. a ∙ sym b)
+
+none_said : HasOneReading no_texts
+none_said text = settled no_texts text (λ s t a b. absurd a) (λ s v w a b. absurd a)
+
+pub one_sql_reading : (type : SqlType) (day : ℤ) (text : Text) (a b : Result Value ReadText) → a ≢ Err NoMemory → b ≢ Err NoMemory → SaysAs type day text a → SaysAs type day text b → a ≡ b
+one_sql_reading sql.Bool day text = says_one truths value.Bool one_truth text
+one_sql_reading sql.Int day text = says_one whole_numbers value.Number one_whole text
+one_sql_reading sql.Numeric day text = says_one numbers value.Number one_number text
+one_sql_reading sql.Text day text = says_one texts value.Text one_text text
+one_sql_reading sql.Moment day text = says_one (moments day) value.Moment (one_moment day) text
+one_sql_reading sql.TBool day text = says_one (steps day truth_value any_value same_bool) value.MovingBool (one_reading day truth_values any_value same_bool same_bool_exact) text
+one_sql_reading sql.TInt day text = says_one (steps day number_value is_whole same) value.MovingInt (one_reading day number_values is_whole same same_exact) text
+one_sql_reading sql.TText day text = says_one (steps day quoted_value any_value same_bytes) value.MovingText (one_reading day quoted_values any_value same_bytes same_bytes_exact) text
+one_sql_reading type day text = says_one no_texts value.Text none_said text

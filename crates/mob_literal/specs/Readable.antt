@@ -1,0 +1,43 @@
+-- When the printed text of a step value is read again as that value.
+use Rattle.std.specs.Prelude.{◌≡◌, ◌+◌, ◌≤◌, ℕ, ℤ, List, [], ◌∷◌, length, Contains, Bool, true}
+use Rattle.std.specs.Str.{is_utf8}
+use Rattle.mob_ratio.specs.Ratio.{Ratio}
+use Rattle.mob_frac.specs.Fits.{Fits}
+use Rattle.mob_language.specs.Language.{Text}
+use Rattle.mob_scalar.specs.MomentText.{HasDate}
+use Rattle.mob_slice.specs.declared.slice.Slice.{Slice}
+use Rattle.mob_slice.specs.declared.steady.Steady.{Steady}
+use Rattle.mob_slice.specs.Slices.{IsNormal}
+use Rattle.mob_literal.specs.Printed.{Style, groups_of, instants_of}
+use Rattle.mob_literal.specs.Style.{style_of}
+
+-- how many instants the groups print
+abbrev pub instants_in : {B : Type 0} → Style B → List (List (Slice (Steady B))) → ℕ
+instants_in style [] = 0
+instants_in style (group ∷ groups) = length (instants_of style group) + instants_in style groups
+
+-- the instant fits, and lies in the years 0001 to 9999
+pub record IsDated (day : ℤ) (t : Ratio) : Type 0 where
+  pub fits : Fits t
+  pub dated : HasDate day t
+
+-- A normal value whose values can be written, whose instants lie in the years 0001 to 9999, and that prints at most 100,000 of them.
+pub record IsReadable {B : Type 0} (day : ℤ) (text : B → Text) (IsWritten : B → Type 0) (is_same : B → B → Bool) (slices : List (Slice (Steady B))) : Type 0 where
+  pub normal : IsNormal {C = Steady B} {B = B} (λ c. c.value) (λ c. c.value) (λ c d lower middle upper. is_same c.value d.value) slices
+  pub values : (s : Slice (Steady B)) → Contains slices s → IsWritten s.course.value
+  pub lowers : (s : Slice (Steady B)) → Contains slices s → IsDated day s.span.lower
+  pub uppers : (s : Slice (Steady B)) → Contains slices s → IsDated day s.span.upper
+  pub short : instants_in (style_of text day) (groups_of slices) ≤ 100000
+
+-- every truth value
+abbrev pub AnyTruth : Bool → Type 0
+AnyTruth b = Unit {0}
+
+-- a whole number that fits
+pub record IsInt (q : Ratio) : Type 0 where
+  pub fits : Fits q
+  pub is_whole : q.den ≡ 1
+
+-- like all text it is UTF-8
+abbrev pub IsText : Text → Type 0
+IsText v = is_utf8 v ≡ true

@@ -1,0 +1,69 @@
+-- The texts of SQL values, type by type: what a text says as a value of a type, and what a value prints as.
+use Rattle.std.specs.Prelude.{◌≡◌, ℤ, [], Result, Ok, Err}
+use Rattle.mob_ratio.specs.Order.{same}
+use Rattle.mob_language.specs.Language.{Text}
+use Rattle.mob_slice.specs.Sameness.{same_bool, same_bytes}
+use Rattle.mob_ast.specs.declared.types.SqlType.{SqlType}
+use Rattle.mob_ast.specs.declared.types.SqlType.TheVariants as sql
+use Rattle.mob_value.specs.declared.value.Value.{Value}
+use Rattle.mob_value.specs.declared.value.Value.TheVariants as value
+use Rattle.mob_scalar.specs.declared.fault.ReadText.{ReadText}
+use Rattle.mob_scalar.specs.Verdict.{Form, Lit}
+use Rattle.mob_scalar.specs.Numbers.{numbers, whole_numbers}
+use Rattle.mob_scalar.specs.NumberText.{number_text}
+use Rattle.mob_scalar.specs.Moments.{moments}
+use Rattle.mob_scalar.specs.MomentText.{moment_text}
+use Rattle.mob_scalar.specs.Truth.{truths, truth_text}
+use Rattle.mob_scalar.specs.Quoted.{quoted_text}
+use Rattle.mob_literal.specs.Sound.{steps}
+use Rattle.mob_literal.specs.Values.{any_value, is_whole, truth_value, number_value, quoted_value}
+use Rattle.mob_literal.specs.Printed.{steps_text}
+use Rattle.mob_literal.specs.Style.{style_of}
+
+-- every text stands for itself
+abbrev pub texts : Form Text Text
+texts = record {
+  shape = λ text v. text ≡ v;
+  long = λ v. ⊥;
+  large = λ v. ⊥;
+  unsound = λ v. ⊥;
+  means = λ v w. w ≡ v;
+}
+
+-- no text stands for anything
+abbrev pub no_texts : Form Text Text
+no_texts = record {
+  shape = λ text v. ⊥;
+  long = λ v. ⊥;
+  large = λ v. ⊥;
+  unsound = λ v. ⊥;
+  means = λ v w. ⊥;
+}
+
+-- the value that is made of what the text says, or the fault of the text
+abbrev pub Says : {S V : Type 0} → Form S V → (V → Value) → Text → Result Value ReadText → Type 0
+Says {S} {V} f made text (Ok v) = (w : V) × (v ≡ made w) × Lit f text (Ok w)
+Says f made text (Err fault) = Lit f text (Err fault)
+
+-- What a text says as a value of a type, with instants counted from a day. A type that is not named here has no texts.
+abbrev pub SaysAs : SqlType → ℤ → Text → Result Value ReadText → Type 0
+SaysAs sql.Bool day text r = Says truths value.Bool text r
+SaysAs sql.Int day text r = Says whole_numbers value.Number text r
+SaysAs sql.Numeric day text r = Says numbers value.Number text r
+SaysAs sql.Text day text r = Says texts value.Text text r
+SaysAs sql.Moment day text r = Says (moments day) value.Moment text r
+SaysAs sql.TBool day text r = Says (steps day truth_value any_value same_bool) value.MovingBool text r
+SaysAs sql.TInt day text r = Says (steps day number_value is_whole same) value.MovingInt text r
+SaysAs sql.TText day text r = Says (steps day quoted_value any_value same_bytes) value.MovingText text r
+SaysAs type day text r = Says no_texts value.Text text r
+
+-- The printed text of a value, with instants counted from a day. NULL has none.
+abbrev pub value_text : ℤ → Value → Text
+value_text day value.Null = []
+value_text day (value.Bool truth) = truth_text truth
+value_text day (value.Number number) = number_text number
+value_text day (value.Text text) = text
+value_text day (value.Moment instant) = moment_text day instant
+value_text day (value.MovingBool slices) = steps_text (style_of truth_text day) slices
+value_text day (value.MovingInt slices) = steps_text (style_of number_text day) slices
+value_text day (value.MovingText slices) = steps_text (style_of quoted_text day) slices

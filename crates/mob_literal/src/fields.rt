@@ -1,0 +1,103 @@
+//! Fields of table files, read and printed.
+ghost use Rattle.std.specs.Prelude.{◌≡◌, ◌∷◌, ◌++◌, true, false, Ok, MatchOption, OnOk, OnErr, string_bytes};
+ghost use Rattle.mob_literal.specs.SqlText.{SaysAs};
+ghost use Rattle.mob_literal.specs.Fields.{begins_with_backslash, doubled as with_backslash, undoubled as without_backslash, is_null_text as null_text, is_null_field, text_of_field, field_text};
+
+use crate::sql::{read_value, write_value};
+use mob_ast::SqlType;
+use mob_scalar::{Epoch, ReadText};
+use mob_value::Value;
+use std::alloc::{AllocError, Global};
+
+/// What stands behind the backslash that a text begins with.
+fn behind_backslash(text: &str) -> Option<&str>
+    ensures value { MatchOption result (begins_with_backslash text.now ≡ false) (λ rest. text.now ≡ 92 ∷ rest.now) }
+{
+    text.strip_prefix('\\')
+}
+
+fn is_null_text(field: &str) -> bool
+    ensures value { result ≡ null_text field.now }
+{
+    field == "\\N"
+}
+
+/// Whether a field stands for NULL.
+fn is_null(ty: SqlType, field: &str) -> bool
+    ensures value { result ≡ is_null_field ty field.now }
+{
+    match ty {
+        SqlType::Text => is_null_text(field),
+        _ => field.is_empty() || is_null_text(field),
+    }
+}
+
+/// A field without the first of two backslashes in front.
+#[tactic(auto, unfolding(crate::specs::Fields::undoubled))]
+fn undoubled(field: &str) -> &str
+    ensures value { result.now ≡ without_backslash field.now }
+{
+    let Some(rest) = behind_backslash(field) else {
+        return field;
+    };
+    match behind_backslash(rest) {
+        Some(_) => rest,
+        None => field,
+    }
+}
+
+/// The text of a field that is not NULL.
+fn text_in(ty: SqlType, field: &str) -> &str
+    ensures value { result.now ≡ text_of_field ty field.now }
+{
+    match ty {
+        SqlType::Text => undoubled(field),
+        _ => field,
+    }
+}
+
+/// The value of a type that a field of a table file says.
+///
+/// The field `\N` is NULL, and in a column of another type than text an empty field is NULL too. In a text column a field that
+/// begins with two backslashes loses one. Else the field is read whole, as `read_value` reads it, with the same faults.
+pub fn read_field(
+    alloc: Global,
+    ty: SqlType,
+    field: &str,
+    epoch: &Epoch,
+) -> Result<Value, ReadText>
+    ensures null { is_null_field ty field.now ≡ true → result ≡ Ok Value.Null }
+    ensures reading { is_null_field ty field.now ≡ false → SaysAs ty epoch.now (text_of_field ty field.now) result }
+{
+    if is_null(ty, field) {
+        return Ok(Value::Null);
+    }
+    read_value(alloc, ty, text_in(ty, field), epoch)
+}
+
+/// Appends a text, with a backslash more in front where it begins with one.
+#[tactic(auto, unfolding(crate::specs::Fields::doubled))]
+fn write_doubled(text: &str, into: &mut String) -> Result<(), AllocError>
+    ensures written { OnOk result (string_bytes into.new ≡ string_bytes into.old ++ with_backslash text.now) }
+    ensures unchanged { OnErr result (string_bytes into.new ≡ string_bytes into.old) }
+{
+    if behind_backslash(text).is_none() {
+        return into.push_str(text);
+    }
+    into.reserve(text.len() + 1)?;
+    into.push_str("\\")?;
+    into.push_str(text)
+}
+
+/// Appends the field of a value: `\N` for NULL, a text with a backslash more in front where it begins with one, and else the
+/// printed text. Where memory is refused `into` stays as it was.
+pub fn write_field(value: &Value, epoch: &Epoch, into: &mut String) -> Result<(), AllocError>
+    ensures written { OnOk result (string_bytes into.new ≡ string_bytes into.old ++ field_text epoch.now value.now) }
+    ensures unchanged { OnErr result (string_bytes into.new ≡ string_bytes into.old) }
+{
+    match value {
+        Value::Null => into.push_str("\\N"),
+        Value::Text(text) => write_doubled(text.as_str(), into),
+        _ => write_value(value, epoch, into),
+    }
+}

@@ -1,0 +1,138 @@
+//! SQL values, read from their texts and printed.
+ghost use Rattle.std.specs.Prelude.{◌≡◌, ◌≢◌, ◌++◌, OnOk, OnErr, string_bytes};
+ghost use Rattle.mob_ratio.specs.Order.{same};
+ghost use Rattle.mob_slice.specs.Sameness.{same_bool, same_bytes};
+ghost use Rattle.mob_scalar.specs.Numbers.{numbers, whole_numbers};
+ghost use Rattle.mob_scalar.specs.Moments.{moments};
+ghost use Rattle.mob_scalar.specs.Truth.{truths};
+ghost use Rattle.mob_literal.specs.Sound.{steps};
+ghost use Rattle.mob_literal.specs.Values.{any_value, is_whole, truth_value, number_value, quoted_value};
+ghost use Rattle.mob_literal.specs.SqlText.{Says, SaysAs, texts, value_text};
+
+use crate::printing::write_steps;
+use crate::temporal::read_steps;
+use crate::values::{Texts, Truths, WholeNumbers};
+use mob_ast::SqlType;
+use mob_list::text::Text;
+use mob_scalar::{
+    Epoch, ReadText, read_moment, read_number, read_truth, read_whole, write_moment, write_number,
+    write_truth,
+};
+use mob_value::Value;
+use std::alloc::{AllocError, Global};
+
+fn read_bool(text: &str) -> Result<Value, ReadText>
+    ensures reading { Says truths Value.Bool text.now result }
+{
+    match read_truth(text) {
+        Ok(truth) => Ok(Value::Bool(truth)),
+        Err(fault) => Err(fault),
+    }
+}
+
+fn read_int(text: &str) -> Result<Value, ReadText>
+    ensures reading { Says whole_numbers Value.Number text.now result }
+{
+    match read_whole(text) {
+        Ok(number) => Ok(Value::Number(number)),
+        Err(fault) => Err(fault),
+    }
+}
+
+fn read_numeric(text: &str) -> Result<Value, ReadText>
+    ensures reading { Says numbers Value.Number text.now result }
+{
+    match read_number(text) {
+        Ok(number) => Ok(Value::Number(number)),
+        Err(fault) => Err(fault),
+    }
+}
+
+fn read_text(alloc: Global, text: &str) -> Result<Value, ReadText>
+    ensures reading { Says texts Value.Text text.now result }
+{
+    match String::from_str(alloc, text) {
+        Ok(text) => Ok(Value::Text(Text::from_string(text))),
+        Err(_) => Err(ReadText::NoMemory),
+    }
+}
+
+fn read_timestamp(text: &str, epoch: &Epoch) -> Result<Value, ReadText>
+    ensures reading { Says (moments epoch.now) Value.Moment text.now result }
+{
+    match read_moment(text, epoch) {
+        Ok(instant) => Ok(Value::Moment(instant)),
+        Err(fault) => Err(fault),
+    }
+}
+
+fn read_tbool(alloc: Global, text: &str, epoch: &Epoch) -> Result<Value, ReadText>
+    ensures reading { Says (steps epoch.now truth_value any_value same_bool) Value.MovingBool text.now result }
+{
+    match read_steps::<Truths>(alloc, text, epoch) {
+        Ok(moving) => Ok(Value::MovingBool(moving)),
+        Err(fault) => Err(fault),
+    }
+}
+
+fn read_tint(alloc: Global, text: &str, epoch: &Epoch) -> Result<Value, ReadText>
+    ensures reading { Says (steps epoch.now number_value is_whole same) Value.MovingInt text.now result }
+{
+    match read_steps::<WholeNumbers>(alloc, text, epoch) {
+        Ok(moving) => Ok(Value::MovingInt(moving)),
+        Err(fault) => Err(fault),
+    }
+}
+
+fn read_ttext(alloc: Global, text: &str, epoch: &Epoch) -> Result<Value, ReadText>
+    ensures reading { Says (steps epoch.now quoted_value any_value same_bytes) Value.MovingText text.now result }
+{
+    match read_steps::<Texts>(alloc, text, epoch) {
+        Ok(moving) => Ok(Value::MovingText(moving)),
+        Err(fault) => Err(fault),
+    }
+}
+
+/// The value of a type that a text says. Instants count from midnight UTC of the epoch's day.
+///
+/// The first fault in the order `NotText`, `Limit`, `TooLarge` and `Unsound`, or `NoMemory`. A text of a number, a moment,
+/// a truth value and a temporal value may have blanks at its ends; a text of the type text keeps all its characters. A type
+/// that is not built yet has no texts, so each text is `NotText` there.
+pub fn read_value(
+    alloc: Global,
+    ty: SqlType,
+    text: &str,
+    epoch: &Epoch,
+) -> Result<Value, ReadText>
+    ensures reading { SaysAs ty epoch.now text.now result }
+{
+    match ty {
+        SqlType::Bool => read_bool(text),
+        SqlType::Int => read_int(text),
+        SqlType::Numeric => read_numeric(text),
+        SqlType::Text => read_text(alloc, text),
+        SqlType::Moment => read_timestamp(text, epoch),
+        SqlType::TBool => read_tbool(alloc, text, epoch),
+        SqlType::TInt => read_tint(alloc, text, epoch),
+        SqlType::TText => read_ttext(alloc, text, epoch),
+        _ => Err(ReadText::NotText),
+    }
+}
+
+/// Appends the printed text of a value that is not NULL. Where memory is refused `into` stays as it was.
+pub fn write_value(value: &Value, epoch: &Epoch, into: &mut String) -> Result<(), AllocError>
+    requires there { value.now ≢ Value.Null }
+    ensures written { OnOk result (string_bytes into.new ≡ string_bytes into.old ++ value_text epoch.now value.now) }
+    ensures unchanged { OnErr result (string_bytes into.new ≡ string_bytes into.old) }
+{
+    match value {
+        Value::Null => Ok(()),
+        Value::Bool(truth) => write_truth(*truth, into),
+        Value::Number(number) => write_number(number, into),
+        Value::Text(text) => into.push_str(text.as_str()),
+        Value::Moment(instant) => write_moment(instant, epoch, into),
+        Value::MovingBool(moving) => write_steps(moving, epoch, into),
+        Value::MovingInt(moving) => write_steps(moving, epoch, into),
+        Value::MovingText(moving) => write_steps(moving, epoch, into),
+    }
+}
