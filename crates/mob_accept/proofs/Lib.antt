@@ -1,1 +1,1 @@
-mod Disjoint
+mod Causes

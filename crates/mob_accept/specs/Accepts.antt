@@ -2,6 +2,7 @@
 use Rattle.std.specs.Prelude.{◌≡◌, ◌≢◌, ◌⊎◌, ◌<◌, ◌≤◌, ◌++◌, ℕ, List, [], length, Some, Ok, Err}
 use Rattle.mob_ast.specs.declared.refusal.Kind.TheVariants.{NotBuilt, NoMemory, Limit}
 use Rattle.mob_ast.specs.declared.refusal.Refusal.{Refusal}
+use Rattle.mob_ast.specs.Kinds.{no_memory}
 use Rattle.mob_ast.specs.Trees.{StatementParts}
 use Rattle.mob_parse.specs.Refusals.{IsTreeOf, IsLightText, IsRefused as HasNoTree}
 use Rattle.mob_typing.specs.Statements.{ScriptOut, typed_script}
@@ -52,19 +53,29 @@ pub record IsWrongName (bytes : List ℕ) (e : Refusal) : Type 0 where
   pub read : HasTrees bytes trees
   pub first : typed_script trees ≡ Err e
 
+-- the refusal of what is not built yet, at this place
+pub record IsNotBuiltAt (bytes : List ℕ) (place : ℕ) (e : Refusal) : Type 0 where
+  pub kind : e.kind ≡ NotBuilt
+  pub statement : e.statement ≡ statement_at bytes place
+  pub here : e.place ≡ place
+
 -- something is not built yet, and this is the first place of it
 pub record IsNotBuilt (bytes : List ℕ) (e : Refusal) : Type 0 where
   pub trees : List StatementParts
   pub out : ScriptOut
   pub script : IsTyped bytes trees out
-  pub first : least (unbuilt_places bytes trees out) ≡ Some e.place
-  pub kind : e.kind ≡ NotBuilt
-  pub statement : e.statement ≡ statement_at bytes e.place
+  pub place : ℕ
+  pub first : least (unbuilt_places bytes trees out) ≡ Some place
+  pub says : IsNotBuiltAt bytes place e
 
 -- why a text is refused: by its length, its characters, tokens and grammar, its names and types, or what is not built yet
 abbrev pub IsTextRefused : List ℕ → Refusal → Type 0
 IsTextRefused bytes e = IsTooLong bytes e ⊎ (IsNoScript bytes e ⊎ (IsWrongName bytes e ⊎ IsNotBuilt bytes e))
 
--- a text that is refused is no script that is taken
+-- the text is no script that is taken
 abbrev pub IsNotTaken : List ℕ → Type 0
 IsNotTaken bytes = (out : ScriptOut) → IsAccepted bytes out → ⊥
+
+-- a refusal: want of memory, or that of a text that is no script that is taken, by its cause
+abbrev pub IsRefused : List ℕ → Refusal → Type 0
+IsRefused bytes e = (e ≡ no_memory) ⊎ (IsTextRefused bytes e × IsNotTaken bytes)

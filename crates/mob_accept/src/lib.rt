@@ -1,9 +1,6 @@
 //! Which texts are scripts that are taken, and the first refusal of one that is not.
 #![tactic(auto)]
 
-pub mod accept;
+pub mod text;
 
-pub use accept::{SCRIPT_LIMIT, accept};
-
-#[cfg(test)]
-mod tests;
+pub use text::{SCRIPT_LIMIT, accept};
