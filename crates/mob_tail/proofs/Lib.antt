@@ -1,1 +1,5 @@
 mod RecordText
+mod Orders
+mod Reading
+mod Seen
+mod Making

@@ -1,10 +1,16 @@
 //! What a query answers, and the text in which it is written.
 #![tactic(auto)]
 
-mod answer;
+mod answers;
+mod arrange;
+mod distinct;
+mod evaluation;
+mod keyed;
+mod order;
 #[cfg(test)]
 mod tests;
 mod text;
 
-pub use answer::Answer;
+pub use answers::{Answer, answer_to};
+pub use keyed::Keyed;
 pub use text::answer_text;

@@ -61,7 +61,7 @@ fn write_record(
 }
 
 // The texts as slices of bytes.
-fn bytes_of<'a>(alloc: Global, fields: &'a [Text]) -> Result<Vec<&'a [u8]>, AllocError>
+pub fn bytes_of<'a>(alloc: Global, fields: &'a [Text]) -> Result<Vec<&'a [u8]>, AllocError>
     ensures same { IfOk result (λ v. map (λ b. b.now) v.items ≡ fields.now) }
 {
     let mut bytes = Vec::new(alloc);

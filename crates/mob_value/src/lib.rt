@@ -2,8 +2,10 @@
 #![tactic(auto)]
 
 mod copies;
+mod store;
 mod value;
 
+pub use store::{Store, Table};
 pub use value::Value;
 
 #[cfg(test)]

@@ -1,4 +1,5 @@
-use crate::Value;
+use crate::{Store, Table, Value};
+use mob_list::items::Items;
 use mob_list::text::Text;
 use std::marker::{Send, Sync};
 use std::test::*;
@@ -15,5 +16,23 @@ fn a_copy_has_the_same_text(rt: HostRuntime) -> Result<(), Fail> {
         _ => false,
     };
     assert!(rt; is_copied);
+    Ok(())
+}
+
+#[test]
+fn a_store_crosses_threads(rt: HostRuntime) -> Result<(), Fail> {
+    let alloc = rt.alloc();
+    let mut row = Items::new(alloc);
+    row.push(Value::Bool(true))?;
+    let mut rows = Items::new(alloc);
+    rows.push(row)?;
+    let mut tables = Items::new(alloc);
+    tables.push(Table { rows })?;
+    let store = Store {
+        tables,
+        consts: Items::new(alloc),
+    };
+    crosses_threads(&store);
+    assert_eq!(rt; store.tables.as_slice()[0].rows.len(), 1);
     Ok(())
 }

@@ -1,0 +1,7 @@
+pub mod Numbers
+pub mod Functions
+pub mod Loops
+pub mod Nodes
+pub mod Once
+pub mod Single
+mod Examples

@@ -1,0 +1,45 @@
+-- One node of an expression, from what its operands and its operator give.
+use Rattle.std.proofs.Common.{◌≡◌, inl, inr, Bool, List, Option, Some, None, Result, Ok, Err, [], ◌∷◌, ◌≤◌, length, arith, refl, sym, subst, map}
+use Rattle.mob_typing.specs.declared.typed.TExpr.{TExpr}
+use Rattle.mob_typing.specs.declared.typed.TExpr.TheViews.{out-TExpr}
+use Rattle.mob_typing.specs.Trees.{typed, typed_of}
+use Rattle.mob_typing.proofs.TreeFacts.{typed_is}
+use Rattle.mob_slice.specs.declared.formula.OpFault.{OpFault}
+use Rattle.mob_slice.specs.declared.formula.OpFault.TheVariants.{Passed as Formula_passed, NoMemory as No_memory}
+use Rattle.mob_operators.specs.declared.operator.Op.{Op}
+use Rattle.mob_value.specs.declared.value.Value.{Value}
+use Rattle.mob_value.specs.declared.value.Value.TheVariants.{Null}
+use Rattle.mob_eval.specs.declared.held.Held.{Held}
+use Rattle.mob_eval.specs.Held.{held}
+use Rattle.mob_eval.specs.declared.fault.EvalFault.{EvalFault}
+use Rattle.mob_eval.specs.declared.fault.EvalFault.TheVariants.{Passed, NoMemory}
+use Rattle.mob_eval.specs.Scene.{Scene}
+use Rattle.mob_eval.specs.Operators.{First, Gives}
+use Rattle.mob_eval.specs.Runs.{Fault, OnPassed, Runs, RunsTree, RunsAll, stop_of}
+use Rattle.mob_eval.specs.Faults.{OnFormula, fault_of}
+use Rattle.mob_eval.specs.SoFar.{trees}
+
+-- more than two operands give NULL
+pub many : (s : Scene) (o : Op) (hs : List Held) → 3 ≤ length hs → Gives s o (map held hs) Null
+many s o [] h = absurd (omega (arith, h))
+many s o (a ∷ []) h = absurd (omega (arith, h))
+many s o (a ∷ b ∷ []) h = absurd (omega (arith, h))
+many s o (a ∷ b ∷ c ∷ rest) h = refl
+
+module _ (s : Scene) (e : TExpr) (stop : Option Bool) (xs : List TExpr) (es : stop ≡ stop_of (out-TExpr e).op) (ex : xs ≡ (out-TExpr e).args.items) where
+  moved : (r : Result (List Value) Fault) → RunsAll s stop (trees xs) r → RunsAll s (stop_of (out-TExpr e).op) (trees (out-TExpr e).args.items) r
+  moved r h = subst (λ o. RunsAll s o (trees (out-TExpr e).args.items) r) es (subst (λ ys. RunsAll s stop (trees ys) r) ex h)
+
+  rolled : (r : Result Value Fault) → RunsTree s (typed (out-TExpr e).op (out-TExpr e).ty (out-TExpr e).place (trees (out-TExpr e).args.items)) r → Runs s e r
+  rolled r h = subst (λ t. RunsTree s t r) (sym (typed_is e)) h
+
+  pub node_value : (vs : List Value) (v : Value) → RunsAll s stop (trees xs) (Ok vs) → First (out-TExpr e).op vs None → Gives s (out-TExpr e).op vs v → Runs s e (Ok v)
+  node_value vs v h f g = rolled (Ok v) (vs, moved (Ok vs) h, f, g)
+
+  pub node_below : (f : EvalFault) → OnPassed (λ f. RunsAll s stop (trees xs) (Err f)) f → OnPassed (λ f. Runs s e (Err f)) f
+  node_below (Passed place formula) h = rolled (Err (place, formula)) (inl (moved (Err (place, formula)) h))
+  node_below NoMemory h = h
+
+  pub node_here : (vs : List Value) (f : OpFault) → RunsAll s stop (trees xs) (Ok vs) → OnFormula (λ g. First (out-TExpr e).op vs (Some g)) f → OnPassed (λ f. Runs s e (Err f)) (fault_of (out-TExpr e).place f)
+  node_here vs (Formula_passed formula) h g = rolled (Err ((out-TExpr e).place, formula)) (inr (vs, moved (Ok vs) h, g, refl))
+  node_here vs No_memory h g = tt

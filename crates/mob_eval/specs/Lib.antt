@@ -1,0 +1,11 @@
+pub mod Scene
+pub mod Views
+pub mod Ordinary
+pub mod Lifted
+pub mod Operators
+pub mod Runs
+pub mod Held
+pub mod Faults
+pub mod Calculations
+pub mod SoFar
+pub mod Outcomes

@@ -1,0 +1,115 @@
+-- The operators on temporal values: at each instant the ordinary operator on the operands, where both have a value, and
+-- NULL where at no instant both have one. A base value beside a temporal one has itself at every instant.
+use Rattle.std.specs.Prelude.{◌≡◌, Bool, not, ℕ, List, Option, Some, None, MatchOption, option_map}
+use Rattle.mob_ratio.specs.Ratio.{Ratio}
+use Rattle.mob_ratio.specs.Order.{same}
+use Rattle.mob_slice.specs.Slices.{value_at, IsNormal}
+use Rattle.mob_slice.specs.Operands.{steady_value, steady_limit, operand_at, IsPointwise}
+use Rattle.mob_slice.specs.Sameness.{same_bool, same_bytes}
+use Rattle.mob_slice.specs.Ranks.{holds, compare_ratio, compare_bool, compare_bytes}
+use Rattle.mob_slice.specs.declared.slice.Slice.{Slice}
+use Rattle.mob_slice.specs.declared.steady.Steady.{Steady}
+use Rattle.mob_slice.specs.declared.comparison.Rel.{Rel}
+use Rattle.mob_slice.specs.declared.operand.Operand.{Operand}
+use Rattle.mob_ast.specs.declared.types.Cmp.{Cmp}
+use Rattle.mob_ast.specs.declared.types.Cmp.TheVariants as cmp
+use Rattle.mob_value.specs.declared.value.Value.{Value}
+use Rattle.mob_value.specs.declared.value.Value.TheVariants.{Null, Bool as Truth, Number, Text, MovingBool, MovingInt, MovingText}
+use Rattle.mob_eval.specs.Ordinary.{rel_of}
+
+-- a list of slices that go by steps
+abbrev pub Steps : Type 0 → Type 0
+Steps B = List (Slice (Steady B))
+
+-- what an operand is at each instant
+abbrev pub OverTime : Type 0 → Type 0
+OverTime B = Ratio → Option B
+
+-- the slices are normal, where `is_same` tells whether two values are one
+abbrev pub AreNormal : {B : Type 0} → (B → B → Bool) → Steps B → Type 0
+AreNormal is_same slices = IsNormal steady_limit steady_limit (λ c d lower middle upper. is_same c.value d.value) slices
+
+-- the temporal value, or NULL where there is none
+abbrev pub or_nothing : {B : Type 0} → (Steps B → Value) → Option (Steps B) → Value
+or_nothing make None = Null
+or_nothing make (Some r) = make r
+
+-- v is the one normal value that is at each instant the operation on the two operands
+abbrev pub IsLifted : {X Y Z : Type 0} → (Steps Z → Value) → (Z → Z → Bool) → (X → Y → Z) → OverTime X → OverTime Y → Value → Type 0
+IsLifted {X} {Y} {Z} make is_same op left right v = (r : Option (Steps Z)) × IsPointwise op left right r × MatchOption r (Unit {0}) (AreNormal is_same) × (v ≡ or_nothing make r)
+
+abbrev pub IsMovingBool : {X Y : Type 0} → (X → Y → Bool) → OverTime X → OverTime Y → Value → Type 0
+IsMovingBool op left right v = IsLifted MovingBool same_bool op left right v
+
+abbrev pub IsMovingInt : {X Y : Type 0} → (X → Y → Ratio) → OverTime X → OverTime Y → Value → Type 0
+IsMovingInt op left right v = IsLifted MovingInt same op left right v
+
+abbrev pub IsMovingText : {X Y : Type 0} → (X → Y → List ℕ) → OverTime X → OverTime Y → Value → Type 0
+IsMovingText op left right v = IsLifted MovingText same_bytes op left right v
+
+-- two operands of which one at least is temporal
+abbrev pub Pair : Type 0 → Type 0
+Pair B = Option (OverTime B × OverTime B)
+
+abbrev at : {B : Type 0} → Steps B → OverTime B
+at m = value_at steady_value m
+
+abbrev always : {B : Type 0} → B → OverTime B
+always b = λ t. Some b
+
+-- two truth values
+abbrev pub truths : Value → Value → Pair Bool
+truths (MovingBool a) (MovingBool b) = Some (at a, at b)
+truths (MovingBool a) (Truth b) = Some (at a, always b)
+truths (Truth a) (MovingBool b) = Some (always a, at b)
+truths _ _ = None
+
+-- two numbers
+abbrev pub numbers : Value → Value → Pair Ratio
+numbers (MovingInt a) (MovingInt b) = Some (at a, at b)
+numbers (MovingInt a) (Number b) = Some (at a, always b)
+numbers (Number a) (MovingInt b) = Some (always a, at b)
+numbers _ _ = None
+
+-- two texts
+abbrev pub texts : Value → Value → Pair (List ℕ)
+texts (MovingText a) (MovingText b) = Some (at a, at b)
+texts (MovingText a) (Text b) = Some (at a, always b)
+texts (Text a) (MovingText b) = Some (always a, at b)
+texts _ _ = None
+
+-- what two operands are at each instant
+abbrev pub courses : {B : Type 0} → Operand (Steady B) B × Operand (Steady B) B → OverTime B × OverTime B
+courses p = (operand_at steady_value p.0, operand_at steady_value p.1)
+
+-- what holds of v where the operands are such a pair; and NULL where they are none
+abbrev pub OnPair : {B : Type 0} → Pair B → (OverTime B → OverTime B → Value → Type 0) → Value → Type 0
+OnPair pair row v = MatchOption pair (v ≡ Null) (λ p. row p.0 p.1 v)
+
+abbrev pub number_test : Rel → Ratio → Ratio → Bool
+number_test r x y = holds r (compare_ratio x y)
+
+abbrev pub text_test : Rel → List ℕ → List ℕ → Bool
+text_test r x y = holds r (compare_bytes x y)
+
+abbrev pub truth_test : Rel → Bool → Bool → Bool
+truth_test r x y = holds r (compare_bool x y)
+
+-- a comparison of two numbers or two texts at each instant
+abbrev pub IsOrderTest : Rel → Value → Value → Value → Type 0
+IsOrderTest r a b v = MatchOption (numbers a b) (OnPair (texts a b) (IsMovingBool (text_test r)) v) (λ p. IsMovingBool (number_test r) p.0 p.1 v)
+
+-- a comparison of two numbers, two texts or two truth values at each instant
+abbrev pub IsAnyTest : Rel → Value → Value → Value → Type 0
+IsAnyTest r a b v = MatchOption (truths a b) (IsOrderTest r a b v) (λ p. IsMovingBool (truth_test r) p.0 p.1 v)
+
+-- The six comparisons at each instant. Truth values are equal or not, and have no order here.
+abbrev pub IsLiftedTest : Cmp → Value → Value → Value → Type 0
+IsLiftedTest cmp.Eq a b v = IsAnyTest (rel_of cmp.Eq) a b v
+IsLiftedTest cmp.Ne a b v = IsAnyTest (rel_of cmp.Ne) a b v
+IsLiftedTest c a b v = IsOrderTest (rel_of c) a b v
+
+-- the other truth value at each instant
+abbrev pub IsLiftedNot : Value → Value → Type 0
+IsLiftedNot (MovingBool a) v = (r : Steps Bool) × ((t : Ratio) → value_at steady_value r t ≡ option_map not (value_at steady_value a t)) × AreNormal same_bool r × (v ≡ MovingBool r)
+IsLiftedNot _ v = v ≡ Null

@@ -1,0 +1,104 @@
+-- The ordinary operators. Each is NULL where an operand is NULL, or is no value that it takes.
+use Rattle.std.specs.Prelude.{◌≡◌, ◌↔◌, Bool, true, false, not, cond, ◌&&◌, ◌||◌, IsTrue, ◌++◌, pos, ℕ, List, Option, Some, None, option_map}
+use Rattle.mob_ratio.specs.Ratio.{Ratio, whole, ◌/ℚ◌, neg_ℚ}
+use Rattle.mob_ratio.specs.Order.{same}
+use Rattle.mob_ast.specs.declared.types.Cmp.{Cmp}
+use Rattle.mob_ast.specs.declared.types.Cmp.TheVariants as cmp
+use Rattle.mob_slice.specs.declared.comparison.Rel.{Rel}
+use Rattle.mob_slice.specs.declared.comparison.Rel.TheVariants as rel
+use Rattle.mob_slice.specs.Ranks.{holds, compare_ratio, compare_bytes}
+use Rattle.mob_slice.specs.Sameness.{same_bool}
+use Rattle.mob_slice.specs.Slices.{value_at}
+use Rattle.mob_slice.specs.Operands.{steady_value}
+use Rattle.mob_slice.specs.declared.slice.Slice.{Slice}
+use Rattle.mob_slice.specs.declared.steady.Steady.{Steady}
+use Rattle.mob_value.specs.declared.value.Value.{Value}
+use Rattle.mob_value.specs.declared.value.Value.TheVariants.{Null, Bool as Truth, Number, Text, Moment, MovingBool, MovingInt, MovingText}
+
+-- the truth value of a value, where it is one
+abbrev pub truth_of : Value → Option Bool
+truth_of (Truth b) = Some b
+truth_of _ = None
+
+-- whether a value is true
+abbrev pub is_true : Value → Bool
+is_true (Truth b) = b
+is_true _ = false
+
+-- a truth value, or NULL where there is none
+abbrev pub known : Option Bool → Value
+known None = Null
+known (Some b) = Truth b
+
+-- AND: false where one operand is false, true where both are true
+abbrev pub conjunction : Option Bool → Option Bool → Option Bool
+conjunction (Some a) (Some b) = Some (a && b)
+conjunction (Some a) None = cond a None (Some false)
+conjunction None (Some b) = cond b None (Some false)
+conjunction None None = None
+
+-- OR: true where one operand is true, false where both are false
+abbrev pub disjunction : Option Bool → Option Bool → Option Bool
+disjunction (Some a) (Some b) = Some (a || b)
+disjunction (Some a) None = cond a (Some true) None
+disjunction None (Some b) = cond b (Some true) None
+disjunction None None = None
+
+-- whether a value is NULL
+abbrev pub is_null : Value → Bool
+is_null Null = true
+is_null _ = false
+
+abbrev pub rel_of : Cmp → Rel
+rel_of cmp.Eq = rel.Eq
+rel_of cmp.Ne = rel.Ne
+rel_of cmp.Lt = rel.Lt
+rel_of cmp.Le = rel.Le
+rel_of cmp.Gt = rel.Gt
+rel_of cmp.Ge = rel.Ge
+
+-- v is the truth value of P where `wanted` is true, and that of its contrary where it is false
+abbrev pub Says : Bool → Type 0 → Value → Type 0
+Says wanted P v = (c : Bool) × (IsTrue c ↔ P) × (v ≡ Truth (same_bool wanted c))
+
+-- two temporal values are one function of time
+abbrev pub AreOneFunction : {B : Type 0} → List (Slice (Steady B)) → List (Slice (Steady B)) → Type 0
+AreOneFunction a b = (t : Ratio) → value_at steady_value a t ≡ value_at steady_value b t
+
+-- `=` where `wanted` is true, and `<>` where it is false
+abbrev pub Equality : Bool → Value → Value → Value → Type 0
+Equality wanted (Truth a) (Truth b) v = Says wanted (a ≡ b) v
+Equality wanted (Number a) (Number b) v = Says wanted (a ≡ b) v
+Equality wanted (Text a) (Text b) v = Says wanted (a ≡ b) v
+Equality wanted (Moment a) (Moment b) v = Says wanted (a ≡ b) v
+Equality wanted (MovingBool a) (MovingBool b) v = Says wanted (AreOneFunction a b) v
+Equality wanted (MovingInt a) (MovingInt b) v = Says wanted (AreOneFunction a b) v
+Equality wanted (MovingText a) (MovingText b) v = Says wanted (AreOneFunction a b) v
+Equality wanted _ _ v = v ≡ Null
+
+-- an order relation: numbers and moments by size, texts by their bytes
+abbrev pub ordered : Rel → Value → Value → Value
+ordered r (Number a) (Number b) = Truth (holds r (compare_ratio a b))
+ordered r (Text a) (Text b) = Truth (holds r (compare_bytes a b))
+ordered r (Moment a) (Moment b) = Truth (holds r (compare_ratio a b))
+ordered r _ _ = Null
+
+-- the six plain comparisons
+abbrev pub IsTest : Cmp → Value → Value → Value → Type 0
+IsTest cmp.Eq a b v = Equality true a b v
+IsTest cmp.Ne a b v = Equality false a b v
+IsTest c a b v = v ≡ ordered (rel_of c) a b
+
+-- a number with its sign turned
+abbrev pub negated : Value → Value
+negated (Number a) = Number (neg_ℚ a)
+negated _ = Null
+
+-- a number
+abbrev pub unchanged : Value → Value
+unchanged (Number a) = Number a
+unchanged _ = Null
+
+-- whether a number is 0
+abbrev pub is_nil : Ratio → Bool
+is_nil a = same a (whole (pos 0))

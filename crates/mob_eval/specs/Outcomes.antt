@@ -1,0 +1,18 @@
+-- An expression has one outcome.
+use Rattle.std.specs.Prelude.{◌≡◌, List, Option, Result}
+use Rattle.mob_operators.specs.declared.operator.Op.{Op}
+use Rattle.mob_slice.specs.declared.formula.Formula.{Formula}
+use Rattle.mob_typing.specs.Trees.{TypedTree}
+use Rattle.mob_value.specs.declared.value.Value.{Value}
+use Rattle.mob_eval.specs.Scene.{Scene}
+use Rattle.mob_eval.specs.Operators.{Gives, First}
+use Rattle.mob_eval.specs.Runs.{Fault, RunsTree}
+
+-- an operator gives one value, and has one first formula or none
+pub record IsSingle : Type 0 where
+  pub value : (s : Scene) (o : Op) (vs : List Value) (v w : Value) → Gives s o vs v → Gives s o vs w → v ≡ w
+  pub first : (o : Op) (vs : List Value) (f g : Option Formula) → First o vs f → First o vs g → f ≡ g
+
+-- an expression gives one value or one fault
+abbrev pub HasOneOutcome : Type 0
+HasOneOutcome = (s : Scene) (e : TypedTree) (r q : Result Value Fault) → RunsTree s e r → RunsTree s e q → r ≡ q

@@ -1,0 +1,38 @@
+-- What an expression reads.
+use Rattle.std.specs.Prelude.{ℕ, ℤ, List, Option, Some, None, slice_get, option_and_then}
+use Rattle.mob_value.specs.declared.value.Value.{Value}
+use Rattle.mob_value.specs.declared.value.Value.TheVariants.{Null}
+use Rattle.mob_value.specs.declared.store.Store.{Store}
+use Rattle.mob_operators.specs.declared.operator.Op.{Op}
+use Rattle.mob_operators.specs.declared.operator.Op.TheVariants as op
+
+-- The store, the table of each place of the tuple (the FROM list), the row of each place, and the day of the epoch.
+pub record Scene : Type 0 where
+  pub store : Store
+  pub from : List ℕ
+  pub tuple : List ℕ
+  pub day : ℤ
+
+-- the value, or NULL where there is none
+abbrev pub or_null : Option Value → Value
+or_null None = Null
+or_null (Some v) = v
+
+-- the constant of a number
+abbrev pub constant : Scene → ℕ → Option Value
+constant s c = slice_get s.store.consts c
+
+-- the value in a column of the row of a place
+abbrev pub cell : Scene → ℕ → ℕ → Option Value
+cell s place column =
+    option_and_then (λ number. option_and_then (λ row. option_and_then (λ table. option_and_then (λ fields. slice_get fields column) (slice_get table.rows row)) (slice_get s.store.tables number)) (slice_get s.tuple place)) (slice_get s.from place)
+
+-- a store, the table of each place, the row of each place, and the day of the epoch
+abbrev pub scene : Store → List ℕ → List ℕ → ℤ → Scene
+scene store from tuple day = record { store = store; from = from; tuple = tuple; day = day }
+
+-- what an operator without operands gives
+abbrev pub leaf : Scene → Op → Value
+leaf s (op.Const c) = or_null (constant s c)
+leaf s (op.Column place column) = or_null (cell s place column)
+leaf s _ = Null

@@ -1,0 +1,40 @@
+//! One operator, on the values of its operands.
+ghost use Rattle.std.specs.Prelude.{◌≡◌, IfOk, IfErr, map, None, Some};
+ghost use Rattle.mob_eval.specs.Views.{scene_of};
+ghost use Rattle.mob_eval.specs.Operators.{Gives, First};
+ghost use Rattle.mob_eval.specs.Faults.{OnFormula};
+ghost use Rattle.mob_eval.specs.Held.{held};
+
+use crate::held::Held;
+use crate::operators::{of_one, of_two};
+use crate::scene::{View, leaf};
+use mob_operators::Op;
+use mob_slice::OpFault;
+use mob_value::Value;
+use std::alloc::Global;
+
+/// The value of an operator on the values of the operands that were evaluated, or its first formula with a part that does
+/// not fit.
+pub fn result_of<'a>(
+    alloc: Global,
+    view: &View<'a>,
+    op: Op,
+    values: &[Held<'a>],
+) -> Result<Held<'a>, OpFault>
+    ensures value { IfOk result (λ h. Gives (scene_of view.now) op (map held values.now) (held h)) }
+    ensures fits { IfOk result (λ _. First op (map held values.now) None) }
+    ensures fault { IfErr result (OnFormula (λ f. First op (map held values.now) (Some f))) }
+{
+    match values {
+        [] => Ok(leaf(view, op)),
+        [value] => match of_one(alloc, view, op, value.get()) {
+            Ok(value) => Ok(Held::Made(value)),
+            Err(_) => Err(OpFault::NoMemory),
+        },
+        [left, right] => match of_two(alloc, op, left.get(), right.get()) {
+            Ok(value) => Ok(Held::Made(value)),
+            Err(fault) => Err(fault),
+        },
+        _ => Ok(Held::Made(Value::Null)),
+    }
+}

@@ -1,0 +1,9 @@
+//! What holds of every expression. No code runs here.
+
+ghost use Rattle.mob_eval.specs.Outcomes.{HasOneOutcome};
+
+/// An expression has one outcome on a tuple: one value, or one fault at one place. So where `eval` answers a value no part
+/// that it needed fails to fit, and where it answers `Passed` there is no value.
+pub fn one_outcome()
+    ensures outcome { HasOneOutcome }
+{}

@@ -1,0 +1,23 @@
+//! The value of a typed expression on a tuple of rows.
+#![tactic(auto)]
+
+mod apply;
+mod arithmetic;
+mod comparison;
+mod evaluate;
+mod fault;
+mod held;
+pub mod laws;
+mod lifting;
+mod logic;
+mod operators;
+mod pair;
+mod scene;
+mod temporal;
+mod walk;
+
+pub use evaluate::{eval, holds};
+pub use fault::EvalFault;
+
+#[cfg(test)]
+mod tests;

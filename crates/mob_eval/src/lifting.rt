@@ -1,0 +1,126 @@
+//! Logic, comparisons and joining at each instant.
+ghost use Rattle.std.specs.Prelude.{◌≡◌, IfOk, IfErr};
+ghost use Rattle.mob_slice.specs.Operands.{operand_at, is_moving, steady_value};
+ghost use Rattle.mob_arith.specs.Operations.{both_hold, one_holds, text_of};
+ghost use Rattle.mob_eval.specs.Lifted.{OnPair, IsMovingBool, IsOrderTest, IsAnyTest, IsLiftedTest, IsLiftedNot, truths, texts, number_test, text_test, truth_test};
+ghost use Rattle.mob_eval.specs.Operators.{joined, IsJoined};
+
+use crate::comparison::rel_of;
+use crate::pair::{numbers, texts, truths};
+use crate::temporal::{bool_or_null, text_or_null};
+use mob_arith::operation::{Joining, Operation};
+use mob_arith::{and, join_text, not, or};
+use mob_ast::Cmp;
+use mob_compare::compare;
+use mob_slice::Rel;
+use mob_value::Value;
+use std::alloc::{AllocError, Global};
+
+/// `&`
+pub fn lifted_and(alloc: Global, left: &Value, right: &Value) -> Result<Value, AllocError>
+    ensures value { IfOk result (λ v. OnPair (truths left.now right.now) (IsMovingBool both_hold) v) }
+{
+    match truths(left, right) {
+        Some((left, right)) => Ok(bool_or_null(and(alloc, left, right)?)),
+        None => Ok(Value::Null),
+    }
+}
+
+/// `|`
+pub fn lifted_or(alloc: Global, left: &Value, right: &Value) -> Result<Value, AllocError>
+    ensures value { IfOk result (λ v. OnPair (truths left.now right.now) (IsMovingBool one_holds) v) }
+{
+    match truths(left, right) {
+        Some((left, right)) => Ok(bool_or_null(or(alloc, left, right)?)),
+        None => Ok(Value::Null),
+    }
+}
+
+/// `~`
+pub fn lifted_not(alloc: Global, value: &Value) -> Result<Value, AllocError>
+    ensures value { IfOk result (λ v. IsLiftedNot value.now v) }
+{
+    match value {
+        Value::MovingBool(moving) => Ok(bool_or_null(Some(not(alloc, moving)?))),
+        _ => Ok(Value::Null),
+    }
+}
+
+fn text_comparison(
+    alloc: Global,
+    rel: Rel,
+    left: &Value,
+    right: &Value,
+) -> Result<Value, AllocError>
+    ensures value { IfOk result (λ v. OnPair (texts left.now right.now) (IsMovingBool (text_test rel)) v) }
+{
+    match texts(left, right) {
+        Some((left, right)) => match compare(alloc, left, right, rel) {
+            Ok(value) => Ok(bool_or_null(value)),
+            Err(_) => Err(AllocError),
+        },
+        None => Ok(Value::Null),
+    }
+}
+
+fn order(alloc: Global, rel: Rel, left: &Value, right: &Value) -> Result<Value, AllocError>
+    ensures value { IfOk result (λ v. IsOrderTest rel left.now right.now v) }
+{
+    match numbers(left, right) {
+        Some((left, right)) => match compare(alloc, left, right, rel) {
+            Ok(value) => Ok(bool_or_null(value)),
+            Err(_) => Err(AllocError),
+        },
+        None => text_comparison(alloc, rel, left, right),
+    }
+}
+
+fn comparison(alloc: Global, rel: Rel, left: &Value, right: &Value) -> Result<Value, AllocError>
+    ensures value { IfOk result (λ v. IsAnyTest rel left.now right.now v) }
+{
+    match truths(left, right) {
+        Some((left, right)) => match compare(alloc, left, right, rel) {
+            Ok(value) => Ok(bool_or_null(value)),
+            Err(_) => Err(AllocError),
+        },
+        None => order(alloc, rel, left, right),
+    }
+}
+
+/// A comparison at each instant. Truth values have no order here.
+pub fn lifted_test(
+    alloc: Global,
+    sign: Cmp,
+    left: &Value,
+    right: &Value,
+) -> Result<Value, AllocError>
+    ensures value { IfOk result (λ v. IsLiftedTest sign left.now right.now v) }
+{
+    match sign {
+        Cmp::Eq => comparison(alloc, rel_of(sign), left, right),
+        Cmp::Ne => comparison(alloc, rel_of(sign), left, right),
+        _ => order(alloc, rel_of(sign), left, right),
+    }
+}
+
+fn plain_joined(alloc: Global, left: &Value, right: &Value) -> Result<Value, AllocError>
+    ensures value { IfOk result (λ v. v ≡ joined left.now right.now) }
+{
+    match (left, right) {
+        (Value::Text(a), Value::Text(b)) => match Joining::apply(alloc, a, b) {
+            Ok(text) => Ok(Value::Text(text)),
+            Err(_) => Err(AllocError),
+        },
+        _ => Ok(Value::Null),
+    }
+}
+
+/// `||`
+pub fn join(alloc: Global, left: &Value, right: &Value) -> Result<Value, AllocError>
+    ensures value { IfOk result (λ v. IsJoined left.now right.now v) }
+{
+    match texts(left, right) {
+        Some((left, right)) => Ok(text_or_null(join_text(alloc, left, right)?)),
+        None => plain_joined(alloc, left, right),
+    }
+}

@@ -1,0 +1,60 @@
+//! Operands of which one at least is temporal.
+ghost use Rattle.std.specs.Prelude.{◌≡◌, ◌||◌, true, IfSome, option_map};
+ghost use Rattle.mob_slice.specs.Operands.{is_moving};
+ghost use Rattle.mob_eval.specs.Lifted.{truths, numbers, texts, courses};
+
+use mob_frac::Frac;
+use mob_list::text::Text;
+use mob_slice::{Operand, Steady};
+use mob_value::Value;
+
+// Two operands of a lifted operator.
+type Pair<'a, B> = (Operand<'a, Steady<B>>, Operand<'a, Steady<B>>);
+
+/// Two truth values. None where none is temporal, or one is no truth value.
+pub fn truths<'a>(left: &'a Value, right: &'a Value) -> Option<Pair<'a, bool>>
+    ensures courses { option_map courses result ≡ truths left.now right.now }
+    ensures moving { IfSome result (λ p. (is_moving p.0 || is_moving p.1) ≡ true) }
+{
+    match (left, right) {
+        (Value::MovingBool(a), Value::MovingBool(b)) => Some((
+            Operand::Moving(a),
+            Operand::Moving(b),
+        )),
+        (Value::MovingBool(a), Value::Bool(b)) => Some((Operand::Moving(a), Operand::Fixed(b))),
+        (Value::Bool(a), Value::MovingBool(b)) => Some((Operand::Fixed(a), Operand::Moving(b))),
+        _ => None,
+    }
+}
+
+/// Two numbers. None where none is temporal, or one is no number.
+pub fn numbers<'a>(left: &'a Value, right: &'a Value) -> Option<Pair<'a, Frac>>
+    ensures courses { option_map courses result ≡ numbers left.now right.now }
+    ensures moving { IfSome result (λ p. (is_moving p.0 || is_moving p.1) ≡ true) }
+{
+    match (left, right) {
+        (Value::MovingInt(a), Value::MovingInt(b)) => Some((
+            Operand::Moving(a),
+            Operand::Moving(b),
+        )),
+        (Value::MovingInt(a), Value::Number(b)) => Some((Operand::Moving(a), Operand::Fixed(b))),
+        (Value::Number(a), Value::MovingInt(b)) => Some((Operand::Fixed(a), Operand::Moving(b))),
+        _ => None,
+    }
+}
+
+/// Two texts. None where none is temporal, or one is no text.
+pub fn texts<'a>(left: &'a Value, right: &'a Value) -> Option<Pair<'a, Text>>
+    ensures courses { option_map courses result ≡ texts left.now right.now }
+    ensures moving { IfSome result (λ p. (is_moving p.0 || is_moving p.1) ≡ true) }
+{
+    match (left, right) {
+        (Value::MovingText(a), Value::MovingText(b)) => Some((
+            Operand::Moving(a),
+            Operand::Moving(b),
+        )),
+        (Value::MovingText(a), Value::Text(b)) => Some((Operand::Moving(a), Operand::Fixed(b))),
+        (Value::Text(a), Value::MovingText(b)) => Some((Operand::Fixed(a), Operand::Moving(b))),
+        _ => None,
+    }
+}

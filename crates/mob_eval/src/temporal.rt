@@ -1,0 +1,53 @@
+//! Temporal values as values of SQL.
+ghost use Rattle.std.specs.Prelude.{◌≡◌, MatchOption};
+ghost use Rattle.mob_ratio.specs.Order.{same};
+ghost use Rattle.mob_slice.specs.Sameness.{same_bool, same_bytes};
+ghost use Rattle.mob_value.specs.declared.value.Value.TheVariants.{MovingBool, MovingInt, MovingText};
+ghost use Rattle.mob_eval.specs.Lifted.{or_nothing, AreNormal};
+
+use mob_frac::Frac;
+use mob_list::text::Text;
+use mob_slice::{Moving, Steady};
+use mob_value::Value;
+
+/// A tbool, or NULL for None.
+pub fn bool_or_null(value: Option<Moving<Steady<bool>>>) -> Value
+    ensures value { result ≡ or_nothing MovingBool value }
+    ensures normal { MatchOption value (Unit {0}) (AreNormal same_bool) }
+{
+    match value {
+        Some(moving) => {
+            let _ = moving.slices();
+            Value::MovingBool(moving)
+        }
+        None => Value::Null,
+    }
+}
+
+/// A tint, or NULL for None.
+pub fn int_or_null(value: Option<Moving<Steady<Frac>>>) -> Value
+    ensures value { result ≡ or_nothing MovingInt value }
+    ensures normal { MatchOption value (Unit {0}) (AreNormal same) }
+{
+    match value {
+        Some(moving) => {
+            let _ = moving.slices();
+            Value::MovingInt(moving)
+        }
+        None => Value::Null,
+    }
+}
+
+/// A ttext, or NULL for None.
+pub fn text_or_null(value: Option<Moving<Steady<Text>>>) -> Value
+    ensures value { result ≡ or_nothing MovingText value }
+    ensures normal { MatchOption value (Unit {0}) (AreNormal same_bytes) }
+{
+    match value {
+        Some(moving) => {
+            let _ = moving.slices();
+            Value::MovingText(moving)
+        }
+        None => Value::Null,
+    }
+}

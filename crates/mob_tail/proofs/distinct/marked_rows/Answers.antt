@@ -1,0 +1,15 @@
+use Rattle.std.proofs.Common.{inl, inr, sym, ◌∙◌}
+use Rattle.std.specs.Iterator.Adapters.{zip_first, zip_second}
+use Rattle.std.proofs.lemmas.List.{nil_from_length}
+use Rattle.mob_tail.proofs.Seen.{marked_none}
+use Rattle.mob_tail.proofs.distinct.marked_rows.Goals as goal
+
+pub returns : goal.returns
+returns c =
+    let at = c.loop-row.invariant in
+    record {
+      marked = elim c.in-None.ensures.steps [
+        inl p ↦ marked_none _ _ _ _ (inl (nil_from_length _ (sym at.counted ∙ p.1.0))) at.same
+        | inr p ↦ marked_none _ _ _ _ (inr (nil_from_length _ p.1.0)) at.same
+      ];
+    }

@@ -1,0 +1,85 @@
+// What a query answers.
+ghost use Rattle.std.specs.Prelude.{◌≡◌, Ok, Err, IfOk, IfErr, map};
+ghost use Rattle.mob_typing.specs.Selects.{select_seen, output_of, key_seen};
+ghost use Rattle.mob_join.specs.Query.{OnPassed};
+ghost use Rattle.mob_tail.specs.Rows.{AreArranged};
+ghost use Rattle.mob_tail.specs.Answers.{IsAnswer};
+
+use crate::arrange::arranged;
+use crate::evaluation::rows_on;
+use crate::keyed::Keyed;
+use mob_join::{Query, QueryFault};
+use mob_list::items::Items;
+use mob_list::text::Text;
+use mob_typing::{TExpr, TypedSelect};
+use std::alloc::{AllocError, Global};
+
+/// What a query answers: the names of its columns, and its rows in order, each with the printed text of its fields.
+#[derive(Drop)]
+pub struct Answer {
+    pub names: Items<Text>,
+    pub rows: Items<Items<Text>>,
+}
+
+// The names of the columns.
+fn names_of(alloc: Global, items: &[(TExpr, Text)]) -> Result<Items<Text>, AllocError>
+    ensures names { IfOk result (λ names. names ≡ map (λ item. item.1) (map output_of items.now)) }
+{
+    let mut names = Items::new(alloc);
+    for item in items {
+        names.push(item.1.copy(alloc)?)?;
+    }
+    Ok(names)
+}
+
+// For each key whether it falls.
+fn falls_of(alloc: Global, keys: &[(TExpr, bool)]) -> Result<Vec<bool>, AllocError>
+    ensures falls { IfOk result (λ falls. falls.items ≡ map (λ key. key.1) (map key_seen keys.now)) }
+{
+    let mut falls = Vec::new(alloc);
+    for key in keys {
+        falls.push(key.1)?;
+    }
+    Ok(falls)
+}
+
+// The answer from its rows with their keys.
+fn arranged_answer(alloc: Global, select: &TypedSelect, rows: Vec<Keyed>) -> Result<Answer, AllocError>
+    ensures names { IfOk result (λ answer. answer.names ≡ map (λ item. item.1) (select_seen select.now).items) }
+    ensures rows { IfOk result (λ answer. AreArranged (map (λ key. key.1) (select_seen select.now).keys) select.now.distinct select.now.limit rows.items answer.rows) }
+{
+    let names = names_of(alloc, select.items.as_slice())?;
+    let falls = falls_of(alloc, select.keys.as_slice())?;
+    let rows = arranged(
+        alloc,
+        falls.as_slice(),
+        select.distinct,
+        select.limit,
+        rows,
+    )?;
+    Ok(Answer { names, rows })
+}
+
+/// What a query answers on the tuples that it keeps, or the first fault on these tuples in order.
+///
+/// On each tuple the select list is evaluated from left to right, and then the keys of ORDER BY. The rows are put in the order of the
+/// keys: under ASC numbers rise, texts go by their bytes, false comes before true, and NULL comes last; under DESC all is the other way
+/// round, with NULL first; rows whose keys tie stay in the order of the tuples. Then, under DISTINCT, of rows with equal fields the first
+/// stays, and then LIMIT cuts.
+pub fn answer_to(
+    alloc: Global,
+    query: &Query<'_>,
+    kept: &[Items<u32>],
+) -> Result<Answer, QueryFault>
+    ensures names { IfOk result (λ answer. answer.names ≡ map (λ item. item.1) (select_seen query.now.select.now).items) }
+    ensures rows { IfOk result (λ answer. IsAnswer (select_seen query.now.select.now) query.now.store.now query.now.epoch.now kept.now (Ok answer.rows)) }
+    ensures fault { IfErr result (OnPassed (λ f. IsAnswer (select_seen query.now.select.now) query.now.store.now query.now.epoch.now kept.now (Err f))) }
+{
+    match rows_on(alloc, query, kept) {
+        Ok(rows) => match arranged_answer(alloc, query.select, rows) {
+            Ok(answer) => Ok(answer),
+            Err(_) => Err(QueryFault::NoMemory),
+        },
+        Err(fault) => Err(fault),
+    }
+}
