@@ -1,0 +1,4 @@
+mod FirstFaults
+mod RecordCounts
+mod Refusals
+mod Places

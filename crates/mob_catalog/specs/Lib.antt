@@ -1,0 +1,5 @@
+pub mod Constants
+pub mod Faults
+pub mod Fields
+pub mod FirstFault
+pub mod TableFile

@@ -1,0 +1,81 @@
+// Why a table file is refused, and where.
+ghost use Rattle.std.specs.Prelude.{◌≡◌, IfSome, IsNone};
+ghost use Rattle.mob_scalar.specs.declared.fault.ReadText.TheVariants.{NoMemory as WantOfMemory};
+ghost use Rattle.mob_catalog.specs.Faults.{OnRefused, Refuses, wrong};
+
+use mob_ast::Kind;
+use mob_scalar::ReadText;
+use std::alloc::{AllocError, AllocFailed};
+
+/// Why a table file is refused.
+#[derive(Clone, Copy, Debug, PartialEq, Eq)]
+pub enum LoadFault {
+    /// Something is wrong with it.
+    Refused {
+        /// What is wrong.
+        kind: Kind,
+        /// The number of the record, where the header is 1; 0 for the whole file.
+        rec: u32,
+        /// The number of the field in its record, from 1; 0 for the whole record.
+        field: u32,
+    },
+    /// There was no memory.
+    NoMemory,
+}
+
+impl From<AllocError> for LoadFault {
+    ghost use Rattle.std.specs.Prelude.{◌≡◌};
+    ghost use Rattle.mob_catalog.specs.declared.fault.LoadFault.TheVariants.{NoMemory};
+
+    ghost from_gives = { λ _ e. e ≡ NoMemory };
+
+    fn from(_: AllocError) -> LoadFault {
+        LoadFault::NoMemory
+    }
+}
+
+impl<T: Drop> From<AllocFailed<T>> for LoadFault {
+    ghost use Rattle.std.specs.Prelude.{◌≡◌};
+    ghost use Rattle.mob_catalog.specs.declared.fault.LoadFault.TheVariants.{NoMemory};
+
+    ghost from_gives = { λ _ e. e ≡ NoMemory };
+
+    fn from(_: AllocFailed<T>) -> LoadFault {
+        LoadFault::NoMemory
+    }
+}
+
+// The refusal of a text with this fault. Want of memory refuses no text.
+pub fn refusal_kind(fault: ReadText) -> Option<Kind>
+    ensures some { IfSome result (λ kind. Refuses fault kind) }
+    ensures none { IsNone result → fault ≡ WantOfMemory }
+{
+    match fault {
+        ReadText::Limit => Some(Kind::Limit),
+        ReadText::NoMemory => None,
+        ReadText::NotText => Some(Kind::BadLiteral),
+        ReadText::TooLarge => Some(Kind::BadLiteral),
+        ReadText::Unsound => Some(Kind::BadLiteral),
+    }
+}
+
+// The fault of the field of this number.
+pub fn field_fault(fault: ReadText, rec: u32, field: u32) -> LoadFault
+    ensures refused { OnRefused (λ w. (Refuses fault w.kind) × (w.rec ≡ rec) × (w.field ≡ field)) result }
+{
+    match refusal_kind(fault) {
+        Some(kind) => LoadFault::Refused { kind, rec, field },
+        None => LoadFault::NoMemory,
+    }
+}
+
+// The fault of the whole record of this number.
+pub fn record_fault(kind: Kind, rec: u32) -> LoadFault
+    ensures refused { OnRefused (λ w. w ≡ wrong kind rec 0) result }
+{
+    LoadFault::Refused {
+        kind,
+        rec,
+        field: 0,
+    }
+}

@@ -1,0 +1,42 @@
+-- The command line: two options that take one value each, no help and no version.
+use Rattle.std.specs.Prelude.{◌≡◌, ◌≤◌, ℕ, ℤ, List, [], Option, Some, None, Ok, codes, decimal, true}
+use Rattle.clap.specs.Words.{App, Rule, Text, fault_of, first_of, matches_of, new_app, new_rule, with_rule}
+use Rattle.mob_scalar.specs.Calendar.{standard_day}
+use Rattle.mob_scalar.specs.Epochs.{epochs}
+use Rattle.mob_scalar.specs.Verdict.{Lit}
+
+-- the option `--NAME VALUE`
+abbrev pub option : Text → Rule
+option name = record (new_rule name) { long = Some name }
+
+-- the command without the two options that `clap` adds by itself
+abbrev pub without_flags : App → App
+without_flags a = record a { top = record a.top { disable_help_flag = true; disable_version_flag = true } }
+
+-- `mobsql [--workers N] [--epoch DATE]`
+unfoldable pub command : App
+command = with_rule (with_rule (without_flags (new_app (codes "mobsql"))) (option (codes "workers"))) (option (codes "epoch"))
+
+-- the command takes these words, the program's name first
+unfoldable pub IsTaken : List Text → Type 0
+IsTaken words = fault_of command words ≡ []
+
+-- the value that the words give to an option
+unfoldable pub value_of : Text → List Text → Option Text
+value_of name words = first_of name (matches_of command words)
+
+-- the number of workers: a whole number from 1 to 64 in decimal digits, without a sign and a leading zero; 1 without a value
+abbrev pub IsWorkers : Option Text → ℕ → Type 0
+IsWorkers None n = n ≡ 1
+IsWorkers (Some text) n = (text ≡ decimal n) × (1 ≤ n) × (n ≤ 64)
+
+-- the number of the epoch's day: that of an existing date of the years 0001 to 9999; 2000-01-01 without a value
+abbrev pub IsEpoch : Option Text → ℤ → Type 0
+IsEpoch None day = day ≡ standard_day
+IsEpoch (Some text) day = Lit epochs text (Ok day)
+
+-- the words are taken, and say this number of workers and this day as the epoch
+pub record Says (words : List Text) (workers : ℕ) (epoch : ℤ) : Type 0 where
+  pub taken : IsTaken words
+  pub count : IsWorkers (value_of (codes "workers") words) workers
+  pub day : IsEpoch (value_of (codes "epoch") words) epoch

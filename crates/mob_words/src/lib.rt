@@ -1,0 +1,11 @@
+//! The words of the command line: which are taken, and what they say.
+#![tactic(auto)]
+
+mod command;
+mod options;
+mod reading;
+#[cfg(test)]
+mod tests;
+
+pub use options::Settings;
+pub use reading::settings;

@@ -1,0 +1,67 @@
+// What the words of a command line say.
+ghost use Rattle.std.specs.Prelude.{◌≡◌, ℕ, ℤ, IfOk, IfSome, IsNone, map, option_map, string_bytes};
+ghost use Rattle.mob_words.specs.CommandLine.{IsEpoch, IsWorkers, Says};
+
+use crate::command::given;
+use crate::options::Settings;
+use itoa::Buffer;
+use mob_scalar::Epoch;
+use std::alloc::{AllocError, Global};
+
+// The greatest number of workers.
+const MOST_WORKERS: u32 = 64;
+
+// The number of workers that an option's value says, or that goes without one.
+fn workers_of(value: Option<&str>) -> Option<u32>
+    ensures some { IfSome result (λ n. IsWorkers (option_map (λ s. s.now) value.entry) n) }
+    ensures none { IsNone result → (n : ℕ) → IsWorkers (option_map (λ s. s.now) value.entry) n → ⊥ }
+{
+    match value {
+        None => Some(1),
+        Some(text) => count_in(text),
+    }
+}
+
+// A whole number from 1 to 64. No sign and no leading zero may stand before it: the text is that of the number.
+fn count_in(text: &str) -> Option<u32>
+    ensures some { IfSome result (λ n. IsWorkers (Some text.now) n) }
+    ensures none { IsNone result → (n : ℕ) → IsWorkers (Some text.now) n → ⊥ }
+{
+    let mut digits = Buffer::new();
+    match text.parse::<u32>() {
+        Ok(count) if 1 <= count && count <= MOST_WORKERS && digits.format(count) == text => {
+            Some(count)
+        }
+        _ => None,
+    }
+}
+
+// The epoch that an option's value says, or the one that goes without.
+fn epoch_of(value: Option<&str>) -> Option<Epoch>
+    ensures some { IfSome result (λ epoch. IsEpoch (option_map (λ s. s.now) value.entry) epoch) }
+    ensures none { IsNone result → (day : ℤ) → IsEpoch (option_map (λ s. s.now) value.entry) day → ⊥ }
+{
+    match value {
+        None => Some(Epoch::standard()),
+        Some(text) => Epoch::read(text).ok(),
+    }
+}
+
+/// What the words say, of which the first is the program's name: `--workers N` with a whole number from 1 to 64 in decimal
+/// digits, and `--epoch DATE` with an existing date `YYYY-MM-DD` of the years 0001 to 9999. Each may be missing, and may
+/// stand once; `--workers=N` says the same as the two words.
+///
+/// None exactly where the words are not taken: another word, an option twice or without its value, or a value that is
+/// none. Whether `clap` takes the words of this command is that crate's stated meaning.
+pub fn settings(alloc: Global, words: &[String]) -> Result<Option<Settings>, AllocError>
+    ensures said { IfOk result (λ o. IfSome o (λ s. Says (map string_bytes words.now) s.workers s.epoch)) }
+    ensures refused { IfOk result (λ o. IsNone o → (workers : ℕ) (epoch : ℤ) → Says (map string_bytes words.now) workers epoch → ⊥) }
+{
+    let Some(given) = given(alloc, words)? else {
+        return Ok(None);
+    };
+    let (Some(workers), Some(epoch)) = (workers_of(given.workers), epoch_of(given.epoch)) else {
+        return Ok(None);
+    };
+    Ok(Some(Settings { workers, epoch }))
+}
