@@ -2,4 +2,12 @@
 #![tactic(auto)]
 
 mod check;
+mod file;
+mod loading;
 mod order;
+mod passing;
+mod program;
+mod table;
+
+pub use program::{LoadEnd, Program};
+pub use table::{LoadFault, Tables};

@@ -1,0 +1,38 @@
+-- What was read of a file is its front.
+use Rattle.std.proofs.Common.{arith, ◌≡◌, ◌∙◌, ap, sym, subst, ℕ, ◌+◌, ◌≤◌, ◌<◌, List, [], ◌∷◌, ◌++◌, length, take, Some, None, Ok, Err, Vec, Global}
+use Rattle.std.specs.Prelude.{Option, Result, IfSome, IfOk}
+use Rattle.std.specs.declared.alloc.AllocError.{AllocError}
+use Rattle.std.specs.Io.KnownBytes.{Consumes, IsAtEnd}
+use Rattle.std.proofs.lemmas.List.{append-nil, take_all, take-append-le}
+use Rattle.mob_outside.specs.Told.{Contents, file_of, Opens}
+use Rattle.mob_load.specs.Fronts.{greatest_file, IsFront}
+
+-- what was read is as long as it may be
+pub read_full : (n : ℕ) (a b : Option (List ℕ)) (bytes : List ℕ) → Consumes a b bytes → length bytes ≡ n → IfSome a (λ whole. bytes ≡ take n whole)
+read_full n None b bytes taken full = tt
+read_full n (Some xs) None bytes taken full = absurd taken
+read_full n (Some xs) (Some ys) bytes taken full =
+    sym (take_all n bytes (omega arith)) ∙ sym (take-append-le n bytes ys (omega arith)) ∙ ap (take n) (sym taken)
+
+-- nothing is left behind what was read
+pub read_whole : (n : ℕ) (a b c : Option (List ℕ)) (bytes buffer : List ℕ) (count : ℕ)
+    → Consumes a b bytes → Consumes b c (take count buffer) → IsAtEnd c → count ≡ 0 → length bytes ≤ n → IfSome a (λ whole. bytes ≡ take n whole)
+read_whole n None b c bytes buffer count taken last done none few = tt
+read_whole n (Some xs) None c bytes buffer count taken last done none few = absurd taken
+read_whole n (Some xs) (Some ys) None bytes buffer count taken last done none few = absurd last
+read_whole n (Some xs) (Some ys) (Some zs) bytes buffer count taken last done none few =
+    let empty : ys ≡ [] = last ∙ ap (λ (k : ℕ). take k buffer ++ zs) none ∙ done in
+    let is : xs ≡ bytes = taken ∙ ap (λ (w : List ℕ). bytes ++ w) empty ∙ append-nil bytes in
+    sym (take_all n bytes few) ∙ ap (take n) (sym is)
+
+opened_front : (name : List ℕ) (files : Option Contents) (left : Option (List ℕ)) (bytes : List ℕ)
+    → Opens name files left → IfSome left (λ whole. bytes ≡ take (greatest_file + 1) whole) → IfSome files (λ m. IsFront name m bytes)
+opened_front name None left bytes opens reads = tt
+opened_front name (Some m) None bytes opens reads = cc
+opened_front name (Some m) (Some whole) bytes opens reads = (whole, sym opens.0, reads)
+
+pub file_front : (name : List ℕ) (files : Option Contents) (left : Option (List ℕ)) (r : Result (Option (Vec ℕ Global)) AllocError)
+    → Opens name files left → IfOk r (λ o. IfSome o (λ v. IfSome left (λ whole. v.items ≡ take (greatest_file + 1) whole))) → IfOk r (λ o. IfSome o (λ v. IfSome files (λ m. IsFront name m v.items)))
+file_front name files left (Err e) opens reads = tt
+file_front name files left (Ok None) opens reads = tt
+file_front name files left (Ok (Some v)) opens reads = opened_front name files left v.items opens reads

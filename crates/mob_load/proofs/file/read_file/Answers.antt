@@ -1,0 +1,9 @@
+use Rattle.std.proofs.Common.{rules}
+use Rattle.mob_outside.specs.Told.{Opens}
+use Rattle.mob_load.proofs.Fronts.{file_front}
+use Rattle.mob_load.proofs.file.read_file.Goals as goal
+
+pub returns-clause-bytes : goal.returns-clause-bytes
+returns-clause-bytes g c =
+    let opens : Opens c.args.name.now (g.F.Files.files c.args.files.now) (g.F.Files.left c.open.new.self) = search rules in
+    file_front c.args.name.now (g.F.Files.files c.args.files.now) (g.F.Files.left c.open.new.self) c.read_opened.result opens c.read_opened.ensures.bytes

@@ -1,0 +1,18 @@
+// What was read so far.
+
+use mob_ast::SqlType;
+use mob_list::items::Items;
+use mob_list::text::Text;
+use mob_value::Value;
+
+/// What was read so far.
+pub struct Loading<'a> {
+    /// The values of the literals.
+    pub values: Items<Value>,
+    /// The columns of the tables.
+    pub tables: Vec<&'a [(Text, SqlType)]>,
+    /// How many rows were put into each table.
+    pub rows: Vec<u32>,
+    /// The rows of the files.
+    pub files: Items<Items<Items<Value>>>,
+}

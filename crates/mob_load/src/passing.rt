@@ -1,0 +1,157 @@
+// One check: a literal, a new table, a row of an INSERT, or a file.
+ghost use Rattle.std.specs.Prelude.{◌≡◌, ◌+◌, ◌≤◌, IfErr, IfOk, IfSome, OnOk, map, option_map, slice_get, slice_index, slice_set};
+ghost use Rattle.mob_outside.specs.Told.{KeepsFiles, file_of};
+ghost use Rattle.mob_load.specs.Checks.{check_seen, file, literal, room};
+ghost use Rattle.mob_load.specs.Fronts.{AsksForAll, AsksForSome};
+ghost use Rattle.mob_load.specs.Loads.{Fills, Gives, HasFaultCause, IsFaultAt, Passes, Pours, Reads, columns_or_none, literal_kind, loaded_of, names_of, one_row, with_table};
+ghost use Rattle.mob_load.specs.declared.program.LoadEnd.TheVariants.{NoMemory};
+ghost use Rattle.mob_scalar.specs.declared.fault.ReadText.TheVariants.{NoMemory as OutOfMemory};
+
+use crate::check::Check;
+use crate::file::read_file;
+use crate::loading::Loading;
+use crate::program::LoadEnd;
+use crate::table::{LoadFault, Tables};
+use mob_ast::{Kind, Refusal, SqlType};
+use mob_list::items::Items;
+use mob_list::text::Text;
+use mob_literal::read_value;
+use mob_outside::Files;
+use mob_scalar::{Epoch, ReadText};
+use mob_typing::ConstText;
+use mob_value::Value;
+use std::alloc::Global;
+
+// The most rows that a script puts into one table.
+const GREATEST_ROWS: u32 = 1_000_000;
+
+// Why a literal is refused whose text has this fault.
+fn literal_kind(fault: ReadText) -> Kind
+    ensures { result ≡ literal_kind fault }
+{
+    match fault {
+        ReadText::Limit => Kind::Limit,
+        _ => Kind::BadLiteral,
+    }
+}
+
+// The refusal of a literal whose text has this fault.
+fn refused_literal(constant: &ConstText, fault: ReadText) -> Refusal
+    ensures { result ≡ record { kind = literal_kind fault; statement = constant.now.statement; place = constant.now.place } }
+{
+    Refusal {
+        kind: literal_kind(fault),
+        statement: constant.statement,
+        place: constant.place,
+    }
+}
+
+// Reads a literal.
+fn read_literal(
+    alloc: Global,
+    loading: &mut Loading<'_>,
+    constant: &ConstText,
+    epoch: &Epoch,
+) -> Result<(), LoadEnd>
+    ensures read { Gives result (loaded_of loading.new) (Reads epoch.now constant.now (loaded_of loading.old)) }
+    ensures no_fault { IfErr result (IsFaultAt (literal constant.now)) }
+{
+    match read_value(alloc, constant.ty, constant.text.as_str(), epoch) {
+        Ok(value) => {
+            loading.values.push(value)?;
+            Ok(())
+        }
+        Err(ReadText::NoMemory) => Err(LoadEnd::NoMemory),
+        Err(fault) => Err(LoadEnd::Refused(refused_literal(constant, fault))),
+    }
+}
+
+// Makes a table.
+fn make_table<'a>(loading: &mut Loading<'a>, columns: &'a [(Text, SqlType)]) -> Result<(), LoadEnd>
+    ensures made { OnOk result (loaded_of loading.new ≡ with_table (loaded_of loading.old) columns.now) }
+    ensures memory { IfErr result (λ e. e ≡ NoMemory) }
+{
+    loading.tables.push(columns)?;
+    loading.rows.push(0)?;
+    Ok(())
+}
+
+// How many rows were put into the table of this number.
+fn rows_at(rows: &[u32], table: u32) -> u32
+    ensures { result ≡ slice_index rows.now table }
+{
+    match rows.get(table as usize) {
+        Some(count) => *count,
+        None => 0,
+    }
+}
+
+// Counts rows that were put into the table of this number.
+fn add_rows(rows: &mut Vec<u32>, table: u32, count: usize) -> Result<(), LoadEnd>
+    ensures counted { OnOk result (rows.new.items ≡ slice_set rows.old.items table (slice_index rows.old.items table + count)) }
+    ensures memory { IfErr result (λ e. e ≡ NoMemory) }
+{
+    let Ok(count) = u32::try_from(count) else {
+        return Err(LoadEnd::NoMemory);
+    };
+    let Some(sum) = rows_at(rows, table).checked_add(count) else {
+        return Err(LoadEnd::NoMemory);
+    };
+    if table as usize >= rows.len() {
+        return Ok(());
+    }
+    rows[table as usize] = sum;
+    Ok(())
+}
+
+// Makes room for a row of an INSERT.
+fn take_row(
+    loading: &mut Loading<'_>,
+    table: u32,
+    statement: u32,
+    place: u32,
+) -> Result<(), LoadEnd>
+    ensures row { Gives result (loaded_of loading.new) (λ r. r ≡ one_row table statement place (loaded_of loading.old)) }
+    ensures no_fault { IfErr result (IsFaultAt (room table statement place)) }
+{
+    if rows_at(&loading.rows, table) >= GREATEST_ROWS {
+        return Err(LoadEnd::Refused(Refusal {
+            kind: Kind::Limit,
+            statement,
+            place,
+        }));
+    }
+    add_rows(&mut loading.rows, table, 1)
+}
+
+// The columns of the table of this number.
+fn columns_at<'a>(
+    tables: &[&'a [(Text, SqlType)]],
+    table: u32,
+) -> Option<&'a [(Text, SqlType)]>
+    ensures { option_map (λ c. c.now) result ≡ slice_get (map (λ c. c.now) tables.now) table }
+{
+    match tables.get(table as usize) {
+        Some(columns) => Some(*columns),
+        None => None,
+    }
+}
+
+// The rows of a file. A table that is not there has no columns; no statement names one.
+fn fill<T: Tables>(
+    alloc: Global,
+    bytes: &[u8],
+    columns: Option<&[(Text, SqlType)]>,
+    epoch: &Epoch,
+    room: u32,
+) -> Result<Items<Items<Value>>, LoadFault>
+    ensures filled { Fills (T.fills (columns_or_none (option_map (λ c. c.now) columns)) epoch.now room bytes.now) result }
+{
+    match columns {
+        Some(columns) => T::read(alloc, bytes, columns, epoch, room),
+        None => {
+            let none: Vec<(Text, SqlType)> = Vec::new(alloc);
+            T::read(alloc, bytes, &none, epoch, room)
+        }
+    }
+}
