@@ -1,3 +1,0 @@
-mod WholeScript
-mod OneAnswer
-mod Select
