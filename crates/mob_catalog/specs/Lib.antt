@@ -1,3 +1,4 @@
+pub mod Catalogue
 pub mod Constants
 pub mod Faults
 pub mod Fields

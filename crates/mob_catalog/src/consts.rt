@@ -7,9 +7,9 @@ ghost use Rattle.mob_catalog.specs.Faults.{Refuses};
 ghost use Rattle.mob_catalog.specs.FirstFault.{IsFirstFault};
 
 use crate::fault::refusal_kind;
-use mob_literal::read_value;
 use mob_ast::{Kind, Refusal};
 use mob_list::items::Items;
+use mob_literal::read_value;
 use mob_scalar::{Epoch, ReadText};
 use mob_typing::ConstText;
 use mob_value::Value;
@@ -37,11 +37,7 @@ fn refusal_of(fault: ReadText, text: &ConstText) -> Refusal
 ///
 /// Else the refusal of the first that has no value, with its statement and place: `Limit` where its text passes a limit
 /// (`ReadText::Limit`), and `BadLiteral` where it says no value of its type. Or `NoMemory`.
-pub fn constants(
-    alloc: Global,
-    texts: &[ConstText],
-    epoch: &Epoch,
-) -> Result<Items<Value>, Refusal>
+pub fn constants(alloc: Global, texts: &[ConstText], epoch: &Epoch) -> Result<Items<Value>, Refusal>
     ensures values { IfOk result (AllZip (IsConstant epoch.now) texts.now) }
     ensures first_fault { IfErr result (λ refusal. (refusal ≡ no_memory) ⊎ IsFirstFault (IsConstant epoch.now) (ConstantFails epoch.now) texts.now refusal) }
 {

@@ -1,6 +1,7 @@
-//! Constants of the script and rows of table files, read as values.
+//! The tables of a script as they grow, and the values that its constants and table files say.
 #![tactic(auto)]
 
+mod catalog;
 mod consts;
 mod fault;
 mod header;
@@ -8,6 +9,10 @@ mod records;
 mod row;
 mod table_file;
 
+pub use catalog::Catalog;
 pub use consts::constants;
 pub use fault::LoadFault;
 pub use table_file::read_table;
+
+#[cfg(test)]
+mod tests;

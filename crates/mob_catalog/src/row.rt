@@ -8,18 +8,21 @@ ghost use Rattle.mob_catalog.specs.FirstFault.{IsFirstFault};
 ghost use Rattle.mob_catalog.specs.TableFile.{FieldFails, IsRow, IsValue, RowFails};
 
 use crate::fault::{LoadFault, field_fault, record_fault};
-use mob_literal::read_field;
 use csv::ByteRecord;
 use mob_ast::{Kind, SqlType};
 use mob_list::items::Items;
 use mob_list::text::Text;
+use mob_literal::read_field;
 use mob_scalar::{Epoch, ReadText};
 use mob_value::Value;
 use std::alloc::{AllocError, Global};
 use std::str;
 
 // The fields of a record as texts, or None where one of them is not UTF-8.
-fn texts_of<'a>(alloc: Global, csv_record: &'a ByteRecord) -> Result<Option<Vec<&'a str>>, AllocError>
+fn texts_of<'a>(
+    alloc: Global,
+    csv_record: &'a ByteRecord,
+) -> Result<Option<Vec<&'a str>>, AllocError>
     ensures some { IfOk result (λ o. IfSome o (λ texts. map (λ text. text.now) texts.items ≡ fields_of csv_record.now)) }
     ensures utf8 { IfOk result (λ o. IfSome o (λ texts. AllText (fields_of csv_record.now))) }
     ensures none { IfOk result (λ o. IsNone o → AllText (fields_of csv_record.now) → ⊥) }

@@ -1,2 +1,6 @@
+pub mod Asked
+pub mod Examples
 pub mod Fronts
+pub mod Narrow
 pub mod Steps
+pub mod Values

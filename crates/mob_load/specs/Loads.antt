@@ -1,6 +1,6 @@
 -- What a script reads before it runs, in written order; the first check that fails decides.
-use Rattle.std.specs.Prelude.{◌≡◌, ◌≢◌, ◌⊎◌, ◌+◌, ◌-◌, ℤ, ℕ, List, [], ◌∷◌, ◌++◌, length, map, nat_lt, slice_get, slice_index, slice_set, Option, Some, None, Result, Ok, Err, if◌then◌else◌}
-use Rattle.std.specs.List.{flat_map}
+use Rattle.std.specs.Prelude.{◌≡◌, ◌≢◌, ◌≤◌, ◌⊎◌, ◌+◌, ◌-◌, ℤ, ℕ, List, [], ◌∷◌, ◌++◌, length, map, nat_lt, slice_get, slice_index, slice_set, Option, Some, None, Result, Ok, Err, if◌then◌else◌}
+use Rattle.std.specs.List.{flat_map, AllZip}
 use Rattle.mob_ast.specs.declared.refusal.Kind.{Kind}
 use Rattle.mob_ast.specs.declared.refusal.Kind.TheVariants as kind
 use Rattle.mob_ast.specs.declared.refusal.Refusal.{Refusal}
@@ -10,16 +10,17 @@ use Rattle.mob_scalar.specs.declared.fault.ReadText.TheVariants.{NotText, Limit,
 use Rattle.mob_literal.specs.SqlText.{SaysAs}
 use Rattle.mob_outside.specs.Faults.{Rose}
 use Rattle.mob_outside.specs.Told.{Contents, file_of}
+use Rattle.mob_catalog.specs.Faults.{Wrong}
+use Rattle.mob_catalog.specs.TableFile.{IsTable, FileFails}
 use Rattle.mob_typing.specs.declared.typed.ConstText.{ConstText}
 use Rattle.mob_typing.specs.Names.{ColumnList}
-use Rattle.mob_typing.specs.Statements.{ScriptOut}
+use Rattle.mob_typing.specs.Statements.{ScriptOut, StatementOut, rows_from, typed_script}
+use Rattle.mob_ast.specs.Trees.{StatementParts}
 use Rattle.mob_load.specs.Checks.{CheckParts, literal, table, room, file, checks_of}
 use Rattle.mob_load.specs.declared.loading.Loading.{Loading}
 use Rattle.mob_load.specs.declared.program.Program.{Program}
 use Rattle.mob_load.specs.declared.program.LoadEnd.{LoadEnd}
 use Rattle.mob_load.specs.declared.program.LoadEnd.TheVariants.{Refused, TableRefused, ReadFault, NoMemory as OutOfMemory}
-use Rattle.mob_load.specs.declared.table.LoadFault.{LoadFault}
-use Rattle.mob_load.specs.declared.table.LoadFault.TheVariants.{Refused as FileRefused, NoMemory as FileOutOfMemory}
 
 -- what was read so far: the values of the literals, the columns of the tables and how many rows were put into each, and the
 -- rows of the files
@@ -31,12 +32,6 @@ pub record Loaded : Type 0 where
 
 abbrev pub nothing_loaded : Loaded
 nothing_loaded = record { values = []; tables = []; rows = []; files = [] }
-
--- what is wrong with a file: why, and the numbers of the record and the field, 0 for the whole
-pub record Wrong : Type 0 where
-  pub kind : Kind
-  pub rec : ℕ
-  pub field : ℕ
 
 -- why loading stops: a refusal in the script; one in a file of this name, with its record and its field; a file that is not there
 pub data Halt : Type 0 where
@@ -90,29 +85,31 @@ Reads day c l (Err h) = (f : ReadText) × (f ≢ NoMemory) × SaysAs c.ty day c.
 abbrev pub one_row : ℕ → ℕ → ℕ → Loaded → Result Loaded Halt
 one_row t n p l = if nat_lt (rows_at l t) greatest_rows then Ok (with_rows l t 1) else Err (refused (record { kind = kind.Limit; statement = n; place = p }))
 
--- what a text of a table file is: for these columns, with instants from this day, and at most so many rows, the rows or the
--- first refusal, with its record and its field
-abbrev pub Filling : Type 1
-Filling = ColumnList → ℤ → ℕ → List ℕ → Result (List (List Value)) Wrong → Type 0
-
--- the answer of a reader of table files; want of memory is free
-abbrev pub Fills : (Result (List (List Value)) Wrong → Type 0) → Result (List (List Value)) LoadFault → Type 0
-Fills says (Ok rows) = says (Ok rows)
-Fills says (Err (FileRefused k rec field)) = says (Err (record { kind = k; rec = rec; field = field }))
-Fills says (Err FileOutOfMemory) = Unit {0}
-
 -- a file has the rows of its bytes or their first refusal; a file that is not there has none
-abbrev pub Pours : Filling → ℤ → ℕ → List ℕ → Loaded → Option (List ℕ) → Result Loaded Halt → Type 0
-Pours fills day t name l None r = r ≡ Err (missing name)
-Pours fills day t name l (Some bytes) (Ok m) = (rows : List (List Value)) × fills (columns_at l t) day (greatest_rows - rows_at l t) bytes (Ok rows) × (m ≡ with_file l t rows)
-Pours fills day t name l (Some bytes) (Err h) = (w : Wrong) × fills (columns_at l t) day (greatest_rows - rows_at l t) bytes (Err w) × (h ≡ table_refused name w.kind w.rec w.field)
+abbrev pub Pours : ℤ → ℕ → List ℕ → Loaded → Option (List ℕ) → Result Loaded Halt → Type 0
+Pours day t name l None r = r ≡ Err (missing name)
+Pours day t name l (Some bytes) (Ok m) = (rows : List (List Value)) × IsTable (columns_at l t) day (greatest_rows - rows_at l t) bytes rows × (m ≡ with_file l t rows)
+Pours day t name l (Some bytes) (Err h) = (w : Wrong) × FileFails (columns_at l t) day (greatest_rows - rows_at l t) bytes w × (h ≡ table_refused name w.kind w.rec w.field)
+
+-- a table has at most 64 columns
+abbrev pub IsNarrow : CheckParts → Type 0
+IsNarrow (table columns) = length columns ≤ 64
+IsNarrow _ = Unit {0}
+
+abbrev pub AreNarrow : List CheckParts → Type 0
+AreNarrow [] = Unit {0}
+AreNarrow (c ∷ cs) = IsNarrow c × AreNarrow cs
+
+abbrev pub HasNarrow : List ColumnList → Type 0
+HasNarrow [] = Unit {0}
+HasNarrow (columns ∷ others) = (length columns ≤ 64) × HasNarrow others
 
 -- one check, and what was read before and after it
-abbrev pub Passes : Filling → ℤ → Contents → CheckParts → Loaded → Result Loaded Halt → Type 0
-Passes fills day files (literal c) l r = Reads day c l r
-Passes fills day files (table columns) l r = r ≡ Ok (with_table l columns)
-Passes fills day files (room t n p) l r = r ≡ one_row t n p l
-Passes fills day files (file t name) l r = Pours fills day t name l (file_of name files) r
+abbrev pub Passes : ℤ → Contents → CheckParts → Loaded → Result Loaded Halt → Type 0
+Passes day files (literal c) l r = Reads day c l r
+Passes day files (table columns) l r = r ≡ Ok (with_table l columns)
+Passes day files (room t n p) l r = r ≡ one_row t n p l
+Passes day files (file t name) l r = Pours day t name l (file_of name files) r
 
 -- what comes after a check: the others, or nothing
 abbrev pub Goes : (Loaded → Result Loaded Halt → Type 0) → Result Loaded Halt → Result Loaded Halt → Type 0
@@ -120,18 +117,18 @@ Goes others (Ok m) r = others m r
 Goes others (Err h) r = r ≡ Err h
 
 -- the checks one after the other; the first that fails decides
-abbrev pub Loads : Filling → ℤ → Contents → List CheckParts → Loaded → Result Loaded Halt → Type 0
-Loads fills day files [] l r = r ≡ Ok l
-Loads fills day files (c ∷ cs) l r = (s : Result Loaded Halt) × Passes fills day files c l s × Goes (Loads fills day files cs) s r
+abbrev pub Loads : ℤ → Contents → List CheckParts → Loaded → Result Loaded Halt → Type 0
+Loads day files [] l r = r ≡ Ok l
+Loads day files (c ∷ cs) l r = (s : Result Loaded Halt) × Passes day files c l s × Goes (Loads day files cs) s r
 
 -- the file of this name is next, behind checks that all pass
 abbrev pub IsFile : CheckParts → List ℕ → Type 0
 IsFile (file t name) asked = name ≡ asked
 IsFile _ asked = ⊥
 
-abbrev pub Reaches : Filling → ℤ → Contents → List CheckParts → Loaded → List ℕ → Type 0
-Reaches fills day files [] l name = ⊥
-Reaches fills day files (c ∷ cs) l name = IsFile c name ⊎ ((m : Loaded) × Passes fills day files c l (Ok m) × Reaches fills day files cs m name)
+abbrev pub Reaches : ℤ → Contents → List CheckParts → Loaded → List ℕ → Type 0
+Reaches day files [] l name = ⊥
+Reaches day files (c ∷ cs) l name = IsFile c name ⊎ ((m : Loaded) × Passes day files c l (Ok m) × Reaches day files cs m name)
 
 -- the program's state of loading as such a value
 abbrev pub loaded_of : Loading → Loaded
@@ -144,6 +141,11 @@ Gives (Err (Refused e)) after says = says (Err (refused e))
 Gives (Err (TableRefused name k rec field)) after says = says (Err (table_refused name k rec field))
 Gives (Err (ReadFault name)) after says = Unit {0}
 Gives (Err OutOfMemory) after says = Unit {0}
+
+-- no file could not be read
+abbrev pub IsNoFault : LoadEnd → Type 0
+IsNoFault (ReadFault name) = ⊥
+IsNoFault _ = Unit {0}
 
 -- the file that could not be read is that of this check
 abbrev pub IsFaultAt : CheckParts → LoadEnd → Type 0
@@ -163,8 +165,55 @@ names_of _ = []
 abbrev pub names_in : List CheckParts → List (List ℕ)
 names_in cs = flat_map names_of cs
 
+-- why the checks ended: at the first that fails; or by a fault at a file, before which all pass; want of memory is free
+abbrev pub StopsAt : ℤ → Contents → List CheckParts → LoadEnd → Type 0
+StopsAt day files cs (Refused e) = Loads day files cs nothing_loaded (Err (refused e))
+StopsAt day files cs (TableRefused name k rec field) = Loads day files cs nothing_loaded (Err (table_refused name k rec field))
+StopsAt day files cs (ReadFault name) = Reaches day files cs nothing_loaded name
+StopsAt day files cs OutOfMemory = Unit {0}
+
 -- What a script reads before it runs: the values of its literals and the rows of its files, each in written order; or why it
 -- is refused first, in the script or in a file, or the first file that is not there.
-abbrev pub LoadsScript : Filling → ℤ → Contents → ScriptOut → Result Program Halt → Type 0
-LoadsScript fills day files out (Ok p) = (l : Loaded) × Loads fills day files (checks_of out) nothing_loaded (Ok l) × (p ≡ record { values = l.values; files = l.files })
-LoadsScript fills day files out (Err h) = Loads fills day files (checks_of out) nothing_loaded (Err h)
+abbrev pub LoadsScript : ℤ → Contents → ScriptOut → Result Program Halt → Type 0
+LoadsScript day files out (Ok p) = (l : Loaded) × Loads day files (checks_of out) nothing_loaded (Ok l) × (p ≡ record { values = l.values; files = l.files })
+LoadsScript day files out (Err h) = Loads day files (checks_of out) nothing_loaded (Err h)
+
+-- the program's answer is what a script reads or its first refusal, or memory was wanted
+abbrev pub IsOutcome : ℤ → Contents → ScriptOut → Result Program LoadEnd → Type 0
+IsOutcome day files out (Ok p) = LoadsScript day files out (Ok p)
+IsOutcome day files out (Err (Refused e)) = LoadsScript day files out (Err (refused e))
+IsOutcome day files out (Err (TableRefused name k rec field)) = LoadsScript day files out (Err (table_refused name k rec field))
+IsOutcome day files out (Err (ReadFault name)) = ⊥
+IsOutcome day files out (Err OutOfMemory) = Unit {0}
+
+-- a script that is typed
+abbrev pub IsTyped : ScriptOut → Type 0
+IsTyped out = (ss : List StatementParts) × (typed_script ss ≡ Ok out)
+
+-- the names of the files of the COPY statements, in order
+abbrev pub copied_file : StatementOut → List (List ℕ)
+copied_file (rows_from t name) = name ∷ []
+copied_file _ = []
+
+abbrev pub copied_files : List StatementOut → List (List ℕ)
+copied_files ss = flat_map copied_file ss
+
+-- the value of a literal is what its text says as one of its type
+abbrev pub HasValue : ℤ → ConstText → Value → Type 0
+HasValue day c v = SaysAs c.ty day c.text (Ok v)
+
+-- the literals among checks
+abbrev pub literal_of : CheckParts → List ConstText
+literal_of (literal c) = c ∷ []
+literal_of _ = []
+
+abbrev pub literals_in : List CheckParts → List ConstText
+literals_in cs = flat_map literal_of cs
+
+-- each literal of a script is looked at once, in written order
+abbrev pub LooksAtLiterals : Type 0
+LooksAtLiterals = (out : ScriptOut) → literals_in (checks_of out) ≡ out.consts
+
+-- the values of a program are those of the script's literals, one by one
+abbrev pub ProgramHasValues : Type 0
+ProgramHasValues = (day : ℤ) (files : Contents) (out : ScriptOut) (p : Program) → LoadsScript day files out (Ok p) → AllZip (HasValue day) out.consts p.values

@@ -2,7 +2,8 @@
 ghost use Rattle.std.specs.Prelude.{◌≡◌, ◌+◌, ◌≤◌, IfOk, IfSome, OnOk, OnErr, IsTrue, true, take};
 ghost use Rattle.mob_outside.specs.Faults.{Rose};
 ghost use Rattle.mob_outside.specs.Told.{AsksFor, KeepsFiles, KeepsNames, MayAskFor};
-ghost use Rattle.mob_load.specs.Fronts.{IsFront, greatest_file};
+ghost use Rattle.mob_load.specs.Fronts.{IsFront};
+ghost use Rattle.mob_catalog.specs.TableFile.{file_limit};
 
 use mob_outside::Files;
 use std::alloc::{AllocError, Global};
@@ -16,7 +17,7 @@ const CHUNK: usize = 4096;
 // Reads on in the open file, to its end or to one byte past the limit. None where a call failed.
 fn read_opened<F: Files>(alloc: Global, files: &mut F) -> Result<Option<Vec<u8>>, AllocError>
     requires ready { F.is_ready files.old ≡ true }
-    ensures bytes { IfOk result (λ o. IfSome o (λ v. IfSome (F.left files.old) (λ whole. v.items ≡ take (greatest_file + 1) whole))) }
+    ensures bytes { IfOk result (λ o. IfSome o (λ v. IfSome (F.left files.old) (λ whole. v.items ≡ take (file_limit + 1) whole))) }
     ensures fault { IfOk result (λ o. o ≡ None → Rose (F.faults files.old) (F.faults files.new)) }
     ensures files { KeepsFiles (F.files files.old) (F.files files.new) }
     ensures asked { KeepsNames (F.asked files.old) (F.asked files.new) }

@@ -3,11 +3,12 @@
 
 mod check;
 mod file;
+pub mod laws;
 mod loading;
 mod order;
 mod passing;
 mod program;
-mod table;
+mod script;
 
+pub use script::load;
 pub use program::{LoadEnd, Program};
-pub use table::{LoadFault, Tables};

@@ -6,6 +6,7 @@ use mob_list::text::Text;
 use mob_value::Value;
 
 /// What was read so far.
+#[derive(Drop)]
 pub struct Loading<'a> {
     /// The values of the literals.
     pub values: Items<Value>,

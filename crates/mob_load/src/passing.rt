@@ -1,9 +1,11 @@
 // One check: a literal, a new table, a row of an INSERT, or a file.
-ghost use Rattle.std.specs.Prelude.{◌≡◌, ◌+◌, ◌≤◌, IfErr, IfOk, IfSome, OnOk, map, option_map, slice_get, slice_index, slice_set};
-ghost use Rattle.mob_outside.specs.Told.{KeepsFiles, file_of};
-ghost use Rattle.mob_load.specs.Checks.{check_seen, file, literal, room};
+ghost use Rattle.std.specs.Prelude.{◌≡◌, ◌+◌, ◌≤◌, IfErr, IfOk, IfSome, OnOk, length, map, option_map, slice_get, slice_index, slice_set, Some};
+ghost use Rattle.mob_outside.specs.Told.{AsksFor, KeepsFiles, MayAskFor, file_of};
+ghost use Rattle.mob_catalog.specs.Faults.{OnRefused};
+ghost use Rattle.mob_catalog.specs.TableFile.{FileFails, IsTable};
+ghost use Rattle.mob_load.specs.Checks.{check_seen, file};
 ghost use Rattle.mob_load.specs.Fronts.{AsksForAll, AsksForSome};
-ghost use Rattle.mob_load.specs.Loads.{Fills, Gives, HasFaultCause, IsFaultAt, Passes, Pours, Reads, columns_or_none, literal_kind, loaded_of, names_of, one_row, with_table};
+ghost use Rattle.mob_load.specs.Loads.{Gives, HasFaultCause, HasNarrow, IsFaultAt, IsNarrow, IsNoFault, Passes, Pours, Reads, columns_or_none, literal_kind, loaded_of, names_of, one_row, with_file, with_table};
 ghost use Rattle.mob_load.specs.declared.program.LoadEnd.TheVariants.{NoMemory};
 ghost use Rattle.mob_scalar.specs.declared.fault.ReadText.TheVariants.{NoMemory as OutOfMemory};
 
@@ -11,7 +13,7 @@ use crate::check::Check;
 use crate::file::read_file;
 use crate::loading::Loading;
 use crate::program::LoadEnd;
-use crate::table::{LoadFault, Tables};
+use mob_catalog::{LoadFault, read_table};
 use mob_ast::{Kind, Refusal, SqlType};
 use mob_list::items::Items;
 use mob_list::text::Text;
@@ -54,7 +56,8 @@ fn read_literal(
     epoch: &Epoch,
 ) -> Result<(), LoadEnd>
     ensures read { Gives result (loaded_of loading.new) (Reads epoch.now constant.now (loaded_of loading.old)) }
-    ensures no_fault { IfErr result (IsFaultAt (literal constant.now)) }
+    ensures no_fault { IfErr result IsNoFault }
+    ensures tables { OnOk result ((loaded_of loading.new).tables ≡ (loaded_of loading.old).tables) }
 {
     match read_value(alloc, constant.ty, constant.text.as_str(), epoch) {
         Ok(value) => {
@@ -112,7 +115,8 @@ fn take_row(
     place: u32,
 ) -> Result<(), LoadEnd>
     ensures row { Gives result (loaded_of loading.new) (λ r. r ≡ one_row table statement place (loaded_of loading.old)) }
-    ensures no_fault { IfErr result (IsFaultAt (room table statement place)) }
+    ensures no_fault { IfErr result IsNoFault }
+    ensures tables { OnOk result ((loaded_of loading.new).tables ≡ (loaded_of loading.old).tables) }
 {
     if rows_at(&loading.rows, table) >= GREATEST_ROWS {
         return Err(LoadEnd::Refused(Refusal {
@@ -138,20 +142,124 @@ fn columns_at<'a>(
 }
 
 // The rows of a file. A table that is not there has no columns; no statement names one.
-fn fill<T: Tables>(
+fn fill(
     alloc: Global,
     bytes: &[u8],
     columns: Option<&[(Text, SqlType)]>,
     epoch: &Epoch,
     room: u32,
 ) -> Result<Items<Items<Value>>, LoadFault>
-    ensures filled { Fills (T.fills (columns_or_none (option_map (λ c. c.now) columns)) epoch.now room bytes.now) result }
+    requires narrow { length (columns_or_none (option_map (λ c. c.now) columns)) ≤ 64 }
+    ensures table { IfOk result (IsTable (columns_or_none (option_map (λ c. c.now) columns.entry)) epoch.now room bytes.now) }
+    ensures first_fault { IfErr result (OnRefused (FileFails (columns_or_none (option_map (λ c. c.now) columns.entry)) epoch.now room bytes.now)) }
 {
     match columns {
-        Some(columns) => T::read(alloc, bytes, columns, epoch, room),
+        Some(columns) => read_table(alloc, bytes, columns, epoch, room),
         None => {
             let none: Vec<(Text, SqlType)> = Vec::new(alloc);
-            T::read(alloc, bytes, &none, epoch, room)
+            read_table(alloc, bytes, &none, epoch, room)
+        }
+    }
+}
+
+// Puts the rows of a file into the table of this number.
+fn put_rows(
+    loading: &mut Loading<'_>,
+    table: u32,
+    rows: Items<Items<Value>>,
+) -> Result<(), LoadEnd>
+    ensures put { OnOk result (loaded_of loading.new ≡ with_file (loaded_of loading.old) table rows) }
+    ensures memory { IfErr result (λ e. e ≡ NoMemory) }
+{
+    add_rows(&mut loading.rows, table, rows.len())?;
+    loading.files.push(rows)?;
+    Ok(())
+}
+
+// Makes rows of the bytes of a file.
+fn pour(
+    alloc: Global,
+    loading: &mut Loading<'_>,
+    table: u32,
+    name: &Text,
+    bytes: &[u8],
+    epoch: &Epoch,
+) -> Result<(), LoadEnd>
+    requires narrow { HasNarrow (loaded_of loading.old).tables }
+    ensures poured { Gives result (loaded_of loading.new) (Pours epoch.now table name.now (loaded_of loading.old) (Some bytes.now)) }
+    ensures no_fault { IfErr result IsNoFault }
+    ensures tables { OnOk result ((loaded_of loading.new).tables ≡ (loaded_of loading.old).tables) }
+{
+    let room = GREATEST_ROWS.saturating_sub(rows_at(&loading.rows, table));
+    let columns = columns_at(&loading.tables, table);
+    match fill(alloc, bytes, columns, epoch, room) {
+        Ok(rows) => put_rows(loading, table, rows),
+        Err(LoadFault::Refused { kind, rec, field }) => Err(LoadEnd::TableRefused {
+            file: name.copy(alloc)?,
+            kind,
+            rec,
+            field,
+        }),
+        Err(LoadFault::NoMemory) => Err(LoadEnd::NoMemory),
+    }
+}
+
+// Loads a file.
+fn load_file<F: Files>(
+    alloc: Global,
+    loading: &mut Loading<'_>,
+    files: &mut F,
+    table: u32,
+    name: &Text,
+    epoch: &Epoch,
+) -> Result<(), LoadEnd>
+    requires narrow { HasNarrow (loaded_of loading.old).tables }
+    ensures poured { IfSome (F.files files.old) (λ m. Gives result (loaded_of loading.new) (Pours epoch.now table name.now (loaded_of loading.old) (file_of name.now m))) }
+    ensures fault { IfErr result (IsFaultAt (file table name.now)) }
+    ensures tables { OnOk result ((loaded_of loading.new).tables ≡ (loaded_of loading.old).tables) }
+    ensures cause { IfErr result (HasFaultCause (F.faults files.old) (F.faults files.new)) }
+    ensures files { KeepsFiles (F.files files.old) (F.files files.new) }
+    ensures asked { OnOk result (AsksFor name.now (F.asked files.old) (F.asked files.new)) }
+    ensures may_ask { MayAskFor name.now (F.asked files.old) (F.asked files.new) }
+    ensures later { F.faults files.old ≤ F.faults files.new }
+{
+    let Some(bytes) = read_file(alloc, files, name.as_str())? else {
+        return Err(LoadEnd::ReadFault {
+            file: name.copy(alloc)?,
+        });
+    };
+    pour(alloc, loading, table, name, &bytes, epoch)
+}
+
+/// One check, and what was read so far. A script is refused at the first check that fails.
+pub fn pass<'a, F: Files>(
+    alloc: Global,
+    check: Check<'a>,
+    loading: &mut Loading<'a>,
+    files: &mut F,
+    epoch: &Epoch,
+) -> Result<(), LoadEnd>
+    requires narrow { IsNarrow (check_seen check) }
+    requires tables { HasNarrow (loaded_of loading.old).tables }
+    ensures passed { IfSome (F.files files.old) (λ m. Gives result (loaded_of loading.new) (Passes epoch.now m (check_seen check.entry) (loaded_of loading.old))) }
+    ensures fault { IfErr result (IsFaultAt (check_seen check.entry)) }
+    ensures narrow { OnOk result (HasNarrow (loaded_of loading.new).tables) }
+    ensures cause { IfErr result (HasFaultCause (F.faults files.old) (F.faults files.new)) }
+    ensures files { KeepsFiles (F.files files.old) (F.files files.new) }
+    ensures asked { OnOk result (AsksForAll (names_of (check_seen check.entry)) (F.asked files.old) (F.asked files.new)) }
+    ensures some { AsksForSome (names_of (check_seen check.entry)) (F.asked files.old) (F.asked files.new) }
+    ensures later { F.faults files.old ≤ F.faults files.new }
+{
+    match check {
+        Check::Literal(literal) => read_literal(alloc, loading, literal, epoch),
+        Check::Table(columns) => make_table(loading, columns),
+        Check::Room {
+            table,
+            statement,
+            place,
+        } => take_row(loading, table, statement, place),
+        Check::File { table, name } => {
+            load_file(alloc, loading, files, table, name, epoch)
         }
     }
 }

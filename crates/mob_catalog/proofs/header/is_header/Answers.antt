@@ -15,7 +15,7 @@ returns-then-not-eq_ignore_ascii_case c =
       test = (
         λ t. absurd (false≢true t),
         λ header. c.if-not-eq_ignore_ascii_case.ensures.test.1 (same_at in_lower_case (λ (column : Column). in_lower_case column.0) fields c.args.columns.now c.loop-i.i c.in-Some.field.now c.index-columns-i.result
-          (field-below fields c.loop-i.i c.in-Some.field.now here) c.loop-i-test.true (field-read fields c.loop-i.i c.in-Some.field.now here) c.index-columns-i.is header ∙ ap in_lower_case (sym name)),
+            (field-below fields c.loop-i.i c.in-Some.field.now here) c.loop-i-test.true (field-read fields c.loop-i.i c.in-Some.field.now here) c.index-columns-i.is header ∙ ap in_lower_case (sym name)),
       );
     }
 

@@ -26,8 +26,8 @@ loop-field-preserved c =
     record {
       row = ap (λ (r : Bor Row). r.now) step.0 ∙ inv.row;
       texts = ap (map (λ (t : Bor (List ℕ)). t.now)) items ∙ map-append (λ (t : Bor (List ℕ)). t.now) c.loop-field.texts.items (c.in-Ok.text ∷ [])
-      ∙ ap (λ (l : List (List ℕ)). l ++ c.in-Ok.text.now ∷ []) inv.texts ∙ ap (λ (z : List ℕ). take at fields ++ z ∷ []) text.0
-      ∙ sym (fields_more fields at c.in-Some.field.now here) ∙ ap (λ n. take n fields) (sym step.2);
+          ∙ ap (λ (l : List (List ℕ)). l ++ c.in-Ok.text.now ∷ []) inv.texts ∙ ap (λ (z : List ℕ). take at fields ++ z ∷ []) text.0
+          ∙ sym (fields_more fields at c.in-Some.field.now here) ∙ ap (λ n. take n fields) (sym step.2);
       utf8 = rw step.2 (text-step fields at (field-below fields at c.in-Some.field.now here) inv.utf8 (subst IsUtf8 (sym (field-get fields at c.in-Some.field.now here)) text.1));
     }
 

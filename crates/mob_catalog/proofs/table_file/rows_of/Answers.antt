@@ -15,7 +15,7 @@ returns-then-i-room-clause-first_fault c =
     let size = length-map c.args.records.now fields_of in
     on_refused (λ (w : Wrong). w ≡ wrong Limit (c.loop-i.i + 2) 0) (IsFirstFault (IsRow c.args.columns.now c.args.epoch.now) (RecordFails c.args.columns.now c.args.epoch.now c.args.room) (map fields_of c.args.records.now))
     (λ w p. fails_here (IsRow c.args.columns.now c.args.epoch.now) (RecordFails c.args.columns.now c.args.epoch.now c.args.room) (map fields_of c.args.records.now) c.loop-i.rows c.loop-i.i _ w
-      (omega arith) (mapped_at fields_of c.args.records.now c.loop-i.i c.index-records-i.result c.index-records-i.is) c.loop-i.invariant.read (inl (c.if-i-room.true, p)))
+    (omega arith) (mapped_at fields_of c.args.records.now c.loop-i.i c.index-records-i.result c.index-records-i.is) c.loop-i.invariant.read (inl (c.if-i-room.true, p)))
     c.record_fault.result c.record_fault.ensures.refused
 
 pub returns-in_err-row_of-clause-first_fault : goal.returns-in_err-row_of-clause-first_fault
@@ -25,10 +25,10 @@ returns-in_err-row_of-clause-first_fault c =
     let within = c.loop-i.invariant.within in
     let room : c.loop-i.i < c.args.room = omega (arith, c.if-i-room.false) in
     rw (p.1, p.2) (on_refused (RowFails c.args.columns.now c.args.epoch.now (c.loop-i.i + 2) (fields_of c.index-records-i.result))
-      (IsFirstFault (IsRow c.args.columns.now c.args.epoch.now) (RecordFails c.args.columns.now c.args.epoch.now c.args.room) (map fields_of c.args.records.now))
-      (λ w q. fails_here (IsRow c.args.columns.now c.args.epoch.now) (RecordFails c.args.columns.now c.args.epoch.now c.args.room) (map fields_of c.args.records.now) c.loop-i.rows c.loop-i.i _ w
-        (omega arith) (mapped_at fields_of c.args.records.now c.loop-i.i c.index-records-i.result c.index-records-i.is) c.loop-i.invariant.read (inr (room, q)))
-      c.in_err-row_of.field-0.0 c.in_err-row_of.ensures.first_fault)
+    (IsFirstFault (IsRow c.args.columns.now c.args.epoch.now) (RecordFails c.args.columns.now c.args.epoch.now c.args.room) (map fields_of c.args.records.now))
+    (λ w q. fails_here (IsRow c.args.columns.now c.args.epoch.now) (RecordFails c.args.columns.now c.args.epoch.now c.args.room) (map fields_of c.args.records.now) c.loop-i.rows c.loop-i.i _ w
+    (omega arith) (mapped_at fields_of c.args.records.now c.loop-i.i c.index-records-i.result c.index-records-i.is) c.loop-i.invariant.read (inr (room, q)))
+    c.in_err-row_of.field-0.0 c.in_err-row_of.ensures.first_fault)
 
 pub loop-i-preserved : goal.loop-i-preserved
 loop-i-preserved c =
@@ -37,5 +37,5 @@ loop-i-preserved c =
     record {
       within = omega (arith, c.if-i-room.false);
       read = rw c.in_ok-push.ensures.pushed (one_more (IsRow c.args.columns.now c.args.epoch.now) (map fields_of c.args.records.now) c.loop-i.rows c.loop-i.i _ c.in_ok-row_of.field-0
-        (omega arith) (mapped_at fields_of c.args.records.now c.loop-i.i c.index-records-i.result c.index-records-i.is) c.loop-i.invariant.read c.in_ok-row_of.ensures.row);
+          (omega arith) (mapped_at fields_of c.args.records.now c.loop-i.i c.index-records-i.result c.index-records-i.is) c.loop-i.invariant.read c.in_ok-row_of.ensures.row);
     }

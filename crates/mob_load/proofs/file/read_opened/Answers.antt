@@ -1,13 +1,13 @@
 use Rattle.std.proofs.Common.{rules, arith, ◌+◌}
-use Rattle.mob_load.specs.Fronts.{greatest_file}
+use Rattle.mob_catalog.specs.TableFile.{file_limit}
 use Rattle.mob_load.proofs.Fronts.{read_full, read_whole}
 use Rattle.mob_load.proofs.file.read_opened.Goals as goal
 
 pub returns-then-count-eq0-clause-bytes : goal.returns-then-count-eq0-clause-bytes
 returns-then-count-eq0-clause-bytes g c =
-    read_whole (greatest_file + 1) (g.F.Files.left c.args.files.now) (g.F.Files.left c.loop-chunk.files) (g.F.Files.left c.take.new.self) c.loop-chunk.bytes.items _ c.in-Ok.count
+    read_whole (file_limit + 1) (g.F.Files.left c.args.files.now) (g.F.Files.left c.loop-chunk.files) (g.F.Files.left c.take.new.self) c.loop-chunk.bytes.items _ c.in-Ok.count
     c.loop-chunk.invariant.taken c.in-Ok.ensures.bytes.0 (search rules) c.if-count-eq0.true c.loop-chunk.invariant.bound
 
 pub returns-clause-bytes : goal.returns-clause-bytes
 returns-clause-bytes g c =
-    read_full (greatest_file + 1) (g.F.Files.left c.args.files.now) (g.F.Files.left c.loop-chunk.files) c.loop-chunk.bytes.items c.loop-chunk.invariant.taken (search rules)
+    read_full (file_limit + 1) (g.F.Files.left c.args.files.now) (g.F.Files.left c.loop-chunk.files) c.loop-chunk.bytes.items c.loop-chunk.invariant.taken (search rules)

@@ -1,0 +1,203 @@
+-- The tables of a typed script have at most 64 columns.
+use Rattle.std.proofs.Common.{◌≡◌, ◌∙◌, refl, sym, ap, subst, arith, Bool, true, false, ℕ, zero, suc, ◌+◌, ◌≤◌, ◌<◌, List, [], ◌∷◌, ◌++◌, length, length-append, map, get_or, Option, Some, None, Result, Ok, Err}
+use Rattle.std.specs.Prelude.{OnOk, nat_le, slice_get}
+use Rattle.std.proofs.lemmas.Bool.{leb-false}
+use Rattle.mob_ast.specs.declared.types.Word.{Word}
+use Rattle.mob_ast.specs.declared.types.TypeWord.{TypeWord}
+use Rattle.mob_ast.specs.declared.refusal.Kind.{Kind}
+use Rattle.mob_ast.specs.declared.refusal.Kind.TheVariants as kind
+use Rattle.mob_ast.specs.declared.refusal.Refusal.{Refusal}
+use Rattle.mob_ast.specs.Trees.{StatementParts, SelectParts, RowParts, empty, create_table, create_index, insert, copy, select, explain}
+use Rattle.mob_typing.specs.declared.typed.ConstText.{ConstText}
+use Rattle.mob_typing.specs.Answers.{Wrong, refuse, ◌>>=◌, unless, found}
+use Rattle.mob_typing.specs.Names.{ColumnList, NameLists, table_of, has_entry, has_name, column_of}
+use Rattle.mob_typing.specs.Words.{type_named}
+use Rattle.mob_typing.specs.Selects.{TypedSelectParts, typed_select}
+use Rattle.mob_typing.specs.Statements.{ScriptOut, StatementOut, nothing, new_table, new_index, new_rows, rows_from, query, plan_of, Made, with_column, with_columns, with_table, with_index, made_table, made_index, typed_rows, inserted, good_delimiter, copied, keeping, asked, in_statement, or_refused, typed_statement, typed_from, typed_script, no_names}
+use Rattle.mob_load.specs.Checks.{CheckParts, check_seen, literal, Mark, mark, bracket, marks_of, marks_from, stands_before, up_to, in_order, checks_of}
+use Rattle.mob_load.specs.declared.check.Check.{Check}
+use Rattle.mob_load.specs.Loads.{Loaded, nothing_loaded, with_table as add_table, IsNarrow, AreNarrow, HasNarrow, columns_or_none}
+
+-- what holds of each value that an answer can be
+on_bind : {A B : Type 0} (P : B → Type 0) (a : Result A Wrong) (f : A → Result B Wrong) → ((x : A) → a ≡ Ok x → (y : B) → f x ≡ Ok y → P y) → (y : B) → (a >>= f) ≡ Ok y → P y
+on_bind P (Ok x) f each y is = each x refl y is
+on_bind P (Err w) f each y is = cc
+
+abbrev good : {B : Type 0} (E : Type 0) → B → Result B E
+good E x = Ok x
+
+on_value : {B : Type 0} (E : Type 0) (P : B → Type 0) (x y : B) → good E x ≡ good E y → P x → P y
+on_value E P x y is holds = let same : x ≡ y = cc in subst P same holds
+
+unless_passed : (test : Bool) (k : Kind) (p : ℕ) (u : Unit {0}) → unless test k p ≡ Ok u → test ≡ false
+unless_passed true k p u is = cc
+unless_passed false k p u is = refl
+
+abbrev Few : ColumnList → Type 0
+Few columns = length columns ≤ 64
+
+one_more : (columns : ColumnList) (c : Word × TypeWord) (y : ColumnList) → with_column columns c ≡ Ok y → Few y
+one_more columns c =
+    on_bind Few (unless (has_entry columns c.0.text) kind.Duplicate c.0.place) _ (λ u is.
+    on_bind Few (unless (nat_le 64 (length columns)) kind.Limit c.0.place) _ (λ v passed.
+    on_bind Few (found kind.UnknownName c.1.name.place (type_named c.1.name.text c.1.inner)) _ (λ ty named y is.
+        let small : length columns < 64 = leb-false 64 (length columns) (unless_passed (nat_le 64 (length columns)) kind.Limit c.0.place v passed) in
+        let long : length (columns ++ (c.0.text, ty) ∷ []) ≡ length columns + 1 = length-append columns ((c.0.text, ty) ∷ []) in
+        on_value Wrong Few (columns ++ (c.0.text, ty) ∷ []) y is (omega arith))))
+
+few_columns : (columns : ColumnList) (cs : List (Word × TypeWord)) → Few columns → (y : ColumnList) → with_columns columns cs ≡ Ok y → Few y
+few_columns columns [] few y is = on_value Wrong Few columns y is few
+few_columns columns (c ∷ cs) few y is = on_bind Few (with_column columns c) (λ more. with_columns more cs) (λ more made z typed. few_columns more cs (one_more columns c more made) z typed) y is
+
+-- a new table has at most 64 columns
+abbrev NarrowStatement : StatementOut → Type 0
+NarrowStatement (new_table t name columns) = length columns ≤ 64
+NarrowStatement _ = Unit {0}
+
+abbrev NarrowMade : Made → Type 0
+NarrowMade m = NarrowStatement m.statement
+
+abbrev NarrowStep : Made × List ConstText → Type 0
+NarrowStep r = NarrowMade r.0
+
+on_keeping : (cs : List ConstText) (r : Result Made Wrong) → ((m : Made) → r ≡ Ok m → NarrowMade m) → (y : Made × List ConstText) → keeping cs r ≡ Ok y → NarrowStep y
+on_keeping cs r each = on_bind NarrowStep r (λ m. Ok (m, cs)) (λ m made y is. on_value Wrong NarrowStep (m, cs) y is (each m made))
+
+table_narrow : (names : NameLists) (name : Word) (columns : List (Word × TypeWord)) (m : Made) → made_table names name columns ≡ Ok m → NarrowMade m
+table_narrow names name columns =
+    on_bind NarrowMade (unless (has_entry names.tables name.text) kind.Duplicate name.place) _ (λ u is.
+    on_bind NarrowMade (unless (nat_le 64 (length names.tables)) kind.Limit name.place) _ (λ v passed.
+    on_bind NarrowMade (with_columns [] columns) _ (λ cs typed m is.
+        on_value Wrong NarrowMade (record { statement = new_table (length names.tables) name.text cs; names = with_table names name.text cs }) m is (few_columns [] columns (omega arith) cs typed))))
+
+index_narrow : (names : NameLists) (name table column : Word) (m : Made) → made_index names name table column ≡ Ok m → NarrowMade m
+index_narrow names name table column =
+    on_bind NarrowMade (found kind.UnknownName table.place (table_of names.tables table.text)) _ (λ t is.
+    on_bind NarrowMade (unless (has_name names.indexes name.text) kind.Duplicate name.place) _ (λ u passed.
+    on_bind NarrowMade (found kind.UnknownName column.place (column_of t.1 column.text)) _ (λ c found.
+    on_bind NarrowMade _ _ (λ v typed m is. on_value Wrong NarrowMade _ m is tt))))
+
+copy_narrow : (names : NameLists) (table : Word) (file : _) (delimiter : _) (m : Made) → copied names table file delimiter ≡ Ok m → NarrowMade m
+copy_narrow names table file delimiter =
+    on_bind NarrowMade (found kind.UnknownName table.place (table_of names.tables table.text)) _ (λ t is.
+    on_bind NarrowMade (good_delimiter delimiter) _ (λ u good m is. on_value Wrong NarrowMade (record { statement = rows_from t.0 file.text; names = names }) m is tt))
+
+rows_narrow : (n : ℕ) (names : NameLists) (table : Word) (rows : List RowParts) (cs : List ConstText) (y : Made × List ConstText) → inserted n names table rows cs ≡ Ok y → NarrowStep y
+rows_narrow n names table rows cs =
+    on_bind NarrowStep (found kind.UnknownName table.place (table_of names.tables table.text)) _ (λ t is.
+    on_bind NarrowStep (typed_rows n t.1 [] rows cs) _ (λ r typed y is.
+        on_value Wrong NarrowStep (record { statement = new_rows t.0 r.0 (map (λ row. row.place) rows); names = names }, r.1) y is tt))
+
+query_narrow : (form : TypedSelectParts → StatementOut) → ((s : TypedSelectParts) → NarrowStatement (form s)) → (names : NameLists) (r : Result (TypedSelectParts × List ConstText) Wrong) (y : Made × List ConstText)
+    → asked form names r ≡ Ok y → NarrowStep y
+query_narrow form each names r = on_bind NarrowStep r _ (λ s typed y is. on_value Wrong NarrowStep (record { statement = form s.0; names = names }, s.1) y is (each s.0))
+
+statement_narrow : (n : ℕ) (names : NameLists) (s : StatementParts) (cs : List ConstText) (y : Made × List ConstText) → typed_statement n names s cs ≡ Ok y → NarrowStep y
+unfolding typed_statement
+statement_narrow n names empty cs y is = on_value Wrong NarrowStep (record { statement = nothing; names = names }, cs) y is tt
+statement_narrow n names (create_table name columns) cs y is = on_keeping cs (made_table names name columns) (table_narrow names name columns) y is
+statement_narrow n names (create_index name table column) cs y is = on_keeping cs (made_index names name table column) (index_narrow names name table column) y is
+statement_narrow n names (insert table rows) cs y is = rows_narrow n names table rows cs y is
+statement_narrow n names (copy table file delimiter) cs y is = on_keeping cs (copied names table file delimiter) (copy_narrow names table file delimiter) y is
+statement_narrow n names (select s) cs y is = query_narrow query (λ s. tt) names (typed_select names.tables n s cs) y is
+statement_narrow n names (explain s) cs y is = query_narrow plan_of (λ s. tt) names (typed_select names.tables n s cs) y is
+
+abbrev NarrowAll : List StatementOut → Type 0
+NarrowAll [] = Unit {0}
+NarrowAll (s ∷ ss) = NarrowStatement s × NarrowAll ss
+
+narrow_more : (ss : List StatementOut) (s : StatementOut) → NarrowAll ss → NarrowStatement s → NarrowAll (ss ++ s ∷ [])
+narrow_more [] s all one = (one, tt)
+narrow_more (t ∷ ss) s all one = (all.0, narrow_more ss s all.1 one)
+
+abbrev NarrowOut : ScriptOut → Type 0
+NarrowOut out = NarrowAll out.statements
+
+-- one statement, and the others by what holds of them
+statement_on : (n : ℕ) (r : Result (Made × List ConstText) Wrong) (next : Made × List ConstText → Result ScriptOut _) (out : ScriptOut)
+    → ((m : Made × List ConstText) → r ≡ Ok m → next m ≡ Ok out → NarrowOut out) → or_refused (in_statement n r) next ≡ Ok out → NarrowOut out
+statement_on n (Ok m) next out each is = each m refl is
+statement_on n (Err w) next out each is = cc
+
+statements_narrow : (n : ℕ) (names : NameLists) (done : List StatementOut) (ss : List StatementParts) (cs : List ConstText) (out : ScriptOut) → NarrowAll done → typed_from n names done ss cs ≡ Ok out → NarrowOut out
+statements_narrow n names done [] cs out all is = on_value Refusal NarrowOut (record { statements = done; consts = cs }) out is all
+statements_narrow n names done (s ∷ ss) cs out all is =
+    statement_on n (typed_statement n names s cs) (λ r. typed_from (n + 1) r.0.names (done ++ r.0.statement ∷ []) ss r.1) out
+    (λ m typed rest. statements_narrow (n + 1) m.0.names (done ++ m.0.statement ∷ []) ss m.1 out (narrow_more done m.0.statement all (statement_narrow n names s cs m typed)) rest) is
+
+-- the checks of narrow statements are narrow
+literals_narrow : (cs : List ConstText) → AreNarrow (map literal cs)
+literals_narrow [] = tt
+literals_narrow (c ∷ cs) = (tt, literals_narrow cs)
+
+module _ (next : List ConstText → List CheckParts) (narrow : (cs : List ConstText) → AreNarrow (next cs)) (m : Mark) (own : IsNarrow m.check) where
+  choice : (b : Bool) (c : ConstText) (cs : List ConstText) → AreNarrow (up_to next m cs) → stands_before c m.statement m.place ≡ b → AreNarrow (up_to next m (c ∷ cs))
+  choice true c cs rest is = rw is (tt, rest)
+  choice false c cs rest is = rw is (own, narrow (c ∷ cs))
+
+  up_to_narrow : (cs : List ConstText) → AreNarrow (up_to next m cs)
+  up_to_narrow [] = (own, narrow [])
+  up_to_narrow (c ∷ cs) = choice (stands_before c m.statement m.place) c cs (up_to_narrow cs) refl
+
+abbrev NarrowMarks : List Mark → Type 0
+NarrowMarks [] = Unit {0}
+NarrowMarks (m ∷ ms) = IsNarrow m.check × NarrowMarks ms
+
+order_narrow : (ms : List Mark) → NarrowMarks ms → (cs : List ConstText) → AreNarrow (in_order ms cs)
+order_narrow [] all cs = literals_narrow cs
+order_narrow (m ∷ ms) all cs = up_to_narrow (in_order ms) (order_narrow ms all.1) m all.0 cs
+
+marks_both : (ms ns : List Mark) → NarrowMarks ms → NarrowMarks ns → NarrowMarks (ms ++ ns)
+marks_both [] ns first second = second
+marks_both (m ∷ ms) ns first second = (first.0, marks_both ms ns first.1 second)
+
+brackets_narrow : (t n : ℕ) (places : List ℕ) → NarrowMarks (map (bracket t n) places)
+brackets_narrow t n [] = tt
+brackets_narrow t n (p ∷ ps) = (tt, brackets_narrow t n ps)
+
+marks_narrow : (n : ℕ) (s : StatementOut) → NarrowStatement s → NarrowMarks (marks_of n s)
+marks_narrow n nothing narrow = tt
+marks_narrow n (new_table t name columns) narrow = (narrow, tt)
+marks_narrow n (new_index t c name) narrow = tt
+marks_narrow n (new_rows t rows places) narrow = brackets_narrow t n places
+marks_narrow n (rows_from t name) narrow = (tt, tt)
+marks_narrow n (query s) narrow = tt
+marks_narrow n (plan_of s) narrow = tt
+
+all_marks_narrow : (n : ℕ) (ss : List StatementOut) → NarrowAll ss → NarrowMarks (marks_from n ss)
+all_marks_narrow n [] all = tt
+all_marks_narrow n (s ∷ ss) all = marks_both (marks_of n s) (marks_from (n + 1) ss) (marks_narrow n s all.0) (all_marks_narrow (n + 1) ss all.1)
+
+pub script_narrow : (ss : List StatementParts) (out : ScriptOut) → typed_script ss ≡ Ok out → AreNarrow (checks_of out)
+script_narrow ss out is = order_narrow (marks_from 1 out.statements) (all_marks_narrow 1 out.statements (statements_narrow 1 no_names [] ss [] out tt is)) out.consts
+
+-- one of narrow checks
+pub check_narrow : (all : List Check) (i : ℕ) (d : Check) → AreNarrow (map check_seen all) → i < length all → IsNarrow (check_seen (get_or all i d))
+check_narrow [] i d narrow lt = absurd (omega arith)
+check_narrow (c ∷ all) zero d narrow lt = narrow.0
+check_narrow (c ∷ all) (suc i) d narrow lt = check_narrow all i d narrow.1 (omega arith)
+
+-- one of narrow tables
+pub columns_narrow : (tables : List ColumnList) (t : ℕ) → HasNarrow tables → length (columns_or_none (slice_get tables t)) ≤ 64
+columns_narrow [] t all = omega arith
+columns_narrow (columns ∷ others) zero all = all.0
+columns_narrow (columns ∷ others) (suc t) all = columns_narrow others t all.1
+
+-- a narrow table more
+pub tables_more : (tables : List ColumnList) (columns : ColumnList) → length columns ≤ 64 → HasNarrow tables → HasNarrow (tables ++ columns ∷ [])
+tables_more [] columns narrow all = (narrow, tt)
+tables_more (first ∷ others) columns narrow all = (all.0, tables_more others columns narrow all.1)
+
+pub made_narrow : (l m : Loaded) (columns : ColumnList) → m ≡ add_table l columns → length columns ≤ 64 → HasNarrow l.tables → HasNarrow m.tables
+made_narrow l m columns is narrow all = subst (λ (x : Loaded). HasNarrow x.tables) (sym is) (tables_more l.tables columns narrow all)
+
+-- what follows where an answer is good
+pub ok_on : {A E P Q : Type 0} (r : Result A E) → (P → Q) → OnOk r P → OnOk r Q
+ok_on (Ok x) f p = f p
+ok_on (Err e) f p = tt
+
+pub same_narrow : (old new : List ColumnList) → HasNarrow old → new ≡ old → HasNarrow new
+same_narrow old new all same = subst HasNarrow (sym same) all
+
+pub nothing_narrow : (l : Loaded) → l ≡ nothing_loaded → HasNarrow l.tables
+nothing_narrow l is = subst (λ (x : Loaded). HasNarrow x.tables) (sym is) tt

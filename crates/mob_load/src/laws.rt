@@ -1,0 +1,12 @@
+//! Laws of loading. Each is proved for every script; calling one does nothing.
+ghost use Rattle.mob_load.specs.Loads.{LooksAtLiterals, ProgramHasValues};
+
+/// Each literal of a script is looked at once, in written order.
+pub fn literals_are_looked_at()
+    ensures once { LooksAtLiterals }
+{}
+
+/// The values of a program are those of the script's literals, one by one.
+pub fn literals_have_their_values()
+    ensures values { ProgramHasValues }
+{}

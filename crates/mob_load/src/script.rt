@@ -1,0 +1,95 @@
+//! What a script reads before it runs.
+ghost use Rattle.std.specs.Prelude.{◌≡◌, ◌≤◌, Ok, IfErr, IfOk, IfSome, OnOk, map};
+ghost use Rattle.mob_outside.specs.Faults.{Rose};
+ghost use Rattle.mob_outside.specs.Told.{KeepsFiles};
+ghost use Rattle.mob_typing.specs.Statements.{script_seen};
+ghost use Rattle.mob_load.specs.Fronts.{AsksForAll, AsksForSome};
+ghost use Rattle.mob_load.specs.Checks.{check_seen, checks_of};
+ghost use Rattle.mob_load.specs.Loads.{AreNarrow, HasFaultCause, IsOutcome, IsTyped, Loads, LoadsScript, StopsAt, copied_files, loaded_of, names_in, nothing_loaded};
+
+use crate::check::Check;
+use crate::loading::Loading;
+use crate::order::checks_of;
+use crate::passing::pass;
+use crate::program::{LoadEnd, Program};
+use mob_list::items::Items;
+use mob_outside::Files;
+use mob_scalar::Epoch;
+use mob_typing::Typed;
+use std::alloc::Global;
+
+// What was read before the first check.
+fn nothing_loaded<'a>(alloc: Global) -> Loading<'a>
+    ensures { loaded_of result ≡ nothing_loaded }
+{
+    Loading {
+        values: Items::new(alloc),
+        tables: Vec::new(alloc),
+        rows: Vec::new(alloc),
+        files: Items::new(alloc),
+    }
+}
+
+// The checks one after the other, up to the first that fails.
+fn load_checks<'a, F: Files>(
+    alloc: Global,
+    checks: &[Check<'a>],
+    files: &mut F,
+    epoch: &Epoch,
+) -> Result<Loading<'a>, LoadEnd>
+    requires narrow { AreNarrow (map check_seen checks.now) }
+    ensures loaded { IfOk result (λ l. IfSome (F.files files.old) (λ m. Loads epoch.now m (map check_seen checks.now) nothing_loaded (Ok (loaded_of l)))) }
+    ensures stopped { IfErr result (λ e. IfSome (F.files files.old) (λ m. StopsAt epoch.now m (map check_seen checks.now) e)) }
+    ensures cause { IfErr result (HasFaultCause (F.faults files.old) (F.faults files.new)) }
+    ensures asked { OnOk result (AsksForAll (names_in (map check_seen checks.now)) (F.asked files.old) (F.asked files.new)) }
+    ensures some { AsksForSome (names_in (map check_seen checks.now)) (F.asked files.old) (F.asked files.new) }
+    ensures files { KeepsFiles (F.files files.old) (F.files files.new) }
+    ensures later { F.faults files.old ≤ F.faults files.new }
+{
+    let mut loading = nothing_loaded(alloc);
+    for check in checks {
+        match pass(alloc, *check, &mut loading, files, epoch) {
+            Ok(()) => {}
+            Err(end) => return Err(end),
+        }
+    }
+    Ok(loading)
+}
+
+// What was read is the program.
+fn program_of(loading: Loading<'_>) -> Program
+    ensures { result ≡ record { values = (loaded_of loading.entry).values; files = (loaded_of loading.entry).files } }
+{
+    let Loading {
+        values,
+        files,
+        ..
+    } = loading;
+    Program { values, files }
+}
+
+/// The values of a script's literals and the rows of its files; or its first refusal, statement by statement: of a literal
+/// without a value, of the millionth and first row of a table, or of a file. Each file is read when its statement is reached,
+/// to its end or to one byte past 16,777,216.
+pub fn load<F: Files>(
+    alloc: Global,
+    typed: &Typed,
+    files: &mut F,
+    epoch: &Epoch,
+) -> Result<Program, LoadEnd>
+    requires typed { IsTyped (script_seen typed.now) }
+    ensures loaded { IfOk result (λ p. IfSome (F.files files.old) (λ m. LoadsScript epoch.now m (script_seen typed.now) (Ok p))) }
+    ensures stopped { IfErr result (λ e. IfSome (F.files files.old) (λ m. StopsAt epoch.now m (checks_of (script_seen typed.now)) e)) }
+    ensures cause { IfErr result (HasFaultCause (F.faults files.old) (F.faults files.new)) }
+    ensures complete { (Rose (F.faults files.old) (F.faults files.new) → ⊥) → IfSome (F.files files.old) (λ m. IsOutcome epoch.now m (script_seen typed.now) result) }
+    ensures asked { OnOk result (AsksForAll (copied_files (script_seen typed.now).statements) (F.asked files.old) (F.asked files.new)) }
+    ensures some { AsksForSome (copied_files (script_seen typed.now).statements) (F.asked files.old) (F.asked files.new) }
+    ensures files { KeepsFiles (F.files files.old) (F.files files.new) }
+    ensures later { F.faults files.old ≤ F.faults files.new }
+{
+    let checks = checks_of(alloc, typed)?;
+    match load_checks(alloc, &checks, files, epoch) {
+        Ok(loading) => Ok(program_of(loading)),
+        Err(end) => Err(end),
+    }
+}
