@@ -1,5 +1,5 @@
 -- Why a run ends as it does, by what it was given and what it did.
-use Rattle.std.specs.Prelude.{◌≡◌, ◌⊎◌, ◌≤◌, ◌+◌, ℕ, ℤ, List, length, map, Option, Some, None, IfSome}
+use Rattle.std.specs.Prelude.{◌≡◌, ◌⊎◌, ◌≤◌, ◌+◌, ℕ, ℤ, List, [], length, map, Option, Some, None, IfSome}
 use Rattle.std.specs.Io.KnownBytes.{Appends, Consumes, IsAtEnd, Keeps}
 use Rattle.mob_ast.specs.declared.refusal.Kind.{Kind}
 use Rattle.mob_ast.specs.declared.refusal.Refusal.{Refusal}
@@ -14,7 +14,7 @@ use Rattle.mob_load.specs.Loads.{refused, table_refused, copied_files}
 use Rattle.mob_load.specs.Fronts.{AsksForSome}
 use Rattle.mob_ending.specs.declared.ending.Ending.{Ending}
 use Rattle.mob_ending.specs.declared.ending.Ending.TheVariants.{Done, Usage, ReadFault, WriteFault, NoMemory, TableRefused, ScriptRefused, Overflow}
-use Rattle.mob_shell.specs.Program.{IsScript, HasProgram, IsHalted, WritesFirst, OutText, StopsWith}
+use Rattle.mob_shell.specs.Program.{IsScript, IsHalted, WritesFirst, OutText, StopsWith}
 
 -- the words are not taken
 abbrev pub IsUsage : List (List ℕ) → Type 0
@@ -100,13 +100,11 @@ pub record ReadsThrough (s : Seen) : Type 0 where
 pub record IsRefused (s : Seen) (e : Refusal) : Type 0 where
   pub read : ReadsThrough s
   pub cause : IfSome s.script (λ bytes. IsTextRefused bytes e ⊎ IfSome s.files (λ files. IsHalted s.words bytes files (refused e)))
-  pub other : OnTold s (λ bytes files. HasProgram s.words bytes files → ⊥)
 
 -- a table file is refused
 pub record IsTableRefused (s : Seen) (name : List ℕ) (kind : Kind) (rec field : ℕ) : Type 0 where
   pub ended : IsAtEnd s.rest
   pub cause : OnTold s (λ bytes files. IsHalted s.words bytes files (table_refused name kind rec field))
-  pub other : OnTold s (λ bytes files. HasProgram s.words bytes files → ⊥)
 
 -- the script could not be read, or a file, and the count of its faults rose
 abbrev pub CouldNotRead : Option (List ℕ) → Seen → Type 0
@@ -124,12 +122,15 @@ Causes (TableRefused file kind rec field) s = IsTableRefused s file kind rec fie
 Causes (ScriptRefused refusal) s = IsRefused s refusal × Keeps s.out_before s.out_now
 Causes (Overflow number rows place formula) s = StopsAt s number rows place formula
 
--- the names asked of the files are the first names of the script's COPY statements, or none
-abbrev pub AsksInOrder : Seen → Type 0
-AsksInOrder s = IfSome s.script (λ bytes. (names : List (List ℕ)) × AsksForSome names s.asked_before s.asked_now × IsCopied s.words bytes names)
-  where
-    IsCopied : List (List ℕ) → List ℕ → List (List ℕ) → Type 0
-    IsCopied words bytes names = (names ≡ []) ⊎ ((day : ℤ) × (out : ScriptOut) × IsScript words bytes day out × (names ≡ copied_files out.statements))
+-- these are the names of the COPY statements of the script, in order; or none, where there is no such script
+abbrev pub AreCopied : List (List ℕ) → List ℕ → List (List ℕ) → Type 0
+AreCopied words bytes names = (names ≡ []) ⊎ ((day : ℤ) × (out : ScriptOut) × IsScript words bytes day out × (names ≡ copied_files out.statements))
+
+-- the files were asked for the first of these names, in order
+pub record AsksInOrder (s : Seen) : Type 0 where
+  pub names : List (List ℕ)
+  pub copied : IfSome s.script (λ bytes. AreCopied s.words bytes names)
+  pub asked : AsksForSome names s.asked_before s.asked_now
 
 -- how a run ended: by its cause, by usage where the words ask for it or else by want of memory, with at most one byte past the
 -- limit read of the script, the names of files asked in order, and counts that do not fall

@@ -1,25 +1,14 @@
 -- What the words, the script and the files of a run say: the program that runs, or why there is none; and what it writes.
-use Rattle.std.specs.Prelude.{◌≡◌, ◌+◌, ℕ, ℤ, List, Result, Ok, Err, Some, take, slice_get}
+use Rattle.std.specs.Prelude.{◌≡◌, ◌+◌, ℕ, ℤ, List, Ok, Err, Some, take, slice_get}
 use Rattle.mob_words.specs.CommandLine.{Says}
 use Rattle.mob_outside.specs.Told.{Contents}
-use Rattle.mob_ast.specs.declared.refusal.Kind.{Kind}
-use Rattle.mob_ast.specs.declared.refusal.Refusal.{Refusal}
-use Rattle.mob_value.specs.declared.value.Value.{Value}
-use Rattle.mob_typing.specs.Names.{ColumnList}
 use Rattle.mob_typing.specs.Statements.{ScriptOut, StatementOut}
 use Rattle.mob_accept.specs.Accepts.{IsAccepted}
-use Rattle.mob_catalog.specs.TableFile.{IsTable, FileFails}
-use Rattle.mob_catalog.specs.Faults.{wrong}
-use Rattle.mob_load.specs.Loads.{Filling, Halt, Wrong, refused, table_refused, LoadsScript}
+use Rattle.mob_load.specs.Loads.{Halt, LoadsScript}
 use Rattle.mob_load.specs.declared.program.Program.{Program}
 use Rattle.mob_join.specs.Query.{TupleFault}
 use Rattle.mob_run.specs.Runs.{Standing, Step, Stops, begin}
 use Rattle.mob_streams.specs.Answers.{Ran}
-
--- the rows of a table file, or what is wrong first in it
-abbrev pub fills : ColumnList → ℤ → ℕ → List ℕ → Result (List (List Value)) Wrong → Type 0
-fills columns day room bytes (Ok rows) = IsTable columns day room bytes rows
-fills columns day room bytes (Err w) = FileFails columns day room bytes (wrong w.kind w.rec w.field)
 
 -- The words are taken, the text is a script, and this is what it is with names and types.
 pub record IsScript (words : List (List ℕ)) (bytes : List ℕ) (day : ℤ) (out : ScriptOut) : Type 0 where
@@ -30,7 +19,7 @@ pub record IsScript (words : List (List ℕ)) (bytes : List ℕ) (day : ℤ) (ou
 -- A script whose literals and files are read, and what they say.
 pub record IsProgram (words : List (List ℕ)) (bytes : List ℕ) (files : Contents) (day : ℤ) (out : ScriptOut) (program : Program) : Type 0 where
   pub script : IsScript words bytes day out
-  pub loads : LoadsScript fills day files out (Ok program)
+  pub loads : LoadsScript day files out (Ok program)
 
 -- there is a program
 pub record HasProgram (words : List (List ℕ)) (bytes : List ℕ) (files : Contents) : Type 0 where
@@ -44,7 +33,7 @@ pub record IsHalted (words : List (List ℕ)) (bytes : List ℕ) (files : Conten
   pub day : ℤ
   pub out : ScriptOut
   pub script : IsScript words bytes day out
-  pub loads : LoadsScript fills day files out (Err halt)
+  pub loads : LoadsScript day files out (Err halt)
 
 -- what the first statements of a program write
 pub record WritesFirst (words : List (List ℕ)) (bytes : List ℕ) (files : Contents) (count : ℕ) (text : List ℕ) : Type 0 where
