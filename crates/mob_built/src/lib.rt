@@ -3,11 +3,12 @@
 #![tactic(auto)]
 
 pub mod laws;
-mod least;
+pub mod least;
 mod operators;
 mod types;
 mod words;
 
+pub use least::earlier;
 pub use operators::first_unbuilt_operator;
 pub use types::first_unbuilt_type;
 pub use words::{first_unbuilt_word, statement_at};

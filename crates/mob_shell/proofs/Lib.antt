@@ -1,5 +1,1 @@
-pub mod Known
-pub mod Pieces
-mod WholeScript
-mod OneAnswer
-mod Select
+mod Seen

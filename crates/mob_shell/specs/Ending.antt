@@ -1,88 +1,94 @@
--- How a run ends, and what is said of it.
-use Rattle.std.specs.Prelude.{◌≡◌, ◌⊎◌, ◌<◌, ◌≤◌, ◌+◌, ◌++◌, ℕ, List, [], length, Option, IfSome, codes, decimal}
+-- Why a run ends as it does, by what it was given and what it did.
+use Rattle.std.specs.Prelude.{◌≡◌, ◌⊎◌, ◌≤◌, ◌+◌, ℕ, ℤ, List, [], length, map, Option, Some, None, IfSome}
 use Rattle.std.specs.Io.KnownBytes.{Appends, Consumes, IsAtEnd, Keeps}
-use Rattle.mob_ast.specs.Kinds.{name_of, number_of}
-use Rattle.mob_ast.specs.declared.refusal.Kind.TheVariants.{NotBuilt}
+use Rattle.mob_ast.specs.declared.refusal.Kind.{Kind}
 use Rattle.mob_ast.specs.declared.refusal.Refusal.{Refusal}
 use Rattle.mob_outside.specs.Faults.{Rose}
-use Rattle.mob_shell.specs.Script.{Accepts, OutText, script_limit}
-use Rattle.mob_shell.specs.Streams.{PutsPart, ReadsPart}
-use Rattle.mob_shell.specs.declared.ending.Ending.{Ending}
-use Rattle.mob_shell.specs.declared.ending.Ending.TheVariants.{Done, Usage, ReadFault, WriteFault, NoMemory, ScriptRefused}
+use Rattle.mob_outside.specs.Told.{Contents}
+use Rattle.mob_slice.specs.declared.formula.Formula.{Formula}
+use Rattle.mob_streams.specs.Streams.{PutsPart, ReadsPart}
+use Rattle.mob_words.specs.CommandLine.{Says}
+use Rattle.mob_accept.specs.Accepts.{IsTextRefused, script_limit}
+use Rattle.mob_typing.specs.Statements.{ScriptOut}
+use Rattle.mob_load.specs.Loads.{refused, table_refused, copied_files}
+use Rattle.mob_load.specs.Fronts.{AsksForSome}
+use Rattle.mob_ending.specs.declared.ending.Ending.{Ending}
+use Rattle.mob_ending.specs.declared.ending.Ending.TheVariants.{Done, Usage, ReadFault, WriteFault, NoMemory, TableRefused, ScriptRefused, Overflow}
+use Rattle.mob_shell.specs.Program.{IsScript, IsHalted, WritesFirst, OutText, StopsWith}
 
--- the status of an ending
-abbrev pub status_of : Ending → ℕ
-status_of Done = 0
-status_of Usage = 2
-status_of ReadFault = 3
-status_of WriteFault = 4
-status_of NoMemory = 5
-status_of (ScriptRefused refusal) = 7
-
--- the line of a refused script
-abbrev pub refusal_line : Refusal → List ℕ
-refusal_line refusal =
-    codes "statement " ++ decimal refusal.statement ++ codes ", byte " ++ decimal refusal.place
-    ++ codes ": refusal " ++ decimal (number_of refusal.kind) ++ codes " (" ++ name_of refusal.kind ++ codes ")\n"
-
--- the line that an ending leaves in the notes
-abbrev pub line_of : Ending → List ℕ
-line_of Done = []
-line_of Usage = codes "usage: mobsql [--workers N] [--epoch DATE] [--demo N] < script.sql\n"
-line_of ReadFault = codes "read fault: script\n"
-line_of WriteFault = codes "write fault\n"
-line_of NoMemory = codes "no memory\n"
-line_of (ScriptRefused refusal) = refusal_line refusal
-
--- the words are not taken: there are more of them than the program's name
+-- the words are not taken
 abbrev pub IsUsage : List (List ℕ) → Type 0
-IsUsage words = 1 < length words
+IsUsage words = (workers : ℕ) (day : ℤ) → Says words workers day → ⊥
 
--- What a run was given and what it did: the words; what the script told before and after; what `out` told before and
--- after; and the counts of faults of both before and after.
+-- What a run was given and what it did: the words; what the script told before and after; what the files told, and the names
+-- that they were asked for before and after; what `out` told before and after; and the counts of faults of the three.
 pub record Seen : Type 0 where
   pub words : List (List ℕ)
   pub script : Option (List ℕ)
   pub rest : Option (List ℕ)
-  pub read_before : ℕ
-  pub read_now : ℕ
+  pub files : Option Contents
+  pub asked_before : Option (List (List ℕ))
+  pub asked_now : Option (List (List ℕ))
   pub out_before : Option (List ℕ)
   pub out_now : Option (List ℕ)
+  pub read_before : ℕ
+  pub read_now : ℕ
+  pub filed_before : ℕ
+  pub filed_now : ℕ
   pub put_before : ℕ
   pub put_now : ℕ
 
 -- what was seen, by the ends as they were before and as they are now
-abbrev pub seen : {S K : Type 0} → (S → Option (List ℕ)) → (S → ℕ) → (K → Option (List ℕ)) → (K → ℕ)
-    → List (List ℕ) → S → S → K → K → Seen
-seen left reads held puts words source source_now sink sink_now = record {
+abbrev pub seen : {S F K : Type 0} → (S → Option (List ℕ)) → (S → ℕ) → (F → Option Contents) → (F → Option (List (List ℕ))) → (F → ℕ) → (K → Option (List ℕ)) → (K → ℕ)
+    → List (List ℕ) → S → S → F → F → K → K → Seen
+seen left reads told asked fileds held puts words source source_now files files_now sink sink_now = record {
   words = words;
   script = left source;
   rest = left source_now;
-  read_before = reads source;
-  read_now = reads source_now;
+  files = told files;
+  asked_before = asked files;
+  asked_now = asked files_now;
   out_before = held sink;
   out_now = held sink_now;
+  read_before = reads source;
+  read_now = reads source_now;
+  filed_before = fileds files;
+  filed_now = fileds files_now;
   put_before = puts sink;
   put_now = puts sink_now;
 }
 
--- the script is read to its end, and this text is what is written for it
-pub record IsOutput (s : Seen) (text : List ℕ) : Type 0 where
-  pub ended : IsAtEnd s.rest
-  pub answers : IfSome s.script (λ script. OutText script text)
+-- what holds of the bytes of the script and of the files, where they are told
+abbrev pub OnTold : Seen → (List ℕ → Contents → Type 0) → Type 0
+OnTold s P = IfSome s.script (λ bytes. IfSome s.files (λ files. P bytes files))
 
--- this text was written whole
+-- this text was written whole: the answers of a script that was read to its end
 pub record Writes (s : Seen) : Type 0 where
   pub text : List ℕ
-  pub output : IsOutput s text
+  pub ended : IsAtEnd s.rest
+  pub answers : OnTold s (λ bytes files. OutText s.words bytes files text)
   pub whole : Appends s.out_before s.out_now text
 
--- a proper prefix of it was written, and the count of `out` rose
+-- a proper prefix of the answers of some statements was written, and the count of `out` rose
 pub record CutsShort (s : Seen) : Type 0 where
+  pub count : ℕ
   pub text : List ℕ
-  pub output : IsOutput s text
+  pub answers : OnTold s (λ bytes files. WritesFirst s.words bytes files count text)
   pub part : PutsPart text s.out_before s.out_now
   pub rose : Rose s.put_before s.put_now
+
+-- the answers of the first statements were written
+pub record WroteSome (s : Seen) : Type 0 where
+  pub count : ℕ
+  pub text : List ℕ
+  pub answers : OnTold s (λ bytes files. WritesFirst s.words bytes files count text)
+  pub whole : Appends s.out_before s.out_now text
+
+-- the answers before a statement were written, which has this fault: the rows of its tuple, its place and its formula
+pub record StopsAt (s : Seen) (number : ℕ) (rows : List ℕ) (place : ℕ) (formula : Formula) : Type 0 where
+  pub text : List ℕ
+  pub fault : OnTold s (λ bytes files. StopsWith s.words bytes files text number (rows, (place, formula)))
+  pub whole : Appends s.out_before s.out_now text
 
 -- the script was read to its end, or to one byte past the limit
 pub record ReadsThrough (s : Seen) : Type 0 where
@@ -90,30 +96,49 @@ pub record ReadsThrough (s : Seen) : Type 0 where
   pub taken : Consumes s.script s.rest bytes
   pub through : IsAtEnd s.rest ⊎ (length bytes ≡ script_limit + 1)
 
--- the refusal of a script that uses what is not built yet
-abbrev pub not_built : Refusal
-not_built = record { kind = NotBuilt; statement = 1; place = 0 }
-
--- the script was read through and is not accepted, and the refusal is the one for what is not built yet
-pub record IsRefused (s : Seen) (refusal : Refusal) : Type 0 where
+-- the script is refused by itself, or by one of its literals or rows
+pub record IsRefused (s : Seen) (e : Refusal) : Type 0 where
   pub read : ReadsThrough s
-  pub other : IfSome s.script (λ script. Accepts script → ⊥)
-  pub says : refusal ≡ not_built
+  pub cause : IfSome s.script (λ bytes. IsTextRefused bytes e ⊎ IfSome s.files (λ files. IsHalted s.words bytes files (refused e)))
 
--- Why a run ended so. Nothing was written but under `Done` and `WriteFault`.
+-- a table file is refused
+pub record IsTableRefused (s : Seen) (name : List ℕ) (kind : Kind) (rec field : ℕ) : Type 0 where
+  pub ended : IsAtEnd s.rest
+  pub cause : OnTold s (λ bytes files. IsHalted s.words bytes files (table_refused name kind rec field))
+
+-- the script could not be read, or a file, and the count of its faults rose
+abbrev pub CouldNotRead : Option (List ℕ) → Seen → Type 0
+CouldNotRead None s = Rose s.read_before s.read_now
+CouldNotRead (Some file) s = Rose s.filed_before s.filed_now
+
+-- Why a run ended so. Nothing was written but under `Done`, `WriteFault`, `NoMemory` and `Overflow`.
 abbrev pub Causes : Ending → Seen → Type 0
 Causes Done s = Writes s
 Causes Usage s = IsUsage s.words × Keeps s.out_before s.out_now
-Causes ReadFault s = Rose s.read_before s.read_now × Keeps s.out_before s.out_now
+Causes (ReadFault file) s = CouldNotRead file s × Keeps s.out_before s.out_now
 Causes WriteFault s = CutsShort s
-Causes NoMemory s = Keeps s.out_before s.out_now
+Causes NoMemory s = Keeps s.out_before s.out_now ⊎ WroteSome s
+Causes (TableRefused file kind rec field) s = IsTableRefused s file kind rec field × Keeps s.out_before s.out_now
 Causes (ScriptRefused refusal) s = IsRefused s refusal × Keeps s.out_before s.out_now
+Causes (Overflow number rows place formula) s = StopsAt s number rows place formula
 
--- how a run ended: by its cause, by usage where the words ask for it, with at most one byte past the limit read of the
--- script, and with counts that do not fall
+-- these are the names of the COPY statements of the script, in order; or none, where there is no such script
+abbrev pub AreCopied : List (List ℕ) → List ℕ → List (List ℕ) → Type 0
+AreCopied words bytes names = (names ≡ []) ⊎ ((day : ℤ) × (out : ScriptOut) × IsScript words bytes day out × (names ≡ copied_files out.statements))
+
+-- the files were asked for the first of these names, in order
+pub record AsksInOrder (s : Seen) : Type 0 where
+  pub names : List (List ℕ)
+  pub copied : IfSome s.script (λ bytes. AreCopied s.words bytes names)
+  pub asked : AsksForSome names s.asked_before s.asked_now
+
+-- how a run ended: by its cause, by usage where the words ask for it or else by want of memory, with at most one byte past the
+-- limit read of the script, the names of files asked in order, and counts that do not fall
 pub record Ends (ending : Ending) (s : Seen) : Type 0 where
   pub cause : Causes ending s
   pub read : ReadsPart script_limit s.script s.rest
-  pub usage : IsUsage s.words → ending ≡ Usage
+  pub asked : AsksInOrder s
+  pub usage : IsUsage s.words → (ending ≡ Usage) ⊎ (ending ≡ NoMemory)
   pub read_later : s.read_before ≤ s.read_now
+  pub filed_later : s.filed_before ≤ s.filed_now
   pub put_later : s.put_before ≤ s.put_now

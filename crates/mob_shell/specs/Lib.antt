@@ -1,3 +1,3 @@
+pub mod Program
 pub mod Ending
-pub mod Script
-pub mod Streams
+pub mod Parts

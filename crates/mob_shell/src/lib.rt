@@ -3,14 +3,7 @@
 //! `run` is the top call, and its clauses say what each status means.
 #![tactic(auto)]
 
-mod decide;
-mod ending;
-pub mod laws;
-mod note;
-mod script;
-mod streams;
-mod top;
+mod program;
+mod statements;
 
-pub use ending::Ending;
-pub use note::tell;
-pub use top::run;
+pub use mob_ending::{Ending, tell};

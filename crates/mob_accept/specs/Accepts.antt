@@ -1,0 +1,81 @@
+-- Which texts are scripts that are taken, and why a text is refused by itself, before any literal or file is looked at.
+use Rattle.std.specs.Prelude.{◌≡◌, ◌≢◌, ◌⊎◌, ◌<◌, ◌≤◌, ◌++◌, ℕ, List, [], length, Some, Ok, Err}
+use Rattle.mob_ast.specs.declared.refusal.Kind.TheVariants.{NotBuilt, NoMemory, Limit}
+use Rattle.mob_ast.specs.declared.refusal.Refusal.{Refusal}
+use Rattle.mob_ast.specs.Kinds.{no_memory}
+use Rattle.mob_ast.specs.Trees.{StatementParts}
+use Rattle.mob_parse.specs.Refusals.{IsTreeOf, IsLightText, IsRefused as HasNoTree}
+use Rattle.mob_typing.specs.Statements.{ScriptOut, typed_script}
+use Rattle.mob_built.specs.Least.{least}
+use Rattle.mob_built.specs.Words.{unbuilt_words, statement_at}
+use Rattle.mob_built.specs.Types.{unbuilt_types}
+use Rattle.mob_built.specs.Operators.{unbuilt_operators}
+
+-- the greatest length of a script in bytes
+abbrev pub script_limit : ℕ
+script_limit = 4194304
+
+-- the text is not too long, these are its trees, and no expression is too complex
+pub record HasTrees (bytes : List ℕ) (trees : List StatementParts) : Type 0 where
+  pub short : length bytes ≤ script_limit
+  pub tree : IsTreeOf bytes trees
+  pub light : IsLightText bytes
+
+-- the text has trees, and this is what they are with names and types
+pub record IsTyped (bytes : List ℕ) (trees : List StatementParts) (out : ScriptOut) : Type 0 where
+  pub read : HasTrees bytes trees
+  pub typed : typed_script trees ≡ Ok out
+
+-- the places at which a script uses what is not built yet
+abbrev pub unbuilt_places : List ℕ → List StatementParts → ScriptOut → List ℕ
+unbuilt_places bytes trees out = unbuilt_words bytes ++ (unbuilt_types trees ++ unbuilt_operators out.statements)
+
+-- The text is a script that is taken, and this is what it is with names and types: all that it uses is built.
+pub record IsAccepted (bytes : List ℕ) (out : ScriptOut) : Type 0 where
+  pub trees : List StatementParts
+  pub script : IsTyped bytes trees out
+  pub built : unbuilt_places bytes trees out ≡ []
+
+-- the text is longer than the limit
+pub record IsTooLong (bytes : List ℕ) (e : Refusal) : Type 0 where
+  pub long : script_limit < length bytes
+  pub says : e ≡ record { kind = Limit; statement = 1; place = script_limit }
+
+-- the text is no script of the grammar, for this cause
+pub record IsNoScript (bytes : List ℕ) (e : Refusal) : Type 0 where
+  pub short : length bytes ≤ script_limit
+  pub cause : HasNoTree bytes e
+  pub other : e.kind ≢ NoMemory
+
+-- a name or a type is wrong, and this is the first
+pub record IsWrongName (bytes : List ℕ) (e : Refusal) : Type 0 where
+  pub trees : List StatementParts
+  pub read : HasTrees bytes trees
+  pub first : typed_script trees ≡ Err e
+
+-- the refusal of what is not built yet, at this place
+pub record IsNotBuiltAt (bytes : List ℕ) (place : ℕ) (e : Refusal) : Type 0 where
+  pub kind : e.kind ≡ NotBuilt
+  pub statement : e.statement ≡ statement_at bytes place
+  pub here : e.place ≡ place
+
+-- something is not built yet, and this is the first place of it
+pub record IsNotBuilt (bytes : List ℕ) (e : Refusal) : Type 0 where
+  pub trees : List StatementParts
+  pub out : ScriptOut
+  pub script : IsTyped bytes trees out
+  pub place : ℕ
+  pub first : least (unbuilt_places bytes trees out) ≡ Some place
+  pub says : IsNotBuiltAt bytes place e
+
+-- why a text is refused: by its length, its characters, tokens and grammar, its names and types, or what is not built yet
+abbrev pub IsTextRefused : List ℕ → Refusal → Type 0
+IsTextRefused bytes e = IsTooLong bytes e ⊎ (IsNoScript bytes e ⊎ (IsWrongName bytes e ⊎ IsNotBuilt bytes e))
+
+-- the text is no script that is taken
+abbrev pub IsNotTaken : List ℕ → Type 0
+IsNotTaken bytes = (out : ScriptOut) → IsAccepted bytes out → ⊥
+
+-- a refusal: want of memory, or that of a text that is no script that is taken, by its cause
+abbrev pub IsRefused : List ℕ → Refusal → Type 0
+IsRefused bytes e = (e ≡ no_memory) ⊎ (IsTextRefused bytes e × IsNotTaken bytes)

@@ -1,0 +1,86 @@
+-- The status of an ending, and the line that it leaves in the notes.
+use Rattle.std.specs.Prelude.{◌+◌, ◌++◌, ◌∷◌, ℕ, List, [], Option, Some, None, codes, decimal, map}
+use Rattle.std.specs.List.{concat}
+use Rattle.mob_ast.specs.Kinds.{name_of, number_of}
+use Rattle.mob_ast.specs.declared.refusal.Kind.{Kind}
+use Rattle.mob_ast.specs.declared.refusal.Refusal.{Refusal}
+use Rattle.mob_slice.specs.declared.formula.Formula.{Formula}
+use Rattle.mob_slice.specs.declared.formula.Formula.TheVariants.{F1, F2, F3, F4, F5, F6, F7}
+use Rattle.mob_ending.specs.declared.ending.Ending.{Ending}
+use Rattle.mob_ending.specs.declared.ending.Ending.TheVariants.{Done, Usage, ReadFault, WriteFault, NoMemory, TableRefused, ScriptRefused, Overflow}
+
+-- the status of an ending
+abbrev pub status_of : Ending → ℕ
+status_of Done = 0
+status_of Usage = 2
+status_of (ReadFault file) = 3
+status_of WriteFault = 4
+status_of NoMemory = 5
+status_of (TableRefused file kind rec field) = 6
+status_of (ScriptRefused refusal) = 7
+status_of (Overflow statement rows place formula) = 8
+
+-- the number and the name of a refusal
+abbrev pub kind_text : Kind → List ℕ
+kind_text kind = codes ": refusal " ++ (decimal (number_of kind) ++ (codes " (" ++ (name_of kind ++ codes ")\n")))
+
+-- the line of a refused script
+abbrev pub refusal_line : Refusal → List ℕ
+refusal_line refusal = codes "statement " ++ (decimal refusal.statement ++ (codes ", byte " ++ (decimal refusal.place ++ kind_text refusal.kind)))
+
+-- where in a table file a refusal is, and why
+abbrev pub record_text : Kind → ℕ → ℕ → List ℕ
+record_text kind rec field = codes ": record " ++ (decimal rec ++ (codes ", field " ++ (decimal field ++ kind_text kind)))
+
+-- the line of a refused table file
+abbrev pub table_line : List ℕ → Kind → ℕ → ℕ → List ℕ
+table_line file kind rec field = file ++ record_text kind rec field
+
+-- a row's number, from 1, behind a blank
+abbrev pub further_row : ℕ → List ℕ
+further_row row = 32 ∷ decimal (row + 1)
+
+-- the numbers of rows, from 1, with blanks between; a hyphen for none
+abbrev pub rows_text : List ℕ → List ℕ
+rows_text [] = codes "-"
+rows_text (row ∷ rows) = decimal (row + 1) ++ concat (map further_row rows)
+
+-- the name of a formula
+abbrev pub formula_name : Formula → List ℕ
+formula_name F1 = codes "F1"
+formula_name F2 = codes "F2"
+formula_name F3 = codes "F3"
+formula_name F4 = codes "F4"
+formula_name F5 = codes "F5"
+formula_name F6 = codes "F6"
+formula_name F7 = codes "F7"
+
+abbrev pub statement_text : ℕ → List ℕ
+statement_text statement = codes "statement " ++ (decimal statement ++ codes ", rows ")
+
+abbrev pub passes_text : ℕ → Formula → List ℕ
+passes_text place formula = codes ", byte " ++ (decimal place ++ (codes ": formula " ++ (formula_name formula ++ codes " passes 62 bits\n")))
+
+-- the line of a part of a formula that does not fit
+abbrev pub overflow_line : ℕ → List ℕ → ℕ → Formula → List ℕ
+overflow_line statement rows place formula = statement_text statement ++ (rows_text rows ++ passes_text place formula)
+
+-- the line of a table file that could not be read
+abbrev pub fault_line : List ℕ → List ℕ
+fault_line file = codes "read fault: " ++ (file ++ codes "\n")
+
+-- the line of a script or a file that could not be read
+abbrev pub read_line : Option (List ℕ) → List ℕ
+read_line None = codes "read fault: script\n"
+read_line (Some file) = fault_line file
+
+-- the line that an ending leaves in the notes
+abbrev pub line_of : Ending → List ℕ
+line_of Done = []
+line_of Usage = codes "usage: mobsql [--workers N] [--epoch DATE] [--demo N] < script.sql\n"
+line_of (ReadFault file) = read_line file
+line_of WriteFault = codes "write fault\n"
+line_of NoMemory = codes "no memory\n"
+line_of (TableRefused file kind rec field) = table_line file kind rec field
+line_of (ScriptRefused refusal) = refusal_line refusal
+line_of (Overflow statement rows place formula) = overflow_line statement rows place formula

@@ -1,0 +1,79 @@
+-- What the parts of a run leave.
+use Rattle.std.specs.Prelude.{◌≡◌, ◌⊎◌, ◌+◌, ℕ, ℤ, List, Ok, Err, Option, Some, None, IfSome, take, slice_get}
+use Rattle.std.specs.Io.KnownBytes.{Appends, Keeps}
+use Rattle.mob_outside.specs.Faults.{Rose}
+use Rattle.mob_outside.specs.Told.{Contents}
+use Rattle.mob_streams.specs.Streams.{PutsPart}
+use Rattle.mob_streams.specs.Answers.{Ran}
+use Rattle.mob_typing.specs.Statements.{ScriptOut, StatementOut}
+use Rattle.mob_load.specs.Loads.{refused, table_refused, LoadsScript}
+use Rattle.mob_load.specs.declared.program.Program.{Program}
+use Rattle.mob_run.specs.Runs.{Standing, Step, Stops, begin}
+use Rattle.mob_slice.specs.declared.formula.Formula.{Formula}
+use Rattle.mob_ending.specs.declared.ending.Ending.{Ending}
+use Rattle.mob_ending.specs.declared.ending.Ending.TheVariants.{Done, Usage, ReadFault, WriteFault, NoMemory, TableRefused, ScriptRefused, Overflow}
+
+-- the first statements ran, and this is what they write
+pub record RanTo (day : ℤ) (out : ScriptOut) (program : Program) (count : ℕ) (text : List ℕ) : Type 0 where
+  pub stands : Standing
+  pub ran : Ran (Step day) (begin program) (take count out.statements) stands text
+
+-- all statements ran, and their answers were put
+pub record RanAll (day : ℤ) (out : ScriptOut) (program : Program) (old new : Option (List ℕ)) : Type 0 where
+  pub text : List ℕ
+  pub stands : Standing
+  pub ran : Ran (Step day) (begin program) out.statements stands text
+  pub put : Appends old new text
+
+-- the statement of this number has a fault, and the answers before it were put
+pub record RanUpTo (day : ℤ) (out : ScriptOut) (program : Program) (number : ℕ) (rows : List ℕ) (place : ℕ) (formula : Formula) (old new : Option (List ℕ)) : Type 0 where
+  pub text : List ℕ
+  pub before : ℕ
+  pub counts : number ≡ before + 1
+  pub stands : Standing
+  pub ran : Ran (Step day) (begin program) (take before out.statements) stands text
+  pub statement : StatementOut
+  pub there : slice_get out.statements before ≡ Some statement
+  pub stops : Stops day stands statement (rows, (place, formula))
+  pub put : Appends old new text
+
+-- the answers of the first statements were put
+pub record RanSome (day : ℤ) (out : ScriptOut) (program : Program) (old new : Option (List ℕ)) : Type 0 where
+  pub count : ℕ
+  pub text : List ℕ
+  pub first : RanTo day out program count text
+  pub put : Appends old new text
+
+-- a proper prefix of the answers of the first statements was put, and the count of faults rose
+pub record RanShort (day : ℤ) (out : ScriptOut) (program : Program) (old new : Option (List ℕ)) (before now : ℕ) : Type 0 where
+  pub count : ℕ
+  pub text : List ℕ
+  pub first : RanTo day out program count text
+  pub part : PutsPart text old new
+  pub rose : Rose before now
+
+-- what the statements of a program leave
+abbrev pub RunEnds : ℤ → ScriptOut → Program → Option (List ℕ) → Option (List ℕ) → ℕ → ℕ → Ending → Type 0
+RunEnds day out program old new before now Done = RanAll day out program old new
+RunEnds day out program old new before now (Overflow number rows place formula) = RanUpTo day out program number rows place formula old new
+RunEnds day out program old new before now WriteFault = RanShort day out program old new before now
+RunEnds day out program old new before now NoMemory = RanSome day out program old new
+RunEnds day out program old new before now _ = ⊥
+
+-- the script is loaded, where the files are told, and its statements leave this
+pub record Loaded (day : ℤ) (out : ScriptOut) (files : Option Contents) (Left : Program → Type 0) : Type 0 where
+  pub program : Program
+  pub loads : IfSome files (λ m. LoadsScript day m out (Ok program))
+  pub left : Left program
+
+-- what loading a typed script and running it leave
+abbrev pub LoadEnds : ℤ → ScriptOut → Option Contents → ℕ → ℕ → Option (List ℕ) → Option (List ℕ) → ℕ → ℕ → Ending → Type 0
+LoadEnds day out files filed filed_now old new before now Done = Loaded day out files (λ p. RanAll day out p old new)
+LoadEnds day out files filed filed_now old new before now (Overflow number rows place formula) = Loaded day out files (λ p. RanUpTo day out p number rows place formula old new)
+LoadEnds day out files filed filed_now old new before now WriteFault = Loaded day out files (λ p. RanShort day out p old new before now)
+LoadEnds day out files filed filed_now old new before now NoMemory = Keeps old new ⊎ Loaded day out files (λ p. RanSome day out p old new)
+LoadEnds day out files filed filed_now old new before now (TableRefused name kind rec field) = IfSome files (λ m. LoadsScript day m out (Err (table_refused name kind rec field))) × Keeps old new
+LoadEnds day out files filed filed_now old new before now (ScriptRefused e) = IfSome files (λ m. LoadsScript day m out (Err (refused e))) × Keeps old new
+LoadEnds day out files filed filed_now old new before now (ReadFault (Some name)) = Rose filed filed_now × Keeps old new
+LoadEnds day out files filed filed_now old new before now (ReadFault None) = ⊥
+LoadEnds day out files filed filed_now old new before now Usage = ⊥

@@ -1,0 +1,47 @@
+// A typed script, loaded and run.
+ghost use Rattle.std.specs.Prelude.{◌≤◌};
+ghost use Rattle.mob_load.specs.Fronts.{AsksForSome};
+ghost use Rattle.mob_load.specs.Loads.{IsTyped, copied_files};
+ghost use Rattle.mob_typing.specs.Statements.{script_seen};
+ghost use Rattle.mob_shell.specs.Parts.{LoadEnds};
+
+use crate::statements::run_statements;
+use mob_ending::Ending;
+use mob_load::{LoadEnd, load};
+use mob_outside::{Files, Sink};
+use mob_scalar::Epoch;
+use mob_typing::Typed;
+use std::alloc::Global;
+
+// Reads the literals and the files of a typed script, and runs its statements.
+pub fn run_typed<F: Files, K: Sink>(
+    alloc: Global,
+    typed: &Typed,
+    epoch: Epoch,
+    files: &mut F,
+    out: &mut K,
+) -> Ending
+    requires typed { IsTyped (script_seen typed.now) }
+    ensures ends { LoadEnds epoch (script_seen typed.now) (F.files files.old) (F.faults files.old) (F.faults files.new) (K.held out.old) (K.held out.new) (K.faults out.old) (K.faults out.new) result }
+    ensures asked { AsksForSome (copied_files (script_seen typed.now).statements) (F.asked files.old) (F.asked files.new) }
+    ensures filed_later { F.faults files.old ≤ F.faults files.new }
+    ensures put_later { K.faults out.old ≤ K.faults out.new }
+{
+    match load(alloc, typed, files, &epoch) {
+        Ok(program) => run_statements(alloc, typed, program, epoch, out),
+        Err(LoadEnd::Refused(refusal)) => Ending::ScriptRefused { refusal },
+        Err(LoadEnd::TableRefused {
+            file,
+            kind,
+            rec,
+            field,
+        }) => Ending::TableRefused {
+            file,
+            kind,
+            rec,
+            field,
+        },
+        Err(LoadEnd::ReadFault { file }) => Ending::ReadFault { file: Some(file) },
+        Err(LoadEnd::NoMemory) => Ending::NoMemory,
+    }
+}

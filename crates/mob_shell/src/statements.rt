@@ -1,0 +1,38 @@
+// The statements of a program, run.
+ghost use Rattle.std.specs.Prelude.{◌≤◌};
+ghost use Rattle.mob_typing.specs.Statements.{script_seen};
+ghost use Rattle.mob_shell.specs.Parts.{RunEnds};
+
+use mob_ending::Ending;
+use mob_load::Program;
+use mob_outside::Sink;
+use mob_run::Session;
+use mob_scalar::Epoch;
+use mob_streams::{RunEnd, run_all};
+use mob_typing::Typed;
+use std::alloc::Global;
+
+// Runs the statements of a typed script, one after the other, and puts each answer.
+pub fn run_statements<K: Sink>(
+    alloc: Global,
+    typed: &Typed,
+    program: Program,
+    epoch: Epoch,
+    out: &mut K,
+) -> Ending
+    ensures ends { RunEnds epoch (script_seen typed.now) program (K.held out.old) (K.held out.new) (K.faults out.old) (K.faults out.new) result }
+    ensures later { K.faults out.old ≤ K.faults out.new }
+{
+    let mut session = Session::new(alloc, program, epoch);
+    match run_all(alloc, &mut session, typed.statements.as_slice(), out) {
+        RunEnd::Done => Ending::Done,
+        RunEnd::NotWritten => Ending::WriteFault,
+        RunEnd::NoMemory => Ending::NoMemory,
+        RunEnd::Stopped { statement, fault } => Ending::Overflow {
+            statement,
+            rows: fault.rows,
+            place: fault.place,
+            formula: fault.formula,
+        },
+    }
+}
