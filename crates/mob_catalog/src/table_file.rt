@@ -48,7 +48,7 @@ fn rows_of(
 
 /// The rows of a table file, or what is wrong first in it.
 ///
-/// A file is records with commas between their fields, one of which may stand in double quotes, as `csv` reads them: a record
+/// A file is records with commas between their fields, each of which may stand in double quotes, as `csv` reads them: a record
 /// ends at CR, LF or both, an empty line is skipped, and one byte order mark in front is taken off. The first record is the
 /// header, the names of the columns in order with letters of either case. Each other record is a row with a field for
 /// each column, which `read_field` of `mob_literal` reads.
