@@ -20,8 +20,8 @@ enum Seen {
     NoMemory,
 }
 
-fn seen(result: Result<Program, LoadEnd>) -> Seen {
-    match result {
+fn seen(end: Result<Program, LoadEnd>) -> Seen {
+    match end {
         Ok(program) => Seen::Loaded {
             values: program.values.len(),
             rows: match program.files.as_slice().first() {
