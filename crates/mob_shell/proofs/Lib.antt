@@ -1,1 +1,3 @@
 mod Seen
+pub mod Whole
+mod Statuses

@@ -122,6 +122,22 @@ Causes (TableRefused file kind rec field) s = IsTableRefused s file kind rec fie
 Causes (ScriptRefused refusal) s = IsRefused s refusal × Keeps s.out_before s.out_now
 Causes (Overflow number rows place formula) s = StopsAt s number rows place formula
 
+-- a table file is refused, at some record and field
+abbrev pub IsTableFault : Seen → Type 0
+IsTableFault s = (name : List ℕ) × (kind : Kind) × (rec : ℕ) × (field : ℕ) × IsTableRefused s name kind rec field
+
+-- the script is refused, at some place
+abbrev pub IsScriptRefused : Seen → Type 0
+IsScriptRefused s = (e : Refusal) × IsRefused s e
+
+-- a part of some formula does not fit
+abbrev pub IsOverflow : Seen → Type 0
+IsOverflow s = (number : ℕ) × (rows : List ℕ) × (place : ℕ) × (formula : Formula) × StopsAt s number rows place formula
+
+-- the script or a table file is refused, or a part of a formula does not fit
+abbrev pub IsFaulty : Seen → Type 0
+IsFaulty s = IsTableFault s ⊎ (IsScriptRefused s ⊎ IsOverflow s)
+
 -- these are the names of the COPY statements of the script, in order; or none, where there is no such script
 abbrev pub AreCopied : List (List ℕ) → List ℕ → List (List ℕ) → Type 0
 AreCopied words bytes names = (names ≡ []) ⊎ ((day : ℤ) × (out : ScriptOut) × IsScript words bytes day out × (names ≡ copied_files out.statements))

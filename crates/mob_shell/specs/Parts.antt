@@ -1,12 +1,16 @@
 -- What the parts of a run leave.
-use Rattle.std.specs.Prelude.{◌≡◌, ◌⊎◌, ◌+◌, ℕ, ℤ, List, Ok, Err, Option, Some, None, IfSome, take, slice_get}
+use Rattle.std.specs.Prelude.{◌≡◌, ◌≢◌, ◌⊎◌, ◌+◌, ℕ, ℤ, List, [], Ok, Err, Option, Some, None, IfSome, take, slice_get}
 use Rattle.std.specs.Io.KnownBytes.{Appends, Keeps}
 use Rattle.mob_outside.specs.Faults.{Rose}
 use Rattle.mob_outside.specs.Told.{Contents}
 use Rattle.mob_streams.specs.Streams.{PutsPart}
 use Rattle.mob_streams.specs.Answers.{Ran}
 use Rattle.mob_typing.specs.Statements.{ScriptOut, StatementOut}
-use Rattle.mob_load.specs.Loads.{refused, table_refused, LoadsScript}
+use Rattle.mob_ast.specs.declared.refusal.Kind.TheVariants.{NoMemory as OutOfMemory}
+use Rattle.mob_ast.specs.declared.refusal.Refusal.{Refusal}
+use Rattle.mob_accept.specs.Accepts.{IsAccepted, IsTextRefused}
+use Rattle.mob_load.specs.Fronts.{AsksForSome}
+use Rattle.mob_load.specs.Loads.{refused, table_refused, copied_files, LoadsScript}
 use Rattle.mob_load.specs.declared.program.Program.{Program}
 use Rattle.mob_run.specs.Runs.{Standing, Step, Stops, begin}
 use Rattle.mob_slice.specs.declared.formula.Formula.{Formula}
@@ -77,3 +81,20 @@ LoadEnds day out files filed filed_now old new before now (ScriptRefused e) = If
 LoadEnds day out files filed filed_now old new before now (ReadFault (Some name)) = Rose filed filed_now × Keeps old new
 LoadEnds day out files filed filed_now old new before now (ReadFault None) = ⊥
 LoadEnds day out files filed filed_now old new before now Usage = ⊥
+
+-- a text that is a script is loaded and run, and the files are asked in order
+pub record RunsText (day : ℤ) (bytes : List ℕ) (files : Option Contents) (asked asked_now : Option (List (List ℕ))) (filed filed_now : ℕ) (old new : Option (List ℕ)) (before now : ℕ) (ending : Ending) : Type 0 where
+  pub out : ScriptOut
+  pub accepted : IsAccepted bytes out
+  pub ends : LoadEnds day out files filed filed_now old new before now ending
+  pub asks : AsksForSome (copied_files out.statements) asked asked_now
+
+-- a text that is refused by itself, or for want of memory: nothing is written, and no file is asked for
+pub record RefusesText (bytes : List ℕ) (asked asked_now : Option (List (List ℕ))) (old new : Option (List ℕ)) (ending : Ending) : Type 0 where
+  pub says : (ending ≡ NoMemory) ⊎ ((e : Refusal) × (ending ≡ ScriptRefused e) × IsTextRefused bytes e)
+  pub keeps : Keeps old new
+  pub asks : AsksForSome [] asked asked_now
+
+-- what a refusal of a text ends with
+abbrev pub RefusalEnds : Refusal → Ending → Type 0
+RefusalEnds e ending = (ending ≡ NoMemory) ⊎ ((ending ≡ ScriptRefused e) × (e.kind ≢ OutOfMemory))

@@ -3,7 +3,11 @@
 //! `run` is the top call, and its clauses say what each status means.
 #![tactic(auto)]
 
+mod decide;
+mod judge;
 mod program;
 mod statements;
+mod top;
 
 pub use mob_ending::{Ending, tell};
+pub use top::run;

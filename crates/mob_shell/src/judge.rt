@@ -1,0 +1,40 @@
+// A text, judged and run.
+ghost use Rattle.std.specs.Prelude.{◌≡◌, ◌⊎◌, ◌≤◌};
+ghost use Rattle.mob_shell.specs.Parts.{RefusalEnds, RefusesText, RunsText};
+
+use crate::program::run_typed;
+use mob_accept::accept;
+use mob_ast::{Kind, Refusal};
+use mob_ending::Ending;
+use mob_outside::{Files, Sink};
+use mob_scalar::Epoch;
+use std::alloc::Global;
+
+// The ending of a text that is refused.
+fn refused(refusal: Refusal) -> Ending
+    ensures ends { RefusalEnds refusal result }
+{
+    match refusal.kind {
+        Kind::NoMemory => Ending::NoMemory,
+        _ => Ending::ScriptRefused { refusal },
+    }
+}
+
+// Judges a text, and runs it where it is a script.
+pub fn run_text<F: Files, K: Sink>(
+    alloc: Global,
+    bytes: &[u8],
+    epoch: Epoch,
+    files: &mut F,
+    out: &mut K,
+) -> Ending
+    ensures ends { RunsText epoch bytes.now (F.files files.old) (F.asked files.old) (F.asked files.new) (F.faults files.old) (F.faults files.new) (K.held out.old) (K.held out.new) (K.faults out.old) (K.faults out.new) result
+        ⊎ RefusesText bytes.now (F.asked files.old) (F.asked files.new) (K.held out.old) (K.held out.new) result }
+    ensures filed_later { F.faults files.old ≤ F.faults files.new }
+    ensures put_later { K.faults out.old ≤ K.faults out.new }
+{
+    match accept(alloc, bytes) {
+        Ok(typed) => run_typed(alloc, &typed, epoch, files, out),
+        Err(refusal) => refused(refusal),
+    }
+}
