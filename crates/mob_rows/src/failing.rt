@@ -14,7 +14,7 @@ fn a_script_that_cannot_be_read(rt: HostRuntime) -> Result<(), Fail> {
     for k in 1..9u64 {
         let mut failing = Failing::none(alloc);
         failing.script.push(k)?;
-        let seen = run_once(&rt, alloc, &[], SCRIPT, failing)?;
+        let seen = run_once(&rt, alloc, &[], SCRIPT, &[], failing)?;
         if k <= 6 {
             assert_eq!(rt; seen.status, 3, "call {k}");
             assert_eq!(rt; seen.out.as_slice(), b"".as_slice(), "call {k}");
@@ -38,7 +38,7 @@ fn answers_that_cannot_be_written(rt: HostRuntime) -> Result<(), Fail> {
     for k in 1..9u64 {
         let mut failing = Failing::none(alloc);
         failing.out.push(k)?;
-        let seen = run_once(&rt, alloc, &[], SCRIPT, failing)?;
+        let seen = run_once(&rt, alloc, &[], SCRIPT, &[], failing)?;
         if k <= 6 {
             let taken = (k as usize - 1) * STEP;
             assert_eq!(rt; seen.status, 4, "call {k}");

@@ -9,3 +9,5 @@ mod refusals;
 mod runs;
 #[cfg(test)]
 mod scripts;
+#[cfg(test)]
+mod tables;

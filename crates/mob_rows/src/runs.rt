@@ -8,10 +8,11 @@ use std::thread::Threads;
 /// How many bytes a call of an end in memory moves at most.
 pub const STEP: usize = 7;
 
-/// The numbers of the calls that fail: those of the script, of `out` and of the notes.
+/// The numbers of the calls that fail: those of the script, of the files, of `out` and of the notes.
 #[derive(Drop)]
 pub struct Failing {
     pub script: Vec<u64>,
+    pub files: Vec<u64>,
     pub out: Vec<u64>,
     pub notes: Vec<u64>,
 }
@@ -21,6 +22,7 @@ impl Failing {
     pub fn none(alloc: Global) -> Failing {
         Failing {
             script: Vec::new(alloc),
+            files: Vec::new(alloc),
             out: Vec::new(alloc),
             notes: Vec::new(alloc),
         }
@@ -35,12 +37,13 @@ pub struct Report {
     pub notes: Vec<u8>,
 }
 
-/// One run with these words and this script.
+/// One run with these words and this script, and with these files: each its name and its bytes.
 pub fn run_once(
     rt: &(impl Threads + Sync),
     alloc: Global,
     words: &[&str],
     script: &[u8],
+    named: &[(&str, &[u8])],
     failing: Failing,
 ) -> Result<Report, AllocError> {
     let mut list = Vec::new(alloc);
@@ -48,7 +51,11 @@ pub fn run_once(
         list.push(String::from_str(alloc, word)?)?;
     }
     let mut source = MemSource::new(script.to_vec(alloc)?, failing.script, STEP);
-    let mut files = MemFiles::new(alloc, Vec::new(alloc), Vec::new(alloc), STEP);
+    let mut contents = Vec::new(alloc);
+    for (name, bytes) in named {
+        contents.push((String::from_str(alloc, name)?, bytes.to_vec(alloc)?))?;
+    }
+    let mut files = MemFiles::new(alloc, contents, failing.files, STEP);
     let mut out = MemSink::new(alloc, failing.out, STEP);
     let mut notes = MemSink::new(alloc, failing.notes, STEP);
     let status = run(

@@ -142,16 +142,22 @@ module _ (s : Seen) (bytes : List ℕ) (reads : ReadsTo script_limit s.script s.
           }) h.loads);
       whole = h.left.put;
     }
-    loaded_causes (TableRefused name kind rec field) h = (record {
-      ended = reads.whole short;
-      cause = told (λ b m. IsHalted s.words b m (table_refused name kind rec field)) (some_map (λ m. LoadsScript day m out (Err (table_refused name kind rec field))) (λ m. IsHalted s.words bytes m (table_refused name kind rec field))
-          (λ m l. record { day = day; out = out; script = script; loads = l }) s.files h.0);
-    }, h.1)
-    loaded_causes (ScriptRefused e) h = (record {
-      read = read-through s bytes reads;
-      cause = on-script (λ b. IsTextRefused b e ⊎ IfSome s.files (λ m. IsHalted s.words b m (refused e))) s.script s.rest bytes reads short
-          (inr (some_map (λ m. LoadsScript day m out (Err (refused e))) (λ m. IsHalted s.words bytes m (refused e)) (λ m l. record { day = day; out = out; script = script; loads = l }) s.files h.0));
-    }, h.1)
+    loaded_causes (TableRefused name kind rec field) h = (
+      record {
+        ended = reads.whole short;
+        cause = told (λ b m. IsHalted s.words b m (table_refused name kind rec field)) (some_map (λ m. LoadsScript day m out (Err (table_refused name kind rec field))) (λ m. IsHalted s.words bytes m (table_refused name kind rec field))
+            (λ m l. record { day = day; out = out; script = script; loads = l }) s.files h.0);
+      },
+      h.1,
+    )
+    loaded_causes (ScriptRefused e) h = (
+      record {
+        read = read-through s bytes reads;
+        cause = on-script (λ b. IsTextRefused b e ⊎ IfSome s.files (λ m. IsHalted s.words b m (refused e))) s.script s.rest bytes reads short
+            (inr (some_map (λ m. LoadsScript day m out (Err (refused e))) (λ m. IsHalted s.words bytes m (refused e)) (λ m l. record { day = day; out = out; script = script; loads = l }) s.files h.0));
+      },
+      h.1,
+    )
     loaded_causes (ReadFault (Some name)) h = h
     loaded_causes (ReadFault None) h = absurd h
     loaded_causes Usage h = absurd h

@@ -30,12 +30,14 @@ pub fn run_typed<F: Files, K: Sink>(
     match load(alloc, typed, files, &epoch) {
         Ok(program) => run_statements(alloc, typed, program, epoch, out),
         Err(LoadEnd::Refused(refusal)) => Ending::ScriptRefused { refusal },
-        Err(LoadEnd::TableRefused {
-            file,
-            kind,
-            rec,
-            field,
-        }) => Ending::TableRefused {
+        Err(
+            LoadEnd::TableRefused {
+                file,
+                kind,
+                rec,
+                field,
+            },
+        ) => Ending::TableRefused {
             file,
             kind,
             rec,

@@ -30,7 +30,7 @@ fn main(rt: HostRuntime) -> ExitCode {
             &OpenGate,
         ),
         Err(ending) => {
-            tell(&mut notes, ending);
+            tell(&mut notes, &ending);
             ending.status()
         }
     };
