@@ -55,16 +55,16 @@ fn answers_that_cannot_be_written(rt: HostRuntime) -> Result<(), Fail> {
     Ok(())
 }
 
-// The note of a refusal is put in nine pieces of 10, 1, 7, 1, 10, 1, 2, 8 and 2 bytes, so in 12 calls.
+// The note of a refusal is put in nine pieces of 10, 1, 7, 1, 10, 1, 2, 11 and 2 bytes, so in 12 calls.
 #[test]
 fn notes_that_cannot_be_written(rt: HostRuntime) -> Result<(), Fail> {
     let alloc = rt.alloc();
-    let whole = b"statement 1, byte 0: refusal 0 (NotBuilt)\n";
-    let taken = [0, 7, 10, 11, 18, 19, 26, 29, 30, 32, 39, 40, 42, 42];
+    let whole = b"statement 1, byte 7: refusal 6 (UnknownName)\n";
+    let taken = [0, 7, 10, 11, 18, 19, 26, 29, 30, 32, 39, 43, 45, 45];
     for (call, length) in taken.iter().enumerate() {
         let mut failing = Failing::none(alloc);
         failing.notes.push(call as u64 + 1)?;
-        let seen = run_once(&rt, alloc, &[], b"SELECT 1;", failing)?;
+        let seen = run_once(&rt, alloc, &[], b"SELECT b;", &[], failing)?;
         assert_eq!(rt; seen.status, 7, "call {call}");
         assert_eq!(rt; seen.notes.len(), *length, "call {call}");
         assert!(rt; whole.starts_with(&seen.notes), "call {call}");
