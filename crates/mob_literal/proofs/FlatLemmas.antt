@@ -14,9 +14,8 @@ use Rattle.mob_normal.proofs.Regions.{is_left, left_has, left_clear, in_left}
 use Rattle.mob_normal.proofs.Runs.{or_else, value_at-append}
 use Rattle.mob_literal.specs.declared.written.Written.{Written}
 use Rattle.mob_literal.specs.declared.written.Sequence.{Sequence}
-use Rattle.mob_literal.specs.Steps.{rises, StepAt}
+use Rattle.mob_literal.specs.Steps.{rises, StepAt, step_value}
 use Rattle.mob_literal.specs.Slices.{slices_of, made, stretch, point}
-use Rattle.mob_literal.specs.Means.{step_value}
 use Rattle.mob_literal.specs.Sound.{ends_level, is_closed_alone, is_sound_sequence, clear_ends, is_before, are_in_order, is_sound, LitAt}
 use Rattle.mob_literal.specs.Flat.{made_sequence, made_all}
 use Rattle.mob_literal.proofs.Listing.{first_in, later_in, none_in, which_in}
@@ -268,17 +267,3 @@ is_flat has_value is_same qs h =
 
 abbrev pub with_made : {B : Type 0} → List (Slice (Steady B)) → Option (List (Slice (Steady B))) → Option (List (Slice (Steady B)))
 with_made front rest = option_map (λ slices. front ++ slices) rest
-
-pub all_more : {B : Type 0} (has_value : B → Bool) (is_same : B → B → Bool) (front pushed slices : List (Slice (Steady B))) (q : Sequence (Written B)) (qs : List (Sequence (Written B))) (total : Option (List (Slice (Steady B)))) → made_sequence has_value is_same q ≡ Some slices → pushed ≡ front ++ slices → with_made front (made_all has_value is_same (q ∷ qs)) ≡ total → with_made pushed (made_all has_value is_same qs) ≡ total
-all_more {B} has_value is_same front pushed slices q qs total h e k =
-    let step : with_made front (made_all has_value is_same (q ∷ qs)) ≡ with_made pushed (made_all has_value is_same qs) = rw (h, e) (regroup (made_all has_value is_same qs)) in
-    sym step ∙ k
-  where
-    regroup : (o : Option (List (Slice (Steady B)))) → with_made front (o >>= λ rest. Some (slices ++ rest)) ≡ with_made (front ++ slices) o
-    regroup None = refl
-    regroup (Some rest) = ap (λ (z : List (Slice (Steady B))). Some z) (sym (append_assoc front slices rest))
-
-pub all_fails : {B : Type 0} (has_value : B → Bool) (is_same : B → B → Bool) (front : List (Slice (Steady B))) (q : Sequence (Written B)) (qs : List (Sequence (Written B))) (total : Option (List (Slice (Steady B)))) → made_sequence has_value is_same q ≡ None → with_made front (made_all has_value is_same (q ∷ qs)) ≡ total → ◌≡◌ {A = Option (List (Slice (Steady B)))} None total
-all_fails {B} has_value is_same front q qs total h k =
-    let step : with_made front (made_all has_value is_same (q ∷ qs)) ≡ None = rw h refl in
-    sym step ∙ k

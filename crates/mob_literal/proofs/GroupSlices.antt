@@ -12,9 +12,8 @@ use Rattle.mob_slice.specs.Slices.{value_at}
 use Rattle.mob_normal.proofs.Runs.{or_else, value_at-append}
 use Rattle.mob_literal.specs.declared.written.Written.{Written}
 use Rattle.mob_literal.specs.declared.written.Sequence.{Sequence}
-use Rattle.mob_literal.specs.Steps.{rises}
+use Rattle.mob_literal.specs.Steps.{rises, step_value}
 use Rattle.mob_literal.specs.Slices.{slices_of, stretch}
-use Rattle.mob_literal.specs.Means.{step_value}
 use Rattle.mob_literal.specs.Sound.{ends_level, is_closed_alone, is_sound_sequence, clear_ends, is_before, are_in_order, is_sound}
 use Rattle.mob_literal.specs.Printed.{is_long, goes_on, groups_of, put_first}
 use Rattle.mob_literal.proofs.FlatLemmas.{flat, Ordered, ordered_rest}

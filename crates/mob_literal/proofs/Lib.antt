@@ -4,13 +4,9 @@ pub mod LiteralExact
 pub mod Listing
 pub mod Made
 pub mod OneReading
-pub mod OneValue
 pub mod Parted
-pub mod ReadSequences
 pub mod ReadSteps
 pub mod Rows
-pub mod SequenceExact
-pub mod Standard
 pub mod Small
 pub mod StepLemmas
 pub mod Traversed

@@ -12,9 +12,6 @@ use Rattle.mob_scalar.proofs.Closing.{Ends, sign_closes}
 use Rattle.mob_literal.specs.Literal.{at_sign, comma, noted_of, noted, is_open, is_close, opening, closing, sequence_of, sequence, alone, members, braced, one_sequence, one_instant, literal, temporal, at_sign_at, comma_at, noted_at, opening_at, closing_at, instants_at, sequence_at, sequences_at, members_at, open_brace_at, close_brace_at, braced_at, literal_at, temporal_at}
 use Rattle.mob_literal.specs.ValueText.{IsValueText, is_mark}
 
-open_blank : Apart is_open is_blank
-open_blank c e = search rules
-
 close_blank : Apart is_close is_blank
 close_blank c e = search rules
 

@@ -70,9 +70,3 @@ pub made_ends : {B : Type 0} (is_same : B → B → Bool) (slices pushed : List 
 made_ends {B} is_same slices pushed level included upper last rest total h none u k e =
     let ends : with_slices slices (made is_same level included (last ∷ rest) upper) ≡ Some (slices ++ point included last ∷ []) = rw (none, u, k) refl in
     ap (λ (x : List (Slice (Steady B))). Some x) e ∙ sym ends ∙ h
-
--- no further slice: the upper end is left out
-pub made_stops : {B : Type 0} (is_same : B → B → Bool) (slices : List (Slice (Steady B))) (level included upper : Bool) (last : Written B) (rest : List (Written B)) (total : Option (List (Slice (Steady B)))) → with_slices slices (made is_same level included (last ∷ rest) upper) ≡ total → rest ≡ [] → upper ≡ false → level ≡ true → Some slices ≡ total
-made_stops {B} is_same slices level included upper last rest total h none u k =
-    let ends : with_slices slices (made is_same level included (last ∷ rest) upper) ≡ Some (slices ++ []) = rw (none, u, k) refl in
-    ap (λ (x : List (Slice (Steady B))). Some x) (sym (append-nil slices)) ∙ sym ends ∙ h

@@ -13,7 +13,7 @@ use Rattle.mob_slice.specs.SteadyLaws.{steady_laws}
 use Rattle.mob_literal.specs.declared.written.Written.{Written}
 use Rattle.mob_literal.specs.declared.written.Sequence.{Sequence}
 use Rattle.mob_literal.specs.ValueText.{IsValueText}
-use Rattle.mob_literal.specs.Means.{step_value}
+use Rattle.mob_literal.specs.Steps.{step_value}
 use Rattle.mob_literal.specs.Sound.{fitting_all, Defines, steps}
 use Rattle.mob_literal.proofs.LiteralExact.{noted_entry, temporal_exact}
 

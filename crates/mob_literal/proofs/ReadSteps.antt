@@ -16,9 +16,8 @@ use Rattle.mob_literal.specs.declared.written.Noted.{Noted}
 use Rattle.mob_literal.specs.declared.written.Sequence.{Sequence}
 use Rattle.mob_literal.specs.Literal.{comma, noted, sequence, alone, members, literal, temporal, noted_at, temporal_at}
 use Rattle.mob_literal.specs.ValueText.{IsValueText}
-use Rattle.mob_literal.specs.Steps.{rises}
+use Rattle.mob_literal.specs.Steps.{rises, step_value}
 use Rattle.mob_literal.specs.Slices.{slices_of}
-use Rattle.mob_literal.specs.Means.{step_value}
 use Rattle.mob_literal.specs.Sound.{is_long, traverse, written_of, fitting_sequence, fitting_all, is_closed_alone, is_sound_sequence, ends_level, are_in_order, is_sound, Defines, steps}
 use Rattle.mob_literal.specs.Flat.{made_all}
 use Rattle.mob_literal.proofs.LiteralExact.{noted_entry, temporal_exact}

@@ -7,9 +7,8 @@ use Rattle.mob_ratio.proofs.Order.{before-self, before-back, before-trans, befor
 use Rattle.mob_span.specs.Span.{has}
 use Rattle.mob_slice.specs.Slices.{value_at}
 use Rattle.mob_literal.specs.declared.written.Written.{Written}
-use Rattle.mob_literal.specs.Steps.{StepAt, reaches, rises}
+use Rattle.mob_literal.specs.Steps.{StepAt, reaches, rises, step_value}
 use Rattle.mob_literal.specs.Slices.{slices_of, stretch, point}
-use Rattle.mob_literal.specs.Means.{step_value}
 use Rattle.mob_literal.proofs.Listing.{first_in, later_in, none_in, which_in}
 use Rattle.mob_literal.proofs.Small.{both, and}
 
@@ -18,9 +17,6 @@ upto_self a = grind (arith, before-self a)
 
 before_upto : (a b c : Ratio) → before a b ≡ true → upto b c ≡ true → before a c ≡ true
 before_upto a b c h k = grind (arith, h, k, before-trans a b c, before-neither b c, before-trans a c b)
-
-upto_before : (a b c : Ratio) → upto a b ≡ true → before b c ≡ true → before a c ≡ true
-upto_before a b c h k = grind (arith, h, k, before-trans a b c, before-neither a b, before-trans b a c)
 
 upto_trans : (a b c : Ratio) → upto a b ≡ true → upto b c ≡ true → upto a c ≡ true
 upto_trans a b c h k = grind (arith, h, k, before-trans c a b, before-neither b c, before-back b c, before-neither a b)

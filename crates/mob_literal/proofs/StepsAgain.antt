@@ -21,7 +21,7 @@ use Rattle.mob_scalar.proofs.MomentAgain.{moment_plain}
 use Rattle.mob_literal.specs.declared.written.Written.{Written}
 use Rattle.mob_literal.specs.declared.written.Sequence.{Sequence}
 use Rattle.mob_literal.specs.Fitting.{fits, fitting}
-use Rattle.mob_literal.specs.Means.{step_value}
+use Rattle.mob_literal.specs.Steps.{step_value}
 use Rattle.mob_literal.specs.Sound.{count_of, traverse, written_of, fitting_sequence, fitting_all, is_sound, Defines, steps}
 use Rattle.mob_literal.specs.Printed.{is_long, groups_of, instants_of, steps_text}
 use Rattle.mob_literal.specs.Style.{style_of}

@@ -7,13 +7,6 @@ use Rattle.mob_literal.specs.Sound.{traverse}
 abbrev pub with_list : {C : Type 0} → List C → Option (List C) → Option (List C)
 with_list front rest = option_map (λ ys. front ++ ys) rest
 
-pub traverse_begins : {C : Type 0} (made : List C) (o : Option (List C)) → made ≡ [] → with_list made o ≡ o
-traverse_begins {C} made o e = rw e (same o)
-  where
-    same : (o : Option (List C)) → with_list [] o ≡ o
-    same None = refl
-    same (Some x) = refl
-
 pub traverse_more : {A C : Type 0} (f : A → Option C) (front pushed : List C) (x : A) (y : C) (xs : List A) (total : Option (List C)) → f x ≡ Some y → pushed ≡ front ++ y ∷ [] → with_list front (traverse f (x ∷ xs)) ≡ total → with_list pushed (traverse f xs) ≡ total
 traverse_more {A} {C} f front pushed x y xs total h e k =
     let step : with_list front (traverse f (x ∷ xs)) ≡ with_list pushed (traverse f xs) = rw (h, e) (regroup (traverse f xs)) in
@@ -22,13 +15,3 @@ traverse_more {A} {C} f front pushed x y xs total h e k =
     regroup : (o : Option (List C)) → with_list front (o >>= λ ys. Some (y ∷ ys)) ≡ with_list (front ++ y ∷ []) o
     regroup None = refl
     regroup (Some ys) = ap (λ (z : List C). Some z) (sym (append_assoc front (y ∷ []) ys))
-
-pub traverse_fails : {A C : Type 0} (f : A → Option C) (front : List C) (x : A) (xs : List A) (total : Option (List C)) → f x ≡ None → with_list front (traverse f (x ∷ xs)) ≡ total → ◌≡◌ {A = Option (List C)} None total
-traverse_fails {A} {C} f front x xs total h k =
-    let step : with_list front (traverse f (x ∷ xs)) ≡ None = rw h refl in
-    sym step ∙ k
-
-pub traverse_ends : {A C : Type 0} (f : A → Option C) (front : List C) (xs : List A) (total : Option (List C)) → xs ≡ [] → with_list front (traverse f xs) ≡ total → Some front ≡ total
-traverse_ends {A} {C} f front xs total e k =
-    let step : with_list front (traverse f xs) ≡ Some (front ++ []) = rw e refl in
-    ap (λ (z : List C). Some z) (sym (append-nil front)) ∙ sym step ∙ k

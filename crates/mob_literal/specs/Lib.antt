@@ -3,11 +3,9 @@ pub mod Fitting
 pub mod Literal
 pub mod ValueText
 pub mod Values
-pub mod Sequence
 pub mod Slices
 pub mod Sound
 pub mod Flat
-pub mod Means
 pub mod Printed
 pub mod Runs
 pub mod Style

@@ -12,8 +12,7 @@ use Rattle.mob_scalar.specs.Verdict.{Form}
 use Rattle.mob_literal.specs.declared.written.Written.{Written}
 use Rattle.mob_literal.specs.declared.written.Noted.{Noted}
 use Rattle.mob_literal.specs.declared.written.Sequence.{Sequence}
-use Rattle.mob_literal.specs.Steps.{StepAt, rises}
-use Rattle.mob_literal.specs.Means.{step_value}
+use Rattle.mob_literal.specs.Steps.{StepAt, rises, step_value}
 use Rattle.mob_literal.specs.Literal.{noted, temporal}
 
 -- how many instants the sequences have

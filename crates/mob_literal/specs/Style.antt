@@ -11,7 +11,3 @@ use Rattle.mob_literal.specs.Printed.{Style, steps_text}
 -- values by their own text, and moments counted from the epoch's day
 abbrev pub style_of : {B : Type 0} → (B → Text) → ℤ → Style B
 style_of text day = record { value_text = text; moment_text = moment_text day }
-
--- the printed text of a tint, with its instants counted from a day
-abbrev pub tint_text : ℤ → List (Slice (Steady Ratio)) → Text
-tint_text day slices = steps_text (style_of number_text day) slices

@@ -4,16 +4,13 @@ ghost use Rattle.std.specs.Prelude.{◌≡◌, ◌≢◌, List, Bool, ℕ, ℤ, 
 ghost use Rattle.mob_language.specs.Language.{Text};
 ghost use Rattle.mob_ast.specs.declared.types.SqlType.{SqlType};
 ghost use Rattle.mob_literal.specs.Fields.{is_null_field, text_of_field, field_text};
-ghost use Rattle.mob_literal.specs.Means.{Means};
 ghost use Rattle.mob_literal.specs.Printed.{steps_text};
 ghost use Rattle.mob_literal.specs.Readable.{AnyTruth, IsInt, IsReadable, IsText};
-ghost use Rattle.mob_literal.specs.Sequence.{IsSequence};
 ghost use Rattle.mob_literal.specs.Sound.{steps};
 ghost use Rattle.mob_literal.specs.SqlReadable.{IsReadableAs};
 ghost use Rattle.mob_literal.specs.SqlText.{SaysAs, value_text};
 ghost use Rattle.mob_literal.specs.Style.{style_of};
 ghost use Rattle.mob_literal.specs.Values.{any_value, is_whole, number_value, quoted_value, truth_value};
-ghost use Rattle.mob_literal.specs.declared.written.Written.{Written};
 ghost use Rattle.mob_ratio.specs.Order.{same};
 ghost use Rattle.mob_ratio.specs.Ratio.{Ratio};
 ghost use Rattle.mob_scalar.specs.NumberText.{number_text};
@@ -27,13 +24,6 @@ ghost use Rattle.mob_slice.specs.declared.slice.Slice.{Slice};
 ghost use Rattle.mob_slice.specs.declared.steady.Steady.{Steady};
 ghost use Rattle.mob_value.specs.declared.value.Value.{Value};
 ghost use Rattle.mob_value.specs.declared.value.Value.TheVariants.{Null};
-
-/// A text is a sequence of one list of instants, and these define one value.
-pub fn one_value()
-    ensures instants { (text : Text) (v w : List (Written Ratio)) → IsSequence text v → IsSequence text w → v ≡ w }
-    ensures value { (instants : List (Written Ratio)) (v w : List (Slice (Steady Ratio)))
-        → Means same true instants true v → Means same true instants true w → v ≡ w }
-{}
 
 /// A literal of a step type has one reading, and so has the text of a value of each type.
 pub fn one_reading()

@@ -5,8 +5,6 @@ mod fields;
 pub mod laws;
 mod literal;
 pub mod printing;
-pub mod reading;
-mod sequence;
 mod sql;
 mod steps;
 pub mod temporal;
