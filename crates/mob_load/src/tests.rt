@@ -12,7 +12,7 @@ use std::test::Fail;
 
 // What came of a script.
 #[derive(Clone, Copy, Debug, PartialEq, Eq)]
-enum Seen {
+enum Found {
     Loaded { values: usize, rows: usize },
     Refused(Refusal),
     TableRefused { kind: Kind, rec: u32, field: u32 },
@@ -20,16 +20,16 @@ enum Seen {
     NoMemory,
 }
 
-fn seen(end: Result<Program, LoadEnd>) -> Seen {
+fn seen(end: Result<Program, LoadEnd>) -> Found {
     match end {
-        Ok(program) => Seen::Loaded {
+        Ok(program) => Found::Loaded {
             values: program.values.len(),
             rows: match program.files.as_slice().first() {
                 Some(rows) => rows.len(),
                 None => 0,
             },
         },
-        Err(LoadEnd::Refused(refusal)) => Seen::Refused(refusal),
+        Err(LoadEnd::Refused(refusal)) => Found::Refused(refusal),
         Err(
             LoadEnd::TableRefused {
                 kind,
@@ -37,9 +37,9 @@ fn seen(end: Result<Program, LoadEnd>) -> Seen {
                 field,
                 ..
             },
-        ) => Seen::TableRefused { kind, rec, field },
-        Err(LoadEnd::ReadFault { .. }) => Seen::ReadFault,
-        Err(LoadEnd::NoMemory) => Seen::NoMemory,
+        ) => Found::TableRefused { kind, rec, field },
+        Err(LoadEnd::ReadFault { .. }) => Found::ReadFault,
+        Err(LoadEnd::NoMemory) => Found::NoMemory,
     }
 }
 
@@ -107,14 +107,14 @@ fn outcome(
     second: Statement,
     third: Statement,
     files: &mut MemFiles,
-) -> Result<Seen, Fail> {
+) -> Result<Found, Fail> {
     let mut statements = Items::new(alloc);
     statements.push(create(alloc)?)?;
     statements.push(second)?;
     statements.push(third)?;
     match type_script(alloc, Script { statements }) {
         Ok(typed) => Ok(seen(load(alloc, &typed, files, &Epoch::standard()))),
-        Err(refusal) => Ok(Seen::Refused(refusal)),
+        Err(refusal) => Ok(Found::Refused(refusal)),
     }
 }
 
@@ -128,7 +128,7 @@ fn values_and_files_are_loaded(rt: HostRuntime) -> Result<(), Fail> {
         copy(alloc, "t.csv")?,
         &mut files,
     )?;
-    assert_eq!(rt; found, Seen::Loaded { values: 1, rows: 2 });
+    assert_eq!(rt; found, Found::Loaded { values: 1, rows: 2 });
     assert_eq!(rt; files.asked().len(), 1);
     Ok(())
 }
@@ -148,7 +148,7 @@ fn the_first_fault_in_written_order_decides(rt: HostRuntime) -> Result<(), Fail>
         statement: 2,
         place: 47,
     };
-    assert_eq!(rt; literal, Seen::Refused(refusal));
+    assert_eq!(rt; literal, Found::Refused(refusal));
     assert_eq!(rt; unasked.asked().len(), 0);
     let mut asked = files(alloc, b"name\n7\n")?;
     let header = outcome(
@@ -157,7 +157,7 @@ fn the_first_fault_in_written_order_decides(rt: HostRuntime) -> Result<(), Fail>
         insert(alloc, "x")?,
         &mut asked,
     )?;
-    let refused = Seen::TableRefused {
+    let refused = Found::TableRefused {
         kind: Kind::BadHeader,
         rec: 1,
         field: 0,
@@ -177,6 +177,6 @@ fn a_file_that_is_not_there_is_a_read_fault(rt: HostRuntime) -> Result<(), Fail>
         insert(alloc, "x")?,
         &mut files,
     )?;
-    assert_eq!(rt; found, Seen::ReadFault);
+    assert_eq!(rt; found, Found::ReadFault);
     Ok(())
 }
