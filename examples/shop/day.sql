@@ -13,8 +13,8 @@ FROM shifts s, hours h
 WHERE s.shop = h.shop
 ORDER BY clerk;
 
--- Are as many planned as are needed, and by how many is the plan above the need? One number that is taken from another
--- is a number at each instant too.
+-- Are as many planned as are needed, and by how many is the plan above the need? The difference of two numbers over time
+-- is their difference at each instant.
 SELECT shop, planned #>= needed AS enough, planned - needed AS spare
 FROM plan;
 
