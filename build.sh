@@ -1,6 +1,6 @@
 #!/bin/sh
 # Builds the program mobsql and copies it to the folder that is named, or to bin/ here. What it is built from is proved on
-# the way. Put that folder on the PATH, and `mobsql < script.sql` works in any folder.
+# the way, which may take an hour the first time. Put that folder on the PATH, and `mobsql < script.sql` works in any folder.
 set -eu
 folder=${1:-$(dirname "$0")/bin}
 mkdir -p "$folder"

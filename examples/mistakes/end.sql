@@ -1,0 +1,2 @@
+-- With ) the last two values have to be equal.
+SELECT tbool '[t@2026-05-04 07:00, f@2026-05-04 18:00)';
