@@ -17,6 +17,7 @@ use Rattle.mob_typing.specs.Names.{ColumnList}
 use Rattle.mob_typing.specs.Statements.{ScriptOut, StatementOut, rows_from, typed_script}
 use Rattle.mob_ast.specs.Trees.{StatementParts}
 use Rattle.mob_load.specs.Checks.{CheckParts, literal, table, room, file, checks_of}
+use Rattle.mob_load.specs.Fronts.{IsAskedLast}
 use Rattle.mob_load.specs.declared.loading.Loading.{Loading}
 use Rattle.mob_load.specs.declared.program.Program.{Program}
 use Rattle.mob_load.specs.declared.program.LoadEnd.{LoadEnd}
@@ -156,6 +157,11 @@ IsFaultAt c _ = Unit {0}
 abbrev pub HasFaultCause : ℕ → ℕ → LoadEnd → Type 0
 HasFaultCause before now (ReadFault name) = Rose before now
 HasFaultCause before now _ = Unit {0}
+
+-- the file that could not be read is one of these names, the last that was asked for
+abbrev pub IsMissing : List (List ℕ) → Option (List (List ℕ)) → Option (List (List ℕ)) → LoadEnd → Type 0
+IsMissing names old new (ReadFault name) = IsAskedLast names old new name
+IsMissing names old new _ = Unit {0}
 
 -- the names that a check asks for
 abbrev pub names_of : CheckParts → List (List ℕ)

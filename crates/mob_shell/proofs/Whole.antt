@@ -87,10 +87,13 @@ module _ (s : Seen) (bytes : List ℕ) (reads : ReadsTo script_limit s.script s.
     short : length bytes ≤ script_limit
     short = accepted.script.read.short
 
+    copied : IfSome s.script (λ b. AreCopied s.words b (copied_files out.statements))
+    copied = on-script (λ b. AreCopied s.words b (copied_files out.statements)) s.script s.rest bytes reads short (inr (day, out, script, refl))
+
     pub asked_in_order : AsksForSome (copied_files out.statements) s.asked_before s.asked_now → AsksInOrder s
     asked_in_order asks = record {
       names = copied_files out.statements;
-      copied = on-script (λ b. AreCopied s.words b (copied_files out.statements)) s.script s.rest bytes reads short (inr (day, out, script, refl));
+      copied = copied;
       asked = asks;
     }
 
@@ -100,7 +103,7 @@ module _ (s : Seen) (bytes : List ℕ) (reads : ReadsTo script_limit s.script s.
     program : (p : Program) (Q : Contents → Type 0) → ((m : Contents) → IsProgram s.words bytes m day out p → Q m) → IfSome s.files (λ m. LoadsScript day m out (Ok p)) → IfSome s.files Q
     program p Q f h = some_map (λ m. LoadsScript day m out (Ok p)) Q (λ m l. f m (record { script = script; loads = l })) s.files h
 
-    pub loaded_causes : (ending : Ending) → LoadEnds day out s.files s.filed_before s.filed_now s.out_before s.out_now s.put_before s.put_now ending → Causes ending s
+    pub loaded_causes : (ending : Ending) → LoadEnds day out s.files s.asked_before s.asked_now s.filed_before s.filed_now s.out_before s.out_now s.put_before s.put_now ending → Causes ending s
     loaded_causes Done h = record {
       text = h.left.text;
       ended = reads.whole short;
@@ -158,7 +161,7 @@ module _ (s : Seen) (bytes : List ℕ) (reads : ReadsTo script_limit s.script s.
       },
       h.1,
     )
-    loaded_causes (ReadFault (Some name)) h = h
+    loaded_causes (ReadFault (Some name)) h = (record { ended = reads.whole short; names = copied_files out.statements; copied = copied; last = h.0.1; rose = h.0.0 }, h.1)
     loaded_causes (ReadFault None) h = absurd h
     loaded_causes Usage h = absurd h
 

@@ -11,7 +11,7 @@ use Rattle.mob_words.specs.CommandLine.{Says}
 use Rattle.mob_accept.specs.Accepts.{IsTextRefused, script_limit}
 use Rattle.mob_typing.specs.Statements.{ScriptOut}
 use Rattle.mob_load.specs.Loads.{refused, table_refused, copied_files}
-use Rattle.mob_load.specs.Fronts.{AsksForSome}
+use Rattle.mob_load.specs.Fronts.{AsksForSome, IsAskedLast}
 use Rattle.mob_ending.specs.declared.ending.Ending.{Ending}
 use Rattle.mob_ending.specs.declared.ending.Ending.TheVariants.{Done, Usage, ReadFault, WriteFault, NoMemory, TableRefused, ScriptRefused, Overflow}
 use Rattle.mob_shell.specs.Program.{IsScript, IsHalted, WritesFirst, OutText, StopsWith}
@@ -106,10 +106,23 @@ pub record IsTableRefused (s : Seen) (name : List ℕ) (kind : Kind) (rec field 
   pub ended : IsAtEnd s.rest
   pub cause : OnTold s (λ bytes files. IsHalted s.words bytes files (table_refused name kind rec field))
 
--- the script could not be read, or a file, and the count of its faults rose
+-- these are the names of the COPY statements of the script, in order; or none, where there is no such script
+abbrev pub AreCopied : List (List ℕ) → List ℕ → List (List ℕ) → Type 0
+AreCopied words bytes names = (names ≡ []) ⊎ ((day : ℤ) × (out : ScriptOut) × IsScript words bytes day out × (names ≡ copied_files out.statements))
+
+-- A file could not be read: it is that of a COPY statement of the script, which was read to its end; it was asked for last,
+-- behind those of the COPY statements before; and the count of the files rose.
+pub record IsUnread (s : Seen) (file : List ℕ) : Type 0 where
+  pub ended : IsAtEnd s.rest
+  pub names : List (List ℕ)
+  pub copied : IfSome s.script (λ bytes. AreCopied s.words bytes names)
+  pub last : IsAskedLast names s.asked_before s.asked_now file
+  pub rose : Rose s.filed_before s.filed_now
+
+-- the script could not be read, and the count of its faults rose; or a file could not be read
 abbrev pub CouldNotRead : Option (List ℕ) → Seen → Type 0
 CouldNotRead None s = Rose s.read_before s.read_now
-CouldNotRead (Some file) s = Rose s.filed_before s.filed_now
+CouldNotRead (Some file) s = IsUnread s file
 
 -- Why a run ended so. Nothing was written but under `Done`, `WriteFault`, `NoMemory` and `Overflow`.
 abbrev pub Causes : Ending → Seen → Type 0
@@ -121,6 +134,10 @@ Causes NoMemory s = Keeps s.out_before s.out_now ⊎ WroteSome s
 Causes (TableRefused file kind rec field) s = IsTableRefused s file kind rec field × Keeps s.out_before s.out_now
 Causes (ScriptRefused refusal) s = IsRefused s refusal × Keeps s.out_before s.out_now
 Causes (Overflow number rows place formula) s = StopsAt s number rows place formula
+
+-- the script could not be read, or some file
+abbrev pub IsReadFault : Seen → Type 0
+IsReadFault s = Rose s.read_before s.read_now ⊎ ((file : List ℕ) × IsUnread s file)
 
 -- a table file is refused, at some record and field
 abbrev pub IsTableFault : Seen → Type 0
@@ -137,10 +154,6 @@ IsOverflow s = (number : ℕ) × (rows : List ℕ) × (place : ℕ) × (formula 
 -- the script or a table file is refused, or a part of a formula does not fit
 abbrev pub IsFaulty : Seen → Type 0
 IsFaulty s = IsTableFault s ⊎ (IsScriptRefused s ⊎ IsOverflow s)
-
--- these are the names of the COPY statements of the script, in order; or none, where there is no such script
-abbrev pub AreCopied : List (List ℕ) → List ℕ → List (List ℕ) → Type 0
-AreCopied words bytes names = (names ≡ []) ⊎ ((day : ℤ) × (out : ScriptOut) × IsScript words bytes day out × (names ≡ copied_files out.statements))
 
 -- the files were asked for the first of these names, in order
 pub record AsksInOrder (s : Seen) : Type 0 where

@@ -5,7 +5,7 @@ ghost use Rattle.mob_outside.specs.Faults.{Rose};
 ghost use Rattle.mob_outside.specs.Told.{KeepsFiles};
 ghost use Rattle.mob_ending.specs.Lines.{line_of, status_of};
 ghost use Rattle.mob_ending.specs.declared.ending.Ending.{Ending};
-ghost use Rattle.mob_shell.specs.Ending.{AsksInOrder, Causes, CutsShort, IsFaulty, IsOverflow, IsScriptRefused, IsTableFault, IsUsage, Seen, Writes, seen};
+ghost use Rattle.mob_shell.specs.Ending.{AsksInOrder, Causes, CutsShort, IsFaulty, IsOverflow, IsReadFault, IsScriptRefused, IsTableFault, IsUsage, Seen, Writes, seen};
 ghost use Rattle.mob_streams.specs.Streams.{Puts, ReadsPart};
 ghost use Rattle.mob_accept.specs.Accepts.{script_limit};
 
@@ -45,8 +45,8 @@ pub fn run<R: Threads + Sync, S: Source, F: Files, K: Sink, E: Sink, G: Gate>(
     ensures usage { result ≡ 2 → IsUsage (map string_bytes words.now) }
     ensures exactly_usage { IsUsage (map string_bytes words.now) → (result ≡ 2) ⊎ (result ≡ 5) }
 
-    // 3: only where the count of the script or of the files rose.
-    ensures read_fault { result ≡ 3 → Rose (S.faults script.old) (S.faults script.new) ⊎ Rose (F.faults files.old) (F.faults files.new) }
+    // 3: only where the count of the script rose; or that of the files, which were asked last for the file of a COPY statement.
+    ensures read_fault { result ≡ 3 → IsReadFault (seen S.left S.faults F.files F.asked F.faults K.held K.faults (map string_bytes words.now) script.old script.new files.old files.new out.old out.new) }
 
     // 4: only where the count of `out` rose, which took a proper prefix of the answers of some statements.
     ensures write_fault { result ≡ 4 → CutsShort (seen S.left S.faults F.files F.asked F.faults K.held K.faults (map string_bytes words.now) script.old script.new files.old files.new out.old out.new) }
