@@ -5,6 +5,7 @@ mod catalog;
 mod consts;
 mod fault;
 mod header;
+pub mod laws;
 mod records;
 mod row;
 mod table_file;

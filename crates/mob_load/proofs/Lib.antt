@@ -4,3 +4,4 @@ pub mod Fronts
 pub mod Narrow
 pub mod Steps
 pub mod Values
+pub mod OneLoading

@@ -1,3 +1,4 @@
 pub mod Checks
 pub mod Fronts
 pub mod Loads
+pub mod Outcomes
