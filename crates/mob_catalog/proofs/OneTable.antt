@@ -2,6 +2,7 @@
 use Rattle.std.proofs.Common.{arith, ◌≡◌, ◌≢◌, ◌∙◌, inl, inr, refl, sym, ap, ap₂, subst, ℕ, ℤ, ◌+◌, ◌<◌, ◌≤◌, List, [], ◌∷◌, Bool, true, false, None, Ok, Err, length, drop}
 use Rattle.std.specs.Prelude.{Result}
 use Rattle.std.specs.List.{AllZip, zip}
+use Rattle.std.proofs.lemmas.Option.{same_Some}
 use Rattle.std.proofs.lemmas.Slice.Zip.{AllZip-long}
 use Rattle.csv.specs.Machine.{Read, next_record}
 use Rattle.csv.specs.Reading.{Reached, default_config, strip_bom}
@@ -30,22 +31,18 @@ one_field type day field a b n m h k = by_null (is_null_field type field) refl
     by_null false e = one_sql_reading type day (text_of_field type field) a b n m (h.text e) (k.text e)
 
 -- the refusal of a text by a fault is one, and want of memory is none
-one_kind : (fault : ReadText) (k l : Kind) → Refuses fault k → Refuses fault l → k ≡ l
-one_kind NotText k l a b = a ∙ sym b
-one_kind Limit k l a b = a ∙ sym b
-one_kind TooLarge k l a b = a ∙ sym b
-one_kind Unsound k l a b = a ∙ sym b
-one_kind NoMemory k l a b = absurd a
+pub one_kind : (fault : ReadText) (k l : Kind) → Refuses fault k → Refuses fault l → k ≡ l
+one_kind fault k l a b = same_Some k l (sym a ∙ b)
 
-value_known : (v : Value) → ◌≡◌ {A = Result Value ReadText} (Ok v) (Err NoMemory) → ⊥
+pub value_known : (v : Value) → ◌≡◌ {A = Result Value ReadText} (Ok v) (Err NoMemory) → ⊥
 value_known v e = absurd cc
 
-fault_known : (fault : ReadText) (k : Kind) → Refuses fault k → ◌≡◌ {A = Result Value ReadText} (Err fault) (Err NoMemory) → ⊥
+pub fault_known : (fault : ReadText) (k : Kind) → Refuses fault k → ◌≡◌ {A = Result Value ReadText} (Err fault) (Err NoMemory) → ⊥
 fault_known NotText k h e = absurd cc
 fault_known Limit k h e = absurd cc
 fault_known TooLarge k h e = absurd cc
 fault_known Unsound k h e = absurd cc
-fault_known NoMemory k h e = h
+fault_known NoMemory k h e = absurd cc
 
 module _ (day : ℤ) where
   field_value : (at : Column × Field) (v w : Value) → IsValue day at v → IsValue day at w → v ≡ w

@@ -12,8 +12,8 @@ mod table_file;
 
 pub use catalog::Catalog;
 pub use consts::constants;
-pub use fault::LoadFault;
-pub use table_file::read_table;
+pub use fault::{LoadFault, refusal_kind};
+pub use table_file::{FILE_LIMIT, read_table};
 
 #[cfg(test)]
 mod tests;

@@ -1,14 +1,11 @@
 -- Loading has one outcome.
-use Rattle.std.proofs.Common.{◌≡◌, ◌≢◌, ◌∙◌, sym, ap, subst, ℕ, ℤ, ◌-◌, List, [], ◌∷◌, Option, Some, None, Ok, Err}
+use Rattle.std.proofs.Common.{◌≡◌, ◌∙◌, sym, ap, subst, ℕ, ℤ, ◌-◌, List, [], ◌∷◌, Option, Some, None, Ok, Err}
 use Rattle.std.specs.Prelude.{Result}
-use Rattle.mob_scalar.specs.declared.fault.ReadText.{ReadText}
-use Rattle.mob_scalar.specs.declared.fault.ReadText.TheVariants.{NoMemory}
-use Rattle.mob_value.specs.declared.value.Value.{Value}
-use Rattle.mob_literal.specs.SqlText.{SaysAs}
 use Rattle.mob_literal.proofs.SqlReading.{one_sql_reading}
 use Rattle.mob_outside.specs.Told.{Contents, file_of}
 use Rattle.mob_catalog.specs.Outcomes.{HasOneFault, HasOneTable, IsReadOrRefused}
-use Rattle.mob_catalog.specs.Faults.{Wrong}
+use Rattle.mob_catalog.specs.Faults.{Refuses, Wrong}
+use Rattle.mob_catalog.proofs.OneTable.{fault_known, one_kind, value_known}
 use Rattle.mob_typing.specs.declared.typed.ConstText.{ConstText}
 use Rattle.mob_typing.specs.Statements.{ScriptOut}
 use Rattle.mob_load.specs.Checks.{CheckParts, literal, table, room, file, checks_of}
@@ -16,23 +13,18 @@ use Rattle.mob_load.specs.Loads.{Goes, Halt, Loaded, Loads, LoadsScript, Passes,
 use Rattle.mob_load.specs.Outcomes.{HasOneLoading, HasOneProgram}
 use Rattle.mob_load.specs.declared.program.Program.{Program}
 
-value_known : (v : Value) → ◌≡◌ {A = Result Value ReadText} (Ok v) (Err NoMemory) → ⊥
-value_known v e = absurd cc
-
-fault_known : (f : ReadText) → f ≢ NoMemory → ◌≡◌ {A = Result Value ReadText} (Err f) (Err NoMemory) → ⊥
-fault_known f other e = let same : f ≡ NoMemory = cc in other same
-
 one_read : (day : ℤ) (c : ConstText) (l : Loaded) (r q : Result Loaded Halt) → Reads day c l r → Reads day c l q → r ≡ q
 one_read day c l (Ok m) (Ok n) h k =
     let e = one_sql_reading c.ty day c.text (Ok h.0) (Ok k.0) (value_known h.0) (value_known k.0) h.1 k.1 in
     let value : h.0 ≡ k.0 = cc e in
     ap Ok (h.2 ∙ ap (with_value l) value ∙ sym k.2)
-one_read day c l (Ok m) (Err g) h k = let e = one_sql_reading c.ty day c.text (Ok h.0) (Err k.0) (value_known h.0) (fault_known k.0 k.1) h.1 k.2 in absurd (cc e)
-one_read day c l (Err g) (Ok m) h k = let e = one_sql_reading c.ty day c.text (Err h.0) (Ok k.0) (fault_known h.0 h.1) (value_known k.0) h.2 k.1 in absurd (cc e)
+one_read day c l (Ok m) (Err g) h k = let e = one_sql_reading c.ty day c.text (Ok h.0) (Err k.0) (value_known h.0) (fault_known k.0 k.1 k.2) h.1 k.3 in absurd (cc e)
+one_read day c l (Err g) (Ok m) h k = let e = one_sql_reading c.ty day c.text (Err h.0) (Ok k.0) (fault_known h.0 h.1 h.2) (value_known k.0) h.3 k.1 in absurd (cc e)
 one_read day c l (Err f) (Err g) h k =
-    let e = one_sql_reading c.ty day c.text (Err h.0) (Err k.0) (fault_known h.0 h.1) (fault_known k.0 k.1) h.2 k.2 in
+    let e = one_sql_reading c.ty day c.text (Err h.0) (Err k.0) (fault_known h.0 h.1 h.2) (fault_known k.0 k.1 k.2) h.3 k.3 in
     let fault : h.0 ≡ k.0 = cc e in
-    ap Err (h.3 ∙ ap (refused_literal c) fault ∙ sym k.3)
+    let kind : h.1 ≡ k.1 = one_kind k.0 h.1 k.1 (subst (λ f. Refuses f h.1) fault h.2) k.2 in
+    ap Err (h.4 ∙ ap (refused_literal c) kind ∙ sym k.4)
 
 goes_one : (others : Loaded → Result Loaded Halt → Type 0) → ((m : Loaded) (r q : Result Loaded Halt) → others m r → others m q → r ≡ q) → (s r q : Result Loaded Halt) → Goes others s r → Goes others s q → r ≡ q
 goes_one others one (Ok m) r q h k = one m r q h k

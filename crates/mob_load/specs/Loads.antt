@@ -1,16 +1,15 @@
 -- What a script reads before it runs, in written order; the first check that fails decides.
-use Rattle.std.specs.Prelude.{◌≡◌, ◌≢◌, ◌≤◌, ◌⊎◌, ◌+◌, ◌-◌, ℤ, ℕ, List, [], ◌∷◌, ◌++◌, length, map, nat_lt, slice_get, slice_index, slice_set, Option, Some, None, Result, Ok, Err, if◌then◌else◌}
+use Rattle.std.specs.Prelude.{◌≡◌, ◌≤◌, ◌⊎◌, ◌+◌, ◌-◌, ℤ, ℕ, List, [], ◌∷◌, ◌++◌, length, map, nat_lt, slice_get, slice_index, slice_set, Option, Some, None, Result, Ok, Err, if◌then◌else◌}
 use Rattle.std.specs.List.{flat_map, AllZip}
 use Rattle.mob_ast.specs.declared.refusal.Kind.{Kind}
 use Rattle.mob_ast.specs.declared.refusal.Kind.TheVariants as kind
 use Rattle.mob_ast.specs.declared.refusal.Refusal.{Refusal}
 use Rattle.mob_value.specs.declared.value.Value.{Value}
 use Rattle.mob_scalar.specs.declared.fault.ReadText.{ReadText}
-use Rattle.mob_scalar.specs.declared.fault.ReadText.TheVariants.{NotText, Limit, TooLarge, Unsound, NoMemory}
 use Rattle.mob_literal.specs.SqlText.{SaysAs}
 use Rattle.mob_outside.specs.Faults.{Rose}
 use Rattle.mob_outside.specs.Told.{Contents, file_of}
-use Rattle.mob_catalog.specs.Faults.{Wrong}
+use Rattle.mob_catalog.specs.Faults.{Refuses, Wrong}
 use Rattle.mob_catalog.specs.TableFile.{IsTable, FileFails}
 use Rattle.mob_typing.specs.declared.typed.ConstText.{ConstText}
 use Rattle.mob_typing.specs.Names.{ColumnList}
@@ -69,18 +68,14 @@ with_rows l t n = record l { rows = slice_set l.rows t (rows_at l t + n) }
 abbrev pub with_file : Loaded → ℕ → List (List Value) → Loaded
 with_file l t rows = record (with_rows l t (length rows)) { files = l.files ++ rows ∷ [] }
 
--- a literal that has no value, by what is wrong with its text
-abbrev pub literal_kind : ReadText → Kind
-literal_kind Limit = kind.Limit
-literal_kind _ = kind.BadLiteral
+-- a literal that has no value is refused at its place
+abbrev pub refused_literal : ConstText → Kind → Halt
+refused_literal c k = refused (record { kind = k; statement = c.statement; place = c.place })
 
-abbrev pub refused_literal : ConstText → ReadText → Halt
-refused_literal c f = refused (record { kind = literal_kind f; statement = c.statement; place = c.place })
-
--- a literal has the value of its text, or it is refused at its place
+-- a literal has the value of its text, or it is refused for what is wrong with that
 abbrev pub Reads : ℤ → ConstText → Loaded → Result Loaded Halt → Type 0
 Reads day c l (Ok m) = (v : Value) × SaysAs c.ty day c.text (Ok v) × (m ≡ with_value l v)
-Reads day c l (Err h) = (f : ReadText) × (f ≢ NoMemory) × SaysAs c.ty day c.text (Err f) × (h ≡ refused_literal c f)
+Reads day c l (Err h) = (f : ReadText) × (k : Kind) × Refuses f k × SaysAs c.ty day c.text (Err f) × (h ≡ refused_literal c k)
 
 -- a table takes one row more as long as it has fewer than the most; else the row is refused at its bracket
 abbrev pub one_row : ℕ → ℕ → ℕ → Loaded → Result Loaded Halt

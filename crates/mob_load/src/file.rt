@@ -6,11 +6,9 @@ ghost use Rattle.mob_load.specs.Fronts.{IsFront, IsLeftOf};
 ghost use Rattle.mob_streams.specs.Streams.{ReadsPart};
 ghost use Rattle.mob_catalog.specs.TableFile.{file_limit};
 
+use mob_catalog::FILE_LIMIT;
 use mob_outside::Files;
 use std::alloc::{AllocError, Global};
-
-// The most bytes that a table file has.
-const GREATEST: usize = 16_777_216;
 
 // The most bytes that one call of the files is asked for.
 const CHUNK: usize = 4096;
@@ -28,8 +26,8 @@ fn read_opened<F: Files>(alloc: Global, files: &mut F) -> Result<Option<Vec<u8>>
 {
     let mut bytes = Vec::new(alloc);
     let mut chunk = [0u8; CHUNK];
-    while bytes.len() <= GREATEST {
-        let room = (GREATEST + 1 - bytes.len()).min(CHUNK);
+    while bytes.len() <= FILE_LIMIT {
+        let room = (FILE_LIMIT + 1 - bytes.len()).min(CHUNK);
         let count = match files.take(&mut chunk[..room]) {
             Ok(count) => count,
             Err(_) => return Ok(None),
