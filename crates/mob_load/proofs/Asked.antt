@@ -9,7 +9,7 @@ use Rattle.mob_typing.specs.Statements.{ScriptOut, StatementOut, nothing, new_ta
 use Rattle.mob_load.specs.Checks.{CheckParts, check_seen, literal, table, room, file, Mark, mark, bracket, marks_of, marks_from, stands_before, up_to, in_order, checks_of}
 use Rattle.mob_load.specs.declared.check.Check.{Check}
 use Rattle.mob_load.specs.Fronts.{AsksForAll, AsksForSome, IsAskedLast}
-use Rattle.mob_load.specs.Loads.{names_of, names_in, copied_file, copied_files, IsFaultAt, IsFile, IsMissing}
+use Rattle.mob_load.specs.Loads.{names_of, names_in, copied_file, copied_files, IsFaultAt, IsFaultAtLast, IsFile}
 use Rattle.mob_load.specs.declared.program.LoadEnd.{LoadEnd}
 use Rattle.mob_load.specs.declared.program.LoadEnd.TheVariants.{Refused, TableRefused, ReadFault, NoMemory}
 
@@ -88,17 +88,17 @@ module _ (ns first rest : List (List ℕ)) (a b d : Option (List (List ℕ))) (s
     asked_last : AsksForSome (name ∷ []) b d → IsAskedLast ns a d name
     asked_last some = record { before = length first; there = ap (λ xs. slice_get xs (length first)) is ∙ next_of first rest name; asked = none_or_one some.0 some.1 some.2 }
 
-  file_missing : (c : CheckParts) (name : List ℕ) → ns ≡ first ++ (names_of c ++ rest) → IsFile c name → AsksForSome (names_of c) b d → IsAskedLast ns a d name
-  file_missing (file t own) name is at some = subst (λ n. IsAskedLast ns a d n) at (asked_last own is some)
-  file_missing (literal c) name is at some = absurd at
-  file_missing (table columns) name is at some = absurd at
-  file_missing (room t n p) name is at some = absurd at
+  file_last : (c : CheckParts) (name : List ℕ) → ns ≡ first ++ (names_of c ++ rest) → IsFile c name → AsksForSome (names_of c) b d → IsAskedLast ns a d name
+  file_last (file t own) name is at some = subst (λ n. IsAskedLast ns a d n) at (asked_last own is some)
+  file_last (literal c) name is at some = absurd at
+  file_last (table columns) name is at some = absurd at
+  file_last (room t n p) name is at some = absurd at
 
-  check_missing : (c : CheckParts) (e : LoadEnd) → ns ≡ first ++ (names_of c ++ rest) → IsFaultAt c e → AsksForSome (names_of c) b d → IsMissing ns a d e
-  check_missing c (ReadFault name) is at some = file_missing c name is at some
-  check_missing c (Refused e) is at some = tt
-  check_missing c (TableRefused name k rec field) is at some = tt
-  check_missing c NoMemory is at some = tt
+  check_last : (c : CheckParts) (e : LoadEnd) → ns ≡ first ++ (names_of c ++ rest) → IsFaultAt c e → AsksForSome (names_of c) b d → IsFaultAtLast ns a d e
+  check_last c (ReadFault name) is at some = file_last c name is at some
+  check_last c (Refused e) is at some = tt
+  check_last c (TableRefused name k rec field) is at some = file_last c name is at some
+  check_last c NoMemory is at some = tt
 
 -- the checks of a list, one after the other: the i-th is c
 module _ (all : List Check) (i : ℕ) (c : Check) (lt : i < length all) (is : c ≡ get_or all i c) where
@@ -127,8 +127,8 @@ module _ (all : List Check) (i : ℕ) (c : Check) (lt : i < length all) (is : c 
       ap (take (length first + k)) parts ∙ take_front first (names_of (check_seen c)) (names_in (map check_seen (drop (i + 1) all))) k next.1 in
       (length first + k, few, subst (λ (ns : List (List ℕ)). AsksForAll ns a d) (sym front) (asks_both first (take k (names_of (check_seen c))) a b d so_far next.2))
 
-  pub asked_missing : (a b d : Option (List (List ℕ))) → AsksForAll first a b → (e : LoadEnd) → IsFaultAt (check_seen c) e → AsksForSome (names_of (check_seen c)) b d → IsMissing (names_in (map check_seen all)) a d e
-  asked_missing a b d so_far e at some = check_missing (names_in (map check_seen all)) first (names_in (map check_seen (drop (i + 1) all))) a b d so_far (check_seen c) e parts at some
+  pub fault_last : (a b d : Option (List (List ℕ))) → AsksForAll first a b → (e : LoadEnd) → IsFaultAt (check_seen c) e → AsksForSome (names_of (check_seen c)) b d → IsFaultAtLast (names_in (map check_seen all)) a d e
+  fault_last a b d so_far e at some = check_last (names_in (map check_seen all)) first (names_in (map check_seen (drop (i + 1) all))) a b d so_far (check_seen c) e parts at some
 
 pub asked_all : (all : List Check) (i : ℕ) (a b : Option (List (List ℕ))) → length all ≤ i → AsksForAll (names_in (map check_seen (take i all))) a b → AsksForAll (names_in (map check_seen all)) a b
 asked_all all i a b le asks = subst (λ (xs : List Check). AsksForAll (names_in (map check_seen xs)) a b) (take_all i all le) asks
@@ -146,5 +146,5 @@ script_asks cs out a b same asks = subst (λ (ns : List (List ℕ)). AsksForAll 
 pub script_asks_some : (cs : List CheckParts) (out : ScriptOut) (a b : Option (List (List ℕ))) → cs ≡ checks_of out → AsksForSome (names_in cs) a b → AsksForSome (copied_files out.statements) a b
 script_asks_some cs out a b same asks = subst (λ (ns : List (List ℕ)). AsksForSome ns a b) (ap names_in same ∙ checks_ask out) asks
 
-pub script_missing : (cs : List CheckParts) (out : ScriptOut) (a b : Option (List (List ℕ))) (e : LoadEnd) → cs ≡ checks_of out → IsMissing (names_in cs) a b e → IsMissing (copied_files out.statements) a b e
-script_missing cs out a b e same missing = subst (λ (ns : List (List ℕ)). IsMissing ns a b e) (ap names_in same ∙ checks_ask out) missing
+pub script_last : (cs : List CheckParts) (out : ScriptOut) (a b : Option (List (List ℕ))) (e : LoadEnd) → cs ≡ checks_of out → IsFaultAtLast (names_in cs) a b e → IsFaultAtLast (copied_files out.statements) a b e
+script_last cs out a b e same missing = subst (λ (ns : List (List ℕ)). IsFaultAtLast ns a b e) (ap names_in same ∙ checks_ask out) missing

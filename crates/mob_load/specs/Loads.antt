@@ -138,13 +138,15 @@ Gives (Err (TableRefused name k rec field)) after says = says (Err (table_refuse
 Gives (Err (ReadFault name)) after says = Unit {0}
 Gives (Err OutOfMemory) after says = Unit {0}
 
--- no file could not be read
+-- no file is refused, and none could not be read
 abbrev pub IsNoFault : LoadEnd → Type 0
+IsNoFault (TableRefused name k rec field) = ⊥
 IsNoFault (ReadFault name) = ⊥
 IsNoFault _ = Unit {0}
 
--- the file that could not be read is that of this check
+-- the file that is refused or could not be read is that of this check
 abbrev pub IsFaultAt : CheckParts → LoadEnd → Type 0
+IsFaultAt c (TableRefused name k rec field) = IsFile c name
 IsFaultAt c (ReadFault name) = IsFile c name
 IsFaultAt c _ = Unit {0}
 
@@ -153,10 +155,11 @@ abbrev pub HasFaultCause : ℕ → ℕ → LoadEnd → Type 0
 HasFaultCause before now (ReadFault name) = Rose before now
 HasFaultCause before now _ = Unit {0}
 
--- the file that could not be read is one of these names, the last that was asked for
-abbrev pub IsMissing : List (List ℕ) → Option (List (List ℕ)) → Option (List (List ℕ)) → LoadEnd → Type 0
-IsMissing names old new (ReadFault name) = IsAskedLast names old new name
-IsMissing names old new _ = Unit {0}
+-- the file that is refused or could not be read is one of these names, the last that was asked for
+abbrev pub IsFaultAtLast : List (List ℕ) → Option (List (List ℕ)) → Option (List (List ℕ)) → LoadEnd → Type 0
+IsFaultAtLast names old new (TableRefused name k rec field) = IsAskedLast names old new name
+IsFaultAtLast names old new (ReadFault name) = IsAskedLast names old new name
+IsFaultAtLast names old new _ = Unit {0}
 
 -- the names that a check asks for
 abbrev pub names_of : CheckParts → List (List ℕ)

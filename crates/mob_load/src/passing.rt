@@ -172,7 +172,7 @@ fn pour(
 ) -> Result<(), LoadEnd>
     requires narrow { HasNarrow (loaded_of loading.old).tables }
     ensures poured { Gives result (loaded_of loading.new) (Pours epoch.now table name.now (loaded_of loading.old) (Some bytes.now)) }
-    ensures no_fault { IfErr result IsNoFault }
+    ensures fault { IfErr result (IsFaultAt (file table name.now)) }
     ensures tables { OnOk result ((loaded_of loading.new).tables ≡ (loaded_of loading.old).tables) }
 {
     let room = GREATEST_ROWS.saturating_sub(rows_at(&loading.rows, table));

@@ -11,13 +11,13 @@ use Rattle.mob_streams.specs.Streams.{ReadsPart, ReadsTo}
 use Rattle.mob_streams.proofs.Known.{takes_nothing}
 use Rattle.mob_outside.specs.Told.{Contents}
 use Rattle.mob_typing.specs.Statements.{ScriptOut}
-use Rattle.mob_load.specs.Fronts.{AsksForAll, AsksForSome}
+use Rattle.mob_load.specs.Fronts.{AsksForAll, AsksForSome, IsAskedLast}
 use Rattle.mob_load.specs.Loads.{LoadsScript, copied_files, refused, table_refused}
 use Rattle.mob_load.specs.declared.program.Program.{Program}
 use Rattle.mob_ending.specs.declared.ending.Ending.{Ending}
 use Rattle.mob_ending.specs.declared.ending.Ending.TheVariants.{Done, Usage, ReadFault, WriteFault, NoMemory, TableRefused, ScriptRefused, Overflow}
 use Rattle.mob_shell.specs.Program.{IsScript, IsProgram, IsHalted, OutText, StopsWith, WritesFirst}
-use Rattle.mob_shell.specs.Ending.{AreCopied, AsksInOrder, Causes, Ends, IsUsage, OnTold, ReadsThrough, Seen}
+use Rattle.mob_shell.specs.Ending.{AreCopied, AsksInOrder, Causes, Ends, IsCopied, IsUsage, OnTold, ReadsThrough, Seen}
 use Rattle.mob_shell.specs.Parts.{LoadEnds, RefusesText, RunsText}
 
 -- what holds of all holds of what is told
@@ -97,6 +97,9 @@ module _ (s : Seen) (bytes : List ℕ) (reads : ReadsTo script_limit s.script s.
       asked = asks;
     }
 
+    copied_last : (name : List ℕ) → IsAskedLast (copied_files out.statements) s.asked_before s.asked_now name → IsCopied s name
+    copied_last name last = record { names = copied_files out.statements; all = copied; last = last }
+
     told : (P : List ℕ → Contents → Type 0) → IfSome s.files (P bytes) → OnTold s P
     told P h = on-script (λ b. IfSome s.files (λ m. P b m)) s.script s.rest bytes reads short h
 
@@ -148,8 +151,9 @@ module _ (s : Seen) (bytes : List ℕ) (reads : ReadsTo script_limit s.script s.
     loaded_causes (TableRefused name kind rec field) h = (
       record {
         ended = reads.whole short;
+        copied = copied_last name h.0.1;
         cause = told (λ b m. IsHalted s.words b m (table_refused name kind rec field)) (some_map (λ m. LoadsScript day m out (Err (table_refused name kind rec field))) (λ m. IsHalted s.words bytes m (table_refused name kind rec field))
-            (λ m l. record { day = day; out = out; script = script; loads = l }) s.files h.0);
+            (λ m l. record { day = day; out = out; script = script; loads = l }) s.files h.0.0);
       },
       h.1,
     )
@@ -161,7 +165,7 @@ module _ (s : Seen) (bytes : List ℕ) (reads : ReadsTo script_limit s.script s.
       },
       h.1,
     )
-    loaded_causes (ReadFault (Some name)) h = (record { ended = reads.whole short; names = copied_files out.statements; copied = copied; last = h.0.1; rose = h.0.0 }, h.1)
+    loaded_causes (ReadFault (Some name)) h = (record { ended = reads.whole short; copied = copied_last name h.0.1; rose = h.0.0 }, h.1)
     loaded_causes (ReadFault None) h = absurd h
     loaded_causes Usage h = absurd h
 

@@ -101,22 +101,27 @@ pub record IsRefused (s : Seen) (e : Refusal) : Type 0 where
   pub read : ReadsThrough s
   pub cause : IfSome s.script (λ bytes. IsTextRefused bytes e ⊎ IfSome s.files (λ files. IsHalted s.words bytes files (refused e)))
 
--- a table file is refused
-pub record IsTableRefused (s : Seen) (name : List ℕ) (kind : Kind) (rec field : ℕ) : Type 0 where
-  pub ended : IsAtEnd s.rest
-  pub cause : OnTold s (λ bytes files. IsHalted s.words bytes files (table_refused name kind rec field))
-
 -- these are the names of the COPY statements of the script, in order; or none, where there is no such script
 abbrev pub AreCopied : List (List ℕ) → List ℕ → List (List ℕ) → Type 0
 AreCopied words bytes names = (names ≡ []) ⊎ ((day : ℤ) × (out : ScriptOut) × IsScript words bytes day out × (names ≡ copied_files out.statements))
 
--- A file could not be read: it is that of a COPY statement of the script, which was read to its end; it was asked for last,
--- behind those of the COPY statements before; and the count of the files rose.
+-- this is the file of a COPY statement of the script, and the files were asked for those of the COPY statements before, and for
+-- it last
+pub record IsCopied (s : Seen) (file : List ℕ) : Type 0 where
+  pub names : List (List ℕ)
+  pub all : IfSome s.script (λ bytes. AreCopied s.words bytes names)
+  pub last : IsAskedLast names s.asked_before s.asked_now file
+
+-- a table file is refused, which the script copies
+pub record IsTableRefused (s : Seen) (name : List ℕ) (kind : Kind) (rec field : ℕ) : Type 0 where
+  pub ended : IsAtEnd s.rest
+  pub copied : IsCopied s name
+  pub cause : OnTold s (λ bytes files. IsHalted s.words bytes files (table_refused name kind rec field))
+
+-- a file could not be read: one that the script copies, which was read to its end; and the count of the files rose
 pub record IsUnread (s : Seen) (file : List ℕ) : Type 0 where
   pub ended : IsAtEnd s.rest
-  pub names : List (List ℕ)
-  pub copied : IfSome s.script (λ bytes. AreCopied s.words bytes names)
-  pub last : IsAskedLast names s.asked_before s.asked_now file
+  pub copied : IsCopied s file
   pub rose : Rose s.filed_before s.filed_now
 
 -- the script could not be read, and the count of its faults rose; or a file could not be read
