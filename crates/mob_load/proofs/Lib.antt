@@ -5,3 +5,4 @@ pub mod Narrow
 pub mod Steps
 pub mod Values
 pub mod OneLoading
+pub mod Marks
