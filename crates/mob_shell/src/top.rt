@@ -51,7 +51,7 @@ pub fn run<R: Threads + Sync, S: Source, F: Files, K: Sink, E: Sink, G: Gate>(
     // 4: only where the count of `out` rose, which took a proper prefix of the answers of some statements.
     ensures write_fault { result ≡ 4 → CutsShort (seen S.left S.faults F.files F.asked F.faults K.held K.faults (map string_bytes words.now) script.old script.new files.old files.new out.old out.new) }
 
-    // 6: only where the first refusal stands in a table file.
+    // 6: only where the first refusal stands in a table file, that of a COPY statement, which was asked for last.
     ensures table_refused { result ≡ 6 → IsTableFault (seen S.left S.faults F.files F.asked F.faults K.held K.faults (map string_bytes words.now) script.old script.new files.old files.new out.old out.new) }
 
     // 7: only where the first refusal stands in the script.
