@@ -1,3 +1,6 @@
 mod Seen
 pub mod Whole
 mod Statuses
+mod OneRun
+mod OneOutcome
+mod Due

@@ -1,5 +1,5 @@
 -- Why a run ends as it does, by what it was given and what it did.
-use Rattle.std.specs.Prelude.{◌≡◌, ◌⊎◌, ◌≤◌, ◌+◌, ℕ, ℤ, List, [], length, map, Option, Some, None, IfSome}
+use Rattle.std.specs.Prelude.{◌≡◌, ◌⊎◌, ◌≤◌, ◌+◌, ℕ, ℤ, List, [], length, map, Option, Some, None, IfSome, IsSomeAnd}
 use Rattle.std.specs.Io.KnownBytes.{Appends, Consumes, IsAtEnd, Keeps}
 use Rattle.mob_ast.specs.declared.refusal.Kind.{Kind}
 use Rattle.mob_ast.specs.declared.refusal.Refusal.{Refusal}
@@ -156,9 +156,39 @@ IsScriptRefused s = (e : Refusal) × IsRefused s e
 abbrev pub IsOverflow : Seen → Type 0
 IsOverflow s = (number : ℕ) × (rows : List ℕ) × (place : ℕ) × (formula : Formula) × StopsAt s number rows place formula
 
--- the script or a table file is refused, or a part of a formula does not fit
-abbrev pub IsFaulty : Seen → Type 0
-IsFaulty s = IsTableFault s ⊎ (IsScriptRefused s ⊎ IsOverflow s)
+-- what the definitions say of words, a script and files: there are answers, a refusal, or a fault of a statement
+abbrev pub IsDue : List (List ℕ) → List ℕ → Contents → Ending → Type 0
+IsDue words bytes files Done = (text : List ℕ) × OutText words bytes files text
+IsDue words bytes files (TableRefused name kind rec field) = IsHalted words bytes files (table_refused name kind rec field)
+IsDue words bytes files (ScriptRefused e) = IsTextRefused bytes e ⊎ IsHalted words bytes files (refused e)
+IsDue words bytes files (Overflow number rows place formula) = (text : List ℕ) × StopsWith words bytes files text number (rows, (place, formula))
+IsDue words bytes files _ = ⊥
+
+-- the script and the files are told, and the definitions say this of them
+abbrev pub Gives : Seen → Ending → Type 0
+Gives s ending = IsSomeAnd s.script (λ bytes. IsSomeAnd s.files (λ files. IsDue s.words bytes files ending))
+
+-- they give the answers of all statements
+abbrev pub HasAnswers : Seen → Type 0
+HasAnswers s = Gives s Done
+
+-- they refuse a table file
+abbrev pub HasTableRefusal : Seen → Type 0
+HasTableRefusal s = (name : List ℕ) × (kind : Kind) × (rec : ℕ) × (field : ℕ) × Gives s (TableRefused name kind rec field)
+
+-- they refuse the script, for its text or for one of its literals or rows
+abbrev pub HasScriptRefusal : Seen → Type 0
+HasScriptRefusal s = (e : Refusal) × Gives s (ScriptRefused e)
+
+-- they give a statement a fault: a part of a formula does not fit
+abbrev pub HasOverflow : Seen → Type 0
+HasOverflow s = (number : ℕ) × (rows : List ℕ) × (place : ℕ) × (formula : Formula) × Gives s (Overflow number rows place formula)
+
+-- no count of faults rose: of the script, of the files and of `out`
+pub record IsFaultless (s : Seen) : Type 0 where
+  pub read : Rose s.read_before s.read_now → ⊥
+  pub filed : Rose s.filed_before s.filed_now → ⊥
+  pub put : Rose s.put_before s.put_now → ⊥
 
 -- the files were asked for the first of these names, in order
 pub record AsksInOrder (s : Seen) : Type 0 where

@@ -1,5 +1,6 @@
 use Rattle.std.proofs.Common.{◌∙◌, sym}
-use Rattle.mob_shell.proofs.Statuses.{by_read, by_table, by_usage, only_done}
+use Rattle.mob_shell.proofs.Due.{has_answers, has_overflow, has_script_refusal, has_table_refusal}
+use Rattle.mob_shell.proofs.Statuses.{by_read, by_table, by_usage}
 use Rattle.mob_shell.proofs.top.run.Goals as goal
 
 pub returns-clause-usage : goal.returns-clause-usage
@@ -12,4 +13,13 @@ pub returns-clause-table_refused : goal.returns-clause-table_refused
 returns-clause-table_refused g c six = by_table c.decide-ending.result _ c.decide-ending.ensures.ends.cause (sym c.status.ensures.number ∙ six)
 
 pub returns-clause-complete : goal.returns-clause-complete
-returns-clause-complete g c words read filed put fault = rw c.status.ensures.number (only_done c.decide-ending.result _ c.decide-ending.ensures.ends.cause words read filed put fault)
+returns-clause-complete g c answers faultless = rw c.status.ensures.number (has_answers (record { halt = c.one_program.ensures.halt; halted = c.one_program.ensures.apart; refused = c.one_program.ensures.refused; stopped = c.one_text.ensures.apart }) c.decide-ending.result _ c.decide-ending.ensures.ends.cause answers faultless)
+
+pub returns-clause-exactly_table_refused : goal.returns-clause-exactly_table_refused
+returns-clause-exactly_table_refused g c refusal faultless = rw c.status.ensures.number (has_table_refusal (record { halt = c.one_program.ensures.halt; halted = c.one_program.ensures.apart; refused = c.one_program.ensures.refused; stopped = c.one_text.ensures.apart }) c.decide-ending.result _ c.decide-ending.ensures.ends.cause refusal faultless)
+
+pub returns-clause-exactly_script_refused : goal.returns-clause-exactly_script_refused
+returns-clause-exactly_script_refused g c taken refusal faultless = rw c.status.ensures.number (has_script_refusal (record { halt = c.one_program.ensures.halt; halted = c.one_program.ensures.apart; refused = c.one_program.ensures.refused; stopped = c.one_text.ensures.apart }) c.decide-ending.result _ c.decide-ending.ensures.ends.cause taken refusal faultless)
+
+pub returns-clause-exactly_overflow : goal.returns-clause-exactly_overflow
+returns-clause-exactly_overflow g c overflow faultless = rw c.status.ensures.number (has_overflow (record { halt = c.one_program.ensures.halt; halted = c.one_program.ensures.apart; refused = c.one_program.ensures.refused; stopped = c.one_text.ensures.apart }) c.decide-ending.result _ c.decide-ending.ensures.ends.cause overflow faultless)
