@@ -8,7 +8,7 @@ use Rattle.mob_streams.specs.Streams.{ReadsPart}
 abbrev pub IsFront : List ℕ → Contents → List ℕ → Type 0
 IsFront name files bytes = (whole : List ℕ) × (file_of name files ≡ Some whole) × (bytes ≡ take (file_limit + 1) whole)
 
--- the file with this name is told, and what is left was behind it: at most one byte past the most was taken
+-- this is left of the file with this name: at most one byte past the most was taken from its front
 abbrev pub IsLeftOf : List ℕ → Contents → Option (List ℕ) → Type 0
 IsLeftOf name files left = (whole : List ℕ) × (file_of name files ≡ Some whole) × ReadsPart file_limit (Some whole) left
 

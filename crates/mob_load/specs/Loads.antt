@@ -138,7 +138,12 @@ Gives (Err (TableRefused name k rec field)) after says = says (Err (table_refuse
 Gives (Err (ReadFault name)) after says = Unit {0}
 Gives (Err OutOfMemory) after says = Unit {0}
 
--- no file is refused, and none could not be read
+-- each file could be read
+abbrev pub IsRead : LoadEnd → Type 0
+IsRead (ReadFault name) = ⊥
+IsRead _ = Unit {0}
+
+-- no file is refused, and each could be read
 abbrev pub IsNoFault : LoadEnd → Type 0
 IsNoFault (TableRefused name k rec field) = ⊥
 IsNoFault (ReadFault name) = ⊥

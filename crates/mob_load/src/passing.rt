@@ -5,7 +5,7 @@ ghost use Rattle.mob_catalog.specs.Faults.{OnRefused, Refuses};
 ghost use Rattle.mob_catalog.specs.TableFile.{FileFails, IsTable};
 ghost use Rattle.mob_load.specs.Checks.{check_seen, file};
 ghost use Rattle.mob_load.specs.Fronts.{AsksForAll, AsksForSome};
-ghost use Rattle.mob_load.specs.Loads.{Gives, HasFaultCause, HasNarrow, IsFaultAt, IsNarrow, IsNoFault, Passes, Pours, Reads, columns_or_none, loaded_of, names_of, one_row, with_file, with_table};
+ghost use Rattle.mob_load.specs.Loads.{Gives, HasFaultCause, HasNarrow, IsFaultAt, IsNarrow, IsNoFault, IsRead, Passes, Pours, Reads, columns_or_none, loaded_of, names_of, one_row, with_file, with_table};
 ghost use Rattle.mob_load.specs.declared.program.LoadEnd.TheVariants.{NoMemory, Refused};
 ghost use Rattle.mob_ast.specs.declared.refusal.Kind.{Kind};
 
@@ -173,6 +173,7 @@ fn pour(
     requires narrow { HasNarrow (loaded_of loading.old).tables }
     ensures poured { Gives result (loaded_of loading.new) (Pours epoch.now table name.now (loaded_of loading.old) (Some bytes.now)) }
     ensures fault { IfErr result (IsFaultAt (file table name.now)) }
+    ensures read { IfErr result IsRead }
     ensures tables { OnOk result ((loaded_of loading.new).tables ≡ (loaded_of loading.old).tables) }
 {
     let room = GREATEST_ROWS.saturating_sub(rows_at(&loading.rows, table));

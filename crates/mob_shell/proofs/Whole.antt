@@ -98,7 +98,7 @@ module _ (s : Seen) (bytes : List ℕ) (reads : ReadsTo script_limit s.script s.
     }
 
     copied_last : (name : List ℕ) → IsAskedLast (copied_files out.statements) s.asked_before s.asked_now name → IsCopied s name
-    copied_last name last = record { names = copied_files out.statements; all = copied; last = last }
+    copied_last name last = record { names = copied_files out.statements; copied = copied; last = last }
 
     told : (P : List ℕ → Contents → Type 0) → IfSome s.files (P bytes) → OnTold s P
     told P h = on-script (λ b. IfSome s.files (λ m. P b m)) s.script s.rest bytes reads short h

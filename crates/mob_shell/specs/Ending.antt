@@ -109,7 +109,7 @@ AreCopied words bytes names = (names ≡ []) ⊎ ((day : ℤ) × (out : ScriptOu
 -- it last
 pub record IsCopied (s : Seen) (file : List ℕ) : Type 0 where
   pub names : List (List ℕ)
-  pub all : IfSome s.script (λ bytes. AreCopied s.words bytes names)
+  pub copied : IfSome s.script (λ bytes. AreCopied s.words bytes names)
   pub last : IsAskedLast names s.asked_before s.asked_now file
 
 -- a table file is refused, which the script copies
