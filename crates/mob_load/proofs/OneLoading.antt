@@ -4,13 +4,11 @@ use Rattle.std.specs.Prelude.{Result}
 use Rattle.mob_scalar.specs.declared.fault.ReadText.{ReadText}
 use Rattle.mob_scalar.specs.declared.fault.ReadText.TheVariants.{NoMemory}
 use Rattle.mob_value.specs.declared.value.Value.{Value}
-use Rattle.mob_literal.specs.SqlText.{SaysAs}
 use Rattle.mob_literal.proofs.SqlReading.{one_sql_reading}
 use Rattle.mob_outside.specs.Told.{Contents, file_of}
 use Rattle.mob_catalog.specs.Outcomes.{HasOneFault, HasOneTable, IsReadOrRefused}
 use Rattle.mob_catalog.specs.Faults.{Wrong}
 use Rattle.mob_typing.specs.declared.typed.ConstText.{ConstText}
-use Rattle.mob_typing.specs.Statements.{ScriptOut}
 use Rattle.mob_load.specs.Checks.{CheckParts, literal, table, room, file, checks_of}
 use Rattle.mob_load.specs.Loads.{Goes, Halt, Loaded, Loads, LoadsScript, Passes, Pours, Reads, columns_at, greatest_rows, nothing_loaded, refused_literal, rows_at, table_refused, with_file, with_value}
 use Rattle.mob_load.specs.Outcomes.{HasOneLoading, HasOneProgram}
