@@ -1,5 +1,5 @@
 -- A text is judged in one way.
-use Rattle.std.proofs.Common.{arith, ◌≡◌, ◌∙◌, refl, sym, ap, ap₂, subst, inl, inr, ℕ, List, [], Some, None, Ok, Err, length}
+use Rattle.std.proofs.Common.{arith, ◌≡◌, ◌∙◌, refl, sym, ap, ap₂, subst, inl, inr, ℕ, List, [], None}
 use Rattle.mob_ast.specs.declared.refusal.Refusal.{Refusal}
 use Rattle.mob_ast.specs.Trees.{StatementParts}
 use Rattle.mob_grammar.specs.Symbols.{Tok}
@@ -7,14 +7,15 @@ use Rattle.mob_grammar.specs.Scripts.{IsScript}
 use Rattle.mob_grammar.proofs.StatementsRead.{complete_script}
 use Rattle.mob_parse.specs.Refusals.{IsTreeOf}
 use Rattle.mob_parse.proofs.Refused.{no_tree, same_tokens}
+use Rattle.mob_parse.proofs.Scripts.{script_only}
 use Rattle.mob_typing.specs.Statements.{ScriptOut}
 use Rattle.mob_built.specs.Least.{least}
 use Rattle.mob_accept.specs.Accepts.{IsAccepted, IsTextRefused, IsTyped, unbuilt_places}
 use Rattle.mob_accept.specs.Outcomes.{HasOneScript, IsTakenOrRefused}
 
--- tokens have one tree, since what the reading of them gives is every tree that they have
+-- tokens have one tree: what the reading of them gives
 one_tree : (l : List Tok) (x y : List StatementParts) → IsScript l x → IsScript l y → x ≡ y
-one_tree l x y h k = let e = sym (complete_script l x [] h refl) ∙ complete_script l y [] k refl in cc e
+one_tree l x y h k = script_only l y x (complete_script l y [] k refl) h
 
 one_text : (bytes : List ℕ) (x y : List StatementParts) → IsTreeOf bytes x → IsTreeOf bytes y → x ≡ y
 one_text bytes x y h k =

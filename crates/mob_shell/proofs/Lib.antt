@@ -3,4 +3,5 @@ pub mod Whole
 mod Statuses
 mod OneRun
 mod OneOutcome
+mod OneStatus
 mod Due

@@ -1,5 +1,5 @@
 -- Words, a script and files have one outcome.
-use Rattle.std.proofs.Common.{◌≡◌, ◌∙◌, refl, sym, ap, subst, ℕ, ℤ, ◌+◌, List, Ok, Err}
+use Rattle.std.proofs.Common.{◌≡◌, ◌∙◌, sym, ap, subst, ℕ, ℤ, ◌+◌, List, Ok, Err}
 use Rattle.std.specs.Prelude.{Result}
 use Rattle.mob_words.specs.Outcomes.{HasOneSetting}
 use Rattle.mob_outside.specs.Told.{Contents}
@@ -10,9 +10,9 @@ use Rattle.mob_load.specs.Outcomes.{HasOneProgram as LoadsOneProgram}
 use Rattle.mob_load.specs.declared.program.Program.{Program}
 use Rattle.mob_join.specs.Query.{TupleFault}
 use Rattle.mob_run.specs.Outcomes.{HasOneStep, HasOneStop as StepHasOneStop, RunsOrStops}
-use Rattle.mob_run.specs.Runs.{Standing, Step, Stops, begin}
+use Rattle.mob_run.specs.Runs.{Step, Stops, begin}
 use Rattle.mob_streams.specs.Answers.{Ran}
-use Rattle.mob_shell.specs.Program.{IsHalted, IsProgram, IsScript, OutText, StopsWith}
+use Rattle.mob_shell.specs.Program.{IsProgram, IsScript, StopsWith}
 use Rattle.mob_shell.specs.Outcomes.{EndsOrStops, HasOneHalt, HasOneProgram, HasOneStop, HasOneText, IsProgramOrHalted, IsScriptOrRefused}
 use Rattle.mob_shell.proofs.OneRun.{IsSingle, StopsBehind, ends_or_stops, one_ran, one_stop}
 

@@ -1,14 +1,14 @@
 -- Statements of which each has one outcome have one together.
-use Rattle.std.proofs.Common.{◌≡◌, ◌∙◌, refl, sym, ap, ap₂, subst, ℕ, zero, suc, List, [], ◌∷◌, ◌++◌, Some, None, take}
+use Rattle.std.proofs.Common.{◌≡◌, ◌∙◌, refl, sym, ap, ap₂, subst, ℕ, zero, suc, List, [], ◌∷◌, ◌++◌, Some, take}
 use Rattle.std.specs.Prelude.{slice_get}
 use Rattle.mob_streams.specs.Answers.{Ran}
 
-module _ {E S F : Type 0} (step : E → S → E → List ℕ → Type 0) (stops : E → S → F → Type 0) where
+module _ {E S F : Type 0} (step : E → S → E → List ℕ → Type 0) (halts : E → S → F → Type 0) where
   -- a statement leaves one thing with one text, or has one fault
   pub record IsSingle : Type 0 where
     pub goes : (s : E) (x : S) (t u : E) (a b : List ℕ) → step s x t a → step s x u b → (t ≡ u) × (a ≡ b)
-    pub fails : (s : E) (x : S) (f g : F) → stops s x f → stops s x g → f ≡ g
-    pub apart : (s : E) (x : S) (t : E) (a : List ℕ) (f : F) → step s x t a → stops s x f → ⊥
+    pub fails : (s : E) (x : S) (f g : F) → halts s x f → halts s x g → f ≡ g
+    pub apart : (s : E) (x : S) (t : E) (a : List ℕ) (f : F) → step s x t a → halts s x f → ⊥
 
   -- the first statements ran with this text, and the next one has a fault
   pub record StopsBehind (s : E) (all : List S) (count : ℕ) (text : List ℕ) (f : F) : Type 0 where
@@ -16,7 +16,7 @@ module _ {E S F : Type 0} (step : E → S → E → List ℕ → Type 0) (stops 
     pub ran : Ran step s (take count all) stands text
     pub statement : S
     pub there : slice_get all count ≡ Some statement
-    pub stops : stops stands statement f
+    pub stops : halts stands statement f
 
   module _ (single : IsSingle) where
     pub one_ran : (xs : List S) (s t u : E) (a b : List ℕ) → Ran step s xs t a → Ran step s xs u b → (t ≡ u) × (a ≡ b)
@@ -27,8 +27,8 @@ module _ {E S F : Type 0} (step : E → S → E → List ℕ → Type 0) (stops 
         (rest.0, h.5 ∙ ap₂ (λ (c d : List ℕ). c ++ d) first.1 rest.1 ∙ sym k.5)
 
     -- the fault of a first statement
-    stops_first : (s t : E) (x y : S) (xs : List S) (f : F) → t ≡ s → slice_get (x ∷ xs) 0 ≡ Some y → stops t y f → stops s x f
-    stops_first s t x y xs f stands there h = let same : y ≡ x = cc in subst (λ (z : S). stops s z f) same (subst (λ (v : E). stops v y f) stands h)
+    stops_first : (s t : E) (x y : S) (xs : List S) (f : F) → t ≡ s → slice_get (x ∷ xs) 0 ≡ Some y → halts t y f → halts s x f
+    stops_first s t x y xs f stands there h = let same : y ≡ x = cc in subst (λ (z : S). halts s z f) same (subst (λ (v : E). halts v y f) stands h)
 
     pub ends_or_stops : (xs : List S) (s t : E) (a b : List ℕ) (n : ℕ) (f : F) → Ran step s xs t a → StopsBehind s xs n b f → ⊥
     ends_or_stops [] s t a b n f h k = let none = k.there in absurd cc

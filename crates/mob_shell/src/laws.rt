@@ -1,5 +1,5 @@
 //! What holds of every run. No code runs here.
-ghost use Rattle.mob_shell.specs.Outcomes.{EndsOrStops, HasOneHalt, HasOneProgram, HasOneStop, HasOneText, IsProgramOrHalted, IsScriptOrRefused};
+ghost use Rattle.mob_shell.specs.Outcomes.{EndsOrStops, HasOneHalt, HasOneProgram, HasOneStatus, HasOneStop, HasOneText, IsProgramOrHalted, IsScriptOrRefused};
 
 /// Words, a script and files make one program, or one refusal.
 pub fn one_program()
@@ -21,4 +21,12 @@ pub fn one_text()
 {
     one_program();
     mob_run::laws::one_step();
+}
+
+/// What the definitions say of words, a script and files asks for one status.
+pub fn one_status()
+    ensures status { HasOneStatus }
+{
+    one_program();
+    one_text();
 }

@@ -10,7 +10,7 @@ ghost use Rattle.mob_streams.specs.Streams.{Puts, ReadsPart};
 ghost use Rattle.mob_accept.specs.Accepts.{script_limit};
 
 use crate::decide::decide;
-use crate::laws::{one_program, one_text};
+use crate::laws::one_status;
 use mob_ending::tell;
 use mob_outside::{Files, Gate, Sink, Source};
 use std::alloc::Global;
@@ -93,8 +93,7 @@ pub fn run<R: Threads + Sync, S: Source, F: Files, K: Sink, E: Sink, G: Gate>(
         × Causes ending (seen S.left S.faults F.files F.asked F.faults K.held K.faults (map string_bytes words.now) script.old script.new files.old files.new out.old out.new)
         × Puts (line_of ending) (E.held notes.old) (E.held notes.new) (E.faults notes.old) (E.faults notes.new) }
 {
-    one_program();
-    one_text();
+    one_status();
     let ending = decide(alloc, words, script, files, out);
     tell(notes, &ending);
     ending.status()

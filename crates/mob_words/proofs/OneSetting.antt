@@ -1,5 +1,5 @@
 -- The words of a command line say one thing.
-use Rattle.std.proofs.Common.{arith, ◌≡◌, ◌∙◌, sym, ℕ, ℤ, ◌<◌, ◌^◌, Option, Some, None, Ok, Err}
+use Rattle.std.proofs.Common.{arith, ◌≡◌, ◌∙◌, sym, ℕ, ℤ, Option, Some, None, Ok, Err}
 use Rattle.std.specs.Prelude.{Result, codes}
 use Rattle.std.proofs.lemmas.Fmt.{decimal_injective}
 use Rattle.clap.specs.Words.{Text}

@@ -13,13 +13,13 @@ pub returns-clause-table_refused : goal.returns-clause-table_refused
 returns-clause-table_refused g c six = by_table c.decide-ending.result _ c.decide-ending.ensures.ends.cause (sym c.status.ensures.number ∙ six)
 
 pub returns-clause-complete : goal.returns-clause-complete
-returns-clause-complete g c answers faultless = rw c.status.ensures.number (has_answers (record { halt = c.one_program.ensures.halt; halted = c.one_program.ensures.apart; refused = c.one_program.ensures.refused; stopped = c.one_text.ensures.apart }) c.decide-ending.result _ c.decide-ending.ensures.ends.cause answers faultless)
+returns-clause-complete g c answers faultless = rw c.status.ensures.number (has_answers c.one_status.ensures.status c.decide-ending.result _ c.decide-ending.ensures.ends.cause answers faultless)
 
 pub returns-clause-exactly_table_refused : goal.returns-clause-exactly_table_refused
-returns-clause-exactly_table_refused g c refusal faultless = rw c.status.ensures.number (has_table_refusal (record { halt = c.one_program.ensures.halt; halted = c.one_program.ensures.apart; refused = c.one_program.ensures.refused; stopped = c.one_text.ensures.apart }) c.decide-ending.result _ c.decide-ending.ensures.ends.cause refusal faultless)
+returns-clause-exactly_table_refused g c refusal faultless = rw c.status.ensures.number (has_table_refusal c.one_status.ensures.status c.decide-ending.result _ c.decide-ending.ensures.ends.cause refusal faultless)
 
 pub returns-clause-exactly_script_refused : goal.returns-clause-exactly_script_refused
-returns-clause-exactly_script_refused g c taken refusal faultless = rw c.status.ensures.number (has_script_refusal (record { halt = c.one_program.ensures.halt; halted = c.one_program.ensures.apart; refused = c.one_program.ensures.refused; stopped = c.one_text.ensures.apart }) c.decide-ending.result _ c.decide-ending.ensures.ends.cause taken refusal faultless)
+returns-clause-exactly_script_refused g c taken refusal faultless = rw c.status.ensures.number (has_script_refusal c.one_status.ensures.status c.decide-ending.result _ c.decide-ending.ensures.ends.cause taken refusal faultless)
 
 pub returns-clause-exactly_overflow : goal.returns-clause-exactly_overflow
-returns-clause-exactly_overflow g c overflow faultless = rw c.status.ensures.number (has_overflow (record { halt = c.one_program.ensures.halt; halted = c.one_program.ensures.apart; refused = c.one_program.ensures.refused; stopped = c.one_text.ensures.apart }) c.decide-ending.result _ c.decide-ending.ensures.ends.cause overflow faultless)
+returns-clause-exactly_overflow g c overflow faultless = rw c.status.ensures.number (has_overflow c.one_status.ensures.status c.decide-ending.result _ c.decide-ending.ensures.ends.cause overflow faultless)
