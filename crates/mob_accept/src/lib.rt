@@ -1,6 +1,7 @@
 //! Which texts are scripts that are taken, and the first refusal of one that is not.
 #![tactic(auto)]
 
+pub mod laws;
 pub mod text;
 
 pub use text::{SCRIPT_LIMIT, accept};

@@ -2,3 +2,5 @@ mod FirstFaults
 mod RecordCounts
 mod Refusals
 mod Places
+mod OneFirst
+pub mod OneTable

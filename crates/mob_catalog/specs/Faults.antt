@@ -1,5 +1,5 @@
 -- What is wrong with a table file, and with a text.
-use Rattle.std.specs.Prelude.{◌≡◌, ℕ}
+use Rattle.std.specs.Prelude.{◌≡◌, ℕ, Option, Some, None}
 use Rattle.mob_ast.specs.declared.refusal.Kind.{Kind}
 use Rattle.mob_ast.specs.declared.refusal.Kind.TheVariants as kind
 use Rattle.mob_scalar.specs.declared.fault.ReadText.{ReadText}
@@ -8,12 +8,16 @@ use Rattle.mob_catalog.specs.declared.fault.LoadFault.{LoadFault}
 use Rattle.mob_catalog.specs.declared.fault.LoadFault.TheVariants as load
 
 -- The refusal of a text by its fault. Want of memory refuses no text.
+abbrev pub refusal_of : ReadText → Option Kind
+refusal_of text.NotText = Some kind.BadLiteral
+refusal_of text.Limit = Some kind.Limit
+refusal_of text.TooLarge = Some kind.BadLiteral
+refusal_of text.Unsound = Some kind.BadLiteral
+refusal_of text.NoMemory = None
+
+-- a text with this fault is refused so
 abbrev pub Refuses : ReadText → Kind → Type 0
-Refuses text.NotText k = k ≡ kind.BadLiteral
-Refuses text.Limit k = k ≡ kind.Limit
-Refuses text.TooLarge k = k ≡ kind.BadLiteral
-Refuses text.Unsound k = k ≡ kind.BadLiteral
-Refuses text.NoMemory k = ⊥
+Refuses fault k = refusal_of fault ≡ Some k
 
 -- what is wrong, with the numbers of the record and of the field, each 0 for the whole
 pub record Wrong : Type 0 where

@@ -3,4 +3,5 @@ pub mod Constants
 pub mod Faults
 pub mod Fields
 pub mod FirstFault
+pub mod Outcomes
 pub mod TableFile

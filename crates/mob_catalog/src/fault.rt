@@ -1,7 +1,6 @@
 // Why a table file is refused, and where.
-ghost use Rattle.std.specs.Prelude.{◌≡◌, IfSome, IsNone};
-ghost use Rattle.mob_scalar.specs.declared.fault.ReadText.TheVariants.{NoMemory as WantOfMemory};
-ghost use Rattle.mob_catalog.specs.Faults.{OnRefused, Refuses, wrong};
+ghost use Rattle.std.specs.Prelude.{◌≡◌};
+ghost use Rattle.mob_catalog.specs.Faults.{OnRefused, Refuses, refusal_of, wrong};
 
 use mob_ast::Kind;
 use mob_scalar::ReadText;
@@ -45,10 +44,9 @@ impl<T: Drop> From<AllocFailed<T>> for LoadFault {
     }
 }
 
-// The refusal of a text with this fault. Want of memory refuses no text.
+/// The refusal of a text with this fault. Want of memory refuses no text.
 pub fn refusal_kind(fault: ReadText) -> Option<Kind>
-    ensures some { IfSome result (λ kind. Refuses fault kind) }
-    ensures none { IsNone result → fault ≡ WantOfMemory }
+    ensures kind { result ≡ refusal_of fault }
 {
     match fault {
         ReadText::Limit => Some(Kind::Limit),

@@ -5,14 +5,15 @@ mod catalog;
 mod consts;
 mod fault;
 mod header;
+pub mod laws;
 mod records;
 mod row;
 mod table_file;
 
 pub use catalog::Catalog;
 pub use consts::constants;
-pub use fault::LoadFault;
-pub use table_file::read_table;
+pub use fault::{LoadFault, refusal_kind};
+pub use table_file::{FILE_LIMIT, read_table};
 
 #[cfg(test)]
 mod tests;

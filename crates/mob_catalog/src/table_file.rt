@@ -18,8 +18,8 @@ use mob_scalar::Epoch;
 use mob_value::Value;
 use std::alloc::Global;
 
-// The greatest length of a table file in bytes.
-const FILE_LIMIT: usize = 16_777_216;
+/// The greatest length of a table file in bytes.
+pub const FILE_LIMIT: usize = 16_777_216;
 
 // The rows of the records below the header, or what is wrong first in them.
 fn rows_of(

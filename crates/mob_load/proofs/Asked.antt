@@ -1,14 +1,17 @@
 -- The names that the checks of a script ask for are those of its COPY statements.
-use Rattle.std.proofs.Common.{◌≡◌, ◌∙◌, refl, sym, ap, subst, arith, Bool, true, false, ℕ, suc, ◌+◌, ◌≤◌, ◌<◌, List, [], ◌∷◌, ◌++◌, length, length-append, take, take-append-drop, drop, get_or, map, Option, Some, None}
+use Rattle.std.proofs.Common.{◌≡◌, ◌∙◌, ◌⊎◌, inl, inr, refl, sym, ap, subst, arith, Bool, true, false, ℕ, zero, suc, ◌+◌, ◌≤◌, ◌<◌, List, [], ◌∷◌, ◌++◌, length, length-append, take, take-append-drop, drop, get_or, map, Option, Some, None}
+use Rattle.std.specs.Prelude.{slice_get}
 use Rattle.std.specs.List.{flat_map}
 use Rattle.std.proofs.lemmas.Grind.{flat_map-append}
 use Rattle.std.proofs.lemmas.List.{append-nil, append_assoc, take-append-le, take_all, take_more, drop_more, map-append}
 use Rattle.mob_typing.specs.declared.typed.ConstText.{ConstText}
 use Rattle.mob_typing.specs.Statements.{ScriptOut, StatementOut, nothing, new_table, new_index, new_rows, rows_from, query, plan_of}
-use Rattle.mob_load.specs.Checks.{CheckParts, check_seen, literal, room, Mark, mark, bracket, marks_of, marks_from, stands_before, up_to, in_order, checks_of}
+use Rattle.mob_load.specs.Checks.{CheckParts, check_seen, literal, table, room, file, Mark, mark, bracket, marks_of, marks_from, stands_before, up_to, in_order, checks_of}
 use Rattle.mob_load.specs.declared.check.Check.{Check}
-use Rattle.mob_load.specs.Fronts.{AsksForAll, AsksForSome}
-use Rattle.mob_load.specs.Loads.{names_of, names_in, copied_file, copied_files}
+use Rattle.mob_load.specs.Fronts.{AsksForAll, AsksForSome, IsAskedLast}
+use Rattle.mob_load.specs.Loads.{names_of, names_in, copied_file, copied_files, IsFaultAt, IsFaultAtLast, IsFile}
+use Rattle.mob_load.specs.declared.program.LoadEnd.{LoadEnd}
+use Rattle.mob_load.specs.declared.program.LoadEnd.TheVariants.{Refused, TableRefused, ReadFault, NoMemory}
 
 -- the names at marks
 abbrev names_at : List Mark → List (List ℕ)
@@ -65,6 +68,38 @@ take_front (x ∷ xs) ys zs k le =
     let more : length (x ∷ xs) + k ≡ suc (length xs + k) = omega arith in
     ap (λ (n : ℕ). take n (x ∷ (xs ++ (ys ++ zs)))) more ∙ ap (λ (ws : List (List ℕ)). x ∷ ws) (take_front xs ys zs k le)
 
+next_of : (first rest : List (List ℕ)) (name : List ℕ) → slice_get (first ++ (name ∷ rest)) (length first) ≡ Some name
+next_of [] rest name = refl
+next_of (x ∷ first) rest name = next_of first rest name
+
+-- the names behind the first of these were not asked for, but perhaps the next one
+module _ (ns first rest : List (List ℕ)) (a b d : Option (List (List ℕ))) (so_far : AsksForAll first a b) where
+  module _ (name : List ℕ) (is : ns ≡ first ++ (name ∷ rest)) where
+    front : (k : ℕ) → k ≤ 1 → AsksForAll (take k (name ∷ [])) b d → AsksForAll (take (length first + k) ns) a d
+    front k le next =
+        let same : take (length first + k) ns ≡ first ++ take k (name ∷ []) = ap (take (length first + k)) is ∙ take_front first (name ∷ []) rest k le in
+        subst (λ (ms : List (List ℕ)). AsksForAll ms a d) (sym same) (asks_both first (take k (name ∷ [])) a b d so_far next)
+
+    none_or_one : (k : ℕ) → k ≤ 1 → AsksForAll (take k (name ∷ [])) b d → AsksForAll (take (length first) ns) a d ⊎ AsksForAll (take (length first + 1) ns) a d
+    none_or_one zero le next = inl (subst (λ (n : ℕ). AsksForAll (take n ns) a d) (omega arith) (front zero le next))
+    none_or_one (suc zero) le next = inr (front 1 le next)
+    none_or_one (suc (suc k)) le next = absurd (omega arith)
+
+    asked_last : AsksForSome (name ∷ []) b d → IsAskedLast ns a d name
+    asked_last some = record { before = length first; there = ap (λ xs. slice_get xs (length first)) is ∙ next_of first rest name; asked = none_or_one some.0 some.1 some.2 }
+
+  file_last : (c : CheckParts) (name : List ℕ) → ns ≡ first ++ (names_of c ++ rest) → IsFile c name → AsksForSome (names_of c) b d → IsAskedLast ns a d name
+  file_last (file t own) name is at some = subst (λ n. IsAskedLast ns a d n) at (asked_last own is some)
+  file_last (literal c) name is at some = absurd at
+  file_last (table columns) name is at some = absurd at
+  file_last (room t n p) name is at some = absurd at
+
+  check_last : (c : CheckParts) (e : LoadEnd) → ns ≡ first ++ (names_of c ++ rest) → IsFaultAt c e → AsksForSome (names_of c) b d → IsFaultAtLast ns a d e
+  check_last c (ReadFault name) is at some = file_last c name is at some
+  check_last c (Refused e) is at some = tt
+  check_last c (TableRefused name k rec field) is at some = file_last c name is at some
+  check_last c NoMemory is at some = tt
+
 -- the checks of a list, one after the other: the i-th is c
 module _ (all : List Check) (i : ℕ) (c : Check) (lt : i < length all) (is : c ≡ get_or all i c) where
   abbrev first : List (List ℕ)
@@ -92,6 +127,9 @@ module _ (all : List Check) (i : ℕ) (c : Check) (lt : i < length all) (is : c 
       ap (take (length first + k)) parts ∙ take_front first (names_of (check_seen c)) (names_in (map check_seen (drop (i + 1) all))) k next.1 in
       (length first + k, few, subst (λ (ns : List (List ℕ)). AsksForAll ns a d) (sym front) (asks_both first (take k (names_of (check_seen c))) a b d so_far next.2))
 
+  pub fault_last : (a b d : Option (List (List ℕ))) → AsksForAll first a b → (e : LoadEnd) → IsFaultAt (check_seen c) e → AsksForSome (names_of (check_seen c)) b d → IsFaultAtLast (names_in (map check_seen all)) a d e
+  fault_last a b d so_far e at some = check_last (names_in (map check_seen all)) first (names_in (map check_seen (drop (i + 1) all))) a b d so_far (check_seen c) e parts at some
+
 pub asked_all : (all : List Check) (i : ℕ) (a b : Option (List (List ℕ))) → length all ≤ i → AsksForAll (names_in (map check_seen (take i all))) a b → AsksForAll (names_in (map check_seen all)) a b
 asked_all all i a b le asks = subst (λ (xs : List Check). AsksForAll (names_in (map check_seen xs)) a b) (take_all i all le) asks
 
@@ -107,3 +145,6 @@ script_asks cs out a b same asks = subst (λ (ns : List (List ℕ)). AsksForAll 
 
 pub script_asks_some : (cs : List CheckParts) (out : ScriptOut) (a b : Option (List (List ℕ))) → cs ≡ checks_of out → AsksForSome (names_in cs) a b → AsksForSome (copied_files out.statements) a b
 script_asks_some cs out a b same asks = subst (λ (ns : List (List ℕ)). AsksForSome ns a b) (ap names_in same ∙ checks_ask out) asks
+
+pub script_last : (cs : List CheckParts) (out : ScriptOut) (a b : Option (List (List ℕ))) (e : LoadEnd) → cs ≡ checks_of out → IsFaultAtLast (names_in cs) a b e → IsFaultAtLast (copied_files out.statements) a b e
+script_last cs out a b e same missing = subst (λ (ns : List (List ℕ)). IsFaultAtLast ns a b e) (ap names_in same ∙ checks_ask out) missing

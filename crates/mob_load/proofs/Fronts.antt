@@ -8,7 +8,8 @@ use Rattle.mob_value.specs.declared.value.Value.{Value}
 use Rattle.mob_catalog.specs.Faults.{Wrong}
 use Rattle.std.proofs.lemmas.List.{length-take, length-take-le, append-nil, take_all, take-append-le}
 use Rattle.mob_outside.specs.Told.{Contents, file_of, Opens}
-use Rattle.mob_load.specs.Fronts.{IsFront}
+use Rattle.mob_streams.specs.Streams.{ReadsPart}
+use Rattle.mob_load.specs.Fronts.{IsFront, IsLeftOf}
 use Rattle.mob_catalog.specs.TableFile.{file_limit, Column, IsTable, FileFails}
 
 -- what was read is as long as it may be
@@ -34,6 +35,12 @@ opened_front : (name : List ℕ) (files : Option Contents) (left : Option (List 
 opened_front name None left bytes opens reads = tt
 opened_front name (Some m) None bytes opens reads = cc
 opened_front name (Some m) (Some whole) bytes opens reads = (whole, sym opens.0, reads)
+
+-- what an opened file has left lies behind what was taken of it
+pub file_left : (name : List ℕ) (files : Option Contents) (left now : Option (List ℕ)) → Opens name files left → ReadsPart file_limit left now → IfSome files (λ m. IsLeftOf name m now)
+file_left name None left now opens part = tt
+file_left name (Some m) None now opens part = cc
+file_left name (Some m) (Some whole) now opens part = (whole, sym opens.0, part)
 
 pub file_front : (name : List ℕ) (files : Option Contents) (left : Option (List ℕ)) (r : Result (Option (Vec ℕ Global)) AllocError)
     → Opens name files left → IfOk r (λ o. IfSome o (λ v. IfSome left (λ whole. v.items ≡ take (file_limit + 1) whole))) → IfOk r (λ o. IfSome o (λ v. IfSome files (λ m. IsFront name m v.items)))

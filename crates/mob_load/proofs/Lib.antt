@@ -4,3 +4,5 @@ pub mod Fronts
 pub mod Narrow
 pub mod Steps
 pub mod Values
+pub mod OneLoading
+pub mod Marks

@@ -11,7 +11,7 @@ use Rattle.mob_load.specs.Checks.{CheckParts, literal, table, room, file, Mark, 
 use Rattle.mob_load.specs.Loads.{Loaded, Halt, Loads, LoadsScript, Passes, Pours, HasValue, literal_of, literals_in, Goes, one_row, greatest_rows, rows_at, with_value, nothing_loaded, LooksAtLiterals, ProgramHasValues}
 
 -- marks that are no literals
-abbrev NoLiterals : List Mark → Type 0
+abbrev pub NoLiterals : List Mark → Type 0
 NoLiterals [] = Unit {0}
 NoLiterals (m ∷ ms) = (literal_of m.check ≡ []) × NoLiterals ms
 
@@ -52,7 +52,7 @@ no_marks n (rows_from t name) = (refl, tt)
 no_marks n (query s) = tt
 no_marks n (plan_of s) = tt
 
-no_all : (n : ℕ) (ss : List StatementOut) → NoLiterals (marks_from n ss)
+pub no_all : (n : ℕ) (ss : List StatementOut) → NoLiterals (marks_from n ss)
 no_all n [] = tt
 no_all n (s ∷ ss) = no_both (marks_of n s) (marks_from (n + 1) ss) (no_marks n s) (no_all (n + 1) ss)
 

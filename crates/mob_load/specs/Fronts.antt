@@ -1,11 +1,16 @@
 -- What reading a table file takes, and which names it asks for.
-use Rattle.std.specs.Prelude.{◌≡◌, ◌≤◌, ◌+◌, ◌++◌, ◌∷◌, ⊤, ℕ, List, [], take, length, Option, Some, None}
+use Rattle.std.specs.Prelude.{◌≡◌, ◌⊎◌, ◌≤◌, ◌+◌, ◌++◌, ◌∷◌, ⊤, ℕ, List, [], take, length, slice_get, Option, Some, None}
 use Rattle.mob_catalog.specs.TableFile.{file_limit}
 use Rattle.mob_outside.specs.Told.{Contents, file_of}
+use Rattle.mob_streams.specs.Streams.{ReadsPart}
 
 -- the front of the file with this name, up to one byte past the most
 abbrev pub IsFront : List ℕ → Contents → List ℕ → Type 0
 IsFront name files bytes = (whole : List ℕ) × (file_of name files ≡ Some whole) × (bytes ≡ take (file_limit + 1) whole)
+
+-- this is left of the file with this name: at most one byte past the most was taken from its front
+abbrev pub IsLeftOf : List ℕ → Contents → Option (List ℕ) → Type 0
+IsLeftOf name files left = (whole : List ℕ) × (file_of name files ≡ Some whole) × ReadsPart file_limit (Some whole) left
 
 -- told names grow by these, at their end
 abbrev pub AsksForAll : List (List ℕ) → Option (List (List ℕ)) → Option (List (List ℕ)) → Type 0
@@ -15,3 +20,10 @@ AsksForAll names (Some old) new = new ≡ Some (old ++ names)
 -- told names grow by the first few of these
 abbrev pub AsksForSome : List (List ℕ) → Option (List (List ℕ)) → Option (List (List ℕ)) → Type 0
 AsksForSome names old new = (k : ℕ) × (k ≤ length names) × AsksForAll (take k names) old new
+
+-- This is one of the names, and told names grow by those before it and by it; or, where it could not be opened, perhaps by
+-- those before it alone.
+pub record IsAskedLast (names : List (List ℕ)) (old new : Option (List (List ℕ))) (name : List ℕ) : Type 0 where
+  pub before : ℕ
+  pub there : slice_get names before ≡ Some name
+  pub asked : AsksForAll (take before names) old new ⊎ AsksForAll (take (before + 1) names) old new

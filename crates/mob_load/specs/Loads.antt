@@ -1,22 +1,22 @@
 -- What a script reads before it runs, in written order; the first check that fails decides.
-use Rattle.std.specs.Prelude.{◌≡◌, ◌≢◌, ◌≤◌, ◌⊎◌, ◌+◌, ◌-◌, ℤ, ℕ, List, [], ◌∷◌, ◌++◌, length, map, nat_lt, slice_get, slice_index, slice_set, Option, Some, None, Result, Ok, Err, if◌then◌else◌}
+use Rattle.std.specs.Prelude.{◌≡◌, ◌≤◌, ◌⊎◌, ◌+◌, ◌-◌, ℤ, ℕ, List, [], ◌∷◌, ◌++◌, length, map, nat_lt, slice_get, slice_index, slice_set, Option, Some, None, Result, Ok, Err, if◌then◌else◌}
 use Rattle.std.specs.List.{flat_map, AllZip}
 use Rattle.mob_ast.specs.declared.refusal.Kind.{Kind}
 use Rattle.mob_ast.specs.declared.refusal.Kind.TheVariants as kind
 use Rattle.mob_ast.specs.declared.refusal.Refusal.{Refusal}
 use Rattle.mob_value.specs.declared.value.Value.{Value}
 use Rattle.mob_scalar.specs.declared.fault.ReadText.{ReadText}
-use Rattle.mob_scalar.specs.declared.fault.ReadText.TheVariants.{NotText, Limit, TooLarge, Unsound, NoMemory}
 use Rattle.mob_literal.specs.SqlText.{SaysAs}
 use Rattle.mob_outside.specs.Faults.{Rose}
 use Rattle.mob_outside.specs.Told.{Contents, file_of}
-use Rattle.mob_catalog.specs.Faults.{Wrong}
+use Rattle.mob_catalog.specs.Faults.{Refuses, Wrong}
 use Rattle.mob_catalog.specs.TableFile.{IsTable, FileFails}
 use Rattle.mob_typing.specs.declared.typed.ConstText.{ConstText}
 use Rattle.mob_typing.specs.Names.{ColumnList}
 use Rattle.mob_typing.specs.Statements.{ScriptOut, StatementOut, rows_from, typed_script}
 use Rattle.mob_ast.specs.Trees.{StatementParts}
 use Rattle.mob_load.specs.Checks.{CheckParts, literal, table, room, file, checks_of}
+use Rattle.mob_load.specs.Fronts.{IsAskedLast}
 use Rattle.mob_load.specs.declared.loading.Loading.{Loading}
 use Rattle.mob_load.specs.declared.program.Program.{Program}
 use Rattle.mob_load.specs.declared.program.LoadEnd.{LoadEnd}
@@ -68,18 +68,14 @@ with_rows l t n = record l { rows = slice_set l.rows t (rows_at l t + n) }
 abbrev pub with_file : Loaded → ℕ → List (List Value) → Loaded
 with_file l t rows = record (with_rows l t (length rows)) { files = l.files ++ rows ∷ [] }
 
--- a literal that has no value, by what is wrong with its text
-abbrev pub literal_kind : ReadText → Kind
-literal_kind Limit = kind.Limit
-literal_kind _ = kind.BadLiteral
+-- a literal that has no value is refused at its place
+abbrev pub refused_literal : ConstText → Kind → Halt
+refused_literal c k = refused (record { kind = k; statement = c.statement; place = c.place })
 
-abbrev pub refused_literal : ConstText → ReadText → Halt
-refused_literal c f = refused (record { kind = literal_kind f; statement = c.statement; place = c.place })
-
--- a literal has the value of its text, or it is refused at its place
+-- a literal has the value of its text, or it is refused for what is wrong with that
 abbrev pub Reads : ℤ → ConstText → Loaded → Result Loaded Halt → Type 0
 Reads day c l (Ok m) = (v : Value) × SaysAs c.ty day c.text (Ok v) × (m ≡ with_value l v)
-Reads day c l (Err h) = (f : ReadText) × (f ≢ NoMemory) × SaysAs c.ty day c.text (Err f) × (h ≡ refused_literal c f)
+Reads day c l (Err h) = (f : ReadText) × (k : Kind) × Refuses f k × SaysAs c.ty day c.text (Err f) × (h ≡ refused_literal c k)
 
 -- a table takes one row more as long as it has fewer than the most; else the row is refused at its bracket
 abbrev pub one_row : ℕ → ℕ → ℕ → Loaded → Result Loaded Halt
@@ -142,13 +138,20 @@ Gives (Err (TableRefused name k rec field)) after says = says (Err (table_refuse
 Gives (Err (ReadFault name)) after says = Unit {0}
 Gives (Err OutOfMemory) after says = Unit {0}
 
--- no file could not be read
+-- each file could be read
+abbrev pub IsRead : LoadEnd → Type 0
+IsRead (ReadFault name) = ⊥
+IsRead _ = Unit {0}
+
+-- no file is refused, and each could be read
 abbrev pub IsNoFault : LoadEnd → Type 0
+IsNoFault (TableRefused name k rec field) = ⊥
 IsNoFault (ReadFault name) = ⊥
 IsNoFault _ = Unit {0}
 
--- the file that could not be read is that of this check
+-- the file that is refused or could not be read is that of this check
 abbrev pub IsFaultAt : CheckParts → LoadEnd → Type 0
+IsFaultAt c (TableRefused name k rec field) = IsFile c name
 IsFaultAt c (ReadFault name) = IsFile c name
 IsFaultAt c _ = Unit {0}
 
@@ -156,6 +159,12 @@ IsFaultAt c _ = Unit {0}
 abbrev pub HasFaultCause : ℕ → ℕ → LoadEnd → Type 0
 HasFaultCause before now (ReadFault name) = Rose before now
 HasFaultCause before now _ = Unit {0}
+
+-- the file that is refused or could not be read is one of these names, the last that was asked for
+abbrev pub IsFaultAtLast : List (List ℕ) → Option (List (List ℕ)) → Option (List (List ℕ)) → LoadEnd → Type 0
+IsFaultAtLast names old new (TableRefused name k rec field) = IsAskedLast names old new name
+IsFaultAtLast names old new (ReadFault name) = IsAskedLast names old new name
+IsFaultAtLast names old new _ = Unit {0}
 
 -- the names that a check asks for
 abbrev pub names_of : CheckParts → List (List ℕ)

@@ -1,5 +1,6 @@
 //! Laws of loading. Each is proved for every script; calling one does nothing.
 ghost use Rattle.mob_load.specs.Loads.{LooksAtLiterals, ProgramHasValues};
+ghost use Rattle.mob_load.specs.Outcomes.{HasOneLoading, HasOneProgram};
 
 /// Each literal of a script is looked at once, in written order.
 pub fn literals_are_looked_at()
@@ -10,3 +11,11 @@ pub fn literals_are_looked_at()
 pub fn literals_have_their_values()
     ensures values { ProgramHasValues }
 {}
+
+/// Loading has one outcome: a script's literals and files give one program, or one refusal.
+pub fn one_loading()
+    ensures loading { HasOneLoading }
+    ensures program { HasOneProgram }
+{
+    mob_catalog::laws::one_table();
+}

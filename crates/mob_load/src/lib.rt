@@ -6,6 +6,7 @@ mod file;
 pub mod laws;
 mod loading;
 mod order;
+pub mod order_laws;
 mod passing;
 mod program;
 mod script;

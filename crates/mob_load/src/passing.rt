@@ -1,20 +1,20 @@
 // One check: a literal, a new table, a row of an INSERT, or a file.
-ghost use Rattle.std.specs.Prelude.{◌≡◌, ◌+◌, ◌≤◌, IfErr, IfOk, IfSome, OnOk, length, map, option_map, slice_get, slice_index, slice_set, Some};
+ghost use Rattle.std.specs.Prelude.{◌≡◌, ◌⊎◌, ◌+◌, ◌≤◌, IfErr, IfOk, IfSome, OnOk, length, map, option_map, slice_get, slice_index, slice_set, Some};
 ghost use Rattle.mob_outside.specs.Told.{AsksFor, KeepsFiles, MayAskFor, file_of};
-ghost use Rattle.mob_catalog.specs.Faults.{OnRefused};
+ghost use Rattle.mob_catalog.specs.Faults.{OnRefused, Refuses};
 ghost use Rattle.mob_catalog.specs.TableFile.{FileFails, IsTable};
 ghost use Rattle.mob_load.specs.Checks.{check_seen, file};
 ghost use Rattle.mob_load.specs.Fronts.{AsksForAll, AsksForSome};
-ghost use Rattle.mob_load.specs.Loads.{Gives, HasFaultCause, HasNarrow, IsFaultAt, IsNarrow, IsNoFault, Passes, Pours, Reads, columns_or_none, literal_kind, loaded_of, names_of, one_row, with_file, with_table};
-ghost use Rattle.mob_load.specs.declared.program.LoadEnd.TheVariants.{NoMemory};
-ghost use Rattle.mob_scalar.specs.declared.fault.ReadText.TheVariants.{NoMemory as OutOfMemory};
+ghost use Rattle.mob_load.specs.Loads.{Gives, HasFaultCause, HasNarrow, IsFaultAt, IsNarrow, IsNoFault, IsRead, Passes, Pours, Reads, columns_or_none, loaded_of, names_of, one_row, with_file, with_table};
+ghost use Rattle.mob_load.specs.declared.program.LoadEnd.TheVariants.{NoMemory, Refused};
+ghost use Rattle.mob_ast.specs.declared.refusal.Kind.{Kind};
 
 use crate::check::Check;
 use crate::file::read_file;
 use crate::loading::Loading;
 use crate::program::LoadEnd;
 use mob_ast::{Kind, Refusal, SqlType};
-use mob_catalog::{LoadFault, read_table};
+use mob_catalog::{LoadFault, read_table, refusal_kind};
 use mob_list::items::Items;
 use mob_list::text::Text;
 use mob_literal::read_value;
@@ -27,24 +27,17 @@ use std::alloc::Global;
 // The most rows that a script puts into one table.
 const GREATEST_ROWS: u32 = 1_000_000;
 
-// Why a literal is refused whose text has this fault.
-fn literal_kind(fault: ReadText) -> Kind
-    ensures { result ≡ literal_kind fault }
+// Why loading ends at a literal whose text has this fault.
+fn refused_literal(constant: &ConstText, fault: ReadText) -> LoadEnd
+    ensures refused { (result ≡ NoMemory) ⊎ ((k : Kind) × Refuses fault k × (result ≡ Refused (record { kind = k; statement = constant.now.statement; place = constant.now.place }))) }
 {
-    match fault {
-        ReadText::Limit => Kind::Limit,
-        _ => Kind::BadLiteral,
-    }
-}
-
-// The refusal of a literal whose text has this fault.
-fn refused_literal(constant: &ConstText, fault: ReadText) -> Refusal
-    ensures { result ≡ record { kind = literal_kind fault; statement = constant.now.statement; place = constant.now.place } }
-{
-    Refusal {
-        kind: literal_kind(fault),
-        statement: constant.statement,
-        place: constant.place,
+    match refusal_kind(fault) {
+        Some(kind) => LoadEnd::Refused(Refusal {
+            kind,
+            statement: constant.statement,
+            place: constant.place,
+        }),
+        None => LoadEnd::NoMemory,
     }
 }
 
@@ -64,8 +57,7 @@ fn read_literal(
             loading.values.push(value)?;
             Ok(())
         }
-        Err(ReadText::NoMemory) => Err(LoadEnd::NoMemory),
-        Err(fault) => Err(LoadEnd::Refused(refused_literal(constant, fault))),
+        Err(fault) => Err(refused_literal(constant, fault)),
     }
 }
 
@@ -180,7 +172,8 @@ fn pour(
 ) -> Result<(), LoadEnd>
     requires narrow { HasNarrow (loaded_of loading.old).tables }
     ensures poured { Gives result (loaded_of loading.new) (Pours epoch.now table name.now (loaded_of loading.old) (Some bytes.now)) }
-    ensures no_fault { IfErr result IsNoFault }
+    ensures fault { IfErr result (IsFaultAt (file table name.now)) }
+    ensures read { IfErr result IsRead }
     ensures tables { OnOk result ((loaded_of loading.new).tables ≡ (loaded_of loading.old).tables) }
 {
     let room = GREATEST_ROWS.saturating_sub(rows_at(&loading.rows, table));

@@ -5,7 +5,7 @@ ghost use Rattle.mob_outside.specs.Told.{KeepsFiles};
 ghost use Rattle.mob_typing.specs.Statements.{script_seen};
 ghost use Rattle.mob_load.specs.Fronts.{AsksForAll, AsksForSome};
 ghost use Rattle.mob_load.specs.Checks.{check_seen, checks_of};
-ghost use Rattle.mob_load.specs.Loads.{AreNarrow, HasFaultCause, IsOutcome, IsTyped, Loads, LoadsScript, StopsAt, copied_files, loaded_of, names_in, nothing_loaded};
+ghost use Rattle.mob_load.specs.Loads.{AreNarrow, HasFaultCause, IsFaultAtLast, IsOutcome, IsTyped, Loads, LoadsScript, StopsAt, copied_files, loaded_of, names_in, nothing_loaded};
 
 use crate::check::Check;
 use crate::loading::Loading;
@@ -43,6 +43,7 @@ fn load_checks<'a, F: Files>(
     ensures cause { IfErr result (HasFaultCause (F.faults files.old) (F.faults files.new)) }
     ensures asked { OnOk result (AsksForAll (names_in (map check_seen checks.now)) (F.asked files.old) (F.asked files.new)) }
     ensures some { AsksForSome (names_in (map check_seen checks.now)) (F.asked files.old) (F.asked files.new) }
+    ensures last { IfErr result (IsFaultAtLast (names_in (map check_seen checks.now)) (F.asked files.old) (F.asked files.new)) }
     ensures files { KeepsFiles (F.files files.old) (F.files files.new) }
     ensures later { F.faults files.old ≤ F.faults files.new }
 {
@@ -80,6 +81,7 @@ pub fn load<F: Files>(
     ensures complete { (Rose (F.faults files.old) (F.faults files.new) → ⊥) → IfSome (F.files files.old) (λ m. IsOutcome epoch.now m (script_seen typed.now) result) }
     ensures asked { OnOk result (AsksForAll (copied_files (script_seen typed.now).statements) (F.asked files.old) (F.asked files.new)) }
     ensures some { AsksForSome (copied_files (script_seen typed.now).statements) (F.asked files.old) (F.asked files.new) }
+    ensures last { IfErr result (IsFaultAtLast (copied_files (script_seen typed.now).statements) (F.asked files.old) (F.asked files.new)) }
     ensures files { KeepsFiles (F.files files.old) (F.files files.new) }
     ensures later { F.faults files.old ≤ F.faults files.new }
 {

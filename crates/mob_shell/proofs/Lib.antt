@@ -1,3 +1,7 @@
 mod Seen
 pub mod Whole
 mod Statuses
+mod OneRun
+mod OneOutcome
+mod OneStatus
+mod Due

@@ -11,13 +11,13 @@ use Rattle.mob_streams.specs.Streams.{ReadsPart, ReadsTo}
 use Rattle.mob_streams.proofs.Known.{takes_nothing}
 use Rattle.mob_outside.specs.Told.{Contents}
 use Rattle.mob_typing.specs.Statements.{ScriptOut}
-use Rattle.mob_load.specs.Fronts.{AsksForAll, AsksForSome}
+use Rattle.mob_load.specs.Fronts.{AsksForAll, AsksForSome, IsAskedLast}
 use Rattle.mob_load.specs.Loads.{LoadsScript, copied_files, refused, table_refused}
 use Rattle.mob_load.specs.declared.program.Program.{Program}
 use Rattle.mob_ending.specs.declared.ending.Ending.{Ending}
 use Rattle.mob_ending.specs.declared.ending.Ending.TheVariants.{Done, Usage, ReadFault, WriteFault, NoMemory, TableRefused, ScriptRefused, Overflow}
 use Rattle.mob_shell.specs.Program.{IsScript, IsProgram, IsHalted, OutText, StopsWith, WritesFirst}
-use Rattle.mob_shell.specs.Ending.{AreCopied, AsksInOrder, Causes, Ends, IsUsage, OnTold, ReadsThrough, Seen}
+use Rattle.mob_shell.specs.Ending.{AreCopied, AsksInOrder, Causes, Ends, IsCopied, IsUsage, OnTold, ReadsThrough, Seen}
 use Rattle.mob_shell.specs.Parts.{LoadEnds, RefusesText, RunsText}
 
 -- what holds of all holds of what is told
@@ -87,12 +87,18 @@ module _ (s : Seen) (bytes : List ℕ) (reads : ReadsTo script_limit s.script s.
     short : length bytes ≤ script_limit
     short = accepted.script.read.short
 
+    copied : IfSome s.script (λ b. AreCopied s.words b (copied_files out.statements))
+    copied = on-script (λ b. AreCopied s.words b (copied_files out.statements)) s.script s.rest bytes reads short (inr (day, out, script, refl))
+
     pub asked_in_order : AsksForSome (copied_files out.statements) s.asked_before s.asked_now → AsksInOrder s
     asked_in_order asks = record {
       names = copied_files out.statements;
-      copied = on-script (λ b. AreCopied s.words b (copied_files out.statements)) s.script s.rest bytes reads short (inr (day, out, script, refl));
+      copied = copied;
       asked = asks;
     }
+
+    copied_last : (name : List ℕ) → IsAskedLast (copied_files out.statements) s.asked_before s.asked_now name → IsCopied s name
+    copied_last name last = record { names = copied_files out.statements; copied = copied; last = last }
 
     told : (P : List ℕ → Contents → Type 0) → IfSome s.files (P bytes) → OnTold s P
     told P h = on-script (λ b. IfSome s.files (λ m. P b m)) s.script s.rest bytes reads short h
@@ -100,7 +106,7 @@ module _ (s : Seen) (bytes : List ℕ) (reads : ReadsTo script_limit s.script s.
     program : (p : Program) (Q : Contents → Type 0) → ((m : Contents) → IsProgram s.words bytes m day out p → Q m) → IfSome s.files (λ m. LoadsScript day m out (Ok p)) → IfSome s.files Q
     program p Q f h = some_map (λ m. LoadsScript day m out (Ok p)) Q (λ m l. f m (record { script = script; loads = l })) s.files h
 
-    pub loaded_causes : (ending : Ending) → LoadEnds day out s.files s.filed_before s.filed_now s.out_before s.out_now s.put_before s.put_now ending → Causes ending s
+    pub loaded_causes : (ending : Ending) → LoadEnds day out s.files s.asked_before s.asked_now s.filed_before s.filed_now s.out_before s.out_now s.put_before s.put_now ending → Causes ending s
     loaded_causes Done h = record {
       text = h.left.text;
       ended = reads.whole short;
@@ -145,8 +151,9 @@ module _ (s : Seen) (bytes : List ℕ) (reads : ReadsTo script_limit s.script s.
     loaded_causes (TableRefused name kind rec field) h = (
       record {
         ended = reads.whole short;
+        copied = copied_last name h.0.1;
         cause = told (λ b m. IsHalted s.words b m (table_refused name kind rec field)) (some_map (λ m. LoadsScript day m out (Err (table_refused name kind rec field))) (λ m. IsHalted s.words bytes m (table_refused name kind rec field))
-            (λ m l. record { day = day; out = out; script = script; loads = l }) s.files h.0);
+            (λ m l. record { day = day; out = out; script = script; loads = l }) s.files h.0.0);
       },
       h.1,
     )
@@ -158,7 +165,7 @@ module _ (s : Seen) (bytes : List ℕ) (reads : ReadsTo script_limit s.script s.
       },
       h.1,
     )
-    loaded_causes (ReadFault (Some name)) h = h
+    loaded_causes (ReadFault (Some name)) h = (record { ended = reads.whole short; copied = copied_last name h.0.1; rose = h.0.0 }, h.1)
     loaded_causes (ReadFault None) h = absurd h
     loaded_causes Usage h = absurd h
 

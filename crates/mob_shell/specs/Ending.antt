@@ -1,5 +1,5 @@
 -- Why a run ends as it does, by what it was given and what it did.
-use Rattle.std.specs.Prelude.{◌≡◌, ◌⊎◌, ◌≤◌, ◌+◌, ℕ, ℤ, List, [], length, map, Option, Some, None, IfSome}
+use Rattle.std.specs.Prelude.{◌≡◌, ◌⊎◌, ◌≤◌, ◌+◌, ℕ, ℤ, List, [], length, map, Option, Some, None, IfSome, IsSomeAnd}
 use Rattle.std.specs.Io.KnownBytes.{Appends, Consumes, IsAtEnd, Keeps}
 use Rattle.mob_ast.specs.declared.refusal.Kind.{Kind}
 use Rattle.mob_ast.specs.declared.refusal.Refusal.{Refusal}
@@ -11,7 +11,7 @@ use Rattle.mob_words.specs.CommandLine.{Says}
 use Rattle.mob_accept.specs.Accepts.{IsTextRefused, script_limit}
 use Rattle.mob_typing.specs.Statements.{ScriptOut}
 use Rattle.mob_load.specs.Loads.{refused, table_refused, copied_files}
-use Rattle.mob_load.specs.Fronts.{AsksForSome}
+use Rattle.mob_load.specs.Fronts.{AsksForSome, IsAskedLast}
 use Rattle.mob_ending.specs.declared.ending.Ending.{Ending}
 use Rattle.mob_ending.specs.declared.ending.Ending.TheVariants.{Done, Usage, ReadFault, WriteFault, NoMemory, TableRefused, ScriptRefused, Overflow}
 use Rattle.mob_shell.specs.Program.{IsScript, IsHalted, WritesFirst, OutText, StopsWith}
@@ -101,15 +101,33 @@ pub record IsRefused (s : Seen) (e : Refusal) : Type 0 where
   pub read : ReadsThrough s
   pub cause : IfSome s.script (λ bytes. IsTextRefused bytes e ⊎ IfSome s.files (λ files. IsHalted s.words bytes files (refused e)))
 
--- a table file is refused
+-- these are the names of the COPY statements of the script, in order; or none, where there is no such script
+abbrev pub AreCopied : List (List ℕ) → List ℕ → List (List ℕ) → Type 0
+AreCopied words bytes names = (names ≡ []) ⊎ ((day : ℤ) × (out : ScriptOut) × IsScript words bytes day out × (names ≡ copied_files out.statements))
+
+-- this is the file of a COPY statement of the script, and the files were asked for those of the COPY statements before, and for
+-- it last
+pub record IsCopied (s : Seen) (file : List ℕ) : Type 0 where
+  pub names : List (List ℕ)
+  pub copied : IfSome s.script (λ bytes. AreCopied s.words bytes names)
+  pub last : IsAskedLast names s.asked_before s.asked_now file
+
+-- a table file is refused, which the script copies
 pub record IsTableRefused (s : Seen) (name : List ℕ) (kind : Kind) (rec field : ℕ) : Type 0 where
   pub ended : IsAtEnd s.rest
+  pub copied : IsCopied s name
   pub cause : OnTold s (λ bytes files. IsHalted s.words bytes files (table_refused name kind rec field))
 
--- the script could not be read, or a file, and the count of its faults rose
+-- a file could not be read: one that the script copies, which was read to its end; and the count of the files rose
+pub record IsUnread (s : Seen) (file : List ℕ) : Type 0 where
+  pub ended : IsAtEnd s.rest
+  pub copied : IsCopied s file
+  pub rose : Rose s.filed_before s.filed_now
+
+-- the script could not be read, and the count of its faults rose; or a file could not be read
 abbrev pub CouldNotRead : Option (List ℕ) → Seen → Type 0
 CouldNotRead None s = Rose s.read_before s.read_now
-CouldNotRead (Some file) s = Rose s.filed_before s.filed_now
+CouldNotRead (Some file) s = IsUnread s file
 
 -- Why a run ended so. Nothing was written but under `Done`, `WriteFault`, `NoMemory` and `Overflow`.
 abbrev pub Causes : Ending → Seen → Type 0
@@ -121,6 +139,10 @@ Causes NoMemory s = Keeps s.out_before s.out_now ⊎ WroteSome s
 Causes (TableRefused file kind rec field) s = IsTableRefused s file kind rec field × Keeps s.out_before s.out_now
 Causes (ScriptRefused refusal) s = IsRefused s refusal × Keeps s.out_before s.out_now
 Causes (Overflow number rows place formula) s = StopsAt s number rows place formula
+
+-- the script could not be read, or some file
+abbrev pub IsReadFault : Seen → Type 0
+IsReadFault s = Rose s.read_before s.read_now ⊎ ((file : List ℕ) × IsUnread s file)
 
 -- a table file is refused, at some record and field
 abbrev pub IsTableFault : Seen → Type 0
@@ -134,13 +156,39 @@ IsScriptRefused s = (e : Refusal) × IsRefused s e
 abbrev pub IsOverflow : Seen → Type 0
 IsOverflow s = (number : ℕ) × (rows : List ℕ) × (place : ℕ) × (formula : Formula) × StopsAt s number rows place formula
 
--- the script or a table file is refused, or a part of a formula does not fit
-abbrev pub IsFaulty : Seen → Type 0
-IsFaulty s = IsTableFault s ⊎ (IsScriptRefused s ⊎ IsOverflow s)
+-- what the definitions say of words, a script and files: there are answers, a refusal, or a fault of a statement
+abbrev pub IsDue : List (List ℕ) → List ℕ → Contents → Ending → Type 0
+IsDue words bytes files Done = (text : List ℕ) × OutText words bytes files text
+IsDue words bytes files (TableRefused name kind rec field) = IsHalted words bytes files (table_refused name kind rec field)
+IsDue words bytes files (ScriptRefused e) = IsTextRefused bytes e ⊎ IsHalted words bytes files (refused e)
+IsDue words bytes files (Overflow number rows place formula) = (text : List ℕ) × StopsWith words bytes files text number (rows, (place, formula))
+IsDue words bytes files _ = ⊥
 
--- these are the names of the COPY statements of the script, in order; or none, where there is no such script
-abbrev pub AreCopied : List (List ℕ) → List ℕ → List (List ℕ) → Type 0
-AreCopied words bytes names = (names ≡ []) ⊎ ((day : ℤ) × (out : ScriptOut) × IsScript words bytes day out × (names ≡ copied_files out.statements))
+-- the script and the files are told, and the definitions say this of them
+abbrev pub Gives : Seen → Ending → Type 0
+Gives s ending = IsSomeAnd s.script (λ bytes. IsSomeAnd s.files (λ files. IsDue s.words bytes files ending))
+
+-- they give the answers of all statements
+abbrev pub HasAnswers : Seen → Type 0
+HasAnswers s = Gives s Done
+
+-- they refuse a table file
+abbrev pub HasTableRefusal : Seen → Type 0
+HasTableRefusal s = (name : List ℕ) × (kind : Kind) × (rec : ℕ) × (field : ℕ) × Gives s (TableRefused name kind rec field)
+
+-- they refuse the script, for its text or for one of its literals or rows
+abbrev pub HasScriptRefusal : Seen → Type 0
+HasScriptRefusal s = (e : Refusal) × Gives s (ScriptRefused e)
+
+-- they give a statement a fault: a part of a formula does not fit
+abbrev pub HasOverflow : Seen → Type 0
+HasOverflow s = (number : ℕ) × (rows : List ℕ) × (place : ℕ) × (formula : Formula) × Gives s (Overflow number rows place formula)
+
+-- no count of faults rose: of the script, of the files and of `out`
+pub record IsFaultless (s : Seen) : Type 0 where
+  pub read : Rose s.read_before s.read_now → ⊥
+  pub filed : Rose s.filed_before s.filed_now → ⊥
+  pub put : Rose s.put_before s.put_now → ⊥
 
 -- the files were asked for the first of these names, in order
 pub record AsksInOrder (s : Seen) : Type 0 where

@@ -1,3 +1,4 @@
 pub mod Program
 pub mod Ending
 pub mod Parts
+pub mod Outcomes

@@ -9,7 +9,7 @@ use Rattle.mob_typing.specs.Statements.{ScriptOut, StatementOut}
 use Rattle.mob_ast.specs.declared.refusal.Kind.TheVariants.{NoMemory as OutOfMemory}
 use Rattle.mob_ast.specs.declared.refusal.Refusal.{Refusal}
 use Rattle.mob_accept.specs.Accepts.{IsAccepted, IsTextRefused}
-use Rattle.mob_load.specs.Fronts.{AsksForSome}
+use Rattle.mob_load.specs.Fronts.{AsksForSome, IsAskedLast}
 use Rattle.mob_load.specs.Loads.{refused, table_refused, copied_files, LoadsScript}
 use Rattle.mob_load.specs.declared.program.Program.{Program}
 use Rattle.mob_run.specs.Runs.{Standing, Step, Stops, begin}
@@ -71,22 +71,22 @@ pub record Loaded (day : ℤ) (out : ScriptOut) (files : Option Contents) (Left 
   pub left : Left program
 
 -- what loading a typed script and running it leave
-abbrev pub LoadEnds : ℤ → ScriptOut → Option Contents → ℕ → ℕ → Option (List ℕ) → Option (List ℕ) → ℕ → ℕ → Ending → Type 0
-LoadEnds day out files filed filed_now old new before now Done = Loaded day out files (λ p. RanAll day out p old new)
-LoadEnds day out files filed filed_now old new before now (Overflow number rows place formula) = Loaded day out files (λ p. RanUpTo day out p number rows place formula old new)
-LoadEnds day out files filed filed_now old new before now WriteFault = Loaded day out files (λ p. RanShort day out p old new before now)
-LoadEnds day out files filed filed_now old new before now NoMemory = Keeps old new ⊎ Loaded day out files (λ p. RanSome day out p old new)
-LoadEnds day out files filed filed_now old new before now (TableRefused name kind rec field) = IfSome files (λ m. LoadsScript day m out (Err (table_refused name kind rec field))) × Keeps old new
-LoadEnds day out files filed filed_now old new before now (ScriptRefused e) = IfSome files (λ m. LoadsScript day m out (Err (refused e))) × Keeps old new
-LoadEnds day out files filed filed_now old new before now (ReadFault (Some name)) = Rose filed filed_now × Keeps old new
-LoadEnds day out files filed filed_now old new before now (ReadFault None) = ⊥
-LoadEnds day out files filed filed_now old new before now Usage = ⊥
+abbrev pub LoadEnds : ℤ → ScriptOut → Option Contents → Option (List (List ℕ)) → Option (List (List ℕ)) → ℕ → ℕ → Option (List ℕ) → Option (List ℕ) → ℕ → ℕ → Ending → Type 0
+LoadEnds day out files asked asked_now filed filed_now old new before now Done = Loaded day out files (λ p. RanAll day out p old new)
+LoadEnds day out files asked asked_now filed filed_now old new before now (Overflow number rows place formula) = Loaded day out files (λ p. RanUpTo day out p number rows place formula old new)
+LoadEnds day out files asked asked_now filed filed_now old new before now WriteFault = Loaded day out files (λ p. RanShort day out p old new before now)
+LoadEnds day out files asked asked_now filed filed_now old new before now NoMemory = Keeps old new ⊎ Loaded day out files (λ p. RanSome day out p old new)
+LoadEnds day out files asked asked_now filed filed_now old new before now (TableRefused name kind rec field) = (IfSome files (λ m. LoadsScript day m out (Err (table_refused name kind rec field))) × IsAskedLast (copied_files out.statements) asked asked_now name) × Keeps old new
+LoadEnds day out files asked asked_now filed filed_now old new before now (ScriptRefused e) = IfSome files (λ m. LoadsScript day m out (Err (refused e))) × Keeps old new
+LoadEnds day out files asked asked_now filed filed_now old new before now (ReadFault (Some name)) = (Rose filed filed_now × IsAskedLast (copied_files out.statements) asked asked_now name) × Keeps old new
+LoadEnds day out files asked asked_now filed filed_now old new before now (ReadFault None) = ⊥
+LoadEnds day out files asked asked_now filed filed_now old new before now Usage = ⊥
 
 -- a text that is a script is loaded and run, and the files are asked in order
 pub record RunsText (day : ℤ) (bytes : List ℕ) (files : Option Contents) (asked asked_now : Option (List (List ℕ))) (filed filed_now : ℕ) (old new : Option (List ℕ)) (before now : ℕ) (ending : Ending) : Type 0 where
   pub out : ScriptOut
   pub accepted : IsAccepted bytes out
-  pub ends : LoadEnds day out files filed filed_now old new before now ending
+  pub ends : LoadEnds day out files asked asked_now filed filed_now old new before now ending
   pub asks : AsksForSome (copied_files out.statements) asked asked_now
 
 -- a text that is refused by itself, or for want of memory: nothing is written, and no file is asked for

@@ -21,13 +21,6 @@ pub record IsProgram (words : List (List ℕ)) (bytes : List ℕ) (files : Conte
   pub script : IsScript words bytes day out
   pub loads : LoadsScript day files out (Ok program)
 
--- there is a program
-pub record HasProgram (words : List (List ℕ)) (bytes : List ℕ) (files : Contents) : Type 0 where
-  pub day : ℤ
-  pub out : ScriptOut
-  pub program : Program
-  pub is : IsProgram words bytes files day out program
-
 -- A script that has no program, for this refusal of a literal, a row or a file.
 pub record IsHalted (words : List (List ℕ)) (bytes : List ℕ) (files : Contents) (halt : Halt) : Type 0 where
   pub day : ℤ

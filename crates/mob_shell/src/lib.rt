@@ -5,6 +5,7 @@
 
 mod decide;
 mod judge;
+pub mod laws;
 mod program;
 mod statements;
 mod top;

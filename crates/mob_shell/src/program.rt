@@ -22,7 +22,7 @@ pub fn run_typed<F: Files, K: Sink>(
     out: &mut K,
 ) -> Ending
     requires typed { IsTyped (script_seen typed.now) }
-    ensures ends { LoadEnds epoch (script_seen typed.now) (F.files files.old) (F.faults files.old) (F.faults files.new) (K.held out.old) (K.held out.new) (K.faults out.old) (K.faults out.new) result }
+    ensures ends { LoadEnds epoch (script_seen typed.now) (F.files files.old) (F.asked files.old) (F.asked files.new) (F.faults files.old) (F.faults files.new) (K.held out.old) (K.held out.new) (K.faults out.old) (K.faults out.new) result }
     ensures asked { AsksForSome (copied_files (script_seen typed.now).statements) (F.asked files.old) (F.asked files.new) }
     ensures filed_later { F.faults files.old ≤ F.faults files.new }
     ensures put_later { K.faults out.old ≤ K.faults out.new }

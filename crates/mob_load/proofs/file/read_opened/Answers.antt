@@ -1,4 +1,5 @@
 use Rattle.std.proofs.Common.{rules, arith, ◌+◌}
+use Rattle.mob_streams.proofs.Known.{reads_more}
 use Rattle.mob_catalog.specs.TableFile.{file_limit}
 use Rattle.mob_load.proofs.Fronts.{read_full, read_whole}
 use Rattle.mob_load.proofs.file.read_opened.Goals as goal
@@ -11,3 +12,8 @@ returns-then-count-eq0-clause-bytes g c =
 pub returns-clause-bytes : goal.returns-clause-bytes
 returns-clause-bytes g c =
     read_full (file_limit + 1) (g.F.Files.left c.args.files.now) (g.F.Files.left c.loop-chunk.files) c.loop-chunk.bytes.items c.loop-chunk.invariant.taken (search rules)
+
+pub returns-in_err-extend_from_slice-clause-part : goal.returns-in_err-extend_from_slice-clause-part
+returns-in_err-extend_from_slice-clause-part g c =
+    reads_more file_limit (g.F.Files.left c.args.files.now) (g.F.Files.left c.loop-chunk.files) (g.F.Files.left c.take.new.self) c.loop-chunk.bytes.items _ c.in-Ok.count
+    c.loop-chunk.invariant.taken c.in-Ok.ensures.bytes.0 (search rules)

@@ -3,7 +3,7 @@ use Rattle.mob_typing.specs.Statements.{script_seen}
 use Rattle.mob_load.specs.Checks.{check_seen, checks_of}
 use Rattle.mob_load.specs.Loads.{AreNarrow, loaded_of}
 use Rattle.mob_load.proofs.Narrow.{script_narrow}
-use Rattle.mob_load.proofs.Asked.{script_asks, script_asks_some}
+use Rattle.mob_load.proofs.Asked.{script_asks, script_asks_some, script_last}
 use Rattle.mob_load.proofs.Steps.{program_loaded, script_stops, stopped_outcome}
 use Rattle.mob_load.proofs.script.load.Goals as goal
 
@@ -32,6 +32,11 @@ pub returns-clause-some : goal.returns-clause-some
 returns-clause-some g c =
     let same : map check_seen c.deref.result.now ≡ checks_of (script_seen c.args.typed.now) = ap (map check_seen) c.deref.ensures.value ∙ c.in_ok-checks.ensures.in_order in
     script_asks_some (map check_seen c.deref.result.now) (script_seen c.args.typed.now) (g.F.Files.asked c.args.files.now) (g.F.Files.asked c.load_checks.new.files) same c.in-Err.ensures.some
+
+pub returns-clause-last : goal.returns-clause-last
+returns-clause-last g c =
+    let same : map check_seen c.deref.result.now ≡ checks_of (script_seen c.args.typed.now) = ap (map check_seen) c.deref.ensures.value ∙ c.in_ok-checks.ensures.in_order in
+    script_last (map check_seen c.deref.result.now) (script_seen c.args.typed.now) (g.F.Files.asked c.args.files.now) (g.F.Files.asked c.load_checks.new.files) c.in-Err.end same c.in-Err.ensures.last
 
 pub load_checks-requires : goal.load_checks-requires
 load_checks-requires g c =

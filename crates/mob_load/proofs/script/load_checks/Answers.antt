@@ -4,7 +4,7 @@ use Rattle.mob_load.specs.Checks.{check_seen}
 use Rattle.mob_load.specs.declared.check.Check.{Check}
 use Rattle.mob_load.specs.Loads.{IsNarrow, loaded_of}
 use Rattle.mob_load.proofs.Narrow.{check_narrow, nothing_narrow}
-use Rattle.mob_load.proofs.Asked.{asked_on, asked_some, asked_all, all_some, none_asked}
+use Rattle.mob_load.proofs.Asked.{asked_on, asked_some, fault_last, asked_all, all_some, none_asked}
 use Rattle.mob_load.proofs.Steps.{all_left, none_left, check_passes, check_stops, keeps_same, keeps_on, rose_before}
 use Rattle.mob_load.proofs.script.load_checks.Goals as goal
 
@@ -53,6 +53,11 @@ pub returns-in-Err-clause-some : goal.returns-in-Err-clause-some
 returns-in-Err-clause-some g c =
     asked_some c.args.checks.now c.loop-check.check-index c.check-item.result c.loop-check-test.true c.check-item.is (g.F.Files.asked c.args.files.now) (g.F.Files.asked c.loop-check.files)
     (g.F.Files.asked c.pass.new.files) c.loop-check.invariant.asked c.in-Err.ensures.some
+
+pub returns-in-Err-clause-last : goal.returns-in-Err-clause-last
+returns-in-Err-clause-last g c =
+    fault_last c.args.checks.now c.loop-check.check-index c.check-item.result c.loop-check-test.true c.check-item.is (g.F.Files.asked c.args.files.now) (g.F.Files.asked c.loop-check.files)
+    (g.F.Files.asked c.pass.new.files) c.loop-check.invariant.asked c.in-Err.end c.in-Err.ensures.fault c.in-Err.ensures.some
 
 pub returns-in-Err-clause-files : goal.returns-in-Err-clause-files
 returns-in-Err-clause-files g c =

@@ -1,0 +1,48 @@
+-- A text is judged in one way.
+use Rattle.std.proofs.Common.{arith, ◌≡◌, ◌∙◌, refl, sym, ap, ap₂, subst, inl, inr, ℕ, List, [], None}
+use Rattle.mob_ast.specs.declared.refusal.Refusal.{Refusal}
+use Rattle.mob_ast.specs.Trees.{StatementParts}
+use Rattle.mob_grammar.specs.Symbols.{Tok}
+use Rattle.mob_grammar.specs.Scripts.{IsScript}
+use Rattle.mob_grammar.proofs.StatementsRead.{complete_script}
+use Rattle.mob_parse.specs.Refusals.{IsTreeOf}
+use Rattle.mob_parse.proofs.Refused.{no_tree, same_tokens}
+use Rattle.mob_parse.proofs.Scripts.{script_only}
+use Rattle.mob_typing.specs.Statements.{ScriptOut}
+use Rattle.mob_built.specs.Least.{least}
+use Rattle.mob_accept.specs.Accepts.{IsAccepted, IsTextRefused, IsTyped, unbuilt_places}
+use Rattle.mob_accept.specs.Outcomes.{HasOneScript, IsTakenOrRefused}
+
+-- tokens have one tree: what the reading of them gives
+one_tree : (l : List Tok) (x y : List StatementParts) → IsScript l x → IsScript l y → x ≡ y
+one_tree l x y h k = script_only l y x (complete_script l y [] k refl) h
+
+one_text : (bytes : List ℕ) (x y : List StatementParts) → IsTreeOf bytes x → IsTreeOf bytes y → x ≡ y
+one_text bytes x y h k =
+    let tokens = same_tokens bytes h.1.0 k.1.0 h.1.1 k.1.1 in
+    one_tree k.1.0 x y (subst (λ (l : List Tok). IsScript l x) tokens h.1.2) k.1.2
+
+one_typed : (bytes : List ℕ) (x y : List StatementParts) (a b : ScriptOut) → IsTyped bytes x a → IsTyped bytes y b → (x ≡ y) × (a ≡ b)
+one_typed bytes x y a b h k =
+    let trees = one_text bytes x y h.read.tree k.read.tree in
+    let typed = h.typed in
+    let other = k.typed in
+    (trees, cc)
+
+pub one_script : HasOneScript
+one_script bytes a b h k = (one_typed bytes h.trees k.trees a b h.script k.script).1
+
+pub taken_or_refused : IsTakenOrRefused
+taken_or_refused bytes out e h (inl k) = let long = k.long in let short = h.script.read.short in absurd (omega arith)
+taken_or_refused bytes out e h (inr (inl k)) = k.other (no_tree e.kind bytes e k.cause h.trees h.script.read.tree h.script.read.light)
+taken_or_refused bytes out e h (inr (inr (inl k))) =
+    let trees = one_text bytes h.trees k.trees h.script.read.tree k.read.tree in
+    let typed = h.script.typed in
+    let wrong = k.first in
+    absurd cc
+taken_or_refused bytes out e h (inr (inr (inr k))) =
+    let same = one_typed bytes h.trees k.trees out k.out h.script k.script in
+    let places = ap₂ (λ (x : List StatementParts) (o : ScriptOut). unbuilt_places bytes x o) same.0 same.1 in
+    let none : least (unbuilt_places bytes k.trees k.out) ≡ None = ap least (sym places ∙ h.built) in
+    let some = k.first in
+    absurd cc

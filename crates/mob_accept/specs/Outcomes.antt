@@ -1,0 +1,13 @@
+-- A text is judged in one way.
+use Rattle.std.specs.Prelude.{◌≡◌, ℕ, List}
+use Rattle.mob_ast.specs.declared.refusal.Refusal.{Refusal}
+use Rattle.mob_typing.specs.Statements.{ScriptOut}
+use Rattle.mob_accept.specs.Accepts.{IsAccepted, IsTextRefused}
+
+-- a script that is taken has one meaning with names and types
+abbrev pub HasOneScript : Type 0
+HasOneScript = (bytes : List ℕ) (a b : ScriptOut) → IsAccepted bytes a → IsAccepted bytes b → a ≡ b
+
+-- no text is taken and refused
+abbrev pub IsTakenOrRefused : Type 0
+IsTakenOrRefused = (bytes : List ℕ) (out : ScriptOut) (e : Refusal) → IsAccepted bytes out → IsTextRefused bytes e → ⊥

@@ -1,0 +1,15 @@
+-- Loading has one outcome.
+use Rattle.std.specs.Prelude.{◌≡◌, ℤ, List, Result}
+use Rattle.mob_outside.specs.Told.{Contents}
+use Rattle.mob_typing.specs.Statements.{ScriptOut}
+use Rattle.mob_load.specs.Checks.{CheckParts}
+use Rattle.mob_load.specs.Loads.{Halt, Loaded, Loads, LoadsScript}
+use Rattle.mob_load.specs.declared.program.Program.{Program}
+
+-- what checks read from a start is one, and so is the first that fails
+abbrev pub HasOneLoading : Type 0
+HasOneLoading = (day : ℤ) (files : Contents) (checks : List CheckParts) (start : Loaded) (r q : Result Loaded Halt) → Loads day files checks start r → Loads day files checks start q → r ≡ q
+
+-- a script has one program, or one refusal
+abbrev pub HasOneProgram : Type 0
+HasOneProgram = (day : ℤ) (files : Contents) (out : ScriptOut) (r q : Result Program Halt) → LoadsScript day files out r → LoadsScript day files out q → r ≡ q

@@ -1,0 +1,17 @@
+-- A statement has one outcome.
+use Rattle.std.specs.Prelude.{◌≡◌, ℕ, ℤ, List}
+use Rattle.mob_typing.specs.Statements.{StatementOut}
+use Rattle.mob_join.specs.Query.{TupleFault}
+use Rattle.mob_run.specs.Runs.{Standing, Step, Stops}
+
+-- a statement that runs leaves one thing and writes one text
+abbrev pub HasOneStep : Type 0
+HasOneStep = (day : ℤ) (s : Standing) (x : StatementOut) (t u : Standing) (a b : List ℕ) → Step day s x t a → Step day s x u b → (t ≡ u) × (a ≡ b)
+
+-- one that stops has one fault
+abbrev pub HasOneStop : Type 0
+HasOneStop = (day : ℤ) (s : Standing) (x : StatementOut) (f g : TupleFault) → Stops day s x f → Stops day s x g → f ≡ g
+
+-- and none does both
+abbrev pub RunsOrStops : Type 0
+RunsOrStops = (day : ℤ) (s : Standing) (x : StatementOut) (t : Standing) (text : List ℕ) (f : TupleFault) → Step day s x t text → Stops day s x f → ⊥

@@ -1,0 +1,32 @@
+//! What holds of every run. No code runs here.
+ghost use Rattle.mob_shell.specs.Outcomes.{EndsOrStops, HasOneHalt, HasOneProgram, HasOneStatus, HasOneStop, HasOneText, IsProgramOrHalted, IsScriptOrRefused};
+
+/// Words, a script and files make one program, or one refusal.
+pub fn one_program()
+    ensures program { HasOneProgram }
+    ensures halt { HasOneHalt }
+    ensures apart { IsProgramOrHalted }
+    ensures refused { IsScriptOrRefused }
+{
+    mob_words::laws::one_setting();
+    mob_accept::laws::one_script();
+    mob_load::laws::one_loading();
+}
+
+/// The statements of a program write one text, or stop at one fault.
+pub fn one_text()
+    ensures text { HasOneText }
+    ensures stop { HasOneStop }
+    ensures apart { EndsOrStops }
+{
+    one_program();
+    mob_run::laws::one_step();
+}
+
+/// What the definitions say of words, a script and files asks for one status.
+pub fn one_status()
+    ensures status { HasOneStatus }
+{
+    one_program();
+    one_text();
+}
