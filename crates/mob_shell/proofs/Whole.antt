@@ -12,11 +12,12 @@ use Rattle.mob_streams.proofs.Known.{takes_nothing}
 use Rattle.mob_outside.specs.Told.{Contents}
 use Rattle.mob_typing.specs.Statements.{ScriptOut}
 use Rattle.mob_load.specs.Fronts.{AsksForAll, AsksForSome, IsAskedLast}
-use Rattle.mob_load.specs.Loads.{LoadsScript, copied_files, refused, table_refused}
+use Rattle.mob_load.specs.Checks.{checks_of}
+use Rattle.mob_load.specs.Loads.{LoadsScript, Reaches, copied_files, nothing_loaded, refused, table_refused}
 use Rattle.mob_load.specs.declared.program.Program.{Program}
 use Rattle.mob_ending.specs.declared.ending.Ending.{Ending}
 use Rattle.mob_ending.specs.declared.ending.Ending.TheVariants.{Done, Usage, ReadFault, WriteFault, NoMemory, TableRefused, ScriptRefused, Overflow}
-use Rattle.mob_shell.specs.Program.{IsScript, IsProgram, IsHalted, OutText, StopsWith, WritesFirst}
+use Rattle.mob_shell.specs.Program.{IsScript, IsProgram, IsHalted, IsReached, OutText, StopsWith, WritesFirst}
 use Rattle.mob_shell.specs.Ending.{AreCopied, AsksInOrder, Causes, Ends, IsCopied, IsUsage, OnTold, ReadsThrough, Seen}
 use Rattle.mob_shell.specs.Parts.{LoadEnds, RefusesText, RunsText}
 
@@ -165,7 +166,16 @@ module _ (s : Seen) (bytes : List ℕ) (reads : ReadsTo script_limit s.script s.
       },
       h.1,
     )
-    loaded_causes (ReadFault (Some name)) h = (record { ended = reads.whole short; copied = copied_last name h.0.1; rose = h.0.0 }, h.1)
+    loaded_causes (ReadFault (Some name)) h = (
+      record {
+        ended = reads.whole short;
+        copied = copied_last name h.0.0.1;
+        reached = told (λ b m. IsReached s.words b m name) (some_map (λ m. Reaches day m (checks_of out) nothing_loaded name) (λ m. IsReached s.words bytes m name)
+            (λ m reaches. record { day = day; out = out; script = script; reaches = reaches }) s.files h.0.1);
+        rose = h.0.0.0;
+      },
+      h.1,
+    )
     loaded_causes (ReadFault None) h = absurd h
     loaded_causes Usage h = absurd h
 

@@ -14,7 +14,7 @@ use Rattle.mob_load.specs.Loads.{refused, table_refused, copied_files}
 use Rattle.mob_load.specs.Fronts.{AsksForSome, IsAskedLast}
 use Rattle.mob_ending.specs.declared.ending.Ending.{Ending}
 use Rattle.mob_ending.specs.declared.ending.Ending.TheVariants.{Done, Usage, ReadFault, WriteFault, NoMemory, TableRefused, ScriptRefused, Overflow}
-use Rattle.mob_shell.specs.Program.{IsScript, IsHalted, WritesFirst, OutText, StopsWith}
+use Rattle.mob_shell.specs.Program.{IsScript, IsHalted, IsReached, WritesFirst, OutText, StopsWith}
 
 -- the words are not taken
 abbrev pub IsUsage : List (List ℕ) → Type 0
@@ -118,10 +118,12 @@ pub record IsTableRefused (s : Seen) (name : List ℕ) (kind : Kind) (rec field 
   pub copied : IsCopied s name
   pub cause : OnTold s (λ bytes files. IsHalted s.words bytes files (table_refused name kind rec field))
 
--- a file could not be read: one that the script copies, which was read to its end; and the count of the files rose
+-- a file could not be read: one that the script copies, which was read to its end and has no refusal before it; and the count of
+-- the files rose
 pub record IsUnread (s : Seen) (file : List ℕ) : Type 0 where
   pub ended : IsAtEnd s.rest
   pub copied : IsCopied s file
+  pub reached : OnTold s (λ bytes files. IsReached s.words bytes files file)
   pub rose : Rose s.filed_before s.filed_now
 
 -- the script could not be read, and the count of its faults rose; or a file could not be read

@@ -10,7 +10,8 @@ use Rattle.mob_ast.specs.declared.refusal.Kind.TheVariants.{NoMemory as OutOfMem
 use Rattle.mob_ast.specs.declared.refusal.Refusal.{Refusal}
 use Rattle.mob_accept.specs.Accepts.{IsAccepted, IsTextRefused}
 use Rattle.mob_load.specs.Fronts.{AsksForSome, IsAskedLast}
-use Rattle.mob_load.specs.Loads.{refused, table_refused, copied_files, LoadsScript}
+use Rattle.mob_load.specs.Checks.{checks_of}
+use Rattle.mob_load.specs.Loads.{refused, table_refused, copied_files, LoadsScript, Reaches, nothing_loaded}
 use Rattle.mob_load.specs.declared.program.Program.{Program}
 use Rattle.mob_run.specs.Runs.{Standing, Step, Stops, begin}
 use Rattle.mob_slice.specs.declared.formula.Formula.{Formula}
@@ -78,7 +79,7 @@ LoadEnds day out files asked asked_now filed filed_now old new before now WriteF
 LoadEnds day out files asked asked_now filed filed_now old new before now NoMemory = Keeps old new ⊎ Loaded day out files (λ p. RanSome day out p old new)
 LoadEnds day out files asked asked_now filed filed_now old new before now (TableRefused name kind rec field) = (IfSome files (λ m. LoadsScript day m out (Err (table_refused name kind rec field))) × IsAskedLast (copied_files out.statements) asked asked_now name) × Keeps old new
 LoadEnds day out files asked asked_now filed filed_now old new before now (ScriptRefused e) = IfSome files (λ m. LoadsScript day m out (Err (refused e))) × Keeps old new
-LoadEnds day out files asked asked_now filed filed_now old new before now (ReadFault (Some name)) = (Rose filed filed_now × IsAskedLast (copied_files out.statements) asked asked_now name) × Keeps old new
+LoadEnds day out files asked asked_now filed filed_now old new before now (ReadFault (Some name)) = ((Rose filed filed_now × IsAskedLast (copied_files out.statements) asked asked_now name) × IfSome files (λ m. Reaches day m (checks_of out) nothing_loaded name)) × Keeps old new
 LoadEnds day out files asked asked_now filed filed_now old new before now (ReadFault None) = ⊥
 LoadEnds day out files asked asked_now filed filed_now old new before now Usage = ⊥
 

@@ -4,7 +4,8 @@ use Rattle.mob_words.specs.CommandLine.{Says}
 use Rattle.mob_outside.specs.Told.{Contents}
 use Rattle.mob_typing.specs.Statements.{ScriptOut, StatementOut}
 use Rattle.mob_accept.specs.Accepts.{IsAccepted}
-use Rattle.mob_load.specs.Loads.{Halt, LoadsScript}
+use Rattle.mob_load.specs.Checks.{checks_of}
+use Rattle.mob_load.specs.Loads.{Halt, LoadsScript, Reaches, nothing_loaded}
 use Rattle.mob_load.specs.declared.program.Program.{Program}
 use Rattle.mob_join.specs.Query.{TupleFault}
 use Rattle.mob_run.specs.Runs.{Standing, Step, Stops, begin}
@@ -27,6 +28,13 @@ pub record IsHalted (words : List (List ℕ)) (bytes : List ℕ) (files : Conten
   pub out : ScriptOut
   pub script : IsScript words bytes day out
   pub loads : LoadsScript day files out (Err halt)
+
+-- A script of which this file is reached: no literal, row and file before it is refused.
+pub record IsReached (words : List (List ℕ)) (bytes : List ℕ) (files : Contents) (name : List ℕ) : Type 0 where
+  pub day : ℤ
+  pub out : ScriptOut
+  pub script : IsScript words bytes day out
+  pub reaches : Reaches day files (checks_of out) nothing_loaded name
 
 -- what the first statements of a program write
 pub record WritesFirst (words : List (List ℕ)) (bytes : List ℕ) (files : Contents) (count : ℕ) (text : List ℕ) : Type 0 where
