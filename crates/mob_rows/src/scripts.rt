@@ -125,7 +125,7 @@ const TAKEN: [(&str, &str); 16] = [
         "SELECT 1 AS a, 'x' AS b WHERE TRUE ORDER BY 1; SELECT 1 AS a WHERE FALSE; SELECT 1 AS a WHERE NULL = 'x'; SELECT DISTINCT 1 AS a LIMIT 0;",
         "a,b\n1,x\n(1 rows)\na\n(0 rows)\na\n(0 rows)\na\n(0 rows)\n",
     ),
-    // A table four times: the last one's rows go round first.
+    // A table four times: the rows of the last change fastest.
     (
         "CREATE TABLE t (k int); INSERT INTO t VALUES (1), (2); SELECT a.k AS a, b.k AS b, c.k AS c, d.k AS d FROM t a, t AS b, t c, t d WHERE a.k + b.k + c.k + d.k = 5;",
         "a,b,c,d\n1,1,1,2\n1,1,2,1\n1,2,1,1\n2,1,1,1\n(4 rows)\n",
