@@ -101,21 +101,32 @@ fn files(alloc: Global, bytes: &[u8]) -> Result<MemFiles, Fail> {
     Ok(MemFiles::new(alloc, vec![in alloc; file]?, Vec::new(alloc), 3))
 }
 
+// CREATE TABLE and these two statements.
+fn script(alloc: Global, second: Statement, third: Statement) -> Result<Script, AllocError> {
+    let mut statements = Items::new(alloc);
+    statements.push(create(alloc)?)?;
+    statements.push(second)?;
+    statements.push(third)?;
+    Ok(Script { statements })
+}
+
+// What comes of a script.
+fn judged(alloc: Global, script: Script, files: &mut MemFiles) -> Found {
+    match type_script(alloc, script) {
+        Ok(typed) => seen(load(alloc, &typed, files, &Epoch::standard())),
+        Err(refusal) => Found::Refused(refusal),
+    }
+}
+
 // What comes of CREATE TABLE and these two statements.
 fn outcome(
     alloc: Global,
     second: Statement,
     third: Statement,
     files: &mut MemFiles,
-) -> Result<Found, Fail> {
-    let mut statements = Items::new(alloc);
-    statements.push(create(alloc)?)?;
-    statements.push(second)?;
-    statements.push(third)?;
-    match type_script(alloc, Script { statements }) {
-        Ok(typed) => Ok(seen(load(alloc, &typed, files, &Epoch::standard()))),
-        Err(refusal) => Ok(Found::Refused(refusal)),
-    }
+) -> Result<Found, AllocError> {
+    let script = script(alloc, second, third)?;
+    Ok(judged(alloc, script, files))
 }
 
 #[test]
