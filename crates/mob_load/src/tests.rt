@@ -101,13 +101,10 @@ fn files(alloc: Global, bytes: &[u8]) -> Result<MemFiles, Fail> {
     Ok(MemFiles::new(alloc, vec![in alloc; file]?, Vec::new(alloc), 3))
 }
 
-// CREATE TABLE and these two statements.
-fn script(alloc: Global, second: Statement, third: Statement) -> Result<Script, AllocError> {
-    let mut statements = Items::new(alloc);
-    statements.push(create(alloc)?)?;
-    statements.push(second)?;
-    statements.push(third)?;
-    Ok(Script { statements })
+fn script(alloc: Global, statements: [Statement; 3]) -> Result<Script, AllocError> {
+    Ok(Script {
+        statements: Items::from_vec(Vec::from_array(alloc, statements)?),
+    })
 }
 
 // What comes of a script.
@@ -125,7 +122,7 @@ fn outcome(
     third: Statement,
     files: &mut MemFiles,
 ) -> Result<Found, AllocError> {
-    let script = script(alloc, second, third)?;
+    let script = script(alloc, [create(alloc)?, second, third])?;
     Ok(judged(alloc, script, files))
 }
 
