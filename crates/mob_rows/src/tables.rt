@@ -125,6 +125,30 @@ const NULLS: [(&str, &str, &str); 9] = [
     ),
 ];
 
+// Scripts with a wrong literal and a wrong or missing file: the one that is written first decides.
+const ORDER: [(&str, u8, &str); 4] = [
+    (
+        "CREATE TABLE t (id int); INSERT INTO t VALUES ('x'); COPY t FROM 't.csv' WITH (FORMAT csv, HEADER);",
+        7,
+        "statement 2, byte 47: refusal 14 (BadLiteral)\n",
+    ),
+    (
+        "CREATE TABLE t (id int); COPY t FROM 't.csv' WITH (FORMAT csv, HEADER); INSERT INTO t VALUES ('x');",
+        6,
+        NO_HEADER,
+    ),
+    (
+        "CREATE TABLE t (id int); INSERT INTO t VALUES ('x'); COPY t FROM 'u.csv' WITH (FORMAT csv, HEADER);",
+        7,
+        "statement 2, byte 47: refusal 14 (BadLiteral)\n",
+    ),
+    (
+        "CREATE TABLE t (id int); COPY t FROM 'u.csv' WITH (FORMAT csv, HEADER); INSERT INTO t VALUES ('x');",
+        3,
+        "read fault: u.csv\n",
+    ),
+];
+
 // One run of a script over the file.
 fn run_over(
     rt: &(impl Threads + Sync),
@@ -151,6 +175,18 @@ fn files_of_a_table(rt: HostRuntime) -> Result<(), Fail> {
         assert_eq!(rt; seen.status, status, "{file}");
         assert_eq!(rt; seen.notes.as_slice(), note.as_bytes(), "{file}");
         assert_eq!(rt; seen.out.as_slice(), b"".as_slice(), "{file}");
+    }
+    Ok(())
+}
+
+#[test]
+fn what_is_written_first_decides(rt: HostRuntime) -> Result<(), Fail> {
+    let alloc = rt.alloc();
+    for (script, status, note) in ORDER {
+        let seen = run_over(&rt, alloc, script, b"name\n")?;
+        assert_eq!(rt; seen.status, status, "{script}");
+        assert_eq!(rt; seen.notes.as_slice(), note.as_bytes(), "{script}");
+        assert_eq!(rt; seen.out.as_slice(), b"".as_slice(), "{script}");
     }
     Ok(())
 }
