@@ -23,7 +23,9 @@ fn field_of(alloc: Global, view: &View<'_>, item: &(TExpr, Text)) -> Result<Text
     ensures field { IfOk result (λ field. IsField (scene_of view.now) (output_of item.now) (Ok field)) }
     ensures fault { IfErr result (OnPassed (λ f. IsField (scene_of view.now) (output_of item.now) (Err f))) }
 {
-    match eval(alloc, &item.0, view.store, view.from, view.tuple, view.epoch) {
+    match eval(
+        alloc, &item.0, view.store, view.from, view.tuple, view.epoch,
+    ) {
         Ok(value) => {
             let mut text = String::new(alloc);
             match write_field(&value, view.epoch, &mut text) {
@@ -44,11 +46,7 @@ fn key_of(alloc: Global, view: &View<'_>, key: &(TExpr, bool)) -> Result<Value, 
 }
 
 // The printed fields of the select list.
-fn fields_on(
-    alloc: Global,
-    select: &TypedSelect,
-    view: &View<'_>,
-) -> Result<Items<Text>, EvalFault>
+fn fields_on(alloc: Global, select: &TypedSelect, view: &View<'_>) -> Result<Items<Text>, EvalFault>
     ensures fields { IfOk result (λ fields. Each (IsField (scene_of view.now)) (select_seen select.now).items (Ok fields)) }
     ensures fault { IfErr result (OnPassed (λ f. Each (IsField (scene_of view.now)) (select_seen select.now).items (Err f))) }
 {
@@ -66,11 +64,7 @@ fn fields_on(
 }
 
 // The values of the keys.
-fn keys_on(
-    alloc: Global,
-    select: &TypedSelect,
-    view: &View<'_>,
-) -> Result<Items<Value>, EvalFault>
+fn keys_on(alloc: Global, select: &TypedSelect, view: &View<'_>) -> Result<Items<Value>, EvalFault>
     ensures keys { IfOk result (λ keys. Each (IsKey (scene_of view.now)) (select_seen select.now).keys (Ok keys)) }
     ensures fault { IfErr result (OnPassed (λ f. Each (IsKey (scene_of view.now)) (select_seen select.now).keys (Err f))) }
 {
