@@ -4,4 +4,5 @@ pub mod Loops
 pub mod Nodes
 pub mod Once
 pub mod Single
+pub mod QueryFaults
 mod Examples

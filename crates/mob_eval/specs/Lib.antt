@@ -9,3 +9,4 @@ pub mod Faults
 pub mod Calculations
 pub mod SoFar
 pub mod Outcomes
+pub mod QueryFaults

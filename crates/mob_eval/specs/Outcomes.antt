@@ -1,12 +1,16 @@
 -- An expression has one outcome.
-use Rattle.std.specs.Prelude.{◌≡◌, List, Option, Result}
+use Rattle.std.specs.Prelude.{◌≡◌, List, Option}
 use Rattle.mob_operators.specs.declared.operator.Op.{Op}
 use Rattle.mob_slice.specs.declared.formula.Formula.{Formula}
 use Rattle.mob_typing.specs.Trees.{TypedTree}
 use Rattle.mob_value.specs.declared.value.Value.{Value}
 use Rattle.mob_eval.specs.Scene.{Scene}
 use Rattle.mob_eval.specs.Operators.{Gives, First}
-use Rattle.mob_eval.specs.Runs.{Fault, RunsTree}
+use Rattle.mob_eval.specs.Runs.{RunsTree}
+
+-- there is at most one outcome
+abbrev pub IsOne : {Y : Type 0} → (Y → Type 0) → Type 0
+IsOne {Y} P = (r q : Y) → P r → P q → r ≡ q
 
 -- an operator gives one value, and has one first formula or none
 pub record IsSingle : Type 0 where
@@ -15,4 +19,4 @@ pub record IsSingle : Type 0 where
 
 -- an expression gives one value or one fault
 abbrev pub HasOneOutcome : Type 0
-HasOneOutcome = (s : Scene) (e : TypedTree) (r q : Result Value Fault) → RunsTree s e r → RunsTree s e q → r ≡ q
+HasOneOutcome = (s : Scene) (e : TypedTree) → IsOne (RunsTree s e)

@@ -13,12 +13,15 @@ mod logic;
 mod operators;
 mod pair;
 mod printed;
+mod query_fault;
 mod scene;
 mod temporal;
 mod walk;
 
 pub use evaluate::{eval, holds};
 pub use fault::EvalFault;
+pub use query_fault::QueryFault;
+pub use scene::View;
 
 #[cfg(test)]
 mod tests;

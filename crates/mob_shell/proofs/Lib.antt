@@ -1,3 +1,6 @@
+mod Missing
+mod OneAnswer
+mod OneStep
 mod Seen
 pub mod Whole
 mod Statuses

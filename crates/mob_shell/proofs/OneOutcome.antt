@@ -8,9 +8,9 @@ use Rattle.mob_accept.specs.Outcomes.{HasOneScript, IsTakenOrRefused}
 use Rattle.mob_load.specs.Loads.{Halt, LoadsScript}
 use Rattle.mob_load.specs.Outcomes.{HasOneProgram as LoadsOneProgram}
 use Rattle.mob_load.specs.declared.program.Program.{Program}
-use Rattle.mob_join.specs.Query.{TupleFault}
-use Rattle.mob_run.specs.Outcomes.{HasOneStep, HasOneStop as StepHasOneStop, RunsOrStops}
-use Rattle.mob_run.specs.Runs.{Step, Stops, begin}
+use Rattle.mob_eval.specs.QueryFaults.{TupleFault}
+use Rattle.mob_shell.specs.StepOutcomes.{HasOneFault, HasOneStep, RunsOrStops}
+use Rattle.mob_shell.specs.Runs.{Step, Stops, begin}
 use Rattle.mob_streams.specs.Answers.{Ran}
 use Rattle.mob_shell.specs.Program.{IsProgram, IsScript, StopsWith}
 use Rattle.mob_shell.specs.Outcomes.{EndsOrStops, HasOneHalt, HasOneProgram, HasOneStop, HasOneText, IsProgramOrHalted, IsScriptOrRefused}
@@ -40,7 +40,7 @@ module _ (setting : HasOneSetting) (script : HasOneScript) (loads : LoadsOneProg
 pub script_or_refused : IsTakenOrRefused → IsScriptOrRefused
 script_or_refused apart words bytes day out e h k = apart bytes out e h.text k
 
-module _ (program : HasOneProgram) (step : HasOneStep) (stop : StepHasOneStop) (apart : RunsOrStops) where
+module _ (program : HasOneProgram) (step : HasOneStep) (stop : HasOneFault) (apart : RunsOrStops) where
   single : (day : ℤ) → IsSingle (Step day) (Stops day)
   single day = record { goes = step day; fails = stop day; apart = apart day }
 

@@ -6,7 +6,7 @@ use Rattle.mob_ast.specs.declared.refusal.Refusal.{Refusal}
 use Rattle.mob_outside.specs.Told.{Contents}
 use Rattle.mob_accept.specs.Accepts.{IsTextRefused}
 use Rattle.mob_load.specs.Loads.{refused, table_refused}
-use Rattle.mob_join.specs.Query.{TupleFault}
+use Rattle.mob_eval.specs.QueryFaults.{TupleFault}
 use Rattle.mob_ending.specs.Lines.{status_of}
 use Rattle.mob_ending.specs.declared.ending.Ending.{Ending}
 use Rattle.mob_ending.specs.declared.ending.Ending.TheVariants.{Done, TableRefused, ScriptRefused, Overflow}

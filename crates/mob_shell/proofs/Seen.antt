@@ -11,10 +11,10 @@ use Rattle.mob_typing.specs.declared.typed.TypedStatement.{TypedStatement}
 use Rattle.mob_typing.specs.declared.typed.Typed.{Typed}
 use Rattle.mob_typing.specs.Statements.{StatementOut, statement_seen, script_seen}
 use Rattle.mob_load.specs.declared.program.Program.{Program}
-use Rattle.mob_run.specs.Runs.{Standing, Step, Stops, begin}
-use Rattle.mob_run.specs.Session.{Steps, StopsOn, standing, day_of, fault_of}
-use Rattle.mob_run.specs.declared.session.Session.{Session}
-use Rattle.mob_run.specs.declared.session.Overflow.{Overflow}
+use Rattle.mob_shell.specs.Runs.{Standing, Step, Stops, begin}
+use Rattle.mob_shell.specs.Session.{Steps, StopsOn, standing, day_of, fault_of}
+use Rattle.mob_shell.specs.declared.session.Session.{Session}
+use Rattle.mob_shell.specs.declared.session.Overflow.{Overflow}
 use Rattle.mob_shell.specs.Parts.{RanAll, RanSome, RanShort, RanTo, RanUpTo}
 
 -- what was run, and the day stays the same

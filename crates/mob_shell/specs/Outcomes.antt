@@ -6,7 +6,7 @@ use Rattle.mob_typing.specs.Statements.{ScriptOut}
 use Rattle.mob_accept.specs.Accepts.{IsTextRefused}
 use Rattle.mob_load.specs.Loads.{Halt}
 use Rattle.mob_load.specs.declared.program.Program.{Program}
-use Rattle.mob_join.specs.Query.{TupleFault}
+use Rattle.mob_eval.specs.QueryFaults.{TupleFault}
 use Rattle.mob_ending.specs.Lines.{status_of}
 use Rattle.mob_ending.specs.declared.ending.Ending.{Ending}
 use Rattle.mob_shell.specs.Ending.{IsDue}

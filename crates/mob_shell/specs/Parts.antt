@@ -13,7 +13,7 @@ use Rattle.mob_load.specs.Fronts.{AsksForSome, IsAskedLast}
 use Rattle.mob_load.specs.Checks.{checks_of}
 use Rattle.mob_load.specs.Loads.{refused, table_refused, copied_files, LoadsScript, Reaches, nothing_loaded}
 use Rattle.mob_load.specs.declared.program.Program.{Program}
-use Rattle.mob_run.specs.Runs.{Standing, Step, Stops, begin}
+use Rattle.mob_shell.specs.Runs.{Standing, Step, Stops, begin}
 use Rattle.mob_slice.specs.declared.formula.Formula.{Formula}
 use Rattle.mob_ending.specs.declared.ending.Ending.{Ending}
 use Rattle.mob_ending.specs.declared.ending.Ending.TheVariants.{Done, Usage, ReadFault, WriteFault, NoMemory, TableRefused, ScriptRefused, Overflow}

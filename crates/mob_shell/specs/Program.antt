@@ -7,8 +7,8 @@ use Rattle.mob_accept.specs.Accepts.{IsAccepted}
 use Rattle.mob_load.specs.Checks.{checks_of}
 use Rattle.mob_load.specs.Loads.{Halt, LoadsScript, Reaches, nothing_loaded}
 use Rattle.mob_load.specs.declared.program.Program.{Program}
-use Rattle.mob_join.specs.Query.{TupleFault}
-use Rattle.mob_run.specs.Runs.{Standing, Step, Stops, begin}
+use Rattle.mob_eval.specs.QueryFaults.{TupleFault}
+use Rattle.mob_shell.specs.Runs.{Standing, Step, Stops, begin}
 use Rattle.mob_streams.specs.Answers.{Ran}
 
 -- The words are taken, the text is a script, and this is what it is with names and types.

@@ -1,5 +1,23 @@
 //! What holds of every run. No code runs here.
+ghost use Rattle.mob_shell.specs.StepOutcomes.{HasOneFault, HasOneStep, OneAnswer, RunsOrStops};
 ghost use Rattle.mob_shell.specs.Outcomes.{EndsOrStops, HasOneHalt, HasOneProgram, HasOneStatus, HasOneStop, HasOneText, IsProgramOrHalted, IsScriptOrRefused};
+
+/// A query has one answer, or one fault.
+pub fn one_answer()
+    ensures outcome { OneAnswer }
+{
+    mob_join::laws::one_kept();
+    mob_tail::laws::one_answer_to();
+}
+
+/// A statement has one outcome where a run stands: it leaves one thing and writes one text, or it has one fault.
+pub fn one_step()
+    ensures step { HasOneStep }
+    ensures stop { HasOneFault }
+    ensures apart { RunsOrStops }
+{
+    one_answer();
+}
 
 /// Words, a script and files make one program, or one refusal.
 pub fn one_program()
@@ -20,7 +38,7 @@ pub fn one_text()
     ensures apart { EndsOrStops }
 {
     one_program();
-    mob_run::laws::one_step();
+    one_step();
 }
 
 /// What the definitions say of words, a script and files asks for one status.

@@ -1,4 +1,4 @@
--- A query has one answer.
+-- Kept tuples have one answer.
 use Rattle.std.proofs.Common.{◌≡◌, inl, inr, ℤ, ℕ, Bool, true, false, List, [], ◌∷◌, ◌++◌, Option, Result, Ok, Err, sym, ap, ap₂, subst, ◌∙◌, map}
 use Rattle.std.specs.Ordering.{is_lt}
 use Rattle.mob_typing.specs.Trees.{TypedTree}
@@ -6,15 +6,13 @@ use Rattle.mob_typing.specs.Selects.{TypedSelectParts}
 use Rattle.mob_value.specs.declared.store.Store.{Store}
 use Rattle.mob_literal.specs.Fields.{field_text}
 use Rattle.mob_eval.specs.Scene.{Scene, scene}
-use Rattle.mob_eval.specs.Outcomes.{HasOneOutcome}
+use Rattle.mob_eval.specs.Outcomes.{HasOneOutcome, IsOne}
 use Rattle.mob_eval.specs.Runs.{Fault}
-use Rattle.mob_join.specs.Tuples.{IsOne}
-use Rattle.mob_join.specs.Query.{TupleFault, IsKept}
 use Rattle.mob_tail.specs.declared.keyed.Keyed.{Keyed}
 use Rattle.mob_tail.specs.Each.{Each}
 use Rattle.mob_tail.specs.Order.{IsOrdered, compare_rows}
 use Rattle.mob_tail.specs.Rows.{AreFirst, AreDistinct, AreArranged, limited}
-use Rattle.mob_tail.specs.Answers.{IsField, IsKey, IsRowOf, IsRow, IsAnswer, Answers}
+use Rattle.mob_tail.specs.Answers.{IsField, IsKey, IsRowOf, IsRow, IsAnswer}
 use Rattle.mob_tail.proofs.Orders.{rows_ranked}
 use Rattle.mob_tail.proofs.OneOrder.{one_order}
 
@@ -101,7 +99,7 @@ module _ (one : HasOneOutcome) where
         let fault : f.1 ≡ g.1 = row_fault select (scene store select.from tuple day) f.1 g.1 h.1 k.1 in
         λ i. Err (there i, fault i)
 
-    answer_once : (kept : List (List ℕ)) → IsOne (IsAnswer select store day kept)
+    pub answer_once : (kept : List (List ℕ)) → IsOne (IsAnswer select store day kept)
     answer_once kept (Ok a) (Ok b) h k =
         let rows : h.0 ≡ k.0 = each_value (IsRow select store day) row_once kept h.0 k.0 h.1 k.1 in
         let falls = map (λ key. key.1) select.keys in
@@ -109,25 +107,3 @@ module _ (one : HasOneOutcome) where
     answer_once kept (Ok a) (Err g) h k = absurd (each_told (IsRow select store day) row_once kept h.0 g h.1 k)
     answer_once kept (Err f) (Ok b) h k = absurd (each_told (IsRow select store day) row_once kept k.0 f k.1 h)
     answer_once kept (Err f) (Err g) h k = ap Err (each_fault_one (IsRow select store day) row_once kept f g h k)
-
-    module _ (kept_once : IsOne (IsKept select store day)) where
-      one_kept : (a b : List (List ℕ)) → IsKept select store day (Ok a) → IsKept select store day (Ok b) → a ≡ b
-      one_kept a b h k = let e = kept_once (Ok a) (Ok b) h k in cc e
-
-      kept_told : (a : List (List ℕ)) (f : TupleFault) → IsKept select store day (Ok a) → IsKept select store day (Err f) → ⊥
-      kept_told a f h k = let e = kept_once (Ok a) (Err f) h k in absurd (cc e)
-
-      -- two outcomes on what is kept, which is one list
-      on_kept : (a b : List (List ℕ)) (r q : Result (List (List (List ℕ))) TupleFault) → IsKept select store day (Ok a) → IsKept select store day (Ok b) → IsAnswer select store day a r → IsAnswer select store day b q → r ≡ q
-      on_kept a b r q h k m n = answer_once b r q (subst (λ z. IsAnswer select store day z r) (one_kept a b h k) m) n
-
-      pub answers_once : IsOne (Answers select store day)
-      answers_once (Ok a) (Ok b) h k = on_kept h.0 k.0 (Ok a) (Ok b) h.1 k.1 h.2 k.2
-      answers_once (Ok a) (Err g) h (inl k) = absurd (kept_told h.0 g h.1 k)
-      answers_once (Ok a) (Err g) h (inr k) = on_kept h.0 k.0 (Ok a) (Err g) h.1 k.1 h.2 k.2
-      answers_once (Err f) (Ok b) (inl h) k = absurd (kept_told k.0 f k.1 h)
-      answers_once (Err f) (Ok b) (inr h) k = on_kept h.0 k.0 (Err f) (Ok b) h.1 k.1 h.2 k.2
-      answers_once (Err f) (Err g) (inl h) (inl k) = let e = kept_once (Err f) (Err g) h k in let same : f ≡ g = cc e in ap Err same
-      answers_once (Err f) (Err g) (inl h) (inr k) = absurd (kept_told k.0 f k.1 h)
-      answers_once (Err f) (Err g) (inr h) (inl k) = absurd (kept_told h.0 g h.1 k)
-      answers_once (Err f) (Err g) (inr h) (inr k) = on_kept h.0 k.0 (Err f) (Err g) h.1 k.1 h.2 k.2

@@ -7,7 +7,7 @@ use Rattle.mob_value.specs.declared.store.Store.{Store}
 use Rattle.mob_literal.specs.Fields.{field_text}
 use Rattle.mob_eval.specs.Scene.{Scene, scene}
 use Rattle.mob_eval.specs.Runs.{Fault, RunsTree}
-use Rattle.mob_join.specs.Query.{TupleFault, IsKept}
+use Rattle.mob_eval.specs.QueryFaults.{TupleFault}
 use Rattle.mob_tail.specs.declared.keyed.Keyed.{Keyed}
 use Rattle.mob_tail.specs.Each.{Each}
 use Rattle.mob_tail.specs.Rows.{AreArranged}
@@ -36,8 +36,3 @@ abbrev pub IsAnswer : TypedSelectParts → Store → ℤ → List (List ℕ) →
 IsAnswer select store day kept (Ok answer) =
     (rows : List Keyed) × Each (IsRow select store day) kept (Ok rows) × AreArranged (map (λ key. key.1) select.keys) select.distinct select.limit rows answer
 IsAnswer select store day kept (Err f) = Each (IsRow select store day) kept (Err f)
-
--- The rows of the answer of a query, or its first fault: that of WHERE on all tuples in order, and then that of the kept ones.
-abbrev pub Answers : TypedSelectParts → Store → ℤ → Result (List (List (List ℕ))) TupleFault → Type 0
-Answers select store day (Ok answer) = (kept : List (List ℕ)) × IsKept select store day (Ok kept) × IsAnswer select store day kept (Ok answer)
-Answers select store day (Err f) = IsKept select store day (Err f) ⊎ ((kept : List (List ℕ)) × IsKept select store day (Ok kept) × IsAnswer select store day kept (Err f))

@@ -5,5 +5,4 @@ pub mod Rows
 pub mod Marks
 pub mod Each
 pub mod Answers
-pub mod Evaluation
 pub mod Outcomes

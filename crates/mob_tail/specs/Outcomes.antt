@@ -1,9 +1,9 @@
--- A query has one answer or one fault.
-use Rattle.std.specs.Prelude.{ℤ}
+-- Kept tuples have one answer or one fault.
+use Rattle.std.specs.Prelude.{ℕ, ℤ, List}
 use Rattle.mob_typing.specs.Selects.{TypedSelectParts}
 use Rattle.mob_value.specs.declared.store.Store.{Store}
-use Rattle.mob_join.specs.Tuples.{IsOne}
-use Rattle.mob_tail.specs.Answers.{Answers}
+use Rattle.mob_eval.specs.Outcomes.{IsOne}
+use Rattle.mob_tail.specs.Answers.{IsAnswer}
 
-abbrev pub OneAnswer : Type 0
-OneAnswer = (select : TypedSelectParts) (store : Store) (day : ℤ) → IsOne (Answers select store day)
+abbrev pub OneIsAnswer : Type 0
+OneIsAnswer = (select : TypedSelectParts) (store : Store) (day : ℤ) (kept : List (List ℕ)) → IsOne (IsAnswer select store day kept)

@@ -1,17 +1,19 @@
 // What a query answers.
 ghost use Rattle.std.specs.Prelude.{◌≡◌, Ok, Err, IfOk, IfErr, map};
 ghost use Rattle.mob_typing.specs.Selects.{select_seen, output_of, key_seen};
-ghost use Rattle.mob_join.specs.Query.{OnPassed};
+ghost use Rattle.mob_eval.specs.QueryFaults.{OnTuple};
 ghost use Rattle.mob_tail.specs.Rows.{AreArranged};
-ghost use Rattle.mob_tail.specs.Answers.{IsAnswer, Answers};
+ghost use Rattle.mob_tail.specs.Answers.{IsAnswer};
 
 use crate::arrange::arranged;
 use crate::evaluation::rows_on;
 use crate::keyed::Keyed;
-use mob_join::{Query, QueryFault, kept};
+use mob_eval::QueryFault;
 use mob_list::items::Items;
 use mob_list::text::Text;
+use mob_scalar::Epoch;
 use mob_typing::{TExpr, TypedSelect};
+use mob_value::Store;
 use std::alloc::{AllocError, Global};
 
 /// What a query answers: the names of its columns, and its rows in order, each with the printed text of its fields.
@@ -66,31 +68,20 @@ fn arranged_answer(
 /// stays, and then LIMIT cuts.
 pub fn answer_to(
     alloc: Global,
-    query: &Query<'_>,
+    select: &TypedSelect,
+    store: &Store,
     kept: &[Items<u32>],
+    epoch: &Epoch,
 ) -> Result<Answer, QueryFault>
-    ensures names { IfOk result (λ answer. answer.names ≡ map (λ item. item.1) (select_seen query.now.select.now).items) }
-    ensures rows { IfOk result (λ answer. IsAnswer (select_seen query.now.select.now) query.now.store.now query.now.epoch.now kept.now (Ok answer.rows)) }
-    ensures fault { IfErr result (OnPassed (λ f. IsAnswer (select_seen query.now.select.now) query.now.store.now query.now.epoch.now kept.now (Err f))) }
+    ensures names { IfOk result (λ answer. answer.names ≡ map (λ item. item.1) (select_seen select.now).items) }
+    ensures rows { IfOk result (λ answer. IsAnswer (select_seen select.now) store.now epoch.now kept.now (Ok answer.rows)) }
+    ensures fault { IfErr result (OnTuple (λ f. IsAnswer (select_seen select.now) store.now epoch.now kept.now (Err f))) }
 {
-    match rows_on(alloc, query, kept) {
-        Ok(rows) => match arranged_answer(alloc, query.select, rows) {
+    match rows_on(alloc, select, store, kept, epoch) {
+        Ok(rows) => match arranged_answer(alloc, select, rows) {
             Ok(answer) => Ok(answer),
             Err(_) => Err(QueryFault::NoMemory),
         },
-        Err(fault) => Err(fault),
-    }
-}
-
-/// What a query answers, or its first fault: that of WHERE on the tuples in order, and then that of the select list and the keys on the
-/// kept ones.
-pub fn answered(alloc: Global, query: &Query<'_>) -> Result<Answer, QueryFault>
-    ensures names { IfOk result (λ answer. answer.names ≡ map (λ item. item.1) (select_seen query.now.select.now).items) }
-    ensures rows { IfOk result (λ answer. Answers (select_seen query.now.select.now) query.now.store.now query.now.epoch.now (Ok answer.rows)) }
-    ensures fault { IfErr result (OnPassed (λ f. Answers (select_seen query.now.select.now) query.now.store.now query.now.epoch.now (Err f))) }
-{
-    match kept(alloc, query) {
-        Ok(kept) => answer_to(alloc, query, kept.as_slice()),
         Err(fault) => Err(fault),
     }
 }

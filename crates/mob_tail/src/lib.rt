@@ -1,4 +1,4 @@
-//! What a query answers, and the text in which it is written.
+//! What a query answers on the tuples that it keeps, and the text in which it is written.
 #![tactic(auto)]
 
 mod answers;
@@ -14,6 +14,6 @@ mod text;
 #[cfg(test)]
 mod worked;
 
-pub use answers::{Answer, answer_to, answered};
+pub use answers::{Answer, answer_to};
 pub use keyed::Keyed;
 pub use text::answer_text;

@@ -5,4 +5,4 @@ use Rattle.mob_tail.specs.Answers.{IsRow}
 use Rattle.mob_tail.proofs.evaluation.rows_on.Given as goal
 
 abbrev pub invariant-loop-tuple : goal.invariant-loop-tuple
-invariant-loop-tuple l = Each (IsRow (select_seen l.query.select.now) l.query.store.now l.query.epoch.now) (take l.tuple-index l.kept) (Ok l.rows.items)
+invariant-loop-tuple l = Each (IsRow (select_seen l.select) l.store l.epoch) (take l.tuple-index l.kept) (Ok l.rows.items)

@@ -1,0 +1,31 @@
+-- A query has one answer.
+use Rattle.std.proofs.Common.{◌≡◌, inl, inr, ℤ, ℕ, List, Result, Ok, Err, ap, subst}
+use Rattle.mob_typing.specs.Selects.{TypedSelectParts}
+use Rattle.mob_value.specs.declared.store.Store.{Store}
+use Rattle.mob_eval.specs.Outcomes.{IsOne}
+use Rattle.mob_eval.specs.QueryFaults.{TupleFault}
+use Rattle.mob_join.specs.Query.{IsKept}
+use Rattle.mob_tail.specs.Answers.{IsAnswer}
+use Rattle.mob_shell.specs.Answers.{Answers}
+
+module _ (select : TypedSelectParts) (store : Store) (day : ℤ) (kept_once : IsOne (IsKept select store day)) (answer_once : (kept : List (List ℕ)) → IsOne (IsAnswer select store day kept)) where
+  one_kept : (a b : List (List ℕ)) → IsKept select store day (Ok a) → IsKept select store day (Ok b) → a ≡ b
+  one_kept a b h k = let e = kept_once (Ok a) (Ok b) h k in cc e
+
+  kept_told : (a : List (List ℕ)) (f : TupleFault) → IsKept select store day (Ok a) → IsKept select store day (Err f) → ⊥
+  kept_told a f h k = let e = kept_once (Ok a) (Err f) h k in absurd (cc e)
+
+  -- two outcomes on what is kept, which is one list
+  on_kept : (a b : List (List ℕ)) (r q : Result (List (List (List ℕ))) TupleFault) → IsKept select store day (Ok a) → IsKept select store day (Ok b) → IsAnswer select store day a r → IsAnswer select store day b q → r ≡ q
+  on_kept a b r q h k m n = answer_once b r q (subst (λ z. IsAnswer select store day z r) (one_kept a b h k) m) n
+
+  pub answers_once : IsOne (Answers select store day)
+  answers_once (Ok a) (Ok b) h k = on_kept h.0 k.0 (Ok a) (Ok b) h.1 k.1 h.2 k.2
+  answers_once (Ok a) (Err g) h (inl k) = absurd (kept_told h.0 g h.1 k)
+  answers_once (Ok a) (Err g) h (inr k) = on_kept h.0 k.0 (Ok a) (Err g) h.1 k.1 h.2 k.2
+  answers_once (Err f) (Ok b) (inl h) k = absurd (kept_told k.0 f k.1 h)
+  answers_once (Err f) (Ok b) (inr h) k = on_kept h.0 k.0 (Err f) (Ok b) h.1 k.1 h.2 k.2
+  answers_once (Err f) (Err g) (inl h) (inl k) = let e = kept_once (Err f) (Err g) h k in let same : f ≡ g = cc e in ap Err same
+  answers_once (Err f) (Err g) (inl h) (inr k) = absurd (kept_told k.0 f k.1 h)
+  answers_once (Err f) (Err g) (inr h) (inl k) = absurd (kept_told h.0 g h.1 k)
+  answers_once (Err f) (Err g) (inr h) (inr k) = on_kept h.0 k.0 (Err f) (Err g) h.1 k.1 h.2 k.2

@@ -1,0 +1,5 @@
+use Rattle.mob_shell.proofs.OneAnswer.{answers_once}
+use Rattle.mob_shell.proofs.laws.one_answer.Goals as goal
+
+pub returns : goal.returns
+returns c = record { outcome = λ select store day. answers_once select store day (c.one_kept.ensures.outcome select store day) (c.one_answer_to.ensures.outcome select store day) }

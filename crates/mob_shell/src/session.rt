@@ -1,0 +1,158 @@
+// A run of statements.
+ghost use Rattle.std.specs.Prelude.{◌≡◌, IfOk, IfErr, OnOk};
+ghost use Rattle.mob_streams.specs.Answers.{OnFault};
+ghost use Rattle.mob_typing.specs.Selects.{select_seen};
+ghost use Rattle.mob_typing.specs.Statements.{query, statement_seen};
+ghost use Rattle.mob_shell.specs.Runs.{Stops, Writes, after, begin, later_files, next_rows};
+ghost use Rattle.mob_shell.specs.Session.{HaltsBy, day_of, fault_of, standing};
+
+use crate::answers::answered;
+use crate::rows::{copy_of_columns, put_constants, put_rows};
+use mob_catalog::Catalog;
+use mob_eval::QueryFault;
+use mob_join::Query;
+use mob_list::items::Items;
+use mob_load::Program;
+use mob_scalar::Epoch;
+use mob_slice::Formula;
+use mob_streams::{Engine, Halt};
+use mob_tail::answer_text;
+use mob_typing::{TypedSelect, TypedStatement};
+use mob_value::Value;
+use std::alloc::{AllocError, Global};
+use std::collections::VecDeque;
+
+/// A part of a formula does not fit.
+#[derive(Drop)]
+pub struct Overflow {
+    /// The number of the row of each table of FROM, from 0.
+    pub rows: Items<u32>,
+    /// The place of the operator in the script, in bytes from 0.
+    pub place: u32,
+    /// The formula.
+    pub formula: Formula,
+}
+
+/// Where a run of statements stands: its tables, and the rows of the files of the COPY statements that are still to come.
+#[derive(Drop)]
+pub struct Session {
+    catalog: Catalog,
+    files: VecDeque<Items<Items<Value>>>,
+    epoch: Epoch,
+}
+
+impl Session {
+    /// A run before its first statement: no table, the values of the script's literals, and the rows of its files.
+    pub fn new(alloc: Global, program: Program, epoch: Epoch) -> Session
+        ensures begins { standing result ≡ begin program }
+        ensures day { day_of result ≡ epoch }
+    {
+        let Program { values, files } = program;
+        Session {
+            catalog: Catalog::new(alloc, values),
+            files: VecDeque::from_vec(files.into_vec()),
+            epoch,
+        }
+    }
+
+    // The rows of the next file.
+    fn next_file(&mut self, alloc: Global) -> Items<Items<Value>>
+        ensures rows { result ≡ next_rows self.old.files.items }
+        ensures left { self.new.files.items ≡ later_files self.old.files.items }
+        ensures catalog { self.new.catalog ≡ self.old.catalog }
+        ensures day { self.new.epoch ≡ self.old.epoch }
+    {
+        match self.files.pop_front() {
+            Some(rows) => rows,
+            None => Items::new(alloc),
+        }
+    }
+
+    // The text of the answer of a query.
+    fn answer(&self, alloc: Global, select: &TypedSelect) -> Result<Vec<u8>, Halt<Overflow>>
+        ensures text { IfOk result (λ text. Writes (day_of self.now) (standing self.now) (query (select_seen select.now)) text.items) }
+        ensures fault { IfErr result (OnFault (λ o. Stops (day_of self.now) (standing self.now) (query (select_seen select.now)) (fault_of o))) }
+    {
+        let query = Query {
+            select,
+            store: self.catalog.store(),
+            epoch: &self.epoch,
+        };
+        let answer = match answered(alloc, &query) {
+            Ok(answer) => answer,
+            Err(fault) => return Err(halt_of(fault)),
+        };
+        match answer_text(alloc, &answer) {
+            Ok(text) => Ok(text),
+            Err(_) => Err(Halt::NoMemory),
+        }
+    }
+
+    // What a statement that is no query does: it writes nothing.
+    fn change(&mut self, alloc: Global, statement: &TypedStatement) -> Result<(), AllocError>
+        ensures stands { OnOk result (standing self.new ≡ after (standing self.old) (statement_seen statement.now)) }
+        ensures day { OnOk result (day_of self.new ≡ day_of self.old) }
+    {
+        match statement {
+            TypedStatement::CreateTable { columns, .. } => {
+                let columns = copy_of_columns(alloc, columns.as_slice())?;
+                self.catalog.create_table(columns)
+            }
+            TypedStatement::Insert { table, rows, .. } => {
+                put_constants(alloc, &mut self.catalog, *table, rows.as_slice())
+            }
+            TypedStatement::Copy { table, .. } => {
+                let rows = self.next_file(alloc);
+                put_rows(&mut self.catalog, *table, rows)
+            }
+            TypedStatement::Empty
+            | TypedStatement::CreateIndex { .. }
+            | TypedStatement::Select(_)
+            | TypedStatement::Explain(_) => Ok(()),
+        }
+    }
+}
+
+// The halt of a query that has no answer.
+fn halt_of(fault: QueryFault) -> Halt<Overflow>
+    ensures halt { HaltsBy fault result }
+{
+    match fault {
+        QueryFault::Passed {
+            tuple,
+            place,
+            formula,
+        } => Halt::Fault(Overflow {
+            rows: tuple,
+            place,
+            formula,
+        }),
+        QueryFault::NoMemory => Halt::NoMemory,
+    }
+}
+
+impl Engine for Session {
+    ghost use Rattle.mob_shell.specs.Session.{Steps, StopsOn};
+
+    type Statement = TypedStatement;
+
+    type Fault = Overflow;
+
+    ghost step = { Steps };
+
+    ghost stops = { StopsOn };
+
+    fn execute(
+        &mut self,
+        alloc: Global,
+        statement: &TypedStatement,
+    ) -> Result<Vec<u8>, Halt<Overflow>> {
+        match statement {
+            TypedStatement::Select(select) => self.answer(alloc, select),
+            _ => match self.change(alloc, statement) {
+                Ok(()) => Ok(Vec::new(alloc)),
+                Err(_) => Err(Halt::NoMemory),
+            },
+        }
+    }
+}
