@@ -1,4 +1,3 @@
-pub mod FormulaLemmas
 pub mod Operations
 pub mod OrderLemmas
 pub mod Reductions
