@@ -1,5 +1,5 @@
 -- Counts of faults. An end counts the calls that failed in 64 bits, so a count that has reached its last value stays there.
-use Rattle.std.specs.Prelude.{ℕ, ◌+◌, ◌-◌, ◌^◌, ◌≤◌, min, Result, OnErr}
+use Rattle.std.specs.Prelude.{◌≡◌, ℕ, ◌+◌, ◌-◌, ◌^◌, ◌≤◌, min, Result, MatchResult, OnErr}
 
 -- the count after one more: one higher, or the last value again
 abbrev pub next_count : ℕ → ℕ
@@ -13,3 +13,7 @@ Rose before now = next_count before ≤ now
 pub record HasCause {T E : Type 0} (before now : ℕ) (result : Result T E) : Type 0 where
   pub later : before ≤ now
   pub failed : OnErr result (Rose before now)
+
+-- a call raised the count by one where it failed, and else left it
+abbrev pub CountsFaults : {T E : Type 0} → ℕ → ℕ → Result T E → Type 0
+CountsFaults before now result = MatchResult result (λ _. now ≡ before) (λ _. now ≡ next_count before)

@@ -3,7 +3,7 @@ ghost use Rattle.std.specs.Prelude.{◌≡◌, ◌↔◌, ◌⊎◌, ◌<◌, �
 ghost use Rattle.std.specs.Result.{is_ok};
 ghost use Rattle.std.specs.Io.{ReadsAtMost};
 ghost use Rattle.std.specs.Io.KnownBytes.{ReadConsumes};
-ghost use Rattle.mob_outside.specs.Faults.{HasCause, next_count};
+ghost use Rattle.mob_outside.specs.Faults.{CountsFaults, HasCause, next_count};
 ghost use Rattle.mob_outside.specs.Memory.{Drawer, new_drawer};
 ghost use Rattle.mob_outside.specs.Told.{AsksFor, Contents, KeepsFiles, KeepsNames, MayAskFor, Opens, Folder, entry, file_of};
 
@@ -127,6 +127,7 @@ impl MemFiles {
             ⊎ (self.new.asked ≡ self.old.asked ++ name.now ∷ [])) }
         ensures bytes { IfSome result (λ b. Some b.items ≡ file_of name.now self.old.files) }
         ensures files { self.new.files ≡ self.old.files }
+        ensures rest { self.new ≡ record self.old { asked = self.new.asked; calls = next_count self.old.calls } }
         ensures faults { self.new.faults ≡ self.old.faults }
         ensures fails { Contains self.old.failing (next_count self.old.calls) → result ≡ None }
         ensures counts { self.new.calls ≡ next_count self.old.calls }
@@ -163,6 +164,8 @@ impl Files for MemFiles {
         ensures cause { HasCause self.old.faults self.new.faults result }
         ensures fails { Contains self.old.failing (next_count self.old.calls) → IsErr result }
         ensures counts { self.new.calls ≡ next_count self.old.calls }
+        ensures opened { OnOk result (self.new ≡ record self.old { asked = self.new.asked; left = self.new.left; is_ready = true; calls = next_count self.old.calls }) }
+        ensures failed { OnErr result (self.new ≡ record self.old { asked = self.new.asked; is_ready = false; calls = next_count self.old.calls; faults = next_count self.old.faults }) }
     {
         match self.look(name) {
             Some(bytes) => {
@@ -193,6 +196,8 @@ impl Files for MemFiles {
         ensures fails { IsErr result ↔ Contains self.old.failing (next_count self.old.calls) }
         ensures step { IfOk result (λ n. n ≤ self.old.step) }
         ensures counts { self.new.calls ≡ next_count self.old.calls }
+        ensures gave { IfOk result (λ n. self.new ≡ record self.old { left = drop n self.old.left; calls = next_count self.old.calls }) }
+        ensures failed { OnErr result (self.new ≡ record self.old { is_ready = false; calls = next_count self.old.calls; faults = next_count self.old.faults }) }
     {
         self.calls = self.calls.saturating_add(1);
         if self.failing.contains(&self.calls) {
@@ -256,7 +261,12 @@ impl<D: Disk + Drop> Files for DirFiles<D> {
 
     ghost faults = { λ s. s.faults };
 
-    fn open(&mut self, name: &str) -> Result<(), Failed> {
+    /// As all files; counts the calls that failed and no other.
+    fn open(&mut self, name: &str) -> Result<(), Failed>
+        ensures ready { self.new.is_ready ≡ is_ok result }
+        ensures cause { HasCause self.old.faults self.new.faults result }
+        ensures counts { CountsFaults self.old.faults self.new.faults result }
+    {
         self.file = fs::open(&self.disk, name).ok();
         if self.file.is_some() {
             return Ok(());
@@ -265,7 +275,15 @@ impl<D: Disk + Drop> Files for DirFiles<D> {
         Err(Failed)
     }
 
-    fn take(&mut self, into: &mut [u8]) -> Result<usize, Failed> {
+    /// As all files; counts the calls that failed and no other.
+    fn take(&mut self, into: &mut [u8]) -> Result<usize, Failed>
+        requires ready { self.old.is_ready ≡ true }
+        requires room { 0 < length into.old }
+        ensures bound { ReadsAtMost result into.new }
+        ensures ready { self.new.is_ready ≡ is_ok result }
+        ensures cause { HasCause self.old.faults self.new.faults result }
+        ensures counts { CountsFaults self.old.faults self.new.faults result }
+    {
         if let Some(file) = &mut self.file {
             if let Ok(count) = file.read(into) {
                 return Ok(count);

@@ -1,7 +1,7 @@
 // Where bytes go.
-ghost use Rattle.std.specs.Prelude.{◌≡◌, ◌<◌, ◌≤◌, List, ℕ, Option, Some, Contains, IsErr, IfOk, length};
+ghost use Rattle.std.specs.Prelude.{◌≡◌, ◌<◌, ◌≤◌, ◌++◌, List, ℕ, Option, Some, Contains, IsErr, IfOk, OnErr, take, length};
 ghost use Rattle.std.specs.Io.KnownBytes.{WriteAppends};
-ghost use Rattle.mob_outside.specs.Faults.{HasCause, next_count};
+ghost use Rattle.mob_outside.specs.Faults.{CountsFaults, HasCause, next_count};
 ghost use Rattle.mob_outside.specs.Memory.{Heap, new_heap};
 ghost use Rattle.mob_outside.specs.Told.{Stream};
 
@@ -90,6 +90,8 @@ impl Sink for MemSink {
         ensures fails { Contains self.old.failing (next_count self.old.calls) → IsErr result }
         ensures step { IfOk result (λ n. n ≤ self.old.step) }
         ensures counts { self.new.calls ≡ next_count self.old.calls }
+        ensures took { IfOk result (λ n. self.new ≡ record self.old { held = self.old.held ++ take n from.now; calls = next_count self.old.calls }) }
+        ensures failed { OnErr result (self.new ≡ record self.old { calls = next_count self.old.calls; faults = next_count self.old.faults }) }
     {
         self.calls = self.calls.saturating_add(1);
         let count = from.len().min(self.step);
@@ -130,7 +132,15 @@ impl<W: Write + Drop> Sink for StdSink<W> {
 
     ghost faults = { λ s. s.faults };
 
-    fn put(&mut self, from: &[u8]) -> Result<usize, Failed> {
+    /// As every sink; counts the calls that failed and no other.
+    fn put(&mut self, from: &[u8]) -> Result<usize, Failed>
+        requires some { 0 < length from.now }
+        ensures moves { IfOk result (λ n. 0 < n) }
+        ensures bound { IfOk result (λ n. n ≤ length from.now) }
+        ensures bytes { WriteAppends self.old.told self.new.told result from.now }
+        ensures cause { HasCause self.old.faults self.new.faults result }
+        ensures counts { CountsFaults self.old.faults self.new.faults result }
+    {
         match self.writer.write(from) {
             Ok(count) if 0 < count => Ok(count),
             _ => {

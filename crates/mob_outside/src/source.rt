@@ -1,8 +1,8 @@
 // Where bytes come from.
-ghost use Rattle.std.specs.Prelude.{◌≡◌, ◌↔◌, ◌<◌, ◌≤◌, ◌++◌, List, ℕ, Option, Some, [], Contains, IsErr, IfOk, take, drop, length};
+ghost use Rattle.std.specs.Prelude.{◌≡◌, ◌↔◌, ◌<◌, ◌≤◌, ◌++◌, List, ℕ, Option, Some, [], Contains, IsErr, IfOk, OnErr, take, drop, length};
 ghost use Rattle.std.specs.Io.{ReadsAtMost};
 ghost use Rattle.std.specs.Io.KnownBytes.{ReadConsumes};
-ghost use Rattle.mob_outside.specs.Faults.{HasCause, next_count};
+ghost use Rattle.mob_outside.specs.Faults.{CountsFaults, HasCause, next_count};
 ghost use Rattle.mob_outside.specs.Memory.{Feed, new_feed};
 ghost use Rattle.mob_outside.specs.Told.{Stream};
 
@@ -99,6 +99,8 @@ impl Source for MemSource {
         ensures fails { IsErr result ↔ Contains self.old.failing (next_count self.old.calls) }
         ensures step { IfOk result (λ n. n ≤ self.old.step) }
         ensures counts { self.new.calls ≡ next_count self.old.calls }
+        ensures gave { IfOk result (λ n. self.new ≡ record self.old { left = drop n self.old.left; calls = next_count self.old.calls }) }
+        ensures failed { OnErr result (self.new ≡ record self.old { calls = next_count self.old.calls; faults = next_count self.old.faults }) }
     {
         self.calls = self.calls.saturating_add(1);
         if self.failing.contains(&self.calls) {
@@ -176,7 +178,14 @@ impl<R: Read + Drop> Source for StdSource<R> {
 
     ghost faults = { λ s. s.faults };
 
-    fn take(&mut self, into: &mut [u8]) -> Result<usize, Failed> {
+    /// As every source; counts the calls that failed and no other.
+    fn take(&mut self, into: &mut [u8]) -> Result<usize, Failed>
+        requires room { 0 < length into.old }
+        ensures bound { ReadsAtMost result into.new }
+        ensures bytes { ReadConsumes self.old.told self.new.told result into.new }
+        ensures cause { HasCause self.old.faults self.new.faults result }
+        ensures counts { CountsFaults self.old.faults self.new.faults result }
+    {
         match self.reader.read(into) {
             Ok(count) => Ok(count),
             Err(_) => {
