@@ -3,7 +3,8 @@ ghost use Rattle.std.specs.declared.cmp.Ordering.{Ordering as Order};
 ghost use Rattle.mob_slice.specs.declared.comparison.Rel.{Rel as Relation};
 ghost use Rattle.mob_slice.specs.Comparison.{IsComparison, gap_parts, steady_comparison};
 ghost use Rattle.mob_slice.specs.Computed.{IsComputed};
-ghost use Rattle.mob_slice.specs.Ranks.{holds, compare_ratio, compare_bool, compare_bytes};
+ghost use Rattle.mob_slice.specs.Ranks.{holds, IsRanking, compare_ratio, compare_bool, compare_bytes};
+ghost use Rattle.mob_slice.specs.RankLaws.{ranking_ratio, ranking_bool, ranking_bytes};
 ghost use Rattle.mob_slice.specs.declared.comparison.Gaps.{Gaps as Differences};
 ghost use Rattle.mob_slice.specs.declared.comparison.Gaps.TheVariants.{Constant};
 ghost use Rattle.mob_slice.specs.declared.formula.Formula.TheVariants.{F2};
@@ -56,6 +57,8 @@ pub trait Ranked: BaseValue {
     /// How the two values stand to each other.
     fn compare(&self, other: &Self) -> Ordering
         ensures order { result ≡ compare_of self.now other.now };
+
+    ghost laws: { IsRanking compare_of };
 }
 
 impl Ranked for bool {
@@ -64,6 +67,8 @@ impl Ranked for bool {
     fn compare(&self, other: &bool) -> Ordering {
         (*self).cmp(other)
     }
+
+    ghost laws = { ranking_bool };
 }
 
 impl Ranked for Frac {
@@ -78,6 +83,8 @@ impl Ranked for Frac {
             Ordering::Equal
         }
     }
+
+    ghost laws = { ranking_ratio };
 }
 
 impl Ranked for Text {
@@ -86,6 +93,8 @@ impl Ranked for Text {
     fn compare(&self, other: &Text) -> Ordering {
         self.as_str().cmp(other.as_str())
     }
+
+    ghost laws = { ranking_bytes };
 }
 
 /// The differences of two values by which two courses on one span are compared: their signs decide each comparison.
