@@ -6,11 +6,8 @@ use Rattle.mob_ratio.specs.Order.{before, upto}
 use Rattle.mob_ratio.proofs.Order.{before-trans, before-neither}
 use Rattle.mob_slice.specs.Course.{IsCourse, IsWhole}
 
-long_by : (l m u : Ratio) → before l m ≡ true → upto m u ≡ true → before l u ≡ true
-long_by l m u h k = grind (arith, h, k, before-trans l m u, before-neither m u)
-
-long_by' : (l m u : Ratio) → upto l m ≡ true → before m u ≡ true → before l u ≡ true
-long_by' l m u h k = grind (arith, h, k, before-trans l m u, before-neither l m)
+long_by : (l m u : Ratio) → upto l m ≡ true → before m u ≡ true → before l u ≡ true
+long_by l m u h k = grind (arith, h, k, before-trans l m u, before-neither l m)
 
 equal_by : (l m : Ratio) → upto l m ≡ true → before l m ≡ false → l ≡ m
 equal_by l m h k = before-neither l m k (grind (arith, h))
@@ -57,7 +54,7 @@ module _ {C B : Type 0} {steady : Bool} {value : C → Ratio → Ratio → Ratio
   -- what has a course with all of a next one has it with its first part
   front_by : (c d e : C) (l m n u : Ratio) → IsWhole value start end can_make make d e m n u → IsWhole value start end can_make make c (make (start d) (end e)) l m u → upto l m ≡ true → before m u ≡ true → before l n ≡ true → IsWhole value start end can_make make c d l m n
   front_by c d e l m n u w v h k j =
-      let long = long_by' l m u h k in
+      let long = long_by l m u h k in
       let D = make (start d) (end e) in
       let V = make (start c) (end D) in
       -- V has D's values

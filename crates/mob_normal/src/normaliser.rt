@@ -1,4 +1,4 @@
-ghost use Rattle.std.specs.Prelude.{◌≡◌, ◌↔◌, [], IfOk, IfSome, IsNone};
+ghost use Rattle.std.specs.Prelude.{◌≡◌, ◌↔◌, [], IfOk, IsOk, IfSome, IsNone};
 ghost use Rattle.mob_ratio.specs.Ratio.{Ratio};
 ghost use Rattle.mob_slice.specs.Slices.{IsNormal, IsOrdered, value_at};
 
@@ -9,7 +9,7 @@ use std::alloc::{AllocError, Global};
 /// The normal value of a list of slices that are ordered and disjoint, and None exactly for the empty list.
 ///
 /// It has the same value at every instant, also at those that no `Frac` holds. No computed number can be too large: two
-/// slices are compared and joined, and no value between their ends is computed.
+/// slices are compared and joined, and no value between their ends is computed. The empty list takes no memory.
 pub fn normal<C: Course + Drop>(
     alloc: Global,
     slices: Vec<Slice<C>>,
@@ -18,6 +18,7 @@ where
     C::Base: Drop,
     requires ordered { IsOrdered C.start_of C.end_of slices.items }
     ensures none { IfOk result (λ m. IsNone m ↔ (slices.items ≡ [])) }
+    ensures memory { slices.items ≡ [] → IsOk result }
     ensures normal { IfOk result (λ m. IfSome m (λ m. IsNormal C.start_of C.end_of C.is_continued m)) }
     ensures same { IfOk result (λ m. IfSome m (λ m. (t : Ratio) → value_at C.value_of m t ≡ value_at C.value_of slices.items t)) }
 {

@@ -6,6 +6,7 @@ pub mod Slices
 pub mod Parts
 pub mod Pieces
 pub mod Ranks
+pub mod RankLaws
 pub mod Operands
 pub mod Computed
 pub mod Comparison

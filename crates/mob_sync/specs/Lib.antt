@@ -1,3 +1,4 @@
 pub mod Common
 pub mod Walk
 pub mod Ones
+pub mod Whole

@@ -62,10 +62,20 @@ mod tests {
     use super::*;
     use crate::ones::Ones;
     use mob_frac::Frac;
+    use mob_list::text::Text;
     use mob_slice::{Moving, Slice, Steady};
     use mob_span::Span;
     use std::alloc::Global;
+    use std::marker::{Send, Sync};
     use std::test::Fail;
+
+    fn crosses_threads<T: Send + Sync>() {}
+
+    // Whatever the courses are, a walk over them crosses threads as they do.
+    fn walks_cross_threads<'a, A: Send + Sync + 'a, B: Send + Sync + 'a>() {
+        crosses_threads::<Common<'a, A, B>>();
+        crosses_threads::<Ones<'a, A>>();
+    }
 
     // The value of one slice, on the span between two whole numbers.
     fn one(alloc: Global, lower: i64, upper: i64) -> Option<Moving<Steady<bool>>> {
@@ -112,6 +122,7 @@ mod tests {
 
     #[test]
     fn two_values_share_the_meet_of_their_slices(rt: HostRuntime) -> Result<(), Fail> {
+        walks_cross_threads::<Steady<bool>, Steady<Text>>();
         let a = one(rt.alloc(), 0, 2).ok_or("a")?;
         let b = one(rt.alloc(), 1, 3).ok_or("b")?;
         assert_eq!(rt; is_shared(&a, &b, (1, 2)), Some(true));

@@ -2,6 +2,7 @@
 #![tactic(auto)]
 
 pub mod common;
+pub mod laws;
 pub mod ones;
 
 pub use common::Common;
