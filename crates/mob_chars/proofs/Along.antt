@@ -13,14 +13,6 @@ abbrev pub Says : ℕ → List ℕ → Result (List Token) ℕ → Type 0
 Says p l (Ok ts) = (all : List Token) × (ts ≡ all ++ end_at (p + length l) ∷ []) × Leads p l all (p + length l) []
 Says p l (Err q) = (all : List Token) × (m : List ℕ) × Leads p l all q m × BeginsNone m
 
-none_or_more : (n : ℕ) → (n ≡ 0) ⊎ ((g : ℕ) × (n ≡ suc g))
-none_or_more zero = inl refl
-none_or_more (suc g) = inr (g, refl)
-
-none_or_some : {A : Type 0} (o : Option A) → (o ≡ None) ⊎ ((x : A) × (o ≡ Some x))
-none_or_some None = inl refl
-none_or_some (Some x) = inr (x, refl)
-
 blank_leads : (v : Bool) (b : ℕ) (l : List ℕ) (g p q : ℕ) (ts : List Token) (m : List ℕ) → v ≡ is_blank b → cond v 1 0 ≡ suc g → Leads (p + suc g) (drop g l) ts q m → Leads p (b ∷ l) ts q m
 blank_leads true b l zero p q ts m is e way = blank (sym is) way
 blank_leads true b l (suc g) p q ts m is e way = absurd (omega (arith, e))

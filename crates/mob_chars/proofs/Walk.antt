@@ -10,10 +10,6 @@ abbrev pub before : List Token → Result (List Token) ℕ → Result (List Toke
 before ts (Ok us) = Ok (ts ++ us)
 before ts (Err p) = Err p
 
-pub before_nothing : (r : Result (List Token) ℕ) → before [] r ≡ r
-before_nothing (Ok us) = refl
-before_nothing (Err p) = refl
-
 pub before_one : (ts : List Token) (t : Token) (r : Result (List Token) ℕ) → before ts (before_others t r) ≡ before (ts ++ t ∷ []) r
 before_one ts t (Ok us) = ap Ok (sym (append_assoc ts (t ∷ []) us))
 before_one ts t (Err p) = refl

@@ -15,7 +15,7 @@ use Rattle.mob_grammar.specs.Expressions.{Rank, disjunction, conjunction, negati
 use Rattle.mob_grammar.specs.Reading.{Answer, Reader, ◌>>=◌, closed, if_mark, name_at, string_at, inner_at, type_at, listed_from, listed, chain_from, postfix_from, null_at, cast_at, args, is_literal, literal_at, column_at, opened, named_at, mark_primary, expression_at, cast_rank, signed_rank, product_rank, sum_rank, complement_rank, other_rank, comparison_rank, nullness_rank, negation_rank, conjunction_rank, disjunction_rank}
 use Rattle.mob_grammar.specs.Reading as read
 use Rattle.mob_grammar.proofs.Steps.{passed, told, token_is, name_is, string_is, chain_goes_on, chain_stops, prefix_goes_on, prefix_stops, compared_goes_on, compared_stops, postfix_goes_on, postfix_stops, closed_there, listed_goes_on, listed_stops}
-use Rattle.mob_grammar.proofs.Laws.{through}
+use Rattle.mob_grammar.proofs.Tells.{through}
 use Rattle.mob_grammar.proofs.Same.{expression_unfolds, column_arguments}
 
 -- what follows does not go on a phrase of that rank

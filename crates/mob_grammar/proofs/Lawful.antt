@@ -5,7 +5,7 @@ use Rattle.mob_grammar.specs.Symbols.{Symbol, fixed, name, number, quoted, Tok, 
 use Rattle.mob_grammar.specs.Forms.{Form, Says, AName, ANumber, AString, ◌⇒◌, ◌▸◌, ◌∣◌, Listed, single, several}
 use Rattle.mob_grammar.specs.Reading.{Answer, Reader, ◌>>=◌, closed, after, if_mark, name_at, number_at, string_at, listed_from, listed}
 use Rattle.mob_grammar.proofs.Steps.{chosen, passed, told, token_is, after_there, after_not, if_there, if_not, listed_stops}
-use Rattle.mob_grammar.proofs.Laws.{Alike, Tells, Lawful, Ready, tells_both, tells_token, tells_done, tells_one, tells_wrong, tells_same, tells_at_length}
+use Rattle.mob_grammar.proofs.Tells.{Alike, Tells, Lawful, Ready, tells_both, tells_token, tells_done, tells_one, tells_wrong, tells_same, tells_at_length}
 
 pub alike_begins : (test : Tok → Bool) (l y : List Tok) → Alike l y → begins test y ≡ begins test l
 alike_begins test [] [] h = refl

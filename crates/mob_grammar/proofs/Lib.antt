@@ -1,10 +1,11 @@
 pub mod Complete
-pub mod Laws
 pub mod Lawful
 pub mod Marks
+pub mod Outcomes
 pub mod Ranks
 pub mod Same
 pub mod StatementLaws
 pub mod StatementsRead
 pub mod Steps
+pub mod Tells
 pub mod Whole

@@ -16,7 +16,7 @@ use Rattle.mob_grammar.specs.Reading.{Answer, Reader, ◌>>=◌, closed, after, 
 use Rattle.mob_grammar.specs.Reading as read
 use Rattle.mob_grammar.proofs.Marks.{same_mark}
 use Rattle.mob_grammar.proofs.Steps.{chosen, passed, told, token_is, name_is, string_is, chain_stops, prefix_stops, compared_stops, postfix_stops}
-use Rattle.mob_grammar.proofs.Laws.{Alike, Tells, Lawful, Ready, through, tells_both, tells_token, tells_done, tells_one, tells_wrong, tells_same, tells_at_length}
+use Rattle.mob_grammar.proofs.Tells.{Alike, Tells, Lawful, Ready, through, tells_both, tells_token, tells_done, tells_one, tells_wrong, tells_same, tells_at_length}
 use Rattle.mob_grammar.proofs.Lawful.{alike_begins, lawful_says, lawful_then, lawful_if, lawful_closed, lawful_either, lawful_name, lawful_string, lawful_listed, alike_end, alike_wrong}
 
 -- what makes e, read before l, a longer phrase
@@ -60,12 +60,12 @@ module _ (k : Rank) (is_op : (t : Tok) → binding t ≡ tight k → chains k t 
       (λ x u less. tells_chain_from (length l) x u less (omega arith)))
 
 -- a reader and then a node round what it gives
-module _ {A B : Type 0} (R1 : List Tok → A → List Tok → Type 0) (R : List Tok → B → List Tok → Type 0) (node : A → B) (join : (l : List Tok) (x : A) (r : List Tok) → R1 l x r → R l (node x) r) (s : Reader A) where
-  tells_node : (l : List Tok) → Tells R1 (λ m. s) l (s l) → Tells R (λ m u. s u >>= λ x. Ok (node x.0, x.1)) l (s l >>= λ x. Ok (node x.0, x.1))
+module _ {A B : Type 0} (First : List Tok → A → List Tok → Type 0) (R : List Tok → B → List Tok → Type 0) (node : A → B) (join : (l : List Tok) (x : A) (r : List Tok) → First l x r → R l (node x) r) (s : Reader A) where
+  tells_node : (l : List Tok) → Tells First (λ m. s) l (s l) → Tells R (λ m u. s u >>= λ x. Ok (node x.0, x.1)) l (s l >>= λ x. Ok (node x.0, x.1))
   tells_node l law =
       let IsNode : A → List Tok → B → List Tok → Type 0 = λ x u y r. (y ≡ node x) × (r ≡ u) in
-      tells_both R1 IsNode R (λ m. s) (λ x m u. Ok (node x, u))
-      (λ u w r x y fst snd. subst (λ z. R u z r) (sym snd.0) (join u x r (subst (R1 u x) (sym snd.1) fst))) (λ x. record { closing = []; plain = tt; value = node x; closes = λ z. (refl, refl) })
+      tells_both First IsNode R (λ m. s) (λ x m u. Ok (node x, u))
+      (λ u w r x y fst snd. subst (λ z. R u z r) (sym snd.0) (join u x r (subst (First u x) (sym snd.1) fst))) (λ x. record { closing = []; plain = tt; value = node x; closes = λ z. (refl, refl) })
       l 0 (s l) law (λ x u less. tells_done (IsNode x) (λ m u. Ok (node x, u)) u (node x) (λ y. (refl, refl)) (λ y a m. refl))
 
 -- marks in front

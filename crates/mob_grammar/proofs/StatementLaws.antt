@@ -14,7 +14,7 @@ use Rattle.mob_grammar.specs.Forms.{Says, At, AName, ANumber, AString, ◌⇒◌
 use Rattle.mob_grammar.specs.Scripts.{PlusOrMinus, Const, Row, ColumnType, InsertRows, WithFormat, WithDelimiter, CopyFile, SecondName, FromEntry, Alias, SelectItem, Direction, OrderKey, OnlyDistinct, FromPart, WherePart, OrderPart, LimitPart, SelectBody, Statement}
 use Rattle.mob_grammar.specs.Reading.{◌>>=◌, mark_at, closed, after, if_mark, name_at, number_at, string_at, type_at, literal_at, listed, expression_at, is_number, is_plus_or_minus, plus_or_minus_at, signed_number_at, number_leaf_at, string_leaf_at, mark_leaf_at, typed_string_at, word_leaf_at, const_at, row_at, column_type_at, columns_at, create_table_at, index_column_at, index_table_at, create_index_at, create_at, rows_at, insert_at, header_at, format_at, delimiter_at, copy_form_at, copy_file_at, copy_at, some_name_at, name_or_none_at, second_name_at, from_entry_at, alias_at, every_at, one_at, item_at, direction_at, key_at, distinct_at, from_at, some_expression_at, where_at, order_at, some_number_at, limit_at, select_at, select_statement_at, explain_at, statement_at, script_at}
 use Rattle.mob_grammar.proofs.Steps.{chosen, passed, told, token_is}
-use Rattle.mob_grammar.proofs.Laws.{Tells, Lawful, Ready, tells_one, tells_wrong}
+use Rattle.mob_grammar.proofs.Tells.{Tells, Lawful, Ready, tells_one, tells_wrong}
 use Rattle.mob_grammar.proofs.Lawful.{alike_begins, lawful_says, lawful_then, lawful_after, lawful_if, lawful_closed, lawful_either, lawful_name, lawful_number, lawful_string, lawful_listed}
 use Rattle.mob_grammar.proofs.Ranks.{lawful_type}
 use Rattle.mob_grammar.proofs.Same.{lawful_expression}

@@ -18,7 +18,7 @@ use Rattle.mob_grammar.specs.Marks.{is, strength, clause}
 use Rattle.mob_grammar.specs.Symbols.{is_name_symbol, symbol_clause, symbol_strength}
 use Rattle.mob_grammar.specs.Expressions.{plain, inner}
 use Rattle.mob_grammar.proofs.Steps.{chosen, passed, told, token_is, string_is, closed_there, after_there, if_there, if_not, listed_goes_on, listed_stops}
-use Rattle.mob_grammar.proofs.Laws.{Lawful, through}
+use Rattle.mob_grammar.proofs.Tells.{Lawful, through}
 use Rattle.mob_grammar.proofs.Lawful.{append_once}
 use Rattle.mob_grammar.proofs.Complete.{Stops, expression_read, type_read, head_not}
 use Rattle.mob_grammar.proofs.Same.{shrinks}

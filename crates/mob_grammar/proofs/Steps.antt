@@ -52,10 +52,6 @@ pub closed_there : {A : Type 0} (m : Mark) (e : A) (t : Tok) (l : List Tok) → 
 unfolding closed
 closed_there m e t l h = chosen _ _ _ h
 
-pub closed_not : {A : Type 0} (m : Mark) (e : A) (l : List Tok) → starts m l ≡ false → closed m e l ≡ Err l
-unfolding closed
-closed_not m e l h = passed _ _ _ h
-
 pub after_there : {A : Type 0} (m : Mark) (s : Reader A) (t : Tok) (l : List Tok) → is_sign m t ≡ true → after m s (t ∷ l) ≡ s l
 unfolding after
 after_there m s t l h = chosen _ _ _ h

@@ -3,7 +3,7 @@ use Rattle.std.proofs.Common.{◌≡◌, ◌∙◌, ℕ, suc, List, [], ◌∷�
 use Rattle.mob_grammar.specs.Symbols.{Tok}
 use Rattle.mob_grammar.specs.Texts.{BeginsText, IsFirstWrong}
 use Rattle.mob_grammar.specs.Reading.{Answer, Reader}
-use Rattle.mob_grammar.proofs.Laws.{Tells, Lawful}
+use Rattle.mob_grammar.proofs.Tells.{Tells, Lawful}
 
 value_or : {A : Type 0} → A → Answer A → A
 value_or e (Ok x) = x.0

@@ -1,6 +1,7 @@
 pub mod Expressions
 pub mod Forms
 pub mod Marks
+pub mod Outcomes
 pub mod Reading
 pub mod Scripts
 pub mod Symbols

@@ -1,5 +1,5 @@
 -- The reserved words and the signs: their texts, and how tight a sign binds.
-use Rattle.std.specs.Prelude.{◌==◌, ℕ, List, Bool, true, false, codes}
+use Rattle.std.specs.Prelude.{◌==◌, ℕ, List, [], ◌∷◌, Bool, true, false, codes}
 use Rattle.mob_grammar.specs.declared.mark.Mark.{Mark}
 use Rattle.mob_grammar.specs.declared.mark.Mark.TheVariants.{Select, Distinct, From, Where, Order, By, Asc, Desc, Limit, Create, Table, Index, On, Using, Gist, Insert, Into, Values, Copy, With, Format, Csv, Header, Delimiter, Explain, And, Or, Not, Is, Null, True, False, As, Left, Join, Delete, Group, LiftedEqual, LiftedNotEqual, LiftedLess, LiftedLessEqual, LiftedGreater, LiftedGreaterEqual, EverEqual, EverNotEqual, EverLess, EverLessEqual, EverGreater, EverGreaterEqual, AlwaysEqual, AlwaysNotEqual, AlwaysLess, AlwaysLessEqual, AlwaysGreater, AlwaysGreaterEqual, Equal, NotEqual, Less, LessEqual, Greater, GreaterEqual, Distance, Approach, Plus, Minus, Times, Divide, Ampersand, Bar, Tilde, Concat, Overlap, Cast, Open, Close, Comma, Semicolon, Dot}
 
@@ -167,6 +167,21 @@ text_of Close = codes ")"
 text_of Comma = codes ","
 text_of Semicolon = codes ";"
 text_of Dot = codes "."
+
+-- the reserved words
+abbrev pub words : List Mark
+words =
+    Select ∷ Distinct ∷ From ∷ Where ∷ Order ∷ By ∷ Asc ∷ Desc ∷ Limit ∷ Create ∷ Table ∷ Index ∷ On ∷ Using ∷ Gist ∷ Insert ∷ Into ∷
+    Values ∷ Copy ∷ With ∷ Format ∷ Csv ∷ Header ∷ Delimiter ∷ Explain ∷ And ∷ Or ∷ Not ∷ Is ∷ Null ∷ True ∷ False ∷ As ∷ Left ∷ Join ∷
+    Delete ∷ Group ∷ []
+
+-- the signs but the point
+abbrev pub signs : List Mark
+signs =
+    Comma ∷ Open ∷ Close ∷ Minus ∷ Plus ∷ Semicolon ∷ Times ∷ Divide ∷ Cast ∷ Equal ∷ NotEqual ∷ Less ∷ LessEqual ∷ Greater ∷ GreaterEqual ∷
+    LiftedEqual ∷ LiftedNotEqual ∷ LiftedLess ∷ LiftedLessEqual ∷ LiftedGreater ∷ LiftedGreaterEqual ∷ EverEqual ∷ EverNotEqual ∷ EverLess ∷
+    EverLessEqual ∷ EverGreater ∷ EverGreaterEqual ∷ AlwaysEqual ∷ AlwaysNotEqual ∷ AlwaysLess ∷ AlwaysLessEqual ∷ AlwaysGreater ∷ AlwaysGreaterEqual ∷
+    Distance ∷ Approach ∷ Ampersand ∷ Bar ∷ Tilde ∷ Concat ∷ Overlap ∷ []
 
 -- How tight a sign binds to what stands before it, as the rank of the phrase that it goes on: 0 where it goes on none.
 -- The point and the opening bracket stand behind a name alone.

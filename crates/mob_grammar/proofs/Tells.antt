@@ -56,14 +56,14 @@ pub record Ready {B : Type 0} (R : List Tok → B → List Tok → Type 0) : Typ
   pub closes : (z : List Tok) → R (closing ++ z) value z
 
 -- one reader, and then another
-module _ {A B : Type 0} (R1 : List Tok → A → List Tok → Type 0) (R2 : A → List Tok → B → List Tok → Type 0) (R : List Tok → B → List Tok → Type 0)
+module _ {A B : Type 0} (First : List Tok → A → List Tok → Type 0) (Then : A → List Tok → B → List Tok → Type 0) (R : List Tok → B → List Tok → Type 0)
     (f : ℕ → Reader A) (g : A → ℕ → Reader B)
-    (join : (l u r : List Tok) (x : A) (y : B) → R1 l x u → R2 x u y r → R l y r) (ready : (x : A) → Ready (R2 x)) where
+    (join : (l u r : List Tok) (x : A) (y : B) → First l x u → Then x u y r → R l y r) (ready : (x : A) → Ready (Then x)) where
   abbrev pair : ℕ → Reader B
   pair m l = f m l >>= λ x. g x.0 m x.1
 
   -- f takes p, and then g takes q
-  step : (l : List Tok) (x : A) (u : List Tok) (t : Taken R1 f l x u) (q r v : List Tok) (m : ℕ) (b : Answer B) → u ≡ q ++ r → Alike r v → ((n : ℕ) → length (q ++ v) ≤ n → g x n (q ++ v) ≡ b)
+  step : (l : List Tok) (x : A) (u : List Tok) (t : Taken First f l x u) (q r v : List Tok) (m : ℕ) (b : Answer B) → u ≡ q ++ r → Alike r v → ((n : ℕ) → length (q ++ v) ≤ n → g x n (q ++ v) ≡ b)
       → length ((t.taken ++ q) ++ v) ≤ m → pair m ((t.taken ++ q) ++ v) ≡ b
   step l x u t q r v m b parts h second fuel =
       let e : (t.taken ++ q) ++ v ≡ t.taken ++ (q ++ v) = append_assoc t.taken q v in
@@ -72,7 +72,7 @@ module _ {A B : Type 0} (R1 : List Tok → A → List Tok → Type 0) (R2 : A �
       let short : length (q ++ v) ≤ m = omega (arith, length-append t.taken (q ++ v)) in
       ap (pair m) e ∙ through (f m (t.taken ++ (q ++ v))) x (q ++ v) _ (t.again (q ++ v) a m long) ∙ second m short
 
-  after_ok : (l : List Tok) (x : A) (u : List Tok) → Taken R1 f l x u → (b : Answer B) → Tells (R2 x) (g x) u b → Tells R (λ m l. f m l >>= λ x. g x.0 m x.1) l b
+  after_ok : (l : List Tok) (x : A) (u : List Tok) → Taken First f l x u → (b : Answer B) → Tells (Then x) (g x) u b → Tells R (λ m l. f m l >>= λ x. g x.0 m x.1) l b
   after_ok l x u t (Ok y) s = record {
     taken = t.taken ++ s.taken;
     parts = t.parts ∙ ap (λ v. t.taken ++ v) s.parts ∙ sym (append_assoc t.taken s.taken y.1);
@@ -89,7 +89,7 @@ module _ {A B : Type 0} (R1 : List Tok → A → List Tok → Type 0) (R2 : A �
     closes = λ v. subst (λ w. R w s.value v) (sym (append_assoc t.taken s.taken (s.closing ++ v))) (join (t.taken ++ (s.taken ++ (s.closing ++ v))) (s.taken ++ (s.closing ++ v)) v x s.value (t.phrase (s.taken ++ (s.closing ++ v))) (s.closes v));
   }
 
-  fails : (l r : List Tok) → Failed R1 f l r → Failed R (λ m l. f m l >>= λ x. g x.0 m x.1) l r
+  fails : (l r : List Tok) → Failed First f l r → Failed R (λ m l. f m l >>= λ x. g x.0 m x.1) l r
   fails l r t =
       let k = ready t.value in
       record {
@@ -102,18 +102,18 @@ module _ {A B : Type 0} (R1 : List Tok → A → List Tok → Type 0) (R2 : A �
         closes = λ v. subst (λ w. R w k.value v) (sym (ap (λ w. t.taken ++ w) (append_assoc t.closing k.closing v))) (join (t.taken ++ (t.closing ++ (k.closing ++ v))) (k.closing ++ v) v t.value k.value (t.closes (k.closing ++ v)) (k.closes v));
       }
 
-  pub tells_both : (l : List Tok) (m : ℕ) (a : Answer A) → Tells R1 f l a → ((x : A) (u : List Tok) → length u ≤ length l → Tells (R2 x) (g x) u (g x m u)) → Tells R (λ m l. f m l >>= λ x. g x.0 m x.1) l (a >>= λ x. g x.0 m x.1)
+  pub tells_both : (l : List Tok) (m : ℕ) (a : Answer A) → Tells First f l a → ((x : A) (u : List Tok) → length u ≤ length l → Tells (Then x) (g x) u (g x m u)) → Tells R (λ m l. f m l >>= λ x. g x.0 m x.1) l (a >>= λ x. g x.0 m x.1)
   tells_both l m (Ok x) t second = after_ok l x.0 x.1 t (g x.0 m x.1) (second x.0 x.1 (omega (arith, ap length t.parts, length-append t.taken x.1)))
   tells_both l m (Err r) t second = fails l r t
 
 -- a token, and then what g reads
-module _ {A : Type 0} (R1 R : List Tok → A → List Tok → Type 0) (g f : ℕ → Reader A) (t : Tok)
-    (steps : (m : ℕ) (y : List Tok) → f (suc m) (t ∷ y) ≡ g m y) (join : (l : List Tok) (x : A) (r : List Tok) → R1 l x r → R (t ∷ l) x r) where
+module _ {A : Type 0} (Then R : List Tok → A → List Tok → Type 0) (g f : ℕ → Reader A) (t : Tok)
+    (steps : (m : ℕ) (y : List Tok) → f (suc m) (t ∷ y) ≡ g m y) (join : (l : List Tok) (x : A) (r : List Tok) → Then l x r → R (t ∷ l) x r) where
   behind : (v : List Tok) (m : ℕ) (b : Answer A) → ((n : ℕ) → length v ≤ n → g n v ≡ b) → length (t ∷ v) ≤ m → f m (t ∷ v) ≡ b
   behind v zero b h fuel = absurd (omega arith)
   behind v (suc m) b h fuel = steps m v ∙ h m (omega arith)
 
-  pub tells_token : (l : List Tok) (a : Answer A) → Tells R1 g l a → Tells R f (t ∷ l) a
+  pub tells_token : (l : List Tok) (a : Answer A) → Tells Then g l a → Tells R f (t ∷ l) a
   tells_token l (Ok x) s = record {
     taken = t ∷ s.taken;
     parts = ap (λ v. t ∷ v) s.parts;
@@ -144,12 +144,12 @@ module _ {A : Type 0} (R : List Tok → A → List Tok → Type 0) (f : ℕ → 
   tells_wrong l again k = record { taken = []; parts = refl; again = λ y h m fuel. again y h m; closing = k.closing; plain = k.plain; value = k.value; closes = k.closes }
 
 -- the same of another reader that gives the same wherever the list begins alike, and of a wider relation
-module _ {A : Type 0} (R1 R : List Tok → A → List Tok → Type 0) (g f : ℕ → Reader A) (l : List Tok)
-    (same : (y : List Tok) → Alike l y → (m : ℕ) → f m y ≡ g m y) (wider : (u : List Tok) (x : A) (r : List Tok) → R1 u x r → R u x r) where
+module _ {A : Type 0} (Narrow R : List Tok → A → List Tok → Type 0) (g f : ℕ → Reader A) (l : List Tok)
+    (same : (y : List Tok) → Alike l y → (m : ℕ) → f m y ≡ g m y) (wider : (u : List Tok) (x : A) (r : List Tok) → Narrow u x r → R u x r) where
   alike_here : (p r y : List Tok) → l ≡ p ++ r → Alike r y → Alike l (p ++ y)
   alike_here p r y e h = subst (λ w. Alike w (p ++ y)) (sym e) (alike_more p r y h)
 
-  pub tells_same : (a : Answer A) → Tells R1 g l a → Tells R f l a
+  pub tells_same : (a : Answer A) → Tells Narrow g l a → Tells R f l a
   tells_same (Ok x) s = record {
     taken = s.taken;
     parts = s.parts;

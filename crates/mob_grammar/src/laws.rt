@@ -1,0 +1,14 @@
+//! Laws of the grammar. Each is proved for all tokens; calling one does nothing.
+ghost use Rattle.mob_grammar.specs.Outcomes.{HasOneTree, HasOneWrong, IsScriptOrWrong, IsWrongNowhere};
+
+/// Tokens have one tree.
+pub fn one_tree()
+    ensures tree { HasOneTree }
+{}
+
+/// Tokens that are no script go wrong at one place: at the first token with which no script begins, given those before it.
+pub fn one_first_wrong()
+    ensures told { IsScriptOrWrong }
+    ensures apart { IsWrongNowhere }
+    ensures one { HasOneWrong }
+{}
