@@ -1,4 +1,5 @@
-ghost use Rattle.std.specs.Prelude.{◌≡◌, IfOk};
+ghost use Rattle.std.specs.Prelude.{◌≡◌, IfOk, OnErr, true};
+ghost use Rattle.mob_value.specs.Memory.{holds_memory};
 
 use crate::copies::copy_steps;
 use mob_frac::Frac;
@@ -31,9 +32,11 @@ pub enum Value {
 }
 
 impl Value {
-    /// A second value, the same, in memory of its own.
+    /// A second value, the same, in memory of its own. It asks for memory only where the value holds some: a text, or a value
+    /// over time.
     pub fn copy(&self, alloc: Global) -> Result<Value, AllocError>
         ensures same { IfOk result (λ copy. copy ≡ self.now) }
+        ensures memory { OnErr result (holds_memory self.now ≡ true) }
     {
         match self {
             Value::Null => Ok(Value::Null),
