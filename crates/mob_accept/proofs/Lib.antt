@@ -1,2 +1,3 @@
 mod Causes
+mod OneRefusal
 pub mod OneScript

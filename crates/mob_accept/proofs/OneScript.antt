@@ -1,6 +1,5 @@
 -- A text is judged in one way.
 use Rattle.std.proofs.Common.{arith, ◌≡◌, ◌∙◌, refl, sym, ap, ap₂, subst, inl, inr, ℕ, List, [], None}
-use Rattle.mob_ast.specs.declared.refusal.Refusal.{Refusal}
 use Rattle.mob_ast.specs.Trees.{StatementParts}
 use Rattle.mob_grammar.specs.Symbols.{Tok}
 use Rattle.mob_grammar.specs.Scripts.{IsScript}
@@ -10,19 +9,19 @@ use Rattle.mob_parse.proofs.Refused.{no_tree, same_tokens}
 use Rattle.mob_parse.proofs.Scripts.{script_only}
 use Rattle.mob_typing.specs.Statements.{ScriptOut}
 use Rattle.mob_built.specs.Least.{least}
-use Rattle.mob_accept.specs.Accepts.{IsAccepted, IsTextRefused, IsTyped, unbuilt_places}
+use Rattle.mob_accept.specs.Accepts.{IsTyped, unbuilt_places}
 use Rattle.mob_accept.specs.Outcomes.{HasOneScript, IsTakenOrRefused}
 
 -- tokens have one tree: what the reading of them gives
 one_tree : (l : List Tok) (x y : List StatementParts) → IsScript l x → IsScript l y → x ≡ y
 one_tree l x y h k = script_only l y x (complete_script l y [] k refl) h
 
-one_text : (bytes : List ℕ) (x y : List StatementParts) → IsTreeOf bytes x → IsTreeOf bytes y → x ≡ y
+pub one_text : (bytes : List ℕ) (x y : List StatementParts) → IsTreeOf bytes x → IsTreeOf bytes y → x ≡ y
 one_text bytes x y h k =
     let tokens = same_tokens bytes h.1.0 k.1.0 h.1.1 k.1.1 in
     one_tree k.1.0 x y (subst (λ (l : List Tok). IsScript l x) tokens h.1.2) k.1.2
 
-one_typed : (bytes : List ℕ) (x y : List StatementParts) (a b : ScriptOut) → IsTyped bytes x a → IsTyped bytes y b → (x ≡ y) × (a ≡ b)
+pub one_typed : (bytes : List ℕ) (x y : List StatementParts) (a b : ScriptOut) → IsTyped bytes x a → IsTyped bytes y b → (x ≡ y) × (a ≡ b)
 one_typed bytes x y a b h k =
     let trees = one_text bytes x y h.read.tree k.read.tree in
     let typed = h.typed in

@@ -11,3 +11,7 @@ HasOneScript = (bytes : List ℕ) (a b : ScriptOut) → IsAccepted bytes a → I
 -- no text is taken and refused
 abbrev pub IsTakenOrRefused : Type 0
 IsTakenOrRefused = (bytes : List ℕ) (out : ScriptOut) (e : Refusal) → IsAccepted bytes out → IsTextRefused bytes e → ⊥
+
+-- a text that is refused by itself has one refusal
+abbrev pub HasOneRefusal : Type 0
+HasOneRefusal = (bytes : List ℕ) (d e : Refusal) → IsTextRefused bytes d → IsTextRefused bytes e → d ≡ e
