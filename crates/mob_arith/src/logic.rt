@@ -7,7 +7,7 @@ ghost use Rattle.mob_slice.specs.Operands.{operand_at, is_moving};
 ghost use Rattle.mob_arith.specs.Operations.{both_hold, one_holds};
 ghost use Rattle.mob_slice.specs.Operands.{steady_value, IsPointwise};
 
-use crate::operate::{beside, operate};
+use crate::operate::{beside, memory_alone, operate};
 use crate::operation::{Conjunction, Disjunction, Exclusion};
 use mob_slice::{Moving, Operand, Steady};
 use std::alloc::{AllocError, Global};
@@ -21,10 +21,7 @@ pub fn and(
     requires moving { (is_moving a || is_moving b) ≡ true }
     ensures value { IfOk result (λ r. IsPointwise both_hold (operand_at steady_value a.entry) (operand_at steady_value b.entry) r) }
 {
-    match operate::<bool, bool, Conjunction>(alloc, a, b) {
-        Ok(value) => Ok(value),
-        Err(_) => Err(AllocError),
-    }
+    memory_alone(operate::<bool, bool, Conjunction>(alloc, a, b))
 }
 
 /// Whether an operand is true, at each instant at which both have a value. None exactly where there is no such instant.
@@ -36,18 +33,12 @@ pub fn or(
     requires moving { (is_moving a || is_moving b) ≡ true }
     ensures value { IfOk result (λ r. IsPointwise one_holds (operand_at steady_value a.entry) (operand_at steady_value b.entry) r) }
 {
-    match operate::<bool, bool, Disjunction>(alloc, a, b) {
-        Ok(value) => Ok(value),
-        Err(_) => Err(AllocError),
-    }
+    memory_alone(operate::<bool, bool, Disjunction>(alloc, a, b))
 }
 
 /// The other truth value at each instant.
 pub fn not(alloc: Global, a: &Moving<Steady<bool>>) -> Result<Moving<Steady<bool>>, AllocError>
     ensures value { IfOk result (λ v. (t : Ratio) → value_at steady_value v t ≡ option_map not (value_at steady_value a.now t)) }
 {
-    match beside::<bool, bool, Exclusion>(alloc, a, &true) {
-        Ok(value) => Ok(value),
-        Err(_) => Err(AllocError),
-    }
+    memory_alone(beside::<bool, bool, Exclusion>(alloc, a, &true))
 }

@@ -1,6 +1,6 @@
 //! An operation on two operands, instant by instant.
 
-ghost use Rattle.std.specs.Prelude.{◌≡◌, true, ◌||◌, [], ◌∷◌, Some, option_map, MatchResult, IfOk, IfErr};
+ghost use Rattle.std.specs.Prelude.{◌≡◌, true, ◌||◌, [], ◌∷◌, Some, Ok, option_map, MatchResult, IfOk, IfErr};
 ghost use Rattle.mob_ratio.specs.Ratio.{Ratio};
 ghost use Rattle.mob_slice.specs.Slices.{value_at, IsOrdered};
 ghost use Rattle.mob_slice.specs.Operands.{operand_at, is_moving, FitBoth};
@@ -12,7 +12,7 @@ use mob_lift::{lift, single};
 use mob_normal::normal;
 use mob_slice::{BaseValue, Moving, One, OpFault, Operand, Pair, Slice, Steady};
 use mob_sync::{Common, Ones};
-use std::alloc::Global;
+use std::alloc::{AllocError, Global};
 
 // On two temporal values.
 fn on_both<A: BaseValue + Drop, B: BaseValue + Drop, O: Operation<A, B>>(
@@ -131,5 +131,17 @@ pub fn beside<A: BaseValue + Drop, B: BaseValue + Drop, O: Operation<A, B>>(
         Ok(Some(value)) => Ok(value),
         Ok(None) => unreachable!(),
         Err(_) => Err(OpFault::NoMemory),
+    }
+}
+
+/// The answer of an operation that has no parts, so that memory alone is refused.
+pub fn memory_alone<V>(value: Result<V, OpFault>) -> Result<V, AllocError>
+    requires memory { IfErr value (λ fault. fault ≡ OpFault.NoMemory) }
+    ensures value { IfOk result (λ v. value ≡ Ok v) }
+{
+    match value {
+        Ok(value) => Ok(value),
+        Err(OpFault::NoMemory) => Err(AllocError),
+        Err(OpFault::Passed { .. }) => unreachable!(),
     }
 }

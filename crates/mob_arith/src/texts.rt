@@ -5,7 +5,7 @@ ghost use Rattle.mob_slice.specs.Operands.{operand_at, is_moving};
 ghost use Rattle.mob_arith.specs.Operations.{text_of};
 ghost use Rattle.mob_slice.specs.Operands.{steady_value, IsPointwise};
 
-use crate::operate::operate;
+use crate::operate::{memory_alone, operate};
 use crate::operation::Joining;
 use mob_list::text::Text;
 use mob_slice::{Moving, Operand, Steady};
@@ -21,8 +21,5 @@ pub fn join_text(
     requires moving { (is_moving a || is_moving b) ≡ true }
     ensures value { IfOk result (λ r. IsPointwise text_of (operand_at steady_value a.entry) (operand_at steady_value b.entry) r) }
 {
-    match operate::<Text, Text, Joining>(alloc, a, b) {
-        Ok(value) => Ok(value),
-        Err(_) => Err(AllocError),
-    }
+    memory_alone(operate::<Text, Text, Joining>(alloc, a, b))
 }

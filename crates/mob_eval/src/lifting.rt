@@ -1,7 +1,8 @@
 //! Logic, comparisons and joining at each instant.
-ghost use Rattle.std.specs.Prelude.{◌≡◌, IfOk, IfErr};
+ghost use Rattle.std.specs.Prelude.{◌≡◌, ◌||◌, true, IfOk};
 ghost use Rattle.mob_slice.specs.Operands.{operand_at, is_moving, steady_value};
-ghost use Rattle.mob_arith.specs.Operations.{both_hold, one_holds, text_of};
+ghost use Rattle.mob_slice.specs.Ranks.{holds};
+ghost use Rattle.mob_arith.specs.Operations.{both_hold, one_holds};
 ghost use Rattle.mob_eval.specs.Lifted.{OnPair, IsMovingBool, IsOrderTest, IsAnyTest, IsLiftedTest, IsLiftedNot, truths, texts, number_test, text_test, truth_test};
 ghost use Rattle.mob_eval.specs.Operators.{joined, IsJoined};
 
@@ -12,7 +13,7 @@ use mob_arith::operation::{Joining, Operation};
 use mob_arith::{and, join_text, not, or};
 use mob_ast::Cmp;
 use mob_compare::compare;
-use mob_slice::Rel;
+use mob_slice::{OpFault, Operand, Ranked, Rel, Steady};
 use mob_value::Value;
 use std::alloc::{AllocError, Global};
 
@@ -46,6 +47,23 @@ pub fn lifted_not(alloc: Global, value: &Value) -> Result<Value, AllocError>
     }
 }
 
+// The comparison of two operands of one type at each instant.
+fn compared<B: Ranked + Drop>(
+    alloc: Global,
+    rel: Rel,
+    left: Operand<'_, Steady<B>>,
+    right: Operand<'_, Steady<B>>,
+) -> Result<Value, AllocError>
+    requires moving { (is_moving left || is_moving right) ≡ true }
+    ensures value { IfOk result (λ v. IsMovingBool (λ x y. holds rel (B.compare_of x y)) (operand_at steady_value left.entry) (operand_at steady_value right.entry) v) }
+{
+    match compare(alloc, left, right, rel) {
+        Ok(value) => Ok(bool_or_null(value)),
+        Err(OpFault::NoMemory) => Err(AllocError),
+        Err(OpFault::Passed { .. }) => unreachable!(),
+    }
+}
+
 fn text_comparison(
     alloc: Global,
     rel: Rel,
@@ -55,10 +73,7 @@ fn text_comparison(
     ensures value { IfOk result (λ v. OnPair (texts left.now right.now) (IsMovingBool (text_test rel)) v) }
 {
     match texts(left, right) {
-        Some((left, right)) => match compare(alloc, left, right, rel) {
-            Ok(value) => Ok(bool_or_null(value)),
-            Err(_) => Err(AllocError),
-        },
+        Some((left, right)) => compared(alloc, rel, left, right),
         None => Ok(Value::Null),
     }
 }
@@ -67,10 +82,7 @@ fn order(alloc: Global, rel: Rel, left: &Value, right: &Value) -> Result<Value, 
     ensures value { IfOk result (λ v. IsOrderTest rel left.now right.now v) }
 {
     match numbers(left, right) {
-        Some((left, right)) => match compare(alloc, left, right, rel) {
-            Ok(value) => Ok(bool_or_null(value)),
-            Err(_) => Err(AllocError),
-        },
+        Some((left, right)) => compared(alloc, rel, left, right),
         None => text_comparison(alloc, rel, left, right),
     }
 }
@@ -79,10 +91,7 @@ fn comparison(alloc: Global, rel: Rel, left: &Value, right: &Value) -> Result<Va
     ensures value { IfOk result (λ v. IsAnyTest rel left.now right.now v) }
 {
     match truths(left, right) {
-        Some((left, right)) => match compare(alloc, left, right, rel) {
-            Ok(value) => Ok(bool_or_null(value)),
-            Err(_) => Err(AllocError),
-        },
+        Some((left, right)) => compared(alloc, rel, left, right),
         None => order(alloc, rel, left, right),
     }
 }
@@ -109,7 +118,8 @@ fn plain_joined(alloc: Global, left: &Value, right: &Value) -> Result<Value, All
     match (left, right) {
         (Value::Text(a), Value::Text(b)) => match Joining::apply(alloc, a, b) {
             Ok(text) => Ok(Value::Text(text)),
-            Err(_) => Err(AllocError),
+            Err(OpFault::NoMemory) => Err(AllocError),
+            Err(OpFault::Passed { .. }) => unreachable!(),
         },
         _ => Ok(Value::Null),
     }
