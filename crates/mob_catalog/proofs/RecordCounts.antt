@@ -1,5 +1,5 @@
 -- Each record takes a byte at least, but for one at the end.
-use Rattle.std.proofs.Common.{◌≡◌, ◌++◌, ◌∷◌, ◌+◌, ◌≤◌, ◌⊎◌, inl, inr, ℕ, List, [], length, Option, Some, None, ap, sym, subst, arith, Bool, true, false, refl}
+use Rattle.std.proofs.Common.{◌≡◌, ◌++◌, ◌∷◌, ◌+◌, ◌≤◌, ◌⊎◌, inl, inr, ℕ, List, [], length, Option, Some, None, ap, sym, subst, arith, Bool, true, false}
 use Rattle.std.specs.Prelude.{if◌then◌else◌}
 use Rattle.csv.specs.Machine.{Read, ends_at_end, field_after, fields_after, is_end, next_record, step}
 use Rattle.csv.specs.Reading.{Reached, default_config, is_bom, strip_bom}

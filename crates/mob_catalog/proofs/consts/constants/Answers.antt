@@ -1,4 +1,4 @@
-use Rattle.std.proofs.Common.{◌≡◌, inl, inr}
+use Rattle.std.proofs.Common.{inl, inr}
 use Rattle.mob_catalog.specs.Constants.{ConstantFails, IsConstant}
 use Rattle.mob_catalog.proofs.FirstFaults.{fails_here, one_more}
 use Rattle.mob_catalog.proofs.consts.constants.Goals as goal

@@ -1,4 +1,4 @@
-use Rattle.std.proofs.Common.{◌≡◌, ℕ, List, map, take}
+use Rattle.std.proofs.Common.{◌≡◌, map, take}
 use Rattle.csv.specs.Records.{fields_of}
 use Rattle.mob_catalog.specs.TableFile.{Column, in_lower_case}
 use Rattle.mob_catalog.proofs.header.is_header.Given as goal
