@@ -6,5 +6,5 @@ pub mod Whole
 mod Statuses
 mod OneRun
 mod OneOutcome
-mod OneStatus
+mod OneEnding
 mod Due

@@ -10,7 +10,7 @@ use Rattle.mob_streams.specs.Streams.{PutsPart, ReadsPart}
 use Rattle.mob_words.specs.CommandLine.{Says}
 use Rattle.mob_accept.specs.Accepts.{IsTextRefused, script_limit}
 use Rattle.mob_typing.specs.Statements.{ScriptOut}
-use Rattle.mob_load.specs.Loads.{refused, table_refused, copied_files}
+use Rattle.mob_load.specs.Loads.{missing, refused, table_refused, copied_files}
 use Rattle.mob_load.specs.Fronts.{AsksForSome, IsAskedLast}
 use Rattle.mob_ending.specs.declared.ending.Ending.{Ending}
 use Rattle.mob_ending.specs.declared.ending.Ending.TheVariants.{Done, Usage, ReadFault, WriteFault, NoMemory, TableRefused, ScriptRefused, Overflow}
@@ -19,6 +19,10 @@ use Rattle.mob_shell.specs.Program.{IsScript, IsHalted, IsReached, WritesFirst, 
 -- the words are not taken
 abbrev pub IsUsage : List (List ℕ) → Type 0
 IsUsage words = (workers : ℕ) (day : ℤ) → Says words workers day → ⊥
+
+-- the words are taken
+abbrev pub IsTaken : List (List ℕ) → Type 0
+IsTaken words = IsUsage words → ⊥
 
 -- What a run was given and what it did: the words; what the script told before and after; what the files told, and the names
 -- that they were asked for before and after; what `out` told before and after; and the counts of faults of the three.
@@ -158,33 +162,22 @@ IsScriptRefused s = (e : Refusal) × IsRefused s e
 abbrev pub IsOverflow : Seen → Type 0
 IsOverflow s = (number : ℕ) × (rows : List ℕ) × (place : ℕ) × (formula : Formula) × StopsAt s number rows place formula
 
--- what the definitions say of words, a script and files: there are answers, a refusal, or a fault of a statement
+-- How a run has to end where nothing fails, by its words, its script and its files: with all answers, by its words, for a file that
+-- is not there, with a refusal or with the fault of a statement. They say nothing of the other endings.
 abbrev pub IsDue : List (List ℕ) → List ℕ → Contents → Ending → Type 0
 IsDue words bytes files Done = (text : List ℕ) × OutText words bytes files text
+IsDue words bytes files Usage = IsUsage words
+IsDue words bytes files (ReadFault None) = ⊥
+IsDue words bytes files (ReadFault (Some file)) = IsHalted words bytes files (missing file)
+IsDue words bytes files WriteFault = ⊥
+IsDue words bytes files NoMemory = ⊥
 IsDue words bytes files (TableRefused name kind rec field) = IsHalted words bytes files (table_refused name kind rec field)
-IsDue words bytes files (ScriptRefused e) = IsTextRefused bytes e ⊎ IsHalted words bytes files (refused e)
+IsDue words bytes files (ScriptRefused e) = IsTaken words × (IsTextRefused bytes e ⊎ IsHalted words bytes files (refused e))
 IsDue words bytes files (Overflow number rows place formula) = (text : List ℕ) × StopsWith words bytes files text number (rows, (place, formula))
-IsDue words bytes files _ = ⊥
 
--- the script and the files are told, and the definitions say this of them
+-- the script and the files are told, and the definitions ask for this ending
 abbrev pub Gives : Seen → Ending → Type 0
 Gives s ending = IsSomeAnd s.script (λ bytes. IsSomeAnd s.files (λ files. IsDue s.words bytes files ending))
-
--- they give the answers of all statements
-abbrev pub HasAnswers : Seen → Type 0
-HasAnswers s = Gives s Done
-
--- they refuse a table file
-abbrev pub HasTableRefusal : Seen → Type 0
-HasTableRefusal s = (name : List ℕ) × (kind : Kind) × (rec : ℕ) × (field : ℕ) × Gives s (TableRefused name kind rec field)
-
--- they refuse the script, for its text or for one of its literals or rows
-abbrev pub HasScriptRefusal : Seen → Type 0
-HasScriptRefusal s = (e : Refusal) × Gives s (ScriptRefused e)
-
--- they give a statement a fault: a part of a formula does not fit
-abbrev pub HasOverflow : Seen → Type 0
-HasOverflow s = (number : ℕ) × (rows : List ℕ) × (place : ℕ) × (formula : Formula) × Gives s (Overflow number rows place formula)
 
 -- no count of faults rose: of the script, of the files and of `out`
 pub record IsFaultless (s : Seen) : Type 0 where

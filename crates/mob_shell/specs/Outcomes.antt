@@ -7,7 +7,6 @@ use Rattle.mob_accept.specs.Accepts.{IsTextRefused}
 use Rattle.mob_load.specs.Loads.{Halt}
 use Rattle.mob_load.specs.declared.program.Program.{Program}
 use Rattle.mob_eval.specs.QueryFaults.{TupleFault}
-use Rattle.mob_ending.specs.Lines.{status_of}
 use Rattle.mob_ending.specs.declared.ending.Ending.{Ending}
 use Rattle.mob_shell.specs.Ending.{IsDue}
 use Rattle.mob_shell.specs.Program.{IsHalted, IsProgram, IsScript, OutText, StopsWith}
@@ -40,6 +39,6 @@ HasOneStop = (words : List (List ℕ)) (bytes : List ℕ) (files : Contents) (a 
 abbrev pub EndsOrStops : Type 0
 EndsOrStops = (words : List (List ℕ)) (bytes : List ℕ) (files : Contents) (a b : List ℕ) (n : ℕ) (f : TupleFault) → OutText words bytes files a → StopsWith words bytes files b n f → ⊥
 
--- the definitions ask for one status
-abbrev pub HasOneStatus : Type 0
-HasOneStatus = (words : List (List ℕ)) (bytes : List ℕ) (files : Contents) (ending other : Ending) → IsDue words bytes files ending → IsDue words bytes files other → status_of ending ≡ status_of other
+-- the definitions ask for one ending, with its places
+abbrev pub HasOneEnding : Type 0
+HasOneEnding = (words : List (List ℕ)) (bytes : List ℕ) (files : Contents) (ending other : Ending) → IsDue words bytes files ending → IsDue words bytes files other → ending ≡ other

@@ -1,6 +1,6 @@
 //! What holds of every run. No code runs here.
 ghost use Rattle.mob_shell.specs.StepOutcomes.{HasOneFault, HasOneStep, OneAnswer, RunsOrStops};
-ghost use Rattle.mob_shell.specs.Outcomes.{EndsOrStops, HasOneHalt, HasOneProgram, HasOneStatus, HasOneStop, HasOneText, IsProgramOrHalted, IsScriptOrRefused};
+ghost use Rattle.mob_shell.specs.Outcomes.{EndsOrStops, HasOneEnding, HasOneHalt, HasOneProgram, HasOneStop, HasOneText, IsProgramOrHalted, IsScriptOrRefused};
 
 /// A query has one answer, or one fault.
 pub fn one_answer()
@@ -41,10 +41,11 @@ pub fn one_text()
     one_step();
 }
 
-/// What the definitions say of words, a script and files asks for one status.
-pub fn one_status()
-    ensures status { HasOneStatus }
+/// What the definitions say of words, a script and files asks for one ending: its status, and what its line names.
+pub fn one_ending()
+    ensures ending { HasOneEnding }
 {
+    mob_accept::laws::one_text_refusal();
     one_program();
     one_text();
 }
