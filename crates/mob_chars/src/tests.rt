@@ -30,13 +30,10 @@ fn has_tokens(
     Ok(())
 }
 
-#[test]
-fn texts_have_their_tokens(rt: HostRuntime) -> Result<(), Fail> {
-    let alloc = rt.alloc();
-    has_tokens(&rt, alloc, "", &[(End, 0, 0)])?;
-    has_tokens(
-        &rt,
-        alloc,
+// Texts, each with its tokens: what each is, and its two places.
+static TEXTS: [(&str, &[(TokenKind, u32, u32)]); 7] = [
+    ("", &[(End, 0, 0)]),
+    (
         "SELECT a.b2 FROM _t;",
         &[
             (Word, 0, 6),
@@ -48,10 +45,8 @@ fn texts_have_their_tokens(rt: HostRuntime) -> Result<(), Fail> {
             (Sign, 19, 20),
             (End, 20, 20),
         ],
-    )?;
-    has_tokens(
-        &rt,
-        alloc,
+    ),
+    (
         "1.5e-3 .5 1. 1e 2.3.4",
         &[
             (Number, 0, 6),
@@ -63,16 +58,9 @@ fn texts_have_their_tokens(rt: HostRuntime) -> Result<(), Fail> {
             (Number, 19, 21),
             (End, 21, 21),
         ],
-    )?;
-    has_tokens(
-        &rt,
-        alloc,
-        "'it''s' ''",
-        &[(Str, 0, 7), (Str, 8, 10), (End, 10, 10)],
-    )?;
-    has_tokens(
-        &rt,
-        alloc,
+    ),
+    ("'it''s' ''", &[(Str, 0, 7), (Str, 8, 10), (End, 10, 10)]),
+    (
         "a<=b<->c|=|d#<>e!=f",
         &[
             (Word, 0, 1),
@@ -88,16 +76,12 @@ fn texts_have_their_tokens(rt: HostRuntime) -> Result<(), Fail> {
             (Word, 18, 19),
             (End, 19, 19),
         ],
-    )?;
-    has_tokens(
-        &rt,
-        alloc,
+    ),
+    (
         "1 -- to the end\n2--",
         &[(Number, 0, 1), (Number, 16, 17), (End, 19, 19)],
-    )?;
-    has_tokens(
-        &rt,
-        alloc,
+    ),
+    (
         "- -1::int",
         &[
             (Sign, 0, 1),
@@ -107,7 +91,15 @@ fn texts_have_their_tokens(rt: HostRuntime) -> Result<(), Fail> {
             (Word, 6, 9),
             (End, 9, 9),
         ],
-    )?;
+    ),
+];
+
+#[test]
+fn texts_have_their_tokens(rt: HostRuntime) -> Result<(), Fail> {
+    let alloc = rt.alloc();
+    for row in &TEXTS {
+        has_tokens(&rt, alloc, row.0, row.1)?;
+    }
     Ok(())
 }
 

@@ -4,6 +4,7 @@ pub mod Marks
 pub mod Outcomes
 pub mod Ranks
 pub mod Same
+pub mod Sizes
 pub mod StatementLaws
 pub mod StatementsRead
 pub mod Steps

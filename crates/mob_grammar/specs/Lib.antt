@@ -4,6 +4,7 @@ pub mod Marks
 pub mod Outcomes
 pub mod Reading
 pub mod Scripts
+pub mod Sizes
 pub mod Symbols
 pub mod Texts
 pub mod Weights

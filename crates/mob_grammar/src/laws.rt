@@ -1,5 +1,6 @@
 //! Laws of the grammar. Each is proved for all tokens; calling one does nothing.
 ghost use Rattle.mob_grammar.specs.Outcomes.{HasOneTree, HasOneWrong, IsScriptOrWrong, IsWrongNowhere};
+ghost use Rattle.mob_grammar.specs.Sizes.{HasFewNodes};
 
 /// Tokens have one tree.
 pub fn one_tree()
@@ -11,4 +12,9 @@ pub fn one_first_wrong()
     ensures told { IsScriptOrWrong }
     ensures apart { IsWrongNowhere }
     ensures one { HasOneWrong }
+{}
+
+/// A script has no more nodes than tokens.
+pub fn few_nodes()
+    ensures nodes { HasFewNodes }
 {}

@@ -1,5 +1,5 @@
 -- The slices of sound sequences, one behind the other.
-use Rattle.std.proofs.Common.{◌≡◌, suc, ◌-◌, List, [], ◌∷◌, ◌++◌, length, Bool, true, false, cond, Option, Some, None, refl, sym, ap, subst, ◌∙◌, arith, append_assoc, option_map, inl, inr}
+use Rattle.std.proofs.Common.{◌≡◌, suc, ◌-◌, List, [], ◌∷◌, ◌++◌, length, Bool, true, false, cond, Option, Some, None, refl, sym, subst, ◌∙◌, arith, option_map, inl, inr}
 use Rattle.std.specs.Prelude.{◌&&◌, ◌||◌, not, ◌↔◌, slice_get}
 use Rattle.std.specs.List.{list_all}
 use Rattle.mob_language.specs.Readers.{◌>>=◌}

@@ -1,5 +1,5 @@
 -- A function's values on a list, where it has one on each entry, as a loop makes them.
-use Rattle.std.proofs.Common.{◌≡◌, List, [], ◌∷◌, ◌++◌, Option, Some, None, refl, sym, ap, ◌∙◌, append_assoc, append-nil, option_map}
+use Rattle.std.proofs.Common.{◌≡◌, List, [], ◌∷◌, ◌++◌, Option, Some, None, refl, sym, ap, ◌∙◌, append_assoc, option_map}
 use Rattle.mob_language.specs.Readers.{◌>>=◌}
 use Rattle.mob_literal.specs.Sound.{traverse}
 

@@ -11,5 +11,6 @@ pub mod Runs
 pub mod Style
 pub mod SqlText
 pub mod Fields
+pub mod Memory
 pub mod Readable
 pub mod SqlReadable

@@ -1,12 +1,8 @@
 -- How step values print with an epoch.
-use Rattle.std.specs.Prelude.{ℤ, List}
-use Rattle.mob_ratio.specs.Ratio.{Ratio}
+use Rattle.std.specs.Prelude.{ℤ}
 use Rattle.mob_language.specs.Language.{Text}
 use Rattle.mob_scalar.specs.MomentText.{moment_text}
-use Rattle.mob_scalar.specs.NumberText.{number_text}
-use Rattle.mob_slice.specs.declared.slice.Slice.{Slice}
-use Rattle.mob_slice.specs.declared.steady.Steady.{Steady}
-use Rattle.mob_literal.specs.Printed.{Style, steps_text}
+use Rattle.mob_literal.specs.Printed.{Style}
 
 -- values by their own text, and moments counted from the epoch's day
 abbrev pub style_of : {B : Type 0} → (B → Text) → ℤ → Style B

@@ -1,5 +1,7 @@
 //! Fields of table files, read and printed.
-ghost use Rattle.std.specs.Prelude.{◌≡◌, ◌∷◌, ◌++◌, true, false, Ok, MatchOption, OnOk, OnErr, string_bytes};
+ghost use Rattle.std.specs.Prelude.{◌≡◌, ◌≢◌, ◌∷◌, ◌++◌, true, false, Ok, Err, MatchOption, OnOk, OnErr, string_bytes};
+ghost use Rattle.mob_scalar.specs.declared.fault.ReadText.TheVariants.{NoMemory};
+ghost use Rattle.mob_literal.specs.Memory.{takes_memory};
 ghost use Rattle.mob_literal.specs.SqlText.{SaysAs};
 ghost use Rattle.mob_literal.specs.Fields.{begins_with_backslash, doubled as with_backslash, undoubled as without_backslash, is_null_text as null_text, is_null_field, text_of_field, field_text};
 
@@ -63,6 +65,7 @@ fn text_in(ty: SqlType, field: &str) -> &str
 pub fn read_field(alloc: Global, ty: SqlType, field: &str, epoch: &Epoch) -> Result<Value, ReadText>
     ensures null { is_null_field ty field.now ≡ true → result ≡ Ok Value.Null }
     ensures reading { is_null_field ty field.now ≡ false → SaysAs ty epoch.now (text_of_field ty field.now) result }
+    ensures memory { takes_memory ty ≡ false → result ≢ Err NoMemory }
 {
     if is_null(ty, field) {
         return Ok(Value::Null);

@@ -1,5 +1,5 @@
 //! Temporal literals, as they are written.
-ghost use Rattle.std.specs.Prelude.{◌≡◌, ◌<◌, ◌≤◌, ℕ, ℤ, length, map, option_map, List, Option, Some, None, IfSome, IfOk, Bool, true};
+ghost use Rattle.std.specs.Prelude.{◌≡◌, ℕ, map, option_map, List, Option, Some, None, IfOk, Bool, true};
 ghost use Rattle.mob_language.specs.Readers.{all_of, means_at};
 ghost use Rattle.mob_scalar.specs.Calendar.{is_civil};
 ghost use Rattle.mob_scalar.specs.Moment.{instant, IsPartSmall};

@@ -1,8 +1,8 @@
-ghost use Rattle.std.specs.Prelude.{◌≡◌, ◌++◌, ◌&&◌, List, ℕ, [], ◌∷◌, map, codes, not, OnOk, OnErr, string_bytes, IsTrue, ◌↔◌};
+//! Step values, printed.
+ghost use Rattle.std.specs.Prelude.{◌≡◌, ◌++◌, ◌&&◌, List, ℕ, [], ◌∷◌, map, not, OnOk, OnErr, string_bytes};
 ghost use Rattle.std.specs.List.{list_all};
-ghost use Rattle.mob_scalar.specs.NumberText.{number_text};
-ghost use Rattle.mob_literal.specs.Printed.{Style, instant_text, is_long as long, goes_on as continued, start_text, opening, closing, group_text, groups_of, groups_text, set_text, steps_text, listed};
-ghost use Rattle.mob_literal.specs.Runs.{end_part, between as gap, run_text, is_one_group, more_starts};
+ghost use Rattle.mob_literal.specs.Printed.{instant_text, is_long as long, goes_on as continued, start_text, opening, closing, group_text, groups_of, groups_text, set_text, steps_text, listed};
+ghost use Rattle.mob_literal.specs.Runs.{end_part, between as gap, is_one_group};
 ghost use Rattle.mob_literal.specs.Style.{style_of};
 
 use mob_frac::Frac;

@@ -1,10 +1,12 @@
 //! SQL values, read from their texts and printed.
-ghost use Rattle.std.specs.Prelude.{◌≡◌, ◌≢◌, ◌++◌, OnOk, OnErr, string_bytes};
+ghost use Rattle.std.specs.Prelude.{◌≡◌, ◌≢◌, ◌++◌, Err, OnOk, OnErr, false, string_bytes};
 ghost use Rattle.mob_ratio.specs.Order.{same};
 ghost use Rattle.mob_slice.specs.Sameness.{same_bool, same_bytes};
 ghost use Rattle.mob_scalar.specs.Numbers.{numbers, whole_numbers};
 ghost use Rattle.mob_scalar.specs.Moments.{moments};
 ghost use Rattle.mob_scalar.specs.Truth.{truths};
+ghost use Rattle.mob_scalar.specs.declared.fault.ReadText.TheVariants.{NoMemory};
+ghost use Rattle.mob_literal.specs.Memory.{takes_memory};
 ghost use Rattle.mob_literal.specs.Sound.{steps};
 ghost use Rattle.mob_literal.specs.Values.{any_value, is_whole, truth_value, number_value, quoted_value};
 ghost use Rattle.mob_literal.specs.SqlText.{Says, SaysAs, texts, value_text};
@@ -23,6 +25,7 @@ use std::alloc::{AllocError, Global};
 
 fn read_bool(text: &str) -> Result<Value, ReadText>
     ensures reading { Says truths Value.Bool text.now result }
+    ensures memory { result ≢ Err NoMemory }
 {
     match read_truth(text) {
         Ok(truth) => Ok(Value::Bool(truth)),
@@ -32,6 +35,7 @@ fn read_bool(text: &str) -> Result<Value, ReadText>
 
 fn read_int(text: &str) -> Result<Value, ReadText>
     ensures reading { Says whole_numbers Value.Number text.now result }
+    ensures memory { result ≢ Err NoMemory }
 {
     match read_whole(text) {
         Ok(number) => Ok(Value::Number(number)),
@@ -41,6 +45,7 @@ fn read_int(text: &str) -> Result<Value, ReadText>
 
 fn read_numeric(text: &str) -> Result<Value, ReadText>
     ensures reading { Says numbers Value.Number text.now result }
+    ensures memory { result ≢ Err NoMemory }
 {
     match read_number(text) {
         Ok(number) => Ok(Value::Number(number)),
@@ -59,6 +64,7 @@ fn read_text(alloc: Global, text: &str) -> Result<Value, ReadText>
 
 fn read_timestamp(text: &str, epoch: &Epoch) -> Result<Value, ReadText>
     ensures reading { Says (moments epoch.now) Value.Moment text.now result }
+    ensures memory { result ≢ Err NoMemory }
 {
     match read_moment(text, epoch) {
         Ok(instant) => Ok(Value::Moment(instant)),
@@ -97,9 +103,10 @@ fn read_ttext(alloc: Global, text: &str, epoch: &Epoch) -> Result<Value, ReadTex
 ///
 /// The first fault in the order `NotText`, `Limit`, `TooLarge` and `Unsound`, or `NoMemory`. A text of a number, a moment,
 /// a truth value and a temporal value may have blanks at its ends; a text of the type text keeps all its characters. A type
-/// that is not built yet has no texts, so each text is `NotText` there.
+/// that is not built yet has no texts, so each text is `NotText` there. Only a text and a value over time take memory.
 pub fn read_value(alloc: Global, ty: SqlType, text: &str, epoch: &Epoch) -> Result<Value, ReadText>
     ensures reading { SaysAs ty epoch.now text.now result }
+    ensures memory { takes_memory ty ≡ false → result ≢ Err NoMemory }
 {
     match ty {
         SqlType::Bool => read_bool(text),

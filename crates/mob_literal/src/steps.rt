@@ -1,4 +1,5 @@
-ghost use Rattle.std.specs.Prelude.{◌≡◌, IfOk, option_map, Bool, true, false};
+//! The slices of a step sequence.
+ghost use Rattle.std.specs.Prelude.{◌≡◌, IfOk, option_map, true, false};
 ghost use Rattle.mob_literal.specs.Slices.{made};
 
 use crate::written::Written;

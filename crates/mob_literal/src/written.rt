@@ -1,3 +1,4 @@
+//! What a literal says, part by part, before it is a value.
 use mob_frac::Frac;
 use mob_list::items::Items;
 

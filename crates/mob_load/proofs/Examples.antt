@@ -1,10 +1,11 @@
 -- Rows: what is looked at, in written order.
-use Rattle.std.proofs.Common.{◌≡◌, refl, List, ℕ, [], ◌∷◌, Some}
+use Rattle.std.proofs.Common.{◌≡◌, refl, arith, inl, inr, ℕ, [], ◌∷◌, Some}
 use Rattle.std.specs.Prelude.{codes}
 use Rattle.mob_ast.specs.declared.types.SqlType.TheVariants.{Int}
 use Rattle.mob_typing.specs.declared.typed.ConstText.{ConstText}
 use Rattle.mob_typing.specs.Statements.{ScriptOut, nothing, new_table, new_rows, rows_from}
 use Rattle.mob_load.specs.Checks.{literal, table, room, file, checks_of}
+use Rattle.mob_load.specs.Order.{IsWritten}
 
 constant : ℕ → ℕ → ConstText
 constant n p = record { ty = Int; text = codes "1"; statement = n; place = p }
@@ -20,6 +21,14 @@ written_order : checks_of script
     ≡ table ((codes "id", Int) ∷ []) ∷ room 0 2 45 ∷ literal (constant 2 46) ∷ room 0 2 50 ∷ literal (constant 2 51) ∷ file 0 (codes "f") ∷ literal (constant 5 99) ∷ []
 unfolding script constant
 written_order = refl
+
+-- the script stands in written order
+written : IsWritten script
+unfolding script constant
+written = record {
+  literals = ((inr (refl, omega arith), ((inl (omega arith)), tt)), ((inl (omega arith), tt), (tt, tt)));
+  rows = (tt, (((omega arith, tt), (tt, tt)), (tt, (tt, tt))));
+}
 
 -- a literal of statement 1 comes before the file of statement 2, and the other way round
 literal_first : checks_of (record { statements = nothing ∷ rows_from 0 (codes "f") ∷ []; consts = constant 1 8 ∷ [] }) ≡ literal (constant 1 8) ∷ file 0 (codes "f") ∷ []

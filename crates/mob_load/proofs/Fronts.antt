@@ -1,5 +1,5 @@
 -- What was read of a file is its front.
-use Rattle.std.proofs.Common.{arith, ◌≡◌, ◌∙◌, ap, sym, subst, ℕ, ◌+◌, ◌≤◌, ◌<◌, List, [], ◌∷◌, ◌++◌, length, take, Some, None, Ok, Err, Vec, Global, ℤ, inl, inr}
+use Rattle.std.proofs.Common.{arith, ◌≡◌, ◌∙◌, ap, sym, subst, ℕ, ◌+◌, ◌≤◌, List, [], ◌++◌, length, take, Some, None, Ok, Err, Vec, Global, ℤ, inl, inr}
 use Rattle.std.specs.Prelude.{Option, Result, IfSome, IfOk}
 use Rattle.std.specs.declared.alloc.AllocError.{AllocError}
 use Rattle.std.specs.Io.KnownBytes.{Consumes, IsAtEnd}
@@ -7,7 +7,7 @@ use Rattle.std.proofs.lemmas.Bool.{cases_lt}
 use Rattle.mob_value.specs.declared.value.Value.{Value}
 use Rattle.mob_catalog.specs.Faults.{Wrong}
 use Rattle.std.proofs.lemmas.List.{length-take, length-take-le, append-nil, take_all, take-append-le}
-use Rattle.mob_outside.specs.Told.{Contents, file_of, Opens}
+use Rattle.mob_outside.specs.Told.{Contents, Opens}
 use Rattle.mob_streams.specs.Streams.{ReadsPart}
 use Rattle.mob_load.specs.Fronts.{IsFront, IsLeftOf}
 use Rattle.mob_catalog.specs.TableFile.{file_limit, Column, IsTable, FileFails}

@@ -6,3 +6,4 @@ pub mod Steps
 pub mod Values
 pub mod OneLoading
 pub mod Marks
+pub mod Written

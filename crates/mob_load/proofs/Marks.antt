@@ -7,7 +7,7 @@ use Rattle.mob_load.specs.Order.{mark_of, marks_in, LooksAtMarks}
 use Rattle.mob_load.proofs.Values.{NoLiterals, no_all}
 
 -- what is no literal is a mark
-own_mark : (check : CheckParts) → literal_of check ≡ [] → mark_of check ≡ check ∷ []
+pub own_mark : (check : CheckParts) → literal_of check ≡ [] → mark_of check ≡ check ∷ []
 own_mark (literal c) none = cc
 own_mark (table columns) none = refl
 own_mark (room t n p) none = refl

@@ -1,5 +1,5 @@
 -- The tables of a typed script have at most 64 columns.
-use Rattle.std.proofs.Common.{◌≡◌, ◌∙◌, refl, sym, ap, subst, arith, Bool, true, false, ℕ, zero, suc, ◌+◌, ◌≤◌, ◌<◌, List, [], ◌∷◌, ◌++◌, length, length-append, map, get_or, Option, Some, None, Result, Ok, Err}
+use Rattle.std.proofs.Common.{◌≡◌, refl, sym, subst, arith, Bool, true, false, ℕ, zero, suc, ◌+◌, ◌≤◌, ◌<◌, List, [], ◌∷◌, ◌++◌, length, length-append, map, get_or, Result, Ok, Err}
 use Rattle.std.specs.Prelude.{OnOk, nat_le, slice_get}
 use Rattle.std.proofs.lemmas.Bool.{leb-false}
 use Rattle.mob_ast.specs.declared.types.Word.{Word}
@@ -7,14 +7,14 @@ use Rattle.mob_ast.specs.declared.types.TypeWord.{TypeWord}
 use Rattle.mob_ast.specs.declared.refusal.Kind.{Kind}
 use Rattle.mob_ast.specs.declared.refusal.Kind.TheVariants as kind
 use Rattle.mob_ast.specs.declared.refusal.Refusal.{Refusal}
-use Rattle.mob_ast.specs.Trees.{StatementParts, SelectParts, RowParts, empty, create_table, create_index, insert, copy, select, explain}
+use Rattle.mob_ast.specs.Trees.{StatementParts, RowParts, empty, create_table, create_index, insert, copy, select, explain}
 use Rattle.mob_typing.specs.declared.typed.ConstText.{ConstText}
-use Rattle.mob_typing.specs.Answers.{Wrong, refuse, ◌>>=◌, unless, found}
+use Rattle.mob_typing.specs.Answers.{Wrong, ◌>>=◌, unless, found}
 use Rattle.mob_typing.specs.Names.{ColumnList, NameLists, table_of, has_entry, has_name, column_of}
 use Rattle.mob_typing.specs.Words.{type_named}
 use Rattle.mob_typing.specs.Selects.{TypedSelectParts, typed_select}
-use Rattle.mob_typing.specs.Statements.{ScriptOut, StatementOut, nothing, new_table, new_index, new_rows, rows_from, query, plan_of, Made, with_column, with_columns, with_table, with_index, made_table, made_index, typed_rows, inserted, good_delimiter, copied, keeping, asked, in_statement, or_refused, typed_statement, typed_from, typed_script, no_names}
-use Rattle.mob_load.specs.Checks.{CheckParts, check_seen, literal, Mark, mark, bracket, marks_of, marks_from, stands_before, up_to, in_order, checks_of}
+use Rattle.mob_typing.specs.Statements.{ScriptOut, StatementOut, nothing, new_table, new_index, new_rows, rows_from, query, plan_of, Made, with_column, with_columns, with_table, made_table, made_index, typed_rows, inserted, good_delimiter, copied, keeping, asked, in_statement, or_refused, typed_statement, typed_from, typed_script, no_names}
+use Rattle.mob_load.specs.Checks.{CheckParts, check_seen, literal, Mark, bracket, marks_of, marks_from, stands_before, up_to, in_order, checks_of}
 use Rattle.mob_load.specs.declared.check.Check.{Check}
 use Rattle.mob_load.specs.Loads.{Loaded, nothing_loaded, with_table as add_table, IsNarrow, AreNarrow, HasNarrow, columns_or_none}
 

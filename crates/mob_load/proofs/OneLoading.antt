@@ -8,7 +8,7 @@ use Rattle.mob_catalog.specs.Faults.{Refuses, Wrong}
 use Rattle.mob_catalog.proofs.OneTable.{fault_known, one_kind, value_known}
 use Rattle.mob_typing.specs.declared.typed.ConstText.{ConstText}
 use Rattle.mob_load.specs.Checks.{CheckParts, literal, table, room, file, checks_of}
-use Rattle.mob_load.specs.Loads.{Goes, Halt, Loaded, Loads, LoadsScript, Passes, Pours, Reads, columns_at, greatest_rows, nothing_loaded, refused_literal, rows_at, table_refused, with_file, with_value}
+use Rattle.mob_load.specs.Loads.{Goes, Halt, Loaded, Loads, Passes, Pours, Reads, columns_at, greatest_rows, nothing_loaded, refused_literal, rows_at, table_refused, with_file, with_value}
 use Rattle.mob_load.specs.Outcomes.{HasOneLoading, HasOneProgram}
 use Rattle.mob_load.specs.declared.program.Program.{Program}
 

@@ -1,20 +1,19 @@
 -- One check after the other.
-use Rattle.std.proofs.Common.{◌≡◌, ◌∙◌, ◌⊎◌, inl, inr, refl, sym, ap, subst, arith, ℕ, ℤ, ◌-◌, ◌+◌, ◌≤◌, rules, List, [], ◌∷◌, ◌++◌, length, take, Option, Some, None, Result, Ok, Err}
+use Rattle.std.proofs.Common.{◌≡◌, ◌∙◌, inl, inr, refl, sym, ap, subst, arith, ℕ, ℤ, ◌-◌, ◌+◌, ◌≤◌, rules, List, [], ◌∷◌, take, Option, Some, None, Result, Ok, Err}
 use Rattle.std.specs.Prelude.{IfSome}
 use Rattle.std.proofs.lemmas.List.{append-nil}
 use Rattle.mob_ast.specs.declared.refusal.Kind.{Kind}
-use Rattle.mob_value.specs.declared.value.Value.{Value}
 use Rattle.mob_outside.specs.Faults.{Rose}
-use Rattle.mob_outside.specs.Told.{Contents, file_of, AsksFor, KeepsFiles, KeepsNames, MayAskFor}
+use Rattle.mob_outside.specs.Told.{Contents, file_of, KeepsFiles, MayAskFor}
 use Rattle.mob_typing.specs.Names.{ColumnList}
 use Rattle.mob_typing.specs.Statements.{ScriptOut}
 use Rattle.mob_load.specs.declared.program.Program.{Program}
 use Rattle.mob_load.specs.Checks.{CheckParts, checks_of}
-use Rattle.mob_load.specs.Fronts.{AsksForAll, AsksForSome, IsFront}
+use Rattle.mob_load.specs.Fronts.{AsksForSome, IsFront}
 use Rattle.mob_catalog.specs.Faults.{wrong}
 use Rattle.mob_catalog.specs.TableFile.{file_limit, FileFails}
 use Rattle.mob_load.proofs.Fronts.{table_front, fails_front}
-use Rattle.mob_load.specs.Loads.{Gives, Goes, Halt, HasFaultCause, IsOutcome, refused, table_refused, missing, IsFaultAt, IsFile, Loaded, Loads, LoadsScript, Passes, Pours, Reaches, StopsAt, columns_at, greatest_rows, rows_at, nothing_loaded}
+use Rattle.mob_load.specs.Loads.{Gives, Halt, HasFaultCause, IsOutcome, refused, table_refused, IsFaultAt, Loaded, Loads, LoadsScript, Passes, Pours, Reaches, StopsAt, columns_at, greatest_rows, rows_at, nothing_loaded}
 use Rattle.mob_load.specs.declared.program.LoadEnd.{LoadEnd}
 use Rattle.mob_load.specs.declared.program.LoadEnd.TheVariants.{Refused, TableRefused, ReadFault, NoMemory}
 

@@ -1,14 +1,14 @@
 -- The literals of a script and their values, one by one.
 use Rattle.std.proofs.Common.{◌≡◌, ◌∙◌, refl, sym, ap, subst, Bool, true, false, ℕ, ℤ, ◌+◌, List, [], ◌∷◌, ◌++◌, map, Option, Some, None, Result, Ok, Err, append_assoc, append-nil}
 use Rattle.std.specs.Prelude.{nat_lt}
-use Rattle.std.specs.List.{flat_map, AllZip}
+use Rattle.std.specs.List.{AllZip}
 use Rattle.mob_value.specs.declared.value.Value.{Value}
 use Rattle.mob_outside.specs.Told.{Contents, file_of}
 use Rattle.mob_typing.specs.declared.typed.ConstText.{ConstText}
-use Rattle.mob_typing.specs.Statements.{ScriptOut, StatementOut, nothing, new_table, new_index, new_rows, rows_from, query, plan_of}
+use Rattle.mob_typing.specs.Statements.{StatementOut, nothing, new_table, new_index, new_rows, rows_from, query, plan_of}
 use Rattle.mob_load.specs.declared.program.Program.{Program}
 use Rattle.mob_load.specs.Checks.{CheckParts, literal, table, room, file, Mark, bracket, marks_of, marks_from, stands_before, up_to, in_order, checks_of}
-use Rattle.mob_load.specs.Loads.{Loaded, Halt, Loads, LoadsScript, Passes, Pours, HasValue, literal_of, literals_in, Goes, one_row, greatest_rows, rows_at, with_value, nothing_loaded, LooksAtLiterals, ProgramHasValues}
+use Rattle.mob_load.specs.Loads.{Loaded, Halt, Loads, Passes, Pours, HasValue, literal_of, literals_in, Goes, one_row, greatest_rows, rows_at, nothing_loaded, LooksAtLiterals, ProgramHasValues}
 
 -- marks that are no literals
 abbrev pub NoLiterals : List Mark → Type 0

@@ -1,5 +1,5 @@
 -- What reading a table file takes, and which names it asks for.
-use Rattle.std.specs.Prelude.{◌≡◌, ◌⊎◌, ◌≤◌, ◌+◌, ◌++◌, ◌∷◌, ⊤, ℕ, List, [], take, length, slice_get, Option, Some, None}
+use Rattle.std.specs.Prelude.{◌≡◌, ◌⊎◌, ◌≤◌, ◌+◌, ◌++◌, ⊤, ℕ, List, take, length, slice_get, Option, Some, None}
 use Rattle.mob_catalog.specs.TableFile.{file_limit}
 use Rattle.mob_outside.specs.Told.{Contents, file_of}
 use Rattle.mob_streams.specs.Streams.{ReadsPart}

@@ -1,5 +1,5 @@
 // What is looked at before a script runs, in written order.
-ghost use Rattle.std.specs.Prelude.{◌≡◌, ◌++◌, ◌∷◌, ◌≤◌, [], List, IfOk, drop, map, length};
+ghost use Rattle.std.specs.Prelude.{◌≡◌, ◌++◌, ◌∷◌, [], List, IfOk, drop, map};
 ghost use Rattle.mob_typing.specs.declared.typed.ConstText.{ConstText};
 ghost use Rattle.mob_typing.specs.Statements.{script_seen, statement_seen};
 ghost use Rattle.mob_load.specs.Checks.{CheckParts, Mark, check_seen, mark, bracket, marks_of, stands_before, up_to, in_order, checks_of};

@@ -1,11 +1,11 @@
 // One check: a literal, a new table, a row of an INSERT, or a file.
-ghost use Rattle.std.specs.Prelude.{◌≡◌, ◌⊎◌, ◌+◌, ◌≤◌, IfErr, IfOk, IfSome, OnOk, length, map, option_map, slice_get, slice_index, slice_set, Some};
+ghost use Rattle.std.specs.Prelude.{◌≡◌, ◌⊎◌, ◌+◌, ◌^◌, ◌<◌, ◌≤◌, IfErr, IfOk, IfSome, OnOk, length, map, option_map, slice_get, slice_index, slice_set, Some};
 ghost use Rattle.mob_outside.specs.Told.{AsksFor, KeepsFiles, MayAskFor, file_of};
 ghost use Rattle.mob_catalog.specs.Faults.{OnRefused, Refuses};
 ghost use Rattle.mob_catalog.specs.TableFile.{FileFails, IsTable};
 ghost use Rattle.mob_load.specs.Checks.{check_seen, file};
 ghost use Rattle.mob_load.specs.Fronts.{AsksForAll, AsksForSome};
-ghost use Rattle.mob_load.specs.Loads.{Gives, HasFaultCause, HasNarrow, IsFaultAt, IsNarrow, IsNoFault, IsRead, Passes, Pours, Reads, columns_or_none, loaded_of, names_of, one_row, with_file, with_table};
+ghost use Rattle.mob_load.specs.Loads.{Gives, HasFaultCause, HasNarrow, IsFaultAt, IsNarrow, IsNoFault, IsRead, Passes, Pours, Reads, columns_or_none, loaded_of, names_of, one_row, rows_at as rows_in, with_file, with_table};
 ghost use Rattle.mob_load.specs.declared.program.LoadEnd.TheVariants.{NoMemory, Refused};
 ghost use Rattle.mob_ast.specs.declared.refusal.Kind.{Kind};
 
@@ -82,21 +82,14 @@ fn rows_at(rows: &[u32], table: u32) -> u32
 }
 
 // Counts rows that were put into the table of this number.
-fn add_rows(rows: &mut Vec<u32>, table: u32, count: usize) -> Result<(), LoadEnd>
-    ensures counted { OnOk result (rows.new.items ≡ slice_set rows.old.items table (slice_index rows.old.items table + count)) }
-    ensures memory { IfErr result (λ e. e ≡ NoMemory) }
+fn add_rows(rows: &mut Vec<u32>, table: u32, count: u32)
+    requires fits { slice_index rows.old.items table + count < 2 ^ 32 }
+    ensures counted { rows.new.items ≡ slice_set rows.old.items table (slice_index rows.old.items table + count) }
 {
-    let Ok(count) = u32::try_from(count) else {
-        return Err(LoadEnd::NoMemory);
-    };
-    let Some(sum) = rows_at(rows, table).checked_add(count) else {
-        return Err(LoadEnd::NoMemory);
-    };
-    if table as usize >= rows.len() {
-        return Ok(());
+    let sum = rows_at(rows, table) + count;
+    if (table as usize) < rows.len() {
+        rows[table as usize] = sum;
     }
-    rows[table as usize] = sum;
-    Ok(())
 }
 
 // Makes room for a row of an INSERT.
@@ -117,7 +110,8 @@ fn take_row(
             place,
         }));
     }
-    add_rows(&mut loading.rows, table, 1)
+    add_rows(&mut loading.rows, table, 1);
+    Ok(())
 }
 
 // The columns of the table of this number.
@@ -153,10 +147,11 @@ fn fill(
 
 // Puts the rows of a file into the table of this number.
 fn put_rows(loading: &mut Loading<'_>, table: u32, rows: Items<Items<Value>>) -> Result<(), LoadEnd>
+    requires fits { rows_in (loaded_of loading.old) table + length rows < 2 ^ 32 }
     ensures put { OnOk result (loaded_of loading.new ≡ with_file (loaded_of loading.old) table rows) }
     ensures memory { IfErr result (λ e. e ≡ NoMemory) }
 {
-    add_rows(&mut loading.rows, table, rows.len())?;
+    add_rows(&mut loading.rows, table, rows.len() as u32);
     loading.files.push(rows)?;
     Ok(())
 }

@@ -1,4 +1,5 @@
 mod Examples
+pub mod Few
 pub mod Placed
 pub mod Quotes
 pub mod Refused

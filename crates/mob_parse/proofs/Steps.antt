@@ -3,7 +3,7 @@ use Rattle.std.proofs.Common.{◌≡◌, ◌≤◌, ◌+◌, ◌-◌, ◌∙◌,
 use Rattle.mob_grammar.specs.declared.mark.Mark.{Mark}
 use Rattle.mob_grammar.specs.Symbols.{Tok, starts, rest}
 use Rattle.mob_grammar.specs.Reading.{Answer, Reader, ◌>>=◌, listed, listed_from}
-use Rattle.mob_grammar.proofs.Laws.{through}
+use Rattle.mob_grammar.proofs.Tells.{through}
 use Rattle.mob_grammar.proofs.Steps.{listed_goes_on}
 use Rattle.mob_parse.specs.declared.cursor.Fault.{Fault}
 use Rattle.mob_parse.specs.declared.cursor.Fault.TheVariants.{Syntax, NoMemory}

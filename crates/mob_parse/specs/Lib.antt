@@ -6,3 +6,4 @@ pub mod Lexemes
 pub mod Refusals
 pub mod Standings
 pub mod Tokens
+pub mod Words

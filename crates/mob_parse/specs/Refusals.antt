@@ -1,5 +1,5 @@
 -- Which trees a script has, and when it is refused.
-use Rattle.std.specs.Prelude.{◌≡◌, ◌≤◌, ◌+◌, ℕ, List, [], ◌∷◌, length, take, drop, cond, Some, None, Ok, Err}
+use Rattle.std.specs.Prelude.{◌≡◌, ◌⊎◌, ◌≤◌, ◌+◌, ℕ, List, [], ◌∷◌, length, take, drop, cond, Some, None, Ok, Err}
 use Rattle.std.specs.Str.{IsUtf8, IsValidUpTo}
 use Rattle.mob_ast.specs.declared.refusal.Kind.{Kind}
 use Rattle.mob_parse.specs.declared.script.Wrong.{Wrong}
@@ -89,3 +89,15 @@ Cause _ bytes e = ⊥
 -- the first refusal of a script, by its kind
 abbrev pub IsRefused : List ℕ → Refusal → Type 0
 IsRefused bytes e = Cause e.kind bytes e
+
+-- one refusal, or want of memory, which is free
+abbrev pub IsSameRefusal : Refusal → Refusal → Type 0
+IsSameRefusal e f = (e.kind ≡ NoMemory) ⊎ ((f.kind ≡ NoMemory) ⊎ (e ≡ f))
+
+-- a script has one first refusal
+abbrev pub HasOneRefusal : Type 0
+HasOneRefusal = (bytes : List ℕ) (e f : Refusal) → IsRefused bytes e → IsRefused bytes f → IsSameRefusal e f
+
+-- a script that has a tree, and no expression with a 257th counted token, is refused for want of memory alone
+abbrev pub IsTreeOrRefused : Type 0
+IsTreeOrRefused = (bytes : List ℕ) (x : List StatementParts) (e : Refusal) → IsTreeOf bytes x → IsLightText bytes → IsRefused bytes e → e.kind ≡ NoMemory

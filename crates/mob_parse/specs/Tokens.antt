@@ -6,9 +6,8 @@ use Rattle.mob_chars.specs.declared.token.TokenKind.{TokenKind}
 use Rattle.mob_chars.specs.declared.token.TokenKind.TheVariants.{Word, Number, Str, Sign, End}
 use Rattle.mob_grammar.specs.declared.mark.Mark.{Mark}
 use Rattle.mob_grammar.specs.declared.mark.Mark.TheVariants.{NotEqual, Dot}
-use Rattle.mob_grammar.specs.Marks.{text_of}
+use Rattle.mob_grammar.specs.Marks.{text_of, words, signs}
 use Rattle.mob_grammar.specs.Symbols.{Symbol, fixed, name, number, quoted, Tok}
-use Rattle.mob_parse.specs.declared.classify.TheConstants.{WORDS, SIGNS}
 use Rattle.mob_parse.specs.Lexemes.{lower, unquoted}
 
 -- the first of the marks that has this text, in letters of either case
@@ -23,7 +22,7 @@ other_sign (m ∷ ms) s = cond (bytes_eq (text_of m) s) m (other_sign ms s)
 
 -- the mark of a sign: `!=` is `<>`
 abbrev pub sign_mark : List ℕ → Mark
-sign_mark s = cond (bytes_eq s (codes "!=")) NotEqual (other_sign SIGNS s)
+sign_mark s = cond (bytes_eq s (codes "!=")) NotEqual (other_sign signs s)
 
 -- a word is reserved, or a name in lower case
 abbrev pub word_or_name : List ℕ → Option Mark → Symbol
@@ -31,7 +30,7 @@ word_or_name s None = name (lower s)
 word_or_name s (Some m) = fixed m
 
 abbrev pub word_symbol : List ℕ → Symbol
-word_symbol s = word_or_name s (word_mark WORDS s)
+word_symbol s = word_or_name s (word_mark words s)
 
 -- the bytes from one place to another
 abbrev pub piece : List ℕ → ℕ → ℕ → List ℕ

@@ -9,8 +9,8 @@ use mob_chars::token::{Token, TokenKind};
 use mob_grammar::mark::Mark;
 use std::alloc::{AllocError, Global};
 
-/// The reserved words.
-pub static WORDS: [Mark; 37] = [
+// The reserved words.
+static WORDS: [Mark; 37] = [
     Mark::Select,
     Mark::Distinct,
     Mark::From,
@@ -50,8 +50,8 @@ pub static WORDS: [Mark; 37] = [
     Mark::Group,
 ];
 
-/// The signs but the point.
-pub static SIGNS: [Mark; 40] = [
+// The signs but the point, those that scripts have most often first.
+static SIGNS: [Mark; 40] = [
     Mark::Comma,
     Mark::Open,
     Mark::Close,

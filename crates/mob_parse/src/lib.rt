@@ -5,6 +5,7 @@ mod classify;
 mod cursor;
 mod expression;
 mod heavy;
+pub mod laws;
 mod lexeme;
 mod nodes;
 pub mod script;

@@ -2,11 +2,12 @@
 ghost use Rattle.std.specs.Prelude.{◌≡◌, ◌≤◌, ◌<◌, ◌+◌, ◌^◌, List, length, take, drop, map, Some, Err, IfOk, IfErr, IfSome, MatchResult};
 ghost use Rattle.mob_ast.specs.Trees.{StatementParts, statement_of, script_of};
 ghost use Rattle.mob_grammar.specs.Scripts.{IsScript};
+ghost use Rattle.mob_grammar.specs.Sizes.{script_nodes};
 ghost use Rattle.mob_parse.specs.Lexemes.{toks};
 ghost use Rattle.mob_parse.specs.Heavy.{first_heavy};
 ghost use Rattle.mob_ast.specs.Kinds.{no_memory};
 ghost use Rattle.mob_chars.specs.Tokens.{tokens_of};
-ghost use Rattle.mob_parse.specs.Refusals.{semicolons, place_of, BeginsScript, IsWrong, IsRefusedAt, IsRefused, IsTreeOf, IsLight, IsLightText, IsStatementBehind};
+ghost use Rattle.mob_parse.specs.Refusals.{semicolons, place_of, BeginsScript, IsWrong, IsRefusedAt, IsRefused, IsTreeOf, IsLight, IsLightText, IsStatementBehind, IsSameRefusal};
 
 use crate::classify::lexemes;
 use crate::cursor::{Cursor, Fault};
@@ -224,14 +225,17 @@ fn parse_text(alloc: Global, text: &str) -> Result<Script, Refusal>
 /// counted token of an expression, where a script begins with the tokens up to it. At one token it is `Syntax`. `NoMemory`,
 /// with the place and the statement 0, comes where there was no memory.
 ///
-/// A place counts the bytes from 0; a statement's number is 1 and the number of `;` tokens before the place.
+/// A place counts the bytes from 0; a statement's number is 1 and the number of `;` tokens before the place. The tree has no
+/// more nodes than the script has bytes.
 pub fn parse(alloc: Global, bytes: &[u8]) -> Result<Script, Refusal>
     requires short { length bytes.now ≤ 4194304 }
     ensures tree { IfOk result (λ s. IsTreeOf bytes.now (script_of s)) }
     ensures only { IfOk result (λ s. (x : List StatementParts) → IsTreeOf bytes.now x → x ≡ script_of s) }
     ensures complete { (x : List StatementParts) → IsTreeOf bytes.now x → IsLightText bytes.now → MatchResult result (λ s. script_of s ≡ x) (λ e. e.kind ≡ Kind.NoMemory) }
     ensures light { IfOk result (λ _. IsLightText bytes.now) }
+    ensures few { IfOk result (λ s. script_nodes (script_of s) ≤ length bytes.now) }
     ensures refused { IfErr result (IsRefused bytes.now) }
+    ensures exactly_refused { (e : Refusal) → IsRefused bytes.now e → MatchResult result (λ _. e.kind ≡ Kind.NoMemory) (λ f. IsSameRefusal e f) }
 {
     match str::from_utf8(bytes) {
         Ok(text) => parse_text(alloc, text),

@@ -1,7 +1,9 @@
+use crate::laws::{marks_are_read, one_refusal};
 use crate::script::parse;
 use crate::shown::show_statement;
 use mob_ast::refusal::{Kind, Refusal};
 use mob_ast::statement::Script;
+use mob_grammar::laws::{few_nodes, one_first_wrong, one_tree};
 use std::alloc::{AllocError, Global};
 use std::process::Abort;
 use std::test::Fail;
@@ -456,4 +458,13 @@ fn cut_scripts(rt: HostRuntime) -> Result<(), Fail> {
     assert_eq!(rt; next, 31);
     assert_eq!(rt; bytes.len(), 30);
     Ok(())
+}
+
+#[test]
+fn laws_are_called() {
+    one_tree();
+    one_first_wrong();
+    few_nodes();
+    marks_are_read();
+    one_refusal();
 }

@@ -1,10 +1,9 @@
 -- Values may stand before a sign with blanks beside it, as before the @ of a temporal text.
-use Rattle.std.proofs.Common.{◌≡◌, ℕ, [], ◌∷◌, ◌++◌, Bool, true, false, refl, sym, ap, subst, ◌∙◌, append_assoc, rules, codes}
+use Rattle.std.proofs.Common.{◌≡◌, ℕ, [], ◌∷◌, ◌++◌, Bool, false, refl, sym, ap, subst, ◌∙◌, append_assoc, rules, codes}
 use Rattle.std.specs.Char.{is_ascii_alphabetic}
 use Rattle.mob_language.specs.Language.{Text, AreAll, is_blank, spaced}
 use Rattle.mob_language.proofs.Exact.{Stops}
 use Rattle.mob_language.proofs.Heads.{Apart}
-use Rattle.mob_scalar.specs.Quoted.{is_plain}
 use Rattle.mob_scalar.proofs.NumberExact.{continues}
 use Rattle.mob_scalar.proofs.QuotedExact.{Behind}
 

@@ -1,16 +1,15 @@
 -- Each day of the years 0001 to 9999 is the day of its date.
-use Rattle.std.proofs.Common.{◌≡◌, ℕ, zero, suc, ◌+◌, ◌-◌, ◌<◌, ◌≤◌, ◌⊎◌, Bool, true, false, cond, ℤ, pos, negsuc, neg_ℤ, ◌+ℤ◌, ◌-ℤ◌, ◌≤ℤ◌, ◌<ℤ◌, unsigned_abs, refl, sym, ap, subst, ◌∙◌, arith, rules, inl, inr}
+use Rattle.std.proofs.Common.{◌≡◌, ℕ, zero, suc, ◌+◌, ◌<◌, ◌≤◌, Bool, true, false, cond, ℤ, pos, ◌+ℤ◌, ◌-ℤ◌, ◌≤ℤ◌, ◌<ℤ◌, unsigned_abs, refl, sym, ap, subst, ◌∙◌, arith, inl, inr}
 use Rattle.std.specs.Int.Signed.{le_z}
 use Rattle.std.specs.Int.{IsInRange}
 use Rattle.std.proofs.lemmas.Bool.{cases_lt}
-use Rattle.std.proofs.lemmas.Int.{ints, by_lt_z}
+use Rattle.std.proofs.lemmas.Int.{ints}
 use Rattle.jiff_core.specs.Calendar.{days_from_civil, days_in_month}
 use Rattle.jiff_core.proofs.CalendarLemmas.{day_count-end, days_from_civil-day_count, days_in_month_bounds}
 use Rattle.jiff_core.proofs.DateLemmas.{days_from_civil-day, days_from_civil-next_month, days_from_civil-next_year}
 use Rattle.jiff_core.proofs.SignedLemmas.{signed_arith}
-use Rattle.mob_scalar.specs.declared.civil.Civil.{Civil}
 use Rattle.mob_scalar.specs.Calendar.{is_civil, day_of, last_of, year_of, month_of, place_in, date_of, IsInYears}
-use Rattle.mob_scalar.proofs.Dates.{IsDated, first, civil_again, le_yes}
+use Rattle.mob_scalar.proofs.Dates.{first, civil_again, le_yes}
 
 -- the greatest number up to n that passes the test, where 1 does
 record IsLast (test : ℕ → Bool) (n k : ℕ) : Type 0 where

@@ -1,11 +1,10 @@
 -- The printed text of a moment is a text of that moment.
-use Rattle.std.proofs.Common.{◌≡◌, ℕ, zero, suc, ◌+◌, ◌-◌, ◌*◌, ◌/◌, ◌%◌, ◌^◌, ◌<◌, ◌≤◌, List, [], ◌∷◌, ◌++◌, length, Bool, true, false, cond, Option, Some, None, ℤ, pos, negsuc, neg_ℤ, ◌+ℤ◌, ◌-ℤ◌, ◌*ℤ◌, nat_abs, unsigned_abs, codes, refl, sym, ap, subst, ◌∙◌, append_assoc, arith, rules, inl, inr, ◌⊎◌}
-use Rattle.std.specs.Prelude.{nat_eq, nat_lt, nat_le, ◌&&◌, Ok}
+use Rattle.std.proofs.Common.{◌≡◌, ℕ, zero, suc, ◌+◌, ◌*◌, ◌/◌, ◌%◌, ◌^◌, ◌<◌, ◌≤◌, [], ◌++◌, length, Bool, true, false, Option, Some, None, ℤ, pos, neg_ℤ, ◌+ℤ◌, ◌-ℤ◌, ◌*ℤ◌, unsigned_abs, codes, refl, sym, ap, subst, ◌∙◌, append_assoc, arith, rules, inl, inr}
+use Rattle.std.specs.Prelude.{◌&&◌, Ok}
 use Rattle.std.specs.Int.{int_div_euclid, int_rem_euclid}
 use Rattle.std.specs.Int.Signed.{le_z}
 use Rattle.std.specs.Fmt.{decimal}
 use Rattle.std.specs.Str.Parse.{digits_value}
-use Rattle.std.proofs.lemmas.List.{append-nil}
 use Rattle.std.proofs.lemmas.Bool.{cases_lt}
 use Rattle.std.proofs.lemmas.Nat.{div-add-mod'}
 use Rattle.std.proofs.Math.Nat.{mul-div_cancel, mul-le-mul_right}
@@ -15,27 +14,25 @@ use Rattle.jiff_core.proofs.SignedLemmas.{signed_arith, int_rem_euclid-parts, in
 use Rattle.mob_ratio.specs.Ratio.{Ratio, over, whole, ◌+ℚ◌}
 use Rattle.mob_ratio.proofs.RatioLemmas.{den_pos, over-add, over-same, over-self}
 use Rattle.mob_frac.specs.Fits.{Fits}
-use Rattle.mob_language.specs.Language.{Text, Language, ◌▷◌, ◌∣◌, Maybe, Means, Where, Word, OneOf, AreAll, Run, behind, is_blank}
+use Rattle.mob_language.specs.Language.{Text, Language, ◌▷◌, Maybe, behind}
 use Rattle.mob_language.proofs.Heads.{within_said}
 use Rattle.mob_scalar.specs.declared.numeral.Figures.{Figures}
 use Rattle.mob_scalar.specs.declared.civil.Civil.{Civil}
 use Rattle.mob_scalar.specs.declared.stamp.Part.{Part}
 use Rattle.mob_scalar.specs.declared.stamp.Clock.{Clock}
-use Rattle.mob_scalar.specs.declared.stamp.Offset.{Offset}
 use Rattle.mob_scalar.specs.declared.stamp.Stamp.{Stamp}
-use Rattle.mob_scalar.specs.Figures.{figures, digits}
-use Rattle.mob_scalar.specs.Number.{is_sign}
-use Rattle.mob_scalar.specs.Calendar.{fixed, date, is_civil, civil_of, day_of, date_of, IsInYears}
-use Rattle.mob_scalar.specs.Moment.{up_to, is_below, part, point_part, is_point_part, fraction_part, is_fraction_part, part_of, clock, clock_of, zone, utc, offset_of, gap, is_some_text, time, time_of, moment, stamp_of, seconds, shift, is_year_second, is_in_years, instant}
-use Rattle.mob_scalar.specs.MomentText.{padded, date_text, clock_text, places, quotient_text, decimals_text, part_in, part_text, stamp_text, second_text, far_text, moment_text, whole_seconds, part_numerator, second_of, HasDate}
+use Rattle.mob_scalar.specs.Figures.{figures}
+use Rattle.mob_scalar.specs.Calendar.{fixed, date, is_civil, day_of, date_of, IsInYears}
+use Rattle.mob_scalar.specs.Moment.{up_to, part, point_part, is_point_part, fraction_part, is_fraction_part, part_of, clock, zone, utc, time, moment, seconds, is_year_second, is_in_years, instant}
+use Rattle.mob_scalar.specs.MomentText.{padded, date_text, clock_text, places, quotient_text, decimals_text, part_in, part_text, stamp_text, second_text, moment_text, whole_seconds, part_numerator, second_of, HasDate}
 use Rattle.mob_scalar.specs.Verdict.{Lit}
 use Rattle.mob_scalar.specs.Moments.{moments}
 use Rattle.mob_scalar.proofs.Again.{digits_said, size_of, nonempty}
 use Rattle.std.proofs.lemmas.Int.{ints}
 use Rattle.mob_scalar.proofs.DaysDated.{date_there, le_from}
-use Rattle.mob_scalar.proofs.Dates.{IsDated, dated, civil_again}
-use Rattle.mob_scalar.proofs.Padding.{IsPlaced, placed}
-use Rattle.mob_scalar.proofs.PaddedAgain.{IsPadded, padded_is, padded_digits, fixed_said, behind_said}
+use Rattle.mob_scalar.proofs.Dates.{dated}
+use Rattle.mob_scalar.proofs.Padding.{placed}
+use Rattle.mob_scalar.proofs.PaddedAgain.{padded_is, padded_digits, fixed_said, behind_said}
 
 -- a text of the one and behind it a text of the other
 then_said : {A B : Type 0} {l : Language A} {m : Language B} (front back : Text) (a : A) (b : B) → l front a → m back b → (l ▷ m) (front ++ back) (a, b)

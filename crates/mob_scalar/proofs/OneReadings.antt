@@ -1,5 +1,5 @@
 -- A text has one reading as a number, as an int, as a moment, as a truth value and as an epoch.
-use Rattle.std.proofs.Common.{◌≡◌, ℤ, sym, ◌∙◌, refl}
+use Rattle.std.proofs.Common.{ℤ, sym, ◌∙◌, refl}
 use Rattle.mob_language.proofs.Exact.{one_value}
 use Rattle.mob_scalar.specs.Numbers.{numbers, whole_numbers}
 use Rattle.mob_scalar.specs.Moments.{moments}

@@ -1,16 +1,15 @@
 -- Numbers printed with zeros in front are read again as themselves.
-use Rattle.std.proofs.Common.{◌≡◌, ℕ, zero, suc, ◌+◌, ◌-◌, ◌*◌, ◌/◌, ◌%◌, ◌^◌, ◌<◌, ◌≤◌, List, [], ◌∷◌, ◌++◌, length, replicate, Bool, true, codes, refl, sym, ap, subst, ◌∙◌, arith, rules, length-append}
+use Rattle.std.proofs.Common.{◌≡◌, ℕ, zero, suc, ◌+◌, ◌-◌, ◌^◌, ◌<◌, ◌≤◌, ◌++◌, length, replicate, true, refl, sym, ◌∙◌, arith, rules}
 use Rattle.std.specs.Prelude.{nat_eq}
 use Rattle.std.specs.Fmt.{decimal}
-use Rattle.std.specs.Str.Parse.{AllDigits, digits_value}
+use Rattle.std.specs.Str.Parse.{digits_value}
 use Rattle.std.proofs.lemmas.Fmt.{decimal_is_IsNumeral}
-use Rattle.mob_language.specs.Language.{Text, Language, Means, Where, Run, AreAll, behind, Word}
-use Rattle.mob_scalar.specs.declared.numeral.Figures.{Figures}
-use Rattle.mob_scalar.specs.Figures.{is_digit, is_run, figures, digits, AreFigures}
-use Rattle.mob_scalar.specs.Calendar.{has_count, number_in, fixed}
+use Rattle.mob_language.specs.Language.{Text, Language, behind}
+use Rattle.mob_scalar.specs.Figures.{figures, digits, AreFigures}
+use Rattle.mob_scalar.specs.Calendar.{has_count, fixed}
 use Rattle.mob_scalar.specs.MomentText.{padded}
 use Rattle.mob_scalar.proofs.Again.{are_figures, run_test}
-use Rattle.mob_scalar.proofs.Padding.{IsShort, decimal_short}
+use Rattle.mob_scalar.proofs.Padding.{decimal_short}
 use Rattle.mob_scalar.proofs.Powers.{ten_le}
 
 zeros_first : (z : ℕ) (ds : Text) → AreFigures ds → AreFigures (replicate z 48 ++ ds)

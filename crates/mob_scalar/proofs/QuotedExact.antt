@@ -1,10 +1,10 @@
 -- The reader of the values of a ttext reads exactly their texts.
-use Rattle.std.proofs.Common.{◌≡◌, ℕ, zero, suc, ◌+◌, List, [], ◌∷◌, ◌++◌, length, Bool, true, false, cond, not, Option, Some, None, refl, sym, ap, subst, ◌∙◌, append_assoc, append-nil, rules, arith, codes, inl, inr, eqb}
+use Rattle.std.proofs.Common.{◌≡◌, ℕ, [], ◌∷◌, ◌++◌, Bool, true, false, cond, not, Option, Some, None, refl, sym, ap, subst, ◌∙◌, append_assoc, rules, codes}
 use Rattle.std.specs.Prelude.{◌||◌, ◌&&◌, nat_eq}
 use Rattle.std.specs.Str.{is_utf8}
 use Rattle.std.proofs.lemmas.Bool.{eqb-true}
-use Rattle.mob_language.specs.Language.{Text, Language, ◌∣◌, Where, Run, AreAll, is_blank}
-use Rattle.mob_language.specs.Readers.{Reader, ◌>>=◌, or_at, where_at, behind_at, word_at, run_of}
+use Rattle.mob_language.specs.Language.{Text, AreAll, is_blank}
+use Rattle.mob_language.specs.Readers.{◌>>=◌, behind_at, word_at, run_of}
 use Rattle.mob_language.proofs.Exact.{Reads, Exact, Stops, Any, bind_some, some_is, or_exact, where_exact, run_again, run_parts, word_exact}
 use Rattle.mob_language.proofs.Heads.{NoHead, Nothing, HasByte, exact_less, byte_stops, word_nothing, then_nothing, means_nothing, where_head, or_head, where_byte, or_byte}
 use Rattle.mob_scalar.specs.Quoted.{is_escaped, escaped, quoted_text, quoted, is_plain, begins_well, ends_well, is_bare, bare, text_value, put_first, unescaped_at, quoted_at, put_before, trimmed, bare_of, bare_at, text_value_at}

@@ -1,6 +1,5 @@
 -- An int is a number that is whole.
 use Rattle.std.proofs.Common.{◌≡◌, ◌≢◌, ap, sym, ◌∙◌, Ok, Err}
-use Rattle.std.specs.Prelude.{Result}
 use Rattle.mob_ratio.specs.Ratio.{Ratio}
 use Rattle.mob_language.specs.Language.{Text}
 use Rattle.mob_scalar.specs.declared.fault.ReadText.{ReadText}

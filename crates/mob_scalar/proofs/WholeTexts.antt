@@ -1,19 +1,18 @@
 -- Whole texts of numbers, moments and truth values, with blanks at their ends, are read exactly.
-use Rattle.std.proofs.Common.{◌≡◌, ℕ, zero, suc, ◌+◌, ◌<◌, List, [], ◌∷◌, ◌++◌, length, Bool, true, false, Option, Some, None, refl, sym, ap, subst, ◌∙◌, rules, arith, codes, inl, inr}
-use Rattle.std.specs.Prelude.{◌||◌, nat_eq}
+use Rattle.std.proofs.Common.{◌≡◌, ℕ, [], ◌∷◌, ◌++◌, length, Bool, true, false, Option, Some, None, refl, sym, ap, subst, ◌∙◌, rules, arith, codes, inl, inr}
 use Rattle.std.specs.Char.{is_ascii_alphabetic}
 use Rattle.std.proofs.lemmas.Bool.Decides.{nat_tests}
-use Rattle.mob_language.specs.Language.{Text, Language, ◌▷◌, ◌∣◌, Maybe, Means, Where, Word, OneOf, Run, AreAll, behind, is_blank, blanks, spaced, within_blanks}
-use Rattle.mob_language.specs.Readers.{Reader, within_blanks_at}
+use Rattle.mob_language.specs.Language.{Text, Language, Maybe, Where, Run, AreAll, behind, is_blank, within_blanks}
+use Rattle.mob_language.specs.Readers.{within_blanks_at}
 use Rattle.mob_language.proofs.Exact.{Exact, Stops, means_exact, where_exact, run_exact, run_again}
-use Rattle.mob_language.proofs.Heads.{NoHead, Apart, HasByte, IsEnd, stops_both, byte_stops, then_head, means_head, maybe_head, where_head, one_head, run_head, byte_head, means_byte, then_byte, where_byte, word_byte, within_exact, blanks_stop}
+use Rattle.mob_language.proofs.Heads.{NoHead, Apart, HasByte, IsEnd, then_head, means_head, maybe_head, where_head, one_head, run_head, byte_head, means_byte, then_byte, where_byte, within_exact, blanks_stop}
 use Rattle.mob_scalar.specs.declared.numeral.Figures.{Figures}
 use Rattle.mob_scalar.specs.declared.numeral.Exponent.{Exponent}
 use Rattle.mob_scalar.specs.declared.numeral.Tail.{Tail}
-use Rattle.mob_scalar.specs.declared.numeral.Tail.TheVariants.{Over, Decimal}
+use Rattle.mob_scalar.specs.declared.numeral.Tail.TheVariants.{Decimal}
 use Rattle.mob_scalar.specs.declared.numeral.Numeral.{Numeral}
-use Rattle.mob_scalar.specs.Figures.{is_digit, digits, figures}
-use Rattle.mob_scalar.specs.Number.{number, sign, tail, is_sign, is_e, has_digits}
+use Rattle.mob_scalar.specs.Figures.{is_digit, digits}
+use Rattle.mob_scalar.specs.Number.{number, tail, is_sign, is_e, has_digits}
 use Rattle.mob_scalar.specs.NumberReaders.{number_at, digits_at}
 use Rattle.mob_scalar.specs.Calendar.{date, fixed, civil_of, is_civil}
 use Rattle.mob_scalar.specs.CalendarReaders.{fixed_at}

@@ -124,7 +124,7 @@ moment = Where is_in_years (Means stamp_of (date ▷ Maybe time))
 unfoldable pub instant : ℤ → Stamp → Ratio
 instant epoch s = whole (seconds s -ℤ epoch *ℤ pos 86400) +ℚ over (pos s.clock.part.numerator) s.clock.part.denominator
 
--- a part of a second, of numbers that 126 bits hold
+-- a part below a second, with a numerator that 126 bits hold
 pub record IsPartSmall (p : Part) : Type 0 where
   pub below : p.numerator < p.denominator
   pub fits : p.numerator < 2 ^ 126

@@ -2,7 +2,7 @@
 --
 -- A value is written in double quotes, where each double quote and each backslash of it has a backslash before it; or bare, as one
 -- character or more without blanks at its ends and without @ , { } [ ] ( ) and double quotes.
-use Rattle.std.specs.Prelude.{◌≡◌, ℕ, List, [], ◌∷◌, ◌++◌, codes, Bool, true, false, ◌||◌, ◌&&◌, not, cond, nat_eq, Option, Some, None}
+use Rattle.std.specs.Prelude.{◌≡◌, ℕ, [], ◌∷◌, ◌++◌, codes, Bool, true, false, ◌||◌, ◌&&◌, not, cond, nat_eq, Option, Some, None}
 use Rattle.std.specs.Str.{is_utf8}
 use Rattle.mob_language.specs.Language.{Text, Language, ◌∣◌, Where, Run, is_blank}
 use Rattle.mob_language.specs.Readers.{Reader, ◌>>=◌, or_at, where_at, behind_at, run_of}

@@ -1,7 +1,6 @@
 //! Dates of the calendar, of the years 0001 to 9999.
-ghost use Rattle.std.specs.Prelude.{◌≡◌, ◌<◌, ◌≤◌, ◌^◌, length, option_map, List, ℕ, ℤ, pos, nat_abs, ◌*ℤ◌, ◌+ℤ◌, ◌-ℤ◌, Option, Some, None, IfSome, true, Bool};
+ghost use Rattle.std.specs.Prelude.{◌≡◌, ◌<◌, ◌^◌, option_map, Option, Some, None, IfSome, true};
 ghost use Rattle.mob_language.specs.Readers.{all_of};
-ghost use Rattle.jiff_core.specs.Calendar.{days_from_civil};
 ghost use Rattle.mob_scalar.specs.Calendar.{is_civil as civil, day_of as day_number, date_of as date_of_day, IsInYears};
 ghost use Rattle.mob_scalar.specs.CalendarReaders.{fixed_at as fixed_in, dash_at as dash_in, date_at as date_in};
 

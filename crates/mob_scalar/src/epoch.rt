@@ -4,7 +4,6 @@ ghost use Rattle.mob_scalar.specs.Calendar.{IsInYears, standard_day};
 ghost use Rattle.mob_scalar.specs.Epochs.{epochs};
 ghost use Rattle.mob_scalar.specs.declared.fault.ReadText.TheVariants.{NoMemory};
 ghost use Rattle.mob_scalar.specs.Verdict.{Lit};
-ghost use Rattle.jiff_core.specs.Calendar.{days_from_civil};
 
 use crate::civil::{date_in_all, day_of};
 use crate::fault::ReadText;

@@ -1,5 +1,5 @@
 //! Laws of reading and printing: each is a promise without running code.
-ghost use Rattle.std.specs.Prelude.{◌≡◌, ℕ, ℤ, List, Ok, true, Bool};
+ghost use Rattle.std.specs.Prelude.{◌≡◌, ℕ, ℤ, List, Ok, Err, true, Bool};
 ghost use Rattle.mob_ratio.specs.Ratio.{Ratio};
 ghost use Rattle.mob_frac.specs.Fits.{Fits};
 ghost use Rattle.mob_scalar.specs.Numbers.{numbers, whole_numbers};
@@ -10,6 +10,7 @@ ghost use Rattle.mob_scalar.specs.MomentText.{HasDate, moment_text};
 ghost use Rattle.std.specs.Str.{is_utf8};
 ghost use Rattle.mob_scalar.specs.Quoted.{quoted_text, text_value};
 ghost use Rattle.mob_scalar.specs.Truth.{truth_text, truths};
+ghost use Rattle.mob_scalar.specs.declared.fault.ReadText.TheVariants.{NotText};
 ghost use Rattle.mob_scalar.specs.Verdict.{HasOneReading, Lit};
 
 /// A number that is printed is read again as itself.
@@ -30,6 +31,11 @@ pub fn truth_read_again()
 /// A moment that is printed is read again as itself, where it lies in the years 0001 to 9999.
 pub fn moment_read_again()
     ensures again { (epoch : ℤ) (t : Ratio) → Fits t → HasDate epoch t → Lit (moments epoch) (moment_text epoch t) (Ok t) }
+{}
+
+/// What is printed of a moment outside the years 0001 to 9999 is no moment.
+pub fn far_moment_not_read()
+    ensures not_read { (epoch : ℤ) (t : Ratio) → ¬ HasDate epoch t → Lit (moments epoch) (moment_text epoch t) (Err NotText) }
 {}
 
 /// A text has one reading as a number, as an int, as a moment, as a truth value and as an epoch.

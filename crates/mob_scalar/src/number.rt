@@ -1,4 +1,5 @@
-ghost use Rattle.std.specs.Prelude.{◌≡◌, ◌<◌, ◌≤◌, ◌^◌, ◌*◌, ◌+◌, length, Option, Some, None, ◌≢◌, Err};
+//! Numbers, read from their texts.
+ghost use Rattle.std.specs.Prelude.{◌≡◌, ◌<◌, ◌≤◌, ◌^◌, ◌*◌, ◌+◌, Option, Some, None, ◌≢◌, Err};
 ghost use Rattle.mob_language.specs.Readers.{all_of, within_blanks_at};
 ghost use Rattle.mob_ratio.specs.Ratio.{over};
 ghost use Rattle.mob_frac.specs.Fits.{IsExact};
@@ -22,11 +23,7 @@ pub fn ten_to(k: u32) -> u128
     requires fits { k ≤ 36 }
     ensures power { result ≡ 10 ^ k }
 {
-    let mut power: u128 = 1;
-    for _ in 0..k {
-        power *= 10;
-    }
-    power
+    10u128.pow(k)
 }
 
 /// A whole number with zeros behind it.

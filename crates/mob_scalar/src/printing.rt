@@ -1,9 +1,8 @@
 //! Numbers and moments, printed.
-ghost use Rattle.std.specs.Prelude.{◌≡◌, ◌+◌, ◌-◌, ◌*◌, ◌/◌, ◌%◌, ◌^◌, ◌<◌, ◌≤◌, ◌++◌, length, replicate, codes, OnOk, OnErr, IsOk, IfSome, Option, ℤ, pos, nat_abs, unsigned_abs, ◌+ℤ◌, ◌*ℤ◌, string_bytes, string_len, string_capacity};
-ghost use Rattle.std.specs.Fmt.{decimal, signed_decimal};
+ghost use Rattle.std.specs.Prelude.{◌≡◌, ◌+◌, ◌-◌, ◌*◌, ◌/◌, ◌%◌, ◌^◌, ◌<◌, ◌≤◌, ◌++◌, length, replicate, OnOk, OnErr, IsOk, Option, ℤ, pos, nat_abs, unsigned_abs, ◌+ℤ◌, ◌*ℤ◌, string_bytes, string_len, string_capacity, true};
+ghost use Rattle.std.specs.Fmt.{decimal};
 ghost use Rattle.std.specs.Int.{int_div_euclid, int_rem_euclid};
 ghost use Rattle.mob_scalar.specs.Calendar.{IsInYears, is_civil};
-ghost use Rattle.std.specs.Prelude.{true};
 ghost use Rattle.mob_scalar.specs.Moment.{is_year_second};
 ghost use Rattle.mob_scalar.specs.MomentText.{padded, stamp_text, date_text, clock_text, places as places_of, part_text, quotient_text, decimals_text, second_text, far_text, moment_text, whole_seconds, part_numerator};
 ghost use Rattle.mob_scalar.specs.NumberText.{number_text};

@@ -1,9 +1,8 @@
 //! The values of a ttext as they are written: in double quotes, or bare.
-ghost use Rattle.std.specs.Prelude.{◌≡◌, ◌++◌, ℕ, List, Some, IfOk, IfSome, option_map, OnOk, OnErr, string_bytes, length, is_some, encode_utf8, true, false};
+ghost use Rattle.std.specs.Prelude.{◌≡◌, ◌++◌, Some, IfOk, IfSome, option_map, OnOk, OnErr, string_bytes, length, is_some, encode_utf8, true, false};
 ghost use Rattle.std.specs.Str.{is_utf8};
-ghost use Rattle.mob_language.specs.Language.{is_blank as blank};
 ghost use Rattle.mob_language.specs.Readers.{run_of, or_at};
-ghost use Rattle.mob_scalar.specs.Quoted.{is_escaped as escapes, is_plain as plain, begins_well as begins, ends_well as ends, is_bare as bare, unescaped_at as unescaped_in, quoted_at as quoted_in, bare_at as bare_in, trimmed as trimmed_parts, text_value_at as text_value_in, escaped, quoted_text};
+ghost use Rattle.mob_scalar.specs.Quoted.{is_escaped as escapes, is_plain as plain, is_bare as bare, unescaped_at as unescaped_in, quoted_at as quoted_in, bare_at as bare_in, trimmed as trimmed_parts, text_value_at as text_value_in, escaped, quoted_text};
 
 use crate::stamp::is_blank;
 use mob_list::text::Text;

@@ -1,7 +1,7 @@
 //! Moments as they are written.
-ghost use Rattle.std.specs.Prelude.{◌≡◌, ◌<◌, ◌≤◌, ◌^◌, length, option_map, List, ℕ, ℤ, pos, nat_abs, ◌*ℤ◌, ◌+ℤ◌, ◌-ℤ◌, Option, Some, None, IfSome, true, Bool};
+ghost use Rattle.std.specs.Prelude.{◌≡◌, ◌<◌, ◌^◌, option_map, ℤ, pos, nat_abs, ◌*ℤ◌, ◌+ℤ◌, Option, Some, None, IfSome, true};
 ghost use Rattle.mob_language.specs.Language.{is_blank as blank};
-ghost use Rattle.mob_language.specs.Readers.{all_of, run_of, maybe_at, word_at};
+ghost use Rattle.mob_language.specs.Readers.{run_of, maybe_at};
 ghost use Rattle.mob_scalar.specs.Calendar.{is_civil as civil};
 ghost use Rattle.mob_scalar.specs.Moment.{stamp_of as stamp_made, clock_of as clock_made, offset_of as offset_made, zone_of as zone_made, is_in_years as in_years, seconds, shift as moved};
 ghost use Rattle.mob_scalar.specs.MomentReaders.{up_to_at as up_to_in, colon_at as colon_in, decimals_at as decimals_in, below_at as below_in, quotient_at as quotient_in, part_at as part_in, seconds_at as seconds_in, clock_at as clock_in, z_at as z_in, hours_at as hours_in, after_sign_in, zone_at as zone_in, blanks_at as blanks_in, t_at as t_in, gap_at as gap_in, time_at as time_in, moment_at as moment_in};

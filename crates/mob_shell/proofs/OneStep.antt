@@ -3,7 +3,7 @@ use Rattle.std.proofs.Common.{◌≡◌, ◌∙◌, sym, ap, ℕ, ℤ, List, Ok,
 use Rattle.mob_typing.specs.Statements.{StatementOut, query}
 use Rattle.mob_eval.specs.QueryFaults.{TupleFault}
 use Rattle.mob_tail.specs.AnswerText.{text_of}
-use Rattle.mob_shell.specs.Runs.{Standing, Step, Stops, Writes, names_of}
+use Rattle.mob_shell.specs.Runs.{Standing, Stops, Writes, names_of}
 use Rattle.mob_shell.specs.StepOutcomes.{HasOneFault, HasOneStep, OneAnswer, RunsOrStops}
 
 module _ (answer : OneAnswer) where

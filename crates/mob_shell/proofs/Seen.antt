@@ -1,12 +1,10 @@
 -- A run over the program's statements is a run over what they are.
-use Rattle.std.proofs.Common.{◌≡◌, ◌∙◌, refl, sym, ap, subst, ℕ, ◌+◌, List, [], ◌∷◌, ◌++◌, map, take, Some}
+use Rattle.std.proofs.Common.{◌≡◌, ◌∙◌, ap, subst, ℕ, ◌+◌, List, [], ◌∷◌, map, take, Some}
 use Rattle.std.specs.Prelude.{ℤ, Option, slice_get, option_map}
 use Rattle.std.specs.Io.KnownBytes.{Appends}
 use Rattle.std.proofs.lemmas.List.{take-map}
 use Rattle.std.proofs.lemmas.Option.{slice_get-map}
-use Rattle.mob_streams.specs.Answers.{Ran, Ends}
-use Rattle.mob_streams.specs.declared.answers.RunEnd.{RunEnd}
-use Rattle.mob_streams.specs.declared.answers.RunEnd.TheVariants.{Done, Stopped, NotWritten, NoMemory}
+use Rattle.mob_streams.specs.Answers.{Ran}
 use Rattle.mob_typing.specs.declared.typed.TypedStatement.{TypedStatement}
 use Rattle.mob_typing.specs.declared.typed.Typed.{Typed}
 use Rattle.mob_typing.specs.Statements.{StatementOut, statement_seen, script_seen}
@@ -15,7 +13,7 @@ use Rattle.mob_shell.specs.Runs.{Standing, Step, Stops, begin}
 use Rattle.mob_shell.specs.Session.{Steps, StopsOn, standing, day_of, fault_of}
 use Rattle.mob_shell.specs.declared.session.Session.{Session}
 use Rattle.mob_shell.specs.declared.session.Overflow.{Overflow}
-use Rattle.mob_shell.specs.Parts.{RanAll, RanSome, RanShort, RanTo, RanUpTo}
+use Rattle.mob_shell.specs.Parts.{RanAll, RanTo, RanUpTo}
 
 -- what was run, and the day stays the same
 pub record IsSeen (day : ℤ) (s : Standing) (xs : List StatementOut) (t : Session) (text : List ℕ) : Type 0 where

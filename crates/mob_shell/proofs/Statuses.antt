@@ -1,39 +1,130 @@
 -- What a status says, by its ending.
-use Rattle.std.proofs.Common.{◌≡◌, refl, inl, inr}
+use Rattle.std.proofs.Common.{◌≡◌, ap, inl, inr, refl, subst, ℕ, List}
 use Rattle.std.specs.Prelude.{◌⊎◌, Some, None}
-use Rattle.mob_outside.specs.Faults.{Rose}
-use Rattle.mob_ending.specs.Lines.{status_of}
+use Rattle.std.specs.Io.KnownBytes.{Keeps}
+use Rattle.mob_ending.specs.Lines.{line_of, status_of}
 use Rattle.mob_ending.specs.declared.ending.Ending.{Ending}
 use Rattle.mob_ending.specs.declared.ending.Ending.TheVariants.{Done, Usage, ReadFault, WriteFault, NoMemory, TableRefused, ScriptRefused, Overflow}
-use Rattle.mob_shell.specs.Ending.{Causes, IsReadFault, IsTableFault, IsUsage, Seen}
+use Rattle.mob_shell.specs.Ending.{Causes, CutsShort, Ends, IsOverflow, IsReadFault, IsScriptRefused, IsTableFault, IsUsage, Seen, Writes}
+use Rattle.mob_shell.specs.Outcomes.{HasOneEnding}
+use Rattle.mob_shell.specs.Run.{EndsSo, IsRun}
+use Rattle.mob_shell.proofs.Due.{ends_as_due}
 
-pub by_usage : (ending : Ending) (s : Seen) → Causes ending s → status_of ending ≡ 2 → IsUsage s.words
-by_usage Usage s h e = h.0
+by_written : (ending : Ending) (s : Seen) → Causes ending s → status_of ending ≡ 0 → Writes s
+by_written Done s h e = h
+by_written Usage s h e = cc
+by_written (ReadFault None) s h e = cc
+by_written (ReadFault (Some file)) s h e = cc
+by_written WriteFault s h e = cc
+by_written NoMemory s h e = cc
+by_written (TableRefused name kind rec field) s h e = cc
+by_written (ScriptRefused refusal) s h e = cc
+by_written (Overflow number rows place formula) s h e = cc
+
+by_usage : (ending : Ending) (s : Seen) → Causes ending s → status_of ending ≡ 2 → IsUsage s.words
 by_usage Done s h e = cc
-by_usage (ReadFault file) s h e = cc
+by_usage Usage s h e = h.0
+by_usage (ReadFault None) s h e = cc
+by_usage (ReadFault (Some file)) s h e = cc
 by_usage WriteFault s h e = cc
 by_usage NoMemory s h e = cc
 by_usage (TableRefused name kind rec field) s h e = cc
 by_usage (ScriptRefused refusal) s h e = cc
 by_usage (Overflow number rows place formula) s h e = cc
 
-pub by_read : (ending : Ending) (s : Seen) → Causes ending s → status_of ending ≡ 3 → IsReadFault s
+by_read : (ending : Ending) (s : Seen) → Causes ending s → status_of ending ≡ 3 → IsReadFault s
+by_read Done s h e = cc
+by_read Usage s h e = cc
 by_read (ReadFault None) s h e = inl h.0
 by_read (ReadFault (Some file)) s h e = inr (file, h.0)
-by_read Usage s h e = cc
-by_read Done s h e = cc
 by_read WriteFault s h e = cc
 by_read NoMemory s h e = cc
 by_read (TableRefused name kind rec field) s h e = cc
 by_read (ScriptRefused refusal) s h e = cc
 by_read (Overflow number rows place formula) s h e = cc
 
-pub by_table : (ending : Ending) (s : Seen) → Causes ending s → status_of ending ≡ 6 → IsTableFault s
-by_table (TableRefused name kind rec field) s h e = (name, kind, rec, field, h.0)
-by_table Usage s h e = cc
+by_write : (ending : Ending) (s : Seen) → Causes ending s → status_of ending ≡ 4 → CutsShort s
+by_write Done s h e = cc
+by_write Usage s h e = cc
+by_write (ReadFault None) s h e = cc
+by_write (ReadFault (Some file)) s h e = cc
+by_write WriteFault s h e = h
+by_write NoMemory s h e = cc
+by_write (TableRefused name kind rec field) s h e = cc
+by_write (ScriptRefused refusal) s h e = cc
+by_write (Overflow number rows place formula) s h e = cc
+
+by_table : (ending : Ending) (s : Seen) → Causes ending s → status_of ending ≡ 6 → IsTableFault s
 by_table Done s h e = cc
-by_table (ReadFault file) s h e = cc
+by_table Usage s h e = cc
+by_table (ReadFault None) s h e = cc
+by_table (ReadFault (Some file)) s h e = cc
 by_table WriteFault s h e = cc
 by_table NoMemory s h e = cc
+by_table (TableRefused name kind rec field) s h e = (name, kind, rec, field, h.0)
 by_table (ScriptRefused refusal) s h e = cc
 by_table (Overflow number rows place formula) s h e = cc
+
+by_script : (ending : Ending) (s : Seen) → Causes ending s → status_of ending ≡ 7 → IsScriptRefused s
+by_script Done s h e = cc
+by_script Usage s h e = cc
+by_script (ReadFault None) s h e = cc
+by_script (ReadFault (Some file)) s h e = cc
+by_script WriteFault s h e = cc
+by_script NoMemory s h e = cc
+by_script (TableRefused name kind rec field) s h e = cc
+by_script (ScriptRefused refusal) s h e = (refusal, h.0)
+by_script (Overflow number rows place formula) s h e = cc
+
+by_overflow : (ending : Ending) (s : Seen) → Causes ending s → status_of ending ≡ 8 → IsOverflow s
+by_overflow Done s h e = cc
+by_overflow Usage s h e = cc
+by_overflow (ReadFault None) s h e = cc
+by_overflow (ReadFault (Some file)) s h e = cc
+by_overflow WriteFault s h e = cc
+by_overflow NoMemory s h e = cc
+by_overflow (TableRefused name kind rec field) s h e = cc
+by_overflow (ScriptRefused refusal) s h e = cc
+by_overflow (Overflow number rows place formula) s h e = (number, rows, place, formula, h)
+
+-- an ending of a run that wrote nothing, or one with another status
+by_silence : (ending : Ending) (s : Seen) → Causes ending s → (status_of ending ≡ 2) ⊎ ((status_of ending ≡ 3) ⊎ ((status_of ending ≡ 6) ⊎ (status_of ending ≡ 7))) → Keeps s.out_before s.out_now
+by_silence Usage s h e = h.1
+by_silence (ReadFault file) s h e = h.1
+by_silence (TableRefused name kind rec field) s h e = h.1
+by_silence (ScriptRefused refusal) s h e = h.1
+by_silence Done s h e = elim e [ inl x ↦ cc | inr more ↦ elim more [ inl x ↦ cc | inr others ↦ elim others [ inl x ↦ cc | inr x ↦ cc ] ] ]
+by_silence WriteFault s h e = elim e [ inl x ↦ cc | inr more ↦ elim more [ inl x ↦ cc | inr others ↦ elim others [ inl x ↦ cc | inr x ↦ cc ] ] ]
+by_silence NoMemory s h e = elim e [ inl x ↦ cc | inr more ↦ elim more [ inl x ↦ cc | inr others ↦ elim others [ inl x ↦ cc | inr x ↦ cc ] ] ]
+by_silence (Overflow number rows place formula) s h e = elim e [ inl x ↦ cc | inr more ↦ elim more [ inl x ↦ cc | inr others ↦ elim others [ inl x ↦ cc | inr x ↦ cc ] ] ]
+
+by_words : (ending : Ending) → (ending ≡ Usage) ⊎ (ending ≡ NoMemory) → (status_of ending ≡ 2) ⊎ (status_of ending ≡ 5)
+by_words ending (inl e) = inl (ap status_of e)
+by_words ending (inr e) = inr (ap status_of e)
+
+-- a run that ended so has that status and that note
+so_ended : (ending due : Ending) (Noted : List ℕ → Type 0) → (ending ≡ due) ⊎ (ending ≡ NoMemory) → Noted (line_of ending) → EndsSo due (status_of ending) Noted ⊎ (status_of ending ≡ 5)
+so_ended ending due Noted (inl e) noted = inl (record { number = ap status_of e; noted = subst (λ (it : Ending). Noted (line_of it)) e noted })
+so_ended ending due Noted (inr e) noted = inr (ap status_of e)
+
+-- what a run promises, by its ending and what is noted of its line
+pub is_run : HasOneEnding → (ending : Ending) (s : Seen) (Noted : List ℕ → Type 0) → Ends ending s → Noted (line_of ending) → IsRun (status_of ending) s Noted
+is_run one ending s Noted ends noted = record {
+  written = by_written ending s ends.cause;
+  usage = by_usage ending s ends.cause;
+  exactly_usage = λ words. by_words ending (ends.usage words);
+  read_fault = by_read ending s ends.cause;
+  write_fault = by_write ending s ends.cause;
+  table_refused = by_table ending s ends.cause;
+  script_refused = by_script ending s ends.cause;
+  overflow = by_overflow ending s ends.cause;
+  silent = by_silence ending s ends.cause;
+  complete = λ due given faultless. so_ended ending due Noted (ends_as_due one ending due s ends faultless given) noted;
+  reads = ends.read;
+  asked = ends.asked;
+  files = ends.files;
+  read_later = ends.read_later;
+  filed_later = ends.filed_later;
+  put_later = ends.put_later;
+  note = record { ending = ending; number = refl; cause = ends.cause; noted = noted };
+}

@@ -1,7 +1,7 @@
 -- What was read is the whole script, and what its parts leave is the cause of the ending.
-use Rattle.std.proofs.Common.{arith, ◌≡◌, ◌∙◌, refl, sym, ap, subst, inl, inr, ℕ, ◌+◌, ◌<◌, ◌≤◌, List, [], ◌++◌, length, take, Some, None}
+use Rattle.std.proofs.Common.{arith, ◌≡◌, ◌∙◌, refl, sym, ap, subst, inl, inr, ℕ, ◌+◌, ◌≤◌, List, [], ◌++◌, length, Some, None}
 use Rattle.std.specs.Prelude.{◌⊎◌, ℤ, Option, IfSome, Ok, Err}
-use Rattle.std.specs.Io.KnownBytes.{IsAtEnd, Keeps}
+use Rattle.std.specs.Io.KnownBytes.{Keeps}
 use Rattle.std.proofs.Math.Nat.{eq-or-lt_of_le}
 use Rattle.std.proofs.lemmas.List.{append-nil, length-append}
 use Rattle.mob_ast.specs.declared.refusal.Refusal.{Refusal}
@@ -9,9 +9,9 @@ use Rattle.mob_words.specs.CommandLine.{Says}
 use Rattle.mob_accept.specs.Accepts.{IsAccepted, IsTextRefused, script_limit}
 use Rattle.mob_streams.specs.Streams.{ReadsPart, ReadsTo}
 use Rattle.mob_streams.proofs.Known.{takes_nothing}
-use Rattle.mob_outside.specs.Told.{Contents}
+use Rattle.mob_outside.specs.Told.{Contents, KeepsFiles}
 use Rattle.mob_typing.specs.Statements.{ScriptOut}
-use Rattle.mob_load.specs.Fronts.{AsksForAll, AsksForSome, IsAskedLast}
+use Rattle.mob_load.specs.Fronts.{AsksForSome, IsAskedLast}
 use Rattle.mob_load.specs.Checks.{checks_of}
 use Rattle.mob_load.specs.Loads.{LoadsScript, Reaches, copied_files, nothing_loaded, refused, table_refused}
 use Rattle.mob_load.specs.declared.program.Program.{Program}
@@ -191,6 +191,7 @@ nothing_asked s asks = record { names = []; copied = some_all (λ b. AreCopied s
 pub record IsEarly (s : Seen) : Type 0 where
   pub read : ReadsPart script_limit s.script s.rest
   pub asks : AsksForSome [] s.asked_before s.asked_now
+  pub files : KeepsFiles s.files s.files_now
   pub read_later : s.read_before ≤ s.read_now
   pub filed_later : s.filed_before ≤ s.filed_now
   pub put_later : s.put_before ≤ s.put_now
@@ -200,15 +201,17 @@ early_ends ending s h cause usage = record {
   cause = cause;
   read = h.read;
   asked = nothing_asked s h.asks;
+  files = h.files;
   usage = usage;
   read_later = h.read_later;
   filed_later = h.filed_later;
   put_later = h.put_later;
 }
 
--- counts of faults that did not fall, and what was taken of the script
+-- counts of faults that did not fall, what was taken of the script, and files that stay as they were
 pub record IsOrderly (s : Seen) : Type 0 where
   pub read : ReadsPart script_limit s.script s.rest
+  pub files : KeepsFiles s.files s.files_now
   pub read_later : s.read_before ≤ s.read_now
   pub filed_later : s.filed_before ≤ s.filed_now
   pub put_later : s.put_before ≤ s.put_now
@@ -225,6 +228,7 @@ text_ends s bytes reads workers day says orderly ending (inl h) = record {
   cause = loaded_causes s bytes reads workers day says h.out h.accepted ending h.ends;
   read = orderly.read;
   asked = asked_in_order s bytes reads workers day says h.out h.accepted h.asks;
+  files = orderly.files;
   usage = λ u. absurd (u workers day says);
   read_later = orderly.read_later;
   filed_later = orderly.filed_later;
@@ -234,6 +238,7 @@ text_ends s bytes reads workers day says orderly ending (inr h) = record {
   cause = refusal-causes s bytes reads ending h.keeps h.says;
   read = orderly.read;
   asked = nothing_asked s h.asks;
+  files = orderly.files;
   usage = λ u. absurd (u workers day says);
   read_later = orderly.read_later;
   filed_later = orderly.filed_later;

@@ -1,10 +1,10 @@
 -- Why a run ends as it does, by what it was given and what it did.
-use Rattle.std.specs.Prelude.{◌≡◌, ◌⊎◌, ◌≤◌, ◌+◌, ℕ, ℤ, List, [], length, map, Option, Some, None, IfSome, IsSomeAnd}
+use Rattle.std.specs.Prelude.{◌≡◌, ◌⊎◌, ◌≤◌, ◌+◌, ℕ, ℤ, List, [], length, Option, Some, None, IfSome, IsSomeAnd}
 use Rattle.std.specs.Io.KnownBytes.{Appends, Consumes, IsAtEnd, Keeps}
 use Rattle.mob_ast.specs.declared.refusal.Kind.{Kind}
 use Rattle.mob_ast.specs.declared.refusal.Refusal.{Refusal}
 use Rattle.mob_outside.specs.Faults.{Rose}
-use Rattle.mob_outside.specs.Told.{Contents}
+use Rattle.mob_outside.specs.Told.{Contents, KeepsFiles}
 use Rattle.mob_slice.specs.declared.formula.Formula.{Formula}
 use Rattle.mob_streams.specs.Streams.{PutsPart, ReadsPart}
 use Rattle.mob_words.specs.CommandLine.{Says}
@@ -24,13 +24,14 @@ IsUsage words = (workers : ℕ) (day : ℤ) → Says words workers day → ⊥
 abbrev pub IsTaken : List (List ℕ) → Type 0
 IsTaken words = IsUsage words → ⊥
 
--- What a run was given and what it did: the words; what the script told before and after; what the files told, and the names
--- that they were asked for before and after; what `out` told before and after; and the counts of faults of the three.
+-- What a run was given and what it did: the words; what the script, the files and `out` told before and after, and the names that
+-- the files were asked for; and the counts of faults of the three.
 pub record Seen : Type 0 where
   pub words : List (List ℕ)
   pub script : Option (List ℕ)
   pub rest : Option (List ℕ)
   pub files : Option Contents
+  pub files_now : Option Contents
   pub asked_before : Option (List (List ℕ))
   pub asked_now : Option (List (List ℕ))
   pub out_before : Option (List ℕ)
@@ -50,6 +51,7 @@ seen left reads told asked fileds held puts words source source_now files files_
   script = left source;
   rest = left source_now;
   files = told files;
+  files_now = told files_now;
   asked_before = asked files;
   asked_now = asked files_now;
   out_before = held sink;
@@ -192,11 +194,12 @@ pub record AsksInOrder (s : Seen) : Type 0 where
   pub asked : AsksForSome names s.asked_before s.asked_now
 
 -- how a run ended: by its cause, by usage where the words ask for it or else by want of memory, with at most one byte past the
--- limit read of the script, the names of files asked in order, and counts that do not fall
+-- limit read of the script, the names of files asked in order, files that stay as they were, and counts that do not fall
 pub record Ends (ending : Ending) (s : Seen) : Type 0 where
   pub cause : Causes ending s
   pub read : ReadsPart script_limit s.script s.rest
   pub asked : AsksInOrder s
+  pub files : KeepsFiles s.files s.files_now
   pub usage : IsUsage s.words → (ending ≡ Usage) ⊎ (ending ≡ NoMemory)
   pub read_later : s.read_before ≤ s.read_now
   pub filed_later : s.filed_before ≤ s.filed_now

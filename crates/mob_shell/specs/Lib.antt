@@ -4,5 +4,6 @@ pub mod StepOutcomes
 pub mod Session
 pub mod Program
 pub mod Ending
+pub mod Run
 pub mod Parts
 pub mod Outcomes

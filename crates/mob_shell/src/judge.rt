@@ -1,5 +1,6 @@
 // A text, judged and run.
-ghost use Rattle.std.specs.Prelude.{◌≡◌, ◌⊎◌, ◌≤◌};
+ghost use Rattle.std.specs.Prelude.{◌⊎◌, ◌≤◌};
+ghost use Rattle.mob_outside.specs.Told.{KeepsFiles};
 ghost use Rattle.mob_shell.specs.Parts.{RefusalEnds, RefusesText, RunsText};
 
 use crate::program::run_typed;
@@ -30,6 +31,7 @@ pub fn run_text<F: Files, K: Sink>(
 ) -> Ending
     ensures ends { RunsText epoch bytes.now (F.files files.old) (F.asked files.old) (F.asked files.new) (F.faults files.old) (F.faults files.new) (K.held out.old) (K.held out.new) (K.faults out.old) (K.faults out.new) result
         ⊎ RefusesText bytes.now (F.asked files.old) (F.asked files.new) (K.held out.old) (K.held out.new) result }
+    ensures files { KeepsFiles (F.files files.old) (F.files files.new) }
     ensures filed_later { F.faults files.old ≤ F.faults files.new }
     ensures put_later { K.faults out.old ≤ K.faults out.new }
 {

@@ -1,5 +1,6 @@
 // A typed script, loaded and run.
 ghost use Rattle.std.specs.Prelude.{◌≤◌};
+ghost use Rattle.mob_outside.specs.Told.{KeepsFiles};
 ghost use Rattle.mob_load.specs.Fronts.{AsksForSome};
 ghost use Rattle.mob_load.specs.Loads.{IsTyped, copied_files};
 ghost use Rattle.mob_typing.specs.Statements.{script_seen};
@@ -24,6 +25,7 @@ pub fn run_typed<F: Files, K: Sink>(
     requires typed { IsTyped (script_seen typed.now) }
     ensures ends { LoadEnds epoch (script_seen typed.now) (F.files files.old) (F.asked files.old) (F.asked files.new) (F.faults files.old) (F.faults files.new) (K.held out.old) (K.held out.new) (K.faults out.old) (K.faults out.new) result }
     ensures asked { AsksForSome (copied_files (script_seen typed.now).statements) (F.asked files.old) (F.asked files.new) }
+    ensures files { KeepsFiles (F.files files.old) (F.files files.new) }
     ensures filed_later { F.faults files.old ≤ F.faults files.new }
     ensures put_later { K.faults out.old ≤ K.faults out.new }
 {

@@ -1,5 +1,5 @@
 // Rows that are put into tables.
-ghost use Rattle.std.specs.Prelude.{◌≡◌, IfOk, OnOk, map, option_map};
+ghost use Rattle.std.specs.Prelude.{◌≡◌, IfOk, OnOk, map};
 ghost use Rattle.mob_catalog.specs.Catalogue.{with_row};
 ghost use Rattle.mob_shell.specs.Runs.{constant, row_of as values_of, with_rows};
 

@@ -20,17 +20,17 @@ inside_clear a b s h k = grind (arith, before-trans s.upper a.upper b.lower, bef
 pub clear_has : (q s : SpanOf) (t : Ratio) → is_clear q s ≡ true → has q t ≡ true → has s t ≡ false
 clear_has q s t h k = grind (arith, before-trans t q.upper s.lower, before-neither t q.upper, before-neither q.upper s.lower, before-neither t s.lower, before-back t s.lower, before-back t q.upper, before-back q.upper s.lower, before-self t)
 
-low_inside : (p s t : Ratio) (i j : Bool) → (before p s || (upto p s && (i || not j))) ≡ true → (before s t || (j && upto s t)) ≡ true → (before p t || (i && upto p t)) ≡ true
+pub low_inside : (p s t : Ratio) (i j : Bool) → (before p s || (upto p s && (i || not j))) ≡ true → (before s t || (j && upto s t)) ≡ true → (before p t || (i && upto p t)) ≡ true
 low_inside p s t i j h k = grind (arith, before-trans p s t, before-neither p s, before-neither s t, before-back p t, before-back p s, before-back s t)
 
-high_inside : (p s t : Ratio) (i j : Bool) → (before s p || (upto s p && (i || not j))) ≡ true → (before t s || (j && upto t s)) ≡ true → (before t p || (i && upto t p)) ≡ true
+pub high_inside : (p s t : Ratio) (i j : Bool) → (before s p || (upto s p && (i || not j))) ≡ true → (before t s || (j && upto t s)) ≡ true → (before t p || (i && upto t p)) ≡ true
 high_inside p s t i j h k = grind (arith, before-trans t s p, before-neither s p, before-neither t s, before-back t p, before-back s p, before-back t s)
 
-both : (a b : Bool) → (a && b) ≡ true → (a ≡ true) × (b ≡ true)
+pub both : (a b : Bool) → (a && b) ≡ true → (a ≡ true) × (b ≡ true)
 both true b h = (refl, h)
 both false b h = absurd (true≢false (sym h))
 
-joined : (a b : Bool) → a ≡ true → b ≡ true → (a && b) ≡ true
+pub joined : (a b : Bool) → a ≡ true → b ≡ true → (a && b) ≡ true
 joined a b h k = rw (h, k) refl
 
 pub inside_has : (p s : SpanOf) (t : Ratio) → is_inside p s ≡ true → has p t ≡ false → has s t ≡ false

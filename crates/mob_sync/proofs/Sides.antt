@@ -1,14 +1,13 @@
 -- From the pieces of values to the values themselves.
-use Rattle.std.specs.Prelude.{◌≡◌, ◌↔◌, IsNone, IfSome, Bool, true, false, cond, Option, Some, None, MatchOption, option_map, List, [], ◌∷◌, refl}
+use Rattle.std.specs.Prelude.{◌≡◌, Bool, true, false, cond, Option, Some, None, MatchOption, option_map, List, [], ◌∷◌, refl}
 use Rattle.std.proofs.Common.{ap, sym, ◌∙◌, subst}
 use Rattle.mob_ratio.specs.Ratio.{Ratio}
 use Rattle.mob_frac.specs.Formula.{AllFit}
 use Rattle.mob_span.specs.Span.{has}
 use Rattle.mob_slice.specs.Slices.{value_at, slice_at}
-use Rattle.mob_slice.specs.Operands.{map_both, FitBoth, steady_value}
+use Rattle.mob_slice.specs.Operands.{map_both, FitBoth}
 use Rattle.mob_slice.specs.Pieces.{part_at}
 use Rattle.mob_slice.specs.declared.slice.Slice.{Slice}
-use Rattle.mob_slice.specs.declared.steady.Steady.{Steady}
 use Rattle.mob_slice.specs.declared.part.One.{One}
 use Rattle.mob_slice.specs.declared.part.Pair.{Pair}
 use Rattle.mob_sync.specs.Common.{both, sides, IsCommon}

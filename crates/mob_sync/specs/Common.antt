@@ -32,6 +32,7 @@ PairsAfter q (p ∷ rest) = (is_clear q p.span ≡ true) × PairsAfter q rest
 -- at each instant the slices of the pair there are those of the two lists, and there is no pair where one list has none.
 pub record IsCommon {A B : Type 0} (v : List (Slice A)) (w : List (Slice B)) (pairs : List (Pair A B)) : Type 0 where
   pub clear : PartsClear (λ p. p.span) pairs
+  -- what is before all of a list is before all pairs (this follows from the others, and carries the walk)
   pub after_left : (q : SpanOf) → AllAfter q v → PairsAfter q pairs
   pub after_right : (q : SpanOf) → AllAfter q w → PairsAfter q pairs
   pub at_each : (t : Ratio) → sides_at pairs t ≡ both (slice_at v t) (slice_at w t)

@@ -1,3 +1,4 @@
+//! The values of SQL.
 ghost use Rattle.std.specs.Prelude.{◌≡◌, IfOk, OnErr, true};
 ghost use Rattle.mob_value.specs.Memory.{holds_memory};
 

@@ -1,4 +1,4 @@
-use Rattle.std.proofs.Common.{rules, arith, ◌+◌}
+use Rattle.std.proofs.Common.{rules, ◌+◌}
 use Rattle.mob_streams.proofs.Known.{reads_more}
 use Rattle.mob_catalog.specs.TableFile.{file_limit}
 use Rattle.mob_load.proofs.Fronts.{read_full, read_whole}

@@ -1,4 +1,4 @@
-use Rattle.std.proofs.Common.{rules, ◌≡◌, ◌∙◌, ◌+◌, ◌∷◌, refl, sym, ap, subst, map, drop, length}
+use Rattle.std.proofs.Common.{rules, ◌≡◌, ◌∙◌, ◌+◌, ◌∷◌, refl, sym, ap, subst, map, drop}
 use Rattle.std.proofs.lemmas.List.{drop_more, drop_all}
 use Rattle.mob_load.specs.Checks.{check_seen}
 use Rattle.mob_load.specs.declared.check.Check.{Check}

@@ -1,5 +1,4 @@
 use Rattle.std.proofs.Common.{inl, refl}
-use Rattle.mob_scalar.proofs.BeforeSign.{number_before_at}
 use Rattle.mob_scalar.proofs.laws.text_value_read_again.Goals as goal
 
 pub returns : goal.returns

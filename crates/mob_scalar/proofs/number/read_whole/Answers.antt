@@ -1,5 +1,4 @@
-use Rattle.std.proofs.Common.{◌≡◌, ◌≢◌, sym, ◌∙◌, rules, arith}
-use Rattle.mob_scalar.proofs.WholeNumbers.{whole_said, not_whole, same_fault}
+use Rattle.mob_scalar.proofs.WholeNumbers.{same_fault}
 use Rattle.mob_scalar.proofs.number.read_whole.Goals as goal
 
 pub returns-in-Err-clause-reading : goal.returns-in-Err-clause-reading

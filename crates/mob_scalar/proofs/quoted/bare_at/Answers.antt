@@ -1,4 +1,4 @@
-use Rattle.std.proofs.Common.{◌≡◌, ◌≤◌, length, sym, subst}
+use Rattle.std.proofs.Common.{◌≤◌, length, sym, subst}
 use Rattle.mob_scalar.proofs.BareLemmas.{bare_cut, bare_found, bare_not}
 use Rattle.mob_scalar.proofs.quoted.bare_at.Goals as goal
 

@@ -1,4 +1,4 @@
-use Rattle.std.proofs.Common.{◌≡◌, length, sym, ◌∙◌, refl, arith}
+use Rattle.std.proofs.Common.{sym, ◌∙◌, refl, arith}
 use Rattle.mob_scalar.specs.Quoted.{is_plain}
 use Rattle.mob_scalar.proofs.Runs.{split_more}
 use Rattle.mob_scalar.proofs.BareLemmas.{blank_more, other_more, nothing_trimmed}

@@ -1,4 +1,4 @@
-use Rattle.std.proofs.Common.{◌≡◌, ◌<◌, length, sym, refl, arith, rules}
+use Rattle.std.proofs.Common.{◌<◌, length, refl, rules}
 use Rattle.mob_scalar.proofs.BareLemmas.{begins_at, ends_at}
 use Rattle.mob_scalar.proofs.quoted.is_bare.Goals as goal
 

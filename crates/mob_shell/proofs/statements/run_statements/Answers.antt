@@ -1,7 +1,3 @@
-use Rattle.std.proofs.Common.{subst, take}
-use Rattle.std.specs.Prelude.{slice_get}
-use Rattle.mob_streams.specs.Answers.{Ends}
-use Rattle.mob_shell.specs.Session.{Steps, StopsOn}
 use Rattle.mob_shell.proofs.Seen.{seen_all, seen_first, seen_stop}
 use Rattle.mob_shell.proofs.statements.run_statements.Goals as goal
 

@@ -5,7 +5,7 @@ use Rattle.mob_grammar.specs.Reading.{chain, postfix, expression_at, comparison_
 use Rattle.mob_grammar.specs.declared.mark.Mark.TheVariants.{Comma}
 use Rattle.mob_grammar.specs.Symbols.{starts, rest}
 use Rattle.mob_grammar.proofs.Steps.{chosen}
-use Rattle.mob_grammar.proofs.Laws.{through}
+use Rattle.mob_grammar.proofs.Tells.{through}
 use Rattle.mob_grammar.proofs.Same.{expression_unfolds}
 use Rattle.mob_parse.specs.Cursors.{left}
 use Rattle.mob_parse.specs.Levels.{operand_at}

@@ -1,0 +1,204 @@
+-- A script that is written in order is looked at in that order.
+use Rattle.std.proofs.Common.{◌≡◌, ◌∙◌, refl, sym, ap, subst, arith, eq-eqb, inl, inr, Bool, true, false, ℕ, ◌+◌, ◌<◌, ◌≤◌, List, [], ◌∷◌, ◌++◌, map}
+use Rattle.std.specs.Prelude.{◌⊎◌, ◌==◌, ◌&&◌, ◌||◌, filter, nat_lt}
+use Rattle.std.proofs.lemmas.Bool.{eqb-true, ltb-true, lt-ltb}
+use Rattle.mob_typing.specs.declared.typed.ConstText.{ConstText}
+use Rattle.mob_typing.specs.Statements.{StatementOut, nothing, new_table, new_index, new_rows, rows_from, query, plan_of}
+use Rattle.mob_load.specs.Checks.{CheckParts, literal, Mark, bracket, marks_of, marks_from, stands_before, up_to, in_order}
+use Rattle.mob_load.specs.Loads.{literal_of}
+use Rattle.mob_load.specs.Order.{Each, HasRisingRows, IsCutAt, IsUpTo, LiteralUpTo, LooksInOrder, Rises}
+use Rattle.mob_load.proofs.Marks.{own_mark}
+use Rattle.mob_load.proofs.Values.{NoLiterals, no_all}
+
+abbrev MarkUpTo : Mark → Mark → Type 0
+MarkUpTo m k = IsUpTo m.statement m.place k.statement k.place
+
+-- a place that is not behind another stands before all that the other stands before
+stands_too : (a n p : ℕ) (b k q : ℕ) → IsUpTo a b k q → ((k < n) ⊎ ((k ≡ n) × (q < p))) → (a < n) ⊎ ((a ≡ n) × (b < p))
+stands_too a n p b k q (inl h) (inl g) = inl (omega arith)
+stands_too a n p b k q (inl h) (inr g) = let same = g.0 in inl (omega arith)
+stands_too a n p b k q (inr h) (inl g) = let same = h.0 in inl (omega arith)
+stands_too a n p b k q (inr h) (inr g) = let less = h.1 in let below = g.1 in inr (h.0 ∙ g.0, omega arith)
+
+-- the test whether a literal stands before a place, and what it says
+test_says : (x y z : Bool) → (x || (y && z)) ≡ true → (x ≡ true) ⊎ ((y ≡ true) × (z ≡ true))
+test_says true y z h = inl refl
+test_says false true true h = inr (refl, refl)
+test_says false true false h = absurd (cc h)
+test_says false false z h = absurd (cc h)
+
+test_holds : (x y z : Bool) → (x ≡ true) ⊎ ((y ≡ true) × (z ≡ true)) → (x || (y && z)) ≡ true
+test_holds true y z h = refl
+test_holds false true true h = refl
+test_holds false true false (inl e) = absurd (cc e)
+test_holds false true false (inr e) = absurd (cc e.1)
+test_holds false false z (inl e) = absurd (cc e)
+test_holds false false z (inr e) = absurd (cc e.0)
+
+stands_says : (k q n p : ℕ) → (nat_lt k n || (k == n && nat_lt q p)) ≡ true → (k < n) ⊎ ((k ≡ n) × (q < p))
+stands_says k q n p h = elim (test_says (nat_lt k n) (k == n) (nat_lt q p) h) [
+  | inl less ↦ inl (ltb-true k n less)
+  | inr both ↦ inr (eqb-true k n both.0, ltb-true q p both.1)
+]
+
+stands_test : (k q n p : ℕ) → (k < n) ⊎ ((k ≡ n) × (q < p)) → (nat_lt k n || (k == n && nat_lt q p)) ≡ true
+stands_test k q n p (inl less) = test_holds (nat_lt k n) (k == n) (nat_lt q p) (inl (lt-ltb k n less))
+stands_test k q n p (inr both) = test_holds (nat_lt k n) (k == n) (nat_lt q p) (inr (eq-eqb k n both.0, lt-ltb q p both.1))
+
+-- a literal that stands no later than one that stands before a place stands before it
+earlier_stands : (c d : ConstText) (n p : ℕ) → LiteralUpTo c d → stands_before d n p ≡ true → stands_before c n p ≡ true
+earlier_stands c d n p h is = stands_test c.statement c.place n p (stands_too c.statement n p c.place d.statement d.place h (stands_says d.statement d.place n p is))
+
+-- what stands before a mark stands before each that is not behind it
+mark_stands : (c : ConstText) (m k : Mark) → MarkUpTo m k → stands_before c m.statement m.place ≡ true → stands_before c k.statement k.place ≡ true
+mark_stands c m k h is = stands_test c.statement c.place k.statement k.place (later c.statement c.place (stands_says c.statement c.place m.statement m.place is))
+  where
+    later : (a b : ℕ) → (a < m.statement) ⊎ ((a ≡ m.statement) × (b < m.place)) → (a < k.statement) ⊎ ((a ≡ k.statement) × (b < k.place))
+    later a b (inl g) = elim h [
+      | inl less ↦ inl (omega arith)
+      | inr same ↦ let is = same.0 in inl (omega arith)
+    ]
+    later a b (inr g) = elim h [
+      | inl less ↦ let is = g.0 in inl (omega arith)
+      | inr same ↦ let to = same.1 in let below = g.1 in inr (g.0 ∙ same.0, omega arith)
+    ]
+
+module _ (m : Mark) where
+  choice_none : (b : Bool) (c d : ConstText) (cs : List ConstText) → LiteralUpTo c d → stands_before c m.statement m.place ≡ false → filter (λ x. stands_before x m.statement m.place) cs ≡ [] → stands_before d m.statement m.place ≡ b → filter (λ x. stands_before x m.statement m.place) (d ∷ cs) ≡ []
+  choice_none true c d cs h not rest is = let there = earlier_stands c d m.statement m.place h is in absurd (cc (not, there))
+  choice_none false c d cs h not rest is = rw is rest
+
+  -- where a literal does not stand before the mark, none that follows does
+  none_stands : (c : ConstText) (cs : List ConstText) → Each (LiteralUpTo c) cs → stands_before c m.statement m.place ≡ false → filter (λ x. stands_before x m.statement m.place) cs ≡ []
+  none_stands c [] later not = refl
+  none_stands c (d ∷ cs) later not = choice_none (stands_before d m.statement m.place) c d cs later.0 not (none_stands c cs later.1 not) refl
+
+  module _ (next : List ConstText → List CheckParts) where
+    choice_here : (b : Bool) (c : ConstText) (cs : List ConstText) → Rises LiteralUpTo (c ∷ cs) → IsCutAt (up_to next m cs) [] m cs → stands_before c m.statement m.place ≡ b → IsCutAt (up_to next m (c ∷ cs)) [] m (c ∷ cs)
+    choice_here true c cs rises cut is = rw is (record {
+      first = literal c ∷ cut.first;
+      last = cut.last;
+      parts = ap (λ (l : List CheckParts). literal c ∷ l) cut.parts;
+      marks = cut.marks;
+      read = rw is (ap (λ (l : List ConstText). c ∷ l) cut.read);
+    })
+    choice_here false c cs rises cut is = rw is (record {
+      first = [];
+      last = next (c ∷ cs);
+      parts = refl;
+      marks = refl;
+      read = rw is (sym (none_stands c cs rises.0 is));
+    })
+
+    -- the next mark is the one
+    cut_here : (cs : List ConstText) → Rises LiteralUpTo cs → IsCutAt (up_to next m cs) [] m cs
+    cut_here [] rises = record { first = []; last = next []; parts = refl; marks = refl; read = refl }
+    cut_here (c ∷ cs) rises = choice_here (stands_before c m.statement m.place) c cs rises (cut_here cs rises.1) refl
+
+    module _ (k : Mark) (none : literal_of k.check ≡ []) (to : MarkUpTo k m) (before : List Mark) (cut_next : (cs : List ConstText) → Rises LiteralUpTo cs → IsCutAt (next cs) before m cs) where
+      behind : (cs : List ConstText) → Rises LiteralUpTo cs → IsCutAt (k.check ∷ next cs) (k ∷ before) m cs
+      behind cs rises =
+          let cut = cut_next cs rises in
+          record {
+            first = k.check ∷ cut.first;
+            last = cut.last;
+            parts = ap (λ (l : List CheckParts). k.check ∷ l) cut.parts;
+            marks = rw (own_mark k.check none) (ap (λ (l : List CheckParts). k.check ∷ l) cut.marks);
+            read = rw none cut.read;
+          }
+
+      choice_later : (b : Bool) (c : ConstText) (cs : List ConstText) → Rises LiteralUpTo (c ∷ cs) → IsCutAt (up_to next k cs) (k ∷ before) m cs → stands_before c k.statement k.place ≡ b
+          → IsCutAt (up_to next k (c ∷ cs)) (k ∷ before) m (c ∷ cs)
+      choice_later true c cs rises cut is = rw is (record {
+        first = literal c ∷ cut.first;
+        last = cut.last;
+        parts = ap (λ (l : List CheckParts). literal c ∷ l) cut.parts;
+        marks = cut.marks;
+        read = rw (mark_stands c k m to is) (ap (λ (l : List ConstText). c ∷ l) cut.read);
+      })
+      choice_later false c cs rises cut is = rw is (behind (c ∷ cs) rises)
+
+      -- another mark comes first
+      cut_later : (cs : List ConstText) → Rises LiteralUpTo cs → IsCutAt (up_to next k cs) (k ∷ before) m cs
+      cut_later [] rises = behind [] rises
+      cut_later (c ∷ cs) rises = choice_later (stands_before c k.statement k.place) c cs rises (cut_later cs rises.1) refl
+
+-- what holds of each of a list holds of one in it
+one_of : {A : Type 0} (P : A → Type 0) (before after : List A) (x : A) → Each P (before ++ x ∷ after) → P x
+one_of P [] after x h = h.0
+one_of P (y ∷ before) after x h = one_of P before after x h.1
+
+cut_at : (before after : List Mark) (m : Mark) → NoLiterals (before ++ m ∷ after) → Rises MarkUpTo (before ++ m ∷ after) → (cs : List ConstText) → Rises LiteralUpTo cs → IsCutAt (in_order (before ++ m ∷ after) cs) before m cs
+cut_at [] after m none rises cs written = cut_here m (in_order after) cs written
+cut_at (k ∷ before) after m none rises cs written =
+    cut_later m (in_order (before ++ m ∷ after)) k none.0 (one_of (MarkUpTo k) before after m rises.0) before (λ ds later. cut_at before after m none.1 rises.1 ds later) cs written
+
+-- the marks of a script that is written in order rise
+each_map : {A B : Type 0} (P : A → Type 0) (Q : B → Type 0) (f : A → B) → ((x : A) → P x → Q (f x)) → (xs : List A) → Each P xs → Each Q (map f xs)
+each_map P Q f on [] h = tt
+each_map P Q f on (x ∷ xs) h = (on x h.0, each_map P Q f on xs h.1)
+
+brackets_rise : (t n : ℕ) (places : List ℕ) → Rises (λ p q. p ≤ q) places → Rises MarkUpTo (map (bracket t n) places)
+brackets_rise t n [] h = tt
+brackets_rise t n (p ∷ ps) h = (each_map (λ q. p ≤ q) (MarkUpTo (bracket t n p)) (bracket t n) (λ q le. inr (refl, le)) ps h.0, brackets_rise t n ps h.1)
+
+own_rise : (n : ℕ) (s : StatementOut) → HasRisingRows s → Rises MarkUpTo (marks_of n s)
+own_rise n nothing h = tt
+own_rise n (new_table t name columns) h = (tt, tt)
+own_rise n (new_index t c name) h = tt
+own_rise n (new_rows t rows places) h = brackets_rise t n places h
+own_rise n (rows_from t name) h = (tt, tt)
+own_rise n (query s) h = tt
+own_rise n (plan_of s) h = tt
+
+-- the marks of a statement stand in it
+abbrev StandsIn : ℕ → Mark → Type 0
+StandsIn n m = m.statement ≡ n
+
+abbrev StandsFrom : ℕ → Mark → Type 0
+StandsFrom n m = n ≤ m.statement
+
+brackets_stand : (t n : ℕ) (places : List ℕ) → Each (StandsIn n) (map (bracket t n) places)
+brackets_stand t n [] = tt
+brackets_stand t n (p ∷ ps) = (refl, brackets_stand t n ps)
+
+own_stand : (n : ℕ) (s : StatementOut) → Each (StandsIn n) (marks_of n s)
+own_stand n nothing = tt
+own_stand n (new_table t name columns) = (refl, tt)
+own_stand n (new_index t c name) = tt
+own_stand n (new_rows t rows places) = brackets_stand t n places
+own_stand n (rows_from t name) = (refl, tt)
+own_stand n (query s) = tt
+own_stand n (plan_of s) = tt
+
+each_on : {A : Type 0} (P Q : A → Type 0) → ((x : A) → P x → Q x) → (xs : List A) → Each P xs → Each Q xs
+each_on P Q on [] h = tt
+each_on P Q on (x ∷ xs) h = (on x h.0, each_on P Q on xs h.1)
+
+each_both : {A : Type 0} (P : A → Type 0) (xs ys : List A) → Each P xs → Each P ys → Each P (xs ++ ys)
+each_both P [] ys h k = k
+each_both P (x ∷ xs) ys h k = (h.0, each_both P xs ys h.1 k)
+
+all_stand : (n : ℕ) (ss : List StatementOut) → Each (StandsFrom n) (marks_from n ss)
+all_stand n [] = tt
+all_stand n (s ∷ ss) =
+    each_both (StandsFrom n) (marks_of n s) (marks_from (n + 1) ss)
+    (each_on (StandsIn n) (StandsFrom n) (λ m is. omega arith) (marks_of n s) (own_stand n s))
+    (each_on (StandsFrom (n + 1)) (StandsFrom n) (λ m le. omega arith) (marks_from (n + 1) ss) (all_stand (n + 1) ss))
+
+-- marks of one statement, and then marks of later ones
+both_rise : (n : ℕ) (ms ks : List Mark) → Rises MarkUpTo ms → Each (StandsIn n) ms → Rises MarkUpTo ks → Each (StandsFrom (n + 1)) ks → Rises MarkUpTo (ms ++ ks)
+both_rise n [] ks h own k later = k
+both_rise n (m ∷ ms) ks h own k later =
+    let is = own.0 in
+    (each_both (MarkUpTo m) ms ks h.0 (each_on (StandsFrom (n + 1)) (MarkUpTo m) (λ x le. inl (omega arith)) ks later), both_rise n ms ks h.1 own.1 k later)
+
+all_rise : (n : ℕ) (ss : List StatementOut) → Each HasRisingRows ss → Rises MarkUpTo (marks_from n ss)
+all_rise n [] h = tt
+all_rise n (s ∷ ss) h = both_rise n (marks_of n s) (marks_from (n + 1) ss) (own_rise n s h.0) (own_stand n s) (all_rise (n + 1) ss h.1) (all_stand (n + 1) ss)
+
+pub looks_in_order : LooksInOrder
+looks_in_order out written before after m is =
+    let none = subst NoLiterals is (no_all 1 out.statements) in
+    let rises = subst (Rises MarkUpTo) is (all_rise 1 out.statements written.rows) in
+    subst (λ ms. IsCutAt (in_order ms out.consts) before m out.consts) (sym is) (cut_at before after m none rises out.consts written.literals)

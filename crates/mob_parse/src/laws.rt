@@ -1,0 +1,18 @@
+//! Laws of scripts as texts. Each is proved for every text; calling one does nothing.
+ghost use Rattle.mob_parse.specs.Refusals.{HasOneRefusal, IsTreeOrRefused};
+ghost use Rattle.mob_parse.specs.Words.{NamesAreRead, SignsAreRead, TokensAreSigns, WordsAreRead};
+
+/// A word is read as a reserved word exactly where it is that one, in letters of either case, and else as a name; each sign
+/// is read as itself, and `!=` as `<>`.
+pub fn marks_are_read()
+    ensures words { WordsAreRead }
+    ensures names { NamesAreRead }
+    ensures signs { SignsAreRead }
+    ensures tokens { TokensAreSigns }
+{}
+
+/// A script has one first refusal, and none where it has a tree; want of memory aside.
+pub fn one_refusal()
+    ensures refusal { HasOneRefusal }
+    ensures apart { IsTreeOrRefused }
+{}

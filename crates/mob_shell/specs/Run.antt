@@ -1,0 +1,55 @@
+-- What a run promises: what its status says of what it was given and what it did, and what asks for a status.
+use Rattle.std.specs.Prelude.{◌≡◌, ◌⊎◌, ◌≤◌, ℕ, List}
+use Rattle.std.specs.Io.KnownBytes.{Keeps}
+use Rattle.mob_outside.specs.Told.{KeepsFiles}
+use Rattle.mob_streams.specs.Streams.{ReadsPart}
+use Rattle.mob_accept.specs.Accepts.{script_limit}
+use Rattle.mob_ending.specs.Lines.{line_of, status_of}
+use Rattle.mob_ending.specs.declared.ending.Ending.{Ending}
+use Rattle.mob_shell.specs.Ending.{AsksInOrder, Causes, CutsShort, Gives, IsFaultless, IsOverflow, IsReadFault, IsScriptRefused, IsTableFault, IsUsage, Seen, Writes}
+
+-- the status and the note are those of this ending
+pub record EndsSo (ending : Ending) (status : ℕ) (Noted : List ℕ → Type 0) : Type 0 where
+  pub number : status ≡ status_of ending
+  pub noted : Noted (line_of ending)
+
+-- The note is the line of the ending with this status and its cause. What is noted of a line says `Noted`.
+pub record IsTold (status : ℕ) (s : Seen) (Noted : List ℕ → Type 0) : Type 0 where
+  pub ending : Ending
+  pub number : status ≡ status_of ending
+  pub cause : Causes ending s
+  pub noted : Noted (line_of ending)
+
+-- A run with this status, by what was seen of it and of its note.
+pub record IsRun (status : ℕ) (s : Seen) (Noted : List ℕ → Type 0) : Type 0 where
+  -- 0: the script was read to its end, it is a program, and the answers of all its statements were written whole
+  pub written : status ≡ 0 → Writes s
+  -- 2: only by the words; and words that are not taken give 2, but for want of memory
+  pub usage : status ≡ 2 → IsUsage s.words
+  pub exactly_usage : IsUsage s.words → (status ≡ 2) ⊎ (status ≡ 5)
+  -- 3: only where the count of the script rose; or that of the files, which were asked last for the file of a COPY statement
+  pub read_fault : status ≡ 3 → IsReadFault s
+  -- 4: only where the count of `out` rose, which took a proper prefix of the answers of some statements
+  pub write_fault : status ≡ 4 → CutsShort s
+  -- 6: only where the first refusal stands in a table file, that of a COPY statement, which was asked for last
+  pub table_refused : status ≡ 6 → IsTableFault s
+  -- 7: only where the first refusal stands in the script
+  pub script_refused : status ≡ 7 → IsScriptRefused s
+  -- 8: only where the named formula at the named statement, tuple and place has a part that does not fit; `out` took exactly the
+  -- answers before
+  pub overflow : status ≡ 8 → IsOverflow s
+  -- under 2, 3, 6 and 7 nothing is written
+  pub silent : (status ≡ 2) ⊎ ((status ≡ 3) ⊎ ((status ≡ 6) ⊎ (status ≡ 7))) → Keeps s.out_before s.out_now
+  -- The other way, for a script and files that are told, where no count of the script, the files and `out` rose: where the
+  -- definitions ask for an ending, the status and the note are its own. Want of memory is free.
+  pub complete : (ending : Ending) → Gives s ending → IsFaultless s → EndsSo ending status Noted ⊎ (status ≡ 5)
+  -- under every status: at most one byte past the limit is taken from the script, the files are asked for the names of the
+  -- script's COPY statements alone, in order, the files that are told stay as they were, and no count of faults falls
+  pub reads : ReadsPart script_limit s.script s.rest
+  pub asked : AsksInOrder s
+  pub files : KeepsFiles s.files s.files_now
+  pub read_later : s.read_before ≤ s.read_now
+  pub filed_later : s.filed_before ≤ s.filed_now
+  pub put_later : s.put_before ≤ s.put_now
+  -- the note is the line of the ending with this status and this cause
+  pub note : IsTold status s Noted
