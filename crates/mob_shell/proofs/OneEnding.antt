@@ -24,7 +24,7 @@ pub record AreLaws : Type 0 where
   pub stopped : EndsOrStops
 
 -- how a script ends whose literals and files are not read
-ending_of : Halt → Ending
+abbrev ending_of : Halt → Ending
 ending_of (refused e) = ScriptRefused e
 ending_of (table_refused name kind rec field) = TableRefused name kind rec field
 ending_of (missing file) = ReadFault (Some file)
