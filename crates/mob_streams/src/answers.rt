@@ -1,6 +1,7 @@
 // Statements that run one after another, each with the text of its answer.
-ghost use Rattle.std.specs.Prelude.{◌≤◌, IfOk, IfErr, List, ℕ};
-ghost use Rattle.mob_streams.specs.Answers.{Ends, Halted, OnFault};
+ghost use Rattle.std.specs.Prelude.{◌≡◌, ◌≤◌, IfOk, IfErr, List, ℕ, length};
+ghost use Rattle.mob_streams.specs.Answers.{Ends, Halted, OnFault, RanFirst};
+ghost use Rattle.mob_streams.specs.declared.answers.RunEnd.TheVariants.{Done};
 
 use crate::streams::put_all;
 use mob_outside::Sink;
@@ -52,7 +53,8 @@ pub trait Engine {
         ensures fault { IfErr result (OnFault (λ f. stops self.old statement.now f)) };
 }
 
-/// Runs all statements, and puts each answer before the next statement runs.
+/// Runs all statements, and puts each answer before the next statement runs. Where all ran, the engine is left as the
+/// last of them left it.
 pub fn run_all<E: Engine, K: Sink>(
     alloc: Global,
     engine: &mut E,
@@ -61,6 +63,7 @@ pub fn run_all<E: Engine, K: Sink>(
 ) -> RunEnd<E::Fault>
     ensures ends { Ends E.step E.stops engine.old statements.now (K.held out.old) (K.held out.new) (K.faults out.old) (K.faults out.new) result }
     ensures later { K.faults out.old ≤ K.faults out.new }
+    ensures left { result ≡ Done → RanFirst E.step engine.old statements.now (length statements.now) engine.new (K.held out.old) (K.held out.new) }
 {
     let mut number: u32 = 1;
     for statement in statements {
