@@ -1,10 +1,9 @@
 //! Expressions, rank by rank.
 ghost use Rattle.std.specs.Prelude.{◌≡◌, ◌<◌, ◌≤◌, false, length, map, OnOk};
 ghost use Rattle.mob_ast.specs.Trees.{tree_of};
-ghost use Rattle.mob_grammar.specs.Reading.{chain, expression_at, cast_rank, signed_rank, complement_rank, comparison_rank, nullness_rank, negation_rank, primary, named_at, opened, args, listed, type_at, name_at, inner_at, null_at, is_literal, literal_at, column_at};
+ghost use Rattle.mob_grammar.specs.Reading.{chain, expression_at, cast_rank, signed_rank, complement_rank, comparison_rank, nullness_rank, negation_rank, primary, named_at, opened, args, listed, type_at, name_at, inner_at, null_at, literal_at, column_at};
 ghost use Rattle.mob_grammar.specs.Symbols.{begins, starts, is_name, is_string};
 ghost use Rattle.mob_parse.specs.Columns.{column_alone};
-ghost use Rattle.mob_parse.specs.Lexemes.{lower};
 ghost use Rattle.mob_parse.specs.Cursors.{left, Gives};
 ghost use Rattle.mob_parse.specs.Levels.{level_number, operand_at};
 

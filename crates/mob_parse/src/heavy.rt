@@ -1,6 +1,6 @@
 //! Expressions with more counted tokens than there may be.
 ghost use Rattle.std.specs.Prelude.{◌≡◌, ◌<◌, ◌≤◌, ◌+◌, ◌^◌, length, IfSome};
-ghost use Rattle.mob_grammar.specs.Weights.{outside, counts, mark_counts, mark_ends, is_function};
+ghost use Rattle.mob_grammar.specs.Weights.{counts, mark_counts, mark_ends, is_function};
 ghost use Rattle.mob_parse.specs.Lexemes.{tok_of, toks};
 ghost use Rattle.mob_parse.specs.Heavy.{ends, depth_after, selects_after, weight_after, standing_after, is_heavy, first_heavy};
 ghost use Rattle.mob_parse.specs.Standings.{standing_of};

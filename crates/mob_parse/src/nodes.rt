@@ -1,11 +1,11 @@
 //! Words, types and nodes of the trees.
-ghost use Rattle.std.specs.Prelude.{◌≡◌, ◌<◌, ◌∷◌, ◌++◌, IfOk, OnOk, OnErr, Some, None, length, map, string_bytes};
-ghost use Rattle.mob_ast.specs.Trees.{tree_of, trees_of, tree, none, more};
+ghost use Rattle.std.specs.Prelude.{◌≡◌, ◌<◌, IfOk, Some, None};
+ghost use Rattle.mob_ast.specs.Trees.{tree_of, tree, none, more};
 ghost use Rattle.mob_grammar.specs.Symbols.{mark_node};
 ghost use Rattle.mob_parse.specs.Lexemes.{lower, without_quote, unquoted};
 
 use mob_ast::expression::{Expr, Node};
-use mob_ast::types::{Quoted, Word};
+use mob_ast::types::Word;
 use mob_grammar::mark::Mark;
 use mob_list::text::Text;
 use std::alloc::{AllocError, Global};

@@ -177,6 +177,22 @@ fn show_columns(
     into.push(';')
 }
 
+fn show_index(
+    alloc: Global,
+    name: &Word,
+    table: &Word,
+    column: &Word,
+    into: &mut String,
+) -> Result<(), AllocError> {
+    into.push_str("index ")?;
+    show_word(alloc, name, into)?;
+    into.push_str(" on ")?;
+    show_word(alloc, table, into)?;
+    into.push('.')?;
+    show_word(alloc, column, into)?;
+    into.push(';')
+}
+
 fn show_row(alloc: Global, row: &Row, into: &mut String) -> Result<(), AllocError> {
     into.push_str(" row")?;
     show_place(alloc, row.place, into)?;
@@ -222,15 +238,7 @@ pub fn show_statement(
             name,
             table,
             column,
-        } => {
-            into.push_str("index ")?;
-            show_word(alloc, name, into)?;
-            into.push_str(" on ")?;
-            show_word(alloc, table, into)?;
-            into.push('.')?;
-            show_word(alloc, column, into)?;
-            into.push(';')
-        }
+        } => show_index(alloc, name, table, column, into),
         Statement::Insert { table, rows } => {
             into.push_str("insert ")?;
             show_word(alloc, table, into)?;

@@ -1,14 +1,14 @@
 //! Statements, production by production.
-ghost use Rattle.std.specs.Prelude.{◌≡◌, ◌≤◌, Ok, length, map, OnOk, option_map};
-ghost use Rattle.mob_ast.specs.Trees.{tree_of, row_of, item_of, key_of, select_of, statement_of, insert, copy, create_table, create_index};
+ghost use Rattle.std.specs.Prelude.{◌≡◌, ◌≤◌, Ok, length, map, OnOk};
+ghost use Rattle.mob_ast.specs.Trees.{tree_of, row_of, statement_of};
 ghost use Rattle.mob_grammar.specs.Symbols.{begins};
-ghost use Rattle.mob_grammar.specs.Reading.{is_number, is_plus_or_minus, string_at, number_at, signed_number_at, number_leaf_at, string_leaf_at, word_leaf_at, const_at, row_at, column_type_at, create_table_at, index_table_at, create_index_at, create_at, insert_at, header_at, format_at, delimiter_at, copy_form_at, copy_at, second_name_at, from_entry_at, alias_at, item_at, direction_at, key_at, distinct_at, from_at, where_at, order_at, limit_at, select_at, select_statement_at, explain_at, statement_at, listed, closed, after};
+ghost use Rattle.mob_grammar.specs.Reading.{is_number, is_plus_or_minus, string_at, number_at, signed_number_at, number_leaf_at, string_leaf_at, word_leaf_at, const_at, row_at, column_type_at, create_table_at, index_table_at, create_index_at, create_at, insert_at, header_at, format_at, delimiter_at, copy_form_at, copy_at, listed, closed, after};
 ghost use Rattle.mob_parse.specs.Cursors.{left, Gives};
 
 use crate::cursor::{Cursor, Fault};
-use crate::nodes::{leaf, number_word, operator, single, unquoted_text, word};
+use crate::nodes::{leaf, number_word, operator, single, unquoted_text};
 use mob_ast::expression::{Expr, Node};
-use mob_ast::statement::{FromTable, Item, Key, Row, SelectTree, Statement};
+use mob_ast::statement::{Row, Statement};
 use mob_ast::types::{Quoted, TypeWord, Word};
 use mob_grammar::mark::Mark;
 use mob_list::items::Items;
