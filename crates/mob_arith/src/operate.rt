@@ -126,6 +126,7 @@ pub fn beside<A: BaseValue + Drop, B: BaseValue + Drop, O: Operation<A, B>>(
     ensures passes { Refuses O.parts_of (value_at steady_value a.now) (λ t. Some b.now) result }
 {
     let slices = on_left::<A, B, O>(alloc, a, b)?;
+    // That `a` has a slice, so that the result has one, is known by this call.
     let _ = a.slices();
     match normal(alloc, slices) {
         Ok(Some(value)) => Ok(value),

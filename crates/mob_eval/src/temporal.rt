@@ -1,4 +1,6 @@
 //! Temporal values as values of SQL.
+//!
+//! That the slices of a value are normal is a clause of `slices`, so each function calls it.
 ghost use Rattle.std.specs.Prelude.{◌≡◌, MatchOption};
 ghost use Rattle.mob_ratio.specs.Order.{same};
 ghost use Rattle.mob_slice.specs.Sameness.{same_bool, same_bytes};

@@ -43,7 +43,8 @@ fn records_text(alloc: Global, names: &[Text], rows: &[Items<Text>]) -> Result<V
     }
 }
 
-// One record. Over memory the writer fails for want of memory alone, since records may differ in length.
+// One record. Over memory the writer fails for want of memory alone, since records may differ in length; `csv` states no cause of
+// an error of a writer, so this is no clause.
 fn write_record(
     alloc: Global,
     writer: &mut Writer<Vec<u8>>,
