@@ -57,9 +57,10 @@ pub fn refusal_kind(fault: ReadText) -> Option<Kind>
     }
 }
 
-// The fault of the field of this number.
+// The fault of the field of this number. Want of memory is that of the text alone.
 pub fn field_fault(fault: ReadText, rec: u32, field: u32) -> LoadFault
     ensures refused { OnRefused (λ w. (Refuses fault w.kind) × (w.rec ≡ rec) × (w.field ≡ field)) result }
+    ensures memory { result ≡ LoadFault.NoMemory → fault ≡ ReadText.NoMemory }
 {
     match refusal_kind(fault) {
         Some(kind) => LoadFault::Refused { kind, rec, field },
@@ -70,6 +71,7 @@ pub fn field_fault(fault: ReadText, rec: u32, field: u32) -> LoadFault
 // The fault of the whole record of this number.
 pub fn record_fault(kind: Kind, rec: u32) -> LoadFault
     ensures refused { OnRefused (λ w. w ≡ wrong kind rec 0) result }
+    ensures exact { result ≡ LoadFault.Refused kind rec 0 }
 {
     LoadFault::Refused {
         kind,

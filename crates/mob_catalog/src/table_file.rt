@@ -1,10 +1,10 @@
 // The rows of a table file.
-ghost use Rattle.std.specs.Prelude.{◌≤◌, ◌<◌, ◌+◌, ◌^◌, IfErr, IfOk, length, map};
+ghost use Rattle.std.specs.Prelude.{◌≡◌, ◌≤◌, ◌<◌, ◌+◌, ◌^◌, Err, IfErr, IfOk, length, map};
 ghost use Rattle.std.specs.List.{AllZip};
 ghost use Rattle.csv.specs.Records.{fields_of};
 ghost use Rattle.mob_catalog.specs.Faults.{OnRefused};
 ghost use Rattle.mob_catalog.specs.FirstFault.{IsFirstFault};
-ghost use Rattle.mob_catalog.specs.TableFile.{FileFails, IsRow, IsTable, RecordFails};
+ghost use Rattle.mob_catalog.specs.TableFile.{FileFails, IsRow, IsTable, RecordFails, file_limit};
 
 use crate::fault::{LoadFault, record_fault};
 use crate::header::below_header;
@@ -68,6 +68,9 @@ pub fn read_table(
     requires most { length columns.now ≤ 64 }
     ensures table { IfOk result (IsTable columns.now epoch.now room bytes.now) }
     ensures first_fault { IfErr result (OnRefused (FileFails columns.now epoch.now room bytes.now)) }
+
+    // The length is judged before any memory is asked for.
+    ensures too_long { file_limit < length bytes.now → result ≡ Err (LoadFault.Refused Kind.Limit 0 0) }
 {
     if bytes.len() > FILE_LIMIT {
         return Err(record_fault(Kind::Limit, 0));
