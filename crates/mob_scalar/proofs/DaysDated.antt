@@ -4,12 +4,15 @@ use Rattle.std.specs.Int.Signed.{le_z}
 use Rattle.std.specs.Int.{IsInRange}
 use Rattle.std.proofs.lemmas.Bool.{cases_lt}
 use Rattle.std.proofs.lemmas.Int.{ints}
+use Rattle.jiff_core.specs.declared.civil.date.Date.{Date}
+use Rattle.jiff_core.specs.Date.{epoch_day}
 use Rattle.jiff_core.specs.Calendar.{days_from_civil, days_in_month}
 use Rattle.jiff_core.proofs.CalendarLemmas.{day_count-end, days_from_civil-day_count, days_in_month_bounds}
-use Rattle.jiff_core.proofs.DateLemmas.{days_from_civil-day, days_from_civil-next_month, days_from_civil-next_year}
+use Rattle.jiff_core.proofs.DateLemmas.{epoch_day_injective, days_from_civil-day, days_from_civil-next_month, days_from_civil-next_year}
 use Rattle.jiff_core.proofs.SignedLemmas.{signed_arith}
+use Rattle.mob_scalar.specs.declared.civil.Civil.{Civil}
 use Rattle.mob_scalar.specs.Calendar.{is_civil, day_of, last_of, year_of, month_of, place_in, date_of, IsInYears}
-use Rattle.mob_scalar.proofs.Dates.{first, civil_again, le_yes}
+use Rattle.mob_scalar.proofs.Dates.{first, civil_again, le_yes, dated, as_civil}
 
 -- the greatest number up to n that passes the test, where 1 does
 record IsLast (test : ℕ → Bool) (n k : ℕ) : Type 0 where
@@ -147,3 +150,16 @@ date_there day h =
       there = civil_again y m d (record { from = in_year.from; to = in_year.to; month = in_month.month; day = place.within });
       same = place.same;
     }
+
+-- a date of the calendar with that day is that date: no other has its day
+pub date_of_day : (d : Date) (day : ℤ) → epoch_day d ≡ day → IsInYears day → ◌≡◌ {A = Civil} (record { year = unsigned_abs d.year; month = d.month; day = d.day }) (date_of day)
+date_of_day d day e h =
+    let c = date_of day in
+    let its = date_there day h in
+    let parts = dated c its.there in
+    let as_date : Date = record { year = pos c.year; month = c.month; day = c.day; year_in = (as_civil c.year c.month c.day parts).0; month_in = parts.month; day_in = parts.day } in
+    let same = epoch_day_injective d as_date (e ∙ sym its.same) in
+    equal (ap unsigned_abs same.0) same.1 same.2
+  where
+    equal : {y m k y' m' k' : ℕ} → y ≡ y' → m ≡ m' → k ≡ k' → ◌≡◌ {A = Civil} (record { year = y; month = m; day = k }) (record { year = y'; month = m'; day = k' })
+    equal a b e = λ i. record { year = a i; month = b i; day = e i }
