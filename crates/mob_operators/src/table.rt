@@ -94,7 +94,7 @@ const TEMPORAL: &'static [SqlType] = &[
 
 const TIME: &'static [SqlType] = &[SqlType::Moment, SqlType::Span, SqlType::SpanSet];
 
-const PLACE: &'static [SqlType] = &[SqlType::Box, SqlType::TPoint];
+const BOXED: &'static [SqlType] = &[SqlType::Box, SqlType::TPoint];
 
 const PRINTED: &'static [SqlType] = &[
     SqlType::TBool,
@@ -109,6 +109,7 @@ const PRINTED: &'static [SqlType] = &[
     SqlType::Box,
 ];
 
+// All types but polygons have `=`.
 const COMPARED: &'static [SqlType] = &[
     SqlType::Bool,
     SqlType::Int,
@@ -144,8 +145,10 @@ const ANY: &'static [SqlType] = &[
     SqlType::TPoint,
 ];
 
-// The names of six comparisons, or of some of them.
-const TESTS: &'static [(&'static str, Op)] = &[("=", Op::Test(Cmp::Eq)), ("<>", Op::Test(Cmp::Ne))];
+const EQUALS: &'static [(&'static str, Op)] = &[
+    ("=", Op::Test(Cmp::Eq)),
+    ("<>", Op::Test(Cmp::Ne)),
+];
 
 const ORDERS: &'static [(&'static str, Op)] = &[
     ("<", Op::Test(Cmp::Lt)),
@@ -154,7 +157,7 @@ const ORDERS: &'static [(&'static str, Op)] = &[
     (">=", Op::Test(Cmp::Ge)),
 ];
 
-const LIFTED_TESTS: &'static [(&'static str, Op)] = &[
+const LIFTED_EQUALS: &'static [(&'static str, Op)] = &[
     ("#=", Op::Lifted(Cmp::Eq)),
     ("#<>", Op::Lifted(Cmp::Ne)),
 ];
@@ -166,14 +169,15 @@ const LIFTED_ORDERS: &'static [(&'static str, Op)] = &[
     ("#>=", Op::Lifted(Cmp::Ge)),
 ];
 
-const WHOLE_TESTS: &'static [(&'static str, Op)] = &[
+// `?` asks for some instant and `%` for every instant.
+const EVER_EQUALS: &'static [(&'static str, Op)] = &[
     ("?=", Op::Ever(Cmp::Eq)),
     ("?<>", Op::Ever(Cmp::Ne)),
     ("%=", Op::Always(Cmp::Eq)),
     ("%<>", Op::Always(Cmp::Ne)),
 ];
 
-const WHOLE_ORDERS: &'static [(&'static str, Op)] = &[
+const EVER_ORDERS: &'static [(&'static str, Op)] = &[
     ("?<", Op::Ever(Cmp::Lt)),
     ("?<=", Op::Ever(Cmp::Le)),
     ("?>", Op::Ever(Cmp::Gt)),
@@ -184,11 +188,20 @@ const WHOLE_ORDERS: &'static [(&'static str, Op)] = &[
     ("%>=", Op::Always(Cmp::Ge)),
 ];
 
-const ADDED: &'static [(&'static str, Op)] = &[("+", Op::Add), ("-", Op::Subtract)];
+const SUMS: &'static [(&'static str, Op)] = &[("+", Op::Add), ("-", Op::Subtract)];
 
 const TIMES: &'static [(&'static str, Op)] = &[("*", Op::Multiply)];
 
+const OVER: &'static [(&'static str, Op)] = &[("/", Op::Divide)];
+
 const JOIN: &'static [(&'static str, Op)] = &[("||", Op::Join)];
+
+const AT_VALUES: &'static [(&'static str, Op)] = &[
+    ("atvalues", Op::AtValues),
+    ("minusvalues", Op::MinusValues),
+];
+
+const VALUE_AT: &'static [(&'static str, Op)] = &[("valueattimestamp", Op::ValueAtTimestamp)];
 
 const TO_BOOL: Gives = Gives::Only(SqlType::Bool);
 
@@ -222,17 +235,17 @@ pub static ROWS: [Row; 58] = [
         Free,
         TO_BOOL
     ),
-    row!(Sign, TESTS, [COMPARED, COMPARED], SameType, TO_BOOL),
-    row!(Sign, TESTS, [NUMBER, NUMBER], Free, TO_BOOL),
-    row!(Sign, TESTS, [TNUMBER, TNUMBER], Free, TO_BOOL),
+    row!(Sign, EQUALS, [COMPARED, COMPARED], SameType, TO_BOOL),
+    row!(Sign, EQUALS, [NUMBER, NUMBER], Free, TO_BOOL),
+    row!(Sign, EQUALS, [TNUMBER, TNUMBER], Free, TO_BOOL),
     row!(Sign, ORDERS, [NUMBER, NUMBER], Free, TO_BOOL),
     row!(Sign, ORDERS, [TEXT, TEXT], Free, TO_BOOL),
     row!(Sign, ORDERS, [MOMENT, MOMENT], Free, TO_BOOL),
-    row!(Sign, ADDED, [NUMBER, NUMBER], Free, TO_NUMBER),
+    row!(Sign, SUMS, [NUMBER, NUMBER], Free, TO_NUMBER),
     row!(Sign, TIMES, [NUMBER, NUMBER], Free, TO_NUMBER),
     row!(
         Sign,
-        &[("/", Op::Divide)],
+        OVER,
         [NUMBER, NUMBER],
         ByLiteral,
         Gives::Only(SqlType::Numeric)
@@ -246,7 +259,7 @@ pub static ROWS: [Row; 58] = [
     ),
     row!(
         Sign,
-        ADDED,
+        SUMS,
         [NUMBER_KIND, NUMBER_KIND],
         OneMoving,
         TO_TNUMBER
@@ -257,7 +270,7 @@ pub static ROWS: [Row; 58] = [
     row!(Sign, TIMES, [TFRAC, TINT], Free, TO_TNUMBER),
     row!(
         Sign,
-        &[("/", Op::Divide)],
+        OVER,
         [TNUMBER, NUMBER],
         ByLiteral,
         Gives::Only(SqlType::TFrac)
@@ -280,28 +293,28 @@ pub static ROWS: [Row; 58] = [
     row!(Sign, &[("~", Op::LiftedNot)], [TBOOL], Free, TO_TBOOL),
     row!(
         Sign,
-        LIFTED_TESTS,
+        LIFTED_EQUALS,
         [BOOL_KIND, BOOL_KIND],
         OneMoving,
         TO_TBOOL
     ),
     row!(
         Sign,
-        LIFTED_TESTS,
+        LIFTED_EQUALS,
         [NUMBER_KIND, NUMBER_KIND],
         OneMoving,
         TO_TBOOL
     ),
     row!(
         Sign,
-        LIFTED_TESTS,
+        LIFTED_EQUALS,
         [TEXT_KIND, TEXT_KIND],
         OneMoving,
         TO_TBOOL
     ),
     row!(
         Sign,
-        LIFTED_TESTS,
+        LIFTED_EQUALS,
         [POINT_KIND, POINT_KIND],
         OneMoving,
         TO_TBOOL
@@ -322,47 +335,47 @@ pub static ROWS: [Row; 58] = [
     ),
     row!(
         Sign,
-        WHOLE_TESTS,
+        EVER_EQUALS,
         [BOOL_KIND, BOOL_KIND],
         OneMoving,
         TO_BOOL
     ),
     row!(
         Sign,
-        WHOLE_TESTS,
+        EVER_EQUALS,
         [NUMBER_KIND, NUMBER_KIND],
         OneMoving,
         TO_BOOL
     ),
     row!(
         Sign,
-        WHOLE_TESTS,
+        EVER_EQUALS,
         [TEXT_KIND, TEXT_KIND],
         OneMoving,
         TO_BOOL
     ),
     row!(
         Sign,
-        WHOLE_TESTS,
+        EVER_EQUALS,
         [POINT_KIND, POINT_KIND],
         OneMoving,
         TO_BOOL
     ),
     row!(
         Sign,
-        WHOLE_ORDERS,
+        EVER_ORDERS,
         [NUMBER_KIND, NUMBER_KIND],
         OneMoving,
         TO_BOOL
     ),
     row!(
         Sign,
-        WHOLE_ORDERS,
+        EVER_ORDERS,
         [TEXT_KIND, TEXT_KIND],
         OneMoving,
         TO_BOOL
     ),
-    row!(Sign, &[("&&", Op::Overlap)], [PLACE, PLACE], Free, TO_BOOL),
+    row!(Sign, &[("&&", Op::Overlap)], [BOXED, BOXED], Free, TO_BOOL),
     row!(
         Call,
         &[("attime", Op::AtTime), ("minustime", Op::MinusTime)],
@@ -370,72 +383,36 @@ pub static ROWS: [Row; 58] = [
         Free,
         Gives::First
     ),
+    row!(Call, AT_VALUES, [TBOOL, BOOL], Free, Gives::First),
+    row!(Call, AT_VALUES, [TINT, INT], Free, Gives::First),
+    row!(Call, AT_VALUES, [TFRAC, NUMBER], Free, Gives::First),
+    row!(Call, AT_VALUES, [TTEXT, TEXT], Free, Gives::First),
+    row!(Call, AT_VALUES, [TPOINT, POINT], Free, Gives::First),
+    row!(Call, VALUE_AT, [TBOOL, MOMENT], Free, TO_BOOL),
     row!(
         Call,
-        &[("atvalues", Op::AtValues), ("minusvalues", Op::MinusValues)],
-        [TBOOL, BOOL],
-        Free,
-        Gives::First
-    ),
-    row!(
-        Call,
-        &[("atvalues", Op::AtValues), ("minusvalues", Op::MinusValues)],
-        [TINT, INT],
-        Free,
-        Gives::First
-    ),
-    row!(
-        Call,
-        &[("atvalues", Op::AtValues), ("minusvalues", Op::MinusValues)],
-        [TFRAC, NUMBER],
-        Free,
-        Gives::First
-    ),
-    row!(
-        Call,
-        &[("atvalues", Op::AtValues), ("minusvalues", Op::MinusValues)],
-        [TTEXT, TEXT],
-        Free,
-        Gives::First
-    ),
-    row!(
-        Call,
-        &[("atvalues", Op::AtValues), ("minusvalues", Op::MinusValues)],
-        [TPOINT, POINT],
-        Free,
-        Gives::First
-    ),
-    row!(
-        Call,
-        &[("valueattimestamp", Op::ValueAtTimestamp)],
-        [TBOOL, MOMENT],
-        Free,
-        TO_BOOL
-    ),
-    row!(
-        Call,
-        &[("valueattimestamp", Op::ValueAtTimestamp)],
+        VALUE_AT,
         [TINT, MOMENT],
         Free,
         Gives::Only(SqlType::Int)
     ),
     row!(
         Call,
-        &[("valueattimestamp", Op::ValueAtTimestamp)],
+        VALUE_AT,
         [TFRAC, MOMENT],
         Free,
         Gives::Only(SqlType::Numeric)
     ),
     row!(
         Call,
-        &[("valueattimestamp", Op::ValueAtTimestamp)],
+        VALUE_AT,
         [TTEXT, MOMENT],
         Free,
         Gives::Only(SqlType::Text)
     ),
     row!(
         Call,
-        &[("valueattimestamp", Op::ValueAtTimestamp)],
+        VALUE_AT,
         [TPOINT, MOMENT],
         Free,
         Gives::Only(SqlType::Point)
@@ -471,7 +448,7 @@ pub static ROWS: [Row; 58] = [
     row!(
         Call,
         &[("expandspace", Op::ExpandSpace)],
-        [PLACE, NUMBER],
+        [BOXED, NUMBER],
         Free,
         Gives::Only(SqlType::Box)
     ),
