@@ -1,15 +1,14 @@
 -- Trees and typed trees as they stand in memory, one level at a time.
 use Rattle.std.proofs.Common.{◌≡◌, ◌<◌, ◌≤◌, length, get_or, arith, ◌∙◌, refl, sym, ap, ℕ, List, [], ◌∷◌, map, Option, None, Bool, true, false, cond}
-use Rattle.std.specs.Prelude.{option_and_then}
 use Rattle.mob_ast.specs.declared.expression.Expr.{Expr}
 use Rattle.mob_ast.specs.declared.expression.Expr.TheViews.{out-Expr}
 use Rattle.mob_ast.specs.declared.expression.Expr.TheFolds.{fold_out-Expr}
-use Rattle.mob_ast.specs.Trees.{Tree, tree, Trees, none as no_trees, more as more_trees, tree_step, tree_of, trees_of}
+use Rattle.mob_ast.specs.Trees.{Tree, tree, tree_step, tree_of, trees_of}
 use Rattle.mob_typing.specs.declared.typed.TExpr.{TExpr}
 use Rattle.mob_typing.specs.declared.typed.TExpr.TheViews.{out-TExpr}
 use Rattle.mob_typing.specs.declared.typed.TExpr.TheFolds.{fold_out-TExpr}
 use Rattle.mob_typing.specs.Trees.{TypedTree, typed, typed_trees, typed_step, typed_of, type_of, types_of}
-use Rattle.mob_typing.specs.Expressions.{is_signed, digits_of, digits_in, signed_digits, only}
+use Rattle.mob_typing.specs.Expressions.{is_signed, digits_of, digits_in, signed_digits}
 use Rattle.mob_ast.specs.declared.expression.Node.TheVariants.{Sign}
 
 pub tree_is : (e : Expr) → tree_of e ≡ tree (out-Expr e).node (out-Expr e).place (trees_of (out-Expr e).args.items)
@@ -26,12 +25,6 @@ types_are (t ∷ ts) = ap (λ xs. type_of (typed_of t) ∷ xs) (types_are ts)
 pub digits_is : (e : Expr) → digits_of (tree_of e) ≡ signed_digits (out-Expr e).node (digits_in (trees_of (out-Expr e).args.items))
 unfolding digits_of
 digits_is e = ap digits_of (tree_is e)
-
-pub digits_in_is : (ts : Trees) → digits_in ts ≡ option_and_then digits_of (only ts)
-unfolding digits_in
-digits_in_is no_trees = refl
-digits_in_is (more_trees t no_trees) = refl
-digits_in_is (more_trees t (more_trees u us)) = refl
 
 pub digits_of_one : (es : List Expr) (x : Expr) → length es < 2 → x ≡ get_or es 0 x → 1 ≤ length es → digits_in (trees_of es) ≡ digits_of (tree_of x)
 unfolding digits_in

@@ -1,7 +1,5 @@
 //! The keys of ORDER BY, the condition of WHERE and the number of LIMIT.
 ghost use Rattle.std.specs.Prelude.{◌≡◌, [], map, IfOk, option_map, slice_get};
-ghost use Rattle.std.specs.List.{list_all};
-ghost use Rattle.std.specs.Char.{is_ascii_digit};
 ghost use Rattle.mob_ast.specs.Trees.{tree_of, key_of};
 ghost use Rattle.mob_typing.specs.Answers.{Answers, Gives};
 ghost use Rattle.mob_typing.specs.Names.{entry_from};
@@ -16,6 +14,7 @@ use crate::operators::type_of;
 use crate::outputs::Outputs;
 use crate::scope::Scope;
 use crate::typed::{ConstText, TExpr};
+use crate::words::has_digits_alone;
 use mob_ast::{Expr, Key, Kind, Node, SqlType, Word};
 use mob_list::items::Items;
 use mob_list::text::Text;
@@ -174,12 +173,6 @@ fn is_limit(text: &[u8]) -> bool
     ensures { result ≡ is_limit text.now }
 {
     has_digits_alone(text) && text.len() >= 1 && text.len() <= 18
-}
-
-fn has_digits_alone(text: &[u8]) -> bool
-    ensures { result ≡ list_all is_ascii_digit text.now }
-{
-    text.iter().all(|b| b.is_ascii_digit())
 }
 
 // The number of 1 to 18 digits; None for another text.

@@ -74,15 +74,16 @@ pub fn type_named(word: &TypeWord) -> Option<SqlType>
 pub fn number_type(text: &str) -> SqlType
     ensures by_digits { result ≡ number_type text.now }
 {
-    if is_whole(text.as_bytes()) {
+    if has_digits_alone(text.as_bytes()) {
         SqlType::Int
     } else {
         SqlType::Numeric
     }
 }
 
-fn is_whole(text: &[u8]) -> bool
-    ensures { result ≡ list_all is_ascii_digit text.now }
+/// Whether all bytes are digits.
+pub fn has_digits_alone(text: &[u8]) -> bool
+    ensures digits { result ≡ list_all is_ascii_digit text.now }
 {
     text.iter().all(|b| b.is_ascii_digit())
 }
