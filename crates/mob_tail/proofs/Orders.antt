@@ -1,27 +1,17 @@
 -- The order of rows is total up to ties.
-use Rattle.std.proofs.Common.{◌≡◌, ℕ, pos, Bool, true, false, cond, List, [], ◌∷◌, refl, sym, ap, ◌∙◌, subst, true≢false}
-use Rattle.std.specs.Cmp.{IsTotalOrder, strict, nat_cmp_total, bool_cmp_total, on_total, back_total, then_total, IsStrictWeakOrder}
-use Rattle.std.specs.Ordering.{bool_cmp, nat_cmp, ordering_then, then_cmp, on, MatchOrdering, is_lt}
+use Rattle.std.proofs.Common.{◌≡◌, ℕ, pos, Bool, true, false, List, [], ◌∷◌, refl, ap, ◌∙◌, subst}
+use Rattle.std.specs.Cmp.{IsTotalOrder, nat_cmp_total, bool_cmp_total, on_total, back_total, then_total, IsStrictWeakOrder}
+use Rattle.std.specs.Ordering.{bool_cmp, nat_cmp, ordering_then, then_cmp, on, is_lt}
 use Rattle.std.specs.declared.cmp.Ordering.{Ordering}
 use Rattle.std.specs.declared.cmp.Ordering.TheVariants.{Less, Equal, Greater}
-use Rattle.std.proofs.lemmas.Cmp.{nat_list_cmp_total}
 use Rattle.std.proofs.lemmas.List.MinMax.{ranks_by}
 use Rattle.mob_ratio.specs.Ratio.{Ratio, over}
-use Rattle.mob_ratio.specs.Order.{before}
-use Rattle.mob_ratio.proofs.Order.{before-self, before-trans, before-neither}
 use Rattle.mob_slice.specs.Ranks.{compare_ratio, compare_bytes}
+use Rattle.mob_slice.specs.RankLaws.{ranking_bytes, ranking_ratio}
 use Rattle.mob_value.specs.declared.value.Value.{Value}
 use Rattle.mob_value.specs.declared.value.Value.TheVariants.{Null, Bool as Truth, Number, Text, Moment, MovingBool, MovingInt, MovingText}
 use Rattle.mob_tail.specs.declared.keyed.Keyed.{Keyed}
 use Rattle.mob_tail.specs.Order.{place_of, compare_values, compare_key, first_key, other_keys, compare_keys, compare_rows}
-
-ratio_ranks : (a b : Ratio) (p q : Bool) → before a b ≡ p → before b a ≡ q → MatchOrdering (cond p Less (cond q Greater Equal)) (before a b ≡ true) (a ≡ b) (before b a ≡ true)
-ratio_ranks a b true q h k = h
-ratio_ranks a b false true h k = k
-ratio_ranks a b false false h k = before-neither a b h k
-
-ratio_total : IsTotalOrder compare_ratio
-ratio_total = strict (λ (a b : Ratio). before a b ≡ true) (λ a h. true≢false (sym h ∙ before-self a)) before-trans compare_ratio (λ a b. ratio_ranks a b (before a b) (before b a) refl refl)
 
 nothing : Ratio
 nothing = over (pos 0) 1
@@ -47,7 +37,7 @@ parts_total : IsTotalOrder by_parts
 unfolding by_parts
 parts_total =
     then_total (on_total place_of nat_cmp_total)
-    (then_total (on_total truth_of bool_cmp_total) (then_total (on_total bytes_of nat_list_cmp_total) (on_total number_of ratio_total)))
+    (then_total (on_total truth_of bool_cmp_total) (then_total (on_total bytes_of ranking_bytes.total) (on_total number_of ranking_ratio.total)))
 
 then_equal : (o : Ordering) → ordering_then o Equal ≡ o
 then_equal Less = refl
@@ -55,7 +45,7 @@ then_equal Equal = refl
 then_equal Greater = refl
 
 level : compare_ratio nothing nothing ≡ Equal
-level = ap (λ (b : Bool). cond b Less (cond b Greater Equal)) (before-self nothing)
+level = (ranking_ratio.level nothing nothing).1 refl
 
 last : (o : Ordering) → ordering_then o (compare_ratio nothing nothing) ≡ o
 last o = ap (ordering_then o) level ∙ then_equal o
