@@ -5,7 +5,7 @@ use Rattle.mob_grammar.specs.declared.mark.Mark.TheVariants.{Semicolon}
 use Rattle.mob_grammar.specs.Symbols.{Tok, first, rest}
 use Rattle.mob_grammar.specs.Forms.{Listed}
 use Rattle.mob_grammar.specs.Scripts.{Statement, IsScript}
-use Rattle.mob_grammar.specs.Texts.{BeginsText, GoesOn, IsFirstWrong}
+use Rattle.mob_grammar.specs.Texts.{BeginsText, GoesOn}
 use Rattle.mob_grammar.specs.Outcomes.{GoesWrongAt, HasOneTree, IsScriptOrWrong, IsWrongNowhere, HasOneWrong}
 use Rattle.mob_grammar.specs.Reading.{Answer, script_at}
 use Rattle.mob_grammar.proofs.StatementLaws.{lawful_script}

@@ -1,17 +1,16 @@
 -- A script has no more nodes than tokens: each form takes a token for each node.
-use Rattle.std.proofs.Common.{◌≡◌, ◌≤◌, ◌<◌, ◌+◌, ◌∙◌, ◌⊎◌, inl, inr, ℕ, List, [], ◌∷◌, length, Option, Some, None, refl, sym, ap, subst, arith}
+use Rattle.std.proofs.Common.{◌≡◌, ◌≤◌, ◌<◌, ◌+◌, inl, inr, ℕ, List, [], ◌∷◌, length, ap, arith}
 use Rattle.std.specs.List.{sum_by}
 use Rattle.std.proofs.lemmas.List.Sums.{sum_by-cons}
 use Rattle.mob_ast.specs.declared.types.TypeWord.{TypeWord}
-use Rattle.mob_ast.specs.declared.types.Word.{Word}
-use Rattle.mob_ast.specs.Trees.{Tree, tree, Trees, none, more, StatementParts, RowParts, ItemParts, KeyParts, SelectParts}
+use Rattle.mob_ast.specs.Trees.{Tree, Trees}
 use Rattle.mob_grammar.specs.declared.mark.Mark.{Mark}
 use Rattle.mob_grammar.specs.declared.mark.Mark.TheVariants.{With, Delimiter, Comma, Semicolon}
 use Rattle.mob_grammar.specs.Symbols.{Tok, sign}
 use Rattle.mob_grammar.specs.Expressions.{Rank, TypeName, plain, inner, Phrase, up, chain, prefixed, is_null, is_not_null, compared, cast_to, a_number, a_string, is_true, is_false, a_null, a_literal, a_call, a_column, a_table_column, in_brackets, Arguments, nothing, something, Behind, end, another}
-use Rattle.mob_grammar.specs.Forms.{Form, Says, AName, ANumber, AString, ◌⇒◌, ◌▸◌, ◌∣◌, Listed, single, several}
-use Rattle.mob_grammar.specs.Scripts.{Const, Row, ColumnType, FromEntry, SecondName, Alias, SelectItem, Direction, OrderKey, OnlyDistinct, FromPart, WherePart, OrderPart, LimitPart, SelectBody, CreateTable, CreateIndex, InsertRows, CopyFile, WithFormat, WithDelimiter, Statement, IsScript}
-use Rattle.mob_grammar.specs.Sizes.{nodes, nodes_in, row_nodes, item_nodes, key_nodes, condition_nodes, select_nodes, statement_nodes, script_nodes, HasFewNodes}
+use Rattle.mob_grammar.specs.Forms.{Form, ◌▸◌, ◌∣◌, Listed, single, several}
+use Rattle.mob_grammar.specs.Scripts.{Const, Row, ColumnType, FromEntry, SecondName, Alias, SelectItem, Direction, OrderKey, OnlyDistinct, FromPart, WherePart, OrderPart, LimitPart, SelectBody, CreateTable, CreateIndex, InsertRows, CopyFile, WithFormat, WithDelimiter, Statement}
+use Rattle.mob_grammar.specs.Sizes.{nodes, nodes_in, row_nodes, item_nodes, key_nodes, condition_nodes, select_nodes, statement_nodes, HasFewNodes}
 
 type_taken : {l r : List Tok} {ty : TypeWord} → TypeName l ty r → length r < length l
 type_taken plain = omega arith

@@ -1,5 +1,5 @@
 -- How many nodes the expressions of a script have: one for each literal, name, sign, word and cast.
-use Rattle.std.specs.Prelude.{◌+◌, ◌≤◌, ℕ, List, [], ◌∷◌, length, Option, Some, None}
+use Rattle.std.specs.Prelude.{◌+◌, ◌≤◌, ℕ, List, length, Option, Some, None}
 use Rattle.std.specs.List.{sum_by}
 use Rattle.mob_ast.specs.Trees.{Tree, tree, Trees, none, more, StatementParts, empty, create_table, create_index, insert, copy, select, explain, RowParts, ItemParts, every, one, KeyParts, SelectParts}
 use Rattle.mob_grammar.specs.Symbols.{Tok}
