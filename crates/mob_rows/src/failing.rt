@@ -5,6 +5,11 @@ use std::test::Fail;
 
 const SCRIPT: &[u8] = b"SELECT tint '[5@2001-01-01]';\n";
 
+const COPY: &[u8] =
+    b"CREATE TABLE t (k int); COPY t FROM 't.csv' WITH (FORMAT csv, HEADER); SELECT k FROM t WHERE k > 2;";
+
+const FILE: &[u8] = b"k\n1\n2\n3\n";
+
 const ANSWER: &[u8] = b"c1\n5@2001-01-01 00:00:00+00\n(1 rows)\n";
 
 // The script has 30 bytes, so there are 6 calls: five with bytes, and one that meets the end.
@@ -26,6 +31,34 @@ fn a_script_that_cannot_be_read(rt: HostRuntime) -> Result<(), Fail> {
         } else {
             assert_eq!(rt; seen.status, 0, "call {k}");
             assert_eq!(rt; seen.out.as_slice(), ANSWER, "call {k}");
+        }
+    }
+    Ok(())
+}
+
+// The file has 8 bytes, so there are 4 calls: the one that opens it, two with bytes, and one that meets the end.
+#[test]
+fn a_file_that_cannot_be_read(rt: HostRuntime) -> Result<(), Fail> {
+    let alloc = rt.alloc();
+    for k in 1..7u64 {
+        let mut failing = Failing::none(alloc);
+        failing.files.push(k)?;
+        let seen = run_once(&rt, alloc, &[], COPY, &[("t.csv", FILE)], failing)?;
+        if k <= 4 {
+            assert_eq!(rt; seen.status, 3, "call {k}");
+            assert_eq!(rt; seen.out.as_slice(), b"".as_slice(), "call {k}");
+            assert_eq!(rt;
+                seen.notes.as_slice(),
+                b"read fault: t.csv\n".as_slice(),
+                "call {k}"
+            );
+        } else {
+            assert_eq!(rt; seen.status, 0, "call {k}");
+            assert_eq!(rt;
+                seen.out.as_slice(),
+                b"k\n3\n(1 rows)\n".as_slice(),
+                "call {k}"
+            );
         }
     }
     Ok(())
