@@ -12,7 +12,7 @@ use Rattle.mob_ending.specs.declared.ending.Ending.{Ending}
 use Rattle.mob_ending.specs.declared.ending.Ending.TheVariants.{Done, Usage, ReadFault, WriteFault, NoMemory, TableRefused, ScriptRefused, Overflow}
 use Rattle.mob_shell.specs.Program.{IsHalted, IsScript, OutText, StopsWith}
 use Rattle.mob_shell.specs.Outcomes.{EndsOrStops, HasOneEnding, HasOneHalt, HasOneStop, IsProgramOrHalted, IsScriptOrRefused}
-use Rattle.mob_shell.specs.Ending.{IsDue, IsTaken, IsUsage}
+use Rattle.mob_shell.specs.Ending.{IsDue, HaveSettings, IsUsage}
 
 -- the laws of one outcome
 pub record AreLaws : Type 0 where
@@ -30,20 +30,8 @@ ending_of (table_refused name kind rec field) = TableRefused name kind rec field
 ending_of (missing file) = ReadFault (Some file)
 
 -- the words of a script are taken
-taken : {words : List (List ℕ)} {bytes : List ℕ} {day : ℤ} {out : ScriptOut} → IsScript words bytes day out → IsTaken words
+taken : {words : List (List ℕ)} {bytes : List ℕ} {day : ℤ} {out : ScriptOut} → IsScript words bytes day out → HaveSettings words
 taken {day} h usage = usage h.workers day h.says
-
--- the words are not taken, and that is due; or they are taken
-pub usage_or_taken : (words : List (List ℕ)) (bytes : List ℕ) (files : Contents) (due : Ending) → IsDue words bytes files due → ((due ≡ Usage) × IsUsage words) ⊎ IsTaken words
-usage_or_taken words bytes files Usage k = inl (refl, k)
-usage_or_taken words bytes files Done k = inr (taken k.1.is.script)
-usage_or_taken words bytes files (ReadFault None) k = absurd k
-usage_or_taken words bytes files (ReadFault (Some file)) k = inr (taken k.script)
-usage_or_taken words bytes files WriteFault k = absurd k
-usage_or_taken words bytes files NoMemory k = absurd k
-usage_or_taken words bytes files (TableRefused name kind rec field) k = inr (taken k.script)
-usage_or_taken words bytes files (ScriptRefused e) k = inr k.0
-usage_or_taken words bytes files (Overflow number rows place formula) k = inr (taken k.1.is.script)
 
 -- what is due beside words that are not taken, a text that is refused, a halt, answers and a fault of a statement
 module _ (law : AreLaws) (words : List (List ℕ)) (bytes : List ℕ) (files : Contents) where
@@ -58,7 +46,7 @@ module _ (law : AreLaws) (words : List (List ℕ)) (bytes : List ℕ) (files : C
   by_usage h (ScriptRefused e) k = absurd (k.0 h)
   by_usage h (Overflow number rows place formula) k = absurd (taken k.1.is.script h)
 
-  by_text : (e : Refusal) → IsTaken words → IsTextRefused bytes e → (due : Ending) → IsDue words bytes files due → ScriptRefused e ≡ due
+  by_text : (e : Refusal) → HaveSettings words → IsTextRefused bytes e → (due : Ending) → IsDue words bytes files due → ScriptRefused e ≡ due
   by_text e t h Usage k = absurd (t k)
   by_text e t h Done k = absurd (law.refused words bytes k.1.day k.1.out e k.1.is.script h)
   by_text e t h (ReadFault None) k = absurd k

@@ -5,10 +5,10 @@ use Rattle.std.specs.Io.KnownBytes.{Keeps}
 use Rattle.mob_ending.specs.Lines.{line_of, status_of}
 use Rattle.mob_ending.specs.declared.ending.Ending.{Ending}
 use Rattle.mob_ending.specs.declared.ending.Ending.TheVariants.{Done, Usage, ReadFault, WriteFault, NoMemory, TableRefused, ScriptRefused, Overflow}
-use Rattle.mob_shell.specs.Ending.{Causes, CutsShort, Ends, IsOverflow, IsReadFault, IsScriptRefused, IsTableFault, IsUsage, Seen, Writes}
+use Rattle.mob_shell.specs.Ending.{Causes, CutsShort, Ends, IsDue, IsOverflow, IsReadFault, IsScriptRefused, IsTableFault, IsUsage, OnTold, Seen, Writes, WroteSome}
 use Rattle.mob_shell.specs.Outcomes.{HasOneEnding}
 use Rattle.mob_shell.specs.Run.{EndsSo, IsRun}
-use Rattle.mob_shell.proofs.Due.{ends_as_due}
+use Rattle.mob_shell.proofs.Due.{IsDueOnTold, due_or_memory, each_told, ends_as_due, misses_a_file}
 
 by_written : (ending : Ending) (s : Seen) → Causes ending s → status_of ending ≡ 0 → Writes s
 by_written Done s h e = h
@@ -87,9 +87,31 @@ by_overflow (TableRefused name kind rec field) s h e = cc
 by_overflow (ScriptRefused refusal) s h e = cc
 by_overflow (Overflow number rows place formula) s h e = (number, rows, place, formula, h)
 
+by_memory : (ending : Ending) (s : Seen) → Causes ending s → status_of ending ≡ 5 → Keeps s.out_before s.out_now ⊎ WroteSome s
+by_memory Done s h e = cc
+by_memory Usage s h e = cc
+by_memory (ReadFault None) s h e = cc
+by_memory (ReadFault (Some file)) s h e = cc
+by_memory WriteFault s h e = cc
+by_memory NoMemory s h e = h
+by_memory (TableRefused name kind rec field) s h e = cc
+by_memory (ScriptRefused refusal) s h e = cc
+by_memory (Overflow number rows place formula) s h e = cc
+
+by_untouched : (ending : Ending) (s : Seen) → Causes ending s → status_of ending ≡ 2 → Keeps s.script s.rest
+by_untouched Done s h e = cc
+by_untouched Usage s h e = h.1
+by_untouched (ReadFault None) s h e = cc
+by_untouched (ReadFault (Some file)) s h e = cc
+by_untouched WriteFault s h e = cc
+by_untouched NoMemory s h e = cc
+by_untouched (TableRefused name kind rec field) s h e = cc
+by_untouched (ScriptRefused refusal) s h e = cc
+by_untouched (Overflow number rows place formula) s h e = cc
+
 -- an ending of a run that wrote nothing, or one with another status
 by_silence : (ending : Ending) (s : Seen) → Causes ending s → (status_of ending ≡ 2) ⊎ ((status_of ending ≡ 3) ⊎ ((status_of ending ≡ 6) ⊎ (status_of ending ≡ 7))) → Keeps s.out_before s.out_now
-by_silence Usage s h e = h.1
+by_silence Usage s h e = h.2
 by_silence (ReadFault file) s h e = h.1
 by_silence (TableRefused name kind rec field) s h e = h.1
 by_silence (ScriptRefused refusal) s h e = h.1
@@ -107,6 +129,11 @@ so_ended : (ending due : Ending) (Noted : List ℕ → Type 0) → (ending ≡ d
 so_ended ending due Noted (inl e) noted = inl (record { number = ap status_of e; noted = subst (λ (it : Ending). Noted (line_of it)) e noted })
 so_ended ending due Noted (inr e) noted = inr (ap status_of e)
 
+-- an ending that is due, with its status and its note
+with_note : (ending : Ending) (s : Seen) (Noted : List ℕ → Type 0) → IsDueOnTold ending s ⊎ (ending ≡ NoMemory) → Noted (line_of ending) → OnTold s (λ b m. (due : Ending) × IsDue s.words b m due × EndsSo due (status_of ending) Noted) ⊎ (status_of ending ≡ 5)
+with_note ending s Noted (inl told) noted = inl (each_told (λ b m. IsDue s.words b m ending) (λ b m. (due : Ending) × IsDue s.words b m due × EndsSo due (status_of ending) Noted) (λ b m p. (ending, p, record { number = refl; noted = noted })) s.script s.files told)
+with_note ending s Noted (inr memory) noted = inr (ap status_of memory)
+
 -- what a run promises, by its ending and what is noted of its line
 pub is_run : HasOneEnding → (ending : Ending) (s : Seen) (Noted : List ℕ → Type 0) → Ends ending s → Noted (line_of ending) → IsRun (status_of ending) s Noted
 is_run one ending s Noted ends noted = record {
@@ -115,10 +142,14 @@ is_run one ending s Noted ends noted = record {
   exactly_usage = λ words. by_words ending (ends.usage words);
   read_fault = by_read ending s ends.cause;
   write_fault = by_write ending s ends.cause;
+  no_memory = by_memory ending s ends.cause;
   table_refused = by_table ending s ends.cause;
   script_refused = by_script ending s ends.cause;
   overflow = by_overflow ending s ends.cause;
   silent = by_silence ending s ends.cause;
+  untouched = by_untouched ending s ends.cause;
+  due = λ faultless. with_note ending s Noted (due_or_memory ending s ends faultless) noted;
+  missing = λ file given read_well put_well. misses_a_file one ending s file ends read_well put_well given;
   complete = λ due given faultless. so_ended ending due Noted (ends_as_due one ending due s ends faultless given) noted;
   reads = ends.read;
   asked = ends.asked;

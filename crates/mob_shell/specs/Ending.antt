@@ -20,9 +20,9 @@ use Rattle.mob_shell.specs.Program.{IsScript, IsHalted, IsReached, WritesFirst, 
 abbrev pub IsUsage : List (List ℕ) → Type 0
 IsUsage words = (workers : ℕ) (day : ℤ) → Says words workers day → ⊥
 
--- the words are taken
-abbrev pub IsTaken : List (List ℕ) → Type 0
-IsTaken words = IsUsage words → ⊥
+-- the words have settings
+abbrev pub HaveSettings : List (List ℕ) → Type 0
+HaveSettings words = IsUsage words → ⊥
 
 -- What a run was given and what it did: the words; what the script, the files and `out` told before and after, and the names that
 -- the files were asked for; and the counts of faults of the three.
@@ -137,10 +137,10 @@ abbrev pub CouldNotRead : Option (List ℕ) → Seen → Type 0
 CouldNotRead None s = Rose s.read_before s.read_now
 CouldNotRead (Some file) s = IsUnread s file
 
--- Why a run ended so. Nothing was written but under `Done`, `WriteFault`, `NoMemory` and `Overflow`.
+-- Why a run ended so. Nothing was written but under `Done`, `WriteFault`, `NoMemory` and `Overflow`, and under `Usage` nothing was read.
 abbrev pub Causes : Ending → Seen → Type 0
 Causes Done s = Writes s
-Causes Usage s = IsUsage s.words × Keeps s.out_before s.out_now
+Causes Usage s = IsUsage s.words × Keeps s.script s.rest × Keeps s.out_before s.out_now
 Causes (ReadFault file) s = CouldNotRead file s × Keeps s.out_before s.out_now
 Causes WriteFault s = CutsShort s
 Causes NoMemory s = Keeps s.out_before s.out_now ⊎ WroteSome s
@@ -164,8 +164,8 @@ IsScriptRefused s = (e : Refusal) × IsRefused s e
 abbrev pub IsOverflow : Seen → Type 0
 IsOverflow s = (number : ℕ) × (rows : List ℕ) × (place : ℕ) × (formula : Formula) × StopsAt s number rows place formula
 
--- How a run has to end where nothing fails, by its words, its script and its files: with all answers, by its words, for a file that
--- is not there, with a refusal or with the fault of a statement. They say nothing of the other endings.
+-- How a run has to end, by its words, its script and its files: with all answers, by its words, for a file that is not there (which
+-- the files count as a fault), with a refusal or with the fault of a statement. They ask for no other ending.
 abbrev pub IsDue : List (List ℕ) → List ℕ → Contents → Ending → Type 0
 IsDue words bytes files Done = (text : List ℕ) × OutText words bytes files text
 IsDue words bytes files Usage = IsUsage words
@@ -174,7 +174,7 @@ IsDue words bytes files (ReadFault (Some file)) = IsHalted words bytes files (mi
 IsDue words bytes files WriteFault = ⊥
 IsDue words bytes files NoMemory = ⊥
 IsDue words bytes files (TableRefused name kind rec field) = IsHalted words bytes files (table_refused name kind rec field)
-IsDue words bytes files (ScriptRefused e) = IsTaken words × (IsTextRefused bytes e ⊎ IsHalted words bytes files (refused e))
+IsDue words bytes files (ScriptRefused e) = HaveSettings words × (IsTextRefused bytes e ⊎ IsHalted words bytes files (refused e))
 IsDue words bytes files (Overflow number rows place formula) = (text : List ℕ) × StopsWith words bytes files text number (rows, (place, formula))
 
 -- the script and the files are told, and the definitions ask for this ending

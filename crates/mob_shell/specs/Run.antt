@@ -1,12 +1,14 @@
 -- What a run promises: what its status says of what it was given and what it did, and what asks for a status.
-use Rattle.std.specs.Prelude.{◌≡◌, ◌⊎◌, ◌≤◌, ℕ, List}
+use Rattle.std.specs.Prelude.{◌≡◌, ◌⊎◌, ◌≤◌, ℕ, List, Some}
 use Rattle.std.specs.Io.KnownBytes.{Keeps}
+use Rattle.mob_outside.specs.Faults.{Rose}
 use Rattle.mob_outside.specs.Told.{KeepsFiles}
 use Rattle.mob_streams.specs.Streams.{ReadsPart}
 use Rattle.mob_accept.specs.Accepts.{script_limit}
 use Rattle.mob_ending.specs.Lines.{line_of, status_of}
 use Rattle.mob_ending.specs.declared.ending.Ending.{Ending}
-use Rattle.mob_shell.specs.Ending.{AsksInOrder, Causes, CutsShort, Gives, IsFaultless, IsOverflow, IsReadFault, IsScriptRefused, IsTableFault, IsUsage, Seen, Writes}
+use Rattle.mob_ending.specs.declared.ending.Ending.TheVariants.{ReadFault}
+use Rattle.mob_shell.specs.Ending.{AsksInOrder, Causes, CutsShort, Gives, IsDue, IsFaultless, IsOverflow, IsReadFault, IsScriptRefused, IsTableFault, IsUsage, OnTold, Seen, Writes, WroteSome}
 
 -- the status and the note are those of this ending
 pub record EndsSo (ending : Ending) (status : ℕ) (Noted : List ℕ → Type 0) : Type 0 where
@@ -31,6 +33,8 @@ pub record IsRun (status : ℕ) (s : Seen) (Noted : List ℕ → Type 0) : Type 
   pub read_fault : status ≡ 3 → IsReadFault s
   -- 4: only where the count of `out` rose, which took a proper prefix of the answers of some statements
   pub write_fault : status ≡ 4 → CutsShort s
+  -- 5: whatever was written is whole answers
+  pub no_memory : status ≡ 5 → Keeps s.out_before s.out_now ⊎ WroteSome s
   -- 6: only where the first refusal stands in a table file, that of a COPY statement, which was asked for last
   pub table_refused : status ≡ 6 → IsTableFault s
   -- 7: only where the first refusal stands in the script
@@ -40,9 +44,14 @@ pub record IsRun (status : ℕ) (s : Seen) (Noted : List ℕ → Type 0) : Type 
   pub overflow : status ≡ 8 → IsOverflow s
   -- under 2, 3, 6 and 7 nothing is written
   pub silent : (status ≡ 2) ⊎ ((status ≡ 3) ⊎ ((status ≡ 6) ⊎ (status ≡ 7))) → Keeps s.out_before s.out_now
-  -- The other way, for a script and files that are told, where no count of the script, the files and `out` rose: where the
-  -- definitions ask for an ending, the status and the note are its own. Want of memory is free.
+  -- under 2 nothing is taken of the script
+  pub untouched : status ≡ 2 → Keeps s.script s.rest
+  -- The other way, for a script and files that are told, where no count of the script, the files and `out` rose: the definitions ask
+  -- for an ending, and the status and the note are its own; so they are wherever the definitions ask for one. Want of memory is free.
+  pub due : IsFaultless s → OnTold s (λ bytes files. (ending : Ending) × IsDue s.words bytes files ending × EndsSo ending status Noted) ⊎ (status ≡ 5)
   pub complete : (ending : Ending) → Gives s ending → IsFaultless s → EndsSo ending status Noted ⊎ (status ≡ 5)
+  -- where a file is not there, which the files count as a fault, the status is 3, if neither the script nor `out` failed
+  pub missing : (file : List ℕ) → Gives s (ReadFault (Some file)) → (Rose s.read_before s.read_now → ⊥) → (Rose s.put_before s.put_now → ⊥) → (status ≡ 3) ⊎ (status ≡ 5)
   -- under every status: at most one byte past the limit is taken from the script, the files are asked for the names of the
   -- script's COPY statements alone, in order, the files that are told stay as they were, and no count of faults falls
   pub reads : ReadsPart script_limit s.script s.rest

@@ -35,7 +35,7 @@ pub fn run<R: Threads + Sync, S: Source, F: Files, K: Sink, E: Sink, G: Gate>(
     _gate: &G,
 ) -> u8
     // `IsRun` says it all, a line for each status and each other promise, of what is seen of the run and of its note.
-    ensures { IsRun result
+    ensures promises { IsRun result
         (seen S.left S.faults F.files F.asked F.faults K.held K.faults (map string_bytes words.now) script.old script.new files.old files.new out.old out.new)
         (λ line. Puts line (E.held notes.old) (E.held notes.new) (E.faults notes.old) (E.faults notes.new)) }
 {

@@ -8,7 +8,7 @@ returns-in-Ok-None g c =
     let refused = rw c.in-Ok-None.field-0-is at c.in-Ok-None.ensures.refused in
     record {
       ends = early_ends _ _ (record { read = reads_none _ _; asks = asks_none _ _; files = keeps_same _; read_later = search rules; filed_later = search rules; put_later = search rules })
-          (λ w d says. refused refl w d says, keeps_all _) (λ u. inl refl);
+          (λ w d says. refused refl w d says, keeps_all _, keeps_all _) (λ u. inl refl);
     }
 
 pub returns-in-Err-Fault : goal.returns-in-Err-Fault
