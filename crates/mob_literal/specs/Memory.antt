@@ -1,4 +1,4 @@
--- Which types have values that hold memory of their own.
+-- Which types take memory to be read.
 use Rattle.std.specs.Prelude.{Bool, true, false}
 use Rattle.mob_ast.specs.declared.types.SqlType.{SqlType}
 use Rattle.mob_ast.specs.declared.types.SqlType.TheVariants as sql

@@ -225,8 +225,8 @@ fn parse_text(alloc: Global, text: &str) -> Result<Script, Refusal>
 /// counted token of an expression, where a script begins with the tokens up to it. At one token it is `Syntax`. `NoMemory`,
 /// with the place and the statement 0, comes where there was no memory.
 ///
-/// A place counts the bytes from 0; a statement's number is 1 and the number of `;` tokens before the place. The tree has no
-/// more nodes than the script has bytes.
+/// A place counts the bytes from 0; a statement's number is 1 and the number of `;` tokens before the place. Its expressions
+/// have no more nodes than the script has bytes.
 pub fn parse(alloc: Global, bytes: &[u8]) -> Result<Script, Refusal>
     requires short { length bytes.now ≤ 4194304 }
     ensures tree { IfOk result (λ s. IsTreeOf bytes.now (script_of s)) }
