@@ -12,6 +12,3 @@ pub use least::earlier;
 pub use operators::first_unbuilt_operator;
 pub use types::first_unbuilt_type;
 pub use words::{first_unbuilt_word, statement_at};
-
-#[cfg(test)]
-mod tests;

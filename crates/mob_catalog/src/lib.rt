@@ -14,6 +14,3 @@ pub use catalog::Catalog;
 pub use consts::constants;
 pub use fault::{LoadFault, refusal_kind};
 pub use table_file::{FILE_LIMIT, read_table};
-
-#[cfg(test)]
-mod tests;

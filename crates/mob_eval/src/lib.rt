@@ -22,6 +22,3 @@ pub use evaluate::{eval, holds};
 pub use fault::EvalFault;
 pub use query_fault::QueryFault;
 pub use scene::View;
-
-#[cfg(test)]
-mod tests;

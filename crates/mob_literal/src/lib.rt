@@ -14,8 +14,3 @@ pub mod written;
 pub use fields::{read_field, write_field};
 pub use literal::WrittenValue;
 pub use sql::{read_value, write_value};
-
-#[cfg(test)]
-mod sql_tests;
-#[cfg(test)]
-mod tests;

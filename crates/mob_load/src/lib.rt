@@ -13,6 +13,3 @@ mod script;
 
 pub use program::{LoadEnd, Program};
 pub use script::load;
-
-#[cfg(test)]
-mod tests;

@@ -10,8 +10,4 @@ mod lexeme;
 mod nodes;
 pub mod script;
 mod select;
-#[cfg(test)]
-mod shown;
 mod statement;
-#[cfg(test)]
-mod tests;

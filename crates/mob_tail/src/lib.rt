@@ -8,11 +8,7 @@ mod evaluation;
 mod keyed;
 pub mod laws;
 mod order;
-#[cfg(test)]
-mod tests;
 mod text;
-#[cfg(test)]
-mod worked;
 
 pub use answers::{Answer, answer_to};
 pub use keyed::Keyed;

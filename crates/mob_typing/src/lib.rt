@@ -16,8 +16,6 @@ mod scope;
 mod script;
 mod select;
 mod tables;
-#[cfg(test)]
-mod tests;
 pub mod typed;
 mod words;
 

@@ -1,7 +1,7 @@
-use crate::literal::WrittenValue;
-use crate::printing::{Printed, write_steps};
-use crate::temporal::read_steps;
-use crate::values::{Texts, Truths, WholeNumbers};
+use mob_literal::WrittenValue;
+use mob_literal::printing::{Printed, write_steps};
+use mob_literal::temporal::read_steps;
+use mob_literal::values::{Texts, Truths, WholeNumbers};
 use mob_scalar::{Epoch, ReadText};
 use std::alloc::Global;
 use std::test::Fail;

@@ -1,6 +1,6 @@
-use crate::load;
 use mob_ast::Script;
 use mob_list::items::Items;
+use mob_load::load;
 use mob_outside::MemFiles;
 use mob_scalar::Epoch;
 use mob_typing::type_script;

@@ -1,6 +1,6 @@
-use crate::{Answer, answer_text};
 use mob_list::items::Items;
 use mob_list::text::Text;
+use mob_tail::{Answer, answer_text};
 use std::alloc::{AllocError, Global};
 use std::test::Fail;
 

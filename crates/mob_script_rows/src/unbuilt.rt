@@ -1,7 +1,7 @@
 //! Words, types and operators that are not built. The places are counted by hand.
 
-use crate::{first_unbuilt_operator, first_unbuilt_type, first_unbuilt_word, statement_at};
 use mob_ast::{Cmp, Expr, Item, Node, Script, SelectTree, SqlType, Statement, TypeWord, Word};
+use mob_built::{first_unbuilt_operator, first_unbuilt_type, first_unbuilt_word, statement_at};
 use mob_list::items::Items;
 use mob_list::text::Text;
 use mob_typing::{Op, TExpr, Typed, TypedSelect, TypedStatement};

@@ -1,11 +1,11 @@
 //! Whole scripts, built by hand. The rows that say which refusal comes first are computed by the definition.
 
-use crate::{ConstText, Op, TExpr, Typed, TypedSelect, TypedStatement, type_script};
 use mob_ast::{
     Expr, Item, Kind, Node, Refusal, Script, SelectTree, SqlType, Statement, TypeWord, Word,
 };
 use mob_list::items::Items;
 use mob_list::text::Text;
+use mob_typing::{ConstText, Op, TExpr, Typed, TypedSelect, TypedStatement, type_script};
 use std::alloc::{AllocError, Global};
 use std::marker::{Send, Sync};
 use std::test::Fail;

@@ -1,5 +1,5 @@
-use crate::{Catalog, LoadFault, constants, read_table};
 use mob_ast::{Kind, Refusal, SqlType};
+use mob_catalog::{Catalog, LoadFault, constants, read_table};
 use mob_list::items::Items;
 use mob_list::text::Text;
 use mob_literal::write_field;

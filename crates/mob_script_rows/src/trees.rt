@@ -1,9 +1,9 @@
-use crate::laws::{marks_are_read, one_refusal};
-use crate::script::parse;
 use crate::shown::show_statement;
 use mob_ast::refusal::{Kind, Refusal};
 use mob_ast::statement::Script;
 use mob_grammar::laws::{few_nodes, one_first_wrong, one_tree};
+use mob_parse::laws::{marks_are_read, one_refusal};
+use mob_parse::script::parse;
 use std::alloc::{AllocError, Global};
 use std::process::Abort;
 use std::test::Fail;

@@ -1,11 +1,11 @@
 //! Worked expressions, built by hand: constants, columns, each operator, NULL, and the place of a fault.
 
-use crate::comparison::test;
-use crate::{EvalFault, eval, holds};
 use mob_ast::{Cmp, SqlType};
+use mob_eval::{EvalFault, eval, holds};
 use mob_frac::Frac;
 use mob_list::items::Items;
 use mob_list::text::Text;
+use mob_literal::write_field;
 use mob_normal::normal;
 use mob_operators::Op;
 use mob_scalar::Epoch;
@@ -13,7 +13,7 @@ use mob_slice::{BaseValue, Formula, Moving, Slice, Steady};
 use mob_span::Span;
 use mob_typing::TExpr;
 use mob_value::{Store, Table, Value};
-use std::alloc::Global;
+use std::alloc::{AllocError, Global};
 use std::test::Fail;
 
 // The constants of the tests, in the order of their numbers.
@@ -186,11 +186,31 @@ fn pair(alloc: Global, op: Op, place: u32, left: TExpr, right: TExpr) -> Option<
     })
 }
 
-// Whether a value is the one that is wanted.
-fn is(value: &Value, wanted: &Value) -> bool {
-    match (value, wanted) {
-        (Value::Null, Value::Null) => true,
-        _ => matches!(test(Cmp::Eq, value, wanted), Value::Bool(true)),
+fn is_same_variant(value: &Value, wanted: &Value) -> bool {
+    matches!(
+        (value, wanted),
+        (Value::Null, Value::Null)
+            | (Value::Bool(_), Value::Bool(_))
+            | (Value::Number(_), Value::Number(_))
+            | (Value::Text(_), Value::Text(_))
+            | (Value::Moment(_), Value::Moment(_))
+            | (Value::MovingBool(_), Value::MovingBool(_))
+            | (Value::MovingInt(_), Value::MovingInt(_))
+            | (Value::MovingText(_), Value::MovingText(_))
+    )
+}
+
+fn printed(alloc: Global, value: &Value) -> Result<String, AllocError> {
+    let mut field = String::new(alloc);
+    write_field(value, &Epoch::standard(), &mut field)?;
+    Ok(field)
+}
+
+// Whether a value is the one that is wanted: each value of a variant prints in its own way.
+fn is(alloc: Global, value: &Value, wanted: &Value) -> bool {
+    match (printed(alloc, value), printed(alloc, wanted)) {
+        (Ok(shown), Ok(text)) => is_same_variant(value, wanted) && shown == text,
+        _ => false,
     }
 }
 
@@ -198,7 +218,7 @@ fn is(value: &Value, wanted: &Value) -> bool {
 fn gives(alloc: Global, store: &Store, e: &TExpr, wanted: Known) -> bool {
     let value = eval(alloc, e, store, &[0], &[1], &Epoch::standard());
     match (value, store.consts.as_slice().get(wanted as usize)) {
-        (Ok(value), Some(wanted)) => is(&value, wanted),
+        (Ok(value), Some(wanted)) => is(alloc, &value, wanted),
         _ => false,
     }
 }

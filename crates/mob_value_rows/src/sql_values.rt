@@ -1,7 +1,6 @@
 // Values of SQL, read from their texts and fields and printed. The epoch is 2000-01-01.
-use crate::fields::{read_field, write_field};
-use crate::sql::{read_value, write_value};
 use mob_ast::SqlType;
+use mob_literal::{read_field, read_value, write_field, write_value};
 use mob_scalar::{Epoch, ReadText};
 use mob_value::Value;
 use std::alloc::{AllocError, Global};
