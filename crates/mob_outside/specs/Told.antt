@@ -43,7 +43,13 @@ pub record Stream : Type 0 where
   pub told : Option (List ℕ)
   pub faults : ℕ
 
--- The files of a folder: whether one is open, and the faults.
+-- what the file that was opened last has left, by what a file has left
+abbrev pub left_of : {F : Type 0} → (F → Option (List ℕ)) → Option F → Option (List ℕ)
+left_of remaining None = None
+left_of remaining (Some file) = remaining file
+
+-- The files of a folder: what the file that was opened last has left, where it tells that, whether one is open, and the faults.
 pub record Folder : Type 0 where
+  pub told : Option (List ℕ)
   pub is_ready : Bool
   pub faults : ℕ

@@ -1,11 +1,11 @@
 // Files by their names.
-ghost use Rattle.std.specs.Prelude.{◌≡◌, ◌↔◌, ◌⊎◌, ◌<◌, ◌≤◌, ◌∷◌, ◌++◌, List, ℕ, Bool, true, false, Option, [], Some, None, Contains, IsErr, IfOk, OnOk, OnErr, IfSome, IfNone, map, drop, length, is_some, string_bytes, option_map};
+ghost use Rattle.std.specs.Prelude.{◌≡◌, ◌↔◌, ◌⊎◌, ◌<◌, ◌≤◌, ◌∷◌, ◌++◌, ◌&&◌, List, ℕ, Bool, true, false, Option, [], Some, None, Contains, IsErr, IfOk, OnOk, OnErr, IfSome, IfNone, map, drop, length, is_some, string_bytes, option_map};
 ghost use Rattle.std.specs.Result.{is_ok};
 ghost use Rattle.std.specs.Io.{ReadsAtMost};
 ghost use Rattle.std.specs.Io.KnownBytes.{ReadConsumes};
 ghost use Rattle.mob_outside.specs.Faults.{CountsFaults, HasCause, next_count};
 ghost use Rattle.mob_outside.specs.Memory.{Drawer, new_drawer};
-ghost use Rattle.mob_outside.specs.Told.{AsksFor, Contents, KeepsFiles, KeepsNames, MayAskFor, Opens, Folder, entry, file_of};
+ghost use Rattle.mob_outside.specs.Told.{AsksFor, Contents, KeepsFiles, KeepsNames, MayAskFor, Opens, Folder, entry, file_of, left_of};
 
 use crate::Failed;
 use crate::source::give;
@@ -223,28 +223,31 @@ fn find<'a>(files: &'a [(String, Vec<u8>)], name: &str) -> Option<&'a [u8]>
     None
 }
 
-/// The files of the current folder. They tell neither their bytes nor the names asked. Contracts see them as a `Folder`.
+/// The files of the current folder. They tell neither which files there are nor the names asked, and what the opened file has left
+/// where that file tells it. Contracts see them as a `Folder`.
 #[derive(Drop)]
 pub struct DirFiles<D: Disk + Drop> {
     disk: D,
     file: Option<D::File>,
+    ready: bool,
     faults: u64,
 }
 
 impl<D: Disk + Drop> Model for DirFiles<D> {
     ghost Value = { Folder };
 
-    ghost view = { λ s. record { is_ready = is_some s.file; faults = s.faults } };
+    ghost view = { λ s. record { told = left_of D.File.remaining s.file; is_ready = s.ready && is_some s.file; faults = s.faults } };
 }
 
 impl<D: Disk + Drop> DirFiles<D> {
     /// The files of the folder that this runtime runs in, none of them open yet.
     pub fn new(disk: D) -> DirFiles<D>
-        ensures starts { result ≡ record { is_ready = false; faults = 0 } }
+        ensures starts { result ≡ record { told = None; is_ready = false; faults = 0 } }
     {
         DirFiles {
             disk,
             file: None,
+            ready: false,
             faults: 0,
         }
     }
@@ -255,7 +258,7 @@ impl<D: Disk + Drop> Files for DirFiles<D> {
 
     ghost asked = { λ _. None };
 
-    ghost left = { λ _. None };
+    ghost left = { λ s. s.told };
 
     ghost is_ready = { λ s. s.is_ready };
 
@@ -268,7 +271,8 @@ impl<D: Disk + Drop> Files for DirFiles<D> {
         ensures counts { CountsFaults self.old.faults self.new.faults result }
     {
         self.file = fs::open(&self.disk, name).ok();
-        if self.file.is_some() {
+        self.ready = self.file.is_some();
+        if self.ready {
             return Ok(());
         }
         self.faults = self.faults.saturating_add(1);
@@ -280,6 +284,7 @@ impl<D: Disk + Drop> Files for DirFiles<D> {
         requires ready { self.old.is_ready ≡ true }
         requires room { 0 < length into.old }
         ensures bound { ReadsAtMost result into.new }
+        ensures bytes { ReadConsumes self.old.told self.new.told result into.new }
         ensures ready { self.new.is_ready ≡ is_ok result }
         ensures cause { HasCause self.old.faults self.new.faults result }
         ensures counts { CountsFaults self.old.faults self.new.faults result }
@@ -289,7 +294,7 @@ impl<D: Disk + Drop> Files for DirFiles<D> {
                 return Ok(count);
             }
         }
-        self.file = None;
+        self.ready = false;
         self.faults = self.faults.saturating_add(1);
         Err(Failed)
     }
