@@ -50,7 +50,7 @@ module _ {E S : Type 0} (step : E → S → E → List ℕ → Type 0) where
           part = (length h.text + part.0, omega arith, rw cut (puts_more old now next h.text (take part.0 b) h.put part.2));
         }
 
-    pub halted_ends : {F : Type 0} (stops : E → S → F → Type 0) (j : ℕ) (x : S) (t : E) (now : Option (List ℕ)) (before after : ℕ) (halt : Halt F) (e : RunEnd F) → slice_get all j ≡ Some x
-        → RanFirst step s all j t old now → OnFault (λ f. stops t x f) halt → Halted (j + 1) halt e → Ends step stops s all old now before after e
-    halted_ends stops j x t now before after (Fault f) e get h g is = subst (Ends step stops s all old now before after) (sym is) (j, refl, t, x, h, get, g)
-    halted_ends stops j x t now before after OutOfMemory e get h g is = subst (Ends step stops s all old now before after) (sym is) (j, t, h)
+    pub halted_ends : {F : Type 0} (stops : E → S → F → Type 0) (j : ℕ) (x : S) (t left : E) (now : Option (List ℕ)) (before after : ℕ) (halt : Halt F) (e : RunEnd F) → slice_get all j ≡ Some x
+        → RanFirst step s all j t old now → OnFault (λ f. stops t x f) halt → Halted (j + 1) halt e → Ends step stops s left all old now before after e
+    halted_ends stops j x t left now before after (Fault f) e get h g is = subst (Ends step stops s left all old now before after) (sym is) (j, refl, t, x, h, get, g)
+    halted_ends stops j x t left now before after OutOfMemory e get h g is = subst (Ends step stops s left all old now before after) (sym is) (j, t, h)
