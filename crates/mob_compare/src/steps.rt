@@ -1,12 +1,13 @@
-ghost use Rattle.std.specs.Prelude.{◌≡◌, true, ◌||◌, [], ◌∷◌, Some, MatchResult, IfOk, IfErr};
+ghost use Rattle.std.specs.Prelude.{◌≡◌, Bool, true, ◌||◌, [], ◌∷◌, option_map, MatchResult, IfOk, IfErr};
+ghost use Rattle.std.specs.Fn.{FnReturnsAt};
 ghost use Rattle.mob_ratio.specs.Ratio.{Ratio};
 ghost use Rattle.mob_slice.specs.Slices.{value_at};
-ghost use Rattle.mob_slice.specs.Operands.{operand_at, is_moving, steady_value, steady_limit, IsPointwise};
+ghost use Rattle.mob_slice.specs.Operands.{operand_at, is_moving, map_both, IsPointwise};
 ghost use Rattle.mob_compare.specs.Truths.{AreTruths};
 
 use mob_lift::{lift, single};
 use mob_normal::normal;
-use mob_slice::{Compared, Moving, One, OpFault, Operand, Pair, Rel, Slice, Steady};
+use mob_slice::{Compared, Course, Moving, One, OpFault, Operand, Pair, Rel, Slice, Steady};
 use mob_sync::{Common, Ones};
 use std::alloc::Global;
 
@@ -18,7 +19,7 @@ fn on_both<C: Compared>(
     rel: Rel,
 ) -> Result<Vec<Slice<Steady<bool>>>, OpFault>
     requires steady { C.STEADY ≡ true }
-    ensures truths { IfOk result (λ all. AreTruths (C.relation rel) (value_at C.value_of a.now) (value_at C.value_of b.now) all.items) }
+    ensures truths { IfOk result (λ all. AreTruths (λ t. map_both (C.relation rel) (value_at C.value_of a.now t) (value_at C.value_of b.now t)) all.items) }
     ensures fault { IfErr result (λ e. e ≡ OpFault.NoMemory) }
 {
     lift(
@@ -33,47 +34,25 @@ fn on_both<C: Compared>(
     )
 }
 
-// The comparison of a temporal value with a base value.
-fn on_left<C: Compared>(
+// A test of a temporal value at each of its instants.
+fn on_one<C: Course, F: Fn(&C::Base) -> bool>(
     alloc: Global,
     a: &Moving<C>,
-    b: &C::Base,
-    rel: Rel,
+    test: F,
 ) -> Result<Vec<Slice<Steady<bool>>>, OpFault>
     requires steady { C.STEADY ≡ true }
-    ensures truths { IfOk result (λ all. AreTruths (C.relation rel) (value_at C.value_of a.now) (λ t. Some b.now) all.items) }
+    requires callable { F.IsAlwaysCallable test }
+    ensures truths { (holds : C.Base → Bool) → ((x : C.Base) (b : Bool) → FnReturnsAt F.Fn test x b → b ≡ holds x) → IfOk result (λ all. AreTruths (λ t. option_map holds (value_at C.value_of a.now t)) all.items) }
     ensures fault { IfErr result (λ e. e ≡ OpFault.NoMemory) }
 {
     lift(
         alloc,
         Ones::new(a),
         |part: &One<'_, C>| -> Result<Vec<Slice<Steady<bool>>>, OpFault>
-            ensures { MatchResult result (λ v. v.items ≡ record { span = part.now.span; course = record { value = C.relation rel (C.start_of part.now.slice.now.course) b.entry.now } } ∷ []) (λ e. e ≡ OpFault.NoMemory) }
+            requires { F.IsAlwaysCallable test }
+            ensures { MatchResult result (λ v. (b : Bool) × FnReturnsAt F.Fn test (C.start_of part.now.slice.now.course) b × (v.items ≡ record { span = part.now.span; course = record { value = b } } ∷ [])) (λ e. e ≡ OpFault.NoMemory) }
         {
-            let value = C::relates(rel, part.slice.course.start(), b);
-            single(alloc, part.span, value)
-        },
-    )
-}
-
-// The comparison of a base value with a temporal value.
-fn on_right<C: Compared>(
-    alloc: Global,
-    a: &C::Base,
-    b: &Moving<C>,
-    rel: Rel,
-) -> Result<Vec<Slice<Steady<bool>>>, OpFault>
-    requires steady { C.STEADY ≡ true }
-    ensures truths { IfOk result (λ all. AreTruths (C.relation rel) (λ t. Some a.now) (value_at C.value_of b.now) all.items) }
-    ensures fault { IfErr result (λ e. e ≡ OpFault.NoMemory) }
-{
-    lift(
-        alloc,
-        Ones::new(b),
-        |part: &One<'_, C>| -> Result<Vec<Slice<Steady<bool>>>, OpFault>
-            ensures { MatchResult result (λ v. v.items ≡ record { span = part.now.span; course = record { value = C.relation rel a.entry.now (C.start_of part.now.slice.now.course) } } ∷ []) (λ e. e ≡ OpFault.NoMemory) }
-        {
-            let value = C::relates(rel, a, part.slice.course.start());
+            let value = test(part.slice.course.start());
             single(alloc, part.span, value)
         },
     )
@@ -88,13 +67,13 @@ fn truths_of<C: Compared>(
 ) -> Result<Vec<Slice<Steady<bool>>>, OpFault>
     requires steady { C.STEADY ≡ true }
     requires moving { (is_moving a || is_moving b) ≡ true }
-    ensures truths { IfOk result (λ all. AreTruths (C.relation rel) (operand_at C.value_of a.entry) (operand_at C.value_of b.entry) all.items) }
+    ensures truths { IfOk result (λ all. AreTruths (λ t. map_both (C.relation rel) (operand_at C.value_of a.entry t) (operand_at C.value_of b.entry t)) all.items) }
     ensures fault { IfErr result (λ e. e ≡ OpFault.NoMemory) }
 {
     match (a, b) {
         (Operand::Moving(a), Operand::Moving(b)) => on_both(alloc, a, b, rel),
-        (Operand::Moving(a), Operand::Fixed(b)) => on_left(alloc, a, b, rel),
-        (Operand::Fixed(a), Operand::Moving(b)) => on_right(alloc, a, b, rel),
+        (Operand::Moving(a), Operand::Fixed(b)) => on_one(alloc, a, |x| C::relates(rel, x, b)),
+        (Operand::Fixed(a), Operand::Moving(b)) => on_one(alloc, b, |y| C::relates(rel, a, y)),
         (Operand::Fixed(_), Operand::Fixed(_)) => unreachable!(),
     }
 }

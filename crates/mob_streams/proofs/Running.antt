@@ -1,15 +1,12 @@
 -- One statement more.
-use Rattle.std.proofs.Common.{◌≡◌, ◌∙◌, refl, sym, ap, subst, arith, ℕ, ◌+◌, ◌<◌, length, get_or, take, List, [], ◌∷◌, ◌++◌, Some, append-nil, append_assoc}
-use Rattle.std.specs.Prelude.{Option, slice_get}
+use Rattle.std.proofs.Common.{◌≡◌, ◌∙◌, refl, sym, ap, subst, arith, ℕ, ◌+◌, ◌<◌, length, get_or, take, List, [], ◌∷◌, ◌++◌, append-nil, append_assoc}
+use Rattle.std.specs.Prelude.{Option}
 use Rattle.std.specs.Io.KnownBytes.{Appends}
 use Rattle.std.proofs.lemmas.Grind.{take_at_read}
 use Rattle.std.proofs.lemmas.List.{length-append}
 use Rattle.std.proofs.Math.Seq.{take-append-add}
 use Rattle.mob_streams.specs.Streams.{PutsPart}
-use Rattle.mob_streams.specs.Answers.{Ran, RanFirst, PutsFront, OnFault, Halted, Ends}
-use Rattle.mob_streams.specs.declared.answers.Halt.{Halt}
-use Rattle.mob_streams.specs.declared.answers.Halt.TheVariants.{Fault, NoMemory as OutOfMemory}
-use Rattle.mob_streams.specs.declared.answers.RunEnd.{RunEnd}
+use Rattle.mob_streams.specs.Answers.{Ran, RanFirst, PutsFront}
 use Rattle.mob_streams.proofs.Known.{puts_more, puts_nothing}
 
 module _ {E S : Type 0} (step : E → S → E → List ℕ → Type 0) where
@@ -49,8 +46,3 @@ module _ {E S : Type 0} (step : E → S → E → List ℕ → Type 0) where
           ran = ran_on j x t u h.text b lt is h.ran g;
           part = (length h.text + part.0, omega arith, rw cut (puts_more old now next h.text (take part.0 b) h.put part.2));
         }
-
-    pub halted_ends : {F : Type 0} (stops : E → S → F → Type 0) (j : ℕ) (x : S) (t : E) (now : Option (List ℕ)) (before after : ℕ) (halt : Halt F) (e : RunEnd F) → slice_get all j ≡ Some x
-        → RanFirst step s all j t old now → OnFault (λ f. stops t x f) halt → Halted (j + 1) halt e → Ends step stops s all old now before after e
-    halted_ends stops j x t now before after (Fault f) e get h g is = subst (Ends step stops s all old now before after) (sym is) (j, refl, t, x, h, get, g)
-    halted_ends stops j x t now before after OutOfMemory e get h g is = subst (Ends step stops s all old now before after) (sym is) (j, t, h)

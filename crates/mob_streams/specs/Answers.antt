@@ -32,12 +32,13 @@ pub record PutsFront {E S : Type 0} (step : E → S → E → List ℕ → Type 
   pub ran : Ran step s (take j all) end text
   pub part : PutsPart text old now
 
--- How the statements end, and what was written. Statements count from 1.
-abbrev pub Ends : {E S F : Type 0} → (E → S → E → List ℕ → Type 0) → (E → S → F → Type 0) → E → List S → Option (List ℕ) → Option (List ℕ) → ℕ → ℕ → RunEnd F → Type 0
-Ends {E} step stops s all old now before after Done = (t : E) × (text : List ℕ) × Ran step s all t text × Appends old now text
-Ends {E} {S} step stops s all old now before after (Stopped n f) = (j : ℕ) × (n ≡ j + 1) × (t : E) × (x : S) × RanFirst step s all j t old now × (slice_get all j ≡ Some x) × stops t x f
-Ends step stops s all old now before after NotWritten = PutsFront step s all old now × Rose before after
-Ends {E} step stops s all old now before after NoMemory = (j : ℕ) × (t : E) × RanFirst step s all j t old now
+-- How the statements end that are run from the state s, and what is written. Where all ran, `left` is the state to which
+-- they took it. Statements count from 1.
+abbrev pub Ends : {E S F : Type 0} → (E → S → E → List ℕ → Type 0) → (E → S → F → Type 0) → E → E → List S → Option (List ℕ) → Option (List ℕ) → ℕ → ℕ → RunEnd F → Type 0
+Ends step stops s left all old now before after Done = (text : List ℕ) × Ran step s all left text × Appends old now text
+Ends {E} {S} step stops s left all old now before after (Stopped n f) = (j : ℕ) × (n ≡ j + 1) × (t : E) × (x : S) × RanFirst step s all j t old now × (slice_get all j ≡ Some x) × stops t x f
+Ends step stops s left all old now before after NotWritten = PutsFront step s all old now × Rose before after
+Ends {E} step stops s left all old now before after NoMemory = (j : ℕ) × (t : E) × RanFirst step s all j t old now
 
 -- the end where the statement of this number has no answer
 abbrev pub Halted : {F : Type 0} → ℕ → Halt F → RunEnd F → Type 0

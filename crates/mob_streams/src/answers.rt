@@ -1,7 +1,6 @@
 // Statements that run one after another, each with the text of its answer.
-ghost use Rattle.std.specs.Prelude.{◌≡◌, ◌≤◌, IfOk, IfErr, List, ℕ, length};
-ghost use Rattle.mob_streams.specs.Answers.{Ends, Halted, OnFault, RanFirst};
-ghost use Rattle.mob_streams.specs.declared.answers.RunEnd.TheVariants.{Done};
+ghost use Rattle.std.specs.Prelude.{◌≤◌, IfOk, IfErr, List, ℕ};
+ghost use Rattle.mob_streams.specs.Answers.{Ends, Halted, OnFault};
 
 use crate::streams::put_all;
 use mob_outside::Sink;
@@ -61,9 +60,8 @@ pub fn run_all<E: Engine, K: Sink>(
     statements: &[E::Statement],
     out: &mut K,
 ) -> RunEnd<E::Fault>
-    ensures ends { Ends E.step E.stops engine.old statements.now (K.held out.old) (K.held out.new) (K.faults out.old) (K.faults out.new) result }
+    ensures ends { Ends E.step E.stops engine.old engine.new statements.now (K.held out.old) (K.held out.new) (K.faults out.old) (K.faults out.new) result }
     ensures later { K.faults out.old ≤ K.faults out.new }
-    ensures left { result ≡ Done → RanFirst E.step engine.old statements.now (length statements.now) engine.new (K.held out.old) (K.held out.new) }
 {
     let mut number: u32 = 1;
     for statement in statements {

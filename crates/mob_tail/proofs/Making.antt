@@ -1,7 +1,8 @@
 -- How far a loop is that makes something of each entry of a list.
-use Rattle.std.proofs.Common.{◌≡◌, inl, inr, ℕ, ◌+◌, ◌<◌, List, [], ◌∷◌, ◌++◌, Result, Ok, Err, length, map, take, drop, get_or, ◌≤◌, refl, sym, ap, subst, ◌∙◌, arith}
-use Rattle.std.proofs.lemmas.List.{take_more, take_all, take-append-drop, length-map, get_or-map}
-use Rattle.mob_eval.specs.Runs.{Fault, OnPassed as OnFault}
+use Rattle.std.proofs.Common.{◌≡◌, ◌⊎◌, inl, inr, ℕ, ◌+◌, ◌<◌, List, [], ◌∷◌, ◌++◌, Result, Ok, Err, length, map, take, drop, get_or, ◌≤◌, refl, sym, ap, subst, ◌∙◌, arith}
+use Rattle.std.proofs.lemmas.List.{take_more, take_all, take-append-drop}
+use Rattle.mob_eval.specs.Runs.{Fault, OnPassed}
+use Rattle.mob_slice.specs.declared.formula.Formula.{Formula}
 use Rattle.mob_eval.specs.declared.fault.EvalFault.{EvalFault}
 use Rattle.mob_eval.specs.declared.fault.EvalFault.TheVariants.{Passed, NoMemory}
 use Rattle.mob_tail.specs.Each.{Each}
@@ -31,26 +32,20 @@ module _ {X Y F : Type 0} (R : X → Result Y F → Type 0) where
   pub each_all : (xs : List X) (i : ℕ) (ys : List Y) → length xs ≡ i → Each R (take i xs) (Ok ys) → Each R xs (Ok ys)
   each_all xs i ys e h = let most : length xs ≤ i = omega arith in subst (λ z. Each R z (Ok ys)) (take_all i xs most) h
 
--- the same over the entries of a list as a function sees them, where the loop goes over a slice of this list
-module _ {W X Y F : Type 0} (R : X → Result Y F → Type 0) (f : W → X) (ws slice : List W) (same : slice ≡ ws) (i : ℕ) where
-  module _ (w : W) (lt : i < length slice) (is : w ≡ get_or slice i w) (ys : List Y) (h : Each R (take i (map f ws)) (Ok ys)) where
-    below : i < length (map f ws)
-    below = omega (arith, length-map ws f, ap length same)
+-- what is made of the entries of a list is made of what they are seen as, and so is the first fault
+module _ {W X Y : Type 0} (G : W → Result Y EvalFault → Type 0) (R : X → Result Y Fault → Type 0) (see : W → X) where
+  pub each_seen : (ws : List W) (ys : List Y) → Each G ws (Ok ys) → ((w : W) (y : Y) → G w (Ok y) → R (see w) (Ok y)) → Each R (map see ws) (Ok ys)
+  each_seen [] ys h good = h
+  each_seen (w ∷ ws) ys h good = (h.0, good w h.0 h.1, (h.2.0, h.2.1, each_seen ws h.2.0 h.2.2 good))
 
-    seen : f w ≡ get_or (map f ws) i (f w)
-    seen =
-        let there : i < length ws = omega (arith, ap length same) in
-        ap f (is ∙ ap (λ z. get_or z i w) same) ∙ sym (get_or-map f ws i w (f w) there)
+  passed_seen : (ws : List W) (place : ℕ) (formula : Formula) → Each G ws (Err (Passed place formula)) → ((w : W) (y : Y) → G w (Ok y) → R (see w) (Ok y)) → ((w : W) (e : EvalFault) → G w (Err e) → OnPassed (λ f. R (see w) (Err f)) e)
+      → Each R (map see ws) (Err (place, formula))
+  passed_seen [] place formula h good bad = h
+  passed_seen (w ∷ ws) place formula (inl h) good bad = inl (bad w (Passed place formula) h)
+  passed_seen (w ∷ ws) place formula (inr h) good bad = inr (h.0, good w h.0 h.1, passed_seen ws place formula h.2 good bad)
 
-    pub seen_next : (y : Y) (next : List Y) → R (f w) (Ok y) → next ≡ ys ++ y ∷ [] → Each R (take (i + 1) (map f ws)) (Ok next)
-    seen_next = each_next R (map f ws) i (f w) below seen ys h
-
-    pub seen_fault : (e : F) → R (f w) (Err e) → Each R (map f ws) (Err e)
-    seen_fault = each_fault R (map f ws) i (f w) below seen ys h
-
-  pub seen_all : (ys : List Y) → length slice ≡ i → Each R (take i (map f ws)) (Ok ys) → Each R (map f ws) (Ok ys)
-  seen_all ys e = each_all R (map f ws) i ys (length-map ws f ∙ ap length (sym same) ∙ e)
-
-pub on_fault : (P Q : Fault → Type 0) → ((f : Fault) → P f → Q f) → (fault : EvalFault) → OnFault P fault → OnFault Q fault
-on_fault P Q step (Passed place formula) h = step (place, formula) h
-on_fault P Q step NoMemory h = h
+  pub fault_seen : (ws : List W) (e : EvalFault) → Each G ws (Err e) ⊎ (e ≡ NoMemory) → ((w : W) (y : Y) → G w (Ok y) → R (see w) (Ok y)) → ((w : W) (e : EvalFault) → G w (Err e) → OnPassed (λ f. R (see w) (Err f)) e)
+      → OnPassed (λ f. Each R (map see ws) (Err f)) e
+  fault_seen ws (Passed place formula) (inl h) good bad = passed_seen ws place formula h good bad
+  fault_seen ws (Passed place formula) (inr h) good bad = absurd cc
+  fault_seen ws NoMemory h good bad = tt

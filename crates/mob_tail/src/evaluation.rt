@@ -1,5 +1,6 @@
 // The rows of the kept tuples: their printed fields and the values of their keys.
-ghost use Rattle.std.specs.Prelude.{◌≡◌, Ok, Err, IfOk, IfErr};
+ghost use Rattle.std.specs.Prelude.{◌≡◌, ◌⊎◌, Ok, Err, IfOk, IfErr};
+ghost use Rattle.std.specs.Fn.{FnReturnsAt};
 ghost use Rattle.mob_typing.specs.Selects.{select_seen, output_of, key_seen};
 ghost use Rattle.mob_eval.specs.Scene.{scene};
 ghost use Rattle.mob_eval.specs.Views.{scene_of};
@@ -45,22 +46,39 @@ fn key_of(alloc: Global, view: &View<'_>, key: &(TExpr, bool)) -> Result<Value, 
     eval(alloc, &key.0, view.store, view.from, view.tuple, view.epoch)
 }
 
+// What `make` gives for each entry, in order, or its first fault.
+fn each_of<T, V: Drop, F: Fn(&T) -> Result<V, EvalFault>>(
+    alloc: Global,
+    entries: &[T],
+    make: F,
+) -> Result<Items<V>, EvalFault>
+    requires callable { F.IsAlwaysCallable make }
+    ensures made { IfOk result (λ made. Each (FnReturnsAt F.Fn make) entries.now (Ok made)) }
+    ensures fault { IfErr result (λ e. Each (FnReturnsAt F.Fn make) entries.now (Err e) ⊎ (e ≡ EvalFault.NoMemory)) }
+{
+    let mut made = Items::new(alloc);
+    for entry in entries {
+        let value = match make(entry) {
+            Ok(value) => value,
+            Err(fault) => return Err(fault),
+        };
+        if made.push(value).is_err() {
+            return Err(EvalFault::NoMemory);
+        }
+    }
+    Ok(made)
+}
+
 // The printed fields of the select list.
 fn fields_on(alloc: Global, select: &TypedSelect, view: &View<'_>) -> Result<Items<Text>, EvalFault>
     ensures fields { IfOk result (λ fields. Each (IsField (scene_of view.now)) (select_seen select.now).items (Ok fields)) }
     ensures fault { IfErr result (OnPassed (λ f. Each (IsField (scene_of view.now)) (select_seen select.now).items (Err f))) }
 {
-    let mut fields = Items::new(alloc);
-    for item in select.items.as_slice() {
-        let field = match field_of(alloc, view, item) {
-            Ok(field) => field,
-            Err(fault) => return Err(fault),
-        };
-        if fields.push(field).is_err() {
-            return Err(EvalFault::NoMemory);
-        }
-    }
-    Ok(fields)
+    each_of(
+        alloc,
+        select.items.as_slice(),
+        |item| field_of(alloc, view, item),
+    )
 }
 
 // The values of the keys.
@@ -68,17 +86,11 @@ fn keys_on(alloc: Global, select: &TypedSelect, view: &View<'_>) -> Result<Items
     ensures keys { IfOk result (λ keys. Each (IsKey (scene_of view.now)) (select_seen select.now).keys (Ok keys)) }
     ensures fault { IfErr result (OnPassed (λ f. Each (IsKey (scene_of view.now)) (select_seen select.now).keys (Err f))) }
 {
-    let mut keys = Items::new(alloc);
-    for key in select.keys.as_slice() {
-        let value = match key_of(alloc, view, key) {
-            Ok(value) => value,
-            Err(fault) => return Err(fault),
-        };
-        if keys.push(value).is_err() {
-            return Err(EvalFault::NoMemory);
-        }
-    }
-    Ok(keys)
+    each_of(
+        alloc,
+        select.keys.as_slice(),
+        |key| key_of(alloc, view, key),
+    )
 }
 
 fn row_on(alloc: Global, select: &TypedSelect, view: &View<'_>) -> Result<Keyed, EvalFault>

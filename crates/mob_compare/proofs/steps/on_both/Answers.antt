@@ -1,9 +1,8 @@
-use Rattle.std.proofs.Common.{rules, refl, ◌∙◌, ◌≡◌}
+use Rattle.std.proofs.Common.{rules, refl, ◌∙◌}
 use Rattle.std.proofs.lemmas.Result.{IfOk-weaker}
 use Rattle.mob_slice.specs.Operands.{steady_value}
-use Rattle.mob_slice.specs.declared.formula.OpFault.TheVariants.{Passed, NoMemory}
-use Rattle.mob_lift.proofs.Pointwise.{mapped_at, one_given, on_fault}
-use Rattle.mob_compare.proofs.Faults.{memory_alone, no_formula}
+use Rattle.mob_lift.proofs.Pointwise.{mapped_at, one_given}
+use Rattle.mob_compare.proofs.Faults.{memory_alone}
 use Rattle.mob_sync.proofs.Steps.{walk_clear, walk_fits, walk_common}
 use Rattle.mob_sync.proofs.Sides.{at_slice, pairs_map, common_in}
 use Rattle.mob_compare.proofs.steps.on_both.Goals as goal
@@ -31,9 +30,4 @@ returns-clause-truths g c =
     }) c.lift.ensures.lifted
 
 pub returns-clause-fault : goal.returns-clause-fault
-returns-clause-fault g c =
-    memory_alone c.lift.result (λ formula e.
-    let f = c.lift.ensures.passed formula e in
-    on_fault _ _ f.0 f.3 (λ p i k.
-    let bad : Passed formula ≡ NoMemory = search rules in
-    no_formula formula bad))
+returns-clause-fault g c = memory_alone c.lift.result c.lift.ensures.passed (λ formula p h. search rules)

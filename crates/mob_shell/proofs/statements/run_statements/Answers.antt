@@ -4,7 +4,7 @@ use Rattle.mob_shell.proofs.statements.run_statements.Goals as goal
 pub returns-in-Done-clause-ends : goal.returns-in-Done-clause-ends
 returns-in-Done-clause-ends g c =
     let ends = rw c.as_slice.ensures.same at c.in-Done.ensures.ends in
-    seen_all c.args.epoch c.args.program c.args.typed.now c.new-session.result c.new-session.ensures.begins c.new-session.ensures.day _ _ ends.0 ends.1 ends.2 ends.3
+    seen_all c.args.epoch c.args.program c.args.typed.now c.new-session.result c.new-session.ensures.begins c.new-session.ensures.day _ _ _ ends.0 ends.1 ends.2
 
 pub returns-in-NotWritten-clause-ends : goal.returns-in-NotWritten-clause-ends
 returns-in-NotWritten-clause-ends g c =

@@ -1,32 +1,18 @@
-use Rattle.std.proofs.Common.{rules, ◌≡◌, ◌++◌, ◌∷◌, [], Err, map, arith}
+use Rattle.std.proofs.Common.{rules}
+use Rattle.std.specs.Fn.{FnReturnsAt}
+use Rattle.std.proofs.lemmas.Result.{MatchResult-weaker}
 use Rattle.mob_typing.specs.Selects.{key_seen}
 use Rattle.mob_eval.specs.Views.{scene_of}
-use Rattle.mob_tail.specs.Each.{Each}
 use Rattle.mob_tail.specs.Answers.{IsKey}
-use Rattle.mob_tail.proofs.Making.{seen_next, seen_fault, seen_all, on_fault}
+use Rattle.mob_tail.proofs.Making.{each_seen, fault_seen}
 use Rattle.mob_tail.proofs.evaluation.keys_on.Goals as goal
-
-pub loop-key-preserved : goal.loop-key-preserved
-loop-key-preserved c =
-    let at = c.loop-key in
-    let R = IsKey (scene_of c.args.view.now) in
-    let slice = c.as_slice-key-items in
-    let pushed : c.push.new.self ≡ at.keys ++ c.in-Ok.value ∷ [] = search rules in
-    seen_next R key_seen c.args.select.now.keys slice.result.now slice.ensures.same at.key-index c.key-item.result c.loop-key-test.true c.key-item.is at.keys at.invariant
-    c.in-Ok.value c.push.new.self c.in-Ok.ensures.key pushed
-
-pub returns-in-Err-clause-fault : goal.returns-in-Err-clause-fault
-returns-in-Err-clause-fault c =
-    let at = c.loop-key in
-    let R = IsKey (scene_of c.args.view.now) in
-    let items = map key_seen c.args.select.now.keys in
-    let slice = c.as_slice-key-items in
-    on_fault (λ f. R (key_seen c.key-item.result) (Err f)) (λ f. Each R items (Err f))
-    (seen_fault R key_seen c.args.select.now.keys slice.result.now slice.ensures.same at.key-index c.key-item.result c.loop-key-test.true c.key-item.is at.keys at.invariant)
-    c.in-Err.fault c.in-Err.ensures.fault
 
 pub returns-clause-keys : goal.returns-clause-keys
 returns-clause-keys c =
-    let at = c.loop-key in
-    let slice = c.as_slice-key-items in
-    seen_all (IsKey (scene_of c.args.view.now)) key_seen c.args.select.now.keys slice.result.now slice.ensures.same at.key-index at.keys (omega arith) at.invariant
+    let made = rw c.as_slice.ensures.same at c.each_of.ensures.made in
+    MatchResult-weaker c.each_of.result made (λ keys h. each_seen (FnReturnsAt _ _) (IsKey (scene_of c.args.view.now)) key_seen _ keys h (λ w y k. search rules)) (λ e h. h)
+
+pub returns-clause-fault : goal.returns-clause-fault
+returns-clause-fault c =
+    let fault = rw c.as_slice.ensures.same at c.each_of.ensures.fault in
+    MatchResult-weaker c.each_of.result fault (λ keys h. h) (λ e h. fault_seen (FnReturnsAt _ _) (IsKey (scene_of c.args.view.now)) key_seen _ e h (λ w y k. search rules) (λ w e k. search rules))
