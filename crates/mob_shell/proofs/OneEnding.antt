@@ -1,6 +1,6 @@
 -- The definitions ask for one ending.
 use Rattle.std.proofs.Common.{◌≡◌, ap, refl, inl, inr, ℕ, ℤ, List}
-use Rattle.std.specs.Prelude.{◌⊎◌, Some, None}
+use Rattle.std.specs.Prelude.{Some, None}
 use Rattle.mob_ast.specs.declared.refusal.Refusal.{Refusal}
 use Rattle.mob_outside.specs.Told.{Contents}
 use Rattle.mob_typing.specs.Statements.{ScriptOut}

@@ -9,8 +9,8 @@ returns-in-Err-clause-first_fault c =
     let refusal = c.in_ok-ok_or-in-Err.field-0 in
     let refused = sym c.constant_refusal.ensures.refusal ∙ rw c.in_ok-ok_or-in-Err.was at c.ok_or.ensures.ok_part in
     inr (fails_here (IsConstant c.args.epoch.now) (ConstantFails c.args.epoch.now) c.args.texts.now c.loop-text.values c.loop-text.text-index c.text-item.result refusal
-      c.loop-text-test.true c.text-item.is c.loop-text.invariant
-      (fault_fails c.args.epoch.now c.loop-text.text-index c.text-item.result c.in-Err.fault refusal (rw c.as_str.ensures.same at c.in-Err.ensures.reading) refused))
+    c.loop-text-test.true c.text-item.is c.loop-text.invariant
+    (fault_fails c.args.epoch.now c.loop-text.text-index c.text-item.result c.in-Err.fault refusal (rw c.as_str.ensures.same at c.in-Err.ensures.reading) refused))
 
 pub loop-text-preserved : goal.loop-text-preserved
 loop-text-preserved c =
