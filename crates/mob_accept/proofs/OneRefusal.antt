@@ -34,8 +34,8 @@ has_trees bytes e (inr h) = (h.trees, h.script.read)
 has_no_trees : (bytes : List ℕ) (d e : Refusal) → IsNoScript bytes d → IsRefusedTree bytes e → ⊥
 has_no_trees bytes d e h k = let read = has_trees bytes e k in h.other (no_tree d.kind bytes d h.cause read.0 read.1.tree read.1.light)
 
-name_or_built : (bytes : List ℕ) (d e : Refusal) → IsWrongName bytes d → IsNotBuilt bytes e → ⊥
-name_or_built bytes d e h k =
+never_wrong_name_and_not_built : (bytes : List ℕ) (d e : Refusal) → IsWrongName bytes d → IsNotBuilt bytes e → ⊥
+never_wrong_name_and_not_built bytes d e h k =
     let trees = one_text bytes h.trees k.trees h.read.tree k.script.read.tree in
     let wrong = h.first in
     let typed = k.script.typed in
@@ -47,8 +47,8 @@ tree_once bytes d e (inl h) (inl k) =
     let one = h.first in
     let other = k.first in
     cc
-tree_once bytes d e (inl h) (inr k) = absurd (name_or_built bytes d e h k)
-tree_once bytes d e (inr h) (inl k) = absurd (name_or_built bytes e d k h)
+tree_once bytes d e (inl h) (inr k) = absurd (never_wrong_name_and_not_built bytes d e h k)
+tree_once bytes d e (inr h) (inl k) = absurd (never_wrong_name_and_not_built bytes e d k h)
 tree_once bytes d e (inr h) (inr k) =
     let same = one_typed bytes h.trees k.trees h.out k.out h.script k.script in
     let one : least (unbuilt_places bytes k.trees k.out) ≡ Some h.place = subst (λ o. least (unbuilt_places bytes k.trees o) ≡ Some h.place) same.1 (subst (λ x. least (unbuilt_places bytes x h.out) ≡ Some h.place) same.0 h.first) in

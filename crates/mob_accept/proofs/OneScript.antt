@@ -10,7 +10,7 @@ use Rattle.mob_parse.proofs.Scripts.{script_only}
 use Rattle.mob_typing.specs.Statements.{ScriptOut}
 use Rattle.mob_built.specs.Least.{least}
 use Rattle.mob_accept.specs.Accepts.{IsTyped, unbuilt_places}
-use Rattle.mob_accept.specs.Outcomes.{HasOneScript, IsTakenOrRefused}
+use Rattle.mob_accept.specs.Outcomes.{HasOneScript, NeverTakenAndRefused}
 
 -- tokens have one tree: what the reading of them gives
 one_tree : (l : List Tok) (x y : List StatementParts) → IsScript l x → IsScript l y → x ≡ y
@@ -31,15 +31,15 @@ one_typed bytes x y a b h k =
 pub one_script : HasOneScript
 one_script bytes a b h k = (one_typed bytes h.trees k.trees a b h.script k.script).1
 
-pub taken_or_refused : IsTakenOrRefused
-taken_or_refused bytes out e h (inl k) = let long = k.long in let short = h.script.read.short in absurd (omega arith)
-taken_or_refused bytes out e h (inr (inl k)) = k.other (no_tree e.kind bytes e k.cause h.trees h.script.read.tree h.script.read.light)
-taken_or_refused bytes out e h (inr (inr (inl k))) =
+pub never_taken_and_refused : NeverTakenAndRefused
+never_taken_and_refused bytes out e h (inl k) = let long = k.long in let short = h.script.read.short in absurd (omega arith)
+never_taken_and_refused bytes out e h (inr (inl k)) = k.other (no_tree e.kind bytes e k.cause h.trees h.script.read.tree h.script.read.light)
+never_taken_and_refused bytes out e h (inr (inr (inl k))) =
     let trees = one_text bytes h.trees k.trees h.script.read.tree k.read.tree in
     let typed = h.script.typed in
     let wrong = k.first in
     absurd cc
-taken_or_refused bytes out e h (inr (inr (inr k))) =
+never_taken_and_refused bytes out e h (inr (inr (inr k))) =
     let same = one_typed bytes h.trees k.trees out k.out h.script k.script in
     let places = ap₂ (λ (x : List StatementParts) (o : ScriptOut). unbuilt_places bytes x o) same.0 same.1 in
     let none : least (unbuilt_places bytes k.trees k.out) ≡ None = ap least (sym places ∙ h.built) in

@@ -9,8 +9,8 @@ abbrev pub HasOneScript : Type 0
 HasOneScript = (bytes : List ℕ) (a b : ScriptOut) → IsAccepted bytes a → IsAccepted bytes b → a ≡ b
 
 -- no text is taken and refused
-abbrev pub IsTakenOrRefused : Type 0
-IsTakenOrRefused = (bytes : List ℕ) (out : ScriptOut) (e : Refusal) → IsAccepted bytes out → IsTextRefused bytes e → ⊥
+abbrev pub NeverTakenAndRefused : Type 0
+NeverTakenAndRefused = (bytes : List ℕ) (out : ScriptOut) (e : Refusal) → IsAccepted bytes out → IsTextRefused bytes e → ⊥
 
 -- a text that is refused by itself has one refusal
 abbrev pub HasOneRefusal : Type 0

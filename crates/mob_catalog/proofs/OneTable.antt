@@ -19,7 +19,7 @@ use Rattle.mob_literal.proofs.SqlReading.{one_sql_reading}
 use Rattle.mob_catalog.specs.Faults.{Refuses, Wrong}
 use Rattle.mob_catalog.specs.Fields.{FieldSays}
 use Rattle.mob_catalog.specs.TableFile.{Column, Field, FieldFails, HasHeader, HasRecords, IsRow, IsValue, RecordFails, RecordsFail, RowFails}
-use Rattle.mob_catalog.specs.Outcomes.{HasOneTable, HasOneFault, IsReadOrRefused}
+use Rattle.mob_catalog.specs.Outcomes.{HasOneTable, HasOneFault, NeverReadAndRefused}
 use Rattle.mob_catalog.proofs.OneFirst.{IsSettled, all_one, none_fails, one_first}
 
 -- a field says one thing
@@ -142,8 +142,8 @@ one_fault columns day room bytes v w (inr h) (inr k) =
     let records : h.1.0 ≡ k.1.0 = one_records bytes h.1.0 k.1.0 h.1.1 k.1.1 in
     records_fault day columns room k.1.0 v w (subst (λ (l : List (List Field)). RecordsFail columns day room l v) records h.1.2) k.1.2
 
-pub read_or_refused : IsReadOrRefused
-read_or_refused columns day room bytes rows w h (inl k) = let long = k.0 in let short = h.short in absurd (omega arith)
-read_or_refused columns day room bytes rows w h (inr k) =
+pub never_read_and_refused : NeverReadAndRefused
+never_read_and_refused columns day room bytes rows w h (inl k) = let long = k.0 in let short = h.short in absurd (omega arith)
+never_read_and_refused columns day room bytes rows w h (inr k) =
     let records : k.1.0 ≡ h.records = one_records bytes k.1.0 h.records k.1.1 h.all in
     records_told day columns room h.records rows w h.header h.read h.within (subst (λ (l : List (List Field)). RecordsFail columns day room l w) records k.1.2)

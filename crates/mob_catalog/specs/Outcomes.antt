@@ -13,5 +13,5 @@ abbrev pub HasOneFault : Type 0
 HasOneFault = (columns : List Column) (day : ℤ) (room : ℕ) (bytes : List ℕ) (v w : Wrong) → FileFails columns day room bytes v → FileFails columns day room bytes w → v ≡ w
 
 -- a file with something wrong in it says no rows
-abbrev pub IsReadOrRefused : Type 0
-IsReadOrRefused = (columns : List Column) (day : ℤ) (room : ℕ) (bytes : List ℕ) (rows : List (List Value)) (w : Wrong) → IsTable columns day room bytes rows → FileFails columns day room bytes w → ⊥
+abbrev pub NeverReadAndRefused : Type 0
+NeverReadAndRefused = (columns : List Column) (day : ℤ) (room : ℕ) (bytes : List ℕ) (rows : List (List Value)) (w : Wrong) → IsTable columns day room bytes rows → FileFails columns day room bytes w → ⊥

@@ -1,35 +1,31 @@
 // The constants of a script.
-ghost use Rattle.std.specs.Prelude.{◌≡◌, ◌⊎◌, IfErr, IfOk};
+ghost use Rattle.std.specs.Prelude.{◌≡◌, ◌⊎◌, IfErr, IfOk, option_map};
 ghost use Rattle.std.specs.List.{AllZip};
 ghost use Rattle.mob_ast.specs.Kinds.{no_memory};
-ghost use Rattle.mob_catalog.specs.Constants.{ConstantFails, IsConstant};
-ghost use Rattle.mob_catalog.specs.Faults.{Refuses};
+ghost use Rattle.mob_catalog.specs.Constants.{ConstantFails, IsConstant, at_constant};
+ghost use Rattle.mob_catalog.specs.Faults.{refusal_of};
 ghost use Rattle.mob_catalog.specs.FirstFault.{IsFirstFault};
 
 use crate::fault::refusal_kind;
-use mob_ast::{Kind, Refusal};
+use mob_ast::Refusal;
 use mob_list::items::Items;
 use mob_literal::read_value;
 use mob_scalar::{Epoch, ReadText};
 use mob_typing::ConstText;
 use mob_value::Value;
-use std::alloc::Global;
+use std::alloc::{AllocError, Global};
 
-// The refusal of a constant whose text has this fault.
-fn refusal_of(fault: ReadText, text: &ConstText) -> Refusal
-    ensures refusal { (result ≡ no_memory) ⊎ ((Refuses fault result.kind) × (result.statement ≡ text.now.statement) × (result.place ≡ text.now.place)) }
+/// The refusal of a constant whose text has this fault, at the constant's statement and place. Want of memory refuses no text.
+pub fn constant_refusal(fault: ReadText, constant: &ConstText) -> Option<Refusal>
+    ensures refusal { result ≡ option_map (at_constant constant.now) (refusal_of fault) }
 {
     match refusal_kind(fault) {
-        Some(kind) => Refusal {
+        Some(kind) => Some(Refusal {
             kind,
-            statement: text.statement,
-            place: text.place,
-        },
-        None => Refusal {
-            kind: Kind::NoMemory,
-            statement: 0,
-            place: 0,
-        },
+            statement: constant.statement,
+            place: constant.place,
+        }),
+        None => None,
     }
 }
 
@@ -45,7 +41,7 @@ pub fn constants(alloc: Global, texts: &[ConstText], epoch: &Epoch) -> Result<It
     for text in texts {
         match read_value(alloc, text.ty, text.text.as_str(), epoch) {
             Ok(value) => values.push(value)?,
-            Err(fault) => return Err(refusal_of(fault, text)),
+            Err(fault) => return Err(constant_refusal(fault, text).ok_or(AllocError)?),
         }
     }
     Ok(values)

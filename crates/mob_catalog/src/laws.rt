@@ -1,9 +1,9 @@
 //! What holds of every table file. No code runs here.
-ghost use Rattle.mob_catalog.specs.Outcomes.{HasOneFault, HasOneTable, IsReadOrRefused};
+ghost use Rattle.mob_catalog.specs.Outcomes.{HasOneFault, HasOneTable, NeverReadAndRefused};
 
 /// A table file has one outcome: it has the rows that it says, or one thing is wrong first in it, and never both.
 pub fn one_table()
     ensures rows { HasOneTable }
     ensures faults { HasOneFault }
-    ensures apart { IsReadOrRefused }
+    ensures apart { NeverReadAndRefused }
 {}

@@ -11,6 +11,6 @@ mod row;
 mod table_file;
 
 pub use catalog::Catalog;
-pub use consts::constants;
+pub use consts::{constant_refusal, constants};
 pub use fault::{LoadFault, refusal_kind};
 pub use table_file::{FILE_LIMIT, read_table};

@@ -25,10 +25,6 @@ pub stops_both : (test : ℕ → Bool) (text rest : Text) → Stops test text �
 stops_both test [] rest a b = b
 stops_both test (c ∷ cs) rest a b = a
 
--- a text of the language does not go on a text before it
-pub no_head : {A : Type 0} {l : Language A} {test : ℕ → Bool} → NoHead l test → (text rest : Text) (v : A) → l text v → Stops test rest → Stops test (text ++ rest)
-no_head {A} {l} {test} h text rest v said after = stops_both test text rest (h text v said) after
-
 pub then_head : {A B : Type 0} {l : Language A} {m : Language B} {test : ℕ → Bool} → NoHead l test → NoHead m test → NoHead (l ▷ m) test
 then_head {A} {B} {l} {m} {test} h k text v said = subst (Stops test) (sym said.whole) (stops_both test said.front said.back (h said.front v.0 said.first) (k said.back v.1 said.second))
 

@@ -1,4 +1,5 @@
 pub mod Asked
+pub mod Each
 pub mod Examples
 pub mod Fronts
 pub mod Narrow

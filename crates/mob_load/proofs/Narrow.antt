@@ -1,5 +1,6 @@
 -- The tables of a typed script have at most 64 columns.
 use Rattle.std.proofs.Common.{◌≡◌, refl, sym, subst, arith, Bool, true, false, ℕ, zero, suc, ◌+◌, ◌≤◌, ◌<◌, List, [], ◌∷◌, ◌++◌, length, length-append, map, get_or, Result, Ok, Err}
+use Rattle.std.specs.List.{AllByRecursion}
 use Rattle.std.specs.Prelude.{OnOk, nat_le, slice_get}
 use Rattle.std.proofs.lemmas.Bool.{leb-false}
 use Rattle.mob_ast.specs.declared.types.Word.{Word}
@@ -13,10 +14,11 @@ use Rattle.mob_typing.specs.Answers.{Wrong, ◌>>=◌, unless, found}
 use Rattle.mob_typing.specs.Names.{ColumnList, NameLists, table_of, has_entry, has_name, column_of}
 use Rattle.mob_typing.specs.Words.{type_named}
 use Rattle.mob_typing.specs.Selects.{TypedSelectParts, typed_select}
-use Rattle.mob_typing.specs.Statements.{ScriptOut, StatementOut, nothing, new_table, new_index, new_rows, rows_from, query, plan_of, Made, with_column, with_columns, with_table, made_table, made_index, typed_rows, inserted, good_delimiter, copied, keeping, asked, in_statement, or_refused, typed_statement, typed_from, typed_script, no_names}
-use Rattle.mob_load.specs.Checks.{CheckParts, check_seen, literal, Mark, bracket, marks_of, marks_from, stands_before, up_to, in_order, checks_of}
+use Rattle.mob_typing.specs.Statements.{ScriptOut, StatementOut, nothing, new_table, new_rows, rows_from, query, plan_of, Made, with_column, with_columns, with_table, made_table, made_index, typed_rows, inserted, good_delimiter, copied, keeping, asked, in_statement, or_refused, typed_statement, typed_from, typed_script, no_names}
+use Rattle.mob_load.specs.Checks.{CheckParts, check_seen, literal, Mark, marks_of, marks_from, stands_before, up_to, in_order, checks_of}
 use Rattle.mob_load.specs.declared.check.Check.{Check}
 use Rattle.mob_load.specs.Loads.{Loaded, nothing_loaded, with_table as add_table, IsNarrow, AreNarrow, HasNarrow, columns_or_none}
+use Rattle.mob_load.proofs.Each.{each_both, each_mark}
 
 -- what holds of each value that an answer can be
 on_bind : {A B : Type 0} (P : B → Type 0) (a : Result A Wrong) (f : A → Result B Wrong) → ((x : A) → a ≡ Ok x → (y : B) → f x ≡ Ok y → P y) → (y : B) → (a >>= f) ≡ Ok y → P y
@@ -102,16 +104,8 @@ statement_narrow n names (copy table file delimiter) cs y is = on_keeping cs (co
 statement_narrow n names (select s) cs y is = query_narrow query (λ s. tt) names (typed_select names.tables n s cs) y is
 statement_narrow n names (explain s) cs y is = query_narrow plan_of (λ s. tt) names (typed_select names.tables n s cs) y is
 
-abbrev NarrowAll : List StatementOut → Type 0
-NarrowAll [] = Unit {0}
-NarrowAll (s ∷ ss) = NarrowStatement s × NarrowAll ss
-
-narrow_more : (ss : List StatementOut) (s : StatementOut) → NarrowAll ss → NarrowStatement s → NarrowAll (ss ++ s ∷ [])
-narrow_more [] s all one = (one, tt)
-narrow_more (t ∷ ss) s all one = (all.0, narrow_more ss s all.1 one)
-
 abbrev NarrowOut : ScriptOut → Type 0
-NarrowOut out = NarrowAll out.statements
+NarrowOut out = AllByRecursion NarrowStatement out.statements
 
 -- one statement, and the others by what holds of them
 statement_on : (n : ℕ) (r : Result (Made × List ConstText) Wrong) (next : Made × List ConstText → Result ScriptOut _) (out : ScriptOut)
@@ -119,11 +113,11 @@ statement_on : (n : ℕ) (r : Result (Made × List ConstText) Wrong) (next : Mad
 statement_on n (Ok m) next out each is = each m refl is
 statement_on n (Err w) next out each is = cc
 
-statements_narrow : (n : ℕ) (names : NameLists) (done : List StatementOut) (ss : List StatementParts) (cs : List ConstText) (out : ScriptOut) → NarrowAll done → typed_from n names done ss cs ≡ Ok out → NarrowOut out
+statements_narrow : (n : ℕ) (names : NameLists) (done : List StatementOut) (ss : List StatementParts) (cs : List ConstText) (out : ScriptOut) → AllByRecursion NarrowStatement done → typed_from n names done ss cs ≡ Ok out → NarrowOut out
 statements_narrow n names done [] cs out all is = on_value Refusal NarrowOut (record { statements = done; consts = cs }) out is all
 statements_narrow n names done (s ∷ ss) cs out all is =
     statement_on n (typed_statement n names s cs) (λ r. typed_from (n + 1) r.0.names (done ++ r.0.statement ∷ []) ss r.1) out
-    (λ m typed rest. statements_narrow (n + 1) m.0.names (done ++ m.0.statement ∷ []) ss m.1 out (narrow_more done m.0.statement all (statement_narrow n names s cs m typed)) rest) is
+    (λ m typed rest. statements_narrow (n + 1) m.0.names (done ++ m.0.statement ∷ []) ss m.1 out (each_both NarrowStatement done (m.0.statement ∷ []) all (statement_narrow n names s cs m typed, tt)) rest) is
 
 -- the checks of narrow statements are narrow
 literals_narrow : (cs : List ConstText) → AreNarrow (map literal cs)
@@ -139,34 +133,22 @@ module _ (next : List ConstText → List CheckParts) (narrow : (cs : List ConstT
   up_to_narrow [] = (own, narrow [])
   up_to_narrow (c ∷ cs) = choice (stands_before c m.statement m.place) c cs (up_to_narrow cs) refl
 
+abbrev IsNarrowMark : Mark → Type 0
+IsNarrowMark m = IsNarrow m.check
+
 abbrev NarrowMarks : List Mark → Type 0
-NarrowMarks [] = Unit {0}
-NarrowMarks (m ∷ ms) = IsNarrow m.check × NarrowMarks ms
+NarrowMarks ms = AllByRecursion IsNarrowMark ms
 
 order_narrow : (ms : List Mark) → NarrowMarks ms → (cs : List ConstText) → AreNarrow (in_order ms cs)
 order_narrow [] all cs = literals_narrow cs
 order_narrow (m ∷ ms) all cs = up_to_narrow (in_order ms) (order_narrow ms all.1) m all.0 cs
 
-marks_both : (ms ns : List Mark) → NarrowMarks ms → NarrowMarks ns → NarrowMarks (ms ++ ns)
-marks_both [] ns first second = second
-marks_both (m ∷ ms) ns first second = (first.0, marks_both ms ns first.1 second)
-
-brackets_narrow : (t n : ℕ) (places : List ℕ) → NarrowMarks (map (bracket t n) places)
-brackets_narrow t n [] = tt
-brackets_narrow t n (p ∷ ps) = (tt, brackets_narrow t n ps)
-
 marks_narrow : (n : ℕ) (s : StatementOut) → NarrowStatement s → NarrowMarks (marks_of n s)
-marks_narrow n nothing narrow = tt
-marks_narrow n (new_table t name columns) narrow = (narrow, tt)
-marks_narrow n (new_index t c name) narrow = tt
-marks_narrow n (new_rows t rows places) narrow = brackets_narrow t n places
-marks_narrow n (rows_from t name) narrow = (tt, tt)
-marks_narrow n (query s) narrow = tt
-marks_narrow n (plan_of s) narrow = tt
+marks_narrow n s narrow = each_mark IsNarrowMark n (λ t p. tt) (λ t name. tt) s (λ t name columns is. subst NarrowStatement is narrow)
 
-all_marks_narrow : (n : ℕ) (ss : List StatementOut) → NarrowAll ss → NarrowMarks (marks_from n ss)
+all_marks_narrow : (n : ℕ) (ss : List StatementOut) → AllByRecursion NarrowStatement ss → NarrowMarks (marks_from n ss)
 all_marks_narrow n [] all = tt
-all_marks_narrow n (s ∷ ss) all = marks_both (marks_of n s) (marks_from (n + 1) ss) (marks_narrow n s all.0) (all_marks_narrow (n + 1) ss all.1)
+all_marks_narrow n (s ∷ ss) all = each_both IsNarrowMark (marks_of n s) (marks_from (n + 1) ss) (marks_narrow n s all.0) (all_marks_narrow (n + 1) ss all.1)
 
 pub script_narrow : (ss : List StatementParts) (out : ScriptOut) → typed_script ss ≡ Ok out → AreNarrow (checks_of out)
 script_narrow ss out is = order_narrow (marks_from 1 out.statements) (all_marks_narrow 1 out.statements (statements_narrow 1 no_names [] ss [] out tt is)) out.consts
@@ -185,8 +167,7 @@ columns_narrow (columns ∷ others) (suc t) all = columns_narrow others t all.1
 
 -- a narrow table more
 pub tables_more : (tables : List ColumnList) (columns : ColumnList) → length columns ≤ 64 → HasNarrow tables → HasNarrow (tables ++ columns ∷ [])
-tables_more [] columns narrow all = (narrow, tt)
-tables_more (first ∷ others) columns narrow all = (all.0, tables_more others columns narrow all.1)
+tables_more tables columns narrow all = each_both Few tables (columns ∷ []) all (narrow, tt)
 
 pub made_narrow : (l m : Loaded) (columns : ColumnList) → m ≡ add_table l columns → length columns ≤ 64 → HasNarrow l.tables → HasNarrow m.tables
 made_narrow l m columns is narrow all = subst (λ (x : Loaded). HasNarrow x.tables) (sym is) (tables_more l.tables columns narrow all)

@@ -3,7 +3,7 @@ use Rattle.std.proofs.Common.{◌≡◌, ◌∙◌, sym, ap, subst, ℕ, ℤ, �
 use Rattle.std.specs.Prelude.{Result}
 use Rattle.mob_literal.proofs.SqlReading.{one_sql_reading}
 use Rattle.mob_outside.specs.Told.{Contents, file_of}
-use Rattle.mob_catalog.specs.Outcomes.{HasOneFault, HasOneTable, IsReadOrRefused}
+use Rattle.mob_catalog.specs.Outcomes.{HasOneFault, HasOneTable, NeverReadAndRefused}
 use Rattle.mob_catalog.specs.Faults.{Refuses, Wrong}
 use Rattle.mob_catalog.proofs.OneTable.{fault_known, one_kind, value_known}
 use Rattle.mob_typing.specs.declared.typed.ConstText.{ConstText}
@@ -29,7 +29,7 @@ goes_one : (others : Loaded → Result Loaded Halt → Type 0) → ((m : Loaded)
 goes_one others one (Ok m) r q h k = one m r q h k
 goes_one others one (Err halt) r q h k = h ∙ sym k
 
-module _ (rows_one : HasOneTable) (fault_one : HasOneFault) (apart : IsReadOrRefused) where
+module _ (rows_one : HasOneTable) (fault_one : HasOneFault) (apart : NeverReadAndRefused) where
   one_poured : (day : ℤ) (t : ℕ) (name : List ℕ) (l : Loaded) (bytes : Option (List ℕ)) (r q : Result Loaded Halt) → Pours day t name l bytes r → Pours day t name l bytes q → r ≡ q
   one_poured day t name l None r q h k = h ∙ sym k
   one_poured day t name l (Some bytes) (Ok m) (Ok n) h k =

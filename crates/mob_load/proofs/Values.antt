@@ -1,19 +1,23 @@
 -- The literals of a script and their values, one by one.
 use Rattle.std.proofs.Common.{◌≡◌, ◌∙◌, refl, sym, ap, subst, Bool, true, false, ℕ, ℤ, ◌+◌, List, [], ◌∷◌, ◌++◌, map, Option, Some, None, Result, Ok, Err, append_assoc, append-nil}
 use Rattle.std.specs.Prelude.{nat_lt}
-use Rattle.std.specs.List.{AllZip}
+use Rattle.std.specs.List.{AllByRecursion, AllZip}
 use Rattle.mob_value.specs.declared.value.Value.{Value}
 use Rattle.mob_outside.specs.Told.{Contents, file_of}
+use Rattle.mob_catalog.specs.Constants.{IsConstant}
 use Rattle.mob_typing.specs.declared.typed.ConstText.{ConstText}
-use Rattle.mob_typing.specs.Statements.{StatementOut, nothing, new_table, new_index, new_rows, rows_from, query, plan_of}
+use Rattle.mob_typing.specs.Statements.{StatementOut}
 use Rattle.mob_load.specs.declared.program.Program.{Program}
-use Rattle.mob_load.specs.Checks.{CheckParts, literal, table, room, file, Mark, bracket, marks_of, marks_from, stands_before, up_to, in_order, checks_of}
-use Rattle.mob_load.specs.Loads.{Loaded, Halt, Loads, Passes, Pours, HasValue, literal_of, literals_in, Goes, one_row, greatest_rows, rows_at, nothing_loaded, LooksAtLiterals, ProgramHasValues}
+use Rattle.mob_load.specs.Checks.{CheckParts, literal, table, room, file, Mark, marks_of, marks_from, stands_before, up_to, in_order, checks_of}
+use Rattle.mob_load.specs.Loads.{Loaded, Halt, Loads, Passes, Pours, literal_of, literals_in, Goes, one_row, greatest_rows, rows_at, nothing_loaded, LooksAtLiterals, ProgramHasValues}
+use Rattle.mob_load.proofs.Each.{each_both, each_mark}
 
 -- marks that are no literals
+abbrev IsNoLiteral : Mark → Type 0
+IsNoLiteral m = literal_of m.check ≡ []
+
 abbrev pub NoLiterals : List Mark → Type 0
-NoLiterals [] = Unit {0}
-NoLiterals (m ∷ ms) = (literal_of m.check ≡ []) × NoLiterals ms
+NoLiterals ms = AllByRecursion IsNoLiteral ms
 
 literals_all : (cs : List ConstText) → literals_in (map literal cs) ≡ cs
 literals_all [] = refl
@@ -35,26 +39,12 @@ order_literals : (ms : List Mark) → NoLiterals ms → (cs : List ConstText) �
 order_literals [] none cs = literals_all cs
 order_literals (m ∷ ms) none cs = up_to_literals (in_order ms) (order_literals ms none.1) m none.0 cs
 
-no_both : (ms ns : List Mark) → NoLiterals ms → NoLiterals ns → NoLiterals (ms ++ ns)
-no_both [] ns first second = second
-no_both (m ∷ ms) ns first second = (first.0, no_both ms ns first.1 second)
-
-no_brackets : (t n : ℕ) (places : List ℕ) → NoLiterals (map (bracket t n) places)
-no_brackets t n [] = tt
-no_brackets t n (p ∷ ps) = (refl, no_brackets t n ps)
-
 no_marks : (n : ℕ) (s : StatementOut) → NoLiterals (marks_of n s)
-no_marks n nothing = tt
-no_marks n (new_table t name columns) = (refl, tt)
-no_marks n (new_index t c name) = tt
-no_marks n (new_rows t rows places) = no_brackets t n places
-no_marks n (rows_from t name) = (refl, tt)
-no_marks n (query s) = tt
-no_marks n (plan_of s) = tt
+no_marks n s = each_mark IsNoLiteral n (λ t p. refl) (λ t name. refl) s (λ t name columns is. refl)
 
 pub no_all : (n : ℕ) (ss : List StatementOut) → NoLiterals (marks_from n ss)
 no_all n [] = tt
-no_all n (s ∷ ss) = no_both (marks_of n s) (marks_from (n + 1) ss) (no_marks n s) (no_all (n + 1) ss)
+no_all n (s ∷ ss) = each_both IsNoLiteral (marks_of n s) (marks_from (n + 1) ss) (no_marks n s) (no_all (n + 1) ss)
 
 pub looked_at : LooksAtLiterals
 looked_at out = order_literals (marks_from 1 out.statements) (no_all 1 out.statements) out.consts
@@ -70,7 +60,7 @@ file_values day t name l k (Some bytes) h = ap (λ (x : Loaded). x.values) h.2
 
 -- the values that checks add to those so far
 abbrev Adds : ℤ → List CheckParts → Loaded → Loaded → Type 0
-Adds day cs l m = (vs : List Value) × AllZip (HasValue day) (literals_in cs) vs × (m.values ≡ l.values ++ vs)
+Adds day cs l m = (vs : List Value) × AllZip (IsConstant day) (literals_in cs) vs × (m.values ≡ l.values ++ vs)
 
 adds_on : (day : ℤ) (files : Contents) (c : CheckParts) (cs : List CheckParts) (l k m : Loaded) → Passes day files c l (Ok k) → Adds day cs k m → Adds day (c ∷ cs) l m
 adds_on day files (literal c) cs l k m passes adds =
@@ -91,5 +81,5 @@ loads_add day files (c ∷ cs) l m h = goes_add day files c cs l m (λ k rest. l
 pub program_values : ProgramHasValues
 program_values day files out p loads =
     let adds = loads_add day files (checks_of out) nothing_loaded loads.0 loads.1 in
-    subst (λ (cs : List ConstText). AllZip (HasValue day) cs p.values) (looked_at out)
-    (subst (λ (vs : List Value). AllZip (HasValue day) (literals_in (checks_of out)) vs) (sym (ap (λ (q : Program). q.values) loads.2 ∙ adds.2)) adds.1)
+    subst (λ (cs : List ConstText). AllZip (IsConstant day) cs p.values) (looked_at out)
+    (subst (λ (vs : List Value). AllZip (IsConstant day) (literals_in (checks_of out)) vs) (sym (ap (λ (q : Program). q.values) loads.2 ∙ adds.2)) adds.1)

@@ -1,6 +1,6 @@
 -- What a script reads before it runs, in written order; the first check that fails decides.
 use Rattle.std.specs.Prelude.{◌≡◌, ◌≤◌, ◌⊎◌, ◌+◌, ◌-◌, ℤ, ℕ, List, [], ◌∷◌, ◌++◌, length, map, nat_lt, slice_get, slice_index, slice_set, Option, Some, None, Result, Ok, Err, if◌then◌else◌}
-use Rattle.std.specs.List.{flat_map, AllZip}
+use Rattle.std.specs.List.{AllByRecursion, flat_map, AllZip}
 use Rattle.mob_ast.specs.declared.refusal.Kind.{Kind}
 use Rattle.mob_ast.specs.declared.refusal.Kind.TheVariants as kind
 use Rattle.mob_ast.specs.declared.refusal.Refusal.{Refusal}
@@ -9,6 +9,7 @@ use Rattle.mob_scalar.specs.declared.fault.ReadText.{ReadText}
 use Rattle.mob_literal.specs.SqlText.{SaysAs}
 use Rattle.mob_outside.specs.Faults.{Rose}
 use Rattle.mob_outside.specs.Told.{Contents, file_of}
+use Rattle.mob_catalog.specs.Constants.{IsConstant, at_constant}
 use Rattle.mob_catalog.specs.Faults.{Refuses, Wrong}
 use Rattle.mob_catalog.specs.TableFile.{IsTable, FileFails}
 use Rattle.mob_typing.specs.declared.typed.ConstText.{ConstText}
@@ -70,7 +71,7 @@ with_file l t rows = record (with_rows l t (length rows)) { files = l.files ++ r
 
 -- a literal that has no value is refused at its place
 abbrev pub refused_literal : ConstText → Kind → Halt
-refused_literal c k = refused (record { kind = k; statement = c.statement; place = c.place })
+refused_literal c k = refused (at_constant c k)
 
 -- a literal has the value of its text, or it is refused for what is wrong with that
 abbrev pub Reads : ℤ → ConstText → Loaded → Result Loaded Halt → Type 0
@@ -93,12 +94,10 @@ IsNarrow (table columns) = length columns ≤ 64
 IsNarrow _ = Unit {0}
 
 abbrev pub AreNarrow : List CheckParts → Type 0
-AreNarrow [] = Unit {0}
-AreNarrow (c ∷ cs) = IsNarrow c × AreNarrow cs
+AreNarrow checks = AllByRecursion IsNarrow checks
 
 abbrev pub HasNarrow : List ColumnList → Type 0
-HasNarrow [] = Unit {0}
-HasNarrow (columns ∷ others) = (length columns ≤ 64) × HasNarrow others
+HasNarrow tables = AllByRecursion (λ columns. length columns ≤ 64) tables
 
 -- one check, and what was read before and after it
 abbrev pub Passes : ℤ → Contents → CheckParts → Loaded → Result Loaded Halt → Type 0
@@ -207,10 +206,6 @@ copied_file _ = []
 abbrev pub copied_files : List StatementOut → List (List ℕ)
 copied_files ss = flat_map copied_file ss
 
--- the value of a literal is what its text says as one of its type
-abbrev pub HasValue : ℤ → ConstText → Value → Type 0
-HasValue day c v = SaysAs c.ty day c.text (Ok v)
-
 -- the literals among checks
 abbrev pub literal_of : CheckParts → List ConstText
 literal_of (literal c) = c ∷ []
@@ -225,4 +220,4 @@ LooksAtLiterals = (out : ScriptOut) → literals_in (checks_of out) ≡ out.cons
 
 -- the values of a program are those of the script's literals, one by one
 abbrev pub ProgramHasValues : Type 0
-ProgramHasValues = (day : ℤ) (files : Contents) (out : ScriptOut) (p : Program) → LoadsScript day files out (Ok p) → AllZip (HasValue day) out.consts p.values
+ProgramHasValues = (day : ℤ) (files : Contents) (out : ScriptOut) (p : Program) → LoadsScript day files out (Ok p) → AllZip (IsConstant day) out.consts p.values

@@ -1,6 +1,6 @@
 -- The order in which a script is looked at.
 use Rattle.std.specs.Prelude.{◌≡◌, ◌≤◌, ◌<◌, ◌⊎◌, ◌++◌, ◌∷◌, ℕ, List, [], map, filter}
-use Rattle.std.specs.List.{flat_map}
+use Rattle.std.specs.List.{AllByRecursion, flat_map}
 use Rattle.mob_typing.specs.declared.typed.ConstText.{ConstText}
 use Rattle.mob_typing.specs.Statements.{ScriptOut, StatementOut, new_rows}
 use Rattle.mob_load.specs.Checks.{CheckParts, Mark, literal, marks_from, checks_of, stands_before}
@@ -18,15 +18,10 @@ marks_in checks = flat_map mark_of checks
 abbrev pub LooksAtMarks : Type 0
 LooksAtMarks = (out : ScriptOut) → marks_in (checks_of out) ≡ map (λ m. m.check) (marks_from 1 out.statements)
 
--- this holds of each
-abbrev pub Each : {A : Type 0} → (A → Type 0) → List A → Type 0
-Each P [] = Unit {0}
-Each P (x ∷ xs) = P x × Each P xs
-
 -- each stands so to all that follow
 abbrev pub Rises : {A : Type 0} → (A → A → Type 0) → List A → Type 0
 Rises R [] = Unit {0}
-Rises R (x ∷ xs) = Each (R x) xs × Rises R xs
+Rises R (x ∷ xs) = AllByRecursion (R x) xs × Rises R xs
 
 -- this place of one statement stands before that place of another, or is it
 abbrev pub IsUpTo : ℕ → ℕ → ℕ → ℕ → Type 0
@@ -43,7 +38,7 @@ HasRisingRows _ = Unit {0}
 -- the literals stand in written order, and so do the brackets of each INSERT
 pub record IsWritten (out : ScriptOut) : Type 0 where
   pub literals : Rises LiteralUpTo out.consts
-  pub rows : Each HasRisingRows out.statements
+  pub rows : AllByRecursion HasRisingRows out.statements
 
 -- The checks before a mark: the marks before it, and exactly the literals that stand before it in the script.
 pub record IsCutAt (checks : List CheckParts) (before : List Mark) (m : Mark) (literals : List ConstText) : Type 0 where

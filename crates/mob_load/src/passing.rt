@@ -1,6 +1,7 @@
 // One check: a literal, a new table, a row of an INSERT, or a file.
 ghost use Rattle.std.specs.Prelude.{◌≡◌, ◌⊎◌, ◌+◌, ◌^◌, ◌<◌, ◌≤◌, IfErr, IfOk, IfSome, OnOk, length, map, option_map, slice_get, slice_index, slice_set, Some};
 ghost use Rattle.mob_outside.specs.Told.{AsksFor, KeepsFiles, MayAskFor, file_of};
+ghost use Rattle.mob_catalog.specs.Constants.{at_constant};
 ghost use Rattle.mob_catalog.specs.Faults.{OnRefused, Refuses};
 ghost use Rattle.mob_catalog.specs.TableFile.{FileFails, IsTable};
 ghost use Rattle.mob_load.specs.Checks.{check_seen, file};
@@ -14,7 +15,7 @@ use crate::file::read_file;
 use crate::loading::Loading;
 use crate::program::LoadEnd;
 use mob_ast::{Kind, Refusal, SqlType};
-use mob_catalog::{LoadFault, read_table, refusal_kind};
+use mob_catalog::{LoadFault, constant_refusal, read_table};
 use mob_list::items::Items;
 use mob_list::text::Text;
 use mob_literal::read_value;
@@ -28,15 +29,11 @@ use std::alloc::Global;
 const GREATEST_ROWS: u32 = 1_000_000;
 
 // Why loading ends at a literal whose text has this fault.
-fn refused_literal(constant: &ConstText, fault: ReadText) -> LoadEnd
-    ensures refused { (result ≡ NoMemory) ⊎ ((k : Kind) × Refuses fault k × (result ≡ Refused (record { kind = k; statement = constant.now.statement; place = constant.now.place }))) }
+fn refused_literal(fault: ReadText, literal: &ConstText) -> LoadEnd
+    ensures refused { (result ≡ NoMemory) ⊎ ((k : Kind) × Refuses fault k × (result ≡ Refused (at_constant literal.now k))) }
 {
-    match refusal_kind(fault) {
-        Some(kind) => LoadEnd::Refused(Refusal {
-            kind,
-            statement: constant.statement,
-            place: constant.place,
-        }),
+    match constant_refusal(fault, literal) {
+        Some(refusal) => LoadEnd::Refused(refusal),
         None => LoadEnd::NoMemory,
     }
 }
@@ -57,7 +54,7 @@ fn read_literal(
             loading.values.push(value)?;
             Ok(())
         }
-        Err(fault) => Err(refused_literal(constant, fault)),
+        Err(fault) => Err(refused_literal(fault, constant)),
     }
 }
 

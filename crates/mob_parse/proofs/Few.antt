@@ -1,13 +1,12 @@
 -- The tree of a script has no more nodes than the script has bytes.
 use Rattle.std.specs.Prelude.{IfSome, IfOk}
-use Rattle.std.proofs.Common.{◌≡◌, ◌<◌, ◌≤◌, ◌+◌, ◌∙◌, ℕ, List, [], ◌∷◌, ◌++◌, length, drop, length-drop, Option, Some, None, Result, Ok, Err, refl, sym, ap, subst, arith}
+use Rattle.std.proofs.Common.{◌<◌, ◌≤◌, ◌+◌, ◌∙◌, ℕ, List, [], ◌∷◌, ◌++◌, length, length-drop, Option, Some, None, Result, Ok, Err, ap, subst, arith}
 use Rattle.mob_ast.specs.declared.refusal.Refusal.{Refusal}
 use Rattle.mob_ast.specs.declared.statement.Script.{Script}
 use Rattle.mob_ast.specs.Trees.{StatementParts, script_of}
-use Rattle.mob_chars.specs.declared.token.TokenKind.{TokenKind}
 use Rattle.mob_chars.specs.declared.token.Token.{Token}
 use Rattle.mob_chars.specs.Scan.{comment_length}
-use Rattle.mob_chars.specs.Tokens.{token_at, end_at, tokens_of}
+use Rattle.mob_chars.specs.Tokens.{end_at}
 use Rattle.mob_chars.specs.Layout.{Leads, here, blank, comment, next}
 use Rattle.mob_chars.proofs.Along.{are_laid}
 use Rattle.mob_chars.proofs.Sizes.{token_within}

@@ -1,9 +1,8 @@
 -- A refused script has no tree, or there was no memory; and it has one first refusal.
-use Rattle.std.proofs.Common.{◌≡◌, ◌<◌, ◌≤◌, ◌+◌, ◌-◌, ◌∙◌, ◌⊎◌, inl, inr, ℕ, suc, List, [], ◌∷◌, ◌++◌, length, take, drop, Bool, true, false, cond, Option, Some, None, Result, Ok, Err, refl, sym, ap, subst, arith, append_assoc}
+use Rattle.std.proofs.Common.{◌≡◌, ◌<◌, ◌≤◌, ◌+◌, ◌-◌, ◌∙◌, ◌⊎◌, inl, inr, ℕ, suc, List, [], ◌∷◌, ◌++◌, length, take, drop, cond, Some, Result, Ok, Err, refl, sym, ap, subst, arith, append_assoc}
 use Rattle.std.proofs.lemmas.List.{length-append, take-append-drop}
 use Rattle.std.proofs.Math.Seq.{take-append-add}
 use Rattle.std.proofs.lemmas.Str.{utf8_valid_len-IsValidUpTo}
-use Rattle.std.specs.Str.{IsValidUpTo}
 use Rattle.std.specs.Prelude.{IfOk, IfErr, MatchResult}
 use Rattle.mob_ast.specs.declared.statement.Script.{Script}
 use Rattle.mob_ast.specs.Trees.{StatementParts, script_of}
@@ -12,14 +11,13 @@ use Rattle.mob_ast.specs.declared.refusal.Kind.{Kind}
 use Rattle.mob_ast.specs.declared.refusal.Kind.TheVariants.{NotUtf8, Lexical, Syntax, TooComplex, NoMemory}
 use Rattle.mob_grammar.specs.Symbols.{Tok}
 use Rattle.mob_grammar.specs.Scripts.{IsScript}
-use Rattle.mob_grammar.specs.Texts.{BeginsText, GoesOn}
-use Rattle.mob_grammar.specs.Outcomes.{GoesWrongAt}
+use Rattle.mob_grammar.specs.Texts.{GoesOn}
 use Rattle.mob_grammar.specs.Weights.{Standing, outside}
 use Rattle.mob_grammar.proofs.Outcomes.{Longer, no_longer, one_wrong}
 use Rattle.mob_grammar.proofs.Steps.{told}
 use Rattle.mob_parse.specs.Tokens.{lexed}
-use Rattle.mob_parse.specs.Heavy.{is_heavy, standing_after, heavy_from, first_heavy}
-use Rattle.mob_parse.specs.Refusals.{HasTokens, IsTreeOf, IsLightText, semicolons, place_of, IsSyntax, IsTooComplex, BeginsScript, IsStatementBehind, Cause, IsRefused, IsSameRefusal, HasOneRefusal, IsTreeOrRefused}
+use Rattle.mob_parse.specs.Heavy.{is_heavy, standing_after, heavy_from}
+use Rattle.mob_parse.specs.Refusals.{HasTokens, IsTreeOf, IsLightText, semicolons, place_of, IsSyntax, IsTooComplex, BeginsScript, IsStatementBehind, Cause, IsRefused, IsSameRefusal, HasOneRefusal, TreeIsRefusedForMemoryAlone}
 use Rattle.mob_parse.proofs.Scripts.{Scripts, no_script}
 
 -- a text has its tokens once
@@ -51,8 +49,8 @@ pub refused_along : (r : Result Script Refusal) (a b : List ℕ) → a ≡ b →
 refused_along (Ok s) a b e h = tt
 refused_along (Err f) a b e h = subst (λ v. IsRefused v f) e h
 
-pub tree_or_refused : IsTreeOrRefused
-tree_or_refused bytes x e d light h = no_tree e.kind bytes e h x d light
+pub tree_is_refused_for_memory_alone : TreeIsRefusedForMemoryAlone
+tree_is_refused_for_memory_alone bytes x e d light h = no_tree e.kind bytes e h x d light
 
 -- the token of a number stands in the list
 heavy_within : (s : Standing) (p : ℕ) (l : List Tok) (n : ℕ) → heavy_from s p l ≡ Some n → n < p + length l
@@ -79,8 +77,8 @@ not_past l b (t ∷ r) n parts wrong near short begins =
     let P : List Tok → Type 0 = λ v. BeginsScript (take (n + 1) v) in
     no_longer b (t ∷ r) (take (n + 1) (b ++ t ∷ r)) (drop (n - length b) r) wrong (subst P parts begins) (past b r t n near)
 
-syntax_or_complex : (l : List Tok) (end : ℕ) (e f : Refusal) → IsSyntax l end e → IsTooComplex l end f → ⊥
-syntax_or_complex l end e f (r, w, place, statement, none) (n, heavy, begins, at, behind) =
+never_syntax_and_complex : (l : List Tok) (end : ℕ) (e f : Refusal) → IsSyntax l end e → IsTooComplex l end f → ⊥
+never_syntax_and_complex l end e f (r, w, place, statement, none) (n, heavy, begins, at, behind) =
     let short = heavy_within outside 0 l n heavy in
     not_past l w.before r n w.parts w.wrong (none n heavy) (omega arith) begins
 
@@ -131,12 +129,12 @@ agree Syntax NoMemory bytes e f a b h d = inr (inl refl)
 agree Syntax NotUtf8 bytes e f a b h d = absurd (d.0 h.0)
 agree Syntax Lexical bytes e f a b h d = let none = d.1 in let some = h.1.1.1 in cc
 agree Syntax Syntax bytes e f a b h d = inr (inr (one_syntax d.1.0 (length bytes) e f (a ∙ sym b) (subst (λ l. IsSyntax l (length bytes) e) (same_tokens bytes h.1.0 d.1.0 h.1.1 d.1.1) h.1.2) d.1.2))
-agree Syntax TooComplex bytes e f a b h d = absurd (syntax_or_complex d.1.0 (length bytes) e f (subst (λ l. IsSyntax l (length bytes) e) (same_tokens bytes h.1.0 d.1.0 h.1.1 d.1.1) h.1.2) d.1.2)
+agree Syntax TooComplex bytes e f a b h d = absurd (never_syntax_and_complex d.1.0 (length bytes) e f (subst (λ l. IsSyntax l (length bytes) e) (same_tokens bytes h.1.0 d.1.0 h.1.1 d.1.1) h.1.2) d.1.2)
 agree Syntax _ bytes e f a b h d = absurd d
 agree TooComplex NoMemory bytes e f a b h d = inr (inl refl)
 agree TooComplex NotUtf8 bytes e f a b h d = absurd (d.0 h.0)
 agree TooComplex Lexical bytes e f a b h d = let none = d.1 in let some = h.1.1.1 in cc
-agree TooComplex Syntax bytes e f a b h d = absurd (syntax_or_complex h.1.0 (length bytes) f e (subst (λ l. IsSyntax l (length bytes) f) (same_tokens bytes d.1.0 h.1.0 d.1.1 h.1.1) d.1.2) h.1.2)
+agree TooComplex Syntax bytes e f a b h d = absurd (never_syntax_and_complex h.1.0 (length bytes) f e (subst (λ l. IsSyntax l (length bytes) f) (same_tokens bytes d.1.0 h.1.0 d.1.1 h.1.1) d.1.2) h.1.2)
 agree TooComplex TooComplex bytes e f a b h d = inr (inr (one_complex d.1.0 (length bytes) e f (a ∙ sym b) (subst (λ l. IsTooComplex l (length bytes) e) (same_tokens bytes h.1.0 d.1.0 h.1.1 d.1.1) h.1.2) d.1.2))
 agree TooComplex _ bytes e f a b h d = absurd d
 agree _ k bytes e f a b h d = absurd h

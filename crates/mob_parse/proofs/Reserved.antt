@@ -1,7 +1,7 @@
 -- The text of each mark is read as that mark: no reserved word and no sign is lost, or read as another.
-use Rattle.std.specs.Prelude.{◌≡◌, ◌==◌, ◌&&◌, ◌||◌, ◌⊎◌, ℕ, zero, suc, List, [], ◌∷◌, length, Bool, true, false, Option, Some, None, cond, codes}
-use Rattle.std.proofs.Common.{◌<◌, ◌≤◌, ◌∙◌, inl, inr, refl, sym, ap, ap₂, subst, arith}
-use Rattle.std.specs.List.{All, list_all}
+use Rattle.std.specs.Prelude.{◌≡◌, ◌&&◌, ◌||◌, ◌⊎◌, ℕ, List, [], ◌∷◌, Bool, true, false, Option, Some, None, cond, codes}
+use Rattle.std.proofs.Common.{◌∙◌, inl, inr, refl, sym, ap, ap₂, subst}
+use Rattle.std.specs.List.{list_all}
 use Rattle.std.specs.Str.{bytes_eq, str_to_ascii_lowercase, str_eq_ignore_ascii_case}
 use Rattle.std.proofs.lemmas.Slice.Eq.{bytes_eq-Decides}
 use Rattle.mob_chars.specs.Signs.{signs}

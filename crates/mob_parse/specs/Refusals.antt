@@ -99,5 +99,5 @@ abbrev pub HasOneRefusal : Type 0
 HasOneRefusal = (bytes : List ℕ) (e f : Refusal) → IsRefused bytes e → IsRefused bytes f → IsSameRefusal e f
 
 -- a script that has a tree, and no expression with a 257th counted token, is refused for want of memory alone
-abbrev pub IsTreeOrRefused : Type 0
-IsTreeOrRefused = (bytes : List ℕ) (x : List StatementParts) (e : Refusal) → IsTreeOf bytes x → IsLightText bytes → IsRefused bytes e → e.kind ≡ NoMemory
+abbrev pub TreeIsRefusedForMemoryAlone : Type 0
+TreeIsRefusedForMemoryAlone = (bytes : List ℕ) (x : List StatementParts) (e : Refusal) → IsTreeOf bytes x → IsLightText bytes → IsRefused bytes e → e.kind ≡ NoMemory

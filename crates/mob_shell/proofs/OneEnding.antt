@@ -1,6 +1,6 @@
 -- The definitions ask for one ending.
 use Rattle.std.proofs.Common.{◌≡◌, ap, refl, inl, inr, ℕ, ℤ, List}
-use Rattle.std.specs.Prelude.{◌⊎◌, Some, None}
+use Rattle.std.specs.Prelude.{Some, None}
 use Rattle.mob_ast.specs.declared.refusal.Refusal.{Refusal}
 use Rattle.mob_outside.specs.Told.{Contents}
 use Rattle.mob_typing.specs.Statements.{ScriptOut}
@@ -11,17 +11,17 @@ use Rattle.mob_eval.specs.QueryFaults.{TupleFault}
 use Rattle.mob_ending.specs.declared.ending.Ending.{Ending}
 use Rattle.mob_ending.specs.declared.ending.Ending.TheVariants.{Done, Usage, ReadFault, WriteFault, NoMemory, TableRefused, ScriptRefused, Overflow}
 use Rattle.mob_shell.specs.Program.{IsHalted, IsScript, OutText, StopsWith}
-use Rattle.mob_shell.specs.Outcomes.{EndsOrStops, HasOneEnding, HasOneHalt, HasOneStop, IsProgramOrHalted, IsScriptOrRefused}
+use Rattle.mob_shell.specs.Outcomes.{HasOneEnding, HasOneHalt, HasOneStop, NeverEndsAndStops, NeverProgramAndHalted, NeverScriptAndRefused}
 use Rattle.mob_shell.specs.Ending.{IsDue, HaveSettings, IsUsage}
 
 -- the laws of one outcome
 pub record AreLaws : Type 0 where
   pub text : HasOneRefusal
   pub halt : HasOneHalt
-  pub halted : IsProgramOrHalted
-  pub refused : IsScriptOrRefused
+  pub halted : NeverProgramAndHalted
+  pub refused : NeverScriptAndRefused
   pub stop : HasOneStop
-  pub stopped : EndsOrStops
+  pub stopped : NeverEndsAndStops
 
 -- how a script ends whose literals and files are not read
 abbrev ending_of : Halt → Ending

@@ -4,17 +4,17 @@ use Rattle.std.specs.Prelude.{Result}
 use Rattle.mob_words.specs.Outcomes.{HasOneSetting}
 use Rattle.mob_outside.specs.Told.{Contents}
 use Rattle.mob_typing.specs.Statements.{ScriptOut}
-use Rattle.mob_accept.specs.Outcomes.{HasOneScript, IsTakenOrRefused}
+use Rattle.mob_accept.specs.Outcomes.{HasOneScript, NeverTakenAndRefused}
 use Rattle.mob_load.specs.Loads.{Halt, LoadsScript}
 use Rattle.mob_load.specs.Outcomes.{HasOneProgram as LoadsOneProgram}
 use Rattle.mob_load.specs.declared.program.Program.{Program}
 use Rattle.mob_eval.specs.QueryFaults.{TupleFault}
-use Rattle.mob_shell.specs.StepOutcomes.{HasOneFault, HasOneStep, RunsOrStops}
+use Rattle.mob_shell.specs.StepOutcomes.{HasOneFault, HasOneStep, NeverRunsAndStops}
 use Rattle.mob_shell.specs.Runs.{Step, Stops, begin}
 use Rattle.mob_streams.specs.Answers.{Ran}
 use Rattle.mob_shell.specs.Program.{IsProgram, IsScript, StopsWith}
-use Rattle.mob_shell.specs.Outcomes.{EndsOrStops, HasOneHalt, HasOneProgram, HasOneStop, HasOneText, IsProgramOrHalted, IsScriptOrRefused}
-use Rattle.mob_shell.proofs.OneRun.{IsSingle, StopsBehind, ends_or_stops, one_ran, one_stop}
+use Rattle.mob_shell.specs.Outcomes.{HasOneHalt, HasOneProgram, HasOneStop, HasOneText, NeverEndsAndStops, NeverProgramAndHalted, NeverScriptAndRefused}
+use Rattle.mob_shell.proofs.OneRun.{IsSingle, StopsBehind, never_ran_and_stops, one_ran, one_stop}
 
 module _ (setting : HasOneSetting) (script : HasOneScript) (loads : LoadsOneProgram) where
   one_typed : (words : List (List ℕ)) (bytes : List ℕ) (day other : ℤ) (out others : ScriptOut) → IsScript words bytes day out → IsScript words bytes other others → (day ≡ other) × (out ≡ others)
@@ -34,13 +34,13 @@ module _ (setting : HasOneSetting) (script : HasOneScript) (loads : LoadsOneProg
   pub one_halt : HasOneHalt
   one_halt words bytes files h k a b = let e = one_loaded words bytes files a.day b.day a.out b.out (Err h) (Err k) a.script b.script a.loads b.loads in cc e
 
-  pub program_or_halted : IsProgramOrHalted
-  program_or_halted words bytes files day out p h a b = let e = one_loaded words bytes files day b.day out b.out (Ok p) (Err h) a.script b.script a.loads b.loads in absurd (cc e)
+  pub never_program_and_halted : NeverProgramAndHalted
+  never_program_and_halted words bytes files day out p h a b = let e = one_loaded words bytes files day b.day out b.out (Ok p) (Err h) a.script b.script a.loads b.loads in absurd (cc e)
 
-pub script_or_refused : IsTakenOrRefused → IsScriptOrRefused
-script_or_refused apart words bytes day out e h k = apart bytes out e h.text k
+pub never_script_and_refused : NeverTakenAndRefused → NeverScriptAndRefused
+never_script_and_refused apart words bytes day out e h k = apart bytes out e h.text k
 
-module _ (program : HasOneProgram) (step : HasOneStep) (stop : HasOneFault) (apart : RunsOrStops) where
+module _ (program : HasOneProgram) (step : HasOneStep) (stop : HasOneFault) (apart : NeverRunsAndStops) where
   single : (day : ℤ) → IsSingle (Step day) (Stops day)
   single day = record { goes = step day; fails = stop day; apart = apart day }
 
@@ -66,8 +66,8 @@ module _ (program : HasOneProgram) (step : HasOneStep) (stop : HasOneFault) (apa
       let same = one_stop (Step k.day) (Stops k.day) (single k.day) k.out.statements (begin k.program) a b h.before k.before f g stopped (behind words bytes files b n g k) in
       (same.0, h.counts ∙ ap (λ (i : ℕ). i + 1) same.1 ∙ sym k.counts, same.2)
 
-  pub ends_or_stopped : EndsOrStops
-  ends_or_stopped words bytes files a b n f h k =
+  pub never_ends_and_stops : NeverEndsAndStops
+  never_ends_and_stops words bytes files a b n f h k =
       let P = λ (d : ℤ) (o : ScriptOut) (p : Program). Ran (Step d) (begin p) o.statements h.stands a in
       let ran : Ran (Step k.day) (begin k.program) k.out.statements h.stands a = same_program words bytes files P h.day k.day h.out k.out h.program k.program h.is k.is h.ran in
-      ends_or_stops (Step k.day) (Stops k.day) (single k.day) k.out.statements (begin k.program) h.stands a b k.before f ran (behind words bytes files b n f k)
+      never_ran_and_stops (Step k.day) (Stops k.day) (single k.day) k.out.statements (begin k.program) h.stands a b k.before f ran (behind words bytes files b n f k)

@@ -30,12 +30,12 @@ module _ {E S F : Type 0} (step : E → S → E → List ℕ → Type 0) (halts 
     stops_first : (s t : E) (x y : S) (xs : List S) (f : F) → t ≡ s → slice_get (x ∷ xs) 0 ≡ Some y → halts t y f → halts s x f
     stops_first s t x y xs f stands there h = let same : y ≡ x = cc in subst (λ (z : S). halts s z f) same (subst (λ (v : E). halts v y f) stands h)
 
-    pub ends_or_stops : (xs : List S) (s t : E) (a b : List ℕ) (n : ℕ) (f : F) → Ran step s xs t a → StopsBehind s xs n b f → ⊥
-    ends_or_stops [] s t a b n f h k = let none = k.there in absurd cc
-    ends_or_stops (x ∷ xs) s t a b zero f h k = single.apart s x h.0 h.1 f h.3 (stops_first s k.stands x k.statement xs f k.ran.0 k.there k.stops)
-    ends_or_stops (x ∷ xs) s t a b (suc n) f h k =
+    pub never_ran_and_stops : (xs : List S) (s t : E) (a b : List ℕ) (n : ℕ) (f : F) → Ran step s xs t a → StopsBehind s xs n b f → ⊥
+    never_ran_and_stops [] s t a b n f h k = let none = k.there in absurd cc
+    never_ran_and_stops (x ∷ xs) s t a b zero f h k = single.apart s x h.0 h.1 f h.3 (stops_first s k.stands x k.statement xs f k.ran.0 k.there k.stops)
+    never_ran_and_stops (x ∷ xs) s t a b (suc n) f h k =
         let first = single.goes s x h.0 k.ran.0 h.1 k.ran.1 h.3 k.ran.3 in
-        ends_or_stops xs k.ran.0 t h.2 k.ran.2 n f (subst (λ (v : E). Ran step v xs t h.2) first.0 h.4)
+        never_ran_and_stops xs k.ran.0 t h.2 k.ran.2 n f (subst (λ (v : E). Ran step v xs t h.2) first.0 h.4)
         (record { stands = k.stands; ran = k.ran.4; statement = k.statement; there = k.there; stops = k.stops })
 
     pub one_stop : (xs : List S) (s : E) (a b : List ℕ) (m n : ℕ) (f g : F) → StopsBehind s xs m a f → StopsBehind s xs n b g → (a ≡ b) × (m ≡ n) × (f ≡ g)

@@ -4,7 +4,7 @@ use Rattle.mob_typing.specs.Statements.{StatementOut, query}
 use Rattle.mob_eval.specs.QueryFaults.{TupleFault}
 use Rattle.mob_tail.specs.AnswerText.{text_of}
 use Rattle.mob_shell.specs.Runs.{Standing, Stops, Writes, names_of}
-use Rattle.mob_shell.specs.StepOutcomes.{HasOneFault, HasOneStep, OneAnswer, RunsOrStops}
+use Rattle.mob_shell.specs.StepOutcomes.{HasOneFault, HasOneStep, NeverRunsAndStops, OneAnswer}
 
 module _ (answer : OneAnswer) where
   one_written : (day : ℤ) (s : Standing) (x : StatementOut) (a b : List ℕ) → Writes day s x a → Writes day s x b → a ≡ b
@@ -21,9 +21,9 @@ module _ (answer : OneAnswer) where
   one_stop day s (query q) f g h k = let e = answer q s.catalogue.store day (Err f) (Err g) h k in cc e
   one_stop day s _ f g h k = absurd h
 
-  written_or_stopped : (day : ℤ) (s : Standing) (x : StatementOut) (text : List ℕ) (f : TupleFault) → Writes day s x text → Stops day s x f → ⊥
-  written_or_stopped day s (query q) text f h k = let e = answer q s.catalogue.store day (Ok h.0) (Err f) h.1 k in absurd (cc e)
-  written_or_stopped day s _ text f h k = k
+  never_writes_and_stops : (day : ℤ) (s : Standing) (x : StatementOut) (text : List ℕ) (f : TupleFault) → Writes day s x text → Stops day s x f → ⊥
+  never_writes_and_stops day s (query q) text f h k = let e = answer q s.catalogue.store day (Ok h.0) (Err f) h.1 k in absurd (cc e)
+  never_writes_and_stops day s _ text f h k = k
 
-  pub runs_or_stops : RunsOrStops
-  runs_or_stops day s x t text f h k = written_or_stopped day s x text f h.writes k
+  pub never_runs_and_stops : NeverRunsAndStops
+  never_runs_and_stops day s x t text f h k = never_writes_and_stops day s x text f h.writes k

@@ -12,102 +12,40 @@ use Rattle.mob_shell.proofs.Due.{IsDueOnTold, due_or_memory, each_told, ends_as_
 
 by_written : (ending : Ending) (s : Seen) → Causes ending s → status_of ending ≡ 0 → Writes s
 by_written Done s h e = h
-by_written Usage s h e = cc
-by_written (ReadFault None) s h e = cc
-by_written (ReadFault (Some file)) s h e = cc
-by_written WriteFault s h e = cc
-by_written NoMemory s h e = cc
-by_written (TableRefused name kind rec field) s h e = cc
-by_written (ScriptRefused refusal) s h e = cc
-by_written (Overflow number rows place formula) s h e = cc
+by_written _ s h e = cc
 
 by_usage : (ending : Ending) (s : Seen) → Causes ending s → status_of ending ≡ 2 → IsUsage s.words
-by_usage Done s h e = cc
 by_usage Usage s h e = h.0
-by_usage (ReadFault None) s h e = cc
-by_usage (ReadFault (Some file)) s h e = cc
-by_usage WriteFault s h e = cc
-by_usage NoMemory s h e = cc
-by_usage (TableRefused name kind rec field) s h e = cc
-by_usage (ScriptRefused refusal) s h e = cc
-by_usage (Overflow number rows place formula) s h e = cc
+by_usage _ s h e = cc
 
 by_read : (ending : Ending) (s : Seen) → Causes ending s → status_of ending ≡ 3 → IsReadFault s
-by_read Done s h e = cc
-by_read Usage s h e = cc
 by_read (ReadFault None) s h e = inl h.0
 by_read (ReadFault (Some file)) s h e = inr (file, h.0)
-by_read WriteFault s h e = cc
-by_read NoMemory s h e = cc
-by_read (TableRefused name kind rec field) s h e = cc
-by_read (ScriptRefused refusal) s h e = cc
-by_read (Overflow number rows place formula) s h e = cc
+by_read _ s h e = cc
 
 by_write : (ending : Ending) (s : Seen) → Causes ending s → status_of ending ≡ 4 → CutsShort s
-by_write Done s h e = cc
-by_write Usage s h e = cc
-by_write (ReadFault None) s h e = cc
-by_write (ReadFault (Some file)) s h e = cc
 by_write WriteFault s h e = h
-by_write NoMemory s h e = cc
-by_write (TableRefused name kind rec field) s h e = cc
-by_write (ScriptRefused refusal) s h e = cc
-by_write (Overflow number rows place formula) s h e = cc
+by_write _ s h e = cc
 
 by_table : (ending : Ending) (s : Seen) → Causes ending s → status_of ending ≡ 6 → IsTableFault s
-by_table Done s h e = cc
-by_table Usage s h e = cc
-by_table (ReadFault None) s h e = cc
-by_table (ReadFault (Some file)) s h e = cc
-by_table WriteFault s h e = cc
-by_table NoMemory s h e = cc
 by_table (TableRefused name kind rec field) s h e = (name, kind, rec, field, h.0)
-by_table (ScriptRefused refusal) s h e = cc
-by_table (Overflow number rows place formula) s h e = cc
+by_table _ s h e = cc
 
 by_script : (ending : Ending) (s : Seen) → Causes ending s → status_of ending ≡ 7 → IsScriptRefused s
-by_script Done s h e = cc
-by_script Usage s h e = cc
-by_script (ReadFault None) s h e = cc
-by_script (ReadFault (Some file)) s h e = cc
-by_script WriteFault s h e = cc
-by_script NoMemory s h e = cc
-by_script (TableRefused name kind rec field) s h e = cc
 by_script (ScriptRefused refusal) s h e = (refusal, h.0)
-by_script (Overflow number rows place formula) s h e = cc
+by_script _ s h e = cc
 
 by_overflow : (ending : Ending) (s : Seen) → Causes ending s → status_of ending ≡ 8 → IsOverflow s
-by_overflow Done s h e = cc
-by_overflow Usage s h e = cc
-by_overflow (ReadFault None) s h e = cc
-by_overflow (ReadFault (Some file)) s h e = cc
-by_overflow WriteFault s h e = cc
-by_overflow NoMemory s h e = cc
-by_overflow (TableRefused name kind rec field) s h e = cc
-by_overflow (ScriptRefused refusal) s h e = cc
 by_overflow (Overflow number rows place formula) s h e = (number, rows, place, formula, h)
+by_overflow _ s h e = cc
 
 by_memory : (ending : Ending) (s : Seen) → Causes ending s → status_of ending ≡ 5 → Keeps s.out_before s.out_now ⊎ WroteSome s
-by_memory Done s h e = cc
-by_memory Usage s h e = cc
-by_memory (ReadFault None) s h e = cc
-by_memory (ReadFault (Some file)) s h e = cc
-by_memory WriteFault s h e = cc
 by_memory NoMemory s h e = h
-by_memory (TableRefused name kind rec field) s h e = cc
-by_memory (ScriptRefused refusal) s h e = cc
-by_memory (Overflow number rows place formula) s h e = cc
+by_memory _ s h e = cc
 
 by_untouched : (ending : Ending) (s : Seen) → Causes ending s → status_of ending ≡ 2 → Keeps s.script s.rest
-by_untouched Done s h e = cc
 by_untouched Usage s h e = h.1
-by_untouched (ReadFault None) s h e = cc
-by_untouched (ReadFault (Some file)) s h e = cc
-by_untouched WriteFault s h e = cc
-by_untouched NoMemory s h e = cc
-by_untouched (TableRefused name kind rec field) s h e = cc
-by_untouched (ScriptRefused refusal) s h e = cc
-by_untouched (Overflow number rows place formula) s h e = cc
+by_untouched _ s h e = cc
 
 -- an ending of a run that wrote nothing, or one with another status
 by_silence : (ending : Ending) (s : Seen) → Causes ending s → (status_of ending ≡ 2) ⊎ ((status_of ending ≡ 3) ⊎ ((status_of ending ≡ 6) ⊎ (status_of ending ≡ 7))) → Keeps s.out_before s.out_now
@@ -115,10 +53,7 @@ by_silence Usage s h e = h.2
 by_silence (ReadFault file) s h e = h.1
 by_silence (TableRefused name kind rec field) s h e = h.1
 by_silence (ScriptRefused refusal) s h e = h.1
-by_silence Done s h e = elim e [ inl x ↦ cc | inr more ↦ elim more [ inl x ↦ cc | inr others ↦ elim others [ inl x ↦ cc | inr x ↦ cc ] ] ]
-by_silence WriteFault s h e = elim e [ inl x ↦ cc | inr more ↦ elim more [ inl x ↦ cc | inr others ↦ elim others [ inl x ↦ cc | inr x ↦ cc ] ] ]
-by_silence NoMemory s h e = elim e [ inl x ↦ cc | inr more ↦ elim more [ inl x ↦ cc | inr others ↦ elim others [ inl x ↦ cc | inr x ↦ cc ] ] ]
-by_silence (Overflow number rows place formula) s h e = elim e [ inl x ↦ cc | inr more ↦ elim more [ inl x ↦ cc | inr others ↦ elim others [ inl x ↦ cc | inr x ↦ cc ] ] ]
+by_silence _ s h e = elim e [ inl x ↦ cc | inr more ↦ elim more [ inl x ↦ cc | inr others ↦ elim others [ inl x ↦ cc | inr x ↦ cc ] ] ]
 
 by_words : (ending : Ending) → (ending ≡ Usage) ⊎ (ending ≡ NoMemory) → (status_of ending ≡ 2) ⊎ (status_of ending ≡ 5)
 by_words ending (inl e) = inl (ap status_of e)
@@ -157,5 +92,5 @@ is_run one ending s Noted ends noted = record {
   read_later = ends.read_later;
   filed_later = ends.filed_later;
   put_later = ends.put_later;
-  note = record { ending = ending; number = refl; cause = ends.cause; noted = noted };
+  note = record { ending = ending; cause = ends.cause; ends = record { number = refl; noted = noted } };
 }

@@ -20,12 +20,12 @@ abbrev pub HasOneHalt : Type 0
 HasOneHalt = (words : List (List ℕ)) (bytes : List ℕ) (files : Contents) (h k : Halt) → IsHalted words bytes files h → IsHalted words bytes files k → h ≡ k
 
 -- and then there is no program
-abbrev pub IsProgramOrHalted : Type 0
-IsProgramOrHalted = (words : List (List ℕ)) (bytes : List ℕ) (files : Contents) (day : ℤ) (out : ScriptOut) (p : Program) (h : Halt) → IsProgram words bytes files day out p → IsHalted words bytes files h → ⊥
+abbrev pub NeverProgramAndHalted : Type 0
+NeverProgramAndHalted = (words : List (List ℕ)) (bytes : List ℕ) (files : Contents) (day : ℤ) (out : ScriptOut) (p : Program) (h : Halt) → IsProgram words bytes files day out p → IsHalted words bytes files h → ⊥
 
 -- a text that is refused by itself is no script
-abbrev pub IsScriptOrRefused : Type 0
-IsScriptOrRefused = (words : List (List ℕ)) (bytes : List ℕ) (day : ℤ) (out : ScriptOut) (e : Refusal) → IsScript words bytes day out → IsTextRefused bytes e → ⊥
+abbrev pub NeverScriptAndRefused : Type 0
+NeverScriptAndRefused = (words : List (List ℕ)) (bytes : List ℕ) (day : ℤ) (out : ScriptOut) (e : Refusal) → IsScript words bytes day out → IsTextRefused bytes e → ⊥
 
 -- the answers of all statements are one text
 abbrev pub HasOneText : Type 0
@@ -36,8 +36,8 @@ abbrev pub HasOneStop : Type 0
 HasOneStop = (words : List (List ℕ)) (bytes : List ℕ) (files : Contents) (a b : List ℕ) (m n : ℕ) (f g : TupleFault) → StopsWith words bytes files a m f → StopsWith words bytes files b n g → (a ≡ b) × (m ≡ n) × (f ≡ g)
 
 -- and then not all statements have their answers
-abbrev pub EndsOrStops : Type 0
-EndsOrStops = (words : List (List ℕ)) (bytes : List ℕ) (files : Contents) (a b : List ℕ) (n : ℕ) (f : TupleFault) → OutText words bytes files a → StopsWith words bytes files b n f → ⊥
+abbrev pub NeverEndsAndStops : Type 0
+NeverEndsAndStops = (words : List (List ℕ)) (bytes : List ℕ) (files : Contents) (a b : List ℕ) (n : ℕ) (f : TupleFault) → OutText words bytes files a → StopsWith words bytes files b n f → ⊥
 
 -- the definitions ask for one ending, with its places
 abbrev pub HasOneEnding : Type 0

@@ -18,9 +18,8 @@ pub record EndsSo (ending : Ending) (status : ℕ) (Noted : List ℕ → Type 0)
 -- The note is the line of the ending with this status and its cause. What is noted of a line says `Noted`.
 pub record IsTold (status : ℕ) (s : Seen) (Noted : List ℕ → Type 0) : Type 0 where
   pub ending : Ending
-  pub number : status ≡ status_of ending
   pub cause : Causes ending s
-  pub noted : Noted (line_of ending)
+  pub ends : EndsSo ending status Noted
 
 -- A run with this status, by what was seen of it and of its note.
 pub record IsRun (status : ℕ) (s : Seen) (Noted : List ℕ → Type 0) : Type 0 where

@@ -21,5 +21,5 @@ abbrev pub HasOneFault : Type 0
 HasOneFault = (day : ℤ) (s : Standing) (x : StatementOut) (f g : TupleFault) → Stops day s x f → Stops day s x g → f ≡ g
 
 -- and none does both
-abbrev pub RunsOrStops : Type 0
-RunsOrStops = (day : ℤ) (s : Standing) (x : StatementOut) (t : Standing) (text : List ℕ) (f : TupleFault) → Step day s x t text → Stops day s x f → ⊥
+abbrev pub NeverRunsAndStops : Type 0
+NeverRunsAndStops = (day : ℤ) (s : Standing) (x : StatementOut) (t : Standing) (text : List ℕ) (f : TupleFault) → Step day s x t text → Stops day s x f → ⊥

@@ -1,6 +1,6 @@
 //! What holds of every run. No code runs here.
-ghost use Rattle.mob_shell.specs.StepOutcomes.{HasOneFault, HasOneStep, OneAnswer, RunsOrStops};
-ghost use Rattle.mob_shell.specs.Outcomes.{EndsOrStops, HasOneEnding, HasOneHalt, HasOneProgram, HasOneStop, HasOneText, IsProgramOrHalted, IsScriptOrRefused};
+ghost use Rattle.mob_shell.specs.StepOutcomes.{HasOneFault, HasOneStep, NeverRunsAndStops, OneAnswer};
+ghost use Rattle.mob_shell.specs.Outcomes.{HasOneEnding, HasOneHalt, HasOneProgram, HasOneStop, HasOneText, NeverEndsAndStops, NeverProgramAndHalted, NeverScriptAndRefused};
 
 /// A query has one answer, or one fault.
 pub fn one_answer()
@@ -14,7 +14,7 @@ pub fn one_answer()
 pub fn one_step()
     ensures step { HasOneStep }
     ensures stop { HasOneFault }
-    ensures apart { RunsOrStops }
+    ensures apart { NeverRunsAndStops }
 {
     one_answer();
 }
@@ -23,8 +23,8 @@ pub fn one_step()
 pub fn one_program()
     ensures program { HasOneProgram }
     ensures halt { HasOneHalt }
-    ensures apart { IsProgramOrHalted }
-    ensures refused { IsScriptOrRefused }
+    ensures apart { NeverProgramAndHalted }
+    ensures refused { NeverScriptAndRefused }
 {
     mob_words::laws::one_setting();
     mob_accept::laws::one_script();
@@ -35,7 +35,7 @@ pub fn one_program()
 pub fn one_text()
     ensures text { HasOneText }
     ensures stop { HasOneStop }
-    ensures apart { EndsOrStops }
+    ensures apart { NeverEndsAndStops }
 {
     one_program();
     one_step();

@@ -1,16 +1,16 @@
-use Rattle.std.proofs.Common.{inl, inr}
+use Rattle.std.proofs.Common.{◌∙◌, sym, inr}
 use Rattle.mob_catalog.specs.Constants.{ConstantFails, IsConstant}
 use Rattle.mob_catalog.proofs.FirstFaults.{fails_here, one_more}
+use Rattle.mob_catalog.proofs.Refusals.{fault_fails}
 use Rattle.mob_catalog.proofs.consts.constants.Goals as goal
 
 pub returns-in-Err-clause-first_fault : goal.returns-in-Err-clause-first_fault
 returns-in-Err-clause-first_fault c =
-    elim c.refusal_of.ensures.refusal [
-      | inl e ↦ inl e
-      | inr w ↦ inr (fails_here (IsConstant c.args.epoch.now) (ConstantFails c.args.epoch.now) c.args.texts.now c.loop-text.values c.loop-text.text-index c.text-item.result c.refusal_of.result
-          c.loop-text-test.true c.text-item.is c.loop-text.invariant
-          (record { fault = c.in-Err.fault; says = rw c.as_str.ensures.same at c.in-Err.ensures.reading; kind = w.0; statement = w.1; place = w.2 }))
-    ]
+    let refusal = c.in_ok-ok_or-in-Err.field-0 in
+    let refused = sym c.constant_refusal.ensures.refusal ∙ rw c.in_ok-ok_or-in-Err.was at c.ok_or.ensures.ok_part in
+    inr (fails_here (IsConstant c.args.epoch.now) (ConstantFails c.args.epoch.now) c.args.texts.now c.loop-text.values c.loop-text.text-index c.text-item.result refusal
+    c.loop-text-test.true c.text-item.is c.loop-text.invariant
+    (fault_fails c.args.epoch.now c.loop-text.text-index c.text-item.result c.in-Err.fault refusal (rw c.as_str.ensures.same at c.in-Err.ensures.reading) refused))
 
 pub loop-text-preserved : goal.loop-text-preserved
 loop-text-preserved c =

@@ -1,4 +1,4 @@
-use Rattle.mob_shell.proofs.OneOutcome.{one_halt, one_program, program_or_halted, script_or_refused}
+use Rattle.mob_shell.proofs.OneOutcome.{never_program_and_halted, never_script_and_refused, one_halt, one_program}
 use Rattle.mob_shell.proofs.laws.one_program.Goals as goal
 
 pub returns : goal.returns
@@ -9,6 +9,6 @@ returns c =
     record {
       program = one_program setting script loads;
       halt = one_halt setting script loads;
-      apart = program_or_halted setting script loads;
-      refused = script_or_refused c.one_script.ensures.apart;
+      apart = never_program_and_halted setting script loads;
+      refused = never_script_and_refused c.one_script.ensures.apart;
     }
