@@ -11,3 +11,4 @@ pub mod StatementsRead
 pub mod Steps
 pub mod Tells
 pub mod Whole
+pub mod Within
