@@ -1,12 +1,14 @@
 -- A script that is written in order is looked at in that order.
 use Rattle.std.proofs.Common.{◌≡◌, ◌∙◌, refl, sym, ap, subst, arith, eq-eqb, inl, inr, Bool, true, false, ℕ, ◌+◌, ◌<◌, ◌≤◌, List, [], ◌∷◌, ◌++◌, map}
 use Rattle.std.specs.Prelude.{◌⊎◌, ◌==◌, ◌&&◌, ◌||◌, filter, nat_lt}
+use Rattle.std.specs.List.{AllByRecursion}
 use Rattle.std.proofs.lemmas.Bool.{eqb-true, ltb-true, lt-ltb}
 use Rattle.mob_typing.specs.declared.typed.ConstText.{ConstText}
 use Rattle.mob_typing.specs.Statements.{StatementOut, nothing, new_table, new_index, new_rows, rows_from, query, plan_of}
 use Rattle.mob_load.specs.Checks.{CheckParts, literal, Mark, bracket, marks_of, marks_from, stands_before, up_to, in_order}
 use Rattle.mob_load.specs.Loads.{literal_of}
-use Rattle.mob_load.specs.Order.{Each, HasRisingRows, IsCutAt, IsUpTo, LiteralUpTo, LooksInOrder, Rises}
+use Rattle.mob_typing.specs.Written.{HasRisingRows, IsUpTo, LiteralUpTo, Rises}
+use Rattle.mob_load.specs.Order.{IsCutAt, LooksInOrder}
 use Rattle.mob_load.proofs.Marks.{own_mark}
 use Rattle.mob_load.proofs.Values.{NoLiterals, no_all}
 
@@ -69,7 +71,7 @@ module _ (m : Mark) where
   choice_none false c d cs h not rest is = rw is rest
 
   -- where a literal does not stand before the mark, none that follows does
-  none_stands : (c : ConstText) (cs : List ConstText) → Each (LiteralUpTo c) cs → stands_before c m.statement m.place ≡ false → filter (λ x. stands_before x m.statement m.place) cs ≡ []
+  none_stands : (c : ConstText) (cs : List ConstText) → AllByRecursion (LiteralUpTo c) cs → stands_before c m.statement m.place ≡ false → filter (λ x. stands_before x m.statement m.place) cs ≡ []
   none_stands c [] later not = refl
   none_stands c (d ∷ cs) later not = choice_none (stands_before d m.statement m.place) c d cs later.0 not (none_stands c cs later.1 not) refl
 
@@ -124,7 +126,7 @@ module _ (m : Mark) where
       cut_later (c ∷ cs) rises = choice_later (stands_before c k.statement k.place) c cs rises (cut_later cs rises.1) refl
 
 -- what holds of each of a list holds of one in it
-one_of : {A : Type 0} (P : A → Type 0) (before after : List A) (x : A) → Each P (before ++ x ∷ after) → P x
+one_of : {A : Type 0} (P : A → Type 0) (before after : List A) (x : A) → AllByRecursion P (before ++ x ∷ after) → P x
 one_of P [] after x h = h.0
 one_of P (y ∷ before) after x h = one_of P before after x h.1
 
@@ -134,7 +136,7 @@ cut_at (k ∷ before) after m none rises cs written =
     cut_later m (in_order (before ++ m ∷ after)) k none.0 (one_of (MarkUpTo k) before after m rises.0) before (λ ds later. cut_at before after m none.1 rises.1 ds later) cs written
 
 -- the marks of a script that is written in order rise
-each_map : {A B : Type 0} (P : A → Type 0) (Q : B → Type 0) (f : A → B) → ((x : A) → P x → Q (f x)) → (xs : List A) → Each P xs → Each Q (map f xs)
+each_map : {A B : Type 0} (P : A → Type 0) (Q : B → Type 0) (f : A → B) → ((x : A) → P x → Q (f x)) → (xs : List A) → AllByRecursion P xs → AllByRecursion Q (map f xs)
 each_map P Q f on [] h = tt
 each_map P Q f on (x ∷ xs) h = (on x h.0, each_map P Q f on xs h.1)
 
@@ -158,11 +160,11 @@ StandsIn n m = m.statement ≡ n
 abbrev StandsFrom : ℕ → Mark → Type 0
 StandsFrom n m = n ≤ m.statement
 
-brackets_stand : (t n : ℕ) (places : List ℕ) → Each (StandsIn n) (map (bracket t n) places)
+brackets_stand : (t n : ℕ) (places : List ℕ) → AllByRecursion (StandsIn n) (map (bracket t n) places)
 brackets_stand t n [] = tt
 brackets_stand t n (p ∷ ps) = (refl, brackets_stand t n ps)
 
-own_stand : (n : ℕ) (s : StatementOut) → Each (StandsIn n) (marks_of n s)
+own_stand : (n : ℕ) (s : StatementOut) → AllByRecursion (StandsIn n) (marks_of n s)
 own_stand n nothing = tt
 own_stand n (new_table t name columns) = (refl, tt)
 own_stand n (new_index t c name) = tt
@@ -171,15 +173,15 @@ own_stand n (rows_from t name) = (refl, tt)
 own_stand n (query s) = tt
 own_stand n (plan_of s) = tt
 
-each_on : {A : Type 0} (P Q : A → Type 0) → ((x : A) → P x → Q x) → (xs : List A) → Each P xs → Each Q xs
+each_on : {A : Type 0} (P Q : A → Type 0) → ((x : A) → P x → Q x) → (xs : List A) → AllByRecursion P xs → AllByRecursion Q xs
 each_on P Q on [] h = tt
 each_on P Q on (x ∷ xs) h = (on x h.0, each_on P Q on xs h.1)
 
-each_both : {A : Type 0} (P : A → Type 0) (xs ys : List A) → Each P xs → Each P ys → Each P (xs ++ ys)
+each_both : {A : Type 0} (P : A → Type 0) (xs ys : List A) → AllByRecursion P xs → AllByRecursion P ys → AllByRecursion P (xs ++ ys)
 each_both P [] ys h k = k
 each_both P (x ∷ xs) ys h k = (h.0, each_both P xs ys h.1 k)
 
-all_stand : (n : ℕ) (ss : List StatementOut) → Each (StandsFrom n) (marks_from n ss)
+all_stand : (n : ℕ) (ss : List StatementOut) → AllByRecursion (StandsFrom n) (marks_from n ss)
 all_stand n [] = tt
 all_stand n (s ∷ ss) =
     each_both (StandsFrom n) (marks_of n s) (marks_from (n + 1) ss)
@@ -187,13 +189,13 @@ all_stand n (s ∷ ss) =
     (each_on (StandsFrom (n + 1)) (StandsFrom n) (λ m le. omega arith) (marks_from (n + 1) ss) (all_stand (n + 1) ss))
 
 -- marks of one statement, and then marks of later ones
-both_rise : (n : ℕ) (ms ks : List Mark) → Rises MarkUpTo ms → Each (StandsIn n) ms → Rises MarkUpTo ks → Each (StandsFrom (n + 1)) ks → Rises MarkUpTo (ms ++ ks)
+both_rise : (n : ℕ) (ms ks : List Mark) → Rises MarkUpTo ms → AllByRecursion (StandsIn n) ms → Rises MarkUpTo ks → AllByRecursion (StandsFrom (n + 1)) ks → Rises MarkUpTo (ms ++ ks)
 both_rise n [] ks h own k later = k
 both_rise n (m ∷ ms) ks h own k later =
     let is = own.0 in
     (each_both (MarkUpTo m) ms ks h.0 (each_on (StandsFrom (n + 1)) (MarkUpTo m) (λ x le. inl (omega arith)) ks later), both_rise n ms ks h.1 own.1 k later)
 
-all_rise : (n : ℕ) (ss : List StatementOut) → Each HasRisingRows ss → Rises MarkUpTo (marks_from n ss)
+all_rise : (n : ℕ) (ss : List StatementOut) → AllByRecursion HasRisingRows ss → Rises MarkUpTo (marks_from n ss)
 all_rise n [] h = tt
 all_rise n (s ∷ ss) h = both_rise n (marks_of n s) (marks_from (n + 1) ss) (own_rise n s h.0) (own_stand n s) (all_rise (n + 1) ss h.1) (all_stand (n + 1) ss)
 
