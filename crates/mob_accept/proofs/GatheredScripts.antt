@@ -7,10 +7,11 @@ use Rattle.mob_ast.specs.Trees.{StatementParts}
 use Rattle.mob_typing.specs.declared.typed.ConstText.{ConstText}
 use Rattle.mob_typing.specs.Answers.{Wrong}
 use Rattle.mob_typing.specs.Names.{NameLists}
-use Rattle.mob_typing.specs.Statements.{Made, StatementOut, ScriptOut, in_statement, or_refused, typed_statement, typed_from, no_names, typed_script}
-use Rattle.mob_typing.specs.Written.{HasRisingRows, IsWritten, LiteralUpTo, Rises}
+use Rattle.mob_typing.specs.Statements.{Made, StatementOut, ScriptOut, in_statement, or_refused, typed_statement, typed_from, no_names}
+use Rattle.mob_typing.specs.Written.{HasRisingRows, LiteralUpTo, Rises}
 use Rattle.mob_grammar.specs.Places.{statement_places, script_places}
 use Rattle.mob_grammar.proofs.Within.{within_all, within_back, within_front}
+use Rattle.mob_accept.specs.Written.{TypingKeepsOrder}
 use Rattle.mob_accept.proofs.Adds.{Adds, Belongs, Gathers, all_both, places_of}
 use Rattle.mob_accept.proofs.GatheredStatements.{AskedRise, rises_within, statement_gathers, statement_rises}
 
@@ -78,7 +79,7 @@ script_stands n names done (s ∷ ss) cs up before =
     statement_stands n done ss cs (statement_places s) own before (typed_statement n names s cs) (statement_gathers n names s cs) (statement_rises n names s cs own)
     (λ others_names all ds h. script_stands (n + 1) others_names all ss ds others h)
 
-pub typed_is_written : (ss : List StatementParts) (out : ScriptOut) → Rising (script_places ss) → typed_script ss ≡ Ok out → IsWritten out
-typed_is_written ss out up typed =
+pub typing_keeps_order : TypingKeepsOrder
+typing_keeps_order ss out up typed =
     let h : Stands 1 [] out = subst (λ r. IfOk r (Stands 1 [])) typed (script_stands 1 no_names [] ss [] up tt) in
     record { literals = subst (Rises LiteralUpTo) (sym h.is) h.rises; rows = h.rows }

@@ -2,15 +2,12 @@
 -- literals are gathered in the order of its trees.
 use Rattle.std.specs.List.{AllByRecursion}
 use Rattle.std.proofs.Common.{◌≤◌, arith, ℕ, List, [], ◌∷◌, map}
-use Rattle.mob_ast.specs.Trees.{StatementParts}
 use Rattle.mob_chars.specs.declared.token.Token.{Token}
 use Rattle.mob_chars.specs.Layout.{InOrder}
 use Rattle.mob_chars.proofs.Along.{are_in_order}
-use Rattle.mob_grammar.specs.Places.{script_places}
-use Rattle.mob_parse.specs.Refusals.{IsTreeOf}
 use Rattle.mob_parse.proofs.Places.{stands_in_text}
-use Rattle.mob_accept.specs.Written.{AreWritten}
-use Rattle.mob_accept.proofs.GatheredScripts.{Rising, all_on, typed_is_written}
+use Rattle.mob_accept.specs.Written.{AreWritten, TreesRise}
+use Rattle.mob_accept.proofs.GatheredScripts.{Rising, all_on, typing_keeps_order}
 use Rattle.mob_accept.proofs.GatheredStatements.{rises_within}
 
 abbrev begins : List Token → List ℕ
@@ -29,8 +26,8 @@ begins_rise p e (t ∷ ts) h =
     let goes_on = h.1 in
     (all_on (λ q. t.to ≤ q) (λ q. t.from ≤ q) (λ q le. omega arith) (begins ts) (begin_from t.to e ts h.2), begins_rise t.to e ts h.2)
 
-tree_rises : (bytes : List ℕ) (x : List StatementParts) → IsTreeOf bytes x → Rising (script_places x)
-tree_rises bytes x (u, (l, (ts, are, is), d)) = rises_within (λ p q. p ≤ q) (stands_in_text bytes x ts (u, (l, (ts, are, is), d)) are) (begins_rise 0 _ ts (are_in_order bytes ts are))
+pub trees_rise : TreesRise
+trees_rise bytes x (u, (l, (ts, are, is), d)) = rises_within (λ p q. p ≤ q) (stands_in_text bytes x ts (u, (l, (ts, are, is), d)) are) (begins_rise 0 _ ts (are_in_order bytes ts are))
 
 pub are_written : AreWritten
-are_written bytes out h = typed_is_written h.trees out (tree_rises bytes h.trees h.script.read.tree) h.script.typed
+are_written bytes out h = typing_keeps_order h.trees out (trees_rise bytes h.trees h.script.read.tree) h.script.typed

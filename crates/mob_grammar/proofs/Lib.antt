@@ -2,6 +2,7 @@ pub mod Complete
 pub mod Lawful
 pub mod Marks
 pub mod Outcomes
+mod PlaceExamples
 pub mod Places
 pub mod Ranks
 pub mod Same
