@@ -1,6 +1,5 @@
 -- The literals and rows of a text stand at its tokens.
-use Rattle.std.proofs.Common.{◌≡◌, subst, ℕ, List, [], ◌∷◌, map, Option, Some, None, Ok}
-use Rattle.mob_ast.specs.Trees.{StatementParts}
+use Rattle.std.proofs.Common.{◌≡◌, subst, ℕ, List, [], ◌∷◌, map, Option, Some, None}
 use Rattle.mob_chars.specs.declared.token.Token.{Token}
 use Rattle.mob_grammar.specs.Symbols.{Symbol, Tok}
 use Rattle.mob_grammar.specs.Places.{IsWithin, nothing, other, same, script_places}
