@@ -1,5 +1,6 @@
 //! What holds of every text of a script. No code runs here.
 ghost use Rattle.mob_accept.specs.Outcomes.{HasOneScript, NeverTakenAndRefused, HasOneRefusal};
+ghost use Rattle.mob_accept.specs.Written.{AreWritten, TreesRise, TypingKeepsOrder};
 
 /// A text that is taken is one script, and no text is both taken and refused.
 pub fn one_script()
@@ -10,4 +11,12 @@ pub fn one_script()
 /// A text that is refused by itself has one refusal: its kind, its statement and its place.
 pub fn one_text_refusal()
     ensures refusal { HasOneRefusal }
+{}
+
+/// A text that is taken stands in written order: its literals, and the brackets of each INSERT. So do the trees of a text, and typing
+/// keeps their order.
+pub fn text_is_written()
+    ensures trees { TreesRise }
+    ensures typing { TypingKeepsOrder }
+    ensures order { AreWritten }
 {}

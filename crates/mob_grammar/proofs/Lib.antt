@@ -2,6 +2,8 @@ pub mod Complete
 pub mod Lawful
 pub mod Marks
 pub mod Outcomes
+mod PlaceExamples
+pub mod Places
 pub mod Ranks
 pub mod Same
 pub mod Sizes
@@ -10,3 +12,4 @@ pub mod StatementsRead
 pub mod Steps
 pub mod Tells
 pub mod Whole
+pub mod Within

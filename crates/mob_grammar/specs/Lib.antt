@@ -2,6 +2,7 @@ pub mod Expressions
 pub mod Forms
 pub mod Marks
 pub mod Outcomes
+pub mod Places
 pub mod Reading
 pub mod Scripts
 pub mod Sizes

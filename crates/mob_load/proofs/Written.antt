@@ -1,13 +1,14 @@
 -- A script that is written in order is looked at in that order.
 use Rattle.std.proofs.Common.{◌≡◌, ◌∙◌, refl, sym, ap, subst, arith, eq-eqb, inl, inr, Bool, true, false, ℕ, ◌+◌, ◌<◌, ◌≤◌, List, [], ◌∷◌, ◌++◌, map}
-use Rattle.std.specs.List.{AllByRecursion}
 use Rattle.std.specs.Prelude.{◌⊎◌, ◌==◌, ◌&&◌, ◌||◌, filter, nat_lt}
+use Rattle.std.specs.List.{AllByRecursion}
 use Rattle.std.proofs.lemmas.Bool.{eqb-true, ltb-true, lt-ltb}
 use Rattle.mob_typing.specs.declared.typed.ConstText.{ConstText}
 use Rattle.mob_typing.specs.Statements.{StatementOut, nothing, new_table, new_index, new_rows, rows_from, query, plan_of}
 use Rattle.mob_load.specs.Checks.{CheckParts, literal, Mark, bracket, marks_of, marks_from, stands_before, up_to, in_order}
 use Rattle.mob_load.specs.Loads.{literal_of}
-use Rattle.mob_load.specs.Order.{HasRisingRows, IsCutAt, IsUpTo, LiteralUpTo, LooksInOrder, Rises}
+use Rattle.mob_typing.specs.Written.{HasRisingRows, IsUpTo, LiteralUpTo, Rises}
+use Rattle.mob_load.specs.Order.{IsCutAt, LooksInOrder}
 use Rattle.mob_load.proofs.Each.{each_both, each_map, each_mark, each_on, one_of}
 use Rattle.mob_load.proofs.Marks.{own_mark}
 use Rattle.mob_load.proofs.Values.{NoLiterals, no_all}

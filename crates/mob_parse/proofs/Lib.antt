@@ -1,6 +1,7 @@
 mod Examples
 pub mod Few
 pub mod Placed
+pub mod Places
 pub mod Quotes
 pub mod Refused
 pub mod Reserved

@@ -3,6 +3,7 @@ pub mod Cursors
 pub mod Heavy
 pub mod Levels
 pub mod Lexemes
+pub mod Places
 pub mod Refusals
 pub mod Standings
 pub mod Tokens

@@ -1,4 +1,5 @@
 //! Laws of scripts as texts. Each is proved for every text; calling one does nothing.
+ghost use Rattle.mob_parse.specs.Places.{StandsInText};
 ghost use Rattle.mob_parse.specs.Refusals.{HasOneRefusal, TreeIsRefusedForMemoryAlone};
 ghost use Rattle.mob_parse.specs.Words.{NamesAreRead, SignsAreRead, TokensAreSigns, WordsAreRead};
 
@@ -15,4 +16,9 @@ pub fn marks_are_read()
 pub fn one_refusal()
     ensures refusal { HasOneRefusal }
     ensures apart { TreeIsRefusedForMemoryAlone }
+{}
+
+/// The literals and the rows of a script stand at tokens of its text, in their order.
+pub fn stands_in_text()
+    ensures places { StandsInText }
 {}

@@ -7,3 +7,4 @@ pub mod Ending
 pub mod Run
 pub mod Parts
 pub mod Outcomes
+pub mod WrittenOrder

@@ -8,6 +8,7 @@ mod answers;
 mod decide;
 mod judge;
 pub mod laws;
+pub mod order_laws;
 mod program;
 mod rows;
 mod session;

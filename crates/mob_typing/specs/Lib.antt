@@ -6,3 +6,4 @@ pub mod Selects
 pub mod Statements
 pub mod Trees
 pub mod Words
+pub mod Written

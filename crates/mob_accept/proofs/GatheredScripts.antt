@@ -1,0 +1,85 @@
+-- A script whose literals and rows rise in its trees stands in written order.
+use Rattle.std.specs.Prelude.{IfOk}
+use Rattle.std.specs.List.{AllByRecursion}
+use Rattle.std.proofs.Common.{◌≡◌, ◌≤◌, ◌+◌, ◌∙◌, arith, sym, ap, subst, inl, inr, ℕ, List, [], ◌∷◌, ◌++◌, append_assoc, append-nil, Result, Ok, Err}
+use Rattle.mob_ast.specs.declared.refusal.Refusal.{Refusal}
+use Rattle.mob_ast.specs.Trees.{StatementParts}
+use Rattle.mob_typing.specs.declared.typed.ConstText.{ConstText}
+use Rattle.mob_typing.specs.Answers.{Wrong}
+use Rattle.mob_typing.specs.Names.{NameLists}
+use Rattle.mob_typing.specs.Statements.{Made, StatementOut, ScriptOut, in_statement, or_refused, typed_statement, typed_from, no_names}
+use Rattle.mob_typing.specs.Written.{HasRisingRows, LiteralUpTo, Rises}
+use Rattle.mob_grammar.specs.Places.{statement_places, script_places}
+use Rattle.mob_grammar.proofs.Within.{within_all, within_back, within_front}
+use Rattle.mob_accept.specs.Written.{TypingKeepsOrder}
+use Rattle.mob_accept.proofs.Adds.{Adds, Belongs, Gathers, all_both, places_of}
+use Rattle.mob_accept.proofs.GatheredStatements.{AskedRise, rises_within, statement_gathers, statement_rises}
+
+-- places that rise
+abbrev pub Rising : List ℕ → Type 0
+Rising ps = Rises (λ p q. p ≤ q) ps
+
+abbrev BelongsFrom : ℕ → ConstText → Type 0
+BelongsFrom n c = n ≤ c.statement
+
+pub all_on : {A : Type 0} (P Q : A → Type 0) → ((x : A) → P x → Q x) → (xs : List A) → AllByRecursion P xs → AllByRecursion Q xs
+all_on P Q on [] h = tt
+all_on P Q on (x ∷ xs) h = (on x h.0, all_on P Q on xs h.1)
+
+-- literals of one statement rise with their places
+all_literals : (n : ℕ) (c : ConstText) (cs : List ConstText) → Belongs n c → AllByRecursion (Belongs n) cs → AllByRecursion (λ p. c.place ≤ p) (places_of cs) → AllByRecursion (LiteralUpTo c) cs
+all_literals n c [] is own up = tt
+all_literals n c (d ∷ cs) is own up = (inr (is ∙ sym own.0, up.0), all_literals n c cs is own.1 up.1)
+
+own_rise : (n : ℕ) (cs : List ConstText) → AllByRecursion (Belongs n) cs → Rising (places_of cs) → Rises LiteralUpTo cs
+own_rise n [] own up = tt
+own_rise n (c ∷ cs) own up = (all_literals n c cs own.0 own.1 up.0, own_rise n cs own.1 up.1)
+
+-- literals of one statement, and then those of later ones
+both_rise : (n : ℕ) (cs ds : List ConstText) → Rises LiteralUpTo cs → AllByRecursion (Belongs n) cs → Rises LiteralUpTo ds → AllByRecursion (BelongsFrom (n + 1)) ds → Rises LiteralUpTo (cs ++ ds)
+both_rise n [] ds h own k later = k
+both_rise n (c ∷ cs) ds h own k later =
+    let is = own.0 in
+    (all_both (LiteralUpTo c) cs ds h.0 (all_on (BelongsFrom (n + 1)) (LiteralUpTo c) (λ d le. inl (omega arith)) ds later), both_rise n cs ds h.1 own.1 k later)
+
+-- what the statements from the one of number n on add: literals that rise, and brackets that rise
+record Stands (n : ℕ) (before : List ConstText) (out : ScriptOut) : Type 0 where
+  new : List ConstText
+  is : out.consts ≡ before ++ new
+  rises : Rises LiteralUpTo new
+  later : AllByRecursion (BelongsFrom n) new
+  rows : AllByRecursion HasRisingRows out.statements
+
+module _ (n : ℕ) (cs ds : List ConstText) (ps : List ℕ) (up : Rising ps) (adds : Adds n ps cs ds) where
+  onward : (r : Result ScriptOut Refusal) → IfOk r (Stands (n + 1) ds) → IfOk r (Stands n cs)
+  onward (Ok out) h = record {
+    new = adds.new ++ h.new;
+    is = h.is ∙ ap (λ x. x ++ h.new) adds.is ∙ append_assoc cs adds.new h.new;
+    rises = both_rise n adds.new h.new (own_rise n adds.new adds.own (rises_within (λ p q. p ≤ q) adds.within up)) adds.own h.rises h.later;
+    later =
+        all_both (BelongsFrom n) adds.new h.new (all_on (Belongs n) (BelongsFrom n) (λ c is. omega arith) adds.new adds.own) (all_on (BelongsFrom (n + 1)) (BelongsFrom n) (λ c le. omega arith) h.new h.later);
+    rows = h.rows;
+  }
+  onward (Err e) h = tt
+
+module _ (n : ℕ) (done : List StatementOut) (ss : List StatementParts) (cs : List ConstText) (ps : List ℕ) (up : Rising ps) (before : AllByRecursion HasRisingRows done) where
+  -- one statement, and then those behind it
+  statement_stands : (r : Result (Made × List ConstText) Wrong) → Gathers n ps cs r → IfOk r AskedRise
+      → ((names : NameLists) (all : List StatementOut) (ds : List ConstText) → AllByRecursion HasRisingRows all → IfOk (typed_from (n + 1) names all ss ds) (Stands (n + 1) ds))
+      → IfOk (or_refused (in_statement n r) (λ r. typed_from (n + 1) r.0.names (done ++ r.0.statement ∷ []) ss r.1)) (Stands n cs)
+  statement_stands (Ok x) gathers rows rest =
+      onward n cs x.1 ps up gathers (typed_from (n + 1) x.0.names (done ++ x.0.statement ∷ []) ss x.1) (rest x.0.names (done ++ x.0.statement ∷ []) x.1 (all_both HasRisingRows done (x.0.statement ∷ []) before (rows, tt)))
+  statement_stands (Err w) gathers rows rest = tt
+
+script_stands : (n : ℕ) (names : NameLists) (done : List StatementOut) (ss : List StatementParts) (cs : List ConstText) → Rising (script_places ss) → AllByRecursion HasRisingRows done → IfOk (typed_from n names done ss cs) (Stands n cs)
+script_stands n names done [] cs up before = record { new = []; is = sym (append-nil cs); rises = tt; later = tt; rows = before }
+script_stands n names done (s ∷ ss) cs up before =
+    let own : Rising (statement_places s) = rises_within (λ p q. p ≤ q) (within_front (script_places ss) (within_all (statement_places s))) up in
+    let others : Rising (script_places ss) = rises_within (λ p q. p ≤ q) (within_back (statement_places s) (within_all (script_places ss))) up in
+    statement_stands n done ss cs (statement_places s) own before (typed_statement n names s cs) (statement_gathers n names s cs) (statement_rises n names s cs own)
+    (λ others_names all ds h. script_stands (n + 1) others_names all ss ds others h)
+
+pub typing_keeps_order : TypingKeepsOrder
+typing_keeps_order ss out up typed =
+    let h : Stands 1 [] out = subst (λ r. IfOk r (Stands 1 [])) typed (script_stands 1 no_names [] ss [] up tt) in
+    record { literals = subst (Rises LiteralUpTo) (sym h.is) h.rises; rows = h.rows }

@@ -1,0 +1,24 @@
+-- A text that is taken stands in written order: so do its trees, and typing keeps their order.
+use Rattle.std.specs.Prelude.{◌≡◌, ◌≤◌, ℕ, List, Ok}
+use Rattle.mob_ast.specs.Trees.{StatementParts}
+use Rattle.mob_grammar.specs.Places.{script_places}
+use Rattle.mob_parse.specs.Refusals.{IsTreeOf}
+use Rattle.mob_typing.specs.Statements.{ScriptOut, typed_script}
+use Rattle.mob_typing.specs.Written.{IsWritten, Rises}
+use Rattle.mob_accept.specs.Accepts.{IsAccepted}
+
+-- the literals and the rows of the trees stand at places that rise
+abbrev pub HasRisingPlaces : List StatementParts → Type 0
+HasRisingPlaces trees = Rises (λ p q. p ≤ q) (script_places trees)
+
+-- the trees of a text stand in written order
+abbrev pub TreesRise : Type 0
+TreesRise = (bytes : List ℕ) (trees : List StatementParts) → IsTreeOf bytes trees → HasRisingPlaces trees
+
+-- what typing makes of trees in written order stands in written order
+abbrev pub TypingKeepsOrder : Type 0
+TypingKeepsOrder = (trees : List StatementParts) (out : ScriptOut) → HasRisingPlaces trees → typed_script trees ≡ Ok out → IsWritten out
+
+-- the literals of a script that is taken are kept in the order in which they are written, and so are the rows of each INSERT
+abbrev pub AreWritten : Type 0
+AreWritten = (bytes : List ℕ) (out : ScriptOut) → IsAccepted bytes out → IsWritten out
