@@ -8,6 +8,7 @@ ghost use Rattle.mob_scalar.specs.declared.fault.ReadText.TheVariants.{NoMemory}
 ghost use Rattle.mob_scalar.specs.Verdict.{Lit};
 
 use crate::fault::ReadText;
+use crate::readers::split_run;
 use crate::stamp::blanks;
 use std::alloc::AllocError;
 
@@ -15,14 +16,7 @@ use std::alloc::AllocError;
 fn letters(bytes: &[u8]) -> (&[u8], &[u8])
     ensures value { (result.0.now, result.1.now) ≡ run_of is_ascii_alphabetic bytes.now }
 {
-    let mut i = 0;
-    while i < bytes.len() {
-        if !bytes[i].is_ascii_alphabetic() {
-            return bytes.split_at(i);
-        }
-        i += 1;
-    }
-    bytes.split_at(i)
+    split_run(|c| c.is_ascii_alphabetic(), bytes)
 }
 
 fn is_word(text: &[u8], word: &[u8]) -> bool
