@@ -1,7 +1,5 @@
 //! Moments as they are written.
 ghost use Rattle.std.specs.Prelude.{◌≡◌, ◌<◌, ◌^◌, option_map, ℤ, pos, nat_abs, ◌*ℤ◌, ◌+ℤ◌, Option, Some, None, IfSome, true};
-ghost use Rattle.mob_language.specs.Language.{is_blank as blank};
-ghost use Rattle.mob_language.specs.Readers.{run_of};
 ghost use Rattle.mob_scalar.specs.Calendar.{is_civil as civil};
 ghost use Rattle.mob_scalar.specs.Moment.{stamp_of as stamp_made, clock_of as clock_made, offset_of as offset_made, zone_of as zone_made, is_in_years as in_years, seconds, shift as moved};
 ghost use Rattle.mob_scalar.specs.MomentReaders.{up_to_at as up_to_in, colon_at as colon_in, decimals_at as decimals_in, below_at as below_in, quotient_at as quotient_in, part_at as part_in, seconds_at as seconds_in, clock_at as clock_in, z_at as z_in, hours_at as hours_in, after_sign_in, zone_at as zone_in, blanks_at as blanks_in, t_at as t_in, gap_at as gap_in, time_at as time_in, moment_at as moment_in};
@@ -9,7 +7,7 @@ ghost use Rattle.mob_scalar.specs.MomentReaders.{up_to_at as up_to_in, colon_at 
 use crate::civil::{Civil, date_at, day_of, fixed_at};
 use crate::number::ten_to;
 use crate::numeral::{Figures, digits_at};
-use crate::readers::{maybe, split_run};
+use crate::readers::{blanks, maybe};
 
 /// A part of a second, `numerator / denominator`.
 #[derive(Clone, Copy, Debug, PartialEq, Eq)]
@@ -268,20 +266,6 @@ fn zone_or_utc(zone: Option<Offset>) -> Offset
         },
         Some(offset) => offset,
     }
-}
-
-/// Whether a byte is a space, a tab, a carriage return or a line feed.
-pub fn is_blank(c: u8) -> bool
-    ensures test { result ≡ blank c }
-{
-    c == 32 || c == 9 || c == 13 || c == 10
-}
-
-/// The blanks in front, and what stands behind them.
-pub fn blanks(bytes: &[u8]) -> (&[u8], &[u8])
-    ensures split { (result.0.now, result.1.now) ≡ run_of blank bytes.now }
-{
-    split_run(is_blank, bytes)
 }
 
 #[tactic(auto, unfolding(crate::specs::MomentReaders::blanks_at))]
