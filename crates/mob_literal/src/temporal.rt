@@ -38,18 +38,21 @@ fn written_of<B: Drop>(noted: Noted<B>) -> Option<Written<B>>
     Some(Written { value, instant })
 }
 
-fn fitting_instants<B: Drop>(
+/// What `fit` makes of each item, where it makes something of every one.
+fn fitting_each<A: Drop, B: Drop, F: Fn(A) -> Result<Option<B>, AllocError>>(
     alloc: Global,
-    instants: Vec<Noted<B>>,
-) -> Result<Option<Vec<Written<B>>>, AllocError>
-    ensures fitting { IfOk result (λ o. option_map (λ v. v.items) o ≡ traverse written_in instants.items) }
+    items: Vec<A>,
+    fit: F,
+) -> Result<Option<Vec<B>>, AllocError>
+    requires callable { F.IsAlwaysCallable fit }
+    ensures fitting { (part : A → Option B) → ((item : _) (made : _) → F.post fit item made → IfOk made (λ o. o ≡ part item)) → IfOk result (λ o. option_map (λ v. v.items) o ≡ traverse part items.items) }
 {
     let mut fitting = Vec::new(alloc);
-    for noted in instants {
-        let Some(written) = written_of(noted) else {
+    for item in items {
+        let Some(made) = fit(item)? else {
             return Ok(None);
         };
-        fitting.push(written)?;
+        fitting.push(made)?;
     }
     Ok(Some(fitting))
 }
@@ -65,7 +68,8 @@ fn fitting_sequence<B: Drop>(
         instants,
         upper_inc,
     } = sequence;
-    let Some(fitting) = fitting_instants(alloc, instants.into_vec())? else {
+    let each = |noted| Ok(written_of(noted));
+    let Some(fitting) = fitting_each(alloc, instants.into_vec(), each)? else {
         return Ok(None);
     };
     Ok(Some(Sequence {
@@ -82,14 +86,11 @@ fn fitting_all<B: Drop>(
 ) -> Result<Option<Vec<Sequence<Written<B>>>>, AllocError>
     ensures fitting { IfOk result (λ o. option_map (λ v. v.items) o ≡ all_fitting sequences.items) }
 {
-    let mut fitting = Vec::new(alloc);
-    for sequence in sequences {
-        let Some(written) = fitting_sequence(alloc, sequence)? else {
-            return Ok(None);
-        };
-        fitting.push(written)?;
-    }
-    Ok(Some(fitting))
+    fitting_each(
+        alloc,
+        sequences,
+        |sequence| fitting_sequence(alloc, sequence),
+    )
 }
 
 fn clear_ends<B>(upper_inc: bool, lower_inc: bool, end: &Written<B>, start: &Written<B>) -> bool
