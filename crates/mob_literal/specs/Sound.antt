@@ -87,6 +87,16 @@ pub record Defines {B : Type 0} (is_same : B → B → Bool) (qs : List (Sequenc
   pub normal : IsNormal {C = Steady B} {B = B} (λ c. c.value) (λ c. c.value) (λ c d lower middle upper. is_same c.value d.value) slices
   pub same : (t : Ratio) (v : B) → (value_at step_value slices t ≡ Some v) ↔ LitAt qs t v
 
+-- The sequences of the literals of a type of step values, with instants counted from a day, where each of their numbers fits.
+abbrev pub written_sequences : {B : Type 0} → ℤ → (Text → Option B → Type 0) → Form (List (Sequence (Noted B))) (List (Sequence (Written B)))
+written_sequences day value = record {
+  shape = temporal (noted day value);
+  long = λ s. is_long s ≡ true;
+  large = λ s. fitting_all s ≡ None;
+  unsound = λ s. ⊥;
+  means = λ s qs. fitting_all s ≡ Some qs;
+}
+
 -- The literals of a type of step values, with instants counted from a day.
 abbrev pub steps : {B : Type 0} → ℤ → (Text → Option B → Type 0) → (B → Bool) → (B → B → Bool) → Form (List (Sequence (Noted B))) (List (Slice (Steady B)))
 steps day value has_value is_same = record {

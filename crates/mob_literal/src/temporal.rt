@@ -1,8 +1,8 @@
 //! Temporal literals of the step types, read.
-ghost use Rattle.std.specs.Prelude.{◌≡◌, option_map, Option, Some, None, IfOk, true};
+ghost use Rattle.std.specs.Prelude.{◌≡◌, option_map, Option, Some, None, Ok, Err, IfOk, MatchResult, true};
 ghost use Rattle.std.specs.List.{list_all};
 ghost use Rattle.mob_scalar.specs.Verdict.{Lit};
-ghost use Rattle.mob_literal.specs.Sound.{is_long as long, traverse, written_of as written_in, fitting_sequence as fitting_in, fitting_all as all_fitting, clear_ends as ends_clear, is_before as precedes, are_in_order as in_order, steps};
+ghost use Rattle.mob_literal.specs.Sound.{is_long as long, traverse, written_of as written_in, fitting_sequence as fitting_in, fitting_all as all_fitting, clear_ends as ends_clear, is_before as precedes, are_in_order as in_order, written_sequences, steps};
 ghost use Rattle.mob_literal.specs.Flat.{made_sequence, made_all};
 
 use crate::literal::{WrittenValue, literal_of};
@@ -133,12 +133,9 @@ fn are_in_order<B>(sequences: &[Sequence<Written<B>>]) -> bool
 fn has_values<T: WrittenValue>(instants: &[Written<T::Base>]) -> bool
     ensures value { result ≡ list_all (λ i. T.has_value i.value) instants.now }
 {
-    for instant in instants {
-        if !T::has_value(&instant.value) {
-            return false;
-        }
-    }
-    true
+    instants
+        .iter()
+        .all(|instant| T::has_value(&instant.value))
 }
 
 type Slices<B> = Vec<Slice<Steady<B>>>;
@@ -178,6 +175,32 @@ fn all_slices<T: WrittenValue>(
     Ok(Some(all))
 }
 
+/// The sequences that a literal says.
+///
+/// The faults in order: `NotText` where the text is no literal, `Limit` where it has more than 100,000 instants, and
+/// `TooLarge` where a value or an instant does not fit.
+fn read_sequences<T: WrittenValue>(
+    alloc: Global,
+    text: &str,
+    epoch: &Epoch,
+) -> Result<Vec<Sequence<Written<T::Base>>>, ReadText>
+    ensures reading { MatchResult result (λ written. Lit (written_sequences epoch.now T.shape) text.now (Ok written.items)) (λ fault. Lit (written_sequences epoch.now T.shape) text.now (Err fault)) }
+{
+    let noted = match literal_of::<T>(alloc, epoch, text.as_bytes()) {
+        Ok(Some(noted)) => noted,
+        Ok(None) => return Err(ReadText::NotText),
+        Err(_) => return Err(ReadText::NoMemory),
+    };
+    if is_long(noted.as_slice()) {
+        return Err(ReadText::Limit);
+    }
+    match fitting_all(alloc, noted) {
+        Ok(Some(written)) => Ok(written),
+        Ok(None) => Err(ReadText::TooLarge),
+        Err(_) => Err(ReadText::NoMemory),
+    }
+}
+
 /// The step value that a literal stands for. Instants count from midnight UTC of the epoch's day.
 ///
 /// The faults in order: `NotText` where the text is no literal, `Limit` where it has more than 100,000 instants,
@@ -191,18 +214,9 @@ pub fn read_steps<T: WrittenValue>(
 ) -> Result<Moving<Steady<T::Base>>, ReadText>
     ensures reading { Lit (steps epoch.now T.shape T.has_value T.Base.is_same) text.now result }
 {
-    let noted = match literal_of::<T>(alloc, epoch, text.as_bytes()) {
-        Ok(Some(noted)) => noted,
-        Ok(None) => return Err(ReadText::NotText),
-        Err(_) => return Err(ReadText::NoMemory),
-    };
-    if is_long(noted.as_slice()) {
-        return Err(ReadText::Limit);
-    }
-    let written = match fitting_all(alloc, noted) {
-        Ok(Some(written)) => written,
-        Ok(None) => return Err(ReadText::TooLarge),
-        Err(_) => return Err(ReadText::NoMemory),
+    let written = match read_sequences::<T>(alloc, text, epoch) {
+        Ok(written) => written,
+        Err(fault) => return Err(fault),
     };
     if !are_in_order(written.as_slice()) {
         return Err(ReadText::Unsound);

@@ -1,4 +1,4 @@
-use Rattle.std.proofs.Common.{◌≡◌, ◌-◌, suc, length, Option, IfOk, option_map}
+use Rattle.std.proofs.Common.{◌≡◌, ◌-◌, suc, length, IfOk, option_map}
 use Rattle.mob_language.specs.Readers.{Reader, items_at, separated_at}
 use Rattle.mob_language.proofs.Lists.{with_front}
 use Rattle.mob_literal.specs.Literal.{comma_at}
