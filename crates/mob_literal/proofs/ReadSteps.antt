@@ -1,5 +1,6 @@
 -- What the reader of step values answers.
 use Rattle.std.proofs.Common.{◌≡◌, ℕ, ℤ, List, [], ◌∷◌, ◌++◌, map, Bool, true, false, cond, Option, Some, None, Ok, Err, refl, sym, subst, ◌∙◌, inl, inr}
+use Rattle.std.proofs.lemmas.Bool.{and_parts as both}
 use Rattle.std.specs.Prelude.{◌&&◌, ◌||◌, MatchOption}
 use Rattle.std.specs.List.{list_all}
 use Rattle.mob_ratio.specs.Ratio.{Ratio}
@@ -23,7 +24,7 @@ use Rattle.mob_literal.specs.Sound.{is_long, traverse, written_of, fitting_seque
 use Rattle.mob_literal.specs.Flat.{made_all}
 use Rattle.mob_literal.proofs.LiteralExact.{noted_entry, temporal_exact}
 use Rattle.mob_literal.proofs.FlatLemmas.{flat, all_is, IsFlat, is_flat}
-use Rattle.mob_literal.proofs.Small.{both, false_true, cons_nil, some_none}
+use Rattle.mob_literal.proofs.Small.{false_true, cons_nil, some_none}
 
 abbrev some : {A : Type 0} → A → Option A
 some x = Some x

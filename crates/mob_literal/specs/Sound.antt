@@ -12,6 +12,7 @@ use Rattle.mob_scalar.specs.Verdict.{Form}
 use Rattle.mob_literal.specs.declared.written.Written.{Written}
 use Rattle.mob_literal.specs.declared.written.Noted.{Noted}
 use Rattle.mob_literal.specs.declared.written.Sequence.{Sequence}
+use Rattle.mob_literal.specs.Neighbours.{all_neighbours}
 use Rattle.mob_literal.specs.Steps.{StepAt, rises, step_value}
 use Rattle.mob_literal.specs.Literal.{noted, temporal}
 
@@ -69,9 +70,7 @@ is_before q r = clear_ends q.upper_inc r.lower_inc (slice_get q.instants (length
 
 -- each sequence ends before the next one begins
 abbrev pub are_in_order : {B : Type 0} → List (Sequence (Written B)) → Bool
-are_in_order [] = true
-are_in_order (q ∷ []) = true
-are_in_order (q ∷ r ∷ qs) = is_before q r && are_in_order (r ∷ qs)
+are_in_order qs = all_neighbours is_before qs
 
 abbrev pub is_sound : {B : Type 0} → (B → Bool) → (B → B → Bool) → List (Sequence (Written B)) → Bool
 is_sound has_value is_same qs = are_in_order qs && list_all (is_sound_sequence has_value is_same) qs

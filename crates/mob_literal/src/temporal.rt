@@ -6,6 +6,7 @@ ghost use Rattle.mob_literal.specs.Sound.{is_long as long, traverse, written_of 
 ghost use Rattle.mob_literal.specs.Flat.{made_sequence, made_all};
 
 use crate::literal::{WrittenValue, literal_of};
+use crate::neighbours::all_neighbours;
 use crate::steps::slices_of;
 use crate::written::{Noted, Sequence, Written};
 use mob_list::items::Items;
@@ -117,25 +118,13 @@ fn is_before<B>(sequence: &Sequence<Written<B>>, next: &Sequence<Written<B>>) ->
 fn are_in_order<B>(sequences: &[Sequence<Written<B>>]) -> bool
     ensures value { result ≡ in_order sequences.now }
 {
-    let [first, rest @ ..] = sequences else {
-        return true;
-    };
-    let mut last = first;
-    for next in rest {
-        if !is_before(last, next) {
-            return false;
-        }
-        last = next;
-    }
-    true
+    all_neighbours(sequences, is_before)
 }
 
 fn has_values<T: WrittenValue>(instants: &[Written<T::Base>]) -> bool
     ensures value { result ≡ list_all (λ i. T.has_value i.value) instants.now }
 {
-    instants
-        .iter()
-        .all(|instant| T::has_value(&instant.value))
+    instants.iter().all(|instant| T::has_value(&instant.value))
 }
 
 type Slices<B> = Vec<Slice<Steady<B>>>;
