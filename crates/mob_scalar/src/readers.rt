@@ -1,7 +1,17 @@
 //! Parts that several readers share.
-ghost use Rattle.std.specs.Prelude.{◌≡◌, ◌<◌, ℕ, Bool, Option, Some, IfSome, option_map};
+ghost use Rattle.std.specs.Prelude.{◌≡◌, ◌<◌, ℕ, Bool, [], ◌∷◌, Option, Some, IfSome, option_map};
 ghost use Rattle.mob_language.specs.Language.{is_blank as blank};
-ghost use Rattle.mob_language.specs.Readers.{Reader, all_of, run_of, maybe_of, within_blanks_at};
+ghost use Rattle.mob_language.specs.Readers.{Reader, all_of, run_of, maybe_of, word_at, within_blanks_at};
+
+/// What stands behind the sign, where the bytes begin with it.
+pub fn behind(sign: u8, bytes: &[u8]) -> Option<&[u8]>
+    ensures value { option_map (λ rest. (tt, rest.now)) result ≡ word_at (sign ∷ []) bytes.now }
+{
+    match bytes {
+        [first, rest @ ..] if *first == sign => Some(rest),
+        _ => None,
+    }
+}
 
 /// What was found at the front of the bytes, if anything was, and what stands behind it.
 pub fn maybe<'a, T>(found: Option<(T, &'a [u8])>, bytes: &'a [u8]) -> (Option<T>, &'a [u8])

@@ -7,7 +7,7 @@ ghost use Rattle.mob_scalar.specs.MomentReaders.{up_to_at as up_to_in, colon_at 
 use crate::civil::{Civil, date_at, day_of, fixed_at};
 use crate::number::ten_to;
 use crate::numeral::{Figures, digits_at};
-use crate::readers::{blanks, maybe};
+use crate::readers::{behind, blanks, maybe};
 
 /// A part of a second, `numerator / denominator`.
 #[derive(Clone, Copy, Debug, PartialEq, Eq)]
@@ -61,10 +61,7 @@ fn colon_at(bytes: &[u8]) -> Option<(u128, &[u8])>
     ensures value { option_map (λ x. (x.0, x.1.now)) result ≡ colon_in bytes.now }
     ensures bound { IfSome result (λ x. x.0 < 100) }
 {
-    match bytes {
-        [58, rest @ ..] => up_to_at(60, rest),
-        _ => None,
-    }
+    up_to_at(60, behind(b':', bytes)?)
 }
 
 #[tactic(auto, unfolding(crate::specs::MomentReaders::z_at))]
@@ -97,20 +94,15 @@ fn t_at(bytes: &[u8]) -> Option<((), &[u8])>
 fn decimals_at(bytes: &[u8]) -> Option<(Part, &[u8])>
     ensures value { option_map (λ x. (x.0, x.1.now)) result ≡ decimals_in bytes.now }
 {
-    match bytes {
-        [46, rest @ ..] => {
-            let (digits, rest) = digits_at(rest)?;
-            if 1 <= digits.count && digits.count <= 18 {
-                let part = Part {
-                    numerator: digits.value,
-                    denominator: ten_to(digits.count),
-                };
-                Some((part, rest))
-            } else {
-                None
-            }
-        }
-        _ => None,
+    let (digits, rest) = digits_at(behind(b'.', bytes)?)?;
+    if 1 <= digits.count && digits.count <= 18 {
+        let part = Part {
+            numerator: digits.value,
+            denominator: ten_to(digits.count),
+        };
+        Some((part, rest))
+    } else {
+        None
     }
 }
 
@@ -118,36 +110,24 @@ fn decimals_at(bytes: &[u8]) -> Option<(Part, &[u8])>
 fn below_at(bytes: &[u8]) -> Option<(Figures, &[u8])>
     ensures value { option_map (λ x. (x.0, x.1.now)) result ≡ below_in bytes.now }
 {
-    match bytes {
-        [47, rest @ ..] => digits_at(rest),
-        _ => None,
-    }
+    digits_at(behind(b'/', bytes)?)
 }
 
 #[tactic(auto, unfolding(crate::specs::MomentReaders::quotient_at))]
 fn quotient_at(bytes: &[u8]) -> Option<(Part, &[u8])>
     ensures value { option_map (λ x. (x.0, x.1.now)) result ≡ quotient_in bytes.now }
 {
-    match bytes {
-        [40, rest @ ..] => {
-            let (numerator, rest) = digits_at(rest)?;
-            let (denominator, rest) = below_at(rest)?;
-            match rest {
-                [41, rest @ ..] => {
-                    if 1 <= numerator.count && numerator.value < denominator.value {
-                        let part = Part {
-                            numerator: numerator.value,
-                            denominator: denominator.value,
-                        };
-                        Some((part, rest))
-                    } else {
-                        None
-                    }
-                }
-                _ => None,
-            }
-        }
-        _ => None,
+    let (numerator, rest) = digits_at(behind(b'(', bytes)?)?;
+    let (denominator, rest) = below_at(rest)?;
+    let rest = behind(b')', rest)?;
+    if 1 <= numerator.count && numerator.value < denominator.value {
+        let part = Part {
+            numerator: numerator.value,
+            denominator: denominator.value,
+        };
+        Some((part, rest))
+    } else {
+        None
     }
 }
 
@@ -166,14 +146,9 @@ fn seconds_at(bytes: &[u8]) -> Option<((u128, Option<Part>), &[u8])>
     ensures value { option_map (λ x. (x.0, x.1.now)) result ≡ seconds_in bytes.now }
     ensures bound { IfSome result (λ x. x.0.0 < 100) }
 {
-    match bytes {
-        [58, rest @ ..] => {
-            let (seconds, rest) = up_to_at(60, rest)?;
-            let (part, rest) = maybe(part_at(rest), rest);
-            Some(((seconds, part), rest))
-        }
-        _ => None,
-    }
+    let (seconds, rest) = up_to_at(60, behind(b':', bytes)?)?;
+    let (part, rest) = maybe(part_at(rest), rest);
+    Some(((seconds, part), rest))
 }
 
 fn clock_from(hour: u128, minute: u128, seconds: Option<(u128, Option<Part>)>) -> Clock
