@@ -1,10 +1,10 @@
 //! Temporal literals, as they are written.
-ghost use Rattle.std.specs.Prelude.{◌≡◌, ℕ, map, option_map, List, Option, Some, None, IfOk, Bool, true};
-ghost use Rattle.mob_language.specs.Readers.{Reader, all_of, means_at, separated_at as separated_in};
+ghost use Rattle.std.specs.Prelude.{◌≡◌, ℕ, map, option_map, List, [], ◌∷◌, Option, Some, None, IfOk, Bool, true};
+ghost use Rattle.mob_language.specs.Readers.{Reader, all_of, means_at, separated_at as separated_in, spaced_at as spaced_in};
 ghost use Rattle.mob_scalar.specs.Calendar.{is_civil};
 ghost use Rattle.mob_scalar.specs.Moment.{instant, IsPartSmall};
 ghost use Rattle.mob_literal.specs.Fitting.{fitting};
-ghost use Rattle.mob_literal.specs.Literal.{alone as alone_of, one_sequence, one_instant, at_sign_at as at_sign_in, comma_at as comma_in, noted_at as noted_in, opening_at as opening_in, closing_at as closing_in, instants_at as instants_in, sequence_at as sequence_in, sequences_at as sequences_in, members_at as members_in, braced_at as braced_in, literal_at as literal_in, temporal_at as temporal_in};
+ghost use Rattle.mob_literal.specs.Literal.{alone as alone_of, one_sequence, one_instant, comma_at as comma_in, noted_at as noted_in, opening_at as opening_in, closing_at as closing_in, instants_at as instants_in, sequence_at as sequence_in, sequences_at as sequences_in, members_at as members_in, braced_at as braced_in, literal_at as literal_in, temporal_at as temporal_in};
 ghost use Rattle.mob_literal.specs.ValueText.{IsValueText};
 
 use crate::written::{Noted, Sequence};
@@ -45,22 +45,12 @@ pub trait WrittenValue {
     ghost exact: { IsValueText shape reader follows };
 }
 
-#[tactic(auto, unfolding(crate::specs::Literal::at_sign_at))]
-fn at_sign_at(bytes: &[u8]) -> Option<&[u8]>
-    ensures read { option_map (λ x. (tt, x.now)) result ≡ at_sign_in bytes.now }
+/// What stands behind the sign and the blanks on both sides of it.
+fn spaced_at(sign: u8, bytes: &[u8]) -> Option<&[u8]>
+    ensures read { option_map (λ rest. (tt, rest.now)) result ≡ spaced_in (sign ∷ []) bytes.now }
 {
     match blanks(bytes).1 {
-        [64, rest @ ..] => Some(blanks(rest).1),
-        _ => None,
-    }
-}
-
-#[tactic(auto, unfolding(crate::specs::Literal::comma_at))]
-fn comma_at(bytes: &[u8]) -> Option<&[u8]>
-    ensures read { option_map (λ x. (tt, x.now)) result ≡ comma_in bytes.now }
-{
-    match blanks(bytes).1 {
-        [44, rest @ ..] => Some(blanks(rest).1),
+        [first, rest @ ..] if *first == sign => Some(blanks(rest).1),
         _ => None,
     }
 }
@@ -101,7 +91,7 @@ fn instant_of(stamp: Stamp, epoch: &Epoch) -> Option<Frac>
 }
 
 /// One value at a moment, and what stands behind it.
-#[tactic(auto, unfolding(crate::specs::Literal::noted_at))]
+#[tactic(auto, unfolding(crate::specs::Literal::noted_at, crate::specs::Literal::at_sign_at))]
 fn noted_at<'a, T: WrittenValue>(
     alloc: Global,
     epoch: &Epoch,
@@ -112,7 +102,7 @@ fn noted_at<'a, T: WrittenValue>(
     let Some((value, rest)) = T::value_at(alloc, bytes)? else {
         return Ok(None);
     };
-    let Some(rest) = at_sign_at(rest) else {
+    let Some(rest) = spaced_at(b'@', rest) else {
         return Ok(None);
     };
     let Some((stamp, rest)) = moment_at(rest) else {
@@ -142,7 +132,7 @@ fn separated_at<'a, A: Drop, F: Fn(&'a [u8]) -> Result<Option<(A, &'a [u8])>, Al
             return Ok(None);
         };
         members.push(member)?;
-        match comma_at(after) {
+        match spaced_at(b',', after) {
             Some(next) => rest = next,
             None => return Ok(Some((members, after))),
         }
