@@ -1,5 +1,6 @@
 -- The slices of sound sequences, one behind the other.
 use Rattle.std.proofs.Common.{◌≡◌, suc, ◌-◌, List, [], ◌∷◌, ◌++◌, length, Bool, true, false, cond, Option, Some, None, refl, sym, subst, ◌∙◌, arith, option_map, inl, inr}
+use Rattle.std.proofs.lemmas.Bool.{and_parts as both}
 use Rattle.std.specs.Prelude.{◌&&◌, ◌||◌, not, ◌↔◌, slice_get}
 use Rattle.std.specs.List.{list_all}
 use Rattle.mob_language.specs.Readers.{◌>>=◌}
@@ -20,7 +21,6 @@ use Rattle.mob_literal.specs.Sound.{ends_level, is_closed_alone, is_sound_sequen
 use Rattle.mob_literal.specs.Flat.{made_sequence, made_all}
 use Rattle.mob_literal.proofs.Listing.{first_in, later_in, none_in, which_in}
 use Rattle.mob_literal.proofs.StepLemmas.{slices_step, step_slices}
-use Rattle.mob_literal.proofs.Small.{both}
 
 -- ---- a sequence is made exactly where it is sound
 
@@ -262,8 +262,3 @@ is_flat has_value is_same qs h =
     let a = both (are_in_order qs) (list_all (is_sound_sequence has_value is_same) qs) h in
     let o = flat_ordered has_value is_same qs a.0 a.1 in
     record { ordered = o; same = λ t v. (flat_lit has_value is_same qs t v a.1, lit_flat has_value is_same qs t v a.1 o) }
-
--- ---- what a loop over the sequences makes
-
-abbrev pub with_made : {B : Type 0} → List (Slice (Steady B)) → Option (List (Slice (Steady B))) → Option (List (Slice (Steady B)))
-with_made front rest = option_map (λ slices. front ++ slices) rest

@@ -1,5 +1,6 @@
 -- The written instants of the groups of slices: they are sound sequences, and define what the slices do.
 use Rattle.std.proofs.Common.{◌≡◌, suc, ◌-◌, List, [], ◌∷◌, ◌++◌, length, map, Bool, true, false, cond, Option, Some, None, refl, sym, ap, subst, ◌∙◌, arith, inl, inr, ◌⊎◌}
+use Rattle.std.proofs.lemmas.Bool.{and_parts as both, and_from as and, not-true as not_true}
 use Rattle.std.specs.Prelude.{◌&&◌, ◌||◌, not, slice_get, IsTrue, ◌↔◌}
 use Rattle.std.specs.List.{list_all}
 use Rattle.mob_ratio.specs.Ratio.{Ratio}
@@ -17,7 +18,7 @@ use Rattle.mob_literal.specs.Slices.{slices_of, stretch}
 use Rattle.mob_literal.specs.Sound.{ends_level, is_closed_alone, is_sound_sequence, clear_ends, is_before, are_in_order, is_sound}
 use Rattle.mob_literal.specs.Printed.{is_long, goes_on, groups_of, put_first}
 use Rattle.mob_literal.proofs.FlatLemmas.{flat, Ordered, ordered_rest}
-use Rattle.mob_literal.proofs.Small.{both, and, not_true, false_true}
+use Rattle.mob_literal.proofs.Small.{false_true}
 
 -- P holds of each
 abbrev pub Alls : {A : Type 0} → (A → Type 0) → List A → Type 0

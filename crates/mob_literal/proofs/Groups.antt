@@ -1,10 +1,11 @@
 -- The groups of slices, written from the left.
-use Rattle.std.proofs.Common.{◌≡◌, ℕ, ◌≤◌, length, drop, List, [], ◌∷◌, ◌++◌, map, codes, Bool, true, false, cond, refl, sym, ap, ◌∙◌, append_assoc, append-nil}
+use Rattle.std.proofs.Common.{◌≡◌, ℕ, ◌≤◌, length, drop, List, [], ◌∷◌, ◌++◌, map, codes, Bool, true, false, cond, refl, sym, ap, ◌∙◌, append_assoc, append-nil, arith}
 use Rattle.std.specs.Prelude.{◌≢◌}
 use Rattle.std.proofs.lemmas.List.{drop_all}
 use Rattle.mob_language.specs.Language.{Text}
 use Rattle.mob_slice.specs.declared.slice.Slice.{Slice}
 use Rattle.mob_slice.specs.declared.steady.Steady.{Steady}
+use Rattle.mob_literal.specs.Neighbours.{all_neighbours}
 use Rattle.mob_literal.specs.Printed.{Style, is_long, goes_on, start_text, end_text, opening, closing, listed, instants_of, group_text, groups_of, put_first, groups_text, in_braces}
 use Rattle.mob_literal.specs.Runs.{end_part, run_text, more_starts, all_go_on, is_one_group}
 use Rattle.mob_literal.proofs.Small.{false_true, cons_nil}
@@ -118,6 +119,11 @@ counted s (r ∷ rest) = by_next (goes_on s r) refl (counted r rest)
       one = λ k. absurd (false_true (rw h at k));
       more = λ k. λ e. absurd (cons_nil (r ∷ g.group) g.groups e);
     }
+
+-- slices of which each two neighbours go on are one group, where there is one
+pub one_group : {B : Type 0} (slices : List (Slice (Steady B))) → 1 ≤ length slices → all_neighbours goes_on slices ≡ is_one_group slices
+one_group [] h = absurd (omega (arith, h))
+one_group (s ∷ rest) h = refl
 
 -- one group, written alone
 pub group-alone : {B : Type 0} (style : Style B) (slices : List (Slice (Steady B))) → is_one_group slices ≡ true → groups_text style (groups_of slices) ≡ listed (map (group_text style) (groups_of slices))

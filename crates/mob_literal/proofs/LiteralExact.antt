@@ -7,7 +7,7 @@ use Rattle.mob_language.proofs.Exact.{Exact, Stops, Any, then_exact, or_exact, m
 use Rattle.mob_language.proofs.Heads.{NoHead, Apart, HasByte, stops_less, byte_stops, means_head, one_head, or_head, then_byte, means_byte, or_byte, then_byte_stops, word_then_head, one_then_head, byte_head, one_byte, word_byte, spaced_exact, IsEnd, within_exact}
 use Rattle.mob_language.proofs.Lists.{separated_exact}
 use Rattle.mob_scalar.proofs.MomentExact.{Closes, moment_exact}
-use Rattle.mob_scalar.proofs.WholeTexts.{moment_blank, moment_byte, blanks_close}
+use Rattle.mob_scalar.proofs.WholeTexts.{moment_blank, moment_byte, blanks_close, back_nil, front_nil}
 use Rattle.mob_scalar.proofs.Closing.{Ends, sign_closes}
 use Rattle.mob_literal.specs.Literal.{at_sign, comma, noted_of, noted, is_open, is_close, opening, closing, sequence_of, sequence, alone, members, braced, one_sequence, one_instant, literal, temporal, at_sign_at, comma_at, noted_at, opening_at, closing_at, instants_at, sequence_at, sequences_at, members_at, open_brace_at, close_brace_at, braced_at, literal_at, temporal_at}
 use Rattle.mob_literal.specs.ValueText.{IsValueText, is_mark}
@@ -30,14 +30,6 @@ opening_exact = means_exact (λ (v : ℕ × Text). v.0) (then_exact {F = Any} (o
 closing_exact : Exact closing closing_at Any
 unfolding closing_at
 closing_exact = means_exact (λ (v : Text × ℕ). v.1) (then_byte_stops (run_exact is_blank) (one_exact is_close) (one_head close_blank) (one_byte is_close))
-
-back_nil : (a b : Text) → a ++ b ≡ [] → b ≡ []
-back_nil [] b h = h
-back_nil (c ∷ cs) b h = absurd cc
-
-front_nil : (a b : Text) → a ++ b ≡ [] → a ≡ []
-front_nil [] b h = refl
-front_nil (c ∷ cs) b h = absurd cc
 
 comma_byte : HasByte comma
 comma_byte = means_byte (λ (v : Text × (Unit {0} × Text)). tt) (λ text v said e.

@@ -1,5 +1,6 @@
 -- The slices of a step sequence are made where its instants rise, and are ordered.
 use Rattle.std.proofs.Common.{◌≡◌, List, [], ◌∷◌, ◌++◌, Bool, true, false, cond, Option, Some, None, refl, sym, ap, ◌∙◌, arith, append_assoc, option_map}
+use Rattle.std.proofs.lemmas.Bool.{and_parts as both}
 use Rattle.std.specs.Prelude.{◌&&◌}
 use Rattle.mob_ratio.specs.Ratio.{Ratio}
 use Rattle.mob_ratio.specs.Order.{before}
@@ -12,7 +13,7 @@ use Rattle.mob_literal.specs.declared.written.Written.{Written}
 use Rattle.mob_literal.specs.Steps.{rises}
 use Rattle.mob_literal.specs.Slices.{slices_of, made, stretch, point}
 use Rattle.mob_literal.proofs.FlatLemmas.{sound_stretch, sound_point}
-use Rattle.mob_literal.proofs.Small.{both}
+use Rattle.mob_literal.proofs.Traversed.{with_list}
 
 -- a closed sequence is made exactly where its instants rise
 pub made_closed : {B : Type 0} (is_same : B → B → Bool) (level : Bool) (is : List (Written B)) → made is_same level true is true ≡ cond (rises is) (Some (slices_of true is true)) None
@@ -25,14 +26,10 @@ made_closed {B} is_same level (i ∷ j ∷ is) = by_order (before i.instant j.in
     by_order true false h = rw h refl
     by_order false up h = refl
 
--- what a loop over the instants has made, and what it still makes
-abbrev pub with_slices : {B : Type 0} → List (Slice (Steady B)) → Option (List (Slice (Steady B))) → Option (List (Slice (Steady B)))
-with_slices front rest = option_map (λ slices. front ++ slices) rest
-
-pub made_more : {B : Type 0} (is_same : B → B → Bool) (front pushed : List (Slice (Steady B))) (level next_level lower upper : Bool) (i j : Written B) (is : List (Written B)) → before i.instant j.instant ≡ true → next_level ≡ is_same i.value j.value → pushed ≡ front ++ stretch lower i j ∷ [] → with_slices pushed (made is_same next_level true (j ∷ is) upper) ≡ with_slices front (made is_same level lower (i ∷ j ∷ is) upper)
+pub made_more : {B : Type 0} (is_same : B → B → Bool) (front pushed : List (Slice (Steady B))) (level next_level lower upper : Bool) (i j : Written B) (is : List (Written B)) → before i.instant j.instant ≡ true → next_level ≡ is_same i.value j.value → pushed ≡ front ++ stretch lower i j ∷ [] → with_list pushed (made is_same next_level true (j ∷ is) upper) ≡ with_list front (made is_same level lower (i ∷ j ∷ is) upper)
 made_more {B} is_same front pushed level next_level lower upper i j is h k e = rw (h, k, e) (regroup (made is_same (is_same i.value j.value) true (j ∷ is) upper))
   where
-    regroup : (o : Option (List (Slice (Steady B)))) → with_slices (front ++ stretch lower i j ∷ []) o ≡ with_slices front (option_map (λ slices. stretch lower i j ∷ slices) o)
+    regroup : (o : Option (List (Slice (Steady B)))) → with_list (front ++ stretch lower i j ∷ []) o ≡ with_list front (option_map (λ slices. stretch lower i j ∷ slices) o)
     regroup None = refl
     regroup (Some slices) = ap (λ (x : List (Slice (Steady B))). Some x) (append_assoc front (stretch lower i j ∷ []) slices)
 
@@ -50,10 +47,10 @@ slices_ordered {B} (i ∷ j ∷ is) upper up =
     (sound_stretch true i j r.0, clear_next true upper i j is, slices_ordered (j ∷ is) upper r.1)
 
 -- nothing made yet
-pub made_begins : {B : Type 0} (is_same : B → B → Bool) (slices : List (Slice (Steady B))) (lower upper : Bool) (i : Written B) (is all : List (Written B)) → slices ≡ [] → all ≡ i ∷ is → with_slices slices (made is_same false lower (i ∷ is) upper) ≡ made is_same false lower all upper
+pub made_begins : {B : Type 0} (is_same : B → B → Bool) (slices : List (Slice (Steady B))) (lower upper : Bool) (i : Written B) (is all : List (Written B)) → slices ≡ [] → all ≡ i ∷ is → with_list slices (made is_same false lower (i ∷ is) upper) ≡ made is_same false lower all upper
 made_begins {B} is_same slices lower upper i is all none e = rw (none, e) (same (made is_same false lower (i ∷ is) upper))
   where
-    same : (o : Option (List (Slice (Steady B)))) → with_slices [] o ≡ o
+    same : (o : Option (List (Slice (Steady B)))) → with_list [] o ≡ o
     same None = refl
     same (Some x) = refl
 
@@ -66,7 +63,7 @@ point_included true a h = refl
 point_included false a h = grind (arith, h, before-self a)
 
 -- the last slice
-pub made_ends : {B : Type 0} (is_same : B → B → Bool) (slices pushed : List (Slice (Steady B))) (level included upper : Bool) (last : Written B) (rest : List (Written B)) (total : Option (List (Slice (Steady B)))) → with_slices slices (made is_same level included (last ∷ rest) upper) ≡ total → rest ≡ [] → upper ≡ true → included ≡ true → pushed ≡ slices ++ point included last ∷ [] → Some pushed ≡ total
+pub made_ends : {B : Type 0} (is_same : B → B → Bool) (slices pushed : List (Slice (Steady B))) (level included upper : Bool) (last : Written B) (rest : List (Written B)) (total : Option (List (Slice (Steady B)))) → with_list slices (made is_same level included (last ∷ rest) upper) ≡ total → rest ≡ [] → upper ≡ true → included ≡ true → pushed ≡ slices ++ point included last ∷ [] → Some pushed ≡ total
 made_ends {B} is_same slices pushed level included upper last rest total h none u k e =
-    let ends : with_slices slices (made is_same level included (last ∷ rest) upper) ≡ Some (slices ++ point included last ∷ []) = rw (none, u, k) refl in
+    let ends : with_list slices (made is_same level included (last ∷ rest) upper) ≡ Some (slices ++ point included last ∷ []) = rw (none, u, k) refl in
     ap (λ (x : List (Slice (Steady B))). Some x) e ∙ sym ends ∙ h

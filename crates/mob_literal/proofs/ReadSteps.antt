@@ -1,5 +1,6 @@
 -- What the reader of step values answers.
 use Rattle.std.proofs.Common.{◌≡◌, ℕ, ℤ, List, [], ◌∷◌, ◌++◌, map, Bool, true, false, cond, Option, Some, None, Ok, Err, refl, sym, subst, ◌∙◌, inl, inr}
+use Rattle.std.proofs.lemmas.Bool.{and_parts as both}
 use Rattle.std.specs.Prelude.{◌&&◌, ◌||◌, MatchOption}
 use Rattle.std.specs.List.{list_all}
 use Rattle.mob_ratio.specs.Ratio.{Ratio}
@@ -7,7 +8,8 @@ use Rattle.mob_language.specs.Language.{Text, Language, Separated}
 use Rattle.mob_language.specs.Readers.{Reader, ◌>>=◌, all_of}
 use Rattle.mob_language.proofs.Exact.{is_said, not_said, bind_some}
 use Rattle.mob_scalar.specs.Verdict.{Lit}
-use Rattle.mob_scalar.specs.declared.fault.ReadText.TheVariants.{NotText, Limit, TooLarge, Unsound}
+use Rattle.mob_scalar.specs.declared.fault.ReadText.{ReadText}
+use Rattle.mob_scalar.specs.declared.fault.ReadText.TheVariants.{NotText, Limit, TooLarge, Unsound, NoMemory}
 use Rattle.mob_slice.specs.declared.slice.Slice.{Slice}
 use Rattle.mob_slice.specs.declared.steady.Steady.{Steady}
 use Rattle.mob_slice.specs.Slices.{value_at, IsNormal}
@@ -18,11 +20,11 @@ use Rattle.mob_literal.specs.Literal.{comma, noted, sequence, alone, members, li
 use Rattle.mob_literal.specs.ValueText.{IsValueText}
 use Rattle.mob_literal.specs.Steps.{rises, step_value}
 use Rattle.mob_literal.specs.Slices.{slices_of}
-use Rattle.mob_literal.specs.Sound.{is_long, traverse, written_of, fitting_sequence, fitting_all, is_closed_alone, is_sound_sequence, ends_level, are_in_order, is_sound, Defines, steps}
+use Rattle.mob_literal.specs.Sound.{is_long, traverse, written_of, fitting_sequence, fitting_all, is_closed_alone, is_sound_sequence, ends_level, are_in_order, is_sound, Defines, written_sequences, steps}
 use Rattle.mob_literal.specs.Flat.{made_all}
 use Rattle.mob_literal.proofs.LiteralExact.{noted_entry, temporal_exact}
 use Rattle.mob_literal.proofs.FlatLemmas.{flat, all_is, IsFlat, is_flat}
-use Rattle.mob_literal.proofs.Small.{both, false_true, cons_nil, some_none}
+use Rattle.mob_literal.proofs.Small.{false_true, cons_nil, some_none}
 
 abbrev some : {A : Type 0} → A → Option A
 some x = Some x
@@ -114,87 +116,82 @@ flat_some {B} has_value is_same (q ∷ qs) full sound e =
     let f = both (is_closed_alone q.lower_inc q.upper_inc q.instants) (q.upper_inc || ends_level is_same q.instants) d.1 in
     sequence_slices q.lower_inc q.instants q.upper_inc (flat qs) full f.0 e
 
-module _ {B : Type 0} (day : ℤ) {value : List ℕ → Option B → Type 0} {reader : Reader (Option B)} {F : List ℕ → Type 0} (law : IsValueText value reader F) (has_value : B → Bool) (is_same : B → B → Bool) where
-  -- the literal of the text was read
-  pub record IsNoted (text : Text) (s : List (Sequence (Noted B))) : Type 0 where
-    pub shape : temporal (noted day value) text s
+module _ {B : Type 0} (day : ℤ) {value : List ℕ → Option B → Type 0} {reader : Reader (Option B)} {F : List ℕ → Type 0} (law : IsValueText value reader F) where
+  shape_is : (text bytes : Text) (s : List (Sequence (Noted B))) → bytes ≡ text → Some s ≡ all_of (temporal_at (noted_at day reader)) bytes → temporal (noted day value) text s
+  shape_is text bytes s e h = is_said (temporal_exact (noted_entry day law)) text bytes s e h
 
-  pub noted_is : (text bytes : Text) (s : List (Sequence (Noted B))) → bytes ≡ text → Some s ≡ all_of (temporal_at (noted_at day reader)) bytes → IsNoted text s
-  noted_is text bytes s e h = record { shape = is_said (temporal_exact (noted_entry day law)) text bytes s e h }
-
-  pub no_text : (text bytes : Text) → bytes ≡ text → ◌≡◌ {A = Option (List (Sequence (Noted B)))} None (all_of (temporal_at (noted_at day reader)) bytes) → Lit (steps day value has_value is_same) text (Err NotText)
+  pub no_text : (text bytes : Text) → bytes ≡ text → ◌≡◌ {A = Option (List (Sequence (Noted B)))} None (all_of (temporal_at (noted_at day reader)) bytes) → Lit (written_sequences day value) text (Err NotText)
   no_text text bytes e h = λ s said. not_said (temporal_exact (noted_entry day law)) refl text bytes s e h said
 
-  pub too_long : (text : Text) (s : List (Sequence (Noted B))) → IsNoted text s → is_long s ≡ true → Lit (steps day value has_value is_same) text (Err Limit)
-  too_long text s n h = (s, n.shape, h)
+  pub too_long : (text bytes : Text) (s : List (Sequence (Noted B))) → bytes ≡ text → Some s ≡ all_of (temporal_at (noted_at day reader)) bytes → is_long s ≡ true → Lit (written_sequences day value) text (Err Limit)
+  too_long text bytes s e h long = (s, shape_is text bytes s e h, long)
 
-  pub too_large : (text : Text) (s : List (Sequence (Noted B))) → IsNoted text s → is_long s ≡ false → ◌≡◌ {A = Option (List (Sequence (Written B)))} None (fitting_all s) → Lit (steps day value has_value is_same) text (Err TooLarge)
-  too_large text s n short h = (s, n.shape, (λ e. false_true (sym short ∙ e)), sym h)
+  pub too_large : (text bytes : Text) (s : List (Sequence (Noted B))) → bytes ≡ text → Some s ≡ all_of (temporal_at (noted_at day reader)) bytes → is_long s ≡ false → ◌≡◌ {A = Option (List (Sequence (Written B)))} None (fitting_all s) → Lit (written_sequences day value) text (Err TooLarge)
+  too_large text bytes s e h short none = (s, shape_is text bytes s e h, (λ k. false_true (sym short ∙ k)), sym none)
 
-  -- the numbers fit
-  pub record IsFitting (text : Text) (qs : List (Sequence (Written B))) : Type 0 where
-    pub read : List (Sequence (Noted B))
-    pub noted_so : IsNoted text read
-    pub short : is_long read ≡ false
-    pub are : some qs ≡ fitting_all read
+  pub all_fit : (text bytes : Text) (s : List (Sequence (Noted B))) (qs : List (Sequence (Written B))) → bytes ≡ text → Some s ≡ all_of (temporal_at (noted_at day reader)) bytes → is_long s ≡ false → some qs ≡ fitting_all s → Lit (written_sequences day value) text (Ok qs)
+  all_fit text bytes s qs e h short fits = (s, shape_is text bytes s e h, (λ k. false_true (sym short ∙ k)), (λ k. some_none qs (fits ∙ k)), (λ k. k), sym fits)
 
-  pub fitting_is : (text : Text) (s : List (Sequence (Noted B))) (qs : List (Sequence (Written B))) → IsNoted text s → is_long s ≡ false → some qs ≡ fitting_all s → IsFitting text qs
-  fitting_is text s qs n short h = record { read = s; noted_so = n; short = short; are = h }
+chosen : {A : Type 0} (b : Bool) (x y : A) → some x ≡ cond b (some y) None → (b ≡ true) × (x ≡ y)
+chosen true x y e = (refl, cc)
+chosen false x y e = absurd cc
 
-  not_large : (s : List (Sequence (Noted B))) (qs : List (Sequence (Written B))) → some qs ≡ fitting_all s → fitting_all s ≡ None → ⊥
-  not_large s qs e h = some_none qs (e ∙ h)
+refused : {A : Type 0} (b : Bool) (y : A) → ◌≡◌ {A = Option A} None (cond b (some y) None) → b ≡ false
+refused true y e = absurd cc
+refused false y e = refl
 
-  unsound_is : (text : Text) (qs : List (Sequence (Written B))) → IsFitting text qs → is_sound has_value is_same qs ≡ false → Lit (steps day value has_value is_same) text (Err Unsound)
-  unsound_is text qs f h = (f.read, f.noted_so.shape, (λ e. false_true (sym f.short ∙ e)), not_large f.read qs f.are, subst (λ (o : Option (List (Sequence (Written B)))). MatchOption o ⊥ (λ ws. is_sound has_value is_same ws ≡ false)) f.are h)
+module _ {B : Type 0} (day : ℤ) (value : List ℕ → Option B → Type 0) (has_value : B → Bool) (is_same : B → B → Bool) (text : Text) where
+  -- the text says these sequences, and their numbers fit
+  abbrev pub IsRead : List (Sequence (Written B)) → Type 0
+  IsRead qs = Lit (written_sequences day value) text (Ok qs)
 
-  pub out_of_order : (text : Text) (qs : List (Sequence (Written B))) → IsFitting text qs → are_in_order qs ≡ false → Lit (steps day value has_value is_same) text (Err Unsound)
-  out_of_order text qs f h = unsound_is text qs f (rw h refl)
+  pub same_fault : (fault : ReadText) → Lit (written_sequences day value) text (Err fault) → Lit (steps day value has_value is_same) text (Err fault)
+  same_fault NotText h = h
+  same_fault Limit h = h
+  same_fault TooLarge h = h
+  same_fault Unsound h = absurd h.4
+  same_fault NoMemory h = h
 
-  chosen : {A : Type 0} (b : Bool) (x y : A) → some x ≡ cond b (some y) None → (b ≡ true) × (x ≡ y)
-  chosen true x y e = (refl, cc)
-  chosen false x y e = absurd cc
+  unsound_is : (qs : List (Sequence (Written B))) → IsRead qs → is_sound has_value is_same qs ≡ false → Lit (steps day value has_value is_same) text (Err Unsound)
+  unsound_is qs f h = (f.0, f.1, f.2, f.3, subst (λ (o : Option (List (Sequence (Written B)))). MatchOption o ⊥ (λ ws. is_sound has_value is_same ws ≡ false)) (sym f.5) h)
 
-  refused : {A : Type 0} (b : Bool) (y : A) → ◌≡◌ {A = Option A} None (cond b (some y) None) → b ≡ false
-  refused true y e = absurd cc
-  refused false y e = refl
-
-  pub not_sound : (text : Text) (qs : List (Sequence (Written B))) → IsFitting text qs → are_in_order qs ≡ true → ◌≡◌ {A = Option (List (Slice (Steady B)))} None (made_all has_value is_same qs) → Lit (steps day value has_value is_same) text (Err Unsound)
-  not_sound text qs f order h =
+  pub not_sound : (qs : List (Sequence (Written B))) → IsRead qs → are_in_order qs ≡ true → ◌≡◌ {A = Option (List (Slice (Steady B)))} None (made_all has_value is_same qs) → Lit (steps day value has_value is_same) text (Err Unsound)
+  not_sound qs f order h =
       let none = refused (list_all (is_sound_sequence has_value is_same) qs) (flat qs) (h ∙ all_is has_value is_same qs) in
-      unsound_is text qs f (rw (order, none) refl)
+      unsound_is qs f (rw (order, none) refl)
 
   -- the slices were made
-  pub record IsMadeOf (text : Text) (qs : List (Sequence (Written B))) (slices : List (Slice (Steady B))) : Type 0 where
-    pub fitting : IsFitting text qs
+  pub record IsMadeOf (qs : List (Sequence (Written B))) (slices : List (Slice (Steady B))) : Type 0 where
+    pub read : IsRead qs
     pub sound : is_sound has_value is_same qs ≡ true
     pub are : slices ≡ flat qs
     pub flat_so : IsFlat qs slices
 
-  pub made_of : (text : Text) (qs : List (Sequence (Written B))) (slices : List (Slice (Steady B))) → IsFitting text qs → are_in_order qs ≡ true → some slices ≡ made_all has_value is_same qs → IsMadeOf text qs slices
-  made_of text qs slices f order h =
+  pub made_of : (qs : List (Sequence (Written B))) (slices : List (Slice (Steady B))) → IsRead qs → are_in_order qs ≡ true → some slices ≡ made_all has_value is_same qs → IsMadeOf qs slices
+  made_of qs slices f order h =
       let c = chosen (list_all (is_sound_sequence has_value is_same) qs) slices (flat qs) (h ∙ all_is has_value is_same qs) in
       let sound : is_sound has_value is_same qs ≡ true = rw (order, c.0) refl in
-      record { fitting = f; sound = sound; are = c.1; flat_so = subst (IsFlat qs) (sym c.1) (is_flat has_value is_same qs sound) }
+      record { read = f; sound = sound; are = c.1; flat_so = subst (IsFlat qs) (sym c.1) (is_flat has_value is_same qs sound) }
 
-  pub defined : (text : Text) (qs : List (Sequence (Written B))) (slices v : List (Slice (Steady B))) → IsMadeOf text qs slices
+  pub defined : (qs : List (Sequence (Written B))) (slices v : List (Slice (Steady B))) → IsMadeOf qs slices
       → IsNormal {C = Steady B} {B = B} (λ c. c.value) (λ c. c.value) (λ c d lower middle upper. is_same c.value d.value) v
       → ((t : Ratio) → value_at step_value v t ≡ value_at step_value slices t)
       → Lit (steps day value has_value is_same) text (Ok v)
-  defined text qs slices v m normal kept =
-      let f = m.fitting in
+  defined qs slices v m normal kept =
+      let f = m.read in
       let d : Defines is_same qs v = record {
         normal = normal;
         same = λ t w. ((λ e. (m.flat_so.same t w).0 (sym (kept t) ∙ e)), (λ l. kept t ∙ (m.flat_so.same t w).1 l));
       } in (
-        f.read,
-        f.noted_so.shape,
-        (λ e. false_true (sym f.short ∙ e)),
-        not_large f.read qs f.are,
-        (λ e. false_true (sym (subst (λ (o : Option (List (Sequence (Written B)))). MatchOption o ⊥ (λ ws. is_sound has_value is_same ws ≡ false)) (sym f.are) e) ∙ m.sound)),
-        subst (λ (o : Option (List (Sequence (Written B)))). MatchOption o ⊥ (λ ws. Defines is_same ws v)) f.are d,
+        f.0,
+        f.1,
+        f.2,
+        f.3,
+        (λ e. false_true (sym (subst (λ (o : Option (List (Sequence (Written B)))). MatchOption o ⊥ (λ ws. is_sound has_value is_same ws ≡ false)) f.5 e) ∙ m.sound)),
+        subst (λ (o : Option (List (Sequence (Written B)))). MatchOption o ⊥ (λ ws. Defines is_same ws v)) (sym f.5) d,
       )
 
-  pub some_slices : (text : Text) (qs : List (Sequence (Written B))) (slices : List (Slice (Steady B))) → IsMadeOf text qs slices → slices ≡ [] → ⊥
-  some_slices text qs slices m none =
-      let f = m.fitting in
-      flat_some has_value is_same qs (fitting_full f.read qs (temporal_full (noted day value) text f.read f.noted_so.shape) (sym f.are)) m.sound (sym m.are ∙ none)
+  pub some_slices : (qs : List (Sequence (Written B))) (slices : List (Slice (Steady B))) → IsMadeOf qs slices → slices ≡ [] → ⊥
+  some_slices qs slices m none =
+      let f = m.read in
+      flat_some has_value is_same qs (fitting_full f.0 qs (temporal_full (noted day value) text f.0 f.1) f.5) m.sound (sym m.are ∙ none)

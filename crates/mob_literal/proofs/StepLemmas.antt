@@ -1,5 +1,6 @@
 -- The slices of a step sequence have its values.
 use Rattle.std.proofs.Common.{◌≡◌, List, [], ◌∷◌, Bool, true, false, cond, Option, Some, None, refl, sym, ap, subst, ◌∙◌, arith, inl, inr, ◌⊎◌}
+use Rattle.std.proofs.lemmas.Bool.{and_parts as both, and_from as and}
 use Rattle.std.specs.Prelude.{Contains, ◌&&◌, ◌||◌}
 use Rattle.mob_ratio.specs.Ratio.{Ratio}
 use Rattle.mob_ratio.specs.Order.{before, upto}
@@ -10,7 +11,6 @@ use Rattle.mob_literal.specs.declared.written.Written.{Written}
 use Rattle.mob_literal.specs.Steps.{StepAt, reaches, rises, step_value}
 use Rattle.mob_literal.specs.Slices.{slices_of, stretch, point}
 use Rattle.mob_literal.proofs.Listing.{first_in, later_in, none_in, which_in}
-use Rattle.mob_literal.proofs.Small.{both, and}
 
 upto_self : (a : Ratio) → upto a a ≡ true
 upto_self a = grind (arith, before-self a)

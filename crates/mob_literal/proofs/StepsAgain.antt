@@ -16,6 +16,7 @@ use Rattle.mob_scalar.specs.Truth.{truth_text}
 use Rattle.mob_scalar.specs.NumberText.{number_text}
 use Rattle.mob_scalar.specs.Quoted.{quoted_text}
 use Rattle.std.proofs.lemmas.List.{length-map}
+use Rattle.std.proofs.lemmas.Bool.{and_parts as both, not-true as not_true}
 use Rattle.mob_scalar.proofs.Again.{number_plain, truth_plain}
 use Rattle.mob_scalar.proofs.MomentAgain.{moment_plain}
 use Rattle.mob_literal.specs.declared.written.Written.{Written}
@@ -31,7 +32,7 @@ use Rattle.mob_literal.proofs.Listing.{first_in, later_in}
 use Rattle.mob_literal.proofs.FlatLemmas.{flat, Ordered, IsFlat, is_flat}
 use Rattle.mob_literal.proofs.GroupSlices.{Alls, start_of, more, sequence_of, are_groups, joined, HasAll, is_short, sound_groups, flat_values}
 use Rattle.mob_literal.proofs.GroupTexts.{note, noted_of_group, written_text, IsMomentSaid, IsSliceSaid, AreSaid, ArePoints, instants_are, printed_said}
-use Rattle.mob_literal.proofs.Small.{both, not_true, false_true, some_none}
+use Rattle.mob_literal.proofs.Small.{false_true, some_none}
 
 -- ---- numbers that fit
 

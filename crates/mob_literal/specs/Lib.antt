@@ -4,6 +4,7 @@ pub mod Literal
 pub mod ValueText
 pub mod Values
 pub mod Slices
+pub mod Neighbours
 pub mod Sound
 pub mod Flat
 pub mod Printed

@@ -1,8 +1,9 @@
 -- The printed text of slices from the left, as it is written.
-use Rattle.std.specs.Prelude.{List, [], ◌∷◌, ◌++◌, codes, Bool, true, false, ◌&&◌, cond}
+use Rattle.std.specs.Prelude.{List, [], ◌∷◌, ◌++◌, codes, Bool, false, cond}
 use Rattle.mob_language.specs.Language.{Text}
 use Rattle.mob_slice.specs.declared.slice.Slice.{Slice}
 use Rattle.mob_slice.specs.declared.steady.Steady.{Steady}
+use Rattle.mob_literal.specs.Neighbours.{all_neighbours}
 use Rattle.mob_literal.specs.Printed.{Style, is_long, goes_on, start_text, end_text, opening, closing}
 
 -- the end of a group at its last slice, of which the start is written
@@ -25,8 +26,7 @@ more_starts style (r ∷ rest) = codes ", " ++ start_text style r ++ more_starts
 
 -- each of the slices behind s goes on with the group
 abbrev pub all_go_on : {B : Type 0} → Slice (Steady B) → List (Slice (Steady B)) → Bool
-all_go_on s [] = true
-all_go_on s (r ∷ rest) = goes_on s r && all_go_on r rest
+all_go_on s rest = all_neighbours goes_on (s ∷ rest)
 
 -- the slices are one group
 abbrev pub is_one_group : {B : Type 0} → List (Slice (Steady B)) → Bool

@@ -12,6 +12,7 @@ use Rattle.mob_scalar.specs.Verdict.{Form}
 use Rattle.mob_literal.specs.declared.written.Written.{Written}
 use Rattle.mob_literal.specs.declared.written.Noted.{Noted}
 use Rattle.mob_literal.specs.declared.written.Sequence.{Sequence}
+use Rattle.mob_literal.specs.Neighbours.{all_neighbours}
 use Rattle.mob_literal.specs.Steps.{StepAt, rises, step_value}
 use Rattle.mob_literal.specs.Literal.{noted, temporal}
 
@@ -69,9 +70,7 @@ is_before q r = clear_ends q.upper_inc r.lower_inc (slice_get q.instants (length
 
 -- each sequence ends before the next one begins
 abbrev pub are_in_order : {B : Type 0} → List (Sequence (Written B)) → Bool
-are_in_order [] = true
-are_in_order (q ∷ []) = true
-are_in_order (q ∷ r ∷ qs) = is_before q r && are_in_order (r ∷ qs)
+are_in_order qs = all_neighbours is_before qs
 
 abbrev pub is_sound : {B : Type 0} → (B → Bool) → (B → B → Bool) → List (Sequence (Written B)) → Bool
 is_sound has_value is_same qs = are_in_order qs && list_all (is_sound_sequence has_value is_same) qs
@@ -86,6 +85,16 @@ pub record LitAt {B : Type 0} (qs : List (Sequence (Written B))) (t : Ratio) (v 
 pub record Defines {B : Type 0} (is_same : B → B → Bool) (qs : List (Sequence (Written B))) (slices : List (Slice (Steady B))) : Type 0 where
   pub normal : IsNormal {C = Steady B} {B = B} (λ c. c.value) (λ c. c.value) (λ c d lower middle upper. is_same c.value d.value) slices
   pub same : (t : Ratio) (v : B) → (value_at step_value slices t ≡ Some v) ↔ LitAt qs t v
+
+-- The sequences of the literals of a type of step values, with instants counted from a day, where each of their numbers fits.
+abbrev pub written_sequences : {B : Type 0} → ℤ → (Text → Option B → Type 0) → Form (List (Sequence (Noted B))) (List (Sequence (Written B)))
+written_sequences day value = record {
+  shape = temporal (noted day value);
+  long = λ s. is_long s ≡ true;
+  large = λ s. fitting_all s ≡ None;
+  unsound = λ s. ⊥;
+  means = λ s qs. fitting_all s ≡ Some qs;
+}
 
 -- The literals of a type of step values, with instants counted from a day.
 abbrev pub steps : {B : Type 0} → ℤ → (Text → Option B → Type 0) → (B → Bool) → (B → B → Bool) → Form (List (Sequence (Noted B))) (List (Slice (Steady B)))

@@ -4,6 +4,7 @@
 mod fields;
 pub mod laws;
 mod literal;
+mod neighbours;
 pub mod printing;
 mod sql;
 mod steps;

@@ -1,10 +1,10 @@
 //! Temporal literals, as they are written.
-ghost use Rattle.std.specs.Prelude.{◌≡◌, ℕ, map, option_map, List, Option, Some, None, IfOk, Bool, true};
-ghost use Rattle.mob_language.specs.Readers.{all_of, means_at};
+ghost use Rattle.std.specs.Prelude.{◌≡◌, ℕ, map, option_map, List, [], ◌∷◌, Option, Some, None, IfOk, Bool, true};
+ghost use Rattle.mob_language.specs.Readers.{Reader, all_of, means_at, separated_at as separated_in, spaced_at as spaced_in};
 ghost use Rattle.mob_scalar.specs.Calendar.{is_civil};
 ghost use Rattle.mob_scalar.specs.Moment.{instant, IsPartSmall};
 ghost use Rattle.mob_literal.specs.Fitting.{fitting};
-ghost use Rattle.mob_literal.specs.Literal.{alone as alone_of, one_sequence, one_instant, at_sign_at as at_sign_in, comma_at as comma_in, noted_at as noted_in, opening_at as opening_in, closing_at as closing_in, instants_at as instants_in, sequence_at as sequence_in, sequences_at as sequences_in, members_at as members_in, braced_at as braced_in, literal_at as literal_in, temporal_at as temporal_in};
+ghost use Rattle.mob_literal.specs.Literal.{alone as alone_of, one_sequence, one_instant, comma_at as comma_in, noted_at as noted_in, opening_at as opening_in, closing_at as closing_in, instants_at as instants_in, sequence_at as sequence_in, sequences_at as sequences_in, members_at as members_in, braced_at as braced_in, literal_at as literal_in, temporal_at as temporal_in};
 ghost use Rattle.mob_literal.specs.ValueText.{IsValueText};
 
 use crate::written::{Noted, Sequence};
@@ -45,22 +45,12 @@ pub trait WrittenValue {
     ghost exact: { IsValueText shape reader follows };
 }
 
-#[tactic(auto, unfolding(crate::specs::Literal::at_sign_at))]
-fn at_sign_at(bytes: &[u8]) -> Option<&[u8]>
-    ensures read { option_map (λ x. (tt, x.now)) result ≡ at_sign_in bytes.now }
+/// What stands behind the sign and the blanks on both sides of it.
+fn spaced_at(sign: u8, bytes: &[u8]) -> Option<&[u8]>
+    ensures read { option_map (λ rest. (tt, rest.now)) result ≡ spaced_in (sign ∷ []) bytes.now }
 {
     match blanks(bytes).1 {
-        [64, rest @ ..] => Some(blanks(rest).1),
-        _ => None,
-    }
-}
-
-#[tactic(auto, unfolding(crate::specs::Literal::comma_at))]
-fn comma_at(bytes: &[u8]) -> Option<&[u8]>
-    ensures read { option_map (λ x. (tt, x.now)) result ≡ comma_in bytes.now }
-{
-    match blanks(bytes).1 {
-        [44, rest @ ..] => Some(blanks(rest).1),
+        [first, rest @ ..] if *first == sign => Some(blanks(rest).1),
         _ => None,
     }
 }
@@ -101,7 +91,7 @@ fn instant_of(stamp: Stamp, epoch: &Epoch) -> Option<Frac>
 }
 
 /// One value at a moment, and what stands behind it.
-#[tactic(auto, unfolding(crate::specs::Literal::noted_at))]
+#[tactic(auto, unfolding(crate::specs::Literal::noted_at, crate::specs::Literal::at_sign_at))]
 fn noted_at<'a, T: WrittenValue>(
     alloc: Global,
     epoch: &Epoch,
@@ -112,7 +102,7 @@ fn noted_at<'a, T: WrittenValue>(
     let Some((value, rest)) = T::value_at(alloc, bytes)? else {
         return Ok(None);
     };
-    let Some(rest) = at_sign_at(rest) else {
+    let Some(rest) = spaced_at(b'@', rest) else {
         return Ok(None);
     };
     let Some((stamp, rest)) = moment_at(rest) else {
@@ -125,10 +115,35 @@ fn noted_at<'a, T: WrittenValue>(
     Ok(Some((noted, rest)))
 }
 
+/// Members with commas between, and what stands behind them.
+#[tactic(auto, unfolding(mob_language::specs::Readers::separated_at))]
+fn separated_at<'a, A: Drop, F: Fn(&'a [u8]) -> Result<Option<(A, &'a [u8])>, AllocError>>(
+    alloc: Global,
+    member_at: F,
+    bytes: &'a [u8],
+) -> Result<Option<(Vec<A>, &'a [u8])>, AllocError>
+    requires callable { F.IsAlwaysCallable member_at }
+    ensures read { (reader : Reader A) → ((text : _) (found : _) → F.post member_at text found → IfOk found (λ o. option_map (λ x. (x.0, x.1.now)) o ≡ reader text.now)) → IfOk result (λ o. option_map (λ x. (x.0.items, x.1.now)) o ≡ separated_in reader comma_in bytes.now) }
+{
+    let mut members = Vec::new(alloc);
+    let mut rest = bytes;
+    for _ in 0..bytes.len() + 1 {
+        let Some((member, after)) = member_at(rest)? else {
+            return Ok(None);
+        };
+        members.push(member)?;
+        match spaced_at(b',', after) {
+            Some(next) => rest = next,
+            None => return Ok(Some((members, after))),
+        }
+    }
+    Ok(None)
+}
+
 type Instants<B> = Vec<Noted<B>>;
 
 /// Instants with commas between, and what stands behind them.
-#[tactic(auto, unfolding(crate::specs::Literal::instants_at, mob_language::specs::Readers::separated_at))]
+#[tactic(auto, unfolding(crate::specs::Literal::instants_at))]
 fn instants_at<'a, T: WrittenValue>(
     alloc: Global,
     epoch: &Epoch,
@@ -136,19 +151,7 @@ fn instants_at<'a, T: WrittenValue>(
 ) -> Result<Option<(Instants<T::Base>, &'a [u8])>, AllocError>
     ensures read { IfOk result (λ o. option_map (λ x. (x.0.items, x.1.now)) o ≡ instants_in (noted_in epoch.now T.reader) bytes.now) }
 {
-    let mut instants = Vec::new(alloc);
-    let mut rest = bytes;
-    for _ in 0..bytes.len() + 1 {
-        let Some((instant, after)) = noted_at::<T>(alloc, epoch, rest)? else {
-            return Ok(None);
-        };
-        instants.push(instant)?;
-        match comma_at(after) {
-            Some(next) => rest = next,
-            None => return Ok(Some((instants, after))),
-        }
-    }
-    Ok(None)
+    separated_at(alloc, |rest| noted_at::<T>(alloc, epoch, rest), bytes)
 }
 
 /// A sequence, and what stands behind it.
@@ -180,7 +183,7 @@ fn sequence_at<'a, T: WrittenValue>(
 type Sequences<B> = Vec<Sequence<Noted<B>>>;
 
 /// Sequences with commas between, and what stands behind them.
-#[tactic(auto, unfolding(crate::specs::Literal::sequences_at, mob_language::specs::Readers::separated_at))]
+#[tactic(auto, unfolding(crate::specs::Literal::sequences_at))]
 fn sequences_at<'a, T: WrittenValue>(
     alloc: Global,
     epoch: &Epoch,
@@ -188,19 +191,7 @@ fn sequences_at<'a, T: WrittenValue>(
 ) -> Result<Option<(Sequences<T::Base>, &'a [u8])>, AllocError>
     ensures read { IfOk result (λ o. option_map (λ x. (x.0.items, x.1.now)) o ≡ sequences_in (noted_in epoch.now T.reader) bytes.now) }
 {
-    let mut sequences = Vec::new(alloc);
-    let mut rest = bytes;
-    for _ in 0..bytes.len() + 1 {
-        let Some((sequence, after)) = sequence_at::<T>(alloc, epoch, rest)? else {
-            return Ok(None);
-        };
-        sequences.push(sequence)?;
-        match comma_at(after) {
-            Some(next) => rest = next,
-            None => return Ok(Some((sequences, after))),
-        }
-    }
-    Ok(None)
+    separated_at(alloc, |rest| sequence_at::<T>(alloc, epoch, rest), bytes)
 }
 
 /// The sequence of one instant alone.

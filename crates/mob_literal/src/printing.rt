@@ -5,6 +5,7 @@ ghost use Rattle.mob_literal.specs.Printed.{instant_text, is_long as long, goes_
 ghost use Rattle.mob_literal.specs.Runs.{end_part, between as gap, is_one_group};
 ghost use Rattle.mob_literal.specs.Style.{style_of};
 
+use crate::neighbours::all_neighbours;
 use mob_frac::Frac;
 use mob_scalar::{Epoch, write_moment};
 use mob_slice::{BaseValue, Course, Moving, Slice, Steady};
@@ -169,17 +170,10 @@ fn is_set<B: BaseValue + Drop>(slices: &[Slice<Steady<B>>]) -> bool
 fn is_group<B: BaseValue + Drop>(slices: &[Slice<Steady<B>>]) -> bool
     ensures value { result ≡ is_one_group slices.now }
 {
-    let [first, rest @ ..] = slices else {
-        return false;
-    };
-    let mut last = first;
-    for next in rest {
-        if !goes_on(last, next) {
-            return false;
-        }
-        last = next;
+    match slices {
+        [] => false,
+        [_, ..] => all_neighbours(slices, goes_on),
     }
-    true
 }
 
 /// A set of instants, or one instant alone.

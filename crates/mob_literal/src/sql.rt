@@ -27,30 +27,21 @@ fn read_bool(text: &str) -> Result<Value, ReadText>
     ensures reading { Says truths Value.Bool text.now result }
     ensures memory { result ≢ Err NoMemory }
 {
-    match read_truth(text) {
-        Ok(truth) => Ok(Value::Bool(truth)),
-        Err(fault) => Err(fault),
-    }
+    Ok(Value::Bool(read_truth(text)?))
 }
 
 fn read_int(text: &str) -> Result<Value, ReadText>
     ensures reading { Says whole_numbers Value.Number text.now result }
     ensures memory { result ≢ Err NoMemory }
 {
-    match read_whole(text) {
-        Ok(number) => Ok(Value::Number(number)),
-        Err(fault) => Err(fault),
-    }
+    Ok(Value::Number(read_whole(text)?))
 }
 
 fn read_numeric(text: &str) -> Result<Value, ReadText>
     ensures reading { Says numbers Value.Number text.now result }
     ensures memory { result ≢ Err NoMemory }
 {
-    match read_number(text) {
-        Ok(number) => Ok(Value::Number(number)),
-        Err(fault) => Err(fault),
-    }
+    Ok(Value::Number(read_number(text)?))
 }
 
 fn read_text(alloc: Global, text: &str) -> Result<Value, ReadText>
@@ -66,37 +57,25 @@ fn read_timestamp(text: &str, epoch: &Epoch) -> Result<Value, ReadText>
     ensures reading { Says (moments epoch.now) Value.Moment text.now result }
     ensures memory { result ≢ Err NoMemory }
 {
-    match read_moment(text, epoch) {
-        Ok(instant) => Ok(Value::Moment(instant)),
-        Err(fault) => Err(fault),
-    }
+    Ok(Value::Moment(read_moment(text, epoch)?))
 }
 
 fn read_tbool(alloc: Global, text: &str, epoch: &Epoch) -> Result<Value, ReadText>
     ensures reading { Says (steps epoch.now truth_value any_value same_bool) Value.MovingBool text.now result }
 {
-    match read_steps::<Truths>(alloc, text, epoch) {
-        Ok(moving) => Ok(Value::MovingBool(moving)),
-        Err(fault) => Err(fault),
-    }
+    Ok(Value::MovingBool(read_steps::<Truths>(alloc, text, epoch)?))
 }
 
 fn read_tint(alloc: Global, text: &str, epoch: &Epoch) -> Result<Value, ReadText>
     ensures reading { Says (steps epoch.now number_value is_whole same) Value.MovingInt text.now result }
 {
-    match read_steps::<WholeNumbers>(alloc, text, epoch) {
-        Ok(moving) => Ok(Value::MovingInt(moving)),
-        Err(fault) => Err(fault),
-    }
+    Ok(Value::MovingInt(read_steps::<WholeNumbers>(alloc, text, epoch)?))
 }
 
 fn read_ttext(alloc: Global, text: &str, epoch: &Epoch) -> Result<Value, ReadText>
     ensures reading { Says (steps epoch.now quoted_value any_value same_bytes) Value.MovingText text.now result }
 {
-    match read_steps::<Texts>(alloc, text, epoch) {
-        Ok(moving) => Ok(Value::MovingText(moving)),
-        Err(fault) => Err(fault),
-    }
+    Ok(Value::MovingText(read_steps::<Texts>(alloc, text, epoch)?))
 }
 
 /// The value of a type that a text says. Instants count from midnight UTC of the epoch's day.

@@ -1,11 +1,12 @@
 //! Temporal literals of the step types, read.
-ghost use Rattle.std.specs.Prelude.{◌≡◌, option_map, Option, Some, None, IfOk, true};
+ghost use Rattle.std.specs.Prelude.{◌≡◌, option_map, Option, Some, None, Ok, Err, IfOk, MatchResult, true};
 ghost use Rattle.std.specs.List.{list_all};
 ghost use Rattle.mob_scalar.specs.Verdict.{Lit};
-ghost use Rattle.mob_literal.specs.Sound.{is_long as long, traverse, written_of as written_in, fitting_sequence as fitting_in, fitting_all as all_fitting, clear_ends as ends_clear, is_before as precedes, are_in_order as in_order, steps};
+ghost use Rattle.mob_literal.specs.Sound.{is_long as long, traverse, written_of as written_in, fitting_sequence as fitting_in, fitting_all as all_fitting, clear_ends as ends_clear, is_before as precedes, are_in_order as in_order, written_sequences, steps};
 ghost use Rattle.mob_literal.specs.Flat.{made_sequence, made_all};
 
 use crate::literal::{WrittenValue, literal_of};
+use crate::neighbours::all_neighbours;
 use crate::steps::slices_of;
 use crate::written::{Noted, Sequence, Written};
 use mob_list::items::Items;
@@ -38,18 +39,21 @@ fn written_of<B: Drop>(noted: Noted<B>) -> Option<Written<B>>
     Some(Written { value, instant })
 }
 
-fn fitting_instants<B: Drop>(
+/// What `fit` makes of each item, where it makes something of every one.
+fn fitting_each<A: Drop, B: Drop, F: Fn(A) -> Result<Option<B>, AllocError>>(
     alloc: Global,
-    instants: Vec<Noted<B>>,
-) -> Result<Option<Vec<Written<B>>>, AllocError>
-    ensures fitting { IfOk result (λ o. option_map (λ v. v.items) o ≡ traverse written_in instants.items) }
+    items: Vec<A>,
+    fit: F,
+) -> Result<Option<Vec<B>>, AllocError>
+    requires callable { F.IsAlwaysCallable fit }
+    ensures fitting { (part : A → Option B) → ((item : _) (made : _) → F.post fit item made → IfOk made (λ o. o ≡ part item)) → IfOk result (λ o. option_map (λ v. v.items) o ≡ traverse part items.items) }
 {
     let mut fitting = Vec::new(alloc);
-    for noted in instants {
-        let Some(written) = written_of(noted) else {
+    for item in items {
+        let Some(made) = fit(item)? else {
             return Ok(None);
         };
-        fitting.push(written)?;
+        fitting.push(made)?;
     }
     Ok(Some(fitting))
 }
@@ -65,7 +69,8 @@ fn fitting_sequence<B: Drop>(
         instants,
         upper_inc,
     } = sequence;
-    let Some(fitting) = fitting_instants(alloc, instants.into_vec())? else {
+    let each = |noted| Ok(written_of(noted));
+    let Some(fitting) = fitting_each(alloc, instants.into_vec(), each)? else {
         return Ok(None);
     };
     Ok(Some(Sequence {
@@ -82,14 +87,11 @@ fn fitting_all<B: Drop>(
 ) -> Result<Option<Vec<Sequence<Written<B>>>>, AllocError>
     ensures fitting { IfOk result (λ o. option_map (λ v. v.items) o ≡ all_fitting sequences.items) }
 {
-    let mut fitting = Vec::new(alloc);
-    for sequence in sequences {
-        let Some(written) = fitting_sequence(alloc, sequence)? else {
-            return Ok(None);
-        };
-        fitting.push(written)?;
-    }
-    Ok(Some(fitting))
+    fitting_each(
+        alloc,
+        sequences,
+        |sequence| fitting_sequence(alloc, sequence),
+    )
 }
 
 fn clear_ends<B>(upper_inc: bool, lower_inc: bool, end: &Written<B>, start: &Written<B>) -> bool
@@ -116,28 +118,13 @@ fn is_before<B>(sequence: &Sequence<Written<B>>, next: &Sequence<Written<B>>) ->
 fn are_in_order<B>(sequences: &[Sequence<Written<B>>]) -> bool
     ensures value { result ≡ in_order sequences.now }
 {
-    let [first, rest @ ..] = sequences else {
-        return true;
-    };
-    let mut last = first;
-    for next in rest {
-        if !is_before(last, next) {
-            return false;
-        }
-        last = next;
-    }
-    true
+    all_neighbours(sequences, is_before)
 }
 
 fn has_values<T: WrittenValue>(instants: &[Written<T::Base>]) -> bool
     ensures value { result ≡ list_all (λ i. T.has_value i.value) instants.now }
 {
-    for instant in instants {
-        if !T::has_value(&instant.value) {
-            return false;
-        }
-    }
-    true
+    instants.iter().all(|instant| T::has_value(&instant.value))
 }
 
 type Slices<B> = Vec<Slice<Steady<B>>>;
@@ -177,6 +164,32 @@ fn all_slices<T: WrittenValue>(
     Ok(Some(all))
 }
 
+/// The sequences that a literal says.
+///
+/// The faults in order: `NotText` where the text is no literal, `Limit` where it has more than 100,000 instants, and
+/// `TooLarge` where a value or an instant does not fit.
+fn read_sequences<T: WrittenValue>(
+    alloc: Global,
+    text: &str,
+    epoch: &Epoch,
+) -> Result<Vec<Sequence<Written<T::Base>>>, ReadText>
+    ensures reading { MatchResult result (λ written. Lit (written_sequences epoch.now T.shape) text.now (Ok written.items)) (λ fault. Lit (written_sequences epoch.now T.shape) text.now (Err fault)) }
+{
+    let noted = match literal_of::<T>(alloc, epoch, text.as_bytes()) {
+        Ok(Some(noted)) => noted,
+        Ok(None) => return Err(ReadText::NotText),
+        Err(_) => return Err(ReadText::NoMemory),
+    };
+    if is_long(noted.as_slice()) {
+        return Err(ReadText::Limit);
+    }
+    match fitting_all(alloc, noted) {
+        Ok(Some(written)) => Ok(written),
+        Ok(None) => Err(ReadText::TooLarge),
+        Err(_) => Err(ReadText::NoMemory),
+    }
+}
+
 /// The step value that a literal stands for. Instants count from midnight UTC of the epoch's day.
 ///
 /// The faults in order: `NotText` where the text is no literal, `Limit` where it has more than 100,000 instants,
@@ -190,18 +203,9 @@ pub fn read_steps<T: WrittenValue>(
 ) -> Result<Moving<Steady<T::Base>>, ReadText>
     ensures reading { Lit (steps epoch.now T.shape T.has_value T.Base.is_same) text.now result }
 {
-    let noted = match literal_of::<T>(alloc, epoch, text.as_bytes()) {
-        Ok(Some(noted)) => noted,
-        Ok(None) => return Err(ReadText::NotText),
-        Err(_) => return Err(ReadText::NoMemory),
-    };
-    if is_long(noted.as_slice()) {
-        return Err(ReadText::Limit);
-    }
-    let written = match fitting_all(alloc, noted) {
-        Ok(Some(written)) => written,
-        Ok(None) => return Err(ReadText::TooLarge),
-        Err(_) => return Err(ReadText::NoMemory),
+    let written = match read_sequences::<T>(alloc, text, epoch) {
+        Ok(written) => written,
+        Err(fault) => return Err(fault),
     };
     if !are_in_order(written.as_slice()) {
         return Err(ReadText::Unsound);

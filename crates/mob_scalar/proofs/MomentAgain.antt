@@ -1,11 +1,11 @@
 -- The printed text of a moment is a text of that moment.
-use Rattle.std.proofs.Common.{◌≡◌, ℕ, zero, suc, ◌+◌, ◌*◌, ◌/◌, ◌%◌, ◌^◌, ◌<◌, ◌≤◌, [], ◌++◌, length, Bool, true, false, Option, Some, None, ℤ, pos, neg_ℤ, ◌+ℤ◌, ◌-ℤ◌, ◌*ℤ◌, unsigned_abs, codes, refl, sym, ap, subst, ◌∙◌, append_assoc, arith, rules, inl, inr}
-use Rattle.std.specs.Prelude.{◌&&◌, Ok}
+use Rattle.std.proofs.Common.{◌≡◌, ℕ, zero, suc, ◌+◌, ◌*◌, ◌/◌, ◌%◌, ◌^◌, ◌<◌, ◌≤◌, [], ◌++◌, length, true, Option, Some, None, ℤ, pos, neg_ℤ, ◌+ℤ◌, ◌-ℤ◌, ◌*ℤ◌, unsigned_abs, codes, refl, sym, ap, subst, ◌∙◌, append_assoc, arith, rules, inl, inr}
+use Rattle.std.specs.Prelude.{Ok}
 use Rattle.std.specs.Int.{int_div_euclid, int_rem_euclid}
 use Rattle.std.specs.Int.Signed.{le_z}
 use Rattle.std.specs.Fmt.{decimal}
 use Rattle.std.specs.Str.Parse.{digits_value}
-use Rattle.std.proofs.lemmas.Bool.{cases_lt}
+use Rattle.std.proofs.lemmas.Bool.{and_parts as both, cases_lt}
 use Rattle.std.proofs.lemmas.Nat.{div-add-mod'}
 use Rattle.std.proofs.Math.Nat.{mul-div_cancel, mul-le-mul_right}
 use Rattle.mob_scalar.proofs.Powers.{ten_pos}
@@ -250,10 +250,6 @@ whole_and_part q =
     let n : f *ℤ pos q.den +ℤ pos r *ℤ pos 1 ≡ q.num = omega (arith, signed_arith, e) in
     let d : 1 * q.den ≡ q.den = omega arith in
     over-add f (pos r) 1 q.den (omega arith) (den_pos q) ∙ ap (λ (z : ℤ). over z (1 * q.den)) n ∙ ap (λ (k : ℕ). over q.num k) d ∙ over-self q
-
-both : (a b : Bool) → (a && b) ≡ true → (a ≡ true) × (b ≡ true)
-both true b e = (refl, e)
-both false b e = absurd cc
 
 second_day : (n : ℤ) → is_year_second n ≡ true → IsInYears (int_div_euclid n (pos 86400))
 second_day n h =

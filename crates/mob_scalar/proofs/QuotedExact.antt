@@ -1,8 +1,8 @@
 -- The reader of the values of a ttext reads exactly their texts.
-use Rattle.std.proofs.Common.{◌≡◌, ℕ, [], ◌∷◌, ◌++◌, Bool, true, false, cond, not, Option, Some, None, refl, sym, ap, subst, ◌∙◌, append_assoc, rules, codes}
-use Rattle.std.specs.Prelude.{◌||◌, ◌&&◌, nat_eq}
+use Rattle.std.proofs.Common.{◌≡◌, ℕ, [], ◌∷◌, ◌++◌, Bool, true, false, cond, Option, Some, None, refl, sym, ap, subst, ◌∙◌, append_assoc, rules, codes}
+use Rattle.std.specs.Prelude.{◌||◌, nat_eq}
 use Rattle.std.specs.Str.{is_utf8}
-use Rattle.std.proofs.lemmas.Bool.{eqb-true}
+use Rattle.std.proofs.lemmas.Bool.{and_parts as both, eqb-true, not-true as not_true, or_parts}
 use Rattle.mob_language.specs.Language.{Text, AreAll, is_blank}
 use Rattle.mob_language.specs.Readers.{◌>>=◌, behind_at, word_at, run_of}
 use Rattle.mob_language.proofs.Exact.{Reads, Exact, Stops, Any, bind_some, some_is, or_exact, where_exact, run_again, run_parts, word_exact}
@@ -78,17 +78,9 @@ unfolding unescaped_at
 unescaped_again [] rest = refl
 unescaped_again (c ∷ cs) rest = by_escape (is_escaped c) refl (unescaped_again cs rest)
   where
-    first_of_two : (a b : Bool) → (a || b) ≡ false → a ≡ false
-    first_of_two true b h = absurd cc
-    first_of_two false b h = refl
-
-    second_of_two : (a b : Bool) → (a || b) ≡ false → b ≡ false
-    second_of_two true b h = absurd cc
-    second_of_two false b h = h
-
     by_escape : (b : Bool) → is_escaped c ≡ b → unescaped_at false (escaped cs ++ (34 ∷ rest)) ≡ Some (cs, rest) → unescaped_at false (cond b (92 ∷ c ∷ escaped cs) (c ∷ escaped cs) ++ (34 ∷ rest)) ≡ Some (c ∷ cs, rest)
     by_escape true h ih = rw (h, ih) refl
-    by_escape false h ih = rw (first_of_two (nat_eq c 34) (nat_eq c 92) h, second_of_two (nat_eq c 34) (nat_eq c 92) h, ih) refl
+    by_escape false h ih = let neither = or_parts (nat_eq c 34) (nat_eq c 92) h in rw (neither.0, neither.1, ih) refl
 
 pub quoted_exact : Exact quoted quoted_at Any
 unfolding quoted_at quoted_text
@@ -145,10 +137,6 @@ unfolding trimmed
 trim_blanks [] each = refl
 trim_blanks (b ∷ bs) each = rw (trim_blanks bs each.1, each.0) refl
 
-not_true : (b : Bool) → not b ≡ true → b ≡ false
-not_true true h = absurd cc
-not_true false h = refl
-
 pub trim_again : (v bs : Text) → ends_well v ≡ true → AreAll is_blank bs → trimmed (v ++ bs) ≡ (v, bs)
 unfolding trimmed
 trim_again [] bs e each = absurd cc
@@ -165,10 +153,6 @@ pub record Behind (rest : Text) : Type 0 where
 
 blank_plain : (c : ℕ) → is_blank c ≡ true → is_plain c ≡ true
 blank_plain c e = search rules
-
-both : (a b : Bool) → (a && b) ≡ true → (a ≡ true) × (b ≡ true)
-both true b e = (refl, e)
-both false b e = absurd cc
 
 pub bare_exact : Exact bare bare_at Behind
 unfolding bare_at

@@ -49,11 +49,11 @@ digit_blank c e = search rules
 e_blank : Apart is_e is_blank
 e_blank c e = search rules
 
-back_nil : (a b : Text) → a ++ b ≡ [] → b ≡ []
+pub back_nil : (a b : Text) → a ++ b ≡ [] → b ≡ []
 back_nil [] b h = h
 back_nil (c ∷ cs) b h = absurd cc
 
-front_nil : (a b : Text) → a ++ b ≡ [] → a ≡ []
+pub front_nil : (a b : Text) → a ++ b ≡ [] → a ≡ []
 front_nil [] b h = refl
 front_nil (c ∷ cs) b h = absurd cc
 

@@ -1,5 +1,5 @@
 -- The texts of truth values: t, true, f and false, their letters small or capital.
-use Rattle.std.specs.Prelude.{◌≡◌, Bool, true, false, codes, ◌||◌, cond}
+use Rattle.std.specs.Prelude.{◌≡◌, Bool, codes, ◌||◌, cond}
 use Rattle.std.specs.Char.{is_ascii_alphabetic}
 use Rattle.std.specs.Str.{str_eq_ignore_ascii_case}
 use Rattle.mob_language.specs.Language.{Text, Language, Means, Where, Run, within_blanks}

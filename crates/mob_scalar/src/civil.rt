@@ -5,6 +5,7 @@ ghost use Rattle.mob_scalar.specs.Calendar.{is_civil as civil, day_of as day_num
 ghost use Rattle.mob_scalar.specs.CalendarReaders.{fixed_at as fixed_in, dash_at as dash_in, date_at as date_in};
 
 use crate::numeral::{Figures, digits_at};
+use crate::readers::behind;
 use jiff_core::civil::Date;
 
 /// A date of the calendar.
@@ -37,10 +38,7 @@ fn dash_at(bytes: &[u8]) -> Option<(u128, &[u8])>
     ensures value { option_map (λ x. (x.0, x.1.now)) result ≡ dash_in bytes.now }
     ensures bound { IfSome result (λ x. x.0 < 100) }
 {
-    match bytes {
-        [45, rest @ ..] => fixed_at(2, rest),
-        _ => None,
-    }
+    fixed_at(2, behind(b'-', bytes)?)
 }
 
 /// Whether the calendar has a date, of the years 0001 to 9999.

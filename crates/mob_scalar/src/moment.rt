@@ -12,7 +12,8 @@ ghost use Rattle.mob_scalar.specs.Verdict.{Lit};
 
 use crate::epoch::Epoch;
 use crate::fault::ReadText;
-use crate::stamp::{Part, Stamp, blanks, moment_at, seconds_of};
+use crate::readers::within_blanks;
+use crate::stamp::{Part, Stamp, moment_at, seconds_of};
 use mob_frac::{Frac, Overflow, over_product};
 
 // Seconds since midnight of the epoch's day.
@@ -59,12 +60,7 @@ fn stamp_of(bytes: &[u8]) -> Option<Stamp>
     ensures value { result ≡ all_of (within_blanks_at moment_in) bytes.now }
     ensures there { IfSome result (λ s. civil s.date ≡ true) }
 {
-    let (stamp, rest) = moment_at(blanks(bytes).1)?;
-    if blanks(rest).1.is_empty() {
-        Some(stamp)
-    } else {
-        None
-    }
+    within_blanks(moment_at, bytes)
 }
 
 /// The instant of a moment, in seconds since midnight UTC of the epoch's day.

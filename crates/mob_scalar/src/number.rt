@@ -13,7 +13,7 @@ ghost use Rattle.mob_scalar.specs.Numbers.{numbers, whole_numbers};
 
 use crate::fault::ReadText;
 use crate::numeral::{Exponent, Figures, Numeral, Tail, number_at};
-use crate::stamp::blanks;
+use crate::readers::within_blanks;
 use mob_frac::{Frac, Overflow, over_product};
 
 const SIZE: u128 = 1 << 62;
@@ -121,12 +121,7 @@ pub fn evaluate(n: Numeral) -> Result<Frac, Overflow>
 fn numeral_of(bytes: &[u8]) -> Option<Numeral>
     ensures value { result ≡ all_of (within_blanks_at number_in) bytes.now }
 {
-    let (n, rest) = number_at(blanks(bytes).1)?;
-    if blanks(rest).1.is_empty() {
-        Some(n)
-    } else {
-        None
-    }
+    within_blanks(number_at, bytes)
 }
 
 /// The number that a text says.

@@ -1,7 +1,5 @@
 //! Moments as they are written.
 ghost use Rattle.std.specs.Prelude.{◌≡◌, ◌<◌, ◌^◌, option_map, ℤ, pos, nat_abs, ◌*ℤ◌, ◌+ℤ◌, Option, Some, None, IfSome, true};
-ghost use Rattle.mob_language.specs.Language.{is_blank as blank};
-ghost use Rattle.mob_language.specs.Readers.{run_of, maybe_at};
 ghost use Rattle.mob_scalar.specs.Calendar.{is_civil as civil};
 ghost use Rattle.mob_scalar.specs.Moment.{stamp_of as stamp_made, clock_of as clock_made, offset_of as offset_made, zone_of as zone_made, is_in_years as in_years, seconds, shift as moved};
 ghost use Rattle.mob_scalar.specs.MomentReaders.{up_to_at as up_to_in, colon_at as colon_in, decimals_at as decimals_in, below_at as below_in, quotient_at as quotient_in, part_at as part_in, seconds_at as seconds_in, clock_at as clock_in, z_at as z_in, hours_at as hours_in, after_sign_in, zone_at as zone_in, blanks_at as blanks_in, t_at as t_in, gap_at as gap_in, time_at as time_in, moment_at as moment_in};
@@ -9,6 +7,7 @@ ghost use Rattle.mob_scalar.specs.MomentReaders.{up_to_at as up_to_in, colon_at 
 use crate::civil::{Civil, date_at, day_of, fixed_at};
 use crate::number::ten_to;
 use crate::numeral::{Figures, digits_at};
+use crate::readers::{behind, blanks, maybe};
 
 /// A part of a second, `numerator / denominator`.
 #[derive(Clone, Copy, Debug, PartialEq, Eq)]
@@ -62,10 +61,7 @@ fn colon_at(bytes: &[u8]) -> Option<(u128, &[u8])>
     ensures value { option_map (λ x. (x.0, x.1.now)) result ≡ colon_in bytes.now }
     ensures bound { IfSome result (λ x. x.0 < 100) }
 {
-    match bytes {
-        [58, rest @ ..] => up_to_at(60, rest),
-        _ => None,
-    }
+    up_to_at(60, behind(b':', bytes)?)
 }
 
 #[tactic(auto, unfolding(crate::specs::MomentReaders::z_at))]
@@ -98,20 +94,15 @@ fn t_at(bytes: &[u8]) -> Option<((), &[u8])>
 fn decimals_at(bytes: &[u8]) -> Option<(Part, &[u8])>
     ensures value { option_map (λ x. (x.0, x.1.now)) result ≡ decimals_in bytes.now }
 {
-    match bytes {
-        [46, rest @ ..] => {
-            let (digits, rest) = digits_at(rest)?;
-            if 1 <= digits.count && digits.count <= 18 {
-                let part = Part {
-                    numerator: digits.value,
-                    denominator: ten_to(digits.count),
-                };
-                Some((part, rest))
-            } else {
-                None
-            }
-        }
-        _ => None,
+    let (digits, rest) = digits_at(behind(b'.', bytes)?)?;
+    if 1 <= digits.count && digits.count <= 18 {
+        let part = Part {
+            numerator: digits.value,
+            denominator: ten_to(digits.count),
+        };
+        Some((part, rest))
+    } else {
+        None
     }
 }
 
@@ -119,36 +110,24 @@ fn decimals_at(bytes: &[u8]) -> Option<(Part, &[u8])>
 fn below_at(bytes: &[u8]) -> Option<(Figures, &[u8])>
     ensures value { option_map (λ x. (x.0, x.1.now)) result ≡ below_in bytes.now }
 {
-    match bytes {
-        [47, rest @ ..] => digits_at(rest),
-        _ => None,
-    }
+    digits_at(behind(b'/', bytes)?)
 }
 
 #[tactic(auto, unfolding(crate::specs::MomentReaders::quotient_at))]
 fn quotient_at(bytes: &[u8]) -> Option<(Part, &[u8])>
     ensures value { option_map (λ x. (x.0, x.1.now)) result ≡ quotient_in bytes.now }
 {
-    match bytes {
-        [40, rest @ ..] => {
-            let (numerator, rest) = digits_at(rest)?;
-            let (denominator, rest) = below_at(rest)?;
-            match rest {
-                [41, rest @ ..] => {
-                    if 1 <= numerator.count && numerator.value < denominator.value {
-                        let part = Part {
-                            numerator: numerator.value,
-                            denominator: denominator.value,
-                        };
-                        Some((part, rest))
-                    } else {
-                        None
-                    }
-                }
-                _ => None,
-            }
-        }
-        _ => None,
+    let (numerator, rest) = digits_at(behind(b'(', bytes)?)?;
+    let (denominator, rest) = below_at(rest)?;
+    let rest = behind(b')', rest)?;
+    if 1 <= numerator.count && numerator.value < denominator.value {
+        let part = Part {
+            numerator: numerator.value,
+            denominator: denominator.value,
+        };
+        Some((part, rest))
+    } else {
+        None
     }
 }
 
@@ -162,38 +141,14 @@ fn part_at(bytes: &[u8]) -> Option<(Part, &[u8])>
     }
 }
 
-fn maybe_part(bytes: &[u8]) -> (Option<Part>, &[u8])
-    ensures value { Some (result.0, result.1.now) ≡ maybe_at part_in bytes.now }
-{
-    match part_at(bytes) {
-        Some((part, rest)) => (Some(part), rest),
-        None => (None, bytes),
-    }
-}
-
 #[tactic(auto, unfolding(crate::specs::MomentReaders::seconds_at))]
 fn seconds_at(bytes: &[u8]) -> Option<((u128, Option<Part>), &[u8])>
     ensures value { option_map (λ x. (x.0, x.1.now)) result ≡ seconds_in bytes.now }
     ensures bound { IfSome result (λ x. x.0.0 < 100) }
 {
-    match bytes {
-        [58, rest @ ..] => {
-            let (seconds, rest) = up_to_at(60, rest)?;
-            let (part, rest) = maybe_part(rest);
-            Some(((seconds, part), rest))
-        }
-        _ => None,
-    }
-}
-
-fn maybe_seconds(bytes: &[u8]) -> (Option<(u128, Option<Part>)>, &[u8])
-    ensures value { Some (result.0, result.1.now) ≡ maybe_at seconds_in bytes.now }
-    ensures bound { IfSome result.0 (λ x. x.0 < 100) }
-{
-    match seconds_at(bytes) {
-        Some((seconds, rest)) => (Some(seconds), rest),
-        None => (None, bytes),
-    }
+    let (seconds, rest) = up_to_at(60, behind(b':', bytes)?)?;
+    let (part, rest) = maybe(part_at(rest), rest);
+    Some(((seconds, part), rest))
 }
 
 fn clock_from(hour: u128, minute: u128, seconds: Option<(u128, Option<Part>)>) -> Clock
@@ -228,18 +183,8 @@ fn clock_at(bytes: &[u8]) -> Option<(Clock, &[u8])>
 {
     let (hour, rest) = up_to_at(24, bytes)?;
     let (minute, rest) = colon_at(rest)?;
-    let (seconds, rest) = maybe_seconds(rest);
+    let (seconds, rest) = maybe(seconds_at(rest), rest);
     Some((clock_from(hour, minute, seconds), rest))
-}
-
-fn maybe_colon(bytes: &[u8]) -> (Option<u128>, &[u8])
-    ensures value { Some (result.0, result.1.now) ≡ maybe_at colon_in bytes.now }
-    ensures bound { IfSome result.0 (λ n. n < 100) }
-{
-    match colon_at(bytes) {
-        Some((minutes, rest)) => (Some(minutes), rest),
-        None => (None, bytes),
-    }
 }
 
 fn offset_from(sign: u8, hours: u128, minutes: Option<u128>) -> Offset
@@ -261,7 +206,7 @@ fn after_sign(sign: u8, bytes: &[u8]) -> Option<(Offset, &[u8])>
     ensures value { option_map (λ x. (x.0, x.1.now)) result ≡ after_sign_in sign bytes.now }
 {
     let (hours, rest) = up_to_at(16, bytes)?;
-    let (minutes, rest) = maybe_colon(rest);
+    let (minutes, rest) = maybe(colon_at(rest), rest);
     Some((offset_from(sign, hours, minutes), rest))
 }
 
@@ -286,15 +231,6 @@ fn zone_at(bytes: &[u8]) -> Option<(Offset, &[u8])>
     }
 }
 
-fn maybe_zone(bytes: &[u8]) -> (Option<Offset>, &[u8])
-    ensures value { Some (result.0, result.1.now) ≡ maybe_at zone_in bytes.now }
-{
-    match zone_at(bytes) {
-        Some((offset, rest)) => (Some(offset), rest),
-        None => (None, bytes),
-    }
-}
-
 fn zone_or_utc(zone: Option<Offset>) -> Offset
     ensures value { result ≡ zone_made zone }
 {
@@ -305,27 +241,6 @@ fn zone_or_utc(zone: Option<Offset>) -> Offset
         },
         Some(offset) => offset,
     }
-}
-
-/// Whether a byte is a space, a tab, a carriage return or a line feed.
-pub fn is_blank(c: u8) -> bool
-    ensures test { result ≡ blank c }
-{
-    c == 32 || c == 9 || c == 13 || c == 10
-}
-
-/// The blanks in front, and what stands behind them.
-pub fn blanks(bytes: &[u8]) -> (&[u8], &[u8])
-    ensures split { (result.0.now, result.1.now) ≡ run_of blank bytes.now }
-{
-    let mut i = 0;
-    while i < bytes.len() {
-        if !is_blank(bytes[i]) {
-            return bytes.split_at(i);
-        }
-        i += 1;
-    }
-    bytes.split_at(i)
 }
 
 #[tactic(auto, unfolding(crate::specs::MomentReaders::blanks_at))]
@@ -356,17 +271,8 @@ fn time_at(bytes: &[u8]) -> Option<((Clock, Offset), &[u8])>
 {
     let (_, rest) = gap_at(bytes)?;
     let (clock, rest) = clock_at(rest)?;
-    let (zone, rest) = maybe_zone(rest);
+    let (zone, rest) = maybe(zone_at(rest), rest);
     Some(((clock, zone_or_utc(zone)), rest))
-}
-
-fn maybe_time(bytes: &[u8]) -> (Option<(Clock, Offset)>, &[u8])
-    ensures value { Some (result.0, result.1.now) ≡ maybe_at time_in bytes.now }
-{
-    match time_at(bytes) {
-        Some((time, rest)) => (Some(time), rest),
-        None => (None, bytes),
-    }
 }
 
 fn stamp_from(date: Civil, time: Option<(Clock, Offset)>) -> Stamp
@@ -451,7 +357,7 @@ pub fn moment_at(bytes: &[u8]) -> Option<(Stamp, &[u8])>
     ensures there { IfSome result (λ x. civil x.0.date ≡ true) }
 {
     let (date, rest) = date_at(bytes)?;
-    let (time, rest) = maybe_time(rest);
+    let (time, rest) = maybe(time_at(rest), rest);
     let stamp = stamp_from(date, time);
     if is_in_years(stamp) {
         Some((stamp, rest))

@@ -8,21 +8,14 @@ ghost use Rattle.mob_scalar.specs.declared.fault.ReadText.TheVariants.{NoMemory}
 ghost use Rattle.mob_scalar.specs.Verdict.{Lit};
 
 use crate::fault::ReadText;
-use crate::stamp::blanks;
+use crate::readers::{split_run, within_blanks};
 use std::alloc::AllocError;
 
 /// The letters in front, and what stands behind them.
 fn letters(bytes: &[u8]) -> (&[u8], &[u8])
     ensures value { (result.0.now, result.1.now) ≡ run_of is_ascii_alphabetic bytes.now }
 {
-    let mut i = 0;
-    while i < bytes.len() {
-        if !bytes[i].is_ascii_alphabetic() {
-            return bytes.split_at(i);
-        }
-        i += 1;
-    }
-    bytes.split_at(i)
+    split_run(|c| c.is_ascii_alphabetic(), bytes)
 }
 
 fn is_word(text: &[u8], word: &[u8]) -> bool
@@ -60,12 +53,7 @@ pub fn truth_at(bytes: &[u8]) -> Option<(bool, &[u8])>
 fn truth_in_all(bytes: &[u8]) -> Option<bool>
     ensures value { result ≡ all_of (within_blanks_at truth_in) bytes.now }
 {
-    let (truth, rest) = truth_at(blanks(bytes).1)?;
-    if blanks(rest).1.is_empty() {
-        Some(truth)
-    } else {
-        None
-    }
+    within_blanks(truth_at, bytes)
 }
 
 /// The truth value that a text says: `t`, `true`, `f` or `false`, its letters small or capital,

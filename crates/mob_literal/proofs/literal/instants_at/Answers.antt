@@ -1,18 +1,7 @@
-use Rattle.std.proofs.Common.{suc, length, sym, arith}
-use Rattle.mob_language.proofs.Lists.{loop_more, loop_ends, loop_fails, loop_done}
-use Rattle.mob_literal.specs.Literal.{noted_at, comma_at, instants_at}
+use Rattle.std.proofs.Common.{rules}
+use Rattle.mob_literal.specs.Literal.{noted_at, instants_at}
 use Rattle.mob_literal.proofs.literal.instants_at.Goals as goal
 
-pub returns-in_default : goal.returns-in_default
-returns-in_default g c = record { read = loop_fails (noted_at c.args.epoch.now g.T.WrittenValue.reader) comma_at c.loop.instants.items (suc (length c.args.bytes.now)) c.loop.counter c.loop.rest.now (instants_at (noted_at c.args.epoch.now g.T.WrittenValue.reader) c.args.bytes.now) (omega arith) (sym (rw c.in_default.is at c.in_ok-instant.ensures.read)) c.loop.invariant }
-
-pub returns-in-None : goal.returns-in-None
-returns-in-None g c =
-    record { read = rw c.in_ok-push.ensures.items (loop_ends (noted_at c.args.epoch.now g.T.WrittenValue.reader) comma_at c.loop.instants.items (suc (length c.args.bytes.now)) c.loop.counter c.loop.rest.now c.in-Some.instant c.in-Some.after.now (instants_at (noted_at c.args.epoch.now g.T.WrittenValue.reader) c.args.bytes.now) (omega arith) (sym (rw c.in-Some.is at c.in_ok-instant.ensures.read)) (sym c.in-None.ensures.read) c.loop.invariant) }
-
-pub loop-preserved : goal.loop-preserved
-loop-preserved g c =
-    rw c.in_ok-push.ensures.items (loop_more (noted_at c.args.epoch.now g.T.WrittenValue.reader) comma_at c.loop.instants.items (suc (length c.args.bytes.now)) c.loop.counter c.loop.rest.now c.in-Some.instant c.in-Some.after.now c.in-Some-comma_at.next.now tt (instants_at (noted_at c.args.epoch.now g.T.WrittenValue.reader) c.args.bytes.now) (omega arith) (sym (rw c.in-Some.is at c.in_ok-instant.ensures.read)) (sym c.in-Some-comma_at.ensures.read) c.loop.invariant)
-
 pub returns : goal.returns
-returns g c = record { read = loop_done (noted_at c.args.epoch.now g.T.WrittenValue.reader) comma_at c.loop.instants.items (suc (length c.args.bytes.now)) c.loop.counter c.loop.rest.now (instants_at (noted_at c.args.epoch.now g.T.WrittenValue.reader) c.args.bytes.now) (omega arith) c.loop.invariant }
+unfolding instants_at
+returns g c = record { read = c.separated_at.ensures.read (noted_at c.args.epoch.now g.T.WrittenValue.reader) (λ text found p. search rules) }

@@ -1,7 +1,7 @@
 use Rattle.std.proofs.Common.{◌≡◌, false, ◌∷◌, length}
 use Rattle.std.specs.Vec.Iter.{into_iter_items, into_iter_len}
 use Rattle.mob_literal.specs.Slices.{made}
-use Rattle.mob_literal.proofs.Made.{with_slices}
+use Rattle.mob_literal.proofs.Traversed.{with_list}
 use Rattle.mob_literal.proofs.steps.slices_of.Given as goal
 
 -- the slices that are made, and those that are still made
@@ -10,5 +10,5 @@ invariant-loop-next g l = record {
   goes : (goal.iterator-loop-next g).can_next l.next-iterator;
   ends : (goal.iterator-loop-next g).is_finite l.next-iterator;
   counted : into_iter_len l.next-iterator ≡ length (into_iter_items l.next-iterator);
-  together : with_slices l.slices.items (made g.B.BaseValue.is_same l.level l.included (l.last ∷ into_iter_items l.next-iterator) l.upper_inc) ≡ made g.B.BaseValue.is_same false l.fn.lower_inc l.fn.instants.items l.upper_inc;
+  together : with_list l.slices.items (made g.B.BaseValue.is_same l.level l.included (l.last ∷ into_iter_items l.next-iterator) l.upper_inc) ≡ made g.B.BaseValue.is_same false l.fn.lower_inc l.fn.instants.items l.upper_inc;
 }

@@ -1,7 +1,7 @@
 use Rattle.std.proofs.Common.{◌≡◌, length}
 use Rattle.std.specs.Vec.Iter.{into_iter_items, into_iter_len}
 use Rattle.mob_literal.specs.Flat.{made_all}
-use Rattle.mob_literal.proofs.FlatLemmas.{with_made}
+use Rattle.mob_literal.proofs.Traversed.{with_list}
 use Rattle.mob_literal.proofs.temporal.all_slices.Given as goal
 
 -- those that are made, and those that are still made
@@ -10,5 +10,5 @@ invariant-loop-sequence g l = record {
   goes : (goal.iterator-loop-sequence g).can_next l.sequence-iterator;
   ends : (goal.iterator-loop-sequence g).is_finite l.sequence-iterator;
   counted : into_iter_len l.sequence-iterator ≡ length (into_iter_items l.sequence-iterator);
-  together : with_made l.all.items (made_all g.T.WrittenValue.has_value g.T.Base.BaseValue.is_same (into_iter_items l.sequence-iterator)) ≡ made_all g.T.WrittenValue.has_value g.T.Base.BaseValue.is_same l.fn.sequences.items;
+  together : with_list l.all.items (made_all g.T.WrittenValue.has_value g.T.Base.BaseValue.is_same (into_iter_items l.sequence-iterator)) ≡ made_all g.T.WrittenValue.has_value g.T.Base.BaseValue.is_same l.fn.sequences.items;
 }
