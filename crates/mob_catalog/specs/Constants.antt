@@ -1,11 +1,9 @@
--- The values of the constants of a script.
-use Rattle.std.specs.Prelude.{◌≡◌, ℕ, ℤ, Ok, Err}
+-- The values of the constants of a script, and their refusals.
+use Rattle.std.specs.Prelude.{ℤ, Ok}
 use Rattle.mob_ast.specs.declared.refusal.Kind.{Kind}
 use Rattle.mob_ast.specs.declared.refusal.Refusal.{Refusal}
-use Rattle.mob_scalar.specs.declared.fault.ReadText.{ReadText}
 use Rattle.mob_typing.specs.declared.typed.ConstText.{ConstText}
 use Rattle.mob_value.specs.declared.value.Value.{Value}
-use Rattle.mob_catalog.specs.Faults.{Refuses}
 use Rattle.mob_literal.specs.SqlText.{SaysAs}
 
 -- the value that the constant's text says as one of its type
@@ -15,11 +13,3 @@ IsConstant day constant value = SaysAs constant.ty day constant.text (Ok value)
 -- the refusal of this kind at the place of a constant
 abbrev pub at_constant : ConstText → Kind → Refusal
 at_constant constant k = record { kind = k; statement = constant.statement; place = constant.place }
-
--- the constant's text has no value, and is refused at its place
-pub record ConstantFails (day : ℤ) (before : ℕ) (constant : ConstText) (refusal : Refusal) : Type 0 where
-  pub fault : ReadText
-  pub says : SaysAs constant.ty day constant.text (Err fault)
-  pub kind : Refuses fault refusal.kind
-  pub statement : refusal.statement ≡ constant.statement
-  pub place : refusal.place ≡ constant.place

@@ -1,9 +1,11 @@
-// Why a table file is refused, and where.
-ghost use Rattle.std.specs.Prelude.{◌≡◌};
+// Why a table file or a literal is refused, and where.
+ghost use Rattle.std.specs.Prelude.{◌≡◌, option_map};
+ghost use Rattle.mob_catalog.specs.Constants.{at_constant};
 ghost use Rattle.mob_catalog.specs.Faults.{OnRefused, Refuses, refusal_of, wrong};
 
-use mob_ast::Kind;
+use mob_ast::{Kind, Refusal};
 use mob_scalar::ReadText;
+use mob_typing::ConstText;
 use std::alloc::{AllocError, AllocFailed};
 
 /// Why a table file is refused.
@@ -54,6 +56,20 @@ pub fn refusal_kind(fault: ReadText) -> Option<Kind>
         ReadText::NotText => Some(Kind::BadLiteral),
         ReadText::TooLarge => Some(Kind::BadLiteral),
         ReadText::Unsound => Some(Kind::BadLiteral),
+    }
+}
+
+/// The refusal of a constant whose text has this fault, at the constant's statement and place. Want of memory refuses no text.
+pub fn constant_refusal(fault: ReadText, constant: &ConstText) -> Option<Refusal>
+    ensures refusal { result ≡ option_map (at_constant constant.now) (refusal_of fault) }
+{
+    match refusal_kind(fault) {
+        Some(kind) => Some(Refusal {
+            kind,
+            statement: constant.statement,
+            place: constant.place,
+        }),
+        None => None,
     }
 }
 

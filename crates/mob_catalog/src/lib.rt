@@ -1,8 +1,7 @@
-//! The tables of a script as they grow, and the values that its constants and table files say.
+//! The tables of a script as they grow, the rows that a table file says, and why a literal or a file is refused.
 #![tactic(auto)]
 
 mod catalog;
-mod consts;
 mod fault;
 mod header;
 pub mod laws;
@@ -11,6 +10,5 @@ mod row;
 mod table_file;
 
 pub use catalog::Catalog;
-pub use consts::{constant_refusal, constants};
-pub use fault::{LoadFault, refusal_kind};
+pub use fault::{LoadFault, constant_refusal, refusal_kind};
 pub use table_file::{FILE_LIMIT, read_table};

@@ -1,9 +1,9 @@
 use mob_ast::{Kind, Refusal, SqlType};
-use mob_catalog::{Catalog, LoadFault, constants, read_table};
+use mob_catalog::{Catalog, LoadFault, constant_refusal, read_table};
 use mob_list::items::Items;
 use mob_list::text::Text;
 use mob_literal::write_field;
-use mob_scalar::Epoch;
+use mob_scalar::{Epoch, ReadText};
 use mob_typing::ConstText;
 use mob_value::Value;
 use std::alloc::{AllocError, Global};
@@ -115,56 +115,26 @@ fn a_file_that_is_too_long(rt: HostRuntime) -> Result<(), Fail> {
     Ok(())
 }
 
-// A set of instants that all are one, so that it passes the limit before it is unsound.
-fn many_instants(alloc: Global, count: u32) -> Result<String, AllocError> {
-    let mut literal = String::from_str(alloc, "{1@2001-01-01")?;
-    for _ in 1..count {
-        literal.push_str(",1@2001-01-01")?;
-    }
-    literal.push_str("}")?;
-    Ok(literal)
-}
-
-fn constant(
-    alloc: Global,
-    ty: SqlType,
-    literal: &str,
-    place: u32,
-) -> Result<ConstText, AllocError> {
-    Ok(ConstText {
-        ty,
-        text: text(alloc, literal)?,
-        statement: 2,
-        place,
-    })
-}
-
 #[test]
-fn constants_in_order(rt: HostRuntime) -> Result<(), Fail> {
-    let alloc = rt.alloc();
-    let epoch = Epoch::standard();
-    let literal = many_instants(alloc, 100_001)?;
-    let texts = [
-        constant(alloc, SqlType::Numeric, "1/2", 7)?,
-        constant(alloc, SqlType::TInt, literal.as_str(), 11)?,
-        constant(alloc, SqlType::Bool, "maybe", 15)?,
-    ];
-    let all = &texts[..];
-    let values = constants(alloc, &all[..1], &epoch).ok().ok_or("a value")?;
-    assert_eq!(rt; values.len(), 1);
-    let refusal = |kind, place| Refusal {
-        kind,
+fn literals_are_refused_at_their_places(rt: HostRuntime) -> Result<(), Fail> {
+    let literal = ConstText {
+        ty: SqlType::Bool,
+        text: text(rt.alloc(), "maybe")?,
         statement: 2,
-        place,
+        place: 15,
     };
-    assert_eq!(rt;
-        constants(alloc, all, &epoch).err(),
-        Some(refusal(Kind::Limit, 11))
-    );
-    assert_eq!(rt;
-        constants(alloc, &all[2..], &epoch).err(),
-        Some(refusal(Kind::BadLiteral, 15))
-    );
+    for (fault, kind) in [
+        (ReadText::Limit, Some(Kind::Limit)),
+        (ReadText::NotText, Some(Kind::BadLiteral)),
+        (ReadText::NoMemory, None),
+    ] {
+        let refusal = kind.map(|kind| Refusal {
+            kind,
+            statement: 2,
+            place: 15,
+        });
+        assert_eq!(rt; constant_refusal(fault, &literal), refusal);
+    }
     Ok(())
 }
 
