@@ -1,9 +1,10 @@
 ghost use Rattle.std.specs.Prelude.{◌≡◌, true, List, [], ◌∷◌, Ok, Err, IfOk, OnOk, MatchResult, ◌++◌};
 ghost use Rattle.std.specs.Fn.{FnReturnsAt};
+ghost use Rattle.std.specs.List.{AllByRecursion};
 ghost use Rattle.std.specs.Iterator.{IsFinite, HoldsAlong, Drains, Yields};
 ghost use Rattle.mob_span.specs.Span.{has_instant};
 ghost use Rattle.mob_slice.specs.Slices.{IsOrdered};
-ghost use Rattle.mob_slice.specs.Pieces.{Each, PartsClear, AreInside};
+ghost use Rattle.mob_slice.specs.Pieces.{PartsClear, AreInside};
 ghost use Rattle.mob_slice.specs.declared.formula.Formula.{Formula};
 ghost use Rattle.mob_lift.specs.Lifted.{IsLifted, FirstFault};
 
@@ -65,7 +66,7 @@ pub fn lift<
     requires can { I.can_next parts }
     requires ends { IsFinite (I.remaining parts) }
     requires clear { HoldsAlong I.next_gives parts (PartsClear P.span_of) }
-    requires fit { HoldsAlong I.next_gives parts (Each P.fits) }
+    requires fit { HoldsAlong I.next_gives parts (AllByRecursion P.fits) }
     requires sound { (p : P) (v : _) → has_instant (P.span_of p) ≡ true → P.fits p → FnReturnsAt F.Fn f p (Ok v) → IsOrdered D.start_of D.end_of v.items × AreInside (P.span_of p) v.items }
     ensures lifted { IfOk result (λ all. (ps : List P) × Drains I.next_gives parts ps × IsLifted D.value_of D.start_of D.end_of P.span_of (λ v. v.items) (λ p v. P.fits p × FnReturnsAt F.Fn f p (Ok v)) ps all.items) }
     ensures passed { (formula : Formula) → result ≡ Err (OpFault.Passed formula) → (ps : List P) × (t : I) × Yields I.next_gives parts ps t × FirstFault (λ p v. P.fits p × FnReturnsAt F.Fn f p (Ok v)) (λ p. P.fits p × FnReturnsAt F.Fn f p (Err (OpFault.Passed formula))) ps }

@@ -1,5 +1,5 @@
 pub mod Asked
-pub mod Each
+pub mod EachMark
 pub mod Examples
 pub mod Fronts
 pub mod Narrow

@@ -18,7 +18,8 @@ use Rattle.mob_typing.specs.Statements.{ScriptOut, StatementOut, nothing, new_ta
 use Rattle.mob_load.specs.Checks.{CheckParts, check_seen, literal, Mark, marks_of, marks_from, stands_before, up_to, in_order, checks_of}
 use Rattle.mob_load.specs.declared.check.Check.{Check}
 use Rattle.mob_load.specs.Loads.{Loaded, nothing_loaded, with_table as add_table, IsNarrow, AreNarrow, HasNarrow, columns_or_none}
-use Rattle.mob_load.proofs.Each.{each_both, each_mark}
+use Rattle.mob_load.proofs.EachMark.{each_mark}
+use Rattle.mob_typing.proofs.Rising.{each_both}
 
 -- what holds of each value that an answer can be
 on_bind : {A B : Type 0} (P : B → Type 0) (a : Result A Wrong) (f : A → Result B Wrong) → ((x : A) → a ≡ Ok x → (y : B) → f x ≡ Ok y → P y) → (y : B) → (a >>= f) ≡ Ok y → P y

@@ -10,7 +10,8 @@ use Rattle.mob_typing.specs.Statements.{StatementOut}
 use Rattle.mob_load.specs.declared.program.Program.{Program}
 use Rattle.mob_load.specs.Checks.{CheckParts, literal, table, room, file, Mark, marks_of, marks_from, stands_before, up_to, in_order, checks_of}
 use Rattle.mob_load.specs.Loads.{Loaded, Halt, Loads, Passes, Pours, literal_of, literals_in, Goes, one_row, greatest_rows, rows_at, nothing_loaded, LooksAtLiterals, ProgramHasValues}
-use Rattle.mob_load.proofs.Each.{each_both, each_mark}
+use Rattle.mob_load.proofs.EachMark.{each_mark}
+use Rattle.mob_typing.proofs.Rising.{each_both}
 
 -- marks that are no literals
 abbrev IsNoLiteral : Mark → Type 0

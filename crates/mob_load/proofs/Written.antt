@@ -9,7 +9,8 @@ use Rattle.mob_load.specs.Checks.{CheckParts, literal, Mark, bracket, marks_of, 
 use Rattle.mob_load.specs.Loads.{literal_of}
 use Rattle.mob_typing.specs.Written.{HasRisingRows, IsUpTo, LiteralUpTo, Rises}
 use Rattle.mob_load.specs.Order.{IsCutAt, LooksInOrder}
-use Rattle.mob_load.proofs.Each.{each_both, each_map, each_mark, each_on, one_of}
+use Rattle.mob_typing.proofs.Rising.{both_rise, each_both, each_map, each_on, one_of}
+use Rattle.mob_load.proofs.EachMark.{each_mark}
 use Rattle.mob_load.proofs.Marks.{own_mark}
 use Rattle.mob_load.proofs.Values.{NoLiterals, no_all}
 
@@ -162,16 +163,9 @@ all_stand n (s ∷ ss) =
     (each_on (StandsIn n) (StandsFrom n) (λ m is. omega arith) (marks_of n s) (own_stand n s))
     (each_on (StandsFrom (n + 1)) (StandsFrom n) (λ m le. omega arith) (marks_from (n + 1) ss) (all_stand (n + 1) ss))
 
--- marks of one statement, and then marks of later ones
-both_rise : (n : ℕ) (ms ks : List Mark) → Rises MarkUpTo ms → AllByRecursion (StandsIn n) ms → Rises MarkUpTo ks → AllByRecursion (StandsFrom (n + 1)) ks → Rises MarkUpTo (ms ++ ks)
-both_rise n [] ks h own k later = k
-both_rise n (m ∷ ms) ks h own k later =
-    let is = own.0 in
-    (each_both (MarkUpTo m) ms ks h.0 (each_on (StandsFrom (n + 1)) (MarkUpTo m) (λ x le. inl (omega arith)) ks later), both_rise n ms ks h.1 own.1 k later)
-
 all_rise : (n : ℕ) (ss : List StatementOut) → AllByRecursion HasRisingRows ss → Rises MarkUpTo (marks_from n ss)
 all_rise n [] h = tt
-all_rise n (s ∷ ss) h = both_rise n (marks_of n s) (marks_from (n + 1) ss) (own_rise n s h.0) (own_stand n s) (all_rise (n + 1) ss h.1) (all_stand (n + 1) ss)
+all_rise n (s ∷ ss) h = both_rise MarkUpTo (λ m. m.statement) (λ x y earlier. inl earlier) n (marks_of n s) (marks_from (n + 1) ss) (own_rise n s h.0) (own_stand n s) (all_rise (n + 1) ss h.1) (all_stand (n + 1) ss)
 
 pub looks_in_order : LooksInOrder
 looks_in_order out written before after m is =

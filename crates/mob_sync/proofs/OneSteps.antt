@@ -2,6 +2,7 @@
 use Rattle.std.specs.Prelude.{◌≡◌, true, List, [], ◌∷◌, refl, Some}
 use Rattle.std.proofs.Common.{ap, sym, ◌∙◌, subst, ⊎_elim}
 use Rattle.std.specs.Iterator.{Yields, Drains}
+use Rattle.std.specs.List.{AllByRecursion}
 use Rattle.mob_ratio.specs.Ratio.{Ratio}
 use Rattle.mob_span.specs.Span.{has}
 use Rattle.mob_span.specs.Neighbours.{is_clear}
@@ -10,7 +11,7 @@ use Rattle.mob_slice.specs.Slices.{slice_at, OfHead, Clear, IsOrdered}
 use Rattle.mob_slice.specs.Parts.{IsOneFit}
 use Rattle.mob_slice.specs.declared.slice.Slice.{Slice}
 use Rattle.mob_slice.specs.declared.part.One.{One}
-use Rattle.mob_slice.specs.Pieces.{Each, IsIn, PartsClear}
+use Rattle.mob_slice.specs.Pieces.{IsIn, PartsClear}
 use Rattle.mob_sync.specs.Ones.{IsOneStep, OneSteps, AreOnes}
 use Rattle.mob_sync.specs.declared.ones.Ones.{Ones}
 use Rattle.mob_sync.proofs.Pairs.{InOrder, ordered-in_order, later_at}
@@ -33,7 +34,7 @@ module _ {C X : Type 0} (start end : C → X) where
       let k = rest_ordered s.slices.now x.slice.now y.0.slices.now o y.1.next in
       (rw y.1.whole k.0.some, one_head s x y.0 xs t o y.1 y.2, ones_clear y.0 xs t k.2 y.2)
 
-  pub ones_fit : (s : Ones C) (xs : List (One C)) (t : Ones C) → IsOrdered start end s.slices.now → Yields OneSteps s xs t → Each (IsOneFit start end) xs
+  pub ones_fit : (s : Ones C) (xs : List (One C)) (t : Ones C) → IsOrdered start end s.slices.now → Yields OneSteps s xs t → AllByRecursion (IsOneFit start end) xs
   ones_fit s [] t o y = tt
   ones_fit s (x ∷ xs) t o y =
       let k = rest_ordered s.slices.now x.slice.now y.0.slices.now o y.1.next in

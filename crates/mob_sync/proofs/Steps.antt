@@ -2,6 +2,7 @@
 use Rattle.std.specs.Prelude.{◌≡◌, true, List, [], ◌∷◌, ◌++◌, Some}
 use Rattle.std.proofs.Common.{append-nil, ⊎_elim, sym, subst}
 use Rattle.std.specs.Iterator.{Yields, Drains}
+use Rattle.std.specs.List.{AllByRecursion}
 use Rattle.mob_ratio.specs.Ratio.{Ratio}
 use Rattle.mob_span.specs.Span.{SpanOf, has}
 use Rattle.mob_span.specs.Neighbours.{is_clear}
@@ -11,7 +12,7 @@ use Rattle.mob_slice.specs.Slices.{slice_at, OfHead, IsSound}
 use Rattle.mob_slice.specs.Parts.{IsPairFit}
 use Rattle.mob_slice.specs.declared.slice.Slice.{Slice}
 use Rattle.mob_slice.specs.declared.part.Pair.{Pair}
-use Rattle.mob_slice.specs.Pieces.{Each, IsIn, PartsClear, AllAfter}
+use Rattle.mob_slice.specs.Pieces.{IsIn, PartsClear, AllAfter}
 use Rattle.mob_sync.specs.Common.{both, IsCommon}
 use Rattle.mob_sync.specs.Walk.{IsWalkStep, WalkSteps}
 use Rattle.mob_sync.specs.declared.common.Common.{Common}
@@ -55,7 +56,7 @@ module _ {A B X Y : Type 0} (start end : A → X) (start' end' : B → Y) where
   walk_common s xs d = rw append-nil at (walked s xs d.1.0 d.1.1 [] d.1.2)
 
   -- the slices of each pair hold its span
-  pub walk_fits : (s : Common A B) (xs : List (Pair A B)) (t : Common A B) → Yields (WalkSteps start end start' end') s xs t → Each (IsPairFit start end start' end') xs
+  pub walk_fits : (s : Common A B) (xs : List (Pair A B)) (t : Common A B) → Yields (WalkSteps start end start' end') s xs t → AllByRecursion (IsPairFit start end start' end') xs
   walk_fits s [] t y = tt
   walk_fits s (x ∷ xs) t y = (y.1.fit, walk_fits y.0 xs t y.2)
 

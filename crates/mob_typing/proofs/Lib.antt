@@ -3,6 +3,7 @@ pub mod Examples
 pub mod ExpressionSteps
 pub mod Limits
 pub mod Matches
+pub mod Rising
 pub mod RowSteps
 pub mod TableExamples
 pub mod TreeFacts
