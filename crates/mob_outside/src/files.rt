@@ -223,8 +223,8 @@ fn find<'a>(files: &'a [(String, Vec<u8>)], name: &str) -> Option<&'a [u8]>
     None
 }
 
-/// The files of the current folder. They tell neither which files there are nor the names asked, and what the opened file has left
-/// where that file tells it. Contracts see them as a `Folder`.
+/// The files of the current folder. They tell neither which files there are nor the names asked; what the opened file has left they
+/// tell where that file does. Contracts see them as a `Folder`.
 #[derive(Drop)]
 pub struct DirFiles<D: Disk + Drop> {
     disk: D,
