@@ -1,3 +1,4 @@
+pub mod Cuts
 pub mod Expressions
 pub mod Forms
 pub mod Marks
