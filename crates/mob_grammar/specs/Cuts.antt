@@ -6,13 +6,14 @@ use Rattle.mob_grammar.specs.declared.mark.Mark.TheVariants.{Semicolon}
 use Rattle.mob_grammar.specs.Symbols.{Tok, is_sign}
 use Rattle.mob_grammar.specs.Scripts.{Statement, IsScript}
 use Rattle.mob_grammar.specs.Places.{IsWithin, statement_places}
+use Rattle.mob_grammar.specs.Held.{statement_held}
 
 -- how many `;` there are
 abbrev pub ends_among : List Tok → ℕ
 ends_among l = length (filter (is_sign Semicolon) l)
 
--- A statement is cut out behind n `;`: n of them stand before its own tokens, and none among these. Its own tokens say it, and its
--- literals and rows stand at them.
+-- A statement is cut out behind n `;`: n of them stand before its own tokens, and none among these. Its own tokens say it, its literals
+-- and rows stand at them in order, and all places that its tree holds are places of them.
 pub record IsCut (l : List Tok) (n : ℕ) (s : StatementParts) : Type 0 where
   pub before : List Tok
   pub own : List Tok
@@ -22,6 +23,7 @@ pub record IsCut (l : List Tok) (n : ℕ) (s : StatementParts) : Type 0 where
   pub whole : ends_among own ≡ 0
   pub says : Statement (own ++ behind) s behind
   pub places : IsWithin (statement_places s) (map (λ t. t.place) own)
+  pub held : AllByRecursion (λ p. IsWithin (p ∷ []) (map (λ t. t.place) own)) (statement_held s)
 
 -- a token stands at this place, and n `;` stand before it
 pub record StandsBehind (l : List Tok) (n place : ℕ) : Type 0 where
@@ -37,10 +39,10 @@ abbrev pub AreCut : List Tok → ℕ → List StatementParts → Type 0
 AreCut l n [] = Unit {0}
 AreCut l n (s ∷ ss) = IsCut l n s × AreCut l (n + 1) ss
 
--- the literals and the rows of the first of these statements stand behind n `;`, and those of each other behind one more
-abbrev pub StandBehind : List Tok → ℕ → List StatementParts → Type 0
-StandBehind l n [] = Unit {0}
-StandBehind l n (s ∷ ss) = AllByRecursion (StandsBehind l n) (statement_places s) × StandBehind l (n + 1) ss
+-- these places of the first of the statements stand behind n `;`, and those of each other behind one more
+abbrev pub StandBehind : (StatementParts → List ℕ) → List Tok → ℕ → List StatementParts → Type 0
+StandBehind places l n [] = Unit {0}
+StandBehind places l n (s ∷ ss) = AllByRecursion (StandsBehind l n) (places s) × StandBehind places l (n + 1) ss
 
 -- as many `;` stand before a statement of a script as there are statements before it
 abbrev pub StatementsAreCut : Type 0
@@ -48,4 +50,8 @@ StatementsAreCut = (l : List Tok) (x : List StatementParts) → IsScript l x →
 
 -- and so they stand before each of its literals and rows
 abbrev pub PlacesAreCut : Type 0
-PlacesAreCut = (l : List Tok) (x : List StatementParts) → IsScript l x → StandBehind l 0 x
+PlacesAreCut = (l : List Tok) (x : List StatementParts) → IsScript l x → StandBehind statement_places l 0 x
+
+-- and before each place that its tree holds
+abbrev pub HeldAreCut : Type 0
+HeldAreCut = (l : List Tok) (x : List StatementParts) → IsScript l x → StandBehind statement_held l 0 x
