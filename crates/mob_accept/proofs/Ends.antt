@@ -1,7 +1,7 @@
 -- Which tokens of a text are `;`, by their bytes and as the grammar sees them; and how many of them stand before a place.
 use Rattle.std.specs.Prelude.{◌&&◌, IfSome, option_map, filter, nat_lt, codes}
 use Rattle.std.specs.Str.{bytes_eq}
-use Rattle.std.proofs.Common.{◌≡◌, ◌<◌, ◌≤◌, ◌+◌, ◌-◌, ◌∙◌, ◌⊎◌, inl, inr, refl, sym, ap, ap₂, subst, arith, ℕ, zero, suc, List, [], ◌∷◌, ◌++◌, length, take, drop, cond, Bool, true, false, Option, Some, None, Result, Ok}
+use Rattle.std.proofs.Common.{◌≡◌, ◌<◌, ◌≤◌, ◌+◌, ◌-◌, ◌∙◌, ◌⊎◌, inl, inr, refl, sym, ap, ap₂, subst, arith, ℕ, zero, suc, List, [], ◌∷◌, ◌++◌, length, take, drop, append-nil, cond, Bool, true, false, Option, Some, None, Result, Ok}
 use Rattle.std.proofs.lemmas.Bool.{lt-ltb, le-ltb}
 use Rattle.std.proofs.Math.Bool.{and-false}
 use Rattle.std.proofs.lemmas.List.{drop-drop}
@@ -24,6 +24,8 @@ use Rattle.mob_grammar.proofs.Marks.{same_mark}
 use Rattle.mob_grammar.proofs.Steps.{told}
 use Rattle.mob_parse.specs.Tokens.{other_sign, sign_mark, word_symbol, piece, symbol_at, before_lexed, lexed}
 use Rattle.mob_parse.proofs.Reserved.{words_are_read}
+use Rattle.mob_parse.specs.Refusals.{semicolons, place_of}
+use Rattle.mob_built.proofs.Within.{ends_later}
 use Rattle.mob_built.specs.Words.{bytes_of, tokens_in, is_end_before, statement_at}
 
 -- the one text that is read as `;`
@@ -178,9 +180,38 @@ module _ (text : List ℕ) where
   count_before q e (t ∷ ts) before behind u order agree parts =
       count_one q e t ts (symbol_at text t.kind t.from t.to) before behind u order agree.0 parts (λ others same. count_before t.to e ts others behind u order.2 agree.1 same)
 
+  -- before the end of the text all of them stand
+  all_one : (q : ℕ) (t : Token) (ts : List Token) (o : Option Symbol) → InOrder q (length text) (t ∷ ts) → Agrees text t o → ends_before (length text) ts ≡ ends_among (lexed text ts)
+      → ends_before (length text) (t ∷ ts) ≡ ends_among (before_lexed t.from o (lexed text ts))
+  all_one q t ts None order own rest = passed_by (length text) t ts (ap (λ b. b && nat_lt t.from (length text)) own) ∙ rest
+  all_one q t ts (Some x) order own rest =
+      let long = ends_later t.to (length text) ts order.2 in one_more (length text) t ts x (record { symbol = x; place = t.from }) (lexed text ts) own.1 refl (omega (arith, own.0, long)) rest
+
+  count_all : (q : ℕ) (ts : List Token) → InOrder q (length text) ts → AllAgree text ts → ends_before (length text) ts ≡ ends_among (lexed text ts)
+  count_all q [] order agree = refl
+  count_all q (t ∷ ts) order agree = all_one q t ts (symbol_at text t.kind t.from t.to) order agree.0 (count_all t.to ts order.2 agree.1)
+
 -- the number of the statement of a place that stands behind n `;`
 pub behind_is : (text : List ℕ) (ts : List Token) (l : List Tok) (n p : ℕ) → tokens_of text ≡ Ok ts → l ≡ lexed text ts → StandsBehind l n p → statement_at text p ≡ 1 + n
 behind_is text ts l n p are lexes h =
     let counted = count_before text 0 (length text) ts h.before h.behind h.token (are_in_order text ts are) (tokens_agree text ts are) (sym lexes ∙ h.parts) in
     let all : tokens_in (tokens_of text) ≡ ts = ap tokens_in are in
     ap (λ us. 1 + length (filter (is_end_before text p) us)) all ∙ ap (λ q. 1 + ends_before text q ts) (sym h.here) ∙ ap (λ m. 1 + m) (counted ∙ h.number)
+
+-- the number of the statement of the place behind some tokens: that of the next token, or the end of the text
+pub place_behind : (text : List ℕ) (ts : List Token) (l before r : List Tok) → tokens_of text ≡ Ok ts → l ≡ lexed text ts → l ≡ before ++ r → statement_at text (place_of r (length text)) ≡ 1 + ends_among before
+place_behind text ts l before [] are lexes parts =
+    let counted = count_all text 0 ts (are_in_order text ts are) (tokens_agree text ts are) in
+    let all : tokens_in (tokens_of text) ≡ ts = ap tokens_in are in
+    ap (λ us. 1 + length (filter (is_end_before text (length text)) us)) all ∙ ap (λ m. 1 + m) (counted ∙ ap ends_among (sym lexes ∙ parts ∙ append-nil before))
+place_behind text ts l before (t ∷ r) are lexes parts = behind_is text ts l (ends_among before) t.place are lexes (record { before = before; token = t; behind = r; parts = parts; number = refl; here = refl })
+
+-- the count of `;` that refusals name
+pub semicolons_are : (l : List Tok) → semicolons l ≡ ends_among l
+semicolons_are [] = refl
+semicolons_are (t ∷ l) = elim (told (is_sign Semicolon t)) [
+  | inl yes_ ↦
+      let more : semicolons l + 1 ≡ suc (ends_among l) = omega (arith, semicolons_are l) in
+      ap (λ b. cond b (semicolons l + 1) (semicolons l)) yes_ ∙ more ∙ sym (ap (λ b. length (cond b (t ∷ filter (is_sign Semicolon) l) (filter (is_sign Semicolon) l))) yes_)
+  | inr no_ ↦ ap (λ b. cond b (semicolons l + 1) (semicolons l)) no_ ∙ semicolons_are l ∙ sym (ap (λ b. length (cond b (t ∷ filter (is_sign Semicolon) l) (filter (is_sign Semicolon) l))) no_)
+]

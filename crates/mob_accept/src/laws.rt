@@ -1,5 +1,5 @@
 //! What holds of every text of a script. No code runs here.
-ghost use Rattle.mob_accept.specs.Numbers.{TextIsNumbered, TreesAreNumbered, TypingKeepsNumbers};
+ghost use Rattle.mob_accept.specs.Numbers.{TextIsNumbered, TreesAreNumbered, TypingKeepsNumbers, WrongTokensAreNumbered};
 ghost use Rattle.mob_accept.specs.Outcomes.{HasOneScript, NeverTakenAndRefused, HasOneRefusal};
 ghost use Rattle.mob_accept.specs.Written.{AreWritten, TreesRise, TypingKeepsOrder};
 
@@ -28,4 +28,9 @@ pub fn text_is_numbered()
     ensures trees { TreesAreNumbered }
     ensures typing { TypingKeepsNumbers }
     ensures numbers { TextIsNumbered }
+{}
+
+/// A refusal of a token names the statement in which its place is.
+pub fn refusals_are_numbered()
+    ensures tokens { WrongTokensAreNumbered }
 {}
