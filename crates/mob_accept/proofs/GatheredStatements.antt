@@ -1,7 +1,7 @@
 -- The literals of a statement are gathered in written order, and its brackets are those of its rows.
 use Rattle.std.specs.Prelude.{IfOk, not, nat_le}
 use Rattle.std.specs.List.{AllByRecursion, flat_map}
-use Rattle.std.proofs.Common.{◌≤◌, ℕ, List, [], ◌∷◌, length, map, Option, Result, Ok, Err}
+use Rattle.std.proofs.Common.{ℕ, List, [], ◌∷◌, length, map, Option, Result, Ok, Err}
 use Rattle.mob_ast.specs.declared.types.Word.{Word}
 use Rattle.mob_ast.specs.declared.types.Quoted.{Quoted}
 use Rattle.mob_ast.specs.declared.types.TypeWord.{TypeWord}

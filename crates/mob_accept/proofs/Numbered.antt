@@ -1,7 +1,7 @@
 -- What typing numbers by statements stands so among the `;` tokens: the trees of a text are cut at them, and typing keeps to the trees.
 use Rattle.std.specs.Prelude.{IfOk}
 use Rattle.std.specs.List.{AllByRecursion}
-use Rattle.std.proofs.Common.{◌≡◌, ◌+◌, ◌∙◌, refl, sym, ap, subst, arith, inl, inr, ℕ, List, [], ◌∷◌, ◌++◌, length, take, drop, append_assoc, append-nil, Result, Ok, Err}
+use Rattle.std.proofs.Common.{◌≡◌, ◌+◌, ◌∙◌, sym, ap, subst, arith, inl, inr, ℕ, List, [], ◌∷◌, ◌++◌, length, take, drop, append_assoc, append-nil, Result, Ok, Err}
 use Rattle.std.proofs.lemmas.List.{take-append-drop}
 use Rattle.mob_ast.specs.declared.refusal.Kind.TheVariants.{Syntax, TooComplex}
 use Rattle.mob_ast.specs.declared.refusal.Refusal.{Refusal}
