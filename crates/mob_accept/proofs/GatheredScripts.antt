@@ -7,13 +7,14 @@ use Rattle.mob_ast.specs.Trees.{StatementParts}
 use Rattle.mob_typing.specs.declared.typed.ConstText.{ConstText}
 use Rattle.mob_typing.specs.Answers.{Wrong}
 use Rattle.mob_typing.specs.Names.{NameLists}
-use Rattle.mob_typing.specs.Statements.{Made, StatementOut, ScriptOut, in_statement, or_refused, typed_statement, typed_from, no_names}
+use Rattle.mob_typing.specs.Statements.{Made, StatementOut, nothing, new_table, new_index, new_rows, rows_from, query, plan_of, ScriptOut, in_statement, or_refused, typed_statement, typed_from, no_names}
 use Rattle.mob_typing.specs.Written.{HasRisingRows, LiteralUpTo, Rises}
 use Rattle.mob_grammar.specs.Places.{statement_places, script_places}
 use Rattle.mob_grammar.proofs.Within.{within_all, within_back, within_front}
+use Rattle.mob_accept.specs.Numbers.{brackets_of}
 use Rattle.mob_accept.specs.Written.{TypingKeepsOrder}
 use Rattle.mob_accept.proofs.Adds.{Adds, Belongs, Gathers, all_both, places_of}
-use Rattle.mob_accept.proofs.GatheredStatements.{AskedRise, rises_within, statement_gathers, statement_rises}
+use Rattle.mob_accept.proofs.GatheredStatements.{AskedWithin, rises_within, statement_gathers, statement_rows}
 
 -- places that rise
 abbrev pub Rising : List ℕ → Type 0
@@ -62,13 +63,22 @@ module _ (n : ℕ) (cs ds : List ConstText) (ps : List ℕ) (up : Rising ps) (ad
   }
   onward (Err e) h = tt
 
+rising_rows : (s : StatementOut) → Rising (brackets_of s) → HasRisingRows s
+rising_rows nothing h = tt
+rising_rows (new_table t name cs) h = tt
+rising_rows (new_index t c name) h = tt
+rising_rows (new_rows t rows places) h = h
+rising_rows (rows_from t file) h = tt
+rising_rows (query q) h = tt
+rising_rows (plan_of q) h = tt
+
 module _ (n : ℕ) (done : List StatementOut) (ss : List StatementParts) (cs : List ConstText) (ps : List ℕ) (up : Rising ps) (before : AllByRecursion HasRisingRows done) where
   -- one statement, and then those behind it
-  statement_stands : (r : Result (Made × List ConstText) Wrong) → Gathers n ps cs r → IfOk r AskedRise
+  statement_stands : (r : Result (Made × List ConstText) Wrong) → Gathers n ps cs r → IfOk r (AskedWithin ps)
       → ((names : NameLists) (all : List StatementOut) (ds : List ConstText) → AllByRecursion HasRisingRows all → IfOk (typed_from (n + 1) names all ss ds) (Stands (n + 1) ds))
       → IfOk (or_refused (in_statement n r) (λ r. typed_from (n + 1) r.0.names (done ++ r.0.statement ∷ []) ss r.1)) (Stands n cs)
   statement_stands (Ok x) gathers rows rest =
-      onward n cs x.1 ps up gathers (typed_from (n + 1) x.0.names (done ++ x.0.statement ∷ []) ss x.1) (rest x.0.names (done ++ x.0.statement ∷ []) x.1 (all_both HasRisingRows done (x.0.statement ∷ []) before (rows, tt)))
+      onward n cs x.1 ps up gathers (typed_from (n + 1) x.0.names (done ++ x.0.statement ∷ []) ss x.1) (rest x.0.names (done ++ x.0.statement ∷ []) x.1 (all_both HasRisingRows done (x.0.statement ∷ []) before (rising_rows x.0.statement (rises_within (λ p q. p ≤ q) rows up), tt)))
   statement_stands (Err w) gathers rows rest = tt
 
 script_stands : (n : ℕ) (names : NameLists) (done : List StatementOut) (ss : List StatementParts) (cs : List ConstText) → Rising (script_places ss) → AllByRecursion HasRisingRows done → IfOk (typed_from n names done ss cs) (Stands n cs)
@@ -76,7 +86,7 @@ script_stands n names done [] cs up before = record { new = []; is = sym (append
 script_stands n names done (s ∷ ss) cs up before =
     let own : Rising (statement_places s) = rises_within (λ p q. p ≤ q) (within_front (script_places ss) (within_all (statement_places s))) up in
     let others : Rising (script_places ss) = rises_within (λ p q. p ≤ q) (within_back (statement_places s) (within_all (script_places ss))) up in
-    statement_stands n done ss cs (statement_places s) own before (typed_statement n names s cs) (statement_gathers n names s cs) (statement_rises n names s cs own)
+    statement_stands n done ss cs (statement_places s) own before (typed_statement n names s cs) (statement_gathers n names s cs) (statement_rows n names s cs)
     (λ others_names all ds h. script_stands (n + 1) others_names all ss ds others h)
 
 pub typing_keeps_order : TypingKeepsOrder

@@ -1,4 +1,5 @@
 //! What holds of every text of a script. No code runs here.
+ghost use Rattle.mob_accept.specs.Numbers.{TextIsNumbered, TreesAreNumbered, TypingKeepsNumbers, WrongTokensAreNumbered};
 ghost use Rattle.mob_accept.specs.Outcomes.{HasOneScript, NeverTakenAndRefused, HasOneRefusal};
 ghost use Rattle.mob_accept.specs.Written.{AreWritten, TreesRise, TypingKeepsOrder};
 
@@ -19,4 +20,17 @@ pub fn text_is_written()
     ensures trees { TreesRise }
     ensures typing { TypingKeepsOrder }
     ensures order { AreWritten }
+{}
+
+/// A text that is taken is numbered by its `;` tokens: each literal is in the statement whose number it has, and each row in its
+/// statement. So are the trees of a text, and typing keeps their numbers.
+pub fn text_is_numbered()
+    ensures trees { TreesAreNumbered }
+    ensures typing { TypingKeepsNumbers }
+    ensures numbers { TextIsNumbered }
+{}
+
+/// A refusal of a token names the statement in which its place is.
+pub fn refusals_are_numbered()
+    ensures tokens { WrongTokensAreNumbered }
 {}

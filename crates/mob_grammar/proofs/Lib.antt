@@ -1,4 +1,5 @@
 pub mod Complete
+pub mod Cuts
 pub mod Lawful
 pub mod Marks
 pub mod Outcomes

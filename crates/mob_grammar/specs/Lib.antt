@@ -1,5 +1,7 @@
+pub mod Cuts
 pub mod Expressions
 pub mod Forms
+pub mod Held
 pub mod Marks
 pub mod Outcomes
 pub mod Places

@@ -1,0 +1,52 @@
+-- The number of a statement and a place say one thing: what typing numbers by statements stands so among the `;` tokens.
+use Rattle.std.specs.Prelude.{◌≡◌, ◌⊎◌, ◌+◌, ℕ, List, [], ◌∷◌, Ok}
+use Rattle.std.specs.List.{AllByRecursion}
+use Rattle.mob_ast.specs.Trees.{StatementParts}
+use Rattle.mob_ast.specs.declared.refusal.Kind.TheVariants.{Syntax, TooComplex}
+use Rattle.mob_ast.specs.declared.refusal.Refusal.{Refusal}
+use Rattle.mob_grammar.specs.Places.{statement_places}
+use Rattle.mob_grammar.specs.Held.{statement_held}
+use Rattle.mob_parse.specs.Refusals.{IsTreeOf}
+use Rattle.mob_typing.specs.Statements.{StatementOut, new_rows, ScriptOut, typed_script}
+use Rattle.mob_built.specs.Words.{statement_at}
+use Rattle.mob_accept.specs.Accepts.{IsAccepted, IsNoScript}
+
+-- this is the number of the statement that each of these places is in
+abbrev pub AreIn : List ℕ → ℕ → List ℕ → Type 0
+AreIn bytes n places = AllByRecursion (λ p. statement_at bytes p ≡ n) places
+
+-- these places of the first of the statements are in statement n, and those of each other in one more
+abbrev pub TreesAreIn : (StatementParts → List ℕ) → List ℕ → ℕ → List StatementParts → Type 0
+TreesAreIn places bytes n [] = Unit {0}
+TreesAreIn places bytes n (s ∷ ss) = AreIn bytes n (places s) × TreesAreIn places bytes (n + 1) ss
+
+-- the brackets of the rows of a typed statement
+abbrev pub brackets_of : StatementOut → List ℕ
+brackets_of (new_rows t rows places) = places
+brackets_of _ = []
+
+-- the rows of the first of these statements are in statement n, and those of each other in one more
+abbrev pub RowsAreIn : List ℕ → ℕ → List StatementOut → Type 0
+RowsAreIn bytes n [] = Unit {0}
+RowsAreIn bytes n (s ∷ ss) = AreIn bytes n (brackets_of s) × RowsAreIn bytes (n + 1) ss
+
+-- each literal is in the statement whose number it has, and each row in its statement
+pub record IsNumbered (bytes : List ℕ) (out : ScriptOut) : Type 0 where
+  pub literals : AllByRecursion (λ c. c.statement ≡ statement_at bytes c.place) out.consts
+  pub rows : RowsAreIn bytes 1 out.statements
+
+-- the literals and the rows of the trees of a text are in its statements, and so are all places that these trees hold
+abbrev pub TreesAreNumbered : Type 0
+TreesAreNumbered = (bytes : List ℕ) (trees : List StatementParts) → IsTreeOf bytes trees → TreesAreIn statement_places bytes 1 trees × TreesAreIn statement_held bytes 1 trees
+
+-- typing numbers by the trees
+abbrev pub TypingKeepsNumbers : Type 0
+TypingKeepsNumbers = (bytes : List ℕ) (trees : List StatementParts) (out : ScriptOut) → TreesAreIn statement_places bytes 1 trees → typed_script trees ≡ Ok out → IsNumbered bytes out
+
+-- a text that is taken is numbered by its `;` tokens
+abbrev pub TextIsNumbered : Type 0
+TextIsNumbered = (bytes : List ℕ) (out : ScriptOut) → IsAccepted bytes out → IsNumbered bytes out
+
+-- a refusal of a token that goes wrong, or at which an expression is too complex, names the statement of its place
+abbrev pub WrongTokensAreNumbered : Type 0
+WrongTokensAreNumbered = (bytes : List ℕ) (e : Refusal) → IsNoScript bytes e → (e.kind ≡ Syntax) ⊎ (e.kind ≡ TooComplex) → e.statement ≡ statement_at bytes e.place
