@@ -5,6 +5,7 @@ use Rattle.std.proofs.Common.{◌≡◌, ◌∙◌, refl, sym, ap, subst, ℕ, L
 use Rattle.std.proofs.lemmas.List.{map-append}
 use Rattle.mob_typing.specs.declared.typed.ConstText.{ConstText}
 use Rattle.mob_typing.specs.Answers.{Wrong, ◌>>=◌}
+use Rattle.mob_typing.proofs.Rising.{each_both}
 use Rattle.mob_grammar.specs.Places.{IsWithin, nothing, same}
 use Rattle.mob_grammar.proofs.Within.{within_both, within_trans}
 
@@ -21,10 +22,6 @@ pub record Adds (n : ℕ) (ps : List ℕ) (before after : List ConstText) : Type
   pub own : AllByRecursion (Belongs n) new
   pub within : IsWithin (places_of new) ps
 
-pub all_both : {A : Type 0} (P : A → Type 0) (xs ys : List A) → AllByRecursion P xs → AllByRecursion P ys → AllByRecursion P (xs ++ ys)
-all_both P [] ys h k = k
-all_both P (x ∷ xs) ys h k = (h.0, all_both P xs ys h.1 k)
-
 pub adds_none : (n : ℕ) (ps : List ℕ) (cs : List ConstText) → Adds n ps cs cs
 adds_none n ps cs = record { new = []; is = sym (append-nil cs); own = tt; within = nothing }
 
@@ -38,7 +35,7 @@ pub adds_both : (n : ℕ) (ps qs : List ℕ) (a b c : List ConstText) → Adds n
 adds_both n ps qs a b c h k = record {
   new = h.new ++ k.new;
   is = k.is ∙ ap (λ x. x ++ k.new) h.is ∙ append_assoc a h.new k.new;
-  own = all_both (Belongs n) h.new k.new h.own k.own;
+  own = each_both (Belongs n) h.new k.new h.own k.own;
   within = subst (λ qs'. IsWithin qs' (ps ++ qs)) (sym (map-append (λ c. c.place) h.new k.new)) (within_both h.within k.within);
 }
 

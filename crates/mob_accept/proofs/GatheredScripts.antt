@@ -9,11 +9,12 @@ use Rattle.mob_typing.specs.Answers.{Wrong}
 use Rattle.mob_typing.specs.Names.{NameLists}
 use Rattle.mob_typing.specs.Statements.{Made, StatementOut, nothing, new_table, new_index, new_rows, rows_from, query, plan_of, ScriptOut, in_statement, or_refused, typed_statement, typed_from, no_names}
 use Rattle.mob_typing.specs.Written.{HasRisingRows, LiteralUpTo, Rises}
+use Rattle.mob_typing.proofs.Rising.{both_rise, each_both, each_on}
 use Rattle.mob_grammar.specs.Places.{statement_places, script_places}
 use Rattle.mob_grammar.proofs.Within.{within_all, within_back, within_front}
 use Rattle.mob_accept.specs.Numbers.{brackets_of}
 use Rattle.mob_accept.specs.Written.{TypingKeepsOrder}
-use Rattle.mob_accept.proofs.Adds.{Adds, Belongs, Gathers, all_both, places_of}
+use Rattle.mob_accept.proofs.Adds.{Adds, Belongs, Gathers, places_of}
 use Rattle.mob_accept.proofs.GatheredStatements.{AskedWithin, rises_within, statement_gathers, statement_rows}
 
 -- places that rise
@@ -23,10 +24,6 @@ Rising ps = Rises (λ p q. p ≤ q) ps
 abbrev BelongsFrom : ℕ → ConstText → Type 0
 BelongsFrom n c = n ≤ c.statement
 
-pub all_on : {A : Type 0} (P Q : A → Type 0) → ((x : A) → P x → Q x) → (xs : List A) → AllByRecursion P xs → AllByRecursion Q xs
-all_on P Q on [] h = tt
-all_on P Q on (x ∷ xs) h = (on x h.0, all_on P Q on xs h.1)
-
 -- literals of one statement rise with their places
 all_literals : (n : ℕ) (c : ConstText) (cs : List ConstText) → Belongs n c → AllByRecursion (Belongs n) cs → AllByRecursion (λ p. c.place ≤ p) (places_of cs) → AllByRecursion (LiteralUpTo c) cs
 all_literals n c [] is own up = tt
@@ -35,13 +32,6 @@ all_literals n c (d ∷ cs) is own up = (inr (is ∙ sym own.0, up.0), all_liter
 own_rise : (n : ℕ) (cs : List ConstText) → AllByRecursion (Belongs n) cs → Rising (places_of cs) → Rises LiteralUpTo cs
 own_rise n [] own up = tt
 own_rise n (c ∷ cs) own up = (all_literals n c cs own.0 own.1 up.0, own_rise n cs own.1 up.1)
-
--- literals of one statement, and then those of later ones
-both_rise : (n : ℕ) (cs ds : List ConstText) → Rises LiteralUpTo cs → AllByRecursion (Belongs n) cs → Rises LiteralUpTo ds → AllByRecursion (BelongsFrom (n + 1)) ds → Rises LiteralUpTo (cs ++ ds)
-both_rise n [] ds h own k later = k
-both_rise n (c ∷ cs) ds h own k later =
-    let is = own.0 in
-    (all_both (LiteralUpTo c) cs ds h.0 (all_on (BelongsFrom (n + 1)) (LiteralUpTo c) (λ d le. inl (omega arith)) ds later), both_rise n cs ds h.1 own.1 k later)
 
 -- what the statements from the one of number n on add: literals that rise, and brackets that rise
 record Stands (n : ℕ) (before : List ConstText) (out : ScriptOut) : Type 0 where
@@ -56,9 +46,9 @@ module _ (n : ℕ) (cs ds : List ConstText) (ps : List ℕ) (up : Rising ps) (ad
   onward (Ok out) h = record {
     new = adds.new ++ h.new;
     is = h.is ∙ ap (λ x. x ++ h.new) adds.is ∙ append_assoc cs adds.new h.new;
-    rises = both_rise n adds.new h.new (own_rise n adds.new adds.own (rises_within (λ p q. p ≤ q) adds.within up)) adds.own h.rises h.later;
+    rises = both_rise LiteralUpTo (λ c. c.statement) (λ c d earlier. inl earlier) n adds.new h.new (own_rise n adds.new adds.own (rises_within (λ p q. p ≤ q) adds.within up)) adds.own h.rises h.later;
     later =
-        all_both (BelongsFrom n) adds.new h.new (all_on (Belongs n) (BelongsFrom n) (λ c is. omega arith) adds.new adds.own) (all_on (BelongsFrom (n + 1)) (BelongsFrom n) (λ c le. omega arith) h.new h.later);
+        each_both (BelongsFrom n) adds.new h.new (each_on (Belongs n) (BelongsFrom n) (λ c is. omega arith) adds.new adds.own) (each_on (BelongsFrom (n + 1)) (BelongsFrom n) (λ c le. omega arith) h.new h.later);
     rows = h.rows;
   }
   onward (Err e) h = tt
@@ -78,7 +68,7 @@ module _ (n : ℕ) (done : List StatementOut) (ss : List StatementParts) (cs : L
       → ((names : NameLists) (all : List StatementOut) (ds : List ConstText) → AllByRecursion HasRisingRows all → IfOk (typed_from (n + 1) names all ss ds) (Stands (n + 1) ds))
       → IfOk (or_refused (in_statement n r) (λ r. typed_from (n + 1) r.0.names (done ++ r.0.statement ∷ []) ss r.1)) (Stands n cs)
   statement_stands (Ok x) gathers rows rest =
-      onward n cs x.1 ps up gathers (typed_from (n + 1) x.0.names (done ++ x.0.statement ∷ []) ss x.1) (rest x.0.names (done ++ x.0.statement ∷ []) x.1 (all_both HasRisingRows done (x.0.statement ∷ []) before (rising_rows x.0.statement (rises_within (λ p q. p ≤ q) rows up), tt)))
+      onward n cs x.1 ps up gathers (typed_from (n + 1) x.0.names (done ++ x.0.statement ∷ []) ss x.1) (rest x.0.names (done ++ x.0.statement ∷ []) x.1 (each_both HasRisingRows done (x.0.statement ∷ []) before (rising_rows x.0.statement (rises_within (λ p q. p ≤ q) rows up), tt)))
   statement_stands (Err w) gathers rows rest = tt
 
 script_stands : (n : ℕ) (names : NameLists) (done : List StatementOut) (ss : List StatementParts) (cs : List ConstText) → Rising (script_places ss) → AllByRecursion HasRisingRows done → IfOk (typed_from n names done ss cs) (Stands n cs)

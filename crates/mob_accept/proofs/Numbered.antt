@@ -21,15 +21,15 @@ use Rattle.mob_typing.specs.Names.{NameLists}
 use Rattle.mob_typing.specs.Statements.{Made, StatementOut, ScriptOut, in_statement, or_refused, typed_statement, typed_from, no_names}
 use Rattle.mob_built.specs.Words.{statement_at}
 use Rattle.mob_accept.specs.Numbers.{AreIn, TreesAreIn, brackets_of, RowsAreIn, TreesAreNumbered, TypingKeepsNumbers, TextIsNumbered, WrongTokensAreNumbered}
-use Rattle.mob_accept.proofs.Adds.{Adds, Belongs, Gathers, all_both, places_of}
+use Rattle.mob_typing.proofs.Rising.{each_both, each_on}
+use Rattle.mob_accept.proofs.Adds.{Adds, Belongs, Gathers, places_of}
 use Rattle.mob_accept.proofs.Ends.{behind_is, place_behind, semicolons_are}
-use Rattle.mob_accept.proofs.GatheredScripts.{all_on}
 use Rattle.mob_accept.proofs.GatheredStatements.{AskedWithin, all_within, statement_gathers, statement_rows}
 
 module _ (bytes : List ℕ) (ts : List Token) (l : List Tok) (are : tokens_of bytes ≡ Ok ts) (is : l ≡ lexed bytes ts) (places : StatementParts → List ℕ) where
   trees_in : (n : ℕ) (ss : List StatementParts) → StandBehind places l n ss → TreesAreIn places bytes (n + 1) ss
   trees_in n [] h = tt
-  trees_in n (s ∷ ss) h = (all_on (StandsBehind l n) (λ p. statement_at bytes p ≡ n + 1) (λ p b. behind_is bytes ts l n p are is b ∙ omega arith) (places s) h.0, trees_in (n + 1) ss h.1)
+  trees_in n (s ∷ ss) h = (each_on (StandsBehind l n) (λ p. statement_at bytes p ≡ n + 1) (λ p b. behind_is bytes ts l n p are is b ∙ omega arith) (places s) h.0, trees_in (n + 1) ss h.1)
 
 pub trees_are_numbered : TreesAreNumbered
 trees_are_numbered bytes x (u, (l, (ts, are, is), d)) = (trees_in bytes ts l are is statement_places 0 x (places_are_cut l x d), trees_in bytes ts l are is statement_held 0 x (held_are_cut l x d))
@@ -56,7 +56,7 @@ module _ (bytes : List ℕ) where
     onward (Ok out) h = record {
       new = adds.new ++ h.new;
       is = h.is ∙ ap (λ x. x ++ h.new) adds.is ∙ append_assoc cs adds.new h.new;
-      own = all_both IsOwn adds.new h.new (literals_own n adds.new adds.own (all_within (λ p. statement_at bytes p ≡ n) adds.within at)) h.own;
+      own = each_both IsOwn adds.new h.new (literals_own n adds.new adds.own (all_within (λ p. statement_at bytes p ≡ n) adds.within at)) h.own;
       made = s ∷ h.made;
       all = h.all ∙ append_assoc done (s ∷ []) h.made;
       rows = (all_within (λ p. statement_at bytes p ≡ n) rows at, h.rows);

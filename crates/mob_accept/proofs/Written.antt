@@ -7,7 +7,8 @@ use Rattle.mob_chars.specs.Layout.{InOrder}
 use Rattle.mob_chars.proofs.Along.{are_in_order}
 use Rattle.mob_parse.proofs.Places.{stands_in_text}
 use Rattle.mob_accept.specs.Written.{AreWritten, TreesRise}
-use Rattle.mob_accept.proofs.GatheredScripts.{Rising, all_on, typing_keeps_order}
+use Rattle.mob_typing.proofs.Rising.{each_on}
+use Rattle.mob_accept.proofs.GatheredScripts.{Rising, typing_keeps_order}
 use Rattle.mob_accept.proofs.GatheredStatements.{rises_within}
 
 abbrev begins : List Token → List ℕ
@@ -18,13 +19,13 @@ begin_from p e [] h = tt
 begin_from p e (t ∷ ts) h =
     let first = h.0 in
     let goes_on = h.1 in
-    (first, all_on (λ q. t.to ≤ q) (λ q. p ≤ q) (λ q le. omega arith) (begins ts) (begin_from t.to e ts h.2))
+    (first, each_on (λ q. t.to ≤ q) (λ q. p ≤ q) (λ q le. omega arith) (begins ts) (begin_from t.to e ts h.2))
 
 begins_rise : (p e : ℕ) (ts : List Token) → InOrder p e ts → Rising (begins ts)
 begins_rise p e [] h = tt
 begins_rise p e (t ∷ ts) h =
     let goes_on = h.1 in
-    (all_on (λ q. t.to ≤ q) (λ q. t.from ≤ q) (λ q le. omega arith) (begins ts) (begin_from t.to e ts h.2), begins_rise t.to e ts h.2)
+    (each_on (λ q. t.to ≤ q) (λ q. t.from ≤ q) (λ q le. omega arith) (begins ts) (begin_from t.to e ts h.2), begins_rise t.to e ts h.2)
 
 pub trees_rise : TreesRise
 trees_rise bytes x (u, (l, (ts, are, is), d)) = rises_within (λ p q. p ≤ q) (stands_in_text bytes x ts (u, (l, (ts, are, is), d)) are) (begins_rise 0 _ ts (are_in_order bytes ts are))
