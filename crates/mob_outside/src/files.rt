@@ -32,7 +32,7 @@ pub trait Files {
     /// How many calls have failed. It never falls.
     ghost faults: { Self → ℕ };
 
-    /// Opens a file at its start. A name that is not there is a fault. After a fault no file is open.
+    /// Opens a file at its start. A name that is not there is a fault. After a fault nothing can be taken until a file is opened.
     fn open(&mut self, name: &str) -> Result<(), Failed>
         ensures files { KeepsFiles (files self.old) (files self.new) }
         ensures asked { OnOk result (AsksFor name.now (asked self.old) (asked self.new)) }
@@ -42,7 +42,7 @@ pub trait Files {
         ensures cause { HasCause (faults self.old) (faults self.new) result };
 
     /// Moves the first bytes that the opened file has left to the front of `into`, and answers how many. That is 0 only
-    /// at the end. After a fault no file is open.
+    /// at the end. After a fault nothing can be taken until a file is opened.
     fn take(&mut self, into: &mut [u8]) -> Result<usize, Failed>
         requires ready { is_ready self.old ≡ true }
         requires room { 0 < length into.old }
@@ -251,6 +251,23 @@ impl<D: Disk + Drop> DirFiles<D> {
             faults: 0,
         }
     }
+
+    // Holds the file that was opened now, or none, in place of the one before it.
+    fn hold(&mut self, opened: Option<D::File>) -> Result<(), Failed>
+        ensures told { self.new.told ≡ left_of D.File.remaining opened }
+        ensures opened { is_ok result ≡ is_some opened }
+        ensures ready { self.new.is_ready ≡ is_ok result }
+        ensures cause { HasCause self.old.faults self.new.faults result }
+        ensures counts { CountsFaults self.old.faults self.new.faults result }
+    {
+        self.file = opened;
+        self.ready = self.file.is_some();
+        if self.ready {
+            return Ok(());
+        }
+        self.faults = self.faults.saturating_add(1);
+        Err(Failed)
+    }
 }
 
 impl<D: Disk + Drop> Files for DirFiles<D> {
@@ -270,13 +287,8 @@ impl<D: Disk + Drop> Files for DirFiles<D> {
         ensures cause { HasCause self.old.faults self.new.faults result }
         ensures counts { CountsFaults self.old.faults self.new.faults result }
     {
-        self.file = fs::open(&self.disk, name).ok();
-        self.ready = self.file.is_some();
-        if self.ready {
-            return Ok(());
-        }
-        self.faults = self.faults.saturating_add(1);
-        Err(Failed)
+        let opened = fs::open(&self.disk, name).ok();
+        self.hold(opened)
     }
 
     /// As all files; counts the calls that failed and no other.

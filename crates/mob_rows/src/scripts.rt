@@ -142,7 +142,11 @@ const TAKEN: [(&str, &str); 16] = [
 ];
 
 // A script that is refused, and the line of its note.
-const REFUSED: [(&str, &str); 13] = [
+const REFUSED: [(&str, &str); 14] = [
+    (
+        "SELECT int '1', int 'x', bool 'maybe';",
+        "statement 1, byte 20: refusal 14 (BadLiteral)\n",
+    ),
     (
         "SELECT tint '[1@2001-01-01, 2@2001-01-02)';",
         "statement 1, byte 12: refusal 14 (BadLiteral)\n",

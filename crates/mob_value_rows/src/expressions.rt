@@ -206,7 +206,7 @@ fn printed(alloc: Global, value: &Value) -> Result<String, AllocError> {
     Ok(field)
 }
 
-// Whether a value is the one that is wanted: each value of a variant prints in its own way.
+// Whether a value is the one that is wanted. All values here print, each of a variant in its own way.
 fn is(alloc: Global, value: &Value, wanted: &Value) -> bool {
     match (printed(alloc, value), printed(alloc, wanted)) {
         (Ok(shown), Ok(text)) => is_same_variant(value, wanted) && shown == text,

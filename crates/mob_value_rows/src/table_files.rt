@@ -126,6 +126,8 @@ fn literals_are_refused_at_their_places(rt: HostRuntime) -> Result<(), Fail> {
     for (fault, kind) in [
         (ReadText::Limit, Some(Kind::Limit)),
         (ReadText::NotText, Some(Kind::BadLiteral)),
+        (ReadText::TooLarge, Some(Kind::BadLiteral)),
+        (ReadText::Unsound, Some(Kind::BadLiteral)),
         (ReadText::NoMemory, None),
     ] {
         let refusal = kind.map(|kind| Refusal {
