@@ -4,7 +4,7 @@ use Rattle.std.specs.List.{AllByRecursion}
 use Rattle.std.proofs.Common.{◌≡◌, ◌∙◌, refl, sym, ap, subst, ℕ, List, [], ◌∷◌, ◌++◌, map, append_assoc, append-nil, Result, Ok, Err}
 use Rattle.std.proofs.lemmas.List.{map-append}
 use Rattle.mob_typing.specs.declared.typed.ConstText.{ConstText}
-use Rattle.mob_typing.specs.Answers.{Wrong, ◌>>=◌}
+use Rattle.mob_typing.specs.Answers.{Mistake, ◌>>=◌}
 use Rattle.mob_typing.proofs.Rising.{each_both}
 use Rattle.mob_grammar.specs.Places.{IsWithin, nothing, same}
 use Rattle.mob_grammar.proofs.Within.{within_both, within_trans}
@@ -40,26 +40,26 @@ adds_both n ps qs a b c h k = record {
 }
 
 -- the same for a step that may go wrong
-abbrev pub Gathers : {A : Type 0} → ℕ → List ℕ → List ConstText → Result (A × List ConstText) Wrong → Type 0
+abbrev pub Gathers : {A : Type 0} → ℕ → List ℕ → List ConstText → Result (A × List ConstText) Mistake → Type 0
 Gathers n ps cs r = IfOk r (λ x. Adds n ps cs x.1)
 
-pub guard : {A B : Type 0} (P : B → Type 0) (r : Result A Wrong) (f : A → Result B Wrong) → ((x : A) → IfOk (f x) P) → IfOk (r >>= f) P
+pub guard : {A B : Type 0} (P : B → Type 0) (r : Result A Mistake) (f : A → Result B Mistake) → ((x : A) → IfOk (f x) P) → IfOk (r >>= f) P
 guard P (Ok x) f h = h x
 guard P (Err w) f h = tt
 
 module _ {B : Type 0} (n : ℕ) where
-  pub gathers_more : (ps qs : List ℕ) (cs ds : List ConstText) (r : Result (B × List ConstText) Wrong) → Adds n ps cs ds → Gathers n qs ds r → Gathers n (ps ++ qs) cs r
+  pub gathers_more : (ps qs : List ℕ) (cs ds : List ConstText) (r : Result (B × List ConstText) Mistake) → Adds n ps cs ds → Gathers n qs ds r → Gathers n (ps ++ qs) cs r
   gathers_more ps qs cs ds (Ok x) h k = adds_both n ps qs cs ds x.1 h k
   gathers_more ps qs cs ds (Err w) h k = tt
 
-  pub gathers_within : (ps qs : List ℕ) (cs : List ConstText) (r : Result (B × List ConstText) Wrong) → IsWithin ps qs → Gathers n ps cs r → Gathers n qs cs r
+  pub gathers_within : (ps qs : List ℕ) (cs : List ConstText) (r : Result (B × List ConstText) Mistake) → IsWithin ps qs → Gathers n ps cs r → Gathers n qs cs r
   gathers_within ps qs cs (Ok x) w h = adds_within n ps qs cs x.1 w h
   gathers_within ps qs cs (Err e) w h = tt
 
-  pub bind : {A : Type 0} (ps qs : List ℕ) (cs : List ConstText) (r : Result (A × List ConstText) Wrong) (f : A × List ConstText → Result (B × List ConstText) Wrong) → Gathers n ps cs r → ((x : A × List ConstText) → Gathers n qs x.1 (f x)) → Gathers n (ps ++ qs) cs (r >>= f)
+  pub bind : {A : Type 0} (ps qs : List ℕ) (cs : List ConstText) (r : Result (A × List ConstText) Mistake) (f : A × List ConstText → Result (B × List ConstText) Mistake) → Gathers n ps cs r → ((x : A × List ConstText) → Gathers n qs x.1 (f x)) → Gathers n (ps ++ qs) cs (r >>= f)
   bind ps qs cs (Ok x) f h k = gathers_more ps qs cs x.1 (f x) h (k x)
   bind ps qs cs (Err w) f h k = tt
 
   -- what follows adds nothing
-  pub only : {A : Type 0} (ps : List ℕ) (cs : List ConstText) (r : Result (A × List ConstText) Wrong) (f : A × List ConstText → Result (B × List ConstText) Wrong) → Gathers n ps cs r → ((x : A × List ConstText) → Gathers n [] x.1 (f x)) → Gathers n ps cs (r >>= f)
+  pub only : {A : Type 0} (ps : List ℕ) (cs : List ConstText) (r : Result (A × List ConstText) Mistake) (f : A × List ConstText → Result (B × List ConstText) Mistake) → Gathers n ps cs r → ((x : A × List ConstText) → Gathers n [] x.1 (f x)) → Gathers n ps cs (r >>= f)
   only ps cs r f h k = subst (λ qs. Gathers n qs cs (r >>= f)) (append-nil ps) (bind ps [] cs r f h k)

@@ -7,15 +7,15 @@ use Rattle.mob_ast.specs.declared.refusal.Kind.TheVariants.{NotUtf8, Lexical, Sy
 use Rattle.mob_ast.specs.declared.refusal.Refusal.{Refusal}
 use Rattle.mob_ast.specs.Kinds.{no_memory}
 use Rattle.mob_ast.specs.Trees.{StatementParts, script_of}
-use Rattle.mob_parse.specs.Refusals.{Cause, IsTreeOf, IsRefused as HasNoTree}
+use Rattle.mob_parse.specs.Refusals.{Cause, IsTreeOf, ParsesToRefusal as HasNoTree}
 use Rattle.mob_parse.proofs.Refused.{no_tree}
-use Rattle.mob_typing.specs.Statements.{ScriptOut, typed_script, Refuses}
+use Rattle.mob_typing.specs.Statements.{ScriptOut, typed_script, IsTypingRefusal}
 use Rattle.mob_built.specs.Least.{earlier, least}
 use Rattle.mob_built.specs.Words.{unbuilt_words}
 use Rattle.mob_built.specs.Types.{unbuilt_types}
 use Rattle.mob_built.specs.Operators.{unbuilt_operators}
 use Rattle.mob_built.proofs.Places.{least_append}
-use Rattle.mob_accept.specs.Accepts.{HasTrees, IsAccepted, IsTooLong, IsNotBuiltAt, IsRefused, script_limit, unbuilt_places}
+use Rattle.mob_accept.specs.Accepts.{HasTrees, IsAccepted, IsTooLong, IsNotBuiltAt, IsRefusedWith, script_limit, unbuilt_places}
 
 -- a refusal of the parser is want of memory, or another
 split : (k : Kind) (n p : ℕ) (bytes : List ℕ) → Cause k bytes (record { kind = k; statement = n; place = p }) → (◌≡◌ {A = Refusal} (record { kind = k; statement = n; place = p }) no_memory) ⊎ (k ≢ NoMemory)
@@ -26,7 +26,7 @@ split Syntax n p bytes h = inr (λ e. cc)
 split TooComplex n p bytes h = inr (λ e. cc)
 split _ n p bytes h = absurd h
 
-pub no_script : (bytes : List ℕ) (e : Refusal) → length bytes ≤ script_limit → HasNoTree bytes e → IsRefused bytes e
+pub no_script : (bytes : List ℕ) (e : Refusal) → length bytes ≤ script_limit → HasNoTree bytes e → IsRefusedWith bytes e
 no_script bytes e short cause = elim (split e.kind e.statement e.place bytes cause) [
   | inl none ↦ inl none
   | inr other ↦ inr (
@@ -35,7 +35,7 @@ no_script bytes e short cause = elim (split e.kind e.statement e.place bytes cau
   )
 ]
 
-pub too_long : (bytes : List ℕ) (e : Refusal) → IsTooLong bytes e → IsRefused bytes e
+pub too_long : (bytes : List ℕ) (e : Refusal) → IsTooLong bytes e → IsRefusedWith bytes e
 too_long bytes e h = inr (inl h, λ out g. let short = g.script.read.short in let long = h.long in absurd (omega arith))
 
 -- what holds of one answer of the parser holds of it in other words
@@ -43,7 +43,7 @@ pub only_read : (bytes : List ℕ) (r : Result Script Refusal) → IfOk r (λ s.
 only_read bytes (Ok s) h = λ x g. h x g.tree
 only_read bytes (Err e) h = tt
 
-pub none_read : (bytes : List ℕ) (r : Result Script Refusal) → length bytes ≤ script_limit → IfErr r (HasNoTree bytes) → IfErr r (IsRefused bytes)
+pub none_read : (bytes : List ℕ) (r : Result Script Refusal) → length bytes ≤ script_limit → IfErr r (HasNoTree bytes) → IfErr r (IsRefusedWith bytes)
 none_read bytes (Ok s) short h = tt
 none_read bytes (Err e) short h = no_script bytes e short h
 
@@ -52,7 +52,7 @@ pub record IsRead (bytes : List ℕ) (trees : List StatementParts) : Type 0 wher
   pub read : HasTrees bytes trees
   pub only : (x : List StatementParts) → HasTrees bytes x → x ≡ trees
 
-pub wrong_name : (bytes : List ℕ) (trees : List StatementParts) → IsRead bytes trees → (e : Refusal) → Refuses e (typed_script trees) → IsRefused bytes e
+pub wrong_name : (bytes : List ℕ) (trees : List StatementParts) → IsRead bytes trees → (e : Refusal) → IsTypingRefusal e (typed_script trees) → IsRefusedWith bytes e
 wrong_name bytes trees h e wrong = elim wrong [
   | inl none ↦ inl none
   | inr first ↦ inr (
@@ -81,7 +81,7 @@ least_none [] e = refl
 least_none (p ∷ ps) e = absurd (some-earlier p (least ps) e)
 
 pub not_built : (bytes text : List ℕ) (trees : List StatementParts) (out : ScriptOut) (place : ℕ) (e : Refusal) → IsRead bytes trees → typed_script trees ≡ Ok out → text ≡ bytes → least (unbuilt_places bytes trees out) ≡ Some place
-    → (e ≡ no_memory) ⊎ IsNotBuiltAt text place e → IsRefused bytes e
+    → (e ≡ no_memory) ⊎ IsNotBuiltAt text place e → IsRefusedWith bytes e
 not_built bytes text trees out place e h typed same first says = elim says [
   | inl none ↦ inl none
   | inr here ↦ inr (

@@ -17,7 +17,7 @@ use Rattle.mob_chars.proofs.Sizes.{token_within}
 use Rattle.mob_chars.proofs.Along.{are_laid, are_in_order}
 use Rattle.mob_grammar.specs.declared.mark.Mark.{Mark}
 use Rattle.mob_grammar.specs.declared.mark.Mark.TheVariants.{NotEqual, Dot, Semicolon}
-use Rattle.mob_grammar.specs.Marks.{text_of, is, is_word, signs}
+use Rattle.mob_grammar.specs.Marks.{mark_text, is, is_reserved_word, sign_marks}
 use Rattle.mob_grammar.specs.Symbols.{Symbol, fixed, name, number, quoted, Tok, is_mark, is_sign}
 use Rattle.mob_grammar.specs.Cuts.{ends_among, StandsBehind}
 use Rattle.mob_grammar.proofs.Marks.{same_mark}
@@ -26,22 +26,22 @@ use Rattle.mob_parse.specs.Tokens.{other_sign, sign_mark, word_symbol, piece, sy
 use Rattle.mob_parse.proofs.Reserved.{words_are_read}
 use Rattle.mob_parse.specs.Refusals.{semicolons, place_of}
 use Rattle.mob_built.proofs.Within.{ends_later}
-use Rattle.mob_built.specs.Words.{bytes_of, tokens_in, is_end_before, statement_at}
+use Rattle.mob_built.specs.Words.{bytes_of, tokens_in, is_end_before, statement_number}
 
 -- the one text that is read as `;`
-other_found : (ms : List Mark) (s : List ℕ) (m : Mark) → other_sign ms s ≡ m → (m ≡ Dot) ⊎ (text_of m ≡ s)
+other_found : (ms : List Mark) (s : List ℕ) (m : Mark) → other_sign ms s ≡ m → (m ≡ Dot) ⊎ (mark_text m ≡ s)
 other_found [] s m e = inl (sym e)
-other_found (k ∷ ms) s m e = elim (told (bytes_eq (text_of k) s)) [
+other_found (k ∷ ms) s m e = elim (told (bytes_eq (mark_text k) s)) [
   | inl yes_ ↦
       let same : k ≡ m = sym (ap (λ b. cond b k (other_sign ms s)) yes_) ∙ e in
-      inr (subst (λ g. text_of g ≡ s) same ((bytes_eq-Decides (text_of k) s).0 yes_))
+      inr (subst (λ g. mark_text g ≡ s) same ((bytes_eq-Decides (mark_text k) s).0 yes_))
   | inr no_ ↦ other_found ms s m (sym (ap (λ b. cond b k (other_sign ms s)) no_) ∙ e)
 ]
 
 sign_found : (s : List ℕ) → sign_mark s ≡ Semicolon → s ≡ codes ";"
 sign_found s e = elim (told (bytes_eq s (codes "!="))) [
-  | inl yes_ ↦ let other : NotEqual ≡ Semicolon = sym (ap (λ b. cond b NotEqual (other_sign signs s)) yes_) ∙ e in absurd cc
-  | inr no_ ↦ elim (other_found signs s Semicolon (sym (ap (λ b. cond b NotEqual (other_sign signs s)) no_) ∙ e)) [ inl dot ↦ absurd cc | inr same ↦ sym same ]
+  | inl yes_ ↦ let other : NotEqual ≡ Semicolon = sym (ap (λ b. cond b NotEqual (other_sign sign_marks s)) yes_) ∙ e in absurd cc
+  | inr no_ ↦ elim (other_found sign_marks s Semicolon (sym (ap (λ b. cond b NotEqual (other_sign sign_marks s)) no_) ∙ e)) [ inl dot ↦ absurd cc | inr same ↦ sym same ]
 ]
 
 sign_agrees : (s : List ℕ) → bytes_eq s (codes ";") ≡ is (sign_mark s) Semicolon
@@ -58,7 +58,7 @@ sign_agrees s = elim (told (bytes_eq s (codes ";"))) [
 -- no word is read as `;`
 word_inside : (s : List ℕ) (x : Symbol) → word_symbol s ≡ x → is_mark Semicolon x ≡ false
 word_inside s (fixed g) e = elim (told (is g Semicolon)) [
-  | inl yes_ ↦ let word : is_word Semicolon ≡ true = ((words_are_read s Semicolon).0 (e ∙ ap fixed (same_mark g Semicolon yes_))).0 in absurd cc
+  | inl yes_ ↦ let word : is_reserved_word Semicolon ≡ true = ((words_are_read s Semicolon).0 (e ∙ ap fixed (same_mark g Semicolon yes_))).0 in absurd cc
   | inr no_ ↦ no_
 ]
 word_inside s (name n) e = refl
@@ -192,14 +192,14 @@ module _ (text : List ℕ) where
   count_all q (t ∷ ts) order agree = all_one q t ts (symbol_at text t.kind t.from t.to) order agree.0 (count_all t.to ts order.2 agree.1)
 
 -- the number of the statement of a place that stands behind n `;`
-pub behind_is : (text : List ℕ) (ts : List Token) (l : List Tok) (n p : ℕ) → tokens_of text ≡ Ok ts → l ≡ lexed text ts → StandsBehind l n p → statement_at text p ≡ 1 + n
+pub behind_is : (text : List ℕ) (ts : List Token) (l : List Tok) (n p : ℕ) → tokens_of text ≡ Ok ts → l ≡ lexed text ts → StandsBehind l n p → statement_number text p ≡ 1 + n
 behind_is text ts l n p are lexes h =
     let counted = count_before text 0 (length text) ts h.before h.behind h.token (are_in_order text ts are) (tokens_agree text ts are) (sym lexes ∙ h.parts) in
     let all : tokens_in (tokens_of text) ≡ ts = ap tokens_in are in
     ap (λ us. 1 + length (filter (is_end_before text p) us)) all ∙ ap (λ q. 1 + ends_before text q ts) (sym h.here) ∙ ap (λ m. 1 + m) (counted ∙ h.number)
 
 -- the number of the statement of the place behind some tokens: that of the next token, or the end of the text
-pub place_behind : (text : List ℕ) (ts : List Token) (l before r : List Tok) → tokens_of text ≡ Ok ts → l ≡ lexed text ts → l ≡ before ++ r → statement_at text (place_of r (length text)) ≡ 1 + ends_among before
+pub place_behind : (text : List ℕ) (ts : List Token) (l before r : List Tok) → tokens_of text ≡ Ok ts → l ≡ lexed text ts → l ≡ before ++ r → statement_number text (place_of r (length text)) ≡ 1 + ends_among before
 place_behind text ts l before [] are lexes parts =
     let counted = count_all text 0 ts (are_in_order text ts are) (tokens_agree text ts are) in
     let all : tokens_in (tokens_of text) ≡ ts = ap tokens_in are in

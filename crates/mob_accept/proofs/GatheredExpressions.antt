@@ -13,10 +13,10 @@ use Rattle.mob_operators.specs.declared.operator.Form.TheVariants as form
 use Rattle.mob_operators.specs.Table.{is_irrational}
 use Rattle.mob_typing.specs.declared.typed.ConstText.{ConstText}
 use Rattle.mob_typing.specs.Trees.{TypedTree, typed, none, more}
-use Rattle.mob_typing.specs.Answers.{Wrong, ◌>>=◌, unless, found}
+use Rattle.mob_typing.specs.Answers.{Mistake, ◌>>=◌, unless, found}
 use Rattle.mob_typing.specs.Scopes.{ScopeParts}
 use Rattle.mob_typing.specs.Words.{type_named, literal_type, number_type}
-use Rattle.mob_typing.specs.Expressions.{constant, column_at, lone_string, cast_of_string, early, finished, or_later, typed_expression, typed_operands}
+use Rattle.mob_typing.specs.Expressions.{constant, column_named, lone_string, cast_of_string, typed_before_operands, finished, or_later, typed_expression, typed_operands}
 use Rattle.mob_grammar.specs.Places.{IsWithin, nothing, same, literal_place, tree_places, trees_places}
 use Rattle.mob_grammar.proofs.Within.{within_all, within_back}
 use Rattle.mob_accept.proofs.Adds.{Adds, adds_none, adds_one, adds_within, Gathers, guard, gathers_within, bind, only}
@@ -52,15 +52,15 @@ module _ (s : ScopeParts) where
       one_added : (ty : SqlType) → Adds s.statement ps cs (cs ++ record { ty = ty; text = text.0; statement = s.statement; place = text.1 } ∷ [])
       one_added ty = adds_within s.statement (text.1 ∷ []) ps cs (cs ++ record { ty = ty; text = text.0; statement = s.statement; place = text.1 } ∷ []) h (adds_one [] cs (record { ty = ty; text = text.0; statement = s.statement; place = text.1 }))
 
-  early_settles : (n : Node) (p : ℕ) (args : Trees) (cs : List ConstText) → IfOk (early s n p args cs) (Settles s.statement (literal_place n p ++ trees_places args) cs)
-  unfolding early
+  early_settles : (n : Node) (p : ℕ) (args : Trees) (cs : List ConstText) → IfOk (typed_before_operands s n p args cs) (Settles s.statement (literal_place n p ++ trees_places args) cs)
+  unfolding typed_before_operands
   early_settles node.Null p args cs = adds_none s.statement (trees_places args) cs
   early_settles node.True p args cs = adds_one (trees_places args) cs (record { ty = sql.Bool; text = codes "true"; statement = s.statement; place = p })
   early_settles node.False p args cs = adds_one (trees_places args) cs (record { ty = sql.Bool; text = codes "false"; statement = s.statement; place = p })
   early_settles (node.Number n) p args cs = adds_one (trees_places args) cs (record { ty = number_type n; text = n; statement = s.statement; place = p })
   early_settles (node.Str t) p args cs = adds_one (trees_places args) cs (record { ty = sql.Text; text = t; statement = s.statement; place = p })
   early_settles (node.Literal w t) p args cs = literal_settles w t p (trees_places args) cs (literal_type w.name.text w.inner t)
-  early_settles (node.Column t c) p args cs = guard (Settles s.statement (trees_places args) cs) (column_at s t c) (λ f. Ok (Some (typed (op.Column f.from f.column) f.ty p none), cs)) (λ f. adds_none s.statement (trees_places args) cs)
+  early_settles (node.Column t c) p args cs = guard (Settles s.statement (trees_places args) cs) (column_named s t c) (λ f. Ok (Some (typed (op.Column f.from f.column) f.ty p none), cs)) (λ f. adds_none s.statement (trees_places args) cs)
   early_settles (node.Call f) p args cs = guard (Settles s.statement (trees_places args) cs) (unless (is_irrational form.Call f) kind.Irrational p) (λ ok. Ok (None, cs)) (λ ok. refl)
   early_settles (node.Sign g) p args cs = refl
   early_settles (node.Cast w) p args cs = cast_settles w p (trees_places args) cs (lone_string args) (lone_stands args)
@@ -71,7 +71,7 @@ module _ (s : ScopeParts) where
   early_settles node.IsNotNull p args cs = refl
 
   -- what is settled early is all, and else the operands follow
-  settled_or_later : (own ps : List ℕ) (cs : List ConstText) (r : Result (Option TypedTree × List ConstText) Wrong) (later : List ConstText → Result (TypedTree × List ConstText) Wrong)
+  settled_or_later : (own ps : List ℕ) (cs : List ConstText) (r : Result (Option TypedTree × List ConstText) Mistake) (later : List ConstText → Result (TypedTree × List ConstText) Mistake)
       → IfOk r (Settles s.statement (own ++ ps) cs) → ((ds : List ConstText) → Gathers s.statement ps ds (later ds)) → Gathers s.statement (own ++ ps) cs (r >>= λ e. or_later later e.0 e.1)
   settled_or_later own ps cs (Err w) later h k = tt
   settled_or_later own ps cs (Ok x) later h k = by x.0 x.1 h
@@ -85,7 +85,7 @@ module _ (s : ScopeParts) where
 
     pub expression_gathers : (t : Tree) (cs : List ConstText) → Gathers s.statement (tree_places t) cs (typed_expression s t cs)
     expression_gathers (tree n p args) cs =
-        settled_or_later (literal_place n p) (trees_places args) cs (early s n p args cs) (λ ds. typed_operands s args [] ds >>= λ r. finished n p args r.0 >>= λ t. Ok (t, r.1)) (early_settles n p args cs)
+        settled_or_later (literal_place n p) (trees_places args) cs (typed_before_operands s n p args cs) (λ ds. typed_operands s args [] ds >>= λ r. finished n p args r.0 >>= λ t. Ok (t, r.1)) (early_settles n p args cs)
         (λ ds. only s.statement (trees_places args) ds (typed_operands s args [] ds) (λ r. finished n p args r.0 >>= λ t. Ok (t, r.1)) (operands_gather args [] ds)
         (λ r. guard (λ x. Adds s.statement [] r.1 x.1) (finished n p args r.0) (λ t. Ok (t, r.1)) (λ t. adds_none s.statement [] r.1)))
 

@@ -16,7 +16,7 @@ use Rattle.mob_typing.specs.Answers.{◌>>=◌, unless, found}
 use Rattle.mob_typing.specs.Names.{ColumnList, NameLists, table_of}
 use Rattle.mob_typing.specs.Words.{literal_type}
 use Rattle.mob_typing.specs.Expressions.{is_signed}
-use Rattle.mob_typing.specs.Statements.{new_rows, noted, lone_number, signed_value, bool_value, typed_value, node_value, value_of, row_values, typed_row, typed_rows, inserted}
+use Rattle.mob_typing.specs.Statements.{new_rows, row_constant, lone_number, signed_value, bool_value, typed_value, node_value, tree_value, row_values, typed_row, typed_rows, inserted}
 use Rattle.mob_grammar.specs.Places.{IsWithin, nothing, other, same, literal_place, tree_places, trees_places, row_places}
 use Rattle.mob_grammar.proofs.Within.{within_all}
 use Rattle.mob_accept.proofs.Adds.{Adds, adds_none, adds_one, adds_within, Gathers, guard, gathers_within, bind, only}
@@ -32,21 +32,21 @@ module _ (n : ℕ) where
   abbrev noted_text : SqlType → List ℕ → ℕ → ConstText
   noted_text ty text p = record { ty = ty; text = text; statement = n; place = p }
 
-  noted_gathers : (ty : SqlType) (text : List ℕ) (p : ℕ) (ps : List ℕ) (cs : List ConstText) → Gathers n (p ∷ ps) cs (noted n ty text p cs)
+  noted_gathers : (ty : SqlType) (text : List ℕ) (p : ℕ) (ps : List ℕ) (cs : List ConstText) → Gathers n (p ∷ ps) cs (row_constant n ty text p cs)
   noted_gathers ty text p ps cs = adds_one ps cs (noted_text ty text p)
 
   bool_gathers : (ty : SqlType) (text : List ℕ) (p : ℕ) (ps : List ℕ) (cs : List ConstText) → Gathers n (p ∷ ps) cs (bool_value n ty text p cs)
-  bool_gathers ty text p ps cs = guard (λ x. Adds n (p ∷ ps) cs x.1) (unless (not (same_type ty sql.Bool)) kind.NoSuchOperator p) (λ ok. noted n ty text p cs) (λ ok. noted_gathers ty text p ps cs)
+  bool_gathers ty text p ps cs = guard (λ x. Adds n (p ∷ ps) cs x.1) (unless (not (same_type ty sql.Bool)) kind.NoSuchOperator p) (λ ok. row_constant n ty text p cs) (λ ok. noted_gathers ty text p ps cs)
 
   typed_gathers : (ty : SqlType) (w : TypeWord) (text : List ℕ) (p : ℕ) (ps : List ℕ) (cs : List ConstText) → Gathers n (p ∷ ps) cs (typed_value n ty w text p cs)
   typed_gathers ty w text p ps cs =
-      guard (λ x. Adds n (p ∷ ps) cs x.1) (found kind.UnknownName w.name.place (literal_type w.name.text w.inner text)) (λ own. unless (not (same_type own ty)) kind.NoSuchOperator p >>= λ ok. noted n ty text p cs)
-      (λ own. guard (λ x. Adds n (p ∷ ps) cs x.1) (unless (not (same_type own ty)) kind.NoSuchOperator p) (λ ok. noted n ty text p cs) (λ ok. noted_gathers ty text p ps cs))
+      guard (λ x. Adds n (p ∷ ps) cs x.1) (found kind.UnknownName w.name.place (literal_type w.name.text w.inner text)) (λ own. unless (not (same_type own ty)) kind.NoSuchOperator p >>= λ ok. row_constant n ty text p cs)
+      (λ own. guard (λ x. Adds n (p ∷ ps) cs x.1) (unless (not (same_type own ty)) kind.NoSuchOperator p) (λ ok. row_constant n ty text p cs) (λ ok. noted_gathers ty text p ps cs))
 
   signed_gathers : (ty : SqlType) (g : List ℕ) (p : ℕ) (ps : List ℕ) (cs : List ConstText) (o : Option (List ℕ × ℕ)) → IfSome o (λ x. IsWithin (x.1 ∷ []) ps) → Gathers n ps cs (signed_value n ty g p o cs)
   signed_gathers ty g p ps cs None h = tt
   signed_gathers ty g p ps cs (Some d) h =
-      guard (λ x. Adds n ps cs x.1) (unless (not (is_signed g)) kind.NoSuchOperator p) (λ ok. noted n ty (g ++ d.0) d.1 cs)
+      guard (λ x. Adds n ps cs x.1) (unless (not (is_signed g)) kind.NoSuchOperator p) (λ ok. row_constant n ty (g ++ d.0) d.1 cs)
       (λ ok. adds_within n (d.1 ∷ []) ps cs (cs ++ noted_text ty (g ++ d.0) d.1 ∷ []) h (noted_gathers ty (g ++ d.0) d.1 [] cs))
 
   node_gathers : (ty : SqlType) (nd : Node) (p : ℕ) (args : Trees) (cs : List ConstText) → Gathers n (literal_place nd p ++ trees_places args) cs (node_value n ty nd p args cs)
@@ -60,14 +60,14 @@ module _ (n : ℕ) where
   node_gathers ty (node.Sign g) p args cs = signed_gathers ty g p (trees_places args) cs (lone_number args) (lone_stands args)
   node_gathers ty nd p args cs = tt
 
-  value_gathers : (ty : SqlType) (t : Tree) (cs : List ConstText) → Gathers n (tree_places t) cs (value_of n ty t cs)
+  value_gathers : (ty : SqlType) (t : Tree) (cs : List ConstText) → Gathers n (tree_places t) cs (tree_value n ty t cs)
   value_gathers ty (tree nd p args) cs = node_gathers ty nd p args cs
 
   values_gather : (columns : ColumnList) (done : List (Option ℕ)) (ts : List Tree) (cs : List ConstText) → Gathers n (flat_map tree_places ts) cs (row_values n columns done ts cs)
   values_gather [] done ts cs = adds_none n (flat_map tree_places ts) cs
   values_gather (c ∷ columns) done [] cs = adds_none n [] cs
   values_gather (c ∷ columns) done (t ∷ ts) cs =
-      bind n (tree_places t) (flat_map tree_places ts) cs (value_of n c.1 t cs) (λ r. row_values n columns (done ++ r.0 ∷ []) ts r.1) (value_gathers c.1 t cs) (λ r. values_gather columns (done ++ r.0 ∷ []) ts r.1)
+      bind n (tree_places t) (flat_map tree_places ts) cs (tree_value n c.1 t cs) (λ r. row_values n columns (done ++ r.0 ∷ []) ts r.1) (value_gathers c.1 t cs) (λ r. values_gather columns (done ++ r.0 ∷ []) ts r.1)
 
   row_gathers : (columns : ColumnList) (r : RowParts) (cs : List ConstText) → Gathers n (row_places r) cs (typed_row n columns r cs)
   row_gathers columns r cs =

@@ -5,7 +5,7 @@ use Rattle.std.proofs.Common.{◌≡◌, ◌≤◌, ◌+◌, ◌∙◌, arith, s
 use Rattle.mob_ast.specs.declared.refusal.Refusal.{Refusal}
 use Rattle.mob_ast.specs.Trees.{StatementParts}
 use Rattle.mob_typing.specs.declared.typed.ConstText.{ConstText}
-use Rattle.mob_typing.specs.Answers.{Wrong}
+use Rattle.mob_typing.specs.Answers.{Mistake}
 use Rattle.mob_typing.specs.Names.{NameLists}
 use Rattle.mob_typing.specs.Statements.{Made, StatementOut, nothing, new_table, new_index, new_rows, rows_from, query, plan_of, ScriptOut, in_statement, or_refused, typed_statement, typed_from, no_names}
 use Rattle.mob_typing.specs.Written.{HasRisingRows, LiteralUpTo, Rises}
@@ -64,7 +64,7 @@ rising_rows (plan_of q) h = tt
 
 module _ (n : ℕ) (done : List StatementOut) (ss : List StatementParts) (cs : List ConstText) (ps : List ℕ) (up : Rising ps) (before : AllByRecursion HasRisingRows done) where
   -- one statement, and then those behind it
-  statement_stands : (r : Result (Made × List ConstText) Wrong) → Gathers n ps cs r → IfOk r (AskedWithin ps)
+  statement_stands : (r : Result (Made × List ConstText) Mistake) → Gathers n ps cs r → IfOk r (AskedWithin ps)
       → ((names : NameLists) (all : List StatementOut) (ds : List ConstText) → AllByRecursion HasRisingRows all → IfOk (typed_from (n + 1) names all ss ds) (Stands (n + 1) ds))
       → IfOk (or_refused (in_statement n r) (λ r. typed_from (n + 1) r.0.names (done ++ r.0.statement ∷ []) ss r.1)) (Stands n cs)
   statement_stands (Ok x) gathers rows rest =

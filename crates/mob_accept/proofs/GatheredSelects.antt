@@ -6,11 +6,11 @@ use Rattle.mob_ast.specs.declared.refusal.Kind.TheVariants as kind
 use Rattle.mob_ast.specs.Trees.{Tree, ItemParts, every, one, KeyParts, SelectParts}
 use Rattle.mob_typing.specs.declared.typed.ConstText.{ConstText}
 use Rattle.mob_typing.specs.Trees.{TypedTree, type_of}
-use Rattle.mob_typing.specs.Answers.{Wrong, ◌>>=◌, unless}
+use Rattle.mob_typing.specs.Answers.{Mistake, ◌>>=◌, unless}
 use Rattle.mob_typing.specs.Names.{ColumnList}
 use Rattle.mob_typing.specs.Scopes.{ScopeParts}
 use Rattle.mob_typing.specs.Expressions.{typed_expression}
-use Rattle.mob_typing.specs.Selects.{OutputLists, all_outputs, output_name, with_alias, with_item, with_items, condition, is_bool, place_of, or_typed, aliased, is_key, typed_key, typed_keys, limit_of, no_outputs, from_tables, TypedSelectParts, typed_clauses, typed_select}
+use Rattle.mob_typing.specs.Selects.{OutputLists, all_outputs, output_name, with_alias, with_item, with_items, condition, is_bool, tree_place, or_typed, aliased, is_key, typed_key, typed_keys, limit_of, no_outputs, from_tables, TypedSelectParts, typed_clauses, typed_select}
 use Rattle.mob_grammar.specs.Places.{tree_places, item_places, condition_places, key_places, select_places}
 use Rattle.mob_accept.proofs.Adds.{Adds, adds_none, Gathers, guard, bind, only}
 use Rattle.mob_accept.proofs.GatheredExpressions.{expression_gathers}
@@ -33,8 +33,8 @@ module _ (s : ScopeParts) where
   condition_gathers : (c : Option Tree) (cs : List ConstText) → Gathers n (condition_places c) cs (condition s c cs)
   condition_gathers None cs = adds_none n [] cs
   condition_gathers (Some t) cs =
-      only n (tree_places t) cs (typed_expression s t cs) (λ r. unless (not (is_bool (type_of r.0))) kind.NoSuchOperator (place_of t) >>= λ ok. Ok (Some r.0, r.1)) (expression_gathers s t cs)
-      (λ r. guard (λ x. Adds n [] r.1 x.1) (unless (not (is_bool (type_of r.0))) kind.NoSuchOperator (place_of t)) (λ ok. Ok (Some r.0, r.1)) (λ ok. adds_none n [] r.1))
+      only n (tree_places t) cs (typed_expression s t cs) (λ r. unless (not (is_bool (type_of r.0))) kind.NoSuchOperator (tree_place t) >>= λ ok. Ok (Some r.0, r.1)) (expression_gathers s t cs)
+      (λ r. guard (λ x. Adds n [] r.1 x.1) (unless (not (is_bool (type_of r.0))) kind.NoSuchOperator (tree_place t)) (λ ok. Ok (Some r.0, r.1)) (λ ok. adds_none n [] r.1))
 
   -- a key that means a column of the answer adds nothing
   typed_gathers : (t : Tree) (o : Option TypedTree) (cs : List ConstText) → Gathers n (tree_places t) cs (or_typed s t o cs)
@@ -43,8 +43,8 @@ module _ (s : ScopeParts) where
 
   key_gathers : (o : OutputLists) (k : KeyParts) (cs : List ConstText) → Gathers n (key_places k) cs (typed_key s o k cs)
   key_gathers o k cs =
-      only n (key_places k) cs (or_typed s k.value (aliased o k.value) cs) (λ r. unless (not (is_key (type_of r.0))) kind.NoSuchOperator (place_of k.value) >>= λ ok. Ok ((r.0, k.descending), r.1)) (typed_gathers k.value (aliased o k.value) cs)
-      (λ r. guard (λ x. Adds n [] r.1 x.1) (unless (not (is_key (type_of r.0))) kind.NoSuchOperator (place_of k.value)) (λ ok. Ok ((r.0, k.descending), r.1)) (λ ok. adds_none n [] r.1))
+      only n (key_places k) cs (or_typed s k.value (aliased o k.value) cs) (λ r. unless (not (is_key (type_of r.0))) kind.NoSuchOperator (tree_place k.value) >>= λ ok. Ok ((r.0, k.descending), r.1)) (typed_gathers k.value (aliased o k.value) cs)
+      (λ r. guard (λ x. Adds n [] r.1 x.1) (unless (not (is_key (type_of r.0))) kind.NoSuchOperator (tree_place k.value)) (λ ok. Ok ((r.0, k.descending), r.1)) (λ ok. adds_none n [] r.1))
 
   keys_gather : (o : OutputLists) (keys : List (TypedTree × Bool)) (ks : List KeyParts) (cs : List ConstText) → Gathers n (flat_map key_places ks) cs (typed_keys s o keys ks cs)
   keys_gather o keys [] cs = adds_none n [] cs
@@ -54,10 +54,10 @@ module _ (s : ScopeParts) where
     abbrev made : OutputLists → Option TypedTree → List (TypedTree × Bool) → Option ℕ → TypedSelectParts
     made o c k l = record { distinct = x.distinct; items = o.columns; from = map (λ t. t.1.table) s.from; names = map (λ t. t.0) s.from; cond = c; keys = k; limit = l }
 
-    abbrev with_limit : OutputLists → Option TypedTree → List (TypedTree × Bool) × List ConstText → Result (TypedSelectParts × List ConstText) Wrong
+    abbrev with_limit : OutputLists → Option TypedTree → List (TypedTree × Bool) × List ConstText → Result (TypedSelectParts × List ConstText) Mistake
     with_limit o c k = limit_of x.limit >>= λ l. Ok (made o c k.0 l, k.1)
 
-    abbrev with_keys : OutputLists → Option TypedTree × List ConstText → Result (TypedSelectParts × List ConstText) Wrong
+    abbrev with_keys : OutputLists → Option TypedTree × List ConstText → Result (TypedSelectParts × List ConstText) Mistake
     with_keys o c = typed_keys s o [] x.keys c.1 >>= λ k. with_limit o c.0 k
 
     limit_gathers : (o : OutputLists) (c : Option TypedTree) (k : List (TypedTree × Bool) × List ConstText) → Gathers n [] k.1 (with_limit o c k)

@@ -11,7 +11,7 @@ use Rattle.mob_ast.specs.declared.refusal.Kind.TheVariants as kind
 use Rattle.mob_ast.specs.Trees.{RowParts, StatementParts, empty, create_table, create_index, insert, copy, select, explain}
 use Rattle.mob_operators.specs.Lookup.{same_type}
 use Rattle.mob_typing.specs.declared.typed.ConstText.{ConstText}
-use Rattle.mob_typing.specs.Answers.{Wrong, ◌>>=◌, unless, found}
+use Rattle.mob_typing.specs.Answers.{Mistake, ◌>>=◌, unless, found}
 use Rattle.mob_typing.specs.Names.{ColumnList, NameLists, column_of, table_of, has_name, has_entry}
 use Rattle.mob_typing.specs.Selects.{typed_select}
 use Rattle.mob_typing.specs.Statements.{new_table, new_index, new_rows, rows_from, query, plan_of, Made, with_columns, with_table, made_table, with_index, made_index, typed_rows, inserted, good_delimiter, copied, keeping, typed_statement}
@@ -54,18 +54,18 @@ brackets_within (r ∷ rs) = same (within_back (flat_map tree_places r.values) (
 abbrev pub RowsWithin : List ℕ → Made → Type 0
 RowsWithin ps m = IsWithin (brackets_of m.statement) ps
 
-kept : (ps : List ℕ) (cs : List ConstText) (r : Result Made Wrong) → IfOk r (RowsWithin ps) → IfOk (keeping cs r) (λ x. RowsWithin ps x.0)
+kept : (ps : List ℕ) (cs : List ConstText) (r : Result Made Mistake) → IfOk r (RowsWithin ps) → IfOk (keeping cs r) (λ x. RowsWithin ps x.0)
 kept ps cs (Ok m) h = h
 kept ps cs (Err w) h = tt
 
 module _ (names : NameLists) (name : Word) (columns : List (Word × TypeWord)) where
-  abbrev with_new : Result Made Wrong
+  abbrev with_new : Result Made Mistake
   with_new = with_columns [] columns >>= λ cs. Ok (record { statement = new_table (length names.tables) name.text cs; names = with_table names name.text cs })
 
-  abbrev new_there : Result (Unit {0}) Wrong
+  abbrev new_there : Result (Unit {0}) Mistake
   new_there = unless (has_entry names.tables name.text) kind.Duplicate name.place
 
-  abbrev room_there : Result (Unit {0}) Wrong
+  abbrev room_there : Result (Unit {0}) Mistake
   room_there = unless (nat_le 64 (length names.tables)) kind.Limit name.place
 
   table_rows : IfOk (made_table names name columns) (RowsWithin [])
@@ -77,13 +77,13 @@ module _ (names : NameLists) (name table column : Word) where
   abbrev made_on : ℕ × ColumnList → ℕ × SqlType → Made
   made_on t c = record { statement = new_index t.0 c.0 name.text; names = with_index names name.text }
 
-  abbrev on_column : ℕ × ColumnList → ℕ × SqlType → Result Made Wrong
+  abbrev on_column : ℕ × ColumnList → ℕ × SqlType → Result Made Mistake
   on_column t c = unless (not (same_type c.1 sql.TPoint)) kind.NoSuchOperator column.place >>= λ ok. Ok (made_on t c)
 
-  abbrev on_table : ℕ × ColumnList → Result Made Wrong
+  abbrev on_table : ℕ × ColumnList → Result Made Mistake
   on_table t = found kind.UnknownName column.place (column_of t.1 column.text) >>= on_column t
 
-  abbrev new_name : ℕ × ColumnList → Result Made Wrong
+  abbrev new_name : ℕ × ColumnList → Result Made Mistake
   new_name t = unless (has_name names.indexes name.text) kind.Duplicate name.place >>= λ new. on_table t
 
   index_rows : IfOk (made_index names name table column) (RowsWithin [])

@@ -16,10 +16,10 @@ use Rattle.mob_grammar.proofs.Cuts.{places_are_cut, held_are_cut}
 use Rattle.mob_parse.specs.Refusals.{HasTokens, semicolons, place_of, Cause}
 use Rattle.mob_parse.specs.Tokens.{lexed}
 use Rattle.mob_typing.specs.declared.typed.ConstText.{ConstText}
-use Rattle.mob_typing.specs.Answers.{Wrong}
+use Rattle.mob_typing.specs.Answers.{Mistake}
 use Rattle.mob_typing.specs.Names.{NameLists}
 use Rattle.mob_typing.specs.Statements.{Made, StatementOut, ScriptOut, in_statement, or_refused, typed_statement, typed_from, no_names}
-use Rattle.mob_built.specs.Words.{statement_at}
+use Rattle.mob_built.specs.Words.{statement_number}
 use Rattle.mob_accept.specs.Numbers.{AreIn, TreesAreIn, brackets_of, RowsAreIn, TreesAreNumbered, TypingKeepsNumbers, TextIsNumbered, WrongTokensAreNumbered}
 use Rattle.mob_typing.proofs.Rising.{each_both, each_on}
 use Rattle.mob_accept.proofs.Adds.{Adds, Belongs, Gathers, places_of}
@@ -29,14 +29,14 @@ use Rattle.mob_accept.proofs.GatheredStatements.{AskedWithin, all_within, statem
 module _ (bytes : List ℕ) (ts : List Token) (l : List Tok) (are : tokens_of bytes ≡ Ok ts) (is : l ≡ lexed bytes ts) (places : StatementParts → List ℕ) where
   trees_in : (n : ℕ) (ss : List StatementParts) → StandBehind places l n ss → TreesAreIn places bytes (n + 1) ss
   trees_in n [] h = tt
-  trees_in n (s ∷ ss) h = (each_on (StandsBehind l n) (λ p. statement_at bytes p ≡ n + 1) (λ p b. behind_is bytes ts l n p are is b ∙ omega arith) (places s) h.0, trees_in (n + 1) ss h.1)
+  trees_in n (s ∷ ss) h = (each_on (StandsBehind l n) (λ p. statement_number bytes p ≡ n + 1) (λ p b. behind_is bytes ts l n p are is b ∙ omega arith) (places s) h.0, trees_in (n + 1) ss h.1)
 
 pub trees_are_numbered : TreesAreNumbered
 trees_are_numbered bytes x (u, (l, (ts, are, is), d)) = (trees_in bytes ts l are is statement_places 0 x (places_are_cut l x d), trees_in bytes ts l are is statement_held 0 x (held_are_cut l x d))
 
 module _ (bytes : List ℕ) where
   abbrev IsOwn : ConstText → Type 0
-  IsOwn c = c.statement ≡ statement_at bytes c.place
+  IsOwn c = c.statement ≡ statement_number bytes c.place
 
   literals_own : (n : ℕ) (cs : List ConstText) → AllByRecursion (Belongs n) cs → AreIn bytes n (places_of cs) → AllByRecursion IsOwn cs
   literals_own n [] own at = tt
@@ -56,16 +56,16 @@ module _ (bytes : List ℕ) where
     onward (Ok out) h = record {
       new = adds.new ++ h.new;
       is = h.is ∙ ap (λ x. x ++ h.new) adds.is ∙ append_assoc cs adds.new h.new;
-      own = each_both IsOwn adds.new h.new (literals_own n adds.new adds.own (all_within (λ p. statement_at bytes p ≡ n) adds.within at)) h.own;
+      own = each_both IsOwn adds.new h.new (literals_own n adds.new adds.own (all_within (λ p. statement_number bytes p ≡ n) adds.within at)) h.own;
       made = s ∷ h.made;
       all = h.all ∙ append_assoc done (s ∷ []) h.made;
-      rows = (all_within (λ p. statement_at bytes p ≡ n) rows at, h.rows);
+      rows = (all_within (λ p. statement_number bytes p ≡ n) rows at, h.rows);
     }
     onward (Err e) h = tt
 
   module _ (n : ℕ) (done : List StatementOut) (ss : List StatementParts) (cs : List ConstText) (ps : List ℕ) (at : AreIn bytes n ps) where
     -- one statement, and then those behind it
-    statement_stands : (r : Result (Made × List ConstText) Wrong) → Gathers n ps cs r → IfOk r (AskedWithin ps)
+    statement_stands : (r : Result (Made × List ConstText) Mistake) → Gathers n ps cs r → IfOk r (AskedWithin ps)
         → ((names : NameLists) (all : List StatementOut) (ds : List ConstText) → IfOk (typed_from (n + 1) names all ss ds) (Stands (n + 1) all ds))
         → IfOk (or_refused (in_statement n r) (λ r. typed_from (n + 1) r.0.names (done ++ r.0.statement ∷ []) ss r.1)) (Stands n done cs)
     statement_stands (Ok x) gathers rows rest =
@@ -88,13 +88,13 @@ text_is_numbered bytes out h = typing_keeps_numbers bytes h.trees out (trees_are
 
 -- a refusal at a place behind some tokens, which names their `;`
 module _ (bytes : List ℕ) (e : Refusal) where
-  names_behind : (l before r : List Tok) → HasTokens bytes l → l ≡ before ++ r → e.place ≡ place_of r (length bytes) → e.statement ≡ 1 + semicolons before → e.statement ≡ statement_at bytes e.place
-  names_behind l before r (ts, are, is) parts at says = says ∙ ap (λ n. 1 + n) (semicolons_are before) ∙ sym (place_behind bytes ts l before r are is parts) ∙ ap (statement_at bytes) (sym at)
+  names_behind : (l before r : List Tok) → HasTokens bytes l → l ≡ before ++ r → e.place ≡ place_of r (length bytes) → e.statement ≡ 1 + semicolons before → e.statement ≡ statement_number bytes e.place
+  names_behind l before r (ts, are, is) parts at says = says ∙ ap (λ n. 1 + n) (semicolons_are before) ∙ sym (place_behind bytes ts l before r are is parts) ∙ ap (statement_number bytes) (sym at)
 
-  syntax_names : Cause Syntax bytes e → e.statement ≡ statement_at bytes e.place
+  syntax_names : Cause Syntax bytes e → e.statement ≡ statement_number bytes e.place
   syntax_names (u, (l, has, (r, w, at, says, none))) = names_behind l w.before r has w.parts at says
 
-  complex_names : Cause TooComplex bytes e → e.statement ≡ statement_at bytes e.place
+  complex_names : Cause TooComplex bytes e → e.statement ≡ statement_number bytes e.place
   complex_names (u, (l, has, (n, heavy, begins, at, says))) = names_behind l (take n l) (drop n l) has (sym (take-append-drop n l)) at says
 
 pub wrong_tokens_are_numbered : WrongTokensAreNumbered

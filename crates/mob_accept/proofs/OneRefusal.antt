@@ -7,7 +7,7 @@ use Rattle.mob_ast.specs.Trees.{StatementParts}
 use Rattle.mob_parse.proofs.Refused.{no_tree, one_refusal as one_first}
 use Rattle.mob_built.specs.Least.{least}
 use Rattle.mob_accept.specs.Accepts.{HasTrees, IsNoScript, IsWrongName, IsNotBuilt, unbuilt_places, script_limit}
-use Rattle.mob_accept.specs.Outcomes.{HasOneRefusal}
+use Rattle.mob_accept.specs.Outcomes.{HasOneTextRefusal}
 use Rattle.mob_accept.proofs.OneScript.{one_text, one_typed}
 
 -- a refusal is its kind, its statement and its place
@@ -64,7 +64,7 @@ is_short : (bytes : List ℕ) (e : Refusal) → IsNoScript bytes e ⊎ IsRefused
 is_short bytes e (inl h) = h.short
 is_short bytes e (inr h) = (has_trees bytes e h).1.short
 
-pub one_refusal : HasOneRefusal
+pub one_refusal : HasOneTextRefusal
 one_refusal bytes d e (inl h) (inl k) = h.says ∙ sym k.says
 one_refusal bytes d e (inl h) (inr k) = let long = h.long in let short = is_short bytes e k in absurd (omega (arith, long, short))
 one_refusal bytes d e (inr h) (inl k) = let long = k.long in let short = is_short bytes d h in absurd (omega (arith, long, short))

@@ -9,7 +9,7 @@ use Rattle.mob_parse.proofs.Refused.{no_tree, same_tokens}
 use Rattle.mob_parse.proofs.Scripts.{script_only}
 use Rattle.mob_typing.specs.Statements.{ScriptOut}
 use Rattle.mob_built.specs.Least.{least}
-use Rattle.mob_accept.specs.Accepts.{IsTyped, unbuilt_places}
+use Rattle.mob_accept.specs.Accepts.{IsTypedAs, unbuilt_places}
 use Rattle.mob_accept.specs.Outcomes.{HasOneScript, NeverTakenAndRefused}
 
 -- tokens have one tree: what the reading of them gives
@@ -21,7 +21,7 @@ one_text bytes x y h k =
     let tokens = same_tokens bytes h.1.0 k.1.0 h.1.1 k.1.1 in
     one_tree k.1.0 x y (subst (λ (l : List Tok). IsScript l x) tokens h.1.2) k.1.2
 
-pub one_typed : (bytes : List ℕ) (x y : List StatementParts) (a b : ScriptOut) → IsTyped bytes x a → IsTyped bytes y b → (x ≡ y) × (a ≡ b)
+pub one_typed : (bytes : List ℕ) (x y : List StatementParts) (a b : ScriptOut) → IsTypedAs bytes x a → IsTypedAs bytes y b → (x ≡ y) × (a ≡ b)
 one_typed bytes x y a b h k =
     let trees = one_text bytes x y h.read.tree k.read.tree in
     let typed = h.typed in

@@ -4,10 +4,10 @@ use Rattle.mob_ast.specs.declared.refusal.Kind.TheVariants.{NotBuilt, NoMemory, 
 use Rattle.mob_ast.specs.declared.refusal.Refusal.{Refusal}
 use Rattle.mob_ast.specs.Kinds.{no_memory}
 use Rattle.mob_ast.specs.Trees.{StatementParts}
-use Rattle.mob_parse.specs.Refusals.{IsTreeOf, IsLightText, IsRefused as HasNoTree}
+use Rattle.mob_parse.specs.Refusals.{IsTreeOf, IsLightText, ParsesToRefusal as HasNoTree}
 use Rattle.mob_typing.specs.Statements.{ScriptOut, typed_script}
 use Rattle.mob_built.specs.Least.{least}
-use Rattle.mob_built.specs.Words.{unbuilt_words, statement_at}
+use Rattle.mob_built.specs.Words.{unbuilt_words, statement_number}
 use Rattle.mob_built.specs.Types.{unbuilt_types}
 use Rattle.mob_built.specs.Operators.{unbuilt_operators}
 
@@ -22,7 +22,7 @@ pub record HasTrees (bytes : List ℕ) (trees : List StatementParts) : Type 0 wh
   pub light : IsLightText bytes
 
 -- the text has trees, and this is what they are with names and types
-pub record IsTyped (bytes : List ℕ) (trees : List StatementParts) (out : ScriptOut) : Type 0 where
+pub record IsTypedAs (bytes : List ℕ) (trees : List StatementParts) (out : ScriptOut) : Type 0 where
   pub read : HasTrees bytes trees
   pub typed : typed_script trees ≡ Ok out
 
@@ -33,7 +33,7 @@ unbuilt_places bytes trees out = unbuilt_words bytes ++ (unbuilt_types trees ++ 
 -- The text is a script that is taken, and this is what it is with names and types: all that it uses is built.
 pub record IsAccepted (bytes : List ℕ) (out : ScriptOut) : Type 0 where
   pub trees : List StatementParts
-  pub script : IsTyped bytes trees out
+  pub script : IsTypedAs bytes trees out
   pub built : unbuilt_places bytes trees out ≡ []
 
 -- the text is longer than the limit
@@ -56,14 +56,14 @@ pub record IsWrongName (bytes : List ℕ) (e : Refusal) : Type 0 where
 -- the refusal of what is not built yet, at this place
 pub record IsNotBuiltAt (bytes : List ℕ) (place : ℕ) (e : Refusal) : Type 0 where
   pub kind : e.kind ≡ NotBuilt
-  pub statement : e.statement ≡ statement_at bytes place
+  pub statement : e.statement ≡ statement_number bytes place
   pub here : e.place ≡ place
 
 -- something is not built yet, and this is the first place of it
 pub record IsNotBuilt (bytes : List ℕ) (e : Refusal) : Type 0 where
   pub trees : List StatementParts
   pub out : ScriptOut
-  pub script : IsTyped bytes trees out
+  pub script : IsTypedAs bytes trees out
   pub place : ℕ
   pub first : least (unbuilt_places bytes trees out) ≡ Some place
   pub says : IsNotBuiltAt bytes place e
@@ -77,5 +77,5 @@ abbrev pub IsNotTaken : List ℕ → Type 0
 IsNotTaken bytes = (out : ScriptOut) → IsAccepted bytes out → ⊥
 
 -- a refusal: want of memory, or that of a text that is no script that is taken, by its cause
-abbrev pub IsRefused : List ℕ → Refusal → Type 0
-IsRefused bytes e = (e ≡ no_memory) ⊎ (IsTextRefused bytes e × IsNotTaken bytes)
+abbrev pub IsRefusedWith : List ℕ → Refusal → Type 0
+IsRefusedWith bytes e = (e ≡ no_memory) ⊎ (IsTextRefused bytes e × IsNotTaken bytes)

@@ -8,12 +8,12 @@ use Rattle.mob_grammar.specs.Places.{statement_places}
 use Rattle.mob_grammar.specs.Held.{statement_held}
 use Rattle.mob_parse.specs.Refusals.{IsTreeOf}
 use Rattle.mob_typing.specs.Statements.{StatementOut, new_rows, ScriptOut, typed_script}
-use Rattle.mob_built.specs.Words.{statement_at}
+use Rattle.mob_built.specs.Words.{statement_number}
 use Rattle.mob_accept.specs.Accepts.{IsAccepted, IsNoScript}
 
 -- this is the number of the statement that each of these places is in
 abbrev pub AreIn : List ℕ → ℕ → List ℕ → Type 0
-AreIn bytes n places = AllByRecursion (λ p. statement_at bytes p ≡ n) places
+AreIn bytes n places = AllByRecursion (λ p. statement_number bytes p ≡ n) places
 
 -- these places of the first of the statements are in statement n, and those of each other in one more
 abbrev pub TreesAreIn : (StatementParts → List ℕ) → List ℕ → ℕ → List StatementParts → Type 0
@@ -32,7 +32,7 @@ RowsAreIn bytes n (s ∷ ss) = AreIn bytes n (brackets_of s) × RowsAreIn bytes 
 
 -- each literal is in the statement whose number it has, and each row in its statement
 pub record IsNumbered (bytes : List ℕ) (out : ScriptOut) : Type 0 where
-  pub literals : AllByRecursion (λ c. c.statement ≡ statement_at bytes c.place) out.consts
+  pub literals : AllByRecursion (λ c. c.statement ≡ statement_number bytes c.place) out.consts
   pub rows : RowsAreIn bytes 1 out.statements
 
 -- the literals and the rows of the trees of a text are in its statements, and so are all places that these trees hold
@@ -49,4 +49,4 @@ TextIsNumbered = (bytes : List ℕ) (out : ScriptOut) → IsAccepted bytes out �
 
 -- a refusal of a token that goes wrong, or at which an expression is too complex, names the statement of its place
 abbrev pub WrongTokensAreNumbered : Type 0
-WrongTokensAreNumbered = (bytes : List ℕ) (e : Refusal) → IsNoScript bytes e → (e.kind ≡ Syntax) ⊎ (e.kind ≡ TooComplex) → e.statement ≡ statement_at bytes e.place
+WrongTokensAreNumbered = (bytes : List ℕ) (e : Refusal) → IsNoScript bytes e → (e.kind ≡ Syntax) ⊎ (e.kind ≡ TooComplex) → e.statement ≡ statement_number bytes e.place

@@ -13,5 +13,5 @@ abbrev pub NeverTakenAndRefused : Type 0
 NeverTakenAndRefused = (bytes : List ℕ) (out : ScriptOut) (e : Refusal) → IsAccepted bytes out → IsTextRefused bytes e → ⊥
 
 -- a text that is refused by itself has one refusal
-abbrev pub HasOneRefusal : Type 0
-HasOneRefusal = (bytes : List ℕ) (d e : Refusal) → IsTextRefused bytes d → IsTextRefused bytes e → d ≡ e
+abbrev pub HasOneTextRefusal : Type 0
+HasOneTextRefusal = (bytes : List ℕ) (d e : Refusal) → IsTextRefused bytes d → IsTextRefused bytes e → d ≡ e

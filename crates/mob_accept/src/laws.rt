@@ -1,6 +1,6 @@
 //! What holds of every text of a script. No code runs here.
 ghost use Rattle.mob_accept.specs.Numbers.{TextIsNumbered, TreesAreNumbered, TypingKeepsNumbers, WrongTokensAreNumbered};
-ghost use Rattle.mob_accept.specs.Outcomes.{HasOneScript, NeverTakenAndRefused, HasOneRefusal};
+ghost use Rattle.mob_accept.specs.Outcomes.{HasOneScript, NeverTakenAndRefused, HasOneTextRefusal};
 ghost use Rattle.mob_accept.specs.Written.{AreWritten, TreesRise, TypingKeepsOrder};
 
 /// A text that is taken is one script, and no text is both taken and refused.
@@ -11,7 +11,7 @@ pub fn one_script()
 
 /// A text that is refused by itself has one refusal: its kind, its statement and its place.
 pub fn one_text_refusal()
-    ensures refusal { HasOneRefusal }
+    ensures refusal { HasOneTextRefusal }
 {}
 
 /// A text that is taken stands in written order: its literals, and the brackets of each INSERT. So do the trees of a text, and typing

@@ -4,7 +4,7 @@ ghost use Rattle.mob_ast.specs.Kinds.{no_memory};
 ghost use Rattle.mob_ast.specs.Trees.{script_of};
 ghost use Rattle.mob_typing.specs.Statements.{ScriptOut, script_seen};
 ghost use Rattle.mob_ast.specs.Trees.{StatementParts};
-ghost use Rattle.mob_accept.specs.Accepts.{HasTrees, IsAccepted, IsNotBuiltAt, IsRefused, script_limit};
+ghost use Rattle.mob_accept.specs.Accepts.{HasTrees, IsAccepted, IsNotBuiltAt, IsRefusedWith, script_limit};
 
 use mob_ast::{Kind, Refusal, Script};
 use mob_built::{
@@ -42,7 +42,7 @@ fn out_of_memory() -> Refusal
 fn trees_of(alloc: Global, bytes: &[u8]) -> Result<Script, Refusal>
     ensures read { IfOk result (λ s. HasTrees bytes.now (script_of s)) }
     ensures only { IfOk result (λ s. (x : List StatementParts) → HasTrees bytes.now x → x ≡ script_of s) }
-    ensures refused { IfErr result (IsRefused bytes.now) }
+    ensures refused { IfErr result (IsRefusedWith bytes.now) }
 {
     if bytes.len() > SCRIPT_LIMIT {
         return Err(too_long());
@@ -74,7 +74,7 @@ fn not_built(alloc: Global, text: &str, place: u32) -> Refusal
 pub fn accept(alloc: Global, bytes: &[u8]) -> Result<Typed, Refusal>
     ensures accepted { IfOk result (λ t. IsAccepted bytes.now (script_seen t)) }
     ensures only { IfOk result (λ t. (o : ScriptOut) → IsAccepted bytes.now o → o ≡ script_seen t) }
-    ensures refused { IfErr result (IsRefused bytes.now) }
+    ensures refused { IfErr result (IsRefusedWith bytes.now) }
 {
     let script = trees_of(alloc, bytes)?;
     let types = first_unbuilt_type(&script);

@@ -16,7 +16,7 @@ use Rattle.mob_slice.specs.declared.formula.OpFault.TheVariants.{Passed, NoMemor
 use Rattle.mob_slice.specs.Operands.{steady_value, steady_limit}
 use Rattle.mob_lift.specs.Lifted.{IsLifted, FirstFault}
 use Rattle.mob_lift.proofs.Pointwise.{mapped_at, one_given, each_at, on_fault, part_some}
-use Rattle.mob_arith.specs.Operations.{IsFault}
+use Rattle.mob_arith.specs.Operations.{IsPartsFault}
 use Rattle.mob_arith.specs.Steps.{AreSteps, IsStepsFault}
 
 -- An operation on two operands is lifted over pieces of time p, on which the parts fit p of its formula have to fit.
@@ -34,7 +34,7 @@ module _ {X Y P U : Type 0} (parts : X → Y → List Ratio) (left : Ratio → O
 
   -- where a call was refused, a part of the formula does not fit at an instant of its piece
   pub lifted_fault : {V I : Type 0} {fails : Formula → P → Type 0} {walked : List P → I → Type 0} (r : Result V OpFault) → ((formula : Formula) → r ≡ Err (Passed formula) → (ps : List P) × (s : I) × walked ps s × FirstFault gives (fails formula) ps)
-      → ((ps : List P) (s : I) → walked ps s → PartsClear span ps) → ((formula : Formula) (p : P) → fails formula p → IsFault (fit p) (Passed formula))
+      → ((ps : List P) (s : I) → walked ps s → PartsClear span ps) → ((formula : Formula) (p : P) → fails formula p → IsPartsFault (fit p) (Passed formula))
       → ((ps : List P) (s : I) (p : P) (u : Ratio) → walked ps s → IsIn p ps → has (span p) u ≡ true → ¬ AllFit (fit p) → ¬ FitBoth parts (left u) (right u)) → IfErr r (IsStepsFault parts left right)
   lifted_fault (Ok v) first clear bad unfit = tt
   lifted_fault {fails} (Err (Passed formula)) first clear bad unfit =

@@ -10,11 +10,11 @@ use Rattle.mob_slice.specs.declared.steady.Steady.{Steady}
 use Rattle.mob_slice.specs.declared.formula.Formula.TheVariants.{F2}
 use Rattle.mob_slice.specs.declared.formula.OpFault.{OpFault}
 use Rattle.mob_slice.specs.declared.formula.OpFault.TheVariants.{Passed, NoMemory}
-use Rattle.mob_arith.specs.Operations.{IsFault}
+use Rattle.mob_arith.specs.Operations.{IsPartsFault}
 
 -- one slice of that value on a span, where the parts fit, or a refusal with its cause
 abbrev pub IsPiece : {Z V : Type 0} → (V → List (Slice (Steady Z))) → List Ratio → SpanOf → Z → Result V OpFault → Type 0
-IsPiece items parts span x r = MatchResult r (λ v. (items v ≡ record { span = span; course = record { value = x } } ∷ []) × AllFit parts) (IsFault parts)
+IsPiece items parts span x r = MatchResult r (λ v. (items v ≡ record { span = span; course = record { value = x } } ∷ []) × AllFit parts) (IsPartsFault parts)
 
 -- Ordered slices with the operation at each instant: they have a value where both operands have one, and there the
 -- operation on the two, whose parts fit.
@@ -31,5 +31,5 @@ IsStepsFault parts left right NoMemory = Unit {0}
 
 -- Where at some instant both operands have a value and a part of the operation on the two does not fit, the operator names
 -- F2, or memory was refused.
-abbrev pub Refuses : {X Y V : Type 0} → (X → Y → List Ratio) → (Ratio → Option X) → (Ratio → Option Y) → Result V OpFault → Type 0
-Refuses parts left right r = (t : Ratio) → (¬ FitBoth parts (left t) (right t)) → (r ≡ Err (Passed F2)) ⊎ (r ≡ Err NoMemory)
+abbrev pub RefusesUnfit : {X Y V : Type 0} → (X → Y → List Ratio) → (Ratio → Option X) → (Ratio → Option Y) → Result V OpFault → Type 0
+RefusesUnfit parts left right r = (t : Ratio) → (¬ FitBoth parts (left t) (right t)) → (r ≡ Err (Passed F2)) ⊎ (r ≡ Err NoMemory)

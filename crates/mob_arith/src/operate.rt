@@ -5,7 +5,7 @@ ghost use Rattle.mob_ratio.specs.Ratio.{Ratio};
 ghost use Rattle.mob_slice.specs.Slices.{value_at, IsOrdered};
 ghost use Rattle.mob_slice.specs.Operands.{operand_at, is_moving, FitBoth};
 ghost use Rattle.mob_slice.specs.Operands.{steady_value, steady_limit, IsPointwise};
-ghost use Rattle.mob_arith.specs.Steps.{IsPiece, AreSteps, IsStepsFault, Refuses};
+ghost use Rattle.mob_arith.specs.Steps.{IsPiece, AreSteps, IsStepsFault, RefusesUnfit};
 
 use crate::operation::Operation;
 use mob_lift::{lift, single};
@@ -105,7 +105,7 @@ pub fn operate<A: BaseValue + Drop, B: BaseValue + Drop, O: Operation<A, B>>(
     ensures value { IfOk result (λ r. IsPointwise O.result_of (operand_at steady_value a.entry) (operand_at steady_value b.entry) r) }
     ensures fits { IfOk result (λ _. (t : Ratio) → FitBoth O.parts_of (operand_at steady_value a.entry t) (operand_at steady_value b.entry t)) }
     ensures passed { IfErr result (IsStepsFault O.parts_of (operand_at steady_value a.entry) (operand_at steady_value b.entry)) }
-    ensures passes { Refuses O.parts_of (operand_at steady_value a.entry) (operand_at steady_value b.entry) result }
+    ensures passes { RefusesUnfit O.parts_of (operand_at steady_value a.entry) (operand_at steady_value b.entry) result }
 {
     let slices = slices_of::<A, B, O>(alloc, a, b)?;
     match normal(alloc, slices) {
@@ -123,7 +123,7 @@ pub fn beside<A: BaseValue + Drop, B: BaseValue + Drop, O: Operation<A, B>>(
     ensures value { IfOk result (λ v. (t : Ratio) → value_at steady_value v t ≡ option_map (λ x. O.result_of x b.now) (value_at steady_value a.now t)) }
     ensures fits { IfOk result (λ _. (t : Ratio) → FitBoth O.parts_of (value_at steady_value a.now t) (Some b.now)) }
     ensures passed { IfErr result (IsStepsFault O.parts_of (value_at steady_value a.now) (λ t. Some b.now)) }
-    ensures passes { Refuses O.parts_of (value_at steady_value a.now) (λ t. Some b.now) result }
+    ensures passes { RefusesUnfit O.parts_of (value_at steady_value a.now) (λ t. Some b.now) result }
 {
     let slices = on_left::<A, B, O>(alloc, a, b)?;
     // That `a` has a slice, so that the result has one, is known by this call.

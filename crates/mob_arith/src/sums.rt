@@ -6,7 +6,7 @@ ghost use Rattle.mob_slice.specs.Slices.{value_at};
 ghost use Rattle.mob_slice.specs.Operands.{operand_at, is_moving, FitBoth};
 ghost use Rattle.mob_arith.specs.Operations.{sum_of, sum_parts, difference_of, difference_parts, product_of, product_parts};
 ghost use Rattle.mob_slice.specs.Operands.{steady_value, IsPointwise};
-ghost use Rattle.mob_arith.specs.Steps.{IsStepsFault, Refuses};
+ghost use Rattle.mob_arith.specs.Steps.{IsStepsFault, RefusesUnfit};
 
 use crate::operate::{beside, operate};
 use crate::operation::{Difference, Product, Sum};
@@ -26,7 +26,7 @@ pub fn plus(
     ensures value { IfOk result (λ r. IsPointwise sum_of (operand_at steady_value a.entry) (operand_at steady_value b.entry) r) }
     ensures fits { IfOk result (λ _. (t : Ratio) → FitBoth sum_parts (operand_at steady_value a.entry t) (operand_at steady_value b.entry t)) }
     ensures passed { IfErr result (IsStepsFault sum_parts (operand_at steady_value a.entry) (operand_at steady_value b.entry)) }
-    ensures passes { Refuses sum_parts (operand_at steady_value a.entry) (operand_at steady_value b.entry) result }
+    ensures passes { RefusesUnfit sum_parts (operand_at steady_value a.entry) (operand_at steady_value b.entry) result }
 {
     operate::<Frac, Frac, Sum>(alloc, a, b)
 }
@@ -43,7 +43,7 @@ pub fn minus(
     ensures value { IfOk result (λ r. IsPointwise difference_of (operand_at steady_value a.entry) (operand_at steady_value b.entry) r) }
     ensures fits { IfOk result (λ _. (t : Ratio) → FitBoth difference_parts (operand_at steady_value a.entry t) (operand_at steady_value b.entry t)) }
     ensures passed { IfErr result (IsStepsFault difference_parts (operand_at steady_value a.entry) (operand_at steady_value b.entry)) }
-    ensures passes { Refuses difference_parts (operand_at steady_value a.entry) (operand_at steady_value b.entry) result }
+    ensures passes { RefusesUnfit difference_parts (operand_at steady_value a.entry) (operand_at steady_value b.entry) result }
 {
     operate::<Frac, Frac, Difference>(alloc, a, b)
 }
@@ -59,7 +59,7 @@ pub fn times_step(
     ensures value { IfOk result (λ r. IsPointwise product_of (value_at steady_value a.now) (value_at steady_value b.now) r) }
     ensures fits { IfOk result (λ _. (t : Ratio) → FitBoth product_parts (value_at steady_value a.now t) (value_at steady_value b.now t)) }
     ensures passed { IfErr result (IsStepsFault product_parts (value_at steady_value a.now) (value_at steady_value b.now)) }
-    ensures passes { Refuses product_parts (value_at steady_value a.now) (value_at steady_value b.now) result }
+    ensures passes { RefusesUnfit product_parts (value_at steady_value a.now) (value_at steady_value b.now) result }
 {
     operate::<Frac, Frac, Product>(alloc, Operand::Moving(a), Operand::Moving(b))
 }
@@ -75,7 +75,7 @@ pub fn times_const(
     ensures value { IfOk result (λ v. (t : Ratio) → value_at steady_value v t ≡ option_map (λ x. product_of x k.now) (value_at steady_value a.now t)) }
     ensures fits { IfOk result (λ _. (t : Ratio) → FitBoth product_parts (value_at steady_value a.now t) (Some k.now)) }
     ensures passed { IfErr result (IsStepsFault product_parts (value_at steady_value a.now) (λ t. Some k.now)) }
-    ensures passes { Refuses product_parts (value_at steady_value a.now) (λ t. Some k.now) result }
+    ensures passes { RefusesUnfit product_parts (value_at steady_value a.now) (λ t. Some k.now) result }
 {
     beside::<Frac, Frac, Product>(alloc, a, k)
 }

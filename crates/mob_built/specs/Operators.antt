@@ -5,14 +5,14 @@ use Rattle.mob_ast.specs.declared.types.SqlType.{SqlType}
 use Rattle.mob_ast.specs.declared.types.SqlType.TheVariants as sql
 use Rattle.mob_operators.specs.declared.operator.Op.{Op}
 use Rattle.mob_operators.specs.declared.operator.Op.TheVariants as op
-use Rattle.mob_operators.specs.Lookup.{has}
+use Rattle.mob_operators.specs.Lookup.{has_type}
 use Rattle.mob_typing.specs.Trees.{TypedTree, typed, TypedTrees, none, more, type_of}
 use Rattle.mob_typing.specs.Selects.{Output, TypedSelectParts}
 use Rattle.mob_typing.specs.Statements.{StatementOut, nothing, new_table, new_index, new_rows, rows_from, query, plan_of}
 
 -- the types whose values are built
 abbrev pub is_built : SqlType → Bool
-is_built ty = has (sql.Bool ∷ sql.Int ∷ sql.Numeric ∷ sql.Text ∷ sql.Moment ∷ sql.TBool ∷ sql.TInt ∷ sql.TText ∷ []) ty
+is_built ty = has_type (sql.Bool ∷ sql.Int ∷ sql.Numeric ∷ sql.Text ∷ sql.Moment ∷ sql.TBool ∷ sql.TInt ∷ sql.TText ∷ []) ty
 
 -- what has no arguments is no operator
 abbrev pub is_leaf : Op → Bool
@@ -52,7 +52,7 @@ is_lifted _ = false
 
 -- a tint beside a numeric is widened to a linear value, which is not built
 abbrev pub is_widened : Op → List SqlType → Bool
-is_widened o ts = is_lifted o && has ts sql.TInt && has ts sql.Numeric
+is_widened o ts = is_lifted o && has_type ts sql.TInt && has_type ts sql.Numeric
 
 -- whether an operator is not built for arguments of these types and a result of this one
 abbrev pub is_unbuilt : Op → SqlType → List SqlType → Bool

@@ -52,15 +52,15 @@ in_condition (Some t) = in_tree t
 abbrev pub in_select : SelectParts → List ℕ
 in_select s = flat_map in_item s.items ++ in_condition s.cond ++ flat_map in_key s.keys
 
-abbrev pub in_statement : StatementParts → List ℕ
-in_statement empty = []
-in_statement (create_table name columns) = flat_map in_column columns
-in_statement (create_index name table column) = []
-in_statement (insert table rows) = flat_map in_row rows
-in_statement (copy table file delimiter) = []
-in_statement (select s) = in_select s
-in_statement (explain s) = in_select s
+abbrev pub in_statement_tree : StatementParts → List ℕ
+in_statement_tree empty = []
+in_statement_tree (create_table name columns) = flat_map in_column columns
+in_statement_tree (create_index name table column) = []
+in_statement_tree (insert table rows) = flat_map in_row rows
+in_statement_tree (copy table file delimiter) = []
+in_statement_tree (select s) = in_select s
+in_statement_tree (explain s) = in_select s
 
 -- the places at which a script names a type that is not built
 abbrev pub unbuilt_types : List StatementParts → List ℕ
-unbuilt_types ss = flat_map in_statement ss
+unbuilt_types ss = flat_map in_statement_tree ss

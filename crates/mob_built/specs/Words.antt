@@ -26,5 +26,5 @@ abbrev pub is_end_before : List ℕ → ℕ → Token → Bool
 is_end_before text place t = bytes_eq (bytes_of text t) (codes ";") && nat_lt t.from place
 
 -- the number of the statement of a place: 1 and the `;` tokens before it
-abbrev pub statement_at : List ℕ → ℕ → ℕ
-statement_at text place = 1 + length (filter (is_end_before text place) (tokens_in (tokens_of text)))
+abbrev pub statement_number : List ℕ → ℕ → ℕ
+statement_number text place = 1 + length (filter (is_end_before text place) (tokens_in (tokens_of text)))

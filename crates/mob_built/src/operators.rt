@@ -1,7 +1,7 @@
 // Where a typed script has an operator that is not built.
 ghost use Rattle.std.specs.Prelude.{◌≡◌, not, map, option_map};
 ghost use Rattle.std.specs.List.{list_any};
-ghost use Rattle.mob_operators.specs.Lookup.{has};
+ghost use Rattle.mob_operators.specs.Lookup.{has_type};
 ghost use Rattle.mob_typing.specs.Trees.{typed_of, type_of};
 ghost use Rattle.mob_typing.specs.Selects.{select_seen};
 ghost use Rattle.mob_typing.specs.Statements.{statement_seen, script_seen};
@@ -89,7 +89,7 @@ fn type_of(e: &TExpr) -> SqlType
 
 // Whether one of these has this type.
 fn has_type(args: &[TExpr], ty: SqlType) -> bool
-    ensures { result ≡ has (map (λ e. type_of (typed_of e)) args.now) ty }
+    ensures { result ≡ has_type (map (λ e. type_of (typed_of e)) args.now) ty }
 {
     for arg in args {
         if type_of(arg) == ty {

@@ -3,7 +3,7 @@ ghost use Rattle.std.specs.Prelude.{◌≡◌, map, option_map};
 ghost use Rattle.std.specs.List.{flat_map};
 ghost use Rattle.mob_ast.specs.Trees.{tree_of, row_of, item_of, key_of, select_of, statement_of, script_of};
 ghost use Rattle.mob_built.specs.Least.{least};
-ghost use Rattle.mob_built.specs.Types.{is_unbuilt_type, in_type, in_node, in_tree, in_column, in_row, in_item, in_key, in_condition, in_select, in_statement, unbuilt_types};
+ghost use Rattle.mob_built.specs.Types.{is_unbuilt_type, in_type, in_node, in_tree, in_column, in_row, in_item, in_key, in_condition, in_select, in_statement_tree, unbuilt_types};
 
 use crate::least::{Places, earlier, first_among};
 use mob_ast::{Expr, Item, Key, Node, Row, Script, SelectTree, Statement, TypeWord, Word};
@@ -128,9 +128,9 @@ fn in_select(select: &SelectTree) -> Option<u32>
 
 impl Places for Statement {
     ghost use Rattle.mob_ast.specs.Trees.{statement_of};
-    ghost use Rattle.mob_built.specs.Types.{in_statement};
+    ghost use Rattle.mob_built.specs.Types.{in_statement_tree};
 
-    ghost places = { λ s. in_statement (statement_of s) };
+    ghost places = { λ s. in_statement_tree (statement_of s) };
 
     fn first(&self) -> Option<u32> {
         match self {

@@ -2,7 +2,7 @@
 ghost use Rattle.std.specs.Prelude.{◌≡◌, ◌+◌, ◌<◌, ◌^◌, ◌≤◌, IfOk, length, map, filter};
 ghost use Rattle.mob_chars.specs.Layout.{InOrder};
 ghost use Rattle.mob_built.specs.Least.{least};
-ghost use Rattle.mob_built.specs.Words.{bytes_of, is_unbuilt_word, unbuilt_words, is_end_before, statement_at};
+ghost use Rattle.mob_built.specs.Words.{bytes_of, is_unbuilt_word, unbuilt_words, is_end_before, statement_number};
 
 use crate::least::earlier;
 use mob_chars::laws::tokens_are_in_order;
@@ -81,7 +81,7 @@ fn number_at(text: &str, place: u32, found: &[Token]) -> Result<u32, AllocError>
 /// The number of the statement that a place is in: 1 and the number of `;` tokens before it; 1 where the text has no tokens.
 pub fn statement_at(alloc: Global, text: &str, place: u32) -> Result<u32, AllocError>
     requires short { length text.now < 2 ^ 32 }
-    ensures number { IfOk result (λ number. number ≡ statement_at text.now place) }
+    ensures number { IfOk result (λ number. number ≡ statement_number text.now place) }
 {
     tokens_are_in_order();
     match tokens(alloc, text) {

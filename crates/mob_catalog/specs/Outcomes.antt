@@ -1,7 +1,7 @@
 -- A table file has one outcome.
 use Rattle.std.specs.Prelude.{◌≡◌, ℕ, ℤ, List}
 use Rattle.mob_value.specs.declared.value.Value.{Value}
-use Rattle.mob_catalog.specs.Faults.{Wrong}
+use Rattle.mob_catalog.specs.Faults.{FileFault}
 use Rattle.mob_catalog.specs.TableFile.{Column, FileFails, IsTable}
 
 -- a file says no two lists of rows
@@ -10,8 +10,8 @@ HasOneTable = (columns : List Column) (day : ℤ) (room : ℕ) (bytes : List ℕ
 
 -- one thing is wrong first in a file
 abbrev pub HasOneFault : Type 0
-HasOneFault = (columns : List Column) (day : ℤ) (room : ℕ) (bytes : List ℕ) (v w : Wrong) → FileFails columns day room bytes v → FileFails columns day room bytes w → v ≡ w
+HasOneFault = (columns : List Column) (day : ℤ) (room : ℕ) (bytes : List ℕ) (v w : FileFault) → FileFails columns day room bytes v → FileFails columns day room bytes w → v ≡ w
 
 -- a file with something wrong in it says no rows
 abbrev pub NeverReadAndRefused : Type 0
-NeverReadAndRefused = (columns : List Column) (day : ℤ) (room : ℕ) (bytes : List ℕ) (rows : List (List Value)) (w : Wrong) → IsTable columns day room bytes rows → FileFails columns day room bytes w → ⊥
+NeverReadAndRefused = (columns : List Column) (day : ℤ) (room : ℕ) (bytes : List ℕ) (rows : List (List Value)) (w : FileFault) → IsTable columns day room bytes rows → FileFails columns day room bytes w → ⊥

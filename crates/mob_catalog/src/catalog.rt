@@ -1,6 +1,6 @@
 // The tables of a script.
 ghost use Rattle.std.specs.Prelude.{◌≡◌, ◌<◌, length, OnErr, OnOk};
-ghost use Rattle.mob_catalog.specs.Catalogue.{columns_at, new_catalogue, with_row, with_table};
+ghost use Rattle.mob_catalog.specs.Catalogue.{table_columns, new_catalogue, with_row, with_empty_table};
 
 use mob_ast::SqlType;
 use mob_list::items::Items;
@@ -49,7 +49,7 @@ impl Catalog {
 
     /// Makes a table of these columns, without rows. Where memory is refused the catalogue stays as it was.
     pub fn create_table(&mut self, columns: Items<(Text, SqlType)>) -> Result<(), AllocError>
-        ensures made { OnOk result (self.new ≡ with_table columns self.old) }
+        ensures made { OnOk result (self.new ≡ with_empty_table columns self.old) }
         ensures unchanged { OnErr result (self.new ≡ self.old) }
     {
         let table = Table {
@@ -88,7 +88,7 @@ impl Catalog {
     /// The columns of the table with this number, in order.
     pub fn columns(&self, table: u32) -> &[(Text, SqlType)]
         requires there { table < length self.now.store.tables }
-        ensures same { result.now ≡ columns_at table self.now.columns }
+        ensures same { result.now ≡ table_columns table self.now.columns }
     {
         self.columns[table as usize].as_slice()
     }

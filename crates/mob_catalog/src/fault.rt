@@ -1,7 +1,7 @@
 // Why a table file or a literal is refused, and where.
 ghost use Rattle.std.specs.Prelude.{◌≡◌, option_map};
 ghost use Rattle.mob_catalog.specs.Constants.{at_constant};
-ghost use Rattle.mob_catalog.specs.Faults.{OnRefused, Refuses, refusal_of, wrong};
+ghost use Rattle.mob_catalog.specs.Faults.{OnRefused, IsRefusedAs, refused_kind, file_fault};
 
 use mob_ast::{Kind, Refusal};
 use mob_scalar::ReadText;
@@ -48,7 +48,7 @@ impl<T: Drop> From<AllocFailed<T>> for LoadFault {
 
 /// The refusal of a text with this fault. Want of memory refuses no text.
 pub fn refusal_kind(fault: ReadText) -> Option<Kind>
-    ensures kind { result ≡ refusal_of fault }
+    ensures kind { result ≡ refused_kind fault }
 {
     match fault {
         ReadText::Limit => Some(Kind::Limit),
@@ -61,7 +61,7 @@ pub fn refusal_kind(fault: ReadText) -> Option<Kind>
 
 /// The refusal of a constant whose text has this fault, at the constant's statement and place. Want of memory refuses no text.
 pub fn constant_refusal(fault: ReadText, constant: &ConstText) -> Option<Refusal>
-    ensures refusal { result ≡ option_map (at_constant constant.now) (refusal_of fault) }
+    ensures refusal { result ≡ option_map (at_constant constant.now) (refused_kind fault) }
 {
     match refusal_kind(fault) {
         Some(kind) => Some(Refusal {
@@ -75,7 +75,7 @@ pub fn constant_refusal(fault: ReadText, constant: &ConstText) -> Option<Refusal
 
 // The fault of the field of this number. Want of memory is that of the text alone.
 pub fn field_fault(fault: ReadText, rec: u32, field: u32) -> LoadFault
-    ensures refused { OnRefused (λ w. (Refuses fault w.kind) × (w.rec ≡ rec) × (w.field ≡ field)) result }
+    ensures refused { OnRefused (λ w. (IsRefusedAs fault w.kind) × (w.rec ≡ rec) × (w.field ≡ field)) result }
     ensures memory { result ≡ LoadFault.NoMemory → fault ≡ ReadText.NoMemory }
 {
     match refusal_kind(fault) {
@@ -86,7 +86,7 @@ pub fn field_fault(fault: ReadText, rec: u32, field: u32) -> LoadFault
 
 // The fault of the whole record of this number.
 pub fn record_fault(kind: Kind, rec: u32) -> LoadFault
-    ensures refused { OnRefused (λ w. w ≡ wrong kind rec 0) result }
+    ensures refused { OnRefused (λ w. w ≡ file_fault kind rec 0) result }
     ensures exact { result ≡ LoadFault.Refused kind rec 0 }
 {
     LoadFault::Refused {

@@ -50,6 +50,6 @@ abbrev pub tokens_of : List ℕ → Result (List Token) ℕ
 tokens_of text = tokens_from text 0 0
 
 -- why a text has no tokens: there is none at that place, or memory was wanted
-abbrev pub IsFault : List ℕ → LexFault → Type 0
-IsFault text (Lexical place) = tokens_of text ≡ Err place
-IsFault text NoMemory = Unit {0}
+abbrev pub IsLexFault : List ℕ → LexFault → Type 0
+IsLexFault text (Lexical place) = tokens_of text ≡ Err place
+IsLexFault text NoMemory = Unit {0}

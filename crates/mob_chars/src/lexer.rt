@@ -1,6 +1,6 @@
 //! The tokens of a text, from its front to its end.
 ghost use Rattle.std.specs.Prelude.{◌≡◌, ◌<◌, ◌≤◌, ◌^◌, length, IfSome, IfOk, IfErr, Ok};
-ghost use Rattle.mob_chars.specs.Tokens.{token_at, tokens_of, IsFault};
+ghost use Rattle.mob_chars.specs.Tokens.{token_at, tokens_of, IsLexFault};
 
 use crate::scan::{
     begins_number, gap_length, is_letter, number_length, quoted_length, sign_length, word_length,
@@ -33,7 +33,7 @@ fn token_length(text: &[u8]) -> Option<(TokenKind, usize)>
 pub fn tokens(alloc: Global, text: &str) -> Result<Items<Token>, LexFault>
     requires short { length text.now < 2 ^ 32 }
     ensures all { IfOk result (λ ts. tokens_of text.now ≡ Ok ts) }
-    ensures fault { IfErr result (IsFault text.now) }
+    ensures fault { IfErr result (IsLexFault text.now) }
 {
     let bytes = text.as_bytes();
     let mut found = Vec::new(alloc);

@@ -75,12 +75,12 @@ read_line None = codes "read fault: script\n"
 read_line (Some file) = fault_line file
 
 -- the line that an ending leaves in the notes
-abbrev pub line_of : Ending → List ℕ
-line_of Done = []
-line_of Usage = codes "usage: mobsql [--workers N] [--epoch DATE] [--demo N] < script.sql\n"
-line_of (ReadFault file) = read_line file
-line_of WriteFault = codes "write fault\n"
-line_of NoMemory = codes "no memory\n"
-line_of (TableRefused file kind rec field) = table_line file kind rec field
-line_of (ScriptRefused refusal) = refusal_line refusal
-line_of (Overflow statement rows place formula) = overflow_line statement rows place formula
+abbrev pub note_line : Ending → List ℕ
+note_line Done = []
+note_line Usage = codes "usage: mobsql [--workers N] [--epoch DATE] [--demo N] < script.sql\n"
+note_line (ReadFault file) = read_line file
+note_line WriteFault = codes "write fault\n"
+note_line NoMemory = codes "no memory\n"
+note_line (TableRefused file kind rec field) = table_line file kind rec field
+note_line (ScriptRefused refusal) = refusal_line refusal
+note_line (Overflow statement rows place formula) = overflow_line statement rows place formula

@@ -3,7 +3,7 @@ ghost use Rattle.std.specs.Prelude.{◌≡◌, map, OnOk, OnErr};
 ghost use Rattle.std.specs.List.{concat};
 ghost use Rattle.std.specs.Io.KnownBytes.{Appends};
 ghost use Rattle.mob_outside.specs.Faults.{HasCause};
-ghost use Rattle.mob_ending.specs.Lines.{fault_line, formula_name, further_row, line_of, overflow_line, passes_text, read_line, record_text, refusal_line, rows_text, statement_text, table_line};
+ghost use Rattle.mob_ending.specs.Lines.{fault_line, formula_name, further_row, note_line, overflow_line, passes_text, read_line, record_text, refusal_line, rows_text, statement_text, table_line};
 ghost use Rattle.mob_streams.specs.Streams.{Puts, PutsPart};
 
 use crate::Ending;
@@ -191,7 +191,7 @@ fn put_read_fault<E: Sink>(notes: &mut E, file: &Option<Text>) -> Result<(), Fai
 }
 
 fn put_line<E: Sink>(notes: &mut E, ending: &Ending) -> Result<(), Failed>
-    ensures puts { Puts (line_of ending.now) (E.held notes.old) (E.held notes.new) (E.faults notes.old) (E.faults notes.new) }
+    ensures puts { Puts (note_line ending.now) (E.held notes.old) (E.held notes.new) (E.faults notes.old) (E.faults notes.new) }
 {
     match ending {
         Ending::Done => Ok(()),
@@ -218,7 +218,7 @@ fn put_line<E: Sink>(notes: &mut E, ending: &Ending) -> Result<(), Failed>
 /// Puts the line of an ending, in pieces that take no memory. A fault of the notes cuts it short and changes nothing
 /// else.
 pub fn tell<E: Sink>(notes: &mut E, ending: &Ending)
-    ensures puts { Puts (line_of ending.now) (E.held notes.old) (E.held notes.new) (E.faults notes.old) (E.faults notes.new) }
+    ensures puts { Puts (note_line ending.now) (E.held notes.old) (E.held notes.new) (E.faults notes.old) (E.faults notes.new) }
 {
     let _ = put_line(notes, ending);
 }

@@ -12,8 +12,8 @@ use Rattle.mob_typing.specs.Trees.{TypedTree, typed, none, more}
 use Rattle.mob_value.specs.declared.value.Value.TheVariants.{Null, Bool as Truth, Number, Text}
 use Rattle.mob_eval.specs.Scene.{Scene}
 use Rattle.mob_slice.specs.declared.formula.Formula.TheVariants.{F2}
-use Rattle.mob_eval.specs.Operators.{Gives, First}
-use Rattle.mob_eval.specs.Runs.{RunsTree}
+use Rattle.mob_eval.specs.Operators.{OperatorGives, IsFirstFormula}
+use Rattle.mob_eval.specs.Evaluation.{TreeEvaluatesTo}
 
 -- one table with one row, (7, NULL), and the constants false, 1, 2
 abbrev scene : Scene
@@ -34,34 +34,34 @@ abbrev alone : Op → TypedTree
 alone o = typed o sql.Bool 0 none
 
 -- a column of the row, and one that is not there
-a_column : RunsTree scene (alone (op.Column 0 0)) (Ok (Number (whole (pos 7))))
+a_column : TreeEvaluatesTo scene (alone (op.Column 0 0)) (Ok (Number (whole (pos 7))))
 a_column = ([], refl, refl, refl)
 
-no_column : RunsTree scene (alone (op.Column 0 2)) (Ok Null)
+no_column : TreeEvaluatesTo scene (alone (op.Column 0 2)) (Ok Null)
 no_column = ([], refl, refl, refl)
 
 -- FALSE AND x, where x may be anything
-cut : (x : TypedTree) → RunsTree scene (pair op.And (alone (op.Const 0)) x) (Ok (Truth false))
+cut : (x : TypedTree) → TreeEvaluatesTo scene (pair op.And (alone (op.Const 0)) x) (Ok (Truth false))
 cut x = (Truth false ∷ [], (([], refl, refl, refl), inl (refl, refl)), refl, refl)
 
 -- NULL AND FALSE
-false_after_null : RunsTree scene (pair op.And (alone op.Null) (alone (op.Const 0))) (Ok (Truth false))
+false_after_null : TreeEvaluatesTo scene (pair op.And (alone op.Null) (alone (op.Const 0))) (Ok (Truth false))
 false_after_null = (Null ∷ Truth false ∷ [], (([], refl, refl, refl), inr (refl, (([], refl, refl, refl), inl (refl, refl)))), refl, refl)
 
 -- NULL = NULL
-null_is_not_null : Gives scene (op.Test cmp.Eq) (Null ∷ Null ∷ []) Null
+null_is_not_null : OperatorGives scene (op.Test cmp.Eq) (Null ∷ Null ∷ []) Null
 null_is_not_null = refl
 
 -- an int is no text
-unlike : Gives scene op.Join (Number (whole (pos 1)) ∷ Text [] ∷ []) Null
+unlike : OperatorGives scene op.Join (Number (whole (pos 1)) ∷ Text [] ∷ []) Null
 unlike = refl
 
 -- 1 + 2
-a_sum : Gives scene op.Add (Number (whole (pos 1)) ∷ Number (whole (pos 2)) ∷ []) (Number (whole (pos 3)))
+a_sum : OperatorGives scene op.Add (Number (whole (pos 1)) ∷ Number (whole (pos 2)) ∷ []) (Number (whole (pos 3)))
 unfolding ◌+ℚ◌ whole over gcd gcd_steps in_lowest_terms
 a_sum = refl
 
 -- 4611686018427387903 + 1 is 2^62, which does not fit
-a_fault : First op.Add (Number (whole (pos 4611686018427387903)) ∷ Number (whole (pos 1)) ∷ []) (Some F2)
+a_fault : IsFirstFormula op.Add (Number (whole (pos 4611686018427387903)) ∷ Number (whole (pos 1)) ∷ []) (Some F2)
 unfolding ◌+ℚ◌ whole over gcd gcd_steps in_lowest_terms
 a_fault = (refl, λ h. omega (arith, h.0.num_fits))

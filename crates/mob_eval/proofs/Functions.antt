@@ -6,10 +6,10 @@ use Rattle.mob_slice.specs.Operands.{steady_value}
 use Rattle.mob_slice.specs.SteadyLaws.{steady_laws}
 use Rattle.mob_normal.proofs.Unique.{unique}
 use Rattle.mob_eval.specs.Ordinary.{AreOneFunction}
-use Rattle.mob_eval.specs.Lifted.{Steps, AreNormal}
+use Rattle.mob_eval.specs.Lifted.{StepSlices, AreNormalSteps}
 
-module _ {B : Type 0} (is_same : B → B → Bool) (exact : (a b : B) → IsTrue (is_same a b) ↔ (a ≡ b)) (a b : Steps B) where
-  pub one_list : AreNormal is_same a → AreNormal is_same b → AreOneFunction a b → a ≡ b
+module _ {B : Type 0} (is_same : B → B → Bool) (exact : (a b : B) → IsTrue (is_same a b) ↔ (a ≡ b)) (a b : StepSlices B) where
+  pub one_list : AreNormalSteps is_same a → AreNormalSteps is_same b → AreOneFunction a b → a ≡ b
   one_list n m f = unique (steady_laws is_same exact) a b n.chained m.chained f
 
   pub one_function : a ≡ b → AreOneFunction a b

@@ -7,7 +7,7 @@ use Rattle.mob_eval.specs.declared.fault.EvalFault.{EvalFault}
 use Rattle.mob_eval.specs.declared.fault.EvalFault.TheVariants.{Passed, NoMemory}
 use Rattle.mob_eval.specs.declared.held.Held.{Held}
 use Rattle.mob_eval.specs.Scene.{Scene}
-use Rattle.mob_eval.specs.Runs.{OnPassed, Runs, RunsAll, stops}
+use Rattle.mob_eval.specs.Evaluation.{OnPassed, EvaluatesTo, OperandsEvaluateTo, stops}
 use Rattle.mob_eval.specs.SoFar.{IsSoFar, trees}
 use Rattle.mob_eval.specs.Held.{held}
 
@@ -21,18 +21,18 @@ module _ (s : Scene) (stop : Option Bool) (args : List TExpr) where
   pub so_far_init : (values : List Value) → values ≡ [] → IsSoFar s stop args values args
   so_far_init values e = subst (λ vs. IsSoFar s stop args vs args) (sym e) (record { run = λ r h. h; fail = λ f h. h })
 
-  pub so_far_next : (values : List Value) (e : TExpr) (left : List TExpr) (v : Value) → IsSoFar s stop args values (e ∷ left) → Runs s e (Ok v) → stops stop v ≡ false → IsSoFar s stop args (values ++ v ∷ []) left
+  pub so_far_next : (values : List Value) (e : TExpr) (left : List TExpr) (v : Value) → IsSoFar s stop args values (e ∷ left) → EvaluatesTo s e (Ok v) → stops stop v ≡ false → IsSoFar s stop args (values ++ v ∷ []) left
   so_far_next values e left v h g n = record {
-    run = λ r k. subst (λ vs. RunsAll s stop (trees args) (Ok vs)) (sym (append_assoc values (v ∷ []) r)) (h.run (v ∷ r) (g, inr (n, k)));
+    run = λ r k. subst (λ vs. OperandsEvaluateTo s stop (trees args) (Ok vs)) (sym (append_assoc values (v ∷ []) r)) (h.run (v ∷ r) (g, inr (n, k)));
     fail = λ f k. h.fail f (inr (v, g, n, k));
   }
 
-  pub last_run : (values : List Value) (e : TExpr) (left : List TExpr) (v : Value) → IsSoFar s stop args values (e ∷ left) → Runs s e (Ok v) → stops stop v ≡ true → RunsAll s stop (trees args) (Ok (values ++ v ∷ []))
+  pub last_run : (values : List Value) (e : TExpr) (left : List TExpr) (v : Value) → IsSoFar s stop args values (e ∷ left) → EvaluatesTo s e (Ok v) → stops stop v ≡ true → OperandsEvaluateTo s stop (trees args) (Ok (values ++ v ∷ []))
   last_run values e left v h g n = h.run (v ∷ []) (g, inl (n, refl))
 
-  pub end_run : (values : List Value) → IsSoFar s stop args values [] → RunsAll s stop (trees args) (Ok values)
-  end_run values h = subst (λ vs. RunsAll s stop (trees args) (Ok vs)) (append-nil values) (h.run [] refl)
+  pub end_run : (values : List Value) → IsSoFar s stop args values [] → OperandsEvaluateTo s stop (trees args) (Ok values)
+  end_run values h = subst (λ vs. OperandsEvaluateTo s stop (trees args) (Ok vs)) (append-nil values) (h.run [] refl)
 
-  pub fault_run : (values : List Value) (e : TExpr) (left : List TExpr) (f : EvalFault) → IsSoFar s stop args values (e ∷ left) → OnPassed (λ f. Runs s e (Err f)) f → OnPassed (λ f. RunsAll s stop (trees args) (Err f)) f
+  pub fault_run : (values : List Value) (e : TExpr) (left : List TExpr) (f : EvalFault) → IsSoFar s stop args values (e ∷ left) → OnPassed (λ f. EvaluatesTo s e (Err f)) f → OnPassed (λ f. OperandsEvaluateTo s stop (trees args) (Err f)) f
   fault_run values e left (Passed place formula) h g = h.fail (place, formula) (inl g)
   fault_run values e left NoMemory h g = g

@@ -14,32 +14,32 @@ use Rattle.mob_eval.specs.Held.{held}
 use Rattle.mob_eval.specs.declared.fault.EvalFault.{EvalFault}
 use Rattle.mob_eval.specs.declared.fault.EvalFault.TheVariants.{Passed, NoMemory}
 use Rattle.mob_eval.specs.Scene.{Scene}
-use Rattle.mob_eval.specs.Operators.{First, Gives}
-use Rattle.mob_eval.specs.Runs.{Fault, OnPassed, Runs, RunsTree, RunsAll, stop_of}
+use Rattle.mob_eval.specs.Operators.{IsFirstFormula, OperatorGives}
+use Rattle.mob_eval.specs.Evaluation.{Fault, OnPassed, EvaluatesTo, TreeEvaluatesTo, OperandsEvaluateTo, stop_of}
 use Rattle.mob_eval.specs.Faults.{OnFormula, fault_of}
 use Rattle.mob_eval.specs.SoFar.{trees}
 
 -- more than two operands give NULL
-pub many : (s : Scene) (o : Op) (hs : List Held) → 3 ≤ length hs → Gives s o (map held hs) Null
+pub many : (s : Scene) (o : Op) (hs : List Held) → 3 ≤ length hs → OperatorGives s o (map held hs) Null
 many s o [] h = absurd (omega (arith, h))
 many s o (a ∷ []) h = absurd (omega (arith, h))
 many s o (a ∷ b ∷ []) h = absurd (omega (arith, h))
 many s o (a ∷ b ∷ c ∷ rest) h = refl
 
 module _ (s : Scene) (e : TExpr) (stop : Option Bool) (xs : List TExpr) (es : stop ≡ stop_of (out-TExpr e).op) (ex : xs ≡ (out-TExpr e).args.items) where
-  moved : (r : Result (List Value) Fault) → RunsAll s stop (trees xs) r → RunsAll s (stop_of (out-TExpr e).op) (trees (out-TExpr e).args.items) r
-  moved r h = subst (λ o. RunsAll s o (trees (out-TExpr e).args.items) r) es (subst (λ ys. RunsAll s stop (trees ys) r) ex h)
+  moved : (r : Result (List Value) Fault) → OperandsEvaluateTo s stop (trees xs) r → OperandsEvaluateTo s (stop_of (out-TExpr e).op) (trees (out-TExpr e).args.items) r
+  moved r h = subst (λ o. OperandsEvaluateTo s o (trees (out-TExpr e).args.items) r) es (subst (λ ys. OperandsEvaluateTo s stop (trees ys) r) ex h)
 
-  rolled : (r : Result Value Fault) → RunsTree s (typed (out-TExpr e).op (out-TExpr e).ty (out-TExpr e).place (trees (out-TExpr e).args.items)) r → Runs s e r
-  rolled r h = subst (λ t. RunsTree s t r) (sym (typed_is e)) h
+  rolled : (r : Result Value Fault) → TreeEvaluatesTo s (typed (out-TExpr e).op (out-TExpr e).ty (out-TExpr e).place (trees (out-TExpr e).args.items)) r → EvaluatesTo s e r
+  rolled r h = subst (λ t. TreeEvaluatesTo s t r) (sym (typed_is e)) h
 
-  pub node_value : (vs : List Value) (v : Value) → RunsAll s stop (trees xs) (Ok vs) → First (out-TExpr e).op vs None → Gives s (out-TExpr e).op vs v → Runs s e (Ok v)
+  pub node_value : (vs : List Value) (v : Value) → OperandsEvaluateTo s stop (trees xs) (Ok vs) → IsFirstFormula (out-TExpr e).op vs None → OperatorGives s (out-TExpr e).op vs v → EvaluatesTo s e (Ok v)
   node_value vs v h f g = rolled (Ok v) (vs, moved (Ok vs) h, f, g)
 
-  pub node_below : (f : EvalFault) → OnPassed (λ f. RunsAll s stop (trees xs) (Err f)) f → OnPassed (λ f. Runs s e (Err f)) f
+  pub node_below : (f : EvalFault) → OnPassed (λ f. OperandsEvaluateTo s stop (trees xs) (Err f)) f → OnPassed (λ f. EvaluatesTo s e (Err f)) f
   node_below (Passed place formula) h = rolled (Err (place, formula)) (inl (moved (Err (place, formula)) h))
   node_below NoMemory h = h
 
-  pub node_here : (vs : List Value) (f : OpFault) → RunsAll s stop (trees xs) (Ok vs) → OnFormula (λ g. First (out-TExpr e).op vs (Some g)) f → OnPassed (λ f. Runs s e (Err f)) (fault_of (out-TExpr e).place f)
+  pub node_here : (vs : List Value) (f : OpFault) → OperandsEvaluateTo s stop (trees xs) (Ok vs) → OnFormula (λ g. IsFirstFormula (out-TExpr e).op vs (Some g)) f → OnPassed (λ f. EvaluatesTo s e (Err f)) (fault_of (out-TExpr e).place f)
   node_here vs (Formula_passed formula) h g = rolled (Err ((out-TExpr e).place, formula)) (inr (vs, moved (Ok vs) h, g, refl))
   node_here vs No_memory h g = tt

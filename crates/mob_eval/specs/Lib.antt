@@ -3,7 +3,7 @@ pub mod Views
 pub mod Ordinary
 pub mod Lifted
 pub mod Operators
-pub mod Runs
+pub mod Evaluation
 pub mod Held
 pub mod Faults
 pub mod Calculations

@@ -18,65 +18,65 @@ use Rattle.mob_value.specs.declared.value.Value.TheVariants.{Null, Bool as Truth
 use Rattle.mob_eval.specs.Ordinary.{rel_of}
 
 -- a list of slices that go by steps
-abbrev pub Steps : Type 0 → Type 0
-Steps B = List (Slice (Steady B))
+abbrev pub StepSlices : Type 0 → Type 0
+StepSlices B = List (Slice (Steady B))
 
 -- what an operand is at each instant
 abbrev pub OverTime : Type 0 → Type 0
 OverTime B = Ratio → Option B
 
 -- the slices are normal, where `is_same` tells whether two values are one
-abbrev pub AreNormal : {B : Type 0} → (B → B → Bool) → Steps B → Type 0
-AreNormal is_same slices = IsNormal steady_limit steady_limit (λ c d lower middle upper. is_same c.value d.value) slices
+abbrev pub AreNormalSteps : {B : Type 0} → (B → B → Bool) → StepSlices B → Type 0
+AreNormalSteps is_same slices = IsNormal steady_limit steady_limit (λ c d lower middle upper. is_same c.value d.value) slices
 
 -- the temporal value, or NULL where there is none
-abbrev pub or_nothing : {B : Type 0} → (Steps B → Value) → Option (Steps B) → Value
+abbrev pub or_nothing : {B : Type 0} → (StepSlices B → Value) → Option (StepSlices B) → Value
 or_nothing make None = Null
 or_nothing make (Some r) = make r
 
 -- v is the one normal value that is at each instant the operation on the two operands
-abbrev pub IsLifted : {X Y Z : Type 0} → (Steps Z → Value) → (Z → Z → Bool) → (X → Y → Z) → OverTime X → OverTime Y → Value → Type 0
-IsLifted {X} {Y} {Z} make is_same op left right v = (r : Option (Steps Z)) × IsPointwise op left right r × MatchOption r (Unit {0}) (AreNormal is_same) × (v ≡ or_nothing make r)
+abbrev pub IsLiftedValue : {X Y Z : Type 0} → (StepSlices Z → Value) → (Z → Z → Bool) → (X → Y → Z) → OverTime X → OverTime Y → Value → Type 0
+IsLiftedValue {X} {Y} {Z} make is_same op left right v = (r : Option (StepSlices Z)) × IsPointwise op left right r × MatchOption r (Unit {0}) (AreNormalSteps is_same) × (v ≡ or_nothing make r)
 
 abbrev pub IsMovingBool : {X Y : Type 0} → (X → Y → Bool) → OverTime X → OverTime Y → Value → Type 0
-IsMovingBool op left right v = IsLifted MovingBool same_bool op left right v
+IsMovingBool op left right v = IsLiftedValue MovingBool same_bool op left right v
 
 abbrev pub IsMovingInt : {X Y : Type 0} → (X → Y → Ratio) → OverTime X → OverTime Y → Value → Type 0
-IsMovingInt op left right v = IsLifted MovingInt same op left right v
+IsMovingInt op left right v = IsLiftedValue MovingInt same op left right v
 
 abbrev pub IsMovingText : {X Y : Type 0} → (X → Y → List ℕ) → OverTime X → OverTime Y → Value → Type 0
-IsMovingText op left right v = IsLifted MovingText same_bytes op left right v
+IsMovingText op left right v = IsLiftedValue MovingText same_bytes op left right v
 
 -- two operands of which one at least is temporal
 abbrev pub Pair : Type 0 → Type 0
 Pair B = Option (OverTime B × OverTime B)
 
-abbrev at : {B : Type 0} → Steps B → OverTime B
+abbrev at : {B : Type 0} → StepSlices B → OverTime B
 at m = value_at steady_value m
 
 abbrev always : {B : Type 0} → B → OverTime B
 always b = λ t. Some b
 
 -- two truth values
-abbrev pub truths : Value → Value → Pair Bool
-truths (MovingBool a) (MovingBool b) = Some (at a, at b)
-truths (MovingBool a) (Truth b) = Some (at a, always b)
-truths (Truth a) (MovingBool b) = Some (always a, at b)
-truths _ _ = None
+abbrev pub truth_pair : Value → Value → Pair Bool
+truth_pair (MovingBool a) (MovingBool b) = Some (at a, at b)
+truth_pair (MovingBool a) (Truth b) = Some (at a, always b)
+truth_pair (Truth a) (MovingBool b) = Some (always a, at b)
+truth_pair _ _ = None
 
 -- two numbers
-abbrev pub numbers : Value → Value → Pair Ratio
-numbers (MovingInt a) (MovingInt b) = Some (at a, at b)
-numbers (MovingInt a) (Number b) = Some (at a, always b)
-numbers (Number a) (MovingInt b) = Some (always a, at b)
-numbers _ _ = None
+abbrev pub number_pair : Value → Value → Pair Ratio
+number_pair (MovingInt a) (MovingInt b) = Some (at a, at b)
+number_pair (MovingInt a) (Number b) = Some (at a, always b)
+number_pair (Number a) (MovingInt b) = Some (always a, at b)
+number_pair _ _ = None
 
 -- two texts
-abbrev pub texts : Value → Value → Pair (List ℕ)
-texts (MovingText a) (MovingText b) = Some (at a, at b)
-texts (MovingText a) (Text b) = Some (at a, always b)
-texts (Text a) (MovingText b) = Some (always a, at b)
-texts _ _ = None
+abbrev pub text_pair : Value → Value → Pair (List ℕ)
+text_pair (MovingText a) (MovingText b) = Some (at a, at b)
+text_pair (MovingText a) (Text b) = Some (at a, always b)
+text_pair (Text a) (MovingText b) = Some (always a, at b)
+text_pair _ _ = None
 
 -- what two operands are at each instant
 abbrev pub courses : {B : Type 0} → Operand (Steady B) B × Operand (Steady B) B → OverTime B × OverTime B
@@ -97,11 +97,11 @@ truth_test r x y = holds r (compare_bool x y)
 
 -- a comparison of two numbers or two texts at each instant
 abbrev pub IsOrderTest : Rel → Value → Value → Value → Type 0
-IsOrderTest r a b v = MatchOption (numbers a b) (OnPair (texts a b) (IsMovingBool (text_test r)) v) (λ p. IsMovingBool (number_test r) p.0 p.1 v)
+IsOrderTest r a b v = MatchOption (number_pair a b) (OnPair (text_pair a b) (IsMovingBool (text_test r)) v) (λ p. IsMovingBool (number_test r) p.0 p.1 v)
 
 -- a comparison of two numbers, two texts or two truth values at each instant
 abbrev pub IsAnyTest : Rel → Value → Value → Value → Type 0
-IsAnyTest r a b v = MatchOption (truths a b) (IsOrderTest r a b v) (λ p. IsMovingBool (truth_test r) p.0 p.1 v)
+IsAnyTest r a b v = MatchOption (truth_pair a b) (IsOrderTest r a b v) (λ p. IsMovingBool (truth_test r) p.0 p.1 v)
 
 -- The six comparisons at each instant. Truth values are equal or not, and have no order here.
 abbrev pub IsLiftedTest : Cmp → Value → Value → Value → Type 0
@@ -111,5 +111,5 @@ IsLiftedTest c a b v = IsOrderTest (rel_of c) a b v
 
 -- the other truth value at each instant
 abbrev pub IsLiftedNot : Value → Value → Type 0
-IsLiftedNot (MovingBool a) v = (r : Steps Bool) × ((t : Ratio) → value_at steady_value r t ≡ option_map not (value_at steady_value a t)) × AreNormal same_bool r × (v ≡ MovingBool r)
+IsLiftedNot (MovingBool a) v = (r : StepSlices Bool) × ((t : Ratio) → value_at steady_value r t ≡ option_map not (value_at steady_value a t)) × AreNormalSteps same_bool r × (v ≡ MovingBool r)
 IsLiftedNot _ v = v ≡ Null

@@ -21,9 +21,9 @@ truth_of (Truth b) = Some b
 truth_of _ = None
 
 -- whether a value is true
-abbrev pub is_true : Value → Bool
-is_true (Truth b) = b
-is_true _ = false
+abbrev pub is_true_value : Value → Bool
+is_true_value (Truth b) = b
+is_true_value _ = false
 
 -- a truth value, or NULL where there is none
 abbrev pub known : Option Bool → Value
@@ -58,23 +58,23 @@ rel_of cmp.Gt = rel.Gt
 rel_of cmp.Ge = rel.Ge
 
 -- v is the truth value of P where `wanted` is true, and that of its contrary where it is false
-abbrev pub Says : Bool → Type 0 → Value → Type 0
-Says wanted P v = (c : Bool) × (IsTrue c ↔ P) × (v ≡ Truth (same_bool wanted c))
+abbrev pub IsTruthOf : Bool → Type 0 → Value → Type 0
+IsTruthOf wanted P v = (c : Bool) × (IsTrue c ↔ P) × (v ≡ Truth (same_bool wanted c))
 
 -- two temporal values are one function of time
 abbrev pub AreOneFunction : {B : Type 0} → List (Slice (Steady B)) → List (Slice (Steady B)) → Type 0
 AreOneFunction a b = (t : Ratio) → value_at steady_value a t ≡ value_at steady_value b t
 
 -- `=` where `wanted` is true, and `<>` where it is false
-abbrev pub Equality : Bool → Value → Value → Value → Type 0
-Equality wanted (Truth a) (Truth b) v = Says wanted (a ≡ b) v
-Equality wanted (Number a) (Number b) v = Says wanted (a ≡ b) v
-Equality wanted (Text a) (Text b) v = Says wanted (a ≡ b) v
-Equality wanted (Moment a) (Moment b) v = Says wanted (a ≡ b) v
-Equality wanted (MovingBool a) (MovingBool b) v = Says wanted (AreOneFunction a b) v
-Equality wanted (MovingInt a) (MovingInt b) v = Says wanted (AreOneFunction a b) v
-Equality wanted (MovingText a) (MovingText b) v = Says wanted (AreOneFunction a b) v
-Equality wanted _ _ v = v ≡ Null
+abbrev pub IsEquality : Bool → Value → Value → Value → Type 0
+IsEquality wanted (Truth a) (Truth b) v = IsTruthOf wanted (a ≡ b) v
+IsEquality wanted (Number a) (Number b) v = IsTruthOf wanted (a ≡ b) v
+IsEquality wanted (Text a) (Text b) v = IsTruthOf wanted (a ≡ b) v
+IsEquality wanted (Moment a) (Moment b) v = IsTruthOf wanted (a ≡ b) v
+IsEquality wanted (MovingBool a) (MovingBool b) v = IsTruthOf wanted (AreOneFunction a b) v
+IsEquality wanted (MovingInt a) (MovingInt b) v = IsTruthOf wanted (AreOneFunction a b) v
+IsEquality wanted (MovingText a) (MovingText b) v = IsTruthOf wanted (AreOneFunction a b) v
+IsEquality wanted _ _ v = v ≡ Null
 
 -- an order relation: numbers and moments by size, texts by their bytes
 abbrev pub ordered : Rel → Value → Value → Value
@@ -85,8 +85,8 @@ ordered r _ _ = Null
 
 -- the six plain comparisons
 abbrev pub IsTest : Cmp → Value → Value → Value → Type 0
-IsTest cmp.Eq a b v = Equality true a b v
-IsTest cmp.Ne a b v = Equality false a b v
+IsTest cmp.Eq a b v = IsEquality true a b v
+IsTest cmp.Ne a b v = IsEquality false a b v
 IsTest c a b v = v ≡ ordered (rel_of c) a b
 
 -- a number with its sign turned

@@ -5,8 +5,8 @@ use Rattle.mob_slice.specs.declared.formula.Formula.{Formula}
 use Rattle.mob_typing.specs.Trees.{TypedTree}
 use Rattle.mob_value.specs.declared.value.Value.{Value}
 use Rattle.mob_eval.specs.Scene.{Scene}
-use Rattle.mob_eval.specs.Operators.{Gives, First}
-use Rattle.mob_eval.specs.Runs.{RunsTree}
+use Rattle.mob_eval.specs.Operators.{OperatorGives, IsFirstFormula}
+use Rattle.mob_eval.specs.Evaluation.{TreeEvaluatesTo}
 
 -- there is at most one outcome
 abbrev pub IsOne : {Y : Type 0} → (Y → Type 0) → Type 0
@@ -14,9 +14,9 @@ IsOne {Y} P = (r q : Y) → P r → P q → r ≡ q
 
 -- an operator gives one value, and has one first formula or none
 pub record IsSingle : Type 0 where
-  pub value : (s : Scene) (o : Op) (vs : List Value) (v w : Value) → Gives s o vs v → Gives s o vs w → v ≡ w
-  pub first : (o : Op) (vs : List Value) (f g : Option Formula) → First o vs f → First o vs g → f ≡ g
+  pub value : (s : Scene) (o : Op) (vs : List Value) (v w : Value) → OperatorGives s o vs v → OperatorGives s o vs w → v ≡ w
+  pub first : (o : Op) (vs : List Value) (f g : Option Formula) → IsFirstFormula o vs f → IsFirstFormula o vs g → f ≡ g
 
 -- an expression gives one value or one fault
 abbrev pub HasOneOutcome : Type 0
-HasOneOutcome = (s : Scene) (e : TypedTree) → IsOne (RunsTree s e)
+HasOneOutcome = (s : Scene) (e : TypedTree) → IsOne (TreeEvaluatesTo s e)

@@ -1,6 +1,6 @@
 -- The fault of a query: that of an expression, on a tuple.
 use Rattle.std.specs.Prelude.{◌≡◌, ℕ, List, ⊤}
-use Rattle.mob_eval.specs.Runs.{Fault}
+use Rattle.mob_eval.specs.Evaluation.{Fault}
 use Rattle.mob_eval.specs.declared.fault.EvalFault.{EvalFault}
 use Rattle.mob_eval.specs.declared.fault.EvalFault.TheVariants as eval
 use Rattle.mob_eval.specs.declared.query_fault.QueryFault.{QueryFault}

@@ -19,12 +19,12 @@ or_null None = Null
 or_null (Some v) = v
 
 -- the constant of a number
-abbrev pub constant : Scene → ℕ → Option Value
-constant s c = slice_get s.store.consts c
+abbrev pub constant_at : Scene → ℕ → Option Value
+constant_at s c = slice_get s.store.consts c
 
 -- the value in a column of the row of a place
-abbrev pub cell : Scene → ℕ → ℕ → Option Value
-cell s place column =
+abbrev pub column_value : Scene → ℕ → ℕ → Option Value
+column_value s place column =
     option_and_then (λ number. option_and_then (λ row. option_and_then (λ table. option_and_then (λ fields. slice_get fields column) (slice_get table.rows row)) (slice_get s.store.tables number)) (slice_get s.tuple place)) (slice_get s.from place)
 
 -- a store, the table of each place, the row of each place, and the day of the epoch
@@ -32,7 +32,7 @@ abbrev pub scene : Store → List ℕ → List ℕ → ℤ → Scene
 scene store from tuple day = record { store = store; from = from; tuple = tuple; day = day }
 
 -- what an operator without operands gives
-abbrev pub leaf : Scene → Op → Value
-leaf s (op.Const c) = or_null (constant s c)
-leaf s (op.Column place column) = or_null (cell s place column)
-leaf s _ = Null
+abbrev pub leaf_value : Scene → Op → Value
+leaf_value s (op.Const c) = or_null (constant_at s c)
+leaf_value s (op.Column place column) = or_null (column_value s place column)
+leaf_value s _ = Null

@@ -4,7 +4,7 @@ use Rattle.mob_typing.specs.declared.typed.TExpr.{TExpr}
 use Rattle.mob_typing.specs.Trees.{TypedTrees, typed_trees, typed_of}
 use Rattle.mob_value.specs.declared.value.Value.{Value}
 use Rattle.mob_eval.specs.Scene.{Scene}
-use Rattle.mob_eval.specs.Runs.{Fault, RunsAll}
+use Rattle.mob_eval.specs.Evaluation.{Fault, OperandsEvaluateTo}
 
 -- the plain trees of expressions
 abbrev pub trees : List TExpr → TypedTrees
@@ -12,5 +12,5 @@ trees es = typed_trees (map typed_of es)
 
 -- With the values so far in front, what the operands that are left give is what all of them give.
 pub record IsSoFar (s : Scene) (stop : Option Bool) (args : List TExpr) (values : List Value) (left : List TExpr) : Type 0 where
-  pub run : (r : List Value) → RunsAll s stop (trees left) (Ok r) → RunsAll s stop (trees args) (Ok (values ++ r))
-  pub fail : (f : Fault) → RunsAll s stop (trees left) (Err f) → RunsAll s stop (trees args) (Err f)
+  pub run : (r : List Value) → OperandsEvaluateTo s stop (trees left) (Ok r) → OperandsEvaluateTo s stop (trees args) (Ok (values ++ r))
+  pub fail : (f : Fault) → OperandsEvaluateTo s stop (trees left) (Err f) → OperandsEvaluateTo s stop (trees args) (Err f)

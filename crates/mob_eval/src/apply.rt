@@ -1,13 +1,13 @@
 //! One operator, on the values of its operands.
 ghost use Rattle.std.specs.Prelude.{◌≡◌, IfOk, IfErr, map, None, Some};
 ghost use Rattle.mob_eval.specs.Views.{scene_of};
-ghost use Rattle.mob_eval.specs.Operators.{Gives, First};
+ghost use Rattle.mob_eval.specs.Operators.{OperatorGives, IsFirstFormula};
 ghost use Rattle.mob_eval.specs.Faults.{OnFormula};
 ghost use Rattle.mob_eval.specs.Held.{held};
 
 use crate::held::Held;
 use crate::operators::{of_one, of_two};
-use crate::scene::{View, leaf};
+use crate::scene::{View, leaf_value};
 use mob_operators::Op;
 use mob_slice::OpFault;
 use mob_value::Value;
@@ -21,12 +21,12 @@ pub fn result_of<'a>(
     op: Op,
     values: &[Held<'a>],
 ) -> Result<Held<'a>, OpFault>
-    ensures value { IfOk result (λ h. Gives (scene_of view.now) op (map held values.now) (held h)) }
-    ensures fits { IfOk result (λ _. First op (map held values.now) None) }
-    ensures fault { IfErr result (OnFormula (λ f. First op (map held values.now) (Some f))) }
+    ensures value { IfOk result (λ h. OperatorGives (scene_of view.now) op (map held values.now) (held h)) }
+    ensures fits { IfOk result (λ _. IsFirstFormula op (map held values.now) None) }
+    ensures fault { IfErr result (OnFormula (λ f. IsFirstFormula op (map held values.now) (Some f))) }
 {
     match values {
-        [] => Ok(leaf(view, op)),
+        [] => Ok(leaf_value(view, op)),
         [operand] => match of_one(alloc, view, op, operand) {
             Ok(value) => Ok(value),
             Err(_) => Err(OpFault::NoMemory),

@@ -8,12 +8,12 @@ ghost use Rattle.mob_slice.specs.Slices.{value_at};
 ghost use Rattle.mob_value.specs.declared.value.Value.TheVariants.{Number};
 ghost use Rattle.mob_slice.specs.Operands.{operand_at, is_moving, steady_value, IsPointwise, FitBoth};
 ghost use Rattle.mob_eval.specs.Ordinary.{negated, unchanged, is_nil};
-ghost use Rattle.mob_eval.specs.Operators.{Arithmetic, Fitting, on_numbers, quotient, quotient_parts, parts_on, IsFitting};
+ghost use Rattle.mob_eval.specs.Operators.{IsArithmetic, IsFittingOn, on_numbers, quotient, quotient_parts, parts_on, IsFitting};
 ghost use Rattle.mob_eval.specs.Lifted.{IsMovingInt};
 ghost use Rattle.mob_eval.specs.Calculations.{result_by, parts_by};
 ghost use Rattle.mob_eval.specs.Faults.{OnFormula};
 
-use crate::pair::numbers;
+use crate::pair::number_pair;
 use crate::temporal::int_or_null;
 use mob_arith::{minus, plus, times_const, times_step};
 use mob_frac::{Frac, Overflow};
@@ -136,11 +136,11 @@ pub fn calculate(
     left: &Value,
     right: &Value,
 ) -> Result<Value, OpFault>
-    ensures value { IfOk result (λ v. Arithmetic (result_by by) left.now right.now v) }
-    ensures fits { IfOk result (λ _. Fitting (parts_by by) left.now right.now None) }
-    ensures fault { IfErr result (OnFormula (λ f. Fitting (parts_by by) left.now right.now (Some f))) }
+    ensures value { IfOk result (λ v. IsArithmetic (result_by by) left.now right.now v) }
+    ensures fits { IfOk result (λ _. IsFittingOn (parts_by by) left.now right.now None) }
+    ensures fault { IfErr result (OnFormula (λ f. IsFittingOn (parts_by by) left.now right.now (Some f))) }
 {
-    match numbers(left, right) {
+    match number_pair(left, right) {
         Some((left, right)) => match lifted(alloc, by, left, right) {
             Ok(value) => Ok(int_or_null(value)),
             Err(fault) => Err(fault),

@@ -1,7 +1,7 @@
 //! The six plain comparisons.
 ghost use Rattle.std.specs.Prelude.{◌≡◌, ◌↔◌, IsTrue, ◌&&◌, cond};
 ghost use Rattle.mob_slice.specs.Sameness.{same_bool};
-ghost use Rattle.mob_eval.specs.Ordinary.{rel_of, AreOneFunction, Equality, ordered, IsTest};
+ghost use Rattle.mob_eval.specs.Ordinary.{rel_of, AreOneFunction, IsEquality, ordered, IsTest};
 ghost use Rattle.mob_value.specs.declared.value.Value.TheVariants.{Bool as Truth};
 
 use mob_ast::Cmp;
@@ -89,7 +89,7 @@ fn says(wanted: bool, truth: bool) -> Value
 
 // `=` where `wanted` is true, and `<>` where it is false.
 fn equality(wanted: bool, left: &Value, right: &Value) -> Value
-    ensures value { Equality wanted left.now right.now result }
+    ensures value { IsEquality wanted left.now right.now result }
 {
     match (left, right) {
         (Value::Bool(a), Value::Bool(b)) => says(wanted, same_truth(*a, *b)),

@@ -1,9 +1,9 @@
 ghost use Rattle.std.specs.Prelude.{◌≡◌, Ok, Err, IfOk, IfErr};
 ghost use Rattle.mob_eval.specs.Scene.{scene};
-ghost use Rattle.mob_eval.specs.Runs.{Runs, Decides, OnPassed};
+ghost use Rattle.mob_eval.specs.Evaluation.{EvaluatesTo, ConditionGives, OnPassed};
 
 use crate::fault::EvalFault;
-use crate::logic::is_true;
+use crate::logic::is_true_value;
 use crate::scene::View;
 use crate::walk::held_value;
 use mob_scalar::Epoch;
@@ -25,8 +25,8 @@ pub fn eval(
     tuple: &[u32],
     epoch: &Epoch,
 ) -> Result<Value, EvalFault>
-    ensures value { IfOk result (λ v. Runs (scene store.now from.now tuple.now epoch.now) e.now (Ok v)) }
-    ensures fault { IfErr result (OnPassed (λ f. Runs (scene store.now from.now tuple.now epoch.now) e.now (Err f))) }
+    ensures value { IfOk result (λ v. EvaluatesTo (scene store.now from.now tuple.now epoch.now) e.now (Ok v)) }
+    ensures fault { IfErr result (OnPassed (λ f. EvaluatesTo (scene store.now from.now tuple.now epoch.now) e.now (Err f))) }
 {
     let view = View {
         store,
@@ -52,8 +52,8 @@ pub fn holds(
     tuple: &[u32],
     epoch: &Epoch,
 ) -> Result<bool, EvalFault>
-    ensures truth { IfOk result (λ b. Decides (scene store.now from.now tuple.now epoch.now) e.now b) }
-    ensures fault { IfErr result (OnPassed (λ f. Runs (scene store.now from.now tuple.now epoch.now) e.now (Err f))) }
+    ensures truth { IfOk result (λ b. ConditionGives (scene store.now from.now tuple.now epoch.now) e.now b) }
+    ensures fault { IfErr result (OnPassed (λ f. EvaluatesTo (scene store.now from.now tuple.now epoch.now) e.now (Err f))) }
 {
     let view = View {
         store,
@@ -62,7 +62,7 @@ pub fn holds(
         epoch,
     };
     match held_value(alloc, e, &view) {
-        Ok(held) => Ok(is_true(held.get())),
+        Ok(held) => Ok(is_true_value(held.get())),
         Err(fault) => Err(fault),
     }
 }

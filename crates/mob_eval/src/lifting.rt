@@ -3,11 +3,11 @@ ghost use Rattle.std.specs.Prelude.{◌≡◌, ◌||◌, true, IfOk};
 ghost use Rattle.mob_slice.specs.Operands.{operand_at, is_moving, steady_value};
 ghost use Rattle.mob_slice.specs.Ranks.{holds};
 ghost use Rattle.mob_arith.specs.Operations.{both_hold, one_holds};
-ghost use Rattle.mob_eval.specs.Lifted.{OnPair, IsMovingBool, IsOrderTest, IsAnyTest, IsLiftedTest, IsLiftedNot, truths, texts, number_test, text_test, truth_test};
-ghost use Rattle.mob_eval.specs.Operators.{joined, IsJoined};
+ghost use Rattle.mob_eval.specs.Lifted.{OnPair, IsMovingBool, IsOrderTest, IsAnyTest, IsLiftedTest, IsLiftedNot, truth_pair, text_pair, number_test, text_test, truth_test};
+ghost use Rattle.mob_eval.specs.Operators.{concatenation, IsJoined};
 
 use crate::comparison::rel_of;
-use crate::pair::{numbers, texts, truths};
+use crate::pair::{number_pair, text_pair, truth_pair};
 use crate::temporal::{bool_or_null, text_or_null};
 use mob_arith::operation::{Joining, Operation};
 use mob_arith::{and, join_text, not, or};
@@ -19,9 +19,9 @@ use std::alloc::{AllocError, Global};
 
 /// `&`
 pub fn lifted_and(alloc: Global, left: &Value, right: &Value) -> Result<Value, AllocError>
-    ensures value { IfOk result (λ v. OnPair (truths left.now right.now) (IsMovingBool both_hold) v) }
+    ensures value { IfOk result (λ v. OnPair (truth_pair left.now right.now) (IsMovingBool both_hold) v) }
 {
-    match truths(left, right) {
+    match truth_pair(left, right) {
         Some((left, right)) => Ok(bool_or_null(and(alloc, left, right)?)),
         None => Ok(Value::Null),
     }
@@ -29,9 +29,9 @@ pub fn lifted_and(alloc: Global, left: &Value, right: &Value) -> Result<Value, A
 
 /// `|`
 pub fn lifted_or(alloc: Global, left: &Value, right: &Value) -> Result<Value, AllocError>
-    ensures value { IfOk result (λ v. OnPair (truths left.now right.now) (IsMovingBool one_holds) v) }
+    ensures value { IfOk result (λ v. OnPair (truth_pair left.now right.now) (IsMovingBool one_holds) v) }
 {
-    match truths(left, right) {
+    match truth_pair(left, right) {
         Some((left, right)) => Ok(bool_or_null(or(alloc, left, right)?)),
         None => Ok(Value::Null),
     }
@@ -70,9 +70,9 @@ fn text_comparison(
     left: &Value,
     right: &Value,
 ) -> Result<Value, AllocError>
-    ensures value { IfOk result (λ v. OnPair (texts left.now right.now) (IsMovingBool (text_test rel)) v) }
+    ensures value { IfOk result (λ v. OnPair (text_pair left.now right.now) (IsMovingBool (text_test rel)) v) }
 {
-    match texts(left, right) {
+    match text_pair(left, right) {
         Some((left, right)) => compared(alloc, rel, left, right),
         None => Ok(Value::Null),
     }
@@ -81,7 +81,7 @@ fn text_comparison(
 fn order(alloc: Global, rel: Rel, left: &Value, right: &Value) -> Result<Value, AllocError>
     ensures value { IfOk result (λ v. IsOrderTest rel left.now right.now v) }
 {
-    match numbers(left, right) {
+    match number_pair(left, right) {
         Some((left, right)) => compared(alloc, rel, left, right),
         None => text_comparison(alloc, rel, left, right),
     }
@@ -90,7 +90,7 @@ fn order(alloc: Global, rel: Rel, left: &Value, right: &Value) -> Result<Value, 
 fn comparison(alloc: Global, rel: Rel, left: &Value, right: &Value) -> Result<Value, AllocError>
     ensures value { IfOk result (λ v. IsAnyTest rel left.now right.now v) }
 {
-    match truths(left, right) {
+    match truth_pair(left, right) {
         Some((left, right)) => compared(alloc, rel, left, right),
         None => order(alloc, rel, left, right),
     }
@@ -113,7 +113,7 @@ pub fn lifted_test(
 }
 
 fn plain_joined(alloc: Global, left: &Value, right: &Value) -> Result<Value, AllocError>
-    ensures value { IfOk result (λ v. v ≡ joined left.now right.now) }
+    ensures value { IfOk result (λ v. v ≡ concatenation left.now right.now) }
 {
     match (left, right) {
         (Value::Text(a), Value::Text(b)) => match Joining::apply(alloc, a, b) {
@@ -129,7 +129,7 @@ fn plain_joined(alloc: Global, left: &Value, right: &Value) -> Result<Value, All
 pub fn join(alloc: Global, left: &Value, right: &Value) -> Result<Value, AllocError>
     ensures value { IfOk result (λ v. IsJoined left.now right.now v) }
 {
-    match texts(left, right) {
+    match text_pair(left, right) {
         Some((left, right)) => Ok(text_or_null(join_text(alloc, left, right)?)),
         None => plain_joined(alloc, left, right),
     }

@@ -1,6 +1,6 @@
 //! Three-valued logic, and the test of NULL.
 ghost use Rattle.std.specs.Prelude.{◌≡◌, not, cond, true, false, None, Some, option_map};
-ghost use Rattle.mob_eval.specs.Ordinary.{truth_of, known, conjunction, disjunction, is_null, is_true};
+ghost use Rattle.mob_eval.specs.Ordinary.{truth_of, known, conjunction, disjunction, is_null, is_true_value};
 
 use mob_value::Value;
 
@@ -78,8 +78,8 @@ pub fn is_null(value: &Value) -> bool
 }
 
 /// Whether a value is true.
-pub fn is_true(value: &Value) -> bool
-    ensures value { result ≡ is_true value.now }
+pub fn is_true_value(value: &Value) -> bool
+    ensures value { result ≡ is_true_value value.now }
 {
     match value {
         Value::Bool(truth) => *truth,

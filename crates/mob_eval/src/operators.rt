@@ -1,7 +1,7 @@
 //! Each operator, on the values of its operands.
 ghost use Rattle.std.specs.Prelude.{◌≡◌, IfOk, IfErr, IsErr, MatchResult, None, Some, Ok, Err};
 ghost use Rattle.mob_eval.specs.Views.{scene_of};
-ghost use Rattle.mob_eval.specs.Operators.{OfOne, OfTwo, FirstOfTwo};
+ghost use Rattle.mob_eval.specs.Operators.{GivesOfOne, GivesOfTwo, IsFirstOfTwo};
 ghost use Rattle.mob_eval.specs.Faults.{OnFormula};
 ghost use Rattle.mob_eval.specs.Held.{held};
 
@@ -34,7 +34,7 @@ pub fn of_one<'a>(
     op: Op,
     operand: &Held<'a>,
 ) -> Result<Held<'a>, AllocError>
-    ensures value { IfOk result (λ h. OfOne (scene_of view.now) op (held operand.now) (held h)) }
+    ensures value { IfOk result (λ h. GivesOfOne (scene_of view.now) op (held operand.now) (held h)) }
 {
     let value = operand.get();
     match op {
@@ -64,9 +64,9 @@ fn without_formula(value: Result<Value, AllocError>) -> Result<Value, OpFault>
 
 /// An operator on two operands, or its first formula with a part that does not fit.
 pub fn of_two(alloc: Global, op: Op, left: &Value, right: &Value) -> Result<Value, OpFault>
-    ensures value { IfOk result (λ v. OfTwo op left.now right.now v) }
-    ensures fits { IfOk result (λ _. FirstOfTwo op left.now right.now None) }
-    ensures fault { IfErr result (OnFormula (λ f. FirstOfTwo op left.now right.now (Some f))) }
+    ensures value { IfOk result (λ v. GivesOfTwo op left.now right.now v) }
+    ensures fits { IfOk result (λ _. IsFirstOfTwo op left.now right.now None) }
+    ensures fault { IfErr result (OnFormula (λ f. IsFirstOfTwo op left.now right.now (Some f))) }
 {
     match op {
         Op::And => Ok(known(conjunction(truth_of(left), truth_of(right)))),

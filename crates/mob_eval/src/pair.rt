@@ -1,7 +1,7 @@
 //! Operands of which one at least is temporal.
 ghost use Rattle.std.specs.Prelude.{◌≡◌, ◌||◌, true, IfSome, option_map};
 ghost use Rattle.mob_slice.specs.Operands.{is_moving};
-ghost use Rattle.mob_eval.specs.Lifted.{truths, numbers, texts, courses};
+ghost use Rattle.mob_eval.specs.Lifted.{truth_pair, number_pair, text_pair, courses};
 
 use mob_frac::Frac;
 use mob_list::text::Text;
@@ -12,8 +12,8 @@ use mob_value::Value;
 type Pair<'a, B> = (Operand<'a, Steady<B>>, Operand<'a, Steady<B>>);
 
 /// Two truth values. None where none is temporal, or one is no truth value.
-pub fn truths<'a>(left: &'a Value, right: &'a Value) -> Option<Pair<'a, bool>>
-    ensures courses { option_map courses result ≡ truths left.now right.now }
+pub fn truth_pair<'a>(left: &'a Value, right: &'a Value) -> Option<Pair<'a, bool>>
+    ensures courses { option_map courses result ≡ truth_pair left.now right.now }
     ensures moving { IfSome result (λ p. (is_moving p.0 || is_moving p.1) ≡ true) }
 {
     match (left, right) {
@@ -28,8 +28,8 @@ pub fn truths<'a>(left: &'a Value, right: &'a Value) -> Option<Pair<'a, bool>>
 }
 
 /// Two numbers. None where none is temporal, or one is no number.
-pub fn numbers<'a>(left: &'a Value, right: &'a Value) -> Option<Pair<'a, Frac>>
-    ensures courses { option_map courses result ≡ numbers left.now right.now }
+pub fn number_pair<'a>(left: &'a Value, right: &'a Value) -> Option<Pair<'a, Frac>>
+    ensures courses { option_map courses result ≡ number_pair left.now right.now }
     ensures moving { IfSome result (λ p. (is_moving p.0 || is_moving p.1) ≡ true) }
 {
     match (left, right) {
@@ -44,8 +44,8 @@ pub fn numbers<'a>(left: &'a Value, right: &'a Value) -> Option<Pair<'a, Frac>>
 }
 
 /// Two texts. None where none is temporal, or one is no text.
-pub fn texts<'a>(left: &'a Value, right: &'a Value) -> Option<Pair<'a, Text>>
-    ensures courses { option_map courses result ≡ texts left.now right.now }
+pub fn text_pair<'a>(left: &'a Value, right: &'a Value) -> Option<Pair<'a, Text>>
+    ensures courses { option_map courses result ≡ text_pair left.now right.now }
     ensures moving { IfSome result (λ p. (is_moving p.0 || is_moving p.1) ≡ true) }
 {
     match (left, right) {

@@ -2,7 +2,7 @@
 ghost use Rattle.std.specs.Prelude.{◌≡◌, ◌≢◌, IfOk};
 ghost use Rattle.mob_value.specs.declared.value.Value.TheVariants.{Null, Text as TextOf};
 ghost use Rattle.mob_literal.specs.SqlText.{value_text};
-ghost use Rattle.mob_eval.specs.Operators.{printed};
+ghost use Rattle.mob_eval.specs.Operators.{temporal_text};
 
 use mob_list::text::Text;
 use mob_literal::write_value;
@@ -21,7 +21,7 @@ fn text_of(alloc: Global, value: &Value, epoch: &Epoch) -> Result<Value, AllocEr
 
 /// asText: the printed text of a temporal value.
 pub fn as_text(alloc: Global, value: &Value, epoch: &Epoch) -> Result<Value, AllocError>
-    ensures value { IfOk result (λ v. v ≡ printed epoch.now value.now) }
+    ensures value { IfOk result (λ v. v ≡ temporal_text epoch.now value.now) }
 {
     match value {
         Value::MovingBool(_) => text_of(alloc, value, epoch),

@@ -1,7 +1,7 @@
 //! What an expression reads.
 ghost use Rattle.std.specs.Prelude.{◌≡◌, MatchOption, option_map};
 ghost use Rattle.mob_value.specs.declared.value.Value.TheVariants.{Null};
-ghost use Rattle.mob_eval.specs.Scene.{constant, cell, leaf};
+ghost use Rattle.mob_eval.specs.Scene.{constant_at, column_value, leaf_value};
 ghost use Rattle.mob_eval.specs.Views.{scene_of};
 ghost use Rattle.mob_eval.specs.Held.{held};
 
@@ -23,14 +23,14 @@ pub struct View<'a> {
     pub epoch: &'a Epoch,
 }
 
-fn constant<'a>(view: &View<'a>, number: u32) -> Option<&'a Value>
-    ensures value { option_map (λ v. v.now) result ≡ constant (scene_of view.now) number }
+fn constant_at<'a>(view: &View<'a>, number: u32) -> Option<&'a Value>
+    ensures value { option_map (λ v. v.now) result ≡ constant_at (scene_of view.now) number }
 {
     view.store.consts.as_slice().get(number as usize)
 }
 
-fn cell<'a>(view: &View<'a>, place: u32, column: u32) -> Option<&'a Value>
-    ensures value { option_map (λ v. v.now) result ≡ cell (scene_of view.now) place column }
+fn column_value<'a>(view: &View<'a>, place: u32, column: u32) -> Option<&'a Value>
+    ensures value { option_map (λ v. v.now) result ≡ column_value (scene_of view.now) place column }
 {
     let table = *view.from.get(place as usize)?;
     let row = *view.tuple.get(place as usize)?;
@@ -55,12 +55,12 @@ fn stored<'a>(value: Option<&'a Value>) -> Held<'a>
 }
 
 /// The value of an operator without operands.
-pub fn leaf<'a>(view: &View<'a>, op: Op) -> Held<'a>
-    ensures value { held result ≡ leaf (scene_of view.now) op }
+pub fn leaf_value<'a>(view: &View<'a>, op: Op) -> Held<'a>
+    ensures value { held result ≡ leaf_value (scene_of view.now) op }
 {
     match op {
-        Op::Const(number) => stored(constant(view, number)),
-        Op::Column { from, column } => stored(cell(view, from, column)),
+        Op::Const(number) => stored(constant_at(view, number)),
+        Op::Column { from, column } => stored(column_value(view, from, column)),
         _ => Held::Made(Value::Null),
     }
 }

@@ -5,7 +5,7 @@ ghost use Rattle.std.specs.Prelude.{◌≡◌, MatchOption};
 ghost use Rattle.mob_ratio.specs.Order.{same};
 ghost use Rattle.mob_slice.specs.Sameness.{same_bool, same_bytes};
 ghost use Rattle.mob_value.specs.declared.value.Value.TheVariants.{MovingBool, MovingInt, MovingText};
-ghost use Rattle.mob_eval.specs.Lifted.{or_nothing, AreNormal};
+ghost use Rattle.mob_eval.specs.Lifted.{or_nothing, AreNormalSteps};
 
 use mob_frac::Frac;
 use mob_list::text::Text;
@@ -15,7 +15,7 @@ use mob_value::Value;
 /// A tbool, or NULL for None.
 pub fn bool_or_null(value: Option<Moving<Steady<bool>>>) -> Value
     ensures value { result ≡ or_nothing MovingBool value }
-    ensures normal { MatchOption value (Unit {0}) (AreNormal same_bool) }
+    ensures normal { MatchOption value (Unit {0}) (AreNormalSteps same_bool) }
 {
     match value {
         Some(moving) => {
@@ -29,7 +29,7 @@ pub fn bool_or_null(value: Option<Moving<Steady<bool>>>) -> Value
 /// A tint, or NULL for None.
 pub fn int_or_null(value: Option<Moving<Steady<Frac>>>) -> Value
     ensures value { result ≡ or_nothing MovingInt value }
-    ensures normal { MatchOption value (Unit {0}) (AreNormal same) }
+    ensures normal { MatchOption value (Unit {0}) (AreNormalSteps same) }
 {
     match value {
         Some(moving) => {
@@ -43,7 +43,7 @@ pub fn int_or_null(value: Option<Moving<Steady<Frac>>>) -> Value
 /// A ttext, or NULL for None.
 pub fn text_or_null(value: Option<Moving<Steady<Text>>>) -> Value
     ensures value { result ≡ or_nothing MovingText value }
-    ensures normal { MatchOption value (Unit {0}) (AreNormal same_bytes) }
+    ensures normal { MatchOption value (Unit {0}) (AreNormalSteps same_bytes) }
 {
     match value {
         Some(moving) => {

@@ -2,7 +2,7 @@
 ghost use Rattle.std.specs.Prelude.{◌≡◌, Ok, Err, IfOk, IfErr, map};
 ghost use Rattle.mob_typing.specs.Trees.{typed_of};
 ghost use Rattle.mob_eval.specs.Views.{scene_of};
-ghost use Rattle.mob_eval.specs.Runs.{Runs, RunsAll, OnPassed, stops, stop_of};
+ghost use Rattle.mob_eval.specs.Evaluation.{EvaluatesTo, OperandsEvaluateTo, OnPassed, stops, stop_of};
 ghost use Rattle.mob_eval.specs.SoFar.{trees};
 ghost use Rattle.mob_eval.specs.Faults.{fault_of};
 ghost use Rattle.mob_eval.specs.Held.{held};
@@ -51,8 +51,8 @@ fn fault_at(place: u32, fault: OpFault) -> EvalFault
 /// The value of an expression, where it stands or in memory of its own.
 #[cycle(walk)]
 pub fn held_value<'a>(alloc: Global, e: &TExpr, view: &View<'a>) -> Result<Held<'a>, EvalFault>
-    ensures value { IfOk result (λ h. Runs (scene_of view.now) e.now (Ok (held h))) }
-    ensures fault { IfErr result (OnPassed (λ f. Runs (scene_of view.now) e.now (Err f))) }
+    ensures value { IfOk result (λ h. EvaluatesTo (scene_of view.now) e.now (Ok (held h))) }
+    ensures fault { IfErr result (OnPassed (λ f. EvaluatesTo (scene_of view.now) e.now (Err f))) }
 {
     let args = e.args.as_slice();
     let op = e.op;
@@ -73,8 +73,8 @@ fn operands<'a>(
     args: &[TExpr],
     view: &View<'a>,
 ) -> Result<Items<Held<'a>>, EvalFault>
-    ensures values { IfOk result (λ hs. RunsAll (scene_of view.now) stop (trees args.now) (Ok (map held hs))) }
-    ensures fault { IfErr result (OnPassed (λ f. RunsAll (scene_of view.now) stop (trees args.now) (Err f))) }
+    ensures values { IfOk result (λ hs. OperandsEvaluateTo (scene_of view.now) stop (trees args.now) (Ok (map held hs))) }
+    ensures fault { IfErr result (OnPassed (λ f. OperandsEvaluateTo (scene_of view.now) stop (trees args.now) (Err f))) }
 {
     let mut values = Items::new(alloc);
     for arg in args {

@@ -10,9 +10,9 @@ use Rattle.mob_ast.specs.Trees.{Tree, tree, Trees, none, more, trees_from}
 use Rattle.mob_grammar.specs.declared.mark.Mark.{Mark}
 use Rattle.mob_grammar.specs.declared.mark.Mark.TheVariants.{Distinct, Not, Is, Null, True, False, Tilde, Times, Cast, Open, Close, Comma, Dot}
 use Rattle.mob_grammar.specs.Marks.{is, strength}
-use Rattle.mob_grammar.specs.Symbols.{Tok, sign, named, numeral, string, is_sign, is_name, is_string, binding, begins, starts, goes_on, binary, unary, leaf}
+use Rattle.mob_grammar.specs.Symbols.{Tok, sign, identifier, numeral, string, is_sign, is_name, is_string, binding, begins, starts, goes_on, binary, unary, leaf}
 use Rattle.mob_grammar.specs.Expressions.{Rank, disjunction, conjunction, negation, nullness, comparison, other, complement, sum, product, signed, cast, primary, next, tight, chains, prefixes, word, TypeName, plain, inner, Phrase, up, chain, prefixed, is_null, is_not_null, compared, cast_to, a_number, a_string, is_true, is_false, a_null, a_literal, a_call, a_column, a_table_column, in_brackets, Arguments, nothing, something, Behind, end, another}
-use Rattle.mob_grammar.specs.Reading.{Answer, Reader, ◌>>=◌, closed, if_mark, name_at, string_at, inner_at, type_at, listed_from, listed, chain_from, postfix_from, null_at, cast_at, args, is_literal, literal_at, column_at, opened, named_at, mark_primary, expression_at, cast_rank, signed_rank, product_rank, sum_rank, complement_rank, other_rank, comparison_rank, nullness_rank, negation_rank, conjunction_rank, disjunction_rank}
+use Rattle.mob_grammar.specs.Reading.{Answer, TokenReader, ◌>>=◌, closed, if_mark, name_at, string_at, inner_at, type_at, listed_from, listed, chain_from, postfix_from, null_at, cast_at, args, is_literal, literal_at, column_at, opened, named_at, mark_primary, expression_at, cast_rank, signed_rank, product_rank, sum_rank, complement_rank, other_rank, comparison_rank, nullness_rank, negation_rank, conjunction_rank, disjunction_rank}
 use Rattle.mob_grammar.specs.Reading as read
 use Rattle.mob_grammar.proofs.Steps.{passed, told, token_is, name_is, string_is, chain_goes_on, chain_stops, prefix_goes_on, prefix_stops, compared_goes_on, compared_stops, postfix_goes_on, postfix_stops, closed_there, listed_goes_on, listed_stops}
 use Rattle.mob_grammar.proofs.Tells.{through}
@@ -170,7 +170,7 @@ begins_with a_table_column = (refl, refl, refl)
 begins_with (in_brackets a) = (refl, refl, refl)
 
 -- the reader of each rank
-abbrev pub reader_at : Rank → Reader Tree
+abbrev pub reader_at : Rank → TokenReader Tree
 reader_at disjunction = disjunction_rank expression_at
 reader_at conjunction = conjunction_rank expression_at
 reader_at negation = negation_rank expression_at
@@ -188,7 +188,7 @@ reader_at primary = read.primary expression_at
 abbrev Chained : Rank → List Tok → Tree → List Tok → Type 0
 Chained k l e r = (m : ℕ) × (length r ≤ m) × (reader_at k l ≡ chain_from (tight k) (reader_at (next k)) m e r)
 
-abbrev Followed : Rank → Mark → Reader Node → List Tok → Tree → List Tok → Type 0
+abbrev Followed : Rank → Mark → TokenReader Node → List Tok → Tree → List Tok → Type 0
 Followed k m tail l e r = (n : ℕ) × (length r ≤ n) × (reader_at k l ≡ postfix_from m tail n e r)
 
 abbrev Read : Rank → List Tok → Tree → List Tok → Type 0
@@ -227,11 +227,11 @@ begin_chain : (k : Rank) (l : List Tok) (e : Tree) (r : List Tok) → reader_at 
 unfolding read.chain
 begin_chain k l e r is_chain short h = (length l, omega arith, is_chain ∙ through (reader_at (next k) l) e r _ h)
 
-begin_postfix : (m : Mark) (tail : Reader Node) (operand : Reader Tree) (l : List Tok) (e : Tree) (r : List Tok) → operand l ≡ Ok (e, r) → read.postfix m tail operand l ≡ postfix_from m tail (length l) e r
+begin_postfix : (m : Mark) (tail : TokenReader Node) (operand : TokenReader Tree) (l : List Tok) (e : Tree) (r : List Tok) → operand l ≡ Ok (e, r) → read.postfix m tail operand l ≡ postfix_from m tail (length l) e r
 unfolding read.postfix
 begin_postfix m tail operand l e r h = through (operand l) e r _ h
 
-begin_comparison : (operand : Reader Tree) (l r : List Tok) (e : Tree) → operand l ≡ Ok (e, r) → read.comparison operand l ≡ read.compared operand e r
+begin_comparison : (operand : TokenReader Tree) (l r : List Tok) (e : Tree) → operand l ≡ Ok (e, r) → read.comparison operand l ≡ read.compared operand e r
 unfolding read.comparison
 begin_comparison operand l r e h = through (operand l) e r _ h
 
@@ -392,7 +392,7 @@ not_null_read : (q o : ℕ) (r : List Tok) → null_at (sign Not q ∷ sign Null
 unfolding null_at if_mark closed
 not_null_read q o r = refl
 
-longer_postfix : (k : Rank) (m : Mark) (tail : Reader Node) (l u r : List Tok) (a : Tree) (p : ℕ) (x : Node) → is m m ≡ true → Followed k m tail l a (sign m p ∷ u) → length r ≤ length u → tail u ≡ Ok (x, r) → Followed k m tail l (tree x p (more a none)) r
+longer_postfix : (k : Rank) (m : Mark) (tail : TokenReader Node) (l u r : List Tok) (a : Tree) (p : ℕ) (x : Node) → is m m ≡ true → Followed k m tail l a (sign m p ∷ u) → length r ≤ length u → tail u ≡ Ok (x, r) → Followed k m tail l (tree x p (more a none)) r
 longer_postfix k m tail l u r a p x itself c short h =
     (c.0 - 1, omega (arith, c.1), c.2 ∙ postfix_goes_on m tail c.0 a (sign m p) u itself c.1 ∙ through (tail u) x r _ h)
 
@@ -401,7 +401,7 @@ column_alone : (w : Word) (l : List Tok) → Stops primary l → named_at expres
 unfolding named_at if_mark
 column_alone w l h = passed (begins is_string l) _ _ (stops_string l h) ∙ passed (starts Open l) _ _ (stops_mark primary Open l (omega arith) h) ∙ passed (starts Dot l) _ _ (stops_mark primary Dot l (omega arith) h)
 
-column_of_table : (w : Word) (q : ℕ) (m : List ℕ) (o : ℕ) (l : List Tok) → named_at expression_at w (sign Dot q ∷ named m o ∷ l) ≡ Ok (leaf (node.Column (Some w) (word m o)) w.place, l)
+column_of_table : (w : Word) (q : ℕ) (m : List ℕ) (o : ℕ) (l : List Tok) → named_at expression_at w (sign Dot q ∷ identifier m o ∷ l) ≡ Ok (leaf (node.Column (Some w) (word m o)) w.place, l)
 unfolding named_at if_mark column_at name_at
 column_of_table w q m o l = refl
 
@@ -414,7 +414,7 @@ call_read : (w : Word) (q : ℕ) (l r : List Tok) (ts : List Tree) → is_litera
 unfolding named_at if_mark opened
 call_read w q l r ts h d = passed (is_literal l) _ _ h ∙ through (args expression_at l) ts r _ d
 
-primary_name : (n : List ℕ) (p : ℕ) (l : List Tok) → read.primary expression_at (named n p ∷ l) ≡ named_at expression_at (word n p) l
+primary_name : (n : List ℕ) (p : ℕ) (l : List Tok) → read.primary expression_at (identifier n p ∷ l) ≡ named_at expression_at (word n p) l
 unfolding read.primary
 primary_name n p l = refl
 
@@ -482,7 +482,7 @@ mutual
       let found = complete_arguments d in
       primary_name n p (sign Open q ∷ l) ∙ call_read (word n p) q l r found.0 (not_literal l r found.0 found.1 stops) found.1 ∙ ap (λ x. Ok (tree (node.Call n) p x, r)) found.2
   complete (a_column {r} {n} {p}) stops = primary_name n p r ∙ column_alone (word n p) r stops
-  complete (a_table_column {r} {n} {m} {p} {q} {o}) stops = primary_name n p (sign Dot q ∷ named m o ∷ r) ∙ column_of_table (word n p) q m o r
+  complete (a_table_column {r} {n} {m} {p} {q} {o}) stops = primary_name n p (sign Dot q ∷ identifier m o ∷ r) ∙ column_of_table (word n p) q m o r
   complete (in_brackets {l} {r} {a} {p} {q} d) stops = brackets_read p q l r a (inside l (sign Close q ∷ r) a (complete d (omega arith)) (omega arith))
 
   complete_arguments : {l r : List Tok} {es : Trees} → Arguments l es r → (ts : List Tree) × (args expression_at l ≡ Ok (ts, r)) × (trees_from ts ≡ es)

@@ -13,7 +13,7 @@ use Rattle.mob_grammar.specs.declared.mark.Mark.TheVariants.{And, Or, Not, Tilde
 use Rattle.mob_grammar.specs.Symbols as symbol
 use Rattle.mob_grammar.specs.Symbols.{Tok, Symbol, sign, numeral, is_sign, binding, symbol_strength, mark_node, symbol_node, binary, unary, leaf}
 use Rattle.mob_grammar.specs.Expressions.{Rank, disjunction, conjunction, negation, nullness, comparison, other as other_rank, complement, sum, product, signed, cast, primary, chains, prefixes, TypeName, plain, inner, Phrase, up, chain, prefixed, is_null, is_not_null, compared, cast_to, a_number, a_string, is_true, is_false, a_null, a_literal, a_call, a_column, a_table_column, in_brackets, Arguments, nothing as no_arguments, something, Behind, end, another}
-use Rattle.mob_grammar.specs.Forms.{Form, ◌▸◌, ◌∣◌, Listed, single, several}
+use Rattle.mob_grammar.specs.Forms.{Production, ◌▸◌, ◌∣◌, Listed, single, several}
 use Rattle.mob_grammar.specs.Scripts.{Const, Row, ColumnType, FromEntry, SecondName, Alias, SelectItem, Direction, OrderKey, OnlyDistinct, FromPart, WherePart, OrderPart, LimitPart, SelectBody, CreateTable, CreateIndex, InsertRows, CopyFile, WithFormat, WithDelimiter, Statement}
 use Rattle.mob_grammar.specs.Places.{IsWithin, nothing, other, same, literal_place, tree_places, trees_places, row_places, item_places, condition_places, key_places, select_places, statement_places, script_places, StandsAtTokens}
 use Rattle.mob_grammar.specs.Held.{word_held, string_held, type_held, node_held, tree_held, trees_held, row_held, column_held, item_held, from_held, condition_held, key_held, select_held, statement_held}
@@ -235,19 +235,19 @@ mutual
   behind_passes (another d ds) = by refl (join (phrase_passes d) (behind_passes ds))
 
 -- a form passes the places of what it says
-abbrev Along : {A : Type 0} → (A → List ℕ) → (A → List ℕ) → Form A → Type 0
+abbrev Along : {A : Type 0} → (A → List ℕ) → (A → List ℕ) → Production A → Type 0
 Along {A} places held F = (l : List Tok) (x : A) (r : List Tok) → F l x r → Passes l (places x) (held x) r
 
 -- what a form says may have no places
 abbrev no_places : {A : Type 0} → A → List ℕ
 no_places x = []
 
-along_listed : {A : Type 0} (m : Mark) → ((p : ℕ) → IsInside (sign m p)) → (F : Form A) (places held : A → List ℕ) → Along places held F → Along (flat_map places) (flat_map held) (Listed m F)
+along_listed : {A : Type 0} (m : Mark) → ((p : ℕ) → IsInside (sign m p)) → (F : Production A) (places held : A → List ℕ) → Along places held F → Along (flat_map places) (flat_map held) (Listed m F)
 along_listed m inside F places held f l _ r (single {x = x} d) = join (f l x r d) here
 along_listed m inside F places held f l _ r (several {u = u} {x = x} {xs = xs} {p = p} d ds) = join (f l x (sign m p ∷ u) d) (by (inside p) (along_listed m inside F places held f u xs r ds))
 
 -- the same without literals
-none_listed : {A : Type 0} (m : Mark) → ((p : ℕ) → IsInside (sign m p)) → (F : Form A) (held : A → List ℕ) → Along no_places held F → Along no_places (flat_map held) (Listed m F)
+none_listed : {A : Type 0} (m : Mark) → ((p : ℕ) → IsInside (sign m p)) → (F : Production A) (held : A → List ℕ) → Along no_places held F → Along no_places (flat_map held) (Listed m F)
 none_listed m inside F held f l _ r (single {x = x} d) = join (f l x r d) here
 none_listed m inside F held f l _ r (several {u = u} {x = x} {xs = xs} {p = p} d ds) = join (f l x (sign m p ∷ u) d) (by (inside p) (none_listed m inside F held f u xs r ds))
 

@@ -9,10 +9,10 @@ use Rattle.mob_ast.specs.Trees.{Tree, tree, Trees, none, more, trees_from}
 use Rattle.mob_grammar.specs.declared.mark.Mark.{Mark}
 use Rattle.mob_grammar.specs.declared.mark.Mark.TheVariants.{Not, Is, Null, True, False, Tilde, Cast, Open, Close, Comma, Dot}
 use Rattle.mob_grammar.specs.Marks.{is}
-use Rattle.mob_grammar.specs.Symbols.{Symbol, fixed, name, number, quoted, Tok, sign, named, numeral, string, is_sign, is_name, is_string, binding, begins, starts, goes_on, binary, unary, leaf}
+use Rattle.mob_grammar.specs.Symbols.{Symbol, fixed, name, number, quoted, Tok, sign, identifier, numeral, string, is_sign, is_name, is_string, binding, begins, starts, goes_on, binary, unary, leaf}
 use Rattle.mob_grammar.specs.Expressions.{Rank, disjunction, conjunction, negation, nullness, comparison, other, complement, sum, product, signed, cast, primary, next, tight, chains, prefixes, word, TypeName, plain, inner, Phrase, up, chain, prefixed, is_null, is_not_null, compared, cast_to, a_number, a_string, is_true, is_false, a_null, a_literal, a_call, a_column, a_table_column, in_brackets, Arguments, nothing, something, Behind, end, another}
-use Rattle.mob_grammar.specs.Forms.{Form, Says, AName, AString, ◌⇒◌, ◌▸◌, ◌∣◌, Listed, single, several}
-use Rattle.mob_grammar.specs.Reading.{Answer, Reader, ◌>>=◌, closed, after, if_mark, name_at, number_at, string_at, inner_at, type_at, listed_from, listed, chain_from, postfix_from, null_at, cast_at, args, is_literal, literal_at, column_at, opened, named_at, mark_primary, nest, cast_rank, signed_rank, product_rank, sum_rank, complement_rank, other_rank, comparison_rank, nullness_rank, negation_rank, conjunction_rank, disjunction_rank}
+use Rattle.mob_grammar.specs.Forms.{Production, Builds, AName, AString, ◌⇒◌, ◌▸◌, ◌∣◌, Listed, single, several}
+use Rattle.mob_grammar.specs.Reading.{Answer, TokenReader, ◌>>=◌, closed, behind_mark, if_mark, name_at, number_at, string_at, inner_at, type_at, listed_from, listed, chain_from, postfix_from, null_at, cast_at, args, is_literal, literal_at, column_at, opened, named_at, mark_primary, nest, cast_rank, signed_rank, product_rank, sum_rank, complement_rank, other_rank, comparison_rank, nullness_rank, negation_rank, conjunction_rank, disjunction_rank}
 use Rattle.mob_grammar.specs.Reading as read
 use Rattle.mob_grammar.proofs.Marks.{same_mark}
 use Rattle.mob_grammar.proofs.Steps.{chosen, passed, told, token_is, name_is, string_is, chain_stops, prefix_stops, compared_stops, postfix_stops}
@@ -27,7 +27,7 @@ stays : (k : Rank) (e : Tree) → Ready (Extends k e)
 stays k e = record { closing = []; plain = tt; value = e; closes = λ z l p. p }
 
 -- chains
-module _ (k : Rank) (is_op : (t : Tok) → binding t ≡ tight k → chains k t ≡ true) (n : ℕ) (operand : Reader Tree) (law : Lawful (Phrase (next k)) n operand) where
+module _ (k : Rank) (is_op : (t : Tok) → binding t ≡ tight k → chains k t ≡ true) (n : ℕ) (operand : TokenReader Tree) (law : Lawful (Phrase (next k)) n operand) where
   turn : (m : ℕ) (e : Tree) (t : Tok) (l : List Tok) → binding t ≡ tight k → chain_from (tight k) operand (suc m) e (t ∷ l) ≡ (operand l >>= λ x. chain_from (tight k) operand m (binary t e x.0) x.1)
   unfolding chain_from
   turn m e t l b = chosen _ _ _ (eq-eqb _ _ b)
@@ -60,7 +60,7 @@ module _ (k : Rank) (is_op : (t : Tok) → binding t ≡ tight k → chains k t 
       (λ x u less. tells_chain_from (length l) x u less (omega arith)))
 
 -- a reader and then a node round what it gives
-module _ {A B : Type 0} (First : List Tok → A → List Tok → Type 0) (R : List Tok → B → List Tok → Type 0) (node : A → B) (join : (l : List Tok) (x : A) (r : List Tok) → First l x r → R l (node x) r) (s : Reader A) where
+module _ {A B : Type 0} (First : List Tok → A → List Tok → Type 0) (R : List Tok → B → List Tok → Type 0) (node : A → B) (join : (l : List Tok) (x : A) (r : List Tok) → First l x r → R l (node x) r) (s : TokenReader A) where
   tells_node : (l : List Tok) → Tells First (λ m. s) l (s l) → Tells R (λ m u. s u >>= λ x. Ok (node x.0, x.1)) l (s l >>= λ x. Ok (node x.0, x.1))
   tells_node l law =
       let IsNode : A → List Tok → B → List Tok → Type 0 = λ x u y r. (y ≡ node x) × (r ≡ u) in
@@ -69,7 +69,7 @@ module _ {A B : Type 0} (First : List Tok → A → List Tok → Type 0) (R : Li
       l 0 (s l) law (λ x u less. tells_done (IsNode x) (λ m u. Ok (node x, u)) u (node x) (λ y. (refl, refl)) (λ y a m. refl))
 
 -- marks in front
-module _ (k : Rank) (test : Tok → Bool) (is_one_of : (t : Tok) → test t ≡ true → prefixes k t ≡ true) (n : ℕ) (operand : Reader Tree) (law : Lawful (Phrase (next k)) n operand) where
+module _ (k : Rank) (test : Tok → Bool) (is_one_of : (t : Tok) → test t ≡ true → prefixes k t ≡ true) (n : ℕ) (operand : TokenReader Tree) (law : Lawful (Phrase (next k)) n operand) where
   prefix_plain : (l : List Tok) → length l < n → begins test l ≡ false → Tells (Phrase k) (λ m. read.prefix test operand) l (read.prefix test operand l)
   prefix_plain l short h = subst (Tells (Phrase k) (λ m. read.prefix test operand) l) (sym (prefix_stops test operand l h))
       (tells_same (Phrase (next k)) (Phrase k) (λ m. operand) (λ m. read.prefix test operand) l (λ y a m. prefix_stops test operand y (alike_begins test l y a ∙ h)) (λ u x r p. up p) (operand l) (law l short))
@@ -91,7 +91,7 @@ module _ (k : Rank) (test : Tok → Bool) (is_one_of : (t : Tok) → test t ≡ 
 abbrev Compares : Tree → List Tok → Tree → List Tok → Type 0
 Compares e u y r = (l : List Tok) → Phrase other l e u → Phrase comparison l y r
 
-module _ (n : ℕ) (operand : Reader Tree) (law : Lawful (Phrase other) n operand) where
+module _ (n : ℕ) (operand : TokenReader Tree) (law : Lawful (Phrase other) n operand) where
   compared_turn : (e : Tree) (t : Tok) (l : List Tok) → binding t ≡ 5 → read.compared operand e (t ∷ l) ≡ (operand l >>= λ x. Ok (binary t e x.0, x.1))
   unfolding read.compared
   compared_turn e t l h = chosen _ _ _ (eq-eqb _ _ h)
@@ -115,8 +115,8 @@ module _ (n : ℕ) (operand : Reader Tree) (law : Lawful (Phrase other) n operan
       (λ u w r x y fst snd. snd u fst) (λ x. record { closing = []; plain = tt; value = x; closes = λ z v p. up p }) l 0 (operand l) (law l short) (λ x u less. tells_compared x u (omega arith))
 
 -- nodes behind
-module _ (k : Rank) (m : Mark) (Tail : Form Node) (tail : Reader Node) (join : (l u r : List Tok) (e : Tree) (p : ℕ) (x : Node) → Phrase k l e (sign m p ∷ u) → Tail u x r → Phrase k l (tree x p (more e none)) r)
-    (n : ℕ) (tail_law : Lawful Tail n tail) (operand : Reader Tree) (law : Lawful (Phrase (next k)) n operand) where
+module _ (k : Rank) (m : Mark) (Tail : Production Node) (tail : TokenReader Node) (join : (l u r : List Tok) (e : Tree) (p : ℕ) (x : Node) → Phrase k l e (sign m p ∷ u) → Tail u x r → Phrase k l (tree x p (more e none)) r)
+    (n : ℕ) (tail_law : Lawful Tail n tail) (operand : TokenReader Tree) (law : Lawful (Phrase (next k)) n operand) where
   postfix_turn : (i : ℕ) (e : Tree) (t : Tok) (l : List Tok) → is_sign m t ≡ true → postfix_from m tail (suc i) e (t ∷ l) ≡ (tail l >>= λ x. postfix_from m tail i (tree x.0 t.place (more e none)) x.1)
   unfolding postfix_from
   postfix_turn i e t l h = chosen _ _ _ h
@@ -148,8 +148,8 @@ module _ (k : Rank) (m : Mark) (Tail : Form Node) (tail : Reader Node) (join : (
       (λ x u less. tells_postfix_from (length l) x u less (omega arith)))
 
 -- NULL or NOT NULL
-abbrev NullTail : Form Node
-NullTail = Not ▸ Null ▸ Says node.IsNotNull ∣ Null ▸ Says node.IsNull
+abbrev NullTail : Production Node
+NullTail = Not ▸ Null ▸ Builds node.IsNotNull ∣ Null ▸ Builds node.IsNull
 
 null_joins : (l u r : List Tok) (e : Tree) (p : ℕ) (x : Node) → Phrase nullness l e (sign Is p ∷ u) → NullTail u x r → Phrase nullness l (tree x p (more e none)) r
 null_joins l u r e p x d (inl (q, v, at_not, (o, w, at_null, (says, left)))) =
@@ -161,36 +161,36 @@ null_joins l u r e p x d (inr (q, v, at_null, (says, left))) =
 
 lawful_null : (n : ℕ) → Lawful NullTail n null_at
 unfolding null_at
-lawful_null n = lawful_if Not (Null ▸ Says node.IsNotNull) n (closed Null node.IsNotNull) (lawful_closed Null n node.IsNotNull) (Null ▸ Says node.IsNull) (closed Null node.IsNull) (lawful_closed Null n node.IsNull)
+lawful_null n = lawful_if Not (Null ▸ Builds node.IsNotNull) n (closed Null node.IsNotNull) (lawful_closed Null n node.IsNotNull) (Null ▸ Builds node.IsNull) (closed Null node.IsNull) (lawful_closed Null n node.IsNull)
 
 -- types
-abbrev TypeForm : Form TypeWord
-TypeForm = AName ⇒ λ w. (Open ▸ AName ⇒ λ v. Close ▸ Says (record { name = w; inner = Some v })) ∣ Says (record { name = w; inner = None })
+abbrev TypeForm : Production TypeWord
+TypeForm = AName ⇒ λ w. (Open ▸ AName ⇒ λ v. Close ▸ Builds (record { name = w; inner = Some v })) ∣ Builds (record { name = w; inner = None })
 
 type_is : (l : List Tok) (ty : TypeWord) (r : List Tok) → TypeForm l ty r → TypeName l ty r
 type_is l ty r (w, u, at_name, inl (p, v, at_open, (i, z, at_inner, (q, y, at_close, (says, left))))) =
-    let all : l ≡ named w.text w.place ∷ sign Open p ∷ named i.text i.place ∷ sign Close q ∷ r = cc in
-    subst (λ z. TypeName z ty r) (sym all) (subst (λ z. TypeName (named w.text w.place ∷ sign Open p ∷ named i.text i.place ∷ sign Close q ∷ r) z r) (sym says) inner)
+    let all : l ≡ identifier w.text w.place ∷ sign Open p ∷ identifier i.text i.place ∷ sign Close q ∷ r = cc in
+    subst (λ z. TypeName z ty r) (sym all) (subst (λ z. TypeName (identifier w.text w.place ∷ sign Open p ∷ identifier i.text i.place ∷ sign Close q ∷ r) z r) (sym says) inner)
 type_is l ty r (w, u, at_name, inr (says, left)) =
-    let all : l ≡ named w.text w.place ∷ r = cc in
-    subst (λ z. TypeName z ty r) (sym all) (subst (λ z. TypeName (named w.text w.place ∷ r) z r) (sym says) plain)
+    let all : l ≡ identifier w.text w.place ∷ r = cc in
+    subst (λ z. TypeName z ty r) (sym all) (subst (λ z. TypeName (identifier w.text w.place ∷ r) z r) (sym says) plain)
 
-pub lawful_inner : (n : ℕ) (w : Word) → Lawful (AName ⇒ λ v. Close ▸ Says (record { name = w; inner = Some v })) n (inner_at w)
+pub lawful_inner : (n : ℕ) (w : Word) → Lawful (AName ⇒ λ v. Close ▸ Builds (record { name = w; inner = Some v })) n (inner_at w)
 unfolding inner_at
-lawful_inner n w = lawful_then AName (λ v. Close ▸ Says (record { name = w; inner = Some v })) n name_at (λ v. closed Close (record { name = w; inner = Some v })) (lawful_name n) (λ v. lawful_closed Close n (record { name = w; inner = Some v }))
+lawful_inner n w = lawful_then AName (λ v. Close ▸ Builds (record { name = w; inner = Some v })) n name_at (λ v. closed Close (record { name = w; inner = Some v })) (lawful_name n) (λ v. lawful_closed Close n (record { name = w; inner = Some v }))
 
 pub lawful_type : (n : ℕ) → Lawful TypeName n type_at
 unfolding type_at
 lawful_type n l short = tells_same TypeForm TypeName (λ m. type_at) (λ m. type_at) l (λ y a m. refl) type_is (type_at l)
-    (lawful_then AName (λ w. (Open ▸ AName ⇒ λ v. Close ▸ Says (record { name = w; inner = Some v })) ∣ Says (record { name = w; inner = None })) n name_at (λ w. if_mark Open (inner_at w) (λ u. Ok (record { name = w; inner = None }, u))) (lawful_name n)
-    (λ w. lawful_if Open (AName ⇒ λ v. Close ▸ Says (record { name = w; inner = Some v })) n (inner_at w) (lawful_inner n w) (Says (record { name = w; inner = None })) (λ u. Ok (record { name = w; inner = None }, u)) (lawful_says n (record { name = w; inner = None }))) l short)
+    (lawful_then AName (λ w. (Open ▸ AName ⇒ λ v. Close ▸ Builds (record { name = w; inner = Some v })) ∣ Builds (record { name = w; inner = None })) n name_at (λ w. if_mark Open (inner_at w) (λ u. Ok (record { name = w; inner = None }, u))) (lawful_name n)
+    (λ w. lawful_if Open (AName ⇒ λ v. Close ▸ Builds (record { name = w; inner = Some v })) n (inner_at w) (lawful_inner n w) (Builds (record { name = w; inner = None })) (λ u. Ok (record { name = w; inner = None }, u)) (lawful_says n (record { name = w; inner = None }))) l short)
 
-abbrev CastTail : Form Node
-CastTail = TypeName ⇒ λ ty. Says (node.Cast ty)
+abbrev CastTail : Production Node
+CastTail = TypeName ⇒ λ ty. Builds (node.Cast ty)
 
 lawful_cast_tail : (n : ℕ) → Lawful CastTail n cast_at
 unfolding cast_at
-lawful_cast_tail n = lawful_then TypeName (λ ty. Says (node.Cast ty)) n type_at (λ ty u. Ok (node.Cast ty, u)) (lawful_type n) (λ ty. lawful_says n (node.Cast ty))
+lawful_cast_tail n = lawful_then TypeName (λ ty. Builds (node.Cast ty)) n type_at (λ ty u. Ok (node.Cast ty, u)) (lawful_type n) (λ ty. lawful_says n (node.Cast ty))
 
 cast_joins : (l u r : List Tok) (e : Tree) (p : ℕ) (x : Node) → Phrase cast l e (sign Cast p ∷ u) → CastTail u x r → Phrase cast l (tree x p (more e none)) r
 cast_joins l u r e p x d (ty, v, ty_is, (says, left)) = subst (λ z. Phrase cast l (tree z p (more e none)) r) (sym says) (cast_to d (subst (TypeName u ty) left ty_is))
@@ -199,8 +199,8 @@ cast_joins l u r e p x d (ty, v, ty_is, (says, left)) = subst (λ z. Phrase cast
 abbrev ArgumentsAre : List Tok → List Tree → List Tok → Type 0
 ArgumentsAre l ts r = Arguments l (trees_from ts) r
 
-abbrev ArgumentForm : Form (List Tree)
-ArgumentForm = Close ▸ Says [] ∣ (Listed Comma (Phrase disjunction) ⇒ λ ts. Close ▸ Says ts)
+abbrev ArgumentForm : Production (List Tree)
+ArgumentForm = Close ▸ Builds [] ∣ (Listed Comma (Phrase disjunction) ⇒ λ ts. Close ▸ Builds ts)
 
 arguments_behind : (l u r : List Tok) (ts : List Tree) (p : ℕ) → Listed Comma (Phrase disjunction) l ts u → u ≡ sign Close p ∷ r → (x : Tree) × (m : List Tok) × (es : Trees) × Phrase disjunction l x m × Behind m es r × (trees_from ts ≡ more x es)
 arguments_behind l u r ts p (single {x} d) e = (x, u, none, d, subst (λ z. Behind z none r) (sym e) end, refl)
@@ -214,19 +214,19 @@ arguments_are l ts r (inr (xs, u, ds, (p, v, at_close, (says, left)))) =
     let b = arguments_behind l u r xs p ds (at_close ∙ ap (λ z. sign Close p ∷ z) left) in
     subst (λ z. Arguments l (trees_from z) r) (sym says) (subst (λ z. Arguments l z r) (sym b.5) (something b.3 b.4))
 
-module _ (n : ℕ) (inside : Reader Tree) (law : Lawful (Phrase disjunction) n inside)
-    (simple : 0 < n → (v : List ℕ) (o q : ℕ) (y : List Tok) → args inside (named v o ∷ sign Close q ∷ y) ≡ Ok (leaf (node.Column None (word v o)) o ∷ [], y)) where
+module _ (n : ℕ) (inside : TokenReader Tree) (law : Lawful (Phrase disjunction) n inside)
+    (simple : 0 < n → (v : List ℕ) (o q : ℕ) (y : List Tok) → args inside (identifier v o ∷ sign Close q ∷ y) ≡ Ok (leaf (node.Column None (word v o)) o ∷ [], y)) where
   lawful_args : Lawful ArgumentsAre n (args inside)
   unfolding args if_mark
   lawful_args l short = tells_same ArgumentForm ArgumentsAre (λ m. args inside) (λ m. args inside) l (λ y a m. refl) arguments_are (args inside l)
-      (lawful_if Close (Says []) n (λ u. Ok ([], u)) (lawful_says n []) (Listed Comma (Phrase disjunction) ⇒ λ ts. Close ▸ Says ts) (λ u. listed Comma inside u >>= λ x. closed Close x.0 x.1)
-      (lawful_then (Listed Comma (Phrase disjunction)) (λ ts. Close ▸ Says ts) n (listed Comma inside) (closed Close) (lawful_listed Comma (Phrase disjunction) n inside law) (λ ts. lawful_closed Close n ts)) l short)
+      (lawful_if Close (Builds []) n (λ u. Ok ([], u)) (lawful_says n []) (Listed Comma (Phrase disjunction) ⇒ λ ts. Close ▸ Builds ts) (λ u. listed Comma inside u >>= λ x. closed Close x.0 x.1)
+      (lawful_then (Listed Comma (Phrase disjunction)) (λ ts. Close ▸ Builds ts) n (listed Comma inside) (closed Close) (lawful_listed Comma (Phrase disjunction) n inside law) (λ ts. lawful_closed Close n ts)) l short)
 
   -- what stands behind a name and its bracket
   abbrev OpenedIs : Word → List Tok → Tree → List Tok → Type 0
-  OpenedIs w u y r = (q : ℕ) → Phrase primary (named w.text w.place ∷ sign Open q ∷ u) y r
+  OpenedIs w u y r = (q : ℕ) → Phrase primary (identifier w.text w.place ∷ sign Open q ∷ u) y r
 
-  call_of : Word → Reader Tree
+  call_of : Word → TokenReader Tree
   call_of w u = args inside u >>= λ x. Ok (tree (node.Call w.text) w.place (trees_from x.0), x.1)
 
   left_of : Answer Tree → List Tok
@@ -237,7 +237,7 @@ module _ (n : ℕ) (inside : Reader Tree) (law : Lawful (Phrase disjunction) n i
   unfolding call_of left_of
   simple_left w a b y pos a_name a_close =
       let v = name_is a a_name in
-      ap left_of (ap₂ (λ u v. call_of w (u ∷ v ∷ y)) v.1 (token_is Close b a_close) ∙ through (args inside (named v.0 a.place ∷ sign Close b.place ∷ y)) _ y _ (simple pos v.0 a.place b.place y))
+      ap left_of (ap₂ (λ u v. call_of w (u ∷ v ∷ y)) v.1 (token_is Close b a_close) ∙ through (args inside (identifier v.0 a.place ∷ sign Close b.place ∷ y)) _ y _ (simple pos v.0 a.place b.place y))
 
   is_not : (a : Tok) (l : List Tok) → is_name a ≡ false → is_literal (a ∷ l) ≡ false
   is_not a [] h = refl
@@ -313,17 +313,17 @@ module _ (n : ℕ) (inside : Reader Tree) (law : Lawful (Phrase disjunction) n i
   literal_of : Word → List ℕ → ℕ → List ℕ → ℕ → Tree
   literal_of w v o s z = leaf (node.Literal (record { name = w; inner = Some (word v o) }) s) z
 
-  literal_turn : (w : Word) (v s : List ℕ) (o q z : ℕ) (y : List Tok) → opened inside w (named v o ∷ sign Close q ∷ string s z ∷ y) ≡ Ok (literal_of w v o s z, y)
+  literal_turn : (w : Word) (v s : List ℕ) (o q z : ℕ) (y : List Tok) → opened inside w (identifier v o ∷ sign Close q ∷ string s z ∷ y) ≡ Ok (literal_of w v o s z, y)
   unfolding opened inner_at name_at closed literal_at string_at literal_of
   literal_turn w v s o q z y = refl
 
-  literal_phrase : (w : Word) (v s : List ℕ) (o q z : ℕ) (y : List Tok) → OpenedIs w (named v o ∷ sign Close q ∷ string s z ∷ y) (literal_of w v o s z) y
+  literal_phrase : (w : Word) (v s : List ℕ) (o q z : ℕ) (y : List Tok) → OpenedIs w (identifier v o ∷ sign Close q ∷ string s z ∷ y) (literal_of w v o s z) y
   unfolding literal_of
   literal_phrase w v s o q z y k = a_literal inner
 
-  literal_tells : (w : Word) (v s : List ℕ) (o q z : ℕ) (l : List Tok) → Tells (OpenedIs w) (λ m. opened inside w) (named v o ∷ sign Close q ∷ string s z ∷ l) (opened inside w (named v o ∷ sign Close q ∷ string s z ∷ l))
-  literal_tells w v s o q z l = subst (Tells (OpenedIs w) (λ m. opened inside w) (named v o ∷ sign Close q ∷ string s z ∷ l)) (sym (literal_turn w v s o q z l))
-      (record { taken = named v o ∷ sign Close q ∷ string s z ∷ []; parts = refl; phrase = literal_phrase w v s o q z; again = λ y h m fuel. literal_turn w v s o q z y })
+  literal_tells : (w : Word) (v s : List ℕ) (o q z : ℕ) (l : List Tok) → Tells (OpenedIs w) (λ m. opened inside w) (identifier v o ∷ sign Close q ∷ string s z ∷ l) (opened inside w (identifier v o ∷ sign Close q ∷ string s z ∷ l))
+  literal_tells w v s o q z l = subst (Tells (OpenedIs w) (λ m. opened inside w) (identifier v o ∷ sign Close q ∷ string s z ∷ l)) (sym (literal_turn w v s o q z l))
+      (record { taken = identifier v o ∷ sign Close q ∷ string s z ∷ []; parts = refl; phrase = literal_phrase w v s o q z; again = λ y h m fuel. literal_turn w v s o q z y })
 
   both_true : (a b : Bool) → cond a b false ≡ true → (a ≡ true) × (b ≡ true)
   both_true true b h = (refl, h)
@@ -338,7 +338,7 @@ module _ (n : ℕ) (inside : Reader Tree) (law : Lawful (Phrase disjunction) n i
       let snd = both_true (is_sign Close b) _ fst.1 in
       let v = name_is a fst.0 in
       let s = string_is c snd.1 in
-      let all : a ∷ b ∷ c ∷ l ≡ named v.0 a.place ∷ sign Close b.place ∷ string s.0 c.place ∷ l = let e = token_is Close b snd.0 in cc in
+      let all : a ∷ b ∷ c ∷ l ≡ identifier v.0 a.place ∷ sign Close b.place ∷ string s.0 c.place ∷ l = let e = token_is Close b snd.0 in cc in
       subst (λ z. Tells (OpenedIs w) (λ m. opened inside w) z (opened inside w z)) (sym all) (literal_tells w v.0 s.0 a.place b.place c.place l)
 
   lawful_opened : (w : Word) → Lawful (OpenedIs w) n (opened inside w)
@@ -349,10 +349,10 @@ module _ (n : ℕ) (inside : Reader Tree) (law : Lawful (Phrase disjunction) n i
 
   -- what stands behind a name
   abbrev NamedIs : Word → List Tok → Tree → List Tok → Type 0
-  NamedIs w u y r = Phrase primary (named w.text w.place ∷ u) y r
+  NamedIs w u y r = Phrase primary (identifier w.text w.place ∷ u) y r
 
-  abbrev NamedForm : Word → Form Tree
-  NamedForm w = (AString ⇒ λ s. Says (leaf (node.Literal (record { name = w; inner = None }) s.text) s.place)) ∣ Open ▸ OpenedIs w ∣ (Dot ▸ AName ⇒ λ c. Says (leaf (node.Column (Some w) c) w.place)) ∣ Says (leaf (node.Column None w) w.place)
+  abbrev NamedForm : Word → Production Tree
+  NamedForm w = (AString ⇒ λ s. Builds (leaf (node.Literal (record { name = w; inner = None }) s.text) s.place)) ∣ Open ▸ OpenedIs w ∣ (Dot ▸ AName ⇒ λ c. Builds (leaf (node.Column (Some w) c) w.place)) ∣ Builds (leaf (node.Column None w) w.place)
 
   named_is : (w : Word) (l : List Tok) (y : Tree) (r : List Tok) → NamedForm w l y r → NamedIs w l y r
   named_is w l y r (inl (s, u, at_string, (says, left))) =
@@ -360,26 +360,26 @@ module _ (n : ℕ) (inside : Reader Tree) (law : Lawful (Phrase disjunction) n i
       subst (λ z. NamedIs w z y r) (sym all) (subst (λ z. NamedIs w (string s.text s.place ∷ r) z r) (sym says) (a_literal plain))
   named_is w l y r (inr (inl (p, u, at_open, d))) = subst (λ z. NamedIs w z y r) (sym at_open) (d p)
   named_is w l y r (inr (inr (inl (p, u, at_dot, (c, v, at_name, (says, left)))))) =
-      let all : l ≡ sign Dot p ∷ named c.text c.place ∷ r = cc in
-      subst (λ z. NamedIs w z y r) (sym all) (subst (λ z. NamedIs w (sign Dot p ∷ named c.text c.place ∷ r) z r) (sym says) a_table_column)
+      let all : l ≡ sign Dot p ∷ identifier c.text c.place ∷ r = cc in
+      subst (λ z. NamedIs w z y r) (sym all) (subst (λ z. NamedIs w (sign Dot p ∷ identifier c.text c.place ∷ r) z r) (sym says) a_table_column)
   named_is w l y r (inr (inr (inr (says, left)))) =
       subst (λ z. NamedIs w z y r) (sym left) (subst (λ z. NamedIs w r z r) (sym says) a_column)
 
-  lawful_literal : (ty : TypeWord) → Lawful (AString ⇒ λ s. Says (leaf (node.Literal ty s.text) s.place)) n (literal_at ty)
+  lawful_literal : (ty : TypeWord) → Lawful (AString ⇒ λ s. Builds (leaf (node.Literal ty s.text) s.place)) n (literal_at ty)
   unfolding literal_at
-  lawful_literal ty = lawful_then AString (λ s. Says (leaf (node.Literal ty s.text) s.place)) n string_at (λ s u. Ok (leaf (node.Literal ty s.text) s.place, u)) (lawful_string n) (λ s. lawful_says n (leaf (node.Literal ty s.text) s.place))
+  lawful_literal ty = lawful_then AString (λ s. Builds (leaf (node.Literal ty s.text) s.place)) n string_at (λ s u. Ok (leaf (node.Literal ty s.text) s.place, u)) (lawful_string n) (λ s. lawful_says n (leaf (node.Literal ty s.text) s.place))
 
-  lawful_column : (w : Word) → Lawful (AName ⇒ λ c. Says (leaf (node.Column (Some w) c) w.place)) n (column_at w)
+  lawful_column : (w : Word) → Lawful (AName ⇒ λ c. Builds (leaf (node.Column (Some w) c) w.place)) n (column_at w)
   unfolding column_at
-  lawful_column w = lawful_then AName (λ c. Says (leaf (node.Column (Some w) c) w.place)) n name_at (λ c u. Ok (leaf (node.Column (Some w) c) w.place, u)) (lawful_name n) (λ c. lawful_says n (leaf (node.Column (Some w) c) w.place))
+  lawful_column w = lawful_then AName (λ c. Builds (leaf (node.Column (Some w) c) w.place)) n name_at (λ c u. Ok (leaf (node.Column (Some w) c) w.place, u)) (lawful_name n) (λ c. lawful_says n (leaf (node.Column (Some w) c) w.place))
 
   lawful_named : (w : Word) → Lawful (NamedIs w) n (named_at inside w)
   unfolding named_at
   lawful_named w l short = tells_same (NamedForm w) (NamedIs w) (λ m. named_at inside w) (λ m. named_at inside w) l (λ y a m. refl) (named_is w) (named_at inside w l)
-      (lawful_either is_string (AString ⇒ λ s. Says (leaf (node.Literal (record { name = w; inner = None }) s.text) s.place)) (Open ▸ OpenedIs w ∣ (Dot ▸ AName ⇒ λ c. Says (leaf (node.Column (Some w) c) w.place)) ∣ Says (leaf (node.Column None w) w.place)) n
+      (lawful_either is_string (AString ⇒ λ s. Builds (leaf (node.Literal (record { name = w; inner = None }) s.text) s.place)) (Open ▸ OpenedIs w ∣ (Dot ▸ AName ⇒ λ c. Builds (leaf (node.Column (Some w) c) w.place)) ∣ Builds (leaf (node.Column None w) w.place)) n
       (literal_at (record { name = w; inner = None })) (if_mark Open (opened inside w) (if_mark Dot (column_at w) (λ u. Ok (leaf (node.Column None w) w.place, u)))) (lawful_literal (record { name = w; inner = None }))
-      (lawful_if Open (OpenedIs w) n (opened inside w) (lawful_opened w) ((Dot ▸ AName ⇒ λ c. Says (leaf (node.Column (Some w) c) w.place)) ∣ Says (leaf (node.Column None w) w.place)) (if_mark Dot (column_at w) (λ u. Ok (leaf (node.Column None w) w.place, u)))
-      (lawful_if Dot (AName ⇒ λ c. Says (leaf (node.Column (Some w) c) w.place)) n (column_at w) (lawful_column w) (Says (leaf (node.Column None w) w.place)) (λ u. Ok (leaf (node.Column None w) w.place, u)) (lawful_says n (leaf (node.Column None w) w.place)))) l short)
+      (lawful_if Open (OpenedIs w) n (opened inside w) (lawful_opened w) ((Dot ▸ AName ⇒ λ c. Builds (leaf (node.Column (Some w) c) w.place)) ∣ Builds (leaf (node.Column None w) w.place)) (if_mark Dot (column_at w) (λ u. Ok (leaf (node.Column None w) w.place, u)))
+      (lawful_if Dot (AName ⇒ λ c. Builds (leaf (node.Column (Some w) c) w.place)) n (column_at w) (lawful_column w) (Builds (leaf (node.Column None w) w.place)) (λ u. Ok (leaf (node.Column None w) w.place, u)) (lawful_says n (leaf (node.Column None w) w.place)))) l short)
 
   -- the innermost
   primary_ready : Ready (Phrase primary)
@@ -388,17 +388,17 @@ module _ (n : ℕ) (inside : Reader Tree) (law : Lawful (Phrase disjunction) n i
   BracketsAre : List Tok → Tree → List Tok → Type 0
   BracketsAre u y r = (p : ℕ) → Phrase primary (sign Open p ∷ u) y r
 
-  brackets_are : (l : List Tok) (y : Tree) (r : List Tok) → (Phrase disjunction ⇒ λ e. Close ▸ Says e) l y r → BracketsAre l y r
+  brackets_are : (l : List Tok) (y : Tree) (r : List Tok) → (Phrase disjunction ⇒ λ e. Close ▸ Builds e) l y r → BracketsAre l y r
   unfolding BracketsAre
   brackets_are l y r (e, u, d, (p, v, at_close, (says, left))) q = subst (λ z. Phrase primary (sign Open q ∷ l) z r) (sym says) (in_brackets (subst (Phrase disjunction l e) (at_close ∙ ap (λ z. sign Close p ∷ z) left) d))
 
-  bracketed : Reader Tree
+  bracketed : TokenReader Tree
   bracketed l = inside l >>= λ x. closed Close x.0 x.1
 
   lawful_brackets : Lawful BracketsAre n bracketed
   unfolding bracketed
-  lawful_brackets l short = tells_same (Phrase disjunction ⇒ λ e. Close ▸ Says e) BracketsAre (λ m. bracketed) (λ m. bracketed) l (λ y a m. refl) brackets_are (bracketed l)
-      (lawful_then (Phrase disjunction) (λ e. Close ▸ Says e) n inside (closed Close) law (λ e. lawful_closed Close n e) l short)
+  lawful_brackets l short = tells_same (Phrase disjunction ⇒ λ e. Close ▸ Builds e) BracketsAre (λ m. bracketed) (λ m. bracketed) l (λ y a m. refl) brackets_are (bracketed l)
+      (lawful_then (Phrase disjunction) (λ e. Close ▸ Builds e) n inside (closed Close) law (λ e. lawful_closed Close n e) l short)
 
   brackets_turn : (g : Mark) (p : ℕ) (l : List Tok) → is g Open ≡ true → read.primary inside (sign g p ∷ l) ≡ bracketed l
   unfolding read.primary mark_primary bracketed
@@ -420,7 +420,7 @@ module _ (n : ℕ) (inside : Reader Tree) (law : Lawful (Phrase disjunction) n i
   unfolding read.primary mark_primary
   no_turn g p l a b c d = passed _ _ _ a ∙ passed _ _ _ b ∙ passed _ _ _ c ∙ passed _ _ _ d
 
-  name_turn : (w : List ℕ) (p : ℕ) (l : List Tok) → read.primary inside (named w p ∷ l) ≡ named_at inside (word w p) l
+  name_turn : (w : List ℕ) (p : ℕ) (l : List Tok) → read.primary inside (identifier w p ∷ l) ≡ named_at inside (word w p) l
   unfolding read.primary
   name_turn w p l = refl
 
@@ -461,8 +461,8 @@ module _ (n : ℕ) (inside : Reader Tree) (law : Lawful (Phrase disjunction) n i
 
   tells_primary : (x : Symbol) (p : ℕ) (l : List Tok) → length l < n → Tells (Phrase primary) (λ m. read.primary inside) (record { symbol = x; place = p } ∷ l) (read.primary inside (record { symbol = x; place = p } ∷ l))
   tells_primary (fixed g) p l short = tells_mark g p l short
-  tells_primary (name w) p l short = subst (Tells (Phrase primary) (λ m. read.primary inside) (named w p ∷ l)) (sym (name_turn w p l))
-      (tells_token (NamedIs (word w p)) (Phrase primary) (λ m. named_at inside (word w p)) (λ m. read.primary inside) (named w p) (λ i u. name_turn w p u) (λ u x r h. h) l _ (lawful_named (word w p) l short))
+  tells_primary (name w) p l short = subst (Tells (Phrase primary) (λ m. read.primary inside) (identifier w p ∷ l)) (sym (name_turn w p l))
+      (tells_token (NamedIs (word w p)) (Phrase primary) (λ m. named_at inside (word w p)) (λ m. read.primary inside) (identifier w p) (λ i u. name_turn w p u) (λ u x r h. h) l _ (lawful_named (word w p) l short))
   tells_primary (number w) p l short = subst (Tells (Phrase primary) (λ m. read.primary inside) (numeral w p ∷ l)) (sym (number_turn w p l))
       (tells_one (Phrase primary) (λ m. read.primary inside) (numeral w p) l (leaf (node.Number w) p) (λ y. a_number) (λ y a m. number_turn w p y))
   tells_primary (quoted w) p l short = subst (Tells (Phrase primary) (λ m. read.primary inside) (string w p ∷ l)) (sym (string_turn w p l))
@@ -506,15 +506,15 @@ module _ (n : ℕ) (inside : Reader Tree) (law : Lawful (Phrase disjunction) n i
   lawful_disjunction = lawful_chain disjunction (λ t h. eq-eqb _ _ h) (suc n) (conjunction_rank inside) lawful_conjunction
 
 -- a name before a closing bracket is a column
-column_read : (n : ℕ) (v : List ℕ) (o q : ℕ) (y : List Tok) → nest (suc n) (named v o ∷ sign Close q ∷ y) ≡ Ok (leaf (node.Column None (word v o)) o, sign Close q ∷ y)
+column_read : (n : ℕ) (v : List ℕ) (o q : ℕ) (y : List Tok) → nest (suc n) (identifier v o ∷ sign Close q ∷ y) ≡ Ok (leaf (node.Column None (word v o)) o, sign Close q ∷ y)
 unfolding nest read.chain chain_from read.prefix read.comparison read.compared read.postfix postfix_from read.primary named_at if_mark
 column_read n v o q y = refl
 
-column_listed : (inside : Reader Tree) (v : List ℕ) (o q : ℕ) (y : List Tok) → inside (named v o ∷ sign Close q ∷ y) ≡ Ok (leaf (node.Column None (word v o)) o, sign Close q ∷ y) → args inside (named v o ∷ sign Close q ∷ y) ≡ Ok (leaf (node.Column None (word v o)) o ∷ [], y)
+column_listed : (inside : TokenReader Tree) (v : List ℕ) (o q : ℕ) (y : List Tok) → inside (identifier v o ∷ sign Close q ∷ y) ≡ Ok (leaf (node.Column None (word v o)) o, sign Close q ∷ y) → args inside (identifier v o ∷ sign Close q ∷ y) ≡ Ok (leaf (node.Column None (word v o)) o ∷ [], y)
 unfolding args listed listed_from closed
-column_listed inside v o q y h = ap (λ a. (a >>= λ x. listed_from Comma inside (length (named v o ∷ sign Close q ∷ y)) (x.0 ∷ []) x.1) >>= λ x. closed Close x.0 x.1) h
+column_listed inside v o q y h = ap (λ a. (a >>= λ x. listed_from Comma inside (length (identifier v o ∷ sign Close q ∷ y)) (x.0 ∷ []) x.1) >>= λ x. closed Close x.0 x.1) h
 
-pub column_args : (n : ℕ) (v : List ℕ) (o q : ℕ) (y : List Tok) → 0 < n → args (nest n) (named v o ∷ sign Close q ∷ y) ≡ Ok (leaf (node.Column None (word v o)) o ∷ [], y)
+pub column_args : (n : ℕ) (v : List ℕ) (o q : ℕ) (y : List Tok) → 0 < n → args (nest n) (identifier v o ∷ sign Close q ∷ y) ≡ Ok (leaf (node.Column None (word v o)) o ∷ [], y)
 column_args zero v o q y pos = absurd (omega arith)
 column_args (suc n) v o q y pos = column_listed (nest (suc n)) v o q y (column_read n v o q y)
 

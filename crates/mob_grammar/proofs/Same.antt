@@ -8,27 +8,27 @@ use Rattle.mob_ast.specs.Trees.{Tree, tree, trees_from}
 use Rattle.mob_grammar.specs.declared.mark.Mark.{Mark}
 use Rattle.mob_grammar.specs.declared.mark.Mark.TheVariants.{Not, Is, Null, True, False, Tilde, Cast, Open, Close, Comma, Dot}
 use Rattle.mob_grammar.specs.Marks.{is}
-use Rattle.mob_grammar.specs.Symbols.{Symbol, fixed, name, number, quoted, Tok, sign, named, is_sign, is_string, binding, starts, rest, binary, unary, leaf}
+use Rattle.mob_grammar.specs.Symbols.{Symbol, fixed, name, number, quoted, Tok, sign, identifier, is_sign, is_string, binding, starts, rest, binary, unary, leaf}
 use Rattle.mob_grammar.specs.Expressions.{disjunction, conjunction, negation, nullness, comparison, other, complement, sum, product, signed, cast, primary, word, Phrase}
-use Rattle.mob_grammar.specs.Reading.{Answer, Reader, ◌>>=◌, closed, if_mark, listed_from, listed, chain_from, postfix_from, null_at, cast_at, args, is_literal, inner_at, literal_at, column_at, opened, named_at, mark_primary, nest, expression_at, cast_rank, signed_rank, product_rank, sum_rank, complement_rank, other_rank, comparison_rank, nullness_rank, negation_rank, conjunction_rank, disjunction_rank}
+use Rattle.mob_grammar.specs.Reading.{Answer, TokenReader, ◌>>=◌, closed, if_mark, listed_from, listed, chain_from, postfix_from, null_at, cast_at, args, is_literal, inner_at, literal_at, column_at, opened, named_at, mark_primary, nest, expression_at, cast_rank, signed_rank, product_rank, sum_rank, complement_rank, other_rank, comparison_rank, nullness_rank, negation_rank, conjunction_rank, disjunction_rank}
 use Rattle.mob_grammar.specs.Reading as read
 use Rattle.mob_grammar.proofs.Tells.{Tells, Lawful, tells_same}
 use Rattle.mob_grammar.proofs.Ranks.{column_args, lawful_primary, lawful_cast, lawful_signed, lawful_product, lawful_sum, lawful_complement, lawful_other, lawful_compared, lawful_nullness, lawful_negation, lawful_conjunction, lawful_disjunction, lawful_nest}
 
-abbrev Same : {A : Type 0} → ℕ → Reader A → Reader A → Type 0
+abbrev Same : {A : Type 0} → ℕ → TokenReader A → TokenReader A → Type 0
 Same n s z = (l : List Tok) → length l < n → s l ≡ z l
 
-abbrev pub Shrinks : {A : Type 0} → ℕ → Reader A → Type 0
+abbrev pub Shrinks : {A : Type 0} → ℕ → TokenReader A → Type 0
 Shrinks {A} n s = (l : List Tok) → length l < n → (x : A) (r : List Tok) → s l ≡ Ok (x, r) → length r ≤ length l
 
-pub shrinks : {A : Type 0} (R : List Tok → A → List Tok → Type 0) (n : ℕ) (s : Reader A) → Lawful R n s → Shrinks n s
+pub shrinks : {A : Type 0} (R : List Tok → A → List Tok → Type 0) (n : ℕ) (s : TokenReader A) → Lawful R n s → Shrinks n s
 shrinks R n s law l short x r h = let t = subst (Tells R (λ m. s) l) h (law l short) in omega (arith, ap length t.parts, length-append t.taken r)
 
 bind_same : {A B : Type 0} (a b : Answer A) (f g : A × List Tok → Answer B) → a ≡ b → ((x : A) (r : List Tok) → a ≡ Ok (x, r) → f (x, r) ≡ g (x, r)) → (a >>= f) ≡ (b >>= g)
 bind_same (Ok x) b f g e h = h x.0 x.1 refl ∙ ap (λ c. c >>= g) e
 bind_same (Err r) b f g e h = ap (λ c. c >>= g) e
 
-module _ (n : ℕ) (s z : Reader Tree) (same : Same n s z) (small : Shrinks n s) where
+module _ (n : ℕ) (s z : TokenReader Tree) (same : Same n s z) (small : Shrinks n s) where
   chain_from_same : (k m : ℕ) (e : Tree) (l : List Tok) → length l < n → chain_from k s m e l ≡ chain_from k z m e l
   unfolding chain_from
   chain_from_same k zero e l short = refl
@@ -53,7 +53,7 @@ module _ (n : ℕ) (s z : Reader Tree) (same : Same n s z) (small : Shrinks n s)
   unfolding read.comparison
   comparison_same l short = bind_same (s l) (z l) _ _ (same l short) (λ x r h. let less = small l short x r h in compared_same x r (omega arith))
 
-  postfix_same : (m : Mark) (tail : Reader Node) → Same n (read.postfix m tail s) (read.postfix m tail z)
+  postfix_same : (m : Mark) (tail : TokenReader Node) → Same n (read.postfix m tail s) (read.postfix m tail z)
   unfolding read.postfix
   postfix_same m tail l short = ap (λ a. a >>= λ x. postfix_from m tail (length l) x.0 x.1) (same l short)
 
@@ -94,7 +94,7 @@ module _ (n : ℕ) (s z : Reader Tree) (same : Same n s z) (small : Shrinks n s)
   primary_same (t ∷ l) short = primary_at_same t.symbol t.place l (omega arith)
 
 -- the ranks, over two readers of what stands in brackets, of which the first is lawful
-module _ (n : ℕ) (s z : Reader Tree) (law : Lawful (Phrase disjunction) n s) (simple : 0 < n → (v : List ℕ) (o q : ℕ) (y : List Tok) → args s (named v o ∷ sign Close q ∷ y) ≡ Ok (leaf (node.Column None (word v o)) o ∷ [], y)) (same : Same n s z) where
+module _ (n : ℕ) (s z : TokenReader Tree) (law : Lawful (Phrase disjunction) n s) (simple : 0 < n → (v : List ℕ) (o q : ℕ) (y : List Tok) → args s (identifier v o ∷ sign Close q ∷ y) ≡ Ok (leaf (node.Column None (word v o)) o ∷ [], y)) (same : Same n s z) where
   rank_same : Same (suc n) (disjunction_rank s) (disjunction_rank z)
   rank_same =
       let p = primary_same n s z same (shrinks (Phrase disjunction) n s law) in
@@ -110,7 +110,7 @@ module _ (n : ℕ) (s z : Reader Tree) (law : Lawful (Phrase disjunction) n s) (
       let a = chain_same (suc n) (negation_rank s) (negation_rank z) g (shrinks (Phrase negation) (suc n) (negation_rank s) (lawful_negation n s law simple)) 2 in
       chain_same (suc n) (conjunction_rank s) (conjunction_rank z) a (shrinks (Phrase conjunction) (suc n) (conjunction_rank s) (lawful_conjunction n s law simple)) 1
 
-nest_simple : (n : ℕ) → 0 < n → (v : List ℕ) (o q : ℕ) (y : List Tok) → args (nest n) (named v o ∷ sign Close q ∷ y) ≡ Ok (leaf (node.Column None (word v o)) o ∷ [], y)
+nest_simple : (n : ℕ) → 0 < n → (v : List ℕ) (o q : ℕ) (y : List Tok) → args (nest n) (identifier v o ∷ sign Close q ∷ y) ≡ Ok (leaf (node.Column None (word v o)) o ∷ [], y)
 nest_simple n pos v o q y = column_args n v o q y pos
 
 shorter_law : (n m : ℕ) → n ≤ m → Lawful (Phrase disjunction) n (nest m)
@@ -133,10 +133,10 @@ expression_unfolds l =
     shape ∙ rank_same n (nest n) expression_at (lawful_nest n) (nest_simple n) (λ u h. nest_same (suc (length u)) n (length u + 1) (omega arith) (omega arith) u (omega arith)) l (omega arith)
 
 -- a name before a closing bracket is a column
-pub column_arguments : (v : List ℕ) (o q : ℕ) (y : List Tok) → args expression_at (named v o ∷ sign Close q ∷ y) ≡ Ok (leaf (node.Column None (word v o)) o ∷ [], y)
+pub column_arguments : (v : List ℕ) (o q : ℕ) (y : List Tok) → args expression_at (identifier v o ∷ sign Close q ∷ y) ≡ Ok (leaf (node.Column None (word v o)) o ∷ [], y)
 unfolding expression_at
 column_arguments v o q y =
-    let l = named v o ∷ sign Close q ∷ y in
+    let l = identifier v o ∷ sign Close q ∷ y in
     let n = suc (length l) in
     sym (args_same n (nest n) expression_at (λ u h. nest_same (suc (length u)) n (length u + 1) (omega arith) (omega arith) u (omega arith)) (shrinks (Phrase disjunction) n (nest n) (lawful_nest n)) l (omega arith)) ∙ column_args n v o q y (omega arith)
 

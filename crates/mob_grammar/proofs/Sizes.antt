@@ -8,7 +8,7 @@ use Rattle.mob_grammar.specs.declared.mark.Mark.{Mark}
 use Rattle.mob_grammar.specs.declared.mark.Mark.TheVariants.{With, Delimiter, Comma, Semicolon}
 use Rattle.mob_grammar.specs.Symbols.{Tok, sign}
 use Rattle.mob_grammar.specs.Expressions.{Rank, TypeName, plain, inner, Phrase, up, chain, prefixed, is_null, is_not_null, compared, cast_to, a_number, a_string, is_true, is_false, a_null, a_literal, a_call, a_column, a_table_column, in_brackets, Arguments, nothing, something, Behind, end, another}
-use Rattle.mob_grammar.specs.Forms.{Form, ◌▸◌, ◌∣◌, Listed, single, several}
+use Rattle.mob_grammar.specs.Forms.{Production, ◌▸◌, ◌∣◌, Listed, single, several}
 use Rattle.mob_grammar.specs.Scripts.{Const, Row, ColumnType, FromEntry, SecondName, Alias, SelectItem, Direction, OrderKey, OnlyDistinct, FromPart, WherePart, OrderPart, LimitPart, SelectBody, CreateTable, CreateIndex, InsertRows, CopyFile, WithFormat, WithDelimiter, Statement}
 use Rattle.mob_grammar.specs.Sizes.{nodes, nodes_in, row_nodes, item_nodes, key_nodes, condition_nodes, select_nodes, statement_nodes, HasFewNodes}
 
@@ -45,14 +45,14 @@ mutual
   behind_few (another a b) = omega (arith, phrase_few a, behind_few b)
 
 -- a form takes a token for each node of what it says
-abbrev Few : {A : Type 0} → (A → ℕ) → Form A → Type 0
+abbrev Few : {A : Type 0} → (A → ℕ) → Production A → Type 0
 Few {A} size F = (l : List Tok) (x : A) (r : List Tok) → F l x r → size x + length r ≤ length l
 
 -- what a form says may be nothing that has nodes
 abbrev no_nodes : {A : Type 0} → A → ℕ
 no_nodes x = 0
 
-few_listed : {A : Type 0} (m : Mark) (F : Form A) (size : A → ℕ) → Few size F → Few (sum_by size) (Listed m F)
+few_listed : {A : Type 0} (m : Mark) (F : Production A) (size : A → ℕ) → Few size F → Few (sum_by size) (Listed m F)
 few_listed m F size f l _ r (single {x = x} d) = omega (arith, f l x r d, sum_by-cons size x [])
 few_listed m F size f l _ r (several {u = u} {x = x} {xs = xs} {p = p} d ds) = omega (arith, f l x (sign m p ∷ u) d, few_listed m F size f u xs r ds, sum_by-cons size x xs)
 

@@ -3,8 +3,8 @@
 use Rattle.std.proofs.Common.{◌≡◌, ◌<◌, ◌≤◌, ◌∙◌, ℕ, zero, suc, List, [], ◌∷◌, ◌++◌, length, Ok, Err, refl, sym, ap, subst, arith, append_assoc}
 use Rattle.std.proofs.lemmas.List.{length-append}
 use Rattle.mob_grammar.specs.Symbols.{Tok}
-use Rattle.mob_grammar.specs.Reading.{Answer, Reader, ◌>>=◌}
-use Rattle.mob_grammar.specs.Texts.{Plain}
+use Rattle.mob_grammar.specs.Reading.{Answer, TokenReader, ◌>>=◌}
+use Rattle.mob_grammar.specs.Texts.{ArePlain}
 
 -- both end, or both begin with the same token
 abbrev pub Alike : List Tok → List Tok → Type 0
@@ -13,7 +13,7 @@ Alike [] (u ∷ y) = ⊥
 Alike (t ∷ x) [] = ⊥
 Alike (t ∷ x) (u ∷ y) = t ≡ u
 
-pub plain_append : (x y : List Tok) → Plain x → Plain y → Plain (x ++ y)
+pub plain_append : (x y : List Tok) → ArePlain x → ArePlain y → ArePlain (x ++ y)
 plain_append [] y p q = q
 plain_append (t ∷ x) y p q = (p.0, plain_append x y p.1 q)
 
@@ -24,7 +24,7 @@ pub alike_more : (p x y : List Tok) → Alike x y → Alike (p ++ x) (p ++ y)
 alike_more [] x y h = h
 alike_more (t ∷ p) x y h = refl
 
-module _ {A : Type 0} (R : List Tok → A → List Tok → Type 0) (f : ℕ → Reader A) where
+module _ {A : Type 0} (R : List Tok → A → List Tok → Type 0) (f : ℕ → TokenReader A) where
   pub record Taken (l : List Tok) (e : A) (r : List Tok) : Type 0 where
     pub taken : List Tok
     pub parts : l ≡ taken ++ r
@@ -36,7 +36,7 @@ module _ {A : Type 0} (R : List Tok → A → List Tok → Type 0) (f : ℕ → 
     pub parts : l ≡ taken ++ r
     pub again : (y : List Tok) → Alike r y → (m : ℕ) → length (taken ++ y) ≤ m → f m (taken ++ y) ≡ Err y
     pub closing : List Tok
-    pub plain : Plain closing
+    pub plain : ArePlain closing
     pub value : A
     pub closes : (z : List Tok) → R (taken ++ (closing ++ z)) value z
 
@@ -45,21 +45,21 @@ module _ {A : Type 0} (R : List Tok → A → List Tok → Type 0) (f : ℕ → 
   Tells l (Err r) = Failed l r
 
 -- a reader says so on each list that is shorter than n
-abbrev pub Lawful : {A : Type 0} → (List Tok → A → List Tok → Type 0) → ℕ → Reader A → Type 0
+abbrev pub Lawful : {A : Type 0} → (List Tok → A → List Tok → Type 0) → ℕ → TokenReader A → Type 0
 Lawful R n s = (l : List Tok) → length l < n → Tells R (λ m. s) l (s l)
 
 -- how a phrase can always go on
 pub record Ready {B : Type 0} (R : List Tok → B → List Tok → Type 0) : Type 0 where
   pub closing : List Tok
-  pub plain : Plain closing
+  pub plain : ArePlain closing
   pub value : B
   pub closes : (z : List Tok) → R (closing ++ z) value z
 
 -- one reader, and then another
 module _ {A B : Type 0} (First : List Tok → A → List Tok → Type 0) (Then : A → List Tok → B → List Tok → Type 0) (R : List Tok → B → List Tok → Type 0)
-    (f : ℕ → Reader A) (g : A → ℕ → Reader B)
+    (f : ℕ → TokenReader A) (g : A → ℕ → TokenReader B)
     (join : (l u r : List Tok) (x : A) (y : B) → First l x u → Then x u y r → R l y r) (ready : (x : A) → Ready (Then x)) where
-  abbrev pair : ℕ → Reader B
+  abbrev pair : ℕ → TokenReader B
   pair m l = f m l >>= λ x. g x.0 m x.1
 
   -- f takes p, and then g takes q
@@ -107,7 +107,7 @@ module _ {A B : Type 0} (First : List Tok → A → List Tok → Type 0) (Then :
   tells_both l m (Err r) t second = fails l r t
 
 -- a token, and then what g reads
-module _ {A : Type 0} (Then R : List Tok → A → List Tok → Type 0) (g f : ℕ → Reader A) (t : Tok)
+module _ {A : Type 0} (Then R : List Tok → A → List Tok → Type 0) (g f : ℕ → TokenReader A) (t : Tok)
     (steps : (m : ℕ) (y : List Tok) → f (suc m) (t ∷ y) ≡ g m y) (join : (l : List Tok) (x : A) (r : List Tok) → Then l x r → R (t ∷ l) x r) where
   behind : (v : List Tok) (m : ℕ) (b : Answer A) → ((n : ℕ) → length v ≤ n → g n v ≡ b) → length (t ∷ v) ≤ m → f m (t ∷ v) ≡ b
   behind v zero b h fuel = absurd (omega arith)
@@ -130,7 +130,7 @@ module _ {A : Type 0} (Then R : List Tok → A → List Tok → Type 0) (g f : �
     closes = λ v. join (s.taken ++ (s.closing ++ v)) s.value v (s.closes v);
   }
 
-module _ {A : Type 0} (R : List Tok → A → List Tok → Type 0) (f : ℕ → Reader A) where
+module _ {A : Type 0} (R : List Tok → A → List Tok → Type 0) (f : ℕ → TokenReader A) where
   -- nothing more is taken
   pub tells_done : (l : List Tok) (e : A) → ((y : List Tok) → R y e y) → ((y : List Tok) → Alike l y → (m : ℕ) → f m y ≡ Ok (e, y)) → Tells R f l (Ok (e, l))
   tells_done l e phrase again = record { taken = []; parts = refl; phrase = phrase; again = λ y h m fuel. again y h m }
@@ -144,7 +144,7 @@ module _ {A : Type 0} (R : List Tok → A → List Tok → Type 0) (f : ℕ → 
   tells_wrong l again k = record { taken = []; parts = refl; again = λ y h m fuel. again y h m; closing = k.closing; plain = k.plain; value = k.value; closes = k.closes }
 
 -- the same of another reader that gives the same wherever the list begins alike, and of a wider relation
-module _ {A : Type 0} (Narrow R : List Tok → A → List Tok → Type 0) (g f : ℕ → Reader A) (l : List Tok)
+module _ {A : Type 0} (Narrow R : List Tok → A → List Tok → Type 0) (g f : ℕ → TokenReader A) (l : List Tok)
     (same : (y : List Tok) → Alike l y → (m : ℕ) → f m y ≡ g m y) (wider : (u : List Tok) (x : A) (r : List Tok) → Narrow u x r → R u x r) where
   alike_here : (p r y : List Tok) → l ≡ p ++ r → Alike r y → Alike l (p ++ y)
   alike_here p r y e h = subst (λ w. Alike w (p ++ y)) (sym e) (alike_more p r y h)
@@ -167,7 +167,7 @@ module _ {A : Type 0} (Narrow R : List Tok → A → List Tok → Type 0) (g f :
   }
 
 -- with the length of the list as the number
-module _ {A : Type 0} (R : List Tok → A → List Tok → Type 0) (f : ℕ → Reader A) where
+module _ {A : Type 0} (R : List Tok → A → List Tok → Type 0) (f : ℕ → TokenReader A) where
   pub tells_at_length : (l : List Tok) (a : Answer A) → Tells R f l a → Tells R (λ m l. f (length l) l) l a
   tells_at_length l (Ok x) s = record {
     taken = s.taken;

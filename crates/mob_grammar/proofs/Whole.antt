@@ -2,7 +2,7 @@
 use Rattle.std.proofs.Common.{◌≡◌, ◌∙◌, ℕ, suc, List, [], ◌∷◌, ◌++◌, length, Ok, Err, refl, sym, ap, subst, arith, append_assoc}
 use Rattle.mob_grammar.specs.Symbols.{Tok}
 use Rattle.mob_grammar.specs.Texts.{BeginsText, IsFirstWrong}
-use Rattle.mob_grammar.specs.Reading.{Answer, Reader}
+use Rattle.mob_grammar.specs.Reading.{Answer, TokenReader}
 use Rattle.mob_grammar.proofs.Tells.{Tells, Lawful}
 
 value_or : {A : Type 0} → A → Answer A → A
@@ -17,7 +17,7 @@ append_nil : (l : List Tok) → l ++ [] ≡ l
 append_nil [] = refl
 append_nil (t ∷ l) = ap (λ v. t ∷ v) (append_nil l)
 
-module _ {A : Type 0} (F : List Tok → A → List Tok → Type 0) (s : Reader A) (law : (n : ℕ) → Lawful F n s) (complete : (l : List Tok) (x : A) → F l x [] → s l ≡ Ok (x, [])) where
+module _ {A : Type 0} (F : List Tok → A → List Tok → Type 0) (s : TokenReader A) (law : (n : ℕ) → Lawful F n s) (complete : (l : List Tok) (x : A) → F l x [] → s l ≡ Ok (x, [])) where
   tells : (l : List Tok) (a : Answer A) → s l ≡ a → Tells F (λ m. s) l a
   tells l a h = subst (Tells F (λ m. s) l) h (law (suc (length l)) l (omega arith))
 

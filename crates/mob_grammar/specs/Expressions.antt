@@ -6,7 +6,7 @@ use Rattle.mob_ast.specs.declared.types.TypeWord.{TypeWord}
 use Rattle.mob_ast.specs.declared.expression.Node.TheVariants as node
 use Rattle.mob_ast.specs.Trees.{Tree, tree, Trees, none, more}
 use Rattle.mob_grammar.specs.declared.mark.Mark.TheVariants.{Not, Is, Null, True, False, Tilde, Cast, Open, Close, Comma, Dot}
-use Rattle.mob_grammar.specs.Symbols.{Tok, sign, named, numeral, string, is_sign, binding, binary, unary, leaf}
+use Rattle.mob_grammar.specs.Symbols.{Tok, sign, identifier, numeral, string, is_sign, binding, binary, unary, leaf}
 
 -- The ranks, from the loosest to the tightest: a phrase with OR; with AND; with NOT in front; with IS NULL behind; a
 -- comparison by = <> < <= > >=; a phrase with any other sign such as #= or &&; with ~ in front; with + or - between;
@@ -85,8 +85,8 @@ inner_type n p v o = record { name = word n p; inner = Some (word v o) }
 
 -- type = name ["(" name ")"]
 pub data TypeName : List Tok → TypeWord → List Tok → Type 0 where
-  plain : {r : List Tok} {n : List ℕ} {p : ℕ} → TypeName (named n p ∷ r) (plain_type n p) r
-  inner : {r : List Tok} {n v : List ℕ} {p q o s : ℕ} → TypeName (named n p ∷ sign Open q ∷ named v o ∷ sign Close s ∷ r) (inner_type n p v o) r
+  plain : {r : List Tok} {n : List ℕ} {p : ℕ} → TypeName (identifier n p ∷ r) (plain_type n p) r
+  inner : {r : List Tok} {n v : List ℕ} {p q o s : ℕ} → TypeName (identifier n p ∷ sign Open q ∷ identifier v o ∷ sign Close s ∷ r) (inner_type n p v o) r
 
 mutual
   pub data Phrase : Rank → List Tok → Tree → List Tok → Type 0 where
@@ -112,10 +112,10 @@ mutual
     -- type string
     a_literal : {l r : List Tok} {ty : TypeWord} {s : List ℕ} {p : ℕ} → TypeName l ty (string s p ∷ r) → Phrase primary l (leaf (node.Literal ty s) p) r
     -- name "(" [expr { "," expr }] ")"
-    a_call : {l r : List Tok} {es : Trees} {n : List ℕ} {p q : ℕ} → Arguments l es r → Phrase primary (named n p ∷ sign Open q ∷ l) (tree (node.Call n) p es) r
+    a_call : {l r : List Tok} {es : Trees} {n : List ℕ} {p q : ℕ} → Arguments l es r → Phrase primary (identifier n p ∷ sign Open q ∷ l) (tree (node.Call n) p es) r
     -- name ["." name]
-    a_column : {r : List Tok} {n : List ℕ} {p : ℕ} → Phrase primary (named n p ∷ r) (leaf (node.Column None (word n p)) p) r
-    a_table_column : {r : List Tok} {n m : List ℕ} {p q o : ℕ} → Phrase primary (named n p ∷ sign Dot q ∷ named m o ∷ r) (leaf (node.Column (Some (word n p)) (word m o)) p) r
+    a_column : {r : List Tok} {n : List ℕ} {p : ℕ} → Phrase primary (identifier n p ∷ r) (leaf (node.Column None (word n p)) p) r
+    a_table_column : {r : List Tok} {n m : List ℕ} {p q o : ℕ} → Phrase primary (identifier n p ∷ sign Dot q ∷ identifier m o ∷ r) (leaf (node.Column (Some (word n p)) (word m o)) p) r
     -- "(" expr ")", which makes no node
     in_brackets : {l r : List Tok} {a : Tree} {p q : ℕ} → Phrase disjunction l a (sign Close q ∷ r) → Phrase primary (sign Open p ∷ l) a r
 

@@ -88,96 +88,96 @@ abbrev pub is : Mark → Mark → Bool
 is a b = code a == code b
 
 -- the text, in lower case
-abbrev pub text_of : Mark → List ℕ
-text_of Select = codes "select"
-text_of Distinct = codes "distinct"
-text_of From = codes "from"
-text_of Where = codes "where"
-text_of Order = codes "order"
-text_of By = codes "by"
-text_of Asc = codes "asc"
-text_of Desc = codes "desc"
-text_of Limit = codes "limit"
-text_of Create = codes "create"
-text_of Table = codes "table"
-text_of Index = codes "index"
-text_of On = codes "on"
-text_of Using = codes "using"
-text_of Gist = codes "gist"
-text_of Insert = codes "insert"
-text_of Into = codes "into"
-text_of Values = codes "values"
-text_of Copy = codes "copy"
-text_of With = codes "with"
-text_of Format = codes "format"
-text_of Csv = codes "csv"
-text_of Header = codes "header"
-text_of Delimiter = codes "delimiter"
-text_of Explain = codes "explain"
-text_of And = codes "and"
-text_of Or = codes "or"
-text_of Not = codes "not"
-text_of Is = codes "is"
-text_of Null = codes "null"
-text_of True = codes "true"
-text_of False = codes "false"
-text_of As = codes "as"
-text_of Left = codes "left"
-text_of Join = codes "join"
-text_of Delete = codes "delete"
-text_of Group = codes "group"
-text_of LiftedEqual = codes "#="
-text_of LiftedNotEqual = codes "#<>"
-text_of LiftedLess = codes "#<"
-text_of LiftedLessEqual = codes "#<="
-text_of LiftedGreater = codes "#>"
-text_of LiftedGreaterEqual = codes "#>="
-text_of EverEqual = codes "?="
-text_of EverNotEqual = codes "?<>"
-text_of EverLess = codes "?<"
-text_of EverLessEqual = codes "?<="
-text_of EverGreater = codes "?>"
-text_of EverGreaterEqual = codes "?>="
-text_of AlwaysEqual = codes "%="
-text_of AlwaysNotEqual = codes "%<>"
-text_of AlwaysLess = codes "%<"
-text_of AlwaysLessEqual = codes "%<="
-text_of AlwaysGreater = codes "%>"
-text_of AlwaysGreaterEqual = codes "%>="
-text_of Equal = codes "="
-text_of NotEqual = codes "<>"
-text_of Less = codes "<"
-text_of LessEqual = codes "<="
-text_of Greater = codes ">"
-text_of GreaterEqual = codes ">="
-text_of Distance = codes "<->"
-text_of Approach = codes "|=|"
-text_of Plus = codes "+"
-text_of Minus = codes "-"
-text_of Times = codes "*"
-text_of Divide = codes "/"
-text_of Ampersand = codes "&"
-text_of Bar = codes "|"
-text_of Tilde = codes "~"
-text_of Concat = codes "||"
-text_of Overlap = codes "&&"
-text_of Cast = codes "::"
-text_of Open = codes "("
-text_of Close = codes ")"
-text_of Comma = codes ","
-text_of Semicolon = codes ";"
-text_of Dot = codes "."
+abbrev pub mark_text : Mark → List ℕ
+mark_text Select = codes "select"
+mark_text Distinct = codes "distinct"
+mark_text From = codes "from"
+mark_text Where = codes "where"
+mark_text Order = codes "order"
+mark_text By = codes "by"
+mark_text Asc = codes "asc"
+mark_text Desc = codes "desc"
+mark_text Limit = codes "limit"
+mark_text Create = codes "create"
+mark_text Table = codes "table"
+mark_text Index = codes "index"
+mark_text On = codes "on"
+mark_text Using = codes "using"
+mark_text Gist = codes "gist"
+mark_text Insert = codes "insert"
+mark_text Into = codes "into"
+mark_text Values = codes "values"
+mark_text Copy = codes "copy"
+mark_text With = codes "with"
+mark_text Format = codes "format"
+mark_text Csv = codes "csv"
+mark_text Header = codes "header"
+mark_text Delimiter = codes "delimiter"
+mark_text Explain = codes "explain"
+mark_text And = codes "and"
+mark_text Or = codes "or"
+mark_text Not = codes "not"
+mark_text Is = codes "is"
+mark_text Null = codes "null"
+mark_text True = codes "true"
+mark_text False = codes "false"
+mark_text As = codes "as"
+mark_text Left = codes "left"
+mark_text Join = codes "join"
+mark_text Delete = codes "delete"
+mark_text Group = codes "group"
+mark_text LiftedEqual = codes "#="
+mark_text LiftedNotEqual = codes "#<>"
+mark_text LiftedLess = codes "#<"
+mark_text LiftedLessEqual = codes "#<="
+mark_text LiftedGreater = codes "#>"
+mark_text LiftedGreaterEqual = codes "#>="
+mark_text EverEqual = codes "?="
+mark_text EverNotEqual = codes "?<>"
+mark_text EverLess = codes "?<"
+mark_text EverLessEqual = codes "?<="
+mark_text EverGreater = codes "?>"
+mark_text EverGreaterEqual = codes "?>="
+mark_text AlwaysEqual = codes "%="
+mark_text AlwaysNotEqual = codes "%<>"
+mark_text AlwaysLess = codes "%<"
+mark_text AlwaysLessEqual = codes "%<="
+mark_text AlwaysGreater = codes "%>"
+mark_text AlwaysGreaterEqual = codes "%>="
+mark_text Equal = codes "="
+mark_text NotEqual = codes "<>"
+mark_text Less = codes "<"
+mark_text LessEqual = codes "<="
+mark_text Greater = codes ">"
+mark_text GreaterEqual = codes ">="
+mark_text Distance = codes "<->"
+mark_text Approach = codes "|=|"
+mark_text Plus = codes "+"
+mark_text Minus = codes "-"
+mark_text Times = codes "*"
+mark_text Divide = codes "/"
+mark_text Ampersand = codes "&"
+mark_text Bar = codes "|"
+mark_text Tilde = codes "~"
+mark_text Concat = codes "||"
+mark_text Overlap = codes "&&"
+mark_text Cast = codes "::"
+mark_text Open = codes "("
+mark_text Close = codes ")"
+mark_text Comma = codes ","
+mark_text Semicolon = codes ";"
+mark_text Dot = codes "."
 
 -- the reserved words
-abbrev pub words : List Mark
-words =
+abbrev pub reserved_words : List Mark
+reserved_words =
     Select ∷ Distinct ∷ From ∷ Where ∷ Order ∷ By ∷ Asc ∷ Desc ∷ Limit ∷ Create ∷ Table ∷ Index ∷ On ∷ Using ∷ Gist ∷ Insert ∷ Into ∷
     Values ∷ Copy ∷ With ∷ Format ∷ Csv ∷ Header ∷ Delimiter ∷ Explain ∷ And ∷ Or ∷ Not ∷ Is ∷ Null ∷ True ∷ False ∷ As ∷ Left ∷ Join ∷
     Delete ∷ Group ∷ []
 
 -- the signs but the point
-abbrev pub signs : List Mark
-signs =
+abbrev pub sign_marks : List Mark
+sign_marks =
     Comma ∷ Open ∷ Close ∷ Minus ∷ Plus ∷ Semicolon ∷ Times ∷ Divide ∷ Cast ∷ Equal ∷ NotEqual ∷ Less ∷ LessEqual ∷ Greater ∷ GreaterEqual ∷
     LiftedEqual ∷ LiftedNotEqual ∷ LiftedLess ∷ LiftedLessEqual ∷ LiftedGreater ∷ LiftedGreaterEqual ∷ EverEqual ∷ EverNotEqual ∷ EverLess ∷
     EverLessEqual ∷ EverGreater ∷ EverGreaterEqual ∷ AlwaysEqual ∷ AlwaysNotEqual ∷ AlwaysLess ∷ AlwaysLessEqual ∷ AlwaysGreater ∷ AlwaysGreaterEqual ∷
@@ -347,82 +347,82 @@ clause Semicolon = 5
 clause Dot = 0
 
 -- whether it is a word
-abbrev pub is_word : Mark → Bool
-is_word Select = true
-is_word Distinct = true
-is_word From = true
-is_word Where = true
-is_word Order = true
-is_word By = true
-is_word Asc = true
-is_word Desc = true
-is_word Limit = true
-is_word Create = true
-is_word Table = true
-is_word Index = true
-is_word On = true
-is_word Using = true
-is_word Gist = true
-is_word Insert = true
-is_word Into = true
-is_word Values = true
-is_word Copy = true
-is_word With = true
-is_word Format = true
-is_word Csv = true
-is_word Header = true
-is_word Delimiter = true
-is_word Explain = true
-is_word And = true
-is_word Or = true
-is_word Not = true
-is_word Is = true
-is_word Null = true
-is_word True = true
-is_word False = true
-is_word As = true
-is_word Left = true
-is_word Join = true
-is_word Delete = true
-is_word Group = true
-is_word LiftedEqual = false
-is_word LiftedNotEqual = false
-is_word LiftedLess = false
-is_word LiftedLessEqual = false
-is_word LiftedGreater = false
-is_word LiftedGreaterEqual = false
-is_word EverEqual = false
-is_word EverNotEqual = false
-is_word EverLess = false
-is_word EverLessEqual = false
-is_word EverGreater = false
-is_word EverGreaterEqual = false
-is_word AlwaysEqual = false
-is_word AlwaysNotEqual = false
-is_word AlwaysLess = false
-is_word AlwaysLessEqual = false
-is_word AlwaysGreater = false
-is_word AlwaysGreaterEqual = false
-is_word Equal = false
-is_word NotEqual = false
-is_word Less = false
-is_word LessEqual = false
-is_word Greater = false
-is_word GreaterEqual = false
-is_word Distance = false
-is_word Approach = false
-is_word Plus = false
-is_word Minus = false
-is_word Times = false
-is_word Divide = false
-is_word Ampersand = false
-is_word Bar = false
-is_word Tilde = false
-is_word Concat = false
-is_word Overlap = false
-is_word Cast = false
-is_word Open = false
-is_word Close = false
-is_word Comma = false
-is_word Semicolon = false
-is_word Dot = false
+abbrev pub is_reserved_word : Mark → Bool
+is_reserved_word Select = true
+is_reserved_word Distinct = true
+is_reserved_word From = true
+is_reserved_word Where = true
+is_reserved_word Order = true
+is_reserved_word By = true
+is_reserved_word Asc = true
+is_reserved_word Desc = true
+is_reserved_word Limit = true
+is_reserved_word Create = true
+is_reserved_word Table = true
+is_reserved_word Index = true
+is_reserved_word On = true
+is_reserved_word Using = true
+is_reserved_word Gist = true
+is_reserved_word Insert = true
+is_reserved_word Into = true
+is_reserved_word Values = true
+is_reserved_word Copy = true
+is_reserved_word With = true
+is_reserved_word Format = true
+is_reserved_word Csv = true
+is_reserved_word Header = true
+is_reserved_word Delimiter = true
+is_reserved_word Explain = true
+is_reserved_word And = true
+is_reserved_word Or = true
+is_reserved_word Not = true
+is_reserved_word Is = true
+is_reserved_word Null = true
+is_reserved_word True = true
+is_reserved_word False = true
+is_reserved_word As = true
+is_reserved_word Left = true
+is_reserved_word Join = true
+is_reserved_word Delete = true
+is_reserved_word Group = true
+is_reserved_word LiftedEqual = false
+is_reserved_word LiftedNotEqual = false
+is_reserved_word LiftedLess = false
+is_reserved_word LiftedLessEqual = false
+is_reserved_word LiftedGreater = false
+is_reserved_word LiftedGreaterEqual = false
+is_reserved_word EverEqual = false
+is_reserved_word EverNotEqual = false
+is_reserved_word EverLess = false
+is_reserved_word EverLessEqual = false
+is_reserved_word EverGreater = false
+is_reserved_word EverGreaterEqual = false
+is_reserved_word AlwaysEqual = false
+is_reserved_word AlwaysNotEqual = false
+is_reserved_word AlwaysLess = false
+is_reserved_word AlwaysLessEqual = false
+is_reserved_word AlwaysGreater = false
+is_reserved_word AlwaysGreaterEqual = false
+is_reserved_word Equal = false
+is_reserved_word NotEqual = false
+is_reserved_word Less = false
+is_reserved_word LessEqual = false
+is_reserved_word Greater = false
+is_reserved_word GreaterEqual = false
+is_reserved_word Distance = false
+is_reserved_word Approach = false
+is_reserved_word Plus = false
+is_reserved_word Minus = false
+is_reserved_word Times = false
+is_reserved_word Divide = false
+is_reserved_word Ampersand = false
+is_reserved_word Bar = false
+is_reserved_word Tilde = false
+is_reserved_word Concat = false
+is_reserved_word Overlap = false
+is_reserved_word Cast = false
+is_reserved_word Open = false
+is_reserved_word Close = false
+is_reserved_word Comma = false
+is_reserved_word Semicolon = false
+is_reserved_word Dot = false

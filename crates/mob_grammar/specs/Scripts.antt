@@ -9,116 +9,116 @@ use Rattle.mob_ast.specs.Trees.{Tree, StatementParts, empty, create_table, creat
 use Rattle.mob_grammar.specs.declared.mark.Mark.TheVariants.{Select, Distinct, From, Where, Order, By, Asc, Desc, Limit, Create, Table, Index, On, Using, Gist, Insert, Into, Values, Copy, With, Format, Csv, Header, Delimiter, Explain, Null, True, False, As, Times, Open, Close, Comma, Semicolon}
 use Rattle.mob_grammar.specs.Symbols.{Tok, binding, unary, leaf}
 use Rattle.mob_grammar.specs.Expressions.{disjunction, Phrase, TypeName}
-use Rattle.mob_grammar.specs.Forms.{Form, Says, At, AName, ANumber, AString, ◌⇒◌, ◌▸◌, ◌∣◌, Listed}
+use Rattle.mob_grammar.specs.Forms.{Production, Builds, At, AName, ANumber, AString, ◌⇒◌, ◌▸◌, ◌∣◌, Listed}
 
-abbrev pub Expression : Form Tree
+abbrev pub Expression : Production Tree
 Expression = Phrase disjunction
 
 -- + or -
-abbrev pub PlusOrMinus : Form Tok
+abbrev pub PlusOrMinus : Production Tok
 PlusOrMinus l t r = (l ≡ t ∷ r) × (binding t ≡ 8)
 
 -- const = string | ["+"|"-"] number | TRUE | FALSE | NULL | type string
-abbrev pub Const : Form Tree
+abbrev pub Const : Production Tree
 Const =
-    (AString ⇒ λ s. Says (leaf (node.Str s.text) s.place))
-    ∣ (PlusOrMinus ⇒ λ t. ANumber ⇒ λ n. Says (unary t (leaf (node.Number n.text) n.place)))
-    ∣ (ANumber ⇒ λ n. Says (leaf (node.Number n.text) n.place))
-    ∣ (At True ⇒ λ p. Says (leaf node.True p))
-    ∣ (At False ⇒ λ p. Says (leaf node.False p))
-    ∣ (At Null ⇒ λ p. Says (leaf node.Null p))
-    ∣ (TypeName ⇒ λ ty. AString ⇒ λ s. Says (leaf (node.Literal ty s.text) s.place))
+    (AString ⇒ λ s. Builds (leaf (node.Str s.text) s.place))
+    ∣ (PlusOrMinus ⇒ λ t. ANumber ⇒ λ n. Builds (unary t (leaf (node.Number n.text) n.place)))
+    ∣ (ANumber ⇒ λ n. Builds (leaf (node.Number n.text) n.place))
+    ∣ (At True ⇒ λ p. Builds (leaf node.True p))
+    ∣ (At False ⇒ λ p. Builds (leaf node.False p))
+    ∣ (At Null ⇒ λ p. Builds (leaf node.Null p))
+    ∣ (TypeName ⇒ λ ty. AString ⇒ λ s. Builds (leaf (node.Literal ty s.text) s.place))
 
 -- row = "(" const { "," const } ")"
-abbrev pub Row : Form RowParts
-Row = At Open ⇒ λ p. Listed Comma Const ⇒ λ values. Close ▸ Says (record { place = p; values = values })
+abbrev pub Row : Production RowParts
+Row = At Open ⇒ λ p. Listed Comma Const ⇒ λ values. Close ▸ Builds (record { place = p; values = values })
 
 -- name type
-abbrev pub ColumnType : Form (Word × TypeWord)
-ColumnType = AName ⇒ λ name. TypeName ⇒ λ ty. Says (name, ty)
+abbrev pub ColumnType : Production (Word × TypeWord)
+ColumnType = AName ⇒ λ name. TypeName ⇒ λ ty. Builds (name, ty)
 
 -- CREATE TABLE name "(" name type { "," name type } ")"
-abbrev pub CreateTable : Form StatementParts
-CreateTable = Table ▸ AName ⇒ λ name. Open ▸ Listed Comma ColumnType ⇒ λ columns. Close ▸ Says (create_table name columns)
+abbrev pub CreateTable : Production StatementParts
+CreateTable = Table ▸ AName ⇒ λ name. Open ▸ Listed Comma ColumnType ⇒ λ columns. Close ▸ Builds (create_table name columns)
 
 -- CREATE INDEX name ON name USING GIST "(" name ")"
-abbrev pub CreateIndex : Form StatementParts
-CreateIndex = Index ▸ AName ⇒ λ name. On ▸ AName ⇒ λ table. Using ▸ Gist ▸ Open ▸ AName ⇒ λ column. Close ▸ Says (create_index name table column)
+abbrev pub CreateIndex : Production StatementParts
+CreateIndex = Index ▸ AName ⇒ λ name. On ▸ AName ⇒ λ table. Using ▸ Gist ▸ Open ▸ AName ⇒ λ column. Close ▸ Builds (create_index name table column)
 
 -- INSERT INTO name VALUES row { "," row }
-abbrev pub InsertRows : Form StatementParts
-InsertRows = Into ▸ AName ⇒ λ table. Values ▸ Listed Comma Row ⇒ λ rows. Says (insert table rows)
+abbrev pub InsertRows : Production StatementParts
+InsertRows = Into ▸ AName ⇒ λ table. Values ▸ Listed Comma Row ⇒ λ rows. Builds (insert table rows)
 
 -- WITH "(" FORMAT CSV "," HEADER [TRUE] ")"
-abbrev pub WithFormat : Form (Option Quoted)
-WithFormat = Open ▸ Format ▸ Csv ▸ Comma ▸ Header ▸ (True ▸ Close ▸ Says None ∣ Close ▸ Says None)
+abbrev pub WithFormat : Production (Option Quoted)
+WithFormat = Open ▸ Format ▸ Csv ▸ Comma ▸ Header ▸ (True ▸ Close ▸ Builds None ∣ Close ▸ Builds None)
 
 -- DELIMITER string CSV HEADER
-abbrev pub WithDelimiter : Form (Option Quoted)
-WithDelimiter = AString ⇒ λ s. Csv ▸ Header ▸ Says (Some s)
+abbrev pub WithDelimiter : Production (Option Quoted)
+WithDelimiter = AString ⇒ λ s. Csv ▸ Header ▸ Builds (Some s)
 
 -- COPY name FROM string, and then either
-abbrev pub CopyFile : Form StatementParts
-CopyFile = AName ⇒ λ table. From ▸ AString ⇒ λ file. (With ▸ WithFormat ∣ Delimiter ▸ WithDelimiter) ⇒ λ delimiter. Says (copy table file delimiter)
+abbrev pub CopyFile : Production StatementParts
+CopyFile = AName ⇒ λ table. From ▸ AString ⇒ λ file. (With ▸ WithFormat ∣ Delimiter ▸ WithDelimiter) ⇒ λ delimiter. Builds (copy table file delimiter)
 
 -- [AS] name, or nothing
-abbrev pub SecondName : Form (Option Word)
-SecondName = (As ▸ AName ⇒ λ name. Says (Some name)) ∣ (AName ⇒ λ name. Says (Some name)) ∣ Says None
+abbrev pub SecondName : Production (Option Word)
+SecondName = (As ▸ AName ⇒ λ name. Builds (Some name)) ∣ (AName ⇒ λ name. Builds (Some name)) ∣ Builds None
 
 -- from = name [ [AS] name ]
-abbrev pub FromEntry : Form FromTable
-FromEntry = AName ⇒ λ table. SecondName ⇒ λ alias. Says (record { table = table; alias = alias })
+abbrev pub FromEntry : Production FromTable
+FromEntry = AName ⇒ λ table. SecondName ⇒ λ alias. Builds (record { table = table; alias = alias })
 
 -- [AS name]
-abbrev pub Alias : Form (Option Word)
-Alias = (As ▸ AName ⇒ λ name. Says (Some name)) ∣ Says None
+abbrev pub Alias : Production (Option Word)
+Alias = (As ▸ AName ⇒ λ name. Builds (Some name)) ∣ Builds None
 
 -- item = "*" | expr [AS name]
-abbrev pub SelectItem : Form ItemParts
-SelectItem = (At Times ⇒ λ p. Says (every p)) ∣ (Expression ⇒ λ value. Alias ⇒ λ alias. Says (one value alias))
+abbrev pub SelectItem : Production ItemParts
+SelectItem = (At Times ⇒ λ p. Builds (every p)) ∣ (Expression ⇒ λ value. Alias ⇒ λ alias. Builds (one value alias))
 
 -- [ASC | DESC], and whether it is DESC
-abbrev pub Direction : Form Bool
-Direction = Asc ▸ Says false ∣ Desc ▸ Says true ∣ Says false
+abbrev pub Direction : Production Bool
+Direction = Asc ▸ Builds false ∣ Desc ▸ Builds true ∣ Builds false
 
 -- key = expr [ASC | DESC]
-abbrev pub OrderKey : Form KeyParts
-OrderKey = Expression ⇒ λ value. Direction ⇒ λ descending. Says (record { value = value; descending = descending })
+abbrev pub OrderKey : Production KeyParts
+OrderKey = Expression ⇒ λ value. Direction ⇒ λ descending. Builds (record { value = value; descending = descending })
 
 -- [DISTINCT]
-abbrev pub OnlyDistinct : Form Bool
-OnlyDistinct = Distinct ▸ Says true ∣ Says false
+abbrev pub OnlyDistinct : Production Bool
+OnlyDistinct = Distinct ▸ Builds true ∣ Builds false
 
 -- [FROM from { "," from }]
-abbrev pub FromPart : Form (List FromTable)
-FromPart = From ▸ Listed Comma FromEntry ∣ Says []
+abbrev pub FromPart : Production (List FromTable)
+FromPart = From ▸ Listed Comma FromEntry ∣ Builds []
 
 -- [WHERE expr]
-abbrev pub WherePart : Form (Option Tree)
-WherePart = (Where ▸ Expression ⇒ λ cond. Says (Some cond)) ∣ Says None
+abbrev pub WherePart : Production (Option Tree)
+WherePart = (Where ▸ Expression ⇒ λ cond. Builds (Some cond)) ∣ Builds None
 
 -- [ORDER BY key { "," key }]
-abbrev pub OrderPart : Form (List KeyParts)
-OrderPart = Order ▸ By ▸ Listed Comma OrderKey ∣ Says []
+abbrev pub OrderPart : Production (List KeyParts)
+OrderPart = Order ▸ By ▸ Listed Comma OrderKey ∣ Builds []
 
 -- [LIMIT number]
-abbrev pub LimitPart : Form (Option Word)
-LimitPart = (Limit ▸ ANumber ⇒ λ number. Says (Some number)) ∣ Says None
+abbrev pub LimitPart : Production (Option Word)
+LimitPart = (Limit ▸ ANumber ⇒ λ number. Builds (Some number)) ∣ Builds None
 
 -- [DISTINCT] item { "," item } [FROM ..] [WHERE ..] [ORDER BY ..] [LIMIT ..]
-abbrev pub SelectBody : Form SelectParts
+abbrev pub SelectBody : Production SelectParts
 SelectBody = OnlyDistinct ⇒ λ distinct. Listed Comma SelectItem ⇒ λ items. FromPart ⇒ λ from. WherePart ⇒ λ cond. OrderPart ⇒ λ keys. LimitPart ⇒ λ limit.
-    Says (record { distinct = distinct; items = items; from = from; cond = cond; keys = keys; limit = limit })
+    Builds (record { distinct = distinct; items = items; from = from; cond = cond; keys = keys; limit = limit })
 
 -- a statement, by its first word
-abbrev pub Statement : Form StatementParts
+abbrev pub Statement : Production StatementParts
 Statement =
     (Create ▸ (CreateTable ∣ CreateIndex))
     ∣ Insert ▸ InsertRows
     ∣ Copy ▸ CopyFile
-    ∣ (Select ▸ SelectBody ⇒ λ s. Says (select s))
-    ∣ (Explain ▸ Select ▸ SelectBody ⇒ λ s. Says (explain s))
-    ∣ Says empty
+    ∣ (Select ▸ SelectBody ⇒ λ s. Builds (select s))
+    ∣ (Explain ▸ Select ▸ SelectBody ⇒ λ s. Builds (explain s))
+    ∣ Builds empty
 
 -- script = [statement] { ";" [statement] }, and nothing behind it
 abbrev pub IsScript : List Tok → List StatementParts → Type 0

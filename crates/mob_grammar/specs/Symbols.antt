@@ -5,7 +5,7 @@ use Rattle.mob_ast.specs.declared.expression.Node.TheVariants as node
 use Rattle.mob_ast.specs.Trees.{Tree, tree, none, more}
 use Rattle.mob_grammar.specs.declared.mark.Mark.{Mark}
 use Rattle.mob_grammar.specs.declared.mark.Mark.TheVariants.{And, Or, Not, Semicolon}
-use Rattle.mob_grammar.specs.Marks.{is, text_of, strength, clause}
+use Rattle.mob_grammar.specs.Marks.{is, mark_text, strength, clause}
 
 -- what stands at a place: a reserved word or a sign, a name in lower case, a number as written, or a string without its quotes
 pub data Symbol : Type 0 where
@@ -22,8 +22,8 @@ pub record Tok : Type 0 where
 abbrev pub sign : Mark → ℕ → Tok
 sign m p = record { symbol = fixed m; place = p }
 
-abbrev pub named : List ℕ → ℕ → Tok
-named n p = record { symbol = name n; place = p }
+abbrev pub identifier : List ℕ → ℕ → Tok
+identifier n p = record { symbol = name n; place = p }
 
 abbrev pub numeral : List ℕ → ℕ → Tok
 numeral n p = record { symbol = number n; place = p }
@@ -108,7 +108,7 @@ abbrev pub mark_node : Mark → Node
 mark_node And = node.And
 mark_node Or = node.Or
 mark_node Not = node.Not
-mark_node g = node.Sign (text_of g)
+mark_node g = node.Sign (mark_text g)
 
 abbrev pub symbol_node : Symbol → Node
 symbol_node (fixed g) = mark_node g

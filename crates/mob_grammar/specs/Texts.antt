@@ -3,26 +3,26 @@ use Rattle.std.specs.Prelude.{◌≡◌, ◌≤◌, ℕ, List, [], ◌∷◌, �
 use Rattle.mob_grammar.specs.Symbols.{Symbol, fixed, name, number, quoted, Tok}
 
 -- one byte of that range
-abbrev pub is_between : ℕ → ℕ → List ℕ → Type 0
-is_between low high [] = ⊥
-is_between low high (b ∷ []) = (low ≤ b) × (b ≤ high)
-is_between low high (b ∷ c ∷ l) = ⊥
+abbrev pub IsBetween : ℕ → ℕ → List ℕ → Type 0
+IsBetween low high [] = ⊥
+IsBetween low high (b ∷ []) = (low ≤ b) × (b ≤ high)
+IsBetween low high (b ∷ c ∷ l) = ⊥
 
 -- what anyone can write at once: a mark, a string, a name of one small letter and a number of one digit
 abbrev pub IsPlain : Symbol → Type 0
 IsPlain (fixed m) = Unit {0}
-IsPlain (name n) = is_between 97 122 n
-IsPlain (number n) = is_between 48 57 n
+IsPlain (name n) = IsBetween 97 122 n
+IsPlain (number n) = IsBetween 48 57 n
 IsPlain (quoted s) = Unit {0}
 
-abbrev pub Plain : List Tok → Type 0
-Plain [] = Unit {0}
-Plain (t ∷ l) = IsPlain t.symbol × Plain l
+abbrev pub ArePlain : List Tok → Type 0
+ArePlain [] = Unit {0}
+ArePlain (t ∷ l) = IsPlain t.symbol × ArePlain l
 
 module _ {A : Type 0} (F : List Tok → A → List Tok → Type 0) where
   -- some text of the form begins with these tokens
   abbrev pub BeginsText : List Tok → Type 0
-  BeginsText l = (more : List Tok) × Plain more × (x : A) × F (l ++ more) x []
+  BeginsText l = (more : List Tok) × ArePlain more × (x : A) × F (l ++ more) x []
 
   -- some text of the form begins with l and the first token of r; or, where r has none, l is one itself
   abbrev pub GoesOn : List Tok → List Tok → Type 0

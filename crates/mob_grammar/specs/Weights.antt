@@ -4,7 +4,7 @@
 use Rattle.std.specs.Prelude.{ℕ, List, Bool, true, false, cond}
 use Rattle.mob_grammar.specs.declared.mark.Mark.{Mark}
 use Rattle.mob_grammar.specs.declared.mark.Mark.TheVariants.{Or, And, Not, Is, Null, True, False, Open, Close, Comma, Semicolon, Dot}
-use Rattle.mob_grammar.specs.Marks.{is_word}
+use Rattle.mob_grammar.specs.Marks.{is_reserved_word}
 use Rattle.mob_grammar.specs.Symbols.{Symbol, fixed, name, number, quoted, Tok, starts, rest}
 use Rattle.mob_grammar.specs.Reading.{is_literal}
 
@@ -29,7 +29,7 @@ mark_counts Comma = false
 mark_counts Dot = false
 mark_counts Close = false
 mark_counts Semicolon = false
-mark_counts m = cond (is_word m) false true
+mark_counts m = cond (is_reserved_word m) false true
 
 -- A name is that of a function before an opening bracket, but not behind `::` or `.`, and not where `name ( name ) string`
 -- stands.
@@ -53,4 +53,4 @@ mark_ends Null = false
 mark_ends True = false
 mark_ends False = false
 mark_ends Semicolon = true
-mark_ends m = is_word m
+mark_ends m = is_reserved_word m

@@ -1,6 +1,6 @@
 //! The reserved words and the signs of the language.
 ghost use Rattle.std.specs.Prelude.{◌≡◌};
-ghost use Rattle.mob_grammar.specs.Marks.{is, text_of, strength, is_word};
+ghost use Rattle.mob_grammar.specs.Marks.{is, mark_text, strength, is_reserved_word};
 
 /// A reserved word or a sign: a token whose text is fixed.
 #[derive(Clone, Copy, Debug, PartialEq, Eq)]
@@ -219,7 +219,7 @@ impl Mark {
 
     /// Its text, in lower case.
     pub fn text(self) -> &'static str
-        ensures exact { result.now ≡ text_of self }
+        ensures exact { result.now ≡ mark_text self }
     {
         match self {
             Mark::Select => "select",
@@ -304,8 +304,8 @@ impl Mark {
     }
 
     /// Whether it is a word and no sign.
-    pub fn is_word(self) -> bool
-        ensures exact { result ≡ is_word self }
+    pub fn is_reserved_word(self) -> bool
+        ensures exact { result ≡ is_reserved_word self }
     {
         self as u8 <= Mark::Group as u8
     }

@@ -8,7 +8,7 @@ use Rattle.std.proofs.Common.{◌≡◌, ℕ, [], ◌∷◌, ◌++◌, map, Bool
 use Rattle.std.proofs.lemmas.Bool.{eqb-true}
 use Rattle.std.proofs.lemmas.List.{append-nil}
 use Rattle.mob_language.specs.Language.{Text, Language, ◌▷◌, ◌∣◌, Maybe, Means, Where, Word, AnyCase, small, OneOf, AreAll, Run}
-use Rattle.mob_language.specs.Readers.{Reader, ◌>>=◌, then_at, else_at, or_at, maybe_at, maybe_of, means_at, where_at, word_at, any_case_at, one_at, run_of, grown, run_at, ended, all_of}
+use Rattle.mob_language.specs.Readers.{TextReader, ◌>>=◌, then_at, else_at, or_at, maybe_at, maybe_of, means_at, where_at, word_at, any_case_at, one_at, run_of, grown, run_at, ended, all_of}
 
 -- the text has a front that the language says v with, and the rest stands behind it
 pub record Reads {A : Type 0} (l : Language A) (text rest : Text) (v : A) : Type 0 where
@@ -18,7 +18,7 @@ pub record Reads {A : Type 0} (l : Language A) (text rest : Text) (v : A) : Type
 
 -- what is read in front is a text of the language (sound); and a text of the language is read, whatever stands behind it that meets
 -- `follows` (complete)
-pub record Exact {A : Type 0} (l : Language A) (r : Reader A) (follows : Text → Type 0) : Type 0 where
+pub record Exact {A : Type 0} (l : Language A) (r : TextReader A) (follows : Text → Type 0) : Type 0 where
   pub sound : (text rest : Text) (v : A) → r text ≡ Some (v, rest) → Reads l text rest v
   pub complete : (text rest : Text) (v : A) → l text v → follows rest → r (text ++ rest) ≡ Some (v, rest)
 
@@ -35,7 +35,7 @@ pub some_is : {A : Type 0} (x y : A) → some x ≡ some y → x ≡ y
 some_is x y e = cc
 
 -- one text, and behind it another; `goes` says that the second text does not go on with the first
-pub then_exact : {A B : Type 0} {l : Language A} {m : Language B} {r : Reader A} {s : Reader B} {F G : Text → Type 0}
+pub then_exact : {A B : Type 0} {l : Language A} {m : Language B} {r : TextReader A} {s : TextReader B} {F G : Text → Type 0}
     → Exact l r F → Exact m s G → ((text rest : Text) (v : B) → m text v → G rest → F (text ++ rest)) → Exact (l ▷ m) (then_at r s) G
 then_exact {A} {B} {l} {m} {r} {s} {F} {G} p q goes = record {
   sound = λ text rest v e.
@@ -57,7 +57,7 @@ then_exact {A} {B} {l} {m} {r} {s} {F} {G} p q goes = record {
 }
 
 -- one text or another; `apart` says that the first reader reads nothing of the second language
-pub or_exact : {A : Type 0} {l m : Language A} {r s : Reader A} {F G : Text → Type 0}
+pub or_exact : {A : Type 0} {l m : Language A} {r s : TextReader A} {F G : Text → Type 0}
     → Exact l r F → Exact m s G → ((text rest : Text) (v : A) → m text v → G rest → r (text ++ rest) ≡ None) → Exact (l ∣ m) (or_at r s) (λ rest. F rest × G rest)
 or_exact {A} {l} {m} {r} {s} p q apart = record {
   sound = λ text rest v e. or_sound (r text) (s text) text rest v (λ h. p.sound text rest v h) (λ h. q.sound text rest v h) e;
@@ -71,7 +71,7 @@ or_exact {A} {l} {m} {r} {s} p q apart = record {
   or_sound (Some x) n text rest v f g e = let h = f e in record { front = h.front; whole = h.whole; said = inl h.said }
 
 -- a text, or nothing; `apart` says that the reader reads nothing of what may stand behind
-pub maybe_exact : {A : Type 0} {l : Language A} {r : Reader A} {F G : Text → Type 0}
+pub maybe_exact : {A : Type 0} {l : Language A} {r : TextReader A} {F G : Text → Type 0}
     → Exact l r F → ((rest : Text) → G rest → r rest ≡ None) → Exact (Maybe l) (maybe_at r) (λ rest. F rest × G rest)
 maybe_exact {A} {l} {r} {F} {G} p apart = record {
   sound = λ text rest v e. maybe_sound (r text) text rest v (λ w h. p.sound text rest w h) e;
@@ -92,7 +92,7 @@ maybe_exact {A} {l} {r} {F} {G} p apart = record {
   maybe_complete text rest (Some w) said after = rw (p.complete text rest w said after.0) refl
 
 -- what a text stands for, by a function
-pub means_exact : {A B : Type 0} {l : Language A} {r : Reader A} {F : Text → Type 0} (f : A → B)
+pub means_exact : {A B : Type 0} {l : Language A} {r : TextReader A} {F : Text → Type 0} (f : A → B)
     → Exact l r F → Exact (Means f l) (means_at f r) F
 means_exact {A} {B} {l} {r} {F} f p = record {
   sound = λ text rest v e.
@@ -108,7 +108,7 @@ guarded true x y e = (refl, cc)
 guarded false x y e = absurd cc
 
 -- what a text stands for, where it passes a test
-pub where_exact : {A : Type 0} {l : Language A} {r : Reader A} {F : Text → Type 0} (test : A → Bool)
+pub where_exact : {A : Type 0} {l : Language A} {r : TextReader A} {F : Text → Type 0} (test : A → Bool)
     → Exact l r F → Exact (Where test l) (where_at test r) F
 where_exact {A} {l} {r} {F} test p = record {
   sound = λ text rest v e.
@@ -227,7 +227,7 @@ run_exact test = record {
 }
 
 -- all of a text is read exactly where it is of the language
-pub all_sound : {A : Type 0} {l : Language A} {r : Reader A} {F : Text → Type 0} → Exact l r F → (text : Text) (v : A) → all_of r text ≡ Some v → l text v
+pub all_sound : {A : Type 0} {l : Language A} {r : TextReader A} {F : Text → Type 0} → Exact l r F → (text : Text) (v : A) → all_of r text ≡ Some v → l text v
 all_sound {A} {l} {r} p text v e =
     let a = bind_some (r text) ended v e in
     let last : (a.0.1 ≡ []) × (a.0.0 ≡ v) = at_end a.0.0 a.0.1 a.2 in
@@ -239,19 +239,19 @@ all_sound {A} {l} {r} p text v e =
     at_end w [] e = (refl, some_is _ _ e)
     at_end w (c ∷ cs) e = absurd cc
 
-pub all_complete : {A : Type 0} {l : Language A} {r : Reader A} {F : Text → Type 0} → Exact l r F → F [] → (text : Text) (v : A) → l text v → all_of r text ≡ Some v
+pub all_complete : {A : Type 0} {l : Language A} {r : TextReader A} {F : Text → Type 0} → Exact l r F → F [] → (text : Text) (v : A) → l text v → all_of r text ≡ Some v
 all_complete p after text v said = rw (sym (append-nil text), p.complete text [] v said after) refl
 
 -- no text has two values
-pub one_value : {A : Type 0} {l : Language A} {r : Reader A} {F : Text → Type 0} → Exact l r F → F [] → (text : Text) (v w : A) → l text v → l text w → v ≡ w
+pub one_value : {A : Type 0} {l : Language A} {r : TextReader A} {F : Text → Type 0} → Exact l r F → F [] → (text : Text) (v w : A) → l text v → l text w → v ≡ w
 one_value p after text v w a b = some_is v w (sym (all_complete p after text v a) ∙ all_complete p after text w b)
 
 -- the readers of whole texts: what they read is said by the text, and where they read nothing the text says nothing. The code has
 -- the text as a text and as its bytes.
-pub is_said : {A : Type 0} {l : Language A} {r : Reader A} {F : Text → Type 0} → Exact l r F → (text bytes : Text) (v : A) → bytes ≡ text → Some v ≡ all_of r bytes → l text v
+pub is_said : {A : Type 0} {l : Language A} {r : TextReader A} {F : Text → Type 0} → Exact l r F → (text bytes : Text) (v : A) → bytes ≡ text → Some v ≡ all_of r bytes → l text v
 is_said {r = r} p text bytes v e h = all_sound p text v (ap (all_of r) (sym e) ∙ sym h)
 
-pub not_said : {A : Type 0} {l : Language A} {r : Reader A} {F : Text → Type 0} → Exact l r F → F [] → (text bytes : Text) (v : A) → bytes ≡ text → ◌≡◌ {A = Option A} None (all_of r bytes) → l text v → ⊥
+pub not_said : {A : Type 0} {l : Language A} {r : TextReader A} {F : Text → Type 0} → Exact l r F → F [] → (text bytes : Text) (v : A) → bytes ≡ text → ◌≡◌ {A = Option A} None (all_of r bytes) → l text v → ⊥
 not_said {A} {r = r} p after text bytes v e h said = let k = all_complete p after text v said in none_some v (h ∙ ap (all_of r) e ∙ k)
   where
     none_some : (w : A) → ◌≡◌ {A = Option A} None (Some w) → ⊥

@@ -8,7 +8,7 @@
 -- and the laws of Exact are said again in these words (then_stops, maybe_stops, or_stops, ..).
 use Rattle.std.proofs.Common.{◌≡◌, ℕ, [], ◌∷◌, ◌++◌, Bool, true, false, Some, None, refl, sym, ap, subst, ◌∙◌, inl, inr}
 use Rattle.mob_language.specs.Language.{Text, Language, ◌▷◌, ◌∣◌, Maybe, Means, Where, Word, OneOf, AreAll, Run, blanks, spaced, is_blank, in_middle, within_blanks}
-use Rattle.mob_language.specs.Readers.{Reader, then_at, or_at, maybe_at, means_at, where_at, word_at, one_at, spaced_at, within_blanks_at}
+use Rattle.mob_language.specs.Readers.{TextReader, then_at, or_at, maybe_at, means_at, where_at, word_at, one_at, spaced_at, within_blanks_at}
 use Rattle.std.proofs.lemmas.Bool.{ne_eqb}
 use Rattle.std.proofs.lemmas.List.{append-nil}
 use Rattle.mob_language.proofs.Exact.{Exact, Stops, Any, then_exact, or_exact, maybe_exact, means_exact, word_exact, run_exact}
@@ -59,11 +59,11 @@ pub stops_less : (test some : ℕ → Bool) → ((c : ℕ) → test c ≡ false 
 stops_less test some h [] s = tt
 stops_less test some h (c ∷ cs) s = h c s
 
-pub exact_less : {A : Type 0} {l : Language A} {r : Reader A} {F G : Text → Type 0} → Exact l r F → ((rest : Text) → G rest → F rest) → Exact l r G
+pub exact_less : {A : Type 0} {l : Language A} {r : TextReader A} {F G : Text → Type 0} → Exact l r F → ((rest : Text) → G rest → F rest) → Exact l r G
 exact_less p h = record { sound = p.sound; complete = λ text rest v said after. p.complete text rest v said (h rest after) }
 
 -- the reader reads nothing at such a rest
-abbrev pub Nothing : {A : Type 0} → Reader A → (ℕ → Bool) → Type 0
+abbrev pub Nothing : {A : Type 0} → TextReader A → (ℕ → Bool) → Type 0
 Nothing r test = (rest : Text) → Stops test rest → r rest ≡ None
 
 pub one_nothing : (p : ℕ → Bool) → Nothing (one_at p) p
@@ -77,34 +77,34 @@ pub word_nothing : (w : ℕ) (ws : Text) (p : ℕ → Bool) → p w ≡ true →
 word_nothing w ws p e [] s = refl
 word_nothing w ws p e (c ∷ cs) s = rw (ne_eqb c w (λ same. true_false (p c) (ap p same ∙ e) s)) refl
 
-pub then_nothing : {A B : Type 0} {r : Reader A} (s : Reader B) {test : ℕ → Bool} → Nothing r test → Nothing (then_at r s) test
+pub then_nothing : {A B : Type 0} {r : TextReader A} (s : TextReader B) {test : ℕ → Bool} → Nothing r test → Nothing (then_at r s) test
 then_nothing s h rest stops = rw (h rest stops) refl
 
-pub means_nothing : {A B : Type 0} (f : A → B) {r : Reader A} {test : ℕ → Bool} → Nothing r test → Nothing (means_at f r) test
+pub means_nothing : {A B : Type 0} (f : A → B) {r : TextReader A} {test : ℕ → Bool} → Nothing r test → Nothing (means_at f r) test
 means_nothing f h rest s = rw (h rest s) refl
 
-pub where_nothing : {A : Type 0} (p : A → Bool) {r : Reader A} {test : ℕ → Bool} → Nothing r test → Nothing (where_at p r) test
+pub where_nothing : {A : Type 0} (p : A → Bool) {r : TextReader A} {test : ℕ → Bool} → Nothing r test → Nothing (where_at p r) test
 where_nothing p h rest s = rw (h rest s) refl
 
-pub or_nothing : {A : Type 0} {r s : Reader A} {test : ℕ → Bool} → Nothing r test → Nothing s test → Nothing (or_at r s) test
+pub or_nothing : {A : Type 0} {r s : TextReader A} {test : ℕ → Bool} → Nothing r test → Nothing s test → Nothing (or_at r s) test
 or_nothing h k rest s = rw (h rest s) (k rest s)
 
 -- ---- the forms in which languages are joined where a test on the next byte tells how to go on
 
-pub then_stops : {A B : Type 0} {l : Language A} {m : Language B} {r : Reader A} {s : Reader B} {some test : ℕ → Bool}
+pub then_stops : {A B : Type 0} {l : Language A} {m : Language B} {r : TextReader A} {s : TextReader B} {some test : ℕ → Bool}
     → Exact l r (Stops some) → Exact m s (Stops test) → ((c : ℕ) → test c ≡ false → some c ≡ false) → NoHead m some → Exact (l ▷ m) (then_at r s) (Stops test)
 then_stops {A} {B} {l} {m} {r} {s} {some} {test} p q less h =
     then_exact p q (λ text rest v said after. stops_both some text rest (h text v said) (stops_less test some less rest after))
 
-pub after_any : {A B : Type 0} {l : Language A} {m : Language B} {r : Reader A} {s : Reader B} {G : Text → Type 0}
+pub after_any : {A B : Type 0} {l : Language A} {m : Language B} {r : TextReader A} {s : TextReader B} {G : Text → Type 0}
     → Exact l r Any → Exact m s G → Exact (l ▷ m) (then_at r s) G
 after_any p q = then_exact p q (λ text rest v said after. tt)
 
-pub maybe_stops : {A : Type 0} {l : Language A} {r : Reader A} {test : ℕ → Bool} → Exact l r (Stops test) → Nothing r test → Exact (Maybe l) (maybe_at r) (Stops test)
+pub maybe_stops : {A : Type 0} {l : Language A} {r : TextReader A} {test : ℕ → Bool} → Exact l r (Stops test) → Nothing r test → Exact (Maybe l) (maybe_at r) (Stops test)
 maybe_stops {A} {l} {r} {test} p h = exact_less (maybe_exact {G = Stops test} p h) (λ rest after. (after, after))
 
 -- the first does not read what the second's texts begin with
-pub or_stops : {A : Type 0} {l m : Language A} {r s : Reader A} {some test : ℕ → Bool}
+pub or_stops : {A : Type 0} {l m : Language A} {r s : TextReader A} {some test : ℕ → Bool}
     → Exact l r (Stops test) → Exact m s (Stops test) → Nothing r some → NoHead m some → ((c : ℕ) → test c ≡ false → some c ≡ false) → Exact (l ∣ m) (or_at r s) (Stops test)
 or_stops {A} {l} {m} {r} {s} {some} {test} p q none h less =
     exact_less (or_exact {G = Stops test} p q (λ text rest v said after. none (text ++ rest) (stops_both some text rest (h text v said) (stops_less test some less rest after)))) (λ rest after. (after, after))
@@ -138,7 +138,7 @@ pub byte_stops : (test : ℕ → Bool) (text rest : Text) → Stops test text �
 byte_stops test [] rest a h = absurd (h refl)
 byte_stops test (c ∷ cs) rest a h = a
 
-pub then_byte_stops : {A B : Type 0} {l : Language A} {m : Language B} {r : Reader A} {s : Reader B} {some : ℕ → Bool} {G : Text → Type 0}
+pub then_byte_stops : {A B : Type 0} {l : Language A} {m : Language B} {r : TextReader A} {s : TextReader B} {some : ℕ → Bool} {G : Text → Type 0}
     → Exact l r (Stops some) → Exact m s G → NoHead m some → HasByte m → Exact (l ▷ m) (then_at r s) G
 then_byte_stops {A} {B} {l} {m} {r} {s} {some} {G} p q h k = then_exact p q (λ text rest v said after. byte_stops some text rest (h text v said) (k text v said))
 
@@ -171,7 +171,7 @@ abbrev pub IsEnd : Text → Type 0
 IsEnd rest = rest ≡ []
 
 -- a text with blanks at both ends, which itself has a byte and begins with no blank
-pub within_exact : {A : Type 0} {l : Language A} {r : Reader A} {F : Text → Type 0}
+pub within_exact : {A : Type 0} {l : Language A} {r : TextReader A} {F : Text → Type 0}
     → Exact l r F → NoHead l is_blank → HasByte l → ((bs : Text) → AreAll is_blank bs → F (bs ++ [])) → Exact (within_blanks l) (within_blanks_at r) IsEnd
 within_exact {F = F} p head byte before = means_exact in_middle (then_byte_stops (run_exact is_blank)
     (then_exact {G = IsEnd} p (exact_less (run_exact is_blank) (λ rest end. subst (Stops is_blank) (sym end) tt))

@@ -1,7 +1,7 @@
 -- Readers of lists: one text or more, with a text of another language between each two.
 use Rattle.std.proofs.Common.{◌≡◌, ℕ, zero, suc, ◌+◌, ◌-◌, ◌<◌, ◌≤◌, List, [], ◌∷◌, ◌++◌, length, Option, Some, None, refl, sym, ap, subst, ◌∙◌, append_assoc, arith, length-append}
 use Rattle.mob_language.specs.Language.{Text, Language, Separated}
-use Rattle.mob_language.specs.Readers.{Reader, ◌>>=◌, more_items, items_at, separated_at}
+use Rattle.mob_language.specs.Readers.{TextReader, ◌>>=◌, more_items, items_at, separated_at}
 use Rattle.mob_language.proofs.Exact.{Reads, Exact, bind_some, some_is}
 use Rattle.mob_language.proofs.Heads.{HasByte}
 
@@ -12,7 +12,7 @@ prepend l s v (w ∷ ws) x y z a b c = (x, y, z, refl, a, b, c)
 regroup4 : (a b c d : Text) → a ++ (b ++ (c ++ d)) ≡ (a ++ (b ++ c)) ++ d
 regroup4 a b c d = sym (append_assoc a (b ++ c) d ∙ ap (λ (x : Text). a ++ x) (append_assoc b c d))
 
-pub items_sound : {A : Type 0} {l : Language A} {s : Language Unit} {r : Reader A} {t : Reader Unit} {F G : Text → Type 0}
+pub items_sound : {A : Type 0} {l : Language A} {s : Language Unit} {r : TextReader A} {t : TextReader Unit} {F G : Text → Type 0}
     → Exact l r F → Exact s t G → (most : ℕ) (text rest : Text) (vs : List A) → items_at most r t text ≡ Some (vs, rest) → Reads (Separated l s) text rest vs
 unfolding items_at
 items_sound p q zero text rest vs e = absurd cc
@@ -37,7 +37,7 @@ items_sound {A} {l} {s} {r} {t} p q (suc most) text rest vs e =
         })
 
 -- the first item may be followed by what ends the list, and by a text between
-pub items_complete : {A : Type 0} {l : Language A} {s : Language Unit} {r : Reader A} {t : Reader Unit} {F G H : Text → Type 0}
+pub items_complete : {A : Type 0} {l : Language A} {s : Language Unit} {r : TextReader A} {t : TextReader Unit} {F G H : Text → Type 0}
     → Exact l r F → Exact s t G
     → ((rest : Text) → H rest → (t rest ≡ None) × F rest)
     → ((y rest : Text) → s y tt → F (y ++ rest))
@@ -80,7 +80,7 @@ count_le l s h text (v ∷ w ∷ vs) said =
 
 -- a list. What stands behind it (H) does not begin with a text between, and may stand behind an item; a text between may stand behind
 -- an item; and an item behind a text between
-pub separated_exact : {A : Type 0} {l : Language A} {s : Language Unit} {r : Reader A} {t : Reader Unit} {F G H : Text → Type 0}
+pub separated_exact : {A : Type 0} {l : Language A} {s : Language Unit} {r : TextReader A} {t : TextReader Unit} {F G H : Text → Type 0}
     → Exact l r F → Exact s t G → HasByte s
     → ((rest : Text) → H rest → (t rest ≡ None) × F rest)
     → ((y rest : Text) → s y tt → F (y ++ rest))
@@ -99,7 +99,7 @@ separated_exact {A} {l} {s} {r} {t} p q h ends on begins = record {
 abbrev pub with_front : {A : Type 0} → List A → Option (List A × Text) → Option (List A × Text)
 with_front front read = read >>= λ x. Some (front ++ x.0, x.1)
 
-pub loop_more : {A : Type 0} (r : Reader A) (t : Reader Unit) (front : List A) (most i : ℕ) (bytes : Text) (v : A) (after next : Text) (u : Unit) (total : Option (List A × Text)) → i < most → r bytes ≡ Some (v, after) → t after ≡ Some (u, next)
+pub loop_more : {A : Type 0} (r : TextReader A) (t : TextReader Unit) (front : List A) (most i : ℕ) (bytes : Text) (v : A) (after next : Text) (u : Unit) (total : Option (List A × Text)) → i < most → r bytes ≡ Some (v, after) → t after ≡ Some (u, next)
     → with_front front (items_at (most - i) r t bytes) ≡ total → with_front (front ++ v ∷ []) (items_at (most - (i + 1)) r t next) ≡ total
 unfolding items_at
 loop_more {A} r t front most i bytes v after next u total lt h k so_far =
@@ -111,7 +111,7 @@ loop_more {A} r t front most i bytes v after next u total lt h k so_far =
     regroup front v None = refl
     regroup front v (Some x) = ap (λ (vs : List A). Some (vs, x.1)) (sym (append_assoc front (v ∷ []) x.0))
 
-pub loop_ends : {A : Type 0} (r : Reader A) (t : Reader Unit) (front : List A) (most i : ℕ) (bytes : Text) (v : A) (after : Text) (total : Option (List A × Text)) → i < most → r bytes ≡ Some (v, after) → t after ≡ None
+pub loop_ends : {A : Type 0} (r : TextReader A) (t : TextReader Unit) (front : List A) (most i : ℕ) (bytes : Text) (v : A) (after : Text) (total : Option (List A × Text)) → i < most → r bytes ≡ Some (v, after) → t after ≡ None
     → with_front front (items_at (most - i) r t bytes) ≡ total → Some (front ++ v ∷ [], after) ≡ total
 unfolding items_at
 loop_ends r t front most i bytes v after total lt h k so_far =
@@ -119,7 +119,7 @@ loop_ends r t front most i bytes v after total lt h k so_far =
     let one : with_front front (items_at (most - i) r t bytes) ≡ Some (front ++ v ∷ [], after) = rw (n, h, k) refl in
     sym one ∙ so_far
 
-pub loop_fails : {A : Type 0} (r : Reader A) (t : Reader Unit) (front : List A) (most i : ℕ) (bytes : Text) (total : Option (List A × Text)) → i < most → r bytes ≡ None
+pub loop_fails : {A : Type 0} (r : TextReader A) (t : TextReader Unit) (front : List A) (most i : ℕ) (bytes : Text) (total : Option (List A × Text)) → i < most → r bytes ≡ None
     → with_front front (items_at (most - i) r t bytes) ≡ total → ◌≡◌ {A = Option (List A × Text)} None total
 unfolding items_at
 loop_fails r t front most i bytes total lt h so_far =
@@ -127,7 +127,7 @@ loop_fails r t front most i bytes total lt h so_far =
     let one : with_front front (items_at (most - i) r t bytes) ≡ None = rw (n, h) refl in
     sym one ∙ so_far
 
-pub loop_done : {A : Type 0} (r : Reader A) (t : Reader Unit) (front : List A) (most i : ℕ) (bytes : Text) (total : Option (List A × Text)) → most ≤ i
+pub loop_done : {A : Type 0} (r : TextReader A) (t : TextReader Unit) (front : List A) (most i : ℕ) (bytes : Text) (total : Option (List A × Text)) → most ≤ i
     → with_front front (items_at (most - i) r t bytes) ≡ total → ◌≡◌ {A = Option (List A × Text)} None total
 unfolding items_at
 loop_done r t front most i bytes total le so_far =

@@ -6,8 +6,8 @@
 use Rattle.std.specs.Prelude.{ℕ, zero, suc, List, [], ◌∷◌, length, Bool, true, false, cond, Option, Some, None, nat_eq}
 use Rattle.mob_language.specs.Language.{Text, small, is_blank, in_middle}
 
-abbrev pub Reader : Type 0 → Type 0
-Reader A = Text → Option (A × Text)
+abbrev pub TextReader : Type 0 → Type 0
+TextReader A = Text → Option (A × Text)
 
 infixl 10 ◌>>=◌
 -- go on with what was read, if there was something
@@ -16,7 +16,7 @@ None >>= f = None
 (Some a) >>= f = f a
 
 -- the one, and behind it the other
-abbrev pub then_at : {A B : Type 0} → Reader A → Reader B → Reader (A × B)
+abbrev pub then_at : {A B : Type 0} → TextReader A → TextReader B → TextReader (A × B)
 then_at r s text = r text >>= λ x. s x.1 >>= λ y. Some ((x.0, y.0), y.1)
 
 abbrev pub else_at : {A : Type 0} → Option A → Option A → Option A
@@ -24,7 +24,7 @@ else_at None o = o
 else_at (Some a) o = Some a
 
 -- the one, or where that reads nothing the other
-abbrev pub or_at : {A : Type 0} → Reader A → Reader A → Reader A
+abbrev pub or_at : {A : Type 0} → TextReader A → TextReader A → TextReader A
 or_at r s text = else_at (r text) (s text)
 
 abbrev pub maybe_of : {A : Type 0} → Text → Option (A × Text) → Option (Option A × Text)
@@ -32,31 +32,31 @@ maybe_of text None = Some (None, text)
 maybe_of text (Some x) = Some (Some x.0, x.1)
 
 -- a text of the language, or where there is none nothing
-abbrev pub maybe_at : {A : Type 0} → Reader A → Reader (Option A)
+abbrev pub maybe_at : {A : Type 0} → TextReader A → TextReader (Option A)
 maybe_at r text = maybe_of text (r text)
 
 -- f of what was read
-abbrev pub means_at : {A B : Type 0} → (A → B) → Reader A → Reader B
+abbrev pub means_at : {A B : Type 0} → (A → B) → TextReader A → TextReader B
 means_at f r text = r text >>= λ x. Some (f x.0, x.1)
 
 -- what was read, where it passes the test
-abbrev pub where_at : {A : Type 0} → (A → Bool) → Reader A → Reader A
+abbrev pub where_at : {A : Type 0} → (A → Bool) → TextReader A → TextReader A
 where_at test r text = r text >>= λ x. cond (test x.0) (Some x) None
 
 -- a word
-abbrev pub word_at : Text → Reader (Unit {0})
+abbrev pub word_at : Text → TextReader (Unit {0})
 word_at [] text = Some (tt, text)
 word_at (w ∷ ws) [] = None
 word_at (w ∷ ws) (c ∷ cs) = cond (nat_eq c w) (word_at ws cs) None
 
 -- a word whose letters may be small or capital
-abbrev pub any_case_at : Text → Reader (Unit {0})
+abbrev pub any_case_at : Text → TextReader (Unit {0})
 any_case_at [] text = Some (tt, text)
 any_case_at (w ∷ ws) [] = None
 any_case_at (w ∷ ws) (c ∷ cs) = cond (nat_eq (small c) w) (any_case_at ws cs) None
 
 -- one byte that passes the test
-abbrev pub one_at : (ℕ → Bool) → Reader ℕ
+abbrev pub one_at : (ℕ → Bool) → TextReader ℕ
 one_at test [] = None
 one_at test (c ∷ cs) = cond (test c) (Some (c, cs)) None
 
@@ -69,7 +69,7 @@ abbrev pub run_of : (ℕ → Bool) → Text → Text × Text
 run_of test [] = ([], [])
 run_of test (c ∷ cs) = grown (test c) c cs (run_of test cs)
 
-abbrev pub run_at : (ℕ → Bool) → Reader Text
+abbrev pub run_at : (ℕ → Bool) → TextReader Text
 run_at test text = Some (run_of test text)
 
 abbrev pub ended : {A : Type 0} → A × Text → Option A
@@ -77,7 +77,7 @@ ended (a, []) = Some a
 ended (a, c ∷ cs) = None
 
 -- all of the text
-abbrev pub all_of : {A : Type 0} → Reader A → Text → Option A
+abbrev pub all_of : {A : Type 0} → TextReader A → Text → Option A
 all_of r text = r text >>= ended
 
 -- what stands behind an item: nothing more, or a text between and further items
@@ -86,25 +86,25 @@ more_items v rest None read = Some (v ∷ [], rest)
 more_items v rest (Some y) read = read y.1 >>= λ z. Some (v ∷ z.0, z.1)
 
 -- a list with another language's texts between, of at most `most` items
-unfoldable pub items_at : {A : Type 0} → ℕ → Reader A → Reader (Unit {0}) → Reader (List A)
+unfoldable pub items_at : {A : Type 0} → ℕ → TextReader A → TextReader (Unit {0}) → TextReader (List A)
 items_at zero r s text = None
 items_at (suc most) r s text = r text >>= λ x. more_items x.0 x.1 (s x.1) (items_at most r s)
 
 -- a list with another language's texts between; no list has more items than the text has bytes, and one
-unfoldable pub separated_at : {A : Type 0} → Reader A → Reader (Unit {0}) → Reader (List A)
+unfoldable pub separated_at : {A : Type 0} → TextReader A → TextReader (Unit {0}) → TextReader (List A)
 separated_at r s text = items_at (suc (length text)) r s text
 
 -- a text behind a word
-abbrev pub behind_at : {A : Type 0} → Text → Reader A → Reader A
+abbrev pub behind_at : {A : Type 0} → Text → TextReader A → TextReader A
 behind_at word r = means_at (λ (v : Unit {0} × _). v.1) (then_at (word_at word) r)
 
-abbrev pub blanks_at : Reader Text
+abbrev pub blanks_at : TextReader Text
 blanks_at = run_at is_blank
 
 -- a sign with blanks beside it
-abbrev pub spaced_at : Text → Reader (Unit {0})
+abbrev pub spaced_at : Text → TextReader (Unit {0})
 spaced_at sign = means_at (λ (v : Text × (Unit {0} × Text)). tt) (then_at blanks_at (then_at (word_at sign) blanks_at))
 
 -- a text with blanks before and behind it
-abbrev pub within_blanks_at : {A : Type 0} → Reader A → Reader A
+abbrev pub within_blanks_at : {A : Type 0} → TextReader A → TextReader A
 within_blanks_at r = means_at in_middle (then_at blanks_at (then_at r blanks_at))

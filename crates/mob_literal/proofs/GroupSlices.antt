@@ -16,7 +16,7 @@ use Rattle.mob_literal.specs.declared.written.Sequence.{Sequence}
 use Rattle.mob_literal.specs.Steps.{rises, step_value}
 use Rattle.mob_literal.specs.Slices.{slices_of, stretch}
 use Rattle.mob_literal.specs.Sound.{ends_level, is_closed_alone, is_sound_sequence, clear_ends, is_before, are_in_order, is_sound}
-use Rattle.mob_literal.specs.Printed.{is_long, goes_on, groups_of, put_first}
+use Rattle.mob_literal.specs.Printed.{is_long, shares_group, groups_of, put_in_group}
 use Rattle.mob_literal.proofs.FlatLemmas.{flat, Ordered, ordered_rest}
 use Rattle.mob_literal.proofs.Small.{false_true}
 
@@ -53,7 +53,7 @@ module _ {B : Type 0} where
   -- each slice goes on with the next
   abbrev pub IsRun : Slice (Steady B) → List (Slice (Steady B)) → Type 0
   IsRun s [] = Unit {0}
-  IsRun s (r ∷ group) = (goes_on s r ≡ true) × IsRun r group
+  IsRun s (r ∷ group) = (shares_group s r ≡ true) × IsRun r group
 
   abbrev pub AreRuns : List (List (Slice (Steady B))) → Type 0
   AreRuns [] = Unit {0}
@@ -70,12 +70,12 @@ module _ {B : Type 0} where
     pub runs : AreRuns groups
     pub whole : joined groups ≡ slices
 
-  put_groups : (s : Slice (Steady B)) (rest : List (Slice (Steady B))) (groups : List (List (Slice (Steady B)))) → AreGroups rest groups → AreGroups (s ∷ rest) (put_first s groups)
+  put_groups : (s : Slice (Steady B)) (rest : List (Slice (Steady B))) (groups : List (List (Slice (Steady B)))) → AreGroups rest groups → AreGroups (s ∷ rest) (put_in_group s groups)
   put_groups s rest [] g = record { runs = (tt, tt); whole = ap (λ (x : List (Slice (Steady B))). s ∷ x) g.whole }
   put_groups s rest ([] ∷ groups) g = absurd g.runs
-  put_groups s rest ((r ∷ group) ∷ groups) g = by_next (goes_on s r) refl
+  put_groups s rest ((r ∷ group) ∷ groups) g = by_next (shares_group s r) refl
     where
-      by_next : (on : Bool) → goes_on s r ≡ on → AreGroups (s ∷ rest) (cond on ((s ∷ r ∷ group) ∷ groups) ((s ∷ []) ∷ (r ∷ group) ∷ groups))
+      by_next : (on : Bool) → shares_group s r ≡ on → AreGroups (s ∷ rest) (cond on ((s ∷ r ∷ group) ∷ groups) ((s ∷ []) ∷ (r ∷ group) ∷ groups))
       by_next true h = record { runs = ((h, g.runs.0), g.runs.1); whole = ap (λ (x : List (Slice (Steady B))). s ∷ x) g.whole }
       by_next false h = record { runs = (tt, g.runs); whole = ap (λ (x : List (Slice (Steady B))). s ∷ x) g.whole }
 
@@ -192,7 +192,7 @@ module _ {B : Type 0} (has_value : B → Bool) (is_same : B → B → Bool) (exa
     open_end : s.span.upper_inc ≡ false
     long : before s.span.lower s.span.upper ≡ true
 
-  going_on : (s r : Slice (Steady B)) → has_instant s.span ≡ true → goes_on s r ≡ true → GoesOn s r
+  going_on : (s r : Slice (Steady B)) → has_instant s.span ≡ true → shares_group s r ≡ true → GoesOn s r
   going_on s r some h =
       let a = both (same s.span.upper r.span.lower) (r.span.lower_inc && not s.span.upper_inc) h in
       let b = both r.span.lower_inc (not s.span.upper_inc) a.1 in

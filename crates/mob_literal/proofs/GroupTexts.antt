@@ -16,7 +16,7 @@ use Rattle.mob_literal.specs.declared.written.Noted.{Noted}
 use Rattle.mob_literal.specs.declared.written.Sequence.{Sequence}
 use Rattle.mob_literal.specs.Fitting.{fitting}
 use Rattle.mob_literal.specs.Literal.{at_sign, comma, noted, sequence, members, braced, alone, literal, temporal, opening as opening_bracket, closing as closing_bracket}
-use Rattle.mob_literal.specs.Printed.{Style, is_long, groups_of, put_first, listed, instant_text, instants_of, start_text, opening, closing, group_text, groups_text, set_text, steps_text, in_braces}
+use Rattle.mob_literal.specs.Printed.{Style, is_long, groups_of, put_in_group, with_commas, instant_text, instants_of, start_text, opening_text, closing_text, group_text, groups_text, set_text, steps_text, in_braces}
 use Rattle.mob_literal.specs.Style.{style_of}
 use Rattle.mob_literal.proofs.GroupSlices.{Alls, alls_rest, start_of, end_of, more, upper_of, sequence_of, AreRuns, are_groups, joined}
 use Rattle.mob_literal.proofs.Small.{false_true}
@@ -50,9 +50,9 @@ abbrev pub Each : {A X : Type 0} → (Text → A → Type 0) → (X → Text) �
 Each l f g [] = Unit {0}
 Each l f g (x ∷ xs) = l (f x) (g x) × Each l f g xs
 
-pub listed_said : {A X : Type 0} (l : Text → A → Type 0) (f : X → Text) (g : X → A) (x : X) (xs : List X) → Each l f g (x ∷ xs) → Separated l comma (listed (map f (x ∷ xs))) (map g (x ∷ xs))
+pub listed_said : {A X : Type 0} (l : Text → A → Type 0) (f : X → Text) (g : X → A) (x : X) (xs : List X) → Each l f g (x ∷ xs) → Separated l comma (with_commas (map f (x ∷ xs))) (map g (x ∷ xs))
 listed_said l f g x [] h = h.0
-listed_said l f g x (y ∷ ys) h = (f x, codes ", ", listed (map f (y ∷ ys)), append_assoc (f x) (codes ", ") (listed (map f (y ∷ ys))), h.0, comma_said, listed_said l f g y ys h.1)
+listed_said l f g x (y ∷ ys) h = (f x, codes ", ", with_commas (map f (y ∷ ys)), append_assoc (f x) (codes ", ") (with_commas (map f (y ∷ ys))), h.0, comma_said, listed_said l f g y ys h.1)
 
 bracketed_said : {A : Type 0} (entry : Text → A → Type 0) (lower upper : Bool) (inner : Text) (is : List A) → Separated entry comma inner is
     → sequence entry (cond lower (codes "[") (codes "(") ++ (inner ++ cond upper (codes "]") (codes ")"))) (record { lower_inc = lower; instants = is; upper_inc = upper })
@@ -167,19 +167,19 @@ module _ {B : Type 0} (day : ℤ) (value : Text → Option B → Type 0) (text :
       by_length false = refl
   instants_are s (r ∷ group) = ap (λ (x : List Text). start_text style s ∷ x) (instants_are r group)
 
-  closing_is : (s : Slice (Steady B)) (group : List (Slice (Steady B))) → closing (s ∷ group) ≡ cond (upper_of s group) (codes "]") (codes ")")
+  closing_is : (s : Slice (Steady B)) (group : List (Slice (Steady B))) → closing_text (s ∷ group) ≡ cond (upper_of s group) (codes "]") (codes ")")
   closing_is s [] = refl
   closing_is s (r ∷ group) = closing_is r group
 
   group_said : (s : Slice (Steady B)) (group tail : List (Slice (Steady B))) → AreSaid (s ∷ (group ++ tail)) → sequence entry (group_text style (s ∷ group)) (noted_of_group (s ∷ group))
   group_said s group tail h =
-      let inner : Separated entry comma (listed (map written_text (start_of s ∷ more s group))) (map note (start_of s ∷ more s group)) =
+      let inner : Separated entry comma (with_commas (map written_text (start_of s ∷ more s group))) (map note (start_of s ∷ more s group)) =
       listed_said entry written_text note (start_of s) (more s group) (start_said s h.0, more_said s group tail h) in
-      let said = bracketed_said entry s.span.lower_inc (upper_of s group) (listed (map written_text (start_of s ∷ more s group))) (map note (start_of s ∷ more s group)) inner in
-      let is : group_text style (s ∷ group) ≡ cond s.span.lower_inc (codes "[") (codes "(") ++ (listed (map written_text (start_of s ∷ more s group)) ++ cond (upper_of s group) (codes "]") (codes ")")) =
-      append_assoc (opening (s ∷ group)) (listed (instants_of style (s ∷ group))) (closing (s ∷ group))
-      ∙ ap (λ (x : List Text). opening (s ∷ group) ++ (listed x ++ closing (s ∷ group))) (instants_are s group)
-      ∙ ap (λ (x : Text). opening (s ∷ group) ++ (listed (map written_text (start_of s ∷ more s group)) ++ x)) (closing_is s group) in
+      let said = bracketed_said entry s.span.lower_inc (upper_of s group) (with_commas (map written_text (start_of s ∷ more s group))) (map note (start_of s ∷ more s group)) inner in
+      let is : group_text style (s ∷ group) ≡ cond s.span.lower_inc (codes "[") (codes "(") ++ (with_commas (map written_text (start_of s ∷ more s group)) ++ cond (upper_of s group) (codes "]") (codes ")")) =
+      append_assoc (opening_text (s ∷ group)) (with_commas (instants_of style (s ∷ group))) (closing_text (s ∷ group))
+      ∙ ap (λ (x : List Text). opening_text (s ∷ group) ++ (with_commas x ++ closing_text (s ∷ group))) (instants_are s group)
+      ∙ ap (λ (x : Text). opening_text (s ∷ group) ++ (with_commas (map written_text (start_of s ∷ more s group)) ++ x)) (closing_is s group) in
       subst (λ (x : Text). sequence entry x (noted_of_group (s ∷ group))) (sym is) said
 
   groups_said : (groups : List (List (Slice (Steady B)))) → AreRuns groups → AreSaid (joined groups) → Each (sequence entry) (group_text style) noted_of_group groups
@@ -193,7 +193,7 @@ module _ {B : Type 0} (day : ℤ) (value : Text → Option B → Type 0) (text :
   groups_literal [] some h = absurd (some refl)
   groups_literal (group ∷ []) some h = inr (inl (record { meant = noted_of_group group; said = h.0; is = refl }))
   groups_literal (group ∷ next ∷ groups) some h =
-      inl (braced_said entry (listed (map (group_text style) (group ∷ next ∷ groups))) (map noted_of_group (group ∷ next ∷ groups)) (inl (listed_said (sequence entry) (group_text style) noted_of_group group (next ∷ groups) h)))
+      inl (braced_said entry (with_commas (map (group_text style) (group ∷ next ∷ groups))) (map noted_of_group (group ∷ next ∷ groups)) (inl (listed_said (sequence entry) (group_text style) noted_of_group group (next ∷ groups) h)))
 
   -- ---- single instants
 
@@ -203,7 +203,7 @@ module _ {B : Type 0} (day : ℤ) (value : Text → Option B → Type 0) (text :
   point_groups : (slices : List (Slice (Steady B))) → ArePoints slices → groups_of slices ≡ map lone slices
   point_groups [] h = refl
   point_groups (s ∷ []) h = refl
-  point_groups (s ∷ r ∷ rest) h = ap (put_first s) (point_groups (r ∷ rest) h.1) ∙ ends (same s.span.upper r.span.lower) r.span.lower_inc s.span.upper_inc h.0.2
+  point_groups (s ∷ r ∷ rest) h = ap (put_in_group s) (point_groups (r ∷ rest) h.1) ∙ ends (same s.span.upper r.span.lower) r.span.lower_inc s.span.upper_inc h.0.2
     where
       ends : (a b c : Bool) → c ≡ true → cond (a && (b && not c)) ((s ∷ r ∷ []) ∷ map lone rest) ((s ∷ []) ∷ (r ∷ []) ∷ map lone rest) ≡ (s ∷ []) ∷ (r ∷ []) ∷ map lone rest
       ends true true true e = refl
@@ -229,7 +229,7 @@ module _ {B : Type 0} (day : ℤ) (value : Text → Option B → Type 0) (text :
   set_literal [] some h = absurd (some refl)
   set_literal (s ∷ []) some h = inr (inr (record { meant = start_note s; said = start_said s h.0; is = refl }))
   set_literal (s ∷ r ∷ rest) some h =
-      inl (braced_said entry (listed (map (start_text style) (s ∷ r ∷ rest))) (map alone (map start_note (s ∷ r ∷ rest)))
+      inl (braced_said entry (with_commas (map (start_text style) (s ∷ r ∷ rest))) (map alone (map start_note (s ∷ r ∷ rest)))
       (inr (record { meant = map start_note (s ∷ r ∷ rest); said = listed_said entry (start_text style) start_note s (r ∷ rest) (starts_said (s ∷ r ∷ rest) h); is = refl })))
 
   -- ---- all of a text

@@ -1,7 +1,7 @@
 -- A literal has one reading, and so has the text of an SQL value.
 use Rattle.std.proofs.Common.{◌≡◌, ℕ, ℤ, List, Bool, Option, Some, None, refl, sym}
 use Rattle.std.specs.Prelude.{◌↔◌, IsTrue, MatchOption}
-use Rattle.mob_language.specs.Readers.{Reader}
+use Rattle.mob_language.specs.Readers.{TextReader}
 use Rattle.mob_language.proofs.Exact.{one_value}
 use Rattle.mob_normal.proofs.Unique.{unique}
 use Rattle.mob_scalar.specs.Verdict.{HasOneReading}
@@ -34,7 +34,7 @@ one_meaning : {B : Type 0} (is_same : B → B → Bool) → ((a b : B) → IsTru
 one_meaning is_same exact None v w a b = absurd a
 one_meaning is_same exact (Some qs) v w a b = one_defined is_same exact qs v w a b
 
-pub one_reading : {B : Type 0} (day : ℤ) {value : List ℕ → Option B → Type 0} {reader : Reader (Option B)} {F : List ℕ → Type 0} → IsValueText value reader F → (has_value : B → Bool) (is_same : B → B → Bool) → ((a b : B) → IsTrue (is_same a b) ↔ (a ≡ b))
+pub one_reading : {B : Type 0} (day : ℤ) {value : List ℕ → Option B → Type 0} {reader : TextReader (Option B)} {F : List ℕ → Type 0} → IsValueText value reader F → (has_value : B → Bool) (is_same : B → B → Bool) → ((a b : B) → IsTrue (is_same a b) ↔ (a ≡ b))
     → HasOneReading (steps day value has_value is_same)
 one_reading {B} day {value} {reader} {F} law has_value is_same exact text =
     settled (steps day value has_value is_same) text (one_value (temporal_exact (noted_entry day law)) refl text) (λ s. one_meaning is_same exact (fitting_all s))

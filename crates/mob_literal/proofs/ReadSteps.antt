@@ -5,7 +5,7 @@ use Rattle.std.specs.Prelude.{◌&&◌, ◌||◌, MatchOption}
 use Rattle.std.specs.List.{list_all}
 use Rattle.mob_ratio.specs.Ratio.{Ratio}
 use Rattle.mob_language.specs.Language.{Text, Language, Separated}
-use Rattle.mob_language.specs.Readers.{Reader, ◌>>=◌, all_of}
+use Rattle.mob_language.specs.Readers.{TextReader, ◌>>=◌, all_of}
 use Rattle.mob_language.proofs.Exact.{is_said, not_said, bind_some}
 use Rattle.mob_scalar.specs.Verdict.{Lit}
 use Rattle.mob_scalar.specs.declared.fault.ReadText.{ReadText}
@@ -20,7 +20,7 @@ use Rattle.mob_literal.specs.Literal.{comma, noted, sequence, alone, members, li
 use Rattle.mob_literal.specs.ValueText.{IsValueText}
 use Rattle.mob_literal.specs.Steps.{rises, step_value}
 use Rattle.mob_literal.specs.Slices.{slices_of}
-use Rattle.mob_literal.specs.Sound.{is_long, traverse, written_of, fitting_sequence, fitting_all, is_closed_alone, is_sound_sequence, ends_level, are_in_order, is_sound, Defines, written_sequences, steps}
+use Rattle.mob_literal.specs.Sound.{is_over_limit, traverse, written_of, fitting_sequence, fitting_all, is_closed_alone, is_sound_sequence, ends_level, are_in_order, is_sound, Defines, written_sequences, steps}
 use Rattle.mob_literal.specs.Flat.{made_all}
 use Rattle.mob_literal.proofs.LiteralExact.{noted_entry, temporal_exact}
 use Rattle.mob_literal.proofs.FlatLemmas.{flat, all_is, IsFlat, is_flat}
@@ -116,20 +116,20 @@ flat_some {B} has_value is_same (q ∷ qs) full sound e =
     let f = both (is_closed_alone q.lower_inc q.upper_inc q.instants) (q.upper_inc || ends_level is_same q.instants) d.1 in
     sequence_slices q.lower_inc q.instants q.upper_inc (flat qs) full f.0 e
 
-module _ {B : Type 0} (day : ℤ) {value : List ℕ → Option B → Type 0} {reader : Reader (Option B)} {F : List ℕ → Type 0} (law : IsValueText value reader F) where
+module _ {B : Type 0} (day : ℤ) {value : List ℕ → Option B → Type 0} {reader : TextReader (Option B)} {F : List ℕ → Type 0} (law : IsValueText value reader F) where
   shape_is : (text bytes : Text) (s : List (Sequence (Noted B))) → bytes ≡ text → Some s ≡ all_of (temporal_at (noted_at day reader)) bytes → temporal (noted day value) text s
   shape_is text bytes s e h = is_said (temporal_exact (noted_entry day law)) text bytes s e h
 
   pub no_text : (text bytes : Text) → bytes ≡ text → ◌≡◌ {A = Option (List (Sequence (Noted B)))} None (all_of (temporal_at (noted_at day reader)) bytes) → Lit (written_sequences day value) text (Err NotText)
   no_text text bytes e h = λ s said. not_said (temporal_exact (noted_entry day law)) refl text bytes s e h said
 
-  pub too_long : (text bytes : Text) (s : List (Sequence (Noted B))) → bytes ≡ text → Some s ≡ all_of (temporal_at (noted_at day reader)) bytes → is_long s ≡ true → Lit (written_sequences day value) text (Err Limit)
+  pub too_long : (text bytes : Text) (s : List (Sequence (Noted B))) → bytes ≡ text → Some s ≡ all_of (temporal_at (noted_at day reader)) bytes → is_over_limit s ≡ true → Lit (written_sequences day value) text (Err Limit)
   too_long text bytes s e h long = (s, shape_is text bytes s e h, long)
 
-  pub too_large : (text bytes : Text) (s : List (Sequence (Noted B))) → bytes ≡ text → Some s ≡ all_of (temporal_at (noted_at day reader)) bytes → is_long s ≡ false → ◌≡◌ {A = Option (List (Sequence (Written B)))} None (fitting_all s) → Lit (written_sequences day value) text (Err TooLarge)
+  pub too_large : (text bytes : Text) (s : List (Sequence (Noted B))) → bytes ≡ text → Some s ≡ all_of (temporal_at (noted_at day reader)) bytes → is_over_limit s ≡ false → ◌≡◌ {A = Option (List (Sequence (Written B)))} None (fitting_all s) → Lit (written_sequences day value) text (Err TooLarge)
   too_large text bytes s e h short none = (s, shape_is text bytes s e h, (λ k. false_true (sym short ∙ k)), sym none)
 
-  pub all_fit : (text bytes : Text) (s : List (Sequence (Noted B))) (qs : List (Sequence (Written B))) → bytes ≡ text → Some s ≡ all_of (temporal_at (noted_at day reader)) bytes → is_long s ≡ false → some qs ≡ fitting_all s → Lit (written_sequences day value) text (Ok qs)
+  pub all_fit : (text bytes : Text) (s : List (Sequence (Noted B))) (qs : List (Sequence (Written B))) → bytes ≡ text → Some s ≡ all_of (temporal_at (noted_at day reader)) bytes → is_over_limit s ≡ false → some qs ≡ fitting_all s → Lit (written_sequences day value) text (Ok qs)
   all_fit text bytes s qs e h short fits = (s, shape_is text bytes s e h, (λ k. false_true (sym short ∙ k)), (λ k. some_none qs (fits ∙ k)), (λ k. k), sym fits)
 
 chosen : {A : Type 0} (b : Bool) (x y : A) → some x ≡ cond b (some y) None → (b ≡ true) × (x ≡ y)

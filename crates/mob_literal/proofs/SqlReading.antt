@@ -11,7 +11,7 @@ use Rattle.mob_value.specs.declared.value.Value.{Value}
 use Rattle.mob_value.specs.declared.value.Value.TheVariants as value
 use Rattle.mob_scalar.specs.declared.fault.ReadText.{ReadText}
 use Rattle.mob_scalar.specs.declared.fault.ReadText.TheVariants.{NoMemory}
-use Rattle.mob_scalar.specs.Verdict.{Form, HasOneReading}
+use Rattle.mob_scalar.specs.Verdict.{TextForm, HasOneReading}
 use Rattle.mob_scalar.specs.Numbers.{numbers, whole_numbers}
 use Rattle.mob_scalar.specs.Moments.{moments}
 use Rattle.mob_scalar.specs.Truth.{truths}
@@ -19,10 +19,10 @@ use Rattle.mob_scalar.proofs.OneReadings.{one_number, one_whole, one_moment, one
 use Rattle.mob_scalar.proofs.Settled.{settled}
 use Rattle.mob_literal.specs.Sound.{steps}
 use Rattle.mob_literal.specs.Values.{any_value, is_whole, truth_values, number_values, quoted_values, truth_value, number_value, quoted_value}
-use Rattle.mob_literal.specs.SqlText.{texts, no_texts, Says, SaysAs}
+use Rattle.mob_literal.specs.SqlText.{texts, no_texts, SaysInForm, SaysAs}
 use Rattle.mob_literal.proofs.OneReading.{one_reading}
 
-module _ {S V : Type 0} (f : Form S V) (made : V → Value) (one : HasOneReading f) (text : Text) where
+module _ {S V : Type 0} (f : TextForm S V) (made : V → Value) (one : HasOneReading f) (text : Text) where
   err : ReadText → Result V ReadText
   err fault = Err fault
 
@@ -44,7 +44,7 @@ module _ {S V : Type 0} (f : Form S V) (made : V → Value) (one : HasOneReading
   still : (a : ReadText) → (◌≡◌ {A = Result Value ReadText} (Err a) (Err NoMemory) → ⊥) → ◌≡◌ {A = Result V ReadText} (Err a) (Err NoMemory) → ⊥
   still a n e = n (ap (λ (x : ReadText). Err x) (fault_is a NoMemory e))
 
-  says_one : (a b : Result Value ReadText) → a ≢ Err NoMemory → b ≢ Err NoMemory → Says f made text a → Says f made text b → a ≡ b
+  says_one : (a b : Result Value ReadText) → a ≢ Err NoMemory → b ≢ Err NoMemory → SaysInForm f made text a → SaysInForm f made text b → a ≡ b
   says_one (Ok v) (Ok w) n m a b = ap (λ (x : Value). Ok x) (a.1 ∙ ap made (value_is a.0 b.0 (one text (Ok a.0) (Ok b.0) (ok_some a.0) (ok_some b.0) a.2 b.2)) ∙ sym b.1)
   says_one (Ok v) (Err e) n m a b = absurd (ok_err a.0 e (one text (Ok a.0) (Err e) (ok_some a.0) (still e m) a.2 b))
   says_one (Err e) (Ok w) n m a b = absurd (ok_err b.0 e (one text (Ok b.0) (Err e) (ok_some b.0) (still e n) b.2 a))

@@ -23,7 +23,7 @@ use Rattle.mob_literal.specs.declared.written.Written.{Written}
 use Rattle.mob_literal.specs.declared.written.Sequence.{Sequence}
 use Rattle.mob_literal.specs.Fitting.{fits, fitting}
 use Rattle.mob_literal.specs.Steps.{step_value}
-use Rattle.mob_literal.specs.Sound.{count_of, traverse, written_of, fitting_sequence, fitting_all, is_sound, Defines, steps}
+use Rattle.mob_literal.specs.Sound.{instant_count, traverse, written_of, fitting_sequence, fitting_all, is_sound, Defines, steps}
 use Rattle.mob_literal.specs.Printed.{is_long, groups_of, instants_of, steps_text}
 use Rattle.mob_literal.specs.Style.{style_of}
 use Rattle.mob_literal.specs.Values.{any_value, is_whole, truth_value, number_value, quoted_value}
@@ -86,11 +86,11 @@ by_each : {A : Type 0} (P : A → Type 0) (xs : List A) → ((x : A) → Contain
 by_each P [] h = tt
 by_each P (x ∷ xs) h = (h x (first_in x xs), by_each P xs (λ y c. h y (later_in x xs y c)))
 
-count_is : {B : Type 0} (day : ℤ) (value : Text → Option B → Type 0) (text : B → Text) (groups : List (List (Slice (Steady B)))) → count_of (map noted_of_group groups) ≡ instants_in (style_of text day) groups
+count_is : {B : Type 0} (day : ℤ) (value : Text → Option B → Type 0) (text : B → Text) (groups : List (List (Slice (Steady B)))) → instant_count (map noted_of_group groups) ≡ instants_in (style_of text day) groups
 count_is day value text [] = refl
 count_is day value text ([] ∷ groups) = ap (λ (n : ℕ). 0 + n) (count_is day value text groups)
 count_is {B} day value text ((s ∷ group) ∷ groups) =
-    ap (λ (n : ℕ). n + count_of (map noted_of_group groups)) (sym one)
+    ap (λ (n : ℕ). n + instant_count (map noted_of_group groups)) (sym one)
     ∙ ap (λ (n : ℕ). length (instants_of (style_of text day) (s ∷ group)) + n) (count_is day value text groups)
   where
     one : length (instants_of (style_of text day) (s ∷ group)) ≡ length (map note (start_of s ∷ more s group))
@@ -119,7 +119,7 @@ step_again {B} day value text IsWritten has_value is_same exact say has slices r
     let fit = groups_fit groups in (
       map noted_of_group groups,
       printed_said day value text slices r.normal.some said (all_points slices ordered),
-      (λ e. not_long (count_of (map noted_of_group groups)) (subst (λ (n : ℕ). n ≤ 100000) (sym (count_is day value text groups)) r.short) e),
+      (λ e. not_long (instant_count (map noted_of_group groups)) (subst (λ (n : ℕ). n ≤ 100000) (sym (count_is day value text groups)) r.short) e),
       (λ e. some_none (map sequence_of groups) (sym fit ∙ e)),
       (λ e. false_true (sym (subst (λ (o : Option (List (Sequence (Written B)))). MatchOption o ⊥ (λ qs. is_sound has_value is_same qs ≡ false)) fit e) ∙ sound)),
       subst (λ (o : Option (List (Sequence (Written B)))). MatchOption o ⊥ (λ qs. Defines is_same qs slices)) (sym fit) defined,

@@ -5,7 +5,7 @@
 -- set stands for the sequence of that instant alone, so each literal stands for a list of sequences.
 use Rattle.std.specs.Prelude.{ℕ, List, [], ◌∷◌, map, codes, Bool, true, ◌||◌, nat_eq, Option, ℤ}
 use Rattle.mob_language.specs.Language.{Text, Language, ◌▷◌, ◌∣◌, Means, Word, OneOf, Separated, blanks, spaced, in_middle, within_blanks}
-use Rattle.mob_language.specs.Readers.{Reader, then_at, or_at, means_at, word_at, one_at, separated_at, blanks_at, spaced_at, within_blanks_at}
+use Rattle.mob_language.specs.Readers.{TextReader, then_at, or_at, means_at, word_at, one_at, separated_at, blanks_at, spaced_at, within_blanks_at}
 use Rattle.mob_scalar.specs.declared.stamp.Stamp.{Stamp}
 use Rattle.mob_scalar.specs.Moment.{moment, instant}
 use Rattle.mob_scalar.specs.MomentReaders.{moment_at}
@@ -74,44 +74,44 @@ temporal entry = within_blanks (literal entry)
 
 -- ---- the readers of these languages
 
-unfoldable pub at_sign_at : Reader (Unit {0})
+unfoldable pub at_sign_at : TextReader (Unit {0})
 at_sign_at = spaced_at (codes "@")
 
-unfoldable pub comma_at : Reader (Unit {0})
+unfoldable pub comma_at : TextReader (Unit {0})
 comma_at = spaced_at (codes ",")
 
-unfoldable pub noted_at : {B : Type 0} → ℤ → Reader (Option B) → Reader (Noted B)
+unfoldable pub noted_at : {B : Type 0} → ℤ → TextReader (Option B) → TextReader (Noted B)
 noted_at day value = means_at (noted_of day) (then_at value (then_at at_sign_at moment_at))
 
-unfoldable pub opening_at : Reader ℕ
+unfoldable pub opening_at : TextReader ℕ
 opening_at = means_at (λ (v : ℕ × Text). v.0) (then_at (one_at is_open) blanks_at)
 
-unfoldable pub closing_at : Reader ℕ
+unfoldable pub closing_at : TextReader ℕ
 closing_at = means_at (λ (v : Text × ℕ). v.1) (then_at blanks_at (one_at is_close))
 
-unfoldable pub instants_at : {A : Type 0} → Reader A → Reader (List A)
+unfoldable pub instants_at : {A : Type 0} → TextReader A → TextReader (List A)
 instants_at entry = separated_at entry comma_at
 
-unfoldable pub sequence_at : {A : Type 0} → Reader A → Reader (Sequence A)
+unfoldable pub sequence_at : {A : Type 0} → TextReader A → TextReader (Sequence A)
 sequence_at entry = means_at sequence_of (then_at opening_at (then_at (instants_at entry) closing_at))
 
-unfoldable pub sequences_at : {A : Type 0} → Reader A → Reader (List (Sequence A))
+unfoldable pub sequences_at : {A : Type 0} → TextReader A → TextReader (List (Sequence A))
 sequences_at entry = separated_at (sequence_at entry) comma_at
 
-unfoldable pub members_at : {A : Type 0} → Reader A → Reader (List (Sequence A))
+unfoldable pub members_at : {A : Type 0} → TextReader A → TextReader (List (Sequence A))
 members_at entry = or_at (sequences_at entry) (means_at (map alone) (instants_at entry))
 
-unfoldable pub open_brace_at : Reader (Unit {0} × Text)
+unfoldable pub open_brace_at : TextReader (Unit {0} × Text)
 open_brace_at = then_at (word_at (codes "{")) blanks_at
 
-unfoldable pub close_brace_at : Reader (Text × Unit {0})
+unfoldable pub close_brace_at : TextReader (Text × Unit {0})
 close_brace_at = then_at blanks_at (word_at (codes "}"))
 
-unfoldable pub braced_at : {A : Type 0} → Reader A → Reader (List (Sequence A))
+unfoldable pub braced_at : {A : Type 0} → TextReader A → TextReader (List (Sequence A))
 braced_at entry = means_at in_middle (then_at open_brace_at (then_at (members_at entry) close_brace_at))
 
-unfoldable pub literal_at : {A : Type 0} → Reader A → Reader (List (Sequence A))
-literal_at entry = or_at (braced_at entry) (or_at (means_at one_sequence (sequence_at entry)) (means_at one_instant entry))
+unfoldable pub temporal_literal_at : {A : Type 0} → TextReader A → TextReader (List (Sequence A))
+temporal_literal_at entry = or_at (braced_at entry) (or_at (means_at one_sequence (sequence_at entry)) (means_at one_instant entry))
 
-unfoldable pub temporal_at : {A : Type 0} → Reader A → Reader (List (Sequence A))
-temporal_at entry = within_blanks_at (literal_at entry)
+unfoldable pub temporal_at : {A : Type 0} → TextReader A → TextReader (List (Sequence A))
+temporal_at entry = within_blanks_at (temporal_literal_at entry)

@@ -18,10 +18,10 @@ pub record Style (B : Type 0) : Type 0 where
   pub moment_text : Ratio → Text
 
 -- the texts with a comma and a space between each two
-abbrev pub listed : List Text → Text
-listed [] = []
-listed (x ∷ []) = x
-listed (x ∷ y ∷ ys) = x ++ codes ", " ++ listed (y ∷ ys)
+abbrev pub with_commas : List Text → Text
+with_commas [] = []
+with_commas (x ∷ []) = x
+with_commas (x ∷ y ∷ ys) = x ++ codes ", " ++ with_commas (y ∷ ys)
 
 abbrev pub instant_text : {B : Type 0} → Style B → B → Ratio → Text
 instant_text style v t = style.value_text v ++ codes "@" ++ style.moment_text t
@@ -31,19 +31,19 @@ abbrev pub is_long : {B : Type 0} → Slice (Steady B) → Bool
 is_long s = before s.span.lower s.span.upper
 
 -- s and r meet, and r holds the instant at which they do
-abbrev pub goes_on : {B : Type 0} → Slice (Steady B) → Slice (Steady B) → Bool
-goes_on s r = same s.span.upper r.span.lower && (r.span.lower_inc && not s.span.upper_inc)
+abbrev pub shares_group : {B : Type 0} → Slice (Steady B) → Slice (Steady B) → Bool
+shares_group s r = same s.span.upper r.span.lower && (r.span.lower_inc && not s.span.upper_inc)
 
 -- a slice before the first of the groups: in that group where it goes on, else a group of its own
-abbrev pub put_first : {B : Type 0} → Slice (Steady B) → List (List (Slice (Steady B))) → List (List (Slice (Steady B)))
-put_first s [] = (s ∷ []) ∷ []
-put_first s ([] ∷ groups) = (s ∷ []) ∷ groups
-put_first s ((r ∷ rest) ∷ groups) = cond (goes_on s r) ((s ∷ r ∷ rest) ∷ groups) ((s ∷ []) ∷ (r ∷ rest) ∷ groups)
+abbrev pub put_in_group : {B : Type 0} → Slice (Steady B) → List (List (Slice (Steady B))) → List (List (Slice (Steady B)))
+put_in_group s [] = (s ∷ []) ∷ []
+put_in_group s ([] ∷ groups) = (s ∷ []) ∷ groups
+put_in_group s ((r ∷ rest) ∷ groups) = cond (shares_group s r) ((s ∷ r ∷ rest) ∷ groups) ((s ∷ []) ∷ (r ∷ rest) ∷ groups)
 
 -- the groups of neighbouring slices
 abbrev pub groups_of : {B : Type 0} → List (Slice (Steady B)) → List (List (Slice (Steady B)))
 groups_of [] = []
-groups_of (s ∷ rest) = put_first s (groups_of rest)
+groups_of (s ∷ rest) = put_in_group s (groups_of rest)
 
 abbrev pub start_text : {B : Type 0} → Style B → Slice (Steady B) → Text
 start_text style s = instant_text style s.course.value s.span.lower
@@ -57,17 +57,17 @@ instants_of style [] = []
 instants_of style (s ∷ []) = start_text style s ∷ cond (is_long s) (end_text style s ∷ []) []
 instants_of style (s ∷ r ∷ rest) = start_text style s ∷ instants_of style (r ∷ rest)
 
-abbrev pub opening : {B : Type 0} → List (Slice (Steady B)) → Text
-opening [] = []
-opening (s ∷ rest) = cond s.span.lower_inc (codes "[") (codes "(")
+abbrev pub opening_text : {B : Type 0} → List (Slice (Steady B)) → Text
+opening_text [] = []
+opening_text (s ∷ rest) = cond s.span.lower_inc (codes "[") (codes "(")
 
-abbrev pub closing : {B : Type 0} → List (Slice (Steady B)) → Text
-closing [] = []
-closing (s ∷ []) = cond s.span.upper_inc (codes "]") (codes ")")
-closing (s ∷ r ∷ rest) = closing (r ∷ rest)
+abbrev pub closing_text : {B : Type 0} → List (Slice (Steady B)) → Text
+closing_text [] = []
+closing_text (s ∷ []) = cond s.span.upper_inc (codes "]") (codes ")")
+closing_text (s ∷ r ∷ rest) = closing_text (r ∷ rest)
 
 abbrev pub group_text : {B : Type 0} → Style B → List (Slice (Steady B)) → Text
-group_text style group = opening group ++ listed (instants_of style group) ++ closing group
+group_text style group = opening_text group ++ with_commas (instants_of style group) ++ closing_text group
 
 abbrev pub in_braces : Text → Text
 in_braces text = codes "{" ++ text ++ codes "}"
@@ -76,12 +76,12 @@ in_braces text = codes "{" ++ text ++ codes "}"
 abbrev pub groups_text : {B : Type 0} → Style B → List (List (Slice (Steady B))) → Text
 groups_text style [] = in_braces []
 groups_text style (group ∷ []) = group_text style group
-groups_text style (group ∷ next ∷ groups) = in_braces (listed (map (group_text style) (group ∷ next ∷ groups)))
+groups_text style (group ∷ next ∷ groups) = in_braces (with_commas (map (group_text style) (group ∷ next ∷ groups)))
 
 -- one instant alone, or a set of instants
 abbrev pub set_text : {B : Type 0} → Style B → List (Slice (Steady B)) → Text
 set_text style (s ∷ []) = start_text style s
-set_text style slices = in_braces (listed (map (start_text style) slices))
+set_text style slices = in_braces (with_commas (map (start_text style) slices))
 
 -- the printed text of the slices
 abbrev pub steps_text : {B : Type 0} → Style B → List (Slice (Steady B)) → Text

@@ -4,15 +4,15 @@ use Rattle.mob_language.specs.Language.{Text}
 use Rattle.mob_slice.specs.declared.slice.Slice.{Slice}
 use Rattle.mob_slice.specs.declared.steady.Steady.{Steady}
 use Rattle.mob_literal.specs.Neighbours.{all_neighbours}
-use Rattle.mob_literal.specs.Printed.{Style, is_long, goes_on, start_text, end_text, opening, closing}
+use Rattle.mob_literal.specs.Printed.{Style, is_long, shares_group, start_text, end_text, opening_text, closing_text}
 
 -- the end of a group at its last slice, of which the start is written
 abbrev pub end_part : {B : Type 0} → Style B → Slice (Steady B) → Text
-end_part style s = cond (is_long s) (codes ", " ++ end_text style s) [] ++ closing (s ∷ [])
+end_part style s = cond (is_long s) (codes ", " ++ end_text style s) [] ++ closing_text (s ∷ [])
 
 -- what stands between the starts of two neighbours
 abbrev pub between : {B : Type 0} → Style B → Slice (Steady B) → Slice (Steady B) → Text
-between style s r = cond (goes_on s r) (codes ", ") (end_part style s ++ codes ", " ++ opening (r ∷ []))
+between style s r = cond (shares_group s r) (codes ", ") (end_part style s ++ codes ", " ++ opening_text (r ∷ []))
 
 -- what follows the start of s, where `rest` stands behind s
 abbrev pub run_text : {B : Type 0} → Style B → Slice (Steady B) → List (Slice (Steady B)) → Text
@@ -25,10 +25,10 @@ more_starts style [] = []
 more_starts style (r ∷ rest) = codes ", " ++ start_text style r ++ more_starts style rest
 
 -- each of the slices behind s goes on with the group
-abbrev pub all_go_on : {B : Type 0} → Slice (Steady B) → List (Slice (Steady B)) → Bool
-all_go_on s rest = all_neighbours goes_on (s ∷ rest)
+abbrev pub all_share_group : {B : Type 0} → Slice (Steady B) → List (Slice (Steady B)) → Bool
+all_share_group s rest = all_neighbours shares_group (s ∷ rest)
 
 -- the slices are one group
 abbrev pub is_one_group : {B : Type 0} → List (Slice (Steady B)) → Bool
 is_one_group [] = false
-is_one_group (s ∷ rest) = all_go_on s rest
+is_one_group (s ∷ rest) = all_share_group s rest

@@ -8,7 +8,7 @@ use Rattle.mob_language.specs.Readers.{◌>>=◌}
 use Rattle.mob_slice.specs.declared.slice.Slice.{Slice}
 use Rattle.mob_slice.specs.declared.steady.Steady.{Steady}
 use Rattle.mob_slice.specs.Slices.{value_at, IsNormal}
-use Rattle.mob_scalar.specs.Verdict.{Form}
+use Rattle.mob_scalar.specs.Verdict.{TextForm}
 use Rattle.mob_literal.specs.declared.written.Written.{Written}
 use Rattle.mob_literal.specs.declared.written.Noted.{Noted}
 use Rattle.mob_literal.specs.declared.written.Sequence.{Sequence}
@@ -17,13 +17,13 @@ use Rattle.mob_literal.specs.Steps.{StepAt, rises, step_value}
 use Rattle.mob_literal.specs.Literal.{noted, temporal}
 
 -- how many instants the sequences have
-abbrev pub count_of : {A : Type 0} → List (Sequence A) → ℕ
-count_of [] = 0
-count_of (q ∷ qs) = length q.instants + count_of qs
+abbrev pub instant_count : {A : Type 0} → List (Sequence A) → ℕ
+instant_count [] = 0
+instant_count (q ∷ qs) = length q.instants + instant_count qs
 
 -- more than 100,000 instants
-abbrev pub is_long : {A : Type 0} → List (Sequence A) → Bool
-is_long qs = nat_lt 100000 (count_of qs)
+abbrev pub is_over_limit : {A : Type 0} → List (Sequence A) → Bool
+is_over_limit qs = nat_lt 100000 (instant_count qs)
 
 -- the values of f on a list, where it has one on each entry
 abbrev pub traverse : {A C : Type 0} → (A → Option C) → List A → Option (List C)
@@ -87,20 +87,20 @@ pub record Defines {B : Type 0} (is_same : B → B → Bool) (qs : List (Sequenc
   pub same : (t : Ratio) (v : B) → (value_at step_value slices t ≡ Some v) ↔ LitAt qs t v
 
 -- The sequences of the literals of a type of step values, with instants counted from a day, where each of their numbers fits.
-abbrev pub written_sequences : {B : Type 0} → ℤ → (Text → Option B → Type 0) → Form (List (Sequence (Noted B))) (List (Sequence (Written B)))
+abbrev pub written_sequences : {B : Type 0} → ℤ → (Text → Option B → Type 0) → TextForm (List (Sequence (Noted B))) (List (Sequence (Written B)))
 written_sequences day value = record {
   shape = temporal (noted day value);
-  long = λ s. is_long s ≡ true;
+  long = λ s. is_over_limit s ≡ true;
   large = λ s. fitting_all s ≡ None;
   unsound = λ s. ⊥;
   means = λ s qs. fitting_all s ≡ Some qs;
 }
 
 -- The literals of a type of step values, with instants counted from a day.
-abbrev pub steps : {B : Type 0} → ℤ → (Text → Option B → Type 0) → (B → Bool) → (B → B → Bool) → Form (List (Sequence (Noted B))) (List (Slice (Steady B)))
+abbrev pub steps : {B : Type 0} → ℤ → (Text → Option B → Type 0) → (B → Bool) → (B → B → Bool) → TextForm (List (Sequence (Noted B))) (List (Slice (Steady B)))
 steps day value has_value is_same = record {
   shape = temporal (noted day value);
-  long = λ s. is_long s ≡ true;
+  long = λ s. is_over_limit s ≡ true;
   large = λ s. fitting_all s ≡ None;
   unsound = λ s. MatchOption (fitting_all s) ⊥ (λ qs. is_sound has_value is_same qs ≡ false);
   means = λ s v. MatchOption (fitting_all s) ⊥ (λ qs. Defines is_same qs v);

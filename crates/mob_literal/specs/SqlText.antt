@@ -8,7 +8,7 @@ use Rattle.mob_ast.specs.declared.types.SqlType.TheVariants as sql
 use Rattle.mob_value.specs.declared.value.Value.{Value}
 use Rattle.mob_value.specs.declared.value.Value.TheVariants as value
 use Rattle.mob_scalar.specs.declared.fault.ReadText.{ReadText}
-use Rattle.mob_scalar.specs.Verdict.{Form, Lit}
+use Rattle.mob_scalar.specs.Verdict.{TextForm, Lit}
 use Rattle.mob_scalar.specs.Numbers.{numbers, whole_numbers}
 use Rattle.mob_scalar.specs.NumberText.{number_text}
 use Rattle.mob_scalar.specs.Moments.{moments}
@@ -21,7 +21,7 @@ use Rattle.mob_literal.specs.Printed.{steps_text}
 use Rattle.mob_literal.specs.Style.{style_of}
 
 -- every text stands for itself
-abbrev pub texts : Form Text Text
+abbrev pub texts : TextForm Text Text
 texts = record {
   shape = λ text v. text ≡ v;
   long = λ v. ⊥;
@@ -31,7 +31,7 @@ texts = record {
 }
 
 -- no text stands for anything
-abbrev pub no_texts : Form Text Text
+abbrev pub no_texts : TextForm Text Text
 no_texts = record {
   shape = λ text v. ⊥;
   long = λ v. ⊥;
@@ -41,21 +41,21 @@ no_texts = record {
 }
 
 -- the value that is made of what the text says, or the fault of the text
-abbrev pub Says : {S V : Type 0} → Form S V → (V → Value) → Text → Result Value ReadText → Type 0
-Says {S} {V} f made text (Ok v) = (w : V) × (v ≡ made w) × Lit f text (Ok w)
-Says f made text (Err fault) = Lit f text (Err fault)
+abbrev pub SaysInForm : {S V : Type 0} → TextForm S V → (V → Value) → Text → Result Value ReadText → Type 0
+SaysInForm {S} {V} f made text (Ok v) = (w : V) × (v ≡ made w) × Lit f text (Ok w)
+SaysInForm f made text (Err fault) = Lit f text (Err fault)
 
 -- What a text says as a value of a type, with instants counted from a day. A type that is not named here has no texts.
 abbrev pub SaysAs : SqlType → ℤ → Text → Result Value ReadText → Type 0
-SaysAs sql.Bool day text r = Says truths value.Bool text r
-SaysAs sql.Int day text r = Says whole_numbers value.Number text r
-SaysAs sql.Numeric day text r = Says numbers value.Number text r
-SaysAs sql.Text day text r = Says texts value.Text text r
-SaysAs sql.Moment day text r = Says (moments day) value.Moment text r
-SaysAs sql.TBool day text r = Says (steps day truth_value any_value same_bool) value.MovingBool text r
-SaysAs sql.TInt day text r = Says (steps day number_value is_whole same) value.MovingInt text r
-SaysAs sql.TText day text r = Says (steps day quoted_value any_value same_bytes) value.MovingText text r
-SaysAs type day text r = Says no_texts value.Text text r
+SaysAs sql.Bool day text r = SaysInForm truths value.Bool text r
+SaysAs sql.Int day text r = SaysInForm whole_numbers value.Number text r
+SaysAs sql.Numeric day text r = SaysInForm numbers value.Number text r
+SaysAs sql.Text day text r = SaysInForm texts value.Text text r
+SaysAs sql.Moment day text r = SaysInForm (moments day) value.Moment text r
+SaysAs sql.TBool day text r = SaysInForm (steps day truth_value any_value same_bool) value.MovingBool text r
+SaysAs sql.TInt day text r = SaysInForm (steps day number_value is_whole same) value.MovingInt text r
+SaysAs sql.TText day text r = SaysInForm (steps day quoted_value any_value same_bytes) value.MovingText text r
+SaysAs type day text r = SaysInForm no_texts value.Text text r
 
 -- The printed text of a value, with instants counted from a day. NULL has none.
 abbrev pub value_text : ℤ → Value → Text

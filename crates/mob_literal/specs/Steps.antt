@@ -23,13 +23,13 @@ abbrev pub reaches : Bool → Ratio → Ratio → Bool
 reaches included a b = before a b || (included && upto a b)
 
 -- t lies in the span of the sequence: behind one of its instants and before one of them, or is one that a bracket includes
-pub record IsWithin {B : Type 0} (lower_inc : Bool) (instants : List (Written B)) (upper_inc : Bool) (t : Ratio) : Type 0 where
+pub record IsInSequence {B : Type 0} (lower_inc : Bool) (instants : List (Written B)) (upper_inc : Bool) (t : Ratio) : Type 0 where
   pub begun : (i : Written B) × Contains instants i × (reaches lower_inc i.instant t ≡ true)
   pub not_ended : (j : Written B) × Contains instants j × (reaches upper_inc t j.instant ≡ true)
 
 -- the step sequence has the value v at t
 pub record StepAt {B : Type 0} (lower_inc : Bool) (instants : List (Written B)) (upper_inc : Bool) (t : Ratio) (v : B) : Type 0 where
-  pub within : IsWithin lower_inc instants upper_inc t
+  pub within : IsInSequence lower_inc instants upper_inc t
   pub by : Written B
   pub last : IsLastBy instants t by
   pub value : by.value ≡ v

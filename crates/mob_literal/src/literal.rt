@@ -1,10 +1,10 @@
 //! Temporal literals, as they are written.
 ghost use Rattle.std.specs.Prelude.{◌≡◌, ℕ, map, option_map, List, [], ◌∷◌, Option, Some, None, IfOk, Bool, true};
-ghost use Rattle.mob_language.specs.Readers.{Reader, all_of, means_at, separated_at as separated_in, spaced_at as spaced_in};
+ghost use Rattle.mob_language.specs.Readers.{TextReader, all_of, means_at, separated_at as separated_in, spaced_at as spaced_in};
 ghost use Rattle.mob_scalar.specs.Calendar.{is_civil};
 ghost use Rattle.mob_scalar.specs.Moment.{instant, IsPartSmall};
 ghost use Rattle.mob_literal.specs.Fitting.{fitting};
-ghost use Rattle.mob_literal.specs.Literal.{alone as alone_of, one_sequence, one_instant, comma_at as comma_in, noted_at as noted_in, opening_at as opening_in, closing_at as closing_in, instants_at as instants_in, sequence_at as sequence_in, sequences_at as sequences_in, members_at as members_in, braced_at as braced_in, literal_at as literal_in, temporal_at as temporal_in};
+ghost use Rattle.mob_literal.specs.Literal.{alone as alone_of, one_sequence, one_instant, comma_at as comma_in, noted_at as noted_in, opening_at as opening_in, closing_at as closing_in, instants_at as instants_in, sequence_at as sequence_in, sequences_at as sequences_in, members_at as members_in, braced_at as braced_in, temporal_literal_at, temporal_at as temporal_in};
 ghost use Rattle.mob_literal.specs.ValueText.{IsValueText};
 
 use crate::written::{Noted, Sequence};
@@ -123,7 +123,7 @@ fn separated_at<'a, A: Drop, F: Fn(&'a [u8]) -> Result<Option<(A, &'a [u8])>, Al
     bytes: &'a [u8],
 ) -> Result<Option<(Vec<A>, &'a [u8])>, AllocError>
     requires callable { F.IsAlwaysCallable member_at }
-    ensures read { (reader : Reader A) → ((text : _) (found : _) → F.post member_at text found → IfOk found (λ o. option_map (λ x. (x.0, x.1.now)) o ≡ reader text.now)) → IfOk result (λ o. option_map (λ x. (x.0.items, x.1.now)) o ≡ separated_in reader comma_in bytes.now) }
+    ensures read { (reader : TextReader A) → ((text : _) (found : _) → F.post member_at text found → IfOk found (λ o. option_map (λ x. (x.0, x.1.now)) o ≡ reader text.now)) → IfOk result (λ o. option_map (λ x. (x.0.items, x.1.now)) o ≡ separated_in reader comma_in bytes.now) }
 {
     let mut members = Vec::new(alloc);
     let mut rest = bytes;
@@ -288,13 +288,13 @@ fn one_instant_at<'a, T: WrittenValue>(
     Ok(Some((sequences, rest)))
 }
 
-#[tactic(auto, unfolding(crate::specs::Literal::literal_at))]
+#[tactic(auto, unfolding(crate::specs::Literal::temporal_literal_at))]
 fn literal_at<'a, T: WrittenValue>(
     alloc: Global,
     epoch: &Epoch,
     bytes: &'a [u8],
 ) -> Result<Option<(Sequences<T::Base>, &'a [u8])>, AllocError>
-    ensures read { IfOk result (λ o. option_map (λ x. (x.0.items, x.1.now)) o ≡ literal_in (noted_in epoch.now T.reader) bytes.now) }
+    ensures read { IfOk result (λ o. option_map (λ x. (x.0.items, x.1.now)) o ≡ temporal_literal_at (noted_in epoch.now T.reader) bytes.now) }
 {
     if let Some(found) = braced_at::<T>(alloc, epoch, bytes)? {
         return Ok(Some(found));

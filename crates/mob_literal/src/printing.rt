@@ -1,7 +1,7 @@
 //! Step values, printed.
 ghost use Rattle.std.specs.Prelude.{◌≡◌, ◌++◌, ◌&&◌, List, ℕ, [], ◌∷◌, map, not, OnOk, OnErr, string_bytes};
 ghost use Rattle.std.specs.List.{list_all};
-ghost use Rattle.mob_literal.specs.Printed.{instant_text, is_long as long, goes_on as continued, start_text, opening, closing, group_text, groups_of, groups_text, set_text, steps_text, listed};
+ghost use Rattle.mob_literal.specs.Printed.{instant_text, is_long as long, shares_group, start_text, opening_text, closing_text, group_text, groups_of, groups_text, set_text, steps_text, with_commas};
 ghost use Rattle.mob_literal.specs.Runs.{end_part, between as gap, is_one_group};
 ghost use Rattle.mob_literal.specs.Style.{style_of};
 
@@ -45,7 +45,7 @@ fn is_long<B: BaseValue + Drop>(slice: &Slice<Steady<B>>) -> bool
 /// Whether two neighbours stand in one group.
 #[tactic(auto, unfolding(mob_ratio::specs::Order::same))]
 fn goes_on<B: BaseValue + Drop>(slice: &Slice<Steady<B>>, next: &Slice<Steady<B>>) -> bool
-    ensures value { result ≡ continued slice.now next.now }
+    ensures value { result ≡ shares_group slice.now next.now }
 {
     slice.span.upper().is_same(next.span.lower())
         && next.span.lower_inc()
@@ -66,7 +66,7 @@ fn write_opening<B: BaseValue + Drop>(
     slice: &Slice<Steady<B>>,
     into: &mut String,
 ) -> Result<(), AllocError>
-    ensures written { OnOk result (string_bytes into.new ≡ string_bytes into.old ++ opening (slice.now ∷ [])) }
+    ensures written { OnOk result (string_bytes into.new ≡ string_bytes into.old ++ opening_text (slice.now ∷ [])) }
 {
     if slice.span.lower_inc() {
         into.push_str("[")
@@ -79,7 +79,7 @@ fn write_closing<B: BaseValue + Drop>(
     slice: &Slice<Steady<B>>,
     into: &mut String,
 ) -> Result<(), AllocError>
-    ensures written { OnOk result (string_bytes into.new ≡ string_bytes into.old ++ closing (slice.now ∷ [])) }
+    ensures written { OnOk result (string_bytes into.new ≡ string_bytes into.old ++ closing_text (slice.now ∷ [])) }
 {
     if slice.span.upper_inc() {
         into.push_str("]")
@@ -124,7 +124,7 @@ fn write_groups<B: BaseValue + Printed + Drop>(
     epoch: &Epoch,
     into: &mut String,
 ) -> Result<(), AllocError>
-    ensures written { OnOk result (string_bytes into.new ≡ string_bytes into.old ++ listed (map (group_text (style_of B.text epoch.now)) (groups_of slices.now))) }
+    ensures written { OnOk result (string_bytes into.new ≡ string_bytes into.old ++ with_commas (map (group_text (style_of B.text epoch.now)) (groups_of slices.now))) }
 {
     let [first, rest @ ..] = slices else {
         return Ok(());
@@ -146,7 +146,7 @@ fn write_starts<B: BaseValue + Printed + Drop>(
     epoch: &Epoch,
     into: &mut String,
 ) -> Result<(), AllocError>
-    ensures written { OnOk result (string_bytes into.new ≡ string_bytes into.old ++ listed (map (start_text (style_of B.text epoch.now)) slices.now)) }
+    ensures written { OnOk result (string_bytes into.new ≡ string_bytes into.old ++ with_commas (map (start_text (style_of B.text epoch.now)) slices.now)) }
 {
     let [first, rest @ ..] = slices else {
         return Ok(());

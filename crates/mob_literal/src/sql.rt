@@ -9,7 +9,7 @@ ghost use Rattle.mob_scalar.specs.declared.fault.ReadText.TheVariants.{NoMemory}
 ghost use Rattle.mob_literal.specs.Memory.{takes_memory};
 ghost use Rattle.mob_literal.specs.Sound.{steps};
 ghost use Rattle.mob_literal.specs.Values.{any_value, is_whole, truth_value, number_value, quoted_value};
-ghost use Rattle.mob_literal.specs.SqlText.{Says, SaysAs, texts, value_text};
+ghost use Rattle.mob_literal.specs.SqlText.{SaysInForm, SaysAs, texts, value_text};
 
 use crate::printing::write_steps;
 use crate::temporal::read_steps;
@@ -24,28 +24,28 @@ use mob_value::Value;
 use std::alloc::{AllocError, Global};
 
 fn read_bool(text: &str) -> Result<Value, ReadText>
-    ensures reading { Says truths Value.Bool text.now result }
+    ensures reading { SaysInForm truths Value.Bool text.now result }
     ensures memory { result ≢ Err NoMemory }
 {
     Ok(Value::Bool(read_truth(text)?))
 }
 
 fn read_int(text: &str) -> Result<Value, ReadText>
-    ensures reading { Says whole_numbers Value.Number text.now result }
+    ensures reading { SaysInForm whole_numbers Value.Number text.now result }
     ensures memory { result ≢ Err NoMemory }
 {
     Ok(Value::Number(read_whole(text)?))
 }
 
 fn read_numeric(text: &str) -> Result<Value, ReadText>
-    ensures reading { Says numbers Value.Number text.now result }
+    ensures reading { SaysInForm numbers Value.Number text.now result }
     ensures memory { result ≢ Err NoMemory }
 {
     Ok(Value::Number(read_number(text)?))
 }
 
 fn read_text(alloc: Global, text: &str) -> Result<Value, ReadText>
-    ensures reading { Says texts Value.Text text.now result }
+    ensures reading { SaysInForm texts Value.Text text.now result }
 {
     match String::from_str(alloc, text) {
         Ok(text) => Ok(Value::Text(Text::from_string(text))),
@@ -54,26 +54,26 @@ fn read_text(alloc: Global, text: &str) -> Result<Value, ReadText>
 }
 
 fn read_timestamp(text: &str, epoch: &Epoch) -> Result<Value, ReadText>
-    ensures reading { Says (moments epoch.now) Value.Moment text.now result }
+    ensures reading { SaysInForm (moments epoch.now) Value.Moment text.now result }
     ensures memory { result ≢ Err NoMemory }
 {
     Ok(Value::Moment(read_moment(text, epoch)?))
 }
 
 fn read_tbool(alloc: Global, text: &str, epoch: &Epoch) -> Result<Value, ReadText>
-    ensures reading { Says (steps epoch.now truth_value any_value same_bool) Value.MovingBool text.now result }
+    ensures reading { SaysInForm (steps epoch.now truth_value any_value same_bool) Value.MovingBool text.now result }
 {
     Ok(Value::MovingBool(read_steps::<Truths>(alloc, text, epoch)?))
 }
 
 fn read_tint(alloc: Global, text: &str, epoch: &Epoch) -> Result<Value, ReadText>
-    ensures reading { Says (steps epoch.now number_value is_whole same) Value.MovingInt text.now result }
+    ensures reading { SaysInForm (steps epoch.now number_value is_whole same) Value.MovingInt text.now result }
 {
     Ok(Value::MovingInt(read_steps::<WholeNumbers>(alloc, text, epoch)?))
 }
 
 fn read_ttext(alloc: Global, text: &str, epoch: &Epoch) -> Result<Value, ReadText>
-    ensures reading { Says (steps epoch.now quoted_value any_value same_bytes) Value.MovingText text.now result }
+    ensures reading { SaysInForm (steps epoch.now quoted_value any_value same_bytes) Value.MovingText text.now result }
 {
     Ok(Value::MovingText(read_steps::<Texts>(alloc, text, epoch)?))
 }

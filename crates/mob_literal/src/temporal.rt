@@ -2,7 +2,7 @@
 ghost use Rattle.std.specs.Prelude.{◌≡◌, option_map, Option, Some, None, Ok, Err, IfOk, MatchResult, true};
 ghost use Rattle.std.specs.List.{list_all};
 ghost use Rattle.mob_scalar.specs.Verdict.{Lit};
-ghost use Rattle.mob_literal.specs.Sound.{is_long as long, traverse, written_of as written_in, fitting_sequence as fitting_in, fitting_all as all_fitting, clear_ends as ends_clear, is_before as precedes, are_in_order as in_order, written_sequences, steps};
+ghost use Rattle.mob_literal.specs.Sound.{is_over_limit, traverse, written_of as written_in, fitting_sequence as fitting_in, fitting_all as all_fitting, clear_ends as ends_clear, is_before as precedes, are_in_order as in_order, written_sequences, steps};
 ghost use Rattle.mob_literal.specs.Flat.{made_sequence, made_all};
 
 use crate::literal::{WrittenValue, literal_of};
@@ -17,7 +17,7 @@ use std::alloc::{AllocError, Global};
 
 /// Whether there are more than 100,000 instants.
 fn is_long<A>(sequences: &[Sequence<A>]) -> bool
-    ensures value { result ≡ long sequences.now }
+    ensures value { result ≡ is_over_limit sequences.now }
 {
     let mut count = 0;
     for sequence in sequences {

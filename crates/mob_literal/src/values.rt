@@ -1,7 +1,7 @@
 //! How the values of the step types are written and printed.
 ghost use Rattle.std.specs.Prelude.{◌≡◌, Option, IfOk, option_map};
 ghost use Rattle.mob_literal.specs.Fitting.{fitting};
-ghost use Rattle.mob_scalar.specs.NumberValue.{value as value_of, IsBounded};
+ghost use Rattle.mob_scalar.specs.NumberValue.{numeral_value, IsBounded};
 ghost use Rattle.mob_scalar.specs.NumberText.{number_text};
 ghost use Rattle.mob_scalar.specs.Truth.{truth_text};
 ghost use Rattle.mob_scalar.specs.Quoted.{quoted_text};
@@ -52,7 +52,7 @@ impl WrittenValue for Truths {
 #[tactic(auto, unfolding(crate::specs::Fitting::fits))]
 fn fitting_number(numeral: Numeral) -> Option<Frac>
     requires bounded { IsBounded numeral }
-    ensures value { result ≡ fitting (value_of numeral) }
+    ensures value { result ≡ fitting (numeral_value numeral) }
 {
     match evaluate(numeral) {
         Ok(value) => Some(value),

@@ -6,31 +6,31 @@ use Rattle.std.proofs.lemmas.Grind.{flat_map-append}
 use Rattle.std.proofs.lemmas.List.{append-nil, append_assoc, take-append-le, take_all, take_more, drop_more, map-append}
 use Rattle.mob_typing.specs.declared.typed.ConstText.{ConstText}
 use Rattle.mob_typing.specs.Statements.{ScriptOut, StatementOut, nothing, new_table, new_index, new_rows, rows_from, query, plan_of}
-use Rattle.mob_load.specs.Checks.{CheckParts, check_seen, literal, table, room, file, Mark, bracket, marks_of, marks_from, stands_before, up_to, in_order, checks_of}
+use Rattle.mob_load.specs.Checks.{CheckParts, check_seen, literal, table, room, file, Checkpoint, bracket, checkpoints_of, checkpoints_from, stands_before, checks_up_to, in_order, checks_of}
 use Rattle.mob_load.specs.declared.check.Check.{Check}
 use Rattle.mob_load.specs.Fronts.{AsksForAll, AsksForSome, IsAskedLast}
 use Rattle.mob_load.specs.Loads.{names_of, names_in, copied_file, copied_files, IsFaultAt, IsFaultAtLast, IsFile}
 use Rattle.mob_load.specs.declared.program.LoadEnd.{LoadEnd}
 use Rattle.mob_load.specs.declared.program.LoadEnd.TheVariants.{Refused, TableRefused, ReadFault, NoMemory}
 
--- the names at marks
-abbrev names_at : List Mark → List (List ℕ)
+-- the names at checkpoints
+abbrev names_at : List Checkpoint → List (List ℕ)
 names_at ms = flat_map (λ m. names_of m.check) ms
 
 literals_ask : (cs : List ConstText) → names_in (map literal cs) ≡ []
 literals_ask [] = refl
 literals_ask (c ∷ cs) = literals_ask cs
 
-module _ (next : List ConstText → List CheckParts) (names : List (List ℕ)) (asks : (cs : List ConstText) → names_in (next cs) ≡ names) (m : Mark) where
-  choice : (b : Bool) (c : ConstText) (cs : List ConstText) → names_in (up_to next m cs) ≡ names_of m.check ++ names → stands_before c m.statement m.place ≡ b → names_in (up_to next m (c ∷ cs)) ≡ names_of m.check ++ names
+module _ (next : List ConstText → List CheckParts) (names : List (List ℕ)) (asks : (cs : List ConstText) → names_in (next cs) ≡ names) (m : Checkpoint) where
+  choice : (b : Bool) (c : ConstText) (cs : List ConstText) → names_in (checks_up_to next m cs) ≡ names_of m.check ++ names → stands_before c m.statement m.place ≡ b → names_in (checks_up_to next m (c ∷ cs)) ≡ names_of m.check ++ names
   choice true c cs rest is = rw is rest
   choice false c cs rest is = rw is (ap (λ ns. names_of m.check ++ ns) (asks (c ∷ cs)))
 
-  up_to_asks : (cs : List ConstText) → names_in (up_to next m cs) ≡ names_of m.check ++ names
+  up_to_asks : (cs : List ConstText) → names_in (checks_up_to next m cs) ≡ names_of m.check ++ names
   up_to_asks [] = ap (λ ns. names_of m.check ++ ns) (asks [])
   up_to_asks (c ∷ cs) = choice (stands_before c m.statement m.place) c cs (up_to_asks cs) refl
 
-order_asks : (ms : List Mark) (cs : List ConstText) → names_in (in_order ms cs) ≡ names_at ms
+order_asks : (ms : List Checkpoint) (cs : List ConstText) → names_in (in_order ms cs) ≡ names_at ms
 order_asks [] cs = literals_ask cs
 order_asks (m ∷ ms) cs = up_to_asks (in_order ms) (names_at ms) (order_asks ms) m cs
 
@@ -38,7 +38,7 @@ brackets_ask : (t n : ℕ) (places : List ℕ) → names_at (map (bracket t n) p
 brackets_ask t n [] = refl
 brackets_ask t n (p ∷ ps) = brackets_ask t n ps
 
-statement_asks : (n : ℕ) (s : StatementOut) → names_at (marks_of n s) ≡ copied_file s
+statement_asks : (n : ℕ) (s : StatementOut) → names_at (checkpoints_of n s) ≡ copied_file s
 statement_asks n nothing = refl
 statement_asks n (new_table t name columns) = refl
 statement_asks n (new_index t c name) = refl
@@ -47,14 +47,14 @@ statement_asks n (rows_from t name) = refl
 statement_asks n (query s) = refl
 statement_asks n (plan_of s) = refl
 
-statements_ask : (n : ℕ) (ss : List StatementOut) → names_at (marks_from n ss) ≡ copied_files ss
+statements_ask : (n : ℕ) (ss : List StatementOut) → names_at (checkpoints_from n ss) ≡ copied_files ss
 statements_ask n [] = refl
 statements_ask n (s ∷ ss) =
-    flat_map-append (λ (m : Mark). names_of m.check) (marks_of n s) (marks_from (n + 1) ss)
-    ∙ ap (λ ns. ns ++ names_at (marks_from (n + 1) ss)) (statement_asks n s) ∙ ap (λ ns. copied_file s ++ ns) (statements_ask (n + 1) ss)
+    flat_map-append (λ (m : Checkpoint). names_of m.check) (checkpoints_of n s) (checkpoints_from (n + 1) ss)
+    ∙ ap (λ ns. ns ++ names_at (checkpoints_from (n + 1) ss)) (statement_asks n s) ∙ ap (λ ns. copied_file s ++ ns) (statements_ask (n + 1) ss)
 
 pub checks_ask : (out : ScriptOut) → names_in (checks_of out) ≡ copied_files out.statements
-checks_ask out = order_asks (marks_from 1 out.statements) out.consts ∙ statements_ask 1 out.statements
+checks_ask out = order_asks (checkpoints_from 1 out.statements) out.consts ∙ statements_ask 1 out.statements
 
 asks_both : (ns ms : List (List ℕ)) (a b c : Option (List (List ℕ))) → AsksForAll ns a b → AsksForAll ms b c → AsksForAll (ns ++ ms) a c
 asks_both ns ms None b c first next = tt

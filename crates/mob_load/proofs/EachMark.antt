@@ -1,17 +1,17 @@
--- What holds of each mark of a statement.
+-- What holds of each checkpoint of a statement.
 use Rattle.std.proofs.Common.{◌≡◌, refl, ℕ, List, [], ◌∷◌, map}
 use Rattle.std.specs.List.{AllByRecursion}
 use Rattle.mob_typing.specs.Names.{ColumnList}
 use Rattle.mob_typing.specs.Statements.{StatementOut, nothing, new_table, new_index, new_rows, rows_from, query, plan_of}
-use Rattle.mob_load.specs.Checks.{Mark, bracket, file, mark, marks_of, table}
+use Rattle.mob_load.specs.Checks.{Checkpoint, bracket, file, checkpoint, checkpoints_of, table}
 
--- the marks of a statement are brackets, a file or a new table
-module _ (P : Mark → Type 0) (n : ℕ) (row : (t p : ℕ) → P (bracket t n p)) (copied : (t : ℕ) (name : List ℕ) → P (mark n 0 (file t name))) where
+-- the checkpoints of a statement are brackets, a file or a new table
+module _ (P : Checkpoint → Type 0) (n : ℕ) (row : (t p : ℕ) → P (bracket t n p)) (copied : (t : ℕ) (name : List ℕ) → P (checkpoint n 0 (file t name))) where
   each_bracket : (t : ℕ) (places : List ℕ) → AllByRecursion P (map (bracket t n) places)
   each_bracket t [] = tt
   each_bracket t (p ∷ ps) = (row t p, each_bracket t ps)
 
-  pub each_mark : (s : StatementOut) → ((t : ℕ) (name : List ℕ) (columns : ColumnList) → s ≡ new_table t name columns → P (mark n 0 (table columns))) → AllByRecursion P (marks_of n s)
+  pub each_mark : (s : StatementOut) → ((t : ℕ) (name : List ℕ) (columns : ColumnList) → s ≡ new_table t name columns → P (checkpoint n 0 (table columns))) → AllByRecursion P (checkpoints_of n s)
   each_mark nothing made = tt
   each_mark (new_table t name columns) made = (made t name columns refl, tt)
   each_mark (new_index t c name) made = tt

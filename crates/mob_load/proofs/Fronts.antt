@@ -5,7 +5,7 @@ use Rattle.std.specs.declared.alloc.AllocError.{AllocError}
 use Rattle.std.specs.Io.KnownBytes.{Consumes, IsAtEnd}
 use Rattle.std.proofs.lemmas.Bool.{cases_lt}
 use Rattle.mob_value.specs.declared.value.Value.{Value}
-use Rattle.mob_catalog.specs.Faults.{Wrong}
+use Rattle.mob_catalog.specs.Faults.{FileFault}
 use Rattle.std.proofs.lemmas.List.{length-take, length-take-le, append-nil, take_all, take-append-le}
 use Rattle.mob_outside.specs.Told.{Contents, Opens}
 use Rattle.mob_streams.specs.Streams.{ReadsPart}
@@ -59,7 +59,7 @@ short_front n xs short = elim (cases_lt (length xs) (n + 1)) [
 pub table_front : (columns : List Column) (day : ℤ) (room : ℕ) (whole : List ℕ) (rows : List (List Value)) → IsTable columns day room (take (file_limit + 1) whole) rows → IsTable columns day room whole rows
 table_front columns day room whole rows table = subst (λ (bytes : List ℕ). IsTable columns day room bytes rows) (short_front file_limit whole table.short) table
 
-pub fails_front : (columns : List Column) (day : ℤ) (room : ℕ) (whole : List ℕ) (w : Wrong) → FileFails columns day room (take (file_limit + 1) whole) w → FileFails columns day room whole w
+pub fails_front : (columns : List Column) (day : ℤ) (room : ℕ) (whole : List ℕ) (w : FileFault) → FileFails columns day room (take (file_limit + 1) whole) w → FileFails columns day room whole w
 fails_front columns day room whole w (inl long) =
     let cut = length-take (file_limit + 1) whole in
     inl (omega (arith, long.0), long.1)

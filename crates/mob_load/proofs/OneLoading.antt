@@ -4,15 +4,15 @@ use Rattle.std.specs.Prelude.{Result}
 use Rattle.mob_literal.proofs.SqlReading.{one_sql_reading}
 use Rattle.mob_outside.specs.Told.{Contents, file_of}
 use Rattle.mob_catalog.specs.Outcomes.{HasOneFault, HasOneTable, NeverReadAndRefused}
-use Rattle.mob_catalog.specs.Faults.{Refuses, Wrong}
+use Rattle.mob_catalog.specs.Faults.{IsRefusedAs, FileFault}
 use Rattle.mob_catalog.proofs.OneTable.{fault_known, one_kind, value_known}
 use Rattle.mob_typing.specs.declared.typed.ConstText.{ConstText}
 use Rattle.mob_load.specs.Checks.{CheckParts, literal, table, room, file, checks_of}
-use Rattle.mob_load.specs.Loads.{Goes, Halt, Loaded, Loads, Passes, Pours, Reads, columns_at, greatest_rows, nothing_loaded, refused_literal, rows_at, table_refused, with_file, with_value}
-use Rattle.mob_load.specs.Outcomes.{HasOneLoading, HasOneProgram}
+use Rattle.mob_load.specs.Loads.{ContinuesBy, Halt, Loaded, Loads, LoadsCheck, LoadsFile, LoadsLiteral, loaded_columns, greatest_rows, nothing_loaded, refused_literal, loaded_row_count, table_refused, with_file, with_value}
+use Rattle.mob_load.specs.Outcomes.{HasOneLoading, LoadsOneProgram}
 use Rattle.mob_load.specs.declared.program.Program.{Program}
 
-one_read : (day : ℤ) (c : ConstText) (l : Loaded) (r q : Result Loaded Halt) → Reads day c l r → Reads day c l q → r ≡ q
+one_read : (day : ℤ) (c : ConstText) (l : Loaded) (r q : Result Loaded Halt) → LoadsLiteral day c l r → LoadsLiteral day c l q → r ≡ q
 one_read day c l (Ok m) (Ok n) h k =
     let e = one_sql_reading c.ty day c.text (Ok h.0) (Ok k.0) (value_known h.0) (value_known k.0) h.1 k.1 in
     let value : h.0 ≡ k.0 = cc e in
@@ -22,26 +22,26 @@ one_read day c l (Err g) (Ok m) h k = let e = one_sql_reading c.ty day c.text (E
 one_read day c l (Err f) (Err g) h k =
     let e = one_sql_reading c.ty day c.text (Err h.0) (Err k.0) (fault_known h.0 h.1 h.2) (fault_known k.0 k.1 k.2) h.3 k.3 in
     let fault : h.0 ≡ k.0 = cc e in
-    let kind : h.1 ≡ k.1 = one_kind k.0 h.1 k.1 (subst (λ f. Refuses f h.1) fault h.2) k.2 in
+    let kind : h.1 ≡ k.1 = one_kind k.0 h.1 k.1 (subst (λ f. IsRefusedAs f h.1) fault h.2) k.2 in
     ap Err (h.4 ∙ ap (refused_literal c) kind ∙ sym k.4)
 
-goes_one : (others : Loaded → Result Loaded Halt → Type 0) → ((m : Loaded) (r q : Result Loaded Halt) → others m r → others m q → r ≡ q) → (s r q : Result Loaded Halt) → Goes others s r → Goes others s q → r ≡ q
+goes_one : (others : Loaded → Result Loaded Halt → Type 0) → ((m : Loaded) (r q : Result Loaded Halt) → others m r → others m q → r ≡ q) → (s r q : Result Loaded Halt) → ContinuesBy others s r → ContinuesBy others s q → r ≡ q
 goes_one others one (Ok m) r q h k = one m r q h k
 goes_one others one (Err halt) r q h k = h ∙ sym k
 
 module _ (rows_one : HasOneTable) (fault_one : HasOneFault) (apart : NeverReadAndRefused) where
-  one_poured : (day : ℤ) (t : ℕ) (name : List ℕ) (l : Loaded) (bytes : Option (List ℕ)) (r q : Result Loaded Halt) → Pours day t name l bytes r → Pours day t name l bytes q → r ≡ q
+  one_poured : (day : ℤ) (t : ℕ) (name : List ℕ) (l : Loaded) (bytes : Option (List ℕ)) (r q : Result Loaded Halt) → LoadsFile day t name l bytes r → LoadsFile day t name l bytes q → r ≡ q
   one_poured day t name l None r q h k = h ∙ sym k
   one_poured day t name l (Some bytes) (Ok m) (Ok n) h k =
-      let rows : h.0 ≡ k.0 = rows_one (columns_at l t) day (greatest_rows - rows_at l t) bytes h.0 k.0 h.1 k.1 in
+      let rows : h.0 ≡ k.0 = rows_one (loaded_columns l t) day (greatest_rows - loaded_row_count l t) bytes h.0 k.0 h.1 k.1 in
       ap Ok (h.2 ∙ ap (with_file l t) rows ∙ sym k.2)
-  one_poured day t name l (Some bytes) (Ok m) (Err g) h k = absurd (apart (columns_at l t) day (greatest_rows - rows_at l t) bytes h.0 k.0 h.1 k.1)
-  one_poured day t name l (Some bytes) (Err g) (Ok m) h k = absurd (apart (columns_at l t) day (greatest_rows - rows_at l t) bytes k.0 h.0 k.1 h.1)
+  one_poured day t name l (Some bytes) (Ok m) (Err g) h k = absurd (apart (loaded_columns l t) day (greatest_rows - loaded_row_count l t) bytes h.0 k.0 h.1 k.1)
+  one_poured day t name l (Some bytes) (Err g) (Ok m) h k = absurd (apart (loaded_columns l t) day (greatest_rows - loaded_row_count l t) bytes k.0 h.0 k.1 h.1)
   one_poured day t name l (Some bytes) (Err f) (Err g) h k =
-      let wrong : h.0 ≡ k.0 = fault_one (columns_at l t) day (greatest_rows - rows_at l t) bytes h.0 k.0 h.1 k.1 in
-      ap Err (h.2 ∙ ap (λ (w : Wrong). table_refused name w.kind w.rec w.field) wrong ∙ sym k.2)
+      let wrong : h.0 ≡ k.0 = fault_one (loaded_columns l t) day (greatest_rows - loaded_row_count l t) bytes h.0 k.0 h.1 k.1 in
+      ap Err (h.2 ∙ ap (λ (w : FileFault). table_refused name w.kind w.rec w.field) wrong ∙ sym k.2)
 
-  one_passed : (day : ℤ) (files : Contents) (c : CheckParts) (l : Loaded) (r q : Result Loaded Halt) → Passes day files c l r → Passes day files c l q → r ≡ q
+  one_passed : (day : ℤ) (files : Contents) (c : CheckParts) (l : Loaded) (r q : Result Loaded Halt) → LoadsCheck day files c l r → LoadsCheck day files c l q → r ≡ q
   one_passed day files (literal c) l r q h k = one_read day c l r q h k
   one_passed day files (table columns) l r q h k = h ∙ sym k
   one_passed day files (room t n p) l r q h k = h ∙ sym k
@@ -51,9 +51,9 @@ module _ (rows_one : HasOneTable) (fault_one : HasOneFault) (apart : NeverReadAn
   one_loading day files [] l r q h k = h ∙ sym k
   one_loading day files (c ∷ cs) l r q h k =
       let first : h.0 ≡ k.0 = one_passed day files c l h.0 k.0 h.1 k.1 in
-      goes_one (Loads day files cs) (λ m a b. one_loading day files cs m a b) k.0 r q (subst (λ s. Goes (Loads day files cs) s r) first h.2) k.2
+      goes_one (Loads day files cs) (λ m a b. one_loading day files cs m a b) k.0 r q (subst (λ s. ContinuesBy (Loads day files cs) s r) first h.2) k.2
 
-  pub one_program : HasOneProgram
+  pub one_program : LoadsOneProgram
   one_program day files out (Ok p) (Ok s) h k =
       let e = one_loading day files (checks_of out) nothing_loaded (Ok h.0) (Ok k.0) h.1 k.1 in
       let loaded : h.0 ≡ k.0 = cc e in

@@ -10,25 +10,25 @@ use Rattle.mob_typing.specs.Statements.{ScriptOut}
 use Rattle.mob_load.specs.declared.program.Program.{Program}
 use Rattle.mob_load.specs.Checks.{CheckParts, checks_of}
 use Rattle.mob_load.specs.Fronts.{AsksForSome, IsFront}
-use Rattle.mob_catalog.specs.Faults.{wrong}
+use Rattle.mob_catalog.specs.Faults.{file_fault}
 use Rattle.mob_catalog.specs.TableFile.{file_limit, FileFails}
 use Rattle.mob_load.proofs.Fronts.{table_front, fails_front}
-use Rattle.mob_load.specs.Loads.{Gives, Halt, HasFaultCause, IsOutcome, refused, table_refused, IsFaultAt, Loaded, Loads, LoadsScript, Passes, Pours, Reaches, StopsAt, columns_at, greatest_rows, rows_at, nothing_loaded}
+use Rattle.mob_load.specs.Loads.{LoadsTo, Halt, HasFaultCause, IsOutcome, refused, table_refused, IsFaultAt, Loaded, Loads, LoadsScript, LoadsCheck, LoadsFile, Reaches, ChecksStopBy, loaded_columns, greatest_rows, loaded_row_count, nothing_loaded}
 use Rattle.mob_load.specs.declared.program.LoadEnd.{LoadEnd}
 use Rattle.mob_load.specs.declared.program.LoadEnd.TheVariants.{Refused, TableRefused, ReadFault, NoMemory}
 
 -- a file that is refused
 pub poured_wrong : (day : ℤ) (t : ℕ) (name copy bytes : List ℕ) (l : Loaded) (columns : ColumnList) (room rec field : ℕ) (k : Kind)
-    → FileFails columns day room bytes (wrong k rec field) → columns ≡ columns_at l t → room ≡ greatest_rows - rows_at l t → copy ≡ name
-    → Pours day t name l (Some bytes) (Err (table_refused copy k rec field))
+    → FileFails columns day room bytes (file_fault k rec field) → columns ≡ loaded_columns l t → room ≡ greatest_rows - loaded_row_count l t → copy ≡ name
+    → LoadsFile day t name l (Some bytes) (Err (table_refused copy k rec field))
 poured_wrong day t name copy bytes l columns room rec field k fails p q same = (
-  wrong k rec field,
-  subst (λ (cs : ColumnList). FileFails cs day (greatest_rows - rows_at l t) bytes (wrong k rec field)) p (subst (λ (n : ℕ). FileFails columns day n bytes (wrong k rec field)) q fails),
+  file_fault k rec field,
+  subst (λ (cs : ColumnList). FileFails cs day (greatest_rows - loaded_row_count l t) bytes (file_fault k rec field)) p (subst (λ (n : ℕ). FileFails columns day n bytes (file_fault k rec field)) q fails),
   ap (λ (n : List ℕ). table_refused n k rec field) same,
 )
 
 -- what holds of an answer, by what holds of what it says
-pub gives_on : {A : Type 0} (P Q : Result Loaded Halt → Type 0) → ((x : Result Loaded Halt) → P x → Q x) → (r : Result A LoadEnd) (after : Loaded) → Gives r after P → Gives r after Q
+pub gives_on : {A : Type 0} (P Q : Result Loaded Halt → Type 0) → ((x : Result Loaded Halt) → P x → Q x) → (r : Result A LoadEnd) (after : Loaded) → LoadsTo r after P → LoadsTo r after Q
 gives_on P Q f (Ok x) after h = f (Ok after) h
 gives_on P Q f (Err (Refused e)) after h = f (Err (refused e)) h
 gives_on P Q f (Err (TableRefused n k rec field)) after h = f (Err (table_refused n k rec field)) h
@@ -37,17 +37,17 @@ gives_on P Q f (Err NoMemory) after h = tt
 
 -- what the front of a file says, the file says
 whole_poured : (day : ℤ) (t : ℕ) (name whole : List ℕ) (l : Loaded) (x : Result Loaded Halt)
-    → Pours day t name l (Some (take (file_limit + 1) whole)) x → Pours day t name l (Some whole) x
-whole_poured day t name whole l (Ok m) h = (h.0, table_front (columns_at l t) day (greatest_rows - rows_at l t) whole h.0 h.1, h.2)
-whole_poured day t name whole l (Err e) h = (h.0, fails_front (columns_at l t) day (greatest_rows - rows_at l t) whole h.0 h.1, h.2)
+    → LoadsFile day t name l (Some (take (file_limit + 1) whole)) x → LoadsFile day t name l (Some whole) x
+whole_poured day t name whole l (Ok m) h = (h.0, table_front (loaded_columns l t) day (greatest_rows - loaded_row_count l t) whole h.0 h.1, h.2)
+whole_poured day t name whole l (Err e) h = (h.0, fails_front (loaded_columns l t) day (greatest_rows - loaded_row_count l t) whole h.0 h.1, h.2)
 
 pub file_poured : {A : Type 0} (day : ℤ) (t : ℕ) (name bytes : List ℕ) (l : Loaded) (files : Option Contents) (r : Result A LoadEnd) (after : Loaded)
-    → IfSome files (λ m. IsFront name m bytes) → Gives r after (Pours day t name l (Some bytes)) → IfSome files (λ m. Gives r after (Pours day t name l (file_of name m)))
+    → IfSome files (λ m. IsFront name m bytes) → LoadsTo r after (LoadsFile day t name l (Some bytes)) → IfSome files (λ m. LoadsTo r after (LoadsFile day t name l (file_of name m)))
 file_poured day t name bytes l None r after is gives = tt
 file_poured day t name bytes l (Some m) r after is gives =
-    gives_on (Pours day t name l (Some bytes)) (Pours day t name l (file_of name m))
-    (λ x h. subst (λ (o : Option (List ℕ)). Pours day t name l o x) (sym is.1)
-    (whole_poured day t name is.0 l x (subst (λ (b : List ℕ). Pours day t name l (Some b) x) is.2 h)))
+    gives_on (LoadsFile day t name l (Some bytes)) (LoadsFile day t name l (file_of name m))
+    (λ x h. subst (λ (o : Option (List ℕ)). LoadsFile day t name l o x) (sym is.1)
+    (whole_poured day t name is.0 l x (subst (λ (b : List ℕ). LoadsFile day t name l (Some b) x) is.2 h)))
     r after gives
 
 -- a file that may have been asked for
@@ -78,13 +78,13 @@ module _ (day : ℤ) (all : List CheckParts) where
     next : (files : Contents) → IsLeft day files all rest l → IsLeft day files all (c ∷ others) l
     next files left = subst (λ (cs : List CheckParts). IsLeft day files all cs l) is left
 
-    left_on : (files : Contents) → IsLeft day files all (c ∷ others) l → Passes day files c l (Ok m) → IsLeft day files all others m
+    left_on : (files : Contents) → IsLeft day files all (c ∷ others) l → LoadsCheck day files c l (Ok m) → IsLeft day files all others m
     left_on files left passes = record {
       loads = λ r h. left.loads r (Ok m, passes, h);
       reaches = λ name h. left.reaches name (inr (m, passes, h));
     }
 
-    stops : (files : Contents) (e : LoadEnd) → IsLeft day files all (c ∷ others) l → Gives {A = Unit {0}} (Err e) m (Passes day files c l) → IsFaultAt c e → StopsAt day files all e
+    stops : (files : Contents) (e : LoadEnd) → IsLeft day files all (c ∷ others) l → LoadsTo {A = Unit {0}} (Err e) m (LoadsCheck day files c l) → IsFaultAt c e → ChecksStopBy day files all e
     stops files (Refused e) left fails at = left.loads (Err (refused e)) (Err (refused e), fails, refl)
     stops files (TableRefused name k rec field) left fails at = left.loads (Err (table_refused name k rec field)) (Err (table_refused name k rec field), fails, refl)
     stops files (ReadFault name) left fails at = left.reaches name (inl at)
@@ -92,19 +92,19 @@ module _ (day : ℤ) (all : List CheckParts) where
 
 -- a check that passes
 pub check_passes : (day : ℤ) (all : List CheckParts) (told now : Option Contents) → KeepsFiles told now → (rest others : List CheckParts) (c : CheckParts) → rest ≡ c ∷ others → (l m : Loaded)
-    → IfSome told (λ f. IsLeft day f all rest l) → IfSome now (λ f. Passes day f c l (Ok m)) → IfSome told (λ f. IsLeft day f all others m)
+    → IfSome told (λ f. IsLeft day f all rest l) → IfSome now (λ f. LoadsCheck day f c l (Ok m)) → IfSome told (λ f. IsLeft day f all others m)
 check_passes day all None now kept rest others c is l m left passes = tt
 check_passes day all (Some f) now kept rest others c is l m left passes =
     left_on day all (Some f) now kept rest others c is l m f (next day all (Some f) now kept rest others c is l m f left)
-    (subst (λ (o : Option Contents). IfSome o (λ f. Passes day f c l (Ok m))) kept passes)
+    (subst (λ (o : Option Contents). IfSome o (λ f. LoadsCheck day f c l (Ok m))) kept passes)
 
 -- a check that fails decides
 pub check_stops : (day : ℤ) (all : List CheckParts) (told now : Option Contents) → KeepsFiles told now → (rest others : List CheckParts) (c : CheckParts) → rest ≡ c ∷ others → (l m : Loaded) (e : LoadEnd)
-    → IfSome told (λ f. IsLeft day f all rest l) → IfSome now (λ f. Gives {A = Unit {0}} (Err e) m (Passes day f c l)) → IsFaultAt c e → IfSome told (λ f. StopsAt day f all e)
+    → IfSome told (λ f. IsLeft day f all rest l) → IfSome now (λ f. LoadsTo {A = Unit {0}} (Err e) m (LoadsCheck day f c l)) → IsFaultAt c e → IfSome told (λ f. ChecksStopBy day f all e)
 check_stops day all None now kept rest others c is l m e left fails at = tt
 check_stops day all (Some f) now kept rest others c is l m e left fails at =
     stops day all (Some f) now kept rest others c is l m f e (next day all (Some f) now kept rest others c is l m f left)
-    (subst (λ (o : Option Contents). IfSome o (λ f. Gives {A = Unit {0}} (Err e) m (Passes day f c l))) kept fails) at
+    (subst (λ (o : Option Contents). IfSome o (λ f. LoadsTo {A = Unit {0}} (Err e) m (LoadsCheck day f c l))) kept fails) at
 
 pub keeps_same : (told : Option Contents) → KeepsFiles told told
 keeps_same None = tt
@@ -127,12 +127,12 @@ program_loaded day None cs out l p same is loads = tt
 program_loaded day (Some m) cs out l p same is loads = (l, subst (λ (x : List CheckParts). Loads day m x nothing_loaded (Ok l)) same loads, is)
 
 pub script_stops : (day : ℤ) (told : Option Contents) (cs : List CheckParts) (out : ScriptOut) (e : LoadEnd) → cs ≡ checks_of out
-    → IfSome told (λ m. StopsAt day m cs e) → IfSome told (λ m. StopsAt day m (checks_of out) e)
-script_stops day told cs out e same stops = subst (λ (x : List CheckParts). IfSome told (λ m. StopsAt day m x e)) same stops
+    → IfSome told (λ m. ChecksStopBy day m cs e) → IfSome told (λ m. ChecksStopBy day m (checks_of out) e)
+script_stops day told cs out e same stops = subst (λ (x : List CheckParts). IfSome told (λ m. ChecksStopBy day m x e)) same stops
 
 -- where no count rose, the answer is what loading gives
 pub stopped_outcome : (day : ℤ) (told : Option Contents) (out : ScriptOut) (e : LoadEnd) (before now : ℕ) → (Rose before now → ⊥) → HasFaultCause before now e
-    → IfSome told (λ m. StopsAt day m (checks_of out) e) → IfSome told (λ m. IsOutcome day m out (Err e))
+    → IfSome told (λ m. ChecksStopBy day m (checks_of out) e) → IfSome told (λ m. IsOutcome day m out (Err e))
 stopped_outcome day None out e before now steady cause stops = tt
 stopped_outcome day (Some m) out (Refused e) before now steady cause stops = stops
 stopped_outcome day (Some m) out (TableRefused name k rec field) before now steady cause stops = stops

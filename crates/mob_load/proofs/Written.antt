@@ -5,7 +5,7 @@ use Rattle.std.specs.List.{AllByRecursion}
 use Rattle.std.proofs.lemmas.Bool.{eqb-true, ltb-true, lt-ltb}
 use Rattle.mob_typing.specs.declared.typed.ConstText.{ConstText}
 use Rattle.mob_typing.specs.Statements.{StatementOut, nothing, new_table, new_index, new_rows, rows_from, query, plan_of}
-use Rattle.mob_load.specs.Checks.{CheckParts, literal, Mark, bracket, marks_of, marks_from, stands_before, up_to, in_order}
+use Rattle.mob_load.specs.Checks.{CheckParts, literal, Checkpoint, bracket, checkpoints_of, checkpoints_from, stands_before, checks_up_to, in_order}
 use Rattle.mob_load.specs.Loads.{literal_of}
 use Rattle.mob_typing.specs.Written.{HasRisingRows, IsUpTo, LiteralUpTo, Rises}
 use Rattle.mob_load.specs.Order.{IsCutAt, LooksInOrder}
@@ -14,7 +14,7 @@ use Rattle.mob_load.proofs.EachMark.{each_mark}
 use Rattle.mob_load.proofs.Marks.{own_mark}
 use Rattle.mob_load.proofs.Values.{NoLiterals, no_all}
 
-abbrev MarkUpTo : Mark → Mark → Type 0
+abbrev MarkUpTo : Checkpoint → Checkpoint → Type 0
 MarkUpTo m k = IsUpTo m.statement m.place k.statement k.place
 
 -- a place that is not behind another stands before all that the other stands before
@@ -53,8 +53,8 @@ stands_test k q n p (inr both) = test_holds (nat_lt k n) (k == n) (nat_lt q p) (
 earlier_stands : (c d : ConstText) (n p : ℕ) → LiteralUpTo c d → stands_before d n p ≡ true → stands_before c n p ≡ true
 earlier_stands c d n p h is = stands_test c.statement c.place n p (stands_too c.statement n p c.place d.statement d.place h (stands_says d.statement d.place n p is))
 
--- what stands before a mark stands before each that is not behind it
-mark_stands : (c : ConstText) (m k : Mark) → MarkUpTo m k → stands_before c m.statement m.place ≡ true → stands_before c k.statement k.place ≡ true
+-- what stands before a checkpoint stands before each that is not behind it
+mark_stands : (c : ConstText) (m k : Checkpoint) → MarkUpTo m k → stands_before c m.statement m.place ≡ true → stands_before c k.statement k.place ≡ true
 mark_stands c m k h is = stands_test c.statement c.place k.statement k.place (later c.statement c.place (stands_says c.statement c.place m.statement m.place is))
   where
     later : (a b : ℕ) → (a < m.statement) ⊎ ((a ≡ m.statement) × (b < m.place)) → (a < k.statement) ⊎ ((a ≡ k.statement) × (b < k.place))
@@ -67,39 +67,39 @@ mark_stands c m k h is = stands_test c.statement c.place k.statement k.place (la
       | inr same ↦ let to = same.1 in let below = g.1 in inr (g.0 ∙ same.0, omega arith)
     ]
 
-module _ (m : Mark) where
+module _ (m : Checkpoint) where
   choice_none : (b : Bool) (c d : ConstText) (cs : List ConstText) → LiteralUpTo c d → stands_before c m.statement m.place ≡ false → filter (λ x. stands_before x m.statement m.place) cs ≡ [] → stands_before d m.statement m.place ≡ b → filter (λ x. stands_before x m.statement m.place) (d ∷ cs) ≡ []
   choice_none true c d cs h not rest is = let there = earlier_stands c d m.statement m.place h is in absurd (cc (not, there))
   choice_none false c d cs h not rest is = rw is rest
 
-  -- where a literal does not stand before the mark, none that follows does
+  -- where a literal does not stand before the checkpoint, none that follows does
   none_stands : (c : ConstText) (cs : List ConstText) → AllByRecursion (LiteralUpTo c) cs → stands_before c m.statement m.place ≡ false → filter (λ x. stands_before x m.statement m.place) cs ≡ []
   none_stands c [] later not = refl
   none_stands c (d ∷ cs) later not = choice_none (stands_before d m.statement m.place) c d cs later.0 not (none_stands c cs later.1 not) refl
 
   module _ (next : List ConstText → List CheckParts) where
-    choice_here : (b : Bool) (c : ConstText) (cs : List ConstText) → Rises LiteralUpTo (c ∷ cs) → IsCutAt (up_to next m cs) [] m cs → stands_before c m.statement m.place ≡ b → IsCutAt (up_to next m (c ∷ cs)) [] m (c ∷ cs)
+    choice_here : (b : Bool) (c : ConstText) (cs : List ConstText) → Rises LiteralUpTo (c ∷ cs) → IsCutAt (checks_up_to next m cs) [] m cs → stands_before c m.statement m.place ≡ b → IsCutAt (checks_up_to next m (c ∷ cs)) [] m (c ∷ cs)
     choice_here true c cs rises cut is = rw is (record {
       first = literal c ∷ cut.first;
       last = cut.last;
       parts = ap (λ (l : List CheckParts). literal c ∷ l) cut.parts;
-      marks = cut.marks;
+      checkpoints = cut.checkpoints;
       read = rw is (ap (λ (l : List ConstText). c ∷ l) cut.read);
     })
     choice_here false c cs rises cut is = rw is (record {
       first = [];
       last = next (c ∷ cs);
       parts = refl;
-      marks = refl;
+      checkpoints = refl;
       read = rw is (sym (none_stands c cs rises.0 is));
     })
 
-    -- the next mark is the one
-    cut_here : (cs : List ConstText) → Rises LiteralUpTo cs → IsCutAt (up_to next m cs) [] m cs
-    cut_here [] rises = record { first = []; last = next []; parts = refl; marks = refl; read = refl }
+    -- the next checkpoint is the one
+    cut_here : (cs : List ConstText) → Rises LiteralUpTo cs → IsCutAt (checks_up_to next m cs) [] m cs
+    cut_here [] rises = record { first = []; last = next []; parts = refl; checkpoints = refl; read = refl }
     cut_here (c ∷ cs) rises = choice_here (stands_before c m.statement m.place) c cs rises (cut_here cs rises.1) refl
 
-    module _ (k : Mark) (none : literal_of k.check ≡ []) (to : MarkUpTo k m) (before : List Mark) (cut_next : (cs : List ConstText) → Rises LiteralUpTo cs → IsCutAt (next cs) before m cs) where
+    module _ (k : Checkpoint) (none : literal_of k.check ≡ []) (to : MarkUpTo k m) (before : List Checkpoint) (cut_next : (cs : List ConstText) → Rises LiteralUpTo cs → IsCutAt (next cs) before m cs) where
       behind : (cs : List ConstText) → Rises LiteralUpTo cs → IsCutAt (k.check ∷ next cs) (k ∷ before) m cs
       behind cs rises =
           let cut = cut_next cs rises in
@@ -107,37 +107,37 @@ module _ (m : Mark) where
             first = k.check ∷ cut.first;
             last = cut.last;
             parts = ap (λ (l : List CheckParts). k.check ∷ l) cut.parts;
-            marks = rw (own_mark k.check none) (ap (λ (l : List CheckParts). k.check ∷ l) cut.marks);
+            checkpoints = rw (own_mark k.check none) (ap (λ (l : List CheckParts). k.check ∷ l) cut.checkpoints);
             read = rw none cut.read;
           }
 
-      choice_later : (b : Bool) (c : ConstText) (cs : List ConstText) → Rises LiteralUpTo (c ∷ cs) → IsCutAt (up_to next k cs) (k ∷ before) m cs → stands_before c k.statement k.place ≡ b
-          → IsCutAt (up_to next k (c ∷ cs)) (k ∷ before) m (c ∷ cs)
+      choice_later : (b : Bool) (c : ConstText) (cs : List ConstText) → Rises LiteralUpTo (c ∷ cs) → IsCutAt (checks_up_to next k cs) (k ∷ before) m cs → stands_before c k.statement k.place ≡ b
+          → IsCutAt (checks_up_to next k (c ∷ cs)) (k ∷ before) m (c ∷ cs)
       choice_later true c cs rises cut is = rw is (record {
         first = literal c ∷ cut.first;
         last = cut.last;
         parts = ap (λ (l : List CheckParts). literal c ∷ l) cut.parts;
-        marks = cut.marks;
+        checkpoints = cut.checkpoints;
         read = rw (mark_stands c k m to is) (ap (λ (l : List ConstText). c ∷ l) cut.read);
       })
       choice_later false c cs rises cut is = rw is (behind (c ∷ cs) rises)
 
-      -- another mark comes first
-      cut_later : (cs : List ConstText) → Rises LiteralUpTo cs → IsCutAt (up_to next k cs) (k ∷ before) m cs
+      -- another checkpoint comes first
+      cut_later : (cs : List ConstText) → Rises LiteralUpTo cs → IsCutAt (checks_up_to next k cs) (k ∷ before) m cs
       cut_later [] rises = behind [] rises
       cut_later (c ∷ cs) rises = choice_later (stands_before c k.statement k.place) c cs rises (cut_later cs rises.1) refl
 
-cut_at : (before after : List Mark) (m : Mark) → NoLiterals (before ++ m ∷ after) → Rises MarkUpTo (before ++ m ∷ after) → (cs : List ConstText) → Rises LiteralUpTo cs → IsCutAt (in_order (before ++ m ∷ after) cs) before m cs
+cut_at : (before after : List Checkpoint) (m : Checkpoint) → NoLiterals (before ++ m ∷ after) → Rises MarkUpTo (before ++ m ∷ after) → (cs : List ConstText) → Rises LiteralUpTo cs → IsCutAt (in_order (before ++ m ∷ after) cs) before m cs
 cut_at [] after m none rises cs written = cut_here m (in_order after) cs written
 cut_at (k ∷ before) after m none rises cs written =
     cut_later m (in_order (before ++ m ∷ after)) k none.0 (one_of (MarkUpTo k) before after m rises.0) before (λ ds later. cut_at before after m none.1 rises.1 ds later) cs written
 
--- the marks of a script that is written in order rise
+-- the checkpoints of a script that is written in order rise
 brackets_rise : (t n : ℕ) (places : List ℕ) → Rises (λ p q. p ≤ q) places → Rises MarkUpTo (map (bracket t n) places)
 brackets_rise t n [] h = tt
 brackets_rise t n (p ∷ ps) h = (each_map (λ q. p ≤ q) (MarkUpTo (bracket t n p)) (bracket t n) (λ q le. inr (refl, le)) ps h.0, brackets_rise t n ps h.1)
 
-own_rise : (n : ℕ) (s : StatementOut) → HasRisingRows s → Rises MarkUpTo (marks_of n s)
+own_rise : (n : ℕ) (s : StatementOut) → HasRisingRows s → Rises MarkUpTo (checkpoints_of n s)
 own_rise n nothing h = tt
 own_rise n (new_table t name columns) h = (tt, tt)
 own_rise n (new_index t c name) h = tt
@@ -146,26 +146,26 @@ own_rise n (rows_from t name) h = (tt, tt)
 own_rise n (query s) h = tt
 own_rise n (plan_of s) h = tt
 
--- the marks of a statement stand in it
-abbrev StandsIn : ℕ → Mark → Type 0
+-- the checkpoints of a statement stand in it
+abbrev StandsIn : ℕ → Checkpoint → Type 0
 StandsIn n m = m.statement ≡ n
 
-abbrev StandsFrom : ℕ → Mark → Type 0
+abbrev StandsFrom : ℕ → Checkpoint → Type 0
 StandsFrom n m = n ≤ m.statement
 
-own_stand : (n : ℕ) (s : StatementOut) → AllByRecursion (StandsIn n) (marks_of n s)
+own_stand : (n : ℕ) (s : StatementOut) → AllByRecursion (StandsIn n) (checkpoints_of n s)
 own_stand n s = each_mark (StandsIn n) n (λ t p. refl) (λ t name. refl) s (λ t name columns is. refl)
 
-all_stand : (n : ℕ) (ss : List StatementOut) → AllByRecursion (StandsFrom n) (marks_from n ss)
+all_stand : (n : ℕ) (ss : List StatementOut) → AllByRecursion (StandsFrom n) (checkpoints_from n ss)
 all_stand n [] = tt
 all_stand n (s ∷ ss) =
-    each_both (StandsFrom n) (marks_of n s) (marks_from (n + 1) ss)
-    (each_on (StandsIn n) (StandsFrom n) (λ m is. omega arith) (marks_of n s) (own_stand n s))
-    (each_on (StandsFrom (n + 1)) (StandsFrom n) (λ m le. omega arith) (marks_from (n + 1) ss) (all_stand (n + 1) ss))
+    each_both (StandsFrom n) (checkpoints_of n s) (checkpoints_from (n + 1) ss)
+    (each_on (StandsIn n) (StandsFrom n) (λ m is. omega arith) (checkpoints_of n s) (own_stand n s))
+    (each_on (StandsFrom (n + 1)) (StandsFrom n) (λ m le. omega arith) (checkpoints_from (n + 1) ss) (all_stand (n + 1) ss))
 
-all_rise : (n : ℕ) (ss : List StatementOut) → AllByRecursion HasRisingRows ss → Rises MarkUpTo (marks_from n ss)
+all_rise : (n : ℕ) (ss : List StatementOut) → AllByRecursion HasRisingRows ss → Rises MarkUpTo (checkpoints_from n ss)
 all_rise n [] h = tt
-all_rise n (s ∷ ss) h = both_rise MarkUpTo (λ m. m.statement) (λ x y earlier. inl earlier) n (marks_of n s) (marks_from (n + 1) ss) (own_rise n s h.0) (own_stand n s) (all_rise (n + 1) ss h.1) (all_stand (n + 1) ss)
+all_rise n (s ∷ ss) h = both_rise MarkUpTo (λ m. m.statement) (λ x y earlier. inl earlier) n (checkpoints_of n s) (checkpoints_from (n + 1) ss) (own_rise n s h.0) (own_stand n s) (all_rise (n + 1) ss h.1) (all_stand (n + 1) ss)
 
 pub looks_in_order : LooksInOrder
 looks_in_order out written before after m is =

@@ -21,48 +21,48 @@ check_seen (Room t n p) = room t n p
 check_seen (File t name) = file t name.now
 
 -- what is looked at beside the literals, and where it stands: the number of its statement, and its place there
-pub record Mark : Type 0 where
+pub record Checkpoint : Type 0 where
   pub statement : ℕ
   pub place : ℕ
   pub check : CheckParts
 
-abbrev pub mark : ℕ → ℕ → CheckParts → Mark
-mark n p check = record { statement = n; place = p; check = check }
+abbrev pub checkpoint : ℕ → ℕ → CheckParts → Checkpoint
+checkpoint n p check = record { statement = n; place = p; check = check }
 
 -- the bracket of a row of an INSERT
-abbrev pub bracket : ℕ → ℕ → ℕ → Mark
-bracket t n p = mark n p (room t n p)
+abbrev pub bracket : ℕ → ℕ → ℕ → Checkpoint
+bracket t n p = checkpoint n p (room t n p)
 
--- the marks of a statement of this number: a new table, the brackets of an INSERT, the file of a COPY
-abbrev pub marks_of : ℕ → StatementOut → List Mark
-marks_of n nothing = []
-marks_of n (new_table t name columns) = mark n 0 (table columns) ∷ []
-marks_of n (new_index t c name) = []
-marks_of n (new_rows t rows places) = map (bracket t n) places
-marks_of n (rows_from t name) = mark n 0 (file t name) ∷ []
-marks_of n (query s) = []
-marks_of n (plan_of s) = []
+-- the checkpoints of a statement of this number: a new table, the brackets of an INSERT, the file of a COPY
+abbrev pub checkpoints_of : ℕ → StatementOut → List Checkpoint
+checkpoints_of n nothing = []
+checkpoints_of n (new_table t name columns) = checkpoint n 0 (table columns) ∷ []
+checkpoints_of n (new_index t c name) = []
+checkpoints_of n (new_rows t rows places) = map (bracket t n) places
+checkpoints_of n (rows_from t name) = checkpoint n 0 (file t name) ∷ []
+checkpoints_of n (query s) = []
+checkpoints_of n (plan_of s) = []
 
--- the marks of the statements from the one of number n on
-abbrev pub marks_from : ℕ → List StatementOut → List Mark
-marks_from n [] = []
-marks_from n (s ∷ ss) = marks_of n s ++ marks_from (n + 1) ss
+-- the checkpoints of the statements from the one of number n on
+abbrev pub checkpoints_from : ℕ → List StatementOut → List Checkpoint
+checkpoints_from n [] = []
+checkpoints_from n (s ∷ ss) = checkpoints_of n s ++ checkpoints_from (n + 1) ss
 
 -- whether a literal stands before this place of this statement
 abbrev pub stands_before : ConstText → ℕ → ℕ → Bool
 stands_before c n p = nat_lt c.statement n || (c.statement == n && nat_lt c.place p)
 
--- the literals that stand before a mark, the mark, and what comes next
-abbrev pub up_to : (List ConstText → List CheckParts) → Mark → List ConstText → List CheckParts
-up_to next m [] = m.check ∷ next []
-up_to next m (c ∷ cs) = if stands_before c m.statement m.place then literal c ∷ up_to next m cs else m.check ∷ next (c ∷ cs)
+-- the literals that stand before a checkpoint, the checkpoint, and what comes next
+abbrev pub checks_up_to : (List ConstText → List CheckParts) → Checkpoint → List ConstText → List CheckParts
+checks_up_to next m [] = m.check ∷ next []
+checks_up_to next m (c ∷ cs) = if stands_before c m.statement m.place then literal c ∷ checks_up_to next m cs else m.check ∷ next (c ∷ cs)
 
--- marks and literals in written order
-abbrev pub in_order : List Mark → List ConstText → List CheckParts
+-- checkpoints and literals in written order
+abbrev pub in_order : List Checkpoint → List ConstText → List CheckParts
 in_order [] cs = map literal cs
-in_order (m ∷ ms) cs = up_to (in_order ms) m cs
+in_order (m ∷ ms) cs = checks_up_to (in_order ms) m cs
 
 -- What is looked at before a script runs, in written order: statement by statement the new tables, the files, the brackets
 -- of rows and the literals, each literal behind the bracket that stands before it.
 abbrev pub checks_of : ScriptOut → List CheckParts
-checks_of out = in_order (marks_from 1 out.statements) out.consts
+checks_of out = in_order (checkpoints_from 1 out.statements) out.consts

@@ -10,7 +10,7 @@ use Rattle.mob_literal.specs.SqlText.{SaysAs}
 use Rattle.mob_outside.specs.Faults.{Rose}
 use Rattle.mob_outside.specs.Told.{Contents, file_of}
 use Rattle.mob_catalog.specs.Constants.{IsConstant, at_constant}
-use Rattle.mob_catalog.specs.Faults.{Refuses, Wrong}
+use Rattle.mob_catalog.specs.Faults.{IsRefusedAs, FileFault}
 use Rattle.mob_catalog.specs.TableFile.{IsTable, FileFails}
 use Rattle.mob_typing.specs.declared.typed.ConstText.{ConstText}
 use Rattle.mob_typing.specs.Names.{ColumnList}
@@ -49,22 +49,22 @@ abbrev pub columns_or_none : Option ColumnList → ColumnList
 columns_or_none None = []
 columns_or_none (Some columns) = columns
 
-abbrev pub columns_at : Loaded → ℕ → ColumnList
-columns_at l t = columns_or_none (slice_get l.tables t)
+abbrev pub loaded_columns : Loaded → ℕ → ColumnList
+loaded_columns l t = columns_or_none (slice_get l.tables t)
 
 -- how many rows were put into it
-abbrev pub rows_at : Loaded → ℕ → ℕ
-rows_at l t = slice_index l.rows t
+abbrev pub loaded_row_count : Loaded → ℕ → ℕ
+loaded_row_count l t = slice_index l.rows t
 
 abbrev pub with_value : Loaded → Value → Loaded
 with_value l v = record l { values = l.values ++ v ∷ [] }
 
-abbrev pub with_table : Loaded → ColumnList → Loaded
-with_table l columns = record l { tables = l.tables ++ columns ∷ []; rows = l.rows ++ 0 ∷ [] }
+abbrev pub with_made_table : Loaded → ColumnList → Loaded
+with_made_table l columns = record l { tables = l.tables ++ columns ∷ []; rows = l.rows ++ 0 ∷ [] }
 
 -- so many rows more in the table of this number
 abbrev pub with_rows : Loaded → ℕ → ℕ → Loaded
-with_rows l t n = record l { rows = slice_set l.rows t (rows_at l t + n) }
+with_rows l t n = record l { rows = slice_set l.rows t (loaded_row_count l t + n) }
 
 abbrev pub with_file : Loaded → ℕ → List (List Value) → Loaded
 with_file l t rows = record (with_rows l t (length rows)) { files = l.files ++ rows ∷ [] }
@@ -74,19 +74,19 @@ abbrev pub refused_literal : ConstText → Kind → Halt
 refused_literal c k = refused (at_constant c k)
 
 -- a literal has the value of its text, or it is refused for what is wrong with that
-abbrev pub Reads : ℤ → ConstText → Loaded → Result Loaded Halt → Type 0
-Reads day c l (Ok m) = (v : Value) × SaysAs c.ty day c.text (Ok v) × (m ≡ with_value l v)
-Reads day c l (Err h) = (f : ReadText) × (k : Kind) × Refuses f k × SaysAs c.ty day c.text (Err f) × (h ≡ refused_literal c k)
+abbrev pub LoadsLiteral : ℤ → ConstText → Loaded → Result Loaded Halt → Type 0
+LoadsLiteral day c l (Ok m) = (v : Value) × SaysAs c.ty day c.text (Ok v) × (m ≡ with_value l v)
+LoadsLiteral day c l (Err h) = (f : ReadText) × (k : Kind) × IsRefusedAs f k × SaysAs c.ty day c.text (Err f) × (h ≡ refused_literal c k)
 
 -- a table takes one row more as long as it has fewer than the most; else the row is refused at its bracket
 abbrev pub one_row : ℕ → ℕ → ℕ → Loaded → Result Loaded Halt
-one_row t n p l = if nat_lt (rows_at l t) greatest_rows then Ok (with_rows l t 1) else Err (refused (record { kind = kind.Limit; statement = n; place = p }))
+one_row t n p l = if nat_lt (loaded_row_count l t) greatest_rows then Ok (with_rows l t 1) else Err (refused (record { kind = kind.Limit; statement = n; place = p }))
 
 -- a file has the rows of its bytes or their first refusal; a file that is not there has none
-abbrev pub Pours : ℤ → ℕ → List ℕ → Loaded → Option (List ℕ) → Result Loaded Halt → Type 0
-Pours day t name l None r = r ≡ Err (missing name)
-Pours day t name l (Some bytes) (Ok m) = (rows : List (List Value)) × IsTable (columns_at l t) day (greatest_rows - rows_at l t) bytes rows × (m ≡ with_file l t rows)
-Pours day t name l (Some bytes) (Err h) = (w : Wrong) × FileFails (columns_at l t) day (greatest_rows - rows_at l t) bytes w × (h ≡ table_refused name w.kind w.rec w.field)
+abbrev pub LoadsFile : ℤ → ℕ → List ℕ → Loaded → Option (List ℕ) → Result Loaded Halt → Type 0
+LoadsFile day t name l None r = r ≡ Err (missing name)
+LoadsFile day t name l (Some bytes) (Ok m) = (rows : List (List Value)) × IsTable (loaded_columns l t) day (greatest_rows - loaded_row_count l t) bytes rows × (m ≡ with_file l t rows)
+LoadsFile day t name l (Some bytes) (Err h) = (w : FileFault) × FileFails (loaded_columns l t) day (greatest_rows - loaded_row_count l t) bytes w × (h ≡ table_refused name w.kind w.rec w.field)
 
 -- a table has at most 64 columns
 abbrev pub IsNarrow : CheckParts → Type 0
@@ -100,21 +100,21 @@ abbrev pub HasNarrow : List ColumnList → Type 0
 HasNarrow tables = AllByRecursion (λ columns. length columns ≤ 64) tables
 
 -- one check, and what was read before and after it
-abbrev pub Passes : ℤ → Contents → CheckParts → Loaded → Result Loaded Halt → Type 0
-Passes day files (literal c) l r = Reads day c l r
-Passes day files (table columns) l r = r ≡ Ok (with_table l columns)
-Passes day files (room t n p) l r = r ≡ one_row t n p l
-Passes day files (file t name) l r = Pours day t name l (file_of name files) r
+abbrev pub LoadsCheck : ℤ → Contents → CheckParts → Loaded → Result Loaded Halt → Type 0
+LoadsCheck day files (literal c) l r = LoadsLiteral day c l r
+LoadsCheck day files (table columns) l r = r ≡ Ok (with_made_table l columns)
+LoadsCheck day files (room t n p) l r = r ≡ one_row t n p l
+LoadsCheck day files (file t name) l r = LoadsFile day t name l (file_of name files) r
 
 -- what comes after a check: the others, or nothing
-abbrev pub Goes : (Loaded → Result Loaded Halt → Type 0) → Result Loaded Halt → Result Loaded Halt → Type 0
-Goes others (Ok m) r = others m r
-Goes others (Err h) r = r ≡ Err h
+abbrev pub ContinuesBy : (Loaded → Result Loaded Halt → Type 0) → Result Loaded Halt → Result Loaded Halt → Type 0
+ContinuesBy others (Ok m) r = others m r
+ContinuesBy others (Err h) r = r ≡ Err h
 
 -- the checks one after the other; the first that fails decides
 abbrev pub Loads : ℤ → Contents → List CheckParts → Loaded → Result Loaded Halt → Type 0
 Loads day files [] l r = r ≡ Ok l
-Loads day files (c ∷ cs) l r = (s : Result Loaded Halt) × Passes day files c l s × Goes (Loads day files cs) s r
+Loads day files (c ∷ cs) l r = (s : Result Loaded Halt) × LoadsCheck day files c l s × ContinuesBy (Loads day files cs) s r
 
 -- the file of this name is next, behind checks that all pass
 abbrev pub IsFile : CheckParts → List ℕ → Type 0
@@ -123,19 +123,19 @@ IsFile _ asked = ⊥
 
 abbrev pub Reaches : ℤ → Contents → List CheckParts → Loaded → List ℕ → Type 0
 Reaches day files [] l name = ⊥
-Reaches day files (c ∷ cs) l name = IsFile c name ⊎ ((m : Loaded) × Passes day files c l (Ok m) × Reaches day files cs m name)
+Reaches day files (c ∷ cs) l name = IsFile c name ⊎ ((m : Loaded) × LoadsCheck day files c l (Ok m) × Reaches day files cs m name)
 
 -- the program's state of loading as such a value
 abbrev pub loaded_of : Loading → Loaded
 loaded_of l = record { values = l.values; tables = map (λ t. t.now) l.tables.items; rows = l.rows.items; files = l.files }
 
 -- the program answers as the definition says; a fault of the files and want of memory are told elsewhere
-abbrev pub Gives : {A : Type 0} → Result A LoadEnd → Loaded → (Result Loaded Halt → Type 0) → Type 0
-Gives (Ok x) after says = says (Ok after)
-Gives (Err (Refused e)) after says = says (Err (refused e))
-Gives (Err (TableRefused name k rec field)) after says = says (Err (table_refused name k rec field))
-Gives (Err (ReadFault name)) after says = Unit {0}
-Gives (Err OutOfMemory) after says = Unit {0}
+abbrev pub LoadsTo : {A : Type 0} → Result A LoadEnd → Loaded → (Result Loaded Halt → Type 0) → Type 0
+LoadsTo (Ok x) after says = says (Ok after)
+LoadsTo (Err (Refused e)) after says = says (Err (refused e))
+LoadsTo (Err (TableRefused name k rec field)) after says = says (Err (table_refused name k rec field))
+LoadsTo (Err (ReadFault name)) after says = Unit {0}
+LoadsTo (Err OutOfMemory) after says = Unit {0}
 
 -- each file could be read
 abbrev pub IsRead : LoadEnd → Type 0
@@ -174,11 +174,11 @@ abbrev pub names_in : List CheckParts → List (List ℕ)
 names_in cs = flat_map names_of cs
 
 -- why the checks ended: at the first that fails; or by a fault at a file, before which all pass; want of memory is free
-abbrev pub StopsAt : ℤ → Contents → List CheckParts → LoadEnd → Type 0
-StopsAt day files cs (Refused e) = Loads day files cs nothing_loaded (Err (refused e))
-StopsAt day files cs (TableRefused name k rec field) = Loads day files cs nothing_loaded (Err (table_refused name k rec field))
-StopsAt day files cs (ReadFault name) = Reaches day files cs nothing_loaded name
-StopsAt day files cs OutOfMemory = Unit {0}
+abbrev pub ChecksStopBy : ℤ → Contents → List CheckParts → LoadEnd → Type 0
+ChecksStopBy day files cs (Refused e) = Loads day files cs nothing_loaded (Err (refused e))
+ChecksStopBy day files cs (TableRefused name k rec field) = Loads day files cs nothing_loaded (Err (table_refused name k rec field))
+ChecksStopBy day files cs (ReadFault name) = Reaches day files cs nothing_loaded name
+ChecksStopBy day files cs OutOfMemory = Unit {0}
 
 -- What a script reads before it runs: the values of its literals and the rows of its files, each in written order; or why it
 -- is refused first, in the script or in a file, or the first file that is not there.
@@ -195,8 +195,8 @@ IsOutcome day files out (Err (ReadFault name)) = ⊥
 IsOutcome day files out (Err OutOfMemory) = Unit {0}
 
 -- a script that is typed
-abbrev pub IsTyped : ScriptOut → Type 0
-IsTyped out = (ss : List StatementParts) × (typed_script ss ≡ Ok out)
+abbrev pub IsTypedScript : ScriptOut → Type 0
+IsTypedScript out = (ss : List StatementParts) × (typed_script ss ≡ Ok out)
 
 -- the names of the files of the COPY statements, in order
 abbrev pub copied_file : StatementOut → List (List ℕ)

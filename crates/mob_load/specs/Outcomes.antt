@@ -11,5 +11,5 @@ abbrev pub HasOneLoading : Type 0
 HasOneLoading = (day : ℤ) (files : Contents) (checks : List CheckParts) (start : Loaded) (r q : Result Loaded Halt) → Loads day files checks start r → Loads day files checks start q → r ≡ q
 
 -- a script has one program, or one refusal
-abbrev pub HasOneProgram : Type 0
-HasOneProgram = (day : ℤ) (files : Contents) (out : ScriptOut) (r q : Result Program Halt) → LoadsScript day files out r → LoadsScript day files out q → r ≡ q
+abbrev pub LoadsOneProgram : Type 0
+LoadsOneProgram = (day : ℤ) (files : Contents) (out : ScriptOut) (r q : Result Program Halt) → LoadsScript day files out r → LoadsScript day files out q → r ≡ q

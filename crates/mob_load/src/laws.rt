@@ -1,6 +1,6 @@
 //! Laws of loading. Each is proved for every script; calling one does nothing.
 ghost use Rattle.mob_load.specs.Loads.{LooksAtLiterals, ProgramHasValues};
-ghost use Rattle.mob_load.specs.Outcomes.{HasOneLoading, HasOneProgram};
+ghost use Rattle.mob_load.specs.Outcomes.{HasOneLoading, LoadsOneProgram};
 
 /// Each literal of a script is looked at once, in written order.
 pub fn literals_are_looked_at()
@@ -15,7 +15,7 @@ pub fn literals_have_their_values()
 /// Loading has one outcome: a script's literals and files give one program, or one refusal.
 pub fn one_loading()
     ensures loading { HasOneLoading }
-    ensures program { HasOneProgram }
+    ensures program { LoadsOneProgram }
 {
     mob_catalog::laws::one_table();
 }

@@ -2,7 +2,7 @@
 ghost use Rattle.std.specs.Prelude.{◌≡◌, ◌++◌, ◌∷◌, [], List, IfOk, drop, map};
 ghost use Rattle.mob_typing.specs.declared.typed.ConstText.{ConstText};
 ghost use Rattle.mob_typing.specs.Statements.{script_seen, statement_seen};
-ghost use Rattle.mob_load.specs.Checks.{CheckParts, Mark, check_seen, mark, bracket, marks_of, stands_before, up_to, in_order, checks_of};
+ghost use Rattle.mob_load.specs.Checks.{CheckParts, Checkpoint, check_seen, checkpoint, bracket, checkpoints_of, stands_before, checks_up_to, in_order, checks_of};
 
 use crate::check::Check;
 use mob_typing::{ConstText, Typed, TypedStatement};
@@ -24,7 +24,7 @@ fn push_literals<'a>(
     place: u32,
 ) -> Result<usize, AllocError>
     ensures put { IfOk result (λ at. (next : List ConstText → List CheckParts) (check : CheckParts) →
-        map check_seen done.new.items ++ check ∷ next (drop at literals.now) ≡ map check_seen done.old.items ++ up_to next (mark statement place check) (drop put literals.now)) }
+        map check_seen done.new.items ++ check ∷ next (drop at literals.now) ≡ map check_seen done.old.items ++ checks_up_to next (checkpoint statement place check) (drop put literals.now)) }
 {
     let mut at = put;
     while at < literals.len() {
@@ -48,7 +48,7 @@ fn push_mark<'a>(
     check: Check<'a>,
 ) -> Result<usize, AllocError>
     ensures put { IfOk result (λ at. (next : List ConstText → List CheckParts) →
-        map check_seen done.new.items ++ next (drop at literals.now) ≡ map check_seen done.old.items ++ up_to next (mark statement place (check_seen check.entry)) (drop put literals.now)) }
+        map check_seen done.new.items ++ next (drop at literals.now) ≡ map check_seen done.old.items ++ checks_up_to next (checkpoint statement place (check_seen check.entry)) (drop put literals.now)) }
 {
     let at = push_literals(done, literals, put, statement, place)?;
     done.push(check)?;
@@ -64,7 +64,7 @@ fn push_brackets<'a>(
     statement: u32,
     places: &[u32],
 ) -> Result<usize, AllocError>
-    ensures put { IfOk result (λ at. (ms : List Mark) →
+    ensures put { IfOk result (λ at. (ms : List Checkpoint) →
         map check_seen done.new.items ++ in_order ms (drop at literals.now) ≡ map check_seen done.old.items ++ in_order (map (bracket table statement) places.now ++ ms) (drop put literals.now)) }
 {
     let mut at = put;
@@ -79,7 +79,7 @@ fn push_brackets<'a>(
     Ok(at)
 }
 
-// Puts the marks of a statement, each behind the literals that stand before it.
+// Puts the checkpoints of a statement, each behind the literals that stand before it.
 fn push_statement<'a>(
     done: &mut Vec<Check<'a>>,
     literals: &'a [ConstText],
@@ -87,8 +87,8 @@ fn push_statement<'a>(
     number: u32,
     statement: &'a TypedStatement,
 ) -> Result<usize, AllocError>
-    ensures put { IfOk result (λ at. (ms : List Mark) →
-        map check_seen done.new.items ++ in_order ms (drop at literals.now) ≡ map check_seen done.old.items ++ in_order (marks_of number (statement_seen statement.now) ++ ms) (drop put literals.now)) }
+    ensures put { IfOk result (λ at. (ms : List Checkpoint) →
+        map check_seen done.new.items ++ in_order ms (drop at literals.now) ≡ map check_seen done.old.items ++ in_order (checkpoints_of number (statement_seen statement.now) ++ ms) (drop put literals.now)) }
 {
     match statement {
         TypedStatement::CreateTable { columns, .. } => {

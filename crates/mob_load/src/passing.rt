@@ -2,11 +2,11 @@
 ghost use Rattle.std.specs.Prelude.{◌≡◌, ◌⊎◌, ◌+◌, ◌^◌, ◌<◌, ◌≤◌, IfErr, IfOk, IfSome, OnOk, length, map, option_map, slice_get, slice_index, slice_set, Some};
 ghost use Rattle.mob_outside.specs.Told.{AsksFor, KeepsFiles, MayAskFor, file_of};
 ghost use Rattle.mob_catalog.specs.Constants.{at_constant};
-ghost use Rattle.mob_catalog.specs.Faults.{OnRefused, Refuses};
+ghost use Rattle.mob_catalog.specs.Faults.{OnRefused, IsRefusedAs};
 ghost use Rattle.mob_catalog.specs.TableFile.{FileFails, IsTable};
 ghost use Rattle.mob_load.specs.Checks.{check_seen, file};
 ghost use Rattle.mob_load.specs.Fronts.{AsksForAll, AsksForSome};
-ghost use Rattle.mob_load.specs.Loads.{Gives, HasFaultCause, HasNarrow, IsFaultAt, IsNarrow, IsNoFault, IsRead, Passes, Pours, Reads, columns_or_none, loaded_of, names_of, one_row, rows_at as rows_in, with_file, with_table};
+ghost use Rattle.mob_load.specs.Loads.{LoadsTo, HasFaultCause, HasNarrow, IsFaultAt, IsNarrow, IsNoFault, IsRead, LoadsCheck, LoadsFile, LoadsLiteral, columns_or_none, loaded_of, names_of, one_row, loaded_row_count as rows_in, with_file, with_made_table};
 ghost use Rattle.mob_load.specs.declared.program.LoadEnd.TheVariants.{NoMemory, Refused};
 ghost use Rattle.mob_ast.specs.declared.refusal.Kind.{Kind};
 
@@ -30,7 +30,7 @@ const GREATEST_ROWS: u32 = 1_000_000;
 
 // Why loading ends at a literal whose text has this fault.
 fn refused_literal(fault: ReadText, literal: &ConstText) -> LoadEnd
-    ensures refused { (result ≡ NoMemory) ⊎ ((k : Kind) × Refuses fault k × (result ≡ Refused (at_constant literal.now k))) }
+    ensures refused { (result ≡ NoMemory) ⊎ ((k : Kind) × IsRefusedAs fault k × (result ≡ Refused (at_constant literal.now k))) }
 {
     match constant_refusal(fault, literal) {
         Some(refusal) => LoadEnd::Refused(refusal),
@@ -45,7 +45,7 @@ fn read_literal(
     constant: &ConstText,
     epoch: &Epoch,
 ) -> Result<(), LoadEnd>
-    ensures read { Gives result (loaded_of loading.new) (Reads epoch.now constant.now (loaded_of loading.old)) }
+    ensures read { LoadsTo result (loaded_of loading.new) (LoadsLiteral epoch.now constant.now (loaded_of loading.old)) }
     ensures no_fault { IfErr result IsNoFault }
     ensures tables { OnOk result ((loaded_of loading.new).tables ≡ (loaded_of loading.old).tables) }
 {
@@ -60,7 +60,7 @@ fn read_literal(
 
 // Makes a table.
 fn make_table<'a>(loading: &mut Loading<'a>, columns: &'a [(Text, SqlType)]) -> Result<(), LoadEnd>
-    ensures made { OnOk result (loaded_of loading.new ≡ with_table (loaded_of loading.old) columns.now) }
+    ensures made { OnOk result (loaded_of loading.new ≡ with_made_table (loaded_of loading.old) columns.now) }
     ensures memory { IfErr result (λ e. e ≡ NoMemory) }
 {
     loading.tables.push(columns)?;
@@ -96,7 +96,7 @@ fn take_row(
     statement: u32,
     place: u32,
 ) -> Result<(), LoadEnd>
-    ensures row { Gives result (loaded_of loading.new) (λ r. r ≡ one_row table statement place (loaded_of loading.old)) }
+    ensures row { LoadsTo result (loaded_of loading.new) (λ r. r ≡ one_row table statement place (loaded_of loading.old)) }
     ensures no_fault { IfErr result IsNoFault }
     ensures tables { OnOk result ((loaded_of loading.new).tables ≡ (loaded_of loading.old).tables) }
 {
@@ -163,7 +163,7 @@ fn pour(
     epoch: &Epoch,
 ) -> Result<(), LoadEnd>
     requires narrow { HasNarrow (loaded_of loading.old).tables }
-    ensures poured { Gives result (loaded_of loading.new) (Pours epoch.now table name.now (loaded_of loading.old) (Some bytes.now)) }
+    ensures poured { LoadsTo result (loaded_of loading.new) (LoadsFile epoch.now table name.now (loaded_of loading.old) (Some bytes.now)) }
     ensures fault { IfErr result (IsFaultAt (file table name.now)) }
     ensures read { IfErr result IsRead }
     ensures tables { OnOk result ((loaded_of loading.new).tables ≡ (loaded_of loading.old).tables) }
@@ -192,7 +192,7 @@ fn load_file<F: Files>(
     epoch: &Epoch,
 ) -> Result<(), LoadEnd>
     requires narrow { HasNarrow (loaded_of loading.old).tables }
-    ensures poured { IfSome (F.files files.old) (λ m. Gives result (loaded_of loading.new) (Pours epoch.now table name.now (loaded_of loading.old) (file_of name.now m))) }
+    ensures poured { IfSome (F.files files.old) (λ m. LoadsTo result (loaded_of loading.new) (LoadsFile epoch.now table name.now (loaded_of loading.old) (file_of name.now m))) }
     ensures fault { IfErr result (IsFaultAt (file table name.now)) }
     ensures tables { OnOk result ((loaded_of loading.new).tables ≡ (loaded_of loading.old).tables) }
     ensures cause { IfErr result (HasFaultCause (F.faults files.old) (F.faults files.new)) }
@@ -219,7 +219,7 @@ pub fn pass<'a, F: Files>(
 ) -> Result<(), LoadEnd>
     requires narrow { IsNarrow (check_seen check) }
     requires tables { HasNarrow (loaded_of loading.old).tables }
-    ensures passed { IfSome (F.files files.old) (λ m. Gives result (loaded_of loading.new) (Passes epoch.now m (check_seen check.entry) (loaded_of loading.old))) }
+    ensures passed { IfSome (F.files files.old) (λ m. LoadsTo result (loaded_of loading.new) (LoadsCheck epoch.now m (check_seen check.entry) (loaded_of loading.old))) }
     ensures fault { IfErr result (IsFaultAt (check_seen check.entry)) }
     ensures narrow { OnOk result (HasNarrow (loaded_of loading.new).tables) }
     ensures cause { IfErr result (HasFaultCause (F.faults files.old) (F.faults files.new)) }

@@ -9,8 +9,8 @@ use Rattle.mob_operators.specs.declared.operator.Form.TheVariants as form
 use Rattle.mob_operators.specs.declared.operator.Op.{Op}
 use Rattle.mob_operators.specs.declared.table.Bond.{Bond}
 use Rattle.mob_operators.specs.declared.table.Bond.TheVariants as bond
-use Rattle.mob_operators.specs.declared.table.Gives.{Gives}
-use Rattle.mob_operators.specs.declared.table.Gives.TheVariants as gives
+use Rattle.mob_operators.specs.declared.table.ResultType.{ResultType}
+use Rattle.mob_operators.specs.declared.table.ResultType.TheVariants as gives
 use Rattle.mob_operators.specs.declared.table.Row.{Row}
 
 -- A line of the table: how its operators are written, the operators with their names, for each argument the types that
@@ -20,7 +20,7 @@ pub record Line : Type 0 where
   pub names : List (List ℕ × Op)
   pub takes : List (List SqlType)
   pub bond : Bond
-  pub gives : Gives
+  pub gives : ResultType
 
 -- a row of the program's table as such a line
 abbrev pub line_of : Row → Line
@@ -61,23 +61,23 @@ abbrev pub same_form : Form → Form → Bool
 same_form a b = form_number a == form_number b
 
 -- whether a type is among these
-abbrev pub has : List SqlType → SqlType → Bool
-has class ty = list_any (λ t. same_type t ty) class
+abbrev pub has_type : List SqlType → SqlType → Bool
+has_type class ty = list_any (λ t. same_type t ty) class
 
 -- whether a type is temporal
-abbrev pub is_moving : SqlType → Bool
-is_moving ty = has (sql.TBool ∷ sql.TInt ∷ sql.TFrac ∷ sql.TText ∷ sql.TPoint ∷ []) ty
+abbrev pub is_temporal : SqlType → Bool
+is_temporal ty = has_type (sql.TBool ∷ sql.TInt ∷ sql.TFrac ∷ sql.TText ∷ sql.TPoint ∷ []) ty
 
 -- whether a type has whole numbers alone
-abbrev pub is_whole : SqlType → Bool
-is_whole ty = has (sql.Int ∷ sql.TInt ∷ []) ty
+abbrev pub is_whole_type : SqlType → Bool
+is_whole_type ty = has_type (sql.Int ∷ sql.TInt ∷ []) ty
 
 -- whether the arguments have one for one a type that is taken
-abbrev pub fits : List (List SqlType) → List SqlType → Bool
-fits [] [] = true
-fits [] (t ∷ ts) = false
-fits (c ∷ cs) [] = false
-fits (c ∷ cs) (t ∷ ts) = has c t && fits cs ts
+abbrev pub types_fit : List (List SqlType) → List SqlType → Bool
+types_fit [] [] = true
+types_fit [] (t ∷ ts) = false
+types_fit (c ∷ cs) [] = false
+types_fit (c ∷ cs) (t ∷ ts) = has_type c t && types_fit cs ts
 
 -- whether two arguments have one type
 abbrev pub are_same : List SqlType → Bool
@@ -89,28 +89,28 @@ are_same (a ∷ b ∷ c ∷ ts) = false
 -- whether arguments of these types, the last a number literal or not, meet what a line asks beside its types
 abbrev pub meets : Bond → List SqlType → Bool → Bool
 meets bond.Free ts literal = true
-meets bond.OneMoving ts literal = list_any is_moving ts
+meets bond.OneMoving ts literal = list_any is_temporal ts
 meets bond.SameType ts literal = are_same ts
 meets bond.ByLiteral ts literal = literal
 
 -- the type that a line gives for arguments of these types
-abbrev pub given : Gives → List SqlType → Option SqlType
+abbrev pub given : ResultType → List SqlType → Option SqlType
 given (gives.Only ty) ts = Some ty
 given gives.First ts = slice_get ts 0
-given (gives.Whole whole other) ts = Some (if list_all is_whole ts then whole else other)
+given (gives.Whole whole other) ts = Some (if list_all is_whole_type ts then whole else other)
 
 -- the operator of this name
-abbrev pub named : List (List ℕ × Op) → List ℕ → Option Op
-named [] name = None
-named (n ∷ ns) name = if bytes_eq n.0 name then Some n.1 else named ns name
+abbrev pub operator_named : List (List ℕ × Op) → List ℕ → Option Op
+operator_named [] name = None
+operator_named (n ∷ ns) name = if bytes_eq n.0 name then Some n.1 else operator_named ns name
 
 -- the operator that a line has for this form and name
 abbrev pub operator_in : Line → Form → List ℕ → Option Op
-operator_in l form name = if same_form l.form form then named l.names name else None
+operator_in l form name = if same_form l.form form then operator_named l.names name else None
 
 -- whether a line takes these arguments
 abbrev pub takes : Line → List SqlType → Bool → Bool
-takes l ts literal = fits l.takes ts && meets l.bond ts literal
+takes l ts literal = types_fit l.takes ts && meets l.bond ts literal
 
 -- the operator and the type that a line gives
 abbrev pub answer_of : Line → Form → List ℕ → List SqlType → Bool → Option (Op × SqlType)

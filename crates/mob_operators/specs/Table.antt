@@ -11,8 +11,8 @@ use Rattle.mob_operators.specs.declared.operator.Op.{Op}
 use Rattle.mob_operators.specs.declared.operator.Op.TheVariants.{Not, And, Or, IsNull, IsNotNull, Test, Add, Subtract, Multiply, Divide, Negate, Same, Join, LiftedAnd, LiftedOr, LiftedNot, Lifted, Ever, Always, Overlap, AtTime, MinusTime, AtValues, MinusValues, ValueAtTimestamp, GetTime, WhenTrue, GetX, GetY, BoxOf, ExpandSpace, AtStbox, MinusStbox, AtGeometry, MinusGeometry, EIntersects, EDwithin, NearestApproachSquared, AsText}
 use Rattle.mob_operators.specs.declared.table.Bond.{Bond}
 use Rattle.mob_operators.specs.declared.table.Bond.TheVariants.{Free, OneMoving, SameType, ByLiteral}
-use Rattle.mob_operators.specs.declared.table.Gives.{Gives}
-use Rattle.mob_operators.specs.declared.table.Gives.TheVariants.{Only, First, Whole}
+use Rattle.mob_operators.specs.declared.table.ResultType.{ResultType}
+use Rattle.mob_operators.specs.declared.table.ResultType.TheVariants.{Only, First, Whole}
 use Rattle.mob_operators.specs.Lookup.{Line}
 
 abbrev pub types : Type 0
@@ -22,8 +22,8 @@ abbrev pub names : Type 0
 names = List (List ℕ × Op)
 
 -- an int or a numeric
-abbrev pub number : types
-number = Int ∷ Numeric ∷ []
+abbrev pub plain_number : types
+plain_number = Int ∷ Numeric ∷ []
 
 -- a tint or a tfrac
 abbrev pub moving_number : types
@@ -42,12 +42,12 @@ text_kind = Text ∷ TText ∷ []
 abbrev pub point_kind : types
 point_kind = Point ∷ TPoint ∷ []
 
-abbrev pub temporal : types
-temporal = TBool ∷ TInt ∷ TFrac ∷ TText ∷ TPoint ∷ []
+abbrev pub temporal_types : types
+temporal_types = TBool ∷ TInt ∷ TFrac ∷ TText ∷ TPoint ∷ []
 
 -- what time is restricted to
-abbrev pub time : types
-time = Moment ∷ Span ∷ SpanSet ∷ []
+abbrev pub time_types : types
+time_types = Moment ∷ Span ∷ SpanSet ∷ []
 
 -- what has a box
 abbrev pub boxed : types
@@ -87,8 +87,8 @@ sums = (codes "+", Add) ∷ (codes "-", Subtract) ∷ []
 abbrev pub times : names
 times = (codes "*", Multiply) ∷ []
 
-abbrev pub over : names
-over = (codes "/", Divide) ∷ []
+abbrev pub divisions : names
+divisions = (codes "/", Divide) ∷ []
 
 abbrev pub joins : names
 joins = (codes "||", Join) ∷ []
@@ -96,20 +96,20 @@ joins = (codes "||", Join) ∷ []
 abbrev pub at_values : names
 at_values = (codes "atvalues", AtValues) ∷ (codes "minusvalues", MinusValues) ∷ []
 
-abbrev pub value_at : names
-value_at = (codes "valueattimestamp", ValueAtTimestamp) ∷ []
+abbrev pub value_at_timestamp : names
+value_at_timestamp = (codes "valueattimestamp", ValueAtTimestamp) ∷ []
 
-abbrev pub to : SqlType → Gives
+abbrev pub to : SqlType → ResultType
 to = Only
 
 -- int where every argument is whole, else numeric; tint and tfrac likewise
-abbrev pub to_number : Gives
+abbrev pub to_number : ResultType
 to_number = Whole Int Numeric
 
-abbrev pub to_moving_number : Gives
+abbrev pub to_moving_number : ResultType
 to_moving_number = Whole TInt TFrac
 
-abbrev pub line : Form → names → List types → Bond → Gives → Line
+abbrev pub line : Form → names → List types → Bond → ResultType → Line
 line f n ts b g = record { form = f; names = n; takes = ts; bond = b; gives = g }
 
 -- The table of operators. A line has how its operators are written, their names, the types of each argument, what else
@@ -120,21 +120,21 @@ table =
     ∷ line Word ((codes "and", And) ∷ (codes "or", Or) ∷ []) ((ABool ∷ []) ∷ (ABool ∷ []) ∷ []) Free (to ABool)
     ∷ line Word ((codes "is null", IsNull) ∷ (codes "is not null", IsNotNull) ∷ []) (any ∷ []) Free (to ABool)
     ∷ line Sign equals (any_but_polygon ∷ any_but_polygon ∷ []) SameType (to ABool)
-    ∷ line Sign equals (number ∷ number ∷ []) Free (to ABool)
+    ∷ line Sign equals (plain_number ∷ plain_number ∷ []) Free (to ABool)
     ∷ line Sign equals (moving_number ∷ moving_number ∷ []) Free (to ABool)
-    ∷ line Sign orders (number ∷ number ∷ []) Free (to ABool)
+    ∷ line Sign orders (plain_number ∷ plain_number ∷ []) Free (to ABool)
     ∷ line Sign orders ((Text ∷ []) ∷ (Text ∷ []) ∷ []) Free (to ABool)
     ∷ line Sign orders ((Moment ∷ []) ∷ (Moment ∷ []) ∷ []) Free (to ABool)
-    ∷ line Sign sums (number ∷ number ∷ []) Free to_number
-    ∷ line Sign times (number ∷ number ∷ []) Free to_number
-    ∷ line Sign over (number ∷ number ∷ []) ByLiteral (to Numeric)
-    ∷ line Sign ((codes "-", Negate) ∷ (codes "+", Same) ∷ []) (number ∷ []) Free First
+    ∷ line Sign sums (plain_number ∷ plain_number ∷ []) Free to_number
+    ∷ line Sign times (plain_number ∷ plain_number ∷ []) Free to_number
+    ∷ line Sign divisions (plain_number ∷ plain_number ∷ []) ByLiteral (to Numeric)
+    ∷ line Sign ((codes "-", Negate) ∷ (codes "+", Same) ∷ []) (plain_number ∷ []) Free First
     ∷ line Sign sums (number_kind ∷ number_kind ∷ []) OneMoving to_moving_number
-    ∷ line Sign times (number ∷ moving_number ∷ []) Free to_moving_number
-    ∷ line Sign times (moving_number ∷ number ∷ []) Free to_moving_number
+    ∷ line Sign times (plain_number ∷ moving_number ∷ []) Free to_moving_number
+    ∷ line Sign times (moving_number ∷ plain_number ∷ []) Free to_moving_number
     ∷ line Sign times ((TInt ∷ []) ∷ moving_number ∷ []) Free to_moving_number
     ∷ line Sign times ((TFrac ∷ []) ∷ (TInt ∷ []) ∷ []) Free to_moving_number
-    ∷ line Sign over (moving_number ∷ number ∷ []) ByLiteral (to TFrac)
+    ∷ line Sign divisions (moving_number ∷ plain_number ∷ []) ByLiteral (to TFrac)
     ∷ line Sign joins ((Text ∷ []) ∷ (Text ∷ []) ∷ []) Free (to Text)
     ∷ line Sign joins (text_kind ∷ text_kind ∷ []) OneMoving (to TText)
     ∷ line Sign ((codes "&", LiftedAnd) ∷ (codes "|", LiftedOr) ∷ []) (bool_kind ∷ bool_kind ∷ []) OneMoving (to TBool)
@@ -152,26 +152,26 @@ table =
     ∷ line Sign ever_orders (number_kind ∷ number_kind ∷ []) OneMoving (to ABool)
     ∷ line Sign ever_orders (text_kind ∷ text_kind ∷ []) OneMoving (to ABool)
     ∷ line Sign ((codes "&&", Overlap) ∷ []) (boxed ∷ boxed ∷ []) Free (to ABool)
-    ∷ line Call ((codes "attime", AtTime) ∷ (codes "minustime", MinusTime) ∷ []) (temporal ∷ time ∷ []) Free First
+    ∷ line Call ((codes "attime", AtTime) ∷ (codes "minustime", MinusTime) ∷ []) (temporal_types ∷ time_types ∷ []) Free First
     ∷ line Call at_values ((TBool ∷ []) ∷ (ABool ∷ []) ∷ []) Free First
     ∷ line Call at_values ((TInt ∷ []) ∷ (Int ∷ []) ∷ []) Free First
-    ∷ line Call at_values ((TFrac ∷ []) ∷ number ∷ []) Free First
+    ∷ line Call at_values ((TFrac ∷ []) ∷ plain_number ∷ []) Free First
     ∷ line Call at_values ((TText ∷ []) ∷ (Text ∷ []) ∷ []) Free First
     ∷ line Call at_values ((TPoint ∷ []) ∷ (Point ∷ []) ∷ []) Free First
-    ∷ line Call value_at ((TBool ∷ []) ∷ (Moment ∷ []) ∷ []) Free (to ABool)
-    ∷ line Call value_at ((TInt ∷ []) ∷ (Moment ∷ []) ∷ []) Free (to Int)
-    ∷ line Call value_at ((TFrac ∷ []) ∷ (Moment ∷ []) ∷ []) Free (to Numeric)
-    ∷ line Call value_at ((TText ∷ []) ∷ (Moment ∷ []) ∷ []) Free (to Text)
-    ∷ line Call value_at ((TPoint ∷ []) ∷ (Moment ∷ []) ∷ []) Free (to Point)
-    ∷ line Call ((codes "gettime", GetTime) ∷ []) (temporal ∷ []) Free (to SpanSet)
+    ∷ line Call value_at_timestamp ((TBool ∷ []) ∷ (Moment ∷ []) ∷ []) Free (to ABool)
+    ∷ line Call value_at_timestamp ((TInt ∷ []) ∷ (Moment ∷ []) ∷ []) Free (to Int)
+    ∷ line Call value_at_timestamp ((TFrac ∷ []) ∷ (Moment ∷ []) ∷ []) Free (to Numeric)
+    ∷ line Call value_at_timestamp ((TText ∷ []) ∷ (Moment ∷ []) ∷ []) Free (to Text)
+    ∷ line Call value_at_timestamp ((TPoint ∷ []) ∷ (Moment ∷ []) ∷ []) Free (to Point)
+    ∷ line Call ((codes "gettime", GetTime) ∷ []) (temporal_types ∷ []) Free (to SpanSet)
     ∷ line Call ((codes "whentrue", WhenTrue) ∷ []) ((TBool ∷ []) ∷ []) Free (to SpanSet)
     ∷ line Call ((codes "getx", GetX) ∷ (codes "gety", GetY) ∷ []) ((TPoint ∷ []) ∷ []) Free (to TFrac)
     ∷ line Call ((codes "stbox", BoxOf) ∷ []) ((TPoint ∷ []) ∷ []) Free (to Box)
-    ∷ line Call ((codes "expandspace", ExpandSpace) ∷ []) (boxed ∷ number ∷ []) Free (to Box)
+    ∷ line Call ((codes "expandspace", ExpandSpace) ∷ []) (boxed ∷ plain_number ∷ []) Free (to Box)
     ∷ line Call ((codes "atstbox", AtStbox) ∷ (codes "minusstbox", MinusStbox) ∷ []) ((TPoint ∷ []) ∷ (Box ∷ []) ∷ []) Free First
     ∷ line Call ((codes "atgeometry", AtGeometry) ∷ (codes "minusgeometry", MinusGeometry) ∷ []) ((TPoint ∷ []) ∷ (Polygon ∷ []) ∷ []) Free First
     ∷ line Call ((codes "eintersects", EIntersects) ∷ []) ((TPoint ∷ []) ∷ (Polygon ∷ []) ∷ []) Free (to ABool)
-    ∷ line Call ((codes "edwithin", EDwithin) ∷ []) (point_kind ∷ point_kind ∷ number ∷ []) OneMoving (to ABool)
+    ∷ line Call ((codes "edwithin", EDwithin) ∷ []) (point_kind ∷ point_kind ∷ plain_number ∷ []) OneMoving (to ABool)
     ∷ line Call ((codes "nearestapproachsquared", NearestApproachSquared) ∷ []) (point_kind ∷ point_kind ∷ []) OneMoving (to Numeric)
     ∷ line Call ((codes "astext", AsText) ∷ []) (printed ∷ []) Free (to Text)
     ∷ []

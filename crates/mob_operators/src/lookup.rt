@@ -2,10 +2,10 @@
 ghost use Rattle.std.specs.Prelude.{◌≡◌, map};
 ghost use Rattle.std.specs.List.{list_any, list_all};
 ghost use Rattle.mob_operators.specs.Table.{table, is_irrational};
-ghost use Rattle.mob_operators.specs.Lookup.{line_of, lines_of, same_type, same_form, has, is_moving, is_whole, fits, are_same, meets, given, named, operator_in, takes, answer_of, found_in, has_function};
+ghost use Rattle.mob_operators.specs.Lookup.{line_of, lines_of, same_type, same_form, has_type, is_temporal, is_whole_type, types_fit, are_same, meets, given, operator_named, operator_in, takes, answer_of, found_in, has_function};
 
 use crate::operator::{Form, Op};
-use crate::table::{Bond, Gives, ROWS, Row};
+use crate::table::{Bond, ResultType, ROWS, Row};
 use mob_ast::SqlType;
 
 // Whether two types are one.
@@ -17,13 +17,13 @@ fn is_same(a: SqlType, b: SqlType) -> bool
 
 // Whether a type is among these.
 fn has(class: &[SqlType], ty: SqlType) -> bool
-    ensures { result ≡ has class.now ty }
+    ensures { result ≡ has_type class.now ty }
 {
     class.iter().any(|t| is_same(*t, ty))
 }
 
 fn is_moving(ty: SqlType) -> bool
-    ensures { result ≡ is_moving ty }
+    ensures { result ≡ is_temporal ty }
 {
     matches!(
         ty,
@@ -32,26 +32,26 @@ fn is_moving(ty: SqlType) -> bool
 }
 
 fn is_whole(ty: SqlType) -> bool
-    ensures { result ≡ is_whole ty }
+    ensures { result ≡ is_whole_type ty }
 {
     matches!(ty, SqlType::Int | SqlType::TInt)
 }
 
 fn any_moving(types: &[SqlType]) -> bool
-    ensures { result ≡ list_any is_moving types.now }
+    ensures { result ≡ list_any is_temporal types.now }
 {
     types.iter().any(|ty| is_moving(*ty))
 }
 
 fn all_whole(types: &[SqlType]) -> bool
-    ensures { result ≡ list_all is_whole types.now }
+    ensures { result ≡ list_all is_whole_type types.now }
 {
     types.iter().all(|ty| is_whole(*ty))
 }
 
 // Whether the arguments have one for one a type that is taken.
 fn fits(classes: &[&[SqlType]], types: &[SqlType]) -> bool
-    ensures { result ≡ fits (map (λ c. c.now) classes.now) types.now }
+    ensures { result ≡ types_fit (map (λ c. c.now) classes.now) types.now }
 {
     let Some((class, other_classes)) = classes.split_first() else {
         return types.is_empty();
@@ -84,14 +84,14 @@ impl Bond {
     }
 }
 
-impl Gives {
+impl ResultType {
     fn given(self, types: &[SqlType]) -> Option<SqlType>
         ensures { result ≡ given self types.now }
     {
         match self {
-            Gives::Only(ty) => Some(ty),
-            Gives::First => types.first().copied(),
-            Gives::Whole(whole, other) => Some(if all_whole(types) { whole } else { other }),
+            ResultType::Only(ty) => Some(ty),
+            ResultType::First => types.first().copied(),
+            ResultType::Whole(whole, other) => Some(if all_whole(types) { whole } else { other }),
         }
     }
 }
@@ -135,7 +135,7 @@ impl Row {
 
 // The operator of this name.
 fn named(names: &[(&str, Op)], name: &str) -> Option<Op>
-    ensures { result ≡ named (map (λ n. (n.0.now, n.1)) names.now) name.now }
+    ensures { result ≡ operator_named (map (λ n. (n.0.now, n.1)) names.now) name.now }
 {
     for (other, op) in names {
         if *other == name {

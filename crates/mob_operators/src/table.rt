@@ -18,7 +18,7 @@ pub enum Bond {
 
 /// Which type a row gives.
 #[derive(Clone, Copy, Debug, PartialEq, Eq)]
-pub enum Gives {
+pub enum ResultType {
     /// This type.
     Only(SqlType),
     /// The type of the first argument.
@@ -39,7 +39,7 @@ pub struct Row {
     /// What else the arguments have to meet.
     pub bond: Bond,
     /// The type of the result.
-    pub gives: Gives,
+    pub gives: ResultType,
 }
 
 const BOOL: &'static [SqlType] = &[SqlType::Bool];
@@ -203,13 +203,13 @@ const AT_VALUES: &'static [(&'static str, Op)] = &[
 
 const VALUE_AT: &'static [(&'static str, Op)] = &[("valueattimestamp", Op::ValueAtTimestamp)];
 
-const TO_BOOL: Gives = Gives::Only(SqlType::Bool);
+const TO_BOOL: ResultType = ResultType::Only(SqlType::Bool);
 
-const TO_TBOOL: Gives = Gives::Only(SqlType::TBool);
+const TO_TBOOL: ResultType = ResultType::Only(SqlType::TBool);
 
-const TO_NUMBER: Gives = Gives::Whole(SqlType::Int, SqlType::Numeric);
+const TO_NUMBER: ResultType = ResultType::Whole(SqlType::Int, SqlType::Numeric);
 
-const TO_TNUMBER: Gives = Gives::Whole(SqlType::TInt, SqlType::TFrac);
+const TO_TNUMBER: ResultType = ResultType::Whole(SqlType::TInt, SqlType::TFrac);
 
 // A row on one line.
 macro_rules! row {
@@ -248,14 +248,14 @@ pub static ROWS: [Row; 58] = [
         OVER,
         [NUMBER, NUMBER],
         ByLiteral,
-        Gives::Only(SqlType::Numeric)
+        ResultType::Only(SqlType::Numeric)
     ),
     row!(
         Sign,
         &[("-", Op::Negate), ("+", Op::Same)],
         [NUMBER],
         Free,
-        Gives::First
+        ResultType::First
     ),
     row!(
         Sign,
@@ -273,15 +273,15 @@ pub static ROWS: [Row; 58] = [
         OVER,
         [TNUMBER, NUMBER],
         ByLiteral,
-        Gives::Only(SqlType::TFrac)
+        ResultType::Only(SqlType::TFrac)
     ),
-    row!(Sign, JOIN, [TEXT, TEXT], Free, Gives::Only(SqlType::Text)),
+    row!(Sign, JOIN, [TEXT, TEXT], Free, ResultType::Only(SqlType::Text)),
     row!(
         Sign,
         JOIN,
         [TEXT_KIND, TEXT_KIND],
         OneMoving,
-        Gives::Only(SqlType::TText)
+        ResultType::Only(SqlType::TText)
     ),
     row!(
         Sign,
@@ -381,83 +381,83 @@ pub static ROWS: [Row; 58] = [
         &[("attime", Op::AtTime), ("minustime", Op::MinusTime)],
         [TEMPORAL, TIME],
         Free,
-        Gives::First
+        ResultType::First
     ),
-    row!(Call, AT_VALUES, [TBOOL, BOOL], Free, Gives::First),
-    row!(Call, AT_VALUES, [TINT, INT], Free, Gives::First),
-    row!(Call, AT_VALUES, [TFRAC, NUMBER], Free, Gives::First),
-    row!(Call, AT_VALUES, [TTEXT, TEXT], Free, Gives::First),
-    row!(Call, AT_VALUES, [TPOINT, POINT], Free, Gives::First),
+    row!(Call, AT_VALUES, [TBOOL, BOOL], Free, ResultType::First),
+    row!(Call, AT_VALUES, [TINT, INT], Free, ResultType::First),
+    row!(Call, AT_VALUES, [TFRAC, NUMBER], Free, ResultType::First),
+    row!(Call, AT_VALUES, [TTEXT, TEXT], Free, ResultType::First),
+    row!(Call, AT_VALUES, [TPOINT, POINT], Free, ResultType::First),
     row!(Call, VALUE_AT, [TBOOL, MOMENT], Free, TO_BOOL),
     row!(
         Call,
         VALUE_AT,
         [TINT, MOMENT],
         Free,
-        Gives::Only(SqlType::Int)
+        ResultType::Only(SqlType::Int)
     ),
     row!(
         Call,
         VALUE_AT,
         [TFRAC, MOMENT],
         Free,
-        Gives::Only(SqlType::Numeric)
+        ResultType::Only(SqlType::Numeric)
     ),
     row!(
         Call,
         VALUE_AT,
         [TTEXT, MOMENT],
         Free,
-        Gives::Only(SqlType::Text)
+        ResultType::Only(SqlType::Text)
     ),
     row!(
         Call,
         VALUE_AT,
         [TPOINT, MOMENT],
         Free,
-        Gives::Only(SqlType::Point)
+        ResultType::Only(SqlType::Point)
     ),
     row!(
         Call,
         &[("gettime", Op::GetTime)],
         [TEMPORAL],
         Free,
-        Gives::Only(SqlType::SpanSet)
+        ResultType::Only(SqlType::SpanSet)
     ),
     row!(
         Call,
         &[("whentrue", Op::WhenTrue)],
         [TBOOL],
         Free,
-        Gives::Only(SqlType::SpanSet)
+        ResultType::Only(SqlType::SpanSet)
     ),
     row!(
         Call,
         &[("getx", Op::GetX), ("gety", Op::GetY)],
         [TPOINT],
         Free,
-        Gives::Only(SqlType::TFrac)
+        ResultType::Only(SqlType::TFrac)
     ),
     row!(
         Call,
         &[("stbox", Op::BoxOf)],
         [TPOINT],
         Free,
-        Gives::Only(SqlType::Box)
+        ResultType::Only(SqlType::Box)
     ),
     row!(
         Call,
         &[("expandspace", Op::ExpandSpace)],
         [BOXED, NUMBER],
         Free,
-        Gives::Only(SqlType::Box)
+        ResultType::Only(SqlType::Box)
     ),
     row!(
         Call,
         &[("atstbox", Op::AtStbox), ("minusstbox", Op::MinusStbox)],
         [TPOINT, BOX],
         Free,
-        Gives::First
+        ResultType::First
     ),
     row!(
         Call,
@@ -467,7 +467,7 @@ pub static ROWS: [Row; 58] = [
         ],
         [TPOINT, POLYGON],
         Free,
-        Gives::First
+        ResultType::First
     ),
     row!(
         Call,
@@ -488,13 +488,13 @@ pub static ROWS: [Row; 58] = [
         &[("nearestapproachsquared", Op::NearestApproachSquared)],
         [POINT_KIND, POINT_KIND],
         OneMoving,
-        Gives::Only(SqlType::Numeric)
+        ResultType::Only(SqlType::Numeric)
     ),
     row!(
         Call,
         &[("astext", Op::AsText)],
         [PRINTED],
         Free,
-        Gives::Only(SqlType::Text)
+        ResultType::Only(SqlType::Text)
     ),
 ];

@@ -4,7 +4,7 @@ use Rattle.mob_outside.specs.Told.{Contents}
 
 -- A source in memory: the bytes that are left, the numbers of the calls that fail, the most bytes that a call gives, and
 -- how many calls there were and how many of them failed.
-pub record Feed : Type 0 where
+pub record SourceState : Type 0 where
   pub left : List ℕ
   pub failing : List ℕ
   pub step : ℕ
@@ -12,11 +12,11 @@ pub record Feed : Type 0 where
   pub faults : ℕ
 
 -- a source before its first call
-abbrev pub new_feed : List ℕ → List ℕ → ℕ → Feed
-new_feed bytes failing step = record { left = bytes; failing = failing; step = step; calls = 0; faults = 0 }
+abbrev pub new_source : List ℕ → List ℕ → ℕ → SourceState
+new_source bytes failing step = record { left = bytes; failing = failing; step = step; calls = 0; faults = 0 }
 
 -- A sink in memory: the bytes that it took, and the rest as for a source.
-pub record Heap : Type 0 where
+pub record SinkState : Type 0 where
   pub held : List ℕ
   pub failing : List ℕ
   pub step : ℕ
@@ -24,12 +24,12 @@ pub record Heap : Type 0 where
   pub faults : ℕ
 
 -- a sink before its first call
-abbrev pub new_heap : List ℕ → ℕ → Heap
-new_heap failing step = record { held = []; failing = failing; step = step; calls = 0; faults = 0 }
+abbrev pub new_sink : List ℕ → ℕ → SinkState
+new_sink failing step = record { held = []; failing = failing; step = step; calls = 0; faults = 0 }
 
 -- Files in memory: the files, the names that were asked for, what the opened file has left, whether one is open, and the
 -- rest as for a source, with opens and takes counted together.
-pub record Drawer : Type 0 where
+pub record FilesState : Type 0 where
   pub files : Contents
   pub asked : List (List ℕ)
   pub left : List ℕ
@@ -40,8 +40,8 @@ pub record Drawer : Type 0 where
   pub faults : ℕ
 
 -- files before the first call
-abbrev pub new_drawer : Contents → List ℕ → ℕ → Drawer
-new_drawer files failing step = record {
+abbrev pub new_files : Contents → List ℕ → ℕ → FilesState
+new_files files failing step = record {
   files = files;
   asked = [];
   left = [];

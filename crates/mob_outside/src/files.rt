@@ -4,7 +4,7 @@ ghost use Rattle.std.specs.Result.{is_ok};
 ghost use Rattle.std.specs.Io.{ReadsAtMost};
 ghost use Rattle.std.specs.Io.KnownBytes.{ReadConsumes};
 ghost use Rattle.mob_outside.specs.Faults.{CountsFaults, HasCause, next_count};
-ghost use Rattle.mob_outside.specs.Memory.{Drawer, new_drawer};
+ghost use Rattle.mob_outside.specs.Memory.{FilesState, new_files};
 ghost use Rattle.mob_outside.specs.Told.{AsksFor, Contents, KeepsFiles, KeepsNames, MayAskFor, Opens, Folder, entry, file_of, left_of};
 
 use crate::Failed;
@@ -70,7 +70,7 @@ pub struct MemFiles {
 }
 
 impl Model for MemFiles {
-    ghost Value = { Drawer };
+    ghost Value = { FilesState };
 
     ghost view = { λ s. record {
       files = map entry s.files.items;
@@ -96,7 +96,7 @@ impl MemFiles {
         step: usize,
     ) -> MemFiles
         requires moves { 0 < step }
-        ensures starts { result ≡ new_drawer (map entry files.items) failing.items step }
+        ensures starts { result ≡ new_files (map entry files.items) failing.items step }
     {
         MemFiles {
             alloc,

@@ -2,7 +2,7 @@
 ghost use Rattle.std.specs.Prelude.{◌≡◌, ◌<◌, ◌≤◌, ◌++◌, List, ℕ, Option, Some, Contains, IsErr, IfOk, OnErr, take, length};
 ghost use Rattle.std.specs.Io.KnownBytes.{WriteAppends};
 ghost use Rattle.mob_outside.specs.Faults.{CountsFaults, HasCause, next_count};
-ghost use Rattle.mob_outside.specs.Memory.{Heap, new_heap};
+ghost use Rattle.mob_outside.specs.Memory.{SinkState, new_sink};
 ghost use Rattle.mob_outside.specs.Told.{Stream};
 
 use crate::Failed;
@@ -38,7 +38,7 @@ pub struct MemSink {
 }
 
 impl Model for MemSink {
-    ghost Value = { Heap };
+    ghost Value = { SinkState };
 
     ghost view = { λ s. record {
       held = s.bytes.items;
@@ -56,7 +56,7 @@ impl MemSink {
     /// `step` bytes.
     pub fn new(alloc: Global, failing: Vec<u64>, step: usize) -> MemSink
         requires moves { 0 < step }
-        ensures starts { result ≡ new_heap failing.items step }
+        ensures starts { result ≡ new_sink failing.items step }
     {
         MemSink {
             bytes: Vec::new(alloc),

@@ -3,7 +3,7 @@ ghost use Rattle.std.specs.Prelude.{◌≡◌, ◌↔◌, ◌<◌, ◌≤◌, �
 ghost use Rattle.std.specs.Io.{ReadsAtMost};
 ghost use Rattle.std.specs.Io.KnownBytes.{ReadConsumes};
 ghost use Rattle.mob_outside.specs.Faults.{CountsFaults, HasCause, next_count};
-ghost use Rattle.mob_outside.specs.Memory.{Feed, new_feed};
+ghost use Rattle.mob_outside.specs.Memory.{SourceState, new_source};
 ghost use Rattle.mob_outside.specs.Told.{Stream};
 
 use crate::Failed;
@@ -53,7 +53,7 @@ pub struct MemSource {
 }
 
 impl Model for MemSource {
-    ghost Value = { Feed };
+    ghost Value = { SourceState };
 
     ghost view = { λ s. record {
       left = drop s.at s.bytes.items;
@@ -71,7 +71,7 @@ impl MemSource {
     /// at most `step` bytes.
     pub fn new(bytes: Vec<u8>, failing: Vec<u64>, step: usize) -> MemSource
         requires moves { 0 < step }
-        ensures starts { result ≡ new_feed bytes.items failing.items step }
+        ensures starts { result ≡ new_source bytes.items failing.items step }
     {
         MemSource {
             bytes,

@@ -2,14 +2,14 @@
 use Rattle.std.specs.Prelude.{◌≡◌, ℕ, zero, suc, List, [], ◌∷◌, codes, Some, None, refl}
 use Rattle.mob_grammar.specs.declared.mark.Mark.{Mark}
 use Rattle.mob_grammar.specs.declared.mark.Mark.TheVariants.{Select, Plus, Open, Close, Comma, Semicolon, Cast, Dot}
-use Rattle.mob_grammar.specs.Symbols.{Tok, sign, named, numeral}
+use Rattle.mob_grammar.specs.Symbols.{Tok, sign, identifier, numeral}
 use Rattle.mob_parse.specs.Heavy.{first_heavy}
 
 abbrev one : Tok
 one = numeral (codes "1") 0
 
 abbrev f : Tok
-f = named (codes "f") 0
+f = identifier (codes "f") 0
 
 abbrev mark : Mark → Tok
 mark m = sign m 0

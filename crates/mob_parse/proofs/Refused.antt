@@ -17,7 +17,7 @@ use Rattle.mob_grammar.proofs.Outcomes.{Longer, no_longer, one_wrong}
 use Rattle.mob_grammar.proofs.Steps.{told}
 use Rattle.mob_parse.specs.Tokens.{lexed}
 use Rattle.mob_parse.specs.Heavy.{is_heavy, standing_after, heavy_from}
-use Rattle.mob_parse.specs.Refusals.{HasTokens, IsTreeOf, IsLightText, semicolons, place_of, IsSyntax, IsTooComplex, BeginsScript, IsStatementBehind, Cause, IsRefused, IsSameRefusal, HasOneRefusal, TreeIsRefusedForMemoryAlone}
+use Rattle.mob_parse.specs.Refusals.{HasTokens, IsTreeOf, IsLightText, semicolons, place_of, IsSyntax, IsTooComplex, BeginsScript, IsStatementBehind, Cause, ParsesToRefusal, IsSameRefusal, HasOneParseRefusal, TreeIsRefusedForMemoryAlone}
 use Rattle.mob_parse.proofs.Scripts.{Scripts, no_script}
 
 -- a text has its tokens once
@@ -40,14 +40,14 @@ pub only_along : (r : Result Script Refusal) (a b : List ℕ) → a ≡ b → If
 only_along (Ok s) a b e h = λ x d. h x (subst (λ v. IsTreeOf v x) (sym e) d)
 only_along (Err f) a b e h = tt
 
-pub complete_by : (r : Result Script Refusal) (bytes : List ℕ) → IfOk r (λ s. (x : List StatementParts) → IsTreeOf bytes x → x ≡ script_of s) → IfErr r (IsRefused bytes)
+pub complete_by : (r : Result Script Refusal) (bytes : List ℕ) → IfOk r (λ s. (x : List StatementParts) → IsTreeOf bytes x → x ≡ script_of s) → IfErr r (ParsesToRefusal bytes)
     → (x : List StatementParts) → IsTreeOf bytes x → IsLightText bytes → MatchResult r (λ s. script_of s ≡ x) (λ e. e.kind ≡ NoMemory)
 complete_by (Ok s) bytes only refused x d light = sym (only x d)
 complete_by (Err e) bytes only refused x d light = no_tree e.kind bytes e refused x d light
 
-pub refused_along : (r : Result Script Refusal) (a b : List ℕ) → a ≡ b → IfErr r (IsRefused a) → IfErr r (IsRefused b)
+pub refused_along : (r : Result Script Refusal) (a b : List ℕ) → a ≡ b → IfErr r (ParsesToRefusal a) → IfErr r (ParsesToRefusal b)
 refused_along (Ok s) a b e h = tt
-refused_along (Err f) a b e h = subst (λ v. IsRefused v f) e h
+refused_along (Err f) a b e h = subst (λ v. ParsesToRefusal v f) e h
 
 pub tree_is_refused_for_memory_alone : TreeIsRefusedForMemoryAlone
 tree_is_refused_for_memory_alone bytes x e d light h = no_tree e.kind bytes e h x d light
@@ -139,12 +139,12 @@ agree TooComplex TooComplex bytes e f a b h d = inr (inr (one_complex d.1.0 (len
 agree TooComplex _ bytes e f a b h d = absurd d
 agree _ k bytes e f a b h d = absurd h
 
-pub one_refusal : HasOneRefusal
+pub one_refusal : HasOneParseRefusal
 one_refusal bytes e f h d = agree e.kind f.kind bytes e f refl refl h d
 
 -- what is refused by the definition is refused so
-pub refused_by : (r : Result Script Refusal) (bytes : List ℕ) → IfOk r (λ s. IsTreeOf bytes (script_of s)) → IfOk r (λ _. IsLightText bytes) → IfErr r (IsRefused bytes)
-    → (e : Refusal) → IsRefused bytes e → MatchResult r (λ _. e.kind ≡ NoMemory) (λ f. IsSameRefusal e f)
+pub refused_by : (r : Result Script Refusal) (bytes : List ℕ) → IfOk r (λ s. IsTreeOf bytes (script_of s)) → IfOk r (λ _. IsLightText bytes) → IfErr r (ParsesToRefusal bytes)
+    → (e : Refusal) → ParsesToRefusal bytes e → MatchResult r (λ _. e.kind ≡ NoMemory) (λ f. IsSameRefusal e f)
 refused_by (Ok s) bytes tree light refused e h = no_tree e.kind bytes e h (script_of s) tree light
 refused_by (Err f) bytes tree light refused e h = one_refusal bytes e f h refused
 

@@ -10,7 +10,7 @@ use Rattle.mob_chars.proofs.Longest.{told, both}
 use Rattle.mob_grammar.proofs.Marks.{same_mark}
 use Rattle.mob_grammar.specs.declared.mark.Mark.{Mark}
 use Rattle.mob_grammar.specs.declared.mark.Mark.TheVariants.{Select, Distinct, From, Where, Order, By, Asc, Desc, Limit, Create, Table, Index, On, Using, Gist, Insert, Into, Values, Copy, With, Format, Csv, Header, Delimiter, Explain, And, Or, Not, Is, Null, True, False, As, Left, Join, Delete, Group, LiftedEqual, LiftedNotEqual, LiftedLess, LiftedLessEqual, LiftedGreater, LiftedGreaterEqual, EverEqual, EverNotEqual, EverLess, EverLessEqual, EverGreater, EverGreaterEqual, AlwaysEqual, AlwaysNotEqual, AlwaysLess, AlwaysLessEqual, AlwaysGreater, AlwaysGreaterEqual, Equal, NotEqual, Less, LessEqual, Greater, GreaterEqual, Distance, Approach, Plus, Minus, Times, Divide, Ampersand, Bar, Tilde, Concat, Overlap, Cast, Open, Close, Comma, Semicolon, Dot}
-use Rattle.mob_grammar.specs.Marks.{text_of, is, is_word, words}
+use Rattle.mob_grammar.specs.Marks.{mark_text, is, is_reserved_word, reserved_words}
 use Rattle.mob_grammar.specs.Symbols.{Symbol, fixed, name, number, quoted}
 use Rattle.mob_parse.specs.Lexemes.{lower}
 use Rattle.mob_parse.specs.Tokens.{word_mark, word_or_name, word_symbol, sign_mark}
@@ -18,7 +18,7 @@ use Rattle.mob_parse.specs.Words.{SaysWord, WordsAreRead, NamesAreRead, SignsAre
 
 -- what a text is read as that is a word, or a sign
 abbrev symbol_read : Mark → Symbol
-symbol_read m = cond (is_word m) (word_symbol (text_of m)) (fixed (sign_mark (text_of m)))
+symbol_read m = cond (is_reserved_word m) (word_symbol (mark_text m)) (fixed (sign_mark (mark_text m)))
 
 text_read : (m : Mark) → symbol_read m ≡ fixed m
 text_read Select = refl
@@ -107,12 +107,12 @@ mark_or m (name n) = m
 mark_or m (number n) = m
 mark_or m (quoted t) = m
 
-word_read : (m : Mark) → is_word m ≡ true → word_symbol (text_of m) ≡ fixed m
-word_read m w = ap (λ b. cond b (word_symbol (text_of m)) (fixed (sign_mark (text_of m)))) (sym w) ∙ text_read m
+word_read : (m : Mark) → is_reserved_word m ≡ true → word_symbol (mark_text m) ≡ fixed m
+word_read m w = ap (λ b. cond b (word_symbol (mark_text m)) (fixed (sign_mark (mark_text m)))) (sym w) ∙ text_read m
 
 pub signs_are_read : SignsAreRead
 unfolding mark_or
-signs_are_read m w = ap (mark_or m) (ap (λ b. cond b (word_symbol (text_of m)) (fixed (sign_mark (text_of m)))) (sym w) ∙ text_read m)
+signs_are_read m w = ap (mark_or m) (ap (λ b. cond b (word_symbol (mark_text m)) (fixed (sign_mark (mark_text m)))) (sym w) ∙ text_read m)
 
 -- the mark that a word is read as
 marked : (s : List ℕ) (m : Mark) (o : Option Mark) → word_or_name s o ≡ fixed m → o ≡ Some m
@@ -123,11 +123,11 @@ marked s m (Some k) e = ap (λ x. Some (mark_or m x)) e
 -- the letters of a text decide, in either case
 same_letters : (ms : List Mark) (s u : List ℕ) → str_to_ascii_lowercase s ≡ str_to_ascii_lowercase u → word_mark ms s ≡ word_mark ms u
 same_letters [] s u e = refl
-same_letters (k ∷ ms) s u e = ap₂ (λ b o. cond b (Some k) o) (ap (bytes_eq (str_to_ascii_lowercase (text_of k))) e) (same_letters ms s u e)
+same_letters (k ∷ ms) s u e = ap₂ (λ b o. cond b (Some k) o) (ap (bytes_eq (str_to_ascii_lowercase (mark_text k))) e) (same_letters ms s u e)
 
-found : (ms : List Mark) (s : List ℕ) (m : Mark) → list_all is_word ms ≡ true → word_mark ms s ≡ Some m → SaysWord m s
+found : (ms : List Mark) (s : List ℕ) (m : Mark) → list_all is_reserved_word ms ≡ true → word_mark ms s ≡ Some m → SaysWord m s
 found [] s m w e = cc
-found (k ∷ ms) s m w e = let here_too = both (is_word k) (list_all is_word ms) w in elim (told (str_eq_ignore_ascii_case (text_of k) s)) [
+found (k ∷ ms) s m w e = let here_too = both (is_reserved_word k) (list_all is_reserved_word ms) w in elim (told (str_eq_ignore_ascii_case (mark_text k) s)) [
   | inl yes_ ↦
       let same : Some k ≡ Some m = sym (ap (λ b. cond b (Some k) (word_mark ms s)) yes_) ∙ e in
       let is_m : k ≡ m = cc in
@@ -137,18 +137,18 @@ found (k ∷ ms) s m w e = let here_too = both (is_word k) (list_all is_word ms)
 
 says : (s : List ℕ) (m : Mark) → SaysWord m s → word_symbol s ≡ fixed m
 says s m (w, e) =
-    let letters : str_to_ascii_lowercase (text_of m) ≡ str_to_ascii_lowercase s = (bytes_eq-Decides (str_to_ascii_lowercase (text_of m)) (str_to_ascii_lowercase s)).0 e in
-    ap (word_or_name s) (same_letters words s (text_of m) (sym letters) ∙ marked (text_of m) m (word_mark words (text_of m)) (word_read m w))
+    let letters : str_to_ascii_lowercase (mark_text m) ≡ str_to_ascii_lowercase s = (bytes_eq-Decides (str_to_ascii_lowercase (mark_text m)) (str_to_ascii_lowercase s)).0 e in
+    ap (word_or_name s) (same_letters reserved_words s (mark_text m) (sym letters) ∙ marked (mark_text m) m (word_mark reserved_words (mark_text m)) (word_read m w))
 
 pub words_are_read : WordsAreRead
-words_are_read s m = (λ e. found words s m refl (marked s m (word_mark words s) e), says s m)
+words_are_read s m = (λ e. found reserved_words s m refl (marked s m (word_mark reserved_words s) e), says s m)
 
-other_word : (s : List ℕ) (o : Option Mark) → word_mark words s ≡ o → ((m : Mark) → SaysWord m s → ⊥) → word_or_name s o ≡ name (lower s)
+other_word : (s : List ℕ) (o : Option Mark) → word_mark reserved_words s ≡ o → ((m : Mark) → SaysWord m s → ⊥) → word_or_name s o ≡ name (lower s)
 other_word s None e none = refl
-other_word s (Some m) e none = absurd (none m (found words s m refl e))
+other_word s (Some m) e none = absurd (none m (found reserved_words s m refl e))
 
 pub names_are_read : NamesAreRead
-names_are_read s none = other_word s (word_mark words s) refl none
+names_are_read s none = other_word s (word_mark reserved_words s) refl none
 
 either : (a b : Bool) → (a || b) ≡ true → (a ≡ true) ⊎ (b ≡ true)
 either true b h = inl refl
@@ -156,12 +156,12 @@ either false b h = inr h
 
 -- whether a sign's text is that of its mark, or that of `!=`
 reads_back : List ℕ → Bool
-reads_back s = bytes_eq (text_of (sign_mark s)) s || (bytes_eq s (codes "!=") && is (sign_mark s) NotEqual)
+reads_back s = bytes_eq (mark_text (sign_mark s)) s || (bytes_eq s (codes "!=") && is (sign_mark s) NotEqual)
 
-is_back : (s : List ℕ) → reads_back s ≡ true → (text_of (sign_mark s) ≡ s) ⊎ ((s ≡ codes "!=") × (sign_mark s ≡ NotEqual))
+is_back : (s : List ℕ) → reads_back s ≡ true → (mark_text (sign_mark s) ≡ s) ⊎ ((s ≡ codes "!=") × (sign_mark s ≡ NotEqual))
 unfolding reads_back
-is_back s h = elim (either (bytes_eq (text_of (sign_mark s)) s) (bytes_eq s (codes "!=") && is (sign_mark s) NotEqual) h) [
-  | inl own ↦ inl ((bytes_eq-Decides (text_of (sign_mark s)) s).0 own)
+is_back s h = elim (either (bytes_eq (mark_text (sign_mark s)) s) (bytes_eq s (codes "!=") && is (sign_mark s) NotEqual) h) [
+  | inl own ↦ inl ((bytes_eq-Decides (mark_text (sign_mark s)) s).0 own)
   | inr other ↦ let parts = both (bytes_eq s (codes "!=")) (is (sign_mark s) NotEqual) other in inr ((bytes_eq-Decides s (codes "!=")).0 parts.0, same_mark (sign_mark s) NotEqual parts.1)
 ]
 

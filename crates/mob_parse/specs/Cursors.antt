@@ -11,11 +11,11 @@ abbrev pub left : Cursor → List Tok
 left c = toks c.lexemes.now
 
 -- A fault of syntax leaves the cursor at the token that does not fit.
-abbrev pub Fails : {Y : Type 0} → Fault → List Tok → Answer Y → Type 0
-Fails Syntax left read = read ≡ Err left
-Fails NoMemory left read = Unit {0}
+abbrev pub StopsReading : {Y : Type 0} → Fault → List Tok → Answer Y → Type 0
+StopsReading Syntax left read = read ≡ Err left
+StopsReading NoMemory left read = Unit {0}
 
 -- what a function returned, with what it left, is what reading gives, unless memory ran out
-abbrev pub Gives : {X Y : Type 0} → (X → Y) → Result X Fault → List Tok → Answer Y → Type 0
-Gives view (Ok x) left read = read ≡ Ok (view x, left)
-Gives view (Err e) left read = Fails e left read
+abbrev pub FollowsReading : {X Y : Type 0} → (X → Y) → Result X Fault → List Tok → Answer Y → Type 0
+FollowsReading view (Ok x) left read = read ≡ Ok (view x, left)
+FollowsReading view (Err e) left read = StopsReading e left read

@@ -87,17 +87,17 @@ Cause NoMemory bytes e = (e.place ≡ 0) × (e.statement ≡ 0)
 Cause _ bytes e = ⊥
 
 -- the first refusal of a script, by its kind
-abbrev pub IsRefused : List ℕ → Refusal → Type 0
-IsRefused bytes e = Cause e.kind bytes e
+abbrev pub ParsesToRefusal : List ℕ → Refusal → Type 0
+ParsesToRefusal bytes e = Cause e.kind bytes e
 
 -- one refusal, or want of memory, which is free
 abbrev pub IsSameRefusal : Refusal → Refusal → Type 0
 IsSameRefusal e f = (e.kind ≡ NoMemory) ⊎ ((f.kind ≡ NoMemory) ⊎ (e ≡ f))
 
 -- a script has one first refusal
-abbrev pub HasOneRefusal : Type 0
-HasOneRefusal = (bytes : List ℕ) (e f : Refusal) → IsRefused bytes e → IsRefused bytes f → IsSameRefusal e f
+abbrev pub HasOneParseRefusal : Type 0
+HasOneParseRefusal = (bytes : List ℕ) (e f : Refusal) → ParsesToRefusal bytes e → ParsesToRefusal bytes f → IsSameRefusal e f
 
 -- a script that has a tree, and no expression with a 257th counted token, is refused for want of memory alone
 abbrev pub TreeIsRefusedForMemoryAlone : Type 0
-TreeIsRefusedForMemoryAlone = (bytes : List ℕ) (x : List StatementParts) (e : Refusal) → IsTreeOf bytes x → IsLightText bytes → IsRefused bytes e → e.kind ≡ NoMemory
+TreeIsRefusedForMemoryAlone = (bytes : List ℕ) (x : List StatementParts) (e : Refusal) → IsTreeOf bytes x → IsLightText bytes → ParsesToRefusal bytes e → e.kind ≡ NoMemory

@@ -6,23 +6,23 @@ use Rattle.mob_chars.specs.declared.token.TokenKind.{TokenKind}
 use Rattle.mob_chars.specs.declared.token.TokenKind.TheVariants.{Word, Number, Str, Sign, End}
 use Rattle.mob_grammar.specs.declared.mark.Mark.{Mark}
 use Rattle.mob_grammar.specs.declared.mark.Mark.TheVariants.{NotEqual, Dot}
-use Rattle.mob_grammar.specs.Marks.{text_of, words, signs}
+use Rattle.mob_grammar.specs.Marks.{mark_text, reserved_words, sign_marks}
 use Rattle.mob_grammar.specs.Symbols.{Symbol, fixed, name, number, quoted, Tok}
 use Rattle.mob_parse.specs.Lexemes.{lower, unquoted}
 
 -- the first of the marks that has this text, in letters of either case
 abbrev pub word_mark : List Mark → List ℕ → Option Mark
 word_mark [] s = None
-word_mark (m ∷ ms) s = cond (str_eq_ignore_ascii_case (text_of m) s) (Some m) (word_mark ms s)
+word_mark (m ∷ ms) s = cond (str_eq_ignore_ascii_case (mark_text m) s) (Some m) (word_mark ms s)
 
 -- the first of the marks that has this text; the sign that is none of the others is the point
 abbrev pub other_sign : List Mark → List ℕ → Mark
 other_sign [] s = Dot
-other_sign (m ∷ ms) s = cond (bytes_eq (text_of m) s) m (other_sign ms s)
+other_sign (m ∷ ms) s = cond (bytes_eq (mark_text m) s) m (other_sign ms s)
 
 -- the mark of a sign: `!=` is `<>`
 abbrev pub sign_mark : List ℕ → Mark
-sign_mark s = cond (bytes_eq s (codes "!=")) NotEqual (other_sign signs s)
+sign_mark s = cond (bytes_eq s (codes "!=")) NotEqual (other_sign sign_marks s)
 
 -- a word is reserved, or a name in lower case
 abbrev pub word_or_name : List ℕ → Option Mark → Symbol
@@ -30,7 +30,7 @@ word_or_name s None = name (lower s)
 word_or_name s (Some m) = fixed m
 
 abbrev pub word_symbol : List ℕ → Symbol
-word_symbol s = word_or_name s (word_mark words s)
+word_symbol s = word_or_name s (word_mark reserved_words s)
 
 -- the bytes from one place to another
 abbrev pub piece : List ℕ → ℕ → ℕ → List ℕ

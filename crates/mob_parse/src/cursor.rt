@@ -1,6 +1,6 @@
 //! Where the parser stands: the tokens that are still to be read.
 ghost use Rattle.std.specs.Prelude.{◌≡◌, ◌<◌, [], ◌∷◌, true, false, cond, MatchOption, MatchResult};
-ghost use Rattle.mob_grammar.specs.Symbols.{sign, binding, begins, starts, goes_on, rest, is_name, is_string, numeral, string, named};
+ghost use Rattle.mob_grammar.specs.Symbols.{sign, binding, begins, starts, goes_on, rest, is_name, is_string, numeral, string, identifier};
 ghost use Rattle.mob_grammar.specs.Reading.{is_number};
 ghost use Rattle.mob_parse.specs.Lexemes.{lower, unquoted};
 ghost use Rattle.mob_parse.specs.Cursors.{left};
@@ -112,7 +112,7 @@ impl<'a> Cursor<'a> {
     pub fn take_name(&mut self) -> Option<(&'a str, u32)>
         ensures passes { MatchOption result
             ((begins is_name (left self.old) ≡ false) × (left self.new ≡ left self.old))
-            (λ x. left self.old ≡ named (lower x.0.now) x.1 ∷ left self.new) }
+            (λ x. left self.old ≡ identifier (lower x.0.now) x.1 ∷ left self.new) }
     {
         match self.lexemes {
             [first, rest @ ..] => match first.symbol {

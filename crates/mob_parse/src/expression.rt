@@ -4,8 +4,8 @@ ghost use Rattle.mob_ast.specs.Trees.{tree_of};
 ghost use Rattle.mob_grammar.specs.Reading.{chain, expression_at, cast_rank, signed_rank, complement_rank, comparison_rank, nullness_rank, negation_rank, primary, named_at, opened, args, listed, type_at, name_at, inner_at, null_at, literal_at, column_at};
 ghost use Rattle.mob_grammar.specs.Symbols.{begins, starts, is_name, is_string};
 ghost use Rattle.mob_parse.specs.Columns.{column_alone};
-ghost use Rattle.mob_parse.specs.Cursors.{left, Gives};
-ghost use Rattle.mob_parse.specs.Levels.{level_number, operand_at};
+ghost use Rattle.mob_parse.specs.Cursors.{left, FollowsReading};
+ghost use Rattle.mob_parse.specs.Levels.{level_number, level_operand};
 
 use crate::cursor::{Cursor, Fault};
 use crate::lexeme::begins_literal;
@@ -50,7 +50,7 @@ impl<'a> Cursor<'a> {
     /// A name.
     #[tactic(auto, unfolding(mob_grammar::specs::Reading::name_at))]
     pub fn name(&mut self) -> Result<Word, Fault>
-        ensures reads { Gives (λ w. w) result (left self.new) (name_at (left self.old)) }
+        ensures reads { FollowsReading (λ w. w) result (left self.new) (name_at (left self.old)) }
         ensures shorter { OnOk result (length (left self.new) < length (left self.old)) }
     {
         match self.take_name() {
@@ -62,7 +62,7 @@ impl<'a> Cursor<'a> {
     // The word in brackets behind the name of a type, behind its bracket.
     #[tactic(auto, unfolding(mob_grammar::specs::Reading::inner_at, mob_grammar::specs::Reading::closed))]
     fn inner_type(&mut self, name: Word) -> Result<TypeWord, Fault>
-        ensures reads { Gives (λ t. t) result (left self.new) (inner_at name (left self.old)) }
+        ensures reads { FollowsReading (λ t. t) result (left self.new) (inner_at name (left self.old)) }
         ensures shorter { OnOk result (length (left self.new) < length (left self.old)) }
     {
         let inner = self.name()?;
@@ -76,7 +76,7 @@ impl<'a> Cursor<'a> {
     /// A type.
     #[tactic(auto, unfolding(mob_grammar::specs::Reading::type_at, mob_grammar::specs::Reading::if_mark))]
     pub fn type_name(&mut self) -> Result<TypeWord, Fault>
-        ensures reads { Gives (λ t. t) result (left self.new) (type_at (left self.old)) }
+        ensures reads { FollowsReading (λ t. t) result (left self.new) (type_at (left self.old)) }
         ensures shorter { OnOk result (length (left self.new) < length (left self.old)) }
     {
         let name = self.name()?;
@@ -91,7 +91,7 @@ impl<'a> Cursor<'a> {
     #[cycle(expression)]
     pub fn expression(&mut self) -> Result<Expr, Fault>
         ensures shorter { OnOk result (length (left self.new) < length (left self.old)) }
-        ensures reads { Gives tree_of result (left self.new) (expression_at (left self.old)) }
+        ensures reads { FollowsReading tree_of result (left self.new) (expression_at (left self.old)) }
     {
         self.chain(Level::Disjunction)
     }
@@ -100,7 +100,7 @@ impl<'a> Cursor<'a> {
     #[cycle(expression)]
     #[tactic(auto, using(mob_grammar::proofs::Steps::chain_goes_on, mob_grammar::proofs::Steps::chain_stops), unfolding(mob_grammar::specs::Reading::chain))]
     fn chain(&mut self, level: Level) -> Result<Expr, Fault>
-        ensures reads { Gives tree_of result (left self.new) (chain (level_number level) (operand_at level) (left self.old)) }
+        ensures reads { FollowsReading tree_of result (left self.new) (chain (level_number level) (level_operand level) (left self.old)) }
         ensures shorter { OnOk result (length (left self.new) < length (left self.old)) }
     {
         let mut value = self.operand(level)?;
@@ -115,7 +115,7 @@ impl<'a> Cursor<'a> {
     // What stands between the operators of a level.
     #[cycle(expression)]
     fn operand(&mut self, level: Level) -> Result<Expr, Fault>
-        ensures reads { Gives tree_of result (left self.new) (operand_at level (left self.old)) }
+        ensures reads { FollowsReading tree_of result (left self.new) (level_operand level (left self.old)) }
         ensures shorter { OnOk result (length (left self.new) < length (left self.old)) }
     {
         match level {
@@ -130,7 +130,7 @@ impl<'a> Cursor<'a> {
     #[cycle(expression)]
     #[tactic(auto, using(mob_grammar::proofs::Steps::prefix_goes_on, mob_grammar::proofs::Steps::prefix_stops))]
     fn negation(&mut self) -> Result<Expr, Fault>
-        ensures reads { Gives tree_of result (left self.new) (negation_rank expression_at (left self.old)) }
+        ensures reads { FollowsReading tree_of result (left self.new) (negation_rank expression_at (left self.old)) }
         ensures shorter { OnOk result (length (left self.new) < length (left self.old)) }
     {
         if let Some(place) = self.take(Mark::Not) {
@@ -145,7 +145,7 @@ impl<'a> Cursor<'a> {
     #[cycle(expression)]
     #[tactic(auto, using(mob_grammar::proofs::Steps::postfix_goes_on, mob_grammar::proofs::Steps::postfix_stops), unfolding(mob_grammar::specs::Reading::postfix))]
     fn nullness(&mut self) -> Result<Expr, Fault>
-        ensures reads { Gives tree_of result (left self.new) (nullness_rank expression_at (left self.old)) }
+        ensures reads { FollowsReading tree_of result (left self.new) (nullness_rank expression_at (left self.old)) }
         ensures shorter { OnOk result (length (left self.new) < length (left self.old)) }
     {
         let mut value = self.comparison()?;
@@ -159,7 +159,7 @@ impl<'a> Cursor<'a> {
     #[cycle(expression)]
     #[tactic(auto, unfolding(mob_grammar::specs::Reading::comparison, mob_grammar::specs::Reading::compared))]
     fn comparison(&mut self) -> Result<Expr, Fault>
-        ensures reads { Gives tree_of result (left self.new) (comparison_rank expression_at (left self.old)) }
+        ensures reads { FollowsReading tree_of result (left self.new) (comparison_rank expression_at (left self.old)) }
         ensures shorter { OnOk result (length (left self.new) < length (left self.old)) }
     {
         let value = self.chain(Level::Other)?;
@@ -175,7 +175,7 @@ impl<'a> Cursor<'a> {
     #[cycle(expression)]
     #[tactic(auto, using(mob_grammar::proofs::Steps::prefix_goes_on, mob_grammar::proofs::Steps::prefix_stops))]
     fn complement(&mut self) -> Result<Expr, Fault>
-        ensures reads { Gives tree_of result (left self.new) (complement_rank expression_at (left self.old)) }
+        ensures reads { FollowsReading tree_of result (left self.new) (complement_rank expression_at (left self.old)) }
         ensures shorter { OnOk result (length (left self.new) < length (left self.old)) }
     {
         if let Some(place) = self.take(Mark::Tilde) {
@@ -190,7 +190,7 @@ impl<'a> Cursor<'a> {
     #[cycle(expression)]
     #[tactic(auto, using(mob_grammar::proofs::Steps::prefix_goes_on, mob_grammar::proofs::Steps::prefix_stops))]
     fn signed(&mut self) -> Result<Expr, Fault>
-        ensures reads { Gives tree_of result (left self.new) (signed_rank expression_at (left self.old)) }
+        ensures reads { FollowsReading tree_of result (left self.new) (signed_rank expression_at (left self.old)) }
         ensures shorter { OnOk result (length (left self.new) < length (left self.old)) }
     {
         if let Some((mark, place)) = self.take_operator(8) {
@@ -205,7 +205,7 @@ impl<'a> Cursor<'a> {
     #[cycle(expression)]
     #[tactic(auto, using(mob_grammar::proofs::Steps::postfix_goes_on, mob_grammar::proofs::Steps::postfix_stops), unfolding(mob_grammar::specs::Reading::postfix, mob_grammar::specs::Reading::cast_at))]
     fn cast(&mut self) -> Result<Expr, Fault>
-        ensures reads { Gives tree_of result (left self.new) (cast_rank expression_at (left self.old)) }
+        ensures reads { FollowsReading tree_of result (left self.new) (cast_rank expression_at (left self.old)) }
         ensures shorter { OnOk result (length (left self.new) < length (left self.old)) }
     {
         let mut value = self.primary()?;
@@ -220,7 +220,7 @@ impl<'a> Cursor<'a> {
     #[cycle(expression)]
     #[tactic(auto, unfolding(mob_grammar::specs::Reading::primary, mob_grammar::specs::Reading::mark_primary, mob_grammar::specs::Reading::closed))]
     fn primary(&mut self) -> Result<Expr, Fault>
-        ensures reads { Gives tree_of result (left self.new) (primary expression_at (left self.old)) }
+        ensures reads { FollowsReading tree_of result (left self.new) (primary expression_at (left self.old)) }
         ensures shorter { OnOk result (length (left self.new) < length (left self.old)) }
     {
         if let Some((text, place)) = self.take_name() {
@@ -239,7 +239,7 @@ impl<'a> Cursor<'a> {
     #[cycle(expression)]
     #[tactic(auto, unfolding(mob_grammar::specs::Reading::named_at, mob_grammar::specs::Reading::if_mark))]
     fn named(&mut self, name: Word) -> Result<Expr, Fault>
-        ensures reads { Gives tree_of result (left self.new) (named_at expression_at name (left self.old)) }
+        ensures reads { FollowsReading tree_of result (left self.new) (named_at expression_at name (left self.old)) }
         ensures shorter { OnOk result (length (left self.new) ≤ length (left self.old)) }
     {
         if self.next_is_string() {
@@ -257,7 +257,7 @@ impl<'a> Cursor<'a> {
     #[cycle(expression)]
     #[tactic(auto, unfolding(mob_grammar::specs::Reading::opened))]
     fn opened(&mut self, name: Word) -> Result<Expr, Fault>
-        ensures reads { Gives tree_of result (left self.new) (opened expression_at name (left self.old)) }
+        ensures reads { FollowsReading tree_of result (left self.new) (opened expression_at name (left self.old)) }
         ensures shorter { OnOk result (length (left self.new) ≤ length (left self.old)) }
     {
         if begins_literal(self.lexemes) {
@@ -278,7 +278,7 @@ impl<'a> Cursor<'a> {
     #[cycle(expression)]
     #[tactic(auto, unfolding(mob_grammar::specs::Reading::args, mob_grammar::specs::Reading::closed))]
     fn arguments(&mut self) -> Result<Vec<Expr>, Fault>
-        ensures reads { Gives (λ v. map tree_of v.items) result (left self.new) (args expression_at (left self.old)) }
+        ensures reads { FollowsReading (λ v. map tree_of v.items) result (left self.new) (args expression_at (left self.old)) }
         ensures shorter { OnOk result (length (left self.new) ≤ length (left self.old)) }
     {
         if self.skip(Mark::Close) {
@@ -293,7 +293,7 @@ impl<'a> Cursor<'a> {
     #[cycle(expression)]
     #[tactic(auto, using(mob_grammar::proofs::Steps::listed_goes_on, mob_grammar::proofs::Steps::listed_stops), unfolding(mob_grammar::specs::Reading::listed))]
     fn expressions(&mut self) -> Result<Vec<Expr>, Fault>
-        ensures reads { Gives (λ v. map tree_of v.items) result (left self.new) (listed Mark.Comma expression_at (left self.old)) }
+        ensures reads { FollowsReading (λ v. map tree_of v.items) result (left self.new) (listed Mark.Comma expression_at (left self.old)) }
         ensures shorter { OnOk result (length (left self.new) < length (left self.old)) }
     {
         let mut found = Vec::new(self.alloc);
@@ -311,7 +311,7 @@ impl<'a> Cursor<'a> {
     // NULL or NOT NULL behind IS.
     #[tactic(auto, unfolding(mob_grammar::specs::Reading::null_at, mob_grammar::specs::Reading::if_mark, mob_grammar::specs::Reading::closed))]
     fn null_test(&mut self) -> Result<Node, Fault>
-        ensures reads { Gives (λ n. n) result (left self.new) (null_at (left self.old)) }
+        ensures reads { FollowsReading (λ n. n) result (left self.new) (null_at (left self.old)) }
         ensures shorter { OnOk result (length (left self.new) < length (left self.old)) }
     {
         if self.skip(Mark::Not) {
@@ -336,7 +336,7 @@ impl<'a> Cursor<'a> {
     // A string of that type.
     #[tactic(auto, unfolding(mob_grammar::specs::Reading::literal_at, mob_grammar::specs::Reading::string_at))]
     pub fn literal(&mut self, ty: TypeWord) -> Result<Expr, Fault>
-        ensures reads { Gives tree_of result (left self.new) (literal_at ty (left self.old)) }
+        ensures reads { FollowsReading tree_of result (left self.new) (literal_at ty (left self.old)) }
         ensures shorter { OnOk result (length (left self.new) < length (left self.old)) }
     {
         match self.take_string() {
@@ -351,7 +351,7 @@ impl<'a> Cursor<'a> {
     // A column of that table, behind the point.
     #[tactic(auto, unfolding(mob_grammar::specs::Reading::column_at))]
     fn table_column(&mut self, table: Word) -> Result<Expr, Fault>
-        ensures reads { Gives tree_of result (left self.new) (column_at table (left self.old)) }
+        ensures reads { FollowsReading tree_of result (left self.new) (column_at table (left self.old)) }
         ensures shorter { OnOk result (length (left self.new) < length (left self.old)) }
     {
         let place = table.place;
@@ -365,7 +365,7 @@ impl<'a> Cursor<'a> {
 
     // A column alone.
     fn column(&mut self, column: Word) -> Result<Expr, Fault>
-        ensures reads { Gives tree_of result (left self.new) (column_alone column (left self.old)) }
+        ensures reads { FollowsReading tree_of result (left self.new) (column_alone column (left self.old)) }
         ensures same { left self.new ≡ left self.old }
     {
         let place = column.place;
@@ -381,7 +381,7 @@ impl<'a> Cursor<'a> {
     fn constant(&mut self) -> Result<Expr, Fault>
         requires no_name { begins is_name (left self.old) ≡ false }
         requires no_bracket { starts Mark.Open (left self.old) ≡ false }
-        ensures reads { Gives tree_of result (left self.new) (primary expression_at (left self.old)) }
+        ensures reads { FollowsReading tree_of result (left self.new) (primary expression_at (left self.old)) }
         ensures shorter { OnOk result (length (left self.new) < length (left self.old)) }
     {
         let alloc = self.alloc;

@@ -28,7 +28,7 @@ fn mark_counts(mark: Mark) -> bool
     match mark {
         Mark::Or | Mark::And | Mark::Not | Mark::Is => true,
         Mark::Comma | Mark::Dot | Mark::Close | Mark::Semicolon => false,
-        _ => !mark.is_word(),
+        _ => !mark.is_reserved_word(),
     }
 }
 
@@ -40,7 +40,7 @@ fn mark_ends(mark: Mark) -> bool
         Mark::Or | Mark::And | Mark::Not | Mark::Is => false,
         Mark::Null | Mark::True | Mark::False => false,
         Mark::Semicolon => true,
-        _ => mark.is_word(),
+        _ => mark.is_reserved_word(),
     }
 }
 

@@ -1,6 +1,6 @@
 //! Laws of scripts as texts. Each is proved for every text; calling one does nothing.
 ghost use Rattle.mob_parse.specs.Places.{StandsInText};
-ghost use Rattle.mob_parse.specs.Refusals.{HasOneRefusal, TreeIsRefusedForMemoryAlone};
+ghost use Rattle.mob_parse.specs.Refusals.{HasOneParseRefusal, TreeIsRefusedForMemoryAlone};
 ghost use Rattle.mob_parse.specs.Words.{NamesAreRead, SignsAreRead, TokensAreSigns, WordsAreRead};
 
 /// A word is read as a reserved word exactly where it is that one, in letters of either case, and else as a name; each sign
@@ -14,7 +14,7 @@ pub fn marks_are_read()
 
 /// A script has one first refusal, and none where it has a tree; want of memory aside.
 pub fn one_refusal()
-    ensures refusal { HasOneRefusal }
+    ensures refusal { HasOneParseRefusal }
     ensures apart { TreeIsRefusedForMemoryAlone }
 {}
 

@@ -7,7 +7,7 @@ ghost use Rattle.mob_parse.specs.Lexemes.{toks};
 ghost use Rattle.mob_parse.specs.Heavy.{first_heavy};
 ghost use Rattle.mob_ast.specs.Kinds.{no_memory};
 ghost use Rattle.mob_chars.specs.Tokens.{tokens_of};
-ghost use Rattle.mob_parse.specs.Refusals.{semicolons, place_of, BeginsScript, IsWrong, IsRefusedAt, IsRefused, IsTreeOf, IsLight, IsLightText, IsStatementBehind, IsSameRefusal};
+ghost use Rattle.mob_parse.specs.Refusals.{semicolons, place_of, BeginsScript, IsWrong, IsRefusedAt, ParsesToRefusal, IsTreeOf, IsLight, IsLightText, IsStatementBehind, IsSameRefusal};
 
 use crate::classify::lexemes;
 use crate::cursor::{Cursor, Fault};
@@ -184,7 +184,7 @@ fn statement_behind(alloc: Global, text: &str) -> Option<u32>
 fn lexical(alloc: Global, text: &str, place: u32) -> Refusal
     requires short { length text.now ≤ 4194304 }
     requires fault { tokens_of text.now ≡ Err place }
-    ensures refused { IsRefused text.now result }
+    ensures refused { ParsesToRefusal text.now result }
 {
     let Some(front) = text.get(..place as usize) else {
         return no_memory();
@@ -205,7 +205,7 @@ fn parse_text(alloc: Global, text: &str) -> Result<Script, Refusal>
     ensures tree { IfOk result (λ s. IsTreeOf text.now (script_of s)) }
     ensures only { IfOk result (λ s. (x : List StatementParts) → IsTreeOf text.now x → x ≡ script_of s) }
     ensures light { IfOk result (λ _. IsLightText text.now) }
-    ensures refused { IfErr result (IsRefused text.now) }
+    ensures refused { IfErr result (ParsesToRefusal text.now) }
 {
     match tokens(alloc, text) {
         Ok(found) => match lexemes(alloc, text, found.as_slice()) {
@@ -234,8 +234,8 @@ pub fn parse(alloc: Global, bytes: &[u8]) -> Result<Script, Refusal>
     ensures complete { (x : List StatementParts) → IsTreeOf bytes.now x → IsLightText bytes.now → MatchResult result (λ s. script_of s ≡ x) (λ e. e.kind ≡ Kind.NoMemory) }
     ensures light { IfOk result (λ _. IsLightText bytes.now) }
     ensures few { IfOk result (λ s. script_nodes (script_of s) ≤ length bytes.now) }
-    ensures refused { IfErr result (IsRefused bytes.now) }
-    ensures exactly_refused { (e : Refusal) → IsRefused bytes.now e → MatchResult result (λ _. e.kind ≡ Kind.NoMemory) (λ f. IsSameRefusal e f) }
+    ensures refused { IfErr result (ParsesToRefusal bytes.now) }
+    ensures exactly_refused { (e : Refusal) → ParsesToRefusal bytes.now e → MatchResult result (λ _. e.kind ≡ Kind.NoMemory) (λ f. IsSameRefusal e f) }
 {
     match str::from_utf8(bytes) {
         Ok(text) => parse_text(alloc, text),

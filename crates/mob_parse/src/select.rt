@@ -2,8 +2,8 @@
 ghost use Rattle.std.specs.Prelude.{◌≡◌, ◌≤◌, Ok, length, map, OnOk, option_map};
 ghost use Rattle.mob_ast.specs.Trees.{tree_of, item_of, key_of, select_of, statement_of};
 ghost use Rattle.mob_grammar.specs.Symbols.{begins, is_name};
-ghost use Rattle.mob_grammar.specs.Reading.{some_name_at, second_name_at, from_entry_at, alias_at, item_at, direction_at, key_at, distinct_at, from_at, where_at, order_at, limit_at, select_at, explain_at, statement_at, script_at, listed};
-ghost use Rattle.mob_parse.specs.Cursors.{left, Gives};
+ghost use Rattle.mob_grammar.specs.Reading.{some_name_at, second_name_at, from_entry_at, alias_at, item_at, direction_at, key_at, distinct_at, from_at, condition_at, order_at, limit_at, select_at, explain_at, statement_at, script_at, listed};
+ghost use Rattle.mob_parse.specs.Cursors.{left, FollowsReading};
 
 use crate::cursor::{Cursor, Fault};
 use mob_ast::expression::Expr;
@@ -25,7 +25,7 @@ impl<'a> Cursor<'a> {
 
     #[tactic(auto, unfolding(mob_grammar::specs::Reading::some_name_at))]
     fn some_name(&mut self) -> Result<Option<Word>, Fault>
-        ensures reads { Gives (λ w. w) result (left self.new) (some_name_at (left self.old)) }
+        ensures reads { FollowsReading (λ w. w) result (left self.new) (some_name_at (left self.old)) }
         ensures within { OnOk result (length (left self.new) ≤ length (left self.old)) }
     {
         Ok(Some(self.name()?))
@@ -34,7 +34,7 @@ impl<'a> Cursor<'a> {
     // The second name of a table of FROM, with AS or without.
     #[tactic(auto, unfolding(mob_grammar::specs::Reading::second_name_at, mob_grammar::specs::Reading::name_or_none_at, mob_grammar::specs::Reading::if_mark))]
     fn second_name(&mut self) -> Result<Option<Word>, Fault>
-        ensures reads { Gives (λ w. w) result (left self.new) (second_name_at (left self.old)) }
+        ensures reads { FollowsReading (λ w. w) result (left self.new) (second_name_at (left self.old)) }
         ensures within { OnOk result (length (left self.new) ≤ length (left self.old)) }
     {
         if self.skip(Mark::As) {
@@ -49,7 +49,7 @@ impl<'a> Cursor<'a> {
     // A table of FROM.
     #[tactic(auto, unfolding(mob_grammar::specs::Reading::from_entry_at))]
     fn from_entry(&mut self) -> Result<FromTable, Fault>
-        ensures reads { Gives (λ f. f) result (left self.new) (from_entry_at (left self.old)) }
+        ensures reads { FollowsReading (λ f. f) result (left self.new) (from_entry_at (left self.old)) }
         ensures within { OnOk result (length (left self.new) ≤ length (left self.old)) }
     {
         let table = self.name()?;
@@ -59,7 +59,7 @@ impl<'a> Cursor<'a> {
 
     #[tactic(auto, using(mob_grammar::proofs::Steps::listed_goes_on, mob_grammar::proofs::Steps::listed_stops), unfolding(mob_grammar::specs::Reading::listed))]
     fn from_entries(&mut self) -> Result<Items<FromTable>, Fault>
-        ensures reads { Gives (λ fs. fs) result (left self.new) (listed Mark.Comma from_entry_at (left self.old)) }
+        ensures reads { FollowsReading (λ fs. fs) result (left self.new) (listed Mark.Comma from_entry_at (left self.old)) }
         ensures within { OnOk result (length (left self.new) ≤ length (left self.old)) }
     {
         let mut found = Items::new(self.alloc);
@@ -75,7 +75,7 @@ impl<'a> Cursor<'a> {
     // The name behind AS, if AS is there.
     #[tactic(auto, unfolding(mob_grammar::specs::Reading::alias_at, mob_grammar::specs::Reading::if_mark))]
     fn alias(&mut self) -> Result<Option<Word>, Fault>
-        ensures reads { Gives (λ w. w) result (left self.new) (alias_at (left self.old)) }
+        ensures reads { FollowsReading (λ w. w) result (left self.new) (alias_at (left self.old)) }
         ensures within { OnOk result (length (left self.new) ≤ length (left self.old)) }
     {
         if self.skip(Mark::As) {
@@ -86,9 +86,9 @@ impl<'a> Cursor<'a> {
     }
 
     // An entry of the select list.
-    #[tactic(auto, unfolding(mob_grammar::specs::Reading::item_at, mob_grammar::specs::Reading::every_at, mob_grammar::specs::Reading::one_at, mob_grammar::specs::Reading::mark_at))]
+    #[tactic(auto, unfolding(mob_grammar::specs::Reading::item_at, mob_grammar::specs::Reading::every_at, mob_grammar::specs::Reading::one_item_at, mob_grammar::specs::Reading::mark_at))]
     fn item(&mut self) -> Result<Item, Fault>
-        ensures reads { Gives item_of result (left self.new) (item_at (left self.old)) }
+        ensures reads { FollowsReading item_of result (left self.new) (item_at (left self.old)) }
         ensures within { OnOk result (length (left self.new) ≤ length (left self.old)) }
     {
         if let Some(place) = self.take(Mark::Times) {
@@ -101,7 +101,7 @@ impl<'a> Cursor<'a> {
 
     #[tactic(auto, using(mob_grammar::proofs::Steps::listed_goes_on, mob_grammar::proofs::Steps::listed_stops), unfolding(mob_grammar::specs::Reading::listed))]
     fn items(&mut self) -> Result<Items<Item>, Fault>
-        ensures reads { Gives (map item_of) result (left self.new) (listed Mark.Comma item_at (left self.old)) }
+        ensures reads { FollowsReading (map item_of) result (left self.new) (listed Mark.Comma item_at (left self.old)) }
         ensures within { OnOk result (length (left self.new) ≤ length (left self.old)) }
     {
         let mut found = Items::new(self.alloc);
@@ -130,7 +130,7 @@ impl<'a> Cursor<'a> {
     // A key of ORDER BY.
     #[tactic(auto, unfolding(mob_grammar::specs::Reading::key_at))]
     fn key(&mut self) -> Result<Key, Fault>
-        ensures reads { Gives key_of result (left self.new) (key_at (left self.old)) }
+        ensures reads { FollowsReading key_of result (left self.new) (key_at (left self.old)) }
         ensures within { OnOk result (length (left self.new) ≤ length (left self.old)) }
     {
         let value = self.expression()?;
@@ -140,7 +140,7 @@ impl<'a> Cursor<'a> {
 
     #[tactic(auto, using(mob_grammar::proofs::Steps::listed_goes_on, mob_grammar::proofs::Steps::listed_stops), unfolding(mob_grammar::specs::Reading::listed))]
     fn keys(&mut self) -> Result<Items<Key>, Fault>
-        ensures reads { Gives (map key_of) result (left self.new) (listed Mark.Comma key_at (left self.old)) }
+        ensures reads { FollowsReading (map key_of) result (left self.new) (listed Mark.Comma key_at (left self.old)) }
         ensures within { OnOk result (length (left self.new) ≤ length (left self.old)) }
     {
         let mut found = Items::new(self.alloc);
@@ -164,7 +164,7 @@ impl<'a> Cursor<'a> {
 
     #[tactic(auto, unfolding(mob_grammar::specs::Reading::from_at, mob_grammar::specs::Reading::if_mark))]
     fn from_part(&mut self) -> Result<Items<FromTable>, Fault>
-        ensures reads { Gives (λ fs. fs) result (left self.new) (from_at (left self.old)) }
+        ensures reads { FollowsReading (λ fs. fs) result (left self.new) (from_at (left self.old)) }
         ensures within { OnOk result (length (left self.new) ≤ length (left self.old)) }
     {
         if self.skip(Mark::From) {
@@ -174,9 +174,9 @@ impl<'a> Cursor<'a> {
         }
     }
 
-    #[tactic(auto, unfolding(mob_grammar::specs::Reading::where_at, mob_grammar::specs::Reading::some_expression_at, mob_grammar::specs::Reading::if_mark))]
+    #[tactic(auto, unfolding(mob_grammar::specs::Reading::condition_at, mob_grammar::specs::Reading::some_expression_at, mob_grammar::specs::Reading::if_mark))]
     fn where_part(&mut self) -> Result<Option<Expr>, Fault>
-        ensures reads { Gives (option_map tree_of) result (left self.new) (where_at (left self.old)) }
+        ensures reads { FollowsReading (option_map tree_of) result (left self.new) (condition_at (left self.old)) }
         ensures within { OnOk result (length (left self.new) ≤ length (left self.old)) }
     {
         if self.skip(Mark::Where) {
@@ -186,9 +186,9 @@ impl<'a> Cursor<'a> {
         }
     }
 
-    #[tactic(auto, unfolding(mob_grammar::specs::Reading::order_at, mob_grammar::specs::Reading::after, mob_grammar::specs::Reading::if_mark))]
+    #[tactic(auto, unfolding(mob_grammar::specs::Reading::order_at, mob_grammar::specs::Reading::behind_mark, mob_grammar::specs::Reading::if_mark))]
     fn order_part(&mut self) -> Result<Items<Key>, Fault>
-        ensures reads { Gives (map key_of) result (left self.new) (order_at (left self.old)) }
+        ensures reads { FollowsReading (map key_of) result (left self.new) (order_at (left self.old)) }
         ensures within { OnOk result (length (left self.new) ≤ length (left self.old)) }
     {
         if self.skip(Mark::Order) {
@@ -201,7 +201,7 @@ impl<'a> Cursor<'a> {
 
     #[tactic(auto, unfolding(mob_grammar::specs::Reading::limit_at, mob_grammar::specs::Reading::some_number_at, mob_grammar::specs::Reading::if_mark))]
     fn limit_part(&mut self) -> Result<Option<Word>, Fault>
-        ensures reads { Gives (λ w. w) result (left self.new) (limit_at (left self.old)) }
+        ensures reads { FollowsReading (λ w. w) result (left self.new) (limit_at (left self.old)) }
         ensures within { OnOk result (length (left self.new) ≤ length (left self.old)) }
     {
         if self.skip(Mark::Limit) {
@@ -214,7 +214,7 @@ impl<'a> Cursor<'a> {
     // What stands behind SELECT.
     #[tactic(auto, unfolding(mob_grammar::specs::Reading::select_at))]
     fn select(&mut self) -> Result<SelectTree, Fault>
-        ensures reads { Gives select_of result (left self.new) (select_at (left self.old)) }
+        ensures reads { FollowsReading select_of result (left self.new) (select_at (left self.old)) }
         ensures within { OnOk result (length (left self.new) ≤ length (left self.old)) }
     {
         let distinct = self.distinct();
@@ -234,9 +234,9 @@ impl<'a> Cursor<'a> {
     }
 
     // What stands behind EXPLAIN.
-    #[tactic(auto, unfolding(mob_grammar::specs::Reading::explain_at, mob_grammar::specs::Reading::after))]
+    #[tactic(auto, unfolding(mob_grammar::specs::Reading::explain_at, mob_grammar::specs::Reading::behind_mark))]
     fn explain(&mut self) -> Result<Statement, Fault>
-        ensures reads { Gives statement_of result (left self.new) (explain_at (left self.old)) }
+        ensures reads { FollowsReading statement_of result (left self.new) (explain_at (left self.old)) }
         ensures within { OnOk result (length (left self.new) ≤ length (left self.old)) }
     {
         self.expect(Mark::Select)?;
@@ -246,7 +246,7 @@ impl<'a> Cursor<'a> {
     // A statement, or nothing.
     #[tactic(auto, unfolding(mob_grammar::specs::Reading::statement_at, mob_grammar::specs::Reading::select_statement_at, mob_grammar::specs::Reading::if_mark))]
     fn statement(&mut self) -> Result<Statement, Fault>
-        ensures reads { Gives statement_of result (left self.new) (statement_at (left self.old)) }
+        ensures reads { FollowsReading statement_of result (left self.new) (statement_at (left self.old)) }
         ensures within { OnOk result (length (left self.new) ≤ length (left self.old)) }
     {
         if self.skip(Mark::Create) {
@@ -267,7 +267,7 @@ impl<'a> Cursor<'a> {
     /// The statements of a script, with `;` between them.
     #[tactic(auto, using(mob_grammar::proofs::Steps::listed_goes_on, mob_grammar::proofs::Steps::listed_stops), unfolding(mob_grammar::specs::Reading::script_at, mob_grammar::specs::Reading::listed))]
     pub fn statements(&mut self) -> Result<Items<Statement>, Fault>
-        ensures reads { Gives (map statement_of) result (left self.new) (script_at (left self.old)) }
+        ensures reads { FollowsReading (map statement_of) result (left self.new) (script_at (left self.old)) }
     {
         let mut found = Items::new(self.alloc);
         let first = self.statement()?;

@@ -2,8 +2,8 @@
 ghost use Rattle.std.specs.Prelude.{◌≡◌, ◌≤◌, Ok, length, map, OnOk};
 ghost use Rattle.mob_ast.specs.Trees.{tree_of, row_of, statement_of};
 ghost use Rattle.mob_grammar.specs.Symbols.{begins};
-ghost use Rattle.mob_grammar.specs.Reading.{is_number, is_plus_or_minus, string_at, number_at, signed_number_at, number_leaf_at, string_leaf_at, word_leaf_at, const_at, row_at, column_type_at, create_table_at, index_table_at, create_index_at, create_at, insert_at, header_at, format_at, delimiter_at, copy_form_at, copy_at, listed, closed, after};
-ghost use Rattle.mob_parse.specs.Cursors.{left, Gives};
+ghost use Rattle.mob_grammar.specs.Reading.{is_number, is_plus_or_minus, string_at, number_at, signed_number_at, number_leaf_at, string_leaf_at, word_leaf_at, const_at, row_at, column_type_at, create_table_at, index_table_at, create_index_at, create_at, insert_at, header_at, format_at, delimiter_at, copy_form_at, copy_at, listed, closed, behind_mark};
+ghost use Rattle.mob_parse.specs.Cursors.{left, FollowsReading};
 
 use crate::cursor::{Cursor, Fault};
 use crate::nodes::{leaf, number_word, operator, single, unquoted_text};
@@ -17,7 +17,7 @@ use mob_list::items::Items;
 impl<'a> Cursor<'a> {
     #[tactic(auto, unfolding(mob_grammar::specs::Reading::string_at))]
     fn string(&mut self) -> Result<Quoted, Fault>
-        ensures reads { Gives (λ s. s) result (left self.new) (string_at (left self.old)) }
+        ensures reads { FollowsReading (λ s. s) result (left self.new) (string_at (left self.old)) }
         ensures within { OnOk result (length (left self.new) ≤ length (left self.old)) }
     {
         match self.take_string() {
@@ -31,7 +31,7 @@ impl<'a> Cursor<'a> {
 
     #[tactic(auto, unfolding(mob_grammar::specs::Reading::number_at))]
     pub fn number(&mut self) -> Result<Word, Fault>
-        ensures reads { Gives (λ w. w) result (left self.new) (number_at (left self.old)) }
+        ensures reads { FollowsReading (λ w. w) result (left self.new) (number_at (left self.old)) }
         ensures within { OnOk result (length (left self.new) ≤ length (left self.old)) }
     {
         match self.take_number() {
@@ -63,7 +63,7 @@ impl<'a> Cursor<'a> {
     // + or - and a number.
     #[tactic(auto, unfolding(mob_grammar::specs::Reading::signed_number_at, mob_grammar::specs::Reading::plus_or_minus_at))]
     fn signed_number(&mut self) -> Result<Expr, Fault>
-        ensures reads { Gives tree_of result (left self.new) (signed_number_at (left self.old)) }
+        ensures reads { FollowsReading tree_of result (left self.new) (signed_number_at (left self.old)) }
         ensures within { OnOk result (length (left self.new) ≤ length (left self.old)) }
     {
         match self.take_operator(8) {
@@ -79,7 +79,7 @@ impl<'a> Cursor<'a> {
 
     #[tactic(auto, unfolding(mob_grammar::specs::Reading::number_leaf_at))]
     fn number_value(&mut self) -> Result<Expr, Fault>
-        ensures reads { Gives tree_of result (left self.new) (number_leaf_at (left self.old)) }
+        ensures reads { FollowsReading tree_of result (left self.new) (number_leaf_at (left self.old)) }
         ensures within { OnOk result (length (left self.new) ≤ length (left self.old)) }
     {
         let Word { text, place } = self.number()?;
@@ -88,7 +88,7 @@ impl<'a> Cursor<'a> {
 
     #[tactic(auto, unfolding(mob_grammar::specs::Reading::string_leaf_at))]
     fn string_value(&mut self) -> Result<Expr, Fault>
-        ensures reads { Gives tree_of result (left self.new) (string_leaf_at (left self.old)) }
+        ensures reads { FollowsReading tree_of result (left self.new) (string_leaf_at (left self.old)) }
         ensures within { OnOk result (length (left self.new) ≤ length (left self.old)) }
     {
         let Quoted { text, place } = self.string()?;
@@ -98,7 +98,7 @@ impl<'a> Cursor<'a> {
     // TRUE, FALSE, NULL, or a string behind its type.
     #[tactic(auto, unfolding(mob_grammar::specs::Reading::word_leaf_at, mob_grammar::specs::Reading::mark_leaf_at, mob_grammar::specs::Reading::mark_at, mob_grammar::specs::Reading::typed_string_at))]
     fn word_value(&mut self) -> Result<Expr, Fault>
-        ensures reads { Gives tree_of result (left self.new) (word_leaf_at (left self.old)) }
+        ensures reads { FollowsReading tree_of result (left self.new) (word_leaf_at (left self.old)) }
         ensures within { OnOk result (length (left self.new) ≤ length (left self.old)) }
     {
         if let Some(place) = self.take(Mark::True) {
@@ -116,7 +116,7 @@ impl<'a> Cursor<'a> {
     // A constant of an INSERT.
     #[tactic(auto, unfolding(mob_grammar::specs::Reading::const_at))]
     fn constant_value(&mut self) -> Result<Expr, Fault>
-        ensures reads { Gives tree_of result (left self.new) (const_at (left self.old)) }
+        ensures reads { FollowsReading tree_of result (left self.new) (const_at (left self.old)) }
         ensures within { OnOk result (length (left self.new) ≤ length (left self.old)) }
     {
         if self.next_is_string() {
@@ -132,7 +132,7 @@ impl<'a> Cursor<'a> {
 
     #[tactic(auto, using(mob_grammar::proofs::Steps::listed_goes_on, mob_grammar::proofs::Steps::listed_stops), unfolding(mob_grammar::specs::Reading::listed))]
     fn constants(&mut self) -> Result<Items<Expr>, Fault>
-        ensures reads { Gives (map tree_of) result (left self.new) (listed Mark.Comma const_at (left self.old)) }
+        ensures reads { FollowsReading (map tree_of) result (left self.new) (listed Mark.Comma const_at (left self.old)) }
         ensures within { OnOk result (length (left self.new) ≤ length (left self.old)) }
     {
         let mut found = Items::new(self.alloc);
@@ -148,7 +148,7 @@ impl<'a> Cursor<'a> {
     // A row of an INSERT.
     #[tactic(auto, unfolding(mob_grammar::specs::Reading::row_at, mob_grammar::specs::Reading::mark_at, mob_grammar::specs::Reading::closed))]
     fn row(&mut self) -> Result<Row, Fault>
-        ensures reads { Gives row_of result (left self.new) (row_at (left self.old)) }
+        ensures reads { FollowsReading row_of result (left self.new) (row_at (left self.old)) }
         ensures within { OnOk result (length (left self.new) ≤ length (left self.old)) }
     {
         match self.take(Mark::Open) {
@@ -163,7 +163,7 @@ impl<'a> Cursor<'a> {
 
     #[tactic(auto, using(mob_grammar::proofs::Steps::listed_goes_on, mob_grammar::proofs::Steps::listed_stops), unfolding(mob_grammar::specs::Reading::listed))]
     fn rows(&mut self) -> Result<Items<Row>, Fault>
-        ensures reads { Gives (map row_of) result (left self.new) (listed Mark.Comma row_at (left self.old)) }
+        ensures reads { FollowsReading (map row_of) result (left self.new) (listed Mark.Comma row_at (left self.old)) }
         ensures within { OnOk result (length (left self.new) ≤ length (left self.old)) }
     {
         let mut found = Items::new(self.alloc);
@@ -179,7 +179,7 @@ impl<'a> Cursor<'a> {
     // A column of a new table and its type.
     #[tactic(auto, unfolding(mob_grammar::specs::Reading::column_type_at))]
     fn column_type(&mut self) -> Result<(Word, TypeWord), Fault>
-        ensures reads { Gives (λ c. c) result (left self.new) (column_type_at (left self.old)) }
+        ensures reads { FollowsReading (λ c. c) result (left self.new) (column_type_at (left self.old)) }
         ensures within { OnOk result (length (left self.new) ≤ length (left self.old)) }
     {
         let name = self.name()?;
@@ -189,7 +189,7 @@ impl<'a> Cursor<'a> {
 
     #[tactic(auto, using(mob_grammar::proofs::Steps::listed_goes_on, mob_grammar::proofs::Steps::listed_stops), unfolding(mob_grammar::specs::Reading::listed))]
     fn columns(&mut self) -> Result<Items<(Word, TypeWord)>, Fault>
-        ensures reads { Gives (λ cs. cs) result (left self.new) (listed Mark.Comma column_type_at (left self.old)) }
+        ensures reads { FollowsReading (λ cs. cs) result (left self.new) (listed Mark.Comma column_type_at (left self.old)) }
         ensures within { OnOk result (length (left self.new) ≤ length (left self.old)) }
     {
         let mut found = Items::new(self.alloc);
@@ -206,9 +206,9 @@ impl<'a> Cursor<'a> {
 // Statements but SELECT.
 impl<'a> Cursor<'a> {
     // CREATE TABLE, behind TABLE.
-    #[tactic(auto, unfolding(mob_grammar::specs::Reading::create_table_at, mob_grammar::specs::Reading::after, mob_grammar::specs::Reading::columns_at, mob_grammar::specs::Reading::closed))]
+    #[tactic(auto, unfolding(mob_grammar::specs::Reading::create_table_at, mob_grammar::specs::Reading::behind_mark, mob_grammar::specs::Reading::columns_at, mob_grammar::specs::Reading::closed))]
     fn create_table(&mut self) -> Result<Statement, Fault>
-        ensures reads { Gives statement_of result (left self.new) (create_table_at (left self.old)) }
+        ensures reads { FollowsReading statement_of result (left self.new) (create_table_at (left self.old)) }
         ensures within { OnOk result (length (left self.new) ≤ length (left self.old)) }
     {
         let name = self.name()?;
@@ -219,9 +219,9 @@ impl<'a> Cursor<'a> {
     }
 
     // CREATE INDEX, behind ON.
-    #[tactic(auto, unfolding(mob_grammar::specs::Reading::index_table_at, mob_grammar::specs::Reading::index_column_at, mob_grammar::specs::Reading::after, mob_grammar::specs::Reading::closed))]
+    #[tactic(auto, unfolding(mob_grammar::specs::Reading::index_table_at, mob_grammar::specs::Reading::index_column_at, mob_grammar::specs::Reading::behind_mark, mob_grammar::specs::Reading::closed))]
     fn index_table(&mut self, name: Word) -> Result<Statement, Fault>
-        ensures reads { Gives statement_of result (left self.new) (index_table_at name (left self.old)) }
+        ensures reads { FollowsReading statement_of result (left self.new) (index_table_at name (left self.old)) }
         ensures within { OnOk result (length (left self.new) ≤ length (left self.old)) }
     {
         let table = self.name()?;
@@ -238,9 +238,9 @@ impl<'a> Cursor<'a> {
     }
 
     // CREATE INDEX, behind INDEX.
-    #[tactic(auto, unfolding(mob_grammar::specs::Reading::create_index_at, mob_grammar::specs::Reading::after))]
+    #[tactic(auto, unfolding(mob_grammar::specs::Reading::create_index_at, mob_grammar::specs::Reading::behind_mark))]
     fn create_index(&mut self) -> Result<Statement, Fault>
-        ensures reads { Gives statement_of result (left self.new) (create_index_at (left self.old)) }
+        ensures reads { FollowsReading statement_of result (left self.new) (create_index_at (left self.old)) }
         ensures within { OnOk result (length (left self.new) ≤ length (left self.old)) }
     {
         let name = self.name()?;
@@ -249,9 +249,9 @@ impl<'a> Cursor<'a> {
     }
 
     // What stands behind CREATE.
-    #[tactic(auto, unfolding(mob_grammar::specs::Reading::create_at, mob_grammar::specs::Reading::if_mark, mob_grammar::specs::Reading::after))]
+    #[tactic(auto, unfolding(mob_grammar::specs::Reading::create_at, mob_grammar::specs::Reading::if_mark, mob_grammar::specs::Reading::behind_mark))]
     pub fn create(&mut self) -> Result<Statement, Fault>
-        ensures reads { Gives statement_of result (left self.new) (create_at (left self.old)) }
+        ensures reads { FollowsReading statement_of result (left self.new) (create_at (left self.old)) }
         ensures within { OnOk result (length (left self.new) ≤ length (left self.old)) }
     {
         if self.skip(Mark::Table) {
@@ -262,9 +262,9 @@ impl<'a> Cursor<'a> {
     }
 
     // What stands behind INSERT.
-    #[tactic(auto, unfolding(mob_grammar::specs::Reading::insert_at, mob_grammar::specs::Reading::rows_at, mob_grammar::specs::Reading::after))]
+    #[tactic(auto, unfolding(mob_grammar::specs::Reading::insert_at, mob_grammar::specs::Reading::rows_at, mob_grammar::specs::Reading::behind_mark))]
     pub fn insert(&mut self) -> Result<Statement, Fault>
-        ensures reads { Gives statement_of result (left self.new) (insert_at (left self.old)) }
+        ensures reads { FollowsReading statement_of result (left self.new) (insert_at (left self.old)) }
         ensures within { OnOk result (length (left self.new) ≤ length (left self.old)) }
     {
         self.expect(Mark::Into)?;
@@ -277,7 +277,7 @@ impl<'a> Cursor<'a> {
     // HEADER's TRUE, if it is there, and the closing bracket.
     #[tactic(auto, unfolding(mob_grammar::specs::Reading::header_at, mob_grammar::specs::Reading::if_mark, mob_grammar::specs::Reading::closed))]
     fn header(&mut self) -> Result<Option<Quoted>, Fault>
-        ensures reads { Gives (λ d. d) result (left self.new) (header_at (left self.old)) }
+        ensures reads { FollowsReading (λ d. d) result (left self.new) (header_at (left self.old)) }
         ensures within { OnOk result (length (left self.new) ≤ length (left self.old)) }
     {
         if self.skip(Mark::True) {
@@ -289,9 +289,9 @@ impl<'a> Cursor<'a> {
     }
 
     // What stands behind WITH.
-    #[tactic(auto, unfolding(mob_grammar::specs::Reading::format_at, mob_grammar::specs::Reading::after))]
+    #[tactic(auto, unfolding(mob_grammar::specs::Reading::format_at, mob_grammar::specs::Reading::behind_mark))]
     fn format(&mut self) -> Result<Option<Quoted>, Fault>
-        ensures reads { Gives (λ d. d) result (left self.new) (format_at (left self.old)) }
+        ensures reads { FollowsReading (λ d. d) result (left self.new) (format_at (left self.old)) }
         ensures within { OnOk result (length (left self.new) ≤ length (left self.old)) }
     {
         self.expect(Mark::Open)?;
@@ -303,9 +303,9 @@ impl<'a> Cursor<'a> {
     }
 
     // What stands behind DELIMITER.
-    #[tactic(auto, unfolding(mob_grammar::specs::Reading::delimiter_at, mob_grammar::specs::Reading::after, mob_grammar::specs::Reading::closed))]
+    #[tactic(auto, unfolding(mob_grammar::specs::Reading::delimiter_at, mob_grammar::specs::Reading::behind_mark, mob_grammar::specs::Reading::closed))]
     fn delimiter(&mut self) -> Result<Option<Quoted>, Fault>
-        ensures reads { Gives (λ d. d) result (left self.new) (delimiter_at (left self.old)) }
+        ensures reads { FollowsReading (λ d. d) result (left self.new) (delimiter_at (left self.old)) }
         ensures within { OnOk result (length (left self.new) ≤ length (left self.old)) }
     {
         let delimiter = self.string()?;
@@ -315,9 +315,9 @@ impl<'a> Cursor<'a> {
     }
 
     // What stands behind the file of a COPY.
-    #[tactic(auto, unfolding(mob_grammar::specs::Reading::copy_form_at, mob_grammar::specs::Reading::if_mark, mob_grammar::specs::Reading::after))]
+    #[tactic(auto, unfolding(mob_grammar::specs::Reading::copy_form_at, mob_grammar::specs::Reading::if_mark, mob_grammar::specs::Reading::behind_mark))]
     fn copy_form(&mut self) -> Result<Option<Quoted>, Fault>
-        ensures reads { Gives (λ d. d) result (left self.new) (copy_form_at (left self.old)) }
+        ensures reads { FollowsReading (λ d. d) result (left self.new) (copy_form_at (left self.old)) }
         ensures within { OnOk result (length (left self.new) ≤ length (left self.old)) }
     {
         if self.skip(Mark::With) {
@@ -328,9 +328,9 @@ impl<'a> Cursor<'a> {
     }
 
     // What stands behind COPY.
-    #[tactic(auto, unfolding(mob_grammar::specs::Reading::copy_at, mob_grammar::specs::Reading::copy_file_at, mob_grammar::specs::Reading::after))]
+    #[tactic(auto, unfolding(mob_grammar::specs::Reading::copy_at, mob_grammar::specs::Reading::copy_file_at, mob_grammar::specs::Reading::behind_mark))]
     pub fn copy(&mut self) -> Result<Statement, Fault>
-        ensures reads { Gives statement_of result (left self.new) (copy_at (left self.old)) }
+        ensures reads { FollowsReading statement_of result (left self.new) (copy_at (left self.old)) }
         ensures within { OnOk result (length (left self.new) ≤ length (left self.old)) }
     {
         let table = self.name()?;

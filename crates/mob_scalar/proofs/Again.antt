@@ -19,8 +19,8 @@ use Rattle.mob_scalar.specs.declared.numeral.Tail.{Tail}
 use Rattle.mob_scalar.specs.declared.numeral.Tail.TheVariants.{Over, Decimal}
 use Rattle.mob_scalar.specs.declared.numeral.Numeral.{Numeral}
 use Rattle.mob_scalar.specs.Figures.{is_digit, is_run, digits, AreFigures}
-use Rattle.mob_scalar.specs.Number.{numeral_of, has_digits, sign, tail, number}
-use Rattle.mob_scalar.specs.NumberValue.{value}
+use Rattle.mob_scalar.specs.Number.{numeral_of, has_digits, number_sign, tail, number}
+use Rattle.mob_scalar.specs.NumberValue.{numeral_value}
 use Rattle.mob_scalar.specs.NumberText.{number_text}
 use Rattle.mob_scalar.specs.Verdict.{Lit}
 use Rattle.mob_scalar.specs.Numbers.{numbers, whole_numbers}
@@ -58,7 +58,7 @@ front_of : ℤ → Text
 front_of (pos n) = []
 front_of (negsuc n) = 45 ∷ []
 
-sign_said : (z : ℤ) → sign (front_of z) (is_negative z)
+sign_said : (z : ℤ) → number_sign (front_of z) (is_negative z)
 unfolding is_negative front_of
 sign_said (pos n) = record { meant = None; said = refl; is = refl }
 sign_said (negsuc n) = record { meant = Some 45; said = (refl, refl); is = refl }
@@ -123,10 +123,10 @@ over_said d h = inl (record {
 record Says (text : Text) (z : ℤ) (d : ℕ) : Type 0 where
   numeral : Numeral
   said : number text numeral
-  is : value numeral ≡ over z d
+  is : numeral_value numeral ≡ over z d
 
 number_says : (b : Bool) (z : ℤ) (d : ℕ) → nat_eq d 1 ≡ b → nat_abs z < 2 ^ 62 → d < 2 ^ 62 → 0 < d → Says (cond b (signed_decimal z) (signed_decimal z ++ (codes "/" ++ decimal d))) z d
-unfolding value size_of
+unfolding numeral_value size_of
 number_says true z d e h k p = record {
   numeral = numeral_of (is_negative z, (size_of (nat_abs z), Decimal None None));
   said = subst (λ (s : Text). number s (numeral_of (is_negative z, (size_of (nat_abs z), Decimal None None)))) (append-nil (signed_decimal z)) (number_said z [] (Decimal None None) h nothing_said (enough_whole (nat_abs z) h));
@@ -138,7 +138,7 @@ number_says false z d e h k p = record {
   is = ap (λ (y : ℤ). over y d) (value_is z);
 }
 
-pub number_plain : (q : Ratio) → Fits q → (n : Numeral) × number (number_text q) n × (q ≡ value n)
+pub number_plain : (q : Ratio) → Fits q → (n : Numeral) × number (number_text q) n × (q ≡ numeral_value n)
 number_plain q f =
     let s = number_says (nat_eq q.den 1) q.num q.den refl f.num_fits f.den_fits (den_pos q) in
     (s.numeral, s.said, sym (s.is ∙ over-self q))

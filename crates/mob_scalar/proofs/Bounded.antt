@@ -11,7 +11,7 @@ use Rattle.mob_scalar.specs.declared.numeral.Tail.{Tail}
 use Rattle.mob_scalar.specs.declared.numeral.Tail.TheVariants.{Over, Decimal}
 use Rattle.mob_scalar.specs.declared.numeral.Numeral.{Numeral}
 use Rattle.mob_scalar.specs.Figures.{is_run, digits}
-use Rattle.mob_scalar.specs.Number.{count_of, has_digits, is_exponent, exponent, tail, number}
+use Rattle.mob_scalar.specs.Number.{count_of, has_digits, is_power, exponent, tail, number}
 use Rattle.mob_scalar.specs.NumberValue.{value_in, IsSmall, IsTailSmall, IsBounded}
 use Rattle.mob_scalar.proofs.Digits.{all_digits}
 use Rattle.mob_scalar.proofs.Powers.{ten_le}
@@ -24,7 +24,7 @@ digits_small text f d =
     let ds = d.meant in
     subst IsSmall (sym d.is) (digits_value-lt 10 ds (all_digits ds d.said.said.each), short ds d.said.holds)
 
-power_small : (e : Exponent) → is_exponent e ≡ true → e.size.value ≤ 18
+power_small : (e : Exponent) → is_power e ≡ true → e.size.value ≤ 18
 power_small e h = search rules
 
 exponent_small : (text : Text) (e : Exponent) → exponent text e → e.size.value ≤ 18

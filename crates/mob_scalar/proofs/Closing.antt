@@ -6,7 +6,7 @@ use Rattle.mob_scalar.specs.Figures.{is_digit}
 use Rattle.mob_scalar.specs.NumberReaders.{digits_at}
 use Rattle.mob_scalar.specs.CalendarReaders.{fixed_at}
 use Rattle.mob_scalar.specs.Moment.{is_t, is_some_text}
-use Rattle.mob_scalar.specs.MomentReaders.{up_to_at, clock_at, blanks_at, t_at, gap_at, time_at}
+use Rattle.mob_scalar.specs.MomentReaders.{up_to_at, clock_at, some_blanks_at, t_at, gap_at, time_at}
 use Rattle.mob_scalar.proofs.MomentExact.{moment_on, Closes}
 
 -- a byte that goes on no moment
@@ -31,11 +31,11 @@ some_blank : (b : ℕ) (bs : Text) → is_some_text (b ∷ bs) ≡ true
 some_blank b bs = search rules
 
 gap_of_blanks : (b : ℕ) (bs : Text) (c : ℕ) (cs : Text) → AreAll is_blank (b ∷ bs) → is_blank c ≡ false → gap_at ((b ∷ bs) ++ (c ∷ cs)) ≡ Some (tt, c ∷ cs)
-unfolding gap_at blanks_at
+unfolding gap_at some_blanks_at
 gap_of_blanks b bs c cs each h = rw (run_again is_blank (b ∷ bs) (c ∷ cs) each h, some_blank b bs) refl
 
 no_gap : (c : ℕ) (cs : Text) → is_blank c ≡ false → is_t c ≡ false → gap_at (c ∷ cs) ≡ None
-unfolding gap_at blanks_at
+unfolding gap_at some_blanks_at
 no_gap c cs h k = rw (run_stops is_blank (c ∷ cs) h, no_t c cs k) refl
 
 pub sign_closes : (bs : Text) (c : ℕ) (cs : Text) → AreAll is_blank bs → Ends c → Closes (bs ++ (c ∷ cs))

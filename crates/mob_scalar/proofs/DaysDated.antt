@@ -11,7 +11,7 @@ use Rattle.jiff_core.proofs.CalendarLemmas.{day_count-end, days_from_civil-day_c
 use Rattle.jiff_core.proofs.DateLemmas.{epoch_day_injective, days_from_civil-day, days_from_civil-next_month, days_from_civil-next_year}
 use Rattle.jiff_core.proofs.SignedLemmas.{signed_arith}
 use Rattle.mob_scalar.specs.declared.civil.Civil.{Civil}
-use Rattle.mob_scalar.specs.Calendar.{is_civil, day_of, last_of, year_of, month_of, place_in, date_of, IsInYears}
+use Rattle.mob_scalar.specs.Calendar.{is_civil, day_of, greatest_passing, year_of, month_of, place_in, date_of, IsInYears}
 use Rattle.mob_scalar.proofs.Dates.{first, civil_again, le_yes, dated, as_civil}
 
 -- the greatest number up to n that passes the test, where 1 does
@@ -21,7 +21,7 @@ record IsLast (test : ℕ → Bool) (n k : ℕ) : Type 0 where
   there : test k ≡ true
   next : k < n → test (k + 1) ≡ false
 
-last_found : (test : ℕ → Bool) (n : ℕ) → 1 ≤ n → test 1 ≡ true → IsLast test n (last_of test n)
+last_found : (test : ℕ → Bool) (n : ℕ) → 1 ≤ n → test 1 ≡ true → IsLast test n (greatest_passing test n)
 last_found test zero some begins = absurd (omega arith)
 last_found test (suc n) some begins = by_test (λ more. last_found test n more begins) (test (suc n)) refl
   where
@@ -39,7 +39,7 @@ last_found test (suc n) some begins = by_test (λ more. last_found test n more b
       ];
     }
 
-    by_test : (1 ≤ n → IsLast test n (last_of test n)) → (b : Bool) → test (suc n) ≡ b → IsLast test (suc n) (cond b (suc n) (last_of test n))
+    by_test : (1 ≤ n → IsLast test n (greatest_passing test n)) → (b : Bool) → test (suc n) ≡ b → IsLast test (suc n) (cond b (suc n) (greatest_passing test n))
     by_test below true e = record { one = omega arith; le = omega arith; there = e; next = λ lt. absurd (omega (arith, lt)) }
     by_test below false e = elim (cases_lt 0 n) [
       | inl more ↦ further e (below more)
@@ -70,11 +70,11 @@ year_found day h =
       from = l.one;
       to = l.le;
       begun = le_from _ _ l.there;
-      ends = elim (cases_lt (last_of test 9999) 9999) [
+      ends = elim (cases_lt (greatest_passing test 9999) 9999) [
         | inl lt ↦ lt_from _ _ (l.next lt)
         | inr ge ↦
             let le = l.le in
-            let e : last_of test 9999 + 1 ≡ 10000 = omega (arith, ge, le) in
+            let e : greatest_passing test 9999 + 1 ≡ 10000 = omega (arith, ge, le) in
             subst (λ (k : ℕ). day <ℤ days_from_civil (pos k) 1 1) (sym e) (omega (arith, signed_arith, days_from_civil-day_count (pos 10000) 1 1, day_count-end, high))
       ];
     }
@@ -103,11 +103,11 @@ month_found y day h =
     record {
       month = (l.one, l.le);
       begun = le_from _ _ l.there;
-      ends = elim (cases_lt (last_of test 12) 12) [
-        | inl lt ↦ subst (λ (z : ℤ). day <ℤ z) (month_ends y (last_of test 12) l.one) (lt_from _ _ (l.next lt))
+      ends = elim (cases_lt (greatest_passing test 12) 12) [
+        | inl lt ↦ subst (λ (z : ℤ). day <ℤ z) (month_ends y (greatest_passing test 12) l.one) (lt_from _ _ (l.next lt))
         | inr ge ↦
             let le = l.le in
-            let e : last_of test 12 ≡ 12 = omega (arith, ge, le) in
+            let e : greatest_passing test 12 ≡ 12 = omega (arith, ge, le) in
             subst (λ (k : ℕ). day <ℤ (days_from_civil (pos y) k 1 +ℤ pos (days_in_month (pos y) k))) (sym e) (subst (λ (z : ℤ). day <ℤ z) (year_ends y) h.ends)
       ];
     }

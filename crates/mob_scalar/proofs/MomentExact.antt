@@ -3,7 +3,7 @@ use Rattle.std.proofs.Common.{◌≡◌, ℕ, suc, [], ◌∷◌, length, Bool, 
 use Rattle.std.specs.Prelude.{◌||◌, nat_eq}
 use Rattle.std.proofs.lemmas.Bool.{eqb-true}
 use Rattle.mob_language.specs.Language.{Text, Language, ◌▷◌, Maybe, Means, Where, Word, OneOf, Run, behind, is_blank}
-use Rattle.mob_language.specs.Readers.{Reader, then_at, maybe_at, word_at, behind_at}
+use Rattle.mob_language.specs.Readers.{TextReader, then_at, maybe_at, word_at, behind_at}
 use Rattle.mob_language.proofs.Exact.{Exact, Stops, then_exact, maybe_exact, means_exact, where_exact, one_exact, word_exact, run_exact, run_stops}
 use Rattle.mob_language.proofs.Heads.{NoHead, Apart, Nothing, HasByte, exact_less, stops_less, stops_both, then_head, word_then_head, one_then_head, or_head, maybe_head, means_head, where_head, word_head, one_head, run_head, one_nothing, word_nothing, then_nothing, means_nothing, where_nothing, or_nothing, then_stops, after_any, maybe_stops, or_stops, then_byte, means_byte, where_byte, then_byte_stops, byte_head, one_byte, or_byte}
 use Rattle.mob_scalar.specs.declared.numeral.Figures.{Figures}
@@ -15,7 +15,7 @@ use Rattle.mob_scalar.specs.NumberReaders.{digits_at}
 use Rattle.mob_scalar.specs.Calendar.{has_count, number_in, fixed, civil_of, is_civil, date}
 use Rattle.mob_scalar.specs.CalendarReaders.{fixed_at, dash_at, date_at}
 use Rattle.mob_scalar.specs.Moment.{is_below, up_to, point_part, is_point_part, fraction_part, is_fraction_part, part, clock_of, clock, offset_of, utc, is_z, zone, is_t, is_some_text, gap, time_of, time, stamp_of, is_in_years, moment}
-use Rattle.mob_scalar.specs.MomentReaders.{up_to_at, colon_at, decimals_at, below_at, quotient_at, part_at, seconds_at, clock_at, z_at, hours_at, zone_at, blanks_at, t_at, gap_at, time_at, moment_at}
+use Rattle.mob_scalar.specs.MomentReaders.{up_to_at, colon_at, decimals_at, below_at, quotient_at, second_part_at, seconds_at, clock_at, z_at, hours_at, zone_at, some_blanks_at, t_at, gap_at, time_at, moment_at}
 use Rattle.mob_scalar.proofs.NumberExact.{digits_base, left, right}
 
 same : (c : ℕ) → is_digit c ≡ false → is_digit c ≡ false
@@ -78,13 +78,13 @@ fixed_exact : (k : ℕ) → Exact (fixed k) (fixed_at k) (Stops is_digit)
 unfolding fixed_at
 fixed_exact k = means_exact number_in (where_exact (has_count k) digits_base)
 
-marked_exact : (w : ℕ) (ws : Text) {A : Type 0} {l : Language A} {r : Reader A} {F : Text → Type 0} → Exact l r F → Exact (behind (w ∷ ws) l) (behind_at (w ∷ ws) r) F
+marked_exact : (w : ℕ) (ws : Text) {A : Type 0} {l : Language A} {r : TextReader A} {F : Text → Type 0} → Exact l r F → Exact (behind (w ∷ ws) l) (behind_at (w ∷ ws) r) F
 marked_exact w ws {A} p = means_exact (λ (v : Unit × A). v.1) (after_any (word_exact (w ∷ ws)) p)
 
 marked_head : (w : ℕ) (ws : Text) {A : Type 0} (l : Language A) (test : ℕ → Bool) → test w ≡ false → NoHead (behind (w ∷ ws) l) test
 marked_head w ws l test h = means_head (word_then_head w ws test h)
 
-marked_none : (w : ℕ) (ws : Text) {A : Type 0} (r : Reader A) → Nothing (behind_at (w ∷ ws) r) (λ c. nat_eq c w)
+marked_none : (w : ℕ) (ws : Text) {A : Type 0} (r : TextReader A) → Nothing (behind_at (w ∷ ws) r) (λ c. nat_eq c w)
 marked_none w ws {A} r = means_nothing (λ (v : Unit × A). v.1) (then_nothing r (word_nothing w ws (λ c. nat_eq c w) (self w)))
   where
     self : (n : ℕ) → nat_eq n n ≡ true
@@ -139,12 +139,12 @@ quotient_head : (test : ℕ → Bool) → test 40 ≡ false → NoHead quotient 
 unfolding quotient
 quotient_head test h = means_head (where_head (marked_head 40 [] (digits ▷ (behind (codes "/") digits ▷ Word (codes ")"))) test h))
 
-part_exact : Exact part part_at (Stops clock_on)
-unfolding part_at point quotient is_point
+part_exact : Exact part second_part_at (Stops clock_on)
+unfolding second_part_at point quotient is_point
 part_exact = or_stops point_exact quotient_exact point_none (quotient_head is_point refl) clock_point
 
-part_none : Nothing part_at clock_on
-unfolding part_at is_point
+part_none : Nothing second_part_at clock_on
+unfolding second_part_at is_point
 part_none = or_nothing (λ rest s. point_none rest (stops_less clock_on is_point clock_point rest s)) (λ rest s. quotient_none rest (stops_less clock_on (λ c. nat_eq c 40) clock_bracket rest s))
 
 part_head : NoHead part is_digit
@@ -160,7 +160,7 @@ seconds_exact = marked_exact 58 [] (then_stops (up_to_exact 60) (maybe_stops par
 
 seconds_none : Nothing seconds_at clock_on
 unfolding seconds_at
-seconds_none = λ rest s. marked_none 58 [] (then_at (up_to_at 60) (maybe_at part_at)) rest (stops_less clock_on (λ c. nat_eq c 58) clock_colon rest s)
+seconds_none = λ rest s. marked_none 58 [] (then_at (up_to_at 60) (maybe_at second_part_at)) rest (stops_less clock_on (λ c. nat_eq c 58) clock_colon rest s)
 
 seconds_head : NoHead seconds_language is_digit
 unfolding seconds_language
@@ -222,12 +222,12 @@ zone_head = or_head (means_head (one_head z_apart)) (hours_head clock_on sign_ap
 blanks_language : Language Unit
 blanks_language = Means (λ (c : Text). tt) (Where is_some_text (Run is_blank))
 
-blanks_exact : Exact blanks_language blanks_at (Stops is_blank)
-unfolding blanks_language blanks_at
+blanks_exact : Exact blanks_language some_blanks_at (Stops is_blank)
+unfolding blanks_language some_blanks_at
 blanks_exact = means_exact (λ (c : Text). tt) (where_exact is_some_text (run_exact is_blank))
 
-blanks_none : Nothing blanks_at is_blank
-unfolding blanks_at
+blanks_none : Nothing some_blanks_at is_blank
+unfolding some_blanks_at
 blanks_none rest s = rw (run_stops is_blank rest s) refl
 
 gap_exact : Exact gap gap_at (Stops is_blank)
@@ -297,5 +297,5 @@ moment_exact = where_exact is_in_years (means_exact stamp_of (then_exact date_ex
     (λ text rest v said after. stops_both is_digit text rest (maybe_head time_head text v said) (stops_less moment_on is_digit moment_digit rest after.stops))))
 
 pub nothing_closes : Closes []
-unfolding time_at gap_at blanks_at t_at
+unfolding time_at gap_at some_blanks_at t_at
 nothing_closes = record { stops = tt; no_time = refl }

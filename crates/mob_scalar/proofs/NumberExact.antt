@@ -9,8 +9,8 @@ use Rattle.mob_scalar.specs.declared.numeral.Exponent.{Exponent}
 use Rattle.mob_scalar.specs.declared.numeral.Tail.{Tail}
 use Rattle.mob_scalar.specs.declared.numeral.Tail.TheVariants.{Over}
 use Rattle.mob_scalar.specs.Figures.{is_digit, is_run, figures, digits}
-use Rattle.mob_scalar.specs.Number.{is_sign, is_minus, is_e, is_exponent, exponent_of, decimal_of, is_numeral, numeral_of, sign, power, exponent, tail, number}
-use Rattle.mob_scalar.specs.NumberReaders.{digits_at, sign_at, power_at, exponent_at, over_at, point_at, decimal_at, tail_at, number_at}
+use Rattle.mob_scalar.specs.Number.{is_sign, is_minus, is_e, is_power, exponent_of, decimal_of, is_numeral, numeral_of, number_sign, power, exponent, tail, number}
+use Rattle.mob_scalar.specs.NumberReaders.{digits_at, sign_at, power_at, exponent_at, over_at, point_at, decimal_at, tail_at, numeral_at}
 
 -- a number may go on with such a byte
 abbrev pub continues : ℕ → Bool
@@ -58,7 +58,7 @@ digits_exact : Exact digits digits_at (Stops continues)
 unfolding digits_at
 digits_exact = exact_less (means_exact figures (where_exact is_run (run_exact is_digit))) (stops_less continues is_digit less_digit)
 
-pub sign_exact : Exact sign sign_at (Stops is_sign)
+pub sign_exact : Exact number_sign sign_at (Stops is_sign)
 unfolding sign_at
 sign_exact = means_exact is_minus (maybe_stops (exact_less (one_exact is_sign) (λ rest after. tt)) (one_nothing is_sign))
 
@@ -67,7 +67,7 @@ no_sign = means_head (where_head (run_head digit_no_sign))
 
 power_exact : Exact power power_at (Stops continues)
 unfolding power_at
-power_exact = where_exact is_exponent (means_exact exponent_of (then_stops sign_exact digits_exact less_sign no_sign))
+power_exact = where_exact is_power (means_exact exponent_of (then_stops sign_exact digits_exact less_sign no_sign))
 
 exponent_exact : Exact exponent exponent_at (Stops continues)
 unfolding exponent_at
@@ -139,6 +139,6 @@ pub tail_head : (test : ℕ → Bool) → test 46 ≡ false → test 47 ≡ fals
 unfolding decimal
 tail_head test p q h = or_head (means_head (means_head (word_then_head 47 [] test q))) (decimal_head test p h)
 
-pub number_exact : Exact number number_at (Stops continues)
-unfolding number_at
+pub number_exact : Exact number numeral_at (Stops continues)
+unfolding numeral_at
 number_exact = where_exact is_numeral (means_exact numeral_of (then_stops sign_exact (then_stops digits_base tail_exact less_digit (tail_head is_digit refl refl e_no_digit)) less_sign (then_head no_sign (tail_head is_sign refl refl e_no_sign))))

@@ -4,9 +4,9 @@ use Rattle.std.specs.Prelude.{Result}
 use Rattle.mob_language.specs.Language.{Text}
 use Rattle.mob_scalar.specs.declared.fault.ReadText.{ReadText}
 use Rattle.mob_scalar.specs.declared.fault.ReadText.TheVariants.{NotText, Limit, TooLarge, Unsound, NoMemory}
-use Rattle.mob_scalar.specs.Verdict.{Form, Lit}
+use Rattle.mob_scalar.specs.Verdict.{TextForm, Lit}
 
-pub settled : {S V : Type 0} (f : Form S V) (text : Text) → ((s t : S) → f.shape text s → f.shape text t → s ≡ t) → ((s : S) (v w : V) → f.means s v → f.means s w → v ≡ w)
+pub settled : {S V : Type 0} (f : TextForm S V) (text : Text) → ((s t : S) → f.shape text s → f.shape text t → s ≡ t) → ((s : S) (v w : V) → f.means s v → f.means s w → v ≡ w)
     → (a b : Result V ReadText) → a ≢ Err NoMemory → b ≢ Err NoMemory → Lit f text a → Lit f text b → a ≡ b
 settled f text one value (Ok v) (Ok w) n m a b = ap (λ x. Ok x) (value a.0 v w a.5 (subst (λ s. f.means s w) (one b.0 a.0 b.1 a.1) b.5))
 settled f text one value (Ok v) (Err NotText) n m a b = absurd (b a.0 a.1)

@@ -13,11 +13,11 @@ use Rattle.mob_scalar.specs.declared.numeral.Tail.TheVariants.{Decimal}
 use Rattle.mob_scalar.specs.declared.numeral.Numeral.{Numeral}
 use Rattle.mob_scalar.specs.Figures.{is_digit, digits}
 use Rattle.mob_scalar.specs.Number.{number, tail, is_sign, is_e, has_digits}
-use Rattle.mob_scalar.specs.NumberReaders.{number_at, digits_at}
+use Rattle.mob_scalar.specs.NumberReaders.{numeral_at, digits_at}
 use Rattle.mob_scalar.specs.Calendar.{date, fixed, civil_of, is_civil}
 use Rattle.mob_scalar.specs.CalendarReaders.{fixed_at}
 use Rattle.mob_scalar.specs.Moment.{moment, time, stamp_of, is_in_years, is_some_text}
-use Rattle.mob_scalar.specs.MomentReaders.{moment_at, time_at, clock_at, up_to_at, gap_at, blanks_at}
+use Rattle.mob_scalar.specs.MomentReaders.{moment_at, time_at, clock_at, up_to_at, gap_at, some_blanks_at}
 use Rattle.mob_scalar.specs.Truth.{truth, truth_at, is_truth, is_word_true}
 use Rattle.mob_scalar.proofs.NumberExact.{number_exact, continues, tail_head}
 use Rattle.mob_scalar.proofs.MomentExact.{Closes, moment_exact, moment_on, fixed_byte, nothing_closes}
@@ -92,7 +92,7 @@ number_byte text v said e =
     no_tail s.second.back m.meant.1.1 m.meant.1.0 s.second.second t (no_figures s.second.front m.meant.1.0 s.second.first d)
     (subst (λ (x : Numeral). has_digits x.digits x.tail ≡ true) m.is said.holds)
 
-pub number_whole : Exact (within_blanks number) (within_blanks_at number_at) IsEnd
+pub number_whole : Exact (within_blanks number) (within_blanks_at numeral_at) IsEnd
 number_whole = within_exact number_exact (number_head is_blank sign_blank digit_blank refl refl e_blank) number_byte (blanks_stop continues blank_stops)
 
 -- ---- moments
@@ -127,7 +127,7 @@ unfolding clock_at up_to_at fixed_at digits_at
 no_clock = refl
 
 gap_to_end : (b : ℕ) (bs : Text) → AreAll is_blank (b ∷ bs) → gap_at ((b ∷ bs) ++ []) ≡ Some (tt, [])
-unfolding gap_at blanks_at
+unfolding gap_at some_blanks_at
 gap_to_end b bs each = rw (run_again is_blank (b ∷ bs) [] each tt, some_blank b bs) refl
 
 -- blanks to the end may stand behind a moment

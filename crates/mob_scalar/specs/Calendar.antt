@@ -35,17 +35,17 @@ abbrev pub day_of : Civil → ℤ
 day_of c = days_from_civil (pos c.year) c.month c.day
 
 -- the greatest of the numbers 1 to n that passes the test, or 0 where none does
-abbrev pub last_of : (ℕ → Bool) → ℕ → ℕ
-last_of test zero = zero
-last_of test (suc n) = cond (test (suc n)) (suc n) (last_of test n)
+abbrev pub greatest_passing : (ℕ → Bool) → ℕ → ℕ
+greatest_passing test zero = zero
+greatest_passing test (suc n) = cond (test (suc n)) (suc n) (greatest_passing test n)
 
 -- the year of a day: the last of the years 0001 to 9999 whose first day is not after it
 unfoldable pub year_of : ℤ → ℕ
-year_of day = last_of (λ y. le_z (days_from_civil (pos y) 1 1) day) 9999
+year_of day = greatest_passing (λ y. le_z (days_from_civil (pos y) 1 1) day) 9999
 
 -- the month of a day in a year: the last of its twelve months whose first day is not after it
 unfoldable pub month_of : ℕ → ℤ → ℕ
-month_of y day = last_of (λ m. le_z (days_from_civil (pos y) m 1) day) 12
+month_of y day = greatest_passing (λ m. le_z (days_from_civil (pos y) m 1) day) 12
 
 -- the place of a day in a month, from 1
 unfoldable pub place_in : ℕ → ℕ → ℤ → ℕ

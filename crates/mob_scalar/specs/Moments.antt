@@ -5,9 +5,9 @@ use Rattle.mob_frac.specs.Fits.{Fits}
 use Rattle.mob_language.specs.Language.{within_blanks}
 use Rattle.mob_scalar.specs.declared.stamp.Stamp.{Stamp}
 use Rattle.mob_scalar.specs.Moment.{moment, instant}
-use Rattle.mob_scalar.specs.Verdict.{Form}
+use Rattle.mob_scalar.specs.Verdict.{TextForm}
 
-abbrev pub moments : ℤ → Form Stamp Ratio
+abbrev pub moments : ℤ → TextForm Stamp Ratio
 moments epoch = record {
   shape = within_blanks moment;
   long = λ s. ⊥;

@@ -16,21 +16,21 @@ is_minus None = false
 is_minus (Some c) = nat_eq c 45
 
 -- a plus, a minus or nothing
-abbrev pub sign : Language Bool
-sign = Means is_minus (Maybe (OneOf is_sign))
+abbrev pub number_sign : Language Bool
+number_sign = Means is_minus (Maybe (OneOf is_sign))
 
 abbrev pub is_e : ℕ → Bool
 is_e c = nat_eq c 101 || nat_eq c 69
 
-abbrev pub is_exponent : Exponent → Bool
-is_exponent e = nat_lt 0 e.size.count && nat_le e.size.value 18
+abbrev pub is_power : Exponent → Bool
+is_power e = nat_lt 0 e.size.count && nat_le e.size.value 18
 
 abbrev pub exponent_of : Bool × Figures → Exponent
 exponent_of v = record { negative = v.0; size = v.1 }
 
 -- a sign and digits
 abbrev pub power : Language Exponent
-power = Where is_exponent (Means exponent_of (sign ▷ digits))
+power = Where is_power (Means exponent_of (number_sign ▷ digits))
 
 -- "e" in either case, and a power
 abbrev pub exponent : Language Exponent
@@ -58,4 +58,4 @@ abbrev pub numeral_of : Bool × (Figures × Tail) → Numeral
 numeral_of v = record { negative = v.0; digits = v.1.0; tail = v.1.1 }
 
 abbrev pub number : Language Numeral
-number = Where is_numeral (Means numeral_of (sign ▷ digits ▷ tail))
+number = Where is_numeral (Means numeral_of (number_sign ▷ digits ▷ tail))

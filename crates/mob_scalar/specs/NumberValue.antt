@@ -28,8 +28,8 @@ value_of negative whole (Decimal part exponent) = over
     (signed negative ((whole.value * 10 ^ count_of part + value_in part) * 10 ^ up_of exponent))
     (10 ^ (count_of part + down_of exponent))
 
-unfoldable pub value : Numeral → Ratio
-value n = value_of n.negative n.digits n.tail
+unfoldable pub numeral_value : Numeral → Ratio
+numeral_value n = value_of n.negative n.digits n.tail
 
 -- a run's value is below the power of ten for its length
 abbrev pub IsSmall : Figures → Type 0

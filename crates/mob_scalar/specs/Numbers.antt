@@ -5,24 +5,24 @@ use Rattle.mob_frac.specs.Fits.{Fits}
 use Rattle.mob_language.specs.Language.{within_blanks}
 use Rattle.mob_scalar.specs.declared.numeral.Numeral.{Numeral}
 use Rattle.mob_scalar.specs.Number.{number}
-use Rattle.mob_scalar.specs.NumberValue.{value}
-use Rattle.mob_scalar.specs.Verdict.{Form}
+use Rattle.mob_scalar.specs.NumberValue.{numeral_value}
+use Rattle.mob_scalar.specs.Verdict.{TextForm}
 
-abbrev pub numbers : Form Numeral Ratio
+abbrev pub numbers : TextForm Numeral Ratio
 numbers = record {
   shape = within_blanks number;
   long = λ n. ⊥;
-  large = λ n. ¬ Fits (value n);
+  large = λ n. ¬ Fits (numeral_value n);
   unsound = λ n. ⊥;
-  means = λ n q. q ≡ value n;
+  means = λ n q. q ≡ numeral_value n;
 }
 
 -- the form of ints: a number that is whole
-abbrev pub whole_numbers : Form Numeral Ratio
+abbrev pub whole_numbers : TextForm Numeral Ratio
 whole_numbers = record {
   shape = within_blanks number;
   long = λ n. ⊥;
-  large = λ n. ¬ Fits (value n);
-  unsound = λ n. (value n).den ≢ 1;
-  means = λ n q. q ≡ value n;
+  large = λ n. ¬ Fits (numeral_value n);
+  unsound = λ n. (numeral_value n).den ≢ 1;
+  means = λ n q. q ≡ numeral_value n;
 }

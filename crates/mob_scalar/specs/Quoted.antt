@@ -5,7 +5,7 @@
 use Rattle.std.specs.Prelude.{◌≡◌, ℕ, [], ◌∷◌, ◌++◌, codes, Bool, true, false, ◌||◌, ◌&&◌, not, cond, nat_eq, Option, Some, None}
 use Rattle.std.specs.Str.{is_utf8}
 use Rattle.mob_language.specs.Language.{Text, Language, ◌∣◌, Where, Run, is_blank}
-use Rattle.mob_language.specs.Readers.{Reader, ◌>>=◌, or_at, where_at, behind_at, run_of}
+use Rattle.mob_language.specs.Readers.{TextReader, ◌>>=◌, or_at, where_at, behind_at, run_of}
 
 -- a double quote or a backslash
 abbrev pub is_escaped : ℕ → Bool
@@ -53,12 +53,12 @@ abbrev pub put_first : ℕ → Option (Text × Text) → Option (Text × Text)
 put_first c read = read >>= λ x. Some (c ∷ x.0, x.1)
 
 -- the value up to its closing quote, and what stands behind that; a backslash may stand before the first byte
-unfoldable pub unescaped_at : Bool → Reader Text
+unfoldable pub unescaped_at : Bool → TextReader Text
 unescaped_at pending [] = None
 unescaped_at true (c ∷ cs) = cond (is_escaped c) (put_first c (unescaped_at false cs)) None
 unescaped_at false (c ∷ cs) = cond (nat_eq c 34) (Some ([], cs)) (cond (nat_eq c 92) (unescaped_at true cs) (put_first c (unescaped_at false cs)))
 
-unfoldable pub quoted_at : Reader Text
+unfoldable pub quoted_at : TextReader Text
 quoted_at = behind_at (codes "\"") (unescaped_at false)
 
 abbrev pub put_before : ℕ → Text × Text → Text × Text
@@ -73,8 +73,8 @@ trimmed (c ∷ cs) = put_before c (trimmed cs)
 abbrev pub bare_of : Text × Text → Text → Option (Text × Text)
 bare_of parts rest = cond (is_bare parts.0) (Some (parts.0, parts.1 ++ rest)) None
 
-unfoldable pub bare_at : Reader Text
+unfoldable pub bare_at : TextReader Text
 bare_at text = bare_of (trimmed (run_of is_plain text).0) (run_of is_plain text).1
 
-unfoldable pub text_value_at : Reader Text
+unfoldable pub text_value_at : TextReader Text
 text_value_at = where_at is_utf8 (or_at quoted_at bare_at)

@@ -3,8 +3,8 @@ use Rattle.std.specs.Prelude.{◌≡◌, Bool, codes, ◌||◌, cond}
 use Rattle.std.specs.Char.{is_ascii_alphabetic}
 use Rattle.std.specs.Str.{str_eq_ignore_ascii_case}
 use Rattle.mob_language.specs.Language.{Text, Language, Means, Where, Run, within_blanks}
-use Rattle.mob_language.specs.Readers.{Reader, means_at, where_at, run_at}
-use Rattle.mob_scalar.specs.Verdict.{Form}
+use Rattle.mob_language.specs.Readers.{TextReader, means_at, where_at, run_at}
+use Rattle.mob_scalar.specs.Verdict.{TextForm}
 
 abbrev pub is_word_true : Text → Bool
 is_word_true word = str_eq_ignore_ascii_case word (codes "t") || str_eq_ignore_ascii_case word (codes "true")
@@ -19,7 +19,7 @@ is_truth word = is_word_true word || is_word_false word
 abbrev pub truth : Language Bool
 truth = Means is_word_true (Where is_truth (Run is_ascii_alphabetic))
 
-unfoldable pub truth_at : Reader Bool
+unfoldable pub truth_at : TextReader Bool
 truth_at = means_at is_word_true (where_at is_truth (run_at is_ascii_alphabetic))
 
 -- a truth value as it is printed
@@ -27,7 +27,7 @@ abbrev pub truth_text : Bool → Text
 truth_text b = cond b (codes "t") (codes "f")
 
 -- the form of truth values, with blanks at their ends
-abbrev pub truths : Form Bool Bool
+abbrev pub truths : TextForm Bool Bool
 truths = record {
   shape = within_blanks truth;
   long = λ b. ⊥;

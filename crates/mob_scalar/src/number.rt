@@ -4,9 +4,9 @@ ghost use Rattle.mob_language.specs.Readers.{all_of, within_blanks_at};
 ghost use Rattle.mob_ratio.specs.Ratio.{over};
 ghost use Rattle.mob_frac.specs.Fits.{IsExact};
 ghost use Rattle.mob_frac.specs.Signed.{signed};
-ghost use Rattle.mob_scalar.specs.NumberValue.{IsBounded, value, up_of, down_of, value_in};
+ghost use Rattle.mob_scalar.specs.NumberValue.{IsBounded, numeral_value, up_of, down_of, value_in};
 ghost use Rattle.mob_scalar.specs.Number.{count_of};
-ghost use Rattle.mob_scalar.specs.NumberReaders.{number_at as number_in};
+ghost use Rattle.mob_scalar.specs.NumberReaders.{numeral_at};
 ghost use Rattle.mob_scalar.specs.declared.fault.ReadText.TheVariants.{NoMemory};
 ghost use Rattle.mob_scalar.specs.Verdict.{Lit};
 ghost use Rattle.mob_scalar.specs.Numbers.{numbers, whole_numbers};
@@ -101,10 +101,10 @@ fn part_value(part: Option<Figures>) -> u128
 
 /// The number that a numeral stands for. It is `Overflow` exactly where the reduced fraction has a
 /// part of more than 62 bits.
-#[tactic(auto, unfolding(crate::specs::NumberValue::value))]
+#[tactic(auto, unfolding(crate::specs::NumberValue::numeral_value))]
 pub fn evaluate(n: Numeral) -> Result<Frac, Overflow>
     requires bounded { IsBounded n }
-    ensures exact { IsExact (value n) result }
+    ensures exact { IsExact (numeral_value n) result }
 {
     match n.tail {
         Tail::Over(denominator) => over_product(n.negative, n.digits.value, denominator.value, 1),
@@ -119,7 +119,7 @@ pub fn evaluate(n: Numeral) -> Result<Frac, Overflow>
 
 /// All of the bytes, as a numeral with blanks at its ends.
 fn numeral_of(bytes: &[u8]) -> Option<Numeral>
-    ensures value { result ≡ all_of (within_blanks_at number_in) bytes.now }
+    ensures value { result ≡ all_of (within_blanks_at numeral_at) bytes.now }
 {
     within_blanks(number_at, bytes)
 }

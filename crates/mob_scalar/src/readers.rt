@@ -1,7 +1,7 @@
 //! Parts that several readers share.
 ghost use Rattle.std.specs.Prelude.{◌≡◌, ◌<◌, ℕ, Bool, [], ◌∷◌, Option, Some, IfSome, option_map};
 ghost use Rattle.mob_language.specs.Language.{is_blank as blank};
-ghost use Rattle.mob_language.specs.Readers.{Reader, all_of, run_of, maybe_of, word_at, within_blanks_at};
+ghost use Rattle.mob_language.specs.Readers.{TextReader, all_of, run_of, maybe_of, word_at, within_blanks_at};
 
 /// What stands behind the sign, where the bytes begin with it.
 pub fn behind(sign: u8, bytes: &[u8]) -> Option<&[u8]>
@@ -58,7 +58,7 @@ pub fn within_blanks<'a, T: Drop, F: Fn(&'a [u8]) -> Option<(T, &'a [u8])>>(
     bytes: &'a [u8],
 ) -> Option<T>
     requires callable { F.IsAlwaysCallable find }
-    ensures value { (reader : Reader T) → ((text : _) (found : _) → F.post find text found → option_map (λ x. (x.0, x.1.now)) found ≡ reader text.now) → result ≡ all_of (within_blanks_at reader) bytes.now }
+    ensures value { (reader : TextReader T) → ((text : _) (found : _) → F.post find text found → option_map (λ x. (x.0, x.1.now)) found ≡ reader text.now) → result ≡ all_of (within_blanks_at reader) bytes.now }
     ensures found { IfSome result (λ value. (text : _) × (rest : _) × F.post find text (Some (value, rest))) }
 {
     let (value, rest) = find(blanks(bytes).1)?;

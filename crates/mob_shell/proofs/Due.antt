@@ -11,7 +11,7 @@ use Rattle.mob_ending.specs.declared.ending.Ending.{Ending}
 use Rattle.mob_ending.specs.declared.ending.Ending.TheVariants.{Done, Usage, ReadFault, WriteFault, NoMemory, TableRefused, ScriptRefused, Overflow}
 use Rattle.mob_shell.specs.Program.{IsHalted, OutText, StopsWith}
 use Rattle.mob_shell.specs.Outcomes.{HasOneEnding}
-use Rattle.mob_shell.specs.Ending.{Ends, Gives, HaveSettings, IsDue, IsFaultless, IsUsage, OnTold, Seen}
+use Rattle.mob_shell.specs.Ending.{IsEndingOf, MustEnd, HaveSettings, IsDue, IsFaultless, IsUsage, OnTold, Seen}
 
 -- what follows from a fact on what is told
 pub each_told : (P Q : List ℕ → Contents → Type 0) → ((b : List ℕ) (m : Contents) → P b m → Q b m) → (o : Option (List ℕ)) (m : Option Contents) → IfSome o (λ b. IfSome m (P b)) → IfSome o (λ b. IfSome m (Q b))
@@ -45,11 +45,11 @@ HasFailed ending s = (ending ≡ NoMemory) ⊎ (Rose s.read_before s.read_now �
 abbrev pub IsDueOnTold : Ending → Seen → Type 0
 IsDueOnTold ending s = OnTold s (λ b m. IsDue s.words b m ending)
 
-refused_words : (e : Refusal) (s : Seen) → Ends (ScriptRefused e) s → HaveSettings s.words
+refused_words : (e : Refusal) (s : Seen) → IsEndingOf (ScriptRefused e) s → HaveSettings s.words
 refused_words e s h usage = elim (h.usage usage) [ inl same ↦ cc | inr same ↦ cc ]
 
 -- the ending of a run is due, or something failed
-pub due_or_failed : (ending : Ending) (s : Seen) → Ends ending s → IsDueOnTold ending s ⊎ HasFailed ending s
+pub due_or_failed : (ending : Ending) (s : Seen) → IsEndingOf ending s → IsDueOnTold ending s ⊎ HasFailed ending s
 due_or_failed Done s h = inl (each_told (λ b m. OutText s.words b m h.cause.text) (λ b m. IsDue s.words b m Done) (λ b m p. (h.cause.text, p)) s.script s.files h.cause.answers)
 due_or_failed Usage s h = inl (by_words (λ b m. IsUsage s.words) (λ b m. h.cause.0) s.script s.files)
 due_or_failed (ReadFault None) s h = inr (inr (inl h.cause.0))
@@ -65,7 +65,7 @@ due_or_failed (Overflow number rows place formula) s h =
     inl (each_told (λ b m. StopsWith s.words b m h.cause.text number (rows, (place, formula))) (λ b m. IsDue s.words b m ending) (λ b m p. (h.cause.text, p)) s.script s.files h.cause.fault)
 
 -- where no count rose, it is due, or there was no memory
-pub due_or_memory : (ending : Ending) (s : Seen) → Ends ending s → IsFaultless s → IsDueOnTold ending s ⊎ (ending ≡ NoMemory)
+pub due_or_memory : (ending : Ending) (s : Seen) → IsEndingOf ending s → IsFaultless s → IsDueOnTold ending s ⊎ (ending ≡ NoMemory)
 due_or_memory ending s h faultless = elim (due_or_failed ending s h) [
   | inl due ↦ inl due
   | inr (inl memory) ↦ inr memory
@@ -76,15 +76,15 @@ due_or_memory ending s h faultless = elim (due_or_failed ending s h) [
 
 module _ (one : HasOneEnding) where
   -- what the definitions say of what is told, and the ending that the run had
-  agrees : (ending due : Ending) (s : Seen) → IsDueOnTold ending s → Gives s due → ending ≡ due
+  agrees : (ending due : Ending) (s : Seen) → IsDueOnTold ending s → MustEnd s due → ending ≡ due
   agrees ending due s h g = on_both (λ b m. IsDue s.words b m ending) (λ b m. IsDue s.words b m due) (λ b m p q. one s.words b m ending due p q) s.script s.files h g
 
   -- a run in which nothing failed ends as is due, or for want of memory
-  pub ends_as_due : (ending due : Ending) (s : Seen) → Ends ending s → IsFaultless s → Gives s due → (ending ≡ due) ⊎ (ending ≡ NoMemory)
+  pub ends_as_due : (ending due : Ending) (s : Seen) → IsEndingOf ending s → IsFaultless s → MustEnd s due → (ending ≡ due) ⊎ (ending ≡ NoMemory)
   ends_as_due ending due s h faultless g = elim (due_or_memory ending s h faultless) [ inl told ↦ inl (agrees ending due s told g) | inr memory ↦ inr memory ]
 
   -- a run whose next file is not there ends with the status 3, or for want of memory, where nothing else failed
-  pub misses_a_file : (ending : Ending) (s : Seen) (file : List ℕ) → Ends ending s → (Rose s.read_before s.read_now → ⊥) → (Rose s.put_before s.put_now → ⊥) → Gives s (ReadFault (Some file)) → (status_of ending ≡ 3) ⊎ (status_of ending ≡ 5)
+  pub misses_a_file : (ending : Ending) (s : Seen) (file : List ℕ) → IsEndingOf ending s → (Rose s.read_before s.read_now → ⊥) → (Rose s.put_before s.put_now → ⊥) → MustEnd s (ReadFault (Some file)) → (status_of ending ≡ 3) ⊎ (status_of ending ≡ 5)
   misses_a_file ending s file h read_well put_well g = elim (due_or_failed ending s h) [
     | inl told ↦ inl (ap status_of (agrees ending (ReadFault (Some file)) s told g))
     | inr (inl memory) ↦ inr (ap status_of memory)

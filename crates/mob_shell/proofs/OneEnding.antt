@@ -5,18 +5,18 @@ use Rattle.mob_ast.specs.declared.refusal.Refusal.{Refusal}
 use Rattle.mob_outside.specs.Told.{Contents}
 use Rattle.mob_typing.specs.Statements.{ScriptOut}
 use Rattle.mob_accept.specs.Accepts.{IsTextRefused}
-use Rattle.mob_accept.specs.Outcomes.{HasOneRefusal}
+use Rattle.mob_accept.specs.Outcomes.{HasOneTextRefusal}
 use Rattle.mob_load.specs.Loads.{Halt, missing, refused, table_refused}
 use Rattle.mob_eval.specs.QueryFaults.{TupleFault}
 use Rattle.mob_ending.specs.declared.ending.Ending.{Ending}
 use Rattle.mob_ending.specs.declared.ending.Ending.TheVariants.{Done, Usage, ReadFault, WriteFault, NoMemory, TableRefused, ScriptRefused, Overflow}
-use Rattle.mob_shell.specs.Program.{IsHalted, IsScript, OutText, StopsWith}
+use Rattle.mob_shell.specs.Program.{IsHalted, AreTakenAs, OutText, StopsWith}
 use Rattle.mob_shell.specs.Outcomes.{HasOneEnding, HasOneHalt, HasOneStop, NeverEndsAndStops, NeverProgramAndHalted, NeverScriptAndRefused}
 use Rattle.mob_shell.specs.Ending.{IsDue, HaveSettings, IsUsage}
 
 -- the laws of one outcome
 pub record AreLaws : Type 0 where
-  pub text : HasOneRefusal
+  pub text : HasOneTextRefusal
   pub halt : HasOneHalt
   pub halted : NeverProgramAndHalted
   pub refused : NeverScriptAndRefused
@@ -30,7 +30,7 @@ ending_of (table_refused name kind rec field) = TableRefused name kind rec field
 ending_of (missing file) = ReadFault (Some file)
 
 -- the words of a script are taken
-taken : {words : List (List ℕ)} {bytes : List ℕ} {day : ℤ} {out : ScriptOut} → IsScript words bytes day out → HaveSettings words
+taken : {words : List (List ℕ)} {bytes : List ℕ} {day : ℤ} {out : ScriptOut} → AreTakenAs words bytes day out → HaveSettings words
 taken {day} h usage = usage h.workers day h.says
 
 -- what is due beside words that are not taken, a text that is refused, a halt, answers and a fault of a statement

@@ -2,26 +2,26 @@
 use Rattle.std.proofs.Common.{◌≡◌, ◌∙◌, sym, ap, ℕ, ℤ, List, Ok, Err}
 use Rattle.mob_typing.specs.Statements.{StatementOut, query}
 use Rattle.mob_eval.specs.QueryFaults.{TupleFault}
-use Rattle.mob_tail.specs.AnswerText.{text_of}
-use Rattle.mob_shell.specs.Runs.{Standing, Stops, Writes, names_of}
-use Rattle.mob_shell.specs.StepOutcomes.{HasOneFault, HasOneStep, NeverRunsAndStops, OneAnswer}
+use Rattle.mob_tail.specs.AnswerText.{answer_text}
+use Rattle.mob_shell.specs.Runs.{RunState, Stops, StatementWrites, answer_names}
+use Rattle.mob_shell.specs.StepOutcomes.{HasOneStatementFault, HasOneStep, NeverRunsAndStops, OneAnswer}
 
 module _ (answer : OneAnswer) where
-  one_written : (day : ℤ) (s : Standing) (x : StatementOut) (a b : List ℕ) → Writes day s x a → Writes day s x b → a ≡ b
+  one_written : (day : ℤ) (s : RunState) (x : StatementOut) (a b : List ℕ) → StatementWrites day s x a → StatementWrites day s x b → a ≡ b
   one_written day s (query q) a b h k =
       let e = answer q s.catalogue.store day (Ok h.0) (Ok k.0) h.1 k.1 in
       let rows : h.0 ≡ k.0 = cc e in
-      h.2 ∙ ap (text_of (names_of q)) rows ∙ sym k.2
+      h.2 ∙ ap (answer_text (answer_names q)) rows ∙ sym k.2
   one_written day s _ a b h k = h ∙ sym k
 
   pub one_step : HasOneStep
   one_step day s x t u a b h k = (h.stands ∙ sym k.stands, one_written day s x a b h.writes k.writes)
 
-  pub one_stop : HasOneFault
+  pub one_stop : HasOneStatementFault
   one_stop day s (query q) f g h k = let e = answer q s.catalogue.store day (Err f) (Err g) h k in cc e
   one_stop day s _ f g h k = absurd h
 
-  never_writes_and_stops : (day : ℤ) (s : Standing) (x : StatementOut) (text : List ℕ) (f : TupleFault) → Writes day s x text → Stops day s x f → ⊥
+  never_writes_and_stops : (day : ℤ) (s : RunState) (x : StatementOut) (text : List ℕ) (f : TupleFault) → StatementWrites day s x text → Stops day s x f → ⊥
   never_writes_and_stops day s (query q) text f h k = let e = answer q s.catalogue.store day (Ok h.0) (Err f) h.1 k in absurd (cc e)
   never_writes_and_stops day s _ text f h k = k
 

@@ -9,50 +9,50 @@ use Rattle.mob_typing.specs.declared.typed.TypedStatement.{TypedStatement}
 use Rattle.mob_typing.specs.declared.typed.Typed.{Typed}
 use Rattle.mob_typing.specs.Statements.{StatementOut, statement_seen, script_seen}
 use Rattle.mob_load.specs.declared.program.Program.{Program}
-use Rattle.mob_shell.specs.Runs.{Standing, Step, Stops, begin}
-use Rattle.mob_shell.specs.Session.{Steps, StopsOn, standing, day_of, fault_of}
+use Rattle.mob_shell.specs.Runs.{RunState, RunsStatement, Stops, begin}
+use Rattle.mob_shell.specs.Session.{SessionRuns, StopsOn, session_state, session_day, overflow_fault}
 use Rattle.mob_shell.specs.declared.session.Session.{Session}
 use Rattle.mob_shell.specs.declared.session.Overflow.{Overflow}
 use Rattle.mob_shell.specs.Parts.{RanAll, RanTo, RanUpTo}
 
 -- what was run, and the day stays the same
-pub record IsSeen (day : ℤ) (s : Standing) (xs : List StatementOut) (t : Session) (text : List ℕ) : Type 0 where
-  pub ran : Ran (Step day) s xs (standing t) text
-  pub kept : day_of t ≡ day
+pub record IsSeen (day : ℤ) (s : RunState) (xs : List StatementOut) (t : Session) (text : List ℕ) : Type 0 where
+  pub ran : Ran (RunsStatement day) s xs (session_state t) text
+  pub kept : session_day t ≡ day
 
-ran_seen : (xs : List TypedStatement) (s t : Session) (text : List ℕ) → Ran Steps s xs t text → IsSeen (day_of s) (standing s) (map statement_seen xs) t text
-ran_seen [] s t text h = record { ran = (ap standing h.0, h.1); kept = ap day_of h.0 }
+ran_seen : (xs : List TypedStatement) (s t : Session) (text : List ℕ) → Ran SessionRuns s xs t text → IsSeen (session_day s) (session_state s) (map statement_seen xs) t text
+ran_seen [] s t text h = record { ran = (ap session_state h.0, h.1); kept = ap session_day h.0 }
 ran_seen (x ∷ xs) s t text h =
     let first = h.3 in
     let rest = ran_seen xs h.0 t h.2 h.4 in
     record {
-      ran = (standing h.0, h.1, h.2, first.step, subst (λ d. Ran (Step d) (standing h.0) (map statement_seen xs) (standing t) h.2) first.day rest.ran, h.5);
+      ran = (session_state h.0, h.1, h.2, first.step, subst (λ d. Ran (RunsStatement d) (session_state h.0) (map statement_seen xs) (session_state t) h.2) first.day rest.ran, h.5);
       kept = rest.kept ∙ first.day;
     }
 
-module _ (day : ℤ) (program : Program) (typed : Typed) (s : Session) (begins : standing s ≡ begin program) (same : day_of s ≡ day) where
-  ran_all : (xs : List TypedStatement) (t : Session) (text : List ℕ) → Ran Steps s xs t text → IsSeen day (begin program) (map statement_seen xs) t text
-  ran_all xs t text h = subst (λ d. IsSeen d (begin program) (map statement_seen xs) t text) same (subst (λ b. IsSeen (day_of s) b (map statement_seen xs) t text) begins (ran_seen xs s t text h))
+module _ (day : ℤ) (program : Program) (typed : Typed) (s : Session) (begins : session_state s ≡ begin program) (same : session_day s ≡ day) where
+  ran_all : (xs : List TypedStatement) (t : Session) (text : List ℕ) → Ran SessionRuns s xs t text → IsSeen day (begin program) (map statement_seen xs) t text
+  ran_all xs t text h = subst (λ d. IsSeen d (begin program) (map statement_seen xs) t text) same (subst (λ b. IsSeen (session_day s) b (map statement_seen xs) t text) begins (ran_seen xs s t text h))
 
-  ran_to : (count : ℕ) (t : Session) (text : List ℕ) → Ran Steps s (take count typed.statements) t text → Ran (Step day) (begin program) (take count (script_seen typed).statements) (standing t) text
+  ran_to : (count : ℕ) (t : Session) (text : List ℕ) → Ran SessionRuns s (take count typed.statements) t text → Ran (RunsStatement day) (begin program) (take count (script_seen typed).statements) (session_state t) text
   ran_to count t text h = rw (take-map statement_seen count typed.statements) (ran_all (take count typed.statements) t text h).ran
 
-  pub seen_all : (old new : Option (List ℕ)) (t : Session) (text : List ℕ) → Ran Steps s typed.statements t text → Appends old new text → RanAll day (script_seen typed) program old new
-  seen_all old new t text h put = record { text = text; stands = standing t; ran = (ran_all typed.statements t text h).ran; put = put }
+  pub seen_all : (old new : Option (List ℕ)) (t : Session) (text : List ℕ) → Ran SessionRuns s typed.statements t text → Appends old new text → RanAll day (script_seen typed) program old new
+  seen_all old new t text h put = record { text = text; stands = session_state t; ran = (ran_all typed.statements t text h).ran; put = put }
 
-  pub seen_first : (count : ℕ) (t : Session) (text : List ℕ) → Ran Steps s (take count typed.statements) t text → RanTo day (script_seen typed) program count text
-  seen_first count t text h = record { stands = standing t; ran = ran_to count t text h }
+  pub seen_first : (count : ℕ) (t : Session) (text : List ℕ) → Ran SessionRuns s (take count typed.statements) t text → RanTo day (script_seen typed) program count text
+  seen_first count t text h = record { stands = session_state t; ran = ran_to count t text h }
 
-  pub seen_stop : (old new : Option (List ℕ)) (number before : ℕ) (t : Session) (x : TypedStatement) (text : List ℕ) (o : Overflow) → number ≡ before + 1 → Ran Steps s (take before typed.statements) t text → Appends old new text
+  pub seen_stop : (old new : Option (List ℕ)) (number before : ℕ) (t : Session) (x : TypedStatement) (text : List ℕ) (o : Overflow) → number ≡ before + 1 → Ran SessionRuns s (take before typed.statements) t text → Appends old new text
       → slice_get typed.statements before ≡ Some x → StopsOn t x o → RanUpTo day (script_seen typed) program number o.rows o.place o.formula old new
   seen_stop old new number before t x text o counts h put there stops = record {
     text = text;
     before = before;
     counts = counts;
-    stands = standing t;
+    stands = session_state t;
     ran = ran_to before t text h;
     statement = statement_seen x;
     there = slice_get-map statement_seen typed.statements before ∙ ap (option_map statement_seen) there;
-    stops = subst (λ d. Stops d (standing t) (statement_seen x) (fault_of o)) (ran_all (take before typed.statements) t text h).kept stops;
+    stops = subst (λ d. Stops d (session_state t) (statement_seen x) (overflow_fault o)) (ran_all (take before typed.statements) t text h).kept stops;
     put = put;
   }

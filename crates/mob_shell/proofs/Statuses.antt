@@ -2,53 +2,53 @@
 use Rattle.std.proofs.Common.{◌≡◌, ap, inl, inr, refl, subst, ℕ, List}
 use Rattle.std.specs.Prelude.{◌⊎◌, Some, None}
 use Rattle.std.specs.Io.KnownBytes.{Keeps}
-use Rattle.mob_ending.specs.Lines.{line_of, status_of}
+use Rattle.mob_ending.specs.Lines.{note_line, status_of}
 use Rattle.mob_ending.specs.declared.ending.Ending.{Ending}
 use Rattle.mob_ending.specs.declared.ending.Ending.TheVariants.{Done, Usage, ReadFault, WriteFault, NoMemory, TableRefused, ScriptRefused, Overflow}
-use Rattle.mob_shell.specs.Ending.{Causes, CutsShort, Ends, IsDue, IsOverflow, IsReadFault, IsScriptRefused, IsTableFault, IsUsage, OnTold, Seen, Writes, WroteSome}
+use Rattle.mob_shell.specs.Ending.{IsCausedBy, CutsShort, IsEndingOf, IsDue, IsOverflow, IsReadFault, IsScriptRefused, IsTableFault, IsUsage, OnTold, Seen, WritesAll, WroteSome}
 use Rattle.mob_shell.specs.Outcomes.{HasOneEnding}
 use Rattle.mob_shell.specs.Run.{EndsSo, IsRun}
 use Rattle.mob_shell.proofs.Due.{IsDueOnTold, due_or_memory, each_told, ends_as_due, misses_a_file}
 
-by_written : (ending : Ending) (s : Seen) → Causes ending s → status_of ending ≡ 0 → Writes s
+by_written : (ending : Ending) (s : Seen) → IsCausedBy ending s → status_of ending ≡ 0 → WritesAll s
 by_written Done s h e = h
 by_written _ s h e = cc
 
-by_usage : (ending : Ending) (s : Seen) → Causes ending s → status_of ending ≡ 2 → IsUsage s.words
+by_usage : (ending : Ending) (s : Seen) → IsCausedBy ending s → status_of ending ≡ 2 → IsUsage s.words
 by_usage Usage s h e = h.0
 by_usage _ s h e = cc
 
-by_read : (ending : Ending) (s : Seen) → Causes ending s → status_of ending ≡ 3 → IsReadFault s
+by_read : (ending : Ending) (s : Seen) → IsCausedBy ending s → status_of ending ≡ 3 → IsReadFault s
 by_read (ReadFault None) s h e = inl h.0
 by_read (ReadFault (Some file)) s h e = inr (file, h.0)
 by_read _ s h e = cc
 
-by_write : (ending : Ending) (s : Seen) → Causes ending s → status_of ending ≡ 4 → CutsShort s
+by_write : (ending : Ending) (s : Seen) → IsCausedBy ending s → status_of ending ≡ 4 → CutsShort s
 by_write WriteFault s h e = h
 by_write _ s h e = cc
 
-by_table : (ending : Ending) (s : Seen) → Causes ending s → status_of ending ≡ 6 → IsTableFault s
+by_table : (ending : Ending) (s : Seen) → IsCausedBy ending s → status_of ending ≡ 6 → IsTableFault s
 by_table (TableRefused name kind rec field) s h e = (name, kind, rec, field, h.0)
 by_table _ s h e = cc
 
-by_script : (ending : Ending) (s : Seen) → Causes ending s → status_of ending ≡ 7 → IsScriptRefused s
+by_script : (ending : Ending) (s : Seen) → IsCausedBy ending s → status_of ending ≡ 7 → IsScriptRefused s
 by_script (ScriptRefused refusal) s h e = (refusal, h.0)
 by_script _ s h e = cc
 
-by_overflow : (ending : Ending) (s : Seen) → Causes ending s → status_of ending ≡ 8 → IsOverflow s
+by_overflow : (ending : Ending) (s : Seen) → IsCausedBy ending s → status_of ending ≡ 8 → IsOverflow s
 by_overflow (Overflow number rows place formula) s h e = (number, rows, place, formula, h)
 by_overflow _ s h e = cc
 
-by_memory : (ending : Ending) (s : Seen) → Causes ending s → status_of ending ≡ 5 → Keeps s.out_before s.out_now ⊎ WroteSome s
+by_memory : (ending : Ending) (s : Seen) → IsCausedBy ending s → status_of ending ≡ 5 → Keeps s.out_before s.out_now ⊎ WroteSome s
 by_memory NoMemory s h e = h
 by_memory _ s h e = cc
 
-by_untouched : (ending : Ending) (s : Seen) → Causes ending s → status_of ending ≡ 2 → Keeps s.script s.rest
+by_untouched : (ending : Ending) (s : Seen) → IsCausedBy ending s → status_of ending ≡ 2 → Keeps s.script s.rest
 by_untouched Usage s h e = h.1
 by_untouched _ s h e = cc
 
 -- an ending of a run that wrote nothing, or one with another status
-by_silence : (ending : Ending) (s : Seen) → Causes ending s → (status_of ending ≡ 2) ⊎ ((status_of ending ≡ 3) ⊎ ((status_of ending ≡ 6) ⊎ (status_of ending ≡ 7))) → Keeps s.out_before s.out_now
+by_silence : (ending : Ending) (s : Seen) → IsCausedBy ending s → (status_of ending ≡ 2) ⊎ ((status_of ending ≡ 3) ⊎ ((status_of ending ≡ 6) ⊎ (status_of ending ≡ 7))) → Keeps s.out_before s.out_now
 by_silence Usage s h e = h.2
 by_silence (ReadFault file) s h e = h.1
 by_silence (TableRefused name kind rec field) s h e = h.1
@@ -60,17 +60,17 @@ by_words ending (inl e) = inl (ap status_of e)
 by_words ending (inr e) = inr (ap status_of e)
 
 -- a run that ended so has that status and that note
-so_ended : (ending due : Ending) (Noted : List ℕ → Type 0) → (ending ≡ due) ⊎ (ending ≡ NoMemory) → Noted (line_of ending) → EndsSo due (status_of ending) Noted ⊎ (status_of ending ≡ 5)
-so_ended ending due Noted (inl e) noted = inl (record { number = ap status_of e; noted = subst (λ (it : Ending). Noted (line_of it)) e noted })
+so_ended : (ending due : Ending) (Noted : List ℕ → Type 0) → (ending ≡ due) ⊎ (ending ≡ NoMemory) → Noted (note_line ending) → EndsSo due (status_of ending) Noted ⊎ (status_of ending ≡ 5)
+so_ended ending due Noted (inl e) noted = inl (record { number = ap status_of e; noted = subst (λ (it : Ending). Noted (note_line it)) e noted })
 so_ended ending due Noted (inr e) noted = inr (ap status_of e)
 
 -- an ending that is due, with its status and its note
-with_note : (ending : Ending) (s : Seen) (Noted : List ℕ → Type 0) → IsDueOnTold ending s ⊎ (ending ≡ NoMemory) → Noted (line_of ending) → OnTold s (λ b m. (due : Ending) × IsDue s.words b m due × EndsSo due (status_of ending) Noted) ⊎ (status_of ending ≡ 5)
+with_note : (ending : Ending) (s : Seen) (Noted : List ℕ → Type 0) → IsDueOnTold ending s ⊎ (ending ≡ NoMemory) → Noted (note_line ending) → OnTold s (λ b m. (due : Ending) × IsDue s.words b m due × EndsSo due (status_of ending) Noted) ⊎ (status_of ending ≡ 5)
 with_note ending s Noted (inl told) noted = inl (each_told (λ b m. IsDue s.words b m ending) (λ b m. (due : Ending) × IsDue s.words b m due × EndsSo due (status_of ending) Noted) (λ b m p. (ending, p, record { number = refl; noted = noted })) s.script s.files told)
 with_note ending s Noted (inr memory) noted = inr (ap status_of memory)
 
 -- what a run promises, by its ending and what is noted of its line
-pub is_run : HasOneEnding → (ending : Ending) (s : Seen) (Noted : List ℕ → Type 0) → Ends ending s → Noted (line_of ending) → IsRun (status_of ending) s Noted
+pub is_run : HasOneEnding → (ending : Ending) (s : Seen) (Noted : List ℕ → Type 0) → IsEndingOf ending s → Noted (note_line ending) → IsRun (status_of ending) s Noted
 is_run one ending s Noted ends noted = record {
   written = by_written ending s ends.cause;
   usage = by_usage ending s ends.cause;

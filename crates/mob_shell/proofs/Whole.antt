@@ -5,7 +5,7 @@ use Rattle.std.specs.Io.KnownBytes.{Keeps}
 use Rattle.std.proofs.Math.Nat.{eq-or-lt_of_le}
 use Rattle.std.proofs.lemmas.List.{append-nil, length-append}
 use Rattle.mob_ast.specs.declared.refusal.Refusal.{Refusal}
-use Rattle.mob_words.specs.CommandLine.{Says}
+use Rattle.mob_words.specs.CommandLine.{WordsSay}
 use Rattle.mob_accept.specs.Accepts.{IsAccepted, IsTextRefused, script_limit}
 use Rattle.mob_streams.specs.Streams.{ReadsPart, ReadsTo}
 use Rattle.mob_streams.proofs.Known.{takes_nothing}
@@ -17,8 +17,8 @@ use Rattle.mob_load.specs.Loads.{LoadsScript, Reaches, copied_files, nothing_loa
 use Rattle.mob_load.specs.declared.program.Program.{Program}
 use Rattle.mob_ending.specs.declared.ending.Ending.{Ending}
 use Rattle.mob_ending.specs.declared.ending.Ending.TheVariants.{Done, Usage, ReadFault, WriteFault, NoMemory, TableRefused, ScriptRefused, Overflow}
-use Rattle.mob_shell.specs.Program.{IsScript, IsProgram, IsHalted, IsReached, OutText, StopsWith, WritesFirst}
-use Rattle.mob_shell.specs.Ending.{AreCopied, AsksInOrder, Causes, Ends, IsCopied, IsUsage, OnTold, ReadsThrough, Seen}
+use Rattle.mob_shell.specs.Program.{AreTakenAs, IsProgram, IsHalted, IsReached, OutText, StopsWith, WritesFirst}
+use Rattle.mob_shell.specs.Ending.{AreCopied, AsksInOrder, IsCausedBy, IsEndingOf, IsCopied, IsUsage, OnTold, ReadsThrough, Seen}
 use Rattle.mob_shell.specs.Parts.{LoadEnds, RefusesText, RunsText}
 
 -- what holds of all holds of what is told
@@ -74,15 +74,15 @@ read-through s bytes reads = record {
 }
 
 module _ (s : Seen) (bytes : List ℕ) (reads : ReadsTo script_limit s.script s.rest bytes) where
-  pub text_refused : (e : Refusal) → IsTextRefused bytes e → Keeps s.out_before s.out_now → Causes (ScriptRefused e) s
+  pub text_refused : (e : Refusal) → IsTextRefused bytes e → Keeps s.out_before s.out_now → IsCausedBy (ScriptRefused e) s
   text_refused e h keeps = (record { read = read-through s bytes reads; cause = told s.script reads }, keeps)
     where
       told : (old : Option (List ℕ)) → ReadsTo script_limit old s.rest bytes → IfSome old (λ b. IsTextRefused b e ⊎ IfSome s.files (λ m. IsHalted s.words b m (refused e)))
       told None r = tt
       told (Some old) r = inl (refused-whole e old s.rest bytes r h)
 
-  module _ (workers : ℕ) (day : ℤ) (says : Says s.words workers day) (out : ScriptOut) (accepted : IsAccepted bytes out) where
-    script : IsScript s.words bytes day out
+  module _ (workers : ℕ) (day : ℤ) (says : WordsSay s.words workers day) (out : ScriptOut) (accepted : IsAccepted bytes out) where
+    script : AreTakenAs s.words bytes day out
     script = record { workers = workers; says = says; text = accepted }
 
     short : length bytes ≤ script_limit
@@ -107,7 +107,7 @@ module _ (s : Seen) (bytes : List ℕ) (reads : ReadsTo script_limit s.script s.
     program : (p : Program) (Q : Contents → Type 0) → ((m : Contents) → IsProgram s.words bytes m day out p → Q m) → IfSome s.files (λ m. LoadsScript day m out (Ok p)) → IfSome s.files Q
     program p Q f h = some_map (λ m. LoadsScript day m out (Ok p)) Q (λ m l. f m (record { script = script; loads = l })) s.files h
 
-    pub loaded_causes : (ending : Ending) → LoadEnds day out s.files s.asked_before s.asked_now s.filed_before s.filed_now s.out_before s.out_now s.put_before s.put_now ending → Causes ending s
+    pub loaded_causes : (ending : Ending) → LoadEnds day out s.files s.asked_before s.asked_now s.filed_before s.filed_now s.out_before s.out_now s.put_before s.put_now ending → IsCausedBy ending s
     loaded_causes Done h = record {
       text = h.left.text;
       ended = reads.whole short;
@@ -196,7 +196,7 @@ pub record IsEarly (s : Seen) : Type 0 where
   pub filed_later : s.filed_before ≤ s.filed_now
   pub put_later : s.put_before ≤ s.put_now
 
-pub early_ends : (ending : Ending) (s : Seen) → IsEarly s → Causes ending s → (IsUsage s.words → (ending ≡ Usage) ⊎ (ending ≡ NoMemory)) → Ends ending s
+pub early_ends : (ending : Ending) (s : Seen) → IsEarly s → IsCausedBy ending s → (IsUsage s.words → (ending ≡ Usage) ⊎ (ending ≡ NoMemory)) → IsEndingOf ending s
 early_ends ending s h cause usage = record {
   cause = cause;
   read = h.read;
@@ -216,14 +216,14 @@ pub record IsOrderly (s : Seen) : Type 0 where
   pub filed_later : s.filed_before ≤ s.filed_now
   pub put_later : s.put_before ≤ s.put_now
 
-refusal-causes : (s : Seen) (bytes : List ℕ) → ReadsTo script_limit s.script s.rest bytes → (ending : Ending) → Keeps s.out_before s.out_now → (ending ≡ NoMemory) ⊎ ((e : Refusal) × (ending ≡ ScriptRefused e) × IsTextRefused bytes e) → Causes ending s
-refusal-causes s bytes reads ending keeps (inl none) = subst (λ e. Causes e s) (sym none) (inl keeps)
-refusal-causes s bytes reads ending keeps (inr h) = subst (λ e. Causes e s) (sym h.1) (text_refused s bytes reads h.0 h.2 keeps)
+refusal-causes : (s : Seen) (bytes : List ℕ) → ReadsTo script_limit s.script s.rest bytes → (ending : Ending) → Keeps s.out_before s.out_now → (ending ≡ NoMemory) ⊎ ((e : Refusal) × (ending ≡ ScriptRefused e) × IsTextRefused bytes e) → IsCausedBy ending s
+refusal-causes s bytes reads ending keeps (inl none) = subst (λ e. IsCausedBy e s) (sym none) (inl keeps)
+refusal-causes s bytes reads ending keeps (inr h) = subst (λ e. IsCausedBy e s) (sym h.1) (text_refused s bytes reads h.0 h.2 keeps)
 
 -- a run whose text was judged, and loaded and run where it is a script
-pub text_ends : (s : Seen) (bytes : List ℕ) → ReadsTo script_limit s.script s.rest bytes → (workers : ℕ) (day : ℤ) → Says s.words workers day → IsOrderly s → (ending : Ending)
+pub text_ends : (s : Seen) (bytes : List ℕ) → ReadsTo script_limit s.script s.rest bytes → (workers : ℕ) (day : ℤ) → WordsSay s.words workers day → IsOrderly s → (ending : Ending)
     → RunsText day bytes s.files s.asked_before s.asked_now s.filed_before s.filed_now s.out_before s.out_now s.put_before s.put_now ending ⊎ RefusesText bytes s.asked_before s.asked_now s.out_before s.out_now ending
-    → Ends ending s
+    → IsEndingOf ending s
 text_ends s bytes reads workers day says orderly ending (inl h) = record {
   cause = loaded_causes s bytes reads workers day says h.out h.accepted ending h.ends;
   read = orderly.read;

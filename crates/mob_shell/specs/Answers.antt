@@ -4,9 +4,9 @@ use Rattle.mob_typing.specs.Selects.{TypedSelectParts}
 use Rattle.mob_value.specs.declared.store.Store.{Store}
 use Rattle.mob_eval.specs.QueryFaults.{TupleFault}
 use Rattle.mob_join.specs.Query.{IsKept}
-use Rattle.mob_tail.specs.Answers.{IsAnswer}
+use Rattle.mob_tail.specs.Answers.{IsQueryAnswer}
 
 -- The rows of the answer of a query, or its first fault: that of WHERE on all tuples in order, and then that of the kept ones.
-abbrev pub Answers : TypedSelectParts → Store → ℤ → Result (List (List (List ℕ))) TupleFault → Type 0
-Answers select store day (Ok answer) = (kept : List (List ℕ)) × IsKept select store day (Ok kept) × IsAnswer select store day kept (Ok answer)
-Answers select store day (Err f) = IsKept select store day (Err f) ⊎ ((kept : List (List ℕ)) × IsKept select store day (Ok kept) × IsAnswer select store day kept (Err f))
+abbrev pub QueryAnswers : TypedSelectParts → Store → ℤ → Result (List (List (List ℕ))) TupleFault → Type 0
+QueryAnswers select store day (Ok answer) = (kept : List (List ℕ)) × IsKept select store day (Ok kept) × IsQueryAnswer select store day kept (Ok answer)
+QueryAnswers select store day (Err f) = IsKept select store day (Err f) ⊎ ((kept : List (List ℕ)) × IsKept select store day (Ok kept) × IsQueryAnswer select store day kept (Err f))

@@ -7,18 +7,18 @@ use Rattle.mob_outside.specs.Faults.{Rose}
 use Rattle.mob_outside.specs.Told.{Contents, KeepsFiles}
 use Rattle.mob_slice.specs.declared.formula.Formula.{Formula}
 use Rattle.mob_streams.specs.Streams.{PutsPart, ReadsPart}
-use Rattle.mob_words.specs.CommandLine.{Says}
+use Rattle.mob_words.specs.CommandLine.{WordsSay}
 use Rattle.mob_accept.specs.Accepts.{IsTextRefused, script_limit}
 use Rattle.mob_typing.specs.Statements.{ScriptOut}
 use Rattle.mob_load.specs.Loads.{missing, refused, table_refused, copied_files}
 use Rattle.mob_load.specs.Fronts.{AsksForSome, IsAskedLast}
 use Rattle.mob_ending.specs.declared.ending.Ending.{Ending}
 use Rattle.mob_ending.specs.declared.ending.Ending.TheVariants.{Done, Usage, ReadFault, WriteFault, NoMemory, TableRefused, ScriptRefused, Overflow}
-use Rattle.mob_shell.specs.Program.{IsScript, IsHalted, IsReached, WritesFirst, OutText, StopsWith}
+use Rattle.mob_shell.specs.Program.{AreTakenAs, IsHalted, IsReached, WritesFirst, OutText, StopsWith}
 
 -- the words are not taken
 abbrev pub IsUsage : List (List ℕ) → Type 0
-IsUsage words = (workers : ℕ) (day : ℤ) → Says words workers day → ⊥
+IsUsage words = (workers : ℕ) (day : ℤ) → WordsSay words workers day → ⊥
 
 -- the words have settings
 abbrev pub HaveSettings : List (List ℕ) → Type 0
@@ -69,7 +69,7 @@ abbrev pub OnTold : Seen → (List ℕ → Contents → Type 0) → Type 0
 OnTold s P = IfSome s.script (λ bytes. IfSome s.files (λ files. P bytes files))
 
 -- this text was written whole: the answers of a script that was read to its end
-pub record Writes (s : Seen) : Type 0 where
+pub record WritesAll (s : Seen) : Type 0 where
   pub text : List ℕ
   pub ended : IsAtEnd s.rest
   pub answers : OnTold s (λ bytes files. OutText s.words bytes files text)
@@ -91,7 +91,7 @@ pub record WroteSome (s : Seen) : Type 0 where
   pub whole : Appends s.out_before s.out_now text
 
 -- the answers before a statement were written, which has this fault: the rows of its tuple, its place and its formula
-pub record StopsAt (s : Seen) (number : ℕ) (rows : List ℕ) (place : ℕ) (formula : Formula) : Type 0 where
+pub record StopsAtFault (s : Seen) (number : ℕ) (rows : List ℕ) (place : ℕ) (formula : Formula) : Type 0 where
   pub text : List ℕ
   pub fault : OnTold s (λ bytes files. StopsWith s.words bytes files text number (rows, (place, formula)))
   pub whole : Appends s.out_before s.out_now text
@@ -103,13 +103,13 @@ pub record ReadsThrough (s : Seen) : Type 0 where
   pub through : IsAtEnd s.rest ⊎ (length bytes ≡ script_limit + 1)
 
 -- the script is refused by itself, or by one of its literals or rows
-pub record IsRefused (s : Seen) (e : Refusal) : Type 0 where
+pub record HasScriptRefusal (s : Seen) (e : Refusal) : Type 0 where
   pub read : ReadsThrough s
   pub cause : IfSome s.script (λ bytes. IsTextRefused bytes e ⊎ IfSome s.files (λ files. IsHalted s.words bytes files (refused e)))
 
 -- these are the names of the COPY statements of the script, in order; or none, where there is no such script
 abbrev pub AreCopied : List (List ℕ) → List ℕ → List (List ℕ) → Type 0
-AreCopied words bytes names = (names ≡ []) ⊎ ((day : ℤ) × (out : ScriptOut) × IsScript words bytes day out × (names ≡ copied_files out.statements))
+AreCopied words bytes names = (names ≡ []) ⊎ ((day : ℤ) × (out : ScriptOut) × AreTakenAs words bytes day out × (names ≡ copied_files out.statements))
 
 -- this is the file of a COPY statement of the script, and the files were asked for those of the COPY statements before, and for
 -- it last
@@ -138,15 +138,15 @@ CouldNotRead None s = Rose s.read_before s.read_now
 CouldNotRead (Some file) s = IsUnread s file
 
 -- Why a run ended so. Nothing was written but under `Done`, `WriteFault`, `NoMemory` and `Overflow`, and under `Usage` nothing was read.
-abbrev pub Causes : Ending → Seen → Type 0
-Causes Done s = Writes s
-Causes Usage s = IsUsage s.words × Keeps s.script s.rest × Keeps s.out_before s.out_now
-Causes (ReadFault file) s = CouldNotRead file s × Keeps s.out_before s.out_now
-Causes WriteFault s = CutsShort s
-Causes NoMemory s = Keeps s.out_before s.out_now ⊎ WroteSome s
-Causes (TableRefused file kind rec field) s = IsTableRefused s file kind rec field × Keeps s.out_before s.out_now
-Causes (ScriptRefused refusal) s = IsRefused s refusal × Keeps s.out_before s.out_now
-Causes (Overflow number rows place formula) s = StopsAt s number rows place formula
+abbrev pub IsCausedBy : Ending → Seen → Type 0
+IsCausedBy Done s = WritesAll s
+IsCausedBy Usage s = IsUsage s.words × Keeps s.script s.rest × Keeps s.out_before s.out_now
+IsCausedBy (ReadFault file) s = CouldNotRead file s × Keeps s.out_before s.out_now
+IsCausedBy WriteFault s = CutsShort s
+IsCausedBy NoMemory s = Keeps s.out_before s.out_now ⊎ WroteSome s
+IsCausedBy (TableRefused file kind rec field) s = IsTableRefused s file kind rec field × Keeps s.out_before s.out_now
+IsCausedBy (ScriptRefused refusal) s = HasScriptRefusal s refusal × Keeps s.out_before s.out_now
+IsCausedBy (Overflow number rows place formula) s = StopsAtFault s number rows place formula
 
 -- the script could not be read, or some file
 abbrev pub IsReadFault : Seen → Type 0
@@ -158,11 +158,11 @@ IsTableFault s = (name : List ℕ) × (kind : Kind) × (rec : ℕ) × (field : �
 
 -- the script is refused, at some place
 abbrev pub IsScriptRefused : Seen → Type 0
-IsScriptRefused s = (e : Refusal) × IsRefused s e
+IsScriptRefused s = (e : Refusal) × HasScriptRefusal s e
 
 -- a part of some formula does not fit
 abbrev pub IsOverflow : Seen → Type 0
-IsOverflow s = (number : ℕ) × (rows : List ℕ) × (place : ℕ) × (formula : Formula) × StopsAt s number rows place formula
+IsOverflow s = (number : ℕ) × (rows : List ℕ) × (place : ℕ) × (formula : Formula) × StopsAtFault s number rows place formula
 
 -- How a run has to end, by its words, its script and its files: with all answers, by its words, for a file that is not there (which
 -- the files count as a fault), with a refusal or with the fault of a statement. They ask for no other ending.
@@ -178,8 +178,8 @@ IsDue words bytes files (ScriptRefused e) = HaveSettings words × (IsTextRefused
 IsDue words bytes files (Overflow number rows place formula) = (text : List ℕ) × StopsWith words bytes files text number (rows, (place, formula))
 
 -- the script and the files are told, and the definitions ask for this ending
-abbrev pub Gives : Seen → Ending → Type 0
-Gives s ending = IsSomeAnd s.script (λ bytes. IsSomeAnd s.files (λ files. IsDue s.words bytes files ending))
+abbrev pub MustEnd : Seen → Ending → Type 0
+MustEnd s ending = IsSomeAnd s.script (λ bytes. IsSomeAnd s.files (λ files. IsDue s.words bytes files ending))
 
 -- no count of faults rose: of the script, of the files and of `out`
 pub record IsFaultless (s : Seen) : Type 0 where
@@ -195,8 +195,8 @@ pub record AsksInOrder (s : Seen) : Type 0 where
 
 -- how a run ended: by its cause, by usage where the words ask for it or else by want of memory, with at most one byte past the
 -- limit read of the script, the names of files asked in order, files that stay as they were, and counts that do not fall
-pub record Ends (ending : Ending) (s : Seen) : Type 0 where
-  pub cause : Causes ending s
+pub record IsEndingOf (ending : Ending) (s : Seen) : Type 0 where
+  pub cause : IsCausedBy ending s
   pub read : ReadsPart script_limit s.script s.rest
   pub asked : AsksInOrder s
   pub files : KeepsFiles s.files s.files_now

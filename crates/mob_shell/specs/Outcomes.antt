@@ -9,7 +9,7 @@ use Rattle.mob_load.specs.declared.program.Program.{Program}
 use Rattle.mob_eval.specs.QueryFaults.{TupleFault}
 use Rattle.mob_ending.specs.declared.ending.Ending.{Ending}
 use Rattle.mob_shell.specs.Ending.{IsDue}
-use Rattle.mob_shell.specs.Program.{IsHalted, IsProgram, IsScript, OutText, StopsWith}
+use Rattle.mob_shell.specs.Program.{IsHalted, IsProgram, AreTakenAs, OutText, StopsWith}
 
 -- they make one program
 abbrev pub HasOneProgram : Type 0
@@ -25,7 +25,7 @@ NeverProgramAndHalted = (words : List (List ℕ)) (bytes : List ℕ) (files : Co
 
 -- a text that is refused by itself is no script
 abbrev pub NeverScriptAndRefused : Type 0
-NeverScriptAndRefused = (words : List (List ℕ)) (bytes : List ℕ) (day : ℤ) (out : ScriptOut) (e : Refusal) → IsScript words bytes day out → IsTextRefused bytes e → ⊥
+NeverScriptAndRefused = (words : List (List ℕ)) (bytes : List ℕ) (day : ℤ) (out : ScriptOut) (e : Refusal) → AreTakenAs words bytes day out → IsTextRefused bytes e → ⊥
 
 -- the answers of all statements are one text
 abbrev pub HasOneText : Type 0

@@ -13,21 +13,21 @@ use Rattle.mob_load.specs.Fronts.{AsksForSome, IsAskedLast}
 use Rattle.mob_load.specs.Checks.{checks_of}
 use Rattle.mob_load.specs.Loads.{refused, table_refused, copied_files, LoadsScript, Reaches, nothing_loaded}
 use Rattle.mob_load.specs.declared.program.Program.{Program}
-use Rattle.mob_shell.specs.Runs.{Standing, Step, Stops, begin}
+use Rattle.mob_shell.specs.Runs.{RunState, RunsStatement, Stops, begin}
 use Rattle.mob_slice.specs.declared.formula.Formula.{Formula}
 use Rattle.mob_ending.specs.declared.ending.Ending.{Ending}
 use Rattle.mob_ending.specs.declared.ending.Ending.TheVariants.{Done, Usage, ReadFault, WriteFault, NoMemory, TableRefused, ScriptRefused, Overflow}
 
 -- the first statements ran, and this is what they write
 pub record RanTo (day : ℤ) (out : ScriptOut) (program : Program) (count : ℕ) (text : List ℕ) : Type 0 where
-  pub stands : Standing
-  pub ran : Ran (Step day) (begin program) (take count out.statements) stands text
+  pub stands : RunState
+  pub ran : Ran (RunsStatement day) (begin program) (take count out.statements) stands text
 
 -- all statements ran, and their answers were put
 pub record RanAll (day : ℤ) (out : ScriptOut) (program : Program) (old new : Option (List ℕ)) : Type 0 where
   pub text : List ℕ
-  pub stands : Standing
-  pub ran : Ran (Step day) (begin program) out.statements stands text
+  pub stands : RunState
+  pub ran : Ran (RunsStatement day) (begin program) out.statements stands text
   pub put : Appends old new text
 
 -- the statement of this number has a fault, and the answers before it were put
@@ -35,8 +35,8 @@ pub record RanUpTo (day : ℤ) (out : ScriptOut) (program : Program) (number : �
   pub text : List ℕ
   pub before : ℕ
   pub counts : number ≡ before + 1
-  pub stands : Standing
-  pub ran : Ran (Step day) (begin program) (take before out.statements) stands text
+  pub stands : RunState
+  pub ran : Ran (RunsStatement day) (begin program) (take before out.statements) stands text
   pub statement : StatementOut
   pub there : slice_get out.statements before ≡ Some statement
   pub stops : Stops day stands statement (rows, (place, formula))
@@ -66,17 +66,17 @@ RunEnds day out program old new before now NoMemory = RanSome day out program ol
 RunEnds day out program old new before now _ = ⊥
 
 -- the script is loaded, where the files are told, and its statements leave this
-pub record Loaded (day : ℤ) (out : ScriptOut) (files : Option Contents) (Left : Program → Type 0) : Type 0 where
+pub record LoadsAndLeaves (day : ℤ) (out : ScriptOut) (files : Option Contents) (Left : Program → Type 0) : Type 0 where
   pub program : Program
   pub loads : IfSome files (λ m. LoadsScript day m out (Ok program))
   pub left : Left program
 
 -- what loading a typed script and running it leave
 abbrev pub LoadEnds : ℤ → ScriptOut → Option Contents → Option (List (List ℕ)) → Option (List (List ℕ)) → ℕ → ℕ → Option (List ℕ) → Option (List ℕ) → ℕ → ℕ → Ending → Type 0
-LoadEnds day out files asked asked_now filed filed_now old new before now Done = Loaded day out files (λ p. RanAll day out p old new)
-LoadEnds day out files asked asked_now filed filed_now old new before now (Overflow number rows place formula) = Loaded day out files (λ p. RanUpTo day out p number rows place formula old new)
-LoadEnds day out files asked asked_now filed filed_now old new before now WriteFault = Loaded day out files (λ p. RanShort day out p old new before now)
-LoadEnds day out files asked asked_now filed filed_now old new before now NoMemory = Keeps old new ⊎ Loaded day out files (λ p. RanSome day out p old new)
+LoadEnds day out files asked asked_now filed filed_now old new before now Done = LoadsAndLeaves day out files (λ p. RanAll day out p old new)
+LoadEnds day out files asked asked_now filed filed_now old new before now (Overflow number rows place formula) = LoadsAndLeaves day out files (λ p. RanUpTo day out p number rows place formula old new)
+LoadEnds day out files asked asked_now filed filed_now old new before now WriteFault = LoadsAndLeaves day out files (λ p. RanShort day out p old new before now)
+LoadEnds day out files asked asked_now filed filed_now old new before now NoMemory = Keeps old new ⊎ LoadsAndLeaves day out files (λ p. RanSome day out p old new)
 LoadEnds day out files asked asked_now filed filed_now old new before now (TableRefused name kind rec field) = (IfSome files (λ m. LoadsScript day m out (Err (table_refused name kind rec field))) × IsAskedLast (copied_files out.statements) asked asked_now name) × Keeps old new
 LoadEnds day out files asked asked_now filed filed_now old new before now (ScriptRefused e) = IfSome files (λ m. LoadsScript day m out (Err (refused e))) × Keeps old new
 LoadEnds day out files asked asked_now filed filed_now old new before now (ReadFault (Some name)) = ((Rose filed filed_now × IsAskedLast (copied_files out.statements) asked asked_now name) × IfSome files (λ m. Reaches day m (checks_of out) nothing_loaded name)) × Keeps old new

@@ -5,26 +5,26 @@ use Rattle.mob_outside.specs.Faults.{Rose}
 use Rattle.mob_outside.specs.Told.{KeepsFiles}
 use Rattle.mob_streams.specs.Streams.{ReadsPart}
 use Rattle.mob_accept.specs.Accepts.{script_limit}
-use Rattle.mob_ending.specs.Lines.{line_of, status_of}
+use Rattle.mob_ending.specs.Lines.{note_line, status_of}
 use Rattle.mob_ending.specs.declared.ending.Ending.{Ending}
 use Rattle.mob_ending.specs.declared.ending.Ending.TheVariants.{ReadFault}
-use Rattle.mob_shell.specs.Ending.{AsksInOrder, Causes, CutsShort, Gives, IsDue, IsFaultless, IsOverflow, IsReadFault, IsScriptRefused, IsTableFault, IsUsage, OnTold, Seen, Writes, WroteSome}
+use Rattle.mob_shell.specs.Ending.{AsksInOrder, IsCausedBy, CutsShort, MustEnd, IsDue, IsFaultless, IsOverflow, IsReadFault, IsScriptRefused, IsTableFault, IsUsage, OnTold, Seen, WritesAll, WroteSome}
 
 -- the status and the note are those of this ending
 pub record EndsSo (ending : Ending) (status : ℕ) (Noted : List ℕ → Type 0) : Type 0 where
   pub number : status ≡ status_of ending
-  pub noted : Noted (line_of ending)
+  pub noted : Noted (note_line ending)
 
 -- The note is the line of the ending with this status and its cause. What is noted of a line says `Noted`.
 pub record IsTold (status : ℕ) (s : Seen) (Noted : List ℕ → Type 0) : Type 0 where
   pub ending : Ending
-  pub cause : Causes ending s
+  pub cause : IsCausedBy ending s
   pub ends : EndsSo ending status Noted
 
 -- A run with this status, by what was seen of it and of its note.
 pub record IsRun (status : ℕ) (s : Seen) (Noted : List ℕ → Type 0) : Type 0 where
   -- 0: the script was read to its end, it is a program, and the answers of all its statements were written whole
-  pub written : status ≡ 0 → Writes s
+  pub written : status ≡ 0 → WritesAll s
   -- 2: only by the words; and words that are not taken give 2, but for want of memory
   pub usage : status ≡ 2 → IsUsage s.words
   pub exactly_usage : IsUsage s.words → (status ≡ 2) ⊎ (status ≡ 5)
@@ -48,9 +48,9 @@ pub record IsRun (status : ℕ) (s : Seen) (Noted : List ℕ → Type 0) : Type 
   -- The other way, for a script and files that are told, where no count of the script, the files and `out` rose: the definitions ask
   -- for an ending, and the status and the note are its own; so they are wherever the definitions ask for one. Want of memory is free.
   pub due : IsFaultless s → OnTold s (λ bytes files. (ending : Ending) × IsDue s.words bytes files ending × EndsSo ending status Noted) ⊎ (status ≡ 5)
-  pub complete : (ending : Ending) → Gives s ending → IsFaultless s → EndsSo ending status Noted ⊎ (status ≡ 5)
+  pub complete : (ending : Ending) → MustEnd s ending → IsFaultless s → EndsSo ending status Noted ⊎ (status ≡ 5)
   -- where a file is not there, which the files count as a fault, the status is 3, if neither the script nor `out` failed
-  pub missing : (file : List ℕ) → Gives s (ReadFault (Some file)) → (Rose s.read_before s.read_now → ⊥) → (Rose s.put_before s.put_now → ⊥) → (status ≡ 3) ⊎ (status ≡ 5)
+  pub missing : (file : List ℕ) → MustEnd s (ReadFault (Some file)) → (Rose s.read_before s.read_now → ⊥) → (Rose s.put_before s.put_now → ⊥) → (status ≡ 3) ⊎ (status ≡ 5)
   -- under every status: at most one byte past the limit is taken from the script, the files are asked for the names of the
   -- script's COPY statements alone, in order, the files that are told stay as they were, and no count of faults falls
   pub reads : ReadsPart script_limit s.script s.rest

@@ -5,36 +5,36 @@ use Rattle.mob_typing.specs.Statements.{statement_seen}
 use Rattle.mob_eval.specs.QueryFaults.{TupleFault}
 use Rattle.mob_eval.specs.declared.query_fault.QueryFault.{QueryFault}
 use Rattle.mob_eval.specs.declared.query_fault.QueryFault.TheVariants.{Passed, NoMemory as OutOfMemory}
-use Rattle.mob_streams.specs.declared.answers.Halt.{Halt}
-use Rattle.mob_streams.specs.declared.answers.Halt.TheVariants.{Fault, NoMemory}
-use Rattle.mob_shell.specs.Runs.{Standing, Step, Stops}
+use Rattle.mob_streams.specs.declared.answers.NoAnswer.{NoAnswer}
+use Rattle.mob_streams.specs.declared.answers.NoAnswer.TheVariants.{Fault, NoMemory}
+use Rattle.mob_shell.specs.Runs.{RunState, RunsStatement, Stops}
 use Rattle.mob_shell.specs.declared.session.Session.{Session}
 use Rattle.mob_shell.specs.declared.session.Overflow.{Overflow}
 
 -- where the run stands
-abbrev pub standing : Session → Standing
-standing s = record { catalogue = s.catalog; files = s.files.items }
+abbrev pub session_state : Session → RunState
+session_state s = record { catalogue = s.catalog; files = s.files.items }
 
 -- the day from which its moments count
-abbrev pub day_of : Session → ℤ
-day_of s = s.epoch
+abbrev pub session_day : Session → ℤ
+session_day s = s.epoch
 
 -- one statement
-pub record Steps (s : Session) (x : TypedStatement) (t : Session) (text : List ℕ) : Type 0 where
-  pub step : Step (day_of s) (standing s) (statement_seen x) (standing t) text
-  pub day : day_of t ≡ day_of s
+pub record SessionRuns (s : Session) (x : TypedStatement) (t : Session) (text : List ℕ) : Type 0 where
+  pub step : RunsStatement (session_day s) (session_state s) (statement_seen x) (session_state t) text
+  pub day : session_day t ≡ session_day s
 
 -- the tuple, the place and the formula of a fault
-abbrev pub fault_of : Overflow → TupleFault
-fault_of o = (o.rows, (o.place, o.formula))
+abbrev pub overflow_fault : Overflow → TupleFault
+overflow_fault o = (o.rows, (o.place, o.formula))
 
 -- a statement has this fault
 abbrev pub StopsOn : Session → TypedStatement → Overflow → Type 0
-StopsOn s x o = Stops (day_of s) (standing s) (statement_seen x) (fault_of o)
+StopsOn s x o = Stops (session_day s) (session_state s) (statement_seen x) (overflow_fault o)
 
 -- the halt of a query: its fault, or want of memory
-abbrev pub HaltsBy : QueryFault → Halt Overflow → Type 0
-HaltsBy (Passed tuple place formula) (Fault o) = fault_of o ≡ (tuple, (place, formula))
-HaltsBy (Passed tuple place formula) NoMemory = ⊥
-HaltsBy OutOfMemory (Fault o) = ⊥
-HaltsBy OutOfMemory NoMemory = Unit {0}
+abbrev pub HasNoAnswerBy : QueryFault → NoAnswer Overflow → Type 0
+HasNoAnswerBy (Passed tuple place formula) (Fault o) = overflow_fault o ≡ (tuple, (place, formula))
+HasNoAnswerBy (Passed tuple place formula) NoMemory = ⊥
+HasNoAnswerBy OutOfMemory (Fault o) = ⊥
+HasNoAnswerBy OutOfMemory NoMemory = Unit {0}

@@ -2,7 +2,7 @@
 ghost use Rattle.std.specs.Prelude.{◌≡◌, Ok, Err, IfOk, IfErr, map};
 ghost use Rattle.mob_typing.specs.Selects.{select_seen};
 ghost use Rattle.mob_eval.specs.QueryFaults.{OnTuple};
-ghost use Rattle.mob_shell.specs.Answers.{Answers};
+ghost use Rattle.mob_shell.specs.Answers.{QueryAnswers};
 
 use mob_eval::QueryFault;
 use mob_join::{Query, kept};
@@ -13,8 +13,8 @@ use std::alloc::Global;
 /// kept ones.
 pub fn answered(alloc: Global, query: &Query<'_>) -> Result<Answer, QueryFault>
     ensures names { IfOk result (λ answer. answer.names ≡ map (λ item. item.1) (select_seen query.now.select.now).items) }
-    ensures rows { IfOk result (λ answer. Answers (select_seen query.now.select.now) query.now.store.now query.now.epoch.now (Ok answer.rows)) }
-    ensures fault { IfErr result (OnTuple (λ f. Answers (select_seen query.now.select.now) query.now.store.now query.now.epoch.now (Err f))) }
+    ensures rows { IfOk result (λ answer. QueryAnswers (select_seen query.now.select.now) query.now.store.now query.now.epoch.now (Ok answer.rows)) }
+    ensures fault { IfErr result (OnTuple (λ f. QueryAnswers (select_seen query.now.select.now) query.now.store.now query.now.epoch.now (Err f))) }
 {
     match kept(alloc, query) {
         Ok(kept) => answer_to(

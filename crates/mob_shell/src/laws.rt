@@ -1,5 +1,5 @@
 //! What holds of every run. No code runs here.
-ghost use Rattle.mob_shell.specs.StepOutcomes.{HasOneFault, HasOneStep, NeverRunsAndStops, OneAnswer};
+ghost use Rattle.mob_shell.specs.StepOutcomes.{HasOneStatementFault, HasOneStep, NeverRunsAndStops, OneAnswer};
 ghost use Rattle.mob_shell.specs.Outcomes.{HasOneEnding, HasOneHalt, HasOneProgram, HasOneStop, HasOneText, NeverEndsAndStops, NeverProgramAndHalted, NeverScriptAndRefused};
 
 /// A query has one answer, or one fault.
@@ -13,7 +13,7 @@ pub fn one_answer()
 /// A statement has one outcome where a run stands: it leaves one thing and writes one text, or it has one fault.
 pub fn one_step()
     ensures step { HasOneStep }
-    ensures stop { HasOneFault }
+    ensures stop { HasOneStatementFault }
     ensures apart { NeverRunsAndStops }
 {
     one_answer();

@@ -1,7 +1,7 @@
 // Rows that are put into tables.
 ghost use Rattle.std.specs.Prelude.{◌≡◌, IfOk, OnOk, map};
 ghost use Rattle.mob_catalog.specs.Catalogue.{with_row};
-ghost use Rattle.mob_shell.specs.Runs.{constant, row_of as values_of, with_rows};
+ghost use Rattle.mob_shell.specs.Runs.{constant_value, inserted_row as values_of, with_all_rows};
 
 use mob_ast::SqlType;
 use mob_catalog::Catalog;
@@ -13,7 +13,7 @@ use std::collections::VecDeque;
 
 // The value of a constant: NULL has no number.
 fn value_of(alloc: Global, consts: &[Value], number: &Option<u32>) -> Result<Value, AllocError>
-    ensures value { IfOk result (λ v. v ≡ constant consts.now number.now) }
+    ensures value { IfOk result (λ v. v ≡ constant_value consts.now number.now) }
 {
     let Some(number) = number else {
         return Ok(Value::Null);
@@ -55,7 +55,7 @@ pub fn put_constants(
     table: u32,
     rows: &[Items<Option<u32>>],
 ) -> Result<(), AllocError>
-    ensures put { OnOk result (catalog.new ≡ with_rows table (map (values_of catalog.old.store.consts) rows.now) catalog.old) }
+    ensures put { OnOk result (catalog.new ≡ with_all_rows table (map (values_of catalog.old.store.consts) rows.now) catalog.old) }
 {
     for row in rows {
         let values = row_of(alloc, catalog.store().consts.as_slice(), row.as_slice())?;
@@ -70,7 +70,7 @@ pub fn put_rows(
     table: u32,
     rows: Items<Items<Value>>,
 ) -> Result<(), AllocError>
-    ensures put { OnOk result (catalog.new ≡ with_rows table rows catalog.old) }
+    ensures put { OnOk result (catalog.new ≡ with_all_rows table rows catalog.old) }
 {
     let mut left = VecDeque::from_vec(rows.into_vec());
     while let Some(row) = left.pop_front() {

@@ -3,8 +3,8 @@ ghost use Rattle.std.specs.Prelude.{◌≡◌, IfOk, IfErr, OnOk};
 ghost use Rattle.mob_streams.specs.Answers.{OnFault};
 ghost use Rattle.mob_typing.specs.Selects.{select_seen};
 ghost use Rattle.mob_typing.specs.Statements.{query, statement_seen};
-ghost use Rattle.mob_shell.specs.Runs.{Stops, Writes, after, begin, later_files, next_rows};
-ghost use Rattle.mob_shell.specs.Session.{HaltsBy, day_of, fault_of, standing};
+ghost use Rattle.mob_shell.specs.Runs.{Stops, StatementWrites, state_after, begin, later_files, next_rows};
+ghost use Rattle.mob_shell.specs.Session.{HasNoAnswerBy, session_day, overflow_fault, session_state};
 
 use crate::answers::answered;
 use crate::rows::{copy_of_columns, put_constants, put_rows};
@@ -15,7 +15,7 @@ use mob_list::items::Items;
 use mob_load::Program;
 use mob_scalar::Epoch;
 use mob_slice::Formula;
-use mob_streams::{Engine, Halt};
+use mob_streams::{Engine, NoAnswer};
 use mob_tail::answer_text;
 use mob_typing::{TypedSelect, TypedStatement};
 use mob_value::Value;
@@ -44,8 +44,8 @@ pub struct Session {
 impl Session {
     /// A run before its first statement: no table, the values of the script's literals, and the rows of its files.
     pub fn new(alloc: Global, program: Program, epoch: Epoch) -> Session
-        ensures begins { standing result ≡ begin program }
-        ensures day { day_of result ≡ epoch }
+        ensures begins { session_state result ≡ begin program }
+        ensures day { session_day result ≡ epoch }
     {
         let Program { values, files } = program;
         Session {
@@ -69,9 +69,9 @@ impl Session {
     }
 
     // The text of the answer of a query.
-    fn answer(&self, alloc: Global, select: &TypedSelect) -> Result<Vec<u8>, Halt<Overflow>>
-        ensures text { IfOk result (λ text. Writes (day_of self.now) (standing self.now) (query (select_seen select.now)) text.items) }
-        ensures fault { IfErr result (OnFault (λ o. Stops (day_of self.now) (standing self.now) (query (select_seen select.now)) (fault_of o))) }
+    fn answer(&self, alloc: Global, select: &TypedSelect) -> Result<Vec<u8>, NoAnswer<Overflow>>
+        ensures text { IfOk result (λ text. StatementWrites (session_day self.now) (session_state self.now) (query (select_seen select.now)) text.items) }
+        ensures fault { IfErr result (OnFault (λ o. Stops (session_day self.now) (session_state self.now) (query (select_seen select.now)) (overflow_fault o))) }
     {
         let query = Query {
             select,
@@ -84,14 +84,14 @@ impl Session {
         };
         match answer_text(alloc, &answer) {
             Ok(text) => Ok(text),
-            Err(_) => Err(Halt::NoMemory),
+            Err(_) => Err(NoAnswer::NoMemory),
         }
     }
 
     // What a statement that is no query does: it writes nothing.
     fn change(&mut self, alloc: Global, statement: &TypedStatement) -> Result<(), AllocError>
-        ensures stands { OnOk result (standing self.new ≡ after (standing self.old) (statement_seen statement.now)) }
-        ensures day { OnOk result (day_of self.new ≡ day_of self.old) }
+        ensures stands { OnOk result (session_state self.new ≡ state_after (session_state self.old) (statement_seen statement.now)) }
+        ensures day { OnOk result (session_day self.new ≡ session_day self.old) }
     {
         match statement {
             TypedStatement::CreateTable { columns, .. } => {
@@ -114,31 +114,31 @@ impl Session {
 }
 
 // The halt of a query that has no answer.
-fn halt_of(fault: QueryFault) -> Halt<Overflow>
-    ensures halt { HaltsBy fault result }
+fn halt_of(fault: QueryFault) -> NoAnswer<Overflow>
+    ensures halt { HasNoAnswerBy fault result }
 {
     match fault {
         QueryFault::Passed {
             tuple,
             place,
             formula,
-        } => Halt::Fault(Overflow {
+        } => NoAnswer::Fault(Overflow {
             rows: tuple,
             place,
             formula,
         }),
-        QueryFault::NoMemory => Halt::NoMemory,
+        QueryFault::NoMemory => NoAnswer::NoMemory,
     }
 }
 
 impl Engine for Session {
-    ghost use Rattle.mob_shell.specs.Session.{Steps, StopsOn};
+    ghost use Rattle.mob_shell.specs.Session.{SessionRuns, StopsOn};
 
     type Statement = TypedStatement;
 
     type Fault = Overflow;
 
-    ghost step = { Steps };
+    ghost step = { SessionRuns };
 
     ghost stops = { StopsOn };
 
@@ -146,12 +146,12 @@ impl Engine for Session {
         &mut self,
         alloc: Global,
         statement: &TypedStatement,
-    ) -> Result<Vec<u8>, Halt<Overflow>> {
+    ) -> Result<Vec<u8>, NoAnswer<Overflow>> {
         match statement {
             TypedStatement::Select(select) => self.answer(alloc, select),
             _ => match self.change(alloc, statement) {
                 Ok(()) => Ok(Vec::new(alloc)),
-                Err(_) => Err(Halt::NoMemory),
+                Err(_) => Err(NoAnswer::NoMemory),
             },
         }
     }

@@ -3,8 +3,8 @@ use Rattle.std.specs.Prelude.{◌≡◌, ◌+◌, ℕ, List, [], ◌∷◌, ◌+
 use Rattle.std.specs.Io.KnownBytes.{Appends}
 use Rattle.mob_outside.specs.Faults.{Rose}
 use Rattle.mob_streams.specs.Streams.{PutsPart}
-use Rattle.mob_streams.specs.declared.answers.Halt.{Halt}
-use Rattle.mob_streams.specs.declared.answers.Halt.TheVariants.{Fault, NoMemory as OutOfMemory}
+use Rattle.mob_streams.specs.declared.answers.NoAnswer.{NoAnswer}
+use Rattle.mob_streams.specs.declared.answers.NoAnswer.TheVariants.{Fault, NoMemory as OutOfMemory}
 use Rattle.mob_streams.specs.declared.answers.RunEnd.{RunEnd}
 use Rattle.mob_streams.specs.declared.answers.RunEnd.TheVariants.{Done, Stopped, NotWritten, NoMemory}
 
@@ -14,7 +14,7 @@ Ran step s [] t text = (t ≡ s) × (text ≡ [])
 Ran {E} step s (x ∷ xs) t text = (u : E) × (first : List ℕ) × (rest : List ℕ) × step s x u first × Ran step u xs t rest × (text ≡ first ++ rest)
 
 -- the cause where there is a fault
-abbrev pub OnFault : {F : Type 0} → (F → Type 0) → Halt F → Type 0
+abbrev pub OnFault : {F : Type 0} → (F → Type 0) → NoAnswer F → Type 0
 OnFault P (Fault f) = P f
 OnFault P OutOfMemory = Unit {0}
 
@@ -34,13 +34,13 @@ pub record PutsFront {E S : Type 0} (step : E → S → E → List ℕ → Type 
 
 -- How the statements end that are run from the state s, and what is written. Where all ran, `left` is the state to which
 -- they took it. Statements count from 1.
-abbrev pub Ends : {E S F : Type 0} → (E → S → E → List ℕ → Type 0) → (E → S → F → Type 0) → E → E → List S → Option (List ℕ) → Option (List ℕ) → ℕ → ℕ → RunEnd F → Type 0
-Ends step stops s left all old now before after Done = (text : List ℕ) × Ran step s all left text × Appends old now text
-Ends {E} {S} step stops s left all old now before after (Stopped n f) = (j : ℕ) × (n ≡ j + 1) × (t : E) × (x : S) × RanFirst step s all j t old now × (slice_get all j ≡ Some x) × stops t x f
-Ends step stops s left all old now before after NotWritten = PutsFront step s all old now × Rose before after
-Ends {E} step stops s left all old now before after NoMemory = (j : ℕ) × (t : E) × RanFirst step s all j t old now
+abbrev pub StatementsEnd : {E S F : Type 0} → (E → S → E → List ℕ → Type 0) → (E → S → F → Type 0) → E → E → List S → Option (List ℕ) → Option (List ℕ) → ℕ → ℕ → RunEnd F → Type 0
+StatementsEnd step stops s left all old now before after Done = (text : List ℕ) × Ran step s all left text × Appends old now text
+StatementsEnd {E} {S} step stops s left all old now before after (Stopped n f) = (j : ℕ) × (n ≡ j + 1) × (t : E) × (x : S) × RanFirst step s all j t old now × (slice_get all j ≡ Some x) × stops t x f
+StatementsEnd step stops s left all old now before after NotWritten = PutsFront step s all old now × Rose before after
+StatementsEnd {E} step stops s left all old now before after NoMemory = (j : ℕ) × (t : E) × RanFirst step s all j t old now
 
 -- the end where the statement of this number has no answer
-abbrev pub Halted : {F : Type 0} → ℕ → Halt F → RunEnd F → Type 0
-Halted n (Fault f) e = e ≡ Stopped n f
-Halted n OutOfMemory e = e ≡ NoMemory
+abbrev pub EndsWithoutAnswer : {F : Type 0} → ℕ → NoAnswer F → RunEnd F → Type 0
+EndsWithoutAnswer n (Fault f) e = e ≡ Stopped n f
+EndsWithoutAnswer n OutOfMemory e = e ≡ NoMemory

@@ -1,6 +1,6 @@
 // Statements that run one after another, each with the text of its answer.
 ghost use Rattle.std.specs.Prelude.{◌≤◌, IfOk, IfErr, List, ℕ};
-ghost use Rattle.mob_streams.specs.Answers.{Ends, Halted, OnFault};
+ghost use Rattle.mob_streams.specs.Answers.{StatementsEnd, EndsWithoutAnswer, OnFault};
 
 use crate::streams::put_all;
 use mob_outside::Sink;
@@ -8,7 +8,7 @@ use std::alloc::Global;
 
 /// Why a statement has no answer.
 #[derive(Drop)]
-pub enum Halt<F> {
+pub enum NoAnswer<F> {
     /// It has a fault.
     Fault(F),
     /// There was no memory.
@@ -47,7 +47,7 @@ pub trait Engine {
         &mut self,
         alloc: Global,
         statement: &Self::Statement,
-    ) -> Result<Vec<u8>, Halt<Self::Fault>>
+    ) -> Result<Vec<u8>, NoAnswer<Self::Fault>>
         ensures step { IfOk result (λ text. step self.old statement.now self.new text.items) }
         ensures fault { IfErr result (OnFault (λ f. stops self.old statement.now f)) };
 }
@@ -60,7 +60,7 @@ pub fn run_all<E: Engine, K: Sink>(
     statements: &[E::Statement],
     out: &mut K,
 ) -> RunEnd<E::Fault>
-    ensures ends { Ends E.step E.stops engine.old engine.new statements.now (K.held out.old) (K.held out.new) (K.faults out.old) (K.faults out.new) result }
+    ensures ends { StatementsEnd E.step E.stops engine.old engine.new statements.now (K.held out.old) (K.held out.new) (K.faults out.old) (K.faults out.new) result }
     ensures later { K.faults out.old ≤ K.faults out.new }
 {
     let mut number: u32 = 1;
@@ -82,14 +82,14 @@ pub fn run_all<E: Engine, K: Sink>(
 }
 
 // The end where the statement of this number has no answer.
-fn halted<F: Drop>(number: u32, halt: Halt<F>) -> RunEnd<F>
-    ensures end { Halted number halt result }
+fn halted<F: Drop>(number: u32, halt: NoAnswer<F>) -> RunEnd<F>
+    ensures end { EndsWithoutAnswer number halt result }
 {
     match halt {
-        Halt::Fault(fault) => RunEnd::Stopped {
+        NoAnswer::Fault(fault) => RunEnd::Stopped {
             statement: number,
             fault,
         },
-        Halt::NoMemory => RunEnd::NoMemory,
+        NoAnswer::NoMemory => RunEnd::NoMemory,
     }
 }

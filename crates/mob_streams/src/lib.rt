@@ -4,5 +4,5 @@
 pub mod answers;
 pub mod streams;
 
-pub use answers::{Engine, Halt, RunEnd, run_all};
+pub use answers::{Engine, NoAnswer, RunEnd, run_all};
 pub use streams::{ReadEnd, put_all, put_pieces, read_to};

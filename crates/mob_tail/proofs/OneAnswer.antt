@@ -7,12 +7,12 @@ use Rattle.mob_value.specs.declared.store.Store.{Store}
 use Rattle.mob_literal.specs.Fields.{field_text}
 use Rattle.mob_eval.specs.Scene.{Scene, scene}
 use Rattle.mob_eval.specs.Outcomes.{HasOneOutcome, IsOne}
-use Rattle.mob_eval.specs.Runs.{Fault}
+use Rattle.mob_eval.specs.Evaluation.{Fault}
 use Rattle.mob_tail.specs.declared.keyed.Keyed.{Keyed}
 use Rattle.mob_tail.specs.Each.{Each}
-use Rattle.mob_tail.specs.Order.{IsOrdered, compare_rows}
+use Rattle.mob_tail.specs.Order.{IsOrderedByKeys, compare_rows}
 use Rattle.mob_tail.specs.Rows.{AreFirst, AreDistinct, AreArranged, limited}
-use Rattle.mob_tail.specs.Answers.{IsField, IsKey, IsRowOf, IsRow, IsAnswer}
+use Rattle.mob_tail.specs.Answers.{IsField, IsKey, IsRowOf, IsTupleRow, IsQueryAnswer}
 use Rattle.mob_tail.proofs.Orders.{rows_ranked}
 use Rattle.mob_tail.proofs.OneOrder.{one_order}
 
@@ -50,7 +50,7 @@ one_distinct : {X : Type 0} (distinct : Bool) (xs ks ls : List X) → AreDistinc
 one_distinct true xs ks ls h k = one_first [] xs ks ls h k
 one_distinct false xs ks ls h k = h ∙ sym k
 
-one_ordered : (falls : List Bool) (rows ys zs : List Keyed) → IsOrdered falls rows ys → IsOrdered falls rows zs → ys ≡ zs
+one_ordered : (falls : List Bool) (rows ys zs : List Keyed) → IsOrderedByKeys falls rows ys → IsOrderedByKeys falls rows zs → ys ≡ zs
 one_ordered falls rows ys zs h k = one_order (λ a b. is_lt (compare_rows falls a b)) (rows_ranked falls) ys zs h.sorted k.sorted (λ x. h.stable x ∙ sym (k.stable x))
 
 one_arranged : (falls : List Bool) (distinct : Bool) (limit : Option ℕ) (rows : List Keyed) (a b : List (List (List ℕ))) → AreArranged falls distinct limit rows a → AreArranged falls distinct limit rows b → a ≡ b
@@ -90,7 +90,7 @@ module _ (one : HasOneOutcome) where
     row_fault f g (inr h) (inr k) = each_fault_one (IsKey s) (key_once s) select.keys f g h.2 k.2
 
   module _ (select : TypedSelectParts) (store : Store) (day : ℤ) where
-    row_once : (tuple : List ℕ) → IsOne (IsRow select store day tuple)
+    row_once : (tuple : List ℕ) → IsOne (IsTupleRow select store day tuple)
     row_once tuple (Ok a) (Ok b) h k = ap Ok (row_value select (scene store select.from tuple day) a b h k)
     row_once tuple (Ok a) (Err g) h k = absurd (row_told select (scene store select.from tuple day) a g.1 h k.1)
     row_once tuple (Err f) (Ok b) h k = absurd (row_told select (scene store select.from tuple day) b f.1 k h.1)
@@ -99,11 +99,11 @@ module _ (one : HasOneOutcome) where
         let fault : f.1 ≡ g.1 = row_fault select (scene store select.from tuple day) f.1 g.1 h.1 k.1 in
         λ i. Err (there i, fault i)
 
-    pub answer_once : (kept : List (List ℕ)) → IsOne (IsAnswer select store day kept)
+    pub answer_once : (kept : List (List ℕ)) → IsOne (IsQueryAnswer select store day kept)
     answer_once kept (Ok a) (Ok b) h k =
-        let rows : h.0 ≡ k.0 = each_value (IsRow select store day) row_once kept h.0 k.0 h.1 k.1 in
+        let rows : h.0 ≡ k.0 = each_value (IsTupleRow select store day) row_once kept h.0 k.0 h.1 k.1 in
         let falls = map (λ key. key.1) select.keys in
         ap Ok (one_arranged falls select.distinct select.limit k.0 a b (subst (λ z. AreArranged falls select.distinct select.limit z a) rows h.2) k.2)
-    answer_once kept (Ok a) (Err g) h k = absurd (each_told (IsRow select store day) row_once kept h.0 g h.1 k)
-    answer_once kept (Err f) (Ok b) h k = absurd (each_told (IsRow select store day) row_once kept k.0 f k.1 h)
-    answer_once kept (Err f) (Err g) h k = ap Err (each_fault_one (IsRow select store day) row_once kept f g h k)
+    answer_once kept (Ok a) (Err g) h k = absurd (each_told (IsTupleRow select store day) row_once kept h.0 g h.1 k)
+    answer_once kept (Err f) (Ok b) h k = absurd (each_told (IsTupleRow select store day) row_once kept k.0 f k.1 h)
+    answer_once kept (Err f) (Err g) h k = ap Err (each_fault_one (IsTupleRow select store day) row_once kept f g h k)

@@ -11,7 +11,7 @@ use Rattle.mob_slice.specs.RankLaws.{ranking_bytes, ranking_ratio}
 use Rattle.mob_value.specs.declared.value.Value.{Value}
 use Rattle.mob_value.specs.declared.value.Value.TheVariants.{Null, Bool as Truth, Number, Text, Moment, MovingBool, MovingInt, MovingText}
 use Rattle.mob_tail.specs.declared.keyed.Keyed.{Keyed}
-use Rattle.mob_tail.specs.Order.{place_of, compare_values, compare_key, first_key, other_keys, compare_keys, compare_rows}
+use Rattle.mob_tail.specs.Order.{type_rank, compare_values, compare_key, first_key, other_keys, compare_keys, compare_rows}
 
 nothing : Ratio
 nothing = over (pos 0) 1
@@ -31,12 +31,12 @@ truth_of v = false
 
 -- by place, by truth, by bytes and by number, each of which a value has or not
 by_parts : Value → Value → Ordering
-by_parts = then_cmp (on place_of nat_cmp) (then_cmp (on truth_of bool_cmp) (then_cmp (on bytes_of compare_bytes) (on number_of compare_ratio)))
+by_parts = then_cmp (on type_rank nat_cmp) (then_cmp (on truth_of bool_cmp) (then_cmp (on bytes_of compare_bytes) (on number_of compare_ratio)))
 
 parts_total : IsTotalOrder by_parts
 unfolding by_parts
 parts_total =
-    then_total (on_total place_of nat_cmp_total)
+    then_total (on_total type_rank nat_cmp_total)
     (then_total (on_total truth_of bool_cmp_total) (then_total (on_total bytes_of ranking_bytes.total) (on_total number_of ranking_ratio.total)))
 
 then_equal : (o : Ordering) → ordering_then o Equal ≡ o

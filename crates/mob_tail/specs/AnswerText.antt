@@ -7,29 +7,29 @@ abbrev pub is_special : ℕ → Bool
 is_special b = (b == 44) || ((b == 34) || ((b == 13) || (b == 10)))
 
 -- the field with each of its double quotes written twice
-abbrev pub doubled : List ℕ → List ℕ
-doubled [] = []
-doubled (b ∷ rest) = if b == 34 then 34 ∷ b ∷ doubled rest else b ∷ doubled rest
+abbrev pub with_doubled_quotes : List ℕ → List ℕ
+with_doubled_quotes [] = []
+with_doubled_quotes (b ∷ rest) = if b == 34 then 34 ∷ b ∷ with_doubled_quotes rest else b ∷ with_doubled_quotes rest
 
 -- the field between double quotes, its own doubled
-abbrev pub quoted : List ℕ → List ℕ
-quoted field = 34 ∷ (doubled field ++ 34 ∷ [])
+abbrev pub quoted_field : List ℕ → List ℕ
+quoted_field field = 34 ∷ (with_doubled_quotes field ++ 34 ∷ [])
 
 -- a field stands in double quotes exactly where it has a special character
-abbrev pub field_text : List ℕ → List ℕ
-field_text field = if list_any is_special field then quoted field else field
+abbrev pub record_field : List ℕ → List ℕ
+record_field field = if list_any is_special field then quoted_field field else field
 
 -- The fields of a record with commas between, and a line feed. No record is an empty line: one empty field, or none,
 -- stands as two double quotes.
-abbrev pub record_text : List (List ℕ) → List ℕ
-record_text [] = 34 ∷ 34 ∷ 10 ∷ []
-record_text ([] ∷ []) = 34 ∷ 34 ∷ 10 ∷ []
-record_text (field ∷ rest) = join_with_byte 44 (map field_text (field ∷ rest)) ++ 10 ∷ []
+abbrev pub record_line : List (List ℕ) → List ℕ
+record_line [] = 34 ∷ 34 ∷ 10 ∷ []
+record_line ([] ∷ []) = 34 ∷ 34 ∷ 10 ∷ []
+record_line (field ∷ rest) = join_with_byte 44 (map record_field (field ∷ rest)) ++ 10 ∷ []
 
 -- the line `(n rows)`, with this word for every n
 abbrev pub count_line : ℕ → List ℕ
 count_line n = codes "(" ++ decimal n ++ codes " rows)\n"
 
 -- the text of an answer with these names and rows
-abbrev pub text_of : List (List ℕ) → List (List (List ℕ)) → List ℕ
-text_of names rows = concat (map record_text (names ∷ rows)) ++ count_line (length rows)
+abbrev pub answer_text : List (List ℕ) → List (List (List ℕ)) → List ℕ
+answer_text names rows = concat (map record_line (names ∷ rows)) ++ count_line (length rows)

@@ -6,7 +6,7 @@ use Rattle.mob_value.specs.declared.value.Value.{Value}
 use Rattle.mob_value.specs.declared.store.Store.{Store}
 use Rattle.mob_literal.specs.Fields.{field_text}
 use Rattle.mob_eval.specs.Scene.{Scene, scene}
-use Rattle.mob_eval.specs.Runs.{Fault, RunsTree}
+use Rattle.mob_eval.specs.Evaluation.{Fault, TreeEvaluatesTo}
 use Rattle.mob_eval.specs.QueryFaults.{TupleFault}
 use Rattle.mob_tail.specs.declared.keyed.Keyed.{Keyed}
 use Rattle.mob_tail.specs.Each.{Each}
@@ -14,12 +14,12 @@ use Rattle.mob_tail.specs.Rows.{AreArranged}
 
 -- the printed field of an entry of the select list
 abbrev pub IsField : Scene → TypedTree × List ℕ → Result (List ℕ) Fault → Type 0
-IsField s item (Ok field) = (v : Value) × RunsTree s item.0 (Ok v) × (field ≡ field_text s.day v)
-IsField s item (Err f) = RunsTree s item.0 (Err f)
+IsField s item (Ok field) = (v : Value) × TreeEvaluatesTo s item.0 (Ok v) × (field ≡ field_text s.day v)
+IsField s item (Err f) = TreeEvaluatesTo s item.0 (Err f)
 
 -- the value of a key
 abbrev pub IsKey : Scene → TypedTree × Bool → Result Value Fault → Type 0
-IsKey s key r = RunsTree s key.0 r
+IsKey s key r = TreeEvaluatesTo s key.0 r
 
 -- The fields of the select list on a tuple, and then the keys; or the first fault in this order.
 abbrev pub IsRowOf : TypedSelectParts → Scene → Result Keyed Fault → Type 0
@@ -27,12 +27,12 @@ IsRowOf select s (Ok row) = Each (IsField s) select.items (Ok row.fields) × Eac
 IsRowOf select s (Err f) = Each (IsField s) select.items (Err f) ⊎ ((fields : List (List ℕ)) × Each (IsField s) select.items (Ok fields) × Each (IsKey s) select.keys (Err f))
 
 -- the row of a tuple, or the tuple with its first fault
-abbrev pub IsRow : TypedSelectParts → Store → ℤ → List ℕ → Result Keyed TupleFault → Type 0
-IsRow select store day tuple (Ok row) = IsRowOf select (scene store select.from tuple day) (Ok row)
-IsRow select store day tuple (Err f) = (f.0 ≡ tuple) × IsRowOf select (scene store select.from tuple day) (Err f.1)
+abbrev pub IsTupleRow : TypedSelectParts → Store → ℤ → List ℕ → Result Keyed TupleFault → Type 0
+IsTupleRow select store day tuple (Ok row) = IsRowOf select (scene store select.from tuple day) (Ok row)
+IsTupleRow select store day tuple (Err f) = (f.0 ≡ tuple) × IsRowOf select (scene store select.from tuple day) (Err f.1)
 
 -- The rows of the answer on the kept tuples, or the first fault of these tuples in order.
-abbrev pub IsAnswer : TypedSelectParts → Store → ℤ → List (List ℕ) → Result (List (List (List ℕ))) TupleFault → Type 0
-IsAnswer select store day kept (Ok answer) =
-    (rows : List Keyed) × Each (IsRow select store day) kept (Ok rows) × AreArranged (map (λ key. key.1) select.keys) select.distinct select.limit rows answer
-IsAnswer select store day kept (Err f) = Each (IsRow select store day) kept (Err f)
+abbrev pub IsQueryAnswer : TypedSelectParts → Store → ℤ → List (List ℕ) → Result (List (List (List ℕ))) TupleFault → Type 0
+IsQueryAnswer select store day kept (Ok answer) =
+    (rows : List Keyed) × Each (IsTupleRow select store day) kept (Ok rows) × AreArranged (map (λ key. key.1) select.keys) select.distinct select.limit rows answer
+IsQueryAnswer select store day kept (Err f) = Each (IsTupleRow select store day) kept (Err f)

@@ -11,15 +11,15 @@ use Rattle.mob_tail.specs.declared.keyed.Keyed.{Keyed}
 
 -- The place of a value among values of other types, with NULL behind every other value. A key has one type, so that only NULL stands
 -- beside its values.
-abbrev pub place_of : Value → ℕ
-place_of (Truth a) = 0
-place_of (Number a) = 1
-place_of (Text a) = 2
-place_of (Moment a) = 3
-place_of (MovingBool a) = 4
-place_of (MovingInt a) = 5
-place_of (MovingText a) = 6
-place_of Null = 7
+abbrev pub type_rank : Value → ℕ
+type_rank (Truth a) = 0
+type_rank (Number a) = 1
+type_rank (Text a) = 2
+type_rank (Moment a) = 3
+type_rank (MovingBool a) = 4
+type_rank (MovingInt a) = 5
+type_rank (MovingText a) = 6
+type_rank Null = 7
 
 -- false before true, numbers by size, texts by their bytes, moments by time
 abbrev pub compare_values : Value → Value → Ordering
@@ -27,7 +27,7 @@ compare_values (Truth a) (Truth b) = bool_cmp a b
 compare_values (Number a) (Number b) = compare_ratio a b
 compare_values (Text a) (Text b) = compare_bytes a b
 compare_values (Moment a) (Moment b) = compare_ratio a b
-compare_values a b = nat_cmp (place_of a) (place_of b)
+compare_values a b = nat_cmp (type_rank a) (type_rank b)
 
 -- a key that falls, as under DESC, stands the other way round, with NULL first
 abbrev pub compare_key : Bool → Value → Value → Ordering
@@ -51,7 +51,7 @@ abbrev pub compare_rows : List Bool → Keyed → Keyed → Ordering
 compare_rows falls a b = compare_keys falls a.keys b.keys
 
 -- the rows in the order of the keys, and rows whose keys tie in the order in which they were
-pub record IsOrdered (falls : List Bool) (rows ordered : List Keyed) : Type 0 where
+pub record IsOrderedByKeys (falls : List Bool) (rows ordered : List Keyed) : Type 0 where
   pub same : IsPermutation rows ordered
   pub sorted : IsSorted (compare_rows falls) ordered
   pub stable : IsStable (compare_rows falls) rows ordered

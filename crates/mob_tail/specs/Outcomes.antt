@@ -3,7 +3,7 @@ use Rattle.std.specs.Prelude.{ℕ, ℤ, List}
 use Rattle.mob_typing.specs.Selects.{TypedSelectParts}
 use Rattle.mob_value.specs.declared.store.Store.{Store}
 use Rattle.mob_eval.specs.Outcomes.{IsOne}
-use Rattle.mob_tail.specs.Answers.{IsAnswer}
+use Rattle.mob_tail.specs.Answers.{IsQueryAnswer}
 
-abbrev pub OneIsAnswer : Type 0
-OneIsAnswer = (select : TypedSelectParts) (store : Store) (day : ℤ) (kept : List (List ℕ)) → IsOne (IsAnswer select store day kept)
+abbrev pub HasOneQueryAnswer : Type 0
+HasOneQueryAnswer = (select : TypedSelectParts) (store : Store) (day : ℤ) (kept : List (List ℕ)) → IsOne (IsQueryAnswer select store day kept)

@@ -2,7 +2,7 @@
 use Rattle.std.specs.Prelude.{◌≡◌, ◌⊎◌, Bool, true, false, ℕ, List, [], ◌∷◌, ◌++◌, map, take, Option, Some, None}
 use Rattle.std.specs.List.{Contains}
 use Rattle.mob_tail.specs.declared.keyed.Keyed.{Keyed}
-use Rattle.mob_tail.specs.Order.{IsOrdered}
+use Rattle.mob_tail.specs.Order.{IsOrderedByKeys}
 
 -- kept are those of xs, in order, that are equal to none before them, where those of `before` stand before all
 abbrev pub AreFirst : {X : Type 0} → List X → List X → List X → Type 0
@@ -24,7 +24,7 @@ limited (Some n) xs = take n xs
 -- The rows are put in the order of their keys, then the first of equal ones is taken where they are to be distinct, then they are cut.
 pub record AreArranged (falls : List Bool) (distinct : Bool) (limit : Option ℕ) (rows : List Keyed) (answer : List (List (List ℕ))) : Type 0 where
   pub ordered : List Keyed
-  pub in_order : IsOrdered falls rows ordered
+  pub in_order : IsOrderedByKeys falls rows ordered
   pub kept : List (List (List ℕ))
   pub distinct_rows : AreDistinct distinct (map (λ row. row.fields) ordered) kept
   pub cut : answer ≡ limited limit kept

@@ -4,10 +4,10 @@ ghost use Rattle.std.specs.Fn.{FnReturnsAt};
 ghost use Rattle.mob_typing.specs.Selects.{select_seen, output_of, key_seen};
 ghost use Rattle.mob_eval.specs.Scene.{scene};
 ghost use Rattle.mob_eval.specs.Views.{scene_of};
-ghost use Rattle.mob_eval.specs.Runs.{OnPassed};
+ghost use Rattle.mob_eval.specs.Evaluation.{OnPassed};
 ghost use Rattle.mob_eval.specs.QueryFaults.{OnTuple};
 ghost use Rattle.mob_tail.specs.Each.{Each};
-ghost use Rattle.mob_tail.specs.Answers.{IsField, IsKey, IsRowOf, IsRow};
+ghost use Rattle.mob_tail.specs.Answers.{IsField, IsKey, IsRowOf, IsTupleRow};
 
 use crate::keyed::Keyed;
 use mob_eval::{EvalFault, QueryFault, View, eval};
@@ -134,8 +134,8 @@ pub fn rows_on(
     kept: &[Items<u32>],
     epoch: &Epoch,
 ) -> Result<Vec<Keyed>, QueryFault>
-    ensures rows { IfOk result (λ rows. Each (IsRow (select_seen select.now) store.now epoch.now) kept.now (Ok rows.items)) }
-    ensures fault { IfErr result (OnTuple (λ f. Each (IsRow (select_seen select.now) store.now epoch.now) kept.now (Err f))) }
+    ensures rows { IfOk result (λ rows. Each (IsTupleRow (select_seen select.now) store.now epoch.now) kept.now (Ok rows.items)) }
+    ensures fault { IfErr result (OnTuple (λ f. Each (IsTupleRow (select_seen select.now) store.now epoch.now) kept.now (Err f))) }
 {
     let mut rows = Vec::new(alloc);
     for tuple in kept {

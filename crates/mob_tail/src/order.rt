@@ -1,6 +1,6 @@
 // The order of rows by their keys.
 ghost use Rattle.std.specs.Prelude.{◌≡◌, OnOk};
-ghost use Rattle.mob_tail.specs.Order.{place_of, compare_values, compare_key, first_key, other_keys, compare_keys, compare_rows, IsOrdered};
+ghost use Rattle.mob_tail.specs.Order.{type_rank, compare_values, compare_key, first_key, other_keys, compare_keys, compare_rows, IsOrderedByKeys};
 
 use crate::keyed::Keyed;
 use mob_slice::Ranked;
@@ -9,7 +9,7 @@ use std::alloc::AllocError;
 use std::cmp::Ordering;
 
 fn place(value: &Value) -> u8
-    ensures place { result ≡ place_of value.now }
+    ensures place { result ≡ type_rank value.now }
 {
     match value {
         Value::Bool(_) => 0,
@@ -79,7 +79,7 @@ fn compare_all(falls: &[bool], a: &[Value], b: &[Value]) -> Ordering
 /// Puts the rows in the order of their keys: a key falls where its entry in `falls` is true, NULL stands behind every other value where
 /// a key rises and before it where it falls, and rows whose keys tie stay in their order.
 pub fn order(falls: &[bool], rows: &mut Vec<Keyed>) -> Result<(), AllocError>
-    ensures ordered { OnOk result (IsOrdered falls.now rows.old.items rows.new.items) }
+    ensures ordered { OnOk result (IsOrderedByKeys falls.now rows.old.items rows.new.items) }
 {
     let compare = |a: &Keyed, b: &Keyed| -> Ordering
         ensures { result ≡ compare_rows falls.entry.now a.now b.now }

@@ -3,7 +3,7 @@ ghost use Rattle.std.specs.Prelude.{◌≡◌, ◌++◌, ◌∷◌, IfOk, OnOk, 
 ghost use Rattle.std.specs.List.{concat};
 ghost use Rattle.std.specs.Io.KnownBytes.{Appends};
 ghost use Rattle.csv.specs.Writing.{text_written};
-ghost use Rattle.mob_tail.specs.AnswerText.{count_line, record_text, text_of};
+ghost use Rattle.mob_tail.specs.AnswerText.{count_line, record_line, answer_text};
 ghost use Rattle.mob_tail.specs.Records.{IsBetweenRecords};
 
 use crate::Answer;
@@ -16,7 +16,7 @@ use std::alloc::{AllocError, Global};
 /// The text of an answer: a line for its names, a line for each row, and the line `(n rows)`, each with a line feed.
 /// Fields are joined by commas, and stand in double quotes where they need them.
 pub fn answer_text(alloc: Global, answer: &Answer) -> Result<Vec<u8>, AllocError>
-    ensures text { IfOk result (λ v. v.items ≡ text_of answer.now.names answer.now.rows) }
+    ensures text { IfOk result (λ v. v.items ≡ answer_text answer.now.names answer.now.rows) }
 {
     let mut text = records_text(alloc, answer.names.as_slice(), answer.rows.as_slice())?;
     let mut digits = Buffer::new();
@@ -28,7 +28,7 @@ pub fn answer_text(alloc: Global, answer: &Answer) -> Result<Vec<u8>, AllocError
 
 // The records, written by one writer.
 fn records_text(alloc: Global, names: &[Text], rows: &[Items<Text>]) -> Result<Vec<u8>, AllocError>
-    ensures text { IfOk result (λ v. v.items ≡ concat (map record_text (names.now ∷ rows.now))) }
+    ensures text { IfOk result (λ v. v.items ≡ concat (map record_line (names.now ∷ rows.now))) }
 {
     let mut writer = WriterBuilder::new()
         .flexible(true)
@@ -51,7 +51,7 @@ fn write_record(
     fields: &[Text],
 ) -> Result<(), AllocError>
     requires between { IsBetweenRecords writer.old }
-    ensures text { OnOk result (Appends (text_written (λ w. Some w.items) writer.old) (text_written (λ w. Some w.items) writer.new) (record_text fields.now)) }
+    ensures text { OnOk result (Appends (text_written (λ w. Some w.items) writer.old) (text_written (λ w. Some w.items) writer.new) (record_line fields.now)) }
     ensures between { OnOk result (IsBetweenRecords writer.new) }
 {
     let bytes = bytes_of(alloc, fields)?;

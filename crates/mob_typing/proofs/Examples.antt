@@ -12,7 +12,7 @@ use Rattle.mob_operators.specs.Table.{table}
 use Rattle.mob_operators.specs.declared.operator.Op.TheVariants as op
 use Rattle.mob_typing.specs.Words.{type_words, geometry_words}
 use Rattle.mob_typing.specs.Trees.{typed, none as no_args}
-use Rattle.mob_typing.specs.Expressions.{early, finished, digits_of, digits_in, typed_expression, typed_operands}
+use Rattle.mob_typing.specs.Expressions.{typed_before_operands, finished, digits_of, digits_in, typed_expression, typed_operands}
 use Rattle.mob_typing.specs.Statements.{typed_statement, typed_script, ScriptOut, query}
 
 abbrev pub word : List ℕ → ℕ → Word
@@ -50,51 +50,51 @@ refused k p = refused_in 1 k p
 
 -- SELECT tfrac '1@2001-01-01' * tfrac '2@2001-01-01'
 a_linear_product : typed_script (asked (tree (Sign (codes "*")) 28 (pair (literal (codes "tfrac") 7 (codes "1@2001-01-01") 13) (literal (codes "tfrac") 30 (codes "2@2001-01-01") 36))) None ∷ []) ≡ refused kind.LinearProduct 28
-unfolding typed_statement typed_expression typed_operands early finished digits_of digits_in table type_words geometry_words
+unfolding typed_statement typed_expression typed_operands typed_before_operands finished digits_of digits_in table type_words geometry_words
 a_linear_product = refl
 
 -- SELECT tDwithin(tgeompoint 'POINT(0 0)@2001-01-01', geometry 'POINT(1 1)', 2)
 an_irrational : typed_script (asked (tree (Call (codes "tdwithin")) 7 (more (literal (codes "tgeompoint") 16 (codes "POINT(0 0)@2001-01-01") 27) (pair (literal (codes "geometry") 52 (codes "POINT(1 1)") 61) (number (codes "2") 75)))) None ∷ []) ≡ refused kind.Irrational 7
-unfolding typed_statement typed_expression typed_operands early finished digits_of digits_in table type_words geometry_words
+unfolding typed_statement typed_expression typed_operands typed_before_operands finished digits_of digits_in table type_words geometry_words
 an_irrational = refl
 
 -- SELECT b
 an_unknown_name : typed_script (asked (column (codes "b") 7) None ∷ []) ≡ refused kind.UnknownName 7
-unfolding typed_statement typed_expression typed_operands early finished digits_of digits_in table type_words geometry_words
+unfolding typed_statement typed_expression typed_operands typed_before_operands finished digits_of digits_in table type_words geometry_words
 an_unknown_name = refl
 
 -- CREATE TABLE t (a int, a int)
 a_name_twice : typed_script (create_table (word (codes "t") 13) ((word (codes "a") 16, type_word (codes "int") 18) ∷ (word (codes "a") 23, type_word (codes "int") 25) ∷ []) ∷ []) ≡ refused kind.Duplicate 23
-unfolding typed_statement typed_expression typed_operands early finished digits_of digits_in table type_words geometry_words
+unfolding typed_statement typed_expression typed_operands typed_before_operands finished digits_of digits_in table type_words geometry_words
 a_name_twice = refl
 
 -- SELECT 1 + 'x'
 no_such_sum : typed_script (asked (tree (Sign (codes "+")) 9 (pair (number (codes "1") 7) (string (codes "x") 11))) None ∷ []) ≡ refused kind.NoSuchOperator 9
-unfolding typed_statement typed_expression typed_operands early finished digits_of digits_in table type_words geometry_words
+unfolding typed_statement typed_expression typed_operands typed_before_operands finished digits_of digits_in table type_words geometry_words
 no_such_sum = refl
 
 -- SELECT 1 LIMIT 1.5
 no_whole_limit : typed_script (asked (number (codes "1") 7) (Some (word (codes "1.5") 15)) ∷ []) ≡ refused kind.BadCount 15
-unfolding typed_statement typed_expression typed_operands early finished digits_of digits_in table type_words geometry_words
+unfolding typed_statement typed_expression typed_operands typed_before_operands finished digits_of digits_in table type_words geometry_words
 no_whole_limit = refl
 
 -- SELECT 1/0
 over_zero : typed_script (asked (tree (Sign (codes "/")) 8 (pair (number (codes "1") 7) (number (codes "0") 9))) None ∷ []) ≡ refused kind.ZeroDivisor 8
-unfolding typed_statement typed_expression typed_operands early finished digits_of digits_in table type_words geometry_words
+unfolding typed_statement typed_expression typed_operands typed_before_operands finished digits_of digits_in table type_words geometry_words
 over_zero = refl
 
 -- SELECT 1 + 'x', b: what stands first by the order decides
 the_first_of_two : typed_script (select (record { distinct = false; items = one (tree (Sign (codes "+")) 9 (pair (number (codes "1") 7) (string (codes "x") 11))) None ∷ one (column (codes "b") 16) None ∷ []; from = []; cond = None; keys = []; limit = None }) ∷ []) ≡ refused kind.NoSuchOperator 9
-unfolding typed_statement typed_expression typed_operands early finished digits_of digits_in table type_words geometry_words
+unfolding typed_statement typed_expression typed_operands typed_before_operands finished digits_of digits_in table type_words geometry_words
 the_first_of_two = refl
 
 -- SELECT b + 'x': operands before their operator
 the_operand_first : typed_script (asked (tree (Sign (codes "+")) 9 (pair (column (codes "b") 7) (string (codes "x") 11))) None ∷ []) ≡ refused kind.UnknownName 7
-unfolding typed_statement typed_expression typed_operands early finished digits_of digits_in table type_words geometry_words
+unfolding typed_statement typed_expression typed_operands typed_before_operands finished digits_of digits_in table type_words geometry_words
 the_operand_first = refl
 
 -- SELECT 1.5 AS d: a constant with its type, text, statement and place
 one_constant : typed_script (select (record { distinct = false; items = one (number (codes "1.5") 7) (Some (word (codes "d") 14)) ∷ []; from = []; cond = None; keys = []; limit = None }) ∷ [])
     ≡ Ok (record { statements = query (record { distinct = false; items = (typed (op.Const 0) sql.Numeric 7 no_args, codes "d") ∷ []; from = []; names = []; cond = None; keys = []; limit = None }) ∷ []; consts = record { ty = sql.Numeric; text = codes "1.5"; statement = 1; place = 7 } ∷ [] })
-unfolding typed_statement typed_expression typed_operands early finished digits_of digits_in table type_words geometry_words
+unfolding typed_statement typed_expression typed_operands typed_before_operands finished digits_of digits_in table type_words geometry_words
 one_constant = refl

@@ -8,10 +8,10 @@ use Rattle.mob_ast.specs.Trees.{none as no_trees, tree_of, trees_of}
 use Rattle.mob_typing.specs.declared.fault.Fault.{Fault}
 use Rattle.mob_typing.specs.declared.typed.ConstText.{ConstText}
 use Rattle.mob_typing.specs.declared.typed.TExpr.{TExpr}
-use Rattle.mob_typing.specs.Answers.{Wrong, ◌>>=◌, Fails, Answers, Gives}
+use Rattle.mob_typing.specs.Answers.{Mistake, ◌>>=◌, StopsTyping, AnswersAs, TypesTo}
 use Rattle.mob_typing.specs.Scopes.{ScopeParts}
 use Rattle.mob_typing.specs.Trees.{TypedTree, typed_of}
-use Rattle.mob_typing.specs.Expressions.{early, finished, or_later, typed_expression, typed_operands}
+use Rattle.mob_typing.specs.Expressions.{typed_before_operands, finished, or_later, typed_expression, typed_operands}
 use Rattle.mob_typing.proofs.TreeFacts.{tree_is}
 use Rattle.mob_typing.proofs.Wrongs.{fails_bind, fails_along}
 
@@ -32,35 +32,35 @@ module _ (s : ScopeParts) (e : Expr) (cs : List ConstText) (xs : List Expr) (is 
   abbrev place : ℕ
   place = (out-Expr e).place
 
-  abbrev last : List TypedTree × List ConstText → Result (TypedTree × List ConstText) Wrong
+  abbrev last : List TypedTree × List ConstText → Result (TypedTree × List ConstText) Mistake
   last r = finished node place (trees_of xs) r.0 >>= λ t. Ok (t, r.1)
 
-  abbrev later : Option TypedTree × List ConstText → Result (TypedTree × List ConstText) Wrong
+  abbrev later : Option TypedTree × List ConstText → Result (TypedTree × List ConstText) Mistake
   later x = or_later (λ ds. typed_operands s (trees_of xs) [] ds >>= last) x.0 x.1
 
-  begun : typed_expression s (tree_of e) cs ≡ (early s node place (trees_of xs) cs >>= later)
+  begun : typed_expression s (tree_of e) cs ≡ (typed_before_operands s node place (trees_of xs) cs >>= later)
   unfolding typed_expression
-  begun = ap (λ t. typed_expression s t cs) (tree_is e) ∙ ap (λ ys. early s node place (trees_of ys) cs >>= λ x. or_later (λ ds. typed_operands s (trees_of ys) [] ds >>= λ r. finished node place (trees_of ys) r.0 >>= λ t. Ok (t, r.1)) x.0 x.1) (sym is)
+  begun = ap (λ t. typed_expression s t cs) (tree_is e) ∙ ap (λ ys. typed_before_operands s node place (trees_of ys) cs >>= λ x. or_later (λ ds. typed_operands s (trees_of ys) [] ds >>= λ r. finished node place (trees_of ys) r.0 >>= λ t. Ok (t, r.1)) x.0 x.1) (sym is)
 
-  pub early_fails : (f : Fault) → Fails f (early s node place (trees_of xs) cs) → Fails f (typed_expression s (tree_of e) cs)
-  early_fails f h = fails_along f (early s node place (trees_of xs) cs >>= later) (typed_expression s (tree_of e) cs) begun (fails_bind f (early s node place (trees_of xs) cs) later h)
+  pub early_fails : (f : Fault) → StopsTyping f (typed_before_operands s node place (trees_of xs) cs) → StopsTyping f (typed_expression s (tree_of e) cs)
+  early_fails f h = fails_along f (typed_before_operands s node place (trees_of xs) cs >>= later) (typed_expression s (tree_of e) cs) begun (fails_bind f (typed_before_operands s node place (trees_of xs) cs) later h)
 
-  pub early_settles : (o : Option TExpr) (t : TExpr) (ds : List ConstText) → early s node place (trees_of xs) cs ≡ Ok (option_map typed_of o, ds) → o ≡ Some t → typed_expression s (tree_of e) cs ≡ Ok (typed_of t, ds)
+  pub early_settles : (o : Option TExpr) (t : TExpr) (ds : List ConstText) → typed_before_operands s node place (trees_of xs) cs ≡ Ok (option_map typed_of o, ds) → o ≡ Some t → typed_expression s (tree_of e) cs ≡ Ok (typed_of t, ds)
   early_settles o t ds h o_is = begun ∙ ap (λ a. a >>= later) (h ∙ ap (λ p. Ok (option_map typed_of p, ds)) o_is)
 
-  module _ (o : Option TExpr) (ds : List ConstText) (h : early s node place (trees_of xs) cs ≡ Ok (option_map typed_of o, ds)) (o_is : o ≡ None) where
+  module _ (o : Option TExpr) (ds : List ConstText) (h : typed_before_operands s node place (trees_of xs) cs ≡ Ok (option_map typed_of o, ds)) (o_is : o ≡ None) where
     behind : typed_expression s (tree_of e) cs ≡ (typed_operands s (trees_of xs) [] ds >>= last)
     behind = begun ∙ ap (λ a. a >>= later) (h ∙ ap (λ p. Ok (option_map typed_of p, ds)) o_is)
 
     pub operand_fails : (f : Fault) (x : Expr) (rest : List Expr) (ts : List TypedTree) (es : List ConstText)
-        → typed_operands s (trees_of xs) [] ds ≡ typed_operands s (trees_of (x ∷ rest)) ts es → Fails f (typed_expression s (tree_of x) es) → Fails f (typed_expression s (tree_of e) cs)
+        → typed_operands s (trees_of xs) [] ds ≡ typed_operands s (trees_of (x ∷ rest)) ts es → StopsTyping f (typed_expression s (tree_of x) es) → StopsTyping f (typed_expression s (tree_of e) cs)
     operand_fails f x rest ts es so_far wrong =
-        let on : List TypedTree × List ConstText → Result (TypedTree × List ConstText) Wrong = last in
+        let on : List TypedTree × List ConstText → Result (TypedTree × List ConstText) Mistake = last in
         fails_along f _ (typed_expression s (tree_of e) cs) (behind ∙ ap (λ a. a >>= on) (so_far ∙ operand_more s x rest ts es))
         (fails_bind f (typed_expression s (tree_of x) es >>= λ r. typed_operands s (trees_of rest) (ts ++ r.0 ∷ []) r.1) on (fails_bind f (typed_expression s (tree_of x) es) (λ r. typed_operands s (trees_of rest) (ts ++ r.0 ∷ []) r.1) wrong))
 
     pub all_typed : (r : Result TExpr Fault) (ts : List TypedTree) (es : List ConstText)
-        → typed_operands s (trees_of xs) [] ds ≡ typed_operands s no_trees ts es → Answers typed_of r (finished node place (trees_of xs) ts) → Gives typed_of r es (typed_expression s (tree_of e) cs)
+        → typed_operands s (trees_of xs) [] ds ≡ typed_operands s no_trees ts es → AnswersAs typed_of r (finished node place (trees_of xs) ts) → TypesTo typed_of r es (typed_expression s (tree_of e) cs)
     all_typed (Ok t) ts es so_far h = behind ∙ ap (λ a. a >>= last) (so_far ∙ operands_done s ts es) ∙ ap (λ a. a >>= λ t. Ok (t, es)) h
     all_typed (Err f) ts es so_far h =
         fails_along f (finished node place (trees_of xs) ts >>= λ t. Ok (t, es)) (typed_expression s (tree_of e) cs) (behind ∙ ap (λ a. a >>= last) (so_far ∙ operands_done s ts es))

@@ -9,7 +9,7 @@ use Rattle.mob_typing.specs.declared.scope.Found.{Found}
 use Rattle.mob_typing.specs.Names.{ColumnList}
 use Rattle.mob_typing.specs.Trees.{typed, none}
 use Rattle.mob_typing.specs.Selects.{columns_of_table, Output}
-use Rattle.mob_typing.specs.Answers.{Wrong}
+use Rattle.mob_typing.specs.Answers.{Mistake}
 
 abbrev pub listed : Option Found → List Found → List Found
 listed None fs = fs
@@ -18,7 +18,7 @@ listed (Some f) fs = f ∷ fs
 some_same : {A : Type 0} (x y : A) → Some x ≡ Some y → x ≡ y
 some_same x y h = cc
 
-abbrev good : {A : Type 0} → A → Result A Wrong
+abbrev good : {A : Type 0} → A → Result A Mistake
 good x = Ok x
 
 ok_same : {A : Type 0} (x y : A) → good x ≡ good y → x ≡ y

@@ -6,43 +6,43 @@ use Rattle.mob_typing.specs.declared.fault.Fault.{Fault}
 use Rattle.mob_typing.specs.declared.fault.Fault.TheVariants.{Wrong as Refused, NoMemory}
 
 -- what is wrong, and where
-pub record Wrong : Type 0 where
+pub record Mistake : Type 0 where
   pub kind : Kind
   pub place : ℕ
 
-abbrev pub refuse : {A : Type 0} → Kind → ℕ → Result A Wrong
+abbrev pub refuse : {A : Type 0} → Kind → ℕ → Result A Mistake
 refuse kind place = Err (record { kind = kind; place = place })
 
 -- one after the other; the first that is wrong decides
 infixl 10 ◌>>=◌
-abbrev pub ◌>>=◌ : {A B : Type 0} → Result A Wrong → (A → Result B Wrong) → Result B Wrong
+abbrev pub ◌>>=◌ : {A B : Type 0} → Result A Mistake → (A → Result B Mistake) → Result B Mistake
 (Ok x) >>= f = f x
 (Err w) >>= f = Err w
 
 -- wrong where the test holds
-abbrev pub unless : Bool → Kind → ℕ → Result (Unit {0}) Wrong
+abbrev pub unless : Bool → Kind → ℕ → Result (Unit {0}) Mistake
 unless test kind place = if test then refuse kind place else Ok tt
 
 -- what is there, or wrong where there is nothing
-abbrev pub found : {A : Type 0} → Kind → ℕ → Option A → Result A Wrong
+abbrev pub found : {A : Type 0} → Kind → ℕ → Option A → Result A Mistake
 found kind place None = refuse kind place
 found kind place (Some x) = Ok x
 
 -- a step takes the constants so far, and gives a value and the constants after it
-abbrev pub Step : Type 0 → Type 0
-Step A = List ConstText → Result (A × List ConstText) Wrong
+abbrev pub TypingStep : Type 0 → Type 0
+TypingStep A = List ConstText → Result (A × List ConstText) Mistake
 
 -- what the program answers where the definition reads so; want of memory is free
-abbrev pub Fails : {Y : Type 0} → Fault → Result Y Wrong → Type 0
-Fails (Refused kind place) read = read ≡ Err (record { kind = kind; place = place })
-Fails NoMemory read = Unit {0}
+abbrev pub StopsTyping : {Y : Type 0} → Fault → Result Y Mistake → Type 0
+StopsTyping (Refused kind place) read = read ≡ Err (record { kind = kind; place = place })
+StopsTyping NoMemory read = Unit {0}
 
 -- the program answers as the definition reads
-abbrev pub Answers : {X Y : Type 0} → (X → Y) → Result X Fault → Result Y Wrong → Type 0
-Answers view (Ok x) read = read ≡ Ok (view x)
-Answers view (Err e) read = Fails e read
+abbrev pub AnswersAs : {X Y : Type 0} → (X → Y) → Result X Fault → Result Y Mistake → Type 0
+AnswersAs view (Ok x) read = read ≡ Ok (view x)
+AnswersAs view (Err e) read = StopsTyping e read
 
 -- the same for a step, which leaves these constants
-abbrev pub Gives : {X Y : Type 0} → (X → Y) → Result X Fault → List ConstText → Result (Y × List ConstText) Wrong → Type 0
-Gives view (Ok x) after read = read ≡ Ok (view x, after)
-Gives view (Err e) after read = Fails e read
+abbrev pub TypesTo : {X Y : Type 0} → (X → Y) → Result X Fault → List ConstText → Result (Y × List ConstText) Mistake → Type 0
+TypesTo view (Ok x) after read = read ≡ Ok (view x, after)
+TypesTo view (Err e) after read = StopsTyping e read

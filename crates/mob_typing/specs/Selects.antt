@@ -12,11 +12,11 @@ use Rattle.mob_ast.specs.declared.expression.Node.TheVariants as node
 use Rattle.mob_ast.specs.declared.statement.FromTable.{FromTable}
 use Rattle.mob_ast.specs.Trees.{Tree, tree, ItemParts, every, one, KeyParts, SelectParts}
 use Rattle.mob_operators.specs.declared.operator.Op.TheVariants as op
-use Rattle.mob_operators.specs.Lookup.{has}
+use Rattle.mob_operators.specs.Lookup.{has_type}
 use Rattle.mob_typing.specs.declared.typed.TExpr.{TExpr}
 use Rattle.mob_typing.specs.declared.typed.TypedSelect.{TypedSelect}
 use Rattle.mob_typing.specs.declared.outputs.Outputs.{Outputs}
-use Rattle.mob_typing.specs.Answers.{Wrong, ◌>>=◌, unless, found, Step}
+use Rattle.mob_typing.specs.Answers.{Mistake, ◌>>=◌, unless, found, TypingStep}
 use Rattle.mob_typing.specs.Names.{ColumnList, table_of, entry_from, has_entry}
 use Rattle.mob_typing.specs.Scopes.{SourceParts, ScopeParts}
 use Rattle.mob_typing.specs.Trees.{TypedTree, typed, none, type_of, typed_of}
@@ -24,16 +24,16 @@ use Rattle.mob_typing.specs.Expressions.{typed_expression}
 
 -- The name that a table goes by in FROM. There are at most four tables, and no two go by one name. What stands at an
 -- earlier place comes first, and at one place a name that is there already comes before the limit.
-abbrev pub from_name : List (List ℕ × SourceParts) → Word → Option Word → Result (List ℕ) Wrong
+abbrev pub from_name : List (List ℕ × SourceParts) → Word → Option Word → Result (List ℕ) Mistake
 from_name from table None = unless (has_entry from table.text) kind.Duplicate table.place >>= λ _. unless (nat_le 4 (length from)) kind.Limit table.place >>= λ _. Ok table.text
 from_name from table (Some a) = unless (nat_le 4 (length from)) kind.Limit table.place >>= λ _. unless (has_entry from a.text) kind.Duplicate a.place >>= λ _. Ok a.text
 
 -- a table of FROM behind those that stand before it
-abbrev pub from_table : List (List ℕ × ColumnList) → List (List ℕ × SourceParts) → FromTable → Result (List (List ℕ × SourceParts)) Wrong
+abbrev pub from_table : List (List ℕ × ColumnList) → List (List ℕ × SourceParts) → FromTable → Result (List (List ℕ × SourceParts)) Mistake
 from_table tables from f = found kind.UnknownName f.table.place (table_of tables f.table.text) >>= λ t. from_name from f.table f.alias >>= λ name. Ok (from ++ (name, record { table = t.0; columns = t.1 }) ∷ [])
 
 -- the tables of FROM in order
-abbrev pub from_tables : List (List ℕ × ColumnList) → List (List ℕ × SourceParts) → List FromTable → Result (List (List ℕ × SourceParts)) Wrong
+abbrev pub from_tables : List (List ℕ × ColumnList) → List (List ℕ × SourceParts) → List FromTable → Result (List (List ℕ × SourceParts)) Mistake
 from_tables tables from [] = Ok from
 from_tables tables from (f ∷ fs) = from_table tables from f >>= λ more. from_tables tables more fs
 
@@ -74,25 +74,25 @@ pub record OutputLists : Type 0 where
   pub aliases : List (List ℕ × ℕ)
 
 -- an entry of the select list: `*` asks for a FROM
-abbrev pub with_item : ScopeParts → OutputLists → ItemParts → Step OutputLists
+abbrev pub with_item : ScopeParts → OutputLists → ItemParts → TypingStep OutputLists
 with_item s o (every p) cs = unless (length s.from == 0) kind.UnknownName p >>= λ _. Ok (record { columns = o.columns ++ all_outputs 0 s.from p; aliases = o.aliases }, cs)
 with_item s o (one t a) cs = typed_expression s t cs >>= λ r. Ok (record { columns = o.columns ++ (r.0, output_name a t (length o.columns)) ∷ []; aliases = with_alias o.aliases a (length o.columns) }, r.1)
 
-abbrev pub with_items : ScopeParts → OutputLists → List ItemParts → Step OutputLists
+abbrev pub with_items : ScopeParts → OutputLists → List ItemParts → TypingStep OutputLists
 with_items s o [] cs = Ok (o, cs)
 with_items s o (i ∷ is) cs = with_item s o i cs >>= λ r. with_items s r.0 is r.1
 
 -- the place of an expression as a whole
-abbrev pub place_of : Tree → ℕ
-place_of (tree n p args) = p
+abbrev pub tree_place : Tree → ℕ
+tree_place (tree n p args) = p
 
 abbrev pub is_bool : SqlType → Bool
-is_bool ty = has (sql.Bool ∷ []) ty
+is_bool ty = has_type (sql.Bool ∷ []) ty
 
 -- a condition is a bool
-abbrev pub condition : ScopeParts → Option Tree → Step (Option TypedTree)
+abbrev pub condition : ScopeParts → Option Tree → TypingStep (Option TypedTree)
 condition s None cs = Ok (None, cs)
-condition s (Some t) cs = typed_expression s t cs >>= λ r. unless (not (is_bool (type_of r.0))) kind.NoSuchOperator (place_of t) >>= λ _. Ok (Some r.0, r.1)
+condition s (Some t) cs = typed_expression s t cs >>= λ r. unless (not (is_bool (type_of r.0))) kind.NoSuchOperator (tree_place t) >>= λ _. Ok (Some r.0, r.1)
 
 -- a key that is one bare word means the first column of the answer that has this name behind AS
 abbrev pub aliased_node : OutputLists → Node → Option TypedTree
@@ -102,20 +102,20 @@ aliased_node o _ = None
 abbrev pub aliased : OutputLists → Tree → Option TypedTree
 aliased o (tree n p args) = aliased_node o n
 
-abbrev pub or_typed : ScopeParts → Tree → Option TypedTree → Step TypedTree
+abbrev pub or_typed : ScopeParts → Tree → Option TypedTree → TypingStep TypedTree
 or_typed s t None cs = typed_expression s t cs
 or_typed s t (Some x) cs = Ok (x, cs)
 
 -- a key is of one of these types
 abbrev pub is_key : SqlType → Bool
-is_key ty = has (sql.Bool ∷ sql.Int ∷ sql.Numeric ∷ sql.Text ∷ sql.Moment ∷ []) ty
+is_key ty = has_type (sql.Bool ∷ sql.Int ∷ sql.Numeric ∷ sql.Text ∷ sql.Moment ∷ []) ty
 
 -- a key is typed first and then judged
-abbrev pub typed_key : ScopeParts → OutputLists → KeyParts → Step (TypedTree × Bool)
-typed_key s o k cs = or_typed s k.value (aliased o k.value) cs >>= λ r. unless (not (is_key (type_of r.0))) kind.NoSuchOperator (place_of k.value) >>= λ _. Ok ((r.0, k.descending), r.1)
+abbrev pub typed_key : ScopeParts → OutputLists → KeyParts → TypingStep (TypedTree × Bool)
+typed_key s o k cs = or_typed s k.value (aliased o k.value) cs >>= λ r. unless (not (is_key (type_of r.0))) kind.NoSuchOperator (tree_place k.value) >>= λ _. Ok ((r.0, k.descending), r.1)
 
 -- the keys in order, behind those that are typed already
-abbrev pub typed_keys : ScopeParts → OutputLists → List (TypedTree × Bool) → List KeyParts → Step (List (TypedTree × Bool))
+abbrev pub typed_keys : ScopeParts → OutputLists → List (TypedTree × Bool) → List KeyParts → TypingStep (List (TypedTree × Bool))
 typed_keys s o keys [] cs = Ok (keys, cs)
 typed_keys s o keys (k ∷ ks) cs = typed_key s o k cs >>= λ r. typed_keys s o (keys ++ r.0 ∷ []) ks r.1
 
@@ -126,7 +126,7 @@ is_limit text = list_all is_ascii_digit text && nat_le 1 (length text) && nat_le
 abbrev pub limit_value : List ℕ → Option ℕ
 limit_value text = if is_limit text then Some (digits_value 10 text) else None
 
-abbrev pub limit_of : Option Word → Result (Option ℕ) Wrong
+abbrev pub limit_of : Option Word → Result (Option ℕ) Mistake
 limit_of None = Ok None
 limit_of (Some w) = found kind.BadCount w.place (limit_value w.text) >>= λ n. Ok (Some n)
 
@@ -158,11 +158,11 @@ abbrev pub no_outputs : OutputLists
 no_outputs = record { columns = []; aliases = [] }
 
 -- the clauses behind FROM, which sees these tables
-abbrev pub typed_clauses : ScopeParts → SelectParts → Step TypedSelectParts
+abbrev pub typed_clauses : ScopeParts → SelectParts → TypingStep TypedSelectParts
 typed_clauses scope s cs =
     with_items scope no_outputs s.items cs >>= λ o. condition scope s.cond o.1 >>= λ c. typed_keys scope o.0 [] s.keys c.1 >>= λ k. limit_of s.limit >>= λ l.
     Ok (record { distinct = s.distinct; items = o.0.columns; from = map (λ t. t.1.table) scope.from; names = map (λ t. t.0) scope.from; cond = c.0; keys = k.0; limit = l }, k.1)
 
 -- The typed SELECT of the statement of this number, or what is wrong first.
-abbrev pub typed_select : List (List ℕ × ColumnList) → ℕ → SelectParts → Step TypedSelectParts
+abbrev pub typed_select : List (List ℕ × ColumnList) → ℕ → SelectParts → TypingStep TypedSelectParts
 typed_select tables n s cs = from_tables tables [] s.from >>= λ from. typed_clauses (record { from = from; statement = n }) s cs

@@ -19,7 +19,7 @@ use Rattle.mob_typing.specs.declared.typed.Typed.{Typed}
 use Rattle.mob_typing.specs.declared.fault.Fault.{Fault}
 use Rattle.mob_typing.specs.declared.fault.Fault.TheVariants.{Wrong as Refused, NoMemory}
 use Rattle.mob_ast.specs.Kinds.{no_memory}
-use Rattle.mob_typing.specs.Answers.{Wrong, refuse, ◌>>=◌, unless, found, Step}
+use Rattle.mob_typing.specs.Answers.{Mistake, refuse, ◌>>=◌, unless, found, TypingStep}
 use Rattle.mob_typing.specs.Names.{ColumnList, NameLists, column_of, table_of, has_name, has_entry}
 use Rattle.mob_typing.specs.Words.{type_named, literal_type}
 use Rattle.mob_typing.specs.Expressions.{only, is_signed}
@@ -45,11 +45,11 @@ statement_seen (typed.Select s) = query (select_seen s)
 statement_seen (typed.Explain s) = plan_of (select_seen s)
 
 -- a new column: its name is new, there are at most 64, and its type is known
-abbrev pub with_column : ColumnList → Word × TypeWord → Result ColumnList Wrong
+abbrev pub with_column : ColumnList → Word × TypeWord → Result ColumnList Mistake
 with_column columns c = unless (has_entry columns c.0.text) kind.Duplicate c.0.place >>= λ _. unless (nat_le 64 (length columns)) kind.Limit c.0.place >>= λ _.
     found kind.UnknownName c.1.name.place (type_named c.1.name.text c.1.inner) >>= λ ty. Ok (columns ++ (c.0.text, ty) ∷ [])
 
-abbrev pub with_columns : ColumnList → List (Word × TypeWord) → Result ColumnList Wrong
+abbrev pub with_columns : ColumnList → List (Word × TypeWord) → Result ColumnList Mistake
 with_columns columns [] = Ok columns
 with_columns columns (c ∷ cs) = with_column columns c >>= λ more. with_columns more cs
 
@@ -62,7 +62,7 @@ abbrev pub with_table : NameLists → List ℕ → ColumnList → NameLists
 with_table names name columns = record { tables = names.tables ++ (name, columns) ∷ []; indexes = names.indexes }
 
 -- a new table: its name is new, there are at most 64, and then its columns in order
-abbrev pub made_table : NameLists → Word → List (Word × TypeWord) → Result Made Wrong
+abbrev pub made_table : NameLists → Word → List (Word × TypeWord) → Result Made Mistake
 made_table names name columns = unless (has_entry names.tables name.text) kind.Duplicate name.place >>= λ _. unless (nat_le 64 (length names.tables)) kind.Limit name.place >>= λ _.
     with_columns [] columns >>= λ cs. Ok (record { statement = new_table (length names.tables) name.text cs; names = with_table names name.text cs })
 
@@ -70,85 +70,85 @@ abbrev pub with_index : NameLists → List ℕ → NameLists
 with_index names name = record { tables = names.tables; indexes = names.indexes ++ name ∷ [] }
 
 -- a new index: the table is there, the name is new, and the column is there and a tgeompoint
-abbrev pub made_index : NameLists → Word → Word → Word → Result Made Wrong
+abbrev pub made_index : NameLists → Word → Word → Word → Result Made Mistake
 made_index names name table column = found kind.UnknownName table.place (table_of names.tables table.text) >>= λ t. unless (has_name names.indexes name.text) kind.Duplicate name.place >>= λ _.
     found kind.UnknownName column.place (column_of t.1 column.text) >>= λ c. unless (not (same_type c.1 sql.TPoint)) kind.NoSuchOperator column.place >>= λ _.
     Ok (record { statement = new_index t.0 c.0 name.text; names = with_index names name.text })
 
 -- a constant of a statement of this number
-abbrev pub noted : ℕ → SqlType → List ℕ → ℕ → Step (Option ℕ)
-noted n ty text p cs = Ok (Some (length cs), cs ++ record { ty = ty; text = text; statement = n; place = p } ∷ [])
+abbrev pub row_constant : ℕ → SqlType → List ℕ → ℕ → TypingStep (Option ℕ)
+row_constant n ty text p cs = Ok (Some (length cs), cs ++ record { ty = ty; text = text; statement = n; place = p } ∷ [])
 
 -- the digits of a number and their place, where there is one
-abbrev pub number_of : Tree → Option (List ℕ × ℕ)
-number_of (tree (node.Number s) p args) = Some (s, p)
-number_of (tree _ p args) = None
+abbrev pub number_digits : Tree → Option (List ℕ × ℕ)
+number_digits (tree (node.Number s) p args) = Some (s, p)
+number_digits (tree _ p args) = None
 
 abbrev pub lone_number : Trees → Option (List ℕ × ℕ)
-lone_number ts = option_and_then number_of (only ts)
+lone_number ts = option_and_then number_digits (only ts)
 
 -- a number behind its sign
-abbrev pub signed_value : ℕ → SqlType → List ℕ → ℕ → Option (List ℕ × ℕ) → Step (Option ℕ)
+abbrev pub signed_value : ℕ → SqlType → List ℕ → ℕ → Option (List ℕ × ℕ) → TypingStep (Option ℕ)
 signed_value n ty sign p None cs = refuse kind.NoSuchOperator p
-signed_value n ty sign p (Some d) cs = unless (not (is_signed sign)) kind.NoSuchOperator p >>= λ _. noted n ty (sign ++ d.0) d.1 cs
+signed_value n ty sign p (Some d) cs = unless (not (is_signed sign)) kind.NoSuchOperator p >>= λ _. row_constant n ty (sign ++ d.0) d.1 cs
 
 -- TRUE and FALSE stand in a bool column alone
-abbrev pub bool_value : ℕ → SqlType → List ℕ → ℕ → Step (Option ℕ)
-bool_value n ty text p cs = unless (not (same_type ty sql.Bool)) kind.NoSuchOperator p >>= λ _. noted n ty text p cs
+abbrev pub bool_value : ℕ → SqlType → List ℕ → ℕ → TypingStep (Option ℕ)
+bool_value n ty text p cs = unless (not (same_type ty sql.Bool)) kind.NoSuchOperator p >>= λ _. row_constant n ty text p cs
 
 -- a typed string has the column's type
-abbrev pub typed_value : ℕ → SqlType → TypeWord → List ℕ → ℕ → Step (Option ℕ)
-typed_value n ty w text p cs = found kind.UnknownName w.name.place (literal_type w.name.text w.inner text) >>= λ own. unless (not (same_type own ty)) kind.NoSuchOperator p >>= λ _. noted n ty text p cs
+abbrev pub typed_value : ℕ → SqlType → TypeWord → List ℕ → ℕ → TypingStep (Option ℕ)
+typed_value n ty w text p cs = found kind.UnknownName w.name.place (literal_type w.name.text w.inner text) >>= λ own. unless (not (same_type own ty)) kind.NoSuchOperator p >>= λ _. row_constant n ty text p cs
 
 -- A value of a row, which is read as the column's type: the number of its constant, or none for NULL.
-unfoldable pub node_value : ℕ → SqlType → Node → ℕ → Trees → Step (Option ℕ)
+unfoldable pub node_value : ℕ → SqlType → Node → ℕ → Trees → TypingStep (Option ℕ)
 node_value n ty node.Null p args cs = Ok (None, cs)
 node_value n ty node.True p args cs = bool_value n ty (codes "true") p cs
 node_value n ty node.False p args cs = bool_value n ty (codes "false") p cs
-node_value n ty (node.Number s) p args cs = noted n ty s p cs
-node_value n ty (node.Str s) p args cs = noted n ty s p cs
+node_value n ty (node.Number s) p args cs = row_constant n ty s p cs
+node_value n ty (node.Str s) p args cs = row_constant n ty s p cs
 node_value n ty (node.Literal w s) p args cs = typed_value n ty w s p cs
 node_value n ty (node.Sign g) p args cs = signed_value n ty g p (lone_number args) cs
 node_value n ty _ p args cs = refuse kind.NoSuchOperator p
 
-abbrev pub value_of : ℕ → SqlType → Tree → Step (Option ℕ)
-value_of n ty (tree nd p args) cs = node_value n ty nd p args cs
+abbrev pub tree_value : ℕ → SqlType → Tree → TypingStep (Option ℕ)
+tree_value n ty (tree nd p args) cs = node_value n ty nd p args cs
 
 -- the values of a row, one for each column
-abbrev pub row_values : ℕ → ColumnList → List (Option ℕ) → List Tree → Step (List (Option ℕ))
+abbrev pub row_values : ℕ → ColumnList → List (Option ℕ) → List Tree → TypingStep (List (Option ℕ))
 row_values n [] done ts cs = Ok (done, cs)
 row_values n (c ∷ columns) done [] cs = Ok (done, cs)
-row_values n (c ∷ columns) done (t ∷ ts) cs = value_of n c.1 t cs >>= λ r. row_values n columns (done ++ r.0 ∷ []) ts r.1
+row_values n (c ∷ columns) done (t ∷ ts) cs = tree_value n c.1 t cs >>= λ r. row_values n columns (done ++ r.0 ∷ []) ts r.1
 
 -- a row has as many values as the table has columns
-abbrev pub typed_row : ℕ → ColumnList → RowParts → Step (List (Option ℕ))
+abbrev pub typed_row : ℕ → ColumnList → RowParts → TypingStep (List (Option ℕ))
 typed_row n columns r cs = unless (not (length r.values == length columns)) kind.BadCount r.place >>= λ _. row_values n columns [] r.values cs
 
-abbrev pub typed_rows : ℕ → ColumnList → List (List (Option ℕ)) → List RowParts → Step (List (List (Option ℕ)))
+abbrev pub typed_rows : ℕ → ColumnList → List (List (Option ℕ)) → List RowParts → TypingStep (List (List (Option ℕ)))
 typed_rows n columns done [] cs = Ok (done, cs)
 typed_rows n columns done (r ∷ rs) cs = typed_row n columns r cs >>= λ v. typed_rows n columns (done ++ v.0 ∷ []) rs v.1
 
-abbrev pub inserted : ℕ → NameLists → Word → List RowParts → Step Made
+abbrev pub inserted : ℕ → NameLists → Word → List RowParts → TypingStep Made
 inserted n names table rows cs = found kind.UnknownName table.place (table_of names.tables table.text) >>= λ t. typed_rows n t.1 [] rows cs >>= λ r.
     Ok (record { statement = new_rows t.0 r.0 (map (λ row. row.place) rows); names = names }, r.1)
 
 -- the string behind DELIMITER is one comma
-abbrev pub good_delimiter : Option Quoted → Result (Unit {0}) Wrong
+abbrev pub good_delimiter : Option Quoted → Result (Unit {0}) Mistake
 good_delimiter None = Ok tt
 good_delimiter (Some q) = unless (not (bytes_eq q.text (codes ","))) kind.NoSuchOperator q.place
 
-abbrev pub copied : NameLists → Word → Quoted → Option Quoted → Result Made Wrong
+abbrev pub copied : NameLists → Word → Quoted → Option Quoted → Result Made Mistake
 copied names table file delimiter = found kind.UnknownName table.place (table_of names.tables table.text) >>= λ t. good_delimiter delimiter >>= λ _.
     Ok (record { statement = rows_from t.0 file.text; names = names })
 
-abbrev pub keeping : List ConstText → Result Made Wrong → Result (Made × List ConstText) Wrong
+abbrev pub keeping : List ConstText → Result Made Mistake → Result (Made × List ConstText) Mistake
 keeping cs r = r >>= λ m. Ok (m, cs)
 
-abbrev pub asked : (TypedSelectParts → StatementOut) → NameLists → Result (TypedSelectParts × List ConstText) Wrong → Result (Made × List ConstText) Wrong
+abbrev pub asked : (TypedSelectParts → StatementOut) → NameLists → Result (TypedSelectParts × List ConstText) Mistake → Result (Made × List ConstText) Mistake
 asked form names r = r >>= λ s. Ok (record { statement = form s.0; names = names }, s.1)
 
 -- The statement of this number, typed, with the names and the constants after it, or what is wrong first.
-unfoldable pub typed_statement : ℕ → NameLists → StatementParts → Step Made
+unfoldable pub typed_statement : ℕ → NameLists → StatementParts → TypingStep Made
 typed_statement n names empty cs = Ok (record { statement = nothing; names = names }, cs)
 typed_statement n names (create_table name columns) cs = keeping cs (made_table names name columns)
 typed_statement n names (create_index name table column) cs = keeping cs (made_index names name table column)
@@ -163,7 +163,7 @@ pub record ScriptOut : Type 0 where
   pub consts : List ConstText
 
 -- what is wrong in a statement is so in the script, with the statement's number
-abbrev pub in_statement : ℕ → Result (Made × List ConstText) Wrong → Result (Made × List ConstText) Refusal
+abbrev pub in_statement : ℕ → Result (Made × List ConstText) Mistake → Result (Made × List ConstText) Refusal
 in_statement n (Ok r) = Ok r
 in_statement n (Err w) = Err (record { kind = w.kind; statement = n; place = w.place })
 
@@ -187,8 +187,8 @@ abbrev pub script_seen : Typed → ScriptOut
 script_seen t = record { statements = map statement_seen t.statements; consts = t.consts }
 
 -- the program's refusal is this one, or want of memory
-abbrev pub Refuses : Refusal → Result ScriptOut Refusal → Type 0
-Refuses e read = (e ≡ no_memory) ⊎ (read ≡ Err e)
+abbrev pub IsTypingRefusal : Refusal → Result ScriptOut Refusal → Type 0
+IsTypingRefusal e read = (e ≡ no_memory) ⊎ (read ≡ Err e)
 
 abbrev pub refusal_of : Fault → ℕ → Refusal
 refusal_of (Refused kind place) n = record { kind = kind; statement = n; place = place }

@@ -44,10 +44,10 @@ skip_blanks [] = []
 skip_blanks (b ∷ bs) = if is_blank b then skip_blanks bs else b ∷ bs
 
 -- whether a text begins with this word, which has small letters alone, in letters of either case
-abbrev pub begins : List ℕ → List ℕ → Bool
-begins s [] = true
-begins [] (w ∷ ws) = false
-begins (b ∷ bs) (w ∷ ws) = to_ascii_lowercase b == w && begins bs ws
+abbrev pub begins_with_word : List ℕ → List ℕ → Bool
+begins_with_word s [] = true
+begins_with_word [] (w ∷ ws) = false
+begins_with_word (b ∷ bs) (w ∷ ws) = to_ascii_lowercase b == w && begins_with_word bs ws
 
 -- behind `SRID=0;` and the blanks round its sign, where the text begins so
 abbrev pub after_semicolon : List ℕ → List ℕ → List ℕ
@@ -55,11 +55,11 @@ after_semicolon whole [] = whole
 after_semicolon whole (b ∷ bs) = if b == 59 then skip_blanks bs else whole
 
 abbrev pub after_srid : List ℕ → List ℕ
-after_srid s = if begins s (codes "srid=0") then after_semicolon s (skip_blanks (drop 6 s)) else s
+after_srid s = if begins_with_word s (codes "srid=0") then after_semicolon s (skip_blanks (drop 6 s)) else s
 
 -- whether a text of geometry is a polygon's: behind blanks and `SRID=0;` it begins with `polygon`
 abbrev pub is_polygon : List ℕ → Bool
-is_polygon s = begins (after_srid (skip_blanks s)) (codes "polygon")
+is_polygon s = begins_with_word (after_srid (skip_blanks s)) (codes "polygon")
 
 abbrev pub geometry_type : List ℕ → SqlType
 geometry_type s = if is_polygon s then sql.Polygon else sql.Point

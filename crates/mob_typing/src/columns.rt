@@ -1,9 +1,9 @@
 //! The column that a name stands for.
 ghost use Rattle.std.specs.Prelude.{◌≡◌, option_map};
-ghost use Rattle.mob_typing.specs.Answers.{Answers};
+ghost use Rattle.mob_typing.specs.Answers.{AnswersAs};
 ghost use Rattle.mob_typing.specs.Names.{entry_from};
 ghost use Rattle.mob_typing.specs.Scopes.{source_of, sources_of, scope_of};
-ghost use Rattle.mob_typing.specs.Expressions.{the_one, matches, column_at};
+ghost use Rattle.mob_typing.specs.Expressions.{the_one, matches, column_named};
 
 use crate::fault::Fault;
 use crate::scope::{Found, Scope, Source, number};
@@ -11,7 +11,7 @@ use mob_ast::{Kind, SqlType, Word};
 
 // The one column of this name in all tables of FROM.
 fn bare_column(from: &[Source<'_>], name: &Word) -> Result<Found, Fault>
-    ensures { Answers (λ f. f) result (the_one name.now.place (matches 0 (sources_of from.now) name.now.text)) }
+    ensures { AnswersAs (λ f. f) result (the_one name.now.place (matches 0 (sources_of from.now) name.now.text)) }
 {
     let mut one: Option<Found> = None;
     for (index, source) in from.iter().enumerate() {
@@ -49,7 +49,7 @@ pub fn source_named<'a>(from: &'a [Source<'a>], name: &str) -> Option<(usize, &'
 
 /// The column that a name stands for, with its table before a point or without.
 pub fn column_at(scope: &Scope<'_>, table: &Option<Word>, column: &Word) -> Result<Found, Fault>
-    ensures named { Answers (λ f. f) result (column_at (scope_of scope.now) table.now column.now) }
+    ensures named { AnswersAs (λ f. f) result (column_named (scope_of scope.now) table.now column.now) }
 {
     let Some(table) = table else {
         return bare_column(scope.from, column);

@@ -1,10 +1,10 @@
 //! Constants, and what else is settled before operands are looked at.
 ghost use Rattle.std.specs.Prelude.{◌≡◌, None, Some, option_map, map};
 ghost use Rattle.mob_ast.specs.Trees.{tree_of, trees_of};
-ghost use Rattle.mob_typing.specs.Answers.{Gives, refuse};
+ghost use Rattle.mob_typing.specs.Answers.{TypesTo, refuse};
 ghost use Rattle.mob_typing.specs.Trees.{typed, typed_of, none, typed_trees};
 ghost use Rattle.mob_typing.specs.Scopes.{scope_of};
-ghost use Rattle.mob_typing.specs.Expressions.{constant, literal, only, lone_string, cast_of_string, early};
+ghost use Rattle.mob_typing.specs.Expressions.{constant, typed_string, only, lone_string, cast_of_string, typed_before_operands};
 
 use crate::columns::column_at;
 use crate::fault::Fault;
@@ -45,7 +45,7 @@ pub fn constant(
     text: &str,
     place: u32,
 ) -> Result<TExpr, Fault>
-    ensures next { Gives typed_of result consts.new (constant (scope_of scope.now) ty text.now place consts.old) }
+    ensures next { TypesTo typed_of result consts.new (constant (scope_of scope.now) ty text.now place consts.old) }
 {
     let index = number(consts.len())?;
     let text = Text::from_string(String::from_str(alloc, text)?);
@@ -89,7 +89,7 @@ fn cast_of_string(
     place: u32,
     args: &[Expr],
 ) -> Result<Option<TExpr>, Fault>
-    ensures { Gives (option_map typed_of) result consts.new (cast_of_string (scope_of scope.now) word.now place (lone_string (trees_of args.now)) consts.old) }
+    ensures { TypesTo (option_map typed_of) result consts.new (cast_of_string (scope_of scope.now) word.now place (lone_string (trees_of args.now)) consts.old) }
 {
     let Some((text, text_place)) = lone_string(args) else {
         return Ok(None);
@@ -115,7 +115,7 @@ fn literal(
     text: &str,
     place: u32,
 ) -> Result<TExpr, Fault>
-    ensures { Gives typed_of result consts.new (literal (scope_of scope.now) word.now text.now place consts.old) }
+    ensures { TypesTo typed_of result consts.new (typed_string (scope_of scope.now) word.now text.now place consts.old) }
 {
     let Some(ty) = literal_type(word, text) else {
         return Err(Fault::Wrong {
@@ -128,7 +128,7 @@ fn literal(
 
 /// What is settled before the operands: constants, columns, a cast of a bare string, and functions that are refused for
 /// their irrational results.
-#[tactic(auto, unfolding(crate::specs::Expressions::early))]
+#[tactic(auto, unfolding(crate::specs::Expressions::typed_before_operands))]
 pub fn early(
     alloc: Global,
     scope: &Scope<'_>,
@@ -137,7 +137,7 @@ pub fn early(
     place: u32,
     args: &[Expr],
 ) -> Result<Option<TExpr>, Fault>
-    ensures settled { Gives (option_map typed_of) result consts.new (early (scope_of scope.now) node.now place (trees_of args.now) consts.old) }
+    ensures settled { TypesTo (option_map typed_of) result consts.new (typed_before_operands (scope_of scope.now) node.now place (trees_of args.now) consts.old) }
 {
     match node {
         Node::Null => Ok(Some(leaf(alloc, Op::Null, SqlType::Text, place))),

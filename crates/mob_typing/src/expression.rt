@@ -1,6 +1,6 @@
 //! Names and types of expressions.
 ghost use Rattle.mob_ast.specs.Trees.{tree_of};
-ghost use Rattle.mob_typing.specs.Answers.{Gives};
+ghost use Rattle.mob_typing.specs.Answers.{TypesTo};
 ghost use Rattle.mob_typing.specs.Trees.{typed_of};
 ghost use Rattle.mob_typing.specs.Scopes.{scope_of};
 ghost use Rattle.mob_typing.specs.Expressions.{typed_expression};
@@ -21,7 +21,7 @@ pub fn type_expr(
     consts: &mut Items<ConstText>,
     e: &Expr,
 ) -> Result<TExpr, Fault>
-    ensures typed { Gives typed_of result consts.new (typed_expression (scope_of scope.now) (tree_of e.now) consts.old) }
+    ensures typed { TypesTo typed_of result consts.new (typed_expression (scope_of scope.now) (tree_of e.now) consts.old) }
 {
     if let Some(done) = early(alloc, scope, consts, &e.node, e.place, &e.args)? {
         return Ok(done);

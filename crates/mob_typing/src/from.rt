@@ -1,6 +1,6 @@
 //! The tables of FROM.
 ghost use Rattle.std.specs.Prelude.{◌≡◌, ◌++◌, ◌∷◌, [], map, IfOk};
-ghost use Rattle.mob_typing.specs.Answers.{Answers};
+ghost use Rattle.mob_typing.specs.Answers.{AnswersAs};
 ghost use Rattle.mob_typing.specs.Scopes.{source_of, sources_of};
 ghost use Rattle.mob_typing.specs.Names.{has_entry};
 ghost use Rattle.mob_typing.specs.Selects.{from_name, from_table, from_tables};
@@ -30,7 +30,7 @@ fn from_name<'a>(
     table: &'a Word,
     alias: &'a Option<Word>,
 ) -> Result<&'a str, Fault>
-    ensures { Answers (λ n. n.now) result (from_name (sources_of sources.now) table.now alias.now) }
+    ensures { AnswersAs (λ n. n.now) result (from_name (sources_of sources.now) table.now alias.now) }
 {
     match alias {
         None => {
@@ -72,7 +72,7 @@ fn from_table<'a>(
     sources: &[Source<'_>],
     entry: &'a FromTable,
 ) -> Result<Source<'a>, Fault>
-    ensures { Answers (λ s. sources_of sources.now ++ source_of s ∷ []) result (from_table names.now.tables (sources_of sources.now) entry.now) }
+    ensures { AnswersAs (λ s. sources_of sources.now ++ source_of s ∷ []) result (from_table names.now.tables (sources_of sources.now) entry.now) }
 {
     let Some((table, columns)) = names.find(entry.table.text.as_str()) else {
         return Err(Fault::Wrong {
@@ -95,7 +95,7 @@ pub fn from_tables<'a>(
     names: &'a Names,
     from: &'a [FromTable],
 ) -> Result<Vec<Source<'a>>, Fault>
-    ensures named { Answers (λ v. sources_of v.items) result (from_tables names.now.tables [] from.now) }
+    ensures named { AnswersAs (λ v. sources_of v.items) result (from_tables names.now.tables [] from.now) }
 {
     let mut sources = Vec::new(alloc);
     for entry in from {

@@ -1,11 +1,11 @@
 //! The keys of ORDER BY, the condition of WHERE and the number of LIMIT.
 ghost use Rattle.std.specs.Prelude.{◌≡◌, [], map, IfOk, option_map, slice_get};
 ghost use Rattle.mob_ast.specs.Trees.{tree_of, key_of};
-ghost use Rattle.mob_typing.specs.Answers.{Answers, Gives};
+ghost use Rattle.mob_typing.specs.Answers.{AnswersAs, TypesTo};
 ghost use Rattle.mob_typing.specs.Names.{entry_from};
 ghost use Rattle.mob_typing.specs.Scopes.{scope_of};
 ghost use Rattle.mob_typing.specs.Trees.{typed_of};
-ghost use Rattle.mob_typing.specs.Selects.{output_of, outputs_seen, place_of, is_bool, condition, aliased, or_typed, is_key, typed_key, typed_keys, key_seen, is_limit, limit_value, limit_of};
+ghost use Rattle.mob_typing.specs.Selects.{output_of, outputs_seen, tree_place, is_bool, condition, aliased, or_typed, is_key, typed_key, typed_keys, key_seen, is_limit, limit_value, limit_of};
 
 use crate::constants::with_args;
 use crate::expression::type_expr;
@@ -23,7 +23,7 @@ use std::alloc::{AllocError, Global};
 // The place of an expression as a whole.
 #[tactic(auto, using(crate::proofs::TreeFacts::tree_is))]
 fn place_of(e: &Expr) -> u32
-    ensures { result ≡ place_of (tree_of e.now) }
+    ensures { result ≡ tree_place (tree_of e.now) }
 {
     e.place
 }
@@ -35,7 +35,7 @@ pub fn condition(
     consts: &mut Items<ConstText>,
     cond: &Option<Expr>,
 ) -> Result<Option<TExpr>, Fault>
-    ensures is_bool { Gives (option_map typed_of) result consts.new (condition (scope_of scope.now) (option_map tree_of cond.now) consts.old) }
+    ensures is_bool { TypesTo (option_map typed_of) result consts.new (condition (scope_of scope.now) (option_map tree_of cond.now) consts.old) }
 {
     let Some(cond) = cond else {
         return Ok(None);
@@ -123,7 +123,7 @@ fn key_value(
     outputs: &Outputs<'_>,
     e: &Expr,
 ) -> Result<TExpr, Fault>
-    ensures { Gives typed_of result consts.new (or_typed (scope_of scope.now) (tree_of e.now) (aliased (outputs_seen outputs.now) (tree_of e.now)) consts.old) }
+    ensures { TypesTo typed_of result consts.new (or_typed (scope_of scope.now) (tree_of e.now) (aliased (outputs_seen outputs.now) (tree_of e.now)) consts.old) }
 {
     match aliased(outputs, e) {
         Some(value) => Ok(copy_of(alloc, value)?),
@@ -139,7 +139,7 @@ fn typed_key(
     outputs: &Outputs<'_>,
     key: &Key,
 ) -> Result<(TExpr, bool), Fault>
-    ensures { Gives key_seen result consts.new (typed_key (scope_of scope.now) (outputs_seen outputs.now) (key_of key.now) consts.old) }
+    ensures { TypesTo key_seen result consts.new (typed_key (scope_of scope.now) (outputs_seen outputs.now) (key_of key.now) consts.old) }
 {
     let value = key_value(alloc, scope, consts, outputs, &key.value)?;
     if !is_key(type_of(&value)) {
@@ -159,7 +159,7 @@ pub fn typed_keys(
     outputs: &Outputs<'_>,
     keys: &[Key],
 ) -> Result<Items<(TExpr, bool)>, Fault>
-    ensures in_order { Gives (map key_seen) result consts.new (typed_keys (scope_of scope.now) (outputs_seen outputs.now) [] (map key_of keys.now) consts.old) }
+    ensures in_order { TypesTo (map key_seen) result consts.new (typed_keys (scope_of scope.now) (outputs_seen outputs.now) [] (map key_of keys.now) consts.old) }
 {
     let mut done = Items::new(alloc);
     for key in keys {
@@ -188,7 +188,7 @@ fn limit_value(text: &str) -> Option<u64>
 
 /// The number of LIMIT, which has 1 to 18 digits alone.
 pub fn limit_of(limit: &Option<Word>) -> Result<Option<u64>, Fault>
-    ensures number { Answers (λ n. n) result (limit_of limit.now) }
+    ensures number { AnswersAs (λ n. n) result (limit_of limit.now) }
 {
     let Some(word) = limit else {
         return Ok(None);

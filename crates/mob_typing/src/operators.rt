@@ -1,7 +1,7 @@
 //! Operators on typed operands.
 ghost use Rattle.std.specs.Prelude.{◌≡◌, option_map, map, IfOk};
 ghost use Rattle.mob_ast.specs.Trees.{tree_of, trees_of};
-ghost use Rattle.mob_typing.specs.Answers.{Answers};
+ghost use Rattle.mob_typing.specs.Answers.{AnswersAs};
 ghost use Rattle.mob_typing.specs.Trees.{typed_of, type_of, types_of};
 ghost use Rattle.mob_typing.specs.Words.{is_zero};
 ghost use Rattle.mob_typing.specs.Expressions.{is_signed, digits_of, divisor_of, missing, missing_sign, are_linear, divides_by_zero, operated, can_cast, can_cast_all, cast, finished};
@@ -125,7 +125,7 @@ fn operated(
     divisor: Option<bool>,
     args: Vec<TExpr>,
 ) -> Result<TExpr, Fault>
-    ensures { Answers typed_of result (operated form name.now place divisor (map typed_of args.items)) }
+    ensures { AnswersAs typed_of result (operated form name.now place divisor (map typed_of args.items)) }
 {
     let types = types_of(alloc, &args)?;
     let Some((op, ty)) = operator_for(form, name, &types, divisor.is_some()) else {
@@ -155,7 +155,7 @@ fn can_cast(from: SqlType, to: SqlType) -> bool
 
 // A cast of a typed operand.
 fn cast(alloc: Global, word: &TypeWord, place: u32, args: Vec<TExpr>) -> Result<TExpr, Fault>
-    ensures { Answers typed_of result (cast word.now place (map typed_of args.items)) }
+    ensures { AnswersAs typed_of result (cast word.now place (map typed_of args.items)) }
 {
     let Some(ty) = type_named(word) else {
         return Err(Fault::Wrong {
@@ -191,7 +191,7 @@ pub fn finished(
     args: &[Expr],
     typed_args: Vec<TExpr>,
 ) -> Result<TExpr, Fault>
-    ensures typed { Answers typed_of result (finished node.now place (trees_of args.now) (map typed_of typed_args.items)) }
+    ensures typed { AnswersAs typed_of result (finished node.now place (trees_of args.now) (map typed_of typed_args.items)) }
 {
     match node {
         Node::Call(name) => operated(alloc, Form::Call, name.as_str(), place, None, typed_args),

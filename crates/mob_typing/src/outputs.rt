@@ -1,7 +1,7 @@
 //! The columns of the answer: the select list.
 ghost use Rattle.std.specs.Prelude.{◌≡◌, ◌+◌, ◌++◌, ◌∷◌, [], map, codes, decimal, IfOk, OnOk, Ok};
 ghost use Rattle.mob_ast.specs.Trees.{tree_of, item_of, one};
-ghost use Rattle.mob_typing.specs.Answers.{Answers, Gives};
+ghost use Rattle.mob_typing.specs.Answers.{AnswersAs, TypesTo};
 ghost use Rattle.mob_typing.specs.Scopes.{sources_of, scope_of};
 ghost use Rattle.mob_typing.specs.Trees.{typed, typed_of, none};
 ghost use Rattle.mob_typing.specs.Selects.{columns_of_table, all_outputs, own_name, tree_name, output_name, with_alias, with_item, with_items, output_of, outputs_seen, no_outputs};
@@ -36,7 +36,7 @@ fn push_column(
     name: &str,
     place: u32,
 ) -> Result<(), Fault>
-    ensures { Answers (λ _. map output_of columns.new.items) result (Ok (map output_of columns.old.items ++ (typed op ty place none, name.now) ∷ [])) }
+    ensures { AnswersAs (λ _. map output_of columns.new.items) result (Ok (map output_of columns.old.items ++ (typed op ty place none, name.now) ∷ [])) }
 {
     let name = Text::from_string(String::from_str(alloc, name)?);
     columns.push((leaf(alloc, op, ty, place), name))?;
@@ -51,7 +51,7 @@ fn push_columns(
     source: &Columns,
     place: u32,
 ) -> Result<(), Fault>
-    ensures { Answers (λ _. map output_of columns.new.items) result (Ok (map output_of columns.old.items ++ columns_of_table from 0 source.now place)) }
+    ensures { AnswersAs (λ _. map output_of columns.new.items) result (Ok (map output_of columns.old.items ++ columns_of_table from 0 source.now place)) }
 {
     for index in 0..source.len() {
         let (name, ty) = source.at(index);
@@ -68,7 +68,7 @@ fn push_all(
     from: &[Source<'_>],
     place: u32,
 ) -> Result<(), Fault>
-    ensures { Answers (λ _. map output_of columns.new.items) result (Ok (map output_of columns.old.items ++ all_outputs 0 (sources_of from.now) place)) }
+    ensures { AnswersAs (λ _. map output_of columns.new.items) result (Ok (map output_of columns.old.items ++ all_outputs 0 (sources_of from.now) place)) }
 {
     for (index, source) in from.iter().enumerate() {
         push_columns(alloc, columns, number(index)?, source.columns, place)?;
@@ -135,7 +135,7 @@ fn push_one<'a>(
     value: &Expr,
     alias: &'a Option<Word>,
 ) -> Result<(), Fault>
-    ensures { Gives (λ _. outputs_seen outputs.new) result consts.new (with_item (scope_of scope.now) (outputs_seen outputs.old) (one (tree_of value.now) alias.now) consts.old) }
+    ensures { TypesTo (λ _. outputs_seen outputs.new) result consts.new (with_item (scope_of scope.now) (outputs_seen outputs.old) (one (tree_of value.now) alias.now) consts.old) }
 {
     let position = outputs.columns.len();
     let typed = type_expr(alloc, scope, consts, value)?;
@@ -153,7 +153,7 @@ fn push_item<'a>(
     outputs: &mut Outputs<'a>,
     item: &'a Item,
 ) -> Result<(), Fault>
-    ensures { Gives (λ _. outputs_seen outputs.new) result consts.new (with_item (scope_of scope.now) (outputs_seen outputs.old) (item_of item.now) consts.old) }
+    ensures { TypesTo (λ _. outputs_seen outputs.new) result consts.new (with_item (scope_of scope.now) (outputs_seen outputs.old) (item_of item.now) consts.old) }
 {
     match item {
         Item::All { place } => {
@@ -177,7 +177,7 @@ pub fn outputs_of<'a>(
     consts: &mut Items<ConstText>,
     items: &'a [Item],
 ) -> Result<Outputs<'a>, Fault>
-    ensures listed { Gives outputs_seen result consts.new (with_items (scope_of scope.now) no_outputs (map item_of items.now) consts.old) }
+    ensures listed { TypesTo outputs_seen result consts.new (with_items (scope_of scope.now) no_outputs (map item_of items.now) consts.old) }
 {
     let mut outputs = Outputs {
         columns: Vec::new(alloc),

@@ -2,8 +2,8 @@
 ghost use Rattle.std.specs.Prelude.{◌≡◌, [], length, map, option_map, IfOk};
 ghost use Rattle.mob_ast.specs.Trees.{tree_of, trees_of, row_of};
 ghost use Rattle.mob_operators.specs.Lookup.{same_type};
-ghost use Rattle.mob_typing.specs.Answers.{Answers, Gives};
-ghost use Rattle.mob_typing.specs.Statements.{noted, lone_number, signed_value, bool_value, typed_value, node_value, value_of, row_values, typed_row, typed_rows, inserted, good_delimiter, copied, statement_seen};
+ghost use Rattle.mob_typing.specs.Answers.{AnswersAs, TypesTo};
+ghost use Rattle.mob_typing.specs.Statements.{row_constant, lone_number, signed_value, bool_value, typed_value, node_value, tree_value, row_values, typed_row, typed_rows, inserted, good_delimiter, copied, statement_seen};
 
 use crate::constants::only;
 use crate::fault::Fault;
@@ -26,7 +26,7 @@ fn noted(
     text: &str,
     place: u32,
 ) -> Result<Option<u32>, Fault>
-    ensures { Gives (λ v. v) result consts.new (noted statement ty text.now place consts.old) }
+    ensures { TypesTo (λ v. v) result consts.new (row_constant statement ty text.now place consts.old) }
 {
     let index = number(consts.len())?;
     let text = Text::from_string(String::from_str(alloc, text)?);
@@ -61,7 +61,7 @@ fn signed_value(
     place: u32,
     args: &[Expr],
 ) -> Result<Option<u32>, Fault>
-    ensures { Gives (λ v. v) result consts.new (signed_value statement ty sign.now place (lone_number (trees_of args.now)) consts.old) }
+    ensures { TypesTo (λ v. v) result consts.new (signed_value statement ty sign.now place (lone_number (trees_of args.now)) consts.old) }
 {
     let Some((digits, digits_place)) = lone_number(args) else {
         return Err(Fault::Wrong {
@@ -96,7 +96,7 @@ fn bool_value(
     text: &str,
     place: u32,
 ) -> Result<Option<u32>, Fault>
-    ensures { Gives (λ v. v) result consts.new (bool_value statement ty text.now place consts.old) }
+    ensures { TypesTo (λ v. v) result consts.new (bool_value statement ty text.now place consts.old) }
 {
     if !is_same(ty, SqlType::Bool) {
         return Err(Fault::Wrong {
@@ -117,7 +117,7 @@ fn typed_value(
     text: &str,
     place: u32,
 ) -> Result<Option<u32>, Fault>
-    ensures { Gives (λ v. v) result consts.new (typed_value statement ty word.now text.now place consts.old) }
+    ensures { TypesTo (λ v. v) result consts.new (typed_value statement ty word.now text.now place consts.old) }
 {
     let Some(own) = literal_type(word, text) else {
         return Err(Fault::Wrong {
@@ -145,7 +145,7 @@ fn node_value(
     place: u32,
     args: &[Expr],
 ) -> Result<Option<u32>, Fault>
-    ensures { Gives (λ v. v) result consts.new (node_value statement ty node.now place (trees_of args.now) consts.old) }
+    ensures { TypesTo (λ v. v) result consts.new (node_value statement ty node.now place (trees_of args.now) consts.old) }
 {
     match node {
         Node::Null => Ok(None),
@@ -177,7 +177,7 @@ fn value_of(
     ty: SqlType,
     e: &Expr,
 ) -> Result<Option<u32>, Fault>
-    ensures { Gives (λ v. v) result consts.new (value_of statement ty (tree_of e.now) consts.old) }
+    ensures { TypesTo (λ v. v) result consts.new (tree_value statement ty (tree_of e.now) consts.old) }
 {
     node_value(alloc, statement, consts, ty, &e.node, e.place, &e.args)
 }
@@ -191,7 +191,7 @@ fn row_values(
     values: &[Expr],
 ) -> Result<Items<Option<u32>>, Fault>
     requires { length values.now ≡ length columns.now }
-    ensures { Gives (λ v. v) result consts.new (row_values statement columns.now [] (map tree_of values.now) consts.old) }
+    ensures { TypesTo (λ v. v) result consts.new (row_values statement columns.now [] (map tree_of values.now) consts.old) }
 {
     let mut done = Items::new(alloc);
     for (index, value) in values.iter().enumerate() {
@@ -210,7 +210,7 @@ fn typed_row(
     columns: &Columns,
     row: &Row,
 ) -> Result<Items<Option<u32>>, Fault>
-    ensures { Gives (λ v. v) result consts.new (typed_row statement columns.now (row_of row.now) consts.old) }
+    ensures { TypesTo (λ v. v) result consts.new (typed_row statement columns.now (row_of row.now) consts.old) }
 {
     if row.values.len() != columns.len() {
         return Err(Fault::Wrong {
@@ -229,7 +229,7 @@ fn typed_rows(
     columns: &Columns,
     rows: &[Row],
 ) -> Result<Items<Items<Option<u32>>>, Fault>
-    ensures { Gives (λ v. v) result consts.new (typed_rows statement columns.now [] (map row_of rows.now) consts.old) }
+    ensures { TypesTo (λ v. v) result consts.new (typed_rows statement columns.now [] (map row_of rows.now) consts.old) }
 {
     let mut done = Items::new(alloc);
     for row in rows {
@@ -259,7 +259,7 @@ pub fn inserted(
     table: &Word,
     rows: &[Row],
 ) -> Result<TypedStatement, Fault>
-    ensures made { Gives (λ t. record { statement = statement_seen t; names = names.now }) result consts.new (inserted statement names.now table.now (map row_of rows.now) consts.old) }
+    ensures made { TypesTo (λ t. record { statement = statement_seen t; names = names.now }) result consts.new (inserted statement names.now table.now (map row_of rows.now) consts.old) }
 {
     let Some((index, columns)) = names.find(table.text.as_str()) else {
         return Err(Fault::Wrong {
@@ -279,7 +279,7 @@ pub fn inserted(
 
 // The string behind DELIMITER is one comma.
 fn good_delimiter(delimiter: &Option<Quoted>) -> Result<(), Fault>
-    ensures { Answers (λ u. u) result (good_delimiter delimiter.now) }
+    ensures { AnswersAs (λ u. u) result (good_delimiter delimiter.now) }
 {
     let Some(string) = delimiter else {
         return Ok(());
@@ -301,7 +301,7 @@ pub fn copied(
     file: &Quoted,
     delimiter: &Option<Quoted>,
 ) -> Result<TypedStatement, Fault>
-    ensures made { Answers (λ t. record { statement = statement_seen t; names = names.now }) result (copied names.now table.now file.now delimiter.now) }
+    ensures made { AnswersAs (λ t. record { statement = statement_seen t; names = names.now }) result (copied names.now table.now file.now delimiter.now) }
 {
     let Some((index, _)) = names.find(table.text.as_str()) else {
         return Err(Fault::Wrong {

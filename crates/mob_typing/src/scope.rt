@@ -1,6 +1,6 @@
 //! What an expression sees: the tables of FROM and their columns.
 ghost use Rattle.std.specs.Prelude.{◌≡◌, Ok};
-ghost use Rattle.mob_typing.specs.Answers.{Answers};
+ghost use Rattle.mob_typing.specs.Answers.{AnswersAs};
 
 use crate::fault::Fault;
 use crate::names::Columns;
@@ -39,7 +39,7 @@ pub struct Found {
 
 /// A number of 32 bits. What is past it cannot be held in memory, so that it counts as want of memory.
 pub fn number(index: usize) -> Result<u32, Fault>
-    ensures same { Answers (λ n. n) result (Ok index) }
+    ensures same { AnswersAs (λ n. n) result (Ok index) }
 {
     u32::try_from(index).map_err(|_| Fault::NoMemory)
 }

@@ -1,8 +1,8 @@
 //! Names and types of whole scripts.
 ghost use Rattle.std.specs.Prelude.{◌≡◌, ◌+◌, Ok, IfOk, IfErr};
 ghost use Rattle.mob_ast.specs.Trees.{statement_of, script_of};
-ghost use Rattle.mob_typing.specs.Answers.{Answers, Gives};
-ghost use Rattle.mob_typing.specs.Statements.{statement_seen, typed_statement, typed_script, script_seen, Refuses, refusal_of};
+ghost use Rattle.mob_typing.specs.Answers.{AnswersAs, TypesTo};
+ghost use Rattle.mob_typing.specs.Statements.{statement_seen, typed_statement, typed_script, script_seen, IsTypingRefusal, refusal_of};
 
 use crate::fault::Fault;
 use crate::names::Names;
@@ -24,7 +24,7 @@ fn type_statement(
     consts: &mut Items<ConstText>,
     statement: &Statement,
 ) -> Result<TypedStatement, Fault>
-    ensures { Gives (λ t. record { statement = statement_seen t; names = names.new }) result consts.new (typed_statement number names.old (statement_of statement.now) consts.old) }
+    ensures { TypesTo (λ t. record { statement = statement_seen t; names = names.new }) result consts.new (typed_statement number names.old (statement_of statement.now) consts.old) }
 {
     match statement {
         Statement::Empty => Ok(TypedStatement::Empty),
@@ -84,7 +84,7 @@ fn refusal_of(fault: Fault, statement: u32) -> Refusal
 /// In a statement the tables of FROM or the target table come first, then the rest by place, operands before their operator.
 pub fn type_script(alloc: Global, script: Script) -> Result<Typed, Refusal>
     ensures typed { IfOk result (λ t. typed_script (script_of script) ≡ Ok (script_seen t)) }
-    ensures first_refusal { IfErr result (λ e. Refuses e (typed_script (script_of script))) }
+    ensures first_refusal { IfErr result (λ e. IsTypingRefusal e (typed_script (script_of script))) }
 {
     let mut names = Names::new(alloc);
     let mut consts = Items::new(alloc);

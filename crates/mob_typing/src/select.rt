@@ -1,7 +1,7 @@
 //! Names and types of a SELECT.
 ghost use Rattle.std.specs.Prelude.{◌≡◌};
 ghost use Rattle.mob_ast.specs.Trees.{select_of};
-ghost use Rattle.mob_typing.specs.Answers.{Gives};
+ghost use Rattle.mob_typing.specs.Answers.{TypesTo};
 ghost use Rattle.mob_typing.specs.Scopes.{scope_of};
 ghost use Rattle.mob_typing.specs.Selects.{select_seen, typed_clauses, typed_select};
 
@@ -23,7 +23,7 @@ fn typed_clauses(
     consts: &mut Items<ConstText>,
     select: &SelectTree,
 ) -> Result<TypedSelect, Fault>
-    ensures { Gives select_seen result consts.new (typed_clauses (scope_of scope.now) (select_of select.now) consts.old) }
+    ensures { TypesTo select_seen result consts.new (typed_clauses (scope_of scope.now) (select_of select.now) consts.old) }
 {
     let outputs = outputs_of(alloc, scope, consts, select.items.as_slice())?;
     let cond = condition(alloc, scope, consts, &select.cond)?;
@@ -55,7 +55,7 @@ pub fn typed_select(
     consts: &mut Items<ConstText>,
     select: &SelectTree,
 ) -> Result<TypedSelect, Fault>
-    ensures typed { Gives select_seen result consts.new (typed_select names.now.tables statement (select_of select.now) consts.old) }
+    ensures typed { TypesTo select_seen result consts.new (typed_select names.now.tables statement (select_of select.now) consts.old) }
 {
     let from = from_tables(alloc, names, select.from.as_slice())?;
     let scope = Scope {

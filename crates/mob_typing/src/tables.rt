@@ -2,7 +2,7 @@
 ghost use Rattle.std.specs.Prelude.{◌≡◌, [], IfOk};
 ghost use Rattle.mob_operators.specs.Lookup.{same_type};
 ghost use Rattle.mob_ast.specs.declared.types.SqlType.TheVariants.{TPoint};
-ghost use Rattle.mob_typing.specs.Answers.{Answers};
+ghost use Rattle.mob_typing.specs.Answers.{AnswersAs};
 ghost use Rattle.mob_typing.specs.Statements.{with_column, with_columns, made_table, made_index, statement_seen};
 
 use crate::fault::Fault;
@@ -20,7 +20,7 @@ const MOST: usize = 64;
 
 // Adds a column.
 fn with_column(alloc: Global, columns: &mut Columns, column: &(Word, TypeWord)) -> Result<(), Fault>
-    ensures { Answers (λ _. columns.new) result (with_column columns.old column.now) }
+    ensures { AnswersAs (λ _. columns.new) result (with_column columns.old column.now) }
 {
     let (name, word) = column;
     if columns.has(name.text.as_str()) {
@@ -47,7 +47,7 @@ fn with_column(alloc: Global, columns: &mut Columns, column: &(Word, TypeWord)) 
 
 // The columns of a new table.
 fn with_columns(alloc: Global, list: &[(Word, TypeWord)]) -> Result<Columns, Fault>
-    ensures { Answers (λ c. c) result (with_columns [] list.now) }
+    ensures { AnswersAs (λ c. c) result (with_columns [] list.now) }
 {
     let mut columns = Columns::new(alloc);
     for column in list {
@@ -75,7 +75,7 @@ pub fn made_table(
     name: &Word,
     columns: &[(Word, TypeWord)],
 ) -> Result<TypedStatement, Fault>
-    ensures made { Answers (λ t. record { statement = statement_seen t; names = names.new }) result (made_table names.old name.now columns.now) }
+    ensures made { AnswersAs (λ t. record { statement = statement_seen t; names = names.new }) result (made_table names.old name.now columns.now) }
 {
     if names.has(name.text.as_str()) {
         return Err(Fault::Wrong {
@@ -115,7 +115,7 @@ pub fn made_index(
     table: &Word,
     column: &Word,
 ) -> Result<TypedStatement, Fault>
-    ensures made { Answers (λ t. record { statement = statement_seen t; names = names.new }) result (made_index names.old name.now table.now column.now) }
+    ensures made { AnswersAs (λ t. record { statement = statement_seen t; names = names.new }) result (made_index names.old name.now table.now column.now) }
 {
     let Some((table_index, columns)) = names.find(table.text.as_str()) else {
         return Err(Fault::Wrong {

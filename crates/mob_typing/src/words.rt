@@ -2,7 +2,7 @@
 ghost use Rattle.std.specs.Prelude.{◌≡◌, map};
 ghost use Rattle.std.specs.List.{list_all};
 ghost use Rattle.std.specs.Char.{is_ascii_digit};
-ghost use Rattle.mob_typing.specs.Words.{type_among, type_words, geometry_words, type_named, number_type, is_zero, is_blank, skip_blanks, begins, after_srid, after_semicolon, is_polygon, geometry_type, literal_type};
+ghost use Rattle.mob_typing.specs.Words.{type_among, type_words, geometry_words, type_named, number_type, is_zero, is_blank, skip_blanks, begins_with_word, after_srid, after_semicolon, is_polygon, geometry_type, literal_type};
 
 use mob_ast::{SqlType, TypeWord};
 
@@ -120,7 +120,7 @@ fn skip_blanks(text: &[u8]) -> &[u8]
 
 // Whether a text begins with this word in letters of either case.
 fn begins(text: &[u8], word: &[u8]) -> bool
-    ensures { result ≡ begins text.now word.now }
+    ensures { result ≡ begins_with_word text.now word.now }
 {
     let Some((small, word)) = word.split_first() else {
         return true;

@@ -6,7 +6,7 @@ use Rattle.clap.specs.Words.{Text}
 use Rattle.mob_scalar.specs.declared.fault.ReadText.{ReadText}
 use Rattle.mob_scalar.specs.declared.fault.ReadText.TheVariants.{NoMemory}
 use Rattle.mob_scalar.proofs.OneReadings.{one_epoch}
-use Rattle.mob_words.specs.CommandLine.{IsEpoch, IsWorkers, value_of}
+use Rattle.mob_words.specs.CommandLine.{IsEpoch, IsWorkers, option_value}
 use Rattle.mob_words.specs.Outcomes.{HasOneSetting}
 
 one_count : (value : Option Text) (m n : ℕ) → IsWorkers value m → IsWorkers value n → m ≡ n
@@ -25,6 +25,6 @@ one_day (Some text) a b h k = let e = one_epoch text (Ok a) (Ok b) (day_known a)
 
 pub one_setting : HasOneSetting
 one_setting words workers others day other h k = (
-  one_count (value_of (codes "workers") words) workers others h.count k.count,
-  one_day (value_of (codes "epoch") words) day other h.day k.day,
+  one_count (option_value (codes "workers") words) workers others h.count k.count,
+  one_day (option_value (codes "epoch") words) day other h.day k.day,
 )

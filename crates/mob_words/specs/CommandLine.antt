@@ -22,8 +22,8 @@ unfoldable pub IsTaken : List Text → Type 0
 IsTaken words = fault_of command words ≡ []
 
 -- the value that the words give to an option
-unfoldable pub value_of : Text → List Text → Option Text
-value_of name words = first_of name (matches_of command words)
+unfoldable pub option_value : Text → List Text → Option Text
+option_value name words = first_of name (matches_of command words)
 
 -- the number of workers: a whole number from 1 to 64 in decimal digits, without a sign and a leading zero; 1 without a value
 abbrev pub IsWorkers : Option Text → ℕ → Type 0
@@ -36,7 +36,7 @@ IsEpoch None day = day ≡ standard_day
 IsEpoch (Some text) day = Lit epochs text (Ok day)
 
 -- the words are taken, and say this number of workers and this day as the epoch
-pub record Says (words : List Text) (workers : ℕ) (epoch : ℤ) : Type 0 where
+pub record WordsSay (words : List Text) (workers : ℕ) (epoch : ℤ) : Type 0 where
   pub taken : IsTaken words
-  pub count : IsWorkers (value_of (codes "workers") words) workers
-  pub day : IsEpoch (value_of (codes "epoch") words) epoch
+  pub count : IsWorkers (option_value (codes "workers") words) workers
+  pub day : IsEpoch (option_value (codes "epoch") words) epoch

@@ -1,7 +1,7 @@
 // The command, and the values that words give to its options.
 ghost use Rattle.std.specs.Prelude.{◌≡◌, IfOk, IfSome, IsNone, codes, map, option_map, string_bytes};
 ghost use Rattle.clap.specs.Words.{app_of};
-ghost use Rattle.mob_words.specs.CommandLine.{IsTaken, command, value_of};
+ghost use Rattle.mob_words.specs.CommandLine.{IsTaken, command, option_value};
 
 use clap::error::ErrorKind;
 use clap::{Arg, Command};
@@ -31,8 +31,8 @@ fn mobsql<'a>(alloc: Global) -> Result<Command<'a>, AllocError>
 pub fn given<'a>(alloc: Global, words: &'a [String]) -> Result<Option<Values<'a>>, AllocError>
     ensures taken { IfOk result (λ o. IfSome o (λ v. IsTaken (map string_bytes words.entry.now))) }
     ensures refused { IfOk result (λ o. IsNone o → IsTaken (map string_bytes words.entry.now) → ⊥) }
-    ensures workers { IfOk result (λ o. IfSome o (λ v. option_map (λ s. s.now) v.workers ≡ value_of (codes "workers") (map string_bytes words.entry.now))) }
-    ensures epoch { IfOk result (λ o. IfSome o (λ v. option_map (λ s. s.now) v.epoch ≡ value_of (codes "epoch") (map string_bytes words.entry.now))) }
+    ensures workers { IfOk result (λ o. IfSome o (λ v. option_map (λ s. s.now) v.workers ≡ option_value (codes "workers") (map string_bytes words.entry.now))) }
+    ensures epoch { IfOk result (λ o. IfSome o (λ v. option_map (λ s. s.now) v.epoch ≡ option_value (codes "epoch") (map string_bytes words.entry.now))) }
 {
     let command = mobsql(alloc)?;
     match command.try_get_matches_from(words) {

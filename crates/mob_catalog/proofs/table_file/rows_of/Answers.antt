@@ -3,7 +3,7 @@ use Rattle.std.proofs.lemmas.List.{length-map}
 use Rattle.std.proofs.lemmas.Result.{err_from_is_err_and}
 use Rattle.mob_ast.specs.declared.refusal.Kind.TheVariants.{Limit}
 use Rattle.csv.specs.Records.{fields_of}
-use Rattle.mob_catalog.specs.Faults.{Wrong, wrong}
+use Rattle.mob_catalog.specs.Faults.{FileFault, file_fault}
 use Rattle.mob_catalog.specs.FirstFault.{IsFirstFault}
 use Rattle.mob_catalog.specs.TableFile.{IsRow, RecordFails, RowFails}
 use Rattle.mob_catalog.proofs.FirstFaults.{fails_here, mapped_at, one_more}
@@ -13,7 +13,7 @@ use Rattle.mob_catalog.proofs.table_file.rows_of.Goals as goal
 pub returns-then-i-room-clause-first_fault : goal.returns-then-i-room-clause-first_fault
 returns-then-i-room-clause-first_fault c =
     let size = length-map c.args.records.now fields_of in
-    on_refused (λ (w : Wrong). w ≡ wrong Limit (c.loop-i.i + 2) 0) (IsFirstFault (IsRow c.args.columns.now c.args.epoch.now) (RecordFails c.args.columns.now c.args.epoch.now c.args.room) (map fields_of c.args.records.now))
+    on_refused (λ (w : FileFault). w ≡ file_fault Limit (c.loop-i.i + 2) 0) (IsFirstFault (IsRow c.args.columns.now c.args.epoch.now) (RecordFails c.args.columns.now c.args.epoch.now c.args.room) (map fields_of c.args.records.now))
     (λ w p. fails_here (IsRow c.args.columns.now c.args.epoch.now) (RecordFails c.args.columns.now c.args.epoch.now c.args.room) (map fields_of c.args.records.now) c.loop-i.rows c.loop-i.i _ w
     (omega arith) (mapped_at fields_of c.args.records.now c.loop-i.i c.index-records-i.result c.index-records-i.is) c.loop-i.invariant.read (inl (c.if-i-room.true, p)))
     c.record_fault.result c.record_fault.ensures.refused

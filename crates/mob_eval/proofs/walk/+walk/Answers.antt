@@ -1,7 +1,7 @@
 use Rattle.std.proofs.Common.{rules, ◌≡◌, true, false, Ok, ◌++◌, [], ◌∷◌, map, drop, ◌+◌, arith, sym, ap, subst, ◌∙◌}
 use Rattle.std.proofs.lemmas.List.{drop_all}
 use Rattle.mob_eval.specs.Views.{scene_of}
-use Rattle.mob_eval.specs.Runs.{RunsAll, stops}
+use Rattle.mob_eval.specs.Evaluation.{OperandsEvaluateTo, stops}
 use Rattle.mob_eval.specs.Held.{held}
 use Rattle.mob_eval.specs.SoFar.{IsSoFar, trees}
 use Rattle.mob_eval.proofs.Loops.{drop_read, held_push, so_far_init, so_far_next, last_run, end_run, fault_run}
@@ -18,7 +18,7 @@ operands-returns-then-last-clause-values t c =
     let read = drop_read c.args.args.now at.arg-index c.arg-item.result (omega arith) c.arg-item.is in
     let pushed : c.push.new.self ≡ at.values ++ c.in-Ok.value ∷ [] = search rules in
     let stopped : stops c.args.stop (held c.in-Ok.value) ≡ true = search rules in
-    subst (λ vs. RunsAll s c.args.stop (trees c.args.args.now) (Ok vs)) (sym (ap (map held) pushed ∙ held_push at.values c.in-Ok.value))
+    subst (λ vs. OperandsEvaluateTo s c.args.stop (trees c.args.args.now) (Ok vs)) (sym (ap (map held) pushed ∙ held_push at.values c.in-Ok.value))
     (last_run s c.args.stop c.args.args.now (map held at.values) c.arg-item.result _ (held c.in-Ok.value)
     (subst (IsSoFar s c.args.stop c.args.args.now (map held at.values)) read at.invariant) c.in-Ok.ensures.value stopped)
 

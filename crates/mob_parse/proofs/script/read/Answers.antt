@@ -3,7 +3,7 @@ use Rattle.std.proofs.lemmas.List.{length-map}
 use Rattle.mob_ast.specs.Trees.{statement_of}
 use Rattle.mob_grammar.specs.Reading.{script_at}
 use Rattle.mob_parse.specs.Lexemes.{tok_of, toks}
-use Rattle.mob_parse.specs.Cursors.{left, Fails}
+use Rattle.mob_parse.specs.Cursors.{left, StopsReading}
 use Rattle.mob_parse.specs.declared.cursor.Fault.{Fault}
 use Rattle.mob_parse.proofs.Scripts.{script_is, script_only, script_left_over, script_broken, shorter_rest, nothing_left, something_left}
 use Rattle.mob_parse.proofs.script.read.Goals as goal
@@ -35,7 +35,7 @@ returns-else-is_empty-clause-wrong c =
 pub overflow_sub-result-in-Err-Syntax : goal.overflow_sub-result-in-Err-Syntax
 overflow_sub-result-in-Err-Syntax c =
     let r = left c.statements.new.self in
-    let P : Fault → Type 0 = λ f. Fails f r (script_at (toks c.args.lexemes.now)) in
+    let P : Fault → Type 0 = λ f. StopsReading f r (script_at (toks c.args.lexemes.now)) in
     let at_syntax : script_at (toks c.args.lexemes.now) ≡ Err r = subst P c.in-Err-Syntax.field-0-is c.in-Err-Syntax.ensures.reads in
     let short = shorter_rest (toks c.args.lexemes.now) r (script_broken (toks c.args.lexemes.now) r at_syntax) in
     omega (arith, length-map c.args.lexemes.now tok_of, length-map c.statements.new.self.lexemes.now tok_of)
@@ -43,7 +43,7 @@ overflow_sub-result-in-Err-Syntax c =
 pub returns-in-Err-Syntax-clause-wrong : goal.returns-in-Err-Syntax-clause-wrong
 returns-in-Err-Syntax-clause-wrong c =
     let r = left c.statements.new.self in
-    let P : Fault → Type 0 = λ f. Fails f r (script_at (toks c.args.lexemes.now)) in
+    let P : Fault → Type 0 = λ f. StopsReading f r (script_at (toks c.args.lexemes.now)) in
     let at_syntax : script_at (toks c.args.lexemes.now) ≡ Err r = subst P c.in-Err-Syntax.field-0-is c.in-Err-Syntax.ensures.reads in
     let w = script_broken (toks c.args.lexemes.now) r at_syntax in
     let short = shorter_rest (toks c.args.lexemes.now) r w in

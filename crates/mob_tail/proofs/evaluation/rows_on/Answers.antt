@@ -1,11 +1,11 @@
 use Rattle.std.proofs.Common.{rules, ◌≡◌, ◌++◌, ◌∷◌, [], Ok, Err, ℕ, List, arith, subst}
 use Rattle.mob_typing.specs.Selects.{select_seen}
 use Rattle.mob_eval.specs.Scene.{scene}
-use Rattle.mob_eval.specs.Runs.{OnPassed}
+use Rattle.mob_eval.specs.Evaluation.{OnPassed}
 use Rattle.mob_eval.specs.QueryFaults.{OnTuple, IsFaultOn}
 use Rattle.mob_eval.proofs.QueryFaults.{on_tuple}
 use Rattle.mob_tail.specs.Each.{Each}
-use Rattle.mob_tail.specs.Answers.{IsRow, IsRowOf}
+use Rattle.mob_tail.specs.Answers.{IsTupleRow, IsRowOf}
 use Rattle.mob_tail.proofs.Making.{each_next, each_fault, each_all}
 use Rattle.mob_tail.proofs.evaluation.rows_on.Goals as goal
 
@@ -13,7 +13,7 @@ pub loop-tuple-preserved : goal.loop-tuple-preserved
 loop-tuple-preserved c =
     let at = c.loop-tuple in
     let select = select_seen c.args.select.now in
-    let R = IsRow select c.args.store.now c.args.epoch.now in
+    let R = IsTupleRow select c.args.store.now c.args.epoch.now in
     let there = λ (t : List ℕ). scene c.args.store.now select.from t c.args.epoch.now in
     let pushed : c.push.new.self.items ≡ at.rows.items ++ c.in-Ok.row ∷ [] = search rules in
     each_next R c.args.kept.now at.tuple-index c.tuple-item.result c.loop-tuple-test.true c.tuple-item.is at.rows.items at.invariant c.in-Ok.row c.push.new.self.items
@@ -23,7 +23,7 @@ pub returns-in-Err-clause-fault : goal.returns-in-Err-clause-fault
 returns-in-Err-clause-fault c =
     let at = c.loop-tuple in
     let select = select_seen c.args.select.now in
-    let R = IsRow select c.args.store.now c.args.epoch.now in
+    let R = IsTupleRow select c.args.store.now c.args.epoch.now in
     let there = λ (t : List ℕ). scene c.args.store.now select.from t c.args.epoch.now in
     let step = each_fault R c.args.kept.now at.tuple-index c.tuple-item.result c.loop-tuple-test.true c.tuple-item.is at.rows.items at.invariant in
     on_tuple c.tuple-item.result (λ f. IsRowOf select (there c.tuple-item.result) (Err f)) (λ f. Each R c.args.kept.now (Err f)) (λ f is h. step f (is, h)) c.in-Err.fault c.on.result
@@ -32,4 +32,4 @@ returns-in-Err-clause-fault c =
 
 pub returns-clause-rows : goal.returns-clause-rows
 returns-clause-rows c =
-    each_all (IsRow (select_seen c.args.select.now) c.args.store.now c.args.epoch.now) c.args.kept.now c.loop-tuple.tuple-index c.loop-tuple.rows.items (omega arith) c.loop-tuple.invariant
+    each_all (IsTupleRow (select_seen c.args.select.now) c.args.store.now c.args.epoch.now) c.args.kept.now c.loop-tuple.tuple-index c.loop-tuple.rows.items (omega arith) c.loop-tuple.invariant

@@ -4,10 +4,10 @@ use Rattle.mob_ast.specs.declared.expression.Expr.TheViews.{out-Expr}
 use Rattle.std.proofs.lemmas.Result.{err_from_is_err_and}
 use Rattle.std.proofs.lemmas.List.{map_push, drop_more, drop_all}
 use Rattle.mob_ast.specs.Trees.{trees_of}
-use Rattle.mob_typing.specs.Answers.{◌>>=◌, Answers}
+use Rattle.mob_typing.specs.Answers.{◌>>=◌, AnswersAs}
 use Rattle.mob_typing.specs.Scopes.{scope_of}
 use Rattle.mob_typing.specs.Trees.{typed_of}
-use Rattle.mob_typing.specs.Expressions.{early, finished, typed_operands}
+use Rattle.mob_typing.specs.Expressions.{typed_before_operands, finished, typed_operands}
 use Rattle.mob_typing.proofs.ExpressionSteps.{early_fails, early_settles, operand_more, operand_fails, all_typed}
 use Rattle.mob_typing.proofs.expression.+type_expr.Goals as goal
 
@@ -34,7 +34,7 @@ returns-in_err-typed t c =
     let ts = map typed_of c.loop-operand.args.items in
     record {
       typed = rw (p.1, p.2) (operand_fails s e cs xs c.deref-operand-items.ensures.value c.in_ok-done.field-0 c.early.new.consts
-          (ap (λ ys. early s (out-Expr e).node (out-Expr e).place (trees_of ys) cs) back ∙ c.in_ok-done.ensures.settled) c.in_default.is c.in_err-typed.field-0.0 x rest ts c.loop-operand.consts
+          (ap (λ ys. typed_before_operands s (out-Expr e).node (out-Expr e).place (trees_of ys) cs) back ∙ c.in_ok-done.ensures.settled) c.in_default.is c.in_err-typed.field-0.0 x rest ts c.loop-operand.consts
           (c.loop-operand.invariant ∙ ap (λ ys. typed_operands s (trees_of ys) ts c.loop-operand.consts) here) c.in_err-typed.ensures.typed);
     }
 
@@ -60,10 +60,10 @@ returns t c =
     let gone : drop c.loop-operand.operand-index xs ≡ [] = drop_all c.loop-operand.operand-index xs c.loop-operand-test.false in
     let back : xs ≡ c.deref.result.now = c.deref-operand-items.ensures.value ∙ sym c.deref.ensures.value in
     let ts = map typed_of c.loop-operand.args.items in
-    let P : List Expr → Type 0 = λ ys. Answers typed_of c.finished.result (finished (out-Expr e).node (out-Expr e).place (trees_of ys) ts) in
+    let P : List Expr → Type 0 = λ ys. AnswersAs typed_of c.finished.result (finished (out-Expr e).node (out-Expr e).place (trees_of ys) ts) in
     record {
       typed = all_typed s e cs xs c.deref-operand-items.ensures.value c.in_ok-done.field-0 c.early.new.consts
-          (ap (λ ys. early s (out-Expr e).node (out-Expr e).place (trees_of ys) cs) back ∙ c.in_ok-done.ensures.settled) c.in_default.is c.finished.result ts c.loop-operand.consts
+          (ap (λ ys. typed_before_operands s (out-Expr e).node (out-Expr e).place (trees_of ys) cs) back ∙ c.in_ok-done.ensures.settled) c.in_default.is c.finished.result ts c.loop-operand.consts
           (c.loop-operand.invariant ∙ ap (λ ys. typed_operands s (trees_of ys) ts c.loop-operand.consts) gone)
           (subst P (c.deref-2.ensures.value ∙ sym c.deref-operand-items.ensures.value) c.finished.ensures.typed);
     }

@@ -1,7 +1,7 @@
 use Rattle.std.proofs.Common.{◌≡◌, ◌∙◌, ap, codes, inl, inr, map, string_bytes, List, ℕ, Option}
 use Rattle.clap.specs.Words.{App, Text, app_of, first_of, found_of, is_simple, is_simple_and_free, matches_of}
 use Rattle.clap.proofs.WalkLemmas.{first_value-rows}
-use Rattle.mob_words.specs.CommandLine.{command, value_of}
+use Rattle.mob_words.specs.CommandLine.{command, option_value}
 use Rattle.mob_words.proofs.Facts.{command_is_simple, command_is_free, taken, not_taken}
 use Rattle.mob_words.proofs.command.given.Goals as goal
 
@@ -11,7 +11,7 @@ returns-in-Ok-clause-taken c =
     taken _ _ is (c.in-Ok.ensures.kinds (ap is_simple_and_free is ∙ command_is_free))
 
 pub returns-in-Ok-clause-workers : goal.returns-in-Ok-clause-workers
-unfolding value_of
+unfolding option_value
 returns-in-Ok-clause-workers c =
     let is : app_of c.in_ok-command.command ≡ command = c.in_ok-command.ensures.command in
     let words = map string_bytes c.args.words.now in
@@ -19,7 +19,7 @@ returns-in-Ok-clause-workers c =
     ∙ ap (first_of (codes "workers")) ((c.in-Ok.ensures.matches (ap is_simple is ∙ command_is_simple)).0 ∙ ap (λ (a : App). matches_of a words) is)
 
 pub returns-in-Ok-clause-epoch : goal.returns-in-Ok-clause-epoch
-unfolding value_of
+unfolding option_value
 returns-in-Ok-clause-epoch c =
     let is : app_of c.in_ok-command.command ≡ command = c.in_ok-command.ensures.command in
     let words = map string_bytes c.args.words.now in

@@ -8,7 +8,7 @@ use Rattle.mob_grammar.proofs.Steps.{chosen}
 use Rattle.mob_grammar.proofs.Tells.{through}
 use Rattle.mob_grammar.proofs.Same.{expression_unfolds}
 use Rattle.mob_parse.specs.Cursors.{left}
-use Rattle.mob_parse.specs.Levels.{operand_at}
+use Rattle.mob_parse.specs.Levels.{level_operand}
 use Rattle.mob_parse.proofs.Steps.{gives_along, skipped, first_read, next_read}
 use Rattle.mob_parse.proofs.cursor.Cursor.+expression.Goals as goal
 
@@ -20,7 +20,7 @@ unfolding chain
 chain-operators-init t c =
     let l = left c.args.self.now in
     let short : length (left c.operand.new.self) < length l = c.in_ok-value.ensures.shorter in
-    record { shorter = short; reads = (length l, omega arith, through (operand_at c.args.level l) _ _ _ c.in_ok-value.ensures.reads) }
+    record { shorter = short; reads = (length l, omega arith, through (level_operand c.args.level l) _ _ _ c.in_ok-value.ensures.reads) }
 
 pub nullness-tests-init : goal.nullness-tests-init
 unfolding postfix

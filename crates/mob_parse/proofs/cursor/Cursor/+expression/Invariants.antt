@@ -3,7 +3,7 @@ use Rattle.mob_ast.specs.Trees.{tree_of}
 use Rattle.mob_grammar.specs.declared.mark.Mark.TheVariants.{Is, Cast, Comma}
 use Rattle.mob_grammar.specs.Reading.{expression_at, chain, chain_from, nullness_rank, cast_rank, postfix_from, null_at, cast_at, listed, listed_from}
 use Rattle.mob_parse.specs.Cursors.{left}
-use Rattle.mob_parse.specs.Levels.{level_number, operand_at}
+use Rattle.mob_parse.specs.Levels.{level_number, level_operand}
 use Rattle.mob_parse.specs.declared.expression.Level.{Level}
 use Rattle.mob_parse.specs.declared.expression.Level.TheVariants.{Disjunction, Conjunction, Other, Sum, Product}
 use Rattle.mob_parse.proofs.cursor.Cursor.+expression.Given as goal
@@ -88,7 +88,7 @@ decreases-nullness-tests l = length (left l.self)
 abbrev pub invariant-chain-operators : goal.invariant-chain-operators
 invariant-chain-operators l = record {
   shorter : length (left l.self) < length (left l.fn.self);
-  reads : (m : ℕ) × (length (left l.self) ≤ m) × (chain (level_number l.level) (operand_at l.level) (left l.fn.self) ≡ chain_from (level_number l.level) (operand_at l.level) m (tree_of l.value) (left l.self));
+  reads : (m : ℕ) × (length (left l.self) ≤ m) × (chain (level_number l.level) (level_operand l.level) (left l.fn.self) ≡ chain_from (level_number l.level) (level_operand l.level) m (tree_of l.value) (left l.self));
 }
 
 abbrev pub decreases-chain-operators : goal.decreases-chain-operators

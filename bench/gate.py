@@ -1,0 +1,96 @@
+#!/usr/bin/env python3
+"""Measures what the gate takes from nothing, by crate, and prints the table of docs/GATE.md.
+
+    bench/gate.py [LOG]
+
+It clones the commit that is checked out into a new folder, runs `rt ci --anew` there, and writes what that prints to LOG
+(gate.log in the current folder). Five times a second it reads what each process of the prover has used, so a row lacks at most a
+fifth of a second for each check; the last line is the whole as the system counts it. Nothing else is to run on the machine.
+"""
+import os, resource, subprocess, sys, tempfile, time
+from collections import defaultdict
+
+TICK = os.sysconf("SC_CLK_TCK")
+PAUSE = 0.2
+KINDS = ("proof", "tests", "wrong bodies")
+
+
+def words_of(process):
+    with open(f"/proc/{process}/cmdline", "rb") as file:
+        return file.read().decode(errors="replace").split("\0")
+
+
+def crate_and_kind(process):
+    """Which crate the prover works on, and for which part of the gate; None for another process."""
+    words = words_of(process)
+    if os.path.basename(words[0]) != "rattle" or "--crate-name" not in words:
+        return None
+    crate = words[words.index("--crate-name") + 1]
+    # wrong bodies, and the check that they begin with, are tried in folders of this name
+    if os.path.basename(os.readlink(f"/proc/{process}/cwd")).startswith("rt-edit"):
+        return crate, "wrong bodies"
+    return crate, "tests" if "--test" in words else "proof"
+
+
+def seconds_of(process):
+    """The processor seconds of a process, and when it began, which tells it from a later one of the same number."""
+    with open(f"/proc/{process}/stat") as file:
+        fields = file.read().rpartition(")")[2].split()
+    return (int(fields[11]) + int(fields[12])) / TICK, fields[19]
+
+
+def watch(gate):
+    """The processor seconds of each process of the prover while the gate runs: {(number, begin): (part, seconds)}."""
+    seen, known = {}, {}
+    while gate.poll() is None:
+        for process in filter(str.isdigit, os.listdir("/proc")):
+            try:
+                seconds, begun = seconds_of(process)
+                key = process, begun
+                if known.get(key) is None:
+                    # its words are those of its parent until it has begun its program
+                    known[key] = crate_and_kind(process)
+                if known[key]:
+                    seen[key] = known[key], seconds
+            except (OSError, ValueError):
+                continue
+        time.sleep(PAUSE)
+    return seen
+
+
+def table(seen, edits):
+    """The lines of the table, the dearest crate first."""
+    parts = defaultdict(lambda: dict.fromkeys(KINDS, 0.0))
+    for (crate, kind), seconds in seen.values():
+        parts[crate][kind] += seconds
+    rows = sorted(parts.items(), key=lambda row: -sum(row[1].values()))
+    lines = ["| crate | proof | tests | wrong bodies | how many | in all |", "|---|---|---|---|---|---|"]
+    lines += [
+        f"| `{crate}` | {it['proof']:.0f} | {it['tests']:.0f} | {it['wrong bodies']:.0f} | {edits(crate)} | {sum(it.values()):.0f} |"
+        for crate, it in rows
+    ]
+    sums = [sum(it[kind] for _, it in rows) for kind in KINDS]
+    return [*lines, f"| all | {sums[0]:.0f} | {sums[1]:.0f} | {sums[2]:.0f} | {sum(edits(it) for it in parts)} | {sum(sums):.0f} |"]
+
+
+def main():
+    log = sys.argv[1] if len(sys.argv) > 1 else "gate.log"
+    top = subprocess.run(["git", "rev-parse", "--show-toplevel"], check=True, capture_output=True, text=True).stdout.strip()
+    with tempfile.TemporaryDirectory(prefix="gate-") as folder, open(log, "w") as output:
+        clone = f"{folder}/clone"
+        subprocess.run(["git", "clone", "--quiet", top, clone], check=True)
+        begun = time.monotonic()
+        gate = subprocess.Popen(["rt", "ci", "--anew"], cwd=clone, stdout=output, stderr=subprocess.STDOUT, stdin=subprocess.DEVNULL)
+        seen = watch(gate)
+        minutes = (time.monotonic() - begun) / 60
+        count = lambda crate: len([it for it in os.listdir(f"{clone}/crates/{crate}/must-fail") if it.endswith(".edit")]) if os.path.isdir(f"{clone}/crates/{crate}/must-fail") else 0
+        print("\n".join(table(seen, count)))
+    used = resource.getrusage(resource.RUSAGE_CHILDREN)
+    print(f"\n{(used.ru_utime + used.ru_stime) / 60:.1f} processor minutes ({used.ru_utime / 60:.1f} user, {used.ru_stime / 60:.1f} system), {minutes:.1f} minutes on {os.cpu_count()} processors")
+    with open(log) as output:
+        print(output.read().rstrip().rpartition("\n")[2])
+    return gate.returncode
+
+
+if __name__ == "__main__":
+    sys.exit(main())
