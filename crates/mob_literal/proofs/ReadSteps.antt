@@ -18,7 +18,8 @@ use Rattle.mob_literal.specs.declared.written.Noted.{Noted}
 use Rattle.mob_literal.specs.declared.written.Sequence.{Sequence}
 use Rattle.mob_literal.specs.Literal.{comma, noted, sequence, alone, members, literal, temporal, noted_at, temporal_at}
 use Rattle.mob_literal.specs.ValueText.{IsValueText}
-use Rattle.mob_literal.specs.Steps.{rises, step_value}
+use Rattle.mob_slice.specs.Operands.{steady_value}
+use Rattle.mob_literal.specs.Steps.{rises}
 use Rattle.mob_literal.specs.Slices.{slices_of}
 use Rattle.mob_literal.specs.Sound.{is_over_limit, traverse, written_of, fitting_sequence, fitting_all, is_closed_alone, is_sound_sequence, ends_level, are_in_order, is_sound, Defines, written_sequences, steps}
 use Rattle.mob_literal.specs.Flat.{made_all}
@@ -175,7 +176,7 @@ module _ {B : Type 0} (day : ℤ) (value : List ℕ → Option B → Type 0) (ha
 
   pub defined : (qs : List (Sequence (Written B))) (slices v : List (Slice (Steady B))) → IsMadeOf qs slices
       → IsNormal {C = Steady B} {B = B} (λ c. c.value) (λ c. c.value) (λ c d lower middle upper. is_same c.value d.value) v
-      → ((t : Ratio) → value_at step_value v t ≡ value_at step_value slices t)
+      → ((t : Ratio) → value_at steady_value v t ≡ value_at steady_value slices t)
       → Lit (steps day value has_value is_same) text (Ok v)
   defined qs slices v m normal kept =
       let f = m.read in
