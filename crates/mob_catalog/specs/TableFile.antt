@@ -7,7 +7,7 @@ use Rattle.csv.specs.Records.{AllText}
 use Rattle.csv.specs.declared.parser.State.TheVariants as state
 use Rattle.mob_ast.specs.declared.refusal.Kind.TheVariants.{BadHeader, BadRecord, Limit}
 use Rattle.mob_ast.specs.declared.types.SqlType.{SqlType}
-use Rattle.mob_scalar.specs.declared.fault.ReadText.{ReadText}
+use Rattle.mob_numeral.specs.declared.fault.ReadText.{ReadText}
 use Rattle.mob_value.specs.declared.value.Value.{Value}
 use Rattle.mob_catalog.specs.Faults.{IsRefusedAs, FileFault, file_fault}
 use Rattle.mob_catalog.specs.Fields.{FieldSays}

@@ -14,15 +14,16 @@ use Rattle.mob_ast.specs.declared.types.SqlType.{SqlType}
 use Rattle.mob_ast.specs.declared.types.SqlType.TheVariants as sql
 use Rattle.mob_value.specs.declared.value.Value.{Value}
 use Rattle.mob_value.specs.declared.value.Value.TheVariants as value
-use Rattle.mob_scalar.specs.Figures.{is_digit}
-use Rattle.mob_scalar.specs.Number.{is_sign, is_e}
-use Rattle.mob_scalar.specs.NumberText.{number_text}
+use Rattle.mob_numeral.specs.Figures.{is_digit}
+use Rattle.mob_numeral.specs.Number.{is_sign, is_e}
+use Rattle.mob_numeral.specs.NumberText.{number_text}
 use Rattle.mob_scalar.specs.MomentText.{moment_text}
 use Rattle.mob_scalar.specs.Truth.{truth_text}
 use Rattle.mob_scalar.specs.Quoted.{quoted_text}
-use Rattle.mob_scalar.proofs.Again.{number_plain}
+use Rattle.mob_numeral.proofs.Again.{number_plain}
 use Rattle.mob_scalar.proofs.MomentAgain.{moment_plain}
-use Rattle.mob_scalar.proofs.WholeTexts.{number_head, number_byte, moment_head, moment_byte}
+use Rattle.mob_numeral.proofs.WholeTexts.{number_head, number_byte}
+use Rattle.mob_scalar.proofs.WholeTexts.{moment_head, moment_byte}
 use Rattle.mob_literal.specs.Printed.{Style, is_long, groups_of, start_text, groups_text, set_text, steps_text}
 use Rattle.mob_literal.specs.Style.{style_of}
 use Rattle.mob_literal.specs.Readable.{IsDated, IsReadable}

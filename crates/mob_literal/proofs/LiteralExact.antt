@@ -7,7 +7,8 @@ use Rattle.mob_language.proofs.Exact.{Exact, Stops, Any, then_exact, or_exact, m
 use Rattle.mob_language.proofs.Heads.{NoHead, Apart, HasByte, stops_less, byte_stops, means_head, one_head, or_head, then_byte, means_byte, or_byte, then_byte_stops, word_then_head, one_then_head, byte_head, one_byte, word_byte, spaced_exact, IsEnd, within_exact}
 use Rattle.mob_language.proofs.Lists.{separated_exact}
 use Rattle.mob_scalar.proofs.MomentExact.{Closes, moment_exact}
-use Rattle.mob_scalar.proofs.WholeTexts.{moment_blank, moment_byte, blanks_close, back_nil, front_nil}
+use Rattle.mob_numeral.proofs.WholeTexts.{back_nil, front_nil}
+use Rattle.mob_scalar.proofs.WholeTexts.{moment_blank, moment_byte, blanks_close}
 use Rattle.mob_scalar.proofs.Closing.{Ends, sign_closes}
 use Rattle.mob_literal.specs.Literal.{at_sign, comma, noted_of, noted, is_open, is_close, opening, closing, sequence_of, sequence, alone, members, braced, one_sequence, one_instant, literal, temporal, at_sign_at, comma_at, noted_at, opening_at, closing_at, instants_at, sequence_at, sequences_at, members_at, open_brace_at, close_brace_at, braced_at, temporal_literal_at, temporal_at}
 use Rattle.mob_literal.specs.ValueText.{IsValueText, begins_no_value}

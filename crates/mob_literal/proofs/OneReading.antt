@@ -4,8 +4,8 @@ use Rattle.std.specs.Prelude.{◌↔◌, IsTrue, MatchOption}
 use Rattle.mob_language.specs.Readers.{TextReader}
 use Rattle.mob_language.proofs.Exact.{one_value}
 use Rattle.mob_normal.proofs.Unique.{unique}
-use Rattle.mob_scalar.specs.Verdict.{HasOneReading}
-use Rattle.mob_scalar.proofs.Settled.{settled}
+use Rattle.mob_numeral.specs.Verdict.{HasOneReading}
+use Rattle.mob_numeral.proofs.Settled.{settled}
 use Rattle.mob_slice.specs.declared.slice.Slice.{Slice}
 use Rattle.mob_slice.specs.declared.steady.Steady.{Steady}
 use Rattle.mob_slice.specs.Slices.{value_at}

@@ -11,13 +11,14 @@ use Rattle.mob_language.specs.Language.{Text}
 use Rattle.mob_slice.specs.declared.slice.Slice.{Slice}
 use Rattle.mob_slice.specs.declared.steady.Steady.{Steady}
 use Rattle.mob_slice.specs.Slices.{OfHead, Clear, AreNormal, IsNormalPair, value_at}
-use Rattle.mob_scalar.specs.Verdict.{Lit}
+use Rattle.mob_numeral.specs.Verdict.{Lit}
 use Rattle.mob_scalar.specs.Truth.{truth_text}
-use Rattle.mob_scalar.specs.NumberText.{number_text}
+use Rattle.mob_numeral.specs.NumberText.{number_text}
 use Rattle.mob_scalar.specs.Quoted.{quoted_text}
 use Rattle.std.proofs.lemmas.List.{length-map}
 use Rattle.std.proofs.lemmas.Bool.{and_parts as both, not-true as not_true}
-use Rattle.mob_scalar.proofs.Again.{number_plain, truth_plain}
+use Rattle.mob_numeral.proofs.Again.{number_plain}
+use Rattle.mob_scalar.proofs.TruthAgain.{truth_plain}
 use Rattle.mob_scalar.proofs.MomentAgain.{moment_plain}
 use Rattle.mob_literal.specs.declared.written.Written.{Written}
 use Rattle.mob_literal.specs.declared.written.Sequence.{Sequence}

@@ -8,7 +8,7 @@ use Rattle.mob_language.specs.Readers.{◌>>=◌}
 use Rattle.mob_slice.specs.declared.slice.Slice.{Slice}
 use Rattle.mob_slice.specs.declared.steady.Steady.{Steady}
 use Rattle.mob_slice.specs.Slices.{value_at, IsNormal}
-use Rattle.mob_scalar.specs.Verdict.{TextForm}
+use Rattle.mob_numeral.specs.Verdict.{TextForm}
 use Rattle.mob_literal.specs.declared.written.Written.{Written}
 use Rattle.mob_literal.specs.declared.written.Noted.{Noted}
 use Rattle.mob_literal.specs.declared.written.Sequence.{Sequence}

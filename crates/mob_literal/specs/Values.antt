@@ -7,17 +7,19 @@ use Rattle.mob_language.specs.Language.{Text, Language, Means, is_blank}
 use Rattle.mob_language.specs.Readers.{TextReader, means_at}
 use Rattle.mob_language.proofs.Exact.{Stops, means_exact}
 use Rattle.mob_language.proofs.Heads.{Apart, means_head, means_byte}
-use Rattle.mob_scalar.specs.declared.numeral.Numeral.{Numeral}
-use Rattle.mob_scalar.specs.Figures.{is_digit}
-use Rattle.mob_scalar.specs.Number.{number, is_sign, is_e}
-use Rattle.mob_scalar.specs.NumberReaders.{numeral_at}
-use Rattle.mob_scalar.specs.NumberValue.{numeral_value}
+use Rattle.mob_numeral.specs.declared.numeral.Numeral.{Numeral}
+use Rattle.mob_numeral.specs.Figures.{is_digit}
+use Rattle.mob_numeral.specs.Number.{number, is_sign, is_e}
+use Rattle.mob_numeral.specs.NumberReaders.{numeral_at}
+use Rattle.mob_numeral.specs.NumberValue.{numeral_value}
 use Rattle.mob_scalar.specs.Truth.{truth, truth_at}
 use Rattle.mob_scalar.specs.Quoted.{text_value, text_value_at, is_plain}
-use Rattle.mob_scalar.proofs.NumberExact.{number_exact, continues}
+use Rattle.mob_numeral.proofs.NumberExact.{number_exact, continues}
 use Rattle.mob_scalar.proofs.QuotedExact.{Behind, text_value_exact, text_value_head, text_value_byte}
-use Rattle.mob_scalar.proofs.WholeTexts.{number_head, number_byte, truth_exact, truth_head, truth_byte}
-use Rattle.mob_scalar.proofs.BeforeSign.{number_before_at, truth_before_at, text_value_before_at}
+use Rattle.mob_numeral.proofs.WholeTexts.{number_head, number_byte}
+use Rattle.mob_scalar.proofs.WholeTexts.{truth_exact, truth_head, truth_byte}
+use Rattle.mob_numeral.proofs.BeforeSign.{number_before_at}
+use Rattle.mob_scalar.proofs.BeforeSign.{truth_before_at, text_value_before_at}
 use Rattle.mob_literal.specs.Fitting.{fitting}
 use Rattle.mob_literal.specs.ValueText.{IsValueText, begins_no_value}
 

@@ -1,8 +1,8 @@
 //! How the values of the step types are written and printed.
 ghost use Rattle.std.specs.Prelude.{◌≡◌, Option, IfOk, option_map};
 ghost use Rattle.mob_literal.specs.Fitting.{fitting};
-ghost use Rattle.mob_scalar.specs.NumberValue.{numeral_value, IsBounded};
-ghost use Rattle.mob_scalar.specs.NumberText.{number_text};
+ghost use Rattle.mob_numeral.specs.NumberValue.{numeral_value, IsBounded};
+ghost use Rattle.mob_numeral.specs.NumberText.{number_text};
 ghost use Rattle.mob_scalar.specs.Truth.{truth_text};
 ghost use Rattle.mob_scalar.specs.Quoted.{quoted_text};
 

@@ -6,17 +6,17 @@ use Rattle.mob_language.specs.Language.{Text, Language, ◌▷◌, Maybe, Means,
 use Rattle.mob_language.specs.Readers.{TextReader, then_at, maybe_at, word_at, behind_at}
 use Rattle.mob_language.proofs.Exact.{Exact, Stops, then_exact, maybe_exact, means_exact, where_exact, one_exact, word_exact, run_exact, run_stops}
 use Rattle.mob_language.proofs.Heads.{NoHead, Apart, Nothing, HasByte, exact_less, stops_less, stops_both, then_head, word_then_head, one_then_head, or_head, maybe_head, means_head, where_head, word_head, one_head, run_head, one_nothing, word_nothing, then_nothing, means_nothing, where_nothing, or_nothing, then_stops, after_any, maybe_stops, or_stops, then_byte, means_byte, where_byte, then_byte_stops, byte_head, one_byte, or_byte}
-use Rattle.mob_scalar.specs.declared.numeral.Figures.{Figures}
+use Rattle.mob_numeral.specs.declared.numeral.Figures.{Figures}
 use Rattle.mob_scalar.specs.declared.stamp.Part.{Part}
 use Rattle.mob_scalar.specs.declared.stamp.Offset.{Offset}
-use Rattle.mob_scalar.specs.Figures.{is_digit, digits}
-use Rattle.mob_scalar.specs.Number.{is_sign}
-use Rattle.mob_scalar.specs.NumberReaders.{digits_at}
+use Rattle.mob_numeral.specs.Figures.{is_digit, digits}
+use Rattle.mob_numeral.specs.Number.{is_sign}
+use Rattle.mob_numeral.specs.NumberReaders.{digits_at}
 use Rattle.mob_scalar.specs.Calendar.{has_count, number_in, fixed, civil_of, is_civil, date}
 use Rattle.mob_scalar.specs.CalendarReaders.{fixed_at, dash_at, date_at}
 use Rattle.mob_scalar.specs.Moment.{is_below, up_to, point_part, is_point_part, fraction_part, is_fraction_part, part, clock_of, clock, offset_of, utc, is_z, zone, is_t, is_some_text, gap, time_of, time, stamp_of, is_in_years, moment}
 use Rattle.mob_scalar.specs.MomentReaders.{up_to_at, colon_at, decimals_at, below_at, quotient_at, second_part_at, seconds_at, clock_at, z_at, hours_at, zone_at, some_blanks_at, t_at, gap_at, time_at, moment_at}
-use Rattle.mob_scalar.proofs.NumberExact.{digits_base, left, right}
+use Rattle.mob_numeral.proofs.NumberExact.{digits_base, left, right}
 
 same : (c : ℕ) → is_digit c ≡ false → is_digit c ≡ false
 same c e = e

@@ -3,14 +3,14 @@ use Rattle.std.specs.Prelude.{ℕ, ◌+◌, ◌*◌, ◌^◌, ◌<◌, length, c
 use Rattle.std.specs.Int.Signed.{le_z}
 use Rattle.mob_ratio.specs.Ratio.{Ratio, over, whole, ◌+ℚ◌}
 use Rattle.mob_language.specs.Language.{Text, Language, ◌▷◌, ◌∣◌, Maybe, Means, Where, Word, OneOf, Run, behind, is_blank}
-use Rattle.mob_scalar.specs.declared.numeral.Figures.{Figures}
+use Rattle.mob_numeral.specs.declared.numeral.Figures.{Figures}
 use Rattle.mob_scalar.specs.declared.civil.Civil.{Civil}
 use Rattle.mob_scalar.specs.declared.stamp.Part.{Part}
 use Rattle.mob_scalar.specs.declared.stamp.Clock.{Clock}
 use Rattle.mob_scalar.specs.declared.stamp.Offset.{Offset}
 use Rattle.mob_scalar.specs.declared.stamp.Stamp.{Stamp}
-use Rattle.mob_scalar.specs.Figures.{digits}
-use Rattle.mob_scalar.specs.Number.{is_sign}
+use Rattle.mob_numeral.specs.Figures.{digits}
+use Rattle.mob_numeral.specs.Number.{is_sign}
 use Rattle.mob_scalar.specs.Calendar.{fixed, date, day_of}
 
 abbrev pub is_below : ℕ → ℕ → Bool

@@ -2,13 +2,13 @@
 use Rattle.std.specs.Prelude.{ℕ, codes, Option, Some}
 use Rattle.mob_language.specs.Language.{Text, is_blank}
 use Rattle.mob_language.specs.Readers.{TextReader, ◌>>=◌, then_at, or_at, maybe_at, means_at, where_at, word_at, one_at, run_at, behind_at}
-use Rattle.mob_scalar.specs.declared.numeral.Figures.{Figures}
+use Rattle.mob_numeral.specs.declared.numeral.Figures.{Figures}
 use Rattle.mob_scalar.specs.declared.stamp.Part.{Part}
 use Rattle.mob_scalar.specs.declared.stamp.Clock.{Clock}
 use Rattle.mob_scalar.specs.declared.stamp.Offset.{Offset}
 use Rattle.mob_scalar.specs.declared.stamp.Stamp.{Stamp}
-use Rattle.mob_scalar.specs.Number.{is_sign}
-use Rattle.mob_scalar.specs.NumberReaders.{digits_at}
+use Rattle.mob_numeral.specs.Number.{is_sign}
+use Rattle.mob_numeral.specs.NumberReaders.{digits_at}
 use Rattle.mob_scalar.specs.CalendarReaders.{fixed_at, date_at}
 use Rattle.mob_scalar.specs.Moment.{is_below, point_part, is_point_part, fraction_part, is_fraction_part, clock_of, offset_of, utc, is_z, is_t, is_some_text, time_of, stamp_of, is_in_years}
 

@@ -1,6 +1,6 @@
 use Rattle.std.proofs.Common.{sym}
-use Rattle.mob_scalar.proofs.NumberExact.{number_exact}
-use Rattle.mob_scalar.proofs.Bounded.{number_bounded}
+use Rattle.mob_numeral.proofs.NumberExact.{number_exact}
+use Rattle.mob_numeral.proofs.Bounded.{number_bounded}
 use Rattle.mob_literal.proofs.values.WholeNumbersWrittenValue.value_at.Goals as goal
 
 pub fitting_number-requires : goal.fitting_number-requires
