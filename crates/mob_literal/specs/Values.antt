@@ -3,13 +3,12 @@ use Rattle.std.proofs.Common.{◌≡◌, ℕ, Bool, true, false, Option, Some, r
 use Rattle.std.specs.Prelude.{nat_eq}
 use Rattle.std.specs.Char.{is_ascii_alphabetic}
 use Rattle.mob_ratio.specs.Ratio.{Ratio}
-use Rattle.mob_language.specs.Language.{Text, Language, Means, is_blank}
+use Rattle.mob_language.specs.Language.{Text, Language, Means, is_blank, is_digit, is_number_sign, is_exponent_letter}
 use Rattle.mob_language.specs.Readers.{TextReader, means_at}
 use Rattle.mob_language.proofs.Exact.{Stops, means_exact}
 use Rattle.mob_language.proofs.Heads.{Apart, means_head, means_byte}
 use Rattle.mob_numeral.specs.declared.numeral.Numeral.{Numeral}
-use Rattle.mob_numeral.specs.Figures.{is_digit}
-use Rattle.mob_numeral.specs.Number.{number, is_sign, is_e}
+use Rattle.mob_numeral.specs.Number.{number}
 use Rattle.mob_numeral.specs.NumberReaders.{numeral_at}
 use Rattle.mob_numeral.specs.NumberValue.{numeral_value}
 use Rattle.mob_scalar.specs.Truth.{truth, truth_at}
@@ -66,13 +65,13 @@ number_value_at = means_at fitting_value numeral_at
 abbrev pub number_follows : Text → Type 0
 number_follows rest = Stops continues rest
 
-signs_apart : Apart is_sign begins_no_value
+signs_apart : Apart is_number_sign begins_no_value
 signs_apart c e = search rules
 
 digits_apart : Apart is_digit begins_no_value
 digits_apart c e = search rules
 
-exponents_apart : Apart is_e begins_no_value
+exponents_apart : Apart is_exponent_letter begins_no_value
 exponents_apart c e = search rules
 
 pub number_values : IsValueText number_value number_value_at number_follows

@@ -12,13 +12,13 @@ use Rattle.mob_ratio.specs.Ratio.{Ratio, over}
 use Rattle.mob_ratio.proofs.RatioLemmas.{over-self, den_pos}
 use Rattle.mob_frac.specs.Fits.{Fits}
 use Rattle.mob_frac.specs.Signed.{signed}
-use Rattle.mob_language.specs.Language.{Text}
+use Rattle.mob_language.specs.Language.{Text, is_digit}
 use Rattle.mob_language.proofs.Heads.{within_said}
 use Rattle.mob_numeral.specs.declared.numeral.Figures.{Figures}
 use Rattle.mob_numeral.specs.declared.numeral.Tail.{Tail}
 use Rattle.mob_numeral.specs.declared.numeral.Tail.TheVariants.{Over, Decimal}
 use Rattle.mob_numeral.specs.declared.numeral.Numeral.{Numeral}
-use Rattle.mob_numeral.specs.Figures.{is_digit, is_run, digits, AreFigures}
+use Rattle.mob_numeral.specs.Figures.{is_run, digits, AreFigures}
 use Rattle.mob_numeral.specs.Number.{numeral_of, has_digits, number_sign, tail, number}
 use Rattle.mob_numeral.specs.NumberValue.{numeral_value}
 use Rattle.mob_numeral.specs.NumberText.{number_text}

@@ -6,7 +6,8 @@ use Rattle.std.specs.Str.Parse.{digits_value, AllDigits}
 use Rattle.std.proofs.lemmas.Str.{digit_value_digit}
 use Rattle.std.proofs.lemmas.Int.Digits.{digits_value-lt, digits_value_more}
 use Rattle.std.proofs.Math.Nat.{pow-le-pow_right}
-use Rattle.mob_numeral.specs.Figures.{is_digit, AreFigures}
+use Rattle.mob_language.specs.Language.{is_digit}
+use Rattle.mob_numeral.specs.Figures.{AreFigures}
 
 pub digit_range : (c : ℕ) → is_digit c ≡ true → IsInRange 48 57 c
 digit_range c e = search rules

@@ -1,7 +1,7 @@
 -- Whole texts of numbers, with blanks at their ends, are read exactly.
 use Rattle.std.proofs.Common.{◌≡◌, ℕ, [], ◌∷◌, ◌++◌, length, Bool, true, false, Option, Some, None, refl, sym, ap, subst, ◌∙◌, rules, arith, codes, inl, inr}
 use Rattle.std.proofs.lemmas.Bool.Decides.{nat_tests}
-use Rattle.mob_language.specs.Language.{Text, Language, Maybe, Where, Run, AreAll, behind, is_blank, within_blanks}
+use Rattle.mob_language.specs.Language.{Text, Language, Maybe, Where, Run, AreAll, behind, is_blank, within_blanks, is_digit, is_number_sign, is_exponent_letter}
 use Rattle.mob_language.specs.Readers.{within_blanks_at}
 use Rattle.mob_language.proofs.Exact.{Exact, Stops, means_exact, where_exact, run_exact, run_again}
 use Rattle.mob_language.proofs.Heads.{NoHead, Apart, HasByte, IsEnd, then_head, means_head, maybe_head, where_head, one_head, run_head, byte_head, means_byte, then_byte, where_byte, within_exact, blanks_stop}
@@ -10,8 +10,8 @@ use Rattle.mob_numeral.specs.declared.numeral.Exponent.{Exponent}
 use Rattle.mob_numeral.specs.declared.numeral.Tail.{Tail}
 use Rattle.mob_numeral.specs.declared.numeral.Tail.TheVariants.{Decimal}
 use Rattle.mob_numeral.specs.declared.numeral.Numeral.{Numeral}
-use Rattle.mob_numeral.specs.Figures.{is_digit, digits}
-use Rattle.mob_numeral.specs.Number.{number, tail, is_sign, is_e, has_digits}
+use Rattle.mob_numeral.specs.Figures.{digits}
+use Rattle.mob_numeral.specs.Number.{number, tail, has_digits}
 use Rattle.mob_numeral.specs.NumberReaders.{numeral_at, digits_at}
 use Rattle.mob_numeral.proofs.NumberExact.{number_exact, continues, tail_head}
 
@@ -27,17 +27,17 @@ blank_stops : Apart is_blank continues
 blank_stops c e = search rules
 
 -- no number begins with a byte that none of its parts begins with
-pub number_head : (test : ℕ → Bool) → Apart is_sign test → Apart is_digit test → test 46 ≡ false → test 47 ≡ false → Apart is_e test → NoHead number test
+pub number_head : (test : ℕ → Bool) → Apart is_number_sign test → Apart is_digit test → test 46 ≡ false → test 47 ≡ false → Apart is_exponent_letter test → NoHead number test
 number_head test s d p q e = where_head (means_head (then_head (means_head (maybe_head (one_head s)))
     (then_head (means_head (where_head (run_head d))) (tail_head test p q e))))
 
-sign_blank : Apart is_sign is_blank
+sign_blank : Apart is_number_sign is_blank
 sign_blank c e = search rules
 
 digit_blank : Apart is_digit is_blank
 digit_blank c e = search rules
 
-e_blank : Apart is_e is_blank
+e_blank : Apart is_exponent_letter is_blank
 e_blank c e = search rules
 
 pub back_nil : (a b : Text) → a ++ b ≡ [] → b ≡ []

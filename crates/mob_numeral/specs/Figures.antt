@@ -1,11 +1,8 @@
 -- Runs of digits.
-use Rattle.std.specs.Prelude.{ℕ, length, Bool, ◌&&◌, nat_le}
+use Rattle.std.specs.Prelude.{length, Bool, nat_le}
 use Rattle.std.specs.Str.Parse.{digits_value}
-use Rattle.mob_language.specs.Language.{Text, Language, Means, Where, Run, AreAll}
+use Rattle.mob_language.specs.Language.{Text, Language, Means, Where, Run, AreAll, is_digit}
 use Rattle.mob_numeral.specs.declared.numeral.Figures.{Figures}
-
-abbrev pub is_digit : ℕ → Bool
-is_digit c = nat_le 48 c && nat_le c 57
 
 abbrev pub AreFigures : Text → Type 0
 AreFigures text = AreAll is_digit text

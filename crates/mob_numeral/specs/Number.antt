@@ -1,6 +1,6 @@
 -- The texts of numbers, and the number that each stands for.
-use Rattle.std.specs.Prelude.{ℕ, ◌+◌, codes, Bool, false, ◌&&◌, ◌||◌, nat_le, nat_lt, nat_eq, Option, Some, None}
-use Rattle.mob_language.specs.Language.{Language, ◌▷◌, ◌∣◌, Maybe, Means, Where, OneOf, behind}
+use Rattle.std.specs.Prelude.{ℕ, ◌+◌, codes, Bool, false, ◌&&◌, nat_le, nat_lt, nat_eq, Option, Some, None}
+use Rattle.mob_language.specs.Language.{Language, ◌▷◌, ◌∣◌, Maybe, Means, Where, OneOf, behind, is_number_sign, is_exponent_letter}
 use Rattle.mob_numeral.specs.declared.numeral.Figures.{Figures}
 use Rattle.mob_numeral.specs.declared.numeral.Exponent.{Exponent}
 use Rattle.mob_numeral.specs.declared.numeral.Tail.{Tail}
@@ -8,19 +8,13 @@ use Rattle.mob_numeral.specs.declared.numeral.Tail.TheVariants.{Over, Decimal}
 use Rattle.mob_numeral.specs.declared.numeral.Numeral.{Numeral}
 use Rattle.mob_numeral.specs.Figures.{digits}
 
-abbrev pub is_sign : ℕ → Bool
-is_sign c = nat_eq c 43 || nat_eq c 45
-
 abbrev pub is_minus : Option ℕ → Bool
 is_minus None = false
 is_minus (Some c) = nat_eq c 45
 
 -- a plus, a minus or nothing
 abbrev pub number_sign : Language Bool
-number_sign = Means is_minus (Maybe (OneOf is_sign))
-
-abbrev pub is_e : ℕ → Bool
-is_e c = nat_eq c 101 || nat_eq c 69
+number_sign = Means is_minus (Maybe (OneOf is_number_sign))
 
 abbrev pub is_power : Exponent → Bool
 is_power e = nat_lt 0 e.size.count && nat_le e.size.value 18
@@ -34,7 +28,7 @@ power = Where is_power (Means exponent_of (number_sign ▷ digits))
 
 -- "e" in either case, and a power
 abbrev pub exponent : Language Exponent
-exponent = Means (λ (v : ℕ × Exponent). v.1) (OneOf is_e ▷ power)
+exponent = Means (λ (v : ℕ × Exponent). v.1) (OneOf is_exponent_letter ▷ power)
 
 abbrev pub decimal_of : Option Figures × Option Exponent → Tail
 decimal_of v = Decimal v.0 v.1

@@ -1,8 +1,9 @@
 //! Numbers as they are written.
 ghost use Rattle.std.specs.Prelude.{◌≡◌, ◌<◌, ◌≤◌, ◌^◌, length, option_map, Option, Some, IfSome};
 ghost use Rattle.std.specs.Str.Parse.{digits_value};
+ghost use Rattle.mob_language.specs.Language.{is_digit as digit};
 ghost use Rattle.mob_language.specs.Readers.{run_of};
-ghost use Rattle.mob_numeral.specs.Figures.{is_digit as digit, AreFigures};
+ghost use Rattle.mob_numeral.specs.Figures.{AreFigures};
 ghost use Rattle.mob_numeral.specs.Number.{has_digits as has_enough};
 ghost use Rattle.mob_numeral.specs.NumberReaders.{digits_at as digits_in, sign_at as sign_in, point_at as point_in, power_at as power_in, exponent_at as exponent_in, over_at as over_in, decimal_at as decimal_in, tail_at as tail_in, numeral_at};
 

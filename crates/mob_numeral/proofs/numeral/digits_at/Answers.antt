@@ -1,7 +1,7 @@
 use Rattle.std.proofs.Common.{ap, subst, sym}
-use Rattle.mob_language.specs.Language.{Text}
+use Rattle.mob_language.specs.Language.{Text, is_digit}
 use Rattle.mob_language.proofs.Exact.{run_parts}
-use Rattle.mob_numeral.specs.Figures.{is_digit, AreFigures}
+use Rattle.mob_numeral.specs.Figures.{AreFigures}
 use Rattle.mob_numeral.proofs.numeral.digits_at.Goals as goal
 
 pub value_of-requires-clause-all : goal.value_of-requires-clause-all
