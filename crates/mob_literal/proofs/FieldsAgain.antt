@@ -22,8 +22,8 @@ use Rattle.mob_numeral.proofs.Again.{number_plain}
 use Rattle.mob_scalar.proofs.MomentAgain.{moment_plain}
 use Rattle.mob_numeral.proofs.WholeTexts.{number_head, number_byte}
 use Rattle.mob_scalar.proofs.WholeTexts.{moment_head, moment_byte}
-use Rattle.mob_literal.specs.Printed.{Style, is_long, groups_of, start_text, groups_text, set_text, steps_text}
-use Rattle.mob_literal.specs.Style.{style_of}
+use Rattle.mob_written.specs.Printed.{Style, is_long, groups_of, start_text, groups_text, set_text, steps_text}
+use Rattle.mob_written.specs.Style.{style_of}
 use Rattle.mob_literal.specs.Readable.{IsDated, IsReadable}
 use Rattle.mob_literal.specs.SqlReadable.{IsReadableAs}
 use Rattle.mob_literal.specs.SqlText.{SaysAs}

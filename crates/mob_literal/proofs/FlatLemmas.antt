@@ -13,8 +13,8 @@ use Rattle.mob_slice.specs.declared.steady.Steady.{Steady}
 use Rattle.mob_slice.specs.Slices.{IsSound, IsOrdered, Clear, OfHead, value_at}
 use Rattle.mob_normal.proofs.Regions.{is_left, left_has, left_clear, in_left}
 use Rattle.mob_normal.proofs.Runs.{or_else, value_at-append}
-use Rattle.mob_literal.specs.declared.written.Written.{Written}
-use Rattle.mob_literal.specs.declared.written.Sequence.{Sequence}
+use Rattle.mob_written.specs.declared.written.Written.{Written}
+use Rattle.mob_written.specs.declared.written.Sequence.{Sequence}
 use Rattle.mob_slice.specs.Operands.{steady_value}
 use Rattle.mob_literal.specs.Steps.{rises, StepAt}
 use Rattle.mob_literal.specs.Slices.{slices_of, made, stretch, point}

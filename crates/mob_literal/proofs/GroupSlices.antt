@@ -11,15 +11,15 @@ use Rattle.mob_slice.specs.declared.slice.Slice.{Slice}
 use Rattle.mob_slice.specs.declared.steady.Steady.{Steady}
 use Rattle.mob_slice.specs.Slices.{value_at}
 use Rattle.mob_normal.proofs.Runs.{or_else, value_at-append}
-use Rattle.mob_literal.specs.declared.written.Written.{Written}
-use Rattle.mob_literal.specs.declared.written.Sequence.{Sequence}
+use Rattle.mob_written.specs.declared.written.Written.{Written}
+use Rattle.mob_written.specs.declared.written.Sequence.{Sequence}
 use Rattle.mob_slice.specs.Operands.{steady_value}
 use Rattle.mob_literal.specs.Steps.{rises}
 use Rattle.mob_literal.specs.Slices.{slices_of, stretch}
 use Rattle.mob_literal.specs.Sound.{ends_level, is_closed_alone, is_sound_sequence, clear_ends, is_before, are_in_order, is_sound}
-use Rattle.mob_literal.specs.Printed.{is_long, shares_group, groups_of, put_in_group}
+use Rattle.mob_written.specs.Printed.{is_long, shares_group, groups_of, put_in_group}
 use Rattle.mob_literal.proofs.FlatLemmas.{flat, Ordered, ordered_rest}
-use Rattle.mob_literal.proofs.Small.{false_true}
+use Rattle.mob_written.proofs.Small.{false_true}
 
 -- P holds of each
 abbrev pub Alls : {A : Type 0} → (A → Type 0) → List A → Type 0

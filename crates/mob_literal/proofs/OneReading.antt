@@ -10,12 +10,12 @@ use Rattle.mob_slice.specs.declared.slice.Slice.{Slice}
 use Rattle.mob_slice.specs.declared.steady.Steady.{Steady}
 use Rattle.mob_slice.specs.Slices.{value_at}
 use Rattle.mob_slice.specs.SteadyLaws.{steady_laws}
-use Rattle.mob_literal.specs.declared.written.Written.{Written}
-use Rattle.mob_literal.specs.declared.written.Sequence.{Sequence}
-use Rattle.mob_literal.specs.ValueText.{IsValueText}
+use Rattle.mob_written.specs.declared.written.Written.{Written}
+use Rattle.mob_written.specs.declared.written.Sequence.{Sequence}
+use Rattle.mob_written.specs.ValueText.{IsValueText}
 use Rattle.mob_slice.specs.Operands.{steady_value}
 use Rattle.mob_literal.specs.Sound.{fitting_all, Defines, steps}
-use Rattle.mob_literal.proofs.LiteralExact.{noted_entry, temporal_exact}
+use Rattle.mob_written.proofs.LiteralExact.{noted_entry, temporal_exact}
 
 -- two options with the same value are the same
 pub one_option : {B : Type 0} (o p : Option B) → ((x : B) → (o ≡ Some x) ↔ (p ≡ Some x)) → o ≡ p

@@ -13,19 +13,19 @@ use Rattle.mob_numeral.specs.declared.fault.ReadText.TheVariants.{NotText, Limit
 use Rattle.mob_slice.specs.declared.slice.Slice.{Slice}
 use Rattle.mob_slice.specs.declared.steady.Steady.{Steady}
 use Rattle.mob_slice.specs.Slices.{value_at, IsNormal}
-use Rattle.mob_literal.specs.declared.written.Written.{Written}
-use Rattle.mob_literal.specs.declared.written.Noted.{Noted}
-use Rattle.mob_literal.specs.declared.written.Sequence.{Sequence}
-use Rattle.mob_literal.specs.Literal.{comma, noted, sequence, alone, members, literal, temporal, noted_at, temporal_at}
-use Rattle.mob_literal.specs.ValueText.{IsValueText}
+use Rattle.mob_written.specs.declared.written.Written.{Written}
+use Rattle.mob_written.specs.declared.written.Noted.{Noted}
+use Rattle.mob_written.specs.declared.written.Sequence.{Sequence}
+use Rattle.mob_written.specs.Literal.{comma, noted, sequence, alone, members, literal, temporal, noted_at, temporal_at}
+use Rattle.mob_written.specs.ValueText.{IsValueText}
 use Rattle.mob_slice.specs.Operands.{steady_value}
 use Rattle.mob_literal.specs.Steps.{rises}
 use Rattle.mob_literal.specs.Slices.{slices_of}
 use Rattle.mob_literal.specs.Sound.{is_over_limit, traverse, written_of, fitting_sequence, fitting_all, is_closed_alone, is_sound_sequence, ends_level, are_in_order, is_sound, Defines, written_sequences, steps}
 use Rattle.mob_literal.specs.Flat.{made_all}
-use Rattle.mob_literal.proofs.LiteralExact.{noted_entry, temporal_exact}
+use Rattle.mob_written.proofs.LiteralExact.{noted_entry, temporal_exact}
 use Rattle.mob_literal.proofs.FlatLemmas.{flat, all_is, IsFlat, is_flat}
-use Rattle.mob_literal.proofs.Small.{false_true, cons_nil, some_none}
+use Rattle.mob_written.proofs.Small.{false_true, cons_nil, some_none}
 
 abbrev some : {A : Type 0} → A → Option A
 some x = Some x

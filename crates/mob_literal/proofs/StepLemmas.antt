@@ -7,7 +7,7 @@ use Rattle.mob_ratio.specs.Order.{before, upto}
 use Rattle.mob_ratio.proofs.Order.{before-self, before-back, before-trans, before-neither}
 use Rattle.mob_span.specs.Span.{has}
 use Rattle.mob_slice.specs.Slices.{value_at}
-use Rattle.mob_literal.specs.declared.written.Written.{Written}
+use Rattle.mob_written.specs.declared.written.Written.{Written}
 use Rattle.mob_slice.specs.Operands.{steady_value}
 use Rattle.mob_literal.specs.Steps.{StepAt, reaches, rises}
 use Rattle.mob_literal.specs.Slices.{slices_of, stretch, point}

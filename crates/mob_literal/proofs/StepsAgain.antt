@@ -20,20 +20,20 @@ use Rattle.std.proofs.lemmas.Bool.{and_parts as both, not-true as not_true}
 use Rattle.mob_numeral.proofs.Again.{number_plain}
 use Rattle.mob_scalar.proofs.TruthAgain.{truth_plain}
 use Rattle.mob_scalar.proofs.MomentAgain.{moment_plain}
-use Rattle.mob_literal.specs.declared.written.Written.{Written}
-use Rattle.mob_literal.specs.declared.written.Sequence.{Sequence}
-use Rattle.mob_literal.specs.Fitting.{fits, fitting}
+use Rattle.mob_written.specs.declared.written.Written.{Written}
+use Rattle.mob_written.specs.declared.written.Sequence.{Sequence}
+use Rattle.mob_written.specs.Fitting.{fits, fitting}
 use Rattle.mob_slice.specs.Operands.{steady_value}
 use Rattle.mob_literal.specs.Sound.{instant_count, traverse, written_of, fitting_sequence, fitting_all, is_sound, Defines, steps}
-use Rattle.mob_literal.specs.Printed.{is_long, groups_of, instants_of, steps_text}
-use Rattle.mob_literal.specs.Style.{style_of}
-use Rattle.mob_literal.specs.Values.{any_value, is_whole, truth_value, number_value, quoted_value}
+use Rattle.mob_written.specs.Printed.{is_long, groups_of, instants_of, steps_text}
+use Rattle.mob_written.specs.Style.{style_of}
+use Rattle.mob_written.specs.Values.{any_value, is_whole, truth_value, number_value, quoted_value}
 use Rattle.mob_literal.specs.Readable.{IsDated, IsReadable, instants_in, AnyTruth, IsInt, IsText}
 use Rattle.mob_literal.proofs.Listing.{first_in, later_in}
 use Rattle.mob_literal.proofs.FlatLemmas.{flat, Ordered, IsFlat, is_flat}
 use Rattle.mob_literal.proofs.GroupSlices.{Alls, start_of, more, sequence_of, are_groups, joined, HasAll, is_short, sound_groups, flat_values}
 use Rattle.mob_literal.proofs.GroupTexts.{note, noted_of_group, written_text, IsMomentSaid, IsSliceSaid, AreSaid, ArePoints, instants_are, printed_said}
-use Rattle.mob_literal.proofs.Small.{false_true, some_none}
+use Rattle.mob_written.proofs.Small.{false_true, some_none}
 
 -- ---- numbers that fit
 

@@ -9,13 +9,13 @@ use Rattle.mob_slice.specs.declared.slice.Slice.{Slice}
 use Rattle.mob_slice.specs.declared.steady.Steady.{Steady}
 use Rattle.mob_slice.specs.Slices.{value_at, IsNormal}
 use Rattle.mob_numeral.specs.Verdict.{TextForm}
-use Rattle.mob_literal.specs.declared.written.Written.{Written}
-use Rattle.mob_literal.specs.declared.written.Noted.{Noted}
-use Rattle.mob_literal.specs.declared.written.Sequence.{Sequence}
-use Rattle.mob_literal.specs.Neighbours.{all_neighbours}
+use Rattle.mob_written.specs.declared.written.Written.{Written}
+use Rattle.mob_written.specs.declared.written.Noted.{Noted}
+use Rattle.mob_written.specs.declared.written.Sequence.{Sequence}
+use Rattle.mob_written.specs.Neighbours.{all_neighbours}
 use Rattle.mob_slice.specs.Operands.{steady_value}
 use Rattle.mob_literal.specs.Steps.{StepAt, rises}
-use Rattle.mob_literal.specs.Literal.{noted, temporal}
+use Rattle.mob_written.specs.Literal.{noted, temporal}
 
 -- how many instants the sequences have
 abbrev pub instant_count : {A : Type 0} → List (Sequence A) → ℕ

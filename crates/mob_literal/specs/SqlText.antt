@@ -16,9 +16,9 @@ use Rattle.mob_scalar.specs.MomentText.{moment_text}
 use Rattle.mob_scalar.specs.Truth.{truths, truth_text}
 use Rattle.mob_scalar.specs.Quoted.{quoted_text}
 use Rattle.mob_literal.specs.Sound.{steps}
-use Rattle.mob_literal.specs.Values.{any_value, is_whole, truth_value, number_value, quoted_value}
-use Rattle.mob_literal.specs.Printed.{steps_text}
-use Rattle.mob_literal.specs.Style.{style_of}
+use Rattle.mob_written.specs.Values.{any_value, is_whole, truth_value, number_value, quoted_value}
+use Rattle.mob_written.specs.Printed.{steps_text}
+use Rattle.mob_written.specs.Style.{style_of}
 
 -- every text stands for itself
 abbrev pub texts : TextForm Text Text

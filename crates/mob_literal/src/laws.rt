@@ -4,13 +4,13 @@ ghost use Rattle.std.specs.Prelude.{◌≡◌, ◌≢◌, List, Bool, ℕ, ℤ, 
 ghost use Rattle.mob_language.specs.Language.{Text};
 ghost use Rattle.mob_ast.specs.declared.types.SqlType.{SqlType};
 ghost use Rattle.mob_literal.specs.Fields.{is_null_field, text_of_field, field_text};
-ghost use Rattle.mob_literal.specs.Printed.{steps_text};
+ghost use Rattle.mob_written.specs.Printed.{steps_text};
 ghost use Rattle.mob_literal.specs.Readable.{AnyTruth, IsInt, IsReadable, IsText};
 ghost use Rattle.mob_literal.specs.Sound.{steps};
 ghost use Rattle.mob_literal.specs.SqlReadable.{IsReadableAs};
 ghost use Rattle.mob_literal.specs.SqlText.{SaysAs, value_text};
-ghost use Rattle.mob_literal.specs.Style.{style_of};
-ghost use Rattle.mob_literal.specs.Values.{any_value, is_whole, number_value, quoted_value, truth_value};
+ghost use Rattle.mob_written.specs.Style.{style_of};
+ghost use Rattle.mob_written.specs.Values.{any_value, is_whole, number_value, quoted_value, truth_value};
 ghost use Rattle.mob_ratio.specs.Order.{same};
 ghost use Rattle.mob_ratio.specs.Ratio.{Ratio};
 ghost use Rattle.mob_numeral.specs.NumberText.{number_text};
