@@ -196,7 +196,7 @@ fn push_second(
     push_stamp(date, clock_of_second(second), numerator, denominator, into)
 }
 
-#[tactic(auto, unfolding(crate::specs::NumberText::number_text))]
+#[tactic(auto, unfolding(mob_numeral::specs::NumberText::number_text))]
 fn push_number(n: &Frac, into: &mut String) -> Result<(), AllocError>
     ensures ok { OnOk result (string_bytes into.new ≡ string_bytes into.old ++ number_text n.now) }
     ensures len { OnOk result (string_len into.new ≤ string_len into.old + 40) }
