@@ -7,12 +7,12 @@ ghost use Rattle.mob_scalar.specs.Calendar.{is_civil as civil};
 ghost use Rattle.mob_scalar.specs.Moment.{instant, IsPartSmall};
 ghost use Rattle.mob_scalar.specs.MomentReaders.{moment_at as moment_in};
 ghost use Rattle.mob_scalar.specs.Moments.{moments};
-ghost use Rattle.mob_scalar.specs.declared.fault.ReadText.TheVariants.{NoMemory};
-ghost use Rattle.mob_scalar.specs.Verdict.{Lit};
+ghost use Rattle.mob_numeral.specs.declared.fault.ReadText.TheVariants.{NoMemory};
+ghost use Rattle.mob_numeral.specs.Verdict.{Lit};
 
 use crate::epoch::Epoch;
-use crate::fault::ReadText;
-use crate::readers::within_blanks;
+use mob_numeral::ReadText;
+use mob_numeral::within_blanks;
 use crate::stamp::{Part, Stamp, moment_at, seconds_of};
 use mob_frac::{Frac, Overflow, over_product};
 
