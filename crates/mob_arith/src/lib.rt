@@ -12,6 +12,3 @@ pub use logic::{and, not, or};
 pub use summed::Summed;
 pub use sums::{minus, plus, times_const, times_step};
 pub use texts::join_text;
-
-#[cfg(test)]
-mod tests;

@@ -5,8 +5,6 @@
 pub mod expression;
 pub mod refusal;
 pub mod statement;
-#[cfg(test)]
-mod tests;
 pub mod types;
 
 pub use expression::{Expr, Node};

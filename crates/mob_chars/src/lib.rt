@@ -4,6 +4,4 @@
 pub mod laws;
 pub mod lexer;
 mod scan;
-#[cfg(test)]
-mod tests;
 pub mod token;

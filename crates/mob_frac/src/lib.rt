@@ -13,6 +13,3 @@ mod wide;
 pub use fraction::{Frac, Overflow};
 pub use products::over_product;
 pub use wide::{Wide, same_ratio};
-
-#[cfg(test)]
-mod tests;

@@ -10,8 +10,6 @@ mod files;
 mod gate;
 mod sink;
 mod source;
-#[cfg(test)]
-mod tests;
 
 pub use fault::Failed;
 pub use files::{DirFiles, Files, MemFiles};

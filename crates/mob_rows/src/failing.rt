@@ -1,106 +1,157 @@
 // Ends whose k-th call fails, for each k until no call is the k-th.
 
-use crate::runs::{Failing, STEP, run_once};
+use crate::runs::{Failing, Report, run_once};
+use std::alloc::{AllocError, Global};
 use std::test::Fail;
+use std::thread::Threads;
 
-const SCRIPT: &[u8] = b"SELECT tint '[5@2001-01-01]';\n";
+// The ends, of which one has a failing call.
+#[derive(Clone, Copy)]
+enum End {
+    Script,
+    File,
+    Out,
+    Notes,
+}
 
-const COPY: &[u8] =
-    b"CREATE TABLE t (k int); COPY t FROM 't.csv' WITH (FORMAT csv, HEADER); SELECT k FROM t WHERE k > 2;";
+// A run with a file, of which an end fails: what it writes and notes where nothing else ends it, and for each call that fails, from
+// the first on, the status, and how many bytes of these were written and noted.
+type Failed = (
+    End,
+    &'static str,
+    &'static str,
+    &'static str,
+    &'static [(u8, usize, usize)],
+);
+
+const SCRIPT: &str = "SELECT tint '[5@2001-01-01]';\n";
+
+const ANSWER: &str = "c1\n5@2001-01-01 00:00:00+00\n(1 rows)\n";
+
+const COPY: &str =
+    "CREATE TABLE t (k int); COPY t FROM 't.csv' WITH (FORMAT csv, HEADER); SELECT k FROM t WHERE k > 2;";
 
 const FILE: &[u8] = b"k\n1\n2\n3\n";
 
-const ANSWER: &[u8] = b"c1\n5@2001-01-01 00:00:00+00\n(1 rows)\n";
+static FAILED: [Failed; 4] = [
+    // The script has 30 bytes, so there are 6 calls: five with bytes, and one that meets the end.
+    (
+        End::Script,
+        SCRIPT,
+        ANSWER,
+        "read fault: script\n",
+        &[
+            (3, 0, 19),
+            (3, 0, 19),
+            (3, 0, 19),
+            (3, 0, 19),
+            (3, 0, 19),
+            (3, 0, 19),
+            (0, 37, 0),
+            (0, 37, 0),
+        ],
+    ),
+    // The file has 8 bytes, so there are 4 calls: the one that opens it, two with bytes, and one that meets the end.
+    (
+        End::File,
+        COPY,
+        "k\n3\n(1 rows)\n",
+        "read fault: t.csv\n",
+        &[
+            (3, 0, 18),
+            (3, 0, 18),
+            (3, 0, 18),
+            (3, 0, 18),
+            (0, 13, 0),
+            (0, 13, 0),
+        ],
+    ),
+    // The answer has 37 bytes, so there are 6 calls, of which each before the failing one took 7 bytes.
+    (
+        End::Out,
+        SCRIPT,
+        ANSWER,
+        "write fault\n",
+        &[
+            (4, 0, 12),
+            (4, 7, 12),
+            (4, 14, 12),
+            (4, 21, 12),
+            (4, 28, 12),
+            (4, 35, 12),
+            (0, 37, 0),
+            (0, 37, 0),
+        ],
+    ),
+    // The note of a refusal is put in nine pieces of 10, 1, 7, 1, 10, 1, 2, 11 and 2 bytes, so in 12 calls.
+    (
+        End::Notes,
+        "SELECT b;",
+        "",
+        "statement 1, byte 7: refusal 6 (UnknownName)\n",
+        &[
+            (7, 0, 0),
+            (7, 0, 7),
+            (7, 0, 10),
+            (7, 0, 11),
+            (7, 0, 18),
+            (7, 0, 19),
+            (7, 0, 26),
+            (7, 0, 29),
+            (7, 0, 30),
+            (7, 0, 32),
+            (7, 0, 39),
+            (7, 0, 43),
+            (7, 0, 45),
+            (7, 0, 45),
+        ],
+    ),
+];
 
-// The script has 30 bytes, so there are 6 calls: five with bytes, and one that meets the end.
-#[test]
-fn a_script_that_cannot_be_read(rt: HostRuntime) -> Result<(), Fail> {
-    let alloc = rt.alloc();
-    for k in 1..9u64 {
-        let mut failing = Failing::none(alloc);
-        failing.script.push(k)?;
-        let seen = run_once(&rt, alloc, &[], SCRIPT, &[], failing)?;
-        if k <= 6 {
-            assert_eq!(rt; seen.status, 3, "call {k}");
-            assert_eq!(rt; seen.out.as_slice(), b"".as_slice(), "call {k}");
-            assert_eq!(rt;
-                seen.notes.as_slice(),
-                b"read fault: script\n".as_slice(),
-                "call {k}"
-            );
-        } else {
-            assert_eq!(rt; seen.status, 0, "call {k}");
-            assert_eq!(rt; seen.out.as_slice(), ANSWER, "call {k}");
-        }
+// The call with this number fails at this end.
+fn failing(alloc: Global, end: End, call: u64) -> Result<Failing, AllocError> {
+    let mut failing = Failing::none(alloc);
+    match end {
+        End::Script => failing.script.push(call)?,
+        End::File => failing.files.push(call)?,
+        End::Out => failing.out.push(call)?,
+        End::Notes => failing.notes.push(call)?,
     }
-    Ok(())
+    Ok(failing)
 }
 
-// The file has 8 bytes, so there are 4 calls: the one that opens it, two with bytes, and one that meets the end.
-#[test]
-fn a_file_that_cannot_be_read(rt: HostRuntime) -> Result<(), Fail> {
-    let alloc = rt.alloc();
-    for k in 1..7u64 {
-        let mut failing = Failing::none(alloc);
-        failing.files.push(k)?;
-        let seen = run_once(&rt, alloc, &[], COPY, &[("t.csv", FILE)], failing)?;
-        if k <= 4 {
-            assert_eq!(rt; seen.status, 3, "call {k}");
-            assert_eq!(rt; seen.out.as_slice(), b"".as_slice(), "call {k}");
-            assert_eq!(rt;
-                seen.notes.as_slice(),
-                b"read fault: t.csv\n".as_slice(),
-                "call {k}"
-            );
-        } else {
-            assert_eq!(rt; seen.status, 0, "call {k}");
-            assert_eq!(rt;
-                seen.out.as_slice(),
-                b"k\n3\n(1 rows)\n".as_slice(),
-                "call {k}"
-            );
-        }
-    }
-    Ok(())
+// Whether a run ended so, and wrote and noted so many bytes of these texts.
+fn is_cut(seen: &Report, answer: &str, note: &str, wanted: (u8, usize, usize)) -> bool {
+    let (status, written, noted) = wanted;
+    seen.status == status
+        && seen.out.len() == written
+        && answer.as_bytes().starts_with(&seen.out)
+        && seen.notes.len() == noted
+        && note.as_bytes().starts_with(&seen.notes)
 }
 
-// The answer has 37 bytes, so there are 6 calls, of which each before the failing one took 7 bytes.
-#[test]
-fn answers_that_cannot_be_written(rt: HostRuntime) -> Result<(), Fail> {
-    let alloc = rt.alloc();
-    for k in 1..9u64 {
-        let mut failing = Failing::none(alloc);
-        failing.out.push(k)?;
-        let seen = run_once(&rt, alloc, &[], SCRIPT, &[], failing)?;
-        if k <= 6 {
-            let taken = (k as usize - 1) * STEP;
-            assert_eq!(rt; seen.status, 4, "call {k}");
-            assert_eq!(rt; seen.out.as_slice(), &ANSWER[..taken], "call {k}");
-            assert_eq!(rt;
-                seen.notes.as_slice(),
-                b"write fault\n".as_slice(),
-                "call {k}"
-            );
-        } else {
-            assert_eq!(rt; seen.status, 0, "call {k}");
+// How many calls there are before the first that does not end as it must.
+fn right_calls(
+    rt: &(impl Threads + Sync),
+    alloc: Global,
+    row: &Failed,
+) -> Result<usize, AllocError> {
+    let (end, script, answer, note, calls) = row;
+    for (i, wanted) in calls.iter().enumerate() {
+        let failing = failing(alloc, *end, i as u64 + 1)?;
+        let named = [("t.csv", FILE)];
+        let seen = run_once(rt, alloc, &[], script.as_bytes(), &named, failing)?;
+        if !is_cut(&seen, answer, note, *wanted) {
+            return Ok(i);
         }
     }
-    Ok(())
+    Ok(calls.len())
 }
 
-// The note of a refusal is put in nine pieces of 10, 1, 7, 1, 10, 1, 2, 11 and 2 bytes, so in 12 calls.
 #[test]
-fn notes_that_cannot_be_written(rt: HostRuntime) -> Result<(), Fail> {
-    let alloc = rt.alloc();
-    let whole = b"statement 1, byte 7: refusal 6 (UnknownName)\n";
-    let taken = [0, 7, 10, 11, 18, 19, 26, 29, 30, 32, 39, 43, 45, 45];
-    for (call, length) in taken.iter().enumerate() {
-        let mut failing = Failing::none(alloc);
-        failing.notes.push(call as u64 + 1)?;
-        let seen = run_once(&rt, alloc, &[], b"SELECT b;", &[], failing)?;
-        assert_eq!(rt; seen.status, 7, "call {call}");
-        assert_eq!(rt; seen.notes.len(), *length, "call {call}");
-        assert!(rt; whole.starts_with(&seen.notes), "call {call}");
+fn calls_that_fail(rt: HostRuntime) -> Result<(), Fail> {
+    for row in &FAILED {
+        assert_eq!(rt; right_calls(&rt, rt.alloc(), row)?, row.4.len());
     }
     Ok(())
 }

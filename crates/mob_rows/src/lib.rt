@@ -1,15 +1,14 @@
-//! Tests of whole runs, as tables: scripts with what they answer, and ends whose calls fail.
+//! Tests of whole runs: one for each way in which a run ends, ends whose calls fail, and the words. Rows of whole scripts stand in
+//! `checks/rows`.
 #![tactic(auto)]
 
 #[cfg(test)]
 mod failing;
 #[cfg(test)]
-mod refusals;
+mod outside;
 #[cfg(test)]
 mod runs;
 #[cfg(test)]
 mod scripts;
 #[cfg(test)]
-mod steps;
-#[cfg(test)]
-mod tables;
+mod words;

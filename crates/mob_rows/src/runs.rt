@@ -74,13 +74,3 @@ pub fn run_once(
         notes: notes.taken().to_vec(alloc)?,
     })
 }
-
-/// One run with these words and this script, without files, in which no call fails.
-pub fn run_script(
-    rt: &(impl Threads + Sync),
-    alloc: Global,
-    words: &[&str],
-    script: &[u8],
-) -> Result<Report, AllocError> {
-    run_once(rt, alloc, words, script, &[], Failing::none(alloc))
-}

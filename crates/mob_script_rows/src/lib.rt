@@ -1,11 +1,14 @@
-//! Tests of scripts before they run, as tables: their trees, their names and types, and what is not built yet.
+//! Tests of scripts before they run, as tables: their tokens and trees, the table of operators, and types. Which scripts are refused
+//! stands in `checks/rows`.
 #![tactic(auto)]
 
 #[cfg(test)]
+mod operators;
+#[cfg(test)]
 mod shown;
+#[cfg(test)]
+mod tokens;
 #[cfg(test)]
 mod trees;
 #[cfg(test)]
 mod types;
-#[cfg(test)]
-mod unbuilt;

@@ -1,230 +1,105 @@
-//! Whole scripts, built by hand. The rows that say which refusal comes first are computed by the definition.
+// Scripts and the type of their last item, or their first refusal. Every number and place is counted by hand.
 
-use mob_ast::{
-    Expr, Item, Kind, Node, Refusal, Script, SelectTree, SqlType, Statement, TypeWord, Word,
-};
-use mob_list::items::Items;
-use mob_list::text::Text;
-use mob_typing::{ConstText, Op, TExpr, Typed, TypedSelect, TypedStatement, type_script};
-use std::alloc::{AllocError, Global};
-use std::marker::{Send, Sync};
+use mob_ast::{Kind, Refusal, SqlType};
+use mob_parse::script::parse;
+use mob_typing::{Op, Typed, TypedStatement, type_script};
+use std::alloc::Global;
 use std::test::Fail;
 
-fn crosses_threads<T: Send + Sync>() {}
+// A script of one query, and the operator and type of its first item.
+const TYPED: [(&str, Op, SqlType); 7] = [
+    ("SELECT 1.5", Op::Const(0), SqlType::Numeric),
+    ("SELECT '1'::int", Op::Cast, SqlType::Int),
+    ("SELECT 1::numeric", Op::Cast, SqlType::Numeric),
+    ("SELECT 1::int", Op::Cast, SqlType::Int),
+    ("SELECT tint '1@2001-01-01'::tfrac", Op::Cast, SqlType::TFrac),
+    ("SELECT tint '1@2001-01-01' + 1", Op::Add, SqlType::TInt),
+    ("SELECT 1 / 2", Op::Divide, SqlType::Numeric),
+];
 
-fn text(alloc: Global, characters: &str) -> Result<Text, AllocError> {
-    Ok(Text::from_string(String::from_str(alloc, characters)?))
-}
+// A script, and the place and kind of its refusal.
+const REFUSED: [(&str, u32, Kind); 7] = [
+    (
+        "SELECT tfrac '1@2001-01-01' * tfrac '2@2001-01-01';",
+        28,
+        Kind::LinearProduct,
+    ),
+    (
+        "SELECT tDwithin(tgeompoint 'POINT(0 0)@2001-01-01', geometry 'POINT(1 1)', 2);",
+        7,
+        Kind::Irrational,
+    ),
+    ("SELECT 1.5::int", 10, Kind::NoSuchOperator),
+    ("SELECT NULL::int", 11, Kind::NoSuchOperator),
+    ("SELECT 'x'::geometry", 12, Kind::UnknownName),
+    ("SELECT 1::geometry", 10, Kind::UnknownName),
+    ("SELECT 1/0", 8, Kind::ZeroDivisor),
+];
 
-fn word(alloc: Global, characters: &str, place: u32) -> Result<Word, AllocError> {
-    Ok(Word {
-        text: text(alloc, characters)?,
-        place,
-    })
-}
-
-fn type_word(alloc: Global, characters: &str, place: u32) -> Result<TypeWord, AllocError> {
-    Ok(TypeWord {
-        name: word(alloc, characters, place)?,
-        inner: None,
-    })
-}
-
-fn leaf(alloc: Global, node: Node, place: u32) -> Expr {
-    Expr {
-        node,
-        place,
-        args: Vec::new(alloc),
+fn typed(alloc: Global, script: &str) -> Result<Typed, Refusal> {
+    if script.len() > 1000 {
+        return Err(Refusal {
+            kind: Kind::Limit,
+            statement: 0,
+            place: 0,
+        });
     }
+    type_script(alloc, parse(alloc, script.as_bytes())?)
 }
 
-fn number(alloc: Global, digits: &str, place: u32) -> Result<Expr, AllocError> {
-    Ok(leaf(alloc, Node::Number(text(alloc, digits)?), place))
-}
-
-// SELECT with one item, under the name `n`.
-fn select_one(alloc: Global, value: Expr) -> Result<Script, AllocError> {
-    let alias = Some(word(alloc, "n", 99)?);
-    let mut items = Items::new(alloc);
-    items.push(Item::One { value, alias })?;
-    let mut statements = Items::new(alloc);
-    statements.push(Statement::Select(SelectTree {
-        distinct: false,
-        items,
-        from: Items::new(alloc),
-        cond: None,
-        keys: Items::new(alloc),
-        limit: None,
-    }))?;
-    Ok(Script { statements })
-}
-
-#[test]
-fn a_script_is_typed(rt: HostRuntime) -> Result<(), Fail> {
-    let script = select_one(rt.alloc(), number(rt.alloc(), "1.5", 7)?)?;
-    let typed: Typed = type_script(rt.alloc(), script)?;
-    assert_eq!(rt; typed.statements.len(), 1);
-    assert_eq!(rt; typed.consts.len(), 1);
-    Ok(())
-}
-
-#[test]
-fn a_quotient_by_zero_is_refused_at_its_sign(rt: HostRuntime) -> Result<(), Fail> {
-    let mut args = Vec::new(rt.alloc());
-    args.push(number(rt.alloc(), "1", 7)?)?;
-    args.push(number(rt.alloc(), "0", 9)?)?;
-    let node = Node::Sign(text(rt.alloc(), "/")?);
-    let script = select_one(
-        rt.alloc(),
-        Expr {
-            node,
-            place: 8,
-            args,
-        },
-    )?;
-    let refusal = Refusal {
-        kind: Kind::ZeroDivisor,
-        statement: 1,
-        place: 8,
-    };
-    assert_eq!(rt; type_script(rt.alloc(), script).err(), Some(refusal));
-    Ok(())
-}
-
-// An operand of a cast.
-#[derive(Clone, Copy)]
-enum Operand {
-    Null,
-    Number(&'static str),
-    Bare(&'static str),
-    Typed(&'static str, &'static str),
-}
-
-fn node_of(alloc: Global, operand: Operand) -> Result<Node, AllocError> {
-    match operand {
-        Operand::Null => Ok(Node::Null),
-        Operand::Number(digits) => Ok(Node::Number(text(alloc, digits)?)),
-        Operand::Bare(characters) => Ok(Node::Str(text(alloc, characters)?)),
-        Operand::Typed(ty, characters) => Ok(Node::Literal {
-            ty: type_word(alloc, ty, 7)?,
-            text: text(alloc, characters)?,
-        }),
-    }
-}
-
-// SELECT of an operand under `::`, with the places of the operand, the sign and the type.
-fn select_cast(
-    alloc: Global,
-    operand: Operand,
-    ty: &str,
-    places: (u32, u32, u32),
-) -> Result<Script, AllocError> {
-    let (operand_place, sign_place, type_place) = places;
-    let mut args = Vec::new(alloc);
-    args.push(leaf(alloc, node_of(alloc, operand)?, operand_place))?;
-    let value = Expr {
-        node: Node::Cast(type_word(alloc, ty, type_place)?),
-        place: sign_place,
-        args,
-    };
-    select_one(alloc, value)
-}
-
-// The type of the only column of the only statement, where it is a cast.
-fn type_of_cast(typed: &Typed) -> Option<SqlType> {
+// The operator and the type of the first item of the only statement.
+fn item_of(typed: &Typed) -> Option<(Op, SqlType)> {
     match typed.statements.as_slice() {
-        [TypedStatement::Select(select)] => match select.items.as_slice() {
-            [(value, _)] if value.op == Op::Cast => Some(value.ty),
-            _ => None,
-        },
+        [TypedStatement::Select(select)] => {
+            let (value, _) = select.items.as_slice().first()?;
+            Some((value.op, value.ty))
+        }
         _ => None,
     }
 }
 
-fn refused(kind: Kind, place: u32) -> Result<Option<SqlType>, Refusal> {
-    Err(Refusal {
-        kind,
-        statement: 1,
-        place,
-    })
+fn first_item(alloc: Global, script: &str) -> Option<(Op, SqlType)> {
+    item_of(&typed(alloc, script).ok()?)
 }
 
 #[test]
-fn casts_are_taken_or_refused_at_their_place(rt: HostRuntime) -> Result<(), Fail> {
-    for (operand, ty, places, expected) in [
-        // SELECT '1'::int
-        (
-            Operand::Bare("1"),
-            "int",
-            (7, 10, 12),
-            Ok(Some(SqlType::Int)),
-        ),
-        // SELECT 1::numeric
-        (
-            Operand::Number("1"),
-            "numeric",
-            (7, 8, 10),
-            Ok(Some(SqlType::Numeric)),
-        ),
-        // SELECT 1::int
-        (
-            Operand::Number("1"),
-            "int",
-            (7, 8, 10),
-            Ok(Some(SqlType::Int)),
-        ),
-        // SELECT tint '1@2001-01-01'::tfrac
-        (
-            Operand::Typed("tint", "1@2001-01-01"),
-            "tfrac",
-            (12, 26, 28),
-            Ok(Some(SqlType::TFrac)),
-        ),
-        // SELECT 1.5::int
-        (
-            Operand::Number("1.5"),
-            "int",
-            (7, 10, 12),
-            refused(Kind::NoSuchOperator, 10),
-        ),
-        // SELECT NULL::int
-        (
-            Operand::Null,
-            "int",
-            (7, 11, 13),
-            refused(Kind::NoSuchOperator, 11),
-        ),
-        // SELECT 'x'::geometry
-        (
-            Operand::Bare("x"),
-            "geometry",
-            (7, 10, 12),
-            refused(Kind::UnknownName, 12),
-        ),
-        // SELECT 1::geometry
-        (
-            Operand::Number("1"),
-            "geometry",
-            (7, 8, 10),
-            refused(Kind::UnknownName, 10),
-        ),
-    ] {
-        let script = select_cast(rt.alloc(), operand, ty, places)?;
-        let found = match type_script(rt.alloc(), script) {
-            Ok(typed) => Ok(type_of_cast(&typed)),
-            Err(refusal) => Err(refusal),
+fn scripts_have_types_or_are_refused(rt: HostRuntime) -> Result<(), Fail> {
+    for (script, op, ty) in &TYPED {
+        assert_eq!(rt; first_item(rt.alloc(), script), Some((*op, *ty)), "{script}");
+    }
+    for (script, place, kind) in &REFUSED {
+        let wanted = Refusal {
+            kind: *kind,
+            statement: 1,
+            place: *place,
         };
-        assert_eq!(rt; found, expected, "a cast to {ty}");
+        assert_eq!(rt; typed(rt.alloc(), script).err(), Some(wanted), "{script}");
     }
     Ok(())
 }
 
 #[test]
-fn typed_scripts_cross_threads() {
-    crosses_threads::<Op>();
-    crosses_threads::<ConstText>();
-    crosses_threads::<TExpr>();
-    crosses_threads::<TypedSelect>();
-    crosses_threads::<TypedStatement>();
-    crosses_threads::<Typed>();
+fn refusals_have_numbers_and_names(rt: HostRuntime) {
+    for (kind, number, name) in [
+        (Kind::NotBuilt, 0, "NotBuilt"),
+        (Kind::NotUtf8, 1, "NotUtf8"),
+        (Kind::Lexical, 2, "Lexical"),
+        (Kind::Syntax, 3, "Syntax"),
+        (Kind::TooComplex, 4, "TooComplex"),
+        (Kind::NoMemory, 5, "NoMemory"),
+        (Kind::UnknownName, 6, "UnknownName"),
+        (Kind::Duplicate, 7, "Duplicate"),
+        (Kind::NoSuchOperator, 8, "NoSuchOperator"),
+        (Kind::LinearProduct, 9, "LinearProduct"),
+        (Kind::Irrational, 10, "Irrational"),
+        (Kind::ZeroDivisor, 11, "ZeroDivisor"),
+        (Kind::BadCount, 12, "BadCount"),
+        (Kind::Limit, 13, "Limit"),
+        (Kind::BadLiteral, 14, "BadLiteral"),
+        (Kind::BadHeader, 15, "BadHeader"),
+        (Kind::BadRecord, 16, "BadRecord"),
+    ] {
+        assert_eq!(rt; kind.number(), number);
+        assert_eq!(rt; kind.name().as_bytes(), name.as_bytes());
+    }
 }

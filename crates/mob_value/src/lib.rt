@@ -7,6 +7,3 @@ mod value;
 
 pub use store::{Store, Table};
 pub use value::Value;
-
-#[cfg(test)]
-mod tests;

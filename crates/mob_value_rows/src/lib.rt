@@ -1,21 +1,22 @@
-//! Tests of values, as tables: their texts, expressions on them, the rows of table files, and the answers of queries.
+//! Tests of values, as tables: fractions, spans and step values, their texts, tables, and queries call by call. What whole scripts
+//! answer stands in `checks/rows`.
 #![tactic(auto)]
 
 #[cfg(test)]
-mod answers;
+mod courses;
 #[cfg(test)]
-mod expressions;
+mod fractions;
 #[cfg(test)]
-mod literals;
-#[cfg(test)]
-mod loading;
-#[cfg(test)]
-mod records;
+mod queries;
 #[cfg(test)]
 mod scalars;
 #[cfg(test)]
+mod spans;
+#[cfg(test)]
 mod sql_values;
+#[cfg(test)]
+mod steps;
 #[cfg(test)]
 mod table_files;
 #[cfg(test)]
-mod tuples;
+mod threads;

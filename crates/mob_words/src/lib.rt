@@ -5,8 +5,6 @@ mod command;
 pub mod laws;
 mod options;
 mod reading;
-#[cfg(test)]
-mod tests;
 
 pub use options::Settings;
 pub use reading::settings;

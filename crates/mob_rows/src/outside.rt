@@ -1,4 +1,6 @@
-use crate::{Failed, Files, MemFiles, MemSink, Sink, Source, StdSink, StdSource};
+// The ends by themselves: in memory, and over a reader and a writer.
+
+use mob_outside::{Failed, Files, MemFiles, MemSink, Sink, Source, StdSink, StdSource};
 use std::test::Fail;
 
 // The second call fails; the others take at most 4 bytes.
@@ -14,9 +16,9 @@ fn a_sink_takes_a_step_fails_and_goes_on(rt: HostRuntime) -> Result<(), Fail> {
     Ok(())
 }
 
-// A file is opened and read in steps of 2 bytes; a name that is not there is a fault, and is noted too.
+// A file is opened and read in steps of 2 bytes; a name that is not there is a fault, and is noted too. The adapters move bytes.
 #[test]
-fn files_in_memory_are_opened_by_name(rt: HostRuntime) -> Result<(), Fail> {
+fn files_are_opened_by_name_and_bytes_are_moved(rt: HostRuntime) -> Result<(), Fail> {
     let alloc = rt.alloc();
     let file = (String::from_str(alloc, "t.csv")?, b"abc".to_vec(alloc)?);
     let mut files = MemFiles::new(alloc, vec![in alloc; file]?, Vec::new(alloc), 2);
@@ -26,19 +28,12 @@ fn files_in_memory_are_opened_by_name(rt: HostRuntime) -> Result<(), Fail> {
     assert_eq!(rt; files.open("u.csv"), Err(Failed));
     assert_eq!(rt; files.asked().len(), 2);
     assert_eq!(rt; bytes[..2], b"ab"[..2]);
-    Ok(())
-}
-
-// The adapters over a reader and a writer in memory.
-#[test]
-fn adapters_move_bytes(rt: HostRuntime) -> Result<(), Fail> {
-    let alloc = rt.alloc();
     let mut source = StdSource::new(b"abc".as_slice());
     let mut sink = StdSink::new(Vec::new(alloc));
-    let mut bytes = [0u8; 2];
-    assert_eq!(rt; source.take(&mut bytes), Ok(2));
-    assert_eq!(rt; sink.put(&bytes), Ok(2));
-    assert_eq!(rt; source.take(&mut bytes), Ok(1));
-    assert_eq!(rt; source.take(&mut bytes), Ok(0));
+    let mut pair = [0u8; 2];
+    assert_eq!(rt; source.take(&mut pair), Ok(2));
+    assert_eq!(rt; sink.put(&pair), Ok(2));
+    assert_eq!(rt; source.take(&mut pair), Ok(1));
+    assert_eq!(rt; source.take(&mut pair), Ok(0));
     Ok(())
 }

@@ -1,34 +1,11 @@
-//! Worked rows: texts with their tokens and their faults, found by hand.
+// Texts with their tokens and their faults, found by hand.
 
-use crate::laws::{faults_are_stuck, tokens_are_in_order, tokens_are_laid};
-use crate::lexer::tokens;
-use crate::token::TokenKind::{End, Number, Sign, Str, Word};
-use crate::token::{LexFault, Token, TokenKind};
+use mob_chars::laws::{faults_are_stuck, tokens_are_in_order, tokens_are_laid};
+use mob_chars::lexer::tokens;
+use mob_chars::token::TokenKind::{End, Number, Sign, Str, Word};
+use mob_chars::token::{LexFault, Token, TokenKind};
 use std::alloc::Global;
-use std::process::Abort;
 use std::test::Fail;
-
-// Asserts that a text has these tokens, each given by its kind and its two places.
-fn has_tokens(
-    rt: &impl Abort,
-    alloc: Global,
-    text: &str,
-    wanted: &[(TokenKind, u32, u32)],
-) -> Result<(), Fail> {
-    assert!(rt; text.len() < 1000);
-    let found = tokens(alloc, text)?;
-    let found = found.as_slice();
-    assert_eq!(rt; found.len(), wanted.len(), "{text}");
-    for (token, (kind, from, to)) in found.iter().zip(wanted) {
-        let expected = Token {
-            kind: *kind,
-            from: *from,
-            to: *to,
-        };
-        assert_eq!(rt; *token, expected, "{text}");
-    }
-    Ok(())
-}
 
 // Texts, each with its tokens: what each is, and its two places.
 static TEXTS: [(&str, &[(TokenKind, u32, u32)]); 7] = [
@@ -94,34 +71,62 @@ static TEXTS: [(&str, &[(TokenKind, u32, u32)]); 7] = [
     ),
 ];
 
-#[test]
-fn texts_have_their_tokens(rt: HostRuntime) -> Result<(), Fail> {
-    let alloc = rt.alloc();
-    for row in &TEXTS {
-        has_tokens(&rt, alloc, row.0, row.1)?;
+// Texts, each with the place at which no token begins.
+static FAULTS: [(&str, u32); 8] = [
+    ("a ? b", 2),
+    ("SELECT tint '[1@2001", 12),
+    ("'", 0),
+    ("é", 0),
+    ("x = 'é' #", 9),
+    ("a!", 1),
+    ("'a''", 0),
+    ("1\n:", 2),
+];
+
+fn are(found: &[Token], wanted: &[(TokenKind, u32, u32)]) -> bool {
+    if found.len() != wanted.len() {
+        return false;
     }
-    Ok(())
+    for (token, (kind, from, to)) in found.iter().zip(wanted) {
+        if token.kind != *kind || token.from != *from || token.to != *to {
+            return false;
+        }
+    }
+    true
+}
+
+fn has_tokens(alloc: Global, text: &str, wanted: &[(TokenKind, u32, u32)]) -> bool {
+    if text.len() > 1000 {
+        return false;
+    }
+    match tokens(alloc, text) {
+        Ok(found) => are(found.as_slice(), wanted),
+        Err(_) => false,
+    }
+}
+
+fn fault_of(alloc: Global, text: &str) -> Option<u32> {
+    if text.len() > 1000 {
+        return None;
+    }
+    match tokens(alloc, text) {
+        Err(LexFault::Lexical { place }) => Some(place),
+        _ => None,
+    }
 }
 
 #[test]
-fn faults_have_their_places(rt: HostRuntime) {
-    let alloc = rt.alloc();
-    for (text, wanted) in [
-        ("a ? b", 2),
-        ("SELECT tint '[1@2001", 12),
-        ("'", 0),
-        ("é", 0),
-        ("x = 'é' #", 9),
-        ("a!", 1),
-        ("'a''", 0),
-        ("1\n:", 2),
-    ] {
-        assert!(rt; text.len() < 1000);
-        let Err(LexFault::Lexical { place }) = tokens(alloc, text) else {
-            panic!(rt; "{text}");
-        };
-        assert_eq!(rt; place, wanted, "{text}");
+fn texts_have_their_tokens_and_faults(rt: HostRuntime) -> Result<(), Fail> {
+    for (text, wanted) in &TEXTS {
+        assert!(rt; has_tokens(rt.alloc(), text, wanted), "{text}");
     }
+    for (text, place) in &FAULTS {
+        assert_eq!(rt; fault_of(rt.alloc(), text), Some(*place), "{text}");
+    }
+    tokens_are_laid();
+    faults_are_stuck();
+    tokens_are_in_order();
+    Ok(())
 }
 
 // A text of the greatest length that a script may have.
@@ -135,11 +140,4 @@ fn a_long_text_takes_seconds_at_most(rt: HostRuntime) -> Result<(), Fail> {
     let found = tokens(rt.alloc(), text.as_str())?;
     assert_eq!(rt; found.len(), 5 * 524288 + 1);
     Ok(())
-}
-
-#[test]
-fn laws_are_called() {
-    tokens_are_laid();
-    faults_are_stuck();
-    tokens_are_in_order();
 }

@@ -1,14 +1,14 @@
 // Operators on step values, called by hand: their operands are read from texts, and what they give is printed. `Dn` stands
 // for the start of the n-th day of January 2001. Every answer is worked out by hand.
 
-use mob_arith::{and, join_text, minus, not, or, plus};
+use mob_arith::{and, join_text, minus, not, or, plus, times_const, times_step};
 use mob_ast::SqlType;
 use mob_compare::{compare, when_true};
 use mob_frac::Frac;
 use mob_list::text::Text;
 use mob_literal::{read_value, write_value};
 use mob_scalar::Epoch;
-use mob_slice::{Formula, Moving, OpFault, Operand, Rel, Steady};
+use mob_slice::{BaseValue, Formula, Moving, OpFault, Operand, Ranked, Rel, Steady};
 use mob_span::SpanSet;
 use mob_value::Value;
 use std::alloc::{AllocError, Global};
@@ -75,20 +75,41 @@ fn prints(alloc: Global, value: Value, wanted: &str) -> Option<bool> {
     }
 }
 
-// Whether the sum of two values is nowhere.
-fn is_nowhere(alloc: Global, x: &str, y: &str) -> Option<bool> {
+// The sum of two values; nowhere where it has no value.
+fn sum(alloc: Global, x: &str, y: &str) -> Option<Option<Moving<Steady<Frac>>>> {
     let a = tint(alloc, x)?;
     let b = tint(alloc, y)?;
-    let sum = plus(alloc, Operand::Moving(&a), Operand::Moving(&b)).ok()?;
-    Some(sum.is_none())
+    plus(alloc, Operand::Moving(&a), Operand::Moving(&b)).ok()
 }
 
-// Whether a value less a number is the value of a text.
+fn is_sum(alloc: Global, x: &str, y: &str, wanted: &str) -> Option<bool> {
+    prints(alloc, Value::MovingInt(sum(alloc, x, y)??), wanted)
+}
+
+fn is_sum_of(alloc: Global, k: i64, x: &str, wanted: &str) -> Option<bool> {
+    let a = Frac::new(k, 1).ok()?;
+    let b = tint(alloc, x)?;
+    let sum = plus(alloc, Operand::Fixed(&a), Operand::Moving(&b)).ok()??;
+    prints(alloc, Value::MovingInt(sum), wanted)
+}
+
 fn is_difference(alloc: Global, x: &str, k: i64, wanted: &str) -> Option<bool> {
     let a = tint(alloc, x)?;
     let b = Frac::new(k, 1).ok()?;
     let difference = minus(alloc, Operand::Moving(&a), Operand::Fixed(&b)).ok()??;
     prints(alloc, Value::MovingInt(difference), wanted)
+}
+
+fn is_multiple(alloc: Global, x: &str, k: i64, wanted: &str) -> Option<bool> {
+    let a = tint(alloc, x)?;
+    let b = Frac::new(k, 1).ok()?;
+    prints(alloc, Value::MovingInt(times_const(alloc, &a, &b).ok()?), wanted)
+}
+
+fn is_product(alloc: Global, x: &str, y: &str, wanted: &str) -> Option<bool> {
+    let a = tint(alloc, x)?;
+    let b = tint(alloc, y)?;
+    prints(alloc, Value::MovingInt(times_step(alloc, &a, &b).ok()??), wanted)
 }
 
 // The formula of which a part does not fit in the sum of a value and a number.
@@ -102,12 +123,17 @@ fn passed(alloc: Global, x: &str, k: i64) -> Option<Formula> {
 }
 
 #[test]
-fn sums_and_differences(rt: HostRuntime) -> Result<(), Fail> {
+fn arithmetic_at_each_instant(rt: HostRuntime) -> Result<(), Fail> {
     let alloc = rt.alloc();
-    let nowhere = is_nowhere(alloc, "[1@D1, 1@D2)", "[1@D2, 1@D3]");
-    assert_eq!(rt; nowhere, Some(true));
+    let (two, three) = ("[2@D1, 2@D2]", "[3@D1, 3@D2]");
+    let nowhere = sum(alloc, "[1@D1, 1@D2)", "[1@D2, 1@D3]").ok_or("memory")?;
+    assert!(rt; nowhere.is_none());
+    assert_eq!(rt; is_sum(alloc, two, three, "[5@D1, 5@D2]"), Some(true));
+    assert_eq!(rt; is_sum_of(alloc, 2, three, "[5@D1, 5@D2]"), Some(true));
     let fits = "[4611686018427387902@D1, 4611686018427387902@D2]";
     assert_eq!(rt; is_difference(alloc, LARGEST, 1, fits), Some(true));
+    assert_eq!(rt; is_multiple(alloc, three, -2, "[-6@D1, -6@D2]"), Some(true));
+    assert_eq!(rt; is_product(alloc, three, two, "[6@D1, 6@D2]"), Some(true));
     assert_eq!(rt; passed(alloc, LARGEST, 1), Some(Formula::F2));
     Ok(())
 }
@@ -152,6 +178,34 @@ fn logic_and_joined_texts(rt: HostRuntime) -> Result<(), Fail> {
     Ok(())
 }
 
+// Whether a comparison of a temporal value with a base value is this text.
+fn is_test<B: BaseValue + Ranked + Drop>(
+    alloc: Global,
+    a: &Moving<Steady<B>>,
+    rel: Rel,
+    b: &B,
+    wanted: &str,
+) -> Option<bool> {
+    let truths = compare(alloc, Operand::Moving(a), Operand::Fixed(b), rel).ok()??;
+    prints(alloc, Value::MovingBool(truths), wanted)
+}
+
+fn is_number_test(alloc: Global, x: &str, rel: Rel, y: &str, wanted: &str) -> Option<bool> {
+    let a = tint(alloc, x)?;
+    let b = tint(alloc, y)?;
+    let truths = compare(alloc, Operand::Moving(&a), Operand::Moving(&b), rel).ok()??;
+    prints(alloc, Value::MovingBool(truths), wanted)
+}
+
+fn is_text_test(alloc: Global, x: &str, rel: Rel, y: &str, wanted: &str) -> Option<bool> {
+    let b = Text::from_string(String::from_str(alloc, y).ok()?);
+    is_test(alloc, &ttext(alloc, x)?, rel, &b, wanted)
+}
+
+fn is_truth_test(alloc: Global, x: &str, rel: Rel, y: bool, wanted: &str) -> Option<bool> {
+    is_test(alloc, &tbool(alloc, x)?, rel, &y, wanted)
+}
+
 // When a value is above a number.
 fn above(alloc: Global, x: &str, k: i64) -> Option<SpanSet> {
     let a = tint(alloc, x)?;
@@ -169,8 +223,15 @@ fn holds(alloc: Global, set: &SpanSet, day: &str) -> Option<bool> {
 }
 
 #[test]
-fn when_a_number_is_above_another(rt: HostRuntime) -> Result<(), Fail> {
+fn comparisons_at_each_instant(rt: HostRuntime) -> Result<(), Fail> {
     let alloc = rt.alloc();
+    let (three, two) = ("[3@D1, 3@D2]", "[2@D1, 2@D2]");
+    let (always, never) = ("[t@D1, t@D2]", "[f@D1, f@D2]");
+    assert_eq!(rt; is_number_test(alloc, three, Rel::Gt, two, always), Some(true));
+    assert_eq!(rt; is_number_test(alloc, three, Rel::Lt, three, never), Some(true));
+    assert_eq!(rt; is_text_test(alloc, "[a@D1, a@D2]", Rel::Le, "ab", always), Some(true));
+    assert_eq!(rt; is_truth_test(alloc, always, Rel::Ne, true, never), Some(true));
+    assert!(rt; above(alloc, two, 2).is_none());
     let times = above(alloc, "[1@D1, 3@D2, 1@D3]", 2).ok_or("true at some instant")?;
     assert_eq!(rt; holds(alloc, &times, "D1"), Some(false));
     assert_eq!(rt; holds(alloc, &times, "D2"), Some(true));

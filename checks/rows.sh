@@ -1,0 +1,128 @@
+#!/bin/sh
+# Runs each row of checks/rows/*.rows, alone in a fresh folder: a script, and what it must write, put into its notes and end with, to
+# the byte. Rows have an empty line between; a line of a row begins with its mark and a blank:
+#
+#   <  a line of the script. The lines have line feeds between, and none at the end. A row without one has the script of the row before.
+#   >  a line of the answer, with its line feed. A row without one writes nothing.
+#   !  the status, a blank and the note, which has a line feed. A row without one ends with 0 and notes nothing.
+#   words  words behind the program's name, with blanks between; word  a single one
+#   file  a name, a blank and what is in the file of that name
+#   script, answer  the whole script or answer, without a line feed of its own
+#   ?  a row by itself: an expression, ` → ` and the field that SELECT of it shows
+#   #  a remark
+#
+# In `file`, `script` and `answer` stand `\n`, `\r`, `\\`, `\xHH` for a byte, and `\{N TEXT}` for N times a text.
+# `sh checks/rows.sh PROGRAM` takes a program that is there; without a word one is built.
+. "$(dirname "$0")/common"
+
+# Cuts one file of rows into files NUMBER.script, NUMBER.words, NUMBER.file.NAME, NUMBER.answer, NUMBER.note, NUMBER.status and
+# NUMBER.place, the line at which the row begins.
+cut_rows() {
+    LC_ALL=C awk -v folder="$2" '
+    function put(kind, text) { ORS = ""; print text > (folder "/" number "." kind); close(folder "/" number "." kind) }
+    function add(kind, text) { ORS = ""; print text >> (folder "/" number "." kind); close(folder "/" number "." kind) }
+    function times(count, text,   made) {
+        made = ""
+        while (count > 0) {
+            if (count % 2 == 1) made = made text
+            text = text text
+            count = int(count / 2)
+        }
+        return made
+    }
+    function hex(digit) { return index("0123456789ABCDEF", toupper(digit)) - 1 }
+    function said(text,   made, at, mark, inner) {
+        made = ""
+        while ((at = index(text, "\\")) > 0) {
+            made = made substr(text, 1, at - 1)
+            mark = substr(text, at + 1, 1)
+            text = substr(text, at + 2)
+            if (mark == "n") made = made "\n"
+            else if (mark == "r") made = made "\r"
+            else if (mark == "\\") made = made "\\"
+            else if (mark == "x") {
+                made = made sprintf("%c", 16 * hex(substr(text, 1, 1)) + hex(substr(text, 2, 1)))
+                text = substr(text, 3)
+            } else if (mark == "{") {
+                inner = substr(text, 1, index(text, "}") - 1)
+                text = substr(text, length(inner) + 2)
+                at = index(inner, " ")
+                made = made times(substr(inner, 1, at - 1) + 0, substr(inner, at + 1))
+            }
+        }
+        return made text
+    }
+    function begin() {
+        if (inside) return
+        inside = 1
+        number++
+        lines = 0
+        put("place", FNR "")
+        put("status", "0")
+        put("answer", "")
+        put("note", "")
+        put("words", "")
+    }
+    function finish() {
+        if (inside) put("script", script)
+        inside = 0
+    }
+    /^$/ { finish(); next }
+    /^#/ { next }
+    { begin(); mark = $1; rest = substr($0, length(mark) + 2) }
+    mark == "<" { script = lines == 0 ? rest : script "\n" rest; lines++ }
+    mark == ">" { add("answer", rest "\n") }
+    mark == "!" { put("status", $2); put("note", substr(rest, length($2) + 2) "\n") }
+    mark == "words" { for (i = 2; i <= NF; i++) add("words", $i "\n") }
+    mark == "word" { add("words", rest "\n") }
+    mark == "file" { put("file." $2, said(substr(rest, length($2) + 2))) }
+    mark == "script" { script = said(rest) }
+    mark == "answer" { put("answer", said(rest)) }
+    mark == "?" {
+        at = index(rest, " → ")
+        script = "SELECT " substr(rest, 1, at - 1) ";"
+        put("answer", "c1\n" substr(rest, at + length(" → ")) "\n(1 rows)\n")
+        finish()
+    }
+    END { finish(); print number + 0 > "/dev/stdout" }' "$1"
+}
+
+# Runs the row of a number of a folder, and leaves what it writes in `answer` and `note` of the work folder and its status in `status`.
+run_row() {
+    rm -rf "$work/here"
+    mkdir "$work/here"
+    for file in "$1.file."*; do
+        [ ! -f "$file" ] || cp "$file" "$work/here/${file#"$1.file."}"
+    done
+    set -- "$1"
+    while IFS= read -r word; do
+        set -- "$@" "$word"
+    done < "$1.words"
+    row=$1
+    shift
+    status=0
+    (cd "$work/here" && "$program" "$@" < "$row.script") > "$work/answer" 2> "$work/note" || status=$?
+}
+
+failed=0
+tried=0
+for rows in checks/rows/*.rows; do
+    cut=$work/$(basename "$rows")
+    mkdir "$cut"
+    count=$(cut_rows "$rows" "$cut")
+    number=0
+    while [ "$number" -lt "$count" ]; do
+        number=$((number + 1))
+        tried=$((tried + 1))
+        row=$cut/$number
+        run_row "$row"
+        if ! cmp -s "$work/answer" "$row.answer" || ! cmp -s "$work/note" "$row.note" || [ "$status" != "$(cat "$row.status")" ]; then
+            echo "$rows:$(cat "$row.place"): FAILED with status $status; then what it wrote and noted, against what is wanted"
+            diff "$work/answer" "$row.answer" | head -20 || true
+            diff "$work/note" "$row.note" | head -20 || true
+            failed=$((failed + 1))
+        fi
+    done
+done
+echo "rows: $tried tried, $failed failed"
+[ "$failed" = 0 ]
