@@ -3,9 +3,9 @@ use Rattle.std.specs.Prelude.{IfOk}
 use Rattle.std.specs.List.{AllByRecursion}
 use Rattle.std.proofs.Common.{◌≡◌, ◌∙◌, refl, sym, ap, subst, ℕ, List, [], ◌∷◌, ◌++◌, map, append_assoc, append-nil, Result, Ok, Err}
 use Rattle.std.proofs.lemmas.List.{map-append}
-use Rattle.mob_typing.specs.declared.typed.ConstText.{ConstText}
-use Rattle.mob_typing.specs.Answers.{Mistake, ◌>>=◌}
-use Rattle.mob_typing.proofs.Rising.{each_both}
+use Rattle.mob_typed.specs.declared.typed.ConstText.{ConstText}
+use Rattle.mob_expression.specs.Answers.{Mistake, ◌>>=◌}
+use Rattle.mob_typed.proofs.Rising.{each_both}
 use Rattle.mob_grammar.specs.Places.{IsWithin, nothing, same}
 use Rattle.mob_grammar.proofs.Within.{within_both, within_trans}
 

@@ -11,12 +11,12 @@ use Rattle.mob_ast.specs.Trees.{Tree, tree, Trees, none as no_trees, more as mor
 use Rattle.mob_operators.specs.declared.operator.Op.TheVariants as op
 use Rattle.mob_operators.specs.declared.operator.Form.TheVariants as form
 use Rattle.mob_operators.specs.Table.{is_irrational}
-use Rattle.mob_typing.specs.declared.typed.ConstText.{ConstText}
-use Rattle.mob_typing.specs.Trees.{TypedTree, typed, none, more}
-use Rattle.mob_typing.specs.Answers.{Mistake, ◌>>=◌, unless, found}
-use Rattle.mob_typing.specs.Scopes.{ScopeParts}
-use Rattle.mob_typing.specs.Words.{type_named, literal_type, number_type}
-use Rattle.mob_typing.specs.Expressions.{constant, column_named, lone_string, cast_of_string, typed_before_operands, finished, or_later, typed_expression, typed_operands}
+use Rattle.mob_typed.specs.declared.typed.ConstText.{ConstText}
+use Rattle.mob_typed.specs.Trees.{TypedTree, typed, none, more}
+use Rattle.mob_expression.specs.Answers.{Mistake, ◌>>=◌, unless, found}
+use Rattle.mob_expression.specs.Scopes.{ScopeParts}
+use Rattle.mob_expression.specs.Words.{type_named, literal_type, number_type}
+use Rattle.mob_expression.specs.Expressions.{constant, column_named, lone_string, cast_of_string, typed_before_operands, finished, or_later, typed_expression, typed_operands}
 use Rattle.mob_grammar.specs.Places.{IsWithin, nothing, same, literal_place, tree_places, trees_places}
 use Rattle.mob_grammar.proofs.Within.{within_all, within_back}
 use Rattle.mob_accept.proofs.Adds.{Adds, adds_none, adds_one, adds_within, Gathers, guard, gathers_within, bind, only}

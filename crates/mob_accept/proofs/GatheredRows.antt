@@ -11,12 +11,14 @@ use Rattle.mob_ast.specs.declared.expression.Node.{Node}
 use Rattle.mob_ast.specs.declared.expression.Node.TheVariants as node
 use Rattle.mob_ast.specs.Trees.{Tree, tree, Trees, none as no_trees, more as more_trees, RowParts}
 use Rattle.mob_operators.specs.Lookup.{same_type}
-use Rattle.mob_typing.specs.declared.typed.ConstText.{ConstText}
-use Rattle.mob_typing.specs.Answers.{◌>>=◌, unless, found}
-use Rattle.mob_typing.specs.Names.{ColumnList, NameLists, table_of}
-use Rattle.mob_typing.specs.Words.{literal_type}
-use Rattle.mob_typing.specs.Expressions.{is_signed}
-use Rattle.mob_typing.specs.Statements.{new_rows, row_constant, lone_number, signed_value, bool_value, typed_value, node_value, tree_value, row_values, typed_row, typed_rows, inserted}
+use Rattle.mob_typed.specs.declared.typed.ConstText.{ConstText}
+use Rattle.mob_expression.specs.Answers.{◌>>=◌, unless, found}
+use Rattle.mob_typed.specs.Statements.{ColumnList}
+use Rattle.mob_typing.specs.Names.{NameLists, table_of}
+use Rattle.mob_expression.specs.Words.{literal_type}
+use Rattle.mob_expression.specs.Expressions.{is_signed}
+use Rattle.mob_typed.specs.Statements.{new_rows}
+use Rattle.mob_typing.specs.Statements.{row_constant, lone_number, signed_value, bool_value, typed_value, node_value, tree_value, row_values, typed_row, typed_rows, inserted}
 use Rattle.mob_grammar.specs.Places.{IsWithin, nothing, other, same, literal_place, tree_places, trees_places, row_places}
 use Rattle.mob_grammar.proofs.Within.{within_all}
 use Rattle.mob_accept.proofs.Adds.{Adds, adds_none, adds_one, adds_within, Gathers, guard, gathers_within, bind, only}

@@ -4,12 +4,13 @@ use Rattle.std.specs.List.{AllByRecursion}
 use Rattle.std.proofs.Common.{◌≡◌, ◌≤◌, ◌+◌, ◌∙◌, arith, sym, ap, subst, inl, inr, ℕ, List, [], ◌∷◌, ◌++◌, append_assoc, append-nil, Result, Ok, Err}
 use Rattle.mob_ast.specs.declared.refusal.Refusal.{Refusal}
 use Rattle.mob_ast.specs.Trees.{StatementParts}
-use Rattle.mob_typing.specs.declared.typed.ConstText.{ConstText}
-use Rattle.mob_typing.specs.Answers.{Mistake}
+use Rattle.mob_typed.specs.declared.typed.ConstText.{ConstText}
+use Rattle.mob_expression.specs.Answers.{Mistake}
 use Rattle.mob_typing.specs.Names.{NameLists}
-use Rattle.mob_typing.specs.Statements.{Made, StatementOut, nothing, new_table, new_index, new_rows, rows_from, query, plan_of, ScriptOut, in_statement, or_refused, typed_statement, typed_from, no_names}
-use Rattle.mob_typing.specs.Written.{HasRisingRows, LiteralUpTo, Rises}
-use Rattle.mob_typing.proofs.Rising.{both_rise, each_both, each_on}
+use Rattle.mob_typing.specs.Statements.{Made, in_statement, or_refused, typed_statement, typed_from, no_names}
+use Rattle.mob_typed.specs.Statements.{StatementOut, nothing, new_table, new_index, new_rows, rows_from, query, plan_of, ScriptOut}
+use Rattle.mob_typed.specs.Written.{HasRisingRows, LiteralUpTo, Rises}
+use Rattle.mob_typed.proofs.Rising.{both_rise, each_both, each_on}
 use Rattle.mob_grammar.specs.Places.{statement_places, script_places}
 use Rattle.mob_grammar.proofs.Within.{within_all, within_back, within_front}
 use Rattle.mob_accept.specs.Numbers.{brackets_of}

@@ -4,13 +4,14 @@ use Rattle.std.specs.Prelude.{not}
 use Rattle.std.specs.List.{flat_map}
 use Rattle.mob_ast.specs.declared.refusal.Kind.TheVariants as kind
 use Rattle.mob_ast.specs.Trees.{Tree, ItemParts, every, one, KeyParts, SelectParts}
-use Rattle.mob_typing.specs.declared.typed.ConstText.{ConstText}
-use Rattle.mob_typing.specs.Trees.{TypedTree, type_of}
-use Rattle.mob_typing.specs.Answers.{Mistake, ◌>>=◌, unless}
-use Rattle.mob_typing.specs.Names.{ColumnList}
-use Rattle.mob_typing.specs.Scopes.{ScopeParts}
-use Rattle.mob_typing.specs.Expressions.{typed_expression}
-use Rattle.mob_typing.specs.Selects.{OutputLists, all_outputs, output_name, with_alias, with_item, with_items, condition, is_bool, tree_place, or_typed, aliased, is_key, typed_key, typed_keys, limit_of, no_outputs, from_tables, TypedSelectParts, typed_clauses, typed_select}
+use Rattle.mob_typed.specs.declared.typed.ConstText.{ConstText}
+use Rattle.mob_typed.specs.Trees.{TypedTree, type_of}
+use Rattle.mob_expression.specs.Answers.{Mistake, ◌>>=◌, unless}
+use Rattle.mob_typed.specs.Statements.{ColumnList}
+use Rattle.mob_expression.specs.Scopes.{ScopeParts}
+use Rattle.mob_expression.specs.Expressions.{typed_expression}
+use Rattle.mob_typing.specs.Selects.{OutputLists, all_outputs, output_name, with_alias, with_item, with_items, condition, is_bool, tree_place, or_typed, aliased, is_key, typed_key, typed_keys, limit_of, no_outputs, from_tables, typed_clauses, typed_select}
+use Rattle.mob_typed.specs.Selects.{TypedSelectParts}
 use Rattle.mob_grammar.specs.Places.{tree_places, item_places, condition_places, key_places, select_places}
 use Rattle.mob_accept.proofs.Adds.{Adds, adds_none, Gathers, guard, bind, only}
 use Rattle.mob_accept.proofs.GatheredExpressions.{expression_gathers}

@@ -15,13 +15,14 @@ use Rattle.mob_grammar.specs.Cuts.{StandsBehind, StandBehind}
 use Rattle.mob_grammar.proofs.Cuts.{places_are_cut, held_are_cut}
 use Rattle.mob_parse.specs.Refusals.{HasTokens, semicolons, place_of, Cause}
 use Rattle.mob_parse.specs.Tokens.{lexed}
-use Rattle.mob_typing.specs.declared.typed.ConstText.{ConstText}
-use Rattle.mob_typing.specs.Answers.{Mistake}
+use Rattle.mob_typed.specs.declared.typed.ConstText.{ConstText}
+use Rattle.mob_expression.specs.Answers.{Mistake}
 use Rattle.mob_typing.specs.Names.{NameLists}
-use Rattle.mob_typing.specs.Statements.{Made, StatementOut, ScriptOut, in_statement, or_refused, typed_statement, typed_from, no_names}
-use Rattle.mob_built.specs.Words.{statement_number}
+use Rattle.mob_typing.specs.Statements.{Made, in_statement, or_refused, typed_statement, typed_from, no_names}
+use Rattle.mob_typed.specs.Statements.{StatementOut, ScriptOut}
+use Rattle.mob_accept.specs.UnbuiltWords.{statement_number}
 use Rattle.mob_accept.specs.Numbers.{AreIn, TreesAreIn, brackets_of, RowsAreIn, TreesAreNumbered, TypingKeepsNumbers, TextIsNumbered, WrongTokensAreNumbered}
-use Rattle.mob_typing.proofs.Rising.{each_both, each_on}
+use Rattle.mob_typed.proofs.Rising.{each_both, each_on}
 use Rattle.mob_accept.proofs.Adds.{Adds, Belongs, Gathers, places_of}
 use Rattle.mob_accept.proofs.Ends.{behind_is, place_behind, semicolons_are}
 use Rattle.mob_accept.proofs.GatheredStatements.{AskedWithin, all_within, statement_gathers, statement_rows}

@@ -9,17 +9,22 @@ use Rattle.mob_ast.specs.declared.refusal.Kind.{Kind}
 use Rattle.mob_ast.specs.declared.refusal.Kind.TheVariants as kind
 use Rattle.mob_ast.specs.declared.refusal.Refusal.{Refusal}
 use Rattle.mob_ast.specs.Trees.{StatementParts, RowParts, empty, create_table, create_index, insert, copy, select, explain}
-use Rattle.mob_typing.specs.declared.typed.ConstText.{ConstText}
-use Rattle.mob_typing.specs.Answers.{Mistake, ◌>>=◌, unless, found}
-use Rattle.mob_typing.specs.Names.{ColumnList, NameLists, table_of, has_entry, has_name, column_of}
-use Rattle.mob_typing.specs.Words.{type_named}
-use Rattle.mob_typing.specs.Selects.{TypedSelectParts, typed_select}
-use Rattle.mob_typing.specs.Statements.{ScriptOut, StatementOut, nothing, new_table, new_rows, rows_from, query, plan_of, Made, with_column, with_columns, with_table, made_table, made_index, typed_rows, inserted, good_delimiter, copied, keeping, asked, in_statement, or_refused, typed_statement, typed_from, typed_script, no_names}
+use Rattle.mob_typed.specs.declared.typed.ConstText.{ConstText}
+use Rattle.mob_expression.specs.Answers.{Mistake, ◌>>=◌, unless, found}
+use Rattle.mob_typed.specs.Statements.{ColumnList}
+use Rattle.mob_typing.specs.Names.{NameLists, table_of}
+use Rattle.mob_expression.specs.Names.{has_entry, column_of}
+use Rattle.mob_operators.specs.Table.{is_one_of}
+use Rattle.mob_expression.specs.Words.{type_named}
+use Rattle.mob_typed.specs.Selects.{TypedSelectParts}
+use Rattle.mob_typing.specs.Selects.{typed_select}
+use Rattle.mob_typed.specs.Statements.{ScriptOut, StatementOut, nothing, new_table, new_rows, rows_from, query, plan_of}
+use Rattle.mob_typing.specs.Statements.{Made, with_column, with_columns, with_table, made_table, made_index, typed_rows, inserted, good_delimiter, copied, keeping, asked, in_statement, or_refused, typed_statement, typed_from, typed_script, no_names}
 use Rattle.mob_load.specs.Checks.{CheckParts, check_seen, literal, Checkpoint, checkpoints_of, checkpoints_from, stands_before, checks_up_to, in_order, checks_of}
 use Rattle.mob_load.specs.declared.check.Check.{Check}
 use Rattle.mob_load.specs.Loads.{Loaded, nothing_loaded, with_made_table as add_table, IsNarrow, AreNarrow, HasNarrow, columns_or_none}
 use Rattle.mob_load.proofs.EachMark.{each_mark}
-use Rattle.mob_typing.proofs.Rising.{each_both}
+use Rattle.mob_typed.proofs.Rising.{each_both}
 
 -- what holds of each value that an answer can be
 on_bind : {A B : Type 0} (P : B → Type 0) (a : Result A Mistake) (f : A → Result B Mistake) → ((x : A) → a ≡ Ok x → (y : B) → f x ≡ Ok y → P y) → (y : B) → (a >>= f) ≡ Ok y → P y
@@ -76,7 +81,7 @@ table_narrow names name columns =
 index_narrow : (names : NameLists) (name table column : Word) (m : Made) → made_index names name table column ≡ Ok m → NarrowMade m
 index_narrow names name table column =
     on_bind NarrowMade (found kind.UnknownName table.place (table_of names.tables table.text)) _ (λ t is.
-    on_bind NarrowMade (unless (has_name names.indexes name.text) kind.Duplicate name.place) _ (λ u passed.
+    on_bind NarrowMade (unless (is_one_of names.indexes name.text) kind.Duplicate name.place) _ (λ u passed.
     on_bind NarrowMade (found kind.UnknownName column.place (column_of t.1 column.text)) _ (λ c found.
     on_bind NarrowMade _ _ (λ v typed m is. on_value Mistake NarrowMade _ m is tt))))
 

@@ -5,7 +5,8 @@ use mob_ast::{
 };
 use mob_list::items::Items;
 use mob_list::text::Text;
-use mob_typing::{ConstText, Op, TExpr, Typed, TypedSelect, TypedStatement, type_script};
+use mob_typed::{ConstText, Op, TExpr, Typed, TypedSelect, TypedStatement};
+use mob_typing::type_script;
 use std::alloc::{AllocError, Global};
 use std::marker::{Send, Sync};
 use std::test::Fail;

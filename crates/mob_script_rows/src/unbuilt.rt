@@ -1,10 +1,12 @@
 //! Words, types and operators that are not built. The places are counted by hand.
 
 use mob_ast::{Cmp, Expr, Item, Node, Script, SelectTree, SqlType, Statement, TypeWord, Word};
-use mob_built::{first_unbuilt_operator, first_unbuilt_type, first_unbuilt_word, statement_at};
+use mob_accept::unbuilt_operators::first_unbuilt_operator;
+use mob_accept::unbuilt_types::first_unbuilt_type;
+use mob_accept::unbuilt_words::{first_unbuilt_word, statement_at};
 use mob_list::items::Items;
 use mob_list::text::Text;
-use mob_typing::{Op, TExpr, Typed, TypedSelect, TypedStatement};
+use mob_typed::{Op, TExpr, Typed, TypedSelect, TypedStatement};
 use std::alloc::{AllocError, Global};
 use std::test::Fail;
 

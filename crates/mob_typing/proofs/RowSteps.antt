@@ -5,13 +5,13 @@ use Rattle.std.proofs.lemmas.List.{drop_more}
 use Rattle.mob_ast.specs.declared.types.SqlType.{SqlType}
 use Rattle.mob_ast.specs.declared.expression.Expr.{Expr}
 use Rattle.mob_ast.specs.Trees.{tree_of}
-use Rattle.mob_typing.specs.declared.fault.Fault.{Fault}
-use Rattle.mob_typing.specs.declared.typed.ConstText.{ConstText}
-use Rattle.mob_typing.specs.Answers.{Mistake, ◌>>=◌, StopsTyping}
-use Rattle.mob_typing.specs.Names.{ColumnList}
+use Rattle.mob_expression.specs.declared.fault.Fault.{Fault}
+use Rattle.mob_typed.specs.declared.typed.ConstText.{ConstText}
+use Rattle.mob_expression.specs.Answers.{Mistake, ◌>>=◌, StopsTyping}
+use Rattle.mob_typed.specs.Statements.{ColumnList}
 use Rattle.mob_typing.specs.Statements.{tree_value, row_values}
-use Rattle.mob_typing.proofs.Matches.{drop_at}
-use Rattle.mob_typing.proofs.Wrongs.{fails_bind, fails_along}
+use Rattle.mob_expression.proofs.Matches.{drop_at}
+use Rattle.mob_expression.proofs.Wrongs.{fails_bind, fails_along}
 
 abbrev Values : Type 0
 Values = Result (List (Option ℕ) × List ConstText) Mistake

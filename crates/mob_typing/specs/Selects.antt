@@ -13,14 +13,16 @@ use Rattle.mob_ast.specs.declared.statement.FromTable.{FromTable}
 use Rattle.mob_ast.specs.Trees.{Tree, tree, ItemParts, every, one, KeyParts, SelectParts}
 use Rattle.mob_operators.specs.declared.operator.Op.TheVariants as op
 use Rattle.mob_operators.specs.Lookup.{has_type}
-use Rattle.mob_typing.specs.declared.typed.TExpr.{TExpr}
-use Rattle.mob_typing.specs.declared.typed.TypedSelect.{TypedSelect}
+use Rattle.mob_typed.specs.declared.typed.TExpr.{TExpr}
+use Rattle.mob_typed.specs.declared.typed.TypedSelect.{TypedSelect}
 use Rattle.mob_typing.specs.declared.outputs.Outputs.{Outputs}
-use Rattle.mob_typing.specs.Answers.{Mistake, ◌>>=◌, unless, found, TypingStep}
-use Rattle.mob_typing.specs.Names.{ColumnList, table_of, entry_from, has_entry}
-use Rattle.mob_typing.specs.Scopes.{SourceParts, ScopeParts}
-use Rattle.mob_typing.specs.Trees.{TypedTree, typed, none, type_of, typed_of}
-use Rattle.mob_typing.specs.Expressions.{typed_expression}
+use Rattle.mob_expression.specs.Answers.{Mistake, ◌>>=◌, unless, found, TypingStep}
+use Rattle.mob_typed.specs.Statements.{ColumnList}
+use Rattle.mob_typing.specs.Names.{table_of}
+use Rattle.mob_expression.specs.Names.{entry_from, has_entry}
+use Rattle.mob_expression.specs.Scopes.{SourceParts, ScopeParts}
+use Rattle.mob_typed.specs.Trees.{TypedTree, typed, none, type_of, typed_of}
+use Rattle.mob_expression.specs.Expressions.{typed_expression}
 
 -- The name that a table goes by in FROM. There are at most four tables, and no two go by one name. What stands at an
 -- earlier place comes first, and at one place a name that is there already comes before the limit.
@@ -36,10 +38,6 @@ from_table tables from f = found kind.UnknownName f.table.place (table_of tables
 abbrev pub from_tables : List (List ℕ × ColumnList) → List (List ℕ × SourceParts) → List FromTable → Result (List (List ℕ × SourceParts)) Mistake
 from_tables tables from [] = Ok from
 from_tables tables from (f ∷ fs) = from_table tables from f >>= λ more. from_tables tables more fs
-
--- a column of the answer: its expression and its name
-abbrev pub Output : Type 0
-Output = TypedTree × List ℕ
 
 -- the columns of a table of FROM as columns of the answer, the first of which has number k
 abbrev pub columns_of_table : ℕ → ℕ → ColumnList → ℕ → List Output
@@ -129,26 +127,6 @@ limit_value text = if is_limit text then Some (digits_value 10 text) else None
 abbrev pub limit_of : Option Word → Result (Option ℕ) Mistake
 limit_of None = Ok None
 limit_of (Some w) = found kind.BadCount w.place (limit_value w.text) >>= λ n. Ok (Some n)
-
--- a typed SELECT
-pub record TypedSelectParts : Type 0 where
-  pub distinct : Bool
-  pub items : List Output
-  pub from : List ℕ
-  pub names : List (List ℕ)
-  pub cond : Option TypedTree
-  pub keys : List (TypedTree × Bool)
-  pub limit : Option ℕ
-
-abbrev pub output_of : TExpr × List ℕ → Output
-output_of o = (typed_of o.0, o.1)
-
-abbrev pub key_seen : TExpr × Bool → TypedTree × Bool
-key_seen k = (typed_of k.0, k.1)
-
--- the program's typed SELECT as such a value
-abbrev pub select_seen : TypedSelect → TypedSelectParts
-select_seen s = record { distinct = s.distinct; items = map output_of s.items; from = s.from; names = s.names; cond = option_map typed_of s.cond; keys = map key_seen s.keys; limit = s.limit }
 
 -- the program's columns of the answer as such a value
 abbrev pub outputs_seen : Outputs → OutputLists

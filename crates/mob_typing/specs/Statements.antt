@@ -12,37 +12,22 @@ use Rattle.mob_ast.specs.declared.expression.Node.{Node}
 use Rattle.mob_ast.specs.declared.expression.Node.TheVariants as node
 use Rattle.mob_ast.specs.Trees.{Tree, tree, Trees, RowParts, StatementParts, empty, create_table, create_index, insert, copy, select, explain}
 use Rattle.mob_operators.specs.Lookup.{same_type}
-use Rattle.mob_typing.specs.declared.typed.ConstText.{ConstText}
-use Rattle.mob_typing.specs.declared.typed.TypedStatement.{TypedStatement}
-use Rattle.mob_typing.specs.declared.typed.TypedStatement.TheVariants as typed
-use Rattle.mob_typing.specs.declared.typed.Typed.{Typed}
-use Rattle.mob_typing.specs.declared.fault.Fault.{Fault}
-use Rattle.mob_typing.specs.declared.fault.Fault.TheVariants.{Wrong as Refused, NoMemory}
+use Rattle.mob_typed.specs.declared.typed.ConstText.{ConstText}
+use Rattle.mob_typed.specs.declared.typed.TypedStatement.{TypedStatement}
+use Rattle.mob_typed.specs.declared.typed.TypedStatement.TheVariants as typed
+use Rattle.mob_typed.specs.declared.typed.Typed.{Typed}
+use Rattle.mob_expression.specs.declared.fault.Fault.{Fault}
+use Rattle.mob_expression.specs.declared.fault.Fault.TheVariants.{Wrong as Refused, NoMemory}
 use Rattle.mob_ast.specs.Kinds.{no_memory}
-use Rattle.mob_typing.specs.Answers.{Mistake, refuse, ◌>>=◌, unless, found, TypingStep}
-use Rattle.mob_typing.specs.Names.{ColumnList, NameLists, column_of, table_of, has_name, has_entry}
-use Rattle.mob_typing.specs.Words.{type_named, literal_type}
-use Rattle.mob_typing.specs.Expressions.{only, is_signed}
-use Rattle.mob_typing.specs.Selects.{TypedSelectParts, typed_select, select_seen}
-
--- a typed statement as a plain value
-pub data StatementOut : Type 0 where
-  nothing : StatementOut
-  new_table : ℕ → List ℕ → ColumnList → StatementOut
-  new_index : ℕ → ℕ → List ℕ → StatementOut
-  new_rows : ℕ → List (List (Option ℕ)) → List ℕ → StatementOut
-  rows_from : ℕ → List ℕ → StatementOut
-  query : TypedSelectParts → StatementOut
-  plan_of : TypedSelectParts → StatementOut
-
-abbrev pub statement_seen : TypedStatement → StatementOut
-statement_seen typed.Empty = nothing
-statement_seen (typed.CreateTable t n cs) = new_table t n cs
-statement_seen (typed.CreateIndex t c n) = new_index t c n
-statement_seen (typed.Insert t rs ps) = new_rows t rs ps
-statement_seen (typed.Copy t f) = rows_from t f
-statement_seen (typed.Select s) = query (select_seen s)
-statement_seen (typed.Explain s) = plan_of (select_seen s)
+use Rattle.mob_expression.specs.Answers.{Mistake, refuse, ◌>>=◌, unless, found, TypingStep}
+use Rattle.mob_typed.specs.Statements.{ColumnList}
+use Rattle.mob_typing.specs.Names.{NameLists, table_of}
+use Rattle.mob_expression.specs.Names.{column_of, has_entry}
+use Rattle.mob_operators.specs.Table.{is_one_of}
+use Rattle.mob_expression.specs.Words.{type_named, literal_type}
+use Rattle.mob_expression.specs.Expressions.{only, is_signed}
+use Rattle.mob_typed.specs.Selects.{TypedSelectParts, select_seen}
+use Rattle.mob_typing.specs.Selects.{typed_select}
 
 -- a new column: its name is new, there are at most 64, and its type is known
 abbrev pub with_column : ColumnList → Word × TypeWord → Result ColumnList Mistake
@@ -71,7 +56,7 @@ with_index names name = record { tables = names.tables; indexes = names.indexes 
 
 -- a new index: the table is there, the name is new, and the column is there and a tgeompoint
 abbrev pub made_index : NameLists → Word → Word → Word → Result Made Mistake
-made_index names name table column = found kind.UnknownName table.place (table_of names.tables table.text) >>= λ t. unless (has_name names.indexes name.text) kind.Duplicate name.place >>= λ _.
+made_index names name table column = found kind.UnknownName table.place (table_of names.tables table.text) >>= λ t. unless (is_one_of names.indexes name.text) kind.Duplicate name.place >>= λ _.
     found kind.UnknownName column.place (column_of t.1 column.text) >>= λ c. unless (not (same_type c.1 sql.TPoint)) kind.NoSuchOperator column.place >>= λ _.
     Ok (record { statement = new_index t.0 c.0 name.text; names = with_index names name.text })
 
@@ -157,11 +142,6 @@ typed_statement n names (copy table file delimiter) cs = keeping cs (copied name
 typed_statement n names (select s) cs = asked query names (typed_select names.tables n s cs)
 typed_statement n names (explain s) cs = asked plan_of names (typed_select names.tables n s cs)
 
--- a typed script: its statements and its constants
-pub record ScriptOut : Type 0 where
-  pub statements : List StatementOut
-  pub consts : List ConstText
-
 -- what is wrong in a statement is so in the script, with the statement's number
 abbrev pub in_statement : ℕ → Result (Made × List ConstText) Mistake → Result (Made × List ConstText) Refusal
 in_statement n (Ok r) = Ok r
@@ -182,9 +162,6 @@ no_names = record { tables = []; indexes = [] }
 -- The typed script, or the first refusal: statement by statement, and within one in the order of what it is made of.
 abbrev pub typed_script : List StatementParts → Result ScriptOut Refusal
 typed_script ss = typed_from 1 no_names [] ss []
-
-abbrev pub script_seen : Typed → ScriptOut
-script_seen t = record { statements = map statement_seen t.statements; consts = t.consts }
 
 -- the program's refusal is this one, or want of memory
 abbrev pub IsTypingRefusal : Refusal → Result ScriptOut Refusal → Type 0

@@ -2,16 +2,18 @@
 ghost use Rattle.std.specs.Prelude.{◌≡◌, [], length, map, option_map, IfOk};
 ghost use Rattle.mob_ast.specs.Trees.{tree_of, trees_of, row_of};
 ghost use Rattle.mob_operators.specs.Lookup.{same_type};
-ghost use Rattle.mob_typing.specs.Answers.{AnswersAs, TypesTo};
-ghost use Rattle.mob_typing.specs.Statements.{row_constant, lone_number, signed_value, bool_value, typed_value, node_value, tree_value, row_values, typed_row, typed_rows, inserted, good_delimiter, copied, statement_seen};
+ghost use Rattle.mob_expression.specs.Answers.{AnswersAs, TypesTo};
+ghost use Rattle.mob_typing.specs.Statements.{row_constant, lone_number, signed_value, bool_value, typed_value, node_value, tree_value, row_values, typed_row, typed_rows, inserted, good_delimiter, copied};
+ghost use Rattle.mob_typed.specs.Statements.{statement_seen};
 
-use crate::constants::only;
-use crate::fault::Fault;
-use crate::names::{Columns, Names};
-use crate::operators::is_signed;
-use crate::scope::number;
-use crate::typed::{ConstText, TypedStatement};
-use crate::words::literal_type;
+use mob_expression::constants::only;
+use mob_expression::fault::Fault;
+use crate::names::Names;
+use mob_expression::column_list::Columns;
+use mob_expression::operators::is_signed;
+use mob_expression::scope::number;
+use mob_typed::{ConstText, TypedStatement};
+use mob_expression::words::literal_type;
 use mob_ast::{Expr, Kind, Node, Quoted, Row, SqlType, TypeWord, Word};
 use mob_list::items::Items;
 use mob_list::text::Text;
@@ -40,7 +42,7 @@ fn noted(
 }
 
 // The digits of a number and their place, where the operands are a number alone.
-#[tactic(auto, using(crate::proofs::TreeFacts::tree_is))]
+#[tactic(auto, using(mob_expression::proofs::TreeFacts::tree_is))]
 fn lone_number(args: &[Expr]) -> Option<(&str, u32)>
     ensures { option_map (λ r. (r.0.now, r.1)) result ≡ lone_number (trees_of args.now) }
 {

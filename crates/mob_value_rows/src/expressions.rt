@@ -11,7 +11,7 @@ use mob_operators::Op;
 use mob_scalar::Epoch;
 use mob_slice::{BaseValue, Formula, Moving, Slice, Steady};
 use mob_span::Span;
-use mob_typing::TExpr;
+use mob_typed::TExpr;
 use mob_value::{Store, Table, Value};
 use std::alloc::{AllocError, Global};
 use std::test::Fail;

@@ -1,7 +1,8 @@
 use Rattle.std.proofs.Common.{◌≡◌, [], drop, map}
 use Rattle.mob_ast.specs.Trees.{key_of}
-use Rattle.mob_typing.specs.Scopes.{scope_of}
-use Rattle.mob_typing.specs.Selects.{outputs_seen, typed_keys, key_seen}
+use Rattle.mob_expression.specs.Scopes.{scope_of}
+use Rattle.mob_typing.specs.Selects.{outputs_seen, typed_keys}
+use Rattle.mob_typed.specs.Selects.{key_seen}
 use Rattle.mob_typing.proofs.keys.typed_keys.Given as goal
 
 abbrev pub invariant-loop-key : goal.invariant-loop-key

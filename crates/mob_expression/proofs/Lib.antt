@@ -1,0 +1,5 @@
+pub mod Entries
+pub mod ExpressionSteps
+pub mod Matches
+pub mod TreeFacts
+pub mod Wrongs
