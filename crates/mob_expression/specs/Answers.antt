@@ -1,5 +1,5 @@
 -- What typing answers: a value and the constants so far, or what is wrong first.
-use Rattle.std.specs.Prelude.{◌≡◌, ℕ, List, Bool, Option, Some, None, Result, Ok, Err, if◌then◌else◌}
+use Rattle.std.specs.Prelude.{◌≡◌, ℕ, List, ◌∷◌, Bool, Option, Some, None, Result, Ok, Err, if◌then◌else◌}
 use Rattle.mob_ast.specs.declared.refusal.Kind.{Kind}
 use Rattle.mob_typed.specs.declared.typed.ConstText.{ConstText}
 use Rattle.mob_expression.specs.declared.fault.Fault.{Fault}
@@ -31,6 +31,10 @@ found kind place (Some x) = Ok x
 -- a step takes the constants so far, and gives a value and the constants after it
 abbrev pub TypingStep : Type 0 → Type 0
 TypingStep A = List ConstText → Result (A × List ConstText) Mistake
+
+-- the first of a list, and then the others
+abbrev pub one_more : {A : Type 0} → TypingStep A → TypingStep (List A) → TypingStep (List A)
+one_more first others cs = first cs >>= λ r. others r.1 >>= λ s. Ok (r.0 ∷ s.0, s.1)
 
 -- what the program answers where the definition reads so; want of memory is free
 abbrev pub StopsTyping : {Y : Type 0} → Fault → Result Y Mistake → Type 0

@@ -18,7 +18,7 @@ use Rattle.mob_operators.specs.declared.operator.Form.TheVariants as form
 use Rattle.mob_operators.specs.Lookup.{same_type, found_in, has_function}
 use Rattle.mob_operators.specs.Table.{table, is_irrational}
 use Rattle.mob_typed.specs.Trees.{TypedTree, typed, none, more, typed_trees, types_of}
-use Rattle.mob_expression.specs.Answers.{Mistake, refuse, ◌>>=◌, unless, found, TypingStep}
+use Rattle.mob_expression.specs.Answers.{Mistake, refuse, ◌>>=◌, unless, found, TypingStep, one_more}
 use Rattle.mob_expression.specs.Names.{column_of, entry_from}
 use Rattle.mob_expression.specs.Scopes.{SourceParts, ScopeParts}
 use Rattle.mob_expression.specs.declared.scope.Found.{Found}
@@ -175,9 +175,9 @@ or_later later (Some t) cs = Ok (t, cs)
 -- The typed tree of an expression and the constants after it, or what is wrong first.
 unfoldable mutual
   pub typed_expression : ScopeParts → Tree → TypingStep TypedTree
-  typed_expression s (tree n p args) cs = typed_before_operands s n p args cs >>= λ e. or_later (λ ds. typed_operands s args [] ds >>= λ r. finished n p args r.0 >>= λ t. Ok (t, r.1)) e.0 e.1
+  typed_expression s (tree n p args) cs = typed_before_operands s n p args cs >>= λ e. or_later (λ ds. typed_operands s args ds >>= λ r. finished n p args r.0 >>= λ t. Ok (t, r.1)) e.0 e.1
 
-  -- operands from left to right, behind those that are typed already
-  pub typed_operands : ScopeParts → Trees → List TypedTree → TypingStep (List TypedTree)
-  typed_operands s no_trees ts cs = Ok (ts, cs)
-  typed_operands s (more_trees t us) ts cs = typed_expression s t cs >>= λ r. typed_operands s us (ts ++ r.0 ∷ []) r.1
+  -- operands from left to right
+  pub typed_operands : ScopeParts → Trees → TypingStep (List TypedTree)
+  typed_operands s no_trees cs = Ok ([], cs)
+  typed_operands s (more_trees t us) cs = one_more (typed_expression s t) (typed_operands s us) cs

@@ -1,3 +1,4 @@
 pub mod Limits
 pub mod Pushed
 pub mod RowSteps
+pub mod ScriptSteps

@@ -16,7 +16,7 @@ use Rattle.mob_operators.specs.Lookup.{has_type}
 use Rattle.mob_typed.specs.declared.typed.TExpr.{TExpr}
 use Rattle.mob_typed.specs.declared.typed.TypedSelect.{TypedSelect}
 use Rattle.mob_typing.specs.declared.outputs.Outputs.{Outputs}
-use Rattle.mob_expression.specs.Answers.{Mistake, ◌>>=◌, unless, found, TypingStep}
+use Rattle.mob_expression.specs.Answers.{Mistake, ◌>>=◌, unless, found, TypingStep, one_more}
 use Rattle.mob_typed.specs.Statements.{ColumnList}
 use Rattle.mob_typing.specs.Names.{table_of}
 use Rattle.mob_expression.specs.Names.{entry_from, has_entry}
@@ -112,10 +112,10 @@ is_key ty = has_type (sql.Bool ∷ sql.Int ∷ sql.Numeric ∷ sql.Text ∷ sql.
 abbrev pub typed_key : ScopeParts → OutputLists → KeyParts → TypingStep (TypedTree × Bool)
 typed_key s o k cs = or_typed s k.value (aliased o k.value) cs >>= λ r. unless (not (is_key (type_of r.0))) kind.NoSuchOperator (tree_place k.value) >>= λ _. Ok ((r.0, k.descending), r.1)
 
--- the keys in order, behind those that are typed already
-abbrev pub typed_keys : ScopeParts → OutputLists → List (TypedTree × Bool) → List KeyParts → TypingStep (List (TypedTree × Bool))
-typed_keys s o keys [] cs = Ok (keys, cs)
-typed_keys s o keys (k ∷ ks) cs = typed_key s o k cs >>= λ r. typed_keys s o (keys ++ r.0 ∷ []) ks r.1
+-- the keys in order
+abbrev pub typed_keys : ScopeParts → OutputLists → List KeyParts → TypingStep (List (TypedTree × Bool))
+typed_keys s o [] cs = Ok ([], cs)
+typed_keys s o (k ∷ ks) cs = one_more (typed_key s o k) (typed_keys s o ks) cs
 
 -- a LIMIT has digits alone, 1 to 18 of them
 abbrev pub is_limit : List ℕ → Bool
@@ -138,7 +138,7 @@ no_outputs = record { columns = []; aliases = [] }
 -- the clauses behind FROM, which sees these tables
 abbrev pub typed_clauses : ScopeParts → SelectParts → TypingStep TypedSelectParts
 typed_clauses scope s cs =
-    with_items scope no_outputs s.items cs >>= λ o. condition scope s.cond o.1 >>= λ c. typed_keys scope o.0 [] s.keys c.1 >>= λ k. limit_of s.limit >>= λ l.
+    with_items scope no_outputs s.items cs >>= λ o. condition scope s.cond o.1 >>= λ c. typed_keys scope o.0 s.keys c.1 >>= λ k. limit_of s.limit >>= λ l.
     Ok (record { distinct = s.distinct; items = o.0.columns; from = map (λ t. t.1.table) scope.from; names = map (λ t. t.0) scope.from; cond = c.0; keys = k.0; limit = l }, k.1)
 
 -- The typed SELECT of the statement of this number, or what is wrong first.

@@ -19,7 +19,7 @@ use Rattle.mob_typed.specs.declared.typed.Typed.{Typed}
 use Rattle.mob_expression.specs.declared.fault.Fault.{Fault}
 use Rattle.mob_expression.specs.declared.fault.Fault.TheVariants.{Wrong as Refused, NoMemory}
 use Rattle.mob_ast.specs.Kinds.{no_memory}
-use Rattle.mob_expression.specs.Answers.{Mistake, refuse, ◌>>=◌, unless, found, TypingStep}
+use Rattle.mob_expression.specs.Answers.{Mistake, refuse, ◌>>=◌, unless, found, TypingStep, one_more}
 use Rattle.mob_typed.specs.Statements.{ColumnList}
 use Rattle.mob_typing.specs.Names.{NameLists, table_of}
 use Rattle.mob_expression.specs.Names.{column_of, has_entry}
@@ -100,21 +100,22 @@ abbrev pub tree_value : ℕ → SqlType → Tree → TypingStep (Option ℕ)
 tree_value n ty (tree nd p args) cs = node_value n ty nd p args cs
 
 -- the values of a row, one for each column
-abbrev pub row_values : ℕ → ColumnList → List (Option ℕ) → List Tree → TypingStep (List (Option ℕ))
-row_values n [] done ts cs = Ok (done, cs)
-row_values n (c ∷ columns) done [] cs = Ok (done, cs)
-row_values n (c ∷ columns) done (t ∷ ts) cs = tree_value n c.1 t cs >>= λ r. row_values n columns (done ++ r.0 ∷ []) ts r.1
+abbrev pub row_values : ℕ → ColumnList → List Tree → TypingStep (List (Option ℕ))
+row_values n [] ts cs = Ok ([], cs)
+row_values n (c ∷ columns) [] cs = Ok ([], cs)
+row_values n (c ∷ columns) (t ∷ ts) cs = one_more (tree_value n c.1 t) (row_values n columns ts) cs
 
 -- a row has as many values as the table has columns
 abbrev pub typed_row : ℕ → ColumnList → RowParts → TypingStep (List (Option ℕ))
-typed_row n columns r cs = unless (not (length r.values == length columns)) kind.BadCount r.place >>= λ _. row_values n columns [] r.values cs
+typed_row n columns r cs = unless (not (length r.values == length columns)) kind.BadCount r.place >>= λ _. row_values n columns r.values cs
 
-abbrev pub typed_rows : ℕ → ColumnList → List (List (Option ℕ)) → List RowParts → TypingStep (List (List (Option ℕ)))
-typed_rows n columns done [] cs = Ok (done, cs)
-typed_rows n columns done (r ∷ rs) cs = typed_row n columns r cs >>= λ v. typed_rows n columns (done ++ v.0 ∷ []) rs v.1
+-- the rows in order
+abbrev pub typed_rows : ℕ → ColumnList → List RowParts → TypingStep (List (List (Option ℕ)))
+typed_rows n columns [] cs = Ok ([], cs)
+typed_rows n columns (r ∷ rs) cs = one_more (typed_row n columns r) (typed_rows n columns rs) cs
 
 abbrev pub inserted : ℕ → NameLists → Word → List RowParts → TypingStep Made
-inserted n names table rows cs = found kind.UnknownName table.place (table_of names.tables table.text) >>= λ t. typed_rows n t.1 [] rows cs >>= λ r.
+inserted n names table rows cs = found kind.UnknownName table.place (table_of names.tables table.text) >>= λ t. typed_rows n t.1 rows cs >>= λ r.
     Ok (record { statement = new_rows t.0 r.0 (map (λ row. row.place) rows); names = names }, r.1)
 
 -- the string behind DELIMITER is one comma
@@ -151,17 +152,21 @@ abbrev pub or_refused : {A B : Type 0} → Result A Refusal → (A → Result B 
 or_refused (Ok x) f = f x
 or_refused (Err e) f = Err e
 
--- the statements from the one of number n on, behind those that are typed already
-abbrev pub typed_from : ℕ → NameLists → List StatementOut → List StatementParts → List ConstText → Result ScriptOut Refusal
-typed_from n names done [] cs = Ok (record { statements = done; consts = cs })
-typed_from n names done (s ∷ ss) cs = or_refused (in_statement n (typed_statement n names s cs)) (λ r. typed_from (n + 1) r.0.names (done ++ r.0.statement ∷ []) ss r.1)
+-- a statement before those of a typed script
+abbrev pub put_statement : StatementOut → ScriptOut → ScriptOut
+put_statement s out = record { statements = s ∷ out.statements; consts = out.consts }
+
+-- the statements from the one of number n on: the first, and then the others with the names and the constants after it
+abbrev pub typed_from : ℕ → NameLists → List StatementParts → List ConstText → Result ScriptOut Refusal
+typed_from n names [] cs = Ok (record { statements = []; consts = cs })
+typed_from n names (s ∷ ss) cs = or_refused (in_statement n (typed_statement n names s cs)) (λ r. or_refused (typed_from (n + 1) r.0.names ss r.1) (λ out. Ok (put_statement r.0.statement out)))
 
 abbrev pub no_names : NameLists
 no_names = record { tables = []; indexes = [] }
 
 -- The typed script, or the first refusal: statement by statement, and within one in the order of what it is made of.
 abbrev pub typed_script : List StatementParts → Result ScriptOut Refusal
-typed_script ss = typed_from 1 no_names [] ss []
+typed_script ss = typed_from 1 no_names ss []
 
 -- the program's refusal is this one, or want of memory
 abbrev pub IsTypingRefusal : Refusal → Result ScriptOut Refusal → Type 0

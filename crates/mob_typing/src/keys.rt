@@ -1,5 +1,5 @@
 //! The keys of ORDER BY, the condition of WHERE and the number of LIMIT.
-ghost use Rattle.std.specs.Prelude.{◌≡◌, [], map, IfOk, option_map, slice_get};
+ghost use Rattle.std.specs.Prelude.{◌≡◌, map, IfOk, option_map, slice_get};
 ghost use Rattle.mob_ast.specs.Trees.{tree_of, key_of};
 ghost use Rattle.mob_expression.specs.Answers.{AnswersAs, TypesTo};
 ghost use Rattle.mob_expression.specs.Names.{entry_from};
@@ -160,7 +160,7 @@ pub fn typed_keys(
     outputs: &Outputs<'_>,
     keys: &[Key],
 ) -> Result<Items<(TExpr, bool)>, Fault>
-    ensures in_order { TypesTo (map key_seen) result consts.new (typed_keys (scope_of scope.now) (outputs_seen outputs.now) [] (map key_of keys.now) consts.old) }
+    ensures in_order { TypesTo (map key_seen) result consts.new (typed_keys (scope_of scope.now) (outputs_seen outputs.now) (map key_of keys.now) consts.old) }
 {
     let mut done = Items::new(alloc);
     for key in keys {

@@ -1,5 +1,5 @@
 //! INSERT and COPY.
-ghost use Rattle.std.specs.Prelude.{◌≡◌, [], length, map, option_map, IfOk};
+ghost use Rattle.std.specs.Prelude.{◌≡◌, length, map, option_map, IfOk};
 ghost use Rattle.mob_ast.specs.Trees.{tree_of, trees_of, row_of};
 ghost use Rattle.mob_operators.specs.Lookup.{same_type};
 ghost use Rattle.mob_expression.specs.Answers.{AnswersAs, TypesTo};
@@ -193,7 +193,7 @@ fn row_values(
     values: &[Expr],
 ) -> Result<Items<Option<u32>>, Fault>
     requires { length values.now ≡ length columns.now }
-    ensures { TypesTo (λ v. v) result consts.new (row_values statement columns.now [] (map tree_of values.now) consts.old) }
+    ensures { TypesTo (λ v. v) result consts.new (row_values statement columns.now (map tree_of values.now) consts.old) }
 {
     let mut done = Items::new(alloc);
     for (index, value) in values.iter().enumerate() {
@@ -231,7 +231,7 @@ fn typed_rows(
     columns: &Columns,
     rows: &[Row],
 ) -> Result<Items<Items<Option<u32>>>, Fault>
-    ensures { TypesTo (λ v. v) result consts.new (typed_rows statement columns.now [] (map row_of rows.now) consts.old) }
+    ensures { TypesTo (λ v. v) result consts.new (typed_rows statement columns.now (map row_of rows.now) consts.old) }
 {
     let mut done = Items::new(alloc);
     for row in rows {

@@ -8,6 +8,7 @@ use Rattle.mob_expression.specs.Answers.{◌>>=◌, AnswersAs}
 use Rattle.mob_expression.specs.Scopes.{scope_of}
 use Rattle.mob_typed.specs.Trees.{typed_of}
 use Rattle.mob_expression.specs.Expressions.{typed_before_operands, finished, typed_operands}
+use Rattle.mob_expression.proofs.Behind.{behind}
 use Rattle.mob_expression.proofs.ExpressionSteps.{early_fails, early_settles, operand_more, operand_fails, all_typed}
 use Rattle.mob_expression.proofs.expression.+type_expr.Goals as goal
 
@@ -35,7 +36,7 @@ returns-in_err-typed t c =
     record {
       typed = rw (p.1, p.2) (operand_fails s e cs xs c.deref-operand-items.ensures.value c.in_ok-done.field-0 c.early.new.consts
           (ap (λ ys. typed_before_operands s (out-Expr e).node (out-Expr e).place (trees_of ys) cs) back ∙ c.in_ok-done.ensures.settled) c.in_default.is c.in_err-typed.field-0.0 x rest ts c.loop-operand.consts
-          (c.loop-operand.invariant ∙ ap (λ ys. typed_operands s (trees_of ys) ts c.loop-operand.consts) here) c.in_err-typed.ensures.typed);
+          (c.loop-operand.invariant ∙ ap (λ ys. behind ts (typed_operands s (trees_of ys)) c.loop-operand.consts) here) c.in_err-typed.ensures.typed);
     }
 
 pub loop-operand-preserved : goal.loop-operand-preserved
@@ -47,9 +48,9 @@ loop-operand-preserved t c =
     let here : drop c.loop-operand.operand-index xs ≡ x ∷ rest = drop_more xs c.loop-operand.operand-index x (omega arith) ∙ ap (λ y. y ∷ rest) (sym c.operand-item.is) in
     let ts = map typed_of c.loop-operand.args.items in
     let pushed : map typed_of c.push.new.self.items ≡ ts ++ typed_of c.in_ok-typed.typed ∷ [] = ap (map typed_of) c.in_ok-push.ensures.items ∙ map_push typed_of c.loop-operand.args.items c.in_ok-typed.typed in
-    c.loop-operand.invariant ∙ ap (λ ys. typed_operands s (trees_of ys) ts c.loop-operand.consts) here ∙ operand_more s x rest ts c.loop-operand.consts
-    ∙ ap (λ a. a >>= λ r. typed_operands s (trees_of rest) (ts ++ r.0 ∷ []) r.1) c.in_ok-typed.ensures.typed
-    ∙ ap (λ os. typed_operands s (trees_of rest) os c.type_expr.new.consts) (sym pushed)
+    c.loop-operand.invariant ∙ ap (λ ys. behind ts (typed_operands s (trees_of ys)) c.loop-operand.consts) here ∙ operand_more s x rest ts c.loop-operand.consts
+    ∙ ap (λ a. a >>= λ r. behind (ts ++ r.0 ∷ []) (typed_operands s (trees_of rest)) r.1) c.in_ok-typed.ensures.typed
+    ∙ ap (λ os. behind os (typed_operands s (trees_of rest)) c.type_expr.new.consts) (sym pushed)
 
 pub returns : goal.returns
 returns t c =
@@ -64,6 +65,6 @@ returns t c =
     record {
       typed = all_typed s e cs xs c.deref-operand-items.ensures.value c.in_ok-done.field-0 c.early.new.consts
           (ap (λ ys. typed_before_operands s (out-Expr e).node (out-Expr e).place (trees_of ys) cs) back ∙ c.in_ok-done.ensures.settled) c.in_default.is c.finished.result ts c.loop-operand.consts
-          (c.loop-operand.invariant ∙ ap (λ ys. typed_operands s (trees_of ys) ts c.loop-operand.consts) gone)
+          (c.loop-operand.invariant ∙ ap (λ ys. behind ts (typed_operands s (trees_of ys)) c.loop-operand.consts) gone)
           (subst P (c.deref-2.ensures.value ∙ sym c.deref-operand-items.ensures.value) c.finished.ensures.typed);
     }
