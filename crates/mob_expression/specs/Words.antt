@@ -3,6 +3,7 @@ use Rattle.std.specs.Prelude.{◌==◌, ◌&&◌, ◌||◌, not, ℕ, List, [], 
 use Rattle.std.specs.List.{list_all}
 use Rattle.std.specs.Char.{is_ascii_digit, to_ascii_lowercase}
 use Rattle.std.specs.Str.{bytes_eq}
+use Rattle.mob_language.specs.Language.{is_blank}
 use Rattle.mob_ast.specs.declared.types.Word.{Word}
 use Rattle.mob_ast.specs.declared.types.SqlType.{SqlType}
 use Rattle.mob_ast.specs.declared.types.SqlType.TheVariants as sql
@@ -35,10 +36,7 @@ number_type s = if list_all is_ascii_digit s then sql.Int else sql.Numeric
 abbrev pub is_zero : List ℕ → Bool
 is_zero s = list_all (λ b. b == 48 || b == 46) (take_while (λ b. not (b == 101 || b == 69)) s)
 
--- blanks are space, tab, carriage return and line feed
-abbrev pub is_blank : ℕ → Bool
-is_blank b = b == 32 || b == 9 || b == 13 || b == 10
-
+-- behind the blanks in front
 abbrev pub skip_blanks : List ℕ → List ℕ
 skip_blanks [] = []
 skip_blanks (b ∷ bs) = if is_blank b then skip_blanks bs else b ∷ bs

@@ -48,7 +48,7 @@ pub fn source_named<'a>(from: &'a [Source<'a>], name: &str) -> Option<(usize, &'
 }
 
 /// The column that a name stands for, with its table before a point or without.
-pub fn column_at(scope: &Scope<'_>, table: &Option<Word>, column: &Word) -> Result<Found, Fault>
+pub fn column_named(scope: &Scope<'_>, table: &Option<Word>, column: &Word) -> Result<Found, Fault>
     ensures named { AnswersAs (λ f. f) result (column_named (scope_of scope.now) table.now column.now) }
 {
     let Some(table) = table else {

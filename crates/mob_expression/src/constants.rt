@@ -4,9 +4,9 @@ ghost use Rattle.mob_ast.specs.Trees.{tree_of, trees_of};
 ghost use Rattle.mob_expression.specs.Answers.{TypesTo, refuse};
 ghost use Rattle.mob_typed.specs.Trees.{typed, typed_of, none, typed_trees};
 ghost use Rattle.mob_expression.specs.Scopes.{scope_of};
-ghost use Rattle.mob_expression.specs.Expressions.{constant, typed_string, only, lone_string, cast_of_string, typed_before_operands};
+ghost use Rattle.mob_expression.specs.Expressions.{constant, settled, typed_string, only, lone_string, cast_of_string, typed_before_operands};
 
-use crate::columns::column_at;
+use crate::columns::column_named;
 use crate::fault::Fault;
 use crate::scope::{Scope, number};
 use mob_typed::{ConstText, TExpr};
@@ -106,16 +106,30 @@ fn cast_of_string(
     Ok(Some(with_args(Op::Cast, ty, place, args)))
 }
 
-// A typed string.
-fn literal(
+// A constant that is settled at once.
+fn settled_constant(
+    alloc: Global,
+    scope: &Scope<'_>,
+    consts: &mut Items<ConstText>,
+    ty: SqlType,
+    text: &str,
+    place: u32,
+) -> Result<Option<TExpr>, Fault>
+    ensures { TypesTo (option_map typed_of) result consts.new (settled (constant (scope_of scope.now) ty text.now place) consts.old) }
+{
+    Ok(Some(constant(alloc, scope, consts, ty, text, place)?))
+}
+
+// A typed string, which is settled at once.
+fn settled_string(
     alloc: Global,
     scope: &Scope<'_>,
     consts: &mut Items<ConstText>,
     word: &TypeWord,
     text: &str,
     place: u32,
-) -> Result<TExpr, Fault>
-    ensures { TypesTo typed_of result consts.new (typed_string (scope_of scope.now) word.now text.now place consts.old) }
+) -> Result<Option<TExpr>, Fault>
+    ensures { TypesTo (option_map typed_of) result consts.new (settled (typed_string (scope_of scope.now) word.now text.now place) consts.old) }
 {
     let Some(ty) = literal_type(word, text) else {
         return Err(Fault::Wrong {
@@ -123,13 +137,13 @@ fn literal(
             place: word.name.place,
         });
     };
-    constant(alloc, scope, consts, ty, text, place)
+    settled_constant(alloc, scope, consts, ty, text, place)
 }
 
 /// What is settled before the operands: constants, columns, a cast of a bare string, and functions that are refused for
 /// their irrational results.
 #[tactic(auto, unfolding(crate::specs::Expressions::typed_before_operands))]
-pub fn early(
+pub fn typed_before_operands(
     alloc: Global,
     scope: &Scope<'_>,
     consts: &mut Items<ConstText>,
@@ -141,30 +155,20 @@ pub fn early(
 {
     match node {
         Node::Null => Ok(Some(leaf(alloc, Op::Null, SqlType::Text, place))),
-        Node::True => Ok(Some(constant(alloc, scope, consts, SqlType::Bool, "true", place)?)),
-        Node::False => Ok(Some(constant(alloc, scope, consts, SqlType::Bool, "false", place)?)),
+        Node::True => settled_constant(alloc, scope, consts, SqlType::Bool, "true", place),
+        Node::False => settled_constant(alloc, scope, consts, SqlType::Bool, "false", place),
         Node::Number(text) => {
             let text = text.as_str();
-            Ok(Some(constant(alloc, scope, consts, number_type(text), text, place)?))
+            settled_constant(alloc, scope, consts, number_type(text), text, place)
         }
-        Node::Str(text) => Ok(Some(constant(
-            alloc,
-            scope,
-            consts,
-            SqlType::Text,
-            text.as_str(),
-            place,
-        )?)),
-        Node::Literal { ty, text } => Ok(Some(literal(
-            alloc,
-            scope,
-            consts,
-            ty,
-            text.as_str(),
-            place,
-        )?)),
+        Node::Str(text) => {
+            settled_constant(alloc, scope, consts, SqlType::Text, text.as_str(), place)
+        }
+        Node::Literal { ty, text } => {
+            settled_string(alloc, scope, consts, ty, text.as_str(), place)
+        }
         Node::Column { table, column } => {
-            let found = column_at(scope, table, column)?;
+            let found = column_named(scope, table, column)?;
             let op = Op::Column {
                 from: found.from,
                 column: found.column,
@@ -181,11 +185,6 @@ pub fn early(
             Ok(None)
         }
         Node::Cast(word) => cast_of_string(alloc, scope, consts, word, place, args),
-        Node::Sign(_) => Ok(None),
-        Node::Not => Ok(None),
-        Node::And => Ok(None),
-        Node::Or => Ok(None),
-        Node::IsNull => Ok(None),
-        Node::IsNotNull => Ok(None),
+        Node::Sign(_) | Node::Not | Node::And | Node::Or | Node::IsNull | Node::IsNotNull => Ok(None),
     }
 }

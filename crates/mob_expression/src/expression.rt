@@ -5,7 +5,7 @@ ghost use Rattle.mob_typed.specs.Trees.{typed_of};
 ghost use Rattle.mob_expression.specs.Scopes.{scope_of};
 ghost use Rattle.mob_expression.specs.Expressions.{typed_expression};
 
-use crate::constants::early;
+use crate::constants::typed_before_operands;
 use crate::fault::Fault;
 use crate::operators::finished;
 use crate::scope::Scope;
@@ -23,7 +23,7 @@ pub fn type_expr(
 ) -> Result<TExpr, Fault>
     ensures typed { TypesTo typed_of result consts.new (typed_expression (scope_of scope.now) (tree_of e.now) consts.old) }
 {
-    if let Some(done) = early(alloc, scope, consts, &e.node, e.place, &e.args)? {
+    if let Some(done) = typed_before_operands(alloc, scope, consts, &e.node, e.place, &e.args)? {
         return Ok(done);
     }
     let mut args = Vec::new(alloc);

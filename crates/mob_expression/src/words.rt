@@ -2,7 +2,8 @@
 ghost use Rattle.std.specs.Prelude.{◌≡◌, map};
 ghost use Rattle.std.specs.List.{list_all};
 ghost use Rattle.std.specs.Char.{is_ascii_digit};
-ghost use Rattle.mob_expression.specs.Words.{type_among, type_words, geometry_words, type_named, number_type, is_zero, is_blank, skip_blanks, begins_with_word, after_srid, after_semicolon, is_polygon, geometry_type, literal_type};
+ghost use Rattle.mob_language.specs.Language.{is_blank};
+ghost use Rattle.mob_expression.specs.Words.{type_among, type_words, geometry_words, type_named, number_type, is_zero, skip_blanks, begins_with_word, after_srid, after_semicolon, is_polygon, geometry_type, literal_type};
 
 use mob_ast::{SqlType, TypeWord};
 
@@ -119,7 +120,7 @@ fn skip_blanks(text: &[u8]) -> &[u8]
 }
 
 // Whether a text begins with this word in letters of either case.
-fn begins(text: &[u8], word: &[u8]) -> bool
+fn begins_with_word(text: &[u8], word: &[u8]) -> bool
     ensures { result ≡ begins_with_word text.now word.now }
 {
     let Some((small, word)) = word.split_first() else {
@@ -128,14 +129,14 @@ fn begins(text: &[u8], word: &[u8]) -> bool
     let Some((letter, text)) = text.split_first() else {
         return false;
     };
-    letter.to_ascii_lowercase() == *small && begins(text, word)
+    letter.to_ascii_lowercase() == *small && begins_with_word(text, word)
 }
 
 // What stands behind `SRID=0;` and the blanks round its sign, where the text begins so, else the text.
 fn after_srid(text: &[u8]) -> &[u8]
     ensures { result.now ≡ after_srid text.now }
 {
-    if !begins(text, b"srid=0") {
+    if !begins_with_word(text, b"srid=0") {
         return text;
     }
     match skip_blanks(&text[6..]) {
@@ -148,7 +149,7 @@ fn after_srid(text: &[u8]) -> &[u8]
 fn is_polygon(text: &[u8]) -> bool
     ensures { result ≡ is_polygon text.now }
 {
-    begins(after_srid(skip_blanks(text)), b"polygon")
+    begins_with_word(after_srid(skip_blanks(text)), b"polygon")
 }
 
 fn geometry_type(text: &str) -> SqlType

@@ -1,8 +1,7 @@
--- The tables, columns and indexes that a script has made, as lists.
-use Rattle.std.specs.Prelude.{◌+◌, ℕ, List, [], ◌∷◌, Bool, Option, Some, None, is_some, if◌then◌else◌}
-use Rattle.std.specs.List.{list_any}
-use Rattle.std.specs.Str.{bytes_eq}
-use Rattle.mob_ast.specs.declared.types.SqlType.{SqlType}
+-- The tables and the indexes that a script has made, as lists.
+use Rattle.std.specs.Prelude.{ℕ, List, Option}
+use Rattle.mob_typed.specs.Statements.{ColumnList}
+use Rattle.mob_expression.specs.Names.{entry_from}
 
 -- the tables in the order of their making, each with its columns, and the names of the indexes
 pub record NameLists : Type 0 where

@@ -13,15 +13,14 @@ use Rattle.mob_ast.specs.declared.statement.FromTable.{FromTable}
 use Rattle.mob_ast.specs.Trees.{Tree, tree, ItemParts, every, one, KeyParts, SelectParts}
 use Rattle.mob_operators.specs.declared.operator.Op.TheVariants as op
 use Rattle.mob_operators.specs.Lookup.{has_type}
-use Rattle.mob_typed.specs.declared.typed.TExpr.{TExpr}
-use Rattle.mob_typed.specs.declared.typed.TypedSelect.{TypedSelect}
 use Rattle.mob_typing.specs.declared.outputs.Outputs.{Outputs}
 use Rattle.mob_expression.specs.Answers.{Mistake, ◌>>=◌, unless, found, TypingStep, one_more}
+use Rattle.mob_typed.specs.Selects.{Output, TypedSelectParts, output_of}
 use Rattle.mob_typed.specs.Statements.{ColumnList}
 use Rattle.mob_typing.specs.Names.{table_of}
 use Rattle.mob_expression.specs.Names.{entry_from, has_entry}
 use Rattle.mob_expression.specs.Scopes.{SourceParts, ScopeParts}
-use Rattle.mob_typed.specs.Trees.{TypedTree, typed, none, type_of, typed_of}
+use Rattle.mob_typed.specs.Trees.{TypedTree, typed, none, type_of}
 use Rattle.mob_expression.specs.Expressions.{typed_expression}
 
 -- The name that a table goes by in FROM. There are at most four tables, and no two go by one name. What stands at an

@@ -13,20 +13,17 @@ use Rattle.mob_ast.specs.declared.expression.Node.TheVariants as node
 use Rattle.mob_ast.specs.Trees.{Tree, tree, Trees, RowParts, StatementParts, empty, create_table, create_index, insert, copy, select, explain}
 use Rattle.mob_operators.specs.Lookup.{same_type}
 use Rattle.mob_typed.specs.declared.typed.ConstText.{ConstText}
-use Rattle.mob_typed.specs.declared.typed.TypedStatement.{TypedStatement}
-use Rattle.mob_typed.specs.declared.typed.TypedStatement.TheVariants as typed
-use Rattle.mob_typed.specs.declared.typed.Typed.{Typed}
+use Rattle.mob_typed.specs.Selects.{TypedSelectParts}
+use Rattle.mob_typed.specs.Statements.{ColumnList, StatementOut, nothing, new_table, new_index, new_rows, rows_from, query, plan_of, ScriptOut}
 use Rattle.mob_expression.specs.declared.fault.Fault.{Fault}
 use Rattle.mob_expression.specs.declared.fault.Fault.TheVariants.{Wrong as Refused, NoMemory}
 use Rattle.mob_ast.specs.Kinds.{no_memory}
 use Rattle.mob_expression.specs.Answers.{Mistake, refuse, ◌>>=◌, unless, found, TypingStep, one_more}
-use Rattle.mob_typed.specs.Statements.{ColumnList}
 use Rattle.mob_typing.specs.Names.{NameLists, table_of}
 use Rattle.mob_expression.specs.Names.{column_of, has_entry}
 use Rattle.mob_operators.specs.Table.{is_one_of}
 use Rattle.mob_expression.specs.Words.{type_named, literal_type}
 use Rattle.mob_expression.specs.Expressions.{only, is_signed}
-use Rattle.mob_typed.specs.Selects.{TypedSelectParts, select_seen}
 use Rattle.mob_typing.specs.Selects.{typed_select}
 
 -- a new column: its name is new, there are at most 64, and its type is known

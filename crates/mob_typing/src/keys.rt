@@ -23,7 +23,7 @@ use std::alloc::{AllocError, Global};
 
 // The place of an expression as a whole.
 #[tactic(auto, using(mob_expression::proofs::TreeFacts::tree_is))]
-fn place_of(e: &Expr) -> u32
+fn tree_place(e: &Expr) -> u32
     ensures { result ≡ tree_place (tree_of e.now) }
 {
     e.place
@@ -45,7 +45,7 @@ pub fn condition(
     if !is_bool(type_of(&value)) {
         return Err(Fault::Wrong {
             kind: Kind::NoSuchOperator,
-            place: place_of(cond),
+            place: tree_place(cond),
         });
     }
     Ok(Some(value))
@@ -146,7 +146,7 @@ fn typed_key(
     if !is_key(type_of(&value)) {
         return Err(Fault::Wrong {
             kind: Kind::NoSuchOperator,
-            place: place_of(&key.value),
+            place: tree_place(&key.value),
         });
     }
     Ok((value, key.descending))

@@ -20,7 +20,7 @@ use mob_list::text::Text;
 use std::alloc::{AllocError, Global};
 
 // A constant of a statement of this number.
-fn noted(
+fn row_constant(
     alloc: Global,
     statement: u32,
     consts: &mut Items<ConstText>,
@@ -79,7 +79,7 @@ fn signed_value(
     }
     let mut text = String::from_str(alloc, sign)?;
     text.push_str(digits)?;
-    noted(alloc, statement, consts, ty, text.as_str(), digits_place)
+    row_constant(alloc, statement, consts, ty, text.as_str(), digits_place)
 }
 
 // Whether two types are one.
@@ -106,7 +106,7 @@ fn bool_value(
             place,
         });
     }
-    noted(alloc, statement, consts, ty, text, place)
+    row_constant(alloc, statement, consts, ty, text, place)
 }
 
 // A typed string has the column's type.
@@ -133,7 +133,7 @@ fn typed_value(
             place,
         });
     }
-    noted(alloc, statement, consts, ty, text, place)
+    row_constant(alloc, statement, consts, ty, text, place)
 }
 
 // A value of a row, which is read as the column's type.
@@ -153,8 +153,8 @@ fn node_value(
         Node::Null => Ok(None),
         Node::True => bool_value(alloc, statement, consts, ty, "true", place),
         Node::False => bool_value(alloc, statement, consts, ty, "false", place),
-        Node::Number(text) => noted(alloc, statement, consts, ty, text.as_str(), place),
-        Node::Str(text) => noted(alloc, statement, consts, ty, text.as_str(), place),
+        Node::Number(text) => row_constant(alloc, statement, consts, ty, text.as_str(), place),
+        Node::Str(text) => row_constant(alloc, statement, consts, ty, text.as_str(), place),
         Node::Literal { ty: word, text } => typed_value(
             alloc,
             statement,
@@ -172,7 +172,7 @@ fn node_value(
     }
 }
 
-fn value_of(
+fn tree_value(
     alloc: Global,
     statement: u32,
     consts: &mut Items<ConstText>,
@@ -198,7 +198,7 @@ fn row_values(
     let mut done = Items::new(alloc);
     for (index, value) in values.iter().enumerate() {
         let (_, ty) = columns.at(index);
-        let number = value_of(alloc, statement, consts, ty, value)?;
+        let number = tree_value(alloc, statement, consts, ty, value)?;
         done.push(number)?;
     }
     Ok(done)

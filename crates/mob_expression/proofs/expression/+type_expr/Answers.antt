@@ -19,7 +19,7 @@ returns-in_err-done t c =
 
 pub returns-in-Some : goal.returns-in-Some
 returns-in-Some t c =
-    record { typed = early_settles (scope_of c.args.scope.now) c.args.e.now c.args.consts.now c.deref.result.now c.deref.ensures.value c.in_ok-done.field-0 c.in-Some.done c.early.new.consts c.in_ok-done.ensures.settled c.in-Some.is }
+    record { typed = early_settles (scope_of c.args.scope.now) c.args.e.now c.args.consts.now c.deref.result.now c.deref.ensures.value c.in_ok-done.field-0 c.in-Some.done c.typed_before_operands.new.consts c.in_ok-done.ensures.settled c.in-Some.is }
 
 pub returns-in_err-typed : goal.returns-in_err-typed
 returns-in_err-typed t c =
@@ -34,7 +34,7 @@ returns-in_err-typed t c =
     let back : xs ≡ c.deref.result.now = c.deref-operand-items.ensures.value ∙ sym c.deref.ensures.value in
     let ts = map typed_of c.loop-operand.args.items in
     record {
-      typed = rw (p.1, p.2) (operand_fails s e cs xs c.deref-operand-items.ensures.value c.in_ok-done.field-0 c.early.new.consts
+      typed = rw (p.1, p.2) (operand_fails s e cs xs c.deref-operand-items.ensures.value c.in_ok-done.field-0 c.typed_before_operands.new.consts
           (ap (λ ys. typed_before_operands s (out-Expr e).node (out-Expr e).place (trees_of ys) cs) back ∙ c.in_ok-done.ensures.settled) c.in_default.is c.in_err-typed.field-0.0 x rest ts c.loop-operand.consts
           (c.loop-operand.invariant ∙ ap (λ ys. behind ts (typed_operands s (trees_of ys)) c.loop-operand.consts) here) c.in_err-typed.ensures.typed);
     }
@@ -63,7 +63,7 @@ returns t c =
     let ts = map typed_of c.loop-operand.args.items in
     let P : List Expr → Type 0 = λ ys. AnswersAs typed_of c.finished.result (finished (out-Expr e).node (out-Expr e).place (trees_of ys) ts) in
     record {
-      typed = all_typed s e cs xs c.deref-operand-items.ensures.value c.in_ok-done.field-0 c.early.new.consts
+      typed = all_typed s e cs xs c.deref-operand-items.ensures.value c.in_ok-done.field-0 c.typed_before_operands.new.consts
           (ap (λ ys. typed_before_operands s (out-Expr e).node (out-Expr e).place (trees_of ys) cs) back ∙ c.in_ok-done.ensures.settled) c.in_default.is c.finished.result ts c.loop-operand.consts
           (c.loop-operand.invariant ∙ ap (λ ys. behind ts (typed_operands s (trees_of ys)) c.loop-operand.consts) gone)
           (subst P (c.deref-2.ensures.value ∙ sym c.deref-operand-items.ensures.value) c.finished.ensures.typed);
