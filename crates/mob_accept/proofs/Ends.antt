@@ -25,8 +25,8 @@ use Rattle.mob_grammar.proofs.Steps.{told}
 use Rattle.mob_parse.specs.Tokens.{other_sign, sign_mark, word_symbol, piece, symbol_at, before_lexed, lexed}
 use Rattle.mob_parse.proofs.Reserved.{words_are_read}
 use Rattle.mob_parse.specs.Refusals.{semicolons, place_of}
-use Rattle.mob_built.proofs.Within.{ends_later}
-use Rattle.mob_built.specs.Words.{bytes_of, tokens_in, is_end_before, statement_number}
+use Rattle.mob_accept.proofs.Within.{ends_later}
+use Rattle.mob_accept.specs.UnbuiltWords.{bytes_of, tokens_in, is_end_before, statement_number}
 
 -- the one text that is read as `;`
 other_found : (ms : List Mark) (s : List ℕ) (m : Mark) → other_sign ms s ≡ m → (m ≡ Dot) ⊎ (mark_text m ≡ s)

@@ -7,8 +7,8 @@ use Rattle.mob_grammar.proofs.StatementsRead.{complete_script}
 use Rattle.mob_parse.specs.Refusals.{IsTreeOf}
 use Rattle.mob_parse.proofs.Refused.{no_tree, same_tokens}
 use Rattle.mob_parse.proofs.Scripts.{script_only}
-use Rattle.mob_typing.specs.Statements.{ScriptOut}
-use Rattle.mob_built.specs.Least.{least}
+use Rattle.mob_typed.specs.Statements.{ScriptOut}
+use Rattle.mob_accept.specs.Least.{least}
 use Rattle.mob_accept.specs.Accepts.{IsTypedAs, unbuilt_places}
 use Rattle.mob_accept.specs.Outcomes.{HasOneScript, NeverTakenAndRefused}
 

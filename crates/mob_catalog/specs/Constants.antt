@@ -2,7 +2,7 @@
 use Rattle.std.specs.Prelude.{ℤ, Ok}
 use Rattle.mob_ast.specs.declared.refusal.Kind.{Kind}
 use Rattle.mob_ast.specs.declared.refusal.Refusal.{Refusal}
-use Rattle.mob_typing.specs.declared.typed.ConstText.{ConstText}
+use Rattle.mob_typed.specs.declared.typed.ConstText.{ConstText}
 use Rattle.mob_value.specs.declared.value.Value.{Value}
 use Rattle.mob_literal.specs.SqlText.{SaysAs}
 

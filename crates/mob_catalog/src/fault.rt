@@ -5,7 +5,7 @@ ghost use Rattle.mob_catalog.specs.Faults.{OnRefused, IsRefusedAs, refused_kind,
 
 use mob_ast::{Kind, Refusal};
 use mob_scalar::ReadText;
-use mob_typing::ConstText;
+use mob_typed::ConstText;
 use std::alloc::{AllocError, AllocFailed};
 
 /// Why a table file is refused.

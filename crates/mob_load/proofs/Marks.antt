@@ -1,6 +1,6 @@
 -- The checkpoints of a script among what is looked at.
 use Rattle.std.proofs.Common.{◌≡◌, ◌∙◌, refl, ap, Bool, true, false, List, [], ◌∷◌, ◌++◌, map}
-use Rattle.mob_typing.specs.declared.typed.ConstText.{ConstText}
+use Rattle.mob_typed.specs.declared.typed.ConstText.{ConstText}
 use Rattle.mob_load.specs.Checks.{CheckParts, literal, table, room, file, Checkpoint, checkpoints_from, stands_before, checks_up_to, in_order}
 use Rattle.mob_load.specs.Loads.{literal_of}
 use Rattle.mob_load.specs.Order.{checkpoint_in, checkpoints_in, LooksAtCheckpoints}

@@ -6,7 +6,7 @@ use Rattle.mob_outside.specs.Told.{Contents, file_of}
 use Rattle.mob_catalog.specs.Outcomes.{HasOneFault, HasOneTable, NeverReadAndRefused}
 use Rattle.mob_catalog.specs.Faults.{IsRefusedAs, FileFault}
 use Rattle.mob_catalog.proofs.OneTable.{fault_known, one_kind, value_known}
-use Rattle.mob_typing.specs.declared.typed.ConstText.{ConstText}
+use Rattle.mob_typed.specs.declared.typed.ConstText.{ConstText}
 use Rattle.mob_load.specs.Checks.{CheckParts, literal, table, room, file, checks_of}
 use Rattle.mob_load.specs.Loads.{ContinuesBy, Halt, Loaded, Loads, LoadsCheck, LoadsFile, LoadsLiteral, loaded_columns, greatest_rows, nothing_loaded, refused_literal, loaded_row_count, table_refused, with_file, with_value}
 use Rattle.mob_load.specs.Outcomes.{HasOneLoading, LoadsOneProgram}

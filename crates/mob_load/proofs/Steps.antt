@@ -5,8 +5,8 @@ use Rattle.std.proofs.lemmas.List.{append-nil}
 use Rattle.mob_ast.specs.declared.refusal.Kind.{Kind}
 use Rattle.mob_outside.specs.Faults.{Rose}
 use Rattle.mob_outside.specs.Told.{Contents, file_of, KeepsFiles, MayAskFor}
-use Rattle.mob_typing.specs.Names.{ColumnList}
-use Rattle.mob_typing.specs.Statements.{ScriptOut}
+use Rattle.mob_typed.specs.Statements.{ColumnList}
+use Rattle.mob_typed.specs.Statements.{ScriptOut}
 use Rattle.mob_load.specs.declared.program.Program.{Program}
 use Rattle.mob_load.specs.Checks.{CheckParts, checks_of}
 use Rattle.mob_load.specs.Fronts.{AsksForSome, IsFront}

@@ -5,13 +5,13 @@ use Rattle.std.specs.List.{AllByRecursion, AllZip}
 use Rattle.mob_value.specs.declared.value.Value.{Value}
 use Rattle.mob_outside.specs.Told.{Contents, file_of}
 use Rattle.mob_catalog.specs.Constants.{IsConstant}
-use Rattle.mob_typing.specs.declared.typed.ConstText.{ConstText}
-use Rattle.mob_typing.specs.Statements.{StatementOut}
+use Rattle.mob_typed.specs.declared.typed.ConstText.{ConstText}
+use Rattle.mob_typed.specs.Statements.{StatementOut}
 use Rattle.mob_load.specs.declared.program.Program.{Program}
 use Rattle.mob_load.specs.Checks.{CheckParts, literal, table, room, file, Checkpoint, checkpoints_of, checkpoints_from, stands_before, checks_up_to, in_order, checks_of}
 use Rattle.mob_load.specs.Loads.{Loaded, Halt, Loads, LoadsCheck, LoadsFile, literal_of, literals_in, ContinuesBy, one_row, greatest_rows, loaded_row_count, nothing_loaded, LooksAtLiterals, ProgramHasValues}
 use Rattle.mob_load.proofs.EachMark.{each_mark}
-use Rattle.mob_typing.proofs.Rising.{each_both}
+use Rattle.mob_typed.proofs.Rising.{each_both}
 
 -- checkpoints that are no literals
 abbrev IsNoLiteral : Checkpoint → Type 0

@@ -3,13 +3,13 @@ use Rattle.std.proofs.Common.{◌≡◌, ◌∙◌, refl, sym, ap, subst, arith,
 use Rattle.std.specs.Prelude.{◌⊎◌, ◌==◌, ◌&&◌, ◌||◌, filter, nat_lt}
 use Rattle.std.specs.List.{AllByRecursion}
 use Rattle.std.proofs.lemmas.Bool.{eqb-true, ltb-true, lt-ltb}
-use Rattle.mob_typing.specs.declared.typed.ConstText.{ConstText}
-use Rattle.mob_typing.specs.Statements.{StatementOut, nothing, new_table, new_index, new_rows, rows_from, query, plan_of}
+use Rattle.mob_typed.specs.declared.typed.ConstText.{ConstText}
+use Rattle.mob_typed.specs.Statements.{StatementOut, nothing, new_table, new_index, new_rows, rows_from, query, plan_of}
 use Rattle.mob_load.specs.Checks.{CheckParts, literal, Checkpoint, bracket, checkpoints_of, checkpoints_from, stands_before, checks_up_to, in_order}
 use Rattle.mob_load.specs.Loads.{literal_of}
-use Rattle.mob_typing.specs.Written.{HasRisingRows, IsUpTo, LiteralUpTo, Rises}
+use Rattle.mob_typed.specs.Written.{HasRisingRows, IsUpTo, LiteralUpTo, Rises}
 use Rattle.mob_load.specs.Order.{IsCutAt, LooksInOrder}
-use Rattle.mob_typing.proofs.Rising.{both_rise, each_both, each_map, each_on, one_of}
+use Rattle.mob_typed.proofs.Rising.{both_rise, each_both, each_map, each_on, one_of}
 use Rattle.mob_load.proofs.EachMark.{each_mark}
 use Rattle.mob_load.proofs.Marks.{own_mark}
 use Rattle.mob_load.proofs.Values.{NoLiterals, no_all}

@@ -12,9 +12,10 @@ use Rattle.mob_outside.specs.Told.{Contents, file_of}
 use Rattle.mob_catalog.specs.Constants.{IsConstant, at_constant}
 use Rattle.mob_catalog.specs.Faults.{IsRefusedAs, FileFault}
 use Rattle.mob_catalog.specs.TableFile.{IsTable, FileFails}
-use Rattle.mob_typing.specs.declared.typed.ConstText.{ConstText}
-use Rattle.mob_typing.specs.Names.{ColumnList}
-use Rattle.mob_typing.specs.Statements.{ScriptOut, StatementOut, rows_from, typed_script}
+use Rattle.mob_typed.specs.declared.typed.ConstText.{ConstText}
+use Rattle.mob_typed.specs.Statements.{ColumnList}
+use Rattle.mob_typed.specs.Statements.{ScriptOut, StatementOut, rows_from}
+use Rattle.mob_typing.specs.Statements.{typed_script}
 use Rattle.mob_ast.specs.Trees.{StatementParts}
 use Rattle.mob_load.specs.Checks.{CheckParts, literal, table, room, file, checks_of}
 use Rattle.mob_load.specs.Fronts.{IsAskedLast}

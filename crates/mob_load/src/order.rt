@@ -1,11 +1,11 @@
 // What is looked at before a script runs, in written order.
 ghost use Rattle.std.specs.Prelude.{◌≡◌, ◌++◌, ◌∷◌, [], List, IfOk, drop, map};
-ghost use Rattle.mob_typing.specs.declared.typed.ConstText.{ConstText};
-ghost use Rattle.mob_typing.specs.Statements.{script_seen, statement_seen};
+ghost use Rattle.mob_typed.specs.declared.typed.ConstText.{ConstText};
+ghost use Rattle.mob_typed.specs.Statements.{script_seen, statement_seen};
 ghost use Rattle.mob_load.specs.Checks.{CheckParts, Checkpoint, check_seen, checkpoint, bracket, checkpoints_of, stands_before, checks_up_to, in_order, checks_of};
 
 use crate::check::Check;
-use mob_typing::{ConstText, Typed, TypedStatement};
+use mob_typed::{ConstText, Typed, TypedStatement};
 use std::alloc::{AllocError, Global};
 
 // Whether a literal stands before this place of this statement.

@@ -21,7 +21,7 @@ use mob_list::text::Text;
 use mob_literal::read_value;
 use mob_outside::Files;
 use mob_scalar::{Epoch, ReadText};
-use mob_typing::ConstText;
+use mob_typed::ConstText;
 use mob_value::Value;
 use std::alloc::Global;
 

@@ -2,7 +2,7 @@
 ghost use Rattle.std.specs.Prelude.{◌≡◌, ◌≤◌, Ok, IfErr, IfOk, IfSome, OnOk, map};
 ghost use Rattle.mob_outside.specs.Faults.{Rose};
 ghost use Rattle.mob_outside.specs.Told.{KeepsFiles};
-ghost use Rattle.mob_typing.specs.Statements.{script_seen};
+ghost use Rattle.mob_typed.specs.Statements.{script_seen};
 ghost use Rattle.mob_load.specs.Fronts.{AsksForAll, AsksForSome};
 ghost use Rattle.mob_load.specs.Checks.{check_seen, checks_of};
 ghost use Rattle.mob_load.specs.Loads.{AreNarrow, HasFaultCause, IsFaultAtLast, IsOutcome, IsTypedScript, Loads, LoadsScript, ChecksStopBy, copied_files, loaded_of, names_in, nothing_loaded};
@@ -15,7 +15,7 @@ use crate::program::{LoadEnd, Program};
 use mob_list::items::Items;
 use mob_outside::Files;
 use mob_scalar::Epoch;
-use mob_typing::Typed;
+use mob_typed::Typed;
 use std::alloc::Global;
 
 // What was read before the first check.

@@ -3,7 +3,7 @@ use Rattle.std.proofs.Common.{◌≡◌, ◌∙◌, sym, ap, subst, ℕ, ℤ, �
 use Rattle.std.specs.Prelude.{Result}
 use Rattle.mob_words.specs.Outcomes.{HasOneSetting}
 use Rattle.mob_outside.specs.Told.{Contents}
-use Rattle.mob_typing.specs.Statements.{ScriptOut}
+use Rattle.mob_typed.specs.Statements.{ScriptOut}
 use Rattle.mob_accept.specs.Outcomes.{HasOneScript, NeverTakenAndRefused}
 use Rattle.mob_load.specs.Loads.{Halt, LoadsScript}
 use Rattle.mob_load.specs.Outcomes.{LoadsOneProgram}

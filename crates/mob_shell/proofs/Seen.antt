@@ -5,9 +5,9 @@ use Rattle.std.specs.Io.KnownBytes.{Appends}
 use Rattle.std.proofs.lemmas.List.{take-map}
 use Rattle.std.proofs.lemmas.Option.{slice_get-map}
 use Rattle.mob_streams.specs.Answers.{Ran}
-use Rattle.mob_typing.specs.declared.typed.TypedStatement.{TypedStatement}
-use Rattle.mob_typing.specs.declared.typed.Typed.{Typed}
-use Rattle.mob_typing.specs.Statements.{StatementOut, statement_seen, script_seen}
+use Rattle.mob_typed.specs.declared.typed.TypedStatement.{TypedStatement}
+use Rattle.mob_typed.specs.declared.typed.Typed.{Typed}
+use Rattle.mob_typed.specs.Statements.{StatementOut, statement_seen, script_seen}
 use Rattle.mob_load.specs.declared.program.Program.{Program}
 use Rattle.mob_shell.specs.Runs.{RunState, RunsStatement, Stops, begin}
 use Rattle.mob_shell.specs.Session.{SessionRuns, StopsOn, session_state, session_day, overflow_fault}

@@ -10,7 +10,7 @@ use Rattle.mob_accept.specs.Accepts.{IsAccepted, IsTextRefused, script_limit}
 use Rattle.mob_streams.specs.Streams.{ReadsPart, ReadsTo}
 use Rattle.mob_streams.proofs.Known.{takes_nothing}
 use Rattle.mob_outside.specs.Told.{Contents, KeepsFiles}
-use Rattle.mob_typing.specs.Statements.{ScriptOut}
+use Rattle.mob_typed.specs.Statements.{ScriptOut}
 use Rattle.mob_load.specs.Fronts.{AsksForSome, IsAskedLast}
 use Rattle.mob_load.specs.Checks.{checks_of}
 use Rattle.mob_load.specs.Loads.{LoadsScript, Reaches, copied_files, nothing_loaded, refused, table_refused}

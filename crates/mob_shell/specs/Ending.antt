@@ -9,7 +9,7 @@ use Rattle.mob_slice.specs.declared.formula.Formula.{Formula}
 use Rattle.mob_streams.specs.Streams.{PutsPart, ReadsPart}
 use Rattle.mob_words.specs.CommandLine.{WordsSay}
 use Rattle.mob_accept.specs.Accepts.{IsTextRefused, script_limit}
-use Rattle.mob_typing.specs.Statements.{ScriptOut}
+use Rattle.mob_typed.specs.Statements.{ScriptOut}
 use Rattle.mob_load.specs.Loads.{missing, refused, table_refused, copied_files}
 use Rattle.mob_load.specs.Fronts.{AsksForSome, IsAskedLast}
 use Rattle.mob_ending.specs.declared.ending.Ending.{Ending}

@@ -5,7 +5,7 @@ use Rattle.mob_outside.specs.Faults.{Rose}
 use Rattle.mob_outside.specs.Told.{Contents}
 use Rattle.mob_streams.specs.Streams.{PutsPart}
 use Rattle.mob_streams.specs.Answers.{Ran}
-use Rattle.mob_typing.specs.Statements.{ScriptOut, StatementOut}
+use Rattle.mob_typed.specs.Statements.{ScriptOut, StatementOut}
 use Rattle.mob_ast.specs.declared.refusal.Kind.TheVariants.{NoMemory as OutOfMemory}
 use Rattle.mob_ast.specs.declared.refusal.Refusal.{Refusal}
 use Rattle.mob_accept.specs.Accepts.{IsAccepted, IsTextRefused}

@@ -2,7 +2,7 @@
 use Rattle.std.specs.Prelude.{◌≡◌, ◌+◌, ℕ, ℤ, List, Ok, Err, Some, take, slice_get}
 use Rattle.mob_words.specs.CommandLine.{WordsSay}
 use Rattle.mob_outside.specs.Told.{Contents}
-use Rattle.mob_typing.specs.Statements.{ScriptOut, StatementOut}
+use Rattle.mob_typed.specs.Statements.{ScriptOut, StatementOut}
 use Rattle.mob_accept.specs.Accepts.{IsAccepted}
 use Rattle.mob_load.specs.Checks.{checks_of}
 use Rattle.mob_load.specs.Loads.{Halt, LoadsScript, Reaches, nothing_loaded}

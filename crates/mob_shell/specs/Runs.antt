@@ -4,8 +4,8 @@ use Rattle.mob_value.specs.declared.value.Value.{Value}
 use Rattle.mob_value.specs.declared.value.Value.TheVariants.{Null}
 use Rattle.mob_value.specs.Null.{value_or_null}
 use Rattle.mob_catalog.specs.Catalogue.{Catalogue, new_catalogue, with_empty_table, with_row}
-use Rattle.mob_typing.specs.Selects.{TypedSelectParts, Output}
-use Rattle.mob_typing.specs.Statements.{StatementOut, nothing, new_table, new_index, new_rows, rows_from, query, plan_of}
+use Rattle.mob_typed.specs.Selects.{TypedSelectParts, Output}
+use Rattle.mob_typed.specs.Statements.{StatementOut, nothing, new_table, new_index, new_rows, rows_from, query, plan_of}
 use Rattle.mob_eval.specs.QueryFaults.{TupleFault}
 use Rattle.mob_load.specs.declared.program.Program.{Program}
 use Rattle.mob_shell.specs.Answers.{QueryAnswers}

@@ -1,7 +1,7 @@
 -- A run of statements as the program holds it.
 use Rattle.std.specs.Prelude.{◌≡◌, ℤ, ℕ, List}
-use Rattle.mob_typing.specs.declared.typed.TypedStatement.{TypedStatement}
-use Rattle.mob_typing.specs.Statements.{statement_seen}
+use Rattle.mob_typed.specs.declared.typed.TypedStatement.{TypedStatement}
+use Rattle.mob_typed.specs.Statements.{statement_seen}
 use Rattle.mob_eval.specs.QueryFaults.{TupleFault}
 use Rattle.mob_eval.specs.declared.query_fault.QueryFault.{QueryFault}
 use Rattle.mob_eval.specs.declared.query_fault.QueryFault.TheVariants.{Passed, NoMemory as OutOfMemory}

@@ -3,7 +3,7 @@ ghost use Rattle.std.specs.Prelude.{◌≤◌};
 ghost use Rattle.mob_outside.specs.Told.{KeepsFiles};
 ghost use Rattle.mob_load.specs.Fronts.{AsksForSome};
 ghost use Rattle.mob_load.specs.Loads.{IsTypedScript, copied_files};
-ghost use Rattle.mob_typing.specs.Statements.{script_seen};
+ghost use Rattle.mob_typed.specs.Statements.{script_seen};
 ghost use Rattle.mob_shell.specs.Parts.{LoadEnds};
 
 use crate::statements::run_statements;
@@ -11,7 +11,7 @@ use mob_ending::Ending;
 use mob_load::{LoadEnd, load};
 use mob_outside::{Files, Sink};
 use mob_scalar::Epoch;
-use mob_typing::Typed;
+use mob_typed::Typed;
 use std::alloc::Global;
 
 // Reads the literals and the files of a typed script, and runs its statements.

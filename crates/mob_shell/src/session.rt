@@ -1,8 +1,8 @@
 // A run of statements.
 ghost use Rattle.std.specs.Prelude.{◌≡◌, IfOk, IfErr, OnOk};
 ghost use Rattle.mob_streams.specs.Answers.{OnFault};
-ghost use Rattle.mob_typing.specs.Selects.{select_seen};
-ghost use Rattle.mob_typing.specs.Statements.{query, statement_seen};
+ghost use Rattle.mob_typed.specs.Selects.{select_seen};
+ghost use Rattle.mob_typed.specs.Statements.{query, statement_seen};
 ghost use Rattle.mob_shell.specs.Runs.{Stops, StatementWrites, state_after, begin, later_files, next_rows};
 ghost use Rattle.mob_shell.specs.Session.{HasNoAnswerBy, session_day, overflow_fault, session_state};
 
@@ -17,7 +17,7 @@ use mob_scalar::Epoch;
 use mob_slice::Formula;
 use mob_streams::{Engine, NoAnswer};
 use mob_tail::answer_text;
-use mob_typing::{TypedSelect, TypedStatement};
+use mob_typed::{TypedSelect, TypedStatement};
 use mob_value::Value;
 use std::alloc::{AllocError, Global};
 use std::collections::VecDeque;

@@ -1,6 +1,6 @@
 // The statements of a program, run.
 ghost use Rattle.std.specs.Prelude.{◌≤◌};
-ghost use Rattle.mob_typing.specs.Statements.{script_seen};
+ghost use Rattle.mob_typed.specs.Statements.{script_seen};
 ghost use Rattle.mob_shell.specs.Parts.{RunEnds};
 
 use crate::session::Session;
@@ -9,7 +9,7 @@ use mob_load::Program;
 use mob_outside::Sink;
 use mob_scalar::Epoch;
 use mob_streams::{RunEnd, run_all};
-use mob_typing::Typed;
+use mob_typed::Typed;
 use std::alloc::Global;
 
 // Runs the statements of a typed script, one after the other, and puts each answer.
