@@ -1,9 +1,17 @@
 //! What holds of every table file. No code runs here.
 ghost use Rattle.mob_catalog.specs.Outcomes.{HasOneFault, HasOneTable, NeverReadAndRefused};
 
+use crate::Catalog;
+use mob_list::laws::crosses_threads;
+
 /// A table file has one outcome: it has the rows that it says, or one thing is wrong first in it, and never both.
 pub fn one_table()
     ensures rows { HasOneTable }
     ensures faults { HasOneFault }
     ensures apart { NeverReadAndRefused }
 {}
+
+/// Catalogues cross threads.
+pub fn catalogues_cross_threads() {
+    crosses_threads::<Catalog>();
+}

@@ -13,6 +13,9 @@ ghost use Rattle.mob_scalar.specs.Truth.{truth_text, truths};
 ghost use Rattle.mob_scalar.specs.declared.fault.ReadText.TheVariants.{NotText};
 ghost use Rattle.mob_scalar.specs.Verdict.{HasOneReading, Lit};
 
+use crate::Epoch;
+use mob_list::laws::crosses_threads;
+
 /// A number that is printed is read again as itself.
 pub fn number_read_again()
     ensures again { (q : Ratio) → Fits q → Lit numbers (number_text q) (Ok q) }
@@ -51,3 +54,8 @@ pub fn one_reading()
 pub fn text_value_read_again()
     ensures again { (v : List ℕ) → is_utf8 v ≡ true → text_value (quoted_text v) v }
 {}
+
+/// Epochs cross threads.
+pub fn epochs_cross_threads() {
+    crosses_threads::<Epoch>();
+}
