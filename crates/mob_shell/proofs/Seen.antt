@@ -4,7 +4,7 @@ use Rattle.std.specs.Prelude.{ℤ, Option, slice_get, option_map}
 use Rattle.std.specs.Io.KnownBytes.{Appends}
 use Rattle.std.proofs.lemmas.List.{take-map}
 use Rattle.std.proofs.lemmas.Option.{slice_get-map}
-use Rattle.mob_streams.specs.Answers.{Ran}
+use Rattle.mob_shell.specs.Statements.{Ran}
 use Rattle.mob_typing.specs.declared.typed.TypedStatement.{TypedStatement}
 use Rattle.mob_typing.specs.declared.typed.Typed.{Typed}
 use Rattle.mob_typing.specs.Statements.{StatementOut, statement_seen, script_seen}

@@ -7,8 +7,8 @@ use Rattle.std.proofs.lemmas.List.{append-nil, length-append}
 use Rattle.mob_ast.specs.declared.refusal.Refusal.{Refusal}
 use Rattle.mob_words.specs.CommandLine.{WordsSay}
 use Rattle.mob_accept.specs.Accepts.{IsAccepted, IsTextRefused, script_limit}
-use Rattle.mob_streams.specs.Streams.{ReadsPart, ReadsTo}
-use Rattle.mob_streams.proofs.Known.{takes_nothing}
+use Rattle.mob_outside.specs.Streams.{ReadsPart, ReadsTo}
+use Rattle.mob_outside.proofs.Known.{takes_nothing}
 use Rattle.mob_outside.specs.Told.{Contents, KeepsFiles}
 use Rattle.mob_typing.specs.Statements.{ScriptOut}
 use Rattle.mob_load.specs.Fronts.{AsksForSome, IsAskedLast}

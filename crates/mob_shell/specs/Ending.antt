@@ -6,7 +6,7 @@ use Rattle.mob_ast.specs.declared.refusal.Refusal.{Refusal}
 use Rattle.mob_outside.specs.Faults.{Rose}
 use Rattle.mob_outside.specs.Told.{Contents, KeepsFiles}
 use Rattle.mob_slice.specs.declared.formula.Formula.{Formula}
-use Rattle.mob_streams.specs.Streams.{PutsPart, ReadsPart}
+use Rattle.mob_outside.specs.Streams.{PutsPart, ReadsPart}
 use Rattle.mob_words.specs.CommandLine.{WordsSay}
 use Rattle.mob_accept.specs.Accepts.{IsTextRefused, script_limit}
 use Rattle.mob_typing.specs.Statements.{ScriptOut}

@@ -3,8 +3,8 @@ use Rattle.std.specs.Prelude.{◌≡◌, ◌≢◌, ◌⊎◌, ◌+◌, ℕ, ℤ
 use Rattle.std.specs.Io.KnownBytes.{Appends, Keeps}
 use Rattle.mob_outside.specs.Faults.{Rose}
 use Rattle.mob_outside.specs.Told.{Contents}
-use Rattle.mob_streams.specs.Streams.{PutsPart}
-use Rattle.mob_streams.specs.Answers.{Ran}
+use Rattle.mob_outside.specs.Streams.{PutsPart}
+use Rattle.mob_shell.specs.Statements.{Ran}
 use Rattle.mob_typing.specs.Statements.{ScriptOut, StatementOut}
 use Rattle.mob_ast.specs.declared.refusal.Kind.TheVariants.{NoMemory as OutOfMemory}
 use Rattle.mob_ast.specs.declared.refusal.Refusal.{Refusal}

@@ -3,7 +3,7 @@ use Rattle.std.specs.Prelude.{◌≡◌, ◌⊎◌, ◌≤◌, ℕ, List, Some}
 use Rattle.std.specs.Io.KnownBytes.{Keeps}
 use Rattle.mob_outside.specs.Faults.{Rose}
 use Rattle.mob_outside.specs.Told.{KeepsFiles}
-use Rattle.mob_streams.specs.Streams.{ReadsPart}
+use Rattle.mob_outside.specs.Streams.{ReadsPart}
 use Rattle.mob_accept.specs.Accepts.{script_limit}
 use Rattle.mob_ending.specs.Lines.{note_line, status_of}
 use Rattle.mob_ending.specs.declared.ending.Ending.{Ending}

@@ -5,8 +5,7 @@ ghost use Rattle.mob_shell.specs.Ending.{IsEndingOf, seen};
 use crate::judge::run_text;
 use mob_accept::SCRIPT_LIMIT;
 use mob_ending::Ending;
-use mob_outside::{Files, Sink, Source};
-use mob_streams::{ReadEnd, read_to};
+use mob_outside::{Files, ReadEnd, Sink, Source, read_to};
 use mob_words::settings;
 use std::alloc::Global;
 

@@ -3,12 +3,12 @@ ghost use Rattle.std.specs.Prelude.{◌≤◌};
 ghost use Rattle.mob_typing.specs.Statements.{script_seen};
 ghost use Rattle.mob_shell.specs.Parts.{RunEnds};
 
+use crate::engine::{RunEnd, run_all};
 use crate::session::Session;
 use mob_ending::Ending;
 use mob_load::Program;
 use mob_outside::Sink;
 use mob_scalar::Epoch;
-use mob_streams::{RunEnd, run_all};
 use mob_typing::Typed;
 use std::alloc::Global;
 

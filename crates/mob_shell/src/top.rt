@@ -2,7 +2,7 @@
 ghost use Rattle.std.specs.Prelude.{map, string_bytes};
 ghost use Rattle.mob_shell.specs.Ending.{seen};
 ghost use Rattle.mob_shell.specs.Run.{IsRun};
-ghost use Rattle.mob_streams.specs.Streams.{Puts};
+ghost use Rattle.mob_outside.specs.Streams.{Puts};
 
 use crate::decide::decide;
 use crate::laws::one_ending;
