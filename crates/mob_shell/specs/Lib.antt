@@ -1,4 +1,5 @@
 pub mod Answers
+pub mod EndsSeen
 pub mod Statements
 pub mod Runs
 pub mod StepOutcomes

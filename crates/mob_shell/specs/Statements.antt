@@ -3,6 +3,7 @@ use Rattle.std.specs.Prelude.{◌≡◌, ◌+◌, ℕ, List, [], ◌∷◌, ◌+
 use Rattle.std.specs.Io.KnownBytes.{Appends}
 use Rattle.mob_outside.specs.Faults.{Rose}
 use Rattle.mob_outside.specs.Streams.{PutsPart}
+use Rattle.mob_shell.specs.EndsSeen.{StreamSeen}
 use Rattle.mob_shell.specs.declared.engine.NoAnswer.{NoAnswer}
 use Rattle.mob_shell.specs.declared.engine.NoAnswer.TheVariants.{Fault, NoMemory as OutOfMemory}
 use Rattle.mob_shell.specs.declared.engine.RunEnd.{RunEnd}
@@ -34,11 +35,11 @@ pub record PutsFront {E S : Type 0} (step : E → S → E → List ℕ → Type 
 
 -- How the statements end that are run from the state s, and what is written. Where all ran, `left` is the state to which
 -- they took it. Statements count from 1.
-abbrev pub StatementsEnd : {E S F : Type 0} → (E → S → E → List ℕ → Type 0) → (E → S → F → Type 0) → E → E → List S → Option (List ℕ) → Option (List ℕ) → ℕ → ℕ → RunEnd F → Type 0
-StatementsEnd step stops s left all old now before after Done = (text : List ℕ) × Ran step s all left text × Appends old now text
-StatementsEnd {E} {S} step stops s left all old now before after (Stopped n f) = (j : ℕ) × (n ≡ j + 1) × (t : E) × (x : S) × RanFirst step s all j t old now × (slice_get all j ≡ Some x) × stops t x f
-StatementsEnd step stops s left all old now before after NotWritten = PutsFront step s all old now × Rose before after
-StatementsEnd {E} step stops s left all old now before after NoMemory = (j : ℕ) × (t : E) × RanFirst step s all j t old now
+abbrev pub StatementsEnd : {E S F : Type 0} → (E → S → E → List ℕ → Type 0) → (E → S → F → Type 0) → E → E → List S → StreamSeen → RunEnd F → Type 0
+StatementsEnd step stops s left all out Done = (text : List ℕ) × Ran step s all left text × Appends out.told_before out.told_now text
+StatementsEnd {E} {S} step stops s left all out (Stopped n f) = (j : ℕ) × (n ≡ j + 1) × (t : E) × (x : S) × RanFirst step s all j t out.told_before out.told_now × (slice_get all j ≡ Some x) × stops t x f
+StatementsEnd step stops s left all out NotWritten = PutsFront step s all out.told_before out.told_now × Rose out.faults_before out.faults_now
+StatementsEnd {E} step stops s left all out NoMemory = (j : ℕ) × (t : E) × RanFirst step s all j t out.told_before out.told_now
 
 -- the end where the statement of this number has no answer
 abbrev pub EndsWithoutAnswer : {F : Type 0} → ℕ → NoAnswer F → RunEnd F → Type 0

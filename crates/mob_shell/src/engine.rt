@@ -1,5 +1,6 @@
 // Statements that run one after another, each with the text of its answer.
 ghost use Rattle.std.specs.Prelude.{◌≤◌, IfOk, IfErr, List, ℕ};
+ghost use Rattle.mob_shell.specs.EndsSeen.{stream_seen};
 ghost use Rattle.mob_shell.specs.Statements.{StatementsEnd, EndsWithoutAnswer, OnFault};
 
 use mob_outside::{Sink, put_all};
@@ -59,7 +60,7 @@ pub fn run_all<E: Engine, K: Sink>(
     statements: &[E::Statement],
     out: &mut K,
 ) -> RunEnd<E::Fault>
-    ensures ends { StatementsEnd E.step E.stops engine.old engine.new statements.now (K.held out.old) (K.held out.new) (K.faults out.old) (K.faults out.new) result }
+    ensures ends { StatementsEnd E.step E.stops engine.old engine.new statements.now (stream_seen K.held K.faults out.old out.new) result }
     ensures later { K.faults out.old ≤ K.faults out.new }
 {
     let mut number: u32 = 1;

@@ -1,6 +1,7 @@
 // The statements of a program, run.
 ghost use Rattle.std.specs.Prelude.{◌≤◌};
 ghost use Rattle.mob_typing.specs.Statements.{script_seen};
+ghost use Rattle.mob_shell.specs.EndsSeen.{stream_seen};
 ghost use Rattle.mob_shell.specs.Parts.{RunEnds};
 
 use crate::engine::{RunEnd, run_all};
@@ -20,7 +21,7 @@ pub fn run_statements<K: Sink>(
     epoch: Epoch,
     out: &mut K,
 ) -> Ending
-    ensures ends { RunEnds epoch (script_seen typed.now) program (K.held out.old) (K.held out.new) (K.faults out.old) (K.faults out.new) result }
+    ensures ends { RunEnds epoch (script_seen typed.now) program (stream_seen K.held K.faults out.old out.new) result }
     ensures later { K.faults out.old ≤ K.faults out.new }
 {
     let mut session = Session::new(alloc, program, epoch);
