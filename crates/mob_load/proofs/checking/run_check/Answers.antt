@@ -1,7 +1,7 @@
 use Rattle.mob_load.specs.Loads.{loaded_of}
 use Rattle.mob_load.proofs.Narrow.{made_narrow, ok_on, same_narrow}
 use Rattle.mob_load.proofs.Steps.{may_ask_some}
-use Rattle.mob_load.proofs.passing.pass.Goals as goal
+use Rattle.mob_load.proofs.checking.run_check.Goals as goal
 
 pub returns-in-Literal-clause-narrow : goal.returns-in-Literal-clause-narrow
 returns-in-Literal-clause-narrow g c = ok_on c.read_literal.result (same_narrow (loaded_of c.args.loading.now).tables (loaded_of c.read_literal.new.loading).tables c.requires.tables) c.read_literal.ensures.tables

@@ -11,11 +11,11 @@ module _ (P : Checkpoint → Type 0) (n : ℕ) (row : (t p : ℕ) → P (bracket
   each_bracket t [] = tt
   each_bracket t (p ∷ ps) = (row t p, each_bracket t ps)
 
-  pub each_mark : (s : StatementOut) → ((t : ℕ) (name : List ℕ) (columns : ColumnList) → s ≡ new_table t name columns → P (checkpoint n 0 (table columns))) → AllByRecursion P (checkpoints_of n s)
-  each_mark nothing made = tt
-  each_mark (new_table t name columns) made = (made t name columns refl, tt)
-  each_mark (new_index t c name) made = tt
-  each_mark (new_rows t rows places) made = each_bracket t places
-  each_mark (rows_from t name) made = (copied t name, tt)
-  each_mark (query s) made = tt
-  each_mark (plan_of s) made = tt
+  pub each_checkpoint : (s : StatementOut) → ((t : ℕ) (name : List ℕ) (columns : ColumnList) → s ≡ new_table t name columns → P (checkpoint n 0 (table columns))) → AllByRecursion P (checkpoints_of n s)
+  each_checkpoint nothing made = tt
+  each_checkpoint (new_table t name columns) made = (made t name columns refl, tt)
+  each_checkpoint (new_index t c name) made = tt
+  each_checkpoint (new_rows t rows places) made = each_bracket t places
+  each_checkpoint (rows_from t name) made = (copied t name, tt)
+  each_checkpoint (query s) made = tt
+  each_checkpoint (plan_of s) made = tt

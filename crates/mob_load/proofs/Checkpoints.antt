@@ -7,15 +7,15 @@ use Rattle.mob_load.specs.Order.{checkpoint_in, checkpoints_in, LooksAtCheckpoin
 use Rattle.mob_load.proofs.Values.{NoLiterals, no_all}
 
 -- what is no literal is a checkpoint
-pub own_mark : (check : CheckParts) → literal_of check ≡ [] → checkpoint_in check ≡ check ∷ []
-own_mark (literal c) none = cc
-own_mark (table columns) none = refl
-own_mark (room t n p) none = refl
-own_mark (file t name) none = refl
+pub own_checkpoint : (check : CheckParts) → literal_of check ≡ [] → checkpoint_in check ≡ check ∷ []
+own_checkpoint (literal c) none = cc
+own_checkpoint (table columns) none = refl
+own_checkpoint (room t n p) none = refl
+own_checkpoint (file t name) none = refl
 
-no_marks : (cs : List ConstText) → checkpoints_in (map literal cs) ≡ []
-no_marks [] = refl
-no_marks (c ∷ cs) = no_marks cs
+no_checkpoints : (cs : List ConstText) → checkpoints_in (map literal cs) ≡ []
+no_checkpoints [] = refl
+no_checkpoints (c ∷ cs) = no_checkpoints cs
 
 module _ (next : List ConstText → List CheckParts) (checkpoints : List CheckParts) (each : (cs : List ConstText) → checkpoints_in (next cs) ≡ checkpoints) (m : Checkpoint) (own : checkpoint_in m.check ≡ m.check ∷ []) where
   behind : (cs : List ConstText) → checkpoint_in m.check ++ checkpoints_in (next cs) ≡ m.check ∷ checkpoints
@@ -25,13 +25,13 @@ module _ (next : List ConstText → List CheckParts) (checkpoints : List CheckPa
   choice true c cs rest is = rw is rest
   choice false c cs rest is = rw is (behind (c ∷ cs))
 
-  up_to_marks : (cs : List ConstText) → checkpoints_in (checks_up_to next m cs) ≡ m.check ∷ checkpoints
-  up_to_marks [] = behind []
-  up_to_marks (c ∷ cs) = choice (stands_before c m.statement m.place) c cs (up_to_marks cs) refl
+  up_to_checkpoints : (cs : List ConstText) → checkpoints_in (checks_up_to next m cs) ≡ m.check ∷ checkpoints
+  up_to_checkpoints [] = behind []
+  up_to_checkpoints (c ∷ cs) = choice (stands_before c m.statement m.place) c cs (up_to_checkpoints cs) refl
 
-order_marks : (ms : List Checkpoint) → NoLiterals ms → (cs : List ConstText) → checkpoints_in (in_order ms cs) ≡ map (λ m. m.check) ms
-order_marks [] none cs = no_marks cs
-order_marks (m ∷ ms) none cs = up_to_marks (in_order ms) (map (λ m. m.check) ms) (order_marks ms none.1) m (own_mark m.check none.0) cs
+order_checkpoints : (ms : List Checkpoint) → NoLiterals ms → (cs : List ConstText) → checkpoints_in (in_order ms cs) ≡ map (λ m. m.check) ms
+order_checkpoints [] none cs = no_checkpoints cs
+order_checkpoints (m ∷ ms) none cs = up_to_checkpoints (in_order ms) (map (λ m. m.check) ms) (order_checkpoints ms none.1) m (own_checkpoint m.check none.0) cs
 
-pub looked_at_marks : LooksAtCheckpoints
-looked_at_marks out = order_marks (checkpoints_from 1 out.statements) (no_all 1 out.statements) out.consts
+pub looked_at_checkpoints : LooksAtCheckpoints
+looked_at_checkpoints out = order_checkpoints (checkpoints_from 1 out.statements) (no_all 1 out.statements) out.consts

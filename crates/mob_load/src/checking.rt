@@ -1,26 +1,23 @@
 // One check: a literal, a new table, a row of an INSERT, or a file.
-ghost use Rattle.std.specs.Prelude.{◌≡◌, ◌⊎◌, ◌+◌, ◌^◌, ◌<◌, ◌≤◌, IfErr, IfOk, IfSome, OnOk, length, map, option_map, slice_get, slice_index, slice_set, Some};
+ghost use Rattle.std.specs.Prelude.{◌≡◌, ◌≢◌, ◌+◌, ◌^◌, ◌<◌, ◌≤◌, IfErr, IfOk, IfSome, OnOk, length, map, option_map, slice_get, slice_index, slice_set, Some};
 ghost use Rattle.mob_outside.specs.Told.{AsksFor, KeepsFiles, MayAskFor, file_of};
-ghost use Rattle.mob_catalog.specs.Constants.{at_constant};
-ghost use Rattle.mob_catalog.specs.Faults.{OnRefused, IsRefusedAs};
+ghost use Rattle.mob_catalog.specs.Faults.{OnRefused};
 ghost use Rattle.mob_catalog.specs.TableFile.{FileFails, IsTable};
 ghost use Rattle.mob_load.specs.Checks.{check_seen, file};
 ghost use Rattle.mob_load.specs.Fronts.{AsksForAll, AsksForSome};
-ghost use Rattle.mob_load.specs.Loads.{LoadsTo, HasFaultCause, HasNarrow, IsFaultAt, IsNarrow, IsNoFault, IsRead, LoadsCheck, LoadsFile, LoadsLiteral, columns_or_none, loaded_of, names_of, one_row, loaded_row_count as rows_in, with_file, with_made_table};
+ghost use Rattle.mob_load.specs.Loads.{LoadsTo, HasFaultCause, HasNarrow, IsFaultAt, IsNarrow, IsNoFault, IsRead, LoadsCheck, LoadsFile, LoadsLiteral, columns_or_none, loaded_of, names_of, one_row, loaded_row_count, with_file, with_made_table};
 ghost use Rattle.mob_load.specs.declared.program.LoadEnd.TheVariants.{NoMemory, Refused};
-ghost use Rattle.mob_ast.specs.declared.refusal.Kind.{Kind};
 
 use crate::check::Check;
 use crate::file::read_file;
 use crate::loading::Loading;
 use crate::program::LoadEnd;
 use mob_ast::{Kind, Refusal, SqlType};
-use mob_catalog::{LoadFault, constant_refusal, read_table};
+use mob_catalog::{LoadFault, constant, read_table};
 use mob_list::items::Items;
 use mob_list::text::Text;
-use mob_literal::read_value;
 use mob_outside::Files;
-use mob_scalar::{Epoch, ReadText};
+use mob_scalar::Epoch;
 use mob_typing::ConstText;
 use mob_value::Value;
 use std::alloc::Global;
@@ -28,13 +25,14 @@ use std::alloc::Global;
 // The most rows that a script puts into one table.
 const GREATEST_ROWS: u32 = 1_000_000;
 
-// Why loading ends at a literal whose text has this fault.
-fn refused_literal(fault: ReadText, literal: &ConstText) -> LoadEnd
-    ensures refused { (result ≡ NoMemory) ⊎ ((k : Kind) × IsRefusedAs fault k × (result ≡ Refused (at_constant literal.now k))) }
+// Why loading ends at a literal that is refused.
+fn end_of(refusal: Refusal) -> LoadEnd
+    ensures memory { refusal.kind ≡ Kind.NoMemory → result ≡ NoMemory }
+    ensures refused { refusal.kind ≢ Kind.NoMemory → result ≡ Refused refusal }
 {
-    match constant_refusal(fault, literal) {
-        Some(refusal) => LoadEnd::Refused(refusal),
-        None => LoadEnd::NoMemory,
+    match refusal.kind {
+        Kind::NoMemory => LoadEnd::NoMemory,
+        _ => LoadEnd::Refused(refusal),
     }
 }
 
@@ -42,19 +40,19 @@ fn refused_literal(fault: ReadText, literal: &ConstText) -> LoadEnd
 fn read_literal(
     alloc: Global,
     loading: &mut Loading<'_>,
-    constant: &ConstText,
+    literal: &ConstText,
     epoch: &Epoch,
 ) -> Result<(), LoadEnd>
-    ensures read { LoadsTo result (loaded_of loading.new) (LoadsLiteral epoch.now constant.now (loaded_of loading.old)) }
+    ensures read { LoadsTo result (loaded_of loading.new) (LoadsLiteral epoch.now literal.now (loaded_of loading.old)) }
     ensures no_fault { IfErr result IsNoFault }
     ensures tables { OnOk result ((loaded_of loading.new).tables ≡ (loaded_of loading.old).tables) }
 {
-    match read_value(alloc, constant.ty, constant.text.as_str(), epoch) {
+    match constant(alloc, literal, epoch) {
         Ok(value) => {
             loading.values.push(value)?;
             Ok(())
         }
-        Err(fault) => Err(refused_literal(fault, constant)),
+        Err(refusal) => Err(end_of(refusal)),
     }
 }
 
@@ -122,7 +120,7 @@ fn columns_at<'a>(tables: &[&'a [(Text, SqlType)]], table: u32) -> Option<&'a [(
 }
 
 // The rows of a file. A table that is not there has no columns; no statement names one.
-fn fill(
+fn rows_of_bytes(
     alloc: Global,
     bytes: &[u8],
     columns: Option<&[(Text, SqlType)]>,
@@ -144,7 +142,7 @@ fn fill(
 
 // Puts the rows of a file into the table of this number.
 fn put_rows(loading: &mut Loading<'_>, table: u32, rows: Items<Items<Value>>) -> Result<(), LoadEnd>
-    requires fits { rows_in (loaded_of loading.old) table + length rows < 2 ^ 32 }
+    requires fits { loaded_row_count (loaded_of loading.old) table + length rows < 2 ^ 32 }
     ensures put { OnOk result (loaded_of loading.new ≡ with_file (loaded_of loading.old) table rows) }
     ensures memory { IfErr result (λ e. e ≡ NoMemory) }
 {
@@ -154,7 +152,7 @@ fn put_rows(loading: &mut Loading<'_>, table: u32, rows: Items<Items<Value>>) ->
 }
 
 // Makes rows of the bytes of a file.
-fn pour(
+fn load_bytes(
     alloc: Global,
     loading: &mut Loading<'_>,
     table: u32,
@@ -163,14 +161,14 @@ fn pour(
     epoch: &Epoch,
 ) -> Result<(), LoadEnd>
     requires narrow { HasNarrow (loaded_of loading.old).tables }
-    ensures poured { LoadsTo result (loaded_of loading.new) (LoadsFile epoch.now table name.now (loaded_of loading.old) (Some bytes.now)) }
+    ensures loads { LoadsTo result (loaded_of loading.new) (LoadsFile epoch.now table name.now (loaded_of loading.old) (Some bytes.now)) }
     ensures fault { IfErr result (IsFaultAt (file table name.now)) }
     ensures read { IfErr result IsRead }
     ensures tables { OnOk result ((loaded_of loading.new).tables ≡ (loaded_of loading.old).tables) }
 {
     let room = GREATEST_ROWS.saturating_sub(rows_at(&loading.rows, table));
     let columns = columns_at(&loading.tables, table);
-    match fill(alloc, bytes, columns, epoch, room) {
+    match rows_of_bytes(alloc, bytes, columns, epoch, room) {
         Ok(rows) => put_rows(loading, table, rows),
         Err(LoadFault::Refused { kind, rec, field }) => Err(LoadEnd::TableRefused {
             file: name.copy(alloc)?,
@@ -192,7 +190,7 @@ fn load_file<F: Files>(
     epoch: &Epoch,
 ) -> Result<(), LoadEnd>
     requires narrow { HasNarrow (loaded_of loading.old).tables }
-    ensures poured { IfSome (F.files files.old) (λ m. LoadsTo result (loaded_of loading.new) (LoadsFile epoch.now table name.now (loaded_of loading.old) (file_of name.now m))) }
+    ensures loads { IfSome (F.files files.old) (λ m. LoadsTo result (loaded_of loading.new) (LoadsFile epoch.now table name.now (loaded_of loading.old) (file_of name.now m))) }
     ensures fault { IfErr result (IsFaultAt (file table name.now)) }
     ensures tables { OnOk result ((loaded_of loading.new).tables ≡ (loaded_of loading.old).tables) }
     ensures cause { IfErr result (HasFaultCause (F.faults files.old) (F.faults files.new)) }
@@ -206,11 +204,11 @@ fn load_file<F: Files>(
             file: name.copy(alloc)?,
         });
     };
-    pour(alloc, loading, table, name, &bytes, epoch)
+    load_bytes(alloc, loading, table, name, &bytes, epoch)
 }
 
 /// One check, and what was read so far. A script is refused at the first check that fails.
-pub fn pass<'a, F: Files>(
+pub fn run_check<'a, F: Files>(
     alloc: Global,
     check: Check<'a>,
     loading: &mut Loading<'a>,
@@ -219,7 +217,7 @@ pub fn pass<'a, F: Files>(
 ) -> Result<(), LoadEnd>
     requires narrow { IsNarrow (check_seen check) }
     requires tables { HasNarrow (loaded_of loading.old).tables }
-    ensures passed { IfSome (F.files files.old) (λ m. LoadsTo result (loaded_of loading.new) (LoadsCheck epoch.now m (check_seen check.entry) (loaded_of loading.old))) }
+    ensures loads { IfSome (F.files files.old) (λ m. LoadsTo result (loaded_of loading.new) (LoadsCheck epoch.now m (check_seen check.entry) (loaded_of loading.old))) }
     ensures fault { IfErr result (IsFaultAt (check_seen check.entry)) }
     ensures narrow { OnOk result (HasNarrow (loaded_of loading.new).tables) }
     ensures cause { IfErr result (HasFaultCause (F.faults files.old) (F.faults files.new)) }
