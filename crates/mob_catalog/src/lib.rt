@@ -3,7 +3,7 @@
 #![tactic(auto)]
 
 mod catalog;
-mod constants;
+mod constant_values;
 mod fault;
 mod header;
 pub mod laws;
@@ -12,6 +12,6 @@ mod row;
 mod table_file;
 
 pub use catalog::Catalog;
-pub use constants::{constant, constants};
+pub use constant_values::{constant, constants};
 pub use fault::{LoadFault, constant_refusal, refusal_kind};
 pub use table_file::{FILE_LIMIT, read_table};

@@ -1,7 +1,7 @@
 use Rattle.std.proofs.Common.{inr}
 use Rattle.mob_catalog.specs.Constants.{IsConstant, RefusesConstant}
 use Rattle.mob_catalog.proofs.FirstFaults.{all_read, fails_here, one_more}
-use Rattle.mob_catalog.proofs.constants.constants.Goals as goal
+use Rattle.mob_catalog.proofs.constant_values.constants.Goals as goal
 
 pub returns-in-Err-clause-refused : goal.returns-in-Err-clause-refused
 returns-in-Err-clause-refused c =
