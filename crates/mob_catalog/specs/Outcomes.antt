@@ -1,6 +1,10 @@
--- A table file has one outcome.
-use Rattle.std.specs.Prelude.{◌≡◌, ℕ, ℤ, List}
+-- A table file and the constants of a script have one outcome each.
+use Rattle.std.specs.Prelude.{◌≡◌, ◌≢◌, ℕ, ℤ, List, Ok, Err}
+use Rattle.mob_ast.specs.declared.refusal.Kind.TheVariants.{NoMemory}
+use Rattle.mob_ast.specs.declared.refusal.Refusal.{Refusal}
+use Rattle.mob_typing.specs.declared.typed.ConstText.{ConstText}
 use Rattle.mob_value.specs.declared.value.Value.{Value}
+use Rattle.mob_catalog.specs.Constants.{AreConstants}
 use Rattle.mob_catalog.specs.Faults.{FileFault}
 use Rattle.mob_catalog.specs.TableFile.{Column, FileFails, IsTable}
 
@@ -15,3 +19,15 @@ HasOneFault = (columns : List Column) (day : ℤ) (room : ℕ) (bytes : List ℕ
 -- a file with something wrong in it says no rows
 abbrev pub NeverReadAndRefused : Type 0
 NeverReadAndRefused = (columns : List Column) (day : ℤ) (room : ℕ) (bytes : List ℕ) (rows : List (List Value)) (w : FileFault) → IsTable columns day room bytes rows → FileFails columns day room bytes w → ⊥
+
+-- constants have no two lists of values
+abbrev pub HaveOneMeaning : Type 0
+HaveOneMeaning = (day : ℤ) (constants : List ConstText) (a b : List Value) → AreConstants day constants (Ok a) → AreConstants day constants (Ok b) → a ≡ b
+
+-- one refusal of constants is the first, apart from want of memory
+abbrev pub HaveOneRefusal : Type 0
+HaveOneRefusal = (day : ℤ) (constants : List ConstText) (e f : Refusal) → e.kind ≢ NoMemory → f.kind ≢ NoMemory → AreConstants day constants (Err e) → AreConstants day constants (Err f) → e ≡ f
+
+-- constants that are refused, other than for want of memory, have no values
+abbrev pub NeverMeantAndRefused : Type 0
+NeverMeantAndRefused = (day : ℤ) (constants : List ConstText) (values : List Value) (e : Refusal) → e.kind ≢ NoMemory → AreConstants day constants (Ok values) → AreConstants day constants (Err e) → ⊥

@@ -23,7 +23,7 @@ use Rattle.mob_typing.specs.Statements.{Made, with_column, with_columns, with_ta
 use Rattle.mob_load.specs.Checks.{CheckParts, check_seen, literal, Checkpoint, checkpoints_of, checkpoints_from, stands_before, checks_up_to, in_order, checks_of}
 use Rattle.mob_load.specs.declared.check.Check.{Check}
 use Rattle.mob_load.specs.Loads.{Loaded, nothing_loaded, with_made_table as add_table, IsNarrow, AreNarrow, HasNarrow, columns_or_none}
-use Rattle.mob_load.proofs.EachMark.{each_mark}
+use Rattle.mob_load.proofs.EachCheckpoint.{each_checkpoint}
 use Rattle.mob_typed.proofs.Rising.{each_both}
 
 -- what holds of each value that an answer can be
@@ -145,25 +145,25 @@ module _ (next : List ConstText → List CheckParts) (narrow : (cs : List ConstT
   up_to_narrow [] = (own, narrow [])
   up_to_narrow (c ∷ cs) = choice (stands_before c m.statement m.place) c cs (up_to_narrow cs) refl
 
-abbrev IsNarrowMark : Checkpoint → Type 0
-IsNarrowMark m = IsNarrow m.check
+abbrev IsNarrowCheckpoint : Checkpoint → Type 0
+IsNarrowCheckpoint m = IsNarrow m.check
 
-abbrev NarrowMarks : List Checkpoint → Type 0
-NarrowMarks ms = AllByRecursion IsNarrowMark ms
+abbrev NarrowCheckpoints : List Checkpoint → Type 0
+NarrowCheckpoints ms = AllByRecursion IsNarrowCheckpoint ms
 
-order_narrow : (ms : List Checkpoint) → NarrowMarks ms → (cs : List ConstText) → AreNarrow (in_order ms cs)
+order_narrow : (ms : List Checkpoint) → NarrowCheckpoints ms → (cs : List ConstText) → AreNarrow (in_order ms cs)
 order_narrow [] all cs = literals_narrow cs
 order_narrow (m ∷ ms) all cs = up_to_narrow (in_order ms) (order_narrow ms all.1) m all.0 cs
 
-marks_narrow : (n : ℕ) (s : StatementOut) → NarrowStatement s → NarrowMarks (checkpoints_of n s)
-marks_narrow n s narrow = each_mark IsNarrowMark n (λ t p. tt) (λ t name. tt) s (λ t name columns is. subst NarrowStatement is narrow)
+checkpoints_narrow : (n : ℕ) (s : StatementOut) → NarrowStatement s → NarrowCheckpoints (checkpoints_of n s)
+checkpoints_narrow n s narrow = each_checkpoint IsNarrowCheckpoint n (λ t p. tt) (λ t name. tt) s (λ t name columns is. subst NarrowStatement is narrow)
 
-all_marks_narrow : (n : ℕ) (ss : List StatementOut) → AllByRecursion NarrowStatement ss → NarrowMarks (checkpoints_from n ss)
-all_marks_narrow n [] all = tt
-all_marks_narrow n (s ∷ ss) all = each_both IsNarrowMark (checkpoints_of n s) (checkpoints_from (n + 1) ss) (marks_narrow n s all.0) (all_marks_narrow (n + 1) ss all.1)
+all_checkpoints_narrow : (n : ℕ) (ss : List StatementOut) → AllByRecursion NarrowStatement ss → NarrowCheckpoints (checkpoints_from n ss)
+all_checkpoints_narrow n [] all = tt
+all_checkpoints_narrow n (s ∷ ss) all = each_both IsNarrowCheckpoint (checkpoints_of n s) (checkpoints_from (n + 1) ss) (checkpoints_narrow n s all.0) (all_checkpoints_narrow (n + 1) ss all.1)
 
 pub script_narrow : (ss : List StatementParts) (out : ScriptOut) → typed_script ss ≡ Ok out → AreNarrow (checks_of out)
-script_narrow ss out is = order_narrow (checkpoints_from 1 out.statements) (all_marks_narrow 1 out.statements (statements_narrow 1 no_names ss [] out is)) out.consts
+script_narrow ss out is = order_narrow (checkpoints_from 1 out.statements) (all_checkpoints_narrow 1 out.statements (statements_narrow 1 no_names ss [] out is)) out.consts
 
 -- one of narrow checks
 pub check_narrow : (all : List Check) (i : ℕ) (d : Check) → AreNarrow (map check_seen all) → i < length all → IsNarrow (check_seen (get_or all i d))

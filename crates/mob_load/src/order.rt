@@ -39,7 +39,7 @@ fn push_literals<'a>(
 
 // Puts the literals from number `put` on that stand before this place, and then the check of this place. Answers the number
 // of the next literal.
-fn push_mark<'a>(
+fn push_checkpoint<'a>(
     done: &mut Vec<Check<'a>>,
     literals: &'a [ConstText],
     put: usize,
@@ -74,7 +74,7 @@ fn push_brackets<'a>(
             statement,
             place: *place,
         };
-        at = push_mark(done, literals, at, statement, *place, bracket)?;
+        at = push_checkpoint(done, literals, at, statement, *place, bracket)?;
     }
     Ok(at)
 }
@@ -93,7 +93,7 @@ fn push_statement<'a>(
     match statement {
         TypedStatement::CreateTable { columns, .. } => {
             let table = Check::Table(columns.as_slice());
-            push_mark(done, literals, put, number, 0, table)
+            push_checkpoint(done, literals, put, number, 0, table)
         }
         TypedStatement::Insert { table, places, .. } => {
             push_brackets(done, literals, put, *table, number, places.as_slice())
@@ -103,7 +103,7 @@ fn push_statement<'a>(
                 table: *table,
                 name: file,
             };
-            push_mark(done, literals, put, number, 0, file)
+            push_checkpoint(done, literals, put, number, 0, file)
         }
         _ => Ok(put),
     }

@@ -10,7 +10,7 @@ ghost use Rattle.mob_load.specs.Loads.{AreNarrow, HasFaultCause, IsFaultAtLast, 
 use crate::check::Check;
 use crate::loading::Loading;
 use crate::order::checks_of;
-use crate::passing::pass;
+use crate::checking::run_check;
 use crate::program::{LoadEnd, Program};
 use mob_list::items::Items;
 use mob_outside::Files;
@@ -49,7 +49,7 @@ fn load_checks<'a, F: Files>(
 {
     let mut loading = nothing_loaded(alloc);
     for check in checks {
-        match pass(alloc, *check, &mut loading, files, epoch) {
+        match run_check(alloc, *check, &mut loading, files, epoch) {
             Ok(()) => {}
             Err(end) => return Err(end),
         }

@@ -12,6 +12,9 @@ ghost use Rattle.mob_scalar.specs.Truth.{truth_text, truths};
 ghost use Rattle.mob_numeral.specs.declared.fault.ReadText.TheVariants.{NotText};
 ghost use Rattle.mob_numeral.specs.Verdict.{HasOneReading, Lit};
 
+use crate::Epoch;
+use mob_list::laws::crosses_threads;
+
 /// A truth value that is printed is read again as itself.
 pub fn truth_read_again()
     ensures again { (b : Bool) → Lit truths (truth_text b) (Ok b) }
@@ -40,3 +43,8 @@ pub fn one_reading()
 pub fn text_value_read_again()
     ensures again { (v : List ℕ) → is_utf8 v ≡ true → text_value (quoted_text v) v }
 {}
+
+/// Epochs cross threads.
+pub fn epochs_cross_threads() {
+    crosses_threads::<Epoch>();
+}

@@ -11,7 +11,7 @@ use Rattle.mob_load.specs.declared.program.Program.{Program}
 use Rattle.mob_eval.specs.QueryFaults.{TupleFault}
 use Rattle.mob_shell.specs.StepOutcomes.{HasOneStatementFault, HasOneStep, NeverRunsAndStops}
 use Rattle.mob_shell.specs.Runs.{RunsStatement, Stops, begin}
-use Rattle.mob_streams.specs.Answers.{Ran}
+use Rattle.mob_shell.specs.Statements.{Ran}
 use Rattle.mob_shell.specs.Program.{IsProgram, AreTakenAs, StopsWith}
 use Rattle.mob_shell.specs.Outcomes.{HasOneHalt, HasOneProgram, HasOneStop, HasOneText, NeverEndsAndStops, NeverProgramAndHalted, NeverScriptAndRefused}
 use Rattle.mob_shell.proofs.OneRun.{IsSingle, StopsBehind, never_ran_and_stops, one_ran, one_stop}

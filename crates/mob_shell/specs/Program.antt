@@ -9,7 +9,7 @@ use Rattle.mob_load.specs.Loads.{Halt, LoadsScript, Reaches, nothing_loaded}
 use Rattle.mob_load.specs.declared.program.Program.{Program}
 use Rattle.mob_eval.specs.QueryFaults.{TupleFault}
 use Rattle.mob_shell.specs.Runs.{RunState, RunsStatement, Stops, begin}
-use Rattle.mob_streams.specs.Answers.{Ran}
+use Rattle.mob_shell.specs.Statements.{Ran}
 
 -- The words are taken, the text is a script, and this is what it is with names and types.
 pub record AreTakenAs (words : List (List ℕ)) (bytes : List ℕ) (day : ℤ) (out : ScriptOut) : Type 0 where
