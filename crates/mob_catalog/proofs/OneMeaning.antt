@@ -2,7 +2,7 @@
 use Rattle.std.proofs.Common.{◌≡◌, ◌≢◌, ◌∙◌, inl, inr, sym, ap, subst, ℕ, ℤ, List, Ok, Err}
 use Rattle.mob_ast.specs.declared.refusal.Kind.TheVariants.{NoMemory}
 use Rattle.mob_ast.specs.declared.refusal.Refusal.{Refusal}
-use Rattle.mob_typing.specs.declared.typed.ConstText.{ConstText}
+use Rattle.mob_typed.specs.declared.typed.ConstText.{ConstText}
 use Rattle.mob_value.specs.declared.value.Value.{Value}
 use Rattle.mob_literal.proofs.SqlReading.{one_sql_reading}
 use Rattle.mob_catalog.specs.Constants.{ConstantFails, IsConstant, RefusesConstant, at_constant}

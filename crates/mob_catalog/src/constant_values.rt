@@ -7,7 +7,7 @@ use mob_ast::{Kind, Refusal};
 use mob_list::items::Items;
 use mob_literal::read_value;
 use mob_scalar::Epoch;
-use mob_typing::ConstText;
+use mob_typed::ConstText;
 use mob_value::Value;
 use std::alloc::Global;
 

@@ -8,7 +8,7 @@ use Rattle.mob_scalar.specs.declared.fault.ReadText.{ReadText}
 use Rattle.mob_scalar.specs.declared.fault.ReadText.TheVariants as text
 use Rattle.mob_catalog.specs.Constants.{RefusesConstant}
 use Rattle.mob_catalog.specs.Faults.{IsRefusedAs}
-use Rattle.mob_typing.specs.declared.typed.ConstText.{ConstText}
+use Rattle.mob_typed.specs.declared.typed.ConstText.{ConstText}
 use Rattle.mob_load.specs.Loads.{Loaded, LoadsLiteral, LoadsTo, refused}
 use Rattle.mob_load.specs.declared.program.LoadEnd.{LoadEnd}
 use Rattle.mob_load.specs.declared.program.LoadEnd.TheVariants.{Refused, NoMemory}

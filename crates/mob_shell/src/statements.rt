@@ -10,7 +10,7 @@ use mob_ending::Ending;
 use mob_load::Program;
 use mob_outside::Sink;
 use mob_scalar::Epoch;
-use mob_typing::Typed;
+use mob_typed::Typed;
 use std::alloc::Global;
 
 // Runs the statements of a typed script, one after the other, and puts each answer.
