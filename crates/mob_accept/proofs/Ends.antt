@@ -22,8 +22,8 @@ use Rattle.mob_grammar.specs.Symbols.{Symbol, fixed, name, number, quoted, Tok, 
 use Rattle.mob_grammar.specs.Cuts.{ends_among, StandsBehind}
 use Rattle.mob_grammar.proofs.Marks.{same_mark}
 use Rattle.mob_grammar.proofs.Steps.{told}
-use Rattle.mob_parse.specs.Tokens.{other_sign, sign_mark, word_symbol, piece, symbol_at, before_lexed, lexed}
-use Rattle.mob_parse.proofs.Reserved.{words_are_read}
+use Rattle.mob_lexemes.specs.Lexed.{other_sign, sign_mark, word_symbol, piece, symbol_at, before_lexed, lexed}
+use Rattle.mob_lexemes.proofs.Reserved.{words_are_read}
 use Rattle.mob_parse.specs.Refusals.{semicolons, place_of}
 use Rattle.mob_built.proofs.Within.{ends_later}
 use Rattle.mob_built.specs.Words.{bytes_of, tokens_in, is_end_before, statement_number}

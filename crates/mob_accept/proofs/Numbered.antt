@@ -14,7 +14,7 @@ use Rattle.mob_grammar.specs.Held.{statement_held}
 use Rattle.mob_grammar.specs.Cuts.{StandsBehind, StandBehind}
 use Rattle.mob_grammar.proofs.Cuts.{places_are_cut, held_are_cut}
 use Rattle.mob_parse.specs.Refusals.{HasTokens, semicolons, place_of, Cause}
-use Rattle.mob_parse.specs.Tokens.{lexed}
+use Rattle.mob_lexemes.specs.Lexed.{lexed}
 use Rattle.mob_typing.specs.declared.typed.ConstText.{ConstText}
 use Rattle.mob_typing.specs.Answers.{Mistake}
 use Rattle.mob_typing.specs.Names.{NameLists}

@@ -14,7 +14,7 @@ use Rattle.mob_grammar.specs.Symbols.{Symbol, Tok}
 use Rattle.mob_grammar.specs.Sizes.{script_nodes}
 use Rattle.mob_grammar.proofs.Sizes.{few_nodes}
 use Rattle.mob_parse.specs.Refusals.{HasTokens, IsTreeOf}
-use Rattle.mob_parse.specs.Tokens.{symbol_at, before_lexed, lexed}
+use Rattle.mob_lexemes.specs.Lexed.{symbol_at, before_lexed, lexed}
 
 -- each token has a byte
 leads_few : {p q : ℕ} {l m : List ℕ} {ts : List Token} → Leads p l ts q m → length ts ≤ length l

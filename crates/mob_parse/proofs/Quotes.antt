@@ -2,7 +2,7 @@
 use Rattle.std.proofs.Common.{◌≡◌, ◌≢◌, ◌==◌, ◌<◌, ◌+◌, ◌∙◌, ◌⊎◌, inl, inr, ℕ, zero, suc, List, [], ◌∷◌, ◌++◌, length, take, drop, Bool, true, false, not, cond, refl, sym, ap, arith, append_assoc}
 use Rattle.std.proofs.lemmas.Bool.{eqb-true}
 use Rattle.std.specs.List.{position_or_len, before_first, after_first}
-use Rattle.mob_parse.specs.Lexemes.{without_quote, unquoted}
+use Rattle.mob_lexemes.specs.Lexemes.{without_quote, unquoted}
 
 told : (b : Bool) → (b ≡ true) ⊎ (b ≡ false)
 told true = inl refl

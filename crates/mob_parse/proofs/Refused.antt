@@ -12,11 +12,12 @@ use Rattle.mob_ast.specs.declared.refusal.Kind.TheVariants.{NotUtf8, Lexical, Sy
 use Rattle.mob_grammar.specs.Symbols.{Tok}
 use Rattle.mob_grammar.specs.Scripts.{IsScript}
 use Rattle.mob_grammar.specs.Texts.{GoesOn}
-use Rattle.mob_grammar.specs.Weights.{Standing, outside}
+use Rattle.mob_lexemes.specs.declared.heavy.TokenStanding.{TokenStanding}
+use Rattle.mob_lexemes.specs.Weights.{outside}
 use Rattle.mob_grammar.proofs.Outcomes.{Longer, no_longer, one_wrong}
 use Rattle.mob_grammar.proofs.Steps.{told}
-use Rattle.mob_parse.specs.Tokens.{lexed}
-use Rattle.mob_parse.specs.Heavy.{is_heavy, standing_after, heavy_from}
+use Rattle.mob_lexemes.specs.Lexed.{lexed}
+use Rattle.mob_lexemes.specs.Heavy.{is_heavy, standing_after, heavy_from}
 use Rattle.mob_parse.specs.Refusals.{HasTokens, IsTreeOf, IsLightText, semicolons, place_of, IsSyntax, IsTooComplex, BeginsScript, IsStatementBehind, Cause, ParsesToRefusal, IsSameRefusal, HasOneParseRefusal, TreeIsRefusedForMemoryAlone}
 use Rattle.mob_parse.proofs.Scripts.{Scripts, no_script}
 
@@ -53,7 +54,7 @@ pub tree_is_refused_for_memory_alone : TreeIsRefusedForMemoryAlone
 tree_is_refused_for_memory_alone bytes x e d light h = no_tree e.kind bytes e h x d light
 
 -- the token of a number stands in the list
-heavy_within : (s : Standing) (p : ℕ) (l : List Tok) (n : ℕ) → heavy_from s p l ≡ Some n → n < p + length l
+heavy_within : (s : TokenStanding) (p : ℕ) (l : List Tok) (n : ℕ) → heavy_from s p l ≡ Some n → n < p + length l
 heavy_within s p [] n e = cc
 heavy_within s p (t ∷ l) n e = elim (told (is_heavy s t.symbol l)) [
   | inl yes_ ↦

@@ -16,10 +16,10 @@ use Rattle.mob_grammar.proofs.Whole as whole
 use Rattle.std.specs.List.{take-map, drop-map}
 use Rattle.mob_ast.specs.declared.refusal.Kind.{Kind}
 use Rattle.mob_ast.specs.declared.refusal.Kind.TheVariants.{TooComplex}
-use Rattle.mob_parse.specs.declared.lexeme.Lexeme.{Lexeme}
-use Rattle.mob_parse.specs.Lexemes.{tok_of, toks}
+use Rattle.mob_lexemes.specs.declared.lexeme.Lexeme.{Lexeme}
+use Rattle.mob_lexemes.specs.Lexemes.{tok_of, toks}
 use Rattle.mob_parse.specs.Refusals.{semicolons, place_of, NoneAmong, IsSyntax, IsLight, CauseAt, IsRefusedAt}
-use Rattle.mob_parse.specs.Heavy.{first_heavy}
+use Rattle.mob_lexemes.specs.Heavy.{first_heavy}
 
 abbrev pub Scripts : List Tok → List StatementParts → List Tok → Type 0
 Scripts = Listed Semicolon Statement

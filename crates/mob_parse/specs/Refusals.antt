@@ -13,8 +13,8 @@ use Rattle.mob_grammar.specs.Symbols.{Tok, is_sign}
 use Rattle.mob_grammar.specs.Forms.{Listed}
 use Rattle.mob_grammar.specs.Scripts.{Statement, IsScript}
 use Rattle.mob_grammar.specs.Texts.{BeginsText, IsFirstWrong}
-use Rattle.mob_parse.specs.Tokens.{lexed}
-use Rattle.mob_parse.specs.Heavy.{first_heavy}
+use Rattle.mob_lexemes.specs.Lexed.{lexed}
+use Rattle.mob_lexemes.specs.Heavy.{first_heavy}
 
 -- the tokens of a script, as the grammar sees them
 abbrev pub HasTokens : List ℕ → List Tok → Type 0

@@ -3,8 +3,8 @@ ghost use Rattle.std.specs.Prelude.{◌≡◌, ◌≤◌, ◌<◌, ◌+◌, ◌^
 ghost use Rattle.mob_ast.specs.Trees.{StatementParts, statement_of, script_of};
 ghost use Rattle.mob_grammar.specs.Scripts.{IsScript};
 ghost use Rattle.mob_grammar.specs.Sizes.{script_nodes};
-ghost use Rattle.mob_parse.specs.Lexemes.{toks};
-ghost use Rattle.mob_parse.specs.Heavy.{first_heavy};
+ghost use Rattle.mob_lexemes.specs.Lexemes.{toks};
+ghost use Rattle.mob_lexemes.specs.Heavy.{first_heavy};
 ghost use Rattle.mob_ast.specs.Kinds.{no_memory};
 ghost use Rattle.mob_chars.specs.Tokens.{tokens_of};
 ghost use Rattle.mob_parse.specs.Refusals.{semicolons, place_of, BeginsScript, IsWrong, IsRefusedAt, ParsesToRefusal, IsTreeOf, IsLight, IsLightText, IsStatementBehind, IsSameRefusal};

@@ -1,6 +1,6 @@
 use Rattle.std.proofs.Common.{◌≡◌, length, ap, arith, subst, sym}
-use Rattle.mob_parse.specs.Tokens.{ArePlaced}
-use Rattle.mob_parse.proofs.Placed.{are_placed, are_few}
+use Rattle.mob_lexemes.specs.Lexed.{ArePlaced}
+use Rattle.mob_lexemes.proofs.Placed.{are_placed, are_few}
 use Rattle.mob_parse.proofs.script.parse_text.Goals as goal
 
 pub lexemes-requires : goal.lexemes-requires
