@@ -5,8 +5,8 @@ ghost use Rattle.mob_grammar.specs.Reading.{is_number};
 ghost use Rattle.mob_lexemes.specs.Lexemes.{lower, unquoted};
 ghost use Rattle.mob_parse.specs.Cursors.{left};
 
-use crate::lexeme::{Lexeme, Symbol};
 use mob_grammar::mark::Mark;
+use mob_lexemes::lexeme::{Lexeme, Symbol};
 use std::alloc::{AllocError, AllocFailed, Global};
 
 /// Why reading stopped.
