@@ -6,7 +6,8 @@ use Rattle.std.proofs.lemmas.List.{length-take}
 use Rattle.std.proofs.lemmas.List.Sums.{take_while-cons}
 use Rattle.mob_chars.specs.declared.token.TokenKind.{TokenKind}
 use Rattle.mob_chars.specs.declared.token.TokenKind.TheVariants.{Word, Number, Str, Sign}
-use Rattle.mob_chars.specs.Scan.{is_blank, is_digit, is_letter, is_word, is_point, is_plus, is_exponent, is_quote, begins_digit, begins_number, word_length, digits_length, fraction_length, mantissa_length, with_digits, power_length, exponent_length, number_length, quoted_length, string_length, begins_comment, comment_length, gap_length}
+use Rattle.mob_language.specs.Language.{is_blank}
+use Rattle.mob_chars.specs.Scan.{is_digit, is_letter, is_word, is_point, is_plus, is_exponent, is_quote, begins_digit, begins_number, word_length, digits_length, fraction_length, mantissa_length, with_digits, power_length, exponent_length, number_length, quoted_length, string_length, begins_comment, comment_length, gap_length}
 use Rattle.mob_chars.specs.Signs.{signs, sign_length}
 use Rattle.mob_chars.specs.Tokens.{token_at}
 use Rattle.mob_chars.proofs.Longest.{told, first_is_longest, first_fits}

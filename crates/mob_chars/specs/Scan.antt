@@ -1,9 +1,6 @@
 -- What stands at the front of a text: blanks, comments, words, numbers and strings, and how long they are in bytes.
 use Rattle.std.specs.Prelude.{◌==◌, ◌+◌, ◌&&◌, ◌||◌, ℕ, List, [], ◌∷◌, length, drop, Bool, false, not, cond, nat_le, option_map, Option, Some, None, take_while}
-
--- a blank is a space, a tab, a carriage return or a line feed
-abbrev pub is_blank : ℕ → Bool
-is_blank b = (b == 32) || (b == 9) || (b == 13) || (b == 10)
+use Rattle.mob_language.specs.Language.{is_blank}
 
 abbrev pub is_digit : ℕ → Bool
 is_digit b = nat_le 48 b && nat_le b 57

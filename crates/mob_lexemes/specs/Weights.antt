@@ -5,8 +5,7 @@ use Rattle.std.specs.Prelude.{ℕ, List, Bool, true, false, cond}
 use Rattle.mob_grammar.specs.declared.mark.Mark.{Mark}
 use Rattle.mob_grammar.specs.declared.mark.Mark.TheVariants.{Or, And, Not, Is, Null, True, False, Open, Close, Comma, Semicolon, Dot}
 use Rattle.mob_grammar.specs.Marks.{is_reserved_word}
-use Rattle.mob_grammar.specs.Symbols.{Symbol, fixed, name, number, quoted, Tok, starts, rest}
-use Rattle.mob_grammar.specs.Reading.{is_literal}
+use Rattle.mob_grammar.specs.Symbols.{Symbol, fixed, name, number, quoted, Tok, starts, rest, is_literal}
 use Rattle.mob_lexemes.specs.declared.heavy.TokenStanding.{TokenStanding}
 
 -- how the first token of a script stands

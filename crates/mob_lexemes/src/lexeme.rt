@@ -1,9 +1,8 @@
 //! What the parser reads: tokens of which it is known what they are.
 ghost use Rattle.std.specs.Prelude.{◌≡◌, ◌==◌, ◌<◌, ◌≤◌, ◌^◌, length, false, MatchOption};
 ghost use Rattle.mob_grammar.specs.Cuts.{ends_among};
-ghost use Rattle.mob_grammar.specs.Symbols.{is_sign, is_name, is_string, binding, sign};
+ghost use Rattle.mob_grammar.specs.Symbols.{is_sign, is_name, is_string, binding, sign, is_number, is_literal};
 ghost use Rattle.mob_grammar.specs.Marks.{strength as strength_of};
-ghost use Rattle.mob_grammar.specs.Reading.{is_number, is_literal};
 ghost use Rattle.mob_lexemes.specs.Lexemes.{tok_of, toks};
 
 use mob_grammar::mark::Mark;

@@ -3,8 +3,8 @@ ghost use Rattle.std.specs.Prelude.{◌≡◌, ◌≤◌, Ok, length, map, OnOk}
 ghost use Rattle.mob_ast.specs.declared.types.TypeWord.{TypeWord};
 ghost use Rattle.mob_ast.specs.declared.types.Word.{Word};
 ghost use Rattle.mob_ast.specs.Trees.{Tree, tree_of, RowParts, row_of, statement_of};
-ghost use Rattle.mob_grammar.specs.Symbols.{begins};
-ghost use Rattle.mob_grammar.specs.Reading.{is_number, is_plus_or_minus, string_at, number_at, signed_number_at, number_leaf_at, string_leaf_at, word_leaf_at, const_at, row_at, column_type_at, create_table_at, index_table_at, create_index_at, create_at, insert_at, header_at, format_at, delimiter_at, copy_form_at, copy_at, listed, closed, behind_mark};
+ghost use Rattle.mob_grammar.specs.Symbols.{begins, is_number};
+ghost use Rattle.mob_grammar.specs.Reading.{is_plus_or_minus, string_at, number_at, signed_number_at, number_leaf_at, string_leaf_at, word_leaf_at, const_at, row_at, column_type_at, create_table_at, index_table_at, create_index_at, create_at, insert_at, header_at, format_at, delimiter_at, copy_form_at, copy_at, listed, closed, behind_mark};
 ghost use Rattle.mob_parse.specs.Cursors.{left, FollowsReading};
 
 use crate::cursor::{Cursor, Fault};
