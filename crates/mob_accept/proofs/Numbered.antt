@@ -11,10 +11,10 @@ use Rattle.mob_chars.specs.Tokens.{tokens_of}
 use Rattle.mob_grammar.specs.Symbols.{Tok}
 use Rattle.mob_grammar.specs.Places.{IsWithin, statement_places}
 use Rattle.mob_grammar.specs.Held.{statement_held}
-use Rattle.mob_grammar.specs.Cuts.{StandsBehind, StandBehind}
+use Rattle.mob_grammar.specs.Cuts.{ends_among, StandsBehind, StandBehind}
 use Rattle.mob_grammar.proofs.Cuts.{places_are_cut, held_are_cut}
-use Rattle.mob_parse.specs.Refusals.{HasTokens, semicolons, place_of, Cause}
-use Rattle.mob_parse.specs.Tokens.{lexed}
+use Rattle.mob_parse.specs.Refusals.{HasTokens, place_of, Cause}
+use Rattle.mob_lexemes.specs.Lexed.{lexed}
 use Rattle.mob_typed.specs.declared.typed.ConstText.{ConstText}
 use Rattle.mob_expression.specs.Answers.{Mistake}
 use Rattle.mob_typing.specs.Names.{NameLists}
@@ -24,7 +24,7 @@ use Rattle.mob_accept.specs.UnbuiltWords.{statement_number}
 use Rattle.mob_accept.specs.Numbers.{AreIn, TreesAreIn, brackets_of, RowsAreIn, TreesAreNumbered, TypingKeepsNumbers, TextIsNumbered, WrongTokensAreNumbered}
 use Rattle.mob_typed.proofs.Rising.{each_both, each_on}
 use Rattle.mob_accept.proofs.Adds.{Adds, Belongs, Gathers, places_of}
-use Rattle.mob_accept.proofs.Ends.{behind_is, place_behind, semicolons_are}
+use Rattle.mob_accept.proofs.Ends.{behind_is, place_behind}
 use Rattle.mob_accept.proofs.GatheredStatements.{AskedWithin, all_within, statement_gathers, statement_rows}
 
 module _ (bytes : List ℕ) (ts : List Token) (l : List Tok) (are : tokens_of bytes ≡ Ok ts) (is : l ≡ lexed bytes ts) (places : StatementParts → List ℕ) where
@@ -84,8 +84,8 @@ text_is_numbered bytes out h = typing_keeps_numbers bytes h.trees out (trees_are
 
 -- a refusal at a place behind some tokens, which names their `;`
 module _ (bytes : List ℕ) (e : Refusal) where
-  names_behind : (l before r : List Tok) → HasTokens bytes l → l ≡ before ++ r → e.place ≡ place_of r (length bytes) → e.statement ≡ 1 + semicolons before → e.statement ≡ statement_number bytes e.place
-  names_behind l before r (ts, are, is) parts at says = says ∙ ap (λ n. 1 + n) (semicolons_are before) ∙ sym (place_behind bytes ts l before r are is parts) ∙ ap (statement_number bytes) (sym at)
+  names_behind : (l before r : List Tok) → HasTokens bytes l → l ≡ before ++ r → e.place ≡ place_of r (length bytes) → e.statement ≡ 1 + ends_among before → e.statement ≡ statement_number bytes e.place
+  names_behind l before r (ts, are, is) parts at says = says ∙ sym (place_behind bytes ts l before r are is parts) ∙ ap (statement_number bytes) (sym at)
 
   syntax_names : Cause Syntax bytes e → e.statement ≡ statement_number bytes e.place
   syntax_names (u, (l, has, (r, w, at, says, none))) = names_behind l w.before r has w.parts at says

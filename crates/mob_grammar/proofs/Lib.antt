@@ -8,8 +8,8 @@ pub mod Places
 pub mod Ranks
 pub mod Same
 pub mod Sizes
-pub mod StatementLaws
-pub mod StatementsRead
+pub mod Reads
+pub mod Statements
 pub mod Steps
 pub mod Tells
 pub mod Whole

@@ -1,5 +1,5 @@
 //! The reserved words and the signs of the language.
-ghost use Rattle.std.specs.Prelude.{◌≡◌};
+ghost use Rattle.std.specs.Prelude.{◌≡◌, ◌==◌};
 ghost use Rattle.mob_grammar.specs.Marks.{is, mark_text, strength, is_reserved_word};
 
 /// A reserved word or a sign: a token whose text is fixed.
@@ -163,6 +163,20 @@ pub enum Mark {
     Dot,
 }
 
+// The texts of all marks, in their order.
+static TEXTS: [&str; 78] = [
+    "select", "distinct", "from", "where", "order", "by", "asc", "desc",
+    "limit", "create", "table", "index", "on", "using", "gist", "insert",
+    "into", "values", "copy", "with", "format", "csv", "header", "delimiter",
+    "explain", "and", "or", "not", "is", "null", "true", "false",
+    "as", "left", "join", "delete", "group", "#=", "#<>", "#<",
+    "#<=", "#>", "#>=", "?=", "?<>", "?<", "?<=", "?>",
+    "?>=", "%=", "%<>", "%<", "%<=", "%>", "%>=", "=",
+    "<>", "<", "<=", ">", ">=", "<->", "|=|", "+",
+    "-", "*", "/", "&", "|", "~", "||", "&&",
+    "::", "(", ")", ",", ";", ".",
+];
+
 impl Mark {
     /// Whether two marks are the same.
     pub fn is(self, other: Mark) -> bool
@@ -171,10 +185,46 @@ impl Mark {
         self as u8 == other as u8
     }
 
+    // Whether it is one of the signs on moving values, boxes and texts, which all bind alike.
+    fn is_other_sign(self) -> bool
+        ensures exact { result ≡ (strength self == 6) }
+    {
+        matches!(
+            self,
+            Mark::LiftedEqual
+                | Mark::LiftedNotEqual
+                | Mark::LiftedLess
+                | Mark::LiftedLessEqual
+                | Mark::LiftedGreater
+                | Mark::LiftedGreaterEqual
+                | Mark::EverEqual
+                | Mark::EverNotEqual
+                | Mark::EverLess
+                | Mark::EverLessEqual
+                | Mark::EverGreater
+                | Mark::EverGreaterEqual
+                | Mark::AlwaysEqual
+                | Mark::AlwaysNotEqual
+                | Mark::AlwaysLess
+                | Mark::AlwaysLessEqual
+                | Mark::AlwaysGreater
+                | Mark::AlwaysGreaterEqual
+                | Mark::Distance
+                | Mark::Approach
+                | Mark::Ampersand
+                | Mark::Bar
+                | Mark::Concat
+                | Mark::Overlap
+        )
+    }
+
     /// How tight it binds what stands before it, as a number from 1 for OR to 12 for `(`; 0 where it does not go on a phrase.
     pub fn strength(self) -> u8
         ensures exact { result ≡ strength self }
     {
+        if self.is_other_sign() {
+            return 6;
+        }
         match self {
             Mark::Or => 1,
             Mark::And => 2,
@@ -185,30 +235,6 @@ impl Mark {
             | Mark::LessEqual
             | Mark::Greater
             | Mark::GreaterEqual => 5,
-            Mark::LiftedEqual
-            | Mark::LiftedNotEqual
-            | Mark::LiftedLess
-            | Mark::LiftedLessEqual
-            | Mark::LiftedGreater
-            | Mark::LiftedGreaterEqual
-            | Mark::EverEqual
-            | Mark::EverNotEqual
-            | Mark::EverLess
-            | Mark::EverLessEqual
-            | Mark::EverGreater
-            | Mark::EverGreaterEqual
-            | Mark::AlwaysEqual
-            | Mark::AlwaysNotEqual
-            | Mark::AlwaysLess
-            | Mark::AlwaysLessEqual
-            | Mark::AlwaysGreater
-            | Mark::AlwaysGreaterEqual
-            | Mark::Distance
-            | Mark::Approach
-            | Mark::Ampersand
-            | Mark::Bar
-            | Mark::Concat
-            | Mark::Overlap => 6,
             Mark::Plus | Mark::Minus => 8,
             Mark::Times | Mark::Divide => 9,
             Mark::Cast => 11,
@@ -221,86 +247,7 @@ impl Mark {
     pub fn text(self) -> &'static str
         ensures exact { result.now ≡ mark_text self }
     {
-        match self {
-            Mark::Select => "select",
-            Mark::Distinct => "distinct",
-            Mark::From => "from",
-            Mark::Where => "where",
-            Mark::Order => "order",
-            Mark::By => "by",
-            Mark::Asc => "asc",
-            Mark::Desc => "desc",
-            Mark::Limit => "limit",
-            Mark::Create => "create",
-            Mark::Table => "table",
-            Mark::Index => "index",
-            Mark::On => "on",
-            Mark::Using => "using",
-            Mark::Gist => "gist",
-            Mark::Insert => "insert",
-            Mark::Into => "into",
-            Mark::Values => "values",
-            Mark::Copy => "copy",
-            Mark::With => "with",
-            Mark::Format => "format",
-            Mark::Csv => "csv",
-            Mark::Header => "header",
-            Mark::Delimiter => "delimiter",
-            Mark::Explain => "explain",
-            Mark::And => "and",
-            Mark::Or => "or",
-            Mark::Not => "not",
-            Mark::Is => "is",
-            Mark::Null => "null",
-            Mark::True => "true",
-            Mark::False => "false",
-            Mark::As => "as",
-            Mark::Left => "left",
-            Mark::Join => "join",
-            Mark::Delete => "delete",
-            Mark::Group => "group",
-            Mark::LiftedEqual => "#=",
-            Mark::LiftedNotEqual => "#<>",
-            Mark::LiftedLess => "#<",
-            Mark::LiftedLessEqual => "#<=",
-            Mark::LiftedGreater => "#>",
-            Mark::LiftedGreaterEqual => "#>=",
-            Mark::EverEqual => "?=",
-            Mark::EverNotEqual => "?<>",
-            Mark::EverLess => "?<",
-            Mark::EverLessEqual => "?<=",
-            Mark::EverGreater => "?>",
-            Mark::EverGreaterEqual => "?>=",
-            Mark::AlwaysEqual => "%=",
-            Mark::AlwaysNotEqual => "%<>",
-            Mark::AlwaysLess => "%<",
-            Mark::AlwaysLessEqual => "%<=",
-            Mark::AlwaysGreater => "%>",
-            Mark::AlwaysGreaterEqual => "%>=",
-            Mark::Equal => "=",
-            Mark::NotEqual => "<>",
-            Mark::Less => "<",
-            Mark::LessEqual => "<=",
-            Mark::Greater => ">",
-            Mark::GreaterEqual => ">=",
-            Mark::Distance => "<->",
-            Mark::Approach => "|=|",
-            Mark::Plus => "+",
-            Mark::Minus => "-",
-            Mark::Times => "*",
-            Mark::Divide => "/",
-            Mark::Ampersand => "&",
-            Mark::Bar => "|",
-            Mark::Tilde => "~",
-            Mark::Concat => "||",
-            Mark::Overlap => "&&",
-            Mark::Cast => "::",
-            Mark::Open => "(",
-            Mark::Close => ")",
-            Mark::Comma => ",",
-            Mark::Semicolon => ";",
-            Mark::Dot => ".",
-        }
+        TEXTS[self as usize]
     }
 
     /// Whether it is a word and no sign.

@@ -2,11 +2,8 @@
 use Rattle.std.proofs.Common.{◌≡◌, ◌≢◌, ◌==◌, ◌<◌, ◌+◌, ◌∙◌, ◌⊎◌, inl, inr, ℕ, zero, suc, List, [], ◌∷◌, ◌++◌, length, take, drop, Bool, true, false, not, cond, refl, sym, ap, arith, append_assoc}
 use Rattle.std.proofs.lemmas.Bool.{eqb-true}
 use Rattle.std.specs.List.{position_or_len, before_first, after_first}
-use Rattle.mob_parse.specs.Lexemes.{without_quote, unquoted}
-
-told : (b : Bool) → (b ≡ true) ⊎ (b ≡ false)
-told true = inl refl
-told false = inr refl
+use Rattle.mob_grammar.proofs.Steps.{told}
+use Rattle.mob_lexemes.specs.Lexemes.{without_quote, unquoted}
 
 pub no_quote_first : (s : List ℕ) → ((r : List ℕ) → s ≢ 39 ∷ r) → s ≡ without_quote s
 no_quote_first [] h = refl
