@@ -23,6 +23,7 @@ ends_counted t l = elim (told (is_sign Semicolon t)) [
 ] where
   step : (t : Tok) (l : List Tok) → ends_among (t ∷ l) ≡ length (cond (is_sign Semicolon t) (t ∷ filter (is_sign Semicolon) l) (filter (is_sign Semicolon) l))
   step t l = refl
+
   more : {n : ℕ} → suc n ≡ n + 1
   more = omega arith
 

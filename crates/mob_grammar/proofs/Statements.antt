@@ -16,7 +16,7 @@ use Rattle.mob_grammar.proofs.Steps.{told, token_is, string_is}
 use Rattle.mob_ast.specs.declared.statement.FromTable.{FromTable}
 use Rattle.mob_grammar.specs.Marks.{is, strength, clause}
 use Rattle.mob_grammar.proofs.Complete.{Stops, head_not}
-use Rattle.mob_grammar.proofs.Reads.{AtEnd, AtMark, Clause, Free, IsRead, NoDistinct, NoOpen, Piece, built_keeps, read_behind, read_built, read_closed, read_either, read_expression, read_if, read_list, read_mark, read_mark_leaf, read_name, read_number, read_plus_or_minus, read_string, read_then, read_type, read_weaker}
+use Rattle.mob_grammar.proofs.ReadRules.{AtEnd, AtMark, Clause, Free, IsRead, NoDistinct, NoOpen, Piece, built_keeps, read_behind, read_built, read_closed, read_either, read_expression, read_if, read_list, read_mark, read_mark_leaf, read_name, read_number, read_plus_or_minus, read_string, read_then, read_type, read_weaker}
 
 -- what may follow what
 other_mark : (m k : Mark) → is m k ≡ false → (r : List Tok) → starts m r ≡ true → starts k r ≡ false

@@ -115,7 +115,6 @@ impl<'a> Cursor<'a> {
             self.literal(ty)
         }
     }
-
 }
 
 /// A constant of an INSERT.
