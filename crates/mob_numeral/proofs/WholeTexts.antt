@@ -1,10 +1,10 @@
 -- Whole texts of numbers, with blanks at their ends, are read exactly.
 use Rattle.std.proofs.Common.{◌≡◌, ℕ, [], ◌∷◌, ◌++◌, length, Bool, true, false, Option, Some, None, refl, sym, ap, subst, ◌∙◌, rules, arith, codes, inl, inr}
 use Rattle.std.proofs.lemmas.Bool.Decides.{nat_tests}
-use Rattle.mob_language.specs.Language.{Text, Language, Maybe, Where, Run, AreAll, behind, is_blank, within_blanks, is_digit, is_number_sign, is_exponent_letter}
+use Rattle.mob_language.specs.Language.{Text, Language, Maybe, behind, is_blank, within_blanks, is_digit, is_number_sign, is_exponent_letter}
 use Rattle.mob_language.specs.Readers.{within_blanks_at}
-use Rattle.mob_language.proofs.Exact.{Exact, Stops, means_exact, where_exact, run_exact, run_again}
-use Rattle.mob_language.proofs.Heads.{NoHead, Apart, HasByte, IsEnd, then_head, means_head, maybe_head, where_head, one_head, run_head, byte_head, means_byte, then_byte, where_byte, within_exact, blanks_stop}
+use Rattle.mob_language.proofs.Exact.{Exact}
+use Rattle.mob_language.proofs.Heads.{NoHead, Apart, HasByte, IsEnd, then_head, means_head, maybe_head, where_head, one_head, run_head, within_exact, blanks_stop}
 use Rattle.mob_numeral.specs.declared.numeral.Figures.{Figures}
 use Rattle.mob_numeral.specs.declared.numeral.Exponent.{Exponent}
 use Rattle.mob_numeral.specs.declared.numeral.Tail.{Tail}
@@ -12,7 +12,7 @@ use Rattle.mob_numeral.specs.declared.numeral.Tail.TheVariants.{Decimal}
 use Rattle.mob_numeral.specs.declared.numeral.Numeral.{Numeral}
 use Rattle.mob_numeral.specs.Figures.{digits}
 use Rattle.mob_numeral.specs.Number.{number, tail, has_digits}
-use Rattle.mob_numeral.specs.NumberReaders.{numeral_at, digits_at}
+use Rattle.mob_numeral.specs.NumberReaders.{numeral_at}
 use Rattle.mob_numeral.proofs.NumberExact.{number_exact, continues, tail_head}
 
 -- what stands between the blanks

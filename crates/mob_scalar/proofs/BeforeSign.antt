@@ -1,7 +1,7 @@
 -- Truth values and values of a ttext may stand before a sign with blanks beside it, as before the @ of a temporal text.
-use Rattle.std.proofs.Common.{◌≡◌, ℕ, [], ◌∷◌, ◌++◌, Bool, false, refl, sym, ap, subst, ◌∙◌, append_assoc, rules, codes}
+use Rattle.std.proofs.Common.{◌∷◌, ◌++◌, refl, rules, codes}
 use Rattle.std.specs.Char.{is_ascii_alphabetic}
-use Rattle.mob_language.specs.Language.{Text, AreAll, is_blank, spaced}
+use Rattle.mob_language.specs.Language.{Text, is_blank, spaced}
 use Rattle.mob_language.proofs.Exact.{Stops}
 use Rattle.mob_language.proofs.Heads.{Apart}
 use Rattle.mob_numeral.proofs.BeforeSign.{signed_of, stops_before}

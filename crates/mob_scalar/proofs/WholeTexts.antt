@@ -1,13 +1,11 @@
 -- Whole texts of moments and truth values, with blanks at their ends, are read exactly.
-use Rattle.std.proofs.Common.{◌≡◌, ℕ, [], ◌∷◌, ◌++◌, length, Bool, true, false, Option, Some, None, refl, sym, ap, subst, ◌∙◌, rules, arith, codes, inl, inr}
+use Rattle.std.proofs.Common.{◌≡◌, ℕ, [], ◌∷◌, ◌++◌, Bool, true, Some, None, refl, sym, subst, ◌∙◌, rules}
 use Rattle.std.specs.Char.{is_ascii_alphabetic}
-use Rattle.std.proofs.lemmas.Bool.Decides.{nat_tests}
-use Rattle.mob_language.specs.Language.{Text, Language, Maybe, Where, Run, AreAll, behind, is_blank, within_blanks, is_digit}
+use Rattle.mob_language.specs.Language.{Text, Maybe, Where, Run, AreAll, is_blank, within_blanks, is_digit}
 use Rattle.mob_language.specs.Readers.{within_blanks_at}
 use Rattle.mob_language.proofs.Exact.{Exact, Stops, means_exact, where_exact, run_exact, run_again}
-use Rattle.mob_language.proofs.Heads.{NoHead, Apart, HasByte, IsEnd, then_head, means_head, maybe_head, where_head, one_head, run_head, byte_head, means_byte, then_byte, where_byte, within_exact, blanks_stop}
-use Rattle.mob_numeral.specs.Figures.{digits}
-use Rattle.mob_numeral.specs.NumberReaders.{numeral_at, digits_at}
+use Rattle.mob_language.proofs.Heads.{NoHead, Apart, HasByte, IsEnd, means_head, where_head, run_head, byte_head, means_byte, then_byte, where_byte, within_exact, blanks_stop}
+use Rattle.mob_numeral.specs.NumberReaders.{digits_at}
 use Rattle.mob_scalar.specs.Calendar.{date, fixed, civil_of, is_civil}
 use Rattle.mob_scalar.specs.CalendarReaders.{fixed_at}
 use Rattle.mob_scalar.specs.Moment.{moment, time, stamp_of, is_in_years, is_some_text}

@@ -11,10 +11,9 @@ ghost use Rattle.mob_numeral.specs.declared.fault.ReadText.TheVariants.{NoMemory
 ghost use Rattle.mob_numeral.specs.Verdict.{Lit};
 
 use crate::epoch::Epoch;
-use mob_numeral::ReadText;
-use mob_numeral::within_blanks;
 use crate::stamp::{Part, Stamp, moment_at, seconds_of};
 use mob_frac::{Frac, Overflow, over_product};
+use mob_numeral::{ReadText, within_blanks};
 
 // Seconds since midnight of the epoch's day.
 fn since(seconds: i64, epoch: &Epoch) -> i64

@@ -7,8 +7,7 @@ ghost use Rattle.mob_scalar.specs.Truth.{truth_at as truth_in, is_word_true as w
 ghost use Rattle.mob_numeral.specs.declared.fault.ReadText.TheVariants.{NoMemory};
 ghost use Rattle.mob_numeral.specs.Verdict.{Lit};
 
-use mob_numeral::ReadText;
-use mob_numeral::{split_run, within_blanks};
+use mob_numeral::{ReadText, split_run, within_blanks};
 use std::alloc::AllocError;
 
 /// The letters in front, and what stands behind them.
