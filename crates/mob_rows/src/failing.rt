@@ -138,7 +138,7 @@ fn right_calls(
 ) -> Result<usize, AllocError> {
     let (end, script, answer, note, calls) = row;
     for (i, wanted) in calls.iter().enumerate() {
-        let failing = failing(alloc, *end, i as u64 + 1)?;
+        let failing = failing(alloc, *end, (i as u64).saturating_add(1))?;
         let named = [("t.csv", FILE)];
         let seen = run_once(rt, alloc, &[], script.as_bytes(), &named, failing)?;
         if !is_cut(&seen, answer, note, *wanted) {

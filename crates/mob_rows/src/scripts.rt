@@ -107,7 +107,14 @@ fn run_row(rt: &(impl Threads + Sync), alloc: Global, row: &Row) -> Result<Repor
     let script = row.1.as_bytes();
     let failing = Failing::none(alloc);
     match row.2 {
-        Some(file) => run_once(rt, alloc, row.0, script, &[("t.csv", file.as_bytes())], failing),
+        Some(file) => run_once(
+            rt,
+            alloc,
+            row.0,
+            script,
+            &[("t.csv", file.as_bytes())],
+            failing,
+        ),
         None => run_once(rt, alloc, row.0, script, &[], failing),
     }
 }

@@ -13,7 +13,11 @@ static ROWS: [(&[&str], u32, i64); 8] = [
     (&["mobsql", "--workers=1"], 1, 10957),
     (&["mobsql", "--workers", "64"], 64, 10957),
     (&["mobsql", "--epoch", "2001-01-01"], 1, 11323),
-    (&["mobsql", "--epoch=2001-01-01", "--workers", "10"], 10, 11323),
+    (
+        &["mobsql", "--epoch=2001-01-01", "--workers", "10"],
+        10,
+        11323,
+    ),
 ];
 
 fn said(alloc: Global, words: &[&str]) -> Result<Option<Settings>, AllocError> {

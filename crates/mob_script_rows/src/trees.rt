@@ -169,7 +169,10 @@ static STATEMENTS: [(&str, &str); 16] = [
 ];
 
 // The first script that has another tree.
-fn wrong_tree(alloc: Global, rows: &[(&'static str, &str)]) -> Result<Option<&'static str>, AllocError> {
+fn wrong_tree(
+    alloc: Global,
+    rows: &[(&'static str, &str)],
+) -> Result<Option<&'static str>, AllocError> {
     for (script, wanted) in rows {
         if shown(alloc, script)?.as_str() != *wanted {
             return Ok(Some(script));

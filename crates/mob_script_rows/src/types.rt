@@ -13,7 +13,11 @@ const TYPED: [(&str, Op, SqlType); 7] = [
     ("SELECT '1'::int", Op::Cast, SqlType::Int),
     ("SELECT 1::numeric", Op::Cast, SqlType::Numeric),
     ("SELECT 1::int", Op::Cast, SqlType::Int),
-    ("SELECT tint '1@2001-01-01'::tfrac", Op::Cast, SqlType::TFrac),
+    (
+        "SELECT tint '1@2001-01-01'::tfrac",
+        Op::Cast,
+        SqlType::TFrac,
+    ),
     ("SELECT tint '1@2001-01-01' + 1", Op::Add, SqlType::TInt),
     ("SELECT 1 / 2", Op::Divide, SqlType::Numeric),
 ];
@@ -66,7 +70,11 @@ fn first_item(alloc: Global, script: &str) -> Option<(Op, SqlType)> {
 #[test]
 fn scripts_have_types_or_are_refused(rt: HostRuntime) -> Result<(), Fail> {
     for (script, op, ty) in &TYPED {
-        assert_eq!(rt; first_item(rt.alloc(), script), Some((*op, *ty)), "{script}");
+        assert_eq!(rt;
+            first_item(rt.alloc(), script),
+            Some((*op, *ty)),
+            "{script}"
+        );
     }
     for (script, place, kind) in &REFUSED {
         let wanted = Refusal {

@@ -45,7 +45,14 @@ fn normal_of(
     if !first.span.is_clear(&next.span) {
         return None;
     }
-    normal(alloc, Vec::from_array(alloc, [first, next]).ok()?).ok()?
+    let mut slices = Vec::new(alloc);
+    if slices.push(first).is_err() {
+        return None;
+    }
+    if slices.push(next).is_err() {
+        return None;
+    }
+    normal(alloc, slices).ok()?
 }
 
 // How many slices the normal value of two slices has: from 0 to 1, and the next.
@@ -63,7 +70,14 @@ fn count(alloc: Global, upper_inc: bool, next: Span, values: (bool, bool)) -> Op
 
 // The value true on the span between two whole numbers.
 fn one(alloc: Global, lower: i64, upper: i64) -> Option<Moving<Steady<bool>>> {
-    let slices = single(alloc, span(lower, upper, true, true)?, true).ok()?;
+    let mut slices = Vec::new(alloc);
+    let slice = Slice {
+        span: span(lower, upper, true, true)?,
+        course: Steady { value: true },
+    };
+    if slices.push(slice).is_err() {
+        return None;
+    }
     normal(alloc, slices).ok()?
 }
 
@@ -102,6 +116,9 @@ fn slices_meet_and_are_shared(rt: HostRuntime) -> Result<(), Fail> {
     assert_eq!(rt; count(alloc, false, after_one, (true, true)), Some(2));
     let none: Vec<Slice<Steady<bool>>> = Vec::new(alloc);
     assert!(rt; normal(alloc, none)?.is_none());
+    let slices = single(alloc, at_one, true).ok().ok_or("ample memory")?;
+    assert!(rt; slices.iter().all(|slice| slice.course.value));
+    assert_eq!(rt; slices.len(), 1);
     let a = one(alloc, 0, 2).ok_or("a")?;
     let b = one(alloc, 1, 3).ok_or("b")?;
     assert!(rt; is_shared(&a, &b, (1, 2)));

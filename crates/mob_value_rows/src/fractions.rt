@@ -135,7 +135,8 @@ fn wrongly_made() -> Option<usize> {
 
 fn is_sum(a: Parts, b: Parts, wanted: Option<Parts>) -> bool {
     match (made(a), made(b)) {
-        (Some(x), Some(y)) => parts_of(x.add(&y)) == wanted && parts_of(x.sub(&y.negate())) == wanted,
+        (Some(x), Some(y)) => parts_of(x.add(&y)) == wanted
+            && parts_of(x.sub(&y.negate())) == wanted,
         _ => false,
     }
 }
@@ -221,7 +222,12 @@ fn has_same_ratio(a: &Wide, b: &Wide, c: &Wide, d: &Wide) -> Option<bool> {
 
 fn ratio(parts: &[Parts; 4]) -> Option<bool> {
     let [a, b, c, d] = *parts;
-    has_same_ratio(&above_zero(a)?, &above_zero(b)?, &above_zero(c)?, &above_zero(d)?)
+    has_same_ratio(
+        &above_zero(a)?,
+        &above_zero(b)?,
+        &above_zero(c)?,
+        &above_zero(d)?,
+    )
 }
 
 fn wrong_ratio() -> Option<usize> {
@@ -233,6 +239,16 @@ fn wrong_ratio() -> Option<usize> {
     None
 }
 
+// Quotients by a product: the sign, the number above and the two below.
+fn are_over_products() -> bool {
+    parts_of(over_product(false, 6, 4, 9)) == Some((1, 6))
+        && parts_of(over_product(true, 6, 4, 9)) == Some((-1, 6))
+        && parts_of(over_product(true, 0, 4, 9)) == Some((0, 1))
+        && parts_of(over_product(false, 1 << 125, 1 << 100, 1 << 27)) == Some((1, 4))
+        && parts_of(over_product(false, 5, 1 << 127, 1 << 127)).is_none()
+        && parts_of(over_product(false, 1, 1 << 62, 1)).is_none()
+}
+
 #[test]
 fn fractions_are_exact(rt: HostRuntime) -> Result<(), Fail> {
     assert_eq!(rt; wrongly_made(), None);
@@ -241,6 +257,7 @@ fn fractions_are_exact(rt: HostRuntime) -> Result<(), Fail> {
     assert_eq!(rt; wrong_quotient(), None);
     assert_eq!(rt; wrong_order(), None);
     assert_eq!(rt; wrong_ratio(), None);
+    assert!(rt; are_over_products());
     let wide = parts_of(Frac::from_wide(-3 << 100, 1 << 101));
     assert_eq!(rt; wide, Some((-3, 2)));
     assert_eq!(rt; parts_of(Frac::from_wide(i128::MIN, 2)), None);
@@ -248,19 +265,5 @@ fn fractions_are_exact(rt: HostRuntime) -> Result<(), Fail> {
     assert_eq!(rt; third.sign(), -1);
     assert_eq!(rt; third.negate().sign(), 1);
     assert_eq!(rt; third.sub(&third)?.sign(), 0);
-    Ok(())
-}
-
-// The sign, the number above and the two below.
-#[test]
-fn quotients_by_products_are_exact(rt: HostRuntime) -> Result<(), Fail> {
-    assert_eq!(rt; parts_of(over_product(false, 6, 4, 9)), Some((1, 6)));
-    assert_eq!(rt; parts_of(over_product(true, 6, 4, 9)), Some((-1, 6)));
-    assert_eq!(rt; parts_of(over_product(true, 0, 4, 9)), Some((0, 1)));
-    let large = parts_of(over_product(false, 1 << 125, 1 << 100, 1 << 27));
-    assert_eq!(rt; large, Some((1, 4)));
-    let small = parts_of(over_product(false, 5, 1 << 127, 1 << 127));
-    assert_eq!(rt; small, None);
-    assert_eq!(rt; parts_of(over_product(false, 1, 1 << 62, 1)), None);
     Ok(())
 }

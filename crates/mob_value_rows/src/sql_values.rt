@@ -2,11 +2,10 @@
 
 use crate::scalars::name_of;
 use mob_ast::SqlType;
-use mob_literal::WrittenValue;
 use mob_literal::printing::{Printed, write_steps};
 use mob_literal::temporal::read_steps;
 use mob_literal::values::{Texts, Truths, WholeNumbers};
-use mob_literal::{read_field, read_value, write_field, write_value};
+use mob_literal::{WrittenValue, read_field, read_value, write_field, write_value};
 use mob_scalar::Epoch;
 use mob_value::Value;
 use std::alloc::{AllocError, Global};
@@ -28,19 +27,39 @@ static VALUES: [(SqlType, &str, &str); 29] = [
     (SqlType::Numeric, "1/0", "NotText"),
     (SqlType::Text, "", ""),
     (SqlType::Text, "\\N a ", "\\N a "),
-    (SqlType::Moment, "2001-01-01 00:00:00.25+01", "2000-12-31 23:00:00.25+00"),
+    (
+        SqlType::Moment,
+        "2001-01-01 00:00:00.25+01",
+        "2000-12-31 23:00:00.25+00",
+    ),
     (SqlType::Moment, "2000-02-29", "2000-02-29 00:00:00+00"),
     (SqlType::Moment, "1900-02-29", "NotText"),
     (SqlType::Moment, "0001-01-01", "0001-01-01 00:00:00+00"),
-    (SqlType::Moment, "9999-12-31 23:59:59", "9999-12-31 23:59:59+00"),
+    (
+        SqlType::Moment,
+        "9999-12-31 23:59:59",
+        "9999-12-31 23:59:59+00",
+    ),
     (SqlType::Moment, "0001-01-01 00:00+01", "NotText"),
     (SqlType::Point, "POINT(1 2)", "NotText"),
     (SqlType::TBool, "T@2001-01-01", "t@2001-01-01 00:00:00+00"),
-    (SqlType::TInt, "{ 2@2001-01-03 ,3@2001-01-05 }", "{2@2001-01-03 00:00:00+00, 3@2001-01-05 00:00:00+00}"),
-    (SqlType::TText, "{[a b@2001-01-01, \"\\\"\"@2001-01-02], [\"\"@2001-01-03]}", "{[\"a b\"@2001-01-01 00:00:00+00, \"\\\"\"@2001-01-02 00:00:00+00], [\"\"@2001-01-03 00:00:00+00]}"),
+    (
+        SqlType::TInt,
+        "{ 2@2001-01-03 ,3@2001-01-05 }",
+        "{2@2001-01-03 00:00:00+00, 3@2001-01-05 00:00:00+00}",
+    ),
+    (
+        SqlType::TText,
+        "{[a b@2001-01-01, \"\\\"\"@2001-01-02], [\"\"@2001-01-03]}",
+        "{[\"a b\"@2001-01-01 00:00:00+00, \"\\\"\"@2001-01-02 00:00:00+00], [\"\"@2001-01-03 00:00:00+00]}",
+    ),
     (SqlType::TInt, "[1@2001-01-01, 2@2001-01-02)", "Unsound"),
     (SqlType::TInt, "1/2@2001-01-01", "Unsound"),
-    (SqlType::TInt, "[1@2001-01-02, 4611686018427387904@2001-01-01]", "TooLarge"),
+    (
+        SqlType::TInt,
+        "[1@2001-01-02, 4611686018427387904@2001-01-01]",
+        "TooLarge",
+    ),
     (SqlType::TInt, "[4611686018427387904@2001-02-30]", "NotText"),
     (SqlType::TText, "a", "NotText"),
 ];
@@ -65,22 +84,50 @@ static FIELDS: [(SqlType, &str, &str); 13] = [
 // A temporal type and a text, and what is printed of the slices that it says, or the name of its fault.
 static STEPS: [(SqlType, &str, &str); 17] = [
     (SqlType::TInt, "1@2001-01-01", "1@2001-01-01 00:00:00+00"),
-    (SqlType::TInt, " { 2@2001-01-03 ,3@2001-01-05 } ", "{2@2001-01-03 00:00:00+00, 3@2001-01-05 00:00:00+00}"),
-    (SqlType::TInt, "{[1@2001-01-01, 2@2001-01-02], (2@2001-01-02, 2@2001-01-03]}", "[1@2001-01-01 00:00:00+00, 2@2001-01-02 00:00:00+00, 2@2001-01-03 00:00:00+00]"),
-    (SqlType::TInt, "[1@2001-01-01, 1@2001-01-02)", "[1@2001-01-01 00:00:00+00, 1@2001-01-02 00:00:00+00)"),
-    (SqlType::TInt, "1.5e1@2001-01-01 08:00+01", "15@2001-01-01 07:00:00+00"),
+    (
+        SqlType::TInt,
+        " { 2@2001-01-03 ,3@2001-01-05 } ",
+        "{2@2001-01-03 00:00:00+00, 3@2001-01-05 00:00:00+00}",
+    ),
+    (
+        SqlType::TInt,
+        "{[1@2001-01-01, 2@2001-01-02], (2@2001-01-02, 2@2001-01-03]}",
+        "[1@2001-01-01 00:00:00+00, 2@2001-01-02 00:00:00+00, 2@2001-01-03 00:00:00+00]",
+    ),
+    (
+        SqlType::TInt,
+        "[1@2001-01-01, 1@2001-01-02)",
+        "[1@2001-01-01 00:00:00+00, 1@2001-01-02 00:00:00+00)",
+    ),
+    (
+        SqlType::TInt,
+        "1.5e1@2001-01-01 08:00+01",
+        "15@2001-01-01 07:00:00+00",
+    ),
     (SqlType::TInt, "[1@2001-01-01, 2@2001-01-02)", "Unsound"),
     (SqlType::TInt, "(1@2001-01-01]", "Unsound"),
     (SqlType::TInt, "{2@2001-01-02, 1@2001-01-02}", "Unsound"),
     (SqlType::TInt, "{[1@2001-01-01], [2@2001-01-01]}", "Unsound"),
     (SqlType::TInt, "1.5@2001-01-01", "Unsound"),
     (SqlType::TInt, "4611686018427387904@2001-01-01", "TooLarge"),
-    (SqlType::TInt, "[4611686018427387904@2001-01-02, 1@2001-01-01]", "TooLarge"),
+    (
+        SqlType::TInt,
+        "[4611686018427387904@2001-01-02, 1@2001-01-01]",
+        "TooLarge",
+    ),
     (SqlType::TInt, "[4611686018427387904@2001-01-01", "NotText"),
     (SqlType::TInt, "{}", "NotText"),
     (SqlType::TInt, "1@2001-02-29", "NotText"),
-    (SqlType::TBool, "[T@2001-01-01, false@2001-01-02]", "[t@2001-01-01 00:00:00+00, f@2001-01-02 00:00:00+00]"),
-    (SqlType::TText, "[a b @2001-01-01, \"c\\\"\\\\\"@2001-01-02]", "[\"a b\"@2001-01-01 00:00:00+00, \"c\\\"\\\\\"@2001-01-02 00:00:00+00]"),
+    (
+        SqlType::TBool,
+        "[T@2001-01-01, false@2001-01-02]",
+        "[t@2001-01-01 00:00:00+00, f@2001-01-02 00:00:00+00]",
+    ),
+    (
+        SqlType::TText,
+        "[a b @2001-01-01, \"c\\\"\\\\\"@2001-01-02]",
+        "[\"a b\"@2001-01-01 00:00:00+00, \"c\\\"\\\\\"@2001-01-02 00:00:00+00]",
+    ),
 ];
 
 fn printed(alloc: Global, ty: SqlType, text: &str) -> Result<String, AllocError> {
@@ -131,10 +178,18 @@ fn values_are_read_and_printed(rt: HostRuntime) -> Result<(), Fail> {
         assert_eq!(rt; printed(rt.alloc(), *ty, text)?.as_str(), *wanted, "{text}");
     }
     for (ty, field, wanted) in &FIELDS {
-        assert_eq!(rt; written(rt.alloc(), *ty, field)?.as_str(), *wanted, "{field}");
+        assert_eq!(rt;
+            written(rt.alloc(), *ty, field)?.as_str(),
+            *wanted,
+            "{field}"
+        );
     }
     for (ty, text, wanted) in &STEPS {
-        assert_eq!(rt; steps_of(rt.alloc(), *ty, text)?.as_str(), *wanted, "{text}");
+        assert_eq!(rt;
+            steps_of(rt.alloc(), *ty, text)?.as_str(),
+            *wanted,
+            "{text}"
+        );
     }
     Ok(())
 }
@@ -158,10 +213,19 @@ fn set_of(alloc: Global, count: u32) -> Result<String, AllocError> {
 fn instants_are_counted(rt: HostRuntime) -> Result<(), Fail> {
     let alloc = rt.alloc();
     let mut text = set_of(alloc, 100_000)?;
-    assert_eq!(rt; printed(alloc, SqlType::TInt, text.as_str())?.as_str(), "Unsound");
+    assert_eq!(rt;
+        printed(alloc, SqlType::TInt, text.as_str())?.as_str(),
+        "Unsound"
+    );
     text = set_of(alloc, 100_001)?;
-    assert_eq!(rt; printed(alloc, SqlType::TInt, text.as_str())?.as_str(), "Limit");
+    assert_eq!(rt;
+        printed(alloc, SqlType::TInt, text.as_str())?.as_str(),
+        "Limit"
+    );
     text.push_str("}")?;
-    assert_eq!(rt; printed(alloc, SqlType::TInt, text.as_str())?.as_str(), "NotText");
+    assert_eq!(rt;
+        printed(alloc, SqlType::TInt, text.as_str())?.as_str(),
+        "NotText"
+    );
     Ok(())
 }

@@ -103,13 +103,21 @@ fn is_difference(alloc: Global, x: &str, k: i64, wanted: &str) -> Option<bool> {
 fn is_multiple(alloc: Global, x: &str, k: i64, wanted: &str) -> Option<bool> {
     let a = tint(alloc, x)?;
     let b = Frac::new(k, 1).ok()?;
-    prints(alloc, Value::MovingInt(times_const(alloc, &a, &b).ok()?), wanted)
+    prints(
+        alloc,
+        Value::MovingInt(times_const(alloc, &a, &b).ok()?),
+        wanted,
+    )
 }
 
 fn is_product(alloc: Global, x: &str, y: &str, wanted: &str) -> Option<bool> {
     let a = tint(alloc, x)?;
     let b = tint(alloc, y)?;
-    prints(alloc, Value::MovingInt(times_step(alloc, &a, &b).ok()??), wanted)
+    prints(
+        alloc,
+        Value::MovingInt(times_step(alloc, &a, &b).ok()??),
+        wanted,
+    )
 }
 
 // The formula of which a part does not fit in the sum of a value and a number.
@@ -227,10 +235,22 @@ fn comparisons_at_each_instant(rt: HostRuntime) -> Result<(), Fail> {
     let alloc = rt.alloc();
     let (three, two) = ("[3@D1, 3@D2]", "[2@D1, 2@D2]");
     let (always, never) = ("[t@D1, t@D2]", "[f@D1, f@D2]");
-    assert_eq!(rt; is_number_test(alloc, three, Rel::Gt, two, always), Some(true));
-    assert_eq!(rt; is_number_test(alloc, three, Rel::Lt, three, never), Some(true));
-    assert_eq!(rt; is_text_test(alloc, "[a@D1, a@D2]", Rel::Le, "ab", always), Some(true));
-    assert_eq!(rt; is_truth_test(alloc, always, Rel::Ne, true, never), Some(true));
+    assert_eq!(rt;
+        is_number_test(alloc, three, Rel::Gt, two, always),
+        Some(true)
+    );
+    assert_eq!(rt;
+        is_number_test(alloc, three, Rel::Lt, three, never),
+        Some(true)
+    );
+    assert_eq!(rt;
+        is_text_test(alloc, "[a@D1, a@D2]", Rel::Le, "ab", always),
+        Some(true)
+    );
+    assert_eq!(rt;
+        is_truth_test(alloc, always, Rel::Ne, true, never),
+        Some(true)
+    );
     assert!(rt; above(alloc, two, 2).is_none());
     let times = above(alloc, "[1@D1, 3@D2, 1@D3]", 2).ok_or("true at some instant")?;
     assert_eq!(rt; holds(alloc, &times, "D1"), Some(false));
