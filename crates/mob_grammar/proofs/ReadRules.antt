@@ -1,11 +1,11 @@
 -- The words that make a production are read: one record of both laws for each.
-use Rattle.std.proofs.Common.{◌≡◌, ◌∙◌, inl, inr, ℕ, List, [], ◌∷◌, true, false, cond, Ok, Err, refl, sym, ap, subst, ◌≤◌, ◌+◌, ◌-◌, ◌⊎◌, suc, ◌++◌, length, Bool, ap₂, arith}
+use Rattle.std.proofs.Common.{◌≡◌, ◌∙◌, inl, inr, ℕ, List, [], ◌∷◌, true, false, cond, Ok, Err, refl, sym, ap, subst, ◌≤◌, ◌-◌, ◌⊎◌, suc, ◌++◌, length, Bool, ap₂, arith}
 use Rattle.std.proofs.lemmas.Bool.{eqb-true, eq-eqb}
 use Rattle.mob_ast.specs.declared.expression.Node.{Node}
 use Rattle.mob_grammar.specs.declared.mark.Mark.{Mark}
 use Rattle.mob_grammar.specs.declared.mark.Mark.TheVariants.{Distinct, Plus, Open, Comma}
 use Rattle.mob_grammar.specs.Symbols.{Tok, sign, is_sign, begins, starts, leaf, clause_at}
-use Rattle.mob_grammar.specs.Expressions.{disjunction, Phrase, TypeName, plain}
+use Rattle.mob_grammar.specs.Expressions.{disjunction, Phrase, TypeName}
 use Rattle.mob_grammar.specs.Forms.{Builds, At, AName, ANumber, AString, ◌⇒◌, ◌▸◌, ◌∣◌, Listed, Production, single, several}
 use Rattle.mob_grammar.specs.Scripts.{PlusOrMinus}
 use Rattle.mob_grammar.specs.Reading.{◌>>=◌, mark_at, closed, behind_mark, if_mark, name_at, number_at, string_at, type_at, listed, expression_at, is_plus_or_minus, plus_or_minus_at, mark_leaf_at, TokenReader, listed_from}

@@ -1,5 +1,5 @@
 -- The productions of statements are read.
-use Rattle.std.proofs.Common.{◌≡◌, ◌∙◌, inl, inr, ℕ, List, [], ◌∷◌, true, false, cond, Some, None, Ok, refl, sym, ap, subst, ◌<◌, ◌≤◌, ◌+◌, ◌-◌, Bool, Option, arith}
+use Rattle.std.proofs.Common.{◌≡◌, ◌∙◌, inl, inr, ℕ, List, [], ◌∷◌, true, false, cond, Some, None, Ok, refl, sym, ap, subst, ◌<◌, ◌≤◌, ◌+◌, Bool, Option, arith}
 use Rattle.std.proofs.lemmas.Bool.{eq-eqb}
 use Rattle.mob_ast.specs.declared.types.Word.{Word}
 use Rattle.mob_ast.specs.declared.types.TypeWord.{TypeWord}

@@ -10,7 +10,7 @@ use Rattle.mob_ast.specs.declared.statement.FromTable.{FromTable}
 use Rattle.mob_ast.specs.Trees.{Tree, tree, none, more, trees_from, StatementParts, empty, create_table, create_index, insert, copy, select, explain, RowParts, ItemParts, every, one, KeyParts, SelectParts}
 use Rattle.mob_grammar.specs.declared.mark.Mark.{Mark}
 use Rattle.mob_grammar.specs.declared.mark.Mark.TheVariants.{Select, Distinct, From, Where, Order, By, Asc, Desc, Limit, Create, Table, Index, On, Using, Gist, Insert, Into, Values, Copy, With, Format, Csv, Header, Delimiter, Explain, Not, Is, Null, True, False, As, Tilde, Times, Cast, Open, Close, Comma, Semicolon, Dot}
-use Rattle.mob_grammar.specs.Symbols.{Symbol, fixed, name, number, quoted, Tok, is_name, is_string, is_number, is_sign, is_literal, binding, begins, starts, goes_on, first, rest, binary, unary, leaf}
+use Rattle.mob_grammar.specs.Symbols.{fixed, name, number, quoted, Tok, is_name, is_string, is_number, is_sign, is_literal, binding, begins, starts, goes_on, first, rest, binary, unary, leaf}
 use Rattle.mob_grammar.specs.Expressions.{word}
 use Rattle.mob_grammar.specs.Marks.{is}
 

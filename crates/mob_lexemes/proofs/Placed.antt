@@ -19,7 +19,7 @@ use Rattle.mob_chars.proofs.Along.{are_laid}
 use Rattle.std.specs.declared.alloc.AllocError.{AllocError}
 use Rattle.std.specs.Str.{IsUtf8, IsCharBoundary}
 use Rattle.std.proofs.lemmas.Str.{IsCharBoundary-before_ascii, IsCharBoundary-after_ascii}
-use Rattle.std.proofs.lemmas.List.{length-append, length-map}
+use Rattle.std.proofs.lemmas.List.{length-map}
 use Rattle.mob_grammar.specs.Symbols.{Symbol, Tok}
 use Rattle.mob_lexemes.specs.declared.lexeme.Lexeme.{Lexeme}
 use Rattle.mob_lexemes.specs.Lexemes.{tok_of, toks}

@@ -1,7 +1,7 @@
 -- How many counted tokens an expression has. The counted tokens are its signs other than `,` `.` `)`, the words OR, AND,
 -- NOT and IS, and the names of functions; an opening bracket counts beside the name before it. The `;` that ends an
 -- expression is no sign of it.
-use Rattle.std.specs.Prelude.{ℕ, List, Bool, true, false, cond}
+use Rattle.std.specs.Prelude.{List, Bool, true, false, cond}
 use Rattle.mob_grammar.specs.declared.mark.Mark.{Mark}
 use Rattle.mob_grammar.specs.declared.mark.Mark.TheVariants.{Or, And, Not, Is, Null, True, False, Open, Close, Comma, Semicolon, Dot}
 use Rattle.mob_grammar.specs.Marks.{is_reserved_word}

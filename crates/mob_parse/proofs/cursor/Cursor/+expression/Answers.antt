@@ -1,5 +1,4 @@
-use Rattle.std.proofs.Common.{◌≡◌, ◌<◌, ◌∙◌, [], ◌∷◌, ◌++◌, true, length, map, arith, ap, sym}
-use Rattle.std.proofs.lemmas.List.{map_push}
+use Rattle.std.proofs.Common.{◌≡◌, ◌<◌, ◌∙◌, true, length, arith, ap, sym}
 use Rattle.mob_ast.specs.Trees.{tree_of}
 use Rattle.mob_grammar.specs.Reading.{chain, postfix, expression_at, comparison_rank, primary}
 use Rattle.mob_grammar.specs.declared.mark.Mark.TheVariants.{Comma}
@@ -9,7 +8,7 @@ use Rattle.mob_grammar.proofs.Tells.{through}
 use Rattle.mob_grammar.proofs.Same.{expression_unfolds}
 use Rattle.mob_parse.specs.Cursors.{left}
 use Rattle.mob_parse.specs.Levels.{level_operand}
-use Rattle.mob_parse.proofs.Steps.{gives_along, skipped, first_read, next_read}
+use Rattle.mob_parse.proofs.Steps.{gives_along, skipped, first_read, next_read, first_parts, more_parts}
 use Rattle.mob_parse.proofs.cursor.Cursor.+expression.Goals as goal
 
 pub expression-returns-clause-reads : goal.expression-returns-clause-reads
@@ -39,14 +38,14 @@ cast-casts-init t c =
 pub expressions-more-init : goal.expressions-more-init
 expressions-more-init t c =
     let short : length (left c.expression.new.self) < length (left c.args.self.now) = c.in_ok-first.ensures.shorter in
-    let one : map tree_of c.push.new.self.items ≡ tree_of c.in_ok-first.first ∷ [] = ap (map tree_of) (c.in_ok-push.ensures.items ∙ ap (λ es. es ++ c.in_ok-first.first ∷ []) c.new-found.ensures.items) in
+    let one = first_parts tree_of _ _ _ c.new-found.ensures.items c.in_ok-push.ensures.items in
     record { shorter = short; reads = first_read Comma expression_at _ _ _ _ c.in_ok-first.ensures.reads (omega arith) one }
 
 pub expressions-more-preserved : goal.expressions-more-preserved
 expressions-more-preserved t c =
     let there : starts Comma (left c.more.self) ≡ true = sym c.skip.ensures.found ∙ c.more-test.true in
     let now : left c.skip.new.self ≡ rest (left c.more.self) = c.skip.ensures.passed ∙ chosen _ _ _ there in
-    let one : map tree_of c.push-in-more.new.self.items ≡ map tree_of c.more.found.items ++ tree_of c.in_ok-next.next ∷ [] = ap (map tree_of) c.in_ok-push-2.ensures.items ∙ map_push tree_of c.more.found.items c.in_ok-next.next in
+    let one = more_parts tree_of _ _ _ c.in_ok-push-2.ensures.items in
     let short : length (left c.expression-in-more.new.self) < length (left c.skip.new.self) = c.in_ok-next.ensures.shorter in
     let gone = skipped Comma (left c.more.self) there in
     let long = ap length now in
