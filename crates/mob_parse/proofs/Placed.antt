@@ -8,8 +8,7 @@ use Rattle.std.proofs.lemmas.List.Sums.{take_while-cons}
 use Rattle.mob_chars.specs.declared.token.TokenKind.{TokenKind}
 use Rattle.mob_chars.specs.declared.token.TokenKind.TheVariants.{Word, Number, Str, Sign, End}
 use Rattle.mob_chars.specs.declared.token.Token.{Token}
-use Rattle.mob_language.specs.Language.{is_digit, is_number_sign, is_exponent_letter}
-use Rattle.mob_chars.specs.Scan.{is_letter, is_word, is_point, is_quote, begins_number, word_length, digits_length, fraction_length, mantissa_length, with_digits, power_length, exponent_length, number_length, quoted_length, string_length}
+use Rattle.mob_chars.specs.Scan.{is_digit, is_letter, is_word, is_point, is_plus, is_exponent, is_quote, begins_number, word_length, digits_length, fraction_length, mantissa_length, with_digits, power_length, exponent_length, number_length, quoted_length, string_length}
 use Rattle.mob_chars.specs.Signs.{sign_length}
 use Rattle.mob_chars.specs.Tokens.{token_at, end_at, tokens_of}
 use Rattle.mob_chars.specs.Layout.{Leads, here, blank, comment, next}
@@ -67,10 +66,10 @@ word_low b h = grind (arith, nat_tests)
 digit_low : (b : ℕ) → is_digit b ≡ true → b < 128
 digit_low b h = grind (arith, nat_tests)
 
-exponent_low : (b : ℕ) → is_exponent_letter b ≡ true → b < 128
+exponent_low : (b : ℕ) → is_exponent b ≡ true → b < 128
 exponent_low b h = grind (arith, nat_tests)
 
-plus_low : (b : ℕ) → is_number_sign b ≡ true → b < 128
+plus_low : (b : ℕ) → is_plus b ≡ true → b < 128
 plus_low b h = grind (arith, nat_tests)
 
 ascii_fraction : (l : List ℕ) → Ascii (fraction_length l) l
@@ -82,14 +81,14 @@ ascii_mantissa l = ascii_more (digits_length l) (fraction_length (drop (digits_l
 
 ascii_power : (b : ℕ) (l : List ℕ) → b < 128 → Ascii (power_length l) (b ∷ l)
 ascii_power b [] low = ascii_none (b ∷ [])
-ascii_power b (c ∷ l) low = ascii_if (is_number_sign c) (with_digits 2 (digits_length l)) (with_digits 1 (digits_length (c ∷ l))) (b ∷ c ∷ l)
+ascii_power b (c ∷ l) low = ascii_if (is_plus c) (with_digits 2 (digits_length l)) (with_digits 1 (digits_length (c ∷ l))) (b ∷ c ∷ l)
     (λ e. ascii_if (digits_length l == 0) 0 (2 + digits_length l) (b ∷ c ∷ l) (λ z. ascii_none (b ∷ c ∷ l))
     (let two_more : 2 + digits_length l ≡ 1 + (1 + digits_length l) = omega arith in subst (λ m. Ascii m (b ∷ c ∷ l)) (sym two_more) (ascii_first b (1 + digits_length l) (c ∷ l) low (ascii_first c (digits_length l) l (plus_low c e) (ascii_taken is_digit digit_low l)))))
     (ascii_if (digits_length (c ∷ l) == 0) 0 (1 + digits_length (c ∷ l)) (b ∷ c ∷ l) (λ z. ascii_none (b ∷ c ∷ l)) (ascii_first b (digits_length (c ∷ l)) (c ∷ l) low (ascii_taken is_digit digit_low (c ∷ l))))
 
 ascii_exponent : (l : List ℕ) → Ascii (exponent_length l) l
 ascii_exponent [] = ascii_none []
-ascii_exponent (b ∷ l) = ascii_if (is_exponent_letter b) (power_length l) 0 (b ∷ l) (λ e. ascii_power b l (exponent_low b e)) (ascii_none (b ∷ l))
+ascii_exponent (b ∷ l) = ascii_if (is_exponent b) (power_length l) 0 (b ∷ l) (λ e. ascii_power b l (exponent_low b e)) (ascii_none (b ∷ l))
 
 ascii_number : (l : List ℕ) → Ascii (number_length l) l
 ascii_number l = ascii_more (mantissa_length l) (exponent_length (drop (mantissa_length l) l)) l (ascii_mantissa l) (ascii_exponent (drop (mantissa_length l) l))
