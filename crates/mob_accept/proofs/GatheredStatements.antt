@@ -109,8 +109,8 @@ AskedWithin ps x = RowsWithin ps x.0
 -- the brackets of an INSERT are those of its rows
 insert_rows : (n : ℕ) (names : NameLists) (table : Word) (rs : List RowParts) (cs : List ConstText) → IfOk (inserted n names table rs cs) (AskedWithin (flat_map row_places rs))
 insert_rows n names table rs cs =
-    guard (AskedWithin (flat_map row_places rs)) (found kind.UnknownName table.place (table_of names.tables table.text)) (λ t. typed_rows n t.1 [] rs cs >>= λ r. Ok (record { statement = new_rows t.0 r.0 (map (λ row. row.place) rs); names = names }, r.1))
-    (λ t. guard (AskedWithin (flat_map row_places rs)) (typed_rows n t.1 [] rs cs) (λ r. Ok (record { statement = new_rows t.0 r.0 (map (λ row. row.place) rs); names = names }, r.1))
+    guard (AskedWithin (flat_map row_places rs)) (found kind.UnknownName table.place (table_of names.tables table.text)) (λ t. typed_rows n t.1 rs cs >>= λ r. Ok (record { statement = new_rows t.0 r.0 (map (λ row. row.place) rs); names = names }, r.1))
+    (λ t. guard (AskedWithin (flat_map row_places rs)) (typed_rows n t.1 rs cs) (λ r. Ok (record { statement = new_rows t.0 r.0 (map (λ row. row.place) rs); names = names }, r.1))
     (λ r. brackets_within rs))
 
 pub statement_rows : (n : ℕ) (names : NameLists) (s : StatementParts) (cs : List ConstText) → IfOk (typed_statement n names s cs) (AskedWithin (statement_places s))
