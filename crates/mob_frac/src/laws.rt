@@ -1,6 +1,6 @@
 //! What holds of every fraction. No code runs here.
 
-use crate::{Frac, Overflow};
+use crate::{Frac, Overflow, Wide};
 use std::marker::{Send, Sync};
 
 // Values of the type may be sent to another thread, and several threads may read one.
@@ -10,4 +10,5 @@ fn crosses_threads<T: Send + Sync>() {}
 pub fn fractions_cross_threads() {
     crosses_threads::<Frac>();
     crosses_threads::<Overflow>();
+    crosses_threads::<Wide>();
 }

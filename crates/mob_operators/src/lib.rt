@@ -1,6 +1,7 @@
 //! The table of operators: how each is written, which types it takes and which type it gives.
 #![tactic(auto)]
 
+pub mod laws;
 mod lookup;
 mod operator;
 mod table;

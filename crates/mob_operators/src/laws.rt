@@ -1,0 +1,10 @@
+//! What holds of every operator. No code runs here.
+
+use crate::operator::{Form, Op};
+use mob_list::laws::crosses_threads;
+
+/// Operators cross threads.
+pub fn operators_cross_threads() {
+    crosses_threads::<Op>();
+    crosses_threads::<Form>();
+}

@@ -1,0 +1,13 @@
+//! What holds of every typed script. No code runs here.
+
+use crate::typed::{ConstText, TExpr, Typed, TypedSelect, TypedStatement};
+use mob_list::laws::crosses_threads;
+
+/// Typed scripts and what they are made of cross threads.
+pub fn typed_scripts_cross_threads() {
+    crosses_threads::<Typed>();
+    crosses_threads::<TypedStatement>();
+    crosses_threads::<TypedSelect>();
+    crosses_threads::<TExpr>();
+    crosses_threads::<ConstText>();
+}
