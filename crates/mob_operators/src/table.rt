@@ -275,7 +275,13 @@ pub static ROWS: [Row; 58] = [
         ByLiteral,
         ResultType::Only(SqlType::TFrac)
     ),
-    row!(Sign, JOIN, [TEXT, TEXT], Free, ResultType::Only(SqlType::Text)),
+    row!(
+        Sign,
+        JOIN,
+        [TEXT, TEXT],
+        Free,
+        ResultType::Only(SqlType::Text)
+    ),
     row!(
         Sign,
         JOIN,
