@@ -9,12 +9,12 @@ ghost use Rattle.mob_expression.specs.Expressions.{constant, settled, typed_stri
 use crate::columns::column_named;
 use crate::fault::Fault;
 use crate::scope::{Scope, number};
-use mob_typed::{ConstText, TExpr};
 use crate::words::{literal_type, number_type, type_named};
 use mob_ast::{Expr, Kind, Node, SqlType, TypeWord};
 use mob_list::items::Items;
 use mob_list::text::Text;
 use mob_operators::{Form, Op, is_irrational};
+use mob_typed::{ConstText, TExpr};
 use std::alloc::Global;
 
 /// A typed expression with these arguments.
@@ -185,6 +185,8 @@ pub fn typed_before_operands(
             Ok(None)
         }
         Node::Cast(word) => cast_of_string(alloc, scope, consts, word, place, args),
-        Node::Sign(_) | Node::Not | Node::And | Node::Or | Node::IsNull | Node::IsNotNull => Ok(None),
+        Node::Sign(_) | Node::Not | Node::And | Node::Or | Node::IsNull | Node::IsNotNull => Ok(
+            None,
+        ),
     }
 }

@@ -9,9 +9,9 @@ use crate::constants::typed_before_operands;
 use crate::fault::Fault;
 use crate::operators::finished;
 use crate::scope::Scope;
-use mob_typed::{ConstText, TExpr};
 use mob_ast::Expr;
 use mob_list::items::Items;
+use mob_typed::{ConstText, TExpr};
 use std::alloc::Global;
 
 /// The typed tree of an expression, whose constants come behind those so far, or what is wrong first.

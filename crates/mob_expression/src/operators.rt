@@ -8,10 +8,10 @@ ghost use Rattle.mob_expression.specs.Expressions.{is_signed, digits_of, divisor
 
 use crate::constants::{only, with_args};
 use crate::fault::Fault;
-use mob_typed::TExpr;
 use crate::words::{is_zero, type_named};
 use mob_ast::{Expr, Kind, Node, SqlType, TypeWord};
 use mob_operators::{Form, Op, is_function, is_irrational, operator_for};
+use mob_typed::TExpr;
 use std::alloc::{AllocError, Global};
 
 /// The type of a typed expression.

@@ -2,8 +2,8 @@
 ghost use Rattle.std.specs.Prelude.{◌≡◌, Ok};
 ghost use Rattle.mob_expression.specs.Answers.{AnswersAs};
 
-use crate::fault::Fault;
 use crate::column_list::Columns;
+use crate::fault::Fault;
 use mob_ast::SqlType;
 
 /// A table of FROM under the name that it goes by there.

@@ -8,17 +8,17 @@ ghost use Rattle.mob_typed.specs.Trees.{typed_of};
 ghost use Rattle.mob_typed.specs.Selects.{output_of, key_seen};
 ghost use Rattle.mob_typing.specs.Selects.{outputs_seen, tree_place, is_bool, condition, aliased, or_typed, is_key, typed_key, typed_keys, is_limit, limit_value, limit_of};
 
+use crate::outputs::Outputs;
+use mob_ast::{Expr, Key, Kind, Node, SqlType, Word};
 use mob_expression::constants::with_args;
 use mob_expression::expression::type_expr;
 use mob_expression::fault::Fault;
 use mob_expression::operators::type_of;
-use crate::outputs::Outputs;
 use mob_expression::scope::Scope;
-use mob_typed::{ConstText, TExpr};
 use mob_expression::words::has_digits_alone;
-use mob_ast::{Expr, Key, Kind, Node, SqlType, Word};
 use mob_list::items::Items;
 use mob_list::text::Text;
+use mob_typed::{ConstText, TExpr};
 use std::alloc::{AllocError, Global};
 
 // The place of an expression as a whole.

@@ -7,16 +7,16 @@ ghost use Rattle.mob_typed.specs.Trees.{typed, typed_of, none};
 ghost use Rattle.mob_typing.specs.Selects.{columns_of_table, all_outputs, own_name, tree_name, output_name, with_alias, with_item, with_items, outputs_seen, no_outputs};
 ghost use Rattle.mob_typed.specs.Selects.{output_of};
 
+use mob_ast::{Expr, Item, Kind, Node, SqlType, Word};
+use mob_expression::column_list::Columns;
 use mob_expression::constants::leaf;
 use mob_expression::expression::type_expr;
 use mob_expression::fault::Fault;
-use mob_expression::column_list::Columns;
 use mob_expression::scope::{Scope, Source, number};
-use mob_typed::{ConstText, TExpr};
-use mob_ast::{Expr, Item, Kind, Node, SqlType, Word};
 use mob_list::items::Items;
 use mob_list::text::Text;
 use mob_operators::Op;
+use mob_typed::{ConstText, TExpr};
 use std::alloc::{AllocError, Global};
 
 /// The columns of the answer so far, and the names behind AS, each with the number of its column.

@@ -6,17 +6,17 @@ ghost use Rattle.mob_expression.specs.Answers.{AnswersAs, TypesTo};
 ghost use Rattle.mob_typing.specs.Statements.{row_constant, lone_number, signed_value, bool_value, typed_value, node_value, tree_value, row_values, typed_row, typed_rows, inserted, good_delimiter, copied};
 ghost use Rattle.mob_typed.specs.Statements.{statement_seen};
 
+use crate::names::Names;
+use mob_ast::{Expr, Kind, Node, Quoted, Row, SqlType, TypeWord, Word};
+use mob_expression::column_list::Columns;
 use mob_expression::constants::only;
 use mob_expression::fault::Fault;
-use crate::names::Names;
-use mob_expression::column_list::Columns;
 use mob_expression::operators::is_signed;
 use mob_expression::scope::number;
-use mob_typed::{ConstText, TypedStatement};
 use mob_expression::words::literal_type;
-use mob_ast::{Expr, Kind, Node, Quoted, Row, SqlType, TypeWord, Word};
 use mob_list::items::Items;
 use mob_list::text::Text;
+use mob_typed::{ConstText, TypedStatement};
 use std::alloc::{AllocError, Global};
 
 // A constant of a statement of this number.

@@ -5,15 +5,15 @@ ghost use Rattle.mob_expression.specs.Answers.{AnswersAs, TypesTo};
 ghost use Rattle.mob_typed.specs.Statements.{statement_seen, script_seen};
 ghost use Rattle.mob_typing.specs.Statements.{typed_statement, typed_script, IsTypingRefusal, refusal_of};
 
-use mob_expression::fault::Fault;
 use crate::names::Names;
 use crate::rows::{copied, inserted};
-use mob_expression::scope::number;
 use crate::select::typed_select;
 use crate::tables::{made_index, made_table};
-use mob_typed::{ConstText, Typed, TypedStatement};
 use mob_ast::{Kind, Refusal, Script, Statement};
+use mob_expression::fault::Fault;
+use mob_expression::scope::number;
 use mob_list::items::Items;
+use mob_typed::{ConstText, Typed, TypedStatement};
 use std::alloc::Global;
 
 // A statement, or what is wrong first in it.

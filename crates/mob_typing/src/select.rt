@@ -6,15 +6,15 @@ ghost use Rattle.mob_expression.specs.Scopes.{scope_of};
 ghost use Rattle.mob_typed.specs.Selects.{select_seen};
 ghost use Rattle.mob_typing.specs.Selects.{typed_clauses, typed_select};
 
-use mob_expression::fault::Fault;
 use crate::from::{from_tables, table_names, table_numbers};
 use crate::keys::{condition, limit_of, typed_keys};
 use crate::names::Names;
 use crate::outputs::{Outputs, outputs_of};
-use mob_expression::scope::Scope;
-use mob_typed::{ConstText, TypedSelect};
 use mob_ast::SelectTree;
+use mob_expression::fault::Fault;
+use mob_expression::scope::Scope;
 use mob_list::items::Items;
+use mob_typed::{ConstText, TypedSelect};
 use std::alloc::Global;
 
 // The clauses behind FROM, which sees these tables.

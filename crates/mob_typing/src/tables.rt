@@ -6,15 +6,15 @@ ghost use Rattle.mob_expression.specs.Answers.{AnswersAs};
 ghost use Rattle.mob_typing.specs.Statements.{with_column, with_columns, made_table, made_index};
 ghost use Rattle.mob_typed.specs.Statements.{statement_seen};
 
-use mob_expression::fault::Fault;
 use crate::names::Names;
-use mob_expression::column_list::Columns;
-use mob_expression::scope::number;
-use mob_typed::TypedStatement;
-use mob_expression::words::type_named;
 use mob_ast::{Kind, SqlType, TypeWord, Word};
+use mob_expression::column_list::Columns;
+use mob_expression::fault::Fault;
+use mob_expression::scope::number;
+use mob_expression::words::type_named;
 use mob_list::items::Items;
 use mob_list::text::Text;
+use mob_typed::TypedStatement;
 use std::alloc::{AllocError, Global};
 
 // How many columns a table may have, and how many tables a script.
