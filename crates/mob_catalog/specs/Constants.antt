@@ -6,7 +6,7 @@ use Rattle.mob_ast.specs.declared.refusal.Kind.TheVariants as kind
 use Rattle.mob_ast.specs.declared.refusal.Refusal.{Refusal}
 use Rattle.mob_typed.specs.declared.typed.ConstText.{ConstText}
 use Rattle.mob_value.specs.declared.value.Value.{Value}
-use Rattle.mob_scalar.specs.declared.fault.ReadText.{ReadText}
+use Rattle.mob_numeral.specs.declared.fault.ReadText.{ReadText}
 use Rattle.mob_literal.specs.SqlText.{SaysAs}
 use Rattle.mob_catalog.specs.Faults.{IsRefusedAs}
 use Rattle.mob_catalog.specs.FirstFault.{IsFirstFault}
