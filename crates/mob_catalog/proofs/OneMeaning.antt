@@ -26,7 +26,7 @@ module _ (day : ℤ) where
       let kind : e.kind ≡ f.kind = one_kind k.fault e.kind f.kind (subst (λ x. IsRefusedAs x e.kind) fault h.for_fault) k.for_fault in
       h.there ∙ ap (at_constant c) kind ∙ sym k.there
 
-  Fails : ℕ → ConstText → Refusal → Type 0
+  abbrev Fails : ℕ → ConstText → Refusal → Type 0
   Fails n c e = ConstantFails day c e
 
   settled : IsSettled (IsConstant day) Fails
