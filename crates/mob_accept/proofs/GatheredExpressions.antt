@@ -21,7 +21,7 @@ use Rattle.mob_grammar.specs.Places.{IsWithin, nothing, same, literal_place, tre
 use Rattle.mob_grammar.proofs.Within.{within_all, within_back}
 use Rattle.mob_accept.proofs.Adds.{Adds, adds_none, adds_one, adds_within, Gathers, guard, gathers_within, more_gathers, only}
 
--- what is settled early adds its literals; where nothing is settled, nothing is added
+-- what is typed before its operands adds its literals; where nothing is settled, nothing is added
 abbrev Settled : ℕ → List ℕ → List ConstText → Option TypedTree → List ConstText → Type 0
 Settled n ps cs None ds = ds ≡ cs
 Settled n ps cs (Some t) ds = Adds n ps cs ds

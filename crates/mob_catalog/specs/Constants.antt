@@ -1,8 +1,7 @@
 -- The values of the constants of a script, and their refusals.
-use Rattle.std.specs.Prelude.{◌≡◌, ◌⊎◌, ℤ, List, Result, Ok, Err}
+use Rattle.std.specs.Prelude.{◌≡◌, ℤ, List, Result, Ok, Err}
 use Rattle.std.specs.List.{AllZip}
 use Rattle.mob_ast.specs.declared.refusal.Kind.{Kind}
-use Rattle.mob_ast.specs.declared.refusal.Kind.TheVariants as kind
 use Rattle.mob_ast.specs.declared.refusal.Refusal.{Refusal}
 use Rattle.mob_typed.specs.declared.typed.ConstText.{ConstText}
 use Rattle.mob_value.specs.declared.value.Value.{Value}
@@ -26,11 +25,7 @@ pub record ConstantFails (day : ℤ) (constant : ConstText) (refusal : Refusal) 
   pub for_fault : IsRefusedAs fault refusal.kind
   pub there : refusal ≡ at_constant constant refusal.kind
 
--- a constant is refused, by its text or for want of memory
-abbrev pub RefusesConstant : ℤ → ConstText → Refusal → Type 0
-RefusesConstant day constant refusal = ConstantFails day constant refusal ⊎ (refusal ≡ at_constant constant kind.NoMemory)
-
--- the values of constants, one by one, or the refusal of the first that has none
+-- the values of constants, one by one, or the refusal of the first whose text has none
 abbrev pub AreConstants : ℤ → List ConstText → Result (List Value) Refusal → Type 0
 AreConstants day constants (Ok values) = AllZip (IsConstant day) constants values
-AreConstants day constants (Err refusal) = IsFirstFault (IsConstant day) (λ before. RefusesConstant day) constants refusal
+AreConstants day constants (Err refusal) = IsFirstFault (IsConstant day) (λ before. ConstantFails day) constants refusal

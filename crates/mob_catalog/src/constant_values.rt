@@ -1,8 +1,9 @@
 // The values of the constants of a script.
-ghost use Rattle.std.specs.Prelude.{◌≡◌, Err, IfErr, IfOk, Ok};
-ghost use Rattle.mob_catalog.specs.Constants.{AreConstants, IsConstant, RefusesConstant};
+ghost use Rattle.std.specs.Prelude.{◌≡◌, ◌⊎◌, Err, IfErr, IfOk, Ok};
+ghost use Rattle.mob_ast.specs.Kinds.{no_memory};
+ghost use Rattle.mob_catalog.specs.Constants.{AreConstants, ConstantFails, IsConstant};
 
-use crate::fault::{constant_refusal, refusal_at};
+use crate::fault::constant_refusal;
 use mob_ast::{Kind, Refusal};
 use mob_list::items::Items;
 use mob_literal::read_value;
@@ -11,29 +12,33 @@ use mob_typed::ConstText;
 use mob_value::Value;
 use std::alloc::Global;
 
-/// The value of a constant, or its refusal at its statement and place: `Limit` where its text passes a limit, `NoMemory` for want of
-/// memory, else `BadLiteral` where its text has no value.
+/// The value of a constant, or its refusal at its statement and place: `Limit` where its text passes a limit, else `BadLiteral` where
+/// its text has no value. Want of memory has no place.
 pub fn constant(alloc: Global, text: &ConstText, epoch: &Epoch) -> Result<Value, Refusal>
     ensures value { IfOk result (IsConstant epoch.now text.now) }
-    ensures refused { IfErr result (RefusesConstant epoch.now text.now) }
+    ensures refused { IfErr result (λ e. (e ≡ no_memory) ⊎ ConstantFails epoch.now text.now e) }
 {
     match read_value(alloc, text.ty, text.text.as_str(), epoch) {
         Ok(value) => Ok(value),
         Err(fault) => match constant_refusal(fault, text) {
             Some(refusal) => Err(refusal),
-            None => Err(refusal_at(text, Kind::NoMemory)),
+            None => Err(Refusal {
+                kind: Kind::NoMemory,
+                statement: 0,
+                place: 0,
+            }),
         },
     }
 }
 
-/// The values of the constants of a script, in written order, or the refusal of the first that has none.
+/// The values of the constants of a script, in written order, or the refusal of the first whose text has none.
 pub fn constants(
     alloc: Global,
     texts: &[ConstText],
     epoch: &Epoch,
 ) -> Result<Items<Value>, Refusal>
     ensures values { IfOk result (λ values. AreConstants epoch.now texts.now (Ok values)) }
-    ensures refused { IfErr result (λ refusal. AreConstants epoch.now texts.now (Err refusal)) }
+    ensures refused { IfErr result (λ e. (e ≡ no_memory) ⊎ AreConstants epoch.now texts.now (Err e)) }
 {
     let mut values = Items::new(alloc);
     for text in texts {
@@ -41,10 +46,7 @@ pub fn constants(
             Ok(value) => value,
             Err(refusal) => return Err(refusal),
         };
-        match values.push(value) {
-            Ok(()) => {}
-            Err(_) => return Err(refusal_at(text, Kind::NoMemory)),
-        }
+        values.push(value)?;
     }
     Ok(values)
 }

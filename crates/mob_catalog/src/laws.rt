@@ -1,5 +1,5 @@
 //! What holds of every table file and of all constants. No code runs here.
-ghost use Rattle.mob_catalog.specs.Outcomes.{HasOneFault, HasOneTable, HaveOneMeaning, HaveOneRefusal, NeverMeantAndRefused, NeverReadAndRefused};
+ghost use Rattle.mob_catalog.specs.Outcomes.{HasOneFault, HasOneTable, ConstantsHaveOneMeaning, ConstantsHaveOneRefusal, ConstantsNeverMeanAndFail, NeverReadAndRefused};
 
 use crate::Catalog;
 use mob_list::laws::crosses_threads;
@@ -11,12 +11,11 @@ pub fn one_table()
     ensures apart { NeverReadAndRefused }
 {}
 
-/// The constants of a script have one outcome, apart from want of memory: they have their values, or one is refused first, and never
-/// both.
+/// The constants of a script have one outcome: they have their values, or one is refused first, and never both.
 pub fn one_meaning()
-    ensures values { HaveOneMeaning }
-    ensures refusals { HaveOneRefusal }
-    ensures apart { NeverMeantAndRefused }
+    ensures values { ConstantsHaveOneMeaning }
+    ensures refusals { ConstantsHaveOneRefusal }
+    ensures apart { ConstantsNeverMeanAndFail }
 {}
 
 /// Catalogues cross threads.

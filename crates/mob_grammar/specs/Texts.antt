@@ -1,4 +1,4 @@
--- Which texts are of a form, and where one that is not first goes wrong.
+-- Which texts a production makes, and where one that it does not make first goes wrong.
 use Rattle.std.specs.Prelude.{◌≡◌, ◌≤◌, ℕ, List, [], ◌∷◌, ◌++◌}
 use Rattle.mob_grammar.specs.Symbols.{Symbol, fixed, name, number, quoted, Tok}
 
@@ -20,16 +20,16 @@ ArePlain [] = Unit {0}
 ArePlain (t ∷ l) = IsPlain t.symbol × ArePlain l
 
 module _ {A : Type 0} (F : List Tok → A → List Tok → Type 0) where
-  -- some text of the form begins with these tokens
+  -- some text of the production begins with these tokens
   abbrev pub BeginsText : List Tok → Type 0
   BeginsText l = (more : List Tok) × ArePlain more × (x : A) × F (l ++ more) x []
 
-  -- some text of the form begins with l and the first token of r; or, where r has none, l is one itself
+  -- some text of the production begins with l and the first token of r; or, where r has none, l is one itself
   abbrev pub GoesOn : List Tok → List Tok → Type 0
   GoesOn l [] = (x : A) × F l x []
   GoesOn l (t ∷ r) = (more : List Tok) × (x : A) × F ((l ++ t ∷ []) ++ more) x []
 
-  -- r begins at the first token of l with which no text of the form begins, given the tokens before it
+  -- r begins at the first token of l with which no text of the production begins, given the tokens before it
   pub record IsFirstWrong (l r : List Tok) : Type 0 where
     pub before : List Tok
     pub parts : l ≡ before ++ r

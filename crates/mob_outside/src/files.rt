@@ -54,7 +54,7 @@ pub trait Files {
         ensures cause { HasCause (faults self.old) (faults self.new) result };
 }
 
-/// Files in memory whose calls fail and are cut short as their maker says. Contracts see them as a `Drawer`.
+/// Files in memory whose calls fail and are cut short as their maker says. Contracts see them as a `FilesState`.
 #[derive(Drop)]
 pub struct MemFiles {
     alloc: Global,

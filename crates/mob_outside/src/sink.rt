@@ -27,7 +27,7 @@ pub trait Sink {
         ensures cause { HasCause (faults self.old) (faults self.new) result };
 }
 
-/// A sink in memory whose calls fail and are cut short as its maker says. Contracts see it as a `Heap`.
+/// A sink in memory whose calls fail and are cut short as its maker says. Contracts see it as a `SinkState`.
 #[derive(Drop)]
 pub struct MemSink {
     bytes: Vec<u8>,

@@ -41,7 +41,7 @@ pub(crate) fn give(rest: &[u8], most: usize, into: &mut [u8]) -> usize
     count
 }
 
-/// Bytes in memory whose calls fail and are cut short as its maker says. Contracts see it as a `Feed`.
+/// Bytes in memory whose calls fail and are cut short as its maker says. Contracts see it as a `SourceState`.
 #[derive(Drop)]
 pub struct MemSource {
     bytes: Vec<u8>,

@@ -32,7 +32,7 @@ overflow_fault o = (o.rows, (o.place, o.formula))
 abbrev pub StopsOn : Session → TypedStatement → Overflow → Type 0
 StopsOn s x o = Stops (session_day s) (session_state s) (statement_seen x) (overflow_fault o)
 
--- the halt of a query: its fault, or want of memory
+-- why a query has no answer: its fault, or want of memory
 abbrev pub HasNoAnswerBy : QueryFault → NoAnswer Overflow → Type 0
 HasNoAnswerBy (Passed tuple place formula) (Fault o) = overflow_fault o ≡ (tuple, (place, formula))
 HasNoAnswerBy (Passed tuple place formula) NoMemory = ⊥

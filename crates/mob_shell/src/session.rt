@@ -113,7 +113,7 @@ impl Session {
     }
 }
 
-// The halt of a query that has no answer.
+// Why a query has no answer.
 fn halt_of(fault: QueryFault) -> NoAnswer<Overflow>
     ensures halt { HasNoAnswerBy fault result }
 {
