@@ -1,7 +1,7 @@
 // Tables, and what is wrong with a file or a literal. What whole files say stands in `checks/rows`.
 
 use mob_ast::{Kind, Refusal, SqlType};
-use mob_catalog::{Catalog, LoadFault, constant_refusal, read_table};
+use mob_catalog::{Catalog, LoadFault, constant_refusal, constants, read_table};
 use mob_list::items::Items;
 use mob_list::text::Text;
 use mob_literal::write_field;
@@ -45,14 +45,41 @@ fn rows_and_their_limit(rt: HostRuntime) -> Result<(), Fail> {
     Ok(())
 }
 
+// A truth value of a script, by its text, in the statement 2.
+fn truth(alloc: Global, characters: &str, place: u32) -> Result<ConstText, AllocError> {
+    Ok(ConstText {
+        ty: SqlType::Bool,
+        text: text(alloc, characters)?,
+        statement: 2,
+        place,
+    })
+}
+
+// How many values these texts have, at the places 10, 11 and so on; or their first refusal.
+fn truths(alloc: Global, texts: &[&str]) -> Result<usize, Refusal> {
+    let mut literals = Vec::new(alloc);
+    for (place, text) in (10..20).zip(texts.iter()) {
+        literals.push(truth(alloc, *text, place)?)?;
+    }
+    Ok(constants(alloc, &literals, &Epoch::standard())?.len())
+}
+
+#[test]
+fn the_first_constant_without_a_value_is_refused(rt: HostRuntime) -> Result<(), Fail> {
+    assert_eq!(rt; truths(rt.alloc(), &[]).ok(), Some(0));
+    assert_eq!(rt; truths(rt.alloc(), &["t", "FALSE"]).ok(), Some(2));
+    let refusal = Some(Refusal {
+        kind: Kind::BadLiteral,
+        statement: 2,
+        place: 11,
+    });
+    assert_eq!(rt; truths(rt.alloc(), &["t", "maybe", "no"]).err(), refusal);
+    Ok(())
+}
+
 #[test]
 fn literals_are_refused_at_their_places(rt: HostRuntime) -> Result<(), Fail> {
-    let literal = ConstText {
-        ty: SqlType::Bool,
-        text: text(rt.alloc(), "maybe")?,
-        statement: 2,
-        place: 15,
-    };
+    let literal = truth(rt.alloc(), "maybe", 15)?;
     for (fault, kind) in [
         (ReadText::Limit, Some(Kind::Limit)),
         (ReadText::NotText, Some(Kind::BadLiteral)),
