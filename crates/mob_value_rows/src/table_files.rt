@@ -45,6 +45,7 @@ fn rows_and_their_limit(rt: HostRuntime) -> Result<(), Fail> {
     Ok(())
 }
 
+// The refusal of a literal, for each of its faults.
 #[test]
 fn literals_are_refused_at_their_places(rt: HostRuntime) -> Result<(), Fail> {
     let literal = ConstText {
