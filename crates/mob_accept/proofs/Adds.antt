@@ -3,9 +3,9 @@ use Rattle.std.specs.Prelude.{IfOk}
 use Rattle.std.specs.List.{AllByRecursion}
 use Rattle.std.proofs.Common.{◌≡◌, ◌∙◌, refl, sym, ap, subst, ℕ, List, [], ◌∷◌, ◌++◌, map, append_assoc, append-nil, Result, Ok, Err}
 use Rattle.std.proofs.lemmas.List.{map-append}
-use Rattle.mob_typing.specs.declared.typed.ConstText.{ConstText}
-use Rattle.mob_typing.specs.Answers.{Mistake, ◌>>=◌}
-use Rattle.mob_typing.proofs.Rising.{each_both}
+use Rattle.mob_typed.specs.declared.typed.ConstText.{ConstText}
+use Rattle.mob_expression.specs.Answers.{Mistake, ◌>>=◌, TypingStep, one_more}
+use Rattle.mob_typed.proofs.Rising.{each_both}
 use Rattle.mob_grammar.specs.Places.{IsWithin, nothing, same}
 use Rattle.mob_grammar.proofs.Within.{within_both, within_trans}
 
@@ -63,3 +63,9 @@ module _ {B : Type 0} (n : ℕ) where
   -- what follows adds nothing
   pub only : {A : Type 0} (ps : List ℕ) (cs : List ConstText) (r : Result (A × List ConstText) Mistake) (f : A × List ConstText → Result (B × List ConstText) Mistake) → Gathers n ps cs r → ((x : A × List ConstText) → Gathers n [] x.1 (f x)) → Gathers n ps cs (r >>= f)
   only ps cs r f h k = subst (λ qs. Gathers n qs cs (r >>= f)) (append-nil ps) (bind ps [] cs r f h k)
+
+-- a step, and then those that follow
+pub more_gathers : {A : Type 0} (n : ℕ) (ps qs : List ℕ) (cs : List ConstText) (first : TypingStep A) (others : TypingStep (List A)) → Gathers n ps cs (first cs) → ((ds : List ConstText) → Gathers n qs ds (others ds))
+    → Gathers n (ps ++ qs) cs (one_more first others cs)
+more_gathers n ps qs cs first others h k =
+    bind n ps qs cs (first cs) (λ r. others r.1 >>= λ l. Ok (r.0 ∷ l.0, l.1)) h (λ r. only n qs r.1 (others r.1) (λ l. Ok (r.0 ∷ l.0, l.1)) (k r.1) (λ l. adds_none n [] l.1))

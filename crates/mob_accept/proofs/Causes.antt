@@ -9,12 +9,13 @@ use Rattle.mob_ast.specs.Kinds.{no_memory}
 use Rattle.mob_ast.specs.Trees.{StatementParts, script_of}
 use Rattle.mob_parse.specs.Refusals.{Cause, IsTreeOf, ParsesToRefusal as HasNoTree}
 use Rattle.mob_parse.proofs.Refused.{no_tree}
-use Rattle.mob_typing.specs.Statements.{ScriptOut, typed_script, IsTypingRefusal}
-use Rattle.mob_built.specs.Least.{earlier, least}
-use Rattle.mob_built.specs.Words.{unbuilt_words}
-use Rattle.mob_built.specs.Types.{unbuilt_types}
-use Rattle.mob_built.specs.Operators.{unbuilt_operators}
-use Rattle.mob_built.proofs.Places.{least_append}
+use Rattle.mob_typed.specs.Statements.{ScriptOut}
+use Rattle.mob_typing.specs.Statements.{typed_script, IsTypingRefusal}
+use Rattle.mob_accept.specs.Least.{earlier, least}
+use Rattle.mob_accept.specs.UnbuiltWords.{unbuilt_words}
+use Rattle.mob_accept.specs.UnbuiltTypes.{unbuilt_types}
+use Rattle.mob_accept.specs.UnbuiltOperators.{unbuilt_operators}
+use Rattle.mob_accept.proofs.Places.{least_append}
 use Rattle.mob_accept.specs.Accepts.{HasTrees, IsAccepted, IsTooLong, IsNotBuiltAt, IsRefusedWith, script_limit, unbuilt_places}
 
 -- a refusal of the parser is want of memory, or another

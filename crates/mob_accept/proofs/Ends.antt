@@ -22,11 +22,11 @@ use Rattle.mob_grammar.specs.Symbols.{Symbol, fixed, name, number, quoted, Tok, 
 use Rattle.mob_grammar.specs.Cuts.{ends_among, StandsBehind}
 use Rattle.mob_grammar.proofs.Marks.{same_mark}
 use Rattle.mob_grammar.proofs.Steps.{told}
-use Rattle.mob_parse.specs.Tokens.{other_sign, sign_mark, word_symbol, piece, symbol_at, before_lexed, lexed}
-use Rattle.mob_parse.proofs.Reserved.{words_are_read}
-use Rattle.mob_parse.specs.Refusals.{semicolons, place_of}
-use Rattle.mob_built.proofs.Within.{ends_later}
-use Rattle.mob_built.specs.Words.{bytes_of, tokens_in, is_end_before, statement_number}
+use Rattle.mob_lexemes.specs.Lexed.{other_sign, sign_mark, word_symbol, piece, symbol_at, before_lexed, lexed}
+use Rattle.mob_lexemes.proofs.Reserved.{words_are_read}
+use Rattle.mob_parse.specs.Refusals.{place_of}
+use Rattle.mob_accept.proofs.Within.{ends_later}
+use Rattle.mob_accept.specs.UnbuiltWords.{bytes_of, tokens_in, is_end_before, statement_number}
 
 -- the one text that is read as `;`
 other_found : (ms : List Mark) (s : List ℕ) (m : Mark) → other_sign ms s ≡ m → (m ≡ Dot) ⊎ (mark_text m ≡ s)
@@ -205,13 +205,3 @@ place_behind text ts l before [] are lexes parts =
     let all : tokens_in (tokens_of text) ≡ ts = ap tokens_in are in
     ap (λ us. 1 + length (filter (is_end_before text (length text)) us)) all ∙ ap (λ m. 1 + m) (counted ∙ ap ends_among (sym lexes ∙ parts ∙ append-nil before))
 place_behind text ts l before (t ∷ r) are lexes parts = behind_is text ts l (ends_among before) t.place are lexes (record { before = before; token = t; behind = r; parts = parts; number = refl; here = refl })
-
--- the count of `;` that refusals name
-pub semicolons_are : (l : List Tok) → semicolons l ≡ ends_among l
-semicolons_are [] = refl
-semicolons_are (t ∷ l) = elim (told (is_sign Semicolon t)) [
-  | inl yes_ ↦
-      let more : semicolons l + 1 ≡ suc (ends_among l) = omega (arith, semicolons_are l) in
-      ap (λ b. cond b (semicolons l + 1) (semicolons l)) yes_ ∙ more ∙ sym (ap (λ b. length (cond b (t ∷ filter (is_sign Semicolon) l) (filter (is_sign Semicolon) l))) yes_)
-  | inr no_ ↦ ap (λ b. cond b (semicolons l + 1) (semicolons l)) no_ ∙ semicolons_are l ∙ sym (ap (λ b. length (cond b (t ∷ filter (is_sign Semicolon) l) (filter (is_sign Semicolon) l))) no_)
-]

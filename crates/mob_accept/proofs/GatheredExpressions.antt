@@ -11,15 +11,15 @@ use Rattle.mob_ast.specs.Trees.{Tree, tree, Trees, none as no_trees, more as mor
 use Rattle.mob_operators.specs.declared.operator.Op.TheVariants as op
 use Rattle.mob_operators.specs.declared.operator.Form.TheVariants as form
 use Rattle.mob_operators.specs.Table.{is_irrational}
-use Rattle.mob_typing.specs.declared.typed.ConstText.{ConstText}
-use Rattle.mob_typing.specs.Trees.{TypedTree, typed, none, more}
-use Rattle.mob_typing.specs.Answers.{Mistake, ◌>>=◌, unless, found}
-use Rattle.mob_typing.specs.Scopes.{ScopeParts}
-use Rattle.mob_typing.specs.Words.{type_named, literal_type, number_type}
-use Rattle.mob_typing.specs.Expressions.{constant, column_named, lone_string, cast_of_string, typed_before_operands, finished, or_later, typed_expression, typed_operands}
+use Rattle.mob_typed.specs.declared.typed.ConstText.{ConstText}
+use Rattle.mob_typed.specs.Trees.{TypedTree, typed, none, more}
+use Rattle.mob_expression.specs.Answers.{Mistake, ◌>>=◌, unless, found}
+use Rattle.mob_expression.specs.Scopes.{ScopeParts}
+use Rattle.mob_expression.specs.Words.{type_named, literal_type, number_type}
+use Rattle.mob_expression.specs.Expressions.{constant, column_named, lone_string, cast_of_string, typed_before_operands, finished, or_later, typed_expression, typed_operands}
 use Rattle.mob_grammar.specs.Places.{IsWithin, nothing, same, literal_place, tree_places, trees_places}
 use Rattle.mob_grammar.proofs.Within.{within_all, within_back}
-use Rattle.mob_accept.proofs.Adds.{Adds, adds_none, adds_one, adds_within, Gathers, guard, gathers_within, bind, only}
+use Rattle.mob_accept.proofs.Adds.{Adds, adds_none, adds_one, adds_within, Gathers, guard, gathers_within, more_gathers, only}
 
 -- what is settled early adds its literals; where nothing is settled, nothing is added
 abbrev Settled : ℕ → List ℕ → List ConstText → Option TypedTree → List ConstText → Type 0
@@ -85,11 +85,11 @@ module _ (s : ScopeParts) where
 
     pub expression_gathers : (t : Tree) (cs : List ConstText) → Gathers s.statement (tree_places t) cs (typed_expression s t cs)
     expression_gathers (tree n p args) cs =
-        settled_or_later (literal_place n p) (trees_places args) cs (typed_before_operands s n p args cs) (λ ds. typed_operands s args [] ds >>= λ r. finished n p args r.0 >>= λ t. Ok (t, r.1)) (early_settles n p args cs)
-        (λ ds. only s.statement (trees_places args) ds (typed_operands s args [] ds) (λ r. finished n p args r.0 >>= λ t. Ok (t, r.1)) (operands_gather args [] ds)
+        settled_or_later (literal_place n p) (trees_places args) cs (typed_before_operands s n p args cs) (λ ds. typed_operands s args ds >>= λ r. finished n p args r.0 >>= λ t. Ok (t, r.1)) (early_settles n p args cs)
+        (λ ds. only s.statement (trees_places args) ds (typed_operands s args ds) (λ r. finished n p args r.0 >>= λ t. Ok (t, r.1)) (operands_gather args ds)
         (λ r. guard (λ x. Adds s.statement [] r.1 x.1) (finished n p args r.0) (λ t. Ok (t, r.1)) (λ t. adds_none s.statement [] r.1)))
 
-    operands_gather : (us : Trees) (ts : List TypedTree) (cs : List ConstText) → Gathers s.statement (trees_places us) cs (typed_operands s us ts cs)
-    operands_gather no_trees ts cs = adds_none s.statement [] cs
-    operands_gather (more_trees t us) ts cs =
-        bind s.statement (tree_places t) (trees_places us) cs (typed_expression s t cs) (λ r. typed_operands s us (ts ++ r.0 ∷ []) r.1) (expression_gathers t cs) (λ r. operands_gather us (ts ++ r.0 ∷ []) r.1)
+    operands_gather : (us : Trees) (cs : List ConstText) → Gathers s.statement (trees_places us) cs (typed_operands s us cs)
+    operands_gather no_trees cs = adds_none s.statement [] cs
+    operands_gather (more_trees t us) cs =
+        more_gathers s.statement (tree_places t) (trees_places us) cs (typed_expression s t) (typed_operands s us) (expression_gathers t cs) (λ ds. operands_gather us ds)

@@ -11,15 +11,17 @@ use Rattle.mob_ast.specs.declared.expression.Node.{Node}
 use Rattle.mob_ast.specs.declared.expression.Node.TheVariants as node
 use Rattle.mob_ast.specs.Trees.{Tree, tree, Trees, none as no_trees, more as more_trees, RowParts}
 use Rattle.mob_operators.specs.Lookup.{same_type}
-use Rattle.mob_typing.specs.declared.typed.ConstText.{ConstText}
-use Rattle.mob_typing.specs.Answers.{◌>>=◌, unless, found}
-use Rattle.mob_typing.specs.Names.{ColumnList, NameLists, table_of}
-use Rattle.mob_typing.specs.Words.{literal_type}
-use Rattle.mob_typing.specs.Expressions.{is_signed}
-use Rattle.mob_typing.specs.Statements.{new_rows, row_constant, lone_number, signed_value, bool_value, typed_value, node_value, tree_value, row_values, typed_row, typed_rows, inserted}
+use Rattle.mob_typed.specs.declared.typed.ConstText.{ConstText}
+use Rattle.mob_expression.specs.Answers.{◌>>=◌, unless, found}
+use Rattle.mob_typed.specs.Statements.{ColumnList}
+use Rattle.mob_typing.specs.Names.{NameLists, table_of}
+use Rattle.mob_expression.specs.Words.{literal_type}
+use Rattle.mob_expression.specs.Expressions.{is_signed}
+use Rattle.mob_typed.specs.Statements.{new_rows}
+use Rattle.mob_typing.specs.Statements.{row_constant, lone_number, signed_value, bool_value, typed_value, node_value, tree_value, row_values, typed_row, typed_rows, inserted}
 use Rattle.mob_grammar.specs.Places.{IsWithin, nothing, other, same, literal_place, tree_places, trees_places, row_places}
 use Rattle.mob_grammar.proofs.Within.{within_all}
-use Rattle.mob_accept.proofs.Adds.{Adds, adds_none, adds_one, adds_within, Gathers, guard, gathers_within, bind, only}
+use Rattle.mob_accept.proofs.Adds.{Adds, adds_none, adds_one, adds_within, Gathers, guard, gathers_within, more_gathers, only}
 
 -- the place of a lone number is among those of its trees
 lone_stands : (args : Trees) → IfSome (lone_number args) (λ x. IsWithin (x.1 ∷ []) (trees_places args))
@@ -63,24 +65,22 @@ module _ (n : ℕ) where
   value_gathers : (ty : SqlType) (t : Tree) (cs : List ConstText) → Gathers n (tree_places t) cs (tree_value n ty t cs)
   value_gathers ty (tree nd p args) cs = node_gathers ty nd p args cs
 
-  values_gather : (columns : ColumnList) (done : List (Option ℕ)) (ts : List Tree) (cs : List ConstText) → Gathers n (flat_map tree_places ts) cs (row_values n columns done ts cs)
-  values_gather [] done ts cs = adds_none n (flat_map tree_places ts) cs
-  values_gather (c ∷ columns) done [] cs = adds_none n [] cs
-  values_gather (c ∷ columns) done (t ∷ ts) cs =
-      bind n (tree_places t) (flat_map tree_places ts) cs (tree_value n c.1 t cs) (λ r. row_values n columns (done ++ r.0 ∷ []) ts r.1) (value_gathers c.1 t cs) (λ r. values_gather columns (done ++ r.0 ∷ []) ts r.1)
+  values_gather : (columns : ColumnList) (ts : List Tree) (cs : List ConstText) → Gathers n (flat_map tree_places ts) cs (row_values n columns ts cs)
+  values_gather [] ts cs = adds_none n (flat_map tree_places ts) cs
+  values_gather (c ∷ columns) [] cs = adds_none n [] cs
+  values_gather (c ∷ columns) (t ∷ ts) cs = more_gathers n (tree_places t) (flat_map tree_places ts) cs (tree_value n c.1 t) (row_values n columns ts) (value_gathers c.1 t cs) (λ ds. values_gather columns ts ds)
 
   row_gathers : (columns : ColumnList) (r : RowParts) (cs : List ConstText) → Gathers n (row_places r) cs (typed_row n columns r cs)
   row_gathers columns r cs =
-      guard (λ x. Adds n (row_places r) cs x.1) (unless (not (length r.values == length columns)) kind.BadCount r.place) (λ ok. row_values n columns [] r.values cs)
-      (λ ok. gathers_within n (flat_map tree_places r.values) (row_places r) cs (row_values n columns [] r.values cs) (other (within_all (flat_map tree_places r.values))) (values_gather columns [] r.values cs))
+      guard (λ x. Adds n (row_places r) cs x.1) (unless (not (length r.values == length columns)) kind.BadCount r.place) (λ ok. row_values n columns r.values cs)
+      (λ ok. gathers_within n (flat_map tree_places r.values) (row_places r) cs (row_values n columns r.values cs) (other (within_all (flat_map tree_places r.values))) (values_gather columns r.values cs))
 
-  pub rows_gather : (columns : ColumnList) (done : List (List (Option ℕ))) (rs : List RowParts) (cs : List ConstText) → Gathers n (flat_map row_places rs) cs (typed_rows n columns done rs cs)
-  rows_gather columns done [] cs = adds_none n [] cs
-  rows_gather columns done (r ∷ rs) cs =
-      bind n (row_places r) (flat_map row_places rs) cs (typed_row n columns r cs) (λ v. typed_rows n columns (done ++ v.0 ∷ []) rs v.1) (row_gathers columns r cs) (λ v. rows_gather columns (done ++ v.0 ∷ []) rs v.1)
+  pub rows_gather : (columns : ColumnList) (rs : List RowParts) (cs : List ConstText) → Gathers n (flat_map row_places rs) cs (typed_rows n columns rs cs)
+  rows_gather columns [] cs = adds_none n [] cs
+  rows_gather columns (r ∷ rs) cs = more_gathers n (row_places r) (flat_map row_places rs) cs (typed_row n columns r) (typed_rows n columns rs) (row_gathers columns r cs) (λ ds. rows_gather columns rs ds)
 
   pub insert_gathers : (names : NameLists) (table : Word) (rs : List RowParts) (cs : List ConstText) → Gathers n (flat_map row_places rs) cs (inserted n names table rs cs)
   insert_gathers names table rs cs =
       guard (λ x. Adds n (flat_map row_places rs) cs x.1) (found kind.UnknownName table.place (table_of names.tables table.text))
-      (λ t. typed_rows n t.1 [] rs cs >>= λ r. Ok (record { statement = new_rows t.0 r.0 (map (λ row. row.place) rs); names = names }, r.1))
-      (λ t. only n (flat_map row_places rs) cs (typed_rows n t.1 [] rs cs) (λ r. Ok (record { statement = new_rows t.0 r.0 (map (λ row. row.place) rs); names = names }, r.1)) (rows_gather t.1 [] rs cs) (λ r. adds_none n [] r.1))
+      (λ t. typed_rows n t.1 rs cs >>= λ r. Ok (record { statement = new_rows t.0 r.0 (map (λ row. row.place) rs); names = names }, r.1))
+      (λ t. only n (flat_map row_places rs) cs (typed_rows n t.1 rs cs) (λ r. Ok (record { statement = new_rows t.0 r.0 (map (λ row. row.place) rs); names = names }, r.1)) (rows_gather t.1 rs cs) (λ r. adds_none n [] r.1))

@@ -4,15 +4,16 @@ use Rattle.std.specs.Prelude.{not}
 use Rattle.std.specs.List.{flat_map}
 use Rattle.mob_ast.specs.declared.refusal.Kind.TheVariants as kind
 use Rattle.mob_ast.specs.Trees.{Tree, ItemParts, every, one, KeyParts, SelectParts}
-use Rattle.mob_typing.specs.declared.typed.ConstText.{ConstText}
-use Rattle.mob_typing.specs.Trees.{TypedTree, type_of}
-use Rattle.mob_typing.specs.Answers.{Mistake, ◌>>=◌, unless}
-use Rattle.mob_typing.specs.Names.{ColumnList}
-use Rattle.mob_typing.specs.Scopes.{ScopeParts}
-use Rattle.mob_typing.specs.Expressions.{typed_expression}
-use Rattle.mob_typing.specs.Selects.{OutputLists, all_outputs, output_name, with_alias, with_item, with_items, condition, is_bool, tree_place, or_typed, aliased, is_key, typed_key, typed_keys, limit_of, no_outputs, from_tables, TypedSelectParts, typed_clauses, typed_select}
+use Rattle.mob_typed.specs.declared.typed.ConstText.{ConstText}
+use Rattle.mob_typed.specs.Trees.{TypedTree, type_of}
+use Rattle.mob_expression.specs.Answers.{Mistake, ◌>>=◌, unless}
+use Rattle.mob_typed.specs.Statements.{ColumnList}
+use Rattle.mob_expression.specs.Scopes.{ScopeParts}
+use Rattle.mob_expression.specs.Expressions.{typed_expression}
+use Rattle.mob_typing.specs.Selects.{OutputLists, all_outputs, output_name, with_alias, with_item, with_items, condition, is_bool, tree_place, or_typed, aliased, is_key, typed_key, typed_keys, limit_of, no_outputs, from_tables, typed_clauses, typed_select}
+use Rattle.mob_typed.specs.Selects.{TypedSelectParts}
 use Rattle.mob_grammar.specs.Places.{tree_places, item_places, condition_places, key_places, select_places}
-use Rattle.mob_accept.proofs.Adds.{Adds, adds_none, Gathers, guard, bind, only}
+use Rattle.mob_accept.proofs.Adds.{Adds, adds_none, Gathers, guard, bind, more_gathers, only}
 use Rattle.mob_accept.proofs.GatheredExpressions.{expression_gathers}
 
 module _ (s : ScopeParts) where
@@ -46,9 +47,9 @@ module _ (s : ScopeParts) where
       only n (key_places k) cs (or_typed s k.value (aliased o k.value) cs) (λ r. unless (not (is_key (type_of r.0))) kind.NoSuchOperator (tree_place k.value) >>= λ ok. Ok ((r.0, k.descending), r.1)) (typed_gathers k.value (aliased o k.value) cs)
       (λ r. guard (λ x. Adds n [] r.1 x.1) (unless (not (is_key (type_of r.0))) kind.NoSuchOperator (tree_place k.value)) (λ ok. Ok ((r.0, k.descending), r.1)) (λ ok. adds_none n [] r.1))
 
-  keys_gather : (o : OutputLists) (keys : List (TypedTree × Bool)) (ks : List KeyParts) (cs : List ConstText) → Gathers n (flat_map key_places ks) cs (typed_keys s o keys ks cs)
-  keys_gather o keys [] cs = adds_none n [] cs
-  keys_gather o keys (k ∷ ks) cs = bind n (key_places k) (flat_map key_places ks) cs (typed_key s o k cs) (λ r. typed_keys s o (keys ++ r.0 ∷ []) ks r.1) (key_gathers o k cs) (λ r. keys_gather o (keys ++ r.0 ∷ []) ks r.1)
+  keys_gather : (o : OutputLists) (ks : List KeyParts) (cs : List ConstText) → Gathers n (flat_map key_places ks) cs (typed_keys s o ks cs)
+  keys_gather o [] cs = adds_none n [] cs
+  keys_gather o (k ∷ ks) cs = more_gathers n (key_places k) (flat_map key_places ks) cs (typed_key s o k) (typed_keys s o ks) (key_gathers o k cs) (λ ds. keys_gather o ks ds)
 
   module _ (x : SelectParts) where
     abbrev made : OutputLists → Option TypedTree → List (TypedTree × Bool) → Option ℕ → TypedSelectParts
@@ -58,13 +59,13 @@ module _ (s : ScopeParts) where
     with_limit o c k = limit_of x.limit >>= λ l. Ok (made o c k.0 l, k.1)
 
     abbrev with_keys : OutputLists → Option TypedTree × List ConstText → Result (TypedSelectParts × List ConstText) Mistake
-    with_keys o c = typed_keys s o [] x.keys c.1 >>= λ k. with_limit o c.0 k
+    with_keys o c = typed_keys s o x.keys c.1 >>= λ k. with_limit o c.0 k
 
     limit_gathers : (o : OutputLists) (c : Option TypedTree) (k : List (TypedTree × Bool) × List ConstText) → Gathers n [] k.1 (with_limit o c k)
     limit_gathers o c k = guard (λ y. Adds n [] k.1 y.1) (limit_of x.limit) (λ l. Ok (made o c k.0 l, k.1)) (λ l. adds_none n [] k.1)
 
     rest_gathers : (o : OutputLists) (c : Option TypedTree × List ConstText) → Gathers n (flat_map key_places x.keys) c.1 (with_keys o c)
-    rest_gathers o c = only n (flat_map key_places x.keys) c.1 (typed_keys s o [] x.keys c.1) (with_limit o c.0) (keys_gather o [] x.keys c.1) (limit_gathers o c.0)
+    rest_gathers o c = only n (flat_map key_places x.keys) c.1 (typed_keys s o x.keys c.1) (with_limit o c.0) (keys_gather o x.keys c.1) (limit_gathers o c.0)
 
     pub clauses_gather : (cs : List ConstText) → Gathers n (select_places x) cs (typed_clauses s x cs)
     clauses_gather cs =

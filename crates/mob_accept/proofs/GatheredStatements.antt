@@ -10,12 +10,16 @@ use Rattle.mob_ast.specs.declared.types.SqlType.TheVariants as sql
 use Rattle.mob_ast.specs.declared.refusal.Kind.TheVariants as kind
 use Rattle.mob_ast.specs.Trees.{RowParts, StatementParts, empty, create_table, create_index, insert, copy, select, explain}
 use Rattle.mob_operators.specs.Lookup.{same_type}
-use Rattle.mob_typing.specs.declared.typed.ConstText.{ConstText}
-use Rattle.mob_typing.specs.Answers.{Mistake, ◌>>=◌, unless, found}
-use Rattle.mob_typing.specs.Names.{ColumnList, NameLists, column_of, table_of, has_name, has_entry}
+use Rattle.mob_typed.specs.declared.typed.ConstText.{ConstText}
+use Rattle.mob_expression.specs.Answers.{Mistake, ◌>>=◌, unless, found}
+use Rattle.mob_typed.specs.Statements.{ColumnList}
+use Rattle.mob_typing.specs.Names.{NameLists, table_of}
+use Rattle.mob_expression.specs.Names.{column_of, has_entry}
+use Rattle.mob_operators.specs.Table.{is_one_of}
 use Rattle.mob_typing.specs.Selects.{typed_select}
-use Rattle.mob_typing.specs.Statements.{new_table, new_index, new_rows, rows_from, query, plan_of, Made, with_columns, with_table, made_table, with_index, made_index, typed_rows, inserted, good_delimiter, copied, keeping, typed_statement}
-use Rattle.mob_typing.specs.Written.{Rises}
+use Rattle.mob_typed.specs.Statements.{new_table, new_index, new_rows, rows_from, query, plan_of}
+use Rattle.mob_typing.specs.Statements.{Made, with_columns, with_table, made_table, with_index, made_index, typed_rows, inserted, good_delimiter, copied, keeping, typed_statement}
+use Rattle.mob_typed.specs.Written.{Rises}
 use Rattle.mob_grammar.specs.Places.{IsWithin, nothing, other, same, tree_places, row_places, select_places, statement_places}
 use Rattle.mob_grammar.proofs.Within.{within_back}
 use Rattle.mob_accept.specs.Numbers.{brackets_of}
@@ -84,12 +88,12 @@ module _ (names : NameLists) (name table column : Word) where
   on_table t = found kind.UnknownName column.place (column_of t.1 column.text) >>= on_column t
 
   abbrev new_name : ℕ × ColumnList → Result Made Mistake
-  new_name t = unless (has_name names.indexes name.text) kind.Duplicate name.place >>= λ new. on_table t
+  new_name t = unless (is_one_of names.indexes name.text) kind.Duplicate name.place >>= λ new. on_table t
 
   index_rows : IfOk (made_index names name table column) (RowsWithin [])
   index_rows =
       guard (RowsWithin []) (found kind.UnknownName table.place (table_of names.tables table.text)) new_name
-      (λ t. guard (RowsWithin []) (unless (has_name names.indexes name.text) kind.Duplicate name.place) (λ new. on_table t)
+      (λ t. guard (RowsWithin []) (unless (is_one_of names.indexes name.text) kind.Duplicate name.place) (λ new. on_table t)
       (λ new. guard (RowsWithin []) (found kind.UnknownName column.place (column_of t.1 column.text)) (on_column t)
       (λ c. guard (RowsWithin []) (unless (not (same_type c.1 sql.TPoint)) kind.NoSuchOperator column.place) (λ ok. Ok (made_on t c)) (λ ok. nothing))))
 

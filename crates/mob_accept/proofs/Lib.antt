@@ -1,12 +1,15 @@
-mod Adds
-mod Causes
-mod Ends
-mod GatheredExpressions
-mod GatheredRows
-mod GatheredScripts
-mod GatheredSelects
-mod GatheredStatements
-mod Numbered
-mod OneRefusal
+pub mod Adds
+pub mod Causes
+pub mod Ends
+pub mod GatheredExpressions
+pub mod GatheredRows
+pub mod GatheredScripts
+pub mod GatheredSelects
+pub mod GatheredStatements
+pub mod Numbered
+pub mod OneRefusal
 pub mod OneScript
-mod Written
+pub mod Places
+pub mod TypedFacts
+pub mod Within
+pub mod Written

@@ -5,7 +5,7 @@ use Rattle.mob_ast.specs.declared.refusal.Kind.{Kind}
 use Rattle.mob_ast.specs.declared.refusal.Refusal.{Refusal}
 use Rattle.mob_ast.specs.Trees.{StatementParts}
 use Rattle.mob_parse.proofs.Refused.{no_tree, one_refusal as one_first}
-use Rattle.mob_built.specs.Least.{least}
+use Rattle.mob_accept.specs.Least.{least}
 use Rattle.mob_accept.specs.Accepts.{HasTrees, IsNoScript, IsWrongName, IsNotBuilt, unbuilt_places, script_limit}
 use Rattle.mob_accept.specs.Outcomes.{HasOneTextRefusal}
 use Rattle.mob_accept.proofs.OneScript.{one_text, one_typed}

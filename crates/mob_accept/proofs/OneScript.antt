@@ -3,18 +3,18 @@ use Rattle.std.proofs.Common.{arith, ◌≡◌, ◌∙◌, refl, sym, ap, ap₂,
 use Rattle.mob_ast.specs.Trees.{StatementParts}
 use Rattle.mob_grammar.specs.Symbols.{Tok}
 use Rattle.mob_grammar.specs.Scripts.{IsScript}
-use Rattle.mob_grammar.proofs.StatementsRead.{complete_script}
+use Rattle.mob_grammar.proofs.Statements.{read_script}
 use Rattle.mob_parse.specs.Refusals.{IsTreeOf}
 use Rattle.mob_parse.proofs.Refused.{no_tree, same_tokens}
 use Rattle.mob_parse.proofs.Scripts.{script_only}
-use Rattle.mob_typing.specs.Statements.{ScriptOut}
-use Rattle.mob_built.specs.Least.{least}
+use Rattle.mob_typed.specs.Statements.{ScriptOut}
+use Rattle.mob_accept.specs.Least.{least}
 use Rattle.mob_accept.specs.Accepts.{IsTypedAs, unbuilt_places}
 use Rattle.mob_accept.specs.Outcomes.{HasOneScript, NeverTakenAndRefused}
 
 -- tokens have one tree: what the reading of them gives
 one_tree : (l : List Tok) (x y : List StatementParts) → IsScript l x → IsScript l y → x ≡ y
-one_tree l x y h k = script_only l y x (complete_script l y [] k refl) h
+one_tree l x y h k = script_only l y x (read_script.complete l y [] k refl) h
 
 pub one_text : (bytes : List ℕ) (x y : List StatementParts) → IsTreeOf bytes x → IsTreeOf bytes y → x ≡ y
 one_text bytes x y h k =

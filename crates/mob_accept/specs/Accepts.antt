@@ -5,11 +5,12 @@ use Rattle.mob_ast.specs.declared.refusal.Refusal.{Refusal}
 use Rattle.mob_ast.specs.Kinds.{no_memory}
 use Rattle.mob_ast.specs.Trees.{StatementParts}
 use Rattle.mob_parse.specs.Refusals.{IsTreeOf, IsLightText, ParsesToRefusal as HasNoTree}
-use Rattle.mob_typing.specs.Statements.{ScriptOut, typed_script}
-use Rattle.mob_built.specs.Least.{least}
-use Rattle.mob_built.specs.Words.{unbuilt_words, statement_number}
-use Rattle.mob_built.specs.Types.{unbuilt_types}
-use Rattle.mob_built.specs.Operators.{unbuilt_operators}
+use Rattle.mob_typed.specs.Statements.{ScriptOut}
+use Rattle.mob_typing.specs.Statements.{typed_script}
+use Rattle.mob_accept.specs.Least.{least}
+use Rattle.mob_accept.specs.UnbuiltWords.{unbuilt_words, statement_number}
+use Rattle.mob_accept.specs.UnbuiltTypes.{unbuilt_types}
+use Rattle.mob_accept.specs.UnbuiltOperators.{unbuilt_operators}
 
 -- the greatest length of a script in bytes
 abbrev pub script_limit : ℕ

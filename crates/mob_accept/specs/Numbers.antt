@@ -7,8 +7,9 @@ use Rattle.mob_ast.specs.declared.refusal.Refusal.{Refusal}
 use Rattle.mob_grammar.specs.Places.{statement_places}
 use Rattle.mob_grammar.specs.Held.{statement_held}
 use Rattle.mob_parse.specs.Refusals.{IsTreeOf}
-use Rattle.mob_typing.specs.Statements.{StatementOut, new_rows, ScriptOut, typed_script}
-use Rattle.mob_built.specs.Words.{statement_number}
+use Rattle.mob_typed.specs.Statements.{StatementOut, new_rows, ScriptOut}
+use Rattle.mob_typing.specs.Statements.{typed_script}
+use Rattle.mob_accept.specs.UnbuiltWords.{statement_number}
 use Rattle.mob_accept.specs.Accepts.{IsAccepted, IsNoScript}
 
 -- this is the number of the statement that each of these places is in

@@ -1,7 +1,7 @@
 -- A text is judged in one way.
 use Rattle.std.specs.Prelude.{◌≡◌, ℕ, List}
 use Rattle.mob_ast.specs.declared.refusal.Refusal.{Refusal}
-use Rattle.mob_typing.specs.Statements.{ScriptOut}
+use Rattle.mob_typed.specs.Statements.{ScriptOut}
 use Rattle.mob_accept.specs.Accepts.{IsAccepted, IsTextRefused}
 
 -- a script that is taken has one meaning with names and types

@@ -2,6 +2,10 @@
 #![tactic(auto)]
 
 pub mod laws;
+pub mod least;
 pub mod text;
+pub mod unbuilt_operators;
+pub mod unbuilt_types;
+pub mod unbuilt_words;
 
 pub use text::{SCRIPT_LIMIT, accept};

@@ -2,16 +2,18 @@
 ghost use Rattle.std.specs.Prelude.{◌≡◌, ◌⊎◌, ◌<◌, ◌^◌, IfOk, IfErr, List, length};
 ghost use Rattle.mob_ast.specs.Kinds.{no_memory};
 ghost use Rattle.mob_ast.specs.Trees.{script_of};
-ghost use Rattle.mob_typing.specs.Statements.{ScriptOut, script_seen};
+ghost use Rattle.mob_typed.specs.Statements.{ScriptOut, script_seen};
 ghost use Rattle.mob_ast.specs.Trees.{StatementParts};
 ghost use Rattle.mob_accept.specs.Accepts.{HasTrees, IsAccepted, IsNotBuiltAt, IsRefusedWith, script_limit};
 
+use crate::least::earlier;
+use crate::unbuilt_operators::first_unbuilt_operator;
+use crate::unbuilt_types::first_unbuilt_type;
+use crate::unbuilt_words::{first_unbuilt_word, statement_at};
 use mob_ast::{Kind, Refusal, Script};
-use mob_built::{
-    earlier, first_unbuilt_operator, first_unbuilt_type, first_unbuilt_word, statement_at,
-};
 use mob_parse::script::parse;
-use mob_typing::{Typed, type_script};
+use mob_typed::Typed;
+use mob_typing::type_script;
 use std::alloc::Global;
 
 /// The greatest length of a script, in bytes.

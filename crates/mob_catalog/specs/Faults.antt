@@ -2,8 +2,8 @@
 use Rattle.std.specs.Prelude.{◌≡◌, ℕ, Option, Some, None}
 use Rattle.mob_ast.specs.declared.refusal.Kind.{Kind}
 use Rattle.mob_ast.specs.declared.refusal.Kind.TheVariants as kind
-use Rattle.mob_scalar.specs.declared.fault.ReadText.{ReadText}
-use Rattle.mob_scalar.specs.declared.fault.ReadText.TheVariants as text
+use Rattle.mob_numeral.specs.declared.fault.ReadText.{ReadText}
+use Rattle.mob_numeral.specs.declared.fault.ReadText.TheVariants as text
 use Rattle.mob_catalog.specs.declared.fault.LoadFault.{LoadFault}
 use Rattle.mob_catalog.specs.declared.fault.LoadFault.TheVariants as load
 

@@ -1,13 +1,13 @@
 -- The rows that a table file says, or what is wrong first in it.
 use Rattle.std.specs.Prelude.{◌≡◌, ◌⊎◌, ◌≤◌, ◌<◌, ◌+◌, ◌∷◌, ℕ, ℤ, List, [], Ok, Err, drop, length, map}
-use Rattle.std.specs.Char.{to_ascii_lowercase}
+use Rattle.mob_language.specs.Language.{in_lower_case}
 use Rattle.std.specs.List.{AllZip, zip}
 use Rattle.csv.specs.Reading.{AreRecords, default_config, strip_bom}
 use Rattle.csv.specs.Records.{AllText}
 use Rattle.csv.specs.declared.parser.State.TheVariants as state
 use Rattle.mob_ast.specs.declared.refusal.Kind.TheVariants.{BadHeader, BadRecord, Limit}
 use Rattle.mob_ast.specs.declared.types.SqlType.{SqlType}
-use Rattle.mob_scalar.specs.declared.fault.ReadText.{ReadText}
+use Rattle.mob_numeral.specs.declared.fault.ReadText.{ReadText}
 use Rattle.mob_value.specs.declared.value.Value.{Value}
 use Rattle.mob_catalog.specs.Faults.{IsRefusedAs, FileFault, file_fault}
 use Rattle.mob_catalog.specs.Fields.{FieldSays}
@@ -29,9 +29,6 @@ file_limit = 16777216
 -- of a record at CR, LF or both, empty lines skipped, and each record of any length.
 abbrev pub HasRecords : List ℕ → List (List Field) → Type 0
 HasRecords bytes records = AreRecords default_config state.StartRecord (strip_bom bytes) records
-
-abbrev pub in_lower_case : List ℕ → List ℕ
-in_lower_case name = map to_ascii_lowercase name
 
 -- the record is the names of the columns in order, letters of either case
 abbrev pub IsHeader : List Column → List Field → Type 0

@@ -5,7 +5,7 @@ ghost use Rattle.mob_catalog.specs.Faults.{OnRefused, IsRefusedAs, refused_kind,
 
 use mob_ast::{Kind, Refusal};
 use mob_scalar::ReadText;
-use mob_typing::ConstText;
+use mob_typed::ConstText;
 use std::alloc::{AllocError, AllocFailed};
 
 /// Why a table file is refused.
@@ -59,16 +59,23 @@ pub fn refusal_kind(fault: ReadText) -> Option<Kind>
     }
 }
 
+// The refusal of this kind at the statement and place of a constant.
+pub fn refusal_at(constant: &ConstText, kind: Kind) -> Refusal
+    ensures there { result ≡ at_constant constant.now kind }
+{
+    Refusal {
+        kind,
+        statement: constant.statement,
+        place: constant.place,
+    }
+}
+
 /// The refusal of a constant whose text has this fault, at the constant's statement and place. Want of memory refuses no text.
 pub fn constant_refusal(fault: ReadText, constant: &ConstText) -> Option<Refusal>
     ensures refusal { result ≡ option_map (at_constant constant.now) (refused_kind fault) }
 {
     match refusal_kind(fault) {
-        Some(kind) => Some(Refusal {
-            kind,
-            statement: constant.statement,
-            place: constant.place,
-        }),
+        Some(kind) => Some(refusal_at(constant, kind)),
         None => None,
     }
 }

@@ -3,7 +3,8 @@ use Rattle.std.specs.Prelude.{IfSome}
 use Rattle.std.proofs.Common.{◌≡◌, ◌<◌, ◌≤◌, ◌+◌, ◌-◌, ◌∙◌, ℕ, zero, suc, List, [], ◌∷◌, ◌++◌, length, drop, length-drop, Bool, true, false, cond, Option, Some, None, Result, Ok, Err, refl, sym, ap, subst, arith}
 use Rattle.mob_chars.specs.declared.token.TokenKind.{TokenKind}
 use Rattle.mob_chars.specs.declared.token.Token.{Token}
-use Rattle.mob_chars.specs.Scan.{is_blank, begins_comment, comment_length, gap_length}
+use Rattle.mob_language.specs.Language.{is_blank}
+use Rattle.mob_chars.specs.Scan.{begins_comment, comment_length, gap_length}
 use Rattle.mob_chars.specs.Tokens.{token_at, token, end_at, before_others, from_place, tokens_from, tokens_of}
 use Rattle.mob_chars.specs.Layout.{Leads, here, blank, comment, next, BeginsNone, InOrder, TokensAreLaid, FaultsAreStuck, TokensAreInOrder}
 use Rattle.mob_chars.proofs.Sizes.{token_within, gap_upto}

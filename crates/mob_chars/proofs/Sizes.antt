@@ -6,7 +6,8 @@ use Rattle.std.proofs.lemmas.List.{length-take}
 use Rattle.std.proofs.lemmas.List.Sums.{take_while-cons}
 use Rattle.mob_chars.specs.declared.token.TokenKind.{TokenKind}
 use Rattle.mob_chars.specs.declared.token.TokenKind.TheVariants.{Word, Number, Str, Sign}
-use Rattle.mob_chars.specs.Scan.{is_blank, is_digit, is_letter, is_word, is_point, is_plus, is_exponent, is_quote, begins_digit, begins_number, word_length, digits_length, fraction_length, mantissa_length, with_digits, power_length, exponent_length, number_length, quoted_length, string_length, begins_comment, comment_length, gap_length}
+use Rattle.mob_language.specs.Language.{is_blank, is_digit, is_number_sign, is_exponent_letter}
+use Rattle.mob_chars.specs.Scan.{is_letter, is_word, is_point, is_quote, begins_digit, begins_number, word_length, digits_length, fraction_length, mantissa_length, with_digits, power_length, exponent_length, number_length, quoted_length, string_length, begins_comment, comment_length, gap_length}
 use Rattle.mob_chars.specs.Signs.{signs, sign_length}
 use Rattle.mob_chars.specs.Tokens.{token_at}
 use Rattle.mob_chars.proofs.Longest.{told, first_is_longest, first_fits}
@@ -41,12 +42,12 @@ digits_upto k n m h = cond_upto (n == 0) 0 (k + n) m (omega arith) h
 
 power_upto : (l : List ℕ) → power_length l ≤ length l + 1
 power_upto [] = omega arith
-power_upto (b ∷ l) = cond_upto (is_plus b) (with_digits 2 (digits_length l)) (with_digits 1 (digits_length (b ∷ l))) (length (b ∷ l) + 1)
+power_upto (b ∷ l) = cond_upto (is_number_sign b) (with_digits 2 (digits_length l)) (with_digits 1 (digits_length (b ∷ l))) (length (b ∷ l) + 1)
     (digits_upto 2 (digits_length l) (length (b ∷ l) + 1) (omega (arith, taken_upto is_digit l))) (digits_upto 1 (digits_length (b ∷ l)) (length (b ∷ l) + 1) (omega (arith, taken_upto is_digit (b ∷ l))))
 
 exponent_upto : (l : List ℕ) → exponent_length l ≤ length l
 exponent_upto [] = omega arith
-exponent_upto (b ∷ l) = cond_upto (is_exponent b) (power_length l) 0 (length (b ∷ l)) (omega (arith, power_upto l)) (omega arith)
+exponent_upto (b ∷ l) = cond_upto (is_exponent_letter b) (power_length l) 0 (length (b ∷ l)) (omega (arith, power_upto l)) (omega arith)
 
 number_upto : (l : List ℕ) → number_length l ≤ length l
 number_upto l = omega (arith, mantissa_upto l, exponent_upto (drop (mantissa_length l) l), length-drop (mantissa_length l) l)

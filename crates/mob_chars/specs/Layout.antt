@@ -2,7 +2,8 @@
 use Rattle.std.specs.Prelude.{◌≡◌, ◌+◌, ◌<◌, ◌≤◌, ◌++◌, ℕ, List, [], ◌∷◌, length, drop, true, Some, None, Ok, Err}
 use Rattle.mob_chars.specs.declared.token.TokenKind.{TokenKind}
 use Rattle.mob_chars.specs.declared.token.Token.{Token}
-use Rattle.mob_chars.specs.Scan.{is_blank, begins_comment, comment_length, gap_length}
+use Rattle.mob_language.specs.Language.{is_blank}
+use Rattle.mob_chars.specs.Scan.{begins_comment, comment_length, gap_length}
 use Rattle.mob_chars.specs.Tokens.{token_at, token, end_at, tokens_of}
 
 -- `Leads p l ts q m`: from the place p, where the text goes on as l, the tokens ts with blanks and comments before,

@@ -1,12 +1,6 @@
 -- What stands at the front of a text: blanks, comments, words, numbers and strings, and how long they are in bytes.
 use Rattle.std.specs.Prelude.{◌==◌, ◌+◌, ◌&&◌, ◌||◌, ℕ, List, [], ◌∷◌, length, drop, Bool, false, not, cond, nat_le, option_map, Option, Some, None, take_while}
-
--- a blank is a space, a tab, a carriage return or a line feed
-abbrev pub is_blank : ℕ → Bool
-is_blank b = (b == 32) || (b == 9) || (b == 13) || (b == 10)
-
-abbrev pub is_digit : ℕ → Bool
-is_digit b = nat_le 48 b && nat_le b 57
+use Rattle.mob_language.specs.Language.{is_blank, is_digit, is_number_sign, is_exponent_letter}
 
 -- a letter of either case, or `_`
 abbrev pub is_letter : ℕ → Bool
@@ -20,14 +14,6 @@ is_quote b = b == 39
 
 abbrev pub is_point : ℕ → Bool
 is_point b = b == 46
-
--- the letter of an exponent
-abbrev pub is_exponent : ℕ → Bool
-is_exponent b = (b == 101) || (b == 69)
-
--- a plus or a minus
-abbrev pub is_plus : ℕ → Bool
-is_plus b = (b == 43) || (b == 45)
 
 -- a word goes as far as letters, digits and `_` go
 abbrev pub word_length : List ℕ → ℕ
@@ -61,12 +47,12 @@ with_digits mark digits = cond (digits == 0) 0 (mark + digits)
 -- behind the letter of an exponent: an optional sign and one digit or more
 abbrev pub power_length : List ℕ → ℕ
 power_length [] = 0
-power_length (b ∷ l) = cond (is_plus b) (with_digits 2 (digits_length l)) (with_digits 1 (digits_length (b ∷ l)))
+power_length (b ∷ l) = cond (is_number_sign b) (with_digits 2 (digits_length l)) (with_digits 1 (digits_length (b ∷ l)))
 
 -- an exponent: `e` or `E`, an optional sign and one digit or more
 abbrev pub exponent_length : List ℕ → ℕ
 exponent_length [] = 0
-exponent_length (b ∷ l) = cond (is_exponent b) (power_length l) 0
+exponent_length (b ∷ l) = cond (is_exponent_letter b) (power_length l) 0
 
 -- a number: digits with at most one point, and an exponent if one stands behind them
 abbrev pub number_length : List ℕ → ℕ

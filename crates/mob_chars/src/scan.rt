@@ -1,6 +1,7 @@
 //! How long the gap, word, number, string or sign at the front of a text is.
 ghost use Rattle.std.specs.Prelude.{◌≡◌, ◌<◌, ◌≤◌, ◌+◌, ◌^◌, length, map, IfSome};
-ghost use Rattle.mob_chars.specs.Scan.{is_blank, is_digit, is_letter, begins_number, word_length, digits_length, mantissa_length, with_digits, exponent_length, number_length, quoted_length, comment_length, gap_length};
+ghost use Rattle.mob_language.specs.Language.{is_blank, is_digit};
+ghost use Rattle.mob_chars.specs.Scan.{is_letter, begins_number, word_length, digits_length, mantissa_length, with_digits, exponent_length, number_length, quoted_length, comment_length, gap_length};
 ghost use Rattle.mob_chars.specs.Signs.{first_sign, sign_length};
 
 /// Whether a byte is a blank: a space, a tab, a carriage return or a line feed.

@@ -4,15 +4,14 @@ ghost use Rattle.std.specs.List.{concat};
 ghost use Rattle.std.specs.Io.KnownBytes.{Appends};
 ghost use Rattle.mob_outside.specs.Faults.{HasCause};
 ghost use Rattle.mob_ending.specs.Lines.{fault_line, formula_name, further_row, note_line, overflow_line, passes_text, read_line, record_text, refusal_line, rows_text, statement_text, table_line};
-ghost use Rattle.mob_streams.specs.Streams.{Puts, PutsPart};
+ghost use Rattle.mob_outside.specs.Streams.{Puts, PutsPart};
 
 use crate::Ending;
 use itoa::Buffer;
 use mob_ast::{Kind, Refusal};
 use mob_list::text::Text;
-use mob_outside::{Failed, Sink};
+use mob_outside::{Failed, Sink, put_all, put_pieces};
 use mob_slice::Formula;
-use mob_streams::{put_all, put_pieces};
 
 const USAGE: &[u8] = b"usage: mobsql [--workers N] [--epoch DATE] [--demo N] < script.sql\n";
 

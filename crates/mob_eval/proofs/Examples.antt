@@ -8,7 +8,7 @@ use Rattle.mob_ast.specs.declared.types.Cmp.TheVariants as cmp
 use Rattle.mob_ast.specs.declared.types.SqlType.TheVariants as sql
 use Rattle.mob_operators.specs.declared.operator.Op.{Op}
 use Rattle.mob_operators.specs.declared.operator.Op.TheVariants as op
-use Rattle.mob_typing.specs.Trees.{TypedTree, typed, none, more}
+use Rattle.mob_typed.specs.Trees.{TypedTree, typed, none, more}
 use Rattle.mob_value.specs.declared.value.Value.TheVariants.{Null, Bool as Truth, Number, Text}
 use Rattle.mob_eval.specs.Scene.{Scene}
 use Rattle.mob_slice.specs.declared.formula.Formula.TheVariants.{F2}

@@ -1,7 +1,7 @@
 -- The loop over the operands.
 use Rattle.std.proofs.Common.{◌≡◌, ℕ, ◌+◌, ◌<◌, inl, inr, Bool, true, false, List, [], ◌∷◌, ◌++◌, length, get_or, drop, map, Option, Ok, Err, refl, sym, ap, subst, suc, add-one, drop-cons}
 use Rattle.std.proofs.lemmas.List.{append-nil, append_assoc, map-append}
-use Rattle.mob_typing.specs.declared.typed.TExpr.{TExpr}
+use Rattle.mob_typed.specs.declared.typed.TExpr.{TExpr}
 use Rattle.mob_value.specs.declared.value.Value.{Value}
 use Rattle.mob_eval.specs.declared.fault.EvalFault.{EvalFault}
 use Rattle.mob_eval.specs.declared.fault.EvalFault.TheVariants.{Passed, NoMemory}

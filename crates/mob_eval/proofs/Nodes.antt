@@ -1,9 +1,9 @@
 -- One node of an expression, from what its operands and its operator give.
 use Rattle.std.proofs.Common.{◌≡◌, inl, inr, Bool, List, Option, Some, None, Result, Ok, Err, [], ◌∷◌, ◌≤◌, length, arith, refl, sym, subst, map}
-use Rattle.mob_typing.specs.declared.typed.TExpr.{TExpr}
-use Rattle.mob_typing.specs.declared.typed.TExpr.TheViews.{out-TExpr}
-use Rattle.mob_typing.specs.Trees.{typed}
-use Rattle.mob_typing.proofs.TreeFacts.{typed_is}
+use Rattle.mob_typed.specs.declared.typed.TExpr.{TExpr}
+use Rattle.mob_typed.specs.declared.typed.TExpr.TheViews.{out-TExpr}
+use Rattle.mob_typed.specs.Trees.{typed}
+use Rattle.mob_typed.proofs.TreeFacts.{typed_is}
 use Rattle.mob_slice.specs.declared.formula.OpFault.{OpFault}
 use Rattle.mob_slice.specs.declared.formula.OpFault.TheVariants.{Passed as Formula_passed, NoMemory as No_memory}
 use Rattle.mob_operators.specs.declared.operator.Op.{Op}

@@ -1,7 +1,7 @@
 -- An expression has one outcome, where each operator has.
 use Rattle.std.proofs.Common.{◌≡◌, inl, inr, Bool, List, [], ◌∷◌, Option, Some, None, Result, Ok, Err, MatchOption, MatchResult, refl, sym, ap, ◌∙◌, subst, true≢false}
 use Rattle.mob_language.proofs.Exact.{some_is}
-use Rattle.mob_typing.specs.Trees.{TypedTree, typed, TypedTrees, none, more}
+use Rattle.mob_typed.specs.Trees.{TypedTree, typed, TypedTrees, none, more}
 use Rattle.mob_value.specs.declared.value.Value.{Value}
 use Rattle.mob_eval.specs.Scene.{Scene}
 use Rattle.mob_eval.specs.Operators.{OperatorGives, IsFirstFormula}

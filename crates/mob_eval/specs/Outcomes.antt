@@ -2,7 +2,7 @@
 use Rattle.std.specs.Prelude.{◌≡◌, List, Option}
 use Rattle.mob_operators.specs.declared.operator.Op.{Op}
 use Rattle.mob_slice.specs.declared.formula.Formula.{Formula}
-use Rattle.mob_typing.specs.Trees.{TypedTree}
+use Rattle.mob_typed.specs.Trees.{TypedTree}
 use Rattle.mob_value.specs.declared.value.Value.{Value}
 use Rattle.mob_eval.specs.Scene.{Scene}
 use Rattle.mob_eval.specs.Operators.{OperatorGives, IsFirstFormula}

@@ -3,6 +3,7 @@ use Rattle.std.specs.Prelude.{ℕ, ℤ, List, Option, Some, None, slice_get, opt
 use Rattle.mob_value.specs.declared.value.Value.{Value}
 use Rattle.mob_value.specs.declared.value.Value.TheVariants.{Null}
 use Rattle.mob_value.specs.declared.store.Store.{Store}
+use Rattle.mob_value.specs.Null.{value_or_null}
 use Rattle.mob_operators.specs.declared.operator.Op.{Op}
 use Rattle.mob_operators.specs.declared.operator.Op.TheVariants as op
 
@@ -12,11 +13,6 @@ pub record Scene : Type 0 where
   pub from : List ℕ
   pub tuple : List ℕ
   pub day : ℤ
-
--- the value, or NULL where there is none
-abbrev pub or_null : Option Value → Value
-or_null None = Null
-or_null (Some v) = v
 
 -- the constant of a number
 abbrev pub constant_at : Scene → ℕ → Option Value
@@ -33,6 +29,6 @@ scene store from tuple day = record { store = store; from = from; tuple = tuple;
 
 -- what an operator without operands gives
 abbrev pub leaf_value : Scene → Op → Value
-leaf_value s (op.Const c) = or_null (constant_at s c)
-leaf_value s (op.Column place column) = or_null (column_value s place column)
+leaf_value s (op.Const c) = value_or_null (constant_at s c)
+leaf_value s (op.Column place column) = value_or_null (column_value s place column)
 leaf_value s _ = Null

@@ -1,7 +1,7 @@
 -- How far the operands are evaluated.
 use Rattle.std.specs.Prelude.{List, ◌++◌, map, Bool, Option, Ok, Err}
-use Rattle.mob_typing.specs.declared.typed.TExpr.{TExpr}
-use Rattle.mob_typing.specs.Trees.{TypedTrees, typed_trees, typed_of}
+use Rattle.mob_typed.specs.declared.typed.TExpr.{TExpr}
+use Rattle.mob_typed.specs.Trees.{TypedTrees, typed_trees, typed_of}
 use Rattle.mob_value.specs.declared.value.Value.{Value}
 use Rattle.mob_eval.specs.Scene.{Scene}
 use Rattle.mob_eval.specs.Evaluation.{Fault, OperandsEvaluateTo}

@@ -7,7 +7,7 @@ use crate::logic::is_true_value;
 use crate::scene::View;
 use crate::walk::held_value;
 use mob_scalar::Epoch;
-use mob_typing::TExpr;
+use mob_typed::TExpr;
 use mob_value::{Store, Value};
 use std::alloc::Global;
 

@@ -1,6 +1,6 @@
 //! The walk over a typed expression.
 ghost use Rattle.std.specs.Prelude.{◌≡◌, Ok, Err, IfOk, IfErr, map};
-ghost use Rattle.mob_typing.specs.Trees.{typed_of};
+ghost use Rattle.mob_typed.specs.Trees.{typed_of};
 ghost use Rattle.mob_eval.specs.Views.{scene_of};
 ghost use Rattle.mob_eval.specs.Evaluation.{EvaluatesTo, OperandsEvaluateTo, OnPassed, stops, stop_of};
 ghost use Rattle.mob_eval.specs.SoFar.{trees};
@@ -14,7 +14,7 @@ use crate::scene::View;
 use mob_list::items::Items;
 use mob_operators::Op;
 use mob_slice::OpFault;
-use mob_typing::TExpr;
+use mob_typed::TExpr;
 use mob_value::Value;
 use std::alloc::Global;
 

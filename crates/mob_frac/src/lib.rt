@@ -6,6 +6,7 @@
 #![tactic(auto)]
 
 mod fraction;
+pub mod laws;
 mod products;
 mod reduction;
 mod wide;

@@ -10,9 +10,9 @@ use Rattle.mob_ast.specs.Trees.{Tree, tree, Trees, none, more, trees_from}
 use Rattle.mob_grammar.specs.declared.mark.Mark.{Mark}
 use Rattle.mob_grammar.specs.declared.mark.Mark.TheVariants.{Distinct, Not, Is, Null, True, False, Tilde, Times, Cast, Open, Close, Comma, Dot}
 use Rattle.mob_grammar.specs.Marks.{is, strength}
-use Rattle.mob_grammar.specs.Symbols.{Tok, sign, identifier, numeral, string, is_sign, is_name, is_string, binding, begins, starts, goes_on, binary, unary, leaf}
+use Rattle.mob_grammar.specs.Symbols.{Tok, sign, identifier, numeral, string, is_sign, is_name, is_string, binding, begins, starts, goes_on, binary, unary, leaf, is_literal}
 use Rattle.mob_grammar.specs.Expressions.{Rank, disjunction, conjunction, negation, nullness, comparison, other, complement, sum, product, signed, cast, primary, next, tight, chains, prefixes, word, TypeName, plain, inner, Phrase, up, chain, prefixed, is_null, is_not_null, compared, cast_to, a_number, a_string, is_true, is_false, a_null, a_literal, a_call, a_column, a_table_column, in_brackets, Arguments, nothing, something, Behind, end, another}
-use Rattle.mob_grammar.specs.Reading.{Answer, TokenReader, ◌>>=◌, closed, if_mark, name_at, string_at, inner_at, type_at, listed_from, listed, chain_from, postfix_from, null_at, cast_at, args, is_literal, literal_at, column_at, opened, named_at, mark_primary, expression_at, cast_rank, signed_rank, product_rank, sum_rank, complement_rank, other_rank, comparison_rank, nullness_rank, negation_rank, conjunction_rank, disjunction_rank}
+use Rattle.mob_grammar.specs.Reading.{Answer, TokenReader, ◌>>=◌, closed, if_mark, name_at, string_at, inner_at, type_at, listed_from, listed, chain_from, postfix_from, null_at, cast_at, args, literal_at, column_at, opened, named_at, mark_primary, expression_at, cast_rank, signed_rank, product_rank, sum_rank, complement_rank, other_rank, comparison_rank, nullness_rank, negation_rank, conjunction_rank, disjunction_rank}
 use Rattle.mob_grammar.specs.Reading as read
 use Rattle.mob_grammar.proofs.Steps.{passed, told, token_is, name_is, string_is, chain_goes_on, chain_stops, prefix_goes_on, prefix_stops, compared_goes_on, compared_stops, postfix_goes_on, postfix_stops, closed_there, listed_goes_on, listed_stops}
 use Rattle.mob_grammar.proofs.Tells.{through}

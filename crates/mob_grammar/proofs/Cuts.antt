@@ -1,7 +1,7 @@
 -- The statements of a script are cut at its `;` tokens, one after the other.
 use Rattle.std.specs.Prelude.{filter}
 use Rattle.std.specs.List.{AllByRecursion}
-use Rattle.std.proofs.Common.{◌≡◌, ◌+◌, ◌∙◌, refl, sym, ap, subst, arith, ℕ, List, [], ◌∷◌, ◌++◌, append_assoc, length, map}
+use Rattle.std.proofs.Common.{◌≡◌, ◌+◌, ◌∙◌, inl, inr, refl, sym, ap, subst, arith, ℕ, suc, cond, List, [], ◌∷◌, ◌++◌, append_assoc, length, map}
 use Rattle.std.proofs.lemmas.List.{length-append}
 use Rattle.std.proofs.lemmas.List.Elements.{filter-append}
 use Rattle.mob_ast.specs.Trees.{StatementParts}
@@ -12,7 +12,20 @@ use Rattle.mob_grammar.specs.Scripts.{Statement}
 use Rattle.mob_grammar.specs.Places.{IsWithin, nothing, other, same, statement_places}
 use Rattle.mob_grammar.specs.Held.{statement_held}
 use Rattle.mob_grammar.specs.Cuts.{ends_among, IsCut, StandsBehind, AreCut, StandBehind, StatementsAreCut, PlacesAreCut, HeldAreCut}
+use Rattle.mob_grammar.proofs.Steps.{told}
 use Rattle.mob_grammar.proofs.Places.{IsHeld, Passes, statement_along}
+
+-- one token more
+pub ends_counted : (t : Tok) (l : List Tok) → ends_among (t ∷ l) ≡ cond (is_sign Semicolon t) (ends_among l + 1) (ends_among l)
+ends_counted t l = elim (told (is_sign Semicolon t)) [
+  | inl yes_ ↦ step t l ∙ ap (λ b. length (cond b (t ∷ filter (is_sign Semicolon) l) (filter (is_sign Semicolon) l))) yes_ ∙ more ∙ sym (ap (λ b. cond b (ends_among l + 1) (ends_among l)) yes_)
+  | inr no_ ↦ step t l ∙ ap (λ b. length (cond b (t ∷ filter (is_sign Semicolon) l) (filter (is_sign Semicolon) l))) no_ ∙ sym (ap (λ b. cond b (ends_among l + 1) (ends_among l)) no_)
+] where
+  step : (t : Tok) (l : List Tok) → ends_among (t ∷ l) ≡ length (cond (is_sign Semicolon t) (t ∷ filter (is_sign Semicolon) l) (filter (is_sign Semicolon) l))
+  step t l = refl
+
+  more : {n : ℕ} → suc n ≡ n + 1
+  more = omega arith
 
 pub ends_append : (k l : List Tok) → ends_among (k ++ l) ≡ ends_among k + ends_among l
 ends_append k l = ap length (filter-append (is_sign Semicolon) k l) ∙ length-append (filter (is_sign Semicolon) k) (filter (is_sign Semicolon) l)

@@ -8,23 +8,22 @@ use Rattle.mob_grammar.specs.Scripts.{Statement, IsScript}
 use Rattle.mob_grammar.specs.Texts.{BeginsText, GoesOn}
 use Rattle.mob_grammar.specs.Outcomes.{GoesWrongAt, HasOneTree, IsScriptOrWrong, IsWrongNowhere, HasOneWrong}
 use Rattle.mob_grammar.specs.Reading.{Answer, script_at}
-use Rattle.mob_grammar.proofs.StatementLaws.{lawful_script}
-use Rattle.mob_grammar.proofs.StatementsRead.{complete_script}
+use Rattle.mob_grammar.proofs.Statements.{read_script}
 use Rattle.mob_grammar.proofs.Whole as whole
 
 abbrev Scripts : List Tok → List StatementParts → List Tok → Type 0
 Scripts = Listed Semicolon Statement
 
 read_whole : (l : List Tok) (x : List StatementParts) → Scripts l x [] → script_at l ≡ Ok (x, [])
-read_whole l x d = complete_script l x [] d refl
+read_whole l x d = read_script.complete l x [] d refl
 
 pub one_tree : HasOneTree
-one_tree l x y d e = sym (whole.only_text Scripts script_at lawful_script read_whole l x y (read_whole l x d) e)
+one_tree l x y d e = sym (whole.only_text Scripts script_at read_script.lawful read_whole l x y (read_whole l x d) e)
 
 outcome : (l : List Tok) (a : Answer (List StatementParts)) → script_at l ≡ a → ((x : List StatementParts) × IsScript l x) ⊎ ((r : List Tok) × GoesWrongAt l r)
-outcome l (Ok (x, [])) h = inl (x, whole.is_text Scripts script_at lawful_script read_whole l x h)
-outcome l (Ok (x, t ∷ r)) h = inr (t ∷ r, whole.left_over Scripts script_at lawful_script read_whole l x t r h)
-outcome l (Err r) h = inr (r, whole.broken Scripts script_at lawful_script read_whole l r h)
+outcome l (Ok (x, [])) h = inl (x, whole.is_text Scripts script_at read_script.lawful read_whole l x h)
+outcome l (Ok (x, t ∷ r)) h = inr (t ∷ r, whole.left_over Scripts script_at read_script.lawful read_whole l x t r h)
+outcome l (Err r) h = inr (r, whole.broken Scripts script_at read_script.lawful read_whole l r h)
 
 pub script_or_wrong : IsScriptOrWrong
 script_or_wrong l = outcome l (script_at l) refl

@@ -8,9 +8,9 @@ use Rattle.mob_ast.specs.Trees.{Tree, tree, trees_from}
 use Rattle.mob_grammar.specs.declared.mark.Mark.{Mark}
 use Rattle.mob_grammar.specs.declared.mark.Mark.TheVariants.{Not, Is, Null, True, False, Tilde, Cast, Open, Close, Comma, Dot}
 use Rattle.mob_grammar.specs.Marks.{is}
-use Rattle.mob_grammar.specs.Symbols.{Symbol, fixed, name, number, quoted, Tok, sign, identifier, is_sign, is_string, binding, starts, rest, binary, unary, leaf}
+use Rattle.mob_grammar.specs.Symbols.{Symbol, fixed, name, number, quoted, Tok, sign, identifier, is_sign, is_string, binding, starts, rest, binary, unary, leaf, is_literal}
 use Rattle.mob_grammar.specs.Expressions.{disjunction, conjunction, negation, nullness, comparison, other, complement, sum, product, signed, cast, primary, word, Phrase}
-use Rattle.mob_grammar.specs.Reading.{Answer, TokenReader, ◌>>=◌, closed, if_mark, listed_from, listed, chain_from, postfix_from, null_at, cast_at, args, is_literal, inner_at, literal_at, column_at, opened, named_at, mark_primary, nest, expression_at, cast_rank, signed_rank, product_rank, sum_rank, complement_rank, other_rank, comparison_rank, nullness_rank, negation_rank, conjunction_rank, disjunction_rank}
+use Rattle.mob_grammar.specs.Reading.{Answer, TokenReader, ◌>>=◌, closed, if_mark, listed_from, listed, chain_from, postfix_from, null_at, cast_at, args, inner_at, literal_at, column_at, opened, named_at, mark_primary, nest, expression_at, cast_rank, signed_rank, product_rank, sum_rank, complement_rank, other_rank, comparison_rank, nullness_rank, negation_rank, conjunction_rank, disjunction_rank}
 use Rattle.mob_grammar.specs.Reading as read
 use Rattle.mob_grammar.proofs.Tells.{Tells, Lawful, tells_same}
 use Rattle.mob_grammar.proofs.Ranks.{column_args, lawful_primary, lawful_cast, lawful_signed, lawful_product, lawful_sum, lawful_complement, lawful_other, lawful_compared, lawful_nullness, lawful_negation, lawful_conjunction, lawful_disjunction, lawful_nest}

@@ -10,7 +10,7 @@ use Rattle.mob_ast.specs.declared.statement.FromTable.{FromTable}
 use Rattle.mob_ast.specs.Trees.{Tree, tree, none, more, trees_from, StatementParts, empty, create_table, create_index, insert, copy, select, explain, RowParts, ItemParts, every, one, KeyParts, SelectParts}
 use Rattle.mob_grammar.specs.declared.mark.Mark.{Mark}
 use Rattle.mob_grammar.specs.declared.mark.Mark.TheVariants.{Select, Distinct, From, Where, Order, By, Asc, Desc, Limit, Create, Table, Index, On, Using, Gist, Insert, Into, Values, Copy, With, Format, Csv, Header, Delimiter, Explain, Not, Is, Null, True, False, As, Tilde, Times, Cast, Open, Close, Comma, Semicolon, Dot}
-use Rattle.mob_grammar.specs.Symbols.{Symbol, fixed, name, number, quoted, Tok, is_name, is_string, is_sign, binding, begins, starts, goes_on, first, rest, binary, unary, leaf}
+use Rattle.mob_grammar.specs.Symbols.{Symbol, fixed, name, number, quoted, Tok, is_name, is_string, is_number, is_sign, is_literal, binding, begins, starts, goes_on, first, rest, binary, unary, leaf}
 use Rattle.mob_grammar.specs.Expressions.{word}
 use Rattle.mob_grammar.specs.Marks.{is}
 
@@ -108,13 +108,6 @@ cast_at l = type_at l >>= λ x. Ok (node.Cast x.0, x.1)
 unfoldable pub args : TokenReader Tree → TokenReader (List Tree)
 args inner l = cond (starts Close l) (Ok ([], rest l)) (listed Comma inner l >>= λ x. closed Close x.0 x.1)
 
--- a name, a closing bracket and a string: what is left of a literal behind the bracket of its type
-abbrev pub is_literal : List Tok → Bool
-is_literal [] = false
-is_literal (a ∷ []) = false
-is_literal (a ∷ b ∷ []) = false
-is_literal (a ∷ b ∷ c ∷ l) = cond (is_name a) (cond (is_sign Close b) (is_string c) false) false
-
 -- a string behind a type
 unfoldable pub literal_at : TypeWord → TokenReader Tree
 literal_at ty l = string_at l >>= λ s. Ok (leaf (node.Literal ty s.0.text) s.0.place, s.1)
@@ -192,15 +185,6 @@ unfoldable pub expression_at : TokenReader Tree
 expression_at l = nest (length l + 1) l
 
 -- constants, rows and columns
-abbrev pub is_number_symbol : Symbol → Bool
-is_number_symbol (fixed g) = false
-is_number_symbol (name n) = false
-is_number_symbol (number n) = true
-is_number_symbol (quoted s) = false
-
-abbrev pub is_number : Tok → Bool
-is_number t = is_number_symbol t.symbol
-
 abbrev pub is_plus_or_minus : Tok → Bool
 is_plus_or_minus t = binding t == 8
 

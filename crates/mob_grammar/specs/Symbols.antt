@@ -1,10 +1,10 @@
 -- The tokens as the grammar sees them.
-use Rattle.std.specs.Prelude.{◌==◌, ℕ, List, [], ◌∷◌, Bool, true, false}
+use Rattle.std.specs.Prelude.{◌==◌, ℕ, List, [], ◌∷◌, Bool, true, false, cond}
 use Rattle.mob_ast.specs.declared.expression.Node.{Node}
 use Rattle.mob_ast.specs.declared.expression.Node.TheVariants as node
 use Rattle.mob_ast.specs.Trees.{Tree, tree, none, more}
 use Rattle.mob_grammar.specs.declared.mark.Mark.{Mark}
-use Rattle.mob_grammar.specs.declared.mark.Mark.TheVariants.{And, Or, Not, Semicolon}
+use Rattle.mob_grammar.specs.declared.mark.Mark.TheVariants.{And, Or, Not, Close, Semicolon}
 use Rattle.mob_grammar.specs.Marks.{is, mark_text, strength, clause}
 
 -- what stands at a place: a reserved word or a sign, a name in lower case, a number as written, or a string without its quotes
@@ -50,6 +50,12 @@ is_string_symbol (name n) = false
 is_string_symbol (number n) = false
 is_string_symbol (quoted s) = true
 
+abbrev pub is_number_symbol : Symbol → Bool
+is_number_symbol (fixed g) = false
+is_number_symbol (name n) = false
+is_number_symbol (number n) = true
+is_number_symbol (quoted s) = false
+
 -- a string binds as a point does: it stands behind the name of a type alone
 abbrev pub symbol_strength : Symbol → ℕ
 symbol_strength (fixed g) = strength g
@@ -72,8 +78,18 @@ is_name t = is_name_symbol t.symbol
 abbrev pub is_string : Tok → Bool
 is_string t = is_string_symbol t.symbol
 
+abbrev pub is_number : Tok → Bool
+is_number t = is_number_symbol t.symbol
+
 abbrev pub binding : Tok → ℕ
 binding t = symbol_strength t.symbol
+
+-- a name, a closing bracket and a string: what is left of a literal behind the bracket of its type
+abbrev pub is_literal : List Tok → Bool
+is_literal [] = false
+is_literal (a ∷ []) = false
+is_literal (a ∷ b ∷ []) = false
+is_literal (a ∷ b ∷ c ∷ l) = cond (is_name a) (cond (is_sign Close b) (is_string c) false) false
 
 -- the first token passes a test
 abbrev pub begins : (Tok → Bool) → List Tok → Bool

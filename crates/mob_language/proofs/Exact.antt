@@ -7,7 +7,8 @@
 use Rattle.std.proofs.Common.{◌≡◌, ℕ, [], ◌∷◌, ◌++◌, map, Bool, true, false, cond, Option, Some, None, refl, sym, ap, subst, ◌∙◌, append_assoc, arith, inl, inr, eqb}
 use Rattle.std.proofs.lemmas.Bool.{eqb-true}
 use Rattle.std.proofs.lemmas.List.{append-nil}
-use Rattle.mob_language.specs.Language.{Text, Language, ◌▷◌, ◌∣◌, Maybe, Means, Where, Word, AnyCase, small, OneOf, AreAll, Run}
+use Rattle.std.specs.Char.{to_ascii_lowercase}
+use Rattle.mob_language.specs.Language.{Text, Language, ◌▷◌, ◌∣◌, Maybe, Means, Where, Word, AnyCase, OneOf, AreAll, Run}
 use Rattle.mob_language.specs.Readers.{TextReader, ◌>>=◌, then_at, else_at, or_at, maybe_at, maybe_of, means_at, where_at, word_at, any_case_at, one_at, run_of, grown, run_at, ended, all_of}
 
 -- the text has a front that the language says v with, and the rest stands behind it
@@ -167,18 +168,18 @@ any_case_sound [] text rest v e =
     record { front = []; whole = ap (λ (w : Unit {0} × Text). w.1) is; said = refl }
 any_case_sound (w ∷ ws) [] rest v e = absurd cc
 any_case_sound (w ∷ ws) (c ∷ cs) rest v e =
-    let g = chosen_by (eqb (small c) w) (any_case_at ws cs) (v, rest) e in
+    let g = chosen_by (eqb (to_ascii_lowercase c) w) (any_case_at ws cs) (v, rest) e in
     let h = any_case_sound ws cs rest v g.1 in
     record {
       front = c ∷ h.front;
       whole = ap (λ (t : Text). c ∷ t) h.whole;
-      said = two_heads (small c) w (map small h.front) ws (eqb-true (small c) w g.0) h.said;
+      said = two_heads (to_ascii_lowercase c) w (map to_ascii_lowercase h.front) ws (eqb-true (to_ascii_lowercase c) w g.0) h.said;
     }
 
-any_case_again : (text word rest : Text) → map small text ≡ word → any_case_at word (text ++ rest) ≡ Some (tt, rest)
+any_case_again : (text word rest : Text) → map to_ascii_lowercase text ≡ word → any_case_at word (text ++ rest) ≡ Some (tt, rest)
 any_case_again [] word rest e = rw (sym e) refl
 any_case_again (c ∷ cs) word rest e =
-    rw (sym e, same_byte (small c)) (any_case_again cs (map small cs) rest refl)
+    rw (sym e, same_byte (to_ascii_lowercase c)) (any_case_again cs (map to_ascii_lowercase cs) rest refl)
 
 -- a word in small or capital letters
 pub any_case_exact : (word : Text) → Exact (AnyCase word) (any_case_at word) Any

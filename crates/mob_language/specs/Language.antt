@@ -14,7 +14,8 @@
 --   behind w l        the word w, and behind it a text of l; it stands for what the latter stands for
 --   Means f l         a text of l; where it stands for a there, it stands for f a here
 --   Where test l      a text of l whose value passes the test
-use Rattle.std.specs.Prelude.{◌≡◌, ℕ, ◌+◌, List, [], ◌∷◌, ◌++◌, map, Bool, true, ◌&&◌, ◌||◌, cond, nat_le, nat_eq, Option, Some, None, ◌⊎◌}
+use Rattle.std.specs.Prelude.{◌≡◌, ℕ, List, [], ◌∷◌, ◌++◌, map, Bool, true, ◌&&◌, ◌||◌, nat_le, nat_eq, Option, Some, None, ◌⊎◌}
+use Rattle.std.specs.Char.{to_ascii_lowercase}
 
 -- a text as the list of its bytes
 abbrev pub Text : Type 0
@@ -58,13 +59,13 @@ pub record Where {A : Type 0} (test : A → Bool) (l : Language A) (text : Text)
 abbrev pub Word : Text → Language (Unit {0})
 Word word text v = text ≡ word
 
--- the small letter of a capital one, and every other byte as it is
-abbrev pub small : ℕ → ℕ
-small c = cond (nat_le 65 c && nat_le c 90) (c + 32) c
+-- the text with each capital letter as a small one
+abbrev pub in_lower_case : Text → Text
+in_lower_case text = map to_ascii_lowercase text
 
 -- a word whose letters may be small or capital; `word` is written in small letters
 abbrev pub AnyCase : Text → Language (Unit {0})
-AnyCase word text v = map small text ≡ word
+AnyCase word text v = in_lower_case text ≡ word
 
 -- one byte that passes the test
 abbrev pub OneOf : (ℕ → Bool) → Language ℕ
@@ -93,6 +94,18 @@ behind word l = Means (λ (v : Unit {0} × _). v.1) (Word word ▷ l)
 -- a blank is a space, a tab, a carriage return or a line feed
 abbrev pub is_blank : ℕ → Bool
 is_blank c = nat_eq c 32 || (nat_eq c 9 || (nat_eq c 13 || nat_eq c 10))
+
+-- a digit
+abbrev pub is_digit : ℕ → Bool
+is_digit c = nat_le 48 c && nat_le c 57
+
+-- the sign of a number: a plus or a minus
+abbrev pub is_number_sign : ℕ → Bool
+is_number_sign c = nat_eq c 43 || nat_eq c 45
+
+-- the letter of an exponent
+abbrev pub is_exponent_letter : ℕ → Bool
+is_exponent_letter c = nat_eq c 101 || nat_eq c 69
 
 -- any number of blanks
 abbrev pub blanks : Language Text

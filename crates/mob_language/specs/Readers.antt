@@ -4,7 +4,8 @@
 -- can. A reader on lists is the middle between a language, which says what a text means, and the code, which goes through the
 -- bytes: `proofs/` shows that each reader reads exactly the texts of its language, and the code answers what the reader does.
 use Rattle.std.specs.Prelude.{ℕ, zero, suc, List, [], ◌∷◌, length, Bool, true, false, cond, Option, Some, None, nat_eq}
-use Rattle.mob_language.specs.Language.{Text, small, is_blank, in_middle}
+use Rattle.std.specs.Char.{to_ascii_lowercase}
+use Rattle.mob_language.specs.Language.{Text, is_blank, in_middle}
 
 abbrev pub TextReader : Type 0 → Type 0
 TextReader A = Text → Option (A × Text)
@@ -53,7 +54,7 @@ word_at (w ∷ ws) (c ∷ cs) = cond (nat_eq c w) (word_at ws cs) None
 abbrev pub any_case_at : Text → TextReader (Unit {0})
 any_case_at [] text = Some (tt, text)
 any_case_at (w ∷ ws) [] = None
-any_case_at (w ∷ ws) (c ∷ cs) = cond (nat_eq (small c) w) (any_case_at ws cs) None
+any_case_at (w ∷ ws) (c ∷ cs) = cond (nat_eq (to_ascii_lowercase c) w) (any_case_at ws cs) None
 
 -- one byte that passes the test
 abbrev pub one_at : (ℕ → Bool) → TextReader ℕ

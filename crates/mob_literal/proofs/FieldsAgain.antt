@@ -5,7 +5,7 @@ use Rattle.std.specs.List.{list_all}
 use Rattle.std.proofs.lemmas.Bool.{eqb-true}
 use Rattle.mob_ratio.specs.Ratio.{Ratio}
 use Rattle.mob_frac.specs.Fits.{Fits}
-use Rattle.mob_language.specs.Language.{Text, Language}
+use Rattle.mob_language.specs.Language.{Text, Language, is_digit, is_number_sign, is_exponent_letter}
 use Rattle.mob_language.proofs.Heads.{NoHead, Apart, HasByte}
 use Rattle.mob_language.proofs.Exact.{Stops}
 use Rattle.mob_slice.specs.declared.slice.Slice.{Slice}
@@ -14,17 +14,16 @@ use Rattle.mob_ast.specs.declared.types.SqlType.{SqlType}
 use Rattle.mob_ast.specs.declared.types.SqlType.TheVariants as sql
 use Rattle.mob_value.specs.declared.value.Value.{Value}
 use Rattle.mob_value.specs.declared.value.Value.TheVariants as value
-use Rattle.mob_scalar.specs.Figures.{is_digit}
-use Rattle.mob_scalar.specs.Number.{is_sign, is_e}
-use Rattle.mob_scalar.specs.NumberText.{number_text}
+use Rattle.mob_numeral.specs.NumberText.{number_text}
 use Rattle.mob_scalar.specs.MomentText.{moment_text}
 use Rattle.mob_scalar.specs.Truth.{truth_text}
 use Rattle.mob_scalar.specs.Quoted.{quoted_text}
-use Rattle.mob_scalar.proofs.Again.{number_plain}
+use Rattle.mob_numeral.proofs.Again.{number_plain}
 use Rattle.mob_scalar.proofs.MomentAgain.{moment_plain}
-use Rattle.mob_scalar.proofs.WholeTexts.{number_head, number_byte, moment_head, moment_byte}
-use Rattle.mob_literal.specs.Printed.{Style, is_long, groups_of, start_text, groups_text, set_text, steps_text}
-use Rattle.mob_literal.specs.Style.{style_of}
+use Rattle.mob_numeral.proofs.WholeTexts.{number_head, number_byte}
+use Rattle.mob_scalar.proofs.WholeTexts.{moment_head, moment_byte}
+use Rattle.mob_written.specs.Printed.{Style, is_long, groups_of, start_text, groups_text, set_text, steps_text}
+use Rattle.mob_written.specs.Style.{style_of}
 use Rattle.mob_literal.specs.Readable.{IsDated, IsReadable}
 use Rattle.mob_literal.specs.SqlReadable.{IsReadableAs}
 use Rattle.mob_literal.specs.SqlText.{SaysAs}
@@ -55,7 +54,7 @@ plain_said {A} {l} head byte text v said = by_text text (head text v said) (byte
     by_text [] stops some = absurd (some refl)
     by_text (c ∷ cs) stops some = record { first = c; rest = cs; is = refl; plain = stops }
 
-sign_plain : Apart is_sign is_backslash
+sign_plain : Apart is_number_sign is_backslash
 unfolding is_backslash
 sign_plain c e = search rules
 
@@ -63,7 +62,7 @@ digit_plain : Apart is_digit is_backslash
 unfolding is_backslash
 digit_plain c e = search rules
 
-e_plain : Apart is_e is_backslash
+e_plain : Apart is_exponent_letter is_backslash
 unfolding is_backslash
 e_plain c e = search rules
 

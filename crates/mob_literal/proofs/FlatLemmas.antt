@@ -13,9 +13,10 @@ use Rattle.mob_slice.specs.declared.steady.Steady.{Steady}
 use Rattle.mob_slice.specs.Slices.{IsSound, IsOrdered, Clear, OfHead, value_at}
 use Rattle.mob_normal.proofs.Regions.{is_left, left_has, left_clear, in_left}
 use Rattle.mob_normal.proofs.Runs.{or_else, value_at-append}
-use Rattle.mob_literal.specs.declared.written.Written.{Written}
-use Rattle.mob_literal.specs.declared.written.Sequence.{Sequence}
-use Rattle.mob_literal.specs.Steps.{rises, StepAt, step_value}
+use Rattle.mob_written.specs.declared.written.Written.{Written}
+use Rattle.mob_written.specs.declared.written.Sequence.{Sequence}
+use Rattle.mob_slice.specs.Operands.{steady_value}
+use Rattle.mob_literal.specs.Steps.{rises, StepAt}
 use Rattle.mob_literal.specs.Slices.{slices_of, made, stretch, point}
 use Rattle.mob_literal.specs.Sound.{ends_level, is_closed_alone, is_sound_sequence, clear_ends, is_before, are_in_order, is_sound, LitAt}
 use Rattle.mob_literal.specs.Flat.{made_sequence, made_all}
@@ -197,24 +198,24 @@ module _ {B : Type 0} where
   abbrev pub Ordered : List (Slice (Steady B)) → Type 0
   Ordered slices = IsOrdered {B = B} (λ (c : Steady B). c.value) (λ c. c.value) slices
 
-  none_left : (t : Ratio) (b : Slice (Steady B)) (rest : List (Slice (Steady B))) → Ordered (b ∷ rest) → is_left t b.span ≡ true → value_at step_value (b ∷ rest) t ≡ None
+  none_left : (t : Ratio) (b : Slice (Steady B)) (rest : List (Slice (Steady B))) → Ordered (b ∷ rest) → is_left t b.span ≡ true → value_at steady_value (b ∷ rest) t ≡ None
   none_left t b [] n h = rw (left_has t b.span h) refl
   none_left t b (c ∷ rest) n h = rw (left_has t b.span h) (none_left t c rest n.2 (left_clear t b.span c.span n.0.some h n.1))
 
-  none_behind : (t : Ratio) (s : Slice (Steady B)) (rest : List (Slice (Steady B))) → Ordered (s ∷ rest) → has s.span t ≡ true → value_at step_value rest t ≡ None
+  none_behind : (t : Ratio) (s : Slice (Steady B)) (rest : List (Slice (Steady B))) → Ordered (s ∷ rest) → has s.span t ≡ true → value_at steady_value rest t ≡ None
   none_behind t s [] n h = refl
   none_behind t s (c ∷ rest) n h = none_left t c rest n.2 (in_left s.span c.span t n.1 h)
 
-  none_before : (t : Ratio) (v : B) (xs ys : List (Slice (Steady B))) → Ordered (xs ++ ys) → value_at step_value ys t ≡ Some v → value_at step_value xs t ≡ None
+  none_before : (t : Ratio) (v : B) (xs ys : List (Slice (Steady B))) → Ordered (xs ++ ys) → value_at steady_value ys t ≡ Some v → value_at steady_value xs t ≡ None
   none_before t v [] ys n h = refl
   none_before t v (x ∷ xs) ys n h = by_has (has x.span t) refl (none_before t v xs ys n.2 h)
     where
-      by_has : (b : Bool) → has x.span t ≡ b → value_at step_value xs t ≡ None → value_at step_value (x ∷ xs) t ≡ None
+      by_has : (b : Bool) → has x.span t ≡ b → value_at steady_value xs t ≡ None → value_at steady_value (x ∷ xs) t ≡ None
       by_has false e others = rw e others
       by_has true e others =
           let behind = none_behind t x (xs ++ ys) n e in
-          let inside = value_at-append step_value xs ys t in
-          absurd (some_none (value_at step_value xs t) (rw h at (sym inside ∙ behind)))
+          let inside = value_at-append steady_value xs ys t in
+          absurd (some_none (value_at steady_value xs t) (rw h at (sym inside ∙ behind)))
         where
           some_none : (o : Option B) → or_else o (Some v) ≡ None → ⊥
           some_none None e = absurd cc
@@ -224,19 +225,19 @@ module _ {B : Type 0} where
   ordered_rest [] ys n = n
   ordered_rest (x ∷ xs) ys n = ordered_rest xs ys n.2
 
-  flat_lit : (has_value : B → Bool) (is_same : B → B → Bool) (qs : List (Sequence (Written B))) (t : Ratio) (v : B) → list_all (is_sound_sequence has_value is_same) qs ≡ true → value_at step_value (flat qs) t ≡ Some v → LitAt qs t v
+  flat_lit : (has_value : B → Bool) (is_same : B → B → Bool) (qs : List (Sequence (Written B))) (t : Ratio) (v : B) → list_all (is_sound_sequence has_value is_same) qs ≡ true → value_at steady_value (flat qs) t ≡ Some v → LitAt qs t v
   unfolding flat
   flat_lit has_value is_same [] t v sound h = absurd cc
   flat_lit has_value is_same (q ∷ qs) t v sound h =
       let a = both (is_sound_sequence has_value is_same q) (list_all (is_sound_sequence has_value is_same) qs) sound in
       let s = sound_in has_value is_same q a.0 in
-      by_first (value_at step_value (slices_in q) t) refl (sym (value_at-append step_value (slices_in q) (flat qs) t) ∙ h) s.up (flat_lit has_value is_same qs t v a.1)
+      by_first (value_at steady_value (slices_in q) t) refl (sym (value_at-append steady_value (slices_in q) (flat qs) t) ∙ h) s.up (flat_lit has_value is_same qs t v a.1)
     where
-      by_first : (o : Option B) → value_at step_value (slices_in q) t ≡ o → or_else o (value_at step_value (flat qs) t) ≡ Some v → rises q.instants ≡ true → (value_at step_value (flat qs) t ≡ Some v → LitAt qs t v) → LitAt (q ∷ qs) t v
+      by_first : (o : Option B) → value_at steady_value (slices_in q) t ≡ o → or_else o (value_at steady_value (flat qs) t) ≡ Some v → rises q.instants ≡ true → (value_at steady_value (flat qs) t ≡ Some v → LitAt qs t v) → LitAt (q ∷ qs) t v
       by_first (Some w) e k up others = record { by = q; listed = first_in q qs; step = slices_step q.lower_inc q.instants q.upper_inc t v up (e ∙ k) }
       by_first None e k up others = let l = others k in record { by = l.by; listed = later_in q qs l.by l.listed; step = l.step }
 
-  lit_flat : (has_value : B → Bool) (is_same : B → B → Bool) (qs : List (Sequence (Written B))) (t : Ratio) (v : B) → list_all (is_sound_sequence has_value is_same) qs ≡ true → Ordered (flat qs) → (l : LitAt qs t v) → value_at step_value (flat qs) t ≡ Some v
+  lit_flat : (has_value : B → Bool) (is_same : B → B → Bool) (qs : List (Sequence (Written B))) (t : Ratio) (v : B) → list_all (is_sound_sequence has_value is_same) qs ≡ true → Ordered (flat qs) → (l : LitAt qs t v) → value_at steady_value (flat qs) t ≡ Some v
   unfolding flat
   lit_flat has_value is_same [] t v sound ordered l = absurd (none_in l.by l.listed)
   lit_flat has_value is_same (q ∷ qs) t v sound ordered l =
@@ -245,17 +246,17 @@ module _ {B : Type 0} where
       elim (which_in q qs l.by l.listed) [
         | inl same ↦
             let here = step_slices q.lower_inc q.instants q.upper_inc t v s.up (subst (λ (x : Sequence (Written B)). StepAt x.lower_inc x.instants x.upper_inc t v) (sym same) l.step) in
-            value_at-append step_value (slices_in q) (flat qs) t ∙ rw here refl
+            value_at-append steady_value (slices_in q) (flat qs) t ∙ rw here refl
         | inr later ↦
             let there = lit_flat has_value is_same qs t v a.1 (ordered_rest (slices_in q) (flat qs) ordered) (record { by = l.by; listed = later; step = l.step }) in
             let none = none_before t v (slices_in q) (flat qs) ordered there in
-            value_at-append step_value (slices_in q) (flat qs) t ∙ rw (none, there) refl
+            value_at-append steady_value (slices_in q) (flat qs) t ∙ rw (none, there) refl
       ]
 
 -- the slices of sound sequences are ordered and have the values that the sequences have
 pub record IsFlat {B : Type 0} (qs : List (Sequence (Written B))) (slices : List (Slice (Steady B))) : Type 0 where
   pub ordered : IsOrdered {B = B} (λ (c : Steady B). c.value) (λ c. c.value) slices
-  pub same : (t : Ratio) (v : B) → (value_at step_value slices t ≡ Some v) ↔ LitAt qs t v
+  pub same : (t : Ratio) (v : B) → (value_at steady_value slices t ≡ Some v) ↔ LitAt qs t v
 
 pub is_flat : {B : Type 0} (has_value : B → Bool) (is_same : B → B → Bool) (qs : List (Sequence (Written B))) → is_sound has_value is_same qs ≡ true → IsFlat qs (flat qs)
 is_flat has_value is_same qs h =

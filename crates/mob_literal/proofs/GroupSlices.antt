@@ -11,14 +11,15 @@ use Rattle.mob_slice.specs.declared.slice.Slice.{Slice}
 use Rattle.mob_slice.specs.declared.steady.Steady.{Steady}
 use Rattle.mob_slice.specs.Slices.{value_at}
 use Rattle.mob_normal.proofs.Runs.{or_else, value_at-append}
-use Rattle.mob_literal.specs.declared.written.Written.{Written}
-use Rattle.mob_literal.specs.declared.written.Sequence.{Sequence}
-use Rattle.mob_literal.specs.Steps.{rises, step_value}
+use Rattle.mob_written.specs.declared.written.Written.{Written}
+use Rattle.mob_written.specs.declared.written.Sequence.{Sequence}
+use Rattle.mob_slice.specs.Operands.{steady_value}
+use Rattle.mob_literal.specs.Steps.{rises}
 use Rattle.mob_literal.specs.Slices.{slices_of, stretch}
 use Rattle.mob_literal.specs.Sound.{ends_level, is_closed_alone, is_sound_sequence, clear_ends, is_before, are_in_order, is_sound}
-use Rattle.mob_literal.specs.Printed.{is_long, shares_group, groups_of, put_in_group}
+use Rattle.mob_written.specs.Printed.{is_long, shares_group, groups_of, put_in_group}
 use Rattle.mob_literal.proofs.FlatLemmas.{flat, Ordered, ordered_rest}
-use Rattle.mob_literal.proofs.Small.{false_true}
+use Rattle.mob_written.proofs.Small.{false_true}
 
 -- P holds of each
 abbrev pub Alls : {A : Type 0} → (A → Type 0) → List A → Type 0
@@ -116,15 +117,15 @@ module _ {B : Type 0} where
   slice_on l u lower_inc upper_inc v = record { span = record { lower = l; upper = u; lower_inc = lower_inc; upper_inc = upper_inc }; course = record { value = v } }
 
   long_value : (l u t : Ratio) (lower upper : Bool) (v : B) → before l u ≡ true
-      → value_at step_value (slices_of lower (written v l ∷ written v u ∷ []) upper) t ≡ value_at step_value (slice_on l u lower upper v ∷ []) t
+      → value_at steady_value (slices_of lower (written v l ∷ written v u ∷ []) upper) t ≡ value_at steady_value (slice_on l u lower upper v ∷ []) t
   long_value l u t lower true v h =
       choose (has (slice_on l u lower false v).span t) (has (slice_on u u true true v).span t) (Some v) None
       ∙ ap (λ (b : Bool). cond b (Some v) None) (sym (split_has l u t lower h))
   long_value l u t lower false v h = refl
 
   short_value : (l u t : Ratio) (lower upper : Bool) (v : B) → upper ≡ true → l ≡ u
-      → value_at step_value (slices_of lower (written v l ∷ []) upper) t ≡ value_at step_value (slice_on l u lower upper v ∷ []) t
-  short_value l u t lower true v h e = ap (λ (x : Ratio). value_at step_value (slice_on l x lower true v ∷ []) t) e
+      → value_at steady_value (slices_of lower (written v l ∷ []) upper) t ≡ value_at steady_value (slice_on l u lower upper v ∷ []) t
+  short_value l u t lower true v h e = ap (λ (x : Ratio). value_at steady_value (slice_on l x lower true v ∷ []) t) e
   short_value l u t lower false v h e = absurd (false_true h)
 
 -- a slice of one instant includes it
@@ -161,7 +162,7 @@ module _ {B : Type 0} (has_value : B → Bool) (is_same : B → B → Bool) (exa
     up : rises (start_of s ∷ rest) ≡ true
     closed : is_closed_alone s.span.lower_inc upper (start_of s ∷ rest) ≡ true
     level : (upper ≡ true) ⊎ LevelEnds (start_of s) rest
-    values : (t : Ratio) → value_at step_value (slices_of s.span.lower_inc (start_of s ∷ rest) upper) t ≡ value_at step_value (s ∷ group) t
+    values : (t : Ratio) → value_at steady_value (slices_of s.span.lower_inc (start_of s ∷ rest) upper) t ≡ value_at steady_value (s ∷ group) t
 
   itself : (v : B) → is_same v v ≡ true
   itself v = (exact v v).1 refl
@@ -217,9 +218,9 @@ module _ {B : Type 0} (has_value : B → Bool) (is_same : B → B → Bool) (exa
         let first : has (stretch s.span.lower_inc (start_of s) (start_of r)).span t ≡ has s.span t =
         ap (λ (x : Ratio). has (record { lower = s.span.lower; upper = x; lower_inc = s.span.lower_inc; upper_inc = false }) t) (sym g.at)
         ∙ ap (λ (x : Bool). has (record { lower = s.span.lower; upper = s.span.upper; lower_inc = s.span.lower_inc; upper_inc = x }) t) (sym g.open_end) in
-        let others : value_at step_value (slices_of true (start_of r ∷ rest) upper) t ≡ value_at step_value (r ∷ group) t =
-        subst (λ (x : Bool). value_at step_value (slices_of x (start_of r ∷ rest) upper) t ≡ value_at step_value (r ∷ group) t) g.next (h.values t) in
-        ap (λ (b : Bool). cond b (Some s.course.value) (value_at step_value (slices_of true (start_of r ∷ rest) upper) t)) first
+        let others : value_at steady_value (slices_of true (start_of r ∷ rest) upper) t ≡ value_at steady_value (r ∷ group) t =
+        subst (λ (x : Bool). value_at steady_value (slices_of x (start_of r ∷ rest) upper) t ≡ value_at steady_value (r ∷ group) t) g.next (h.values t) in
+        ap (λ (b : Bool). cond b (Some s.course.value) (value_at steady_value (slices_of true (start_of r ∷ rest) upper) t)) first
         ∙ ap (λ (o : Option B). cond (has s.span t) (Some s.course.value) o) others;
   }
 
@@ -287,17 +288,17 @@ module _ {B : Type 0} (has_value : B → Bool) (is_same : B → B → Bool) (exa
 
   -- ---- the sequences have the values of the slices
 
-  pub flat_values : (groups : List (List (Slice (Steady B)))) → AreRuns groups → Ordered (joined groups) → (t : Ratio) → value_at step_value (flat (map sequence_of groups)) t ≡ value_at step_value (joined groups) t
+  pub flat_values : (groups : List (List (Slice (Steady B)))) → AreRuns groups → Ordered (joined groups) → (t : Ratio) → value_at steady_value (flat (map sequence_of groups)) t ≡ value_at steady_value (joined groups) t
   unfolding flat
   flat_values [] runs ordered t = refl
   flat_values ([] ∷ groups) runs ordered t = absurd runs
   flat_values ((s ∷ group) ∷ groups) runs ordered t =
       let g = group_is s group (joined groups) runs.0 ordered in
       let others = flat_values groups runs.1 (ordered_rest (s ∷ group) (joined groups) ordered) t in
-      value_at-append step_value (slices_of s.span.lower_inc (start_of s ∷ more s group) (upper_of s group)) (flat (map sequence_of groups)) t
-      ∙ ap (λ (o : Option B). or_else o (value_at step_value (flat (map sequence_of groups)) t)) (g.values t)
-      ∙ ap (λ (o : Option B). or_else (value_at step_value (s ∷ group) t) o) others
-      ∙ sym (value_at-append step_value (s ∷ group) (joined groups) t)
+      value_at-append steady_value (slices_of s.span.lower_inc (start_of s ∷ more s group) (upper_of s group)) (flat (map sequence_of groups)) t
+      ∙ ap (λ (o : Option B). or_else o (value_at steady_value (flat (map sequence_of groups)) t)) (g.values t)
+      ∙ ap (λ (o : Option B). or_else (value_at steady_value (s ∷ group) t) o) others
+      ∙ sym (value_at-append steady_value (s ∷ group) (joined groups) t)
 
   pub sound_groups : (groups : List (List (Slice (Steady B)))) → AreRuns groups → Ordered (joined groups) → HasAll (joined groups) → is_sound has_value is_same (map sequence_of groups) ≡ true
   sound_groups groups runs ordered values = and _ _ (in_order groups runs ordered) (all_sound groups runs ordered values)

@@ -11,15 +11,15 @@ use Rattle.mob_scalar.specs.Moment.{moment, instant}
 use Rattle.mob_scalar.specs.MomentText.{moment_text}
 use Rattle.mob_slice.specs.declared.slice.Slice.{Slice}
 use Rattle.mob_slice.specs.declared.steady.Steady.{Steady}
-use Rattle.mob_literal.specs.declared.written.Written.{Written}
-use Rattle.mob_literal.specs.declared.written.Noted.{Noted}
-use Rattle.mob_literal.specs.declared.written.Sequence.{Sequence}
-use Rattle.mob_literal.specs.Fitting.{fitting}
-use Rattle.mob_literal.specs.Literal.{at_sign, comma, noted, sequence, members, braced, alone, literal, temporal, opening as opening_bracket, closing as closing_bracket}
-use Rattle.mob_literal.specs.Printed.{Style, is_long, groups_of, put_in_group, with_commas, instant_text, instants_of, start_text, opening_text, closing_text, group_text, groups_text, set_text, steps_text, in_braces}
-use Rattle.mob_literal.specs.Style.{style_of}
+use Rattle.mob_written.specs.declared.written.Written.{Written}
+use Rattle.mob_written.specs.declared.written.Noted.{Noted}
+use Rattle.mob_written.specs.declared.written.Sequence.{Sequence}
+use Rattle.mob_written.specs.Fitting.{fitting}
+use Rattle.mob_written.specs.Literal.{at_sign, comma, noted, sequence, members, braced, alone, literal, temporal, opening as opening_bracket, closing as closing_bracket}
+use Rattle.mob_written.specs.Printed.{Style, is_long, groups_of, put_in_group, with_commas, instant_text, instants_of, start_text, opening_text, closing_text, group_text, groups_text, set_text, steps_text, in_braces}
+use Rattle.mob_written.specs.Style.{style_of}
 use Rattle.mob_literal.proofs.GroupSlices.{Alls, alls_rest, start_of, end_of, more, upper_of, sequence_of, AreRuns, are_groups, joined}
-use Rattle.mob_literal.proofs.Small.{false_true}
+use Rattle.mob_written.proofs.Small.{false_true}
 
 -- ---- signs as they are printed
 

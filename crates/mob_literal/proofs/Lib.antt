@@ -1,13 +1,9 @@
 pub mod FlatLemmas
-pub mod Groups
-pub mod LiteralExact
 pub mod Listing
 pub mod Made
 pub mod OneReading
-pub mod Parted
 pub mod ReadSteps
 pub mod Rows
-pub mod Small
 pub mod StepLemmas
 pub mod Traversed
 pub mod GroupSlices

@@ -9,7 +9,7 @@ use Rattle.mob_span.specs.Span.{has_instant}
 use Rattle.mob_slice.specs.declared.slice.Slice.{Slice}
 use Rattle.mob_slice.specs.declared.steady.Steady.{Steady}
 use Rattle.mob_slice.specs.Slices.{IsOrdered, Clear, OfHead}
-use Rattle.mob_literal.specs.declared.written.Written.{Written}
+use Rattle.mob_written.specs.declared.written.Written.{Written}
 use Rattle.mob_literal.specs.Steps.{rises}
 use Rattle.mob_literal.specs.Slices.{slices_of, made, stretch, point}
 use Rattle.mob_literal.proofs.FlatLemmas.{sound_stretch, sound_point}

@@ -4,18 +4,18 @@ use Rattle.std.specs.Prelude.{◌↔◌, IsTrue, MatchOption}
 use Rattle.mob_language.specs.Readers.{TextReader}
 use Rattle.mob_language.proofs.Exact.{one_value}
 use Rattle.mob_normal.proofs.Unique.{unique}
-use Rattle.mob_scalar.specs.Verdict.{HasOneReading}
-use Rattle.mob_scalar.proofs.Settled.{settled}
+use Rattle.mob_numeral.specs.Verdict.{HasOneReading}
+use Rattle.mob_numeral.proofs.Settled.{settled}
 use Rattle.mob_slice.specs.declared.slice.Slice.{Slice}
 use Rattle.mob_slice.specs.declared.steady.Steady.{Steady}
 use Rattle.mob_slice.specs.Slices.{value_at}
 use Rattle.mob_slice.specs.SteadyLaws.{steady_laws}
-use Rattle.mob_literal.specs.declared.written.Written.{Written}
-use Rattle.mob_literal.specs.declared.written.Sequence.{Sequence}
-use Rattle.mob_literal.specs.ValueText.{IsValueText}
-use Rattle.mob_literal.specs.Steps.{step_value}
+use Rattle.mob_written.specs.declared.written.Written.{Written}
+use Rattle.mob_written.specs.declared.written.Sequence.{Sequence}
+use Rattle.mob_written.specs.ValueText.{IsValueText}
+use Rattle.mob_slice.specs.Operands.{steady_value}
 use Rattle.mob_literal.specs.Sound.{fitting_all, Defines, steps}
-use Rattle.mob_literal.proofs.LiteralExact.{noted_entry, temporal_exact}
+use Rattle.mob_written.proofs.LiteralExact.{noted_entry, temporal_exact}
 
 -- two options with the same value are the same
 pub one_option : {B : Type 0} (o p : Option B) → ((x : B) → (o ≡ Some x) ↔ (p ≡ Some x)) → o ≡ p
@@ -27,7 +27,7 @@ one_option (Some x) p h = sym ((h x).0 refl)
 one_defined : {B : Type 0} (is_same : B → B → Bool) → ((a b : B) → IsTrue (is_same a b) ↔ (a ≡ b)) → (qs : List (Sequence (Written B))) (v w : List (Slice (Steady B))) → Defines is_same qs v → Defines is_same qs w → v ≡ w
 one_defined {B} is_same exact qs v w p q =
     unique (steady_laws is_same exact) v w p.normal.chained q.normal.chained
-    (λ t. one_option (value_at step_value v t) (value_at step_value w t)
+    (λ t. one_option (value_at steady_value v t) (value_at steady_value w t)
     (λ x. (λ e. (q.same t x).1 ((p.same t x).0 e), λ e. (p.same t x).1 ((q.same t x).0 e))))
 
 one_meaning : {B : Type 0} (is_same : B → B → Bool) → ((a b : B) → IsTrue (is_same a b) ↔ (a ≡ b)) → (o : Option (List (Sequence (Written B)))) (v w : List (Slice (Steady B))) → MatchOption o ⊥ (λ qs. Defines is_same qs v) → MatchOption o ⊥ (λ qs. Defines is_same qs w) → v ≡ w

@@ -7,24 +7,25 @@ use Rattle.mob_ratio.specs.Ratio.{Ratio}
 use Rattle.mob_language.specs.Language.{Text, Language, Separated}
 use Rattle.mob_language.specs.Readers.{TextReader, ◌>>=◌, all_of}
 use Rattle.mob_language.proofs.Exact.{is_said, not_said, bind_some}
-use Rattle.mob_scalar.specs.Verdict.{Lit}
-use Rattle.mob_scalar.specs.declared.fault.ReadText.{ReadText}
-use Rattle.mob_scalar.specs.declared.fault.ReadText.TheVariants.{NotText, Limit, TooLarge, Unsound, NoMemory}
+use Rattle.mob_numeral.specs.Verdict.{Lit}
+use Rattle.mob_numeral.specs.declared.fault.ReadText.{ReadText}
+use Rattle.mob_numeral.specs.declared.fault.ReadText.TheVariants.{NotText, Limit, TooLarge, Unsound, NoMemory}
 use Rattle.mob_slice.specs.declared.slice.Slice.{Slice}
 use Rattle.mob_slice.specs.declared.steady.Steady.{Steady}
 use Rattle.mob_slice.specs.Slices.{value_at, IsNormal}
-use Rattle.mob_literal.specs.declared.written.Written.{Written}
-use Rattle.mob_literal.specs.declared.written.Noted.{Noted}
-use Rattle.mob_literal.specs.declared.written.Sequence.{Sequence}
-use Rattle.mob_literal.specs.Literal.{comma, noted, sequence, alone, members, literal, temporal, noted_at, temporal_at}
-use Rattle.mob_literal.specs.ValueText.{IsValueText}
-use Rattle.mob_literal.specs.Steps.{rises, step_value}
+use Rattle.mob_written.specs.declared.written.Written.{Written}
+use Rattle.mob_written.specs.declared.written.Noted.{Noted}
+use Rattle.mob_written.specs.declared.written.Sequence.{Sequence}
+use Rattle.mob_written.specs.Literal.{comma, noted, sequence, alone, members, literal, temporal, noted_at, temporal_at}
+use Rattle.mob_written.specs.ValueText.{IsValueText}
+use Rattle.mob_slice.specs.Operands.{steady_value}
+use Rattle.mob_literal.specs.Steps.{rises}
 use Rattle.mob_literal.specs.Slices.{slices_of}
 use Rattle.mob_literal.specs.Sound.{is_over_limit, traverse, written_of, fitting_sequence, fitting_all, is_closed_alone, is_sound_sequence, ends_level, are_in_order, is_sound, Defines, written_sequences, steps}
 use Rattle.mob_literal.specs.Flat.{made_all}
-use Rattle.mob_literal.proofs.LiteralExact.{noted_entry, temporal_exact}
+use Rattle.mob_written.proofs.LiteralExact.{noted_entry, temporal_exact}
 use Rattle.mob_literal.proofs.FlatLemmas.{flat, all_is, IsFlat, is_flat}
-use Rattle.mob_literal.proofs.Small.{false_true, cons_nil, some_none}
+use Rattle.mob_written.proofs.Small.{false_true, cons_nil, some_none}
 
 abbrev some : {A : Type 0} → A → Option A
 some x = Some x
@@ -175,7 +176,7 @@ module _ {B : Type 0} (day : ℤ) (value : List ℕ → Option B → Type 0) (ha
 
   pub defined : (qs : List (Sequence (Written B))) (slices v : List (Slice (Steady B))) → IsMadeOf qs slices
       → IsNormal {C = Steady B} {B = B} (λ c. c.value) (λ c. c.value) (λ c d lower middle upper. is_same c.value d.value) v
-      → ((t : Ratio) → value_at step_value v t ≡ value_at step_value slices t)
+      → ((t : Ratio) → value_at steady_value v t ≡ value_at steady_value slices t)
       → Lit (steps day value has_value is_same) text (Ok v)
   defined qs slices v m normal kept =
       let f = m.read in

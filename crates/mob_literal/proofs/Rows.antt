@@ -9,7 +9,7 @@ use Rattle.mob_slice.specs.declared.slice.Slice.{Slice}
 use Rattle.mob_slice.specs.declared.steady.Steady.{Steady}
 use Rattle.mob_ast.specs.declared.types.SqlType.TheVariants as sql
 use Rattle.mob_value.specs.declared.value.Value.TheVariants as value
-use Rattle.mob_literal.specs.Printed.{Style, steps_text}
+use Rattle.mob_written.specs.Printed.{Style, steps_text}
 use Rattle.mob_literal.specs.Fields.{is_null_field, doubled, undoubled, text_of_field, field_text}
 
 abbrev day : ℕ → Ratio

@@ -4,7 +4,8 @@ use Rattle.mob_ast.specs.declared.types.SqlType.{SqlType}
 use Rattle.mob_ast.specs.declared.types.SqlType.TheVariants as sql
 use Rattle.mob_value.specs.declared.value.Value.{Value}
 use Rattle.mob_value.specs.declared.value.Value.TheVariants as value
-use Rattle.mob_scalar.proofs.Again.{number_again, whole_again, truth_again}
+use Rattle.mob_numeral.proofs.Again.{number_again, whole_again}
+use Rattle.mob_scalar.proofs.TruthAgain.{truth_again}
 use Rattle.mob_scalar.proofs.MomentAgain.{moment_again}
 use Rattle.mob_literal.specs.SqlText.{SaysAs, value_text}
 use Rattle.mob_literal.specs.SqlReadable.{IsReadableAs}

@@ -9,16 +9,16 @@ use Rattle.mob_ast.specs.declared.types.SqlType.{SqlType}
 use Rattle.mob_ast.specs.declared.types.SqlType.TheVariants as sql
 use Rattle.mob_value.specs.declared.value.Value.{Value}
 use Rattle.mob_value.specs.declared.value.Value.TheVariants as value
-use Rattle.mob_scalar.specs.declared.fault.ReadText.{ReadText}
-use Rattle.mob_scalar.specs.declared.fault.ReadText.TheVariants.{NoMemory}
-use Rattle.mob_scalar.specs.Verdict.{TextForm, HasOneReading}
-use Rattle.mob_scalar.specs.Numbers.{numbers, whole_numbers}
+use Rattle.mob_numeral.specs.declared.fault.ReadText.{ReadText}
+use Rattle.mob_numeral.specs.declared.fault.ReadText.TheVariants.{NoMemory}
+use Rattle.mob_numeral.specs.Verdict.{TextForm, HasOneReading}
+use Rattle.mob_numeral.specs.Numbers.{numbers, whole_numbers}
 use Rattle.mob_scalar.specs.Moments.{moments}
 use Rattle.mob_scalar.specs.Truth.{truths}
 use Rattle.mob_scalar.proofs.OneReadings.{one_number, one_whole, one_moment, one_truth}
-use Rattle.mob_scalar.proofs.Settled.{settled}
+use Rattle.mob_numeral.proofs.Settled.{settled}
 use Rattle.mob_literal.specs.Sound.{steps}
-use Rattle.mob_literal.specs.Values.{any_value, is_whole, truth_values, number_values, quoted_values, truth_value, number_value, quoted_value}
+use Rattle.mob_written.specs.Values.{any_value, is_whole, truth_values, number_values, quoted_values, truth_value, number_value, quoted_value}
 use Rattle.mob_literal.specs.SqlText.{texts, no_texts, SaysInForm, SaysAs}
 use Rattle.mob_literal.proofs.OneReading.{one_reading}
 

@@ -7,8 +7,9 @@ use Rattle.mob_ratio.specs.Order.{before, upto}
 use Rattle.mob_ratio.proofs.Order.{before-self, before-back, before-trans, before-neither}
 use Rattle.mob_span.specs.Span.{has}
 use Rattle.mob_slice.specs.Slices.{value_at}
-use Rattle.mob_literal.specs.declared.written.Written.{Written}
-use Rattle.mob_literal.specs.Steps.{StepAt, reaches, rises, step_value}
+use Rattle.mob_written.specs.declared.written.Written.{Written}
+use Rattle.mob_slice.specs.Operands.{steady_value}
+use Rattle.mob_literal.specs.Steps.{StepAt, reaches, rises}
 use Rattle.mob_literal.specs.Slices.{slices_of, stretch, point}
 use Rattle.mob_literal.proofs.Listing.{first_in, later_in, none_in, which_in}
 
@@ -119,7 +120,7 @@ later_stretch {B} lower upper i j is t v up s =
       value = s.value;
     }
 
-pub slices_step : {B : Type 0} (lower : Bool) (is : List (Written B)) (upper : Bool) (t : Ratio) (v : B) → rises is ≡ true → value_at step_value (slices_of lower is upper) t ≡ Some v → StepAt lower is upper t v
+pub slices_step : {B : Type 0} (lower : Bool) (is : List (Written B)) (upper : Bool) (t : Ratio) (v : B) → rises is ≡ true → value_at steady_value (slices_of lower is upper) t ≡ Some v → StepAt lower is upper t v
 slices_step lower [] upper t v up h = absurd cc
 slices_step lower (i ∷ []) true t v up h = elim (looked (has (point lower i).span t) i.value None v h) [
   | inl s ↦ let b = both (reaches lower i.instant t) (before t i.instant || (true && upto t i.instant)) s.0 in point_within lower true i t v b.0 (reaches_upto true t i.instant b.1) refl s.1
@@ -129,7 +130,7 @@ slices_step lower (i ∷ []) true t v up h = elim (looked (has (point lower i).s
     none_some : {A : Type 0} (v : A) → ◌≡◌ {A = Option A} None (Some v) → ⊥
     none_some v e = absurd cc
 slices_step lower (i ∷ []) false t v up h = absurd cc
-slices_step lower (i ∷ j ∷ is) upper t v up h = elim (looked (has (stretch lower i j).span t) i.value (value_at step_value (slices_of true (j ∷ is) upper) t) v h) [
+slices_step lower (i ∷ j ∷ is) upper t v up h = elim (looked (has (stretch lower i j).span t) i.value (value_at steady_value (slices_of true (j ∷ is) upper) t) v h) [
   | inl s ↦
       let b = both (reaches lower i.instant t) (before t j.instant || (false && upto t j.instant)) s.0 in
       first_stretch lower upper i j is t v up b.0 (only (before t j.instant) b.1) s.1
@@ -207,7 +208,7 @@ first_begins {B} lower upper i j is t v up s ends =
       | inr later ↦ absurd (never_both t j.instant ends (upto_trans j.instant begun.0.instant t (rise_first j is begun.0 r.1 later) (reaches_upto lower begun.0.instant t begun.2)))
     ]
 
-pub step_slices : {B : Type 0} (lower : Bool) (is : List (Written B)) (upper : Bool) (t : Ratio) (v : B) → rises is ≡ true → StepAt lower is upper t v → value_at step_value (slices_of lower is upper) t ≡ Some v
+pub step_slices : {B : Type 0} (lower : Bool) (is : List (Written B)) (upper : Bool) (t : Ratio) (v : B) → rises is ≡ true → StepAt lower is upper t v → value_at steady_value (slices_of lower is upper) t ≡ Some v
 step_slices lower [] upper t v up s = absurd (none_in s.by s.last.listed)
 step_slices lower (i ∷ []) true t v up s =
     let o = only_one lower true i t v s in

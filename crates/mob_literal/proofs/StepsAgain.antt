@@ -11,28 +11,29 @@ use Rattle.mob_language.specs.Language.{Text}
 use Rattle.mob_slice.specs.declared.slice.Slice.{Slice}
 use Rattle.mob_slice.specs.declared.steady.Steady.{Steady}
 use Rattle.mob_slice.specs.Slices.{OfHead, Clear, AreNormal, IsNormalPair, value_at}
-use Rattle.mob_scalar.specs.Verdict.{Lit}
+use Rattle.mob_numeral.specs.Verdict.{Lit}
 use Rattle.mob_scalar.specs.Truth.{truth_text}
-use Rattle.mob_scalar.specs.NumberText.{number_text}
+use Rattle.mob_numeral.specs.NumberText.{number_text}
 use Rattle.mob_scalar.specs.Quoted.{quoted_text}
 use Rattle.std.proofs.lemmas.List.{length-map}
 use Rattle.std.proofs.lemmas.Bool.{and_parts as both, not-true as not_true}
-use Rattle.mob_scalar.proofs.Again.{number_plain, truth_plain}
+use Rattle.mob_numeral.proofs.Again.{number_plain}
+use Rattle.mob_scalar.proofs.TruthAgain.{truth_plain}
 use Rattle.mob_scalar.proofs.MomentAgain.{moment_plain}
-use Rattle.mob_literal.specs.declared.written.Written.{Written}
-use Rattle.mob_literal.specs.declared.written.Sequence.{Sequence}
-use Rattle.mob_literal.specs.Fitting.{fits, fitting}
-use Rattle.mob_literal.specs.Steps.{step_value}
+use Rattle.mob_written.specs.declared.written.Written.{Written}
+use Rattle.mob_written.specs.declared.written.Sequence.{Sequence}
+use Rattle.mob_written.specs.Fitting.{fits, fitting}
+use Rattle.mob_slice.specs.Operands.{steady_value}
 use Rattle.mob_literal.specs.Sound.{instant_count, traverse, written_of, fitting_sequence, fitting_all, is_sound, Defines, steps}
-use Rattle.mob_literal.specs.Printed.{is_long, groups_of, instants_of, steps_text}
-use Rattle.mob_literal.specs.Style.{style_of}
-use Rattle.mob_literal.specs.Values.{any_value, is_whole, truth_value, number_value, quoted_value}
+use Rattle.mob_written.specs.Printed.{is_long, groups_of, instants_of, steps_text}
+use Rattle.mob_written.specs.Style.{style_of}
+use Rattle.mob_written.specs.Values.{any_value, is_whole, truth_value, number_value, quoted_value}
 use Rattle.mob_literal.specs.Readable.{IsDated, IsReadable, instants_in, AnyTruth, IsInt, IsText}
 use Rattle.mob_literal.proofs.Listing.{first_in, later_in}
 use Rattle.mob_literal.proofs.FlatLemmas.{flat, Ordered, IsFlat, is_flat}
 use Rattle.mob_literal.proofs.GroupSlices.{Alls, start_of, more, sequence_of, are_groups, joined, HasAll, is_short, sound_groups, flat_values}
 use Rattle.mob_literal.proofs.GroupTexts.{note, noted_of_group, written_text, IsMomentSaid, IsSliceSaid, AreSaid, ArePoints, instants_are, printed_said}
-use Rattle.mob_literal.proofs.Small.{false_true, some_none}
+use Rattle.mob_written.proofs.Small.{false_true, some_none}
 
 -- ---- numbers that fit
 
@@ -114,7 +115,7 @@ step_again {B} day value text IsWritten has_value is_same exact say has slices r
     let in_groups : Ordered (joined groups) = subst Ordered (sym g.whole) ordered in
     let sound : is_sound has_value is_same (map sequence_of groups) ≡ true = sound_groups has_value is_same exact groups g.runs in_groups (subst (HasAll has_value is_same exact) (sym g.whole) values) in
     let its : IsFlat (map sequence_of groups) (flat (map sequence_of groups)) = is_flat has_value is_same (map sequence_of groups) sound in
-    let at : (t : Ratio) → value_at step_value (flat (map sequence_of groups)) t ≡ value_at step_value slices t = λ t. flat_values has_value is_same exact groups g.runs in_groups t ∙ ap (λ (x : List (Slice (Steady B))). value_at step_value x t) g.whole in
+    let at : (t : Ratio) → value_at steady_value (flat (map sequence_of groups)) t ≡ value_at steady_value slices t = λ t. flat_values has_value is_same exact groups g.runs in_groups t ∙ ap (λ (x : List (Slice (Steady B))). value_at steady_value x t) g.whole in
     let defined : Defines is_same (map sequence_of groups) slices = record { normal = r.normal; same = λ t v. ((λ e. (its.same t v).0 (at t ∙ e)), (λ l. sym (at t) ∙ (its.same t v).1 l)) } in
     let fit = groups_fit groups in (
       map noted_of_group groups,

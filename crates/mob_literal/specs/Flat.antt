@@ -4,8 +4,8 @@ use Rattle.std.specs.List.{list_all}
 use Rattle.mob_language.specs.Readers.{◌>>=◌}
 use Rattle.mob_slice.specs.declared.slice.Slice.{Slice}
 use Rattle.mob_slice.specs.declared.steady.Steady.{Steady}
-use Rattle.mob_literal.specs.declared.written.Written.{Written}
-use Rattle.mob_literal.specs.declared.written.Sequence.{Sequence}
+use Rattle.mob_written.specs.declared.written.Written.{Written}
+use Rattle.mob_written.specs.declared.written.Sequence.{Sequence}
 use Rattle.mob_literal.specs.Slices.{made}
 
 -- the slices of one sequence, where it is sound

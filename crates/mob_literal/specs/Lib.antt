@@ -1,15 +1,7 @@
 pub mod Steps
-pub mod Fitting
-pub mod Literal
-pub mod ValueText
-pub mod Values
 pub mod Slices
-pub mod Neighbours
 pub mod Sound
 pub mod Flat
-pub mod Printed
-pub mod Runs
-pub mod Style
 pub mod SqlText
 pub mod Fields
 pub mod Memory

@@ -8,8 +8,8 @@ use Rattle.mob_scalar.specs.MomentText.{HasDate}
 use Rattle.mob_slice.specs.declared.slice.Slice.{Slice}
 use Rattle.mob_slice.specs.declared.steady.Steady.{Steady}
 use Rattle.mob_slice.specs.Slices.{IsNormal}
-use Rattle.mob_literal.specs.Printed.{Style, groups_of, instants_of}
-use Rattle.mob_literal.specs.Style.{style_of}
+use Rattle.mob_written.specs.Printed.{Style, groups_of, instants_of}
+use Rattle.mob_written.specs.Style.{style_of}
 
 -- how many instants the groups print
 abbrev pub instants_in : {B : Type 0} → Style B → List (List (Slice (Steady B))) → ℕ

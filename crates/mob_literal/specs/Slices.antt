@@ -3,7 +3,7 @@ use Rattle.std.specs.Prelude.{List, [], ◌∷◌, Bool, true, false, cond, Opti
 use Rattle.mob_ratio.specs.Order.{before}
 use Rattle.mob_slice.specs.declared.slice.Slice.{Slice}
 use Rattle.mob_slice.specs.declared.steady.Steady.{Steady}
-use Rattle.mob_literal.specs.declared.written.Written.{Written}
+use Rattle.mob_written.specs.declared.written.Written.{Written}
 
 -- the value of one written instant, up to the next one
 abbrev pub stretch : {B : Type 0} → Bool → Written B → Written B → Slice (Steady B)

@@ -8,13 +8,14 @@ use Rattle.mob_language.specs.Readers.{◌>>=◌}
 use Rattle.mob_slice.specs.declared.slice.Slice.{Slice}
 use Rattle.mob_slice.specs.declared.steady.Steady.{Steady}
 use Rattle.mob_slice.specs.Slices.{value_at, IsNormal}
-use Rattle.mob_scalar.specs.Verdict.{TextForm}
-use Rattle.mob_literal.specs.declared.written.Written.{Written}
-use Rattle.mob_literal.specs.declared.written.Noted.{Noted}
-use Rattle.mob_literal.specs.declared.written.Sequence.{Sequence}
-use Rattle.mob_literal.specs.Neighbours.{all_neighbours}
-use Rattle.mob_literal.specs.Steps.{StepAt, rises, step_value}
-use Rattle.mob_literal.specs.Literal.{noted, temporal}
+use Rattle.mob_numeral.specs.Verdict.{TextForm}
+use Rattle.mob_written.specs.declared.written.Written.{Written}
+use Rattle.mob_written.specs.declared.written.Noted.{Noted}
+use Rattle.mob_written.specs.declared.written.Sequence.{Sequence}
+use Rattle.mob_written.specs.Neighbours.{all_neighbours}
+use Rattle.mob_slice.specs.Operands.{steady_value}
+use Rattle.mob_literal.specs.Steps.{StepAt, rises}
+use Rattle.mob_written.specs.Literal.{noted, temporal}
 
 -- how many instants the sequences have
 abbrev pub instant_count : {A : Type 0} → List (Sequence A) → ℕ
@@ -84,7 +85,7 @@ pub record LitAt {B : Type 0} (qs : List (Sequence (Written B))) (t : Ratio) (v 
 -- The slices are normal, and have at each instant the value that the sequences have there, and none where they have none.
 pub record Defines {B : Type 0} (is_same : B → B → Bool) (qs : List (Sequence (Written B))) (slices : List (Slice (Steady B))) : Type 0 where
   pub normal : IsNormal {C = Steady B} {B = B} (λ c. c.value) (λ c. c.value) (λ c d lower middle upper. is_same c.value d.value) slices
-  pub same : (t : Ratio) (v : B) → (value_at step_value slices t ≡ Some v) ↔ LitAt qs t v
+  pub same : (t : Ratio) (v : B) → (value_at steady_value slices t ≡ Some v) ↔ LitAt qs t v
 
 -- The sequences of the literals of a type of step values, with instants counted from a day, where each of their numbers fits.
 abbrev pub written_sequences : {B : Type 0} → ℤ → (Text → Option B → Type 0) → TextForm (List (Sequence (Noted B))) (List (Sequence (Written B)))

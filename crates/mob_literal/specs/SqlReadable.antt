@@ -7,7 +7,7 @@ use Rattle.mob_ast.specs.declared.types.SqlType.{SqlType}
 use Rattle.mob_ast.specs.declared.types.SqlType.TheVariants as sql
 use Rattle.mob_value.specs.declared.value.Value.{Value}
 use Rattle.mob_value.specs.declared.value.Value.TheVariants as value
-use Rattle.mob_scalar.specs.NumberText.{number_text}
+use Rattle.mob_numeral.specs.NumberText.{number_text}
 use Rattle.mob_scalar.specs.Truth.{truth_text}
 use Rattle.mob_scalar.specs.Quoted.{quoted_text}
 use Rattle.mob_literal.specs.Readable.{IsDated, IsReadable, AnyTruth, IsInt, IsText}

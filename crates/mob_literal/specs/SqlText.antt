@@ -7,18 +7,18 @@ use Rattle.mob_ast.specs.declared.types.SqlType.{SqlType}
 use Rattle.mob_ast.specs.declared.types.SqlType.TheVariants as sql
 use Rattle.mob_value.specs.declared.value.Value.{Value}
 use Rattle.mob_value.specs.declared.value.Value.TheVariants as value
-use Rattle.mob_scalar.specs.declared.fault.ReadText.{ReadText}
-use Rattle.mob_scalar.specs.Verdict.{TextForm, Lit}
-use Rattle.mob_scalar.specs.Numbers.{numbers, whole_numbers}
-use Rattle.mob_scalar.specs.NumberText.{number_text}
+use Rattle.mob_numeral.specs.declared.fault.ReadText.{ReadText}
+use Rattle.mob_numeral.specs.Verdict.{TextForm, Lit}
+use Rattle.mob_numeral.specs.Numbers.{numbers, whole_numbers}
+use Rattle.mob_numeral.specs.NumberText.{number_text}
 use Rattle.mob_scalar.specs.Moments.{moments}
 use Rattle.mob_scalar.specs.MomentText.{moment_text}
 use Rattle.mob_scalar.specs.Truth.{truths, truth_text}
 use Rattle.mob_scalar.specs.Quoted.{quoted_text}
 use Rattle.mob_literal.specs.Sound.{steps}
-use Rattle.mob_literal.specs.Values.{any_value, is_whole, truth_value, number_value, quoted_value}
-use Rattle.mob_literal.specs.Printed.{steps_text}
-use Rattle.mob_literal.specs.Style.{style_of}
+use Rattle.mob_written.specs.Values.{any_value, is_whole, truth_value, number_value, quoted_value}
+use Rattle.mob_written.specs.Printed.{steps_text}
+use Rattle.mob_written.specs.Style.{style_of}
 
 -- every text stands for itself
 abbrev pub texts : TextForm Text Text

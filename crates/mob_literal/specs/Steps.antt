@@ -5,12 +5,7 @@
 use Rattle.std.specs.Prelude.{◌≡◌, List, [], ◌∷◌, Contains, Bool, true, ◌&&◌, ◌||◌}
 use Rattle.mob_ratio.specs.Ratio.{Ratio}
 use Rattle.mob_ratio.specs.Order.{before, upto}
-use Rattle.mob_slice.specs.declared.steady.Steady.{Steady}
-use Rattle.mob_literal.specs.declared.written.Written.{Written}
-
--- the value of a step value at an instant, if it has one there
-abbrev pub step_value : {B : Type 0} → Steady B → Ratio → Ratio → Ratio → B
-step_value course lower upper t = course.value
+use Rattle.mob_written.specs.declared.written.Written.{Written}
 
 -- i is the last of the written instants that are not later than t
 pub record IsLastBy {B : Type 0} (instants : List (Written B)) (t : Ratio) (i : Written B) : Type 0 where

@@ -1,6 +1,6 @@
 //! Fields of table files, read and printed.
 ghost use Rattle.std.specs.Prelude.{◌≡◌, ◌≢◌, ◌∷◌, ◌++◌, true, false, Ok, Err, MatchOption, OnOk, OnErr, string_bytes};
-ghost use Rattle.mob_scalar.specs.declared.fault.ReadText.TheVariants.{NoMemory};
+ghost use Rattle.mob_numeral.specs.declared.fault.ReadText.TheVariants.{NoMemory};
 ghost use Rattle.mob_literal.specs.Memory.{takes_memory};
 ghost use Rattle.mob_literal.specs.SqlText.{SaysAs};
 ghost use Rattle.mob_literal.specs.Fields.{begins_with_backslash, doubled as with_backslash, undoubled as without_backslash, is_null_text as null_text, is_null_field, text_of_field, field_text};

@@ -3,15 +3,10 @@
 
 mod fields;
 pub mod laws;
-mod literal;
-mod neighbours;
-pub mod printing;
 mod sql;
 mod steps;
 pub mod temporal;
-pub mod values;
-pub mod written;
 
 pub use fields::{read_field, write_field};
-pub use literal::WrittenValue;
+pub use mob_written::{WrittenValue, printing, values, written};
 pub use sql::{read_value, write_value};

@@ -2,18 +2,18 @@
 ghost use Rattle.std.specs.Prelude.{◌≡◌, ◌≢◌, ◌++◌, Err, OnOk, OnErr, false, string_bytes};
 ghost use Rattle.mob_ratio.specs.Order.{same};
 ghost use Rattle.mob_slice.specs.Sameness.{same_bool, same_bytes};
-ghost use Rattle.mob_scalar.specs.Numbers.{numbers, whole_numbers};
+ghost use Rattle.mob_numeral.specs.Numbers.{numbers, whole_numbers};
 ghost use Rattle.mob_scalar.specs.Moments.{moments};
 ghost use Rattle.mob_scalar.specs.Truth.{truths};
-ghost use Rattle.mob_scalar.specs.declared.fault.ReadText.TheVariants.{NoMemory};
+ghost use Rattle.mob_numeral.specs.declared.fault.ReadText.TheVariants.{NoMemory};
 ghost use Rattle.mob_literal.specs.Memory.{takes_memory};
 ghost use Rattle.mob_literal.specs.Sound.{steps};
-ghost use Rattle.mob_literal.specs.Values.{any_value, is_whole, truth_value, number_value, quoted_value};
+ghost use Rattle.mob_written.specs.Values.{any_value, is_whole, truth_value, number_value, quoted_value};
 ghost use Rattle.mob_literal.specs.SqlText.{SaysInForm, SaysAs, texts, value_text};
 
-use crate::printing::write_steps;
+use mob_written::printing::write_steps;
 use crate::temporal::read_steps;
-use crate::values::{Texts, Truths, WholeNumbers};
+use mob_written::values::{Texts, Truths, WholeNumbers};
 use mob_ast::SqlType;
 use mob_list::text::Text;
 use mob_scalar::{

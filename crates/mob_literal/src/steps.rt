@@ -2,7 +2,7 @@
 ghost use Rattle.std.specs.Prelude.{◌≡◌, IfOk, option_map, true, false};
 ghost use Rattle.mob_literal.specs.Slices.{made};
 
-use crate::written::Written;
+use mob_written::written::Written;
 use mob_slice::{BaseValue, Slice, Steady};
 use mob_span::Span;
 use std::alloc::{AllocError, Global};

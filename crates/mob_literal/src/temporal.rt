@@ -1,14 +1,14 @@
 //! Temporal literals of the step types, read.
 ghost use Rattle.std.specs.Prelude.{◌≡◌, option_map, Option, Some, None, Ok, Err, IfOk, MatchResult, true};
 ghost use Rattle.std.specs.List.{list_all};
-ghost use Rattle.mob_scalar.specs.Verdict.{Lit};
+ghost use Rattle.mob_numeral.specs.Verdict.{Lit};
 ghost use Rattle.mob_literal.specs.Sound.{is_over_limit, traverse, written_of as written_in, fitting_sequence as fitting_in, fitting_all as all_fitting, clear_ends as ends_clear, is_before as precedes, are_in_order as in_order, written_sequences, steps};
 ghost use Rattle.mob_literal.specs.Flat.{made_sequence, made_all};
 
-use crate::literal::{WrittenValue, literal_of};
-use crate::neighbours::all_neighbours;
+use mob_written::{WrittenValue, literal_of};
+use mob_written::all_neighbours;
 use crate::steps::slices_of;
-use crate::written::{Noted, Sequence, Written};
+use mob_written::written::{Noted, Sequence, Written};
 use mob_list::items::Items;
 use mob_normal::normal;
 use mob_scalar::{Epoch, ReadText};

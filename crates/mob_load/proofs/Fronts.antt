@@ -1,34 +1,27 @@
 -- What was read of a file is its front.
-use Rattle.std.proofs.Common.{arith, ◌≡◌, ◌∙◌, ap, sym, subst, ℕ, ◌+◌, ◌≤◌, List, [], ◌++◌, length, take, Some, None, Ok, Err, Vec, Global, ℤ, inl, inr}
-use Rattle.std.specs.Prelude.{Option, Result, IfSome, IfOk}
-use Rattle.std.specs.declared.alloc.AllocError.{AllocError}
-use Rattle.std.specs.Io.KnownBytes.{Consumes, IsAtEnd}
+use Rattle.std.proofs.Common.{arith, ◌≡◌, ◌∙◌, ap, sym, subst, ℕ, ◌+◌, ◌≤◌, List, [], ◌++◌, length, take, Some, None, ℤ, inl, inr}
+use Rattle.std.specs.Prelude.{Option, IfSome}
 use Rattle.std.proofs.lemmas.Bool.{cases_lt}
 use Rattle.mob_value.specs.declared.value.Value.{Value}
 use Rattle.mob_catalog.specs.Faults.{FileFault}
 use Rattle.std.proofs.lemmas.List.{length-take, length-take-le, append-nil, take_all, take-append-le}
 use Rattle.mob_outside.specs.Told.{Contents, Opens}
-use Rattle.mob_streams.specs.Streams.{ReadsPart}
+use Rattle.mob_outside.specs.Streams.{ReadsPart, ReadsTo}
 use Rattle.mob_load.specs.Fronts.{IsFront, IsLeftOf}
 use Rattle.mob_catalog.specs.TableFile.{file_limit, Column, IsTable, FileFails}
 
--- what was read is as long as it may be
-pub read_full : (n : ℕ) (a b : Option (List ℕ)) (bytes : List ℕ) → Consumes a b bytes → length bytes ≡ n → IfSome a (λ whole. bytes ≡ take n whole)
-read_full n None b bytes taken full = tt
-read_full n (Some xs) None bytes taken full = absurd taken
-read_full n (Some xs) (Some ys) bytes taken full =
-    sym (take_all n bytes (omega arith)) ∙ sym (take-append-le n bytes ys (omega arith)) ∙ ap (take n) (sym taken)
-
--- nothing is left behind what was read
-pub read_whole : (n : ℕ) (a b c : Option (List ℕ)) (bytes buffer : List ℕ) (count : ℕ)
-    → Consumes a b bytes → Consumes b c (take count buffer) → IsAtEnd c → count ≡ 0 → length bytes ≤ n → IfSome a (λ whole. bytes ≡ take n whole)
-read_whole n None b c bytes buffer count taken last done none few = tt
-read_whole n (Some xs) None c bytes buffer count taken last done none few = absurd taken
-read_whole n (Some xs) (Some ys) None bytes buffer count taken last done none few = absurd last
-read_whole n (Some xs) (Some ys) (Some zs) bytes buffer count taken last done none few =
-    let empty : ys ≡ [] = last ∙ ap (λ (k : ℕ). take k buffer ++ zs) none ∙ done in
-    let is : xs ≡ bytes = taken ∙ ap (λ (w : List ℕ). bytes ++ w) empty ∙ append-nil bytes in
-    sym (take_all n bytes few) ∙ ap (take n) (sym is)
+-- what was read up to the limit, or to one byte past it, is the front
+read_front : (limit : ℕ) (a b : Option (List ℕ)) (bytes : List ℕ) → ReadsTo limit a b bytes → IfSome a (λ whole. bytes ≡ take (limit + 1) whole)
+read_front limit None b bytes reads = tt
+read_front limit (Some xs) None bytes reads = absurd reads.taken
+read_front limit (Some xs) (Some ys) bytes reads =
+    let bound : length bytes ≤ limit + 1 = reads.bound in elim (cases_lt (length bytes) (limit + 1)) [
+  | inl less ↦
+      let end : ys ≡ [] = reads.whole (omega arith) in
+      let is : xs ≡ bytes = reads.taken ∙ ap (λ (w : List ℕ). bytes ++ w) end ∙ append-nil bytes in
+      sym (take_all (limit + 1) bytes bound) ∙ ap (take (limit + 1)) (sym is)
+  | inr more ↦ sym (take_all (limit + 1) bytes bound) ∙ sym (take-append-le (limit + 1) bytes ys (omega arith)) ∙ ap (take (limit + 1)) (sym reads.taken)
+]
 
 opened_front : (name : List ℕ) (files : Option Contents) (left : Option (List ℕ)) (bytes : List ℕ)
     → Opens name files left → IfSome left (λ whole. bytes ≡ take (file_limit + 1) whole) → IfSome files (λ m. IsFront name m bytes)
@@ -42,11 +35,8 @@ file_left name None left now opens part = tt
 file_left name (Some m) None now opens part = cc
 file_left name (Some m) (Some whole) now opens part = (whole, sym opens.0, part)
 
-pub file_front : (name : List ℕ) (files : Option Contents) (left : Option (List ℕ)) (r : Result (Option (Vec ℕ Global)) AllocError)
-    → Opens name files left → IfOk r (λ o. IfSome o (λ v. IfSome left (λ whole. v.items ≡ take (file_limit + 1) whole))) → IfOk r (λ o. IfSome o (λ v. IfSome files (λ m. IsFront name m v.items)))
-file_front name files left (Err e) opens reads = tt
-file_front name files left (Ok None) opens reads = tt
-file_front name files left (Ok (Some v)) opens reads = opened_front name files left v.items opens reads
+pub file_front : (name : List ℕ) (files : Option Contents) (left now : Option (List ℕ)) (bytes : List ℕ) → Opens name files left → ReadsTo file_limit left now bytes → IfSome files (λ m. IsFront name m bytes)
+file_front name files left now bytes opens reads = opened_front name files left bytes opens (read_front file_limit left now bytes reads)
 
 -- a front that is no longer than it may be is the whole
 short_front : (n : ℕ) (xs : List ℕ) → length (take (n + 1) xs) ≤ n → take (n + 1) xs ≡ xs

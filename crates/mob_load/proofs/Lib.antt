@@ -1,10 +1,11 @@
 pub mod Asked
-pub mod EachMark
+pub mod EachCheckpoint
+mod Literals
 pub mod Examples
 pub mod Fronts
 pub mod Narrow
 pub mod Steps
 pub mod Values
 pub mod OneLoading
-pub mod Marks
+pub mod Checkpoints
 pub mod Written

@@ -9,17 +9,22 @@ use Rattle.mob_ast.specs.declared.refusal.Kind.{Kind}
 use Rattle.mob_ast.specs.declared.refusal.Kind.TheVariants as kind
 use Rattle.mob_ast.specs.declared.refusal.Refusal.{Refusal}
 use Rattle.mob_ast.specs.Trees.{StatementParts, RowParts, empty, create_table, create_index, insert, copy, select, explain}
-use Rattle.mob_typing.specs.declared.typed.ConstText.{ConstText}
-use Rattle.mob_typing.specs.Answers.{Mistake, ◌>>=◌, unless, found}
-use Rattle.mob_typing.specs.Names.{ColumnList, NameLists, table_of, has_entry, has_name, column_of}
-use Rattle.mob_typing.specs.Words.{type_named}
-use Rattle.mob_typing.specs.Selects.{TypedSelectParts, typed_select}
-use Rattle.mob_typing.specs.Statements.{ScriptOut, StatementOut, nothing, new_table, new_rows, rows_from, query, plan_of, Made, with_column, with_columns, with_table, made_table, made_index, typed_rows, inserted, good_delimiter, copied, keeping, asked, in_statement, or_refused, typed_statement, typed_from, typed_script, no_names}
+use Rattle.mob_typed.specs.declared.typed.ConstText.{ConstText}
+use Rattle.mob_expression.specs.Answers.{Mistake, ◌>>=◌, unless, found}
+use Rattle.mob_typed.specs.Statements.{ColumnList}
+use Rattle.mob_typing.specs.Names.{NameLists, table_of}
+use Rattle.mob_expression.specs.Names.{has_entry, column_of}
+use Rattle.mob_operators.specs.Table.{is_one_of}
+use Rattle.mob_expression.specs.Words.{type_named}
+use Rattle.mob_typed.specs.Selects.{TypedSelectParts}
+use Rattle.mob_typing.specs.Selects.{typed_select}
+use Rattle.mob_typed.specs.Statements.{ScriptOut, StatementOut, nothing, new_table, new_rows, rows_from, query, plan_of}
+use Rattle.mob_typing.specs.Statements.{Made, with_column, with_columns, with_table, made_table, made_index, typed_rows, inserted, good_delimiter, copied, keeping, asked, in_statement, or_refused, put_statement, typed_statement, typed_from, typed_script, no_names}
 use Rattle.mob_load.specs.Checks.{CheckParts, check_seen, literal, Checkpoint, checkpoints_of, checkpoints_from, stands_before, checks_up_to, in_order, checks_of}
 use Rattle.mob_load.specs.declared.check.Check.{Check}
 use Rattle.mob_load.specs.Loads.{Loaded, nothing_loaded, with_made_table as add_table, IsNarrow, AreNarrow, HasNarrow, columns_or_none}
-use Rattle.mob_load.proofs.EachMark.{each_mark}
-use Rattle.mob_typing.proofs.Rising.{each_both}
+use Rattle.mob_load.proofs.EachCheckpoint.{each_checkpoint}
+use Rattle.mob_typed.proofs.Rising.{each_both}
 
 -- what holds of each value that an answer can be
 on_bind : {A B : Type 0} (P : B → Type 0) (a : Result A Mistake) (f : A → Result B Mistake) → ((x : A) → a ≡ Ok x → (y : B) → f x ≡ Ok y → P y) → (y : B) → (a >>= f) ≡ Ok y → P y
@@ -76,7 +81,7 @@ table_narrow names name columns =
 index_narrow : (names : NameLists) (name table column : Word) (m : Made) → made_index names name table column ≡ Ok m → NarrowMade m
 index_narrow names name table column =
     on_bind NarrowMade (found kind.UnknownName table.place (table_of names.tables table.text)) _ (λ t is.
-    on_bind NarrowMade (unless (has_name names.indexes name.text) kind.Duplicate name.place) _ (λ u passed.
+    on_bind NarrowMade (unless (is_one_of names.indexes name.text) kind.Duplicate name.place) _ (λ u passed.
     on_bind NarrowMade (found kind.UnknownName column.place (column_of t.1 column.text)) _ (λ c found.
     on_bind NarrowMade _ _ (λ v typed m is. on_value Mistake NarrowMade _ m is tt))))
 
@@ -88,7 +93,7 @@ copy_narrow names table file delimiter =
 rows_narrow : (n : ℕ) (names : NameLists) (table : Word) (rows : List RowParts) (cs : List ConstText) (y : Made × List ConstText) → inserted n names table rows cs ≡ Ok y → NarrowStep y
 rows_narrow n names table rows cs =
     on_bind NarrowStep (found kind.UnknownName table.place (table_of names.tables table.text)) _ (λ t is.
-    on_bind NarrowStep (typed_rows n t.1 [] rows cs) _ (λ r typed y is.
+    on_bind NarrowStep (typed_rows n t.1 rows cs) _ (λ r typed y is.
     on_value Mistake NarrowStep (record { statement = new_rows t.0 r.0 (map (λ row. row.place) rows); names = names }, r.1) y is tt))
 
 query_narrow : (form : TypedSelectParts → StatementOut) → ((s : TypedSelectParts) → NarrowStatement (form s)) → (names : NameLists) (r : Result (TypedSelectParts × List ConstText) Mistake) (y : Made × List ConstText)
@@ -114,11 +119,17 @@ statement_on : (n : ℕ) (r : Result (Made × List ConstText) Mistake) (next : M
 statement_on n (Ok m) next out each is = each m refl is
 statement_on n (Err w) next out each is = cc
 
-statements_narrow : (n : ℕ) (names : NameLists) (done : List StatementOut) (ss : List StatementParts) (cs : List ConstText) (out : ScriptOut) → AllByRecursion NarrowStatement done → typed_from n names done ss cs ≡ Ok out → NarrowOut out
-statements_narrow n names done [] cs out all is = on_value Refusal NarrowOut (record { statements = done; consts = cs }) out is all
-statements_narrow n names done (s ∷ ss) cs out all is =
-    statement_on n (typed_statement n names s cs) (λ r. typed_from (n + 1) r.0.names (done ++ r.0.statement ∷ []) ss r.1) out
-    (λ m typed rest. statements_narrow (n + 1) m.0.names (done ++ m.0.statement ∷ []) ss m.1 out (each_both NarrowStatement done (m.0.statement ∷ []) all (statement_narrow n names s cs m typed, tt)) rest) is
+-- the others of a script by what holds of them
+others_on : (r : Result ScriptOut Refusal) (next : ScriptOut → Result ScriptOut Refusal) (out : ScriptOut) → ((x : ScriptOut) → r ≡ Ok x → next x ≡ Ok out → NarrowOut out) → or_refused r next ≡ Ok out → NarrowOut out
+others_on (Ok x) next out each is = each x refl is
+others_on (Err w) next out each is = cc
+
+statements_narrow : (n : ℕ) (names : NameLists) (ss : List StatementParts) (cs : List ConstText) (out : ScriptOut) → typed_from n names ss cs ≡ Ok out → NarrowOut out
+statements_narrow n names [] cs out is = on_value Refusal NarrowOut (record { statements = []; consts = cs }) out is tt
+statements_narrow n names (s ∷ ss) cs out is =
+    statement_on n (typed_statement n names s cs) (λ r. or_refused (typed_from (n + 1) r.0.names ss r.1) (λ o. Ok (put_statement r.0.statement o))) out
+    (λ m typed rest. others_on (typed_from (n + 1) m.0.names ss m.1) (λ o. Ok (put_statement m.0.statement o)) out
+    (λ o later same. on_value Refusal NarrowOut (put_statement m.0.statement o) out same (statement_narrow n names s cs m typed, statements_narrow (n + 1) m.0.names ss m.1 o later)) rest) is
 
 -- the checks of narrow statements are narrow
 literals_narrow : (cs : List ConstText) → AreNarrow (map literal cs)
@@ -134,25 +145,25 @@ module _ (next : List ConstText → List CheckParts) (narrow : (cs : List ConstT
   up_to_narrow [] = (own, narrow [])
   up_to_narrow (c ∷ cs) = choice (stands_before c m.statement m.place) c cs (up_to_narrow cs) refl
 
-abbrev IsNarrowMark : Checkpoint → Type 0
-IsNarrowMark m = IsNarrow m.check
+abbrev IsNarrowCheckpoint : Checkpoint → Type 0
+IsNarrowCheckpoint m = IsNarrow m.check
 
-abbrev NarrowMarks : List Checkpoint → Type 0
-NarrowMarks ms = AllByRecursion IsNarrowMark ms
+abbrev NarrowCheckpoints : List Checkpoint → Type 0
+NarrowCheckpoints ms = AllByRecursion IsNarrowCheckpoint ms
 
-order_narrow : (ms : List Checkpoint) → NarrowMarks ms → (cs : List ConstText) → AreNarrow (in_order ms cs)
+order_narrow : (ms : List Checkpoint) → NarrowCheckpoints ms → (cs : List ConstText) → AreNarrow (in_order ms cs)
 order_narrow [] all cs = literals_narrow cs
 order_narrow (m ∷ ms) all cs = up_to_narrow (in_order ms) (order_narrow ms all.1) m all.0 cs
 
-marks_narrow : (n : ℕ) (s : StatementOut) → NarrowStatement s → NarrowMarks (checkpoints_of n s)
-marks_narrow n s narrow = each_mark IsNarrowMark n (λ t p. tt) (λ t name. tt) s (λ t name columns is. subst NarrowStatement is narrow)
+checkpoints_narrow : (n : ℕ) (s : StatementOut) → NarrowStatement s → NarrowCheckpoints (checkpoints_of n s)
+checkpoints_narrow n s narrow = each_checkpoint IsNarrowCheckpoint n (λ t p. tt) (λ t name. tt) s (λ t name columns is. subst NarrowStatement is narrow)
 
-all_marks_narrow : (n : ℕ) (ss : List StatementOut) → AllByRecursion NarrowStatement ss → NarrowMarks (checkpoints_from n ss)
-all_marks_narrow n [] all = tt
-all_marks_narrow n (s ∷ ss) all = each_both IsNarrowMark (checkpoints_of n s) (checkpoints_from (n + 1) ss) (marks_narrow n s all.0) (all_marks_narrow (n + 1) ss all.1)
+all_checkpoints_narrow : (n : ℕ) (ss : List StatementOut) → AllByRecursion NarrowStatement ss → NarrowCheckpoints (checkpoints_from n ss)
+all_checkpoints_narrow n [] all = tt
+all_checkpoints_narrow n (s ∷ ss) all = each_both IsNarrowCheckpoint (checkpoints_of n s) (checkpoints_from (n + 1) ss) (checkpoints_narrow n s all.0) (all_checkpoints_narrow (n + 1) ss all.1)
 
 pub script_narrow : (ss : List StatementParts) (out : ScriptOut) → typed_script ss ≡ Ok out → AreNarrow (checks_of out)
-script_narrow ss out is = order_narrow (checkpoints_from 1 out.statements) (all_marks_narrow 1 out.statements (statements_narrow 1 no_names [] ss [] out tt is)) out.consts
+script_narrow ss out is = order_narrow (checkpoints_from 1 out.statements) (all_checkpoints_narrow 1 out.statements (statements_narrow 1 no_names ss [] out is)) out.consts
 
 -- one of narrow checks
 pub check_narrow : (all : List Check) (i : ℕ) (d : Check) → AreNarrow (map check_seen all) → i < length all → IsNarrow (check_seen (get_or all i d))

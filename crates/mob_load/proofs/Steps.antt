@@ -5,8 +5,8 @@ use Rattle.std.proofs.lemmas.List.{append-nil}
 use Rattle.mob_ast.specs.declared.refusal.Kind.{Kind}
 use Rattle.mob_outside.specs.Faults.{Rose}
 use Rattle.mob_outside.specs.Told.{Contents, file_of, KeepsFiles, MayAskFor}
-use Rattle.mob_typing.specs.Names.{ColumnList}
-use Rattle.mob_typing.specs.Statements.{ScriptOut}
+use Rattle.mob_typed.specs.Statements.{ColumnList}
+use Rattle.mob_typed.specs.Statements.{ScriptOut}
 use Rattle.mob_load.specs.declared.program.Program.{Program}
 use Rattle.mob_load.specs.Checks.{CheckParts, checks_of}
 use Rattle.mob_load.specs.Fronts.{AsksForSome, IsFront}
@@ -18,36 +18,36 @@ use Rattle.mob_load.specs.declared.program.LoadEnd.{LoadEnd}
 use Rattle.mob_load.specs.declared.program.LoadEnd.TheVariants.{Refused, TableRefused, ReadFault, NoMemory}
 
 -- a file that is refused
-pub poured_wrong : (day : ℤ) (t : ℕ) (name copy bytes : List ℕ) (l : Loaded) (columns : ColumnList) (room rec field : ℕ) (k : Kind)
+pub file_refused : (day : ℤ) (t : ℕ) (name copy bytes : List ℕ) (l : Loaded) (columns : ColumnList) (room rec field : ℕ) (k : Kind)
     → FileFails columns day room bytes (file_fault k rec field) → columns ≡ loaded_columns l t → room ≡ greatest_rows - loaded_row_count l t → copy ≡ name
     → LoadsFile day t name l (Some bytes) (Err (table_refused copy k rec field))
-poured_wrong day t name copy bytes l columns room rec field k fails p q same = (
+file_refused day t name copy bytes l columns room rec field k fails p q same = (
   file_fault k rec field,
   subst (λ (cs : ColumnList). FileFails cs day (greatest_rows - loaded_row_count l t) bytes (file_fault k rec field)) p (subst (λ (n : ℕ). FileFails columns day n bytes (file_fault k rec field)) q fails),
   ap (λ (n : List ℕ). table_refused n k rec field) same,
 )
 
 -- what holds of an answer, by what holds of what it says
-pub gives_on : {A : Type 0} (P Q : Result Loaded Halt → Type 0) → ((x : Result Loaded Halt) → P x → Q x) → (r : Result A LoadEnd) (after : Loaded) → LoadsTo r after P → LoadsTo r after Q
-gives_on P Q f (Ok x) after h = f (Ok after) h
-gives_on P Q f (Err (Refused e)) after h = f (Err (refused e)) h
-gives_on P Q f (Err (TableRefused n k rec field)) after h = f (Err (table_refused n k rec field)) h
-gives_on P Q f (Err (ReadFault n)) after h = tt
-gives_on P Q f (Err NoMemory) after h = tt
+pub loads_on : {A : Type 0} (P Q : Result Loaded Halt → Type 0) → ((x : Result Loaded Halt) → P x → Q x) → (r : Result A LoadEnd) (after : Loaded) → LoadsTo r after P → LoadsTo r after Q
+loads_on P Q f (Ok x) after h = f (Ok after) h
+loads_on P Q f (Err (Refused e)) after h = f (Err (refused e)) h
+loads_on P Q f (Err (TableRefused n k rec field)) after h = f (Err (table_refused n k rec field)) h
+loads_on P Q f (Err (ReadFault n)) after h = tt
+loads_on P Q f (Err NoMemory) after h = tt
 
 -- what the front of a file says, the file says
-whole_poured : (day : ℤ) (t : ℕ) (name whole : List ℕ) (l : Loaded) (x : Result Loaded Halt)
+whole_loads : (day : ℤ) (t : ℕ) (name whole : List ℕ) (l : Loaded) (x : Result Loaded Halt)
     → LoadsFile day t name l (Some (take (file_limit + 1) whole)) x → LoadsFile day t name l (Some whole) x
-whole_poured day t name whole l (Ok m) h = (h.0, table_front (loaded_columns l t) day (greatest_rows - loaded_row_count l t) whole h.0 h.1, h.2)
-whole_poured day t name whole l (Err e) h = (h.0, fails_front (loaded_columns l t) day (greatest_rows - loaded_row_count l t) whole h.0 h.1, h.2)
+whole_loads day t name whole l (Ok m) h = (h.0, table_front (loaded_columns l t) day (greatest_rows - loaded_row_count l t) whole h.0 h.1, h.2)
+whole_loads day t name whole l (Err e) h = (h.0, fails_front (loaded_columns l t) day (greatest_rows - loaded_row_count l t) whole h.0 h.1, h.2)
 
-pub file_poured : {A : Type 0} (day : ℤ) (t : ℕ) (name bytes : List ℕ) (l : Loaded) (files : Option Contents) (r : Result A LoadEnd) (after : Loaded)
+pub file_loads : {A : Type 0} (day : ℤ) (t : ℕ) (name bytes : List ℕ) (l : Loaded) (files : Option Contents) (r : Result A LoadEnd) (after : Loaded)
     → IfSome files (λ m. IsFront name m bytes) → LoadsTo r after (LoadsFile day t name l (Some bytes)) → IfSome files (λ m. LoadsTo r after (LoadsFile day t name l (file_of name m)))
-file_poured day t name bytes l None r after is gives = tt
-file_poured day t name bytes l (Some m) r after is gives =
-    gives_on (LoadsFile day t name l (Some bytes)) (LoadsFile day t name l (file_of name m))
+file_loads day t name bytes l None r after is gives = tt
+file_loads day t name bytes l (Some m) r after is gives =
+    loads_on (LoadsFile day t name l (Some bytes)) (LoadsFile day t name l (file_of name m))
     (λ x h. subst (λ (o : Option (List ℕ)). LoadsFile day t name l o x) (sym is.1)
-    (whole_poured day t name is.0 l x (subst (λ (b : List ℕ). LoadsFile day t name l (Some b) x) is.2 h)))
+    (whole_loads day t name is.0 l x (subst (λ (b : List ℕ). LoadsFile day t name l (Some b) x) is.2 h)))
     r after gives
 
 -- a file that may have been asked for
@@ -91,10 +91,10 @@ module _ (day : ℤ) (all : List CheckParts) where
     stops files NoMemory left fails at = tt
 
 -- a check that passes
-pub check_passes : (day : ℤ) (all : List CheckParts) (told now : Option Contents) → KeepsFiles told now → (rest others : List CheckParts) (c : CheckParts) → rest ≡ c ∷ others → (l m : Loaded)
+pub check_loads : (day : ℤ) (all : List CheckParts) (told now : Option Contents) → KeepsFiles told now → (rest others : List CheckParts) (c : CheckParts) → rest ≡ c ∷ others → (l m : Loaded)
     → IfSome told (λ f. IsLeft day f all rest l) → IfSome now (λ f. LoadsCheck day f c l (Ok m)) → IfSome told (λ f. IsLeft day f all others m)
-check_passes day all None now kept rest others c is l m left passes = tt
-check_passes day all (Some f) now kept rest others c is l m left passes =
+check_loads day all None now kept rest others c is l m left passes = tt
+check_loads day all (Some f) now kept rest others c is l m left passes =
     left_on day all (Some f) now kept rest others c is l m f (next day all (Some f) now kept rest others c is l m f left)
     (subst (λ (o : Option Contents). IfSome o (λ f. LoadsCheck day f c l (Ok m))) kept passes)
 

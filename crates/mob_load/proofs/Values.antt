@@ -5,13 +5,13 @@ use Rattle.std.specs.List.{AllByRecursion, AllZip}
 use Rattle.mob_value.specs.declared.value.Value.{Value}
 use Rattle.mob_outside.specs.Told.{Contents, file_of}
 use Rattle.mob_catalog.specs.Constants.{IsConstant}
-use Rattle.mob_typing.specs.declared.typed.ConstText.{ConstText}
-use Rattle.mob_typing.specs.Statements.{StatementOut}
+use Rattle.mob_typed.specs.declared.typed.ConstText.{ConstText}
+use Rattle.mob_typed.specs.Statements.{StatementOut}
 use Rattle.mob_load.specs.declared.program.Program.{Program}
 use Rattle.mob_load.specs.Checks.{CheckParts, literal, table, room, file, Checkpoint, checkpoints_of, checkpoints_from, stands_before, checks_up_to, in_order, checks_of}
 use Rattle.mob_load.specs.Loads.{Loaded, Halt, Loads, LoadsCheck, LoadsFile, literal_of, literals_in, ContinuesBy, one_row, greatest_rows, loaded_row_count, nothing_loaded, LooksAtLiterals, ProgramHasValues}
-use Rattle.mob_load.proofs.EachMark.{each_mark}
-use Rattle.mob_typing.proofs.Rising.{each_both}
+use Rattle.mob_load.proofs.EachCheckpoint.{each_checkpoint}
+use Rattle.mob_typed.proofs.Rising.{each_both}
 
 -- checkpoints that are no literals
 abbrev IsNoLiteral : Checkpoint → Type 0
@@ -40,12 +40,12 @@ order_literals : (ms : List Checkpoint) → NoLiterals ms → (cs : List ConstTe
 order_literals [] none cs = literals_all cs
 order_literals (m ∷ ms) none cs = up_to_literals (in_order ms) (order_literals ms none.1) m none.0 cs
 
-no_marks : (n : ℕ) (s : StatementOut) → NoLiterals (checkpoints_of n s)
-no_marks n s = each_mark IsNoLiteral n (λ t p. refl) (λ t name. refl) s (λ t name columns is. refl)
+no_checkpoints : (n : ℕ) (s : StatementOut) → NoLiterals (checkpoints_of n s)
+no_checkpoints n s = each_checkpoint IsNoLiteral n (λ t p. refl) (λ t name. refl) s (λ t name columns is. refl)
 
 pub no_all : (n : ℕ) (ss : List StatementOut) → NoLiterals (checkpoints_from n ss)
 no_all n [] = tt
-no_all n (s ∷ ss) = each_both IsNoLiteral (checkpoints_of n s) (checkpoints_from (n + 1) ss) (no_marks n s) (no_all (n + 1) ss)
+no_all n (s ∷ ss) = each_both IsNoLiteral (checkpoints_of n s) (checkpoints_from (n + 1) ss) (no_checkpoints n s) (no_all (n + 1) ss)
 
 pub looked_at : LooksAtLiterals
 looked_at out = order_literals (checkpoints_from 1 out.statements) (no_all 1 out.statements) out.consts

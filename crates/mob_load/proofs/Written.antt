@@ -3,19 +3,19 @@ use Rattle.std.proofs.Common.{◌≡◌, ◌∙◌, refl, sym, ap, subst, arith,
 use Rattle.std.specs.Prelude.{◌⊎◌, ◌==◌, ◌&&◌, ◌||◌, filter, nat_lt}
 use Rattle.std.specs.List.{AllByRecursion}
 use Rattle.std.proofs.lemmas.Bool.{eqb-true, ltb-true, lt-ltb}
-use Rattle.mob_typing.specs.declared.typed.ConstText.{ConstText}
-use Rattle.mob_typing.specs.Statements.{StatementOut, nothing, new_table, new_index, new_rows, rows_from, query, plan_of}
+use Rattle.mob_typed.specs.declared.typed.ConstText.{ConstText}
+use Rattle.mob_typed.specs.Statements.{StatementOut, nothing, new_table, new_index, new_rows, rows_from, query, plan_of}
 use Rattle.mob_load.specs.Checks.{CheckParts, literal, Checkpoint, bracket, checkpoints_of, checkpoints_from, stands_before, checks_up_to, in_order}
 use Rattle.mob_load.specs.Loads.{literal_of}
-use Rattle.mob_typing.specs.Written.{HasRisingRows, IsUpTo, LiteralUpTo, Rises}
+use Rattle.mob_typed.specs.Written.{HasRisingRows, IsUpTo, LiteralUpTo, Rises}
 use Rattle.mob_load.specs.Order.{IsCutAt, LooksInOrder}
-use Rattle.mob_typing.proofs.Rising.{both_rise, each_both, each_map, each_on, one_of}
-use Rattle.mob_load.proofs.EachMark.{each_mark}
-use Rattle.mob_load.proofs.Marks.{own_mark}
+use Rattle.mob_typed.proofs.Rising.{both_rise, each_both, each_map, each_on, one_of}
+use Rattle.mob_load.proofs.EachCheckpoint.{each_checkpoint}
+use Rattle.mob_load.proofs.Checkpoints.{own_checkpoint}
 use Rattle.mob_load.proofs.Values.{NoLiterals, no_all}
 
-abbrev MarkUpTo : Checkpoint → Checkpoint → Type 0
-MarkUpTo m k = IsUpTo m.statement m.place k.statement k.place
+abbrev CheckpointUpTo : Checkpoint → Checkpoint → Type 0
+CheckpointUpTo m k = IsUpTo m.statement m.place k.statement k.place
 
 -- a place that is not behind another stands before all that the other stands before
 stands_too : (a n p : ℕ) (b k q : ℕ) → IsUpTo a b k q → ((k < n) ⊎ ((k ≡ n) × (q < p))) → (a < n) ⊎ ((a ≡ n) × (b < p))
@@ -54,8 +54,8 @@ earlier_stands : (c d : ConstText) (n p : ℕ) → LiteralUpTo c d → stands_be
 earlier_stands c d n p h is = stands_test c.statement c.place n p (stands_too c.statement n p c.place d.statement d.place h (stands_says d.statement d.place n p is))
 
 -- what stands before a checkpoint stands before each that is not behind it
-mark_stands : (c : ConstText) (m k : Checkpoint) → MarkUpTo m k → stands_before c m.statement m.place ≡ true → stands_before c k.statement k.place ≡ true
-mark_stands c m k h is = stands_test c.statement c.place k.statement k.place (later c.statement c.place (stands_says c.statement c.place m.statement m.place is))
+checkpoint_stands : (c : ConstText) (m k : Checkpoint) → CheckpointUpTo m k → stands_before c m.statement m.place ≡ true → stands_before c k.statement k.place ≡ true
+checkpoint_stands c m k h is = stands_test c.statement c.place k.statement k.place (later c.statement c.place (stands_says c.statement c.place m.statement m.place is))
   where
     later : (a b : ℕ) → (a < m.statement) ⊎ ((a ≡ m.statement) × (b < m.place)) → (a < k.statement) ⊎ ((a ≡ k.statement) × (b < k.place))
     later a b (inl g) = elim h [
@@ -99,7 +99,7 @@ module _ (m : Checkpoint) where
     cut_here [] rises = record { first = []; last = next []; parts = refl; checkpoints = refl; read = refl }
     cut_here (c ∷ cs) rises = choice_here (stands_before c m.statement m.place) c cs rises (cut_here cs rises.1) refl
 
-    module _ (k : Checkpoint) (none : literal_of k.check ≡ []) (to : MarkUpTo k m) (before : List Checkpoint) (cut_next : (cs : List ConstText) → Rises LiteralUpTo cs → IsCutAt (next cs) before m cs) where
+    module _ (k : Checkpoint) (none : literal_of k.check ≡ []) (to : CheckpointUpTo k m) (before : List Checkpoint) (cut_next : (cs : List ConstText) → Rises LiteralUpTo cs → IsCutAt (next cs) before m cs) where
       behind : (cs : List ConstText) → Rises LiteralUpTo cs → IsCutAt (k.check ∷ next cs) (k ∷ before) m cs
       behind cs rises =
           let cut = cut_next cs rises in
@@ -107,7 +107,7 @@ module _ (m : Checkpoint) where
             first = k.check ∷ cut.first;
             last = cut.last;
             parts = ap (λ (l : List CheckParts). k.check ∷ l) cut.parts;
-            checkpoints = rw (own_mark k.check none) (ap (λ (l : List CheckParts). k.check ∷ l) cut.checkpoints);
+            checkpoints = rw (own_checkpoint k.check none) (ap (λ (l : List CheckParts). k.check ∷ l) cut.checkpoints);
             read = rw none cut.read;
           }
 
@@ -118,7 +118,7 @@ module _ (m : Checkpoint) where
         last = cut.last;
         parts = ap (λ (l : List CheckParts). literal c ∷ l) cut.parts;
         checkpoints = cut.checkpoints;
-        read = rw (mark_stands c k m to is) (ap (λ (l : List ConstText). c ∷ l) cut.read);
+        read = rw (checkpoint_stands c k m to is) (ap (λ (l : List ConstText). c ∷ l) cut.read);
       })
       choice_later false c cs rises cut is = rw is (behind (c ∷ cs) rises)
 
@@ -127,17 +127,17 @@ module _ (m : Checkpoint) where
       cut_later [] rises = behind [] rises
       cut_later (c ∷ cs) rises = choice_later (stands_before c k.statement k.place) c cs rises (cut_later cs rises.1) refl
 
-cut_at : (before after : List Checkpoint) (m : Checkpoint) → NoLiterals (before ++ m ∷ after) → Rises MarkUpTo (before ++ m ∷ after) → (cs : List ConstText) → Rises LiteralUpTo cs → IsCutAt (in_order (before ++ m ∷ after) cs) before m cs
+cut_at : (before after : List Checkpoint) (m : Checkpoint) → NoLiterals (before ++ m ∷ after) → Rises CheckpointUpTo (before ++ m ∷ after) → (cs : List ConstText) → Rises LiteralUpTo cs → IsCutAt (in_order (before ++ m ∷ after) cs) before m cs
 cut_at [] after m none rises cs written = cut_here m (in_order after) cs written
 cut_at (k ∷ before) after m none rises cs written =
-    cut_later m (in_order (before ++ m ∷ after)) k none.0 (one_of (MarkUpTo k) before after m rises.0) before (λ ds later. cut_at before after m none.1 rises.1 ds later) cs written
+    cut_later m (in_order (before ++ m ∷ after)) k none.0 (one_of (CheckpointUpTo k) before after m rises.0) before (λ ds later. cut_at before after m none.1 rises.1 ds later) cs written
 
 -- the checkpoints of a script that is written in order rise
-brackets_rise : (t n : ℕ) (places : List ℕ) → Rises (λ p q. p ≤ q) places → Rises MarkUpTo (map (bracket t n) places)
+brackets_rise : (t n : ℕ) (places : List ℕ) → Rises (λ p q. p ≤ q) places → Rises CheckpointUpTo (map (bracket t n) places)
 brackets_rise t n [] h = tt
-brackets_rise t n (p ∷ ps) h = (each_map (λ q. p ≤ q) (MarkUpTo (bracket t n p)) (bracket t n) (λ q le. inr (refl, le)) ps h.0, brackets_rise t n ps h.1)
+brackets_rise t n (p ∷ ps) h = (each_map (λ q. p ≤ q) (CheckpointUpTo (bracket t n p)) (bracket t n) (λ q le. inr (refl, le)) ps h.0, brackets_rise t n ps h.1)
 
-own_rise : (n : ℕ) (s : StatementOut) → HasRisingRows s → Rises MarkUpTo (checkpoints_of n s)
+own_rise : (n : ℕ) (s : StatementOut) → HasRisingRows s → Rises CheckpointUpTo (checkpoints_of n s)
 own_rise n nothing h = tt
 own_rise n (new_table t name columns) h = (tt, tt)
 own_rise n (new_index t c name) h = tt
@@ -154,7 +154,7 @@ abbrev StandsFrom : ℕ → Checkpoint → Type 0
 StandsFrom n m = n ≤ m.statement
 
 own_stand : (n : ℕ) (s : StatementOut) → AllByRecursion (StandsIn n) (checkpoints_of n s)
-own_stand n s = each_mark (StandsIn n) n (λ t p. refl) (λ t name. refl) s (λ t name columns is. refl)
+own_stand n s = each_checkpoint (StandsIn n) n (λ t p. refl) (λ t name. refl) s (λ t name columns is. refl)
 
 all_stand : (n : ℕ) (ss : List StatementOut) → AllByRecursion (StandsFrom n) (checkpoints_from n ss)
 all_stand n [] = tt
@@ -163,12 +163,12 @@ all_stand n (s ∷ ss) =
     (each_on (StandsIn n) (StandsFrom n) (λ m is. omega arith) (checkpoints_of n s) (own_stand n s))
     (each_on (StandsFrom (n + 1)) (StandsFrom n) (λ m le. omega arith) (checkpoints_from (n + 1) ss) (all_stand (n + 1) ss))
 
-all_rise : (n : ℕ) (ss : List StatementOut) → AllByRecursion HasRisingRows ss → Rises MarkUpTo (checkpoints_from n ss)
+all_rise : (n : ℕ) (ss : List StatementOut) → AllByRecursion HasRisingRows ss → Rises CheckpointUpTo (checkpoints_from n ss)
 all_rise n [] h = tt
-all_rise n (s ∷ ss) h = both_rise MarkUpTo (λ m. m.statement) (λ x y earlier. inl earlier) n (checkpoints_of n s) (checkpoints_from (n + 1) ss) (own_rise n s h.0) (own_stand n s) (all_rise (n + 1) ss h.1) (all_stand (n + 1) ss)
+all_rise n (s ∷ ss) h = both_rise CheckpointUpTo (λ m. m.statement) (λ x y earlier. inl earlier) n (checkpoints_of n s) (checkpoints_from (n + 1) ss) (own_rise n s h.0) (own_stand n s) (all_rise (n + 1) ss h.1) (all_stand (n + 1) ss)
 
 pub looks_in_order : LooksInOrder
 looks_in_order out written before after m is =
     let none = subst NoLiterals is (no_all 1 out.statements) in
-    let rises = subst (Rises MarkUpTo) is (all_rise 1 out.statements written.rows) in
+    let rises = subst (Rises CheckpointUpTo) is (all_rise 1 out.statements written.rows) in
     subst (λ ms. IsCutAt (in_order ms out.consts) before m out.consts) (sym is) (cut_at before after m none rises out.consts written.literals)

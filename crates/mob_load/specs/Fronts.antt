@@ -2,7 +2,7 @@
 use Rattle.std.specs.Prelude.{◌≡◌, ◌⊎◌, ◌≤◌, ◌+◌, ◌++◌, ⊤, ℕ, List, take, length, slice_get, Option, Some, None}
 use Rattle.mob_catalog.specs.TableFile.{file_limit}
 use Rattle.mob_outside.specs.Told.{Contents, file_of}
-use Rattle.mob_streams.specs.Streams.{ReadsPart}
+use Rattle.mob_outside.specs.Streams.{ReadsPart}
 
 -- the front of the file with this name, up to one byte past the most
 abbrev pub IsFront : List ℕ → Contents → List ℕ → Type 0

@@ -5,16 +5,17 @@ use Rattle.mob_ast.specs.declared.refusal.Kind.{Kind}
 use Rattle.mob_ast.specs.declared.refusal.Kind.TheVariants as kind
 use Rattle.mob_ast.specs.declared.refusal.Refusal.{Refusal}
 use Rattle.mob_value.specs.declared.value.Value.{Value}
-use Rattle.mob_scalar.specs.declared.fault.ReadText.{ReadText}
+use Rattle.mob_numeral.specs.declared.fault.ReadText.{ReadText}
 use Rattle.mob_literal.specs.SqlText.{SaysAs}
 use Rattle.mob_outside.specs.Faults.{Rose}
 use Rattle.mob_outside.specs.Told.{Contents, file_of}
 use Rattle.mob_catalog.specs.Constants.{IsConstant, at_constant}
 use Rattle.mob_catalog.specs.Faults.{IsRefusedAs, FileFault}
 use Rattle.mob_catalog.specs.TableFile.{IsTable, FileFails}
-use Rattle.mob_typing.specs.declared.typed.ConstText.{ConstText}
-use Rattle.mob_typing.specs.Names.{ColumnList}
-use Rattle.mob_typing.specs.Statements.{ScriptOut, StatementOut, rows_from, typed_script}
+use Rattle.mob_typed.specs.declared.typed.ConstText.{ConstText}
+use Rattle.mob_typed.specs.Statements.{ColumnList}
+use Rattle.mob_typed.specs.Statements.{ScriptOut, StatementOut, rows_from}
+use Rattle.mob_typing.specs.Statements.{typed_script}
 use Rattle.mob_ast.specs.Trees.{StatementParts}
 use Rattle.mob_load.specs.Checks.{CheckParts, literal, table, room, file, checks_of}
 use Rattle.mob_load.specs.Fronts.{IsAskedLast}

@@ -1,9 +1,9 @@
 -- The order in which a script is looked at.
 use Rattle.std.specs.Prelude.{◌≡◌, ◌++◌, ◌∷◌, List, [], map, filter}
 use Rattle.std.specs.List.{flat_map}
-use Rattle.mob_typing.specs.declared.typed.ConstText.{ConstText}
-use Rattle.mob_typing.specs.Statements.{ScriptOut}
-use Rattle.mob_typing.specs.Written.{IsWritten}
+use Rattle.mob_typed.specs.declared.typed.ConstText.{ConstText}
+use Rattle.mob_typed.specs.Statements.{ScriptOut}
+use Rattle.mob_typed.specs.Written.{IsWritten}
 use Rattle.mob_load.specs.Checks.{CheckParts, Checkpoint, literal, checkpoints_from, checks_of, stands_before}
 use Rattle.mob_load.specs.Loads.{literals_in}
 

@@ -1,7 +1,7 @@
 -- Loading has one outcome.
 use Rattle.std.specs.Prelude.{◌≡◌, ℤ, List, Result}
 use Rattle.mob_outside.specs.Told.{Contents}
-use Rattle.mob_typing.specs.Statements.{ScriptOut}
+use Rattle.mob_typed.specs.Statements.{ScriptOut}
 use Rattle.mob_load.specs.Checks.{CheckParts}
 use Rattle.mob_load.specs.Loads.{Halt, Loaded, Loads, LoadsScript}
 use Rattle.mob_load.specs.declared.program.Program.{Program}

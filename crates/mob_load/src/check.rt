@@ -2,7 +2,7 @@
 
 use mob_ast::SqlType;
 use mob_list::text::Text;
-use mob_typing::ConstText;
+use mob_typed::ConstText;
 
 /// What is looked at before a script runs.
 #[derive(Clone, Copy)]

@@ -2,12 +2,12 @@
 #![tactic(auto)]
 
 mod check;
+mod checking;
 mod file;
 pub mod laws;
 mod loading;
 mod order;
 pub mod order_laws;
-mod passing;
 mod program;
 mod script;
 

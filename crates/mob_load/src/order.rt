@@ -1,11 +1,11 @@
 // What is looked at before a script runs, in written order.
 ghost use Rattle.std.specs.Prelude.{◌≡◌, ◌++◌, ◌∷◌, [], List, IfOk, drop, map};
-ghost use Rattle.mob_typing.specs.declared.typed.ConstText.{ConstText};
-ghost use Rattle.mob_typing.specs.Statements.{script_seen, statement_seen};
+ghost use Rattle.mob_typed.specs.declared.typed.ConstText.{ConstText};
+ghost use Rattle.mob_typed.specs.Statements.{script_seen, statement_seen};
 ghost use Rattle.mob_load.specs.Checks.{CheckParts, Checkpoint, check_seen, checkpoint, bracket, checkpoints_of, stands_before, checks_up_to, in_order, checks_of};
 
 use crate::check::Check;
-use mob_typing::{ConstText, Typed, TypedStatement};
+use mob_typed::{ConstText, Typed, TypedStatement};
 use std::alloc::{AllocError, Global};
 
 // Whether a literal stands before this place of this statement.
@@ -39,7 +39,7 @@ fn push_literals<'a>(
 
 // Puts the literals from number `put` on that stand before this place, and then the check of this place. Answers the number
 // of the next literal.
-fn push_mark<'a>(
+fn push_checkpoint<'a>(
     done: &mut Vec<Check<'a>>,
     literals: &'a [ConstText],
     put: usize,
@@ -74,7 +74,7 @@ fn push_brackets<'a>(
             statement,
             place: *place,
         };
-        at = push_mark(done, literals, at, statement, *place, bracket)?;
+        at = push_checkpoint(done, literals, at, statement, *place, bracket)?;
     }
     Ok(at)
 }
@@ -93,7 +93,7 @@ fn push_statement<'a>(
     match statement {
         TypedStatement::CreateTable { columns, .. } => {
             let table = Check::Table(columns.as_slice());
-            push_mark(done, literals, put, number, 0, table)
+            push_checkpoint(done, literals, put, number, 0, table)
         }
         TypedStatement::Insert { table, places, .. } => {
             push_brackets(done, literals, put, *table, number, places.as_slice())
@@ -103,7 +103,7 @@ fn push_statement<'a>(
                 table: *table,
                 name: file,
             };
-            push_mark(done, literals, put, number, 0, file)
+            push_checkpoint(done, literals, put, number, 0, file)
         }
         _ => Ok(put),
     }

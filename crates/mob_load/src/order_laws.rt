@@ -2,7 +2,7 @@
 ghost use Rattle.mob_load.specs.Order.{LooksAtCheckpoints, LooksInOrder};
 
 /// Beside the literals, each new table, row of an INSERT and file of a COPY is looked at once, in written order.
-pub fn marks_are_looked_at()
+pub fn checkpoints_are_looked_at()
     ensures once { LooksAtCheckpoints }
 {}
 

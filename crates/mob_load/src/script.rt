@@ -2,7 +2,7 @@
 ghost use Rattle.std.specs.Prelude.{◌≡◌, ◌≤◌, Ok, IfErr, IfOk, IfSome, OnOk, map};
 ghost use Rattle.mob_outside.specs.Faults.{Rose};
 ghost use Rattle.mob_outside.specs.Told.{KeepsFiles};
-ghost use Rattle.mob_typing.specs.Statements.{script_seen};
+ghost use Rattle.mob_typed.specs.Statements.{script_seen};
 ghost use Rattle.mob_load.specs.Fronts.{AsksForAll, AsksForSome};
 ghost use Rattle.mob_load.specs.Checks.{check_seen, checks_of};
 ghost use Rattle.mob_load.specs.Loads.{AreNarrow, HasFaultCause, IsFaultAtLast, IsOutcome, IsTypedScript, Loads, LoadsScript, ChecksStopBy, copied_files, loaded_of, names_in, nothing_loaded};
@@ -10,12 +10,12 @@ ghost use Rattle.mob_load.specs.Loads.{AreNarrow, HasFaultCause, IsFaultAtLast, 
 use crate::check::Check;
 use crate::loading::Loading;
 use crate::order::checks_of;
-use crate::passing::pass;
+use crate::checking::run_check;
 use crate::program::{LoadEnd, Program};
 use mob_list::items::Items;
 use mob_outside::Files;
 use mob_scalar::Epoch;
-use mob_typing::Typed;
+use mob_typed::Typed;
 use std::alloc::Global;
 
 // What was read before the first check.
@@ -49,7 +49,7 @@ fn load_checks<'a, F: Files>(
 {
     let mut loading = nothing_loaded(alloc);
     for check in checks {
-        match pass(alloc, *check, &mut loading, files, epoch) {
+        match run_check(alloc, *check, &mut loading, files, epoch) {
             Ok(()) => {}
             Err(end) => return Err(end),
         }

@@ -1,6 +1,7 @@
 -- What a table of operators answers.
 use Rattle.std.specs.Prelude.{◌==◌, ◌&&◌, ℕ, List, [], ◌∷◌, Bool, true, false, Option, Some, None, map, slice_get, option_map, option_and_then, is_some, if◌then◌else◌}
 use Rattle.std.specs.List.{list_any, list_all}
+use Rattle.std.specs.Option.{option_or}
 use Rattle.std.specs.Str.{bytes_eq}
 use Rattle.mob_ast.specs.declared.types.SqlType.{SqlType}
 use Rattle.mob_ast.specs.declared.types.SqlType.TheVariants as sql
@@ -116,15 +117,11 @@ takes l ts literal = types_fit l.takes ts && meets l.bond ts literal
 abbrev pub answer_of : Line → Form → List ℕ → List SqlType → Bool → Option (Op × SqlType)
 answer_of l form name ts literal = option_and_then (λ op. if takes l ts literal then option_map (λ ty. (op, ty)) (given l.gives ts) else None) (operator_in l form name)
 
-abbrev pub or_else : {A : Type 0} → Option A → Option A → Option A
-or_else None other = other
-or_else (Some a) other = Some a
-
 -- The operator and the type of a call of this form and name with arguments of these types, the last a number literal or
 -- not: by the first line that gives one.
 abbrev pub found_in : List Line → Form → List ℕ → List SqlType → Bool → Option (Op × SqlType)
 found_in [] form name ts literal = None
-found_in (l ∷ ls) form name ts literal = or_else (answer_of l form name ts literal) (found_in ls form name ts literal)
+found_in (l ∷ ls) form name ts literal = option_or (answer_of l form name ts literal) (found_in ls form name ts literal)
 
 -- whether some line is about a function of this name
 abbrev pub has_function : List Line → List ℕ → Bool

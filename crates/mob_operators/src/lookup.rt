@@ -16,13 +16,13 @@ fn is_same(a: SqlType, b: SqlType) -> bool
 }
 
 // Whether a type is among these.
-fn has(class: &[SqlType], ty: SqlType) -> bool
+fn has_type(class: &[SqlType], ty: SqlType) -> bool
     ensures { result ≡ has_type class.now ty }
 {
     class.iter().any(|t| is_same(*t, ty))
 }
 
-fn is_moving(ty: SqlType) -> bool
+fn is_temporal(ty: SqlType) -> bool
     ensures { result ≡ is_temporal ty }
 {
     matches!(
@@ -31,26 +31,26 @@ fn is_moving(ty: SqlType) -> bool
     )
 }
 
-fn is_whole(ty: SqlType) -> bool
+fn is_whole_type(ty: SqlType) -> bool
     ensures { result ≡ is_whole_type ty }
 {
     matches!(ty, SqlType::Int | SqlType::TInt)
 }
 
-fn any_moving(types: &[SqlType]) -> bool
+fn any_temporal(types: &[SqlType]) -> bool
     ensures { result ≡ list_any is_temporal types.now }
 {
-    types.iter().any(|ty| is_moving(*ty))
+    types.iter().any(|ty| is_temporal(*ty))
 }
 
 fn all_whole(types: &[SqlType]) -> bool
     ensures { result ≡ list_all is_whole_type types.now }
 {
-    types.iter().all(|ty| is_whole(*ty))
+    types.iter().all(|ty| is_whole_type(*ty))
 }
 
 // Whether the arguments have one for one a type that is taken.
-fn fits(classes: &[&[SqlType]], types: &[SqlType]) -> bool
+fn types_fit(classes: &[&[SqlType]], types: &[SqlType]) -> bool
     ensures { result ≡ types_fit (map (λ c. c.now) classes.now) types.now }
 {
     let Some((class, other_classes)) = classes.split_first() else {
@@ -59,7 +59,7 @@ fn fits(classes: &[&[SqlType]], types: &[SqlType]) -> bool
     let Some((ty, other_types)) = types.split_first() else {
         return false;
     };
-    has(class, *ty) && fits(other_classes, other_types)
+    has_type(class, *ty) && types_fit(other_classes, other_types)
 }
 
 fn are_same(types: &[SqlType]) -> bool
@@ -77,7 +77,7 @@ impl Bond {
     {
         match self {
             Bond::Free => true,
-            Bond::OneMoving => any_moving(types),
+            Bond::OneMoving => any_temporal(types),
             Bond::SameType => are_same(types),
             Bond::ByLiteral => by_literal,
         }
@@ -102,7 +102,7 @@ impl Row {
         ensures { result ≡ operator_in (line_of self.now) form name.now }
     {
         if self.form == form {
-            named(self.names, name)
+            operator_named(self.names, name)
         } else {
             None
         }
@@ -112,7 +112,7 @@ impl Row {
     fn takes(&self, types: &[SqlType], by_literal: bool) -> bool
         ensures { result ≡ takes (line_of self.now) types.now by_literal }
     {
-        fits(self.takes, types) && self.bond.meets(types, by_literal)
+        types_fit(self.takes, types) && self.bond.meets(types, by_literal)
     }
 
     fn answer(
@@ -134,7 +134,7 @@ impl Row {
 }
 
 // The operator of this name.
-fn named(names: &[(&str, Op)], name: &str) -> Option<Op>
+fn operator_named(names: &[(&str, Op)], name: &str) -> Option<Op>
     ensures { result ≡ operator_named (map (λ n. (n.0.now, n.1)) names.now) name.now }
 {
     for (other, op) in names {

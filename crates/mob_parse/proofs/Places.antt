@@ -5,7 +5,7 @@ use Rattle.mob_grammar.specs.Symbols.{Symbol, Tok}
 use Rattle.mob_grammar.specs.Places.{IsWithin, nothing, other, same, script_places}
 use Rattle.mob_grammar.proofs.Places.{stands_at_tokens}
 use Rattle.mob_grammar.proofs.Within.{within_trans}
-use Rattle.mob_parse.specs.Tokens.{symbol_at, before_lexed, lexed}
+use Rattle.mob_lexemes.specs.Lexed.{symbol_at, before_lexed, lexed}
 use Rattle.mob_parse.specs.Places.{StandsInText}
 
 one_within : (p : ℕ) (x : Option Symbol) (l : List Tok) (ps : List ℕ) → IsWithin (map (λ t. t.place) l) ps → IsWithin (map (λ t. t.place) (before_lexed p x l)) (p ∷ ps)

@@ -10,14 +10,16 @@ use Rattle.mob_ast.specs.declared.refusal.Refusal.{Refusal}
 use Rattle.mob_ast.specs.declared.refusal.Kind.{Kind}
 use Rattle.mob_ast.specs.declared.refusal.Kind.TheVariants.{NotUtf8, Lexical, Syntax, TooComplex, NoMemory}
 use Rattle.mob_grammar.specs.Symbols.{Tok}
+use Rattle.mob_grammar.specs.Cuts.{ends_among}
 use Rattle.mob_grammar.specs.Scripts.{IsScript}
 use Rattle.mob_grammar.specs.Texts.{GoesOn}
-use Rattle.mob_grammar.specs.Weights.{Standing, outside}
+use Rattle.mob_lexemes.specs.declared.heavy.TokenStanding.{TokenStanding}
+use Rattle.mob_lexemes.specs.Weights.{outside}
 use Rattle.mob_grammar.proofs.Outcomes.{Longer, no_longer, one_wrong}
 use Rattle.mob_grammar.proofs.Steps.{told}
-use Rattle.mob_parse.specs.Tokens.{lexed}
-use Rattle.mob_parse.specs.Heavy.{is_heavy, standing_after, heavy_from}
-use Rattle.mob_parse.specs.Refusals.{HasTokens, IsTreeOf, IsLightText, semicolons, place_of, IsSyntax, IsTooComplex, BeginsScript, IsStatementBehind, Cause, ParsesToRefusal, IsSameRefusal, HasOneParseRefusal, TreeIsRefusedForMemoryAlone}
+use Rattle.mob_lexemes.specs.Lexed.{lexed}
+use Rattle.mob_lexemes.specs.Heavy.{is_heavy, standing_after, heavy_from}
+use Rattle.mob_parse.specs.Refusals.{HasTokens, IsTreeOf, IsLightText, place_of, IsSyntax, IsTooComplex, BeginsScript, IsStatementBehind, Cause, ParsesToRefusal, IsSameRefusal, HasOneParseRefusal, TreeIsRefusedForMemoryAlone}
 use Rattle.mob_parse.proofs.Scripts.{Scripts, no_script}
 
 -- a text has its tokens once
@@ -53,7 +55,7 @@ pub tree_is_refused_for_memory_alone : TreeIsRefusedForMemoryAlone
 tree_is_refused_for_memory_alone bytes x e d light h = no_tree e.kind bytes e h x d light
 
 -- the token of a number stands in the list
-heavy_within : (s : Standing) (p : ℕ) (l : List Tok) (n : ℕ) → heavy_from s p l ≡ Some n → n < p + length l
+heavy_within : (s : TokenStanding) (p : ℕ) (l : List Tok) (n : ℕ) → heavy_from s p l ≡ Some n → n < p + length l
 heavy_within s p [] n e = cc
 heavy_within s p (t ∷ l) n e = elim (told (is_heavy s t.symbol l)) [
   | inl yes_ ↦
@@ -92,15 +94,15 @@ one e f k s p =
 one_syntax : (l : List Tok) (end : ℕ) (e f : Refusal) → e.kind ≡ f.kind → IsSyntax l end e → IsSyntax l end f → e ≡ f
 one_syntax l end e f k (r, v, p, s, m) (u, w, q, t, n) =
     let same = one_wrong l r u v w in
-    one e f k (s ∙ ap (λ b. 1 + semicolons b) same.0 ∙ sym t) (p ∙ ap (λ x. place_of x end) same.1 ∙ sym q)
+    one e f k (s ∙ ap (λ b. 1 + ends_among b) same.0 ∙ sym t) (p ∙ ap (λ x. place_of x end) same.1 ∙ sym q)
 
 one_complex : (l : List Tok) (end : ℕ) (e f : Refusal) → e.kind ≡ f.kind → IsTooComplex l end e → IsTooComplex l end f → e ≡ f
 one_complex l end e f k (n, h, b, p, s) (m, g, c, q, t) =
     let same : n ≡ m = cc (h, g) in
-    one e f k (s ∙ ap (λ i. 1 + semicolons (take i l)) same ∙ sym t) (p ∙ ap (λ i. place_of (drop i l) end) same ∙ sym q)
+    one e f k (s ∙ ap (λ i. 1 + ends_among (take i l)) same ∙ sym t) (p ∙ ap (λ i. place_of (drop i l) end) same ∙ sym q)
 
 one_behind : (text : List ℕ) (m n : ℕ) → IsStatementBehind text m → IsStatementBehind text n → m ≡ n
-one_behind text m n (l, has, same) (u, other, is) = same ∙ ap (λ v. 1 + semicolons v) (same_tokens text l u has other) ∙ sym is
+one_behind text m n (l, has, same) (u, other, is) = same ∙ ap (λ v. 1 + ends_among v) (same_tokens text l u has other) ∙ sym is
 
 one_lexical : (bytes : List ℕ) (e f : Refusal) → e.kind ≡ f.kind → Cause Lexical bytes e → Cause Lexical bytes f → e ≡ f
 one_lexical bytes e f k (u, at_e, s) (v, at_f, t) =

@@ -1,44 +1,44 @@
 -- What reading a script says of it.
 use Rattle.std.proofs.Common.{◌≡◌, ◌==◌, ◌<◌, ◌≤◌, ◌+◌, ◌∙◌, ℕ, zero, suc, Bool, true, false, List, [], ◌∷◌, ◌++◌, length, take, drop, Some, Ok, Err, refl, sym, ap, subst, arith}
 use Rattle.std.proofs.lemmas.Bool.{eqb-true}
-use Rattle.std.proofs.lemmas.List.{length-append}
+use Rattle.std.proofs.lemmas.List.{length-append, take-append-drop}
 use Rattle.mob_ast.specs.Trees.{StatementParts}
 use Rattle.mob_ast.specs.declared.refusal.Refusal.{Refusal}
 use Rattle.mob_grammar.specs.declared.mark.Mark.TheVariants.{Semicolon}
 use Rattle.mob_grammar.specs.Symbols.{Tok}
 use Rattle.mob_grammar.specs.Forms.{Listed}
+use Rattle.mob_grammar.specs.Cuts.{ends_among}
 use Rattle.mob_grammar.specs.Scripts.{Statement, IsScript}
 use Rattle.mob_grammar.specs.Texts.{BeginsText, IsFirstWrong}
 use Rattle.mob_grammar.specs.Reading.{script_at}
-use Rattle.mob_grammar.proofs.StatementLaws.{lawful_script}
-use Rattle.mob_grammar.proofs.StatementsRead.{complete_script}
+use Rattle.mob_grammar.proofs.Statements.{read_script}
 use Rattle.mob_grammar.proofs.Whole as whole
 use Rattle.std.specs.List.{take-map, drop-map}
 use Rattle.mob_ast.specs.declared.refusal.Kind.{Kind}
 use Rattle.mob_ast.specs.declared.refusal.Kind.TheVariants.{TooComplex}
-use Rattle.mob_parse.specs.declared.lexeme.Lexeme.{Lexeme}
-use Rattle.mob_parse.specs.Lexemes.{tok_of, toks}
-use Rattle.mob_parse.specs.Refusals.{semicolons, place_of, NoneAmong, IsSyntax, IsLight, CauseAt, IsRefusedAt}
-use Rattle.mob_parse.specs.Heavy.{first_heavy}
+use Rattle.mob_lexemes.specs.declared.lexeme.Lexeme.{Lexeme}
+use Rattle.mob_lexemes.specs.Lexemes.{tok_of, toks}
+use Rattle.mob_parse.specs.Refusals.{place_of, NoneAmong, IsSyntax, IsLight, CauseAt, IsRefusedAt}
+use Rattle.mob_lexemes.specs.Heavy.{first_heavy}
 
 abbrev pub Scripts : List Tok → List StatementParts → List Tok → Type 0
 Scripts = Listed Semicolon Statement
 
 complete_at_end : (l : List Tok) (x : List StatementParts) → Scripts l x [] → script_at l ≡ Ok (x, [])
-complete_at_end l x d = complete_script l x [] d refl
+complete_at_end l x d = read_script.complete l x [] d refl
 
 pub script_is : (l : List Tok) (x : List StatementParts) → script_at l ≡ Ok (x, []) → IsScript l x
-script_is l x h = whole.is_text Scripts script_at lawful_script complete_at_end l x h
+script_is l x h = whole.is_text Scripts script_at read_script.lawful complete_at_end l x h
 
 pub script_only : (l : List Tok) (x y : List StatementParts) → script_at l ≡ Ok (x, []) → IsScript l y → y ≡ x
-script_only l x y h d = whole.only_text Scripts script_at lawful_script complete_at_end l x y h d
+script_only l x y h d = whole.only_text Scripts script_at read_script.lawful complete_at_end l x y h d
 
 pub script_left_over : (l : List Tok) (x : List StatementParts) (r : List Tok) → script_at l ≡ Ok (x, r) → 0 < length r → IsFirstWrong Scripts l r
 script_left_over l x [] h some = absurd (omega arith)
-script_left_over l x (t ∷ r) h some = whole.left_over Scripts script_at lawful_script complete_at_end l x t r h
+script_left_over l x (t ∷ r) h some = whole.left_over Scripts script_at read_script.lawful complete_at_end l x t r h
 
 pub script_broken : (l r : List Tok) → script_at l ≡ Err r → IsFirstWrong Scripts l r
-script_broken l r h = whole.broken Scripts script_at lawful_script complete_at_end l r h
+script_broken l r h = whole.broken Scripts script_at read_script.lawful complete_at_end l r h
 
 pub no_script : (l r : List Tok) → IsFirstWrong Scripts l r → (x : List StatementParts) → IsScript l x → ⊥
 no_script l r w x d = whole.wrong_no_text Scripts l r w x d
@@ -64,21 +64,16 @@ pub shorter_rest : (l r : List Tok) → IsFirstWrong Scripts l r → length r �
 shorter_rest l r w = let long = length-append w.before r in let same = ap length w.parts in omega arith
 
 -- a refusal at the token of that number is one of syntax
-pub syntax_at : (l r : List Tok) (n end : ℕ) (e : Refusal) → IsFirstWrong Scripts l r → n + length r ≡ length l → e.place ≡ place_of (drop n l) end → e.statement ≡ 1 + semicolons (take n l) → NoneAmong n l → IsSyntax l end e
+pub syntax_at : (l r : List Tok) (n end : ℕ) (e : Refusal) → IsFirstWrong Scripts l r → n + length r ≡ length l → e.place ≡ place_of (drop n l) end → e.statement ≡ 1 + ends_among (take n l) → NoneAmong n l → IsSyntax l end e
 syntax_at l r n end e w h p s none =
     let c = parts_at l w.before r n w.parts h in
-    (r, w, p ∙ ap (λ v. place_of v end) c.1, s ∙ ap (λ v. 1 + semicolons v) c.0, subst (λ k. NoneAmong k l) (long_before l w.before r n w.parts h) none)
-
-take_drop : (n : ℕ) (l : List Tok) → take n l ++ drop n l ≡ l
-take_drop zero l = refl
-take_drop (suc n) [] = refl
-take_drop (suc n) (t ∷ l) = ap (λ v. t ∷ v) (take_drop n l)
+    (r, w, p ∙ ap (λ v. place_of v end) c.1, s ∙ ap (λ v. 1 + ends_among v) c.0, subst (λ k. NoneAmong k l) (long_before l w.before r n w.parts h) none)
 
 -- what is wrong in a front is wrong in the whole
-pub front_syntax : (l r : List Tok) (k n end : ℕ) (e : Refusal) → IsFirstWrong Scripts (take k l) r → 0 < length r → n + length r ≡ length (take k l) → e.place ≡ place_of (drop n l) end → e.statement ≡ 1 + semicolons (take n l) → NoneAmong n l → IsSyntax l end e
+pub front_syntax : (l r : List Tok) (k n end : ℕ) (e : Refusal) → IsFirstWrong Scripts (take k l) r → 0 < length r → n + length r ≡ length (take k l) → e.place ≡ place_of (drop n l) end → e.statement ≡ 1 + ends_among (take n l) → NoneAmong n l → IsSyntax l end e
 front_syntax l [] k n end e w some h p s none = absurd (omega arith)
 front_syntax l (t ∷ r) k n end e w some h p s none =
-    let all = take_drop k l in
+    let all = take-append-drop k l in
     let long = length-append (take k l) (drop k l) in
     let same = ap length all in
     let more = length-append (t ∷ r) (drop k l) in
@@ -112,7 +107,7 @@ pub none_light : (l : List Tok) (k : ℕ) → IsLight l → NoneAmong k l
 none_light l k light n heavy = absurd (cc (light, heavy))
 
 -- a front that begins a script, up to the first heavy token
-pub too_complex : (l : List Tok) (n end : ℕ) (e : Refusal) → first_heavy l ≡ Some n → BeginsText Scripts (take (n + 1) l) → e.kind ≡ TooComplex → e.place ≡ place_of (drop n l) end → e.statement ≡ 1 + semicolons (take n l) → IsRefusedAt l end e
+pub too_complex : (l : List Tok) (n end : ℕ) (e : Refusal) → first_heavy l ≡ Some n → BeginsText Scripts (take (n + 1) l) → e.kind ≡ TooComplex → e.place ≡ place_of (drop n l) end → e.statement ≡ 1 + ends_among (take n l) → IsRefusedAt l end e
 too_complex l n end e heavy begins k p s = caused TooComplex l end e k (n, heavy, begins, p, s)
 
 -- what a test for the end says

@@ -1,5 +1,6 @@
 -- What the code did is what reading gives.
-use Rattle.std.proofs.Common.{◌≡◌, ◌≤◌, ◌+◌, ◌-◌, ◌∙◌, ℕ, List, [], ◌∷◌, ◌++◌, length, true, Result, Ok, Err, sym, ap, arith}
+use Rattle.std.proofs.Common.{◌≡◌, ◌≤◌, ◌+◌, ◌-◌, ◌∙◌, ℕ, List, [], ◌∷◌, ◌++◌, length, map, true, Result, Ok, Err, sym, ap, arith}
+use Rattle.std.proofs.lemmas.List.{map_push}
 use Rattle.mob_grammar.specs.declared.mark.Mark.{Mark}
 use Rattle.mob_grammar.specs.Symbols.{Tok, starts, rest}
 use Rattle.mob_grammar.specs.Reading.{Answer, TokenReader, ◌>>=◌, listed, listed_from}
@@ -48,3 +49,10 @@ next_read m inner whole l u r xs ys x so_far there passed h short e =
       so_far.2 ∙ turn m inner so_far.0 xs l there so_far.1 ∙ ap (λ v. inner v >>= λ x. listed_from m inner (so_far.0 - 1) (xs ++ x.0 ∷ []) x.1) (sym passed)
           ∙ through (inner u) x r _ h ∙ ap (λ v. listed_from m inner (so_far.0 - 1) v r) (sym e),
     )
+
+-- what is seen of a list with one item, and of one with one more
+pub first_parts : {X Y : Type 0} (view : X → Y) (none one : List X) (x : X) → none ≡ [] → one ≡ none ++ x ∷ [] → map view one ≡ view x ∷ []
+first_parts view none one x empty pushed = ap (map view) (pushed ∙ ap (λ es. es ++ x ∷ []) empty)
+
+pub more_parts : {X Y : Type 0} (view : X → Y) (xs more : List X) (x : X) → more ≡ xs ++ x ∷ [] → map view more ≡ map view xs ++ view x ∷ []
+more_parts view xs more x pushed = ap (map view) pushed ∙ map_push view xs x

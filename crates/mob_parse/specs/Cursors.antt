@@ -3,7 +3,7 @@ use Rattle.std.specs.Prelude.{◌≡◌, List, Result, Ok, Err}
 use Rattle.mob_parse.specs.declared.cursor.Cursor.{Cursor}
 use Rattle.mob_parse.specs.declared.cursor.Fault.{Fault}
 use Rattle.mob_parse.specs.declared.cursor.Fault.TheVariants.{Syntax, NoMemory}
-use Rattle.mob_parse.specs.Lexemes.{toks}
+use Rattle.mob_lexemes.specs.Lexemes.{toks}
 use Rattle.mob_grammar.specs.Symbols.{Tok}
 use Rattle.mob_grammar.specs.Reading.{Answer}
 

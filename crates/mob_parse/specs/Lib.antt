@@ -1,10 +1,5 @@
 pub mod Columns
 pub mod Cursors
-pub mod Heavy
 pub mod Levels
-pub mod Lexemes
 pub mod Places
 pub mod Refusals
-pub mod Standings
-pub mod Tokens
-pub mod Words

@@ -1,5 +1,5 @@
 -- Which trees a script has, and when it is refused.
-use Rattle.std.specs.Prelude.{◌≡◌, ◌⊎◌, ◌≤◌, ◌+◌, ℕ, List, [], ◌∷◌, length, take, drop, cond, Some, None, Ok, Err}
+use Rattle.std.specs.Prelude.{◌≡◌, ◌⊎◌, ◌≤◌, ◌+◌, ℕ, List, [], ◌∷◌, length, take, drop, Some, None, Ok, Err}
 use Rattle.std.specs.Str.{IsUtf8, IsValidUpTo}
 use Rattle.mob_ast.specs.declared.refusal.Kind.{Kind}
 use Rattle.mob_parse.specs.declared.script.Wrong.{Wrong}
@@ -9,12 +9,13 @@ use Rattle.mob_ast.specs.declared.refusal.Kind.TheVariants.{NotUtf8, Lexical, Sy
 use Rattle.mob_ast.specs.Trees.{StatementParts}
 use Rattle.mob_chars.specs.Tokens.{tokens_of}
 use Rattle.mob_grammar.specs.declared.mark.Mark.TheVariants.{Semicolon}
-use Rattle.mob_grammar.specs.Symbols.{Tok, is_sign}
+use Rattle.mob_grammar.specs.Symbols.{Tok}
+use Rattle.mob_grammar.specs.Cuts.{ends_among}
 use Rattle.mob_grammar.specs.Forms.{Listed}
 use Rattle.mob_grammar.specs.Scripts.{Statement, IsScript}
 use Rattle.mob_grammar.specs.Texts.{BeginsText, IsFirstWrong}
-use Rattle.mob_parse.specs.Tokens.{lexed}
-use Rattle.mob_parse.specs.Heavy.{first_heavy}
+use Rattle.mob_lexemes.specs.Lexed.{lexed}
+use Rattle.mob_lexemes.specs.Heavy.{first_heavy}
 
 -- the tokens of a script, as the grammar sees them
 abbrev pub HasTokens : List ℕ → List Tok → Type 0
@@ -23,11 +24,6 @@ HasTokens bytes l = (ts : _) × (tokens_of bytes ≡ Ok ts) × (l ≡ lexed byte
 -- the tree of a script
 abbrev pub IsTreeOf : List ℕ → List StatementParts → Type 0
 IsTreeOf bytes x = IsUtf8 bytes × ((l : List Tok) × HasTokens bytes l × IsScript l x)
-
--- how many `;` there are
-abbrev pub semicolons : List Tok → ℕ
-semicolons [] = 0
-semicolons (t ∷ l) = cond (is_sign Semicolon t) (semicolons l + 1) (semicolons l)
 
 -- the place of the first token, or the end
 abbrev pub place_of : List Tok → ℕ → ℕ
@@ -40,7 +36,7 @@ NoneAmong k l = (n : ℕ) → first_heavy l ≡ Some n → k ≤ n
 
 -- Syntax: at the first token with which no script begins, given the tokens before it, where no 257th counted token is before it
 abbrev pub IsSyntax : List Tok → ℕ → Refusal → Type 0
-IsSyntax l end e = (r : List Tok) × (w : IsFirstWrong (Listed Semicolon Statement) l r) × (e.place ≡ place_of r end) × (e.statement ≡ 1 + semicolons w.before) × NoneAmong (length w.before) l
+IsSyntax l end e = (r : List Tok) × (w : IsFirstWrong (Listed Semicolon Statement) l r) × (e.place ≡ place_of r end) × (e.statement ≡ 1 + ends_among w.before) × NoneAmong (length w.before) l
 
 -- some script begins with these tokens
 abbrev pub BeginsScript : List Tok → Type 0
@@ -48,7 +44,7 @@ BeginsScript l = BeginsText (Listed Semicolon Statement) l
 
 -- TooComplex: at the first 257th counted token of an expression, where a script begins with the tokens up to that one
 abbrev pub IsTooComplex : List Tok → ℕ → Refusal → Type 0
-IsTooComplex l end e = (n : ℕ) × (first_heavy l ≡ Some n) × BeginsScript (take (n + 1) l) × (e.place ≡ place_of (drop n l) end) × (e.statement ≡ 1 + semicolons (take n l))
+IsTooComplex l end e = (n : ℕ) × (first_heavy l ≡ Some n) × BeginsScript (take (n + 1) l) × (e.place ≡ place_of (drop n l) end) × (e.statement ≡ 1 + ends_among (take n l))
 
 -- no expression has a 257th counted token
 abbrev pub IsLight : List Tok → Type 0
@@ -75,7 +71,7 @@ IsLightText bytes = (l : List Tok) → HasTokens bytes l → IsLight l
 
 -- the number of the statement behind a text: 1 and its `;` tokens
 abbrev pub IsStatementBehind : List ℕ → ℕ → Type 0
-IsStatementBehind text n = (l : List Tok) × HasTokens text l × (n ≡ 1 + semicolons l)
+IsStatementBehind text n = (l : List Tok) × HasTokens text l × (n ≡ 1 + ends_among l)
 
 -- why a script is refused: only one of whole characters is refused by its tokens
 abbrev pub Cause : Kind → List ℕ → Refusal → Type 0

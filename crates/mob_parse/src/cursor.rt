@@ -1,12 +1,11 @@
 //! Where the parser stands: the tokens that are still to be read.
 ghost use Rattle.std.specs.Prelude.{◌≡◌, ◌<◌, [], ◌∷◌, true, false, cond, MatchOption, MatchResult};
-ghost use Rattle.mob_grammar.specs.Symbols.{sign, binding, begins, starts, goes_on, rest, is_name, is_string, numeral, string, identifier};
-ghost use Rattle.mob_grammar.specs.Reading.{is_number};
-ghost use Rattle.mob_parse.specs.Lexemes.{lower, unquoted};
+ghost use Rattle.mob_grammar.specs.Symbols.{sign, binding, begins, starts, goes_on, rest, is_name, is_string, numeral, string, identifier, is_number};
+ghost use Rattle.mob_lexemes.specs.Lexemes.{lower, unquoted};
 ghost use Rattle.mob_parse.specs.Cursors.{left};
 
-use crate::lexeme::{Lexeme, Symbol};
 use mob_grammar::mark::Mark;
+use mob_lexemes::lexeme::{Lexeme, Symbol};
 use std::alloc::{AllocError, AllocFailed, Global};
 
 /// Why reading stopped.

@@ -8,11 +8,11 @@ ghost use Rattle.mob_parse.specs.Cursors.{left, FollowsReading};
 ghost use Rattle.mob_parse.specs.Levels.{level_number, level_operand};
 
 use crate::cursor::{Cursor, Fault};
-use crate::lexeme::begins_literal;
 use crate::nodes::{copy_text, leaf, operator, pair, single, unquoted_text, word};
 use mob_ast::expression::{Expr, Node};
 use mob_ast::types::{TypeWord, Word};
 use mob_grammar::mark::Mark;
+use mob_lexemes::lexeme::begins_literal;
 
 /// The ranks whose operators stand between two operands and lean to the left.
 #[derive(Clone, Copy)]

@@ -2,7 +2,7 @@
 ghost use Rattle.std.specs.Prelude.{◌≡◌, ◌<◌, IfOk, Some, None};
 ghost use Rattle.mob_ast.specs.Trees.{tree_of, tree, none, more};
 ghost use Rattle.mob_grammar.specs.Symbols.{mark_node};
-ghost use Rattle.mob_parse.specs.Lexemes.{lower, without_quote, unquoted};
+ghost use Rattle.mob_lexemes.specs.Lexemes.{lower, without_quote, unquoted};
 
 use mob_ast::expression::{Expr, Node};
 use mob_ast::types::Word;

@@ -1,23 +1,23 @@
 //! Whole scripts: from bytes to the tree, or the first refusal.
 ghost use Rattle.std.specs.Prelude.{◌≡◌, ◌≤◌, ◌<◌, ◌+◌, ◌^◌, List, length, take, drop, map, Some, Err, IfOk, IfErr, IfSome, MatchResult};
 ghost use Rattle.mob_ast.specs.Trees.{StatementParts, statement_of, script_of};
+ghost use Rattle.mob_grammar.specs.Cuts.{ends_among};
 ghost use Rattle.mob_grammar.specs.Scripts.{IsScript};
 ghost use Rattle.mob_grammar.specs.Sizes.{script_nodes};
-ghost use Rattle.mob_parse.specs.Lexemes.{toks};
-ghost use Rattle.mob_parse.specs.Heavy.{first_heavy};
+ghost use Rattle.mob_lexemes.specs.Lexemes.{toks};
+ghost use Rattle.mob_lexemes.specs.Heavy.{first_heavy};
 ghost use Rattle.mob_ast.specs.Kinds.{no_memory};
 ghost use Rattle.mob_chars.specs.Tokens.{tokens_of};
-ghost use Rattle.mob_parse.specs.Refusals.{semicolons, place_of, BeginsScript, IsWrong, IsRefusedAt, ParsesToRefusal, IsTreeOf, IsLight, IsLightText, IsStatementBehind, IsSameRefusal};
+ghost use Rattle.mob_parse.specs.Refusals.{place_of, BeginsScript, IsWrong, IsRefusedAt, ParsesToRefusal, IsTreeOf, IsLight, IsLightText, IsStatementBehind, IsSameRefusal};
 
-use crate::classify::lexemes;
 use crate::cursor::{Cursor, Fault};
-use crate::heavy::first_heavy;
-use crate::lexeme::Lexeme;
 use mob_ast::refusal::{Kind, Refusal};
 use mob_ast::statement::{Script, Statement};
 use mob_chars::lexer::tokens;
 use mob_chars::token::LexFault;
-use mob_grammar::mark::Mark;
+use mob_lexemes::classify::lexemes;
+use mob_lexemes::heavy::first_heavy;
+use mob_lexemes::lexeme::{Lexeme, ends_among};
 use mob_list::items::Items;
 use std::alloc::Global;
 
@@ -50,23 +50,6 @@ fn read(alloc: Global, lexemes: &[Lexeme<'_>]) -> Result<Items<Statement>, Wrong
     }
 }
 
-// How many `;` there are.
-fn semicolons(lexemes: &[Lexeme<'_>]) -> u32
-    requires few { length lexemes.now < 2 ^ 31 }
-    ensures count { result ≡ semicolons (toks lexemes.now) }
-    ensures few { result ≤ length lexemes.now }
-{
-    let mut count = 0;
-    let mut rest = lexemes;
-    'tokens: while let [first, after @ ..] = rest {
-        if first.is(Mark::Semicolon) {
-            count += 1;
-        }
-        rest = after;
-    }
-    count
-}
-
 // The place of the first token, or the end.
 fn place_of(lexemes: &[Lexeme<'_>], end: u32) -> u32
     ensures exact { result ≡ place_of (toks lexemes.now) end }
@@ -84,11 +67,11 @@ fn refusal(kind: Kind, lexemes: &[Lexeme<'_>], at: usize, end: u32) -> Refusal
     requires within { at ≤ length lexemes.now }
     ensures kind { result.kind ≡ kind }
     ensures place { result.place ≡ place_of (drop at (toks lexemes.now)) end }
-    ensures statement { result.statement ≡ 1 + semicolons (take at (toks lexemes.now)) }
+    ensures statement { result.statement ≡ 1 + ends_among (take at (toks lexemes.now)) }
 {
     let (before, rest) = lexemes.split_at(at);
     let place = place_of(rest, end);
-    let statement = 1 + semicolons(before);
+    let statement = 1 + ends_among(before);
     Refusal {
         kind,
         statement,
@@ -177,7 +160,7 @@ fn statement_behind(alloc: Global, text: &str) -> Option<u32>
     let Ok(before) = lexemes(alloc, text, found.as_slice()) else {
         return None;
     };
-    Some(1 + semicolons(before.as_slice()))
+    Some(1 + ends_among(before.as_slice()))
 }
 
 // A refusal at a place of a text where no token begins.

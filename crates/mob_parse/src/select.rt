@@ -1,11 +1,13 @@
 //! SELECT, part by part, and whole scripts.
 ghost use Rattle.std.specs.Prelude.{◌≡◌, ◌≤◌, Ok, length, map, OnOk, option_map};
-ghost use Rattle.mob_ast.specs.Trees.{tree_of, item_of, key_of, select_of, statement_of};
+ghost use Rattle.mob_ast.specs.declared.statement.FromTable.{FromTable};
+ghost use Rattle.mob_ast.specs.Trees.{tree_of, ItemParts, item_of, KeyParts, key_of, select_of, StatementParts, statement_of};
 ghost use Rattle.mob_grammar.specs.Symbols.{begins, is_name};
 ghost use Rattle.mob_grammar.specs.Reading.{some_name_at, second_name_at, from_entry_at, alias_at, item_at, direction_at, key_at, distinct_at, from_at, condition_at, order_at, limit_at, select_at, explain_at, statement_at, script_at, listed};
 ghost use Rattle.mob_parse.specs.Cursors.{left, FollowsReading};
 
 use crate::cursor::{Cursor, Fault};
+use crate::list::Entry;
 use mob_ast::expression::Expr;
 use mob_ast::statement::{FromTable, Item, Key, SelectTree, Statement};
 use mob_ast::types::Word;
@@ -46,32 +48,6 @@ impl<'a> Cursor<'a> {
         }
     }
 
-    // A table of FROM.
-    #[tactic(auto, unfolding(mob_grammar::specs::Reading::from_entry_at))]
-    fn from_entry(&mut self) -> Result<FromTable, Fault>
-        ensures reads { FollowsReading (λ f. f) result (left self.new) (from_entry_at (left self.old)) }
-        ensures within { OnOk result (length (left self.new) ≤ length (left self.old)) }
-    {
-        let table = self.name()?;
-        let alias = self.second_name()?;
-        Ok(FromTable { table, alias })
-    }
-
-    #[tactic(auto, using(mob_grammar::proofs::Steps::listed_goes_on, mob_grammar::proofs::Steps::listed_stops), unfolding(mob_grammar::specs::Reading::listed))]
-    fn from_entries(&mut self) -> Result<Items<FromTable>, Fault>
-        ensures reads { FollowsReading (λ fs. fs) result (left self.new) (listed Mark.Comma from_entry_at (left self.old)) }
-        ensures within { OnOk result (length (left self.new) ≤ length (left self.old)) }
-    {
-        let mut found = Items::new(self.alloc);
-        let first = self.from_entry()?;
-        found.push(first)?;
-        'more: while self.skip(Mark::Comma) {
-            let next = self.from_entry()?;
-            found.push(next)?;
-        }
-        Ok(found)
-    }
-
     // The name behind AS, if AS is there.
     #[tactic(auto, unfolding(mob_grammar::specs::Reading::alias_at, mob_grammar::specs::Reading::if_mark))]
     fn alias(&mut self) -> Result<Option<Word>, Fault>
@@ -85,35 +61,6 @@ impl<'a> Cursor<'a> {
         }
     }
 
-    // An entry of the select list.
-    #[tactic(auto, unfolding(mob_grammar::specs::Reading::item_at, mob_grammar::specs::Reading::every_at, mob_grammar::specs::Reading::one_item_at, mob_grammar::specs::Reading::mark_at))]
-    fn item(&mut self) -> Result<Item, Fault>
-        ensures reads { FollowsReading item_of result (left self.new) (item_at (left self.old)) }
-        ensures within { OnOk result (length (left self.new) ≤ length (left self.old)) }
-    {
-        if let Some(place) = self.take(Mark::Times) {
-            return Ok(Item::All { place });
-        }
-        let value = self.expression()?;
-        let alias = self.alias()?;
-        Ok(Item::One { value, alias })
-    }
-
-    #[tactic(auto, using(mob_grammar::proofs::Steps::listed_goes_on, mob_grammar::proofs::Steps::listed_stops), unfolding(mob_grammar::specs::Reading::listed))]
-    fn items(&mut self) -> Result<Items<Item>, Fault>
-        ensures reads { FollowsReading (map item_of) result (left self.new) (listed Mark.Comma item_at (left self.old)) }
-        ensures within { OnOk result (length (left self.new) ≤ length (left self.old)) }
-    {
-        let mut found = Items::new(self.alloc);
-        let first = self.item()?;
-        found.push(first)?;
-        'more: while self.skip(Mark::Comma) {
-            let next = self.item()?;
-            found.push(next)?;
-        }
-        Ok(found)
-    }
-
     // ASC or DESC, if one is there: whether it is DESC.
     #[tactic(auto, unfolding(mob_grammar::specs::Reading::direction_at, mob_grammar::specs::Reading::if_mark))]
     fn direction(&mut self) -> bool
@@ -125,32 +72,6 @@ impl<'a> Cursor<'a> {
         } else {
             self.skip(Mark::Desc)
         }
-    }
-
-    // A key of ORDER BY.
-    #[tactic(auto, unfolding(mob_grammar::specs::Reading::key_at))]
-    fn key(&mut self) -> Result<Key, Fault>
-        ensures reads { FollowsReading key_of result (left self.new) (key_at (left self.old)) }
-        ensures within { OnOk result (length (left self.new) ≤ length (left self.old)) }
-    {
-        let value = self.expression()?;
-        let descending = self.direction();
-        Ok(Key { value, descending })
-    }
-
-    #[tactic(auto, using(mob_grammar::proofs::Steps::listed_goes_on, mob_grammar::proofs::Steps::listed_stops), unfolding(mob_grammar::specs::Reading::listed))]
-    fn keys(&mut self) -> Result<Items<Key>, Fault>
-        ensures reads { FollowsReading (map key_of) result (left self.new) (listed Mark.Comma key_at (left self.old)) }
-        ensures within { OnOk result (length (left self.new) ≤ length (left self.old)) }
-    {
-        let mut found = Items::new(self.alloc);
-        let first = self.key()?;
-        found.push(first)?;
-        'more: while self.skip(Mark::Comma) {
-            let next = self.key()?;
-            found.push(next)?;
-        }
-        Ok(found)
     }
 
     // DISTINCT, if it is there.
@@ -168,7 +89,7 @@ impl<'a> Cursor<'a> {
         ensures within { OnOk result (length (left self.new) ≤ length (left self.old)) }
     {
         if self.skip(Mark::From) {
-            self.from_entries()
+            self.list(Mark::Comma)
         } else {
             Ok(Items::new(self.alloc))
         }
@@ -193,7 +114,7 @@ impl<'a> Cursor<'a> {
     {
         if self.skip(Mark::Order) {
             self.expect(Mark::By)?;
-            self.keys()
+            self.list(Mark::Comma)
         } else {
             Ok(Items::new(self.alloc))
         }
@@ -218,7 +139,7 @@ impl<'a> Cursor<'a> {
         ensures within { OnOk result (length (left self.new) ≤ length (left self.old)) }
     {
         let distinct = self.distinct();
-        let items = self.items()?;
+        let items = self.list(Mark::Comma)?;
         let from = self.from_part()?;
         let cond = self.where_part()?;
         let keys = self.order_part()?;
@@ -243,39 +164,88 @@ impl<'a> Cursor<'a> {
         Ok(Statement::Explain(self.select()?))
     }
 
-    // A statement, or nothing.
-    #[tactic(auto, unfolding(mob_grammar::specs::Reading::statement_at, mob_grammar::specs::Reading::select_statement_at, mob_grammar::specs::Reading::if_mark))]
-    fn statement(&mut self) -> Result<Statement, Fault>
-        ensures reads { FollowsReading statement_of result (left self.new) (statement_at (left self.old)) }
-        ensures within { OnOk result (length (left self.new) ≤ length (left self.old)) }
-    {
-        if self.skip(Mark::Create) {
-            self.create()
-        } else if self.skip(Mark::Insert) {
-            self.insert()
-        } else if self.skip(Mark::Copy) {
-            self.copy()
-        } else if self.skip(Mark::Select) {
-            Ok(Statement::Select(self.select()?))
-        } else if self.skip(Mark::Explain) {
-            self.explain()
-        } else {
-            Ok(Statement::Empty)
-        }
-    }
-
     /// The statements of a script, with `;` between them.
-    #[tactic(auto, using(mob_grammar::proofs::Steps::listed_goes_on, mob_grammar::proofs::Steps::listed_stops), unfolding(mob_grammar::specs::Reading::script_at, mob_grammar::specs::Reading::listed))]
+    #[tactic(auto, unfolding(mob_grammar::specs::Reading::script_at))]
     pub fn statements(&mut self) -> Result<Items<Statement>, Fault>
         ensures reads { FollowsReading (map statement_of) result (left self.new) (script_at (left self.old)) }
     {
-        let mut found = Items::new(self.alloc);
-        let first = self.statement()?;
-        found.push(first)?;
-        'more: while self.skip(Mark::Semicolon) {
-            let next = self.statement()?;
-            found.push(next)?;
+        self.list(Mark::Semicolon)
+    }
+}
+
+/// A table of FROM.
+impl Entry for FromTable {
+    ghost Parts = { FromTable };
+
+    ghost parts_of = { λ f. f };
+
+    ghost reader = { from_entry_at };
+
+    #[tactic(auto, unfolding(mob_grammar::specs::Reading::from_entry_at))]
+    fn read(cursor: &mut Cursor<'_>) -> Result<FromTable, Fault> {
+        let table = cursor.name()?;
+        let alias = cursor.second_name()?;
+        Ok(FromTable { table, alias })
+    }
+}
+
+/// An entry of the select list.
+impl Entry for Item {
+    ghost Parts = { ItemParts };
+
+    ghost parts_of = { item_of };
+
+    ghost reader = { item_at };
+
+    #[tactic(auto, unfolding(mob_grammar::specs::Reading::item_at, mob_grammar::specs::Reading::every_at, mob_grammar::specs::Reading::one_item_at, mob_grammar::specs::Reading::mark_at))]
+    fn read(cursor: &mut Cursor<'_>) -> Result<Item, Fault> {
+        if let Some(place) = cursor.take(Mark::Times) {
+            return Ok(Item::All { place });
         }
-        Ok(found)
+        let value = cursor.expression()?;
+        let alias = cursor.alias()?;
+        Ok(Item::One { value, alias })
+    }
+}
+
+/// A key of ORDER BY.
+impl Entry for Key {
+    ghost Parts = { KeyParts };
+
+    ghost parts_of = { key_of };
+
+    ghost reader = { key_at };
+
+    #[tactic(auto, unfolding(mob_grammar::specs::Reading::key_at))]
+    fn read(cursor: &mut Cursor<'_>) -> Result<Key, Fault> {
+        let value = cursor.expression()?;
+        let descending = cursor.direction();
+        Ok(Key { value, descending })
+    }
+}
+
+/// A statement, or nothing.
+impl Entry for Statement {
+    ghost Parts = { StatementParts };
+
+    ghost parts_of = { statement_of };
+
+    ghost reader = { statement_at };
+
+    #[tactic(auto, unfolding(mob_grammar::specs::Reading::statement_at, mob_grammar::specs::Reading::select_statement_at, mob_grammar::specs::Reading::if_mark))]
+    fn read(cursor: &mut Cursor<'_>) -> Result<Statement, Fault> {
+        if cursor.skip(Mark::Create) {
+            cursor.create()
+        } else if cursor.skip(Mark::Insert) {
+            cursor.insert()
+        } else if cursor.skip(Mark::Copy) {
+            cursor.copy()
+        } else if cursor.skip(Mark::Select) {
+            Ok(Statement::Select(cursor.select()?))
+        } else if cursor.skip(Mark::Explain) {
+            cursor.explain()
+        } else {
+            Ok(Statement::Empty)
+        }
     }
 }

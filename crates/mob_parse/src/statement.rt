@@ -1,11 +1,14 @@
 //! Statements, production by production.
 ghost use Rattle.std.specs.Prelude.{◌≡◌, ◌≤◌, Ok, length, map, OnOk};
-ghost use Rattle.mob_ast.specs.Trees.{tree_of, row_of, statement_of};
-ghost use Rattle.mob_grammar.specs.Symbols.{begins};
-ghost use Rattle.mob_grammar.specs.Reading.{is_number, is_plus_or_minus, string_at, number_at, signed_number_at, number_leaf_at, string_leaf_at, word_leaf_at, const_at, row_at, column_type_at, create_table_at, index_table_at, create_index_at, create_at, insert_at, header_at, format_at, delimiter_at, copy_form_at, copy_at, listed, closed, behind_mark};
+ghost use Rattle.mob_ast.specs.declared.types.TypeWord.{TypeWord};
+ghost use Rattle.mob_ast.specs.declared.types.Word.{Word};
+ghost use Rattle.mob_ast.specs.Trees.{Tree, tree_of, RowParts, row_of, statement_of};
+ghost use Rattle.mob_grammar.specs.Symbols.{begins, is_number};
+ghost use Rattle.mob_grammar.specs.Reading.{is_plus_or_minus, string_at, number_at, signed_number_at, number_leaf_at, string_leaf_at, word_leaf_at, const_at, row_at, column_type_at, create_table_at, index_table_at, create_index_at, create_at, insert_at, header_at, format_at, delimiter_at, copy_form_at, copy_at, listed, closed, behind_mark};
 ghost use Rattle.mob_parse.specs.Cursors.{left, FollowsReading};
 
 use crate::cursor::{Cursor, Fault};
+use crate::list::Entry;
 use crate::nodes::{leaf, number_word, operator, single, unquoted_text};
 use mob_ast::expression::{Expr, Node};
 use mob_ast::statement::{Row, Statement};
@@ -112,94 +115,64 @@ impl<'a> Cursor<'a> {
             self.literal(ty)
         }
     }
+}
 
-    // A constant of an INSERT.
+/// A constant of an INSERT.
+impl Entry for Expr {
+    ghost Parts = { Tree };
+
+    ghost parts_of = { tree_of };
+
+    ghost reader = { const_at };
+
     #[tactic(auto, unfolding(mob_grammar::specs::Reading::const_at))]
-    fn constant_value(&mut self) -> Result<Expr, Fault>
-        ensures reads { FollowsReading tree_of result (left self.new) (const_at (left self.old)) }
-        ensures within { OnOk result (length (left self.new) ≤ length (left self.old)) }
-    {
-        if self.next_is_string() {
-            self.string_value()
-        } else if self.next_is_plus_or_minus() {
-            self.signed_number()
-        } else if self.next_is_number() {
-            self.number_value()
+    fn read(cursor: &mut Cursor<'_>) -> Result<Expr, Fault> {
+        if cursor.next_is_string() {
+            cursor.string_value()
+        } else if cursor.next_is_plus_or_minus() {
+            cursor.signed_number()
+        } else if cursor.next_is_number() {
+            cursor.number_value()
         } else {
-            self.word_value()
+            cursor.word_value()
         }
     }
+}
 
-    #[tactic(auto, using(mob_grammar::proofs::Steps::listed_goes_on, mob_grammar::proofs::Steps::listed_stops), unfolding(mob_grammar::specs::Reading::listed))]
-    fn constants(&mut self) -> Result<Items<Expr>, Fault>
-        ensures reads { FollowsReading (map tree_of) result (left self.new) (listed Mark.Comma const_at (left self.old)) }
-        ensures within { OnOk result (length (left self.new) ≤ length (left self.old)) }
-    {
-        let mut found = Items::new(self.alloc);
-        let first = self.constant_value()?;
-        found.push(first)?;
-        'more: while self.skip(Mark::Comma) {
-            let next = self.constant_value()?;
-            found.push(next)?;
-        }
-        Ok(found)
-    }
+/// A row of an INSERT.
+impl Entry for Row {
+    ghost Parts = { RowParts };
 
-    // A row of an INSERT.
+    ghost parts_of = { row_of };
+
+    ghost reader = { row_at };
+
     #[tactic(auto, unfolding(mob_grammar::specs::Reading::row_at, mob_grammar::specs::Reading::mark_at, mob_grammar::specs::Reading::closed))]
-    fn row(&mut self) -> Result<Row, Fault>
-        ensures reads { FollowsReading row_of result (left self.new) (row_at (left self.old)) }
-        ensures within { OnOk result (length (left self.new) ≤ length (left self.old)) }
-    {
-        match self.take(Mark::Open) {
+    fn read(cursor: &mut Cursor<'_>) -> Result<Row, Fault> {
+        match cursor.take(Mark::Open) {
             Some(place) => {
-                let values = self.constants()?;
-                self.expect(Mark::Close)?;
+                let values = cursor.list(Mark::Comma)?;
+                cursor.expect(Mark::Close)?;
                 Ok(Row { place, values })
             }
             None => Err(Fault::Syntax),
         }
     }
+}
 
-    #[tactic(auto, using(mob_grammar::proofs::Steps::listed_goes_on, mob_grammar::proofs::Steps::listed_stops), unfolding(mob_grammar::specs::Reading::listed))]
-    fn rows(&mut self) -> Result<Items<Row>, Fault>
-        ensures reads { FollowsReading (map row_of) result (left self.new) (listed Mark.Comma row_at (left self.old)) }
-        ensures within { OnOk result (length (left self.new) ≤ length (left self.old)) }
-    {
-        let mut found = Items::new(self.alloc);
-        let first = self.row()?;
-        found.push(first)?;
-        'more: while self.skip(Mark::Comma) {
-            let next = self.row()?;
-            found.push(next)?;
-        }
-        Ok(found)
-    }
+/// A column of a new table and its type.
+impl Entry for (Word, TypeWord) {
+    ghost Parts = { Word × TypeWord };
 
-    // A column of a new table and its type.
+    ghost parts_of = { λ c. c };
+
+    ghost reader = { column_type_at };
+
     #[tactic(auto, unfolding(mob_grammar::specs::Reading::column_type_at))]
-    fn column_type(&mut self) -> Result<(Word, TypeWord), Fault>
-        ensures reads { FollowsReading (λ c. c) result (left self.new) (column_type_at (left self.old)) }
-        ensures within { OnOk result (length (left self.new) ≤ length (left self.old)) }
-    {
-        let name = self.name()?;
-        let ty = self.type_name()?;
+    fn read(cursor: &mut Cursor<'_>) -> Result<(Word, TypeWord), Fault> {
+        let name = cursor.name()?;
+        let ty = cursor.type_name()?;
         Ok((name, ty))
-    }
-
-    #[tactic(auto, using(mob_grammar::proofs::Steps::listed_goes_on, mob_grammar::proofs::Steps::listed_stops), unfolding(mob_grammar::specs::Reading::listed))]
-    fn columns(&mut self) -> Result<Items<(Word, TypeWord)>, Fault>
-        ensures reads { FollowsReading (λ cs. cs) result (left self.new) (listed Mark.Comma column_type_at (left self.old)) }
-        ensures within { OnOk result (length (left self.new) ≤ length (left self.old)) }
-    {
-        let mut found = Items::new(self.alloc);
-        let first = self.column_type()?;
-        found.push(first)?;
-        'more: while self.skip(Mark::Comma) {
-            let next = self.column_type()?;
-            found.push(next)?;
-        }
-        Ok(found)
     }
 }
 
@@ -213,7 +186,7 @@ impl<'a> Cursor<'a> {
     {
         let name = self.name()?;
         self.expect(Mark::Open)?;
-        let columns = self.columns()?;
+        let columns = self.list(Mark::Comma)?;
         self.expect(Mark::Close)?;
         Ok(Statement::CreateTable { name, columns })
     }
@@ -270,7 +243,7 @@ impl<'a> Cursor<'a> {
         self.expect(Mark::Into)?;
         let table = self.name()?;
         self.expect(Mark::Values)?;
-        let rows = self.rows()?;
+        let rows = self.list(Mark::Comma)?;
         Ok(Statement::Insert { table, rows })
     }
 

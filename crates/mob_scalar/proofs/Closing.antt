@@ -1,9 +1,8 @@
 -- A sign with blanks before it may follow a moment.
 use Rattle.std.proofs.Common.{◌≡◌, ℕ, [], ◌∷◌, ◌++◌, true, false, Some, None, refl, rules}
-use Rattle.mob_language.specs.Language.{Text, AreAll, is_blank}
+use Rattle.mob_language.specs.Language.{Text, AreAll, is_blank, is_digit}
 use Rattle.mob_language.proofs.Exact.{run_again, run_stops}
-use Rattle.mob_scalar.specs.Figures.{is_digit}
-use Rattle.mob_scalar.specs.NumberReaders.{digits_at}
+use Rattle.mob_numeral.specs.NumberReaders.{digits_at}
 use Rattle.mob_scalar.specs.CalendarReaders.{fixed_at}
 use Rattle.mob_scalar.specs.Moment.{is_t, is_some_text}
 use Rattle.mob_scalar.specs.MomentReaders.{up_to_at, clock_at, some_blanks_at, t_at, gap_at, time_at}

@@ -5,14 +5,14 @@ use Rattle.mob_ratio.specs.Ratio.{Ratio}
 use Rattle.mob_language.specs.Language.{Text, within_blanks}
 use Rattle.mob_language.specs.Readers.{within_blanks_at}
 use Rattle.mob_scalar.specs.declared.stamp.Stamp.{Stamp}
-use Rattle.mob_scalar.specs.declared.fault.ReadText.TheVariants.{NotText}
+use Rattle.mob_numeral.specs.declared.fault.ReadText.TheVariants.{NotText}
 use Rattle.mob_scalar.specs.CalendarReaders.{fixed_at, date_at}
-use Rattle.mob_scalar.specs.NumberReaders.{digits_at}
+use Rattle.mob_numeral.specs.NumberReaders.{digits_at}
 use Rattle.mob_scalar.specs.Moment.{moment, is_year_second}
 use Rattle.mob_scalar.specs.MomentReaders.{moment_at}
 use Rattle.mob_scalar.specs.MomentText.{HasDate, second_of, second_text, part_numerator, far_text, moment_text}
 use Rattle.mob_scalar.specs.Moments.{moments}
-use Rattle.mob_scalar.specs.Verdict.{Lit}
+use Rattle.mob_numeral.specs.Verdict.{Lit}
 use Rattle.mob_scalar.proofs.WholeTexts.{moment_whole}
 
 reads_none : (rest : Text) → within_blanks_at moment_at (codes "epoch+(" ++ rest) ≡ None

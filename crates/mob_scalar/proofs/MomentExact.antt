@@ -2,21 +2,20 @@
 use Rattle.std.proofs.Common.{◌≡◌, ℕ, suc, [], ◌∷◌, length, Bool, true, false, Option, None, refl, sym, ap, subst, ◌∙◌, arith, rules, codes}
 use Rattle.std.specs.Prelude.{◌||◌, nat_eq}
 use Rattle.std.proofs.lemmas.Bool.{eqb-true}
-use Rattle.mob_language.specs.Language.{Text, Language, ◌▷◌, Maybe, Means, Where, Word, OneOf, Run, behind, is_blank}
+use Rattle.mob_language.specs.Language.{Text, Language, ◌▷◌, Maybe, Means, Where, Word, OneOf, Run, behind, is_blank, is_digit, is_number_sign}
 use Rattle.mob_language.specs.Readers.{TextReader, then_at, maybe_at, word_at, behind_at}
 use Rattle.mob_language.proofs.Exact.{Exact, Stops, then_exact, maybe_exact, means_exact, where_exact, one_exact, word_exact, run_exact, run_stops}
 use Rattle.mob_language.proofs.Heads.{NoHead, Apart, Nothing, HasByte, exact_less, stops_less, stops_both, then_head, word_then_head, one_then_head, or_head, maybe_head, means_head, where_head, word_head, one_head, run_head, one_nothing, word_nothing, then_nothing, means_nothing, where_nothing, or_nothing, then_stops, after_any, maybe_stops, or_stops, then_byte, means_byte, where_byte, then_byte_stops, byte_head, one_byte, or_byte}
-use Rattle.mob_scalar.specs.declared.numeral.Figures.{Figures}
+use Rattle.mob_numeral.specs.declared.numeral.Figures.{Figures}
 use Rattle.mob_scalar.specs.declared.stamp.Part.{Part}
 use Rattle.mob_scalar.specs.declared.stamp.Offset.{Offset}
-use Rattle.mob_scalar.specs.Figures.{is_digit, digits}
-use Rattle.mob_scalar.specs.Number.{is_sign}
-use Rattle.mob_scalar.specs.NumberReaders.{digits_at}
+use Rattle.mob_numeral.specs.Figures.{digits}
+use Rattle.mob_numeral.specs.NumberReaders.{digits_at}
 use Rattle.mob_scalar.specs.Calendar.{has_count, number_in, fixed, civil_of, is_civil, date}
 use Rattle.mob_scalar.specs.CalendarReaders.{fixed_at, dash_at, date_at}
 use Rattle.mob_scalar.specs.Moment.{is_below, up_to, point_part, is_point_part, fraction_part, is_fraction_part, part, clock_of, clock, offset_of, utc, is_z, zone, is_t, is_some_text, gap, time_of, time, stamp_of, is_in_years, moment}
 use Rattle.mob_scalar.specs.MomentReaders.{up_to_at, colon_at, decimals_at, below_at, quotient_at, second_part_at, seconds_at, clock_at, z_at, hours_at, zone_at, some_blanks_at, t_at, gap_at, time_at, moment_at}
-use Rattle.mob_scalar.proofs.NumberExact.{digits_base, left, right}
+use Rattle.mob_numeral.proofs.NumberExact.{digits_base, left, right}
 
 same : (c : ℕ) → is_digit c ≡ false → is_digit c ≡ false
 same c e = e
@@ -27,7 +26,7 @@ clock_on c = is_digit c || (nat_eq c 58 || (nat_eq c 46 || nat_eq c 40))
 
 -- and a moment
 abbrev pub moment_on : ℕ → Bool
-moment_on c = clock_on c || (is_z c || is_sign c)
+moment_on c = clock_on c || (is_z c || is_number_sign c)
 
 clock_digit : (c : ℕ) → clock_on c ≡ false → is_digit c ≡ false
 clock_digit c e = left (is_digit c) (nat_eq c 58 || (nat_eq c 46 || nat_eq c 40)) e
@@ -45,21 +44,21 @@ clock_bracket : (c : ℕ) → clock_on c ≡ false → nat_eq c 40 ≡ false
 clock_bracket c e = right (nat_eq c 46) (nat_eq c 40) (right (nat_eq c 58) (nat_eq c 46 || nat_eq c 40) (clock_rest c e))
 
 moment_clock : (c : ℕ) → moment_on c ≡ false → clock_on c ≡ false
-moment_clock c e = left (clock_on c) (is_z c || is_sign c) e
+moment_clock c e = left (clock_on c) (is_z c || is_number_sign c) e
 
 moment_z : (c : ℕ) → moment_on c ≡ false → is_z c ≡ false
-moment_z c e = left (is_z c) (is_sign c) (right (clock_on c) (is_z c || is_sign c) e)
+moment_z c e = left (is_z c) (is_number_sign c) (right (clock_on c) (is_z c || is_number_sign c) e)
 
-moment_sign : (c : ℕ) → moment_on c ≡ false → is_sign c ≡ false
-moment_sign c e = right (is_z c) (is_sign c) (right (clock_on c) (is_z c || is_sign c) e)
+moment_sign : (c : ℕ) → moment_on c ≡ false → is_number_sign c ≡ false
+moment_sign c e = right (is_z c) (is_number_sign c) (right (clock_on c) (is_z c || is_number_sign c) e)
 
 z_apart : Apart is_z clock_on
 z_apart c e = search rules
 
-sign_apart : Apart is_sign clock_on
+sign_apart : Apart is_number_sign clock_on
 sign_apart c e = search rules
 
-sign_z : Apart is_sign is_z
+sign_z : Apart is_number_sign is_z
 sign_z c e = search rules
 
 blank_digit : Apart is_blank is_digit
@@ -176,7 +175,7 @@ z_language : Language Offset
 z_language = Means (λ (c : ℕ). utc) (OneOf is_z)
 
 hours_language : Language Offset
-hours_language = Means offset_of (OneOf is_sign ▷ (up_to 16 ▷ Maybe (behind (codes ":") (up_to 60))))
+hours_language = Means offset_of (OneOf is_number_sign ▷ (up_to 16 ▷ Maybe (behind (codes ":") (up_to 60))))
 
 z_exact : Exact z_language z_at (Stops moment_on)
 unfolding z_language z_at
@@ -191,7 +190,7 @@ colon_none = λ rest s. marked_none 58 [] (up_to_at 60) rest (stops_less moment_
 
 hours_exact : Exact hours_language hours_at (Stops moment_on)
 unfolding hours_language hours_at
-hours_exact = means_exact offset_of (after_any (one_exact is_sign) (then_stops (up_to_exact 16)
+hours_exact = means_exact offset_of (after_any (one_exact is_number_sign) (then_stops (up_to_exact 16)
     (maybe_stops (exact_less colon_exact (stops_less moment_on is_digit moment_digit)) colon_none) moment_digit
     (maybe_head (marked_head 58 [] (up_to 60) is_digit refl))))
 
@@ -199,13 +198,13 @@ z_none : Nothing z_at is_z
 unfolding z_at
 z_none = means_nothing (λ (c : ℕ). utc) (one_nothing is_z)
 
-hours_none : Nothing hours_at is_sign
+hours_none : Nothing hours_at is_number_sign
 unfolding hours_at
-hours_none = means_nothing offset_of (then_nothing (then_at (up_to_at 16) (maybe_at colon_at)) (one_nothing is_sign))
+hours_none = means_nothing offset_of (then_nothing (then_at (up_to_at 16) (maybe_at colon_at)) (one_nothing is_number_sign))
 
-hours_head : (test : ℕ → Bool) → Apart is_sign test → NoHead hours_language test
+hours_head : (test : ℕ → Bool) → Apart is_number_sign test → NoHead hours_language test
 unfolding hours_language
-hours_head test h = means_head (one_then_head is_sign test h)
+hours_head test h = means_head (one_then_head is_number_sign test h)
 
 zone_exact : Exact zone zone_at (Stops moment_on)
 unfolding zone_at z_language hours_language
@@ -213,7 +212,7 @@ zone_exact = or_stops z_exact hours_exact z_none (hours_head is_z sign_z) moment
 
 zone_none : Nothing zone_at moment_on
 unfolding zone_at
-zone_none = or_nothing (λ rest s. z_none rest (stops_less moment_on is_z moment_z rest s)) (λ rest s. hours_none rest (stops_less moment_on is_sign moment_sign rest s))
+zone_none = or_nothing (λ rest s. z_none rest (stops_less moment_on is_z moment_z rest s)) (λ rest s. hours_none rest (stops_less moment_on is_number_sign moment_sign rest s))
 
 zone_head : NoHead zone clock_on
 unfolding hours_language
@@ -258,7 +257,7 @@ clock_head = means_head (then_head (where_head (fixed_head 2)) (then_head (marke
 z_no_blank : Apart is_z is_blank
 z_no_blank c e = search rules
 
-sign_no_blank : Apart is_sign is_blank
+sign_no_blank : Apart is_number_sign is_blank
 sign_no_blank c e = search rules
 
 zone_no_blank : NoHead zone is_blank

@@ -1,14 +1,15 @@
 -- A text has one reading as a number, as an int, as a moment, as a truth value and as an epoch.
 use Rattle.std.proofs.Common.{ℤ, sym, ◌∙◌, refl}
 use Rattle.mob_language.proofs.Exact.{one_value}
-use Rattle.mob_scalar.specs.Numbers.{numbers, whole_numbers}
+use Rattle.mob_numeral.specs.Numbers.{numbers, whole_numbers}
 use Rattle.mob_scalar.specs.Moments.{moments}
 use Rattle.mob_scalar.specs.Epochs.{epochs}
 use Rattle.mob_scalar.specs.Truth.{truths}
-use Rattle.mob_scalar.specs.Verdict.{HasOneReading}
-use Rattle.mob_scalar.proofs.WholeTexts.{number_whole, moment_whole, truth_whole}
+use Rattle.mob_numeral.specs.Verdict.{HasOneReading}
+use Rattle.mob_numeral.proofs.WholeTexts.{number_whole}
+use Rattle.mob_scalar.proofs.WholeTexts.{moment_whole, truth_whole}
 use Rattle.mob_scalar.proofs.MomentExact.{date_exact}
-use Rattle.mob_scalar.proofs.Settled.{settled}
+use Rattle.mob_numeral.proofs.Settled.{settled}
 
 pub one_number : HasOneReading numbers
 one_number text = settled numbers text (one_value number_whole refl text) (λ s v w a b. a ∙ sym b)

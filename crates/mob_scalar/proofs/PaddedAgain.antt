@@ -5,12 +5,12 @@ use Rattle.std.specs.Fmt.{decimal}
 use Rattle.std.specs.Str.Parse.{digits_value}
 use Rattle.std.proofs.lemmas.Fmt.{decimal_is_IsNumeral}
 use Rattle.mob_language.specs.Language.{Text, Language, behind}
-use Rattle.mob_scalar.specs.Figures.{figures, digits, AreFigures}
+use Rattle.mob_numeral.specs.Figures.{figures, digits, AreFigures}
 use Rattle.mob_scalar.specs.Calendar.{has_count, fixed}
 use Rattle.mob_scalar.specs.MomentText.{padded}
-use Rattle.mob_scalar.proofs.Again.{are_figures, run_test}
+use Rattle.mob_numeral.proofs.Again.{are_figures, run_test}
 use Rattle.mob_scalar.proofs.Padding.{decimal_short}
-use Rattle.mob_scalar.proofs.Powers.{ten_le}
+use Rattle.mob_numeral.proofs.Powers.{ten_le}
 
 zeros_first : (z : ℕ) (ds : Text) → AreFigures ds → AreFigures (replicate z 48 ++ ds)
 zeros_first zero ds h = h

@@ -6,7 +6,7 @@ use Rattle.std.proofs.lemmas.List.Quantifiers.{position-Some}
 use Rattle.std.proofs.Math.Nat.{mod-eq_of_lt}
 use Rattle.mob_scalar.specs.MomentText.{powers, places}
 use Rattle.std.proofs.lemmas.Fmt.{decimal_is_IsNumeral, length-decimal-le}
-use Rattle.mob_scalar.proofs.Powers.{ten_le, ten_pos}
+use Rattle.mob_numeral.proofs.Powers.{ten_le, ten_pos}
 
 -- a number of at most six digits
 pub record IsShort (k n : ℕ) : Type 0 where

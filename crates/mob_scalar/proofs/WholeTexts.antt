@@ -1,101 +1,22 @@
--- Whole texts of numbers, moments and truth values, with blanks at their ends, are read exactly.
-use Rattle.std.proofs.Common.{◌≡◌, ℕ, [], ◌∷◌, ◌++◌, length, Bool, true, false, Option, Some, None, refl, sym, ap, subst, ◌∙◌, rules, arith, codes, inl, inr}
+-- Whole texts of moments and truth values, with blanks at their ends, are read exactly.
+use Rattle.std.proofs.Common.{◌≡◌, ℕ, [], ◌∷◌, ◌++◌, Bool, true, Some, None, refl, sym, subst, ◌∙◌, rules}
 use Rattle.std.specs.Char.{is_ascii_alphabetic}
-use Rattle.std.proofs.lemmas.Bool.Decides.{nat_tests}
-use Rattle.mob_language.specs.Language.{Text, Language, Maybe, Where, Run, AreAll, behind, is_blank, within_blanks}
+use Rattle.mob_language.specs.Language.{Text, Maybe, Where, Run, AreAll, is_blank, within_blanks, is_digit}
 use Rattle.mob_language.specs.Readers.{within_blanks_at}
 use Rattle.mob_language.proofs.Exact.{Exact, Stops, means_exact, where_exact, run_exact, run_again}
-use Rattle.mob_language.proofs.Heads.{NoHead, Apart, HasByte, IsEnd, then_head, means_head, maybe_head, where_head, one_head, run_head, byte_head, means_byte, then_byte, where_byte, within_exact, blanks_stop}
-use Rattle.mob_scalar.specs.declared.numeral.Figures.{Figures}
-use Rattle.mob_scalar.specs.declared.numeral.Exponent.{Exponent}
-use Rattle.mob_scalar.specs.declared.numeral.Tail.{Tail}
-use Rattle.mob_scalar.specs.declared.numeral.Tail.TheVariants.{Decimal}
-use Rattle.mob_scalar.specs.declared.numeral.Numeral.{Numeral}
-use Rattle.mob_scalar.specs.Figures.{is_digit, digits}
-use Rattle.mob_scalar.specs.Number.{number, tail, is_sign, is_e, has_digits}
-use Rattle.mob_scalar.specs.NumberReaders.{numeral_at, digits_at}
+use Rattle.mob_language.proofs.Heads.{NoHead, Apart, HasByte, IsEnd, means_head, where_head, run_head, byte_head, means_byte, then_byte, where_byte, within_exact, blanks_stop}
+use Rattle.mob_numeral.specs.NumberReaders.{digits_at}
 use Rattle.mob_scalar.specs.Calendar.{date, fixed, civil_of, is_civil}
 use Rattle.mob_scalar.specs.CalendarReaders.{fixed_at}
 use Rattle.mob_scalar.specs.Moment.{moment, time, stamp_of, is_in_years, is_some_text}
 use Rattle.mob_scalar.specs.MomentReaders.{moment_at, time_at, clock_at, up_to_at, gap_at, some_blanks_at}
 use Rattle.mob_scalar.specs.Truth.{truth, truth_at, is_truth, is_word_true}
-use Rattle.mob_scalar.proofs.NumberExact.{number_exact, continues, tail_head}
 use Rattle.mob_scalar.proofs.MomentExact.{Closes, moment_exact, moment_on, fixed_byte, nothing_closes}
 
--- what stands between the blanks
-pub record Inner {A : Type 0} (l : Language A) (v : A) : Type 0 where
-  pub text : Text
-  pub said : l text v
-
-pub inner_of : {A : Type 0} {l : Language A} (text : Text) (v : A) → within_blanks l text v → Inner l v
-inner_of {l = l} text v w = record { text = w.said.second.front; said = subst (l w.said.second.front) (sym w.is) w.said.second.first }
-
--- ---- numbers
-
-blank_stops : Apart is_blank continues
-blank_stops c e = search rules
-
--- no number begins with a byte that none of its parts begins with
-pub number_head : (test : ℕ → Bool) → Apart is_sign test → Apart is_digit test → test 46 ≡ false → test 47 ≡ false → Apart is_e test → NoHead number test
-number_head test s d p q e = where_head (means_head (then_head (means_head (maybe_head (one_head s)))
-    (then_head (means_head (where_head (run_head d))) (tail_head test p q e))))
-
-sign_blank : Apart is_sign is_blank
-sign_blank c e = search rules
+-- ---- moments
 
 digit_blank : Apart is_digit is_blank
 digit_blank c e = search rules
-
-e_blank : Apart is_e is_blank
-e_blank c e = search rules
-
-pub back_nil : (a b : Text) → a ++ b ≡ [] → b ≡ []
-back_nil [] b h = h
-back_nil (c ∷ cs) b h = absurd cc
-
-pub front_nil : (a b : Text) → a ++ b ≡ [] → a ≡ []
-front_nil [] b h = refl
-front_nil (c ∷ cs) b h = absurd cc
-
-no_figures : (text : Text) (f : Figures) → digits text f → text ≡ [] → f.count ≡ 0
-no_figures text f d e = ap (λ (x : Figures). x.count) d.is ∙ ap length (sym d.said.said.is ∙ e)
-
-not_enough : (w : Figures) (e : Option Exponent) → w.count ≡ 0 → has_digits w (Decimal None e) ≡ true → ⊥
-not_enough w e z h = zero_not (w.count) z h
-  where
-    zero_not : (k : ℕ) → k ≡ 0 → has_digits (record { value = w.value; count = k }) (Decimal None e) ≡ true → ⊥
-    zero_not k z h = grind (arith, nat_tests)
-
-begun : (w : ℕ) (a b : Text) → a ≡ w ∷ [] → a ++ b ≡ [] → ⊥
-begun w a b e h = cons_nil (ap (λ (t : Text). t ++ b) (sym e) ∙ h)
-  where
-    cons_nil : (w ∷ []) ++ b ≡ [] → ⊥
-    cons_nil k = absurd cc
-
-no_tail : (text : Text) (t : Tail) (w : Figures) → tail text t → text ≡ [] → w.count ≡ 0 → has_digits w t ≡ true → ⊥
-no_tail text t w said e z h = elim said [
-  | inl o ↦ begun 47 o.said.said.front o.said.said.back o.said.said.first (sym o.said.said.whole ∙ e)
-  | inr d ↦ no_part d.said.front d.meant.0 d.meant.1 d.said.first (front_nil d.said.front d.said.back (sym d.said.whole ∙ e)) (subst (λ (x : Tail). has_digits w x ≡ true) d.is h)
-]
-  where
-    no_part : (part : Text) (o : Option Figures) (x : Option Exponent) → Maybe (behind (codes ".") digits) part o → part ≡ [] → has_digits w (Decimal o x) ≡ true → ⊥
-    no_part part None x said n k = not_enough w x z k
-    no_part part (Some f) x said n k = begun 46 said.said.front said.said.back said.said.first (sym said.said.whole ∙ n)
-
-pub number_byte : HasByte number
-number_byte text v said e =
-    let m = said.said in
-    let s = m.said in
-    let b = back_nil s.front s.back (sym s.whole ∙ e) in
-    let d = front_nil s.second.front s.second.back (sym s.second.whole ∙ b) in
-    let t = back_nil s.second.front s.second.back (sym s.second.whole ∙ b) in
-    no_tail s.second.back m.meant.1.1 m.meant.1.0 s.second.second t (no_figures s.second.front m.meant.1.0 s.second.first d)
-    (subst (λ (x : Numeral). has_digits x.digits x.tail ≡ true) m.is said.holds)
-
-pub number_whole : Exact (within_blanks number) (within_blanks_at numeral_at) IsEnd
-number_whole = within_exact number_exact (number_head is_blank sign_blank digit_blank refl refl e_blank) number_byte (blanks_stop continues blank_stops)
-
--- ---- moments
 
 date_byte : HasByte date
 date_byte = where_byte is_civil (means_byte civil_of (then_byte _ (fixed_byte 3)))

@@ -6,8 +6,8 @@ use Rattle.std.specs.Int.Signed.{le_z}
 use Rattle.jiff_core.specs.Calendar.{days_from_civil, days_in_month}
 use Rattle.mob_language.specs.Language.{Language, ◌▷◌, Means, Where, behind}
 use Rattle.mob_scalar.specs.declared.civil.Civil.{Civil}
-use Rattle.mob_scalar.specs.declared.numeral.Figures.{Figures}
-use Rattle.mob_scalar.specs.Figures.{digits}
+use Rattle.mob_numeral.specs.declared.numeral.Figures.{Figures}
+use Rattle.mob_numeral.specs.Figures.{digits}
 
 abbrev pub has_count : ℕ → Figures → Bool
 has_count k f = nat_eq f.count k

@@ -3,7 +3,7 @@ use Rattle.std.specs.Prelude.{ℕ, codes}
 use Rattle.mob_language.specs.Readers.{TextReader, then_at, means_at, where_at, behind_at}
 use Rattle.mob_scalar.specs.declared.civil.Civil.{Civil}
 use Rattle.mob_scalar.specs.Calendar.{has_count, number_in, civil_of, is_civil}
-use Rattle.mob_scalar.specs.NumberReaders.{digits_at}
+use Rattle.mob_numeral.specs.NumberReaders.{digits_at}
 
 unfoldable pub fixed_at : ℕ → TextReader ℕ
 fixed_at k = means_at number_in (where_at (has_count k) digits_at)

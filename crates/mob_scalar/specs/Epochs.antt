@@ -2,7 +2,7 @@
 use Rattle.std.specs.Prelude.{◌≡◌, ℤ}
 use Rattle.mob_scalar.specs.declared.civil.Civil.{Civil}
 use Rattle.mob_scalar.specs.Calendar.{date, day_of}
-use Rattle.mob_scalar.specs.Verdict.{TextForm}
+use Rattle.mob_numeral.specs.Verdict.{TextForm}
 
 -- an epoch is written as a date, and stands for the number of its day
 abbrev pub epochs : TextForm Civil ℤ

@@ -2,15 +2,14 @@
 use Rattle.std.specs.Prelude.{ℕ, ◌+◌, ◌*◌, ◌^◌, ◌<◌, length, codes, Bool, false, ◌&&◌, ◌||◌, cond, nat_le, nat_lt, nat_eq, Option, Some, None, ℤ, pos, neg_ℤ, ◌+ℤ◌, ◌-ℤ◌, ◌*ℤ◌}
 use Rattle.std.specs.Int.Signed.{le_z}
 use Rattle.mob_ratio.specs.Ratio.{Ratio, over, whole, ◌+ℚ◌}
-use Rattle.mob_language.specs.Language.{Text, Language, ◌▷◌, ◌∣◌, Maybe, Means, Where, Word, OneOf, Run, behind, is_blank}
-use Rattle.mob_scalar.specs.declared.numeral.Figures.{Figures}
+use Rattle.mob_language.specs.Language.{Text, Language, ◌▷◌, ◌∣◌, Maybe, Means, Where, Word, OneOf, Run, behind, is_blank, is_number_sign}
+use Rattle.mob_numeral.specs.declared.numeral.Figures.{Figures}
 use Rattle.mob_scalar.specs.declared.civil.Civil.{Civil}
 use Rattle.mob_scalar.specs.declared.stamp.Part.{Part}
 use Rattle.mob_scalar.specs.declared.stamp.Clock.{Clock}
 use Rattle.mob_scalar.specs.declared.stamp.Offset.{Offset}
 use Rattle.mob_scalar.specs.declared.stamp.Stamp.{Stamp}
-use Rattle.mob_scalar.specs.Figures.{digits}
-use Rattle.mob_scalar.specs.Number.{is_sign}
+use Rattle.mob_numeral.specs.Figures.{digits}
 use Rattle.mob_scalar.specs.Calendar.{fixed, date, day_of}
 
 abbrev pub is_below : ℕ → ℕ → Bool
@@ -73,7 +72,7 @@ is_z c = nat_eq c 90 || nat_eq c 122
 
 -- Z, or a sign and HH, or a sign and HH:MM
 abbrev pub zone : Language Offset
-zone = Means (λ (c : ℕ). utc) (OneOf is_z) ∣ Means offset_of (OneOf is_sign ▷ (up_to 16 ▷ Maybe (behind (codes ":") (up_to 60))))
+zone = Means (λ (c : ℕ). utc) (OneOf is_z) ∣ Means offset_of (OneOf is_number_sign ▷ (up_to 16 ▷ Maybe (behind (codes ":") (up_to 60))))
 
 abbrev pub is_t : ℕ → Bool
 is_t c = nat_eq c 84 || nat_eq c 116

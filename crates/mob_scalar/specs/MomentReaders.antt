@@ -1,14 +1,13 @@
 -- The readers of the languages of moments.
 use Rattle.std.specs.Prelude.{ℕ, codes, Option, Some}
-use Rattle.mob_language.specs.Language.{Text, is_blank}
+use Rattle.mob_language.specs.Language.{Text, is_blank, is_number_sign}
 use Rattle.mob_language.specs.Readers.{TextReader, ◌>>=◌, then_at, or_at, maybe_at, means_at, where_at, word_at, one_at, run_at, behind_at}
-use Rattle.mob_scalar.specs.declared.numeral.Figures.{Figures}
+use Rattle.mob_numeral.specs.declared.numeral.Figures.{Figures}
 use Rattle.mob_scalar.specs.declared.stamp.Part.{Part}
 use Rattle.mob_scalar.specs.declared.stamp.Clock.{Clock}
 use Rattle.mob_scalar.specs.declared.stamp.Offset.{Offset}
 use Rattle.mob_scalar.specs.declared.stamp.Stamp.{Stamp}
-use Rattle.mob_scalar.specs.Number.{is_sign}
-use Rattle.mob_scalar.specs.NumberReaders.{digits_at}
+use Rattle.mob_numeral.specs.NumberReaders.{digits_at}
 use Rattle.mob_scalar.specs.CalendarReaders.{fixed_at, date_at}
 use Rattle.mob_scalar.specs.Moment.{is_below, point_part, is_point_part, fraction_part, is_fraction_part, clock_of, offset_of, utc, is_z, is_t, is_some_text, time_of, stamp_of, is_in_years}
 
@@ -40,7 +39,7 @@ unfoldable pub z_at : TextReader Offset
 z_at = means_at (λ (c : ℕ). utc) (one_at is_z)
 
 unfoldable pub hours_at : TextReader Offset
-hours_at = means_at offset_of (then_at (one_at is_sign) (then_at (up_to_at 16) (maybe_at colon_at)))
+hours_at = means_at offset_of (then_at (one_at is_number_sign) (then_at (up_to_at 16) (maybe_at colon_at)))
 
 unfoldable pub zone_at : TextReader Offset
 zone_at = or_at z_at hours_at

@@ -11,7 +11,7 @@ use Rattle.mob_language.specs.Language.{Text}
 use Rattle.mob_scalar.specs.declared.civil.Civil.{Civil}
 use Rattle.mob_scalar.specs.Calendar.{date_of}
 use Rattle.mob_scalar.specs.Moment.{is_year_second}
-use Rattle.mob_scalar.specs.NumberText.{number_text}
+use Rattle.mob_numeral.specs.NumberText.{number_text}
 
 -- a number in at least k digits, with zeros in front
 unfoldable pub padded : ℕ → ℕ → Text

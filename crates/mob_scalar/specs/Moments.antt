@@ -5,7 +5,7 @@ use Rattle.mob_frac.specs.Fits.{Fits}
 use Rattle.mob_language.specs.Language.{within_blanks}
 use Rattle.mob_scalar.specs.declared.stamp.Stamp.{Stamp}
 use Rattle.mob_scalar.specs.Moment.{moment, instant}
-use Rattle.mob_scalar.specs.Verdict.{TextForm}
+use Rattle.mob_numeral.specs.Verdict.{TextForm}
 
 abbrev pub moments : ℤ → TextForm Stamp Ratio
 moments epoch = record {

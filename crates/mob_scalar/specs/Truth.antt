@@ -4,7 +4,7 @@ use Rattle.std.specs.Char.{is_ascii_alphabetic}
 use Rattle.std.specs.Str.{str_eq_ignore_ascii_case}
 use Rattle.mob_language.specs.Language.{Text, Language, Means, Where, Run, within_blanks}
 use Rattle.mob_language.specs.Readers.{TextReader, means_at, where_at, run_at}
-use Rattle.mob_scalar.specs.Verdict.{TextForm}
+use Rattle.mob_numeral.specs.Verdict.{TextForm}
 
 abbrev pub is_word_true : Text → Bool
 is_word_true word = str_eq_ignore_ascii_case word (codes "t") || str_eq_ignore_ascii_case word (codes "true")

@@ -4,9 +4,8 @@ ghost use Rattle.mob_language.specs.Readers.{all_of};
 ghost use Rattle.mob_scalar.specs.Calendar.{is_civil as civil, day_of as day_number, date_of as date_of_day, IsInYears};
 ghost use Rattle.mob_scalar.specs.CalendarReaders.{fixed_at as fixed_in, dash_at as dash_in, date_at as date_in};
 
-use crate::numeral::{Figures, digits_at};
-use crate::readers::behind;
 use jiff_core::civil::Date;
+use mob_numeral::{Figures, behind, digits_at};
 
 /// A date of the calendar.
 #[derive(Clone, Copy, Debug, PartialEq, Eq)]

@@ -2,11 +2,11 @@
 ghost use Rattle.std.specs.Prelude.{◌≡◌, ◌<◌, ◌^◌, ℤ, pos, nat_abs, ◌*ℤ◌, ◌≢◌, Err};
 ghost use Rattle.mob_scalar.specs.Calendar.{IsInYears, standard_day};
 ghost use Rattle.mob_scalar.specs.Epochs.{epochs};
-ghost use Rattle.mob_scalar.specs.declared.fault.ReadText.TheVariants.{NoMemory};
-ghost use Rattle.mob_scalar.specs.Verdict.{Lit};
+ghost use Rattle.mob_numeral.specs.declared.fault.ReadText.TheVariants.{NoMemory};
+ghost use Rattle.mob_numeral.specs.Verdict.{Lit};
 
 use crate::civil::{date_in_all, day_of};
-use crate::fault::ReadText;
+use mob_numeral::ReadText;
 use std::marker::Model;
 
 /// The epoch, a day of the years 0001 to 9999. An instant is the number of seconds since midnight

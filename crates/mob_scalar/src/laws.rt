@@ -2,26 +2,18 @@
 ghost use Rattle.std.specs.Prelude.{◌≡◌, ℕ, ℤ, List, Ok, Err, true, Bool};
 ghost use Rattle.mob_ratio.specs.Ratio.{Ratio};
 ghost use Rattle.mob_frac.specs.Fits.{Fits};
-ghost use Rattle.mob_scalar.specs.Numbers.{numbers, whole_numbers};
-ghost use Rattle.mob_scalar.specs.NumberText.{number_text};
+ghost use Rattle.mob_numeral.specs.Numbers.{numbers, whole_numbers};
 ghost use Rattle.mob_scalar.specs.Epochs.{epochs};
 ghost use Rattle.mob_scalar.specs.Moments.{moments};
 ghost use Rattle.mob_scalar.specs.MomentText.{HasDate, moment_text};
 ghost use Rattle.std.specs.Str.{is_utf8};
 ghost use Rattle.mob_scalar.specs.Quoted.{quoted_text, text_value};
 ghost use Rattle.mob_scalar.specs.Truth.{truth_text, truths};
-ghost use Rattle.mob_scalar.specs.declared.fault.ReadText.TheVariants.{NotText};
-ghost use Rattle.mob_scalar.specs.Verdict.{HasOneReading, Lit};
+ghost use Rattle.mob_numeral.specs.declared.fault.ReadText.TheVariants.{NotText};
+ghost use Rattle.mob_numeral.specs.Verdict.{HasOneReading, Lit};
 
-/// A number that is printed is read again as itself.
-pub fn number_read_again()
-    ensures again { (q : Ratio) → Fits q → Lit numbers (number_text q) (Ok q) }
-{}
-
-/// An int that is printed is read again as itself.
-pub fn whole_read_again()
-    ensures again { (q : Ratio) → Fits q → q.den ≡ 1 → Lit whole_numbers (number_text q) (Ok q) }
-{}
+use crate::Epoch;
+use mob_list::laws::crosses_threads;
 
 /// A truth value that is printed is read again as itself.
 pub fn truth_read_again()
@@ -51,3 +43,8 @@ pub fn one_reading()
 pub fn text_value_read_again()
     ensures again { (v : List ℕ) → is_utf8 v ≡ true → text_value (quoted_text v) v }
 {}
+
+/// Epochs cross threads.
+pub fn epochs_cross_threads() {
+    crosses_threads::<Epoch>();
+}

@@ -7,14 +7,13 @@ ghost use Rattle.mob_scalar.specs.Calendar.{is_civil as civil};
 ghost use Rattle.mob_scalar.specs.Moment.{instant, IsPartSmall};
 ghost use Rattle.mob_scalar.specs.MomentReaders.{moment_at as moment_in};
 ghost use Rattle.mob_scalar.specs.Moments.{moments};
-ghost use Rattle.mob_scalar.specs.declared.fault.ReadText.TheVariants.{NoMemory};
-ghost use Rattle.mob_scalar.specs.Verdict.{Lit};
+ghost use Rattle.mob_numeral.specs.declared.fault.ReadText.TheVariants.{NoMemory};
+ghost use Rattle.mob_numeral.specs.Verdict.{Lit};
 
 use crate::epoch::Epoch;
-use crate::fault::ReadText;
-use crate::readers::within_blanks;
 use crate::stamp::{Part, Stamp, moment_at, seconds_of};
 use mob_frac::{Frac, Overflow, over_product};
+use mob_numeral::{ReadText, within_blanks};
 
 // Seconds since midnight of the epoch's day.
 fn since(seconds: i64, epoch: &Epoch) -> i64

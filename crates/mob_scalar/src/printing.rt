@@ -1,17 +1,17 @@
-//! Numbers and moments, printed.
+//! Moments, printed.
 ghost use Rattle.std.specs.Prelude.{◌≡◌, ◌+◌, ◌-◌, ◌*◌, ◌/◌, ◌%◌, ◌^◌, ◌<◌, ◌≤◌, ◌++◌, length, replicate, OnOk, OnErr, IsOk, Option, ℤ, pos, nat_abs, unsigned_abs, ◌+ℤ◌, ◌*ℤ◌, string_bytes, string_len, string_capacity, true};
 ghost use Rattle.std.specs.Fmt.{decimal};
 ghost use Rattle.std.specs.Int.{int_div_euclid, int_rem_euclid};
 ghost use Rattle.mob_scalar.specs.Calendar.{IsInYears, is_civil};
 ghost use Rattle.mob_scalar.specs.Moment.{is_year_second};
 ghost use Rattle.mob_scalar.specs.MomentText.{padded, stamp_text, date_text, clock_text, places as places_of, part_text, quotient_text, decimals_text, second_text, far_text, moment_text, whole_seconds, part_numerator};
-ghost use Rattle.mob_scalar.specs.NumberText.{number_text};
+ghost use Rattle.mob_numeral.specs.NumberText.{number_text};
 
 use crate::civil::{Civil, date_of};
 use crate::epoch::Epoch;
-use crate::number::ten_to;
 use itoa::Buffer;
 use mob_frac::Frac;
+use mob_numeral::ten_to;
 use std::alloc::AllocError;
 
 // No text of a number or a moment is longer.
@@ -19,25 +19,6 @@ const MOST: usize = 64;
 
 // The powers of ten from 1 to a million: the place of each is its number of zeros.
 const POWERS: [u64; 7] = [1, 10, 100, 1000, 10000, 100000, 1000000];
-
-/// Appends the text of a number, `p` or `p/q`. After `Err` the text is as before.
-pub fn write_number(n: &Frac, into: &mut String) -> Result<(), AllocError>
-    ensures ok { OnOk result (string_bytes into.new ≡ string_bytes into.old ++ number_text n.now) }
-    ensures err { OnErr result (string_bytes into.new ≡ string_bytes into.old) }
-{
-    let mut numerator = Buffer::new();
-    let num = numerator.format(n.num());
-    let den = n.den();
-    if den == 1 {
-        return into.push_str(num);
-    }
-    let mut denominator = Buffer::new();
-    let den = denominator.format(den);
-    into.reserve(num.len() + 1 + den.len())?;
-    into.push_str(num)?;
-    into.push_str("/")?;
-    into.push_str(den)
-}
 
 fn zeros(count: usize) -> &'static str
     requires count { count ≤ 5 }
@@ -215,7 +196,7 @@ fn push_second(
     push_stamp(date, clock_of_second(second), numerator, denominator, into)
 }
 
-#[tactic(auto, unfolding(crate::specs::NumberText::number_text))]
+#[tactic(auto, unfolding(mob_numeral::specs::NumberText::number_text))]
 fn push_number(n: &Frac, into: &mut String) -> Result<(), AllocError>
     ensures ok { OnOk result (string_bytes into.new ≡ string_bytes into.old ++ number_text n.now) }
     ensures len { OnOk result (string_len into.new ≤ string_len into.old + 40) }

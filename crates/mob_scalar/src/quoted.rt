@@ -4,8 +4,8 @@ ghost use Rattle.std.specs.Str.{is_utf8};
 ghost use Rattle.mob_language.specs.Readers.{run_of, or_at};
 ghost use Rattle.mob_scalar.specs.Quoted.{is_escaped as escapes, is_plain as plain, is_bare as bare, unescaped_at as unescaped_in, quoted_at as quoted_in, bare_at as bare_in, trimmed as trimmed_parts, text_value_at as text_value_in, escaped, quoted_text};
 
-use crate::readers::is_blank;
 use mob_list::text::Text;
+use mob_numeral::is_blank;
 use std::alloc::{AllocError, Global};
 
 fn is_escaped(c: u8) -> bool

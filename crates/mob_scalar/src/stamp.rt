@@ -5,9 +5,7 @@ ghost use Rattle.mob_scalar.specs.Moment.{stamp_of as stamp_made, clock_of as cl
 ghost use Rattle.mob_scalar.specs.MomentReaders.{up_to_at as up_to_in, colon_at as colon_in, decimals_at as decimals_in, below_at as below_in, quotient_at as quotient_in, second_part_at, seconds_at as seconds_in, clock_at as clock_in, z_at as z_in, hours_at as hours_in, after_sign_in, zone_at as zone_in, some_blanks_at, t_at as t_in, gap_at as gap_in, time_at as time_in, moment_at as moment_in};
 
 use crate::civil::{Civil, date_at, day_of, fixed_at};
-use crate::number::ten_to;
-use crate::numeral::{Figures, digits_at};
-use crate::readers::{behind, blanks, maybe};
+use mob_numeral::{Figures, behind, blanks, digits_at, maybe, ten_to};
 
 /// A part of a second, `numerator / denominator`.
 #[derive(Clone, Copy, Debug, PartialEq, Eq)]

@@ -4,11 +4,10 @@ ghost use Rattle.std.specs.Char.{is_ascii_alphabetic};
 ghost use Rattle.std.specs.Str.{str_eq_ignore_ascii_case};
 ghost use Rattle.mob_language.specs.Readers.{all_of, run_of, within_blanks_at};
 ghost use Rattle.mob_scalar.specs.Truth.{truth_at as truth_in, is_word_true as word_true, is_truth as truth_word, truth_text, truths};
-ghost use Rattle.mob_scalar.specs.declared.fault.ReadText.TheVariants.{NoMemory};
-ghost use Rattle.mob_scalar.specs.Verdict.{Lit};
+ghost use Rattle.mob_numeral.specs.declared.fault.ReadText.TheVariants.{NoMemory};
+ghost use Rattle.mob_numeral.specs.Verdict.{Lit};
 
-use crate::fault::ReadText;
-use crate::readers::{split_run, within_blanks};
+use mob_numeral::{ReadText, split_run, within_blanks};
 use std::alloc::AllocError;
 
 /// The letters in front, and what stands behind them.

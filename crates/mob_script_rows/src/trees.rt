@@ -2,7 +2,8 @@
 
 use crate::shown::show_statement;
 use mob_grammar::laws::{few_nodes, one_first_wrong, one_tree};
-use mob_parse::laws::{marks_are_read, one_refusal};
+use mob_lexemes::laws::marks_are_read;
+use mob_parse::laws::one_refusal;
 use mob_parse::script::parse;
 use std::alloc::{AllocError, Global};
 use std::test::Fail;

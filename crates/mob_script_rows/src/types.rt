@@ -2,7 +2,8 @@
 
 use mob_ast::{Kind, Refusal, SqlType};
 use mob_parse::script::parse;
-use mob_typing::{Op, Typed, TypedStatement, type_script};
+use mob_typed::{Op, Typed, TypedStatement};
+use mob_typing::type_script;
 use std::alloc::Global;
 use std::test::Fail;
 

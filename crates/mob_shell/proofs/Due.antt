@@ -39,7 +39,7 @@ by_words P f (Some b) (Some m) = f b m
 
 -- why an ending need not be due: there was no memory, or a count of faults rose, that of the files with the status 3
 abbrev pub HasFailed : Ending → Seen → Type 0
-HasFailed ending s = (ending ≡ NoMemory) ⊎ (Rose s.read_before s.read_now ⊎ ((Rose s.filed_before s.filed_now × (status_of ending ≡ 3)) ⊎ Rose s.put_before s.put_now))
+HasFailed ending s = (ending ≡ NoMemory) ⊎ (Rose s.script.faults_before s.script.faults_now ⊎ ((Rose s.files.faults_before s.files.faults_now × (status_of ending ≡ 3)) ⊎ Rose s.out.faults_before s.out.faults_now))
 
 -- what the definitions say of what is told
 abbrev pub IsDueOnTold : Ending → Seen → Type 0
@@ -50,19 +50,19 @@ refused_words e s h usage = elim (h.usage usage) [ inl same ↦ cc | inr same �
 
 -- the ending of a run is due, or something failed
 pub due_or_failed : (ending : Ending) (s : Seen) → IsEndingOf ending s → IsDueOnTold ending s ⊎ HasFailed ending s
-due_or_failed Done s h = inl (each_told (λ b m. OutText s.words b m h.cause.text) (λ b m. IsDue s.words b m Done) (λ b m p. (h.cause.text, p)) s.script s.files h.cause.answers)
-due_or_failed Usage s h = inl (by_words (λ b m. IsUsage s.words) (λ b m. h.cause.0) s.script s.files)
+due_or_failed Done s h = inl (each_told (λ b m. OutText s.words b m h.cause.text) (λ b m. IsDue s.words b m Done) (λ b m p. (h.cause.text, p)) s.script.told_before s.files.told_before h.cause.answers)
+due_or_failed Usage s h = inl (by_words (λ b m. IsUsage s.words) (λ b m. h.cause.0) s.script.told_before s.files.told_before)
 due_or_failed (ReadFault None) s h = inr (inr (inl h.cause.0))
 due_or_failed (ReadFault (Some file)) s h = inr (inr (inr (inl (h.cause.0.rose, refl))))
 due_or_failed WriteFault s h = inr (inr (inr (inr h.cause.rose)))
 due_or_failed NoMemory s h = inr (inl refl)
 due_or_failed (TableRefused name kind rec field) s h = inl h.cause.0.cause
 due_or_failed (ScriptRefused e) s h =
-    let causes = cause_told (λ b. IsTextRefused b e) (λ b m. IsHalted s.words b m (refused e)) s.script s.files h.cause.0.cause in
-    inl (each_told (λ b m. IsTextRefused b e ⊎ IsHalted s.words b m (refused e)) (λ b m. IsDue s.words b m (ScriptRefused e)) (λ b m p. (refused_words e s h, p)) s.script s.files causes)
+    let causes = cause_told (λ b. IsTextRefused b e) (λ b m. IsHalted s.words b m (refused e)) s.script.told_before s.files.told_before h.cause.0.cause in
+    inl (each_told (λ b m. IsTextRefused b e ⊎ IsHalted s.words b m (refused e)) (λ b m. IsDue s.words b m (ScriptRefused e)) (λ b m p. (refused_words e s h, p)) s.script.told_before s.files.told_before causes)
 due_or_failed (Overflow number rows place formula) s h =
     let ending = Overflow number rows place formula in
-    inl (each_told (λ b m. StopsWith s.words b m h.cause.text number (rows, (place, formula))) (λ b m. IsDue s.words b m ending) (λ b m p. (h.cause.text, p)) s.script s.files h.cause.fault)
+    inl (each_told (λ b m. StopsWith s.words b m h.cause.text number (rows, (place, formula))) (λ b m. IsDue s.words b m ending) (λ b m p. (h.cause.text, p)) s.script.told_before s.files.told_before h.cause.fault)
 
 -- where no count rose, it is due, or there was no memory
 pub due_or_memory : (ending : Ending) (s : Seen) → IsEndingOf ending s → IsFaultless s → IsDueOnTold ending s ⊎ (ending ≡ NoMemory)
@@ -77,14 +77,14 @@ due_or_memory ending s h faultless = elim (due_or_failed ending s h) [
 module _ (one : HasOneEnding) where
   -- what the definitions say of what is told, and the ending that the run had
   agrees : (ending due : Ending) (s : Seen) → IsDueOnTold ending s → MustEnd s due → ending ≡ due
-  agrees ending due s h g = on_both (λ b m. IsDue s.words b m ending) (λ b m. IsDue s.words b m due) (λ b m p q. one s.words b m ending due p q) s.script s.files h g
+  agrees ending due s h g = on_both (λ b m. IsDue s.words b m ending) (λ b m. IsDue s.words b m due) (λ b m p q. one s.words b m ending due p q) s.script.told_before s.files.told_before h g
 
   -- a run in which nothing failed ends as is due, or for want of memory
   pub ends_as_due : (ending due : Ending) (s : Seen) → IsEndingOf ending s → IsFaultless s → MustEnd s due → (ending ≡ due) ⊎ (ending ≡ NoMemory)
   ends_as_due ending due s h faultless g = elim (due_or_memory ending s h faultless) [ inl told ↦ inl (agrees ending due s told g) | inr memory ↦ inr memory ]
 
   -- a run whose next file is not there ends with the status 3, or for want of memory, where nothing else failed
-  pub misses_a_file : (ending : Ending) (s : Seen) (file : List ℕ) → IsEndingOf ending s → (Rose s.read_before s.read_now → ⊥) → (Rose s.put_before s.put_now → ⊥) → MustEnd s (ReadFault (Some file)) → (status_of ending ≡ 3) ⊎ (status_of ending ≡ 5)
+  pub misses_a_file : (ending : Ending) (s : Seen) (file : List ℕ) → IsEndingOf ending s → (Rose s.script.faults_before s.script.faults_now → ⊥) → (Rose s.out.faults_before s.out.faults_now → ⊥) → MustEnd s (ReadFault (Some file)) → (status_of ending ≡ 3) ⊎ (status_of ending ≡ 5)
   misses_a_file ending s file h read_well put_well g = elim (due_or_failed ending s h) [
     | inl told ↦ inl (ap status_of (agrees ending (ReadFault (Some file)) s told g))
     | inr (inl memory) ↦ inr (ap status_of memory)

@@ -1,6 +1,7 @@
 mod Missing
 mod OneAnswer
 mod OneStep
+mod Running
 mod Seen
 pub mod Whole
 mod Statuses

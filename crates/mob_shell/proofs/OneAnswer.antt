@@ -1,6 +1,6 @@
 -- A query has one answer.
 use Rattle.std.proofs.Common.{◌≡◌, inl, inr, ℤ, ℕ, List, Result, Ok, Err, ap, subst}
-use Rattle.mob_typing.specs.Selects.{TypedSelectParts}
+use Rattle.mob_typed.specs.Selects.{TypedSelectParts}
 use Rattle.mob_value.specs.declared.store.Store.{Store}
 use Rattle.mob_eval.specs.Outcomes.{IsOne}
 use Rattle.mob_eval.specs.QueryFaults.{TupleFault}

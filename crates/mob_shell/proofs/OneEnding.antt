@@ -3,7 +3,7 @@ use Rattle.std.proofs.Common.{◌≡◌, ap, refl, inl, inr, ℕ, ℤ, List}
 use Rattle.std.specs.Prelude.{Some, None}
 use Rattle.mob_ast.specs.declared.refusal.Refusal.{Refusal}
 use Rattle.mob_outside.specs.Told.{Contents}
-use Rattle.mob_typing.specs.Statements.{ScriptOut}
+use Rattle.mob_typed.specs.Statements.{ScriptOut}
 use Rattle.mob_accept.specs.Accepts.{IsTextRefused}
 use Rattle.mob_accept.specs.Outcomes.{HasOneTextRefusal}
 use Rattle.mob_load.specs.Loads.{Halt, missing, refused, table_refused}

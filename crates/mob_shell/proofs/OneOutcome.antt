@@ -3,7 +3,7 @@ use Rattle.std.proofs.Common.{◌≡◌, ◌∙◌, sym, ap, subst, ℕ, ℤ, �
 use Rattle.std.specs.Prelude.{Result}
 use Rattle.mob_words.specs.Outcomes.{HasOneSetting}
 use Rattle.mob_outside.specs.Told.{Contents}
-use Rattle.mob_typing.specs.Statements.{ScriptOut}
+use Rattle.mob_typed.specs.Statements.{ScriptOut}
 use Rattle.mob_accept.specs.Outcomes.{HasOneScript, NeverTakenAndRefused}
 use Rattle.mob_load.specs.Loads.{Halt, LoadsScript}
 use Rattle.mob_load.specs.Outcomes.{LoadsOneProgram}
@@ -11,7 +11,7 @@ use Rattle.mob_load.specs.declared.program.Program.{Program}
 use Rattle.mob_eval.specs.QueryFaults.{TupleFault}
 use Rattle.mob_shell.specs.StepOutcomes.{HasOneStatementFault, HasOneStep, NeverRunsAndStops}
 use Rattle.mob_shell.specs.Runs.{RunsStatement, Stops, begin}
-use Rattle.mob_streams.specs.Answers.{Ran}
+use Rattle.mob_shell.specs.Statements.{Ran}
 use Rattle.mob_shell.specs.Program.{IsProgram, AreTakenAs, StopsWith}
 use Rattle.mob_shell.specs.Outcomes.{HasOneHalt, HasOneProgram, HasOneStop, HasOneText, NeverEndsAndStops, NeverProgramAndHalted, NeverScriptAndRefused}
 use Rattle.mob_shell.proofs.OneRun.{IsSingle, StopsBehind, never_ran_and_stops, one_ran, one_stop}

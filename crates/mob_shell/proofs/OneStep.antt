@@ -1,6 +1,6 @@
 -- A statement has one outcome.
 use Rattle.std.proofs.Common.{◌≡◌, ◌∙◌, sym, ap, ℕ, ℤ, List, Ok, Err}
-use Rattle.mob_typing.specs.Statements.{StatementOut, query}
+use Rattle.mob_typed.specs.Statements.{StatementOut, query}
 use Rattle.mob_eval.specs.QueryFaults.{TupleFault}
 use Rattle.mob_tail.specs.AnswerText.{answer_text}
 use Rattle.mob_shell.specs.Runs.{RunState, Stops, StatementWrites, answer_names}

@@ -1,13 +1,14 @@
 -- A run over the program's statements is a run over what they are.
 use Rattle.std.proofs.Common.{◌≡◌, ◌∙◌, ap, subst, ℕ, ◌+◌, List, [], ◌∷◌, map, take, Some}
-use Rattle.std.specs.Prelude.{ℤ, Option, slice_get, option_map}
+use Rattle.std.specs.Prelude.{ℤ, slice_get, option_map}
 use Rattle.std.specs.Io.KnownBytes.{Appends}
 use Rattle.std.proofs.lemmas.List.{take-map}
 use Rattle.std.proofs.lemmas.Option.{slice_get-map}
-use Rattle.mob_streams.specs.Answers.{Ran}
-use Rattle.mob_typing.specs.declared.typed.TypedStatement.{TypedStatement}
-use Rattle.mob_typing.specs.declared.typed.Typed.{Typed}
-use Rattle.mob_typing.specs.Statements.{StatementOut, statement_seen, script_seen}
+use Rattle.mob_shell.specs.EndsSeen.{StreamSeen}
+use Rattle.mob_shell.specs.Statements.{Ran}
+use Rattle.mob_typed.specs.declared.typed.TypedStatement.{TypedStatement}
+use Rattle.mob_typed.specs.declared.typed.Typed.{Typed}
+use Rattle.mob_typed.specs.Statements.{StatementOut, statement_seen, script_seen}
 use Rattle.mob_load.specs.declared.program.Program.{Program}
 use Rattle.mob_shell.specs.Runs.{RunState, RunsStatement, Stops, begin}
 use Rattle.mob_shell.specs.Session.{SessionRuns, StopsOn, session_state, session_day, overflow_fault}
@@ -37,15 +38,15 @@ module _ (day : ℤ) (program : Program) (typed : Typed) (s : Session) (begins :
   ran_to : (count : ℕ) (t : Session) (text : List ℕ) → Ran SessionRuns s (take count typed.statements) t text → Ran (RunsStatement day) (begin program) (take count (script_seen typed).statements) (session_state t) text
   ran_to count t text h = rw (take-map statement_seen count typed.statements) (ran_all (take count typed.statements) t text h).ran
 
-  pub seen_all : (old new : Option (List ℕ)) (t : Session) (text : List ℕ) → Ran SessionRuns s typed.statements t text → Appends old new text → RanAll day (script_seen typed) program old new
-  seen_all old new t text h put = record { text = text; stands = session_state t; ran = (ran_all typed.statements t text h).ran; put = put }
+  pub seen_all : (out : StreamSeen) (t : Session) (text : List ℕ) → Ran SessionRuns s typed.statements t text → Appends out.told_before out.told_now text → RanAll day (script_seen typed) program out
+  seen_all out t text h put = record { text = text; stands = session_state t; ran = (ran_all typed.statements t text h).ran; put = put }
 
   pub seen_first : (count : ℕ) (t : Session) (text : List ℕ) → Ran SessionRuns s (take count typed.statements) t text → RanTo day (script_seen typed) program count text
   seen_first count t text h = record { stands = session_state t; ran = ran_to count t text h }
 
-  pub seen_stop : (old new : Option (List ℕ)) (number before : ℕ) (t : Session) (x : TypedStatement) (text : List ℕ) (o : Overflow) → number ≡ before + 1 → Ran SessionRuns s (take before typed.statements) t text → Appends old new text
-      → slice_get typed.statements before ≡ Some x → StopsOn t x o → RanUpTo day (script_seen typed) program number o.rows o.place o.formula old new
-  seen_stop old new number before t x text o counts h put there stops = record {
+  pub seen_stop : (out : StreamSeen) (number before : ℕ) (t : Session) (x : TypedStatement) (text : List ℕ) (o : Overflow) → number ≡ before + 1 → Ran SessionRuns s (take before typed.statements) t text → Appends out.told_before out.told_now text
+      → slice_get typed.statements before ≡ Some x → StopsOn t x o → RanUpTo day (script_seen typed) program number (overflow_fault o) out
+  seen_stop out number before t x text o counts h put there stops = record {
     text = text;
     before = before;
     counts = counts;

@@ -39,16 +39,16 @@ by_overflow : (ending : Ending) (s : Seen) → IsCausedBy ending s → status_of
 by_overflow (Overflow number rows place formula) s h e = (number, rows, place, formula, h)
 by_overflow _ s h e = cc
 
-by_memory : (ending : Ending) (s : Seen) → IsCausedBy ending s → status_of ending ≡ 5 → Keeps s.out_before s.out_now ⊎ WroteSome s
+by_memory : (ending : Ending) (s : Seen) → IsCausedBy ending s → status_of ending ≡ 5 → Keeps s.out.told_before s.out.told_now ⊎ WroteSome s
 by_memory NoMemory s h e = h
 by_memory _ s h e = cc
 
-by_untouched : (ending : Ending) (s : Seen) → IsCausedBy ending s → status_of ending ≡ 2 → Keeps s.script s.rest
+by_untouched : (ending : Ending) (s : Seen) → IsCausedBy ending s → status_of ending ≡ 2 → Keeps s.script.told_before s.script.told_now
 by_untouched Usage s h e = h.1
 by_untouched _ s h e = cc
 
 -- an ending of a run that wrote nothing, or one with another status
-by_silence : (ending : Ending) (s : Seen) → IsCausedBy ending s → (status_of ending ≡ 2) ⊎ ((status_of ending ≡ 3) ⊎ ((status_of ending ≡ 6) ⊎ (status_of ending ≡ 7))) → Keeps s.out_before s.out_now
+by_silence : (ending : Ending) (s : Seen) → IsCausedBy ending s → (status_of ending ≡ 2) ⊎ ((status_of ending ≡ 3) ⊎ ((status_of ending ≡ 6) ⊎ (status_of ending ≡ 7))) → Keeps s.out.told_before s.out.told_now
 by_silence Usage s h e = h.2
 by_silence (ReadFault file) s h e = h.1
 by_silence (TableRefused name kind rec field) s h e = h.1
@@ -66,7 +66,7 @@ so_ended ending due Noted (inr e) noted = inr (ap status_of e)
 
 -- an ending that is due, with its status and its note
 with_note : (ending : Ending) (s : Seen) (Noted : List ℕ → Type 0) → IsDueOnTold ending s ⊎ (ending ≡ NoMemory) → Noted (note_line ending) → OnTold s (λ b m. (due : Ending) × IsDue s.words b m due × EndsSo due (status_of ending) Noted) ⊎ (status_of ending ≡ 5)
-with_note ending s Noted (inl told) noted = inl (each_told (λ b m. IsDue s.words b m ending) (λ b m. (due : Ending) × IsDue s.words b m due × EndsSo due (status_of ending) Noted) (λ b m p. (ending, p, record { number = refl; noted = noted })) s.script s.files told)
+with_note ending s Noted (inl told) noted = inl (each_told (λ b m. IsDue s.words b m ending) (λ b m. (due : Ending) × IsDue s.words b m due × EndsSo due (status_of ending) Noted) (λ b m p. (ending, p, record { number = refl; noted = noted })) s.script.told_before s.files.told_before told)
 with_note ending s Noted (inr memory) noted = inr (ap status_of memory)
 
 -- what a run promises, by its ending and what is noted of its line

@@ -7,10 +7,10 @@ use Rattle.std.proofs.lemmas.List.{append-nil, length-append}
 use Rattle.mob_ast.specs.declared.refusal.Refusal.{Refusal}
 use Rattle.mob_words.specs.CommandLine.{WordsSay}
 use Rattle.mob_accept.specs.Accepts.{IsAccepted, IsTextRefused, script_limit}
-use Rattle.mob_streams.specs.Streams.{ReadsPart, ReadsTo}
-use Rattle.mob_streams.proofs.Known.{takes_nothing}
+use Rattle.mob_outside.specs.Streams.{ReadsPart, ReadsTo}
+use Rattle.mob_outside.proofs.Known.{takes_nothing}
 use Rattle.mob_outside.specs.Told.{Contents, KeepsFiles}
-use Rattle.mob_typing.specs.Statements.{ScriptOut}
+use Rattle.mob_typed.specs.Statements.{ScriptOut}
 use Rattle.mob_load.specs.Fronts.{AsksForSome, IsAskedLast}
 use Rattle.mob_load.specs.Checks.{checks_of}
 use Rattle.mob_load.specs.Loads.{LoadsScript, Reaches, copied_files, nothing_loaded, refused, table_refused}
@@ -63,7 +63,7 @@ refused-whole e old new bytes reads (inr (inr (inl h))) = subst (λ b. IsTextRef
 refused-whole e old new bytes reads (inr (inr (inr h))) = subst (λ b. IsTextRefused b e) (sym (read-whole old new bytes reads h.script.read.short)) (inr (inr (inr h)))
 
 -- the script was read to its end, or to one byte past the limit
-read-through : (s : Seen) (bytes : List ℕ) → ReadsTo script_limit s.script s.rest bytes → ReadsThrough s
+read-through : (s : Seen) (bytes : List ℕ) → ReadsTo script_limit s.script.told_before s.script.told_now bytes → ReadsThrough s
 read-through s bytes reads = record {
   bytes = bytes;
   taken = reads.taken;
@@ -73,13 +73,13 @@ read-through s bytes reads = record {
   ];
 }
 
-module _ (s : Seen) (bytes : List ℕ) (reads : ReadsTo script_limit s.script s.rest bytes) where
-  pub text_refused : (e : Refusal) → IsTextRefused bytes e → Keeps s.out_before s.out_now → IsCausedBy (ScriptRefused e) s
-  text_refused e h keeps = (record { read = read-through s bytes reads; cause = told s.script reads }, keeps)
+module _ (s : Seen) (bytes : List ℕ) (reads : ReadsTo script_limit s.script.told_before s.script.told_now bytes) where
+  pub text_refused : (e : Refusal) → IsTextRefused bytes e → Keeps s.out.told_before s.out.told_now → IsCausedBy (ScriptRefused e) s
+  text_refused e h keeps = (record { read = read-through s bytes reads; cause = told s.script.told_before reads }, keeps)
     where
-      told : (old : Option (List ℕ)) → ReadsTo script_limit old s.rest bytes → IfSome old (λ b. IsTextRefused b e ⊎ IfSome s.files (λ m. IsHalted s.words b m (refused e)))
+      told : (old : Option (List ℕ)) → ReadsTo script_limit old s.script.told_now bytes → IfSome old (λ b. IsTextRefused b e ⊎ IfSome s.files.told_before (λ m. IsHalted s.words b m (refused e)))
       told None r = tt
-      told (Some old) r = inl (refused-whole e old s.rest bytes r h)
+      told (Some old) r = inl (refused-whole e old s.script.told_now bytes r h)
 
   module _ (workers : ℕ) (day : ℤ) (says : WordsSay s.words workers day) (out : ScriptOut) (accepted : IsAccepted bytes out) where
     script : AreTakenAs s.words bytes day out
@@ -88,26 +88,26 @@ module _ (s : Seen) (bytes : List ℕ) (reads : ReadsTo script_limit s.script s.
     short : length bytes ≤ script_limit
     short = accepted.script.read.short
 
-    copied : IfSome s.script (λ b. AreCopied s.words b (copied_files out.statements))
-    copied = on-script (λ b. AreCopied s.words b (copied_files out.statements)) s.script s.rest bytes reads short (inr (day, out, script, refl))
+    copied : IfSome s.script.told_before (λ b. AreCopied s.words b (copied_files out.statements))
+    copied = on-script (λ b. AreCopied s.words b (copied_files out.statements)) s.script.told_before s.script.told_now bytes reads short (inr (day, out, script, refl))
 
-    pub asked_in_order : AsksForSome (copied_files out.statements) s.asked_before s.asked_now → AsksInOrder s
+    pub asked_in_order : AsksForSome (copied_files out.statements) s.files.asked_before s.files.asked_now → AsksInOrder s
     asked_in_order asks = record {
       names = copied_files out.statements;
       copied = copied;
       asked = asks;
     }
 
-    copied_last : (name : List ℕ) → IsAskedLast (copied_files out.statements) s.asked_before s.asked_now name → IsCopied s name
+    copied_last : (name : List ℕ) → IsAskedLast (copied_files out.statements) s.files.asked_before s.files.asked_now name → IsCopied s name
     copied_last name last = record { names = copied_files out.statements; copied = copied; last = last }
 
-    told : (P : List ℕ → Contents → Type 0) → IfSome s.files (P bytes) → OnTold s P
-    told P h = on-script (λ b. IfSome s.files (λ m. P b m)) s.script s.rest bytes reads short h
+    told : (P : List ℕ → Contents → Type 0) → IfSome s.files.told_before (P bytes) → OnTold s P
+    told P h = on-script (λ b. IfSome s.files.told_before (λ m. P b m)) s.script.told_before s.script.told_now bytes reads short h
 
-    program : (p : Program) (Q : Contents → Type 0) → ((m : Contents) → IsProgram s.words bytes m day out p → Q m) → IfSome s.files (λ m. LoadsScript day m out (Ok p)) → IfSome s.files Q
-    program p Q f h = some_map (λ m. LoadsScript day m out (Ok p)) Q (λ m l. f m (record { script = script; loads = l })) s.files h
+    program : (p : Program) (Q : Contents → Type 0) → ((m : Contents) → IsProgram s.words bytes m day out p → Q m) → IfSome s.files.told_before (λ m. LoadsScript day m out (Ok p)) → IfSome s.files.told_before Q
+    program p Q f h = some_map (λ m. LoadsScript day m out (Ok p)) Q (λ m l. f m (record { script = script; loads = l })) s.files.told_before h
 
-    pub loaded_causes : (ending : Ending) → LoadEnds day out s.files s.asked_before s.asked_now s.filed_before s.filed_now s.out_before s.out_now s.put_before s.put_now ending → IsCausedBy ending s
+    pub loaded_causes : (ending : Ending) → LoadEnds day out s.files s.out ending → IsCausedBy ending s
     loaded_causes Done h = record {
       text = h.left.text;
       ended = reads.whole short;
@@ -152,27 +152,27 @@ module _ (s : Seen) (bytes : List ℕ) (reads : ReadsTo script_limit s.script s.
     loaded_causes (TableRefused name kind rec field) h = (
       record {
         ended = reads.whole short;
-        copied = copied_last name h.0.1;
+        copied = copied_last name h.0.last;
         cause = told (λ b m. IsHalted s.words b m (table_refused name kind rec field)) (some_map (λ m. LoadsScript day m out (Err (table_refused name kind rec field))) (λ m. IsHalted s.words bytes m (table_refused name kind rec field))
-            (λ m l. record { day = day; out = out; script = script; loads = l }) s.files h.0.0);
+            (λ m l. record { day = day; out = out; script = script; loads = l }) s.files.told_before h.0.loads);
       },
       h.1,
     )
     loaded_causes (ScriptRefused e) h = (
       record {
         read = read-through s bytes reads;
-        cause = on-script (λ b. IsTextRefused b e ⊎ IfSome s.files (λ m. IsHalted s.words b m (refused e))) s.script s.rest bytes reads short
-            (inr (some_map (λ m. LoadsScript day m out (Err (refused e))) (λ m. IsHalted s.words bytes m (refused e)) (λ m l. record { day = day; out = out; script = script; loads = l }) s.files h.0));
+        cause = on-script (λ b. IsTextRefused b e ⊎ IfSome s.files.told_before (λ m. IsHalted s.words b m (refused e))) s.script.told_before s.script.told_now bytes reads short
+            (inr (some_map (λ m. LoadsScript day m out (Err (refused e))) (λ m. IsHalted s.words bytes m (refused e)) (λ m l. record { day = day; out = out; script = script; loads = l }) s.files.told_before h.0));
       },
       h.1,
     )
     loaded_causes (ReadFault (Some name)) h = (
       record {
         ended = reads.whole short;
-        copied = copied_last name h.0.0.1;
+        copied = copied_last name h.0.last;
         reached = told (λ b m. IsReached s.words b m name) (some_map (λ m. Reaches day m (checks_of out) nothing_loaded name) (λ m. IsReached s.words bytes m name)
-            (λ m reaches. record { day = day; out = out; script = script; reaches = reaches }) s.files h.0.1);
-        rose = h.0.0.0;
+            (λ m reaches. record { day = day; out = out; script = script; reaches = reaches }) s.files.told_before h.0.reaches);
+        rose = h.0.rose;
       },
       h.1,
     )
@@ -184,17 +184,17 @@ pub reads_none : (limit : ℕ) (o : Option (List ℕ)) → ReadsPart limit o o
 reads_none limit o = record { bytes = []; taken = takes_nothing o; bound = search arith }
 
 -- no file was asked for
-pub nothing_asked : (s : Seen) → AsksForSome [] s.asked_before s.asked_now → AsksInOrder s
-nothing_asked s asks = record { names = []; copied = some_all (λ b. AreCopied s.words b []) (λ b. inl refl) s.script; asked = asks }
+pub nothing_asked : (s : Seen) → AsksForSome [] s.files.asked_before s.files.asked_now → AsksInOrder s
+nothing_asked s asks = record { names = []; copied = some_all (λ b. AreCopied s.words b []) (λ b. inl refl) s.script.told_before; asked = asks }
 
 -- a run that ends before its text is judged
 pub record IsEarly (s : Seen) : Type 0 where
-  pub read : ReadsPart script_limit s.script s.rest
-  pub asks : AsksForSome [] s.asked_before s.asked_now
-  pub files : KeepsFiles s.files s.files_now
-  pub read_later : s.read_before ≤ s.read_now
-  pub filed_later : s.filed_before ≤ s.filed_now
-  pub put_later : s.put_before ≤ s.put_now
+  pub read : ReadsPart script_limit s.script.told_before s.script.told_now
+  pub asks : AsksForSome [] s.files.asked_before s.files.asked_now
+  pub files : KeepsFiles s.files.told_before s.files.told_now
+  pub read_later : s.script.faults_before ≤ s.script.faults_now
+  pub filed_later : s.files.faults_before ≤ s.files.faults_now
+  pub put_later : s.out.faults_before ≤ s.out.faults_now
 
 pub early_ends : (ending : Ending) (s : Seen) → IsEarly s → IsCausedBy ending s → (IsUsage s.words → (ending ≡ Usage) ⊎ (ending ≡ NoMemory)) → IsEndingOf ending s
 early_ends ending s h cause usage = record {
@@ -210,24 +210,24 @@ early_ends ending s h cause usage = record {
 
 -- counts of faults that did not fall, what was taken of the script, and files that stay as they were
 pub record IsOrderly (s : Seen) : Type 0 where
-  pub read : ReadsPart script_limit s.script s.rest
-  pub files : KeepsFiles s.files s.files_now
-  pub read_later : s.read_before ≤ s.read_now
-  pub filed_later : s.filed_before ≤ s.filed_now
-  pub put_later : s.put_before ≤ s.put_now
+  pub read : ReadsPart script_limit s.script.told_before s.script.told_now
+  pub files : KeepsFiles s.files.told_before s.files.told_now
+  pub read_later : s.script.faults_before ≤ s.script.faults_now
+  pub filed_later : s.files.faults_before ≤ s.files.faults_now
+  pub put_later : s.out.faults_before ≤ s.out.faults_now
 
-refusal-causes : (s : Seen) (bytes : List ℕ) → ReadsTo script_limit s.script s.rest bytes → (ending : Ending) → Keeps s.out_before s.out_now → (ending ≡ NoMemory) ⊎ ((e : Refusal) × (ending ≡ ScriptRefused e) × IsTextRefused bytes e) → IsCausedBy ending s
+refusal-causes : (s : Seen) (bytes : List ℕ) → ReadsTo script_limit s.script.told_before s.script.told_now bytes → (ending : Ending) → Keeps s.out.told_before s.out.told_now → (ending ≡ NoMemory) ⊎ ((e : Refusal) × (ending ≡ ScriptRefused e) × IsTextRefused bytes e) → IsCausedBy ending s
 refusal-causes s bytes reads ending keeps (inl none) = subst (λ e. IsCausedBy e s) (sym none) (inl keeps)
 refusal-causes s bytes reads ending keeps (inr h) = subst (λ e. IsCausedBy e s) (sym h.1) (text_refused s bytes reads h.0 h.2 keeps)
 
 -- a run whose text was judged, and loaded and run where it is a script
-pub text_ends : (s : Seen) (bytes : List ℕ) → ReadsTo script_limit s.script s.rest bytes → (workers : ℕ) (day : ℤ) → WordsSay s.words workers day → IsOrderly s → (ending : Ending)
-    → RunsText day bytes s.files s.asked_before s.asked_now s.filed_before s.filed_now s.out_before s.out_now s.put_before s.put_now ending ⊎ RefusesText bytes s.asked_before s.asked_now s.out_before s.out_now ending
+pub text_ends : (s : Seen) (bytes : List ℕ) → ReadsTo script_limit s.script.told_before s.script.told_now bytes → (workers : ℕ) (day : ℤ) → WordsSay s.words workers day → IsOrderly s → (ending : Ending)
+    → RunsText day bytes s.files s.out ending ⊎ RefusesText bytes s.files s.out ending
     → IsEndingOf ending s
 text_ends s bytes reads workers day says orderly ending (inl h) = record {
-  cause = loaded_causes s bytes reads workers day says h.out h.accepted ending h.ends;
+  cause = loaded_causes s bytes reads workers day says h.script h.accepted ending h.ends;
   read = orderly.read;
-  asked = asked_in_order s bytes reads workers day says h.out h.accepted h.asks;
+  asked = asked_in_order s bytes reads workers day says h.script h.accepted h.asks;
   files = orderly.files;
   usage = λ u. absurd (u workers day says);
   read_later = orderly.read_later;

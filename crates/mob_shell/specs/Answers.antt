@@ -1,6 +1,6 @@
 -- What a query answers: on the tuples that it keeps.
 use Rattle.std.specs.Prelude.{◌⊎◌, ℤ, ℕ, List, Result, Ok, Err}
-use Rattle.mob_typing.specs.Selects.{TypedSelectParts}
+use Rattle.mob_typed.specs.Selects.{TypedSelectParts}
 use Rattle.mob_value.specs.declared.store.Store.{Store}
 use Rattle.mob_eval.specs.QueryFaults.{TupleFault}
 use Rattle.mob_join.specs.Query.{IsKept}

@@ -1,4 +1,6 @@
 pub mod Answers
+pub mod EndsSeen
+pub mod Statements
 pub mod Runs
 pub mod StepOutcomes
 pub mod Session

@@ -2,14 +2,14 @@
 use Rattle.std.specs.Prelude.{◌≡◌, ◌+◌, ℕ, ℤ, List, Ok, Err, Some, take, slice_get}
 use Rattle.mob_words.specs.CommandLine.{WordsSay}
 use Rattle.mob_outside.specs.Told.{Contents}
-use Rattle.mob_typing.specs.Statements.{ScriptOut, StatementOut}
+use Rattle.mob_typed.specs.Statements.{ScriptOut, StatementOut}
 use Rattle.mob_accept.specs.Accepts.{IsAccepted}
 use Rattle.mob_load.specs.Checks.{checks_of}
 use Rattle.mob_load.specs.Loads.{Halt, LoadsScript, Reaches, nothing_loaded}
 use Rattle.mob_load.specs.declared.program.Program.{Program}
 use Rattle.mob_eval.specs.QueryFaults.{TupleFault}
 use Rattle.mob_shell.specs.Runs.{RunState, RunsStatement, Stops, begin}
-use Rattle.mob_streams.specs.Answers.{Ran}
+use Rattle.mob_shell.specs.Statements.{Ran}
 
 -- The words are taken, the text is a script, and this is what it is with names and types.
 pub record AreTakenAs (words : List (List ℕ)) (bytes : List ℕ) (day : ℤ) (out : ScriptOut) : Type 0 where

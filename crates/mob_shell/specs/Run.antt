@@ -3,7 +3,7 @@ use Rattle.std.specs.Prelude.{◌≡◌, ◌⊎◌, ◌≤◌, ℕ, List, Some}
 use Rattle.std.specs.Io.KnownBytes.{Keeps}
 use Rattle.mob_outside.specs.Faults.{Rose}
 use Rattle.mob_outside.specs.Told.{KeepsFiles}
-use Rattle.mob_streams.specs.Streams.{ReadsPart}
+use Rattle.mob_outside.specs.Streams.{ReadsPart}
 use Rattle.mob_accept.specs.Accepts.{script_limit}
 use Rattle.mob_ending.specs.Lines.{note_line, status_of}
 use Rattle.mob_ending.specs.declared.ending.Ending.{Ending}
@@ -33,7 +33,7 @@ pub record IsRun (status : ℕ) (s : Seen) (Noted : List ℕ → Type 0) : Type 
   -- 4: only where the count of `out` rose, which took a proper prefix of the answers of some statements
   pub write_fault : status ≡ 4 → CutsShort s
   -- 5: whatever was written is whole answers
-  pub no_memory : status ≡ 5 → Keeps s.out_before s.out_now ⊎ WroteSome s
+  pub no_memory : status ≡ 5 → Keeps s.out.told_before s.out.told_now ⊎ WroteSome s
   -- 6: only where the first refusal stands in a table file, that of a COPY statement, which was asked for last
   pub table_refused : status ≡ 6 → IsTableFault s
   -- 7: only where the first refusal stands in the script
@@ -42,22 +42,22 @@ pub record IsRun (status : ℕ) (s : Seen) (Noted : List ℕ → Type 0) : Type 
   -- answers before
   pub overflow : status ≡ 8 → IsOverflow s
   -- under 2, 3, 6 and 7 nothing is written
-  pub silent : (status ≡ 2) ⊎ ((status ≡ 3) ⊎ ((status ≡ 6) ⊎ (status ≡ 7))) → Keeps s.out_before s.out_now
+  pub silent : (status ≡ 2) ⊎ ((status ≡ 3) ⊎ ((status ≡ 6) ⊎ (status ≡ 7))) → Keeps s.out.told_before s.out.told_now
   -- under 2 nothing is taken of the script
-  pub untouched : status ≡ 2 → Keeps s.script s.rest
+  pub untouched : status ≡ 2 → Keeps s.script.told_before s.script.told_now
   -- The other way, for a script and files that are told, where no count of the script, the files and `out` rose: the definitions ask
   -- for an ending, and the status and the note are its own; so they are wherever the definitions ask for one. Want of memory is free.
   pub due : IsFaultless s → OnTold s (λ bytes files. (ending : Ending) × IsDue s.words bytes files ending × EndsSo ending status Noted) ⊎ (status ≡ 5)
   pub complete : (ending : Ending) → MustEnd s ending → IsFaultless s → EndsSo ending status Noted ⊎ (status ≡ 5)
   -- where a file is not there, which the files count as a fault, the status is 3, if neither the script nor `out` failed
-  pub missing : (file : List ℕ) → MustEnd s (ReadFault (Some file)) → (Rose s.read_before s.read_now → ⊥) → (Rose s.put_before s.put_now → ⊥) → (status ≡ 3) ⊎ (status ≡ 5)
+  pub missing : (file : List ℕ) → MustEnd s (ReadFault (Some file)) → (Rose s.script.faults_before s.script.faults_now → ⊥) → (Rose s.out.faults_before s.out.faults_now → ⊥) → (status ≡ 3) ⊎ (status ≡ 5)
   -- under every status: at most one byte past the limit is taken from the script, the files are asked for the names of the
   -- script's COPY statements alone, in order, the files that are told stay as they were, and no count of faults falls
-  pub reads : ReadsPart script_limit s.script s.rest
+  pub reads : ReadsPart script_limit s.script.told_before s.script.told_now
   pub asked : AsksInOrder s
-  pub files : KeepsFiles s.files s.files_now
-  pub read_later : s.read_before ≤ s.read_now
-  pub filed_later : s.filed_before ≤ s.filed_now
-  pub put_later : s.put_before ≤ s.put_now
+  pub files : KeepsFiles s.files.told_before s.files.told_now
+  pub read_later : s.script.faults_before ≤ s.script.faults_now
+  pub filed_later : s.files.faults_before ≤ s.files.faults_now
+  pub put_later : s.out.faults_before ≤ s.out.faults_now
   -- the note is the line of the ending with this status and this cause
   pub note : IsTold status s Noted

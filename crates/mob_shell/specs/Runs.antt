@@ -2,9 +2,10 @@
 use Rattle.std.specs.Prelude.{◌≡◌, ℕ, ℤ, List, [], ◌∷◌, map, Option, Some, None, Ok, Err, slice_get}
 use Rattle.mob_value.specs.declared.value.Value.{Value}
 use Rattle.mob_value.specs.declared.value.Value.TheVariants.{Null}
+use Rattle.mob_value.specs.Null.{value_or_null}
 use Rattle.mob_catalog.specs.Catalogue.{Catalogue, new_catalogue, with_empty_table, with_row}
-use Rattle.mob_typing.specs.Selects.{TypedSelectParts, Output}
-use Rattle.mob_typing.specs.Statements.{StatementOut, nothing, new_table, new_index, new_rows, rows_from, query, plan_of}
+use Rattle.mob_typed.specs.Selects.{TypedSelectParts, Output}
+use Rattle.mob_typed.specs.Statements.{StatementOut, nothing, new_table, new_index, new_rows, rows_from, query, plan_of}
 use Rattle.mob_eval.specs.QueryFaults.{TupleFault}
 use Rattle.mob_load.specs.declared.program.Program.{Program}
 use Rattle.mob_shell.specs.Answers.{QueryAnswers}
@@ -20,10 +21,6 @@ abbrev pub begin : Program → RunState
 begin p = record { catalogue = new_catalogue p.values; files = p.files }
 
 -- the value of a constant; one that is not there, which no typed script names, is NULL
-abbrev pub value_or_null : Option Value → Value
-value_or_null None = Null
-value_or_null (Some v) = v
-
 abbrev pub constant_value : List Value → Option ℕ → Value
 constant_value consts None = Null
 constant_value consts (Some n) = value_or_null (slice_get consts n)

@@ -1,12 +1,12 @@
 -- A run of statements as the program holds it.
 use Rattle.std.specs.Prelude.{◌≡◌, ℤ, ℕ, List}
-use Rattle.mob_typing.specs.declared.typed.TypedStatement.{TypedStatement}
-use Rattle.mob_typing.specs.Statements.{statement_seen}
+use Rattle.mob_typed.specs.declared.typed.TypedStatement.{TypedStatement}
+use Rattle.mob_typed.specs.Statements.{statement_seen}
 use Rattle.mob_eval.specs.QueryFaults.{TupleFault}
 use Rattle.mob_eval.specs.declared.query_fault.QueryFault.{QueryFault}
 use Rattle.mob_eval.specs.declared.query_fault.QueryFault.TheVariants.{Passed, NoMemory as OutOfMemory}
-use Rattle.mob_streams.specs.declared.answers.NoAnswer.{NoAnswer}
-use Rattle.mob_streams.specs.declared.answers.NoAnswer.TheVariants.{Fault, NoMemory}
+use Rattle.mob_shell.specs.declared.engine.NoAnswer.{NoAnswer}
+use Rattle.mob_shell.specs.declared.engine.NoAnswer.TheVariants.{Fault, NoMemory}
 use Rattle.mob_shell.specs.Runs.{RunState, RunsStatement, Stops}
 use Rattle.mob_shell.specs.declared.session.Session.{Session}
 use Rattle.mob_shell.specs.declared.session.Overflow.{Overflow}

@@ -1,7 +1,7 @@
 -- A query and a statement have one outcome.
 use Rattle.std.specs.Prelude.{◌≡◌, ℕ, ℤ, List}
-use Rattle.mob_typing.specs.Selects.{TypedSelectParts}
-use Rattle.mob_typing.specs.Statements.{StatementOut}
+use Rattle.mob_typed.specs.Selects.{TypedSelectParts}
+use Rattle.mob_typed.specs.Statements.{StatementOut}
 use Rattle.mob_value.specs.declared.store.Store.{Store}
 use Rattle.mob_eval.specs.Outcomes.{IsOne}
 use Rattle.mob_eval.specs.QueryFaults.{TupleFault}

@@ -1,6 +1,6 @@
 // What a query answers.
 ghost use Rattle.std.specs.Prelude.{◌≡◌, Ok, Err, IfOk, IfErr, map};
-ghost use Rattle.mob_typing.specs.Selects.{select_seen};
+ghost use Rattle.mob_typed.specs.Selects.{select_seen};
 ghost use Rattle.mob_eval.specs.QueryFaults.{OnTuple};
 ghost use Rattle.mob_shell.specs.Answers.{QueryAnswers};
 

@@ -1,12 +1,12 @@
 // What a run does before its note.
 ghost use Rattle.std.specs.Prelude.{map, string_bytes};
+ghost use Rattle.mob_shell.specs.EndsSeen.{files_seen, stream_seen};
 ghost use Rattle.mob_shell.specs.Ending.{IsEndingOf, seen};
 
 use crate::judge::run_text;
 use mob_accept::SCRIPT_LIMIT;
 use mob_ending::Ending;
-use mob_outside::{Files, Sink, Source};
-use mob_streams::{ReadEnd, read_to};
+use mob_outside::{Files, ReadEnd, Sink, Source, read_to};
 use mob_words::settings;
 use std::alloc::Global;
 
@@ -18,7 +18,7 @@ pub fn decide<S: Source, F: Files, K: Sink>(
     files: &mut F,
     out: &mut K,
 ) -> Ending
-    ensures ends { IsEndingOf result (seen S.left S.faults F.files F.asked F.faults K.held K.faults (map string_bytes words.now) script.old script.new files.old files.new out.old out.new) }
+    ensures ends { IsEndingOf result (seen (map string_bytes words.now) (stream_seen S.left S.faults script.old script.new) (files_seen F.files F.asked F.faults files.old files.new) (stream_seen K.held K.faults out.old out.new)) }
 {
     let settings = match settings(alloc, words) {
         Ok(Some(settings)) => settings,

@@ -1,6 +1,7 @@
 // A text, judged and run.
 ghost use Rattle.std.specs.Prelude.{◌⊎◌, ◌≤◌};
 ghost use Rattle.mob_outside.specs.Told.{KeepsFiles};
+ghost use Rattle.mob_shell.specs.EndsSeen.{files_seen, stream_seen};
 ghost use Rattle.mob_shell.specs.Parts.{RefusalEnds, RefusesText, RunsText};
 
 use crate::program::run_typed;
@@ -29,8 +30,8 @@ pub fn run_text<F: Files, K: Sink>(
     files: &mut F,
     out: &mut K,
 ) -> Ending
-    ensures ends { RunsText epoch bytes.now (F.files files.old) (F.asked files.old) (F.asked files.new) (F.faults files.old) (F.faults files.new) (K.held out.old) (K.held out.new) (K.faults out.old) (K.faults out.new) result
-        ⊎ RefusesText bytes.now (F.asked files.old) (F.asked files.new) (K.held out.old) (K.held out.new) result }
+    ensures ends { RunsText epoch bytes.now (files_seen F.files F.asked F.faults files.old files.new) (stream_seen K.held K.faults out.old out.new) result
+        ⊎ RefusesText bytes.now (files_seen F.files F.asked F.faults files.old files.new) (stream_seen K.held K.faults out.old out.new) result }
     ensures files { KeepsFiles (F.files files.old) (F.files files.new) }
     ensures filed_later { F.faults files.old ≤ F.faults files.new }
     ensures put_later { K.faults out.old ≤ K.faults out.new }

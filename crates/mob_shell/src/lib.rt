@@ -6,6 +6,7 @@
 
 mod answers;
 mod decide;
+mod engine;
 mod judge;
 pub mod laws;
 pub mod order_laws;

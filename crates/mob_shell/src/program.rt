@@ -3,7 +3,8 @@ ghost use Rattle.std.specs.Prelude.{◌≤◌};
 ghost use Rattle.mob_outside.specs.Told.{KeepsFiles};
 ghost use Rattle.mob_load.specs.Fronts.{AsksForSome};
 ghost use Rattle.mob_load.specs.Loads.{IsTypedScript, copied_files};
-ghost use Rattle.mob_typing.specs.Statements.{script_seen};
+ghost use Rattle.mob_typed.specs.Statements.{script_seen};
+ghost use Rattle.mob_shell.specs.EndsSeen.{files_seen, stream_seen};
 ghost use Rattle.mob_shell.specs.Parts.{LoadEnds};
 
 use crate::statements::run_statements;
@@ -11,7 +12,7 @@ use mob_ending::Ending;
 use mob_load::{LoadEnd, load};
 use mob_outside::{Files, Sink};
 use mob_scalar::Epoch;
-use mob_typing::Typed;
+use mob_typed::Typed;
 use std::alloc::Global;
 
 // Reads the literals and the files of a typed script, and runs its statements.
@@ -23,7 +24,7 @@ pub fn run_typed<F: Files, K: Sink>(
     out: &mut K,
 ) -> Ending
     requires typed { IsTypedScript (script_seen typed.now) }
-    ensures ends { LoadEnds epoch (script_seen typed.now) (F.files files.old) (F.asked files.old) (F.asked files.new) (F.faults files.old) (F.faults files.new) (K.held out.old) (K.held out.new) (K.faults out.old) (K.faults out.new) result }
+    ensures ends { LoadEnds epoch (script_seen typed.now) (files_seen F.files F.asked F.faults files.old files.new) (stream_seen K.held K.faults out.old out.new) result }
     ensures asked { AsksForSome (copied_files (script_seen typed.now).statements) (F.asked files.old) (F.asked files.new) }
     ensures files { KeepsFiles (F.files files.old) (F.files files.new) }
     ensures filed_later { F.faults files.old ≤ F.faults files.new }

@@ -1,12 +1,13 @@
 // A run of statements.
 ghost use Rattle.std.specs.Prelude.{◌≡◌, IfOk, IfErr, OnOk};
-ghost use Rattle.mob_streams.specs.Answers.{OnFault};
-ghost use Rattle.mob_typing.specs.Selects.{select_seen};
-ghost use Rattle.mob_typing.specs.Statements.{query, statement_seen};
+ghost use Rattle.mob_shell.specs.Statements.{OnFault};
+ghost use Rattle.mob_typed.specs.Selects.{select_seen};
+ghost use Rattle.mob_typed.specs.Statements.{query, statement_seen};
 ghost use Rattle.mob_shell.specs.Runs.{Stops, StatementWrites, state_after, begin, later_files, next_rows};
 ghost use Rattle.mob_shell.specs.Session.{HasNoAnswerBy, session_day, overflow_fault, session_state};
 
 use crate::answers::answered;
+use crate::engine::{Engine, NoAnswer};
 use crate::rows::{copy_of_columns, put_constants, put_rows};
 use mob_catalog::Catalog;
 use mob_eval::QueryFault;
@@ -15,9 +16,8 @@ use mob_list::items::Items;
 use mob_load::Program;
 use mob_scalar::Epoch;
 use mob_slice::Formula;
-use mob_streams::{Engine, NoAnswer};
 use mob_tail::answer_text;
-use mob_typing::{TypedSelect, TypedStatement};
+use mob_typed::{TypedSelect, TypedStatement};
 use mob_value::Value;
 use std::alloc::{AllocError, Global};
 use std::collections::VecDeque;

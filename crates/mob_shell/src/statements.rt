@@ -1,15 +1,16 @@
 // The statements of a program, run.
 ghost use Rattle.std.specs.Prelude.{◌≤◌};
-ghost use Rattle.mob_typing.specs.Statements.{script_seen};
+ghost use Rattle.mob_typed.specs.Statements.{script_seen};
+ghost use Rattle.mob_shell.specs.EndsSeen.{stream_seen};
 ghost use Rattle.mob_shell.specs.Parts.{RunEnds};
 
+use crate::engine::{RunEnd, run_all};
 use crate::session::Session;
 use mob_ending::Ending;
 use mob_load::Program;
 use mob_outside::Sink;
 use mob_scalar::Epoch;
-use mob_streams::{RunEnd, run_all};
-use mob_typing::Typed;
+use mob_typed::Typed;
 use std::alloc::Global;
 
 // Runs the statements of a typed script, one after the other, and puts each answer.
@@ -20,7 +21,7 @@ pub fn run_statements<K: Sink>(
     epoch: Epoch,
     out: &mut K,
 ) -> Ending
-    ensures ends { RunEnds epoch (script_seen typed.now) program (K.held out.old) (K.held out.new) (K.faults out.old) (K.faults out.new) result }
+    ensures ends { RunEnds epoch (script_seen typed.now) program (stream_seen K.held K.faults out.old out.new) result }
     ensures later { K.faults out.old ≤ K.faults out.new }
 {
     let mut session = Session::new(alloc, program, epoch);

@@ -1,8 +1,9 @@
 // The top call.
 ghost use Rattle.std.specs.Prelude.{map, string_bytes};
+ghost use Rattle.mob_shell.specs.EndsSeen.{files_seen, stream_seen};
 ghost use Rattle.mob_shell.specs.Ending.{seen};
 ghost use Rattle.mob_shell.specs.Run.{IsRun};
-ghost use Rattle.mob_streams.specs.Streams.{Puts};
+ghost use Rattle.mob_outside.specs.Streams.{Puts};
 
 use crate::decide::decide;
 use crate::laws::one_ending;
@@ -36,7 +37,7 @@ pub fn run<R: Threads + Sync, S: Source, F: Files, K: Sink, E: Sink, G: Gate>(
 ) -> u8
     // `IsRun` says it all, a line for each status and each other promise, of what is seen of the run and of its note.
     ensures promises { IsRun result
-        (seen S.left S.faults F.files F.asked F.faults K.held K.faults (map string_bytes words.now) script.old script.new files.old files.new out.old out.new)
+        (seen (map string_bytes words.now) (stream_seen S.left S.faults script.old script.new) (files_seen F.files F.asked F.faults files.old files.new) (stream_seen K.held K.faults out.old out.new))
         (λ line. Puts line (E.held notes.old) (E.held notes.new) (E.faults notes.old) (E.faults notes.new)) }
 {
     one_ending();

@@ -9,6 +9,7 @@ pub mod base_value;
 pub mod comparison;
 pub mod course;
 pub mod formula;
+pub mod laws;
 pub mod moving;
 pub mod operand;
 pub mod part;

@@ -1,8 +1,8 @@
 -- Kept tuples have one answer.
 use Rattle.std.proofs.Common.{◌≡◌, inl, inr, ℤ, ℕ, Bool, true, false, List, [], ◌∷◌, ◌++◌, Option, Result, Ok, Err, sym, ap, ap₂, subst, ◌∙◌, map}
 use Rattle.std.specs.Ordering.{is_lt}
-use Rattle.mob_typing.specs.Trees.{TypedTree}
-use Rattle.mob_typing.specs.Selects.{TypedSelectParts}
+use Rattle.mob_typed.specs.Trees.{TypedTree}
+use Rattle.mob_typed.specs.Selects.{TypedSelectParts}
 use Rattle.mob_value.specs.declared.store.Store.{Store}
 use Rattle.mob_literal.specs.Fields.{field_text}
 use Rattle.mob_eval.specs.Scene.{Scene, scene}

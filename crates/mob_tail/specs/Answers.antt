@@ -1,7 +1,7 @@
 -- What a query answers.
 use Rattle.std.specs.Prelude.{◌≡◌, ◌⊎◌, ℤ, ℕ, List, Bool, Result, Ok, Err, map}
-use Rattle.mob_typing.specs.Trees.{TypedTree}
-use Rattle.mob_typing.specs.Selects.{TypedSelectParts}
+use Rattle.mob_typed.specs.Trees.{TypedTree}
+use Rattle.mob_typed.specs.Selects.{TypedSelectParts}
 use Rattle.mob_value.specs.declared.value.Value.{Value}
 use Rattle.mob_value.specs.declared.store.Store.{Store}
 use Rattle.mob_literal.specs.Fields.{field_text}

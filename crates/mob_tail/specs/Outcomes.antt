@@ -1,6 +1,6 @@
 -- Kept tuples have one answer or one fault.
 use Rattle.std.specs.Prelude.{ℕ, ℤ, List}
-use Rattle.mob_typing.specs.Selects.{TypedSelectParts}
+use Rattle.mob_typed.specs.Selects.{TypedSelectParts}
 use Rattle.mob_value.specs.declared.store.Store.{Store}
 use Rattle.mob_eval.specs.Outcomes.{IsOne}
 use Rattle.mob_tail.specs.Answers.{IsQueryAnswer}

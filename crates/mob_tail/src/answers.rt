@@ -1,6 +1,6 @@
 // What a query answers.
 ghost use Rattle.std.specs.Prelude.{◌≡◌, Ok, Err, IfOk, IfErr, map};
-ghost use Rattle.mob_typing.specs.Selects.{select_seen, output_of, key_seen};
+ghost use Rattle.mob_typed.specs.Selects.{select_seen, output_of, key_seen};
 ghost use Rattle.mob_eval.specs.QueryFaults.{OnTuple};
 ghost use Rattle.mob_tail.specs.Rows.{AreArranged};
 ghost use Rattle.mob_tail.specs.Answers.{IsQueryAnswer};
@@ -12,7 +12,7 @@ use mob_eval::QueryFault;
 use mob_list::items::Items;
 use mob_list::text::Text;
 use mob_scalar::Epoch;
-use mob_typing::{TExpr, TypedSelect};
+use mob_typed::{TExpr, TypedSelect};
 use mob_value::Store;
 use std::alloc::{AllocError, Global};
 

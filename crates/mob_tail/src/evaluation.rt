@@ -1,7 +1,7 @@
 // The rows of the kept tuples: their printed fields and the values of their keys.
 ghost use Rattle.std.specs.Prelude.{◌≡◌, ◌⊎◌, Ok, Err, IfOk, IfErr};
 ghost use Rattle.std.specs.Fn.{FnReturnsAt};
-ghost use Rattle.mob_typing.specs.Selects.{select_seen, output_of, key_seen};
+ghost use Rattle.mob_typed.specs.Selects.{select_seen, output_of, key_seen};
 ghost use Rattle.mob_eval.specs.Scene.{scene};
 ghost use Rattle.mob_eval.specs.Views.{scene_of};
 ghost use Rattle.mob_eval.specs.Evaluation.{OnPassed};
@@ -15,7 +15,7 @@ use mob_list::items::Items;
 use mob_list::text::Text;
 use mob_literal::write_field;
 use mob_scalar::Epoch;
-use mob_typing::{TExpr, TypedSelect};
+use mob_typed::{TExpr, TypedSelect};
 use mob_value::{Store, Value};
 use std::alloc::Global;
 

@@ -1,10 +1,4 @@
-pub mod Entries
-pub mod Examples
-pub mod ExpressionSteps
 pub mod Limits
-pub mod Matches
-pub mod Rising
+pub mod Pushed
 pub mod RowSteps
-pub mod TableExamples
-pub mod TreeFacts
-pub mod Wrongs
+pub mod ScriptSteps

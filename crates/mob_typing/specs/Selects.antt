@@ -13,14 +13,15 @@ use Rattle.mob_ast.specs.declared.statement.FromTable.{FromTable}
 use Rattle.mob_ast.specs.Trees.{Tree, tree, ItemParts, every, one, KeyParts, SelectParts}
 use Rattle.mob_operators.specs.declared.operator.Op.TheVariants as op
 use Rattle.mob_operators.specs.Lookup.{has_type}
-use Rattle.mob_typing.specs.declared.typed.TExpr.{TExpr}
-use Rattle.mob_typing.specs.declared.typed.TypedSelect.{TypedSelect}
 use Rattle.mob_typing.specs.declared.outputs.Outputs.{Outputs}
-use Rattle.mob_typing.specs.Answers.{Mistake, ◌>>=◌, unless, found, TypingStep}
-use Rattle.mob_typing.specs.Names.{ColumnList, table_of, entry_from, has_entry}
-use Rattle.mob_typing.specs.Scopes.{SourceParts, ScopeParts}
-use Rattle.mob_typing.specs.Trees.{TypedTree, typed, none, type_of, typed_of}
-use Rattle.mob_typing.specs.Expressions.{typed_expression}
+use Rattle.mob_expression.specs.Answers.{Mistake, ◌>>=◌, unless, found, TypingStep, one_more}
+use Rattle.mob_typed.specs.Selects.{Output, TypedSelectParts, output_of}
+use Rattle.mob_typed.specs.Statements.{ColumnList}
+use Rattle.mob_typing.specs.Names.{table_of}
+use Rattle.mob_expression.specs.Names.{entry_from, has_entry}
+use Rattle.mob_expression.specs.Scopes.{SourceParts, ScopeParts}
+use Rattle.mob_typed.specs.Trees.{TypedTree, typed, none, type_of}
+use Rattle.mob_expression.specs.Expressions.{typed_expression}
 
 -- The name that a table goes by in FROM. There are at most four tables, and no two go by one name. What stands at an
 -- earlier place comes first, and at one place a name that is there already comes before the limit.
@@ -36,10 +37,6 @@ from_table tables from f = found kind.UnknownName f.table.place (table_of tables
 abbrev pub from_tables : List (List ℕ × ColumnList) → List (List ℕ × SourceParts) → List FromTable → Result (List (List ℕ × SourceParts)) Mistake
 from_tables tables from [] = Ok from
 from_tables tables from (f ∷ fs) = from_table tables from f >>= λ more. from_tables tables more fs
-
--- a column of the answer: its expression and its name
-abbrev pub Output : Type 0
-Output = TypedTree × List ℕ
 
 -- the columns of a table of FROM as columns of the answer, the first of which has number k
 abbrev pub columns_of_table : ℕ → ℕ → ColumnList → ℕ → List Output
@@ -114,10 +111,10 @@ is_key ty = has_type (sql.Bool ∷ sql.Int ∷ sql.Numeric ∷ sql.Text ∷ sql.
 abbrev pub typed_key : ScopeParts → OutputLists → KeyParts → TypingStep (TypedTree × Bool)
 typed_key s o k cs = or_typed s k.value (aliased o k.value) cs >>= λ r. unless (not (is_key (type_of r.0))) kind.NoSuchOperator (tree_place k.value) >>= λ _. Ok ((r.0, k.descending), r.1)
 
--- the keys in order, behind those that are typed already
-abbrev pub typed_keys : ScopeParts → OutputLists → List (TypedTree × Bool) → List KeyParts → TypingStep (List (TypedTree × Bool))
-typed_keys s o keys [] cs = Ok (keys, cs)
-typed_keys s o keys (k ∷ ks) cs = typed_key s o k cs >>= λ r. typed_keys s o (keys ++ r.0 ∷ []) ks r.1
+-- the keys in order
+abbrev pub typed_keys : ScopeParts → OutputLists → List KeyParts → TypingStep (List (TypedTree × Bool))
+typed_keys s o [] cs = Ok ([], cs)
+typed_keys s o (k ∷ ks) cs = one_more (typed_key s o k) (typed_keys s o ks) cs
 
 -- a LIMIT has digits alone, 1 to 18 of them
 abbrev pub is_limit : List ℕ → Bool
@@ -130,26 +127,6 @@ abbrev pub limit_of : Option Word → Result (Option ℕ) Mistake
 limit_of None = Ok None
 limit_of (Some w) = found kind.BadCount w.place (limit_value w.text) >>= λ n. Ok (Some n)
 
--- a typed SELECT
-pub record TypedSelectParts : Type 0 where
-  pub distinct : Bool
-  pub items : List Output
-  pub from : List ℕ
-  pub names : List (List ℕ)
-  pub cond : Option TypedTree
-  pub keys : List (TypedTree × Bool)
-  pub limit : Option ℕ
-
-abbrev pub output_of : TExpr × List ℕ → Output
-output_of o = (typed_of o.0, o.1)
-
-abbrev pub key_seen : TExpr × Bool → TypedTree × Bool
-key_seen k = (typed_of k.0, k.1)
-
--- the program's typed SELECT as such a value
-abbrev pub select_seen : TypedSelect → TypedSelectParts
-select_seen s = record { distinct = s.distinct; items = map output_of s.items; from = s.from; names = s.names; cond = option_map typed_of s.cond; keys = map key_seen s.keys; limit = s.limit }
-
 -- the program's columns of the answer as such a value
 abbrev pub outputs_seen : Outputs → OutputLists
 outputs_seen o = record { columns = map output_of o.columns.items; aliases = map (λ a. (a.0.now, a.1)) o.aliases.items }
@@ -160,7 +137,7 @@ no_outputs = record { columns = []; aliases = [] }
 -- the clauses behind FROM, which sees these tables
 abbrev pub typed_clauses : ScopeParts → SelectParts → TypingStep TypedSelectParts
 typed_clauses scope s cs =
-    with_items scope no_outputs s.items cs >>= λ o. condition scope s.cond o.1 >>= λ c. typed_keys scope o.0 [] s.keys c.1 >>= λ k. limit_of s.limit >>= λ l.
+    with_items scope no_outputs s.items cs >>= λ o. condition scope s.cond o.1 >>= λ c. typed_keys scope o.0 s.keys c.1 >>= λ k. limit_of s.limit >>= λ l.
     Ok (record { distinct = s.distinct; items = o.0.columns; from = map (λ t. t.1.table) scope.from; names = map (λ t. t.0) scope.from; cond = c.0; keys = k.0; limit = l }, k.1)
 
 -- The typed SELECT of the statement of this number, or what is wrong first.

@@ -12,37 +12,19 @@ use Rattle.mob_ast.specs.declared.expression.Node.{Node}
 use Rattle.mob_ast.specs.declared.expression.Node.TheVariants as node
 use Rattle.mob_ast.specs.Trees.{Tree, tree, Trees, RowParts, StatementParts, empty, create_table, create_index, insert, copy, select, explain}
 use Rattle.mob_operators.specs.Lookup.{same_type}
-use Rattle.mob_typing.specs.declared.typed.ConstText.{ConstText}
-use Rattle.mob_typing.specs.declared.typed.TypedStatement.{TypedStatement}
-use Rattle.mob_typing.specs.declared.typed.TypedStatement.TheVariants as typed
-use Rattle.mob_typing.specs.declared.typed.Typed.{Typed}
-use Rattle.mob_typing.specs.declared.fault.Fault.{Fault}
-use Rattle.mob_typing.specs.declared.fault.Fault.TheVariants.{Wrong as Refused, NoMemory}
+use Rattle.mob_typed.specs.declared.typed.ConstText.{ConstText}
+use Rattle.mob_typed.specs.Selects.{TypedSelectParts}
+use Rattle.mob_typed.specs.Statements.{ColumnList, StatementOut, nothing, new_table, new_index, new_rows, rows_from, query, plan_of, ScriptOut}
+use Rattle.mob_expression.specs.declared.fault.Fault.{Fault}
+use Rattle.mob_expression.specs.declared.fault.Fault.TheVariants.{Wrong as Refused, NoMemory}
 use Rattle.mob_ast.specs.Kinds.{no_memory}
-use Rattle.mob_typing.specs.Answers.{Mistake, refuse, ◌>>=◌, unless, found, TypingStep}
-use Rattle.mob_typing.specs.Names.{ColumnList, NameLists, column_of, table_of, has_name, has_entry}
-use Rattle.mob_typing.specs.Words.{type_named, literal_type}
-use Rattle.mob_typing.specs.Expressions.{only, is_signed}
-use Rattle.mob_typing.specs.Selects.{TypedSelectParts, typed_select, select_seen}
-
--- a typed statement as a plain value
-pub data StatementOut : Type 0 where
-  nothing : StatementOut
-  new_table : ℕ → List ℕ → ColumnList → StatementOut
-  new_index : ℕ → ℕ → List ℕ → StatementOut
-  new_rows : ℕ → List (List (Option ℕ)) → List ℕ → StatementOut
-  rows_from : ℕ → List ℕ → StatementOut
-  query : TypedSelectParts → StatementOut
-  plan_of : TypedSelectParts → StatementOut
-
-abbrev pub statement_seen : TypedStatement → StatementOut
-statement_seen typed.Empty = nothing
-statement_seen (typed.CreateTable t n cs) = new_table t n cs
-statement_seen (typed.CreateIndex t c n) = new_index t c n
-statement_seen (typed.Insert t rs ps) = new_rows t rs ps
-statement_seen (typed.Copy t f) = rows_from t f
-statement_seen (typed.Select s) = query (select_seen s)
-statement_seen (typed.Explain s) = plan_of (select_seen s)
+use Rattle.mob_expression.specs.Answers.{Mistake, refuse, ◌>>=◌, unless, found, TypingStep, one_more}
+use Rattle.mob_typing.specs.Names.{NameLists, table_of}
+use Rattle.mob_expression.specs.Names.{column_of, has_entry}
+use Rattle.mob_operators.specs.Table.{is_one_of}
+use Rattle.mob_expression.specs.Words.{type_named, literal_type}
+use Rattle.mob_expression.specs.Expressions.{only, is_signed}
+use Rattle.mob_typing.specs.Selects.{typed_select}
 
 -- a new column: its name is new, there are at most 64, and its type is known
 abbrev pub with_column : ColumnList → Word × TypeWord → Result ColumnList Mistake
@@ -71,7 +53,7 @@ with_index names name = record { tables = names.tables; indexes = names.indexes 
 
 -- a new index: the table is there, the name is new, and the column is there and a tgeompoint
 abbrev pub made_index : NameLists → Word → Word → Word → Result Made Mistake
-made_index names name table column = found kind.UnknownName table.place (table_of names.tables table.text) >>= λ t. unless (has_name names.indexes name.text) kind.Duplicate name.place >>= λ _.
+made_index names name table column = found kind.UnknownName table.place (table_of names.tables table.text) >>= λ t. unless (is_one_of names.indexes name.text) kind.Duplicate name.place >>= λ _.
     found kind.UnknownName column.place (column_of t.1 column.text) >>= λ c. unless (not (same_type c.1 sql.TPoint)) kind.NoSuchOperator column.place >>= λ _.
     Ok (record { statement = new_index t.0 c.0 name.text; names = with_index names name.text })
 
@@ -115,21 +97,22 @@ abbrev pub tree_value : ℕ → SqlType → Tree → TypingStep (Option ℕ)
 tree_value n ty (tree nd p args) cs = node_value n ty nd p args cs
 
 -- the values of a row, one for each column
-abbrev pub row_values : ℕ → ColumnList → List (Option ℕ) → List Tree → TypingStep (List (Option ℕ))
-row_values n [] done ts cs = Ok (done, cs)
-row_values n (c ∷ columns) done [] cs = Ok (done, cs)
-row_values n (c ∷ columns) done (t ∷ ts) cs = tree_value n c.1 t cs >>= λ r. row_values n columns (done ++ r.0 ∷ []) ts r.1
+abbrev pub row_values : ℕ → ColumnList → List Tree → TypingStep (List (Option ℕ))
+row_values n [] ts cs = Ok ([], cs)
+row_values n (c ∷ columns) [] cs = Ok ([], cs)
+row_values n (c ∷ columns) (t ∷ ts) cs = one_more (tree_value n c.1 t) (row_values n columns ts) cs
 
 -- a row has as many values as the table has columns
 abbrev pub typed_row : ℕ → ColumnList → RowParts → TypingStep (List (Option ℕ))
-typed_row n columns r cs = unless (not (length r.values == length columns)) kind.BadCount r.place >>= λ _. row_values n columns [] r.values cs
+typed_row n columns r cs = unless (not (length r.values == length columns)) kind.BadCount r.place >>= λ _. row_values n columns r.values cs
 
-abbrev pub typed_rows : ℕ → ColumnList → List (List (Option ℕ)) → List RowParts → TypingStep (List (List (Option ℕ)))
-typed_rows n columns done [] cs = Ok (done, cs)
-typed_rows n columns done (r ∷ rs) cs = typed_row n columns r cs >>= λ v. typed_rows n columns (done ++ v.0 ∷ []) rs v.1
+-- the rows in order
+abbrev pub typed_rows : ℕ → ColumnList → List RowParts → TypingStep (List (List (Option ℕ)))
+typed_rows n columns [] cs = Ok ([], cs)
+typed_rows n columns (r ∷ rs) cs = one_more (typed_row n columns r) (typed_rows n columns rs) cs
 
 abbrev pub inserted : ℕ → NameLists → Word → List RowParts → TypingStep Made
-inserted n names table rows cs = found kind.UnknownName table.place (table_of names.tables table.text) >>= λ t. typed_rows n t.1 [] rows cs >>= λ r.
+inserted n names table rows cs = found kind.UnknownName table.place (table_of names.tables table.text) >>= λ t. typed_rows n t.1 rows cs >>= λ r.
     Ok (record { statement = new_rows t.0 r.0 (map (λ row. row.place) rows); names = names }, r.1)
 
 -- the string behind DELIMITER is one comma
@@ -157,11 +140,6 @@ typed_statement n names (copy table file delimiter) cs = keeping cs (copied name
 typed_statement n names (select s) cs = asked query names (typed_select names.tables n s cs)
 typed_statement n names (explain s) cs = asked plan_of names (typed_select names.tables n s cs)
 
--- a typed script: its statements and its constants
-pub record ScriptOut : Type 0 where
-  pub statements : List StatementOut
-  pub consts : List ConstText
-
 -- what is wrong in a statement is so in the script, with the statement's number
 abbrev pub in_statement : ℕ → Result (Made × List ConstText) Mistake → Result (Made × List ConstText) Refusal
 in_statement n (Ok r) = Ok r
@@ -171,20 +149,21 @@ abbrev pub or_refused : {A B : Type 0} → Result A Refusal → (A → Result B 
 or_refused (Ok x) f = f x
 or_refused (Err e) f = Err e
 
--- the statements from the one of number n on, behind those that are typed already
-abbrev pub typed_from : ℕ → NameLists → List StatementOut → List StatementParts → List ConstText → Result ScriptOut Refusal
-typed_from n names done [] cs = Ok (record { statements = done; consts = cs })
-typed_from n names done (s ∷ ss) cs = or_refused (in_statement n (typed_statement n names s cs)) (λ r. typed_from (n + 1) r.0.names (done ++ r.0.statement ∷ []) ss r.1)
+-- a statement before those of a typed script
+abbrev pub put_statement : StatementOut → ScriptOut → ScriptOut
+put_statement s out = record { statements = s ∷ out.statements; consts = out.consts }
+
+-- the statements from the one of number n on: the first, and then the others with the names and the constants after it
+abbrev pub typed_from : ℕ → NameLists → List StatementParts → List ConstText → Result ScriptOut Refusal
+typed_from n names [] cs = Ok (record { statements = []; consts = cs })
+typed_from n names (s ∷ ss) cs = or_refused (in_statement n (typed_statement n names s cs)) (λ r. or_refused (typed_from (n + 1) r.0.names ss r.1) (λ out. Ok (put_statement r.0.statement out)))
 
 abbrev pub no_names : NameLists
 no_names = record { tables = []; indexes = [] }
 
 -- The typed script, or the first refusal: statement by statement, and within one in the order of what it is made of.
 abbrev pub typed_script : List StatementParts → Result ScriptOut Refusal
-typed_script ss = typed_from 1 no_names [] ss []
-
-abbrev pub script_seen : Typed → ScriptOut
-script_seen t = record { statements = map statement_seen t.statements; consts = t.consts }
+typed_script ss = typed_from 1 no_names ss []
 
 -- the program's refusal is this one, or want of memory
 abbrev pub IsTypingRefusal : Refusal → Result ScriptOut Refusal → Type 0

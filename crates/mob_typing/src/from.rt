@@ -1,14 +1,14 @@
 //! The tables of FROM.
 ghost use Rattle.std.specs.Prelude.{◌≡◌, ◌++◌, ◌∷◌, [], map, IfOk};
-ghost use Rattle.mob_typing.specs.Answers.{AnswersAs};
-ghost use Rattle.mob_typing.specs.Scopes.{source_of, sources_of};
-ghost use Rattle.mob_typing.specs.Names.{has_entry};
+ghost use Rattle.mob_expression.specs.Answers.{AnswersAs};
+ghost use Rattle.mob_expression.specs.Scopes.{source_of, sources_of};
+ghost use Rattle.mob_expression.specs.Names.{has_entry};
 ghost use Rattle.mob_typing.specs.Selects.{from_name, from_table, from_tables};
 
-use crate::columns::source_named;
-use crate::fault::Fault;
+use mob_expression::columns::source_named;
+use mob_expression::fault::Fault;
 use crate::names::Names;
-use crate::scope::{Source, number};
+use mob_expression::scope::{Source, number};
 use mob_ast::{FromTable, Kind, Word};
 use mob_list::items::Items;
 use mob_list::text::Text;

@@ -1,28 +1,29 @@
 //! The keys of ORDER BY, the condition of WHERE and the number of LIMIT.
-ghost use Rattle.std.specs.Prelude.{◌≡◌, [], map, IfOk, option_map, slice_get};
+ghost use Rattle.std.specs.Prelude.{◌≡◌, map, IfOk, option_map, slice_get};
 ghost use Rattle.mob_ast.specs.Trees.{tree_of, key_of};
-ghost use Rattle.mob_typing.specs.Answers.{AnswersAs, TypesTo};
-ghost use Rattle.mob_typing.specs.Names.{entry_from};
-ghost use Rattle.mob_typing.specs.Scopes.{scope_of};
-ghost use Rattle.mob_typing.specs.Trees.{typed_of};
-ghost use Rattle.mob_typing.specs.Selects.{output_of, outputs_seen, tree_place, is_bool, condition, aliased, or_typed, is_key, typed_key, typed_keys, key_seen, is_limit, limit_value, limit_of};
+ghost use Rattle.mob_expression.specs.Answers.{AnswersAs, TypesTo};
+ghost use Rattle.mob_expression.specs.Names.{entry_from};
+ghost use Rattle.mob_expression.specs.Scopes.{scope_of};
+ghost use Rattle.mob_typed.specs.Trees.{typed_of};
+ghost use Rattle.mob_typed.specs.Selects.{output_of, key_seen};
+ghost use Rattle.mob_typing.specs.Selects.{outputs_seen, tree_place, is_bool, condition, aliased, or_typed, is_key, typed_key, typed_keys, is_limit, limit_value, limit_of};
 
-use crate::constants::with_args;
-use crate::expression::type_expr;
-use crate::fault::Fault;
-use crate::operators::type_of;
+use mob_expression::constants::with_args;
+use mob_expression::expression::type_expr;
+use mob_expression::fault::Fault;
+use mob_expression::operators::type_of;
 use crate::outputs::Outputs;
-use crate::scope::Scope;
-use crate::typed::{ConstText, TExpr};
-use crate::words::has_digits_alone;
+use mob_expression::scope::Scope;
+use mob_typed::{ConstText, TExpr};
+use mob_expression::words::has_digits_alone;
 use mob_ast::{Expr, Key, Kind, Node, SqlType, Word};
 use mob_list::items::Items;
 use mob_list::text::Text;
 use std::alloc::{AllocError, Global};
 
 // The place of an expression as a whole.
-#[tactic(auto, using(crate::proofs::TreeFacts::tree_is))]
-fn place_of(e: &Expr) -> u32
+#[tactic(auto, using(mob_expression::proofs::TreeFacts::tree_is))]
+fn tree_place(e: &Expr) -> u32
     ensures { result ≡ tree_place (tree_of e.now) }
 {
     e.place
@@ -44,7 +45,7 @@ pub fn condition(
     if !is_bool(type_of(&value)) {
         return Err(Fault::Wrong {
             kind: Kind::NoSuchOperator,
-            place: place_of(cond),
+            place: tree_place(cond),
         });
     }
     Ok(Some(value))
@@ -86,7 +87,7 @@ fn output_at(columns: &[(TExpr, Text)], index: usize) -> Option<&TExpr>
 }
 
 // The column of the answer that a bare word means by its name behind AS.
-#[tactic(auto, using(crate::proofs::TreeFacts::tree_is))]
+#[tactic(auto, using(mob_expression::proofs::TreeFacts::tree_is))]
 fn aliased<'a>(outputs: &'a Outputs<'_>, e: &Expr) -> Option<&'a TExpr>
     ensures { option_map (λ t. typed_of t.now) result ≡ aliased (outputs_seen outputs.now) (tree_of e.now) }
 {
@@ -103,7 +104,7 @@ fn aliased<'a>(outputs: &'a Outputs<'_>, e: &Expr) -> Option<&'a TExpr>
 }
 
 // A second typed tree like this one.
-#[tactic(auto, using(crate::proofs::TreeFacts::typed_is))]
+#[tactic(auto, using(mob_typed::proofs::TreeFacts::typed_is))]
 fn copy_of(alloc: Global, value: &TExpr) -> Result<TExpr, AllocError>
     ensures { IfOk result (λ t. typed_of t ≡ typed_of value.now) }
 {
@@ -145,7 +146,7 @@ fn typed_key(
     if !is_key(type_of(&value)) {
         return Err(Fault::Wrong {
             kind: Kind::NoSuchOperator,
-            place: place_of(&key.value),
+            place: tree_place(&key.value),
         });
     }
     Ok((value, key.descending))
@@ -159,7 +160,7 @@ pub fn typed_keys(
     outputs: &Outputs<'_>,
     keys: &[Key],
 ) -> Result<Items<(TExpr, bool)>, Fault>
-    ensures in_order { TypesTo (map key_seen) result consts.new (typed_keys (scope_of scope.now) (outputs_seen outputs.now) [] (map key_of keys.now) consts.old) }
+    ensures in_order { TypesTo (map key_seen) result consts.new (typed_keys (scope_of scope.now) (outputs_seen outputs.now) (map key_of keys.now) consts.old) }
 {
     let mut done = Items::new(alloc);
     for key in keys {

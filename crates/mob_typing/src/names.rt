@@ -1,79 +1,13 @@
-//! The tables, columns and indexes that a script has made so far, by name and by number.
-ghost use Rattle.std.specs.Prelude.{◌≡◌, ◌<◌, Some, ◌∷◌, ◌++◌, [], None, false, length, OnOk, is_some, option_map, slice_get};
-ghost use Rattle.mob_typing.specs.Names.{column_of, table_of, has_name, has_entry};
+//! The tables and the indexes that a script has made so far, by name and by number.
+ghost use Rattle.std.specs.Prelude.{◌≡◌, ◌∷◌, ◌++◌, [], false, length, OnOk, option_map};
+ghost use Rattle.mob_operators.specs.Table.{is_one_of};
+ghost use Rattle.mob_expression.specs.Names.{has_entry};
+ghost use Rattle.mob_typing.specs.Names.{table_of};
 
 use indexmap::{IndexMap, IndexSet};
-use mob_ast::SqlType;
+use mob_expression::column_list::Columns;
 use std::alloc::{AllocError, Global};
 use std::marker::Model;
-
-/// The columns of a table in their order, each with its type.
-#[derive(Drop)]
-pub struct Columns {
-    types: IndexMap<String, SqlType>,
-}
-
-impl Model for Columns {
-    ghost use Rattle.std.specs.Prelude.{List, ℕ, map, string_bytes};
-    ghost use Rattle.mob_ast.specs.declared.types.SqlType.{SqlType};
-
-    ghost Value = { List (List ℕ × SqlType) };
-
-    ghost view = { λ c. map (λ e. (string_bytes e.0, e.1)) c.types.entries };
-}
-
-impl Columns {
-    /// No columns yet.
-    pub fn new(alloc: Global) -> Self
-        ensures empty { result ≡ [] }
-    {
-        Columns {
-            types: IndexMap::new(alloc),
-        }
-    }
-
-    /// How many columns there are.
-    pub fn len(&self) -> usize
-        ensures count { result ≡ length self.now }
-    {
-        self.types.len()
-    }
-
-    /// The number and the type of the column of this name.
-    pub fn find(&self, name: &str) -> Option<(usize, SqlType)>
-        ensures first { result ≡ column_of self.now name.now }
-    {
-        let (index, _, ty) = self.types.get_full(name)?;
-        Some((index, *ty))
-    }
-
-    /// Whether there is a column of this name.
-    pub fn has(&self, name: &str) -> bool
-        ensures known { result ≡ has_entry self.now name.now }
-    {
-        self.find(name).is_some()
-    }
-
-    /// The name and the type of the column of this number.
-    pub fn at(&self, index: usize) -> (&str, SqlType)
-        requires { index < length self.now }
-        ensures stored { slice_get self.now index ≡ Some (result.0.now, result.1) }
-    {
-        let Some((name, ty)) = self.types.get_index(index) else {
-            unreachable!()
-        };
-        (name.as_str(), *ty)
-    }
-
-    /// Adds a column of a new name behind the others.
-    pub fn add(&mut self, alloc: Global, name: &str, ty: SqlType) -> Result<(), AllocError>
-        requires { has_entry self.old name.now ≡ false }
-        ensures last { OnOk result (self.new ≡ self.old ++ (name.now, ty) ∷ []) }
-    {
-        self.types.insert(String::from_str(alloc, name)?, ty)?;
-        Ok(())
-    }
-}
 
 /// The tables and the indexes that a script has made so far.
 #[derive(Drop)]
@@ -127,7 +61,7 @@ impl Names {
 
     /// Whether there is an index of this name.
     pub fn has_index(&self, name: &str) -> bool
-        ensures known { result ≡ has_name self.now.indexes name.now }
+        ensures known { result ≡ is_one_of self.now.indexes name.now }
     {
         self.indexes.contains(name)
     }
@@ -149,7 +83,7 @@ impl Names {
 
     /// Adds an index of a new name behind the others.
     pub fn add_index(&mut self, alloc: Global, name: &str) -> Result<(), AllocError>
-        requires { has_name self.old.indexes name.now ≡ false }
+        requires { is_one_of self.old.indexes name.now ≡ false }
         ensures last { OnOk result (self.new.indexes ≡ self.old.indexes ++ name.now ∷ []) }
         ensures same_tables { OnOk result (self.new.tables ≡ self.old.tables) }
     {

@@ -1,17 +1,18 @@
 //! The columns of the answer: the select list.
 ghost use Rattle.std.specs.Prelude.{◌≡◌, ◌+◌, ◌++◌, ◌∷◌, [], map, codes, decimal, IfOk, OnOk, Ok};
 ghost use Rattle.mob_ast.specs.Trees.{tree_of, item_of, one};
-ghost use Rattle.mob_typing.specs.Answers.{AnswersAs, TypesTo};
-ghost use Rattle.mob_typing.specs.Scopes.{sources_of, scope_of};
-ghost use Rattle.mob_typing.specs.Trees.{typed, typed_of, none};
-ghost use Rattle.mob_typing.specs.Selects.{columns_of_table, all_outputs, own_name, tree_name, output_name, with_alias, with_item, with_items, output_of, outputs_seen, no_outputs};
+ghost use Rattle.mob_expression.specs.Answers.{AnswersAs, TypesTo};
+ghost use Rattle.mob_expression.specs.Scopes.{sources_of, scope_of};
+ghost use Rattle.mob_typed.specs.Trees.{typed, typed_of, none};
+ghost use Rattle.mob_typing.specs.Selects.{columns_of_table, all_outputs, own_name, tree_name, output_name, with_alias, with_item, with_items, outputs_seen, no_outputs};
+ghost use Rattle.mob_typed.specs.Selects.{output_of};
 
-use crate::constants::leaf;
-use crate::expression::type_expr;
-use crate::fault::Fault;
-use crate::names::Columns;
-use crate::scope::{Scope, Source, number};
-use crate::typed::{ConstText, TExpr};
+use mob_expression::constants::leaf;
+use mob_expression::expression::type_expr;
+use mob_expression::fault::Fault;
+use mob_expression::column_list::Columns;
+use mob_expression::scope::{Scope, Source, number};
+use mob_typed::{ConstText, TExpr};
 use mob_ast::{Expr, Item, Kind, Node, SqlType, Word};
 use mob_list::items::Items;
 use mob_list::text::Text;
@@ -77,7 +78,7 @@ fn push_all(
 }
 
 // The name of an expression without AS.
-#[tactic(auto, using(crate::proofs::TreeFacts::tree_is))]
+#[tactic(auto, using(mob_expression::proofs::TreeFacts::tree_is))]
 fn tree_name(alloc: Global, e: &Expr, position: usize) -> Result<Text, AllocError>
     ensures { IfOk result (λ t. t ≡ tree_name (tree_of e.now) position) }
 {

@@ -1,24 +1,26 @@
 //! INSERT and COPY.
-ghost use Rattle.std.specs.Prelude.{◌≡◌, [], length, map, option_map, IfOk};
+ghost use Rattle.std.specs.Prelude.{◌≡◌, length, map, option_map, IfOk};
 ghost use Rattle.mob_ast.specs.Trees.{tree_of, trees_of, row_of};
 ghost use Rattle.mob_operators.specs.Lookup.{same_type};
-ghost use Rattle.mob_typing.specs.Answers.{AnswersAs, TypesTo};
-ghost use Rattle.mob_typing.specs.Statements.{row_constant, lone_number, signed_value, bool_value, typed_value, node_value, tree_value, row_values, typed_row, typed_rows, inserted, good_delimiter, copied, statement_seen};
+ghost use Rattle.mob_expression.specs.Answers.{AnswersAs, TypesTo};
+ghost use Rattle.mob_typing.specs.Statements.{row_constant, lone_number, signed_value, bool_value, typed_value, node_value, tree_value, row_values, typed_row, typed_rows, inserted, good_delimiter, copied};
+ghost use Rattle.mob_typed.specs.Statements.{statement_seen};
 
-use crate::constants::only;
-use crate::fault::Fault;
-use crate::names::{Columns, Names};
-use crate::operators::is_signed;
-use crate::scope::number;
-use crate::typed::{ConstText, TypedStatement};
-use crate::words::literal_type;
+use mob_expression::constants::only;
+use mob_expression::fault::Fault;
+use crate::names::Names;
+use mob_expression::column_list::Columns;
+use mob_expression::operators::is_signed;
+use mob_expression::scope::number;
+use mob_typed::{ConstText, TypedStatement};
+use mob_expression::words::literal_type;
 use mob_ast::{Expr, Kind, Node, Quoted, Row, SqlType, TypeWord, Word};
 use mob_list::items::Items;
 use mob_list::text::Text;
 use std::alloc::{AllocError, Global};
 
 // A constant of a statement of this number.
-fn noted(
+fn row_constant(
     alloc: Global,
     statement: u32,
     consts: &mut Items<ConstText>,
@@ -40,7 +42,7 @@ fn noted(
 }
 
 // The digits of a number and their place, where the operands are a number alone.
-#[tactic(auto, using(crate::proofs::TreeFacts::tree_is))]
+#[tactic(auto, using(mob_expression::proofs::TreeFacts::tree_is))]
 fn lone_number(args: &[Expr]) -> Option<(&str, u32)>
     ensures { option_map (λ r. (r.0.now, r.1)) result ≡ lone_number (trees_of args.now) }
 {
@@ -77,7 +79,7 @@ fn signed_value(
     }
     let mut text = String::from_str(alloc, sign)?;
     text.push_str(digits)?;
-    noted(alloc, statement, consts, ty, text.as_str(), digits_place)
+    row_constant(alloc, statement, consts, ty, text.as_str(), digits_place)
 }
 
 // Whether two types are one.
@@ -104,7 +106,7 @@ fn bool_value(
             place,
         });
     }
-    noted(alloc, statement, consts, ty, text, place)
+    row_constant(alloc, statement, consts, ty, text, place)
 }
 
 // A typed string has the column's type.
@@ -131,7 +133,7 @@ fn typed_value(
             place,
         });
     }
-    noted(alloc, statement, consts, ty, text, place)
+    row_constant(alloc, statement, consts, ty, text, place)
 }
 
 // A value of a row, which is read as the column's type.
@@ -151,8 +153,8 @@ fn node_value(
         Node::Null => Ok(None),
         Node::True => bool_value(alloc, statement, consts, ty, "true", place),
         Node::False => bool_value(alloc, statement, consts, ty, "false", place),
-        Node::Number(text) => noted(alloc, statement, consts, ty, text.as_str(), place),
-        Node::Str(text) => noted(alloc, statement, consts, ty, text.as_str(), place),
+        Node::Number(text) => row_constant(alloc, statement, consts, ty, text.as_str(), place),
+        Node::Str(text) => row_constant(alloc, statement, consts, ty, text.as_str(), place),
         Node::Literal { ty: word, text } => typed_value(
             alloc,
             statement,
@@ -170,7 +172,7 @@ fn node_value(
     }
 }
 
-fn value_of(
+fn tree_value(
     alloc: Global,
     statement: u32,
     consts: &mut Items<ConstText>,
@@ -191,12 +193,12 @@ fn row_values(
     values: &[Expr],
 ) -> Result<Items<Option<u32>>, Fault>
     requires { length values.now ≡ length columns.now }
-    ensures { TypesTo (λ v. v) result consts.new (row_values statement columns.now [] (map tree_of values.now) consts.old) }
+    ensures { TypesTo (λ v. v) result consts.new (row_values statement columns.now (map tree_of values.now) consts.old) }
 {
     let mut done = Items::new(alloc);
     for (index, value) in values.iter().enumerate() {
         let (_, ty) = columns.at(index);
-        let number = value_of(alloc, statement, consts, ty, value)?;
+        let number = tree_value(alloc, statement, consts, ty, value)?;
         done.push(number)?;
     }
     Ok(done)
@@ -229,7 +231,7 @@ fn typed_rows(
     columns: &Columns,
     rows: &[Row],
 ) -> Result<Items<Items<Option<u32>>>, Fault>
-    ensures { TypesTo (λ v. v) result consts.new (typed_rows statement columns.now [] (map row_of rows.now) consts.old) }
+    ensures { TypesTo (λ v. v) result consts.new (typed_rows statement columns.now (map row_of rows.now) consts.old) }
 {
     let mut done = Items::new(alloc);
     for row in rows {

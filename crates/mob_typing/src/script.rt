@@ -1,16 +1,17 @@
 //! Names and types of whole scripts.
 ghost use Rattle.std.specs.Prelude.{◌≡◌, ◌+◌, Ok, IfOk, IfErr};
 ghost use Rattle.mob_ast.specs.Trees.{statement_of, script_of};
-ghost use Rattle.mob_typing.specs.Answers.{AnswersAs, TypesTo};
-ghost use Rattle.mob_typing.specs.Statements.{statement_seen, typed_statement, typed_script, script_seen, IsTypingRefusal, refusal_of};
+ghost use Rattle.mob_expression.specs.Answers.{AnswersAs, TypesTo};
+ghost use Rattle.mob_typed.specs.Statements.{statement_seen, script_seen};
+ghost use Rattle.mob_typing.specs.Statements.{typed_statement, typed_script, IsTypingRefusal, refusal_of};
 
-use crate::fault::Fault;
+use mob_expression::fault::Fault;
 use crate::names::Names;
 use crate::rows::{copied, inserted};
-use crate::scope::number;
+use mob_expression::scope::number;
 use crate::select::typed_select;
 use crate::tables::{made_index, made_table};
-use crate::typed::{ConstText, Typed, TypedStatement};
+use mob_typed::{ConstText, Typed, TypedStatement};
 use mob_ast::{Kind, Refusal, Script, Statement};
 use mob_list::items::Items;
 use std::alloc::Global;

@@ -1,17 +1,18 @@
 //! Names and types of a SELECT.
 ghost use Rattle.std.specs.Prelude.{◌≡◌};
 ghost use Rattle.mob_ast.specs.Trees.{select_of};
-ghost use Rattle.mob_typing.specs.Answers.{TypesTo};
-ghost use Rattle.mob_typing.specs.Scopes.{scope_of};
-ghost use Rattle.mob_typing.specs.Selects.{select_seen, typed_clauses, typed_select};
+ghost use Rattle.mob_expression.specs.Answers.{TypesTo};
+ghost use Rattle.mob_expression.specs.Scopes.{scope_of};
+ghost use Rattle.mob_typed.specs.Selects.{select_seen};
+ghost use Rattle.mob_typing.specs.Selects.{typed_clauses, typed_select};
 
-use crate::fault::Fault;
+use mob_expression::fault::Fault;
 use crate::from::{from_tables, table_names, table_numbers};
 use crate::keys::{condition, limit_of, typed_keys};
 use crate::names::Names;
 use crate::outputs::{Outputs, outputs_of};
-use crate::scope::Scope;
-use crate::typed::{ConstText, TypedSelect};
+use mob_expression::scope::Scope;
+use mob_typed::{ConstText, TypedSelect};
 use mob_ast::SelectTree;
 use mob_list::items::Items;
 use std::alloc::Global;

@@ -2,14 +2,16 @@
 ghost use Rattle.std.specs.Prelude.{◌≡◌, [], IfOk};
 ghost use Rattle.mob_operators.specs.Lookup.{same_type};
 ghost use Rattle.mob_ast.specs.declared.types.SqlType.TheVariants.{TPoint};
-ghost use Rattle.mob_typing.specs.Answers.{AnswersAs};
-ghost use Rattle.mob_typing.specs.Statements.{with_column, with_columns, made_table, made_index, statement_seen};
+ghost use Rattle.mob_expression.specs.Answers.{AnswersAs};
+ghost use Rattle.mob_typing.specs.Statements.{with_column, with_columns, made_table, made_index};
+ghost use Rattle.mob_typed.specs.Statements.{statement_seen};
 
-use crate::fault::Fault;
-use crate::names::{Columns, Names};
-use crate::scope::number;
-use crate::typed::TypedStatement;
-use crate::words::type_named;
+use mob_expression::fault::Fault;
+use crate::names::Names;
+use mob_expression::column_list::Columns;
+use mob_expression::scope::number;
+use mob_typed::TypedStatement;
+use mob_expression::words::type_named;
 use mob_ast::{Kind, SqlType, TypeWord, Word};
 use mob_list::items::Items;
 use mob_list::text::Text;

@@ -2,6 +2,7 @@
 #![tactic(auto)]
 
 mod copies;
+pub mod laws;
 mod store;
 mod value;
 

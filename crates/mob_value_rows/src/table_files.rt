@@ -6,7 +6,7 @@ use mob_list::items::Items;
 use mob_list::text::Text;
 use mob_literal::write_field;
 use mob_scalar::{Epoch, ReadText};
-use mob_typing::ConstText;
+use mob_typed::ConstText;
 use mob_value::Value;
 use std::alloc::{AllocError, Global};
 use std::test::Fail;

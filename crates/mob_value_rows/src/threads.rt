@@ -13,7 +13,7 @@ use mob_slice::{
 };
 use mob_span::{Span, SpanSet};
 use mob_sync::{Common, Ones};
-use mob_typing::{ConstText, TExpr, Typed, TypedSelect, TypedStatement};
+use mob_typed::{ConstText, TExpr, Typed, TypedSelect, TypedStatement};
 use mob_value::{Store, Table, Value};
 use std::marker::{Send, Sync};
 

@@ -3,8 +3,8 @@ use Rattle.std.proofs.Common.{arith, ◌≡◌, ◌∙◌, sym, ℕ, ℤ, Option
 use Rattle.std.specs.Prelude.{Result, codes}
 use Rattle.std.proofs.lemmas.Fmt.{decimal_injective}
 use Rattle.clap.specs.Words.{Text}
-use Rattle.mob_scalar.specs.declared.fault.ReadText.{ReadText}
-use Rattle.mob_scalar.specs.declared.fault.ReadText.TheVariants.{NoMemory}
+use Rattle.mob_numeral.specs.declared.fault.ReadText.{ReadText}
+use Rattle.mob_numeral.specs.declared.fault.ReadText.TheVariants.{NoMemory}
 use Rattle.mob_scalar.proofs.OneReadings.{one_epoch}
 use Rattle.mob_words.specs.CommandLine.{IsEpoch, IsWorkers, option_value}
 use Rattle.mob_words.specs.Outcomes.{HasOneSetting}

@@ -3,7 +3,7 @@ use Rattle.std.specs.Prelude.{◌≡◌, ◌≤◌, ℕ, ℤ, List, [], Option, 
 use Rattle.clap.specs.Words.{App, Rule, Text, fault_of, first_of, matches_of, new_app, new_rule, with_rule}
 use Rattle.mob_scalar.specs.Calendar.{standard_day}
 use Rattle.mob_scalar.specs.Epochs.{epochs}
-use Rattle.mob_scalar.specs.Verdict.{Lit}
+use Rattle.mob_numeral.specs.Verdict.{Lit}
 
 -- the option `--NAME VALUE`
 abbrev pub option : Text → Rule

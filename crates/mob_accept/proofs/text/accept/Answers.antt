@@ -1,8 +1,8 @@
 use Rattle.std.proofs.Common.{rules, ◌≡◌, ◌∙◌, sym}
 use Rattle.std.specs.Prelude.{Some, None}
 use Rattle.mob_ast.specs.Trees.{script_of}
-use Rattle.mob_typing.specs.Statements.{script_seen}
-use Rattle.mob_built.specs.Least.{least}
+use Rattle.mob_typed.specs.Statements.{script_seen}
+use Rattle.mob_accept.specs.Least.{least}
 use Rattle.mob_accept.specs.Accepts.{unbuilt_places}
 use Rattle.mob_accept.proofs.Causes.{IsRead, first_place, least_none, not_built, only_typed, wrong_name}
 use Rattle.mob_accept.proofs.text.accept.Goals as goal

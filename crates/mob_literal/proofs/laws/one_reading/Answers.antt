@@ -1,7 +1,7 @@
 use Rattle.mob_ratio.specs.Order.{same}
 use Rattle.mob_ratio.proofs.Order.{same_exact}
 use Rattle.mob_slice.specs.Sameness.{same_bool, same_bool_exact, same_bytes, same_bytes_exact}
-use Rattle.mob_literal.specs.Values.{any_value, is_whole, truth_values, number_values, quoted_values}
+use Rattle.mob_written.specs.Values.{any_value, is_whole, truth_values, number_values, quoted_values}
 use Rattle.mob_literal.proofs.OneReading.{one_reading}
 use Rattle.mob_literal.proofs.SqlReading.{one_sql_reading}
 use Rattle.mob_literal.proofs.laws.one_reading.Goals as goal

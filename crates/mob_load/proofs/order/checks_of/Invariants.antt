@@ -1,5 +1,5 @@
 use Rattle.std.proofs.Common.{◌≡◌, ◌++◌, drop, map}
-use Rattle.mob_typing.specs.Statements.{script_seen, statement_seen}
+use Rattle.mob_typed.specs.Statements.{script_seen, statement_seen}
 use Rattle.mob_load.specs.Checks.{check_seen, checkpoints_from, in_order, checks_of}
 use Rattle.mob_load.proofs.order.checks_of.Given as goal
 

@@ -1,5 +1,5 @@
 use Rattle.std.proofs.Common.{◌≡◌, ◌++◌, ◌-◌, List, drop, map, length}
-use Rattle.mob_typing.specs.declared.typed.ConstText.{ConstText}
+use Rattle.mob_typed.specs.declared.typed.ConstText.{ConstText}
 use Rattle.mob_load.specs.Checks.{CheckParts, check_seen, checkpoint, checks_up_to}
 use Rattle.mob_load.proofs.order.push_literals.Given as goal
 

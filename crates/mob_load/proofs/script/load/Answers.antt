@@ -1,5 +1,5 @@
 use Rattle.std.proofs.Common.{◌≡◌, ◌∙◌, sym, ap, subst, map}
-use Rattle.mob_typing.specs.Statements.{script_seen}
+use Rattle.mob_typed.specs.Statements.{script_seen}
 use Rattle.mob_load.specs.Checks.{check_seen, checks_of}
 use Rattle.mob_load.specs.Loads.{AreNarrow, loaded_of}
 use Rattle.mob_load.proofs.Narrow.{script_narrow}

@@ -5,7 +5,7 @@ use Rattle.mob_load.specs.declared.check.Check.{Check}
 use Rattle.mob_load.specs.Loads.{IsNarrow, loaded_of}
 use Rattle.mob_load.proofs.Narrow.{check_narrow, nothing_narrow}
 use Rattle.mob_load.proofs.Asked.{asked_on, asked_some, fault_last, asked_all, all_some, none_asked}
-use Rattle.mob_load.proofs.Steps.{all_left, none_left, check_passes, check_stops, keeps_same, keeps_on, rose_before}
+use Rattle.mob_load.proofs.Steps.{all_left, none_left, check_loads, check_stops, keeps_same, keeps_on, rose_before}
 use Rattle.mob_load.proofs.script.load_checks.Goals as goal
 
 pub loop-check-init : goal.loop-check-init
@@ -25,10 +25,10 @@ loop-check-preserved g c =
     let here : map check_seen (drop i all) ≡ check_seen x ∷ map check_seen (drop (i + 1) all) =
     ap (map check_seen) (drop_more all i x c.loop-check-test.true ∙ ap (λ y. y ∷ drop (i + 1) all) (sym c.check-item.is)) in
     record {
-      left = check_passes c.args.epoch.now (map check_seen all) (g.F.Files.files c.args.files.now) (g.F.Files.files c.loop-check.files) c.loop-check.invariant.files
-          (map check_seen (drop i all)) (map check_seen (drop (i + 1) all)) (check_seen x) here (loaded_of c.loop-check.loading) (loaded_of c.pass.new.loading) c.loop-check.invariant.left c.in-Ok.ensures.passed;
-      files = keeps_on (g.F.Files.files c.args.files.now) (g.F.Files.files c.loop-check.files) (g.F.Files.files c.pass.new.files) c.loop-check.invariant.files c.in-Ok.ensures.files;
-      asked = asked_on all i x c.loop-check-test.true c.check-item.is (g.F.Files.asked c.args.files.now) (g.F.Files.asked c.loop-check.files) (g.F.Files.asked c.pass.new.files)
+      left = check_loads c.args.epoch.now (map check_seen all) (g.F.Files.files c.args.files.now) (g.F.Files.files c.loop-check.files) c.loop-check.invariant.files
+          (map check_seen (drop i all)) (map check_seen (drop (i + 1) all)) (check_seen x) here (loaded_of c.loop-check.loading) (loaded_of c.run_check.new.loading) c.loop-check.invariant.left c.in-Ok.ensures.loads;
+      files = keeps_on (g.F.Files.files c.args.files.now) (g.F.Files.files c.loop-check.files) (g.F.Files.files c.run_check.new.files) c.loop-check.invariant.files c.in-Ok.ensures.files;
+      asked = asked_on all i x c.loop-check-test.true c.check-item.is (g.F.Files.asked c.args.files.now) (g.F.Files.asked c.loop-check.files) (g.F.Files.asked c.run_check.new.files)
           c.loop-check.invariant.asked c.in-Ok.ensures.asked;
       narrow = c.in-Ok.ensures.narrow;
       later = search rules;
@@ -42,26 +42,26 @@ returns-in-Err-clause-stopped g c =
     let here : map check_seen (drop i all) ≡ check_seen x ∷ map check_seen (drop (i + 1) all) =
     ap (map check_seen) (drop_more all i x c.loop-check-test.true ∙ ap (λ y. y ∷ drop (i + 1) all) (sym c.check-item.is)) in
     check_stops c.args.epoch.now (map check_seen all) (g.F.Files.files c.args.files.now) (g.F.Files.files c.loop-check.files) c.loop-check.invariant.files
-    (map check_seen (drop i all)) (map check_seen (drop (i + 1) all)) (check_seen x) here (loaded_of c.loop-check.loading) (loaded_of c.pass.new.loading) c.in-Err.end c.loop-check.invariant.left
-    c.in-Err.ensures.passed c.in-Err.ensures.fault
+    (map check_seen (drop i all)) (map check_seen (drop (i + 1) all)) (check_seen x) here (loaded_of c.loop-check.loading) (loaded_of c.run_check.new.loading) c.in-Err.end c.loop-check.invariant.left
+    c.in-Err.ensures.loads c.in-Err.ensures.fault
 
 pub returns-in-Err-clause-cause : goal.returns-in-Err-clause-cause
 returns-in-Err-clause-cause g c =
-    rose_before (g.F.Files.faults c.args.files.now) (g.F.Files.faults c.loop-check.files) (g.F.Files.faults c.pass.new.files) c.loop-check.invariant.later c.in-Err.end c.in-Err.ensures.cause
+    rose_before (g.F.Files.faults c.args.files.now) (g.F.Files.faults c.loop-check.files) (g.F.Files.faults c.run_check.new.files) c.loop-check.invariant.later c.in-Err.end c.in-Err.ensures.cause
 
 pub returns-in-Err-clause-some : goal.returns-in-Err-clause-some
 returns-in-Err-clause-some g c =
     asked_some c.args.checks.now c.loop-check.check-index c.check-item.result c.loop-check-test.true c.check-item.is (g.F.Files.asked c.args.files.now) (g.F.Files.asked c.loop-check.files)
-    (g.F.Files.asked c.pass.new.files) c.loop-check.invariant.asked c.in-Err.ensures.some
+    (g.F.Files.asked c.run_check.new.files) c.loop-check.invariant.asked c.in-Err.ensures.some
 
 pub returns-in-Err-clause-last : goal.returns-in-Err-clause-last
 returns-in-Err-clause-last g c =
     fault_last c.args.checks.now c.loop-check.check-index c.check-item.result c.loop-check-test.true c.check-item.is (g.F.Files.asked c.args.files.now) (g.F.Files.asked c.loop-check.files)
-    (g.F.Files.asked c.pass.new.files) c.loop-check.invariant.asked c.in-Err.end c.in-Err.ensures.fault c.in-Err.ensures.some
+    (g.F.Files.asked c.run_check.new.files) c.loop-check.invariant.asked c.in-Err.end c.in-Err.ensures.fault c.in-Err.ensures.some
 
 pub returns-in-Err-clause-files : goal.returns-in-Err-clause-files
 returns-in-Err-clause-files g c =
-    keeps_on (g.F.Files.files c.args.files.now) (g.F.Files.files c.loop-check.files) (g.F.Files.files c.pass.new.files) c.loop-check.invariant.files c.in-Err.ensures.files
+    keeps_on (g.F.Files.files c.args.files.now) (g.F.Files.files c.loop-check.files) (g.F.Files.files c.run_check.new.files) c.loop-check.invariant.files c.in-Err.ensures.files
 
 pub returns-clause-loaded : goal.returns-clause-loaded
 returns-clause-loaded g c =
@@ -77,6 +77,6 @@ returns-clause-some g c =
     all_some _ (g.F.Files.asked c.args.files.now) (g.F.Files.asked c.loop-check.files)
     (asked_all c.args.checks.now c.loop-check.check-index (g.F.Files.asked c.args.files.now) (g.F.Files.asked c.loop-check.files) c.loop-check-test.false c.loop-check.invariant.asked)
 
-pub pass-requires-clause-narrow : goal.pass-requires-clause-narrow
-pass-requires-clause-narrow g c =
+pub run_check-requires-clause-narrow : goal.run_check-requires-clause-narrow
+run_check-requires-clause-narrow g c =
     subst (λ (x : Check). IsNarrow (check_seen x)) (sym c.check-item.is) (check_narrow c.args.checks.now c.loop-check.check-index c.check-item.result c.requires.narrow c.loop-check-test.true)

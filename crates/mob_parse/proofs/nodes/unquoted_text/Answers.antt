@@ -1,6 +1,6 @@
 use Rattle.std.proofs.Common.{◌≡◌, ◌<◌, [], ◌∷◌, ◌++◌, ◌∙◌, ap, sym, length, string_bytes, arith}
 use Rattle.std.specs.List.{position_or_len, before_first, after_first}
-use Rattle.mob_parse.specs.Lexemes.{unquoted}
+use Rattle.mob_lexemes.specs.Lexemes.{unquoted}
 use Rattle.mob_parse.proofs.Quotes.{quote, no_quotes, quote_passed}
 use Rattle.mob_parse.proofs.nodes.unquoted_text.Goals as goal
 

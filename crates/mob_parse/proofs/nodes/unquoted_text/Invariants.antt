@@ -1,7 +1,7 @@
 use Rattle.std.proofs.Common.{◌≡◌, ◌++◌, length, string_bytes}
 use denote.Shadow.{shadow}
 use denote.Text.{Utf8}
-use Rattle.mob_parse.specs.Lexemes.{unquoted}
+use Rattle.mob_lexemes.specs.Lexemes.{unquoted}
 use Rattle.mob_parse.proofs.nodes.unquoted_text.Given as goal
 
 abbrev pub invariant-quotes : goal.invariant-quotes

@@ -2,7 +2,7 @@ use Rattle.std.proofs.Common.{◌≡◌, ◌<◌, ◌≤◌, ◌+◌, ◌∙◌,
 use Rattle.std.proofs.lemmas.List.{length-map}
 use Rattle.mob_ast.specs.declared.refusal.Kind.TheVariants.{Syntax}
 use Rattle.mob_grammar.specs.Texts.{IsFirstWrong}
-use Rattle.mob_parse.specs.Lexemes.{tok_of, toks}
+use Rattle.mob_lexemes.specs.Lexemes.{tok_of, toks}
 use Rattle.mob_parse.proofs.Scripts.{Scripts, toks_take, caused, front_syntax, front_begins, too_complex, none_before}
 use Rattle.mob_parse.proofs.script.cut.Goals as goal
 

@@ -2,7 +2,7 @@ use Rattle.std.proofs.Common.{◌≡◌, ◌∙◌, Ok, Err, map, ap, subst, ari
 use Rattle.std.proofs.lemmas.List.{length-map}
 use Rattle.mob_ast.specs.Trees.{statement_of}
 use Rattle.mob_grammar.specs.Reading.{script_at}
-use Rattle.mob_parse.specs.Lexemes.{tok_of, toks}
+use Rattle.mob_lexemes.specs.Lexemes.{tok_of, toks}
 use Rattle.mob_parse.specs.Cursors.{left, StopsReading}
 use Rattle.mob_parse.specs.declared.cursor.Fault.{Fault}
 use Rattle.mob_parse.proofs.Scripts.{script_is, script_only, script_left_over, script_broken, shorter_rest, nothing_left, something_left}

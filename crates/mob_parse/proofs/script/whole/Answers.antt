@@ -1,5 +1,5 @@
 use Rattle.mob_ast.specs.declared.refusal.Kind.TheVariants.{Syntax}
-use Rattle.mob_parse.specs.Lexemes.{toks}
+use Rattle.mob_lexemes.specs.Lexemes.{toks}
 use Rattle.mob_parse.proofs.Scripts.{caused, syntax_at, none_light}
 use Rattle.mob_parse.proofs.script.whole.Goals as goal
 

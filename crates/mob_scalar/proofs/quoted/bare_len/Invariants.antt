@@ -1,6 +1,6 @@
 use Rattle.std.proofs.Common.{◌≡◌, length, take, ◌-◌, ◌≤◌}
 use Rattle.mob_scalar.specs.Quoted.{is_plain, trimmed}
-use Rattle.mob_scalar.proofs.Runs.{IsSplit}
+use Rattle.mob_numeral.proofs.Runs.{IsSplit}
 use Rattle.mob_scalar.proofs.quoted.bare_len.Given as goal
 
 abbrev pub invariant-loop-i : goal.invariant-loop-i

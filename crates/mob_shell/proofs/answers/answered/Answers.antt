@@ -1,5 +1,5 @@
 use Rattle.std.proofs.Common.{inl, Err}
-use Rattle.mob_typing.specs.Selects.{select_seen}
+use Rattle.mob_typed.specs.Selects.{select_seen}
 use Rattle.mob_eval.proofs.QueryFaults.{of_query}
 use Rattle.mob_join.specs.Query.{IsKept}
 use Rattle.mob_shell.specs.Answers.{QueryAnswers}

@@ -4,7 +4,7 @@ use Rattle.mob_shell.proofs.statements.run_statements.Goals as goal
 pub returns-in-Done-clause-ends : goal.returns-in-Done-clause-ends
 returns-in-Done-clause-ends g c =
     let ends = rw c.as_slice.ensures.same at c.in-Done.ensures.ends in
-    seen_all c.args.epoch c.args.program c.args.typed.now c.new-session.result c.new-session.ensures.begins c.new-session.ensures.day _ _ _ ends.0 ends.1 ends.2
+    seen_all c.args.epoch c.args.program c.args.typed.now c.new-session.result c.new-session.ensures.begins c.new-session.ensures.day _ _ ends.0 ends.1 ends.2
 
 pub returns-in-NotWritten-clause-ends : goal.returns-in-NotWritten-clause-ends
 returns-in-NotWritten-clause-ends g c =
@@ -30,4 +30,4 @@ returns-in-NoMemory-clause-ends g c =
 pub returns-clause-ends : goal.returns-clause-ends
 returns-clause-ends g c =
     let ends = rw c.as_slice.ensures.same at c.in-Stopped.ensures.ends in
-    seen_stop c.args.epoch c.args.program c.args.typed.now c.new-session.result c.new-session.ensures.begins c.new-session.ensures.day _ _ c.in-Stopped.statement ends.0 ends.2 ends.3 ends.4.text c.in-Stopped.fault ends.1 ends.4.ran ends.4.put ends.5 ends.6
+    seen_stop c.args.epoch c.args.program c.args.typed.now c.new-session.result c.new-session.ensures.begins c.new-session.ensures.day _ c.in-Stopped.statement ends.0 ends.2 ends.3 ends.4.text c.in-Stopped.fault ends.1 ends.4.ran ends.4.put ends.5 ends.6

@@ -1,5 +1,5 @@
 use Rattle.std.proofs.Common.{◌≡◌, map, take}
-use Rattle.mob_typing.specs.Selects.{key_seen}
+use Rattle.mob_typed.specs.Selects.{key_seen}
 use Rattle.mob_tail.proofs.answers.falls_of.Given as goal
 
 abbrev pub invariant-loop-key : goal.invariant-loop-key

@@ -1,5 +1,5 @@
 use Rattle.std.proofs.Common.{◌≡◌, map, take}
-use Rattle.mob_typing.specs.Selects.{output_of}
+use Rattle.mob_typed.specs.Selects.{output_of}
 use Rattle.mob_tail.proofs.answers.names_of.Given as goal
 
 abbrev pub invariant-loop-item : goal.invariant-loop-item

@@ -1,7 +1,7 @@
 use Rattle.std.proofs.Common.{rules}
 use Rattle.std.specs.Fn.{FnReturnsAt}
 use Rattle.std.proofs.lemmas.Result.{MatchResult-weaker}
-use Rattle.mob_typing.specs.Selects.{output_of}
+use Rattle.mob_typed.specs.Selects.{output_of}
 use Rattle.mob_eval.specs.Views.{scene_of}
 use Rattle.mob_tail.specs.Answers.{IsField}
 use Rattle.mob_tail.proofs.Making.{each_seen, fault_seen}

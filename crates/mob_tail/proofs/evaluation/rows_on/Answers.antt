@@ -1,5 +1,5 @@
 use Rattle.std.proofs.Common.{rules, ◌≡◌, ◌++◌, ◌∷◌, [], Ok, Err, ℕ, List, arith, subst}
-use Rattle.mob_typing.specs.Selects.{select_seen}
+use Rattle.mob_typed.specs.Selects.{select_seen}
 use Rattle.mob_eval.specs.Scene.{scene}
 use Rattle.mob_eval.specs.Evaluation.{OnPassed}
 use Rattle.mob_eval.specs.QueryFaults.{OnTuple, IsFaultOn}

@@ -1,5 +1,5 @@
 use Rattle.std.proofs.Common.{Ok, take}
-use Rattle.mob_typing.specs.Selects.{select_seen}
+use Rattle.mob_typed.specs.Selects.{select_seen}
 use Rattle.mob_tail.specs.Each.{Each}
 use Rattle.mob_tail.specs.Answers.{IsTupleRow}
 use Rattle.mob_tail.proofs.evaluation.rows_on.Given as goal

@@ -1,5 +1,5 @@
 use Rattle.std.proofs.Common.{◌≡◌, [], drop}
-use Rattle.mob_typing.specs.Scopes.{sources_of}
+use Rattle.mob_expression.specs.Scopes.{sources_of}
 use Rattle.mob_typing.specs.Selects.{from_tables}
 use Rattle.mob_typing.proofs.from.from_tables.Given as goal
 

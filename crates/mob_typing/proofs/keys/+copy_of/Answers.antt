@@ -1,8 +1,8 @@
 use Rattle.std.proofs.Common.{◌≡◌, ◌∙◌, ◌++◌, [], drop, map, sym, ap}
 use Rattle.std.proofs.lemmas.List.{drop_all, append-nil}
-use Rattle.mob_typing.specs.declared.typed.TExpr.TheViews.{out-TExpr}
-use Rattle.mob_typing.specs.Trees.{typed, typed_trees, typed_of}
-use Rattle.mob_typing.proofs.TreeFacts.{typed_is}
+use Rattle.mob_typed.specs.declared.typed.TExpr.TheViews.{out-TExpr}
+use Rattle.mob_typed.specs.Trees.{typed, typed_trees, typed_of}
+use Rattle.mob_typed.proofs.TreeFacts.{typed_is}
 use Rattle.mob_typing.proofs.keys.+copy_of.Goals as goal
 
 pub returns : goal.returns

@@ -1,5 +1,5 @@
 use Rattle.std.proofs.Common.{◌≡◌, ◌++◌, drop, map}
-use Rattle.mob_typing.specs.Trees.{typed_of}
+use Rattle.mob_typed.specs.Trees.{typed_of}
 use Rattle.mob_typing.proofs.keys.+copy_of.Given as goal
 
 abbrev pub invariant-loop-arg : goal.invariant-loop-arg

@@ -1,8 +1,10 @@
-use Rattle.std.proofs.Common.{◌≡◌, [], drop, map}
+use Rattle.std.proofs.Common.{◌≡◌, drop, map}
 use Rattle.mob_ast.specs.Trees.{key_of}
-use Rattle.mob_typing.specs.Scopes.{scope_of}
-use Rattle.mob_typing.specs.Selects.{outputs_seen, typed_keys, key_seen}
+use Rattle.mob_expression.specs.Scopes.{scope_of}
+use Rattle.mob_typing.specs.Selects.{outputs_seen, typed_keys}
+use Rattle.mob_typed.specs.Selects.{key_seen}
+use Rattle.mob_expression.proofs.Behind.{behind}
 use Rattle.mob_typing.proofs.keys.typed_keys.Given as goal
 
 abbrev pub invariant-loop-key : goal.invariant-loop-key
-invariant-loop-key l = typed_keys (scope_of l.scope) (outputs_seen l.outputs) [] (map key_of l.keys) l.fn.consts ≡ typed_keys (scope_of l.scope) (outputs_seen l.outputs) (map key_seen l.done) (map key_of (drop l.key-index l.keys)) l.consts
+invariant-loop-key l = typed_keys (scope_of l.scope) (outputs_seen l.outputs) (map key_of l.keys) l.fn.consts ≡ behind (map key_seen l.done) (typed_keys (scope_of l.scope) (outputs_seen l.outputs) (map key_of (drop l.key-index l.keys))) l.consts

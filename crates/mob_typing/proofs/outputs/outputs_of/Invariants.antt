@@ -1,6 +1,6 @@
 use Rattle.std.proofs.Common.{◌≡◌, drop, map}
 use Rattle.mob_ast.specs.Trees.{item_of}
-use Rattle.mob_typing.specs.Scopes.{scope_of}
+use Rattle.mob_expression.specs.Scopes.{scope_of}
 use Rattle.mob_typing.specs.Selects.{with_items, no_outputs, outputs_seen}
 use Rattle.mob_typing.proofs.outputs.outputs_of.Given as goal
 

@@ -1,6 +1,7 @@
 use Rattle.std.proofs.Common.{◌≡◌, ◌++◌, drop, map}
-use Rattle.mob_typing.specs.Scopes.{sources_of}
-use Rattle.mob_typing.specs.Selects.{all_outputs, output_of}
+use Rattle.mob_expression.specs.Scopes.{sources_of}
+use Rattle.mob_typing.specs.Selects.{all_outputs}
+use Rattle.mob_typed.specs.Selects.{output_of}
 use Rattle.mob_typing.proofs.outputs.push_all.Given as goal
 
 abbrev pub invariant-loop-index : goal.invariant-loop-index

@@ -1,6 +1,6 @@
 use Rattle.std.proofs.Common.{◌∙◌, map}
-use Rattle.mob_typing.specs.Selects.{output_of}
-use Rattle.mob_typing.proofs.Matches.{column_pushed}
+use Rattle.mob_typed.specs.Selects.{output_of}
+use Rattle.mob_typing.proofs.Pushed.{column_pushed}
 use Rattle.mob_typing.proofs.outputs.push_columns.Goals as goal
 
 pub loop-index-preserved : goal.loop-index-preserved

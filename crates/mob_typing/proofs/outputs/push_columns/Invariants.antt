@@ -1,5 +1,6 @@
 use Rattle.std.proofs.Common.{◌≡◌, ◌++◌, drop, map}
-use Rattle.mob_typing.specs.Selects.{columns_of_table, output_of}
+use Rattle.mob_typing.specs.Selects.{columns_of_table}
+use Rattle.mob_typed.specs.Selects.{output_of}
 use Rattle.mob_typing.proofs.outputs.push_columns.Given as goal
 
 abbrev pub invariant-loop-index : goal.invariant-loop-index

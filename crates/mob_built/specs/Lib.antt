@@ -1,4 +1,0 @@
-pub mod Least
-pub mod Operators
-pub mod Types
-pub mod Words

@@ -1,0 +1,58 @@
+-- The constants of a script have one outcome.
+use Rattle.std.proofs.Common.{◌≡◌, ◌≢◌, ◌∙◌, inl, inr, sym, ap, subst, ℕ, ℤ, List, Ok, Err}
+use Rattle.mob_ast.specs.declared.refusal.Kind.TheVariants.{NoMemory}
+use Rattle.mob_ast.specs.declared.refusal.Refusal.{Refusal}
+use Rattle.mob_typed.specs.declared.typed.ConstText.{ConstText}
+use Rattle.mob_value.specs.declared.value.Value.{Value}
+use Rattle.mob_literal.proofs.SqlReading.{one_sql_reading}
+use Rattle.mob_catalog.specs.Constants.{ConstantFails, IsConstant, RefusesConstant, at_constant}
+use Rattle.mob_catalog.specs.Faults.{IsRefusedAs}
+use Rattle.mob_catalog.specs.FirstFault.{IsFirstFault}
+use Rattle.mob_catalog.specs.Outcomes.{HaveOneMeaning, HaveOneRefusal, NeverMeantAndRefused}
+use Rattle.mob_catalog.proofs.OneFirst.{IsSettled, all_one, none_fails, one_first}
+use Rattle.mob_catalog.proofs.OneTable.{fault_known, one_kind, value_known}
+
+module _ (day : ℤ) where
+  one_value : (c : ConstText) (v w : Value) → IsConstant day c v → IsConstant day c w → v ≡ w
+  one_value c v w h k = let e = one_sql_reading c.ty day c.text (Ok v) (Ok w) (value_known v) (value_known w) h k in cc e
+
+  told : (c : ConstText) (v : Value) (e : Refusal) → IsConstant day c v → ConstantFails day c e → ⊥
+  told c v e h k = let same = one_sql_reading c.ty day c.text (Ok v) (Err k.fault) (value_known v) (fault_known k.fault e.kind k.for_fault) h k.says in absurd (cc same)
+
+  one_refusal : (n : ℕ) (c : ConstText) (e f : Refusal) → ConstantFails day c e → ConstantFails day c f → e ≡ f
+  one_refusal n c e f h k =
+      let same = one_sql_reading c.ty day c.text (Err h.fault) (Err k.fault) (fault_known h.fault e.kind h.for_fault) (fault_known k.fault f.kind k.for_fault) h.says k.says in
+      let fault : h.fault ≡ k.fault = cc same in
+      let kind : e.kind ≡ f.kind = one_kind k.fault e.kind f.kind (subst (λ x. IsRefusedAs x e.kind) fault h.for_fault) k.for_fault in
+      h.there ∙ ap (at_constant c) kind ∙ sym k.there
+
+  Fails : ℕ → ConstText → Refusal → Type 0
+  Fails n c e = ConstantFails day c e
+
+  settled : IsSettled (IsConstant day) Fails
+  settled = record { one = one_refusal; before = λ n m x z y e f less h k l. told x y e h k }
+
+  by_text : (c : ConstText) (e : Refusal) → e.kind ≢ NoMemory → RefusesConstant day c e → ConstantFails day c e
+  by_text c e known (inl h) = h
+  by_text c e known (inr h) = absurd (known (ap (λ (r : Refusal). r.kind) h))
+
+  -- the first refusal that is none for want of memory is by a text
+  first_by_text : (cs : List ConstText) (e : Refusal) → e.kind ≢ NoMemory → IsFirstFault (IsConstant day) (λ before. RefusesConstant day) cs e → IsFirstFault (IsConstant day) Fails cs e
+  first_by_text cs e known h = record {
+    before = h.before;
+    item = h.item;
+    after = h.after;
+    values = h.values;
+    parts = h.parts;
+    read = h.read;
+    fails = by_text h.item e known h.fails;
+  }
+
+pub one_meaning : HaveOneMeaning
+one_meaning day cs a b h k = all_one (IsConstant day) (one_value day) cs a b h k
+
+pub one_refused : HaveOneRefusal
+one_refused day cs e f known other h k = one_first (IsConstant day) (Fails day) (settled day) cs e f (first_by_text day cs e known h) (first_by_text day cs f other k)
+
+pub never_meant_and_refused : NeverMeantAndRefused
+never_meant_and_refused day cs values e known h k = none_fails (IsConstant day) (Fails day) cs values e (λ n c v less is fails. told day c v e is fails) h (first_by_text day cs e known k)

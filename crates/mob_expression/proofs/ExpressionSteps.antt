@@ -1,0 +1,68 @@
+-- The typing of an expression in memory, step by step.
+use Rattle.std.proofs.Common.{◌≡◌, ◌∙◌, refl, sym, ap, ℕ, List, [], ◌∷◌, ◌++◌, Option, Some, None, Result, Ok, Err}
+use Rattle.std.specs.Prelude.{option_map}
+use Rattle.mob_ast.specs.declared.expression.Node.{Node}
+use Rattle.mob_ast.specs.declared.expression.Expr.{Expr}
+use Rattle.mob_ast.specs.declared.expression.Expr.TheViews.{out-Expr}
+use Rattle.mob_ast.specs.Trees.{none as no_trees, tree_of, trees_of}
+use Rattle.mob_expression.specs.declared.fault.Fault.{Fault}
+use Rattle.mob_typed.specs.declared.typed.ConstText.{ConstText}
+use Rattle.mob_typed.specs.declared.typed.TExpr.{TExpr}
+use Rattle.mob_expression.specs.Answers.{Mistake, ◌>>=◌, StopsTyping, AnswersAs, TypesTo}
+use Rattle.mob_expression.specs.Scopes.{ScopeParts}
+use Rattle.mob_typed.specs.Trees.{TypedTree, typed_of}
+use Rattle.mob_expression.specs.Expressions.{typed_before_operands, finished, or_later, typed_expression, typed_operands}
+use Rattle.mob_expression.proofs.Behind.{behind, none_behind, one_behind}
+use Rattle.mob_expression.proofs.TreeFacts.{tree_is}
+use Rattle.mob_expression.proofs.Wrongs.{fails_bind, fails_along}
+
+-- one operand more
+pub operand_more : (s : ScopeParts) (x : Expr) (xs : List Expr) (ts : List TypedTree) (cs : List ConstText)
+    → behind ts (typed_operands s (trees_of (x ∷ xs))) cs ≡ (typed_expression s (tree_of x) cs >>= λ r. behind (ts ++ r.0 ∷ []) (typed_operands s (trees_of xs)) r.1)
+unfolding typed_operands
+operand_more s x xs ts cs = one_behind (typed_expression s (tree_of x)) (typed_operands s (trees_of xs)) cs ts
+
+pub operands_done : (s : ScopeParts) (ts : List TypedTree) (cs : List ConstText) → behind ts (typed_operands s no_trees) cs ≡ Ok (ts, cs)
+unfolding typed_operands
+operands_done s ts cs = none_behind ts cs
+
+module _ (s : ScopeParts) (e : Expr) (cs : List ConstText) (xs : List Expr) (is : xs ≡ (out-Expr e).args.items) where
+  abbrev node : Node
+  node = (out-Expr e).node
+
+  abbrev place : ℕ
+  place = (out-Expr e).place
+
+  abbrev last : List TypedTree × List ConstText → Result (TypedTree × List ConstText) Mistake
+  last r = finished node place (trees_of xs) r.0 >>= λ t. Ok (t, r.1)
+
+  abbrev later : Option TypedTree × List ConstText → Result (TypedTree × List ConstText) Mistake
+  later x = or_later (λ ds. typed_operands s (trees_of xs) ds >>= last) x.0 x.1
+
+  begun : typed_expression s (tree_of e) cs ≡ (typed_before_operands s node place (trees_of xs) cs >>= later)
+  unfolding typed_expression
+  begun = ap (λ t. typed_expression s t cs) (tree_is e) ∙ ap (λ ys. typed_before_operands s node place (trees_of ys) cs >>= λ x. or_later (λ ds. typed_operands s (trees_of ys) ds >>= λ r. finished node place (trees_of ys) r.0 >>= λ t. Ok (t, r.1)) x.0 x.1) (sym is)
+
+  pub early_fails : (f : Fault) → StopsTyping f (typed_before_operands s node place (trees_of xs) cs) → StopsTyping f (typed_expression s (tree_of e) cs)
+  early_fails f h = fails_along f (typed_before_operands s node place (trees_of xs) cs >>= later) (typed_expression s (tree_of e) cs) begun (fails_bind f (typed_before_operands s node place (trees_of xs) cs) later h)
+
+  pub early_settles : (o : Option TExpr) (t : TExpr) (ds : List ConstText) → typed_before_operands s node place (trees_of xs) cs ≡ Ok (option_map typed_of o, ds) → o ≡ Some t → typed_expression s (tree_of e) cs ≡ Ok (typed_of t, ds)
+  early_settles o t ds h o_is = begun ∙ ap (λ a. a >>= later) (h ∙ ap (λ p. Ok (option_map typed_of p, ds)) o_is)
+
+  module _ (o : Option TExpr) (ds : List ConstText) (h : typed_before_operands s node place (trees_of xs) cs ≡ Ok (option_map typed_of o, ds)) (o_is : o ≡ None) where
+    from_operands : typed_expression s (tree_of e) cs ≡ (typed_operands s (trees_of xs) ds >>= last)
+    from_operands = begun ∙ ap (λ a. a >>= later) (h ∙ ap (λ p. Ok (option_map typed_of p, ds)) o_is)
+
+    pub operand_fails : (f : Fault) (x : Expr) (rest : List Expr) (ts : List TypedTree) (es : List ConstText)
+        → typed_operands s (trees_of xs) ds ≡ behind ts (typed_operands s (trees_of (x ∷ rest))) es → StopsTyping f (typed_expression s (tree_of x) es) → StopsTyping f (typed_expression s (tree_of e) cs)
+    operand_fails f x rest ts es so_far wrong =
+        let on : List TypedTree × List ConstText → Result (TypedTree × List ConstText) Mistake = last in
+        fails_along f _ (typed_expression s (tree_of e) cs) (from_operands ∙ ap (λ a. a >>= on) (so_far ∙ operand_more s x rest ts es))
+        (fails_bind f (typed_expression s (tree_of x) es >>= λ r. behind (ts ++ r.0 ∷ []) (typed_operands s (trees_of rest)) r.1) on (fails_bind f (typed_expression s (tree_of x) es) (λ r. behind (ts ++ r.0 ∷ []) (typed_operands s (trees_of rest)) r.1) wrong))
+
+    pub all_typed : (r : Result TExpr Fault) (ts : List TypedTree) (es : List ConstText)
+        → typed_operands s (trees_of xs) ds ≡ behind ts (typed_operands s no_trees) es → AnswersAs typed_of r (finished node place (trees_of xs) ts) → TypesTo typed_of r es (typed_expression s (tree_of e) cs)
+    all_typed (Ok t) ts es so_far h = from_operands ∙ ap (λ a. a >>= last) (so_far ∙ operands_done s ts es) ∙ ap (λ a. a >>= λ t. Ok (t, es)) h
+    all_typed (Err f) ts es so_far h =
+        fails_along f (finished node place (trees_of xs) ts >>= λ t. Ok (t, es)) (typed_expression s (tree_of e) cs) (from_operands ∙ ap (λ a. a >>= last) (so_far ∙ operands_done s ts es))
+        (fails_bind f (finished node place (trees_of xs) ts) (λ t. Ok (t, es)) h)

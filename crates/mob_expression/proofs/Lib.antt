@@ -1,0 +1,6 @@
+pub mod Behind
+pub mod Entries
+pub mod ExpressionSteps
+pub mod Matches
+pub mod TreeFacts
+pub mod Wrongs

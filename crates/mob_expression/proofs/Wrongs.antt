@@ -1,0 +1,13 @@
+-- What is wrong first in a part is so in the whole.
+use Rattle.std.proofs.Common.{◌≡◌, ◌∙◌, ap, Result}
+use Rattle.mob_expression.specs.declared.fault.Fault.{Fault}
+use Rattle.mob_expression.specs.declared.fault.Fault.TheVariants.{Wrong as Refused, NoMemory}
+use Rattle.mob_expression.specs.Answers.{Mistake, ◌>>=◌, StopsTyping}
+
+pub fails_bind : {A B : Type 0} (f : Fault) (r : Result A Mistake) (k : A → Result B Mistake) → StopsTyping f r → StopsTyping f (r >>= k)
+fails_bind (Refused kind place) r k h = ap (λ a. a >>= k) h
+fails_bind NoMemory r k h = tt
+
+pub fails_along : {A : Type 0} (f : Fault) (r q : Result A Mistake) → q ≡ r → StopsTyping f r → StopsTyping f q
+fails_along (Refused kind place) r q e h = e ∙ h
+fails_along NoMemory r q e h = tt

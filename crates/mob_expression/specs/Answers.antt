@@ -1,0 +1,52 @@
+-- What typing answers: a value and the constants so far, or what is wrong first.
+use Rattle.std.specs.Prelude.{◌≡◌, ℕ, List, ◌∷◌, Bool, Option, Some, None, Result, Ok, Err, if◌then◌else◌}
+use Rattle.mob_ast.specs.declared.refusal.Kind.{Kind}
+use Rattle.mob_typed.specs.declared.typed.ConstText.{ConstText}
+use Rattle.mob_expression.specs.declared.fault.Fault.{Fault}
+use Rattle.mob_expression.specs.declared.fault.Fault.TheVariants.{Wrong as Refused, NoMemory}
+
+-- what is wrong, and where
+pub record Mistake : Type 0 where
+  pub kind : Kind
+  pub place : ℕ
+
+abbrev pub refuse : {A : Type 0} → Kind → ℕ → Result A Mistake
+refuse kind place = Err (record { kind = kind; place = place })
+
+-- one after the other; the first that is wrong decides
+infixl 10 ◌>>=◌
+abbrev pub ◌>>=◌ : {A B : Type 0} → Result A Mistake → (A → Result B Mistake) → Result B Mistake
+(Ok x) >>= f = f x
+(Err w) >>= f = Err w
+
+-- wrong where the test holds
+abbrev pub unless : Bool → Kind → ℕ → Result (Unit {0}) Mistake
+unless test kind place = if test then refuse kind place else Ok tt
+
+-- what is there, or wrong where there is nothing
+abbrev pub found : {A : Type 0} → Kind → ℕ → Option A → Result A Mistake
+found kind place None = refuse kind place
+found kind place (Some x) = Ok x
+
+-- a step takes the constants so far, and gives a value and the constants after it
+abbrev pub TypingStep : Type 0 → Type 0
+TypingStep A = List ConstText → Result (A × List ConstText) Mistake
+
+-- the first of a list, and then the others
+abbrev pub one_more : {A : Type 0} → TypingStep A → TypingStep (List A) → TypingStep (List A)
+one_more first others cs = first cs >>= λ r. others r.1 >>= λ s. Ok (r.0 ∷ s.0, s.1)
+
+-- what the program answers where the definition reads so; want of memory is free
+abbrev pub StopsTyping : {Y : Type 0} → Fault → Result Y Mistake → Type 0
+StopsTyping (Refused kind place) read = read ≡ Err (record { kind = kind; place = place })
+StopsTyping NoMemory read = Unit {0}
+
+-- the program answers as the definition reads
+abbrev pub AnswersAs : {X Y : Type 0} → (X → Y) → Result X Fault → Result Y Mistake → Type 0
+AnswersAs view (Ok x) read = read ≡ Ok (view x)
+AnswersAs view (Err e) read = StopsTyping e read
+
+-- the same for a step, which leaves these constants
+abbrev pub TypesTo : {X Y : Type 0} → (X → Y) → Result X Fault → List ConstText → Result (Y × List ConstText) Mistake → Type 0
+TypesTo view (Ok x) after read = read ≡ Ok (view x, after)
+TypesTo view (Err e) after read = StopsTyping e read

@@ -1,0 +1,18 @@
+-- Entries by their names, and the columns of a table.
+use Rattle.std.specs.Prelude.{◌+◌, ℕ, List, [], ◌∷◌, Bool, Option, Some, None, is_some, if◌then◌else◌}
+use Rattle.std.specs.Str.{bytes_eq}
+use Rattle.mob_ast.specs.declared.types.SqlType.{SqlType}
+use Rattle.mob_typed.specs.Statements.{ColumnList}
+
+-- the number and the content of the first entry of this name, where the first of the entries has number n
+abbrev pub entry_from : {A : Type 0} → ℕ → List (List ℕ × A) → List ℕ → Option (ℕ × A)
+entry_from n [] name = None
+entry_from n (e ∷ es) name = if bytes_eq name e.0 then Some (n, e.1) else entry_from (n + 1) es name
+
+-- whether an entry has this name
+abbrev pub has_entry : {A : Type 0} → List (List ℕ × A) → List ℕ → Bool
+has_entry es name = is_some (entry_from 0 es name)
+
+-- the number and the type of the column of this name
+abbrev pub column_of : ColumnList → List ℕ → Option (ℕ × SqlType)
+column_of columns name = entry_from 0 columns name

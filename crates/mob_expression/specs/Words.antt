@@ -1,0 +1,68 @@
+-- Words and numbers of a script: which type they name, and what a number is worth.
+use Rattle.std.specs.Prelude.{◌==◌, ◌&&◌, ◌||◌, not, ℕ, List, [], ◌∷◌, Bool, true, false, Option, Some, None, codes, drop, take_while, if◌then◌else◌}
+use Rattle.std.specs.List.{list_all}
+use Rattle.std.specs.Char.{is_ascii_digit, to_ascii_lowercase}
+use Rattle.std.specs.Str.{bytes_eq}
+use Rattle.mob_language.specs.Language.{is_blank}
+use Rattle.mob_ast.specs.declared.types.Word.{Word}
+use Rattle.mob_ast.specs.declared.types.SqlType.{SqlType}
+use Rattle.mob_ast.specs.declared.types.SqlType.TheVariants as sql
+
+-- the type of this name among these
+abbrev pub type_among : List (List ℕ × SqlType) → List ℕ → Option SqlType
+type_among [] name = None
+type_among (n ∷ ns) name = if bytes_eq n.0 name then Some n.1 else type_among ns name
+
+-- the types of one word; `geometry` has a second one in brackets
+unfoldable pub type_words : List (List ℕ × SqlType)
+type_words =
+    (codes "bool", sql.Bool) ∷ (codes "boolean", sql.Bool) ∷ (codes "int", sql.Int) ∷ (codes "integer", sql.Int) ∷ (codes "numeric", sql.Numeric) ∷ (codes "text", sql.Text)
+    ∷ (codes "timestamptz", sql.Moment) ∷ (codes "tstzspan", sql.Span) ∷ (codes "tstzspanset", sql.SpanSet) ∷ (codes "stbox", sql.Box)
+    ∷ (codes "tbool", sql.TBool) ∷ (codes "tint", sql.TInt) ∷ (codes "tfrac", sql.TFrac) ∷ (codes "tfloat", sql.TFrac) ∷ (codes "ttext", sql.TText) ∷ (codes "tgeompoint", sql.TPoint) ∷ []
+
+unfoldable pub geometry_words : List (List ℕ × SqlType)
+geometry_words = (codes "point", sql.Point) ∷ (codes "polygon", sql.Polygon) ∷ []
+
+-- the type that these words name
+abbrev pub type_named : List ℕ → Option Word → Option SqlType
+type_named name None = type_among type_words name
+type_named name (Some inner) = if bytes_eq name (codes "geometry") then type_among geometry_words inner.text else None
+
+-- a number of digits alone is an int, another is numeric
+abbrev pub number_type : List ℕ → SqlType
+number_type s = if list_all is_ascii_digit s then sql.Int else sql.Numeric
+
+-- whether a number is 0: its digits, those of an exponent aside, are all 0
+abbrev pub is_zero : List ℕ → Bool
+is_zero s = list_all (λ b. b == 48 || b == 46) (take_while (λ b. not (b == 101 || b == 69)) s)
+
+-- behind the blanks in front
+abbrev pub skip_blanks : List ℕ → List ℕ
+skip_blanks [] = []
+skip_blanks (b ∷ bs) = if is_blank b then skip_blanks bs else b ∷ bs
+
+-- whether a text begins with this word, which has small letters alone, in letters of either case
+abbrev pub begins_with_word : List ℕ → List ℕ → Bool
+begins_with_word s [] = true
+begins_with_word [] (w ∷ ws) = false
+begins_with_word (b ∷ bs) (w ∷ ws) = to_ascii_lowercase b == w && begins_with_word bs ws
+
+-- behind `SRID=0;` and the blanks round its sign, where the text begins so
+abbrev pub after_semicolon : List ℕ → List ℕ → List ℕ
+after_semicolon whole [] = whole
+after_semicolon whole (b ∷ bs) = if b == 59 then skip_blanks bs else whole
+
+abbrev pub after_srid : List ℕ → List ℕ
+after_srid s = if begins_with_word s (codes "srid=0") then after_semicolon s (skip_blanks (drop 6 s)) else s
+
+-- whether a text of geometry is a polygon's: behind blanks and `SRID=0;` it begins with `polygon`
+abbrev pub is_polygon : List ℕ → Bool
+is_polygon s = begins_with_word (after_srid (skip_blanks s)) (codes "polygon")
+
+abbrev pub geometry_type : List ℕ → SqlType
+geometry_type s = if is_polygon s then sql.Polygon else sql.Point
+
+-- the type of a typed string: `geometry` alone is decided by the string
+abbrev pub literal_type : List ℕ → Option Word → List ℕ → Option SqlType
+literal_type name None s = if bytes_eq name (codes "geometry") then Some (geometry_type s) else type_named name None
+literal_type name (Some inner) s = type_named name (Some inner)

@@ -1,0 +1,74 @@
+//! The column that a name stands for.
+ghost use Rattle.std.specs.Prelude.{◌≡◌, option_map};
+ghost use Rattle.mob_expression.specs.Answers.{AnswersAs};
+ghost use Rattle.mob_expression.specs.Names.{entry_from};
+ghost use Rattle.mob_expression.specs.Scopes.{source_of, sources_of, scope_of};
+ghost use Rattle.mob_expression.specs.Expressions.{the_one, matches, column_named};
+
+use crate::fault::Fault;
+use crate::scope::{Found, Scope, Source, number};
+use mob_ast::{Kind, SqlType, Word};
+
+// The one column of this name in all tables of FROM.
+fn bare_column(from: &[Source<'_>], name: &Word) -> Result<Found, Fault>
+    ensures { AnswersAs (λ f. f) result (the_one name.now.place (matches 0 (sources_of from.now) name.now.text)) }
+{
+    let mut one: Option<Found> = None;
+    for (index, source) in from.iter().enumerate() {
+        if let Some((column, ty)) = source.columns.find(name.text.as_str()) {
+            if one.is_some() {
+                return Err(Fault::Wrong {
+                    kind: Kind::Duplicate,
+                    place: name.place,
+                });
+            }
+            one = Some(Found {
+                from: number(index)?,
+                column: number(column)?,
+                ty,
+            });
+        }
+    }
+    one.ok_or(Fault::Wrong {
+        kind: Kind::UnknownName,
+        place: name.place,
+    })
+}
+
+// The number and the content of the table of FROM that goes by this name.
+pub fn source_named<'a>(from: &'a [Source<'a>], name: &str) -> Option<(usize, &'a Source<'a>)>
+    ensures first { option_map (λ r. (r.0, (source_of r.1.now).1)) result ≡ entry_from 0 (sources_of from.now) name.now }
+{
+    for (index, source) in from.iter().enumerate() {
+        if name == source.name {
+            return Some((index, source));
+        }
+    }
+    None
+}
+
+/// The column that a name stands for, with its table before a point or without.
+pub fn column_named(scope: &Scope<'_>, table: &Option<Word>, column: &Word) -> Result<Found, Fault>
+    ensures named { AnswersAs (λ f. f) result (column_named (scope_of scope.now) table.now column.now) }
+{
+    let Some(table) = table else {
+        return bare_column(scope.from, column);
+    };
+    let Some((from, source)) = source_named(scope.from, table.text.as_str()) else {
+        return Err(Fault::Wrong {
+            kind: Kind::UnknownName,
+            place: table.place,
+        });
+    };
+    let Some((index, ty)) = source.columns.find(column.text.as_str()) else {
+        return Err(Fault::Wrong {
+            kind: Kind::UnknownName,
+            place: column.place,
+        });
+    };
+    Ok(Found {
+        from: number(from)?,
+        column: number(index)?,
+        ty,
+    })
+}

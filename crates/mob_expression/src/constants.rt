@@ -1,0 +1,190 @@
+//! Constants, and what else is settled before operands are looked at.
+ghost use Rattle.std.specs.Prelude.{◌≡◌, None, Some, option_map, map};
+ghost use Rattle.mob_ast.specs.Trees.{tree_of, trees_of};
+ghost use Rattle.mob_expression.specs.Answers.{TypesTo, refuse};
+ghost use Rattle.mob_typed.specs.Trees.{typed, typed_of, none, typed_trees};
+ghost use Rattle.mob_expression.specs.Scopes.{scope_of};
+ghost use Rattle.mob_expression.specs.Expressions.{constant, settled, typed_string, only, lone_string, cast_of_string, typed_before_operands};
+
+use crate::columns::column_named;
+use crate::fault::Fault;
+use crate::scope::{Scope, number};
+use mob_typed::{ConstText, TExpr};
+use crate::words::{literal_type, number_type, type_named};
+use mob_ast::{Expr, Kind, Node, SqlType, TypeWord};
+use mob_list::items::Items;
+use mob_list::text::Text;
+use mob_operators::{Form, Op, is_irrational};
+use std::alloc::Global;
+
+/// A typed expression with these arguments.
+pub fn with_args(op: Op, ty: SqlType, place: u32, args: Vec<TExpr>) -> TExpr
+    ensures tree { typed_of result ≡ typed op ty place (typed_trees (map typed_of args.items)) }
+{
+    TExpr {
+        op,
+        ty,
+        place,
+        args,
+    }
+}
+
+/// A typed expression without arguments.
+pub fn leaf(alloc: Global, op: Op, ty: SqlType, place: u32) -> TExpr
+    ensures tree { typed_of result ≡ typed op ty place none }
+{
+    with_args(op, ty, place, Vec::new(alloc))
+}
+
+/// A constant of this type and text, which takes the next number.
+pub fn constant(
+    alloc: Global,
+    scope: &Scope<'_>,
+    consts: &mut Items<ConstText>,
+    ty: SqlType,
+    text: &str,
+    place: u32,
+) -> Result<TExpr, Fault>
+    ensures next { TypesTo typed_of result consts.new (constant (scope_of scope.now) ty text.now place consts.old) }
+{
+    let index = number(consts.len())?;
+    let text = Text::from_string(String::from_str(alloc, text)?);
+    consts.push(ConstText {
+        ty,
+        text,
+        statement: scope.statement,
+        place,
+    })?;
+    Ok(leaf(alloc, Op::Const(index), ty, place))
+}
+
+/// The only one of these expressions, where there is one alone.
+pub fn only(args: &[Expr]) -> Option<&Expr>
+    ensures alone { option_map (λ e. tree_of e.now) result ≡ only (trees_of args.now) }
+{
+    let (first, others) = args.split_first()?;
+    match others.split_first() {
+        None => Some(first),
+        Some(_) => None,
+    }
+}
+
+// The string and its place, where the operands are a bare string alone.
+fn lone_string(args: &[Expr]) -> Option<(&str, u32)>
+    ensures { option_map (λ r. (r.0.now, r.1)) result ≡ lone_string (trees_of args.now) }
+{
+    let only = only(args)?;
+    match &only.node {
+        Node::Str(text) => Some((text.as_str(), only.place)),
+        _ => None,
+    }
+}
+
+// A bare string under a cast is read as the type at once.
+fn cast_of_string(
+    alloc: Global,
+    scope: &Scope<'_>,
+    consts: &mut Items<ConstText>,
+    word: &TypeWord,
+    place: u32,
+    args: &[Expr],
+) -> Result<Option<TExpr>, Fault>
+    ensures { TypesTo (option_map typed_of) result consts.new (cast_of_string (scope_of scope.now) word.now place (lone_string (trees_of args.now)) consts.old) }
+{
+    let Some((text, text_place)) = lone_string(args) else {
+        return Ok(None);
+    };
+    let Some(ty) = type_named(word) else {
+        return Err(Fault::Wrong {
+            kind: Kind::UnknownName,
+            place: word.name.place,
+        });
+    };
+    let string = constant(alloc, scope, consts, ty, text, text_place)?;
+    let mut args = Vec::new(alloc);
+    args.push(string)?;
+    Ok(Some(with_args(Op::Cast, ty, place, args)))
+}
+
+// A constant that is settled at once.
+fn settled_constant(
+    alloc: Global,
+    scope: &Scope<'_>,
+    consts: &mut Items<ConstText>,
+    ty: SqlType,
+    text: &str,
+    place: u32,
+) -> Result<Option<TExpr>, Fault>
+    ensures { TypesTo (option_map typed_of) result consts.new (settled (constant (scope_of scope.now) ty text.now place) consts.old) }
+{
+    Ok(Some(constant(alloc, scope, consts, ty, text, place)?))
+}
+
+// A typed string, which is settled at once.
+fn settled_string(
+    alloc: Global,
+    scope: &Scope<'_>,
+    consts: &mut Items<ConstText>,
+    word: &TypeWord,
+    text: &str,
+    place: u32,
+) -> Result<Option<TExpr>, Fault>
+    ensures { TypesTo (option_map typed_of) result consts.new (settled (typed_string (scope_of scope.now) word.now text.now place) consts.old) }
+{
+    let Some(ty) = literal_type(word, text) else {
+        return Err(Fault::Wrong {
+            kind: Kind::UnknownName,
+            place: word.name.place,
+        });
+    };
+    settled_constant(alloc, scope, consts, ty, text, place)
+}
+
+/// What is settled before the operands: constants, columns, a cast of a bare string, and functions that are refused for
+/// their irrational results.
+#[tactic(auto, unfolding(crate::specs::Expressions::typed_before_operands))]
+pub fn typed_before_operands(
+    alloc: Global,
+    scope: &Scope<'_>,
+    consts: &mut Items<ConstText>,
+    node: &Node,
+    place: u32,
+    args: &[Expr],
+) -> Result<Option<TExpr>, Fault>
+    ensures settled { TypesTo (option_map typed_of) result consts.new (typed_before_operands (scope_of scope.now) node.now place (trees_of args.now) consts.old) }
+{
+    match node {
+        Node::Null => Ok(Some(leaf(alloc, Op::Null, SqlType::Text, place))),
+        Node::True => settled_constant(alloc, scope, consts, SqlType::Bool, "true", place),
+        Node::False => settled_constant(alloc, scope, consts, SqlType::Bool, "false", place),
+        Node::Number(text) => {
+            let text = text.as_str();
+            settled_constant(alloc, scope, consts, number_type(text), text, place)
+        }
+        Node::Str(text) => {
+            settled_constant(alloc, scope, consts, SqlType::Text, text.as_str(), place)
+        }
+        Node::Literal { ty, text } => {
+            settled_string(alloc, scope, consts, ty, text.as_str(), place)
+        }
+        Node::Column { table, column } => {
+            let found = column_named(scope, table, column)?;
+            let op = Op::Column {
+                from: found.from,
+                column: found.column,
+            };
+            Ok(Some(leaf(alloc, op, found.ty, place)))
+        }
+        Node::Call(name) => {
+            if is_irrational(Form::Call, name.as_str()) {
+                return Err(Fault::Wrong {
+                    kind: Kind::Irrational,
+                    place,
+                });
+            }
+            Ok(None)
+        }
+        Node::Cast(word) => cast_of_string(alloc, scope, consts, word, place, args),
+        Node::Sign(_) | Node::Not | Node::And | Node::Or | Node::IsNull | Node::IsNotNull => Ok(None),
+    }
+}

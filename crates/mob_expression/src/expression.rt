@@ -1,0 +1,35 @@
+//! Names and types of expressions.
+ghost use Rattle.mob_ast.specs.Trees.{tree_of};
+ghost use Rattle.mob_expression.specs.Answers.{TypesTo};
+ghost use Rattle.mob_typed.specs.Trees.{typed_of};
+ghost use Rattle.mob_expression.specs.Scopes.{scope_of};
+ghost use Rattle.mob_expression.specs.Expressions.{typed_expression};
+
+use crate::constants::typed_before_operands;
+use crate::fault::Fault;
+use crate::operators::finished;
+use crate::scope::Scope;
+use mob_typed::{ConstText, TExpr};
+use mob_ast::Expr;
+use mob_list::items::Items;
+use std::alloc::Global;
+
+/// The typed tree of an expression, whose constants come behind those so far, or what is wrong first.
+pub fn type_expr(
+    alloc: Global,
+    scope: &Scope<'_>,
+    consts: &mut Items<ConstText>,
+    e: &Expr,
+) -> Result<TExpr, Fault>
+    ensures typed { TypesTo typed_of result consts.new (typed_expression (scope_of scope.now) (tree_of e.now) consts.old) }
+{
+    if let Some(done) = typed_before_operands(alloc, scope, consts, &e.node, e.place, &e.args)? {
+        return Ok(done);
+    }
+    let mut args = Vec::new(alloc);
+    for operand in &e.args {
+        let typed = type_expr(alloc, scope, consts, operand)?;
+        args.push(typed)?;
+    }
+    finished(alloc, &e.node, e.place, &e.args, args)
+}

@@ -1,0 +1,12 @@
+//! Names and types of expressions: each name becomes a number, each expression gets its operator and its type, and each
+//! constant its number in written order; or the first thing that is wrong is said, with its place.
+#![tactic(auto)]
+
+pub mod column_list;
+pub mod columns;
+pub mod constants;
+pub mod expression;
+pub mod fault;
+pub mod operators;
+pub mod scope;
+pub mod words;

@@ -1,0 +1,217 @@
+//! Operators on typed operands.
+ghost use Rattle.std.specs.Prelude.{◌≡◌, option_map, map, IfOk};
+ghost use Rattle.mob_ast.specs.Trees.{tree_of, trees_of};
+ghost use Rattle.mob_expression.specs.Answers.{AnswersAs};
+ghost use Rattle.mob_typed.specs.Trees.{typed_of, type_of, types_of};
+ghost use Rattle.mob_expression.specs.Words.{is_zero};
+ghost use Rattle.mob_expression.specs.Expressions.{is_signed, digits_of, divisor_of, missing, missing_sign, are_linear, divides_by_zero, operated, can_cast, can_cast_all, cast, finished};
+
+use crate::constants::{only, with_args};
+use crate::fault::Fault;
+use mob_typed::TExpr;
+use crate::words::{is_zero, type_named};
+use mob_ast::{Expr, Kind, Node, SqlType, TypeWord};
+use mob_operators::{Form, Op, is_function, is_irrational, operator_for};
+use std::alloc::{AllocError, Global};
+
+/// The type of a typed expression.
+#[tactic(auto, using(mob_typed::proofs::TreeFacts::typed_is))]
+pub fn type_of(e: &TExpr) -> SqlType
+    ensures { result ≡ type_of (typed_of e.now) }
+{
+    e.ty
+}
+
+// The types of typed expressions.
+fn types_of(alloc: Global, args: &[TExpr]) -> Result<Vec<SqlType>, AllocError>
+    ensures { IfOk result (λ v. v.items ≡ types_of (map typed_of args.now)) }
+{
+    let mut types = Vec::new(alloc);
+    for arg in args {
+        types.push(type_of(arg))?;
+    }
+    Ok(types)
+}
+
+/// Whether a sign is `-` or `+`.
+pub fn is_signed(sign: &str) -> bool
+    ensures sign { result ≡ is_signed sign.now }
+{
+    sign == "-" || sign == "+"
+}
+
+// Whether a number literal under any number of signs is 0; None for another expression.
+#[tactic(auto, using(crate::proofs::TreeFacts::digits_is))]
+fn literal_of(e: &Expr) -> Option<bool>
+    ensures { result ≡ option_map is_zero (digits_of (tree_of e.now)) }
+{
+    match &e.node {
+        Node::Number(text) => Some(is_zero(text.as_str())),
+        Node::Sign(sign) => match e.args.as_slice() {
+            [inner] => {
+                if is_signed(sign.as_str()) {
+                    literal_of(inner)
+                } else {
+                    None
+                }
+            }
+            _ => None,
+        },
+        _ => None,
+    }
+}
+
+// Whether the second of two operands is a number literal that is 0; None where it is none.
+fn divisor_of(args: &[Expr]) -> Option<bool>
+    ensures { result ≡ option_map is_zero (divisor_of (trees_of args.now)) }
+{
+    let (_, others) = args.split_first()?;
+    literal_of(only(others)?)
+}
+
+// Why an operator has no line in the table for these types.
+fn missing(form: Form, name: &str, types: &[SqlType]) -> Kind
+    ensures { result ≡ missing form name.now types.now }
+{
+    match form {
+        Form::Word => Kind::NoSuchOperator,
+        Form::Sign => missing_sign(name, types),
+        Form::Call => {
+            if is_function(name) {
+                Kind::NoSuchOperator
+            } else {
+                Kind::UnknownName
+            }
+        }
+    }
+}
+
+fn missing_sign(name: &str, types: &[SqlType]) -> Kind
+    ensures { result ≡ missing_sign name.now types.now }
+{
+    if is_irrational(Form::Sign, name) {
+        return Kind::Irrational;
+    }
+    if name == "*" && are_linear(types) {
+        return Kind::LinearProduct;
+    }
+    Kind::NoSuchOperator
+}
+
+fn are_linear(types: &[SqlType]) -> bool
+    ensures { result ≡ are_linear types.now }
+{
+    match types {
+        [SqlType::TFrac, SqlType::TFrac] => true,
+        _ => false,
+    }
+}
+
+fn divides_by_zero(op: Op, divisor: Option<bool>) -> bool
+    ensures { result ≡ divides_by_zero op divisor }
+{
+    match (op, divisor) {
+        (Op::Divide, Some(zero)) => zero,
+        _ => false,
+    }
+}
+
+// An operator on typed operands; the second is a number literal that is 0 or not, or none.
+fn operated(
+    alloc: Global,
+    form: Form,
+    name: &str,
+    place: u32,
+    divisor: Option<bool>,
+    args: Vec<TExpr>,
+) -> Result<TExpr, Fault>
+    ensures { AnswersAs typed_of result (operated form name.now place divisor (map typed_of args.items)) }
+{
+    let types = types_of(alloc, &args)?;
+    let Some((op, ty)) = operator_for(form, name, &types, divisor.is_some()) else {
+        return Err(Fault::Wrong {
+            kind: missing(form, name, &types),
+            place,
+        });
+    };
+    if divides_by_zero(op, divisor) {
+        return Err(Fault::Wrong {
+            kind: Kind::ZeroDivisor,
+            place,
+        });
+    }
+    Ok(with_args(op, ty, place, args))
+}
+
+fn can_cast(from: SqlType, to: SqlType) -> bool
+    ensures { result ≡ can_cast from to }
+{
+    match (from, to) {
+        (SqlType::Int, SqlType::Numeric) => true,
+        (SqlType::TInt, SqlType::TFrac) => true,
+        _ => from == to,
+    }
+}
+
+// A cast of a typed operand.
+fn cast(alloc: Global, word: &TypeWord, place: u32, args: Vec<TExpr>) -> Result<TExpr, Fault>
+    ensures { AnswersAs typed_of result (cast word.now place (map typed_of args.items)) }
+{
+    let Some(ty) = type_named(word) else {
+        return Err(Fault::Wrong {
+            kind: Kind::UnknownName,
+            place: word.name.place,
+        });
+    };
+    let types = types_of(alloc, &args)?;
+    if !can_cast_all(&types, ty) {
+        return Err(Fault::Wrong {
+            kind: Kind::NoSuchOperator,
+            place,
+        });
+    }
+    Ok(with_args(Op::Cast, ty, place, args))
+}
+
+fn can_cast_all(types: &[SqlType], to: SqlType) -> bool
+    ensures { result ≡ can_cast_all types.now to }
+{
+    match types {
+        [from] => can_cast(*from, to),
+        _ => false,
+    }
+}
+
+/// The operator on its typed operands.
+#[tactic(auto, unfolding(crate::specs::Expressions::finished))]
+pub fn finished(
+    alloc: Global,
+    node: &Node,
+    place: u32,
+    args: &[Expr],
+    typed_args: Vec<TExpr>,
+) -> Result<TExpr, Fault>
+    ensures typed { AnswersAs typed_of result (finished node.now place (trees_of args.now) (map typed_of typed_args.items)) }
+{
+    match node {
+        Node::Call(name) => operated(alloc, Form::Call, name.as_str(), place, None, typed_args),
+        Node::Sign(sign) => operated(
+            alloc,
+            Form::Sign,
+            sign.as_str(),
+            place,
+            divisor_of(args),
+            typed_args,
+        ),
+        Node::Cast(word) => cast(alloc, word, place, typed_args),
+        Node::Not => operated(alloc, Form::Word, "not", place, None, typed_args),
+        Node::And => operated(alloc, Form::Word, "and", place, None, typed_args),
+        Node::Or => operated(alloc, Form::Word, "or", place, None, typed_args),
+        Node::IsNull => operated(alloc, Form::Word, "is null", place, None, typed_args),
+        Node::IsNotNull => operated(alloc, Form::Word, "is not null", place, None, typed_args),
+        _ => Err(Fault::Wrong {
+            kind: Kind::NoSuchOperator,
+            place,
+        }),
+    }
+}

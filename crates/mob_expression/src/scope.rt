@@ -1,0 +1,45 @@
+//! What an expression sees: the tables of FROM and their columns.
+ghost use Rattle.std.specs.Prelude.{◌≡◌, Ok};
+ghost use Rattle.mob_expression.specs.Answers.{AnswersAs};
+
+use crate::fault::Fault;
+use crate::column_list::Columns;
+use mob_ast::SqlType;
+
+/// A table of FROM under the name that it goes by there.
+#[derive(Clone, Copy)]
+pub struct Source<'a> {
+    /// The name.
+    pub name: &'a str,
+    /// The number of the table.
+    pub table: u32,
+    /// Its columns.
+    pub columns: &'a Columns,
+}
+
+/// What an expression sees: the tables of FROM, and the number of its statement.
+#[derive(Clone, Copy)]
+pub struct Scope<'a> {
+    /// The tables of FROM.
+    pub from: &'a [Source<'a>],
+    /// The number of the statement, from 1.
+    pub statement: u32,
+}
+
+/// A column that a name stands for.
+#[derive(Clone, Copy)]
+pub struct Found {
+    /// Its table of FROM.
+    pub from: u32,
+    /// Its number in the table.
+    pub column: u32,
+    /// Its type.
+    pub ty: SqlType,
+}
+
+/// A number of 32 bits. What is past it cannot be held in memory, so that it counts as want of memory.
+pub fn number(index: usize) -> Result<u32, Fault>
+    ensures same { AnswersAs (λ n. n) result (Ok index) }
+{
+    u32::try_from(index).map_err(|_| Fault::NoMemory)
+}

@@ -1,0 +1,179 @@
+//! Words and numbers of a script: which type they name, and what a number is worth.
+ghost use Rattle.std.specs.Prelude.{◌≡◌, map};
+ghost use Rattle.std.specs.List.{list_all};
+ghost use Rattle.std.specs.Char.{is_ascii_digit};
+ghost use Rattle.mob_language.specs.Language.{is_blank};
+ghost use Rattle.mob_expression.specs.Words.{type_among, type_words, geometry_words, type_named, number_type, is_zero, skip_blanks, begins_with_word, after_srid, after_semicolon, is_polygon, geometry_type, literal_type};
+
+use mob_ast::{SqlType, TypeWord};
+
+static TYPE_WORDS: [(&'static str, SqlType); 16] = [
+    ("bool", SqlType::Bool),
+    ("boolean", SqlType::Bool),
+    ("int", SqlType::Int),
+    ("integer", SqlType::Int),
+    ("numeric", SqlType::Numeric),
+    ("text", SqlType::Text),
+    ("timestamptz", SqlType::Moment),
+    ("tstzspan", SqlType::Span),
+    ("tstzspanset", SqlType::SpanSet),
+    ("stbox", SqlType::Box),
+    ("tbool", SqlType::TBool),
+    ("tint", SqlType::TInt),
+    ("tfrac", SqlType::TFrac),
+    ("tfloat", SqlType::TFrac),
+    ("ttext", SqlType::TText),
+    ("tgeompoint", SqlType::TPoint),
+];
+
+static GEOMETRY_WORDS: [(&'static str, SqlType); 2] = [
+    ("point", SqlType::Point),
+    ("polygon", SqlType::Polygon),
+];
+
+// The type of this name among these.
+fn type_among(words: &[(&str, SqlType)], name: &str) -> Option<SqlType>
+    ensures { result ≡ type_among (map (λ w. (w.0.now, w.1)) words.now) name.now }
+{
+    for (word, ty) in words {
+        if *word == name {
+            return Some(*ty);
+        }
+    }
+    None
+}
+
+fn type_words() -> &'static [(&'static str, SqlType)]
+    ensures { map (λ w. (w.0.now, w.1)) result.now ≡ type_words }
+{
+    &TYPE_WORDS
+}
+
+fn geometry_words() -> &'static [(&'static str, SqlType)]
+    ensures { map (λ w. (w.0.now, w.1)) result.now ≡ geometry_words }
+{
+    &GEOMETRY_WORDS
+}
+
+/// The type that these words name.
+pub fn type_named(word: &TypeWord) -> Option<SqlType>
+    ensures named { result ≡ type_named word.now.name.text word.now.inner }
+{
+    match &word.inner {
+        None => type_among(type_words(), word.name.text.as_str()),
+        Some(inner) => {
+            if word.name.text.as_str() == "geometry" {
+                type_among(geometry_words(), inner.text.as_str())
+            } else {
+                None
+            }
+        }
+    }
+}
+
+/// The type of a number: int where it is of digits alone, else numeric.
+pub fn number_type(text: &str) -> SqlType
+    ensures by_digits { result ≡ number_type text.now }
+{
+    if has_digits_alone(text.as_bytes()) {
+        SqlType::Int
+    } else {
+        SqlType::Numeric
+    }
+}
+
+/// Whether all bytes are digits.
+pub fn has_digits_alone(text: &[u8]) -> bool
+    ensures digits { result ≡ list_all is_ascii_digit text.now }
+{
+    text.iter().all(|b| b.is_ascii_digit())
+}
+
+/// Whether a number is 0: its digits, those of an exponent aside, are all 0.
+pub fn is_zero(text: &str) -> bool
+    ensures zero { result ≡ is_zero text.now }
+{
+    text.as_bytes()
+        .iter()
+        .take_while(|b| !(**b == b'e' || **b == b'E'))
+        .all(|b| *b == b'0' || *b == b'.')
+}
+
+fn is_blank(b: u8) -> bool
+    ensures { result ≡ is_blank b }
+{
+    b == b' ' || b == b'\t' || b == b'\r' || b == b'\n'
+}
+
+// A loop, since a script may have any number of blanks, and a call for each would take stack.
+fn skip_blanks(text: &[u8]) -> &[u8]
+    ensures { result.now ≡ skip_blanks text.now }
+{
+    let mut rest = text;
+    'blanks: while let Some((first, behind)) = rest.split_first() {
+        if !is_blank(*first) {
+            return rest;
+        }
+        rest = behind;
+    }
+    rest
+}
+
+// Whether a text begins with this word in letters of either case.
+fn begins_with_word(text: &[u8], word: &[u8]) -> bool
+    ensures { result ≡ begins_with_word text.now word.now }
+{
+    let Some((small, word)) = word.split_first() else {
+        return true;
+    };
+    let Some((letter, text)) = text.split_first() else {
+        return false;
+    };
+    letter.to_ascii_lowercase() == *small && begins_with_word(text, word)
+}
+
+// What stands behind `SRID=0;` and the blanks round its sign, where the text begins so, else the text.
+fn after_srid(text: &[u8]) -> &[u8]
+    ensures { result.now ≡ after_srid text.now }
+{
+    if !begins_with_word(text, b"srid=0") {
+        return text;
+    }
+    match skip_blanks(&text[6..]) {
+        [b';', rest @ ..] => skip_blanks(rest),
+        _ => text,
+    }
+}
+
+// Whether a text of geometry is a polygon's.
+fn is_polygon(text: &[u8]) -> bool
+    ensures { result ≡ is_polygon text.now }
+{
+    begins_with_word(after_srid(skip_blanks(text)), b"polygon")
+}
+
+fn geometry_type(text: &str) -> SqlType
+    ensures { result ≡ geometry_type text.now }
+{
+    if is_polygon(text.as_bytes()) {
+        SqlType::Polygon
+    } else {
+        SqlType::Point
+    }
+}
+
+/// The type of a typed string: `geometry` alone is decided by the string.
+pub fn literal_type(word: &TypeWord, text: &str) -> Option<SqlType>
+    ensures named { result ≡ literal_type word.now.name.text word.now.inner text.now }
+{
+    match &word.inner {
+        Some(_) => type_named(word),
+        None => {
+            if word.name.text.as_str() == "geometry" {
+                Some(geometry_type(text))
+            } else {
+                type_named(word)
+            }
+        }
+    }
+}

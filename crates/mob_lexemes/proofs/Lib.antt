@@ -1,0 +1,3 @@
+mod Examples
+pub mod Placed
+pub mod Reserved

@@ -1,0 +1,5 @@
+pub mod Heavy
+pub mod Lexed
+pub mod Lexemes
+pub mod Weights
+pub mod Words

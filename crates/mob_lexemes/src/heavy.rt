@@ -1,0 +1,185 @@
+//! Expressions with more counted tokens than there may be.
+ghost use Rattle.std.specs.Prelude.{◌≡◌, ◌<◌, ◌≤◌, ◌+◌, ◌^◌, length, IfSome};
+ghost use Rattle.mob_lexemes.specs.Weights.{counts, mark_counts, mark_ends, is_function};
+ghost use Rattle.mob_lexemes.specs.Lexemes.{tok_of, toks};
+ghost use Rattle.mob_lexemes.specs.Heavy.{ends, depth_after, selects_after, weight_after, standing_after, is_heavy, first_heavy};
+
+use crate::lexeme::{Lexeme, Symbol, begins_literal};
+use mob_grammar::mark::Mark;
+
+/// Where a token stands, as it is told from the tokens before it.
+#[derive(Clone, Copy)]
+pub struct TokenStanding {
+    /// Whether in a SELECT.
+    pub selects: bool,
+    /// In how many open brackets.
+    pub depth: usize,
+    /// Behind how many counted tokens of its expression.
+    pub weight: usize,
+    /// Whether right behind a `::` or a `.`, where a type or a column stands and no call begins.
+    pub no_call: bool,
+}
+
+// Whether a mark is counted.
+fn mark_counts(mark: Mark) -> bool
+    ensures exact { result ≡ mark_counts mark }
+{
+    match mark {
+        Mark::Or | Mark::And | Mark::Not | Mark::Is => true,
+        Mark::Comma | Mark::Dot | Mark::Close | Mark::Semicolon => false,
+        _ => !mark.is_reserved_word(),
+    }
+}
+
+// Whether a mark ends the expression before it.
+fn mark_ends(mark: Mark) -> bool
+    ensures exact { result ≡ mark_ends mark }
+{
+    match mark {
+        Mark::Or | Mark::And | Mark::Not | Mark::Is => false,
+        Mark::Null | Mark::True | Mark::False => false,
+        Mark::Semicolon => true,
+        _ => mark.is_reserved_word(),
+    }
+}
+
+// Whether a name before these tokens is that of a function.
+fn is_function(no_call: bool, after: &[Lexeme<'_>]) -> bool
+    ensures exact { result ≡ is_function no_call (toks after.now) }
+{
+    if no_call {
+        return false;
+    }
+    match after {
+        [first, rest @ ..] if first.is(Mark::Open) => !begins_literal(rest),
+        _ => false,
+    }
+}
+
+impl TokenStanding {
+    fn counts(&self, lexeme: &Lexeme<'_>, after: &[Lexeme<'_>]) -> bool
+        ensures exact { result ≡ counts self.now (tok_of lexeme.now).symbol (toks after.now) }
+    {
+        match lexeme.symbol {
+            Symbol::Fixed(mark) => self.selects && mark_counts(mark),
+            Symbol::Name(_) => self.selects && is_function(self.no_call, after),
+            Symbol::Number(_) | Symbol::Quoted(_) => false,
+        }
+    }
+
+    fn is_heavy(&self, lexeme: &Lexeme<'_>, after: &[Lexeme<'_>]) -> bool
+        ensures exact { result ≡ is_heavy self.now (tok_of lexeme.now).symbol (toks after.now) }
+    {
+        self.weight == 256 && self.counts(lexeme, after)
+    }
+
+    fn ends(&self, lexeme: &Lexeme<'_>) -> bool
+        ensures exact { result ≡ ends self.now (tok_of lexeme.now).symbol }
+    {
+        match lexeme.symbol {
+            Symbol::Fixed(mark) => mark_ends(mark) || (mark.is(Mark::Comma) && self.depth == 0),
+            Symbol::Name(_) | Symbol::Number(_) | Symbol::Quoted(_) => false,
+        }
+    }
+
+    // How many brackets are open behind the lexeme.
+    fn depth_after(&self, lexeme: &Lexeme<'_>) -> usize
+        requires shallow { self.now.depth < 2 ^ 62 }
+        ensures depth { result ≡ depth_after self.now.depth (tok_of lexeme.now).symbol }
+        ensures near { result ≤ self.now.depth + 1 }
+    {
+        match lexeme.symbol {
+            Symbol::Fixed(mark) => {
+                if mark.is(Mark::Open) {
+                    self.depth + 1
+                } else if mark.is(Mark::Close) {
+                    self.depth.saturating_sub(1)
+                } else {
+                    self.depth
+                }
+            }
+            Symbol::Name(_) | Symbol::Number(_) | Symbol::Quoted(_) => self.depth,
+        }
+    }
+
+    fn selects_after(&self, lexeme: &Lexeme<'_>) -> bool
+        ensures exact { result ≡ selects_after self.now.selects (tok_of lexeme.now).symbol }
+    {
+        match lexeme.symbol {
+            Symbol::Fixed(mark) => {
+                if mark.is(Mark::Select) {
+                    true
+                } else if mark.is(Mark::Semicolon) {
+                    false
+                } else {
+                    self.selects
+                }
+            }
+            Symbol::Name(_) | Symbol::Number(_) | Symbol::Quoted(_) => self.selects,
+        }
+    }
+
+    // How many counted tokens stand behind the lexeme, with it.
+    fn weight_after(&self, lexeme: &Lexeme<'_>, after: &[Lexeme<'_>]) -> usize
+        requires light { self.now.weight < 2 ^ 62 }
+        ensures weight { result ≡ weight_after self.now (tok_of lexeme.now).symbol (toks after.now) }
+        ensures near { result ≤ self.now.weight + 1 }
+    {
+        if self.counts(lexeme, after) {
+            self.weight + 1
+        } else {
+            self.weight
+        }
+    }
+
+    // How the token behind the lexeme stands.
+    fn after(&self, lexeme: &Lexeme<'_>, after: &[Lexeme<'_>]) -> TokenStanding
+        requires depth { self.now.depth < 2 ^ 62 }
+        requires weight { self.now.weight < 2 ^ 62 }
+        ensures stands { result ≡ standing_after self.now (tok_of lexeme.now).symbol (toks after.now) }
+        ensures depth_near { result.depth ≤ self.now.depth + 1 }
+        ensures weight_near { result.weight ≤ self.now.weight + 1 }
+    {
+        let selects = self.selects_after(lexeme);
+        let no_call = lexeme.is(Mark::Cast) || lexeme.is(Mark::Dot);
+        if self.ends(lexeme) {
+            TokenStanding {
+                selects,
+                depth: 0,
+                weight: 0,
+                no_call,
+            }
+        } else {
+            TokenStanding {
+                selects,
+                depth: self.depth_after(lexeme),
+                weight: self.weight_after(lexeme, after),
+                no_call,
+            }
+        }
+    }
+}
+
+/// The number of the first 257th counted token of an expression.
+pub fn first_heavy(lexemes: &[Lexeme<'_>]) -> Option<usize>
+    ensures place { result ≡ first_heavy (toks lexemes.now) }
+    ensures within { IfSome result (λ n. n < length lexemes.now) }
+{
+    let mut standing = TokenStanding {
+        selects: false,
+        depth: 0,
+        weight: 0,
+        no_call: false,
+    };
+    let mut at = 0;
+    let mut rest = lexemes;
+    'tokens: while let [first, after @ ..] = rest {
+        if standing.is_heavy(first, after) {
+            return Some(at);
+        }
+        standing = standing.after(first, after);
+        at += 1;
+        rest = after;
+    }
+    None
+}

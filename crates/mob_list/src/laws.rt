@@ -1,0 +1,14 @@
+//! What holds of every list and text. No code runs here.
+
+use crate::items::Items;
+use crate::text::Text;
+use std::marker::{Send, Sync};
+
+/// Values of the type may be sent to another thread, and several threads may read one.
+pub fn crosses_threads<T: Send + Sync>() {}
+
+/// Lists of what crosses threads and texts cross threads.
+pub fn containers_cross_threads<T: Send + Sync>() {
+    crosses_threads::<Items<T>>();
+    crosses_threads::<Text>();
+}

@@ -1,0 +1,28 @@
+-- A literal that is refused.
+use Rattle.std.proofs.Common.{◌≡◌, ◌≢◌, inl, inr, ap, ℤ, Err}
+use Rattle.std.proofs.lemmas.Option.{same_Some}
+use Rattle.mob_ast.specs.declared.refusal.Kind.{Kind}
+use Rattle.mob_ast.specs.declared.refusal.Kind.TheVariants as kind
+use Rattle.mob_ast.specs.declared.refusal.Refusal.{Refusal}
+use Rattle.mob_scalar.specs.declared.fault.ReadText.{ReadText}
+use Rattle.mob_scalar.specs.declared.fault.ReadText.TheVariants as text
+use Rattle.mob_catalog.specs.Constants.{RefusesConstant}
+use Rattle.mob_catalog.specs.Faults.{IsRefusedAs}
+use Rattle.mob_typed.specs.declared.typed.ConstText.{ConstText}
+use Rattle.mob_load.specs.Loads.{Loaded, LoadsLiteral, LoadsTo, refused}
+use Rattle.mob_load.specs.declared.program.LoadEnd.{LoadEnd}
+use Rattle.mob_load.specs.declared.program.LoadEnd.TheVariants.{Refused, NoMemory}
+
+-- no text is refused for want of memory
+never_memory : (f : ReadText) (k : Kind) → IsRefusedAs f k → k ≢ kind.NoMemory
+never_memory text.NotText k is e = absurd cc
+never_memory text.Limit k is e = absurd cc
+never_memory text.TooLarge k is e = absurd cc
+never_memory text.Unsound k is e = absurd cc
+never_memory text.NoMemory k is e = absurd cc
+
+pub literal_refused : (day : ℤ) (c : ConstText) (l m : Loaded) (e : Refusal) (end : LoadEnd) → RefusesConstant day c e → (e.kind ≡ kind.NoMemory → end ≡ NoMemory) → (e.kind ≢ kind.NoMemory → end ≡ Refused e)
+    → LoadsTo {A = Unit {0}} (Err end) m (LoadsLiteral day c l)
+literal_refused day c l m e end (inl h) memory known =
+    rw (known (never_memory h.fault e.kind h.for_fault)) (h.fault, e.kind, h.for_fault, h.says, ap refused h.there)
+literal_refused day c l m e end (inr h) memory known = rw (memory (ap (λ (r : Refusal). r.kind) h)) tt

@@ -1,0 +1,15 @@
+use Rattle.std.proofs.Common.{sym, subst, List, ℕ}
+use Rattle.std.specs.Prelude.{IfSome}
+use Rattle.mob_load.specs.Fronts.{IsFront}
+use Rattle.mob_load.specs.Loads.{loaded_of}
+use Rattle.mob_load.proofs.Steps.{file_loads}
+use Rattle.mob_load.proofs.checking.load_file.Goals as goal
+
+pub returns-clause-loads : goal.returns-clause-loads
+returns-clause-loads g c =
+    let told = g.F.Files.files c.args.files.now in
+    let read = rw c.in-Some.is at c.in_ok-bytes.ensures.bytes in
+    let named = subst (λ (n : List ℕ). IfSome told (λ m. IsFront n m c.in-Some.bytes.items)) c.as_str.ensures.same read in
+    let front = subst (λ (b : List ℕ). IfSome told (λ m. IsFront c.args.name.now m b)) (sym c.deref.ensures.value) named in
+    file_loads c.args.epoch.now c.args.table c.args.name.now c.deref.result.now (loaded_of c.args.loading.now) told c.load_bytes.result (loaded_of c.load_bytes.new.loading)
+    front c.load_bytes.ensures.loads

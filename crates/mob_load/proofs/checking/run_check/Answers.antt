@@ -1,0 +1,21 @@
+use Rattle.mob_load.specs.Loads.{loaded_of}
+use Rattle.mob_load.proofs.Narrow.{made_narrow, ok_on, same_narrow}
+use Rattle.mob_load.proofs.Steps.{may_ask_some}
+use Rattle.mob_load.proofs.checking.run_check.Goals as goal
+
+pub returns-in-Literal-clause-narrow : goal.returns-in-Literal-clause-narrow
+returns-in-Literal-clause-narrow g c = ok_on c.read_literal.result (same_narrow (loaded_of c.args.loading.now).tables (loaded_of c.read_literal.new.loading).tables c.requires.tables) c.read_literal.ensures.tables
+
+pub returns-in-Table-clause-narrow : goal.returns-in-Table-clause-narrow
+returns-in-Table-clause-narrow g c =
+    let narrow = rw c.in-Table.is at c.requires.narrow in
+    ok_on c.make_table.result (λ made. made_narrow (loaded_of c.args.loading.now) (loaded_of c.make_table.new.loading) c.in-Table.columns.now made narrow c.requires.tables) c.make_table.ensures.made
+
+pub returns-in-Room-clause-narrow : goal.returns-in-Room-clause-narrow
+returns-in-Room-clause-narrow g c = ok_on c.take_row.result (same_narrow (loaded_of c.args.loading.now).tables (loaded_of c.take_row.new.loading).tables c.requires.tables) c.take_row.ensures.tables
+
+pub returns-in-File-clause-narrow : goal.returns-in-File-clause-narrow
+returns-in-File-clause-narrow g c = ok_on c.load_file.result (same_narrow (loaded_of c.args.loading.now).tables (loaded_of c.load_file.new.loading).tables c.requires.tables) c.load_file.ensures.tables
+
+pub returns-in-File-clause-some : goal.returns-in-File-clause-some
+returns-in-File-clause-some g c = rw c.in-File.is (may_ask_some c.in-File.name.now (g.F.Files.asked c.args.files.now) (g.F.Files.asked c.load_file.new.files) c.load_file.ensures.may_ask)

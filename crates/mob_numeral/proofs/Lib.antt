@@ -1,0 +1,10 @@
+pub mod Runs
+pub mod Digits
+pub mod NumberExact
+pub mod Powers
+pub mod Bounded
+pub mod Again
+pub mod Settled
+pub mod WholeTexts
+pub mod BeforeSign
+pub mod WholeNumbers

@@ -1,0 +1,17 @@
+//! Laws of reading and printing numbers: each is a promise without running code.
+ghost use Rattle.std.specs.Prelude.{◌≡◌, Ok};
+ghost use Rattle.mob_ratio.specs.Ratio.{Ratio};
+ghost use Rattle.mob_frac.specs.Fits.{Fits};
+ghost use Rattle.mob_numeral.specs.Numbers.{numbers, whole_numbers};
+ghost use Rattle.mob_numeral.specs.NumberText.{number_text};
+ghost use Rattle.mob_numeral.specs.Verdict.{Lit};
+
+/// A number that is printed is read again as itself.
+pub fn number_read_again()
+    ensures again { (q : Ratio) → Fits q → Lit numbers (number_text q) (Ok q) }
+{}
+
+/// An int that is printed is read again as itself.
+pub fn whole_read_again()
+    ensures again { (q : Ratio) → Fits q → q.den ≡ 1 → Lit whole_numbers (number_text q) (Ok q) }
+{}

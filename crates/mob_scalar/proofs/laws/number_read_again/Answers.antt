@@ -1,5 +1,0 @@
-use Rattle.mob_scalar.proofs.Again.{number_again}
-use Rattle.mob_scalar.proofs.laws.number_read_again.Goals as goal
-
-pub returns : goal.returns
-returns c = record { again = number_again }

@@ -1,0 +1,11 @@
+use Rattle.std.proofs.Common.{◌≡◌, ◌+◌, ◌≤◌, length}
+use Rattle.mob_shell.specs.Statements.{RanFirst}
+use Rattle.mob_shell.proofs.engine.run_all.Given as goal
+
+abbrev pub invariant-loop-statement : goal.invariant-loop-statement
+invariant-loop-statement g l = record {
+  number : l.number ≡ l.statement-index + 1;
+  within : l.statement-index ≤ length l.statements;
+  ran : RanFirst g.E.Engine.step l.initial.engine l.statements l.statement-index l.engine (g.K.Sink.held l.fn.out) (g.K.Sink.held l.out);
+  later : g.K.Sink.faults l.fn.out ≤ g.K.Sink.faults l.out;
+}

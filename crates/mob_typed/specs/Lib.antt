@@ -1,0 +1,4 @@
+pub mod Selects
+pub mod Statements
+pub mod Trees
+pub mod Written

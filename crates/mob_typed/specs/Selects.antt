@@ -1,0 +1,29 @@
+-- A typed SELECT as a plain value.
+use Rattle.std.specs.Prelude.{ℕ, List, Bool, Option, map, option_map}
+use Rattle.mob_typed.specs.declared.typed.TExpr.{TExpr}
+use Rattle.mob_typed.specs.declared.typed.TypedSelect.{TypedSelect}
+use Rattle.mob_typed.specs.Trees.{TypedTree, typed_of}
+
+-- a column of the answer: its expression and its name
+abbrev pub Output : Type 0
+Output = TypedTree × List ℕ
+
+-- a typed SELECT
+pub record TypedSelectParts : Type 0 where
+  pub distinct : Bool
+  pub items : List Output
+  pub from : List ℕ
+  pub names : List (List ℕ)
+  pub cond : Option TypedTree
+  pub keys : List (TypedTree × Bool)
+  pub limit : Option ℕ
+
+abbrev pub output_of : TExpr × List ℕ → Output
+output_of o = (typed_of o.0, o.1)
+
+abbrev pub key_seen : TExpr × Bool → TypedTree × Bool
+key_seen k = (typed_of k.0, k.1)
+
+-- the program's typed SELECT as such a value
+abbrev pub select_seen : TypedSelect → TypedSelectParts
+select_seen s = record { distinct = s.distinct; items = map output_of s.items; from = s.from; names = s.names; cond = option_map typed_of s.cond; keys = map key_seen s.keys; limit = s.limit }

@@ -1,0 +1,27 @@
+-- When a typed script stands in written order.
+use Rattle.std.specs.Prelude.{◌≡◌, ◌≤◌, ◌<◌, ◌⊎◌, ℕ, List, [], ◌∷◌}
+use Rattle.std.specs.List.{AllByRecursion}
+use Rattle.mob_typed.specs.declared.typed.ConstText.{ConstText}
+use Rattle.mob_typed.specs.Statements.{ScriptOut, StatementOut, new_rows}
+
+-- each stands so to all that follow
+abbrev pub Rises : {A : Type 0} → (A → A → Type 0) → List A → Type 0
+Rises R [] = Unit {0}
+Rises R (x ∷ xs) = AllByRecursion (R x) xs × Rises R xs
+
+-- this place of one statement stands before that place of another, or is it
+abbrev pub IsUpTo : ℕ → ℕ → ℕ → ℕ → Type 0
+IsUpTo n p k q = (n < k) ⊎ ((n ≡ k) × (p ≤ q))
+
+abbrev pub LiteralUpTo : ConstText → ConstText → Type 0
+LiteralUpTo c d = IsUpTo c.statement c.place d.statement d.place
+
+-- the brackets of an INSERT rise
+abbrev pub HasRisingRows : StatementOut → Type 0
+HasRisingRows (new_rows t rows places) = Rises (λ p q. p ≤ q) places
+HasRisingRows _ = Unit {0}
+
+-- the literals stand in written order, and so do the brackets of each INSERT
+pub record IsWritten (out : ScriptOut) : Type 0 where
+  pub literals : Rises LiteralUpTo out.consts
+  pub rows : AllByRecursion HasRisingRows out.statements

@@ -1,0 +1,7 @@
+//! Typed scripts as plain trees: names are numbers, and each expression has its operator, its type and its place.
+#![tactic(auto)]
+
+pub mod typed;
+
+pub use mob_operators::Op;
+pub use typed::{ConstText, TExpr, Typed, TypedSelect, TypedStatement};

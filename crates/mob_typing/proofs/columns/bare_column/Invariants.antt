@@ -1,8 +1,0 @@
-use Rattle.std.proofs.Common.{◌≡◌, drop}
-use Rattle.mob_typing.specs.Scopes.{sources_of}
-use Rattle.mob_typing.specs.Expressions.{matches}
-use Rattle.mob_typing.proofs.Matches.{listed}
-use Rattle.mob_typing.proofs.columns.bare_column.Given as goal
-
-abbrev pub invariant-loop-index : goal.invariant-loop-index
-invariant-loop-index l = matches 0 (sources_of l.from) l.name.text ≡ listed l.one (matches l.index (sources_of (drop l.index l.from)) l.name.text)

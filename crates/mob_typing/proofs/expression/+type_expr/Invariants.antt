@@ -1,9 +1,0 @@
-use Rattle.std.proofs.Common.{◌≡◌, [], drop, map}
-use Rattle.mob_ast.specs.Trees.{trees_of}
-use Rattle.mob_typing.specs.Scopes.{scope_of}
-use Rattle.mob_typing.specs.Trees.{typed_of}
-use Rattle.mob_typing.specs.Expressions.{typed_operands}
-use Rattle.mob_typing.proofs.expression.+type_expr.Given as goal
-
-abbrev pub invariant-loop-operand : goal.invariant-loop-operand
-invariant-loop-operand l = typed_operands (scope_of l.scope) (trees_of l.operand-items) [] l.initial.consts ≡ typed_operands (scope_of l.scope) (trees_of (drop l.operand-index l.operand-items)) (map typed_of l.args.items) l.consts

@@ -1,6 +1,0 @@
-use Rattle.std.proofs.Common.{sym}
-use Rattle.mob_typing.proofs.Entries.{new_last}
-use Rattle.mob_typing.proofs.names.Columns.add.Goals as goal
-
-pub returns : goal.returns
-returns c = record { last = new_last _ _ _ _ _ _ (sym c.self.view_is) c.in_ok-from_str.ensures.ok c.requires c.in_ok-insert.ensures.entries }

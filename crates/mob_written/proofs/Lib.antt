@@ -1,0 +1,4 @@
+pub mod Small
+pub mod Parted
+pub mod LiteralExact
+pub mod Groups

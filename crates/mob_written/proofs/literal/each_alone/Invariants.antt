@@ -1,0 +1,13 @@
+use Rattle.std.proofs.Common.{◌≡◌, ◌++◌, map, length}
+use Rattle.std.specs.Vec.Iter.{into_iter_items, into_iter_len}
+use Rattle.mob_written.specs.Literal.{alone}
+use Rattle.mob_written.proofs.literal.each_alone.Given as goal
+
+-- those that are made, and those that are still made
+abbrev pub invariant-loop-instant : goal.invariant-loop-instant
+invariant-loop-instant g l = record {
+  goes : (goal.iterator-loop-instant g).can_next l.instant-iterator;
+  ends : (goal.iterator-loop-instant g).is_finite l.instant-iterator;
+  counted : into_iter_len l.instant-iterator ≡ length (into_iter_items l.instant-iterator);
+  together : l.sequences.items ++ map alone (into_iter_items l.instant-iterator) ≡ map alone l.fn.instants.items;
+}

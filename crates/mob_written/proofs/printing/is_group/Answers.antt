@@ -1,0 +1,7 @@
+use Rattle.std.proofs.Common.{◌∙◌, rules}
+use Rattle.mob_written.specs.Printed.{shares_group}
+use Rattle.mob_written.proofs.Groups.{one_group}
+use Rattle.mob_written.proofs.printing.is_group.Goals as goal
+
+pub returns-in-len1-up : goal.returns-in-len1-up
+returns-in-len1-up g c = record { value = c.all_neighbours.ensures.value shares_group (λ item next passed p. search rules) ∙ one_group c.args.slices.now c.in-len1-up.len_at_least }

@@ -1,0 +1,10 @@
+use Rattle.std.proofs.Common.{◌≡◌, ◌++◌, drop, string_bytes}
+use Rattle.mob_written.specs.Runs.{run_text}
+use Rattle.mob_written.specs.Style.{style_of}
+use Rattle.mob_written.proofs.printing.write_groups.Given as goal
+
+-- what is written, and what is still to be written
+abbrev pub invariant-loop-next : goal.invariant-loop-next
+invariant-loop-next g l =
+    let style = style_of g.B.Printed.text l.epoch in
+    string_bytes l.into ++ run_text style l.last (drop l.next-index l.rest) ≡ string_bytes l.initial.into ++ run_text style l.initial.last l.rest

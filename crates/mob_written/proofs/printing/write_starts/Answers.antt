@@ -1,0 +1,13 @@
+use Rattle.std.proofs.Common.{string_bytes, arith}
+use Rattle.mob_written.specs.Style.{style_of}
+use Rattle.mob_written.proofs.Parted.{parted}
+use Rattle.mob_written.proofs.Groups.{starts_done}
+use Rattle.mob_written.proofs.printing.write_starts.Goals as goal
+
+pub returns : goal.returns
+returns g c =
+    let style = style_of g.B.Printed.text c.args.epoch.now in
+    record {
+      written = starts_done style c.args.slices.now c.first-item.result _ c.loop-next.next-index (string_bytes c.args.into.now) (string_bytes c.write_start.new.into) (string_bytes c.loop-next.into)
+          (parted c.args.slices.now c.first-item.result c.first-item.is (omega arith)) (omega arith) c.in_ok-write_start.ensures.written c.loop-next.invariant;
+    }

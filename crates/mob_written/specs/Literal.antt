@@ -1,0 +1,117 @@
+-- The texts of temporal literals.
+--
+-- A literal is one `value@moment`, a set of them in braces, a sequence of them between brackets, or sequences in braces. Blanks may
+-- stand at both ends, and on both sides of each sign that stands outside a value and a moment. An instant that stands alone or in a
+-- set stands for the sequence of that instant alone, so each literal stands for a list of sequences.
+use Rattle.std.specs.Prelude.{ℕ, List, [], ◌∷◌, map, codes, Bool, true, ◌||◌, nat_eq, Option, ℤ}
+use Rattle.mob_language.specs.Language.{Text, Language, ◌▷◌, ◌∣◌, Means, Word, OneOf, Separated, blanks, spaced, in_middle, within_blanks}
+use Rattle.mob_language.specs.Readers.{TextReader, then_at, or_at, means_at, word_at, one_at, separated_at, blanks_at, spaced_at, within_blanks_at}
+use Rattle.mob_scalar.specs.declared.stamp.Stamp.{Stamp}
+use Rattle.mob_scalar.specs.Moment.{moment, instant}
+use Rattle.mob_scalar.specs.MomentReaders.{moment_at}
+use Rattle.mob_written.specs.declared.written.Noted.{Noted}
+use Rattle.mob_written.specs.declared.written.Sequence.{Sequence}
+use Rattle.mob_written.specs.Fitting.{fitting}
+
+abbrev pub at_sign : Language (Unit {0})
+at_sign = spaced (codes "@")
+
+abbrev pub comma : Language (Unit {0})
+comma = spaced (codes ",")
+
+-- the instant of a moment may not fit
+abbrev pub noted_of : {B : Type 0} → ℤ → Option B × (Unit {0} × Stamp) → Noted B
+noted_of day v = record { value = v.0; instant = fitting (instant day v.1.1) }
+
+-- value@moment
+abbrev pub noted : {B : Type 0} → ℤ → (Text → Option B → Type 0) → Language (Noted B)
+noted day value = Means (noted_of day) (value ▷ (at_sign ▷ moment))
+
+abbrev pub is_open : ℕ → Bool
+is_open c = nat_eq c 91 || nat_eq c 40
+
+abbrev pub is_close : ℕ → Bool
+is_close c = nat_eq c 93 || nat_eq c 41
+
+-- an opening bracket; what stands behind it may begin with blanks
+abbrev pub opening : Language ℕ
+opening = Means (λ (v : ℕ × Text). v.0) (OneOf is_open ▷ blanks)
+
+-- a closing bracket
+abbrev pub closing : Language ℕ
+closing = Means (λ (v : Text × ℕ). v.1) (blanks ▷ OneOf is_close)
+
+abbrev pub sequence_of : {A : Type 0} → ℕ × (List A × ℕ) → Sequence A
+sequence_of v = record { lower_inc = nat_eq v.0 91; instants = v.1.0; upper_inc = nat_eq v.1.1 93 }
+
+-- an opening bracket, instants with commas between, a closing bracket
+abbrev pub sequence : {A : Type 0} → (Text → A → Type 0) → Language (Sequence A)
+sequence entry = Means sequence_of (opening ▷ (Separated entry comma ▷ closing))
+
+-- the sequence of one instant alone
+abbrev pub alone : {A : Type 0} → A → Sequence A
+alone i = record { lower_inc = true; instants = i ∷ []; upper_inc = true }
+
+-- sequences, or instants, with commas between
+abbrev pub members : {A : Type 0} → (Text → A → Type 0) → Language (List (Sequence A))
+members entry = Separated (sequence entry) comma ∣ Means (map alone) (Separated entry comma)
+
+abbrev pub braced : {A : Type 0} → (Text → A → Type 0) → Language (List (Sequence A))
+braced entry = Means in_middle ((Word (codes "{") ▷ blanks) ▷ (members entry ▷ (blanks ▷ Word (codes "}"))))
+
+abbrev pub one_sequence : {A : Type 0} → Sequence A → List (Sequence A)
+one_sequence q = q ∷ []
+
+abbrev pub one_instant : {A : Type 0} → A → List (Sequence A)
+one_instant i = alone i ∷ []
+
+abbrev pub literal : {A : Type 0} → (Text → A → Type 0) → Language (List (Sequence A))
+literal entry = braced entry ∣ (Means one_sequence (sequence entry) ∣ Means one_instant entry)
+
+-- a literal, with blanks at both ends
+abbrev pub temporal : {A : Type 0} → (Text → A → Type 0) → Language (List (Sequence A))
+temporal entry = within_blanks (literal entry)
+
+-- ---- the readers of these languages
+
+unfoldable pub at_sign_at : TextReader (Unit {0})
+at_sign_at = spaced_at (codes "@")
+
+unfoldable pub comma_at : TextReader (Unit {0})
+comma_at = spaced_at (codes ",")
+
+unfoldable pub noted_at : {B : Type 0} → ℤ → TextReader (Option B) → TextReader (Noted B)
+noted_at day value = means_at (noted_of day) (then_at value (then_at at_sign_at moment_at))
+
+unfoldable pub opening_at : TextReader ℕ
+opening_at = means_at (λ (v : ℕ × Text). v.0) (then_at (one_at is_open) blanks_at)
+
+unfoldable pub closing_at : TextReader ℕ
+closing_at = means_at (λ (v : Text × ℕ). v.1) (then_at blanks_at (one_at is_close))
+
+unfoldable pub instants_at : {A : Type 0} → TextReader A → TextReader (List A)
+instants_at entry = separated_at entry comma_at
+
+unfoldable pub sequence_at : {A : Type 0} → TextReader A → TextReader (Sequence A)
+sequence_at entry = means_at sequence_of (then_at opening_at (then_at (instants_at entry) closing_at))
+
+unfoldable pub sequences_at : {A : Type 0} → TextReader A → TextReader (List (Sequence A))
+sequences_at entry = separated_at (sequence_at entry) comma_at
+
+unfoldable pub members_at : {A : Type 0} → TextReader A → TextReader (List (Sequence A))
+members_at entry = or_at (sequences_at entry) (means_at (map alone) (instants_at entry))
+
+unfoldable pub open_brace_at : TextReader (Unit {0} × Text)
+open_brace_at = then_at (word_at (codes "{")) blanks_at
+
+unfoldable pub close_brace_at : TextReader (Text × Unit {0})
+close_brace_at = then_at blanks_at (word_at (codes "}"))
+
+unfoldable pub braced_at : {A : Type 0} → TextReader A → TextReader (List (Sequence A))
+braced_at entry = means_at in_middle (then_at open_brace_at (then_at (members_at entry) close_brace_at))
+
+unfoldable pub temporal_literal_at : {A : Type 0} → TextReader A → TextReader (List (Sequence A))
+temporal_literal_at entry = or_at (braced_at entry) (or_at (means_at one_sequence (sequence_at entry)) (means_at one_instant entry))
+
+unfoldable pub temporal_at : {A : Type 0} → TextReader A → TextReader (List (Sequence A))
+temporal_at entry = within_blanks_at (temporal_literal_at entry)

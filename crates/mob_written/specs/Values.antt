@@ -1,0 +1,107 @@
+-- The values of the step types as they are written.
+use Rattle.std.proofs.Common.{◌≡◌, ℕ, Bool, true, false, Option, Some, refl, rules}
+use Rattle.std.specs.Prelude.{nat_eq}
+use Rattle.std.specs.Char.{is_ascii_alphabetic}
+use Rattle.mob_ratio.specs.Ratio.{Ratio}
+use Rattle.mob_language.specs.Language.{Text, Language, Means, is_blank, is_digit, is_number_sign, is_exponent_letter}
+use Rattle.mob_language.specs.Readers.{TextReader, means_at}
+use Rattle.mob_language.proofs.Exact.{Stops, means_exact}
+use Rattle.mob_language.proofs.Heads.{Apart, means_head, means_byte}
+use Rattle.mob_numeral.specs.declared.numeral.Numeral.{Numeral}
+use Rattle.mob_numeral.specs.Number.{number}
+use Rattle.mob_numeral.specs.NumberReaders.{numeral_at}
+use Rattle.mob_numeral.specs.NumberValue.{numeral_value}
+use Rattle.mob_scalar.specs.Truth.{truth, truth_at}
+use Rattle.mob_scalar.specs.Quoted.{text_value, text_value_at, is_plain}
+use Rattle.mob_numeral.proofs.NumberExact.{number_exact, continues}
+use Rattle.mob_scalar.proofs.QuotedExact.{Behind, text_value_exact, text_value_head, text_value_byte}
+use Rattle.mob_numeral.proofs.WholeTexts.{number_head, number_byte}
+use Rattle.mob_scalar.proofs.WholeTexts.{truth_exact, truth_head, truth_byte}
+use Rattle.mob_numeral.proofs.BeforeSign.{number_before_at}
+use Rattle.mob_scalar.proofs.BeforeSign.{truth_before_at, text_value_before_at}
+use Rattle.mob_written.specs.Fitting.{fitting}
+use Rattle.mob_written.specs.ValueText.{IsValueText, begins_no_value}
+
+abbrev pub some_value : {B : Type 0} → B → Option B
+some_value v = Some v
+
+-- a type that has every value of its base
+abbrev pub any_value : {B : Type 0} → B → Bool
+any_value v = true
+
+-- the values of a tbool
+abbrev pub truth_value : Language (Option Bool)
+truth_value = Means some_value truth
+
+unfoldable pub truth_value_at : TextReader (Option Bool)
+truth_value_at = means_at some_value truth_at
+
+abbrev pub truth_follows : Text → Type 0
+truth_follows rest = Stops is_ascii_alphabetic rest
+
+letters_apart : Apart is_ascii_alphabetic begins_no_value
+letters_apart c e = search rules
+
+pub truth_values : IsValueText truth_value truth_value_at truth_follows
+unfolding truth_value_at
+truth_values = record {
+  exact = means_exact some_value truth_exact;
+  before_at = truth_before_at;
+  well_begun = means_head (truth_head begins_no_value letters_apart);
+  has_byte = means_byte some_value truth_byte;
+}
+
+-- a number, where it fits
+abbrev pub fitting_value : Numeral → Option Ratio
+fitting_value n = fitting (numeral_value n)
+
+-- the values of a tint
+abbrev pub number_value : Language (Option Ratio)
+number_value = Means fitting_value number
+
+unfoldable pub number_value_at : TextReader (Option Ratio)
+number_value_at = means_at fitting_value numeral_at
+
+abbrev pub number_follows : Text → Type 0
+number_follows rest = Stops continues rest
+
+signs_apart : Apart is_number_sign begins_no_value
+signs_apart c e = search rules
+
+digits_apart : Apart is_digit begins_no_value
+digits_apart c e = search rules
+
+exponents_apart : Apart is_exponent_letter begins_no_value
+exponents_apart c e = search rules
+
+pub number_values : IsValueText number_value number_value_at number_follows
+unfolding number_value_at
+number_values = record {
+  exact = means_exact fitting_value number_exact;
+  before_at = number_before_at;
+  well_begun = means_head (number_head begins_no_value signs_apart digits_apart refl refl exponents_apart);
+  has_byte = means_byte fitting_value number_byte;
+}
+
+-- a whole number
+abbrev pub is_whole : Ratio → Bool
+is_whole q = nat_eq q.den 1
+
+-- the values of a ttext
+abbrev pub quoted_value : Language (Option Text)
+quoted_value = Means some_value text_value
+
+unfoldable pub quoted_value_at : TextReader (Option Text)
+quoted_value_at = means_at some_value text_value_at
+
+plain_apart : (c : ℕ) → is_plain c ≡ true → is_blank c ≡ false → begins_no_value c ≡ false
+plain_apart c e h = search rules
+
+pub quoted_values : IsValueText quoted_value quoted_value_at Behind
+unfolding quoted_value_at
+quoted_values = record {
+  exact = means_exact some_value text_value_exact;
+  before_at = text_value_before_at;
+  well_begun = means_head (text_value_head begins_no_value refl plain_apart);
+  has_byte = means_byte some_value text_value_byte;
+}

@@ -1,0 +1,324 @@
+//! Temporal literals, as they are written.
+ghost use Rattle.std.specs.Prelude.{◌≡◌, ℕ, map, option_map, List, [], ◌∷◌, Option, Some, None, IfOk, Bool, true};
+ghost use Rattle.mob_language.specs.Readers.{TextReader, all_of, means_at, separated_at as separated_in, spaced_at as spaced_in};
+ghost use Rattle.mob_scalar.specs.Calendar.{is_civil};
+ghost use Rattle.mob_scalar.specs.Moment.{instant, IsPartSmall};
+ghost use Rattle.mob_written.specs.Fitting.{fitting};
+ghost use Rattle.mob_written.specs.Literal.{alone as alone_of, one_sequence, one_instant, comma_at as comma_in, noted_at as noted_in, opening_at as opening_in, closing_at as closing_in, instants_at as instants_in, sequence_at as sequence_in, sequences_at as sequences_in, members_at as members_in, braced_at as braced_in, temporal_literal_at, temporal_at as temporal_in};
+ghost use Rattle.mob_written.specs.ValueText.{IsValueText};
+
+use crate::written::{Noted, Sequence};
+use mob_frac::Frac;
+use mob_list::items::Items;
+use mob_scalar::{Epoch, Stamp, blanks, moment_at, place};
+use mob_slice::BaseValue;
+use std::alloc::{AllocError, Global};
+
+/// How the values of a temporal type are written.
+pub trait WrittenValue {
+    /// The base type of the values.
+    type Base: BaseValue + Drop;
+
+    /// Which texts there are, and what value each stands for: None where its number does not fit.
+    ghost shape: { List ℕ → Option Self.Base → Type 0 };
+
+    /// The value of the text in front, and what stands behind it.
+    ghost reader: { List ℕ → Option (Option Self.Base × List ℕ) };
+
+    /// What may stand behind a text.
+    ghost follows: { List ℕ → Type 0 };
+
+    /// Whether the type has the value.
+    ghost has_value: { Self.Base → Bool };
+
+    /// Reads the value in front.
+    fn value_at(
+        alloc: Global,
+        bytes: &[u8],
+    ) -> Result<Option<(Option<Self::Base>, &[u8])>, AllocError>
+        ensures read { IfOk result (λ o. option_map (λ x. (x.0, x.1.now)) o ≡ reader bytes.now) };
+
+    /// Whether the type has the value.
+    fn has_value(value: &Self::Base) -> bool
+        ensures exact { result ≡ has_value value.now };
+
+    ghost exact: { IsValueText shape reader follows };
+}
+
+/// What stands behind the sign and the blanks on both sides of it.
+fn spaced_at(sign: u8, bytes: &[u8]) -> Option<&[u8]>
+    ensures read { option_map (λ rest. (tt, rest.now)) result ≡ spaced_in (sign ∷ []) bytes.now }
+{
+    match blanks(bytes).1 {
+        [first, rest @ ..] if *first == sign => Some(blanks(rest).1),
+        _ => None,
+    }
+}
+
+#[tactic(auto, unfolding(crate::specs::Literal::opening_at))]
+fn opening_at(bytes: &[u8]) -> Option<(u8, &[u8])>
+    ensures read { option_map (λ x. (x.0, x.1.now)) result ≡ opening_in bytes.now }
+{
+    match bytes {
+        [91, rest @ ..] => Some((91, blanks(rest).1)),
+        [40, rest @ ..] => Some((40, blanks(rest).1)),
+        _ => None,
+    }
+}
+
+#[tactic(auto, unfolding(crate::specs::Literal::closing_at))]
+fn closing_at(bytes: &[u8]) -> Option<(u8, &[u8])>
+    ensures read { option_map (λ x. (x.0, x.1.now)) result ≡ closing_in bytes.now }
+{
+    match blanks(bytes).1 {
+        [93, rest @ ..] => Some((93, rest)),
+        [41, rest @ ..] => Some((41, rest)),
+        _ => None,
+    }
+}
+
+/// The instant of a moment. None where it does not fit.
+#[tactic(auto, unfolding(crate::specs::Fitting::fits))]
+fn instant_of(stamp: Stamp, epoch: &Epoch) -> Option<Frac>
+    requires date { is_civil stamp.date ≡ true }
+    requires part { IsPartSmall stamp.clock.part }
+    ensures value { result ≡ fitting (instant epoch.now stamp) }
+{
+    match place(stamp, epoch) {
+        Ok(instant) => Some(instant),
+        Err(_) => None,
+    }
+}
+
+/// One value at a moment, and what stands behind it.
+#[tactic(auto, unfolding(crate::specs::Literal::noted_at, crate::specs::Literal::at_sign_at))]
+fn noted_at<'a, T: WrittenValue>(
+    alloc: Global,
+    epoch: &Epoch,
+    bytes: &'a [u8],
+) -> Result<Option<(Noted<T::Base>, &'a [u8])>, AllocError>
+    ensures read { IfOk result (λ o. option_map (λ x. (x.0, x.1.now)) o ≡ noted_in epoch.now T.reader bytes.now) }
+{
+    let Some((value, rest)) = T::value_at(alloc, bytes)? else {
+        return Ok(None);
+    };
+    let Some(rest) = spaced_at(b'@', rest) else {
+        return Ok(None);
+    };
+    let Some((stamp, rest)) = moment_at(rest) else {
+        return Ok(None);
+    };
+    let noted = Noted {
+        value,
+        instant: instant_of(stamp, epoch),
+    };
+    Ok(Some((noted, rest)))
+}
+
+/// Members with commas between, and what stands behind them.
+#[tactic(auto, unfolding(mob_language::specs::Readers::separated_at))]
+fn separated_at<'a, A: Drop, F: Fn(&'a [u8]) -> Result<Option<(A, &'a [u8])>, AllocError>>(
+    alloc: Global,
+    member_at: F,
+    bytes: &'a [u8],
+) -> Result<Option<(Vec<A>, &'a [u8])>, AllocError>
+    requires callable { F.IsAlwaysCallable member_at }
+    ensures read { (reader : TextReader A) → ((text : _) (found : _) → F.post member_at text found → IfOk found (λ o. option_map (λ x. (x.0, x.1.now)) o ≡ reader text.now)) → IfOk result (λ o. option_map (λ x. (x.0.items, x.1.now)) o ≡ separated_in reader comma_in bytes.now) }
+{
+    let mut members = Vec::new(alloc);
+    let mut rest = bytes;
+    for _ in 0..bytes.len() + 1 {
+        let Some((member, after)) = member_at(rest)? else {
+            return Ok(None);
+        };
+        members.push(member)?;
+        match spaced_at(b',', after) {
+            Some(next) => rest = next,
+            None => return Ok(Some((members, after))),
+        }
+    }
+    Ok(None)
+}
+
+type Instants<B> = Vec<Noted<B>>;
+
+/// Instants with commas between, and what stands behind them.
+#[tactic(auto, unfolding(crate::specs::Literal::instants_at))]
+fn instants_at<'a, T: WrittenValue>(
+    alloc: Global,
+    epoch: &Epoch,
+    bytes: &'a [u8],
+) -> Result<Option<(Instants<T::Base>, &'a [u8])>, AllocError>
+    ensures read { IfOk result (λ o. option_map (λ x. (x.0.items, x.1.now)) o ≡ instants_in (noted_in epoch.now T.reader) bytes.now) }
+{
+    separated_at(alloc, |rest| noted_at::<T>(alloc, epoch, rest), bytes)
+}
+
+/// A sequence, and what stands behind it.
+#[tactic(auto, unfolding(crate::specs::Literal::sequence_at))]
+fn sequence_at<'a, T: WrittenValue>(
+    alloc: Global,
+    epoch: &Epoch,
+    bytes: &'a [u8],
+) -> Result<Option<(Sequence<Noted<T::Base>>, &'a [u8])>, AllocError>
+    ensures read { IfOk result (λ o. option_map (λ x. (x.0, x.1.now)) o ≡ sequence_in (noted_in epoch.now T.reader) bytes.now) }
+{
+    let Some((bracket, rest)) = opening_at(bytes) else {
+        return Ok(None);
+    };
+    let Some((instants, rest)) = instants_at::<T>(alloc, epoch, rest)? else {
+        return Ok(None);
+    };
+    let Some((close, rest)) = closing_at(rest) else {
+        return Ok(None);
+    };
+    let sequence = Sequence {
+        lower_inc: bracket == 91,
+        instants: Items::from_vec(instants),
+        upper_inc: close == 93,
+    };
+    Ok(Some((sequence, rest)))
+}
+
+type Sequences<B> = Vec<Sequence<Noted<B>>>;
+
+/// Sequences with commas between, and what stands behind them.
+#[tactic(auto, unfolding(crate::specs::Literal::sequences_at))]
+fn sequences_at<'a, T: WrittenValue>(
+    alloc: Global,
+    epoch: &Epoch,
+    bytes: &'a [u8],
+) -> Result<Option<(Sequences<T::Base>, &'a [u8])>, AllocError>
+    ensures read { IfOk result (λ o. option_map (λ x. (x.0.items, x.1.now)) o ≡ sequences_in (noted_in epoch.now T.reader) bytes.now) }
+{
+    separated_at(alloc, |rest| sequence_at::<T>(alloc, epoch, rest), bytes)
+}
+
+/// The sequence of one instant alone.
+fn alone<A: Drop>(alloc: Global, instant: A) -> Result<Sequence<A>, AllocError>
+    ensures made { IfOk result (λ q. q ≡ alone_of instant) }
+{
+    let mut instants = Items::new(alloc);
+    instants.push(instant)?;
+    Ok(Sequence {
+        lower_inc: true,
+        instants,
+        upper_inc: true,
+    })
+}
+
+/// Each instant as the sequence of it alone.
+fn each_alone<A: Drop>(alloc: Global, instants: Vec<A>) -> Result<Vec<Sequence<A>>, AllocError>
+    ensures made { IfOk result (λ v. v.items ≡ map alone_of instants.items) }
+{
+    let mut sequences = Vec::new(alloc);
+    for instant in instants {
+        sequences.push(alone(alloc, instant)?)?;
+    }
+    Ok(sequences)
+}
+
+/// What stands in braces: sequences, or instants.
+#[tactic(auto, unfolding(crate::specs::Literal::members_at))]
+fn members_at<'a, T: WrittenValue>(
+    alloc: Global,
+    epoch: &Epoch,
+    bytes: &'a [u8],
+) -> Result<Option<(Sequences<T::Base>, &'a [u8])>, AllocError>
+    ensures read { IfOk result (λ o. option_map (λ x. (x.0.items, x.1.now)) o ≡ members_in (noted_in epoch.now T.reader) bytes.now) }
+{
+    if let Some(found) = sequences_at::<T>(alloc, epoch, bytes)? {
+        return Ok(Some(found));
+    }
+    match instants_at::<T>(alloc, epoch, bytes)? {
+        Some((instants, rest)) => Ok(Some((each_alone(alloc, instants)?, rest))),
+        None => Ok(None),
+    }
+}
+
+#[tactic(auto, unfolding(crate::specs::Literal::braced_at, crate::specs::Literal::open_brace_at, crate::specs::Literal::close_brace_at))]
+fn braced_at<'a, T: WrittenValue>(
+    alloc: Global,
+    epoch: &Epoch,
+    bytes: &'a [u8],
+) -> Result<Option<(Sequences<T::Base>, &'a [u8])>, AllocError>
+    ensures read { IfOk result (λ o. option_map (λ x. (x.0.items, x.1.now)) o ≡ braced_in (noted_in epoch.now T.reader) bytes.now) }
+{
+    let [123, rest @ ..] = bytes else {
+        return Ok(None);
+    };
+    let Some((sequences, rest)) = members_at::<T>(alloc, epoch, blanks(rest).1)? else {
+        return Ok(None);
+    };
+    match blanks(rest).1 {
+        [125, rest @ ..] => Ok(Some((sequences, rest))),
+        _ => Ok(None),
+    }
+}
+
+/// One sequence, as a list of sequences.
+fn one_sequence_at<'a, T: WrittenValue>(
+    alloc: Global,
+    epoch: &Epoch,
+    bytes: &'a [u8],
+) -> Result<Option<(Sequences<T::Base>, &'a [u8])>, AllocError>
+    ensures read { IfOk result (λ o. option_map (λ x. (x.0.items, x.1.now)) o ≡ means_at one_sequence (sequence_in (noted_in epoch.now T.reader)) bytes.now) }
+{
+    let Some((sequence, rest)) = sequence_at::<T>(alloc, epoch, bytes)? else {
+        return Ok(None);
+    };
+    let mut sequences = Vec::new(alloc);
+    sequences.push(sequence)?;
+    Ok(Some((sequences, rest)))
+}
+
+/// One instant, as a list of sequences.
+fn one_instant_at<'a, T: WrittenValue>(
+    alloc: Global,
+    epoch: &Epoch,
+    bytes: &'a [u8],
+) -> Result<Option<(Sequences<T::Base>, &'a [u8])>, AllocError>
+    ensures read { IfOk result (λ o. option_map (λ x. (x.0.items, x.1.now)) o ≡ means_at one_instant (noted_in epoch.now T.reader) bytes.now) }
+{
+    let Some((instant, rest)) = noted_at::<T>(alloc, epoch, bytes)? else {
+        return Ok(None);
+    };
+    let mut sequences = Vec::new(alloc);
+    sequences.push(alone(alloc, instant)?)?;
+    Ok(Some((sequences, rest)))
+}
+
+#[tactic(auto, unfolding(crate::specs::Literal::temporal_literal_at))]
+fn literal_at<'a, T: WrittenValue>(
+    alloc: Global,
+    epoch: &Epoch,
+    bytes: &'a [u8],
+) -> Result<Option<(Sequences<T::Base>, &'a [u8])>, AllocError>
+    ensures read { IfOk result (λ o. option_map (λ x. (x.0.items, x.1.now)) o ≡ temporal_literal_at (noted_in epoch.now T.reader) bytes.now) }
+{
+    if let Some(found) = braced_at::<T>(alloc, epoch, bytes)? {
+        return Ok(Some(found));
+    }
+    if let Some(found) = one_sequence_at::<T>(alloc, epoch, bytes)? {
+        return Ok(Some(found));
+    }
+    one_instant_at::<T>(alloc, epoch, bytes)
+}
+
+/// The literal that all of the bytes are, as it is written.
+#[tactic(auto, unfolding(crate::specs::Literal::temporal_at))]
+pub fn literal_of<T: WrittenValue>(
+    alloc: Global,
+    epoch: &Epoch,
+    bytes: &[u8],
+) -> Result<Option<Sequences<T::Base>>, AllocError>
+    ensures read { IfOk result (λ o. option_map (λ x. x.items) o ≡ all_of (temporal_in (noted_in epoch.now T.reader)) bytes.now) }
+{
+    let Some((sequences, rest)) = literal_at::<T>(alloc, epoch, blanks(bytes).1)? else {
+        return Ok(None);
+    };
+    match blanks(rest).1 {
+        [] => Ok(Some(sequences)),
+        _ => Ok(None),
+    }
+}

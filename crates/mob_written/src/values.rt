@@ -1,0 +1,150 @@
+//! How the values of the step types are written and printed.
+ghost use Rattle.std.specs.Prelude.{◌≡◌, Option, IfOk, option_map};
+ghost use Rattle.mob_written.specs.Fitting.{fitting};
+ghost use Rattle.mob_numeral.specs.NumberValue.{numeral_value, IsBounded};
+ghost use Rattle.mob_numeral.specs.NumberText.{number_text};
+ghost use Rattle.mob_scalar.specs.Truth.{truth_text};
+ghost use Rattle.mob_scalar.specs.Quoted.{quoted_text};
+
+use crate::literal::WrittenValue;
+use crate::printing::Printed;
+use mob_frac::Frac;
+use mob_list::text::Text;
+use mob_scalar::{
+    Numeral, evaluate, number_at, text_value_at, truth_at, write_number, write_text_value,
+    write_truth,
+};
+use std::alloc::{AllocError, Global};
+
+/// The values of a tbool: `t`, `f`, `true` or `false`, its letters small or capital.
+pub struct Truths;
+
+impl WrittenValue for Truths {
+    ghost use Rattle.std.specs.Prelude.{Bool};
+    ghost use Rattle.mob_written.specs.Values.{any_value, truth_value, truth_value_at as truth_in, truth_follows, truth_values};
+
+    type Base = bool;
+
+    ghost shape = { truth_value };
+
+    ghost reader = { truth_in };
+
+    ghost follows = { truth_follows };
+
+    ghost has_value = { any_value };
+
+    #[tactic(auto, unfolding(crate::specs::Values::truth_value_at))]
+    fn value_at(alloc: Global, bytes: &[u8]) -> Result<Option<(Option<bool>, &[u8])>, AllocError> {
+        match truth_at(bytes) {
+            Some((truth, rest)) => Ok(Some((Some(truth), rest))),
+            None => Ok(None),
+        }
+    }
+
+    fn has_value(value: &bool) -> bool {
+        true
+    }
+
+    ghost exact = { truth_values };
+}
+
+/// A number, where it fits.
+#[tactic(auto, unfolding(crate::specs::Fitting::fits))]
+fn fitting_number(numeral: Numeral) -> Option<Frac>
+    requires bounded { IsBounded numeral }
+    ensures value { result ≡ fitting (numeral_value numeral) }
+{
+    match evaluate(numeral) {
+        Ok(value) => Some(value),
+        Err(_) => None,
+    }
+}
+
+/// The values of a tint: numbers that stand for whole ones.
+pub struct WholeNumbers;
+
+impl WrittenValue for WholeNumbers {
+    ghost use Rattle.mob_ratio.specs.Ratio.{Ratio};
+    ghost use Rattle.mob_written.specs.Values.{is_whole, number_value, number_value_at as number_in, number_follows, number_values};
+
+    type Base = Frac;
+
+    ghost shape = { number_value };
+
+    ghost reader = { number_in };
+
+    ghost follows = { number_follows };
+
+    ghost has_value = { is_whole };
+
+    #[tactic(auto, unfolding(crate::specs::Values::number_value_at))]
+    fn value_at(alloc: Global, bytes: &[u8]) -> Result<Option<(Option<Frac>, &[u8])>, AllocError> {
+        match number_at(bytes) {
+            Some((numeral, rest)) => Ok(Some((fitting_number(numeral), rest))),
+            None => Ok(None),
+        }
+    }
+
+    fn has_value(value: &Frac) -> bool {
+        value.den() == 1
+    }
+
+    ghost exact = { number_values };
+}
+
+/// The values of a ttext: in double quotes, or bare.
+pub struct Texts;
+
+impl WrittenValue for Texts {
+    ghost use Rattle.std.specs.Prelude.{List, ℕ};
+    ghost use Rattle.mob_scalar.proofs.QuotedExact.{Behind};
+    ghost use Rattle.mob_written.specs.Values.{any_value, quoted_value, quoted_value_at as quoted_in, quoted_values};
+
+    type Base = Text;
+
+    ghost shape = { quoted_value };
+
+    ghost reader = { quoted_in };
+
+    ghost follows = { Behind };
+
+    ghost has_value = { any_value };
+
+    #[tactic(auto, unfolding(crate::specs::Values::quoted_value_at))]
+    fn value_at(alloc: Global, bytes: &[u8]) -> Result<Option<(Option<Text>, &[u8])>, AllocError> {
+        match text_value_at(alloc, bytes)? {
+            Some((text, rest)) => Ok(Some((Some(text), rest))),
+            None => Ok(None),
+        }
+    }
+
+    fn has_value(value: &Text) -> bool {
+        true
+    }
+
+    ghost exact = { quoted_values };
+}
+
+impl Printed for bool {
+    ghost text = { truth_text };
+
+    fn write(&self, into: &mut String) -> Result<(), AllocError> {
+        write_truth(*self, into)
+    }
+}
+
+impl Printed for Frac {
+    ghost text = { number_text };
+
+    fn write(&self, into: &mut String) -> Result<(), AllocError> {
+        write_number(self, into)
+    }
+}
+
+impl Printed for Text {
+    ghost text = { quoted_text };
+
+    fn write(&self, into: &mut String) -> Result<(), AllocError> {
+        write_text_value(self, into)
+    }
+}
