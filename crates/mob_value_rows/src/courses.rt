@@ -27,12 +27,24 @@ fn is_steady<B: BaseValue + Drop>(alloc: Global, value: B) -> Option<bool> {
 }
 
 #[test]
-fn steady_courses_of_each_base(rt: HostRuntime) -> Result<(), Fail> {
+fn steady_courses_lists_and_texts(rt: HostRuntime) -> Result<(), Fail> {
     let half = Frac::new(1, 2).ok().ok_or("fits")?;
     let text = Text::from_string(String::from_str(rt.alloc(), "red")?);
     assert_eq!(rt; is_steady(rt.alloc(), true), Some(true));
     assert_eq!(rt; is_steady(rt.alloc(), half), Some(true));
     assert_eq!(rt; is_steady(rt.alloc(), text), Some(true));
+    let mut items = Items::new(rt.alloc());
+    assert!(rt; items.is_empty());
+    items.push(7u8)?;
+    items.push(3u8)?;
+    assert_eq!(rt; items.len(), 2);
+    assert_eq!(rt; items.as_slice(), [7, 3].as_slice());
+    let again = Items::from_vec(items.into_vec());
+    assert_eq!(rt; again.as_slice(), [7, 3].as_slice());
+    let text = Text::from_string(String::from_str(rt.alloc(), "Żagiel")?);
+    let copy = text.copy(rt.alloc())?;
+    assert_eq!(rt; copy.as_str(), "Żagiel");
+    assert_eq!(rt; copy.into_string().as_str(), "Żagiel");
     Ok(())
 }
 
@@ -123,22 +135,5 @@ fn slices_meet_and_are_shared(rt: HostRuntime) -> Result<(), Fail> {
     let b = one(alloc, 1, 3).ok_or("b")?;
     assert!(rt; is_shared(&a, &b, (1, 2)));
     assert!(rt; is_alone(&a, (0, 2)));
-    Ok(())
-}
-
-#[test]
-fn lists_and_texts_are_kept(rt: HostRuntime) -> Result<(), Fail> {
-    let mut items = Items::new(rt.alloc());
-    assert!(rt; items.is_empty());
-    items.push(7u8)?;
-    items.push(3u8)?;
-    assert_eq!(rt; items.len(), 2);
-    assert_eq!(rt; items.as_slice(), [7, 3].as_slice());
-    let again = Items::from_vec(items.into_vec());
-    assert_eq!(rt; again.as_slice(), [7, 3].as_slice());
-    let text = Text::from_string(String::from_str(rt.alloc(), "Żagiel")?);
-    let copy = text.copy(rt.alloc())?;
-    assert_eq!(rt; copy.as_str(), "Żagiel");
-    assert_eq!(rt; copy.into_string().as_str(), "Żagiel");
     Ok(())
 }

@@ -77,6 +77,7 @@ fn the_first_constant_without_a_value_is_refused(rt: HostRuntime) -> Result<(), 
     Ok(())
 }
 
+// The refusal of a literal, for each of its faults.
 #[test]
 fn literals_are_refused_at_their_places(rt: HostRuntime) -> Result<(), Fail> {
     let literal = truth(rt.alloc(), "maybe", 15)?;
