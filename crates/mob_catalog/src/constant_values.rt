@@ -32,11 +32,7 @@ pub fn constant(alloc: Global, text: &ConstText, epoch: &Epoch) -> Result<Value,
 }
 
 /// The values of the constants of a script, in written order, or the refusal of the first whose text has none.
-pub fn constants(
-    alloc: Global,
-    texts: &[ConstText],
-    epoch: &Epoch,
-) -> Result<Items<Value>, Refusal>
+pub fn constants(alloc: Global, texts: &[ConstText], epoch: &Epoch) -> Result<Items<Value>, Refusal>
     ensures values { IfOk result (λ values. AreConstants epoch.now texts.now (Ok values)) }
     ensures refused { IfErr result (λ e. (e ≡ no_memory) ⊎ AreConstants epoch.now texts.now (Err e)) }
 {

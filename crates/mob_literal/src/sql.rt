@@ -11,9 +11,7 @@ ghost use Rattle.mob_literal.specs.Sound.{steps};
 ghost use Rattle.mob_written.specs.Values.{any_value, is_whole, truth_value, number_value, quoted_value};
 ghost use Rattle.mob_literal.specs.SqlText.{SaysInForm, SaysAs, texts, value_text};
 
-use mob_written::printing::write_steps;
 use crate::temporal::read_steps;
-use mob_written::values::{Texts, Truths, WholeNumbers};
 use mob_ast::SqlType;
 use mob_list::text::Text;
 use mob_scalar::{
@@ -21,6 +19,8 @@ use mob_scalar::{
     write_truth,
 };
 use mob_value::Value;
+use mob_written::printing::write_steps;
+use mob_written::values::{Texts, Truths, WholeNumbers};
 use std::alloc::{AllocError, Global};
 
 fn read_bool(text: &str) -> Result<Value, ReadText>

@@ -2,9 +2,9 @@
 ghost use Rattle.std.specs.Prelude.{◌≡◌, IfOk, option_map, true, false};
 ghost use Rattle.mob_literal.specs.Slices.{made};
 
-use mob_written::written::Written;
 use mob_slice::{BaseValue, Slice, Steady};
 use mob_span::Span;
+use mob_written::written::Written;
 use std::alloc::{AllocError, Global};
 
 type Slices<B> = Vec<Slice<Steady<B>>>;

@@ -5,14 +5,13 @@ ghost use Rattle.mob_numeral.specs.Verdict.{Lit};
 ghost use Rattle.mob_literal.specs.Sound.{is_over_limit, traverse, written_of as written_in, fitting_sequence as fitting_in, fitting_all as all_fitting, clear_ends as ends_clear, is_before as precedes, are_in_order as in_order, written_sequences, steps};
 ghost use Rattle.mob_literal.specs.Flat.{made_sequence, made_all};
 
-use mob_written::{WrittenValue, literal_of};
-use mob_written::all_neighbours;
 use crate::steps::slices_of;
-use mob_written::written::{Noted, Sequence, Written};
 use mob_list::items::Items;
 use mob_normal::normal;
 use mob_scalar::{Epoch, ReadText};
 use mob_slice::{BaseValue, Moving, Slice, Steady};
+use mob_written::written::{Noted, Sequence, Written};
+use mob_written::{WrittenValue, all_neighbours, literal_of};
 use std::alloc::{AllocError, Global};
 
 /// Whether there are more than 100,000 instants.

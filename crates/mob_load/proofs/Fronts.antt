@@ -16,12 +16,12 @@ read_front limit None b bytes reads = tt
 read_front limit (Some xs) None bytes reads = absurd reads.taken
 read_front limit (Some xs) (Some ys) bytes reads =
     let bound : length bytes ≤ limit + 1 = reads.bound in elim (cases_lt (length bytes) (limit + 1)) [
-  | inl less ↦
-      let end : ys ≡ [] = reads.whole (omega arith) in
-      let is : xs ≡ bytes = reads.taken ∙ ap (λ (w : List ℕ). bytes ++ w) end ∙ append-nil bytes in
-      sym (take_all (limit + 1) bytes bound) ∙ ap (take (limit + 1)) (sym is)
-  | inr more ↦ sym (take_all (limit + 1) bytes bound) ∙ sym (take-append-le (limit + 1) bytes ys (omega arith)) ∙ ap (take (limit + 1)) (sym reads.taken)
-]
+      | inl less ↦
+          let end : ys ≡ [] = reads.whole (omega arith) in
+          let is : xs ≡ bytes = reads.taken ∙ ap (λ (w : List ℕ). bytes ++ w) end ∙ append-nil bytes in
+          sym (take_all (limit + 1) bytes bound) ∙ ap (take (limit + 1)) (sym is)
+      | inr more ↦ sym (take_all (limit + 1) bytes bound) ∙ sym (take-append-le (limit + 1) bytes ys (omega arith)) ∙ ap (take (limit + 1)) (sym reads.taken)
+    ]
 
 opened_front : (name : List ℕ) (files : Option Contents) (left : Option (List ℕ)) (bytes : List ℕ)
     → Opens name files left → IfSome left (λ whole. bytes ≡ take (file_limit + 1) whole) → IfSome files (λ m. IsFront name m bytes)

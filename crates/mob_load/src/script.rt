@@ -8,9 +8,9 @@ ghost use Rattle.mob_load.specs.Checks.{check_seen, checks_of};
 ghost use Rattle.mob_load.specs.Loads.{AreNarrow, HasFaultCause, IsFaultAtLast, IsOutcome, IsTypedScript, Loads, LoadsScript, ChecksStopBy, copied_files, loaded_of, names_in, nothing_loaded};
 
 use crate::check::Check;
+use crate::checking::run_check;
 use crate::loading::Loading;
 use crate::order::checks_of;
-use crate::checking::run_check;
 use crate::program::{LoadEnd, Program};
 use mob_list::items::Items;
 use mob_outside::Files;
