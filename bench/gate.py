@@ -20,8 +20,10 @@ def words_of(process):
         return file.read().decode(errors="replace").split("\0")
 
 
-def crate_and_kind(process):
+def crate_and_kind(process, session):
     """Which crate the prover works on, and for which part of the gate; None for another process."""
+    if os.getsid(int(process)) != session:
+        return None
     words = words_of(process)
     if os.path.basename(words[0]) != "rattle" or "--crate-name" not in words:
         return None
@@ -49,7 +51,7 @@ def watch(gate):
                 key = process, begun
                 if known.get(key) is None:
                     # its words are those of its parent until it has begun its program
-                    known[key] = crate_and_kind(process)
+                    known[key] = crate_and_kind(process, gate.pid)
                 if known[key]:
                     seen[key] = known[key], seconds
             except (OSError, ValueError):
@@ -80,7 +82,9 @@ def main():
         clone = f"{folder}/clone"
         subprocess.run(["git", "clone", "--quiet", top, clone], check=True)
         begun = time.monotonic()
-        gate = subprocess.Popen(["rt", "ci", "--anew"], cwd=clone, stdout=output, stderr=subprocess.STDOUT, stdin=subprocess.DEVNULL)
+        gate = subprocess.Popen(
+            ["rt", "ci", "--anew"], cwd=clone, stdout=output, stderr=subprocess.STDOUT, stdin=subprocess.DEVNULL, start_new_session=True
+        )
         seen = watch(gate)
         minutes = (time.monotonic() - begun) / 60
         count = lambda crate: len([it for it in os.listdir(f"{clone}/crates/{crate}/must-fail") if it.endswith(".edit")]) if os.path.isdir(f"{clone}/crates/{crate}/must-fail") else 0
