@@ -12,6 +12,17 @@ use mob_typed::ConstText;
 use mob_value::Value;
 use std::alloc::Global;
 
+// Want of memory, which has no place.
+fn want_of_memory() -> Refusal
+    ensures { result ≡ no_memory }
+{
+    Refusal {
+        kind: Kind::NoMemory,
+        statement: 0,
+        place: 0,
+    }
+}
+
 /// The value of a constant, or its refusal at its statement and place: `Limit` where its text passes a limit, else `BadLiteral` where
 /// its text has no value. Want of memory has no place.
 pub fn constant(alloc: Global, text: &ConstText, epoch: &Epoch) -> Result<Value, Refusal>
@@ -22,11 +33,7 @@ pub fn constant(alloc: Global, text: &ConstText, epoch: &Epoch) -> Result<Value,
         Ok(value) => Ok(value),
         Err(fault) => match constant_refusal(fault, text) {
             Some(refusal) => Err(refusal),
-            None => Err(Refusal {
-                kind: Kind::NoMemory,
-                statement: 0,
-                place: 0,
-            }),
+            None => Err(want_of_memory()),
         },
     }
 }
@@ -42,7 +49,10 @@ pub fn constants(alloc: Global, texts: &[ConstText], epoch: &Epoch) -> Result<It
             Ok(value) => value,
             Err(refusal) => return Err(refusal),
         };
-        values.push(value)?;
+        match values.push(value) {
+            Ok(()) => {}
+            Err(_) => return Err(want_of_memory()),
+        }
     }
     Ok(values)
 }
