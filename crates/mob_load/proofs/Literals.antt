@@ -1,12 +1,13 @@
 -- A literal that is refused.
-use Rattle.std.proofs.Common.{◌≡◌, ◌≢◌, inl, inr, ap, ℤ, Err}
+use Rattle.std.proofs.Common.{◌≡◌, ◌≢◌, ◌⊎◌, inl, inr, ap, ℤ, Err}
+use Rattle.mob_ast.specs.Kinds.{no_memory}
 use Rattle.std.proofs.lemmas.Option.{same_Some}
 use Rattle.mob_ast.specs.declared.refusal.Kind.{Kind}
 use Rattle.mob_ast.specs.declared.refusal.Kind.TheVariants as kind
 use Rattle.mob_ast.specs.declared.refusal.Refusal.{Refusal}
 use Rattle.mob_numeral.specs.declared.fault.ReadText.{ReadText}
 use Rattle.mob_numeral.specs.declared.fault.ReadText.TheVariants as text
-use Rattle.mob_catalog.specs.Constants.{RefusesConstant}
+use Rattle.mob_catalog.specs.Constants.{ConstantFails}
 use Rattle.mob_catalog.specs.Faults.{IsRefusedAs}
 use Rattle.mob_typed.specs.declared.typed.ConstText.{ConstText}
 use Rattle.mob_load.specs.Loads.{Loaded, LoadsLiteral, LoadsTo, refused}
@@ -21,8 +22,8 @@ never_memory text.TooLarge k is e = absurd cc
 never_memory text.Unsound k is e = absurd cc
 never_memory text.NoMemory k is e = absurd cc
 
-pub literal_refused : (day : ℤ) (c : ConstText) (l m : Loaded) (e : Refusal) (end : LoadEnd) → RefusesConstant day c e → (e.kind ≡ kind.NoMemory → end ≡ NoMemory) → (e.kind ≢ kind.NoMemory → end ≡ Refused e)
+pub literal_refused : (day : ℤ) (c : ConstText) (l m : Loaded) (e : Refusal) (end : LoadEnd) → (e ≡ no_memory) ⊎ ConstantFails day c e → (e.kind ≡ kind.NoMemory → end ≡ NoMemory) → (e.kind ≢ kind.NoMemory → end ≡ Refused e)
     → LoadsTo {A = Unit {0}} (Err end) m (LoadsLiteral day c l)
-literal_refused day c l m e end (inl h) memory known =
+literal_refused day c l m e end (inl h) memory known = rw (memory (ap (λ (r : Refusal). r.kind) h)) tt
+literal_refused day c l m e end (inr h) memory known =
     rw (known (never_memory h.fault e.kind h.for_fault)) (h.fault, e.kind, h.for_fault, h.says, ap refused h.there)
-literal_refused day c l m e end (inr h) memory known = rw (memory (ap (λ (r : Refusal). r.kind) h)) tt
