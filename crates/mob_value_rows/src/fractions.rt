@@ -74,29 +74,25 @@ static ORDERS: [(Parts, Parts, Ordering); 5] = [
 ];
 
 // Two pairs of numbers, and whether they have one ratio.
-static RATIOS: [([Parts; 4], bool); 8] = [
-    ([(1, 2), (1, 1), (2, 1), (4, 1)], true),
-    ([(1, 2), (1, 1), (2, 1), (5, 1)], false),
-    ([(-1, 2), (1, 1), (2, 1), (-4, 1)], true),
-    ([(-1, 2), (1, 1), (2, 1), (4, 1)], false),
-    ([(0, 1), (1, 1), (0, 1), (-3, 1)], true),
-    ([(0, 1), (1, 1), (1, LARGEST), (1, 1)], false),
+static RATIOS: [(Parts, Parts, Parts, Parts, bool); 8] = [
+    ((1, 2), (1, 1), (2, 1), (4, 1), true),
+    ((1, 2), (1, 1), (2, 1), (5, 1), false),
+    ((-1, 2), (1, 1), (2, 1), (-4, 1), true),
+    ((-1, 2), (1, 1), (2, 1), (4, 1), false),
+    ((0, 1), (1, 1), (0, 1), (-3, 1), true),
+    ((0, 1), (1, 1), (1, LARGEST), (1, 1), false),
     (
-        [
-            (LARGEST, LARGEST - 1),
-            (LARGEST - 2, LARGEST),
-            (LARGEST, LARGEST - 1),
-            (LARGEST - 2, LARGEST),
-        ],
+        (LARGEST, LARGEST - 1),
+        (LARGEST - 2, LARGEST),
+        (LARGEST, LARGEST - 1),
+        (LARGEST - 2, LARGEST),
         true,
     ),
     (
-        [
-            (LARGEST, LARGEST - 1),
-            (1, 1),
-            (LARGEST - 1, LARGEST - 2),
-            (1, 1),
-        ],
+        (LARGEST, LARGEST - 1),
+        (1, 1),
+        (LARGEST - 1, LARGEST - 2),
+        (1, 1),
         false,
     ),
 ];
@@ -220,8 +216,7 @@ fn has_same_ratio(a: &Wide, b: &Wide, c: &Wide, d: &Wide) -> Option<bool> {
     Some(same_ratio(a, b, c, d))
 }
 
-fn ratio(parts: &[Parts; 4]) -> Option<bool> {
-    let [a, b, c, d] = *parts;
+fn ratio(a: Parts, b: Parts, c: Parts, d: Parts) -> Option<bool> {
     has_same_ratio(
         &above_zero(a)?,
         &above_zero(b)?,
@@ -231,8 +226,8 @@ fn ratio(parts: &[Parts; 4]) -> Option<bool> {
 }
 
 fn wrong_ratio() -> Option<usize> {
-    for (i, (parts, wanted)) in RATIOS.iter().enumerate() {
-        if ratio(parts) != Some(*wanted) {
+    for (i, (a, b, c, d, wanted)) in RATIOS.iter().enumerate() {
+        if ratio(*a, *b, *c, *d) != Some(*wanted) {
             return Some(i);
         }
     }
