@@ -1,6 +1,9 @@
--- Formulas: an operation on numbers is taken step by step, and each step has to fit.
-use Rattle.std.specs.Prelude.{◌≡◌, List, [], ◌∷◌, Result, MatchResult}
-use Rattle.mob_ratio.specs.Ratio.{Ratio}
+-- Formulas: an operation on numbers is taken step by step, and each step has to fit. The parts of a formula are the results
+-- of its operations in lowest terms, in the order in which they are written. The part lists of all formulas stand here, each
+-- under the letter and number by which a refusal names it.
+use Rattle.std.specs.Prelude.{◌≡◌, cond, ◌||◌, List, [], ◌∷◌, Result, MatchResult}
+use Rattle.mob_ratio.specs.Ratio.{Ratio, ◌+ℚ◌, ◌-ℚ◌, ◌*ℚ◌, ◌/ℚ◌}
+use Rattle.mob_ratio.specs.Order.{same}
 use Rattle.mob_frac.specs.Fits.{Fits}
 
 -- every part of the formula fits
@@ -11,3 +14,33 @@ AllFit (q ∷ parts) = Fits q × AllFit parts
 -- the result is x where every part of its formula fits, and an error exactly where one does not
 abbrev pub IsFormula : {A E : Type 0} → List Ratio → A → Result A E → Type 0
 IsFormula parts x r = MatchResult r (λ y. (y ≡ x) × AllFit parts) (λ _. ¬ AllFit parts)
+
+-- F1, the value at t of the line from x0 at l to x1 at u: the linear unit function of Forlizzi, Güting, Nardelli and Schneider
+-- (SIGMOD 2000), computed by its slope. Here t is no end and the line is not level.
+abbrev pub inner_parts : Ratio → Ratio → Ratio → Ratio → Ratio → List Ratio
+inner_parts x0 x1 l u t =
+    let a = t -ℚ l in
+    let b = u -ℚ l in
+    let q = a /ℚ b in
+    let c = x1 -ℚ x0 in
+    let e = c *ℚ q in
+    a ∷ b ∷ q ∷ c ∷ e ∷ (x0 +ℚ e) ∷ []
+
+-- The same at any instant: there is no operation where t is an end, or the line is level.
+abbrev pub line_parts : Ratio → Ratio → Ratio → Ratio → Ratio → List Ratio
+line_parts x0 x1 l u t = cond (same t l || same t u || same x0 x1) [] (inner_parts x0 x1 l u t)
+
+-- F2, one operation on two numbers: its one part is the result (Knuth, The Art of Computer Programming, volume 2, section
+-- 4.5.1, "Fractions").
+abbrev pub sum_parts : Ratio → Ratio → List Ratio
+sum_parts x y = (x +ℚ y) ∷ []
+
+abbrev pub difference_parts : Ratio → Ratio → List Ratio
+difference_parts x y = (x -ℚ y) ∷ []
+
+abbrev pub product_parts : Ratio → Ratio → List Ratio
+product_parts x y = (x *ℚ y) ∷ []
+
+-- where y is not 0
+abbrev pub quotient_parts : Ratio → Ratio → List Ratio
+quotient_parts x y = (x /ℚ y) ∷ []

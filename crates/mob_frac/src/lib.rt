@@ -6,11 +6,13 @@
 #![tactic(auto)]
 
 mod fraction;
+mod interpolation;
 pub mod laws;
 mod products;
 mod reduction;
 mod wide;
 
 pub use fraction::{Frac, Overflow};
+pub use interpolation::interpolated;
 pub use products::over_product;
 pub use wide::{Wide, same_ratio};

@@ -1,2 +1,5 @@
 pub mod Making
 pub mod Pointwise
+pub mod PieceLaws
+pub mod Judged
+pub mod Overall

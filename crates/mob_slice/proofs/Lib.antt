@@ -1,0 +1,5 @@
+pub mod Cuts
+pub mod Firsts
+pub mod Orders
+pub mod Wholes
+pub mod Yielded

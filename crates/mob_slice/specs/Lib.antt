@@ -10,3 +10,7 @@ pub mod RankLaws
 pub mod Operands
 pub mod Computed
 pub mod Comparison
+pub mod Entries
+pub mod Cut
+pub mod Sides
+pub mod Wholes

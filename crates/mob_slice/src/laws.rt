@@ -1,11 +1,29 @@
-//! What holds of every temporal value. No code runs here.
+//! What holds of every course, every temporal value and every list of formulas. No code runs here.
+
+ghost use Rattle.mob_slice.specs.Entries.{OneFirst};
+ghost use Rattle.mob_slice.specs.Wholes.{ContinuesAsOne, TwoInstantsFix};
 
 use crate::{
-    Course, Formula, Gaps, LookFault, Moving, One, OpFault, Operand, Pair, Passed, Rel, Slice,
-    Steady,
+    Course, Formula, Gaps, LookFault, Moving, OpFault, Operand, Pair, Passed, Piece, Rel, Side,
+    Slice, Steady,
 };
 use mob_list::laws::crosses_threads;
 use std::marker::{Send, Sync};
+
+/// Two courses on neighbouring spans go on as one exactly where some course on both spans has the values of each on its own.
+pub fn one_course<C: Course>()
+    ensures one { ContinuesAsOne C.value_of C.is_continued }
+{}
+
+/// Two courses on one span that share their values at two instants are equal on it.
+pub fn two_instants<C: Course>()
+    ensures fixed { TwoInstantsFix C.value_of }
+{}
+
+/// Of a list of entries one formula is the first that is passed, or none is.
+pub fn one_first()
+    ensures one { OneFirst }
+{}
 
 /// Slices and temporal values of a course that crosses threads cross threads.
 pub fn slices_cross_threads<C: Course + Send + Sync>() {
@@ -19,8 +37,9 @@ where
     C::Base: Send + Sync + 'a,
 {
     crosses_threads::<Operand<'a, C>>();
-    crosses_threads::<One<'a, C>>();
     crosses_threads::<Pair<'a, C, C>>();
+    crosses_threads::<Side<'a, C>>();
+    crosses_threads::<Piece<'a, C, C>>();
 }
 
 /// Relations, gaps, formulas and faults cross threads.

@@ -8,20 +8,24 @@
 pub mod base_value;
 pub mod comparison;
 pub mod course;
+pub mod cutting;
 pub mod formula;
 pub mod laws;
 pub mod moving;
 pub mod operand;
 pub mod part;
+pub mod side;
 pub mod slice;
 pub mod steady;
 
 pub use base_value::BaseValue;
 pub use comparison::{Compared, Gaps, Ranked, Rel};
 pub use course::Course;
+pub use cutting::{cut, level, limit};
 pub use formula::{Formula, LookFault, OpFault, Passed};
 pub use moving::Moving;
 pub use operand::Operand;
-pub use part::{One, Pair, Part};
+pub use part::{Pair, Part};
+pub use side::{Piece, Side};
 pub use slice::Slice;
 pub use steady::Steady;

@@ -7,6 +7,10 @@
 pub mod laws;
 pub mod set;
 pub mod span;
+pub mod spanned;
+pub mod walk;
 
 pub use set::SpanSet;
 pub use span::Span;
+pub use spanned::Spanned;
+pub use walk::{Met, SharedPieces};

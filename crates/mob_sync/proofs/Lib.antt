@@ -1,4 +1,0 @@
-pub mod Pairs
-pub mod Steps
-pub mod OneSteps
-pub mod Sides

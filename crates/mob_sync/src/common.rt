@@ -1,28 +1,26 @@
 ghost use Rattle.std.specs.Prelude.{◌≡◌};
-ghost use Rattle.mob_sync.specs.Walk.{CanWalk, WalkSteps, left_slices, right_slices, walk_left};
+ghost use Rattle.std.specs.Iterator.{YieldsFirstBy, item_count};
+ghost use Rattle.mob_span.specs.Meets.{meets};
+ghost use Rattle.mob_sync.specs.Common.{CanStep, pair_of, common_left};
 
 use mob_slice::{Course, Moving, Pair, Slice};
+use mob_span::SharedPieces;
 
-/// The common pieces of two temporal values, in order of time.
-///
-/// The spans of the pairs are ordered and disjoint and hold exactly the instants at which both values are defined; the
-/// slices of a pair are those that give the two values there.
+/// The common pieces of two temporal values, in order of time: exactly the pieces that a slice of one and a slice of the other
+/// share.
 #[derive(Drop)]
 pub struct Common<'a, A, B> {
-    lefts: &'a [Slice<A>],
-    rights: &'a [Slice<B>],
+    walk: SharedPieces<'a, Slice<A>, Slice<B>>,
 }
 
 impl<'a, A: Course, B: Course> Common<'a, A, B> {
     /// The walk from the first common piece.
     pub fn new(a: &'a Moving<A>, b: &'a Moving<B>) -> Self
-        ensures left { left_slices result ≡ a.now }
-        ensures right { right_slices result ≡ b.now }
-        ensures can { CanWalk A.start_of A.end_of B.start_of B.end_of result }
+        ensures can { CanStep result }
+        ensures all { common_left result ≡ meets (λ s. s.span) (λ s. s.span) a.now b.now }
     {
         Common {
-            lefts: a.slices(),
-            rights: b.slices(),
+            walk: SharedPieces::new(a.slices(), b.slices()),
         }
     }
 }
@@ -30,29 +28,20 @@ impl<'a, A: Course, B: Course> Common<'a, A, B> {
 impl<'a, A: Course, B: Course> Iterator for Common<'a, A, B> {
     type Item = Pair<'a, A, B>;
 
-    ghost can_next = { CanWalk A.start_of A.end_of B.start_of B.end_of };
+    ghost can_next = { CanStep };
 
-    ghost next_gives = { WalkSteps A.start_of A.end_of B.start_of B.end_of };
+    ghost next_gives = { YieldsFirstBy pair_of common_left };
 
-    ghost remaining = { walk_left };
+    ghost remaining = { item_count common_left };
 
     fn next(&mut self) -> Option<Pair<'a, A, B>> {
-        'walk: loop {
-            let Some((left, lefts)) = self.lefts.split_first() else {
-                return None;
-            };
-            let Some((right, rights)) = self.rights.split_first() else {
-                return None;
-            };
-            let met = left.span.meet(&right.span);
-            if right.span.ends_before(&left.span) {
-                self.rights = rights;
-            } else {
-                self.lefts = lefts;
-            }
-            if let Some(span) = met {
-                return Some(Pair { span, left, right });
-            }
-        }
+        let Some(met) = self.walk.next() else {
+            return None;
+        };
+        Some(Pair {
+            span: met.span,
+            left: met.left,
+            right: met.right,
+        })
     }
 }

@@ -1,0 +1,17 @@
+-- What it means that one course has two parts, and that two courses are one on a span.
+use Rattle.std.specs.Prelude.{◌≡◌, ◌↔◌, Bool, true}
+use Rattle.mob_ratio.specs.Ratio.{Ratio}
+use Rattle.mob_ratio.specs.Order.{before, upto}
+
+-- the course w, used from lower to upper, has the values of c up to the middle and those of d from there
+pub record HasBothParts {C B : Type 0} (value : C → Ratio → Ratio → Ratio → B) (w c d : C) (lower middle upper : Ratio) : Type 0 where
+  pub first : (t : Ratio) → upto lower t ≡ true → upto t middle ≡ true → value w lower upper t ≡ value c lower middle t
+  pub second : (t : Ratio) → upto middle t ≡ true → upto t upper ≡ true → value w lower upper t ≡ value d middle upper t
+
+-- on two spans longer than an instant, `continues` is true exactly where some course has both parts
+abbrev pub ContinuesAsOne : {C B : Type 0} → (C → Ratio → Ratio → Ratio → B) → (C → C → Ratio → Ratio → Ratio → Bool) → Type 0
+ContinuesAsOne {C} value continues = (c d : C) (lower middle upper : Ratio) → before lower middle ≡ true → before middle upper ≡ true → (continues c d lower middle upper ≡ true) ↔ ((w : C) × HasBothParts value w c d lower middle upper)
+
+-- two courses on one span that have the same values at two instants have the same values at every instant
+abbrev pub TwoInstantsFix : {C B : Type 0} → (C → Ratio → Ratio → Ratio → B) → Type 0
+TwoInstantsFix {C} value = (c d : C) (lower upper s t : Ratio) → before lower upper ≡ true → before s t ≡ true → value c lower upper s ≡ value d lower upper s → value c lower upper t ≡ value d lower upper t → (x : Ratio) → value c lower upper x ≡ value d lower upper x

@@ -1,0 +1,129 @@
+-- What two lists in order share, from the front.
+use Rattle.std.specs.Prelude.{◌≡◌, Bool, true, false, cond, ◌&&◌, List, [], ◌∷◌, ◌++◌, map, refl}
+use Rattle.std.specs.List.{flat_map, filter}
+use Rattle.std.specs.Iterator.{MakesProgress, item_count}
+use Rattle.std.proofs.Common.{ap, sym, ◌∙◌, subst, length, arith, Some}
+use Rattle.mob_ratio.specs.Ratio.{Ratio}
+use Rattle.mob_span.specs.Span.{SpanOf, has, has_instant}
+use Rattle.mob_span.specs.Neighbours.{is_clear}
+use Rattle.mob_span.specs.Meet.{ends_before, meet_of}
+use Rattle.mob_span.specs.Meets.{PieceOf, meets}
+use Rattle.mob_span.proofs.SpanLemmas.{meet_none}
+use Rattle.mob_span.proofs.Insides.{clear_trans, clear_has, ends_no_later, ends_sooner}
+use Rattle.mob_span.specs.Parts.{PartsClear}
+
+-- all of a list is after the span
+abbrev pub AllClear : {X : Type 0} → (X → SpanOf) → SpanOf → List X → Type 0
+AllClear span q [] = Unit {0}
+AllClear span q (x ∷ xs) = (is_clear q (span x) ≡ true) × AllClear span q xs
+
+module _ {X : Type 0} (span : X → SpanOf) where
+  after_from : (q : SpanOf) (x : X) (xs : List X) → is_clear q (span x) ≡ true → PartsClear span (x ∷ xs) → AllClear span q xs
+  after_from q x [] h k = tt
+  after_from q x (y ∷ xs) h k = let l = clear_trans q (span x) (span y) k.0 h k.1 in (l, after_from q y xs l k.2)
+
+  -- what follows in an ordered list is after its first
+  pub all_after : (x : X) (xs : List X) → PartsClear span (x ∷ xs) → AllClear span (span x) xs
+  all_after x [] k = tt
+  all_after x (y ∷ xs) k = (k.1, after_from (span x) y xs k.1 k.2)
+
+  pub later : (q r : SpanOf) (xs : List X) → ((s : SpanOf) → is_clear q s ≡ true → is_clear r s ≡ true) → AllClear span q xs → AllClear span r xs
+  later q r [] f h = tt
+  later q r (x ∷ xs) f h = (f (span x) h.0, later q r xs f h.1)
+
+neither : (a b : Bool) → (a ≡ true → b ≡ false) → (a && b) ≡ false
+neither true b h = h refl
+neither false b h = refl
+
+neither' : (a b : Bool) → (b ≡ true → a ≡ false) → (a && b) ≡ false
+neither' true true h = h refl
+neither' true false h = refl
+neither' false b h = refl
+
+-- spans that follow one another share no instant
+pub none_shared : (a b : SpanOf) → is_clear a b ≡ true → has_instant (meet_of a b) ≡ false
+none_shared a b h = (meet_none a b).1 (λ t. neither (has a t) (has b t) (λ k. clear_has a b t h k))
+
+pub none_shared' : (a b : SpanOf) → is_clear b a ≡ true → has_instant (meet_of a b) ≡ false
+none_shared' a b h = (meet_none a b).1 (λ t. neither' (has a t) (has b t) (λ k. clear_has b a t h k))
+
+module _ {X Y : Type 0} (span : X → SpanOf) (span' : Y → SpanOf) where
+  -- the piece of two entries
+  abbrev pub piece : X → Y → PieceOf X Y
+  piece x y = record { span = meet_of (span x) (span' y); left = x; right = y }
+
+  -- the pieces of one entry
+  abbrev pub row : X → List Y → List (PieceOf X Y)
+  row x w = map (λ y. piece x y) (filter (λ y. has_instant (meet_of (span x) (span' y))) w)
+
+  row_none : (x : X) (w : List Y) → AllClear span' (span x) w → row x w ≡ []
+  row_none x [] h = refl
+  row_none x (y ∷ w) h = rw (none_shared (span x) (span' y) h.0) (row_none x w h.1)
+
+  pub none_left : (v : List X) → meets span span' v [] ≡ []
+  none_left [] = refl
+  none_left (x ∷ v) = none_left v
+
+  skip_right : (v : List X) (y : Y) (w : List Y) → AllClear span (span' y) v → meets span span' v (y ∷ w) ≡ meets span span' v w
+  skip_right [] y w h = refl
+  skip_right (x ∷ v) y w h = rw (none_shared' (span x) (span' y) h.0, skip_right v y w h.1) refl
+
+  front : (x : X) (y : Y) (ys : List (PieceOf X Y)) (rest : List (PieceOf X Y)) → ys ≡ [] → cond (has_instant (meet_of (span x) (span' y))) (piece x y ∷ ys) ys ++ rest ≡ cond (has_instant (meet_of (span x) (span' y))) (piece x y ∷ rest) rest
+  front x y ys rest e = rw e (by (has_instant (meet_of (span x) (span' y))))
+    where
+      by : (b : Bool) → cond b (piece x y ∷ []) [] ++ rest ≡ cond b (piece x y ∷ rest) rest
+      by true = refl
+      by false = refl
+
+  map_cond : (x : X) (y : Y) (w : List Y) (b : Bool) → map (λ z. piece x z) (cond b (y ∷ w) w) ≡ cond b (piece x y ∷ map (λ z. piece x z) w) (map (λ z. piece x z) w)
+  map_cond x y w true = refl
+  map_cond x y w false = refl
+
+  -- the first of the first list ends no later: nothing else meets it
+  pub step_left : (x : X) (v : List X) (y : Y) (w : List Y) → ends_before (span' y) (span x) ≡ false → PartsClear span' (y ∷ w)
+      → meets span span' (x ∷ v) (y ∷ w) ≡ cond (has_instant (meet_of (span x) (span' y))) (piece x y ∷ meets span span' v (y ∷ w)) (meets span span' v (y ∷ w))
+  step_left x v y w e o =
+      let none : row x w ≡ [] = row_none x w (later span' (span' y) (span x) w (λ s k. ends_no_later (span x) (span' y) s e k) (all_after span' y w o)) in
+      ap (λ z. z ++ meets span span' v (y ∷ w)) (map_cond x y (filter (λ z. has_instant (meet_of (span x) (span' z))) w) (has_instant (meet_of (span x) (span' y)))) ∙ front x y (row x w) (meets span span' v (y ∷ w)) none
+
+  put_cond : (p : PieceOf X Y) (xs ys : List (PieceOf X Y)) (b : Bool) → cond b (p ∷ xs) xs ++ ys ≡ cond b (p ∷ xs ++ ys) (xs ++ ys)
+  put_cond p xs ys true = refl
+  put_cond p xs ys false = refl
+
+  -- the first of the second list ends sooner: nothing else meets it
+  pub step_right : (x : X) (v : List X) (y : Y) (w : List Y) → ends_before (span' y) (span x) ≡ true → PartsClear span (x ∷ v)
+      → meets span span' (x ∷ v) (y ∷ w) ≡ cond (has_instant (meet_of (span x) (span' y))) (piece x y ∷ meets span span' (x ∷ v) w) (meets span span' (x ∷ v) w)
+  step_right x v y w e o =
+      let skip : meets span span' v (y ∷ w) ≡ meets span span' v w = skip_right v y w (later span (span x) (span' y) v (λ s k. ends_sooner (span x) (span' y) s e k) (all_after span x v o)) in
+      ap (λ z. z ++ meets span span' v (y ∷ w)) (map_cond x y (filter (λ z. has_instant (meet_of (span x) (span' z))) w) (has_instant (meet_of (span x) (span' y)))) ∙ ap (λ z. cond (has_instant (meet_of (span x) (span' y))) (piece x y ∷ row x w) (row x w) ++ z) skip ∙ put_cond (piece x y) (row x w) (meets span span' v w) (has_instant (meet_of (span x) (span' y)))
+
+  -- one step of the walk, where the two share an instant, and where they do not
+  module _ (v v' : List X) (w w' : List Y) (x : X) (y : Y) (e : v ≡ x ∷ v') (f : w ≡ y ∷ w') where
+    at_heads : meets span span' v w ≡ meets span span' (x ∷ v') (y ∷ w')
+    at_heads = ap (λ z. meets span span' z w) e ∙ ap (λ z. meets span span' (x ∷ v') z) f
+
+    left_step : ends_before (span' y) (span x) ≡ false → PartsClear span' w → (b : Bool) → has_instant (meet_of (span x) (span' y)) ≡ b → meets span span' v w ≡ cond b (piece x y ∷ meets span span' v' w) (meets span span' v' w)
+    left_step k o b h =
+        let l = meets span span' v' (y ∷ w') in
+        at_heads ∙ step_left x v' y w' k (subst (PartsClear span') f o) ∙ ap (λ z. cond z (piece x y ∷ l) l) h ∙ ap (λ z. cond b (piece x y ∷ meets span span' v' z) (meets span span' v' z)) (sym f)
+
+    right_step : ends_before (span' y) (span x) ≡ true → PartsClear span v → (b : Bool) → has_instant (meet_of (span x) (span' y)) ≡ b → meets span span' v w ≡ cond b (piece x y ∷ meets span span' v w') (meets span span' v w')
+    right_step k o b h =
+        let l = meets span span' (x ∷ v') w' in
+        at_heads ∙ step_right x v' y w' k (subst (PartsClear span) e o) ∙ ap (λ z. cond z (piece x y ∷ l) l) h ∙ ap (λ z. cond b (piece x y ∷ meets span span' z w') (meets span span' z w')) (sym e)
+
+    pub given_left : ends_before (span' y) (span x) ≡ false → PartsClear span' w → has_instant (meet_of (span x) (span' y)) ≡ true → (s : SpanOf) → s ≡ meet_of (span x) (span' y) → meets span span' v w ≡ record { span = s; left = x; right = y } ∷ meets span span' v' w
+    given_left k o h s i = left_step k o true h ∙ ap (λ r. record { span = r; left = x; right = y } ∷ meets span span' v' w) (sym i)
+
+    pub given_right : ends_before (span' y) (span x) ≡ true → PartsClear span v → has_instant (meet_of (span x) (span' y)) ≡ true → (s : SpanOf) → s ≡ meet_of (span x) (span' y) → meets span span' v w ≡ record { span = s; left = x; right = y } ∷ meets span span' v w'
+    given_right k o h s i = right_step k o true h ∙ ap (λ r. record { span = r; left = x; right = y } ∷ meets span span' v w') (sym i)
+
+    pub passed_left : ends_before (span' y) (span x) ≡ false → PartsClear span' w → has_instant (meet_of (span x) (span' y)) ≡ false → meets span span' v w ≡ meets span span' v' w
+    passed_left k o h = left_step k o false h
+
+    pub passed_right : ends_before (span' y) (span x) ≡ true → PartsClear span v → has_instant (meet_of (span x) (span' y)) ≡ false → meets span span' v w ≡ meets span span' v w'
+    passed_right k o h = right_step k o false h
+
+-- a step that gave the first of what was left
+pub progress : {S A B : Type 0} (can : S → Type 0) (rest : S → List B) (s t : S) (x : A) (b : B) → can t → rest s ≡ b ∷ rest t → MakesProgress can (item_count rest) s (Some x) t
+progress can rest s t x b c e = record { on = λ h. (c, tt, omega (arith, ap length e)); keeps = c; rests = λ h. tt }

@@ -1,0 +1,26 @@
+-- The walk over the pieces that two lists share.
+use Rattle.std.specs.Prelude.{List}
+use Rattle.mob_span.specs.Span.{SpanOf}
+use Rattle.mob_span.specs.Meets.{PieceOf, meets}
+use Rattle.mob_span.specs.Parts.{PartsClear}
+use Rattle.mob_span.specs.declared.walk.Met.{Met}
+use Rattle.mob_span.specs.declared.walk.SharedPieces.{SharedPieces}
+
+-- what the walk has before it, of the first list and of the second
+abbrev pub lefts_of : {X Y : Type 0} → SharedPieces X Y → List X
+lefts_of s = s.lefts.now
+
+abbrev pub rights_of : {X Y : Type 0} → SharedPieces X Y → List Y
+rights_of s = s.rights.now
+
+-- both lists are in order of time
+abbrev pub CanWalk : {X Y : Type 0} → (X → SpanOf) → (Y → SpanOf) → SharedPieces X Y → Type 0
+CanWalk span span' s = PartsClear span s.lefts.now × PartsClear span' s.rights.now
+
+-- what contracts see of a piece
+abbrev pub met_of : {X Y : Type 0} → Met X Y → PieceOf X Y
+met_of m = record { span = m.span; left = m.left.now; right = m.right.now }
+
+-- the pieces that are still to come: those of the two lists
+abbrev pub meets_left : {X Y : Type 0} → (X → SpanOf) → (Y → SpanOf) → SharedPieces X Y → List (PieceOf X Y)
+meets_left span span' s = meets span span' s.lefts.now s.rights.now
