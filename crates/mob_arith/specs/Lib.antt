@@ -1,3 +1,3 @@
 pub mod Operations
-pub mod Steps
 pub mod Summed
+pub mod Termwise

@@ -1,4 +1,4 @@
-//! Sums, logic and the joining of texts, instant by instant, on temporal values that go by steps.
+//! Sums, differences and multiples of numbers, logic and the joining of texts, instant by instant.
 #![tactic(auto)]
 
 pub mod logic;
@@ -6,6 +6,7 @@ mod operate;
 pub mod operation;
 pub mod summed;
 pub mod sums;
+pub mod termwise;
 pub mod texts;
 
 pub use logic::{and, not, or};

@@ -3,11 +3,11 @@
 ghost use Rattle.std.specs.Prelude.{◌≡◌, true, ◌||◌, not, IfOk, option_map};
 ghost use Rattle.mob_ratio.specs.Ratio.{Ratio};
 ghost use Rattle.mob_slice.specs.Slices.{value_at};
-ghost use Rattle.mob_slice.specs.Operands.{operand_at, is_moving};
-ghost use Rattle.mob_arith.specs.Operations.{both_hold, one_holds};
+ghost use Rattle.mob_slice.specs.Sides.{operand_of, has_slices, given_at};
 ghost use Rattle.mob_slice.specs.Operands.{steady_value, IsPointwise};
+ghost use Rattle.mob_arith.specs.Operations.{both_hold, one_holds};
 
-use crate::operate::{beside, memory_alone, operate};
+use crate::operate::operate;
 use crate::operation::{Conjunction, Disjunction, Exclusion};
 use mob_slice::{Moving, Operand, Steady};
 use std::alloc::{AllocError, Global};
@@ -18,10 +18,10 @@ pub fn and(
     a: Operand<'_, Steady<bool>>,
     b: Operand<'_, Steady<bool>>,
 ) -> Result<Option<Moving<Steady<bool>>>, AllocError>
-    requires moving { (is_moving a || is_moving b) ≡ true }
-    ensures value { IfOk result (λ r. IsPointwise both_hold (operand_at steady_value a.entry) (operand_at steady_value b.entry) r) }
+    requires moving { (has_slices (operand_of a) || has_slices (operand_of b)) ≡ true }
+    ensures value { IfOk result (λ r. IsPointwise steady_value both_hold (given_at steady_value (operand_of a.entry)) (given_at steady_value (operand_of b.entry)) r) }
 {
-    memory_alone(operate::<bool, bool, Conjunction>(alloc, a, b))
+    operate::<Steady<bool>, Steady<bool>, Conjunction>(alloc, a, b)
 }
 
 /// Whether an operand is true, at each instant at which both have a value. None exactly where there is no such instant.
@@ -30,15 +30,25 @@ pub fn or(
     a: Operand<'_, Steady<bool>>,
     b: Operand<'_, Steady<bool>>,
 ) -> Result<Option<Moving<Steady<bool>>>, AllocError>
-    requires moving { (is_moving a || is_moving b) ≡ true }
-    ensures value { IfOk result (λ r. IsPointwise one_holds (operand_at steady_value a.entry) (operand_at steady_value b.entry) r) }
+    requires moving { (has_slices (operand_of a) || has_slices (operand_of b)) ≡ true }
+    ensures value { IfOk result (λ r. IsPointwise steady_value one_holds (given_at steady_value (operand_of a.entry)) (given_at steady_value (operand_of b.entry)) r) }
 {
-    memory_alone(operate::<bool, bool, Disjunction>(alloc, a, b))
+    operate::<Steady<bool>, Steady<bool>, Disjunction>(alloc, a, b)
 }
 
 /// The other truth value at each instant.
 pub fn not(alloc: Global, a: &Moving<Steady<bool>>) -> Result<Moving<Steady<bool>>, AllocError>
     ensures value { IfOk result (λ v. (t : Ratio) → value_at steady_value v t ≡ option_map not (value_at steady_value a.now t)) }
 {
-    memory_alone(beside::<bool, bool, Exclusion>(alloc, a, &true))
+    // That `a` has a slice, so that the result has one, is known by this call.
+    let _ = a.slices();
+    match operate::<Steady<bool>, Steady<bool>, Exclusion>(
+        alloc,
+        Operand::Moving(a),
+        Operand::Fixed(&true),
+    ) {
+        Ok(Some(value)) => Ok(value),
+        Ok(None) => unreachable!(),
+        Err(fault) => Err(fault),
+    }
 }

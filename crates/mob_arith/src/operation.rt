@@ -1,85 +1,22 @@
-//! The ordinary operations on two base values.
+//! The ordinary operations on two base values that have no formula.
 
-ghost use Rattle.std.specs.Prelude.{◌≡◌, List, [], ◌++◌, IfOk, string_bytes, Ok, Err, MatchResult};
-ghost use Rattle.mob_ratio.specs.Ratio.{Ratio};
-ghost use Rattle.mob_arith.specs.Operations.{IsAnswer, sum_of, sum_parts, difference_of, difference_parts, product_of, product_parts, both_hold, one_holds, differ, text_of};
+ghost use Rattle.std.specs.Prelude.{◌≡◌, ◌++◌, IfOk, string_bytes};
+ghost use Rattle.mob_arith.specs.Operations.{both_hold, one_holds, differ, text_of};
 
-use crate::summed::Summed;
-use mob_frac::Frac;
 use mob_list::text::Text;
-use mob_slice::{BaseValue, OpFault, Passed, Steady};
+use mob_slice::BaseValue;
 use std::alloc::{AllocError, Global};
 
-/// An ordinary operation on two base values.
+/// An ordinary operation on two base values. No part of it can fail to fit.
 pub trait Operation<A, B> {
     /// The type of the result.
     type Value: BaseValue + Drop;
 
     ghost result_of: { A → B → Self.Value };
 
-    /// What has to fit for the result to be held.
-    ghost parts_of: { A → B → List Ratio };
-
-    /// The result. `Passed` names F2, exactly where a part does not fit.
-    fn apply(alloc: Global, a: &A, b: &B) -> Result<Self::Value, OpFault>
-        ensures answer { IsAnswer (parts_of a.now b.now) (result_of a.now b.now) result };
-}
-
-// The answer of an operation on numbers.
-fn answer(number: Result<Frac, Passed>) -> Result<Frac, OpFault>
-    ensures answer { MatchResult number (λ x. result ≡ Ok x) (λ p. result ≡ Err (OpFault.Passed p.formula)) }
-{
-    match number {
-        Ok(value) => Ok(value),
-        Err(passed) => Err(OpFault::Passed {
-            formula: passed.formula,
-        }),
-    }
-}
-
-/// The sum of two numbers.
-pub struct Sum;
-
-impl Operation<Frac, Frac> for Sum {
-    type Value = Frac;
-
-    ghost result_of = { sum_of };
-
-    ghost parts_of = { sum_parts };
-
-    fn apply(alloc: Global, a: &Frac, b: &Frac) -> Result<Frac, OpFault> {
-        answer(Steady::sum(a, b))
-    }
-}
-
-/// The difference of two numbers.
-pub struct Difference;
-
-impl Operation<Frac, Frac> for Difference {
-    type Value = Frac;
-
-    ghost result_of = { difference_of };
-
-    ghost parts_of = { difference_parts };
-
-    fn apply(alloc: Global, a: &Frac, b: &Frac) -> Result<Frac, OpFault> {
-        answer(Steady::difference(a, b))
-    }
-}
-
-/// The product of two numbers.
-pub struct Product;
-
-impl Operation<Frac, Frac> for Product {
-    type Value = Frac;
-
-    ghost result_of = { product_of };
-
-    ghost parts_of = { product_parts };
-
-    fn apply(alloc: Global, a: &Frac, b: &Frac) -> Result<Frac, OpFault> {
-        answer(Steady::scaled(a, b))
-    }
+    /// The result.
+    fn apply(alloc: Global, a: &A, b: &B) -> Result<Self::Value, AllocError>
+        ensures answer { IfOk result (λ z. z ≡ result_of a.now b.now) };
 }
 
 /// Whether both are true.
@@ -90,9 +27,7 @@ impl Operation<bool, bool> for Conjunction {
 
     ghost result_of = { both_hold };
 
-    ghost parts_of = { λ x y. [] };
-
-    fn apply(alloc: Global, a: &bool, b: &bool) -> Result<bool, OpFault> {
+    fn apply(alloc: Global, a: &bool, b: &bool) -> Result<bool, AllocError> {
         Ok(*a && *b)
     }
 }
@@ -105,9 +40,7 @@ impl Operation<bool, bool> for Disjunction {
 
     ghost result_of = { one_holds };
 
-    ghost parts_of = { λ x y. [] };
-
-    fn apply(alloc: Global, a: &bool, b: &bool) -> Result<bool, OpFault> {
+    fn apply(alloc: Global, a: &bool, b: &bool) -> Result<bool, AllocError> {
         Ok(*a || *b)
     }
 }
@@ -120,9 +53,7 @@ impl Operation<bool, bool> for Exclusion {
 
     ghost result_of = { differ };
 
-    ghost parts_of = { λ x y. [] };
-
-    fn apply(alloc: Global, a: &bool, b: &bool) -> Result<bool, OpFault> {
+    fn apply(alloc: Global, a: &bool, b: &bool) -> Result<bool, AllocError> {
         Ok(if *b { !*a } else { *a })
     }
 }
@@ -135,13 +66,8 @@ impl Operation<Text, Text> for Joining {
 
     ghost result_of = { text_of };
 
-    ghost parts_of = { λ x y. [] };
-
-    fn apply(alloc: Global, a: &Text, b: &Text) -> Result<Text, OpFault> {
-        match joined(alloc, a.as_str(), b.as_str()) {
-            Ok(text) => Ok(Text::from_string(text)),
-            Err(_) => Err(OpFault::NoMemory),
-        }
+    fn apply(alloc: Global, a: &Text, b: &Text) -> Result<Text, AllocError> {
+        Ok(Text::from_string(joined(alloc, a.as_str(), b.as_str())?))
     }
 }
 

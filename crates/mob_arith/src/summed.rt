@@ -1,61 +1,54 @@
 //! Courses whose values can be added.
 
-ghost use Rattle.std.specs.Prelude.{◌≡◌, List, MatchResult, Ok, Err};
+ghost use Rattle.std.specs.Prelude.{◌≡◌, MatchResult, Ok, Err};
 ghost use Rattle.mob_ratio.specs.Ratio.{Ratio};
+ghost use Rattle.mob_frac.specs.Formula.{sum_parts, difference_parts, product_parts};
 ghost use Rattle.mob_slice.specs.Computed.{IsComputed};
 ghost use Rattle.mob_slice.specs.declared.formula.Formula.TheVariants.{F2};
-ghost use Rattle.mob_arith.specs.Operations.{sum_of, sum_parts, difference_of, difference_parts, product_of, product_parts};
+ghost use Rattle.mob_arith.specs.Operations.{sum_of, difference_of, product_of};
 ghost use Rattle.mob_arith.specs.Summed.{IsSummed, steady_summed};
 
 use mob_frac::{Frac, Overflow};
 use mob_slice::{Course, Formula, Passed, Steady};
 
-/// A course whose values can be added, subtracted and multiplied by a number. Each is the ordinary operation on numbers,
-/// and its fault names F2, exactly where the result does not fit.
+/// A course whose values can be added, subtracted and multiplied by a number. Each is the ordinary operation on the numbers
+/// that the values are, and its fault names F2, exactly where the result does not fit.
 ///
 /// The law says that these go term by term: the course between the sums of the limits of two courses on one span has at
 /// every instant the sum of their values, and so for differences and multiples.
 pub trait Summed: Course {
+    /// The number that a value is.
+    ghost number: { Self.Base → Ratio };
+
     ghost added: { Self.Base → Self.Base → Self.Base };
 
     ghost subtracted: { Self.Base → Self.Base → Self.Base };
 
     ghost multiplied: { Self.Base → Ratio → Self.Base };
 
-    /// What has to fit for each of them.
-    ghost added_parts: { Self.Base → Self.Base → List Ratio };
-
-    ghost subtracted_parts: { Self.Base → Self.Base → List Ratio };
-
-    ghost multiplied_parts: { Self.Base → Ratio → List Ratio };
-
     /// The sum.
     fn sum(a: &Self::Base, b: &Self::Base) -> Result<Self::Base, Passed>
-        ensures sum { IsComputed F2 (added_parts a.now b.now) (added a.now b.now) result };
+        ensures sum { IsComputed F2 (sum_parts (number a.now) (number b.now)) (added a.now b.now) result };
 
     /// The first less the second.
     fn difference(a: &Self::Base, b: &Self::Base) -> Result<Self::Base, Passed>
-        ensures difference { IsComputed F2 (subtracted_parts a.now b.now) (subtracted a.now b.now) result };
+        ensures difference { IsComputed F2 (difference_parts (number a.now) (number b.now)) (subtracted a.now b.now) result };
 
     /// The multiple by a number.
     fn scaled(a: &Self::Base, k: &Frac) -> Result<Self::Base, Passed>
-        ensures multiple { IsComputed F2 (multiplied_parts a.now k.now) (multiplied a.now k.now) result };
+        ensures multiple { IsComputed F2 (product_parts (number a.now) k.now) (multiplied a.now k.now) result };
 
-    ghost laws: { IsSummed Self.value_of Self.start_of Self.end_of Self.can_make Self.make added subtracted multiplied };
+    ghost laws: { IsSummed Self.value_of Self.start_of Self.end_of Self.can_make Self.make number added subtracted multiplied };
 }
 
 impl Summed for Steady<Frac> {
+    ghost number = { λ x. x };
+
     ghost added = { sum_of };
 
     ghost subtracted = { difference_of };
 
     ghost multiplied = { product_of };
-
-    ghost added_parts = { sum_parts };
-
-    ghost subtracted_parts = { difference_parts };
-
-    ghost multiplied_parts = { product_parts };
 
     fn sum(a: &Frac, b: &Frac) -> Result<Frac, Passed> {
         computed(a.add(b))
@@ -69,7 +62,7 @@ impl Summed for Steady<Frac> {
         computed(a.mul(k))
     }
 
-    ghost laws = { steady_summed sum_of difference_of product_of };
+    ghost laws = { steady_summed };
 }
 
 // The outcome of one operation on numbers.

@@ -1,81 +1,85 @@
-//! Sums, differences and products of numbers.
+//! Sums, differences and multiples of numbers over time, on every course whose values can be added.
+//!
+//! `Passed` names the formula of the first entry that has a part that does not fit: on each piece that the operands share, F1 at
+//! its ends, then F2 there.
 
-ghost use Rattle.std.specs.Prelude.{◌≡◌, true, ◌||◌, Some, IfOk, IfErr, option_map};
+ghost use Rattle.std.specs.Prelude.{◌≡◌, true, ◌||◌, IfOk, option_map};
+ghost use Rattle.std.specs.List.{flat_map};
 ghost use Rattle.mob_ratio.specs.Ratio.{Ratio};
+ghost use Rattle.mob_frac.specs.Formula.{sum_parts, difference_parts, product_parts};
 ghost use Rattle.mob_slice.specs.Slices.{value_at};
-ghost use Rattle.mob_slice.specs.Operands.{operand_at, is_moving, FitBoth};
-ghost use Rattle.mob_arith.specs.Operations.{sum_of, sum_parts, difference_of, difference_parts, product_of, product_parts};
-ghost use Rattle.mob_slice.specs.Operands.{steady_value, IsPointwise};
-ghost use Rattle.mob_arith.specs.Steps.{IsStepsFault, RefusesUnfit};
+ghost use Rattle.mob_slice.specs.Operands.{steady_value, steady_parts, IsPointwise};
+ghost use Rattle.mob_slice.specs.Sides.{operand_of, has_slices, given_at, pieces, Slices, Base};
+ghost use Rattle.mob_slice.specs.Entries.{IsJudged};
+ghost use Rattle.mob_arith.specs.Termwise.{entries_at_ends};
 
-use crate::operate::{beside, operate};
-use crate::operation::{Difference, Product, Sum};
+use crate::summed::Summed;
+use crate::termwise::{Difference, Multiple, Scaling, Sum, by_terms};
 use mob_frac::Frac;
 use mob_slice::{Moving, OpFault, Operand, Steady};
 use std::alloc::Global;
 
 /// The sum of two operands at each instant. None exactly where at no instant both have a value.
-///
-/// `Passed` names F2, exactly where at some instant the sum does not fit.
-pub fn plus(
+pub fn plus<C: Summed + Drop>(
     alloc: Global,
-    a: Operand<'_, Steady<Frac>>,
-    b: Operand<'_, Steady<Frac>>,
-) -> Result<Option<Moving<Steady<Frac>>>, OpFault>
-    requires moving { (is_moving a || is_moving b) ≡ true }
-    ensures value { IfOk result (λ r. IsPointwise sum_of (operand_at steady_value a.entry) (operand_at steady_value b.entry) r) }
-    ensures fits { IfOk result (λ _. (t : Ratio) → FitBoth sum_parts (operand_at steady_value a.entry t) (operand_at steady_value b.entry t)) }
-    ensures passed { IfErr result (IsStepsFault sum_parts (operand_at steady_value a.entry) (operand_at steady_value b.entry)) }
-    ensures passes { RefusesUnfit sum_parts (operand_at steady_value a.entry) (operand_at steady_value b.entry) result }
+    a: Operand<'_, C>,
+    b: Operand<'_, C>,
+) -> Result<Option<Moving<C>>, OpFault>
+where
+    C::Base: Drop,
+    requires moving { (has_slices (operand_of a) || has_slices (operand_of b)) ≡ true }
+    ensures value { IfOk result (λ r. IsPointwise C.value_of C.added (given_at C.value_of (operand_of a.entry)) (given_at C.value_of (operand_of b.entry)) r) }
+    ensures first { IsJudged (flat_map (entries_at_ends C.value_of C.parts_of C.value_of C.parts_of (λ x y. sum_parts (C.number x) (C.number y))) (pieces (operand_of a.entry) (operand_of b.entry))) result }
 {
-    operate::<Frac, Frac, Sum>(alloc, a, b)
+    by_terms::<C, C, C, Sum>(alloc, a, b)
 }
 
 /// The difference of two operands at each instant. None exactly where at no instant both have a value.
-///
-/// `Passed` names F2, exactly where at some instant the difference does not fit.
-pub fn minus(
+pub fn minus<C: Summed + Drop>(
     alloc: Global,
-    a: Operand<'_, Steady<Frac>>,
-    b: Operand<'_, Steady<Frac>>,
-) -> Result<Option<Moving<Steady<Frac>>>, OpFault>
-    requires moving { (is_moving a || is_moving b) ≡ true }
-    ensures value { IfOk result (λ r. IsPointwise difference_of (operand_at steady_value a.entry) (operand_at steady_value b.entry) r) }
-    ensures fits { IfOk result (λ _. (t : Ratio) → FitBoth difference_parts (operand_at steady_value a.entry t) (operand_at steady_value b.entry t)) }
-    ensures passed { IfErr result (IsStepsFault difference_parts (operand_at steady_value a.entry) (operand_at steady_value b.entry)) }
-    ensures passes { RefusesUnfit difference_parts (operand_at steady_value a.entry) (operand_at steady_value b.entry) result }
+    a: Operand<'_, C>,
+    b: Operand<'_, C>,
+) -> Result<Option<Moving<C>>, OpFault>
+where
+    C::Base: Drop,
+    requires moving { (has_slices (operand_of a) || has_slices (operand_of b)) ≡ true }
+    ensures value { IfOk result (λ r. IsPointwise C.value_of C.subtracted (given_at C.value_of (operand_of a.entry)) (given_at C.value_of (operand_of b.entry)) r) }
+    ensures first { IsJudged (flat_map (entries_at_ends C.value_of C.parts_of C.value_of C.parts_of (λ x y. difference_parts (C.number x) (C.number y))) (pieces (operand_of a.entry) (operand_of b.entry))) result }
 {
-    operate::<Frac, Frac, Difference>(alloc, a, b)
+    by_terms::<C, C, C, Difference>(alloc, a, b)
 }
 
-/// The product of two temporal numbers that go by steps. None exactly where at no instant both have a value.
-///
-/// `Passed` names F2, exactly where at some instant the product does not fit.
-pub fn times_step(
+/// The product of a temporal number that goes by steps and of a temporal value, at each instant. None exactly where at no
+/// instant both have a value.
+pub fn times_step<C: Summed + Drop>(
     alloc: Global,
     a: &Moving<Steady<Frac>>,
-    b: &Moving<Steady<Frac>>,
-) -> Result<Option<Moving<Steady<Frac>>>, OpFault>
-    ensures value { IfOk result (λ r. IsPointwise product_of (value_at steady_value a.now) (value_at steady_value b.now) r) }
-    ensures fits { IfOk result (λ _. (t : Ratio) → FitBoth product_parts (value_at steady_value a.now t) (value_at steady_value b.now t)) }
-    ensures passed { IfErr result (IsStepsFault product_parts (value_at steady_value a.now) (value_at steady_value b.now)) }
-    ensures passes { RefusesUnfit product_parts (value_at steady_value a.now) (value_at steady_value b.now) result }
+    b: &Moving<C>,
+) -> Result<Option<Moving<C>>, OpFault>
+where
+    C::Base: Drop,
+    ensures value { IfOk result (λ r. IsPointwise C.value_of (λ k x. C.multiplied x k) (value_at steady_value a.now) (value_at C.value_of b.now) r) }
+    ensures first { IsJudged (flat_map (entries_at_ends steady_value steady_parts C.value_of C.parts_of (λ k x. product_parts (C.number x) k)) (pieces (Slices a.now) (Slices b.now))) result }
 {
-    operate::<Frac, Frac, Product>(alloc, Operand::Moving(a), Operand::Moving(b))
+    by_terms::<Steady<Frac>, C, C, Scaling>(alloc, Operand::Moving(a), Operand::Moving(b))
 }
 
-/// The multiple of a temporal number by one number, at each of its instants.
-///
-/// `Passed` names F2, exactly where at some instant the product does not fit.
-pub fn times_const(
+/// The multiple of a temporal value by one number, at each of its instants.
+pub fn times_const<C: Summed + Drop>(
     alloc: Global,
-    a: &Moving<Steady<Frac>>,
+    a: &Moving<C>,
     k: &Frac,
-) -> Result<Moving<Steady<Frac>>, OpFault>
-    ensures value { IfOk result (λ v. (t : Ratio) → value_at steady_value v t ≡ option_map (λ x. product_of x k.now) (value_at steady_value a.now t)) }
-    ensures fits { IfOk result (λ _. (t : Ratio) → FitBoth product_parts (value_at steady_value a.now t) (Some k.now)) }
-    ensures passed { IfErr result (IsStepsFault product_parts (value_at steady_value a.now) (λ t. Some k.now)) }
-    ensures passes { RefusesUnfit product_parts (value_at steady_value a.now) (λ t. Some k.now) result }
+) -> Result<Moving<C>, OpFault>
+where
+    C::Base: Drop,
+    ensures value { IfOk result (λ v. (t : Ratio) → value_at C.value_of v t ≡ option_map (λ x. C.multiplied x k.now) (value_at C.value_of a.now t)) }
+    ensures first { IsJudged (flat_map (entries_at_ends C.value_of C.parts_of steady_value steady_parts (λ x k. product_parts (C.number x) k)) (pieces (Slices a.now) (Base k.now))) result }
 {
-    beside::<Frac, Frac, Product>(alloc, a, k)
+    // That `a` has a slice, so that the result has one, is known by this call.
+    let _ = a.slices();
+    match by_terms::<C, Steady<Frac>, C, Multiple>(alloc, Operand::Moving(a), Operand::Fixed(k)) {
+        Ok(Some(value)) => Ok(value),
+        Ok(None) => unreachable!(),
+        Err(fault) => Err(fault),
+    }
 }

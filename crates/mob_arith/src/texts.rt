@@ -1,11 +1,11 @@
 //! The joining of temporal texts.
 
 ghost use Rattle.std.specs.Prelude.{◌≡◌, true, ◌||◌, IfOk};
-ghost use Rattle.mob_slice.specs.Operands.{operand_at, is_moving};
-ghost use Rattle.mob_arith.specs.Operations.{text_of};
+ghost use Rattle.mob_slice.specs.Sides.{operand_of, has_slices, given_at};
 ghost use Rattle.mob_slice.specs.Operands.{steady_value, IsPointwise};
+ghost use Rattle.mob_arith.specs.Operations.{text_of};
 
-use crate::operate::{memory_alone, operate};
+use crate::operate::operate;
 use crate::operation::Joining;
 use mob_list::text::Text;
 use mob_slice::{Moving, Operand, Steady};
@@ -18,8 +18,8 @@ pub fn join_text(
     a: Operand<'_, Steady<Text>>,
     b: Operand<'_, Steady<Text>>,
 ) -> Result<Option<Moving<Steady<Text>>>, AllocError>
-    requires moving { (is_moving a || is_moving b) ≡ true }
-    ensures value { IfOk result (λ r. IsPointwise text_of (operand_at steady_value a.entry) (operand_at steady_value b.entry) r) }
+    requires moving { (has_slices (operand_of a) || has_slices (operand_of b)) ≡ true }
+    ensures value { IfOk result (λ r. IsPointwise steady_value text_of (given_at steady_value (operand_of a.entry)) (given_at steady_value (operand_of b.entry)) r) }
 {
-    memory_alone(operate::<Text, Text, Joining>(alloc, a, b))
+    operate::<Steady<Text>, Steady<Text>, Joining>(alloc, a, b)
 }

@@ -3,3 +3,4 @@ pub mod Pointwise
 pub mod PieceLaws
 pub mod Judged
 pub mod Overall
+pub mod OnPieces

@@ -4,7 +4,7 @@ ghost use Rattle.mob_slice.specs.Entries.{OneFirst};
 ghost use Rattle.mob_slice.specs.Wholes.{ContinuesAsOne, TwoInstantsFix};
 
 use crate::{
-    Course, Formula, Gaps, LookFault, Moving, OpFault, Operand, Pair, Passed, Piece, Rel, Side,
+    Course, Formula, Gaps, LookFault, Moving, One, OpFault, Operand, Pair, Passed, Piece, Rel, Side,
     Slice, Steady,
 };
 use mob_list::laws::crosses_threads;
@@ -37,6 +37,7 @@ where
     C::Base: Send + Sync + 'a,
 {
     crosses_threads::<Operand<'a, C>>();
+    crosses_threads::<One<'a, C>>();
     crosses_threads::<Pair<'a, C, C>>();
     crosses_threads::<Side<'a, C>>();
     crosses_threads::<Piece<'a, C, C>>();

@@ -25,7 +25,7 @@ pub use cutting::{cut, level, limit};
 pub use formula::{Formula, LookFault, OpFault, Passed};
 pub use moving::Moving;
 pub use operand::Operand;
-pub use part::{Pair, Part};
+pub use part::{One, Pair, Part};
 pub use side::{Piece, Side};
 pub use slice::Slice;
 pub use steady::Steady;

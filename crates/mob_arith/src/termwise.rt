@@ -1,0 +1,210 @@
+//! Operations on two operands that go term by term.
+
+ghost use Rattle.std.specs.Prelude.{◌≡◌, true, ◌||◌, List, [], ◌∷◌, MatchResult, IfOk};
+ghost use Rattle.std.specs.List.{flat_map};
+ghost use Rattle.mob_ratio.specs.Ratio.{Ratio};
+ghost use Rattle.mob_frac.specs.Formula.{sum_parts, difference_parts, product_parts};
+ghost use Rattle.mob_slice.specs.Computed.{IsComputed};
+ghost use Rattle.mob_slice.specs.Operands.{IsPointwise};
+ghost use Rattle.mob_slice.specs.Sides.{operand_of, has_slices, given_at, pieces, piece_of, HoldsPiece};
+ghost use Rattle.mob_slice.specs.Entries.{IsJudged};
+ghost use Rattle.mob_slice.specs.declared.formula.Formula.TheVariants.{F2};
+ghost use Rattle.mob_lift.specs.Given.{IsGiven, on_sides, AreLifted};
+ghost use Rattle.mob_arith.specs.Summed.{IsTermwise};
+ghost use Rattle.mob_arith.specs.Termwise.{entries_at_ends, operator_fault};
+
+use crate::summed::Summed;
+use mob_frac::Frac;
+use mob_lift::{Pieces, lift};
+use mob_normal::normal;
+use mob_slice::{Course, LookFault, Moving, OpFault, Operand, Passed, Piece, Slice, Steady};
+use std::alloc::Global;
+
+/// An operation on the values of two courses that goes term by term: its result goes as a third course does.
+pub trait Termwise<A: Course, B: Course, D: Course> {
+    ghost op: { A.Base → B.Base → D.Base };
+
+    /// What has to fit for it.
+    ghost parts: { A.Base → B.Base → List Ratio };
+
+    /// The result. `Passed` names F2, exactly where a part does not fit.
+    fn apply(a: &A::Base, b: &B::Base) -> Result<D::Base, Passed>
+        ensures result { IsComputed F2 (parts a.now b.now) (op a.now b.now) result };
+
+    ghost law: { (c : A) (d : B) (lower upper : Ratio) → IsTermwise A.value_of A.start_of A.end_of B.value_of B.start_of B.end_of D.value_of D.can_make D.make op c d lower upper };
+}
+
+/// The sum.
+pub struct Sum;
+
+impl<C: Summed> Termwise<C, C, C> for Sum {
+    ghost op = { C.added };
+
+    ghost parts = { λ x y. sum_parts (C.number x) (C.number y) };
+
+    fn apply(a: &C::Base, b: &C::Base) -> Result<C::Base, Passed> {
+        C::sum(a, b)
+    }
+
+    ghost law = { C.Summed.laws.sums };
+}
+
+/// The difference.
+pub struct Difference;
+
+impl<C: Summed> Termwise<C, C, C> for Difference {
+    ghost op = { C.subtracted };
+
+    ghost parts = { λ x y. difference_parts (C.number x) (C.number y) };
+
+    fn apply(a: &C::Base, b: &C::Base) -> Result<C::Base, Passed> {
+        C::difference(a, b)
+    }
+
+    ghost law = { C.Summed.laws.differences };
+}
+
+/// The multiple by a number that goes by steps.
+pub struct Multiple;
+
+impl<C: Summed> Termwise<C, Steady<Frac>, C> for Multiple {
+    ghost op = { C.multiplied };
+
+    ghost parts = { λ x k. product_parts (C.number x) k };
+
+    fn apply(a: &C::Base, b: &Frac) -> Result<C::Base, Passed> {
+        C::scaled(a, b)
+    }
+
+    ghost law = { C.Summed.laws.multiples };
+}
+
+/// The same with the number first.
+pub struct Scaling;
+
+impl<C: Summed> Termwise<Steady<Frac>, C, C> for Scaling {
+    ghost op = { λ k x. C.multiplied x k };
+
+    ghost parts = { λ k x. product_parts (C.number x) k };
+
+    fn apply(a: &Frac, b: &C::Base) -> Result<C::Base, Passed> {
+        C::scaled(b, a)
+    }
+
+    ghost law = { C.Summed.laws.turned };
+}
+
+// The fault of an operator for that of a look-up.
+fn operator_fault(fault: LookFault) -> OpFault
+    ensures same { result ≡ operator_fault fault }
+{
+    match fault {
+        LookFault::Passed { formula } => OpFault::Passed { formula },
+        LookFault::NoMemory => OpFault::NoMemory,
+    }
+}
+
+// One slice as a list.
+fn one<C: Drop>(alloc: Global, slice: Slice<C>) -> Result<Vec<Slice<C>>, OpFault>
+    ensures one { MatchResult result (λ v. v.items ≡ slice ∷ []) (λ e. e ≡ OpFault.NoMemory) }
+{
+    let mut slices = Vec::new(alloc);
+    match slices.push(slice) {
+        Ok(()) => Ok(slices),
+        Err(_) => Err(OpFault::NoMemory),
+    }
+}
+
+// The operation on one piece.
+fn on_piece<A: Course + Drop, B: Course + Drop, D: Course + Drop, O: Termwise<A, B, D>>(
+    alloc: Global,
+    piece: &Piece<'_, A, B>,
+) -> Result<Vec<Slice<D>>, OpFault>
+where
+    A::Base: Drop,
+    B::Base: Drop,
+    D::Base: Drop,
+    requires holds { HoldsPiece A.start_of A.end_of B.start_of B.end_of (piece_of piece.now) }
+    ensures given { IsGiven D.value_of D.start_of D.end_of (λ v. v.items) (on_sides A.value_of B.value_of O.op (piece_of piece.now)) piece.now.span (entries_at_ends A.value_of A.parts_of B.value_of B.parts_of O.parts (piece_of piece.now)) result }
+{
+    let left = match piece.left.on(alloc, &piece.span) {
+        Ok(left) => left,
+        Err(fault) => return Err(operator_fault(fault)),
+    };
+    let right = match piece.right.on(alloc, &piece.span) {
+        Ok(right) => right,
+        Err(fault) => return Err(operator_fault(fault)),
+    };
+    let from = match O::apply(left.course.start(), right.course.start()) {
+        Ok(from) => from,
+        Err(passed) => {
+            return Err(OpFault::Passed {
+                formula: passed.formula,
+            });
+        }
+    };
+    let to = match O::apply(left.course.end(), right.course.end()) {
+        Ok(to) => to,
+        Err(passed) => {
+            return Err(OpFault::Passed {
+                formula: passed.formula,
+            });
+        }
+    };
+    let _ = piece.span.lower();
+    one(
+        alloc,
+        Slice {
+            span: piece.span,
+            course: D::of(from, to),
+        },
+    )
+}
+
+// The slices of the operation on two operands.
+fn lifted<A: Course + Drop, B: Course + Drop, D: Course + Drop, O: Termwise<A, B, D>>(
+    alloc: Global,
+    a: Operand<'_, A>,
+    b: Operand<'_, B>,
+) -> Result<Vec<Slice<D>>, OpFault>
+where
+    A::Base: Drop,
+    B::Base: Drop,
+    D::Base: Drop,
+    requires moving { (has_slices (operand_of a) || has_slices (operand_of b)) ≡ true }
+    ensures slices { IfOk result (λ all. AreLifted A.value_of B.value_of D.value_of D.start_of D.end_of O.op (operand_of a.entry) (operand_of b.entry) all.items) }
+    ensures first { IsJudged (flat_map (entries_at_ends A.value_of A.parts_of B.value_of B.parts_of O.parts) (pieces (operand_of a.entry) (operand_of b.entry))) result }
+{
+    lift(
+        alloc,
+        Pieces::new(a, b),
+        |piece: &Piece<'_, A, B>| -> Result<Vec<Slice<D>>, OpFault>
+            requires { HoldsPiece A.start_of A.end_of B.start_of B.end_of (piece_of piece.now) }
+            ensures { IsGiven D.value_of D.start_of D.end_of (λ v. v.items) (on_sides A.value_of B.value_of O.op (piece_of piece.now)) piece.now.span (entries_at_ends A.value_of A.parts_of B.value_of B.parts_of O.parts (piece_of piece.now)) result }
+        { on_piece::<A, B, D, O>(alloc, piece) },
+    )
+}
+
+/// The operation on two operands at each instant at which both have a value. None exactly where there is no such instant.
+///
+/// `Passed` names the formula of the first entry that has a part that does not fit: on each piece that the operands share,
+/// F1 at its ends, then F2 there.
+pub fn by_terms<A: Course + Drop, B: Course + Drop, D: Course + Drop, O: Termwise<A, B, D>>(
+    alloc: Global,
+    a: Operand<'_, A>,
+    b: Operand<'_, B>,
+) -> Result<Option<Moving<D>>, OpFault>
+where
+    A::Base: Drop,
+    B::Base: Drop,
+    D::Base: Drop,
+    requires moving { (has_slices (operand_of a) || has_slices (operand_of b)) ≡ true }
+    ensures value { IfOk result (λ r. IsPointwise D.value_of O.op (given_at A.value_of (operand_of a.entry)) (given_at B.value_of (operand_of b.entry)) r) }
+    ensures first { IsJudged (flat_map (entries_at_ends A.value_of A.parts_of B.value_of B.parts_of O.parts) (pieces (operand_of a.entry) (operand_of b.entry))) result }
+{
+    let slices = lifted::<A, B, D, O>(alloc, a, b)?;
+    match normal(alloc, slices) {
+        Ok(value) => Ok(value),
+        Err(_) => Err(OpFault::NoMemory),
+    }
+}

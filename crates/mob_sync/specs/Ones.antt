@@ -1,0 +1,22 @@
+-- The walk over the pieces of one value.
+use Rattle.std.specs.Prelude.{List, map}
+use Rattle.mob_span.specs.Span.{SpanOf}
+use Rattle.mob_slice.specs.declared.slice.Slice.{Slice}
+use Rattle.mob_slice.specs.declared.part.One.{One}
+use Rattle.mob_sync.specs.declared.ones.Ones.{Ones}
+
+-- what contracts see of a piece
+abbrev pub one_of : {C : Type 0} → One C → SpanOf × Slice C
+one_of p = (p.span, p.slice.now)
+
+-- the slices of a list, each on its whole span
+abbrev pub whole_slices : {C : Type 0} → List (Slice C) → List (SpanOf × Slice C)
+whole_slices v = map (λ s. (s.span, s)) v
+
+-- the pieces that are still to come
+abbrev pub ones_left : {C : Type 0} → Ones C → List (SpanOf × Slice C)
+ones_left s = whole_slices s.slices.now
+
+-- a walk can always go on
+abbrev pub CanWalkOne : {C : Type 0} → Ones C → Type 0
+CanWalkOne s = Unit {0}

@@ -1,0 +1,42 @@
+ghost use Rattle.std.specs.Prelude.{◌≡◌};
+ghost use Rattle.std.specs.Iterator.{YieldsFirstBy, item_count};
+ghost use Rattle.mob_sync.specs.Ones.{CanWalkOne, one_of, ones_left, whole_slices};
+
+use mob_slice::{Course, Moving, One, Slice};
+
+/// The pieces of one temporal value, in order of time: exactly its slices, each on its whole span.
+#[derive(Drop)]
+pub struct Ones<'a, C> {
+    slices: &'a [Slice<C>],
+}
+
+impl<'a, C: Course> Ones<'a, C> {
+    /// The walk from the first piece.
+    pub fn new(a: &'a Moving<C>) -> Self
+        ensures can { CanWalkOne result }
+        ensures all { ones_left result ≡ whole_slices a.now }
+    {
+        Ones { slices: a.slices() }
+    }
+}
+
+impl<'a, C: Course> Iterator for Ones<'a, C> {
+    type Item = One<'a, C>;
+
+    ghost can_next = { CanWalkOne };
+
+    ghost next_gives = { YieldsFirstBy one_of ones_left };
+
+    ghost remaining = { item_count ones_left };
+
+    fn next(&mut self) -> Option<One<'a, C>> {
+        let Some((slice, slices)) = self.slices.split_first() else {
+            return None;
+        };
+        self.slices = slices;
+        Some(One {
+            span: slice.span,
+            slice,
+        })
+    }
+}
