@@ -49,6 +49,21 @@ where
     by_terms::<C, C, C, Difference>(alloc, a, b)
 }
 
+/// The multiple of an operand by numbers that go by steps, at each instant. None exactly where at no instant both have a value.
+pub fn times<C: Summed + Drop>(
+    alloc: Global,
+    a: Operand<'_, C>,
+    b: Operand<'_, Steady<Frac>>,
+) -> Result<Option<Moving<C>>, OpFault>
+where
+    C::Base: Drop,
+    requires moving { (has_slices (operand_of a) || has_slices (operand_of b)) ≡ true }
+    ensures value { IfOk result (λ r. IsPointwise C.value_of C.multiplied (given_at C.value_of (operand_of a.entry)) (given_at steady_value (operand_of b.entry)) r) }
+    ensures first { IsJudged (flat_map (entries_at_ends C.value_of C.parts_of steady_value steady_parts (λ x k. product_parts (C.number x) k)) (pieces (operand_of a.entry) (operand_of b.entry))) result }
+{
+    by_terms::<C, Steady<Frac>, C, Multiple>(alloc, a, b)
+}
+
 /// The product of a temporal number that goes by steps and of a temporal value, at each instant. None exactly where at no
 /// instant both have a value.
 pub fn times_step<C: Summed + Drop>(
@@ -77,7 +92,7 @@ where
 {
     // That `a` has a slice, so that the result has one, is known by this call.
     let _ = a.slices();
-    match by_terms::<C, Steady<Frac>, C, Multiple>(alloc, Operand::Moving(a), Operand::Fixed(k)) {
+    match times(alloc, Operand::Moving(a), Operand::Fixed(k)) {
         Ok(Some(value)) => Ok(value),
         Ok(None) => unreachable!(),
         Err(fault) => Err(fault),

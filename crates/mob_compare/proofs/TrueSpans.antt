@@ -7,12 +7,12 @@ use Rattle.mob_span.specs.Span.{SpanOf, has}
 use Rattle.mob_span.specs.Sets.{in_some}
 use Rattle.mob_span.proofs.SpanLemmas.{some_instant}
 use Rattle.mob_span.proofs.Insides.{clear_has}
+use Rattle.mob_span.proofs.Shared.{AllClear, all_after}
 use Rattle.mob_slice.specs.Slices.{value_at, IsOrdered}
-use Rattle.mob_slice.specs.Pieces.{AllAfter}
 use Rattle.mob_slice.specs.Operands.{steady_value, steady_limit}
 use Rattle.mob_slice.specs.declared.slice.Slice.{Slice}
 use Rattle.mob_slice.specs.declared.steady.Steady.{Steady}
-use Rattle.mob_sync.proofs.Pairs.{all_after, ordered-in_order}
+use Rattle.mob_slice.proofs.Orders.{ordered-clear}
 use Rattle.mob_compare.specs.Times.{is_true}
 
 -- the spans of the slices whose value is true, in order
@@ -20,11 +20,11 @@ abbrev pub true_spans : List (Slice (Steady Bool)) → List SpanOf
 true_spans [] = []
 true_spans (s ∷ v) = cond s.course.value (s.span ∷ true_spans v) (true_spans v)
 
-none_past : (q : SpanOf) (v : List (Slice (Steady Bool))) (t : Ratio) → AllAfter q v → has q t ≡ true → value_at steady_value v t ≡ None
+none_past : (q : SpanOf) (v : List (Slice (Steady Bool))) (t : Ratio) → AllClear (λ s. s.span) q v → has q t ≡ true → value_at steady_value v t ≡ None
 none_past q [] t h k = refl
 none_past q (s ∷ v) t h k = rw (clear_has q s.span t h.0 k) (none_past q v t h.1 k)
 
-true_by : (s : SpanOf) (v : List (Slice (Steady Bool))) (t : Ratio) (b k : Bool) → has s t ≡ b → AllAfter s v → in_some (true_spans v) t ≡ is_true (value_at steady_value v t) → in_some (cond k (s ∷ true_spans v) (true_spans v)) t ≡ is_true (cond b (Some k) (value_at steady_value v t))
+true_by : (s : SpanOf) (v : List (Slice (Steady Bool))) (t : Ratio) (b k : Bool) → has s t ≡ b → AllClear (λ r. r.span) s v → in_some (true_spans v) t ≡ is_true (value_at steady_value v t) → in_some (cond k (s ∷ true_spans v) (true_spans v)) t ≡ is_true (cond b (Some k) (value_at steady_value v t))
 true_by s v t true true e h same = rw e refl
 true_by s v t true false e h same = same ∙ ap is_true (none_past s v t h e)
 true_by s v t false true e h same = rw e same
@@ -33,7 +33,7 @@ true_by s v t false false e h same = same
 -- they have exactly the instants at which the value is true
 pub true_at : (v : List (Slice (Steady Bool))) → IsOrdered steady_limit steady_limit v → (t : Ratio) → in_some (true_spans v) t ≡ is_true (value_at steady_value v t)
 true_at [] h t = refl
-true_at (s ∷ v) h t = true_by s.span v t (has s.span t) s.course.value refl (all_after s v (ordered-in_order steady_limit steady_limit (s ∷ v) h)) (true_at v h.2 t)
+true_at (s ∷ v) h t = true_by s.span v t (has s.span t) s.course.value refl (all_after (λ r. r.span) s v (ordered-clear steady_limit steady_limit (s ∷ v) h)) (true_at v h.2 t)
 
 none_by : (s : Slice (Steady Bool)) (v : List (Slice (Steady Bool))) (k : Bool) → IsOrdered steady_limit steady_limit (s ∷ v) → (((t : Ratio) → in_some (true_spans v) t ≡ false) → true_spans v ≡ []) → ((t : Ratio) → in_some (cond k (s.span ∷ true_spans v) (true_spans v)) t ≡ false) → cond k (s.span ∷ true_spans v) (true_spans v) ≡ []
 none_by s v true h f none = let m = some_instant s.span h.0.some in absurd (true≢false (sym (rw m.1 refl) ∙ none m.0))

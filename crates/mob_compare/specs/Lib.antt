@@ -1,2 +1,1 @@
-pub mod Truths
 pub mod Times

@@ -1,64 +1,28 @@
-ghost use Rattle.std.specs.Prelude.{◌≡◌, Bool, true, ◌||◌, [], ◌∷◌, option_map, MatchResult, IfOk, IfErr};
-ghost use Rattle.std.specs.Fn.{FnReturnsAt};
-ghost use Rattle.mob_ratio.specs.Ratio.{Ratio};
-ghost use Rattle.mob_slice.specs.Slices.{value_at};
-ghost use Rattle.mob_slice.specs.Operands.{operand_at, is_moving, map_both, IsPointwise};
-ghost use Rattle.mob_compare.specs.Truths.{AreTruths};
+ghost use Rattle.std.specs.Prelude.{◌≡◌, true, ◌||◌, [], IfOk, IfErr};
+ghost use Rattle.mob_slice.specs.Operands.{IsPointwise, steady_value, steady_limit};
+ghost use Rattle.mob_slice.specs.Sides.{operand_of, has_slices, given_at, piece_of};
+ghost use Rattle.mob_lift.specs.Given.{IsGiven, on_sides, AreLifted};
 
-use mob_lift::{lift, single};
+use mob_lift::{Pieces, lift, single};
 use mob_normal::normal;
-use mob_slice::{Compared, Course, Moving, One, OpFault, Operand, Pair, Rel, Slice, Steady};
-use mob_sync::{Common, Ones};
+use mob_slice::{Compared, Moving, OpFault, Operand, Piece, Rel, Slice, Steady};
 use std::alloc::Global;
 
-// The comparison of two temporal values.
-fn on_both<C: Compared>(
+// The comparison on one piece.
+fn on_piece<C: Compared>(
     alloc: Global,
-    a: &Moving<C>,
-    b: &Moving<C>,
+    piece: &Piece<'_, C, C>,
     rel: Rel,
 ) -> Result<Vec<Slice<Steady<bool>>>, OpFault>
     requires steady { C.STEADY ≡ true }
-    ensures truths { IfOk result (λ all. AreTruths (λ t. map_both (C.relation rel) (value_at C.value_of a.now t) (value_at C.value_of b.now t)) all.items) }
-    ensures fault { IfErr result (λ e. e ≡ OpFault.NoMemory) }
+    ensures given { IsGiven steady_value steady_limit steady_limit (λ v. v.items) (on_sides C.value_of C.value_of (C.relation rel) (piece_of piece.now)) piece.now.span [] result }
 {
-    lift(
-        alloc,
-        Common::new(a, b),
-        |part: &Pair<'_, C, C>| -> Result<Vec<Slice<Steady<bool>>>, OpFault>
-            ensures { MatchResult result (λ v. v.items ≡ record { span = part.now.span; course = record { value = C.relation rel (C.start_of part.now.left.now.course) (C.start_of part.now.right.now.course) } } ∷ []) (λ e. e ≡ OpFault.NoMemory) }
-        {
-            let value = C::relates(rel, part.left.course.start(), part.right.course.start());
-            single(alloc, part.span, value)
-        },
-    )
+    let _ = piece.span.lower();
+    let value = C::relates(rel, piece.left.start(), piece.right.start());
+    single(alloc, piece.span, value)
 }
 
-// A test of a temporal value at each of its instants.
-fn on_one<C: Course, F: Fn(&C::Base) -> bool>(
-    alloc: Global,
-    a: &Moving<C>,
-    test: F,
-) -> Result<Vec<Slice<Steady<bool>>>, OpFault>
-    requires steady { C.STEADY ≡ true }
-    requires callable { F.IsAlwaysCallable test }
-    ensures truths { (holds : C.Base → Bool) → ((x : C.Base) (b : Bool) → FnReturnsAt F.Fn test x b → b ≡ holds x) → IfOk result (λ all. AreTruths (λ t. option_map holds (value_at C.value_of a.now t)) all.items) }
-    ensures fault { IfErr result (λ e. e ≡ OpFault.NoMemory) }
-{
-    lift(
-        alloc,
-        Ones::new(a),
-        |part: &One<'_, C>| -> Result<Vec<Slice<Steady<bool>>>, OpFault>
-            requires { F.IsAlwaysCallable test }
-            ensures { MatchResult result (λ v. (b : Bool) × FnReturnsAt F.Fn test (C.start_of part.now.slice.now.course) b × (v.items ≡ record { span = part.now.span; course = record { value = b } } ∷ [])) (λ e. e ≡ OpFault.NoMemory) }
-        {
-            let value = test(part.slice.course.start());
-            single(alloc, part.span, value)
-        },
-    )
-}
-
-// The comparison of two operands.
+// The slices of the comparison of two operands.
 fn truths_of<C: Compared>(
     alloc: Global,
     a: Operand<'_, C>,
@@ -66,20 +30,22 @@ fn truths_of<C: Compared>(
     rel: Rel,
 ) -> Result<Vec<Slice<Steady<bool>>>, OpFault>
     requires steady { C.STEADY ≡ true }
-    requires moving { (is_moving a || is_moving b) ≡ true }
-    ensures truths { IfOk result (λ all. AreTruths (λ t. map_both (C.relation rel) (operand_at C.value_of a.entry t) (operand_at C.value_of b.entry t)) all.items) }
-    ensures fault { IfErr result (λ e. e ≡ OpFault.NoMemory) }
+    requires moving { (has_slices (operand_of a) || has_slices (operand_of b)) ≡ true }
+    ensures slices { IfOk result (λ all. AreLifted C.value_of C.value_of steady_value steady_limit steady_limit (C.relation rel) (operand_of a.entry) (operand_of b.entry) all.items) }
+    ensures memory { IfErr result (λ e. e ≡ OpFault.NoMemory) }
 {
-    match (a, b) {
-        (Operand::Moving(a), Operand::Moving(b)) => on_both(alloc, a, b, rel),
-        (Operand::Moving(a), Operand::Fixed(b)) => on_one(alloc, a, |x| C::relates(rel, x, b)),
-        (Operand::Fixed(a), Operand::Moving(b)) => on_one(alloc, b, |y| C::relates(rel, a, y)),
-        (Operand::Fixed(_), Operand::Fixed(_)) => unreachable!(),
-    }
+    lift(
+        alloc,
+        Pieces::new(a, b),
+        |piece: &Piece<'_, C, C>| -> Result<Vec<Slice<Steady<bool>>>, OpFault>
+            requires { C.STEADY ≡ true }
+            ensures { IsGiven steady_value steady_limit steady_limit (λ v. v.items) (on_sides C.value_of C.value_of (C.relation rel) (piece_of piece.now)) piece.now.span [] result }
+        { on_piece::<C>(alloc, piece, rel) },
+    )
 }
 
 /// The ordinary comparison of two operands at each instant at which both have a value. None exactly where there is no such
-/// instant. On values that go by steps the one refusal is want of memory.
+/// instant. Values that go by steps have no formula, so the one refusal is want of memory.
 pub fn compare<C: Compared>(
     alloc: Global,
     a: Operand<'_, C>,
@@ -87,8 +53,8 @@ pub fn compare<C: Compared>(
     rel: Rel,
 ) -> Result<Option<Moving<Steady<bool>>>, OpFault>
     requires steady { C.STEADY ≡ true }
-    requires moving { (is_moving a || is_moving b) ≡ true }
-    ensures value { IfOk result (λ r. IsPointwise (C.relation rel) (operand_at C.value_of a.entry) (operand_at C.value_of b.entry) r) }
+    requires moving { (has_slices (operand_of a) || has_slices (operand_of b)) ≡ true }
+    ensures value { IfOk result (λ r. IsPointwise steady_value (C.relation rel) (given_at C.value_of (operand_of a.entry)) (given_at C.value_of (operand_of b.entry)) r) }
     ensures fault { IfErr result (λ e. e ≡ OpFault.NoMemory) }
 {
     let truths = truths_of(alloc, a, b, rel)?;

@@ -64,4 +64,4 @@ a_sum = refl
 -- 4611686018427387903 + 1 is 2^62, which does not fit
 a_fault : IsFirstFormula op.Add (Number (whole (pos 4611686018427387903)) ∷ Number (whole (pos 1)) ∷ []) (Some F2)
 unfolding ◌+ℚ◌ whole over gcd gcd_steps in_lowest_terms
-a_fault = (refl, λ h. omega (arith, h.0.num_fits))
+a_fault = inr ((λ h. omega (arith, h.0.num_fits)), refl)

@@ -16,7 +16,8 @@ use Rattle.mob_eval.specs.declared.fault.EvalFault.TheVariants.{Passed, NoMemory
 use Rattle.mob_eval.specs.Scene.{Scene}
 use Rattle.mob_eval.specs.Operators.{IsFirstFormula, OperatorGives}
 use Rattle.mob_eval.specs.Evaluation.{Fault, OnPassed, EvaluatesTo, TreeEvaluatesTo, OperandsEvaluateTo, stop_of}
-use Rattle.mob_eval.specs.Faults.{OnFormula, fault_of}
+use Rattle.mob_slice.specs.Entries.{OnFormula}
+use Rattle.mob_eval.specs.Faults.{fault_of}
 use Rattle.mob_eval.specs.SoFar.{trees}
 
 -- more than two operands give NULL

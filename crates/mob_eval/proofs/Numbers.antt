@@ -1,33 +1,37 @@
--- Products in either order at each instant, and the number 0.
-use Rattle.std.proofs.Common.{◌≡◌, Bool, false, [], ◌∷◌, Option, Some, None, refl, sym, ap, subst, ◌∙◌, true≢false}
-use Rattle.std.specs.Prelude.{IsTrue, ◌↔◌, option_map, pos}
+-- The entries of operations on plain numbers, and the number 0.
+use Rattle.std.proofs.Common.{◌≡◌, Bool, false, [], ◌∷◌, Some, None, refl, sym, ◌∙◌, true≢false, inl, inr}
+use Rattle.std.specs.Prelude.{IsTrue, ◌↔◌, pos}
 use Rattle.mob_ratio.specs.Ratio.{Ratio, whole}
 use Rattle.mob_ratio.specs.Order.{same}
 use Rattle.mob_ratio.proofs.Order.{same_exact, same_truth}
-use Rattle.mob_ratio.proofs.Field.{mul_comm}
-use Rattle.mob_frac.specs.Formula.{AllFit}
-use Rattle.mob_arith.specs.Operations.{product_of, product_parts}
-use Rattle.mob_arith.specs.Steps.{IsStepsFault}
-use Rattle.mob_slice.specs.Operands.{map_both, FitBoth}
-use Rattle.mob_slice.specs.declared.formula.OpFault.{OpFault}
-use Rattle.mob_slice.specs.declared.formula.OpFault.TheVariants.{Passed, NoMemory}
+use Rattle.mob_frac.specs.Fits.{Fits}
+use Rattle.mob_slice.specs.Entries.{IsFirst}
+use Rattle.mob_slice.specs.declared.formula.Formula.TheVariants.{F2}
+use Rattle.mob_eval.specs.declared.arithmetic.Calculation.{Calculation}
+use Rattle.mob_eval.specs.declared.arithmetic.Calculation.TheVariants.{Sum, Difference, Product}
+use Rattle.mob_eval.specs.Calculations.{result_by, parts_by}
+use Rattle.mob_eval.specs.Operators.{plain_entries}
 use Rattle.mob_eval.specs.Ordinary.{is_nil}
 
-pub turned_value : (k : Ratio) (o : Option Ratio) → option_map (λ x. product_of x k) o ≡ map_both product_of (Some k) o
-turned_value k None = refl
-turned_value k (Some x) = ap Some (mul_comm x k)
+-- the one entry of a plain operation with one part
+pub one_fits : (x : Ratio) → Fits x → IsFirst (plain_entries (x ∷ [])) None
+one_fits x h = inl ((h, tt), refl)
 
-pub turned_fit : (k : Ratio) (o : Option Ratio) → FitBoth product_parts o (Some k) → FitBoth product_parts (Some k) o
-turned_fit k None h = tt
-turned_fit k (Some x) h = subst (λ q. AllFit (q ∷ [])) (mul_comm x k) h
+pub one_fails : (x : Ratio) → ¬ Fits x → IsFirst (plain_entries (x ∷ [])) (Some F2)
+one_fails x h = inr ((λ k. h k.0), refl)
 
-turned_back : (k : Ratio) (o : Option Ratio) → FitBoth product_parts (Some k) o → FitBoth product_parts o (Some k)
-turned_back k None h = tt
-turned_back k (Some x) h = subst (λ q. AllFit (q ∷ [])) (mul_comm k x) h
+pub none_fits : IsFirst (plain_entries []) None
+none_fits = inl (tt, refl)
 
-pub turned_fault : (k : Ratio) (course : Ratio → Option Ratio) (f : OpFault) → IsStepsFault product_parts course (λ t. Some k) f → IsStepsFault product_parts (λ t. Some k) course f
-turned_fault k course (Passed formula) h = (h.0, (h.1.0, λ fit. h.1.1 (turned_back k (course h.1.0) fit)))
-turned_fault k course NoMemory h = tt
+pub by_fits : (by : Calculation) (x y : Ratio) → Fits (result_by by x y) → IsFirst (plain_entries (parts_by by x y)) None
+by_fits Sum x y h = one_fits (result_by Sum x y) h
+by_fits Difference x y h = one_fits (result_by Difference x y) h
+by_fits Product x y h = one_fits (result_by Product x y) h
+
+pub by_fails : (by : Calculation) (x y : Ratio) → ¬ Fits (result_by by x y) → IsFirst (plain_entries (parts_by by x y)) (Some F2)
+by_fails Sum x y h = one_fails (result_by Sum x y) h
+by_fails Difference x y h = one_fails (result_by Difference x y) h
+by_fails Product x y h = one_fails (result_by Product x y) h
 
 -- a test that says the same as `same` is `same`
 pub is_same_test : (b : Bool) (x y : Ratio) → IsTrue b ↔ (x ≡ y) → b ≡ same x y

@@ -4,13 +4,12 @@ use Rattle.std.specs.Prelude.{IsTrue, ◌↔◌}
 use Rattle.mob_ratio.specs.Ratio.{Ratio}
 use Rattle.mob_ratio.specs.Order.{same}
 use Rattle.mob_ratio.proofs.Order.{same_exact, same_truth}
-use Rattle.mob_frac.specs.Formula.{AllFit}
-use Rattle.mob_arith.specs.Operations.{sum_of, sum_parts, difference_of, difference_parts, product_of, product_parts, both_hold, one_holds, text_of}
-use Rattle.mob_slice.specs.Operands.{FitBoth, IsPointwise}
+use Rattle.mob_arith.specs.Operations.{sum_of, difference_of, product_of, both_hold, one_holds, text_of}
+use Rattle.mob_slice.specs.Operands.{steady_value, IsPointwise}
+use Rattle.mob_slice.proofs.Firsts.{one_first}
 use Rattle.mob_slice.specs.Sameness.{same_bool, same_bool_exact, same_bytes, same_bytes_exact}
 use Rattle.mob_slice.specs.SteadyLaws.{steady_laws}
 use Rattle.mob_slice.specs.declared.formula.Formula.{Formula}
-use Rattle.mob_slice.specs.declared.formula.Formula.TheVariants.{F2}
 use Rattle.mob_slice.specs.declared.comparison.Rel.{Rel}
 use Rattle.mob_normal.proofs.Unique.{unique}
 use Rattle.mob_ast.specs.declared.types.Cmp.{Cmp}
@@ -21,8 +20,8 @@ use Rattle.mob_value.specs.declared.value.Value.{Value}
 use Rattle.mob_value.specs.declared.value.Value.TheVariants.{Null, Bool as Truth, Number, Text, Moment, MovingBool, MovingInt, MovingText}
 use Rattle.mob_eval.specs.Scene.{Scene}
 use Rattle.mob_eval.specs.Ordinary.{IsTruthOf, IsEquality, IsTest, rel_of}
-use Rattle.mob_eval.specs.Lifted.{StepSlices, OverTime, AreNormalSteps, or_nothing, IsLiftedValue, IsMovingBool, IsMovingInt, IsMovingText, Pair, OnPair, truth_pair, number_pair, text_pair, number_test, text_test, truth_test, IsOrderTest, IsAnyTest, IsLiftedTest, IsLiftedNot}
-use Rattle.mob_eval.specs.Operators.{OperatorGives, IsFirstFormula, GivesOfOne, GivesOfTwo, IsFirstOfTwo, IsFitting, IsFittingAt, IsFittingOn, parts_on}
+use Rattle.mob_eval.specs.Lifted.{StepSlices, OverTime, AreNormalSteps, or_nothing, over_time, IsLiftedValue, IsMovingBool, IsMovingInt, IsMovingText, OnPair, truth_pair, number_pair, text_pair, number_test, text_test, truth_test, IsOrderTest, IsAnyTest, IsLiftedTest, IsLiftedNot}
+use Rattle.mob_eval.specs.Operators.{OperatorGives, IsFirstFormula, GivesOfOne, GivesOfTwo, operator_entries}
 use Rattle.mob_eval.specs.Outcomes.{IsSingle}
 use Rattle.mob_eval.proofs.Functions.{one_list}
 
@@ -62,10 +61,10 @@ is_once x v w h k = h ∙ sym k
 
 -- the temporal values of one function of time are one
 module _ {X Y Z : Type 0} (make : StepSlices Z → Value) (is_same : Z → Z → Bool) (exact : (a b : Z) → IsTrue (is_same a b) ↔ (a ≡ b)) (f : X → Y → Z) (left : OverTime X) (right : OverTime Y) where
-  made_once : (r q : Option (StepSlices Z)) → IsPointwise f left right r → IsPointwise f left right q → MatchOption r (Unit {0}) (AreNormalSteps is_same) → MatchOption q (Unit {0}) (AreNormalSteps is_same) → or_nothing make r ≡ or_nothing make q
+  made_once : (r q : Option (StepSlices Z)) → IsPointwise steady_value f left right r → IsPointwise steady_value f left right q → MatchOption r (Unit {0}) (AreNormalSteps is_same) → MatchOption q (Unit {0}) (AreNormalSteps is_same) → or_nothing make r ≡ or_nothing make q
   made_once None None h k n m = refl
-  made_once None (Some b) h k n m = absurd (m.some (sym (unique (steady_laws is_same exact) [] b tt m.chained (λ t. sym (h t) ∙ sym (k t)))))
-  made_once (Some a) None h k n m = absurd (n.some (unique (steady_laws is_same exact) a [] n.chained tt (λ t. h t ∙ k t)))
+  made_once None (Some b) h k n m = absurd (m.some (sym (unique (steady_laws false is_same exact) [] b tt m.chained (λ t. sym (h t) ∙ sym (k t)))))
+  made_once (Some a) None h k n m = absurd (n.some (unique (steady_laws false is_same exact) a [] n.chained tt (λ t. h t ∙ k t)))
   made_once (Some a) (Some b) h k n m = ap make (one_list is_same exact a b n m (λ t. h t ∙ sym (k t)))
 
   lifted_once : Once (IsLiftedValue make is_same f left right)
@@ -82,12 +81,12 @@ text_once f left right = lifted_once MovingText same_bytes same_bytes_exact f le
 
 order_once : (r : Rel) (a b : Value) → Once (IsOrderTest r a b)
 order_once r a b =
-    match_once (number_pair a b) (OnPair (text_pair a b) (IsMovingBool (text_test r))) (λ p. IsMovingBool (number_test r) p.0 p.1)
-    (match_once (text_pair a b) (λ v. v ≡ Null) (λ p. IsMovingBool (text_test r) p.0 p.1) (is_once Null) (λ p. bool_once (text_test r) p.0 p.1))
-    (λ p. bool_once (number_test r) p.0 p.1)
+    match_once (number_pair a b) (OnPair (text_pair a b) (IsMovingBool (text_test r))) (λ p. IsMovingBool (number_test r) (over_time p.0) (over_time p.1))
+    (match_once (text_pair a b) (λ v. v ≡ Null) (λ p. IsMovingBool (text_test r) (over_time p.0) (over_time p.1)) (is_once Null) (λ p. bool_once (text_test r) (over_time p.0) (over_time p.1)))
+    (λ p. bool_once (number_test r) (over_time p.0) (over_time p.1))
 
 compared_once : (r : Rel) (a b : Value) → Once (IsAnyTest r a b)
-compared_once r a b = match_once (truth_pair a b) (IsOrderTest r a b) (λ p. IsMovingBool (truth_test r) p.0 p.1) (order_once r a b) (λ p. bool_once (truth_test r) p.0 p.1)
+compared_once r a b = match_once (truth_pair a b) (IsOrderTest r a b) (λ p. IsMovingBool (truth_test r) (over_time p.0) (over_time p.1)) (order_once r a b) (λ p. bool_once (truth_test r) (over_time p.0) (over_time p.1))
 
 lifted_test_once : (c : Cmp) (a b : Value) → Once (IsLiftedTest c a b)
 lifted_test_once cmp.Eq a b v w h k = compared_once (rel_of cmp.Eq) a b v w h k
@@ -104,12 +103,12 @@ one_once s _ a v w h k = h ∙ sym k
 
 two_once : (o : Op) (a b : Value) → Once (GivesOfTwo o a b)
 two_once (op.Test c) a b v w h k = test_once c a b v w h k
-two_once op.Add a b v w h k = match_once (number_pair a b) _ (λ p. IsMovingInt sum_of p.0 p.1) (is_once _) (λ p. int_once sum_of p.0 p.1) v w h k
-two_once op.Subtract a b v w h k = match_once (number_pair a b) _ (λ p. IsMovingInt difference_of p.0 p.1) (is_once _) (λ p. int_once difference_of p.0 p.1) v w h k
-two_once op.Multiply a b v w h k = match_once (number_pair a b) _ (λ p. IsMovingInt product_of p.0 p.1) (is_once _) (λ p. int_once product_of p.0 p.1) v w h k
-two_once op.Join a b v w h k = match_once (text_pair a b) _ (λ p. IsMovingText text_of p.0 p.1) (is_once _) (λ p. text_once text_of p.0 p.1) v w h k
-two_once op.LiftedAnd a b v w h k = match_once (truth_pair a b) _ (λ p. IsMovingBool both_hold p.0 p.1) (is_once _) (λ p. bool_once both_hold p.0 p.1) v w h k
-two_once op.LiftedOr a b v w h k = match_once (truth_pair a b) _ (λ p. IsMovingBool one_holds p.0 p.1) (is_once _) (λ p. bool_once one_holds p.0 p.1) v w h k
+two_once op.Add a b v w h k = match_once (number_pair a b) _ (λ p. IsMovingInt sum_of (over_time p.0) (over_time p.1)) (is_once _) (λ p. int_once sum_of (over_time p.0) (over_time p.1)) v w h k
+two_once op.Subtract a b v w h k = match_once (number_pair a b) _ (λ p. IsMovingInt difference_of (over_time p.0) (over_time p.1)) (is_once _) (λ p. int_once difference_of (over_time p.0) (over_time p.1)) v w h k
+two_once op.Multiply a b v w h k = match_once (number_pair a b) _ (λ p. IsMovingInt product_of (over_time p.0) (over_time p.1)) (is_once _) (λ p. int_once product_of (over_time p.0) (over_time p.1)) v w h k
+two_once op.Join a b v w h k = match_once (text_pair a b) _ (λ p. IsMovingText text_of (over_time p.0) (over_time p.1)) (is_once _) (λ p. text_once text_of (over_time p.0) (over_time p.1)) v w h k
+two_once op.LiftedAnd a b v w h k = match_once (truth_pair a b) _ (λ p. IsMovingBool both_hold (over_time p.0) (over_time p.1)) (is_once _) (λ p. bool_once both_hold (over_time p.0) (over_time p.1)) v w h k
+two_once op.LiftedOr a b v w h k = match_once (truth_pair a b) _ (λ p. IsMovingBool one_holds (over_time p.0) (over_time p.1)) (is_once _) (λ p. bool_once one_holds (over_time p.0) (over_time p.1)) v w h k
 two_once (op.Lifted c) a b v w h k = lifted_test_once c a b v w h k
 two_once _ a b v w h k = h ∙ sym k
 
@@ -119,35 +118,8 @@ value_once s o (a ∷ []) v w h k = one_once s o a v w h k
 value_once s o (a ∷ b ∷ []) v w h k = two_once o a b v w h k
 value_once s o (a ∷ b ∷ c ∷ rest) v w h k = h ∙ sym k
 
--- none, or F2, by which of two contrary facts holds
-one_formula : (P Q : Type 0) → (P → Q → ⊥) → (f g : Option Formula) → MatchOption f P (λ x. (x ≡ F2) × Q) → MatchOption g P (λ x. (x ≡ F2) × Q) → f ≡ g
-one_formula P Q apart None None h k = refl
-one_formula P Q apart None (Some y) h k = absurd (apart h k.1)
-one_formula P Q apart (Some x) None h k = absurd (apart k h.1)
-one_formula P Q apart (Some x) (Some y) h k = ap Some (h.0 ∙ sym k.0)
-
-plain_first : (parts : List Ratio) (f g : Option Formula) → IsFitting parts f → IsFitting parts g → f ≡ g
-plain_first parts f g h k = one_formula (AllFit parts) (AllFit parts → ⊥) (λ fit misfit. misfit fit) f g h k
-
-fitting_first : (parts : Ratio → Ratio → List Ratio) (a b : Value) (f g : Option Formula) → IsFittingOn parts a b f → IsFittingOn parts a b g → f ≡ g
-fitting_first parts a b f g h k = on (number_pair a b) h k
-  where
-    on : (pair : Pair Ratio) → MatchOption pair (IsFitting (parts_on parts a b) f) (λ p. IsFittingAt parts p.0 p.1 f) → MatchOption pair (IsFitting (parts_on parts a b) g) (λ p. IsFittingAt parts p.0 p.1 g) → f ≡ g
-    on None h k = plain_first (parts_on parts a b) f g h k
-    on (Some p) h k = one_formula ((t : Ratio) → FitBoth parts (p.0 t) (p.1 t)) ((t : Ratio) × (FitBoth parts (p.0 t) (p.1 t) → ⊥)) (λ fit misfit. misfit.1 (fit misfit.0)) f g h k
-
-two_first : (o : Op) (a b : Value) (f g : Option Formula) → IsFirstOfTwo o a b f → IsFirstOfTwo o a b g → f ≡ g
-two_first op.Add a b f g h k = fitting_first sum_parts a b f g h k
-two_first op.Subtract a b f g h k = fitting_first difference_parts a b f g h k
-two_first op.Multiply a b f g h k = fitting_first product_parts a b f g h k
-two_first op.Divide a b f g h k = plain_first _ f g h k
-two_first _ a b f g h k = h ∙ sym k
-
 first_once : (o : Op) (vs : List Value) (f g : Option Formula) → IsFirstFormula o vs f → IsFirstFormula o vs g → f ≡ g
-first_once o [] f g h k = h ∙ sym k
-first_once o (a ∷ []) f g h k = h ∙ sym k
-first_once o (a ∷ b ∷ []) f g h k = two_first o a b f g h k
-first_once o (a ∷ b ∷ c ∷ rest) f g h k = h ∙ sym k
+first_once o vs f g h k = one_first (operator_entries o vs) f g h k
 
 pub each_single : IsSingle
 each_single = record { value = value_once; first = first_once }

@@ -1,7 +1,8 @@
 -- The three operations on two numbers that temporal numbers have too.
 use Rattle.std.specs.Prelude.{List}
 use Rattle.mob_ratio.specs.Ratio.{Ratio}
-use Rattle.mob_arith.specs.Operations.{sum_of, sum_parts, difference_of, difference_parts, product_of, product_parts}
+use Rattle.mob_frac.specs.Formula.{sum_parts, difference_parts, product_parts}
+use Rattle.mob_arith.specs.Operations.{sum_of, difference_of, product_of}
 use Rattle.mob_eval.specs.declared.arithmetic.Calculation.{Calculation}
 use Rattle.mob_eval.specs.declared.arithmetic.Calculation.TheVariants.{Sum, Difference, Product}
 

@@ -2,7 +2,6 @@
 use Rattle.std.specs.Prelude.{ℕ}
 use Rattle.mob_eval.specs.declared.fault.EvalFault.{EvalFault}
 use Rattle.mob_eval.specs.declared.fault.EvalFault.TheVariants as eval
-use Rattle.mob_slice.specs.declared.formula.Formula.{Formula}
 use Rattle.mob_slice.specs.declared.formula.OpFault.{OpFault}
 use Rattle.mob_slice.specs.declared.formula.OpFault.TheVariants.{Passed, NoMemory}
 
@@ -10,8 +9,3 @@ use Rattle.mob_slice.specs.declared.formula.OpFault.TheVariants.{Passed, NoMemor
 abbrev pub fault_of : ℕ → OpFault → EvalFault
 fault_of place (Passed formula) = eval.Passed place formula
 fault_of place NoMemory = eval.NoMemory
-
--- what holds of the formula of a fault; want of memory says nothing
-abbrev pub OnFormula : (Formula → Type 0) → OpFault → Type 0
-OnFormula P (Passed formula) = P formula
-OnFormula P NoMemory = Unit {0}

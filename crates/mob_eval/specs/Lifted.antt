@@ -4,7 +4,8 @@ use Rattle.std.specs.Prelude.{◌≡◌, Bool, not, ℕ, List, Option, Some, Non
 use Rattle.mob_ratio.specs.Ratio.{Ratio}
 use Rattle.mob_ratio.specs.Order.{same}
 use Rattle.mob_slice.specs.Slices.{value_at, IsNormal}
-use Rattle.mob_slice.specs.Operands.{steady_value, steady_limit, operand_at, IsPointwise}
+use Rattle.mob_slice.specs.Operands.{steady_value, steady_limit, IsPointwise}
+use Rattle.mob_slice.specs.Sides.{OperandOf, Slices, Base, operand_of, given_at}
 use Rattle.mob_slice.specs.Sameness.{same_bool, same_bytes}
 use Rattle.mob_slice.specs.Ranks.{holds, compare_ratio, compare_bool, compare_bytes}
 use Rattle.mob_slice.specs.declared.slice.Slice.{Slice}
@@ -36,7 +37,7 @@ or_nothing make (Some r) = make r
 
 -- v is the one normal value that is at each instant the operation on the two operands
 abbrev pub IsLiftedValue : {X Y Z : Type 0} → (StepSlices Z → Value) → (Z → Z → Bool) → (X → Y → Z) → OverTime X → OverTime Y → Value → Type 0
-IsLiftedValue {X} {Y} {Z} make is_same op left right v = (r : Option (StepSlices Z)) × IsPointwise op left right r × MatchOption r (Unit {0}) (AreNormalSteps is_same) × (v ≡ or_nothing make r)
+IsLiftedValue {X} {Y} {Z} make is_same op left right v = (r : Option (StepSlices Z)) × IsPointwise steady_value op left right r × MatchOption r (Unit {0}) (AreNormalSteps is_same) × (v ≡ or_nothing make r)
 
 abbrev pub IsMovingBool : {X Y : Type 0} → (X → Y → Bool) → OverTime X → OverTime Y → Value → Type 0
 IsMovingBool op left right v = IsLiftedValue MovingBool same_bool op left right v
@@ -47,44 +48,46 @@ IsMovingInt op left right v = IsLiftedValue MovingInt same op left right v
 abbrev pub IsMovingText : {X Y : Type 0} → (X → Y → List ℕ) → OverTime X → OverTime Y → Value → Type 0
 IsMovingText op left right v = IsLiftedValue MovingText same_bytes op left right v
 
+-- an operand that goes by steps: the slices of a temporal value, or a base value
+abbrev pub StepOperand : Type 0 → Type 0
+StepOperand B = OperandOf (Steady B) B
+
+-- what it is at each instant
+abbrev pub over_time : {B : Type 0} → StepOperand B → OverTime B
+over_time o = given_at steady_value o
+
 -- two operands of which one at least is temporal
 abbrev pub Pair : Type 0 → Type 0
-Pair B = Option (OverTime B × OverTime B)
-
-abbrev at : {B : Type 0} → StepSlices B → OverTime B
-at m = value_at steady_value m
-
-abbrev always : {B : Type 0} → B → OverTime B
-always b = λ t. Some b
+Pair B = Option (StepOperand B × StepOperand B)
 
 -- two truth values
 abbrev pub truth_pair : Value → Value → Pair Bool
-truth_pair (MovingBool a) (MovingBool b) = Some (at a, at b)
-truth_pair (MovingBool a) (Truth b) = Some (at a, always b)
-truth_pair (Truth a) (MovingBool b) = Some (always a, at b)
+truth_pair (MovingBool a) (MovingBool b) = Some (Slices a, Slices b)
+truth_pair (MovingBool a) (Truth b) = Some (Slices a, Base b)
+truth_pair (Truth a) (MovingBool b) = Some (Base a, Slices b)
 truth_pair _ _ = None
 
 -- two numbers
 abbrev pub number_pair : Value → Value → Pair Ratio
-number_pair (MovingInt a) (MovingInt b) = Some (at a, at b)
-number_pair (MovingInt a) (Number b) = Some (at a, always b)
-number_pair (Number a) (MovingInt b) = Some (always a, at b)
+number_pair (MovingInt a) (MovingInt b) = Some (Slices a, Slices b)
+number_pair (MovingInt a) (Number b) = Some (Slices a, Base b)
+number_pair (Number a) (MovingInt b) = Some (Base a, Slices b)
 number_pair _ _ = None
 
 -- two texts
 abbrev pub text_pair : Value → Value → Pair (List ℕ)
-text_pair (MovingText a) (MovingText b) = Some (at a, at b)
-text_pair (MovingText a) (Text b) = Some (at a, always b)
-text_pair (Text a) (MovingText b) = Some (always a, at b)
+text_pair (MovingText a) (MovingText b) = Some (Slices a, Slices b)
+text_pair (MovingText a) (Text b) = Some (Slices a, Base b)
+text_pair (Text a) (MovingText b) = Some (Base a, Slices b)
 text_pair _ _ = None
 
--- what two operands are at each instant
-abbrev pub courses : {B : Type 0} → Operand (Steady B) B × Operand (Steady B) B → OverTime B × OverTime B
-courses p = (operand_at steady_value p.0, operand_at steady_value p.1)
+-- what contracts see of two operands
+abbrev pub operands_of : {B : Type 0} → Operand (Steady B) B × Operand (Steady B) B → StepOperand B × StepOperand B
+operands_of p = (operand_of p.0, operand_of p.1)
 
 -- what holds of v where the operands are such a pair; and NULL where they are none
 abbrev pub OnPair : {B : Type 0} → Pair B → (OverTime B → OverTime B → Value → Type 0) → Value → Type 0
-OnPair pair row v = MatchOption pair (v ≡ Null) (λ p. row p.0 p.1 v)
+OnPair pair row v = MatchOption pair (v ≡ Null) (λ p. row (over_time p.0) (over_time p.1) v)
 
 abbrev pub number_test : Rel → Ratio → Ratio → Bool
 number_test r x y = holds r (compare_ratio x y)
@@ -97,11 +100,11 @@ truth_test r x y = holds r (compare_bool x y)
 
 -- a comparison of two numbers or two texts at each instant
 abbrev pub IsOrderTest : Rel → Value → Value → Value → Type 0
-IsOrderTest r a b v = MatchOption (number_pair a b) (OnPair (text_pair a b) (IsMovingBool (text_test r)) v) (λ p. IsMovingBool (number_test r) p.0 p.1 v)
+IsOrderTest r a b v = MatchOption (number_pair a b) (OnPair (text_pair a b) (IsMovingBool (text_test r)) v) (λ p. IsMovingBool (number_test r) (over_time p.0) (over_time p.1) v)
 
 -- a comparison of two numbers, two texts or two truth values at each instant
 abbrev pub IsAnyTest : Rel → Value → Value → Value → Type 0
-IsAnyTest r a b v = MatchOption (truth_pair a b) (IsOrderTest r a b v) (λ p. IsMovingBool (truth_test r) p.0 p.1 v)
+IsAnyTest r a b v = MatchOption (truth_pair a b) (IsOrderTest r a b v) (λ p. IsMovingBool (truth_test r) (over_time p.0) (over_time p.1) v)
 
 -- The six comparisons at each instant. Truth values are equal or not, and have no order here.
 abbrev pub IsLiftedTest : Cmp → Value → Value → Value → Type 0

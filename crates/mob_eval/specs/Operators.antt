@@ -1,10 +1,14 @@
 -- What each operator gives, on numbers of any size, and which formula it passes. An operator that is not built, and a
 -- count of operands that no operator has, give NULL. No typed script has either.
-use Rattle.std.specs.Prelude.{◌≡◌, cond, not, ℤ, List, [], ◌∷◌, Option, None, MatchOption, option_map}
+use Rattle.std.specs.Prelude.{◌≡◌, cond, not, ℤ, List, [], ◌∷◌, Option, Some, None, MatchOption, option_map}
+use Rattle.std.specs.List.{flat_map}
 use Rattle.mob_ratio.specs.Ratio.{Ratio, ◌/ℚ◌}
-use Rattle.mob_frac.specs.Formula.{AllFit}
-use Rattle.mob_arith.specs.Operations.{sum_of, sum_parts, difference_of, difference_parts, product_of, product_parts, both_hold, one_holds, text_of}
-use Rattle.mob_slice.specs.Operands.{FitBoth}
+use Rattle.mob_frac.specs.Formula.{sum_parts, difference_parts, product_parts, quotient_parts}
+use Rattle.mob_arith.specs.Operations.{sum_of, difference_of, product_of, both_hold, one_holds, text_of}
+use Rattle.mob_arith.specs.Termwise.{entries_at_ends}
+use Rattle.mob_slice.specs.Operands.{steady_value, steady_parts}
+use Rattle.mob_slice.specs.Sides.{pieces}
+use Rattle.mob_slice.specs.Entries.{Entry, IsFirst}
 use Rattle.mob_slice.specs.declared.formula.Formula.{Formula}
 use Rattle.mob_slice.specs.declared.formula.Formula.TheVariants.{F2}
 use Rattle.mob_operators.specs.declared.operator.Op.{Op}
@@ -14,7 +18,7 @@ use Rattle.mob_value.specs.declared.value.Value.TheVariants.{Null, Bool as Truth
 use Rattle.mob_literal.specs.SqlText.{value_text}
 use Rattle.mob_eval.specs.Scene.{Scene, leaf_value}
 use Rattle.mob_eval.specs.Ordinary.{truth_of, known, conjunction, disjunction, is_null, IsTest, negated, unchanged, is_nil}
-use Rattle.mob_eval.specs.Lifted.{OverTime, IsMovingBool, IsMovingInt, IsMovingText, OnPair, truth_pair, number_pair, text_pair, IsLiftedTest, IsLiftedNot}
+use Rattle.mob_eval.specs.Lifted.{Pair, over_time, IsMovingBool, IsMovingInt, IsMovingText, OnPair, truth_pair, number_pair, text_pair, IsLiftedTest, IsLiftedNot}
 
 -- an operation on two plain numbers
 abbrev pub on_numbers : (Ratio → Ratio → Ratio) → Value → Value → Value
@@ -23,7 +27,7 @@ on_numbers f _ _ = Null
 
 -- an operation on numbers, at each instant where one is temporal
 abbrev pub IsArithmetic : (Ratio → Ratio → Ratio) → Value → Value → Value → Type 0
-IsArithmetic f a b v = MatchOption (number_pair a b) (v ≡ on_numbers f a b) (λ p. IsMovingInt f p.0 p.1 v)
+IsArithmetic f a b v = MatchOption (number_pair a b) (v ≡ on_numbers f a b) (λ p. IsMovingInt f (over_time p.0) (over_time p.1) v)
 
 -- a number divided by another, which is NULL where the divisor is 0; typing lets no such divisor through
 abbrev pub quotient : Value → Value → Value
@@ -37,7 +41,7 @@ concatenation _ _ = Null
 
 -- `||`, at each instant where one is temporal
 abbrev pub IsJoined : Value → Value → Value → Type 0
-IsJoined a b v = MatchOption (text_pair a b) (v ≡ concatenation a b) (λ p. IsMovingText text_of p.0 p.1 v)
+IsJoined a b v = MatchOption (text_pair a b) (v ≡ concatenation a b) (λ p. IsMovingText text_of (over_time p.0) (over_time p.1) v)
 
 -- the printed text of a temporal value, with instants counted from a day
 abbrev pub temporal_text : ℤ → Value → Value
@@ -82,35 +86,40 @@ OperatorGives s o (a ∷ []) v = GivesOfOne s o a v
 OperatorGives s o (a ∷ b ∷ []) v = GivesOfTwo o a b v
 OperatorGives s o (a ∷ b ∷ c ∷ rest) v = v ≡ Null
 
--- no formula, where each part fits; and F2, where one does not
-abbrev pub IsFitting : List Ratio → Option Formula → Type 0
-IsFitting parts f = MatchOption f (AllFit parts) (λ g. (g ≡ F2) × (¬ AllFit parts))
-
--- no formula, where each part fits at each instant at which both operands have a value; and F2, where at one it does not
-abbrev pub IsFittingAt : (Ratio → Ratio → List Ratio) → OverTime Ratio → OverTime Ratio → Option Formula → Type 0
-IsFittingAt parts left right f = MatchOption f ((t : Ratio) → FitBoth parts (left t) (right t)) (λ g. (g ≡ F2) × ((t : Ratio) × (¬ FitBoth parts (left t) (right t))))
+-- the entry of an operation on two plain numbers: F2
+abbrev pub plain_entries : List Ratio → List Entry
+plain_entries parts = record { formula = F2; parts = parts } ∷ []
 
 -- the parts of an operation on two plain numbers
 abbrev pub parts_on : (Ratio → Ratio → List Ratio) → Value → Value → List Ratio
 parts_on parts (Number a) (Number b) = parts a b
 parts_on parts _ _ = []
 
--- the same of numbers, at each instant where one is temporal
-abbrev pub IsFittingOn : (Ratio → Ratio → List Ratio) → Value → Value → Option Formula → Type 0
-IsFittingOn parts a b f = MatchOption (number_pair a b) (IsFitting (parts_on parts a b) f) (λ p. IsFittingAt parts p.0 p.1 f)
+-- the entries of an operation on two numbers of which one is temporal, on each piece that they share; else those on plain ones
+abbrev pub paired_entries : (Ratio → Ratio → List Ratio) → List Entry → Pair Ratio → List Entry
+paired_entries parts plain None = plain
+paired_entries parts plain (Some p) = flat_map (entries_at_ends steady_value steady_parts steady_value steady_parts parts) (pieces p.0 p.1)
 
--- a quotient is its one part, and has none where the divisor is 0
-abbrev pub quotient_parts : Ratio → Ratio → List Ratio
-quotient_parts a b = cond (is_nil b) [] ((a /ℚ b) ∷ [])
+abbrev pub arithmetic_entries : (Ratio → Ratio → List Ratio) → Value → Value → List Entry
+arithmetic_entries parts a b = paired_entries parts (plain_entries (parts_on parts a b)) (number_pair a b)
 
-abbrev pub IsFirstOfTwo : Op → Value → Value → Option Formula → Type 0
-IsFirstOfTwo op.Add a b f = IsFittingOn sum_parts a b f
-IsFirstOfTwo op.Subtract a b f = IsFittingOn difference_parts a b f
-IsFirstOfTwo op.Multiply a b f = IsFittingOn product_parts a b f
-IsFirstOfTwo op.Divide a b f = IsFitting (parts_on quotient_parts a b) f
-IsFirstOfTwo _ a b f = f ≡ None
+-- a quotient has no part where the divisor is 0
+abbrev pub divided_parts : Ratio → Ratio → List Ratio
+divided_parts a b = cond (is_nil b) [] (quotient_parts a b)
 
--- the first formula of an operator with a part that does not fit, or none
+-- the entries of an operator on two operands
+abbrev pub entries_of_two : Op → Value → Value → List Entry
+entries_of_two op.Add a b = arithmetic_entries sum_parts a b
+entries_of_two op.Subtract a b = arithmetic_entries difference_parts a b
+entries_of_two op.Multiply a b = arithmetic_entries product_parts a b
+entries_of_two op.Divide a b = plain_entries (parts_on divided_parts a b)
+entries_of_two _ a b = []
+
+-- the entries of an operator on the values of the operands that were evaluated
+abbrev pub operator_entries : Op → List Value → List Entry
+operator_entries o (a ∷ b ∷ []) = entries_of_two o a b
+operator_entries o _ = []
+
+-- the formula of its first entry with a part that does not fit, or none
 abbrev pub IsFirstFormula : Op → List Value → Option Formula → Type 0
-IsFirstFormula o (a ∷ b ∷ []) f = IsFirstOfTwo o a b f
-IsFirstFormula o _ f = f ≡ None
+IsFirstFormula o vs f = IsFirst (operator_entries o vs) f

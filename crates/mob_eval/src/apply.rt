@@ -2,7 +2,7 @@
 ghost use Rattle.std.specs.Prelude.{◌≡◌, IfOk, IfErr, map, None, Some};
 ghost use Rattle.mob_eval.specs.Views.{scene_of};
 ghost use Rattle.mob_eval.specs.Operators.{OperatorGives, IsFirstFormula};
-ghost use Rattle.mob_eval.specs.Faults.{OnFormula};
+ghost use Rattle.mob_slice.specs.Entries.{OnFormula};
 ghost use Rattle.mob_eval.specs.Held.{held};
 
 use crate::held::Held;

@@ -1,21 +1,20 @@
 //! Arithmetic, on plain numbers and at each instant.
 ghost use Rattle.std.specs.Prelude.{◌≡◌, ◌||◌, true, IfOk, IfErr, None, Some};
-ghost use Rattle.mob_ratio.specs.Ratio.{Ratio};
+ghost use Rattle.std.specs.List.{flat_map};
 ghost use Rattle.mob_frac.specs.Fits.{IsExact};
-ghost use Rattle.mob_arith.specs.Operations.{product_of, product_parts};
-ghost use Rattle.mob_arith.specs.Steps.{IsStepsFault};
-ghost use Rattle.mob_slice.specs.Slices.{value_at};
+ghost use Rattle.mob_arith.specs.Termwise.{entries_at_ends};
 ghost use Rattle.mob_value.specs.declared.value.Value.TheVariants.{Number};
-ghost use Rattle.mob_slice.specs.Operands.{operand_at, is_moving, steady_value, IsPointwise, FitBoth};
+ghost use Rattle.mob_slice.specs.Operands.{steady_value, steady_parts, IsPointwise};
+ghost use Rattle.mob_slice.specs.Sides.{operand_of, has_slices, given_at, pieces};
 ghost use Rattle.mob_eval.specs.Ordinary.{negated, unchanged, is_nil};
-ghost use Rattle.mob_eval.specs.Operators.{IsArithmetic, IsFittingOn, on_numbers, quotient, quotient_parts, parts_on, IsFitting};
+ghost use Rattle.mob_eval.specs.Operators.{IsArithmetic, arithmetic_entries, plain_entries, on_numbers, quotient, divided_parts, parts_on};
 ghost use Rattle.mob_eval.specs.Lifted.{IsMovingInt};
 ghost use Rattle.mob_eval.specs.Calculations.{result_by, parts_by};
-ghost use Rattle.mob_eval.specs.Faults.{OnFormula};
+ghost use Rattle.mob_slice.specs.Entries.{IsFirst, IsJudged, OnFormula};
 
 use crate::pair::number_pair;
 use crate::temporal::int_or_null;
-use mob_arith::{minus, plus, times_const, times_step};
+use mob_arith::{minus, plus, times};
 use mob_frac::{Frac, Overflow};
 use mob_slice::{Formula, Moving, OpFault, Operand, Steady};
 use mob_value::Value;
@@ -45,8 +44,8 @@ fn calculated(by: Calculation, left: &Frac, right: &Frac) -> Result<Frac, Overfl
 // On plain numbers.
 fn plain(by: Calculation, left: &Value, right: &Value) -> Result<Value, OpFault>
     ensures value { IfOk result (λ v. v ≡ on_numbers (result_by by) left.now right.now) }
-    ensures fits { IfOk result (λ _. IsFitting (parts_on (parts_by by) left.now right.now) None) }
-    ensures fault { IfErr result (OnFormula (λ f. IsFitting (parts_on (parts_by by) left.now right.now) (Some f))) }
+    ensures fits { IfOk result (λ _. IsFirst (plain_entries (parts_on (parts_by by) left.now right.now)) None) }
+    ensures fault { IfErr result (OnFormula (λ f. IsFirst (plain_entries (parts_on (parts_by by) left.now right.now)) (Some f))) }
 {
     match (left, right) {
         (Value::Number(a), Value::Number(b)) => match calculated(by, a, b) {
@@ -59,57 +58,6 @@ fn plain(by: Calculation, left: &Value, right: &Value) -> Result<Value, OpFault>
     }
 }
 
-// The multiple of a temporal number by one number.
-fn multiple(
-    alloc: Global,
-    left: &Moving<Steady<Frac>>,
-    right: &Frac,
-) -> Result<Option<Moving<Steady<Frac>>>, OpFault>
-    ensures value { IfOk result (λ r. IsPointwise product_of (value_at steady_value left.now) (λ t. Some right.now) r) }
-    ensures fits { IfOk result (λ _. (t : Ratio) → FitBoth product_parts (value_at steady_value left.now t) (Some right.now)) }
-    ensures passed { IfErr result (IsStepsFault product_parts (value_at steady_value left.now) (λ t. Some right.now)) }
-{
-    match times_const(alloc, left, right) {
-        Ok(value) => Ok(Some(value)),
-        Err(fault) => Err(fault),
-    }
-}
-
-// The same with the number on the left.
-fn multiple_of(
-    alloc: Global,
-    left: &Frac,
-    right: &Moving<Steady<Frac>>,
-) -> Result<Option<Moving<Steady<Frac>>>, OpFault>
-    ensures value { IfOk result (λ r. IsPointwise product_of (λ t. Some left.now) (value_at steady_value right.now) r) }
-    ensures fits { IfOk result (λ _. (t : Ratio) → FitBoth product_parts (Some left.now) (value_at steady_value right.now t)) }
-    ensures passed { IfErr result (IsStepsFault product_parts (λ t. Some left.now) (value_at steady_value right.now)) }
-{
-    match times_const(alloc, right, left) {
-        Ok(value) => Ok(Some(value)),
-        Err(fault) => Err(fault),
-    }
-}
-
-// The product at each instant.
-fn product(
-    alloc: Global,
-    left: Operand<'_, Steady<Frac>>,
-    right: Operand<'_, Steady<Frac>>,
-) -> Result<Option<Moving<Steady<Frac>>>, OpFault>
-    requires moving { (is_moving left || is_moving right) ≡ true }
-    ensures value { IfOk result (λ r. IsPointwise product_of (operand_at steady_value left.entry) (operand_at steady_value right.entry) r) }
-    ensures fits { IfOk result (λ _. (t : Ratio) → FitBoth product_parts (operand_at steady_value left.entry t) (operand_at steady_value right.entry t)) }
-    ensures passed { IfErr result (IsStepsFault product_parts (operand_at steady_value left.entry) (operand_at steady_value right.entry)) }
-{
-    match (left, right) {
-        (Operand::Moving(a), Operand::Moving(b)) => times_step(alloc, a, b),
-        (Operand::Moving(a), Operand::Fixed(k)) => multiple(alloc, a, k),
-        (Operand::Fixed(k), Operand::Moving(a)) => multiple_of(alloc, k, a),
-        (Operand::Fixed(_), Operand::Fixed(_)) => unreachable!(),
-    }
-}
-
 // At each instant, where one of the two is temporal.
 fn lifted(
     alloc: Global,
@@ -117,15 +65,14 @@ fn lifted(
     left: Operand<'_, Steady<Frac>>,
     right: Operand<'_, Steady<Frac>>,
 ) -> Result<Option<Moving<Steady<Frac>>>, OpFault>
-    requires moving { (is_moving left || is_moving right) ≡ true }
-    ensures value { IfOk result (λ r. IsPointwise (result_by by) (operand_at steady_value left.entry) (operand_at steady_value right.entry) r) }
-    ensures fits { IfOk result (λ _. (t : Ratio) → FitBoth (parts_by by) (operand_at steady_value left.entry t) (operand_at steady_value right.entry t)) }
-    ensures passed { IfErr result (IsStepsFault (parts_by by) (operand_at steady_value left.entry) (operand_at steady_value right.entry)) }
+    requires moving { (has_slices (operand_of left) || has_slices (operand_of right)) ≡ true }
+    ensures value { IfOk result (λ r. IsPointwise steady_value (result_by by) (given_at steady_value (operand_of left.entry)) (given_at steady_value (operand_of right.entry)) r) }
+    ensures first { IsJudged (flat_map (entries_at_ends steady_value steady_parts steady_value steady_parts (parts_by by)) (pieces (operand_of left.entry) (operand_of right.entry))) result }
 {
     match by {
         Calculation::Sum => plus(alloc, left, right),
         Calculation::Difference => minus(alloc, left, right),
-        Calculation::Product => product(alloc, left, right),
+        Calculation::Product => times(alloc, left, right),
     }
 }
 
@@ -137,8 +84,8 @@ pub fn calculate(
     right: &Value,
 ) -> Result<Value, OpFault>
     ensures value { IfOk result (λ v. IsArithmetic (result_by by) left.now right.now v) }
-    ensures fits { IfOk result (λ _. IsFittingOn (parts_by by) left.now right.now None) }
-    ensures fault { IfErr result (OnFormula (λ f. IsFittingOn (parts_by by) left.now right.now (Some f))) }
+    ensures fits { IfOk result (λ _. IsFirst (arithmetic_entries (parts_by by) left.now right.now) None) }
+    ensures fault { IfErr result (OnFormula (λ f. IsFirst (arithmetic_entries (parts_by by) left.now right.now) (Some f))) }
 {
     match number_pair(left, right) {
         Some((left, right)) => match lifted(alloc, by, left, right) {
@@ -157,8 +104,8 @@ fn is_nil(number: &Frac) -> bool
 
 fn number_division(left: &Frac, right: &Frac) -> Result<Value, OpFault>
     ensures value { IfOk result (λ v. v ≡ quotient (Number left.now) (Number right.now)) }
-    ensures fits { IfOk result (λ _. IsFitting (quotient_parts left.now right.now) None) }
-    ensures fault { IfErr result (OnFormula (λ f. IsFitting (quotient_parts left.now right.now) (Some f))) }
+    ensures fits { IfOk result (λ _. IsFirst (plain_entries (divided_parts left.now right.now)) None) }
+    ensures fault { IfErr result (OnFormula (λ f. IsFirst (plain_entries (divided_parts left.now right.now)) (Some f))) }
 {
     if is_nil(right) {
         return Ok(Value::Null);
@@ -174,8 +121,8 @@ fn number_division(left: &Frac, right: &Frac) -> Result<Value, OpFault>
 /// `/`. NULL where the divisor is 0.
 pub fn division(left: &Value, right: &Value) -> Result<Value, OpFault>
     ensures value { IfOk result (λ v. v ≡ quotient left.now right.now) }
-    ensures fits { IfOk result (λ _. IsFitting (parts_on quotient_parts left.now right.now) None) }
-    ensures fault { IfErr result (OnFormula (λ f. IsFitting (parts_on quotient_parts left.now right.now) (Some f))) }
+    ensures fits { IfOk result (λ _. IsFirst (plain_entries (parts_on divided_parts left.now right.now)) None) }
+    ensures fault { IfErr result (OnFormula (λ f. IsFirst (plain_entries (parts_on divided_parts left.now right.now)) (Some f))) }
 {
     match (left, right) {
         (Value::Number(a), Value::Number(b)) => number_division(a, b),

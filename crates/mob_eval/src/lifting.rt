@@ -1,9 +1,9 @@
 //! Logic, comparisons and joining at each instant.
 ghost use Rattle.std.specs.Prelude.{◌≡◌, ◌||◌, true, IfOk};
-ghost use Rattle.mob_slice.specs.Operands.{operand_at, is_moving, steady_value};
+ghost use Rattle.mob_slice.specs.Sides.{operand_of, has_slices};
 ghost use Rattle.mob_slice.specs.Ranks.{holds};
 ghost use Rattle.mob_arith.specs.Operations.{both_hold, one_holds};
-ghost use Rattle.mob_eval.specs.Lifted.{OnPair, IsMovingBool, IsOrderTest, IsAnyTest, IsLiftedTest, IsLiftedNot, truth_pair, text_pair, number_test, text_test, truth_test};
+ghost use Rattle.mob_eval.specs.Lifted.{OnPair, IsMovingBool, IsOrderTest, IsAnyTest, IsLiftedTest, IsLiftedNot, truth_pair, text_pair, over_time, number_test, text_test, truth_test};
 ghost use Rattle.mob_eval.specs.Operators.{concatenation, IsJoined};
 
 use crate::comparison::rel_of;
@@ -54,8 +54,8 @@ fn compared<B: Ranked + Drop>(
     left: Operand<'_, Steady<B>>,
     right: Operand<'_, Steady<B>>,
 ) -> Result<Value, AllocError>
-    requires moving { (is_moving left || is_moving right) ≡ true }
-    ensures value { IfOk result (λ v. IsMovingBool (λ x y. holds rel (B.compare_of x y)) (operand_at steady_value left.entry) (operand_at steady_value right.entry) v) }
+    requires moving { (has_slices (operand_of left) || has_slices (operand_of right)) ≡ true }
+    ensures value { IfOk result (λ v. IsMovingBool (λ x y. holds rel (B.compare_of x y)) (over_time (operand_of left.entry)) (over_time (operand_of right.entry)) v) }
 {
     match compare(alloc, left, right, rel) {
         Ok(value) => Ok(bool_or_null(value)),
@@ -118,8 +118,7 @@ fn plain_joined(alloc: Global, left: &Value, right: &Value) -> Result<Value, All
     match (left, right) {
         (Value::Text(a), Value::Text(b)) => match Joining::apply(alloc, a, b) {
             Ok(text) => Ok(Value::Text(text)),
-            Err(OpFault::NoMemory) => Err(AllocError),
-            Err(OpFault::Passed { .. }) => unreachable!(),
+            Err(fault) => Err(fault),
         },
         _ => Ok(Value::Null),
     }

@@ -1,8 +1,8 @@
 //! Each operator, on the values of its operands.
 ghost use Rattle.std.specs.Prelude.{◌≡◌, IfOk, IfErr, IsErr, MatchResult, None, Some, Ok, Err};
 ghost use Rattle.mob_eval.specs.Views.{scene_of};
-ghost use Rattle.mob_eval.specs.Operators.{GivesOfOne, GivesOfTwo, IsFirstOfTwo};
-ghost use Rattle.mob_eval.specs.Faults.{OnFormula};
+ghost use Rattle.mob_eval.specs.Operators.{GivesOfOne, GivesOfTwo, entries_of_two};
+ghost use Rattle.mob_slice.specs.Entries.{IsFirst, OnFormula};
 ghost use Rattle.mob_eval.specs.Held.{held};
 
 use crate::arithmetic::{Calculation, calculate, division, negation, unchanged};
@@ -65,8 +65,8 @@ fn without_formula(value: Result<Value, AllocError>) -> Result<Value, OpFault>
 /// An operator on two operands, or its first formula with a part that does not fit.
 pub fn of_two(alloc: Global, op: Op, left: &Value, right: &Value) -> Result<Value, OpFault>
     ensures value { IfOk result (λ v. GivesOfTwo op left.now right.now v) }
-    ensures fits { IfOk result (λ _. IsFirstOfTwo op left.now right.now None) }
-    ensures fault { IfErr result (OnFormula (λ f. IsFirstOfTwo op left.now right.now (Some f))) }
+    ensures fits { IfOk result (λ _. IsFirst (entries_of_two op left.now right.now) None) }
+    ensures fault { IfErr result (OnFormula (λ f. IsFirst (entries_of_two op left.now right.now) (Some f))) }
 {
     match op {
         Op::And => Ok(known(conjunction(truth_of(left), truth_of(right)))),

@@ -1,7 +1,7 @@
 //! Operands of which one at least is temporal.
 ghost use Rattle.std.specs.Prelude.{◌≡◌, ◌||◌, true, IfSome, option_map};
-ghost use Rattle.mob_slice.specs.Operands.{is_moving};
-ghost use Rattle.mob_eval.specs.Lifted.{truth_pair, number_pair, text_pair, courses};
+ghost use Rattle.mob_slice.specs.Sides.{operand_of, has_slices};
+ghost use Rattle.mob_eval.specs.Lifted.{truth_pair, number_pair, text_pair, operands_of};
 
 use mob_frac::Frac;
 use mob_list::text::Text;
@@ -13,8 +13,8 @@ type Pair<'a, B> = (Operand<'a, Steady<B>>, Operand<'a, Steady<B>>);
 
 /// Two truth values. None where none is temporal, or one is no truth value.
 pub fn truth_pair<'a>(left: &'a Value, right: &'a Value) -> Option<Pair<'a, bool>>
-    ensures courses { option_map courses result ≡ truth_pair left.now right.now }
-    ensures moving { IfSome result (λ p. (is_moving p.0 || is_moving p.1) ≡ true) }
+    ensures operands { option_map operands_of result ≡ truth_pair left.now right.now }
+    ensures moving { IfSome result (λ p. (has_slices (operand_of p.0) || has_slices (operand_of p.1)) ≡ true) }
 {
     match (left, right) {
         (Value::MovingBool(a), Value::MovingBool(b)) => Some((
@@ -29,8 +29,8 @@ pub fn truth_pair<'a>(left: &'a Value, right: &'a Value) -> Option<Pair<'a, bool
 
 /// Two numbers. None where none is temporal, or one is no number.
 pub fn number_pair<'a>(left: &'a Value, right: &'a Value) -> Option<Pair<'a, Frac>>
-    ensures courses { option_map courses result ≡ number_pair left.now right.now }
-    ensures moving { IfSome result (λ p. (is_moving p.0 || is_moving p.1) ≡ true) }
+    ensures operands { option_map operands_of result ≡ number_pair left.now right.now }
+    ensures moving { IfSome result (λ p. (has_slices (operand_of p.0) || has_slices (operand_of p.1)) ≡ true) }
 {
     match (left, right) {
         (Value::MovingInt(a), Value::MovingInt(b)) => Some((
@@ -45,8 +45,8 @@ pub fn number_pair<'a>(left: &'a Value, right: &'a Value) -> Option<Pair<'a, Fra
 
 /// Two texts. None where none is temporal, or one is no text.
 pub fn text_pair<'a>(left: &'a Value, right: &'a Value) -> Option<Pair<'a, Text>>
-    ensures courses { option_map courses result ≡ text_pair left.now right.now }
-    ensures moving { IfSome result (λ p. (is_moving p.0 || is_moving p.1) ≡ true) }
+    ensures operands { option_map operands_of result ≡ text_pair left.now right.now }
+    ensures moving { IfSome result (λ p. (has_slices (operand_of p.0) || has_slices (operand_of p.1)) ≡ true) }
 {
     match (left, right) {
         (Value::MovingText(a), Value::MovingText(b)) => Some((

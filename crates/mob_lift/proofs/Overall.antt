@@ -32,11 +32,11 @@ module _ {A X B Y D Z V : Type 0} (value : A → Ratio → Ratio → Ratio → X
   lifted_values a b m gives ps slices e gave h = record {
     ordered = h.ordered;
     values = λ t.
-      let f : PieceOf (SideOf A X) (SideOf B Y) → Z = λ q. on_sides value value' op q t in
-      mapped_at h (λ p t. on_sides value value' op (piece_of p) t) (λ p v t k i. (gave p v i).values t k) t
-      ∙ sym (ap (option_map f) (map_at span (λ q. q.span) piece_of (λ p. refl) ps t) ∙ twice piece_of f (part_at span ps t))
-      ∙ ap (λ qs. option_map f (part_at (λ q. q.span) qs t)) (sym e)
-      ∙ pieces_value op value value' a b m t;
+        let f : PieceOf (SideOf A X) (SideOf B Y) → Z = λ q. on_sides value value' op q t in
+        mapped_at h (λ p t. on_sides value value' op (piece_of p) t) (λ p v t k i. (gave p v i).values t k) t
+        ∙ sym (ap (option_map f) (map_at span (λ q. q.span) piece_of (λ p. refl) ps t) ∙ twice piece_of f (part_at span ps t))
+        ∙ ap (λ qs. option_map f (part_at (λ q. q.span) qs t)) (sym e)
+        ∙ pieces_value op value value' a b m t;
   }
 
   -- Where the closure gave the operation on each piece, or the formula of the first entry of that piece, the whole is the
@@ -50,6 +50,6 @@ module _ {A X B Y D Z V : Type 0} (value : A → Ratio → Ratio → Ratio → X
   whole entries rest list walk a b m e gives fails r gave failed h k = (
     IfOk-weaker r _ _ (λ all n. lifted_values a b m gives n.0 (list all) (sym e ∙ drained piece_of rest walk n.0 n.1) (λ p v i. (gave p v i).0) n.2) h,
     subst (λ qs. IsJudged (flat_map entries qs) r) e
-    (judged piece_of rest items gives fails entries walk r (λ p v i. (gave p v i).1) failed
-    (IfOk-weaker r _ _ (λ all n. (n.0, n.1, list all, n.2.made)) h) k),
+        (judged piece_of rest items gives fails entries walk r (λ p v i. (gave p v i).1) failed
+        (IfOk-weaker r _ _ (λ all n. (n.0, n.1, list all, n.2.made)) h) k),
   )

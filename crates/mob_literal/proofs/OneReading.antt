@@ -1,5 +1,5 @@
 -- A literal has one reading, and so has the text of an SQL value.
-use Rattle.std.proofs.Common.{◌≡◌, ℕ, ℤ, List, Bool, Option, Some, None, refl, sym}
+use Rattle.std.proofs.Common.{◌≡◌, ℕ, ℤ, List, Bool, false, Option, Some, None, refl, sym}
 use Rattle.std.specs.Prelude.{◌↔◌, IsTrue, MatchOption}
 use Rattle.mob_language.specs.Readers.{TextReader}
 use Rattle.mob_language.proofs.Exact.{one_value}
@@ -26,7 +26,7 @@ one_option (Some x) p h = sym ((h x).0 refl)
 -- sequences define one value
 one_defined : {B : Type 0} (is_same : B → B → Bool) → ((a b : B) → IsTrue (is_same a b) ↔ (a ≡ b)) → (qs : List (Sequence (Written B))) (v w : List (Slice (Steady B))) → Defines is_same qs v → Defines is_same qs w → v ≡ w
 one_defined {B} is_same exact qs v w p q =
-    unique (steady_laws is_same exact) v w p.normal.chained q.normal.chained
+    unique (steady_laws false is_same exact) v w p.normal.chained q.normal.chained
     (λ t. one_option (value_at steady_value v t) (value_at steady_value w t)
     (λ x. (λ e. (q.same t x).1 ((p.same t x).0 e), λ e. (p.same t x).1 ((q.same t x).0 e))))
 

@@ -78,8 +78,8 @@ module _ {C B : Type 0} {steady copies : Bool} {value : C → Ratio → Ratio �
         sound = record {
           some = k;
           level = λ n.
-            let at : r.lower ≡ r.upper = before-neither r.lower r.upper n (let u = some_upto r k in grind (arith, u)) in
-            laws.start_made a b c ∙ e ∙ ap (λ t. value s.course s.span.lower s.span.upper t) at ∙ sym f ∙ sym (laws.end_made a b c);
+              let at : r.lower ≡ r.upper = before-neither r.lower r.upper n (let u = some_upto r k in grind (arith, u)) in
+              laws.start_made a b c ∙ e ∙ ap (λ t. value s.course s.span.lower s.span.upper t) at ∙ sym f ∙ sym (laws.end_made a b c);
         };
         from = laws.start_made a b c ∙ e;
         to = laws.end_made a b c ∙ f;

@@ -4,8 +4,8 @@ ghost use Rattle.mob_slice.specs.Entries.{OneFirst};
 ghost use Rattle.mob_slice.specs.Wholes.{ContinuesAsOne, TwoInstantsFix};
 
 use crate::{
-    Course, Formula, Gaps, LookFault, Moving, One, OpFault, Operand, Pair, Passed, Piece, Rel, Side,
-    Slice, Steady,
+    Course, Formula, Gaps, LookFault, Moving, One, OpFault, Operand, Pair, Passed, Piece, Rel,
+    Side, Slice, Steady,
 };
 use mob_list::laws::crosses_threads;
 use std::marker::{Send, Sync};

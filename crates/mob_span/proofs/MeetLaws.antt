@@ -57,6 +57,7 @@ module _ {X Y : Type 0} (span : X → SpanOf) (span' : Y → SpanOf) where
     where
       m : SpanOf
       m = meet_of (span x) (span' y)
+
       by : PartsClear (λ p. p.span) (row span span' x w ++ ps) → (b : Bool) → has_instant m ≡ b → PartsClear (λ p. p.span) (map (λ z. piece span span' x z) (cond b (y ∷ filter (λ z. has_instant (meet_of (span x) (span' z))) w) (filter (λ z. has_instant (meet_of (span x) (span' z))) w)) ++ ps)
       by ih true e =
           let first = row_clear m x w (later span' (span' y) m w (λ s i. meet_clear' (span x) (span' y) s i) (all_after span' y w h)) in
@@ -88,12 +89,15 @@ module _ {X Y : Type 0} (span : X → SpanOf) (span' : Y → SpanOf) where
     where
       m : SpanOf
       m = meet_of (span x) (span' y)
+
       here : (k : Bool) → has (span' y) t ≡ k → has m t ≡ (b && k)
       here k j = meet_has (span x) (span' y) t ∙ (rw (i, j) refl)
+
       pick : (b k : Bool) (o : Option (PieceOf X Y)) → o ≡ cond b (option_map (λ y. piece span span' x y) (part_at span' w t)) None → cond (b && k) (Some (piece span span' x y)) o ≡ cond b (option_map (λ y. piece span span' x y) (cond k (Some y) (part_at span' w t))) None
       pick true true o e = refl
       pick true false o e = e
       pick false k o e = e
+
       by : part_at (λ p. p.span) (row span span' x w) t ≡ cond b (option_map (λ y. piece span span' x y) (part_at span' w t)) None → (s k : Bool) → has_instant m ≡ s → has (span' y) t ≡ k → part_at (λ p. p.span) (map (λ z. piece span span' x z) (cond s (y ∷ filter (λ z. has_instant (meet_of (span x) (span' z))) w) (filter (λ z. has_instant (meet_of (span x) (span' z))) w))) t ≡ cond b (option_map (λ y. piece span span' x y) (cond k (Some y) (part_at span' w t))) None
       by ih true k e j = rw (here k j) (pick b k (part_at (λ p. p.span) (row span span' x w) t) ih)
       by ih false k e j =
@@ -108,6 +112,7 @@ module _ {X Y : Type 0} (span : X → SpanOf) (span' : Y → SpanOf) where
     where
       rest : Option (PieceOf X Y)
       rest = part_at (λ p. p.span) (meets span span' v w) t
+
       by : (b : Bool) (o : Option Y) → option_map sides rest ≡ both (part_at span v t) o → option_map sides (or_else (cond b (option_map (λ y. piece span span' x y) o) None) rest) ≡ both (cond b (Some x) (part_at span v t)) o
       by true None h = h ∙ both-none (part_at span v t)
       by true (Some y) h = refl

@@ -1,29 +1,40 @@
-use Rattle.std.proofs.Common.{rules, ◌∙◌}
-use Rattle.std.proofs.lemmas.Result.{IfOk-weaker}
-use Rattle.mob_slice.specs.Slices.{value_at}
-use Rattle.mob_sync.proofs.Sides.{left_fixed, right_fixed}
+use Rattle.std.proofs.Common.{rules, subst, Ok, Err, Vec, Global, Bool, []}
+use Rattle.mob_slice.specs.Sides.{piece_of, operand_of, pieces, HoldsPiece}
+use Rattle.mob_slice.specs.declared.slice.Slice.{Slice}
+use Rattle.mob_slice.specs.declared.formula.OpFault.TheVariants.{Passed}
+use Rattle.mob_slice.proofs.Yielded.{clear_along, all_along}
+use Rattle.mob_lift.specs.Pieces.{pieces_left}
+use Rattle.mob_lift.specs.Given.{IsGiven, on_sides}
+use Rattle.mob_lift.proofs.Overall.{whole}
+use Rattle.mob_slice.specs.Operands.{steady_value, steady_limit}
+use Rattle.mob_slice.specs.declared.steady.Steady.{Steady}
+use Rattle.mob_lift.proofs.OnPieces.{memory_only}
 use Rattle.mob_compare.proofs.steps.truths_of.Goals as goal
 
-pub returns-in-Moving-Moving : goal.returns-in-Moving-Moving
-returns-in-Moving-Moving g c = rw (c.in-Moving-Moving.is-0, c.in-Moving-Moving.is-1) (record { truths = c.on_both.ensures.truths; fault = c.on_both.ensures.fault })
+pub lift-requires-clause-clear : goal.lift-requires-clause-clear
+lift-requires-clause-clear g c = clear_along piece_of pieces_left (λ p. p.span) c.new.result c.new.ensures.clear
 
-pub returns-in-Moving-Fixed : goal.returns-in-Moving-Fixed
-returns-in-Moving-Fixed g c =
-    let op = g.C.Compared.relation c.args.rel in
-    let at = value_at g.C.Course.value_of c.in-Moving-Fixed.a.now in
-    let fixed = c.in-Moving-Fixed.b.now in
-    rw (c.in-Moving-Fixed.is-0, c.in-Moving-Fixed.is-1) (record {
-      truths = IfOk-weaker c.on_one.result _ _ (λ all h. record { ordered = h.ordered; value = λ t. h.value t ∙ right_fixed op (at t) fixed }) (c.on_one.ensures.truths (λ x. op x fixed) (λ x b r. search rules));
-      fault = c.on_one.ensures.fault;
-    })
+pub lift-requires-clause-fit : goal.lift-requires-clause-fit
+lift-requires-clause-fit g c = all_along piece_of pieces_left (HoldsPiece g.C.Course.start_of g.C.Course.end_of g.C.Course.start_of g.C.Course.end_of) c.new.result c.new.ensures.hold
 
-pub returns-in-Fixed-Moving : goal.returns-in-Fixed-Moving
-returns-in-Fixed-Moving g c =
-    let op = g.C.Compared.relation c.args.rel in
-    let fixed = c.in-Fixed-Moving.a.now in
-    let at = value_at g.C.Course.value_of c.in-Fixed-Moving.b.now in
-    let call = c.on_one-in-Fixed-Moving in
-    rw (c.in-Fixed-Moving.is-0, c.in-Fixed-Moving.is-1) (record {
-      truths = IfOk-weaker call.result _ _ (λ all h. record { ordered = h.ordered; value = λ t. h.value t ∙ left_fixed op fixed (at t) }) (call.ensures.truths (λ y. op fixed y) (λ y b r. search rules));
-      fault = call.ensures.fault;
-    })
+pub lift-requires-clause-sound : goal.lift-requires-clause-sound
+lift-requires-clause-sound g c = λ p v s h k.
+    let at : IsGiven {V = Vec (Slice (Steady Bool)) Global} steady_value steady_limit steady_limit (λ v. v.items) (on_sides g.C.Course.value_of g.C.Course.value_of (g.C.Compared.relation c.args.rel) (piece_of k.shown.now)) k.shown.now.span [] (Ok v) = search rules in
+    let on = (subst (λ z. IsGiven {V = Vec (Slice (Steady Bool)) Global} steady_value steady_limit steady_limit (λ v. v.items) (on_sides g.C.Course.value_of g.C.Course.value_of (g.C.Compared.relation c.args.rel) (piece_of z)) z.span [] (Ok v)) k.shows at).0 in
+    (on.ordered, on.inside)
+
+pub returns-clause-slices : goal.returns-clause-slices
+returns-clause-slices g c =
+    (whole g.C.Course.value_of g.C.Course.value_of steady_value steady_limit steady_limit (λ v. v.items) (g.C.Compared.relation c.args.rel) (λ p. []) pieces_left (λ v. v.items) c.new.result (operand_of c.args.a) (operand_of c.args.b) c.requires.moving c.new.ensures.all _ _ c.lift.result (λ p v k.
+    let at : IsGiven {V = Vec (Slice (Steady Bool)) Global} steady_value steady_limit steady_limit (λ v. v.items) (on_sides g.C.Course.value_of g.C.Course.value_of (g.C.Compared.relation c.args.rel) (piece_of k.1.shown.now)) k.1.shown.now.span [] (Ok v) = search rules in
+    subst (λ z. IsGiven {V = Vec (Slice (Steady Bool)) Global} steady_value steady_limit steady_limit (λ v. v.items) (on_sides g.C.Course.value_of g.C.Course.value_of (g.C.Compared.relation c.args.rel) (piece_of z)) z.span [] (Ok v)) k.1.shows at) (λ f p k.
+    let at : IsGiven {V = Vec (Slice (Steady Bool)) Global} steady_value steady_limit steady_limit (λ v. v.items) (on_sides g.C.Course.value_of g.C.Course.value_of (g.C.Compared.relation c.args.rel) (piece_of k.1.shown.now)) k.1.shown.now.span [] (Err (Passed f)) = search rules in
+    subst (λ z. IsGiven {V = Vec (Slice (Steady Bool)) Global} steady_value steady_limit steady_limit (λ v. v.items) (on_sides g.C.Course.value_of g.C.Course.value_of (g.C.Compared.relation c.args.rel) (piece_of z)) z.span [] (Err (Passed f))) k.1.shows at) c.lift.ensures.lifted c.lift.ensures.passed).0
+
+pub returns-clause-memory : goal.returns-clause-memory
+returns-clause-memory g c =
+    memory_only (pieces (operand_of c.args.a) (operand_of c.args.b)) c.lift.result (whole g.C.Course.value_of g.C.Course.value_of steady_value steady_limit steady_limit (λ v. v.items) (g.C.Compared.relation c.args.rel) (λ p. []) pieces_left (λ v. v.items) c.new.result (operand_of c.args.a) (operand_of c.args.b) c.requires.moving c.new.ensures.all _ _ c.lift.result (λ p v k.
+    let at : IsGiven {V = Vec (Slice (Steady Bool)) Global} steady_value steady_limit steady_limit (λ v. v.items) (on_sides g.C.Course.value_of g.C.Course.value_of (g.C.Compared.relation c.args.rel) (piece_of k.1.shown.now)) k.1.shown.now.span [] (Ok v) = search rules in
+    subst (λ z. IsGiven {V = Vec (Slice (Steady Bool)) Global} steady_value steady_limit steady_limit (λ v. v.items) (on_sides g.C.Course.value_of g.C.Course.value_of (g.C.Compared.relation c.args.rel) (piece_of z)) z.span [] (Ok v)) k.1.shows at) (λ f p k.
+    let at : IsGiven {V = Vec (Slice (Steady Bool)) Global} steady_value steady_limit steady_limit (λ v. v.items) (on_sides g.C.Course.value_of g.C.Course.value_of (g.C.Compared.relation c.args.rel) (piece_of k.1.shown.now)) k.1.shown.now.span [] (Err (Passed f)) = search rules in
+    subst (λ z. IsGiven {V = Vec (Slice (Steady Bool)) Global} steady_value steady_limit steady_limit (λ v. v.items) (on_sides g.C.Course.value_of g.C.Course.value_of (g.C.Compared.relation c.args.rel) (piece_of z)) z.span [] (Err (Passed f))) k.1.shows at) c.lift.ensures.lifted c.lift.ensures.passed).1
