@@ -13,7 +13,7 @@ use Rattle.mob_span.specs.Chained.{OfHead}
 use Rattle.mob_span.specs.Parts.{part_at, PartsClear}
 use Rattle.mob_span.proofs.Shared.{AllClear, all_after, later, piece, row}
 
-both-none : {A B : Type 0} (x : Option A) → both {B = B} x None ≡ None
+both-none : {A B : Type 0} (x : Option A) → both {Y = B} x None ≡ None
 both-none None = refl
 both-none (Some x) = refl
 
