@@ -61,9 +61,13 @@ pub fn operate<A: Course, B: Course, O: Operation<A::Base, B::Base>>(
     requires moving { (has_slices (operand_of a) || has_slices (operand_of b)) ≡ true }
     ensures value { IfOk result (λ r. IsPointwise steady_value O.result_of (given_at A.value_of (operand_of a.entry)) (given_at B.value_of (operand_of b.entry)) r) }
 {
-    match steps_of::<A, B, O>(alloc, a, b) {
-        Ok(slices) => normal(alloc, slices),
-        Err(OpFault::NoMemory) => Err(AllocError),
+    let slices = match steps_of::<A, B, O>(alloc, a, b) {
+        Ok(slices) => slices,
+        Err(OpFault::NoMemory) => return Err(AllocError),
         Err(OpFault::Passed { .. }) => unreachable!(),
+    };
+    match normal(alloc, slices) {
+        Ok(value) => Ok(value),
+        Err(_) => Err(AllocError),
     }
 }
