@@ -4,7 +4,7 @@ use Rattle.std.specs.List.{flat_map}
 use Rattle.std.proofs.lemmas.List.{drop_more, drop_all}
 use Rattle.std.proofs.lemmas.Bool.{cases_lt}
 use Rattle.std.proofs.lemmas.List.Folds.{flat_map-map}
-use Rattle.mob_accept.specs.Least.{earlier, least, IsAmong, NoneBefore, IsFirst, LeastIsFirst}
+use Rattle.mob_accept.specs.Least.{earlier, least, IsAmong, NoneBefore, IsLeast, LeastIsFirst}
 
 pub earlier_none : (p : Option ℕ) → earlier p None ≡ p
 earlier_none None = refl
@@ -53,7 +53,7 @@ none_earlier : (a b : ℕ) (ps : List ℕ) → a ≤ b → NoneBefore b ps → N
 none_earlier a b [] le none = tt
 none_earlier a b (p ∷ ps) le none = (omega (arith, none.0), none_earlier a b ps le none.1)
 
-first_step : (p : ℕ) (ps : List ℕ) (o : Option ℕ) → IsFirst o ps → IsFirst (earlier (Some p) o) (p ∷ ps)
+first_step : (p : ℕ) (ps : List ℕ) (o : Option ℕ) → IsLeast o ps → IsLeast (earlier (Some p) o) (p ∷ ps)
 first_step p ps None empty = (inl refl, (omega arith, rw empty tt))
 first_step p ps (Some q) first = elim (cases_lt q p) [
   | inl less ↦ let is : min p q ≡ q = omega arith in (inr (subst (λ (x : ℕ). IsAmong x ps) (sym is) first.0), (omega arith, subst (λ (x : ℕ). NoneBefore x ps) (sym is) first.1))

@@ -23,10 +23,10 @@ NoneBefore p [] = Unit {0}
 NoneBefore p (q ∷ qs) = (p ≤ q) × NoneBefore p qs
 
 -- one of these before which there is none, or nothing where there are none
-abbrev pub IsFirst : Option ℕ → List ℕ → Type 0
-IsFirst None ps = ps ≡ []
-IsFirst (Some p) ps = IsAmong p ps × NoneBefore p ps
+abbrev pub IsLeast : Option ℕ → List ℕ → Type 0
+IsLeast None ps = ps ≡ []
+IsLeast (Some p) ps = IsAmong p ps × NoneBefore p ps
 
 -- the least of some places is one of them, and none of them is before it
 abbrev pub LeastIsFirst : Type 0
-LeastIsFirst = (ps : List ℕ) → IsFirst (least ps) ps
+LeastIsFirst = (ps : List ℕ) → IsLeast (least ps) ps

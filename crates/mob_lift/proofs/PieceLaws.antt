@@ -5,7 +5,7 @@ use Rattle.std.proofs.Common.{ap, sym, ◌∙◌, subst, true≢false}
 use Rattle.mob_ratio.specs.Ratio.{Ratio}
 use Rattle.mob_span.specs.Span.{SpanOf, has, has_instant}
 use Rattle.mob_span.specs.Neighbours.{is_clear, is_inside}
-use Rattle.mob_span.specs.Meets.{PieceOf, meets}
+use Rattle.mob_span.specs.Meets.{PieceOf, shared_pieces}
 use Rattle.mob_span.proofs.Insides.{inside_self}
 use Rattle.mob_slice.specs.Slices.{OfHead, IsSound, value_at}
 use Rattle.mob_slice.proofs.Orders.{ordered-clear, all_sound}
@@ -14,8 +14,8 @@ use Rattle.mob_slice.specs.Operands.{map_both}
 use Rattle.mob_slice.specs.Cut.{slice_value}
 use Rattle.mob_slice.specs.Sides.{SideOf, Moves, Stays, OperandOf, Slices, Base, pieces, side_at, has_slices, given_at, HoldsSide, HoldsPiece}
 use Rattle.mob_slice.specs.declared.slice.Slice.{Slice}
-use Rattle.mob_lift.specs.Pieces.{AreInOrder, AreSound, IsFront}
-use Rattle.mob_span.specs.Meets.{both}
+use Rattle.mob_lift.specs.Pieces.{AreInOrder, AreSound, IsOperandFront}
+use Rattle.mob_span.specs.Meets.{both_there}
 use Rattle.mob_span.proofs.MeetLaws.{meets_clear, meets_at, meets_hold, HoldsBoth, sides}
 
 pub sound_order : {C B : Type 0} (start end : C → B) (o : OperandOf C B) → AreSound start end o → AreInOrder o
@@ -46,7 +46,7 @@ map_all f R S g (p ∷ ps) h = (g p h.0, map_all f R S g ps h.1)
 
 -- The pieces of two operands are ordered and disjoint, and each has an instant.
 pub pieces_clear : {A X B Y : Type 0} (a : OperandOf A X) (b : OperandOf B Y) → AreInOrder a → AreInOrder b → PartsClear (λ p. p.span) (pieces a b)
-pieces_clear (Slices v) (Slices w) h k = map_clear (λ p. p.span) (λ p. p.span) (λ p. record { span = p.span; left = Moves p.left; right = Moves p.right }) (λ p. refl) (meets (λ s. s.span) (λ s. s.span) v w) (meets_clear (λ s. s.span) (λ s. s.span) v w h k)
+pieces_clear (Slices v) (Slices w) h k = map_clear (λ p. p.span) (λ p. p.span) (λ p. record { span = p.span; left = Moves p.left; right = Moves p.right }) (λ p. refl) (shared_pieces (λ s. s.span) (λ s. s.span) v w) (meets_clear (λ s. s.span) (λ s. s.span) v w h k)
 pieces_clear (Slices v) (Base b) h k = map_clear (λ s. s.span) (λ p. p.span) (λ s. record { span = s.span; left = Moves s; right = Stays b }) (λ s. refl) v h
 pieces_clear (Base a) (Slices w) h k = map_clear (λ s. s.span) (λ p. p.span) (λ s. record { span = s.span; left = Stays a; right = Moves s }) (λ s. refl) w k
 pieces_clear (Base a) (Base b) h k = tt
@@ -54,7 +54,7 @@ pieces_clear (Base a) (Base b) h k = tt
 -- The slices of each piece hold its span.
 pub pieces_hold : {A X B Y : Type 0} (start end : A → X) (start' end' : B → Y) (a : OperandOf A X) (b : OperandOf B Y) → AreSound start end a → AreSound start' end' b → AllByRecursion (HoldsPiece start end start' end') (pieces a b)
 pieces_hold start end start' end' (Slices v) (Slices w) h k =
-    map_all (λ p. record { span = p.span; left = Moves p.left; right = Moves p.right }) (HoldsBoth (λ s. s.span) (λ s. s.span) (IsSound start end) (IsSound start' end')) (HoldsPiece start end start' end') (λ p m. m) (meets (λ s. s.span) (λ s. s.span) v w)
+    map_all (λ p. record { span = p.span; left = Moves p.left; right = Moves p.right }) (HoldsBoth (λ s. s.span) (λ s. s.span) (IsSound start end) (IsSound start' end')) (HoldsPiece start end start' end') (λ p m. m) (shared_pieces (λ s. s.span) (λ s. s.span) v w)
     (meets_hold (λ s. s.span) (λ s. s.span) (IsSound start end) (IsSound start' end') v w (all_sound start end v h) (all_sound start' end' w k))
 pieces_hold start end start' end' (Slices v) (Base b) h k = map_all (λ s. record { span = s.span; left = Moves s; right = Stays b }) (IsSound start end) (HoldsPiece start end start' end') (λ s m. ((m, inside_self s.span), tt)) v (all_sound start end v h)
 pieces_hold start end start' end' (Base a) (Slices w) h k = map_all (λ s. record { span = s.span; left = Stays a; right = Moves s }) (IsSound start' end') (HoldsPiece start end start' end') (λ s m. (tt, (m, inside_self s.span))) w (all_sound start' end' w k)
@@ -73,7 +73,7 @@ twice f g None = refl
 twice f g (Some x) = refl
 
 module _ {X Y Z : Type 0} (op : X → Y → Z) where
-  pub both_map : {A B : Type 0} (f : A → X) (g : B → Y) (a : Option A) (b : Option B) → option_map (λ (p : A × B). op (f p.0) (g p.1)) (both a b) ≡ map_both op (option_map f a) (option_map g b)
+  pub both_map : {A B : Type 0} (f : A → X) (g : B → Y) (a : Option A) (b : Option B) → option_map (λ (p : A × B). op (f p.0) (g p.1)) (both_there a b) ≡ map_both op (option_map f a) (option_map g b)
   both_map f g None b = refl
   both_map f g (Some a) None = refl
   both_map f g (Some a) (Some b) = refl
@@ -96,7 +96,7 @@ module _ {X Y Z : Type 0} (op : X → Y → Z) where
     pieces_value (Slices v) (Slices w) m t =
         let f : PieceOf (Slice A) (Slice B) → PieceOf (SideOf A X) (SideOf B Y) = λ p. record { span = p.span; left = Moves p.left; right = Moves p.right } in
         let h : Slice A × Slice B → Z = λ p. op (slice_value value p.0 t) (slice_value value' p.1 t) in
-        let ps = meets (λ s. s.span) (λ s. s.span) v w in
+        let ps = shared_pieces (λ s. s.span) (λ s. s.span) v w in
         ap (option_map (sides_value t)) (map_at (λ p. p.span) (λ p. p.span) f (λ p. refl) ps t)
         ∙ twice f (sides_value t) (part_at (λ p. p.span) ps t)
         ∙ sym (twice (sides (λ s. s.span) (λ s. s.span)) h (part_at (λ p. p.span) ps t))

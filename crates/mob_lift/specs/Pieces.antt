@@ -24,7 +24,7 @@ AreSound start end (Slices v) = IsOrdered start end v
 AreSound start end (Base b) = Unit {0}
 
 -- a front is a whole operand, whose slices are in order and sound
-pub record IsFront {C B : Type 0} (start end : C → B) (operand front : OperandOf C B) : Type 0 where
+pub record IsOperandFront {C B : Type 0} (start end : C → B) (operand front : OperandOf C B) : Type 0 where
   pub same : front ≡ operand
   pub sound : AreSound start end front
 

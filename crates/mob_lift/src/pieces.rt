@@ -3,7 +3,7 @@ ghost use Rattle.std.specs.List.{AllByRecursion};
 ghost use Rattle.std.specs.Iterator.{YieldsFirstBy, item_count};
 ghost use Rattle.mob_span.specs.Parts.{PartsClear};
 ghost use Rattle.mob_slice.specs.Sides.{operand_of, pieces, piece_of, HoldsPiece};
-ghost use Rattle.mob_lift.specs.Pieces.{CanGo, pieces_left, operand_left, IsFront};
+ghost use Rattle.mob_lift.specs.Pieces.{CanGo, pieces_left, operand_left, IsOperandFront};
 
 use mob_slice::{Course, Operand, Piece, Side, Slice};
 use mob_span::SharedPieces;
@@ -27,7 +27,7 @@ pub struct Pieces<'a, A: Course, B: Course> {
 
 // An operand from its front.
 fn front_of<'a, C: Course>(operand: Operand<'a, C>) -> Front<'a, C>
-    ensures front { IsFront C.start_of C.end_of (operand_of operand.entry) (operand_left result) }
+    ensures front { IsOperandFront C.start_of C.end_of (operand_of operand.entry) (operand_left result) }
 {
     match operand {
         Operand::Moving(value) => Front::Slices(value.slices()),

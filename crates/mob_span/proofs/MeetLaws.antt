@@ -6,16 +6,16 @@ use Rattle.mob_ratio.specs.Ratio.{Ratio}
 use Rattle.mob_span.specs.Span.{SpanOf, has, has_instant}
 use Rattle.mob_span.specs.Neighbours.{is_clear, is_inside}
 use Rattle.mob_span.specs.Meet.{meet_of}
-use Rattle.mob_span.specs.Meets.{PieceOf, meets, both}
+use Rattle.mob_span.specs.Meets.{PieceOf, shared_pieces, both_there}
 use Rattle.mob_span.proofs.SpanLemmas.{meet_has, no_instant}
 use Rattle.mob_span.proofs.Insides.{clear_meet, clear_meet', meet_clear, meet_clear', meet_left, meet_right}
 use Rattle.mob_span.specs.Chained.{OfHead}
 use Rattle.mob_span.specs.Parts.{part_at, PartsClear}
 use Rattle.mob_span.proofs.Shared.{AllClear, all_after, later, piece, row}
 
-both-none : {A B : Type 0} (x : Option A) → both {Y = B} x None ≡ None
-both-none None = refl
-both-none (Some x) = refl
+both_there-none : {A B : Type 0} (x : Option A) → both_there {Y = B} x None ≡ None
+both_there-none None = refl
+both_there-none (Some x) = refl
 
 abbrev or_else : {B : Type 0} → Option B → Option B → Option B
 or_else None y = y
@@ -47,9 +47,9 @@ module _ {X Y : Type 0} (span : X → SpanOf) (span' : Y → SpanOf) where
       by ih false = ih
 
   -- what is before all of the first list is before all pieces
-  meets_after : (q : SpanOf) (v : List X) (w : List Y) → AllClear span q v → AllClear (λ p. p.span) q (meets span span' v w)
+  meets_after : (q : SpanOf) (v : List X) (w : List Y) → AllClear span q v → AllClear (λ p. p.span) q (shared_pieces span span' v w)
   meets_after q [] w h = tt
-  meets_after q (x ∷ v) w h = all_joined (λ p. p.span) q (row span span' x w) (meets span span' v w) (row_after q x w h.0) (meets_after q v w h.1)
+  meets_after q (x ∷ v) w h = all_joined (λ p. p.span) q (row span span' x w) (shared_pieces span span' v w) (row_after q x w h.0) (meets_after q v w h.1)
 
   row_joined : (x : X) (w : List Y) (ps : List (PieceOf X Y)) → PartsClear span' w → PartsClear (λ p. p.span) ps → AllClear (λ p. p.span) (span x) ps → PartsClear (λ p. p.span) (row span span' x w ++ ps)
   row_joined x [] ps h k l = k
@@ -66,9 +66,9 @@ module _ {X Y : Type 0} (span : X → SpanOf) (span' : Y → SpanOf) where
       by ih false e = ih
 
   -- The pieces are ordered and disjoint, and each has an instant.
-  pub meets_clear : (v : List X) (w : List Y) → PartsClear span v → PartsClear span' w → PartsClear (λ p. p.span) (meets span span' v w)
+  pub meets_clear : (v : List X) (w : List Y) → PartsClear span v → PartsClear span' w → PartsClear (λ p. p.span) (shared_pieces span span' v w)
   meets_clear [] w h k = tt
-  meets_clear (x ∷ v) w h k = row_joined x w (meets span span' v w) k (meets_clear v w h.2 k) (meets_after (span x) v w (all_after span x v h))
+  meets_clear (x ∷ v) w h k = row_joined x w (shared_pieces span span' v w) k (meets_clear v w h.2 k) (meets_after (span x) v w (all_after span x v h))
 
   -- the two of a piece
   abbrev pub sides : PieceOf X Y → X × Y
@@ -106,15 +106,15 @@ module _ {X Y : Type 0} (span : X → SpanOf) (span' : Y → SpanOf) where
           sym q ∙ pick b k (part_at (λ p. p.span) (row span span' x w) t) ih
 
   -- At each instant the piece there has the two that the lists have there, and there is no piece where one of them has none.
-  pub meets_at : (v : List X) (w : List Y) (t : Ratio) → option_map sides (part_at (λ p. p.span) (meets span span' v w) t) ≡ both (part_at span v t) (part_at span' w t)
+  pub meets_at : (v : List X) (w : List Y) (t : Ratio) → option_map sides (part_at (λ p. p.span) (shared_pieces span span' v w) t) ≡ both_there (part_at span v t) (part_at span' w t)
   meets_at [] w t = refl
-  meets_at (x ∷ v) w t = ap (option_map sides) (part_joined (row span span' x w) (meets span span' v w) t ∙ ap (λ o. or_else o (part_at (λ p. p.span) (meets span span' v w) t)) (row_at x w t (has (span x) t) refl)) ∙ by (has (span x) t) (part_at span' w t) (meets_at v w t)
+  meets_at (x ∷ v) w t = ap (option_map sides) (part_joined (row span span' x w) (shared_pieces span span' v w) t ∙ ap (λ o. or_else o (part_at (λ p. p.span) (shared_pieces span span' v w) t)) (row_at x w t (has (span x) t) refl)) ∙ by (has (span x) t) (part_at span' w t) (meets_at v w t)
     where
       rest : Option (PieceOf X Y)
-      rest = part_at (λ p. p.span) (meets span span' v w) t
+      rest = part_at (λ p. p.span) (shared_pieces span span' v w) t
 
-      by : (b : Bool) (o : Option Y) → option_map sides rest ≡ both (part_at span v t) o → option_map sides (or_else (cond b (option_map (λ y. piece span span' x y) o) None) rest) ≡ both (cond b (Some x) (part_at span v t)) o
-      by true None h = h ∙ both-none (part_at span v t)
+      by : (b : Bool) (o : Option Y) → option_map sides rest ≡ both_there (part_at span v t) o → option_map sides (or_else (cond b (option_map (λ y. piece span span' x y) o) None) rest) ≡ both_there (cond b (Some x) (part_at span v t)) o
+      by true None h = h ∙ both_there-none (part_at span v t)
       by true (Some y) h = refl
       by false o h = h
 
@@ -135,6 +135,6 @@ module _ {X Y : Type 0} (span : X → SpanOf) (span' : Y → SpanOf) where
         by ih true = (((h, meet_left (span x) (span' y)), (k.0, meet_right (span x) (span' y))), ih)
         by ih false = ih
 
-    pub meets_hold : (v : List X) (w : List Y) → AllByRecursion P v → AllByRecursion Q w → AllByRecursion HoldsBoth (meets span span' v w)
+    pub meets_hold : (v : List X) (w : List Y) → AllByRecursion P v → AllByRecursion Q w → AllByRecursion HoldsBoth (shared_pieces span span' v w)
     meets_hold [] w h k = tt
-    meets_hold (x ∷ v) w h k = all_both (row span span' x w) (meets span span' v w) (row_hold x w h.0 k) (meets_hold v w h.1 k)
+    meets_hold (x ∷ v) w h k = all_both (row span span' x w) (shared_pieces span span' v w) (row_hold x w h.0 k) (meets_hold v w h.1 k)

@@ -7,7 +7,7 @@ use Rattle.mob_ratio.specs.Ratio.{Ratio}
 use Rattle.mob_span.specs.Span.{SpanOf, has, has_instant}
 use Rattle.mob_span.specs.Neighbours.{is_clear}
 use Rattle.mob_span.specs.Meet.{ends_before, meet_of}
-use Rattle.mob_span.specs.Meets.{PieceOf, meets}
+use Rattle.mob_span.specs.Meets.{PieceOf, shared_pieces}
 use Rattle.mob_span.proofs.SpanLemmas.{meet_none}
 use Rattle.mob_span.proofs.Insides.{clear_trans, clear_has, ends_no_later, ends_sooner}
 use Rattle.mob_span.specs.Parts.{PartsClear}
@@ -60,11 +60,11 @@ module _ {X Y : Type 0} (span : X → SpanOf) (span' : Y → SpanOf) where
   row_none x [] h = refl
   row_none x (y ∷ w) h = rw (none_shared (span x) (span' y) h.0) (row_none x w h.1)
 
-  pub none_left : (v : List X) → meets span span' v [] ≡ []
+  pub none_left : (v : List X) → shared_pieces span span' v [] ≡ []
   none_left [] = refl
   none_left (x ∷ v) = none_left v
 
-  skip_right : (v : List X) (y : Y) (w : List Y) → AllClear span (span' y) v → meets span span' v (y ∷ w) ≡ meets span span' v w
+  skip_right : (v : List X) (y : Y) (w : List Y) → AllClear span (span' y) v → shared_pieces span span' v (y ∷ w) ≡ shared_pieces span span' v w
   skip_right [] y w h = refl
   skip_right (x ∷ v) y w h = rw (none_shared' (span x) (span' y) h.0, skip_right v y w h.1) refl
 
@@ -81,10 +81,10 @@ module _ {X Y : Type 0} (span : X → SpanOf) (span' : Y → SpanOf) where
 
   -- the first of the first list ends no later: nothing else meets it
   pub step_left : (x : X) (v : List X) (y : Y) (w : List Y) → ends_before (span' y) (span x) ≡ false → PartsClear span' (y ∷ w)
-      → meets span span' (x ∷ v) (y ∷ w) ≡ cond (has_instant (meet_of (span x) (span' y))) (piece x y ∷ meets span span' v (y ∷ w)) (meets span span' v (y ∷ w))
+      → shared_pieces span span' (x ∷ v) (y ∷ w) ≡ cond (has_instant (meet_of (span x) (span' y))) (piece x y ∷ shared_pieces span span' v (y ∷ w)) (shared_pieces span span' v (y ∷ w))
   step_left x v y w e o =
       let none : row x w ≡ [] = row_none x w (later span' (span' y) (span x) w (λ s k. ends_no_later (span x) (span' y) s e k) (all_after span' y w o)) in
-      ap (λ z. z ++ meets span span' v (y ∷ w)) (map_cond x y (filter (λ z. has_instant (meet_of (span x) (span' z))) w) (has_instant (meet_of (span x) (span' y)))) ∙ front x y (row x w) (meets span span' v (y ∷ w)) none
+      ap (λ z. z ++ shared_pieces span span' v (y ∷ w)) (map_cond x y (filter (λ z. has_instant (meet_of (span x) (span' z))) w) (has_instant (meet_of (span x) (span' y)))) ∙ front x y (row x w) (shared_pieces span span' v (y ∷ w)) none
 
   put_cond : (p : PieceOf X Y) (xs ys : List (PieceOf X Y)) (b : Bool) → cond b (p ∷ xs) xs ++ ys ≡ cond b (p ∷ xs ++ ys) (xs ++ ys)
   put_cond p xs ys true = refl
@@ -92,36 +92,36 @@ module _ {X Y : Type 0} (span : X → SpanOf) (span' : Y → SpanOf) where
 
   -- the first of the second list ends sooner: nothing else meets it
   pub step_right : (x : X) (v : List X) (y : Y) (w : List Y) → ends_before (span' y) (span x) ≡ true → PartsClear span (x ∷ v)
-      → meets span span' (x ∷ v) (y ∷ w) ≡ cond (has_instant (meet_of (span x) (span' y))) (piece x y ∷ meets span span' (x ∷ v) w) (meets span span' (x ∷ v) w)
+      → shared_pieces span span' (x ∷ v) (y ∷ w) ≡ cond (has_instant (meet_of (span x) (span' y))) (piece x y ∷ shared_pieces span span' (x ∷ v) w) (shared_pieces span span' (x ∷ v) w)
   step_right x v y w e o =
-      let skip : meets span span' v (y ∷ w) ≡ meets span span' v w = skip_right v y w (later span (span x) (span' y) v (λ s k. ends_sooner (span x) (span' y) s e k) (all_after span x v o)) in
-      ap (λ z. z ++ meets span span' v (y ∷ w)) (map_cond x y (filter (λ z. has_instant (meet_of (span x) (span' z))) w) (has_instant (meet_of (span x) (span' y)))) ∙ ap (λ z. cond (has_instant (meet_of (span x) (span' y))) (piece x y ∷ row x w) (row x w) ++ z) skip ∙ put_cond (piece x y) (row x w) (meets span span' v w) (has_instant (meet_of (span x) (span' y)))
+      let skip : shared_pieces span span' v (y ∷ w) ≡ shared_pieces span span' v w = skip_right v y w (later span (span x) (span' y) v (λ s k. ends_sooner (span x) (span' y) s e k) (all_after span x v o)) in
+      ap (λ z. z ++ shared_pieces span span' v (y ∷ w)) (map_cond x y (filter (λ z. has_instant (meet_of (span x) (span' z))) w) (has_instant (meet_of (span x) (span' y)))) ∙ ap (λ z. cond (has_instant (meet_of (span x) (span' y))) (piece x y ∷ row x w) (row x w) ++ z) skip ∙ put_cond (piece x y) (row x w) (shared_pieces span span' v w) (has_instant (meet_of (span x) (span' y)))
 
   -- one step of the walk, where the two share an instant, and where they do not
   module _ (v v' : List X) (w w' : List Y) (x : X) (y : Y) (e : v ≡ x ∷ v') (f : w ≡ y ∷ w') where
-    at_heads : meets span span' v w ≡ meets span span' (x ∷ v') (y ∷ w')
-    at_heads = ap (λ z. meets span span' z w) e ∙ ap (λ z. meets span span' (x ∷ v') z) f
+    at_heads : shared_pieces span span' v w ≡ shared_pieces span span' (x ∷ v') (y ∷ w')
+    at_heads = ap (λ z. shared_pieces span span' z w) e ∙ ap (λ z. shared_pieces span span' (x ∷ v') z) f
 
-    left_step : ends_before (span' y) (span x) ≡ false → PartsClear span' w → (b : Bool) → has_instant (meet_of (span x) (span' y)) ≡ b → meets span span' v w ≡ cond b (piece x y ∷ meets span span' v' w) (meets span span' v' w)
+    left_step : ends_before (span' y) (span x) ≡ false → PartsClear span' w → (b : Bool) → has_instant (meet_of (span x) (span' y)) ≡ b → shared_pieces span span' v w ≡ cond b (piece x y ∷ shared_pieces span span' v' w) (shared_pieces span span' v' w)
     left_step k o b h =
-        let l = meets span span' v' (y ∷ w') in
-        at_heads ∙ step_left x v' y w' k (subst (PartsClear span') f o) ∙ ap (λ z. cond z (piece x y ∷ l) l) h ∙ ap (λ z. cond b (piece x y ∷ meets span span' v' z) (meets span span' v' z)) (sym f)
+        let l = shared_pieces span span' v' (y ∷ w') in
+        at_heads ∙ step_left x v' y w' k (subst (PartsClear span') f o) ∙ ap (λ z. cond z (piece x y ∷ l) l) h ∙ ap (λ z. cond b (piece x y ∷ shared_pieces span span' v' z) (shared_pieces span span' v' z)) (sym f)
 
-    right_step : ends_before (span' y) (span x) ≡ true → PartsClear span v → (b : Bool) → has_instant (meet_of (span x) (span' y)) ≡ b → meets span span' v w ≡ cond b (piece x y ∷ meets span span' v w') (meets span span' v w')
+    right_step : ends_before (span' y) (span x) ≡ true → PartsClear span v → (b : Bool) → has_instant (meet_of (span x) (span' y)) ≡ b → shared_pieces span span' v w ≡ cond b (piece x y ∷ shared_pieces span span' v w') (shared_pieces span span' v w')
     right_step k o b h =
-        let l = meets span span' (x ∷ v') w' in
-        at_heads ∙ step_right x v' y w' k (subst (PartsClear span) e o) ∙ ap (λ z. cond z (piece x y ∷ l) l) h ∙ ap (λ z. cond b (piece x y ∷ meets span span' z w') (meets span span' z w')) (sym e)
+        let l = shared_pieces span span' (x ∷ v') w' in
+        at_heads ∙ step_right x v' y w' k (subst (PartsClear span) e o) ∙ ap (λ z. cond z (piece x y ∷ l) l) h ∙ ap (λ z. cond b (piece x y ∷ shared_pieces span span' z w') (shared_pieces span span' z w')) (sym e)
 
-    pub given_left : ends_before (span' y) (span x) ≡ false → PartsClear span' w → has_instant (meet_of (span x) (span' y)) ≡ true → (s : SpanOf) → s ≡ meet_of (span x) (span' y) → meets span span' v w ≡ record { span = s; left = x; right = y } ∷ meets span span' v' w
-    given_left k o h s i = left_step k o true h ∙ ap (λ r. record { span = r; left = x; right = y } ∷ meets span span' v' w) (sym i)
+    pub given_left : ends_before (span' y) (span x) ≡ false → PartsClear span' w → has_instant (meet_of (span x) (span' y)) ≡ true → (s : SpanOf) → s ≡ meet_of (span x) (span' y) → shared_pieces span span' v w ≡ record { span = s; left = x; right = y } ∷ shared_pieces span span' v' w
+    given_left k o h s i = left_step k o true h ∙ ap (λ r. record { span = r; left = x; right = y } ∷ shared_pieces span span' v' w) (sym i)
 
-    pub given_right : ends_before (span' y) (span x) ≡ true → PartsClear span v → has_instant (meet_of (span x) (span' y)) ≡ true → (s : SpanOf) → s ≡ meet_of (span x) (span' y) → meets span span' v w ≡ record { span = s; left = x; right = y } ∷ meets span span' v w'
-    given_right k o h s i = right_step k o true h ∙ ap (λ r. record { span = r; left = x; right = y } ∷ meets span span' v w') (sym i)
+    pub given_right : ends_before (span' y) (span x) ≡ true → PartsClear span v → has_instant (meet_of (span x) (span' y)) ≡ true → (s : SpanOf) → s ≡ meet_of (span x) (span' y) → shared_pieces span span' v w ≡ record { span = s; left = x; right = y } ∷ shared_pieces span span' v w'
+    given_right k o h s i = right_step k o true h ∙ ap (λ r. record { span = r; left = x; right = y } ∷ shared_pieces span span' v w') (sym i)
 
-    pub passed_left : ends_before (span' y) (span x) ≡ false → PartsClear span' w → has_instant (meet_of (span x) (span' y)) ≡ false → meets span span' v w ≡ meets span span' v' w
+    pub passed_left : ends_before (span' y) (span x) ≡ false → PartsClear span' w → has_instant (meet_of (span x) (span' y)) ≡ false → shared_pieces span span' v w ≡ shared_pieces span span' v' w
     passed_left k o h = left_step k o false h
 
-    pub passed_right : ends_before (span' y) (span x) ≡ true → PartsClear span v → has_instant (meet_of (span x) (span' y)) ≡ false → meets span span' v w ≡ meets span span' v w'
+    pub passed_right : ends_before (span' y) (span x) ≡ true → PartsClear span v → has_instant (meet_of (span x) (span' y)) ≡ false → shared_pieces span span' v w ≡ shared_pieces span span' v w'
     passed_right k o h = right_step k o false h
 
 -- a step that gave the first of what was left

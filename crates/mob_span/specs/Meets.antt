@@ -14,17 +14,17 @@ pub record PieceOf (X Y : Type 0) : Type 0 where
 
 -- For each x of v, and for each y of w that shares an instant with it: the instants that they share, with the two. Both
 -- lists may have anything that has a span.
-abbrev pub meets : {X Y : Type 0} → (X → SpanOf) → (Y → SpanOf) → List X → List Y → List (PieceOf X Y)
-meets span span' v w = flat_map (λ x. map (λ y. record { span = meet_of (span x) (span' y); left = x; right = y }) (filter (λ y. has_instant (meet_of (span x) (span' y))) w)) v
+abbrev pub shared_pieces : {X Y : Type 0} → (X → SpanOf) → (Y → SpanOf) → List X → List Y → List (PieceOf X Y)
+shared_pieces span span' v w = flat_map (λ x. map (λ y. record { span = meet_of (span x) (span' y); left = x; right = y }) (filter (λ y. has_instant (meet_of (span x) (span' y))) w)) v
 
 -- the two, where both are there
-abbrev pub both : {X Y : Type 0} → Option X → Option Y → Option (X × Y)
-both None y = None
-both (Some x) None = None
-both (Some x) (Some y) = Some (x, y)
+abbrev pub both_there : {X Y : Type 0} → Option X → Option Y → Option (X × Y)
+both_there None y = None
+both_there (Some x) None = None
+both_there (Some x) (Some y) = Some (x, y)
 
 -- The pieces are ordered and disjoint, each has an instant, and at each instant the piece there has the two that the lists
 -- have there: there is no piece where one of the lists has none.
 pub record AreCommon {X Y : Type 0} (span : X → SpanOf) (span' : Y → SpanOf) (v : List X) (w : List Y) (pieces : List (PieceOf X Y)) : Type 0 where
   pub clear : PartsClear (λ p. p.span) pieces
-  pub at_each : (t : Ratio) → option_map (λ p. (p.left, p.right)) (part_at (λ p. p.span) pieces t) ≡ both (part_at span v t) (part_at span' w t)
+  pub at_each : (t : Ratio) → option_map (λ p. (p.left, p.right)) (part_at (λ p. p.span) pieces t) ≡ both_there (part_at span v t) (part_at span' w t)

@@ -1,7 +1,7 @@
 -- The walk over the pieces that two lists share.
 use Rattle.std.specs.Prelude.{List}
 use Rattle.mob_span.specs.Span.{SpanOf}
-use Rattle.mob_span.specs.Meets.{PieceOf, meets}
+use Rattle.mob_span.specs.Meets.{PieceOf, shared_pieces}
 use Rattle.mob_span.specs.Parts.{PartsClear}
 use Rattle.mob_span.specs.declared.walk.Met.{Met}
 use Rattle.mob_span.specs.declared.walk.SharedPieces.{SharedPieces}
@@ -23,4 +23,4 @@ met_of m = record { span = m.span; left = m.left.now; right = m.right.now }
 
 -- the pieces that are still to come: those of the two lists
 abbrev pub meets_left : {X Y : Type 0} → (X → SpanOf) → (Y → SpanOf) → SharedPieces X Y → List (PieceOf X Y)
-meets_left span span' s = meets span span' s.lefts.now s.rights.now
+meets_left span span' s = shared_pieces span span' s.lefts.now s.rights.now

@@ -1,6 +1,6 @@
 -- The walk over the common pieces of two temporal values, and what holds of them.
 use Rattle.std.specs.Prelude.{List}
-use Rattle.mob_span.specs.Meets.{PieceOf, meets, AreCommon}
+use Rattle.mob_span.specs.Meets.{PieceOf, shared_pieces, AreCommon}
 use Rattle.mob_span.specs.Walk.{CanWalk, meets_left}
 use Rattle.mob_slice.specs.Slices.{IsOrdered}
 use Rattle.mob_slice.specs.declared.slice.Slice.{Slice}
@@ -21,4 +21,4 @@ common_left s = meets_left (λ s. s.span) (λ s. s.span) s.walk
 
 -- of two ordered lists of slices the shared pieces are the common ones
 abbrev pub MeetsAreCommon : {A B X Y : Type 0} → (A → X) → (A → X) → (B → Y) → (B → Y) → Type 0
-MeetsAreCommon {A} {B} start end start' end' = (v : List (Slice A)) (w : List (Slice B)) → IsOrdered start end v → IsOrdered start' end' w → AreCommon (λ s. s.span) (λ s. s.span) v w (meets (λ s. s.span) (λ s. s.span) v w)
+MeetsAreCommon {A} {B} start end start' end' = (v : List (Slice A)) (w : List (Slice B)) → IsOrdered start end v → IsOrdered start' end' w → AreCommon (λ s. s.span) (λ s. s.span) v w (shared_pieces (λ s. s.span) (λ s. s.span) v w)

@@ -1,6 +1,6 @@
 ghost use Rattle.std.specs.Prelude.{◌≡◌};
 ghost use Rattle.std.specs.Iterator.{YieldsFirstBy, item_count};
-ghost use Rattle.mob_span.specs.Meets.{meets};
+ghost use Rattle.mob_span.specs.Meets.{shared_pieces};
 ghost use Rattle.mob_sync.specs.Common.{CanStep, pair_of, common_left};
 
 use mob_slice::{Course, Moving, Pair, Slice};
@@ -17,7 +17,7 @@ impl<'a, A: Course, B: Course> Common<'a, A, B> {
     /// The walk from the first common piece.
     pub fn new(a: &'a Moving<A>, b: &'a Moving<B>) -> Self
         ensures can { CanStep result }
-        ensures all { common_left result ≡ meets (λ s. s.span) (λ s. s.span) a.now b.now }
+        ensures all { common_left result ≡ shared_pieces (λ s. s.span) (λ s. s.span) a.now b.now }
     {
         Common {
             walk: SharedPieces::new(a.slices(), b.slices()),
