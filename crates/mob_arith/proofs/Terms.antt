@@ -1,5 +1,5 @@
 -- What an operation that goes term by term gives on one piece.
-use Rattle.std.specs.Prelude.{◌≡◌, Bool, true, false, List, [], ◌∷◌, ◌++◌, Some, None, refl}
+use Rattle.std.specs.Prelude.{◌≡◌, Bool, true, false, List, Some, None, refl}
 use Rattle.std.proofs.Common.{ap, sym, ◌∙◌, subst, inl, inr}
 use Rattle.mob_ratio.specs.Ratio.{Ratio}
 use Rattle.mob_ratio.specs.Order.{before}
@@ -12,7 +12,7 @@ use Rattle.mob_slice.specs.Sides.{SideOf, side_at, side_parts, at_ends, HasValue
 use Rattle.mob_slice.specs.Entries.{Entry, IsFirst, OnFormula}
 use Rattle.mob_slice.specs.declared.slice.Slice.{Slice}
 use Rattle.mob_slice.specs.declared.formula.Formula.{Formula}
-use Rattle.mob_slice.specs.declared.formula.Formula.TheVariants.{F1, F2}
+use Rattle.mob_slice.specs.declared.formula.Formula.TheVariants.{F2}
 use Rattle.mob_slice.specs.declared.formula.LookFault.{LookFault}
 use Rattle.mob_slice.specs.declared.formula.LookFault.TheVariants.{Passed, NoMemory}
 use Rattle.mob_slice.proofs.Cuts.{all_both, all_first, all_second}

@@ -1,4 +1,4 @@
-use Rattle.std.proofs.Common.{◌∙◌, refl, true}
+use Rattle.std.proofs.Common.{◌∙◌, true}
 use Rattle.mob_slice.specs.Slices.{value_at}
 use Rattle.mob_slice.specs.Operands.{steady_value, steady_limit}
 use Rattle.mob_arith.specs.Operations.{differ}

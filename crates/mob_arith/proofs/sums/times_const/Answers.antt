@@ -1,4 +1,4 @@
-use Rattle.std.proofs.Common.{◌∙◌, refl}
+use Rattle.std.proofs.Common.{◌∙◌}
 use Rattle.mob_slice.specs.Slices.{value_at}
 use Rattle.mob_arith.proofs.Alone.{never_none, beside}
 use Rattle.mob_arith.proofs.sums.times_const.Goals as goal

@@ -1,4 +1,4 @@
-use Rattle.std.proofs.Common.{refl, ◌∙◌}
+use Rattle.std.proofs.Common.{◌∙◌}
 use Rattle.mob_slice.specs.Sides.{piece_of, side_at, side_of}
 use Rattle.mob_lift.specs.Given.{on_sides}
 use Rattle.mob_lift.proofs.OnPieces.{on_one}
