@@ -7,7 +7,7 @@ use Rattle.mob_ast.specs.declared.refusal.Kind.TheVariants.{NotUtf8, Lexical, Sy
 use Rattle.mob_ast.specs.declared.refusal.Refusal.{Refusal}
 use Rattle.mob_ast.specs.Kinds.{no_memory}
 use Rattle.mob_ast.specs.Trees.{StatementParts, script_of}
-use Rattle.mob_parse.specs.Refusals.{Cause, IsTreeOf, ParsesToRefusal as HasNoTree}
+use Rattle.mob_parse.specs.Refusals.{IsCause, IsTreeOf, ParsesToRefusal as HasNoTree}
 use Rattle.mob_parse.proofs.Refused.{no_tree}
 use Rattle.mob_typed.specs.Statements.{ScriptOut}
 use Rattle.mob_typing.specs.Statements.{typed_script, IsTypingRefusal}
@@ -16,10 +16,10 @@ use Rattle.mob_accept.specs.UnbuiltWords.{unbuilt_words}
 use Rattle.mob_accept.specs.UnbuiltTypes.{unbuilt_types}
 use Rattle.mob_accept.specs.UnbuiltOperators.{unbuilt_operators}
 use Rattle.mob_accept.proofs.Places.{least_append}
-use Rattle.mob_accept.specs.Accepts.{HasTrees, IsAccepted, IsTooLong, IsNotBuiltAt, IsRefusedWith, script_limit, unbuilt_places}
+use Rattle.mob_accept.specs.Accepts.{HasTrees, IsAccepted, IsTooLong, IsNotBuiltAt, IsAcceptRefusal, script_limit, unbuilt_places}
 
 -- a refusal of the parser is want of memory, or another
-split : (k : Kind) (n p : ℕ) (bytes : List ℕ) → Cause k bytes (record { kind = k; statement = n; place = p }) → (◌≡◌ {A = Refusal} (record { kind = k; statement = n; place = p }) no_memory) ⊎ (k ≢ NoMemory)
+split : (k : Kind) (n p : ℕ) (bytes : List ℕ) → IsCause k bytes (record { kind = k; statement = n; place = p }) → (◌≡◌ {A = Refusal} (record { kind = k; statement = n; place = p }) no_memory) ⊎ (k ≢ NoMemory)
 split NoMemory n p bytes h = inl (rw (h.0, h.1) refl)
 split NotUtf8 n p bytes h = inr (λ e. cc)
 split Lexical n p bytes h = inr (λ e. cc)
@@ -27,7 +27,7 @@ split Syntax n p bytes h = inr (λ e. cc)
 split TooComplex n p bytes h = inr (λ e. cc)
 split _ n p bytes h = absurd h
 
-pub no_script : (bytes : List ℕ) (e : Refusal) → length bytes ≤ script_limit → HasNoTree bytes e → IsRefusedWith bytes e
+pub no_script : (bytes : List ℕ) (e : Refusal) → length bytes ≤ script_limit → HasNoTree bytes e → IsAcceptRefusal bytes e
 no_script bytes e short cause = elim (split e.kind e.statement e.place bytes cause) [
   | inl none ↦ inl none
   | inr other ↦ inr (
@@ -36,7 +36,7 @@ no_script bytes e short cause = elim (split e.kind e.statement e.place bytes cau
   )
 ]
 
-pub too_long : (bytes : List ℕ) (e : Refusal) → IsTooLong bytes e → IsRefusedWith bytes e
+pub too_long : (bytes : List ℕ) (e : Refusal) → IsTooLong bytes e → IsAcceptRefusal bytes e
 too_long bytes e h = inr (inl h, λ out g. let short = g.script.read.short in let long = h.long in absurd (omega arith))
 
 -- what holds of one answer of the parser holds of it in other words
@@ -44,7 +44,7 @@ pub only_read : (bytes : List ℕ) (r : Result Script Refusal) → IfOk r (λ s.
 only_read bytes (Ok s) h = λ x g. h x g.tree
 only_read bytes (Err e) h = tt
 
-pub none_read : (bytes : List ℕ) (r : Result Script Refusal) → length bytes ≤ script_limit → IfErr r (HasNoTree bytes) → IfErr r (IsRefusedWith bytes)
+pub none_read : (bytes : List ℕ) (r : Result Script Refusal) → length bytes ≤ script_limit → IfErr r (HasNoTree bytes) → IfErr r (IsAcceptRefusal bytes)
 none_read bytes (Ok s) short h = tt
 none_read bytes (Err e) short h = no_script bytes e short h
 
@@ -53,7 +53,7 @@ pub record IsRead (bytes : List ℕ) (trees : List StatementParts) : Type 0 wher
   pub read : HasTrees bytes trees
   pub only : (x : List StatementParts) → HasTrees bytes x → x ≡ trees
 
-pub wrong_name : (bytes : List ℕ) (trees : List StatementParts) → IsRead bytes trees → (e : Refusal) → IsTypingRefusal e (typed_script trees) → IsRefusedWith bytes e
+pub wrong_name : (bytes : List ℕ) (trees : List StatementParts) → IsRead bytes trees → (e : Refusal) → IsTypingRefusal e (typed_script trees) → IsAcceptRefusal bytes e
 wrong_name bytes trees h e wrong = elim wrong [
   | inl none ↦ inl none
   | inr first ↦ inr (
@@ -82,7 +82,7 @@ least_none [] e = refl
 least_none (p ∷ ps) e = absurd (some-earlier p (least ps) e)
 
 pub not_built : (bytes text : List ℕ) (trees : List StatementParts) (out : ScriptOut) (place : ℕ) (e : Refusal) → IsRead bytes trees → typed_script trees ≡ Ok out → text ≡ bytes → least (unbuilt_places bytes trees out) ≡ Some place
-    → (e ≡ no_memory) ⊎ IsNotBuiltAt text place e → IsRefusedWith bytes e
+    → (e ≡ no_memory) ⊎ IsNotBuiltAt text place e → IsAcceptRefusal bytes e
 not_built bytes text trees out place e h typed same first says = elim says [
   | inl none ↦ inl none
   | inr here ↦ inr (

@@ -18,7 +18,7 @@ use Rattle.mob_chars.proofs.Along.{are_laid, are_in_order}
 use Rattle.mob_grammar.specs.declared.mark.Mark.{Mark}
 use Rattle.mob_grammar.specs.declared.mark.Mark.TheVariants.{NotEqual, Dot, Semicolon}
 use Rattle.mob_grammar.specs.Marks.{mark_text, is, is_reserved_word, sign_marks}
-use Rattle.mob_grammar.specs.Symbols.{Symbol, fixed, name, number, quoted, Tok, is_mark, is_sign}
+use Rattle.mob_grammar.specs.Symbols.{Symbol, fixed, name, number, quoted, PlacedSymbol, is_mark, is_sign}
 use Rattle.mob_grammar.specs.Cuts.{ends_among, StandsBehind}
 use Rattle.mob_grammar.proofs.Marks.{same_mark}
 use Rattle.mob_grammar.proofs.Steps.{told}
@@ -138,19 +138,19 @@ module _ (text : List ℕ) where
       passed_by p t ts (ap (λ b. bytes_eq (bytes_of text t) (codes ";") && b) later ∙ and-false (bytes_eq (bytes_of text t) (codes ";"))) ∙ none_before p t.to e ts (omega arith) order.2
 
   -- a token behind others begins where they have ended, or later
-  one_after : (q e : ℕ) (t : Token) (ts : List Token) (o : Option Symbol) (before behind : List Tok) (u : Tok) → InOrder q e (t ∷ ts) → before_lexed t.from o (lexed text ts) ≡ before ++ u ∷ behind
-      → ((others : List Tok) → lexed text ts ≡ others ++ u ∷ behind → t.to ≤ u.place) → q ≤ u.place
+  one_after : (q e : ℕ) (t : Token) (ts : List Token) (o : Option Symbol) (before behind : List PlacedSymbol) (u : PlacedSymbol) → InOrder q e (t ∷ ts) → before_lexed t.from o (lexed text ts) ≡ before ++ u ∷ behind
+      → ((others : List PlacedSymbol) → lexed text ts ≡ others ++ u ∷ behind → t.to ≤ u.place) → q ≤ u.place
   one_after q e t ts None before behind u order parts rest = let le = rest before parts in omega (arith, order.0, order.1, le)
   one_after q e t ts (Some x) [] behind u order parts rest = let same : u.place ≡ t.from = cc in omega (arith, order.0, same)
   one_after q e t ts (Some x) (b ∷ before) behind u order parts rest = let others : lexed text ts ≡ before ++ u ∷ behind = cc in let le = rest before others in omega (arith, order.0, order.1, le)
 
-  place_after : (q e : ℕ) (ts : List Token) (before behind : List Tok) (u : Tok) → InOrder q e ts → lexed text ts ≡ before ++ u ∷ behind → q ≤ u.place
+  place_after : (q e : ℕ) (ts : List Token) (before behind : List PlacedSymbol) (u : PlacedSymbol) → InOrder q e ts → lexed text ts ≡ before ++ u ∷ behind → q ≤ u.place
   place_after q e [] [] behind u order parts = absurd cc
   place_after q e [] (b ∷ before) behind u order parts = absurd cc
   place_after q e (t ∷ ts) before behind u order parts = one_after q e t ts (symbol_at text t.kind t.from t.to) before behind u order parts (λ others same. place_after t.to e ts others behind u order.2 same)
 
   -- one token more in front
-  one_more : (p : ℕ) (t : Token) (ts : List Token) (x : Symbol) (b : Tok) (before : List Tok) → bytes_eq (bytes_of text t) (codes ";") ≡ is_mark Semicolon x → b.symbol ≡ x → t.from < p → ends_before p ts ≡ ends_among before
+  one_more : (p : ℕ) (t : Token) (ts : List Token) (x : Symbol) (b : PlacedSymbol) (before : List PlacedSymbol) → bytes_eq (bytes_of text t) (codes ";") ≡ is_mark Semicolon x → b.symbol ≡ x → t.from < p → ends_before p ts ≡ ends_among before
       → ends_before p (t ∷ ts) ≡ ends_among (b ∷ before)
   one_more p t ts x b before agrees same less so_far = elim (told (is_mark Semicolon x)) [
     | inl yes_ ↦
@@ -164,8 +164,8 @@ module _ (text : List ℕ) where
         passed_by p t ts there ∙ so_far ∙ sym (ap (λ v. length (cond v (b ∷ filter (is_sign Semicolon) before) (filter (is_sign Semicolon) before))) seen)
   ]
 
-  count_one : (q e : ℕ) (t : Token) (ts : List Token) (o : Option Symbol) (before behind : List Tok) (u : Tok) → InOrder q e (t ∷ ts) → Agrees text t o → before_lexed t.from o (lexed text ts) ≡ before ++ u ∷ behind
-      → ((others : List Tok) → lexed text ts ≡ others ++ u ∷ behind → ends_before u.place ts ≡ ends_among others) → ends_before u.place (t ∷ ts) ≡ ends_among before
+  count_one : (q e : ℕ) (t : Token) (ts : List Token) (o : Option Symbol) (before behind : List PlacedSymbol) (u : PlacedSymbol) → InOrder q e (t ∷ ts) → Agrees text t o → before_lexed t.from o (lexed text ts) ≡ before ++ u ∷ behind
+      → ((others : List PlacedSymbol) → lexed text ts ≡ others ++ u ∷ behind → ends_before u.place ts ≡ ends_among others) → ends_before u.place (t ∷ ts) ≡ ends_among before
   count_one q e t ts None before behind u order own parts rest = passed_by u.place t ts (ap (λ b. b && nat_lt t.from u.place) own) ∙ rest before parts
   count_one q e t ts (Some x) [] behind u order own parts rest = let same : u.place ≡ t.from = cc in none_before u.place t.from e (t ∷ ts) (omega (arith, same)) (omega arith, order.1, order.2)
   count_one q e t ts (Some x) (b ∷ before) behind u order own parts rest =
@@ -174,7 +174,7 @@ module _ (text : List ℕ) where
       let le = place_after t.to e ts before behind u order.2 others in
       one_more u.place t ts x b before own.1 (ap (λ v. v.symbol) first) (omega (arith, own.0, le)) (rest before others)
 
-  count_before : (q e : ℕ) (ts : List Token) (before behind : List Tok) (u : Tok) → InOrder q e ts → AllAgree text ts → lexed text ts ≡ before ++ u ∷ behind → ends_before u.place ts ≡ ends_among before
+  count_before : (q e : ℕ) (ts : List Token) (before behind : List PlacedSymbol) (u : PlacedSymbol) → InOrder q e ts → AllAgree text ts → lexed text ts ≡ before ++ u ∷ behind → ends_before u.place ts ≡ ends_among before
   count_before q e [] [] behind u order agree parts = absurd cc
   count_before q e [] (b ∷ before) behind u order agree parts = absurd cc
   count_before q e (t ∷ ts) before behind u order agree parts =
@@ -192,14 +192,14 @@ module _ (text : List ℕ) where
   count_all q (t ∷ ts) order agree = all_one q t ts (symbol_at text t.kind t.from t.to) order agree.0 (count_all t.to ts order.2 agree.1)
 
 -- the number of the statement of a place that stands behind n `;`
-pub behind_is : (text : List ℕ) (ts : List Token) (l : List Tok) (n p : ℕ) → tokens_of text ≡ Ok ts → l ≡ lexed text ts → StandsBehind l n p → statement_number text p ≡ 1 + n
+pub behind_is : (text : List ℕ) (ts : List Token) (l : List PlacedSymbol) (n p : ℕ) → tokens_of text ≡ Ok ts → l ≡ lexed text ts → StandsBehind l n p → statement_number text p ≡ 1 + n
 behind_is text ts l n p are lexes h =
     let counted = count_before text 0 (length text) ts h.before h.behind h.token (are_in_order text ts are) (tokens_agree text ts are) (sym lexes ∙ h.parts) in
     let all : tokens_in (tokens_of text) ≡ ts = ap tokens_in are in
     ap (λ us. 1 + length (filter (is_end_before text p) us)) all ∙ ap (λ q. 1 + ends_before text q ts) (sym h.here) ∙ ap (λ m. 1 + m) (counted ∙ h.number)
 
 -- the number of the statement of the place behind some tokens: that of the next token, or the end of the text
-pub place_behind : (text : List ℕ) (ts : List Token) (l before r : List Tok) → tokens_of text ≡ Ok ts → l ≡ lexed text ts → l ≡ before ++ r → statement_number text (place_of r (length text)) ≡ 1 + ends_among before
+pub place_behind : (text : List ℕ) (ts : List Token) (l before r : List PlacedSymbol) → tokens_of text ≡ Ok ts → l ≡ lexed text ts → l ≡ before ++ r → statement_number text (place_of r (length text)) ≡ 1 + ends_among before
 place_behind text ts l before [] are lexes parts =
     let counted = count_all text 0 ts (are_in_order text ts are) (tokens_agree text ts are) in
     let all : tokens_in (tokens_of text) ≡ ts = ap tokens_in are in

@@ -8,12 +8,12 @@ use Rattle.mob_ast.specs.declared.refusal.Refusal.{Refusal}
 use Rattle.mob_ast.specs.Trees.{StatementParts}
 use Rattle.mob_chars.specs.declared.token.Token.{Token}
 use Rattle.mob_chars.specs.Tokens.{tokens_of}
-use Rattle.mob_grammar.specs.Symbols.{Tok}
+use Rattle.mob_grammar.specs.Symbols.{PlacedSymbol}
 use Rattle.mob_grammar.specs.Places.{IsWithin, statement_places}
 use Rattle.mob_grammar.specs.Held.{statement_held}
-use Rattle.mob_grammar.specs.Cuts.{ends_among, StandsBehind, StandBehind}
+use Rattle.mob_grammar.specs.Cuts.{ends_among, StandsBehind, AllStandBehind}
 use Rattle.mob_grammar.proofs.Cuts.{places_are_cut, held_are_cut}
-use Rattle.mob_parse.specs.Refusals.{HasTokens, place_of, Cause}
+use Rattle.mob_parse.specs.Refusals.{HasTokens, place_of, IsCause}
 use Rattle.mob_lexemes.specs.Lexed.{lexed}
 use Rattle.mob_typed.specs.declared.typed.ConstText.{ConstText}
 use Rattle.mob_expression.specs.Answers.{Mistake}
@@ -27,8 +27,8 @@ use Rattle.mob_accept.proofs.Adds.{Adds, Belongs, Gathers, places_of}
 use Rattle.mob_accept.proofs.Ends.{behind_is, place_behind}
 use Rattle.mob_accept.proofs.GatheredStatements.{AskedWithin, all_within, statement_gathers, statement_rows}
 
-module _ (bytes : List ℕ) (ts : List Token) (l : List Tok) (are : tokens_of bytes ≡ Ok ts) (is : l ≡ lexed bytes ts) (places : StatementParts → List ℕ) where
-  trees_in : (n : ℕ) (ss : List StatementParts) → StandBehind places l n ss → TreesAreIn places bytes (n + 1) ss
+module _ (bytes : List ℕ) (ts : List Token) (l : List PlacedSymbol) (are : tokens_of bytes ≡ Ok ts) (is : l ≡ lexed bytes ts) (places : StatementParts → List ℕ) where
+  trees_in : (n : ℕ) (ss : List StatementParts) → AllStandBehind places l n ss → TreesAreIn places bytes (n + 1) ss
   trees_in n [] h = tt
   trees_in n (s ∷ ss) h = (each_on (StandsBehind l n) (λ p. statement_number bytes p ≡ n + 1) (λ p b. behind_is bytes ts l n p are is b ∙ omega arith) (places s) h.0, trees_in (n + 1) ss h.1)
 
@@ -84,15 +84,15 @@ text_is_numbered bytes out h = typing_keeps_numbers bytes h.trees out (trees_are
 
 -- a refusal at a place behind some tokens, which names their `;`
 module _ (bytes : List ℕ) (e : Refusal) where
-  names_behind : (l before r : List Tok) → HasTokens bytes l → l ≡ before ++ r → e.place ≡ place_of r (length bytes) → e.statement ≡ 1 + ends_among before → e.statement ≡ statement_number bytes e.place
+  names_behind : (l before r : List PlacedSymbol) → HasTokens bytes l → l ≡ before ++ r → e.place ≡ place_of r (length bytes) → e.statement ≡ 1 + ends_among before → e.statement ≡ statement_number bytes e.place
   names_behind l before r (ts, are, is) parts at says = says ∙ sym (place_behind bytes ts l before r are is parts) ∙ ap (statement_number bytes) (sym at)
 
-  syntax_names : Cause Syntax bytes e → e.statement ≡ statement_number bytes e.place
+  syntax_names : IsCause Syntax bytes e → e.statement ≡ statement_number bytes e.place
   syntax_names (u, (l, has, (r, w, at, says, none))) = names_behind l w.before r has w.parts at says
 
-  complex_names : Cause TooComplex bytes e → e.statement ≡ statement_number bytes e.place
+  complex_names : IsCause TooComplex bytes e → e.statement ≡ statement_number bytes e.place
   complex_names (u, (l, has, (n, heavy, begins, at, says))) = names_behind l (take n l) (drop n l) has (sym (take-append-drop n l)) at says
 
 pub wrong_tokens_are_numbered : WrongTokensAreNumbered
-wrong_tokens_are_numbered bytes e h (inl syntax) = syntax_names bytes e (subst (λ k. Cause k bytes e) syntax h.cause)
-wrong_tokens_are_numbered bytes e h (inr complex) = complex_names bytes e (subst (λ k. Cause k bytes e) complex h.cause)
+wrong_tokens_are_numbered bytes e h (inl syntax) = syntax_names bytes e (subst (λ k. IsCause k bytes e) syntax h.cause)
+wrong_tokens_are_numbered bytes e h (inr complex) = complex_names bytes e (subst (λ k. IsCause k bytes e) complex h.cause)

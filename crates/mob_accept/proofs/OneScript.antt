@@ -1,7 +1,7 @@
 -- A text is judged in one way.
 use Rattle.std.proofs.Common.{arith, ◌≡◌, ◌∙◌, refl, sym, ap, ap₂, subst, inl, inr, ℕ, List, [], None}
 use Rattle.mob_ast.specs.Trees.{StatementParts}
-use Rattle.mob_grammar.specs.Symbols.{Tok}
+use Rattle.mob_grammar.specs.Symbols.{PlacedSymbol}
 use Rattle.mob_grammar.specs.Scripts.{IsScript}
 use Rattle.mob_grammar.proofs.Statements.{read_script}
 use Rattle.mob_parse.specs.Refusals.{IsTreeOf}
@@ -13,13 +13,13 @@ use Rattle.mob_accept.specs.Accepts.{IsTypedAs, unbuilt_places}
 use Rattle.mob_accept.specs.Outcomes.{HasOneScript, NeverTakenAndRefused}
 
 -- tokens have one tree: what the reading of them gives
-one_tree : (l : List Tok) (x y : List StatementParts) → IsScript l x → IsScript l y → x ≡ y
+one_tree : (l : List PlacedSymbol) (x y : List StatementParts) → IsScript l x → IsScript l y → x ≡ y
 one_tree l x y h k = script_only l y x (read_script.complete l y [] k refl) h
 
 pub one_text : (bytes : List ℕ) (x y : List StatementParts) → IsTreeOf bytes x → IsTreeOf bytes y → x ≡ y
 one_text bytes x y h k =
     let tokens = same_tokens bytes h.1.0 k.1.0 h.1.1 k.1.1 in
-    one_tree k.1.0 x y (subst (λ (l : List Tok). IsScript l x) tokens h.1.2) k.1.2
+    one_tree k.1.0 x y (subst (λ (l : List PlacedSymbol). IsScript l x) tokens h.1.2) k.1.2
 
 pub one_typed : (bytes : List ℕ) (x y : List StatementParts) (a b : ScriptOut) → IsTypedAs bytes x a → IsTypedAs bytes y b → (x ≡ y) × (a ≡ b)
 one_typed bytes x y a b h k =

@@ -4,12 +4,12 @@ ghost use Rattle.mob_ast.specs.Kinds.{no_memory};
 ghost use Rattle.mob_ast.specs.Trees.{script_of};
 ghost use Rattle.mob_typed.specs.Statements.{ScriptOut, script_seen};
 ghost use Rattle.mob_ast.specs.Trees.{StatementParts};
-ghost use Rattle.mob_accept.specs.Accepts.{HasTrees, IsAccepted, IsNotBuiltAt, IsRefusedWith, script_limit};
+ghost use Rattle.mob_accept.specs.Accepts.{HasTrees, IsAccepted, IsNotBuiltAt, IsAcceptRefusal, script_limit};
 
 use crate::least::earlier;
 use crate::unbuilt_operators::first_unbuilt_operator;
 use crate::unbuilt_types::first_unbuilt_type;
-use crate::unbuilt_words::{first_unbuilt_word, statement_at};
+use crate::unbuilt_words::{first_unbuilt_word, statement_number};
 use mob_ast::{Kind, Refusal, Script};
 use mob_parse::script::parse;
 use mob_typed::Typed;
@@ -44,7 +44,7 @@ fn out_of_memory() -> Refusal
 fn trees_of(alloc: Global, bytes: &[u8]) -> Result<Script, Refusal>
     ensures read { IfOk result (λ s. HasTrees bytes.now (script_of s)) }
     ensures only { IfOk result (λ s. (x : List StatementParts) → HasTrees bytes.now x → x ≡ script_of s) }
-    ensures refused { IfErr result (IsRefusedWith bytes.now) }
+    ensures refused { IfErr result (IsAcceptRefusal bytes.now) }
 {
     if bytes.len() > SCRIPT_LIMIT {
         return Err(too_long());
@@ -57,7 +57,7 @@ fn not_built(alloc: Global, text: &str, place: u32) -> Refusal
     requires short { length text.now < 2 ^ 32 }
     ensures says { (result ≡ no_memory) ⊎ IsNotBuiltAt text.now place result }
 {
-    match statement_at(alloc, text, place) {
+    match statement_number(alloc, text, place) {
         Ok(statement) => Refusal {
             kind: Kind::NotBuilt,
             statement,
@@ -76,7 +76,7 @@ fn not_built(alloc: Global, text: &str, place: u32) -> Refusal
 pub fn accept(alloc: Global, bytes: &[u8]) -> Result<Typed, Refusal>
     ensures accepted { IfOk result (λ t. IsAccepted bytes.now (script_seen t)) }
     ensures only { IfOk result (λ t. (o : ScriptOut) → IsAccepted bytes.now o → o ≡ script_seen t) }
-    ensures refused { IfErr result (IsRefusedWith bytes.now) }
+    ensures refused { IfErr result (IsAcceptRefusal bytes.now) }
 {
     let script = trees_of(alloc, bytes)?;
     let types = first_unbuilt_type(&script);

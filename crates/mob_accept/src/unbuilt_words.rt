@@ -62,7 +62,7 @@ fn is_end_before(text: &str, place: u32, token: &Token) -> bool
 }
 
 // 1 and how many `;` there are before a place.
-fn number_at(text: &str, place: u32, found: &[Token]) -> Result<u32, AllocError>
+fn number_among(text: &str, place: u32, found: &[Token]) -> Result<u32, AllocError>
     requires { InOrder 0 (length text.now) found.now }
     ensures { IfOk result (λ number. number ≡ 1 + length (filter (is_end_before text.now place) found.now)) }
 {
@@ -79,13 +79,13 @@ fn number_at(text: &str, place: u32, found: &[Token]) -> Result<u32, AllocError>
 }
 
 /// The number of the statement that a place is in: 1 and the number of `;` tokens before it; 1 where the text has no tokens.
-pub fn statement_at(alloc: Global, text: &str, place: u32) -> Result<u32, AllocError>
+pub fn statement_number(alloc: Global, text: &str, place: u32) -> Result<u32, AllocError>
     requires short { length text.now < 2 ^ 32 }
     ensures number { IfOk result (λ number. number ≡ statement_number text.now place) }
 {
     tokens_are_in_order();
     match tokens(alloc, text) {
-        Ok(found) => number_at(text, place, found.as_slice()),
+        Ok(found) => number_among(text, place, found.as_slice()),
         Err(LexFault::Lexical { .. }) => Ok(1),
         Err(LexFault::NoMemory) => Err(AllocError),
     }

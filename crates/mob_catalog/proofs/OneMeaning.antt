@@ -5,7 +5,7 @@ use Rattle.mob_typed.specs.declared.typed.ConstText.{ConstText}
 use Rattle.mob_value.specs.declared.value.Value.{Value}
 use Rattle.mob_literal.proofs.SqlReading.{one_sql_reading}
 use Rattle.mob_catalog.specs.Constants.{ConstantFails, IsConstant, at_constant}
-use Rattle.mob_catalog.specs.Faults.{IsRefusedAs}
+use Rattle.mob_catalog.specs.Faults.{IsKindOfFault}
 use Rattle.mob_catalog.specs.Outcomes.{ConstantsHaveOneMeaning, ConstantsHaveOneRefusal, ConstantsNeverMeanAndFail}
 use Rattle.mob_catalog.proofs.OneFirst.{IsSettled, all_one, none_fails, one_first}
 use Rattle.mob_catalog.proofs.OneTable.{fault_known, one_kind, value_known}
@@ -21,7 +21,7 @@ module _ (day : ℤ) where
   one_refusal n c e f h k =
       let same = one_sql_reading c.ty day c.text (Err h.fault) (Err k.fault) (fault_known h.fault e.kind h.for_fault) (fault_known k.fault f.kind k.for_fault) h.says k.says in
       let fault : h.fault ≡ k.fault = cc same in
-      let kind : e.kind ≡ f.kind = one_kind k.fault e.kind f.kind (subst (λ x. IsRefusedAs x e.kind) fault h.for_fault) k.for_fault in
+      let kind : e.kind ≡ f.kind = one_kind k.fault e.kind f.kind (subst (λ x. IsKindOfFault x e.kind) fault h.for_fault) k.for_fault in
       h.there ∙ ap (at_constant c) kind ∙ sym k.there
 
   abbrev Fails : ℕ → ConstText → Refusal → Type 0

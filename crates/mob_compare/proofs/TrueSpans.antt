@@ -7,7 +7,7 @@ use Rattle.mob_span.specs.Span.{SpanOf, has}
 use Rattle.mob_span.specs.Sets.{in_some}
 use Rattle.mob_span.proofs.SpanLemmas.{some_instant}
 use Rattle.mob_span.proofs.Insides.{clear_has}
-use Rattle.mob_span.proofs.Shared.{AllClear, all_after}
+use Rattle.mob_span.proofs.Shared.{AreAllClear, all_after}
 use Rattle.mob_slice.specs.Slices.{value_at, IsOrdered}
 use Rattle.mob_slice.specs.Operands.{steady_value, steady_limit}
 use Rattle.mob_slice.specs.declared.slice.Slice.{Slice}
@@ -20,11 +20,11 @@ abbrev pub true_spans : List (Slice (Steady Bool)) → List SpanOf
 true_spans [] = []
 true_spans (s ∷ v) = cond s.course.value (s.span ∷ true_spans v) (true_spans v)
 
-none_past : (q : SpanOf) (v : List (Slice (Steady Bool))) (t : Ratio) → AllClear (λ s. s.span) q v → has q t ≡ true → value_at steady_value v t ≡ None
+none_past : (q : SpanOf) (v : List (Slice (Steady Bool))) (t : Ratio) → AreAllClear (λ s. s.span) q v → has q t ≡ true → value_at steady_value v t ≡ None
 none_past q [] t h k = refl
 none_past q (s ∷ v) t h k = rw (clear_has q s.span t h.0 k) (none_past q v t h.1 k)
 
-true_by : (s : SpanOf) (v : List (Slice (Steady Bool))) (t : Ratio) (b k : Bool) → has s t ≡ b → AllClear (λ r. r.span) s v → in_some (true_spans v) t ≡ is_true (value_at steady_value v t) → in_some (cond k (s ∷ true_spans v) (true_spans v)) t ≡ is_true (cond b (Some k) (value_at steady_value v t))
+true_by : (s : SpanOf) (v : List (Slice (Steady Bool))) (t : Ratio) (b k : Bool) → has s t ≡ b → AreAllClear (λ r. r.span) s v → in_some (true_spans v) t ≡ is_true (value_at steady_value v t) → in_some (cond k (s ∷ true_spans v) (true_spans v)) t ≡ is_true (cond b (Some k) (value_at steady_value v t))
 true_by s v t true true e h same = rw e refl
 true_by s v t true false e h same = same ∙ ap is_true (none_past s v t h e)
 true_by s v t false true e h same = rw e same

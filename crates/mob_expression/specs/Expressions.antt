@@ -20,7 +20,7 @@ use Rattle.mob_operators.specs.Table.{table, is_irrational}
 use Rattle.mob_typed.specs.Trees.{TypedTree, typed, none, more, typed_trees, types_of}
 use Rattle.mob_expression.specs.Answers.{Mistake, refuse, ◌>>=◌, unless, found, TypingStep, one_more}
 use Rattle.mob_expression.specs.Names.{column_of, entry_from}
-use Rattle.mob_expression.specs.Scopes.{SourceParts, ScopeParts}
+use Rattle.mob_expression.specs.Scopes.{ScopeTableParts, ScopeParts}
 use Rattle.mob_expression.specs.declared.scope.Found.{Found}
 use Rattle.mob_expression.specs.Words.{type_named, literal_type, number_type, is_zero}
 
@@ -33,7 +33,7 @@ with_first None n others = others
 with_first (Some c) n others = record { from = n; column = c.0; ty = c.1 } ∷ others
 
 -- the columns of this name in the tables of FROM, the first of which has number n
-abbrev pub matches : ℕ → List (List ℕ × SourceParts) → List ℕ → List Found
+abbrev pub matches : ℕ → List (List ℕ × ScopeTableParts) → List ℕ → List Found
 matches n [] name = []
 matches n (s ∷ ss) name = with_first (column_of s.1.columns name) n (matches (n + 1) ss name)
 

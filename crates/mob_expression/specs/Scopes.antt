@@ -1,23 +1,23 @@
 -- What an expression sees.
 use Rattle.std.specs.Prelude.{ℕ, List, map}
-use Rattle.mob_expression.specs.declared.scope.Source.{Source}
+use Rattle.mob_expression.specs.declared.scope.ScopeTable.{ScopeTable}
 use Rattle.mob_expression.specs.declared.scope.Scope.{Scope}
 use Rattle.mob_typed.specs.Statements.{ColumnList}
 
 -- a table of FROM: its number and its columns
-pub record SourceParts : Type 0 where
+pub record ScopeTableParts : Type 0 where
   pub table : ℕ
   pub columns : ColumnList
 
 -- what an expression sees: the tables of FROM under the names that they go by there, and the number of its statement
 pub record ScopeParts : Type 0 where
-  pub from : List (List ℕ × SourceParts)
+  pub from : List (List ℕ × ScopeTableParts)
   pub statement : ℕ
 
-abbrev pub source_of : Source → List ℕ × SourceParts
+abbrev pub source_of : ScopeTable → List ℕ × ScopeTableParts
 source_of s = (s.name.now, record { table = s.table; columns = s.columns.now })
 
-abbrev pub sources_of : List Source → List (List ℕ × SourceParts)
+abbrev pub sources_of : List ScopeTable → List (List ℕ × ScopeTableParts)
 sources_of ss = map source_of ss
 
 abbrev pub scope_of : Scope → ScopeParts

@@ -6,11 +6,11 @@ ghost use Rattle.mob_expression.specs.Scopes.{source_of, sources_of, scope_of};
 ghost use Rattle.mob_expression.specs.Expressions.{the_one, matches, column_named};
 
 use crate::fault::Fault;
-use crate::scope::{Found, Scope, Source, number};
+use crate::scope::{Found, Scope, ScopeTable, number};
 use mob_ast::{Kind, SqlType, Word};
 
 // The one column of this name in all tables of FROM.
-fn bare_column(from: &[Source<'_>], name: &Word) -> Result<Found, Fault>
+fn bare_column(from: &[ScopeTable<'_>], name: &Word) -> Result<Found, Fault>
     ensures { AnswersAs (λ f. f) result (the_one name.now.place (matches 0 (sources_of from.now) name.now.text)) }
 {
     let mut one: Option<Found> = None;
@@ -36,7 +36,7 @@ fn bare_column(from: &[Source<'_>], name: &Word) -> Result<Found, Fault>
 }
 
 // The number and the content of the table of FROM that goes by this name.
-pub fn source_named<'a>(from: &'a [Source<'a>], name: &str) -> Option<(usize, &'a Source<'a>)>
+pub fn source_named<'a>(from: &'a [ScopeTable<'a>], name: &str) -> Option<(usize, &'a ScopeTable<'a>)>
     ensures first { option_map (λ r. (r.0, (source_of r.1.now).1)) result ≡ entry_from 0 (sources_of from.now) name.now }
 {
     for (index, source) in from.iter().enumerate() {

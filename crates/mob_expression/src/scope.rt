@@ -8,7 +8,7 @@ use mob_ast::SqlType;
 
 /// A table of FROM under the name that it goes by there.
 #[derive(Clone, Copy)]
-pub struct Source<'a> {
+pub struct ScopeTable<'a> {
     /// The name.
     pub name: &'a str,
     /// The number of the table.
@@ -21,7 +21,7 @@ pub struct Source<'a> {
 #[derive(Clone, Copy)]
 pub struct Scope<'a> {
     /// The tables of FROM.
-    pub from: &'a [Source<'a>],
+    pub from: &'a [ScopeTable<'a>],
     /// The number of the statement, from 1.
     pub statement: u32,
 }

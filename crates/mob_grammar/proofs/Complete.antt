@@ -10,7 +10,7 @@ use Rattle.mob_ast.specs.Trees.{Tree, tree, Trees, none, more, trees_from}
 use Rattle.mob_grammar.specs.declared.mark.Mark.{Mark}
 use Rattle.mob_grammar.specs.declared.mark.Mark.TheVariants.{Distinct, Not, Is, Null, True, False, Tilde, Times, Cast, Open, Close, Comma, Dot}
 use Rattle.mob_grammar.specs.Marks.{is, strength}
-use Rattle.mob_grammar.specs.Symbols.{Tok, sign, identifier, numeral, string, is_sign, is_name, is_string, binding, begins, starts, goes_on, binary, unary, leaf, is_literal}
+use Rattle.mob_grammar.specs.Symbols.{PlacedSymbol, sign, identifier, numeral, string, is_sign, is_name, is_string, binding, begins, starts, goes_on, binary, unary, leaf, is_literal}
 use Rattle.mob_grammar.specs.Expressions.{Rank, disjunction, conjunction, negation, nullness, comparison, other, complement, sum, product, signed, cast, primary, next, tight, chains, prefixes, word, TypeName, plain, inner, Phrase, up, chain, prefixed, is_null, is_not_null, compared, cast_to, a_number, a_string, is_true, is_false, a_null, a_literal, a_call, a_column, a_table_column, in_brackets, Arguments, nothing, something, Behind, end, another}
 use Rattle.mob_grammar.specs.Reading.{Answer, TokenReader, ◌>>=◌, closed, if_mark, name_at, string_at, inner_at, type_at, listed_from, listed, chain_from, postfix_from, null_at, cast_at, args, literal_at, column_at, opened, named_at, mark_primary, expression_at, cast_rank, signed_rank, product_rank, sum_rank, complement_rank, other_rank, comparison_rank, nullness_rank, negation_rank, conjunction_rank, disjunction_rank}
 use Rattle.mob_grammar.specs.Reading as read
@@ -19,7 +19,7 @@ use Rattle.mob_grammar.proofs.Tells.{through}
 use Rattle.mob_grammar.proofs.Same.{expression_unfolds, column_arguments}
 
 -- what follows does not go on a phrase of that rank
-abbrev pub Stops : Rank → List Tok → Type 0
+abbrev pub Stops : Rank → List PlacedSymbol → Type 0
 Stops k [] = Unit {0}
 Stops k (t ∷ l) = binding t < tight k
 
@@ -37,26 +37,26 @@ tight_next signed = omega arith
 tight_next cast = omega arith
 tight_next primary = omega arith
 
-pub stops_next : (k : Rank) (r : List Tok) → Stops k r → Stops (next k) r
+pub stops_next : (k : Rank) (r : List PlacedSymbol) → Stops k r → Stops (next k) r
 stops_next k [] h = tt
 stops_next k (t ∷ r) h = omega (arith, tight_next k)
 
 not_equal : (a b : ℕ) → a < b → (a == b) ≡ false
 not_equal a b h = elim (eqb_tells a b) [ inl p ↦ absurd (omega (arith, p.1)) | inr p ↦ p.0 ]
 
-pub stops_chain : (k : Rank) (j : ℕ) (r : List Tok) → tight k ≡ j → Stops k r → goes_on j r ≡ false
+pub stops_chain : (k : Rank) (j : ℕ) (r : List PlacedSymbol) → tight k ≡ j → Stops k r → goes_on j r ≡ false
 stops_chain k j [] e h = refl
 stops_chain k j (t ∷ r) e h = not_equal (binding t) j (omega arith)
 
 -- a mark that binds tight enough does not follow
-pub stops_mark : (k : Rank) (m : Mark) (r : List Tok) → tight k ≤ strength m → Stops k r → starts m r ≡ false
+pub stops_mark : (k : Rank) (m : Mark) (r : List PlacedSymbol) → tight k ≤ strength m → Stops k r → starts m r ≡ false
 stops_mark k m [] e h = refl
 stops_mark k m (t ∷ r) e h = elim (told (is_sign m t)) [
   | inl is_one ↦ let same : binding t ≡ strength m = ap binding (token_is m t is_one) in absurd (omega arith)
   | inr none_there ↦ none_there
 ]
 
-stops_string : (r : List Tok) → Stops primary r → begins is_string r ≡ false
+stops_string : (r : List PlacedSymbol) → Stops primary r → begins is_string r ≡ false
 stops_string [] h = refl
 stops_string (t ∷ r) h = elim (told (is_string t)) [
   | inl is_one ↦ let s = string_is t is_one in let same : binding t ≡ 12 = ap binding s.1 in absurd (omega arith)
@@ -64,12 +64,12 @@ stops_string (t ∷ r) h = elim (told (is_string t)) [
 ]
 
 -- a phrase takes a token
-shorter_type : {l r : List Tok} {ty : TypeWord} → TypeName l ty r → length r < length l
+shorter_type : {l r : List PlacedSymbol} {ty : TypeWord} → TypeName l ty r → length r < length l
 shorter_type plain = omega arith
 shorter_type inner = omega arith
 
 mutual
-  pub shorter : {k : Rank} {l r : List Tok} {e : Tree} → Phrase k l e r → length r < length l
+  pub shorter : {k : Rank} {l r : List PlacedSymbol} {e : Tree} → Phrase k l e r → length r < length l
   shorter (up d) = shorter d
   shorter (chain a c b) = omega (arith, shorter a, shorter b)
   shorter (prefixed c a) = omega (arith, shorter a)
@@ -88,16 +88,16 @@ mutual
   shorter a_table_column = omega arith
   shorter (in_brackets a) = omega (arith, shorter a)
 
-  pub shorter_arguments : {l r : List Tok} {es : Trees} → Arguments l es r → length r < length l
+  pub shorter_arguments : {l r : List PlacedSymbol} {es : Trees} → Arguments l es r → length r < length l
   shorter_arguments nothing = omega arith
   shorter_arguments (something a b) = omega (arith, shorter a, shorter_behind b)
 
-  pub shorter_behind : {l r : List Tok} {es : Trees} → Behind l es r → length r < length l
+  pub shorter_behind : {l r : List PlacedSymbol} {es : Trees} → Behind l es r → length r < length l
   shorter_behind end = omega arith
   shorter_behind (another a b) = omega (arith, shorter a, shorter_behind b)
 
 -- which marks a phrase of a rank does not begin with
-abbrev Begins : Rank → List Tok → Type 0
+abbrev Begins : Rank → List PlacedSymbol → Type 0
 Begins disjunction l = Unit {0}
 Begins conjunction l = Unit {0}
 Begins negation l = Unit {0}
@@ -111,7 +111,7 @@ Begins signed l = (starts Not l ≡ false) × (starts Tilde l ≡ false)
 Begins cast l = (starts Not l ≡ false) × (starts Tilde l ≡ false) × (goes_on 8 l ≡ false)
 Begins primary l = (starts Not l ≡ false) × (starts Tilde l ≡ false) × (goes_on 8 l ≡ false)
 
-begins_looser : (k : Rank) (l : List Tok) → Begins (next k) l → Begins k l
+begins_looser : (k : Rank) (l : List PlacedSymbol) → Begins (next k) l → Begins k l
 begins_looser disjunction l h = tt
 begins_looser conjunction l h = tt
 begins_looser negation l h = tt
@@ -126,13 +126,13 @@ begins_looser cast l h = h
 begins_looser primary l h = h
 
 -- a token that binds otherwise than a mark is not that mark
-not_mark : (m : Mark) (t : Tok) (j : ℕ) → binding t ≡ j → (strength m ≡ j → ⊥) → is_sign m t ≡ false
+not_mark : (m : Mark) (t : PlacedSymbol) (j : ℕ) → binding t ≡ j → (strength m ≡ j → ⊥) → is_sign m t ≡ false
 not_mark m t j b apart = elim (told (is_sign m t)) [
   | inl is_one ↦ absurd (apart (sym (ap binding (token_is m t is_one)) ∙ b))
   | inr none_there ↦ none_there
 ]
 
-begins_prefix : (k : Rank) (t : Tok) (l : List Tok) → prefixes k t ≡ true → Begins k (t ∷ l)
+begins_prefix : (k : Rank) (t : PlacedSymbol) (l : List PlacedSymbol) → prefixes k t ≡ true → Begins k (t ∷ l)
 begins_prefix disjunction t l h = tt
 begins_prefix conjunction t l h = tt
 begins_prefix negation t l h = tt
@@ -146,11 +146,11 @@ begins_prefix signed t l h = (not_mark Not t 8 (eqb-true _ _ h) (λ e. omega ari
 begins_prefix cast t l h = cc
 begins_prefix primary t l h = cc
 
-begins_type : {l r : List Tok} {ty : TypeWord} → TypeName l ty r → Begins primary l
+begins_type : {l r : List PlacedSymbol} {ty : TypeWord} → TypeName l ty r → Begins primary l
 begins_type plain = (refl, refl, refl)
 begins_type inner = (refl, refl, refl)
 
-pub begins_with : {k : Rank} {l r : List Tok} {e : Tree} → Phrase k l e r → Begins k l
+pub begins_with : {k : Rank} {l r : List PlacedSymbol} {e : Tree} → Phrase k l e r → Begins k l
 begins_with (up {k} {l} d) = begins_looser k l (begins_with d)
 begins_with (chain a c b) = begins_with a
 begins_with (prefixed {k} {l} {t = t} c a) = begins_prefix k t l c
@@ -185,13 +185,13 @@ reader_at cast = cast_rank expression_at
 reader_at primary = read.primary expression_at
 
 -- a chain is read as far as e, with r still to come
-abbrev Chained : Rank → List Tok → Tree → List Tok → Type 0
+abbrev Chained : Rank → List PlacedSymbol → Tree → List PlacedSymbol → Type 0
 Chained k l e r = (m : ℕ) × (length r ≤ m) × (reader_at k l ≡ chain_from (tight k) (reader_at (next k)) m e r)
 
-abbrev Followed : Rank → Mark → TokenReader Node → List Tok → Tree → List Tok → Type 0
+abbrev Followed : Rank → Mark → TokenReader Node → List PlacedSymbol → Tree → List PlacedSymbol → Type 0
 Followed k m tail l e r = (n : ℕ) × (length r ≤ n) × (reader_at k l ≡ postfix_from m tail n e r)
 
-abbrev Read : Rank → List Tok → Tree → List Tok → Type 0
+abbrev Read : Rank → List PlacedSymbol → Tree → List PlacedSymbol → Type 0
 Read disjunction l e r = Chained disjunction l e r
 Read conjunction l e r = Chained conjunction l e r
 Read negation l e r = reader_at negation l ≡ Ok (e, r)
@@ -205,11 +205,11 @@ Read signed l e r = reader_at signed l ≡ Ok (e, r)
 Read cast l e r = Followed cast Cast cast_at l e r
 Read primary l e r = reader_at primary l ≡ Ok (e, r)
 
-ends_chain : (k : Rank) (l : List Tok) (e : Tree) (r : List Tok) → Chained k l e r → Stops k r → reader_at k l ≡ Ok (e, r)
+ends_chain : (k : Rank) (l : List PlacedSymbol) (e : Tree) (r : List PlacedSymbol) → Chained k l e r → Stops k r → reader_at k l ≡ Ok (e, r)
 ends_chain k l e r c h = c.2 ∙ chain_stops (tight k) (reader_at (next k)) c.0 e r (stops_chain k (tight k) r refl h)
 
 -- where the rest stops it, the phrase is what was read
-whole : (k : Rank) (l : List Tok) (e : Tree) (r : List Tok) → Read k l e r → Stops k r → reader_at k l ≡ Ok (e, r)
+whole : (k : Rank) (l : List PlacedSymbol) (e : Tree) (r : List PlacedSymbol) → Read k l e r → Stops k r → reader_at k l ≡ Ok (e, r)
 whole disjunction l e r c h = ends_chain disjunction l e r c h
 whole conjunction l e r c h = ends_chain conjunction l e r c h
 whole negation l e r c h = c
@@ -223,19 +223,19 @@ whole signed l e r c h = c
 whole cast l e r c h = c.2 ∙ postfix_stops Cast cast_at c.0 e r (stops_mark cast Cast r (omega arith) h)
 whole primary l e r c h = c
 
-begin_chain : (k : Rank) (l : List Tok) (e : Tree) (r : List Tok) → reader_at k l ≡ read.chain (tight k) (reader_at (next k)) l → length r < length l → reader_at (next k) l ≡ Ok (e, r) → Chained k l e r
+begin_chain : (k : Rank) (l : List PlacedSymbol) (e : Tree) (r : List PlacedSymbol) → reader_at k l ≡ read.chain (tight k) (reader_at (next k)) l → length r < length l → reader_at (next k) l ≡ Ok (e, r) → Chained k l e r
 unfolding read.chain
 begin_chain k l e r is_chain short h = (length l, omega arith, is_chain ∙ through (reader_at (next k) l) e r _ h)
 
-begin_postfix : (m : Mark) (tail : TokenReader Node) (operand : TokenReader Tree) (l : List Tok) (e : Tree) (r : List Tok) → operand l ≡ Ok (e, r) → read.postfix m tail operand l ≡ postfix_from m tail (length l) e r
+begin_postfix : (m : Mark) (tail : TokenReader Node) (operand : TokenReader Tree) (l : List PlacedSymbol) (e : Tree) (r : List PlacedSymbol) → operand l ≡ Ok (e, r) → read.postfix m tail operand l ≡ postfix_from m tail (length l) e r
 unfolding read.postfix
 begin_postfix m tail operand l e r h = through (operand l) e r _ h
 
-begin_comparison : (operand : TokenReader Tree) (l r : List Tok) (e : Tree) → operand l ≡ Ok (e, r) → read.comparison operand l ≡ read.compared operand e r
+begin_comparison : (operand : TokenReader Tree) (l r : List PlacedSymbol) (e : Tree) → operand l ≡ Ok (e, r) → read.comparison operand l ≡ read.compared operand e r
 unfolding read.comparison
 begin_comparison operand l r e h = through (operand l) e r _ h
 
-read_up : (k : Rank) (l : List Tok) (e : Tree) (r : List Tok) → Begins (next k) l → length r < length l → reader_at (next k) l ≡ Ok (e, r) → Read k l e r
+read_up : (k : Rank) (l : List PlacedSymbol) (e : Tree) (r : List PlacedSymbol) → Begins (next k) l → length r < length l → reader_at (next k) l ≡ Ok (e, r) → Read k l e r
 read_up disjunction l e r b short h = begin_chain disjunction l e r refl short h
 read_up conjunction l e r b short h = begin_chain conjunction l e r refl short h
 read_up negation l e r b short h = prefix_stops (is_sign Not) (nullness_rank expression_at) l b ∙ h
@@ -249,11 +249,11 @@ read_up signed l e r b short h = prefix_stops (λ t. binding t == 8) (cast_rank 
 read_up cast l e r b short h = (length l, omega arith, begin_postfix Cast cast_at (read.primary expression_at) l e r h)
 read_up primary l e r b short h = h
 
-longer_chain : (k : Rank) (l m r : List Tok) (a b : Tree) (t : Tok) → binding t ≡ tight k → Chained k l a (t ∷ m) → length r < length m → reader_at (next k) m ≡ Ok (b, r) → Chained k l (binary t a b) r
+longer_chain : (k : Rank) (l m r : List PlacedSymbol) (a b : Tree) (t : PlacedSymbol) → binding t ≡ tight k → Chained k l a (t ∷ m) → length r < length m → reader_at (next k) m ≡ Ok (b, r) → Chained k l (binary t a b) r
 longer_chain k l m r a b t is_op c short h =
     (c.0 - 1, omega (arith, c.1), c.2 ∙ chain_goes_on (tight k) (reader_at (next k)) c.0 a t m is_op c.1 ∙ through (reader_at (next k) m) b r _ h)
 
-read_chain : (k : Rank) (l m r : List Tok) (a b : Tree) (t : Tok) → chains k t ≡ true → Read k l a (t ∷ m) → length r < length m → reader_at (next k) m ≡ Ok (b, r) → Read k l (binary t a b) r
+read_chain : (k : Rank) (l m r : List PlacedSymbol) (a b : Tree) (t : PlacedSymbol) → chains k t ≡ true → Read k l a (t ∷ m) → length r < length m → reader_at (next k) m ≡ Ok (b, r) → Read k l (binary t a b) r
 read_chain disjunction l m r a b t is_op c short h = longer_chain disjunction l m r a b t (eqb-true _ _ is_op) c short h
 read_chain conjunction l m r a b t is_op c short h = longer_chain conjunction l m r a b t (eqb-true _ _ is_op) c short h
 read_chain negation l m r a b t is_op c short h = cc
@@ -268,7 +268,7 @@ read_chain cast l m r a b t is_op c short h = cc
 read_chain primary l m r a b t is_op c short h = cc
 
 -- an operator stops the operand before it
-stops_operand : (k : Rank) (t : Tok) (m : List Tok) → chains k t ≡ true → Stops (next k) (t ∷ m)
+stops_operand : (k : Rank) (t : PlacedSymbol) (m : List PlacedSymbol) → chains k t ≡ true → Stops (next k) (t ∷ m)
 stops_operand disjunction t m h = omega (arith, eqb-true _ _ h)
 stops_operand conjunction t m h = omega (arith, eqb-true _ _ h)
 stops_operand negation t m h = cc
@@ -282,7 +282,7 @@ stops_operand signed t m h = cc
 stops_operand cast t m h = cc
 stops_operand primary t m h = cc
 
-read_prefix : (k : Rank) (t : Tok) (l r : List Tok) (a : Tree) → prefixes k t ≡ true → Read k l a r → Read k (t ∷ l) (unary t a) r
+read_prefix : (k : Rank) (t : PlacedSymbol) (l r : List PlacedSymbol) (a : Tree) → prefixes k t ≡ true → Read k l a r → Read k (t ∷ l) (unary t a) r
 read_prefix disjunction t l r a h c = cc
 read_prefix conjunction t l r a h c = cc
 read_prefix negation t l r a h c = prefix_goes_on (is_sign Not) (nullness_rank expression_at) t l h ∙ through (negation_rank expression_at l) a r _ c
@@ -297,7 +297,7 @@ read_prefix cast t l r a h c = cc
 read_prefix primary t l r a h c = cc
 
 -- what begins a phrase is no closing bracket, no * and no DISTINCT
-head_prefix : (k : Rank) (t : Tok) → prefixes k t ≡ true → (is_sign Close t ≡ false) × (is_sign Times t ≡ false) × (is_sign Distinct t ≡ false)
+head_prefix : (k : Rank) (t : PlacedSymbol) → prefixes k t ≡ true → (is_sign Close t ≡ false) × (is_sign Times t ≡ false) × (is_sign Distinct t ≡ false)
 head_prefix disjunction t h = cc
 head_prefix conjunction t h = cc
 head_prefix negation t h = (ap (is_sign Close) (token_is Not t h), ap (is_sign Times) (token_is Not t h), ap (is_sign Distinct) (token_is Not t h))
@@ -311,11 +311,11 @@ head_prefix signed t h = (not_mark Close t 8 (eqb-true _ _ h) (λ e. omega arith
 head_prefix cast t h = cc
 head_prefix primary t h = cc
 
-head_type : {l r : List Tok} {ty : TypeWord} → TypeName l ty r → (starts Close l ≡ false) × (starts Times l ≡ false) × (starts Distinct l ≡ false)
+head_type : {l r : List PlacedSymbol} {ty : TypeWord} → TypeName l ty r → (starts Close l ≡ false) × (starts Times l ≡ false) × (starts Distinct l ≡ false)
 head_type plain = (refl, refl, refl)
 head_type inner = (refl, refl, refl)
 
-pub head_not : {k : Rank} {l r : List Tok} {e : Tree} → Phrase k l e r → (starts Close l ≡ false) × (starts Times l ≡ false) × (starts Distinct l ≡ false)
+pub head_not : {k : Rank} {l r : List PlacedSymbol} {e : Tree} → Phrase k l e r → (starts Close l ≡ false) × (starts Times l ≡ false) × (starts Distinct l ≡ false)
 head_not (up d) = head_not d
 head_not (chain a c b) = head_not a
 head_not (prefixed {k} {t = t} c a) = head_prefix k t c
@@ -347,12 +347,12 @@ trees_all : (ts : List Tree) → trees_before ts none ≡ trees_from ts
 trees_all [] = refl
 trees_all (t ∷ ts) = ap (more t) (trees_all ts)
 
-rest_of : Answer (List Tree) → List Tok
+rest_of : Answer (List Tree) → List PlacedSymbol
 rest_of (Ok x) = x.1
 rest_of (Err r) = r
 
 -- the arguments of a call that no string follows are not those of a literal
-not_literal : (l r : List Tok) (ts : List Tree) → args expression_at l ≡ Ok (ts, r) → Stops primary r → is_literal l ≡ false
+not_literal : (l r : List PlacedSymbol) (ts : List Tree) → args expression_at l ≡ Ok (ts, r) → Stops primary r → is_literal l ≡ false
 unfolding rest_of
 not_literal [] r ts h s = refl
 not_literal (a ∷ []) r ts h s = refl
@@ -375,92 +375,92 @@ not_literal (a ∷ b ∷ c ∷ y) r ts h s = elim (told (is_name a)) [
 ]
 
 -- a type is read where no bracket follows it
-pub type_read : {l r : List Tok} {ty : TypeWord} → TypeName l ty r → starts Open r ≡ false → type_at l ≡ Ok (ty, r)
+pub type_read : {l r : List PlacedSymbol} {ty : TypeWord} → TypeName l ty r → starts Open r ≡ false → type_at l ≡ Ok (ty, r)
 unfolding type_at inner_at name_at closed if_mark
 type_read (plain {r} {n} {p}) h = passed (starts Open r) _ _ h
 type_read inner h = refl
 
-type_tail : {l r : List Tok} {ty : TypeWord} → TypeName l ty r → starts Open r ≡ false → cast_at l ≡ Ok (node.Cast ty, r)
+type_tail : {l r : List PlacedSymbol} {ty : TypeWord} → TypeName l ty r → starts Open r ≡ false → cast_at l ≡ Ok (node.Cast ty, r)
 unfolding cast_at
 type_tail d h = ap (λ a. a >>= λ x. Ok (node.Cast x.0, x.1)) (type_read d h)
 
-null_read : (q : ℕ) (r : List Tok) → null_at (sign Null q ∷ r) ≡ Ok (node.IsNull, r)
+null_read : (q : ℕ) (r : List PlacedSymbol) → null_at (sign Null q ∷ r) ≡ Ok (node.IsNull, r)
 unfolding null_at if_mark closed
 null_read q r = refl
 
-not_null_read : (q o : ℕ) (r : List Tok) → null_at (sign Not q ∷ sign Null o ∷ r) ≡ Ok (node.IsNotNull, r)
+not_null_read : (q o : ℕ) (r : List PlacedSymbol) → null_at (sign Not q ∷ sign Null o ∷ r) ≡ Ok (node.IsNotNull, r)
 unfolding null_at if_mark closed
 not_null_read q o r = refl
 
-longer_postfix : (k : Rank) (m : Mark) (tail : TokenReader Node) (l u r : List Tok) (a : Tree) (p : ℕ) (x : Node) → is m m ≡ true → Followed k m tail l a (sign m p ∷ u) → length r ≤ length u → tail u ≡ Ok (x, r) → Followed k m tail l (tree x p (more a none)) r
+longer_postfix : (k : Rank) (m : Mark) (tail : TokenReader Node) (l u r : List PlacedSymbol) (a : Tree) (p : ℕ) (x : Node) → is m m ≡ true → Followed k m tail l a (sign m p ∷ u) → length r ≤ length u → tail u ≡ Ok (x, r) → Followed k m tail l (tree x p (more a none)) r
 longer_postfix k m tail l u r a p x itself c short h =
     (c.0 - 1, omega (arith, c.1), c.2 ∙ postfix_goes_on m tail c.0 a (sign m p) u itself c.1 ∙ through (tail u) x r _ h)
 
 -- what stands behind a name
-column_alone : (w : Word) (l : List Tok) → Stops primary l → named_at expression_at w l ≡ Ok (leaf (node.Column None w) w.place, l)
+column_alone : (w : Word) (l : List PlacedSymbol) → Stops primary l → named_at expression_at w l ≡ Ok (leaf (node.Column None w) w.place, l)
 unfolding named_at if_mark
 column_alone w l h = passed (begins is_string l) _ _ (stops_string l h) ∙ passed (starts Open l) _ _ (stops_mark primary Open l (omega arith) h) ∙ passed (starts Dot l) _ _ (stops_mark primary Dot l (omega arith) h)
 
-column_of_table : (w : Word) (q : ℕ) (m : List ℕ) (o : ℕ) (l : List Tok) → named_at expression_at w (sign Dot q ∷ identifier m o ∷ l) ≡ Ok (leaf (node.Column (Some w) (word m o)) w.place, l)
+column_of_table : (w : Word) (q : ℕ) (m : List ℕ) (o : ℕ) (l : List PlacedSymbol) → named_at expression_at w (sign Dot q ∷ identifier m o ∷ l) ≡ Ok (leaf (node.Column (Some w) (word m o)) w.place, l)
 unfolding named_at if_mark column_at name_at
 column_of_table w q m o l = refl
 
-literal_read : {l r : List Tok} {ty : TypeWord} {s : List ℕ} {p : ℕ} → TypeName l ty (string s p ∷ r) → read.primary expression_at l ≡ Ok (leaf (node.Literal ty s) p, r)
+literal_read : {l r : List PlacedSymbol} {ty : TypeWord} {s : List ℕ} {p : ℕ} → TypeName l ty (string s p ∷ r) → read.primary expression_at l ≡ Ok (leaf (node.Literal ty s) p, r)
 unfolding read.primary named_at if_mark opened inner_at name_at closed literal_at string_at
 literal_read plain = refl
 literal_read inner = refl
 
-call_read : (w : Word) (q : ℕ) (l r : List Tok) (ts : List Tree) → is_literal l ≡ false → args expression_at l ≡ Ok (ts, r) → named_at expression_at w (sign Open q ∷ l) ≡ Ok (tree (node.Call w.text) w.place (trees_from ts), r)
+call_read : (w : Word) (q : ℕ) (l r : List PlacedSymbol) (ts : List Tree) → is_literal l ≡ false → args expression_at l ≡ Ok (ts, r) → named_at expression_at w (sign Open q ∷ l) ≡ Ok (tree (node.Call w.text) w.place (trees_from ts), r)
 unfolding named_at if_mark opened
 call_read w q l r ts h d = passed (is_literal l) _ _ h ∙ through (args expression_at l) ts r _ d
 
-primary_name : (n : List ℕ) (p : ℕ) (l : List Tok) → read.primary expression_at (identifier n p ∷ l) ≡ named_at expression_at (word n p) l
+primary_name : (n : List ℕ) (p : ℕ) (l : List PlacedSymbol) → read.primary expression_at (identifier n p ∷ l) ≡ named_at expression_at (word n p) l
 unfolding read.primary
 primary_name n p l = refl
 
-number_read : (n : List ℕ) (p : ℕ) (r : List Tok) → read.primary expression_at (numeral n p ∷ r) ≡ Ok (leaf (node.Number n) p, r)
+number_read : (n : List ℕ) (p : ℕ) (r : List PlacedSymbol) → read.primary expression_at (numeral n p ∷ r) ≡ Ok (leaf (node.Number n) p, r)
 unfolding read.primary
 number_read n p r = refl
 
-string_read : (s : List ℕ) (p : ℕ) (r : List Tok) → read.primary expression_at (string s p ∷ r) ≡ Ok (leaf (node.Str s) p, r)
+string_read : (s : List ℕ) (p : ℕ) (r : List PlacedSymbol) → read.primary expression_at (string s p ∷ r) ≡ Ok (leaf (node.Str s) p, r)
 unfolding read.primary
 string_read s p r = refl
 
-true_read : (p : ℕ) (r : List Tok) → read.primary expression_at (sign True p ∷ r) ≡ Ok (leaf node.True p, r)
+true_read : (p : ℕ) (r : List PlacedSymbol) → read.primary expression_at (sign True p ∷ r) ≡ Ok (leaf node.True p, r)
 unfolding read.primary mark_primary
 true_read p r = refl
 
-false_read : (p : ℕ) (r : List Tok) → read.primary expression_at (sign False p ∷ r) ≡ Ok (leaf node.False p, r)
+false_read : (p : ℕ) (r : List PlacedSymbol) → read.primary expression_at (sign False p ∷ r) ≡ Ok (leaf node.False p, r)
 unfolding read.primary mark_primary
 false_read p r = refl
 
-null_word_read : (p : ℕ) (r : List Tok) → read.primary expression_at (sign Null p ∷ r) ≡ Ok (leaf node.Null p, r)
+null_word_read : (p : ℕ) (r : List PlacedSymbol) → read.primary expression_at (sign Null p ∷ r) ≡ Ok (leaf node.Null p, r)
 unfolding read.primary mark_primary
 null_word_read p r = refl
 
-brackets_read : (p q : ℕ) (l r : List Tok) (e : Tree) → expression_at l ≡ Ok (e, sign Close q ∷ r) → read.primary expression_at (sign Open p ∷ l) ≡ Ok (e, r)
+brackets_read : (p q : ℕ) (l r : List PlacedSymbol) (e : Tree) → expression_at l ≡ Ok (e, sign Close q ∷ r) → read.primary expression_at (sign Open p ∷ l) ≡ Ok (e, r)
 unfolding read.primary mark_primary closed
 brackets_read p q l r e h = through (expression_at l) e (sign Close q ∷ r) (λ x. closed Close x.0 x.1) h
 
 -- arguments
-no_arguments : (p : ℕ) (r : List Tok) → args expression_at (sign Close p ∷ r) ≡ Ok ([], r)
+no_arguments : (p : ℕ) (r : List PlacedSymbol) → args expression_at (sign Close p ∷ r) ≡ Ok ([], r)
 unfolding args
 no_arguments p r = refl
 
-some_arguments : (l m : List Tok) (a : Tree) → starts Close l ≡ false → expression_at l ≡ Ok (a, m) → args expression_at l ≡ (listed_from Comma expression_at (length l) (a ∷ []) m >>= λ x. closed Close x.0 x.1)
+some_arguments : (l m : List PlacedSymbol) (a : Tree) → starts Close l ≡ false → expression_at l ≡ Ok (a, m) → args expression_at l ≡ (listed_from Comma expression_at (length l) (a ∷ []) m >>= λ x. closed Close x.0 x.1)
 unfolding args listed
 some_arguments l m a h k = passed (starts Close l) _ _ h ∙ ap (λ v. (v >>= λ x. listed_from Comma expression_at (length l) (x.0 ∷ []) x.1) >>= λ x. closed Close x.0 x.1) k
 
-behind_ends : {l r : List Tok} {es : Trees} → Behind l es r → Stops disjunction l
+behind_ends : {l r : List PlacedSymbol} {es : Trees} → Behind l es r → Stops disjunction l
 behind_ends end = omega arith
 behind_ends (another a b) = omega arith
 
 -- an expression where nothing goes on
-inside : (l r : List Tok) (e : Tree) → Read disjunction l e r → Stops disjunction r → expression_at l ≡ Ok (e, r)
+inside : (l r : List PlacedSymbol) (e : Tree) → Read disjunction l e r → Stops disjunction r → expression_at l ≡ Ok (e, r)
 inside l r e c h = expression_unfolds l ∙ whole disjunction l e r c h
 
 mutual
-  pub complete : {k : Rank} {l r : List Tok} {e : Tree} → Phrase k l e r → Stops (next k) r → Read k l e r
+  pub complete : {k : Rank} {l r : List PlacedSymbol} {e : Tree} → Phrase k l e r → Stops (next k) r → Read k l e r
   complete (up {k} {l} {r} {e} d) stops = read_up k l e r (begins_with d) (shorter d) (whole (next k) l e r (complete d (stops_next (next k) r stops)) stops)
   complete (chain {k} {l} {m} {r} {a} {b} {t} da c db) stops =
       read_chain k l m r a b t c (complete da (stops_operand k t m c)) (shorter db) (whole (next k) m b r (complete db (stops_next (next k) r stops)) stops)
@@ -485,13 +485,13 @@ mutual
   complete (a_table_column {r} {n} {m} {p} {q} {o}) stops = primary_name n p (sign Dot q ∷ identifier m o ∷ r) ∙ column_of_table (word n p) q m o r
   complete (in_brackets {l} {r} {a} {p} {q} d) stops = brackets_read p q l r a (inside l (sign Close q ∷ r) a (complete d (omega arith)) (omega arith))
 
-  complete_arguments : {l r : List Tok} {es : Trees} → Arguments l es r → (ts : List Tree) × (args expression_at l ≡ Ok (ts, r)) × (trees_from ts ≡ es)
+  complete_arguments : {l r : List PlacedSymbol} {es : Trees} → Arguments l es r → (ts : List Tree) × (args expression_at l ≡ Ok (ts, r)) × (trees_from ts ≡ es)
   complete_arguments (nothing {r} {p}) = ([], no_arguments p r, refl)
   complete_arguments (something {l} {m} {r} {a} {es} da db) =
       let found = complete_behind db (length l) (omega (arith, shorter da)) (a ∷ []) in
       (found.0, some_arguments l m a (head_not da).0 (inside l m a (complete da (stops_next disjunction m (behind_ends db))) (behind_ends db)) ∙ found.1, sym (trees_all found.0) ∙ found.2)
 
-  complete_behind : {l r : List Tok} {es : Trees} → Behind l es r → (m : ℕ) → length l ≤ m → (before : List Tree)
+  complete_behind : {l r : List PlacedSymbol} {es : Trees} → Behind l es r → (m : ℕ) → length l ≤ m → (before : List Tree)
       → (ts : List Tree) × ((listed_from Comma expression_at m before l >>= λ x. closed Close x.0 x.1) ≡ Ok (ts, r)) × (trees_before ts none ≡ trees_before before es)
   complete_behind (end {r} {p}) m fuel before =
       (before, through (listed_from Comma expression_at m before (sign Close p ∷ r)) before (sign Close p ∷ r) (λ x. closed Close x.0 x.1) (listed_stops Comma expression_at m before (sign Close p ∷ r) refl) ∙ closed_there Close before (sign Close p) r refl, refl)
@@ -501,5 +501,5 @@ mutual
       (found.0, ap (λ x. x >>= λ x. closed Close x.0 x.1) (listed_goes_on Comma expression_at m before (sign Comma p) l refl fuel ∙ through (expression_at l) a u _ (inside l u a (complete da (stops_next disjunction u (behind_ends db))) (behind_ends db))) ∙ found.1, found.2 ∙ trees_push before a es)
 
 -- an expression is read where nothing behind goes on
-pub expression_read : {l r : List Tok} {e : Tree} → Phrase disjunction l e r → Stops disjunction r → expression_at l ≡ Ok (e, r)
+pub expression_read : {l r : List PlacedSymbol} {e : Tree} → Phrase disjunction l e r → Stops disjunction r → expression_at l ≡ Ok (e, r)
 expression_read {l} {r} {e} d h = inside l r e (complete d (stops_next disjunction r h)) h

@@ -11,7 +11,7 @@ use Rattle.mob_ast.specs.Trees.{Tree, Trees}
 use Rattle.mob_grammar.specs.declared.mark.Mark.{Mark}
 use Rattle.mob_grammar.specs.declared.mark.Mark.TheVariants.{And, Or, Not, Tilde, With, Delimiter, Comma, Semicolon}
 use Rattle.mob_grammar.specs.Symbols as symbol
-use Rattle.mob_grammar.specs.Symbols.{Tok, Symbol, sign, numeral, is_sign, binding, symbol_strength, mark_node, symbol_node, binary, unary, leaf}
+use Rattle.mob_grammar.specs.Symbols.{PlacedSymbol, Symbol, sign, numeral, is_sign, binding, symbol_strength, mark_node, symbol_node, binary, unary, leaf}
 use Rattle.mob_grammar.specs.Expressions.{Rank, disjunction, conjunction, negation, nullness, comparison, other as other_rank, complement, sum, product, signed, cast, primary, chains, prefixes, TypeName, plain, inner, Phrase, up, chain, prefixed, is_null, is_not_null, compared, cast_to, a_number, a_string, is_true, is_false, a_null, a_literal, a_call, a_column, a_table_column, in_brackets, Arguments, nothing as no_arguments, something, Behind, end, another}
 use Rattle.mob_grammar.specs.Forms.{Production, ◌▸◌, ◌∣◌, Listed, single, several}
 use Rattle.mob_grammar.specs.Scripts.{Const, Row, ColumnType, FromEntry, SecondName, Alias, SelectItem, Direction, OrderKey, OnlyDistinct, FromPart, WherePart, OrderPart, LimitPart, SelectBody, CreateTable, CreateIndex, InsertRows, CopyFile, WithFormat, WithDelimiter, Statement}
@@ -22,17 +22,17 @@ use Rattle.mob_grammar.proofs.Steps.{told, token_is}
 use Rattle.mob_grammar.proofs.Within.{within_front, within_back, within_both}
 
 -- no `;`
-abbrev IsInside : Tok → Type 0
+abbrev IsInside : PlacedSymbol → Type 0
 IsInside t = is_sign Semicolon t ≡ false
 
 -- a place of one of these tokens
-abbrev pub IsHeld : List Tok → ℕ → Type 0
+abbrev pub IsHeld : List PlacedSymbol → ℕ → Type 0
 IsHeld own p = IsWithin (p ∷ []) (map (λ t. t.place) own)
 
 -- `Passes l ps qs r`: on the way along the tokens l to r there is no `;`, tokens stand at the places ps, in this order, and tokens
 -- stand at the places qs, in any order
-pub record Passes (l : List Tok) (ps qs : List ℕ) (r : List Tok) : Type 0 where
-  pub own : List Tok
+pub record Passes (l : List PlacedSymbol) (ps qs : List ℕ) (r : List PlacedSymbol) : Type 0 where
+  pub own : List PlacedSymbol
   pub parts : l ≡ own ++ r
   pub whole : ends_among own ≡ 0
   pub places : IsWithin ps (map (λ t. t.place) own)
@@ -50,23 +50,23 @@ pub all_parts : (P : ℕ → Type 0) (ps qs : List ℕ) → AllByRecursion P (ps
 all_parts P [] qs h = (tt, h)
 all_parts P (p ∷ ps) qs h = let others = all_parts P ps qs h.1 in ((h.0, others.0), others.1)
 
-held_front : (own more : List Tok) (p : ℕ) → IsHeld own p → IsHeld (own ++ more) p
+held_front : (own more : List PlacedSymbol) (p : ℕ) → IsHeld own p → IsHeld (own ++ more) p
 held_front own more p h = subst (IsWithin (p ∷ [])) (sym (map-append (λ t. t.place) own more)) (within_front (map (λ t. t.place) more) h)
 
-held_back : (more own : List Tok) (p : ℕ) → IsHeld own p → IsHeld (more ++ own) p
+held_back : (more own : List PlacedSymbol) (p : ℕ) → IsHeld own p → IsHeld (more ++ own) p
 held_back more own p h = subst (IsWithin (p ∷ [])) (sym (map-append (λ t. t.place) more own)) (within_back (map (λ t. t.place) more) h)
 
-none_more : (t : Tok) (l : List Tok) → IsInside t → ends_among l ≡ 0 → ends_among (t ∷ l) ≡ 0
+none_more : (t : PlacedSymbol) (l : List PlacedSymbol) → IsInside t → ends_among l ≡ 0 → ends_among (t ∷ l) ≡ 0
 none_more t l i z = ap (λ b. length (cond b (t ∷ filter (is_sign Semicolon) l) (filter (is_sign Semicolon) l))) i ∙ z
 
-none_both : (k l : List Tok) → ends_among k ≡ 0 → ends_among l ≡ 0 → ends_among (k ++ l) ≡ 0
+none_both : (k l : List PlacedSymbol) → ends_among k ≡ 0 → ends_among l ≡ 0 → ends_among (k ++ l) ≡ 0
 none_both k l h z = ap length (filter-append (is_sign Semicolon) k l) ∙ length-append (filter (is_sign Semicolon) k) (filter (is_sign Semicolon) l) ∙ omega (arith, h, z)
 
-here : {l : List Tok} → Passes l [] [] l
+here : {l : List PlacedSymbol} → Passes l [] [] l
 here = record { own = []; parts = refl; whole = refl; places = nothing; held = tt }
 
 -- a token more in front: it has no place, one in any order, or one in both
-by : {l r : List Tok} {t : Tok} {ps qs : List ℕ} → IsInside t → Passes l ps qs r → Passes (t ∷ l) ps qs r
+by : {l r : List PlacedSymbol} {t : PlacedSymbol} {ps qs : List ℕ} → IsInside t → Passes l ps qs r → Passes (t ∷ l) ps qs r
 by {t = t} {qs = qs} i w = record {
   own = t ∷ w.own;
   parts = ap (λ k. t ∷ k) w.parts;
@@ -75,16 +75,16 @@ by {t = t} {qs = qs} i w = record {
   held = all_on (IsHeld w.own) (IsHeld (t ∷ w.own)) (λ p h. other h) qs w.held;
 }
 
-note : {l r : List Tok} {t : Tok} {ps qs : List ℕ} → IsInside t → Passes l ps qs r → Passes (t ∷ l) ps (t.place ∷ qs) r
+note : {l r : List PlacedSymbol} {t : PlacedSymbol} {ps qs : List ℕ} → IsInside t → Passes l ps qs r → Passes (t ∷ l) ps (t.place ∷ qs) r
 unfolding by
 note {l} {r} {t} {ps} {qs} i w = let v : Passes (t ∷ l) ps qs r = by i w in record { own = t ∷ w.own; parts = v.parts; whole = v.whole; places = v.places; held = (same nothing, v.held) }
 
-at : {l r : List Tok} {t : Tok} {ps qs : List ℕ} → IsInside t → Passes l ps qs r → Passes (t ∷ l) (t.place ∷ ps) (t.place ∷ qs) r
+at : {l r : List PlacedSymbol} {t : PlacedSymbol} {ps qs : List ℕ} → IsInside t → Passes l ps qs r → Passes (t ∷ l) (t.place ∷ ps) (t.place ∷ qs) r
 unfolding by
 at {l} {r} {t} {ps} {qs} i w = let v : Passes (t ∷ l) ps qs r = by i w in record { own = t ∷ w.own; parts = v.parts; whole = v.whole; places = same w.places; held = (same nothing, v.held) }
 
 -- one way behind another
-join : {l m r : List Tok} {ps qs us vs : List ℕ} → Passes l ps us m → Passes m qs vs r → Passes l (ps ++ qs) (us ++ vs) r
+join : {l m r : List PlacedSymbol} {ps qs us vs : List ℕ} → Passes l ps us m → Passes m qs vs r → Passes l (ps ++ qs) (us ++ vs) r
 join {r = r} {ps = ps} {qs = qs} {us = us} {vs = vs} a b = record {
   own = a.own ++ b.own;
   parts = a.parts ∙ ap (λ k. a.own ++ k) b.parts ∙ sym (append_assoc a.own b.own r);
@@ -94,17 +94,17 @@ join {r = r} {ps = ps} {qs = qs} {us = us} {vs = vs} a b = record {
 }
 
 -- the same where the second has no literals, and where it has no places at all
-also : {l m r : List Tok} {ps us vs : List ℕ} → Passes l ps us m → Passes m [] vs r → Passes l ps (us ++ vs) r
+also : {l m r : List PlacedSymbol} {ps us vs : List ℕ} → Passes l ps us m → Passes m [] vs r → Passes l ps (us ++ vs) r
 also {l} {m} {r} {ps} {us} {vs} a b = subst (λ ks. Passes l ks (us ++ vs) r) (append-nil ps) (join a b)
 
-onto : {l m r : List Tok} {ps us : List ℕ} → Passes l ps us m → Passes m [] [] r → Passes l ps us r
+onto : {l m r : List PlacedSymbol} {ps us : List ℕ} → Passes l ps us m → Passes m [] [] r → Passes l ps us r
 onto {l} {m} {r} {ps} {us} a b = subst (λ ks. Passes l ps ks r) (append-nil us) (also a b)
 
 -- what holds of one list of places holds of the other
 abbrev Covers : List ℕ → List ℕ → Type 1
 Covers us vs = (P : ℕ → Type 0) → AllByRecursion P us → AllByRecursion P vs
 
-moved : {l r : List Tok} {ps : List ℕ} (us vs : List ℕ) → Covers us vs → Passes l ps us r → Passes l ps vs r
+moved : {l r : List PlacedSymbol} {ps : List ℕ} (us vs : List ℕ) → Covers us vs → Passes l ps us r → Passes l ps vs r
 moved us vs on w = record { own = w.own; parts = w.parts; whole = w.whole; places = w.places; held = on (IsHeld w.own) w.held }
 
 -- a place behind others, in front of them
@@ -117,7 +117,7 @@ swapped us p vs P h =
     let others = all_parts P vs [] parts.1.1 in
     (parts.1.0, all_both P vs (us ++ []) others.0 (all_both P us [] parts.0 tt))
 
-type_passes : {l r : List Tok} {ty : TypeWord} → TypeName l ty r → Passes l [] (type_held ty) r
+type_passes : {l r : List PlacedSymbol} {ty : TypeWord} → TypeName l ty r → Passes l [] (type_held ty) r
 type_passes plain = note refl here
 type_passes inner = note refl (by refl (note refl (by refl here)))
 
@@ -135,7 +135,7 @@ symbol_none (symbol.number n) p low high = absurd (omega arith)
 symbol_none (symbol.quoted s) p low high = absurd (omega arith)
 
 -- an operator: no literal, and no `;`
-abbrev IsOperator : Tok → Type 0
+abbrev IsOperator : PlacedSymbol → Type 0
 IsOperator t = (literal_place (symbol_node t.symbol) t.place ≡ []) × IsInside t
 
 -- no token that is an operator holds a place besides its own
@@ -151,19 +151,19 @@ symbol_held (symbol.name n) = refl
 symbol_held (symbol.number n) = refl
 symbol_held (symbol.quoted s) = refl
 
-binds_inside : (t : Tok) → 0 < binding t → IsInside t
+binds_inside : (t : PlacedSymbol) → 0 < binding t → IsInside t
 binds_inside t low = elim (told (is_sign Semicolon t)) [
   | inl e ↦ let none : binding t ≡ 0 = ap binding (token_is Semicolon t e) in absurd (omega arith)
   | inr e ↦ e
 ]
 
-binds_none : (t : Tok) (n : ℕ) → binding t ≡ n → 0 < n → n < 12 → IsOperator t
+binds_none : (t : PlacedSymbol) (n : ℕ) → binding t ≡ n → 0 < n → n < 12 → IsOperator t
 binds_none t n is low high = (symbol_none t.symbol t.place (omega arith) (omega arith), binds_inside t (omega arith))
 
-sign_none : (m : Mark) (t : Tok) → IsInside (sign m t.place) → is_sign m t ≡ true → IsOperator t
+sign_none : (m : Mark) (t : PlacedSymbol) → IsInside (sign m t.place) → is_sign m t ≡ true → IsOperator t
 sign_none m t inside is = let same = token_is m t is in (rw same (mark_none m t.place), subst IsInside (sym same) inside)
 
-chain_none : (k : Rank) (t : Tok) → chains k t ≡ true → IsOperator t
+chain_none : (k : Rank) (t : PlacedSymbol) → chains k t ≡ true → IsOperator t
 chain_none disjunction t h = binds_none t 1 (eqb-true (binding t) 1 h) (omega arith) (omega arith)
 chain_none conjunction t h = binds_none t 2 (eqb-true (binding t) 2 h) (omega arith) (omega arith)
 chain_none negation t h = absurd (cc h)
@@ -177,7 +177,7 @@ chain_none signed t h = absurd (cc h)
 chain_none cast t h = absurd (cc h)
 chain_none primary t h = absurd (cc h)
 
-prefix_none : (k : Rank) (t : Tok) → prefixes k t ≡ true → IsOperator t
+prefix_none : (k : Rank) (t : PlacedSymbol) → prefixes k t ≡ true → IsOperator t
 prefix_none disjunction t h = absurd (cc h)
 prefix_none conjunction t h = absurd (cc h)
 prefix_none negation t h = sign_none Not t refl h
@@ -192,22 +192,22 @@ prefix_none cast t h = absurd (cc h)
 prefix_none primary t h = absurd (cc h)
 
 -- an operator between its operands, and in front of one
-between : (l m r : List Tok) (a b : Tree) (t : Tok) → IsOperator t → Passes l (tree_places a) (tree_held a) (t ∷ m) → Passes m (tree_places b) (tree_held b) r → Passes l (tree_places (binary t a b)) (tree_held (binary t a b)) r
+between : (l m r : List PlacedSymbol) (a b : Tree) (t : PlacedSymbol) → IsOperator t → Passes l (tree_places a) (tree_held a) (t ∷ m) → Passes m (tree_places b) (tree_held b) r → Passes l (tree_places (binary t a b)) (tree_held (binary t a b)) r
 between l m r a b t is left right = rw (is.0, symbol_held t.symbol) (moved (tree_held a ++ t.place ∷ (tree_held b ++ [])) (t.place ∷ (tree_held a ++ (tree_held b ++ []))) (in_front (tree_held a) t.place (tree_held b ++ [])) (join left (note is.1 (join right here))))
 
-before : (l m r : List Tok) (a : Tree) (t : Tok) → IsOperator t → l ≡ t ∷ m → Passes m (tree_places a) (tree_held a) r → Passes l (tree_places (unary t a)) (tree_held (unary t a)) r
+before : (l m r : List PlacedSymbol) (a : Tree) (t : PlacedSymbol) → IsOperator t → l ≡ t ∷ m → Passes m (tree_places a) (tree_held a) r → Passes l (tree_places (unary t a)) (tree_held (unary t a)) r
 before l m r a t none is inside = rw (none.0, symbol_held t.symbol) (subst (λ k. Passes k (tree_places a ++ []) (t.place ∷ (tree_held a ++ [])) r) (sym is) (note none.1 (join inside here)))
 
 -- an operator behind its operand, which may hold places of its own behind that
-behind : {l m r : List Tok} {ps us vs : List ℕ} {t : Tok} → IsInside t → Passes l ps us (t ∷ m) → Passes m [] vs r → Passes l (ps ++ []) (t.place ∷ (vs ++ (us ++ []))) r
+behind : {l m r : List PlacedSymbol} {ps us vs : List ℕ} {t : PlacedSymbol} → IsInside t → Passes l ps us (t ∷ m) → Passes m [] vs r → Passes l (ps ++ []) (t.place ∷ (vs ++ (us ++ []))) r
 behind {ps = ps} {us = us} {vs = vs} {t = t} i left right = moved (us ++ t.place ∷ (vs ++ [])) (t.place ∷ (vs ++ (us ++ []))) (swapped us t.place vs) (join left (note i (join right here)))
 
 -- a string behind the name of its type
-literal : {l m r : List Tok} (ty : TypeWord) (p : ℕ) → Passes l [] (type_held ty) m → Passes m (p ∷ []) (p ∷ []) r → Passes l (p ∷ []) (p ∷ (type_held ty ++ [])) r
+literal : {l m r : List PlacedSymbol} (ty : TypeWord) (p : ℕ) → Passes l [] (type_held ty) m → Passes m (p ∷ []) (p ∷ []) r → Passes l (p ∷ []) (p ∷ (type_held ty ++ [])) r
 literal ty p left right = moved (type_held ty ++ p ∷ []) (p ∷ (type_held ty ++ [])) (in_front (type_held ty) p []) (join left right)
 
 mutual
-  phrase_passes : {k : Rank} {l r : List Tok} {e : Tree} → Phrase k l e r → Passes l (tree_places e) (tree_held e) r
+  phrase_passes : {k : Rank} {l r : List PlacedSymbol} {e : Tree} → Phrase k l e r → Passes l (tree_places e) (tree_held e) r
   phrase_passes (up d) = phrase_passes d
   phrase_passes (chain {k = k} {l = l} {m = m} {r = r} {a = a} {b = b} {t = t} d c e) = between l m r a b t (chain_none k t c) (phrase_passes d) (phrase_passes e)
   phrase_passes (prefixed {k = k} {l = l} {r = r} {a = a} {t = t} c d) = before (t ∷ l) l r a t (prefix_none k t c) refl (phrase_passes d)
@@ -226,17 +226,17 @@ mutual
   phrase_passes (a_table_column {p = p} {o = o}) = moved (p ∷ (o ∷ [])) (p ∷ (o ∷ (p ∷ []))) (λ P h. (h.0, (h.1.0, (h.0, tt)))) (note refl (by refl (note refl here)))
   phrase_passes (in_brackets d) = by refl (onto (phrase_passes d) (by refl here))
 
-  arguments_pass : {l r : List Tok} {es : Trees} → Arguments l es r → Passes l (trees_places es) (trees_held es) r
+  arguments_pass : {l r : List PlacedSymbol} {es : Trees} → Arguments l es r → Passes l (trees_places es) (trees_held es) r
   arguments_pass no_arguments = by refl here
   arguments_pass (something d ds) = join (phrase_passes d) (behind_passes ds)
 
-  behind_passes : {l r : List Tok} {es : Trees} → Behind l es r → Passes l (trees_places es) (trees_held es) r
+  behind_passes : {l r : List PlacedSymbol} {es : Trees} → Behind l es r → Passes l (trees_places es) (trees_held es) r
   behind_passes end = by refl here
   behind_passes (another d ds) = by refl (join (phrase_passes d) (behind_passes ds))
 
 -- a form passes the places of what it says
 abbrev Along : {A : Type 0} → (A → List ℕ) → (A → List ℕ) → Production A → Type 0
-Along {A} places held F = (l : List Tok) (x : A) (r : List Tok) → F l x r → Passes l (places x) (held x) r
+Along {A} places held F = (l : List PlacedSymbol) (x : A) (r : List PlacedSymbol) → F l x r → Passes l (places x) (held x) r
 
 -- what a form says may have no places
 abbrev no_places : {A : Type 0} → A → List ℕ
@@ -252,19 +252,19 @@ none_listed m inside F held f l _ r (single {x = x} d) = join (f l x r d) here
 none_listed m inside F held f l _ r (several {u = u} {x = x} {xs = xs} {p = p} d ds) = join (f l x (sign m p ∷ u) d) (by (inside p) (none_listed m inside F held f u xs r ds))
 
 -- a way ends, goes by a token, holds its place, or has its place
-ended : {l r : List Tok} → l ≡ r → Passes l [] [] r
+ended : {l r : List PlacedSymbol} → l ≡ r → Passes l [] [] r
 ended {l} z = subst (Passes l [] []) z here
 
-past : {l m r : List Tok} {ps qs : List ℕ} (t : Tok) → l ≡ t ∷ m → IsInside t → Passes m ps qs r → Passes l ps qs r
+past : {l m r : List PlacedSymbol} {ps qs : List ℕ} (t : PlacedSymbol) → l ≡ t ∷ m → IsInside t → Passes m ps qs r → Passes l ps qs r
 past {l} {m} {r} {ps} {qs} t e i d = subst (λ k. Passes k ps qs r) (sym e) (by i d)
 
-hold : {l m r : List Tok} {ps qs : List ℕ} (t : Tok) → l ≡ t ∷ m → IsInside t → Passes m ps qs r → Passes l ps (t.place ∷ qs) r
+hold : {l m r : List PlacedSymbol} {ps qs : List ℕ} (t : PlacedSymbol) → l ≡ t ∷ m → IsInside t → Passes m ps qs r → Passes l ps (t.place ∷ qs) r
 hold {l} {m} {r} {ps} {qs} t e i d = subst (λ k. Passes k ps (t.place ∷ qs) r) (sym e) (note i d)
 
-stand : {l m r : List Tok} {ps qs : List ℕ} (t : Tok) → l ≡ t ∷ m → IsInside t → Passes m ps qs r → Passes l (t.place ∷ ps) (t.place ∷ qs) r
+stand : {l m r : List PlacedSymbol} {ps qs : List ℕ} (t : PlacedSymbol) → l ≡ t ∷ m → IsInside t → Passes m ps qs r → Passes l (t.place ∷ ps) (t.place ∷ qs) r
 stand {l} {m} {r} {ps} {qs} t e i d = subst (λ k. Passes k (t.place ∷ ps) (t.place ∷ qs) r) (sym e) (at i d)
 
-said : {A : Type 0} {l r : List Tok} (places held : A → List ℕ) (x y : A) → x ≡ y → Passes l (places y) (held y) r → Passes l (places x) (held x) r
+said : {A : Type 0} {l r : List PlacedSymbol} (places held : A → List ℕ) (x y : A) → x ≡ y → Passes l (places y) (held y) r → Passes l (places x) (held x) r
 said {A} {l} {r} places held x y e d = subst (λ z. Passes l (places z) (held z) r) (sym e) d
 
 const_along : Along tree_places tree_held Const
@@ -367,7 +367,7 @@ statement_along l x r (inr (inr (inr (inl (p, m, e, (s, k, d, (y, z))))))) = sai
 statement_along l x r (inr (inr (inr (inr (inl (p, m, e, (q, n, f, (s, k, d, (y, z))))))))) = said statement_places statement_held x _ y (past _ e refl (past _ f refl (onto (select_along n s k d) (ended z))))
 statement_along l x r (inr (inr (inr (inr (inr (y, z)))))) = said statement_places statement_held x _ y (ended z)
 
-one_way : (l r : List Tok) (ps us qs : List ℕ) → Passes l ps us r → IsWithin qs (map (λ t. t.place) r) → IsWithin (ps ++ qs) (map (λ t. t.place) l)
+one_way : (l r : List PlacedSymbol) (ps us qs : List ℕ) → Passes l ps us r → IsWithin qs (map (λ t. t.place) r) → IsWithin (ps ++ qs) (map (λ t. t.place) l)
 one_way l r ps us qs w rest = subst (λ k. IsWithin (ps ++ qs) (map (λ t. t.place) k)) (sym w.parts) (subst (IsWithin (ps ++ qs)) (sym (map-append (λ t. t.place) w.own r)) (within_both w.places rest))
 
 pub stands_at_tokens : StandsAtTokens

@@ -9,7 +9,7 @@ use Rattle.mob_ast.specs.Trees.{Tree, tree, Trees, none, more, trees_from}
 use Rattle.mob_grammar.specs.declared.mark.Mark.{Mark}
 use Rattle.mob_grammar.specs.declared.mark.Mark.TheVariants.{Not, Is, Null, True, False, Tilde, Cast, Open, Close, Comma, Dot}
 use Rattle.mob_grammar.specs.Marks.{is}
-use Rattle.mob_grammar.specs.Symbols.{Symbol, fixed, name, number, quoted, Tok, sign, identifier, numeral, string, is_sign, is_name, is_string, binding, begins, starts, goes_on, binary, unary, leaf, is_literal}
+use Rattle.mob_grammar.specs.Symbols.{Symbol, fixed, name, number, quoted, PlacedSymbol, sign, identifier, numeral, string, is_sign, is_name, is_string, binding, begins, starts, goes_on, binary, unary, leaf, is_literal}
 use Rattle.mob_grammar.specs.Expressions.{Rank, disjunction, conjunction, negation, nullness, comparison, other, complement, sum, product, signed, cast, primary, next, tight, chains, prefixes, word, TypeName, plain, inner, Phrase, up, chain, prefixed, is_null, is_not_null, compared, cast_to, a_number, a_string, is_true, is_false, a_null, a_literal, a_call, a_column, a_table_column, in_brackets, Arguments, nothing, something, Behind, end, another}
 use Rattle.mob_grammar.specs.Forms.{Production, Builds, AName, AString, ◌⇒◌, ◌▸◌, ◌∣◌, Listed, single, several}
 use Rattle.mob_grammar.specs.Reading.{Answer, TokenReader, ◌>>=◌, closed, behind_mark, if_mark, name_at, number_at, string_at, inner_at, type_at, listed_from, listed, chain_from, postfix_from, null_at, cast_at, args, literal_at, column_at, opened, named_at, mark_primary, nest, cast_rank, signed_rank, product_rank, sum_rank, complement_rank, other_rank, comparison_rank, nullness_rank, negation_rank, conjunction_rank, disjunction_rank}
@@ -20,33 +20,33 @@ use Rattle.mob_grammar.proofs.Tells.{Alike, Tells, Lawful, Ready, through, tells
 use Rattle.mob_grammar.proofs.Lawful.{alike_begins, lawful_says, lawful_then, lawful_if, lawful_closed, lawful_either, lawful_name, lawful_string, lawful_listed, alike_end, alike_wrong}
 
 -- what makes e, read before l, a longer phrase
-abbrev Extends : Rank → Tree → List Tok → Tree → List Tok → Type 0
-Extends k e u y r = (l : List Tok) → Phrase k l e u → Phrase k l y r
+abbrev Extends : Rank → Tree → List PlacedSymbol → Tree → List PlacedSymbol → Type 0
+Extends k e u y r = (l : List PlacedSymbol) → Phrase k l e u → Phrase k l y r
 
 stays : (k : Rank) (e : Tree) → Ready (Extends k e)
 stays k e = record { closing = []; plain = tt; value = e; closes = λ z l p. p }
 
 -- chains
-module _ (k : Rank) (is_op : (t : Tok) → binding t ≡ tight k → chains k t ≡ true) (n : ℕ) (operand : TokenReader Tree) (law : Lawful (Phrase (next k)) n operand) where
-  turn : (m : ℕ) (e : Tree) (t : Tok) (l : List Tok) → binding t ≡ tight k → chain_from (tight k) operand (suc m) e (t ∷ l) ≡ (operand l >>= λ x. chain_from (tight k) operand m (binary t e x.0) x.1)
+module _ (k : Rank) (is_op : (t : PlacedSymbol) → binding t ≡ tight k → chains k t ≡ true) (n : ℕ) (operand : TokenReader Tree) (law : Lawful (Phrase (next k)) n operand) where
+  turn : (m : ℕ) (e : Tree) (t : PlacedSymbol) (l : List PlacedSymbol) → binding t ≡ tight k → chain_from (tight k) operand (suc m) e (t ∷ l) ≡ (operand l >>= λ x. chain_from (tight k) operand m (binary t e x.0) x.1)
   unfolding chain_from
   turn m e t l b = chosen _ _ _ (eq-eqb _ _ b)
 
-  chain_done : (e : Tree) (l : List Tok) (m : ℕ) → goes_on (tight k) l ≡ false → Tells (Extends k e) (λ i. chain_from (tight k) operand i e) l (chain_from (tight k) operand m e l)
+  chain_done : (e : Tree) (l : List PlacedSymbol) (m : ℕ) → goes_on (tight k) l ≡ false → Tells (Extends k e) (λ i. chain_from (tight k) operand i e) l (chain_from (tight k) operand m e l)
   chain_done e l m h =
       subst (Tells (Extends k e) (λ i. chain_from (tight k) operand i e) l) (sym (chain_stops (tight k) operand m e l h))
       (tells_done (Extends k e) (λ i. chain_from (tight k) operand i e) l e (λ y u p. p) (λ y a i. chain_stops (tight k) operand i e y (alike_begins (λ t. binding t == tight k) l y a ∙ h)))
 
-  tells_chain_from : (m : ℕ) (e : Tree) (l : List Tok) → length l ≤ m → length l < n → Tells (Extends k e) (λ i. chain_from (tight k) operand i e) l (chain_from (tight k) operand m e l)
+  tells_chain_from : (m : ℕ) (e : Tree) (l : List PlacedSymbol) → length l ≤ m → length l < n → Tells (Extends k e) (λ i. chain_from (tight k) operand i e) l (chain_from (tight k) operand m e l)
   tells_chain_from m e [] fuel short = chain_done e [] m refl
   tells_chain_from zero e (t ∷ l) fuel short = absurd (omega arith)
   tells_chain_from (suc m) e (t ∷ l) fuel short = elim (told (binding t == tight k)) [
     | inl is_one ↦
         let b : binding t ≡ tight k = eqb-true _ _ is_one in
         subst (Tells (Extends k e) (λ i. chain_from (tight k) operand i e) (t ∷ l)) (sym (turn m e t l b))
-        (tells_token (λ u y r. (v : List Tok) → Phrase k v e (t ∷ u) → Phrase k v y r) (Extends k e) (λ i u. operand u >>= λ x. chain_from (tight k) operand i (binary t e x.0) x.1) (λ i. chain_from (tight k) operand i e) t
+        (tells_token (λ u y r. (v : List PlacedSymbol) → Phrase k v e (t ∷ u) → Phrase k v y r) (Extends k e) (λ i u. operand u >>= λ x. chain_from (tight k) operand i (binary t e x.0) x.1) (λ i. chain_from (tight k) operand i e) t
         (λ i u. turn i e t u b) (λ u x r h. h) l _
-        (tells_both (Phrase (next k)) (λ x. Extends k (binary t e x)) (λ u y r. (v : List Tok) → Phrase k v e (t ∷ u) → Phrase k v y r) (λ i. operand) (λ x i. chain_from (tight k) operand i (binary t e x))
+        (tells_both (Phrase (next k)) (λ x. Extends k (binary t e x)) (λ u y r. (v : List PlacedSymbol) → Phrase k v e (t ∷ u) → Phrase k v y r) (λ i. operand) (λ x i. chain_from (tight k) operand i (binary t e x))
         (λ u w r x y fst snd v p. snd v (chain p (is_op t b) fst)) (λ x. stays k (binary t e x)) l m (operand l) (law l (omega arith))
         (λ x u less. tells_chain_from m (binary t e x) u (omega arith) (omega arith))))
     | inr none_there ↦ chain_done e (t ∷ l) (suc m) none_there
@@ -60,21 +60,21 @@ module _ (k : Rank) (is_op : (t : Tok) → binding t ≡ tight k → chains k t 
       (λ x u less. tells_chain_from (length l) x u less (omega arith)))
 
 -- a reader and then a node round what it gives
-module _ {A B : Type 0} (First : List Tok → A → List Tok → Type 0) (R : List Tok → B → List Tok → Type 0) (node : A → B) (join : (l : List Tok) (x : A) (r : List Tok) → First l x r → R l (node x) r) (s : TokenReader A) where
-  tells_node : (l : List Tok) → Tells First (λ m. s) l (s l) → Tells R (λ m u. s u >>= λ x. Ok (node x.0, x.1)) l (s l >>= λ x. Ok (node x.0, x.1))
+module _ {A B : Type 0} (First : List PlacedSymbol → A → List PlacedSymbol → Type 0) (R : List PlacedSymbol → B → List PlacedSymbol → Type 0) (node : A → B) (join : (l : List PlacedSymbol) (x : A) (r : List PlacedSymbol) → First l x r → R l (node x) r) (s : TokenReader A) where
+  tells_node : (l : List PlacedSymbol) → Tells First (λ m. s) l (s l) → Tells R (λ m u. s u >>= λ x. Ok (node x.0, x.1)) l (s l >>= λ x. Ok (node x.0, x.1))
   tells_node l law =
-      let IsNode : A → List Tok → B → List Tok → Type 0 = λ x u y r. (y ≡ node x) × (r ≡ u) in
+      let IsNode : A → List PlacedSymbol → B → List PlacedSymbol → Type 0 = λ x u y r. (y ≡ node x) × (r ≡ u) in
       tells_both First IsNode R (λ m. s) (λ x m u. Ok (node x, u))
       (λ u w r x y fst snd. subst (λ z. R u z r) (sym snd.0) (join u x r (subst (First u x) (sym snd.1) fst))) (λ x. record { closing = []; plain = tt; value = node x; closes = λ z. (refl, refl) })
       l 0 (s l) law (λ x u less. tells_done (IsNode x) (λ m u. Ok (node x, u)) u (node x) (λ y. (refl, refl)) (λ y a m. refl))
 
 -- marks in front
-module _ (k : Rank) (test : Tok → Bool) (is_one_of : (t : Tok) → test t ≡ true → prefixes k t ≡ true) (n : ℕ) (operand : TokenReader Tree) (law : Lawful (Phrase (next k)) n operand) where
-  prefix_plain : (l : List Tok) → length l < n → begins test l ≡ false → Tells (Phrase k) (λ m. read.prefix test operand) l (read.prefix test operand l)
+module _ (k : Rank) (test : PlacedSymbol → Bool) (is_one_of : (t : PlacedSymbol) → test t ≡ true → prefixes k t ≡ true) (n : ℕ) (operand : TokenReader Tree) (law : Lawful (Phrase (next k)) n operand) where
+  prefix_plain : (l : List PlacedSymbol) → length l < n → begins test l ≡ false → Tells (Phrase k) (λ m. read.prefix test operand) l (read.prefix test operand l)
   prefix_plain l short h = subst (Tells (Phrase k) (λ m. read.prefix test operand) l) (sym (prefix_stops test operand l h))
       (tells_same (Phrase (next k)) (Phrase k) (λ m. operand) (λ m. read.prefix test operand) l (λ y a m. prefix_stops test operand y (alike_begins test l y a ∙ h)) (λ u x r p. up p) (operand l) (law l short))
 
-  prefix_turn : (t : Tok) (l : List Tok) → test t ≡ true → read.prefix test operand (t ∷ l) ≡ (read.prefix test operand l >>= λ x. Ok (unary t x.0, x.1))
+  prefix_turn : (t : PlacedSymbol) (l : List PlacedSymbol) → test t ≡ true → read.prefix test operand (t ∷ l) ≡ (read.prefix test operand l >>= λ x. Ok (unary t x.0, x.1))
   unfolding read.prefix
   prefix_turn t l h = chosen _ _ _ h
 
@@ -88,24 +88,24 @@ module _ (k : Rank) (test : Tok → Bool) (is_one_of : (t : Tok) → test t ≡ 
   ]
 
 -- a comparison
-abbrev Compares : Tree → List Tok → Tree → List Tok → Type 0
-Compares e u y r = (l : List Tok) → Phrase other l e u → Phrase comparison l y r
+abbrev Compares : Tree → List PlacedSymbol → Tree → List PlacedSymbol → Type 0
+Compares e u y r = (l : List PlacedSymbol) → Phrase other l e u → Phrase comparison l y r
 
 module _ (n : ℕ) (operand : TokenReader Tree) (law : Lawful (Phrase other) n operand) where
-  compared_turn : (e : Tree) (t : Tok) (l : List Tok) → binding t ≡ 5 → read.compared operand e (t ∷ l) ≡ (operand l >>= λ x. Ok (binary t e x.0, x.1))
+  compared_turn : (e : Tree) (t : PlacedSymbol) (l : List PlacedSymbol) → binding t ≡ 5 → read.compared operand e (t ∷ l) ≡ (operand l >>= λ x. Ok (binary t e x.0, x.1))
   unfolding read.compared
   compared_turn e t l h = chosen _ _ _ (eq-eqb _ _ h)
 
-  compared_plain : (e : Tree) (l : List Tok) → goes_on 5 l ≡ false → Tells (Compares e) (λ m. read.compared operand e) l (read.compared operand e l)
+  compared_plain : (e : Tree) (l : List PlacedSymbol) → goes_on 5 l ≡ false → Tells (Compares e) (λ m. read.compared operand e) l (read.compared operand e l)
   compared_plain e l h = subst (Tells (Compares e) (λ m. read.compared operand e) l) (sym (compared_stops operand e l h))
       (tells_done (Compares e) (λ m. read.compared operand e) l e (λ y u p. up p) (λ y a m. compared_stops operand e y (alike_begins (λ t. binding t == 5) l y a ∙ h)))
 
-  tells_compared : (e : Tree) (l : List Tok) → length l < n → Tells (Compares e) (λ m. read.compared operand e) l (read.compared operand e l)
+  tells_compared : (e : Tree) (l : List PlacedSymbol) → length l < n → Tells (Compares e) (λ m. read.compared operand e) l (read.compared operand e l)
   tells_compared e [] short = compared_plain e [] refl
   tells_compared e (t ∷ l) short = elim (told (binding t == 5)) [
     | inl is_one ↦ subst (Tells (Compares e) (λ m. read.compared operand e) (t ∷ l)) (sym (compared_turn e t l (eqb-true _ _ is_one)))
-        (tells_token (λ u y r. (v : List Tok) → Phrase other v e (t ∷ u) → Phrase comparison v y r) (Compares e) (λ i u. operand u >>= λ x. Ok (binary t e x.0, x.1)) (λ i. read.compared operand e) t (λ i u. compared_turn e t u (eqb-true _ _ is_one)) (λ u x r h. h) l _
-        (tells_node (Phrase other) (λ u y r. (v : List Tok) → Phrase other v e (t ∷ u) → Phrase comparison v y r) (binary t e) (λ u x r p v q. compared q (eqb-true _ _ is_one) p) operand l (law l (omega arith))))
+        (tells_token (λ u y r. (v : List PlacedSymbol) → Phrase other v e (t ∷ u) → Phrase comparison v y r) (Compares e) (λ i u. operand u >>= λ x. Ok (binary t e x.0, x.1)) (λ i. read.compared operand e) t (λ i u. compared_turn e t u (eqb-true _ _ is_one)) (λ u x r h. h) l _
+        (tells_node (Phrase other) (λ u y r. (v : List PlacedSymbol) → Phrase other v e (t ∷ u) → Phrase comparison v y r) (binary t e) (λ u x r p v q. compared q (eqb-true _ _ is_one) p) operand l (law l (omega arith))))
     | inr none_there ↦ compared_plain e (t ∷ l) none_there
   ]
 
@@ -115,26 +115,26 @@ module _ (n : ℕ) (operand : TokenReader Tree) (law : Lawful (Phrase other) n o
       (λ u w r x y fst snd. snd u fst) (λ x. record { closing = []; plain = tt; value = x; closes = λ z v p. up p }) l 0 (operand l) (law l short) (λ x u less. tells_compared x u (omega arith))
 
 -- nodes behind
-module _ (k : Rank) (m : Mark) (Tail : Production Node) (tail : TokenReader Node) (join : (l u r : List Tok) (e : Tree) (p : ℕ) (x : Node) → Phrase k l e (sign m p ∷ u) → Tail u x r → Phrase k l (tree x p (more e none)) r)
+module _ (k : Rank) (m : Mark) (Tail : Production Node) (tail : TokenReader Node) (join : (l u r : List PlacedSymbol) (e : Tree) (p : ℕ) (x : Node) → Phrase k l e (sign m p ∷ u) → Tail u x r → Phrase k l (tree x p (more e none)) r)
     (n : ℕ) (tail_law : Lawful Tail n tail) (operand : TokenReader Tree) (law : Lawful (Phrase (next k)) n operand) where
-  postfix_turn : (i : ℕ) (e : Tree) (t : Tok) (l : List Tok) → is_sign m t ≡ true → postfix_from m tail (suc i) e (t ∷ l) ≡ (tail l >>= λ x. postfix_from m tail i (tree x.0 t.place (more e none)) x.1)
+  postfix_turn : (i : ℕ) (e : Tree) (t : PlacedSymbol) (l : List PlacedSymbol) → is_sign m t ≡ true → postfix_from m tail (suc i) e (t ∷ l) ≡ (tail l >>= λ x. postfix_from m tail i (tree x.0 t.place (more e none)) x.1)
   unfolding postfix_from
   postfix_turn i e t l h = chosen _ _ _ h
 
-  postfix_done : (e : Tree) (l : List Tok) (i : ℕ) → starts m l ≡ false → Tells (Extends k e) (λ i. postfix_from m tail i e) l (postfix_from m tail i e l)
+  postfix_done : (e : Tree) (l : List PlacedSymbol) (i : ℕ) → starts m l ≡ false → Tells (Extends k e) (λ i. postfix_from m tail i e) l (postfix_from m tail i e l)
   postfix_done e l i h = subst (Tells (Extends k e) (λ i. postfix_from m tail i e) l) (sym (postfix_stops m tail i e l h))
       (tells_done (Extends k e) (λ i. postfix_from m tail i e) l e (λ y u p. p) (λ y a i. postfix_stops m tail i e y (alike_begins (is_sign m) l y a ∙ h)))
 
-  tells_postfix_from : (i : ℕ) (e : Tree) (l : List Tok) → length l ≤ i → length l < n → Tells (Extends k e) (λ i. postfix_from m tail i e) l (postfix_from m tail i e l)
+  tells_postfix_from : (i : ℕ) (e : Tree) (l : List PlacedSymbol) → length l ≤ i → length l < n → Tells (Extends k e) (λ i. postfix_from m tail i e) l (postfix_from m tail i e l)
   tells_postfix_from i e [] fuel short = postfix_done e [] i refl
   tells_postfix_from zero e (t ∷ l) fuel short = absurd (omega arith)
   tells_postfix_from (suc i) e (t ∷ l) fuel short = elim (told (is_sign m t)) [
     | inl is_one ↦
         let node_on : Node → Tree = λ x. tree x t.place (more e none) in
         subst (Tells (Extends k e) (λ i. postfix_from m tail i e) (t ∷ l)) (sym (postfix_turn i e t l is_one))
-        (tells_token (λ u y r. (v : List Tok) → Phrase k v e (t ∷ u) → Phrase k v y r) (Extends k e) (λ i u. tail u >>= λ x. postfix_from m tail i (node_on x.0) x.1) (λ i. postfix_from m tail i e) t
+        (tells_token (λ u y r. (v : List PlacedSymbol) → Phrase k v e (t ∷ u) → Phrase k v y r) (Extends k e) (λ i u. tail u >>= λ x. postfix_from m tail i (node_on x.0) x.1) (λ i. postfix_from m tail i e) t
         (λ i u. postfix_turn i e t u is_one) (λ u x r h. h) l _
-        (tells_both Tail (λ x. Extends k (node_on x)) (λ u y r. (v : List Tok) → Phrase k v e (t ∷ u) → Phrase k v y r) (λ i. tail) (λ x i. postfix_from m tail i (node_on x))
+        (tells_both Tail (λ x. Extends k (node_on x)) (λ u y r. (v : List PlacedSymbol) → Phrase k v e (t ∷ u) → Phrase k v y r) (λ i. tail) (λ x i. postfix_from m tail i (node_on x))
         (λ u w r x y fst snd v p. snd v (join v u w e t.place x (subst (λ z. Phrase k v e (z ∷ u)) (token_is m t is_one) p) fst)) (λ x. stays k (node_on x)) l i (tail l) (tail_law l (omega arith))
         (λ x u less. tells_postfix_from i (node_on x) u (omega arith) (omega arith))))
     | inr none_there ↦ postfix_done e (t ∷ l) (suc i) none_there
@@ -151,7 +151,7 @@ module _ (k : Rank) (m : Mark) (Tail : Production Node) (tail : TokenReader Node
 abbrev NullTail : Production Node
 NullTail = Not ▸ Null ▸ Builds node.IsNotNull ∣ Null ▸ Builds node.IsNull
 
-null_joins : (l u r : List Tok) (e : Tree) (p : ℕ) (x : Node) → Phrase nullness l e (sign Is p ∷ u) → NullTail u x r → Phrase nullness l (tree x p (more e none)) r
+null_joins : (l u r : List PlacedSymbol) (e : Tree) (p : ℕ) (x : Node) → Phrase nullness l e (sign Is p ∷ u) → NullTail u x r → Phrase nullness l (tree x p (more e none)) r
 null_joins l u r e p x d (inl (q, v, at_not, (o, w, at_null, (says, left)))) =
     let all : sign Is p ∷ u ≡ sign Is p ∷ sign Not q ∷ sign Null o ∷ r = cc in
     subst (λ z. Phrase nullness l (tree z p (more e none)) r) (sym says) (is_not_null (subst (Phrase nullness l e) all d))
@@ -167,7 +167,7 @@ lawful_null n = lawful_if Not (Null ▸ Builds node.IsNotNull) n (closed Null no
 abbrev TypeForm : Production TypeWord
 TypeForm = AName ⇒ λ w. (Open ▸ AName ⇒ λ v. Close ▸ Builds (record { name = w; inner = Some v })) ∣ Builds (record { name = w; inner = None })
 
-type_is : (l : List Tok) (ty : TypeWord) (r : List Tok) → TypeForm l ty r → TypeName l ty r
+type_is : (l : List PlacedSymbol) (ty : TypeWord) (r : List PlacedSymbol) → TypeForm l ty r → TypeName l ty r
 type_is l ty r (w, u, at_name, inl (p, v, at_open, (i, z, at_inner, (q, y, at_close, (says, left))))) =
     let all : l ≡ identifier w.text w.place ∷ sign Open p ∷ identifier i.text i.place ∷ sign Close q ∷ r = cc in
     subst (λ z. TypeName z ty r) (sym all) (subst (λ z. TypeName (identifier w.text w.place ∷ sign Open p ∷ identifier i.text i.place ∷ sign Close q ∷ r) z r) (sym says) inner)
@@ -192,21 +192,21 @@ lawful_cast_tail : (n : ℕ) → Lawful CastTail n cast_at
 unfolding cast_at
 lawful_cast_tail n = lawful_then TypeName (λ ty. Builds (node.Cast ty)) n type_at (λ ty u. Ok (node.Cast ty, u)) (lawful_type n) (λ ty. lawful_says n (node.Cast ty))
 
-cast_joins : (l u r : List Tok) (e : Tree) (p : ℕ) (x : Node) → Phrase cast l e (sign Cast p ∷ u) → CastTail u x r → Phrase cast l (tree x p (more e none)) r
+cast_joins : (l u r : List PlacedSymbol) (e : Tree) (p : ℕ) (x : Node) → Phrase cast l e (sign Cast p ∷ u) → CastTail u x r → Phrase cast l (tree x p (more e none)) r
 cast_joins l u r e p x d (ty, v, ty_is, (says, left)) = subst (λ z. Phrase cast l (tree z p (more e none)) r) (sym says) (cast_to d (subst (TypeName u ty) left ty_is))
 
 -- arguments
-abbrev ArgumentsAre : List Tok → List Tree → List Tok → Type 0
+abbrev ArgumentsAre : List PlacedSymbol → List Tree → List PlacedSymbol → Type 0
 ArgumentsAre l ts r = Arguments l (trees_from ts) r
 
 abbrev ArgumentForm : Production (List Tree)
 ArgumentForm = Close ▸ Builds [] ∣ (Listed Comma (Phrase disjunction) ⇒ λ ts. Close ▸ Builds ts)
 
-arguments_behind : (l u r : List Tok) (ts : List Tree) (p : ℕ) → Listed Comma (Phrase disjunction) l ts u → u ≡ sign Close p ∷ r → (x : Tree) × (m : List Tok) × (es : Trees) × Phrase disjunction l x m × Behind m es r × (trees_from ts ≡ more x es)
+arguments_behind : (l u r : List PlacedSymbol) (ts : List Tree) (p : ℕ) → Listed Comma (Phrase disjunction) l ts u → u ≡ sign Close p ∷ r → (x : Tree) × (m : List PlacedSymbol) × (es : Trees) × Phrase disjunction l x m × Behind m es r × (trees_from ts ≡ more x es)
 arguments_behind l u r ts p (single {x} d) e = (x, u, none, d, subst (λ z. Behind z none r) (sym e) end, refl)
 arguments_behind l u r ts p (several {u = v} {x} {xs} {p = q} d ds) e = let b = arguments_behind v u r xs p ds e in (x, sign Comma q ∷ v, more b.0 b.2, d, another b.3 b.4, ap (more x) b.5)
 
-arguments_are : (l : List Tok) (ts : List Tree) (r : List Tok) → ArgumentForm l ts r → ArgumentsAre l ts r
+arguments_are : (l : List PlacedSymbol) (ts : List Tree) (r : List PlacedSymbol) → ArgumentForm l ts r → ArgumentsAre l ts r
 arguments_are l ts r (inl (p, v, at_close, (says, left))) =
     let all : l ≡ sign Close p ∷ r = cc in
     subst (λ z. Arguments z (trees_from ts) r) (sym all) (subst (λ z. Arguments (sign Close p ∷ r) (trees_from z) r) (sym says) nothing)
@@ -215,7 +215,7 @@ arguments_are l ts r (inr (xs, u, ds, (p, v, at_close, (says, left)))) =
     subst (λ z. Arguments l (trees_from z) r) (sym says) (subst (λ z. Arguments l z r) (sym b.5) (something b.3 b.4))
 
 module _ (n : ℕ) (inside : TokenReader Tree) (law : Lawful (Phrase disjunction) n inside)
-    (simple : 0 < n → (v : List ℕ) (o q : ℕ) (y : List Tok) → args inside (identifier v o ∷ sign Close q ∷ y) ≡ Ok (leaf (node.Column None (word v o)) o ∷ [], y)) where
+    (simple : 0 < n → (v : List ℕ) (o q : ℕ) (y : List PlacedSymbol) → args inside (identifier v o ∷ sign Close q ∷ y) ≡ Ok (leaf (node.Column None (word v o)) o ∷ [], y)) where
   lawful_args : Lawful ArgumentsAre n (args inside)
   unfolding args if_mark
   lawful_args l short = tells_same ArgumentForm ArgumentsAre (λ m. args inside) (λ m. args inside) l (λ y a m. refl) arguments_are (args inside l)
@@ -223,37 +223,37 @@ module _ (n : ℕ) (inside : TokenReader Tree) (law : Lawful (Phrase disjunction
       (lawful_then (Listed Comma (Phrase disjunction)) (λ ts. Close ▸ Builds ts) n (listed Comma inside) (closed Close) (lawful_listed Comma (Phrase disjunction) n inside law) (λ ts. lawful_closed Close n ts)) l short)
 
   -- what stands behind a name and its bracket
-  abbrev OpenedIs : Word → List Tok → Tree → List Tok → Type 0
+  abbrev OpenedIs : Word → List PlacedSymbol → Tree → List PlacedSymbol → Type 0
   OpenedIs w u y r = (q : ℕ) → Phrase primary (identifier w.text w.place ∷ sign Open q ∷ u) y r
 
   call_of : Word → TokenReader Tree
   call_of w u = args inside u >>= λ x. Ok (tree (node.Call w.text) w.place (trees_from x.0), x.1)
 
-  left_of : Answer Tree → List Tok
+  left_of : Answer Tree → List PlacedSymbol
   left_of (Ok x) = x.1
   left_of (Err r) = r
 
-  simple_left : (w : Word) (a b : Tok) (y : List Tok) → 0 < n → is_name a ≡ true → is_sign Close b ≡ true → left_of (call_of w (a ∷ b ∷ y)) ≡ y
+  simple_left : (w : Word) (a b : PlacedSymbol) (y : List PlacedSymbol) → 0 < n → is_name a ≡ true → is_sign Close b ≡ true → left_of (call_of w (a ∷ b ∷ y)) ≡ y
   unfolding call_of left_of
   simple_left w a b y pos a_name a_close =
       let v = name_is a a_name in
       ap left_of (ap₂ (λ u v. call_of w (u ∷ v ∷ y)) v.1 (token_is Close b a_close) ∙ through (args inside (identifier v.0 a.place ∷ sign Close b.place ∷ y)) _ y _ (simple pos v.0 a.place b.place y))
 
-  is_not : (a : Tok) (l : List Tok) → is_name a ≡ false → is_literal (a ∷ l) ≡ false
+  is_not : (a : PlacedSymbol) (l : List PlacedSymbol) → is_name a ≡ false → is_literal (a ∷ l) ≡ false
   is_not a [] h = refl
   is_not a (b ∷ []) h = refl
   is_not a (b ∷ c ∷ l) h = ap (λ v. cond v (cond (is_sign Close b) (is_string c) false) false) h
 
-  is_not_close : (a b : Tok) (l : List Tok) → is_name a ≡ true → is_sign Close b ≡ false → is_literal (a ∷ b ∷ l) ≡ false
+  is_not_close : (a b : PlacedSymbol) (l : List PlacedSymbol) → is_name a ≡ true → is_sign Close b ≡ false → is_literal (a ∷ b ∷ l) ≡ false
   is_not_close a b [] h k = refl
   is_not_close a b (c ∷ l) h k = ap₂ (λ u v. cond u (cond v (is_string c) false) false) h k
 
-  longer : (b : Tok) (l : List Tok) → l ≡ b ∷ l → ⊥
+  longer : (b : PlacedSymbol) (l : List PlacedSymbol) → l ≡ b ∷ l → ⊥
   longer b l h = let e = ap length h in omega arith
 
   -- behind what was taken no literal comes to stand, whatever follows
-  still_no : (w : Word) → 0 < n → (taken r y : List Tok) → is_literal (taken ++ r) ≡ false → left_of (call_of w (taken ++ r)) ≡ r
-      → ((z : List Tok) → Alike r z → left_of (call_of w (taken ++ z)) ≡ z) → Alike r y → is_literal (taken ++ y) ≡ false
+  still_no : (w : Word) → 0 < n → (taken r y : List PlacedSymbol) → is_literal (taken ++ r) ≡ false → left_of (call_of w (taken ++ r)) ≡ r
+      → ((z : List PlacedSymbol) → Alike r z → left_of (call_of w (taken ++ z)) ≡ z) → Alike r y → is_literal (taken ++ y) ≡ false
   still_no w pos [] [] [] none_here left again h = refl
   still_no w pos [] [] (u ∷ y) none_here left again h = absurd h
   still_no w pos [] (a ∷ r) [] none_here left again h = refl
@@ -262,7 +262,7 @@ module _ (n : ℕ) (inside : TokenReader Tree) (law : Lawful (Phrase disjunction
     | inl a_name ↦
         let gone : left_of (call_of w (a ∷ sign Close 0 ∷ [])) ≡ [] = simple_left w a (sign Close 0) [] pos a_name refl in
         let kept : left_of (call_of w (a ∷ sign Close 0 ∷ [])) ≡ a ∷ sign Close 0 ∷ [] = again (a ∷ sign Close 0 ∷ []) refl in
-        let never : ◌≡◌ {A = List Tok} [] (a ∷ sign Close 0 ∷ []) = sym gone ∙ kept in cc
+        let never : ◌≡◌ {A = List PlacedSymbol} [] (a ∷ sign Close 0 ∷ []) = sym gone ∙ kept in cc
   ]
   still_no w pos (a ∷ []) [] [] none_here left again h = refl
   still_no w pos (a ∷ []) [] (u ∷ y) none_here left again h = absurd h
@@ -280,15 +280,15 @@ module _ (n : ℕ) (inside : TokenReader Tree) (law : Lawful (Phrase disjunction
   still_no w pos (a ∷ b ∷ []) (c ∷ r) (u ∷ y) none_here left again h = ap (λ v. cond (is_name a) (cond (is_sign Close b) (is_string v) false) false) (sym h) ∙ none_here
   still_no w pos (a ∷ b ∷ c ∷ q) r y none_here left again h = none_here
 
-  call_turn : (w : Word) (l : List Tok) → is_literal l ≡ false → opened inside w l ≡ call_of w l
+  call_turn : (w : Word) (l : List PlacedSymbol) → is_literal l ≡ false → opened inside w l ≡ call_of w l
   unfolding opened call_of
   call_turn w l h = passed _ _ _ h
 
-  call_tells : (w : Word) (l : List Tok) → length l < n → Tells (OpenedIs w) (λ i. call_of w) l (call_of w l)
+  call_tells : (w : Word) (l : List PlacedSymbol) → length l < n → Tells (OpenedIs w) (λ i. call_of w) l (call_of w l)
   unfolding call_of
   call_tells w l short = tells_node ArgumentsAre (OpenedIs w) (λ ts. tree (node.Call w.text) w.place (trees_from ts)) (λ u x r d q. a_call d) (args inside) l (lawful_args l short)
 
-  tells_call : (w : Word) (l : List Tok) → is_literal l ≡ false → length l < n → (b : Answer Tree) → call_of w l ≡ b → Tells (OpenedIs w) (λ i. call_of w) l b → Tells (OpenedIs w) (λ m. opened inside w) l b
+  tells_call : (w : Word) (l : List PlacedSymbol) → is_literal l ≡ false → length l < n → (b : Answer Tree) → call_of w l ≡ b → Tells (OpenedIs w) (λ i. call_of w) l b → Tells (OpenedIs w) (λ m. opened inside w) l b
   unfolding left_of
   tells_call w l none_here short (Ok x) made s = record {
     taken = s.taken;
@@ -313,15 +313,15 @@ module _ (n : ℕ) (inside : TokenReader Tree) (law : Lawful (Phrase disjunction
   literal_of : Word → List ℕ → ℕ → List ℕ → ℕ → Tree
   literal_of w v o s z = leaf (node.Literal (record { name = w; inner = Some (word v o) }) s) z
 
-  literal_turn : (w : Word) (v s : List ℕ) (o q z : ℕ) (y : List Tok) → opened inside w (identifier v o ∷ sign Close q ∷ string s z ∷ y) ≡ Ok (literal_of w v o s z, y)
+  literal_turn : (w : Word) (v s : List ℕ) (o q z : ℕ) (y : List PlacedSymbol) → opened inside w (identifier v o ∷ sign Close q ∷ string s z ∷ y) ≡ Ok (literal_of w v o s z, y)
   unfolding opened inner_at name_at closed literal_at string_at literal_of
   literal_turn w v s o q z y = refl
 
-  literal_phrase : (w : Word) (v s : List ℕ) (o q z : ℕ) (y : List Tok) → OpenedIs w (identifier v o ∷ sign Close q ∷ string s z ∷ y) (literal_of w v o s z) y
+  literal_phrase : (w : Word) (v s : List ℕ) (o q z : ℕ) (y : List PlacedSymbol) → OpenedIs w (identifier v o ∷ sign Close q ∷ string s z ∷ y) (literal_of w v o s z) y
   unfolding literal_of
   literal_phrase w v s o q z y k = a_literal inner
 
-  literal_tells : (w : Word) (v s : List ℕ) (o q z : ℕ) (l : List Tok) → Tells (OpenedIs w) (λ m. opened inside w) (identifier v o ∷ sign Close q ∷ string s z ∷ l) (opened inside w (identifier v o ∷ sign Close q ∷ string s z ∷ l))
+  literal_tells : (w : Word) (v s : List ℕ) (o q z : ℕ) (l : List PlacedSymbol) → Tells (OpenedIs w) (λ m. opened inside w) (identifier v o ∷ sign Close q ∷ string s z ∷ l) (opened inside w (identifier v o ∷ sign Close q ∷ string s z ∷ l))
   literal_tells w v s o q z l = subst (Tells (OpenedIs w) (λ m. opened inside w) (identifier v o ∷ sign Close q ∷ string s z ∷ l)) (sym (literal_turn w v s o q z l))
       (record { taken = identifier v o ∷ sign Close q ∷ string s z ∷ []; parts = refl; phrase = literal_phrase w v s o q z; again = λ y h m fuel. literal_turn w v s o q z y })
 
@@ -329,7 +329,7 @@ module _ (n : ℕ) (inside : TokenReader Tree) (law : Lawful (Phrase disjunction
   both_true true b h = (refl, h)
   both_true false b h = cc
 
-  tells_literal : (w : Word) (l : List Tok) → is_literal l ≡ true → Tells (OpenedIs w) (λ m. opened inside w) l (opened inside w l)
+  tells_literal : (w : Word) (l : List PlacedSymbol) → is_literal l ≡ true → Tells (OpenedIs w) (λ m. opened inside w) l (opened inside w l)
   tells_literal w [] h = cc
   tells_literal w (a ∷ []) h = cc
   tells_literal w (a ∷ b ∷ []) h = cc
@@ -348,13 +348,13 @@ module _ (n : ℕ) (inside : TokenReader Tree) (law : Lawful (Phrase disjunction
   ]
 
   -- what stands behind a name
-  abbrev NamedIs : Word → List Tok → Tree → List Tok → Type 0
+  abbrev NamedIs : Word → List PlacedSymbol → Tree → List PlacedSymbol → Type 0
   NamedIs w u y r = Phrase primary (identifier w.text w.place ∷ u) y r
 
   abbrev NamedForm : Word → Production Tree
   NamedForm w = (AString ⇒ λ s. Builds (leaf (node.Literal (record { name = w; inner = None }) s.text) s.place)) ∣ Open ▸ OpenedIs w ∣ (Dot ▸ AName ⇒ λ c. Builds (leaf (node.Column (Some w) c) w.place)) ∣ Builds (leaf (node.Column None w) w.place)
 
-  named_is : (w : Word) (l : List Tok) (y : Tree) (r : List Tok) → NamedForm w l y r → NamedIs w l y r
+  named_is : (w : Word) (l : List PlacedSymbol) (y : Tree) (r : List PlacedSymbol) → NamedForm w l y r → NamedIs w l y r
   named_is w l y r (inl (s, u, at_string, (says, left))) =
       let all : l ≡ string s.text s.place ∷ r = cc in
       subst (λ z. NamedIs w z y r) (sym all) (subst (λ z. NamedIs w (string s.text s.place ∷ r) z r) (sym says) (a_literal plain))
@@ -385,10 +385,10 @@ module _ (n : ℕ) (inside : TokenReader Tree) (law : Lawful (Phrase disjunction
   primary_ready : Ready (Phrase primary)
   primary_ready = record { closing = string [] 0 ∷ []; plain = (tt, tt); value = leaf (node.Str []) 0; closes = λ z. a_string }
 
-  BracketsAre : List Tok → Tree → List Tok → Type 0
+  BracketsAre : List PlacedSymbol → Tree → List PlacedSymbol → Type 0
   BracketsAre u y r = (p : ℕ) → Phrase primary (sign Open p ∷ u) y r
 
-  brackets_are : (l : List Tok) (y : Tree) (r : List Tok) → (Phrase disjunction ⇒ λ e. Close ▸ Builds e) l y r → BracketsAre l y r
+  brackets_are : (l : List PlacedSymbol) (y : Tree) (r : List PlacedSymbol) → (Phrase disjunction ⇒ λ e. Close ▸ Builds e) l y r → BracketsAre l y r
   unfolding BracketsAre
   brackets_are l y r (e, u, d, (p, v, at_close, (says, left))) q = subst (λ z. Phrase primary (sign Open q ∷ l) z r) (sym says) (in_brackets (subst (Phrase disjunction l e) (at_close ∙ ap (λ z. sign Close p ∷ z) left) d))
 
@@ -400,35 +400,35 @@ module _ (n : ℕ) (inside : TokenReader Tree) (law : Lawful (Phrase disjunction
   lawful_brackets l short = tells_same (Phrase disjunction ⇒ λ e. Close ▸ Builds e) BracketsAre (λ m. bracketed) (λ m. bracketed) l (λ y a m. refl) brackets_are (bracketed l)
       (lawful_then (Phrase disjunction) (λ e. Close ▸ Builds e) n inside (closed Close) law (λ e. lawful_closed Close n e) l short)
 
-  brackets_turn : (g : Mark) (p : ℕ) (l : List Tok) → is g Open ≡ true → read.primary inside (sign g p ∷ l) ≡ bracketed l
+  brackets_turn : (g : Mark) (p : ℕ) (l : List PlacedSymbol) → is g Open ≡ true → read.primary inside (sign g p ∷ l) ≡ bracketed l
   unfolding read.primary mark_primary bracketed
   brackets_turn g p l h = chosen _ _ _ h
 
-  true_turn : (p : ℕ) (l : List Tok) → read.primary inside (sign True p ∷ l) ≡ Ok (leaf node.True p, l)
+  true_turn : (p : ℕ) (l : List PlacedSymbol) → read.primary inside (sign True p ∷ l) ≡ Ok (leaf node.True p, l)
   unfolding read.primary mark_primary
   true_turn p l = refl
 
-  false_turn : (p : ℕ) (l : List Tok) → read.primary inside (sign False p ∷ l) ≡ Ok (leaf node.False p, l)
+  false_turn : (p : ℕ) (l : List PlacedSymbol) → read.primary inside (sign False p ∷ l) ≡ Ok (leaf node.False p, l)
   unfolding read.primary mark_primary
   false_turn p l = refl
 
-  null_turn : (p : ℕ) (l : List Tok) → read.primary inside (sign Null p ∷ l) ≡ Ok (leaf node.Null p, l)
+  null_turn : (p : ℕ) (l : List PlacedSymbol) → read.primary inside (sign Null p ∷ l) ≡ Ok (leaf node.Null p, l)
   unfolding read.primary mark_primary
   null_turn p l = refl
 
-  no_turn : (g : Mark) (p : ℕ) (l : List Tok) → is g Open ≡ false → is g True ≡ false → is g False ≡ false → is g Null ≡ false → read.primary inside (sign g p ∷ l) ≡ Err (sign g p ∷ l)
+  no_turn : (g : Mark) (p : ℕ) (l : List PlacedSymbol) → is g Open ≡ false → is g True ≡ false → is g False ≡ false → is g Null ≡ false → read.primary inside (sign g p ∷ l) ≡ Err (sign g p ∷ l)
   unfolding read.primary mark_primary
   no_turn g p l a b c d = passed _ _ _ a ∙ passed _ _ _ b ∙ passed _ _ _ c ∙ passed _ _ _ d
 
-  name_turn : (w : List ℕ) (p : ℕ) (l : List Tok) → read.primary inside (identifier w p ∷ l) ≡ named_at inside (word w p) l
+  name_turn : (w : List ℕ) (p : ℕ) (l : List PlacedSymbol) → read.primary inside (identifier w p ∷ l) ≡ named_at inside (word w p) l
   unfolding read.primary
   name_turn w p l = refl
 
-  number_turn : (w : List ℕ) (p : ℕ) (l : List Tok) → read.primary inside (numeral w p ∷ l) ≡ Ok (leaf (node.Number w) p, l)
+  number_turn : (w : List ℕ) (p : ℕ) (l : List PlacedSymbol) → read.primary inside (numeral w p ∷ l) ≡ Ok (leaf (node.Number w) p, l)
   unfolding read.primary
   number_turn w p l = refl
 
-  string_turn : (w : List ℕ) (p : ℕ) (l : List Tok) → read.primary inside (string w p ∷ l) ≡ Ok (leaf (node.Str w) p, l)
+  string_turn : (w : List ℕ) (p : ℕ) (l : List PlacedSymbol) → read.primary inside (string w p ∷ l) ≡ Ok (leaf (node.Str w) p, l)
   unfolding read.primary
   string_turn w p l = refl
 
@@ -436,12 +436,12 @@ module _ (n : ℕ) (inside : TokenReader Tree) (law : Lawful (Phrase disjunction
   unfolding read.primary
   primary_end = refl
 
-  tells_word : (g m : Mark) (p : ℕ) (l : List Tok) (x : Node) → is g m ≡ true → ((y : List Tok) → read.primary inside (sign m p ∷ y) ≡ Ok (leaf x p, y)) → ((y : List Tok) → Phrase primary (sign m p ∷ y) (leaf x p) y)
+  tells_word : (g m : Mark) (p : ℕ) (l : List PlacedSymbol) (x : Node) → is g m ≡ true → ((y : List PlacedSymbol) → read.primary inside (sign m p ∷ y) ≡ Ok (leaf x p, y)) → ((y : List PlacedSymbol) → Phrase primary (sign m p ∷ y) (leaf x p) y)
       → Tells (Phrase primary) (λ m. read.primary inside) (sign g p ∷ l) (read.primary inside (sign g p ∷ l))
   tells_word g m p l x h reads d = subst (λ z. Tells (Phrase primary) (λ m. read.primary inside) (sign z p ∷ l) (read.primary inside (sign z p ∷ l))) (sym (same_mark g m h))
       (subst (Tells (Phrase primary) (λ m. read.primary inside) (sign m p ∷ l)) (sym (reads l)) (tells_one (Phrase primary) (λ m. read.primary inside) (sign m p) l (leaf x p) d (λ y a i. reads y)))
 
-  tells_mark : (g : Mark) (p : ℕ) (l : List Tok) → length l < n → Tells (Phrase primary) (λ m. read.primary inside) (sign g p ∷ l) (read.primary inside (sign g p ∷ l))
+  tells_mark : (g : Mark) (p : ℕ) (l : List PlacedSymbol) → length l < n → Tells (Phrase primary) (λ m. read.primary inside) (sign g p ∷ l) (read.primary inside (sign g p ∷ l))
   unfolding BracketsAre
   tells_mark g p l short = elim (told (is g Open)) [
     | inl is_open ↦ subst (Tells (Phrase primary) (λ m. read.primary inside) (sign g p ∷ l)) (sym (brackets_turn g p l is_open))
@@ -459,7 +459,7 @@ module _ (n : ℕ) (inside : TokenReader Tree) (law : Lawful (Phrase disjunction
     ]
   ]
 
-  tells_primary : (x : Symbol) (p : ℕ) (l : List Tok) → length l < n → Tells (Phrase primary) (λ m. read.primary inside) (record { symbol = x; place = p } ∷ l) (read.primary inside (record { symbol = x; place = p } ∷ l))
+  tells_primary : (x : Symbol) (p : ℕ) (l : List PlacedSymbol) → length l < n → Tells (Phrase primary) (λ m. read.primary inside) (record { symbol = x; place = p } ∷ l) (read.primary inside (record { symbol = x; place = p } ∷ l))
   tells_primary (fixed g) p l short = tells_mark g p l short
   tells_primary (name w) p l short = subst (Tells (Phrase primary) (λ m. read.primary inside) (identifier w p ∷ l)) (sym (name_turn w p l))
       (tells_token (NamedIs (word w p)) (Phrase primary) (λ m. named_at inside (word w p)) (λ m. read.primary inside) (identifier w p) (λ i u. name_turn w p u) (λ u x r h. h) l _ (lawful_named (word w p) l short))
@@ -506,15 +506,15 @@ module _ (n : ℕ) (inside : TokenReader Tree) (law : Lawful (Phrase disjunction
   lawful_disjunction = lawful_chain disjunction (λ t h. eq-eqb _ _ h) (suc n) (conjunction_rank inside) lawful_conjunction
 
 -- a name before a closing bracket is a column
-column_read : (n : ℕ) (v : List ℕ) (o q : ℕ) (y : List Tok) → nest (suc n) (identifier v o ∷ sign Close q ∷ y) ≡ Ok (leaf (node.Column None (word v o)) o, sign Close q ∷ y)
+column_read : (n : ℕ) (v : List ℕ) (o q : ℕ) (y : List PlacedSymbol) → nest (suc n) (identifier v o ∷ sign Close q ∷ y) ≡ Ok (leaf (node.Column None (word v o)) o, sign Close q ∷ y)
 unfolding nest read.chain chain_from read.prefix read.comparison read.compared read.postfix postfix_from read.primary named_at if_mark
 column_read n v o q y = refl
 
-column_listed : (inside : TokenReader Tree) (v : List ℕ) (o q : ℕ) (y : List Tok) → inside (identifier v o ∷ sign Close q ∷ y) ≡ Ok (leaf (node.Column None (word v o)) o, sign Close q ∷ y) → args inside (identifier v o ∷ sign Close q ∷ y) ≡ Ok (leaf (node.Column None (word v o)) o ∷ [], y)
+column_listed : (inside : TokenReader Tree) (v : List ℕ) (o q : ℕ) (y : List PlacedSymbol) → inside (identifier v o ∷ sign Close q ∷ y) ≡ Ok (leaf (node.Column None (word v o)) o, sign Close q ∷ y) → args inside (identifier v o ∷ sign Close q ∷ y) ≡ Ok (leaf (node.Column None (word v o)) o ∷ [], y)
 unfolding args listed listed_from closed
 column_listed inside v o q y h = ap (λ a. (a >>= λ x. listed_from Comma inside (length (identifier v o ∷ sign Close q ∷ y)) (x.0 ∷ []) x.1) >>= λ x. closed Close x.0 x.1) h
 
-pub column_args : (n : ℕ) (v : List ℕ) (o q : ℕ) (y : List Tok) → 0 < n → args (nest n) (identifier v o ∷ sign Close q ∷ y) ≡ Ok (leaf (node.Column None (word v o)) o ∷ [], y)
+pub column_args : (n : ℕ) (v : List ℕ) (o q : ℕ) (y : List PlacedSymbol) → 0 < n → args (nest n) (identifier v o ∷ sign Close q ∷ y) ≡ Ok (leaf (node.Column None (word v o)) o ∷ [], y)
 column_args zero v o q y pos = absurd (omega arith)
 column_args (suc n) v o q y pos = column_listed (nest (suc n)) v o q y (column_read n v o q y)
 

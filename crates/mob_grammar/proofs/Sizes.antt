@@ -6,18 +6,18 @@ use Rattle.mob_ast.specs.declared.types.TypeWord.{TypeWord}
 use Rattle.mob_ast.specs.Trees.{Tree, Trees}
 use Rattle.mob_grammar.specs.declared.mark.Mark.{Mark}
 use Rattle.mob_grammar.specs.declared.mark.Mark.TheVariants.{With, Delimiter, Comma, Semicolon}
-use Rattle.mob_grammar.specs.Symbols.{Tok, sign}
+use Rattle.mob_grammar.specs.Symbols.{PlacedSymbol, sign}
 use Rattle.mob_grammar.specs.Expressions.{Rank, TypeName, plain, inner, Phrase, up, chain, prefixed, is_null, is_not_null, compared, cast_to, a_number, a_string, is_true, is_false, a_null, a_literal, a_call, a_column, a_table_column, in_brackets, Arguments, nothing, something, Behind, end, another}
 use Rattle.mob_grammar.specs.Forms.{Production, ◌▸◌, ◌∣◌, Listed, single, several}
 use Rattle.mob_grammar.specs.Scripts.{Const, Row, ColumnType, FromEntry, SecondName, Alias, SelectItem, Direction, OrderKey, OnlyDistinct, FromPart, WherePart, OrderPart, LimitPart, SelectBody, CreateTable, CreateIndex, InsertRows, CopyFile, WithFormat, WithDelimiter, Statement}
 use Rattle.mob_grammar.specs.Sizes.{nodes, nodes_in, row_nodes, item_nodes, key_nodes, condition_nodes, select_nodes, statement_nodes, HasFewNodes}
 
-type_taken : {l r : List Tok} {ty : TypeWord} → TypeName l ty r → length r < length l
+type_taken : {l r : List PlacedSymbol} {ty : TypeWord} → TypeName l ty r → length r < length l
 type_taken plain = omega arith
 type_taken inner = omega arith
 
 mutual
-  phrase_few : {k : Rank} {l r : List Tok} {e : Tree} → Phrase k l e r → nodes e + length r ≤ length l
+  phrase_few : {k : Rank} {l r : List PlacedSymbol} {e : Tree} → Phrase k l e r → nodes e + length r ≤ length l
   phrase_few (up d) = phrase_few d
   phrase_few (chain a c b) = omega (arith, phrase_few a, phrase_few b)
   phrase_few (prefixed c a) = omega (arith, phrase_few a)
@@ -36,17 +36,17 @@ mutual
   phrase_few a_table_column = omega arith
   phrase_few (in_brackets a) = omega (arith, phrase_few a)
 
-  arguments_few : {l r : List Tok} {es : Trees} → Arguments l es r → nodes_in es + length r ≤ length l
+  arguments_few : {l r : List PlacedSymbol} {es : Trees} → Arguments l es r → nodes_in es + length r ≤ length l
   arguments_few nothing = omega arith
   arguments_few (something a b) = omega (arith, phrase_few a, behind_few b)
 
-  behind_few : {l r : List Tok} {es : Trees} → Behind l es r → nodes_in es + length r ≤ length l
+  behind_few : {l r : List PlacedSymbol} {es : Trees} → Behind l es r → nodes_in es + length r ≤ length l
   behind_few end = omega arith
   behind_few (another a b) = omega (arith, phrase_few a, behind_few b)
 
 -- a form takes a token for each node of what it says
 abbrev Few : {A : Type 0} → (A → ℕ) → Production A → Type 0
-Few {A} size F = (l : List Tok) (x : A) (r : List Tok) → F l x r → size x + length r ≤ length l
+Few {A} size F = (l : List PlacedSymbol) (x : A) (r : List PlacedSymbol) → F l x r → size x + length r ≤ length l
 
 -- what a form says may be nothing that has nodes
 abbrev no_nodes : {A : Type 0} → A → ℕ

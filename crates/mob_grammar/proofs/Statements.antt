@@ -7,7 +7,7 @@ use Rattle.mob_ast.specs.declared.expression.Node.TheVariants as node
 use Rattle.mob_ast.specs.Trees.{empty, create_table, create_index, insert, copy, select, explain, every, one, Tree, ItemParts, KeyParts, SelectParts}
 use Rattle.mob_grammar.specs.declared.mark.Mark.{Mark}
 use Rattle.mob_grammar.specs.declared.mark.Mark.TheVariants.{Select, Distinct, From, Where, Order, By, Asc, Desc, Limit, Create, Table, Index, On, Using, Gist, Insert, Into, Values, Copy, With, Format, Csv, Header, Delimiter, Explain, Null, True, False, As, Times, Open, Close, Comma, Semicolon}
-use Rattle.mob_grammar.specs.Symbols.{Tok, sign, is_sign, is_name, is_string, begins, starts, unary, leaf, Symbol, fixed, name, number, quoted, identifier, numeral, binding, clause_at, is_name_symbol, symbol_clause, symbol_strength, is_number}
+use Rattle.mob_grammar.specs.Symbols.{PlacedSymbol, sign, is_sign, is_name, is_string, begins, starts, unary, leaf, Symbol, fixed, name, number, quoted, identifier, numeral, binding, clause_at, is_name_symbol, symbol_clause, symbol_strength, is_number}
 use Rattle.mob_grammar.specs.Expressions.{disjunction, Phrase, TypeName, plain, inner}
 use Rattle.mob_grammar.specs.Forms.{Builds, At, AName, ANumber, AString, ◌⇒◌, ◌▸◌, ◌∣◌, Listed, Production, single, several}
 use Rattle.mob_grammar.specs.Scripts.{PlusOrMinus, Const, Row, ColumnType, InsertRows, WithFormat, WithDelimiter, CopyFile, SecondName, FromEntry, Alias, SelectItem, Direction, OrderKey, OnlyDistinct, FromPart, WherePart, OrderPart, LimitPart, SelectBody, Statement}
@@ -19,18 +19,18 @@ use Rattle.mob_grammar.proofs.Complete.{Stops, head_not}
 use Rattle.mob_grammar.proofs.ReadRules.{AtEnd, AtMark, Clause, Free, IsRead, NoDistinct, NoOpen, Piece, built_keeps, read_behind, read_built, read_closed, read_either, read_expression, read_if, read_list, read_mark, read_mark_leaf, read_name, read_number, read_plus_or_minus, read_string, read_then, read_type, read_weaker}
 
 -- what may follow what
-other_mark : (m k : Mark) → is m k ≡ false → (r : List Tok) → starts m r ≡ true → starts k r ≡ false
+other_mark : (m k : Mark) → is m k ≡ false → (r : List PlacedSymbol) → starts m r ≡ true → starts k r ≡ false
 other_mark m k e [] h = refl
 other_mark m k e (t ∷ r) h = ap (is_sign k) (token_is m t h) ∙ e
 
-clause_other : (k : ℕ) (m : Mark) (r : List Tok) → clause m < k → Clause k r → starts m r ≡ false
+clause_other : (k : ℕ) (m : Mark) (r : List PlacedSymbol) → clause m < k → Clause k r → starts m r ≡ false
 clause_other k m [] low h = refl
 clause_other k m (t ∷ r) low h = elim (told (is_sign m t)) [
   | inl is_one ↦ let same : symbol_clause t.symbol ≡ clause m = ap (λ t. symbol_clause t.symbol) (token_is m t is_one) in absurd (omega arith)
   | inr none_there ↦ none_there
 ]
 
-clause_above : (k : ℕ) (r : List Tok) → 1 ≤ k → Clause k r → Clause 1 r
+clause_above : (k : ℕ) (r : List PlacedSymbol) → 1 ≤ k → Clause k r → Clause 1 r
 clause_above k r a h = omega arith
 
 clause_strength : (g : Mark) → 1 ≤ clause g → strength g ≡ 0
@@ -47,7 +47,7 @@ clause_loose (name n) h = refl
 clause_loose (number n) h = refl
 clause_loose (quoted s) h = absurd (omega arith)
 
-clause_ends : (r : List Tok) → Clause 1 r → Stops disjunction r
+clause_ends : (r : List PlacedSymbol) → Clause 1 r → Stops disjunction r
 clause_ends [] h = tt
 clause_ends (t ∷ r) h = omega (arith, clause_loose t.symbol h)
 
@@ -57,38 +57,38 @@ clause_no_name (name n) h = absurd (omega arith)
 clause_no_name (number n) h = refl
 clause_no_name (quoted s) h = refl
 
-comma_ends : (r : List Tok) → starts Comma r ≡ true → Stops disjunction r
+comma_ends : (r : List PlacedSymbol) → starts Comma r ≡ true → Stops disjunction r
 comma_ends [] h = tt
 comma_ends (t ∷ r) h = let same : binding t ≡ 0 = ap binding (token_is Comma t h) in omega arith
 
-piece_ends : (r : List Tok) → Piece r → Stops disjunction r
+piece_ends : (r : List PlacedSymbol) → Piece r → Stops disjunction r
 piece_ends r (inl h) = comma_ends r h
 piece_ends r (inr h) = clause_ends r h
 
-piece_no_name : (r : List Tok) → Piece r → begins is_name r ≡ false
+piece_no_name : (r : List PlacedSymbol) → Piece r → begins is_name r ≡ false
 piece_no_name [] h = refl
 piece_no_name (t ∷ r) (inl h) = ap is_name (token_is Comma t h)
 piece_no_name (t ∷ r) (inr h) = clause_no_name t.symbol h
 
-piece_other : (m : Mark) → is Comma m ≡ false → clause m < 1 → (r : List Tok) → Piece r → starts m r ≡ false
+piece_other : (m : Mark) → is Comma m ≡ false → clause m < 1 → (r : List PlacedSymbol) → Piece r → starts m r ≡ false
 piece_other m e low r (inl h) = other_mark Comma m e r h
 piece_other m e low r (inr h) = clause_other 1 m r low h
 
 -- what a mark begins ends an expression, where it binds nothing
-mark_ends : (m : Mark) → strength m ≡ 0 → (l : List Tok) (p : ℕ) (u : List Tok) → l ≡ sign m p ∷ u → Stops disjunction l
+mark_ends : (m : Mark) → strength m ≡ 0 → (l : List PlacedSymbol) (p : ℕ) (u : List PlacedSymbol) → l ≡ sign m p ∷ u → Stops disjunction l
 mark_ends m loose l p u e = subst (Stops disjunction) (sym e) (omega arith)
 
-alias_ends : (l : List Tok) (a : Option Word) (u : List Tok) → Alias l a u → Piece u → Stops disjunction l
+alias_ends : (l : List PlacedSymbol) (a : Option Word) (u : List PlacedSymbol) → Alias l a u → Piece u → Stops disjunction l
 alias_ends l a u (inl d) h = mark_ends As refl l d.0 d.1 d.2
 alias_ends l a u (inr d) h = piece_ends l (subst Piece (sym d.1) h)
 
-direction_ends : (l : List Tok) (a : Bool) (u : List Tok) → Direction l a u → Piece u → Stops disjunction l
+direction_ends : (l : List PlacedSymbol) (a : Bool) (u : List PlacedSymbol) → Direction l a u → Piece u → Stops disjunction l
 direction_ends l a u (inl d) h = mark_ends Asc refl l d.0 d.1 d.2
 direction_ends l a u (inr (inl d)) h = mark_ends Desc refl l d.0 d.1 d.2
 direction_ends l a u (inr (inr d)) h = piece_ends l (subst Piece (sym d.1) h)
 
 -- constants
-type_begins : {l r : List Tok} {ty : TypeWord} → TypeName l ty r → (test : Tok → Bool) → ((w : List ℕ) (p : ℕ) → test (identifier w p) ≡ false) → begins test l ≡ false
+type_begins : {l r : List PlacedSymbol} {ty : TypeWord} → TypeName l ty r → (test : PlacedSymbol → Bool) → ((w : List ℕ) (p : ℕ) → test (identifier w p) ≡ false) → begins test l ≡ false
 type_begins (plain {n = n} {p = p}) test named_not = named_not n p
 type_begins (inner {n = n} {p = p}) test named_not = named_not n p
 
@@ -110,60 +110,60 @@ FromNumber = (ANumber ⇒ λ n. Builds (leaf (node.Number n.text) n.place)) ∣ 
 abbrev FromSign : Production Tree
 FromSign = (PlusOrMinus ⇒ λ t. ANumber ⇒ λ n. Builds (unary t (leaf (node.Number n.text) n.place))) ∣ FromNumber
 
-typed_begins : (test : Tok → Bool) → ((w : List ℕ) (p : ℕ) → test (identifier w p) ≡ false) → {l r : List Tok} {y : Tree} → TypedString l y r → begins test l ≡ false
+typed_begins : (test : PlacedSymbol → Bool) → ((w : List ℕ) (p : ℕ) → test (identifier w p) ≡ false) → {l r : List PlacedSymbol} {y : Tree} → TypedString l y r → begins test l ≡ false
 typed_begins test named_not d = type_begins d.2 test named_not
 
-null_begins : (test : Tok → Bool) → ((w : List ℕ) (p : ℕ) → test (identifier w p) ≡ false) → ((p : ℕ) → test (sign Null p) ≡ false) → {l r : List Tok} {y : Tree} → FromNull l y r → begins test l ≡ false
+null_begins : (test : PlacedSymbol → Bool) → ((w : List ℕ) (p : ℕ) → test (identifier w p) ≡ false) → ((p : ℕ) → test (sign Null p) ≡ false) → {l r : List PlacedSymbol} {y : Tree} → FromNull l y r → begins test l ≡ false
 null_begins test named_not a (inl d) = ap (begins test) d.2 ∙ a d.0
 null_begins test named_not a (inr d) = typed_begins test named_not d
 
-false_begins : (test : Tok → Bool) → ((w : List ℕ) (p : ℕ) → test (identifier w p) ≡ false) → ((p : ℕ) → test (sign Null p) ≡ false) → ((p : ℕ) → test (sign False p) ≡ false) → {l r : List Tok} {y : Tree} → FromFalse l y r → begins test l ≡ false
+false_begins : (test : PlacedSymbol → Bool) → ((w : List ℕ) (p : ℕ) → test (identifier w p) ≡ false) → ((p : ℕ) → test (sign Null p) ≡ false) → ((p : ℕ) → test (sign False p) ≡ false) → {l r : List PlacedSymbol} {y : Tree} → FromFalse l y r → begins test l ≡ false
 false_begins test named_not a b (inl d) = ap (begins test) d.2 ∙ b d.0
 false_begins test named_not a b (inr d) = null_begins test named_not a d
 
-true_begins : (test : Tok → Bool) → ((w : List ℕ) (p : ℕ) → test (identifier w p) ≡ false) → ((p : ℕ) → test (sign Null p) ≡ false) → ((p : ℕ) → test (sign False p) ≡ false) → ((p : ℕ) → test (sign True p) ≡ false) → {l r : List Tok} {y : Tree} → FromTrue l y r → begins test l ≡ false
+true_begins : (test : PlacedSymbol → Bool) → ((w : List ℕ) (p : ℕ) → test (identifier w p) ≡ false) → ((p : ℕ) → test (sign Null p) ≡ false) → ((p : ℕ) → test (sign False p) ≡ false) → ((p : ℕ) → test (sign True p) ≡ false) → {l r : List PlacedSymbol} {y : Tree} → FromTrue l y r → begins test l ≡ false
 true_begins test named_not a b c (inl d) = ap (begins test) d.2 ∙ c d.0
 true_begins test named_not a b c (inr d) = false_begins test named_not a b d
 
-number_begins : (test : Tok → Bool) → ((w : List ℕ) (p : ℕ) → test (identifier w p) ≡ false) → ((w : List ℕ) (p : ℕ) → test (numeral w p) ≡ false) → ((p : ℕ) → test (sign Null p) ≡ false) → ((p : ℕ) → test (sign False p) ≡ false) → ((p : ℕ) → test (sign True p) ≡ false) → {l r : List Tok} {y : Tree} → FromNumber l y r → begins test l ≡ false
+number_begins : (test : PlacedSymbol → Bool) → ((w : List ℕ) (p : ℕ) → test (identifier w p) ≡ false) → ((w : List ℕ) (p : ℕ) → test (numeral w p) ≡ false) → ((p : ℕ) → test (sign Null p) ≡ false) → ((p : ℕ) → test (sign False p) ≡ false) → ((p : ℕ) → test (sign True p) ≡ false) → {l r : List PlacedSymbol} {y : Tree} → FromNumber l y r → begins test l ≡ false
 number_begins test named_not e a b c (inl d) = ap (begins test) d.2 ∙ e d.0.text d.0.place
 number_begins test named_not e a b c (inr d) = true_begins test named_not a b c d
 
-plus_yes : {l r : List Tok} {y : Tree} → (PlusOrMinus ⇒ λ t. ANumber ⇒ λ n. Builds (unary t (leaf (node.Number n.text) n.place))) l y r → begins is_plus_or_minus l ≡ true
+plus_yes : {l r : List PlacedSymbol} {y : Tree} → (PlusOrMinus ⇒ λ t. ANumber ⇒ λ n. Builds (unary t (leaf (node.Number n.text) n.place))) l y r → begins is_plus_or_minus l ≡ true
 plus_yes d = ap (begins is_plus_or_minus) d.2.0 ∙ eq-eqb _ _ d.2.1
 
-plus_no_string : (t : Tok) → binding t ≡ 8 → is_string t ≡ false
+plus_no_string : (t : PlacedSymbol) → binding t ≡ 8 → is_string t ≡ false
 plus_no_string t b = elim (told (is_string t)) [
   | inl is_one ↦ let same : binding t ≡ 12 = ap binding (string_is t is_one).1 in absurd (omega arith)
   | inr none_there ↦ none_there
 ]
 
-signed_begins : {l r : List Tok} {y : Tree} → FromSign l y r → begins is_string l ≡ false
+signed_begins : {l r : List PlacedSymbol} {y : Tree} → FromSign l y r → begins is_string l ≡ false
 signed_begins (inl d) = ap (begins is_string) d.2.0 ∙ plus_no_string d.0 d.2.1
 signed_begins (inr d) = number_begins is_string (λ w p. refl) (λ w p. refl) (λ p. refl) (λ p. refl) (λ p. refl) d
 
 -- the parts of a SELECT
-part_keeps : {A : Type 0} (m : Mark) (k : ℕ) (F : Production A) (v : A) → clause m ≡ k → {l u : List Tok} {x : A} → (m ▸ F ∣ Builds v) l x u → Clause (k + 1) u → Clause k l
+part_keeps : {A : Type 0} (m : Mark) (k : ℕ) (F : Production A) (v : A) → clause m ≡ k → {l u : List PlacedSymbol} {x : A} → (m ▸ F ∣ Builds v) l x u → Clause (k + 1) u → Clause k l
 part_keeps m k F v e (inl d) h = subst (Clause k) (sym d.2) (omega arith)
 part_keeps m k F v e (inr d) h = let same = ap clause_at d.1 in omega arith
 
-limit_tail : {V : Option Word → SelectParts} {l r : List Tok} {y : SelectParts} → (LimitPart ⇒ λ n. Builds (V n)) l y r → Clause 5 r → Clause 4 l
+limit_tail : {V : Option Word → SelectParts} {l r : List PlacedSymbol} {y : SelectParts} → (LimitPart ⇒ λ n. Builds (V n)) l y r → Clause 5 r → Clause 4 l
 limit_tail d h = part_keeps Limit 4 (ANumber ⇒ λ n. Builds (Some n)) None refl d.2 (subst (Clause 5) (sym d.3.1) h)
 
-order_tail : {V : List KeyParts → Option Word → SelectParts} {l r : List Tok} {y : SelectParts} → (OrderPart ⇒ λ ks. LimitPart ⇒ λ n. Builds (V ks n)) l y r → Clause 5 r → Clause 3 l
+order_tail : {V : List KeyParts → Option Word → SelectParts} {l r : List PlacedSymbol} {y : SelectParts} → (OrderPart ⇒ λ ks. LimitPart ⇒ λ n. Builds (V ks n)) l y r → Clause 5 r → Clause 3 l
 order_tail {V} d h = part_keeps Order 3 (By ▸ Listed Comma OrderKey) [] refl d.2 (limit_tail {V = V d.0} d.3 h)
 
-where_tail : {V : Option Tree → List KeyParts → Option Word → SelectParts} {l r : List Tok} {y : SelectParts} → (WherePart ⇒ λ c. OrderPart ⇒ λ ks. LimitPart ⇒ λ n. Builds (V c ks n)) l y r → Clause 5 r → Clause 2 l
+where_tail : {V : Option Tree → List KeyParts → Option Word → SelectParts} {l r : List PlacedSymbol} {y : SelectParts} → (WherePart ⇒ λ c. OrderPart ⇒ λ ks. LimitPart ⇒ λ n. Builds (V c ks n)) l y r → Clause 5 r → Clause 2 l
 where_tail {V} d h = part_keeps Where 2 (Phrase disjunction ⇒ λ c. Builds (Some c)) None refl d.2 (order_tail {V = V d.0} d.3 h)
 
-from_tail : {V : List FromTable → Option Tree → List KeyParts → Option Word → SelectParts} {l r : List Tok} {y : SelectParts} → (FromPart ⇒ λ fs. WherePart ⇒ λ c. OrderPart ⇒ λ ks. LimitPart ⇒ λ n. Builds (V fs c ks n)) l y r → Clause 5 r → Clause 1 l
+from_tail : {V : List FromTable → Option Tree → List KeyParts → Option Word → SelectParts} {l r : List PlacedSymbol} {y : SelectParts} → (FromPart ⇒ λ fs. WherePart ⇒ λ c. OrderPart ⇒ λ ks. LimitPart ⇒ λ n. Builds (V fs c ks n)) l y r → Clause 5 r → Clause 1 l
 from_tail {V} d h = part_keeps From 1 (Listed Comma FromEntry) [] refl d.2 (where_tail {V = V d.0} d.3 h)
 
-item_begins : {l r : List Tok} {x : ItemParts} → SelectItem l x r → starts Distinct l ≡ false
+item_begins : {l r : List PlacedSymbol} {x : ItemParts} → SelectItem l x r → starts Distinct l ≡ false
 item_begins (inl d) = ap (starts Distinct) d.2
 item_begins (inr d) = (head_not d.2).2
 
-items_begin : {l r : List Tok} {xs : List ItemParts} → Listed Comma SelectItem l xs r → starts Distinct l ≡ false
+items_begin : {l r : List PlacedSymbol} {xs : List ItemParts} → Listed Comma SelectItem l xs r → starts Distinct l ≡ false
 items_begin (single d) = item_begins d
 items_begin (several d ds) = item_begins d
 

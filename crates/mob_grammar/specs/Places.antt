@@ -4,7 +4,7 @@ use Rattle.std.specs.List.{flat_map}
 use Rattle.mob_ast.specs.declared.expression.Node.{Node}
 use Rattle.mob_ast.specs.declared.expression.Node.TheVariants as node
 use Rattle.mob_ast.specs.Trees.{Tree, tree, Trees, none, more, StatementParts, empty, create_table, create_index, insert, copy, select, explain, RowParts, ItemParts, every, one, KeyParts, SelectParts}
-use Rattle.mob_grammar.specs.Symbols.{Tok}
+use Rattle.mob_grammar.specs.Symbols.{PlacedSymbol}
 use Rattle.mob_grammar.specs.Scripts.{IsScript}
 
 -- `IsWithin xs ys`: the ys are the xs, in the same order, and perhaps others between them
@@ -64,4 +64,4 @@ script_places ss = flat_map statement_places ss
 
 -- the literals and the rows of a script stand at places of its tokens, in the order of the tokens
 abbrev pub StandsAtTokens : Type 0
-StandsAtTokens = (l : List Tok) (x : List StatementParts) → IsScript l x → IsWithin (script_places x) (map (λ t. t.place) l)
+StandsAtTokens = (l : List PlacedSymbol) (x : List StatementParts) → IsScript l x → IsWithin (script_places x) (map (λ t. t.place) l)

@@ -10,19 +10,19 @@ use Rattle.mob_ast.specs.declared.statement.FromTable.{FromTable}
 use Rattle.mob_ast.specs.Trees.{Tree, tree, none, more, trees_from, StatementParts, empty, create_table, create_index, insert, copy, select, explain, RowParts, ItemParts, every, one, KeyParts, SelectParts}
 use Rattle.mob_grammar.specs.declared.mark.Mark.{Mark}
 use Rattle.mob_grammar.specs.declared.mark.Mark.TheVariants.{Select, Distinct, From, Where, Order, By, Asc, Desc, Limit, Create, Table, Index, On, Using, Gist, Insert, Into, Values, Copy, With, Format, Csv, Header, Delimiter, Explain, Not, Is, Null, True, False, As, Tilde, Times, Cast, Open, Close, Comma, Semicolon, Dot}
-use Rattle.mob_grammar.specs.Symbols.{fixed, name, number, quoted, Tok, is_name, is_string, is_number, is_sign, is_literal, binding, begins, starts, goes_on, first, rest, binary, unary, leaf}
+use Rattle.mob_grammar.specs.Symbols.{fixed, name, number, quoted, PlacedSymbol, is_name, is_string, is_number, is_sign, is_literal, binding, begins, starts, goes_on, first, rest, binary, unary, leaf}
 use Rattle.mob_grammar.specs.Expressions.{word}
 use Rattle.mob_grammar.specs.Marks.{is}
 
 -- a value and what is left, or what begins at the first token that does not fit
 abbrev pub Answer : Type 0 → Type 0
-Answer A = Result (A × List Tok) (List Tok)
+Answer A = Result (A × List PlacedSymbol) (List PlacedSymbol)
 
 abbrev pub TokenReader : Type 0 → Type 0
-TokenReader A = List Tok → Answer A
+TokenReader A = List PlacedSymbol → Answer A
 
 infixl 10 ◌>>=◌
-abbrev pub ◌>>=◌ : {A B : Type 0} → Answer A → (A × List Tok → Answer B) → Answer B
+abbrev pub ◌>>=◌ : {A B : Type 0} → Answer A → (A × List PlacedSymbol → Answer B) → Answer B
 (Ok x) >>= f = f x
 (Err r) >>= f = Err r
 
@@ -77,7 +77,7 @@ unfoldable pub chain : ℕ → TokenReader Tree → TokenReader Tree
 chain k operand l = operand l >>= λ x. chain_from k operand (length l) x.0 x.1
 
 -- marks in front
-unfoldable pub prefix : (Tok → Bool) → TokenReader Tree → TokenReader Tree
+unfoldable pub prefix : (PlacedSymbol → Bool) → TokenReader Tree → TokenReader Tree
 prefix test inner [] = inner []
 prefix test inner (t ∷ l) = cond (test t) (prefix test inner l >>= λ x. Ok (unary t x.0, x.1)) (inner (t ∷ l))
 
@@ -185,10 +185,10 @@ unfoldable pub expression_at : TokenReader Tree
 expression_at l = nest (length l + 1) l
 
 -- constants, rows and columns
-abbrev pub is_plus_or_minus : Tok → Bool
+abbrev pub is_plus_or_minus : PlacedSymbol → Bool
 is_plus_or_minus t = binding t == 8
 
-unfoldable pub plus_or_minus_at : TokenReader Tok
+unfoldable pub plus_or_minus_at : TokenReader PlacedSymbol
 plus_or_minus_at l = cond (begins is_plus_or_minus l) (Ok (first l, rest l)) (Err l)
 
 unfoldable pub signed_number_at : TokenReader Tree

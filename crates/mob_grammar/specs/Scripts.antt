@@ -7,7 +7,7 @@ use Rattle.mob_ast.specs.declared.expression.Node.TheVariants as node
 use Rattle.mob_ast.specs.declared.statement.FromTable.{FromTable}
 use Rattle.mob_ast.specs.Trees.{Tree, StatementParts, empty, create_table, create_index, insert, copy, select, explain, RowParts, ItemParts, every, one, KeyParts, SelectParts}
 use Rattle.mob_grammar.specs.declared.mark.Mark.TheVariants.{Select, Distinct, From, Where, Order, By, Asc, Desc, Limit, Create, Table, Index, On, Using, Gist, Insert, Into, Values, Copy, With, Format, Csv, Header, Delimiter, Explain, Null, True, False, As, Times, Open, Close, Comma, Semicolon}
-use Rattle.mob_grammar.specs.Symbols.{Tok, binding, unary, leaf}
+use Rattle.mob_grammar.specs.Symbols.{PlacedSymbol, binding, unary, leaf}
 use Rattle.mob_grammar.specs.Expressions.{disjunction, Phrase, TypeName}
 use Rattle.mob_grammar.specs.Forms.{Production, Builds, At, AName, ANumber, AString, ◌⇒◌, ◌▸◌, ◌∣◌, Listed}
 
@@ -15,7 +15,7 @@ abbrev pub Expression : Production Tree
 Expression = Phrase disjunction
 
 -- + or -
-abbrev pub PlusOrMinus : Production Tok
+abbrev pub PlusOrMinus : Production PlacedSymbol
 PlusOrMinus l t r = (l ≡ t ∷ r) × (binding t ≡ 8)
 
 -- const = string | ["+"|"-"] number | TRUE | FALSE | NULL | type string
@@ -121,5 +121,5 @@ Statement =
     ∣ Builds empty
 
 -- script = [statement] { ";" [statement] }, and nothing behind it
-abbrev pub IsScript : List Tok → List StatementParts → Type 0
+abbrev pub IsScript : List PlacedSymbol → List StatementParts → Type 0
 IsScript l statements = Listed Semicolon Statement l statements []

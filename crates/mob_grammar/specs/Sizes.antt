@@ -2,7 +2,7 @@
 use Rattle.std.specs.Prelude.{◌+◌, ◌≤◌, ℕ, List, length, Option, Some, None}
 use Rattle.std.specs.List.{sum_by}
 use Rattle.mob_ast.specs.Trees.{Tree, tree, Trees, none, more, StatementParts, empty, create_table, create_index, insert, copy, select, explain, RowParts, ItemParts, every, one, KeyParts, SelectParts}
-use Rattle.mob_grammar.specs.Symbols.{Tok}
+use Rattle.mob_grammar.specs.Symbols.{PlacedSymbol}
 use Rattle.mob_grammar.specs.Scripts.{IsScript}
 
 abbrev mutual
@@ -44,4 +44,4 @@ script_nodes ss = sum_by statement_nodes ss
 
 -- a script has no more nodes than tokens
 abbrev pub HasFewNodes : Type 0
-HasFewNodes = (l : List Tok) (x : List StatementParts) → IsScript l x → script_nodes x ≤ length l
+HasFewNodes = (l : List PlacedSymbol) (x : List StatementParts) → IsScript l x → script_nodes x ≤ length l

@@ -15,20 +15,20 @@ pub data Symbol : Type 0 where
   quoted : List ℕ → Symbol
 
 -- a token, with the place of its first byte
-pub record Tok : Type 0 where
+pub record PlacedSymbol : Type 0 where
   pub symbol : Symbol
   pub place : ℕ
 
-abbrev pub sign : Mark → ℕ → Tok
+abbrev pub sign : Mark → ℕ → PlacedSymbol
 sign m p = record { symbol = fixed m; place = p }
 
-abbrev pub identifier : List ℕ → ℕ → Tok
+abbrev pub identifier : List ℕ → ℕ → PlacedSymbol
 identifier n p = record { symbol = name n; place = p }
 
-abbrev pub numeral : List ℕ → ℕ → Tok
+abbrev pub numeral : List ℕ → ℕ → PlacedSymbol
 numeral n p = record { symbol = number n; place = p }
 
-abbrev pub string : List ℕ → ℕ → Tok
+abbrev pub string : List ℕ → ℕ → PlacedSymbol
 string s p = record { symbol = quoted s; place = p }
 
 -- tests on what stands at a place
@@ -69,53 +69,53 @@ symbol_clause (name n) = 0
 symbol_clause (number n) = 0
 symbol_clause (quoted s) = 0
 
-abbrev pub is_sign : Mark → Tok → Bool
+abbrev pub is_sign : Mark → PlacedSymbol → Bool
 is_sign m t = is_mark m t.symbol
 
-abbrev pub is_name : Tok → Bool
+abbrev pub is_name : PlacedSymbol → Bool
 is_name t = is_name_symbol t.symbol
 
-abbrev pub is_string : Tok → Bool
+abbrev pub is_string : PlacedSymbol → Bool
 is_string t = is_string_symbol t.symbol
 
-abbrev pub is_number : Tok → Bool
+abbrev pub is_number : PlacedSymbol → Bool
 is_number t = is_number_symbol t.symbol
 
-abbrev pub binding : Tok → ℕ
+abbrev pub binding : PlacedSymbol → ℕ
 binding t = symbol_strength t.symbol
 
 -- a name, a closing bracket and a string: what is left of a literal behind the bracket of its type
-abbrev pub is_literal : List Tok → Bool
+abbrev pub is_literal : List PlacedSymbol → Bool
 is_literal [] = false
 is_literal (a ∷ []) = false
 is_literal (a ∷ b ∷ []) = false
 is_literal (a ∷ b ∷ c ∷ l) = cond (is_name a) (cond (is_sign Close b) (is_string c) false) false
 
 -- the first token passes a test
-abbrev pub begins : (Tok → Bool) → List Tok → Bool
+abbrev pub begins : (PlacedSymbol → Bool) → List PlacedSymbol → Bool
 begins test [] = false
 begins test (t ∷ l) = test t
 
-abbrev pub starts : Mark → List Tok → Bool
+abbrev pub starts : Mark → List PlacedSymbol → Bool
 starts m l = begins (is_sign m) l
 
 -- the first token goes on a phrase whose signs bind k tight
-abbrev pub goes_on : ℕ → List Tok → Bool
+abbrev pub goes_on : ℕ → List PlacedSymbol → Bool
 goes_on k l = begins (λ t. binding t == k) l
 
 -- which part of a SELECT begins here; at the end none can follow
-abbrev pub clause_at : List Tok → ℕ
+abbrev pub clause_at : List PlacedSymbol → ℕ
 clause_at [] = 5
 clause_at (t ∷ l) = symbol_clause t.symbol
 
-abbrev pub nowhere : Tok
+abbrev pub nowhere : PlacedSymbol
 nowhere = sign Semicolon 0
 
-abbrev pub first : List Tok → Tok
+abbrev pub first : List PlacedSymbol → PlacedSymbol
 first [] = nowhere
 first (t ∷ l) = t
 
-abbrev pub rest : List Tok → List Tok
+abbrev pub rest : List PlacedSymbol → List PlacedSymbol
 rest [] = []
 rest (t ∷ l) = l
 
@@ -133,10 +133,10 @@ symbol_node (number n) = node.Number n
 symbol_node (quoted s) = node.Str s
 
 -- an operator with its operands, and a node without arguments
-abbrev pub binary : Tok → Tree → Tree → Tree
+abbrev pub binary : PlacedSymbol → Tree → Tree → Tree
 binary t a b = tree (symbol_node t.symbol) t.place (more a (more b none))
 
-abbrev pub unary : Tok → Tree → Tree
+abbrev pub unary : PlacedSymbol → Tree → Tree
 unary t a = tree (symbol_node t.symbol) t.place (more a none)
 
 abbrev pub leaf : Node → ℕ → Tree

@@ -8,8 +8,8 @@ use Rattle.std.proofs.Common.{◌≡◌, ℕ, [], ◌∷◌, ◌++◌, map, Bool
 use Rattle.std.proofs.lemmas.Bool.{eqb-true}
 use Rattle.std.proofs.lemmas.List.{append-nil}
 use Rattle.std.specs.Char.{to_ascii_lowercase}
-use Rattle.mob_language.specs.Language.{Text, Language, ◌▷◌, ◌∣◌, Maybe, Means, Where, Word, AnyCase, OneOf, AreAll, Run}
-use Rattle.mob_language.specs.Readers.{TextReader, ◌>>=◌, then_at, else_at, or_at, maybe_at, maybe_of, means_at, where_at, word_at, any_case_at, one_at, run_of, grown, run_at, ended, all_of}
+use Rattle.mob_language.specs.Language.{Text, Language, ◌▷◌, ◌∣◌, Maybe, Means, Where, Word, AnyCase, OneOf, AreAll, ManyOf}
+use Rattle.mob_language.specs.Readers.{TextReader, ◌>>=◌, then_at, else_at, or_at, maybe_at, maybe_of, means_at, where_at, word_at, any_case_at, one_at, split_while, grown, many_at, ended, all_of}
 
 -- the text has a front that the language says v with, and the rest stands behind it
 pub record Reads {A : Type 0} (l : Language A) (text rest : Text) (v : A) : Type 0 where
@@ -205,26 +205,26 @@ grown_parts : (test : ℕ → Bool) (b : Bool) (c : ℕ) (cs : Text) (parts : Te
 grown_parts test true c cs parts e h = (ap (λ (t : Text). c ∷ t) h.0, (e, h.1))
 grown_parts test false c cs parts e h = (refl, tt)
 
-pub run_parts : (test : ℕ → Bool) (text : Text) → (text ≡ (run_of test text).0 ++ (run_of test text).1) × AreAll test (run_of test text).0
-run_parts test [] = (refl, tt)
-run_parts test (c ∷ cs) = grown_parts test (test c) c cs (run_of test cs) refl (run_parts test cs)
+pub split_parts : (test : ℕ → Bool) (text : Text) → (text ≡ (split_while test text).0 ++ (split_while test text).1) × AreAll test (split_while test text).0
+split_parts test [] = (refl, tt)
+split_parts test (c ∷ cs) = grown_parts test (test c) c cs (split_while test cs) refl (split_parts test cs)
 
-pub run_stops : (test : ℕ → Bool) (rest : Text) → Stops test rest → run_of test rest ≡ ([], rest)
-run_stops test [] h = refl
-run_stops test (c ∷ cs) h = rw h refl
+pub many_stops : (test : ℕ → Bool) (rest : Text) → Stops test rest → split_while test rest ≡ ([], rest)
+many_stops test [] h = refl
+many_stops test (c ∷ cs) h = rw h refl
 
-pub run_again : (test : ℕ → Bool) (v rest : Text) → AreAll test v → Stops test rest → run_of test (v ++ rest) ≡ (v, rest)
-run_again test [] rest each h = run_stops test rest h
-run_again test (c ∷ cs) rest each h = rw (each.0, run_again test cs rest each.1 h) refl
+pub many_again : (test : ℕ → Bool) (v rest : Text) → AreAll test v → Stops test rest → split_while test (v ++ rest) ≡ (v, rest)
+many_again test [] rest each h = many_stops test rest h
+many_again test (c ∷ cs) rest each h = rw (each.0, many_again test cs rest each.1 h) refl
 
 -- any number of bytes that pass a test: behind them stands none of these
-pub run_exact : (test : ℕ → Bool) → Exact (Run test) (run_at test) (Stops test)
-run_exact test = record {
+pub many_exact : (test : ℕ → Bool) → Exact (ManyOf test) (many_at test) (Stops test)
+many_exact test = record {
   sound = λ text rest v e.
-      let is : run_of test text ≡ (v, rest) = some_is _ _ e in
-      let h = run_parts test text in
-      subst (λ (w : Text × Text). Reads (Run test) text w.1 w.0) is (record { front = (run_of test text).0; whole = h.0; said = record { is = refl; each = h.1 } });
-  complete = λ text rest v said after. rw said.is (ap some (run_again test v rest said.each after));
+      let is : split_while test text ≡ (v, rest) = some_is _ _ e in
+      let h = split_parts test text in
+      subst (λ (w : Text × Text). Reads (ManyOf test) text w.1 w.0) is (record { front = (split_while test text).0; whole = h.0; said = record { is = refl; each = h.1 } });
+  complete = λ text rest v said after. rw said.is (ap some (many_again test v rest said.each after));
 }
 
 -- all of a text is read exactly where it is of the language

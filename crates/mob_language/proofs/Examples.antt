@@ -1,7 +1,7 @@
 -- Worked examples, by hand.
 use Rattle.std.proofs.Common.{◌≡◌, [], ◌∷◌, Some, None, codes, refl}
 use Rattle.mob_language.specs.Language.{AnyCase, Separated, Word, is_blank, spaced}
-use Rattle.mob_language.specs.Readers.{any_case_at, spaced_at, run_of, all_of}
+use Rattle.mob_language.specs.Readers.{any_case_at, spaced_at, split_while, all_of}
 
 any_case : AnyCase (codes "point") (codes "PoInt") tt
 any_case = refl
@@ -13,7 +13,7 @@ other_bytes = refl
 two_words : Separated (Word (codes "a")) (Word (codes ",")) (codes "a,a") (tt ∷ tt ∷ [])
 two_words = (codes "a", codes ",", codes "a", refl, refl, refl, refl)
 
-blank_run : run_of is_blank (codes " \t\n1 ") ≡ (codes " \t\n", codes "1 ")
+blank_run : split_while is_blank (codes " \t\n1 ") ≡ (codes " \t\n", codes "1 ")
 blank_run = refl
 
 sign : spaced (codes "@") (codes " @  ") tt

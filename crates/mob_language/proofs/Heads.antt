@@ -7,11 +7,11 @@
 --   HasByte l        each text of l has a byte
 -- and the laws of Exact are said again in these words (then_stops, maybe_stops, or_stops, ..).
 use Rattle.std.proofs.Common.{◌≡◌, ℕ, [], ◌∷◌, ◌++◌, Bool, true, false, Some, None, refl, sym, ap, subst, ◌∙◌, inl, inr}
-use Rattle.mob_language.specs.Language.{Text, Language, ◌▷◌, ◌∣◌, Maybe, Means, Where, Word, OneOf, AreAll, Run, blanks, spaced, is_blank, in_middle, within_blanks}
+use Rattle.mob_language.specs.Language.{Text, Language, ◌▷◌, ◌∣◌, Maybe, Means, Where, Word, OneOf, AreAll, ManyOf, blanks, spaced, is_blank, in_middle, within_blanks}
 use Rattle.mob_language.specs.Readers.{TextReader, then_at, or_at, maybe_at, means_at, where_at, word_at, one_at, spaced_at, within_blanks_at}
 use Rattle.std.proofs.lemmas.Bool.{ne_eqb}
 use Rattle.std.proofs.lemmas.List.{append-nil}
-use Rattle.mob_language.proofs.Exact.{Exact, Stops, Any, then_exact, or_exact, maybe_exact, means_exact, word_exact, run_exact}
+use Rattle.mob_language.proofs.Exact.{Exact, Stops, Any, then_exact, or_exact, maybe_exact, means_exact, word_exact, many_exact}
 
 -- no text of the language begins with such a byte
 abbrev pub NoHead : {A : Type 0} → Language A → (ℕ → Bool) → Type 0
@@ -47,12 +47,12 @@ word_head word test h text v said = subst (Stops test) (sym said) h
 pub one_head : {p : ℕ → Bool} {test : ℕ → Bool} → Apart p test → NoHead (OneOf p) test
 one_head {test = test} h text v said = subst (Stops test) (sym said.0) (h v said.1)
 
-run_stops : (p test : ℕ → Bool) → Apart p test → (v : Text) → AreAll p v → Stops test v
-run_stops p test h [] each = tt
-run_stops p test h (c ∷ cs) each = h c each.0
+many_stops : (p test : ℕ → Bool) → Apart p test → (v : Text) → AreAll p v → Stops test v
+many_stops p test h [] each = tt
+many_stops p test h (c ∷ cs) each = h c each.0
 
-pub run_head : {p : ℕ → Bool} {test : ℕ → Bool} → Apart p test → NoHead (Run p) test
-run_head {p} {test} h text v said = subst (Stops test) (sym said.is) (run_stops p test h v said.each)
+pub many_head : {p : ℕ → Bool} {test : ℕ → Bool} → Apart p test → NoHead (ManyOf p) test
+many_head {p} {test} h text v said = subst (Stops test) (sym said.is) (many_stops p test h v said.each)
 
 -- fewer bytes stop less
 pub stops_less : (test some : ℕ → Bool) → ((c : ℕ) → test c ≡ false → some c ≡ false) → (rest : Text) → Stops test rest → Stops some rest
@@ -162,8 +162,8 @@ word_byte w ws text v said e = nonempty (sym said ∙ e)
 
 -- a sign with blanks beside it: behind it stands no blank
 pub spaced_exact : (w : ℕ) (ws : Text) → is_blank w ≡ false → Exact (spaced (w ∷ ws)) (spaced_at (w ∷ ws)) (Stops is_blank)
-spaced_exact w ws h = means_exact (λ (v : Text × (Unit {0} × Text)). tt) (then_byte_stops (run_exact is_blank)
-    (then_exact {F = Any} (word_exact (w ∷ ws)) (run_exact is_blank) (λ text rest v said after. tt))
+spaced_exact w ws h = means_exact (λ (v : Text × (Unit {0} × Text)). tt) (then_byte_stops (many_exact is_blank)
+    (then_exact {F = Any} (word_exact (w ∷ ws)) (many_exact is_blank) (λ text rest v said after. tt))
     (word_then_head w ws is_blank h) (then_byte blanks (word_byte w ws)))
 
 -- the end of the text
@@ -173,8 +173,8 @@ IsEnd rest = rest ≡ []
 -- a text with blanks at both ends, which itself has a byte and begins with no blank
 pub within_exact : {A : Type 0} {l : Language A} {r : TextReader A} {F : Text → Type 0}
     → Exact l r F → NoHead l is_blank → HasByte l → ((bs : Text) → AreAll is_blank bs → F (bs ++ [])) → Exact (within_blanks l) (within_blanks_at r) IsEnd
-within_exact {F = F} p head byte before = means_exact in_middle (then_byte_stops (run_exact is_blank)
-    (then_exact {G = IsEnd} p (exact_less (run_exact is_blank) (λ rest end. subst (Stops is_blank) (sym end) tt))
+within_exact {F = F} p head byte before = means_exact in_middle (then_byte_stops (many_exact is_blank)
+    (then_exact {G = IsEnd} p (exact_less (many_exact is_blank) (λ rest end. subst (Stops is_blank) (sym end) tt))
     (λ text rest bs said end. subst F (ap (λ (t : Text). text ++ t) (sym end)) (before text (subst (AreAll is_blank) (sym said.is) said.each))))
     (byte_head blanks head byte)
     (then_byte blanks byte))

@@ -77,7 +77,7 @@ AreAll test [] = Unit {0}
 AreAll test (c ∷ cs) = (test c ≡ true) × AreAll test cs
 
 -- any number of bytes that all pass the test
-pub record Run (test : ℕ → Bool) (text : Text) (v : Text) : Type 0 where
+pub record ManyOf (test : ℕ → Bool) (text : Text) (v : Text) : Type 0 where
   pub is : text ≡ v
   pub each : AreAll test v
 
@@ -109,7 +109,7 @@ is_exponent_letter c = nat_eq c 101 || nat_eq c 69
 
 -- any number of blanks
 abbrev pub blanks : Language Text
-blanks = Run is_blank
+blanks = ManyOf is_blank
 
 -- a sign with any number of blanks on both sides of it
 abbrev pub spaced : Text → Language (Unit {0})

@@ -66,12 +66,12 @@ grown true c cs parts = (c ∷ parts.0, parts.1)
 grown false c cs parts = ([], c ∷ cs)
 
 -- the longest front of bytes that pass the test, and the rest
-abbrev pub run_of : (ℕ → Bool) → Text → Text × Text
-run_of test [] = ([], [])
-run_of test (c ∷ cs) = grown (test c) c cs (run_of test cs)
+abbrev pub split_while : (ℕ → Bool) → Text → Text × Text
+split_while test [] = ([], [])
+split_while test (c ∷ cs) = grown (test c) c cs (split_while test cs)
 
-abbrev pub run_at : (ℕ → Bool) → TextReader Text
-run_at test text = Some (run_of test text)
+abbrev pub many_at : (ℕ → Bool) → TextReader Text
+many_at test text = Some (split_while test text)
 
 abbrev pub ended : {A : Type 0} → A × Text → Option A
 ended (a, []) = Some a
@@ -100,7 +100,7 @@ abbrev pub behind_at : {A : Type 0} → Text → TextReader A → TextReader A
 behind_at word r = means_at (λ (v : Unit {0} × _). v.1) (then_at (word_at word) r)
 
 abbrev pub blanks_at : TextReader Text
-blanks_at = run_at is_blank
+blanks_at = many_at is_blank
 
 -- a sign with blanks beside it
 abbrev pub spaced_at : Text → TextReader (Unit {0})

@@ -2,25 +2,25 @@
 use Rattle.std.specs.Prelude.{◌≡◌, ℕ, zero, suc, List, [], ◌∷◌, codes, Some, None, refl}
 use Rattle.mob_grammar.specs.declared.mark.Mark.{Mark}
 use Rattle.mob_grammar.specs.declared.mark.Mark.TheVariants.{Select, Plus, Open, Close, Comma, Semicolon, Cast, Dot}
-use Rattle.mob_grammar.specs.Symbols.{Tok, sign, identifier, numeral}
+use Rattle.mob_grammar.specs.Symbols.{PlacedSymbol, sign, identifier, numeral}
 use Rattle.mob_lexemes.specs.Heavy.{first_heavy}
 
-abbrev one : Tok
+abbrev one : PlacedSymbol
 one = numeral (codes "1") 0
 
-abbrev f : Tok
+abbrev f : PlacedSymbol
 f = identifier (codes "f") 0
 
-abbrev mark : Mark → Tok
+abbrev mark : Mark → PlacedSymbol
 mark m = sign m 0
 
 -- so many of one mark
-abbrev many : ℕ → Mark → List Tok → List Tok
+abbrev many : ℕ → Mark → List PlacedSymbol → List PlacedSymbol
 many zero m l = l
 many (suc n) m l = mark m ∷ many n m l
 
 -- SELECT, so many opening brackets, and then the rest
-abbrev nested : ℕ → List Tok → List Tok
+abbrev nested : ℕ → List PlacedSymbol → List PlacedSymbol
 nested n l = mark Select ∷ many n Open l
 
 -- 256 brackets are light, and the `;` behind them is none of theirs

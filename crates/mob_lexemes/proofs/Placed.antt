@@ -20,9 +20,9 @@ use Rattle.std.specs.declared.alloc.AllocError.{AllocError}
 use Rattle.std.specs.Str.{IsUtf8, IsCharBoundary}
 use Rattle.std.proofs.lemmas.Str.{IsCharBoundary-before_ascii, IsCharBoundary-after_ascii}
 use Rattle.std.proofs.lemmas.List.{length-map}
-use Rattle.mob_grammar.specs.Symbols.{Symbol, Tok}
+use Rattle.mob_grammar.specs.Symbols.{Symbol, PlacedSymbol}
 use Rattle.mob_lexemes.specs.declared.lexeme.Lexeme.{Lexeme}
-use Rattle.mob_lexemes.specs.Lexemes.{tok_of, toks}
+use Rattle.mob_lexemes.specs.Lexemes.{placed_symbol, placed_symbols}
 use Rattle.mob_lexemes.specs.Lexed.{IsSlice, IsPlaced, ArePlaced, symbol_at, before_lexed, lexed}
 use Rattle.mob_grammar.proofs.Steps.{told}
 
@@ -216,7 +216,7 @@ are_placed text utf8 ts h =
 lexed_few : (text : List ℕ) (ts : List Token) (e : ℕ) → length (lexed text (ts ++ end_at e ∷ [])) ≤ length ts
 lexed_few text [] e = omega arith
 lexed_few text (t ∷ ts) e = omega (arith, one_more t.from (symbol_at text t.kind t.from t.to) (lexed text (ts ++ end_at e ∷ [])), lexed_few text ts e) where
-  one_more : (p : ℕ) (o : Option Symbol) (l : List Tok) → length (before_lexed p o l) ≤ 1 + length l
+  one_more : (p : ℕ) (o : Option Symbol) (l : List PlacedSymbol) → length (before_lexed p o l) ≤ 1 + length l
   one_more p None l = omega arith
   one_more p (Some x) l = omega arith
 
@@ -227,6 +227,6 @@ tokens_few text ts are =
     let all = ap (λ us. length (lexed text us)) laid.parts in
     omega (arith, all, lexed_few text laid.all (length text), few_leads laid.leads)
 
-pub lexemes_few : {A : Type 0} (text : List ℕ) (ts : List Token) (r : Result (Vec Lexeme A) AllocError) → tokens_of text ≡ Ok ts → IfOk r (λ ls. toks ls.items ≡ lexed text ts) → IfOk r (λ ls. length ls.items ≤ length text)
-lexemes_few text ts (Ok ls) are all = let same = ap (λ v. length v) all in omega (arith, same, length-map ls.items tok_of, tokens_few text ts are)
+pub lexemes_few : {A : Type 0} (text : List ℕ) (ts : List Token) (r : Result (Vec Lexeme A) AllocError) → tokens_of text ≡ Ok ts → IfOk r (λ ls. placed_symbols ls.items ≡ lexed text ts) → IfOk r (λ ls. length ls.items ≤ length text)
+lexemes_few text ts (Ok ls) are all = let same = ap (λ v. length v) all in omega (arith, same, length-map ls.items placed_symbol, tokens_few text ts are)
 lexemes_few text ts (Err e) are all = tt

@@ -7,7 +7,7 @@ use Rattle.mob_chars.specs.declared.token.TokenKind.TheVariants.{Word, Number, S
 use Rattle.mob_grammar.specs.declared.mark.Mark.{Mark}
 use Rattle.mob_grammar.specs.declared.mark.Mark.TheVariants.{NotEqual, Dot}
 use Rattle.mob_grammar.specs.Marks.{mark_text, reserved_words, sign_marks}
-use Rattle.mob_grammar.specs.Symbols.{Symbol, fixed, name, number, quoted, Tok}
+use Rattle.mob_grammar.specs.Symbols.{Symbol, fixed, name, number, quoted, PlacedSymbol}
 use Rattle.mob_lexemes.specs.Lexemes.{lower, unquoted}
 
 -- the first of the marks that has this text, in letters of either case
@@ -60,11 +60,11 @@ symbol_at text Str from to = Some (quoted (unquoted (piece text (from + 1) (to -
 symbol_at text Sign from to = Some (fixed (sign_mark (piece text from to)))
 symbol_at text End from to = None
 
-abbrev pub before_lexed : ℕ → Option Symbol → List Tok → List Tok
+abbrev pub before_lexed : ℕ → Option Symbol → List PlacedSymbol → List PlacedSymbol
 before_lexed p None l = l
 before_lexed p (Some x) l = record { symbol = x; place = p } ∷ l
 
 -- the tokens of a text but its end, each with the place of its first byte
-abbrev pub lexed : List ℕ → List Token → List Tok
+abbrev pub lexed : List ℕ → List Token → List PlacedSymbol
 lexed text [] = []
 lexed text (t ∷ ts) = before_lexed t.from (symbol_at text t.kind t.from t.to) (lexed text ts)

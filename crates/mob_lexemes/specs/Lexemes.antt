@@ -5,7 +5,7 @@ use Rattle.mob_lexemes.specs.declared.lexeme.Symbol.{Symbol}
 use Rattle.mob_lexemes.specs.declared.lexeme.Symbol.TheVariants as symbol
 use Rattle.mob_lexemes.specs.declared.lexeme.Lexeme.{Lexeme}
 use Rattle.mob_grammar.specs.Symbols as grammar
-use Rattle.mob_grammar.specs.Symbols.{Tok, fixed, name, number, quoted}
+use Rattle.mob_grammar.specs.Symbols.{PlacedSymbol, fixed, name, number, quoted}
 
 -- a word is read without regard to case
 abbrev pub lower : List ℕ → List ℕ
@@ -27,8 +27,8 @@ symbol_of (symbol.Name s) = name (lower s.now)
 symbol_of (symbol.Number s) = number s.now
 symbol_of (symbol.Quoted s) = quoted (unquoted s.now)
 
-abbrev pub tok_of : Lexeme → Tok
-tok_of t = record { symbol = symbol_of t.symbol; place = t.place }
+abbrev pub placed_symbol : Lexeme → PlacedSymbol
+placed_symbol t = record { symbol = symbol_of t.symbol; place = t.place }
 
-abbrev pub toks : List Lexeme → List Tok
-toks ts = map tok_of ts
+abbrev pub placed_symbols : List Lexeme → List PlacedSymbol
+placed_symbols ts = map placed_symbol ts

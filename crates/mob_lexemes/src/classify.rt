@@ -2,7 +2,7 @@
 ghost use Rattle.std.specs.Prelude.{◌≡◌, ◌≤◌, IfOk, Ok, option_map, length};
 ghost use Rattle.std.specs.Str.{str_eq_ignore_ascii_case};
 ghost use Rattle.mob_chars.specs.Tokens.{tokens_of};
-ghost use Rattle.mob_lexemes.specs.Lexemes.{toks, symbol_of};
+ghost use Rattle.mob_lexemes.specs.Lexemes.{placed_symbols, symbol_of};
 ghost use Rattle.mob_lexemes.specs.Lexed.{word_mark, other_sign, sign_mark, word_symbol, symbol_at, lexed, piece, IsSlice, IsPlaced, ArePlaced};
 
 use crate::lexeme::{Lexeme, Symbol};
@@ -177,7 +177,7 @@ fn classified<'a>(
     tokens: &[Token],
 ) -> Result<Vec<Lexeme<'a>>, AllocError>
     requires placed { ArePlaced text.now tokens.now }
-    ensures all { IfOk result (λ ls. toks ls.items ≡ lexed text.now tokens.now) }
+    ensures all { IfOk result (λ ls. placed_symbols ls.items ≡ lexed text.now tokens.now) }
 {
     let mut found = Vec::new(alloc);
     let mut rest = tokens;
@@ -200,7 +200,7 @@ pub fn lexemes<'a>(
     tokens: &[Token],
 ) -> Result<Vec<Lexeme<'a>>, AllocError>
     requires of_text { tokens_of text.now ≡ Ok tokens.now }
-    ensures all { IfOk result (λ ls. toks ls.items ≡ lexed text.now tokens.now) }
+    ensures all { IfOk result (λ ls. placed_symbols ls.items ≡ lexed text.now tokens.now) }
     ensures few { IfOk result (λ ls. length ls.items ≤ length text.now) }
 {
     classified(alloc, text, tokens)

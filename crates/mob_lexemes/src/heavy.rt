@@ -1,7 +1,7 @@
 //! Expressions with more counted tokens than there may be.
 ghost use Rattle.std.specs.Prelude.{◌≡◌, ◌<◌, ◌≤◌, ◌+◌, ◌^◌, length, IfSome};
 ghost use Rattle.mob_lexemes.specs.Weights.{counts, mark_counts, mark_ends, is_function};
-ghost use Rattle.mob_lexemes.specs.Lexemes.{tok_of, toks};
+ghost use Rattle.mob_lexemes.specs.Lexemes.{placed_symbol, placed_symbols};
 ghost use Rattle.mob_lexemes.specs.Heavy.{ends, depth_after, selects_after, weight_after, standing_after, is_heavy, first_heavy};
 
 use crate::lexeme::{Lexeme, Symbol, begins_literal};
@@ -45,7 +45,7 @@ fn mark_ends(mark: Mark) -> bool
 
 // Whether a name before these tokens is that of a function.
 fn is_function(no_call: bool, after: &[Lexeme<'_>]) -> bool
-    ensures exact { result ≡ is_function no_call (toks after.now) }
+    ensures exact { result ≡ is_function no_call (placed_symbols after.now) }
 {
     if no_call {
         return false;
@@ -58,7 +58,7 @@ fn is_function(no_call: bool, after: &[Lexeme<'_>]) -> bool
 
 impl TokenStanding {
     fn counts(&self, lexeme: &Lexeme<'_>, after: &[Lexeme<'_>]) -> bool
-        ensures exact { result ≡ counts self.now (tok_of lexeme.now).symbol (toks after.now) }
+        ensures exact { result ≡ counts self.now (placed_symbol lexeme.now).symbol (placed_symbols after.now) }
     {
         match lexeme.symbol {
             Symbol::Fixed(mark) => self.selects && mark_counts(mark),
@@ -68,13 +68,13 @@ impl TokenStanding {
     }
 
     fn is_heavy(&self, lexeme: &Lexeme<'_>, after: &[Lexeme<'_>]) -> bool
-        ensures exact { result ≡ is_heavy self.now (tok_of lexeme.now).symbol (toks after.now) }
+        ensures exact { result ≡ is_heavy self.now (placed_symbol lexeme.now).symbol (placed_symbols after.now) }
     {
         self.weight == 256 && self.counts(lexeme, after)
     }
 
     fn ends(&self, lexeme: &Lexeme<'_>) -> bool
-        ensures exact { result ≡ ends self.now (tok_of lexeme.now).symbol }
+        ensures exact { result ≡ ends self.now (placed_symbol lexeme.now).symbol }
     {
         match lexeme.symbol {
             Symbol::Fixed(mark) => mark_ends(mark) || (mark.is(Mark::Comma) && self.depth == 0),
@@ -85,7 +85,7 @@ impl TokenStanding {
     // How many brackets are open behind the lexeme.
     fn depth_after(&self, lexeme: &Lexeme<'_>) -> usize
         requires shallow { self.now.depth < 2 ^ 62 }
-        ensures depth { result ≡ depth_after self.now.depth (tok_of lexeme.now).symbol }
+        ensures depth { result ≡ depth_after self.now.depth (placed_symbol lexeme.now).symbol }
         ensures near { result ≤ self.now.depth + 1 }
     {
         match lexeme.symbol {
@@ -103,7 +103,7 @@ impl TokenStanding {
     }
 
     fn selects_after(&self, lexeme: &Lexeme<'_>) -> bool
-        ensures exact { result ≡ selects_after self.now.selects (tok_of lexeme.now).symbol }
+        ensures exact { result ≡ selects_after self.now.selects (placed_symbol lexeme.now).symbol }
     {
         match lexeme.symbol {
             Symbol::Fixed(mark) => {
@@ -122,7 +122,7 @@ impl TokenStanding {
     // How many counted tokens stand behind the lexeme, with it.
     fn weight_after(&self, lexeme: &Lexeme<'_>, after: &[Lexeme<'_>]) -> usize
         requires light { self.now.weight < 2 ^ 62 }
-        ensures weight { result ≡ weight_after self.now (tok_of lexeme.now).symbol (toks after.now) }
+        ensures weight { result ≡ weight_after self.now (placed_symbol lexeme.now).symbol (placed_symbols after.now) }
         ensures near { result ≤ self.now.weight + 1 }
     {
         if self.counts(lexeme, after) {
@@ -136,7 +136,7 @@ impl TokenStanding {
     fn after(&self, lexeme: &Lexeme<'_>, after: &[Lexeme<'_>]) -> TokenStanding
         requires depth { self.now.depth < 2 ^ 62 }
         requires weight { self.now.weight < 2 ^ 62 }
-        ensures stands { result ≡ standing_after self.now (tok_of lexeme.now).symbol (toks after.now) }
+        ensures stands { result ≡ standing_after self.now (placed_symbol lexeme.now).symbol (placed_symbols after.now) }
         ensures depth_near { result.depth ≤ self.now.depth + 1 }
         ensures weight_near { result.weight ≤ self.now.weight + 1 }
     {
@@ -162,7 +162,7 @@ impl TokenStanding {
 
 /// The number of the first 257th counted token of an expression.
 pub fn first_heavy(lexemes: &[Lexeme<'_>]) -> Option<usize>
-    ensures place { result ≡ first_heavy (toks lexemes.now) }
+    ensures place { result ≡ first_heavy (placed_symbols lexemes.now) }
     ensures within { IfSome result (λ n. n < length lexemes.now) }
 {
     let mut standing = TokenStanding {

@@ -3,7 +3,7 @@ ghost use Rattle.std.specs.Prelude.{◌≡◌, ◌==◌, ◌<◌, ◌≤◌, ◌
 ghost use Rattle.mob_grammar.specs.Cuts.{ends_among};
 ghost use Rattle.mob_grammar.specs.Symbols.{is_sign, is_name, is_string, binding, sign, is_number, is_literal};
 ghost use Rattle.mob_grammar.specs.Marks.{strength as strength_of};
-ghost use Rattle.mob_lexemes.specs.Lexemes.{tok_of, toks};
+ghost use Rattle.mob_lexemes.specs.Lexemes.{placed_symbol, placed_symbols};
 
 use mob_grammar::mark::Mark;
 
@@ -30,7 +30,7 @@ pub struct Lexeme<'a> {
 impl<'a> Lexeme<'a> {
     /// Whether it is this mark.
     pub fn is(&self, mark: Mark) -> bool
-        ensures exact { result ≡ is_sign mark (tok_of self.now) }
+        ensures exact { result ≡ is_sign mark (placed_symbol self.now) }
     {
         match self.symbol {
             Symbol::Fixed(found) => found.is(mark),
@@ -43,8 +43,8 @@ impl<'a> Lexeme<'a> {
         requires least { 0 < strength }
         requires most { strength < 12 }
         ensures exact { MatchOption result
-            ((binding (tok_of self.now) == strength) ≡ false)
-            (λ m. (tok_of self.now ≡ sign m self.now.place) × (strength_of m ≡ strength)) }
+            ((binding (placed_symbol self.now) == strength) ≡ false)
+            (λ m. (placed_symbol self.now ≡ sign m self.now.place) × (strength_of m ≡ strength)) }
     {
         match self.symbol {
             Symbol::Fixed(mark) => {
@@ -60,7 +60,7 @@ impl<'a> Lexeme<'a> {
 
     /// Whether it is a name.
     pub fn is_name(&self) -> bool
-        ensures exact { result ≡ is_name (tok_of self.now) }
+        ensures exact { result ≡ is_name (placed_symbol self.now) }
     {
         match self.symbol {
             Symbol::Name(_) => true,
@@ -70,7 +70,7 @@ impl<'a> Lexeme<'a> {
 
     /// Whether it is a string.
     pub fn is_string(&self) -> bool
-        ensures exact { result ≡ is_string (tok_of self.now) }
+        ensures exact { result ≡ is_string (placed_symbol self.now) }
     {
         match self.symbol {
             Symbol::Quoted(_) => true,
@@ -80,7 +80,7 @@ impl<'a> Lexeme<'a> {
 
     /// Whether it is a number.
     pub fn is_number(&self) -> bool
-        ensures exact { result ≡ is_number (tok_of self.now) }
+        ensures exact { result ≡ is_number (placed_symbol self.now) }
     {
         match self.symbol {
             Symbol::Number(_) => true,
@@ -91,7 +91,7 @@ impl<'a> Lexeme<'a> {
 
 /// Whether a name, a closing bracket and a string come first.
 pub fn begins_literal(lexemes: &[Lexeme<'_>]) -> bool
-    ensures exact { result ≡ is_literal (toks lexemes.now) }
+    ensures exact { result ≡ is_literal (placed_symbols lexemes.now) }
 {
     match lexemes {
         [first, second, third, ..] => {
@@ -105,7 +105,7 @@ pub fn begins_literal(lexemes: &[Lexeme<'_>]) -> bool
 #[tactic(auto, using(mob_grammar::proofs::Cuts::ends_counted))]
 pub fn ends_among(lexemes: &[Lexeme<'_>]) -> u32
     requires few { length lexemes.now < 2 ^ 31 }
-    ensures count { result ≡ ends_among (toks lexemes.now) }
+    ensures count { result ≡ ends_among (placed_symbols lexemes.now) }
     ensures few { result ≤ length lexemes.now }
 {
     let mut count = 0;

@@ -17,7 +17,7 @@ use Rattle.mob_slice.specs.declared.formula.OpFault.{OpFault}
 use Rattle.mob_slice.specs.declared.formula.OpFault.TheVariants.{Passed}
 use Rattle.mob_slice.proofs.Yielded.{drained}
 use Rattle.mob_lift.proofs.PieceLaws.{map_at, twice, pieces_value}
-use Rattle.mob_lift.specs.Lifted.{IsLifted, FirstFault}
+use Rattle.mob_lift.specs.Lifted.{IsLifted, IsFirstFailure}
 use Rattle.mob_lift.specs.Given.{AreOn, on_sides, AreLifted}
 use Rattle.mob_lift.proofs.Pointwise.{mapped_at}
 use Rattle.mob_lift.proofs.Judged.{judged}
@@ -45,7 +45,7 @@ module _ {A X B Y D Z V : Type 0} (value : A → Ratio → Ratio → Ratio → X
       → ((p : Piece A B X Y) (v : V) → gives p v → AreOn result start end (on_sides value value' op (piece_of p)) p.span (items v) × IsFirst (entries (piece_of p)) None)
       → ((f : Formula) (p : Piece A B X Y) → fails f p → IsFirst (entries (piece_of p)) (Some f))
       → IfOk r (λ all. (ps : List (Piece A B X Y)) × Drains (YieldsFirstBy piece_of rest) walk ps × IsLifted result start end span items gives ps (list all))
-      → ((f : Formula) → r ≡ Err (Passed f) → (ps : List (Piece A B X Y)) × (t : I) × Yields (YieldsFirstBy piece_of rest) walk ps t × FirstFault gives (fails f) ps)
+      → ((f : Formula) → r ≡ Err (Passed f) → (ps : List (Piece A B X Y)) × (t : I) × Yields (YieldsFirstBy piece_of rest) walk ps t × IsFirstFailure gives (fails f) ps)
       → IfOk r (λ all. AreLifted value value' result start end op a b (list all)) × IsJudged (flat_map entries (pieces a b)) r
   whole entries rest list walk a b m e gives fails r gave failed h k = (
     IfOk-weaker r _ _ (λ all n. lifted_values a b m gives n.0 (list all) (sym e ∙ drained piece_of rest walk n.0 n.1) (λ p v i. (gave p v i).0) n.2) h,

@@ -9,7 +9,7 @@ use Rattle.mob_span.specs.Meets.{PieceOf, shared_pieces}
 use Rattle.mob_span.proofs.Insides.{inside_self}
 use Rattle.mob_slice.specs.Slices.{OfHead, IsSound, value_at}
 use Rattle.mob_slice.proofs.Orders.{ordered-clear, all_sound}
-use Rattle.mob_span.specs.Parts.{part_at, PartsClear}
+use Rattle.mob_span.specs.Parts.{part_at, PartsAreClear}
 use Rattle.mob_slice.specs.Operands.{map_both}
 use Rattle.mob_slice.specs.Cut.{slice_value}
 use Rattle.mob_slice.specs.Sides.{SideOf, Moves, Stays, OperandOf, Slices, Base, pieces, side_at, has_slices, given_at, HoldsSide, HoldsPiece}
@@ -28,7 +28,7 @@ module _ {P Q : Type 0} (span : P → SpanOf) (span' : Q → SpanOf) (f : P → 
   map_head p [] h = tt
   map_head p (q ∷ ps) h = rw (same p, same q) h
 
-  map_clear : (ps : List P) → PartsClear span ps → PartsClear span' (map f ps)
+  map_clear : (ps : List P) → PartsAreClear span ps → PartsAreClear span' (map f ps)
   map_clear [] h = tt
   map_clear (p ∷ ps) h = (rw (same p) h.0, map_head p ps h.1, map_clear ps h.2)
 
@@ -45,7 +45,7 @@ map_all f R S g [] h = tt
 map_all f R S g (p ∷ ps) h = (g p h.0, map_all f R S g ps h.1)
 
 -- The pieces of two operands are ordered and disjoint, and each has an instant.
-pub pieces_clear : {A X B Y : Type 0} (a : OperandOf A X) (b : OperandOf B Y) → AreInOrder a → AreInOrder b → PartsClear (λ p. p.span) (pieces a b)
+pub pieces_clear : {A X B Y : Type 0} (a : OperandOf A X) (b : OperandOf B Y) → AreInOrder a → AreInOrder b → PartsAreClear (λ p. p.span) (pieces a b)
 pieces_clear (Slices v) (Slices w) h k = map_clear (λ p. p.span) (λ p. p.span) (λ p. record { span = p.span; left = Moves p.left; right = Moves p.right }) (λ p. refl) (shared_pieces (λ s. s.span) (λ s. s.span) v w) (meets_clear (λ s. s.span) (λ s. s.span) v w h k)
 pieces_clear (Slices v) (Base b) h k = map_clear (λ s. s.span) (λ p. p.span) (λ s. record { span = s.span; left = Moves s; right = Stays b }) (λ s. refl) v h
 pieces_clear (Base a) (Slices w) h k = map_clear (λ s. s.span) (λ p. p.span) (λ s. record { span = s.span; left = Stays a; right = Moves s }) (λ s. refl) w k

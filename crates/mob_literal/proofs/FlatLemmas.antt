@@ -5,12 +5,12 @@ use Rattle.std.specs.Prelude.{◌&&◌, ◌||◌, not, ◌↔◌, slice_get}
 use Rattle.std.specs.List.{list_all}
 use Rattle.mob_language.specs.Readers.{◌>>=◌}
 use Rattle.mob_ratio.specs.Ratio.{Ratio}
-use Rattle.mob_ratio.specs.Order.{before, upto}
+use Rattle.mob_ratio.specs.Order.{before, up_to}
 use Rattle.mob_ratio.proofs.Order.{before-self}
 use Rattle.mob_span.specs.Span.{has}
 use Rattle.mob_slice.specs.declared.slice.Slice.{Slice}
 use Rattle.mob_slice.specs.declared.steady.Steady.{Steady}
-use Rattle.mob_slice.specs.Slices.{IsSound, IsOrdered, Clear, OfHead, value_at}
+use Rattle.mob_slice.specs.Slices.{IsSound, IsOrdered, IsClearOf, OfHead, value_at}
 use Rattle.mob_normal.proofs.Regions.{is_left, left_has, left_clear, in_left}
 use Rattle.mob_normal.proofs.Runs.{or_else, value_at-append}
 use Rattle.mob_written.specs.declared.written.Written.{Written}
@@ -92,7 +92,7 @@ sound_point i = record { some = grind (arith, before-self i.instant); level = λ
 -- the slice begins behind the last of the instants
 abbrev AfterLast : {B : Type 0} → Bool → List (Written B) → Slice (Steady B) → Type 0
 AfterLast upper [] r = Unit {0}
-AfterLast upper (i ∷ []) r = (before i.instant r.span.lower || (upto i.instant r.span.lower && not (upper && r.span.lower_inc))) ≡ true
+AfterLast upper (i ∷ []) r = (before i.instant r.span.lower || (up_to i.instant r.span.lower && not (upper && r.span.lower_inc))) ≡ true
 AfterLast upper (i ∷ j ∷ is) r = AfterLast upper (j ∷ is) r
 
 abbrev TailAfter : {B : Type 0} → Bool → List (Written B) → List (Slice (Steady B)) → Type 0
@@ -104,13 +104,13 @@ starts lower [] = true
 starts lower (i ∷ []) = lower
 starts lower (i ∷ j ∷ is) = true
 
-clear_next : {B : Type 0} (lower upper : Bool) (i j : Written B) (is : List (Written B)) (tail : List (Slice (Steady B))) → TailAfter upper (j ∷ is) tail → OfHead Clear (stretch lower i j) (slices_of true (j ∷ is) upper ++ tail)
+clear_next : {B : Type 0} (lower upper : Bool) (i j : Written B) (is : List (Written B)) (tail : List (Slice (Steady B))) → TailAfter upper (j ∷ is) tail → OfHead IsClearOf (stretch lower i j) (slices_of true (j ∷ is) upper ++ tail)
 clear_next lower true i j [] tail h = grind (arith, before-self j.instant)
 clear_next lower false i j [] [] h = tt
 clear_next lower false i j [] (r ∷ rest) h = h
 clear_next lower upper i j (k ∷ is) tail h = grind (arith, before-self j.instant)
 
-head_point : {B : Type 0} (i : Written B) (tail : List (Slice (Steady B))) → TailAfter true (i ∷ []) tail → OfHead Clear (point true i) tail
+head_point : {B : Type 0} (i : Written B) (tail : List (Slice (Steady B))) → TailAfter true (i ∷ []) tail → OfHead IsClearOf (point true i) tail
 head_point i [] h = tt
 head_point i (r ∷ rest) h = h
 

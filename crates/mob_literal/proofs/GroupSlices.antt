@@ -4,7 +4,7 @@ use Rattle.std.proofs.lemmas.Bool.{and_parts as both, and_from as and, not-true 
 use Rattle.std.specs.Prelude.{◌&&◌, ◌||◌, not, slice_get, IsTrue, ◌↔◌}
 use Rattle.std.specs.List.{list_all}
 use Rattle.mob_ratio.specs.Ratio.{Ratio}
-use Rattle.mob_ratio.specs.Order.{before, upto, same}
+use Rattle.mob_ratio.specs.Order.{before, up_to, same}
 use Rattle.mob_ratio.proofs.Order.{before-back, before-neither, same_exact}
 use Rattle.mob_span.specs.Span.{has, has_instant}
 use Rattle.mob_slice.specs.declared.slice.Slice.{Slice}
@@ -96,14 +96,14 @@ split_test false true false f g = refl
 split_test false false true f g = refl
 split_test false false false f g = absurd (false_true (g refl refl))
 
-begun : (included : Bool) (l u t : Ratio) → before l u ≡ true → u ≡ t → (before l t || (included && upto l t)) ≡ true
+begun : (included : Bool) (l u t : Ratio) → before l u ≡ true → u ≡ t → (before l t || (included && up_to l t)) ≡ true
 begun included l u t h e = rw (subst (λ (x : Ratio). before l x ≡ true) e h) refl
 
 -- a span with its upper end holds what it holds without it, and that end
 split_has : (l u t : Ratio) (included : Bool) → before l u ≡ true
     → has (record { lower = l; upper = u; lower_inc = included; upper_inc = true }) t
     ≡ (has (record { lower = l; upper = u; lower_inc = included; upper_inc = false }) t || has (record { lower = u; upper = u; lower_inc = true; upper_inc = true }) t)
-split_has l u t included h = split_test (before l t || (included && upto l t)) (before t u) (before u t) (before-back t u) (λ p q. begun included l u t h (before-neither u t q p))
+split_has l u t included h = split_test (before l t || (included && up_to l t)) (before t u) (before u t) (before-back t u) (λ p q. begun included l u t h (before-neither u t q p))
 
 choose : {A : Type 0} (a b : Bool) (x o : A) → cond a x (cond b x o) ≡ cond (a || b) x o
 choose true b x o = refl
@@ -136,8 +136,8 @@ pub record IsShort (l u : Ratio) (lower_inc upper_inc : Bool) : Type 0 where
 
 pub is_short : (l u : Ratio) (lower upper : Bool) → has_instant (record { lower = l; upper = u; lower_inc = lower; upper_inc = upper }) ≡ true → before l u ≡ false → IsShort l u lower upper
 is_short l u lower upper h short =
-    let a : ((lower && upper) && upto l u) ≡ true = subst (λ (b : Bool). (b || ((lower && upper) && upto l u)) ≡ true) short h in
-    let b = both (lower && upper) (upto l u) a in
+    let a : ((lower && upper) && up_to l u) ≡ true = subst (λ (b : Bool). (b || ((lower && upper) && up_to l u)) ≡ true) short h in
+    let b = both (lower && upper) (up_to l u) a in
     let c = both lower upper b.0 in
     record { lower = c.0; upper = c.1; one = before-neither l u short (not_true (before u l) b.1) }
 
@@ -145,7 +145,7 @@ is_short l u lower upper h short =
 is_open : (l u : Ratio) (lower : Bool) → has_instant (record { lower = l; upper = u; lower_inc = lower; upper_inc = false }) ≡ true → before l u ≡ true
 is_open l u lower h = by_order (before l u) lower h
   where
-    by_order : (b lower : Bool) → (b || ((lower && false) && upto l u)) ≡ true → b ≡ true
+    by_order : (b lower : Bool) → (b || ((lower && false) && up_to l u)) ≡ true → b ≡ true
     by_order true lower h = refl
     by_order false true h = absurd cc
     by_order false false h = absurd cc
@@ -273,7 +273,7 @@ module _ {B : Type 0} (has_value : B → Bool) (is_same : B → B → Bool) (exa
       by_length true h = ordered.1
       by_length false h =
           let i = is_short s.span.lower s.span.upper s.span.lower_inc s.span.upper_inc ordered.0.some h in
-          subst (λ (x : Ratio). (before x r.span.lower || (upto x r.span.lower && not (s.span.upper_inc && r.span.lower_inc))) ≡ true) (sym i.one) ordered.1
+          subst (λ (x : Ratio). (before x r.span.lower || (up_to x r.span.lower && not (s.span.upper_inc && r.span.lower_inc))) ≡ true) (sym i.one) ordered.1
   clear_group s (q ∷ group) r tail ordered =
       subst (λ (o : Option (Written B)). clear_ends (upper_of q group) r.span.lower_inc o (Some (start_of r)) ≡ true) (sym (last_next (start_of s) (start_of q) (more q group))) (clear_group q group r tail ordered.2)
 

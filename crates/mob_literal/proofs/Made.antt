@@ -8,7 +8,7 @@ use Rattle.mob_ratio.proofs.Order.{before-self}
 use Rattle.mob_span.specs.Span.{has_instant}
 use Rattle.mob_slice.specs.declared.slice.Slice.{Slice}
 use Rattle.mob_slice.specs.declared.steady.Steady.{Steady}
-use Rattle.mob_slice.specs.Slices.{IsOrdered, Clear, OfHead}
+use Rattle.mob_slice.specs.Slices.{IsOrdered, IsClearOf, OfHead}
 use Rattle.mob_written.specs.declared.written.Written.{Written}
 use Rattle.mob_literal.specs.Steps.{rises}
 use Rattle.mob_literal.specs.Slices.{slices_of, made, stretch, point}
@@ -33,7 +33,7 @@ made_more {B} is_same front pushed level next_level lower upper i j is h k e = r
     regroup None = refl
     regroup (Some slices) = ap (λ (x : List (Slice (Steady B))). Some x) (append_assoc front (stretch lower i j ∷ []) slices)
 
-clear_next : {B : Type 0} (lower upper : Bool) (i j : Written B) (is : List (Written B)) → OfHead Clear (stretch lower i j) (slices_of true (j ∷ is) upper)
+clear_next : {B : Type 0} (lower upper : Bool) (i j : Written B) (is : List (Written B)) → OfHead IsClearOf (stretch lower i j) (slices_of true (j ∷ is) upper)
 clear_next lower true i j [] = grind (arith, before-self j.instant)
 clear_next lower false i j [] = tt
 clear_next lower upper i j (k ∷ is) = grind (arith, before-self j.instant)

@@ -10,7 +10,7 @@ use Rattle.mob_frac.specs.Fits.{Fits}
 use Rattle.mob_language.specs.Language.{Text}
 use Rattle.mob_slice.specs.declared.slice.Slice.{Slice}
 use Rattle.mob_slice.specs.declared.steady.Steady.{Steady}
-use Rattle.mob_slice.specs.Slices.{OfHead, Clear, AreNormal, IsNormalPair, value_at}
+use Rattle.mob_slice.specs.Slices.{OfHead, IsClearOf, AreNormal, IsNormalPair, value_at}
 use Rattle.mob_numeral.specs.Verdict.{Lit}
 use Rattle.mob_scalar.specs.Truth.{truth_text}
 use Rattle.mob_numeral.specs.NumberText.{number_text}
@@ -71,7 +71,7 @@ module _ {B : Type 0} where
   normal_ordered is_same [] n = tt
   normal_ordered is_same (s ∷ rest) n = (n.0, head rest n.1, normal_ordered is_same rest n.2)
     where
-      head : (rest : List (Slice (Steady B))) → OfHead (IsNormalPair {C = Steady B} {B = B} (λ c. c.value) (λ c. c.value) (λ c d lower middle upper. is_same c.value d.value)) s rest → OfHead Clear s rest
+      head : (rest : List (Slice (Steady B))) → OfHead (IsNormalPair {C = Steady B} {B = B} (λ c. c.value) (λ c. c.value) (λ c d lower middle upper. is_same c.value d.value)) s rest → OfHead IsClearOf s rest
       head [] h = tt
       head (r ∷ rest) h = h.in_order
 

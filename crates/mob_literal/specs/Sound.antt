@@ -2,7 +2,7 @@
 use Rattle.std.specs.Prelude.{◌≡◌, ◌↔◌, ℕ, ◌+◌, ◌-◌, List, [], ◌∷◌, length, Contains, slice_get, Bool, true, false, ◌&&◌, ◌||◌, not, nat_lt, Option, Some, None, MatchOption, ℤ}
 use Rattle.std.specs.List.{list_all}
 use Rattle.mob_ratio.specs.Ratio.{Ratio}
-use Rattle.mob_ratio.specs.Order.{before, upto}
+use Rattle.mob_ratio.specs.Order.{before, up_to}
 use Rattle.mob_language.specs.Language.{Text}
 use Rattle.mob_language.specs.Readers.{◌>>=◌}
 use Rattle.mob_slice.specs.declared.slice.Slice.{Slice}
@@ -61,7 +61,7 @@ abbrev pub is_sound_sequence : {B : Type 0} → (B → Bool) → (B → B → Bo
 is_sound_sequence has_value is_same q = list_all (λ i. has_value i.value) q.instants && (rises q.instants && (is_closed_alone q.lower_inc q.upper_inc q.instants && (q.upper_inc || ends_level is_same q.instants)))
 
 abbrev pub clear_ends : {B : Type 0} → Bool → Bool → Option (Written B) → Option (Written B) → Bool
-clear_ends upper_inc lower_inc (Some i) (Some j) = before i.instant j.instant || (upto i.instant j.instant && not (upper_inc && lower_inc))
+clear_ends upper_inc lower_inc (Some i) (Some j) = before i.instant j.instant || (up_to i.instant j.instant && not (upper_inc && lower_inc))
 clear_ends upper_inc lower_inc (Some i) None = false
 clear_ends upper_inc lower_inc None j = false
 

@@ -4,18 +4,18 @@
 -- is not later. Its two brackets say whether the first and the last instant belong to it.
 use Rattle.std.specs.Prelude.{◌≡◌, List, [], ◌∷◌, Contains, Bool, true, ◌&&◌, ◌||◌}
 use Rattle.mob_ratio.specs.Ratio.{Ratio}
-use Rattle.mob_ratio.specs.Order.{before, upto}
+use Rattle.mob_ratio.specs.Order.{before, up_to}
 use Rattle.mob_written.specs.declared.written.Written.{Written}
 
 -- i is the last of the written instants that are not later than t
 pub record IsLastBy {B : Type 0} (instants : List (Written B)) (t : Ratio) (i : Written B) : Type 0 where
   pub listed : Contains instants i
-  pub not_later : upto i.instant t ≡ true
-  pub last : (j : Written B) → Contains instants j → upto j.instant t ≡ true → upto j.instant i.instant ≡ true
+  pub not_later : up_to i.instant t ≡ true
+  pub last : (j : Written B) → Contains instants j → up_to j.instant t ≡ true → up_to j.instant i.instant ≡ true
 
 -- a lies before b, or is b where the bracket there includes it
 abbrev pub reaches : Bool → Ratio → Ratio → Bool
-reaches included a b = before a b || (included && upto a b)
+reaches included a b = before a b || (included && up_to a b)
 
 -- t lies in the span of the sequence: behind one of its instants and before one of them, or is one that a bracket includes
 pub record IsInSequence {B : Type 0} (lower_inc : Bool) (instants : List (Written B)) (upper_inc : Bool) (t : Ratio) : Type 0 where

@@ -8,14 +8,14 @@ use Rattle.mob_ast.specs.declared.refusal.Refusal.{Refusal}
 use Rattle.mob_numeral.specs.declared.fault.ReadText.{ReadText}
 use Rattle.mob_numeral.specs.declared.fault.ReadText.TheVariants as text
 use Rattle.mob_catalog.specs.Constants.{ConstantFails}
-use Rattle.mob_catalog.specs.Faults.{IsRefusedAs}
+use Rattle.mob_catalog.specs.Faults.{IsKindOfFault}
 use Rattle.mob_typed.specs.declared.typed.ConstText.{ConstText}
 use Rattle.mob_load.specs.Loads.{Loaded, LoadsLiteral, LoadsTo, refused}
 use Rattle.mob_load.specs.declared.program.LoadEnd.{LoadEnd}
 use Rattle.mob_load.specs.declared.program.LoadEnd.TheVariants.{Refused, NoMemory}
 
 -- no text is refused for want of memory
-never_memory : (f : ReadText) (k : Kind) → IsRefusedAs f k → k ≢ kind.NoMemory
+never_memory : (f : ReadText) (k : Kind) → IsKindOfFault f k → k ≢ kind.NoMemory
 never_memory text.NotText k is e = absurd cc
 never_memory text.Limit k is e = absurd cc
 never_memory text.TooLarge k is e = absurd cc

@@ -4,7 +4,7 @@ use Rattle.std.specs.Prelude.{Result}
 use Rattle.mob_literal.proofs.SqlReading.{one_sql_reading}
 use Rattle.mob_outside.specs.Told.{Contents, file_of}
 use Rattle.mob_catalog.specs.Outcomes.{HasOneFault, HasOneTable, NeverReadAndRefused}
-use Rattle.mob_catalog.specs.Faults.{IsRefusedAs, FileFault}
+use Rattle.mob_catalog.specs.Faults.{IsKindOfFault, FileFault}
 use Rattle.mob_catalog.proofs.OneTable.{fault_known, one_kind, value_known}
 use Rattle.mob_typed.specs.declared.typed.ConstText.{ConstText}
 use Rattle.mob_load.specs.Checks.{CheckParts, literal, table, room, file, checks_of}
@@ -22,7 +22,7 @@ one_read day c l (Err g) (Ok m) h k = let e = one_sql_reading c.ty day c.text (E
 one_read day c l (Err f) (Err g) h k =
     let e = one_sql_reading c.ty day c.text (Err h.0) (Err k.0) (fault_known h.0 h.1 h.2) (fault_known k.0 k.1 k.2) h.3 k.3 in
     let fault : h.0 ≡ k.0 = cc e in
-    let kind : h.1 ≡ k.1 = one_kind k.0 h.1 k.1 (subst (λ f. IsRefusedAs f h.1) fault h.2) k.2 in
+    let kind : h.1 ≡ k.1 = one_kind k.0 h.1 k.1 (subst (λ f. IsKindOfFault f h.1) fault h.2) k.2 in
     ap Err (h.4 ∙ ap (refused_literal c) kind ∙ sym k.4)
 
 goes_one : (others : Loaded → Result Loaded Halt → Type 0) → ((m : Loaded) (r q : Result Loaded Halt) → others m r → others m q → r ≡ q) → (s r q : Result Loaded Halt) → ContinuesBy others s r → ContinuesBy others s q → r ≡ q

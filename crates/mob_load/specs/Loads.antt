@@ -10,7 +10,7 @@ use Rattle.mob_literal.specs.SqlText.{SaysAs}
 use Rattle.mob_outside.specs.Faults.{Rose}
 use Rattle.mob_outside.specs.Told.{Contents, file_of}
 use Rattle.mob_catalog.specs.Constants.{IsConstant, at_constant}
-use Rattle.mob_catalog.specs.Faults.{IsRefusedAs, FileFault}
+use Rattle.mob_catalog.specs.Faults.{IsKindOfFault, FileFault}
 use Rattle.mob_catalog.specs.TableFile.{IsTable, FileFails}
 use Rattle.mob_typed.specs.declared.typed.ConstText.{ConstText}
 use Rattle.mob_typed.specs.Statements.{ColumnList}
@@ -77,7 +77,7 @@ refused_literal c k = refused (at_constant c k)
 -- a literal has the value of its text, or it is refused for what is wrong with that
 abbrev pub LoadsLiteral : ℤ → ConstText → Loaded → Result Loaded Halt → Type 0
 LoadsLiteral day c l (Ok m) = (v : Value) × SaysAs c.ty day c.text (Ok v) × (m ≡ with_value l v)
-LoadsLiteral day c l (Err h) = (f : ReadText) × (k : Kind) × IsRefusedAs f k × SaysAs c.ty day c.text (Err f) × (h ≡ refused_literal c k)
+LoadsLiteral day c l (Err h) = (f : ReadText) × (k : Kind) × IsKindOfFault f k × SaysAs c.ty day c.text (Err f) × (h ≡ refused_literal c k)
 
 -- a table takes one row more as long as it has fewer than the most; else the row is refused at its bracket
 abbrev pub one_row : ℕ → ℕ → ℕ → Loaded → Result Loaded Halt

@@ -67,7 +67,7 @@ fn make_table<'a>(loading: &mut Loading<'a>, columns: &'a [(Text, SqlType)]) -> 
 }
 
 // How many rows were put into the table of this number.
-fn rows_at(rows: &[u32], table: u32) -> u32
+fn row_count(rows: &[u32], table: u32) -> u32
     ensures { result ≡ slice_index rows.now table }
 {
     match rows.get(table as usize) {
@@ -81,7 +81,7 @@ fn add_rows(rows: &mut Vec<u32>, table: u32, count: u32)
     requires fits { slice_index rows.old.items table + count < 2 ^ 32 }
     ensures counted { rows.new.items ≡ slice_set rows.old.items table (slice_index rows.old.items table + count) }
 {
-    let sum = rows_at(rows, table) + count;
+    let sum = row_count(rows, table) + count;
     if (table as usize) < rows.len() {
         rows[table as usize] = sum;
     }
@@ -98,7 +98,7 @@ fn take_row(
     ensures no_fault { IfErr result IsNoFault }
     ensures tables { OnOk result ((loaded_of loading.new).tables ≡ (loaded_of loading.old).tables) }
 {
-    if rows_at(&loading.rows, table) >= GREATEST_ROWS {
+    if row_count(&loading.rows, table) >= GREATEST_ROWS {
         return Err(LoadEnd::Refused(Refusal {
             kind: Kind::Limit,
             statement,
@@ -110,7 +110,7 @@ fn take_row(
 }
 
 // The columns of the table of this number.
-fn columns_at<'a>(tables: &[&'a [(Text, SqlType)]], table: u32) -> Option<&'a [(Text, SqlType)]>
+fn columns_of_table<'a>(tables: &[&'a [(Text, SqlType)]], table: u32) -> Option<&'a [(Text, SqlType)]>
     ensures { option_map (λ c. c.now) result ≡ slice_get (map (λ c. c.now) tables.now) table }
 {
     match tables.get(table as usize) {
@@ -166,8 +166,8 @@ fn load_bytes(
     ensures read { IfErr result IsRead }
     ensures tables { OnOk result ((loaded_of loading.new).tables ≡ (loaded_of loading.old).tables) }
 {
-    let room = GREATEST_ROWS.saturating_sub(rows_at(&loading.rows, table));
-    let columns = columns_at(&loading.tables, table);
+    let room = GREATEST_ROWS.saturating_sub(row_count(&loading.rows, table));
+    let columns = columns_of_table(&loading.tables, table);
     match rows_of_bytes(alloc, bytes, columns, epoch, room) {
         Ok(rows) => put_rows(loading, table, rows),
         Err(LoadFault::Refused { kind, rec, field }) => Err(LoadEnd::TableRefused {

@@ -18,7 +18,7 @@ use Rattle.mob_numeral.specs.declared.numeral.Figures.{Figures}
 use Rattle.mob_numeral.specs.declared.numeral.Tail.{Tail}
 use Rattle.mob_numeral.specs.declared.numeral.Tail.TheVariants.{Over, Decimal}
 use Rattle.mob_numeral.specs.declared.numeral.Numeral.{Numeral}
-use Rattle.mob_numeral.specs.Figures.{is_run, digits, AreFigures}
+use Rattle.mob_numeral.specs.Figures.{are_few_digits, digits, AreFigures}
 use Rattle.mob_numeral.specs.Number.{numeral_of, has_digits, number_sign, tail, number}
 use Rattle.mob_numeral.specs.NumberValue.{numeral_value}
 use Rattle.mob_numeral.specs.NumberText.{number_text}
@@ -32,8 +32,8 @@ pub are_figures : (ds : Text) → AllDigits 10 ds → AreFigures ds
 are_figures [] h = tt
 are_figures (c ∷ cs) h = (digit_test c (digit_from_value c h.0), are_figures cs h.1)
 
-pub run_test : (ds : Text) → length ds ≤ 36 → is_run ds ≡ true
-run_test ds h = search rules
+pub few_digits_test : (ds : Text) → length ds ≤ 36 → are_few_digits ds ≡ true
+few_digits_test ds h = search rules
 
 unfoldable pub size_of : ℕ → Figures
 size_of n = record { value = n; count = length (decimal n) }
@@ -45,7 +45,7 @@ digits_said n h =
     let len = length-decimal-le 19 n (omega arith) (omega (arith, h)) (omega (arith, h)) in
     record {
       meant = decimal n;
-      said = record { said = record { is = refl; each = are_figures (decimal n) is.0.1 }; holds = run_test (decimal n) (omega (arith, len)) };
+      said = record { said = record { is = refl; each = are_figures (decimal n) is.0.1 }; holds = few_digits_test (decimal n) (omega (arith, len)) };
       is = ap (λ (v : ℕ). record { value = v; count = length (decimal n) }) (sym is.1);
     }
 

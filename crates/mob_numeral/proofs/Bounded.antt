@@ -10,13 +10,13 @@ use Rattle.mob_numeral.specs.declared.numeral.Exponent.{Exponent}
 use Rattle.mob_numeral.specs.declared.numeral.Tail.{Tail}
 use Rattle.mob_numeral.specs.declared.numeral.Tail.TheVariants.{Over, Decimal}
 use Rattle.mob_numeral.specs.declared.numeral.Numeral.{Numeral}
-use Rattle.mob_numeral.specs.Figures.{is_run, digits}
+use Rattle.mob_numeral.specs.Figures.{are_few_digits, digits}
 use Rattle.mob_numeral.specs.Number.{count_of, has_digits, is_power, exponent, tail, number}
 use Rattle.mob_numeral.specs.NumberValue.{value_in, IsSmall, IsTailSmall, IsBounded}
 use Rattle.mob_numeral.proofs.Digits.{all_digits}
 use Rattle.mob_numeral.proofs.Powers.{ten_le}
 
-short : (ds : Text) → is_run ds ≡ true → length ds ≤ 36
+short : (ds : Text) → are_few_digits ds ≡ true → length ds ≤ 36
 short ds e = search rules
 
 pub digits_small : (text : Text) (f : Figures) → digits text f → IsSmall f

@@ -2,13 +2,13 @@
 use Rattle.std.proofs.Common.{◌≡◌, ℕ, [], Bool, true, false, refl, rules, codes}
 use Rattle.std.specs.Prelude.{◌||◌, nat_eq}
 use Rattle.mob_language.specs.Language.{Language, ◌▷◌, Maybe, Means, behind, is_digit, is_number_sign, is_exponent_letter}
-use Rattle.mob_language.proofs.Exact.{Exact, Stops, means_exact, where_exact, one_exact, word_exact, run_exact}
-use Rattle.mob_language.proofs.Heads.{NoHead, Apart, Nothing, exact_less, stops_less, then_head, word_then_head, one_then_head, or_head, maybe_head, means_head, where_head, run_head, one_nothing, word_nothing, then_nothing, means_nothing, then_stops, after_any, maybe_stops, or_stops}
+use Rattle.mob_language.proofs.Exact.{Exact, Stops, means_exact, where_exact, one_exact, word_exact, many_exact}
+use Rattle.mob_language.proofs.Heads.{NoHead, Apart, Nothing, exact_less, stops_less, then_head, word_then_head, one_then_head, or_head, maybe_head, means_head, where_head, many_head, one_nothing, word_nothing, then_nothing, means_nothing, then_stops, after_any, maybe_stops, or_stops}
 use Rattle.mob_numeral.specs.declared.numeral.Figures.{Figures}
 use Rattle.mob_numeral.specs.declared.numeral.Exponent.{Exponent}
 use Rattle.mob_numeral.specs.declared.numeral.Tail.{Tail}
 use Rattle.mob_numeral.specs.declared.numeral.Tail.TheVariants.{Over}
-use Rattle.mob_numeral.specs.Figures.{is_run, figures, digits}
+use Rattle.mob_numeral.specs.Figures.{are_few_digits, figures, digits}
 use Rattle.mob_numeral.specs.Number.{is_minus, is_power, exponent_of, decimal_of, is_numeral, numeral_of, number_sign, power, exponent, tail, number}
 use Rattle.mob_numeral.specs.NumberReaders.{digits_at, sign_at, power_at, exponent_at, over_at, point_at, decimal_at, tail_at, numeral_at}
 
@@ -56,14 +56,14 @@ e_no_sign c e = search rules
 
 digits_exact : Exact digits digits_at (Stops continues)
 unfolding digits_at
-digits_exact = exact_less (means_exact figures (where_exact is_run (run_exact is_digit))) (stops_less continues is_digit less_digit)
+digits_exact = exact_less (means_exact figures (where_exact are_few_digits (many_exact is_digit))) (stops_less continues is_digit less_digit)
 
 pub sign_exact : Exact number_sign sign_at (Stops is_number_sign)
 unfolding sign_at
 sign_exact = means_exact is_minus (maybe_stops (exact_less (one_exact is_number_sign) (λ rest after. tt)) (one_nothing is_number_sign))
 
 pub no_sign : NoHead digits is_number_sign
-no_sign = means_head (where_head (run_head digit_no_sign))
+no_sign = means_head (where_head (many_head digit_no_sign))
 
 power_exact : Exact power power_at (Stops continues)
 unfolding power_at
@@ -87,7 +87,7 @@ point_on c = is_digit c || nat_eq c 46
 
 pub digits_base : Exact digits digits_at (Stops is_digit)
 unfolding digits_at
-digits_base = means_exact figures (where_exact is_run (run_exact is_digit))
+digits_base = means_exact figures (where_exact are_few_digits (many_exact is_digit))
 
 point_base : Exact (behind (codes ".") digits) point_at (Stops point_on)
 unfolding point_at point_on

@@ -4,7 +4,7 @@ use Rattle.std.proofs.lemmas.Bool.Decides.{nat_tests}
 use Rattle.mob_language.specs.Language.{Text, Language, Maybe, behind, is_blank, within_blanks, is_digit, is_number_sign, is_exponent_letter}
 use Rattle.mob_language.specs.Readers.{within_blanks_at}
 use Rattle.mob_language.proofs.Exact.{Exact}
-use Rattle.mob_language.proofs.Heads.{NoHead, Apart, HasByte, IsEnd, then_head, means_head, maybe_head, where_head, one_head, run_head, within_exact, blanks_stop}
+use Rattle.mob_language.proofs.Heads.{NoHead, Apart, HasByte, IsEnd, then_head, means_head, maybe_head, where_head, one_head, many_head, within_exact, blanks_stop}
 use Rattle.mob_numeral.specs.declared.numeral.Figures.{Figures}
 use Rattle.mob_numeral.specs.declared.numeral.Exponent.{Exponent}
 use Rattle.mob_numeral.specs.declared.numeral.Tail.{Tail}
@@ -29,7 +29,7 @@ blank_stops c e = search rules
 -- no number begins with a byte that none of its parts begins with
 pub number_head : (test : ℕ → Bool) → Apart is_number_sign test → Apart is_digit test → test 46 ≡ false → test 47 ≡ false → Apart is_exponent_letter test → NoHead number test
 number_head test s d p q e = where_head (means_head (then_head (means_head (maybe_head (one_head s)))
-    (then_head (means_head (where_head (run_head d))) (tail_head test p q e))))
+    (then_head (means_head (where_head (many_head d))) (tail_head test p q e))))
 
 sign_blank : Apart is_number_sign is_blank
 sign_blank c e = search rules

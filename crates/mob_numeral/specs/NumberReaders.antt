@@ -1,17 +1,17 @@
 -- The readers of the languages of numbers.
 use Rattle.std.specs.Prelude.{ℕ, codes, Bool}
 use Rattle.mob_language.specs.Language.{is_digit, is_number_sign, is_exponent_letter}
-use Rattle.mob_language.specs.Readers.{TextReader, then_at, or_at, maybe_at, means_at, where_at, one_at, run_at, behind_at}
+use Rattle.mob_language.specs.Readers.{TextReader, then_at, or_at, maybe_at, means_at, where_at, one_at, many_at, behind_at}
 use Rattle.mob_numeral.specs.declared.numeral.Figures.{Figures}
 use Rattle.mob_numeral.specs.declared.numeral.Exponent.{Exponent}
 use Rattle.mob_numeral.specs.declared.numeral.Tail.{Tail}
 use Rattle.mob_numeral.specs.declared.numeral.Tail.TheVariants.{Over}
 use Rattle.mob_numeral.specs.declared.numeral.Numeral.{Numeral}
-use Rattle.mob_numeral.specs.Figures.{is_run, figures}
+use Rattle.mob_numeral.specs.Figures.{are_few_digits, figures}
 use Rattle.mob_numeral.specs.Number.{is_minus, is_power, exponent_of, decimal_of, is_numeral, numeral_of}
 
 unfoldable pub digits_at : TextReader Figures
-digits_at = means_at figures (where_at is_run (run_at is_digit))
+digits_at = means_at figures (where_at are_few_digits (many_at is_digit))
 
 unfoldable pub sign_at : TextReader Bool
 sign_at = means_at is_minus (maybe_at (one_at is_number_sign))

@@ -2,12 +2,12 @@
 ghost use Rattle.std.specs.Prelude.{◌≡◌, ◌<◌, ◌≤◌, ◌^◌, length, option_map, Option, Some, IfSome};
 ghost use Rattle.std.specs.Str.Parse.{digits_value};
 ghost use Rattle.mob_language.specs.Language.{is_digit as digit};
-ghost use Rattle.mob_language.specs.Readers.{run_of};
+ghost use Rattle.mob_language.specs.Readers.{split_while};
 ghost use Rattle.mob_numeral.specs.Figures.{AreFigures};
 ghost use Rattle.mob_numeral.specs.Number.{has_digits as has_enough};
 ghost use Rattle.mob_numeral.specs.NumberReaders.{digits_at as digits_in, sign_at as sign_in, point_at as point_in, power_at as power_in, exponent_at as exponent_in, over_at as over_in, decimal_at as decimal_in, tail_at as tail_in, numeral_at};
 
-use crate::readers::{behind, maybe, split_run};
+use crate::readers::{behind, maybe, split_while};
 
 /// A run of digits: the number that they stand for, and how many they are.
 #[derive(Clone, Copy, Debug, PartialEq, Eq)]
@@ -55,9 +55,9 @@ fn is_digit(c: u8) -> bool
 
 /// The digits in front, and what stands behind them.
 fn split_digits(bytes: &[u8]) -> (&[u8], &[u8])
-    ensures value { (result.0.now, result.1.now) ≡ run_of digit bytes.now }
+    ensures value { (result.0.now, result.1.now) ≡ split_while digit bytes.now }
 {
-    split_run(is_digit, bytes)
+    split_while(is_digit, bytes)
 }
 
 /// The number that the digits stand for.

@@ -1,7 +1,7 @@
 //! Parts that several readers share.
 ghost use Rattle.std.specs.Prelude.{◌≡◌, ◌<◌, ℕ, Bool, [], ◌∷◌, Option, Some, IfSome, option_map};
 ghost use Rattle.mob_language.specs.Language.{is_blank as blank};
-ghost use Rattle.mob_language.specs.Readers.{TextReader, all_of, run_of, maybe_of, word_at, within_blanks_at};
+ghost use Rattle.mob_language.specs.Readers.{TextReader, all_of, split_while, maybe_of, word_at, within_blanks_at};
 
 /// What stands behind the sign, where the bytes begin with it.
 pub fn behind(sign: u8, bytes: &[u8]) -> Option<&[u8]>
@@ -24,9 +24,9 @@ pub fn maybe<'a, T>(found: Option<(T, &'a [u8])>, bytes: &'a [u8]) -> (Option<T>
 }
 
 /// The bytes in front that pass the test, and what stands behind them.
-pub fn split_run<F: Fn(u8) -> bool>(passes: F, bytes: &[u8]) -> (&[u8], &[u8])
+pub fn split_while<F: Fn(u8) -> bool>(passes: F, bytes: &[u8]) -> (&[u8], &[u8])
     requires callable { F.IsAlwaysCallable passes }
-    ensures split { (test : ℕ → Bool) → ((c : ℕ) (passed : Bool) → c < 256 → F.post passes c passed → passed ≡ test c) → (result.0.now, result.1.now) ≡ run_of test bytes.now }
+    ensures split { (test : ℕ → Bool) → ((c : ℕ) (passed : Bool) → c < 256 → F.post passes c passed → passed ≡ test c) → (result.0.now, result.1.now) ≡ split_while test bytes.now }
 {
     let mut i = 0;
     while i < bytes.len() {
@@ -47,9 +47,9 @@ pub fn is_blank(c: u8) -> bool
 
 /// The blanks in front, and what stands behind them.
 pub fn blanks(bytes: &[u8]) -> (&[u8], &[u8])
-    ensures split { (result.0.now, result.1.now) ≡ run_of blank bytes.now }
+    ensures split { (result.0.now, result.1.now) ≡ split_while blank bytes.now }
 {
-    split_run(is_blank, bytes)
+    split_while(is_blank, bytes)
 }
 
 /// All of the bytes, without blanks at their ends, as what a reader of their front finds.

@@ -4,11 +4,11 @@ ghost use Rattle.mob_ast.specs.Trees.{StatementParts, statement_of, script_of};
 ghost use Rattle.mob_grammar.specs.Cuts.{ends_among};
 ghost use Rattle.mob_grammar.specs.Scripts.{IsScript};
 ghost use Rattle.mob_grammar.specs.Sizes.{script_nodes};
-ghost use Rattle.mob_lexemes.specs.Lexemes.{toks};
+ghost use Rattle.mob_lexemes.specs.Lexemes.{placed_symbols};
 ghost use Rattle.mob_lexemes.specs.Heavy.{first_heavy};
 ghost use Rattle.mob_ast.specs.Kinds.{no_memory};
 ghost use Rattle.mob_chars.specs.Tokens.{tokens_of};
-ghost use Rattle.mob_parse.specs.Refusals.{place_of, BeginsScript, IsWrong, IsRefusedAt, ParsesToRefusal, IsTreeOf, IsLight, IsLightText, IsStatementBehind, IsSameRefusal};
+ghost use Rattle.mob_parse.specs.Refusals.{place_of, BeginsScript, IsWrong, IsRefusalOfTokens, ParsesToRefusal, IsTreeOf, IsLight, IsLightText, IsStatementBehind, IsSameRefusal};
 
 use crate::cursor::{Cursor, Fault};
 use mob_ast::refusal::{Kind, Refusal};
@@ -32,9 +32,9 @@ enum Wrong {
 
 // The statements that the tokens are.
 fn read(alloc: Global, lexemes: &[Lexeme<'_>]) -> Result<Items<Statement>, Wrong>
-    ensures tree { IfOk result (λ s. IsScript (toks lexemes.now) (map statement_of s)) }
-    ensures only { IfOk result (λ s. (x : List StatementParts) → IsScript (toks lexemes.now) x → x ≡ map statement_of s) }
-    ensures wrong { IfErr result (λ e. IsWrong (toks lexemes.now) e) }
+    ensures tree { IfOk result (λ s. IsScript (placed_symbols lexemes.now) (map statement_of s)) }
+    ensures only { IfOk result (λ s. (x : List StatementParts) → IsScript (placed_symbols lexemes.now) x → x ≡ map statement_of s) }
+    ensures wrong { IfErr result (λ e. IsWrong (placed_symbols lexemes.now) e) }
 {
     let mut cursor = Cursor { alloc, lexemes };
     match cursor.statements() {
@@ -52,7 +52,7 @@ fn read(alloc: Global, lexemes: &[Lexeme<'_>]) -> Result<Items<Statement>, Wrong
 
 // The place of the first token, or the end.
 fn place_of(lexemes: &[Lexeme<'_>], end: u32) -> u32
-    ensures exact { result ≡ place_of (toks lexemes.now) end }
+    ensures exact { result ≡ place_of (placed_symbols lexemes.now) end }
 {
     match lexemes {
         [first, ..] => first.place,
@@ -66,8 +66,8 @@ fn refusal(kind: Kind, lexemes: &[Lexeme<'_>], at: usize, end: u32) -> Refusal
     requires few { length lexemes.now < 2 ^ 31 }
     requires within { at ≤ length lexemes.now }
     ensures kind { result.kind ≡ kind }
-    ensures place { result.place ≡ place_of (drop at (toks lexemes.now)) end }
-    ensures statement { result.statement ≡ 1 + ends_among (take at (toks lexemes.now)) }
+    ensures place { result.place ≡ place_of (drop at (placed_symbols lexemes.now)) end }
+    ensures statement { result.statement ≡ 1 + ends_among (take at (placed_symbols lexemes.now)) }
 {
     let (before, rest) = lexemes.split_at(at);
     let place = place_of(rest, end);
@@ -92,10 +92,10 @@ fn no_memory() -> Refusal
 // The script that tokens without a 257th counted one are.
 fn whole(alloc: Global, lexemes: &[Lexeme<'_>], end: u32) -> Result<Script, Refusal>
     requires few { length lexemes.now < 2 ^ 31 }
-    requires light { IsLight (toks lexemes.now) }
-    ensures tree { IfOk result (λ s. IsScript (toks lexemes.now) (script_of s)) }
-    ensures only { IfOk result (λ s. (x : List StatementParts) → IsScript (toks lexemes.now) x → x ≡ script_of s) }
-    ensures refused { IfErr result (λ e. IsRefusedAt (toks lexemes.now) end e) }
+    requires light { IsLight (placed_symbols lexemes.now) }
+    ensures tree { IfOk result (λ s. IsScript (placed_symbols lexemes.now) (script_of s)) }
+    ensures only { IfOk result (λ s. (x : List StatementParts) → IsScript (placed_symbols lexemes.now) x → x ≡ script_of s) }
+    ensures refused { IfErr result (λ e. IsRefusalOfTokens (placed_symbols lexemes.now) end e) }
 {
     match read(alloc, lexemes) {
         Ok(statements) => Ok(Script { statements }),
@@ -107,8 +107,8 @@ fn whole(alloc: Global, lexemes: &[Lexeme<'_>], end: u32) -> Result<Script, Refu
 // Nothing, where some script begins with the tokens; else the first that is wrong.
 #[tactic(auto, using(crate::proofs::Scripts::script_begins))]
 fn begin(alloc: Global, lexemes: &[Lexeme<'_>]) -> Result<(), Wrong>
-    ensures begins { IfOk result (λ _. BeginsScript (toks lexemes.now)) }
-    ensures wrong { IfErr result (λ e. IsWrong (toks lexemes.now) e) }
+    ensures begins { IfOk result (λ _. BeginsScript (placed_symbols lexemes.now)) }
+    ensures wrong { IfErr result (λ e. IsWrong (placed_symbols lexemes.now) e) }
 {
     let _statements = read(alloc, lexemes)?;
     Ok(())
@@ -117,9 +117,9 @@ fn begin(alloc: Global, lexemes: &[Lexeme<'_>]) -> Result<(), Wrong>
 // Why tokens are refused whose first 257th counted one has that number.
 fn cut(alloc: Global, lexemes: &[Lexeme<'_>], end: u32, heavy: usize) -> Refusal
     requires few { length lexemes.now < 2 ^ 31 }
-    requires heavy { first_heavy (toks lexemes.now) ≡ Some heavy }
+    requires heavy { first_heavy (placed_symbols lexemes.now) ≡ Some heavy }
     requires within { heavy < length lexemes.now }
-    ensures refused { IsRefusedAt (toks lexemes.now) end result }
+    ensures refused { IsRefusalOfTokens (placed_symbols lexemes.now) end result }
 {
     let (front, _) = lexemes.split_at(heavy + 1);
     match begin(alloc, front) {
@@ -138,10 +138,10 @@ fn cut(alloc: Global, lexemes: &[Lexeme<'_>], end: u32, heavy: usize) -> Refusal
 // The script that the tokens are. `end` is the place behind them.
 fn parse_lexemes(alloc: Global, lexemes: &[Lexeme<'_>], end: u32) -> Result<Script, Refusal>
     requires few { length lexemes.now < 2 ^ 31 }
-    ensures tree { IfOk result (λ s. IsScript (toks lexemes.now) (script_of s)) }
-    ensures only { IfOk result (λ s. (x : List StatementParts) → IsScript (toks lexemes.now) x → x ≡ script_of s) }
-    ensures light { IfOk result (λ _. IsLight (toks lexemes.now)) }
-    ensures refused { IfErr result (λ e. IsRefusedAt (toks lexemes.now) end e) }
+    ensures tree { IfOk result (λ s. IsScript (placed_symbols lexemes.now) (script_of s)) }
+    ensures only { IfOk result (λ s. (x : List StatementParts) → IsScript (placed_symbols lexemes.now) x → x ≡ script_of s) }
+    ensures light { IfOk result (λ _. IsLight (placed_symbols lexemes.now)) }
+    ensures refused { IfErr result (λ e. IsRefusalOfTokens (placed_symbols lexemes.now) end e) }
 {
     match first_heavy(lexemes) {
         None => whole(alloc, lexemes, end),

@@ -3,8 +3,8 @@ use Rattle.std.proofs.Common.{◌≡◌, ℕ, zero, suc, ◌+◌, ◌-◌, ◌<�
 use Rattle.std.proofs.lemmas.List.{take_more}
 use Rattle.std.proofs.Math.Seq.{take-append_seam, drop-append_seam}
 use Rattle.mob_language.specs.Language.{Text, is_blank}
-use Rattle.mob_language.specs.Readers.{run_of}
-use Rattle.mob_language.proofs.Exact.{run_parts}
+use Rattle.mob_language.specs.Readers.{split_while}
+use Rattle.mob_language.proofs.Exact.{split_parts}
 use Rattle.mob_scalar.specs.Quoted.{is_plain, begins_well, ends_well, is_bare, put_before, trimmed, bare_at}
 use Rattle.mob_scalar.proofs.QuotedExact.{trim_whole, trim_again}
 
@@ -50,14 +50,14 @@ other_more bytes i lt e =
 -- the bare value in front, as a cut of the bytes
 pub record IsCut (bytes : Text) (n : ℕ) : Type 0 where
   pub within : n ≤ length bytes
-  pub value : take n bytes ≡ (trimmed (run_of is_plain bytes).0).0
-  pub rest : drop n bytes ≡ (trimmed (run_of is_plain bytes).0).1 ++ (run_of is_plain bytes).1
+  pub value : take n bytes ≡ (trimmed (split_while is_plain bytes).0).0
+  pub rest : drop n bytes ≡ (trimmed (split_while is_plain bytes).0).1 ++ (split_while is_plain bytes).1
 
-pub bare_cut : (bytes : Text) → IsCut bytes (length (trimmed (run_of is_plain bytes).0).0)
+pub bare_cut : (bytes : Text) → IsCut bytes (length (trimmed (split_while is_plain bytes).0).0)
 bare_cut bytes =
-    let run = run_of is_plain bytes in
+    let run = split_while is_plain bytes in
     let t = trimmed run.0 in
-    let e : bytes ≡ t.0 ++ (t.1 ++ run.1) = (run_parts is_plain bytes).0 ∙ ap (λ (x : Text). x ++ run.1) (trim_whole run.0) ∙ append_assoc t.0 t.1 run.1 in
+    let e : bytes ≡ t.0 ++ (t.1 ++ run.1) = (split_parts is_plain bytes).0 ∙ ap (λ (x : Text). x ++ run.1) (trim_whole run.0) ∙ append_assoc t.0 t.1 run.1 in
     let len = ap length e in
     let sum = length-append t.0 (t.1 ++ run.1) in
     record {
@@ -81,25 +81,25 @@ pub nothing_trimmed : length (trimmed []).0 ≡ 0
 unfolding trimmed
 nothing_trimmed = refl
 
-value_of : (bytes front : Text) (n : ℕ) → n ≡ length (trimmed (run_of is_plain bytes).0).0 → front ≡ take n bytes → front ≡ (trimmed (run_of is_plain bytes).0).0
+value_of : (bytes front : Text) (n : ℕ) → n ≡ length (trimmed (split_while is_plain bytes).0).0 → front ≡ take n bytes → front ≡ (trimmed (split_while is_plain bytes).0).0
 value_of bytes front n e f = f ∙ ap (λ (k : ℕ). take k bytes) e ∙ (bare_cut bytes).value
 
-pub bare_found : (bytes front back : Text) (n : ℕ) → n ≡ length (trimmed (run_of is_plain bytes).0).0 → front ≡ take n bytes → back ≡ drop n bytes → is_bare front ≡ true → Some (front, back) ≡ bare_at bytes
+pub bare_found : (bytes front back : Text) (n : ℕ) → n ≡ length (trimmed (split_while is_plain bytes).0).0 → front ≡ take n bytes → back ≡ drop n bytes → is_bare front ≡ true → Some (front, back) ≡ bare_at bytes
 unfolding bare_at
 bare_found bytes front back n e f b h =
     let v = value_of bytes front n e f in
     let r = b ∙ ap (λ (k : ℕ). drop k bytes) e ∙ (bare_cut bytes).rest in
-    let there : is_bare (trimmed (run_of is_plain bytes).0).0 ≡ true = ap is_bare (sym v) ∙ h in
-    ap (λ (t : Text). Some (t, back)) v ∙ ap (λ (t : Text). Some ((trimmed (run_of is_plain bytes).0).0, t)) r ∙ sym (chosen (is_bare (trimmed (run_of is_plain bytes).0).0) there _)
+    let there : is_bare (trimmed (split_while is_plain bytes).0).0 ≡ true = ap is_bare (sym v) ∙ h in
+    ap (λ (t : Text). Some (t, back)) v ∙ ap (λ (t : Text). Some ((trimmed (split_while is_plain bytes).0).0, t)) r ∙ sym (chosen (is_bare (trimmed (split_while is_plain bytes).0).0) there _)
   where
     chosen : (b : Bool) → b ≡ true → (x : Text × Text) → cond b (Some x) None ≡ Some x
     chosen b h x = rw h refl
 
-pub bare_not : (bytes front : Text) (n : ℕ) → n ≡ length (trimmed (run_of is_plain bytes).0).0 → front ≡ take n bytes → is_bare front ≡ false → ◌≡◌ {A = Option (Text × Text)} None (bare_at bytes)
+pub bare_not : (bytes front : Text) (n : ℕ) → n ≡ length (trimmed (split_while is_plain bytes).0).0 → front ≡ take n bytes → is_bare front ≡ false → ◌≡◌ {A = Option (Text × Text)} None (bare_at bytes)
 unfolding bare_at
 bare_not bytes front n e f h =
     let v = value_of bytes front n e f in
-    sym (left_out (is_bare (trimmed (run_of is_plain bytes).0).0) (ap is_bare (sym v) ∙ h) _)
+    sym (left_out (is_bare (trimmed (split_while is_plain bytes).0).0) (ap is_bare (sym v) ∙ h) _)
   where
     left_out : (b : Bool) → b ≡ false → (x : Text × Text) → cond b (Some x) None ≡ None
     left_out b h x = rw h refl

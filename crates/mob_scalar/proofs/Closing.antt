@@ -1,11 +1,11 @@
 -- A sign with blanks before it may follow a moment.
 use Rattle.std.proofs.Common.{◌≡◌, ℕ, [], ◌∷◌, ◌++◌, true, false, Some, None, refl, rules}
 use Rattle.mob_language.specs.Language.{Text, AreAll, is_blank, is_digit}
-use Rattle.mob_language.proofs.Exact.{run_again, run_stops}
+use Rattle.mob_language.proofs.Exact.{many_again, many_stops}
 use Rattle.mob_numeral.specs.NumberReaders.{digits_at}
 use Rattle.mob_scalar.specs.CalendarReaders.{fixed_at}
 use Rattle.mob_scalar.specs.Moment.{is_t, is_some_text}
-use Rattle.mob_scalar.specs.MomentReaders.{up_to_at, clock_at, some_blanks_at, t_at, gap_at, time_at}
+use Rattle.mob_scalar.specs.MomentReaders.{two_digits_below_at, clock_at, some_blanks_at, t_at, gap_at, time_at}
 use Rattle.mob_scalar.proofs.MomentExact.{moment_on, Closes}
 
 -- a byte that goes on no moment
@@ -19,8 +19,8 @@ blank_on : (c : ℕ) → is_blank c ≡ true → moment_on c ≡ false
 blank_on c e = search rules
 
 no_clock : (c : ℕ) (cs : Text) → is_digit c ≡ false → clock_at (c ∷ cs) ≡ None
-unfolding clock_at up_to_at fixed_at digits_at
-no_clock c cs e = rw (run_stops is_digit (c ∷ cs) e) refl
+unfolding clock_at two_digits_below_at fixed_at digits_at
+no_clock c cs e = rw (many_stops is_digit (c ∷ cs) e) refl
 
 no_t : (c : ℕ) (cs : Text) → is_t c ≡ false → t_at (c ∷ cs) ≡ None
 unfolding t_at
@@ -31,11 +31,11 @@ some_blank b bs = search rules
 
 gap_of_blanks : (b : ℕ) (bs : Text) (c : ℕ) (cs : Text) → AreAll is_blank (b ∷ bs) → is_blank c ≡ false → gap_at ((b ∷ bs) ++ (c ∷ cs)) ≡ Some (tt, c ∷ cs)
 unfolding gap_at some_blanks_at
-gap_of_blanks b bs c cs each h = rw (run_again is_blank (b ∷ bs) (c ∷ cs) each h, some_blank b bs) refl
+gap_of_blanks b bs c cs each h = rw (many_again is_blank (b ∷ bs) (c ∷ cs) each h, some_blank b bs) refl
 
 no_gap : (c : ℕ) (cs : Text) → is_blank c ≡ false → is_t c ≡ false → gap_at (c ∷ cs) ≡ None
 unfolding gap_at some_blanks_at
-no_gap c cs h k = rw (run_stops is_blank (c ∷ cs) h, no_t c cs k) refl
+no_gap c cs h k = rw (many_stops is_blank (c ∷ cs) h, no_t c cs k) refl
 
 pub sign_closes : (bs : Text) (c : ℕ) (cs : Text) → AreAll is_blank bs → Ends c → Closes (bs ++ (c ∷ cs))
 unfolding time_at

@@ -23,7 +23,7 @@ use Rattle.mob_scalar.specs.declared.stamp.Clock.{Clock}
 use Rattle.mob_scalar.specs.declared.stamp.Stamp.{Stamp}
 use Rattle.mob_numeral.specs.Figures.{figures}
 use Rattle.mob_scalar.specs.Calendar.{fixed, date, is_civil, day_of, date_of, IsInYears}
-use Rattle.mob_scalar.specs.Moment.{up_to, part, point_part, is_point_part, fraction_part, is_fraction_part, part_of, clock, zone, utc, time, moment, seconds, is_year_second, is_in_years, instant}
+use Rattle.mob_scalar.specs.Moment.{two_digits_below, part, point_part, is_point_part, fraction_part, is_fraction_part, part_of, clock, zone, utc, time, moment, seconds, is_year_second, is_in_years, instant}
 use Rattle.mob_scalar.specs.MomentText.{padded, date_text, clock_text, places, quotient_text, decimals_text, part_in, part_text, stamp_text, second_text, moment_text, whole_seconds, part_numerator, second_of, HasDate}
 use Rattle.mob_numeral.specs.Verdict.{Lit}
 use Rattle.mob_scalar.specs.Moments.{moments}
@@ -154,20 +154,20 @@ part_said numerator denominator below fits = said (places denominator) refl
     said (Some zero) e = nothing_said numerator denominator below (placed denominator 0 e).below
     said (Some (suc k)) e = let p = placed denominator (suc k) e in decimals_said (suc k) numerator denominator (omega arith) p.most below p.divides
 
-up_to_said : (limit n : ℕ) → n < limit → limit ≤ 60 → up_to limit (padded 2 n) n
-up_to_said limit n lt le = record { said = fixed_said 2 n (omega arith) (omega arith) (omega (arith, lt, le)); holds = search rules }
+two_digits_below_said : (limit n : ℕ) → n < limit → limit ≤ 60 → two_digits_below limit (padded 2 n) n
+two_digits_below_said limit n lt le = record { said = fixed_said 2 n (omega arith) (omega arith) (omega (arith, lt, le)); holds = search rules }
 
 clock_said : (s : ℕ) (text : Text) (o : Option Part) → s < 86400 → Maybe part text o → clock (clock_text s ++ text) (record { seconds = s; part = part_of o })
 unfolding clock_text
 clock_said s text o lt said = record {
   meant = (hour, (minute, Some (second, o)));
-  said = subst (λ (t : Text). (up_to 24 ▷ (behind (codes ":") (up_to 60) ▷ Maybe (behind (codes ":") (up_to 60 ▷ Maybe part)))) t (hour, (minute, Some (second, o)))) (sym regrouped)
+  said = subst (λ (t : Text). (two_digits_below 24 ▷ (behind (codes ":") (two_digits_below 60) ▷ Maybe (behind (codes ":") (two_digits_below 60 ▷ Maybe part)))) t (hour, (minute, Some (second, o)))) (sym regrouped)
       (then_said (padded 2 hour) (codes ":" ++ (padded 2 minute ++ (codes ":" ++ (padded 2 second ++ text)))) hour (minute, Some (second, o))
-      (up_to_said 24 hour (omega (arith, lt)) (omega arith))
+      (two_digits_below_said 24 hour (omega (arith, lt)) (omega arith))
       (then_said (codes ":" ++ padded 2 minute) (codes ":" ++ (padded 2 second ++ text)) minute (Some (second, o))
-      (behind_said (codes ":") (padded 2 minute) minute (up_to_said 60 minute (omega arith) (omega arith)))
+      (behind_said (codes ":") (padded 2 minute) minute (two_digits_below_said 60 minute (omega arith) (omega arith)))
       (behind_said (codes ":") (padded 2 second ++ text) (second, o)
-      (then_said (padded 2 second) text second o (up_to_said 60 second (omega arith) (omega arith)) said))));
+      (then_said (padded 2 second) text second o (two_digits_below_said 60 second (omega arith) (omega arith)) said))));
   is = ap (λ (n : ℕ). record { seconds = n; part = part_of o }) parts;
 }
   where

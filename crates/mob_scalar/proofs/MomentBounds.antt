@@ -8,7 +8,7 @@ use Rattle.mob_scalar.specs.declared.stamp.Clock.{Clock}
 use Rattle.mob_scalar.specs.declared.stamp.Offset.{Offset}
 use Rattle.mob_scalar.specs.declared.stamp.Stamp.{Stamp}
 use Rattle.mob_numeral.specs.NumberValue.{IsSmall}
-use Rattle.mob_scalar.specs.Moment.{IsPartSmall, part, clock, time, moment, is_fraction_part, second_part, part_of, up_to, point_part, fraction_part, stamp_of}
+use Rattle.mob_scalar.specs.Moment.{IsPartSmall, part, clock, time, moment, is_fraction_part, second_part, part_of, two_digits_below, point_part, fraction_part, stamp_of}
 use Rattle.mob_numeral.proofs.Bounded.{digits_small, small_lt}
 
 none_small : IsPartSmall (record { numerator = 0; denominator = 1 })
@@ -33,7 +33,7 @@ maybe_small : (text : Text) (o : Option Part) → Maybe part text o → IsPartSm
 maybe_small text None h = none_small
 maybe_small text (Some p) h = part_small text p h
 
-seconds_small : (text : Text) (o : Option (ℕ × Option Part)) → Maybe (behind (codes ":") (up_to 60 ▷ Maybe part)) text o → IsPartSmall (second_part o)
+seconds_small : (text : Text) (o : Option (ℕ × Option Part)) → Maybe (behind (codes ":") (two_digits_below 60 ▷ Maybe part)) text o → IsPartSmall (second_part o)
 seconds_small text None h = none_small
 seconds_small text (Some v) h = subst (λ (x : ℕ × Option Part). IsPartSmall (part_of x.1)) (sym h.is) (maybe_small h.said.second.back h.meant.1.1 h.said.second.second)
 

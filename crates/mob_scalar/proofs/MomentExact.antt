@@ -2,10 +2,10 @@
 use Rattle.std.proofs.Common.{◌≡◌, ℕ, suc, [], ◌∷◌, length, Bool, true, false, Option, None, refl, sym, ap, subst, ◌∙◌, arith, rules, codes}
 use Rattle.std.specs.Prelude.{◌||◌, nat_eq}
 use Rattle.std.proofs.lemmas.Bool.{eqb-true}
-use Rattle.mob_language.specs.Language.{Text, Language, ◌▷◌, Maybe, Means, Where, Word, OneOf, Run, behind, is_blank, is_digit, is_number_sign}
+use Rattle.mob_language.specs.Language.{Text, Language, ◌▷◌, Maybe, Means, Where, Word, OneOf, ManyOf, behind, is_blank, is_digit, is_number_sign}
 use Rattle.mob_language.specs.Readers.{TextReader, then_at, maybe_at, word_at, behind_at}
-use Rattle.mob_language.proofs.Exact.{Exact, Stops, then_exact, maybe_exact, means_exact, where_exact, one_exact, word_exact, run_exact, run_stops}
-use Rattle.mob_language.proofs.Heads.{NoHead, Apart, Nothing, HasByte, exact_less, stops_less, stops_both, then_head, word_then_head, one_then_head, or_head, maybe_head, means_head, where_head, word_head, one_head, run_head, one_nothing, word_nothing, then_nothing, means_nothing, where_nothing, or_nothing, then_stops, after_any, maybe_stops, or_stops, then_byte, means_byte, where_byte, then_byte_stops, byte_head, one_byte, or_byte}
+use Rattle.mob_language.proofs.Exact.{Exact, Stops, then_exact, maybe_exact, means_exact, where_exact, one_exact, word_exact, many_exact, many_stops}
+use Rattle.mob_language.proofs.Heads.{NoHead, Apart, Nothing, HasByte, exact_less, stops_less, stops_both, then_head, word_then_head, one_then_head, or_head, maybe_head, means_head, where_head, word_head, one_head, many_head, one_nothing, word_nothing, then_nothing, means_nothing, where_nothing, or_nothing, then_stops, after_any, maybe_stops, or_stops, then_byte, means_byte, where_byte, then_byte_stops, byte_head, one_byte, or_byte}
 use Rattle.mob_numeral.specs.declared.numeral.Figures.{Figures}
 use Rattle.mob_scalar.specs.declared.stamp.Part.{Part}
 use Rattle.mob_scalar.specs.declared.stamp.Offset.{Offset}
@@ -13,8 +13,8 @@ use Rattle.mob_numeral.specs.Figures.{digits}
 use Rattle.mob_numeral.specs.NumberReaders.{digits_at}
 use Rattle.mob_scalar.specs.Calendar.{has_count, number_in, fixed, civil_of, is_civil, date}
 use Rattle.mob_scalar.specs.CalendarReaders.{fixed_at, dash_at, date_at}
-use Rattle.mob_scalar.specs.Moment.{is_below, up_to, point_part, is_point_part, fraction_part, is_fraction_part, part, clock_of, clock, offset_of, utc, is_z, zone, is_t, is_some_text, gap, time_of, time, stamp_of, is_in_years, moment}
-use Rattle.mob_scalar.specs.MomentReaders.{up_to_at, colon_at, decimals_at, below_at, quotient_at, second_part_at, seconds_at, clock_at, z_at, hours_at, zone_at, some_blanks_at, t_at, gap_at, time_at, moment_at}
+use Rattle.mob_scalar.specs.Moment.{is_below, two_digits_below, point_part, is_point_part, fraction_part, is_fraction_part, part, clock_of, clock, offset_of, utc, is_z, zone, is_t, is_some_text, gap, time_of, time, stamp_of, is_in_years, moment}
+use Rattle.mob_scalar.specs.MomentReaders.{two_digits_below_at, colon_at, decimals_at, below_at, quotient_at, second_part_at, seconds_at, clock_at, z_at, hours_at, zone_at, some_blanks_at, t_at, gap_at, time_at, moment_at}
 use Rattle.mob_numeral.proofs.NumberExact.{digits_base, left, right}
 
 same : (c : ℕ) → is_digit c ≡ false → is_digit c ≡ false
@@ -99,13 +99,13 @@ date_exact = where_exact is_civil (means_exact civil_of (then_stops (fixed_exact
     (then_stops dash_exact dash_exact same (marked_head 45 [] (fixed 2) is_digit refl)) same
     (then_head (marked_head 45 [] (fixed 2) is_digit refl) (marked_head 45 [] (fixed 2) is_digit refl))))
 
-up_to_exact : (k : ℕ) → Exact (up_to k) (up_to_at k) (Stops is_digit)
-unfolding up_to_at
-up_to_exact k = where_exact (is_below k) (fixed_exact 2)
+two_digits_below_exact : (k : ℕ) → Exact (two_digits_below k) (two_digits_below_at k) (Stops is_digit)
+unfolding two_digits_below_at
+two_digits_below_exact k = where_exact (is_below k) (fixed_exact 2)
 
-colon_exact : Exact (behind (codes ":") (up_to 60)) colon_at (Stops is_digit)
+colon_exact : Exact (behind (codes ":") (two_digits_below 60)) colon_at (Stops is_digit)
 unfolding colon_at
-colon_exact = marked_exact 58 [] (up_to_exact 60)
+colon_exact = marked_exact 58 [] (two_digits_below_exact 60)
 
 point : Language Part
 point = Means point_part (Where is_point_part (behind (codes ".") digits))
@@ -151,31 +151,31 @@ unfolding point quotient
 part_head = or_head (means_head (where_head (marked_head 46 [] digits is_digit refl))) (quotient_head is_digit refl)
 
 seconds_language : Language (ℕ × Option Part)
-seconds_language = behind (codes ":") (up_to 60 ▷ Maybe part)
+seconds_language = behind (codes ":") (two_digits_below 60 ▷ Maybe part)
 
 seconds_exact : Exact seconds_language seconds_at (Stops clock_on)
 unfolding seconds_language seconds_at
-seconds_exact = marked_exact 58 [] (then_stops (up_to_exact 60) (maybe_stops part_exact part_none) clock_digit (maybe_head part_head))
+seconds_exact = marked_exact 58 [] (then_stops (two_digits_below_exact 60) (maybe_stops part_exact part_none) clock_digit (maybe_head part_head))
 
 seconds_none : Nothing seconds_at clock_on
 unfolding seconds_at
-seconds_none = λ rest s. marked_none 58 [] (then_at (up_to_at 60) (maybe_at second_part_at)) rest (stops_less clock_on (λ c. nat_eq c 58) clock_colon rest s)
+seconds_none = λ rest s. marked_none 58 [] (then_at (two_digits_below_at 60) (maybe_at second_part_at)) rest (stops_less clock_on (λ c. nat_eq c 58) clock_colon rest s)
 
 seconds_head : NoHead seconds_language is_digit
 unfolding seconds_language
-seconds_head = marked_head 58 [] (up_to 60 ▷ Maybe part) is_digit refl
+seconds_head = marked_head 58 [] (two_digits_below 60 ▷ Maybe part) is_digit refl
 
 clock_exact : Exact clock clock_at (Stops clock_on)
 unfolding clock_at seconds_language
-clock_exact = means_exact clock_of (then_stops (up_to_exact 24)
+clock_exact = means_exact clock_of (then_stops (two_digits_below_exact 24)
     (then_stops colon_exact (maybe_stops seconds_exact seconds_none) clock_digit (maybe_head seconds_head)) clock_digit
-    (then_head (marked_head 58 [] (up_to 60) is_digit refl) (maybe_head seconds_head)))
+    (then_head (marked_head 58 [] (two_digits_below 60) is_digit refl) (maybe_head seconds_head)))
 
 z_language : Language Offset
 z_language = Means (λ (c : ℕ). utc) (OneOf is_z)
 
 hours_language : Language Offset
-hours_language = Means offset_of (OneOf is_number_sign ▷ (up_to 16 ▷ Maybe (behind (codes ":") (up_to 60))))
+hours_language = Means offset_of (OneOf is_number_sign ▷ (two_digits_below 16 ▷ Maybe (behind (codes ":") (two_digits_below 60))))
 
 z_exact : Exact z_language z_at (Stops moment_on)
 unfolding z_language z_at
@@ -186,13 +186,13 @@ moment_digit c e = clock_digit c (moment_clock c e)
 
 colon_none : Nothing colon_at moment_on
 unfolding colon_at
-colon_none = λ rest s. marked_none 58 [] (up_to_at 60) rest (stops_less moment_on (λ c. nat_eq c 58) (λ c e. clock_colon c (moment_clock c e)) rest s)
+colon_none = λ rest s. marked_none 58 [] (two_digits_below_at 60) rest (stops_less moment_on (λ c. nat_eq c 58) (λ c e. clock_colon c (moment_clock c e)) rest s)
 
 hours_exact : Exact hours_language hours_at (Stops moment_on)
 unfolding hours_language hours_at
-hours_exact = means_exact offset_of (after_any (one_exact is_number_sign) (then_stops (up_to_exact 16)
+hours_exact = means_exact offset_of (after_any (one_exact is_number_sign) (then_stops (two_digits_below_exact 16)
     (maybe_stops (exact_less colon_exact (stops_less moment_on is_digit moment_digit)) colon_none) moment_digit
-    (maybe_head (marked_head 58 [] (up_to 60) is_digit refl))))
+    (maybe_head (marked_head 58 [] (two_digits_below 60) is_digit refl))))
 
 z_none : Nothing z_at is_z
 unfolding z_at
@@ -200,7 +200,7 @@ z_none = means_nothing (λ (c : ℕ). utc) (one_nothing is_z)
 
 hours_none : Nothing hours_at is_number_sign
 unfolding hours_at
-hours_none = means_nothing offset_of (then_nothing (then_at (up_to_at 16) (maybe_at colon_at)) (one_nothing is_number_sign))
+hours_none = means_nothing offset_of (then_nothing (then_at (two_digits_below_at 16) (maybe_at colon_at)) (one_nothing is_number_sign))
 
 hours_head : (test : ℕ → Bool) → Apart is_number_sign test → NoHead hours_language test
 unfolding hours_language
@@ -219,15 +219,15 @@ unfolding hours_language
 zone_head = or_head (means_head (one_head z_apart)) (hours_head clock_on sign_apart)
 
 blanks_language : Language Unit
-blanks_language = Means (λ (c : Text). tt) (Where is_some_text (Run is_blank))
+blanks_language = Means (λ (c : Text). tt) (Where is_some_text (ManyOf is_blank))
 
 blanks_exact : Exact blanks_language some_blanks_at (Stops is_blank)
 unfolding blanks_language some_blanks_at
-blanks_exact = means_exact (λ (c : Text). tt) (where_exact is_some_text (run_exact is_blank))
+blanks_exact = means_exact (λ (c : Text). tt) (where_exact is_some_text (many_exact is_blank))
 
 blanks_none : Nothing some_blanks_at is_blank
 unfolding some_blanks_at
-blanks_none rest s = rw (run_stops is_blank rest s) refl
+blanks_none rest s = rw (many_stops is_blank rest s) refl
 
 gap_exact : Exact gap gap_at (Stops is_blank)
 unfolding gap_at t_at blanks_language
@@ -248,11 +248,11 @@ clock_byte : HasByte clock
 clock_byte = means_byte clock_of (then_byte _ (where_byte (is_below 24) (fixed_byte 1)))
 
 fixed_head : (k : ℕ) → NoHead (fixed k) is_blank
-fixed_head k = means_head (where_head (means_head (where_head (run_head digit_blank))))
+fixed_head k = means_head (where_head (means_head (where_head (many_head digit_blank))))
 
 clock_head : NoHead clock is_blank
 unfolding seconds_language
-clock_head = means_head (then_head (where_head (fixed_head 2)) (then_head (marked_head 58 [] (up_to 60) is_blank refl) (maybe_head (marked_head 58 [] (up_to 60 ▷ Maybe part) is_blank refl))))
+clock_head = means_head (then_head (where_head (fixed_head 2)) (then_head (marked_head 58 [] (two_digits_below 60) is_blank refl) (maybe_head (marked_head 58 [] (two_digits_below 60 ▷ Maybe part) is_blank refl))))
 
 z_no_blank : Apart is_z is_blank
 z_no_blank c e = search rules
@@ -277,12 +277,12 @@ blanks_byte = means_byte (λ (c : Text). tt) some_byte
     none : is_some_text [] ≡ true → ⊥
     none h = absurd cc
 
-    some_byte : HasByte (Where is_some_text (Run is_blank))
+    some_byte : HasByte (Where is_some_text (ManyOf is_blank))
     some_byte text v said e = none (subst (λ (t : Text). is_some_text t ≡ true) (sym said.said.is ∙ e) said.holds)
 
 time_head : NoHead time is_digit
 unfolding blanks_language
-time_head = means_head (byte_head (clock ▷ Maybe zone) (or_head (means_head (where_head (run_head blank_digit))) (means_head (one_head t_digit))) (or_byte blanks_byte (means_byte (λ (c : ℕ). tt) (one_byte is_t))))
+time_head = means_head (byte_head (clock ▷ Maybe zone) (or_head (means_head (where_head (many_head blank_digit))) (means_head (one_head t_digit))) (or_byte blanks_byte (means_byte (λ (c : ℕ). tt) (one_byte is_t))))
 
 -- a moment may stand before such a rest
 pub record Closes (rest : Text) : Type 0 where

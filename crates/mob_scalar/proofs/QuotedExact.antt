@@ -4,8 +4,8 @@ use Rattle.std.specs.Prelude.{◌||◌, nat_eq}
 use Rattle.std.specs.Str.{is_utf8}
 use Rattle.std.proofs.lemmas.Bool.{and_parts as both, eqb-true, not-true as not_true, or_parts}
 use Rattle.mob_language.specs.Language.{Text, AreAll, is_blank}
-use Rattle.mob_language.specs.Readers.{◌>>=◌, behind_at, word_at, run_of}
-use Rattle.mob_language.proofs.Exact.{Reads, Exact, Stops, Any, bind_some, some_is, or_exact, where_exact, run_again, run_parts, word_exact}
+use Rattle.mob_language.specs.Readers.{◌>>=◌, behind_at, word_at, split_while}
+use Rattle.mob_language.proofs.Exact.{Reads, Exact, Stops, Any, bind_some, some_is, or_exact, where_exact, many_again, split_parts, word_exact}
 use Rattle.mob_language.proofs.Heads.{NoHead, Nothing, HasByte, exact_less, byte_stops, word_nothing, then_nothing, means_nothing, where_head, or_head, where_byte, or_byte}
 use Rattle.mob_scalar.specs.Quoted.{is_escaped, escaped, quoted_text, quoted, is_plain, begins_well, ends_well, is_bare, bare, text_value, put_first, unescaped_at, quoted_at, put_before, trimmed, bare_of, bare_at, text_value_at}
 
@@ -158,11 +158,11 @@ pub bare_exact : Exact bare bare_at Behind
 unfolding bare_at
 bare_exact = record {
   sound = λ text rest v e.
-      let run = run_of is_plain text in
+      let run = split_while is_plain text in
       let parts = trimmed run.0 in
       let g = guard (is_bare parts.0) (Some (parts.0, parts.1 ++ run.1)) (v, rest) e in
       let is : ◌≡◌ {A = Text × Text} (parts.0, parts.1 ++ run.1) (v, rest) = some_is _ _ g.1 in
-      let h = run_parts is_plain text in
+      let h = split_parts is_plain text in
       let w = trim_whole run.0 in
       subst (λ (x : Text × Text). Reads bare text x.1 x.0) is (record {
         front = parts.0;
@@ -172,7 +172,7 @@ bare_exact = record {
   complete = λ text rest v said after.
       let each : AreAll is_plain (v ++ after.blanks) = are_append is_plain v after.blanks said.said.each (are_less is_blank is_plain blank_plain after.blanks after.each) in
       let e : text ++ rest ≡ (v ++ after.blanks) ++ after.more = ap (λ (t : Text). t ++ rest) said.said.is ∙ ap (λ (t : Text). v ++ t) after.is ∙ sym (append_assoc v after.blanks after.more) in
-      let run : run_of is_plain (text ++ rest) ≡ (v ++ after.blanks, after.more) = ap (run_of is_plain) e ∙ run_again is_plain (v ++ after.blanks) after.more each after.stops in
+      let run : split_while is_plain (text ++ rest) ≡ (v ++ after.blanks, after.more) = ap (split_while is_plain) e ∙ many_again is_plain (v ++ after.blanks) after.more each after.stops in
       let ends = (both (begins_well v) (ends_well v) said.holds).1 in
       ap (λ (x : Text × Text). bare_of (trimmed x.0) x.1) run ∙ ap (λ (x : Text × Text). bare_of x after.more) (trim_again v after.blanks ends after.each)
       ∙ chosen (is_bare v) said.holds (v, after.blanks ++ after.more) ∙ ap (λ (t : Text). Some (v, t)) (sym after.is);

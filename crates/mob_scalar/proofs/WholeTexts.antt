@@ -1,15 +1,15 @@
 -- Whole texts of moments and truth values, with blanks at their ends, are read exactly.
 use Rattle.std.proofs.Common.{◌≡◌, ℕ, [], ◌∷◌, ◌++◌, Bool, true, Some, None, refl, sym, subst, ◌∙◌, rules}
 use Rattle.std.specs.Char.{is_ascii_alphabetic}
-use Rattle.mob_language.specs.Language.{Text, Maybe, Where, Run, AreAll, is_blank, within_blanks, is_digit}
+use Rattle.mob_language.specs.Language.{Text, Maybe, Where, ManyOf, AreAll, is_blank, within_blanks, is_digit}
 use Rattle.mob_language.specs.Readers.{within_blanks_at}
-use Rattle.mob_language.proofs.Exact.{Exact, Stops, means_exact, where_exact, run_exact, run_again}
-use Rattle.mob_language.proofs.Heads.{NoHead, Apart, HasByte, IsEnd, means_head, where_head, run_head, byte_head, means_byte, then_byte, where_byte, within_exact, blanks_stop}
+use Rattle.mob_language.proofs.Exact.{Exact, Stops, means_exact, where_exact, many_exact, many_again}
+use Rattle.mob_language.proofs.Heads.{NoHead, Apart, HasByte, IsEnd, means_head, where_head, many_head, byte_head, means_byte, then_byte, where_byte, within_exact, blanks_stop}
 use Rattle.mob_numeral.specs.NumberReaders.{digits_at}
 use Rattle.mob_scalar.specs.Calendar.{date, fixed, civil_of, is_civil}
 use Rattle.mob_scalar.specs.CalendarReaders.{fixed_at}
 use Rattle.mob_scalar.specs.Moment.{moment, time, stamp_of, is_in_years, is_some_text}
-use Rattle.mob_scalar.specs.MomentReaders.{moment_at, time_at, clock_at, up_to_at, gap_at, some_blanks_at}
+use Rattle.mob_scalar.specs.MomentReaders.{moment_at, time_at, clock_at, two_digits_below_at, gap_at, some_blanks_at}
 use Rattle.mob_scalar.specs.Truth.{truth, truth_at, is_truth, is_word_true}
 use Rattle.mob_scalar.proofs.MomentExact.{Closes, moment_exact, moment_on, fixed_byte, nothing_closes}
 
@@ -26,7 +26,7 @@ pub moment_head : (test : ℕ → Bool) → Apart is_digit test → NoHead momen
 moment_head test d = where_head (means_head (byte_head (Maybe time) date_head date_byte))
   where
     year_head : NoHead (fixed 4) test
-    year_head = means_head (where_head (means_head (where_head (run_head d))))
+    year_head = means_head (where_head (means_head (where_head (many_head d))))
 
     date_head : NoHead date test
     date_head = where_head (means_head (byte_head _ year_head (fixed_byte 3)))
@@ -44,12 +44,12 @@ some_blank : (b : ℕ) (bs : Text) → is_some_text (b ∷ bs) ≡ true
 some_blank b bs = search rules
 
 no_clock : clock_at [] ≡ None
-unfolding clock_at up_to_at fixed_at digits_at
+unfolding clock_at two_digits_below_at fixed_at digits_at
 no_clock = refl
 
 gap_to_end : (b : ℕ) (bs : Text) → AreAll is_blank (b ∷ bs) → gap_at ((b ∷ bs) ++ []) ≡ Some (tt, [])
 unfolding gap_at some_blanks_at
-gap_to_end b bs each = rw (run_again is_blank (b ∷ bs) [] each tt, some_blank b bs) refl
+gap_to_end b bs each = rw (many_again is_blank (b ∷ bs) [] each tt, some_blank b bs) refl
 
 -- blanks to the end may stand behind a moment
 pub blanks_close : (bs : Text) → AreAll is_blank bs → Closes (bs ++ [])
@@ -67,7 +67,7 @@ moment_whole = within_exact moment_exact moment_blank moment_byte blanks_close
 
 pub truth_exact : Exact truth truth_at (Stops is_ascii_alphabetic)
 unfolding truth_at
-truth_exact = means_exact is_word_true (where_exact is_truth (run_exact is_ascii_alphabetic))
+truth_exact = means_exact is_word_true (where_exact is_truth (many_exact is_ascii_alphabetic))
 
 blank_letter : Apart is_blank is_ascii_alphabetic
 blank_letter c e = search rules
@@ -76,7 +76,7 @@ letter_blank : Apart is_ascii_alphabetic is_blank
 letter_blank c e = search rules
 
 pub truth_head : (test : ℕ → Bool) → Apart is_ascii_alphabetic test → NoHead truth test
-truth_head test h = means_head (where_head (run_head h))
+truth_head test h = means_head (where_head (many_head h))
 
 pub truth_byte : HasByte truth
 truth_byte = means_byte is_word_true some_byte
@@ -84,7 +84,7 @@ truth_byte = means_byte is_word_true some_byte
     none : is_truth [] ≡ true → ⊥
     none h = absurd cc
 
-    some_byte : HasByte (Where is_truth (Run is_ascii_alphabetic))
+    some_byte : HasByte (Where is_truth (ManyOf is_ascii_alphabetic))
     some_byte text v said e = none (subst (λ (t : Text). is_truth t ≡ true) (sym said.said.is ∙ e) said.holds)
 
 pub truth_whole : Exact (within_blanks truth) (within_blanks_at truth_at) IsEnd

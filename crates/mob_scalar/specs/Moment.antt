@@ -2,7 +2,7 @@
 use Rattle.std.specs.Prelude.{ℕ, ◌+◌, ◌*◌, ◌^◌, ◌<◌, length, codes, Bool, false, ◌&&◌, ◌||◌, cond, nat_le, nat_lt, nat_eq, Option, Some, None, ℤ, pos, neg_ℤ, ◌+ℤ◌, ◌-ℤ◌, ◌*ℤ◌}
 use Rattle.std.specs.Int.Signed.{le_z}
 use Rattle.mob_ratio.specs.Ratio.{Ratio, over, whole, ◌+ℚ◌}
-use Rattle.mob_language.specs.Language.{Text, Language, ◌▷◌, ◌∣◌, Maybe, Means, Where, Word, OneOf, Run, behind, is_blank, is_number_sign}
+use Rattle.mob_language.specs.Language.{Text, Language, ◌▷◌, ◌∣◌, Maybe, Means, Where, Word, OneOf, ManyOf, behind, is_blank, is_number_sign}
 use Rattle.mob_numeral.specs.declared.numeral.Figures.{Figures}
 use Rattle.mob_scalar.specs.declared.civil.Civil.{Civil}
 use Rattle.mob_scalar.specs.declared.stamp.Part.{Part}
@@ -15,8 +15,8 @@ use Rattle.mob_scalar.specs.Calendar.{fixed, date, day_of}
 abbrev pub is_below : ℕ → ℕ → Bool
 is_below limit n = nat_lt n limit
 
-abbrev pub up_to : ℕ → Language ℕ
-up_to limit = Where (is_below limit) (fixed 2)
+abbrev pub two_digits_below : ℕ → Language ℕ
+two_digits_below limit = Where (is_below limit) (fixed 2)
 
 abbrev pub point_part : Figures → Part
 point_part f = record { numerator = f.value; denominator = 10 ^ f.count }
@@ -52,7 +52,7 @@ clock_of v = record { seconds = v.0 * 3600 + v.1.0 * 60 + seconds_of v.1.1; part
 
 -- HH:MM, perhaps :SS, perhaps a part of a second
 abbrev pub clock : Language Clock
-clock = Means clock_of (up_to 24 ▷ (behind (codes ":") (up_to 60) ▷ Maybe (behind (codes ":") (up_to 60 ▷ Maybe part))))
+clock = Means clock_of (two_digits_below 24 ▷ (behind (codes ":") (two_digits_below 60) ▷ Maybe (behind (codes ":") (two_digits_below 60 ▷ Maybe part))))
 
 abbrev pub is_west : ℕ → Bool
 is_west c = nat_eq c 45
@@ -72,7 +72,7 @@ is_z c = nat_eq c 90 || nat_eq c 122
 
 -- Z, or a sign and HH, or a sign and HH:MM
 abbrev pub zone : Language Offset
-zone = Means (λ (c : ℕ). utc) (OneOf is_z) ∣ Means offset_of (OneOf is_number_sign ▷ (up_to 16 ▷ Maybe (behind (codes ":") (up_to 60))))
+zone = Means (λ (c : ℕ). utc) (OneOf is_z) ∣ Means offset_of (OneOf is_number_sign ▷ (two_digits_below 16 ▷ Maybe (behind (codes ":") (two_digits_below 60))))
 
 abbrev pub is_t : ℕ → Bool
 is_t c = nat_eq c 84 || nat_eq c 116
@@ -82,7 +82,7 @@ is_some_text text = nat_lt 0 (length text)
 
 -- one blank or more, or a T
 abbrev pub gap : Language Unit
-gap = Means (λ (c : Text). tt) (Where is_some_text (Run is_blank)) ∣ Means (λ (c : ℕ). tt) (OneOf is_t)
+gap = Means (λ (c : Text). tt) (Where is_some_text (ManyOf is_blank)) ∣ Means (λ (c : ℕ). tt) (OneOf is_t)
 
 abbrev pub zone_of : Option Offset → Offset
 zone_of None = utc

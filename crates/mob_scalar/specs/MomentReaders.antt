@@ -1,7 +1,7 @@
 -- The readers of the languages of moments.
 use Rattle.std.specs.Prelude.{ℕ, codes, Option, Some}
 use Rattle.mob_language.specs.Language.{Text, is_blank, is_number_sign}
-use Rattle.mob_language.specs.Readers.{TextReader, ◌>>=◌, then_at, or_at, maybe_at, means_at, where_at, word_at, one_at, run_at, behind_at}
+use Rattle.mob_language.specs.Readers.{TextReader, ◌>>=◌, then_at, or_at, maybe_at, means_at, where_at, word_at, one_at, many_at, behind_at}
 use Rattle.mob_numeral.specs.declared.numeral.Figures.{Figures}
 use Rattle.mob_scalar.specs.declared.stamp.Part.{Part}
 use Rattle.mob_scalar.specs.declared.stamp.Clock.{Clock}
@@ -11,11 +11,11 @@ use Rattle.mob_numeral.specs.NumberReaders.{digits_at}
 use Rattle.mob_scalar.specs.CalendarReaders.{fixed_at, date_at}
 use Rattle.mob_scalar.specs.Moment.{is_below, point_part, is_point_part, fraction_part, is_fraction_part, clock_of, offset_of, utc, is_z, is_t, is_some_text, time_of, stamp_of, is_in_years}
 
-unfoldable pub up_to_at : ℕ → TextReader ℕ
-up_to_at limit = where_at (is_below limit) (fixed_at 2)
+unfoldable pub two_digits_below_at : ℕ → TextReader ℕ
+two_digits_below_at limit = where_at (is_below limit) (fixed_at 2)
 
 unfoldable pub colon_at : TextReader ℕ
-colon_at = behind_at (codes ":") (up_to_at 60)
+colon_at = behind_at (codes ":") (two_digits_below_at 60)
 
 unfoldable pub decimals_at : TextReader Part
 decimals_at = means_at point_part (where_at is_point_part (behind_at (codes ".") digits_at))
@@ -30,22 +30,22 @@ unfoldable pub second_part_at : TextReader Part
 second_part_at = or_at decimals_at quotient_at
 
 unfoldable pub seconds_at : TextReader (ℕ × Option Part)
-seconds_at = behind_at (codes ":") (then_at (up_to_at 60) (maybe_at second_part_at))
+seconds_at = behind_at (codes ":") (then_at (two_digits_below_at 60) (maybe_at second_part_at))
 
 unfoldable pub clock_at : TextReader Clock
-clock_at = means_at clock_of (then_at (up_to_at 24) (then_at colon_at (maybe_at seconds_at)))
+clock_at = means_at clock_of (then_at (two_digits_below_at 24) (then_at colon_at (maybe_at seconds_at)))
 
 unfoldable pub z_at : TextReader Offset
 z_at = means_at (λ (c : ℕ). utc) (one_at is_z)
 
 unfoldable pub hours_at : TextReader Offset
-hours_at = means_at offset_of (then_at (one_at is_number_sign) (then_at (up_to_at 16) (maybe_at colon_at)))
+hours_at = means_at offset_of (then_at (one_at is_number_sign) (then_at (two_digits_below_at 16) (maybe_at colon_at)))
 
 unfoldable pub zone_at : TextReader Offset
 zone_at = or_at z_at hours_at
 
 unfoldable pub some_blanks_at : TextReader Unit
-some_blanks_at = means_at (λ (c : Text). tt) (where_at is_some_text (run_at is_blank))
+some_blanks_at = means_at (λ (c : Text). tt) (where_at is_some_text (many_at is_blank))
 
 unfoldable pub t_at : TextReader Unit
 t_at = means_at (λ (c : ℕ). tt) (one_at is_t)
@@ -61,4 +61,4 @@ moment_at = where_at is_in_years (means_at stamp_of (then_at date_at (maybe_at t
 
 -- an offset behind its sign
 abbrev pub after_sign_in : ℕ → Text → Option (Offset × Text)
-after_sign_in c text = then_at (up_to_at 16) (maybe_at colon_at) text >>= λ x. Some (offset_of (c, x.0), x.1)
+after_sign_in c text = then_at (two_digits_below_at 16) (maybe_at colon_at) text >>= λ x. Some (offset_of (c, x.0), x.1)

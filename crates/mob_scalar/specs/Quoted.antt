@@ -4,8 +4,8 @@
 -- character or more without blanks at its ends and without @ , { } [ ] ( ) and double quotes.
 use Rattle.std.specs.Prelude.{◌≡◌, ℕ, [], ◌∷◌, ◌++◌, codes, Bool, true, false, ◌||◌, ◌&&◌, not, cond, nat_eq, Option, Some, None}
 use Rattle.std.specs.Str.{is_utf8}
-use Rattle.mob_language.specs.Language.{Text, Language, ◌∣◌, Where, Run, is_blank}
-use Rattle.mob_language.specs.Readers.{TextReader, ◌>>=◌, or_at, where_at, behind_at, run_of}
+use Rattle.mob_language.specs.Language.{Text, Language, ◌∣◌, Where, ManyOf, is_blank}
+use Rattle.mob_language.specs.Readers.{TextReader, ◌>>=◌, or_at, where_at, behind_at, split_while}
 
 -- a double quote or a backslash
 abbrev pub is_escaped : ℕ → Bool
@@ -41,7 +41,7 @@ abbrev pub is_bare : Text → Bool
 is_bare v = begins_well v && ends_well v
 
 abbrev pub bare : Language Text
-bare = Where is_bare (Run is_plain)
+bare = Where is_bare (ManyOf is_plain)
 
 -- a value of a ttext; like all text it is UTF-8
 abbrev pub text_value : Language Text
@@ -74,7 +74,7 @@ abbrev pub bare_of : Text × Text → Text → Option (Text × Text)
 bare_of parts rest = cond (is_bare parts.0) (Some (parts.0, parts.1 ++ rest)) None
 
 unfoldable pub bare_at : TextReader Text
-bare_at text = bare_of (trimmed (run_of is_plain text).0) (run_of is_plain text).1
+bare_at text = bare_of (trimmed (split_while is_plain text).0) (split_while is_plain text).1
 
 unfoldable pub text_value_at : TextReader Text
 text_value_at = where_at is_utf8 (or_at quoted_at bare_at)

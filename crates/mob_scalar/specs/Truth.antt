@@ -2,8 +2,8 @@
 use Rattle.std.specs.Prelude.{◌≡◌, Bool, codes, ◌||◌, cond}
 use Rattle.std.specs.Char.{is_ascii_alphabetic}
 use Rattle.std.specs.Str.{str_eq_ignore_ascii_case}
-use Rattle.mob_language.specs.Language.{Text, Language, Means, Where, Run, within_blanks}
-use Rattle.mob_language.specs.Readers.{TextReader, means_at, where_at, run_at}
+use Rattle.mob_language.specs.Language.{Text, Language, Means, Where, ManyOf, within_blanks}
+use Rattle.mob_language.specs.Readers.{TextReader, means_at, where_at, many_at}
 use Rattle.mob_numeral.specs.Verdict.{TextForm}
 
 abbrev pub is_word_true : Text → Bool
@@ -17,10 +17,10 @@ is_truth word = is_word_true word || is_word_false word
 
 -- letters that are one of these words
 abbrev pub truth : Language Bool
-truth = Means is_word_true (Where is_truth (Run is_ascii_alphabetic))
+truth = Means is_word_true (Where is_truth (ManyOf is_ascii_alphabetic))
 
 unfoldable pub truth_at : TextReader Bool
-truth_at = means_at is_word_true (where_at is_truth (run_at is_ascii_alphabetic))
+truth_at = means_at is_word_true (where_at is_truth (many_at is_ascii_alphabetic))
 
 -- a truth value as it is printed
 abbrev pub truth_text : Bool → Text

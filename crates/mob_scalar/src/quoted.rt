@@ -1,7 +1,7 @@
 //! The values of a ttext as they are written: in double quotes, or bare.
 ghost use Rattle.std.specs.Prelude.{◌≡◌, ◌++◌, Some, IfOk, IfSome, option_map, OnOk, OnErr, string_bytes, length, is_some, encode_utf8, true, false};
 ghost use Rattle.std.specs.Str.{is_utf8};
-ghost use Rattle.mob_language.specs.Readers.{run_of, or_at};
+ghost use Rattle.mob_language.specs.Readers.{split_while, or_at};
 ghost use Rattle.mob_scalar.specs.Quoted.{is_escaped as escapes, is_plain as plain, is_bare as bare, unescaped_at as unescaped_in, quoted_at as quoted_in, bare_at as bare_in, trimmed as trimmed_parts, text_value_at as text_value_in, escaped, quoted_text};
 
 use mob_list::text::Text;
@@ -59,7 +59,7 @@ fn quoted_at(alloc: Global, bytes: &[u8]) -> Result<Option<(Vec<u8>, &[u8])>, Al
 
 /// How many bytes stand in front that are plain, without the blanks at their end.
 fn bare_len(bytes: &[u8]) -> usize
-    ensures value { result ≡ length (trimmed_parts (run_of plain bytes.now).0).0 }
+    ensures value { result ≡ length (trimmed_parts (split_while plain bytes.now).0).0 }
 {
     let mut i = 0;
     let mut end = 0;

@@ -2,7 +2,7 @@
 ghost use Rattle.std.specs.Prelude.{◌≡◌, ◌<◌, ◌^◌, option_map, ℤ, pos, nat_abs, ◌*ℤ◌, ◌+ℤ◌, Option, Some, None, IfSome, true};
 ghost use Rattle.mob_scalar.specs.Calendar.{is_civil as civil};
 ghost use Rattle.mob_scalar.specs.Moment.{stamp_of as stamp_made, clock_of as clock_made, offset_of as offset_made, zone_of as zone_made, is_in_years as in_years, seconds, shift as moved};
-ghost use Rattle.mob_scalar.specs.MomentReaders.{up_to_at as up_to_in, colon_at as colon_in, decimals_at as decimals_in, below_at as below_in, quotient_at as quotient_in, second_part_at, seconds_at as seconds_in, clock_at as clock_in, z_at as z_in, hours_at as hours_in, after_sign_in, zone_at as zone_in, some_blanks_at, t_at as t_in, gap_at as gap_in, time_at as time_in, moment_at as moment_in};
+ghost use Rattle.mob_scalar.specs.MomentReaders.{two_digits_below_at as up_to_in, colon_at as colon_in, decimals_at as decimals_in, below_at as below_in, quotient_at as quotient_in, second_part_at, seconds_at as seconds_in, clock_at as clock_in, z_at as z_in, hours_at as hours_in, after_sign_in, zone_at as zone_in, some_blanks_at, t_at as t_in, gap_at as gap_in, time_at as time_in, moment_at as moment_in};
 
 use crate::civil::{Civil, date_at, day_of, fixed_at};
 use mob_numeral::{Figures, behind, blanks, digits_at, maybe, ten_to};
@@ -45,8 +45,8 @@ pub struct Stamp {
     pub offset: Offset,
 }
 
-#[tactic(auto, unfolding(crate::specs::MomentReaders::up_to_at))]
-fn up_to_at(limit: u128, bytes: &[u8]) -> Option<(u128, &[u8])>
+#[tactic(auto, unfolding(crate::specs::MomentReaders::two_digits_below_at))]
+fn two_digits_below_at(limit: u128, bytes: &[u8]) -> Option<(u128, &[u8])>
     ensures value { option_map (λ x. (x.0, x.1.now)) result ≡ up_to_in limit bytes.now }
     ensures bound { IfSome result (λ x. x.0 < 100) }
 {
@@ -59,7 +59,7 @@ fn colon_at(bytes: &[u8]) -> Option<(u128, &[u8])>
     ensures value { option_map (λ x. (x.0, x.1.now)) result ≡ colon_in bytes.now }
     ensures bound { IfSome result (λ x. x.0 < 100) }
 {
-    up_to_at(60, behind(b':', bytes)?)
+    two_digits_below_at(60, behind(b':', bytes)?)
 }
 
 #[tactic(auto, unfolding(crate::specs::MomentReaders::z_at))]
@@ -130,7 +130,7 @@ fn quotient_at(bytes: &[u8]) -> Option<(Part, &[u8])>
 }
 
 #[tactic(auto, unfolding(crate::specs::MomentReaders::second_part_at))]
-fn part_at(bytes: &[u8]) -> Option<(Part, &[u8])>
+fn second_part_at(bytes: &[u8]) -> Option<(Part, &[u8])>
     ensures value { option_map (λ x. (x.0, x.1.now)) result ≡ second_part_at bytes.now }
 {
     match decimals_at(bytes) {
@@ -144,8 +144,8 @@ fn seconds_at(bytes: &[u8]) -> Option<((u128, Option<Part>), &[u8])>
     ensures value { option_map (λ x. (x.0, x.1.now)) result ≡ seconds_in bytes.now }
     ensures bound { IfSome result (λ x. x.0.0 < 100) }
 {
-    let (seconds, rest) = up_to_at(60, behind(b':', bytes)?)?;
-    let (part, rest) = maybe(part_at(rest), rest);
+    let (seconds, rest) = two_digits_below_at(60, behind(b':', bytes)?)?;
+    let (part, rest) = maybe(second_part_at(rest), rest);
     Some(((seconds, part), rest))
 }
 
@@ -179,7 +179,7 @@ fn clock_from(hour: u128, minute: u128, seconds: Option<(u128, Option<Part>)>) -
 fn clock_at(bytes: &[u8]) -> Option<(Clock, &[u8])>
     ensures value { option_map (λ x. (x.0, x.1.now)) result ≡ clock_in bytes.now }
 {
-    let (hour, rest) = up_to_at(24, bytes)?;
+    let (hour, rest) = two_digits_below_at(24, bytes)?;
     let (minute, rest) = colon_at(rest)?;
     let (seconds, rest) = maybe(seconds_at(rest), rest);
     Some((clock_from(hour, minute, seconds), rest))
@@ -203,7 +203,7 @@ fn offset_from(sign: u8, hours: u128, minutes: Option<u128>) -> Offset
 fn after_sign(sign: u8, bytes: &[u8]) -> Option<(Offset, &[u8])>
     ensures value { option_map (λ x. (x.0, x.1.now)) result ≡ after_sign_in sign bytes.now }
 {
-    let (hours, rest) = up_to_at(16, bytes)?;
+    let (hours, rest) = two_digits_below_at(16, bytes)?;
     let (minutes, rest) = maybe(colon_at(rest), rest);
     Some((offset_from(sign, hours, minutes), rest))
 }
@@ -242,7 +242,7 @@ fn zone_or_utc(zone: Option<Offset>) -> Offset
 }
 
 #[tactic(auto, unfolding(crate::specs::MomentReaders::some_blanks_at))]
-fn blanks_at(bytes: &[u8]) -> Option<((), &[u8])>
+fn some_blanks_at(bytes: &[u8]) -> Option<((), &[u8])>
     ensures value { option_map (λ x. (x.0, x.1.now)) result ≡ some_blanks_at bytes.now }
 {
     let (blanks, rest) = blanks(bytes);
@@ -257,7 +257,7 @@ fn blanks_at(bytes: &[u8]) -> Option<((), &[u8])>
 fn gap_at(bytes: &[u8]) -> Option<((), &[u8])>
     ensures value { option_map (λ x. (x.0, x.1.now)) result ≡ gap_in bytes.now }
 {
-    match blanks_at(bytes) {
+    match some_blanks_at(bytes) {
         Some(found) => Some(found),
         None => t_at(bytes),
     }

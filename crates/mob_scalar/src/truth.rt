@@ -2,19 +2,19 @@
 ghost use Rattle.std.specs.Prelude.{◌≡◌, ◌++◌, Some, option_map, OnOk, OnErr, string_bytes, ◌≢◌, Err};
 ghost use Rattle.std.specs.Char.{is_ascii_alphabetic};
 ghost use Rattle.std.specs.Str.{str_eq_ignore_ascii_case};
-ghost use Rattle.mob_language.specs.Readers.{all_of, run_of, within_blanks_at};
+ghost use Rattle.mob_language.specs.Readers.{all_of, split_while, within_blanks_at};
 ghost use Rattle.mob_scalar.specs.Truth.{truth_at as truth_in, is_word_true as word_true, is_truth as truth_word, truth_text, truths};
 ghost use Rattle.mob_numeral.specs.declared.fault.ReadText.TheVariants.{NoMemory};
 ghost use Rattle.mob_numeral.specs.Verdict.{Lit};
 
-use mob_numeral::{ReadText, split_run, within_blanks};
+use mob_numeral::{ReadText, split_while, within_blanks};
 use std::alloc::AllocError;
 
 /// The letters in front, and what stands behind them.
 fn letters(bytes: &[u8]) -> (&[u8], &[u8])
-    ensures value { (result.0.now, result.1.now) ≡ run_of is_ascii_alphabetic bytes.now }
+    ensures value { (result.0.now, result.1.now) ≡ split_while is_ascii_alphabetic bytes.now }
 {
-    split_run(|c| c.is_ascii_alphabetic(), bytes)
+    split_while(|c| c.is_ascii_alphabetic(), bytes)
 }
 
 fn is_word(text: &[u8], word: &[u8]) -> bool

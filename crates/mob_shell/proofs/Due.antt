@@ -9,7 +9,7 @@ use Rattle.mob_load.specs.Loads.{refused}
 use Rattle.mob_ending.specs.Lines.{status_of}
 use Rattle.mob_ending.specs.declared.ending.Ending.{Ending}
 use Rattle.mob_ending.specs.declared.ending.Ending.TheVariants.{Done, Usage, ReadFault, WriteFault, NoMemory, TableRefused, ScriptRefused, Overflow}
-use Rattle.mob_shell.specs.Program.{IsHalted, OutText, StopsWith}
+use Rattle.mob_shell.specs.Program.{IsHalted, ProgramWrites, StopsWith}
 use Rattle.mob_shell.specs.Outcomes.{HasOneEnding}
 use Rattle.mob_shell.specs.Ending.{IsEndingOf, MustEnd, HaveSettings, IsDue, IsFaultless, IsUsage, OnTold, Seen}
 
@@ -50,7 +50,7 @@ refused_words e s h usage = elim (h.usage usage) [ inl same ↦ cc | inr same �
 
 -- the ending of a run is due, or something failed
 pub due_or_failed : (ending : Ending) (s : Seen) → IsEndingOf ending s → IsDueOnTold ending s ⊎ HasFailed ending s
-due_or_failed Done s h = inl (each_told (λ b m. OutText s.words b m h.cause.text) (λ b m. IsDue s.words b m Done) (λ b m p. (h.cause.text, p)) s.script.told_before s.files.told_before h.cause.answers)
+due_or_failed Done s h = inl (each_told (λ b m. ProgramWrites s.words b m h.cause.text) (λ b m. IsDue s.words b m Done) (λ b m p. (h.cause.text, p)) s.script.told_before s.files.told_before h.cause.answers)
 due_or_failed Usage s h = inl (by_words (λ b m. IsUsage s.words) (λ b m. h.cause.0) s.script.told_before s.files.told_before)
 due_or_failed (ReadFault None) s h = inr (inr (inl h.cause.0))
 due_or_failed (ReadFault (Some file)) s h = inr (inr (inr (inl (h.cause.0.rose, refl))))

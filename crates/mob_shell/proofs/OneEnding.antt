@@ -10,7 +10,7 @@ use Rattle.mob_load.specs.Loads.{Halt, missing, refused, table_refused}
 use Rattle.mob_eval.specs.QueryFaults.{TupleFault}
 use Rattle.mob_ending.specs.declared.ending.Ending.{Ending}
 use Rattle.mob_ending.specs.declared.ending.Ending.TheVariants.{Done, Usage, ReadFault, WriteFault, NoMemory, TableRefused, ScriptRefused, Overflow}
-use Rattle.mob_shell.specs.Program.{IsHalted, AreTakenAs, OutText, StopsWith}
+use Rattle.mob_shell.specs.Program.{IsHalted, AreTakenAs, ProgramWrites, StopsWith}
 use Rattle.mob_shell.specs.Outcomes.{HasOneEnding, HasOneHalt, HasOneStop, NeverEndsAndStops, NeverProgramAndHalted, NeverScriptAndRefused}
 use Rattle.mob_shell.specs.Ending.{IsDue, HaveSettings, IsUsage}
 
@@ -18,7 +18,7 @@ use Rattle.mob_shell.specs.Ending.{IsDue, HaveSettings, IsUsage}
 pub record AreLaws : Type 0 where
   pub text : HasOneTextRefusal
   pub halt : HasOneHalt
-  pub halted : NeverProgramAndHalted
+  pub ended_without_answer : NeverProgramAndHalted
   pub refused : NeverScriptAndRefused
   pub stop : HasOneStop
   pub stopped : NeverEndsAndStops
@@ -60,7 +60,7 @@ module _ (law : AreLaws) (words : List (List ℕ)) (bytes : List ℕ) (files : C
 
   by_halt : (halt : Halt) → IsHalted words bytes files halt → (due : Ending) → IsDue words bytes files due → ending_of halt ≡ due
   by_halt halt h Usage k = absurd (taken h.script k)
-  by_halt halt h Done k = absurd (law.halted words bytes files k.1.day k.1.out k.1.program halt k.1.is h)
+  by_halt halt h Done k = absurd (law.ended_without_answer words bytes files k.1.day k.1.out k.1.program halt k.1.is h)
   by_halt halt h (ReadFault None) k = absurd k
   by_halt halt h (ReadFault (Some file)) k = ap ending_of (law.halt words bytes files halt (missing file) h k)
   by_halt halt h WriteFault k = absurd k
@@ -68,30 +68,30 @@ module _ (law : AreLaws) (words : List (List ℕ)) (bytes : List ℕ) (files : C
   by_halt halt h (TableRefused name kind rec field) k = ap ending_of (law.halt words bytes files halt (table_refused name kind rec field) h k)
   by_halt halt h (ScriptRefused e) (t, inl k) = absurd (law.refused words bytes h.day h.out e h.script k)
   by_halt halt h (ScriptRefused e) (t, inr k) = ap ending_of (law.halt words bytes files halt (refused e) h k)
-  by_halt halt h (Overflow number rows place formula) k = absurd (law.halted words bytes files k.1.day k.1.out k.1.program halt k.1.is h)
+  by_halt halt h (Overflow number rows place formula) k = absurd (law.ended_without_answer words bytes files k.1.day k.1.out k.1.program halt k.1.is h)
 
-  by_answers : (text : List ℕ) → OutText words bytes files text → (due : Ending) → IsDue words bytes files due → Done ≡ due
+  by_answers : (text : List ℕ) → ProgramWrites words bytes files text → (due : Ending) → IsDue words bytes files due → Done ≡ due
   by_answers text h Usage k = absurd (taken h.is.script k)
   by_answers text h Done k = refl
   by_answers text h (ReadFault None) k = absurd k
-  by_answers text h (ReadFault (Some file)) k = absurd (law.halted words bytes files h.day h.out h.program (missing file) h.is k)
+  by_answers text h (ReadFault (Some file)) k = absurd (law.ended_without_answer words bytes files h.day h.out h.program (missing file) h.is k)
   by_answers text h WriteFault k = absurd k
   by_answers text h NoMemory k = absurd k
-  by_answers text h (TableRefused name kind rec field) k = absurd (law.halted words bytes files h.day h.out h.program (table_refused name kind rec field) h.is k)
+  by_answers text h (TableRefused name kind rec field) k = absurd (law.ended_without_answer words bytes files h.day h.out h.program (table_refused name kind rec field) h.is k)
   by_answers text h (ScriptRefused e) (t, inl k) = absurd (law.refused words bytes h.day h.out e h.is.script k)
-  by_answers text h (ScriptRefused e) (t, inr k) = absurd (law.halted words bytes files h.day h.out h.program (refused e) h.is k)
+  by_answers text h (ScriptRefused e) (t, inr k) = absurd (law.ended_without_answer words bytes files h.day h.out h.program (refused e) h.is k)
   by_answers text h (Overflow number rows place formula) k = absurd (law.stopped words bytes files text k.0 number (rows, (place, formula)) h k.1)
 
   by_stop : (text : List ℕ) (n : ℕ) (f : TupleFault) → StopsWith words bytes files text n f → (due : Ending) → IsDue words bytes files due → Overflow n f.0 f.1.0 f.1.1 ≡ due
   by_stop text n f h Usage k = absurd (taken h.is.script k)
   by_stop text n f h Done k = absurd (law.stopped words bytes files k.0 text n f k.1 h)
   by_stop text n f h (ReadFault None) k = absurd k
-  by_stop text n f h (ReadFault (Some file)) k = absurd (law.halted words bytes files h.day h.out h.program (missing file) h.is k)
+  by_stop text n f h (ReadFault (Some file)) k = absurd (law.ended_without_answer words bytes files h.day h.out h.program (missing file) h.is k)
   by_stop text n f h WriteFault k = absurd k
   by_stop text n f h NoMemory k = absurd k
-  by_stop text n f h (TableRefused name kind rec field) k = absurd (law.halted words bytes files h.day h.out h.program (table_refused name kind rec field) h.is k)
+  by_stop text n f h (TableRefused name kind rec field) k = absurd (law.ended_without_answer words bytes files h.day h.out h.program (table_refused name kind rec field) h.is k)
   by_stop text n f h (ScriptRefused e) (t, inl k) = absurd (law.refused words bytes h.day h.out e h.is.script k)
-  by_stop text n f h (ScriptRefused e) (t, inr k) = absurd (law.halted words bytes files h.day h.out h.program (refused e) h.is k)
+  by_stop text n f h (ScriptRefused e) (t, inr k) = absurd (law.ended_without_answer words bytes files h.day h.out h.program (refused e) h.is k)
   by_stop text n f h (Overflow number rows place formula) k =
       let same = law.stop words bytes files text k.0 n number f (rows, (place, formula)) h k.1 in
       rw (same.1, same.2) refl

@@ -5,7 +5,7 @@ use Rattle.std.specs.Io.KnownBytes.{Keeps}
 use Rattle.mob_ending.specs.Lines.{note_line, status_of}
 use Rattle.mob_ending.specs.declared.ending.Ending.{Ending}
 use Rattle.mob_ending.specs.declared.ending.Ending.TheVariants.{Done, Usage, ReadFault, WriteFault, NoMemory, TableRefused, ScriptRefused, Overflow}
-use Rattle.mob_shell.specs.Ending.{IsCausedBy, CutsShort, IsEndingOf, IsDue, IsOverflow, IsReadFault, IsScriptRefused, IsTableFault, IsUsage, OnTold, Seen, WritesAll, WroteSome}
+use Rattle.mob_shell.specs.Ending.{IsCausedBy, CutsShort, IsEndingOf, IsDue, IsOverflow, IsReadFault, HasRefusedScript, HasRefusedTable, IsUsage, OnTold, Seen, WritesAll, WroteSome}
 use Rattle.mob_shell.specs.Outcomes.{HasOneEnding}
 use Rattle.mob_shell.specs.Run.{EndsSo, IsRun}
 use Rattle.mob_shell.proofs.Due.{IsDueOnTold, due_or_memory, each_told, ends_as_due, misses_a_file}
@@ -27,11 +27,11 @@ by_write : (ending : Ending) (s : Seen) → IsCausedBy ending s → status_of en
 by_write WriteFault s h e = h
 by_write _ s h e = cc
 
-by_table : (ending : Ending) (s : Seen) → IsCausedBy ending s → status_of ending ≡ 6 → IsTableFault s
+by_table : (ending : Ending) (s : Seen) → IsCausedBy ending s → status_of ending ≡ 6 → HasRefusedTable s
 by_table (TableRefused name kind rec field) s h e = (name, kind, rec, field, h.0)
 by_table _ s h e = cc
 
-by_script : (ending : Ending) (s : Seen) → IsCausedBy ending s → status_of ending ≡ 7 → IsScriptRefused s
+by_script : (ending : Ending) (s : Seen) → IsCausedBy ending s → status_of ending ≡ 7 → HasRefusedScript s
 by_script (ScriptRefused refusal) s h e = (refusal, h.0)
 by_script _ s h e = cc
 

@@ -17,9 +17,9 @@ use Rattle.mob_load.specs.Loads.{LoadsScript, Reaches, copied_files, nothing_loa
 use Rattle.mob_load.specs.declared.program.Program.{Program}
 use Rattle.mob_ending.specs.declared.ending.Ending.{Ending}
 use Rattle.mob_ending.specs.declared.ending.Ending.TheVariants.{Done, Usage, ReadFault, WriteFault, NoMemory, TableRefused, ScriptRefused, Overflow}
-use Rattle.mob_shell.specs.Program.{AreTakenAs, IsProgram, IsHalted, IsReached, OutText, StopsWith, WritesFirst}
+use Rattle.mob_shell.specs.Program.{AreTakenAs, IsProgram, IsHalted, IsReached, ProgramWrites, StopsWith, WritesFirst}
 use Rattle.mob_shell.specs.Ending.{AreCopied, AsksInOrder, IsCausedBy, IsEndingOf, IsCopied, IsUsage, OnTold, ReadsThrough, Seen}
-use Rattle.mob_shell.specs.Parts.{LoadEnds, RefusesText, RunsText}
+use Rattle.mob_shell.specs.Parts.{LoadEnds, IsTextEnding, RunsText}
 
 -- what holds of all holds of what is told
 pub some_all : {A : Type 0} (P : A → Type 0) → ((a : A) → P a) → (o : Option A) → IfSome o P
@@ -111,7 +111,7 @@ module _ (s : Seen) (bytes : List ℕ) (reads : ReadsTo script_limit s.script.to
     loaded_causes Done h = record {
       text = h.left.text;
       ended = reads.whole short;
-      answers = told (λ b m. OutText s.words b m h.left.text) (program h.program (λ m. OutText s.words bytes m h.left.text)
+      answers = told (λ b m. ProgramWrites s.words b m h.left.text) (program h.program (λ m. ProgramWrites s.words bytes m h.left.text)
           (λ m is. record { day = day; out = out; program = h.program; is = is; stands = h.left.stands; ran = h.left.ran }) h.loads);
       whole = h.left.put;
     }
@@ -222,7 +222,7 @@ refusal-causes s bytes reads ending keeps (inr h) = subst (λ e. IsCausedBy e s)
 
 -- a run whose text was judged, and loaded and run where it is a script
 pub text_ends : (s : Seen) (bytes : List ℕ) → ReadsTo script_limit s.script.told_before s.script.told_now bytes → (workers : ℕ) (day : ℤ) → WordsSay s.words workers day → IsOrderly s → (ending : Ending)
-    → RunsText day bytes s.files s.out ending ⊎ RefusesText bytes s.files s.out ending
+    → RunsText day bytes s.files s.out ending ⊎ IsTextEnding bytes s.files s.out ending
     → IsEndingOf ending s
 text_ends s bytes reads workers day says orderly ending (inl h) = record {
   cause = loaded_causes s bytes reads workers day says h.script h.accepted ending h.ends;

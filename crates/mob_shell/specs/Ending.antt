@@ -15,7 +15,7 @@ use Rattle.mob_load.specs.Loads.{missing, refused, table_refused, copied_files}
 use Rattle.mob_load.specs.Fronts.{AsksForSome, IsAskedLast}
 use Rattle.mob_ending.specs.declared.ending.Ending.{Ending}
 use Rattle.mob_ending.specs.declared.ending.Ending.TheVariants.{Done, Usage, ReadFault, WriteFault, NoMemory, TableRefused, ScriptRefused, Overflow}
-use Rattle.mob_shell.specs.Program.{AreTakenAs, IsHalted, IsReached, WritesFirst, OutText, StopsWith}
+use Rattle.mob_shell.specs.Program.{AreTakenAs, IsHalted, IsReached, WritesFirst, ProgramWrites, StopsWith}
 
 -- the words are not taken
 abbrev pub IsUsage : List (List ℕ) → Type 0
@@ -43,7 +43,7 @@ OnTold s P = IfSome s.script.told_before (λ bytes. IfSome s.files.told_before (
 pub record WritesAll (s : Seen) : Type 0 where
   pub text : List ℕ
   pub ended : IsAtEnd s.script.told_now
-  pub answers : OnTold s (λ bytes files. OutText s.words bytes files text)
+  pub answers : OnTold s (λ bytes files. ProgramWrites s.words bytes files text)
   pub whole : Appends s.out.told_before s.out.told_now text
 
 -- a proper prefix of the answers of some statements was written, and the count of `out` rose
@@ -74,7 +74,7 @@ pub record ReadsThrough (s : Seen) : Type 0 where
   pub through : IsAtEnd s.script.told_now ⊎ (length bytes ≡ script_limit + 1)
 
 -- the script is refused by itself, or by one of its literals or rows
-pub record HasScriptRefusal (s : Seen) (e : Refusal) : Type 0 where
+pub record IsScriptRefusal (s : Seen) (e : Refusal) : Type 0 where
   pub read : ReadsThrough s
   pub cause : IfSome s.script.told_before (λ bytes. IsTextRefused bytes e ⊎ IfSome s.files.told_before (λ files. IsHalted s.words bytes files (refused e)))
 
@@ -116,7 +116,7 @@ IsCausedBy (ReadFault file) s = CouldNotRead file s × Keeps s.out.told_before s
 IsCausedBy WriteFault s = CutsShort s
 IsCausedBy NoMemory s = Keeps s.out.told_before s.out.told_now ⊎ WroteSome s
 IsCausedBy (TableRefused file kind rec field) s = IsTableRefused s file kind rec field × Keeps s.out.told_before s.out.told_now
-IsCausedBy (ScriptRefused refusal) s = HasScriptRefusal s refusal × Keeps s.out.told_before s.out.told_now
+IsCausedBy (ScriptRefused refusal) s = IsScriptRefusal s refusal × Keeps s.out.told_before s.out.told_now
 IsCausedBy (Overflow number rows place formula) s = StopsAtFault s number rows place formula
 
 -- the script could not be read, or some file
@@ -124,12 +124,12 @@ abbrev pub IsReadFault : Seen → Type 0
 IsReadFault s = Rose s.script.faults_before s.script.faults_now ⊎ ((file : List ℕ) × IsUnread s file)
 
 -- a table file is refused, at some record and field
-abbrev pub IsTableFault : Seen → Type 0
-IsTableFault s = (name : List ℕ) × (kind : Kind) × (rec : ℕ) × (field : ℕ) × IsTableRefused s name kind rec field
+abbrev pub HasRefusedTable : Seen → Type 0
+HasRefusedTable s = (name : List ℕ) × (kind : Kind) × (rec : ℕ) × (field : ℕ) × IsTableRefused s name kind rec field
 
 -- the script is refused, at some place
-abbrev pub IsScriptRefused : Seen → Type 0
-IsScriptRefused s = (e : Refusal) × HasScriptRefusal s e
+abbrev pub HasRefusedScript : Seen → Type 0
+HasRefusedScript s = (e : Refusal) × IsScriptRefusal s e
 
 -- a part of some formula does not fit
 abbrev pub IsOverflow : Seen → Type 0
@@ -138,7 +138,7 @@ IsOverflow s = (number : ℕ) × (rows : List ℕ) × (place : ℕ) × (formula 
 -- How a run has to end, by its words, its script and its files: with all answers, by its words, for a file that is not there (which
 -- the files count as a fault), with a refusal or with the fault of a statement. They ask for no other ending.
 abbrev pub IsDue : List (List ℕ) → List ℕ → Contents → Ending → Type 0
-IsDue words bytes files Done = (text : List ℕ) × OutText words bytes files text
+IsDue words bytes files Done = (text : List ℕ) × ProgramWrites words bytes files text
 IsDue words bytes files Usage = IsUsage words
 IsDue words bytes files (ReadFault None) = ⊥
 IsDue words bytes files (ReadFault (Some file)) = IsHalted words bytes files (missing file)

@@ -9,7 +9,7 @@ use Rattle.mob_load.specs.declared.program.Program.{Program}
 use Rattle.mob_eval.specs.QueryFaults.{TupleFault}
 use Rattle.mob_ending.specs.declared.ending.Ending.{Ending}
 use Rattle.mob_shell.specs.Ending.{IsDue}
-use Rattle.mob_shell.specs.Program.{IsHalted, IsProgram, AreTakenAs, OutText, StopsWith}
+use Rattle.mob_shell.specs.Program.{IsHalted, IsProgram, AreTakenAs, ProgramWrites, StopsWith}
 
 -- they make one program
 abbrev pub HasOneProgram : Type 0
@@ -29,7 +29,7 @@ NeverScriptAndRefused = (words : List (List ℕ)) (bytes : List ℕ) (day : ℤ)
 
 -- the answers of all statements are one text
 abbrev pub HasOneText : Type 0
-HasOneText = (words : List (List ℕ)) (bytes : List ℕ) (files : Contents) (a b : List ℕ) → OutText words bytes files a → OutText words bytes files b → a ≡ b
+HasOneText = (words : List (List ℕ)) (bytes : List ℕ) (files : Contents) (a b : List ℕ) → ProgramWrites words bytes files a → ProgramWrites words bytes files b → a ≡ b
 
 -- a statement with a fault is one, with one fault, and the answers before it are one text
 abbrev pub HasOneStop : Type 0
@@ -37,7 +37,7 @@ HasOneStop = (words : List (List ℕ)) (bytes : List ℕ) (files : Contents) (a 
 
 -- and then not all statements have their answers
 abbrev pub NeverEndsAndStops : Type 0
-NeverEndsAndStops = (words : List (List ℕ)) (bytes : List ℕ) (files : Contents) (a b : List ℕ) (n : ℕ) (f : TupleFault) → OutText words bytes files a → StopsWith words bytes files b n f → ⊥
+NeverEndsAndStops = (words : List (List ℕ)) (bytes : List ℕ) (files : Contents) (a b : List ℕ) (n : ℕ) (f : TupleFault) → ProgramWrites words bytes files a → StopsWith words bytes files b n f → ⊥
 
 -- the definitions ask for one ending, with its places
 abbrev pub HasOneEnding : Type 0

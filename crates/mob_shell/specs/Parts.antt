@@ -73,7 +73,7 @@ pub record LoadsAndLeaves (day : ℤ) (script : ScriptOut) (files : Option Conte
   pub left : Left program
 
 -- the file of this name is refused so, where the files are told, and it was asked for last
-pub record RefusesTable (day : ℤ) (script : ScriptOut) (files : FilesSeen) (halt : Halt) (name : List ℕ) : Type 0 where
+pub record IsTableHalt (day : ℤ) (script : ScriptOut) (files : FilesSeen) (halt : Halt) (name : List ℕ) : Type 0 where
   pub loads : IfSome files.told_before (λ m. LoadsScript day m script (Err halt))
   pub last : IsAskedLast (copied_files script.statements) files.asked_before files.asked_now name
 
@@ -89,7 +89,7 @@ LoadEnds day script files out Done = LoadsAndLeaves day script files.told_before
 LoadEnds day script files out (Overflow number rows place formula) = LoadsAndLeaves day script files.told_before (λ p. RanUpTo day script p number (rows, (place, formula)) out)
 LoadEnds day script files out WriteFault = LoadsAndLeaves day script files.told_before (λ p. RanShort day script p out)
 LoadEnds day script files out NoMemory = Keeps out.told_before out.told_now ⊎ LoadsAndLeaves day script files.told_before (λ p. RanSome day script p out)
-LoadEnds day script files out (TableRefused name kind rec field) = RefusesTable day script files (table_refused name kind rec field) name × Keeps out.told_before out.told_now
+LoadEnds day script files out (TableRefused name kind rec field) = IsTableHalt day script files (table_refused name kind rec field) name × Keeps out.told_before out.told_now
 LoadEnds day script files out (ScriptRefused e) = IfSome files.told_before (λ m. LoadsScript day m script (Err (refused e))) × Keeps out.told_before out.told_now
 LoadEnds day script files out (ReadFault (Some name)) = MissesFile day script files name × Keeps out.told_before out.told_now
 LoadEnds day script files out (ReadFault None) = ⊥
@@ -103,11 +103,11 @@ pub record RunsText (day : ℤ) (bytes : List ℕ) (files : FilesSeen) (out : St
   pub asks : AsksForSome (copied_files script.statements) files.asked_before files.asked_now
 
 -- a text that is refused by itself, or for want of memory: nothing is written, and no file is asked for
-pub record RefusesText (bytes : List ℕ) (files : FilesSeen) (out : StreamSeen) (ending : Ending) : Type 0 where
+pub record IsTextEnding (bytes : List ℕ) (files : FilesSeen) (out : StreamSeen) (ending : Ending) : Type 0 where
   pub says : (ending ≡ NoMemory) ⊎ ((e : Refusal) × (ending ≡ ScriptRefused e) × IsTextRefused bytes e)
   pub keeps : Keeps out.told_before out.told_now
   pub asks : AsksForSome [] files.asked_before files.asked_now
 
 -- what a refusal of a text ends with
-abbrev pub RefusalEnds : Refusal → Ending → Type 0
-RefusalEnds e ending = (ending ≡ NoMemory) ⊎ ((ending ≡ ScriptRefused e) × (e.kind ≢ OutOfMemory))
+abbrev pub IsEndingOfRefusal : Refusal → Ending → Type 0
+IsEndingOfRefusal e ending = (ending ≡ NoMemory) ⊎ ((ending ≡ ScriptRefused e) × (e.kind ≢ OutOfMemory))

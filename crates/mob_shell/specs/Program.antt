@@ -46,7 +46,7 @@ pub record WritesFirst (words : List (List ℕ)) (bytes : List ℕ) (files : Con
   pub ran : Ran (RunsStatement day) (begin program) (take count out.statements) stands text
 
 -- What is written for a program: the answers of its statements, one after the other, each on the tables as they are then.
-pub record OutText (words : List (List ℕ)) (bytes : List ℕ) (files : Contents) (text : List ℕ) : Type 0 where
+pub record ProgramWrites (words : List (List ℕ)) (bytes : List ℕ) (files : Contents) (text : List ℕ) : Type 0 where
   pub day : ℤ
   pub out : ScriptOut
   pub program : Program

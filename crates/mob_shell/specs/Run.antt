@@ -8,7 +8,7 @@ use Rattle.mob_accept.specs.Accepts.{script_limit}
 use Rattle.mob_ending.specs.Lines.{note_line, status_of}
 use Rattle.mob_ending.specs.declared.ending.Ending.{Ending}
 use Rattle.mob_ending.specs.declared.ending.Ending.TheVariants.{ReadFault}
-use Rattle.mob_shell.specs.Ending.{AsksInOrder, IsCausedBy, CutsShort, MustEnd, IsDue, IsFaultless, IsOverflow, IsReadFault, IsScriptRefused, IsTableFault, IsUsage, OnTold, Seen, WritesAll, WroteSome}
+use Rattle.mob_shell.specs.Ending.{AsksInOrder, IsCausedBy, CutsShort, MustEnd, IsDue, IsFaultless, IsOverflow, IsReadFault, HasRefusedScript, HasRefusedTable, IsUsage, OnTold, Seen, WritesAll, WroteSome}
 
 -- the status and the note are those of this ending
 pub record EndsSo (ending : Ending) (status : ℕ) (Noted : List ℕ → Type 0) : Type 0 where
@@ -35,9 +35,9 @@ pub record IsRun (status : ℕ) (s : Seen) (Noted : List ℕ → Type 0) : Type 
   -- 5: whatever was written is whole answers
   pub no_memory : status ≡ 5 → Keeps s.out.told_before s.out.told_now ⊎ WroteSome s
   -- 6: only where the first refusal stands in a table file, that of a COPY statement, which was asked for last
-  pub table_refused : status ≡ 6 → IsTableFault s
+  pub table_refused : status ≡ 6 → HasRefusedTable s
   -- 7: only where the first refusal stands in the script
-  pub script_refused : status ≡ 7 → IsScriptRefused s
+  pub script_refused : status ≡ 7 → HasRefusedScript s
   -- 8: only where the named formula at the named statement, tuple and place has a part that does not fit; `out` took exactly the
   -- answers before
   pub overflow : status ≡ 8 → IsOverflow s

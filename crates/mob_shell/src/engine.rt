@@ -67,7 +67,7 @@ pub fn run_all<E: Engine, K: Sink>(
     for statement in statements {
         let text = match engine.execute(alloc, statement) {
             Ok(text) => text,
-            Err(halt) => return halted(number, halt),
+            Err(halt) => return ended_without_answer(number, halt),
         };
         match put_all(out, &text) {
             Ok(()) => {}
@@ -82,7 +82,7 @@ pub fn run_all<E: Engine, K: Sink>(
 }
 
 // The end where the statement of this number has no answer.
-fn halted<F: Drop>(number: u32, halt: NoAnswer<F>) -> RunEnd<F>
+fn ended_without_answer<F: Drop>(number: u32, halt: NoAnswer<F>) -> RunEnd<F>
     ensures end { EndsWithoutAnswer number halt result }
 {
     match halt {

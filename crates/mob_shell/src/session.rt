@@ -80,7 +80,7 @@ impl Session {
         };
         let answer = match answered(alloc, &query) {
             Ok(answer) => answer,
-            Err(fault) => return Err(halt_of(fault)),
+            Err(fault) => return Err(no_answer_by(fault)),
         };
         match answer_text(alloc, &answer) {
             Ok(text) => Ok(text),
@@ -114,7 +114,7 @@ impl Session {
 }
 
 // Why a query has no answer.
-fn halt_of(fault: QueryFault) -> NoAnswer<Overflow>
+fn no_answer_by(fault: QueryFault) -> NoAnswer<Overflow>
     ensures halt { HasNoAnswerBy fault result }
 {
     match fault {

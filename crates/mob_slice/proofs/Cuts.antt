@@ -2,7 +2,7 @@
 use Rattle.std.specs.Prelude.{◌≡◌, Bool, true, false, not, ◌&&◌, ◌||◌, List, [], ◌∷◌, ◌++◌, refl, MatchResult, Result, Ok, Err}
 use Rattle.std.proofs.Common.{arith, ap, sym, ◌∙◌, subst, true≢false}
 use Rattle.mob_ratio.specs.Ratio.{Ratio}
-use Rattle.mob_ratio.specs.Order.{before, upto, same}
+use Rattle.mob_ratio.specs.Order.{before, up_to, same}
 use Rattle.mob_ratio.proofs.Order.{before-self, before-back, before-trans, before-neither, same_exact}
 use Rattle.mob_frac.specs.Formula.{AllFit}
 use Rattle.mob_span.specs.Span.{SpanOf, has, has_instant}
@@ -17,29 +17,29 @@ use Rattle.mob_span.specs.Neighbours.{is_inside}
 use Rattle.mob_slice.specs.Sides.{HasValues, at_ends}
 use Rattle.mob_slice.specs.Cut.{slice_value, slice_parts}
 
-pub inside_has : (s : SpanOf) (t : Ratio) → upto s.lower t ≡ true → upto t s.upper ≡ true → same t s.lower ≡ false → same t s.upper ≡ false → has s t ≡ true
+pub inside_has : (s : SpanOf) (t : Ratio) → up_to s.lower t ≡ true → up_to t s.upper ≡ true → same t s.lower ≡ false → same t s.upper ≡ false → has s t ≡ true
 unfolding same
 inside_has s t h k i j = grind (arith, h, k, i, j)
 
-upto_low : (s r : SpanOf) → is_inside s r ≡ true → upto s.lower r.lower ≡ true
+upto_low : (s r : SpanOf) → is_inside s r ≡ true → up_to s.lower r.lower ≡ true
 upto_low s r h = grind (arith, h, before-back s.lower r.lower)
 
-upto_high : (s r : SpanOf) → is_inside s r ≡ true → upto r.upper s.upper ≡ true
+upto_high : (s r : SpanOf) → is_inside s r ≡ true → up_to r.upper s.upper ≡ true
 upto_high s r h = grind (arith, h, before-back r.upper s.upper)
 
-upto-trans : (a b c : Ratio) → upto a b ≡ true → upto b c ≡ true → upto a c ≡ true
-upto-trans a b c h k = grind (arith, h, k, before-trans c a b, before-neither a b)
+up_to-trans : (a b c : Ratio) → up_to a b ≡ true → up_to b c ≡ true → up_to a c ≡ true
+up_to-trans a b c h k = grind (arith, h, k, before-trans c a b, before-neither a b)
 
-pub low_after : (s r : SpanOf) (t : Ratio) → is_inside s r ≡ true → t ≡ r.lower → upto s.lower t ≡ true
+pub low_after : (s r : SpanOf) (t : Ratio) → is_inside s r ≡ true → t ≡ r.lower → up_to s.lower t ≡ true
 low_after s r t h e = rw e (upto_low s r h)
 
-pub low_until : (s r : SpanOf) (t : Ratio) → is_inside s r ≡ true → has_instant r ≡ true → t ≡ r.lower → upto t s.upper ≡ true
-low_until s r t h k e = rw e (upto-trans r.lower r.upper s.upper (some_upto r k) (upto_high s r h))
+pub low_until : (s r : SpanOf) (t : Ratio) → is_inside s r ≡ true → has_instant r ≡ true → t ≡ r.lower → up_to t s.upper ≡ true
+low_until s r t h k e = rw e (up_to-trans r.lower r.upper s.upper (some_upto r k) (upto_high s r h))
 
-pub high_after : (s r : SpanOf) (t : Ratio) → is_inside s r ≡ true → has_instant r ≡ true → t ≡ r.upper → upto s.lower t ≡ true
-high_after s r t h k e = rw e (upto-trans s.lower r.lower r.upper (upto_low s r h) (some_upto r k))
+pub high_after : (s r : SpanOf) (t : Ratio) → is_inside s r ≡ true → has_instant r ≡ true → t ≡ r.upper → up_to s.lower t ≡ true
+high_after s r t h k e = rw e (up_to-trans s.lower r.lower r.upper (upto_low s r h) (some_upto r k))
 
-pub high_until : (s r : SpanOf) (t : Ratio) → is_inside s r ≡ true → t ≡ r.upper → upto t s.upper ≡ true
+pub high_until : (s r : SpanOf) (t : Ratio) → is_inside s r ≡ true → t ≡ r.upper → up_to t s.upper ≡ true
 high_until s r t h e = rw e (upto_high s r h)
 
 long_of : (s r : SpanOf) → is_inside s r ≡ true → before r.lower r.upper ≡ true → before s.lower s.upper ≡ true
@@ -48,7 +48,7 @@ long_of s r h k = let a = upto_low s r h in let b = upto_high s r h in grind (ar
 only_at : (r : SpanOf) (t : Ratio) → before r.lower r.upper ≡ false → r.lower ≡ r.upper → has r t ≡ true → r.lower ≡ t
 only_at r t h e k = before-neither r.lower t (grind (arith, h, e, k, before-back t r.upper)) (grind (arith, h, e, k, before-back r.lower t))
 
-later : (l t : Ratio) → upto l t ≡ true → same t l ≡ false → before l t ≡ true
+later : (l t : Ratio) → up_to l t ≡ true → same t l ≡ false → before l t ≡ true
 unfolding same
 later l t h k = grind (arith, h, k)
 
@@ -111,7 +111,7 @@ module _ {C B : Type 0} {steady copies : Bool} {value : C → Ratio → Ratio �
       looked (Ok b) x m = (m, tt)
       looked (Err f) x m = m
 
-  pub at_high : (s : Slice C) (t : Ratio) (r : Result B LookFault) → upto s.span.lower t ≡ true → same t s.span.lower ≡ false → same t s.span.upper ≡ true → MatchResult r (λ b. b ≡ end s.course) (IsLookFault copies []) → IsLooked copies (parts s.course s.span.lower s.span.upper t) (value s.course s.span.lower s.span.upper t) r
+  pub at_high : (s : Slice C) (t : Ratio) (r : Result B LookFault) → up_to s.span.lower t ≡ true → same t s.span.lower ≡ false → same t s.span.upper ≡ true → MatchResult r (λ b. b ≡ end s.course) (IsLookFault copies []) → IsLooked copies (parts s.course s.span.lower s.span.upper t) (value s.course s.span.lower s.span.upper t) r
   at_high s t r a n h m =
       let e : s.span.upper ≡ t = sym ((same_exact t s.span.upper).0 h) in
       let long : before s.span.lower s.span.upper ≡ true = rw e (later s.span.lower t a n) in

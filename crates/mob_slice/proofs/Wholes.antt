@@ -2,15 +2,15 @@
 use Rattle.std.specs.Prelude.{◌≡◌, ◌↔◌, Bool, true, false, not, List, refl}
 use Rattle.std.proofs.Common.{arith, ap, sym, ◌∙◌, subst}
 use Rattle.mob_ratio.specs.Ratio.{Ratio}
-use Rattle.mob_ratio.specs.Order.{before, upto}
+use Rattle.mob_ratio.specs.Order.{before, up_to}
 use Rattle.mob_ratio.proofs.Order.{before-self, before-back, before-trans}
 use Rattle.mob_slice.specs.Course.{IsCourse, IsWhole}
 use Rattle.mob_slice.specs.Wholes.{HasBothParts, ContinuesAsOne, TwoInstantsFix}
 
-at_self : (t : Ratio) → upto t t ≡ true
+at_self : (t : Ratio) → up_to t t ≡ true
 at_self t = rw (before-self t) refl
 
-at_later : (s t : Ratio) → before s t ≡ true → upto s t ≡ true
+at_later : (s t : Ratio) → before s t ≡ true → up_to s t ≡ true
 at_later s t h = grind (arith, h, before-back s t)
 
 module _ {C B : Type 0} {steady copies : Bool} {value : C → Ratio → Ratio → Ratio → B} {start end : C → B} {can_make : B → B → Type 0} {make : B → B → C} {continues : C → C → Ratio → Ratio → Ratio → Bool} {parts : C → Ratio → Ratio → Ratio → List Ratio} (laws : IsCourse steady copies value start end can_make make continues parts) where

@@ -1,12 +1,12 @@
 -- What it means that one course has two parts, and that two courses are one on a span.
 use Rattle.std.specs.Prelude.{◌≡◌, ◌↔◌, Bool, true}
 use Rattle.mob_ratio.specs.Ratio.{Ratio}
-use Rattle.mob_ratio.specs.Order.{before, upto}
+use Rattle.mob_ratio.specs.Order.{before, up_to}
 
 -- the course w, used from lower to upper, has the values of c up to the middle and those of d from there
 pub record HasBothParts {C B : Type 0} (value : C → Ratio → Ratio → Ratio → B) (w c d : C) (lower middle upper : Ratio) : Type 0 where
-  pub first : (t : Ratio) → upto lower t ≡ true → upto t middle ≡ true → value w lower upper t ≡ value c lower middle t
-  pub second : (t : Ratio) → upto middle t ≡ true → upto t upper ≡ true → value w lower upper t ≡ value d middle upper t
+  pub first : (t : Ratio) → up_to lower t ≡ true → up_to t middle ≡ true → value w lower upper t ≡ value c lower middle t
+  pub second : (t : Ratio) → up_to middle t ≡ true → up_to t upper ≡ true → value w lower upper t ≡ value d middle upper t
 
 -- on two spans longer than an instant, `continues` is true exactly where some course has both parts
 abbrev pub ContinuesAsOne : {C B : Type 0} → (C → Ratio → Ratio → Ratio → B) → (C → C → Ratio → Ratio → Ratio → Bool) → Type 0

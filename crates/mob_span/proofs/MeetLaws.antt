@@ -10,8 +10,8 @@ use Rattle.mob_span.specs.Meets.{PieceOf, shared_pieces, both_there}
 use Rattle.mob_span.proofs.SpanLemmas.{meet_has, no_instant}
 use Rattle.mob_span.proofs.Insides.{clear_meet, clear_meet', meet_clear, meet_clear', meet_left, meet_right}
 use Rattle.mob_span.specs.Chained.{OfHead}
-use Rattle.mob_span.specs.Parts.{part_at, PartsClear}
-use Rattle.mob_span.proofs.Shared.{AllClear, all_after, later, piece, row}
+use Rattle.mob_span.specs.Parts.{part_at, PartsAreClear}
+use Rattle.mob_span.proofs.Shared.{AreAllClear, all_after, later, piece, row}
 
 both_there-none : {A B : Type 0} (x : Option A) → both_there {Y = B} x None ≡ None
 both_there-none None = refl
@@ -21,44 +21,44 @@ abbrev or_else : {B : Type 0} → Option B → Option B → Option B
 or_else None y = y
 or_else (Some x) y = Some x
 
-head_all : {P : Type 0} (span : P → SpanOf) (p : P) (xs : List P) → AllClear span (span p) xs → OfHead (λ q r. is_clear (span q) (span r) ≡ true) p xs
+head_all : {P : Type 0} (span : P → SpanOf) (p : P) (xs : List P) → AreAllClear span (span p) xs → OfHead (λ q r. is_clear (span q) (span r) ≡ true) p xs
 head_all span p [] h = tt
 head_all span p (x ∷ xs) h = h.0
 
-all_joined : {P : Type 0} (span : P → SpanOf) (q : SpanOf) (xs ys : List P) → AllClear span q xs → AllClear span q ys → AllClear span q (xs ++ ys)
+all_joined : {P : Type 0} (span : P → SpanOf) (q : SpanOf) (xs ys : List P) → AreAllClear span q xs → AreAllClear span q ys → AreAllClear span q (xs ++ ys)
 all_joined span q [] ys h k = k
 all_joined span q (x ∷ xs) ys h k = (h.0, all_joined span q xs ys h.1 k)
 
 module _ {X Y : Type 0} (span : X → SpanOf) (span' : Y → SpanOf) where
-  row_clear : (q : SpanOf) (x : X) (w : List Y) → AllClear span' q w → AllClear (λ p. p.span) q (row span span' x w)
+  row_clear : (q : SpanOf) (x : X) (w : List Y) → AreAllClear span' q w → AreAllClear (λ p. p.span) q (row span span' x w)
   row_clear q x [] h = tt
   row_clear q x (y ∷ w) h = by (row_clear q x w h.1) (has_instant (meet_of (span x) (span' y)))
     where
-      by : AllClear (λ p. p.span) q (row span span' x w) → (b : Bool) → AllClear (λ p. p.span) q (map (λ z. piece span span' x z) (cond b (y ∷ filter (λ z. has_instant (meet_of (span x) (span' z))) w) (filter (λ z. has_instant (meet_of (span x) (span' z))) w)))
+      by : AreAllClear (λ p. p.span) q (row span span' x w) → (b : Bool) → AreAllClear (λ p. p.span) q (map (λ z. piece span span' x z) (cond b (y ∷ filter (λ z. has_instant (meet_of (span x) (span' z))) w) (filter (λ z. has_instant (meet_of (span x) (span' z))) w)))
       by ih true = (clear_meet' q (span x) (span' y) h.0, ih)
       by ih false = ih
 
-  row_after : (q : SpanOf) (x : X) (w : List Y) → is_clear q (span x) ≡ true → AllClear (λ p. p.span) q (row span span' x w)
+  row_after : (q : SpanOf) (x : X) (w : List Y) → is_clear q (span x) ≡ true → AreAllClear (λ p. p.span) q (row span span' x w)
   row_after q x [] h = tt
   row_after q x (y ∷ w) h = by (row_after q x w h) (has_instant (meet_of (span x) (span' y)))
     where
-      by : AllClear (λ p. p.span) q (row span span' x w) → (b : Bool) → AllClear (λ p. p.span) q (map (λ z. piece span span' x z) (cond b (y ∷ filter (λ z. has_instant (meet_of (span x) (span' z))) w) (filter (λ z. has_instant (meet_of (span x) (span' z))) w)))
+      by : AreAllClear (λ p. p.span) q (row span span' x w) → (b : Bool) → AreAllClear (λ p. p.span) q (map (λ z. piece span span' x z) (cond b (y ∷ filter (λ z. has_instant (meet_of (span x) (span' z))) w) (filter (λ z. has_instant (meet_of (span x) (span' z))) w)))
       by ih true = (clear_meet q (span x) (span' y) h, ih)
       by ih false = ih
 
   -- what is before all of the first list is before all pieces
-  meets_after : (q : SpanOf) (v : List X) (w : List Y) → AllClear span q v → AllClear (λ p. p.span) q (shared_pieces span span' v w)
+  meets_after : (q : SpanOf) (v : List X) (w : List Y) → AreAllClear span q v → AreAllClear (λ p. p.span) q (shared_pieces span span' v w)
   meets_after q [] w h = tt
   meets_after q (x ∷ v) w h = all_joined (λ p. p.span) q (row span span' x w) (shared_pieces span span' v w) (row_after q x w h.0) (meets_after q v w h.1)
 
-  row_joined : (x : X) (w : List Y) (ps : List (PieceOf X Y)) → PartsClear span' w → PartsClear (λ p. p.span) ps → AllClear (λ p. p.span) (span x) ps → PartsClear (λ p. p.span) (row span span' x w ++ ps)
+  row_joined : (x : X) (w : List Y) (ps : List (PieceOf X Y)) → PartsAreClear span' w → PartsAreClear (λ p. p.span) ps → AreAllClear (λ p. p.span) (span x) ps → PartsAreClear (λ p. p.span) (row span span' x w ++ ps)
   row_joined x [] ps h k l = k
   row_joined x (y ∷ w) ps h k l = by (row_joined x w ps h.2 k l) (has_instant (meet_of (span x) (span' y))) refl
     where
       m : SpanOf
       m = meet_of (span x) (span' y)
 
-      by : PartsClear (λ p. p.span) (row span span' x w ++ ps) → (b : Bool) → has_instant m ≡ b → PartsClear (λ p. p.span) (map (λ z. piece span span' x z) (cond b (y ∷ filter (λ z. has_instant (meet_of (span x) (span' z))) w) (filter (λ z. has_instant (meet_of (span x) (span' z))) w)) ++ ps)
+      by : PartsAreClear (λ p. p.span) (row span span' x w ++ ps) → (b : Bool) → has_instant m ≡ b → PartsAreClear (λ p. p.span) (map (λ z. piece span span' x z) (cond b (y ∷ filter (λ z. has_instant (meet_of (span x) (span' z))) w) (filter (λ z. has_instant (meet_of (span x) (span' z))) w)) ++ ps)
       by ih true e =
           let first = row_clear m x w (later span' (span' y) m w (λ s i. meet_clear' (span x) (span' y) s i) (all_after span' y w h)) in
           let rest = later (λ p. p.span) (span x) m ps (λ s i. meet_clear (span x) (span' y) s i) l in
@@ -66,7 +66,7 @@ module _ {X Y : Type 0} (span : X → SpanOf) (span' : Y → SpanOf) where
       by ih false e = ih
 
   -- The pieces are ordered and disjoint, and each has an instant.
-  pub meets_clear : (v : List X) (w : List Y) → PartsClear span v → PartsClear span' w → PartsClear (λ p. p.span) (shared_pieces span span' v w)
+  pub meets_clear : (v : List X) (w : List Y) → PartsAreClear span v → PartsAreClear span' w → PartsAreClear (λ p. p.span) (shared_pieces span span' v w)
   meets_clear [] w h k = tt
   meets_clear (x ∷ v) w h k = row_joined x w (shared_pieces span span' v w) k (meets_clear v w h.2 k) (meets_after (span x) v w (all_after span x v h))
 

@@ -4,7 +4,7 @@ use Rattle.std.specs.List.{flat_map, filter}
 use Rattle.mob_ratio.specs.Ratio.{Ratio}
 use Rattle.mob_span.specs.Span.{SpanOf, has_instant}
 use Rattle.mob_span.specs.Meet.{meet_of}
-use Rattle.mob_span.specs.Parts.{PartsClear, part_at}
+use Rattle.mob_span.specs.Parts.{PartsAreClear, part_at}
 
 -- a piece of time, with what is known there of each of two things
 pub record PieceOf (X Y : Type 0) : Type 0 where
@@ -26,5 +26,5 @@ both_there (Some x) (Some y) = Some (x, y)
 -- The pieces are ordered and disjoint, each has an instant, and at each instant the piece there has the two that the lists
 -- have there: there is no piece where one of the lists has none.
 pub record AreCommon {X Y : Type 0} (span : X → SpanOf) (span' : Y → SpanOf) (v : List X) (w : List Y) (pieces : List (PieceOf X Y)) : Type 0 where
-  pub clear : PartsClear (λ p. p.span) pieces
+  pub clear : PartsAreClear (λ p. p.span) pieces
   pub at_each : (t : Ratio) → option_map (λ p. (p.left, p.right)) (part_at (λ p. p.span) pieces t) ≡ both_there (part_at span v t) (part_at span' w t)

@@ -6,8 +6,8 @@ use Rattle.mob_span.specs.Span.{SpanOf, has, has_instant}
 use Rattle.mob_span.specs.Neighbours.{is_clear}
 
 -- the parts are ordered and disjoint, and each has an instant
-abbrev pub PartsClear : {P : Type 0} → (P → SpanOf) → List P → Type 0
-PartsClear span parts = Chained (λ p. has_instant (span p) ≡ true) (λ p q. is_clear (span p) (span q) ≡ true) parts
+abbrev pub PartsAreClear : {P : Type 0} → (P → SpanOf) → List P → Type 0
+PartsAreClear span parts = Chained (λ p. has_instant (span p) ≡ true) (λ p q. is_clear (span p) (span q) ≡ true) parts
 
 -- the part that has the instant t
 abbrev pub part_at : {P : Type 0} → (P → SpanOf) → List P → Ratio → Option P

@@ -5,47 +5,47 @@ use Rattle.mob_eval.specs.Evaluation.{Fault, OnPassed}
 use Rattle.mob_slice.specs.declared.formula.Formula.{Formula}
 use Rattle.mob_eval.specs.declared.fault.EvalFault.{EvalFault}
 use Rattle.mob_eval.specs.declared.fault.EvalFault.TheVariants.{Passed, NoMemory}
-use Rattle.mob_tail.specs.Each.{Each}
+use Rattle.mob_tail.specs.IsMadeOfEach.{IsMadeOfEach}
 use Rattle.mob_tail.proofs.Reading.{drop_read}
 
 module _ {X Y F : Type 0} (R : X → Result Y F → Type 0) where
-  each_one_more : (xs : List X) (x : X) (ys : List Y) (y : Y) → Each R xs (Ok ys) → R x (Ok y) → Each R (xs ++ x ∷ []) (Ok (ys ++ y ∷ []))
+  each_one_more : (xs : List X) (x : X) (ys : List Y) (y : Y) → IsMadeOfEach R xs (Ok ys) → R x (Ok y) → IsMadeOfEach R (xs ++ x ∷ []) (Ok (ys ++ y ∷ []))
   each_one_more [] x ys y h k = (y, k, ([], ap (λ z. z ++ y ∷ []) h, refl))
   each_one_more (w ∷ xs) x ys y h k = (h.0, h.1, (h.2.0 ++ y ∷ [], ap (λ z. z ++ y ∷ []) h.2.1, each_one_more xs x h.2.0 y h.2.2 k))
 
-  each_fault_at : (xs : List X) (x : X) (rest : List X) (ys : List Y) (f : F) → Each R xs (Ok ys) → R x (Err f) → Each R (xs ++ x ∷ rest) (Err f)
+  each_fault_at : (xs : List X) (x : X) (rest : List X) (ys : List Y) (f : F) → IsMadeOfEach R xs (Ok ys) → R x (Err f) → IsMadeOfEach R (xs ++ x ∷ rest) (Err f)
   each_fault_at [] x rest ys f h k = inl k
   each_fault_at (w ∷ xs) x rest ys f h k = inr (h.0, h.1, each_fault_at xs x rest h.2.0 f h.2.2 k)
 
   -- at the place i of the list, with what was made of the entries before it
-  module _ (xs : List X) (i : ℕ) (x : X) (lt : i < length xs) (is : x ≡ get_or xs i x) (ys : List Y) (h : Each R (take i xs) (Ok ys)) where
-    pub each_next : (y : Y) (next : List Y) → R x (Ok y) → next ≡ ys ++ y ∷ [] → Each R (take (i + 1) xs) (Ok next)
+  module _ (xs : List X) (i : ℕ) (x : X) (lt : i < length xs) (is : x ≡ get_or xs i x) (ys : List Y) (h : IsMadeOfEach R (take i xs) (Ok ys)) where
+    pub each_next : (y : Y) (next : List Y) → R x (Ok y) → next ≡ ys ++ y ∷ [] → IsMadeOfEach R (take (i + 1) xs) (Ok next)
     each_next y next k e =
         let more : take (i + 1) xs ≡ take i xs ++ x ∷ [] = take_more xs i x lt ∙ ap (λ z. take i xs ++ z ∷ []) (sym is) in
-        subst (λ z. Each R z (Ok next)) (sym more) (subst (λ z. Each R (take i xs ++ x ∷ []) (Ok z)) (sym e) (each_one_more (take i xs) x ys y h k))
+        subst (λ z. IsMadeOfEach R z (Ok next)) (sym more) (subst (λ z. IsMadeOfEach R (take i xs ++ x ∷ []) (Ok z)) (sym e) (each_one_more (take i xs) x ys y h k))
 
-    pub each_fault : (f : F) → R x (Err f) → Each R xs (Err f)
+    pub each_fault : (f : F) → R x (Err f) → IsMadeOfEach R xs (Err f)
     each_fault f k =
         let all : xs ≡ take i xs ++ x ∷ drop (i + 1) xs = sym (take-append-drop i xs) ∙ ap (λ z. take i xs ++ z) (drop_read xs i x lt is) in
-        subst (λ z. Each R z (Err f)) (sym all) (each_fault_at (take i xs) x (drop (i + 1) xs) ys f h k)
+        subst (λ z. IsMadeOfEach R z (Err f)) (sym all) (each_fault_at (take i xs) x (drop (i + 1) xs) ys f h k)
 
-  pub each_all : (xs : List X) (i : ℕ) (ys : List Y) → length xs ≡ i → Each R (take i xs) (Ok ys) → Each R xs (Ok ys)
-  each_all xs i ys e h = let most : length xs ≤ i = omega arith in subst (λ z. Each R z (Ok ys)) (take_all i xs most) h
+  pub each_all : (xs : List X) (i : ℕ) (ys : List Y) → length xs ≡ i → IsMadeOfEach R (take i xs) (Ok ys) → IsMadeOfEach R xs (Ok ys)
+  each_all xs i ys e h = let most : length xs ≤ i = omega arith in subst (λ z. IsMadeOfEach R z (Ok ys)) (take_all i xs most) h
 
 -- what is made of the entries of a list is made of what they are seen as, and so is the first fault
 module _ {W X Y : Type 0} (G : W → Result Y EvalFault → Type 0) (R : X → Result Y Fault → Type 0) (see : W → X) where
-  pub each_seen : (ws : List W) (ys : List Y) → Each G ws (Ok ys) → ((w : W) (y : Y) → G w (Ok y) → R (see w) (Ok y)) → Each R (map see ws) (Ok ys)
+  pub each_seen : (ws : List W) (ys : List Y) → IsMadeOfEach G ws (Ok ys) → ((w : W) (y : Y) → G w (Ok y) → R (see w) (Ok y)) → IsMadeOfEach R (map see ws) (Ok ys)
   each_seen [] ys h good = h
   each_seen (w ∷ ws) ys h good = (h.0, good w h.0 h.1, (h.2.0, h.2.1, each_seen ws h.2.0 h.2.2 good))
 
-  passed_seen : (ws : List W) (place : ℕ) (formula : Formula) → Each G ws (Err (Passed place formula)) → ((w : W) (y : Y) → G w (Ok y) → R (see w) (Ok y)) → ((w : W) (e : EvalFault) → G w (Err e) → OnPassed (λ f. R (see w) (Err f)) e)
-      → Each R (map see ws) (Err (place, formula))
+  passed_seen : (ws : List W) (place : ℕ) (formula : Formula) → IsMadeOfEach G ws (Err (Passed place formula)) → ((w : W) (y : Y) → G w (Ok y) → R (see w) (Ok y)) → ((w : W) (e : EvalFault) → G w (Err e) → OnPassed (λ f. R (see w) (Err f)) e)
+      → IsMadeOfEach R (map see ws) (Err (place, formula))
   passed_seen [] place formula h good bad = h
   passed_seen (w ∷ ws) place formula (inl h) good bad = inl (bad w (Passed place formula) h)
   passed_seen (w ∷ ws) place formula (inr h) good bad = inr (h.0, good w h.0 h.1, passed_seen ws place formula h.2 good bad)
 
-  pub fault_seen : (ws : List W) (e : EvalFault) → Each G ws (Err e) ⊎ (e ≡ NoMemory) → ((w : W) (y : Y) → G w (Ok y) → R (see w) (Ok y)) → ((w : W) (e : EvalFault) → G w (Err e) → OnPassed (λ f. R (see w) (Err f)) e)
-      → OnPassed (λ f. Each R (map see ws) (Err f)) e
+  pub fault_seen : (ws : List W) (e : EvalFault) → IsMadeOfEach G ws (Err e) ⊎ (e ≡ NoMemory) → ((w : W) (y : Y) → G w (Ok y) → R (see w) (Ok y)) → ((w : W) (e : EvalFault) → G w (Err e) → OnPassed (λ f. R (see w) (Err f)) e)
+      → OnPassed (λ f. IsMadeOfEach R (map see ws) (Err f)) e
   fault_seen ws (Passed place formula) (inl h) good bad = passed_seen ws place formula h good bad
   fault_seen ws (Passed place formula) (inr h) good bad = absurd cc
   fault_seen ws NoMemory h good bad = tt

@@ -9,10 +9,10 @@ use Rattle.mob_eval.specs.Scene.{Scene, scene}
 use Rattle.mob_eval.specs.Outcomes.{HasOneOutcome, IsOne}
 use Rattle.mob_eval.specs.Evaluation.{Fault}
 use Rattle.mob_tail.specs.declared.keyed.Keyed.{Keyed}
-use Rattle.mob_tail.specs.Each.{Each}
+use Rattle.mob_tail.specs.IsMadeOfEach.{IsMadeOfEach}
 use Rattle.mob_tail.specs.Order.{IsOrderedByKeys, compare_rows}
 use Rattle.mob_tail.specs.Rows.{AreFirst, AreDistinct, AreArranged, limited}
-use Rattle.mob_tail.specs.Answers.{IsField, IsKey, IsRowOf, IsTupleRow, IsQueryAnswer}
+use Rattle.mob_tail.specs.Answers.{IsField, IsKey, IsRowOf, IsTupleRow, IsAnswerOnKept}
 use Rattle.mob_tail.proofs.Orders.{rows_ranked}
 use Rattle.mob_tail.proofs.OneOrder.{one_order}
 
@@ -23,16 +23,16 @@ module _ {X Y F : Type 0} (R : X → Result Y F → Type 0) (once : (x : X) → 
   told_fault : (x : X) (y : Y) (f : F) → R x (Ok y) → R x (Err f) → ⊥
   told_fault x y f h k = let e = once x (Ok y) (Err f) h k in absurd (cc e)
 
-  each_value : (xs : List X) (ys zs : List Y) → Each R xs (Ok ys) → Each R xs (Ok zs) → ys ≡ zs
+  each_value : (xs : List X) (ys zs : List Y) → IsMadeOfEach R xs (Ok ys) → IsMadeOfEach R xs (Ok zs) → ys ≡ zs
   each_value [] ys zs h k = h ∙ sym k
   each_value (x ∷ xs) ys zs h k = h.2.1 ∙ ap₂ (λ a b. a ∷ b) (one_value x h.0 k.0 h.1 k.1) (each_value xs h.2.0 k.2.0 h.2.2 k.2.2) ∙ sym k.2.1
 
-  each_told : (xs : List X) (ys : List Y) (f : F) → Each R xs (Ok ys) → Each R xs (Err f) → ⊥
+  each_told : (xs : List X) (ys : List Y) (f : F) → IsMadeOfEach R xs (Ok ys) → IsMadeOfEach R xs (Err f) → ⊥
   each_told [] ys f h k = k
   each_told (x ∷ xs) ys f h (inl k) = told_fault x h.0 f h.1 k
   each_told (x ∷ xs) ys f h (inr k) = each_told xs h.2.0 f h.2.2 k.2
 
-  each_fault_one : (xs : List X) (f g : F) → Each R xs (Err f) → Each R xs (Err g) → f ≡ g
+  each_fault_one : (xs : List X) (f g : F) → IsMadeOfEach R xs (Err f) → IsMadeOfEach R xs (Err g) → f ≡ g
   each_fault_one [] f g h k = absurd h
   each_fault_one (x ∷ xs) f g (inl h) (inl k) = let e = once x (Err f) (Err g) h k in cc e
   each_fault_one (x ∷ xs) f g (inl h) (inr k) = absurd (told_fault x k.0 f k.1 h)
@@ -99,7 +99,7 @@ module _ (one : HasOneOutcome) where
         let fault : f.1 ≡ g.1 = row_fault select (scene store select.from tuple day) f.1 g.1 h.1 k.1 in
         λ i. Err (there i, fault i)
 
-    pub answer_once : (kept : List (List ℕ)) → IsOne (IsQueryAnswer select store day kept)
+    pub answer_once : (kept : List (List ℕ)) → IsOne (IsAnswerOnKept select store day kept)
     answer_once kept (Ok a) (Ok b) h k =
         let rows : h.0 ≡ k.0 = each_value (IsTupleRow select store day) row_once kept h.0 k.0 h.1 k.1 in
         let falls = map (λ key. key.1) select.keys in

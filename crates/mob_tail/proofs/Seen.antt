@@ -10,7 +10,7 @@ use Rattle.std.specs.Cmp.Derive.Mapped.{pointwise-map}
 use Rattle.std.proofs.lemmas.Map.Views.{list_any-from_Contains, Contains-from_any}
 use Rattle.std.proofs.lemmas.List.{drop_all, map-append}
 use Rattle.indexmap.specs.IndexSet.{insert_key}
-use Rattle.mob_tail.specs.Marks.{marked}
+use Rattle.mob_tail.specs.Flags.{flagged}
 use Rattle.mob_tail.proofs.Reading.{drop_read}
 use Rattle.mob_tail.specs.Rows.{AreFirst}
 
@@ -56,33 +56,33 @@ seen_or_new {A} k keys next is_new e s = by (list_any (same_row k) keys) refl
       ap (map texts_of) (s ∙ ap (λ (b : Bool). if b then keys else keys ++ k ∷ []) h) ∙ map-append texts_of keys (k ∷ []),
     )
 
-module _ {X : Type 0} (all : List X) (marks : List Bool) (i : ℕ) (x : X) (before next : List X) (is_new : Bool) (lt : i < length all) (is : x ≡ get_or all i x) where
+module _ {X : Type 0} (all : List X) (flags : List Bool) (i : ℕ) (x : X) (before next : List X) (is_new : Bool) (lt : i < length all) (is : x ≡ get_or all i x) where
   -- the marks so far go on with what is still to come
-  pub mark_step : ((rest : List Bool) → AreFirst before (drop i all) (marked (drop i all) rest) → AreFirst [] all (marked all (marks ++ rest)))
+  pub flag_step : ((rest : List Bool) → AreFirst before (drop i all) (flagged (drop i all) rest) → AreFirst [] all (flagged all (flags ++ rest)))
       → Taken before x is_new next
-      → (rest : List Bool) → AreFirst next (drop (i + 1) all) (marked (drop (i + 1) all) rest) → AreFirst [] all (marked all ((marks ++ is_new ∷ []) ++ rest))
-  mark_step h choice rest k =
-      subst (λ m. AreFirst [] all (marked all m)) (sym (append_assoc marks (is_new ∷ []) rest))
-      (h (is_new ∷ rest) (subst (λ xs. AreFirst before xs (marked xs (is_new ∷ rest))) (sym (drop_read all i x lt is)) (here choice)))
+      → (rest : List Bool) → AreFirst next (drop (i + 1) all) (flagged (drop (i + 1) all) rest) → AreFirst [] all (flagged all ((flags ++ is_new ∷ []) ++ rest))
+  flag_step h choice rest k =
+      subst (λ m. AreFirst [] all (flagged all m)) (sym (append_assoc flags (is_new ∷ []) rest))
+      (h (is_new ∷ rest) (subst (λ xs. AreFirst before xs (flagged xs (is_new ∷ rest))) (sym (drop_read all i x lt is)) (here choice)))
     where
-      here : Taken before x is_new next → AreFirst before (x ∷ drop (i + 1) all) (marked (x ∷ drop (i + 1) all) (is_new ∷ rest))
-      here (inl p) = subst (λ b. AreFirst before (x ∷ drop (i + 1) all) (marked (x ∷ drop (i + 1) all) (b ∷ rest))) (sym p.1) (inl (p.0, subst (λ z. AreFirst z (drop (i + 1) all) (marked (drop (i + 1) all) rest)) p.2 k))
-      here (inr p) = subst (λ b. AreFirst before (x ∷ drop (i + 1) all) (marked (x ∷ drop (i + 1) all) (b ∷ rest))) (sym p.1) (inr (p.0, (marked (drop (i + 1) all) rest, refl, subst (λ z. AreFirst z (drop (i + 1) all) (marked (drop (i + 1) all) rest)) p.2 k)))
+      here : Taken before x is_new next → AreFirst before (x ∷ drop (i + 1) all) (flagged (x ∷ drop (i + 1) all) (is_new ∷ rest))
+      here (inl p) = subst (λ b. AreFirst before (x ∷ drop (i + 1) all) (flagged (x ∷ drop (i + 1) all) (b ∷ rest))) (sym p.1) (inl (p.0, subst (λ z. AreFirst z (drop (i + 1) all) (flagged (drop (i + 1) all) rest)) p.2 k))
+      here (inr p) = subst (λ b. AreFirst before (x ∷ drop (i + 1) all) (flagged (x ∷ drop (i + 1) all) (b ∷ rest))) (sym p.1) (inr (p.0, (flagged (drop (i + 1) all) rest, refl, subst (λ z. AreFirst z (drop (i + 1) all) (flagged (drop (i + 1) all) rest)) p.2 k)))
 
-pub marks_end : {X : Type 0} (all : List X) (marks : List Bool) (i : ℕ) (before : List X) → length all ≡ i
-    → ((rest : List Bool) → AreFirst before (drop i all) (marked (drop i all) rest) → AreFirst [] all (marked all (marks ++ rest))) → AreFirst [] all (marked all marks)
-marks_end {X} all marks i before e h =
+pub flags_end : {X : Type 0} (all : List X) (flags : List Bool) (i : ℕ) (before : List X) → length all ≡ i
+    → ((rest : List Bool) → AreFirst before (drop i all) (flagged (drop i all) rest) → AreFirst [] all (flagged all (flags ++ rest))) → AreFirst [] all (flagged all flags)
+flags_end {X} all flags i before e h =
     let none : drop i all ≡ [] = drop_all i all (omega arith) in
-    subst (λ m. AreFirst [] all (marked all m)) (append-nil marks) (h [] (subst (λ xs. AreFirst before xs (marked xs [])) (sym none) refl))
+    subst (λ m. AreFirst [] all (flagged all m)) (append-nil flags) (h [] (subst (λ xs. AreFirst before xs (flagged xs [])) (sym none) refl))
 
 -- nothing is marked where there are no rows or no marks left
-pub marked_none : {X : Type 0} (kept xs total : List X) (marks : List Bool) → (xs ≡ []) ⊎ (marks ≡ []) → kept ++ marked xs marks ≡ total → kept ≡ total
-marked_none {X} kept xs total marks none h = sym (append-nil kept) ∙ ap (λ z. kept ++ z) (sym (by none)) ∙ h
+pub flagged_none : {X : Type 0} (kept xs total : List X) (flags : List Bool) → (xs ≡ []) ⊎ (flags ≡ []) → kept ++ flagged xs flags ≡ total → kept ≡ total
+flagged_none {X} kept xs total flags none h = sym (append-nil kept) ∙ ap (λ z. kept ++ z) (sym (by none)) ∙ h
   where
-    no_marks : (xs : List X) → marked xs [] ≡ []
-    no_marks [] = refl
-    no_marks (x ∷ xs) = refl
+    no_flags : (xs : List X) → flagged xs [] ≡ []
+    no_flags [] = refl
+    no_flags (x ∷ xs) = refl
 
-    by : (xs ≡ []) ⊎ (marks ≡ []) → marked xs marks ≡ []
-    by (inl e) = ap (λ z. marked z marks) e
-    by (inr e) = ap (λ m. marked xs m) e ∙ no_marks xs
+    by : (xs ≡ []) ⊎ (flags ≡ []) → flagged xs flags ≡ []
+    by (inl e) = ap (λ z. flagged z flags) e
+    by (inr e) = ap (λ m. flagged xs m) e ∙ no_flags xs

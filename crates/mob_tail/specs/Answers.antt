@@ -9,7 +9,7 @@ use Rattle.mob_eval.specs.Scene.{Scene, scene}
 use Rattle.mob_eval.specs.Evaluation.{Fault, TreeEvaluatesTo}
 use Rattle.mob_eval.specs.QueryFaults.{TupleFault}
 use Rattle.mob_tail.specs.declared.keyed.Keyed.{Keyed}
-use Rattle.mob_tail.specs.Each.{Each}
+use Rattle.mob_tail.specs.IsMadeOfEach.{IsMadeOfEach}
 use Rattle.mob_tail.specs.Rows.{AreArranged}
 
 -- the printed field of an entry of the select list
@@ -23,8 +23,8 @@ IsKey s key r = TreeEvaluatesTo s key.0 r
 
 -- The fields of the select list on a tuple, and then the keys; or the first fault in this order.
 abbrev pub IsRowOf : TypedSelectParts → Scene → Result Keyed Fault → Type 0
-IsRowOf select s (Ok row) = Each (IsField s) select.items (Ok row.fields) × Each (IsKey s) select.keys (Ok row.keys)
-IsRowOf select s (Err f) = Each (IsField s) select.items (Err f) ⊎ ((fields : List (List ℕ)) × Each (IsField s) select.items (Ok fields) × Each (IsKey s) select.keys (Err f))
+IsRowOf select s (Ok row) = IsMadeOfEach (IsField s) select.items (Ok row.fields) × IsMadeOfEach (IsKey s) select.keys (Ok row.keys)
+IsRowOf select s (Err f) = IsMadeOfEach (IsField s) select.items (Err f) ⊎ ((fields : List (List ℕ)) × IsMadeOfEach (IsField s) select.items (Ok fields) × IsMadeOfEach (IsKey s) select.keys (Err f))
 
 -- the row of a tuple, or the tuple with its first fault
 abbrev pub IsTupleRow : TypedSelectParts → Store → ℤ → List ℕ → Result Keyed TupleFault → Type 0
@@ -32,7 +32,7 @@ IsTupleRow select store day tuple (Ok row) = IsRowOf select (scene store select.
 IsTupleRow select store day tuple (Err f) = (f.0 ≡ tuple) × IsRowOf select (scene store select.from tuple day) (Err f.1)
 
 -- The rows of the answer on the kept tuples, or the first fault of these tuples in order.
-abbrev pub IsQueryAnswer : TypedSelectParts → Store → ℤ → List (List ℕ) → Result (List (List (List ℕ))) TupleFault → Type 0
-IsQueryAnswer select store day kept (Ok answer) =
-    (rows : List Keyed) × Each (IsTupleRow select store day) kept (Ok rows) × AreArranged (map (λ key. key.1) select.keys) select.distinct select.limit rows answer
-IsQueryAnswer select store day kept (Err f) = Each (IsTupleRow select store day) kept (Err f)
+abbrev pub IsAnswerOnKept : TypedSelectParts → Store → ℤ → List (List ℕ) → Result (List (List (List ℕ))) TupleFault → Type 0
+IsAnswerOnKept select store day kept (Ok answer) =
+    (rows : List Keyed) × IsMadeOfEach (IsTupleRow select store day) kept (Ok rows) × AreArranged (map (λ key. key.1) select.keys) select.distinct select.limit rows answer
+IsAnswerOnKept select store day kept (Err f) = IsMadeOfEach (IsTupleRow select store day) kept (Err f)

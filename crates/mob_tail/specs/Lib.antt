@@ -2,7 +2,7 @@ pub mod AnswerText
 pub mod Records
 pub mod Order
 pub mod Rows
-pub mod Marks
-pub mod Each
+pub mod Flags
+pub mod IsMadeOfEach
 pub mod Answers
 pub mod Outcomes

@@ -3,7 +3,7 @@ ghost use Rattle.std.specs.Prelude.{◌≡◌, Ok, Err, IfOk, IfErr, map};
 ghost use Rattle.mob_typed.specs.Selects.{select_seen, output_of, key_seen};
 ghost use Rattle.mob_eval.specs.QueryFaults.{OnTuple};
 ghost use Rattle.mob_tail.specs.Rows.{AreArranged};
-ghost use Rattle.mob_tail.specs.Answers.{IsQueryAnswer};
+ghost use Rattle.mob_tail.specs.Answers.{IsAnswerOnKept};
 
 use crate::arrange::arranged;
 use crate::evaluation::rows_on;
@@ -74,8 +74,8 @@ pub fn answer_to(
     epoch: &Epoch,
 ) -> Result<Answer, QueryFault>
     ensures names { IfOk result (λ answer. answer.names ≡ map (λ item. item.1) (select_seen select.now).items) }
-    ensures rows { IfOk result (λ answer. IsQueryAnswer (select_seen select.now) store.now epoch.now kept.now (Ok answer.rows)) }
-    ensures fault { IfErr result (OnTuple (λ f. IsQueryAnswer (select_seen select.now) store.now epoch.now kept.now (Err f))) }
+    ensures rows { IfOk result (λ answer. IsAnswerOnKept (select_seen select.now) store.now epoch.now kept.now (Ok answer.rows)) }
+    ensures fault { IfErr result (OnTuple (λ f. IsAnswerOnKept (select_seen select.now) store.now epoch.now kept.now (Err f))) }
 {
     match rows_on(alloc, select, store, kept, epoch) {
         Ok(rows) => match arranged_answer(alloc, select, rows) {

@@ -1,7 +1,7 @@
 // Of equal rows the first.
 ghost use Rattle.std.specs.Prelude.{◌≡◌, [], IfOk};
 ghost use Rattle.mob_tail.specs.Rows.{AreFirst};
-ghost use Rattle.mob_tail.specs.Marks.{marked};
+ghost use Rattle.mob_tail.specs.Flags.{flagged};
 
 use crate::text::bytes_of;
 use indexmap::IndexSet;
@@ -10,28 +10,28 @@ use mob_list::text::Text;
 use std::alloc::{AllocError, Global};
 
 // For each row whether it is the first of those that are equal to it.
-fn marks_of(alloc: Global, rows: &[Items<Text>]) -> Result<Vec<bool>, AllocError>
-    ensures first { IfOk result (λ marks. AreFirst [] rows.now (marked rows.now marks.items)) }
+fn flags_of(alloc: Global, rows: &[Items<Text>]) -> Result<Vec<bool>, AllocError>
+    ensures first { IfOk result (λ flags. AreFirst [] rows.now (flagged rows.now flags.items)) }
 {
     let mut seen = IndexSet::new(alloc);
-    let mut marks = Vec::new(alloc);
+    let mut flags = Vec::new(alloc);
     for row in rows {
         let is_new = seen.insert(bytes_of(alloc, row.as_slice())?)?;
-        marks.push(is_new)?;
+        flags.push(is_new)?;
     }
-    Ok(marks)
+    Ok(flags)
 }
 
 // The rows whose mark is true.
-fn marked_rows(
+fn flagged_rows(
     alloc: Global,
     rows: Vec<Items<Text>>,
-    marks: &[bool],
+    flags: &[bool],
 ) -> Result<Vec<Items<Text>>, AllocError>
-    ensures marked { IfOk result (λ kept. kept.items ≡ marked rows.items marks.now) }
+    ensures flagged { IfOk result (λ kept. kept.items ≡ flagged rows.items flags.now) }
 {
     let mut kept = Vec::new(alloc);
-    for (row, is_first) in rows.into_iter().zip(marks.iter()) {
+    for (row, is_first) in rows.into_iter().zip(flags.iter()) {
         if *is_first {
             kept.push(row)?;
         }
@@ -43,6 +43,6 @@ fn marked_rows(
 pub fn distinct(alloc: Global, rows: Vec<Items<Text>>) -> Result<Vec<Items<Text>>, AllocError>
     ensures first { IfOk result (λ kept. AreFirst [] rows.items kept.items) }
 {
-    let marks = marks_of(alloc, rows.as_slice())?;
-    marked_rows(alloc, rows, marks.as_slice())
+    let flags = flags_of(alloc, rows.as_slice())?;
+    flagged_rows(alloc, rows, flags.as_slice())
 }

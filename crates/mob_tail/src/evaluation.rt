@@ -6,7 +6,7 @@ ghost use Rattle.mob_eval.specs.Scene.{scene};
 ghost use Rattle.mob_eval.specs.Views.{scene_of};
 ghost use Rattle.mob_eval.specs.Evaluation.{OnPassed};
 ghost use Rattle.mob_eval.specs.QueryFaults.{OnTuple};
-ghost use Rattle.mob_tail.specs.Each.{Each};
+ghost use Rattle.mob_tail.specs.IsMadeOfEach.{IsMadeOfEach};
 ghost use Rattle.mob_tail.specs.Answers.{IsField, IsKey, IsRowOf, IsTupleRow};
 
 use crate::keyed::Keyed;
@@ -53,8 +53,8 @@ fn each_of<T, V: Drop, F: Fn(&T) -> Result<V, EvalFault>>(
     make: F,
 ) -> Result<Items<V>, EvalFault>
     requires callable { F.IsAlwaysCallable make }
-    ensures made { IfOk result (λ made. Each (FnReturnsAt F.Fn make) entries.now (Ok made)) }
-    ensures fault { IfErr result (λ e. Each (FnReturnsAt F.Fn make) entries.now (Err e) ⊎ (e ≡ EvalFault.NoMemory)) }
+    ensures made { IfOk result (λ made. IsMadeOfEach (FnReturnsAt F.Fn make) entries.now (Ok made)) }
+    ensures fault { IfErr result (λ e. IsMadeOfEach (FnReturnsAt F.Fn make) entries.now (Err e) ⊎ (e ≡ EvalFault.NoMemory)) }
 {
     let mut made = Items::new(alloc);
     for entry in entries {
@@ -71,8 +71,8 @@ fn each_of<T, V: Drop, F: Fn(&T) -> Result<V, EvalFault>>(
 
 // The printed fields of the select list.
 fn fields_on(alloc: Global, select: &TypedSelect, view: &View<'_>) -> Result<Items<Text>, EvalFault>
-    ensures fields { IfOk result (λ fields. Each (IsField (scene_of view.now)) (select_seen select.now).items (Ok fields)) }
-    ensures fault { IfErr result (OnPassed (λ f. Each (IsField (scene_of view.now)) (select_seen select.now).items (Err f))) }
+    ensures fields { IfOk result (λ fields. IsMadeOfEach (IsField (scene_of view.now)) (select_seen select.now).items (Ok fields)) }
+    ensures fault { IfErr result (OnPassed (λ f. IsMadeOfEach (IsField (scene_of view.now)) (select_seen select.now).items (Err f))) }
 {
     each_of(
         alloc,
@@ -83,8 +83,8 @@ fn fields_on(alloc: Global, select: &TypedSelect, view: &View<'_>) -> Result<Ite
 
 // The values of the keys.
 fn keys_on(alloc: Global, select: &TypedSelect, view: &View<'_>) -> Result<Items<Value>, EvalFault>
-    ensures keys { IfOk result (λ keys. Each (IsKey (scene_of view.now)) (select_seen select.now).keys (Ok keys)) }
-    ensures fault { IfErr result (OnPassed (λ f. Each (IsKey (scene_of view.now)) (select_seen select.now).keys (Err f))) }
+    ensures keys { IfOk result (λ keys. IsMadeOfEach (IsKey (scene_of view.now)) (select_seen select.now).keys (Ok keys)) }
+    ensures fault { IfErr result (OnPassed (λ f. IsMadeOfEach (IsKey (scene_of view.now)) (select_seen select.now).keys (Err f))) }
 {
     each_of(
         alloc,
@@ -134,8 +134,8 @@ pub fn rows_on(
     kept: &[Items<u32>],
     epoch: &Epoch,
 ) -> Result<Vec<Keyed>, QueryFault>
-    ensures rows { IfOk result (λ rows. Each (IsTupleRow (select_seen select.now) store.now epoch.now) kept.now (Ok rows.items)) }
-    ensures fault { IfErr result (OnTuple (λ f. Each (IsTupleRow (select_seen select.now) store.now epoch.now) kept.now (Err f))) }
+    ensures rows { IfOk result (λ rows. IsMadeOfEach (IsTupleRow (select_seen select.now) store.now epoch.now) kept.now (Ok rows.items)) }
+    ensures fault { IfErr result (OnTuple (λ f. IsMadeOfEach (IsTupleRow (select_seen select.now) store.now epoch.now) kept.now (Err f))) }
 {
     let mut rows = Vec::new(alloc);
     for tuple in kept {

@@ -19,22 +19,22 @@ use Rattle.mob_typed.specs.Selects.{Output, TypedSelectParts, output_of}
 use Rattle.mob_typed.specs.Statements.{ColumnList}
 use Rattle.mob_typing.specs.Names.{table_of}
 use Rattle.mob_expression.specs.Names.{entry_from, has_entry}
-use Rattle.mob_expression.specs.Scopes.{SourceParts, ScopeParts}
+use Rattle.mob_expression.specs.Scopes.{ScopeTableParts, ScopeParts}
 use Rattle.mob_typed.specs.Trees.{TypedTree, typed, none, type_of}
 use Rattle.mob_expression.specs.Expressions.{typed_expression}
 
 -- The name that a table goes by in FROM. There are at most four tables, and no two go by one name. What stands at an
 -- earlier place comes first, and at one place a name that is there already comes before the limit.
-abbrev pub from_name : List (List ℕ × SourceParts) → Word → Option Word → Result (List ℕ) Mistake
+abbrev pub from_name : List (List ℕ × ScopeTableParts) → Word → Option Word → Result (List ℕ) Mistake
 from_name from table None = unless (has_entry from table.text) kind.Duplicate table.place >>= λ _. unless (nat_le 4 (length from)) kind.Limit table.place >>= λ _. Ok table.text
 from_name from table (Some a) = unless (nat_le 4 (length from)) kind.Limit table.place >>= λ _. unless (has_entry from a.text) kind.Duplicate a.place >>= λ _. Ok a.text
 
 -- a table of FROM behind those that stand before it
-abbrev pub from_table : List (List ℕ × ColumnList) → List (List ℕ × SourceParts) → FromTable → Result (List (List ℕ × SourceParts)) Mistake
+abbrev pub from_table : List (List ℕ × ColumnList) → List (List ℕ × ScopeTableParts) → FromTable → Result (List (List ℕ × ScopeTableParts)) Mistake
 from_table tables from f = found kind.UnknownName f.table.place (table_of tables f.table.text) >>= λ t. from_name from f.table f.alias >>= λ name. Ok (from ++ (name, record { table = t.0; columns = t.1 }) ∷ [])
 
 -- the tables of FROM in order
-abbrev pub from_tables : List (List ℕ × ColumnList) → List (List ℕ × SourceParts) → List FromTable → Result (List (List ℕ × SourceParts)) Mistake
+abbrev pub from_tables : List (List ℕ × ColumnList) → List (List ℕ × ScopeTableParts) → List FromTable → Result (List (List ℕ × ScopeTableParts)) Mistake
 from_tables tables from [] = Ok from
 from_tables tables from (f ∷ fs) = from_table tables from f >>= λ more. from_tables tables more fs
 
@@ -44,7 +44,7 @@ columns_of_table from k [] p = []
 columns_of_table from k (c ∷ cs) p = (typed (op.Column from k) c.1 p none, c.0) ∷ columns_of_table from (k + 1) cs p
 
 -- all columns of all tables of FROM, the first of which has number n
-abbrev pub all_outputs : ℕ → List (List ℕ × SourceParts) → ℕ → List Output
+abbrev pub all_outputs : ℕ → List (List ℕ × ScopeTableParts) → ℕ → List Output
 all_outputs n [] p = []
 all_outputs n (s ∷ ss) p = columns_of_table n 0 s.1.columns p ++ all_outputs (n + 1) ss p
 

@@ -9,7 +9,7 @@ use crate::names::Names;
 use mob_ast::{FromTable, Kind, Word};
 use mob_expression::columns::source_named;
 use mob_expression::fault::Fault;
-use mob_expression::scope::{Source, number};
+use mob_expression::scope::{ScopeTable, number};
 use mob_list::items::Items;
 use mob_list::text::Text;
 use std::alloc::{AllocError, Global};
@@ -18,7 +18,7 @@ use std::alloc::{AllocError, Global};
 const TABLES: usize = 4;
 
 // Whether a table of FROM goes by this name already.
-fn has_source(sources: &[Source<'_>], name: &str) -> bool
+fn has_source(sources: &[ScopeTable<'_>], name: &str) -> bool
     ensures { result ≡ has_entry (sources_of sources.now) name.now }
 {
     source_named(sources, name).is_some()
@@ -26,7 +26,7 @@ fn has_source(sources: &[Source<'_>], name: &str) -> bool
 
 // The name that a table goes by in FROM, behind those that stand before it.
 fn from_name<'a>(
-    sources: &[Source<'_>],
+    sources: &[ScopeTable<'_>],
     table: &'a Word,
     alias: &'a Option<Word>,
 ) -> Result<&'a str, Fault>
@@ -69,9 +69,9 @@ fn from_name<'a>(
 // A table of FROM behind those that stand before it.
 fn from_table<'a>(
     names: &'a Names,
-    sources: &[Source<'_>],
+    sources: &[ScopeTable<'_>],
     entry: &'a FromTable,
-) -> Result<Source<'a>, Fault>
+) -> Result<ScopeTable<'a>, Fault>
     ensures { AnswersAs (λ s. sources_of sources.now ++ source_of s ∷ []) result (from_table names.now.tables (sources_of sources.now) entry.now) }
 {
     let Some((table, columns)) = names.find(entry.table.text.as_str()) else {
@@ -82,7 +82,7 @@ fn from_table<'a>(
     };
     let name = from_name(sources, &entry.table, &entry.alias)?;
     let table = number(table)?;
-    Ok(Source {
+    Ok(ScopeTable {
         name,
         table,
         columns,
@@ -94,7 +94,7 @@ pub fn from_tables<'a>(
     alloc: Global,
     names: &'a Names,
     from: &'a [FromTable],
-) -> Result<Vec<Source<'a>>, Fault>
+) -> Result<Vec<ScopeTable<'a>>, Fault>
     ensures named { AnswersAs (λ v. sources_of v.items) result (from_tables names.now.tables [] from.now) }
 {
     let mut sources = Vec::new(alloc);
@@ -106,7 +106,7 @@ pub fn from_tables<'a>(
 }
 
 /// The numbers of the tables of FROM.
-pub fn table_numbers(alloc: Global, sources: &[Source<'_>]) -> Result<Items<u32>, AllocError>
+pub fn table_numbers(alloc: Global, sources: &[ScopeTable<'_>]) -> Result<Items<u32>, AllocError>
     ensures numbers { IfOk result (λ v. v ≡ map (λ t. t.1.table) (sources_of sources.now)) }
 {
     let mut numbers = Items::new(alloc);
@@ -117,7 +117,7 @@ pub fn table_numbers(alloc: Global, sources: &[Source<'_>]) -> Result<Items<u32>
 }
 
 /// The names that the tables of FROM go by.
-pub fn table_names(alloc: Global, sources: &[Source<'_>]) -> Result<Items<Text>, AllocError>
+pub fn table_names(alloc: Global, sources: &[ScopeTable<'_>]) -> Result<Items<Text>, AllocError>
     ensures names { IfOk result (λ v. v ≡ map (λ t. t.0) (sources_of sources.now)) }
 {
     let mut names = Items::new(alloc);

@@ -12,7 +12,7 @@ use mob_expression::column_list::Columns;
 use mob_expression::constants::leaf;
 use mob_expression::expression::type_expr;
 use mob_expression::fault::Fault;
-use mob_expression::scope::{Scope, Source, number};
+use mob_expression::scope::{Scope, ScopeTable, number};
 use mob_list::items::Items;
 use mob_list::text::Text;
 use mob_operators::Op;
@@ -66,7 +66,7 @@ fn push_columns(
 fn push_all(
     alloc: Global,
     columns: &mut Vec<(TExpr, Text)>,
-    from: &[Source<'_>],
+    from: &[ScopeTable<'_>],
     place: u32,
 ) -> Result<(), Fault>
     ensures { AnswersAs (λ _. map output_of columns.new.items) result (Ok (map output_of columns.old.items ++ all_outputs 0 (sources_of from.now) place)) }

@@ -3,7 +3,7 @@ use Rattle.std.proofs.Common.{◌≡◌, ℕ, ℤ, [], ◌∷◌, ◌++◌, map,
 use Rattle.std.specs.Prelude.{◌||◌, nat_eq}
 use Rattle.mob_language.specs.Language.{Text, Language, ◌▷◌, ◌∣◌, Means, Word, AreAll, Separated, blanks, is_blank, in_middle}
 use Rattle.mob_language.specs.Readers.{TextReader, means_at, separated_at, items_at}
-use Rattle.mob_language.proofs.Exact.{Exact, Stops, Any, then_exact, or_exact, means_exact, word_exact, one_exact, run_exact, run_again}
+use Rattle.mob_language.proofs.Exact.{Exact, Stops, Any, then_exact, or_exact, means_exact, word_exact, one_exact, many_exact, many_again}
 use Rattle.mob_language.proofs.Heads.{NoHead, Apart, HasByte, stops_less, byte_stops, means_head, one_head, or_head, then_byte, means_byte, or_byte, then_byte_stops, word_then_head, one_then_head, byte_head, one_byte, word_byte, spaced_exact, IsEnd, within_exact}
 use Rattle.mob_language.proofs.Lists.{separated_exact}
 use Rattle.mob_scalar.proofs.MomentExact.{Closes, moment_exact}
@@ -26,11 +26,11 @@ comma_exact = spaced_exact 44 [] refl
 
 opening_exact : Exact opening opening_at (Stops is_blank)
 unfolding opening_at
-opening_exact = means_exact (λ (v : ℕ × Text). v.0) (then_exact {F = Any} (one_exact is_open) (run_exact is_blank) (λ text rest v said after. tt))
+opening_exact = means_exact (λ (v : ℕ × Text). v.0) (then_exact {F = Any} (one_exact is_open) (many_exact is_blank) (λ text rest v said after. tt))
 
 closing_exact : Exact closing closing_at Any
 unfolding closing_at
-closing_exact = means_exact (λ (v : Text × ℕ). v.1) (then_byte_stops (run_exact is_blank) (one_exact is_close) (one_head close_blank) (one_byte is_close))
+closing_exact = means_exact (λ (v : Text × ℕ). v.1) (then_byte_stops (many_exact is_blank) (one_exact is_close) (one_head close_blank) (one_byte is_close))
 
 comma_byte : HasByte comma
 comma_byte = means_byte (λ (v : Text × (Unit {0} × Text)). tt) (λ text v said e.
@@ -103,7 +103,7 @@ comma_closes y rest said =
 
 no_comma_at : (bs : Text) (c : ℕ) (cs : Text) → AreAll is_blank bs → is_blank c ≡ false → nat_eq c 44 ≡ false → comma_at (bs ++ (c ∷ cs)) ≡ None
 unfolding comma_at
-no_comma_at bs c cs each h k = rw (run_again is_blank bs (c ∷ cs) each h, k) refl
+no_comma_at bs c cs each h k = rw (many_again is_blank bs (c ∷ cs) each h, k) refl
 
 -- a sign that ends a list, with blanks before it
 sign_ends : (bs : Text) (c : ℕ) (cs : Text) → AreAll is_blank bs → Ends c → nat_eq c 44 ≡ false → ListEnds (bs ++ (c ∷ cs))
@@ -186,11 +186,11 @@ members_exact {A} {entry} {reader} e = or_exact (sequences_exact e) (means_exact
 
 open_brace_exact : Exact (Word (codes "{") ▷ blanks) open_brace_at (Stops is_blank)
 unfolding open_brace_at
-open_brace_exact = then_exact {F = Any} (word_exact (codes "{")) (run_exact is_blank) (λ text rest v said after. tt)
+open_brace_exact = then_exact {F = Any} (word_exact (codes "{")) (many_exact is_blank) (λ text rest v said after. tt)
 
 close_brace_exact : Exact (blanks ▷ Word (codes "}")) close_brace_at Any
 unfolding close_brace_at
-close_brace_exact = then_byte_stops (run_exact is_blank) (word_exact (codes "}")) (word_blank) (word_byte 125 [])
+close_brace_exact = then_byte_stops (many_exact is_blank) (word_exact (codes "}")) (word_blank) (word_byte 125 [])
   where
     word_blank : NoHead (Word (codes "}")) is_blank
     word_blank text v said = subst (Stops is_blank) (sym said) refl

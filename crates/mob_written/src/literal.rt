@@ -289,7 +289,7 @@ fn one_instant_at<'a, T: WrittenValue>(
 }
 
 #[tactic(auto, unfolding(crate::specs::Literal::temporal_literal_at))]
-fn literal_at<'a, T: WrittenValue>(
+fn temporal_literal_at<'a, T: WrittenValue>(
     alloc: Global,
     epoch: &Epoch,
     bytes: &'a [u8],
@@ -314,7 +314,7 @@ pub fn literal_of<T: WrittenValue>(
 ) -> Result<Option<Sequences<T::Base>>, AllocError>
     ensures read { IfOk result (λ o. option_map (λ x. x.items) o ≡ all_of (temporal_in (noted_in epoch.now T.reader)) bytes.now) }
 {
-    let Some((sequences, rest)) = literal_at::<T>(alloc, epoch, blanks(bytes).1)? else {
+    let Some((sequences, rest)) = temporal_literal_at::<T>(alloc, epoch, blanks(bytes).1)? else {
         return Ok(None);
     };
     match blanks(rest).1 {

@@ -44,7 +44,7 @@ fn is_long<B: BaseValue + Drop>(slice: &Slice<Steady<B>>) -> bool
 
 /// Whether two neighbours stand in one group.
 #[tactic(auto, unfolding(mob_ratio::specs::Order::same))]
-fn goes_on<B: BaseValue + Drop>(slice: &Slice<Steady<B>>, next: &Slice<Steady<B>>) -> bool
+fn shares_group<B: BaseValue + Drop>(slice: &Slice<Steady<B>>, next: &Slice<Steady<B>>) -> bool
     ensures value { result ≡ shares_group slice.now next.now }
 {
     slice.span.upper().is_same(next.span.lower())
@@ -110,7 +110,7 @@ fn write_between<B: BaseValue + Printed + Drop>(
 ) -> Result<(), AllocError>
     ensures written { OnOk result (string_bytes into.new ≡ string_bytes into.old ++ gap (style_of B.text epoch.now) slice.now next.now) }
 {
-    if goes_on(slice, next) {
+    if shares_group(slice, next) {
         return into.push_str(", ");
     }
     write_end(slice, epoch, into)?;
@@ -172,7 +172,7 @@ fn is_group<B: BaseValue + Drop>(slices: &[Slice<Steady<B>>]) -> bool
 {
     match slices {
         [] => false,
-        [_, ..] => all_neighbours(slices, goes_on),
+        [_, ..] => all_neighbours(slices, shares_group),
     }
 }
 

@@ -2,7 +2,7 @@ use Rattle.std.proofs.Common.{◌≡◌, ◌<◌, ◌+◌, map, List, ℕ, Bor, 
 use Rattle.std.specs.List.{zip}
 use Rattle.std.proofs.lemmas.List.{get_or-map, length-map}
 use Rattle.std.proofs.lemmas.Slice.Zip.{length-zip}
-use Rattle.mob_catalog.specs.Faults.{IsRefusedAs, FileFault}
+use Rattle.mob_catalog.specs.Faults.{IsKindOfFault, FileFault}
 use Rattle.mob_catalog.specs.FirstFault.{IsFirstFault}
 use Rattle.mob_catalog.specs.TableFile.{Column, FieldFails, IsValue}
 use Rattle.mob_catalog.proofs.FirstFaults.{all_read, fails_here, one_more, pair_at}
@@ -23,7 +23,7 @@ pub returns-in-Err-clause-first_fault : goal.returns-in-Err-clause-first_fault
 returns-in-Err-clause-first_fault c =
     let items = zip c.args.columns.now (map (λ (field : Bor (List ℕ)). field.now) c.args.fields.now) in
     let size = long c.args.columns.now c.args.fields.now c.requires.lengths in
-    on_refused (λ (w : FileFault). IsRefusedAs c.in-Err.fault w.kind × (w.rec ≡ c.args.rec) × (w.field ≡ c.loop-i.i + 1)) (IsFirstFault (IsValue c.args.epoch.now) (FieldFails c.args.epoch.now c.args.rec) items)
+    on_refused (λ (w : FileFault). IsKindOfFault c.in-Err.fault w.kind × (w.rec ≡ c.args.rec) × (w.field ≡ c.loop-i.i + 1)) (IsFirstFault (IsValue c.args.epoch.now) (FieldFails c.args.epoch.now c.args.rec) items)
     (λ w p. fails_here (IsValue c.args.epoch.now) (FieldFails c.args.epoch.now c.args.rec) items c.loop-i.values c.loop-i.i _ w (omega arith)
     (pair c.args.columns.now c.args.fields.now c.loop-i.i c.index-columns-i.result _ c.loop-i-test.true c.requires.lengths c.index-columns-i.is) c.loop-i.invariant
     (record { fault = c.in-Err.fault; says = c.in-Err.ensures.says; refusal = p.0; in_record = p.1; in_field = p.2 }))

@@ -1,6 +1,6 @@
 use Rattle.std.proofs.Common.{length, ◌-◌, ◌≤◌, ◌<◌, ◌≡◌, ℕ, Bool}
 use Rattle.mob_numeral.proofs.Runs.{IsSplit}
-use Rattle.mob_numeral.proofs.readers.split_run.Given as goal
+use Rattle.mob_numeral.proofs.readers.split_while.Given as goal
 
 abbrev pub invariant-loop-i : goal.invariant-loop-i
 invariant-loop-i g l = record {
