@@ -320,7 +320,13 @@ unfoldable pub limit_at : TokenReader (Option Word)
 limit_at = if_mark Limit some_number_at (λ l. Ok (None, l))
 
 unfoldable pub select_at : TokenReader SelectParts
-select_at l = distinct_at l >>= λ distinct. listed Comma item_at distinct.1 >>= λ items. from_at items.1 >>= λ from. condition_at from.1 >>= λ cond. order_at cond.1 >>= λ keys. limit_at keys.1 >>= λ limit.
+select_at l = do
+    distinct ← distinct_at l
+    items ← listed Comma item_at distinct.1
+    from ← from_at items.1
+    cond ← condition_at from.1
+    keys ← order_at cond.1
+    limit ← limit_at keys.1
     Ok (record { distinct = distinct.0; items = items.0; from = from.0; cond = cond.0; keys = keys.0; limit = limit.0 }, limit.1)
 
 unfoldable pub select_statement_at : TokenReader StatementParts

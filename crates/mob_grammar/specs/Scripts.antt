@@ -107,7 +107,13 @@ LimitPart = (Limit ▸ ANumber ⇒ λ number. Builds (Some number)) ∣ Builds N
 
 -- [DISTINCT] item { "," item } [FROM ..] [WHERE ..] [ORDER BY ..] [LIMIT ..]
 abbrev pub SelectBody : Production SelectParts
-SelectBody = OnlyDistinct ⇒ λ distinct. Listed Comma SelectItem ⇒ λ items. FromPart ⇒ λ from. WherePart ⇒ λ cond. OrderPart ⇒ λ keys. LimitPart ⇒ λ limit.
+SelectBody =
+    OnlyDistinct ⇒ λ distinct.
+    Listed Comma SelectItem ⇒ λ items.
+    FromPart ⇒ λ from.
+    WherePart ⇒ λ cond.
+    OrderPart ⇒ λ keys.
+    LimitPart ⇒ λ limit.
     Builds (record { distinct = distinct; items = items; from = from; cond = cond; keys = keys; limit = limit })
 
 -- a statement, by its first word
