@@ -26,7 +26,7 @@ use Rattle.mob_lexemes.specs.Lexed.{other_sign, sign_mark, word_symbol, piece, s
 use Rattle.mob_lexemes.proofs.Reserved.{words_are_read}
 use Rattle.mob_parse.specs.Refusals.{place_of}
 use Rattle.mob_accept.proofs.Within.{ends_later}
-use Rattle.mob_accept.specs.UnbuiltWords.{bytes_of, tokens_in, is_end_before, statement_number}
+use Rattle.mob_accept.specs.UnbuiltWords.{tokens_in, is_end_before, statement_number}
 
 -- the one text that is read as `;`
 other_found : (ms : List Mark) (s : List ℕ) (m : Mark) → other_sign ms s ≡ m → (m ≡ Dot) ⊎ (mark_text m ≡ s)
@@ -83,8 +83,8 @@ no_end l k n e other = elim (told (bytes_eq (take n l) (codes ";"))) [ inl yes_ 
 
 -- a token is `;` by its bytes exactly where the grammar sees it so, and has a byte where the grammar sees it at all
 abbrev Agrees : List ℕ → Token → Option Symbol → Type 0
-Agrees text t None = bytes_eq (bytes_of text t) (codes ";") ≡ false
-Agrees text t (Some x) = (t.from < t.to) × (bytes_eq (bytes_of text t) (codes ";") ≡ is_mark Semicolon x)
+Agrees text t None = bytes_eq (piece text t.from t.to) (codes ";") ≡ false
+Agrees text t (Some x) = (t.from < t.to) × (bytes_eq (piece text t.from t.to) (codes ";") ≡ is_mark Semicolon x)
 
 abbrev AllAgree : List ℕ → List Token → Type 0
 AllAgree text [] = Unit {0}
@@ -135,7 +135,7 @@ module _ (text : List ℕ) where
       let first = order.0 in
       let goes_on = order.1 in
       let later : nat_lt t.from p ≡ false = le-ltb t.from p (omega arith) in
-      passed_by p t ts (ap (λ b. bytes_eq (bytes_of text t) (codes ";") && b) later ∙ and-false (bytes_eq (bytes_of text t) (codes ";"))) ∙ none_before p t.to e ts (omega arith) order.2
+      passed_by p t ts (ap (λ b. bytes_eq (piece text t.from t.to) (codes ";") && b) later ∙ and-false (bytes_eq (piece text t.from t.to) (codes ";"))) ∙ none_before p t.to e ts (omega arith) order.2
 
   -- a token behind others begins where they have ended, or later
   one_after : (q e : ℕ) (t : Token) (ts : List Token) (o : Option Symbol) (before behind : List PlacedSymbol) (u : PlacedSymbol) → InOrder q e (t ∷ ts) → before_lexed t.from o (lexed text ts) ≡ before ++ u ∷ behind
@@ -150,7 +150,7 @@ module _ (text : List ℕ) where
   place_after q e (t ∷ ts) before behind u order parts = one_after q e t ts (symbol_at text t.kind t.from t.to) before behind u order parts (λ others same. place_after t.to e ts others behind u order.2 same)
 
   -- one token more in front
-  one_more : (p : ℕ) (t : Token) (ts : List Token) (x : Symbol) (b : PlacedSymbol) (before : List PlacedSymbol) → bytes_eq (bytes_of text t) (codes ";") ≡ is_mark Semicolon x → b.symbol ≡ x → t.from < p → ends_before p ts ≡ ends_among before
+  one_more : (p : ℕ) (t : Token) (ts : List Token) (x : Symbol) (b : PlacedSymbol) (before : List PlacedSymbol) → bytes_eq (piece text t.from t.to) (codes ";") ≡ is_mark Semicolon x → b.symbol ≡ x → t.from < p → ends_before p ts ≡ ends_among before
       → ends_before p (t ∷ ts) ≡ ends_among (b ∷ before)
   one_more p t ts x b before agrees same less so_far = elim (told (is_mark Semicolon x)) [
     | inl yes_ ↦

@@ -2,7 +2,8 @@
 ghost use Rattle.std.specs.Prelude.{◌≡◌, ◌+◌, ◌<◌, ◌^◌, ◌≤◌, IfOk, length, map, filter};
 ghost use Rattle.mob_chars.specs.Layout.{InOrder};
 ghost use Rattle.mob_accept.specs.Least.{least};
-ghost use Rattle.mob_accept.specs.UnbuiltWords.{bytes_of, is_unbuilt_word, unbuilt_words, is_end_before, statement_number};
+ghost use Rattle.mob_lexemes.specs.Lexed.{piece};
+ghost use Rattle.mob_accept.specs.UnbuiltWords.{is_unbuilt_word, unbuilt_words, is_end_before, statement_number};
 
 use crate::least::earlier;
 use mob_chars::laws::tokens_are_in_order;
@@ -11,9 +12,9 @@ use mob_chars::token::{LexFault, Token};
 use std::alloc::{AllocError, Global};
 
 // The bytes of a token.
-fn bytes_of<'a>(text: &'a str, token: &Token) -> &'a [u8]
+fn piece<'a>(text: &'a str, token: &Token) -> &'a [u8]
     requires { (token.now.from ≤ token.now.to) × (token.now.to ≤ length text.now) }
-    ensures { result.now ≡ bytes_of text.now token.now }
+    ensures { result.now ≡ piece text.now token.now.from token.now.to }
 {
     &text.as_bytes()[token.from as usize..token.to as usize]
 }
@@ -22,7 +23,7 @@ fn is_unbuilt_word(text: &str, token: &Token) -> bool
     requires { (token.now.from ≤ token.now.to) × (token.now.to ≤ length text.now) }
     ensures { result ≡ is_unbuilt_word text.now token.now }
 {
-    let word = bytes_of(text, token);
+    let word = piece(text, token);
     word.eq_ignore_ascii_case(b"index") || word.eq_ignore_ascii_case(b"explain")
 }
 
@@ -58,7 +59,7 @@ fn is_end_before(text: &str, place: u32, token: &Token) -> bool
     requires { (token.now.from ≤ token.now.to) × (token.now.to ≤ length text.now) }
     ensures { result ≡ is_end_before text.now place token.now }
 {
-    bytes_of(text, token) == b";".as_slice() && token.from < place
+    piece(text, token) == b";".as_slice() && token.from < place
 }
 
 // 1 and how many `;` there are before a place.

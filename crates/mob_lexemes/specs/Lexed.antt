@@ -8,7 +8,8 @@ use Rattle.mob_grammar.specs.declared.mark.Mark.{Mark}
 use Rattle.mob_grammar.specs.declared.mark.Mark.TheVariants.{NotEqual, Dot}
 use Rattle.mob_grammar.specs.Marks.{mark_text, reserved_words, sign_marks}
 use Rattle.mob_grammar.specs.Symbols.{Symbol, fixed, name, number, quoted, PlacedSymbol}
-use Rattle.mob_lexemes.specs.Lexemes.{lower, unquoted}
+use Rattle.mob_language.specs.Language.{in_lower_case}
+use Rattle.mob_lexemes.specs.Lexemes.{unquoted}
 
 -- the first of the marks that has this text, in letters of either case
 abbrev pub word_mark : List Mark → List ℕ → Option Mark
@@ -26,7 +27,7 @@ sign_mark s = cond (bytes_eq s (codes "!=")) NotEqual (other_sign sign_marks s)
 
 -- a word is reserved, or a name in lower case
 abbrev pub word_or_name : List ℕ → Option Mark → Symbol
-word_or_name s None = name (lower s)
+word_or_name s None = name (in_lower_case s)
 word_or_name s (Some m) = fixed m
 
 abbrev pub word_symbol : List ℕ → Symbol

@@ -1,7 +1,8 @@
 //! Where the parser stands: the tokens that are still to be read.
 ghost use Rattle.std.specs.Prelude.{◌≡◌, ◌<◌, [], ◌∷◌, true, false, cond, MatchOption, MatchResult};
 ghost use Rattle.mob_grammar.specs.Symbols.{sign, binding, begins, starts, goes_on, rest, is_name, is_string, numeral, string, identifier, is_number};
-ghost use Rattle.mob_lexemes.specs.Lexemes.{lower, unquoted};
+ghost use Rattle.mob_lexemes.specs.Lexemes.{unquoted};
+ghost use Rattle.mob_language.specs.Language.{in_lower_case};
 ghost use Rattle.mob_parse.specs.Cursors.{left};
 
 use mob_grammar::mark::Mark;
@@ -111,7 +112,7 @@ impl<'a> Cursor<'a> {
     pub fn take_name(&mut self) -> Option<(&'a str, u32)>
         ensures passes { MatchOption result
             ((begins is_name (left self.old) ≡ false) × (left self.new ≡ left self.old))
-            (λ x. left self.old ≡ identifier (lower x.0.now) x.1 ∷ left self.new) }
+            (λ x. left self.old ≡ identifier (in_lower_case x.0.now) x.1 ∷ left self.new) }
     {
         match self.lexemes {
             [first, rest @ ..] => match first.symbol {

@@ -2,7 +2,8 @@
 ghost use Rattle.std.specs.Prelude.{◌≡◌, ◌<◌, IfOk, Some, None};
 ghost use Rattle.mob_ast.specs.Trees.{tree_of, tree, none, more};
 ghost use Rattle.mob_grammar.specs.Symbols.{mark_node};
-ghost use Rattle.mob_lexemes.specs.Lexemes.{lower, without_quote, unquoted};
+ghost use Rattle.mob_lexemes.specs.Lexemes.{without_quote, unquoted};
+ghost use Rattle.mob_language.specs.Language.{in_lower_case};
 
 use mob_ast::expression::{Expr, Node};
 use mob_ast::types::Word;
@@ -19,7 +20,7 @@ pub fn copy_text(alloc: Global, text: &str) -> Result<Text, AllocError>
 
 /// A text in lower case.
 pub fn lower_text(alloc: Global, text: &str) -> Result<Text, AllocError>
-    ensures lowered { IfOk result (λ t. t ≡ lower text.now) }
+    ensures lowered { IfOk result (λ t. t ≡ in_lower_case text.now) }
 {
     Ok(Text::from_string(text.to_ascii_lowercase(alloc)?))
 }
@@ -51,7 +52,7 @@ pub fn unquoted_text(alloc: Global, text: &str) -> Result<Text, AllocError>
 
 /// A word in lower case, at a place.
 pub fn word(alloc: Global, text: &str, place: u32) -> Result<Word, AllocError>
-    ensures exact { IfOk result (λ w. w ≡ record { text = lower text.now; place = place }) }
+    ensures exact { IfOk result (λ w. w ≡ record { text = in_lower_case text.now; place = place }) }
 {
     let text = lower_text(alloc, text)?;
     Ok(Word { text, place })

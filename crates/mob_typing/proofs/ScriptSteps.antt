@@ -18,10 +18,6 @@ abbrev pub behind_script : List StatementOut → Result ScriptOut Refusal → Re
 behind_script [] r = r
 behind_script (s ∷ ss) r = or_refused (behind_script ss r) (λ out. Ok (put_statement s out))
 
-refused_both : {X Y Z : Type 0} (r : Result X Refusal) (f : X → Result Y Refusal) (g : Y → Result Z Refusal) → or_refused (or_refused r f) g ≡ or_refused r (λ x. or_refused (f x) g)
-refused_both (Ok x) f g = refl
-refused_both (Err w) f g = refl
-
 pub nothing_left : (done : List StatementOut) (cs : List ConstText) → behind_script done (Ok (record { statements = []; consts = cs })) ≡ Ok (record { statements = done; consts = cs })
 nothing_left [] cs = refl
 nothing_left (s ∷ ss) cs = ap (λ r. or_refused r (λ out. Ok (put_statement s out))) (nothing_left ss cs)
