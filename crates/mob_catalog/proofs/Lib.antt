@@ -4,4 +4,4 @@ mod Refusals
 mod Places
 mod OneFirst
 pub mod OneTable
-mod OneMeaning
+pub mod OneMeaning

@@ -1,5 +1,5 @@
 -- A literal that is refused.
-use Rattle.std.proofs.Common.{◌≡◌, ◌≢◌, ◌⊎◌, inl, inr, ap, ℤ, Err}
+use Rattle.std.proofs.Common.{◌≡◌, ◌≢◌, ◌⊎◌, refl, inl, inr, ap, ℤ, Err}
 use Rattle.mob_ast.specs.Kinds.{no_memory}
 use Rattle.std.proofs.lemmas.Option.{same_Some}
 use Rattle.mob_ast.specs.declared.refusal.Kind.{Kind}
@@ -26,4 +26,4 @@ pub literal_refused : (day : ℤ) (c : ConstText) (l m : Loaded) (e : Refusal) (
     → LoadsTo {A = Unit {0}} (Err end) m (LoadsLiteral day c l)
 literal_refused day c l m e end (inl h) memory known = rw (memory (ap (λ (r : Refusal). r.kind) h)) tt
 literal_refused day c l m e end (inr h) memory known =
-    rw (known (never_memory h.fault e.kind h.for_fault)) (h.fault, e.kind, h.for_fault, h.says, ap refused h.there)
+    rw (known (never_memory h.fault e.kind h.for_fault)) (e, h, refl)

@@ -1,29 +1,21 @@
 -- Loading has one outcome.
 use Rattle.std.proofs.Common.{◌≡◌, ◌∙◌, sym, ap, subst, ℕ, ℤ, ◌-◌, List, [], ◌∷◌, Option, Some, None, Ok, Err}
 use Rattle.std.specs.Prelude.{Result}
-use Rattle.mob_literal.proofs.SqlReading.{one_sql_reading}
 use Rattle.mob_outside.specs.Told.{Contents, file_of}
 use Rattle.mob_catalog.specs.Outcomes.{HasOneFault, HasOneTable, NeverReadAndRefused}
-use Rattle.mob_catalog.specs.Faults.{IsKindOfFault, FileFault}
-use Rattle.mob_catalog.proofs.OneTable.{fault_known, one_kind, value_known}
+use Rattle.mob_catalog.specs.Faults.{FileFault}
+use Rattle.mob_catalog.proofs.OneMeaning.{one_value, one_refusal, value_or_refusal}
 use Rattle.mob_typed.specs.declared.typed.ConstText.{ConstText}
 use Rattle.mob_load.specs.Checks.{CheckParts, literal, table, room, file, checks_of}
-use Rattle.mob_load.specs.Loads.{ContinuesBy, Halt, Loaded, Loads, LoadsCheck, LoadsFile, LoadsLiteral, loaded_columns, greatest_rows, nothing_loaded, refused_literal, loaded_row_count, table_refused, with_file, with_value}
+use Rattle.mob_load.specs.Loads.{ContinuesBy, Halt, Loaded, Loads, LoadsCheck, LoadsFile, LoadsLiteral, loaded_columns, greatest_rows, nothing_loaded, refused, loaded_row_count, table_refused, with_file, with_value}
 use Rattle.mob_load.specs.Outcomes.{HasOneLoading, LoadsOneProgram}
 use Rattle.mob_load.specs.declared.program.Program.{Program}
 
 one_read : (day : ℤ) (c : ConstText) (l : Loaded) (r q : Result Loaded Halt) → LoadsLiteral day c l r → LoadsLiteral day c l q → r ≡ q
-one_read day c l (Ok m) (Ok n) h k =
-    let e = one_sql_reading c.ty day c.text (Ok h.0) (Ok k.0) (value_known h.0) (value_known k.0) h.1 k.1 in
-    let value : h.0 ≡ k.0 = cc e in
-    ap Ok (h.2 ∙ ap (with_value l) value ∙ sym k.2)
-one_read day c l (Ok m) (Err g) h k = let e = one_sql_reading c.ty day c.text (Ok h.0) (Err k.0) (value_known h.0) (fault_known k.0 k.1 k.2) h.1 k.3 in absurd (cc e)
-one_read day c l (Err g) (Ok m) h k = let e = one_sql_reading c.ty day c.text (Err h.0) (Ok k.0) (fault_known h.0 h.1 h.2) (value_known k.0) h.3 k.1 in absurd (cc e)
-one_read day c l (Err f) (Err g) h k =
-    let e = one_sql_reading c.ty day c.text (Err h.0) (Err k.0) (fault_known h.0 h.1 h.2) (fault_known k.0 k.1 k.2) h.3 k.3 in
-    let fault : h.0 ≡ k.0 = cc e in
-    let kind : h.1 ≡ k.1 = one_kind k.0 h.1 k.1 (subst (λ f. IsKindOfFault f h.1) fault h.2) k.2 in
-    ap Err (h.4 ∙ ap (refused_literal c) kind ∙ sym k.4)
+one_read day c l (Ok m) (Ok n) h k = ap Ok (h.2 ∙ ap (with_value l) (one_value day c h.0 k.0 h.1 k.1) ∙ sym k.2)
+one_read day c l (Ok m) (Err g) h k = absurd (value_or_refusal day c h.0 k.0 h.1 k.1)
+one_read day c l (Err g) (Ok m) h k = absurd (value_or_refusal day c k.0 h.0 k.1 h.1)
+one_read day c l (Err f) (Err g) h k = ap Err (h.2 ∙ ap refused (one_refusal day 0 c h.0 k.0 h.1 k.1) ∙ sym k.2)
 
 goes_one : (others : Loaded → Result Loaded Halt → Type 0) → ((m : Loaded) (r q : Result Loaded Halt) → others m r → others m q → r ≡ q) → (s r q : Result Loaded Halt) → ContinuesBy others s r → ContinuesBy others s q → r ≡ q
 goes_one others one (Ok m) r q h k = one m r q h k

@@ -5,12 +5,10 @@ use Rattle.mob_ast.specs.declared.refusal.Kind.{Kind}
 use Rattle.mob_ast.specs.declared.refusal.Kind.TheVariants as kind
 use Rattle.mob_ast.specs.declared.refusal.Refusal.{Refusal}
 use Rattle.mob_value.specs.declared.value.Value.{Value}
-use Rattle.mob_numeral.specs.declared.fault.ReadText.{ReadText}
-use Rattle.mob_literal.specs.SqlText.{SaysAs}
 use Rattle.mob_outside.specs.Faults.{Rose}
 use Rattle.mob_outside.specs.Told.{Contents, file_of}
-use Rattle.mob_catalog.specs.Constants.{IsConstant, at_constant}
-use Rattle.mob_catalog.specs.Faults.{IsKindOfFault, FileFault}
+use Rattle.mob_catalog.specs.Constants.{IsConstant, ConstantFails}
+use Rattle.mob_catalog.specs.Faults.{FileFault}
 use Rattle.mob_catalog.specs.TableFile.{IsTable, FileFails}
 use Rattle.mob_typed.specs.declared.typed.ConstText.{ConstText}
 use Rattle.mob_typed.specs.Statements.{ColumnList}
@@ -70,14 +68,10 @@ with_rows l t n = record l { rows = slice_set l.rows t (loaded_row_count l t + n
 abbrev pub with_file : Loaded → ℕ → List (List Value) → Loaded
 with_file l t rows = record (with_rows l t (length rows)) { files = l.files ++ rows ∷ [] }
 
--- a literal that has no value is refused at its place
-abbrev pub refused_literal : ConstText → Kind → Halt
-refused_literal c k = refused (at_constant c k)
-
 -- a literal has the value of its text, or it is refused for what is wrong with that
 abbrev pub LoadsLiteral : ℤ → ConstText → Loaded → Result Loaded Halt → Type 0
-LoadsLiteral day c l (Ok m) = (v : Value) × SaysAs c.ty day c.text (Ok v) × (m ≡ with_value l v)
-LoadsLiteral day c l (Err h) = (f : ReadText) × (k : Kind) × IsKindOfFault f k × SaysAs c.ty day c.text (Err f) × (h ≡ refused_literal c k)
+LoadsLiteral day c l (Ok m) = (v : Value) × IsConstant day c v × (m ≡ with_value l v)
+LoadsLiteral day c l (Err h) = (e : Refusal) × ConstantFails day c e × (h ≡ refused e)
 
 -- a table takes one row more as long as it has fewer than the most; else the row is refused at its bracket
 abbrev pub one_row : ℕ → ℕ → ℕ → Loaded → Result Loaded Halt
