@@ -1,4 +1,5 @@
 pub mod Accepts
+pub mod Built
 pub mod Least
 pub mod Numbers
 pub mod Outcomes

@@ -6,13 +6,10 @@ use Rattle.mob_ast.specs.declared.types.SqlType.TheVariants as sql
 use Rattle.mob_operators.specs.declared.operator.Op.{Op}
 use Rattle.mob_operators.specs.declared.operator.Op.TheVariants as op
 use Rattle.mob_operators.specs.Lookup.{has_type}
+use Rattle.mob_accept.specs.Built.{is_built}
 use Rattle.mob_typed.specs.Trees.{TypedTree, typed, TypedTrees, none, more, type_of}
 use Rattle.mob_typed.specs.Selects.{Output, TypedSelectParts}
 use Rattle.mob_typed.specs.Statements.{StatementOut, nothing, new_table, new_index, new_rows, rows_from, query, plan_of}
-
--- the types whose values are built
-abbrev pub is_built : SqlType → Bool
-is_built ty = has_type (sql.Bool ∷ sql.Int ∷ sql.Numeric ∷ sql.Text ∷ sql.Moment ∷ sql.TBool ∷ sql.TInt ∷ sql.TText ∷ []) ty
 
 -- what has no arguments is no operator
 abbrev pub is_leaf : Op → Bool

@@ -1,25 +1,21 @@
 -- Where a script names a type whose values are not built.
-use Rattle.std.specs.Prelude.{◌||◌, ℕ, List, [], ◌∷◌, ◌++◌, Bool, Option, Some, None, codes, if◌then◌else◌}
+use Rattle.std.specs.Prelude.{ℕ, List, [], ◌++◌, Option, Some, None}
 use Rattle.std.specs.List.{flat_map}
-use Rattle.std.specs.Str.{bytes_eq}
 use Rattle.mob_ast.specs.declared.types.Word.{Word}
 use Rattle.mob_ast.specs.declared.types.TypeWord.{TypeWord}
 use Rattle.mob_ast.specs.declared.expression.Node.{Node}
 use Rattle.mob_ast.specs.declared.expression.Node.TheVariants as node
+use Rattle.mob_expression.specs.Words.{type_named, literal_type}
+use Rattle.mob_accept.specs.Built.{unbuilt_at}
 use Rattle.mob_ast.specs.Trees.{Tree, tree, Trees, none, more, RowParts, ItemParts, every, one, KeyParts, SelectParts, StatementParts, empty, create_table, create_index, insert, copy, select, explain}
 
--- The words that begin the types whose values are not built: geometry of points and of polygons, spans, span sets, boxes,
--- and the linear temporal types.
-abbrev pub is_unbuilt_type : List ℕ → Bool
-is_unbuilt_type name = bytes_eq name (codes "geometry") || bytes_eq name (codes "tstzspan") || bytes_eq name (codes "tstzspanset") || bytes_eq name (codes "stbox")
-    || bytes_eq name (codes "tfrac") || bytes_eq name (codes "tfloat") || bytes_eq name (codes "tgeompoint")
-
--- the place of a type, where it is not built
+-- the place of a type, where its values are not built
 abbrev pub in_type : TypeWord → List ℕ
-in_type w = if is_unbuilt_type w.name.text then w.name.place ∷ [] else []
+in_type w = unbuilt_at w.name.place (type_named w.name.text w.inner)
 
+-- that of a type before a string, by which a geometry is a point or a polygon; and behind `::`
 abbrev pub in_node : Node → List ℕ
-in_node (node.Literal w text) = in_type w
+in_node (node.Literal w text) = unbuilt_at w.name.place (literal_type w.name.text w.inner text)
 in_node (node.Cast w) = in_type w
 in_node _ = []
 

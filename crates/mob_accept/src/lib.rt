@@ -1,6 +1,7 @@
 //! Which texts are scripts that are taken, and the first refusal of one that is not.
 #![tactic(auto)]
 
+pub mod built;
 pub mod laws;
 pub mod least;
 pub mod text;

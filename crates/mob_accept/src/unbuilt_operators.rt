@@ -6,29 +6,14 @@ ghost use Rattle.mob_typed.specs.Trees.{typed_of, type_of};
 ghost use Rattle.mob_typed.specs.Selects.{select_seen};
 ghost use Rattle.mob_typed.specs.Statements.{statement_seen, script_seen};
 ghost use Rattle.mob_accept.specs.Least.{least};
-ghost use Rattle.mob_accept.specs.UnbuiltOperators.{is_built, is_leaf, is_later, is_lifted, is_widened, is_unbuilt, own_place, in_typed, in_typed_condition, in_query, in_typed_statement, unbuilt_operators};
+ghost use Rattle.mob_accept.specs.Built.{is_built};
+ghost use Rattle.mob_accept.specs.UnbuiltOperators.{is_leaf, is_later, is_lifted, is_widened, is_unbuilt, own_place, in_typed, in_typed_condition, in_query, in_typed_statement, unbuilt_operators};
 
+use crate::built::is_built;
 use crate::least::{Places, earlier, first_among};
 use mob_ast::SqlType;
 use mob_list::text::Text;
 use mob_typed::{Op, TExpr, Typed, TypedSelect, TypedStatement};
-
-// Whether the values of a type are built.
-fn is_built(ty: SqlType) -> bool
-    ensures { result ≡ is_built ty }
-{
-    match ty {
-        SqlType::Bool
-        | SqlType::Int
-        | SqlType::Numeric
-        | SqlType::Text
-        | SqlType::Moment
-        | SqlType::TBool
-        | SqlType::TInt
-        | SqlType::TText => true,
-        _ => false,
-    }
-}
 
 // What has no arguments is no operator.
 fn is_leaf(op: Op) -> bool

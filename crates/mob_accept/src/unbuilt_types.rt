@@ -3,39 +3,26 @@ ghost use Rattle.std.specs.Prelude.{◌≡◌, map, option_map};
 ghost use Rattle.std.specs.List.{flat_map};
 ghost use Rattle.mob_ast.specs.Trees.{tree_of, row_of, item_of, key_of, select_of, statement_of, script_of};
 ghost use Rattle.mob_accept.specs.Least.{least};
-ghost use Rattle.mob_accept.specs.UnbuiltTypes.{is_unbuilt_type, in_type, in_node, in_tree, in_column, in_row, in_item, in_key, in_condition, in_select, in_statement_tree, unbuilt_types};
+ghost use Rattle.mob_accept.specs.UnbuiltTypes.{in_type, in_node, in_tree, in_column, in_row, in_item, in_key, in_condition, in_select, in_statement_tree, unbuilt_types};
 
+use crate::built::unbuilt_at;
 use crate::least::{Places, earlier, first_among};
 use mob_ast::{Expr, Item, Key, Node, Row, Script, SelectTree, Statement, TypeWord, Word};
+use mob_expression::words::{literal_type, type_named};
 
-fn is_unbuilt_type(name: &str) -> bool
-    ensures { result ≡ is_unbuilt_type name.now }
-{
-    name == "geometry"
-        || name == "tstzspan"
-        || name == "tstzspanset"
-        || name == "stbox"
-        || name == "tfrac"
-        || name == "tfloat"
-        || name == "tgeompoint"
-}
-
-// The place of a type, where it is not built.
+// The place of a type, where its values are not built.
 fn in_type(word: &TypeWord) -> Option<u32>
     ensures { result ≡ least (in_type word.now) }
 {
-    if is_unbuilt_type(word.name.text.as_str()) {
-        Some(word.name.place)
-    } else {
-        None
-    }
+    unbuilt_at(word.name.place, type_named(word))
 }
 
+// That of a type before a string, by which a geometry is a point or a polygon; and behind `::`.
 fn in_node(node: &Node) -> Option<u32>
     ensures { result ≡ least (in_node node.now) }
 {
     match node {
-        Node::Literal { ty, .. } => in_type(ty),
+        Node::Literal { ty, text } => unbuilt_at(ty.name.place, literal_type(ty, text.as_str())),
         Node::Cast(ty) => in_type(ty),
         _ => None,
     }

@@ -2,7 +2,7 @@ use Rattle.std.proofs.Common.{◌≡◌, drop, map}
 use Rattle.std.specs.Prelude.{not}
 use Rattle.std.specs.List.{list_any}
 use Rattle.mob_typed.specs.Trees.{typed_of, type_of}
-use Rattle.mob_accept.specs.UnbuiltOperators.{is_built}
+use Rattle.mob_accept.specs.Built.{is_built}
 use Rattle.mob_accept.proofs.unbuilt_operators.has_unbuilt.Given as goal
 
 abbrev pub invariant-loop-arg : goal.invariant-loop-arg
