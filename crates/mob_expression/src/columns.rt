@@ -36,7 +36,10 @@ fn bare_column(from: &[ScopeTable<'_>], name: &Word) -> Result<Found, Fault>
 }
 
 // The number and the content of the table of FROM that goes by this name.
-pub fn source_named<'a>(from: &'a [ScopeTable<'a>], name: &str) -> Option<(usize, &'a ScopeTable<'a>)>
+pub fn source_named<'a>(
+    from: &'a [ScopeTable<'a>],
+    name: &str,
+) -> Option<(usize, &'a ScopeTable<'a>)>
     ensures first { option_map (λ r. (r.0, (source_of r.1.now).1)) result ≡ entry_from 0 (sources_of from.now) name.now }
 {
     for (index, source) in from.iter().enumerate() {

@@ -321,13 +321,13 @@ limit_at = if_mark Limit some_number_at (λ l. Ok (None, l))
 
 unfoldable pub select_at : TokenReader SelectParts
 select_at l = do
-    distinct ← distinct_at l
-    items ← listed Comma item_at distinct.1
-    from ← from_at items.1
-    cond ← condition_at from.1
-    keys ← order_at cond.1
-    limit ← limit_at keys.1
-    Ok (record { distinct = distinct.0; items = items.0; from = from.0; cond = cond.0; keys = keys.0; limit = limit.0 }, limit.1)
+  distinct ← distinct_at l
+  items ← listed Comma item_at distinct.1
+  from ← from_at items.1
+  cond ← condition_at from.1
+  keys ← order_at cond.1
+  limit ← limit_at keys.1
+  Ok (record { distinct = distinct.0; items = items.0; from = from.0; cond = cond.0; keys = keys.0; limit = limit.0 }, limit.1)
 
 unfoldable pub select_statement_at : TokenReader StatementParts
 select_statement_at l = select_at l >>= λ s. Ok (select s.0, s.1)

@@ -110,7 +110,10 @@ fn take_row(
 }
 
 // The columns of the table of this number.
-fn columns_of_table<'a>(tables: &[&'a [(Text, SqlType)]], table: u32) -> Option<&'a [(Text, SqlType)]>
+fn columns_of_table<'a>(
+    tables: &[&'a [(Text, SqlType)]],
+    table: u32,
+) -> Option<&'a [(Text, SqlType)]>
     ensures { option_map (λ c. c.now) result ≡ slice_get (map (λ c. c.now) tables.now) table }
 {
     match tables.get(table as usize) {

@@ -27,20 +27,20 @@ use Rattle.mob_expression.specs.Expressions.{typed_expression}
 -- earlier place comes first, and at one place a name that is there already comes before the limit.
 abbrev pub from_name : List (List ℕ × ScopeTableParts) → Word → Option Word → Result (List ℕ) Mistake
 from_name from table None = do
-    _ ← unless (has_entry from table.text) kind.Duplicate table.place
-    _ ← unless (nat_le 4 (length from)) kind.Limit table.place
-    Ok table.text
+  _ ← unless (has_entry from table.text) kind.Duplicate table.place
+  _ ← unless (nat_le 4 (length from)) kind.Limit table.place
+  Ok table.text
 from_name from table (Some a) = do
-    _ ← unless (nat_le 4 (length from)) kind.Limit table.place
-    _ ← unless (has_entry from a.text) kind.Duplicate a.place
-    Ok a.text
+  _ ← unless (nat_le 4 (length from)) kind.Limit table.place
+  _ ← unless (has_entry from a.text) kind.Duplicate a.place
+  Ok a.text
 
 -- a table of FROM behind those that stand before it
 abbrev pub from_table : List (List ℕ × ColumnList) → List (List ℕ × ScopeTableParts) → FromTable → Result (List (List ℕ × ScopeTableParts)) Mistake
 from_table tables from f = do
-    t ← found kind.UnknownName f.table.place (table_of tables f.table.text)
-    name ← from_name from f.table f.alias
-    Ok (from ++ (name, record { table = t.0; columns = t.1 }) ∷ [])
+  t ← found kind.UnknownName f.table.place (table_of tables f.table.text)
+  name ← from_name from f.table f.alias
+  Ok (from ++ (name, record { table = t.0; columns = t.1 }) ∷ [])
 
 -- the tables of FROM in order
 abbrev pub from_tables : List (List ℕ × ColumnList) → List (List ℕ × ScopeTableParts) → List FromTable → Result (List (List ℕ × ScopeTableParts)) Mistake
@@ -146,11 +146,11 @@ no_outputs = record { columns = []; aliases = [] }
 -- the clauses behind FROM, which sees these tables
 abbrev pub typed_clauses : ScopeParts → SelectParts → TypingStep TypedSelectParts
 typed_clauses scope s cs = do
-    o ← with_items scope no_outputs s.items cs
-    c ← condition scope s.cond o.1
-    k ← typed_keys scope o.0 s.keys c.1
-    l ← limit_of s.limit
-    Ok (record { distinct = s.distinct; items = o.0.columns; from = map (λ t. t.1.table) scope.from; names = map (λ t. t.0) scope.from; cond = c.0; keys = k.0; limit = l }, k.1)
+  o ← with_items scope no_outputs s.items cs
+  c ← condition scope s.cond o.1
+  k ← typed_keys scope o.0 s.keys c.1
+  l ← limit_of s.limit
+  Ok (record { distinct = s.distinct; items = o.0.columns; from = map (λ t. t.1.table) scope.from; names = map (λ t. t.0) scope.from; cond = c.0; keys = k.0; limit = l }, k.1)
 
 -- The typed SELECT of the statement of this number, or what is wrong first.
 abbrev pub typed_select : List (List ℕ × ColumnList) → ℕ → SelectParts → TypingStep TypedSelectParts

@@ -46,10 +46,10 @@ with_table names name columns = record { tables = names.tables ++ (name, columns
 -- a new table: its name is new, there are at most 64, and then its columns in order
 abbrev pub made_table : NameLists → Word → List (Word × TypeWord) → Result Made Mistake
 made_table names name columns = do
-    _ ← unless (has_entry names.tables name.text) kind.Duplicate name.place
-    _ ← unless (nat_le 64 (length names.tables)) kind.Limit name.place
-    cs ← with_columns [] columns
-    Ok (record { statement = new_table (length names.tables) name.text cs; names = with_table names name.text cs })
+  _ ← unless (has_entry names.tables name.text) kind.Duplicate name.place
+  _ ← unless (nat_le 64 (length names.tables)) kind.Limit name.place
+  cs ← with_columns [] columns
+  Ok (record { statement = new_table (length names.tables) name.text cs; names = with_table names name.text cs })
 
 abbrev pub with_index : NameLists → List ℕ → NameLists
 with_index names name = record { tables = names.tables; indexes = names.indexes ++ name ∷ [] }
@@ -57,11 +57,11 @@ with_index names name = record { tables = names.tables; indexes = names.indexes 
 -- a new index: the table is there, the name is new, and the column is there and a tgeompoint
 abbrev pub made_index : NameLists → Word → Word → Word → Result Made Mistake
 made_index names name table column = do
-    t ← found kind.UnknownName table.place (table_of names.tables table.text)
-    _ ← unless (is_one_of names.indexes name.text) kind.Duplicate name.place
-    c ← found kind.UnknownName column.place (column_of t.1 column.text)
-    _ ← unless (not (same_type c.1 sql.TPoint)) kind.NoSuchOperator column.place
-    Ok (record { statement = new_index t.0 c.0 name.text; names = with_index names name.text })
+  t ← found kind.UnknownName table.place (table_of names.tables table.text)
+  _ ← unless (is_one_of names.indexes name.text) kind.Duplicate name.place
+  c ← found kind.UnknownName column.place (column_of t.1 column.text)
+  _ ← unless (not (same_type c.1 sql.TPoint)) kind.NoSuchOperator column.place
+  Ok (record { statement = new_index t.0 c.0 name.text; names = with_index names name.text })
 
 -- a constant of a statement of this number
 abbrev pub row_constant : ℕ → SqlType → List ℕ → ℕ → TypingStep (Option ℕ)
