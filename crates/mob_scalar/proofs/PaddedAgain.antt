@@ -8,7 +8,7 @@ use Rattle.mob_language.specs.Language.{Text, Language, behind}
 use Rattle.mob_numeral.specs.Figures.{figures, digits, AreFigures}
 use Rattle.mob_scalar.specs.Calendar.{has_count, fixed}
 use Rattle.mob_scalar.specs.MomentText.{padded}
-use Rattle.mob_numeral.proofs.Again.{are_figures, run_test}
+use Rattle.mob_numeral.proofs.Again.{are_figures, few_digits_test}
 use Rattle.mob_scalar.proofs.Padding.{decimal_short}
 use Rattle.mob_numeral.proofs.Powers.{ten_le}
 
@@ -47,7 +47,7 @@ padded_is k n one six h =
 pub padded_digits : (k n : ℕ) (text : Text) → k ≤ 36 → IsPadded k n text → digits text (figures text)
 padded_digits k n text le h = record {
   meant = text;
-  said = record { said = record { is = refl; each = h.figures }; holds = run_test text (omega (arith, h.count, le)) };
+  said = record { said = record { is = refl; each = h.figures }; holds = few_digits_test text (omega (arith, h.count, le)) };
   is = refl;
 }
 
