@@ -3,4 +3,5 @@ pub mod Places
 pub mod Quotes
 pub mod Refused
 pub mod Scripts
+pub mod Selects
 pub mod Steps

@@ -1,11 +1,16 @@
 -- What the code did is what reading gives.
-use Rattle.std.proofs.Common.{◌≡◌, ◌≤◌, ◌+◌, ◌-◌, ◌∙◌, ℕ, List, [], ◌∷◌, ◌++◌, length, map, true, Result, Ok, Err, sym, ap, arith}
-use Rattle.std.proofs.lemmas.List.{map_push}
+use Rattle.std.proofs.Common.{◌≡◌, ◌<◌, ◌≤◌, ◌+◌, ◌-◌, ◌∙◌, ℕ, List, [], ◌∷◌, ◌++◌, length, get_or, take, drop, map, true, Result, Ok, Err, sym, ap, arith}
+use Rattle.std.proofs.lemmas.List.{map_push, take_all}
 use Rattle.mob_grammar.specs.declared.mark.Mark.{Mark}
-use Rattle.mob_grammar.specs.Symbols.{PlacedSymbol, starts, rest}
-use Rattle.mob_grammar.specs.Reading.{Answer, TokenReader, ◌>>=◌, listed, listed_from}
+use Rattle.mob_ast.specs.declared.expression.Node.{Node}
+use Rattle.mob_ast.specs.declared.expression.Expr.{Expr}
+use Rattle.mob_ast.specs.Trees.{Tree, tree, none, more, tree_of, trees_of}
+use Rattle.mob_grammar.specs.Symbols.{PlacedSymbol, sign, is_sign, binding, binary, starts, rest}
+use Rattle.mob_grammar.specs.Reading.{Answer, TokenReader, ◌>>=◌, listed, listed_from, chain_from, postfix_from}
 use Rattle.mob_grammar.proofs.Tells.{through}
-use Rattle.mob_grammar.proofs.Steps.{listed_goes_on}
+use Rattle.mob_grammar.proofs.Steps.{token_is, listed_goes_on, chain_goes_on, postfix_goes_on}
+use Rattle.mob_lexemes.specs.declared.lexeme.Lexeme.{Lexeme}
+use Rattle.mob_lexemes.specs.Lexemes.{placed_symbol, placed_symbols}
 use Rattle.mob_parse.specs.declared.cursor.Fault.{Fault}
 use Rattle.mob_parse.specs.declared.cursor.Fault.TheVariants.{Syntax, NoMemory}
 use Rattle.mob_parse.specs.Cursors.{FollowsReading, StopsReading}
@@ -51,8 +56,54 @@ next_read m inner whole l u r xs ys x so_far there passed h short e =
     )
 
 -- what is seen of a list with one item, and of one with one more
-pub first_parts : {X Y : Type 0} (view : X → Y) (none one : List X) (x : X) → none ≡ [] → one ≡ none ++ x ∷ [] → map view one ≡ view x ∷ []
-first_parts view none one x empty pushed = ap (map view) (pushed ∙ ap (λ es. es ++ x ∷ []) empty)
+pub first_parts : {X Y : Type 0} (view : X → Y) (start one : List X) (x : X) → start ≡ [] → one ≡ start ++ x ∷ [] → map view one ≡ view x ∷ []
+first_parts view start one x empty pushed = ap (map view) (pushed ∙ ap (λ es. es ++ x ∷ []) empty)
 
-pub more_parts : {X Y : Type 0} (view : X → Y) (xs more : List X) (x : X) → more ≡ xs ++ x ∷ [] → map view more ≡ map view xs ++ view x ∷ []
-more_parts view xs more x pushed = ap (map view) pushed ∙ map_push view xs x
+pub more_parts : {X Y : Type 0} (view : X → Y) (xs longer : List X) (x : X) → longer ≡ xs ++ x ∷ [] → map view longer ≡ map view xs ++ view x ∷ []
+more_parts view xs longer x pushed = ap (map view) pushed ∙ map_push view xs x
+
+-- less is left behind a token and what follows it
+pub shorter_behind : (t : PlacedSymbol) (l u r : List PlacedSymbol) (n : ℕ) → length l < n → l ≡ t ∷ u → length r < length u → length r < n
+shorter_behind t l u r n near parts short = let long = ap length parts in omega arith
+
+-- how far the operators of one rank are read
+abbrev pub ChainSoFar : ℕ → TokenReader Tree → Answer Tree → Tree → List PlacedSymbol → Type 0
+ChainSoFar k operand whole e l = (n : ℕ) × (length l ≤ n) × (whole ≡ chain_from k operand n e l)
+
+-- after one more operator and its operand
+pub next_operator : (k : ℕ) (operand : TokenReader Tree) (whole : Answer Tree) (e x y : Tree) (t : PlacedSymbol) (l u r : List PlacedSymbol) → ChainSoFar k operand whole e l → l ≡ t ∷ u → binding t ≡ k → operand u ≡ Ok (x, r) → length r < length u → y ≡ binary t e x
+    → ChainSoFar k operand whole y r
+next_operator k operand whole e x y t l u r so_far parts tight h short made =
+    let long = ap length parts in (
+      so_far.0 - 1,
+      omega (arith, so_far.1),
+      so_far.2 ∙ ap (chain_from k operand so_far.0 e) parts ∙ chain_goes_on k operand so_far.0 e t u tight (omega (arith, so_far.1))
+          ∙ through (operand u) x r _ h ∙ ap (λ v. chain_from k operand (so_far.0 - 1) v r) (sym made),
+    )
+
+-- how far the nodes behind a phrase are read
+abbrev pub BehindSoFar : Mark → TokenReader Node → Answer Tree → Tree → List PlacedSymbol → Type 0
+BehindSoFar m tail whole e l = (n : ℕ) × (length l ≤ n) × (whole ≡ postfix_from m tail n e l)
+
+-- after one more node
+pub next_behind : (m : Mark) (tail : TokenReader Node) (whole : Answer Tree) (e y : Tree) (x : Node) (p : ℕ) (l u r : List PlacedSymbol) → BehindSoFar m tail whole e l → l ≡ sign m p ∷ u → is_sign m (sign m p) ≡ true → tail u ≡ Ok (x, r) → length r < length u → y ≡ tree x p (more e none)
+    → BehindSoFar m tail whole y r
+next_behind m tail whole e y x p l u r so_far parts there h short made =
+    let long = ap length parts in (
+      so_far.0 - 1,
+      omega (arith, so_far.1),
+      so_far.2 ∙ ap (postfix_from m tail so_far.0 e) parts ∙ postfix_goes_on m tail so_far.0 e (sign m p) u there (omega (arith, so_far.1))
+          ∙ through (tail u) x r _ h ∙ ap (λ v. postfix_from m tail (so_far.0 - 1) v r) (sym made),
+    )
+
+-- a tree over one argument, and over one and one more
+pub over_one : (x : Tree) (node : Node) (p : ℕ) (only : Expr) (args : List Expr) → x ≡ tree node p (trees_of args) → args ≡ only ∷ [] → x ≡ tree node p (more (tree_of only) none)
+over_one x node p only args made one = made ∙ ap (λ v. tree node p (trees_of v)) one
+
+pub over_two : (x : Tree) (node : Node) (p : ℕ) (first last : Expr) (args : List Expr) → x ≡ tree node p (trees_of (args ++ last ∷ [])) → args ≡ first ∷ [] → x ≡ tree node p (more (tree_of first) (more (tree_of last) none))
+over_two x node p first last args made one = made ∙ ap (λ v. tree node p (trees_of (v ++ last ∷ []))) one
+
+-- a mark that is passed is the first token
+pub mark_passed : (m : Mark) (ls : List Lexeme) (d : Lexeme) → 1 ≤ length ls → is_sign m (placed_symbol (get_or ls 0 d)) ≡ true → placed_symbols ls ≡ sign m (get_or ls 0 d).place ∷ placed_symbols (take (length ls - 1) (drop 1 ls))
+mark_passed m [] d short there = absurd (omega arith)
+mark_passed m (x ∷ ls) d short there = ap (λ t. t ∷ placed_symbols ls) (token_is m (placed_symbol x) there) ∙ ap (λ rest. sign m x.place ∷ placed_symbols rest) (sym (take_all (length (x ∷ ls) - 1) ls (omega arith)))

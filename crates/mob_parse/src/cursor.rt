@@ -75,6 +75,16 @@ impl<'a> Cursor<'a> {
         }
     }
 
+    /// Passes this mark, and gives back what stands before it.
+    pub fn closed<T: Drop>(&mut self, mark: Mark, value: T) -> Result<T, Fault>
+        ensures passes { MatchResult result
+            (λ v. (v ≡ value) × (starts mark (left self.old) ≡ true) × (left self.new ≡ rest (left self.old)))
+            (λ e. (e ≡ Fault.Syntax) × (starts mark (left self.old) ≡ false) × (left self.new ≡ left self.old)) }
+    {
+        self.expect(mark)?;
+        Ok(value)
+    }
+
     /// Passes this mark, if it comes next, and says its place.
     pub fn take(&mut self, mark: Mark) -> Option<u32>
         ensures passes { MatchOption result

@@ -8,7 +8,7 @@ ghost use Rattle.mob_parse.specs.Cursors.{left, FollowsReading};
 ghost use Rattle.mob_parse.specs.Levels.{level_number, level_operand};
 
 use crate::cursor::{Cursor, Fault};
-use crate::nodes::{copy_text, leaf, operator, pair, single, unquoted_text, word};
+use crate::nodes::{alone, copy_text, joined, leaf, prefixed, unquoted_text, with_args, word};
 use mob_ast::expression::{Expr, Node};
 use mob_ast::types::{TypeWord, Word};
 use mob_grammar::mark::Mark;
@@ -65,12 +65,8 @@ impl<'a> Cursor<'a> {
         ensures reads { FollowsReading (λ t. t) result (left self.new) (inner_at name (left self.old)) }
         ensures shorter { OnOk result (length (left self.new) < length (left self.old)) }
     {
-        let inner = self.name()?;
-        self.expect(Mark::Close)?;
-        Ok(TypeWord {
-            name,
-            inner: Some(inner),
-        })
+        let inner = Some(self.name()?);
+        self.closed(Mark::Close, TypeWord { name, inner })
     }
 
     /// A type.
@@ -105,9 +101,9 @@ impl<'a> Cursor<'a> {
     {
         let mut value = self.operand(level)?;
         'operators: while let Some((mark, place)) = self.take_operator(level.number()) {
+            let left = alone(self.alloc, value)?;
             let right = self.operand(level)?;
-            let node = operator(self.alloc, mark)?;
-            value = pair(self.alloc, node, place, value, right)?;
+            value = joined(self.alloc, mark, place, left, right)?;
         }
         Ok(value)
     }
@@ -135,7 +131,7 @@ impl<'a> Cursor<'a> {
     {
         if let Some(place) = self.take(Mark::Not) {
             let value = self.negation()?;
-            Ok(single(self.alloc, Node::Not, place, value)?)
+            Ok(prefixed(self.alloc, Mark::Not, place, value)?)
         } else {
             self.nullness()
         }
@@ -150,8 +146,8 @@ impl<'a> Cursor<'a> {
     {
         let mut value = self.comparison()?;
         'tests: while let Some(place) = self.take(Mark::Is) {
-            let node = self.null_test()?;
-            value = single(self.alloc, node, place, value)?;
+            let args = alone(self.alloc, value)?;
+            value = with_args(self.null_test()?, place, args);
         }
         Ok(value)
     }
@@ -164,9 +160,9 @@ impl<'a> Cursor<'a> {
     {
         let value = self.chain(Level::Other)?;
         if let Some((mark, place)) = self.take_operator(5) {
+            let left = alone(self.alloc, value)?;
             let right = self.chain(Level::Other)?;
-            let node = operator(self.alloc, mark)?;
-            Ok(pair(self.alloc, node, place, value, right)?)
+            Ok(joined(self.alloc, mark, place, left, right)?)
         } else {
             Ok(value)
         }
@@ -180,8 +176,7 @@ impl<'a> Cursor<'a> {
     {
         if let Some(place) = self.take(Mark::Tilde) {
             let value = self.complement()?;
-            let node = operator(self.alloc, Mark::Tilde)?;
-            Ok(single(self.alloc, node, place, value)?)
+            Ok(prefixed(self.alloc, Mark::Tilde, place, value)?)
         } else {
             self.chain(Level::Sum)
         }
@@ -195,8 +190,7 @@ impl<'a> Cursor<'a> {
     {
         if let Some((mark, place)) = self.take_operator(8) {
             let value = self.signed()?;
-            let node = operator(self.alloc, mark)?;
-            Ok(single(self.alloc, node, place, value)?)
+            Ok(prefixed(self.alloc, mark, place, value)?)
         } else {
             self.cast()
         }
@@ -210,8 +204,8 @@ impl<'a> Cursor<'a> {
     {
         let mut value = self.primary()?;
         'casts: while let Some(place) = self.take(Mark::Cast) {
-            let ty = self.type_name()?;
-            value = single(self.alloc, Node::Cast(ty), place, value)?;
+            let args = alone(self.alloc, value)?;
+            value = with_args(Node::Cast(self.type_name()?), place, args);
         }
         Ok(value)
     }
@@ -228,8 +222,7 @@ impl<'a> Cursor<'a> {
             self.named(name)
         } else if self.skip(Mark::Open) {
             let value = self.expression()?;
-            self.expect(Mark::Close)?;
-            Ok(value)
+            self.closed(Mark::Close, value)
         } else {
             self.constant()
         }
@@ -285,8 +278,7 @@ impl<'a> Cursor<'a> {
             return Ok(Vec::new(self.alloc));
         }
         let found = self.expressions()?;
-        self.expect(Mark::Close)?;
-        Ok(found)
+        self.closed(Mark::Close, found)
     }
 
     // Expressions with commas between them.

@@ -1,9 +1,9 @@
 //! Words, types and nodes of the trees.
-ghost use Rattle.std.specs.Prelude.{◌≡◌, ◌<◌, IfOk, Some, None};
-ghost use Rattle.mob_ast.specs.Trees.{tree_of, tree, none, more};
-ghost use Rattle.mob_grammar.specs.Symbols.{mark_node};
-ghost use Rattle.mob_lexemes.specs.Lexemes.{without_quote, unquoted};
+ghost use Rattle.std.specs.Prelude.{◌≡◌, ◌++◌, [], ◌∷◌, IfOk};
+ghost use Rattle.mob_ast.specs.Trees.{tree_of, trees_of, tree, none};
+ghost use Rattle.mob_grammar.specs.Symbols.{mark_node, sign, unary};
 ghost use Rattle.mob_language.specs.Language.{in_lower_case};
+ghost use Rattle.mob_lexemes.specs.Lexemes.{without_quote, unquoted};
 
 use mob_ast::expression::{Expr, Node};
 use mob_ast::types::Word;
@@ -77,31 +77,6 @@ pub fn leaf(alloc: Global, node: Node, place: u32) -> Expr
     }
 }
 
-/// A node with one argument.
-pub fn single(alloc: Global, node: Node, place: u32, argument: Expr) -> Result<Expr, AllocError>
-    ensures exact { IfOk result (λ e. tree_of e ≡ tree node place (more (tree_of argument) none)) }
-{
-    let mut args = Vec::new(alloc);
-    args.push(argument)?;
-    Ok(Expr { node, place, args })
-}
-
-/// A node with two arguments.
-pub fn pair(
-    alloc: Global,
-    node: Node,
-    place: u32,
-    first: Expr,
-    second: Expr,
-) -> Result<Expr, AllocError>
-    ensures exact { IfOk result (λ e. tree_of e ≡ tree node place (more (tree_of first) (more (tree_of second) none))) }
-{
-    let mut args = Vec::new(alloc);
-    args.push(first)?;
-    args.push(second)?;
-    Ok(Expr { node, place, args })
-}
-
 /// The node of an operator.
 pub fn operator(alloc: Global, mark: Mark) -> Result<Node, AllocError>
     ensures exact { IfOk result (λ n. n ≡ mark_node mark) }
@@ -112,4 +87,43 @@ pub fn operator(alloc: Global, mark: Mark) -> Result<Node, AllocError>
         Mark::Not => Ok(Node::Not),
         _ => Ok(Node::Sign(copy_text(alloc, mark.text())?)),
     }
+}
+
+/// A node with these arguments.
+pub fn with_args(node: Node, place: u32, args: Vec<Expr>) -> Expr
+    ensures exact { tree_of result ≡ tree node place (trees_of args.items) }
+{
+    Expr { node, place, args }
+}
+
+/// An argument alone.
+pub fn alone(alloc: Global, argument: Expr) -> Result<Vec<Expr>, AllocError>
+    ensures exact { IfOk result (λ v. v.items ≡ argument ∷ []) }
+{
+    let mut args = Vec::new(alloc);
+    args.push(argument)?;
+    Ok(args)
+}
+
+/// An operator in front of its operand.
+pub fn prefixed(alloc: Global, mark: Mark, place: u32, operand: Expr) -> Result<Expr, AllocError>
+    ensures exact { IfOk result (λ e. tree_of e ≡ unary (sign mark place) (tree_of operand)) }
+{
+    let args = alone(alloc, operand)?;
+    Ok(with_args(operator(alloc, mark)?, place, args))
+}
+
+/// An operator between its left operands and its right one.
+pub fn joined(
+    alloc: Global,
+    mark: Mark,
+    place: u32,
+    left: Vec<Expr>,
+    right: Expr,
+) -> Result<Expr, AllocError>
+    ensures exact { IfOk result (λ e. tree_of e ≡ tree (mark_node mark) place (trees_of (left.items ++ right ∷ []))) }
+{
+    let mut args = left;
+    args.push(right)?;
+    Ok(with_args(operator(alloc, mark)?, place, args))
 }

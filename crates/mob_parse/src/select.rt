@@ -1,10 +1,11 @@
 //! SELECT, part by part, and whole scripts.
-ghost use Rattle.std.specs.Prelude.{◌≡◌, ◌≤◌, Ok, length, map, OnOk, option_map};
+ghost use Rattle.std.specs.Prelude.{◌≡◌, ◌≤◌, Ok, length, map, IfOk, OnOk, option_map};
 ghost use Rattle.mob_ast.specs.declared.statement.FromTable.{FromTable};
 ghost use Rattle.mob_ast.specs.Trees.{tree_of, ItemParts, item_of, KeyParts, key_of, select_of, StatementParts, statement_of};
 ghost use Rattle.mob_grammar.specs.Symbols.{begins, is_name};
 ghost use Rattle.mob_grammar.specs.Reading.{some_name_at, second_name_at, from_entry_at, alias_at, item_at, direction_at, key_at, distinct_at, from_at, condition_at, order_at, limit_at, select_at, explain_at, statement_at, script_at, listed};
 ghost use Rattle.mob_parse.specs.Cursors.{left, FollowsReading};
+ghost use Rattle.mob_parse.specs.Orderings.{ordering_at};
 
 use crate::cursor::{Cursor, Fault};
 use crate::list::Entry;
@@ -59,6 +60,16 @@ impl<'a> Cursor<'a> {
         } else {
             Ok(None)
         }
+    }
+
+    // A value and the name behind AS, if AS is there.
+    fn aliased<T: Drop>(&mut self, value: T) -> Result<(T, Option<Word>), Fault>
+        ensures reads { FollowsReading (λ r. r.1) result (left self.new) (alias_at (left self.old)) }
+        ensures same { IfOk result (λ r. r.0 ≡ value) }
+        ensures within { OnOk result (length (left self.new) ≤ length (left self.old)) }
+    {
+        let alias = self.alias()?;
+        Ok((value, alias))
     }
 
     // ASC or DESC, if one is there: whether it is DESC.
@@ -132,6 +143,18 @@ impl<'a> Cursor<'a> {
         }
     }
 
+    // What stands in front, the keys and the number.
+    #[tactic(auto, unfolding(crate::specs::Orderings::ordering_at))]
+    fn ordered<T: Drop>(&mut self, front: T) -> Result<(T, Items<Key>, Option<Word>), Fault>
+        ensures reads { FollowsReading (λ r. (map key_of r.1, r.2)) result (left self.new) (ordering_at (left self.old)) }
+        ensures same { IfOk result (λ r. r.0 ≡ front) }
+        ensures within { OnOk result (length (left self.new) ≤ length (left self.old)) }
+    {
+        let keys = self.order_part()?;
+        let limit = self.limit_part()?;
+        Ok((front, keys, limit))
+    }
+
     // What stands behind SELECT.
     #[tactic(auto, unfolding(mob_grammar::specs::Reading::select_at))]
     fn select(&mut self) -> Result<SelectTree, Fault>
@@ -142,8 +165,7 @@ impl<'a> Cursor<'a> {
         let items = self.list(Mark::Comma)?;
         let from = self.from_part()?;
         let cond = self.where_part()?;
-        let keys = self.order_part()?;
-        let limit = self.limit_part()?;
+        let ((items, from, cond), keys, limit) = self.ordered((items, from, cond))?;
         Ok(SelectTree {
             distinct,
             items,
@@ -203,7 +225,7 @@ impl Entry for Item {
             return Ok(Item::All { place });
         }
         let value = cursor.expression()?;
-        let alias = cursor.alias()?;
+        let (value, alias) = cursor.aliased(value)?;
         Ok(Item::One { value, alias })
     }
 }

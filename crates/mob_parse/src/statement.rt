@@ -4,12 +4,12 @@ ghost use Rattle.mob_ast.specs.declared.types.TypeWord.{TypeWord};
 ghost use Rattle.mob_ast.specs.declared.types.Word.{Word};
 ghost use Rattle.mob_ast.specs.Trees.{Tree, tree_of, RowParts, row_of, statement_of};
 ghost use Rattle.mob_grammar.specs.Symbols.{begins, is_number};
-ghost use Rattle.mob_grammar.specs.Reading.{is_plus_or_minus, string_at, number_at, signed_number_at, number_leaf_at, string_leaf_at, word_leaf_at, const_at, row_at, column_type_at, create_table_at, index_table_at, create_index_at, create_at, insert_at, header_at, format_at, delimiter_at, copy_form_at, copy_at, listed, closed, behind_mark};
+ghost use Rattle.mob_grammar.specs.Reading.{is_plus_or_minus, string_at, number_at, signed_number_at, number_leaf_at, string_leaf_at, word_leaf_at, const_at, row_at, column_type_at, create_table_at, index_column_at, index_table_at, create_index_at, create_at, rows_at, insert_at, header_at, format_at, delimiter_at, copy_form_at, copy_file_at, copy_at, listed, closed, behind_mark};
 ghost use Rattle.mob_parse.specs.Cursors.{left, FollowsReading};
 
 use crate::cursor::{Cursor, Fault};
 use crate::list::Entry;
-use crate::nodes::{leaf, number_word, operator, single, unquoted_text};
+use crate::nodes::{leaf, number_word, prefixed, unquoted_text};
 use mob_ast::expression::{Expr, Node};
 use mob_ast::statement::{Row, Statement};
 use mob_ast::types::{Quoted, TypeWord, Word};
@@ -72,9 +72,8 @@ impl<'a> Cursor<'a> {
         match self.take_operator(8) {
             Some((mark, place)) => {
                 let Word { text, place: at } = self.number()?;
-                let node = operator(self.alloc, mark)?;
                 let value = leaf(self.alloc, Node::Number(text), at);
-                Ok(single(self.alloc, node, place, value)?)
+                Ok(prefixed(self.alloc, mark, place, value)?)
             }
             None => Err(Fault::Syntax),
         }
@@ -152,8 +151,7 @@ impl Entry for Row {
         match cursor.take(Mark::Open) {
             Some(place) => {
                 let values = cursor.list(Mark::Comma)?;
-                cursor.expect(Mark::Close)?;
-                Ok(Row { place, values })
+                cursor.closed(Mark::Close, Row { place, values })
             }
             None => Err(Fault::Syntax),
         }
@@ -187,12 +185,28 @@ impl<'a> Cursor<'a> {
         let name = self.name()?;
         self.expect(Mark::Open)?;
         let columns = self.list(Mark::Comma)?;
-        self.expect(Mark::Close)?;
-        Ok(Statement::CreateTable { name, columns })
+        self.closed(Mark::Close, Statement::CreateTable { name, columns })
+    }
+
+    // The column of CREATE INDEX, behind its bracket.
+    #[tactic(auto, unfolding(mob_grammar::specs::Reading::index_column_at, mob_grammar::specs::Reading::closed))]
+    fn index_column(&mut self, name: Word, table: Word) -> Result<Statement, Fault>
+        ensures reads { FollowsReading statement_of result (left self.new) (index_column_at name table (left self.old)) }
+        ensures within { OnOk result (length (left self.new) ≤ length (left self.old)) }
+    {
+        let column = self.name()?;
+        self.closed(
+            Mark::Close,
+            Statement::CreateIndex {
+                name,
+                table,
+                column,
+            },
+        )
     }
 
     // CREATE INDEX, behind ON.
-    #[tactic(auto, unfolding(mob_grammar::specs::Reading::index_table_at, mob_grammar::specs::Reading::index_column_at, mob_grammar::specs::Reading::behind_mark, mob_grammar::specs::Reading::closed))]
+    #[tactic(auto, unfolding(mob_grammar::specs::Reading::index_table_at, mob_grammar::specs::Reading::behind_mark))]
     fn index_table(&mut self, name: Word) -> Result<Statement, Fault>
         ensures reads { FollowsReading statement_of result (left self.new) (index_table_at name (left self.old)) }
         ensures within { OnOk result (length (left self.new) ≤ length (left self.old)) }
@@ -201,13 +215,7 @@ impl<'a> Cursor<'a> {
         self.expect(Mark::Using)?;
         self.expect(Mark::Gist)?;
         self.expect(Mark::Open)?;
-        let column = self.name()?;
-        self.expect(Mark::Close)?;
-        Ok(Statement::CreateIndex {
-            name,
-            table,
-            column,
-        })
+        self.index_column(name, table)
     }
 
     // CREATE INDEX, behind INDEX.
@@ -234,8 +242,18 @@ impl<'a> Cursor<'a> {
         self.create_index()
     }
 
+    // The rows of INSERT, behind VALUES.
+    #[tactic(auto, unfolding(mob_grammar::specs::Reading::rows_at))]
+    fn rows(&mut self, table: Word) -> Result<Statement, Fault>
+        ensures reads { FollowsReading statement_of result (left self.new) (rows_at table (left self.old)) }
+        ensures within { OnOk result (length (left self.new) ≤ length (left self.old)) }
+    {
+        let rows = self.list(Mark::Comma)?;
+        Ok(Statement::Insert { table, rows })
+    }
+
     // What stands behind INSERT.
-    #[tactic(auto, unfolding(mob_grammar::specs::Reading::insert_at, mob_grammar::specs::Reading::rows_at, mob_grammar::specs::Reading::behind_mark))]
+    #[tactic(auto, unfolding(mob_grammar::specs::Reading::insert_at, mob_grammar::specs::Reading::behind_mark))]
     pub fn insert(&mut self) -> Result<Statement, Fault>
         ensures reads { FollowsReading statement_of result (left self.new) (insert_at (left self.old)) }
         ensures within { OnOk result (length (left self.new) ≤ length (left self.old)) }
@@ -243,8 +261,7 @@ impl<'a> Cursor<'a> {
         self.expect(Mark::Into)?;
         let table = self.name()?;
         self.expect(Mark::Values)?;
-        let rows = self.list(Mark::Comma)?;
-        Ok(Statement::Insert { table, rows })
+        self.rows(table)
     }
 
     // HEADER's TRUE, if it is there, and the closing bracket.
@@ -300,14 +317,12 @@ impl<'a> Cursor<'a> {
         self.delimiter()
     }
 
-    // What stands behind COPY.
-    #[tactic(auto, unfolding(mob_grammar::specs::Reading::copy_at, mob_grammar::specs::Reading::copy_file_at, mob_grammar::specs::Reading::behind_mark))]
-    pub fn copy(&mut self) -> Result<Statement, Fault>
-        ensures reads { FollowsReading statement_of result (left self.new) (copy_at (left self.old)) }
+    // The file of COPY and what stands behind it.
+    #[tactic(auto, unfolding(mob_grammar::specs::Reading::copy_file_at))]
+    fn copy_file(&mut self, table: Word) -> Result<Statement, Fault>
+        ensures reads { FollowsReading statement_of result (left self.new) (copy_file_at table (left self.old)) }
         ensures within { OnOk result (length (left self.new) ≤ length (left self.old)) }
     {
-        let table = self.name()?;
-        self.expect(Mark::From)?;
         let file = self.string()?;
         let delimiter = self.copy_form()?;
         Ok(Statement::Copy {
@@ -315,5 +330,16 @@ impl<'a> Cursor<'a> {
             file,
             delimiter,
         })
+    }
+
+    // What stands behind COPY.
+    #[tactic(auto, unfolding(mob_grammar::specs::Reading::copy_at, mob_grammar::specs::Reading::behind_mark))]
+    pub fn copy(&mut self) -> Result<Statement, Fault>
+        ensures reads { FollowsReading statement_of result (left self.new) (copy_at (left self.old)) }
+        ensures within { OnOk result (length (left self.new) ≤ length (left self.old)) }
+    {
+        let table = self.name()?;
+        self.expect(Mark::From)?;
+        self.copy_file(table)
     }
 }
