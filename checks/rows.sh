@@ -47,7 +47,7 @@ cut_rows() {
                 inner = substr(text, 1, index(text, "}") - 1)
                 text = substr(text, length(inner) + 2)
                 at = index(inner, " ")
-                made = made times(substr(inner, 1, at - 1) + 0, substr(inner, at + 1))
+                made = made times(substr(inner, 1, at - 1) + 0, said(substr(inner, at + 1)))
             }
         }
         return made text

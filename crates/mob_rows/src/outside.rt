@@ -1,39 +1,60 @@
 // The ends by themselves: in memory, and over a reader and a writer.
 
 use mob_outside::{Failed, Files, MemFiles, MemSink, Sink, Source, StdSink, StdSource};
-use std::test::Fail;
+use std::alloc::{AllocError, Global};
 
 // The second call fails; the others take at most 4 bytes.
-#[test]
-fn a_sink_takes_a_step_fails_and_goes_on(rt: HostRuntime) -> Result<(), Fail> {
-    let alloc = rt.alloc();
-    let mut sink = MemSink::new(alloc, vec![in alloc; 2]?, 4);
-    assert_eq!(rt; sink.put(b"abcdef"), Ok(4));
-    assert_eq!(rt; sink.put(b"ef"), Err(Failed));
-    assert_eq!(rt; sink.taken(), b"abcd".as_slice());
-    assert_eq!(rt; sink.put(b"ef"), Ok(2));
-    assert_eq!(rt; sink.taken(), b"abcdef".as_slice());
-    Ok(())
+fn takes_a_step(sink: &mut MemSink) -> bool {
+    sink.put(b"abcdef") == Ok(4)
+        && sink.put(b"ef") == Err(Failed)
+        && sink.taken() == b"abcd".as_slice()
+        && sink.put(b"ef") == Ok(2)
+        && sink.taken() == b"abcdef".as_slice()
 }
 
-// A file is opened and read in steps of 2 bytes; a name that is not there is a fault, and is noted too. The adapters move bytes.
+fn sink(alloc: Global) -> Result<MemSink, AllocError> {
+    Ok(MemSink::new(alloc, vec![in alloc; 2]?, 4))
+}
+
 #[test]
-fn files_are_opened_by_name_and_bytes_are_moved(rt: HostRuntime) -> Result<(), Fail> {
-    let alloc = rt.alloc();
-    let file = (String::from_str(alloc, "t.csv")?, b"abc".to_vec(alloc)?);
-    let mut files = MemFiles::new(alloc, vec![in alloc; file]?, Vec::new(alloc), 2);
+fn a_sink_takes_a_step_fails_and_goes_on(rt: HostRuntime) {
+    match sink(rt.alloc()) {
+        Ok(mut sink) => assert!(rt; takes_a_step(&mut sink)),
+        Err(_) => assert!(rt; false),
+    }
+}
+
+// A file is opened and read in steps of 2 bytes; a name that is not there is a fault, and is noted too.
+fn are_opened(files: &mut MemFiles) -> bool {
     let mut bytes = [0u8; 4];
-    assert_eq!(rt; files.open("t.csv"), Ok(()));
-    assert_eq!(rt; files.take(&mut bytes), Ok(2));
-    assert_eq!(rt; files.open("u.csv"), Err(Failed));
-    assert_eq!(rt; files.asked().len(), 2);
-    assert_eq!(rt; bytes[..2], b"ab"[..2]);
+    files.open("t.csv") == Ok(())
+        && files.take(&mut bytes) == Ok(2)
+        && files.open("u.csv") == Err(Failed)
+        && files.asked().len() == 2
+        && bytes[..2] == b"ab"[..2]
+}
+
+fn files(alloc: Global) -> Result<MemFiles, AllocError> {
+    let file = (String::from_str(alloc, "t.csv")?, b"abc".to_vec(alloc)?);
+    Ok(MemFiles::new(alloc, vec![in alloc; file]?, Vec::new(alloc), 2))
+}
+
+// The adapters move bytes.
+fn are_moved(alloc: Global) -> bool {
     let mut source = StdSource::new(b"abc".as_slice());
     let mut sink = StdSink::new(Vec::new(alloc));
     let mut pair = [0u8; 2];
-    assert_eq!(rt; source.take(&mut pair), Ok(2));
-    assert_eq!(rt; sink.put(&pair), Ok(2));
-    assert_eq!(rt; source.take(&mut pair), Ok(1));
-    assert_eq!(rt; source.take(&mut pair), Ok(0));
-    Ok(())
+    source.take(&mut pair) == Ok(2)
+        && sink.put(&pair) == Ok(2)
+        && source.take(&mut pair) == Ok(1)
+        && source.take(&mut pair) == Ok(0)
+}
+
+#[test]
+fn files_are_opened_by_name_and_bytes_are_moved(rt: HostRuntime) {
+    match files(rt.alloc()) {
+        Ok(mut files) => assert!(rt; are_opened(&mut files)),
+        Err(_) => assert!(rt; false),
+    }
+    assert!(rt; are_moved(rt.alloc()));
 }

@@ -5,27 +5,31 @@ use mob_ast::statement::{FromTable, Item, Key, Row, SelectTree, Statement};
 use mob_ast::types::{Quoted, TypeWord, Word};
 use std::alloc::{AllocError, Global};
 
-fn show_place(alloc: Global, place: u32, into: &mut String) -> Result<(), AllocError> {
-    into.push('@')?;
-    into.push_str(format!(in alloc; "{}", place)?.as_str())
+// A mark, a text and its place.
+fn put(
+    alloc: Global,
+    mark: &str,
+    text: &str,
+    place: u32,
+    into: &mut String,
+) -> Result<(), AllocError> {
+    into.push_str(format!(in alloc; "{}{}@{}", mark, text, place)?.as_str())
 }
 
-fn show_word(alloc: Global, word: &Word, into: &mut String) -> Result<(), AllocError> {
-    into.push_str(word.text.as_str())?;
-    show_place(alloc, word.place, into)
+// A word behind a mark.
+fn put_word(alloc: Global, mark: &str, word: &Word, into: &mut String) -> Result<(), AllocError> {
+    put(alloc, mark, word.text.as_str(), word.place, into)
 }
 
-fn show_quoted(alloc: Global, quoted: &Quoted, into: &mut String) -> Result<(), AllocError> {
-    into.push('\'')?;
-    into.push_str(quoted.text.as_str())?;
-    show_place(alloc, quoted.place, into)
-}
-
-fn show_type(alloc: Global, ty: &TypeWord, into: &mut String) -> Result<(), AllocError> {
-    show_word(alloc, &ty.name, into)?;
+fn show_type(
+    alloc: Global,
+    mark: &str,
+    ty: &TypeWord,
+    into: &mut String,
+) -> Result<(), AllocError> {
+    put_word(alloc, mark, &ty.name, into)?;
     if let Some(inner) = &ty.inner {
-        into.push('(')?;
-        show_word(alloc, inner, into)?;
+        put_word(alloc, "(", inner, into)?;
         into.push(')')?;
     }
     Ok(())
@@ -39,20 +43,29 @@ fn show_column(
     place: u32,
     into: &mut String,
 ) -> Result<(), AllocError> {
-    match table {
-        Some(table) => {
-            show_word(alloc, table, into)?;
-            into.push('.')?;
-            show_word(alloc, column, into)
-        }
-        None => {
-            if column.place == place {
-                into.push_str(column.text.as_str())
-            } else {
-                show_word(alloc, column, into)
-            }
-        }
+    if let Some(table) = table {
+        put_word(alloc, "", table, into)?;
+        return put_word(alloc, ".", column, into);
     }
+    if column.place == place {
+        return into.push_str(column.text.as_str());
+    }
+    put_word(alloc, "", column, into)
+}
+
+// A text in place of a string.
+fn show_text(alloc: Global, text: &str, into: &mut String) -> Result<(), AllocError> {
+    into.push_str(format!(in alloc; "'{}", text)?.as_str())
+}
+
+fn show_literal(
+    alloc: Global,
+    ty: &TypeWord,
+    text: &str,
+    into: &mut String,
+) -> Result<(), AllocError> {
+    show_type(alloc, "", ty, into)?;
+    show_text(alloc, text, into)
 }
 
 fn show_node(alloc: Global, e: &Expr, into: &mut String) -> Result<(), AllocError> {
@@ -61,22 +74,12 @@ fn show_node(alloc: Global, e: &Expr, into: &mut String) -> Result<(), AllocErro
         Node::True => into.push_str("TRUE"),
         Node::False => into.push_str("FALSE"),
         Node::Number(text) => into.push_str(text.as_str()),
-        Node::Str(text) => {
-            into.push('\'')?;
-            into.push_str(text.as_str())
-        }
-        Node::Literal { ty, text } => {
-            show_type(alloc, ty, into)?;
-            into.push('\'')?;
-            into.push_str(text.as_str())
-        }
+        Node::Str(text) => show_text(alloc, text.as_str(), into),
+        Node::Literal { ty, text } => show_literal(alloc, ty, text.as_str(), into),
         Node::Column { table, column } => show_column(alloc, table, column, e.place, into),
         Node::Call(name) => into.push_str(name.as_str()),
         Node::Sign(sign) => into.push_str(sign.as_str()),
-        Node::Cast(ty) => {
-            into.push_str("::")?;
-            show_type(alloc, ty, into)
-        }
+        Node::Cast(ty) => show_type(alloc, "::", ty, into),
         Node::Not => into.push_str("NOT"),
         Node::And => into.push_str("AND"),
         Node::Or => into.push_str("OR"),
@@ -87,7 +90,7 @@ fn show_node(alloc: Global, e: &Expr, into: &mut String) -> Result<(), AllocErro
 
 fn show(alloc: Global, e: &Expr, into: &mut String) -> Result<(), AllocError> {
     show_node(alloc, e, into)?;
-    show_place(alloc, e.place, into)?;
+    put(alloc, "", "", e.place, into)?;
     if e.args.is_empty() {
         return Ok(());
     }
@@ -102,8 +105,7 @@ fn show(alloc: Global, e: &Expr, into: &mut String) -> Result<(), AllocError> {
 fn show_item(alloc: Global, item: &Item, into: &mut String) -> Result<(), AllocError> {
     match item {
         Item::All { place } => {
-            into.push_str(" *")?;
-            show_place(alloc, *place, into)?;
+            put(alloc, " *", "", *place, into)?;
             into.push(';')
         }
         Item::One { value, alias } => {
@@ -116,16 +118,14 @@ fn show_item(alloc: Global, item: &Item, into: &mut String) -> Result<(), AllocE
 
 fn show_alias(alloc: Global, alias: &Option<Word>, into: &mut String) -> Result<(), AllocError> {
     if let Some(name) = alias {
-        into.push_str(" as ")?;
-        show_word(alloc, name, into)?;
+        put_word(alloc, " as ", name, into)?;
     }
     into.push(';')
 }
 
 fn show_from(alloc: Global, from: &[FromTable], into: &mut String) -> Result<(), AllocError> {
     for entry in from {
-        into.push_str(" from ")?;
-        show_word(alloc, &entry.table, into)?;
+        put_word(alloc, " from ", &entry.table, into)?;
         show_alias(alloc, &entry.alias, into)?;
     }
     Ok(())
@@ -140,27 +140,41 @@ fn show_keys(alloc: Global, keys: &[Key], into: &mut String) -> Result<(), Alloc
     Ok(())
 }
 
-fn show_select(alloc: Global, select: &SelectTree, into: &mut String) -> Result<(), AllocError> {
-    into.push_str("select")?;
-    if select.distinct {
-        into.push_str(" distinct")?;
-    }
-    for item in select.items.as_slice() {
-        show_item(alloc, item, into)?;
-    }
-    show_from(alloc, select.from.as_slice(), into)?;
-    if let Some(cond) = &select.cond {
+fn show_cond(alloc: Global, cond: &Option<Expr>, into: &mut String) -> Result<(), AllocError> {
+    if let Some(cond) = cond {
         into.push_str(" where ")?;
         show(alloc, cond, into)?;
         into.push(';')?;
     }
-    show_keys(alloc, select.keys.as_slice(), into)?;
-    if let Some(limit) = &select.limit {
-        into.push_str(" limit ")?;
-        show_word(alloc, limit, into)?;
+    Ok(())
+}
+
+fn show_limit(alloc: Global, limit: &Option<Word>, into: &mut String) -> Result<(), AllocError> {
+    if let Some(limit) = limit {
+        put_word(alloc, " limit ", limit, into)?;
         into.push(';')?;
     }
     Ok(())
+}
+
+fn show_items(alloc: Global, select: &SelectTree, into: &mut String) -> Result<(), AllocError> {
+    into.push_str(if select.distinct {
+        "select distinct"
+    } else {
+        "select"
+    })?;
+    for item in select.items.as_slice() {
+        show_item(alloc, item, into)?;
+    }
+    Ok(())
+}
+
+fn show_select(alloc: Global, select: &SelectTree, into: &mut String) -> Result<(), AllocError> {
+    show_items(alloc, select, into)?;
+    show_from(alloc, select.from.as_slice(), into)?;
+    show_cond(alloc, &select.cond, into)?;
+    show_keys(alloc, select.keys.as_slice(), into)?;
+    show_limit(alloc, &select.limit, into)
 }
 
 fn show_columns(
@@ -169,10 +183,8 @@ fn show_columns(
     into: &mut String,
 ) -> Result<(), AllocError> {
     for column in columns {
-        into.push_str("; ")?;
-        show_word(alloc, &column.0, into)?;
-        into.push(' ')?;
-        show_type(alloc, &column.1, into)?;
+        put_word(alloc, "; ", &column.0, into)?;
+        show_type(alloc, " ", &column.1, into)?;
     }
     into.push(';')
 }
@@ -184,23 +196,27 @@ fn show_index(
     column: &Word,
     into: &mut String,
 ) -> Result<(), AllocError> {
-    into.push_str("index ")?;
-    show_word(alloc, name, into)?;
-    into.push_str(" on ")?;
-    show_word(alloc, table, into)?;
-    into.push('.')?;
-    show_word(alloc, column, into)?;
+    put_word(alloc, "index ", name, into)?;
+    put_word(alloc, " on ", table, into)?;
+    put_word(alloc, ".", column, into)?;
     into.push(';')
 }
 
 fn show_row(alloc: Global, row: &Row, into: &mut String) -> Result<(), AllocError> {
-    into.push_str(" row")?;
-    show_place(alloc, row.place, into)?;
+    put(alloc, " row", "", row.place, into)?;
     for value in row.values.as_slice() {
         into.push(' ')?;
         show(alloc, value, into)?;
     }
     into.push(';')
+}
+
+fn show_rows(alloc: Global, rows: &[Row], into: &mut String) -> Result<(), AllocError> {
+    into.push(';')?;
+    for row in rows {
+        show_row(alloc, row, into)?;
+    }
+    Ok(())
 }
 
 fn show_copy(
@@ -210,13 +226,16 @@ fn show_copy(
     delimiter: &Option<Quoted>,
     into: &mut String,
 ) -> Result<(), AllocError> {
-    into.push_str("copy ")?;
-    show_word(alloc, table, into)?;
-    into.push(' ')?;
-    show_quoted(alloc, file, into)?;
+    put_word(alloc, "copy ", table, into)?;
+    put(alloc, " '", file.text.as_str(), file.place, into)?;
     if let Some(delimiter) = delimiter {
-        into.push_str(" delimiter ")?;
-        show_quoted(alloc, delimiter, into)?;
+        put(
+            alloc,
+            " delimiter '",
+            delimiter.text.as_str(),
+            delimiter.place,
+            into,
+        )?;
     }
     into.push(';')
 }
@@ -230,8 +249,7 @@ pub fn show_statement(
     match statement {
         Statement::Empty => into.push('.'),
         Statement::CreateTable { name, columns } => {
-            into.push_str("table ")?;
-            show_word(alloc, name, into)?;
+            put_word(alloc, "table ", name, into)?;
             show_columns(alloc, columns.as_slice(), into)
         }
         Statement::CreateIndex {
@@ -240,13 +258,8 @@ pub fn show_statement(
             column,
         } => show_index(alloc, name, table, column, into),
         Statement::Insert { table, rows } => {
-            into.push_str("insert ")?;
-            show_word(alloc, table, into)?;
-            into.push(';')?;
-            for row in rows.as_slice() {
-                show_row(alloc, row, into)?;
-            }
-            Ok(())
+            put_word(alloc, "insert ", table, into)?;
+            show_rows(alloc, rows.as_slice(), into)
         }
         Statement::Copy {
             table,

@@ -6,7 +6,6 @@ use mob_lexemes::laws::marks_are_read;
 use mob_parse::laws::one_refusal;
 use mob_parse::script::parse;
 use std::alloc::{AllocError, Global};
-use std::test::Fail;
 
 // The statements of a script, one behind the other.
 fn shown(alloc: Global, script: &str) -> Result<String, AllocError> {
@@ -168,25 +167,24 @@ static STATEMENTS: [(&str, &str); 16] = [
     ("SELECT a b", "refused"),
 ];
 
-// The first script that has another tree.
-fn wrong_tree(
-    alloc: Global,
-    rows: &[(&'static str, &str)],
-) -> Result<Option<&'static str>, AllocError> {
-    for (script, wanted) in rows {
-        if shown(alloc, script)?.as_str() != *wanted {
-            return Ok(Some(script));
-        }
+fn is_shown(alloc: Global, script: &str, wanted: &str) -> bool {
+    match &shown(alloc, script) {
+        Ok(tree) => tree.as_str() == wanted,
+        Err(_) => false,
     }
-    Ok(None)
 }
 
 #[test]
-fn scripts_have_their_trees(rt: HostRuntime) -> Result<(), Fail> {
-    assert_eq!(rt; wrong_tree(rt.alloc(), &EXPRESSIONS)?, None);
-    assert_eq!(rt; wrong_tree(rt.alloc(), &SIGNS)?, None);
-    assert_eq!(rt; wrong_tree(rt.alloc(), &STATEMENTS)?, None);
-    Ok(())
+fn scripts_have_their_trees(rt: HostRuntime) {
+    for rows in [
+        EXPRESSIONS.as_slice(),
+        SIGNS.as_slice(),
+        STATEMENTS.as_slice(),
+    ] {
+        for (script, wanted) in rows {
+            assert!(rt; is_shown(rt.alloc(), script, wanted), "{script}");
+        }
+    }
 }
 
 #[test]

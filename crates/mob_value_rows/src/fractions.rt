@@ -2,7 +2,6 @@
 
 use mob_frac::{Frac, Overflow, Wide, over_product, same_ratio};
 use std::cmp::Ordering;
-use std::test::Fail;
 
 const LARGEST: i64 = 4611686018427387903;
 
@@ -97,11 +96,11 @@ static RATIOS: [(Parts, Parts, Parts, Parts, bool); 8] = [
     ),
 ];
 
-fn made(parts: Parts) -> Option<Frac> {
+fn made(parts: Parts) -> Result<Frac, Overflow> {
     if parts.1 == 0 {
-        return None;
+        return Err(Overflow);
     }
-    Frac::new(parts.0, parts.1).ok()
+    Frac::new(parts.0, parts.1)
 }
 
 fn parts_of(made: Result<Frac, Overflow>) -> Option<Parts> {
@@ -111,127 +110,114 @@ fn parts_of(made: Result<Frac, Overflow>) -> Option<Parts> {
     }
 }
 
-fn quotient(a: &Frac, b: &Frac) -> Option<Parts> {
+#[derive(Clone, Copy)]
+enum Deed {
+    Sum,
+    // the difference from the opposite, which is the sum
+    Difference,
+    Product,
+    Quotient,
+}
+
+fn quotient(a: &Frac, b: &Frac) -> Result<Frac, Overflow> {
     if b.is_zero() {
-        return None;
+        return Err(Overflow);
     }
-    parts_of(a.div(b))
+    a.div(b)
 }
 
-// Below, the number of the first row that is wrong.
+fn answer(deed: Deed, a: &Frac, b: &Frac) -> Result<Frac, Overflow> {
+    match deed {
+        Deed::Sum => a.add(b),
+        Deed::Difference => a.sub(&b.negate()),
+        Deed::Product => a.mul(b),
+        Deed::Quotient => quotient(a, b),
+    }
+}
 
-fn wrongly_made() -> Option<usize> {
-    for (i, (parts, wanted)) in MADE.iter().enumerate() {
-        if made(*parts).map(|f| (f.num(), f.den())) != *wanted {
-            return Some(i);
+fn worked(deed: Deed, a: Parts, b: Parts) -> Option<Parts> {
+    match (made(a), made(b)) {
+        (Ok(x), Ok(y)) => parts_of(answer(deed, &x, &y)),
+        _ => None,
+    }
+}
+
+fn are_worked(deed: Deed, rows: &[Worked]) -> bool {
+    for (a, b, wanted) in rows {
+        if worked(deed, *a, *b) != *wanted {
+            return false;
         }
     }
-    None
+    true
 }
 
-fn is_sum(a: Parts, b: Parts, wanted: Option<Parts>) -> bool {
+#[test]
+fn fractions_are_exact(rt: HostRuntime) {
+    for (parts, wanted) in &MADE {
+        assert!(rt; parts_of(made(*parts)) == *wanted);
+    }
+    assert!(rt; are_worked(Deed::Sum, &SUMS));
+    assert!(rt; are_worked(Deed::Difference, &SUMS));
+    assert!(rt; are_worked(Deed::Product, &PRODUCTS));
+    assert!(rt; are_worked(Deed::Quotient, &QUOTIENTS));
+}
+
+fn is_order(a: &Frac, b: &Frac, wanted: Ordering) -> bool {
+    let is_same = wanted == Ordering::Equal;
+    a.compare(b) == wanted
+        && a.is_before(b) == (wanted == Ordering::Less)
+        && a.is_same(b) == is_same
+        && (*a == *b) == is_same
+}
+
+fn are_ordered(a: Parts, b: Parts, wanted: Ordering) -> bool {
     match (made(a), made(b)) {
-        (Some(x), Some(y)) => parts_of(x.add(&y)) == wanted
-            && parts_of(x.sub(&y.negate())) == wanted,
+        (Ok(x), Ok(y)) => is_order(&x, &y, wanted),
         _ => false,
     }
 }
 
-fn is_product(a: Parts, b: Parts, wanted: Option<Parts>) -> bool {
-    match (made(a), made(b)) {
-        (Some(x), Some(y)) => parts_of(x.mul(&y)) == wanted,
-        _ => false,
+fn signs_of(f: &Frac) -> (i8, i8) {
+    (f.sign(), f.negate().sign())
+}
+
+fn has_signs(num: i64, den: i64, wanted: (i8, i8)) -> bool {
+    match made((num, den)) {
+        Ok(f) => signs_of(&f) == wanted,
+        Err(Overflow) => false,
     }
 }
 
-fn is_quotient(a: Parts, b: Parts, wanted: Option<Parts>) -> bool {
-    match (made(a), made(b)) {
-        (Some(x), Some(y)) => quotient(&x, &y) == wanted,
-        _ => false,
+#[test]
+fn fractions_are_ordered(rt: HostRuntime) {
+    for (a, b, wanted) in &ORDERS {
+        assert!(rt; are_ordered(*a, *b, *wanted));
     }
-}
-
-fn wrong_sum() -> Option<usize> {
-    for (i, (a, b, wanted)) in SUMS.iter().enumerate() {
-        if !is_sum(*a, *b, *wanted) {
-            return Some(i);
-        }
-    }
-    None
-}
-
-fn wrong_product() -> Option<usize> {
-    for (i, (a, b, wanted)) in PRODUCTS.iter().enumerate() {
-        if !is_product(*a, *b, *wanted) {
-            return Some(i);
-        }
-    }
-    None
-}
-
-fn wrong_quotient() -> Option<usize> {
-    for (i, (a, b, wanted)) in QUOTIENTS.iter().enumerate() {
-        if !is_quotient(*a, *b, *wanted) {
-            return Some(i);
-        }
-    }
-    None
-}
-
-fn is_order(a: Parts, b: Parts, wanted: Ordering) -> bool {
-    match (made(a), made(b)) {
-        (Some(x), Some(y)) => {
-            let is_same = wanted == Ordering::Equal;
-            x.compare(&y) == wanted
-                && x.is_before(&y) == (wanted == Ordering::Less)
-                && x.is_same(&y) == is_same
-                && (x == y) == is_same
-        }
-        _ => false,
-    }
-}
-
-fn wrong_order() -> Option<usize> {
-    for (i, (a, b, wanted)) in ORDERS.iter().enumerate() {
-        if !is_order(*a, *b, *wanted) {
-            return Some(i);
-        }
-    }
-    None
+    assert!(rt; has_signs(-1, 3, (-1, 1)));
+    assert!(rt; has_signs(0, 3, (0, 0)));
 }
 
 // How far a fraction is above zero.
 fn above_zero(parts: Parts) -> Option<Wide> {
-    let nil = made((0, 1))?;
-    Some(Wide::difference(&made(parts)?, &nil))
+    match (made(parts), made((0, 1))) {
+        (Ok(f), Ok(nil)) => Some(Wide::difference(&f, &nil)),
+        _ => None,
+    }
 }
 
-fn has_same_ratio(a: &Wide, b: &Wide, c: &Wide, d: &Wide) -> Option<bool> {
-    if b.is_zero() {
-        return None;
-    }
-    if d.is_zero() {
+fn ratio(a: &Wide, b: &Wide, c: &Wide, d: &Wide) -> Option<bool> {
+    if b.is_zero() || d.is_zero() {
         return None;
     }
     Some(same_ratio(a, b, c, d))
 }
 
-fn ratio(a: Parts, b: Parts, c: Parts, d: Parts) -> Option<bool> {
-    has_same_ratio(
-        &above_zero(a)?,
-        &above_zero(b)?,
-        &above_zero(c)?,
-        &above_zero(d)?,
-    )
-}
-
-fn wrong_ratio() -> Option<usize> {
-    for (i, (a, b, c, d, wanted)) in RATIOS.iter().enumerate() {
-        if ratio(*a, *b, *c, *d) != Some(*wanted) {
-            return Some(i);
-        }
+fn have_ratio(row: &(Parts, Parts, Parts, Parts, bool)) -> bool {
+    let (a, b, c, d, wanted) = *row;
+    match (above_zero(a), above_zero(b), above_zero(c), above_zero(d)) {
+        (Some(a), Some(b), Some(c), Some(d)) => ratio(&a, &b, &c, &d) == Some(wanted),
+        _ => false,
     }
-    None
 }
 
 // Quotients by a product: the sign, the number above and the two below.
@@ -244,21 +230,15 @@ fn are_over_products() -> bool {
         && parts_of(over_product(false, 1, 1 << 62, 1)).is_none()
 }
 
+fn are_from_wide() -> bool {
+    parts_of(Frac::from_wide(-3 << 100, 1 << 101)) == Some((-3, 2))
+        && parts_of(Frac::from_wide(i128::MIN, 2)).is_none()
+}
+
 #[test]
-fn fractions_are_exact(rt: HostRuntime) -> Result<(), Fail> {
-    assert_eq!(rt; wrongly_made(), None);
-    assert_eq!(rt; wrong_sum(), None);
-    assert_eq!(rt; wrong_product(), None);
-    assert_eq!(rt; wrong_quotient(), None);
-    assert_eq!(rt; wrong_order(), None);
-    assert_eq!(rt; wrong_ratio(), None);
-    assert!(rt; are_over_products());
-    let wide = parts_of(Frac::from_wide(-3 << 100, 1 << 101));
-    assert_eq!(rt; wide, Some((-3, 2)));
-    assert_eq!(rt; parts_of(Frac::from_wide(i128::MIN, 2)), None);
-    let third = Frac::new(-1, 3)?;
-    assert_eq!(rt; third.sign(), -1);
-    assert_eq!(rt; third.negate().sign(), 1);
-    assert_eq!(rt; third.sub(&third)?.sign(), 0);
-    Ok(())
+fn wide_numbers_are_reduced(rt: HostRuntime) {
+    for row in &RATIOS {
+        assert!(rt; have_ratio(row));
+    }
+    assert!(rt; are_over_products() && are_from_wide());
 }

@@ -1,7 +1,9 @@
-//! Tests of values, as tables: fractions, spans and step values, their texts, tables, and queries call by call. What whole scripts
+//! Tests of values, as tables: fractions, spans, courses, their texts, constants, and queries call by call. What whole scripts
 //! answer stands in `checks/rows`.
 #![tactic(auto)]
 
+#[cfg(test)]
+mod constants;
 #[cfg(test)]
 mod courses;
 #[cfg(test)]
@@ -9,14 +11,6 @@ mod fractions;
 #[cfg(test)]
 mod queries;
 #[cfg(test)]
-mod scalars;
-#[cfg(test)]
 mod spans;
 #[cfg(test)]
-mod sql_values;
-#[cfg(test)]
-mod steps;
-#[cfg(test)]
-mod table_files;
-#[cfg(test)]
-mod threads;
+mod texts;

@@ -1,76 +1,206 @@
-// Spans between whole numbers, and sets of them.
+// Spans between whole numbers, sets of them, and when a truth value is true.
 
+use mob_ast::SqlType;
+use mob_compare::when_true;
 use mob_frac::Frac;
+use mob_literal::read_value;
+use mob_scalar::Epoch;
 use mob_span::{Span, SpanSet};
-use std::alloc::{AllocError, Global};
-use std::test::Fail;
+use mob_value::Value;
+use std::alloc::Global;
 
-/// The span between two whole numbers.
-pub fn span(lower: i64, upper: i64, lower_inc: bool, upper_inc: bool) -> Option<Span> {
-    let from = Frac::new(lower, 1).ok()?;
-    let to = Frac::new(upper, 1).ok()?;
-    Span::new(from, to, lower_inc, upper_inc)
+// The ends of a span, and whether it includes them.
+type Ends = (i64, i64, bool, bool);
+
+/// The span with these ends, of which each is included or not.
+pub fn span(ends: (i64, i64, bool, bool)) -> Option<Span> {
+    match (Frac::new(ends.0, 1), Frac::new(ends.1, 1)) {
+        (Ok(lower), Ok(upper)) => Span::new(lower, upper, ends.2, ends.3),
+        _ => None,
+    }
+}
+
+fn ends_of(span: &Span) -> Ends {
+    (
+        span.lower().num(),
+        span.upper().num(),
+        span.lower_inc(),
+        span.upper_inc(),
+    )
+}
+
+// Two spans, and the one that they share.
+static MEETS: [(Ends, Ends, Option<Ends>); 2] = [
+    (
+        (1, 3, true, false),
+        (2, 5, false, true),
+        Some((2, 3, false, false)),
+    ),
+    ((1, 3, true, false), (3, 4, true, true), None),
+];
+
+// Two spans, and whether they overlap, the first meets the second, is clear of it, starts before it and ends before it.
+static ORDERS: [(Ends, Ends, (bool, bool, bool, bool, bool)); 3] = [
+    (
+        (1, 3, true, false),
+        (2, 5, false, true),
+        (true, false, false, true, true),
+    ),
+    (
+        (1, 3, true, false),
+        (3, 4, true, true),
+        (false, true, true, true, true),
+    ),
+    (
+        (3, 4, true, true),
+        (1, 3, true, false),
+        (false, false, false, false, false),
+    ),
+];
+
+fn meet(a: Ends, b: Ends) -> Option<Ends> {
+    let both = span(a)?.meet(&span(b)?)?;
+    Some(ends_of(&both))
+}
+
+fn order(a: &Span, b: &Span) -> (bool, bool, bool, bool, bool) {
+    (
+        a.overlaps(b),
+        a.meets(b),
+        a.is_clear(b),
+        a.starts_before(b),
+        a.ends_before(b),
+    )
+}
+
+fn order_of(a: Ends, b: Ends) -> Option<(bool, bool, bool, bool, bool)> {
+    Some(order(&span(a)?, &span(b)?))
+}
+
+// Whether a span has the instants 2 and 3, and is long.
+fn has(ends: Ends) -> Option<(bool, bool, bool)> {
+    match (span(ends), Frac::new(2, 1), Frac::new(3, 1)) {
+        (Some(span), Ok(two), Ok(three)) => Some((
+            span.has(&two),
+            span.has(&three),
+            span.is_long(),
+        )),
+        _ => None,
+    }
 }
 
 #[test]
-fn spans_between_whole_numbers(rt: HostRuntime) -> Result<(), Fail> {
-    assert!(rt; span(2, 1, true, true).is_none());
-    assert!(rt; span(1, 1, true, false).is_none());
-    assert!(rt; span(1, 2, false, false).is_some());
-    let early = span(1, 3, true, false).ok_or("has an instant")?;
-    let late = span(2, 5, false, true).ok_or("has an instant")?;
-    let two = Frac::new(2, 1).ok().ok_or("fits")?;
-    let three = Frac::new(3, 1).ok().ok_or("fits")?;
-    assert!(rt; early.has(&two) && !early.has(&three));
-    assert!(rt; !late.has(&two) && late.has(&three));
-    assert!(rt; early.overlaps(&late) && early.is_long());
-    let meet = early.meet(&late).ok_or("share an instant")?;
-    assert!(rt; meet.lower().is_same(&two) && !meet.lower_inc());
-    assert!(rt; meet.upper().is_same(&three) && !meet.upper_inc());
-    let next = span(3, 4, true, true).ok_or("has an instant")?;
-    assert!(rt; early.meet(&next).is_none());
-    assert!(rt; early.meets(&next) && early.is_clear(&next) && !next.is_clear(&early));
-    assert!(rt; early.starts_before(&next) && early.ends_before(&next));
-    Ok(())
+fn spans_between_whole_numbers(rt: HostRuntime) {
+    assert!(rt; span((2, 1, true, true)).is_none());
+    assert!(rt; span((1, 1, true, false)).is_none());
+    assert!(rt; span((1, 2, false, false)).is_some());
+    assert!(rt; has((1, 3, true, false)) == Some((true, false, true)));
+    assert!(rt; has((2, 5, false, true)) == Some((false, true, true)));
+    for (a, b, wanted) in &MEETS {
+        assert!(rt; meet(*a, *b) == *wanted);
+    }
+    for (a, b, wanted) in &ORDERS {
+        assert!(rt; order_of(*a, *b) == Some(*wanted));
+    }
 }
 
-// The set of three spans.
-fn set(alloc: Global, spans: [Span; 3]) -> Result<SpanSet, AllocError> {
-    SpanSet::of(alloc, Vec::from_array(alloc, spans)?)
-}
+// Three spans, the first and the last of the two of their set, and whether it has the instants 2, 3 and 4.
+type Joined = (Ends, Ends, Ends, Ends, Ends, (bool, bool, bool));
 
-// Whether a span has these whole ends and includes them so.
-fn is_from(span: &Span, lower: i64, upper: i64, lower_inc: bool, upper_inc: bool) -> bool {
-    span.lower().num() == lower
-        && span.upper().num() == upper
-        && span.lower_inc() == lower_inc
-        && span.upper_inc() == upper_inc
-}
-
-#[test]
-fn spans_that_touch_are_one(rt: HostRuntime) -> Result<(), Fail> {
-    let late = span(5, 6, true, true).ok_or("has an instant")?;
-    let at_three = span(3, 4, true, false).ok_or("has an instant")?;
-    let after_three = span(3, 4, false, false).ok_or("has an instant")?;
-    let long = span(1, 3, true, false).ok_or("has an instant")?;
-    let inner = span(2, 2, true, true).ok_or("has an instant")?;
-    let three = Frac::new(3, 1).ok().ok_or("fits")?;
+static SETS: [Joined; 2] = [
     // they meet at 3, and the later span stands first
-    let joined = set(rt.alloc(), [late, at_three, long])?;
-    assert_eq!(rt; joined.spans().len(), 2);
-    let first = joined.spans().first().ok_or("first")?;
-    assert!(rt; is_from(first, 1, 4, true, false));
-    assert!(rt; joined.has(&three) && !joined.has(at_three.upper()));
+    (
+        (5, 6, true, true),
+        (3, 4, true, false),
+        (1, 3, true, false),
+        (1, 4, true, false),
+        (5, 6, true, true),
+        (true, true, false),
+    ),
     // neither has 3, and one lies within the other
-    let parted = set(rt.alloc(), [after_three, inner, long])?;
-    assert_eq!(rt; parted.spans().len(), 2);
-    let first = parted.spans().first().ok_or("first")?;
-    assert!(rt; is_from(first, 1, 3, true, false));
-    let last = parted.spans().last().ok_or("last")?;
-    assert!(rt; is_from(last, 3, 4, false, false));
-    assert!(rt; !parted.has(&three) && parted.has(inner.lower()));
-    // no span, no instant
-    let none = SpanSet::of(rt.alloc(), Vec::new(rt.alloc()))?;
-    assert!(rt; none.spans().is_empty() && !none.has(&three));
-    Ok(())
+    (
+        (3, 4, false, false),
+        (2, 2, true, true),
+        (1, 3, true, false),
+        (1, 3, true, false),
+        (3, 4, false, false),
+        (true, false, false),
+    ),
+];
+
+fn set_of(alloc: Global, spans: [Span; 3]) -> Option<SpanSet> {
+    match Vec::from_array(alloc, spans) {
+        Ok(spans) => SpanSet::of(alloc, spans).ok(),
+        Err(_) => None,
+    }
+}
+
+fn set(alloc: Global, a: Ends, b: Ends, c: Ends) -> Option<SpanSet> {
+    set_of(alloc, [span(a)?, span(b)?, span(c)?])
+}
+
+// Whether a set has the instants 2, 3 and 4.
+fn instants(set: &SpanSet) -> Option<(bool, bool, bool)> {
+    match (Frac::new(2, 1), Frac::new(3, 1), Frac::new(4, 1)) {
+        (Ok(two), Ok(three), Ok(four)) => Some((set.has(&two), set.has(&three), set.has(&four))),
+        _ => None,
+    }
+}
+
+fn are_two(spans: &[Span], first: Ends, last: Ends) -> bool {
+    match spans {
+        [a, b] => ends_of(a) == first && ends_of(b) == last,
+        _ => false,
+    }
+}
+
+fn is_joined(alloc: Global, row: &Joined) -> bool {
+    let (a, b, c, first, last, wanted) = *row;
+    match &set(alloc, a, b, c) {
+        Some(set) => are_two(set.spans(), first, last) && instants(set) == Some(wanted),
+        None => false,
+    }
+}
+
+fn is_nowhere(set: &SpanSet) -> bool {
+    set.spans().is_empty() && instants(set) == Some((false, false, false))
+}
+
+fn is_none_of_none(alloc: Global) -> bool {
+    match &SpanSet::of(alloc, Vec::new(alloc)) {
+        Ok(set) => is_nowhere(set),
+        Err(_) => false,
+    }
+}
+
+#[test]
+fn spans_that_touch_are_one(rt: HostRuntime) {
+    for row in &SETS {
+        assert!(rt; is_joined(rt.alloc(), row));
+    }
+    assert!(rt; is_none_of_none(rt.alloc()));
+}
+
+// When a truth value is true that has this text. The epoch is 2000-01-01, so that the instant 2 is its second 2.
+fn times(alloc: Global, text: &str) -> Option<SpanSet> {
+    match &read_value(alloc, SqlType::TBool, text, &Epoch::standard()) {
+        Ok(Value::MovingBool(truths)) => when_true(alloc, truths).ok()?,
+        _ => None,
+    }
+}
+
+// Whether those are the instants 2, 3 and 4, in one span.
+fn are_times(alloc: Global, text: &str, wanted: (bool, bool, bool)) -> bool {
+    match &times(alloc, text) {
+        Some(set) => set.spans().len() == 1 && instants(set) == Some(wanted),
+        None => false,
+    }
+}
+
+const AT_THREE: &str = "[f@2000-01-01 00:00:02, t@2000-01-01 00:00:03, f@2000-01-01 00:00:04]";
+
+#[test]
+fn truth_values_are_true_at_times(rt: HostRuntime) {
+    assert!(rt; are_times(rt.alloc(), AT_THREE, (false, true, false)));
+    assert!(rt; times(rt.alloc(), "[f@2000-01-01, f@2000-01-02]").is_none());
 }
