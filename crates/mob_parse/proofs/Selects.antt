@@ -1,5 +1,5 @@
 -- Reading what stands behind SELECT, with the keys and the number at once.
-use Rattle.std.proofs.Common.{◌≡◌, ◌∙◌, Bool, List, Option, Ok, Err, map, option_map, refl, sym, ap, subst}
+use Rattle.std.proofs.Common.{◌≡◌, ◌∙◌, Bool, List, Option, Ok, Err, map, option_map, refl, sym, subst}
 use Rattle.mob_ast.specs.declared.expression.Expr.{Expr}
 use Rattle.mob_ast.specs.declared.statement.FromTable.{FromTable}
 use Rattle.mob_ast.specs.declared.statement.Item.{Item}
@@ -9,9 +9,6 @@ use Rattle.mob_grammar.specs.declared.mark.Mark.TheVariants.{Comma}
 use Rattle.mob_grammar.specs.Symbols.{PlacedSymbol}
 use Rattle.mob_grammar.specs.Reading.{Answer, TokenReader, ◌>>=◌, listed, distinct_at, item_at, from_at, condition_at, order_at, limit_at, select_at}
 use Rattle.mob_grammar.proofs.Tells.{through}
-use Rattle.mob_parse.specs.declared.cursor.Fault.{Fault}
-use Rattle.mob_parse.specs.declared.cursor.Fault.TheVariants.{Syntax, NoMemory}
-use Rattle.mob_parse.specs.Cursors.{StopsReading}
 use Rattle.mob_parse.specs.Orderings.{ordering_at}
 
 -- two values one after the other, as a pair
@@ -36,11 +33,6 @@ unfolding select_at ordering_at
 select_front l l1 l2 l3 l4 d items from cond e1 e2 e3 e4 =
     through (distinct_at l) d l1 _ e1 ∙ through (listed Comma item_at l1) items l2 _ e2 ∙ through (from_at l2) from l3 _ e3 ∙ through (condition_at l3) cond l4 _ e4
     ∙ paired (order_at l4) limit_at (λ keys limit. record { distinct = d; items = items; from = from; cond = cond; keys = keys; limit = limit })
-
--- where a part is refused, the whole is refused there
-pub stops_through : {A B : Type 0} (e : Fault) (r : List PlacedSymbol) (a : Answer A) (k : A × List PlacedSymbol → Answer B) (whole : Answer B) → whole ≡ (a >>= k) → StopsReading e r a → StopsReading e r whole
-stops_through Syntax r a k whole p h = p ∙ ap (λ b. b >>= k) h
-stops_through NoMemory r a k whole p h = tt
 
 -- what stands in front stays as it is
 pub front_kept : (d : Bool) (keys : List KeyParts) (limit : Option Word) (r : List PlacedSymbol) (whole : Answer SelectParts) (f g : List Item × List FromTable × Option Expr) → g ≡ f

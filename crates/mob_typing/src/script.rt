@@ -1,9 +1,9 @@
 //! Names and types of whole scripts.
-ghost use Rattle.std.specs.Prelude.{◌≡◌, ◌+◌, Ok, IfOk, IfErr};
+ghost use Rattle.std.specs.Prelude.{◌≡◌, ◌+◌, [], Ok, map, IfOk, IfErr};
 ghost use Rattle.mob_ast.specs.Trees.{statement_of, script_of};
 ghost use Rattle.mob_expression.specs.Answers.{AnswersAs, TypesTo};
 ghost use Rattle.mob_typed.specs.Statements.{statement_seen, script_seen};
-ghost use Rattle.mob_typing.specs.Statements.{typed_statement, typed_script, IsTypingRefusal, refusal_of};
+ghost use Rattle.mob_typing.specs.Statements.{typed_statement, typed_from, typed_script, IsTypingRefusal, refusal_of};
 
 use crate::names::Names;
 use crate::rows::{copied, inserted};
@@ -80,6 +80,34 @@ fn refusal_of(fault: Fault, statement: u32) -> Refusal
     }
 }
 
+// The statements in order, the first of which has number 1.
+fn typed_statements(
+    alloc: Global,
+    names: &mut Names,
+    statements: &[Statement],
+) -> Result<Typed, Refusal>
+    ensures typed { IfOk result (λ t. typed_from 1 names.old (map statement_of statements.now) [] ≡ Ok (script_seen t)) }
+    ensures first_refusal { IfErr result (λ e. IsTypingRefusal e (typed_from 1 names.old (map statement_of statements.now) [])) }
+{
+    let mut consts = Items::new(alloc);
+    let mut done = Items::new(alloc);
+    let mut number: u32 = 1;
+    for statement in statements {
+        match type_statement(alloc, number, names, &mut consts, statement) {
+            Ok(typed) => done.push(typed)?,
+            Err(fault) => return Err(refusal_of(fault, number)),
+        }
+        let Some(next) = number.checked_add(1) else {
+            return Err(refusal_of(Fault::NoMemory, number));
+        };
+        number = next;
+    }
+    Ok(Typed {
+        statements: done,
+        consts,
+    })
+}
+
 /// The typed script, each constant with its type, text, statement and place in written order; or the first refusal of
 /// UnknownName, Duplicate, NoSuchOperator, LinearProduct, Irrational, ZeroDivisor, BadCount and Limit, statement by statement.
 /// In a statement the tables of FROM or the target table come first, then the rest by place, operands before their operator.
@@ -88,18 +116,5 @@ pub fn type_script(alloc: Global, script: Script) -> Result<Typed, Refusal>
     ensures first_refusal { IfErr result (λ e. IsTypingRefusal e (typed_script (script_of script))) }
 {
     let mut names = Names::new(alloc);
-    let mut consts = Items::new(alloc);
-    let mut statements = Items::new(alloc);
-    let mut number: u32 = 1;
-    for statement in script.statements.as_slice() {
-        match type_statement(alloc, number, &mut names, &mut consts, statement) {
-            Ok(typed) => statements.push(typed)?,
-            Err(fault) => return Err(refusal_of(fault, number)),
-        }
-        let Some(next) = number.checked_add(1) else {
-            return Err(refusal_of(Fault::NoMemory, number));
-        };
-        number = next;
-    }
-    Ok(Typed { statements, consts })
+    typed_statements(alloc, &mut names, script.statements.as_slice())
 }

@@ -1,8 +1,9 @@
 //! CREATE TABLE and CREATE INDEX.
-ghost use Rattle.std.specs.Prelude.{◌≡◌, [], IfOk};
+ghost use Rattle.std.specs.Prelude.{◌≡◌, ◌∷◌, ◌++◌, [], false, IfOk, OnOk};
 ghost use Rattle.mob_operators.specs.Lookup.{same_type};
 ghost use Rattle.mob_ast.specs.declared.types.SqlType.TheVariants.{TPoint};
 ghost use Rattle.mob_expression.specs.Answers.{AnswersAs};
+ghost use Rattle.mob_expression.specs.Names.{has_entry};
 ghost use Rattle.mob_typing.specs.Statements.{with_column, with_columns, made_table, made_index};
 ghost use Rattle.mob_typed.specs.Statements.{statement_seen};
 
@@ -70,6 +71,23 @@ fn listed(alloc: Global, columns: &Columns) -> Result<Items<(Text, SqlType)>, Al
     Ok(list)
 }
 
+// Adds a table of a new name, and gives its columns as a list.
+fn added(
+    alloc: Global,
+    names: &mut Names,
+    name: &str,
+    columns: Columns,
+) -> Result<Items<(Text, SqlType)>, AllocError>
+    requires { has_entry names.old.tables name.now ≡ false }
+    ensures list { IfOk result (λ v. v ≡ columns) }
+    ensures last { OnOk result (names.new.tables ≡ names.old.tables ++ (name.now, columns) ∷ []) }
+    ensures same_indexes { OnOk result (names.new.indexes ≡ names.old.indexes) }
+{
+    let list = listed(alloc, &columns)?;
+    names.add_table(alloc, name, columns)?;
+    Ok(list)
+}
+
 /// A new table.
 pub fn made_table(
     alloc: Global,
@@ -91,11 +109,10 @@ pub fn made_table(
             place: name.place,
         });
     }
-    let columns = with_columns(alloc, columns)?;
-    let list = listed(alloc, &columns)?;
     let table = number(names.len())?;
     let text = name.text.copy(alloc)?;
-    names.add_table(alloc, name.text.as_str(), columns)?;
+    let columns = with_columns(alloc, columns)?;
+    let list = added(alloc, names, name.text.as_str(), columns)?;
     Ok(TypedStatement::CreateTable {
         table,
         name: text,

@@ -3,7 +3,8 @@ use Rattle.std.proofs.lemmas.Result.{err_from_is_err_and}
 use Rattle.mob_grammar.proofs.Tells.{through}
 use Rattle.mob_parse.specs.Cursors.{left}
 use Rattle.mob_parse.specs.Orderings.{ordering_at}
-use Rattle.mob_parse.proofs.Selects.{select_front, stops_through, front_kept}
+use Rattle.mob_parse.proofs.Selects.{select_front, front_kept}
+use Rattle.mob_parse.proofs.Steps.{stops_through}
 use Rattle.mob_parse.proofs.cursor.Cursor.select.Goals as goal
 
 pub returns-in_err-items-2-clause-reads : goal.returns-in_err-items-2-clause-reads

@@ -1,0 +1,171 @@
+// Ends whose k-th call fails, for each k until no call is the k-th, in runs without a word. What whole scripts answer stands in
+// `checks/rows`.
+
+use crate::runs::{Failing, Report, run_once};
+use std::alloc::{AllocError, Global};
+use std::thread::Threads;
+
+// The ends, of which one has a failing call.
+#[derive(Clone, Copy)]
+enum End {
+    Script,
+    File,
+    Out,
+    Notes,
+}
+
+// A run with a file, of which an end fails: what it writes and notes where nothing else ends it, and for each call that fails, from
+// the first on, the status, and how many bytes of these were written and noted.
+type Failed = (
+    End,
+    &'static str,
+    &'static str,
+    &'static str,
+    &'static [(u8, usize, usize)],
+);
+
+const SCRIPT: &str = "SELECT tint '[5@2001-01-01]';\n";
+
+const ANSWER: &str = "c1\n5@2001-01-01 00:00:00+00\n(1 rows)\n";
+
+const COPY: &str =
+    "CREATE TABLE t (k int); COPY t FROM 't.csv' WITH (FORMAT csv, HEADER); SELECT k FROM t WHERE k > 2;";
+
+const FILE: &[u8] = b"k\n1\n2\n3\n";
+
+static FAILED: [Failed; 5] = [
+    // An empty script has one call, which meets the end.
+    (
+        End::Script,
+        "",
+        "",
+        "read fault: script\n",
+        &[(3, 0, 19), (0, 0, 0)],
+    ),
+    // The script has 30 bytes, so there are 6 calls: five with bytes, and one that meets the end.
+    (
+        End::Script,
+        SCRIPT,
+        ANSWER,
+        "read fault: script\n",
+        &[
+            (3, 0, 19),
+            (3, 0, 19),
+            (3, 0, 19),
+            (3, 0, 19),
+            (3, 0, 19),
+            (3, 0, 19),
+            (0, 37, 0),
+            (0, 37, 0),
+        ],
+    ),
+    // The file has 8 bytes, so there are 4 calls: the one that opens it, two with bytes, and one that meets the end.
+    (
+        End::File,
+        COPY,
+        "k\n3\n(1 rows)\n",
+        "read fault: t.csv\n",
+        &[
+            (3, 0, 18),
+            (3, 0, 18),
+            (3, 0, 18),
+            (3, 0, 18),
+            (0, 13, 0),
+            (0, 13, 0),
+        ],
+    ),
+    // The answer has 37 bytes, so there are 6 calls, of which each before the failing one took 7 bytes.
+    (
+        End::Out,
+        SCRIPT,
+        ANSWER,
+        "write fault\n",
+        &[
+            (4, 0, 12),
+            (4, 7, 12),
+            (4, 14, 12),
+            (4, 21, 12),
+            (4, 28, 12),
+            (4, 35, 12),
+            (0, 37, 0),
+            (0, 37, 0),
+        ],
+    ),
+    // The note of a refusal is put in nine pieces of 10, 1, 7, 1, 10, 1, 2, 11 and 2 bytes, so in 12 calls.
+    (
+        End::Notes,
+        "SELECT b;",
+        "",
+        "statement 1, byte 7: refusal 6 (UnknownName)\n",
+        &[
+            (7, 0, 0),
+            (7, 0, 7),
+            (7, 0, 10),
+            (7, 0, 11),
+            (7, 0, 18),
+            (7, 0, 19),
+            (7, 0, 26),
+            (7, 0, 29),
+            (7, 0, 30),
+            (7, 0, 32),
+            (7, 0, 39),
+            (7, 0, 43),
+            (7, 0, 45),
+            (7, 0, 45),
+        ],
+    ),
+];
+
+// The call with this number fails at this end.
+fn failing(alloc: Global, end: End, call: u64) -> Result<Failing, AllocError> {
+    let mut failing = Failing::none(alloc);
+    match end {
+        End::Script => failing.script.push(call)?,
+        End::File => failing.files.push(call)?,
+        End::Out => failing.out.push(call)?,
+        End::Notes => failing.notes.push(call)?,
+    }
+    Ok(failing)
+}
+
+// Whether a run ended so, and wrote and noted so many bytes of these texts.
+fn is_cut(seen: &Report, answer: &str, note: &str, wanted: (u8, usize, usize)) -> bool {
+    let (status, written, noted) = wanted;
+    seen.status == status
+        && seen.out.len() == written
+        && answer.as_bytes().starts_with(&seen.out)
+        && seen.notes.len() == noted
+        && note.as_bytes().starts_with(&seen.notes)
+}
+
+// How many calls there are before the first that does not end as it must.
+fn right_calls(
+    rt: &(impl Threads + Sync),
+    alloc: Global,
+    row: &Failed,
+) -> Result<usize, AllocError> {
+    let (end, script, answer, note, calls) = row;
+    for (i, wanted) in calls.iter().enumerate() {
+        let failing = failing(alloc, *end, (i as u64).saturating_add(1))?;
+        let named = [("t.csv", FILE)];
+        let seen = run_once(rt, alloc, &[], script.as_bytes(), &named, failing)?;
+        if !is_cut(&seen, answer, note, *wanted) {
+            return Ok(i);
+        }
+    }
+    Ok(calls.len())
+}
+
+fn are_right(rt: &(impl Threads + Sync), alloc: Global, row: &Failed) -> bool {
+    match right_calls(rt, alloc, row) {
+        Ok(count) => count == row.4.len(),
+        Err(_) => false,
+    }
+}
+
+#[test]
+fn calls_that_fail(rt: HostRuntime) {
+    for row in &FAILED {
+        assert!(rt; are_right(&rt, rt.alloc(), row));
+    }
+}
