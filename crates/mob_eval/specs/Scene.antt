@@ -1,5 +1,5 @@
 -- What an expression reads.
-use Rattle.std.specs.Prelude.{ℕ, ℤ, List, Option, Some, None, slice_get, option_and_then}
+use Rattle.std.specs.Prelude.{ℕ, ℤ, List, Option, Some, None, slice_get, option_map, option_and_then}
 use Rattle.mob_value.specs.declared.value.Value.{Value}
 use Rattle.mob_value.specs.declared.value.Value.TheVariants.{Null}
 use Rattle.mob_value.specs.declared.store.Store.{Store}
@@ -18,10 +18,17 @@ pub record Scene : Type 0 where
 abbrev pub constant_at : Scene → ℕ → Option Value
 constant_at s c = slice_get s.store.consts c
 
+-- the rows of the table of a place
+abbrev pub rows_of_place : Scene → ℕ → Option (List (List Value))
+rows_of_place s place = option_and_then (λ number. option_map (λ table. table.rows) (slice_get s.store.tables number)) (slice_get s.from place)
+
+-- the values of the row of a place
+abbrev pub row_of_place : Scene → ℕ → Option (List Value)
+row_of_place s place = option_and_then (λ rows. option_and_then (λ number. slice_get rows number) (slice_get s.tuple place)) (rows_of_place s place)
+
 -- the value in a column of the row of a place
 abbrev pub column_value : Scene → ℕ → ℕ → Option Value
-column_value s place column =
-    option_and_then (λ number. option_and_then (λ row. option_and_then (λ table. option_and_then (λ fields. slice_get fields column) (slice_get table.rows row)) (slice_get s.store.tables number)) (slice_get s.tuple place)) (slice_get s.from place)
+column_value s place column = option_and_then (λ values. slice_get values column) (row_of_place s place)
 
 -- a store, the table of each place, the row of each place, and the day of the epoch
 abbrev pub scene : Store → List ℕ → List ℕ → ℤ → Scene

@@ -1,11 +1,12 @@
 //! What an expression reads.
 ghost use Rattle.std.specs.Prelude.{◌≡◌, MatchOption, option_map};
 ghost use Rattle.mob_value.specs.declared.value.Value.TheVariants.{Null};
-ghost use Rattle.mob_eval.specs.Scene.{constant_at, column_value, leaf_value};
+ghost use Rattle.mob_eval.specs.Scene.{constant_at, rows_of_place, row_of_place, column_value, leaf_value};
 ghost use Rattle.mob_eval.specs.Views.{scene_of};
 ghost use Rattle.mob_eval.specs.Held.{held};
 
 use crate::held::Held;
+use mob_list::items::Items;
 use mob_operators::Op;
 use mob_scalar::Epoch;
 use mob_value::{Store, Value};
@@ -29,20 +30,28 @@ fn constant_at<'a>(view: &View<'a>, number: u32) -> Option<&'a Value>
     view.store.consts.as_slice().get(number as usize)
 }
 
+// The rows of the table of a place.
+fn rows_of_place<'a>(view: &View<'a>, place: u32) -> Option<&'a [Items<Value>]>
+    ensures rows { option_map (λ rows. rows.now) result ≡ rows_of_place (scene_of view.now) place }
+{
+    let number = *view.from.get(place as usize)?;
+    let table = view.store.tables.as_slice().get(number as usize)?;
+    Some(table.rows.as_slice())
+}
+
+// The values of the row of a place.
+fn row_of_place<'a>(view: &View<'a>, place: u32) -> Option<&'a [Value]>
+    ensures values { option_map (λ values. values.now) result ≡ row_of_place (scene_of view.now) place }
+{
+    let rows = rows_of_place(view, place)?;
+    let number = *view.tuple.get(place as usize)?;
+    Some(rows.get(number as usize)?.as_slice())
+}
+
 fn column_value<'a>(view: &View<'a>, place: u32, column: u32) -> Option<&'a Value>
     ensures value { option_map (λ v. v.now) result ≡ column_value (scene_of view.now) place column }
 {
-    let table = *view.from.get(place as usize)?;
-    let row = *view.tuple.get(place as usize)?;
-    let rows = view
-        .store
-        .tables
-        .as_slice()
-        .get(table as usize)?
-        .rows
-        .as_slice();
-    let fields = rows.get(row as usize)?.as_slice();
-    fields.get(column as usize)
+    row_of_place(view, place)?.get(column as usize)
 }
 
 fn stored<'a>(value: Option<&'a Value>) -> Held<'a>
