@@ -18,6 +18,7 @@ use Rattle.mob_operators.specs.declared.operator.Form.TheVariants as form
 use Rattle.mob_operators.specs.Lookup.{same_type, found_in, has_function}
 use Rattle.mob_operators.specs.Table.{table, is_irrational}
 use Rattle.mob_typed.specs.Trees.{TypedTree, typed, none, more, typed_trees, types_of}
+use Rattle.mob_typed.specs.declared.typed.ConstText.{ConstText}
 use Rattle.mob_expression.specs.Answers.{Mistake, refuse, ◌>>=◌, unless, found, TypingStep, one_more}
 use Rattle.mob_expression.specs.Names.{column_of, entry_from}
 use Rattle.mob_expression.specs.Scopes.{ScopeTableParts, ScopeParts}
@@ -172,10 +173,14 @@ abbrev pub or_later : TypingStep TypedTree → Option TypedTree → TypingStep T
 or_later later None cs = later cs
 or_later later (Some t) cs = Ok (t, cs)
 
+-- the operator on its operands, with the constants after them
+abbrev pub on_operands : Node → ℕ → Trees → List TypedTree × List ConstText → Result (TypedTree × List ConstText) Mistake
+on_operands n p args r = finished n p args r.0 >>= λ t. Ok (t, r.1)
+
 -- The typed tree of an expression and the constants after it, or what is wrong first.
 unfoldable mutual
   pub typed_expression : ScopeParts → Tree → TypingStep TypedTree
-  typed_expression s (tree n p args) cs = typed_before_operands s n p args cs >>= λ e. or_later (λ ds. typed_operands s args ds >>= λ r. finished n p args r.0 >>= λ t. Ok (t, r.1)) e.0 e.1
+  typed_expression s (tree n p args) cs = typed_before_operands s n p args cs >>= λ e. or_later (λ ds. typed_operands s args ds >>= on_operands n p args) e.0 e.1
 
   -- operands from left to right
   pub typed_operands : ScopeParts → Trees → TypingStep (List TypedTree)
