@@ -1,12 +1,8 @@
-pub mod Adds
 pub mod Causes
 pub mod Ends
-pub mod GatheredExpressions
-pub mod GatheredRows
-pub mod GatheredScripts
-pub mod GatheredSelects
-pub mod GatheredStatements
+pub mod InOrder
 pub mod Numbered
+pub mod OnParts
 pub mod OneRefusal
 pub mod OneScript
 pub mod Places

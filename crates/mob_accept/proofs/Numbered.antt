@@ -1,7 +1,6 @@
 -- What typing numbers by statements stands so among the `;` tokens: the trees of a text are cut at them, and typing keeps to the trees.
-use Rattle.std.specs.Prelude.{IfOk}
 use Rattle.std.specs.List.{AllByRecursion}
-use Rattle.std.proofs.Common.{◌≡◌, ◌+◌, ◌∙◌, sym, ap, subst, arith, inl, inr, ℕ, List, [], ◌∷◌, ◌++◌, length, take, drop, append_assoc, append-nil, Result, Ok, Err}
+use Rattle.std.proofs.Common.{◌≡◌, ◌+◌, ◌∙◌, sym, ap, subst, arith, inl, inr, ℕ, List, [], ◌∷◌, ◌++◌, length, take, drop, append_assoc, append-nil, Ok}
 use Rattle.std.proofs.lemmas.List.{take-append-drop}
 use Rattle.mob_ast.specs.declared.refusal.Kind.TheVariants.{Syntax, TooComplex}
 use Rattle.mob_ast.specs.declared.refusal.Refusal.{Refusal}
@@ -9,23 +8,21 @@ use Rattle.mob_ast.specs.Trees.{StatementParts}
 use Rattle.mob_chars.specs.declared.token.Token.{Token}
 use Rattle.mob_chars.specs.Tokens.{tokens_of}
 use Rattle.mob_grammar.specs.Symbols.{PlacedSymbol}
-use Rattle.mob_grammar.specs.Places.{IsWithin, statement_places}
+use Rattle.mob_grammar.specs.Places.{statement_places}
 use Rattle.mob_grammar.specs.Held.{statement_held}
 use Rattle.mob_grammar.specs.Cuts.{ends_among, StandsBehind, AllStandBehind}
 use Rattle.mob_grammar.proofs.Cuts.{places_are_cut, held_are_cut}
 use Rattle.mob_parse.specs.Refusals.{HasTokens, place_of, IsCause}
 use Rattle.mob_lexemes.specs.Lexed.{lexed}
 use Rattle.mob_typed.specs.declared.typed.ConstText.{ConstText}
-use Rattle.mob_expression.specs.Answers.{Mistake}
-use Rattle.mob_typing.specs.Names.{NameLists}
-use Rattle.mob_typing.specs.Statements.{Made, in_statement, or_refused, put_statement, typed_statement, typed_from, no_names}
-use Rattle.mob_typed.specs.Statements.{StatementOut, ScriptOut}
+use Rattle.mob_typed.specs.Statements.{ColumnList, ScriptOut}
 use Rattle.mob_accept.specs.UnbuiltWords.{statement_number}
-use Rattle.mob_accept.specs.Numbers.{AreIn, TreesAreIn, brackets_of, RowsAreIn, TreesAreNumbered, TypingKeepsNumbers, TextIsNumbered, WrongTokensAreNumbered}
+use Rattle.mob_accept.specs.Numbers.{AreIn, TreesAreIn, RowsAreIn, TreesAreNumbered, TypingKeepsNumbers, TextIsNumbered, TypingRefusesInside, WrongNamesAreNumbered, WrongTokensAreNumbered}
 use Rattle.mob_typed.proofs.Rising.{each_both, each_on}
-use Rattle.mob_accept.proofs.Adds.{Adds, Belongs, Gathers, places_of}
+use Rattle.mob_typing.proofs.Walk.{Belongs, places_of}
+use Rattle.mob_typing.proofs.WalkedScripts.{AreMade, none_made, one_made, HoldPlaces, script_made, script_stops_inside}
 use Rattle.mob_accept.proofs.Ends.{behind_is, place_behind}
-use Rattle.mob_accept.proofs.GatheredStatements.{AskedWithin, all_within, statement_gathers, statement_rows}
+use Rattle.mob_accept.proofs.OnParts.{all_within}
 
 module _ (bytes : List ℕ) (ts : List Token) (l : List PlacedSymbol) (are : tokens_of bytes ≡ Ok ts) (is : l ≡ lexed bytes ts) (places : StatementParts → List ℕ) where
   trees_in : (n : ℕ) (ss : List StatementParts) → AllStandBehind places l n ss → TreesAreIn places bytes (n + 1) ss
@@ -50,34 +47,30 @@ module _ (bytes : List ℕ) where
     own : AllByRecursion IsOwn new
     rows : RowsAreIn bytes n out.statements
 
-  module _ (n : ℕ) (s : StatementOut) (cs ds : List ConstText) (ps : List ℕ) (at : AreIn bytes n ps) (adds : Adds n ps cs ds) (rows : IsWithin (brackets_of s) ps) where
-    onward : (r : Result ScriptOut Refusal) → IfOk r (Stands (n + 1) ds) → IfOk (or_refused r (λ out. Ok (put_statement s out))) (Stands n cs)
-    onward (Ok out) h = record {
-      new = adds.new ++ h.new;
-      is = h.is ∙ ap (λ x. x ++ h.new) adds.is ∙ append_assoc cs adds.new h.new;
-      own = each_both IsOwn adds.new h.new (literals_own n adds.new adds.own (all_within (λ p. statement_number bytes p ≡ n) adds.within at)) h.own;
-      rows = (all_within (λ p. statement_number bytes p ≡ n) rows at, h.rows);
-    }
-    onward (Err e) h = tt
+  script_stands : {n : ℕ} {tables : List ColumnList} {cs : List ConstText} {ss : List StatementParts} {out : ScriptOut} → AreMade n tables cs ss out → TreesAreIn statement_places bytes n ss → Stands n cs out
+  script_stands (none_made {cs = cs}) at = record { new = []; is = sym (append-nil cs); own = tt; rows = tt }
+  script_stands (one_made {n = n} {cs = cs} adds made others) at =
+      let rest = script_stands others at.1 in
+      record {
+        new = adds.new ++ rest.new;
+        is = rest.is ∙ ap (λ x. x ++ rest.new) adds.is ∙ append_assoc cs adds.new rest.new;
+        own = each_both IsOwn adds.new rest.new (literals_own n adds.new adds.own (all_within (λ p. statement_number bytes p ≡ n) adds.within at.0)) rest.own;
+        rows = (all_within (λ p. statement_number bytes p ≡ n) made.rows at.0, rest.rows);
+      }
 
-  module _ (n : ℕ) (ss : List StatementParts) (cs : List ConstText) (ps : List ℕ) (at : AreIn bytes n ps) where
-    -- one statement, and then those behind it
-    statement_stands : (r : Result (Made × List ConstText) Mistake) → Gathers n ps cs r → IfOk r (AskedWithin ps)
-        → ((names : NameLists) (ds : List ConstText) → IfOk (typed_from (n + 1) names ss ds) (Stands (n + 1) ds))
-        → IfOk (or_refused (in_statement n r) (λ r. or_refused (typed_from (n + 1) r.0.names ss r.1) (λ out. Ok (put_statement r.0.statement out)))) (Stands n cs)
-    statement_stands (Ok x) gathers rows rest = onward n x.0.statement cs x.1 ps at gathers rows (typed_from (n + 1) x.0.names ss x.1) (rest x.0.names x.1)
-    statement_stands (Err w) gathers rows rest = tt
-
-  script_stands : (n : ℕ) (names : NameLists) (ss : List StatementParts) (cs : List ConstText) → TreesAreIn statement_places bytes n ss → IfOk (typed_from n names ss cs) (Stands n cs)
-  script_stands n names [] cs at = record { new = []; is = sym (append-nil cs); own = tt; rows = tt }
-  script_stands n names (s ∷ ss) cs at =
-      statement_stands n ss cs (statement_places s) at.0 (typed_statement n names s cs) (statement_gathers n names s cs) (statement_rows n names s cs)
-      (λ others ds. script_stands (n + 1) others ss ds at.1)
+  -- the places that the trees hold are in their statements
+  hold_places : (n : ℕ) (ss : List StatementParts) → TreesAreIn statement_held bytes n ss → HoldPlaces (λ k p. statement_number bytes p ≡ k) n ss
+  hold_places n [] at = tt
+  hold_places n (s ∷ ss) at = (at.0, hold_places (n + 1) ss at.1)
 
 pub typing_keeps_numbers : TypingKeepsNumbers
-typing_keeps_numbers bytes ss out at typed =
-    let h : Stands bytes 1 [] out = subst (λ r. IfOk r (Stands bytes 1 [])) typed (script_stands bytes 1 no_names ss [] at) in
-    record { literals = subst (AllByRecursion (IsOwn bytes)) (sym h.is) h.own; rows = h.rows }
+typing_keeps_numbers bytes ss out at typed = let h = script_stands bytes (script_made ss out typed) at in record { literals = subst (AllByRecursion (IsOwn bytes)) (sym h.is) h.own; rows = h.rows }
+
+pub typing_refuses_inside : TypingRefusesInside
+typing_refuses_inside bytes ss e at wrong = sym (script_stops_inside (λ k p. statement_number bytes p ≡ k) ss e (hold_places bytes 1 ss at) wrong)
+
+pub wrong_names_are_numbered : WrongNamesAreNumbered
+wrong_names_are_numbered bytes e h = typing_refuses_inside bytes h.trees e (trees_are_numbered bytes h.trees h.read.tree).1 h.first
 
 pub text_is_numbered : TextIsNumbered
 text_is_numbered bytes out h = typing_keeps_numbers bytes h.trees out (trees_are_numbered bytes h.trees h.script.read.tree).0 h.script.typed

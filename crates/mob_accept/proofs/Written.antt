@@ -8,8 +8,8 @@ use Rattle.mob_chars.proofs.Along.{are_in_order}
 use Rattle.mob_parse.proofs.Places.{stands_in_text}
 use Rattle.mob_accept.specs.Written.{AreWritten, TreesRise}
 use Rattle.mob_typed.proofs.Rising.{each_on}
-use Rattle.mob_accept.proofs.GatheredScripts.{Rising, typing_keeps_order}
-use Rattle.mob_accept.proofs.GatheredStatements.{rises_within}
+use Rattle.mob_accept.proofs.InOrder.{Rising, typing_keeps_order}
+use Rattle.mob_accept.proofs.OnParts.{rises_within}
 
 abbrev begins : List Token → List ℕ
 begins ts = map (λ t. t.from) ts

@@ -1,5 +1,5 @@
 -- The number of a statement and a place say one thing: what typing numbers by statements stands so among the `;` tokens.
-use Rattle.std.specs.Prelude.{◌≡◌, ◌⊎◌, ◌+◌, ℕ, List, [], ◌∷◌, Ok}
+use Rattle.std.specs.Prelude.{◌≡◌, ◌⊎◌, ◌+◌, ℕ, List, [], ◌∷◌, Ok, Err}
 use Rattle.std.specs.List.{AllByRecursion}
 use Rattle.mob_ast.specs.Trees.{StatementParts}
 use Rattle.mob_ast.specs.declared.refusal.Kind.TheVariants.{Syntax, TooComplex}
@@ -7,10 +7,11 @@ use Rattle.mob_ast.specs.declared.refusal.Refusal.{Refusal}
 use Rattle.mob_grammar.specs.Places.{statement_places}
 use Rattle.mob_grammar.specs.Held.{statement_held}
 use Rattle.mob_parse.specs.Refusals.{IsTreeOf}
-use Rattle.mob_typed.specs.Statements.{StatementOut, new_rows, ScriptOut}
+use Rattle.mob_typed.specs.Statements.{StatementOut, ScriptOut}
+use Rattle.mob_typed.specs.Written.{brackets_of}
 use Rattle.mob_typing.specs.Statements.{typed_script}
 use Rattle.mob_accept.specs.UnbuiltWords.{statement_number}
-use Rattle.mob_accept.specs.Accepts.{IsAccepted, IsNoScript}
+use Rattle.mob_accept.specs.Accepts.{IsAccepted, IsNoScript, IsWrongName}
 
 -- this is the number of the statement that each of these places is in
 abbrev pub AreIn : List ℕ → ℕ → List ℕ → Type 0
@@ -20,11 +21,6 @@ AreIn bytes n places = AllByRecursion (λ p. statement_number bytes p ≡ n) pla
 abbrev pub TreesAreIn : (StatementParts → List ℕ) → List ℕ → ℕ → List StatementParts → Type 0
 TreesAreIn places bytes n [] = Unit {0}
 TreesAreIn places bytes n (s ∷ ss) = AreIn bytes n (places s) × TreesAreIn places bytes (n + 1) ss
-
--- the brackets of the rows of a typed statement
-abbrev pub brackets_of : StatementOut → List ℕ
-brackets_of (new_rows t rows places) = places
-brackets_of _ = []
 
 -- the rows of the first of these statements are in statement n, and those of each other in one more
 abbrev pub RowsAreIn : List ℕ → ℕ → List StatementOut → Type 0
@@ -48,6 +44,14 @@ TypingKeepsNumbers = (bytes : List ℕ) (trees : List StatementParts) (out : Scr
 abbrev pub TextIsNumbered : Type 0
 TextIsNumbered = (bytes : List ℕ) (out : ScriptOut) → IsAccepted bytes out → IsNumbered bytes out
 
--- a refusal of a token that goes wrong, or at which an expression is too complex, names the statement of its place
+-- typing refuses at a place of the statement that it names
+abbrev pub TypingRefusesInside : Type 0
+TypingRefusesInside = (bytes : List ℕ) (trees : List StatementParts) (e : Refusal) → TreesAreIn statement_held bytes 1 trees → typed_script trees ≡ Err e → e.statement ≡ statement_number bytes e.place
+
+-- a refusal of a name or a type names the statement of its place
+abbrev pub WrongNamesAreNumbered : Type 0
+WrongNamesAreNumbered = (bytes : List ℕ) (e : Refusal) → IsWrongName bytes e → e.statement ≡ statement_number bytes e.place
+
+-- so does a refusal of a token that goes wrong, or at which an expression is too complex
 abbrev pub WrongTokensAreNumbered : Type 0
 WrongTokensAreNumbered = (bytes : List ℕ) (e : Refusal) → IsNoScript bytes e → (e.kind ≡ Syntax) ⊎ (e.kind ≡ TooComplex) → e.statement ≡ statement_number bytes e.place

@@ -1,6 +1,6 @@
 //! What holds of every text of a script. No code runs here.
 ghost use Rattle.mob_accept.specs.Least.{LeastIsFirst};
-ghost use Rattle.mob_accept.specs.Numbers.{TextIsNumbered, TreesAreNumbered, TypingKeepsNumbers, WrongTokensAreNumbered};
+ghost use Rattle.mob_accept.specs.Numbers.{TextIsNumbered, TreesAreNumbered, TypingKeepsNumbers, TypingRefusesInside, WrongNamesAreNumbered, WrongTokensAreNumbered};
 ghost use Rattle.mob_accept.specs.Outcomes.{HasOneScript, NeverTakenAndRefused, HasOneTextRefusal};
 ghost use Rattle.mob_accept.specs.Written.{AreWritten, TreesRise, TypingKeepsOrder};
 
@@ -36,7 +36,10 @@ pub fn text_is_numbered()
     ensures numbers { TextIsNumbered }
 {}
 
-/// A refusal of a token names the statement in which its place is.
+/// A refusal of a name, a type or a token names the statement in which its place is. Typing refuses at a place that the tree of that
+/// statement holds.
 pub fn refusals_are_numbered()
+    ensures typing { TypingRefusesInside }
+    ensures names { WrongNamesAreNumbered }
     ensures tokens { WrongTokensAreNumbered }
 {}

@@ -16,10 +16,14 @@ IsUpTo n p k q = (n < k) ⊎ ((n ≡ k) × (p ≤ q))
 abbrev pub LiteralUpTo : ConstText → ConstText → Type 0
 LiteralUpTo c d = IsUpTo c.statement c.place d.statement d.place
 
+-- the brackets of the rows of a statement
+abbrev pub brackets_of : StatementOut → List ℕ
+brackets_of (new_rows t rows places) = places
+brackets_of _ = []
+
 -- the brackets of an INSERT rise
 abbrev pub HasRisingRows : StatementOut → Type 0
-HasRisingRows (new_rows t rows places) = Rises (λ p q. p ≤ q) places
-HasRisingRows _ = Unit {0}
+HasRisingRows s = Rises (λ p q. p ≤ q) (brackets_of s)
 
 -- the literals stand in written order, and so do the brackets of each INSERT
 pub record IsWritten (out : ScriptOut) : Type 0 where

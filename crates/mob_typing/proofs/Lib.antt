@@ -2,3 +2,10 @@ pub mod Limits
 pub mod Pushed
 pub mod RowSteps
 pub mod ScriptSteps
+pub mod Sound
+pub mod Walk
+pub mod WalkedExpressions
+pub mod WalkedRows
+pub mod WalkedScripts
+pub mod WalkedSelects
+pub mod WalkedStatements

@@ -1,3 +1,4 @@
 pub mod Names
 pub mod Selects
 pub mod Statements
+pub mod WellTyped

@@ -4,6 +4,7 @@
 
 mod from;
 mod keys;
+pub mod laws;
 mod names;
 mod outputs;
 mod rows;

@@ -1,0 +1,86 @@
+-- The walk over scripts, statement by statement.
+use Rattle.std.specs.List.{AllByRecursion}
+use Rattle.std.proofs.Common.{◌≡◌, ◌+◌, ◌∙◌, refl, sym, ap, subst, ℕ, List, [], ◌∷◌, ◌++◌, append_assoc, append-nil, map, Result, Ok, Err}
+use Rattle.mob_ast.specs.declared.refusal.Refusal.{Refusal}
+use Rattle.mob_ast.specs.Trees.{StatementParts}
+use Rattle.mob_typed.specs.declared.typed.ConstText.{ConstText}
+use Rattle.mob_typed.specs.Statements.{ColumnList, StatementOut, ScriptOut}
+use Rattle.mob_expression.specs.Answers.{Mistake}
+use Rattle.mob_typing.specs.Names.{NameLists}
+use Rattle.mob_typing.specs.Statements.{Made, in_statement, or_refused, put_statement, typed_statement, typed_from, typed_script, no_names}
+use Rattle.mob_typing.specs.WellTyped.{AreTypedStatements, tables_behind, IsTypedStatement, TypingGivesWellTyped}
+use Rattle.mob_grammar.specs.Places.{statement_places}
+use Rattle.mob_grammar.specs.Held.{statement_held}
+use Rattle.mob_typing.proofs.Walk.{GivesOrStops, gives, stops, Adds, Steps}
+use Rattle.mob_typing.proofs.Sound.{statement_stays}
+use Rattle.mob_typing.proofs.WalkedSelects.{named}
+use Rattle.mob_typing.proofs.WalkedStatements.{IsMade, statement_walked}
+
+-- what a typed script is made of: for each tree in order its statement, with the constants that this adds
+pub data AreMade : ℕ → List ColumnList → List ConstText → List StatementParts → ScriptOut → Type 0 where
+  none_made : {n : ℕ} {tables : List ColumnList} {cs : List ConstText} → AreMade n tables cs [] (record { statements = []; consts = cs })
+  one_made : {n : ℕ} {tables : List ColumnList} {cs ds : List ConstText} {s : StatementParts} {ss : List StatementParts} {m : Made} {out : ScriptOut}
+      → Adds n (statement_places s) cs ds → IsMade tables (statement_places s) ds m → AreMade (n + 1) (named m.names.tables) ds ss out → AreMade n tables cs (s ∷ ss) (put_statement m.statement out)
+
+-- a script gives what has this property, or stops in such a statement at such a place
+pub data ScriptGivesOrStops (At : ℕ → ℕ → Type 0) (Gives : ScriptOut → Type 0) : Result ScriptOut Refusal → Type 0 where
+  script_gives : {out : ScriptOut} → Gives out → ScriptGivesOrStops At Gives (Ok out)
+  script_stops : {e : Refusal} → At e.statement e.place → ScriptGivesOrStops At Gives (Err e)
+
+-- the places that the trees hold are such places of their statements, from the one of number n on
+abbrev pub HoldPlaces : (ℕ → ℕ → Type 0) → ℕ → List StatementParts → Type 0
+HoldPlaces At n [] = Unit {0}
+HoldPlaces At n (s ∷ ss) = AllByRecursion (At n) (statement_held s) × HoldPlaces At (n + 1) ss
+
+module _ (At : ℕ → ℕ → Type 0) where
+  others_follow : {Q P : ScriptOut → Type 0} {r : Result ScriptOut Refusal} (s : StatementOut) → ScriptGivesOrStops At Q r → ((out : ScriptOut) → Q out → P (put_statement s out)) → ScriptGivesOrStops At P (or_refused r (λ out. Ok (put_statement s out)))
+  others_follow s (script_gives q) k = script_gives (k _ q)
+  others_follow s (script_stops at) k = script_stops at
+
+  statement_first : {Q : Made × List ConstText → Type 0} {P : ScriptOut → Type 0} {r : Result (Made × List ConstText) Mistake} {f : Made × List ConstText → Result ScriptOut Refusal} (n : ℕ) → GivesOrStops (At n) Q r
+      → ((x : Made × List ConstText) → Q x → ScriptGivesOrStops At P (f x)) → ScriptGivesOrStops At P (or_refused (in_statement n r) f)
+  statement_first n (gives q) k = k _ q
+  statement_first n (stops at) k = script_stops at
+
+  pub statements_walked : (n : ℕ) (names : NameLists) (ss : List StatementParts) (cs : List ConstText) → HoldPlaces At n ss → ScriptGivesOrStops At (AreMade n (named names.tables) cs ss) (typed_from n names ss cs)
+  statements_walked n names [] cs h = script_gives none_made
+  statements_walked n names (s ∷ ss) cs h =
+      statement_first n (statement_walked (At n) names n s cs h.0) (λ x q. others_follow x.0.statement (statements_walked (n + 1) x.0.names ss x.1 h.1) (λ out made. script_gives_more x q out made))
+    where
+      script_gives_more : (x : Made × List ConstText) → Steps n (statement_places s) (IsMade (named names.tables) (statement_places s)) cs x → (out : ScriptOut) → AreMade (n + 1) (named x.0.names.tables) x.1 ss out → AreMade n (named names.tables) cs (s ∷ ss) (put_statement x.0.statement out)
+      script_gives_more x q out made = one_made q.adds q.sound made
+
+-- what a script gives where it is typed, and where it is refused
+given : {At : ℕ → ℕ → Type 0} {P : ScriptOut → Type 0} {out : ScriptOut} → ScriptGivesOrStops At P (Ok out) → P out
+given (script_gives h) = h
+
+stopped : {At : ℕ → ℕ → Type 0} {P : ScriptOut → Type 0} {e : Refusal} → ScriptGivesOrStops At P (Err e) → At e.statement e.place
+stopped (script_stops h) = h
+
+anywhere : (n : ℕ) (ss : List StatementParts) → HoldPlaces (λ k p. Unit {0}) n ss
+anywhere n [] = tt
+anywhere n (s ∷ ss) = (all_anywhere (statement_held s), anywhere (n + 1) ss)
+  where
+    all_anywhere : (ps : List ℕ) → AllByRecursion (λ p. Unit {0}) ps
+    all_anywhere [] = tt
+    all_anywhere (p ∷ ps) = (tt, all_anywhere ps)
+
+pub script_made : (ss : List StatementParts) (out : ScriptOut) → typed_script ss ≡ Ok out → AreMade 1 [] [] ss out
+script_made ss out typed = given (subst (ScriptGivesOrStops (λ k p. Unit {0}) (AreMade 1 [] [] ss)) typed (statements_walked (λ k p. Unit {0}) 1 no_names ss [] (anywhere 1 ss)))
+
+pub script_stops_inside : (At : ℕ → ℕ → Type 0) (ss : List StatementParts) (e : Refusal) → HoldPlaces At 1 ss → typed_script ss ≡ Err e → At e.statement e.place
+script_stops_inside At ss e h wrong = stopped (subst (ScriptGivesOrStops At (AreMade 1 [] [] ss)) wrong (statements_walked At 1 no_names ss [] h))
+
+-- the constants of a script go on from those before it
+follows : {n : ℕ} {tables : List ColumnList} {cs : List ConstText} {ss : List StatementParts} {out : ScriptOut} → AreMade n tables cs ss out → (new : List ConstText) × (out.consts ≡ cs ++ new)
+follows (none_made {cs = cs}) = ([], sym (append-nil cs))
+follows (one_made {cs = cs} adds made others) = let rest = follows others in (adds.new ++ rest.0, rest.1 ∙ ap (λ x. x ++ rest.0) adds.is ∙ append_assoc cs adds.new rest.0)
+
+are_typed : {n : ℕ} {tables : List ColumnList} {cs : List ConstText} {ss : List StatementParts} {out : ScriptOut} → AreMade n tables cs ss out → AreTypedStatements tables out.consts out.statements
+are_typed none_made = tt
+are_typed (one_made {tables = tables} {ds = ds} {m = m} {out = out} adds made others) =
+    let rest = follows others in
+    (subst (λ cs. IsTypedStatement tables cs m.statement) (sym rest.1) (statement_stays tables m.statement ds rest.0 made.typed), subst (λ ts. AreTypedStatements ts out.consts out.statements) made.behind (are_typed others))
+
+pub typing_gives_well_typed : TypingGivesWellTyped
+typing_gives_well_typed ss out typed = are_typed (script_made ss out typed)

@@ -1,0 +1,135 @@
+-- The walk over statements: what each gives, the literals and the rows that it adds, and the place at which it stops.
+use Rattle.std.specs.Prelude.{not, codes, nat_le, slice_get, option_map, option_and_then}
+use Rattle.std.specs.List.{AllByRecursion, flat_map}
+use Rattle.std.specs.Str.{bytes_eq}
+use Rattle.std.proofs.Common.{◌≡◌, ◌≤◌, ◌<◌, ◌+◌, ◌∙◌, refl, sym, ap, subst, arith, ℕ, List, [], ◌∷◌, ◌++◌, length, length-append, map, Bool, true, false, Option, Some, None, Result, Ok}
+use Rattle.std.proofs.lemmas.Bool.{leb-false}
+use Rattle.std.proofs.lemmas.List.{length-map, map-append}
+use Rattle.std.proofs.lemmas.Option.{slice_get_within}
+use Rattle.mob_ast.specs.declared.types.Word.{Word}
+use Rattle.mob_ast.specs.declared.types.Quoted.{Quoted}
+use Rattle.mob_ast.specs.declared.types.TypeWord.{TypeWord}
+use Rattle.mob_ast.specs.declared.types.SqlType.{SqlType}
+use Rattle.mob_ast.specs.declared.types.SqlType.TheVariants as sql
+use Rattle.mob_ast.specs.declared.refusal.Kind.TheVariants as kind
+use Rattle.mob_ast.specs.Trees.{RowParts, SelectParts, StatementParts, empty, create_table, create_index, insert, copy, select, explain}
+use Rattle.mob_operators.specs.Lookup.{same_type}
+use Rattle.mob_operators.specs.Table.{is_one_of}
+use Rattle.mob_typed.specs.declared.typed.ConstText.{ConstText}
+use Rattle.mob_typed.specs.Selects.{TypedSelectParts}
+use Rattle.mob_typed.specs.Statements.{ColumnList, StatementOut, nothing, new_table, new_index, new_rows, rows_from, query, plan_of}
+use Rattle.mob_typed.specs.Written.{brackets_of}
+use Rattle.mob_expression.specs.Answers.{Mistake, ◌>>=◌, unless, found}
+use Rattle.mob_expression.specs.Names.{column_of, has_entry}
+use Rattle.mob_expression.specs.Words.{type_named}
+use Rattle.mob_typing.specs.Names.{NameLists, table_of}
+use Rattle.mob_typing.specs.Selects.{typed_select}
+use Rattle.mob_typing.specs.Statements.{Made, with_column, with_columns, made_table, made_index, typed_rows, inserted, good_delimiter, copied, keeping, asked, typed_statement}
+use Rattle.mob_typing.specs.WellTyped.{column_type, IsTypedQuery, AreTypedRows, IsNextTable, IsTypedStatement, tables_behind}
+use Rattle.mob_grammar.specs.Places.{IsWithin, nothing as none_within, same, tree_places, row_places, select_places, statement_places}
+use Rattle.mob_grammar.specs.Held.{string_held, column_held, row_held, select_held, statement_held}
+use Rattle.mob_grammar.proofs.Within.{within_back}
+use Rattle.mob_grammar.proofs.Places.{all_parts}
+use Rattle.mob_typing.proofs.Walk.{GivesOrStops, gives, stops, then, also, passes, finds, not_false, Adds, adds_none, Steps}
+use Rattle.mob_typing.proofs.Sound.{entry_stands}
+use Rattle.mob_typing.proofs.WalkedRows.{rows_walked}
+use Rattle.mob_typing.proofs.WalkedSelects.{named, table_there, select_walked}
+
+abbrev Few : ColumnList → Type 0
+Few columns = length columns ≤ 64
+
+-- a statement that is made keeps to the tables before it, makes its own, and its rows stand at places among these
+pub record IsMade (tables : List ColumnList) (ps : List ℕ) (consts : List ConstText) (m : Made) : Type 0 where
+  pub typed : IsTypedStatement tables consts m.statement
+  pub behind : named m.names.tables ≡ tables_behind tables m.statement
+  pub rows : IsWithin (brackets_of m.statement) ps
+
+point_alone : (ty : SqlType) → same_type ty sql.TPoint ≡ true → ty ≡ sql.TPoint
+point_alone sql.TPoint h = refl
+point_alone _ h = absurd (cc)
+
+brackets_within : (rs : List RowParts) → IsWithin (map (λ r. r.place) rs) (flat_map row_places rs)
+brackets_within [] = none_within
+brackets_within (r ∷ rs) = same (within_back (flat_map tree_places r.values) (brackets_within rs))
+
+module _ (At : ℕ → Type 0) where
+  column_walked : (columns : ColumnList) (c : Word × TypeWord) → AllByRecursion At (column_held c) → GivesOrStops At Few (with_column columns c)
+  column_walked columns c h =
+      then (passes (has_entry columns c.0.text) kind.Duplicate c.0.place h.0) (λ _ new.
+      then (passes (nat_le 64 (length columns)) kind.Limit c.0.place h.0) (λ _ room.
+      then (finds kind.UnknownName c.1.name.place (type_named c.1.name.text c.1.inner) h.1.0) (λ ty is.
+      let small : length columns < 64 = leb-false 64 (length columns) room in
+      let long : length (columns ++ (c.0.text, ty) ∷ []) ≡ length columns + 1 = length-append columns ((c.0.text, ty) ∷ []) in
+      gives (omega arith))))
+
+  columns_walked : (columns : ColumnList) (cs : List (Word × TypeWord)) → Few columns → AllByRecursion At (flat_map column_held cs) → GivesOrStops At Few (with_columns columns cs)
+  columns_walked columns [] few h = gives few
+  columns_walked columns (c ∷ cs) few h =
+      let parts = all_parts At (column_held c) (flat_map column_held cs) h in then (column_walked columns c parts.0) (λ more few_more. columns_walked more cs few_more parts.1)
+
+  module _ (names : NameLists) where
+    abbrev tables : List ColumnList
+    tables = named names.tables
+
+    -- what is made without constants
+    abbrev IsMadeAlone : Made → Type 0
+    IsMadeAlone m = (consts : List ConstText) → IsMade tables [] consts m
+
+    table_walked : (name : Word) (columns : List (Word × TypeWord)) → At name.place → AllByRecursion At (flat_map column_held columns) → GivesOrStops At IsMadeAlone (made_table names name columns)
+    table_walked name columns at h =
+        then (passes (has_entry names.tables name.text) kind.Duplicate name.place at) (λ _ new.
+        then (passes (nat_le 64 (length names.tables)) kind.Limit name.place at) (λ _ room.
+        then (columns_walked [] columns (omega arith) h) (λ cs few. gives (λ consts. record {
+          typed = record { next = sym (length-map names.tables (λ (t : List ℕ × ColumnList). t.1)); few = leb-false 64 (length names.tables) room; narrow = few };
+          behind = map-append (λ (t : List ℕ × ColumnList). t.1) names.tables ((name.text, cs) ∷ []);
+          rows = none_within;
+        }))))
+
+    index_walked : (name table column : Word) → At name.place → At table.place → At column.place → GivesOrStops At IsMadeAlone (made_index names name table column)
+    index_walked name table column at_name at_table at_column =
+        then (finds kind.UnknownName table.place (table_of names.tables table.text) at_table) (λ t there.
+        then (passes (is_one_of names.indexes name.text) kind.Duplicate name.place at_name) (λ _ new.
+        then (finds kind.UnknownName column.place (column_of t.1 column.text) at_column) (λ c is.
+        then (passes (not (same_type c.1 sql.TPoint)) kind.NoSuchOperator column.place at_column) (λ _ point.
+        let entry = entry_stands [] t.1 column.text c is in
+        gives (λ consts. record {
+          typed =
+              ap (option_and_then (λ (columns : ColumnList). option_map (λ k. k.1) (slice_get columns c.0))) (table_there names.tables table.text t there) ∙ ap (option_map (λ (k : List ℕ × SqlType). k.1)) entry.1
+              ∙ ap (λ ty. Some ty) (entry.2 ∙ point_alone c.1 (not_false (same_type c.1 sql.TPoint) point));
+          behind = refl;
+          rows = none_within;
+        })))))
+
+    delimiter_walked : (d : Option Quoted) → AllByRecursion At (string_held d) → GivesOrStops At (λ _. Unit {0}) (good_delimiter d)
+    delimiter_walked None h = gives tt
+    delimiter_walked (Some q) h = also (passes (not (bytes_eq q.text (codes ","))) kind.NoSuchOperator q.place h.0) (λ _ comma. tt)
+
+    copy_walked : (table : Word) (file : Quoted) (d : Option Quoted) → At table.place → AllByRecursion At (string_held d) → GivesOrStops At IsMadeAlone (copied names table file d)
+    copy_walked table file d at h =
+        then (finds kind.UnknownName table.place (table_of names.tables table.text) at) (λ t there.
+        then (delimiter_walked d h) (λ _ good. gives (λ consts. record { typed = slice_get_within tables t.0 t.1 (table_there names.tables table.text t there); behind = refl; rows = none_within })))
+
+    insert_walked : (n : ℕ) (table : Word) (rs : List RowParts) (cs : List ConstText) → At table.place → AllByRecursion At (flat_map row_held rs) → GivesOrStops At (Steps n (flat_map row_places rs) (IsMade tables (flat_map row_places rs)) cs) (inserted n names table rs cs)
+    insert_walked n table rs cs at h =
+        then (finds kind.UnknownName table.place (table_of names.tables table.text) at) (λ t there.
+        then (rows_walked At n t.1 rs cs h) (λ r q. gives (record {
+          adds = q.adds;
+          sound = record {
+            typed = record { columns = t.1; there = table_there names.tables table.text t there; values = q.sound.0; placed = length-map rs (λ (row : RowParts). row.place) ∙ q.sound.1 };
+            behind = refl;
+            rows = brackets_within rs;
+          };
+        })))
+
+    made_alone : (n : ℕ) (cs : List ConstText) {r : Result Made Mistake} → GivesOrStops At IsMadeAlone r → GivesOrStops At (Steps n [] (IsMade tables []) cs) (keeping cs r)
+    made_alone n cs h = then h (λ m made. gives (record { adds = adds_none; sound = made cs }))
+
+    pub statement_walked : (n : ℕ) (s : StatementParts) (cs : List ConstText) → AllByRecursion At (statement_held s) → GivesOrStops At (Steps n (statement_places s) (IsMade tables (statement_places s)) cs) (typed_statement n names s cs)
+    unfolding typed_statement
+    statement_walked n empty cs h = gives (record { adds = adds_none; sound = record { typed = tt; behind = refl; rows = none_within } })
+    statement_walked n (create_table name columns) cs h = made_alone n cs (table_walked name columns h.0 h.1)
+    statement_walked n (create_index name table column) cs h = made_alone n cs (index_walked name table column h.0 h.1.0 h.1.1.0)
+    statement_walked n (insert table rows) cs h = insert_walked n table rows cs h.0 h.1
+    statement_walked n (copy table file delimiter) cs h = made_alone n cs (copy_walked table file delimiter h.0 h.1.1)
+    statement_walked n (select s) cs h = then (select_walked At names.tables n s cs h) (λ r q. gives (record { adds = q.adds; sound = record { typed = q.sound; behind = refl; rows = none_within } }))
+    statement_walked n (explain s) cs h = then (select_walked At names.tables n s cs h) (λ r q. gives (record { adds = q.adds; sound = record { typed = q.sound; behind = refl; rows = none_within } }))

@@ -1,0 +1,93 @@
+-- What a typed script keeps to, whatever its text: what a number names is there, and has the type that is asked of it.
+use Rattle.std.specs.Prelude.{◌≡◌, ◌≤◌, ◌<◌, ◌++◌, ℕ, List, [], ◌∷◌, true, Option, Some, None, Ok, IfSome, length, map, slice_get, option_map, option_and_then}
+use Rattle.std.specs.List.{AllByRecursion, AllZip}
+use Rattle.mob_ast.specs.declared.types.SqlType.{SqlType}
+use Rattle.mob_ast.specs.declared.types.SqlType.TheVariants as sql
+use Rattle.mob_ast.specs.Trees.{StatementParts}
+use Rattle.mob_operators.specs.declared.operator.Op.{Op}
+use Rattle.mob_operators.specs.declared.operator.Op.TheVariants as op
+use Rattle.mob_typed.specs.declared.typed.ConstText.{ConstText}
+use Rattle.mob_typed.specs.Trees.{TypedTree, typed, TypedTrees, none, more, type_of}
+use Rattle.mob_typed.specs.Selects.{TypedSelectParts}
+use Rattle.mob_typed.specs.Statements.{ColumnList, StatementOut, nothing, new_table, new_index, new_rows, rows_from, query, plan_of, ScriptOut}
+use Rattle.mob_typing.specs.Selects.{is_bool, is_key}
+use Rattle.mob_typing.specs.Statements.{typed_script}
+
+-- the type of the constant of this number
+abbrev pub constant_type : List ConstText → ℕ → Option SqlType
+constant_type consts k = option_map (λ c. c.ty) (slice_get consts k)
+
+-- the type of a column of a table, and of a column of a table of FROM
+abbrev pub column_type : List ColumnList → ℕ → ℕ → Option SqlType
+column_type tables t k = option_and_then (λ columns. option_map (λ c. c.1) (slice_get columns k)) (slice_get tables t)
+
+abbrev pub from_type : List ColumnList → List ℕ → ℕ → ℕ → Option SqlType
+from_type tables from f k = option_and_then (λ t. column_type tables t k) (slice_get from f)
+
+-- a leaf has the type of the constant or of the column that it names
+abbrev pub HasNamedType : List ColumnList → List ℕ → List ConstText → Op → SqlType → Type 0
+HasNamedType tables from consts (op.Const k) ty = constant_type consts k ≡ Some ty
+HasNamedType tables from consts (op.Column f k) ty = from_type tables from f k ≡ Some ty
+HasNamedType tables from consts _ ty = Unit {0}
+
+-- each leaf of an expression does so
+abbrev mutual
+  pub HasNamedTypes : List ColumnList → List ℕ → List ConstText → TypedTree → Type 0
+  HasNamedTypes tables from consts (typed o ty p args) = HasNamedType tables from consts o ty × AllHaveNamedTypes tables from consts args
+
+  pub AllHaveNamedTypes : List ColumnList → List ℕ → List ConstText → TypedTrees → Type 0
+  AllHaveNamedTypes tables from consts none = Unit {0}
+  AllHaveNamedTypes tables from consts (more t ts) = HasNamedTypes tables from consts t × AllHaveNamedTypes tables from consts ts
+
+-- FROM has at most four tables, all of them there; the condition is a bool, and each key is of a type that has an order
+pub record IsTypedQuery (tables : List ColumnList) (consts : List ConstText) (s : TypedSelectParts) : Type 0 where
+  pub there : AllByRecursion (λ t. t < length tables) s.from
+  pub few : length s.from ≤ 4
+  pub items : AllByRecursion (λ o. HasNamedTypes tables s.from consts o.0) s.items
+  pub condition : IfSome s.cond (λ t. HasNamedTypes tables s.from consts t × (is_bool (type_of t) ≡ true))
+  pub keys : AllByRecursion (λ k. HasNamedTypes tables s.from consts k.0 × (is_key (type_of k.0) ≡ true)) s.keys
+
+-- a value of a row is NULL, or a constant of its column's type
+abbrev pub IsOfColumn : List ConstText → List ℕ × SqlType → Option ℕ → Type 0
+IsOfColumn consts column None = Unit {0}
+IsOfColumn consts column (Some k) = constant_type consts k ≡ Some column.1
+
+-- rows are put into a table that is there; each has a value for each column, and a place
+pub record AreTypedRows (tables : List ColumnList) (consts : List ConstText) (t : ℕ) (rows : List (List (Option ℕ))) (places : List ℕ) : Type 0 where
+  pub columns : ColumnList
+  pub there : slice_get tables t ≡ Some columns
+  pub values : AllByRecursion (AllZip (IsOfColumn consts) columns) rows
+  pub placed : length places ≡ length rows
+
+-- a new table takes the next number below 64, and has at most 64 columns
+pub record IsNextTable (tables : List ColumnList) (t : ℕ) (columns : ColumnList) : Type 0 where
+  pub next : t ≡ length tables
+  pub few : t < 64
+  pub narrow : length columns ≤ 64
+
+-- what a statement keeps to where these tables were made before it; an index is on a tgeompoint
+abbrev pub IsTypedStatement : List ColumnList → List ConstText → StatementOut → Type 0
+IsTypedStatement tables consts nothing = Unit {0}
+IsTypedStatement tables consts (new_table t name columns) = IsNextTable tables t columns
+IsTypedStatement tables consts (new_index t k name) = column_type tables t k ≡ Some sql.TPoint
+IsTypedStatement tables consts (new_rows t rows places) = AreTypedRows tables consts t rows places
+IsTypedStatement tables consts (rows_from t name) = t < length tables
+IsTypedStatement tables consts (query s) = IsTypedQuery tables consts s
+IsTypedStatement tables consts (plan_of s) = IsTypedQuery tables consts s
+
+-- the tables behind a statement
+abbrev pub tables_behind : List ColumnList → StatementOut → List ColumnList
+tables_behind tables (new_table t name columns) = tables ++ columns ∷ []
+tables_behind tables _ = tables
+
+-- each statement keeps to the tables that those before it have made
+abbrev pub AreTypedStatements : List ColumnList → List ConstText → List StatementOut → Type 0
+AreTypedStatements tables consts [] = Unit {0}
+AreTypedStatements tables consts (s ∷ ss) = IsTypedStatement tables consts s × AreTypedStatements (tables_behind tables s) consts ss
+
+abbrev pub IsWellTyped : ScriptOut → Type 0
+IsWellTyped out = AreTypedStatements [] out.consts out.statements
+
+-- what typing gives is well typed
+abbrev pub TypingGivesWellTyped : Type 0
+TypingGivesWellTyped = (ss : List StatementParts) (out : ScriptOut) → typed_script ss ≡ Ok out → IsWellTyped out
