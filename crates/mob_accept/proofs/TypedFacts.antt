@@ -1,13 +1,12 @@
 -- Trees as they stand in memory, one level at a time, and the places in them.
-use Rattle.std.proofs.Common.{◌≡◌, ◌∙◌, refl, sym, ap, ℕ, List, [], ◌∷◌, ◌++◌, map, Option}
+use Rattle.std.proofs.Common.{◌≡◌, ◌∙◌, refl, ap, ℕ, List, [], ◌∷◌, ◌++◌, map}
 use Rattle.std.specs.List.{flat_map}
-use Rattle.mob_ast.specs.declared.types.SqlType.{SqlType}
 use Rattle.mob_ast.specs.declared.expression.Expr.{Expr}
 use Rattle.mob_ast.specs.declared.expression.Expr.TheViews.{out-Expr}
-use Rattle.mob_ast.specs.Trees.{Tree, tree, tree_of, trees_of, trees_from}
+use Rattle.mob_ast.specs.Trees.{tree_of, trees_of}
 use Rattle.mob_typed.specs.declared.typed.TExpr.{TExpr}
 use Rattle.mob_typed.specs.declared.typed.TExpr.TheViews.{out-TExpr}
-use Rattle.mob_typed.specs.Trees.{TypedTree, typed_of, typed_trees, type_of}
+use Rattle.mob_typed.specs.Trees.{typed_of, typed_trees, type_of}
 use Rattle.mob_expression.proofs.TreeFacts.{tree_is}
 use Rattle.mob_typed.proofs.TreeFacts.{typed_is as typed_level}
 use Rattle.mob_accept.specs.Least.{earlier, least}

@@ -1,5 +1,5 @@
 -- Tokens in order lie within their text.
-use Rattle.std.proofs.Common.{◌≡◌, ◌≤◌, ◌<◌, arith, ℕ, suc, zero, List, [], ◌∷◌, length, get_or}
+use Rattle.std.proofs.Common.{◌≤◌, ◌<◌, arith, ℕ, suc, zero, List, [], ◌∷◌, length, get_or}
 use Rattle.mob_chars.specs.declared.token.Token.{Token}
 use Rattle.mob_chars.specs.declared.token.TokenKind.TheVariants.{Word}
 use Rattle.mob_chars.specs.Layout.{InOrder}

@@ -1,6 +1,6 @@
 -- What is sound stays so beside more constants, and behind its numbers stands what they name.
-use Rattle.std.proofs.Common.{◌≡◌, ◌∙◌, ◌<◌, ◌+◌, refl, sym, ap, subst, arith, ℕ, zero, suc, List, [], ◌∷◌, ◌++◌, append_assoc, length, length-append, map, Bool, true, false, cond, ◌&&◌, Option, Some, None}
-use Rattle.std.specs.Prelude.{IfSome, not, slice_get, option_map, option_and_then}
+use Rattle.std.proofs.Common.{◌≡◌, ◌∙◌, ◌+◌, refl, sym, ap, subst, ℕ, zero, suc, List, [], ◌∷◌, ◌++◌, append_assoc, length, length-append, map, Bool, true, false, cond, ◌&&◌, Option, Some, None}
+use Rattle.std.specs.Prelude.{IfSome, slice_get, option_map, option_and_then}
 use Rattle.std.specs.List.{AllByRecursion, AllZip, list_all}
 use Rattle.std.specs.Option.{option_or}
 use Rattle.std.specs.Str.{bytes_eq}
@@ -8,7 +8,7 @@ use Rattle.mob_ast.specs.declared.types.SqlType.{SqlType}
 use Rattle.mob_operators.specs.declared.operator.Form.{Form}
 use Rattle.mob_operators.specs.declared.operator.Op.{Op}
 use Rattle.mob_operators.specs.declared.operator.Op.TheVariants as op
-use Rattle.mob_operators.specs.Lookup.{Line, operator_named, same_form, operator_in, takes, given, answer_of, found_in}
+use Rattle.mob_operators.specs.Lookup.{Line, operator_named, same_form, takes, given, answer_of, found_in}
 use Rattle.mob_operators.specs.Table.{table}
 use Rattle.mob_typed.specs.declared.typed.ConstText.{ConstText}
 use Rattle.mob_typed.specs.Trees.{TypedTree, typed, TypedTrees, none, more as more_trees, typed_trees, type_of}
@@ -16,7 +16,7 @@ use Rattle.mob_typed.specs.Statements.{ColumnList, nothing, new_table, new_index
 use Rattle.mob_typed.proofs.Rising.{each_on}
 use Rattle.mob_expression.specs.Names.{entry_from}
 use Rattle.mob_typing.specs.Selects.{is_bool, is_key}
-use Rattle.mob_typing.specs.WellTyped.{constant_type, column_type, HasNamedType, HasNamedTypes, AllHaveNamedTypes, IsOfColumn, IsTypedQuery, IsTypedStatement}
+use Rattle.mob_typing.specs.WellTyped.{constant_type, HasNamedType, HasNamedTypes, AllHaveNamedTypes, IsOfColumn, IsTypedQuery, IsTypedStatement}
 use Rattle.mob_typing.proofs.Walk.{Stays, all_stay}
 
 -- what stands at a number of a list stands there in a longer one

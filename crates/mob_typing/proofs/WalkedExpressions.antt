@@ -2,7 +2,7 @@
 -- at a place of the tree.
 use Rattle.std.specs.Prelude.{IfSome, not, codes, is_some, slice_get, option_map, option_and_then}
 use Rattle.std.specs.List.{AllByRecursion}
-use Rattle.std.proofs.Common.{◌≡◌, ◌∙◌, ◌+◌, refl, sym, ap, subst, ℕ, List, [], ◌∷◌, ◌++◌, append_assoc, length, length-append, map, Bool, Option, Some, None, Result, Ok, Err}
+use Rattle.std.proofs.Common.{◌≡◌, ◌∙◌, ◌+◌, refl, sym, ap, subst, ℕ, List, [], ◌∷◌, ◌++◌, append_assoc, length, length-append, map, Bool, Option, Some, None, Ok}
 use Rattle.mob_ast.specs.declared.types.Word.{Word}
 use Rattle.mob_ast.specs.declared.types.TypeWord.{TypeWord}
 use Rattle.mob_ast.specs.declared.types.SqlType.{SqlType}
@@ -18,20 +18,20 @@ use Rattle.mob_operators.specs.declared.operator.Form.TheVariants as form
 use Rattle.mob_operators.specs.Lookup.{found_in}
 use Rattle.mob_operators.specs.Table.{table, is_irrational}
 use Rattle.mob_typed.specs.declared.typed.ConstText.{ConstText}
-use Rattle.mob_typed.specs.Trees.{TypedTree, typed, none, more, typed_trees, types_of}
+use Rattle.mob_typed.specs.Trees.{TypedTree, typed, none, types_of}
 use Rattle.mob_typed.specs.Statements.{ColumnList}
 use Rattle.mob_expression.specs.declared.scope.Found.{Found}
-use Rattle.mob_expression.specs.Answers.{Mistake, ◌>>=◌, unless, found, TypingStep}
+use Rattle.mob_expression.specs.Answers.{◌>>=◌, found, TypingStep}
 use Rattle.mob_expression.specs.Names.{column_of, entry_from}
 use Rattle.mob_expression.specs.Scopes.{ScopeTableParts, ScopeParts}
 use Rattle.mob_expression.specs.Words.{type_named, literal_type, number_type, is_zero}
-use Rattle.mob_expression.specs.Expressions.{constant, with_first, matches, the_one, column_named, lone_string, cast_of_string, settled, typed_string, typed_before_operands, divisor_of, divides_by_zero, applied, operated, can_cast_all, cast, finished, or_later, typed_expression, typed_operands}
+use Rattle.mob_expression.specs.Expressions.{constant, with_first, matches, the_one, column_named, lone_string, cast_of_string, typed_before_operands, divisor_of, divides_by_zero, applied, operated, can_cast_all, finished, or_later, typed_expression, typed_operands}
 use Rattle.mob_grammar.specs.Places.{IsWithin, nothing, same, literal_place, tree_places, trees_places}
 use Rattle.mob_grammar.specs.Held.{word_held, node_held, tree_held, trees_held}
 use Rattle.mob_grammar.proofs.Within.{within_all, within_back}
 use Rattle.mob_grammar.proofs.Places.{all_parts}
 use Rattle.mob_typing.specs.WellTyped.{column_type, from_type, HasNamedType, HasNamedTypes}
-use Rattle.mob_typing.proofs.Walk.{GivesOrStops, gives, stops, then, also, passes, finds, Adds, adds_none, adds_one, adds_within, adds_both, Steps, still}
+use Rattle.mob_typing.proofs.Walk.{GivesOrStops, gives, stops, then, also, passes, finds, adds_none, adds_one, adds_within, adds_both, Steps, still}
 use Rattle.mob_typing.proofs.Sound.{slice_map, slice_seam, slice_each, entry_stands, constant_here, tree_stays, operands_hold, operator_holds}
 
 -- the tables of FROM are those of their numbers

@@ -1,14 +1,14 @@
 -- The walk over scripts, statement by statement.
 use Rattle.std.specs.List.{AllByRecursion}
-use Rattle.std.proofs.Common.{◌≡◌, ◌+◌, ◌∙◌, refl, sym, ap, subst, ℕ, List, [], ◌∷◌, ◌++◌, append_assoc, append-nil, map, Result, Ok, Err}
+use Rattle.std.proofs.Common.{◌≡◌, ◌+◌, ◌∙◌, sym, ap, subst, ℕ, List, [], ◌∷◌, ◌++◌, append_assoc, append-nil, Result, Ok, Err}
 use Rattle.mob_ast.specs.declared.refusal.Refusal.{Refusal}
 use Rattle.mob_ast.specs.Trees.{StatementParts}
 use Rattle.mob_typed.specs.declared.typed.ConstText.{ConstText}
 use Rattle.mob_typed.specs.Statements.{ColumnList, StatementOut, ScriptOut}
 use Rattle.mob_expression.specs.Answers.{Mistake}
 use Rattle.mob_typing.specs.Names.{NameLists}
-use Rattle.mob_typing.specs.Statements.{Made, in_statement, or_refused, put_statement, typed_statement, typed_from, typed_script, no_names}
-use Rattle.mob_typing.specs.WellTyped.{AreTypedStatements, tables_behind, IsTypedStatement, TypingGivesWellTyped}
+use Rattle.mob_typing.specs.Statements.{Made, in_statement, or_refused, put_statement, typed_from, typed_script, no_names}
+use Rattle.mob_typing.specs.WellTyped.{AreTypedStatements, IsTypedStatement, TypingGivesWellTyped}
 use Rattle.mob_grammar.specs.Places.{statement_places}
 use Rattle.mob_grammar.specs.Held.{statement_held}
 use Rattle.mob_typing.proofs.Walk.{GivesOrStops, gives, stops, Adds, Steps}

@@ -1,5 +1,5 @@
 -- The walk over a SELECT: its tables, its items, its condition, its keys and its limit.
-use Rattle.std.proofs.Common.{◌≡◌, ◌==◌, ◌≤◌, ◌<◌, ◌+◌, ◌∙◌, refl, sym, ap, subst, arith, Bool, true, false, ℕ, List, [], ◌∷◌, ◌++◌, append_assoc, length, length-append, map, Option, Some, None, Result, Ok}
+use Rattle.std.proofs.Common.{◌≡◌, ◌==◌, ◌≤◌, ◌<◌, ◌+◌, ◌∙◌, refl, sym, ap, subst, arith, Bool, true, ℕ, List, [], ◌∷◌, ◌++◌, append_assoc, length, length-append, map, Option, Some, None}
 use Rattle.std.specs.Prelude.{IfSome, not, nat_le, slice_get, option_map, option_and_then}
 use Rattle.std.specs.List.{AllByRecursion, flat_map}
 use Rattle.std.proofs.lemmas.Bool.{leb-false}
@@ -14,10 +14,9 @@ use Rattle.mob_ast.specs.declared.statement.FromTable.{FromTable}
 use Rattle.mob_ast.specs.Trees.{Tree, tree, ItemParts, every, one, KeyParts, SelectParts}
 use Rattle.mob_typed.specs.declared.typed.ConstText.{ConstText}
 use Rattle.mob_typed.specs.Trees.{TypedTree, type_of}
-use Rattle.mob_typed.specs.Selects.{Output, TypedSelectParts}
+use Rattle.mob_typed.specs.Selects.{Output}
 use Rattle.mob_typed.specs.Statements.{ColumnList}
 use Rattle.mob_typed.proofs.Rising.{each_both}
-use Rattle.mob_expression.specs.Answers.{Mistake, ◌>>=◌, unless, found}
 use Rattle.mob_expression.specs.Names.{entry_from, has_entry}
 use Rattle.mob_expression.specs.Scopes.{ScopeTableParts, ScopeParts}
 use Rattle.mob_typing.specs.Names.{table_of}
@@ -26,7 +25,7 @@ use Rattle.mob_typing.specs.WellTyped.{column_type, from_type, HasNamedTypes, Is
 use Rattle.mob_grammar.specs.Places.{tree_places, item_places, condition_places, key_places, select_places}
 use Rattle.mob_grammar.specs.Held.{word_held, tree_held, item_held, from_held, condition_held, key_held, select_held}
 use Rattle.mob_grammar.proofs.Places.{all_parts}
-use Rattle.mob_typing.proofs.Walk.{GivesOrStops, gives, stops, then, also, passes, finds, not_false, Adds, adds_none, adds_both, Steps, Stays, still, all_stay}
+use Rattle.mob_typing.proofs.Walk.{GivesOrStops, gives, then, also, passes, finds, not_false, adds_none, adds_both, Steps, Stays, still, all_stay}
 use Rattle.mob_typing.proofs.Sound.{slice_map, slice_seam, slice_each, entry_stands, tree_stays}
 use Rattle.mob_typing.proofs.WalkedExpressions.{AreThere, numbers_of, expression_walked}
 

@@ -2,7 +2,7 @@
 use Rattle.std.specs.Prelude.{not, codes, nat_le, slice_get, option_map, option_and_then}
 use Rattle.std.specs.List.{AllByRecursion, flat_map}
 use Rattle.std.specs.Str.{bytes_eq}
-use Rattle.std.proofs.Common.{◌≡◌, ◌≤◌, ◌<◌, ◌+◌, ◌∙◌, refl, sym, ap, subst, arith, ℕ, List, [], ◌∷◌, ◌++◌, length, length-append, map, Bool, true, false, Option, Some, None, Result, Ok}
+use Rattle.std.proofs.Common.{◌≡◌, ◌≤◌, ◌<◌, ◌+◌, ◌∙◌, refl, sym, ap, arith, ℕ, List, [], ◌∷◌, ◌++◌, length, length-append, map, true, Option, Some, None, Result}
 use Rattle.std.proofs.lemmas.Bool.{leb-false}
 use Rattle.std.proofs.lemmas.List.{length-map, map-append}
 use Rattle.std.proofs.lemmas.Option.{slice_get_within}
@@ -12,25 +12,23 @@ use Rattle.mob_ast.specs.declared.types.TypeWord.{TypeWord}
 use Rattle.mob_ast.specs.declared.types.SqlType.{SqlType}
 use Rattle.mob_ast.specs.declared.types.SqlType.TheVariants as sql
 use Rattle.mob_ast.specs.declared.refusal.Kind.TheVariants as kind
-use Rattle.mob_ast.specs.Trees.{RowParts, SelectParts, StatementParts, empty, create_table, create_index, insert, copy, select, explain}
+use Rattle.mob_ast.specs.Trees.{RowParts, StatementParts, empty, create_table, create_index, insert, copy, select, explain}
 use Rattle.mob_operators.specs.Lookup.{same_type}
 use Rattle.mob_operators.specs.Table.{is_one_of}
 use Rattle.mob_typed.specs.declared.typed.ConstText.{ConstText}
-use Rattle.mob_typed.specs.Selects.{TypedSelectParts}
-use Rattle.mob_typed.specs.Statements.{ColumnList, StatementOut, nothing, new_table, new_index, new_rows, rows_from, query, plan_of}
+use Rattle.mob_typed.specs.Statements.{ColumnList}
 use Rattle.mob_typed.specs.Written.{brackets_of}
-use Rattle.mob_expression.specs.Answers.{Mistake, ◌>>=◌, unless, found}
+use Rattle.mob_expression.specs.Answers.{Mistake}
 use Rattle.mob_expression.specs.Names.{column_of, has_entry}
 use Rattle.mob_expression.specs.Words.{type_named}
 use Rattle.mob_typing.specs.Names.{NameLists, table_of}
-use Rattle.mob_typing.specs.Selects.{typed_select}
-use Rattle.mob_typing.specs.Statements.{Made, with_column, with_columns, made_table, made_index, typed_rows, inserted, good_delimiter, copied, keeping, asked, typed_statement}
-use Rattle.mob_typing.specs.WellTyped.{column_type, IsTypedQuery, AreTypedRows, IsNextTable, IsTypedStatement, tables_behind}
-use Rattle.mob_grammar.specs.Places.{IsWithin, nothing as none_within, same, tree_places, row_places, select_places, statement_places}
-use Rattle.mob_grammar.specs.Held.{string_held, column_held, row_held, select_held, statement_held}
+use Rattle.mob_typing.specs.Statements.{Made, with_column, with_columns, made_table, made_index, inserted, good_delimiter, copied, keeping, typed_statement}
+use Rattle.mob_typing.specs.WellTyped.{IsTypedStatement, tables_behind}
+use Rattle.mob_grammar.specs.Places.{IsWithin, nothing as none_within, same, tree_places, row_places, statement_places}
+use Rattle.mob_grammar.specs.Held.{string_held, column_held, row_held, statement_held}
 use Rattle.mob_grammar.proofs.Within.{within_back}
 use Rattle.mob_grammar.proofs.Places.{all_parts}
-use Rattle.mob_typing.proofs.Walk.{GivesOrStops, gives, stops, then, also, passes, finds, not_false, Adds, adds_none, Steps}
+use Rattle.mob_typing.proofs.Walk.{GivesOrStops, gives, then, also, passes, finds, not_false, adds_none, Steps}
 use Rattle.mob_typing.proofs.Sound.{entry_stands}
 use Rattle.mob_typing.proofs.WalkedRows.{rows_walked}
 use Rattle.mob_typing.proofs.WalkedSelects.{named, table_there, select_walked}
