@@ -1,7 +1,6 @@
 -- A literal that is refused.
 use Rattle.std.proofs.Common.{◌≡◌, ◌≢◌, ◌⊎◌, refl, inl, inr, ap, ℤ, Err}
 use Rattle.mob_ast.specs.Kinds.{no_memory}
-use Rattle.std.proofs.lemmas.Option.{same_Some}
 use Rattle.mob_ast.specs.declared.refusal.Kind.{Kind}
 use Rattle.mob_ast.specs.declared.refusal.Kind.TheVariants as kind
 use Rattle.mob_ast.specs.declared.refusal.Refusal.{Refusal}
@@ -10,7 +9,7 @@ use Rattle.mob_numeral.specs.declared.fault.ReadText.TheVariants as text
 use Rattle.mob_catalog.specs.Constants.{ConstantFails}
 use Rattle.mob_catalog.specs.Faults.{IsKindOfFault}
 use Rattle.mob_typed.specs.declared.typed.ConstText.{ConstText}
-use Rattle.mob_load.specs.Loads.{Loaded, LoadsLiteral, LoadsTo, refused}
+use Rattle.mob_load.specs.Loads.{Loaded, LoadsLiteral, LoadsTo}
 use Rattle.mob_load.specs.declared.program.LoadEnd.{LoadEnd}
 use Rattle.mob_load.specs.declared.program.LoadEnd.TheVariants.{Refused, NoMemory}
 
