@@ -1,9 +1,9 @@
 -- Which tokens of a text are `;`, by their bytes and as the grammar sees them; and how many of them stand before a place.
-use Rattle.std.specs.Prelude.{◌&&◌, IfSome, option_map, filter, nat_lt, codes}
+use Rattle.std.specs.Prelude.{◌&&◌, IfOk, IfSome, option_map, filter, nat_lt, codes}
 use Rattle.std.specs.Str.{bytes_eq}
-use Rattle.std.proofs.Common.{◌≡◌, ◌<◌, ◌≤◌, ◌+◌, ◌-◌, ◌∙◌, ◌⊎◌, inl, inr, refl, sym, ap, ap₂, subst, arith, ℕ, zero, suc, List, [], ◌∷◌, ◌++◌, length, take, drop, append-nil, cond, Bool, true, false, Option, Some, None, Ok}
+use Rattle.std.specs.List.{AllByRecursion}
+use Rattle.std.proofs.Common.{◌≡◌, ◌<◌, ◌≤◌, ◌+◌, ◌-◌, ◌∙◌, ◌⊎◌, inl, inr, refl, sym, ap, ap₂, subst, arith, ℕ, zero, suc, List, [], ◌∷◌, ◌++◌, length, take, drop, append-nil, cond, Bool, true, false, Option, Some, None, Result, Ok, Err}
 use Rattle.std.proofs.lemmas.Bool.{lt-ltb, le-ltb}
-use Rattle.std.proofs.Math.Bool.{and-false}
 use Rattle.std.proofs.lemmas.List.{drop-drop}
 use Rattle.std.proofs.lemmas.Slice.Eq.{bytes_eq-Decides}
 use Rattle.mob_chars.specs.declared.token.Token.{Token}
@@ -25,8 +25,10 @@ use Rattle.mob_grammar.proofs.Steps.{told}
 use Rattle.mob_lexemes.specs.Lexed.{other_sign, sign_mark, word_symbol, piece, symbol_at, before_lexed, lexed}
 use Rattle.mob_lexemes.proofs.Reserved.{words_are_read}
 use Rattle.mob_parse.specs.Refusals.{place_of}
+use Rattle.mob_typed.specs.Written.{Rises}
+use Rattle.mob_typed.proofs.Rising.{each_on, one_of}
 use Rattle.mob_accept.proofs.Within.{ends_later}
-use Rattle.mob_accept.specs.UnbuiltWords.{tokens_in, is_end_before, statement_number}
+use Rattle.mob_accept.specs.UnbuiltWords.{tokens_in, symbols_before, is_end_before, statement_number}
 
 -- the one text that is read as `;`
 other_found : (ms : List Mark) (s : List ℕ) (m : Mark) → other_sign ms s ≡ m → (m ≡ Dot) ⊎ (mark_text m ≡ s)
@@ -90,6 +92,13 @@ abbrev AllAgree : List ℕ → List Token → Type 0
 AllAgree text [] = Unit {0}
 AllAgree text (t ∷ ts) = Agrees text t (symbol_at text t.kind t.from t.to) × AllAgree text ts
 
+-- the tokens begin one behind the other, from a place on and before an end
+abbrev Rise : List PlacedSymbol → Type 0
+Rise l = Rises (λ u v. u.place < v.place) l
+
+abbrev StandBetween : ℕ → ℕ → List PlacedSymbol → Type 0
+StandBetween q e l = AllByRecursion (λ u. q ≤ u.place) l × Rise l × AllByRecursion (λ u. u.place < e) l
+
 module _ (text : List ℕ) where
   piece_is : (p n : ℕ) (l : List ℕ) → l ≡ drop p text → piece text p (p + n) ≡ take n l
   piece_is p n l e = ap₂ (λ (m : ℕ) (v : List ℕ). take m v) (omega arith) (sym e)
@@ -122,86 +131,71 @@ module _ (text : List ℕ) where
   tokens_agree : (ts : List Token) → tokens_of text ≡ Ok ts → AllAgree text ts
   tokens_agree ts h = let laid = are_laid text ts h in subst (AllAgree text) (sym laid.parts) (more_agree laid.all (end_at (length text) ∷ []) (all_agree laid.leads refl) (end_agrees, tt))
 
-  -- how many `;` stand before a place, by their bytes
-  abbrev ends_before : ℕ → List Token → ℕ
-  ends_before p ts = length (filter (is_end_before text p) ts)
+  -- one token more: the bytes say of it what the grammar does
+  counted : (before_place is_end : Bool) (t : Token) (ts : List Token) (u : PlacedSymbol) (l : List PlacedSymbol) → is_sign Semicolon u ≡ is_end → length ts ≡ ends_among l
+      → length (cond (is_end && before_place) (t ∷ ts) ts) ≡ ends_among (cond before_place (u ∷ l) l)
+  counted true true t ts u l is rest = ap (λ n. suc n) rest ∙ sym (ap (λ v. length (cond v (u ∷ filter (is_sign Semicolon) l) (filter (is_sign Semicolon) l))) is)
+  counted true false t ts u l is rest = rest ∙ sym (ap (λ v. length (cond v (u ∷ filter (is_sign Semicolon) l) (filter (is_sign Semicolon) l))) is)
+  counted false true t ts u l is rest = rest
+  counted false false t ts u l is rest = rest
 
-  passed_by : (p : ℕ) (t : Token) (ts : List Token) → is_end_before text p t ≡ false → ends_before p (t ∷ ts) ≡ ends_before p ts
-  passed_by p t ts e = ap (λ b. length (cond b (t ∷ filter (is_end_before text p) ts) (filter (is_end_before text p) ts))) e
+  count_one : (p : ℕ) (t : Token) (ts : List Token) (o : Option Symbol) → Agrees text t o → length (filter (is_end_before text p) ts) ≡ ends_among (symbols_before p (lexed text ts))
+      → length (filter (is_end_before text p) (t ∷ ts)) ≡ ends_among (symbols_before p (before_lexed t.from o (lexed text ts)))
+  count_one p t ts None own rest = ap (λ b. length (cond (b && nat_lt t.from p) (t ∷ filter (is_end_before text p) ts) (filter (is_end_before text p) ts))) own ∙ rest
+  count_one p t ts (Some x) own rest =
+      ap (λ b. length (cond (b && nat_lt t.from p) (t ∷ filter (is_end_before text p) ts) (filter (is_end_before text p) ts))) own.1
+      ∙ counted (nat_lt t.from p) (is_mark Semicolon x) t (filter (is_end_before text p) ts) (record { symbol = x; place = t.from }) (symbols_before p (lexed text ts)) refl rest
 
-  none_before : (p q e : ℕ) (ts : List Token) → p ≤ q → InOrder q e ts → ends_before p ts ≡ 0
-  none_before p q e [] le order = refl
-  none_before p q e (t ∷ ts) le order =
-      let first = order.0 in
-      let goes_on = order.1 in
-      let later : nat_lt t.from p ≡ false = le-ltb t.from p (omega arith) in
-      passed_by p t ts (ap (λ b. bytes_eq (piece text t.from t.to) (codes ";") && b) later ∙ and-false (bytes_eq (piece text t.from t.to) (codes ";"))) ∙ none_before p t.to e ts (omega arith) order.2
+  count_same : (p : ℕ) (ts : List Token) → AllAgree text ts → length (filter (is_end_before text p) ts) ≡ ends_among (symbols_before p (lexed text ts))
+  count_same p [] agree = refl
+  count_same p (t ∷ ts) agree = count_one p t ts (symbol_at text t.kind t.from t.to) agree.0 (count_same p ts agree.1)
 
-  -- a token behind others begins where they have ended, or later
-  one_after : (q e : ℕ) (t : Token) (ts : List Token) (o : Option Symbol) (before behind : List PlacedSymbol) (u : PlacedSymbol) → InOrder q e (t ∷ ts) → before_lexed t.from o (lexed text ts) ≡ before ++ u ∷ behind
-      → ((others : List PlacedSymbol) → lexed text ts ≡ others ++ u ∷ behind → t.to ≤ u.place) → q ≤ u.place
-  one_after q e t ts None before behind u order parts rest = let le = rest before parts in omega (arith, order.0, order.1, le)
-  one_after q e t ts (Some x) [] behind u order parts rest = let same : u.place ≡ t.from = cc in omega (arith, order.0, same)
-  one_after q e t ts (Some x) (b ∷ before) behind u order parts rest = let others : lexed text ts ≡ before ++ u ∷ behind = cc in let le = rest before others in omega (arith, order.0, order.1, le)
+  one_rises : (q e : ℕ) (t : Token) (o : Option Symbol) (l : List PlacedSymbol) → q ≤ t.from → t.from ≤ t.to → t.to ≤ e → Agrees text t o → StandBetween t.to e l → StandBetween q e (before_lexed t.from o l)
+  one_rises q e t None l from to end own rest = (each_on (λ u. t.to ≤ u.place) (λ u. q ≤ u.place) (λ u le. omega arith) l rest.0, rest.1, rest.2)
+  one_rises q e t (Some x) l from to end own rest =
+      let some = own.0 in
+      ((from, each_on (λ u. t.to ≤ u.place) (λ u. q ≤ u.place) (λ u le. omega arith) l rest.0), (each_on (λ u. t.to ≤ u.place) (λ u. t.from < u.place) (λ u le. omega arith) l rest.0, rest.1), (omega arith, rest.2))
 
-  place_after : (q e : ℕ) (ts : List Token) (before behind : List PlacedSymbol) (u : PlacedSymbol) → InOrder q e ts → lexed text ts ≡ before ++ u ∷ behind → q ≤ u.place
-  place_after q e [] [] behind u order parts = absurd cc
-  place_after q e [] (b ∷ before) behind u order parts = absurd cc
-  place_after q e (t ∷ ts) before behind u order parts = one_after q e t ts (symbol_at text t.kind t.from t.to) before behind u order parts (λ others same. place_after t.to e ts others behind u order.2 same)
+  symbols_rise : (q e : ℕ) (ts : List Token) → InOrder q e ts → AllAgree text ts → StandBetween q e (lexed text ts)
+  symbols_rise q e [] order agree = (tt, tt, tt)
+  symbols_rise q e (t ∷ ts) order agree = one_rises q e t (symbol_at text t.kind t.from t.to) (lexed text ts) order.0 order.1 (ends_later t.to e ts order.2) agree.0 (symbols_rise t.to e ts order.2 agree.1)
 
-  -- one token more in front
-  one_more : (p : ℕ) (t : Token) (ts : List Token) (x : Symbol) (b : PlacedSymbol) (before : List PlacedSymbol) → bytes_eq (piece text t.from t.to) (codes ";") ≡ is_mark Semicolon x → b.symbol ≡ x → t.from < p → ends_before p ts ≡ ends_among before
-      → ends_before p (t ∷ ts) ≡ ends_among (b ∷ before)
-  one_more p t ts x b before agrees same less so_far = elim (told (is_mark Semicolon x)) [
-    | inl yes_ ↦
-        let there : is_end_before text p t ≡ true = ap₂ (λ (u v : Bool). u && v) (agrees ∙ yes_) (lt-ltb t.from p less) in
-        let seen : is_sign Semicolon b ≡ true = ap (is_mark Semicolon) same ∙ yes_ in
-        ap (λ v. length (cond v (t ∷ filter (is_end_before text p) ts) (filter (is_end_before text p) ts))) there ∙ ap (λ n. suc n) so_far
-        ∙ sym (ap (λ v. length (cond v (b ∷ filter (is_sign Semicolon) before) (filter (is_sign Semicolon) before))) seen)
-    | inr no_ ↦
-        let there : is_end_before text p t ≡ false = ap₂ (λ (u v : Bool). u && v) (agrees ∙ no_) (lt-ltb t.from p less) in
-        let seen : is_sign Semicolon b ≡ false = ap (is_mark Semicolon) same ∙ no_ in
-        passed_by p t ts there ∙ so_far ∙ sym (ap (λ v. length (cond v (b ∷ filter (is_sign Semicolon) before) (filter (is_sign Semicolon) before))) seen)
-  ]
+-- which tokens stand before a place
+none_before : (p : ℕ) (l : List PlacedSymbol) → AllByRecursion (λ u. p ≤ u.place) l → symbols_before p l ≡ []
+none_before p [] h = refl
+none_before p (u ∷ l) h = ap (λ b. cond b (u ∷ symbols_before p l) (symbols_before p l)) (le-ltb u.place p h.0) ∙ none_before p l h.1
 
-  count_one : (q e : ℕ) (t : Token) (ts : List Token) (o : Option Symbol) (before behind : List PlacedSymbol) (u : PlacedSymbol) → InOrder q e (t ∷ ts) → Agrees text t o → before_lexed t.from o (lexed text ts) ≡ before ++ u ∷ behind
-      → ((others : List PlacedSymbol) → lexed text ts ≡ others ++ u ∷ behind → ends_before u.place ts ≡ ends_among others) → ends_before u.place (t ∷ ts) ≡ ends_among before
-  count_one q e t ts None before behind u order own parts rest = passed_by u.place t ts (ap (λ b. b && nat_lt t.from u.place) own) ∙ rest before parts
-  count_one q e t ts (Some x) [] behind u order own parts rest = let same : u.place ≡ t.from = cc in none_before u.place t.from e (t ∷ ts) (omega (arith, same)) (omega arith, order.1, order.2)
-  count_one q e t ts (Some x) (b ∷ before) behind u order own parts rest =
-      let others : lexed text ts ≡ before ++ u ∷ behind = cc in
-      let first : b ≡ record { symbol = x; place = t.from } = cc in
-      let le = place_after t.to e ts before behind u order.2 others in
-      one_more u.place t ts x b before own.1 (ap (λ v. v.symbol) first) (omega (arith, own.0, le)) (rest before others)
+all_before : (p : ℕ) (l : List PlacedSymbol) → AllByRecursion (λ u. u.place < p) l → symbols_before p l ≡ l
+all_before p [] h = refl
+all_before p (u ∷ l) h = ap (λ b. cond b (u ∷ symbols_before p l) (symbols_before p l)) (lt-ltb u.place p h.0) ∙ ap (λ k. u ∷ k) (all_before p l h.1)
 
-  count_before : (q e : ℕ) (ts : List Token) (before behind : List PlacedSymbol) (u : PlacedSymbol) → InOrder q e ts → AllAgree text ts → lexed text ts ≡ before ++ u ∷ behind → ends_before u.place ts ≡ ends_among before
-  count_before q e [] [] behind u order agree parts = absurd cc
-  count_before q e [] (b ∷ before) behind u order agree parts = absurd cc
-  count_before q e (t ∷ ts) before behind u order agree parts =
-      count_one q e t ts (symbol_at text t.kind t.from t.to) before behind u order agree.0 parts (λ others same. count_before t.to e ts others behind u order.2 agree.1 same)
+before_one : (before behind : List PlacedSymbol) (u : PlacedSymbol) → Rise (before ++ u ∷ behind) → symbols_before u.place (before ++ u ∷ behind) ≡ before
+before_one [] behind u rises = none_before u.place (u ∷ behind) (omega arith, each_on (λ v. u.place < v.place) (λ v. u.place ≤ v.place) (λ v less. omega arith) behind rises.0)
+before_one (b ∷ before) behind u rises =
+    ap (λ c. cond c (b ∷ symbols_before u.place (before ++ u ∷ behind)) (symbols_before u.place (before ++ u ∷ behind))) (lt-ltb b.place u.place (one_of (λ v. b.place < v.place) before behind u rises.0))
+    ∙ ap (λ k. b ∷ k) (before_one before behind u rises.1)
 
-  -- before the end of the text all of them stand
-  all_one : (q : ℕ) (t : Token) (ts : List Token) (o : Option Symbol) → InOrder q (length text) (t ∷ ts) → Agrees text t o → ends_before (length text) ts ≡ ends_among (lexed text ts)
-      → ends_before (length text) (t ∷ ts) ≡ ends_among (before_lexed t.from o (lexed text ts))
-  all_one q t ts None order own rest = passed_by (length text) t ts (ap (λ b. b && nat_lt t.from (length text)) own) ∙ rest
-  all_one q t ts (Some x) order own rest =
-      let long = ends_later t.to (length text) ts order.2 in one_more (length text) t ts x (record { symbol = x; place = t.from }) (lexed text ts) own.1 refl (omega (arith, own.0, long)) rest
+module _ (text : List ℕ) (ts : List Token) (are : tokens_of text ≡ Ok ts) where
+  number_is : (p : ℕ) → statement_number text p ≡ 1 + ends_among (symbols_before p (lexed text ts))
+  number_is p = ap (λ us. 1 + ends_among (symbols_before p (lexed text us))) (ap tokens_in are)
 
-  count_all : (q : ℕ) (ts : List Token) → InOrder q (length text) ts → AllAgree text ts → ends_before (length text) ts ≡ ends_among (lexed text ts)
-  count_all q [] order agree = refl
-  count_all q (t ∷ ts) order agree = all_one q t ts (symbol_at text t.kind t.from t.to) order agree.0 (count_all t.to ts order.2 agree.1)
+  -- what the code counts by the bytes
+  pub number_by_bytes : {E : Type 0} (p : ℕ) (us : List Token) (r : Result ℕ E) → us ≡ ts → IfOk r (λ n. n ≡ 1 + length (filter (is_end_before text p) us)) → IfOk r (λ n. n ≡ statement_number text p)
+  number_by_bytes p us (Ok n) same h = h ∙ ap (λ vs. 1 + length (filter (is_end_before text p) vs)) same ∙ ap (λ m. 1 + m) (count_same text p ts (tokens_agree text ts are)) ∙ sym (number_is p)
+  number_by_bytes p us (Err e) same h = tt
 
--- the number of the statement of a place that stands behind n `;`
-pub behind_is : (text : List ℕ) (ts : List Token) (l : List PlacedSymbol) (n p : ℕ) → tokens_of text ≡ Ok ts → l ≡ lexed text ts → StandsBehind l n p → statement_number text p ≡ 1 + n
-behind_is text ts l n p are lexes h =
-    let counted = count_before text 0 (length text) ts h.before h.behind h.token (are_in_order text ts are) (tokens_agree text ts are) (sym lexes ∙ h.parts) in
-    let all : tokens_in (tokens_of text) ≡ ts = ap tokens_in are in
-    ap (λ us. 1 + length (filter (is_end_before text p) us)) all ∙ ap (λ q. 1 + ends_before text q ts) (sym h.here) ∙ ap (λ m. 1 + m) (counted ∙ h.number)
+  stand : StandBetween 0 (length text) (lexed text ts)
+  stand = symbols_rise text 0 (length text) ts (are_in_order text ts are) (tokens_agree text ts are)
 
--- the number of the statement of the place behind some tokens: that of the next token, or the end of the text
-pub place_behind : (text : List ℕ) (ts : List Token) (l before r : List PlacedSymbol) → tokens_of text ≡ Ok ts → l ≡ lexed text ts → l ≡ before ++ r → statement_number text (place_of r (length text)) ≡ 1 + ends_among before
-place_behind text ts l before [] are lexes parts =
-    let counted = count_all text 0 ts (are_in_order text ts are) (tokens_agree text ts are) in
-    let all : tokens_in (tokens_of text) ≡ ts = ap tokens_in are in
-    ap (λ us. 1 + length (filter (is_end_before text (length text)) us)) all ∙ ap (λ m. 1 + m) (counted ∙ ap ends_among (sym lexes ∙ parts ∙ append-nil before))
-place_behind text ts l before (t ∷ r) are lexes parts = behind_is text ts l (ends_among before) t.place are lexes (record { before = before; token = t; behind = r; parts = parts; number = refl; here = refl })
+  -- the number of the statement of a place that stands behind n `;`
+  pub behind_is : (l : List PlacedSymbol) (n p : ℕ) → l ≡ lexed text ts → StandsBehind l n p → statement_number text p ≡ 1 + n
+  behind_is l n p lexes h =
+      let parts = sym lexes ∙ h.parts in
+      number_is p ∙ ap (λ q. 1 + ends_among (symbols_before q (lexed text ts))) (sym h.here) ∙ ap (λ k. 1 + ends_among (symbols_before h.token.place k)) parts
+      ∙ ap (λ k. 1 + ends_among k) (before_one h.before h.behind h.token (subst Rise parts stand.1)) ∙ ap (λ m. 1 + m) h.number
+
+  -- the number of the statement of the place behind some tokens: that of the next token, or the end of the text
+  pub place_behind : (l before r : List PlacedSymbol) → l ≡ lexed text ts → l ≡ before ++ r → statement_number text (place_of r (length text)) ≡ 1 + ends_among before
+  place_behind l before [] lexes parts =
+      number_is (length text) ∙ ap (λ k. 1 + ends_among k) (all_before (length text) (lexed text ts) stand.2) ∙ ap (λ k. 1 + ends_among k) (sym lexes ∙ parts ∙ append-nil before)
+  place_behind l before (t ∷ r) lexes parts = behind_is l (ends_among before) t.place lexes (record { before = before; token = t; behind = r; parts = parts; number = refl; here = refl })

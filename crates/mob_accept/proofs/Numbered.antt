@@ -27,7 +27,7 @@ use Rattle.mob_accept.proofs.OnParts.{all_within}
 module _ (bytes : List ℕ) (ts : List Token) (l : List PlacedSymbol) (are : tokens_of bytes ≡ Ok ts) (is : l ≡ lexed bytes ts) (places : StatementParts → List ℕ) where
   trees_in : (n : ℕ) (ss : List StatementParts) → AllStandBehind places l n ss → TreesAreIn places bytes (n + 1) ss
   trees_in n [] h = tt
-  trees_in n (s ∷ ss) h = (each_on (StandsBehind l n) (λ p. statement_number bytes p ≡ n + 1) (λ p b. behind_is bytes ts l n p are is b ∙ omega arith) (places s) h.0, trees_in (n + 1) ss h.1)
+  trees_in n (s ∷ ss) h = (each_on (StandsBehind l n) (λ p. statement_number bytes p ≡ n + 1) (λ p b. behind_is bytes ts are l n p is b ∙ omega arith) (places s) h.0, trees_in (n + 1) ss h.1)
 
 pub trees_are_numbered : TreesAreNumbered
 trees_are_numbered bytes x (u, (l, (ts, are, is), d)) = (trees_in bytes ts l are is statement_places 0 x (places_are_cut l x d), trees_in bytes ts l are is statement_held 0 x (held_are_cut l x d))
@@ -78,7 +78,7 @@ text_is_numbered bytes out h = typing_keeps_numbers bytes h.trees out (trees_are
 -- a refusal at a place behind some tokens, which names their `;`
 module _ (bytes : List ℕ) (e : Refusal) where
   names_behind : (l before r : List PlacedSymbol) → HasTokens bytes l → l ≡ before ++ r → e.place ≡ place_of r (length bytes) → e.statement ≡ 1 + ends_among before → e.statement ≡ statement_number bytes e.place
-  names_behind l before r (ts, are, is) parts at says = says ∙ sym (place_behind bytes ts l before r are is parts) ∙ ap (statement_number bytes) (sym at)
+  names_behind l before r (ts, are, is) parts at says = says ∙ sym (place_behind bytes ts are l before r is parts) ∙ ap (statement_number bytes) (sym at)
 
   syntax_names : IsCause Syntax bytes e → e.statement ≡ statement_number bytes e.place
   syntax_names (u, (l, has, (r, w, at, says, none))) = names_behind l w.before r has w.parts at says
