@@ -36,8 +36,8 @@ pub fn text_is_numbered()
     ensures numbers { TextIsNumbered }
 {}
 
-/// A refusal of a name, a type or a token names the statement in which its place is. Typing refuses at a place that the tree of that
-/// statement holds.
+/// A refusal of a name, a type or a token names the statement in which its place is. Where the places that trees hold are numbered by
+/// the statements of a text, what typing refuses is.
 pub fn refusals_are_numbered()
     ensures typing { TypingRefusesInside }
     ensures names { WrongNamesAreNumbered }

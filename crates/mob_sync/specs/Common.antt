@@ -3,6 +3,7 @@ use Rattle.std.specs.Prelude.{List}
 use Rattle.mob_span.specs.Meets.{PieceOf, shared_pieces, AreCommon}
 use Rattle.mob_span.specs.Walk.{CanWalk, meets_left}
 use Rattle.mob_slice.specs.Slices.{IsOrdered}
+use Rattle.mob_slice.specs.Sides.{Moves, HoldsSide}
 use Rattle.mob_slice.specs.declared.slice.Slice.{Slice}
 use Rattle.mob_slice.specs.declared.part.Pair.{Pair}
 use Rattle.mob_sync.specs.declared.common.Common.{Common}
@@ -18,6 +19,10 @@ pair_of p = record { span = p.span; left = p.left.now; right = p.right.now }
 -- the common pieces that are still to come
 abbrev pub common_left : {A B : Type 0} → Common A B → List (PieceOf (Slice A) (Slice B))
 common_left s = meets_left (λ s. s.span) (λ s. s.span) s.walk
+
+-- the slices of a common piece are sound and hold its span
+abbrev pub HoldsPair : {A X B Y : Type 0} → (A → X) → (A → X) → (B → Y) → (B → Y) → PieceOf (Slice A) (Slice B) → Type 0
+HoldsPair start end start' end' p = HoldsSide start end (Moves p.left) p.span × HoldsSide start' end' (Moves p.right) p.span
 
 -- of two ordered lists of slices the shared pieces are the common ones
 abbrev pub MeetsAreCommon : {A B X Y : Type 0} → (A → X) → (A → X) → (B → Y) → (B → Y) → Type 0

@@ -1,6 +1,7 @@
 -- The walk over the pieces of one value.
 use Rattle.std.specs.Prelude.{List, map}
 use Rattle.mob_span.specs.Span.{SpanOf}
+use Rattle.mob_slice.specs.Sides.{Moves, HoldsSide}
 use Rattle.mob_slice.specs.declared.slice.Slice.{Slice}
 use Rattle.mob_slice.specs.declared.part.One.{One}
 use Rattle.mob_sync.specs.declared.ones.Ones.{Ones}
@@ -16,6 +17,10 @@ whole_slices v = map (λ s. (s.span, s)) v
 -- the pieces that are still to come
 abbrev pub ones_left : {C : Type 0} → Ones C → List (SpanOf × Slice C)
 ones_left s = whole_slices s.slices.now
+
+-- the slice of a piece is sound and holds its span
+abbrev pub HoldsOne : {C X : Type 0} → (C → X) → (C → X) → SpanOf × Slice C → Type 0
+HoldsOne start end p = HoldsSide start end (Moves p.1) p.0
 
 -- a walk can always go on
 abbrev pub CanWalkOne : {C : Type 0} → Ones C → Type 0
