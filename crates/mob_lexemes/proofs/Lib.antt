@@ -1,3 +1,4 @@
 mod Examples
 pub mod Placed
+mod Quotes
 pub mod Reserved

@@ -1,6 +1,5 @@
 pub mod Few
 pub mod Places
-pub mod Quotes
 pub mod Refused
 pub mod Scripts
 pub mod Selects

@@ -8,11 +8,12 @@ ghost use Rattle.mob_parse.specs.Cursors.{left, FollowsReading};
 ghost use Rattle.mob_parse.specs.Levels.{level_number, level_operand};
 
 use crate::cursor::{Cursor, Fault};
-use crate::nodes::{alone, copy_text, joined, leaf, prefixed, unquoted_text, with_args, word};
+use crate::nodes::{alone, joined, leaf, prefixed, with_args};
 use mob_ast::expression::{Expr, Node};
 use mob_ast::types::{TypeWord, Word};
 use mob_grammar::mark::Mark;
 use mob_lexemes::lexeme::begins_literal;
+use mob_lexemes::texts::{copy_text, unquoted_text, word};
 
 /// The ranks whose operators stand between two operands and lean to the left.
 #[derive(Clone, Copy)]

@@ -9,11 +9,12 @@ ghost use Rattle.mob_parse.specs.Cursors.{left, FollowsReading};
 
 use crate::cursor::{Cursor, Fault};
 use crate::list::Entry;
-use crate::nodes::{leaf, number_word, prefixed, unquoted_text};
+use crate::nodes::{leaf, prefixed};
 use mob_ast::expression::{Expr, Node};
 use mob_ast::statement::{Row, Statement};
 use mob_ast::types::{Quoted, TypeWord, Word};
 use mob_grammar::mark::Mark;
+use mob_lexemes::texts::{number_word, unquoted_text};
 use mob_list::items::Items;
 
 // Constants, rows and columns.
