@@ -8,7 +8,8 @@ use Rattle.mob_typed.specs.declared.typed.ConstText.{ConstText}
 use Rattle.mob_typed.specs.Statements.{ScriptOut, StatementOut, nothing, new_table, new_index, new_rows, rows_from, query, plan_of}
 use Rattle.mob_load.specs.Checks.{CheckParts, check_seen, literal, table, room, file, Checkpoint, bracket, checkpoints_of, checkpoints_from, stands_before, checks_up_to, in_order, checks_of}
 use Rattle.mob_load.specs.declared.check.Check.{Check}
-use Rattle.mob_load.specs.Fronts.{AsksForAll, AsksForSome, IsAskedLast}
+use Rattle.mob_load.specs.Fronts.{AreFilesFor, AsksForAll, AsksForSome, IsAskedLast}
+use Rattle.mob_outside.specs.Told.{Contents, KeepsFiles}
 use Rattle.mob_load.specs.Loads.{names_of, names_in, copied_file, copied_files, IsFaultAt, IsFaultAtLast, IsFile}
 use Rattle.mob_load.specs.declared.program.LoadEnd.{LoadEnd}
 use Rattle.mob_load.specs.declared.program.LoadEnd.TheVariants.{Refused, TableRefused, ReadFault, NoMemory}
@@ -61,6 +62,12 @@ asks_both ns ms None b c first next = tt
 asks_both ns ms (Some old) b c first next =
     let more : c ≡ Some ((old ++ ns) ++ ms) = subst (λ (o : Option (List (List ℕ))). AsksForAll ms o c) first next in
     more ∙ ap (λ (w : List (List ℕ)). Some w) (append_assoc old ns ms)
+
+-- a part of no names is none
+middle_none : (xs ys zs : List (List ℕ)) → xs ++ (ys ++ zs) ≡ [] → ys ≡ []
+middle_none [] [] zs none = refl
+middle_none [] (y ∷ ys) zs none = cc
+middle_none (x ∷ xs) ys zs none = cc
 
 take_front : (xs ys zs : List (List ℕ)) (k : ℕ) → k ≤ length ys → take (length xs + k) (xs ++ (ys ++ zs)) ≡ xs ++ take k ys
 take_front [] ys zs k le = ap (λ (n : ℕ). take n (ys ++ zs)) (omega arith) ∙ take-append-le k ys zs le
@@ -116,6 +123,11 @@ module _ (all : List Check) (i : ℕ) (c : Check) (lt : i < length all) (is : c 
       ap (λ xs. names_in (map check_seen xs)) (sym (take-append-drop i all) ∙ ap (λ ys. take i all ++ ys) (drop_more all i c lt ∙ ap (λ x. x ∷ drop (i + 1) all) (sym is)))
       ∙ ap names_in (map-append check_seen (take i all) (c ∷ drop (i + 1) all)) ∙ flat_map-append names_of (map check_seen (take i all)) (map check_seen (c ∷ drop (i + 1) all))
 
+  -- the files of the whole script are those of the check
+  pub files_here : (told now : Option Contents) (files : Contents) → KeepsFiles told now → AreFilesFor (names_in (map check_seen all)) told files → AreFilesFor (names_of (check_seen c)) now files
+  files_here told now files kept (inl is) = inl (subst (λ (o : Option Contents). KeepsFiles o now) is kept)
+  files_here told now files kept (inr none) = inr (middle_none first (names_of (check_seen c)) (names_in (map check_seen (drop (i + 1) all))) (sym parts ∙ none))
+
   pub asked_on : (a b d : Option (List (List ℕ))) → AsksForAll first a b → AsksForAll (names_of (check_seen c)) b d → AsksForAll (names_in (map check_seen (take (i + 1) all))) a d
   asked_on a b d so_far next = subst (λ (ns : List (List ℕ)). AsksForAll ns a d) (sym first_more) (asks_both first (names_of (check_seen c)) a b d so_far next)
 
@@ -145,6 +157,9 @@ script_asks cs out a b same asks = subst (λ (ns : List (List ℕ)). AsksForAll 
 
 pub script_asks_some : (cs : List CheckParts) (out : ScriptOut) (a b : Option (List (List ℕ))) → cs ≡ checks_of out → AsksForSome (names_in cs) a b → AsksForSome (copied_files out.statements) a b
 script_asks_some cs out a b same asks = subst (λ (ns : List (List ℕ)). AsksForSome ns a b) (ap names_in same ∙ checks_ask out) asks
+
+pub script_files : (cs : List CheckParts) (out : ScriptOut) (told : Option Contents) (files : Contents) → cs ≡ checks_of out → AreFilesFor (copied_files out.statements) told files → AreFilesFor (names_in cs) told files
+script_files cs out told files same are = subst (λ (ns : List (List ℕ)). AreFilesFor ns told files) (sym (ap names_in same ∙ checks_ask out)) are
 
 pub script_last : (cs : List CheckParts) (out : ScriptOut) (a b : Option (List (List ℕ))) (e : LoadEnd) → cs ≡ checks_of out → IsFaultAtLast (names_in cs) a b e → IsFaultAtLast (copied_files out.statements) a b e
 script_last cs out a b e same missing = subst (λ (ns : List (List ℕ)). IsFaultAtLast ns a b e) (ap names_in same ∙ checks_ask out) missing

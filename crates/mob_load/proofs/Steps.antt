@@ -9,7 +9,7 @@ use Rattle.mob_typed.specs.Statements.{ColumnList}
 use Rattle.mob_typed.specs.Statements.{ScriptOut}
 use Rattle.mob_load.specs.declared.program.Program.{Program}
 use Rattle.mob_load.specs.Checks.{CheckParts, checks_of}
-use Rattle.mob_load.specs.Fronts.{AsksForSome, IsFront}
+use Rattle.mob_load.specs.Fronts.{AsksForSome, IsFront, OnFiles}
 use Rattle.mob_catalog.specs.Faults.{file_fault}
 use Rattle.mob_catalog.specs.TableFile.{file_limit, FileFails}
 use Rattle.mob_load.proofs.Fronts.{table_front, fails_front}
@@ -41,6 +41,12 @@ whole_loads : (day : ℤ) (t : ℕ) (name whole : List ℕ) (l : Loaded) (x : Re
 whole_loads day t name whole l (Ok m) h = (h.0, table_front (loaded_columns l t) day (greatest_rows - loaded_row_count l t) whole h.0 h.1, h.2)
 whole_loads day t name whole l (Err e) h = (h.0, fails_front (loaded_columns l t) day (greatest_rows - loaded_row_count l t) whole h.0 h.1, h.2)
 
+-- what is told of the file that a check asks for
+pub of_told : (name : List ℕ) (names : List (List ℕ)) (told : Option Contents) (P : Contents → Type 0) → IfSome told P → OnFiles (name ∷ names) told P
+of_told name names None P h files (inl is) = cc
+of_told name names (Some m) P h files (inl is) = let same : m ≡ files = cc is in subst P same h
+of_told name names told P h files (inr none) = cc
+
 pub file_loads : {A : Type 0} (day : ℤ) (t : ℕ) (name bytes : List ℕ) (l : Loaded) (files : Option Contents) (r : Result A LoadEnd) (after : Loaded)
     → IfSome files (λ m. IsFront name m bytes) → LoadsTo r after (LoadsFile day t name l (Some bytes)) → IfSome files (λ m. LoadsTo r after (LoadsFile day t name l (file_of name m)))
 file_loads day t name bytes l None r after is gives = tt
@@ -61,50 +67,34 @@ pub record IsLeft (day : ℤ) (files : Contents) (all rest : List CheckParts) (l
   pub loads : (r : Result Loaded Halt) → Loads day files rest l r → Loads day files all nothing_loaded r
   pub reaches : (name : List ℕ) → Reaches day files rest l name → Reaches day files all nothing_loaded name
 
-module _ (day : ℤ) (all : List CheckParts) where
-  pub all_left : (told : Option Contents) (rest : List CheckParts) (l : Loaded) → rest ≡ all → l ≡ nothing_loaded → IfSome told (λ m. IsLeft day m all rest l)
-  all_left None rest l is nothing = tt
-  all_left (Some m) rest l is nothing =
-      let start : IsLeft day m all all nothing_loaded = record { loads = λ r h. h; reaches = λ name h. h } in
-      subst (λ (cs : List CheckParts). IsLeft day m all cs l) (sym is) (subst (λ (x : Loaded). IsLeft day m all all x) (sym nothing) start)
+module _ (day : ℤ) (files : Contents) (all : List CheckParts) where
+  pub all_left : (rest : List CheckParts) (l : Loaded) → rest ≡ all → l ≡ nothing_loaded → IsLeft day files all rest l
+  all_left rest l is nothing =
+      let start : IsLeft day files all all nothing_loaded = record { loads = λ r h. h; reaches = λ name h. h } in
+      subst (λ (cs : List CheckParts). IsLeft day files all cs l) (sym is) (subst (λ (x : Loaded). IsLeft day files all all x) (sym nothing) start)
 
-  pub none_left : (told : Option Contents) (rest : List CheckParts) (l : Loaded) → rest ≡ [] → IfSome told (λ m. IsLeft day m all rest l) → IfSome told (λ m. Loads day m all nothing_loaded (Ok l))
-  none_left None rest l is left = tt
-  none_left (Some m) rest l is left =
-      let last : IsLeft day m all [] l = subst (λ (cs : List CheckParts). IsLeft day m all cs l) is left in
+  pub none_left : (rest : List CheckParts) (l : Loaded) → rest ≡ [] → IsLeft day files all rest l → Loads day files all nothing_loaded (Ok l)
+  none_left rest l is left =
+      let last : IsLeft day files all [] l = subst (λ (cs : List CheckParts). IsLeft day files all cs l) is left in
       last.loads (Ok l) refl
 
-  module _ (told now : Option Contents) (kept : KeepsFiles told now) (rest others : List CheckParts) (c : CheckParts) (is : rest ≡ c ∷ others) (l m : Loaded) where
-    next : (files : Contents) → IsLeft day files all rest l → IsLeft day files all (c ∷ others) l
-    next files left = subst (λ (cs : List CheckParts). IsLeft day files all cs l) is left
+  module _ (rest others : List CheckParts) (c : CheckParts) (is : rest ≡ c ∷ others) (l m : Loaded) (before : IsLeft day files all rest l) where
+    left : IsLeft day files all (c ∷ others) l
+    left = subst (λ (cs : List CheckParts). IsLeft day files all cs l) is before
 
-    left_on : (files : Contents) → IsLeft day files all (c ∷ others) l → LoadsCheck day files c l (Ok m) → IsLeft day files all others m
-    left_on files left passes = record {
+    -- a check that passes
+    pub check_loads : LoadsCheck day files c l (Ok m) → IsLeft day files all others m
+    check_loads passes = record {
       loads = λ r h. left.loads r (Ok m, passes, h);
       reaches = λ name h. left.reaches name (inr (m, passes, h));
     }
 
-    stops : (files : Contents) (e : LoadEnd) → IsLeft day files all (c ∷ others) l → LoadsTo {A = Unit {0}} (Err e) m (LoadsCheck day files c l) → IsFaultAt c e → ChecksStopBy day files all e
-    stops files (Refused e) left fails at = left.loads (Err (refused e)) (Err (refused e), fails, refl)
-    stops files (TableRefused name k rec field) left fails at = left.loads (Err (table_refused name k rec field)) (Err (table_refused name k rec field), fails, refl)
-    stops files (ReadFault name) left fails at = left.reaches name (inl at)
-    stops files NoMemory left fails at = tt
-
--- a check that passes
-pub check_loads : (day : ℤ) (all : List CheckParts) (told now : Option Contents) → KeepsFiles told now → (rest others : List CheckParts) (c : CheckParts) → rest ≡ c ∷ others → (l m : Loaded)
-    → IfSome told (λ f. IsLeft day f all rest l) → IfSome now (λ f. LoadsCheck day f c l (Ok m)) → IfSome told (λ f. IsLeft day f all others m)
-check_loads day all None now kept rest others c is l m left passes = tt
-check_loads day all (Some f) now kept rest others c is l m left passes =
-    left_on day all (Some f) now kept rest others c is l m f (next day all (Some f) now kept rest others c is l m f left)
-    (subst (λ (o : Option Contents). IfSome o (λ f. LoadsCheck day f c l (Ok m))) kept passes)
-
--- a check that fails decides
-pub check_stops : (day : ℤ) (all : List CheckParts) (told now : Option Contents) → KeepsFiles told now → (rest others : List CheckParts) (c : CheckParts) → rest ≡ c ∷ others → (l m : Loaded) (e : LoadEnd)
-    → IfSome told (λ f. IsLeft day f all rest l) → IfSome now (λ f. LoadsTo {A = Unit {0}} (Err e) m (LoadsCheck day f c l)) → IsFaultAt c e → IfSome told (λ f. ChecksStopBy day f all e)
-check_stops day all None now kept rest others c is l m e left fails at = tt
-check_stops day all (Some f) now kept rest others c is l m e left fails at =
-    stops day all (Some f) now kept rest others c is l m f e (next day all (Some f) now kept rest others c is l m f left)
-    (subst (λ (o : Option Contents). IfSome o (λ f. LoadsTo {A = Unit {0}} (Err e) m (LoadsCheck day f c l))) kept fails) at
+    -- a check that fails decides
+    pub check_stops : (e : LoadEnd) → LoadsTo {A = Unit {0}} (Err e) m (LoadsCheck day files c l) → IsFaultAt c e → ChecksStopBy day files all e
+    check_stops (Refused e) fails at = left.loads (Err (refused e)) (Err (refused e), fails, refl)
+    check_stops (TableRefused name k rec field) fails at = left.loads (Err (table_refused name k rec field)) (Err (table_refused name k rec field), fails, refl)
+    check_stops (ReadFault name) fails at = left.reaches name (inl at)
+    check_stops NoMemory fails at = tt
 
 pub keeps_same : (told : Option Contents) → KeepsFiles told told
 keeps_same None = tt
@@ -121,20 +111,17 @@ rose_before a b c le (ReadFault name) cause = search (arith, rules)
 rose_before a b c le NoMemory cause = tt
 
 -- checks that all pass give a program
-pub program_loaded : (day : ℤ) (told : Option Contents) (cs : List CheckParts) (out : ScriptOut) (l : Loaded) (p : Program) → cs ≡ checks_of out → p ≡ record { values = l.values; files = l.files }
-    → IfSome told (λ m. Loads day m cs nothing_loaded (Ok l)) → IfSome told (λ m. LoadsScript day m out (Ok p))
-program_loaded day None cs out l p same is loads = tt
-program_loaded day (Some m) cs out l p same is loads = (l, subst (λ (x : List CheckParts). Loads day m x nothing_loaded (Ok l)) same loads, is)
+pub program_loaded : (day : ℤ) (files : Contents) (cs : List CheckParts) (out : ScriptOut) (l : Loaded) (p : Program) → cs ≡ checks_of out → p ≡ record { values = l.values; files = l.files }
+    → Loads day files cs nothing_loaded (Ok l) → LoadsScript day files out (Ok p)
+program_loaded day files cs out l p same is loads = (l, subst (λ (x : List CheckParts). Loads day files x nothing_loaded (Ok l)) same loads, is)
 
-pub script_stops : (day : ℤ) (told : Option Contents) (cs : List CheckParts) (out : ScriptOut) (e : LoadEnd) → cs ≡ checks_of out
-    → IfSome told (λ m. ChecksStopBy day m cs e) → IfSome told (λ m. ChecksStopBy day m (checks_of out) e)
-script_stops day told cs out e same stops = subst (λ (x : List CheckParts). IfSome told (λ m. ChecksStopBy day m x e)) same stops
+pub script_stops : (day : ℤ) (files : Contents) (cs : List CheckParts) (out : ScriptOut) (e : LoadEnd) → cs ≡ checks_of out → ChecksStopBy day files cs e → ChecksStopBy day files (checks_of out) e
+script_stops day files cs out e same stops = subst (λ (x : List CheckParts). ChecksStopBy day files x e) same stops
 
 -- where no count rose, the answer is what loading gives
-pub stopped_outcome : (day : ℤ) (told : Option Contents) (out : ScriptOut) (e : LoadEnd) (before now : ℕ) → (Rose before now → ⊥) → HasFaultCause before now e
-    → IfSome told (λ m. ChecksStopBy day m (checks_of out) e) → IfSome told (λ m. IsOutcome day m out (Err e))
-stopped_outcome day None out e before now steady cause stops = tt
-stopped_outcome day (Some m) out (Refused e) before now steady cause stops = stops
-stopped_outcome day (Some m) out (TableRefused name k rec field) before now steady cause stops = stops
-stopped_outcome day (Some m) out (ReadFault name) before now steady cause stops = absurd (steady cause)
-stopped_outcome day (Some m) out NoMemory before now steady cause stops = tt
+pub stopped_outcome : (day : ℤ) (files : Contents) (out : ScriptOut) (e : LoadEnd) (before now : ℕ) → (Rose before now → ⊥) → HasFaultCause before now e
+    → ChecksStopBy day files (checks_of out) e → IsOutcome day files out (Err e)
+stopped_outcome day files out (Refused e) before now steady cause stops = stops
+stopped_outcome day files out (TableRefused name k rec field) before now steady cause stops = stops
+stopped_outcome day files out (ReadFault name) before now steady cause stops = absurd (steady cause)
+stopped_outcome day files out NoMemory before now steady cause stops = tt

@@ -1,5 +1,5 @@
 -- What reading a table file takes, and which names it asks for.
-use Rattle.std.specs.Prelude.{◌≡◌, ◌⊎◌, ◌≤◌, ◌+◌, ◌++◌, ⊤, ℕ, List, take, length, slice_get, Option, Some, None}
+use Rattle.std.specs.Prelude.{◌≡◌, ◌⊎◌, ◌≤◌, ◌+◌, ◌++◌, ⊤, ℕ, List, [], take, length, slice_get, Option, Some, None}
 use Rattle.mob_catalog.specs.TableFile.{file_limit}
 use Rattle.mob_outside.specs.Told.{Contents, file_of}
 use Rattle.mob_outside.specs.Streams.{ReadsPart}
@@ -11,6 +11,14 @@ IsFront name files bytes = (whole : List ℕ) × (file_of name files ≡ Some wh
 -- this is left of the file with this name: at most one byte past the most was taken from its front
 abbrev pub IsLeftOf : List ℕ → Contents → Option (List ℕ) → Type 0
 IsLeftOf name files left = (whole : List ℕ) × (file_of name files ≡ Some whole) × ReadsPart file_limit (Some whole) left
+
+-- These are the files of a script that copies the files of these names: what the files tell; or any, where it copies none.
+abbrev pub AreFilesFor : List (List ℕ) → Option Contents → Contents → Type 0
+AreFilesFor names told files = (told ≡ Some files) ⊎ (names ≡ [])
+
+-- what holds of the files of a script that copies the files of these names
+abbrev pub OnFiles : List (List ℕ) → Option Contents → (Contents → Type 0) → Type 0
+OnFiles names told P = (files : Contents) → AreFilesFor names told files → P files
 
 -- told names grow by these, at their end
 abbrev pub AsksForAll : List (List ℕ) → Option (List (List ℕ)) → Option (List (List ℕ)) → Type 0

@@ -4,7 +4,7 @@ ghost use Rattle.mob_outside.specs.Told.{AsksFor, KeepsFiles, MayAskFor, file_of
 ghost use Rattle.mob_catalog.specs.Faults.{OnRefused};
 ghost use Rattle.mob_catalog.specs.TableFile.{FileFails, IsTable};
 ghost use Rattle.mob_load.specs.Checks.{check_seen, file};
-ghost use Rattle.mob_load.specs.Fronts.{AsksForAll, AsksForSome};
+ghost use Rattle.mob_load.specs.Fronts.{AsksForAll, AsksForSome, OnFiles};
 ghost use Rattle.mob_load.specs.Loads.{LoadsTo, HasFaultCause, HasNarrow, IsFaultAt, IsNarrow, IsNoFault, IsRead, LoadsCheck, LoadsFile, LoadsLiteral, columns_or_none, loaded_of, names_of, one_row, loaded_row_count, with_file, with_made_table};
 ghost use Rattle.mob_load.specs.declared.program.LoadEnd.TheVariants.{NoMemory, Refused};
 
@@ -220,7 +220,7 @@ pub fn run_check<'a, F: Files>(
 ) -> Result<(), LoadEnd>
     requires narrow { IsNarrow (check_seen check) }
     requires tables { HasNarrow (loaded_of loading.old).tables }
-    ensures loads { IfSome (F.files files.old) (λ m. LoadsTo result (loaded_of loading.new) (LoadsCheck epoch.now m (check_seen check.entry) (loaded_of loading.old))) }
+    ensures loads { OnFiles (names_of (check_seen check.entry)) (F.files files.old) (λ m. LoadsTo result (loaded_of loading.new) (LoadsCheck epoch.now m (check_seen check.entry) (loaded_of loading.old))) }
     ensures fault { IfErr result (IsFaultAt (check_seen check.entry)) }
     ensures narrow { OnOk result (HasNarrow (loaded_of loading.new).tables) }
     ensures cause { IfErr result (HasFaultCause (F.faults files.old) (F.faults files.new)) }

@@ -1,9 +1,9 @@
 //! What a script reads before it runs.
-ghost use Rattle.std.specs.Prelude.{◌≡◌, ◌≤◌, Ok, IfErr, IfOk, IfSome, OnOk, map};
+ghost use Rattle.std.specs.Prelude.{◌≡◌, ◌≤◌, Ok, IfErr, IfOk, OnOk, map};
 ghost use Rattle.mob_outside.specs.Faults.{Rose};
 ghost use Rattle.mob_outside.specs.Told.{KeepsFiles};
 ghost use Rattle.mob_typed.specs.Statements.{script_seen};
-ghost use Rattle.mob_load.specs.Fronts.{AsksForAll, AsksForSome};
+ghost use Rattle.mob_load.specs.Fronts.{AsksForAll, AsksForSome, OnFiles};
 ghost use Rattle.mob_load.specs.Checks.{check_seen, checks_of};
 ghost use Rattle.mob_load.specs.Loads.{AreNarrow, HasFaultCause, IsFaultAtLast, IsOutcome, IsTypedScript, Loads, LoadsScript, ChecksStopBy, copied_files, loaded_of, names_in, nothing_loaded};
 
@@ -38,8 +38,8 @@ fn load_checks<'a, F: Files>(
     epoch: &Epoch,
 ) -> Result<Loading<'a>, LoadEnd>
     requires narrow { AreNarrow (map check_seen checks.now) }
-    ensures loaded { IfOk result (λ l. IfSome (F.files files.old) (λ m. Loads epoch.now m (map check_seen checks.now) nothing_loaded (Ok (loaded_of l)))) }
-    ensures stopped { IfErr result (λ e. IfSome (F.files files.old) (λ m. ChecksStopBy epoch.now m (map check_seen checks.now) e)) }
+    ensures loaded { IfOk result (λ l. OnFiles (names_in (map check_seen checks.now)) (F.files files.old) (λ m. Loads epoch.now m (map check_seen checks.now) nothing_loaded (Ok (loaded_of l)))) }
+    ensures stopped { IfErr result (λ e. OnFiles (names_in (map check_seen checks.now)) (F.files files.old) (λ m. ChecksStopBy epoch.now m (map check_seen checks.now) e)) }
     ensures cause { IfErr result (HasFaultCause (F.faults files.old) (F.faults files.new)) }
     ensures asked { OnOk result (AsksForAll (names_in (map check_seen checks.now)) (F.asked files.old) (F.asked files.new)) }
     ensures some { AsksForSome (names_in (map check_seen checks.now)) (F.asked files.old) (F.asked files.new) }
@@ -75,10 +75,10 @@ pub fn load<F: Files>(
     epoch: &Epoch,
 ) -> Result<Program, LoadEnd>
     requires typed { IsTypedScript (script_seen typed.now) }
-    ensures loaded { IfOk result (λ p. IfSome (F.files files.old) (λ m. LoadsScript epoch.now m (script_seen typed.now) (Ok p))) }
-    ensures stopped { IfErr result (λ e. IfSome (F.files files.old) (λ m. ChecksStopBy epoch.now m (checks_of (script_seen typed.now)) e)) }
+    ensures loaded { IfOk result (λ p. OnFiles (copied_files (script_seen typed.now).statements) (F.files files.old) (λ m. LoadsScript epoch.now m (script_seen typed.now) (Ok p))) }
+    ensures stopped { IfErr result (λ e. OnFiles (copied_files (script_seen typed.now).statements) (F.files files.old) (λ m. ChecksStopBy epoch.now m (checks_of (script_seen typed.now)) e)) }
     ensures cause { IfErr result (HasFaultCause (F.faults files.old) (F.faults files.new)) }
-    ensures complete { (Rose (F.faults files.old) (F.faults files.new) → ⊥) → IfSome (F.files files.old) (λ m. IsOutcome epoch.now m (script_seen typed.now) result) }
+    ensures complete { (Rose (F.faults files.old) (F.faults files.new) → ⊥) → OnFiles (copied_files (script_seen typed.now).statements) (F.files files.old) (λ m. IsOutcome epoch.now m (script_seen typed.now) result) }
     ensures asked { OnOk result (AsksForAll (copied_files (script_seen typed.now).statements) (F.asked files.old) (F.asked files.new)) }
     ensures some { AsksForSome (copied_files (script_seen typed.now).statements) (F.asked files.old) (F.asked files.new) }
     ensures last { IfErr result (IsFaultAtLast (copied_files (script_seen typed.now).statements) (F.asked files.old) (F.asked files.new)) }

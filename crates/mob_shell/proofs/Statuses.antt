@@ -5,10 +5,10 @@ use Rattle.std.specs.Io.KnownBytes.{Keeps}
 use Rattle.mob_ending.specs.Lines.{note_line, status_of}
 use Rattle.mob_ending.specs.declared.ending.Ending.{Ending}
 use Rattle.mob_ending.specs.declared.ending.Ending.TheVariants.{Done, Usage, ReadFault, WriteFault, NoMemory, TableRefused, ScriptRefused, Overflow}
-use Rattle.mob_shell.specs.Ending.{IsCausedBy, CutsShort, IsEndingOf, IsDue, IsOverflow, IsReadFault, HasRefusedScript, HasRefusedTable, IsUsage, OnTold, Seen, WritesAll, WroteSome}
-use Rattle.mob_shell.specs.Outcomes.{HasOneEnding}
+use Rattle.mob_shell.specs.Ending.{IsCausedBy, CutsShort, IsEndingOf, IsDue, IsOverflow, IsReadFault, HasRefusedScript, HasRefusedTable, IsUsage, OnDue, WritesAll, WroteSome}
+use Rattle.mob_shell.specs.Inputs.{Seen}
 use Rattle.mob_shell.specs.Run.{EndsSo, IsRun}
-use Rattle.mob_shell.proofs.Due.{IsDueOnTold, due_or_memory, each_told, ends_as_due, misses_a_file}
+use Rattle.mob_shell.proofs.Due.{AreEndingLaws, IsDueOnInput, due_or_memory, each_input, ends_as_due, misses_a_file}
 
 by_written : (ending : Ending) (s : Seen) → IsCausedBy ending s → status_of ending ≡ 0 → WritesAll s
 by_written Done s h e = h
@@ -65,13 +65,16 @@ so_ended ending due Noted (inl e) noted = inl (record { number = ap status_of e;
 so_ended ending due Noted (inr e) noted = inr (ap status_of e)
 
 -- an ending that is due, with its status and its note
-with_note : (ending : Ending) (s : Seen) (Noted : List ℕ → Type 0) → IsDueOnTold ending s ⊎ (ending ≡ NoMemory) → Noted (note_line ending) → OnTold s (λ b m. (due : Ending) × IsDue s.words b m due × EndsSo due (status_of ending) Noted) ⊎ (status_of ending ≡ 5)
-with_note ending s Noted (inl told) noted = inl (each_told (λ b m. IsDue s.words b m ending) (λ b m. (due : Ending) × IsDue s.words b m due × EndsSo due (status_of ending) Noted) (λ b m p. (ending, p, record { number = refl; noted = noted })) s.script.told_before s.files.told_before told)
+with_note : (ending : Ending) (s : Seen) (Noted : List ℕ → Type 0) → IsDueOnInput ending s ⊎ (ending ≡ NoMemory) → Noted (note_line ending) → OnDue s (λ due. EndsSo due (status_of ending) Noted) ⊎ (status_of ending ≡ 5)
+with_note ending s Noted (inl (inl usage)) noted = inl (inl (usage.0, record { number = ap status_of usage.1; noted = subst (λ (it : Ending). Noted (note_line it)) usage.1 noted }))
+with_note ending s Noted (inl (inr on)) noted =
+    inl (inr (each_input (λ settings input. IsDue settings input ending) (λ settings input. (due : Ending) × IsDue settings input due × EndsSo due (status_of ending) Noted) s
+        (λ settings input p. (ending, p, record { number = refl; noted = noted })) on))
 with_note ending s Noted (inr memory) noted = inr (ap status_of memory)
 
 -- what a run promises, by its ending and what is noted of its line
-pub is_run : HasOneEnding → (ending : Ending) (s : Seen) (Noted : List ℕ → Type 0) → IsEndingOf ending s → Noted (note_line ending) → IsRun (status_of ending) s Noted
-is_run one ending s Noted ends noted = record {
+pub is_run : AreEndingLaws → (ending : Ending) (s : Seen) (Noted : List ℕ → Type 0) → IsEndingOf ending s → Noted (note_line ending) → IsRun (status_of ending) s Noted
+is_run law ending s Noted ends noted = record {
   written = by_written ending s ends.cause;
   usage = by_usage ending s ends.cause;
   exactly_usage = λ words. by_words ending (ends.usage words);
@@ -84,8 +87,8 @@ is_run one ending s Noted ends noted = record {
   silent = by_silence ending s ends.cause;
   untouched = by_untouched ending s ends.cause;
   due = λ faultless. with_note ending s Noted (due_or_memory ending s ends faultless) noted;
-  missing = λ file given read_well put_well. misses_a_file one ending s file ends read_well put_well given;
-  complete = λ due given faultless. so_ended ending due Noted (ends_as_due one ending due s ends faultless given) noted;
+  missing = λ file must read_well. misses_a_file law s ending file ends read_well must;
+  complete = λ due must faultless. so_ended ending due Noted (ends_as_due law s ending due ends faultless must) noted;
   reads = ends.read;
   asked = ends.asked;
   files = ends.files;

@@ -1,34 +1,27 @@
 -- What was read is the whole script, and what its parts leave is the cause of the ending.
 use Rattle.std.proofs.Common.{arith, ◌≡◌, ◌∙◌, refl, sym, ap, subst, inl, inr, ℕ, ◌+◌, ◌≤◌, List, [], ◌++◌, length, Some, None}
-use Rattle.std.specs.Prelude.{◌⊎◌, ℤ, Option, IfSome, Ok, Err}
+use Rattle.std.specs.Prelude.{◌⊎◌, Option, Ok, Err}
 use Rattle.std.specs.Io.KnownBytes.{Keeps}
 use Rattle.std.proofs.Math.Nat.{eq-or-lt_of_le}
 use Rattle.std.proofs.lemmas.List.{append-nil, length-append}
 use Rattle.mob_ast.specs.declared.refusal.Refusal.{Refusal}
 use Rattle.mob_words.specs.CommandLine.{WordsSay}
+use Rattle.mob_words.specs.declared.options.Settings.{Settings}
 use Rattle.mob_accept.specs.Accepts.{IsAccepted, IsTextRefused, script_limit}
 use Rattle.mob_outside.specs.Streams.{ReadsPart, ReadsTo}
 use Rattle.mob_outside.proofs.Known.{takes_nothing}
 use Rattle.mob_outside.specs.Told.{Contents, KeepsFiles}
 use Rattle.mob_typed.specs.Statements.{ScriptOut}
-use Rattle.mob_load.specs.Fronts.{AsksForSome, IsAskedLast}
+use Rattle.mob_load.specs.Fronts.{AreFilesFor, AsksForSome, IsAskedLast, OnFiles}
 use Rattle.mob_load.specs.Checks.{checks_of}
 use Rattle.mob_load.specs.Loads.{LoadsScript, Reaches, copied_files, nothing_loaded, refused, table_refused}
 use Rattle.mob_load.specs.declared.program.Program.{Program}
 use Rattle.mob_ending.specs.declared.ending.Ending.{Ending}
 use Rattle.mob_ending.specs.declared.ending.Ending.TheVariants.{Done, Usage, ReadFault, WriteFault, NoMemory, TableRefused, ScriptRefused, Overflow}
-use Rattle.mob_shell.specs.Program.{AreTakenAs, IsProgram, IsHalted, IsReached, ProgramWrites, StopsWith, WritesFirst}
-use Rattle.mob_shell.specs.Ending.{AreCopied, AsksInOrder, IsCausedBy, IsEndingOf, IsCopied, IsUsage, OnTold, ReadsThrough, Seen}
+use Rattle.mob_shell.specs.Program.{IsHalted, IsReached, ProgramWrites, StopsWith, WritesFirst}
+use Rattle.mob_shell.specs.Ending.{AreCopied, AsksInOrder, IsCausedBy, IsEndingOf, IsCopied, IsUsage, ReadsThrough}
+use Rattle.mob_shell.specs.Inputs.{AreFilesOf, Input, IsInputOf, IsScriptOf, OnInput, OnScript, Seen}
 use Rattle.mob_shell.specs.Parts.{LoadEnds, IsTextEnding, RunsText}
-
--- what holds of all holds of what is told
-pub some_all : {A : Type 0} (P : A → Type 0) → ((a : A) → P a) → (o : Option A) → IfSome o P
-some_all P h None = tt
-some_all P h (Some a) = h a
-
-some_map : {A : Type 0} (P Q : A → Type 0) → ((a : A) → P a → Q a) → (o : Option A) → IfSome o P → IfSome o Q
-some_map P Q f None h = tt
-some_map P Q f (Some a) h = f a h
 
 -- no name was asked for
 pub asks_none : (names : List (List ℕ)) (asked : Option (List (List ℕ))) → AsksForSome names asked asked
@@ -50,11 +43,6 @@ read-within : (old : List ℕ) (new : Option (List ℕ)) (bytes : List ℕ) → 
 read-within old None bytes reads = absurd reads.taken
 read-within old (Some left) bytes reads = let parts : length old ≡ length bytes + length left = ap length reads.taken ∙ length-append bytes left in omega arith
 
--- what holds of what was read holds of the script
-on-script : (P : List ℕ → Type 0) (old new : Option (List ℕ)) (bytes : List ℕ) → ReadsTo script_limit old new bytes → length bytes ≤ script_limit → P bytes → IfSome old P
-on-script P None new bytes reads short h = tt
-on-script P (Some old) new bytes reads short h = subst P (sym (read-whole old new bytes reads short)) h
-
 -- what was read is refused, and so is the script
 refused-whole : (e : Refusal) (old : List ℕ) (new : Option (List ℕ)) (bytes : List ℕ) → ReadsTo script_limit (Some old) new bytes → IsTextRefused bytes e → IsTextRefused old e
 refused-whole e old new bytes reads (inl h) = inl (record { long = let within = read-within old new bytes reads in let long = h.long in omega arith; says = h.says })
@@ -73,53 +61,66 @@ read-through s bytes reads = record {
   ];
 }
 
-module _ (s : Seen) (bytes : List ℕ) (reads : ReadsTo script_limit s.script.told_before s.script.told_now bytes) where
+module _ (s : Seen) (bytes : List ℕ) (reads : ReadsTo script_limit s.script.told_before s.script.told_now bytes) (settings : Settings) (says : WordsSay s.words settings) where
+  -- the script that is told, and what was read of it
+  reads-told : (whole : List ℕ) → IsScriptOf settings s whole → ReadsTo script_limit (Some whole) s.script.told_now bytes
+  reads-told whole is = subst (λ (o : Option (List ℕ)). ReadsTo script_limit o s.script.told_now bytes) is reads
+
   pub text_refused : (e : Refusal) → IsTextRefused bytes e → Keeps s.out.told_before s.out.told_now → IsCausedBy (ScriptRefused e) s
-  text_refused e h keeps = (record { read = read-through s bytes reads; cause = told s.script.told_before reads }, keeps)
-    where
-      told : (old : Option (List ℕ)) → ReadsTo script_limit old s.script.told_now bytes → IfSome old (λ b. IsTextRefused b e ⊎ IfSome s.files.told_before (λ m. IsHalted s.words b m (refused e)))
-      told None r = tt
-      told (Some old) r = inl (refused-whole e old s.script.told_now bytes r h)
+  text_refused e h keeps = (
+    record { read = read-through s bytes reads; cause = record { settings = settings; says = says; holds = λ whole is. inl (refused-whole e whole s.script.told_now bytes (reads-told whole is) h) } },
+    keeps,
+  )
 
-  module _ (workers : ℕ) (day : ℤ) (says : WordsSay s.words workers day) (out : ScriptOut) (accepted : IsAccepted bytes out) where
-    script : AreTakenAs s.words bytes day out
-    script = record { workers = workers; says = says; text = accepted }
-
+  module _ (out : ScriptOut) (accepted : IsAccepted bytes out) where
     short : length bytes ≤ script_limit
     short = accepted.script.read.short
 
-    copied : IfSome s.script.told_before (λ b. AreCopied s.words b (copied_files out.statements))
-    copied = on-script (λ b. AreCopied s.words b (copied_files out.statements)) s.script.told_before s.script.told_now bytes reads short (inr (day, out, script, refl))
+    told-whole : (whole : List ℕ) → IsScriptOf settings s whole → whole ≡ bytes
+    told-whole whole is = read-whole whole s.script.told_now bytes (reads-told whole is) short
+
+    on-script : (P : Settings → List ℕ → Type 0) → P settings bytes → OnScript s P
+    on-script P h = record { settings = settings; says = says; holds = λ whole is. subst (λ (b : List ℕ). P settings b) (sym (told-whole whole is)) h }
+
+    files-for : (files : Contents) → AreFilesOf settings s bytes files → AreFilesFor (copied_files out.statements) s.files.told_before files
+    files-for files (inl told) = inl told
+    files-for files (inr none) = inr (none out accepted)
+
+    -- what holds of the files of the script holds of what is read
+    on-files : (P : Contents → Type 0) → OnFiles (copied_files out.statements) s.files.told_before P → (whole : List ℕ) → IsScriptOf settings s whole → (files : Contents) → AreFilesOf settings s whole files → P files
+    on-files P h whole is files are = h files (files-for files (subst (λ (b : List ℕ). AreFilesOf settings s b files) (told-whole whole is) are))
+
+    on-input : (P : Settings → Input → Type 0) → OnFiles (copied_files out.statements) s.files.told_before (λ files. P settings (record { script = bytes; files = files })) → OnInput s P
+    on-input P h = record {
+      settings = settings;
+      says = says;
+      holds = λ input is.
+          let here = on-files (λ files. P settings (record { script = bytes; files = files })) h input.script is.script input.files is.files in
+          subst (λ (b : List ℕ). P settings (record { script = b; files = input.files })) (sym (told-whole input.script is.script)) here;
+    }
+
+    copied : OnScript s (λ settings b. AreCopied b (copied_files out.statements))
+    copied = on-script (λ settings b. AreCopied b (copied_files out.statements)) (out, accepted, refl)
 
     pub asked_in_order : AsksForSome (copied_files out.statements) s.files.asked_before s.files.asked_now → AsksInOrder s
-    asked_in_order asks = record {
-      names = copied_files out.statements;
-      copied = copied;
-      asked = asks;
-    }
+    asked_in_order asks = record { names = copied_files out.statements; copied = inr copied; asked = asks }
 
     copied_last : (name : List ℕ) → IsAskedLast (copied_files out.statements) s.files.asked_before s.files.asked_now name → IsCopied s name
     copied_last name last = record { names = copied_files out.statements; copied = copied; last = last }
 
-    told : (P : List ℕ → Contents → Type 0) → IfSome s.files.told_before (P bytes) → OnTold s P
-    told P h = on-script (λ b. IfSome s.files.told_before (λ m. P b m)) s.script.told_before s.script.told_now bytes reads short h
-
-    program : (p : Program) (Q : Contents → Type 0) → ((m : Contents) → IsProgram s.words bytes m day out p → Q m) → IfSome s.files.told_before (λ m. LoadsScript day m out (Ok p)) → IfSome s.files.told_before Q
-    program p Q f h = some_map (λ m. LoadsScript day m out (Ok p)) Q (λ m l. f m (record { script = script; loads = l })) s.files.told_before h
-
-    pub loaded_causes : (ending : Ending) → LoadEnds day out s.files s.out ending → IsCausedBy ending s
+    pub loaded_causes : (ending : Ending) → LoadEnds settings.epoch out s.files s.out ending → IsCausedBy ending s
     loaded_causes Done h = record {
       text = h.left.text;
       ended = reads.whole short;
-      answers = told (λ b m. ProgramWrites s.words b m h.left.text) (program h.program (λ m. ProgramWrites s.words bytes m h.left.text)
-          (λ m is. record { day = day; out = out; program = h.program; is = is; stands = h.left.stands; ran = h.left.ran }) h.loads);
+      answers = on-input (λ st i. ProgramWrites st i h.left.text)
+          (λ m are. record { out = out; program = h.program; is = record { script = accepted; loads = h.loads m are }; stands = h.left.stands; ran = h.left.ran });
       whole = h.left.put;
     }
     loaded_causes WriteFault h = record {
       count = h.left.count;
       text = h.left.text;
-      answers = told (λ b m. WritesFirst s.words b m h.left.count h.left.text) (program h.program (λ m. WritesFirst s.words bytes m h.left.count h.left.text)
-          (λ m is. record { day = day; out = out; program = h.program; is = is; stands = h.left.first.stands; ran = h.left.first.ran }) h.loads);
+      answers = on-input (λ st i. WritesFirst st i h.left.count h.left.text)
+          (λ m are. record { out = out; program = h.program; is = record { script = accepted; loads = h.loads m are }; stands = h.left.first.stands; ran = h.left.first.ran });
       part = h.left.part;
       rose = h.left.rose;
     }
@@ -127,18 +128,17 @@ module _ (s : Seen) (bytes : List ℕ) (reads : ReadsTo script_limit s.script.to
     loaded_causes NoMemory (inr h) = inr (record {
       count = h.left.count;
       text = h.left.text;
-      answers = told (λ b m. WritesFirst s.words b m h.left.count h.left.text) (program h.program (λ m. WritesFirst s.words bytes m h.left.count h.left.text)
-          (λ m is. record { day = day; out = out; program = h.program; is = is; stands = h.left.first.stands; ran = h.left.first.ran }) h.loads);
+      answers = on-input (λ st i. WritesFirst st i h.left.count h.left.text)
+          (λ m are. record { out = out; program = h.program; is = record { script = accepted; loads = h.loads m are }; stands = h.left.first.stands; ran = h.left.first.ran });
       whole = h.left.put;
     })
     loaded_causes (Overflow number rows place formula) h = record {
       text = h.left.text;
-      fault = told (λ b m. StopsWith s.words b m h.left.text number (rows, (place, formula))) (program h.program (λ m. StopsWith s.words bytes m h.left.text number (rows, (place, formula)))
-          (λ m is. record {
-            day = day;
+      fault = on-input (λ st i. StopsWith st i h.left.text number (rows, (place, formula)))
+          (λ m are. record {
             out = out;
             program = h.program;
-            is = is;
+            is = record { script = accepted; loads = h.loads m are };
             before = h.left.before;
             counts = h.left.counts;
             stands = h.left.stands;
@@ -146,23 +146,29 @@ module _ (s : Seen) (bytes : List ℕ) (reads : ReadsTo script_limit s.script.to
             statement = h.left.statement;
             there = h.left.there;
             stops = h.left.stops;
-          }) h.loads);
+          });
       whole = h.left.put;
     }
     loaded_causes (TableRefused name kind rec field) h = (
       record {
         ended = reads.whole short;
         copied = copied_last name h.0.last;
-        cause = told (λ b m. IsHalted s.words b m (table_refused name kind rec field)) (some_map (λ m. LoadsScript day m out (Err (table_refused name kind rec field))) (λ m. IsHalted s.words bytes m (table_refused name kind rec field))
-            (λ m l. record { day = day; out = out; script = script; loads = l }) s.files.told_before h.0.loads);
+        cause = on-input (λ st i. IsHalted st i (table_refused name kind rec field)) (λ m are. record { out = out; script = accepted; loads = h.0.loads m are });
       },
       h.1,
     )
     loaded_causes (ScriptRefused e) h = (
       record {
         read = read-through s bytes reads;
-        cause = on-script (λ b. IsTextRefused b e ⊎ IfSome s.files.told_before (λ m. IsHalted s.words b m (refused e))) s.script.told_before s.script.told_now bytes reads short
-            (inr (some_map (λ m. LoadsScript day m out (Err (refused e))) (λ m. IsHalted s.words bytes m (refused e)) (λ m l. record { day = day; out = out; script = script; loads = l }) s.files.told_before h.0));
+        cause = record {
+          settings = settings;
+          says = says;
+          holds = λ whole is. inr (λ files are. record {
+            out = out;
+            script = subst (λ (b : List ℕ). IsAccepted b out) (sym (told-whole whole is)) accepted;
+            loads = on-files (λ m. LoadsScript settings.epoch m out (Err (refused e))) h.0 whole is files are;
+          });
+        };
       },
       h.1,
     )
@@ -170,8 +176,7 @@ module _ (s : Seen) (bytes : List ℕ) (reads : ReadsTo script_limit s.script.to
       record {
         ended = reads.whole short;
         copied = copied_last name h.0.last;
-        reached = told (λ b m. IsReached s.words b m name) (some_map (λ m. Reaches day m (checks_of out) nothing_loaded name) (λ m. IsReached s.words bytes m name)
-            (λ m reaches. record { day = day; out = out; script = script; reaches = reaches }) s.files.told_before h.0.reaches);
+        reached = on-input (λ st i. IsReached st i name) (λ m are. record { out = out; script = accepted; reaches = h.0.reaches m are });
         rose = h.0.rose;
       },
       h.1,
@@ -185,7 +190,7 @@ reads_none limit o = record { bytes = []; taken = takes_nothing o; bound = searc
 
 -- no file was asked for
 pub nothing_asked : (s : Seen) → AsksForSome [] s.files.asked_before s.files.asked_now → AsksInOrder s
-nothing_asked s asks = record { names = []; copied = some_all (λ b. AreCopied s.words b []) (λ b. inl refl) s.script.told_before; asked = asks }
+nothing_asked s asks = record { names = []; copied = inl refl; asked = asks }
 
 -- a run that ends before its text is judged
 pub record IsEarly (s : Seen) : Type 0 where
@@ -216,30 +221,30 @@ pub record IsOrderly (s : Seen) : Type 0 where
   pub filed_later : s.files.faults_before ≤ s.files.faults_now
   pub put_later : s.out.faults_before ≤ s.out.faults_now
 
-refusal-causes : (s : Seen) (bytes : List ℕ) → ReadsTo script_limit s.script.told_before s.script.told_now bytes → (ending : Ending) → Keeps s.out.told_before s.out.told_now → (ending ≡ NoMemory) ⊎ ((e : Refusal) × (ending ≡ ScriptRefused e) × IsTextRefused bytes e) → IsCausedBy ending s
-refusal-causes s bytes reads ending keeps (inl none) = subst (λ e. IsCausedBy e s) (sym none) (inl keeps)
-refusal-causes s bytes reads ending keeps (inr h) = subst (λ e. IsCausedBy e s) (sym h.1) (text_refused s bytes reads h.0 h.2 keeps)
+refusal-causes : (s : Seen) (bytes : List ℕ) → ReadsTo script_limit s.script.told_before s.script.told_now bytes → (settings : Settings) → WordsSay s.words settings → (ending : Ending) → Keeps s.out.told_before s.out.told_now → (ending ≡ NoMemory) ⊎ ((e : Refusal) × (ending ≡ ScriptRefused e) × IsTextRefused bytes e) → IsCausedBy ending s
+refusal-causes s bytes reads settings says ending keeps (inl none) = subst (λ e. IsCausedBy e s) (sym none) (inl keeps)
+refusal-causes s bytes reads settings says ending keeps (inr h) = subst (λ e. IsCausedBy e s) (sym h.1) (text_refused s bytes reads settings says h.0 h.2 keeps)
 
 -- a run whose text was judged, and loaded and run where it is a script
-pub text_ends : (s : Seen) (bytes : List ℕ) → ReadsTo script_limit s.script.told_before s.script.told_now bytes → (workers : ℕ) (day : ℤ) → WordsSay s.words workers day → IsOrderly s → (ending : Ending)
-    → RunsText day bytes s.files s.out ending ⊎ IsTextEnding bytes s.files s.out ending
+pub text_ends : (s : Seen) (bytes : List ℕ) → ReadsTo script_limit s.script.told_before s.script.told_now bytes → (settings : Settings) → WordsSay s.words settings → IsOrderly s → (ending : Ending)
+    → RunsText settings.epoch bytes s.files s.out ending ⊎ IsTextEnding bytes s.files s.out ending
     → IsEndingOf ending s
-text_ends s bytes reads workers day says orderly ending (inl h) = record {
-  cause = loaded_causes s bytes reads workers day says h.script h.accepted ending h.ends;
+text_ends s bytes reads settings says orderly ending (inl h) = record {
+  cause = loaded_causes s bytes reads settings says h.script h.accepted ending h.ends;
   read = orderly.read;
-  asked = asked_in_order s bytes reads workers day says h.script h.accepted h.asks;
+  asked = asked_in_order s bytes reads settings says h.script h.accepted h.asks;
   files = orderly.files;
-  usage = λ u. absurd (u workers day says);
+  usage = λ u. absurd (u settings says);
   read_later = orderly.read_later;
   filed_later = orderly.filed_later;
   put_later = orderly.put_later;
 }
-text_ends s bytes reads workers day says orderly ending (inr h) = record {
-  cause = refusal-causes s bytes reads ending h.keeps h.says;
+text_ends s bytes reads settings says orderly ending (inr h) = record {
+  cause = refusal-causes s bytes reads settings says ending h.keeps h.says;
   read = orderly.read;
   asked = nothing_asked s h.asks;
   files = orderly.files;
-  usage = λ u. absurd (u workers day says);
+  usage = λ u. absurd (u settings says);
   read_later = orderly.read_later;
   filed_later = orderly.filed_later;
   put_later = orderly.put_later;

@@ -1,5 +1,6 @@
 pub mod Answers
 pub mod EndsSeen
+pub mod Inputs
 pub mod Statements
 pub mod Runs
 pub mod StepOutcomes

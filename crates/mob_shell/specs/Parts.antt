@@ -1,5 +1,5 @@
 -- What the parts of a run leave.
-use Rattle.std.specs.Prelude.{◌≡◌, ◌≢◌, ◌⊎◌, ◌+◌, ℕ, ℤ, List, [], Ok, Err, Option, Some, None, IfSome, take, slice_get}
+use Rattle.std.specs.Prelude.{◌≡◌, ◌≢◌, ◌⊎◌, ◌+◌, ℕ, ℤ, List, [], Ok, Err, Option, Some, None, take, slice_get}
 use Rattle.std.specs.Io.KnownBytes.{Appends, Keeps}
 use Rattle.mob_outside.specs.Faults.{Rose}
 use Rattle.mob_outside.specs.Told.{Contents}
@@ -10,7 +10,7 @@ use Rattle.mob_typed.specs.Statements.{ScriptOut, StatementOut}
 use Rattle.mob_ast.specs.declared.refusal.Kind.TheVariants.{NoMemory as OutOfMemory}
 use Rattle.mob_ast.specs.declared.refusal.Refusal.{Refusal}
 use Rattle.mob_accept.specs.Accepts.{IsAccepted, IsTextRefused}
-use Rattle.mob_load.specs.Fronts.{AsksForSome, IsAskedLast}
+use Rattle.mob_load.specs.Fronts.{AsksForSome, IsAskedLast, OnFiles}
 use Rattle.mob_load.specs.Checks.{checks_of}
 use Rattle.mob_load.specs.Loads.{Halt, refused, table_refused, copied_files, LoadsScript, Reaches, nothing_loaded}
 use Rattle.mob_load.specs.declared.program.Program.{Program}
@@ -66,20 +66,20 @@ RunEnds day script program out WriteFault = RanShort day script program out
 RunEnds day script program out NoMemory = RanSome day script program out
 RunEnds day script program out _ = ⊥
 
--- the script is loaded, where the files are told, and its statements leave this
+-- the script is loaded, on its files, and its statements leave this
 pub record LoadsAndLeaves (day : ℤ) (script : ScriptOut) (files : Option Contents) (Left : Program → Type 0) : Type 0 where
   pub program : Program
-  pub loads : IfSome files (λ m. LoadsScript day m script (Ok program))
+  pub loads : OnFiles (copied_files script.statements) files (λ m. LoadsScript day m script (Ok program))
   pub left : Left program
 
--- the file of this name is refused so, where the files are told, and it was asked for last
+-- the file of this name is refused so, on its files, and it was asked for last
 pub record IsTableHalt (day : ℤ) (script : ScriptOut) (files : FilesSeen) (halt : Halt) (name : List ℕ) : Type 0 where
-  pub loads : IfSome files.told_before (λ m. LoadsScript day m script (Err halt))
+  pub loads : OnFiles (copied_files script.statements) files.told_before (λ m. LoadsScript day m script (Err halt))
   pub last : IsAskedLast (copied_files script.statements) files.asked_before files.asked_now name
 
--- the file of this name is reached, where the files are told, it was asked for last, and the count of faults rose
+-- the file of this name is reached, on its files, it was asked for last, and the count of faults rose
 pub record MissesFile (day : ℤ) (script : ScriptOut) (files : FilesSeen) (name : List ℕ) : Type 0 where
-  pub reaches : IfSome files.told_before (λ m. Reaches day m (checks_of script) nothing_loaded name)
+  pub reaches : OnFiles (copied_files script.statements) files.told_before (λ m. Reaches day m (checks_of script) nothing_loaded name)
   pub last : IsAskedLast (copied_files script.statements) files.asked_before files.asked_now name
   pub rose : Rose files.faults_before files.faults_now
 
@@ -90,7 +90,7 @@ LoadEnds day script files out (Overflow number rows place formula) = LoadsAndLea
 LoadEnds day script files out WriteFault = LoadsAndLeaves day script files.told_before (λ p. RanShort day script p out)
 LoadEnds day script files out NoMemory = Keeps out.told_before out.told_now ⊎ LoadsAndLeaves day script files.told_before (λ p. RanSome day script p out)
 LoadEnds day script files out (TableRefused name kind rec field) = IsTableHalt day script files (table_refused name kind rec field) name × Keeps out.told_before out.told_now
-LoadEnds day script files out (ScriptRefused e) = IfSome files.told_before (λ m. LoadsScript day m script (Err (refused e))) × Keeps out.told_before out.told_now
+LoadEnds day script files out (ScriptRefused e) = OnFiles (copied_files script.statements) files.told_before (λ m. LoadsScript day m script (Err (refused e))) × Keeps out.told_before out.told_now
 LoadEnds day script files out (ReadFault (Some name)) = MissesFile day script files name × Keeps out.told_before out.told_now
 LoadEnds day script files out (ReadFault None) = ⊥
 LoadEnds day script files out Usage = ⊥

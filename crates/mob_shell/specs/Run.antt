@@ -8,7 +8,8 @@ use Rattle.mob_accept.specs.Accepts.{script_limit}
 use Rattle.mob_ending.specs.Lines.{note_line, status_of}
 use Rattle.mob_ending.specs.declared.ending.Ending.{Ending}
 use Rattle.mob_ending.specs.declared.ending.Ending.TheVariants.{ReadFault}
-use Rattle.mob_shell.specs.Ending.{AsksInOrder, IsCausedBy, CutsShort, MustEnd, IsDue, IsFaultless, IsOverflow, IsReadFault, HasRefusedScript, HasRefusedTable, IsUsage, OnTold, Seen, WritesAll, WroteSome}
+use Rattle.mob_shell.specs.Ending.{AsksInOrder, IsCausedBy, CutsShort, MustEnd, IsFaultless, IsOverflow, IsReadFault, HasRefusedScript, HasRefusedTable, IsUsage, OnDue, WritesAll, WroteSome}
+use Rattle.mob_shell.specs.Inputs.{Seen}
 
 -- the status and the note are those of this ending
 pub record EndsSo (ending : Ending) (status : ℕ) (Noted : List ℕ → Type 0) : Type 0 where
@@ -45,12 +46,13 @@ pub record IsRun (status : ℕ) (s : Seen) (Noted : List ℕ → Type 0) : Type 
   pub silent : (status ≡ 2) ⊎ ((status ≡ 3) ⊎ ((status ≡ 6) ⊎ (status ≡ 7))) → Keeps s.out.told_before s.out.told_now
   -- under 2 nothing is taken of the script
   pub untouched : status ≡ 2 → Keeps s.script.told_before s.script.told_now
-  -- The other way, for a script and files that are told, where no count of the script, the files and `out` rose: the definitions ask
-  -- for an ending, and the status and the note are its own; so they are wherever the definitions ask for one. Want of memory is free.
-  pub due : IsFaultless s → OnTold s (λ bytes files. (ending : Ending) × IsDue s.words bytes files ending × EndsSo ending status Noted) ⊎ (status ≡ 5)
+  -- The other way, where no count of the script, the files and `out` rose, and what is read is known (a script that is told, and files
+  -- that are told or of which it copies none): the definitions ask for an ending, and the status and the note are its own; so they are
+  -- wherever the definitions ask for one. Want of memory is free.
+  pub due : IsFaultless s → OnDue s (λ ending. EndsSo ending status Noted) ⊎ (status ≡ 5)
   pub complete : (ending : Ending) → MustEnd s ending → IsFaultless s → EndsSo ending status Noted ⊎ (status ≡ 5)
-  -- where a file is not there, which the files count as a fault, the status is 3, if neither the script nor `out` failed
-  pub missing : (file : List ℕ) → MustEnd s (ReadFault (Some file)) → (Rose s.script.faults_before s.script.faults_now → ⊥) → (Rose s.out.faults_before s.out.faults_now → ⊥) → (status ≡ 3) ⊎ (status ≡ 5)
+  -- where a file is not there, which the files count as a fault, the status is 3, if the script did not fail
+  pub missing : (file : List ℕ) → MustEnd s (ReadFault (Some file)) → (Rose s.script.faults_before s.script.faults_now → ⊥) → (status ≡ 3) ⊎ (status ≡ 5)
   -- under every status: at most one byte past the limit is taken from the script, the files are asked for the names of the
   -- script's COPY statements alone, in order, the files that are told stay as they were, and no count of faults falls
   pub reads : ReadsPart script_limit s.script.told_before s.script.told_now

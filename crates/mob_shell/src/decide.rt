@@ -1,7 +1,8 @@
 // What a run does before its note.
 ghost use Rattle.std.specs.Prelude.{map, string_bytes};
 ghost use Rattle.mob_shell.specs.EndsSeen.{files_seen, stream_seen};
-ghost use Rattle.mob_shell.specs.Ending.{IsEndingOf, seen};
+ghost use Rattle.mob_shell.specs.Ending.{IsEndingOf};
+ghost use Rattle.mob_shell.specs.Inputs.{seen};
 
 use crate::judge::run_text;
 use mob_accept::SCRIPT_LIMIT;

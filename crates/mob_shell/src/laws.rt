@@ -1,6 +1,6 @@
 //! What holds of every run. No code runs here.
 ghost use Rattle.mob_shell.specs.StepOutcomes.{HasOneStatementFault, HasOneStep, NeverRunsAndStops, OneAnswer};
-ghost use Rattle.mob_shell.specs.Outcomes.{HasOneEnding, HasOneHalt, HasOneProgram, HasOneStop, HasOneText, NeverEndsAndStops, NeverProgramAndHalted, NeverScriptAndRefused};
+ghost use Rattle.mob_shell.specs.Outcomes.{HasOneEnding, HasOneHalt, HasOneProgram, HasOneStop, HasOneText, NeverEndsAndStops, NeverProgramAndHalted};
 
 /// A query has one answer, or one fault.
 pub fn one_answer()
@@ -19,14 +19,12 @@ pub fn one_step()
     one_answer();
 }
 
-/// Words, a script and files make one program, or one refusal.
+/// Settings and what is read by them make one program, or one refusal.
 pub fn one_program()
     ensures program { HasOneProgram }
     ensures halt { HasOneHalt }
     ensures apart { NeverProgramAndHalted }
-    ensures refused { NeverScriptAndRefused }
 {
-    mob_words::laws::one_setting();
     mob_accept::laws::one_script();
     mob_load::laws::one_loading();
 }
@@ -41,10 +39,11 @@ pub fn one_text()
     one_step();
 }
 
-/// What the definitions say of words, a script and files asks for one ending: its status, and what its line names.
+/// What the definitions say of settings and of what is read by them asks for one ending: its status, and what its line names.
 pub fn one_ending()
     ensures ending { HasOneEnding }
 {
+    mob_accept::laws::one_script();
     mob_accept::laws::one_text_refusal();
     one_program();
     one_text();

@@ -1,14 +1,15 @@
 // The top call.
 ghost use Rattle.std.specs.Prelude.{map, string_bytes};
 ghost use Rattle.mob_shell.specs.EndsSeen.{files_seen, stream_seen};
-ghost use Rattle.mob_shell.specs.Ending.{seen};
+ghost use Rattle.mob_shell.specs.Inputs.{seen};
 ghost use Rattle.mob_shell.specs.Run.{IsRun};
 ghost use Rattle.mob_outside.specs.Streams.{Puts};
 
 use crate::decide::decide;
-use crate::laws::one_ending;
+use crate::laws::{one_ending, one_program};
 use mob_ending::tell;
 use mob_outside::{Files, Gate, Sink, Source};
+use mob_words::laws::one_setting;
 use std::alloc::Global;
 use std::thread::Threads;
 
@@ -40,6 +41,8 @@ pub fn run<R: Threads + Sync, S: Source, F: Files, K: Sink, E: Sink, G: Gate>(
         (seen (map string_bytes words.now) (stream_seen S.left S.faults script.old script.new) (files_seen F.files F.asked F.faults files.old files.new) (stream_seen K.held K.faults out.old out.new))
         (λ line. Puts line (E.held notes.old) (E.held notes.new) (E.faults notes.old) (E.faults notes.new)) }
 {
+    one_setting();
+    one_program();
     one_ending();
     let ending = decide(alloc, words, script, files, out);
     tell(notes, &ending);

@@ -1,5 +1,5 @@
 -- The command is simple, and no option has a rule on another.
-use Rattle.std.proofs.Common.{◌≡◌, ◌∙◌, refl, sym, subst, List, [], ◌∷◌, true, ap}
+use Rattle.std.proofs.Common.{◌≡◌, ◌∙◌, refl, sym, subst, List, [], true, ap}
 use Rattle.clap.specs.Words.{App, Text, IsAmong, fault_of, is_simple, is_simple_and_free}
 use Rattle.clap.specs.declared.error.kind.ErrorKind.{ErrorKind}
 use Rattle.clap.proofs.OnLiterals.{clap_on_literals}

@@ -4,6 +4,7 @@ use Rattle.clap.specs.Words.{App, Rule, Text, fault_of, first_of, matches_of, ne
 use Rattle.mob_scalar.specs.Calendar.{standard_day}
 use Rattle.mob_scalar.specs.Epochs.{epochs}
 use Rattle.mob_numeral.specs.Verdict.{Lit}
+use Rattle.mob_words.specs.declared.options.Settings.{Settings}
 
 -- the option `--NAME VALUE`
 abbrev pub option : Text → Rule
@@ -35,8 +36,8 @@ abbrev pub IsEpoch : Option Text → ℤ → Type 0
 IsEpoch None day = day ≡ standard_day
 IsEpoch (Some text) day = Lit epochs text (Ok day)
 
--- the words are taken, and say this number of workers and this day as the epoch
-pub record WordsSay (words : List Text) (workers : ℕ) (epoch : ℤ) : Type 0 where
+-- the words are taken, and say these settings: the number of workers, and the day of the epoch
+pub record WordsSay (words : List Text) (settings : Settings) : Type 0 where
   pub taken : IsTaken words
-  pub count : IsWorkers (option_value (codes "workers") words) workers
-  pub day : IsEpoch (option_value (codes "epoch") words) epoch
+  pub count : IsWorkers (option_value (codes "workers") words) settings.workers
+  pub day : IsEpoch (option_value (codes "epoch") words) settings.epoch

@@ -1,6 +1,7 @@
 // What the words of a command line say.
 ghost use Rattle.std.specs.Prelude.{◌≡◌, ℕ, ℤ, IfOk, IfSome, IsNone, map, option_map, string_bytes};
 ghost use Rattle.mob_words.specs.CommandLine.{IsEpoch, IsWorkers, WordsSay};
+ghost use Rattle.mob_words.specs.declared.options.Settings.{Settings as SettingsSeen};
 
 use crate::command::given;
 use crate::options::Settings;
@@ -54,8 +55,8 @@ fn epoch_of(value: Option<&str>) -> Option<Epoch>
 /// None exactly where the words are not taken: another word, an option twice or without its value, or a value that is
 /// none. Whether `clap` takes the words of this command is that crate's stated meaning.
 pub fn settings(alloc: Global, words: &[String]) -> Result<Option<Settings>, AllocError>
-    ensures said { IfOk result (λ o. IfSome o (λ s. WordsSay (map string_bytes words.now) s.workers s.epoch)) }
-    ensures refused { IfOk result (λ o. IsNone o → (workers : ℕ) (epoch : ℤ) → WordsSay (map string_bytes words.now) workers epoch → ⊥) }
+    ensures said { IfOk result (λ o. IfSome o (WordsSay (map string_bytes words.now))) }
+    ensures refused { IfOk result (λ o. IsNone o → (s : SettingsSeen) → WordsSay (map string_bytes words.now) s → ⊥) }
 {
     let Some(given) = given(alloc, words)? else {
         return Ok(None);

@@ -1,6 +1,7 @@
-use Rattle.mob_load.specs.Loads.{loaded_of}
+use Rattle.mob_load.specs.Checks.{file}
+use Rattle.mob_load.specs.Loads.{LoadsCheck, LoadsTo, loaded_of}
 use Rattle.mob_load.proofs.Narrow.{made_narrow, ok_on, same_narrow}
-use Rattle.mob_load.proofs.Steps.{may_ask_some}
+use Rattle.mob_load.proofs.Steps.{may_ask_some, of_told}
 use Rattle.mob_load.proofs.checking.run_check.Goals as goal
 
 pub returns-in-Literal-clause-narrow : goal.returns-in-Literal-clause-narrow
@@ -19,3 +20,9 @@ returns-in-File-clause-narrow g c = ok_on c.load_file.result (same_narrow (loade
 
 pub returns-in-File-clause-some : goal.returns-in-File-clause-some
 returns-in-File-clause-some g c = rw c.in-File.is (may_ask_some c.in-File.name.now (g.F.Files.asked c.args.files.now) (g.F.Files.asked c.load_file.new.files) c.load_file.ensures.may_ask)
+
+pub returns-in-File-clause-loads : goal.returns-in-File-clause-loads
+returns-in-File-clause-loads g c =
+    rw c.in-File.is
+        (of_told c.in-File.name.now _ (g.F.Files.files c.args.files.now) (λ m. LoadsTo c.load_file.result (loaded_of c.load_file.new.loading) (LoadsCheck c.args.epoch.now m (file c.in-File.table c.in-File.name.now) (loaded_of c.args.loading.now)))
+            c.load_file.ensures.loads)

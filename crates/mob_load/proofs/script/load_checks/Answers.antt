@@ -4,13 +4,13 @@ use Rattle.mob_load.specs.Checks.{check_seen}
 use Rattle.mob_load.specs.declared.check.Check.{Check}
 use Rattle.mob_load.specs.Loads.{IsNarrow, loaded_of}
 use Rattle.mob_load.proofs.Narrow.{check_narrow, nothing_narrow}
-use Rattle.mob_load.proofs.Asked.{asked_on, asked_some, fault_last, asked_all, all_some, none_asked}
+use Rattle.mob_load.proofs.Asked.{asked_on, asked_some, fault_last, files_here, asked_all, all_some, none_asked}
 use Rattle.mob_load.proofs.Steps.{all_left, none_left, check_loads, check_stops, keeps_same, keeps_on, rose_before}
 use Rattle.mob_load.proofs.script.load_checks.Goals as goal
 
 pub loop-check-init : goal.loop-check-init
 loop-check-init g c = record {
-  left = all_left c.args.epoch.now (map check_seen c.args.checks.now) (g.F.Files.files c.args.files.now) (map check_seen c.args.checks.now) (loaded_of c.nothing_loaded-loading.result) refl c.nothing_loaded-loading.ensures;
+  left = λ m are. all_left c.args.epoch.now m (map check_seen c.args.checks.now) (map check_seen c.args.checks.now) (loaded_of c.nothing_loaded-loading.result) refl c.nothing_loaded-loading.ensures;
   files = keeps_same (g.F.Files.files c.args.files.now);
   asked = none_asked (g.F.Files.asked c.args.files.now);
   narrow = nothing_narrow (loaded_of c.nothing_loaded-loading.result) c.nothing_loaded-loading.ensures;
@@ -25,8 +25,9 @@ loop-check-preserved g c =
     let here : map check_seen (drop i all) ≡ check_seen x ∷ map check_seen (drop (i + 1) all) =
     ap (map check_seen) (drop_more all i x c.loop-check-test.true ∙ ap (λ y. y ∷ drop (i + 1) all) (sym c.check-item.is)) in
     record {
-      left = check_loads c.args.epoch.now (map check_seen all) (g.F.Files.files c.args.files.now) (g.F.Files.files c.loop-check.files) c.loop-check.invariant.files
-          (map check_seen (drop i all)) (map check_seen (drop (i + 1) all)) (check_seen x) here (loaded_of c.loop-check.loading) (loaded_of c.run_check.new.loading) c.loop-check.invariant.left c.in-Ok.ensures.loads;
+      left = λ m are. check_loads c.args.epoch.now m (map check_seen all) (map check_seen (drop i all)) (map check_seen (drop (i + 1) all)) (check_seen x) here (loaded_of c.loop-check.loading)
+          (loaded_of c.run_check.new.loading) (c.loop-check.invariant.left m are)
+          (c.in-Ok.ensures.loads m (files_here all i x c.loop-check-test.true c.check-item.is (g.F.Files.files c.args.files.now) (g.F.Files.files c.loop-check.files) m c.loop-check.invariant.files are));
       files = keeps_on (g.F.Files.files c.args.files.now) (g.F.Files.files c.loop-check.files) (g.F.Files.files c.run_check.new.files) c.loop-check.invariant.files c.in-Ok.ensures.files;
       asked = asked_on all i x c.loop-check-test.true c.check-item.is (g.F.Files.asked c.args.files.now) (g.F.Files.asked c.loop-check.files) (g.F.Files.asked c.run_check.new.files)
           c.loop-check.invariant.asked c.in-Ok.ensures.asked;
@@ -41,9 +42,9 @@ returns-in-Err-clause-stopped g c =
     let x = c.check-item.result in
     let here : map check_seen (drop i all) ≡ check_seen x ∷ map check_seen (drop (i + 1) all) =
     ap (map check_seen) (drop_more all i x c.loop-check-test.true ∙ ap (λ y. y ∷ drop (i + 1) all) (sym c.check-item.is)) in
-    check_stops c.args.epoch.now (map check_seen all) (g.F.Files.files c.args.files.now) (g.F.Files.files c.loop-check.files) c.loop-check.invariant.files
-    (map check_seen (drop i all)) (map check_seen (drop (i + 1) all)) (check_seen x) here (loaded_of c.loop-check.loading) (loaded_of c.run_check.new.loading) c.in-Err.end c.loop-check.invariant.left
-    c.in-Err.ensures.loads c.in-Err.ensures.fault
+    λ m are. check_stops c.args.epoch.now m (map check_seen all) (map check_seen (drop i all)) (map check_seen (drop (i + 1) all)) (check_seen x) here (loaded_of c.loop-check.loading)
+        (loaded_of c.run_check.new.loading) (c.loop-check.invariant.left m are) c.in-Err.end
+        (c.in-Err.ensures.loads m (files_here all i x c.loop-check-test.true c.check-item.is (g.F.Files.files c.args.files.now) (g.F.Files.files c.loop-check.files) m c.loop-check.invariant.files are)) c.in-Err.ensures.fault
 
 pub returns-in-Err-clause-cause : goal.returns-in-Err-clause-cause
 returns-in-Err-clause-cause g c =
@@ -65,8 +66,8 @@ returns-in-Err-clause-files g c =
 
 pub returns-clause-loaded : goal.returns-clause-loaded
 returns-clause-loaded g c =
-    none_left c.args.epoch.now (map check_seen c.args.checks.now) (g.F.Files.files c.args.files.now) (map check_seen (drop c.loop-check.check-index c.args.checks.now)) (loaded_of c.loop-check.loading)
-    (ap (map check_seen) (drop_all c.loop-check.check-index c.args.checks.now c.loop-check-test.false)) c.loop-check.invariant.left
+    λ m are. none_left c.args.epoch.now m (map check_seen c.args.checks.now) (map check_seen (drop c.loop-check.check-index c.args.checks.now)) (loaded_of c.loop-check.loading)
+        (ap (map check_seen) (drop_all c.loop-check.check-index c.args.checks.now c.loop-check-test.false)) (c.loop-check.invariant.left m are)
 
 pub returns-clause-asked : goal.returns-clause-asked
 returns-clause-asked g c =

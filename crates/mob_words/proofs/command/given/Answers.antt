@@ -1,5 +1,5 @@
-use Rattle.std.proofs.Common.{◌≡◌, ◌∙◌, ap, codes, inl, inr, map, string_bytes, List, ℕ, Option}
-use Rattle.clap.specs.Words.{App, Text, app_of, first_of, found_of, is_simple, is_simple_and_free, matches_of}
+use Rattle.std.proofs.Common.{◌≡◌, ◌∙◌, ap, codes, inl, inr, map, string_bytes}
+use Rattle.clap.specs.Words.{App, app_of, first_of, found_of, is_simple, is_simple_and_free, matches_of}
 use Rattle.clap.proofs.WalkLemmas.{first_value-rows}
 use Rattle.mob_words.specs.CommandLine.{command, option_value}
 use Rattle.mob_words.proofs.Facts.{command_is_simple, command_is_free, taken, not_taken}
