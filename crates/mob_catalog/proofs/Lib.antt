@@ -1,3 +1,4 @@
+mod Changed
 mod FirstFaults
 mod RecordCounts
 mod Refusals

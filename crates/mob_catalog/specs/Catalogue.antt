@@ -1,41 +1,56 @@
 -- The tables of a script as they grow.
-use Rattle.std.specs.Prelude.{◌++◌, ◌∷◌, ℕ, zero, suc, List, []}
+use Rattle.std.specs.Prelude.{◌++◌, ◌∷◌, ℕ, zero, suc, List, [], length, option_map, slice_get, unwrap_or}
 use Rattle.mob_value.specs.declared.store.Store.{Store}
 use Rattle.mob_value.specs.declared.store.Table.{Table}
 use Rattle.mob_value.specs.declared.value.Value.{Value}
 use Rattle.mob_catalog.specs.TableFile.{Column}
+use Rattle.mob_catalog.specs.declared.catalog.TableHead.{TableHead}
 
--- the rows of the tables with the constants, and the columns of each table
+-- the rows of the tables with the constants; and of each table its columns and which of its rows are there
 pub record Catalogue : Type 0 where
   pub store : Store
-  pub columns : List (List Column)
+  pub heads : List TableHead
 
 -- no table, and these constants
 abbrev pub new_catalogue : List Value → Catalogue
-new_catalogue consts = record { store = record { tables = []; consts = consts }; columns = [] }
+new_catalogue consts = record { store = record { tables = []; consts = consts }; heads = [] }
 
 -- one more table of these columns, without rows
 abbrev pub with_empty_table : List Column → Catalogue → Catalogue
 with_empty_table columns c = record {
-  store = record { tables = c.store.tables ++ record { rows = [] } ∷ []; consts = c.store.consts };
-  columns = c.columns ++ columns ∷ [];
+  store = record c.store { tables = c.store.tables ++ record { rows = [] } ∷ [] };
+  heads = c.heads ++ record { columns = columns; live = [] } ∷ [];
 }
+
+-- the list with one entry changed; the same list, where there is no such entry
+abbrev pub with_changed : {A : Type 0} → ℕ → (A → A) → List A → List A
+with_changed n f [] = []
+with_changed zero f (x ∷ xs) = f x ∷ xs
+with_changed (suc n) f (x ∷ xs) = x ∷ with_changed n f xs
+
+-- how many rows were put into the table of this number
+abbrev pub rows_put : ℕ → List Table → ℕ
+rows_put n tables = unwrap_or (option_map (λ (t : Table). length t.rows) (slice_get tables n)) 0
 
 -- the table with one more row behind
 abbrev pub with_last_row : List Value → Table → Table
 with_last_row row table = record { rows = table.rows ++ row ∷ [] }
 
--- the same tables, but for one more row in the table of this number
-abbrev pub with_row_at : ℕ → List Value → List Table → List Table
-with_row_at n row [] = []
-with_row_at zero row (table ∷ tables) = with_last_row row table ∷ tables
-with_row_at (suc n) row (table ∷ tables) = table ∷ with_row_at n row tables
+-- its head with one more row that is there
+abbrev pub with_live_row : ℕ → TableHead → TableHead
+with_live_row number head = record head { live = head.live ++ number ∷ [] }
 
+-- One more row in the table of this number. Its own number is the count of the rows that were put into the table before it.
 abbrev pub with_row : ℕ → List Value → Catalogue → Catalogue
-with_row n row c = record { store = record { tables = with_row_at n row c.store.tables; consts = c.store.consts }; columns = c.columns }
+with_row n row c = record {
+  store = record c.store { tables = with_changed n (with_last_row row) c.store.tables };
+  heads = with_changed n (with_live_row (rows_put n c.store.tables)) c.heads;
+}
 
 -- the columns of the table of this number
-abbrev pub table_columns : ℕ → List (List Column) → List Column
-table_columns n [] = []
-table_columns zero (columns ∷ more) = columns
-table_columns (suc n) (columns ∷ more) = table_columns n more
+abbrev pub table_columns : ℕ → Catalogue → List Column
+table_columns n c = unwrap_or (option_map (λ (h : TableHead). h.columns) (slice_get c.heads n)) []
+
+-- The numbers of the rows of the table of this number that are there, rising; a row is found by its number, which it keeps.
+abbrev pub live_rows : ℕ → Catalogue → List ℕ
+live_rows n c = unwrap_or (option_map (λ (h : TableHead). h.live) (slice_get c.heads n)) []

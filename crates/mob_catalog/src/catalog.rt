@@ -1,6 +1,7 @@
 // The tables of a script.
-ghost use Rattle.std.specs.Prelude.{◌≡◌, ◌<◌, length, OnErr, OnOk};
-ghost use Rattle.mob_catalog.specs.Catalogue.{table_columns, new_catalogue, with_row, with_empty_table};
+ghost use Rattle.std.specs.Prelude.{◌≡◌, ◌<◌, ℕ, List, length, IfOk, OnErr, OnOk};
+ghost use Rattle.mob_catalog.specs.declared.catalog.TableHead.{TableHead as TableHeadSeen};
+ghost use Rattle.mob_catalog.specs.Catalogue.{live_rows, new_catalogue, rows_put, table_columns, with_changed, with_empty_table, with_last_row, with_live_row, with_row};
 
 use mob_ast::SqlType;
 use mob_list::items::Items;
@@ -10,15 +11,24 @@ use std::alloc::{AllocError, Global};
 use std::marker::Model;
 use std::mem;
 
-/// The tables of a script as they grow, each with its columns, and the script's constants. Tables have the numbers from 0 in
-/// the order in which they are made.
+/// What is known of a table beside its rows.
+#[derive(Drop)]
+pub struct TableHead {
+    /// Its columns, in order.
+    pub columns: Items<(Text, SqlType)>,
+    /// The numbers of the rows that are there, rising.
+    pub live: Items<u32>,
+}
+
+/// The tables of a script as they grow, each with its columns and which of its rows are there, and the script's constants. Tables
+/// have the numbers from 0 in the order in which they are made, and so have the rows of a table, which keep their numbers.
 ///
 /// The limits on tables, columns and rows are no part of it: who makes tables and rows keeps them.
 #[derive(Drop)]
 pub struct Catalog {
     alloc: Global,
     store: Store,
-    columns: Vec<Items<(Text, SqlType)>>,
+    heads: Vec<TableHead>,
 }
 
 impl Model for Catalog {
@@ -27,9 +37,61 @@ impl Model for Catalog {
 
     ghost Value = { Catalogue };
 
-    ghost view = { λ c. record { store = c.store; columns = c.columns.items } };
+    ghost view = { λ c. record { store = c.store; heads = c.heads.items } };
 
-    ghost invariant = { λ c. length c.columns.items ≡ length c.store.tables };
+    ghost invariant = { λ c. length c.heads.items ≡ length c.store.tables };
+}
+
+// How many rows were put into the table of this number. One with more rows than have numbers is no longer in memory.
+fn next_number(tables: &[Table], table: u32) -> Result<u32, AllocError>
+    ensures number { IfOk result (λ number. number ≡ rows_put table tables.now) }
+{
+    let count = match tables.get(table as usize) {
+        Some(table) => table.rows.len(),
+        None => 0,
+    };
+    match u32::try_from(count) {
+        Ok(number) => Ok(number),
+        Err(_) => Err(AllocError),
+    }
+}
+
+// Puts a row behind those of a table that is there.
+fn push_row(
+    alloc: Global,
+    tables: &mut Items<Table>,
+    table: u32,
+    row: Items<Value>,
+) -> Result<(), AllocError>
+    requires there { table < length tables.old }
+    ensures added { OnOk result (tables.new ≡ with_changed table (with_last_row row) tables.old) }
+    ensures unchanged { OnErr result (tables.new ≡ tables.old) }
+{
+    let nothing = Items::new(alloc);
+    let mut all = mem::replace(tables, nothing).into_vec();
+    let pushed = all[table as usize].rows.push(row);
+    *tables = Items::from_vec(all);
+    pushed
+}
+
+// Says that one more row of a table is there.
+fn push_live(heads: &mut Vec<TableHead>, table: u32, number: u32) -> Result<(), AllocError>
+    requires there { table < length heads.old.items }
+    ensures added { OnOk result (heads.new.items ≡ with_changed table (with_live_row number) heads.old.items) }
+    ensures unchanged { OnErr result (heads.new.items ≡ heads.old.items) }
+{
+    heads[table as usize].live.push(number)
+}
+
+// Takes back that one more row of a table is there.
+fn pop_live(alloc: Global, heads: &mut Vec<TableHead>, table: u32)
+    requires there { table < length heads.old.items }
+    ensures taken { (before : List TableHeadSeen) (number : ℕ) → heads.old.items ≡ with_changed table (with_live_row number) before → heads.new.items ≡ before }
+{
+    let head = &mut heads[table as usize];
+    let mut live = mem::replace(&mut head.live, Items::new(alloc)).into_vec();
+    let _ = live.pop();
+    head.live = Items::from_vec(live);
 }
 
 impl Catalog {
@@ -43,7 +105,7 @@ impl Catalog {
                 tables: Items::new(alloc),
                 consts,
             },
-            columns: Vec::new(alloc),
+            heads: Vec::new(alloc),
         }
     }
 
@@ -55,27 +117,35 @@ impl Catalog {
         let table = Table {
             rows: Items::new(self.alloc),
         };
-        self.columns.push(columns)?;
+        let live = Items::new(self.alloc);
+        self.heads.push(TableHead { columns, live })?;
         match self.store.tables.push(table) {
             Ok(()) => Ok(()),
             Err(error) => {
-                let _ = self.columns.pop();
+                let _ = self.heads.pop();
                 Err(error)
             }
         }
     }
 
-    /// Puts a row behind those of the table with this number. Where memory is refused the catalogue stays as it was.
+    /// Puts a row behind those of the table with this number; a table that is not there takes none. Where memory is refused the
+    /// catalogue stays as it was.
     pub fn add_row(&mut self, table: u32, row: Items<Value>) -> Result<(), AllocError>
-        requires there { table < length self.old.store.tables }
         ensures added { OnOk result (self.new ≡ with_row table row self.old) }
         ensures unchanged { OnErr result (self.new ≡ self.old) }
     {
-        let nothing = Items::new(self.alloc);
-        let mut tables = mem::replace(&mut self.store.tables, nothing).into_vec();
-        let pushed = tables[table as usize].rows.push(row);
-        self.store.tables = Items::from_vec(tables);
-        pushed
+        if table as usize >= self.heads.len() {
+            return Ok(());
+        }
+        let number = next_number(self.store.tables.as_slice(), table)?;
+        push_live(&mut self.heads, table, number)?;
+        match push_row(self.alloc, &mut self.store.tables, table, row) {
+            Ok(()) => Ok(()),
+            Err(error) => {
+                pop_live(self.alloc, &mut self.heads, table);
+                Err(error)
+            }
+        }
     }
 
     /// The tables with their rows, and the constants.
@@ -85,11 +155,24 @@ impl Catalog {
         &self.store
     }
 
-    /// The columns of the table with this number, in order.
+    /// The columns of the table with this number, in order; none where it is not there.
     pub fn columns(&self, table: u32) -> &[(Text, SqlType)]
-        requires there { table < length self.now.store.tables }
-        ensures same { result.now ≡ table_columns table self.now.columns }
+        ensures same { result.now ≡ table_columns table self.now }
     {
-        self.columns[table as usize].as_slice()
+        match self.heads.get(table as usize) {
+            Some(head) => head.columns.as_slice(),
+            None => &[],
+        }
+    }
+
+    /// The numbers of the rows of the table with this number that are there, rising; none where the table is not there. It takes no
+    /// memory.
+    pub fn live(&self, table: u32) -> &[u32]
+        ensures same { result.now ≡ live_rows table self.now }
+    {
+        match self.heads.get(table as usize) {
+            Some(head) => head.live.as_slice(),
+            None => &[],
+        }
     }
 }

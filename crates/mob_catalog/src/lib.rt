@@ -11,7 +11,7 @@ mod records;
 mod row;
 mod table_file;
 
-pub use catalog::Catalog;
+pub use catalog::{Catalog, TableHead};
 pub use constant_values::{constant, constants};
 pub use fault::{LoadFault, constant_refusal, refusal_kind};
 pub use table_file::{FILE_LIMIT, read_table};
