@@ -4,5 +4,6 @@ pub mod Loops
 pub mod Nodes
 pub mod Once
 pub mod Single
+pub mod Values
 pub mod QueryFaults
 mod Examples

@@ -4,6 +4,7 @@ pub mod Ordinary
 pub mod Lifted
 pub mod Operators
 pub mod Evaluation
+pub mod Values
 pub mod Held
 pub mod Faults
 pub mod Calculations

@@ -1,9 +1,8 @@
 ghost use Rattle.std.specs.Prelude.{◌≡◌, Ok, Err, IfOk, IfErr};
 ghost use Rattle.mob_eval.specs.Scene.{scene};
-ghost use Rattle.mob_eval.specs.Evaluation.{EvaluatesTo, ConditionGives, OnPassed};
+ghost use Rattle.mob_eval.specs.Evaluation.{EvaluatesTo, OnPassed};
 
 use crate::fault::EvalFault;
-use crate::logic::is_true_value;
 use crate::scene::View;
 use crate::walk::held_value;
 use mob_scalar::Epoch;
@@ -39,30 +38,6 @@ pub fn eval(
             Ok(value) => Ok(value),
             Err(_) => Err(EvalFault::NoMemory),
         },
-        Err(fault) => Err(fault),
-    }
-}
-
-/// Whether a typed expression is true on a tuple of rows, which are given as for `eval`. It is not where it is NULL.
-pub fn holds(
-    alloc: Global,
-    e: &TExpr,
-    store: &Store,
-    from: &[u32],
-    tuple: &[u32],
-    epoch: &Epoch,
-) -> Result<bool, EvalFault>
-    ensures truth { IfOk result (λ b. ConditionGives (scene store.now from.now tuple.now epoch.now) e.now b) }
-    ensures fault { IfErr result (OnPassed (λ f. EvaluatesTo (scene store.now from.now tuple.now epoch.now) e.now (Err f))) }
-{
-    let view = View {
-        store,
-        from,
-        tuple,
-        epoch,
-    };
-    match held_value(alloc, e, &view) {
-        Ok(held) => Ok(is_true_value(held.get())),
         Err(fault) => Err(fault),
     }
 }

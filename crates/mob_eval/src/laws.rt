@@ -1,9 +1,16 @@
 //! What holds of every expression. No code runs here.
 
 ghost use Rattle.mob_eval.specs.Outcomes.{HasOneOutcome};
+ghost use Rattle.mob_eval.specs.Values.{HasOneValue, EvaluatesToItsValue};
 
 /// An expression has one outcome on a tuple: one value, or one fault at one place. So where `eval` answers a value no part
 /// that it needed fails to fit, and where it answers `Passed` there is no value.
 pub fn one_outcome()
     ensures outcome { HasOneOutcome }
+{}
+
+/// An expression has at most one value on a tuple, whether or not its parts fit, and what it evaluates to is that value.
+pub fn one_value()
+    ensures value { HasOneValue }
+    ensures evaluated { EvaluatesToItsValue }
 {}

@@ -4,6 +4,7 @@
 mod apply;
 mod arithmetic;
 mod comparison;
+mod condition;
 mod evaluate;
 mod fault;
 mod held;
@@ -18,7 +19,8 @@ mod scene;
 mod temporal;
 mod walk;
 
-pub use evaluate::{eval, holds};
+pub use condition::holds;
+pub use evaluate::eval;
 pub use fault::EvalFault;
 pub use query_fault::QueryFault;
 pub use scene::View;

@@ -2,28 +2,59 @@
 ghost use Rattle.std.specs.Prelude.{◌≡◌, Ok, Err, IfOk, IfErr, map};
 ghost use Rattle.mob_typed.specs.Selects.{select_seen};
 ghost use Rattle.mob_eval.specs.QueryFaults.{OnTuple};
+ghost use Rattle.mob_join.specs.Query.{IsKept};
 ghost use Rattle.mob_shell.specs.Answers.{QueryAnswers};
 
 use mob_eval::QueryFault;
-use mob_join::{Query, kept};
+use mob_join::{Query, QueryParts, kept, outer};
+use mob_list::items::Items;
+use mob_plan::plan;
+use mob_scalar::Epoch;
 use mob_tail::{Answer, answer_to};
+use mob_typed::TypedSelect;
+use mob_value::Store;
 use std::alloc::Global;
 
-/// What a query answers, or its first fault: that of WHERE on the tuples in order, and then that of the select list and the keys on the
-/// kept ones.
-pub fn answered(alloc: Global, query: &Query<'_>) -> Result<Answer, QueryFault>
-    ensures names { IfOk result (λ answer. answer.names ≡ map (λ item. item.1) (select_seen query.now.select.now).items) }
-    ensures rows { IfOk result (λ answer. QueryAnswers (select_seen query.now.select.now) query.now.store.now query.now.epoch.now (Ok answer.rows)) }
-    ensures fault { IfErr result (OnTuple (λ f. QueryAnswers (select_seen query.now.select.now) query.now.store.now query.now.epoch.now (Err f))) }
+// The tuples that a query keeps by its plan, or its first fault.
+fn kept_tuples(
+    alloc: Global,
+    select: &TypedSelect,
+    store: &Store,
+    epoch: &Epoch,
+) -> Result<Items<Items<u32>>, QueryFault>
+    ensures kept { IfOk result (λ kept. IsKept (select_seen select.now) store.now epoch.now (Ok kept)) }
+    ensures fault { IfErr result (OnTuple (λ f. IsKept (select_seen select.now) store.now epoch.now (Err f))) }
 {
-    match kept(alloc, query) {
-        Ok(kept) => answer_to(
-            alloc,
-            query.select,
-            query.store,
-            kept.as_slice(),
-            query.epoch,
-        ),
+    let Ok(plan) = plan(alloc, select) else {
+        return Err(QueryFault::NoMemory);
+    };
+    let Ok(outer) = outer(alloc, select, &plan, store) else {
+        return Err(QueryFault::NoMemory);
+    };
+    let query = Query::new(QueryParts {
+        select,
+        plan: &plan,
+        store,
+        outer: outer.as_slice(),
+        epoch,
+    });
+    kept(alloc, &query)
+}
+
+/// What a query answers, or its first fault: that of WHERE on the tuples that its plan visits, in order, and then that of the select list
+/// and the keys on the kept ones.
+pub fn answered(
+    alloc: Global,
+    select: &TypedSelect,
+    store: &Store,
+    epoch: &Epoch,
+) -> Result<Answer, QueryFault>
+    ensures names { IfOk result (λ answer. answer.names ≡ map (λ item. item.1) (select_seen select.now).items) }
+    ensures rows { IfOk result (λ answer. QueryAnswers (select_seen select.now) store.now epoch.now (Ok answer.rows)) }
+    ensures fault { IfErr result (OnTuple (λ f. QueryAnswers (select_seen select.now) store.now epoch.now (Err f))) }
+{
+    match kept_tuples(alloc, select, store, epoch) {
+        Ok(kept) => answer_to(alloc, select, store, kept.as_slice(), epoch),
         Err(fault) => Err(fault),
     }
 }

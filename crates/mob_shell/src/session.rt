@@ -11,7 +11,6 @@ use crate::engine::{Engine, NoAnswer};
 use crate::rows::{copy_of_columns, put_constants, put_rows};
 use mob_catalog::Catalog;
 use mob_eval::QueryFault;
-use mob_join::Query;
 use mob_list::items::Items;
 use mob_load::Program;
 use mob_scalar::Epoch;
@@ -73,12 +72,7 @@ impl Session {
         ensures text { IfOk result (λ text. StatementWrites (session_day self.now) (session_state self.now) (query (select_seen select.now)) text.items) }
         ensures fault { IfErr result (OnFault (λ o. Stops (session_day self.now) (session_state self.now) (query (select_seen select.now)) (overflow_fault o))) }
     {
-        let query = Query {
-            select,
-            store: self.catalog.store(),
-            epoch: &self.epoch,
-        };
-        let answer = match answered(alloc, &query) {
+        let answer = match answered(alloc, select, self.catalog.store(), &self.epoch) {
             Ok(answer) => answer,
             Err(fault) => return Err(no_answer_by(fault)),
         };

@@ -7,6 +7,7 @@ use Rattle.mob_shell.proofs.answers.answered.Goals as goal
 
 pub returns-in-Err-clause-fault : goal.returns-in-Err-clause-fault
 returns-in-Err-clause-fault c =
-    let q = c.args.query.now in
-    let select = select_seen q.select.now in
-    of_query (λ f. IsKept select q.store.now q.epoch.now (Err f)) (λ f. QueryAnswers select q.store.now q.epoch.now (Err f)) (λ f h. inl h) c.in-Err.fault c.in-Err.ensures.fault
+    let select = select_seen c.args.select.now in
+    let store = c.args.store.now in
+    let day = c.args.epoch.now in
+    of_query (λ f. IsKept select store day (Err f)) (λ f. QueryAnswers select store day (Err f)) (λ f h. inl h) c.in-Err.fault c.in-Err.ensures.fault
