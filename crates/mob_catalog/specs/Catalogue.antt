@@ -48,9 +48,9 @@ with_row n row c = record {
 }
 
 -- the columns of the table of this number
-abbrev pub table_columns : ℕ → Catalogue → List Column
-table_columns n c = unwrap_or (option_map (λ (h : TableHead). h.columns) (slice_get c.heads n)) []
+abbrev pub table_columns : Catalogue → ℕ → List Column
+table_columns c n = unwrap_or (option_map (λ (h : TableHead). h.columns) (slice_get c.heads n)) []
 
 -- The numbers of the rows of the table of this number that are there, rising; a row is found by its number, which it keeps.
-abbrev pub live_rows : ℕ → Catalogue → List ℕ
-live_rows n c = unwrap_or (option_map (λ (h : TableHead). h.live) (slice_get c.heads n)) []
+abbrev pub live_rows : Catalogue → ℕ → List ℕ
+live_rows c n = unwrap_or (option_map (λ (h : TableHead). h.live) (slice_get c.heads n)) []

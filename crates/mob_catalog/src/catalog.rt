@@ -157,7 +157,7 @@ impl Catalog {
 
     /// The columns of the table with this number, in order; none where it is not there.
     pub fn columns(&self, table: u32) -> &[(Text, SqlType)]
-        ensures same { result.now ≡ table_columns table self.now }
+        ensures same { result.now ≡ table_columns self.now table }
     {
         match self.heads.get(table as usize) {
             Some(head) => head.columns.as_slice(),
@@ -168,7 +168,7 @@ impl Catalog {
     /// The numbers of the rows of the table with this number that are there, rising; none where the table is not there. It takes no
     /// memory.
     pub fn live(&self, table: u32) -> &[u32]
-        ensures same { result.now ≡ live_rows table self.now }
+        ensures same { result.now ≡ live_rows self.now table }
     {
         match self.heads.get(table as usize) {
             Some(head) => head.live.as_slice(),

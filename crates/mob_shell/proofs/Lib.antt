@@ -1,4 +1,4 @@
-mod Missing
+mod Putting
 mod OneAnswer
 mod OneStep
 mod Running

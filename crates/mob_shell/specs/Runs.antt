@@ -43,15 +43,15 @@ abbrev pub later_files : List (List (List Value)) → List (List (List Value))
 later_files [] = []
 later_files (rows ∷ files) = files
 
--- where a run stands behind a statement
-abbrev pub state_after : RunState → StatementOut → RunState
-state_after s nothing = s
-state_after s (new_table t name columns) = record { catalogue = with_empty_table columns s.catalogue; files = s.files }
-state_after s (new_index t c name) = s
-state_after s (new_rows t rows places) = record { catalogue = with_all_rows t (map (inserted_row s.catalogue.store.consts) rows) s.catalogue; files = s.files }
-state_after s (rows_from t name) = record { catalogue = with_all_rows t (next_rows s.files) s.catalogue; files = later_files s.files }
-state_after s (query q) = s
-state_after s (plan_of q) = s
+-- What a statement leaves: where a run stands behind it, which stood at s before. A change is told by the fields that change.
+abbrev pub StatementLeaves : ℤ → RunState → StatementOut → RunState → Type 0
+StatementLeaves day s nothing t = t ≡ s
+StatementLeaves day s (new_table n name columns) t = t ≡ record s { catalogue = with_empty_table columns s.catalogue }
+StatementLeaves day s (new_index n c name) t = t ≡ s
+StatementLeaves day s (new_rows n rows places) t = t ≡ record s { catalogue = with_all_rows n (map (inserted_row s.catalogue.store.consts) rows) s.catalogue }
+StatementLeaves day s (rows_from n name) t = t ≡ record s { catalogue = with_all_rows n (next_rows s.files) s.catalogue; files = later_files s.files }
+StatementLeaves day s (query q) t = t ≡ s
+StatementLeaves day s (plan_of q) t = t ≡ s
 
 -- the names of the columns of the answer
 abbrev pub answer_names : TypedSelectParts → List (List ℕ)
@@ -59,15 +59,15 @@ answer_names q = map (λ (item : Output). item.1) q.items
 
 -- What is written for a statement: the answer of a SELECT, and nothing for every other one.
 abbrev pub StatementWrites : ℤ → RunState → StatementOut → List ℕ → Type 0
-StatementWrites day s (query q) text = (rows : List (List (List ℕ))) × QueryAnswers q s.catalogue.store day (Ok rows) × (text ≡ answer_text (answer_names q) rows)
+StatementWrites day s (query q) text = (rows : List (List (List ℕ))) × QueryAnswers q s.catalogue day (Ok rows) × (text ≡ answer_text (answer_names q) rows)
 StatementWrites day s _ text = text ≡ []
 
 -- a statement has this fault: only a SELECT has one
 abbrev pub Stops : ℤ → RunState → StatementOut → TupleFault → Type 0
-Stops day s (query q) f = QueryAnswers q s.catalogue.store day (Err f)
+Stops day s (query q) f = QueryAnswers q s.catalogue day (Err f)
 Stops day s _ f = ⊥
 
 -- one statement
 pub record RunsStatement (day : ℤ) (s : RunState) (x : StatementOut) (t : RunState) (text : List ℕ) : Type 0 where
-  pub stands : t ≡ state_after s x
+  pub leaves : StatementLeaves day s x t
   pub writes : StatementWrites day s x text

@@ -2,7 +2,7 @@
 use Rattle.std.specs.Prelude.{◌≡◌, ℕ, ℤ, List}
 use Rattle.mob_typed.specs.Selects.{TypedSelectParts}
 use Rattle.mob_typed.specs.Statements.{StatementOut}
-use Rattle.mob_value.specs.declared.store.Store.{Store}
+use Rattle.mob_catalog.specs.Catalogue.{Catalogue}
 use Rattle.mob_eval.specs.Outcomes.{IsOne}
 use Rattle.mob_eval.specs.QueryFaults.{TupleFault}
 use Rattle.mob_shell.specs.Answers.{QueryAnswers}
@@ -10,7 +10,7 @@ use Rattle.mob_shell.specs.Runs.{RunState, RunsStatement, Stops}
 
 -- a query has one answer or one fault
 abbrev pub OneAnswer : Type 0
-OneAnswer = (select : TypedSelectParts) (store : Store) (day : ℤ) → IsOne (QueryAnswers select store day)
+OneAnswer = (select : TypedSelectParts) (catalogue : Catalogue) (day : ℤ) → IsOne (QueryAnswers select catalogue day)
 
 -- a statement that runs leaves one thing and writes one text
 abbrev pub HasOneStep : Type 0

@@ -5,6 +5,7 @@ ghost use Rattle.mob_eval.specs.QueryFaults.{OnTuple};
 ghost use Rattle.mob_join.specs.Query.{IsKept};
 ghost use Rattle.mob_shell.specs.Answers.{QueryAnswers};
 
+use mob_catalog::Catalog;
 use mob_eval::QueryFault;
 use mob_join::{Query, QueryParts, kept, outer};
 use mob_list::items::Items;
@@ -12,29 +13,28 @@ use mob_plan::plan;
 use mob_scalar::Epoch;
 use mob_tail::{Answer, answer_to};
 use mob_typed::TypedSelect;
-use mob_value::Store;
 use std::alloc::Global;
 
 // The tuples that a query keeps by its plan, or its first fault.
 fn kept_tuples(
     alloc: Global,
     select: &TypedSelect,
-    store: &Store,
+    catalog: &Catalog,
     epoch: &Epoch,
 ) -> Result<Items<Items<u32>>, QueryFault>
-    ensures kept { IfOk result (λ kept. IsKept (select_seen select.now) store.now epoch.now (Ok kept)) }
-    ensures fault { IfErr result (OnTuple (λ f. IsKept (select_seen select.now) store.now epoch.now (Err f))) }
+    ensures kept { IfOk result (λ kept. IsKept (select_seen select.now) catalog.now epoch.now (Ok kept)) }
+    ensures fault { IfErr result (OnTuple (λ f. IsKept (select_seen select.now) catalog.now epoch.now (Err f))) }
 {
     let Ok(plan) = plan(alloc, select) else {
         return Err(QueryFault::NoMemory);
     };
-    let Ok(outer) = outer(alloc, select, &plan, store) else {
+    let Ok(outer) = outer(alloc, select, &plan, catalog) else {
         return Err(QueryFault::NoMemory);
     };
     let query = Query::new(QueryParts {
         select,
         plan: &plan,
-        store,
+        catalog,
         outer: outer.as_slice(),
         epoch,
     });
@@ -46,15 +46,15 @@ fn kept_tuples(
 pub fn answered(
     alloc: Global,
     select: &TypedSelect,
-    store: &Store,
+    catalog: &Catalog,
     epoch: &Epoch,
 ) -> Result<Answer, QueryFault>
     ensures names { IfOk result (λ answer. answer.names ≡ map (λ item. item.1) (select_seen select.now).items) }
-    ensures rows { IfOk result (λ answer. QueryAnswers (select_seen select.now) store.now epoch.now (Ok answer.rows)) }
-    ensures fault { IfErr result (OnTuple (λ f. QueryAnswers (select_seen select.now) store.now epoch.now (Err f))) }
+    ensures rows { IfOk result (λ answer. QueryAnswers (select_seen select.now) catalog.now epoch.now (Ok answer.rows)) }
+    ensures fault { IfErr result (OnTuple (λ f. QueryAnswers (select_seen select.now) catalog.now epoch.now (Err f))) }
 {
-    match kept_tuples(alloc, select, store, epoch) {
-        Ok(kept) => answer_to(alloc, select, store, kept.as_slice(), epoch),
+    match kept_tuples(alloc, select, catalog, epoch) {
+        Ok(kept) => answer_to(alloc, select, catalog.store(), kept.as_slice(), epoch),
         Err(fault) => Err(fault),
     }
 }

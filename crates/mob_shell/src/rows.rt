@@ -1,6 +1,5 @@
 // Rows that are put into tables.
 ghost use Rattle.std.specs.Prelude.{◌≡◌, IfOk, OnOk, map};
-ghost use Rattle.mob_catalog.specs.Catalogue.{with_row};
 ghost use Rattle.mob_shell.specs.Runs.{constant_value, inserted_row as values_of, with_all_rows};
 
 use mob_ast::SqlType;
@@ -38,16 +37,6 @@ fn row_of(
     Ok(Items::from_vec(row))
 }
 
-// Puts a row behind those of a table, if it is there.
-fn put_row(catalog: &mut Catalog, table: u32, row: Items<Value>) -> Result<(), AllocError>
-    ensures put { OnOk result (catalog.new ≡ with_row table row catalog.old) }
-{
-    if table as usize >= catalog.store().tables.len() {
-        return Ok(());
-    }
-    catalog.add_row(table, row)
-}
-
 /// Puts the rows of an INSERT behind those of a table: the values of their constants.
 pub fn put_constants(
     alloc: Global,
@@ -59,7 +48,7 @@ pub fn put_constants(
 {
     for row in rows {
         let values = row_of(alloc, catalog.store().consts.as_slice(), row.as_slice())?;
-        put_row(catalog, table, values)?;
+        catalog.add_row(table, values)?;
     }
     Ok(())
 }
@@ -74,7 +63,7 @@ pub fn put_rows(
 {
     let mut left = VecDeque::from_vec(rows.into_vec());
     while let Some(row) = left.pop_front() {
-        put_row(catalog, table, row)?;
+        catalog.add_row(table, row)?;
     }
     Ok(())
 }

@@ -3,7 +3,7 @@ ghost use Rattle.std.specs.Prelude.{◌≡◌, IfOk, IfErr, OnOk};
 ghost use Rattle.mob_shell.specs.Statements.{OnFault};
 ghost use Rattle.mob_typed.specs.Selects.{select_seen};
 ghost use Rattle.mob_typed.specs.Statements.{query, statement_seen};
-ghost use Rattle.mob_shell.specs.Runs.{Stops, StatementWrites, state_after, begin, later_files, next_rows};
+ghost use Rattle.mob_shell.specs.Runs.{Stops, StatementWrites, StatementLeaves, begin, later_files, next_rows};
 ghost use Rattle.mob_shell.specs.Session.{HasNoAnswerBy, session_day, overflow_fault, session_state};
 
 use crate::answers::answered;
@@ -72,7 +72,7 @@ impl Session {
         ensures text { IfOk result (λ text. StatementWrites (session_day self.now) (session_state self.now) (query (select_seen select.now)) text.items) }
         ensures fault { IfErr result (OnFault (λ o. Stops (session_day self.now) (session_state self.now) (query (select_seen select.now)) (overflow_fault o))) }
     {
-        let answer = match answered(alloc, select, self.catalog.store(), &self.epoch) {
+        let answer = match answered(alloc, select, &self.catalog, &self.epoch) {
             Ok(answer) => answer,
             Err(fault) => return Err(no_answer_by(fault)),
         };
@@ -84,7 +84,7 @@ impl Session {
 
     // What a statement that is no query does: it writes nothing.
     fn change(&mut self, alloc: Global, statement: &TypedStatement) -> Result<(), AllocError>
-        ensures stands { OnOk result (session_state self.new ≡ state_after (session_state self.old) (statement_seen statement.now)) }
+        ensures leaves { OnOk result (StatementLeaves (session_day self.old) (session_state self.old) (statement_seen statement.now) (session_state self.new)) }
         ensures day { OnOk result (session_day self.new ≡ session_day self.old) }
     {
         match statement {

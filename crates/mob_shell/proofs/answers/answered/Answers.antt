@@ -8,6 +8,6 @@ use Rattle.mob_shell.proofs.answers.answered.Goals as goal
 pub returns-in-Err-clause-fault : goal.returns-in-Err-clause-fault
 returns-in-Err-clause-fault c =
     let select = select_seen c.args.select.now in
-    let store = c.args.store.now in
+    let catalogue = c.args.catalog.now in
     let day = c.args.epoch.now in
-    of_query (λ f. IsKept select store day (Err f)) (λ f. QueryAnswers select store day (Err f)) (λ f h. inl h) c.in-Err.fault c.in-Err.ensures.fault
+    of_query (λ f. IsKept select catalogue day (Err f)) (λ f. QueryAnswers select catalogue day (Err f)) (λ f h. inl h) c.in-Err.fault c.in-Err.ensures.fault
