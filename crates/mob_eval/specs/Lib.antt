@@ -1,6 +1,7 @@
 pub mod Scene
 pub mod Views
 pub mod Ordinary
+pub mod Types
 pub mod Lifted
 pub mod Operators
 pub mod Evaluation
