@@ -5,3 +5,4 @@ mod Places
 mod OneFirst
 pub mod OneTable
 pub mod OneMeaning
+mod OwnTypes

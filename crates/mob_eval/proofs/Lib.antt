@@ -5,5 +5,6 @@ pub mod Nodes
 pub mod Once
 pub mod Single
 pub mod Values
+mod Stored
 pub mod QueryFaults
 mod Examples
