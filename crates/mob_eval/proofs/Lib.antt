@@ -2,6 +2,7 @@ pub mod Numbers
 pub mod Functions
 pub mod Loops
 pub mod Nodes
+mod Counts
 pub mod Once
 pub mod Single
 pub mod Values

@@ -19,7 +19,7 @@ use Rattle.mob_ast.specs.declared.types.SqlType.TheVariants as sql
 use Rattle.mob_operators.specs.declared.operator.Op.{Op}
 use Rattle.mob_operators.specs.declared.operator.Op.TheVariants as op
 use Rattle.mob_value.specs.declared.value.Value.{Value}
-use Rattle.mob_value.specs.declared.value.Value.TheVariants.{Null, Bool as Truth, Number, Text, Moment, MovingBool, MovingInt, MovingText}
+use Rattle.mob_value.specs.declared.value.Value.TheVariants.{Bool as Truth, Number, Text, Moment, MovingBool, MovingInt, MovingText}
 use Rattle.mob_eval.specs.Scene.{Scene}
 use Rattle.mob_eval.specs.Ordinary.{IsTruthOf, IsEquality, IsTest, rel_of}
 use Rattle.mob_eval.specs.Lifted.{StepSlices, OverTime, Pair, AreNormalSteps, or_nothing, over_time, IsLiftedValue, IsMovingBool, IsMovingInt, IsMovingText, OnPair, truth_pair, number_pair, text_pair, number_test, text_test, truth_test, IsOrderTest, IsAnyTest, IsLiftedTest, IsLiftedNot}

@@ -1,5 +1,5 @@
 -- An expression has at most one value, and it is what the expression evaluates to.
-use Rattle.std.proofs.Common.{◌≡◌, ◌↔◌, inl, inr, Bool, true, false, IsTrue, List, [], ◌∷◌, Option, Ok, sym, ap, ap₂, subst, ◌∙◌, true≢false}
+use Rattle.std.proofs.Common.{◌≡◌, ◌↔◌, inl, inr, Bool, true, IsTrue, List, [], ◌∷◌, Option, Ok, sym, ap, ap₂, subst, ◌∙◌, true≢false}
 use Rattle.mob_typed.specs.Trees.{TypedTree, typed, TypedTrees, none, more, arg_types}
 use Rattle.mob_value.specs.declared.value.Value.{Value}
 use Rattle.mob_value.specs.declared.value.Value.TheVariants.{Null, Bool as Truth, Number, Text, Moment, MovingBool, MovingInt, MovingText}
@@ -53,6 +53,7 @@ is_true (MovingText a) h = absurd (true≢false (sym h))
 
 -- a condition is true exactly where its value is
 pub true_by_value : (s : Scene) (e : TypedTree) (v : Value) (b : Bool) → TreeHasValue s e v → b ≡ is_true_value v → IsTrue b ↔ TreeHasValue s e (Truth true)
-true_by_value s e v b h k =
-    ( λ t. subst (TreeHasValue s e) (is_true v (sym k ∙ t)) h
-    , λ t. k ∙ ap is_true_value (has_one_value s e v (Truth true) h t))
+true_by_value s e v b h k = (
+  λ t. subst (TreeHasValue s e) (is_true v (sym k ∙ t)) h,
+  λ t. k ∙ ap is_true_value (has_one_value s e v (Truth true) h t),
+)

@@ -50,6 +50,7 @@ pub fn cast<'a>(
     ensures value { IfOk result (λ h. held h ≡ cast_of (operand_types args.now) ty (held operand.now)) }
 {
     match args {
+        [] => Ok(Held::Made(Value::Null)),
         [arg] => cast_to(alloc, arg.ty, ty, operand),
         _ => Ok(Held::Made(Value::Null)),
     }

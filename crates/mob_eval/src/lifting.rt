@@ -176,12 +176,7 @@ fn moving_joined(alloc: Global, left: &Value, right: &Value) -> Result<Value, Al
 }
 
 /// `||`, with a result of this type.
-pub fn join(
-    alloc: Global,
-    ty: SqlType,
-    left: &Value,
-    right: &Value,
-) -> Result<Value, AllocError>
+pub fn join(alloc: Global, ty: SqlType, left: &Value, right: &Value) -> Result<Value, AllocError>
     ensures value { IfOk result (λ v. IsJoined ty left.now right.now v) }
 {
     match ty {
