@@ -8,26 +8,25 @@ use Rattle.mob_value.specs.declared.value.Value.TheVariants.{Null}
 use Rattle.mob_value.specs.Types.{is_of_type}
 use Rattle.mob_literal.specs.Fields.{is_null_field, text_of_field}
 use Rattle.mob_literal.specs.SqlText.{SaysAs}
-use Rattle.mob_catalog.specs.Fields.{FieldSays}
 use Rattle.mob_catalog.specs.TableFile.{Column, Field, IsRow, IsValue}
 use Rattle.mob_catalog.specs.OwnTypes.{ConstantsHaveTheirTypes, HasColumnTypes, RowsHaveColumnTypes}
 
 says_its_type : (ty : SqlType) (day : ℤ) (text : List ℕ) (v : Value) → SaysAs ty day text (Ok v) → is_of_type ty v ≡ true
-says_its_type sql.Bool day text v (w, is, lit) = ap (is_of_type sql.Bool) is
-says_its_type sql.Int day text v (w, is, lit) = ap (is_of_type sql.Int) is
-says_its_type sql.Numeric day text v (w, is, lit) = ap (is_of_type sql.Numeric) is
-says_its_type sql.Text day text v (w, is, lit) = ap (is_of_type sql.Text) is
-says_its_type sql.Moment day text v (w, is, lit) = ap (is_of_type sql.Moment) is
-says_its_type sql.TBool day text v (w, is, lit) = ap (is_of_type sql.TBool) is
-says_its_type sql.TInt day text v (w, is, lit) = ap (is_of_type sql.TInt) is
-says_its_type sql.TText day text v (w, is, lit) = ap (is_of_type sql.TText) is
-says_its_type sql.Point day text v (w, is, (said, shape, rest)) = absurd shape
-says_its_type sql.Polygon day text v (w, is, (said, shape, rest)) = absurd shape
-says_its_type sql.Span day text v (w, is, (said, shape, rest)) = absurd shape
-says_its_type sql.SpanSet day text v (w, is, (said, shape, rest)) = absurd shape
-says_its_type sql.Box day text v (w, is, (said, shape, rest)) = absurd shape
-says_its_type sql.TFrac day text v (w, is, (said, shape, rest)) = absurd shape
-says_its_type sql.TPoint day text v (w, is, (said, shape, rest)) = absurd shape
+says_its_type sql.Bool day text v h = ap (is_of_type sql.Bool) h.1
+says_its_type sql.Int day text v h = ap (is_of_type sql.Int) h.1
+says_its_type sql.Numeric day text v h = ap (is_of_type sql.Numeric) h.1
+says_its_type sql.Text day text v h = ap (is_of_type sql.Text) h.1
+says_its_type sql.Moment day text v h = ap (is_of_type sql.Moment) h.1
+says_its_type sql.TBool day text v h = ap (is_of_type sql.TBool) h.1
+says_its_type sql.TInt day text v h = ap (is_of_type sql.TInt) h.1
+says_its_type sql.TText day text v h = ap (is_of_type sql.TText) h.1
+says_its_type sql.Point day text v h = absurd h.2.1
+says_its_type sql.Polygon day text v h = absurd h.2.1
+says_its_type sql.Span day text v h = absurd h.2.1
+says_its_type sql.SpanSet day text v h = absurd h.2.1
+says_its_type sql.Box day text v h = absurd h.2.1
+says_its_type sql.TFrac day text v h = absurd h.2.1
+says_its_type sql.TPoint day text v h = absurd h.2.1
 
 pub constants_have_their_types : ConstantsHaveTheirTypes
 constants_have_their_types day constant value h = says_its_type constant.ty day constant.text value h
