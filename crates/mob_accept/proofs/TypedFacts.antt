@@ -6,16 +6,13 @@ use Rattle.mob_ast.specs.declared.expression.Expr.TheViews.{out-Expr}
 use Rattle.mob_ast.specs.Trees.{tree_of, trees_of}
 use Rattle.mob_typed.specs.declared.typed.TExpr.{TExpr}
 use Rattle.mob_typed.specs.declared.typed.TExpr.TheViews.{out-TExpr}
-use Rattle.mob_typed.specs.Trees.{typed_of, typed_trees, type_of}
+use Rattle.mob_typed.specs.Trees.{typed_of, typed_trees, type_of, arg_types}
 use Rattle.mob_expression.proofs.TreeFacts.{tree_is}
-use Rattle.mob_typed.proofs.TreeFacts.{typed_is as typed_level}
+use Rattle.mob_typed.proofs.TreeFacts.{typed_is}
 use Rattle.mob_accept.specs.Least.{earlier, least}
 use Rattle.mob_accept.specs.UnbuiltTypes.{in_node, in_tree, in_trees}
-use Rattle.mob_accept.specs.UnbuiltOperators.{own_place, in_typed, in_all, arg_types}
+use Rattle.mob_accept.specs.UnbuiltOperators.{own_place, in_typed, in_all}
 use Rattle.mob_accept.proofs.Places.{least_append}
-
-pub typed_is : (t : TExpr) → type_of (typed_of t) ≡ (out-TExpr t).ty
-typed_is t = ap type_of (typed_level t)
 
 in_trees_is : (es : List Expr) → in_trees (trees_of es) ≡ flat_map (λ e. in_tree (tree_of e)) es
 unfolding in_tree
@@ -44,6 +41,6 @@ own e = own_place (out-TExpr e).op (out-TExpr e).ty (out-TExpr e).place (map (λ
 -- the places of a typed expression: its own and those of its arguments
 pub in_typed_is : (e : TExpr) → least (in_typed (typed_of e)) ≡ earlier (least (own e)) (least (flat_map (λ x. in_typed (typed_of x)) (out-TExpr e).args.items))
 unfolding in_typed
-in_typed_is e = ap (λ t. least (in_typed t)) (typed_level e)
+in_typed_is e = ap (λ t. least (in_typed t)) (typed_is e)
     ∙ ap (λ ts. least (own_place (out-TExpr e).op (out-TExpr e).ty (out-TExpr e).place ts ++ in_all (typed_trees (map typed_of (out-TExpr e).args.items)))) (types_are (out-TExpr e).args.items)
     ∙ ap (λ ps. least (own e ++ ps)) (in_all_is (out-TExpr e).args.items) ∙ least_append (own e) (flat_map (λ x. in_typed (typed_of x)) (out-TExpr e).args.items)

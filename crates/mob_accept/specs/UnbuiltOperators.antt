@@ -7,7 +7,7 @@ use Rattle.mob_operators.specs.declared.operator.Op.{Op}
 use Rattle.mob_operators.specs.declared.operator.Op.TheVariants as op
 use Rattle.mob_operators.specs.Lookup.{has_type}
 use Rattle.mob_accept.specs.Built.{is_built}
-use Rattle.mob_typed.specs.Trees.{TypedTree, typed, TypedTrees, none, more, type_of}
+use Rattle.mob_typed.specs.Trees.{TypedTree, typed, TypedTrees, none, more, arg_types}
 use Rattle.mob_typed.specs.Selects.{Output, TypedSelectParts}
 use Rattle.mob_typed.specs.Statements.{StatementOut, nothing, new_table, new_index, new_rows, rows_from, query, plan_of}
 
@@ -58,10 +58,6 @@ is_unbuilt o ty ts = not (is_leaf o) && (is_later o || not (is_built ty) || list
 -- the place of an operator, where it is not built
 abbrev pub own_place : Op → SqlType → ℕ → List SqlType → List ℕ
 own_place o ty p ts = if is_unbuilt o ty ts then p ∷ [] else []
-
-abbrev pub arg_types : TypedTrees → List SqlType
-arg_types none = []
-arg_types (more t ts) = type_of t ∷ arg_types ts
 
 -- the places in a typed expression: its own and those of its arguments
 unfoldable mutual

@@ -65,7 +65,7 @@ fn is_lifted(op: Op) -> bool
 }
 
 // The type of a typed expression.
-#[tactic(auto, using(crate::proofs::TypedFacts::typed_is))]
+#[tactic(auto, using(mob_typed::proofs::TreeFacts::type_is))]
 fn type_of(e: &TExpr) -> SqlType
     ensures { result ≡ type_of (typed_of e.now) }
 {

@@ -6,3 +6,4 @@ mod Places
 mod OneFirst
 pub mod OneTable
 pub mod OneMeaning
+mod OwnTypes

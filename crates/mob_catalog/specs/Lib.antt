@@ -5,3 +5,4 @@ pub mod Fields
 pub mod FirstFault
 pub mod Outcomes
 pub mod TableFile
+pub mod OwnTypes

@@ -1,4 +1,5 @@
 //! What holds of every table file and of all constants. No code runs here.
+ghost use Rattle.mob_catalog.specs.OwnTypes.{ConstantsHaveTheirTypes, RowsHaveColumnTypes};
 ghost use Rattle.mob_catalog.specs.Outcomes.{HasOneFault, HasOneTable, ConstantsHaveOneMeaning, ConstantsHaveOneRefusal, ConstantsNeverMeanAndFail, NeverReadAndRefused};
 
 use crate::Catalog;
@@ -16,6 +17,13 @@ pub fn one_meaning()
     ensures values { ConstantsHaveOneMeaning }
     ensures refusals { ConstantsHaveOneRefusal }
     ensures apart { ConstantsNeverMeanAndFail }
+{}
+
+/// What is read is of the type that it is read as: the value of a constant of the constant's, and each value in a row of a table
+/// file of its column's.
+pub fn values_have_their_types()
+    ensures constants { ConstantsHaveTheirTypes }
+    ensures rows { RowsHaveColumnTypes }
 {}
 
 /// Catalogues cross threads.

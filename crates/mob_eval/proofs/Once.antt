@@ -1,7 +1,7 @@
 -- An expression has one outcome, where each operator has.
 use Rattle.std.proofs.Common.{◌≡◌, inl, inr, Bool, List, [], ◌∷◌, Option, Some, None, Result, Ok, Err, MatchOption, MatchResult, refl, sym, ap, ◌∙◌, subst, true≢false}
 use Rattle.mob_language.proofs.Exact.{some_is}
-use Rattle.mob_typed.specs.Trees.{TypedTree, typed, TypedTrees, none, more}
+use Rattle.mob_typed.specs.Trees.{TypedTree, typed, TypedTrees, none, more, arg_types}
 use Rattle.mob_value.specs.declared.value.Value.{Value}
 use Rattle.mob_eval.specs.Scene.{Scene}
 use Rattle.mob_eval.specs.Operators.{OperatorGives, IsFirstFormula}
@@ -24,21 +24,21 @@ mutual
   pub one_run : IsSingle → (s : Scene) (e : TypedTree) (r q : Result Value Fault) → TreeEvaluatesTo s e r → TreeEvaluatesTo s e q → r ≡ q
   one_run z s (typed o ty place args) (Ok v) (Ok w) h k =
       let same = ok_is (one_all z s (stop_of o) args (Ok h.0) (Ok k.0) h.1 k.1) in
-      ap Ok (z.value s o k.0 v w (subst (λ vs. OperatorGives s o vs v) same h.3) k.3)
+      ap Ok (z.value s o ty (arg_types args) k.0 v w (subst (λ vs. OperatorGives s o ty (arg_types args) vs v) same h.3) k.3)
   one_run z s (typed o ty place args) (Ok v) (Err f) h (inl k) = absurd (ok_err (one_all z s (stop_of o) args (Ok h.0) (Err f) h.1 k))
   one_run z s (typed o ty place args) (Ok v) (Err f) h (inr k) =
       let same = ok_is (one_all z s (stop_of o) args (Ok h.0) (Ok k.0) h.1 k.1) in
-      absurd (none_some (z.first o k.0 None (Some f.1) (subst (λ vs. IsFirstFormula o vs None) same h.2) k.2))
+      absurd (none_some (z.first o ty (arg_types args) k.0 None (Some f.1) (subst (λ vs. IsFirstFormula o ty (arg_types args) vs None) same h.2) k.2))
   one_run z s (typed o ty place args) (Err f) (Ok w) (inl h) k = absurd (ok_err (one_all z s (stop_of o) args (Ok k.0) (Err f) k.1 h))
   one_run z s (typed o ty place args) (Err f) (Ok w) (inr h) k =
       let same = ok_is (one_all z s (stop_of o) args (Ok k.0) (Ok h.0) k.1 h.1) in
-      absurd (none_some (z.first o h.0 None (Some f.1) (subst (λ vs. IsFirstFormula o vs None) same k.2) h.2))
+      absurd (none_some (z.first o ty (arg_types args) h.0 None (Some f.1) (subst (λ vs. IsFirstFormula o ty (arg_types args) vs None) same k.2) h.2))
   one_run z s (typed o ty place args) (Err f) (Err g) (inl h) (inl k) = ap Err (err_is (one_all z s (stop_of o) args (Err f) (Err g) h k))
   one_run z s (typed o ty place args) (Err f) (Err g) (inl h) (inr k) = absurd (ok_err (one_all z s (stop_of o) args (Ok k.0) (Err f) k.1 h))
   one_run z s (typed o ty place args) (Err f) (Err g) (inr h) (inl k) = absurd (ok_err (one_all z s (stop_of o) args (Ok h.0) (Err g) h.1 k))
   one_run z s (typed o ty place args) (Err f) (Err g) (inr h) (inr k) =
       let same = ok_is (one_all z s (stop_of o) args (Ok h.0) (Ok k.0) h.1 k.1) in
-      let formula = some_is f.1 g.1 (z.first o k.0 (Some f.1) (Some g.1) (subst (λ vs. IsFirstFormula o vs (Some f.1)) same h.2) k.2) in
+      let formula = some_is f.1 g.1 (z.first o ty (arg_types args) k.0 (Some f.1) (Some g.1) (subst (λ vs. IsFirstFormula o ty (arg_types args) vs (Some f.1)) same h.2) k.2) in
       let at = h.3 ∙ sym k.3 in
       λ i. Err (at i, formula i)
 

@@ -14,14 +14,17 @@ use Rattle.mob_slice.specs.declared.comparison.Rel.{Rel}
 use Rattle.mob_normal.proofs.Unique.{unique}
 use Rattle.mob_ast.specs.declared.types.Cmp.{Cmp}
 use Rattle.mob_ast.specs.declared.types.Cmp.TheVariants as cmp
+use Rattle.mob_ast.specs.declared.types.SqlType.{SqlType}
+use Rattle.mob_ast.specs.declared.types.SqlType.TheVariants as sql
 use Rattle.mob_operators.specs.declared.operator.Op.{Op}
 use Rattle.mob_operators.specs.declared.operator.Op.TheVariants as op
 use Rattle.mob_value.specs.declared.value.Value.{Value}
-use Rattle.mob_value.specs.declared.value.Value.TheVariants.{Null, Bool as Truth, Number, Text, Moment, MovingBool, MovingInt, MovingText}
+use Rattle.mob_value.specs.declared.value.Value.TheVariants.{Bool as Truth, Number, Text, Moment, MovingBool, MovingInt, MovingText}
 use Rattle.mob_eval.specs.Scene.{Scene}
 use Rattle.mob_eval.specs.Ordinary.{IsTruthOf, IsEquality, IsTest, rel_of}
-use Rattle.mob_eval.specs.Lifted.{StepSlices, OverTime, AreNormalSteps, or_nothing, over_time, IsLiftedValue, IsMovingBool, IsMovingInt, IsMovingText, OnPair, truth_pair, number_pair, text_pair, number_test, text_test, truth_test, IsOrderTest, IsAnyTest, IsLiftedTest, IsLiftedNot}
-use Rattle.mob_eval.specs.Operators.{OperatorGives, IsFirstFormula, GivesOfOne, GivesOfTwo, operator_entries}
+use Rattle.mob_eval.specs.Lifted.{StepSlices, OverTime, Pair, AreNormalSteps, or_nothing, over_time, IsLiftedValue, IsMovingBool, IsMovingInt, IsMovingText, OnPair, truth_pair, number_pair, text_pair, number_test, text_test, truth_test, IsOrderTest, IsAnyTest, IsLiftedTest, IsLiftedNot}
+use Rattle.mob_eval.specs.Operators.{OperatorGives, IsFirstFormula, IsArithmetic, IsJoined, GivesOfOne, GivesOfTwo, operator_entries}
+use Rattle.mob_eval.specs.Types.{meeting}
 use Rattle.mob_eval.specs.Outcomes.{IsSingle}
 use Rattle.mob_eval.proofs.Functions.{one_list}
 
@@ -51,13 +54,10 @@ test_once cmp.Eq a b v w h k = equality_once true a b v w h k
 test_once cmp.Ne a b v w h k = equality_once false a b v w h k
 test_once _ a b v w h k = h ∙ sym k
 
--- one of two choices, each of which has one value
-match_once : {A : Type 0} (o : Option A) (P : Value → Type 0) (Q : A → Value → Type 0) → Once P → ((x : A) → Once (Q x)) → Once (λ v. MatchOption o (P v) (λ x. Q x v))
-match_once None P Q p q v w h k = p v w h k
-match_once (Some x) P Q p q v w h k = q x v w h k
-
-is_once : (x : Value) → Once (λ v. v ≡ x)
-is_once x v w h k = h ∙ sym k
+-- a row on two operands of which one is temporal has one value, and they are no such pair where it is NULL
+pair_once : {B : Type 0} (pair : Pair B) (row : OverTime B → OverTime B → Value → Type 0) → ((left right : OverTime B) → Once (row left right)) → Once (OnPair pair row)
+pair_once None row one v w h k = h ∙ sym k
+pair_once (Some p) row one v w h k = one (over_time p.0) (over_time p.1) v w h k
 
 -- the temporal values of one function of time are one
 module _ {X Y Z : Type 0} (make : StepSlices Z → Value) (is_same : Z → Z → Bool) (exact : (a b : Z) → IsTrue (is_same a b) ↔ (a ≡ b)) (f : X → Y → Z) (left : OverTime X) (right : OverTime Y) where
@@ -79,47 +79,56 @@ int_once f left right = lifted_once MovingInt same same_exact f left right
 text_once : {X Y : Type 0} (f : X → Y → List ℕ) (left : OverTime X) (right : OverTime Y) → Once (IsMovingText f left right)
 text_once f left right = lifted_once MovingText same_bytes same_bytes_exact f left right
 
-order_once : (r : Rel) (a b : Value) → Once (IsOrderTest r a b)
-order_once r a b =
-    match_once (number_pair a b) (OnPair (text_pair a b) (IsMovingBool (text_test r))) (λ p. IsMovingBool (number_test r) (over_time p.0) (over_time p.1))
-    (match_once (text_pair a b) (λ v. v ≡ Null) (λ p. IsMovingBool (text_test r) (over_time p.0) (over_time p.1)) (is_once Null) (λ p. bool_once (text_test r) (over_time p.0) (over_time p.1)))
-    (λ p. bool_once (number_test r) (over_time p.0) (over_time p.1))
+order_once : (r : Rel) (met : Option SqlType) (a b : Value) → Once (IsOrderTest r met a b)
+order_once r (Some sql.TInt) a b v w h k = pair_once (number_pair a b) (IsMovingBool (number_test r)) (bool_once (number_test r)) v w h k
+order_once r (Some sql.TText) a b v w h k = pair_once (text_pair a b) (IsMovingBool (text_test r)) (bool_once (text_test r)) v w h k
+order_once r _ a b v w h k = h ∙ sym k
 
-compared_once : (r : Rel) (a b : Value) → Once (IsAnyTest r a b)
-compared_once r a b = match_once (truth_pair a b) (IsOrderTest r a b) (λ p. IsMovingBool (truth_test r) (over_time p.0) (over_time p.1)) (order_once r a b) (λ p. bool_once (truth_test r) (over_time p.0) (over_time p.1))
+compared_once : (r : Rel) (met : Option SqlType) (a b : Value) → Once (IsAnyTest r met a b)
+compared_once r (Some sql.TBool) a b v w h k = pair_once (truth_pair a b) (IsMovingBool (truth_test r)) (bool_once (truth_test r)) v w h k
+compared_once r met a b v w h k = order_once r met a b v w h k
 
-lifted_test_once : (c : Cmp) (a b : Value) → Once (IsLiftedTest c a b)
-lifted_test_once cmp.Eq a b v w h k = compared_once (rel_of cmp.Eq) a b v w h k
-lifted_test_once cmp.Ne a b v w h k = compared_once (rel_of cmp.Ne) a b v w h k
-lifted_test_once c a b v w h k = order_once (rel_of c) a b v w h k
+lifted_test_once : (c : Cmp) (met : Option SqlType) (a b : Value) → Once (IsLiftedTest c met a b)
+lifted_test_once cmp.Eq met a b v w h k = compared_once (rel_of cmp.Eq) met a b v w h k
+lifted_test_once cmp.Ne met a b v w h k = compared_once (rel_of cmp.Ne) met a b v w h k
+lifted_test_once c met a b v w h k = order_once (rel_of c) met a b v w h k
 
 not_once : (a : Value) → Once (IsLiftedNot a)
 not_once (MovingBool a) v w h k = h.3 ∙ ap MovingBool (one_list same_bool same_bool_exact h.0 k.0 h.2 k.2 (λ t. h.1 t ∙ sym (k.1 t))) ∙ sym k.3
 not_once _ v w h k = h ∙ sym k
 
-one_once : (s : Scene) (o : Op) (a : Value) → Once (GivesOfOne s o a)
-one_once s op.LiftedNot a v w h k = not_once a v w h k
-one_once s _ a v w h k = h ∙ sym k
+one_once : (s : Scene) (o : Op) (ty : SqlType) (ts : List SqlType) (a : Value) → Once (GivesOfOne s o ty ts a)
+one_once s op.LiftedNot ty ts a v w h k = not_once a v w h k
+one_once s _ ty ts a v w h k = h ∙ sym k
 
-two_once : (o : Op) (a b : Value) → Once (GivesOfTwo o a b)
-two_once (op.Test c) a b v w h k = test_once c a b v w h k
-two_once op.Add a b v w h k = match_once (number_pair a b) _ (λ p. IsMovingInt sum_of (over_time p.0) (over_time p.1)) (is_once _) (λ p. int_once sum_of (over_time p.0) (over_time p.1)) v w h k
-two_once op.Subtract a b v w h k = match_once (number_pair a b) _ (λ p. IsMovingInt difference_of (over_time p.0) (over_time p.1)) (is_once _) (λ p. int_once difference_of (over_time p.0) (over_time p.1)) v w h k
-two_once op.Multiply a b v w h k = match_once (number_pair a b) _ (λ p. IsMovingInt product_of (over_time p.0) (over_time p.1)) (is_once _) (λ p. int_once product_of (over_time p.0) (over_time p.1)) v w h k
-two_once op.Join a b v w h k = match_once (text_pair a b) _ (λ p. IsMovingText text_of (over_time p.0) (over_time p.1)) (is_once _) (λ p. text_once text_of (over_time p.0) (over_time p.1)) v w h k
-two_once op.LiftedAnd a b v w h k = match_once (truth_pair a b) _ (λ p. IsMovingBool both_hold (over_time p.0) (over_time p.1)) (is_once _) (λ p. bool_once both_hold (over_time p.0) (over_time p.1)) v w h k
-two_once op.LiftedOr a b v w h k = match_once (truth_pair a b) _ (λ p. IsMovingBool one_holds (over_time p.0) (over_time p.1)) (is_once _) (λ p. bool_once one_holds (over_time p.0) (over_time p.1)) v w h k
-two_once (op.Lifted c) a b v w h k = lifted_test_once c a b v w h k
-two_once _ a b v w h k = h ∙ sym k
+-- an operation on numbers has one value in each type
+arithmetic_once : (f : Ratio → Ratio → Ratio) (ty : SqlType) (a b : Value) → Once (IsArithmetic f ty a b)
+arithmetic_once f sql.TInt a b v w h k = pair_once (number_pair a b) (IsMovingInt f) (int_once f) v w h k
+arithmetic_once f _ a b v w h k = h ∙ sym k
 
-value_once : (s : Scene) (o : Op) (vs : List Value) → Once (OperatorGives s o vs)
-value_once s o [] v w h k = h ∙ sym k
-value_once s o (a ∷ []) v w h k = one_once s o a v w h k
-value_once s o (a ∷ b ∷ []) v w h k = two_once o a b v w h k
-value_once s o (a ∷ b ∷ c ∷ rest) v w h k = h ∙ sym k
+joined_once : (ty : SqlType) (a b : Value) → Once (IsJoined ty a b)
+joined_once sql.TText a b v w h k = pair_once (text_pair a b) (IsMovingText text_of) (text_once text_of) v w h k
+joined_once _ a b v w h k = h ∙ sym k
 
-first_once : (o : Op) (vs : List Value) (f g : Option Formula) → IsFirstFormula o vs f → IsFirstFormula o vs g → f ≡ g
-first_once o vs f g h k = one_first (operator_entries o vs) f g h k
+two_once : (o : Op) (ty : SqlType) (ts : List SqlType) (a b : Value) → Once (GivesOfTwo o ty ts a b)
+two_once (op.Test c) ty ts a b v w h k = test_once c a b v w h k
+two_once op.Add ty ts a b v w h k = arithmetic_once sum_of ty a b v w h k
+two_once op.Subtract ty ts a b v w h k = arithmetic_once difference_of ty a b v w h k
+two_once op.Multiply ty ts a b v w h k = arithmetic_once product_of ty a b v w h k
+two_once op.Join ty ts a b v w h k = joined_once ty a b v w h k
+two_once op.LiftedAnd ty ts a b v w h k = pair_once (truth_pair a b) (IsMovingBool both_hold) (bool_once both_hold) v w h k
+two_once op.LiftedOr ty ts a b v w h k = pair_once (truth_pair a b) (IsMovingBool one_holds) (bool_once one_holds) v w h k
+two_once (op.Lifted c) ty ts a b v w h k = lifted_test_once c (meeting ts) a b v w h k
+two_once _ ty ts a b v w h k = h ∙ sym k
+
+value_once : (s : Scene) (o : Op) (ty : SqlType) (ts : List SqlType) (vs : List Value) → Once (OperatorGives s o ty ts vs)
+value_once s o ty ts [] v w h k = h ∙ sym k
+value_once s o ty ts (a ∷ []) v w h k = one_once s o ty ts a v w h k
+value_once s o ty ts (a ∷ b ∷ []) v w h k = two_once o ty ts a b v w h k
+value_once s o ty ts (a ∷ b ∷ c ∷ rest) v w h k = h ∙ sym k
+
+first_once : (o : Op) (ty : SqlType) (ts : List SqlType) (vs : List Value) (f g : Option Formula) → IsFirstFormula o ty ts vs f → IsFirstFormula o ty ts vs g → f ≡ g
+first_once o ty ts vs f g h k = one_first (operator_entries o ty ts vs) f g h k
 
 pub each_single : IsSingle
 each_single = record { value = value_once; first = first_once }

@@ -1,6 +1,6 @@
 -- An expression has at most one value, and it is what the expression evaluates to.
-use Rattle.std.proofs.Common.{◌≡◌, ◌↔◌, inl, inr, Bool, true, false, IsTrue, List, [], ◌∷◌, Option, Ok, sym, ap, ap₂, subst, ◌∙◌, true≢false}
-use Rattle.mob_typed.specs.Trees.{TypedTree, typed, TypedTrees, none, more}
+use Rattle.std.proofs.Common.{◌≡◌, ◌↔◌, inl, inr, Bool, true, IsTrue, List, [], ◌∷◌, Option, Ok, sym, ap, ap₂, subst, ◌∙◌, true≢false}
+use Rattle.mob_typed.specs.Trees.{TypedTree, typed, TypedTrees, none, more, arg_types}
 use Rattle.mob_value.specs.declared.value.Value.{Value}
 use Rattle.mob_value.specs.declared.value.Value.TheVariants.{Null, Bool as Truth, Number, Text, Moment, MovingBool, MovingInt, MovingText}
 use Rattle.mob_eval.specs.Scene.{Scene}
@@ -27,7 +27,7 @@ evaluates_to_its_value = run_value
 mutual
   one_value_of : IsSingle → (s : Scene) (e : TypedTree) (v w : Value) → TreeHasValue s e v → TreeHasValue s e w → v ≡ w
   one_value_of z s (typed o ty place args) v w h k =
-      z.value s o k.0 v w (subst (λ vs. OperatorGives s o vs v) (one_list_of z s (stop_of o) args h.0 k.0 h.1 k.1) h.2) k.2
+      z.value s o ty (arg_types args) k.0 v w (subst (λ vs. OperatorGives s o ty (arg_types args) vs v) (one_list_of z s (stop_of o) args h.0 k.0 h.1 k.1) h.2) k.2
 
   one_list_of : IsSingle → (s : Scene) (stop : Option Bool) (row : TypedTrees) (vs ws : List Value) → OperandsHaveValues s stop row vs → OperandsHaveValues s stop row ws → vs ≡ ws
   one_list_of z s stop none vs ws h k = h ∙ sym k

@@ -1,10 +1,12 @@
 pub mod Scene
 pub mod Views
 pub mod Ordinary
+pub mod Types
 pub mod Lifted
 pub mod Operators
 pub mod Evaluation
 pub mod Values
+pub mod Stored
 pub mod Held
 pub mod Faults
 pub mod Calculations

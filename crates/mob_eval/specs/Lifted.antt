@@ -12,6 +12,8 @@ use Rattle.mob_slice.specs.declared.slice.Slice.{Slice}
 use Rattle.mob_slice.specs.declared.steady.Steady.{Steady}
 use Rattle.mob_slice.specs.declared.comparison.Rel.{Rel}
 use Rattle.mob_slice.specs.declared.operand.Operand.{Operand}
+use Rattle.mob_ast.specs.declared.types.SqlType.{SqlType}
+use Rattle.mob_ast.specs.declared.types.SqlType.TheVariants as sql
 use Rattle.mob_ast.specs.declared.types.Cmp.{Cmp}
 use Rattle.mob_ast.specs.declared.types.Cmp.TheVariants as cmp
 use Rattle.mob_value.specs.declared.value.Value.{Value}
@@ -98,19 +100,22 @@ text_test r x y = holds r (compare_bytes x y)
 abbrev pub truth_test : Rel → Bool → Bool → Bool
 truth_test r x y = holds r (compare_bool x y)
 
--- a comparison of two numbers or two texts at each instant
-abbrev pub IsOrderTest : Rel → Value → Value → Value → Type 0
-IsOrderTest r a b v = MatchOption (number_pair a b) (OnPair (text_pair a b) (IsMovingBool (text_test r)) v) (λ p. IsMovingBool (number_test r) (over_time p.0) (over_time p.1) v)
+-- a comparison at each instant of operands that meet in this type: whole numbers, or texts
+abbrev pub IsOrderTest : Rel → Option SqlType → Value → Value → Value → Type 0
+IsOrderTest r (Some sql.TInt) a b v = OnPair (number_pair a b) (IsMovingBool (number_test r)) v
+IsOrderTest r (Some sql.TText) a b v = OnPair (text_pair a b) (IsMovingBool (text_test r)) v
+IsOrderTest r _ a b v = v ≡ Null
 
--- a comparison of two numbers, two texts or two truth values at each instant
-abbrev pub IsAnyTest : Rel → Value → Value → Value → Type 0
-IsAnyTest r a b v = MatchOption (truth_pair a b) (IsOrderTest r a b v) (λ p. IsMovingBool (truth_test r) (over_time p.0) (over_time p.1) v)
+-- the same, also of truth values
+abbrev pub IsAnyTest : Rel → Option SqlType → Value → Value → Value → Type 0
+IsAnyTest r (Some sql.TBool) a b v = OnPair (truth_pair a b) (IsMovingBool (truth_test r)) v
+IsAnyTest r met a b v = IsOrderTest r met a b v
 
--- The six comparisons at each instant. Truth values are equal or not, and have no order here.
-abbrev pub IsLiftedTest : Cmp → Value → Value → Value → Type 0
-IsLiftedTest cmp.Eq a b v = IsAnyTest (rel_of cmp.Eq) a b v
-IsLiftedTest cmp.Ne a b v = IsAnyTest (rel_of cmp.Ne) a b v
-IsLiftedTest c a b v = IsOrderTest (rel_of c) a b v
+-- The six comparisons at each instant, of operands that meet in a type or in none. Truth values are equal or not, and have no order here.
+abbrev pub IsLiftedTest : Cmp → Option SqlType → Value → Value → Value → Type 0
+IsLiftedTest cmp.Eq met a b v = IsAnyTest (rel_of cmp.Eq) met a b v
+IsLiftedTest cmp.Ne met a b v = IsAnyTest (rel_of cmp.Ne) met a b v
+IsLiftedTest c met a b v = IsOrderTest (rel_of c) met a b v
 
 -- the other truth value at each instant
 abbrev pub IsLiftedNot : Value → Value → Type 0

@@ -1,9 +1,11 @@
 -- What an expression reads.
-use Rattle.std.specs.Prelude.{ℕ, ℤ, List, Option, Some, None, slice_get, option_map, option_and_then}
+use Rattle.std.specs.Prelude.{ℕ, ℤ, List, Option, slice_get, option_map, option_and_then}
 use Rattle.mob_value.specs.declared.value.Value.{Value}
 use Rattle.mob_value.specs.declared.value.Value.TheVariants.{Null}
 use Rattle.mob_value.specs.declared.store.Store.{Store}
 use Rattle.mob_value.specs.Null.{value_or_null}
+use Rattle.mob_value.specs.Types.{read_as}
+use Rattle.mob_ast.specs.declared.types.SqlType.{SqlType}
 use Rattle.mob_operators.specs.declared.operator.Op.{Op}
 use Rattle.mob_operators.specs.declared.operator.Op.TheVariants as op
 
@@ -34,8 +36,9 @@ column_value s place column = option_and_then (λ values. slice_get values colum
 abbrev pub scene : Store → List ℕ → List ℕ → ℤ → Scene
 scene store from tuple day = record { store = store; from = from; tuple = tuple; day = day }
 
--- what an operator without operands gives
-abbrev pub leaf_value : Scene → Op → Value
-leaf_value s (op.Const c) = value_or_null (constant_at s c)
-leaf_value s (op.Column place column) = value_or_null (column_value s place column)
-leaf_value s _ = Null
+-- What an operator without operands gives, at a node of this type: a constant or a column has its stored value, which reads as NULL where it
+-- is no value of the type.
+abbrev pub leaf_value : Scene → Op → SqlType → Value
+leaf_value s (op.Const c) ty = read_as ty (value_or_null (constant_at s c))
+leaf_value s (op.Column place column) ty = read_as ty (value_or_null (column_value s place column))
+leaf_value s _ ty = Null

@@ -2,7 +2,7 @@
 -- formula does not fit.
 use Rattle.std.specs.Prelude.{◌≡◌, ◌⊎◌, Bool, true, false, List, [], ◌∷◌, Option, Ok}
 use Rattle.mob_typed.specs.declared.typed.TExpr.{TExpr}
-use Rattle.mob_typed.specs.Trees.{TypedTree, typed, TypedTrees, none, more, typed_of}
+use Rattle.mob_typed.specs.Trees.{TypedTree, typed, TypedTrees, none, more, typed_of, arg_types}
 use Rattle.mob_value.specs.declared.value.Value.{Value}
 use Rattle.mob_eval.specs.Scene.{Scene}
 use Rattle.mob_eval.specs.Operators.{OperatorGives}
@@ -11,7 +11,7 @@ use Rattle.mob_eval.specs.Evaluation.{TreeEvaluatesTo, stops, stop_of}
 abbrev mutual
   -- what the operator gives on the values of its operands
   pub TreeHasValue : Scene → TypedTree → Value → Type 0
-  TreeHasValue s (typed o ty place args) v = (vs : List Value) × OperandsHaveValues s (stop_of o) args vs × OperatorGives s o vs v
+  TreeHasValue s (typed o ty place args) v = (vs : List Value) × OperandsHaveValues s (stop_of o) args vs × OperatorGives s o ty (arg_types args) vs v
 
   -- the values of operands from left to right, up to the first after which no further one is needed
   pub OperandsHaveValues : Scene → Option Bool → TypedTrees → List Value → Type 0

@@ -7,14 +7,15 @@ ghost use Rattle.mob_value.specs.declared.value.Value.TheVariants.{Number};
 ghost use Rattle.mob_slice.specs.Operands.{steady_value, steady_parts, IsPointwise};
 ghost use Rattle.mob_slice.specs.Sides.{operand_of, has_slices, given_at, pieces};
 ghost use Rattle.mob_eval.specs.Ordinary.{negated, unchanged, is_nil};
-ghost use Rattle.mob_eval.specs.Operators.{IsArithmetic, arithmetic_entries, plain_entries, on_numbers, quotient, divided_parts, parts_on};
-ghost use Rattle.mob_eval.specs.Lifted.{IsMovingInt};
+ghost use Rattle.mob_eval.specs.Operators.{IsArithmetic, arithmetic_entries, paired_entries, plain_entries, on_numbers, quotient, divided, divided_parts, divided_entries, parts_on};
+ghost use Rattle.mob_eval.specs.Lifted.{IsMovingInt, OnPair, number_pair};
 ghost use Rattle.mob_eval.specs.Calculations.{result_by, parts_by};
 ghost use Rattle.mob_slice.specs.Entries.{IsFirst, IsJudged, OnFormula};
 
 use crate::pair::number_pair;
 use crate::temporal::int_or_null;
 use mob_arith::{minus, plus, times};
+use mob_ast::SqlType;
 use mob_frac::{Frac, Overflow};
 use mob_slice::{Formula, Moving, OpFault, Operand, Steady};
 use mob_value::Value;
@@ -76,23 +77,38 @@ fn lifted(
     }
 }
 
-/// `+`, `-` or `*` between two values.
-pub fn calculate(
-    alloc: Global,
-    by: Calculation,
-    left: &Value,
-    right: &Value,
-) -> Result<Value, OpFault>
-    ensures value { IfOk result (λ v. IsArithmetic (result_by by) left.now right.now v) }
-    ensures fits { IfOk result (λ _. IsFirst (arithmetic_entries (parts_by by) left.now right.now) None) }
-    ensures fault { IfErr result (OnFormula (λ f. IsFirst (arithmetic_entries (parts_by by) left.now right.now) (Some f))) }
+// On two values of which one is a tint.
+fn moving(alloc: Global, by: Calculation, left: &Value, right: &Value) -> Result<Value, OpFault>
+    ensures value { IfOk result (λ v. OnPair (number_pair left.now right.now) (IsMovingInt (result_by by)) v) }
+    ensures fits { IfOk result (λ _. IsFirst (paired_entries (parts_by by) (number_pair left.now right.now)) None) }
+    ensures fault { IfErr result (OnFormula (λ f. IsFirst (paired_entries (parts_by by) (number_pair left.now right.now)) (Some f))) }
 {
     match number_pair(left, right) {
         Some((left, right)) => match lifted(alloc, by, left, right) {
             Ok(value) => Ok(int_or_null(value)),
             Err(fault) => Err(fault),
         },
-        None => plain(by, left, right),
+        None => Ok(Value::Null),
+    }
+}
+
+/// `+`, `-` or `*` between two values, with a result of this type.
+pub fn calculate(
+    alloc: Global,
+    by: Calculation,
+    ty: SqlType,
+    left: &Value,
+    right: &Value,
+) -> Result<Value, OpFault>
+    ensures value { IfOk result (λ v. IsArithmetic (result_by by) ty left.now right.now v) }
+    ensures fits { IfOk result (λ _. IsFirst (arithmetic_entries (parts_by by) ty left.now right.now) None) }
+    ensures fault { IfErr result (OnFormula (λ f. IsFirst (arithmetic_entries (parts_by by) ty left.now right.now) (Some f))) }
+{
+    match ty {
+        SqlType::Int => plain(by, left, right),
+        SqlType::Numeric => plain(by, left, right),
+        SqlType::TInt => moving(alloc, by, left, right),
+        _ => Ok(Value::Null),
     }
 }
 
@@ -118,14 +134,26 @@ fn number_division(left: &Frac, right: &Frac) -> Result<Value, OpFault>
     }
 }
 
-/// `/`. NULL where the divisor is 0.
-pub fn division(left: &Value, right: &Value) -> Result<Value, OpFault>
+// `/` between two values. NULL where the divisor is 0.
+fn plain_division(left: &Value, right: &Value) -> Result<Value, OpFault>
     ensures value { IfOk result (λ v. v ≡ quotient left.now right.now) }
     ensures fits { IfOk result (λ _. IsFirst (plain_entries (parts_on divided_parts left.now right.now)) None) }
     ensures fault { IfErr result (OnFormula (λ f. IsFirst (plain_entries (parts_on divided_parts left.now right.now)) (Some f))) }
 {
     match (left, right) {
         (Value::Number(a), Value::Number(b)) => number_division(a, b),
+        _ => Ok(Value::Null),
+    }
+}
+
+/// `/` between two values, with a result of this type. NULL where the divisor is 0.
+pub fn division(ty: SqlType, left: &Value, right: &Value) -> Result<Value, OpFault>
+    ensures value { IfOk result (λ v. v ≡ divided ty left.now right.now) }
+    ensures fits { IfOk result (λ _. IsFirst (divided_entries ty left.now right.now) None) }
+    ensures fault { IfErr result (OnFormula (λ f. IsFirst (divided_entries ty left.now right.now) (Some f))) }
+{
+    match ty {
+        SqlType::Numeric => plain_division(left, right),
         _ => Ok(Value::Null),
     }
 }

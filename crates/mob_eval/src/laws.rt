@@ -2,6 +2,7 @@
 
 ghost use Rattle.mob_eval.specs.Outcomes.{HasOneOutcome};
 ghost use Rattle.mob_eval.specs.Values.{HasOneValue, EvaluatesToItsValue};
+ghost use Rattle.mob_eval.specs.Stored.{ConstantsAreRead, ColumnsAreRead};
 
 /// An expression has one outcome on a tuple: one value, or one fault at one place. So where `eval` answers a value no part
 /// that it needed fails to fit, and where it answers `Passed` there is no value.
@@ -13,4 +14,10 @@ pub fn one_outcome()
 pub fn one_value()
     ensures value { HasOneValue }
     ensures evaluated { EvaluatesToItsValue }
+{}
+
+/// A constant or a column has its stored value where that is of the type that its node says.
+pub fn stored_values_are_read()
+    ensures constants { ConstantsAreRead }
+    ensures columns { ColumnsAreRead }
 {}

@@ -3,6 +3,7 @@
 
 mod apply;
 mod arithmetic;
+mod casting;
 mod comparison;
 mod condition;
 mod evaluate;
@@ -11,6 +12,7 @@ mod held;
 pub mod laws;
 mod lifting;
 mod logic;
+mod meeting;
 mod operators;
 mod pair;
 mod printed;

@@ -2,18 +2,23 @@
 ghost use Rattle.std.specs.Prelude.{◌≡◌, IfOk, IfErr, IsErr, MatchResult, None, Some, Ok, Err};
 ghost use Rattle.mob_eval.specs.Views.{scene_of};
 ghost use Rattle.mob_eval.specs.Operators.{GivesOfOne, GivesOfTwo, entries_of_two};
+ghost use Rattle.mob_eval.specs.SoFar.{operand_types};
 ghost use Rattle.mob_slice.specs.Entries.{IsFirst, OnFormula};
 ghost use Rattle.mob_eval.specs.Held.{held};
 
 use crate::arithmetic::{Calculation, calculate, division, negation, unchanged};
+use crate::casting::cast;
 use crate::comparison::test;
 use crate::held::Held;
 use crate::lifting::{join, lifted_and, lifted_not, lifted_or, lifted_test};
 use crate::logic::{conjunction, disjunction, is_null, known, negation as contrary, truth_of};
+use crate::meeting::meeting;
 use crate::printed::as_text;
 use crate::scene::View;
+use mob_ast::SqlType;
 use mob_operators::Op;
 use mob_slice::OpFault;
+use mob_typed::TExpr;
 use mob_value::Value;
 use std::alloc::{AllocError, Global};
 
@@ -32,9 +37,11 @@ pub fn of_one<'a>(
     alloc: Global,
     view: &View<'a>,
     op: Op,
+    ty: SqlType,
+    args: &[TExpr],
     operand: &Held<'a>,
 ) -> Result<Held<'a>, AllocError>
-    ensures value { IfOk result (λ h. GivesOfOne (scene_of view.now) op (held operand.now) (held h)) }
+    ensures value { IfOk result (λ h. GivesOfOne (scene_of view.now) op ty (operand_types args.now) (held operand.now) (held h)) }
 {
     let value = operand.get();
     match op {
@@ -47,7 +54,7 @@ pub fn of_one<'a>(
         Op::Same => Ok(Held::Made(unchanged(value))),
         Op::LiftedNot => made(lifted_not(alloc, value)),
         Op::AsText => made(as_text(alloc, value, view.epoch)),
-        Op::Cast => operand.share(alloc),
+        Op::Cast => cast(alloc, ty, args, operand),
         _ => Ok(Held::Made(Value::Null)),
     }
 }
@@ -63,23 +70,30 @@ fn without_formula(value: Result<Value, AllocError>) -> Result<Value, OpFault>
 }
 
 /// An operator on two operands, or its first formula with a part that does not fit.
-pub fn of_two(alloc: Global, op: Op, left: &Value, right: &Value) -> Result<Value, OpFault>
-    ensures value { IfOk result (λ v. GivesOfTwo op left.now right.now v) }
-    ensures fits { IfOk result (λ _. IsFirst (entries_of_two op left.now right.now) None) }
-    ensures fault { IfErr result (OnFormula (λ f. IsFirst (entries_of_two op left.now right.now) (Some f))) }
+pub fn of_two(
+    alloc: Global,
+    op: Op,
+    ty: SqlType,
+    args: &[TExpr],
+    left: &Value,
+    right: &Value,
+) -> Result<Value, OpFault>
+    ensures value { IfOk result (λ v. GivesOfTwo op ty (operand_types args.now) left.now right.now v) }
+    ensures fits { IfOk result (λ _. IsFirst (entries_of_two op ty (operand_types args.now) left.now right.now) None) }
+    ensures fault { IfErr result (OnFormula (λ f. IsFirst (entries_of_two op ty (operand_types args.now) left.now right.now) (Some f))) }
 {
     match op {
         Op::And => Ok(known(conjunction(truth_of(left), truth_of(right)))),
         Op::Or => Ok(known(disjunction(truth_of(left), truth_of(right)))),
         Op::Test(sign) => Ok(test(sign, left, right)),
-        Op::Add => calculate(alloc, Calculation::Sum, left, right),
-        Op::Subtract => calculate(alloc, Calculation::Difference, left, right),
-        Op::Multiply => calculate(alloc, Calculation::Product, left, right),
-        Op::Divide => division(left, right),
-        Op::Join => without_formula(join(alloc, left, right)),
+        Op::Add => calculate(alloc, Calculation::Sum, ty, left, right),
+        Op::Subtract => calculate(alloc, Calculation::Difference, ty, left, right),
+        Op::Multiply => calculate(alloc, Calculation::Product, ty, left, right),
+        Op::Divide => division(ty, left, right),
+        Op::Join => without_formula(join(alloc, ty, left, right)),
         Op::LiftedAnd => without_formula(lifted_and(alloc, left, right)),
         Op::LiftedOr => without_formula(lifted_or(alloc, left, right)),
-        Op::Lifted(sign) => without_formula(lifted_test(alloc, sign, left, right)),
+        Op::Lifted(sign) => without_formula(lifted_test(alloc, sign, meeting(args), left, right)),
         _ => Ok(Value::Null),
     }
 }

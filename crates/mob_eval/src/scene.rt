@@ -1,11 +1,13 @@
 //! What an expression reads.
-ghost use Rattle.std.specs.Prelude.{◌≡◌, MatchOption, option_map};
-ghost use Rattle.mob_value.specs.declared.value.Value.TheVariants.{Null};
+ghost use Rattle.std.specs.Prelude.{◌≡◌, option_map};
+ghost use Rattle.mob_value.specs.Null.{value_or_null};
+ghost use Rattle.mob_value.specs.Types.{is_of_type, read_as};
 ghost use Rattle.mob_eval.specs.Scene.{constant_at, rows_of_place, row_of_place, column_value, leaf_value};
 ghost use Rattle.mob_eval.specs.Views.{scene_of};
 ghost use Rattle.mob_eval.specs.Held.{held};
 
 use crate::held::Held;
+use mob_ast::SqlType;
 use mob_list::items::Items;
 use mob_operators::Op;
 use mob_scalar::Epoch;
@@ -54,22 +56,52 @@ fn column_value<'a>(view: &View<'a>, place: u32, column: u32) -> Option<&'a Valu
     row_of_place(view, place)?.get(column as usize)
 }
 
-fn stored<'a>(value: Option<&'a Value>) -> Held<'a>
-    ensures value { MatchOption value.entry (held result ≡ Null) (λ v. held result ≡ v.now) }
+// Whether a value is one of a type.
+fn is_of_type(ty: SqlType, value: &Value) -> bool
+    ensures exact { result ≡ is_of_type ty value.now }
+{
+    match (ty, value) {
+        (_, Value::Null) => true,
+        (SqlType::Bool, Value::Bool(_)) => true,
+        (SqlType::Int, Value::Number(_)) => true,
+        (SqlType::Numeric, Value::Number(_)) => true,
+        (SqlType::Text, Value::Text(_)) => true,
+        (SqlType::Moment, Value::Moment(_)) => true,
+        (SqlType::TBool, Value::MovingBool(_)) => true,
+        (SqlType::TInt, Value::MovingInt(_)) => true,
+        (SqlType::TText, Value::MovingText(_)) => true,
+        _ => false,
+    }
+}
+
+// A stored value where it stands. One of another type reads as NULL.
+fn read_as<'a>(ty: SqlType, value: &'a Value) -> Held<'a>
+    ensures value { held result ≡ read_as ty value.now }
+{
+    if is_of_type(ty, value) {
+        Held::Stored(value)
+    } else {
+        Held::Made(Value::Null)
+    }
+}
+
+// The same, where there is a value, and NULL where there is none.
+fn stored<'a>(ty: SqlType, value: Option<&'a Value>) -> Held<'a>
+    ensures value { held result ≡ read_as ty (value_or_null (option_map (λ v. v.now) value.entry)) }
 {
     match value {
-        Some(value) => Held::Stored(value),
+        Some(value) => read_as(ty, value),
         None => Held::Made(Value::Null),
     }
 }
 
-/// The value of an operator without operands.
-pub fn leaf_value<'a>(view: &View<'a>, op: Op) -> Held<'a>
-    ensures value { held result ≡ leaf_value (scene_of view.now) op }
+/// The value of an operator without operands, at a node of this type.
+pub fn leaf_value<'a>(view: &View<'a>, op: Op, ty: SqlType) -> Held<'a>
+    ensures value { held result ≡ leaf_value (scene_of view.now) op ty }
 {
     match op {
-        Op::Const(number) => stored(constant_at(view, number)),
-        Op::Column { from, column } => stored(column_value(view, from, column)),
+        Op::Const(number) => stored(ty, constant_at(view, number)),
+        Op::Column { from, column } => stored(ty, column_value(view, from, column)),
         _ => Held::Made(Value::Null),
     }
 }

@@ -57,7 +57,7 @@ pub fn held_value<'a>(alloc: Global, e: &TExpr, view: &View<'a>) -> Result<Held<
     let args = e.args.as_slice();
     let op = e.op;
     match operands(alloc, stop_of(op), args, view) {
-        Ok(values) => match result_of(alloc, view, op, values.as_slice()) {
+        Ok(values) => match result_of(alloc, view, op, e.ty, args, values.as_slice()) {
             Ok(value) => Ok(value),
             Err(fault) => Err(fault_at(e.place, fault)),
         },

@@ -25,6 +25,11 @@ type_of (typed op ty p args) = ty
 abbrev pub types_of : List TypedTree → List SqlType
 types_of ts = map type_of ts
 
+-- the types of arguments
+abbrev pub arg_types : TypedTrees → List SqlType
+arg_types none = []
+arg_types (more t ts) = type_of t ∷ arg_types ts
+
 abbrev pub typed_step : TExpr-F TypedTree → TypedTree
 typed_step t = typed t.op t.ty t.place (typed_trees t.args.items)
 

@@ -1,0 +1,21 @@
+-- Operators that have another count of operands.
+use Rattle.std.proofs.Common.{◌≡◌, List, [], ◌∷◌, None, length, refl}
+use Rattle.mob_ast.specs.declared.types.SqlType.{SqlType}
+use Rattle.mob_typed.specs.declared.typed.TExpr.{TExpr}
+use Rattle.mob_value.specs.declared.value.Value.{Value}
+use Rattle.mob_value.specs.declared.value.Value.TheVariants.{Null}
+use Rattle.mob_eval.specs.SoFar.{operand_types}
+use Rattle.mob_eval.specs.Types.{meeting, cast_of}
+
+-- where there is not one, nothing is cast
+pub no_cast : (es : List TExpr) (ty : SqlType) (v : Value) → (length es ≡ 1 → ⊥) → Null ≡ cast_of (operand_types es) ty v
+no_cast [] ty v h = refl
+no_cast (a ∷ []) ty v h = absurd (h refl)
+no_cast (a ∷ b ∷ rest) ty v h = refl
+
+-- where there are not two, none meet
+pub no_meeting : (es : List TExpr) → (length es ≡ 2 → ⊥) → None ≡ meeting (operand_types es)
+no_meeting [] h = refl
+no_meeting (a ∷ []) h = refl
+no_meeting (a ∷ b ∷ []) h = absurd (h refl)
+no_meeting (a ∷ b ∷ c ∷ rest) h = refl

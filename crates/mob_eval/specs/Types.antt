@@ -1,0 +1,38 @@
+-- What the types of the operands say of an operator.
+use Rattle.std.specs.Prelude.{List, [], ◌∷◌, Option, Some, None, cond}
+use Rattle.mob_ast.specs.declared.types.SqlType.{SqlType}
+use Rattle.mob_ast.specs.declared.types.SqlType.TheVariants as sql
+use Rattle.mob_operators.specs.Lookup.{same_type}
+use Rattle.mob_value.specs.declared.value.Value.{Value}
+use Rattle.mob_value.specs.declared.value.Value.TheVariants.{Null}
+use Rattle.mob_eval.specs.Ordinary.{unchanged}
+
+-- The temporal type in which two operands are compared at each instant: one of them at least has it, and the other has it too or has its
+-- base. A tint and a numeric meet in no type that is built.
+abbrev pub common_type : SqlType → SqlType → Option SqlType
+common_type sql.TBool sql.TBool = Some sql.TBool
+common_type sql.TBool sql.Bool = Some sql.TBool
+common_type sql.Bool sql.TBool = Some sql.TBool
+common_type sql.TInt sql.TInt = Some sql.TInt
+common_type sql.TInt sql.Int = Some sql.TInt
+common_type sql.Int sql.TInt = Some sql.TInt
+common_type sql.TText sql.TText = Some sql.TText
+common_type sql.TText sql.Text = Some sql.TText
+common_type sql.Text sql.TText = Some sql.TText
+common_type _ _ = None
+
+-- the same of the operands of an operator that has two
+abbrev pub meeting : List SqlType → Option SqlType
+meeting (a ∷ b ∷ []) = common_type a b
+meeting _ = None
+
+-- What a value of the first type becomes by a cast to the second. An int is made a numeric, which is the same number, and a value of a
+-- type is one of it already. A cast that is not built, or that no typed script has, gives NULL.
+abbrev pub cast_to : SqlType → SqlType → Value → Value
+cast_to sql.Int sql.Numeric v = unchanged v
+cast_to from to v = cond (same_type from to) v Null
+
+-- the same of an operator that has one operand
+abbrev pub cast_of : List SqlType → SqlType → Value → Value
+cast_of (from ∷ []) to v = cast_to from to v
+cast_of _ to v = Null

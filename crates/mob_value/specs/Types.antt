@@ -1,0 +1,24 @@
+-- Which values a type has, as their form tells it.
+use Rattle.std.specs.Prelude.{Bool, true, false, cond}
+use Rattle.mob_ast.specs.declared.types.SqlType.{SqlType}
+use Rattle.mob_ast.specs.declared.types.SqlType.TheVariants as sql
+use Rattle.mob_value.specs.declared.value.Value.{Value}
+use Rattle.mob_value.specs.declared.value.Value.TheVariants as value
+
+-- Whether a value is one of a type. NULL is one of each, and a number one of int and of numeric: that those of an int are whole is said
+-- by its texts.
+abbrev pub is_of_type : SqlType → Value → Bool
+is_of_type type value.Null = true
+is_of_type sql.Bool (value.Bool truth) = true
+is_of_type sql.Int (value.Number number) = true
+is_of_type sql.Numeric (value.Number number) = true
+is_of_type sql.Text (value.Text text) = true
+is_of_type sql.Moment (value.Moment instant) = true
+is_of_type sql.TBool (value.MovingBool slices) = true
+is_of_type sql.TInt (value.MovingInt slices) = true
+is_of_type sql.TText (value.MovingText slices) = true
+is_of_type _ _ = false
+
+-- a value read as one of a type: itself, and NULL where it is of another type
+abbrev pub read_as : SqlType → Value → Value
+read_as type v = cond (is_of_type type v) v value.Null
