@@ -6,6 +6,7 @@ mod Counts
 pub mod Once
 pub mod Single
 pub mod Values
+mod Passes
 mod Stored
 pub mod QueryFaults
 mod Examples

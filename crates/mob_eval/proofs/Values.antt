@@ -13,13 +13,13 @@ use Rattle.mob_eval.proofs.Single.{each_single}
 
 mutual
   run_value : (s : Scene) (e : TypedTree) (v : Value) → TreeEvaluatesTo s e (Ok v) → TreeHasValue s e v
-  run_value s (typed o ty place args) v h = (h.0, run_values s (stop_of o) args h.0 h.1, h.3)
+  run_value s (typed o ty place args) v h = (h.0, evaluate_to_their_values s (stop_of o) args h.0 h.1, h.3)
 
-  run_values : (s : Scene) (stop : Option Bool) (row : TypedTrees) (vs : List Value) → OperandsEvaluateTo s stop row (Ok vs) → OperandsHaveValues s stop row vs
-  run_values s stop none vs h = h
-  run_values s stop (more e rest) [] h = absurd h
-  run_values s stop (more e rest) (v ∷ vs) (h, inl a) = (run_value s e v h, inl a)
-  run_values s stop (more e rest) (v ∷ vs) (h, inr a) = (run_value s e v h, inr (a.0, run_values s stop rest vs a.1))
+  pub evaluate_to_their_values : (s : Scene) (stop : Option Bool) (row : TypedTrees) (vs : List Value) → OperandsEvaluateTo s stop row (Ok vs) → OperandsHaveValues s stop row vs
+  evaluate_to_their_values s stop none vs h = h
+  evaluate_to_their_values s stop (more e rest) [] h = absurd h
+  evaluate_to_their_values s stop (more e rest) (v ∷ vs) (h, inl a) = (run_value s e v h, inl a)
+  evaluate_to_their_values s stop (more e rest) (v ∷ vs) (h, inr a) = (run_value s e v h, inr (a.0, evaluate_to_their_values s stop rest vs a.1))
 
 pub evaluates_to_its_value : EvaluatesToItsValue
 evaluates_to_its_value = run_value

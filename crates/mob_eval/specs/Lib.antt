@@ -6,6 +6,7 @@ pub mod Lifted
 pub mod Operators
 pub mod Evaluation
 pub mod Values
+pub mod Passes
 pub mod Stored
 pub mod Held
 pub mod Faults

@@ -2,6 +2,7 @@
 
 ghost use Rattle.mob_eval.specs.Outcomes.{HasOneOutcome};
 ghost use Rattle.mob_eval.specs.Values.{HasOneValue, EvaluatesToItsValue};
+ghost use Rattle.mob_eval.specs.Passes.{FaultsPass};
 ghost use Rattle.mob_eval.specs.Stored.{ConstantsAreRead, ColumnsAreRead};
 
 /// An expression has one outcome on a tuple: one value, or one fault at one place. So where `eval` answers a value no part
@@ -14,6 +15,11 @@ pub fn one_outcome()
 pub fn one_value()
     ensures value { HasOneValue }
     ensures evaluated { EvaluatesToItsValue }
+{}
+
+/// What an expression is refused for is a part that does not fit: the place and the formula of a fault are those of such a part.
+pub fn faults_pass()
+    ensures passes { FaultsPass }
 {}
 
 /// A constant or a column has its stored value where that is of the type that its node says.

@@ -4,13 +4,16 @@ use Rattle.std.specs.Prelude.{◌⊎◌, Some, None}
 use Rattle.mob_outside.specs.Faults.{Rose}
 use Rattle.mob_words.specs.Outcomes.{SaysOneThing}
 use Rattle.mob_words.specs.declared.options.Settings.{Settings}
-use Rattle.mob_accept.specs.Accepts.{IsTextRefused}
-use Rattle.mob_load.specs.Loads.{missing, refused}
+use Rattle.mob_accept.specs.Outcomes.{NeverTakenAndRefused}
+use Rattle.mob_eval.specs.Passes.{FaultsPass}
+use Rattle.mob_load.specs.Loads.{missing, refused, table_refused}
 use Rattle.mob_ending.specs.Lines.{status_of}
 use Rattle.mob_ending.specs.declared.ending.Ending.{Ending}
 use Rattle.mob_ending.specs.declared.ending.Ending.TheVariants.{Done, Usage, ReadFault, WriteFault, NoMemory, TableRefused, ScriptRefused, Overflow}
-use Rattle.mob_shell.specs.Program.{IsHalted, ProgramWrites, StopsWith}
-use Rattle.mob_shell.specs.Outcomes.{HasOneEnding, NeverProgramAndHalted}
+use Rattle.mob_shell.specs.Program.{ProgramWrites, StopsWith}
+use Rattle.mob_shell.specs.Fits.{MustAnswer, ProgramFits}
+use Rattle.mob_shell.proofs.Fitting.{never_stops}
+use Rattle.mob_shell.specs.Outcomes.{HasOneEnding, HasOneProgram, NeverProgramAndHalted}
 use Rattle.mob_shell.specs.Inputs.{Input, IsInputOf, OnInput, Seen}
 use Rattle.mob_shell.specs.Ending.{CutsShort, IsEndingOf, MustEnd, IsDue, IsFaultless, IsUsage}
 
@@ -56,11 +59,15 @@ due_or_memory ending s h faultless = elim (due_or_failed ending s h) [
   | inr (inr (inr (inr short))) ↦ absurd (faultless.put short.rose)
 ]
 
--- words have one setting, and what is read by it asks for one ending; what has a program is not refused
+-- Words have one setting; what is read by it has one program and is not refused then, and asks for one ending; and a fault is a part that
+-- does not fit.
 pub record AreEndingLaws : Type 0 where
   pub setting : SaysOneThing
-  pub ending : HasOneEnding
+  pub program : HasOneProgram
   pub apart : NeverProgramAndHalted
+  pub refused : NeverTakenAndRefused
+  pub ending : HasOneEnding
+  pub passes : FaultsPass
 
 module _ (law : AreEndingLaws) (s : Seen) where
   -- what holds of an input by the settings of one fact holds by those of the other
@@ -96,4 +103,27 @@ module _ (law : AreEndingLaws) (s : Seen) where
     | inr (inr (inl read)) ↦ absurd (read_well read)
     | inr (inr (inr (inl filed))) ↦ inl filed.1
     | inr (inr (inr (inr short))) ↦ absurd (never_short file short must)
+  ]
+
+  -- what is due on a program of which every part fits is its answers
+  due_is_done : (settings : Settings) (input : Input) → ProgramFits settings input → (ending : Ending) → IsDue settings input ending → status_of ending ≡ 0
+  due_is_done settings input fits Done h = refl
+  due_is_done settings input fits Usage h = absurd h
+  due_is_done settings input fits (ReadFault None) h = absurd h
+  due_is_done settings input fits (ReadFault (Some file)) h = absurd (law.apart settings input fits.out fits.program (missing file) fits.is h)
+  due_is_done settings input fits WriteFault h = absurd h
+  due_is_done settings input fits NoMemory h = absurd h
+  due_is_done settings input fits (TableRefused name kind rec field) h = absurd (law.apart settings input fits.out fits.program (table_refused name kind rec field) fits.is h)
+  due_is_done settings input fits (ScriptRefused e) (inl h) = absurd (law.refused input.script fits.out e fits.is.script h)
+  due_is_done settings input fits (ScriptRefused e) (inr h) = absurd (law.apart settings input fits.out fits.program (refused e) fits.is h)
+  due_is_done settings input fits (Overflow number rows place formula) h = absurd (never_stops law.passes law.program settings input fits h.0 number (rows, (place, formula)) h.1)
+
+  -- a run in which nothing failed and every part fits ends with 0, or for want of memory
+  pub answers_all : (ending : Ending) → IsEndingOf ending s → MustAnswer s → IsFaultless s → (status_of ending ≡ 0) ⊎ (status_of ending ≡ 5)
+  answers_all ending h must faultless = elim (due_or_memory ending s h faultless) [
+    | inl (inl usage) ↦ absurd (usage.0 must.0 must.1)
+    | inl (inr on) ↦
+        let same : on.settings ≡ must.0 = law.setting s.words on.settings must.0 on.says must.1 in
+        inl (due_is_done must.0 must.2 must.4 ending (on_it (λ settings input. IsDue settings input ending) on must.0 must.2 same must.3))
+    | inr memory ↦ inr (ap status_of memory)
   ]

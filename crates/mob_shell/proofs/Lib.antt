@@ -8,4 +8,5 @@ mod Statuses
 mod OneRun
 mod OneOutcome
 mod OneEnding
+mod Fitting
 mod Due

@@ -8,7 +8,7 @@ use Rattle.mob_ending.specs.declared.ending.Ending.TheVariants.{Done, Usage, Rea
 use Rattle.mob_shell.specs.Ending.{IsCausedBy, CutsShort, IsEndingOf, IsDue, IsOverflow, IsReadFault, HasRefusedScript, HasRefusedTable, IsUsage, OnDue, WritesAll, WroteSome}
 use Rattle.mob_shell.specs.Inputs.{Seen}
 use Rattle.mob_shell.specs.Run.{EndsSo, IsRun}
-use Rattle.mob_shell.proofs.Due.{AreEndingLaws, IsDueOnInput, due_or_memory, each_input, ends_as_due, misses_a_file}
+use Rattle.mob_shell.proofs.Due.{AreEndingLaws, IsDueOnInput, answers_all, due_or_memory, each_input, ends_as_due, misses_a_file}
 
 by_written : (ending : Ending) (s : Seen) → IsCausedBy ending s → status_of ending ≡ 0 → WritesAll s
 by_written Done s h e = h
@@ -87,6 +87,7 @@ is_run law ending s Noted ends noted = record {
   silent = by_silence ending s ends.cause;
   untouched = by_untouched ending s ends.cause;
   due = λ faultless. with_note ending s Noted (due_or_memory ending s ends faultless) noted;
+  answered = answers_all law s ending ends;
   missing = λ file must read_well. misses_a_file law s ending file ends read_well must;
   complete = λ due must faultless. so_ended ending due Noted (ends_as_due law s ending due ends faultless must) noted;
   reads = ends.read;

@@ -6,6 +6,7 @@ pub mod Runs
 pub mod StepOutcomes
 pub mod Session
 pub mod Program
+pub mod Fits
 pub mod Ending
 pub mod Run
 pub mod Parts

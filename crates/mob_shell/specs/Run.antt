@@ -9,6 +9,7 @@ use Rattle.mob_ending.specs.Lines.{note_line, status_of}
 use Rattle.mob_ending.specs.declared.ending.Ending.{Ending}
 use Rattle.mob_ending.specs.declared.ending.Ending.TheVariants.{ReadFault}
 use Rattle.mob_shell.specs.Ending.{AsksInOrder, IsCausedBy, CutsShort, MustEnd, IsFaultless, IsOverflow, IsReadFault, HasRefusedScript, HasRefusedTable, IsUsage, OnDue, WritesAll, WroteSome}
+use Rattle.mob_shell.specs.Fits.{MustAnswer}
 use Rattle.mob_shell.specs.Inputs.{Seen}
 
 -- the status and the note are those of this ending
@@ -51,6 +52,9 @@ pub record IsRun (status : ℕ) (s : Seen) (Noted : List ℕ → Type 0) : Type 
   -- wherever the definitions ask for one. Want of memory is free.
   pub due : IsFaultless s → OnDue s (λ ending. EndsSo ending status Noted) ⊎ (status ≡ 5)
   pub complete : (ending : Ending) → MustEnd s ending → IsFaultless s → EndsSo ending status Noted ⊎ (status ≡ 5)
+  -- In plain words: where no count rose, nothing is refused, and no part of WHERE fails to fit on any tuple that is visited, and no part
+  -- of an item or a key on any tuple that is kept, the status is 0. Want of memory is free.
+  pub answered : MustAnswer s → IsFaultless s → (status ≡ 0) ⊎ (status ≡ 5)
   -- where a file is not there, which the files count as a fault, the status is 3, if the script did not fail
   pub missing : (file : List ℕ) → MustEnd s (ReadFault (Some file)) → (Rose s.script.faults_before s.script.faults_now → ⊥) → (status ≡ 3) ⊎ (status ≡ 5)
   -- under every status: at most one byte past the limit is taken from the script, the files are asked for the names of the

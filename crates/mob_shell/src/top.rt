@@ -7,7 +7,9 @@ ghost use Rattle.mob_outside.specs.Streams.{Puts};
 
 use crate::decide::decide;
 use crate::laws::{one_ending, one_program};
+use mob_accept::laws::one_script;
 use mob_ending::tell;
+use mob_eval::laws::faults_pass;
 use mob_outside::{Files, Gate, Sink, Source};
 use mob_words::laws::one_setting;
 use std::alloc::Global;
@@ -42,8 +44,10 @@ pub fn run<R: Threads + Sync, S: Source, F: Files, K: Sink, E: Sink, G: Gate>(
         (λ line. Puts line (E.held notes.old) (E.held notes.new) (E.faults notes.old) (E.faults notes.new)) }
 {
     one_setting();
+    one_script();
     one_program();
     one_ending();
+    faults_pass();
     let ending = decide(alloc, words, script, files, out);
     tell(notes, &ending);
     ending.status()
