@@ -9,7 +9,7 @@ use Rattle.mob_language.specs.Language.{Text, Language, is_digit, is_number_sign
 use Rattle.mob_language.proofs.Heads.{NoHead, Apart, HasByte}
 use Rattle.mob_language.proofs.Exact.{Stops}
 use Rattle.mob_slice.specs.declared.slice.Slice.{Slice}
-use Rattle.mob_slice.specs.declared.steady.Steady.{Steady}
+use Rattle.mob_slice.specs.CourseOf.{CourseOf}
 use Rattle.mob_ast.specs.declared.types.SqlType.{SqlType}
 use Rattle.mob_ast.specs.declared.types.SqlType.TheVariants as sql
 use Rattle.mob_value.specs.declared.value.Value.{Value}
@@ -22,14 +22,14 @@ use Rattle.mob_numeral.proofs.Again.{number_plain}
 use Rattle.mob_scalar.proofs.MomentAgain.{moment_plain}
 use Rattle.mob_numeral.proofs.WholeTexts.{number_head, number_byte}
 use Rattle.mob_scalar.proofs.WholeTexts.{moment_head, moment_byte}
-use Rattle.mob_written.specs.Printed.{Style, is_long, groups_of, start_text, groups_text, set_text, steps_text}
+use Rattle.mob_written.specs.Printed.{Style, is_long, groups_of, start_text, groups_text, set_text, moving_text}
 use Rattle.mob_written.specs.Style.{style_of}
 use Rattle.mob_literal.specs.Readable.{IsDated, IsReadable}
 use Rattle.mob_literal.specs.SqlReadable.{IsReadableAs}
 use Rattle.mob_literal.specs.SqlText.{SaysAs}
 use Rattle.mob_literal.specs.Fields.{is_null_text, is_empty, is_null_field, doubled, undoubled, text_of_field, field_text}
 use Rattle.mob_literal.proofs.Listing.{first_in}
-use Rattle.mob_literal.proofs.GroupSlices.{AreRuns, are_groups}
+use Rattle.mob_literal.proofs.GroupSlices.{AllHoldTogether, are_groups}
 use Rattle.mob_literal.proofs.SqlAgain.{value_again}
 
 -- ---- texts that begin with another byte than a backslash
@@ -81,11 +81,11 @@ quoted_is_plain : (v : Text) → IsPlain (quoted_text v)
 unfolding quoted_text
 quoted_is_plain v = record { first = 34; rest = _; is = refl; plain = refl }
 
-module _ {B : Type 0} (style : Style B) where
-  start_is_plain : (s : Slice (Steady B)) → IsPlain (style.value_text s.course.value) → IsPlain (start_text style s)
-  start_is_plain s p = plain_front (style.value_text s.course.value ++ codes "@") (style.moment_text s.span.lower) (plain_front (style.value_text s.course.value) (codes "@") p)
+module _ {C B : Type 0} (style : Style C B) where
+  start_is_plain : (s : Slice C) → IsPlain (style.value_text (style.course.start s.course)) → IsPlain (start_text style s)
+  start_is_plain s p = plain_front (style.value_text (style.course.start s.course) ++ codes "@") (style.moment_text s.span.lower) (plain_front (style.value_text (style.course.start s.course)) (codes "@") p)
 
-  set_is_plain : (slices : List (Slice (Steady B))) → ((s : Slice (Steady B)) (rest : List (Slice (Steady B))) → slices ≡ s ∷ rest → IsPlain (style.value_text s.course.value)) → IsPlain (set_text style slices)
+  set_is_plain : (slices : List (Slice C)) → ((s : Slice C) (rest : List (Slice C)) → slices ≡ s ∷ rest → IsPlain (style.value_text (style.course.start s.course))) → IsPlain (set_text style slices)
   set_is_plain [] h = record { first = 123; rest = _; is = refl; plain = refl }
   set_is_plain (s ∷ []) h = start_is_plain s (h s [] refl)
   set_is_plain (s ∷ r ∷ rest) h = record { first = 123; rest = _; is = refl; plain = refl }
@@ -94,21 +94,21 @@ module _ {B : Type 0} (style : Style B) where
   bracket_is_plain true = record { first = 91; rest = []; is = refl; plain = refl }
   bracket_is_plain false = record { first = 40; rest = []; is = refl; plain = refl }
 
-  groups_are_plain : (groups : List (List (Slice (Steady B)))) → AreRuns groups → IsPlain (groups_text style groups)
-  groups_are_plain [] runs = record { first = 123; rest = _; is = refl; plain = refl }
-  groups_are_plain ([] ∷ []) runs = absurd runs
-  groups_are_plain ((s ∷ group) ∷ []) runs = plain_front _ _ (plain_front _ _ (bracket_is_plain s.span.lower_inc))
-  groups_are_plain (group ∷ next ∷ groups) runs = record { first = 123; rest = _; is = refl; plain = refl }
+  groups_are_plain : (groups : List (List (Slice C))) → AllHoldTogether style.course groups → IsPlain (groups_text style groups)
+  groups_are_plain [] together = record { first = 123; rest = _; is = refl; plain = refl }
+  groups_are_plain ([] ∷ []) together = absurd together
+  groups_are_plain ((s ∷ group) ∷ []) together = plain_front _ _ (plain_front _ _ (bracket_is_plain s.span.lower_inc))
+  groups_are_plain (group ∷ next ∷ groups) together = record { first = 123; rest = _; is = refl; plain = refl }
 
-  steps_are_plain : (slices : List (Slice (Steady B))) → ((s : Slice (Steady B)) (rest : List (Slice (Steady B))) → slices ≡ s ∷ rest → IsPlain (style.value_text s.course.value)) → IsPlain (steps_text style slices)
-  steps_are_plain slices h = by_lengths (list_all (λ (s : Slice (Steady B)). not (is_long s)) slices)
+  moving_is_plain : (slices : List (Slice C)) → ((s : Slice C) (rest : List (Slice C)) → slices ≡ s ∷ rest → IsPlain (style.value_text (style.course.start s.course))) → IsPlain (moving_text style slices)
+  moving_is_plain slices h = by_lengths (list_all (λ (s : Slice C). not (is_long s)) slices)
     where
-      by_lengths : (set : Bool) → IsPlain (cond set (set_text style slices) (groups_text style (groups_of slices)))
+      by_lengths : (set : Bool) → IsPlain (cond set (set_text style slices) (groups_text style (groups_of style.course slices)))
       by_lengths true = set_is_plain slices h
-      by_lengths false = groups_are_plain (groups_of slices) (are_groups slices).runs
+      by_lengths false = groups_are_plain (groups_of style.course slices) (are_groups style.course slices).together
 
-first_value : {B : Type 0} {day : ℤ} {text : B → Text} {IsWritten : B → Type 0} {is_same : B → B → Bool} → ((v : B) → IsWritten v → IsPlain (text v)) → (slices : List (Slice (Steady B))) → IsReadable day text IsWritten is_same slices → IsPlain (steps_text (style_of text day) slices)
-first_value {B} {day} {text} {IsWritten} {is_same} plain slices r = steps_are_plain (style_of text day) slices (λ s rest e. plain s.course.value (subst (λ (xs : List (Slice (Steady B))). ((x : Slice (Steady B)) → Contains xs x → IsWritten x.course.value) → IsWritten s.course.value) (sym e) (λ f. f s (first_in s rest)) r.values))
+first_value : {C B : Type 0} {course : CourseOf C B} {day : ℤ} {text : B → Text} {IsWritten : B → Type 0} → ((v : B) → IsWritten v → IsPlain (text v)) → (slices : List (Slice C)) → IsReadable course day text IsWritten slices → IsPlain (moving_text (style_of course text day) slices)
+first_value {C} {B} {course} {day} {text} {IsWritten} plain slices r = moving_is_plain (style_of course text day) slices (λ s rest e. plain (course.start s.course) (subst (λ (xs : List (Slice C)). ((x : Slice C) → Contains xs x → IsWritten (course.start x.course)) → IsWritten (course.start s.course)) (sym e) (λ f. f s (first_in s rest)) r.starts))
 
 -- ---- fields
 

@@ -2,13 +2,14 @@ pub mod FlatLemmas
 pub mod Listing
 pub mod Made
 pub mod OneReading
-pub mod ReadSteps
+pub mod ReadLiterals
 pub mod Rows
-pub mod StepLemmas
+pub mod Drawn
+pub mod SequenceLemmas
 pub mod Traversed
 pub mod GroupSlices
 pub mod GroupTexts
-pub mod StepsAgain
+pub mod MovingAgain
 pub mod SqlReading
 pub mod SqlAgain
 pub mod FieldsAgain

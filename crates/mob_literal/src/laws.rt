@@ -4,7 +4,7 @@ ghost use Rattle.std.specs.Prelude.{◌≡◌, ◌≢◌, List, Bool, ℕ, ℤ, 
 ghost use Rattle.mob_language.specs.Language.{Text};
 ghost use Rattle.mob_ast.specs.declared.types.SqlType.{SqlType};
 ghost use Rattle.mob_literal.specs.Fields.{is_null_field, text_of_field, field_text};
-ghost use Rattle.mob_written.specs.Printed.{steps_text};
+ghost use Rattle.mob_written.specs.Printed.{moving_text};
 ghost use Rattle.mob_literal.specs.Readable.{AnyTruth, IsInt, IsReadable, IsText};
 ghost use Rattle.mob_literal.specs.Sound.{steps};
 ghost use Rattle.mob_literal.specs.SqlReadable.{IsReadableAs};
@@ -19,6 +19,7 @@ ghost use Rattle.mob_scalar.specs.Truth.{truth_text};
 ghost use Rattle.mob_numeral.specs.Verdict.{HasOneReading, Lit};
 ghost use Rattle.mob_numeral.specs.declared.fault.ReadText.{ReadText};
 ghost use Rattle.mob_numeral.specs.declared.fault.ReadText.TheVariants.{NoMemory};
+ghost use Rattle.mob_slice.specs.CourseOf.{steady_course};
 ghost use Rattle.mob_slice.specs.Sameness.{same_bool, same_bytes};
 ghost use Rattle.mob_slice.specs.declared.slice.Slice.{Slice};
 ghost use Rattle.mob_slice.specs.declared.steady.Steady.{Steady};
@@ -37,12 +38,12 @@ pub fn one_reading()
 /// What is printed of a step value is read again as that value, where its instants lie in the years 0001 to 9999 and at most
 /// 100,000 of them are printed.
 pub fn steps_read_again()
-    ensures truths { (day : ℤ) (v : List (Slice (Steady Bool))) → IsReadable day truth_text AnyTruth same_bool v
-        → Lit (steps day truth_value any_value same_bool) (steps_text (style_of truth_text day) v) (Ok v) }
-    ensures numbers { (day : ℤ) (v : List (Slice (Steady Ratio))) → IsReadable day number_text IsInt same v
-        → Lit (steps day number_value is_whole same) (steps_text (style_of number_text day) v) (Ok v) }
-    ensures texts { (day : ℤ) (v : List (Slice (Steady (List ℕ)))) → IsReadable day quoted_text IsText same_bytes v
-        → Lit (steps day quoted_value any_value same_bytes) (steps_text (style_of quoted_text day) v) (Ok v) }
+    ensures truths { (day : ℤ) (v : List (Slice (Steady Bool))) → IsReadable (steady_course same_bool) day truth_text AnyTruth v
+        → Lit (steps day truth_value any_value same_bool) (moving_text (style_of (steady_course same_bool) truth_text day) v) (Ok v) }
+    ensures numbers { (day : ℤ) (v : List (Slice (Steady Ratio))) → IsReadable (steady_course same) day number_text IsInt v
+        → Lit (steps day number_value is_whole same) (moving_text (style_of (steady_course same) number_text day) v) (Ok v) }
+    ensures texts { (day : ℤ) (v : List (Slice (Steady (List ℕ)))) → IsReadable (steady_course same_bytes) day quoted_text IsText v
+        → Lit (steps day quoted_value any_value same_bytes) (moving_text (style_of (steady_course same_bytes) quoted_text day) v) (Ok v) }
 {}
 
 /// What is printed of a value of a type is read again as that value, under the same conditions on its instants.

@@ -1,16 +1,18 @@
 -- The readers of temporal literals read exactly their texts, over any exact reader of values.
 use Rattle.std.proofs.Common.{◌≡◌, ℕ, ℤ, [], ◌∷◌, ◌++◌, map, Bool, true, false, Option, None, refl, sym, ap, subst, ◌∙◌, append_assoc, rules, codes}
 use Rattle.std.specs.Prelude.{◌||◌, nat_eq}
-use Rattle.mob_language.specs.Language.{Text, Language, ◌▷◌, ◌∣◌, Means, Word, AreAll, Separated, blanks, is_blank, in_middle}
+use Rattle.std.specs.Char.{to_ascii_lowercase}
+use Rattle.mob_language.specs.Language.{Text, Language, ◌▷◌, ◌∣◌, Means, Word, AnyCase, AreAll, Separated, blanks, is_blank, in_middle}
 use Rattle.mob_language.specs.Readers.{TextReader, means_at, separated_at, items_at}
-use Rattle.mob_language.proofs.Exact.{Exact, Stops, Any, then_exact, or_exact, means_exact, word_exact, one_exact, many_exact, many_again}
-use Rattle.mob_language.proofs.Heads.{NoHead, Apart, HasByte, stops_less, byte_stops, means_head, one_head, or_head, then_byte, means_byte, or_byte, then_byte_stops, word_then_head, one_then_head, byte_head, one_byte, word_byte, spaced_exact, IsEnd, within_exact}
+use Rattle.mob_language.proofs.Exact.{Exact, Stops, Any, then_exact, or_exact, means_exact, word_exact, any_case_exact, one_exact, many_exact, many_again}
+use Rattle.mob_language.proofs.Heads.{NoHead, Apart, HasByte, Nothing, stops_less, exact_less, maybe_stops, maybe_head, after_any, then_head, word_head, byte_stops, means_head, one_head, or_head, then_byte, means_byte, or_byte, then_byte_stops, word_then_head, one_then_head, byte_head, one_byte, word_byte, spaced_exact, IsEnd, within_exact}
 use Rattle.mob_language.proofs.Lists.{separated_exact}
 use Rattle.mob_scalar.proofs.MomentExact.{Closes, moment_exact}
 use Rattle.mob_numeral.proofs.WholeTexts.{back_nil, front_nil}
 use Rattle.mob_scalar.proofs.WholeTexts.{moment_blank, moment_byte, blanks_close}
 use Rattle.mob_scalar.proofs.Closing.{Ends, sign_closes}
-use Rattle.mob_written.specs.Literal.{at_sign, comma, noted_of, noted, is_open, is_close, opening, closing, sequence_of, sequence, alone, members, braced, one_sequence, one_instant, literal, temporal, at_sign_at, comma_at, noted_at, opening_at, closing_at, instants_at, sequence_at, sequences_at, members_at, open_brace_at, close_brace_at, braced_at, temporal_literal_at, temporal_at}
+use Rattle.mob_written.specs.Literal.{at_sign, comma, noted_of, noted, is_open, is_close, opening, closing, sequence_of, sequence, alone, members, braced, one_sequence, one_instant, literal, prefixed_of, prefixed, temporal, at_sign_at, comma_at, noted_at, opening_at, closing_at, instants_at, sequence_at, sequences_at, members_at, open_brace_at, close_brace_at, braced_at, temporal_literal_at, prefixed_at, temporal_at}
+use Rattle.mob_written.specs.Prefix.{interpolation_step, is_there, no_prefix, step_prefix, prefix_of, interpolation_step_at, prefix_at, goes_on_prefix}
 use Rattle.mob_written.specs.ValueText.{IsValueText, begins_no_value}
 
 close_blank : Apart is_close is_blank
@@ -36,7 +38,7 @@ comma_byte : HasByte comma
 comma_byte = means_byte (λ (v : Text × (Unit {0} × Text)). tt) (λ text v said e.
     then_byte blanks (word_byte 44 []) said.back v.1 said.second (back_nil said.front said.back (sym said.whole ∙ e)))
 
-pub noted_exact : {B : Type 0} (day : ℤ) {value : Language (Option B)} {reader : TextReader (Option B)} {F : Text → Type 0} → IsValueText value reader F → Exact (noted day value) (noted_at day reader) Closes
+pub noted_exact : {B : Type 0} (day : ℤ) {value : Language (Option B)} {reader : TextReader (Option B)} {F : Text → Type 0} {steady : Bool} → IsValueText steady value reader F → Exact (noted day value) (noted_at day reader) Closes
 unfolding noted_at
 noted_exact {B} day {value} {reader} {F} v = means_exact (noted_of day) (then_exact v.exact
     (then_byte_stops at_exact moment_exact moment_blank moment_byte)
@@ -51,7 +53,7 @@ pub record IsEntry {A : Type 0} (entry : Text → A → Type 0) (reader : TextRe
   pub well_begun : NoHead entry begins_no_value
   pub has_byte : HasByte entry
 
-pub noted_entry : {B : Type 0} (day : ℤ) {value : Language (Option B)} {reader : TextReader (Option B)} {F : Text → Type 0} → IsValueText value reader F → IsEntry (noted day value) (noted_at day reader)
+pub noted_entry : {B : Type 0} (day : ℤ) {value : Language (Option B)} {reader : TextReader (Option B)} {F : Text → Type 0} {steady : Bool} → IsValueText steady value reader F → IsEntry (noted day value) (noted_at day reader)
 noted_entry day v = record {
   exact = noted_exact day v;
   well_begun = means_head (byte_head _ v.well_begun v.has_byte);
@@ -137,7 +139,7 @@ sequence_exact {A} {entry} {reader} e = means_exact sequence_of (then_byte_stops
     (then_byte closing (list_byte entry comma e.has_byte)))
 
 abbrev not_open : ℕ → Bool
-not_open c = is_blank c || nat_eq c 123
+not_open c = nat_eq c 123 || goes_on_prefix c
 
 open_other : Apart is_open not_open
 open_other c e = search rules
@@ -241,14 +243,80 @@ literal_exact {A} {entry} {reader} e = or_exact (braced_exact e)
     others_byte : HasByte (Means one_sequence (sequence entry) ∣ Means one_instant entry)
     others_byte = or_byte (means_byte one_sequence (sequence_byte entry)) (means_byte one_instant e.has_byte)
 
-literal_head : {A : Type 0} {entry : Language A} {reader : TextReader A} → IsEntry entry reader → NoHead (literal entry) is_blank
-literal_head {entry = entry} e = or_head (means_head (byte_head _ (word_then_head 123 [] is_blank refl) (then_byte blanks (word_byte 123 []))))
-    (or_head (means_head (head_less other_blank (sequence_head entry))) (means_head (head_less mark_blank e.well_begun)))
+-- a test that no brace and no opening bracket passes
+record IsSignless (test : ℕ → Bool) : Type 0 where
+  brace : test 123 ≡ false
+  bracket : (c : ℕ) → not_open c ≡ false → test c ≡ false
+
+literal_head : {A : Type 0} (entry : Language A) {test : ℕ → Bool} → IsSignless test → NoHead entry test → NoHead (literal entry) test
+literal_head entry {test} t h = or_head (means_head (byte_head _ (word_then_head 123 [] test t.brace) (then_byte blanks (word_byte 123 []))))
+    (or_head (means_head (head_less t.bracket (sequence_head entry))) (means_head h))
 
 literal_byte : {A : Type 0} {entry : Language A} {reader : TextReader A} → IsEntry entry reader → HasByte (literal entry)
 literal_byte {entry = entry} e = or_byte (means_byte in_middle (then_byte _ (then_byte blanks (word_byte 123 []))))
     (or_byte (means_byte one_sequence (sequence_byte entry)) (means_byte one_instant e.has_byte))
 
-pub temporal_exact : {A : Type 0} {entry : Language A} {reader : TextReader A} → IsEntry entry reader → Exact (temporal entry) (temporal_at reader) IsEnd
+-- ---- what stands before a literal
+
+step_exact : Exact interpolation_step interpolation_step_at (Stops is_blank)
+step_exact = after_any (any_case_exact (codes "interp=step")) (spaced_exact 59 [] refl)
+
+on_blank : (c : ℕ) → goes_on_prefix c ≡ false → is_blank c ≡ false
+on_blank c e = search rules
+
+-- no prefix begins with another letter
+other_letter : (c : ℕ) → goes_on_prefix c ≡ false → nat_eq (to_ascii_lowercase c) 105 ≡ false
+other_letter c e = search rules
+
+step_nothing : Nothing interpolation_step_at goes_on_prefix
+step_nothing [] h = refl
+step_nothing (c ∷ cs) h = rw (other_letter c h) refl
+
+step_prefix_exact : Exact step_prefix (prefix_at false) (Stops goes_on_prefix)
+unfolding prefix_at
+step_prefix_exact = means_exact is_there (maybe_stops (exact_less step_exact (λ rest after. stops_less goes_on_prefix is_blank on_blank rest after)) step_nothing)
+
+no_prefix_exact : Exact no_prefix (prefix_at true) Any
+unfolding prefix_at
+no_prefix_exact = means_exact (λ (u : Unit {0}). false) (word_exact [])
+
+-- a prefix begins with no blank
+prefix_head : (steady : Bool) → NoHead (prefix_of steady) is_blank
+prefix_head true = means_head (word_head [] is_blank tt)
+prefix_head false = means_head (maybe_head (byte_head _ any_case_head any_case_byte))
+  where
+    first_letter : (c : ℕ) → to_ascii_lowercase c ≡ 105 → is_blank c ≡ false
+    first_letter c e = search rules
+
+    any_case_head : NoHead (AnyCase (codes "interp=step")) is_blank
+    any_case_head [] v said = tt
+    any_case_head (c ∷ cs) v said = first_letter c cc
+
+    any_case_byte : HasByte (AnyCase (codes "interp=step"))
+    any_case_byte [] v said e = absurd cc
+    any_case_byte (c ∷ cs) v said e = absurd cc
+
+-- where it may have a prefix, an entry begins with nothing that might go on with one
+abbrev pub BehindPrefix : {A : Type 0} → Bool → Language A → Type 0
+BehindPrefix steady entry = steady ≡ false → NoHead entry goes_on_prefix
+
+prefixed_exact : {A : Type 0} (steady : Bool) {entry : Language A} {reader : TextReader A} → BehindPrefix steady entry → IsEntry entry reader → Exact (prefixed steady entry) (prefixed_at steady reader) (λ rest. Any rest × (Any rest × Closes rest))
+unfolding prefixed_at
+prefixed_exact true apart e = means_exact prefixed_of (after_any no_prefix_exact (literal_exact e))
+prefixed_exact false {entry} apart e = means_exact prefixed_of (then_exact step_prefix_exact (literal_exact e) (λ text rest v said after. byte_stops goes_on_prefix text rest (literal_head entry (record { brace = refl; bracket = λ c h. on_sign c h }) (apart refl) text v said) (literal_byte e text v said)))
+  where
+    on_sign : (c : ℕ) → not_open c ≡ false → goes_on_prefix c ≡ false
+    on_sign c h = search rules
+
+prefixed_head : {A : Type 0} (steady : Bool) {entry : Language A} {reader : TextReader A} → IsEntry entry reader → NoHead (prefixed steady entry) is_blank
+prefixed_head steady {entry} e = means_head (then_head (prefix_head steady) (literal_head entry (record { brace = refl; bracket = λ c h. other_blank c h }) (head_less mark_blank e.well_begun)))
+
+prefixed_byte : {A : Type 0} (steady : Bool) {entry : Language A} {reader : TextReader A} → IsEntry entry reader → HasByte (prefixed steady entry)
+prefixed_byte steady e = means_byte prefixed_of (λ text v said none. literal_byte e said.back v.1 said.second (back_nil said.front said.back (sym said.whole ∙ none)))
+
+pub temporal_exact : {A : Type 0} (steady : Bool) {entry : Language A} {reader : TextReader A} → BehindPrefix steady entry → IsEntry entry reader → Exact (temporal steady entry) (temporal_at steady reader) IsEnd
 unfolding temporal_at
-temporal_exact e = within_exact (literal_exact e) (literal_head e) (literal_byte e) (λ bs each. (tt, (tt, blanks_close bs each)))
+temporal_exact steady apart e = within_exact (prefixed_exact steady apart e) (prefixed_head steady e) (prefixed_byte steady e) (λ bs each. (tt, (tt, blanks_close bs each)))
+
+pub noted_behind : {B : Type 0} (day : ℤ) {value : Language (Option B)} {reader : TextReader (Option B)} {F : Text → Type 0} {steady : Bool} → IsValueText steady value reader F → BehindPrefix steady (noted day value)
+noted_behind day v h = means_head (byte_head _ (v.behind_prefix h) v.has_byte)

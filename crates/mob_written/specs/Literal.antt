@@ -2,7 +2,8 @@
 --
 -- A literal is one `value@moment`, a set of them in braces, a sequence of them between brackets, or sequences in braces. Blanks may
 -- stand at both ends, and on both sides of each sign that stands outside a value and a moment. An instant that stands alone or in a
--- set stands for the sequence of that instant alone, so each literal stands for a list of sequences.
+-- set stands for the sequence of that instant alone, so each literal stands for a list of sequences. What may stand before a literal
+-- says whether its sequences have step interpolation.
 use Rattle.std.specs.Prelude.{ℕ, List, [], ◌∷◌, map, codes, Bool, true, ◌||◌, nat_eq, Option, ℤ}
 use Rattle.mob_language.specs.Language.{Text, Language, ◌▷◌, ◌∣◌, Means, Word, OneOf, Separated, blanks, spaced, in_middle, within_blanks}
 use Rattle.mob_language.specs.Readers.{TextReader, then_at, or_at, means_at, word_at, one_at, separated_at, blanks_at, spaced_at, within_blanks_at}
@@ -11,7 +12,9 @@ use Rattle.mob_scalar.specs.Moment.{moment, instant}
 use Rattle.mob_scalar.specs.MomentReaders.{moment_at}
 use Rattle.mob_written.specs.declared.written.Noted.{Noted}
 use Rattle.mob_written.specs.declared.written.Sequence.{Sequence}
+use Rattle.mob_written.specs.declared.written.Literal.{Literal}
 use Rattle.mob_written.specs.Fitting.{fitting}
+use Rattle.mob_written.specs.Prefix.{prefix_of, prefix_at}
 
 abbrev pub at_sign : Language (Unit {0})
 at_sign = spaced (codes "@")
@@ -68,9 +71,16 @@ one_instant i = alone i ∷ []
 abbrev pub literal : {A : Type 0} → (Text → A → Type 0) → Language (List (Sequence A))
 literal entry = braced entry ∣ (Means one_sequence (sequence entry) ∣ Means one_instant entry)
 
--- a literal, with blanks at both ends
-abbrev pub temporal : {A : Type 0} → (Text → A → Type 0) → Language (List (Sequence A))
-temporal entry = within_blanks (literal entry)
+abbrev pub prefixed_of : {A : Type 0} → Bool × List (Sequence A) → Literal A
+prefixed_of v = record { says_step = v.0; sequences = v.1 }
+
+-- a literal behind its prefix
+abbrev pub prefixed : {A : Type 0} → Bool → (Text → A → Type 0) → Language (Literal A)
+prefixed steady entry = Means prefixed_of (prefix_of steady ▷ literal entry)
+
+-- a literal of a type whose courses are steady, or are not, with blanks at both ends
+abbrev pub temporal : {A : Type 0} → Bool → (Text → A → Type 0) → Language (Literal A)
+temporal steady entry = within_blanks (prefixed steady entry)
 
 -- ---- the readers of these languages
 
@@ -113,5 +123,8 @@ braced_at entry = means_at in_middle (then_at open_brace_at (then_at (members_at
 unfoldable pub temporal_literal_at : {A : Type 0} → TextReader A → TextReader (List (Sequence A))
 temporal_literal_at entry = or_at (braced_at entry) (or_at (means_at one_sequence (sequence_at entry)) (means_at one_instant entry))
 
-unfoldable pub temporal_at : {A : Type 0} → TextReader A → TextReader (List (Sequence A))
-temporal_at entry = within_blanks_at (temporal_literal_at entry)
+unfoldable pub prefixed_at : {A : Type 0} → Bool → TextReader A → TextReader (Literal A)
+prefixed_at steady entry = means_at prefixed_of (then_at (prefix_at steady) (temporal_literal_at entry))
+
+unfoldable pub temporal_at : {A : Type 0} → Bool → TextReader A → TextReader (Literal A)
+temporal_at steady entry = within_blanks_at (prefixed_at steady entry)

@@ -4,20 +4,24 @@ ghost use Rattle.mob_language.specs.Readers.{TextReader, all_of, means_at, separ
 ghost use Rattle.mob_scalar.specs.Calendar.{is_civil};
 ghost use Rattle.mob_scalar.specs.Moment.{instant, IsPartSmall};
 ghost use Rattle.mob_written.specs.Fitting.{fitting};
-ghost use Rattle.mob_written.specs.Literal.{alone as alone_of, one_sequence, one_instant, comma_at as comma_in, noted_at as noted_in, opening_at as opening_in, closing_at as closing_in, instants_at as instants_in, sequence_at as sequence_in, sequences_at as sequences_in, members_at as members_in, braced_at as braced_in, temporal_literal_at, temporal_at as temporal_in};
+ghost use Rattle.mob_written.specs.Literal.{alone as alone_of, one_sequence, one_instant, comma_at as comma_in, noted_at as noted_in, opening_at as opening_in, closing_at as closing_in, instants_at as instants_in, sequence_at as sequence_in, sequences_at as sequences_in, members_at as members_in, braced_at as braced_in, temporal_literal_at, prefixed_at as prefixed_in, temporal_at as temporal_in};
 ghost use Rattle.mob_written.specs.ValueText.{IsValueText};
 
-use crate::written::{Noted, Sequence};
+use crate::prefix::prefix_at;
+use crate::written::{Literal, Noted, Sequence};
 use mob_frac::Frac;
 use mob_list::items::Items;
 use mob_scalar::{Epoch, Stamp, blanks, moment_at, place};
-use mob_slice::BaseValue;
+use mob_slice::{BaseValue, Course};
 use std::alloc::{AllocError, Global};
 
 /// How the values of a temporal type are written.
 pub trait WrittenValue {
     /// The base type of the values.
     type Base: BaseValue + Drop;
+
+    /// How a value goes over time.
+    type Course: Course<Base = Self::Base> + Drop;
 
     /// Which texts there are, and what value each stands for: None where its number does not fit.
     ghost shape: { List ℕ → Option Self.Base → Type 0 };
@@ -42,11 +46,11 @@ pub trait WrittenValue {
     fn has_value(value: &Self::Base) -> bool
         ensures exact { result ≡ has_value value.now };
 
-    ghost exact: { IsValueText shape reader follows };
+    ghost exact: { IsValueText Self.Course.STEADY shape reader follows };
 }
 
 /// What stands behind the sign and the blanks on both sides of it.
-fn spaced_at(sign: u8, bytes: &[u8]) -> Option<&[u8]>
+pub fn spaced_at(sign: u8, bytes: &[u8]) -> Option<&[u8]>
     ensures read { option_map (λ rest. (tt, rest.now)) result ≡ spaced_in (sign ∷ []) bytes.now }
 {
     match blanks(bytes).1 {
@@ -289,7 +293,7 @@ fn one_instant_at<'a, T: WrittenValue>(
 }
 
 #[tactic(auto, unfolding(crate::specs::Literal::temporal_literal_at))]
-fn temporal_literal_at<'a, T: WrittenValue>(
+fn sequences_of<'a, T: WrittenValue>(
     alloc: Global,
     epoch: &Epoch,
     bytes: &'a [u8],
@@ -305,20 +309,40 @@ fn temporal_literal_at<'a, T: WrittenValue>(
     one_instant_at::<T>(alloc, epoch, bytes)
 }
 
+/// A literal behind its prefix, and what stands behind it.
+#[tactic(auto, unfolding(crate::specs::Literal::prefixed_at))]
+fn prefixed_at<'a, T: WrittenValue>(
+    alloc: Global,
+    epoch: &Epoch,
+    bytes: &'a [u8],
+) -> Result<Option<(Literal<Noted<T::Base>>, &'a [u8])>, AllocError>
+    ensures read { IfOk result (λ o. option_map (λ x. (x.0, x.1.now)) o ≡ prefixed_in T.Course.STEADY (noted_in epoch.now T.reader) bytes.now) }
+{
+    let (says_step, rest) = prefix_at(T::Course::STEADY, bytes);
+    let Some((sequences, rest)) = sequences_of::<T>(alloc, epoch, rest)? else {
+        return Ok(None);
+    };
+    let literal = Literal {
+        says_step,
+        sequences: Items::from_vec(sequences),
+    };
+    Ok(Some((literal, rest)))
+}
+
 /// The literal that all of the bytes are, as it is written.
 #[tactic(auto, unfolding(crate::specs::Literal::temporal_at))]
 pub fn literal_of<T: WrittenValue>(
     alloc: Global,
     epoch: &Epoch,
     bytes: &[u8],
-) -> Result<Option<Sequences<T::Base>>, AllocError>
-    ensures read { IfOk result (λ o. option_map (λ x. x.items) o ≡ all_of (temporal_in (noted_in epoch.now T.reader)) bytes.now) }
+) -> Result<Option<Literal<Noted<T::Base>>>, AllocError>
+    ensures read { IfOk result (λ o. o ≡ all_of (temporal_in T.Course.STEADY (noted_in epoch.now T.reader)) bytes.now) }
 {
-    let Some((sequences, rest)) = temporal_literal_at::<T>(alloc, epoch, blanks(bytes).1)? else {
+    let Some((literal, rest)) = prefixed_at::<T>(alloc, epoch, blanks(bytes).1)? else {
         return Ok(None);
     };
     match blanks(rest).1 {
-        [] => Ok(Some(sequences)),
+        [] => Ok(Some(literal)),
         _ => Ok(None),
     }
 }

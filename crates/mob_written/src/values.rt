@@ -1,4 +1,4 @@
-//! How the values of the step types are written and printed.
+//! How the values of the temporal types are written and printed.
 ghost use Rattle.std.specs.Prelude.{◌≡◌, Option, IfOk, option_map};
 ghost use Rattle.mob_written.specs.Fitting.{fitting};
 ghost use Rattle.mob_numeral.specs.NumberValue.{numeral_value, IsBounded};
@@ -14,6 +14,7 @@ use mob_scalar::{
     Numeral, evaluate, number_at, text_value_at, truth_at, write_number, write_text_value,
     write_truth,
 };
+use mob_slice::Steady;
 use std::alloc::{AllocError, Global};
 
 /// The values of a tbool: `t`, `f`, `true` or `false`, its letters small or capital.
@@ -24,6 +25,8 @@ impl WrittenValue for Truths {
     ghost use Rattle.mob_written.specs.Values.{any_value, truth_value, truth_value_at as truth_in, truth_follows, truth_values};
 
     type Base = bool;
+
+    type Course = Steady<bool>;
 
     ghost shape = { truth_value };
 
@@ -69,6 +72,8 @@ impl WrittenValue for WholeNumbers {
 
     type Base = Frac;
 
+    type Course = Steady<Frac>;
+
     ghost shape = { number_value };
 
     ghost reader = { number_in };
@@ -101,6 +106,8 @@ impl WrittenValue for Texts {
     ghost use Rattle.mob_written.specs.Values.{any_value, quoted_value, quoted_value_at as quoted_in, quoted_values};
 
     type Base = Text;
+
+    type Course = Steady<Text>;
 
     ghost shape = { quoted_value };
 

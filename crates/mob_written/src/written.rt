@@ -30,3 +30,12 @@ pub struct Sequence<A> {
     /// Whether the last instant is included.
     pub upper_inc: bool,
 }
+
+/// A temporal literal: its sequences, and what is said of their interpolation.
+#[derive(Drop)]
+pub struct Literal<A> {
+    /// Whether `Interp=Step;` stands before the sequences.
+    pub says_step: bool,
+    /// The sequences, in the order in which they are written.
+    pub sequences: Items<Sequence<A>>,
+}
