@@ -42,12 +42,12 @@ module _ {C B : Type 0} (course : CourseOf C B) (laws : IsLawful course) where
   drawn_start true own a b = laws.level_start a
   drawn_start false own a b = laws.moves_from (own refl) a b
 
-  -- a course that is steady, or ends with the value b, is drawn again from its start to b
-  pub drawn_again : (step : Bool) (c : C) (b : B) → course.steady ≡ step → (step ≡ false → b ≡ course.end c) → drawn course step (course.start c) b ≡ c
-  drawn_again true c b s to = laws.by_ends (course.make (course.start c) (course.start c)) c (laws.level_start (course.start c)) (laws.level_end (course.start c) ∙ laws.one_end s c)
-  drawn_again false c b s to = laws.by_ends (course.make (course.start c) b) c (laws.moves_from s (course.start c) b) (laws.moves_to s (course.start c) b ∙ to refl)
+  -- a course is drawn again from its start to b, where it ends with b, and under step interpolation where it ends as it starts
+  pub drawn_again : (step : Bool) → (step ≡ false → course.steady ≡ false) → (c : C) (b : B) → (step ≡ true → course.start c ≡ course.end c) → (step ≡ false → b ≡ course.end c) → drawn course step (course.start c) b ≡ c
+  drawn_again true own c b kept to = laws.by_ends (course.make (course.start c) (course.start c)) c (laws.level_start (course.start c)) (laws.level_end (course.start c) ∙ kept refl)
+  drawn_again false own c b kept to = laws.by_ends (course.make (course.start c) b) c (laws.moves_from (own refl) (course.start c) b) (laws.moves_to (own refl) (course.start c) b ∙ to refl)
 
   -- a course arrives at its own end
-  pub arrives_again : (step : Bool) (c : C) → course.steady ≡ step → arrives course step (course.start c) (course.end c) ≡ true
-  arrives_again true c s = (laws.exact (course.start c) (course.end c)).1 (laws.one_end s c)
-  arrives_again false c s = refl
+  pub arrives_again : (step : Bool) (c : C) → (step ≡ true → course.start c ≡ course.end c) → arrives course step (course.start c) (course.end c) ≡ true
+  arrives_again true c kept = (laws.exact (course.start c) (course.end c)).1 (kept refl)
+  arrives_again false c kept = refl

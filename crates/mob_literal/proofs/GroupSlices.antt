@@ -176,10 +176,13 @@ is_open l u lower h = by_order (before l u) lower h
 
 -- ---- a group is a sound sequence with the values of its slices
 
-module _ {C B : Type 0} (has_value : B → Bool) (course : CourseOf C B) (laws : IsLawful course) where
-  -- nothing is printed before a text, so its interpolation is that of its type
-  abbrev step : Bool
-  step = course.steady
+module _ {C B : Type 0} (has_value : B → Bool) (course : CourseOf C B) (laws : IsLawful course) (step : Bool) (moves : step ≡ false → course.steady ≡ false) where
+  -- under step interpolation the slice ends as it starts
+  abbrev pub IsKept : Slice C → Type 0
+  IsKept s = step ≡ true → course.start s.course ≡ course.end s.course
+
+  abbrev pub AreKept : List (Slice C) → Type 0
+  AreKept slices = Alls IsKept slices
 
   abbrev LevelEnds : Written B → List (Written B) → Type 0
   LevelEnds i [] = ⊥
@@ -192,17 +195,17 @@ module _ {C B : Type 0} (has_value : B → Bool) (course : CourseOf C B) (laws :
     level : (upper ≡ true) ⊎ LevelEnds (start_of course s) rest
     values : (t : Ratio) → value_at course.value (slices_of course step s.span.lower_inc (start_of course s ∷ rest) upper) t ≡ value_at course.value (s ∷ group) t
 
-  single : (s : Slice C) → has_instant s.span ≡ true → IsGroup s [] (more course s []) s.span.upper_inc
-  single s some = by_length (is_long s) refl
+  single : (s : Slice C) → has_instant s.span ≡ true → IsKept s → IsGroup s [] (more course s []) s.span.upper_inc
+  single s some kept = by_length (is_long s) refl
     where
       again : drawn course step (course.start s.course) (course.end s.course) ≡ s.course
-      again = drawn_again course laws step s.course (course.end s.course) refl (λ h. refl)
+      again = drawn_again course laws step moves s.course (course.end s.course) kept (λ h. refl)
 
       by_length : (long : Bool) → is_long s ≡ long → IsGroup s [] (cond long (end_of course s ∷ []) []) s.span.upper_inc
       by_length true h = record {
         up = rw h refl;
         closed = refl;
-        level = inr (arrives_again course laws step s.course refl);
+        level = inr (arrives_again course laws step s.course kept);
         values = λ t. long_value course laws step s.span.lower s.span.upper t s.span.lower_inc s.span.upper_inc s.course h again;
       }
       by_length false h =
@@ -223,10 +226,10 @@ module _ {C B : Type 0} (has_value : B → Bool) (course : CourseOf C B) (laws :
     again : drawn course step (course.start s.course) (course.start r.course) ≡ s.course
 
   meets_start : (s r : Slice C) → takes_up course s.course r.course ≡ true → step ≡ false → course.start r.course ≡ course.end s.course
-  meets_start s r h own = sym ((laws.exact (course.end s.course) (course.start r.course)).0 (subst (λ (b : Bool). (b || course.is_same (course.end s.course) (course.start r.course)) ≡ true) own h))
+  meets_start s r h own = sym ((laws.exact (course.end s.course) (course.start r.course)).0 (subst (λ (b : Bool). (b || course.is_same (course.end s.course) (course.start r.course)) ≡ true) (moves own) h))
 
-  going_on : (s r : Slice C) → has_instant s.span ≡ true → shares_group course s r ≡ true → GoesOn s r
-  going_on s r some h =
+  going_on : (s r : Slice C) → has_instant s.span ≡ true → IsKept s → shares_group course s r ≡ true → GoesOn s r
+  going_on s r some kept h =
       let p = both (same s.span.upper r.span.lower && (r.span.lower_inc && not s.span.upper_inc)) (takes_up course s.course r.course) h in
       let a = both (same s.span.upper r.span.lower) (r.span.lower_inc && not s.span.upper_inc) p.0 in
       let b = both r.span.lower_inc (not s.span.upper_inc) a.1 in
@@ -236,7 +239,7 @@ module _ {C B : Type 0} (has_value : B → Bool) (course : CourseOf C B) (laws :
         next = b.0;
         open_end = o;
         long = is_open s.span.lower s.span.upper s.span.lower_inc (subst (λ (x : Bool). has_instant (record { lower = s.span.lower; upper = s.span.upper; lower_inc = s.span.lower_inc; upper_inc = x }) ≡ true) o some);
-        again = drawn_again course laws step s.course (course.start r.course) refl (meets_start s r p.1);
+        again = drawn_again course laws step moves s.course (course.start r.course) kept (meets_start s r p.1);
       }
 
   more_level : (i j : Written B) (rest : List (Written B)) → LevelEnds j rest → LevelEnds i (j ∷ rest)
@@ -262,9 +265,9 @@ module _ {C B : Type 0} (has_value : B → Bool) (course : CourseOf C B) (laws :
         ∙ ap (λ (o : Option B). cond (has s.span t) (Some (course.value s.course s.span.lower s.span.upper t)) o) others;
   }
 
-  group_is : (s : Slice C) (group tail : List (Slice C)) → HoldTogether course s group → Ordered course (s ∷ (group ++ tail)) → IsGroup s group (more course s group) (upper_of course s group)
-  group_is s [] tail run ordered = single s ordered.0.some
-  group_is s (r ∷ group) tail run ordered = extended s r group (more course r group) (upper_of course r group) (going_on s r ordered.0.some run.0) (group_is r group tail run.1 ordered.2)
+  group_is : (s : Slice C) (group tail : List (Slice C)) → HoldTogether course s group → Ordered course (s ∷ (group ++ tail)) → AreKept (s ∷ (group ++ tail)) → IsGroup s group (more course s group) (upper_of course s group)
+  group_is s [] tail run ordered kept = single s ordered.0.some kept.0
+  group_is s (r ∷ group) tail run ordered kept = extended s r group (more course r group) (upper_of course r group) (going_on s r ordered.0.some kept.0 run.0) (group_is r group tail run.1 ordered.2 kept.1)
 
   level_test : (upper : Bool) (i : Written B) (rest : List (Written B)) → (upper ≡ true) ⊎ LevelEnds i rest → (upper || ends_level course step (i ∷ rest)) ≡ true
   level_test true i rest h = refl
@@ -283,18 +286,18 @@ module _ {C B : Type 0} (has_value : B → Bool) (course : CourseOf C B) (laws :
       by_length false = rw h.0.0 refl
   has_more s (r ∷ group) tail h = rw (h.0.0, has_more r group tail h.1) refl
 
-  sound_group : (s : Slice C) (group tail : List (Slice C)) → HoldTogether course s group → Ordered course (s ∷ (group ++ tail)) → HasAll (s ∷ (group ++ tail)) → is_sound_sequence has_value course step (sequence_of course (s ∷ group)) ≡ true
-  sound_group s group tail run ordered values =
-      let g = group_is s group tail run ordered in
+  sound_group : (s : Slice C) (group tail : List (Slice C)) → HoldTogether course s group → Ordered course (s ∷ (group ++ tail)) → AreKept (s ∷ (group ++ tail)) → HasAll (s ∷ (group ++ tail)) → is_sound_sequence has_value course step (sequence_of course (s ∷ group)) ≡ true
+  sound_group s group tail run ordered kept values =
+      let g = group_is s group tail run ordered kept in
       let end : (upper_of course s group || ends_level course step (start_of course s ∷ more course s group)) ≡ true = level_test (upper_of course s group) (start_of course s) (more course s group) g.level in
       and _ _ (has_more s group tail values) (and _ _ g.up (and _ _ g.closed end))
 
-  all_sound : (groups : List (List (Slice C))) → AllHoldTogether course groups → Ordered course (joined groups) → HasAll (joined groups) → list_all (is_sound_sequence has_value course step) (map (sequence_of course) groups) ≡ true
-  all_sound [] together ordered values = refl
-  all_sound ([] ∷ groups) together ordered values = absurd together
-  all_sound ((s ∷ group) ∷ groups) together ordered values =
-      and _ _ (sound_group s group (joined groups) together.0 ordered values)
-      (all_sound groups together.1 (ordered_rest course (s ∷ group) (joined groups) ordered) (alls_rest (λ (x : Slice C). (has_value (course.start x.course) ≡ true) × (has_value (course.end x.course) ≡ true)) (s ∷ group) (joined groups) values))
+  all_sound : (groups : List (List (Slice C))) → AllHoldTogether course groups → Ordered course (joined groups) → AreKept (joined groups) → HasAll (joined groups) → list_all (is_sound_sequence has_value course step) (map (sequence_of course) groups) ≡ true
+  all_sound [] together ordered kept values = refl
+  all_sound ([] ∷ groups) together ordered kept values = absurd together
+  all_sound ((s ∷ group) ∷ groups) together ordered kept values =
+      and _ _ (sound_group s group (joined groups) together.0 ordered kept values)
+      (all_sound groups together.1 (ordered_rest course (s ∷ group) (joined groups) ordered) (alls_rest IsKept (s ∷ group) (joined groups) kept) (alls_rest (λ (x : Slice C). (has_value (course.start x.course) ≡ true) × (has_value (course.end x.course) ≡ true)) (s ∷ group) (joined groups) values))
 
   -- ---- the groups are in order
 
@@ -326,17 +329,17 @@ module _ {C B : Type 0} (has_value : B → Bool) (course : CourseOf C B) (laws :
 
   -- ---- the sequences have the values of the slices
 
-  pub flat_values : (groups : List (List (Slice C))) → AllHoldTogether course groups → Ordered course (joined groups) → (t : Ratio) → value_at course.value (flat course step (map (sequence_of course) groups)) t ≡ value_at course.value (joined groups) t
+  pub flat_values : (groups : List (List (Slice C))) → AllHoldTogether course groups → Ordered course (joined groups) → AreKept (joined groups) → (t : Ratio) → value_at course.value (flat course step (map (sequence_of course) groups)) t ≡ value_at course.value (joined groups) t
   unfolding flat
-  flat_values [] together ordered t = refl
-  flat_values ([] ∷ groups) together ordered t = absurd together
-  flat_values ((s ∷ group) ∷ groups) together ordered t =
-      let g = group_is s group (joined groups) together.0 ordered in
-      let others = flat_values groups together.1 (ordered_rest course (s ∷ group) (joined groups) ordered) t in
+  flat_values [] together ordered kept t = refl
+  flat_values ([] ∷ groups) together ordered kept t = absurd together
+  flat_values ((s ∷ group) ∷ groups) together ordered kept t =
+      let g = group_is s group (joined groups) together.0 ordered kept in
+      let others = flat_values groups together.1 (ordered_rest course (s ∷ group) (joined groups) ordered) (alls_rest IsKept (s ∷ group) (joined groups) kept) t in
       value_at-append course.value (slices_of course step s.span.lower_inc (start_of course s ∷ more course s group) (upper_of course s group)) (flat course step (map (sequence_of course) groups)) t
       ∙ ap (λ (o : Option B). or_else o (value_at course.value (flat course step (map (sequence_of course) groups)) t)) (g.values t)
       ∙ ap (λ (o : Option B). or_else (value_at course.value (s ∷ group) t) o) others
       ∙ sym (value_at-append course.value (s ∷ group) (joined groups) t)
 
-  pub sound_groups : (groups : List (List (Slice C))) → AllHoldTogether course groups → Ordered course (joined groups) → HasAll (joined groups) → is_sound has_value course step (map (sequence_of course) groups) ≡ true
-  sound_groups groups together ordered values = and _ _ (in_order groups together ordered) (all_sound groups together ordered values)
+  pub sound_groups : (groups : List (List (Slice C))) → AllHoldTogether course groups → Ordered course (joined groups) → AreKept (joined groups) → HasAll (joined groups) → is_sound has_value course step (map (sequence_of course) groups) ≡ true
+  sound_groups groups together ordered kept values = and _ _ (in_order groups together ordered) (all_sound groups together ordered kept values)

@@ -5,6 +5,7 @@ use Rattle.std.specs.List.{list_all}
 use Rattle.mob_ratio.specs.Ratio.{Ratio}
 use Rattle.mob_ratio.specs.Order.{same}
 use Rattle.mob_language.specs.Language.{Text, Separated}
+use Rattle.mob_language.proofs.Exact.{Stops}
 use Rattle.mob_language.proofs.Heads.{within_said}
 use Rattle.mob_scalar.specs.declared.stamp.Stamp.{Stamp}
 use Rattle.mob_scalar.specs.Moment.{moment, instant}
@@ -15,9 +16,10 @@ use Rattle.mob_written.specs.declared.written.Written.{Written}
 use Rattle.mob_written.specs.declared.written.Noted.{Noted}
 use Rattle.mob_written.specs.declared.written.Sequence.{Sequence}
 use Rattle.mob_written.specs.declared.written.Literal.{Literal}
-use Rattle.mob_written.specs.Prefix.{prefix_of}
+use Rattle.mob_written.specs.declared.written.Prefixes.{Prefixes}
+use Rattle.mob_written.specs.Prefix.{Prefix, ArePrefixes, remaining, says_step, begins_prefix}
 use Rattle.mob_written.specs.Fitting.{fitting}
-use Rattle.mob_written.specs.Literal.{at_sign, comma, noted, sequence, members, braced, alone, literal, prefixed, temporal, opening as opening_bracket, closing as closing_bracket}
+use Rattle.mob_written.specs.Literal.{at_sign, comma, noted, sequence, members, braced, alone, literal, temporal, opening as opening_bracket, closing as closing_bracket}
 use Rattle.mob_written.specs.Printed.{Style, is_long, takes_up, groups_of, put_in_group, with_commas, instant_text, instants_of, start_text, opening_text, closing_text, group_text, groups_text, set_text, moving_text, in_braces}
 use Rattle.mob_written.specs.Style.{style_of}
 use Rattle.mob_literal.proofs.GroupSlices.{Alls, alls_rest, start_of, end_of, more, upper_of, sequence_of, AllHoldTogether, are_groups, joined}
@@ -240,24 +242,22 @@ module _ {C B : Type 0} (course : CourseOf C B) (day : ℤ) (value : Text → Op
   groups_some : (slices : List (Slice C)) → (slices ≡ [] → ⊥) → groups_of course slices ≡ [] → ⊥
   groups_some slices some e = some (sym (are_groups course slices).whole ∙ ap joined e)
 
-  -- nothing stands before a printed text
-  bare : (steady : Bool) → prefix_of steady [] false
-  bare true = record { meant = tt; said = refl; is = refl }
-  bare false = record { meant = None; said = refl; is = refl }
+  -- the literal that the groups of the slices print, behind prefixes
+  abbrev pub printed_literal : List Prefix → List (Slice C) → Literal (Noted B)
+  printed_literal before slices = record { says_step = says_step before; sequences = map (noted_of_group course) (groups_of course slices) }
 
-  -- the literal that the groups of the slices print
-  abbrev pub printed_literal : List (Slice C) → Literal (Noted B)
-  printed_literal slices = record { says_step = false; sequences = map (noted_of_group course) (groups_of course slices) }
-
-  prefixed_said : (t : Text) (slices : List (Slice C)) → literal entry t (map (noted_of_group course) (groups_of course slices)) → prefixed course.steady entry t (printed_literal slices)
-  prefixed_said t slices h = record {
-    meant = (false, map (noted_of_group course) (groups_of course slices));
-    said = record { front = []; back = t; whole = refl; first = bare course.steady; second = h };
-    is = refl;
-  }
-
-  pub printed_said : (slices : List (Slice C)) → (slices ≡ [] → ⊥) → AreSaid slices → (list_all (λ (s : Slice C). not (is_long s)) slices ≡ true → ArePoints slices) → temporal course.steady entry (moving_text style slices) (printed_literal slices)
-  printed_said slices some said points = within_said (moving_text style slices) (printed_literal slices) (prefixed_said (moving_text style slices) slices (by_lengths (list_all (λ (s : Slice C). not (is_long s)) slices) points))
+  pub printed_said : (prefixes : Prefixes) (before : List Prefix) (front : Text) (slices : List (Slice C)) → ArePrefixes prefixes front before → Stops (begins_prefix (remaining prefixes before)) (moving_text style slices)
+      → (slices ≡ [] → ⊥) → AreSaid slices → (list_all (λ (s : Slice C). not (is_long s)) slices ≡ true → ArePoints slices) → temporal prefixes entry (front ++ moving_text style slices) (printed_literal before slices)
+  printed_said prefixes before front slices are stops some said points = within_said (front ++ moving_text style slices) (printed_literal before slices) (record {
+    front = front;
+    back = moving_text style slices;
+    whole = refl;
+    said = before;
+    prefixes = are;
+    behind = stops;
+    sequences = by_lengths (list_all (λ (s : Slice C). not (is_long s)) slices) points;
+    step = refl;
+  })
     where
       by_lengths : (set : Bool) → (set ≡ true → ArePoints slices) → literal entry (cond set (set_text style slices) (groups_text style (groups_of course slices))) (map (noted_of_group course) (groups_of course slices))
       by_lengths true p =

@@ -9,7 +9,9 @@ pub mod SequenceLemmas
 pub mod Traversed
 pub mod GroupSlices
 pub mod GroupTexts
+pub mod Begun
 pub mod MovingAgain
+pub mod BehindPrefixes
 pub mod SqlReading
 pub mod SqlAgain
 pub mod FieldsAgain

@@ -16,7 +16,8 @@ use Rattle.mob_written.specs.declared.written.Sequence.{Sequence}
 use Rattle.mob_written.specs.ValueText.{IsValueText}
 use Rattle.mob_literal.specs.Sequences.{is_step}
 use Rattle.mob_literal.specs.Sound.{fitting_all, Defines, literals}
-use Rattle.mob_written.proofs.LiteralExact.{noted_entry, noted_behind, temporal_exact}
+use Rattle.mob_written.specs.Prefix.{admitted}
+use Rattle.mob_written.proofs.LiteralExact.{noted_entry, temporal_exact}
 
 -- two options with the same value are the same
 pub one_option : {B : Type 0} (o p : Option B) → ((x : B) → (o ≡ Some x) ↔ (p ≡ Some x)) → o ≡ p
@@ -41,8 +42,8 @@ one_meaning course one step (Some qs) v w a b = one_defined course one step qs v
 
 pub one_reading : {C B : Type 0} (day : ℤ) {steady copies : Bool} {moves : C → Ratio → Ratio → Ratio → B} {start end : C → B} {can_make : B → B → Type 0} {make : B → B → C} {continues : C → C → Ratio → Ratio → Ratio → Bool} {parts : C → Ratio → Ratio → Ratio → List Ratio} (is_same : B → B → Bool)
     → IsCourse steady copies moves start end can_make make continues parts
-    → {value : List ℕ → Option B → Type 0} {reader : TextReader (Option B)} {F : List ℕ → Type 0} → IsValueText steady value reader F → (has_value : B → Bool)
-    → HasOneReading (literals day value has_value (course_of steady moves start end make continues is_same))
-one_reading {C} {B} day {steady} {copies} {moves} {start} {end} {can_make} {make} {continues} {parts} is_same laws {value} {reader} {F} law has_value text =
+    → {value : List ℕ → Option B → Type 0} {reader : TextReader (Option B)} {F : List ℕ → Type 0} → IsValueText value reader F → (has_srid : Bool) → (has_value : B → Bool)
+    → HasOneReading (literals day has_srid value has_value (course_of steady moves start end make continues is_same))
+one_reading {C} {B} day {steady} {copies} {moves} {start} {end} {can_make} {make} {continues} {parts} is_same laws {value} {reader} {F} law has_srid has_value text =
     let course = course_of steady moves start end make continues is_same in
-    settled (literals day value has_value course) text (one_value (temporal_exact steady (noted_behind day law) (noted_entry day law)) refl text) (λ s. one_meaning course (λ v w a b e. unique laws v w a b e) (is_step steady s.says_step) (fitting_all s.sequences))
+    settled (literals day has_srid value has_value course) text (one_value (temporal_exact (admitted steady has_srid) (noted_entry day law)) refl text) (λ s. one_meaning course (λ v w a b e. unique laws v w a b e) (is_step steady s.says_step) (fitting_all s.sequences))

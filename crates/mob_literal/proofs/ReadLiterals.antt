@@ -17,13 +17,15 @@ use Rattle.mob_written.specs.declared.written.Written.{Written}
 use Rattle.mob_written.specs.declared.written.Noted.{Noted}
 use Rattle.mob_written.specs.declared.written.Sequence.{Sequence}
 use Rattle.mob_written.specs.declared.written.Literal.{Literal}
-use Rattle.mob_written.specs.Literal.{comma, noted, sequence, alone, members, literal, prefixed, temporal, noted_at, temporal_at}
+use Rattle.mob_written.specs.declared.written.Prefixes.{Prefixes}
+use Rattle.mob_written.specs.Prefix.{admitted}
+use Rattle.mob_written.specs.Literal.{comma, noted, sequence, alone, members, literal, temporal, noted_at, temporal_at}
 use Rattle.mob_written.specs.ValueText.{IsValueText}
 use Rattle.mob_literal.specs.Sequences.{is_step, rises}
 use Rattle.mob_literal.specs.Slices.{slices_of}
 use Rattle.mob_literal.specs.Sound.{is_over_limit, traverse, written_of, fitting_sequence, fitting_all, is_closed_alone, is_sound_sequence, ends_level, are_in_order, is_sound, Defines, fitting_literal, written_literals, literals}
 use Rattle.mob_literal.specs.Flat.{made_all}
-use Rattle.mob_written.proofs.LiteralExact.{noted_entry, noted_behind, temporal_exact}
+use Rattle.mob_written.proofs.LiteralExact.{noted_entry, temporal_exact}
 use Rattle.mob_literal.proofs.Drawn.{IsLawful}
 use Rattle.mob_literal.proofs.FlatLemmas.{flat, all_is, IsFlat, is_flat}
 use Rattle.mob_written.proofs.Small.{false_true, cons_nil, some_none}
@@ -71,11 +73,10 @@ literal_full {A} entry text qs said = elim said [
   ]
 ]
 
-prefixed_full : {A : Type 0} (steady : Bool) (entry : Language A) (text : Text) (s : Literal A) → prefixed steady entry text s → is_full s.sequences ≡ true
-prefixed_full {A} steady entry text s said = subst (λ (x : Literal A). is_full x.sequences ≡ true) (sym said.is) (literal_full entry said.said.back said.meant.1 said.said.second)
-
-temporal_full : {A : Type 0} (steady : Bool) (entry : Language A) (text : Text) (s : Literal A) → temporal steady entry text s → is_full s.sequences ≡ true
-temporal_full {A} steady entry text s said = subst (λ (x : Literal A). is_full x.sequences ≡ true) (sym said.is) (prefixed_full steady entry said.said.second.front said.meant.1.0 said.said.second.first)
+temporal_full : {A : Type 0} (prefixes : Prefixes) (entry : Text → A → Type 0) (text : Text) (s : Literal A) → temporal prefixes entry text s → is_full s.sequences ≡ true
+temporal_full {A} prefixes entry text s said =
+    let p = said.said.second.first in
+    subst (λ (x : Literal A). is_full x.sequences ≡ true) (sym said.is) (literal_full entry p.back said.meant.1.0.sequences p.sequences)
 
 -- where the numbers fit, there are as many
 traverse_some : {A C : Type 0} (f : A → Option C) (xs : List A) (ys : List C) → is_some_list xs ≡ true → traverse f xs ≡ Some ys → is_some_list ys ≡ true
@@ -139,20 +140,20 @@ fitting_none {B} s e = by_fit (fitting_all s.sequences) e
     by_fit None e = refl
     by_fit (Some qs) e = absurd cc
 
-module _ {B : Type 0} (day : ℤ) {steady : Bool} {value : List ℕ → Option B → Type 0} {reader : TextReader (Option B)} {F : List ℕ → Type 0} (law : IsValueText steady value reader F) where
-  shape_is : (text bytes : Text) (s : Literal (Noted B)) → bytes ≡ text → Some s ≡ all_of (temporal_at steady (noted_at day reader)) bytes → temporal steady (noted day value) text s
-  shape_is text bytes s e h = is_said (temporal_exact steady (noted_behind day law) (noted_entry day law)) text bytes s e h
+module _ {B : Type 0} (day : ℤ) (prefixes : Prefixes) {value : List ℕ → Option B → Type 0} {reader : TextReader (Option B)} {F : List ℕ → Type 0} (law : IsValueText value reader F) where
+  shape_is : (text bytes : Text) (s : Literal (Noted B)) → bytes ≡ text → Some s ≡ all_of (temporal_at prefixes (noted_at day reader)) bytes → temporal prefixes (noted day value) text s
+  shape_is text bytes s e h = is_said (temporal_exact prefixes (noted_entry day law)) text bytes s e h
 
-  pub no_text : (text bytes : Text) → bytes ≡ text → ◌≡◌ {A = Option (Literal (Noted B))} None (all_of (temporal_at steady (noted_at day reader)) bytes) → Lit (written_literals day steady value) text (Err NotText)
-  no_text text bytes e h = λ s said. not_said (temporal_exact steady (noted_behind day law) (noted_entry day law)) refl text bytes s e h said
+  pub no_text : (text bytes : Text) → bytes ≡ text → ◌≡◌ {A = Option (Literal (Noted B))} None (all_of (temporal_at prefixes (noted_at day reader)) bytes) → Lit (written_literals day prefixes value) text (Err NotText)
+  no_text text bytes e h = λ s said. not_said (temporal_exact prefixes (noted_entry day law)) refl text bytes s e h said
 
-  pub too_long : (text bytes : Text) (s : Literal (Noted B)) → bytes ≡ text → Some s ≡ all_of (temporal_at steady (noted_at day reader)) bytes → is_over_limit s.sequences ≡ true → Lit (written_literals day steady value) text (Err Limit)
+  pub too_long : (text bytes : Text) (s : Literal (Noted B)) → bytes ≡ text → Some s ≡ all_of (temporal_at prefixes (noted_at day reader)) bytes → is_over_limit s.sequences ≡ true → Lit (written_literals day prefixes value) text (Err Limit)
   too_long text bytes s e h long = (s, shape_is text bytes s e h, long)
 
-  pub too_large : (text bytes : Text) (s : Literal (Noted B)) → bytes ≡ text → Some s ≡ all_of (temporal_at steady (noted_at day reader)) bytes → is_over_limit s.sequences ≡ false → ◌≡◌ {A = Option (Literal (Written B))} None (fitting_literal s) → Lit (written_literals day steady value) text (Err TooLarge)
+  pub too_large : (text bytes : Text) (s : Literal (Noted B)) → bytes ≡ text → Some s ≡ all_of (temporal_at prefixes (noted_at day reader)) bytes → is_over_limit s.sequences ≡ false → ◌≡◌ {A = Option (Literal (Written B))} None (fitting_literal s) → Lit (written_literals day prefixes value) text (Err TooLarge)
   too_large text bytes s e h short none = (s, shape_is text bytes s e h, (λ k. false_true (sym short ∙ k)), fitting_none s none)
 
-  pub all_fit : (text bytes : Text) (s : Literal (Noted B)) (w : Literal (Written B)) → bytes ≡ text → Some s ≡ all_of (temporal_at steady (noted_at day reader)) bytes → is_over_limit s.sequences ≡ false → some w ≡ fitting_literal s → Lit (written_literals day steady value) text (Ok w)
+  pub all_fit : (text bytes : Text) (s : Literal (Noted B)) (w : Literal (Written B)) → bytes ≡ text → Some s ≡ all_of (temporal_at prefixes (noted_at day reader)) bytes → is_over_limit s.sequences ≡ false → some w ≡ fitting_literal s → Lit (written_literals day prefixes value) text (Ok w)
   all_fit text bytes s w e h short fits = (s, shape_is text bytes s e h, (λ k. false_true (sym short ∙ k)), (λ k. some_none w.sequences (sym (fitting_is s w (sym fits)).0 ∙ k)), (λ k. k), sym fits)
 
 chosen : {A : Type 0} (b : Bool) (x y : A) → some x ≡ cond b (some y) None → (b ≡ true) × (x ≡ y)
@@ -163,28 +164,28 @@ refused : {A : Type 0} (b : Bool) (y : A) → ◌≡◌ {A = Option A} None (con
 refused true y e = absurd cc
 refused false y e = refl
 
-module _ {C B : Type 0} (day : ℤ) (value : List ℕ → Option B → Type 0) (has_value : B → Bool) (course : CourseOf C B) (text : Text) where
+module _ {C B : Type 0} (day : ℤ) (has_srid : Bool) (value : List ℕ → Option B → Type 0) (has_value : B → Bool) (course : CourseOf C B) (text : Text) where
   -- the text says this literal, and its numbers fit
   abbrev pub IsRead : Literal (Written B) → Type 0
-  IsRead w = Lit (written_literals day course.steady value) text (Ok w)
+  IsRead w = Lit (written_literals day (admitted course.steady has_srid) value) text (Ok w)
 
   abbrev steps_in : Literal (Written B) → Bool
   steps_in w = is_step course.steady w.says_step
 
-  pub same_fault : (fault : ReadText) → Lit (written_literals day course.steady value) text (Err fault) → Lit (literals day value has_value course) text (Err fault)
+  pub same_fault : (fault : ReadText) → Lit (written_literals day (admitted course.steady has_srid) value) text (Err fault) → Lit (literals day has_srid value has_value course) text (Err fault)
   same_fault NotText h = h
   same_fault Limit h = h
   same_fault TooLarge h = h
   same_fault Unsound h = absurd h.4
   same_fault NoMemory h = h
 
-  pub unsound_is : (w : Literal (Written B)) → IsRead w → is_sound has_value course (steps_in w) w.sequences ≡ false → Lit (literals day value has_value course) text (Err Unsound)
+  pub unsound_is : (w : Literal (Written B)) → IsRead w → is_sound has_value course (steps_in w) w.sequences ≡ false → Lit (literals day has_srid value has_value course) text (Err Unsound)
   unsound_is w f h =
       let k = fitting_is f.0 w f.5 in
       let here : is_sound has_value course (is_step course.steady f.0.says_step) w.sequences ≡ false = subst (λ (b : Bool). is_sound has_value course (is_step course.steady b) w.sequences ≡ false) (sym k.1) h in
       (f.0, f.1, f.2, f.3, subst (λ (o : Option (List (Sequence (Written B)))). MatchOption o ⊥ (λ qs. is_sound has_value course (is_step course.steady f.0.says_step) qs ≡ false)) (sym k.0) here)
 
-  pub not_sound : (w : Literal (Written B)) → IsRead w → are_in_order w.sequences ≡ true → ◌≡◌ {A = Option (List (Slice C))} None (made_all has_value course (steps_in w) w.sequences) → Lit (literals day value has_value course) text (Err Unsound)
+  pub not_sound : (w : Literal (Written B)) → IsRead w → are_in_order w.sequences ≡ true → ◌≡◌ {A = Option (List (Slice C))} None (made_all has_value course (steps_in w) w.sequences) → Lit (literals day has_srid value has_value course) text (Err Unsound)
   not_sound w f order h =
       let none = refused (list_all (is_sound_sequence has_value course (steps_in w)) w.sequences) (flat course (steps_in w) w.sequences) (h ∙ all_is has_value course (steps_in w) w.sequences) in
       unsound_is w f (rw (order, none) refl)
@@ -212,7 +213,7 @@ module _ {C B : Type 0} (day : ℤ) (value : List ℕ → Option B → Type 0) (
   pub defined : (w : Literal (Written B)) (slices v : List (Slice C)) → IsMadeOf w slices
       → IsNormal course.start course.end course.continues v
       → ((t : Ratio) → value_at course.value v t ≡ value_at course.value slices t)
-      → Lit (literals day value has_value course) text (Ok v)
+      → Lit (literals day has_srid value has_value course) text (Ok v)
   defined w slices v m normal kept =
       let f = m.read in
       let k = fitting_is f.0 w f.5 in
@@ -233,4 +234,4 @@ module _ {C B : Type 0} (day : ℤ) (value : List ℕ → Option B → Type 0) (
   pub some_slices : (w : Literal (Written B)) (slices : List (Slice C)) → IsMadeOf w slices → slices ≡ [] → ⊥
   some_slices w slices m none =
       let f = m.read in
-      flat_some has_value course (steps_in w) w.sequences (fitting_full f.0.sequences w.sequences (temporal_full course.steady (noted day value) text f.0 f.1) (fitting_is f.0 w f.5).0) m.sound (sym m.are ∙ none)
+      flat_some has_value course (steps_in w) w.sequences (fitting_full f.0.sequences w.sequences (temporal_full (admitted course.steady has_srid) (noted day value) text f.0 f.1) (fitting_is f.0 w f.5).0) m.sound (sym m.are ∙ none)

@@ -30,6 +30,10 @@ pub record IsReadable {C B : Type 0} (course : CourseOf C B) (day : ℤ) (text :
   pub uppers : (s : Slice C) → Contains slices s → IsDated day s.span.upper
   pub short : instants_in (style_of course text day) (groups_of course slices) ≤ 100000
 
+-- each of the slices ends with the value with which it starts: step interpolation changes nothing
+abbrev pub AreLevel : {C B : Type 0} → CourseOf C B → List (Slice C) → Type 0
+AreLevel course slices = (s : Slice _) → Contains slices s → course.start s.course ≡ course.end s.course
+
 -- every truth value
 abbrev pub AnyTruth : Bool → Type 0
 AnyTruth b = Unit {0}

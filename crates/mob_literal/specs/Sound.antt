@@ -17,6 +17,8 @@ use Rattle.mob_written.specs.declared.written.Literal.{Literal}
 use Rattle.mob_written.specs.Neighbours.{all_neighbours}
 use Rattle.mob_literal.specs.Sequences.{SequenceAt, is_step, rises}
 use Rattle.mob_literal.specs.Slices.{arrives}
+use Rattle.mob_written.specs.declared.written.Prefixes.{Prefixes}
+use Rattle.mob_written.specs.Prefix.{admitted}
 use Rattle.mob_written.specs.Literal.{noted, temporal}
 
 -- how many instants the sequences have
@@ -93,20 +95,21 @@ pub record Defines {C B : Type 0} (course : CourseOf C B) (step : Bool) (qs : Li
 abbrev pub fitting_literal : {B : Type 0} → Literal (Noted B) → Option (Literal (Written B))
 fitting_literal s = fitting_all s.sequences >>= λ qs. Some (record { says_step = s.says_step; sequences = qs })
 
--- The literals of a temporal type as they are written, with instants counted from a day, where each of their numbers fits.
-abbrev pub written_literals : {B : Type 0} → ℤ → Bool → (Text → Option B → Type 0) → TextForm (Literal (Noted B)) (Literal (Written B))
-written_literals day steady value = record {
-  shape = temporal steady (noted day value);
+-- The literals of a temporal type that admits these prefixes, as they are written, with instants counted from a day, where each of
+-- their numbers fits.
+abbrev pub written_literals : {B : Type 0} → ℤ → Prefixes → (Text → Option B → Type 0) → TextForm (Literal (Noted B)) (Literal (Written B))
+written_literals day prefixes value = record {
+  shape = temporal prefixes (noted day value);
   long = λ s. is_over_limit s.sequences ≡ true;
   large = λ s. fitting_all s.sequences ≡ None;
   unsound = λ s. ⊥;
   means = λ s w. fitting_literal s ≡ Some w;
 }
 
--- The literals of a temporal type, with instants counted from a day.
-abbrev pub literals : {C B : Type 0} → ℤ → (Text → Option B → Type 0) → (B → Bool) → CourseOf C B → TextForm (Literal (Noted B)) (List (Slice C))
-literals day value has_value course = record {
-  shape = temporal course.steady (noted day value);
+-- The literals of a temporal type, before which `SRID=0;` may stand or not, with instants counted from a day.
+abbrev pub literals : {C B : Type 0} → ℤ → Bool → (Text → Option B → Type 0) → (B → Bool) → CourseOf C B → TextForm (Literal (Noted B)) (List (Slice C))
+literals day has_srid value has_value course = record {
+  shape = temporal (admitted course.steady has_srid) (noted day value);
   long = λ s. is_over_limit s.sequences ≡ true;
   large = λ s. fitting_all s.sequences ≡ None;
   unsound = λ s. MatchOption (fitting_all s.sequences) ⊥ (λ qs. is_sound has_value course (is_step course.steady s.says_step) qs ≡ false);
@@ -115,4 +118,4 @@ literals day value has_value course = record {
 
 -- The literals of a type of step values.
 abbrev pub steps : {B : Type 0} → ℤ → (Text → Option B → Type 0) → (B → Bool) → (B → B → Bool) → TextForm (Literal (Noted B)) (List (Slice (Steady B)))
-steps day value has_value is_same = literals day value has_value (steady_course is_same)
+steps day value has_value is_same = literals day false value has_value (steady_course is_same)

@@ -1,12 +1,14 @@
 //! What holds of every literal. No code runs here.
 
-ghost use Rattle.std.specs.Prelude.{◌≡◌, ◌≢◌, List, Bool, ℕ, ℤ, Result, Ok, Err, true, false};
+ghost use Rattle.std.specs.Prelude.{◌≡◌, ◌≢◌, ◌++◌, List, Bool, ℕ, ℤ, Some, Result, Ok, Err, true, false};
 ghost use Rattle.mob_language.specs.Language.{Text};
+ghost use Rattle.mob_language.proofs.Exact.{Stops};
 ghost use Rattle.mob_ast.specs.declared.types.SqlType.{SqlType};
 ghost use Rattle.mob_literal.specs.Fields.{is_null_field, text_of_field, field_text};
+ghost use Rattle.mob_written.specs.Prefix.{Prefix, ArePrefixes, admitted, begins_prefix, says_step};
 ghost use Rattle.mob_written.specs.Printed.{moving_text};
-ghost use Rattle.mob_literal.specs.Readable.{AnyTruth, IsInt, IsReadable, IsText};
-ghost use Rattle.mob_literal.specs.Sound.{steps};
+ghost use Rattle.mob_literal.specs.Readable.{AnyTruth, AreLevel, IsInt, IsReadable, IsText};
+ghost use Rattle.mob_literal.specs.Sound.{literals, steps};
 ghost use Rattle.mob_literal.specs.SqlReadable.{IsReadableAs};
 ghost use Rattle.mob_literal.specs.SqlText.{SaysAs, value_text};
 ghost use Rattle.mob_written.specs.Style.{style_of};
@@ -19,12 +21,15 @@ ghost use Rattle.mob_scalar.specs.Truth.{truth_text};
 ghost use Rattle.mob_numeral.specs.Verdict.{HasOneReading, Lit};
 ghost use Rattle.mob_numeral.specs.declared.fault.ReadText.{ReadText};
 ghost use Rattle.mob_numeral.specs.declared.fault.ReadText.TheVariants.{NoMemory};
-ghost use Rattle.mob_slice.specs.CourseOf.{steady_course};
+ghost use Rattle.mob_slice.specs.CourseOf.{course_of, steady_course};
 ghost use Rattle.mob_slice.specs.Sameness.{same_bool, same_bytes};
 ghost use Rattle.mob_slice.specs.declared.slice.Slice.{Slice};
 ghost use Rattle.mob_slice.specs.declared.steady.Steady.{Steady};
 ghost use Rattle.mob_value.specs.declared.value.Value.{Value};
 ghost use Rattle.mob_value.specs.declared.value.Value.TheVariants.{Null};
+
+use mob_written::WrittenValue;
+use mob_written::printing::Printed;
 
 /// A literal of a step type has one reading, and so has the text of a value of each type.
 pub fn one_reading()
@@ -44,6 +49,23 @@ pub fn steps_read_again()
         → Lit (steps day number_value is_whole same) (moving_text (style_of (steady_course same) number_text day) v) (Ok v) }
     ensures texts { (day : ℤ) (v : List (Slice (Steady (List ℕ)))) → IsReadable (steady_course same_bytes) day quoted_text IsText v
         → Lit (steps day quoted_value any_value same_bytes) (moving_text (style_of (steady_course same_bytes) quoted_text day) v) (Ok v) }
+{}
+
+/// What is printed of a value over time is read again as that value, where what is printed of each of its values is read again, and
+/// begins with the first letter of no prefix that its type admits. Such prefixes may stand before it: `SRID=0;` says nothing more, and
+/// `Interp=Step;` changes nothing where each slice ends with the value with which it starts.
+pub fn literals_read_again<T: WrittenValue>()
+where
+    T::Base: Printed,
+    ensures again { (day : ℤ) (IsWritten : T.Base → Type 0) (v : List (Slice T.Course)) (before : List Prefix) (front : Text)
+        → ((x : T.Base) → IsWritten x → T.shape (T.Base.text x) (Some x))
+        → ((x : T.Base) → IsWritten x → T.has_value x ≡ true)
+        → ((x : T.Base) → IsWritten x → Stops (begins_prefix (admitted T.Course.STEADY T.HAS_SRID)) (T.Base.text x))
+        → IsReadable (course_of T.Course.STEADY T.Course.value_of T.Course.start_of T.Course.end_of T.Course.make T.Course.is_continued T.Base.is_same) day T.Base.text IsWritten v
+        → ArePrefixes (admitted T.Course.STEADY T.HAS_SRID) front before
+        → (says_step before ≡ true → AreLevel (course_of T.Course.STEADY T.Course.value_of T.Course.start_of T.Course.end_of T.Course.make T.Course.is_continued T.Base.is_same) v)
+        → Lit (literals day T.HAS_SRID T.shape T.has_value (course_of T.Course.STEADY T.Course.value_of T.Course.start_of T.Course.end_of T.Course.make T.Course.is_continued T.Base.is_same))
+            (front ++ moving_text (style_of (course_of T.Course.STEADY T.Course.value_of T.Course.start_of T.Course.end_of T.Course.make T.Course.is_continued T.Base.is_same) T.Base.text day) v) (Ok v) }
 {}
 
 /// What is printed of a value of a type is read again as that value, under the same conditions on its instants.

@@ -4,6 +4,7 @@ ghost use Rattle.std.specs.List.{list_all};
 ghost use Rattle.mob_numeral.specs.Verdict.{Lit};
 ghost use Rattle.mob_literal.specs.Sound.{is_over_limit, traverse, written_of as written_in, fitting_sequence as fitting_in, fitting_all as all_fitting, clear_ends as ends_clear, is_before as precedes, are_in_order as in_order, fitting_literal as fitting_in_literal, written_literals, literals};
 ghost use Rattle.mob_literal.specs.Sequences.{is_step as is_step_in};
+ghost use Rattle.mob_written.specs.Prefix.{admitted};
 ghost use Rattle.mob_slice.specs.CourseOf.{course_of};
 ghost use Rattle.mob_literal.specs.Flat.{made_sequence, made_all};
 
@@ -196,7 +197,7 @@ fn read_written<T: WrittenValue>(
     text: &str,
     epoch: &Epoch,
 ) -> Result<Literal<Written<T::Base>>, ReadText>
-    ensures reading { Lit (written_literals epoch.now T.Course.STEADY T.shape) text.now result }
+    ensures reading { Lit (written_literals epoch.now (admitted T.Course.STEADY T.HAS_SRID) T.shape) text.now result }
 {
     let noted = match literal_of::<T>(alloc, epoch, text.as_bytes()) {
         Ok(Some(noted)) => noted,
@@ -247,7 +248,7 @@ pub fn read_moving<T: WrittenValue>(
     text: &str,
     epoch: &Epoch,
 ) -> Result<Moving<T::Course>, ReadText>
-    ensures reading { Lit (literals epoch.now T.shape T.has_value (course_of T.Course.STEADY T.Course.value_of T.Course.start_of T.Course.end_of T.Course.make T.Course.is_continued T.Base.is_same)) text.now result }
+    ensures reading { Lit (literals epoch.now T.HAS_SRID T.shape T.has_value (course_of T.Course.STEADY T.Course.value_of T.Course.start_of T.Course.end_of T.Course.make T.Course.is_continued T.Base.is_same)) text.now result }
 {
     let written = match read_written::<T>(alloc, text, epoch) {
         Ok(written) => written,

@@ -1,18 +1,21 @@
 -- The readers of temporal literals read exactly their texts, over any exact reader of values.
-use Rattle.std.proofs.Common.{◌≡◌, ℕ, ℤ, [], ◌∷◌, ◌++◌, map, Bool, true, false, Option, None, refl, sym, ap, subst, ◌∙◌, append_assoc, rules, codes}
-use Rattle.std.specs.Prelude.{◌||◌, nat_eq}
-use Rattle.std.specs.Char.{to_ascii_lowercase}
-use Rattle.mob_language.specs.Language.{Text, Language, ◌▷◌, ◌∣◌, Means, Word, AnyCase, AreAll, Separated, blanks, is_blank, in_middle}
-use Rattle.mob_language.specs.Readers.{TextReader, means_at, separated_at, items_at}
-use Rattle.mob_language.proofs.Exact.{Exact, Stops, Any, then_exact, or_exact, means_exact, word_exact, any_case_exact, one_exact, many_exact, many_again}
-use Rattle.mob_language.proofs.Heads.{NoHead, Apart, HasByte, Nothing, stops_less, exact_less, maybe_stops, maybe_head, after_any, then_head, word_head, byte_stops, means_head, one_head, or_head, then_byte, means_byte, or_byte, then_byte_stops, word_then_head, one_then_head, byte_head, one_byte, word_byte, spaced_exact, IsEnd, within_exact}
+use Rattle.std.proofs.Common.{◌≡◌, ℕ, ℤ, [], ◌∷◌, ◌++◌, map, Bool, true, false, List, Option, Some, None, refl, sym, ap, subst, ◌∙◌, append_assoc, rules, codes}
+use Rattle.std.specs.Prelude.{◌&&◌, ◌||◌, not, nat_eq}
+use Rattle.mob_language.specs.Language.{Text, Language, ◌▷◌, ◌∣◌, Means, Word, AreAll, Separated, blanks, is_blank, in_middle}
+use Rattle.mob_language.specs.Readers.{TextReader, ◌>>=◌, means_at, separated_at, items_at}
+use Rattle.mob_language.proofs.Exact.{Exact, Stops, Any, bind_some, then_exact, or_exact, means_exact, word_exact, one_exact, many_exact, many_again}
+use Rattle.mob_language.proofs.Heads.{NoHead, Apart, HasByte, stops_less, exact_less, byte_stops, means_head, one_head, or_head, then_byte, means_byte, or_byte, then_byte_stops, word_then_head, one_then_head, byte_head, one_byte, word_byte, spaced_exact, IsEnd, within_exact}
 use Rattle.mob_language.proofs.Lists.{separated_exact}
 use Rattle.mob_scalar.proofs.MomentExact.{Closes, moment_exact}
 use Rattle.mob_numeral.proofs.WholeTexts.{back_nil, front_nil}
 use Rattle.mob_scalar.proofs.WholeTexts.{moment_blank, moment_byte, blanks_close}
 use Rattle.mob_scalar.proofs.Closing.{Ends, sign_closes}
-use Rattle.mob_written.specs.Literal.{at_sign, comma, noted_of, noted, is_open, is_close, opening, closing, sequence_of, sequence, alone, members, braced, one_sequence, one_instant, literal, prefixed_of, prefixed, temporal, at_sign_at, comma_at, noted_at, opening_at, closing_at, instants_at, sequence_at, sequences_at, members_at, open_brace_at, close_brace_at, braced_at, temporal_literal_at, prefixed_at, temporal_at}
-use Rattle.mob_written.specs.Prefix.{interpolation_step, is_there, no_prefix, step_prefix, prefix_of, interpolation_step_at, prefix_at, goes_on_prefix}
+use Rattle.mob_written.specs.Literal.{at_sign, comma, noted_of, noted, is_open, is_close, opening, closing, sequence_of, sequence, alone, members, braced, one_sequence, one_instant, literal, Prefixed, temporal, at_sign_at, comma_at, noted_at, opening_at, closing_at, instants_at, sequence_at, sequences_at, members_at, open_brace_at, close_brace_at, braced_at, temporal_literal_at, with_sequences, prefixed_at, temporal_at}
+use Rattle.mob_written.specs.declared.written.Prefixes.{Prefixes}
+use Rattle.mob_written.specs.declared.written.Sequence.{Sequence}
+use Rattle.mob_written.specs.declared.written.Literal.{Literal}
+use Rattle.mob_written.specs.Prefix.{remaining, says_step, begins_prefix, prefixes_at}
+use Rattle.mob_written.proofs.Prefixes.{pair_is, prefixes_stop, prefixes_read, prefixes_sound, step_said}
 use Rattle.mob_written.specs.ValueText.{IsValueText, begins_no_value}
 
 close_blank : Apart is_close is_blank
@@ -38,7 +41,7 @@ comma_byte : HasByte comma
 comma_byte = means_byte (λ (v : Text × (Unit {0} × Text)). tt) (λ text v said e.
     then_byte blanks (word_byte 44 []) said.back v.1 said.second (back_nil said.front said.back (sym said.whole ∙ e)))
 
-pub noted_exact : {B : Type 0} (day : ℤ) {value : Language (Option B)} {reader : TextReader (Option B)} {F : Text → Type 0} {steady : Bool} → IsValueText steady value reader F → Exact (noted day value) (noted_at day reader) Closes
+pub noted_exact : {B : Type 0} (day : ℤ) {value : Language (Option B)} {reader : TextReader (Option B)} {F : Text → Type 0} → IsValueText value reader F → Exact (noted day value) (noted_at day reader) Closes
 unfolding noted_at
 noted_exact {B} day {value} {reader} {F} v = means_exact (noted_of day) (then_exact v.exact
     (then_byte_stops at_exact moment_exact moment_blank moment_byte)
@@ -53,7 +56,7 @@ pub record IsEntry {A : Type 0} (entry : Text → A → Type 0) (reader : TextRe
   pub well_begun : NoHead entry begins_no_value
   pub has_byte : HasByte entry
 
-pub noted_entry : {B : Type 0} (day : ℤ) {value : Language (Option B)} {reader : TextReader (Option B)} {F : Text → Type 0} {steady : Bool} → IsValueText steady value reader F → IsEntry (noted day value) (noted_at day reader)
+pub noted_entry : {B : Type 0} (day : ℤ) {value : Language (Option B)} {reader : TextReader (Option B)} {F : Text → Type 0} → IsValueText value reader F → IsEntry (noted day value) (noted_at day reader)
 noted_entry day v = record {
   exact = noted_exact day v;
   well_begun = means_head (byte_head _ v.well_begun v.has_byte);
@@ -139,7 +142,7 @@ sequence_exact {A} {entry} {reader} e = means_exact sequence_of (then_byte_stops
     (then_byte closing (list_byte entry comma e.has_byte)))
 
 abbrev not_open : ℕ → Bool
-not_open c = nat_eq c 123 || goes_on_prefix c
+not_open c = nat_eq c 123 || is_blank c
 
 open_other : Apart is_open not_open
 open_other c e = search rules
@@ -243,80 +246,75 @@ literal_exact {A} {entry} {reader} e = or_exact (braced_exact e)
     others_byte : HasByte (Means one_sequence (sequence entry) ∣ Means one_instant entry)
     others_byte = or_byte (means_byte one_sequence (sequence_byte entry)) (means_byte one_instant e.has_byte)
 
--- a test that no brace and no opening bracket passes
-record IsSignless (test : ℕ → Bool) : Type 0 where
-  brace : test 123 ≡ false
-  bracket : (c : ℕ) → not_open c ≡ false → test c ≡ false
+-- ---- a literal behind its prefixes
 
-literal_head : {A : Type 0} (entry : Language A) {test : ℕ → Bool} → IsSignless test → NoHead entry test → NoHead (literal entry) test
-literal_head entry {test} t h = or_head (means_head (byte_head _ (word_then_head 123 [] test t.brace) (then_byte blanks (word_byte 123 []))))
-    (or_head (means_head (head_less t.bracket (sequence_head entry))) (means_head h))
+abbrev pub Behind : Text → Type 0
+Behind rest = Any rest × (Any rest × Closes rest)
+
+literal_blank : {A : Type 0} {entry : Language A} {reader : TextReader A} → IsEntry entry reader → NoHead (literal entry) is_blank
+literal_blank {entry = entry} e = or_head (means_head (byte_head _ (word_then_head 123 [] is_blank refl) (then_byte blanks (word_byte 123 []))))
+    (or_head (means_head (head_less other_blank (sequence_head entry))) (means_head (head_less mark_blank e.well_begun)))
 
 literal_byte : {A : Type 0} {entry : Language A} {reader : TextReader A} → IsEntry entry reader → HasByte (literal entry)
 literal_byte {entry = entry} e = or_byte (means_byte in_middle (then_byte _ (then_byte blanks (word_byte 123 []))))
     (or_byte (means_byte one_sequence (sequence_byte entry)) (means_byte one_instant e.has_byte))
 
--- ---- what stands before a literal
+regrouped : (text a b rest : Text) → text ≡ a ++ b → text ++ rest ≡ a ++ (b ++ rest)
+regrouped text a b rest e = ap (λ (t : Text). t ++ rest) e ∙ append_assoc a b rest
 
-step_exact : Exact interpolation_step interpolation_step_at (Stops is_blank)
-step_exact = after_any (any_case_exact (codes "interp=step")) (spaced_exact 59 [] refl)
+said_so : {A : Type 0} (s : Bool) (v : Literal A) → s ≡ v.says_step → ◌≡◌ {A = Literal A} (record { says_step = s; sequences = v.sequences }) v
+said_so s v e = ap (λ (b : Bool). record { says_step = b; sequences = v.sequences }) e
 
-on_blank : (c : ℕ) → goes_on_prefix c ≡ false → is_blank c ≡ false
-on_blank c e = search rules
-
--- no prefix begins with another letter
-other_letter : (c : ℕ) → goes_on_prefix c ≡ false → nat_eq (to_ascii_lowercase c) 105 ≡ false
-other_letter c e = search rules
-
-step_nothing : Nothing interpolation_step_at goes_on_prefix
-step_nothing [] h = refl
-step_nothing (c ∷ cs) h = rw (other_letter c h) refl
-
-step_prefix_exact : Exact step_prefix (prefix_at false) (Stops goes_on_prefix)
-unfolding prefix_at
-step_prefix_exact = means_exact is_there (maybe_stops (exact_less step_exact (λ rest after. stops_less goes_on_prefix is_blank on_blank rest after)) step_nothing)
-
-no_prefix_exact : Exact no_prefix (prefix_at true) Any
-unfolding prefix_at
-no_prefix_exact = means_exact (λ (u : Unit {0}). false) (word_exact [])
-
--- a prefix begins with no blank
-prefix_head : (steady : Bool) → NoHead (prefix_of steady) is_blank
-prefix_head true = means_head (word_head [] is_blank tt)
-prefix_head false = means_head (maybe_head (byte_head _ any_case_head any_case_byte))
-  where
-    first_letter : (c : ℕ) → to_ascii_lowercase c ≡ 105 → is_blank c ≡ false
-    first_letter c e = search rules
-
-    any_case_head : NoHead (AnyCase (codes "interp=step")) is_blank
-    any_case_head [] v said = tt
-    any_case_head (c ∷ cs) v said = first_letter c cc
-
-    any_case_byte : HasByte (AnyCase (codes "interp=step"))
-    any_case_byte [] v said e = absurd cc
-    any_case_byte (c ∷ cs) v said e = absurd cc
-
--- where it may have a prefix, an entry begins with nothing that might go on with one
-abbrev pub BehindPrefix : {A : Type 0} → Bool → Language A → Type 0
-BehindPrefix steady entry = steady ≡ false → NoHead entry goes_on_prefix
-
-prefixed_exact : {A : Type 0} (steady : Bool) {entry : Language A} {reader : TextReader A} → BehindPrefix steady entry → IsEntry entry reader → Exact (prefixed steady entry) (prefixed_at steady reader) (λ rest. Any rest × (Any rest × Closes rest))
+prefixed_exact : {A : Type 0} (admitted : Prefixes) {entry : Language A} {reader : TextReader A} → IsEntry entry reader → Exact (Prefixed admitted entry) (prefixed_at admitted reader) Behind
 unfolding prefixed_at
-prefixed_exact true apart e = means_exact prefixed_of (after_any no_prefix_exact (literal_exact e))
-prefixed_exact false {entry} apart e = means_exact prefixed_of (then_exact step_prefix_exact (literal_exact e) (λ text rest v said after. byte_stops goes_on_prefix text rest (literal_head entry (record { brace = refl; bracket = λ c h. on_sign c h }) (apart refl) text v said) (literal_byte e text v said)))
-  where
-    on_sign : (c : ℕ) → not_open c ≡ false → goes_on_prefix c ≡ false
-    on_sign c h = search rules
+prefixed_exact {A} admitted {entry} {reader} e = record {
+  sound = λ text rest v read.
+      let a = bind_some (prefixes_at admitted text) (λ x. means_at (with_sequences admitted x.0) (temporal_literal_at reader) x.1) (v, rest) read in
+      let b = bind_some (temporal_literal_at reader a.0.1) (λ x. Some (with_sequences admitted a.0.0 x.0, x.1)) (v, rest) a.2 in
+      let are = prefixes_sound admitted text a.0.0 a.0.1 a.1 in
+      let is = pair_is (with_sequences admitted a.0.0 b.0.0) v b.0.1 rest b.2 in
+      let l = (literal_exact e).sound a.0.1 rest b.0.0 (b.1 ∙ ap (λ (t : Text). Some (b.0.0, t)) is.1) in
+      let left : remaining admitted are.said ≡ a.0.0 = are.left_is in
+      let said : (admitted.step && not a.0.0.step) ≡ says_step are.said = ap (λ (x : Prefixes). admitted.step && not x.step) (sym left) ∙ step_said admitted are.said are.front are.prefixes in
+      record {
+        front = are.front ++ l.front;
+        whole = are.whole ∙ ap (λ (t : Text). are.front ++ t) l.whole ∙ sym (append_assoc are.front l.front rest);
+        said = record {
+          front = are.front;
+          back = l.front;
+          whole = refl;
+          said = are.said;
+          prefixes = are.prefixes;
+          behind = subst (λ (x : Prefixes). Stops (begins_prefix x) l.front) (sym left) (fewer (begins_prefix a.0.0) l.front rest (subst (Stops (begins_prefix a.0.0)) l.whole are.stops));
+          sequences = subst (literal entry l.front) (ap (λ (x : Literal A). x.sequences) is.0) l.said;
+          step = sym (ap (λ (x : Literal A). x.says_step) is.0) ∙ said;
+        };
+      };
+  complete = λ text rest v said after.
+      let byte = literal_byte e said.back v.sequences said.sequences in
+      let blank : Stops is_blank (said.back ++ rest) = byte_stops is_blank said.back rest (literal_blank e said.back v.sequences said.sequences) byte in
+      let stops : Stops (begins_prefix (remaining admitted said.said)) (said.back ++ rest) = byte_stops _ said.back rest said.behind byte in
+      let read = prefixes_read admitted said.said said.front (said.back ++ rest) said.prefixes blank stops in
+      let lit = (literal_exact e).complete said.back rest v.sequences said.sequences after in
+      let is = said_so (admitted.step && not (remaining admitted said.said).step) v (step_said admitted said.said said.front said.prefixes ∙ sym said.step) in
+      ap (prefixed_at admitted reader) (regrouped text said.front said.back rest said.whole)
+      ∙ bound (prefixes_at admitted (said.front ++ (said.back ++ rest))) (λ x. means_at (with_sequences admitted x.0) (temporal_literal_at reader) x.1) (remaining admitted said.said, said.back ++ rest) read
+      ∙ ap (λ (o : Option (List (Sequence A) × Text)). o >>= λ x. Some (with_sequences admitted (remaining admitted said.said) x.0, x.1)) lit
+      ∙ ap (λ (w : Literal A). Some (w, rest)) is;
+} where
+  bound : {X Y : Type 0} (o : Option X) (f : X → Option Y) (x : X) → o ≡ Some x → (o >>= f) ≡ f x
+  bound o f x e = rw e refl
 
-prefixed_head : {A : Type 0} (steady : Bool) {entry : Language A} {reader : TextReader A} → IsEntry entry reader → NoHead (prefixed steady entry) is_blank
-prefixed_head steady {entry} e = means_head (then_head (prefix_head steady) (literal_head entry (record { brace = refl; bracket = λ c h. other_blank c h }) (head_less mark_blank e.well_begun)))
+  fewer : (test : ℕ → Bool) (text more : Text) → Stops test (text ++ more) → Stops test text
+  fewer test [] more h = tt
+  fewer test (c ∷ cs) more h = h
 
-prefixed_byte : {A : Type 0} (steady : Bool) {entry : Language A} {reader : TextReader A} → IsEntry entry reader → HasByte (prefixed steady entry)
-prefixed_byte steady e = means_byte prefixed_of (λ text v said none. literal_byte e said.back v.1 said.second (back_nil said.front said.back (sym said.whole ∙ none)))
+prefixed_blank : {A : Type 0} (admitted : Prefixes) {entry : Language A} {reader : TextReader A} → IsEntry entry reader → NoHead (Prefixed admitted entry) is_blank
+prefixed_blank admitted e text v said = subst (Stops is_blank) (sym said.whole) (prefixes_stop admitted said.said said.front said.back said.prefixes (literal_blank e said.back v.sequences said.sequences))
 
-pub temporal_exact : {A : Type 0} (steady : Bool) {entry : Language A} {reader : TextReader A} → BehindPrefix steady entry → IsEntry entry reader → Exact (temporal steady entry) (temporal_at steady reader) IsEnd
+prefixed_byte : {A : Type 0} (admitted : Prefixes) {entry : Language A} {reader : TextReader A} → IsEntry entry reader → HasByte (Prefixed admitted entry)
+prefixed_byte admitted e text v said none = literal_byte e said.back v.sequences said.sequences (back_nil said.front said.back (sym said.whole ∙ none))
+
+pub temporal_exact : {A : Type 0} (admitted : Prefixes) {entry : Language A} {reader : TextReader A} → IsEntry entry reader → Exact (temporal admitted entry) (temporal_at admitted reader) IsEnd
 unfolding temporal_at
-temporal_exact steady apart e = within_exact (prefixed_exact steady apart e) (prefixed_head steady e) (prefixed_byte steady e) (λ bs each. (tt, (tt, blanks_close bs each)))
-
-pub noted_behind : {B : Type 0} (day : ℤ) {value : Language (Option B)} {reader : TextReader (Option B)} {F : Text → Type 0} {steady : Bool} → IsValueText steady value reader F → BehindPrefix steady (noted day value)
-noted_behind day v h = means_head (byte_head _ (v.behind_prefix h) v.has_byte)
+temporal_exact admitted e = within_exact (prefixed_exact admitted e) (prefixed_blank admitted e) (prefixed_byte admitted e) (λ bs each. (tt, (tt, blanks_close bs each)))

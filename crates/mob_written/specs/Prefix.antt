@@ -1,40 +1,77 @@
 -- What may stand before a temporal literal.
 --
--- The sequences of a type whose courses are steady have step interpolation, and nothing stands before its literals. Before a literal
--- of any other type may stand `Interp=Step;`, its letters small or capital: then its sequences have step interpolation too.
-use Rattle.std.specs.Prelude.{ℕ, [], codes, Bool, true, false, ◌||◌, nat_eq, Option, Some, None}
-use Rattle.mob_language.specs.Language.{Language, ◌▷◌, Means, Maybe, Word, AnyCase, spaced, is_blank}
-use Rattle.mob_language.specs.Readers.{TextReader, then_at, means_at, maybe_at, word_at, any_case_at, spaced_at}
+-- `Interp=Step;` says that the sequences of the literal have step interpolation, and `SRID=0;` says nothing more. A type admits both,
+-- one or none of them. Each that it admits may stand there once, in any order, its letters small or capital, with blanks on both
+-- sides of its semicolon. A prefix that may stand there belongs to the whole literal and not to its first value, so what stands behind
+-- the prefixes begins with the first letter of none that might still stand.
+use Rattle.std.specs.Prelude.{◌≡◌, ℕ, List, [], ◌∷◌, ◌++◌, codes, Bool, true, false, ◌&&◌, ◌||◌, not, cond, nat_eq, Option, Some, None}
+use Rattle.std.specs.Char.{to_ascii_lowercase}
+use Rattle.mob_language.specs.Language.{Text, Language, ◌▷◌, AnyCase, spaced}
+use Rattle.mob_language.specs.Readers.{TextReader, ◌>>=◌, then_at, any_case_at, spaced_at}
+use Rattle.mob_written.specs.declared.written.Prefixes.{Prefixes}
 
--- nothing, which says no interpolation
-abbrev pub no_prefix : Language Bool
-no_prefix = Means (λ (u : Unit {0}). false) (Word [])
+pub data Prefix : Type 0 where
+  interpolation : Prefix
+  reference : Prefix
 
-abbrev pub interpolation_step : Language (Unit {0} × Unit {0})
-interpolation_step = AnyCase (codes "interp=step") ▷ spaced (codes ";")
+-- the word before the semicolon
+abbrev pub prefix_word : Prefix → Text
+prefix_word interpolation = codes "interp=step"
+prefix_word reference = codes "srid=0"
 
-abbrev pub is_there : Option (Unit {0} × Unit {0}) → Bool
-is_there None = false
-is_there (Some v) = true
+abbrev pub prefix_of : Prefix → Language (Unit {0} × Unit {0})
+prefix_of p = AnyCase (prefix_word p) ▷ spaced (codes ";")
 
--- `Interp=Step;` or nothing
-abbrev pub step_prefix : Language Bool
-step_prefix = Means is_there (Maybe interpolation_step)
+-- the prefixes that a type admits: `Interp=Step;` where its courses are not steady, and `SRID=0;` where it has a reference system
+abbrev pub admitted : Bool → Bool → Prefixes
+admitted steady has_srid = record { step = not steady; srid = has_srid }
 
--- what may stand before a literal of a type whose courses are steady, or are not; it says whether step interpolation is written
-abbrev pub prefix_of : Bool → Language Bool
-prefix_of true = no_prefix
-prefix_of false = step_prefix
+abbrev pub admits : Prefixes → Prefix → Bool
+admits a interpolation = a.step
+admits a reference = a.srid
+
+-- the others
+abbrev pub without : Prefix → Prefixes → Prefixes
+without interpolation a = record { step = false; srid = a.srid }
+without reference a = record { step = a.step; srid = false }
+
+-- what is left of those that are admitted
+abbrev pub remaining : Prefixes → List Prefix → Prefixes
+remaining a [] = a
+remaining a (p ∷ said) = remaining (without p a) said
+
+-- prefixes that are admitted, one behind the other, each once
+abbrev pub ArePrefixes : Prefixes → Text → List Prefix → Type 0
+ArePrefixes a text [] = text ≡ []
+ArePrefixes a text (p ∷ said) = (front : Text) × (back : Text) × (text ≡ front ++ back) × (admits a p ≡ true) × prefix_of p front (tt, tt) × ArePrefixes (without p a) back said
+
+-- one of them says step interpolation
+abbrev pub says_step : List Prefix → Bool
+says_step [] = false
+says_step (interpolation ∷ said) = true
+says_step (reference ∷ said) = says_step said
+
+-- a letter, small or capital, with which a prefix begins that is admitted
+abbrev pub is_first : ℕ → Bool → ℕ → Bool
+is_first letter admitted c = nat_eq (to_ascii_lowercase c) letter && admitted
+
+abbrev pub begins_prefix : Prefixes → ℕ → Bool
+begins_prefix a c = is_first 105 a.step c || is_first 115 a.srid c
 
 -- ---- the readers of these languages
 
-abbrev pub interpolation_step_at : TextReader (Unit {0} × Unit {0})
-interpolation_step_at = then_at (any_case_at (codes "interp=step")) (spaced_at (codes ";"))
+unfoldable pub prefix_at : Prefix → TextReader (Unit {0} × Unit {0})
+prefix_at p = then_at (any_case_at (prefix_word p)) (spaced_at (codes ";"))
 
-unfoldable pub prefix_at : Bool → TextReader Bool
-prefix_at true = means_at (λ (u : Unit {0}). false) (word_at [])
-prefix_at false = means_at is_there (maybe_at interpolation_step_at)
+abbrev pub with_left : Prefixes → Option ((Unit {0} × Unit {0}) × Text) → Option (Prefixes × Text)
+with_left left None = None
+with_left left (Some x) = Some (left, x.1)
 
--- a blank, or the first letter of the prefix: what begins with one might go on with a prefix
-abbrev pub goes_on_prefix : ℕ → Bool
-goes_on_prefix c = is_blank c || (nat_eq c 73 || nat_eq c 105)
+-- one prefix where its first letter is there, and what is left
+unfoldable pub one_prefix_at : Prefixes → TextReader Prefixes
+one_prefix_at a [] = Some (a, [])
+one_prefix_at a (c ∷ cs) = cond (is_first 105 a.step c) (with_left (without interpolation a) (prefix_at interpolation (c ∷ cs))) (cond (is_first 115 a.srid c) (with_left (without reference a) (prefix_at reference (c ∷ cs))) (Some (a, c ∷ cs)))
+
+-- all of them: there are two
+unfoldable pub prefixes_at : Prefixes → TextReader Prefixes
+prefixes_at a text = one_prefix_at a text >>= λ x. one_prefix_at x.0 x.1

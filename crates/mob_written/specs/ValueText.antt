@@ -1,21 +1,18 @@
 -- What a temporal reader wants of the texts of its values.
-use Rattle.std.specs.Prelude.{◌≡◌, ℕ, List, ◌++◌, Bool, false, ◌||◌, nat_eq, Option}
+use Rattle.std.specs.Prelude.{ℕ, List, ◌++◌, Bool, ◌||◌, nat_eq, Option}
 use Rattle.mob_language.specs.Language.{Text, is_blank}
 use Rattle.mob_language.specs.Readers.{TextReader}
 use Rattle.mob_language.proofs.Exact.{Exact}
 use Rattle.mob_language.proofs.Heads.{NoHead, HasByte}
 use Rattle.mob_written.specs.Literal.{at_sign, is_open}
-use Rattle.mob_written.specs.Prefix.{goes_on_prefix}
 
 -- a blank, an opening bracket or a brace: no value begins with one
 abbrev pub begins_no_value : ℕ → Bool
 begins_no_value c = is_blank c || (is_open c || nat_eq c 123)
 
 -- The reader reads exactly the texts of the values, each of which has a byte, begins with none of these and may stand before the sign @.
--- Where the courses of the type are not steady, a value begins with nothing that might go on with a prefix.
-pub record IsValueText {B : Type 0} (steady : Bool) (value : List ℕ → Option B → Type 0) (reader : TextReader (Option B)) (follows : List ℕ → Type 0) : Type 0 where
+pub record IsValueText {B : Type 0} (value : List ℕ → Option B → Type 0) (reader : TextReader (Option B)) (follows : List ℕ → Type 0) : Type 0 where
   pub exact : Exact value reader follows
   pub before_at : (text rest : Text) (u : Unit {0}) → at_sign text u → follows (text ++ rest)
   pub well_begun : NoHead value begins_no_value
   pub has_byte : HasByte value
-  pub behind_prefix : steady ≡ false → NoHead value goes_on_prefix

@@ -1,5 +1,5 @@
 -- The values of the step types as they are written.
-use Rattle.std.proofs.Common.{◌≡◌, ℕ, Bool, true, false, true≢false, Option, Some, refl, rules}
+use Rattle.std.proofs.Common.{◌≡◌, ℕ, Bool, true, false, Option, Some, refl, rules}
 use Rattle.std.specs.Prelude.{nat_eq}
 use Rattle.std.specs.Char.{is_ascii_alphabetic}
 use Rattle.mob_ratio.specs.Ratio.{Ratio}
@@ -42,14 +42,13 @@ truth_follows rest = Stops is_ascii_alphabetic rest
 letters_apart : Apart is_ascii_alphabetic begins_no_value
 letters_apart c e = search rules
 
-pub truth_values : IsValueText true truth_value truth_value_at truth_follows
+pub truth_values : IsValueText truth_value truth_value_at truth_follows
 unfolding truth_value_at
 truth_values = record {
   exact = means_exact some_value truth_exact;
   before_at = truth_before_at;
   well_begun = means_head (truth_head begins_no_value letters_apart);
   has_byte = means_byte some_value truth_byte;
-  behind_prefix = λ h. absurd (true≢false h);
 }
 
 -- a number, where it fits
@@ -75,14 +74,13 @@ digits_apart c e = search rules
 exponents_apart : Apart is_exponent_letter begins_no_value
 exponents_apart c e = search rules
 
-pub number_values : IsValueText true number_value number_value_at number_follows
+pub number_values : IsValueText number_value number_value_at number_follows
 unfolding number_value_at
 number_values = record {
   exact = means_exact fitting_value number_exact;
   before_at = number_before_at;
   well_begun = means_head (number_head begins_no_value signs_apart digits_apart refl refl exponents_apart);
   has_byte = means_byte fitting_value number_byte;
-  behind_prefix = λ h. absurd (true≢false h);
 }
 
 -- a whole number
@@ -99,12 +97,11 @@ quoted_value_at = means_at some_value text_value_at
 plain_apart : (c : ℕ) → is_plain c ≡ true → is_blank c ≡ false → begins_no_value c ≡ false
 plain_apart c e h = search rules
 
-pub quoted_values : IsValueText true quoted_value quoted_value_at Behind
+pub quoted_values : IsValueText quoted_value quoted_value_at Behind
 unfolding quoted_value_at
 quoted_values = record {
   exact = means_exact some_value text_value_exact;
   before_at = text_value_before_at;
   well_begun = means_head (text_value_head begins_no_value refl plain_apart);
   has_byte = means_byte some_value text_value_byte;
-  behind_prefix = λ h. absurd (true≢false h);
 }

@@ -1,14 +1,15 @@
 //! Temporal literals, as they are written.
-ghost use Rattle.std.specs.Prelude.{◌≡◌, ℕ, map, option_map, List, [], ◌∷◌, Option, Some, None, IfOk, Bool, true};
+ghost use Rattle.std.specs.Prelude.{◌≡◌, ℕ, map, option_map, List, [], ◌∷◌, Option, Some, None, IfOk, Bool, true, ◌&&◌, not};
 ghost use Rattle.mob_language.specs.Readers.{TextReader, all_of, means_at, separated_at as separated_in, spaced_at as spaced_in};
 ghost use Rattle.mob_scalar.specs.Calendar.{is_civil};
 ghost use Rattle.mob_scalar.specs.Moment.{instant, IsPartSmall};
 ghost use Rattle.mob_written.specs.Fitting.{fitting};
 ghost use Rattle.mob_written.specs.Literal.{alone as alone_of, one_sequence, one_instant, comma_at as comma_in, noted_at as noted_in, opening_at as opening_in, closing_at as closing_in, instants_at as instants_in, sequence_at as sequence_in, sequences_at as sequences_in, members_at as members_in, braced_at as braced_in, temporal_literal_at, prefixed_at as prefixed_in, temporal_at as temporal_in};
+ghost use Rattle.mob_written.specs.Prefix.{admitted};
 ghost use Rattle.mob_written.specs.ValueText.{IsValueText};
 
-use crate::prefix::prefix_at;
-use crate::written::{Literal, Noted, Sequence};
+use crate::prefix::prefixes_at;
+use crate::written::{Literal, Noted, Prefixes, Sequence};
 use mob_frac::Frac;
 use mob_list::items::Items;
 use mob_scalar::{Epoch, Stamp, blanks, moment_at, place};
@@ -29,6 +30,11 @@ pub trait WrittenValue {
     /// The value of the text in front, and what stands behind it.
     ghost reader: { List ℕ → Option (Option Self.Base × List ℕ) };
 
+    /// Whether `SRID=0;` may stand before a literal.
+    const HAS_SRID: bool;
+
+    ghost HAS_SRID: { Bool };
+
     /// What may stand behind a text.
     ghost follows: { List ℕ → Type 0 };
 
@@ -46,7 +52,7 @@ pub trait WrittenValue {
     fn has_value(value: &Self::Base) -> bool
         ensures exact { result ≡ has_value value.now };
 
-    ghost exact: { IsValueText Self.Course.STEADY shape reader follows };
+    ghost exact: { IsValueText shape reader follows };
 }
 
 /// What stands behind the sign and the blanks on both sides of it.
@@ -309,16 +315,28 @@ fn sequences_of<'a, T: WrittenValue>(
     one_instant_at::<T>(alloc, epoch, bytes)
 }
 
-/// A literal behind its prefix, and what stands behind it.
+/// Whether a prefix was said: it was admitted, and is not left.
+fn is_said(admitted: bool, left: bool) -> bool
+    ensures value { result ≡ (admitted && not left) }
+{
+    admitted && !left
+}
+
+/// A literal behind its prefixes, and what stands behind it.
 #[tactic(auto, unfolding(crate::specs::Literal::prefixed_at))]
 fn prefixed_at<'a, T: WrittenValue>(
     alloc: Global,
     epoch: &Epoch,
     bytes: &'a [u8],
 ) -> Result<Option<(Literal<Noted<T::Base>>, &'a [u8])>, AllocError>
-    ensures read { IfOk result (λ o. option_map (λ x. (x.0, x.1.now)) o ≡ prefixed_in T.Course.STEADY (noted_in epoch.now T.reader) bytes.now) }
+    ensures read { IfOk result (λ o. option_map (λ x. (x.0, x.1.now)) o ≡ prefixed_in (admitted T.Course.STEADY T.HAS_SRID) (noted_in epoch.now T.reader) bytes.now) }
 {
-    let (says_step, rest) = prefix_at(T::Course::STEADY, bytes);
+    let step = !T::Course::STEADY;
+    let srid = T::HAS_SRID;
+    let Some((left, rest)) = prefixes_at(Prefixes { step, srid }, bytes) else {
+        return Ok(None);
+    };
+    let says_step = is_said(step, left.step);
     let Some((sequences, rest)) = sequences_of::<T>(alloc, epoch, rest)? else {
         return Ok(None);
     };
@@ -336,7 +354,7 @@ pub fn literal_of<T: WrittenValue>(
     epoch: &Epoch,
     bytes: &[u8],
 ) -> Result<Option<Literal<Noted<T::Base>>>, AllocError>
-    ensures read { IfOk result (λ o. o ≡ all_of (temporal_in T.Course.STEADY (noted_in epoch.now T.reader)) bytes.now) }
+    ensures read { IfOk result (λ o. o ≡ all_of (temporal_in (admitted T.Course.STEADY T.HAS_SRID) (noted_in epoch.now T.reader)) bytes.now) }
 {
     let Some((literal, rest)) = prefixed_at::<T>(alloc, epoch, blanks(bytes).1)? else {
         return Ok(None);

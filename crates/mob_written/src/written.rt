@@ -39,3 +39,12 @@ pub struct Literal<A> {
     /// The sequences, in the order in which they are written.
     pub sequences: Items<Sequence<A>>,
 }
+
+/// The prefixes that may stand before a literal.
+#[derive(Drop)]
+pub struct Prefixes {
+    /// Whether `Interp=Step;` may stand there.
+    pub step: bool,
+    /// Whether `SRID=0;` may stand there.
+    pub srid: bool,
+}

@@ -1,0 +1,11 @@
+use Rattle.mob_literal.proofs.BehindPrefixes.{behind_prefixes}
+use Rattle.mob_literal.proofs.Drawn.{lawful}
+use Rattle.mob_slice.specs.CourseOf.{course_of}
+use Rattle.mob_literal.proofs.laws.literals_read_again.Goals as goal
+
+pub returns : goal.returns
+returns g c = record {
+  again = λ day IsWritten v before front say has plain r are level.
+      behind_prefixes (course_of g.T.Course.Course.STEADY g.T.Course.Course.value_of g.T.Course.Course.start_of g.T.Course.Course.end_of g.T.Course.Course.make g.T.Course.Course.is_continued g.T.Base.BaseValue.is_same)
+      (lawful g.T.Base.BaseValue.is_same g.met.T.Base.BaseValue.exact g.met.T.Course.Course.laws) day g.T.WrittenValue.HAS_SRID g.T.WrittenValue.shape g.met.T.WrittenValue.exact.has_byte g.T.Base.Printed.text IsWritten g.T.WrittenValue.has_value say has plain v r before front are level;
+}
