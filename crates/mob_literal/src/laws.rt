@@ -28,6 +28,7 @@ ghost use Rattle.mob_slice.specs.declared.steady.Steady.{Steady};
 ghost use Rattle.mob_value.specs.declared.value.Value.{Value};
 ghost use Rattle.mob_value.specs.declared.value.Value.TheVariants.{Null};
 
+use mob_slice::Course;
 use mob_written::WrittenValue;
 use mob_written::printing::Printed;
 
@@ -54,18 +55,18 @@ pub fn steps_read_again()
 /// What is printed of a value over time is read again as that value, where what is printed of each of its values is read again, and
 /// begins with the first letter of no prefix that its type admits. Such prefixes may stand before it: `SRID=0;` says nothing more, and
 /// `Interp=Step;` changes nothing where each slice ends with the value with which it starts.
-pub fn literals_read_again<T: WrittenValue>()
+pub fn literals_read_again<T: WrittenValue, C: Course<Base = T::Base>>()
 where
     T::Base: Printed,
-    ensures again { (day : ℤ) (IsWritten : T.Base → Type 0) (v : List (Slice T.Course)) (before : List Prefix) (front : Text)
+    ensures again { (day : ℤ) (IsWritten : T.Base → Type 0) (v : List (Slice C)) (before : List Prefix) (front : Text)
         → ((x : T.Base) → IsWritten x → T.shape (T.Base.text x) (Some x))
         → ((x : T.Base) → IsWritten x → T.has_value x ≡ true)
-        → ((x : T.Base) → IsWritten x → Stops (begins_prefix (admitted T.Course.STEADY T.HAS_SRID)) (T.Base.text x))
-        → IsReadable (course_of T.Course.STEADY T.Course.value_of T.Course.start_of T.Course.end_of T.Course.make T.Course.is_continued T.Base.is_same) day T.Base.text IsWritten v
-        → ArePrefixes (admitted T.Course.STEADY T.HAS_SRID) front before
-        → (says_step before ≡ true → AreLevel (course_of T.Course.STEADY T.Course.value_of T.Course.start_of T.Course.end_of T.Course.make T.Course.is_continued T.Base.is_same) v)
-        → Lit (literals day T.HAS_SRID T.shape T.has_value (course_of T.Course.STEADY T.Course.value_of T.Course.start_of T.Course.end_of T.Course.make T.Course.is_continued T.Base.is_same))
-            (front ++ moving_text (style_of (course_of T.Course.STEADY T.Course.value_of T.Course.start_of T.Course.end_of T.Course.make T.Course.is_continued T.Base.is_same) T.Base.text day) v) (Ok v) }
+        → ((x : T.Base) → IsWritten x → Stops (begins_prefix (admitted C.STEADY T.HAS_SRID)) (T.Base.text x))
+        → IsReadable (course_of C.STEADY C.value_of C.start_of C.end_of C.make C.is_continued T.Base.is_same) day T.Base.text IsWritten v
+        → ArePrefixes (admitted C.STEADY T.HAS_SRID) front before
+        → (says_step before ≡ true → AreLevel (course_of C.STEADY C.value_of C.start_of C.end_of C.make C.is_continued T.Base.is_same) v)
+        → Lit (literals day T.HAS_SRID T.shape T.has_value (course_of C.STEADY C.value_of C.start_of C.end_of C.make C.is_continued T.Base.is_same))
+        (front ++ moving_text (style_of (course_of C.STEADY C.value_of C.start_of C.end_of C.make C.is_continued T.Base.is_same) T.Base.text day) v) (Ok v) }
 {}
 
 /// What is printed of a value of a type is read again as that value, under the same conditions on its instants.

@@ -130,13 +130,13 @@ fn has_values<T: WrittenValue>(instants: &[Written<T::Base>]) -> bool
 }
 
 /// The slices of a sequence, where it is sound.
-fn sequence_slices<T: WrittenValue>(
+fn sequence_slices<T: WrittenValue, C: Course<Base = T::Base> + Drop>(
     alloc: Global,
     step: bool,
     sequence: Sequence<Written<T::Base>>,
-) -> Result<Option<Vec<Slice<T::Course>>>, AllocError>
-    requires moves { step ≡ false → T.Course.STEADY ≡ false }
-    ensures made { IfOk result (λ o. option_map (λ v. v.items) o ≡ made_sequence T.has_value (course_of T.Course.STEADY T.Course.value_of T.Course.start_of T.Course.end_of T.Course.make T.Course.is_continued T.Base.is_same) step sequence) }
+) -> Result<Option<Vec<Slice<C>>>, AllocError>
+    requires moves { step ≡ false → C.STEADY ≡ false }
+    ensures made { IfOk result (λ o. option_map (λ v. v.items) o ≡ made_sequence T.has_value (course_of C.STEADY C.value_of C.start_of C.end_of C.make C.is_continued T.Base.is_same) step sequence) }
 {
     let Sequence {
         lower_inc,
@@ -146,21 +146,21 @@ fn sequence_slices<T: WrittenValue>(
     if !has_values::<T>(instants.as_slice()) {
         return Ok(None);
     }
-    slices_of::<T::Course>(alloc, step, lower_inc, instants.into_vec(), upper_inc)
+    slices_of::<C>(alloc, step, lower_inc, instants.into_vec(), upper_inc)
 }
 
 /// The slices of all sequences, where each of them is sound.
-fn all_slices<T: WrittenValue>(
+fn all_slices<T: WrittenValue, C: Course<Base = T::Base> + Drop>(
     alloc: Global,
     step: bool,
     sequences: Vec<Sequence<Written<T::Base>>>,
-) -> Result<Option<Vec<Slice<T::Course>>>, AllocError>
-    requires moves { step ≡ false → T.Course.STEADY ≡ false }
-    ensures made { IfOk result (λ o. option_map (λ v. v.items) o ≡ made_all T.has_value (course_of T.Course.STEADY T.Course.value_of T.Course.start_of T.Course.end_of T.Course.make T.Course.is_continued T.Base.is_same) step sequences.items) }
+) -> Result<Option<Vec<Slice<C>>>, AllocError>
+    requires moves { step ≡ false → C.STEADY ≡ false }
+    ensures made { IfOk result (λ o. option_map (λ v. v.items) o ≡ made_all T.has_value (course_of C.STEADY C.value_of C.start_of C.end_of C.make C.is_continued T.Base.is_same) step sequences.items) }
 {
     let mut all = Vec::new(alloc);
     for sequence in sequences {
-        let Some(mut slices) = sequence_slices::<T>(alloc, step, sequence)? else {
+        let Some(mut slices) = sequence_slices::<T, C>(alloc, step, sequence)? else {
             return Ok(None);
         };
         all.append(&mut slices)?;
@@ -188,7 +188,7 @@ fn fitting_literal<B: Drop>(
     }
 }
 
-/// The literal that a text is, as it is written.
+/// The literal that a text is, as it is written, of a type whose courses are steady, or are not.
 ///
 /// The faults in order: `NotText` where the text is no literal, `Limit` where it has more than 100,000 instants, and
 /// `TooLarge` where a value or an instant does not fit.
@@ -196,10 +196,11 @@ fn read_written<T: WrittenValue>(
     alloc: Global,
     text: &str,
     epoch: &Epoch,
+    steady: bool,
 ) -> Result<Literal<Written<T::Base>>, ReadText>
-    ensures reading { Lit (written_literals epoch.now (admitted T.Course.STEADY T.HAS_SRID) T.shape) text.now result }
+    ensures reading { Lit (written_literals epoch.now (admitted steady T.HAS_SRID) T.shape) text.now result }
 {
-    let noted = match literal_of::<T>(alloc, epoch, text.as_bytes()) {
+    let noted = match literal_of::<T>(alloc, epoch, steady, text.as_bytes()) {
         Ok(Some(noted)) => noted,
         Ok(None) => return Err(ReadText::NotText),
         Err(_) => return Err(ReadText::NoMemory),
@@ -223,18 +224,18 @@ fn is_step(steady: bool, says_step: bool) -> bool
 }
 
 /// The slices of a literal, where each of its sequences is sound.
-fn literal_slices<T: WrittenValue>(
+fn literal_slices<T: WrittenValue, C: Course<Base = T::Base> + Drop>(
     alloc: Global,
     literal: Literal<Written<T::Base>>,
-) -> Result<Option<Vec<Slice<T::Course>>>, AllocError>
-    ensures made { IfOk result (λ o. option_map (λ v. v.items) o ≡ made_all T.has_value (course_of T.Course.STEADY T.Course.value_of T.Course.start_of T.Course.end_of T.Course.make T.Course.is_continued T.Base.is_same) (is_step_in T.Course.STEADY literal.says_step) literal.sequences) }
+) -> Result<Option<Vec<Slice<C>>>, AllocError>
+    ensures made { IfOk result (λ o. option_map (λ v. v.items) o ≡ made_all T.has_value (course_of C.STEADY C.value_of C.start_of C.end_of C.make C.is_continued T.Base.is_same) (is_step_in C.STEADY literal.says_step) literal.sequences) }
 {
     let Literal {
         says_step,
         sequences,
     } = literal;
-    let step = is_step(T::Course::STEADY, says_step);
-    all_slices::<T>(alloc, step, sequences.into_vec())
+    let step = is_step(C::STEADY, says_step);
+    all_slices::<T, C>(alloc, step, sequences.into_vec())
 }
 
 /// The temporal value that a literal stands for. Instants count from midnight UTC of the epoch's day.
@@ -243,21 +244,21 @@ fn literal_slices<T: WrittenValue>(
 /// `TooLarge` where a value or an instant does not fit, and `Unsound` where the type does not have a value, the instants
 /// of a sequence do not rise, a sequence of one instant leaves an end out, one with step interpolation that leaves its
 /// upper end out does not keep its value until there, or two sequences are out of order or share an instant.
-pub fn read_moving<T: WrittenValue>(
+pub fn read_moving<T: WrittenValue, C: Course<Base = T::Base> + Drop>(
     alloc: Global,
     text: &str,
     epoch: &Epoch,
-) -> Result<Moving<T::Course>, ReadText>
-    ensures reading { Lit (literals epoch.now T.HAS_SRID T.shape T.has_value (course_of T.Course.STEADY T.Course.value_of T.Course.start_of T.Course.end_of T.Course.make T.Course.is_continued T.Base.is_same)) text.now result }
+) -> Result<Moving<C>, ReadText>
+    ensures reading { Lit (literals epoch.now T.HAS_SRID T.shape T.has_value (course_of C.STEADY C.value_of C.start_of C.end_of C.make C.is_continued T.Base.is_same)) text.now result }
 {
-    let written = match read_written::<T>(alloc, text, epoch) {
+    let written = match read_written::<T>(alloc, text, epoch, C::STEADY) {
         Ok(written) => written,
         Err(fault) => return Err(fault),
     };
     if !are_in_order(written.sequences.as_slice()) {
         return Err(ReadText::Unsound);
     }
-    let slices = match literal_slices::<T>(alloc, written) {
+    let slices = match literal_slices::<T, C>(alloc, written) {
         Ok(Some(slices)) => slices,
         Ok(None) => return Err(ReadText::Unsound),
         Err(_) => return Err(ReadText::NoMemory),

@@ -188,11 +188,11 @@ unfolding prefixes_at
 prefixes_sound a text left rest e =
     let one = bind_some (one_prefix_at a text) (λ x. one_prefix_at x.0 x.1) (left, rest) e in
     elim (one_sound a text one.0.0 one.0.1 one.1) [
-    | inl n ↦ nothing n (pair_is a left text rest (sym (one_none a text n.stops) ∙ subst (λ (t : Text). one_prefix_at a t ≡ Some (left, rest)) n.rest_is (subst (λ (b : Prefixes). one_prefix_at b one.0.1 ≡ Some (left, rest)) n.same one.2)))
-    | inr o ↦ elim (one_sound one.0.0 one.0.1 left rest one.2) [
-      | inl n ↦ some_one one.0.0 one.0.1 o n
-      | inr p ↦ both one.0.0 one.0.1 o p
-    ]
+      | inl n ↦ nothing n (pair_is a left text rest (sym (one_none a text n.stops) ∙ subst (λ (t : Text). one_prefix_at a t ≡ Some (left, rest)) n.rest_is (subst (λ (b : Prefixes). one_prefix_at b one.0.1 ≡ Some (left, rest)) n.same one.2)))
+      | inr o ↦ elim (one_sound one.0.0 one.0.1 left rest one.2) [
+        | inl n ↦ some_one one.0.0 one.0.1 o n
+        | inr p ↦ both one.0.0 one.0.1 o p
+      ]
     ]
   where
     nothing : {b : Prefixes} {t : Text} → IsNone a text b t → (a ≡ left) × (text ≡ rest) → AreRead a text left rest

@@ -13,16 +13,13 @@ use crate::written::{Literal, Noted, Prefixes, Sequence};
 use mob_frac::Frac;
 use mob_list::items::Items;
 use mob_scalar::{Epoch, Stamp, blanks, moment_at, place};
-use mob_slice::{BaseValue, Course};
+use mob_slice::BaseValue;
 use std::alloc::{AllocError, Global};
 
 /// How the values of a temporal type are written.
 pub trait WrittenValue {
     /// The base type of the values.
     type Base: BaseValue + Drop;
-
-    /// How a value goes over time.
-    type Course: Course<Base = Self::Base> + Drop;
 
     /// Which texts there are, and what value each stands for: None where its number does not fit.
     ghost shape: { List ℕ → Option Self.Base → Type 0 };
@@ -322,16 +319,17 @@ fn is_said(admitted: bool, left: bool) -> bool
     admitted && !left
 }
 
-/// A literal behind its prefixes, and what stands behind it.
+/// A literal behind its prefixes, and what stands behind it. `Interp=Step;` may be one where the courses are not steady.
 #[tactic(auto, unfolding(crate::specs::Literal::prefixed_at))]
 fn prefixed_at<'a, T: WrittenValue>(
     alloc: Global,
     epoch: &Epoch,
+    steady: bool,
     bytes: &'a [u8],
 ) -> Result<Option<(Literal<Noted<T::Base>>, &'a [u8])>, AllocError>
-    ensures read { IfOk result (λ o. option_map (λ x. (x.0, x.1.now)) o ≡ prefixed_in (admitted T.Course.STEADY T.HAS_SRID) (noted_in epoch.now T.reader) bytes.now) }
+    ensures read { IfOk result (λ o. option_map (λ x. (x.0, x.1.now)) o ≡ prefixed_in (admitted steady T.HAS_SRID) (noted_in epoch.now T.reader) bytes.now) }
 {
-    let step = !T::Course::STEADY;
+    let step = !steady;
     let srid = T::HAS_SRID;
     let Some((left, rest)) = prefixes_at(Prefixes { step, srid }, bytes) else {
         return Ok(None);
@@ -347,16 +345,17 @@ fn prefixed_at<'a, T: WrittenValue>(
     Ok(Some((literal, rest)))
 }
 
-/// The literal that all of the bytes are, as it is written.
+/// The literal that all of the bytes are, as it is written, of a type whose courses are steady, or are not.
 #[tactic(auto, unfolding(crate::specs::Literal::temporal_at))]
 pub fn literal_of<T: WrittenValue>(
     alloc: Global,
     epoch: &Epoch,
+    steady: bool,
     bytes: &[u8],
 ) -> Result<Option<Literal<Noted<T::Base>>>, AllocError>
-    ensures read { IfOk result (λ o. o ≡ all_of (temporal_in (admitted T.Course.STEADY T.HAS_SRID) (noted_in epoch.now T.reader)) bytes.now) }
+    ensures read { IfOk result (λ o. o ≡ all_of (temporal_in (admitted steady T.HAS_SRID) (noted_in epoch.now T.reader)) bytes.now) }
 {
-    let Some((literal, rest)) = prefixed_at::<T>(alloc, epoch, blanks(bytes).1)? else {
+    let Some((literal, rest)) = prefixed_at::<T>(alloc, epoch, steady, blanks(bytes).1)? else {
         return Ok(None);
     };
     match blanks(rest).1 {

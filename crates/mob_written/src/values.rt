@@ -14,7 +14,6 @@ use mob_scalar::{
     Numeral, evaluate, number_at, text_value_at, truth_at, write_number, write_text_value,
     write_truth,
 };
-use mob_slice::Steady;
 use std::alloc::{AllocError, Global};
 
 /// The values of a tbool: `t`, `f`, `true` or `false`, its letters small or capital.
@@ -25,8 +24,6 @@ impl WrittenValue for Truths {
     ghost use Rattle.mob_written.specs.Values.{any_value, truth_value, truth_value_at as truth_in, truth_follows, truth_values};
 
     type Base = bool;
-
-    type Course = Steady<bool>;
 
     ghost shape = { truth_value };
 
@@ -76,8 +73,6 @@ impl WrittenValue for WholeNumbers {
 
     type Base = Frac;
 
-    type Course = Steady<Frac>;
-
     ghost shape = { number_value };
 
     ghost reader = { number_in };
@@ -114,8 +109,6 @@ impl WrittenValue for Texts {
     ghost use Rattle.mob_written.specs.Values.{any_value, quoted_value, quoted_value_at as quoted_in, quoted_values};
 
     type Base = Text;
-
-    type Course = Steady<Self::Base>;
 
     ghost shape = { quoted_value };
 
