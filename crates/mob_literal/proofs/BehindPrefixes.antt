@@ -13,7 +13,7 @@ use Rattle.mob_written.specs.declared.written.Prefixes.{Prefixes}
 use Rattle.mob_written.specs.Prefix.{Prefix, interpolation, reference, without, ArePrefixes, admitted, remaining, says_step, is_first, begins_prefix}
 use Rattle.mob_written.specs.Printed.{moving_text}
 use Rattle.mob_written.specs.Style.{style_of}
-use Rattle.mob_literal.specs.Readable.{AreLevel, IsReadable}
+use Rattle.mob_literal.specs.Readable.{AreLevel, IsReadAgain, IsReadable}
 use Rattle.mob_literal.specs.Sound.{literals}
 use Rattle.mob_literal.proofs.Listing.{first_in}
 use Rattle.mob_literal.proofs.Drawn.{IsLawful}
@@ -35,20 +35,17 @@ left_first (p ∷ before) a c h = left_first before (without p a) c (fewer_first
 prefix_signs : (a : Prefixes) → IsNoSign (begins_prefix a)
 prefix_signs a = record { brace = refl; included = refl; left_out = refl }
 
-pub behind_prefixes : {C B : Type 0} (course : CourseOf C B) → IsLawful course → (day : ℤ) (has_srid : Bool) (value : Language (Option B)) → HasByte value → (text : B → Text) (IsWritten : B → Type 0) (has_value : B → Bool)
-    → ((v : B) → IsWritten v → value (text v) (Some v))
-    → ((v : B) → IsWritten v → has_value v ≡ true)
-    → ((v : B) → IsWritten v → Stops (begins_prefix (admitted course.steady has_srid)) (text v))
-    → (slices : List (Slice C)) → IsReadable course day text IsWritten slices
+pub behind_prefixes : {C B : Type 0} (course : CourseOf C B) → IsLawful course → (day : ℤ) (has_srid : Bool) (value : Language (Option B)) → HasByte value → (text : B → Text) (has_value : B → Bool)
+    → (slices : List (Slice C)) → IsReadable course day text (IsReadAgain value text has_value (admitted course.steady has_srid)) slices
     → (before : List Prefix) (front : Text) → ArePrefixes (admitted course.steady has_srid) front before → (says_step before ≡ true → AreLevel course slices)
     → Lit (literals day has_srid value has_value course) (front ++ moving_text (style_of course text day) slices) (Ok slices)
-behind_prefixes {C} {B} course laws day has_srid value byte text IsWritten has_value say has plain slices r before front are level =
-    moving_again course laws day value text IsWritten has_value say has slices r has_srid before front are stops level
+behind_prefixes {C} {B} course laws day has_srid value byte text has_value slices r before front are level =
+    moving_again course laws day value text (IsReadAgain value text has_value (admitted course.steady has_srid)) has_value (λ v w. w.read) (λ v w. w.of_type) slices r has_srid before front are stops level
   where
     begun : (s : Slice C) (rest : List (Slice C)) → slices ≡ s ∷ rest → IsBegun (begins_prefix (admitted course.steady has_srid)) (text (course.start s.course))
     begun s rest e =
-        let is : IsWritten (course.start s.course) = subst (λ (xs : List (Slice C)). ((x : Slice C) → Contains xs x → IsWritten (course.start x.course)) → IsWritten (course.start s.course)) (sym e) (λ f. f s (first_in s rest)) r.starts in
-        begun_by (begins_prefix (admitted course.steady has_srid)) (text (course.start s.course)) (plain (course.start s.course) is) (byte (text (course.start s.course)) (Some (course.start s.course)) (say (course.start s.course) is))
+        let is : IsReadAgain value text has_value (admitted course.steady has_srid) (course.start s.course) = subst (λ (xs : List (Slice C)). ((x : Slice C) → Contains xs x → IsReadAgain value text has_value (admitted course.steady has_srid) (course.start x.course)) → IsReadAgain value text has_value (admitted course.steady has_srid) (course.start s.course)) (sym e) (λ f. f s (first_in s rest)) r.starts in
+        begun_by (begins_prefix (admitted course.steady has_srid)) (text (course.start s.course)) is.begun (byte (text (course.start s.course)) (Some (course.start s.course)) is.read)
 
     stops : Stops (begins_prefix (remaining (admitted course.steady has_srid) before)) (moving_text (style_of course text day) slices)
     stops = stops_less (begins_prefix (admitted course.steady has_srid)) (begins_prefix (remaining (admitted course.steady has_srid) before)) (left_first before (admitted course.steady has_srid)) (moving_text (style_of course text day) slices)

@@ -1,13 +1,16 @@
 -- When the printed text of a temporal value is read again as that value.
-use Rattle.std.specs.Prelude.{◌≡◌, ◌+◌, ◌≤◌, ℕ, ℤ, List, [], ◌∷◌, length, Contains, Bool, true}
+use Rattle.std.specs.Prelude.{◌≡◌, ◌+◌, ◌≤◌, ℕ, ℤ, List, [], ◌∷◌, length, Contains, Bool, true, Option, Some}
 use Rattle.std.specs.Str.{is_utf8}
 use Rattle.mob_ratio.specs.Ratio.{Ratio}
 use Rattle.mob_frac.specs.Fits.{Fits}
 use Rattle.mob_language.specs.Language.{Text}
+use Rattle.mob_language.proofs.Exact.{Stops}
 use Rattle.mob_scalar.specs.MomentText.{HasDate}
 use Rattle.mob_slice.specs.declared.slice.Slice.{Slice}
 use Rattle.mob_slice.specs.CourseOf.{CourseOf}
 use Rattle.mob_slice.specs.Slices.{IsNormal}
+use Rattle.mob_written.specs.declared.written.Prefixes.{Prefixes}
+use Rattle.mob_written.specs.Prefix.{begins_prefix}
 use Rattle.mob_written.specs.Printed.{Style, groups_of, instants_of}
 use Rattle.mob_written.specs.Style.{style_of}
 
@@ -33,6 +36,12 @@ pub record IsReadable {C B : Type 0} (course : CourseOf C B) (day : ℤ) (text :
 -- each of the slices ends with the value with which it starts: step interpolation changes nothing
 abbrev pub AreLevel : {C B : Type 0} → CourseOf C B → List (Slice C) → Type 0
 AreLevel course slices = (s : Slice _) → Contains slices s → course.start s.course ≡ course.end s.course
+
+-- the printed text of the value is read again as that value, which the type has, and begins with the first letter of no prefix
+pub record IsReadAgain {B : Type 0} (value : Text → Option B → Type 0) (text : B → Text) (has_value : B → Bool) (prefixes : Prefixes) (v : B) : Type 0 where
+  pub read : value (text v) (Some v)
+  pub of_type : has_value v ≡ true
+  pub begun : Stops (begins_prefix prefixes) (text v)
 
 -- every truth value
 abbrev pub AnyTruth : Bool → Type 0

@@ -1,13 +1,12 @@
 //! What holds of every literal. No code runs here.
 
-ghost use Rattle.std.specs.Prelude.{◌≡◌, ◌≢◌, ◌++◌, List, Bool, ℕ, ℤ, Some, Result, Ok, Err, true, false};
+ghost use Rattle.std.specs.Prelude.{◌≡◌, ◌≢◌, ◌++◌, List, Bool, ℕ, ℤ, Result, Ok, Err, true, false};
 ghost use Rattle.mob_language.specs.Language.{Text};
-ghost use Rattle.mob_language.proofs.Exact.{Stops};
 ghost use Rattle.mob_ast.specs.declared.types.SqlType.{SqlType};
 ghost use Rattle.mob_literal.specs.Fields.{is_null_field, text_of_field, field_text};
-ghost use Rattle.mob_written.specs.Prefix.{Prefix, ArePrefixes, admitted, begins_prefix, says_step};
+ghost use Rattle.mob_written.specs.Prefix.{Prefix, ArePrefixes, admitted, says_step};
 ghost use Rattle.mob_written.specs.Printed.{moving_text};
-ghost use Rattle.mob_literal.specs.Readable.{AnyTruth, AreLevel, IsInt, IsReadable, IsText};
+ghost use Rattle.mob_literal.specs.Readable.{AnyTruth, AreLevel, IsInt, IsReadAgain, IsReadable, IsText};
 ghost use Rattle.mob_literal.specs.Sound.{literals, steps};
 ghost use Rattle.mob_literal.specs.SqlReadable.{IsReadableAs};
 ghost use Rattle.mob_literal.specs.SqlText.{SaysAs, value_text};
@@ -52,17 +51,14 @@ pub fn steps_read_again()
         → Lit (steps day quoted_value any_value same_bytes) (moving_text (style_of (steady_course same_bytes) quoted_text day) v) (Ok v) }
 {}
 
-/// What is printed of a value over time is read again as that value, where what is printed of each of its values is read again, and
-/// begins with the first letter of no prefix that its type admits. Such prefixes may stand before it: `SRID=0;` says nothing more, and
-/// `Interp=Step;` changes nothing where each slice ends with the value with which it starts.
+/// What is printed of a value over time is read again as that value, where what is printed of each of its values is. Prefixes that its
+/// type admits may stand before it: `SRID=0;` says nothing more, and `Interp=Step;` changes nothing where each slice ends with the
+/// value with which it starts.
 pub fn literals_read_again<T: WrittenValue, C: Course<Base = T::Base>>()
 where
     T::Base: Printed,
-    ensures again { (day : ℤ) (IsWritten : T.Base → Type 0) (v : List (Slice C)) (before : List Prefix) (front : Text)
-        → ((x : T.Base) → IsWritten x → T.shape (T.Base.text x) (Some x))
-        → ((x : T.Base) → IsWritten x → T.has_value x ≡ true)
-        → ((x : T.Base) → IsWritten x → Stops (begins_prefix (admitted C.STEADY T.HAS_SRID)) (T.Base.text x))
-        → IsReadable (course_of C.STEADY C.value_of C.start_of C.end_of C.make C.is_continued T.Base.is_same) day T.Base.text IsWritten v
+    ensures again { (day : ℤ) (v : List (Slice C)) (before : List Prefix) (front : Text)
+        → IsReadable (course_of C.STEADY C.value_of C.start_of C.end_of C.make C.is_continued T.Base.is_same) day T.Base.text (IsReadAgain T.shape T.Base.text T.has_value (admitted C.STEADY T.HAS_SRID)) v
         → ArePrefixes (admitted C.STEADY T.HAS_SRID) front before
         → (says_step before ≡ true → AreLevel (course_of C.STEADY C.value_of C.start_of C.end_of C.make C.is_continued T.Base.is_same) v)
         → Lit (literals day T.HAS_SRID T.shape T.has_value (course_of C.STEADY C.value_of C.start_of C.end_of C.make C.is_continued T.Base.is_same))
