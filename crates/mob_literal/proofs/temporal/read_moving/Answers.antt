@@ -1,11 +1,14 @@
-use Rattle.std.proofs.Common.{sym, ◌∙◌, rules}
+use Rattle.std.proofs.Common.{Bool, Err, subst, sym, ◌∙◌, rules}
+use Rattle.mob_numeral.specs.Verdict.{Lit}
+use Rattle.mob_written.specs.Prefix.{admitted}
+use Rattle.mob_literal.specs.Sound.{written_literals}
 use Rattle.mob_literal.proofs.ReadLiterals.{same_fault, not_sound, made_of, defined, some_slices}
 use Rattle.mob_slice.specs.CourseOf.{course_of}
 use Rattle.mob_literal.proofs.Drawn.{lawful}
 use Rattle.mob_literal.proofs.temporal.read_moving.Goals as goal
 
 pub returns-in-Err : goal.returns-in-Err
-returns-in-Err g c = record { reading = same_fault c.args.epoch.now g.T.WrittenValue.HAS_SRID g.T.WrittenValue.shape g.T.WrittenValue.has_value (course_of g.C.Course.STEADY g.C.Course.value_of g.C.Course.start_of g.C.Course.end_of g.C.Course.make g.C.Course.is_continued g.T.Base.BaseValue.is_same) c.args.text.now c.in-Err.fault (rw c.STEADY.ensures at c.in-Err.ensures.reading) }
+returns-in-Err g c = record { reading = same_fault c.args.epoch.now g.T.WrittenValue.HAS_SRID g.T.WrittenValue.shape g.T.WrittenValue.has_value (course_of g.C.Course.STEADY g.C.Course.value_of g.C.Course.start_of g.C.Course.end_of g.C.Course.make g.C.Course.is_continued g.T.Base.BaseValue.is_same) c.args.text.now c.in-Err.fault (subst (λ (b : Bool). Lit (written_literals c.args.epoch.now (admitted b g.T.WrittenValue.HAS_SRID) g.T.WrittenValue.shape) c.args.text.now (Err c.in-Err.fault)) c.STEADY.ensures c.in-Err.ensures.reading) }
 
 pub returns-in-Ok-None : goal.returns-in-Ok-None
 returns-in-Ok-None g c =
