@@ -1,15 +1,13 @@
 -- The field of a value is read again as that value.
 use Rattle.std.proofs.Common.{◌≡◌, ℕ, ℤ, List, [], ◌∷◌, ◌++◌, codes, Bool, true, false, cond, refl, sym, ap, subst, Ok, rules}
-use Rattle.std.specs.Prelude.{not, nat_eq, Contains}
-use Rattle.std.specs.List.{list_all}
+use Rattle.std.specs.Prelude.{nat_eq, Contains}
 use Rattle.std.proofs.lemmas.Bool.{eqb-true}
 use Rattle.mob_ratio.specs.Ratio.{Ratio}
 use Rattle.mob_frac.specs.Fits.{Fits}
-use Rattle.mob_language.specs.Language.{Text, Language, is_digit, is_number_sign, is_exponent_letter}
-use Rattle.mob_language.proofs.Heads.{NoHead, Apart, HasByte}
-use Rattle.mob_language.proofs.Exact.{Stops}
+use Rattle.mob_language.specs.Language.{Text, is_digit, is_number_sign, is_exponent_letter}
+use Rattle.mob_language.proofs.Heads.{Apart}
 use Rattle.mob_slice.specs.declared.slice.Slice.{Slice}
-use Rattle.mob_slice.specs.declared.steady.Steady.{Steady}
+use Rattle.mob_slice.specs.CourseOf.{CourseOf}
 use Rattle.mob_ast.specs.declared.types.SqlType.{SqlType}
 use Rattle.mob_ast.specs.declared.types.SqlType.TheVariants as sql
 use Rattle.mob_value.specs.declared.value.Value.{Value}
@@ -22,99 +20,60 @@ use Rattle.mob_numeral.proofs.Again.{number_plain}
 use Rattle.mob_scalar.proofs.MomentAgain.{moment_plain}
 use Rattle.mob_numeral.proofs.WholeTexts.{number_head, number_byte}
 use Rattle.mob_scalar.proofs.WholeTexts.{moment_head, moment_byte}
-use Rattle.mob_written.specs.Printed.{Style, is_long, groups_of, start_text, groups_text, set_text, steps_text}
+use Rattle.mob_written.specs.Printed.{moving_text}
 use Rattle.mob_written.specs.Style.{style_of}
 use Rattle.mob_literal.specs.Readable.{IsDated, IsReadable}
 use Rattle.mob_literal.specs.SqlReadable.{IsReadableAs}
 use Rattle.mob_literal.specs.SqlText.{SaysAs}
 use Rattle.mob_literal.specs.Fields.{is_null_text, is_empty, is_null_field, doubled, undoubled, text_of_field, field_text}
 use Rattle.mob_literal.proofs.Listing.{first_in}
-use Rattle.mob_literal.proofs.GroupSlices.{AreRuns, are_groups}
+use Rattle.mob_literal.proofs.Begun.{IsBegun, IsNoSign, begun_said, moving_begun}
 use Rattle.mob_literal.proofs.SqlAgain.{value_again}
 
 -- ---- texts that begin with another byte than a backslash
 
-record IsPlain (text : Text) : Type 0 where
-  first : ℕ
-  rest : Text
-  is : text ≡ first ∷ rest
-  plain : nat_eq first 92 ≡ false
-
-is_backslash : ℕ → Bool
+abbrev is_backslash : ℕ → Bool
 is_backslash c = nat_eq c 92
 
-plain_front : (a b : Text) → IsPlain a → IsPlain (a ++ b)
-plain_front a b p = record { first = p.first; rest = p.rest ++ b; is = ap (λ (t : Text). t ++ b) p.is; plain = p.plain }
-
-plain_said : {A : Type 0} {l : Language A} → NoHead l is_backslash → HasByte l → (text : Text) (v : A) → l text v → IsPlain text
-unfolding is_backslash
-plain_said {A} {l} head byte text v said = by_text text (head text v said) (byte text v said)
-  where
-    by_text : (t : Text) → Stops is_backslash t → (t ≡ [] → ⊥) → IsPlain t
-    by_text [] stops some = absurd (some refl)
-    by_text (c ∷ cs) stops some = record { first = c; rest = cs; is = refl; plain = stops }
+abbrev IsPlain : Text → Type 0
+IsPlain text = IsBegun is_backslash text
 
 sign_plain : Apart is_number_sign is_backslash
-unfolding is_backslash
 sign_plain c e = search rules
 
 digit_plain : Apart is_digit is_backslash
-unfolding is_backslash
 digit_plain c e = search rules
 
 e_plain : Apart is_exponent_letter is_backslash
-unfolding is_backslash
 e_plain c e = search rules
 
 truth_is_plain : (b : Bool) → IsPlain (truth_text b)
-truth_is_plain true = record { first = 116; rest = []; is = refl; plain = refl }
-truth_is_plain false = record { first = 102; rest = []; is = refl; plain = refl }
+truth_is_plain true = record { first = 116; rest = []; is = refl; other = refl }
+truth_is_plain false = record { first = 102; rest = []; is = refl; other = refl }
 
 number_is_plain : (q : Ratio) → Fits q → IsPlain (number_text q)
-unfolding is_backslash
-number_is_plain q h = let n = number_plain q h in plain_said (number_head is_backslash sign_plain digit_plain refl refl e_plain) number_byte (number_text q) n.0 n.1
+number_is_plain q h = let n = number_plain q h in begun_said is_backslash (number_head is_backslash sign_plain digit_plain refl refl e_plain) number_byte (number_text q) n.0 n.1
 
 moment_is_plain : (day : ℤ) (t : Ratio) → IsDated day t → IsPlain (moment_text day t)
-moment_is_plain day t d = let m = moment_plain day t d.fits d.dated in plain_said (moment_head is_backslash digit_plain) moment_byte (moment_text day t) m.0 m.1
+moment_is_plain day t d = let m = moment_plain day t d.fits d.dated in begun_said is_backslash (moment_head is_backslash digit_plain) moment_byte (moment_text day t) m.0 m.1
 
 quoted_is_plain : (v : Text) → IsPlain (quoted_text v)
 unfolding quoted_text
-quoted_is_plain v = record { first = 34; rest = _; is = refl; plain = refl }
+quoted_is_plain v = record { first = 34; rest = _; is = refl; other = refl }
 
-module _ {B : Type 0} (style : Style B) where
-  start_is_plain : (s : Slice (Steady B)) → IsPlain (style.value_text s.course.value) → IsPlain (start_text style s)
-  start_is_plain s p = plain_front (style.value_text s.course.value ++ codes "@") (style.moment_text s.span.lower) (plain_front (style.value_text s.course.value) (codes "@") p)
+no_backslash : IsNoSign is_backslash
+no_backslash = record { brace = refl; included = refl; left_out = refl }
 
-  set_is_plain : (slices : List (Slice (Steady B))) → ((s : Slice (Steady B)) (rest : List (Slice (Steady B))) → slices ≡ s ∷ rest → IsPlain (style.value_text s.course.value)) → IsPlain (set_text style slices)
-  set_is_plain [] h = record { first = 123; rest = _; is = refl; plain = refl }
-  set_is_plain (s ∷ []) h = start_is_plain s (h s [] refl)
-  set_is_plain (s ∷ r ∷ rest) h = record { first = 123; rest = _; is = refl; plain = refl }
-
-  bracket_is_plain : (included : Bool) → IsPlain (cond included (codes "[") (codes "("))
-  bracket_is_plain true = record { first = 91; rest = []; is = refl; plain = refl }
-  bracket_is_plain false = record { first = 40; rest = []; is = refl; plain = refl }
-
-  groups_are_plain : (groups : List (List (Slice (Steady B)))) → AreRuns groups → IsPlain (groups_text style groups)
-  groups_are_plain [] runs = record { first = 123; rest = _; is = refl; plain = refl }
-  groups_are_plain ([] ∷ []) runs = absurd runs
-  groups_are_plain ((s ∷ group) ∷ []) runs = plain_front _ _ (plain_front _ _ (bracket_is_plain s.span.lower_inc))
-  groups_are_plain (group ∷ next ∷ groups) runs = record { first = 123; rest = _; is = refl; plain = refl }
-
-  steps_are_plain : (slices : List (Slice (Steady B))) → ((s : Slice (Steady B)) (rest : List (Slice (Steady B))) → slices ≡ s ∷ rest → IsPlain (style.value_text s.course.value)) → IsPlain (steps_text style slices)
-  steps_are_plain slices h = by_lengths (list_all (λ (s : Slice (Steady B)). not (is_long s)) slices)
-    where
-      by_lengths : (set : Bool) → IsPlain (cond set (set_text style slices) (groups_text style (groups_of slices)))
-      by_lengths true = set_is_plain slices h
-      by_lengths false = groups_are_plain (groups_of slices) (are_groups slices).runs
-
-first_value : {B : Type 0} {day : ℤ} {text : B → Text} {IsWritten : B → Type 0} {is_same : B → B → Bool} → ((v : B) → IsWritten v → IsPlain (text v)) → (slices : List (Slice (Steady B))) → IsReadable day text IsWritten is_same slices → IsPlain (steps_text (style_of text day) slices)
-first_value {B} {day} {text} {IsWritten} {is_same} plain slices r = steps_are_plain (style_of text day) slices (λ s rest e. plain s.course.value (subst (λ (xs : List (Slice (Steady B))). ((x : Slice (Steady B)) → Contains xs x → IsWritten x.course.value) → IsWritten s.course.value) (sym e) (λ f. f s (first_in s rest)) r.values))
+first_value : {C B : Type 0} {course : CourseOf C B} {day : ℤ} {text : B → Text} {IsWritten : B → Type 0} → ((v : B) → IsWritten v → IsPlain (text v)) → (slices : List (Slice C)) → IsReadable course day text IsWritten slices → IsPlain (moving_text (style_of course text day) slices)
+first_value {C} {B} {course} {day} {text} {IsWritten} plain slices r = moving_begun is_backslash no_backslash (style_of course text day) slices (λ s rest e. plain (course.start s.course) (subst (λ (xs : List (Slice C)). ((x : Slice C) → Contains xs x → IsWritten (course.start x.course)) → IsWritten (course.start s.course)) (sym e) (λ f. f s (first_in s rest)) r.starts))
 
 -- ---- fields
 
 -- a field that is no NULL in any column
 plain_null : (text : Text) → IsPlain text → (is_empty text ≡ false) × (is_null_text text ≡ false)
-plain_null text p = subst (λ (t : Text). (is_empty t ≡ false) × (is_null_text t ≡ false)) (sym p.is) (refl, rw p.plain refl)
+plain_null text p =
+    let other : nat_eq p.first 92 ≡ false = p.other in
+    subst (λ (t : Text). (is_empty t ≡ false) × (is_null_text t ≡ false)) (sym p.is) (refl, rw other refl)
 
 not_null : (text : Text) → IsPlain text → cond (is_empty text) true (is_null_text text) ≡ false
 not_null text p = let n = plain_null text p in rw (n.0, n.1) refl

@@ -8,16 +8,16 @@ use Rattle.mob_ratio.specs.Order.{before, up_to, same}
 use Rattle.mob_ratio.proofs.Order.{before-back, before-neither, same_exact}
 use Rattle.mob_span.specs.Span.{has, has_instant}
 use Rattle.mob_slice.specs.declared.slice.Slice.{Slice}
-use Rattle.mob_slice.specs.declared.steady.Steady.{Steady}
+use Rattle.mob_slice.specs.CourseOf.{CourseOf}
 use Rattle.mob_slice.specs.Slices.{value_at}
 use Rattle.mob_normal.proofs.Runs.{or_else, value_at-append}
 use Rattle.mob_written.specs.declared.written.Written.{Written}
 use Rattle.mob_written.specs.declared.written.Sequence.{Sequence}
-use Rattle.mob_slice.specs.Operands.{steady_value}
-use Rattle.mob_literal.specs.Steps.{rises}
-use Rattle.mob_literal.specs.Slices.{slices_of, stretch}
+use Rattle.mob_literal.specs.Sequences.{rises}
+use Rattle.mob_literal.specs.Slices.{slices_of, stretch, point, drawn, arrives}
 use Rattle.mob_literal.specs.Sound.{ends_level, is_closed_alone, is_sound_sequence, clear_ends, is_before, are_in_order, is_sound}
-use Rattle.mob_written.specs.Printed.{is_long, shares_group, groups_of, put_in_group}
+use Rattle.mob_written.specs.Printed.{is_long, takes_up, shares_group, groups_of, put_in_group}
+use Rattle.mob_literal.proofs.Drawn.{IsLawful, drawn_again, arrives_again}
 use Rattle.mob_literal.proofs.FlatLemmas.{flat, Ordered, ordered_rest}
 use Rattle.mob_written.proofs.Small.{false_true}
 
@@ -30,59 +30,60 @@ pub alls_rest : {A : Type 0} (P : A → Type 0) (xs ys : List A) → Alls P (xs 
 alls_rest P [] ys h = h
 alls_rest P (x ∷ xs) ys h = alls_rest P xs ys h.1
 
-module _ {B : Type 0} where
-  abbrev pub start_of : Slice (Steady B) → Written B
-  start_of s = record { value = s.course.value; instant = s.span.lower }
+-- the slices of all groups
+abbrev pub joined : {C : Type 0} → List (List (Slice C)) → List (Slice C)
+joined [] = []
+joined (group ∷ groups) = group ++ joined groups
 
-  abbrev pub end_of : Slice (Steady B) → Written B
-  end_of s = record { value = s.course.value; instant = s.span.upper }
+module _ {C B : Type 0} (course : CourseOf C B) where
+  abbrev pub start_of : Slice C → Written B
+  start_of s = record { value = course.start s.course; instant = s.span.lower }
+
+  abbrev pub end_of : Slice C → Written B
+  end_of s = record { value = course.end s.course; instant = s.span.upper }
 
   -- what is written behind the start of s, where `group` stands behind s in its group
-  abbrev pub more : Slice (Steady B) → List (Slice (Steady B)) → List (Written B)
+  abbrev pub more : Slice C → List (Slice C) → List (Written B)
   more s [] = cond (is_long s) (end_of s ∷ []) []
   more s (r ∷ group) = start_of r ∷ more r group
 
-  abbrev pub upper_of : Slice (Steady B) → List (Slice (Steady B)) → Bool
+  abbrev pub upper_of : Slice C → List (Slice C) → Bool
   upper_of s [] = s.span.upper_inc
   upper_of s (r ∷ group) = upper_of r group
 
   -- the sequence that a group prints
-  abbrev pub sequence_of : List (Slice (Steady B)) → Sequence (Written B)
+  abbrev pub sequence_of : List (Slice C) → Sequence (Written B)
   sequence_of [] = record { lower_inc = true; instants = []; upper_inc = true }
   sequence_of (s ∷ group) = record { lower_inc = s.span.lower_inc; instants = start_of s ∷ more s group; upper_inc = upper_of s group }
 
   -- each slice goes on with the next
-  abbrev pub IsRun : Slice (Steady B) → List (Slice (Steady B)) → Type 0
-  IsRun s [] = Unit {0}
-  IsRun s (r ∷ group) = (shares_group s r ≡ true) × IsRun r group
+  abbrev pub HoldTogether : Slice C → List (Slice C) → Type 0
+  HoldTogether s [] = Unit {0}
+  HoldTogether s (r ∷ group) = (shares_group course s r ≡ true) × HoldTogether r group
 
-  abbrev pub AreRuns : List (List (Slice (Steady B))) → Type 0
-  AreRuns [] = Unit {0}
-  AreRuns ([] ∷ groups) = ⊥
-  AreRuns ((s ∷ group) ∷ groups) = IsRun s group × AreRuns groups
+  abbrev pub AllHoldTogether : List (List (Slice C)) → Type 0
+  AllHoldTogether [] = Unit {0}
+  AllHoldTogether ([] ∷ groups) = ⊥
+  AllHoldTogether ((s ∷ group) ∷ groups) = HoldTogether s group × AllHoldTogether groups
 
-  abbrev pub joined : List (List (Slice (Steady B))) → List (Slice (Steady B))
-  joined [] = []
-  joined (group ∷ groups) = group ++ joined groups
+  -- ---- the groups are those of the slices, in order
 
-  -- ---- the groups are runs of the slices
-
-  pub record AreGroups (slices : List (Slice (Steady B))) (groups : List (List (Slice (Steady B)))) : Type 0 where
-    pub runs : AreRuns groups
+  pub record AreGroups (slices : List (Slice C)) (groups : List (List (Slice C))) : Type 0 where
+    pub together : AllHoldTogether groups
     pub whole : joined groups ≡ slices
 
-  put_groups : (s : Slice (Steady B)) (rest : List (Slice (Steady B))) (groups : List (List (Slice (Steady B)))) → AreGroups rest groups → AreGroups (s ∷ rest) (put_in_group s groups)
-  put_groups s rest [] g = record { runs = (tt, tt); whole = ap (λ (x : List (Slice (Steady B))). s ∷ x) g.whole }
-  put_groups s rest ([] ∷ groups) g = absurd g.runs
-  put_groups s rest ((r ∷ group) ∷ groups) g = by_next (shares_group s r) refl
+  put_groups : (s : Slice C) (rest : List (Slice C)) (groups : List (List (Slice C))) → AreGroups rest groups → AreGroups (s ∷ rest) (put_in_group course s groups)
+  put_groups s rest [] g = record { together = (tt, tt); whole = ap (λ (x : List (Slice C)). s ∷ x) g.whole }
+  put_groups s rest ([] ∷ groups) g = absurd g.together
+  put_groups s rest ((r ∷ group) ∷ groups) g = by_next (shares_group course s r) refl
     where
-      by_next : (on : Bool) → shares_group s r ≡ on → AreGroups (s ∷ rest) (cond on ((s ∷ r ∷ group) ∷ groups) ((s ∷ []) ∷ (r ∷ group) ∷ groups))
-      by_next true h = record { runs = ((h, g.runs.0), g.runs.1); whole = ap (λ (x : List (Slice (Steady B))). s ∷ x) g.whole }
-      by_next false h = record { runs = (tt, g.runs); whole = ap (λ (x : List (Slice (Steady B))). s ∷ x) g.whole }
+      by_next : (on : Bool) → shares_group course s r ≡ on → AreGroups (s ∷ rest) (cond on ((s ∷ r ∷ group) ∷ groups) ((s ∷ []) ∷ (r ∷ group) ∷ groups))
+      by_next true h = record { together = ((h, g.together.0), g.together.1); whole = ap (λ (x : List (Slice C)). s ∷ x) g.whole }
+      by_next false h = record { together = (tt, g.together); whole = ap (λ (x : List (Slice C)). s ∷ x) g.whole }
 
-  pub are_groups : (slices : List (Slice (Steady B))) → AreGroups slices (groups_of slices)
-  are_groups [] = record { runs = tt; whole = refl }
-  are_groups (s ∷ rest) = put_groups s rest (groups_of rest) (are_groups rest)
+  pub are_groups : (slices : List (Slice C)) → AreGroups slices (groups_of course slices)
+  are_groups [] = record { together = tt; whole = refl }
+  are_groups (s ∷ rest) = put_groups s rest (groups_of course rest) (are_groups rest)
 
 -- ---- one slice, over plain variables
 
@@ -105,28 +106,51 @@ split_has : (l u t : Ratio) (included : Bool) → before l u ≡ true
     ≡ (has (record { lower = l; upper = u; lower_inc = included; upper_inc = false }) t || has (record { lower = u; upper = u; lower_inc = true; upper_inc = true }) t)
 split_has l u t included h = split_test (before l t || (included && up_to l t)) (before t u) (before u t) (before-back t u) (λ p q. begun included l u t h (before-neither u t q p))
 
-choose : {A : Type 0} (a b : Bool) (x o : A) → cond a x (cond b x o) ≡ cond (a || b) x o
-choose true b x o = refl
-choose false b x o = refl
+-- two values behind one another, of which the second is the first where only the second test passes
+choose : {A : Type 0} (a b : Bool) (x y : A) (o : Option A) → (a ≡ false → b ≡ true → y ≡ x) → cond a (Some x) (cond b (Some y) o) ≡ cond (a || b) (Some x) o
+choose true b x y o h = refl
+choose {A} false true x y o h = ap (λ (z : A). Some z) (h refl refl)
+choose false false x y o h = refl
 
-module _ {B : Type 0} where
+-- the one instant of a point
+at_point : (u t : Ratio) → has (record { lower = u; upper = u; lower_inc = true; upper_inc = true }) t ≡ true → t ≡ u
+at_point u t h = by_order (before t u) (before u t) refl refl h
+  where
+    by_order : (a b : Bool) → before t u ≡ a → before u t ≡ b → ((b || (true && not a)) && (a || (true && not b))) ≡ true → t ≡ u
+    by_order true true e f k = absurd (false_true (sym (before-back t u e) ∙ f))
+    by_order true false e f k = absurd cc
+    by_order false true e f k = absurd cc
+    by_order false false e f k = before-neither t u e f
+
+module _ {C B : Type 0} (course : CourseOf C B) (laws : IsLawful course) where
   abbrev written : B → Ratio → Written B
   written v t = record { value = v; instant = t }
 
-  abbrev slice_on : Ratio → Ratio → Bool → Bool → B → Slice (Steady B)
-  slice_on l u lower_inc upper_inc v = record { span = record { lower = l; upper = u; lower_inc = lower_inc; upper_inc = upper_inc }; course = record { value = v } }
+  abbrev slice_on : Ratio → Ratio → Bool → Bool → C → Slice C
+  slice_on l u lower_inc upper_inc c = record { span = record { lower = l; upper = u; lower_inc = lower_inc; upper_inc = upper_inc }; course = c }
 
-  long_value : (l u t : Ratio) (lower upper : Bool) (v : B) → before l u ≡ true
-      → value_at steady_value (slices_of lower (written v l ∷ written v u ∷ []) upper) t ≡ value_at steady_value (slice_on l u lower upper v ∷ []) t
-  long_value l u t lower true v h =
-      choose (has (slice_on l u lower false v).span t) (has (slice_on u u true true v).span t) (Some v) None
-      ∙ ap (λ (b : Bool). cond b (Some v) None) (sym (split_has l u t lower h))
-  long_value l u t lower false v h = refl
+  -- a course that is drawn again from its start to its end, and its end
+  long_value : (step : Bool) (l u t : Ratio) (lower upper : Bool) (c : C) → before l u ≡ true → drawn course step (course.start c) (course.end c) ≡ c
+      → value_at course.value (slices_of course step lower (written (course.start c) l ∷ written (course.end c) u ∷ []) upper) t ≡ value_at course.value (slice_on l u lower upper c ∷ []) t
+  long_value step l u t lower true c h e =
+      ap (λ (k : C). cond (has (slice_on l u lower false c).span t) (Some (course.value k l u t)) (cond (has (slice_on u u true true c).span t) (Some (course.value (course.make (course.end c) (course.end c)) u u t)) None)) e
+      ∙ choose (has (slice_on l u lower false c).span t) (has (slice_on u u true true c).span t) (course.value c l u t) (course.value (course.make (course.end c) (course.end c)) u u t) None
+      (λ none here. laws.level (course.end c) u u t ∙ sym (ap (λ (x : Ratio). course.value c l u x) (at_point u t here) ∙ laws.at_upper c l u h))
+      ∙ ap (λ (b : Bool). cond b (Some (course.value c l u t)) None) (sym (split_has l u t lower h))
+  long_value step l u t lower false c h e =
+      ap (λ (k : C). cond (has (slice_on l u lower false c).span t) (Some (course.value k l u t)) None) e
 
-  short_value : (l u t : Ratio) (lower upper : Bool) (v : B) → upper ≡ true → l ≡ u
-      → value_at steady_value (slices_of lower (written v l ∷ []) upper) t ≡ value_at steady_value (slice_on l u lower upper v ∷ []) t
-  short_value l u t lower true v h e = ap (λ (x : Ratio). value_at steady_value (slice_on l x lower true v ∷ []) t) e
-  short_value l u t lower false v h e = absurd (false_true h)
+  short_value : (step : Bool) (l u t : Ratio) (lower upper : Bool) (c : C) → lower ≡ true → upper ≡ true → l ≡ u
+      → value_at course.value (slices_of course step lower (written (course.start c) l ∷ []) upper) t ≡ value_at course.value (slice_on l u lower upper c ∷ []) t
+  short_value step l u t true true c k h e =
+      by_has (has (slice_on l l true true c).span t) refl
+      ∙ ap (λ (x : Ratio). value_at course.value (slice_on l x true true c ∷ []) t) e
+    where
+      by_has : (b : Bool) → has (slice_on l l true true c).span t ≡ b → cond b (Some (course.value (course.make (course.start c) (course.start c)) l l t)) None ≡ cond b (Some (course.value c l l t)) None
+      by_has true here = ap (λ (x : B). Some x) (laws.level (course.start c) l l t ∙ sym (ap (λ (x : Ratio). course.value c l l x) (at_point l t here) ∙ laws.at_lower c l l))
+      by_has false here = refl
+  short_value step l u t true false c k h e = absurd (false_true h)
+  short_value step l u t false upper c k h e = absurd (false_true k)
 
 -- a slice of one instant includes it
 pub record IsShort (l u : Ratio) (lower_inc upper_inc : Bool) : Type 0 where
@@ -152,30 +176,37 @@ is_open l u lower h = by_order (before l u) lower h
 
 -- ---- a group is a sound sequence with the values of its slices
 
-module _ {B : Type 0} (has_value : B → Bool) (is_same : B → B → Bool) (exact : (a b : B) → IsTrue (is_same a b) ↔ (a ≡ b)) where
+module _ {C B : Type 0} (has_value : B → Bool) (course : CourseOf C B) (laws : IsLawful course) (step : Bool) (moves : step ≡ false → course.steady ≡ false) where
+  -- under step interpolation the slice ends as it starts
+  abbrev pub IsKept : Slice C → Type 0
+  IsKept s = step ≡ true → course.start s.course ≡ course.end s.course
+
+  abbrev pub AreKept : List (Slice C) → Type 0
+  AreKept slices = Alls IsKept slices
+
   abbrev LevelEnds : Written B → List (Written B) → Type 0
   LevelEnds i [] = ⊥
-  LevelEnds i (j ∷ js) = ends_level is_same (i ∷ j ∷ js) ≡ true
+  LevelEnds i (j ∷ js) = ends_level course step (i ∷ j ∷ js) ≡ true
 
   -- the group s ∷ group, where `rest` is written behind the start of s
-  record IsGroup (s : Slice (Steady B)) (group : List (Slice (Steady B))) (rest : List (Written B)) (upper : Bool) : Type 0 where
-    up : rises (start_of s ∷ rest) ≡ true
-    closed : is_closed_alone s.span.lower_inc upper (start_of s ∷ rest) ≡ true
-    level : (upper ≡ true) ⊎ LevelEnds (start_of s) rest
-    values : (t : Ratio) → value_at steady_value (slices_of s.span.lower_inc (start_of s ∷ rest) upper) t ≡ value_at steady_value (s ∷ group) t
+  record IsGroup (s : Slice C) (group : List (Slice C)) (rest : List (Written B)) (upper : Bool) : Type 0 where
+    up : rises (start_of course s ∷ rest) ≡ true
+    closed : is_closed_alone s.span.lower_inc upper (start_of course s ∷ rest) ≡ true
+    level : (upper ≡ true) ⊎ LevelEnds (start_of course s) rest
+    values : (t : Ratio) → value_at course.value (slices_of course step s.span.lower_inc (start_of course s ∷ rest) upper) t ≡ value_at course.value (s ∷ group) t
 
-  itself : (v : B) → is_same v v ≡ true
-  itself v = (exact v v).1 refl
-
-  single : (s : Slice (Steady B)) → has_instant s.span ≡ true → IsGroup s [] (more s []) s.span.upper_inc
-  single s some = by_length (is_long s) refl
+  single : (s : Slice C) → has_instant s.span ≡ true → IsKept s → IsGroup s [] (more course s []) s.span.upper_inc
+  single s some kept = by_length (is_long s) refl
     where
-      by_length : (long : Bool) → is_long s ≡ long → IsGroup s [] (cond long (end_of s ∷ []) []) s.span.upper_inc
+      again : drawn course step (course.start s.course) (course.end s.course) ≡ s.course
+      again = drawn_again course laws step moves s.course (course.end s.course) kept (λ h. refl)
+
+      by_length : (long : Bool) → is_long s ≡ long → IsGroup s [] (cond long (end_of course s ∷ []) []) s.span.upper_inc
       by_length true h = record {
         up = rw h refl;
         closed = refl;
-        level = inr (itself s.course.value);
-        values = λ t. long_value s.span.lower s.span.upper t s.span.lower_inc s.span.upper_inc s.course.value h;
+        level = inr (arrives_again course laws step s.course kept);
+        values = λ t. long_value course laws step s.span.lower s.span.upper t s.span.lower_inc s.span.upper_inc s.course h again;
       }
       by_length false h =
           let i = is_short s.span.lower s.span.upper s.span.lower_inc s.span.upper_inc some h in
@@ -183,19 +214,24 @@ module _ {B : Type 0} (has_value : B → Bool) (is_same : B → B → Bool) (exa
             up = refl;
             closed = rw (i.lower, i.upper) refl;
             level = inl i.upper;
-            values = λ t. short_value s.span.lower s.span.upper t s.span.lower_inc s.span.upper_inc s.course.value i.upper i.one;
+            values = λ t. short_value course laws step s.span.lower s.span.upper t s.span.lower_inc s.span.upper_inc s.course i.lower i.upper i.one;
           }
 
   -- what is known of a slice that the next goes on with
-  record GoesOn (s r : Slice (Steady B)) : Type 0 where
+  record GoesOn (s r : Slice C) : Type 0 where
     at : s.span.upper ≡ r.span.lower
     next : r.span.lower_inc ≡ true
     open_end : s.span.upper_inc ≡ false
     long : before s.span.lower s.span.upper ≡ true
+    again : drawn course step (course.start s.course) (course.start r.course) ≡ s.course
 
-  going_on : (s r : Slice (Steady B)) → has_instant s.span ≡ true → shares_group s r ≡ true → GoesOn s r
-  going_on s r some h =
-      let a = both (same s.span.upper r.span.lower) (r.span.lower_inc && not s.span.upper_inc) h in
+  meets_start : (s r : Slice C) → takes_up course s.course r.course ≡ true → step ≡ false → course.start r.course ≡ course.end s.course
+  meets_start s r h own = sym ((laws.exact (course.end s.course) (course.start r.course)).0 (subst (λ (b : Bool). (b || course.is_same (course.end s.course) (course.start r.course)) ≡ true) (moves own) h))
+
+  going_on : (s r : Slice C) → has_instant s.span ≡ true → IsKept s → shares_group course s r ≡ true → GoesOn s r
+  going_on s r some kept h =
+      let p = both (same s.span.upper r.span.lower && (r.span.lower_inc && not s.span.upper_inc)) (takes_up course s.course r.course) h in
+      let a = both (same s.span.upper r.span.lower) (r.span.lower_inc && not s.span.upper_inc) p.0 in
       let b = both r.span.lower_inc (not s.span.upper_inc) a.1 in
       let o = not_true s.span.upper_inc b.1 in
       record {
@@ -203,60 +239,65 @@ module _ {B : Type 0} (has_value : B → Bool) (is_same : B → B → Bool) (exa
         next = b.0;
         open_end = o;
         long = is_open s.span.lower s.span.upper s.span.lower_inc (subst (λ (x : Bool). has_instant (record { lower = s.span.lower; upper = s.span.upper; lower_inc = s.span.lower_inc; upper_inc = x }) ≡ true) o some);
+        again = drawn_again course laws step moves s.course (course.start r.course) kept (meets_start s r p.1);
       }
 
   more_level : (i j : Written B) (rest : List (Written B)) → LevelEnds j rest → LevelEnds i (j ∷ rest)
   more_level i j [] h = absurd h
   more_level i j (k ∷ rest) h = h
 
-  extended : (s r : Slice (Steady B)) (group : List (Slice (Steady B))) (rest : List (Written B)) (upper : Bool) → GoesOn s r → IsGroup r group rest upper → IsGroup s (r ∷ group) (start_of r ∷ rest) upper
+  extended : (s r : Slice C) (group : List (Slice C)) (rest : List (Written B)) (upper : Bool) → GoesOn s r → IsGroup r group rest upper → IsGroup s (r ∷ group) (start_of course r ∷ rest) upper
   extended s r group rest upper g h = record {
     up = rw (subst (λ (x : Ratio). before s.span.lower x ≡ true) g.at g.long, h.up) refl;
     closed = refl;
-    level = elim h.level [ inl u ↦ inl u | inr l ↦ inr (more_level (start_of s) (start_of r) rest l) ];
+    level = elim h.level [ inl u ↦ inl u | inr l ↦ inr (more_level (start_of course s) (start_of course r) rest l) ];
     values = λ t.
-        let first : has (stretch s.span.lower_inc (start_of s) (start_of r)).span t ≡ has s.span t =
+        let first : has (stretch course step s.span.lower_inc (start_of course s) (start_of course r)).span t ≡ has s.span t =
         ap (λ (x : Ratio). has (record { lower = s.span.lower; upper = x; lower_inc = s.span.lower_inc; upper_inc = false }) t) (sym g.at)
         ∙ ap (λ (x : Bool). has (record { lower = s.span.lower; upper = s.span.upper; lower_inc = s.span.lower_inc; upper_inc = x }) t) (sym g.open_end) in
-        let others : value_at steady_value (slices_of true (start_of r ∷ rest) upper) t ≡ value_at steady_value (r ∷ group) t =
-        subst (λ (x : Bool). value_at steady_value (slices_of x (start_of r ∷ rest) upper) t ≡ value_at steady_value (r ∷ group) t) g.next (h.values t) in
-        ap (λ (b : Bool). cond b (Some s.course.value) (value_at steady_value (slices_of true (start_of r ∷ rest) upper) t)) first
-        ∙ ap (λ (o : Option B). cond (has s.span t) (Some s.course.value) o) others;
+        let its : course.value (drawn course step (course.start s.course) (course.start r.course)) s.span.lower r.span.lower t ≡ course.value s.course s.span.lower s.span.upper t =
+        ap (λ (c : C). course.value c s.span.lower r.span.lower t) g.again
+        ∙ ap (λ (x : Ratio). course.value s.course s.span.lower x t) (sym g.at) in
+        let others : value_at course.value (slices_of course step true (start_of course r ∷ rest) upper) t ≡ value_at course.value (r ∷ group) t =
+        subst (λ (x : Bool). value_at course.value (slices_of course step x (start_of course r ∷ rest) upper) t ≡ value_at course.value (r ∷ group) t) g.next (h.values t) in
+        ap (λ (b : Bool). cond b (Some (course.value (drawn course step (course.start s.course) (course.start r.course)) s.span.lower r.span.lower t)) (value_at course.value (slices_of course step true (start_of course r ∷ rest) upper) t)) first
+        ∙ ap (λ (x : B). cond (has s.span t) (Some x) (value_at course.value (slices_of course step true (start_of course r ∷ rest) upper) t)) its
+        ∙ ap (λ (o : Option B). cond (has s.span t) (Some (course.value s.course s.span.lower s.span.upper t)) o) others;
   }
 
-  group_is : (s : Slice (Steady B)) (group tail : List (Slice (Steady B))) → IsRun s group → Ordered (s ∷ (group ++ tail)) → IsGroup s group (more s group) (upper_of s group)
-  group_is s [] tail run ordered = single s ordered.0.some
-  group_is s (r ∷ group) tail run ordered = extended s r group (more r group) (upper_of r group) (going_on s r ordered.0.some run.0) (group_is r group tail run.1 ordered.2)
+  group_is : (s : Slice C) (group tail : List (Slice C)) → HoldTogether course s group → Ordered course (s ∷ (group ++ tail)) → AreKept (s ∷ (group ++ tail)) → IsGroup s group (more course s group) (upper_of course s group)
+  group_is s [] tail run ordered kept = single s ordered.0.some kept.0
+  group_is s (r ∷ group) tail run ordered kept = extended s r group (more course r group) (upper_of course r group) (going_on s r ordered.0.some kept.0 run.0) (group_is r group tail run.1 ordered.2 kept.1)
 
-  level_test : (upper : Bool) (i : Written B) (rest : List (Written B)) → (upper ≡ true) ⊎ LevelEnds i rest → (upper || ends_level is_same (i ∷ rest)) ≡ true
+  level_test : (upper : Bool) (i : Written B) (rest : List (Written B)) → (upper ≡ true) ⊎ LevelEnds i rest → (upper || ends_level course step (i ∷ rest)) ≡ true
   level_test true i rest h = refl
   level_test false i [] h = refl
   level_test false i (j ∷ rest) h = elim h [ inl e ↦ absurd (false_true e) | inr l ↦ l ]
 
   -- the type has the value of each slice
-  abbrev pub HasAll : List (Slice (Steady B)) → Type 0
-  HasAll slices = Alls (λ (s : Slice (Steady B)). has_value s.course.value ≡ true) slices
+  abbrev pub HasAll : List (Slice C) → Type 0
+  HasAll slices = Alls (λ (s : Slice C). (has_value (course.start s.course) ≡ true) × (has_value (course.end s.course) ≡ true)) slices
 
-  has_more : (s : Slice (Steady B)) (group tail : List (Slice (Steady B))) → HasAll (s ∷ (group ++ tail)) → list_all (λ (i : Written B). has_value i.value) (start_of s ∷ more s group) ≡ true
+  has_more : (s : Slice C) (group tail : List (Slice C)) → HasAll (s ∷ (group ++ tail)) → list_all (λ (i : Written B). has_value i.value) (start_of course s ∷ more course s group) ≡ true
   has_more s [] tail h = by_length (is_long s)
     where
-      by_length : (long : Bool) → list_all (λ (i : Written B). has_value i.value) (start_of s ∷ cond long (end_of s ∷ []) []) ≡ true
-      by_length true = rw h.0 refl
-      by_length false = rw h.0 refl
-  has_more s (r ∷ group) tail h = rw (h.0, has_more r group tail h.1) refl
+      by_length : (long : Bool) → list_all (λ (i : Written B). has_value i.value) (start_of course s ∷ cond long (end_of course s ∷ []) []) ≡ true
+      by_length true = rw (h.0.0, h.0.1) refl
+      by_length false = rw h.0.0 refl
+  has_more s (r ∷ group) tail h = rw (h.0.0, has_more r group tail h.1) refl
 
-  sound_group : (s : Slice (Steady B)) (group tail : List (Slice (Steady B))) → IsRun s group → Ordered (s ∷ (group ++ tail)) → HasAll (s ∷ (group ++ tail)) → is_sound_sequence has_value is_same (sequence_of (s ∷ group)) ≡ true
-  sound_group s group tail run ordered values =
-      let g = group_is s group tail run ordered in
-      let end : (upper_of s group || ends_level is_same (start_of s ∷ more s group)) ≡ true = level_test (upper_of s group) (start_of s) (more s group) g.level in
+  sound_group : (s : Slice C) (group tail : List (Slice C)) → HoldTogether course s group → Ordered course (s ∷ (group ++ tail)) → AreKept (s ∷ (group ++ tail)) → HasAll (s ∷ (group ++ tail)) → is_sound_sequence has_value course step (sequence_of course (s ∷ group)) ≡ true
+  sound_group s group tail run ordered kept values =
+      let g = group_is s group tail run ordered kept in
+      let end : (upper_of course s group || ends_level course step (start_of course s ∷ more course s group)) ≡ true = level_test (upper_of course s group) (start_of course s) (more course s group) g.level in
       and _ _ (has_more s group tail values) (and _ _ g.up (and _ _ g.closed end))
 
-  all_sound : (groups : List (List (Slice (Steady B)))) → AreRuns groups → Ordered (joined groups) → HasAll (joined groups) → list_all (is_sound_sequence has_value is_same) (map sequence_of groups) ≡ true
-  all_sound [] runs ordered values = refl
-  all_sound ([] ∷ groups) runs ordered values = absurd runs
-  all_sound ((s ∷ group) ∷ groups) runs ordered values =
-      and _ _ (sound_group s group (joined groups) runs.0 ordered values)
-      (all_sound groups runs.1 (ordered_rest (s ∷ group) (joined groups) ordered) (alls_rest (λ (x : Slice (Steady B)). has_value x.course.value ≡ true) (s ∷ group) (joined groups) values))
+  all_sound : (groups : List (List (Slice C))) → AllHoldTogether course groups → Ordered course (joined groups) → AreKept (joined groups) → HasAll (joined groups) → list_all (is_sound_sequence has_value course step) (map (sequence_of course) groups) ≡ true
+  all_sound [] together ordered kept values = refl
+  all_sound ([] ∷ groups) together ordered kept values = absurd together
+  all_sound ((s ∷ group) ∷ groups) together ordered kept values =
+      and _ _ (sound_group s group (joined groups) together.0 ordered kept values)
+      (all_sound groups together.1 (ordered_rest course (s ∷ group) (joined groups) ordered) (alls_rest IsKept (s ∷ group) (joined groups) kept) (alls_rest (λ (x : Slice C). (has_value (course.start x.course) ≡ true) × (has_value (course.end x.course) ≡ true)) (s ∷ group) (joined groups) values))
 
   -- ---- the groups are in order
 
@@ -266,39 +307,39 @@ module _ {B : Type 0} (has_value : B → Bool) (is_same : B → B → Bool) (exa
       let b : length (j ∷ is) - 1 ≡ length is = omega arith in
       rw (a, b) refl
 
-  clear_group : (s : Slice (Steady B)) (group : List (Slice (Steady B))) (r : Slice (Steady B)) (tail : List (Slice (Steady B))) → Ordered (s ∷ (group ++ r ∷ tail)) → clear_ends (upper_of s group) r.span.lower_inc (slice_get (start_of s ∷ more s group) (length (start_of s ∷ more s group) - 1)) (Some (start_of r)) ≡ true
+  clear_group : (s : Slice C) (group : List (Slice C)) (r : Slice C) (tail : List (Slice C)) → Ordered course (s ∷ (group ++ r ∷ tail)) → clear_ends (upper_of course s group) r.span.lower_inc (slice_get (start_of course s ∷ more course s group) (length (start_of course s ∷ more course s group) - 1)) (Some (start_of course r)) ≡ true
   clear_group s [] r tail ordered = by_length (is_long s) refl
     where
-      by_length : (long : Bool) → is_long s ≡ long → clear_ends s.span.upper_inc r.span.lower_inc (slice_get (start_of s ∷ cond long (end_of s ∷ []) []) (length (start_of s ∷ cond long (end_of s ∷ []) []) - 1)) (Some (start_of r)) ≡ true
+      by_length : (long : Bool) → is_long s ≡ long → clear_ends s.span.upper_inc r.span.lower_inc (slice_get (start_of course s ∷ cond long (end_of course s ∷ []) []) (length (start_of course s ∷ cond long (end_of course s ∷ []) []) - 1)) (Some (start_of course r)) ≡ true
       by_length true h = ordered.1
       by_length false h =
           let i = is_short s.span.lower s.span.upper s.span.lower_inc s.span.upper_inc ordered.0.some h in
           subst (λ (x : Ratio). (before x r.span.lower || (up_to x r.span.lower && not (s.span.upper_inc && r.span.lower_inc))) ≡ true) (sym i.one) ordered.1
   clear_group s (q ∷ group) r tail ordered =
-      subst (λ (o : Option (Written B)). clear_ends (upper_of q group) r.span.lower_inc o (Some (start_of r)) ≡ true) (sym (last_next (start_of s) (start_of q) (more q group))) (clear_group q group r tail ordered.2)
+      subst (λ (o : Option (Written B)). clear_ends (upper_of course q group) r.span.lower_inc o (Some (start_of course r)) ≡ true) (sym (last_next (start_of course s) (start_of course q) (more course q group))) (clear_group q group r tail ordered.2)
 
-  in_order : (groups : List (List (Slice (Steady B)))) → AreRuns groups → Ordered (joined groups) → are_in_order (map sequence_of groups) ≡ true
-  in_order [] runs ordered = refl
-  in_order (group ∷ []) runs ordered = refl
-  in_order ([] ∷ next ∷ groups) runs ordered = absurd runs
-  in_order ((s ∷ group) ∷ [] ∷ groups) runs ordered = absurd runs.1
-  in_order ((s ∷ group) ∷ (r ∷ next) ∷ groups) runs ordered =
-      let first : is_before (sequence_of (s ∷ group)) (sequence_of (r ∷ next)) ≡ true = clear_group s group r (next ++ joined groups) ordered in
-      and _ _ first (in_order ((r ∷ next) ∷ groups) runs.1 (ordered_rest (s ∷ group) (joined ((r ∷ next) ∷ groups)) ordered))
+  in_order : (groups : List (List (Slice C))) → AllHoldTogether course groups → Ordered course (joined groups) → are_in_order (map (sequence_of course) groups) ≡ true
+  in_order [] together ordered = refl
+  in_order (group ∷ []) together ordered = refl
+  in_order ([] ∷ next ∷ groups) together ordered = absurd together
+  in_order ((s ∷ group) ∷ [] ∷ groups) together ordered = absurd together.1
+  in_order ((s ∷ group) ∷ (r ∷ next) ∷ groups) together ordered =
+      let first : is_before (sequence_of course (s ∷ group)) (sequence_of course (r ∷ next)) ≡ true = clear_group s group r (next ++ joined groups) ordered in
+      and _ _ first (in_order ((r ∷ next) ∷ groups) together.1 (ordered_rest course (s ∷ group) (joined ((r ∷ next) ∷ groups)) ordered))
 
   -- ---- the sequences have the values of the slices
 
-  pub flat_values : (groups : List (List (Slice (Steady B)))) → AreRuns groups → Ordered (joined groups) → (t : Ratio) → value_at steady_value (flat (map sequence_of groups)) t ≡ value_at steady_value (joined groups) t
+  pub flat_values : (groups : List (List (Slice C))) → AllHoldTogether course groups → Ordered course (joined groups) → AreKept (joined groups) → (t : Ratio) → value_at course.value (flat course step (map (sequence_of course) groups)) t ≡ value_at course.value (joined groups) t
   unfolding flat
-  flat_values [] runs ordered t = refl
-  flat_values ([] ∷ groups) runs ordered t = absurd runs
-  flat_values ((s ∷ group) ∷ groups) runs ordered t =
-      let g = group_is s group (joined groups) runs.0 ordered in
-      let others = flat_values groups runs.1 (ordered_rest (s ∷ group) (joined groups) ordered) t in
-      value_at-append steady_value (slices_of s.span.lower_inc (start_of s ∷ more s group) (upper_of s group)) (flat (map sequence_of groups)) t
-      ∙ ap (λ (o : Option B). or_else o (value_at steady_value (flat (map sequence_of groups)) t)) (g.values t)
-      ∙ ap (λ (o : Option B). or_else (value_at steady_value (s ∷ group) t) o) others
-      ∙ sym (value_at-append steady_value (s ∷ group) (joined groups) t)
+  flat_values [] together ordered kept t = refl
+  flat_values ([] ∷ groups) together ordered kept t = absurd together
+  flat_values ((s ∷ group) ∷ groups) together ordered kept t =
+      let g = group_is s group (joined groups) together.0 ordered kept in
+      let others = flat_values groups together.1 (ordered_rest course (s ∷ group) (joined groups) ordered) (alls_rest IsKept (s ∷ group) (joined groups) kept) t in
+      value_at-append course.value (slices_of course step s.span.lower_inc (start_of course s ∷ more course s group) (upper_of course s group)) (flat course step (map (sequence_of course) groups)) t
+      ∙ ap (λ (o : Option B). or_else o (value_at course.value (flat course step (map (sequence_of course) groups)) t)) (g.values t)
+      ∙ ap (λ (o : Option B). or_else (value_at course.value (s ∷ group) t) o) others
+      ∙ sym (value_at-append course.value (s ∷ group) (joined groups) t)
 
-  pub sound_groups : (groups : List (List (Slice (Steady B)))) → AreRuns groups → Ordered (joined groups) → HasAll (joined groups) → is_sound has_value is_same (map sequence_of groups) ≡ true
-  sound_groups groups runs ordered values = and _ _ (in_order groups runs ordered) (all_sound groups runs ordered values)
+  pub sound_groups : (groups : List (List (Slice C))) → AllHoldTogether course groups → Ordered course (joined groups) → AreKept (joined groups) → HasAll (joined groups) → is_sound has_value course step (map (sequence_of course) groups) ≡ true
+  sound_groups groups together ordered kept values = and _ _ (in_order groups together ordered) (all_sound groups together ordered kept values)

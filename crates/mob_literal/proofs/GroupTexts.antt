@@ -1,24 +1,28 @@
 -- The printed text of slices is a literal of the sequences of their groups.
-use Rattle.std.proofs.Common.{◌≡◌, ℤ, List, [], ◌∷◌, ◌++◌, map, codes, Bool, true, false, cond, Option, Some, refl, sym, ap, subst, ◌∙◌, append_assoc, inl, inr}
+use Rattle.std.proofs.Common.{◌≡◌, ℤ, List, [], ◌∷◌, ◌++◌, map, codes, Bool, true, false, cond, Option, Some, None, refl, sym, ap, subst, ◌∙◌, append_assoc, inl, inr}
 use Rattle.std.specs.Prelude.{◌&&◌, not, nat_eq}
 use Rattle.std.specs.List.{list_all}
 use Rattle.mob_ratio.specs.Ratio.{Ratio}
 use Rattle.mob_ratio.specs.Order.{same}
 use Rattle.mob_language.specs.Language.{Text, Separated}
+use Rattle.mob_language.proofs.Exact.{Stops}
 use Rattle.mob_language.proofs.Heads.{within_said}
 use Rattle.mob_scalar.specs.declared.stamp.Stamp.{Stamp}
 use Rattle.mob_scalar.specs.Moment.{moment, instant}
 use Rattle.mob_scalar.specs.MomentText.{moment_text}
 use Rattle.mob_slice.specs.declared.slice.Slice.{Slice}
-use Rattle.mob_slice.specs.declared.steady.Steady.{Steady}
+use Rattle.mob_slice.specs.CourseOf.{CourseOf}
 use Rattle.mob_written.specs.declared.written.Written.{Written}
 use Rattle.mob_written.specs.declared.written.Noted.{Noted}
 use Rattle.mob_written.specs.declared.written.Sequence.{Sequence}
+use Rattle.mob_written.specs.declared.written.Literal.{Literal}
+use Rattle.mob_written.specs.declared.written.Prefixes.{Prefixes}
+use Rattle.mob_written.specs.Prefix.{Prefix, ArePrefixes, remaining, says_step, begins_prefix}
 use Rattle.mob_written.specs.Fitting.{fitting}
 use Rattle.mob_written.specs.Literal.{at_sign, comma, noted, sequence, members, braced, alone, literal, temporal, opening as opening_bracket, closing as closing_bracket}
-use Rattle.mob_written.specs.Printed.{Style, is_long, groups_of, put_in_group, with_commas, instant_text, instants_of, start_text, opening_text, closing_text, group_text, groups_text, set_text, steps_text, in_braces}
+use Rattle.mob_written.specs.Printed.{Style, is_long, takes_up, groups_of, put_in_group, with_commas, instant_text, instants_of, start_text, opening_text, closing_text, group_text, groups_text, set_text, moving_text, in_braces}
 use Rattle.mob_written.specs.Style.{style_of}
-use Rattle.mob_literal.proofs.GroupSlices.{Alls, alls_rest, start_of, end_of, more, upper_of, sequence_of, AreRuns, are_groups, joined}
+use Rattle.mob_literal.proofs.GroupSlices.{Alls, alls_rest, start_of, end_of, more, upper_of, sequence_of, AllHoldTogether, are_groups, joined}
 use Rattle.mob_written.proofs.Small.{false_true}
 
 -- ---- signs as they are printed
@@ -98,28 +102,29 @@ pub record IsMomentSaid (day : ℤ) (t : Ratio) : Type 0 where
   pub fits : fitting (instant day stamp) ≡ Some t
 
 -- the sequence of a group as it is noted
-abbrev pub noted_of_group : {B : Type 0} → List (Slice (Steady B)) → Sequence (Noted B)
-noted_of_group group = record { lower_inc = (sequence_of group).lower_inc; instants = map note (sequence_of group).instants; upper_inc = (sequence_of group).upper_inc }
+abbrev pub noted_of_group : {C B : Type 0} → CourseOf C B → List (Slice C) → Sequence (Noted B)
+noted_of_group course group = record { lower_inc = (sequence_of course group).lower_inc; instants = map note (sequence_of course group).instants; upper_inc = (sequence_of course group).upper_inc }
 
 -- a slice of one instant, both of whose ends are included
-abbrev pub IsPoint : {B : Type 0} → Slice (Steady B) → Type 0
+abbrev pub IsPoint : {C : Type 0} → Slice C → Type 0
 IsPoint s = (is_long s ≡ false) × (s.span.lower_inc ≡ true) × (s.span.upper_inc ≡ true)
 
-abbrev pub ArePoints : {B : Type 0} → List (Slice (Steady B)) → Type 0
+abbrev pub ArePoints : {C : Type 0} → List (Slice C) → Type 0
 ArePoints slices = Alls IsPoint slices
 
-module _ {B : Type 0} (day : ℤ) (value : Text → Option B → Type 0) (text : B → Text) where
+module _ {C B : Type 0} (course : CourseOf C B) (day : ℤ) (value : Text → Option B → Type 0) (text : B → Text) where
   -- what is printed of a slice is read
-  pub record IsSliceSaid (s : Slice (Steady B)) : Type 0 where
-    pub value_said : value (text s.course.value) (Some s.course.value)
+  pub record IsSliceSaid (s : Slice C) : Type 0 where
+    pub start_value : value (text (course.start s.course)) (Some (course.start s.course))
+    pub end_value : value (text (course.end s.course)) (Some (course.end s.course))
     pub lower_said : IsMomentSaid day s.span.lower
     pub upper_said : IsMomentSaid day s.span.upper
 
-  abbrev pub AreSaid : List (Slice (Steady B)) → Type 0
+  abbrev pub AreSaid : List (Slice C) → Type 0
   AreSaid slices = Alls IsSliceSaid slices
 
-  abbrev pub style : Style B
-  style = style_of text day
+  abbrev pub style : Style C B
+  style = style_of course text day
 
   abbrev entry : Text → Noted B → Type 0
   entry = noted day value
@@ -143,89 +148,89 @@ module _ {B : Type 0} (day : ℤ) (value : Text → Option B → Type 0) (text :
   abbrev EachWritten : List (Written B) → Type 0
   EachWritten is = Each entry written_text note is
 
-  start_said : (s : Slice (Steady B)) → IsSliceSaid s → entry (written_text (start_of s)) (note (start_of s))
-  start_said s h = noted_said s.course.value s.span.lower h.value_said h.lower_said
+  start_said : (s : Slice C) → IsSliceSaid s → entry (written_text (start_of course s)) (note (start_of course s))
+  start_said s h = noted_said (course.start s.course) s.span.lower h.start_value h.lower_said
 
-  end_said : (s : Slice (Steady B)) → IsSliceSaid s → entry (written_text (end_of s)) (note (end_of s))
-  end_said s h = noted_said s.course.value s.span.upper h.value_said h.upper_said
+  end_said : (s : Slice C) → IsSliceSaid s → entry (written_text (end_of course s)) (note (end_of course s))
+  end_said s h = noted_said (course.end s.course) s.span.upper h.end_value h.upper_said
 
   -- ---- a group
 
-  more_said : (s : Slice (Steady B)) (group tail : List (Slice (Steady B))) → AreSaid (s ∷ (group ++ tail)) → EachWritten (more s group)
+  more_said : (s : Slice C) (group tail : List (Slice C)) → AreSaid (s ∷ (group ++ tail)) → EachWritten (more course s group)
   more_said s [] tail h = by_length (is_long s)
     where
-      by_length : (long : Bool) → EachWritten (cond long (end_of s ∷ []) [])
+      by_length : (long : Bool) → EachWritten (cond long (end_of course s ∷ []) [])
       by_length true = (end_said s h.0, tt)
       by_length false = tt
   more_said s (r ∷ group) tail h = (start_said r h.1.0, more_said r group tail h.1)
 
-  pub instants_are : (s : Slice (Steady B)) (group : List (Slice (Steady B))) → instants_of style (s ∷ group) ≡ map written_text (start_of s ∷ more s group)
+  pub instants_are : (s : Slice C) (group : List (Slice C)) → instants_of style (s ∷ group) ≡ map written_text (start_of course s ∷ more course s group)
   instants_are s [] = by_length (is_long s)
     where
-      by_length : (long : Bool) → start_text style s ∷ cond long (written_text (end_of s) ∷ []) [] ≡ map written_text (start_of s ∷ cond long (end_of s ∷ []) [])
+      by_length : (long : Bool) → start_text style s ∷ cond long (written_text (end_of course s) ∷ []) [] ≡ map written_text (start_of course s ∷ cond long (end_of course s ∷ []) [])
       by_length true = refl
       by_length false = refl
   instants_are s (r ∷ group) = ap (λ (x : List Text). start_text style s ∷ x) (instants_are r group)
 
-  closing_is : (s : Slice (Steady B)) (group : List (Slice (Steady B))) → closing_text (s ∷ group) ≡ cond (upper_of s group) (codes "]") (codes ")")
+  closing_is : (s : Slice C) (group : List (Slice C)) → closing_text (s ∷ group) ≡ cond (upper_of course s group) (codes "]") (codes ")")
   closing_is s [] = refl
   closing_is s (r ∷ group) = closing_is r group
 
-  group_said : (s : Slice (Steady B)) (group tail : List (Slice (Steady B))) → AreSaid (s ∷ (group ++ tail)) → sequence entry (group_text style (s ∷ group)) (noted_of_group (s ∷ group))
+  group_said : (s : Slice C) (group tail : List (Slice C)) → AreSaid (s ∷ (group ++ tail)) → sequence entry (group_text style (s ∷ group)) (noted_of_group course (s ∷ group))
   group_said s group tail h =
-      let inner : Separated entry comma (with_commas (map written_text (start_of s ∷ more s group))) (map note (start_of s ∷ more s group)) =
-      listed_said entry written_text note (start_of s) (more s group) (start_said s h.0, more_said s group tail h) in
-      let said = bracketed_said entry s.span.lower_inc (upper_of s group) (with_commas (map written_text (start_of s ∷ more s group))) (map note (start_of s ∷ more s group)) inner in
-      let is : group_text style (s ∷ group) ≡ cond s.span.lower_inc (codes "[") (codes "(") ++ (with_commas (map written_text (start_of s ∷ more s group)) ++ cond (upper_of s group) (codes "]") (codes ")")) =
+      let inner : Separated entry comma (with_commas (map written_text (start_of course s ∷ more course s group))) (map note (start_of course s ∷ more course s group)) =
+      listed_said entry written_text note (start_of course s) (more course s group) (start_said s h.0, more_said s group tail h) in
+      let said = bracketed_said entry s.span.lower_inc (upper_of course s group) (with_commas (map written_text (start_of course s ∷ more course s group))) (map note (start_of course s ∷ more course s group)) inner in
+      let is : group_text style (s ∷ group) ≡ cond s.span.lower_inc (codes "[") (codes "(") ++ (with_commas (map written_text (start_of course s ∷ more course s group)) ++ cond (upper_of course s group) (codes "]") (codes ")")) =
       append_assoc (opening_text (s ∷ group)) (with_commas (instants_of style (s ∷ group))) (closing_text (s ∷ group))
       ∙ ap (λ (x : List Text). opening_text (s ∷ group) ++ (with_commas x ++ closing_text (s ∷ group))) (instants_are s group)
-      ∙ ap (λ (x : Text). opening_text (s ∷ group) ++ (with_commas (map written_text (start_of s ∷ more s group)) ++ x)) (closing_is s group) in
-      subst (λ (x : Text). sequence entry x (noted_of_group (s ∷ group))) (sym is) said
+      ∙ ap (λ (x : Text). opening_text (s ∷ group) ++ (with_commas (map written_text (start_of course s ∷ more course s group)) ++ x)) (closing_is s group) in
+      subst (λ (x : Text). sequence entry x (noted_of_group course (s ∷ group))) (sym is) said
 
-  groups_said : (groups : List (List (Slice (Steady B)))) → AreRuns groups → AreSaid (joined groups) → Each (sequence entry) (group_text style) noted_of_group groups
-  groups_said [] runs h = tt
-  groups_said ([] ∷ groups) runs h = absurd runs
-  groups_said ((s ∷ group) ∷ groups) runs h = (group_said s group (joined groups) h, groups_said groups runs.1 (alls_rest IsSliceSaid (s ∷ group) (joined groups) h))
+  groups_said : (groups : List (List (Slice C))) → AllHoldTogether course groups → AreSaid (joined groups) → Each (sequence entry) (group_text style) (noted_of_group course) groups
+  groups_said [] together h = tt
+  groups_said ([] ∷ groups) together h = absurd together
+  groups_said ((s ∷ group) ∷ groups) together h = (group_said s group (joined groups) h, groups_said groups together.1 (alls_rest IsSliceSaid (s ∷ group) (joined groups) h))
 
   -- ---- groups, alone or in braces
 
-  groups_literal : (groups : List (List (Slice (Steady B)))) → (groups ≡ [] → ⊥) → Each (sequence entry) (group_text style) noted_of_group groups → literal entry (groups_text style groups) (map noted_of_group groups)
+  groups_literal : (groups : List (List (Slice C))) → (groups ≡ [] → ⊥) → Each (sequence entry) (group_text style) (noted_of_group course) groups → literal entry (groups_text style groups) (map (noted_of_group course) groups)
   groups_literal [] some h = absurd (some refl)
-  groups_literal (group ∷ []) some h = inr (inl (record { meant = noted_of_group group; said = h.0; is = refl }))
+  groups_literal (group ∷ []) some h = inr (inl (record { meant = noted_of_group course group; said = h.0; is = refl }))
   groups_literal (group ∷ next ∷ groups) some h =
-      inl (braced_said entry (with_commas (map (group_text style) (group ∷ next ∷ groups))) (map noted_of_group (group ∷ next ∷ groups)) (inl (listed_said (sequence entry) (group_text style) noted_of_group group (next ∷ groups) h)))
+      inl (braced_said entry (with_commas (map (group_text style) (group ∷ next ∷ groups))) (map (noted_of_group course) (group ∷ next ∷ groups)) (inl (listed_said (sequence entry) (group_text style) (noted_of_group course) group (next ∷ groups) h)))
 
   -- ---- single instants
 
-  abbrev lone : Slice (Steady B) → List (Slice (Steady B))
+  abbrev lone : Slice C → List (Slice C)
   lone s = s ∷ []
 
-  point_groups : (slices : List (Slice (Steady B))) → ArePoints slices → groups_of slices ≡ map lone slices
+  point_groups : (slices : List (Slice C)) → ArePoints slices → groups_of course slices ≡ map lone slices
   point_groups [] h = refl
   point_groups (s ∷ []) h = refl
-  point_groups (s ∷ r ∷ rest) h = ap (put_in_group s) (point_groups (r ∷ rest) h.1) ∙ ends (same s.span.upper r.span.lower) r.span.lower_inc s.span.upper_inc h.0.2
+  point_groups (s ∷ r ∷ rest) h = ap (put_in_group course s) (point_groups (r ∷ rest) h.1) ∙ ends (same s.span.upper r.span.lower) r.span.lower_inc s.span.upper_inc (takes_up course s.course r.course) h.0.2
     where
-      ends : (a b c : Bool) → c ≡ true → cond (a && (b && not c)) ((s ∷ r ∷ []) ∷ map lone rest) ((s ∷ []) ∷ (r ∷ []) ∷ map lone rest) ≡ (s ∷ []) ∷ (r ∷ []) ∷ map lone rest
-      ends true true true e = refl
-      ends true false true e = refl
-      ends false b c e = refl
-      ends a b false e = absurd (false_true e)
+      ends : (a b c d : Bool) → c ≡ true → cond ((a && (b && not c)) && d) ((s ∷ r ∷ []) ∷ map lone rest) ((s ∷ []) ∷ (r ∷ []) ∷ map lone rest) ≡ (s ∷ []) ∷ (r ∷ []) ∷ map lone rest
+      ends true true true d e = refl
+      ends true false true d e = refl
+      ends false b c d e = refl
+      ends a b false d e = absurd (false_true e)
 
-  abbrev start_note : Slice (Steady B) → Noted B
-  start_note s = note (start_of s)
+  abbrev start_note : Slice C → Noted B
+  start_note s = note (start_of course s)
 
-  lone_is : (s : Slice (Steady B)) → IsPoint s → noted_of_group (lone s) ≡ alone (start_note s)
+  lone_is : (s : Slice C) → IsPoint s → noted_of_group course (lone s) ≡ alone (start_note s)
   lone_is s h = rw (h.0, h.1, h.2) refl
 
-  points_are : (slices : List (Slice (Steady B))) → ArePoints slices → map noted_of_group (map lone slices) ≡ map alone (map start_note slices)
+  points_are : (slices : List (Slice C)) → ArePoints slices → map (noted_of_group course) (map lone slices) ≡ map alone (map start_note slices)
   points_are [] h = refl
-  points_are (s ∷ rest) h = ap (λ (q : Sequence (Noted B)). q ∷ map noted_of_group (map lone rest)) (lone_is s h.0) ∙ ap (λ (qs : List (Sequence (Noted B))). alone (start_note s) ∷ qs) (points_are rest h.1)
+  points_are (s ∷ rest) h = ap (λ (q : Sequence (Noted B)). q ∷ map (noted_of_group course) (map lone rest)) (lone_is s h.0) ∙ ap (λ (qs : List (Sequence (Noted B))). alone (start_note s) ∷ qs) (points_are rest h.1)
 
-  starts_said : (slices : List (Slice (Steady B))) → AreSaid slices → Each entry (start_text style) start_note slices
+  starts_said : (slices : List (Slice C)) → AreSaid slices → Each entry (start_text style) start_note slices
   starts_said [] h = tt
   starts_said (s ∷ rest) h = (start_said s h.0, starts_said rest h.1)
 
-  set_literal : (slices : List (Slice (Steady B))) → (slices ≡ [] → ⊥) → AreSaid slices → literal entry (set_text style slices) (map alone (map start_note slices))
+  set_literal : (slices : List (Slice C)) → (slices ≡ [] → ⊥) → AreSaid slices → literal entry (set_text style slices) (map alone (map start_note slices))
   set_literal [] some h = absurd (some refl)
   set_literal (s ∷ []) some h = inr (inr (record { meant = start_note s; said = start_said s h.0; is = refl }))
   set_literal (s ∷ r ∷ rest) some h =
@@ -234,16 +239,30 @@ module _ {B : Type 0} (day : ℤ) (value : Text → Option B → Type 0) (text :
 
   -- ---- all of a text
 
-  groups_some : (slices : List (Slice (Steady B))) → (slices ≡ [] → ⊥) → groups_of slices ≡ [] → ⊥
-  groups_some slices some e = some (sym (are_groups slices).whole ∙ ap joined e)
+  groups_some : (slices : List (Slice C)) → (slices ≡ [] → ⊥) → groups_of course slices ≡ [] → ⊥
+  groups_some slices some e = some (sym (are_groups course slices).whole ∙ ap joined e)
 
-  pub printed_said : (slices : List (Slice (Steady B))) → (slices ≡ [] → ⊥) → AreSaid slices → (list_all (λ (s : Slice (Steady B)). not (is_long s)) slices ≡ true → ArePoints slices) → temporal entry (steps_text style slices) (map noted_of_group (groups_of slices))
-  printed_said slices some said points = within_said (steps_text style slices) (map noted_of_group (groups_of slices)) (by_lengths (list_all (λ (s : Slice (Steady B)). not (is_long s)) slices) points)
+  -- the literal that the groups of the slices print, behind prefixes
+  abbrev pub printed_literal : List Prefix → List (Slice C) → Literal (Noted B)
+  printed_literal before slices = record { says_step = says_step before; sequences = map (noted_of_group course) (groups_of course slices) }
+
+  pub printed_said : (prefixes : Prefixes) (before : List Prefix) (front : Text) (slices : List (Slice C)) → ArePrefixes prefixes front before → Stops (begins_prefix (remaining prefixes before)) (moving_text style slices)
+      → (slices ≡ [] → ⊥) → AreSaid slices → (list_all (λ (s : Slice C). not (is_long s)) slices ≡ true → ArePoints slices) → temporal prefixes entry (front ++ moving_text style slices) (printed_literal before slices)
+  printed_said prefixes before front slices are stops some said points = within_said (front ++ moving_text style slices) (printed_literal before slices) (record {
+    front = front;
+    back = moving_text style slices;
+    whole = refl;
+    said = before;
+    prefixes = are;
+    behind = stops;
+    sequences = by_lengths (list_all (λ (s : Slice C). not (is_long s)) slices) points;
+    step = refl;
+  })
     where
-      by_lengths : (set : Bool) → (set ≡ true → ArePoints slices) → literal entry (cond set (set_text style slices) (groups_text style (groups_of slices))) (map noted_of_group (groups_of slices))
+      by_lengths : (set : Bool) → (set ≡ true → ArePoints slices) → literal entry (cond set (set_text style slices) (groups_text style (groups_of course slices))) (map (noted_of_group course) (groups_of course slices))
       by_lengths true p =
-          let are : map noted_of_group (groups_of slices) ≡ map alone (map start_note slices) = ap (map noted_of_group) (point_groups slices (p refl)) ∙ points_are slices (p refl) in
+          let are : map (noted_of_group course) (groups_of course slices) ≡ map alone (map start_note slices) = ap (map (noted_of_group course)) (point_groups slices (p refl)) ∙ points_are slices (p refl) in
           subst (λ (qs : List (Sequence (Noted B))). literal entry (set_text style slices) qs) (sym are) (set_literal slices some said)
       by_lengths false p =
-          let g = are_groups slices in
-          groups_literal (groups_of slices) (groups_some slices some) (groups_said (groups_of slices) g.runs (subst AreSaid (sym g.whole) said))
+          let g = are_groups course slices in
+          groups_literal (groups_of course slices) (groups_some slices some) (groups_said (groups_of course slices) g.together (subst AreSaid (sym g.whole) said))

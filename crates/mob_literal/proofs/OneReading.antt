@@ -7,14 +7,16 @@ use Rattle.mob_normal.proofs.Unique.{unique}
 use Rattle.mob_numeral.specs.Verdict.{HasOneReading}
 use Rattle.mob_numeral.proofs.Settled.{settled}
 use Rattle.mob_slice.specs.declared.slice.Slice.{Slice}
-use Rattle.mob_slice.specs.declared.steady.Steady.{Steady}
-use Rattle.mob_slice.specs.Slices.{value_at}
-use Rattle.mob_slice.specs.SteadyLaws.{steady_laws}
+use Rattle.mob_slice.specs.CourseOf.{CourseOf, course_of}
+use Rattle.mob_ratio.specs.Ratio.{Ratio}
+use Rattle.mob_slice.specs.Slices.{AreNormal, value_at}
+use Rattle.mob_slice.specs.Course.{IsCourse}
 use Rattle.mob_written.specs.declared.written.Written.{Written}
 use Rattle.mob_written.specs.declared.written.Sequence.{Sequence}
 use Rattle.mob_written.specs.ValueText.{IsValueText}
-use Rattle.mob_slice.specs.Operands.{steady_value}
-use Rattle.mob_literal.specs.Sound.{fitting_all, Defines, steps}
+use Rattle.mob_literal.specs.Sequences.{is_step}
+use Rattle.mob_literal.specs.Sound.{fitting_all, Defines, literals}
+use Rattle.mob_written.specs.Prefix.{admitted}
 use Rattle.mob_written.proofs.LiteralExact.{noted_entry, temporal_exact}
 
 -- two options with the same value are the same
@@ -23,18 +25,25 @@ one_option None None h = refl
 one_option None (Some y) h = (h y).1 refl
 one_option (Some x) p h = sym ((h x).0 refl)
 
+-- two normal lists of slices with the same value at each instant are one list
+abbrev pub IsUnique : {C B : Type 0} → CourseOf C B → Type 0
+IsUnique {C} course = (v w : List (Slice C)) → AreNormal course.start course.end course.continues v → AreNormal course.start course.end course.continues w → ((t : Ratio) → value_at course.value v t ≡ value_at course.value w t) → v ≡ w
+
 -- sequences define one value
-one_defined : {B : Type 0} (is_same : B → B → Bool) → ((a b : B) → IsTrue (is_same a b) ↔ (a ≡ b)) → (qs : List (Sequence (Written B))) (v w : List (Slice (Steady B))) → Defines is_same qs v → Defines is_same qs w → v ≡ w
-one_defined {B} is_same exact qs v w p q =
-    unique (steady_laws false is_same exact) v w p.normal.chained q.normal.chained
-    (λ t. one_option (value_at steady_value v t) (value_at steady_value w t)
+one_defined : {C B : Type 0} (course : CourseOf C B) → IsUnique course → (step : Bool) (qs : List (Sequence (Written B))) (v w : List (Slice C)) → Defines course step qs v → Defines course step qs w → v ≡ w
+one_defined course one step qs v w p q =
+    one v w p.normal.chained q.normal.chained
+    (λ t. one_option (value_at course.value v t) (value_at course.value w t)
     (λ x. (λ e. (q.same t x).1 ((p.same t x).0 e), λ e. (p.same t x).1 ((q.same t x).0 e))))
 
-one_meaning : {B : Type 0} (is_same : B → B → Bool) → ((a b : B) → IsTrue (is_same a b) ↔ (a ≡ b)) → (o : Option (List (Sequence (Written B)))) (v w : List (Slice (Steady B))) → MatchOption o ⊥ (λ qs. Defines is_same qs v) → MatchOption o ⊥ (λ qs. Defines is_same qs w) → v ≡ w
-one_meaning is_same exact None v w a b = absurd a
-one_meaning is_same exact (Some qs) v w a b = one_defined is_same exact qs v w a b
+one_meaning : {C B : Type 0} (course : CourseOf C B) → IsUnique course → (step : Bool) (o : Option (List (Sequence (Written B)))) (v w : List (Slice C)) → MatchOption o ⊥ (λ qs. Defines course step qs v) → MatchOption o ⊥ (λ qs. Defines course step qs w) → v ≡ w
+one_meaning course one step None v w a b = absurd a
+one_meaning course one step (Some qs) v w a b = one_defined course one step qs v w a b
 
-pub one_reading : {B : Type 0} (day : ℤ) {value : List ℕ → Option B → Type 0} {reader : TextReader (Option B)} {F : List ℕ → Type 0} → IsValueText value reader F → (has_value : B → Bool) (is_same : B → B → Bool) → ((a b : B) → IsTrue (is_same a b) ↔ (a ≡ b))
-    → HasOneReading (steps day value has_value is_same)
-one_reading {B} day {value} {reader} {F} law has_value is_same exact text =
-    settled (steps day value has_value is_same) text (one_value (temporal_exact (noted_entry day law)) refl text) (λ s. one_meaning is_same exact (fitting_all s))
+pub one_reading : {C B : Type 0} (day : ℤ) {steady copies : Bool} {moves : C → Ratio → Ratio → Ratio → B} {start end : C → B} {can_make : B → B → Type 0} {make : B → B → C} {continues : C → C → Ratio → Ratio → Ratio → Bool} {parts : C → Ratio → Ratio → Ratio → List Ratio} (is_same : B → B → Bool)
+    → IsCourse steady copies moves start end can_make make continues parts
+    → {value : List ℕ → Option B → Type 0} {reader : TextReader (Option B)} {F : List ℕ → Type 0} → IsValueText value reader F → (has_srid : Bool) → (has_value : B → Bool)
+    → HasOneReading (literals day has_srid value has_value (course_of steady moves start end make continues is_same))
+one_reading {C} {B} day {steady} {copies} {moves} {start} {end} {can_make} {make} {continues} {parts} is_same laws {value} {reader} {F} law has_srid has_value text =
+    let course = course_of steady moves start end make continues is_same in
+    settled (literals day has_srid value has_value course) text (one_value (temporal_exact (admitted steady has_srid) (noted_entry day law)) refl text) (λ s. one_meaning course (λ v w a b e. unique laws v w a b e) (is_step steady s.says_step) (fitting_all s.sequences))

@@ -1,5 +1,5 @@
 -- Worked examples of printed texts and of fields, by hand. A moment prints here as D and its day's place.
-use Rattle.std.proofs.Common.{◌≡◌, ℕ, ◌+◌, [], ◌∷◌, ◌++◌, Bool, true, false, codes, refl, pos, nat_abs, arith}
+use Rattle.std.proofs.Common.{◌≡◌, ℕ, ◌+◌, [], ◌∷◌, ◌++◌, Bool, true, false, Option, Some, None, codes, refl, pos, nat_abs, arith}
 use Rattle.mob_ratio.specs.GcdLaws.{gcd_one_right}
 use Rattle.mob_ratio.specs.LowestLaws.{lowest_in}
 use Rattle.mob_ratio.specs.Ratio.{Ratio}
@@ -7,9 +7,12 @@ use Rattle.mob_ratio.specs.Order.{before, same}
 use Rattle.mob_language.specs.Language.{Text}
 use Rattle.mob_slice.specs.declared.slice.Slice.{Slice}
 use Rattle.mob_slice.specs.declared.steady.Steady.{Steady}
+use Rattle.mob_slice.specs.CourseOf.{course_of, steady_course}
+use Rattle.mob_slice.specs.Sameness.{same_bytes}
 use Rattle.mob_ast.specs.declared.types.SqlType.TheVariants as sql
 use Rattle.mob_value.specs.declared.value.Value.TheVariants as value
-use Rattle.mob_written.specs.Printed.{Style, steps_text}
+use Rattle.mob_written.specs.Prefix.{admitted, prefix_at, one_prefix_at, prefixes_at}
+use Rattle.mob_written.specs.Printed.{Style, moving_text}
 use Rattle.mob_literal.specs.Fields.{is_null_field, doubled, undoubled, text_of_field, field_text}
 
 abbrev day : ℕ → Ratio
@@ -24,52 +27,95 @@ d2 = day 2
 abbrev d3 : Ratio
 d3 = day 3
 
-abbrev plain : Style Text
-plain = record { value_text = λ v. v; moment_text = λ t. codes "D" ++ (48 + nat_abs t.num) ∷ [] }
+abbrev plain : Style (Steady Text) Text
+plain = record { course = steady_course same_bytes; value_text = λ v. v; moment_text = λ t. codes "D" ++ (48 + nat_abs t.num) ∷ [] }
 
 abbrev on : Bool → Ratio → Ratio → Bool → Text → Slice (Steady Text)
 on lower_inc lower upper upper_inc v = record { span = record { lower = lower; upper = upper; lower_inc = lower_inc; upper_inc = upper_inc }; course = record { value = v } }
 
 -- a value that changes at its last instant
-one_group : steps_text plain (on true d1 d3 false (codes "1") ∷ on true d3 d3 true (codes "2") ∷ []) ≡ codes "[1@D1, 2@D3]"
+one_group : moving_text plain (on true d1 d3 false (codes "1") ∷ on true d3 d3 true (codes "2") ∷ []) ≡ codes "[1@D1, 2@D3]"
 unfolding before same
 one_group = refl
 
 -- the last slice is longer than an instant
-end_written : steps_text plain (on true d1 d2 false (codes "1") ∷ on true d2 d3 true (codes "2") ∷ []) ≡ codes "[1@D1, 2@D2, 2@D3]"
+end_written : moving_text plain (on true d1 d2 false (codes "1") ∷ on true d2 d3 true (codes "2") ∷ []) ≡ codes "[1@D1, 2@D2, 2@D3]"
 unfolding before same
 end_written = refl
 
-one_instant : steps_text plain (on true d1 d1 true (codes "5") ∷ []) ≡ codes "5@D1"
+one_instant : moving_text plain (on true d1 d1 true (codes "5") ∷ []) ≡ codes "5@D1"
 unfolding before same
 one_instant = refl
 
-instants_alone : steps_text plain (on true d1 d1 true (codes "5") ∷ on true d3 d3 true (codes "6") ∷ []) ≡ codes "{5@D1, 6@D3}"
+instants_alone : moving_text plain (on true d1 d1 true (codes "5") ∷ on true d3 d3 true (codes "6") ∷ []) ≡ codes "{5@D1, 6@D3}"
 unfolding before same
 instants_alone = refl
 
 -- true on the second day alone
-whole_day : steps_text plain (on true d1 d2 false (codes "f") ∷ on true d2 d3 false (codes "t") ∷ on true d3 d3 true (codes "f") ∷ []) ≡ codes "[f@D1, t@D2, f@D3]"
+whole_day : moving_text plain (on true d1 d2 false (codes "f") ∷ on true d2 d3 false (codes "t") ∷ on true d3 d3 true (codes "f") ∷ []) ≡ codes "[f@D1, t@D2, f@D3]"
 unfolding before same
 whole_day = refl
 
 -- a value that is given at one instant only, between two others: the group ends with it
-given_once : steps_text plain (on true d1 d2 false (codes "f") ∷ on true d2 d2 true (codes "t") ∷ on false d2 d3 true (codes "f") ∷ []) ≡ codes "{[f@D1, t@D2], (f@D2, f@D3]}"
+given_once : moving_text plain (on true d1 d2 false (codes "f") ∷ on true d2 d2 true (codes "t") ∷ on false d2 d3 true (codes "f") ∷ []) ≡ codes "{[f@D1, t@D2], (f@D2, f@D3]}"
 unfolding before same
 given_once = refl
 
 -- two slices that share an instant, which the first has
-joint_given : steps_text plain (on true d1 d2 true (codes "t") ∷ on false d2 d3 true (codes "f") ∷ []) ≡ codes "{[t@D1, t@D2], (f@D2, f@D3]}"
+joint_given : moving_text plain (on true d1 d2 true (codes "t") ∷ on false d2 d3 true (codes "f") ∷ []) ≡ codes "{[t@D1, t@D2], (f@D2, f@D3]}"
 unfolding before same
 joint_given = refl
 
-ends_left_out : steps_text plain (on false d1 d2 false (codes "1") ∷ []) ≡ codes "(1@D1, 1@D2)"
+ends_left_out : moving_text plain (on false d1 d2 false (codes "1") ∷ []) ≡ codes "(1@D1, 1@D2)"
 unfolding before same
 ends_left_out = refl
 
-a_point_of_others : steps_text plain (on true d1 d2 false (codes "1") ∷ on true d3 d3 true (codes "6") ∷ []) ≡ codes "{[1@D1, 1@D2), [6@D3]}"
+a_point_of_others : moving_text plain (on true d1 d2 false (codes "1") ∷ on true d3 d3 true (codes "6") ∷ []) ≡ codes "{[1@D1, 1@D2), [6@D3]}"
 unfolding before same
 a_point_of_others = refl
+
+-- ---- courses that are not steady, each given by its two ends
+
+abbrev ends : Style (Text × Text) Text
+ends = record { course = course_of false (λ c l u t. c.0) (λ c. c.0) (λ c. c.1) (λ a b. (a, b)) (λ c d l m u. false) same_bytes; value_text = λ v. v; moment_text = λ t. codes "D" ++ (48 + nat_abs t.num) ∷ [] }
+
+abbrev from : Bool → Ratio → Ratio → Bool → Text → Text → Slice (Text × Text)
+from lower_inc lower upper upper_inc v w = record { span = record { lower = lower; upper = upper; lower_inc = lower_inc; upper_inc = upper_inc }; course = (v, w) }
+
+-- the next one takes up the value with which the first ends
+taken_up : moving_text ends (from true d1 d2 false (codes "1") (codes "2") ∷ from true d2 d3 true (codes "2") (codes "5") ∷ []) ≡ codes "[1@D1, 2@D2, 5@D3]"
+unfolding before same
+taken_up = refl
+
+-- the next one begins with another value
+a_jump : moving_text ends (from true d1 d2 false (codes "1") (codes "2") ∷ from true d2 d3 true (codes "3") (codes "5") ∷ []) ≡ codes "{[1@D1, 2@D2), [3@D2, 5@D3]}"
+unfolding before same
+a_jump = refl
+
+-- a step value of such a type: each of its values by itself
+steps_apart : moving_text ends (from true d1 d2 false (codes "1") (codes "1") ∷ from true d2 d2 true (codes "2") (codes "2") ∷ []) ≡ codes "{[1@D1, 1@D2), [2@D2]}"
+unfolding before same
+steps_apart = refl
+
+-- ---- what may stand before a literal
+
+both_orders : (prefixes_at (admitted false true) (codes "Interp=Step;SRID=0;x") ≡ Some (admitted true false, codes "x")) × (prefixes_at (admitted false true) (codes "srid=0 ; interp=STEP; x") ≡ Some (admitted true false, codes "x"))
+unfolding prefixes_at one_prefix_at prefix_at
+both_orders = (refl, refl)
+
+-- each once: a second one may be a part of the first value
+once : prefixes_at (admitted false true) (codes "SRID=0;SRID=0;x") ≡ Some (admitted false false, codes "SRID=0;x")
+unfolding prefixes_at one_prefix_at prefix_at
+once = refl
+
+-- another word with the first letter of one that may stand there is no text
+another_word : prefixes_at (admitted false true) (codes "SRID=1;x") ≡ None
+unfolding prefixes_at one_prefix_at prefix_at
+another_word = refl
+
+none_admitted : prefixes_at (admitted true false) (codes "Interp=Step;x") ≡ Some (admitted true false, codes "Interp=Step;x")
+unfolding prefixes_at one_prefix_at prefix_at
+none_admitted = refl
 
 null_in_any : is_null_field sql.Text (codes "\\N") ≡ true
 null_in_any = refl

@@ -9,7 +9,7 @@ use Rattle.mob_scalar.proofs.TruthAgain.{truth_again}
 use Rattle.mob_scalar.proofs.MomentAgain.{moment_again}
 use Rattle.mob_literal.specs.SqlText.{SaysAs, value_text}
 use Rattle.mob_literal.specs.SqlReadable.{IsReadableAs}
-use Rattle.mob_literal.proofs.StepsAgain.{truths_again, numbers_again, texts_again}
+use Rattle.mob_literal.proofs.MovingAgain.{truths_again, numbers_again, texts_again}
 
 pub value_again : (type : SqlType) (day : ℤ) (v : Value) → IsReadableAs type day v → SaysAs type day (value_text day v) (Ok v)
 value_again sql.Bool day (value.Bool b) h = (b, refl, truth_again b)

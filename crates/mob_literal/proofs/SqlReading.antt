@@ -1,10 +1,11 @@
 -- The text of an SQL value has one reading.
-use Rattle.std.proofs.Common.{◌≡◌, ◌≢◌, ℤ, Ok, Err, sym, ap, ◌∙◌}
+use Rattle.std.proofs.Common.{◌≡◌, ◌≢◌, ℤ, false, Ok, Err, sym, ap, ◌∙◌}
 use Rattle.std.specs.Prelude.{Result}
 use Rattle.mob_ratio.specs.Order.{same}
 use Rattle.mob_ratio.proofs.Order.{same_exact}
 use Rattle.mob_language.specs.Language.{Text}
 use Rattle.mob_slice.specs.Sameness.{same_bool, same_bool_exact, same_bytes, same_bytes_exact}
+use Rattle.mob_slice.specs.SteadyLaws.{steady_laws}
 use Rattle.mob_ast.specs.declared.types.SqlType.{SqlType}
 use Rattle.mob_ast.specs.declared.types.SqlType.TheVariants as sql
 use Rattle.mob_value.specs.declared.value.Value.{Value}
@@ -62,7 +63,7 @@ one_sql_reading sql.Int day text = says_one whole_numbers value.Number one_whole
 one_sql_reading sql.Numeric day text = says_one numbers value.Number one_number text
 one_sql_reading sql.Text day text = says_one texts value.Text one_text text
 one_sql_reading sql.Moment day text = says_one (moments day) value.Moment (one_moment day) text
-one_sql_reading sql.TBool day text = says_one (steps day truth_value any_value same_bool) value.MovingBool (one_reading day truth_values any_value same_bool same_bool_exact) text
-one_sql_reading sql.TInt day text = says_one (steps day number_value is_whole same) value.MovingInt (one_reading day number_values is_whole same same_exact) text
-one_sql_reading sql.TText day text = says_one (steps day quoted_value any_value same_bytes) value.MovingText (one_reading day quoted_values any_value same_bytes same_bytes_exact) text
+one_sql_reading sql.TBool day text = says_one (steps day truth_value any_value same_bool) value.MovingBool (one_reading day same_bool (steady_laws false same_bool same_bool_exact) truth_values false any_value) text
+one_sql_reading sql.TInt day text = says_one (steps day number_value is_whole same) value.MovingInt (one_reading day same (steady_laws false same same_exact) number_values false is_whole) text
+one_sql_reading sql.TText day text = says_one (steps day quoted_value any_value same_bytes) value.MovingText (one_reading day same_bytes (steady_laws false same_bytes same_bytes_exact) quoted_values false any_value) text
 one_sql_reading type day text = says_one no_texts value.Text none_said text

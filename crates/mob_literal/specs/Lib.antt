@@ -1,4 +1,4 @@
-pub mod Steps
+pub mod Sequences
 pub mod Slices
 pub mod Sound
 pub mod Flat

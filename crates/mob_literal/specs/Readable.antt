@@ -1,18 +1,21 @@
--- When the printed text of a step value is read again as that value.
-use Rattle.std.specs.Prelude.{◌≡◌, ◌+◌, ◌≤◌, ℕ, ℤ, List, [], ◌∷◌, length, Contains, Bool, true}
+-- When the printed text of a temporal value is read again as that value.
+use Rattle.std.specs.Prelude.{◌≡◌, ◌+◌, ◌≤◌, ℕ, ℤ, List, [], ◌∷◌, length, Contains, Bool, true, Option, Some}
 use Rattle.std.specs.Str.{is_utf8}
 use Rattle.mob_ratio.specs.Ratio.{Ratio}
 use Rattle.mob_frac.specs.Fits.{Fits}
 use Rattle.mob_language.specs.Language.{Text}
+use Rattle.mob_language.proofs.Exact.{Stops}
 use Rattle.mob_scalar.specs.MomentText.{HasDate}
 use Rattle.mob_slice.specs.declared.slice.Slice.{Slice}
-use Rattle.mob_slice.specs.declared.steady.Steady.{Steady}
+use Rattle.mob_slice.specs.CourseOf.{CourseOf}
 use Rattle.mob_slice.specs.Slices.{IsNormal}
+use Rattle.mob_written.specs.declared.written.Prefixes.{Prefixes}
+use Rattle.mob_written.specs.Prefix.{begins_prefix}
 use Rattle.mob_written.specs.Printed.{Style, groups_of, instants_of}
 use Rattle.mob_written.specs.Style.{style_of}
 
 -- how many instants the groups print
-abbrev pub instants_in : {B : Type 0} → Style B → List (List (Slice (Steady B))) → ℕ
+abbrev pub instants_in : {C B : Type 0} → Style C B → List (List (Slice C)) → ℕ
 instants_in style [] = 0
 instants_in style (group ∷ groups) = length (instants_of style group) + instants_in style groups
 
@@ -22,12 +25,23 @@ pub record IsDated (day : ℤ) (t : Ratio) : Type 0 where
   pub dated : HasDate day t
 
 -- A normal value whose values can be written, whose instants lie in the years 0001 to 9999, and that prints at most 100,000 of them.
-pub record IsReadable {B : Type 0} (day : ℤ) (text : B → Text) (IsWritten : B → Type 0) (is_same : B → B → Bool) (slices : List (Slice (Steady B))) : Type 0 where
-  pub normal : IsNormal {C = Steady B} {B = B} (λ c. c.value) (λ c. c.value) (λ c d lower middle upper. is_same c.value d.value) slices
-  pub values : (s : Slice (Steady B)) → Contains slices s → IsWritten s.course.value
-  pub lowers : (s : Slice (Steady B)) → Contains slices s → IsDated day s.span.lower
-  pub uppers : (s : Slice (Steady B)) → Contains slices s → IsDated day s.span.upper
-  pub short : instants_in (style_of text day) (groups_of slices) ≤ 100000
+pub record IsReadable {C B : Type 0} (course : CourseOf C B) (day : ℤ) (text : B → Text) (IsWritten : B → Type 0) (slices : List (Slice C)) : Type 0 where
+  pub normal : IsNormal course.start course.end course.continues slices
+  pub starts : (s : Slice C) → Contains slices s → IsWritten (course.start s.course)
+  pub ends : (s : Slice C) → Contains slices s → IsWritten (course.end s.course)
+  pub lowers : (s : Slice C) → Contains slices s → IsDated day s.span.lower
+  pub uppers : (s : Slice C) → Contains slices s → IsDated day s.span.upper
+  pub short : instants_in (style_of course text day) (groups_of course slices) ≤ 100000
+
+-- each of the slices ends with the value with which it starts: step interpolation changes nothing
+abbrev pub AreLevel : {C B : Type 0} → CourseOf C B → List (Slice C) → Type 0
+AreLevel course slices = (s : Slice _) → Contains slices s → course.start s.course ≡ course.end s.course
+
+-- the printed text of the value is read again as that value, which the type has, and begins with the first letter of no prefix
+pub record IsReadAgain {B : Type 0} (value : Text → Option B → Type 0) (text : B → Text) (has_value : B → Bool) (prefixes : Prefixes) (v : B) : Type 0 where
+  pub read : value (text v) (Some v)
+  pub of_type : has_value v ≡ true
+  pub begun : Stops (begins_prefix prefixes) (text v)
 
 -- every truth value
 abbrev pub AnyTruth : Bool → Type 0

@@ -1,4 +1,4 @@
--- What is demanded of the sequences of a temporal literal under step interpolation.
+-- What is demanded of the sequences of a temporal literal, and what value they define.
 use Rattle.std.specs.Prelude.{◌≡◌, ◌↔◌, ℕ, ◌+◌, ◌-◌, List, [], ◌∷◌, length, Contains, slice_get, Bool, true, false, ◌&&◌, ◌||◌, not, nat_lt, Option, Some, None, MatchOption, ℤ}
 use Rattle.std.specs.List.{list_all}
 use Rattle.mob_ratio.specs.Ratio.{Ratio}
@@ -7,14 +7,18 @@ use Rattle.mob_language.specs.Language.{Text}
 use Rattle.mob_language.specs.Readers.{◌>>=◌}
 use Rattle.mob_slice.specs.declared.slice.Slice.{Slice}
 use Rattle.mob_slice.specs.declared.steady.Steady.{Steady}
+use Rattle.mob_slice.specs.CourseOf.{CourseOf, steady_course}
 use Rattle.mob_slice.specs.Slices.{value_at, IsNormal}
 use Rattle.mob_numeral.specs.Verdict.{TextForm}
 use Rattle.mob_written.specs.declared.written.Written.{Written}
 use Rattle.mob_written.specs.declared.written.Noted.{Noted}
 use Rattle.mob_written.specs.declared.written.Sequence.{Sequence}
+use Rattle.mob_written.specs.declared.written.Literal.{Literal}
 use Rattle.mob_written.specs.Neighbours.{all_neighbours}
-use Rattle.mob_slice.specs.Operands.{steady_value}
-use Rattle.mob_literal.specs.Steps.{StepAt, rises}
+use Rattle.mob_literal.specs.Sequences.{SequenceAt, is_step, rises}
+use Rattle.mob_literal.specs.Slices.{arrives}
+use Rattle.mob_written.specs.declared.written.Prefixes.{Prefixes}
+use Rattle.mob_written.specs.Prefix.{admitted}
 use Rattle.mob_written.specs.Literal.{noted, temporal}
 
 -- how many instants the sequences have
@@ -42,12 +46,12 @@ fitting_sequence q = traverse written_of q.instants >>= λ is. Some (record { lo
 abbrev pub fitting_all : {B : Type 0} → List (Sequence (Noted B)) → Option (List (Sequence (Written B)))
 fitting_all qs = traverse fitting_sequence qs
 
--- where there are two instants or more, the last two have one value
-abbrev pub ends_level : {B : Type 0} → (B → B → Bool) → List (Written B) → Bool
-ends_level is_same [] = true
-ends_level is_same (i ∷ []) = true
-ends_level is_same (i ∷ j ∷ []) = is_same i.value j.value
-ends_level is_same (i ∷ j ∷ k ∷ is) = ends_level is_same (j ∷ k ∷ is)
+-- where there are two instants or more, the course between the last two ends with the last value
+abbrev pub ends_level : {C B : Type 0} → CourseOf C B → Bool → List (Written B) → Bool
+ends_level course step [] = true
+ends_level course step (i ∷ []) = true
+ends_level course step (i ∷ j ∷ []) = arrives course step i.value j.value
+ends_level course step (i ∷ j ∷ k ∷ is) = ends_level course step (j ∷ k ∷ is)
 
 -- where there is one instant, both ends include it
 abbrev pub is_closed_alone : {A : Type 0} → Bool → Bool → List A → Bool
@@ -56,9 +60,9 @@ is_closed_alone lower_inc upper_inc (i ∷ []) = lower_inc && upper_inc
 is_closed_alone lower_inc upper_inc (i ∷ j ∷ is) = true
 
 -- A sequence is sound where the type has each of its values, its instants rise, a sequence of one instant includes both ends, and
--- one that leaves its upper end out has one value at its last two instants.
-abbrev pub is_sound_sequence : {B : Type 0} → (B → Bool) → (B → B → Bool) → Sequence (Written B) → Bool
-is_sound_sequence has_value is_same q = list_all (λ i. has_value i.value) q.instants && (rises q.instants && (is_closed_alone q.lower_inc q.upper_inc q.instants && (q.upper_inc || ends_level is_same q.instants)))
+-- one that leaves its upper end out under step interpolation has one value at its last two instants.
+abbrev pub is_sound_sequence : {C B : Type 0} → (B → Bool) → CourseOf C B → Bool → Sequence (Written B) → Bool
+is_sound_sequence has_value course step q = list_all (λ i. has_value i.value) q.instants && (rises q.instants && (is_closed_alone q.lower_inc q.upper_inc q.instants && (q.upper_inc || ends_level course step q.instants)))
 
 abbrev pub clear_ends : {B : Type 0} → Bool → Bool → Option (Written B) → Option (Written B) → Bool
 clear_ends upper_inc lower_inc (Some i) (Some j) = before i.instant j.instant || (up_to i.instant j.instant && not (upper_inc && lower_inc))
@@ -73,36 +77,45 @@ is_before q r = clear_ends q.upper_inc r.lower_inc (slice_get q.instants (length
 abbrev pub are_in_order : {B : Type 0} → List (Sequence (Written B)) → Bool
 are_in_order qs = all_neighbours is_before qs
 
-abbrev pub is_sound : {B : Type 0} → (B → Bool) → (B → B → Bool) → List (Sequence (Written B)) → Bool
-is_sound has_value is_same qs = are_in_order qs && list_all (is_sound_sequence has_value is_same) qs
+abbrev pub is_sound : {C B : Type 0} → (B → Bool) → CourseOf C B → Bool → List (Sequence (Written B)) → Bool
+is_sound has_value course step qs = are_in_order qs && list_all (is_sound_sequence has_value course step) qs
 
 -- one of the sequences has the value v at t
-pub record LitAt {B : Type 0} (qs : List (Sequence (Written B))) (t : Ratio) (v : B) : Type 0 where
+pub record LitAt {C B : Type 0} (course : CourseOf C B) (step : Bool) (qs : List (Sequence (Written B))) (t : Ratio) (v : B) : Type 0 where
   pub by : Sequence (Written B)
   pub listed : Contains qs by
-  pub step : StepAt by.lower_inc by.instants by.upper_inc t v
+  pub at : SequenceAt course step by.lower_inc by.instants by.upper_inc t v
 
 -- The slices are normal, and have at each instant the value that the sequences have there, and none where they have none.
-pub record Defines {B : Type 0} (is_same : B → B → Bool) (qs : List (Sequence (Written B))) (slices : List (Slice (Steady B))) : Type 0 where
-  pub normal : IsNormal {C = Steady B} {B = B} (λ c. c.value) (λ c. c.value) (λ c d lower middle upper. is_same c.value d.value) slices
-  pub same : (t : Ratio) (v : B) → (value_at steady_value slices t ≡ Some v) ↔ LitAt qs t v
+pub record Defines {C B : Type 0} (course : CourseOf C B) (step : Bool) (qs : List (Sequence (Written B))) (slices : List (Slice C)) : Type 0 where
+  pub normal : IsNormal course.start course.end course.continues slices
+  pub same : (t : Ratio) (v : B) → (value_at course.value slices t ≡ Some v) ↔ LitAt course step qs t v
 
--- The sequences of the literals of a type of step values, with instants counted from a day, where each of their numbers fits.
-abbrev pub written_sequences : {B : Type 0} → ℤ → (Text → Option B → Type 0) → TextForm (List (Sequence (Noted B))) (List (Sequence (Written B)))
-written_sequences day value = record {
-  shape = temporal (noted day value);
-  long = λ s. is_over_limit s ≡ true;
-  large = λ s. fitting_all s ≡ None;
+-- a literal, where each of its numbers fits
+abbrev pub fitting_literal : {B : Type 0} → Literal (Noted B) → Option (Literal (Written B))
+fitting_literal s = fitting_all s.sequences >>= λ qs. Some (record { says_step = s.says_step; sequences = qs })
+
+-- The literals of a temporal type that admits these prefixes, as they are written, with instants counted from a day, where each of
+-- their numbers fits.
+abbrev pub written_literals : {B : Type 0} → ℤ → Prefixes → (Text → Option B → Type 0) → TextForm (Literal (Noted B)) (Literal (Written B))
+written_literals day prefixes value = record {
+  shape = temporal prefixes (noted day value);
+  long = λ s. is_over_limit s.sequences ≡ true;
+  large = λ s. fitting_all s.sequences ≡ None;
   unsound = λ s. ⊥;
-  means = λ s qs. fitting_all s ≡ Some qs;
+  means = λ s w. fitting_literal s ≡ Some w;
 }
 
--- The literals of a type of step values, with instants counted from a day.
-abbrev pub steps : {B : Type 0} → ℤ → (Text → Option B → Type 0) → (B → Bool) → (B → B → Bool) → TextForm (List (Sequence (Noted B))) (List (Slice (Steady B)))
-steps day value has_value is_same = record {
-  shape = temporal (noted day value);
-  long = λ s. is_over_limit s ≡ true;
-  large = λ s. fitting_all s ≡ None;
-  unsound = λ s. MatchOption (fitting_all s) ⊥ (λ qs. is_sound has_value is_same qs ≡ false);
-  means = λ s v. MatchOption (fitting_all s) ⊥ (λ qs. Defines is_same qs v);
+-- The literals of a temporal type, before which `SRID=0;` may stand or not, with instants counted from a day.
+abbrev pub literals : {C B : Type 0} → ℤ → Bool → (Text → Option B → Type 0) → (B → Bool) → CourseOf C B → TextForm (Literal (Noted B)) (List (Slice C))
+literals day has_srid value has_value course = record {
+  shape = temporal (admitted course.steady has_srid) (noted day value);
+  long = λ s. is_over_limit s.sequences ≡ true;
+  large = λ s. fitting_all s.sequences ≡ None;
+  unsound = λ s. MatchOption (fitting_all s.sequences) ⊥ (λ qs. is_sound has_value course (is_step course.steady s.says_step) qs ≡ false);
+  means = λ s v. MatchOption (fitting_all s.sequences) ⊥ (λ qs. Defines course (is_step course.steady s.says_step) qs v);
 }
+
+-- The literals of a type of step values.
+abbrev pub steps : {B : Type 0} → ℤ → (Text → Option B → Type 0) → (B → Bool) → (B → B → Bool) → TextForm (Literal (Noted B)) (List (Slice (Steady B)))
+steps day value has_value is_same = literals day false value has_value (steady_course is_same)

@@ -3,6 +3,7 @@ use Rattle.std.specs.Prelude.{◌≡◌, ℤ, [], Result, Ok, Err}
 use Rattle.mob_ratio.specs.Order.{same}
 use Rattle.mob_language.specs.Language.{Text}
 use Rattle.mob_slice.specs.Sameness.{same_bool, same_bytes}
+use Rattle.mob_slice.specs.CourseOf.{steady_course}
 use Rattle.mob_ast.specs.declared.types.SqlType.{SqlType}
 use Rattle.mob_ast.specs.declared.types.SqlType.TheVariants as sql
 use Rattle.mob_value.specs.declared.value.Value.{Value}
@@ -17,7 +18,7 @@ use Rattle.mob_scalar.specs.Truth.{truths, truth_text}
 use Rattle.mob_scalar.specs.Quoted.{quoted_text}
 use Rattle.mob_literal.specs.Sound.{steps}
 use Rattle.mob_written.specs.Values.{any_value, is_whole, truth_value, number_value, quoted_value}
-use Rattle.mob_written.specs.Printed.{steps_text}
+use Rattle.mob_written.specs.Printed.{moving_text}
 use Rattle.mob_written.specs.Style.{style_of}
 
 -- every text stands for itself
@@ -64,6 +65,6 @@ value_text day (value.Bool truth) = truth_text truth
 value_text day (value.Number number) = number_text number
 value_text day (value.Text text) = text
 value_text day (value.Moment instant) = moment_text day instant
-value_text day (value.MovingBool slices) = steps_text (style_of truth_text day) slices
-value_text day (value.MovingInt slices) = steps_text (style_of number_text day) slices
-value_text day (value.MovingText slices) = steps_text (style_of quoted_text day) slices
+value_text day (value.MovingBool slices) = moving_text (style_of (steady_course same_bool) truth_text day) slices
+value_text day (value.MovingInt slices) = moving_text (style_of (steady_course same) number_text day) slices
+value_text day (value.MovingText slices) = moving_text (style_of (steady_course same_bytes) quoted_text day) slices

@@ -1,12 +1,13 @@
 //! What holds of every literal. No code runs here.
 
-ghost use Rattle.std.specs.Prelude.{◌≡◌, ◌≢◌, List, Bool, ℕ, ℤ, Result, Ok, Err, true, false};
+ghost use Rattle.std.specs.Prelude.{◌≡◌, ◌≢◌, ◌++◌, List, Bool, ℕ, ℤ, Result, Ok, Err, true, false};
 ghost use Rattle.mob_language.specs.Language.{Text};
 ghost use Rattle.mob_ast.specs.declared.types.SqlType.{SqlType};
 ghost use Rattle.mob_literal.specs.Fields.{is_null_field, text_of_field, field_text};
-ghost use Rattle.mob_written.specs.Printed.{steps_text};
-ghost use Rattle.mob_literal.specs.Readable.{AnyTruth, IsInt, IsReadable, IsText};
-ghost use Rattle.mob_literal.specs.Sound.{steps};
+ghost use Rattle.mob_written.specs.Prefix.{Prefix, ArePrefixes, admitted, says_step};
+ghost use Rattle.mob_written.specs.Printed.{moving_text};
+ghost use Rattle.mob_literal.specs.Readable.{AnyTruth, AreLevel, IsInt, IsReadAgain, IsReadable, IsText};
+ghost use Rattle.mob_literal.specs.Sound.{literals, steps};
 ghost use Rattle.mob_literal.specs.SqlReadable.{IsReadableAs};
 ghost use Rattle.mob_literal.specs.SqlText.{SaysAs, value_text};
 ghost use Rattle.mob_written.specs.Style.{style_of};
@@ -19,11 +20,16 @@ ghost use Rattle.mob_scalar.specs.Truth.{truth_text};
 ghost use Rattle.mob_numeral.specs.Verdict.{HasOneReading, Lit};
 ghost use Rattle.mob_numeral.specs.declared.fault.ReadText.{ReadText};
 ghost use Rattle.mob_numeral.specs.declared.fault.ReadText.TheVariants.{NoMemory};
+ghost use Rattle.mob_slice.specs.CourseOf.{course_of, steady_course};
 ghost use Rattle.mob_slice.specs.Sameness.{same_bool, same_bytes};
 ghost use Rattle.mob_slice.specs.declared.slice.Slice.{Slice};
 ghost use Rattle.mob_slice.specs.declared.steady.Steady.{Steady};
 ghost use Rattle.mob_value.specs.declared.value.Value.{Value};
 ghost use Rattle.mob_value.specs.declared.value.Value.TheVariants.{Null};
+
+use mob_slice::Course;
+use mob_written::WrittenValue;
+use mob_written::printing::Printed;
 
 /// A literal of a step type has one reading, and so has the text of a value of each type.
 pub fn one_reading()
@@ -37,12 +43,26 @@ pub fn one_reading()
 /// What is printed of a step value is read again as that value, where its instants lie in the years 0001 to 9999 and at most
 /// 100,000 of them are printed.
 pub fn steps_read_again()
-    ensures truths { (day : ℤ) (v : List (Slice (Steady Bool))) → IsReadable day truth_text AnyTruth same_bool v
-        → Lit (steps day truth_value any_value same_bool) (steps_text (style_of truth_text day) v) (Ok v) }
-    ensures numbers { (day : ℤ) (v : List (Slice (Steady Ratio))) → IsReadable day number_text IsInt same v
-        → Lit (steps day number_value is_whole same) (steps_text (style_of number_text day) v) (Ok v) }
-    ensures texts { (day : ℤ) (v : List (Slice (Steady (List ℕ)))) → IsReadable day quoted_text IsText same_bytes v
-        → Lit (steps day quoted_value any_value same_bytes) (steps_text (style_of quoted_text day) v) (Ok v) }
+    ensures truths { (day : ℤ) (v : List (Slice (Steady Bool))) → IsReadable (steady_course same_bool) day truth_text AnyTruth v
+        → Lit (steps day truth_value any_value same_bool) (moving_text (style_of (steady_course same_bool) truth_text day) v) (Ok v) }
+    ensures numbers { (day : ℤ) (v : List (Slice (Steady Ratio))) → IsReadable (steady_course same) day number_text IsInt v
+        → Lit (steps day number_value is_whole same) (moving_text (style_of (steady_course same) number_text day) v) (Ok v) }
+    ensures texts { (day : ℤ) (v : List (Slice (Steady (List ℕ)))) → IsReadable (steady_course same_bytes) day quoted_text IsText v
+        → Lit (steps day quoted_value any_value same_bytes) (moving_text (style_of (steady_course same_bytes) quoted_text day) v) (Ok v) }
+{}
+
+/// What is printed of a value over time is read again as that value, where what is printed of each of its values is. Prefixes that its
+/// type admits may stand before it: `SRID=0;` says nothing more, and `Interp=Step;` changes nothing where each slice ends with the
+/// value with which it starts.
+pub fn literals_read_again<T: WrittenValue, C: Course<Base = T::Base>>()
+where
+    T::Base: Printed,
+    ensures again { (day : ℤ) (v : List (Slice C)) (before : List Prefix) (front : Text)
+        → IsReadable (course_of C.STEADY C.value_of C.start_of C.end_of C.make C.is_continued T.Base.is_same) day T.Base.text (IsReadAgain T.shape T.Base.text T.has_value (admitted C.STEADY T.HAS_SRID)) v
+        → ArePrefixes (admitted C.STEADY T.HAS_SRID) front before
+        → (says_step before ≡ true → AreLevel (course_of C.STEADY C.value_of C.start_of C.end_of C.make C.is_continued T.Base.is_same) v)
+        → Lit (literals day T.HAS_SRID T.shape T.has_value (course_of C.STEADY C.value_of C.start_of C.end_of C.make C.is_continued T.Base.is_same))
+        (front ++ moving_text (style_of (course_of C.STEADY C.value_of C.start_of C.end_of C.make C.is_continued T.Base.is_same) T.Base.text day) v) (Ok v) }
 {}
 
 /// What is printed of a value of a type is read again as that value, under the same conditions on its instants.

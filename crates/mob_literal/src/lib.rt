@@ -3,8 +3,8 @@
 
 mod fields;
 pub mod laws;
+mod slicing;
 mod sql;
-mod steps;
 pub mod temporal;
 
 pub use fields::{read_field, write_field};

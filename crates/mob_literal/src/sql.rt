@@ -11,15 +11,17 @@ ghost use Rattle.mob_literal.specs.Sound.{steps};
 ghost use Rattle.mob_written.specs.Values.{any_value, is_whole, truth_value, number_value, quoted_value};
 ghost use Rattle.mob_literal.specs.SqlText.{SaysInForm, SaysAs, texts, value_text};
 
-use crate::temporal::read_steps;
+use crate::temporal::read_moving;
 use mob_ast::SqlType;
+use mob_frac::Frac;
 use mob_list::text::Text;
 use mob_scalar::{
     Epoch, ReadText, read_moment, read_number, read_truth, read_whole, write_moment, write_number,
     write_truth,
 };
+use mob_slice::Steady;
 use mob_value::Value;
-use mob_written::printing::write_steps;
+use mob_written::printing::write_moving;
 use mob_written::values::{Texts, Truths, WholeNumbers};
 use std::alloc::{AllocError, Global};
 
@@ -63,19 +65,19 @@ fn read_timestamp(text: &str, epoch: &Epoch) -> Result<Value, ReadText>
 fn read_tbool(alloc: Global, text: &str, epoch: &Epoch) -> Result<Value, ReadText>
     ensures reading { SaysInForm (steps epoch.now truth_value any_value same_bool) Value.MovingBool text.now result }
 {
-    Ok(Value::MovingBool(read_steps::<Truths>(alloc, text, epoch)?))
+    Ok(Value::MovingBool(read_moving::<Truths, Steady<bool>>(alloc, text, epoch)?))
 }
 
 fn read_tint(alloc: Global, text: &str, epoch: &Epoch) -> Result<Value, ReadText>
     ensures reading { SaysInForm (steps epoch.now number_value is_whole same) Value.MovingInt text.now result }
 {
-    Ok(Value::MovingInt(read_steps::<WholeNumbers>(alloc, text, epoch)?))
+    Ok(Value::MovingInt(read_moving::<WholeNumbers, Steady<Frac>>(alloc, text, epoch)?))
 }
 
 fn read_ttext(alloc: Global, text: &str, epoch: &Epoch) -> Result<Value, ReadText>
     ensures reading { SaysInForm (steps epoch.now quoted_value any_value same_bytes) Value.MovingText text.now result }
 {
-    Ok(Value::MovingText(read_steps::<Texts>(alloc, text, epoch)?))
+    Ok(Value::MovingText(read_moving::<Texts, Steady<Text>>(alloc, text, epoch)?))
 }
 
 /// The value of a type that a text says. Instants count from midnight UTC of the epoch's day.
@@ -112,8 +114,8 @@ pub fn write_value(value: &Value, epoch: &Epoch, into: &mut String) -> Result<()
         Value::Number(number) => write_number(number, into),
         Value::Text(text) => into.push_str(text.as_str()),
         Value::Moment(instant) => write_moment(instant, epoch, into),
-        Value::MovingBool(moving) => write_steps(moving, epoch, into),
-        Value::MovingInt(moving) => write_steps(moving, epoch, into),
-        Value::MovingText(moving) => write_steps(moving, epoch, into),
+        Value::MovingBool(moving) => write_moving(moving, epoch, into),
+        Value::MovingInt(moving) => write_moving(moving, epoch, into),
+        Value::MovingText(moving) => write_moving(moving, epoch, into),
     }
 }

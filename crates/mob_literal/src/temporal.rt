@@ -1,16 +1,19 @@
-//! Temporal literals of the step types, read.
-ghost use Rattle.std.specs.Prelude.{◌≡◌, option_map, Option, Some, None, Ok, Err, IfOk, MatchResult, true};
+//! Temporal literals, read.
+ghost use Rattle.std.specs.Prelude.{◌≡◌, option_map, Option, Some, None, Ok, Err, IfOk, MatchResult, true, false};
 ghost use Rattle.std.specs.List.{list_all};
 ghost use Rattle.mob_numeral.specs.Verdict.{Lit};
-ghost use Rattle.mob_literal.specs.Sound.{is_over_limit, traverse, written_of as written_in, fitting_sequence as fitting_in, fitting_all as all_fitting, clear_ends as ends_clear, is_before as precedes, are_in_order as in_order, written_sequences, steps};
+ghost use Rattle.mob_literal.specs.Sound.{is_over_limit, traverse, written_of as written_in, fitting_sequence as fitting_in, fitting_all as all_fitting, clear_ends as ends_clear, is_before as precedes, are_in_order as in_order, fitting_literal as fitting_in_literal, written_literals, literals};
+ghost use Rattle.mob_literal.specs.Sequences.{is_step as is_step_in};
+ghost use Rattle.mob_written.specs.Prefix.{admitted};
+ghost use Rattle.mob_slice.specs.CourseOf.{course_of};
 ghost use Rattle.mob_literal.specs.Flat.{made_sequence, made_all};
 
-use crate::steps::slices_of;
+use crate::slicing::slices_of;
 use mob_list::items::Items;
 use mob_normal::normal;
 use mob_scalar::{Epoch, ReadText};
-use mob_slice::{BaseValue, Moving, Slice, Steady};
-use mob_written::written::{Noted, Sequence, Written};
+use mob_slice::{Course, Moving, Slice};
+use mob_written::written::{Literal, Noted, Sequence, Written};
 use mob_written::{WrittenValue, all_neighbours, literal_of};
 use std::alloc::{AllocError, Global};
 
@@ -126,14 +129,14 @@ fn has_values<T: WrittenValue>(instants: &[Written<T::Base>]) -> bool
     instants.iter().all(|instant| T::has_value(&instant.value))
 }
 
-type Slices<B> = Vec<Slice<Steady<B>>>;
-
 /// The slices of a sequence, where it is sound.
-fn sequence_slices<T: WrittenValue>(
+fn sequence_slices<T: WrittenValue, C: Course<Base = T::Base> + Drop>(
     alloc: Global,
+    step: bool,
     sequence: Sequence<Written<T::Base>>,
-) -> Result<Option<Slices<T::Base>>, AllocError>
-    ensures made { IfOk result (λ o. option_map (λ v. v.items) o ≡ made_sequence T.has_value T.Base.is_same sequence) }
+) -> Result<Option<Vec<Slice<C>>>, AllocError>
+    requires moves { step ≡ false → C.STEADY ≡ false }
+    ensures made { IfOk result (λ o. option_map (λ v. v.items) o ≡ made_sequence T.has_value (course_of C.STEADY C.value_of C.start_of C.end_of C.make C.is_continued T.Base.is_same) step sequence) }
 {
     let Sequence {
         lower_inc,
@@ -143,19 +146,21 @@ fn sequence_slices<T: WrittenValue>(
     if !has_values::<T>(instants.as_slice()) {
         return Ok(None);
     }
-    slices_of(alloc, lower_inc, instants.into_vec(), upper_inc)
+    slices_of::<C>(alloc, step, lower_inc, instants.into_vec(), upper_inc)
 }
 
 /// The slices of all sequences, where each of them is sound.
-fn all_slices<T: WrittenValue>(
+fn all_slices<T: WrittenValue, C: Course<Base = T::Base> + Drop>(
     alloc: Global,
+    step: bool,
     sequences: Vec<Sequence<Written<T::Base>>>,
-) -> Result<Option<Slices<T::Base>>, AllocError>
-    ensures made { IfOk result (λ o. option_map (λ v. v.items) o ≡ made_all T.has_value T.Base.is_same sequences.items) }
+) -> Result<Option<Vec<Slice<C>>>, AllocError>
+    requires moves { step ≡ false → C.STEADY ≡ false }
+    ensures made { IfOk result (λ o. option_map (λ v. v.items) o ≡ made_all T.has_value (course_of C.STEADY C.value_of C.start_of C.end_of C.make C.is_continued T.Base.is_same) step sequences.items) }
 {
     let mut all = Vec::new(alloc);
     for sequence in sequences {
-        let Some(mut slices) = sequence_slices::<T>(alloc, sequence)? else {
+        let Some(mut slices) = sequence_slices::<T, C>(alloc, step, sequence)? else {
             return Ok(None);
         };
         all.append(&mut slices)?;
@@ -163,53 +168,97 @@ fn all_slices<T: WrittenValue>(
     Ok(Some(all))
 }
 
-/// The sequences that a literal says.
+/// The literal, where each of its numbers fits.
+fn fitting_literal<B: Drop>(
+    alloc: Global,
+    literal: Literal<Noted<B>>,
+) -> Result<Option<Literal<Written<B>>>, AllocError>
+    ensures fitting { IfOk result (λ o. o ≡ fitting_in_literal literal) }
+{
+    let Literal {
+        says_step,
+        sequences,
+    } = literal;
+    match fitting_all(alloc, sequences.into_vec())? {
+        Some(fitting) => Ok(Some(Literal {
+            says_step,
+            sequences: Items::from_vec(fitting),
+        })),
+        None => Ok(None),
+    }
+}
+
+/// The literal that a text is, as it is written, of a type whose courses are steady, or are not.
 ///
 /// The faults in order: `NotText` where the text is no literal, `Limit` where it has more than 100,000 instants, and
 /// `TooLarge` where a value or an instant does not fit.
-fn read_sequences<T: WrittenValue>(
+fn read_written<T: WrittenValue>(
     alloc: Global,
     text: &str,
     epoch: &Epoch,
-) -> Result<Vec<Sequence<Written<T::Base>>>, ReadText>
-    ensures reading { MatchResult result (λ written. Lit (written_sequences epoch.now T.shape) text.now (Ok written.items)) (λ fault. Lit (written_sequences epoch.now T.shape) text.now (Err fault)) }
+    steady: bool,
+) -> Result<Literal<Written<T::Base>>, ReadText>
+    ensures reading { Lit (written_literals epoch.now (admitted steady T.HAS_SRID) T.shape) text.now result }
 {
-    let noted = match literal_of::<T>(alloc, epoch, text.as_bytes()) {
+    let noted = match literal_of::<T>(alloc, epoch, steady, text.as_bytes()) {
         Ok(Some(noted)) => noted,
         Ok(None) => return Err(ReadText::NotText),
         Err(_) => return Err(ReadText::NoMemory),
     };
-    if is_long(noted.as_slice()) {
+    if is_long(noted.sequences.as_slice()) {
         return Err(ReadText::Limit);
     }
-    match fitting_all(alloc, noted) {
+    match fitting_literal(alloc, noted) {
         Ok(Some(written)) => Ok(written),
         Ok(None) => Err(ReadText::TooLarge),
         Err(_) => Err(ReadText::NoMemory),
     }
 }
 
-/// The step value that a literal stands for. Instants count from midnight UTC of the epoch's day.
+/// Whether a literal has step interpolation: where it says so, and where the courses of its type are steady.
+fn is_step(steady: bool, says_step: bool) -> bool
+    ensures value { result ≡ is_step_in steady says_step }
+    ensures moves { result ≡ false → steady ≡ false }
+{
+    if says_step { true } else { steady }
+}
+
+/// The slices of a literal, where each of its sequences is sound.
+fn literal_slices<T: WrittenValue, C: Course<Base = T::Base> + Drop>(
+    alloc: Global,
+    literal: Literal<Written<T::Base>>,
+) -> Result<Option<Vec<Slice<C>>>, AllocError>
+    ensures made { IfOk result (λ o. option_map (λ v. v.items) o ≡ made_all T.has_value (course_of C.STEADY C.value_of C.start_of C.end_of C.make C.is_continued T.Base.is_same) (is_step_in C.STEADY literal.says_step) literal.sequences) }
+{
+    let Literal {
+        says_step,
+        sequences,
+    } = literal;
+    let step = is_step(C::STEADY, says_step);
+    all_slices::<T, C>(alloc, step, sequences.into_vec())
+}
+
+/// The temporal value that a literal stands for. Instants count from midnight UTC of the epoch's day.
 ///
 /// The faults in order: `NotText` where the text is no literal, `Limit` where it has more than 100,000 instants,
 /// `TooLarge` where a value or an instant does not fit, and `Unsound` where the type does not have a value, the instants
-/// of a sequence do not rise, a sequence of one instant leaves an end out, one that leaves its upper end out does not
-/// keep its value until there, or two sequences are out of order or share an instant.
-pub fn read_steps<T: WrittenValue>(
+/// of a sequence do not rise, a sequence of one instant leaves an end out, one with step interpolation that leaves its
+/// upper end out does not keep its value until there, or two sequences are out of order or share an instant.
+pub fn read_moving<T: WrittenValue, C: Course<Base = T::Base> + Drop>(
     alloc: Global,
     text: &str,
     epoch: &Epoch,
-) -> Result<Moving<Steady<T::Base>>, ReadText>
-    ensures reading { Lit (steps epoch.now T.shape T.has_value T.Base.is_same) text.now result }
+) -> Result<Moving<C>, ReadText>
+    ensures reading { Lit (literals epoch.now T.HAS_SRID T.shape T.has_value (course_of C.STEADY C.value_of C.start_of C.end_of C.make C.is_continued T.Base.is_same)) text.now result }
 {
-    let written = match read_sequences::<T>(alloc, text, epoch) {
+    let written = match read_written::<T>(alloc, text, epoch, C::STEADY) {
         Ok(written) => written,
         Err(fault) => return Err(fault),
     };
-    if !are_in_order(written.as_slice()) {
+    if !are_in_order(written.sequences.as_slice()) {
         return Err(ReadText::Unsound);
     }
-    let slices = match all_slices::<T>(alloc, written) {
+    let slices = match literal_slices::<T, C>(alloc, written) {
         Ok(Some(slices)) => slices,
         Ok(None) => return Err(ReadText::Unsound),
         Err(_) => return Err(ReadText::NoMemory),

@@ -14,3 +14,4 @@ pub mod Entries
 pub mod Cut
 pub mod Sides
 pub mod Wholes
+pub mod CourseOf

@@ -4,27 +4,27 @@ use Rattle.std.specs.Prelude.{◌≢◌}
 use Rattle.std.proofs.lemmas.List.{drop_all}
 use Rattle.mob_language.specs.Language.{Text}
 use Rattle.mob_slice.specs.declared.slice.Slice.{Slice}
-use Rattle.mob_slice.specs.declared.steady.Steady.{Steady}
+use Rattle.mob_slice.specs.CourseOf.{CourseOf}
 use Rattle.mob_written.specs.Neighbours.{all_neighbours}
 use Rattle.mob_written.specs.Printed.{Style, is_long, shares_group, start_text, end_text, opening_text, closing_text, with_commas, instants_of, group_text, groups_of, put_in_group, groups_text, in_braces}
-use Rattle.mob_written.specs.Runs.{end_part, run_text, more_starts, all_share_group, is_one_group}
+use Rattle.mob_written.specs.FromLeft.{end_part, text_behind, more_starts, all_share_group, is_one_group}
 use Rattle.mob_written.proofs.Small.{false_true, cons_nil}
 
 -- a group without its opening bracket
-inside : {B : Type 0} → Style B → List (Slice (Steady B)) → Text
+inside : {C B : Type 0} → Style C B → List (Slice C) → Text
 inside style group = with_commas (instants_of style group) ++ closing_text group
 
 -- what stands behind the first group
-behind : {B : Type 0} → Style B → List (List (Slice (Steady B))) → Text
+behind : {C B : Type 0} → Style C B → List (List (Slice C)) → Text
 behind style [] = []
 behind style (group ∷ groups) = codes ", " ++ with_commas (map (group_text style) (group ∷ groups))
 
-listed-cons : {B : Type 0} (style : Style B) (x : Text) (groups : List (List (Slice (Steady B)))) → with_commas (x ∷ map (group_text style) groups) ≡ x ++ behind style groups
+listed-cons : {C B : Type 0} (style : Style C B) (x : Text) (groups : List (List (Slice C))) → with_commas (x ∷ map (group_text style) groups) ≡ x ++ behind style groups
 unfolding behind
 listed-cons style x [] = sym (append-nil x)
 listed-cons style x (group ∷ groups) = append_assoc x (codes ", ") (with_commas (map (group_text style) (group ∷ groups)))
 
-inside-one : {B : Type 0} (style : Style B) (s : Slice (Steady B)) → inside style (s ∷ []) ≡ start_text style s ++ end_part style s
+inside-one : {C B : Type 0} (style : Style C B) (s : Slice C) → inside style (s ∷ []) ≡ start_text style s ++ end_part style s
 unfolding inside
 inside-one style s = by_length (is_long s)
   where
@@ -32,7 +32,7 @@ inside-one style s = by_length (is_long s)
     by_length true = simp append_assoc
     by_length false = refl
 
-inside-more : {B : Type 0} (style : Style B) (s r : Slice (Steady B)) (group : List (Slice (Steady B))) → inside style (s ∷ r ∷ group) ≡ start_text style s ++ (codes ", " ++ inside style (r ∷ group))
+inside-more : {C B : Type 0} (style : Style C B) (s r : Slice C) (group : List (Slice C)) → inside style (s ∷ r ∷ group) ≡ start_text style s ++ (codes ", " ++ inside style (r ∷ group))
 unfolding inside
 inside-more style s r [] = by_length (is_long r)
   where
@@ -41,7 +41,7 @@ inside-more style s r [] = by_length (is_long r)
     by_length false = simp append_assoc
 inside-more style s r (q ∷ group) = simp append_assoc
 
-group-inside : {B : Type 0} (style : Style B) (group : List (Slice (Steady B))) → group_text style group ≡ opening_text group ++ inside style group
+group-inside : {C B : Type 0} (style : Style C B) (group : List (Slice C)) → group_text style group ≡ opening_text group ++ inside style group
 unfolding inside
 group-inside style group = append_assoc (opening_text group) (with_commas (instants_of style group)) (closing_text group)
 
@@ -52,114 +52,114 @@ next_group : (a b c o i d e f : Text) → i ++ d ≡ e ++ f → (a ++ b) ++ (c +
 next_group a b c o i d e f h = simp append_assoc (ap (λ (x : Text). a ++ (b ++ (c ++ (o ++ x)))) h)
 
 -- the first group begins with the first slice, and the text of all groups is the text written from the left
-record IsGrouped {B : Type 0} (style : Style B) (s : Slice (Steady B)) (rest : List (Slice (Steady B))) : Type 0 where
-  group : List (Slice (Steady B))
-  groups : List (List (Slice (Steady B)))
-  is : groups_of (s ∷ rest) ≡ (s ∷ group) ∷ groups
-  text : inside style (s ∷ group) ++ behind style groups ≡ start_text style s ++ run_text style s rest
+record IsGrouped {C B : Type 0} (style : Style C B) (s : Slice C) (rest : List (Slice C)) : Type 0 where
+  group : List (Slice C)
+  groups : List (List (Slice C))
+  is : groups_of style.course (s ∷ rest) ≡ (s ∷ group) ∷ groups
+  text : inside style (s ∷ group) ++ behind style groups ≡ start_text style s ++ text_behind style s rest
 
-put-true : {B : Type 0} (s r : Slice (Steady B)) (group : List (Slice (Steady B))) (groups : List (List (Slice (Steady B)))) → shares_group s r ≡ true → put_in_group s ((r ∷ group) ∷ groups) ≡ (s ∷ r ∷ group) ∷ groups
-put-true s r group groups h = rw h refl
+put-true : {C B : Type 0} (course : CourseOf C B) (s r : Slice C) (group : List (Slice C)) (groups : List (List (Slice C))) → shares_group course s r ≡ true → put_in_group course s ((r ∷ group) ∷ groups) ≡ (s ∷ r ∷ group) ∷ groups
+put-true course s r group groups h = rw h refl
 
-put-false : {B : Type 0} (s r : Slice (Steady B)) (group : List (Slice (Steady B))) (groups : List (List (Slice (Steady B)))) → shares_group s r ≡ false → put_in_group s ((r ∷ group) ∷ groups) ≡ (s ∷ []) ∷ (r ∷ group) ∷ groups
-put-false s r group groups h = rw h refl
+put-false : {C B : Type 0} (course : CourseOf C B) (s r : Slice C) (group : List (Slice C)) (groups : List (List (Slice C))) → shares_group course s r ≡ false → put_in_group course s ((r ∷ group) ∷ groups) ≡ (s ∷ []) ∷ (r ∷ group) ∷ groups
+put-false course s r group groups h = rw h refl
 
-grouped : {B : Type 0} (style : Style B) (s : Slice (Steady B)) (rest : List (Slice (Steady B))) → IsGrouped style s rest
+grouped : {C B : Type 0} (style : Style C B) (s : Slice C) (rest : List (Slice C)) → IsGrouped style s rest
 unfolding behind
 grouped style s [] = record { group = []; groups = []; is = refl; text = append-nil (inside style (s ∷ [])) ∙ inside-one style s }
-grouped style s (r ∷ rest) = by_next (shares_group s r) refl (grouped style r rest)
+grouped style s (r ∷ rest) = by_next (shares_group style.course s r) refl (grouped style r rest)
   where
-    by_next : (on : Bool) → shares_group s r ≡ on → IsGrouped style r rest → IsGrouped style s (r ∷ rest)
+    by_next : (on : Bool) → shares_group style.course s r ≡ on → IsGrouped style r rest → IsGrouped style s (r ∷ rest)
     by_next true h g = record {
       group = r ∷ g.group;
       groups = g.groups;
-      is = ap (put_in_group s) g.is ∙ put-true s r g.group g.groups h;
-      text = rw (h, inside-more style s r g.group) (same_group (start_text style s) (codes ", ") (inside style (r ∷ g.group)) (behind style g.groups) (start_text style r) (run_text style r rest) g.text);
+      is = ap (put_in_group style.course s) g.is ∙ put-true style.course s r g.group g.groups h;
+      text = rw (h, inside-more style s r g.group) (same_group (start_text style s) (codes ", ") (inside style (r ∷ g.group)) (behind style g.groups) (start_text style r) (text_behind style r rest) g.text);
     }
     by_next false h g = record {
       group = [];
       groups = (r ∷ g.group) ∷ g.groups;
-      is = ap (put_in_group s) g.is ∙ put-false s r g.group g.groups h;
-      text = rw (h, inside-one style s, listed-cons style (group_text style (r ∷ g.group)) g.groups, group-inside style (r ∷ g.group)) (next_group (start_text style s) (end_part style s) (codes ", ") (opening_text (r ∷ [])) (inside style (r ∷ g.group)) (behind style g.groups) (start_text style r) (run_text style r rest) g.text);
+      is = ap (put_in_group style.course s) g.is ∙ put-false style.course s r g.group g.groups h;
+      text = rw (h, inside-one style s, listed-cons style (group_text style (r ∷ g.group)) g.groups, group-inside style (r ∷ g.group)) (next_group (start_text style s) (end_part style s) (codes ", ") (opening_text (r ∷ [])) (inside style (r ∷ g.group)) (behind style g.groups) (start_text style r) (text_behind style r rest) g.text);
     }
 
-pub groups-run : {B : Type 0} (style : Style B) (s : Slice (Steady B)) (rest : List (Slice (Steady B))) → with_commas (map (group_text style) (groups_of (s ∷ rest))) ≡ opening_text (s ∷ []) ++ (start_text style s ++ run_text style s rest)
-groups-run {B} style s rest =
+pub groups-from-left : {C B : Type 0} (style : Style C B) (s : Slice C) (rest : List (Slice C)) → with_commas (map (group_text style) (groups_of style.course (s ∷ rest))) ≡ opening_text (s ∷ []) ++ (start_text style s ++ text_behind style s rest)
+groups-from-left {C} style s rest =
     let g = grouped style s rest in
-    ap (λ (gs : List (List (Slice (Steady B)))). with_commas (map (group_text style) gs)) g.is
+    ap (λ (gs : List (List (Slice C))). with_commas (map (group_text style) gs)) g.is
     ∙ listed-cons style (group_text style (s ∷ g.group)) g.groups
     ∙ ap (λ (x : Text). x ++ behind style g.groups) (group-inside style (s ∷ g.group))
     ∙ append_assoc (opening_text (s ∷ g.group)) (inside style (s ∷ g.group)) (behind style g.groups)
     ∙ ap (λ (x : Text). opening_text (s ∷ []) ++ x) g.text
 
 -- slices that all go on are one group, and no others are
-record IsCounted {B : Type 0} (s : Slice (Steady B)) (rest : List (Slice (Steady B))) : Type 0 where
-  group : List (Slice (Steady B))
-  groups : List (List (Slice (Steady B)))
-  is : groups_of (s ∷ rest) ≡ (s ∷ group) ∷ groups
-  one : all_share_group s rest ≡ true → groups ≡ []
-  more : all_share_group s rest ≡ false → groups ≢ []
+record IsCounted {C B : Type 0} (course : CourseOf C B) (s : Slice C) (rest : List (Slice C)) : Type 0 where
+  group : List (Slice C)
+  groups : List (List (Slice C))
+  is : groups_of course (s ∷ rest) ≡ (s ∷ group) ∷ groups
+  one : all_share_group course s rest ≡ true → groups ≡ []
+  more : all_share_group course s rest ≡ false → groups ≢ []
 
-counted : {B : Type 0} (s : Slice (Steady B)) (rest : List (Slice (Steady B))) → IsCounted s rest
-counted s [] = record { group = []; groups = []; is = refl; one = λ h. refl; more = λ h. absurd cc }
-counted s (r ∷ rest) = by_next (shares_group s r) refl (counted r rest)
+counted : {C B : Type 0} (course : CourseOf C B) (s : Slice C) (rest : List (Slice C)) → IsCounted course s rest
+counted course s [] = record { group = []; groups = []; is = refl; one = λ h. refl; more = λ h. absurd cc }
+counted course s (r ∷ rest) = by_next (shares_group course s r) refl (counted course r rest)
   where
-    by_next : (on : Bool) → shares_group s r ≡ on → IsCounted r rest → IsCounted s (r ∷ rest)
+    by_next : (on : Bool) → shares_group course s r ≡ on → IsCounted course r rest → IsCounted course s (r ∷ rest)
     by_next true h g = record {
       group = r ∷ g.group;
       groups = g.groups;
-      is = ap (put_in_group s) g.is ∙ put-true s r g.group g.groups h;
+      is = ap (put_in_group course s) g.is ∙ put-true course s r g.group g.groups h;
       one = λ k. g.one (rw h at k);
       more = λ k. g.more (rw h at k);
     }
     by_next false h g = record {
       group = [];
       groups = (r ∷ g.group) ∷ g.groups;
-      is = ap (put_in_group s) g.is ∙ put-false s r g.group g.groups h;
+      is = ap (put_in_group course s) g.is ∙ put-false course s r g.group g.groups h;
       one = λ k. absurd (false_true (rw h at k));
       more = λ k. λ e. absurd (cons_nil (r ∷ g.group) g.groups e);
     }
 
 -- slices of which each two neighbours go on are one group, where there is one
-pub one_group : {B : Type 0} (slices : List (Slice (Steady B))) → 1 ≤ length slices → all_neighbours shares_group slices ≡ is_one_group slices
-one_group [] h = absurd (omega (arith, h))
-one_group (s ∷ rest) h = refl
+pub one_group : {C B : Type 0} (course : CourseOf C B) (slices : List (Slice C)) → 1 ≤ length slices → all_neighbours (shares_group course) slices ≡ is_one_group course slices
+one_group course [] h = absurd (omega (arith, h))
+one_group course (s ∷ rest) h = refl
 
 -- one group, written alone
-pub group-alone : {B : Type 0} (style : Style B) (slices : List (Slice (Steady B))) → is_one_group slices ≡ true → groups_text style (groups_of slices) ≡ with_commas (map (group_text style) (groups_of slices))
+pub group-alone : {C B : Type 0} (style : Style C B) (slices : List (Slice C)) → is_one_group style.course slices ≡ true → groups_text style (groups_of style.course slices) ≡ with_commas (map (group_text style) (groups_of style.course slices))
 group-alone style [] h = absurd cc
 group-alone style (s ∷ rest) h =
-    let c = counted s rest in
+    let c = counted style.course s rest in
     rw (c.is, c.one h) refl
 
 -- no group or some, written in braces
-pub groups-braced : {B : Type 0} (style : Style B) (slices : List (Slice (Steady B))) → is_one_group slices ≡ false → groups_text style (groups_of slices) ≡ in_braces (with_commas (map (group_text style) (groups_of slices)))
+pub groups-braced : {C B : Type 0} (style : Style C B) (slices : List (Slice C)) → is_one_group style.course slices ≡ false → groups_text style (groups_of style.course slices) ≡ in_braces (with_commas (map (group_text style) (groups_of style.course slices)))
 groups-braced style [] h = refl
-groups-braced {B} style (s ∷ rest) h =
-    let c = counted s rest in
+groups-braced {C} style (s ∷ rest) h =
+    let c = counted style.course s rest in
     rw c.is (by_groups c.group c.groups (c.more h))
   where
-    by_groups : (group : List (Slice (Steady B))) (groups : List (List (Slice (Steady B)))) → groups ≢ [] → groups_text style ((s ∷ group) ∷ groups) ≡ in_braces (with_commas (map (group_text style) ((s ∷ group) ∷ groups)))
+    by_groups : (group : List (Slice C)) (groups : List (List (Slice C))) → groups ≢ [] → groups_text style ((s ∷ group) ∷ groups) ≡ in_braces (with_commas (map (group_text style) ((s ∷ group) ∷ groups)))
     by_groups group [] n = absurd (n refl)
     by_groups group (next ∷ groups) n = refl
 
 -- what a loop over the slices has written where it ends
-pub groups_done : {B : Type 0} (style : Style B) (slices : List (Slice (Steady B))) (first last : Slice (Steady B)) (rest : List (Slice (Steady B))) (i : ℕ) (old opened started now new : Text)
+pub groups_done : {C B : Type 0} (style : Style C B) (slices : List (Slice C)) (first last : Slice C) (rest : List (Slice C)) (i : ℕ) (old opened started now new : Text)
     → slices ≡ first ∷ rest → length rest ≤ i → opened ≡ old ++ opening_text (first ∷ []) → started ≡ opened ++ start_text style first
-    → now ++ run_text style last (drop i rest) ≡ started ++ run_text style first rest → new ≡ now ++ end_part style last
-    → new ≡ old ++ with_commas (map (group_text style) (groups_of slices))
+    → now ++ text_behind style last (drop i rest) ≡ started ++ text_behind style first rest → new ≡ now ++ end_part style last
+    → new ≡ old ++ with_commas (map (group_text style) (groups_of style.course slices))
 groups_done style slices first last rest i old opened started now new is le opens start written ends =
     let none = drop_all i rest le in
     let done = rw none at written in
-    ends ∙ done ∙ rw (start, opens, is, groups-run style first rest) (simp append_assoc)
+    ends ∙ done ∙ rw (start, opens, is, groups-from-left style first rest) (simp append_assoc)
 
 -- the starts of slices, with a comma between each two
-starts_more : {B : Type 0} (style : Style B) (s : Slice (Steady B)) (rest : List (Slice (Steady B))) → with_commas (map (start_text style) (s ∷ rest)) ≡ start_text style s ++ more_starts style rest
+starts_more : {C B : Type 0} (style : Style C B) (s : Slice C) (rest : List (Slice C)) → with_commas (map (start_text style) (s ∷ rest)) ≡ start_text style s ++ more_starts style rest
 starts_more style s [] = sym (append-nil (start_text style s))
 starts_more style s (r ∷ rest) =
     ap (λ (x : Text). start_text style s ++ codes ", " ++ x) (starts_more style r rest) ∙ simp append_assoc
 
-pub starts_done : {B : Type 0} (style : Style B) (slices : List (Slice (Steady B))) (first : Slice (Steady B)) (rest : List (Slice (Steady B))) (i : ℕ) (old started now : Text)
+pub starts_done : {C B : Type 0} (style : Style C B) (slices : List (Slice C)) (first : Slice C) (rest : List (Slice C)) (i : ℕ) (old started now : Text)
     → slices ≡ first ∷ rest → length rest ≤ i → started ≡ old ++ start_text style first
     → now ++ more_starts style (drop i rest) ≡ started ++ more_starts style rest
     → now ≡ old ++ with_commas (map (start_text style) slices)

@@ -1,4 +1,5 @@
 pub mod Small
 pub mod Parted
+pub mod Prefixes
 pub mod LiteralExact
 pub mod Groups

@@ -1,16 +1,21 @@
 -- The readers of temporal literals read exactly their texts, over any exact reader of values.
-use Rattle.std.proofs.Common.{◌≡◌, ℕ, ℤ, [], ◌∷◌, ◌++◌, map, Bool, true, false, Option, None, refl, sym, ap, subst, ◌∙◌, append_assoc, rules, codes}
-use Rattle.std.specs.Prelude.{◌||◌, nat_eq}
+use Rattle.std.proofs.Common.{◌≡◌, ℕ, ℤ, [], ◌∷◌, ◌++◌, map, Bool, true, false, List, Option, Some, None, refl, sym, ap, subst, ◌∙◌, append_assoc, rules, codes}
+use Rattle.std.specs.Prelude.{◌&&◌, ◌||◌, not, nat_eq}
 use Rattle.mob_language.specs.Language.{Text, Language, ◌▷◌, ◌∣◌, Means, Word, AreAll, Separated, blanks, is_blank, in_middle}
-use Rattle.mob_language.specs.Readers.{TextReader, means_at, separated_at, items_at}
-use Rattle.mob_language.proofs.Exact.{Exact, Stops, Any, then_exact, or_exact, means_exact, word_exact, one_exact, many_exact, many_again}
-use Rattle.mob_language.proofs.Heads.{NoHead, Apart, HasByte, stops_less, byte_stops, means_head, one_head, or_head, then_byte, means_byte, or_byte, then_byte_stops, word_then_head, one_then_head, byte_head, one_byte, word_byte, spaced_exact, IsEnd, within_exact}
+use Rattle.mob_language.specs.Readers.{TextReader, ◌>>=◌, means_at, separated_at, items_at}
+use Rattle.mob_language.proofs.Exact.{Exact, Stops, Any, bind_some, then_exact, or_exact, means_exact, word_exact, one_exact, many_exact, many_again}
+use Rattle.mob_language.proofs.Heads.{NoHead, Apart, HasByte, stops_less, exact_less, byte_stops, means_head, one_head, or_head, then_byte, means_byte, or_byte, then_byte_stops, word_then_head, one_then_head, byte_head, one_byte, word_byte, spaced_exact, IsEnd, within_exact}
 use Rattle.mob_language.proofs.Lists.{separated_exact}
 use Rattle.mob_scalar.proofs.MomentExact.{Closes, moment_exact}
 use Rattle.mob_numeral.proofs.WholeTexts.{back_nil, front_nil}
 use Rattle.mob_scalar.proofs.WholeTexts.{moment_blank, moment_byte, blanks_close}
 use Rattle.mob_scalar.proofs.Closing.{Ends, sign_closes}
-use Rattle.mob_written.specs.Literal.{at_sign, comma, noted_of, noted, is_open, is_close, opening, closing, sequence_of, sequence, alone, members, braced, one_sequence, one_instant, literal, temporal, at_sign_at, comma_at, noted_at, opening_at, closing_at, instants_at, sequence_at, sequences_at, members_at, open_brace_at, close_brace_at, braced_at, temporal_literal_at, temporal_at}
+use Rattle.mob_written.specs.Literal.{at_sign, comma, noted_of, noted, is_open, is_close, opening, closing, sequence_of, sequence, alone, members, braced, one_sequence, one_instant, literal, Prefixed, temporal, at_sign_at, comma_at, noted_at, opening_at, closing_at, instants_at, sequence_at, sequences_at, members_at, open_brace_at, close_brace_at, braced_at, temporal_literal_at, with_sequences, prefixed_at, temporal_at}
+use Rattle.mob_written.specs.declared.written.Prefixes.{Prefixes}
+use Rattle.mob_written.specs.declared.written.Sequence.{Sequence}
+use Rattle.mob_written.specs.declared.written.Literal.{Literal}
+use Rattle.mob_written.specs.Prefix.{remaining, says_step, begins_prefix, prefixes_at}
+use Rattle.mob_written.proofs.Prefixes.{pair_is, prefixes_stop, prefixes_read, prefixes_sound, step_said}
 use Rattle.mob_written.specs.ValueText.{IsValueText, begins_no_value}
 
 close_blank : Apart is_close is_blank
@@ -137,7 +142,7 @@ sequence_exact {A} {entry} {reader} e = means_exact sequence_of (then_byte_stops
     (then_byte closing (list_byte entry comma e.has_byte)))
 
 abbrev not_open : ℕ → Bool
-not_open c = is_blank c || nat_eq c 123
+not_open c = nat_eq c 123 || is_blank c
 
 open_other : Apart is_open not_open
 open_other c e = search rules
@@ -241,14 +246,75 @@ literal_exact {A} {entry} {reader} e = or_exact (braced_exact e)
     others_byte : HasByte (Means one_sequence (sequence entry) ∣ Means one_instant entry)
     others_byte = or_byte (means_byte one_sequence (sequence_byte entry)) (means_byte one_instant e.has_byte)
 
-literal_head : {A : Type 0} {entry : Language A} {reader : TextReader A} → IsEntry entry reader → NoHead (literal entry) is_blank
-literal_head {entry = entry} e = or_head (means_head (byte_head _ (word_then_head 123 [] is_blank refl) (then_byte blanks (word_byte 123 []))))
+-- ---- a literal behind its prefixes
+
+abbrev pub Behind : Text → Type 0
+Behind rest = Any rest × (Any rest × Closes rest)
+
+literal_blank : {A : Type 0} {entry : Language A} {reader : TextReader A} → IsEntry entry reader → NoHead (literal entry) is_blank
+literal_blank {entry = entry} e = or_head (means_head (byte_head _ (word_then_head 123 [] is_blank refl) (then_byte blanks (word_byte 123 []))))
     (or_head (means_head (head_less other_blank (sequence_head entry))) (means_head (head_less mark_blank e.well_begun)))
 
 literal_byte : {A : Type 0} {entry : Language A} {reader : TextReader A} → IsEntry entry reader → HasByte (literal entry)
 literal_byte {entry = entry} e = or_byte (means_byte in_middle (then_byte _ (then_byte blanks (word_byte 123 []))))
     (or_byte (means_byte one_sequence (sequence_byte entry)) (means_byte one_instant e.has_byte))
 
-pub temporal_exact : {A : Type 0} {entry : Language A} {reader : TextReader A} → IsEntry entry reader → Exact (temporal entry) (temporal_at reader) IsEnd
+regrouped : (text a b rest : Text) → text ≡ a ++ b → text ++ rest ≡ a ++ (b ++ rest)
+regrouped text a b rest e = ap (λ (t : Text). t ++ rest) e ∙ append_assoc a b rest
+
+said_so : {A : Type 0} (s : Bool) (v : Literal A) → s ≡ v.says_step → ◌≡◌ {A = Literal A} (record { says_step = s; sequences = v.sequences }) v
+said_so s v e = ap (λ (b : Bool). record { says_step = b; sequences = v.sequences }) e
+
+prefixed_exact : {A : Type 0} (admitted : Prefixes) {entry : Language A} {reader : TextReader A} → IsEntry entry reader → Exact (Prefixed admitted entry) (prefixed_at admitted reader) Behind
+unfolding prefixed_at
+prefixed_exact {A} admitted {entry} {reader} e = record {
+  sound = λ text rest v read.
+      let a = bind_some (prefixes_at admitted text) (λ x. means_at (with_sequences admitted x.0) (temporal_literal_at reader) x.1) (v, rest) read in
+      let b = bind_some (temporal_literal_at reader a.0.1) (λ x. Some (with_sequences admitted a.0.0 x.0, x.1)) (v, rest) a.2 in
+      let are = prefixes_sound admitted text a.0.0 a.0.1 a.1 in
+      let is = pair_is (with_sequences admitted a.0.0 b.0.0) v b.0.1 rest b.2 in
+      let l = (literal_exact e).sound a.0.1 rest b.0.0 (b.1 ∙ ap (λ (t : Text). Some (b.0.0, t)) is.1) in
+      let left : remaining admitted are.said ≡ a.0.0 = are.left_is in
+      let said : (admitted.step && not a.0.0.step) ≡ says_step are.said = ap (λ (x : Prefixes). admitted.step && not x.step) (sym left) ∙ step_said admitted are.said are.front are.prefixes in
+      record {
+        front = are.front ++ l.front;
+        whole = are.whole ∙ ap (λ (t : Text). are.front ++ t) l.whole ∙ sym (append_assoc are.front l.front rest);
+        said = record {
+          front = are.front;
+          back = l.front;
+          whole = refl;
+          said = are.said;
+          prefixes = are.prefixes;
+          behind = subst (λ (x : Prefixes). Stops (begins_prefix x) l.front) (sym left) (fewer (begins_prefix a.0.0) l.front rest (subst (Stops (begins_prefix a.0.0)) l.whole are.stops));
+          sequences = subst (literal entry l.front) (ap (λ (x : Literal A). x.sequences) is.0) l.said;
+          step = sym (ap (λ (x : Literal A). x.says_step) is.0) ∙ said;
+        };
+      };
+  complete = λ text rest v said after.
+      let byte = literal_byte e said.back v.sequences said.sequences in
+      let blank : Stops is_blank (said.back ++ rest) = byte_stops is_blank said.back rest (literal_blank e said.back v.sequences said.sequences) byte in
+      let stops : Stops (begins_prefix (remaining admitted said.said)) (said.back ++ rest) = byte_stops _ said.back rest said.behind byte in
+      let read = prefixes_read admitted said.said said.front (said.back ++ rest) said.prefixes blank stops in
+      let lit = (literal_exact e).complete said.back rest v.sequences said.sequences after in
+      let is = said_so (admitted.step && not (remaining admitted said.said).step) v (step_said admitted said.said said.front said.prefixes ∙ sym said.step) in
+      ap (prefixed_at admitted reader) (regrouped text said.front said.back rest said.whole)
+      ∙ bound (prefixes_at admitted (said.front ++ (said.back ++ rest))) (λ x. means_at (with_sequences admitted x.0) (temporal_literal_at reader) x.1) (remaining admitted said.said, said.back ++ rest) read
+      ∙ ap (λ (o : Option (List (Sequence A) × Text)). o >>= λ x. Some (with_sequences admitted (remaining admitted said.said) x.0, x.1)) lit
+      ∙ ap (λ (w : Literal A). Some (w, rest)) is;
+} where
+  bound : {X Y : Type 0} (o : Option X) (f : X → Option Y) (x : X) → o ≡ Some x → (o >>= f) ≡ f x
+  bound o f x e = rw e refl
+
+  fewer : (test : ℕ → Bool) (text more : Text) → Stops test (text ++ more) → Stops test text
+  fewer test [] more h = tt
+  fewer test (c ∷ cs) more h = h
+
+prefixed_blank : {A : Type 0} (admitted : Prefixes) {entry : Language A} {reader : TextReader A} → IsEntry entry reader → NoHead (Prefixed admitted entry) is_blank
+prefixed_blank admitted e text v said = subst (Stops is_blank) (sym said.whole) (prefixes_stop admitted said.said said.front said.back said.prefixes (literal_blank e said.back v.sequences said.sequences))
+
+prefixed_byte : {A : Type 0} (admitted : Prefixes) {entry : Language A} {reader : TextReader A} → IsEntry entry reader → HasByte (Prefixed admitted entry)
+prefixed_byte admitted e text v said none = literal_byte e said.back v.sequences said.sequences (back_nil said.front said.back (sym said.whole ∙ none))
+
+pub temporal_exact : {A : Type 0} (admitted : Prefixes) {entry : Language A} {reader : TextReader A} → IsEntry entry reader → Exact (temporal admitted entry) (temporal_at admitted reader) IsEnd
 unfolding temporal_at
-temporal_exact e = within_exact (literal_exact e) (literal_head e) (literal_byte e) (λ bs each. (tt, (tt, blanks_close bs each)))
+temporal_exact admitted e = within_exact (prefixed_exact admitted e) (prefixed_blank admitted e) (prefixed_byte admitted e) (λ bs each. (tt, (tt, blanks_close bs each)))

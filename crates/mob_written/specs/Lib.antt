@@ -1,8 +1,9 @@
 pub mod Fitting
+pub mod Prefix
 pub mod Literal
 pub mod ValueText
 pub mod Values
 pub mod Neighbours
 pub mod Printed
-pub mod Runs
+pub mod FromLeft
 pub mod Style

@@ -2,16 +2,21 @@
 --
 -- A literal is one `value@moment`, a set of them in braces, a sequence of them between brackets, or sequences in braces. Blanks may
 -- stand at both ends, and on both sides of each sign that stands outside a value and a moment. An instant that stands alone or in a
--- set stands for the sequence of that instant alone, so each literal stands for a list of sequences.
-use Rattle.std.specs.Prelude.{ℕ, List, [], ◌∷◌, map, codes, Bool, true, ◌||◌, nat_eq, Option, ℤ}
+-- set stands for the sequence of that instant alone, so each literal stands for a list of sequences. What may stand before a literal
+-- says whether its sequences have step interpolation.
+use Rattle.std.specs.Prelude.{◌≡◌, ℕ, List, [], ◌∷◌, ◌++◌, map, codes, Bool, true, ◌||◌, ◌&&◌, not, nat_eq, Option, ℤ}
 use Rattle.mob_language.specs.Language.{Text, Language, ◌▷◌, ◌∣◌, Means, Word, OneOf, Separated, blanks, spaced, in_middle, within_blanks}
-use Rattle.mob_language.specs.Readers.{TextReader, then_at, or_at, means_at, word_at, one_at, separated_at, blanks_at, spaced_at, within_blanks_at}
+use Rattle.mob_language.specs.Readers.{TextReader, ◌>>=◌, then_at, or_at, means_at, word_at, one_at, separated_at, blanks_at, spaced_at, within_blanks_at}
+use Rattle.mob_language.proofs.Exact.{Stops}
 use Rattle.mob_scalar.specs.declared.stamp.Stamp.{Stamp}
 use Rattle.mob_scalar.specs.Moment.{moment, instant}
 use Rattle.mob_scalar.specs.MomentReaders.{moment_at}
 use Rattle.mob_written.specs.declared.written.Noted.{Noted}
 use Rattle.mob_written.specs.declared.written.Sequence.{Sequence}
+use Rattle.mob_written.specs.declared.written.Literal.{Literal}
 use Rattle.mob_written.specs.Fitting.{fitting}
+use Rattle.mob_written.specs.declared.written.Prefixes.{Prefixes}
+use Rattle.mob_written.specs.Prefix.{Prefix, ArePrefixes, remaining, says_step, begins_prefix, prefixes_at}
 
 abbrev pub at_sign : Language (Unit {0})
 at_sign = spaced (codes "@")
@@ -68,9 +73,20 @@ one_instant i = alone i ∷ []
 abbrev pub literal : {A : Type 0} → (Text → A → Type 0) → Language (List (Sequence A))
 literal entry = braced entry ∣ (Means one_sequence (sequence entry) ∣ Means one_instant entry)
 
--- a literal, with blanks at both ends
-abbrev pub temporal : {A : Type 0} → (Text → A → Type 0) → Language (List (Sequence A))
-temporal entry = within_blanks (literal entry)
+-- a literal behind prefixes that are admitted
+pub record Prefixed {A : Type 0} (admitted : Prefixes) (entry : Text → A → Type 0) (text : Text) (v : Literal A) : Type 0 where
+  pub front : Text
+  pub back : Text
+  pub whole : text ≡ front ++ back
+  pub said : List Prefix
+  pub prefixes : ArePrefixes admitted front said
+  pub behind : Stops (begins_prefix (remaining admitted said)) back
+  pub sequences : literal entry back v.sequences
+  pub step : v.says_step ≡ says_step said
+
+-- a literal of a type that admits these prefixes, with blanks at both ends
+abbrev pub temporal : {A : Type 0} → Prefixes → (Text → A → Type 0) → Language (Literal A)
+temporal admitted entry = within_blanks (Prefixed admitted entry)
 
 -- ---- the readers of these languages
 
@@ -113,5 +129,12 @@ braced_at entry = means_at in_middle (then_at open_brace_at (then_at (members_at
 unfoldable pub temporal_literal_at : {A : Type 0} → TextReader A → TextReader (List (Sequence A))
 temporal_literal_at entry = or_at (braced_at entry) (or_at (means_at one_sequence (sequence_at entry)) (means_at one_instant entry))
 
-unfoldable pub temporal_at : {A : Type 0} → TextReader A → TextReader (List (Sequence A))
-temporal_at entry = within_blanks_at (temporal_literal_at entry)
+-- step interpolation is said where it was admitted, and is not left
+abbrev pub with_sequences : {A : Type 0} → Prefixes → Prefixes → List (Sequence A) → Literal A
+with_sequences admitted left qs = record { says_step = admitted.step && not left.step; sequences = qs }
+
+unfoldable pub prefixed_at : {A : Type 0} → Prefixes → TextReader A → TextReader (Literal A)
+prefixed_at admitted entry text = prefixes_at admitted text >>= λ x. means_at (with_sequences admitted x.0) (temporal_literal_at entry) x.1
+
+unfoldable pub temporal_at : {A : Type 0} → Prefixes → TextReader A → TextReader (Literal A)
+temporal_at admitted entry = within_blanks_at (prefixed_at admitted entry)

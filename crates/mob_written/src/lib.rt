@@ -1,8 +1,9 @@
-//! Temporal literals as they are written, and step values as they print.
+//! Temporal literals as they are written, and temporal values as they print.
 #![tactic(auto)]
 
 mod literal;
 mod neighbours;
+mod prefix;
 pub mod printing;
 pub mod values;
 pub mod written;

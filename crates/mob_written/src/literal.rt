@@ -1,13 +1,15 @@
 //! Temporal literals, as they are written.
-ghost use Rattle.std.specs.Prelude.{◌≡◌, ℕ, map, option_map, List, [], ◌∷◌, Option, Some, None, IfOk, Bool, true};
+ghost use Rattle.std.specs.Prelude.{◌≡◌, ℕ, map, option_map, List, [], ◌∷◌, Option, Some, None, IfOk, Bool, true, ◌&&◌, not};
 ghost use Rattle.mob_language.specs.Readers.{TextReader, all_of, means_at, separated_at as separated_in, spaced_at as spaced_in};
 ghost use Rattle.mob_scalar.specs.Calendar.{is_civil};
 ghost use Rattle.mob_scalar.specs.Moment.{instant, IsPartSmall};
 ghost use Rattle.mob_written.specs.Fitting.{fitting};
-ghost use Rattle.mob_written.specs.Literal.{alone as alone_of, one_sequence, one_instant, comma_at as comma_in, noted_at as noted_in, opening_at as opening_in, closing_at as closing_in, instants_at as instants_in, sequence_at as sequence_in, sequences_at as sequences_in, members_at as members_in, braced_at as braced_in, temporal_literal_at, temporal_at as temporal_in};
+ghost use Rattle.mob_written.specs.Literal.{alone as alone_of, one_sequence, one_instant, comma_at as comma_in, noted_at as noted_in, opening_at as opening_in, closing_at as closing_in, instants_at as instants_in, sequence_at as sequence_in, sequences_at as sequences_in, members_at as members_in, braced_at as braced_in, temporal_literal_at, prefixed_at as prefixed_in, temporal_at as temporal_in};
+ghost use Rattle.mob_written.specs.Prefix.{admitted};
 ghost use Rattle.mob_written.specs.ValueText.{IsValueText};
 
-use crate::written::{Noted, Sequence};
+use crate::prefix::prefixes_at;
+use crate::written::{Literal, Noted, Prefixes, Sequence};
 use mob_frac::Frac;
 use mob_list::items::Items;
 use mob_scalar::{Epoch, Stamp, blanks, moment_at, place};
@@ -24,6 +26,11 @@ pub trait WrittenValue {
 
     /// The value of the text in front, and what stands behind it.
     ghost reader: { List ℕ → Option (Option Self.Base × List ℕ) };
+
+    /// Whether `SRID=0;` may stand before a literal.
+    const HAS_SRID: bool;
+
+    ghost HAS_SRID: { Bool };
 
     /// What may stand behind a text.
     ghost follows: { List ℕ → Type 0 };
@@ -46,7 +53,7 @@ pub trait WrittenValue {
 }
 
 /// What stands behind the sign and the blanks on both sides of it.
-fn spaced_at(sign: u8, bytes: &[u8]) -> Option<&[u8]>
+pub fn spaced_at(sign: u8, bytes: &[u8]) -> Option<&[u8]>
     ensures read { option_map (λ rest. (tt, rest.now)) result ≡ spaced_in (sign ∷ []) bytes.now }
 {
     match blanks(bytes).1 {
@@ -289,7 +296,7 @@ fn one_instant_at<'a, T: WrittenValue>(
 }
 
 #[tactic(auto, unfolding(crate::specs::Literal::temporal_literal_at))]
-fn temporal_literal_at<'a, T: WrittenValue>(
+fn sequences_of<'a, T: WrittenValue>(
     alloc: Global,
     epoch: &Epoch,
     bytes: &'a [u8],
@@ -305,20 +312,54 @@ fn temporal_literal_at<'a, T: WrittenValue>(
     one_instant_at::<T>(alloc, epoch, bytes)
 }
 
-/// The literal that all of the bytes are, as it is written.
+/// Whether a prefix was said: it was admitted, and is not left.
+fn is_said(admitted: bool, left: bool) -> bool
+    ensures value { result ≡ (admitted && not left) }
+{
+    admitted && !left
+}
+
+/// A literal behind its prefixes, and what stands behind it. `Interp=Step;` may be one where the courses are not steady.
+#[tactic(auto, unfolding(crate::specs::Literal::prefixed_at))]
+fn prefixed_at<'a, T: WrittenValue>(
+    alloc: Global,
+    epoch: &Epoch,
+    steady: bool,
+    bytes: &'a [u8],
+) -> Result<Option<(Literal<Noted<T::Base>>, &'a [u8])>, AllocError>
+    ensures read { IfOk result (λ o. option_map (λ x. (x.0, x.1.now)) o ≡ prefixed_in (admitted steady T.HAS_SRID) (noted_in epoch.now T.reader) bytes.now) }
+{
+    let step = !steady;
+    let srid = T::HAS_SRID;
+    let Some((left, rest)) = prefixes_at(Prefixes { step, srid }, bytes) else {
+        return Ok(None);
+    };
+    let says_step = is_said(step, left.step);
+    let Some((sequences, rest)) = sequences_of::<T>(alloc, epoch, rest)? else {
+        return Ok(None);
+    };
+    let literal = Literal {
+        says_step,
+        sequences: Items::from_vec(sequences),
+    };
+    Ok(Some((literal, rest)))
+}
+
+/// The literal that all of the bytes are, as it is written, of a type whose courses are steady, or are not.
 #[tactic(auto, unfolding(crate::specs::Literal::temporal_at))]
 pub fn literal_of<T: WrittenValue>(
     alloc: Global,
     epoch: &Epoch,
+    steady: bool,
     bytes: &[u8],
-) -> Result<Option<Sequences<T::Base>>, AllocError>
-    ensures read { IfOk result (λ o. option_map (λ x. x.items) o ≡ all_of (temporal_in (noted_in epoch.now T.reader)) bytes.now) }
+) -> Result<Option<Literal<Noted<T::Base>>>, AllocError>
+    ensures read { IfOk result (λ o. o ≡ all_of (temporal_in (admitted steady T.HAS_SRID) (noted_in epoch.now T.reader)) bytes.now) }
 {
-    let Some((sequences, rest)) = temporal_literal_at::<T>(alloc, epoch, blanks(bytes).1)? else {
+    let Some((literal, rest)) = prefixed_at::<T>(alloc, epoch, steady, blanks(bytes).1)? else {
         return Ok(None);
     };
     match blanks(rest).1 {
-        [] => Ok(Some(sequences)),
+        [] => Ok(Some(literal)),
         _ => Ok(None),
     }
 }

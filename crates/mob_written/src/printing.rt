@@ -1,14 +1,15 @@
-//! Step values, printed.
+//! Temporal values, printed.
 ghost use Rattle.std.specs.Prelude.{◌≡◌, ◌++◌, ◌&&◌, List, ℕ, [], ◌∷◌, map, not, OnOk, OnErr, string_bytes};
 ghost use Rattle.std.specs.List.{list_all};
-ghost use Rattle.mob_written.specs.Printed.{instant_text, is_long as long, shares_group, start_text, opening_text, closing_text, group_text, groups_of, groups_text, set_text, steps_text, with_commas};
-ghost use Rattle.mob_written.specs.Runs.{end_part, between as gap, is_one_group};
+ghost use Rattle.mob_written.specs.Printed.{instant_text, is_long as long, takes_up as takes_up_in, shares_group, start_text, opening_text, closing_text, group_text, groups_of, groups_text, set_text, moving_text, with_commas};
+ghost use Rattle.mob_written.specs.FromLeft.{end_part, between as gap, is_one_group};
 ghost use Rattle.mob_written.specs.Style.{style_of};
+ghost use Rattle.mob_slice.specs.CourseOf.{course_of};
 
 use crate::neighbours::all_neighbours;
 use mob_frac::Frac;
 use mob_scalar::{Epoch, write_moment};
-use mob_slice::{BaseValue, Course, Moving, Slice, Steady};
+use mob_slice::{BaseValue, Course, Moving, Slice};
 use std::alloc::{AllocError, Global};
 
 /// A value that has a printed text.
@@ -22,13 +23,15 @@ pub trait Printed {
         ensures unchanged { OnErr result (string_bytes into.new ≡ string_bytes into.old) };
 }
 
-fn write_instant<B: Printed>(
-    value: &B,
+fn write_instant<C: Course>(
+    value: &C::Base,
     instant: &Frac,
     epoch: &Epoch,
     into: &mut String,
 ) -> Result<(), AllocError>
-    ensures written { OnOk result (string_bytes into.new ≡ string_bytes into.old ++ instant_text (style_of B.text epoch.now) value.now instant.now) }
+where
+    C::Base: BaseValue + Printed,
+    ensures written { OnOk result (string_bytes into.new ≡ string_bytes into.old ++ instant_text (style_of (course_of C.STEADY C.value_of C.start_of C.end_of C.make C.is_continued C.Base.is_same) C.Base.text epoch.now) value.now instant.now) }
 {
     value.write(into)?;
     into.push_str("@")?;
@@ -36,36 +39,47 @@ fn write_instant<B: Printed>(
 }
 
 /// Whether a slice is longer than an instant.
-fn is_long<B: BaseValue + Drop>(slice: &Slice<Steady<B>>) -> bool
+fn is_long<C>(slice: &Slice<C>) -> bool
     ensures value { result ≡ long slice.now }
 {
     slice.span.is_long()
 }
 
+/// Whether the next course begins with the limit of the one before it. Of steady courses that is not asked.
+fn takes_up<C: Course>(course: &C, next: &C) -> bool
+where
+    C::Base: BaseValue,
+    ensures value { result ≡ takes_up_in (course_of C.STEADY C.value_of C.start_of C.end_of C.make C.is_continued C.Base.is_same) course.now next.now }
+{
+    C::STEADY || course.end().same(next.start())
+}
+
 /// Whether two neighbours stand in one group.
 #[tactic(auto, unfolding(mob_ratio::specs::Order::same))]
-fn shares_group<B: BaseValue + Drop>(slice: &Slice<Steady<B>>, next: &Slice<Steady<B>>) -> bool
-    ensures value { result ≡ shares_group slice.now next.now }
+fn shares_group<C: Course>(slice: &Slice<C>, next: &Slice<C>) -> bool
+where
+    C::Base: BaseValue,
+    ensures value { result ≡ shares_group (course_of C.STEADY C.value_of C.start_of C.end_of C.make C.is_continued C.Base.is_same) slice.now next.now }
 {
     slice.span.upper().is_same(next.span.lower())
         && next.span.lower_inc()
         && !slice.span.upper_inc()
+        && takes_up(&slice.course, &next.course)
 }
 
-fn write_start<B: BaseValue + Printed + Drop>(
-    slice: &Slice<Steady<B>>,
+fn write_start<C: Course>(
+    slice: &Slice<C>,
     epoch: &Epoch,
     into: &mut String,
 ) -> Result<(), AllocError>
-    ensures written { OnOk result (string_bytes into.new ≡ string_bytes into.old ++ start_text (style_of B.text epoch.now) slice.now) }
+where
+    C::Base: BaseValue + Printed,
+    ensures written { OnOk result (string_bytes into.new ≡ string_bytes into.old ++ start_text (style_of (course_of C.STEADY C.value_of C.start_of C.end_of C.make C.is_continued C.Base.is_same) C.Base.text epoch.now) slice.now) }
 {
-    write_instant(slice.course.start(), slice.span.lower(), epoch, into)
+    write_instant::<C>(slice.course.start(), slice.span.lower(), epoch, into)
 }
 
-fn write_opening<B: BaseValue + Drop>(
-    slice: &Slice<Steady<B>>,
-    into: &mut String,
-) -> Result<(), AllocError>
+fn write_opening<C>(slice: &Slice<C>, into: &mut String) -> Result<(), AllocError>
     ensures written { OnOk result (string_bytes into.new ≡ string_bytes into.old ++ opening_text (slice.now ∷ [])) }
 {
     if slice.span.lower_inc() {
@@ -75,10 +89,7 @@ fn write_opening<B: BaseValue + Drop>(
     }
 }
 
-fn write_closing<B: BaseValue + Drop>(
-    slice: &Slice<Steady<B>>,
-    into: &mut String,
-) -> Result<(), AllocError>
+fn write_closing<C>(slice: &Slice<C>, into: &mut String) -> Result<(), AllocError>
     ensures written { OnOk result (string_bytes into.new ≡ string_bytes into.old ++ closing_text (slice.now ∷ [])) }
 {
     if slice.span.upper_inc() {
@@ -88,27 +99,31 @@ fn write_closing<B: BaseValue + Drop>(
     }
 }
 
-fn write_end<B: BaseValue + Printed + Drop>(
-    slice: &Slice<Steady<B>>,
+fn write_end<C: Course>(
+    slice: &Slice<C>,
     epoch: &Epoch,
     into: &mut String,
 ) -> Result<(), AllocError>
-    ensures written { OnOk result (string_bytes into.new ≡ string_bytes into.old ++ end_part (style_of B.text epoch.now) slice.now) }
+where
+    C::Base: BaseValue + Printed,
+    ensures written { OnOk result (string_bytes into.new ≡ string_bytes into.old ++ end_part (style_of (course_of C.STEADY C.value_of C.start_of C.end_of C.make C.is_continued C.Base.is_same) C.Base.text epoch.now) slice.now) }
 {
     if is_long(slice) {
         into.push_str(", ")?;
-        write_instant(slice.course.end(), slice.span.upper(), epoch, into)?;
+        write_instant::<C>(slice.course.end(), slice.span.upper(), epoch, into)?;
     }
     write_closing(slice, into)
 }
 
-fn write_between<B: BaseValue + Printed + Drop>(
-    slice: &Slice<Steady<B>>,
-    next: &Slice<Steady<B>>,
+fn write_between<C: Course>(
+    slice: &Slice<C>,
+    next: &Slice<C>,
     epoch: &Epoch,
     into: &mut String,
 ) -> Result<(), AllocError>
-    ensures written { OnOk result (string_bytes into.new ≡ string_bytes into.old ++ gap (style_of B.text epoch.now) slice.now next.now) }
+where
+    C::Base: BaseValue + Printed,
+    ensures written { OnOk result (string_bytes into.new ≡ string_bytes into.old ++ gap (style_of (course_of C.STEADY C.value_of C.start_of C.end_of C.make C.is_continued C.Base.is_same) C.Base.text epoch.now) slice.now next.now) }
 {
     if shares_group(slice, next) {
         return into.push_str(", ");
@@ -119,12 +134,14 @@ fn write_between<B: BaseValue + Printed + Drop>(
 }
 
 /// The groups, with a comma between each two.
-fn write_groups<B: BaseValue + Printed + Drop>(
-    slices: &[Slice<Steady<B>>],
+fn write_groups<C: Course>(
+    slices: &[Slice<C>],
     epoch: &Epoch,
     into: &mut String,
 ) -> Result<(), AllocError>
-    ensures written { OnOk result (string_bytes into.new ≡ string_bytes into.old ++ with_commas (map (group_text (style_of B.text epoch.now)) (groups_of slices.now))) }
+where
+    C::Base: BaseValue + Printed,
+    ensures written { OnOk result (string_bytes into.new ≡ string_bytes into.old ++ with_commas (map (group_text (style_of (course_of C.STEADY C.value_of C.start_of C.end_of C.make C.is_continued C.Base.is_same) C.Base.text epoch.now)) (groups_of (course_of C.STEADY C.value_of C.start_of C.end_of C.make C.is_continued C.Base.is_same) slices.now))) }
 {
     let [first, rest @ ..] = slices else {
         return Ok(());
@@ -141,12 +158,14 @@ fn write_groups<B: BaseValue + Printed + Drop>(
 }
 
 /// The instants at which the slices start, with a comma between each two.
-fn write_starts<B: BaseValue + Printed + Drop>(
-    slices: &[Slice<Steady<B>>],
+fn write_starts<C: Course>(
+    slices: &[Slice<C>],
     epoch: &Epoch,
     into: &mut String,
 ) -> Result<(), AllocError>
-    ensures written { OnOk result (string_bytes into.new ≡ string_bytes into.old ++ with_commas (map (start_text (style_of B.text epoch.now)) slices.now)) }
+where
+    C::Base: BaseValue + Printed,
+    ensures written { OnOk result (string_bytes into.new ≡ string_bytes into.old ++ with_commas (map (start_text (style_of (course_of C.STEADY C.value_of C.start_of C.end_of C.make C.is_continued C.Base.is_same) C.Base.text epoch.now)) slices.now)) }
 {
     let [first, rest @ ..] = slices else {
         return Ok(());
@@ -160,15 +179,17 @@ fn write_starts<B: BaseValue + Printed + Drop>(
 }
 
 /// Whether each slice is one instant.
-fn is_set<B: BaseValue + Drop>(slices: &[Slice<Steady<B>>]) -> bool
+fn is_set<C>(slices: &[Slice<C>]) -> bool
     ensures value { result ≡ list_all (λ s. not (long s)) slices.now }
 {
     slices.iter().all(|slice| !is_long(slice))
 }
 
 /// Whether the slices are one group.
-fn is_group<B: BaseValue + Drop>(slices: &[Slice<Steady<B>>]) -> bool
-    ensures value { result ≡ is_one_group slices.now }
+fn is_group<C: Course>(slices: &[Slice<C>]) -> bool
+where
+    C::Base: BaseValue,
+    ensures value { result ≡ is_one_group (course_of C.STEADY C.value_of C.start_of C.end_of C.make C.is_continued C.Base.is_same) slices.now }
 {
     match slices {
         [] => false,
@@ -177,12 +198,14 @@ fn is_group<B: BaseValue + Drop>(slices: &[Slice<Steady<B>>]) -> bool
 }
 
 /// A set of instants, or one instant alone.
-fn write_set<B: BaseValue + Printed + Drop>(
-    slices: &[Slice<Steady<B>>],
+fn write_set<C: Course>(
+    slices: &[Slice<C>],
     epoch: &Epoch,
     into: &mut String,
 ) -> Result<(), AllocError>
-    ensures written { OnOk result (string_bytes into.new ≡ string_bytes into.old ++ set_text (style_of B.text epoch.now) slices.now) }
+where
+    C::Base: BaseValue + Printed,
+    ensures written { OnOk result (string_bytes into.new ≡ string_bytes into.old ++ set_text (style_of (course_of C.STEADY C.value_of C.start_of C.end_of C.make C.is_continued C.Base.is_same) C.Base.text epoch.now) slices.now) }
 {
     match slices {
         [only] => write_start(only, epoch, into),
@@ -195,12 +218,14 @@ fn write_set<B: BaseValue + Printed + Drop>(
 }
 
 /// One group alone, or groups in braces.
-fn write_sequences<B: BaseValue + Printed + Drop>(
-    slices: &[Slice<Steady<B>>],
+fn write_sequences<C: Course>(
+    slices: &[Slice<C>],
     epoch: &Epoch,
     into: &mut String,
 ) -> Result<(), AllocError>
-    ensures written { OnOk result (string_bytes into.new ≡ string_bytes into.old ++ groups_text (style_of B.text epoch.now) (groups_of slices.now)) }
+where
+    C::Base: BaseValue + Printed,
+    ensures written { OnOk result (string_bytes into.new ≡ string_bytes into.old ++ groups_text (style_of (course_of C.STEADY C.value_of C.start_of C.end_of C.make C.is_continued C.Base.is_same) C.Base.text epoch.now) (groups_of (course_of C.STEADY C.value_of C.start_of C.end_of C.make C.is_continued C.Base.is_same) slices.now)) }
 {
     if is_group(slices) {
         return write_groups(slices, epoch, into);
@@ -210,12 +235,14 @@ fn write_sequences<B: BaseValue + Printed + Drop>(
     into.push_str("}")
 }
 
-fn write_slices<B: BaseValue + Printed + Drop>(
-    slices: &[Slice<Steady<B>>],
+fn write_slices<C: Course>(
+    slices: &[Slice<C>],
     epoch: &Epoch,
     into: &mut String,
 ) -> Result<(), AllocError>
-    ensures written { OnOk result (string_bytes into.new ≡ string_bytes into.old ++ steps_text (style_of B.text epoch.now) slices.now) }
+where
+    C::Base: BaseValue + Printed,
+    ensures written { OnOk result (string_bytes into.new ≡ string_bytes into.old ++ moving_text (style_of (course_of C.STEADY C.value_of C.start_of C.end_of C.make C.is_continued C.Base.is_same) C.Base.text epoch.now) slices.now) }
 {
     if is_set(slices) {
         write_set(slices, epoch, into)
@@ -224,13 +251,15 @@ fn write_slices<B: BaseValue + Printed + Drop>(
     }
 }
 
-/// Appends the printed text of a step value. Where memory is refused `into` stays as it was.
-pub fn write_steps<B: BaseValue + Printed + Drop>(
-    value: &Moving<Steady<B>>,
+/// Appends the printed text of a temporal value. Where memory is refused `into` stays as it was.
+pub fn write_moving<C: Course>(
+    value: &Moving<C>,
     epoch: &Epoch,
     into: &mut String,
 ) -> Result<(), AllocError>
-    ensures written { OnOk result (string_bytes into.new ≡ string_bytes into.old ++ steps_text (style_of B.text epoch.now) value.now) }
+where
+    C::Base: BaseValue + Printed,
+    ensures written { OnOk result (string_bytes into.new ≡ string_bytes into.old ++ moving_text (style_of (course_of C.STEADY C.value_of C.start_of C.end_of C.make C.is_continued C.Base.is_same) C.Base.text epoch.now) value.now) }
     ensures unchanged { OnErr result (string_bytes into.new ≡ string_bytes into.old) }
 {
     let mut text = String::new(*into.allocator());

@@ -1,5 +1,5 @@
-//! How the values of the step types are written and printed.
-ghost use Rattle.std.specs.Prelude.{◌≡◌, Option, IfOk, option_map};
+//! How the values of the temporal types are written and printed.
+ghost use Rattle.std.specs.Prelude.{◌≡◌, Option, IfOk, option_map, false};
 ghost use Rattle.mob_written.specs.Fitting.{fitting};
 ghost use Rattle.mob_numeral.specs.NumberValue.{numeral_value, IsBounded};
 ghost use Rattle.mob_numeral.specs.NumberText.{number_text};
@@ -28,6 +28,10 @@ impl WrittenValue for Truths {
     ghost shape = { truth_value };
 
     ghost reader = { truth_in };
+
+    const HAS_SRID: bool = false;
+
+    ghost HAS_SRID = { false };
 
     ghost follows = { truth_follows };
 
@@ -73,6 +77,10 @@ impl WrittenValue for WholeNumbers {
 
     ghost reader = { number_in };
 
+    const HAS_SRID: bool = false;
+
+    ghost HAS_SRID = { false };
+
     ghost follows = { number_follows };
 
     ghost has_value = { is_whole };
@@ -105,6 +113,10 @@ impl WrittenValue for Texts {
     ghost shape = { quoted_value };
 
     ghost reader = { quoted_in };
+
+    const HAS_SRID: bool = false;
+
+    ghost HAS_SRID = { false };
 
     ghost follows = { Behind };
 

@@ -30,3 +30,21 @@ pub struct Sequence<A> {
     /// Whether the last instant is included.
     pub upper_inc: bool,
 }
+
+/// A temporal literal: its sequences, and what is said of their interpolation.
+#[derive(Drop)]
+pub struct Literal<A> {
+    /// Whether `Interp=Step;` stands before the sequences.
+    pub says_step: bool,
+    /// The sequences, in the order in which they are written.
+    pub sequences: Items<Sequence<A>>,
+}
+
+/// The prefixes that may stand before a literal.
+#[derive(Drop)]
+pub struct Prefixes {
+    /// Whether `Interp=Step;` may stand there.
+    pub step: bool,
+    /// Whether `SRID=0;` may stand there.
+    pub srid: bool,
+}

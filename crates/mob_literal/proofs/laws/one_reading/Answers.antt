@@ -1,6 +1,8 @@
+use Rattle.std.proofs.Common.{false}
 use Rattle.mob_ratio.specs.Order.{same}
 use Rattle.mob_ratio.proofs.Order.{same_exact}
 use Rattle.mob_slice.specs.Sameness.{same_bool, same_bool_exact, same_bytes, same_bytes_exact}
+use Rattle.mob_slice.specs.SteadyLaws.{steady_laws}
 use Rattle.mob_written.specs.Values.{any_value, is_whole, truth_values, number_values, quoted_values}
 use Rattle.mob_literal.proofs.OneReading.{one_reading}
 use Rattle.mob_literal.proofs.SqlReading.{one_sql_reading}
@@ -8,8 +10,8 @@ use Rattle.mob_literal.proofs.laws.one_reading.Goals as goal
 
 pub returns : goal.returns
 returns c = record {
-  truths = λ day. one_reading day truth_values any_value same_bool same_bool_exact;
-  numbers = λ day. one_reading day number_values is_whole same same_exact;
-  texts = λ day. one_reading day quoted_values any_value same_bytes same_bytes_exact;
+  truths = λ day. one_reading day same_bool (steady_laws false same_bool same_bool_exact) truth_values false any_value;
+  numbers = λ day. one_reading day same (steady_laws false same same_exact) number_values false is_whole;
+  texts = λ day. one_reading day same_bytes (steady_laws false same_bytes same_bytes_exact) quoted_values false any_value;
   values = one_sql_reading;
 }

@@ -1,4 +1,4 @@
-use Rattle.mob_literal.proofs.StepsAgain.{truths_again, numbers_again, texts_again}
+use Rattle.mob_literal.proofs.MovingAgain.{truths_again, numbers_again, texts_again}
 use Rattle.mob_literal.proofs.laws.steps_read_again.Goals as goal
 
 pub returns : goal.returns

@@ -1,0 +1,64 @@
+-- Texts that begin with another byte than those that pass a test: the printed text of a value, where the values do.
+use Rattle.std.proofs.Common.{◌≡◌, ℕ, List, [], ◌∷◌, ◌++◌, codes, Bool, true, false, cond, refl, sym, ap, subst}
+use Rattle.std.specs.Prelude.{not}
+use Rattle.std.specs.List.{list_all}
+use Rattle.mob_language.specs.Language.{Text, Language}
+use Rattle.mob_language.proofs.Exact.{Stops}
+use Rattle.mob_language.proofs.Heads.{NoHead, HasByte}
+use Rattle.mob_slice.specs.declared.slice.Slice.{Slice}
+use Rattle.mob_written.specs.Printed.{Style, is_long, groups_of, start_text, groups_text, set_text, moving_text}
+use Rattle.mob_literal.proofs.GroupSlices.{AllHoldTogether, are_groups}
+
+pub record IsBegun (test : ℕ → Bool) (text : Text) : Type 0 where
+  pub first : ℕ
+  pub rest : Text
+  pub is : text ≡ first ∷ rest
+  pub other : test first ≡ false
+
+pub begun_by : (test : ℕ → Bool) (text : Text) → Stops test text → (text ≡ [] → ⊥) → IsBegun test text
+begun_by test [] stops some = absurd (some refl)
+begun_by test (c ∷ cs) stops some = record { first = c; rest = cs; is = refl; other = stops }
+
+pub begun_stops : (test : ℕ → Bool) (text : Text) → IsBegun test text → Stops test text
+begun_stops test text b = subst (Stops test) (sym b.is) b.other
+
+pub begun_front : (test : ℕ → Bool) (a b : Text) → IsBegun test a → IsBegun test (a ++ b)
+begun_front test a b p = record { first = p.first; rest = p.rest ++ b; is = ap (λ (t : Text). t ++ b) p.is; other = p.other }
+
+pub begun_said : {A : Type 0} {l : Language A} (test : ℕ → Bool) → NoHead l test → HasByte l → (text : Text) (v : A) → l text v → IsBegun test text
+begun_said test head byte text v said = begun_by test text (head text v said) (byte text v said)
+
+-- no sign with which a literal begins passes the test
+pub record IsNoSign (test : ℕ → Bool) : Type 0 where
+  pub brace : test 123 ≡ false
+  pub included : test 91 ≡ false
+  pub left_out : test 40 ≡ false
+
+module _ {C B : Type 0} (test : ℕ → Bool) (signs : IsNoSign test) (style : Style C B) where
+  start_begun : (s : Slice C) → IsBegun test (style.value_text (style.course.start s.course)) → IsBegun test (start_text style s)
+  start_begun s p = begun_front test (style.value_text (style.course.start s.course) ++ codes "@") (style.moment_text s.span.lower) (begun_front test (style.value_text (style.course.start s.course)) (codes "@") p)
+
+  abbrev pub FirstBegins : List (Slice C) → Type 0
+  FirstBegins slices = (s : Slice C) (rest : List (Slice C)) → slices ≡ s ∷ rest → IsBegun test (style.value_text (style.course.start s.course))
+
+  set_begun : (slices : List (Slice C)) → FirstBegins slices → IsBegun test (set_text style slices)
+  set_begun [] h = record { first = 123; rest = _; is = refl; other = signs.brace }
+  set_begun (s ∷ []) h = start_begun s (h s [] refl)
+  set_begun (s ∷ r ∷ rest) h = record { first = 123; rest = _; is = refl; other = signs.brace }
+
+  bracket_begun : (included : Bool) → IsBegun test (cond included (codes "[") (codes "("))
+  bracket_begun true = record { first = 91; rest = []; is = refl; other = signs.included }
+  bracket_begun false = record { first = 40; rest = []; is = refl; other = signs.left_out }
+
+  groups_begun : (groups : List (List (Slice C))) → AllHoldTogether style.course groups → IsBegun test (groups_text style groups)
+  groups_begun [] together = record { first = 123; rest = _; is = refl; other = signs.brace }
+  groups_begun ([] ∷ []) together = absurd together
+  groups_begun ((s ∷ group) ∷ []) together = begun_front test _ _ (begun_front test _ _ (bracket_begun s.span.lower_inc))
+  groups_begun (group ∷ next ∷ groups) together = record { first = 123; rest = _; is = refl; other = signs.brace }
+
+  pub moving_begun : (slices : List (Slice C)) → FirstBegins slices → IsBegun test (moving_text style slices)
+  moving_begun slices h = by_lengths (list_all (λ (s : Slice C). not (is_long s)) slices)
+    where
+      by_lengths : (set : Bool) → IsBegun test (cond set (set_text style slices) (groups_text style (groups_of style.course slices)))
+      by_lengths true = set_begun slices h
+      by_lengths false = groups_begun (groups_of style.course slices) (are_groups style.course slices).together

@@ -1,0 +1,23 @@
+-- The functions of a course in one record, for definitions that need many of them.
+use Rattle.std.specs.Prelude.{Bool, true}
+use Rattle.mob_ratio.specs.Ratio.{Ratio}
+use Rattle.mob_slice.specs.declared.steady.Steady.{Steady}
+use Rattle.mob_slice.specs.Operands.{steady_value, steady_limit}
+
+-- whether the course is steady, its value on a span and its limits there, the course with two limits, whether two courses are
+-- one, and whether two values are
+pub record CourseOf (C B : Type 0) : Type 0 where
+  pub steady : Bool
+  pub value : C → Ratio → Ratio → Ratio → B
+  pub start : C → B
+  pub end : C → B
+  pub make : B → B → C
+  pub continues : C → C → Ratio → Ratio → Ratio → Bool
+  pub is_same : B → B → Bool
+
+abbrev pub course_of : {C B : Type 0} → Bool → (C → Ratio → Ratio → Ratio → B) → (C → B) → (C → B) → (B → B → C) → (C → C → Ratio → Ratio → Ratio → Bool) → (B → B → Bool) → CourseOf C B
+course_of steady value start end make continues is_same = record { steady = steady; value = value; start = start; end = end; make = make; continues = continues; is_same = is_same }
+
+-- the course of step values
+abbrev pub steady_course : {B : Type 0} → (B → B → Bool) → CourseOf (Steady B) B
+steady_course is_same = course_of true steady_value steady_limit steady_limit (λ a b. record { value = a }) (λ c d lower middle upper. is_same c.value d.value) is_same

@@ -1,0 +1,77 @@
+-- What may stand before a temporal literal.
+--
+-- `Interp=Step;` says that the sequences of the literal have step interpolation, and `SRID=0;` says nothing more. A type admits both,
+-- one or none of them. Each that it admits may stand there once, in any order, its letters small or capital, with blanks on both
+-- sides of its semicolon. A prefix that may stand there belongs to the whole literal and not to its first value, so what stands behind
+-- the prefixes begins with the first letter of none that might still stand.
+use Rattle.std.specs.Prelude.{◌≡◌, ℕ, List, [], ◌∷◌, ◌++◌, codes, Bool, true, false, ◌&&◌, ◌||◌, not, cond, nat_eq, Option, Some, None}
+use Rattle.std.specs.Char.{to_ascii_lowercase}
+use Rattle.mob_language.specs.Language.{Text, Language, ◌▷◌, AnyCase, spaced}
+use Rattle.mob_language.specs.Readers.{TextReader, ◌>>=◌, then_at, any_case_at, spaced_at}
+use Rattle.mob_written.specs.declared.written.Prefixes.{Prefixes}
+
+pub data Prefix : Type 0 where
+  interpolation : Prefix
+  reference : Prefix
+
+-- the word before the semicolon
+abbrev pub prefix_word : Prefix → Text
+prefix_word interpolation = codes "interp=step"
+prefix_word reference = codes "srid=0"
+
+abbrev pub prefix_of : Prefix → Language (Unit {0} × Unit {0})
+prefix_of p = AnyCase (prefix_word p) ▷ spaced (codes ";")
+
+-- the prefixes that a type admits: `Interp=Step;` where its courses are not steady, and `SRID=0;` where it has a reference system
+abbrev pub admitted : Bool → Bool → Prefixes
+admitted steady has_srid = record { step = not steady; srid = has_srid }
+
+abbrev pub admits : Prefixes → Prefix → Bool
+admits a interpolation = a.step
+admits a reference = a.srid
+
+-- the others
+abbrev pub without : Prefix → Prefixes → Prefixes
+without interpolation a = record { step = false; srid = a.srid }
+without reference a = record { step = a.step; srid = false }
+
+-- what is left of those that are admitted
+abbrev pub remaining : Prefixes → List Prefix → Prefixes
+remaining a [] = a
+remaining a (p ∷ said) = remaining (without p a) said
+
+-- prefixes that are admitted, one behind the other, each once
+abbrev pub ArePrefixes : Prefixes → Text → List Prefix → Type 0
+ArePrefixes a text [] = text ≡ []
+ArePrefixes a text (p ∷ said) = (front : Text) × (back : Text) × (text ≡ front ++ back) × (admits a p ≡ true) × prefix_of p front (tt, tt) × ArePrefixes (without p a) back said
+
+-- one of them says step interpolation
+abbrev pub says_step : List Prefix → Bool
+says_step [] = false
+says_step (interpolation ∷ said) = true
+says_step (reference ∷ said) = says_step said
+
+-- a letter, small or capital, with which a prefix begins that is admitted
+abbrev pub is_first : ℕ → Bool → ℕ → Bool
+is_first letter admitted c = nat_eq (to_ascii_lowercase c) letter && admitted
+
+abbrev pub begins_prefix : Prefixes → ℕ → Bool
+begins_prefix a c = is_first 105 a.step c || is_first 115 a.srid c
+
+-- ---- the readers of these languages
+
+unfoldable pub prefix_at : Prefix → TextReader (Unit {0} × Unit {0})
+prefix_at p = then_at (any_case_at (prefix_word p)) (spaced_at (codes ";"))
+
+abbrev pub with_left : Prefixes → Option ((Unit {0} × Unit {0}) × Text) → Option (Prefixes × Text)
+with_left left None = None
+with_left left (Some x) = Some (left, x.1)
+
+-- one prefix where its first letter is there, and what is left
+unfoldable pub one_prefix_at : Prefixes → TextReader Prefixes
+one_prefix_at a [] = Some (a, [])
+one_prefix_at a (c ∷ cs) = cond (is_first 105 a.step c) (with_left (without interpolation a) (prefix_at interpolation (c ∷ cs))) (cond (is_first 115 a.srid c) (with_left (without reference a) (prefix_at reference (c ∷ cs))) (Some (a, c ∷ cs)))
+
+-- all of them: there are two
+unfoldable pub prefixes_at : Prefixes → TextReader Prefixes
+prefixes_at a text = one_prefix_at a text >>= λ x. one_prefix_at x.0 x.1

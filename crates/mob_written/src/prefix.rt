@@ -1,0 +1,77 @@
+//! What may stand before a temporal literal.
+ghost use Rattle.std.specs.Prelude.{◌≡◌, option_map};
+ghost use Rattle.mob_language.specs.Readers.{any_case_at as any_case_in};
+ghost use Rattle.mob_written.specs.Prefix.{interpolation, reference, is_first as first_in, prefix_at as prefix_in, one_prefix_at as one_prefix_in, prefixes_at as prefixes_in};
+
+use crate::literal::spaced_at;
+use crate::written::Prefixes;
+
+/// What stands behind a word, whose letters may be small or capital. The word is written in small letters.
+fn any_case_at<'a>(word: &[u8], bytes: &'a [u8]) -> Option<&'a [u8]>
+    ensures read { option_map (λ rest. (tt, rest.now)) result ≡ any_case_in word.now bytes.now }
+{
+    let mut rest = bytes;
+    for letter in word {
+        let [first, after @ ..] = rest else {
+            return None;
+        };
+        if first.to_ascii_lowercase() != *letter {
+            return None;
+        }
+        rest = after;
+    }
+    Some(rest)
+}
+
+/// What stands behind `Interp=Step;`.
+#[tactic(auto, unfolding(crate::specs::Prefix::prefix_at))]
+fn interpolation_at(bytes: &[u8]) -> Option<&[u8]>
+    ensures read { option_map (λ rest. ((tt, tt), rest.now)) result ≡ prefix_in interpolation bytes.now }
+{
+    spaced_at(b';', any_case_at(b"interp=step", bytes)?)
+}
+
+/// What stands behind `SRID=0;`.
+#[tactic(auto, unfolding(crate::specs::Prefix::prefix_at))]
+fn reference_at(bytes: &[u8]) -> Option<&[u8]>
+    ensures read { option_map (λ rest. ((tt, tt), rest.now)) result ≡ prefix_in reference bytes.now }
+{
+    spaced_at(b';', any_case_at(b"srid=0", bytes)?)
+}
+
+/// Whether a byte is this letter, small or capital, and a prefix that begins with it is admitted.
+fn is_first(letter: u8, admitted: bool, byte: u8) -> bool
+    ensures value { result ≡ first_in letter admitted byte }
+{
+    byte.to_ascii_lowercase() == letter && admitted
+}
+
+/// One prefix where its first letter is there: those that may still stand, and what stands behind it.
+#[tactic(auto, unfolding(crate::specs::Prefix::one_prefix_at))]
+fn one_prefix_at(admitted: Prefixes, bytes: &[u8]) -> Option<(Prefixes, &[u8])>
+    ensures read { option_map (λ x. (x.0, x.1.now)) result ≡ one_prefix_in admitted bytes.now }
+{
+    let Prefixes { step, srid } = admitted;
+    let [first, ..] = bytes else {
+        return Some((Prefixes { step, srid }, bytes));
+    };
+    if is_first(b'i', step, *first) {
+        let rest = interpolation_at(bytes)?;
+        return Some((Prefixes { step: false, srid }, rest));
+    }
+    if is_first(b's', srid, *first) {
+        let rest = reference_at(bytes)?;
+        return Some((Prefixes { step, srid: false }, rest));
+    }
+    Some((Prefixes { step, srid }, bytes))
+}
+
+/// The prefixes in front: those that may still stand, and what stands behind them. None where the first letter of a prefix that may
+/// stand there begins something else.
+#[tactic(auto, unfolding(crate::specs::Prefix::prefixes_at))]
+pub fn prefixes_at(admitted: Prefixes, bytes: &[u8]) -> Option<(Prefixes, &[u8])>
+    ensures read { option_map (λ x. (x.0, x.1.now)) result ≡ prefixes_in admitted bytes.now }
+{
+    let (left, rest) = one_prefix_at(admitted, bytes)?;
+    one_prefix_at(left, rest)
+}
