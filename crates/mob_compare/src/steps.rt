@@ -1,4 +1,5 @@
 ghost use Rattle.std.specs.Prelude.{◌≡◌, true, ◌||◌, [], IfOk, IfErr};
+ghost use Rattle.mob_slice.specs.Comparison.{MayAsk};
 ghost use Rattle.mob_slice.specs.Operands.{IsPointwise, steady_value, steady_limit};
 ghost use Rattle.mob_slice.specs.Sides.{operand_of, has_slices, given_at, piece_of};
 ghost use Rattle.mob_lift.specs.Given.{IsGiven, on_sides, AreLifted};
@@ -15,6 +16,7 @@ fn on_piece<C: Compared>(
     rel: Rel,
 ) -> Result<Vec<Slice<Steady<bool>>>, OpFault>
     requires steady { C.STEADY ≡ true }
+    requires asked { MayAsk C.ordered rel }
     ensures given { IsGiven steady_value steady_limit steady_limit (λ v. v.items) (on_sides C.value_of C.value_of (C.relation rel) (piece_of piece.now)) piece.now.span [] result }
 {
     let _ = piece.span.lower();
@@ -30,6 +32,7 @@ fn truths_of<C: Compared>(
     rel: Rel,
 ) -> Result<Vec<Slice<Steady<bool>>>, OpFault>
     requires steady { C.STEADY ≡ true }
+    requires asked { MayAsk C.ordered rel }
     requires moving { (has_slices (operand_of a) || has_slices (operand_of b)) ≡ true }
     ensures slices { IfOk result (λ all. AreLifted C.value_of C.value_of steady_value steady_limit steady_limit (C.relation rel) (operand_of a.entry) (operand_of b.entry) all.items) }
     ensures memory { IfErr result (λ e. e ≡ OpFault.NoMemory) }
@@ -39,12 +42,14 @@ fn truths_of<C: Compared>(
         Pieces::new(a, b),
         |piece: &Piece<'_, C, C>| -> Result<Vec<Slice<Steady<bool>>>, OpFault>
             requires { C.STEADY ≡ true }
+            requires { MayAsk C.ordered rel }
             ensures { IsGiven steady_value steady_limit steady_limit (λ v. v.items) (on_sides C.value_of C.value_of (C.relation rel) (piece_of piece.now)) piece.now.span [] result }
         { on_piece::<C>(alloc, piece, rel) },
     )
 }
 
-/// The ordinary comparison of two operands at each instant at which both have a value. None exactly where there is no such
+/// The ordinary comparison of two operands at each instant at which both have a value. An order relation is asked only of values that
+/// have an order. None exactly where there is no such
 /// instant. Values that go by steps have no formula, so the one refusal is want of memory.
 pub fn compare<C: Compared>(
     alloc: Global,
@@ -53,6 +58,7 @@ pub fn compare<C: Compared>(
     rel: Rel,
 ) -> Result<Option<Moving<Steady<bool>>>, OpFault>
     requires steady { C.STEADY ≡ true }
+    requires asked { MayAsk C.ordered rel }
     requires moving { (has_slices (operand_of a) || has_slices (operand_of b)) ≡ true }
     ensures value { IfOk result (λ r. IsPointwise steady_value (C.relation rel) (given_at C.value_of (operand_of a.entry)) (given_at C.value_of (operand_of b.entry)) r) }
     ensures fault { IfErr result (λ e. e ≡ OpFault.NoMemory) }
