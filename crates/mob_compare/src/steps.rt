@@ -41,16 +41,16 @@ fn truths_of<C: Compared>(
         alloc,
         Pieces::new(a, b),
         |piece: &Piece<'_, C, C>| -> Result<Vec<Slice<Steady<bool>>>, OpFault>
-            requires { C.STEADY ≡ true }
-            requires { MayAsk C.ordered rel }
+            requires steady { C.STEADY ≡ true }
+            requires asked { MayAsk C.ordered rel }
             ensures { IsGiven steady_value steady_limit steady_limit (λ v. v.items) (on_sides C.value_of C.value_of (C.relation rel) (piece_of piece.now)) piece.now.span [] result }
         { on_piece::<C>(alloc, piece, rel) },
     )
 }
 
-/// The ordinary comparison of two operands at each instant at which both have a value. An order relation is asked only of values that
-/// have an order. None exactly where there is no such
-/// instant. Values that go by steps have no formula, so the one refusal is want of memory.
+/// The ordinary comparison of two operands at each instant at which both have a value. None exactly where there is no such
+/// instant. An order relation is asked only of values that have an order. Values that go by steps have no formula, so the one refusal
+/// is want of memory.
 pub fn compare<C: Compared>(
     alloc: Global,
     a: Operand<'_, C>,
