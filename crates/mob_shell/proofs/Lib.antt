@@ -1,4 +1,5 @@
 mod Missing
+mod Stopped
 mod OneAnswer
 mod OneStep
 mod Running
