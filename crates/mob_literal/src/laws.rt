@@ -40,6 +40,11 @@ pub fn one_reading()
         → a ≢ Err NoMemory → b ≢ Err NoMemory → SaysAs ty day text a → SaysAs ty day text b → a ≡ b }
 {}
 
+/// So has a literal of a type of values over any course.
+pub fn one_reading_over_every_course<T: WrittenValue, C: Course<Base = T::Base>>()
+    ensures one { (day : ℤ) → HasOneReading (literals day T.HAS_SRID T.shape T.has_value (course_of C.STEADY C.value_of C.start_of C.end_of C.make C.is_continued T.Base.is_same)) }
+{}
+
 /// What is printed of a step value is read again as that value, where its instants lie in the years 0001 to 9999 and at most
 /// 100,000 of them are printed.
 pub fn steps_read_again()
