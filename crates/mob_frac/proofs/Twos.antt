@@ -71,8 +71,8 @@ gcd_twos k x y h = same_from_IsGcd x (y * 2 ^ k) (gcd x (y * 2 ^ k)) (gcd x y) (
 few_twos : (i j x y : ℕ) → i ≤ j → x % 2 ≡ 1 → gcd (x * 2 ^ i) (y * 2 ^ j) ≡ gcd x y * 2 ^ i
 few_twos i j x y le h =
     let e : y * 2 ^ j ≡ (y * 2 ^ (j - i)) * 2 ^ i =
-        let s : (j - i) + i ≡ j = omega arith in
-        ap (λ (n : ℕ). y * 2 ^ n) (sym s) ∙ ap (λ (n : ℕ). y * n) (pow-add 2 (j - i) i) ∙ sym (mul_assoc y (2 ^ (j - i)) (2 ^ i))
+    let s : (j - i) + i ≡ j = omega arith in
+    ap (λ (n : ℕ). y * 2 ^ n) (sym s) ∙ ap (λ (n : ℕ). y * n) (pow-add 2 (j - i) i) ∙ sym (mul_assoc y (2 ^ (j - i)) (2 ^ i))
     in
     ap (gcd (x * 2 ^ i)) e ∙ gcd-mul x (y * 2 ^ (j - i)) (2 ^ i) (pow_pos i) ∙ ap (λ (n : ℕ). n * 2 ^ i) (gcd_twos (j - i) x y h)
 
