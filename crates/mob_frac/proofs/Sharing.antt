@@ -1,5 +1,5 @@
 -- Sums and products whose common divisors are taken out of the parts before these are multiplied.
-use Rattle.std.proofs.Common.{◌≡◌, ℕ, zero, suc, ◌+◌, ◌-◌, ◌*◌, ◌/◌, ◌<◌, ◌≤◌, ℤ, pos, negsuc, ◌+ℤ◌, ◌*ℤ◌, ◌<ℤ◌, nat_abs, int_div, arith, refl, ap, sym, subst, ◌∙◌, ◌⊎◌, inl, inr}
+use Rattle.std.proofs.Common.{◌≡◌, ℕ, zero, suc, ◌+◌, ◌-◌, ◌*◌, ◌/◌, ◌<◌, ℤ, pos, ◌+ℤ◌, ◌*ℤ◌, ◌<ℤ◌, nat_abs, int_div, arith, ap, sym, subst, ◌∙◌, ◌⊎◌, inl, inr}
 use native.Mathlib.Nat.{dvd_refl, eq-one_of_dvd-one, mul_assoc, div-mul_cancel, mul-div_cancel, dvd-mul_right, dvd-mul_left, dvd-add, dvd-sub, dvd_trans, mul-pos, mul_comm}
 use Rattle.std.specs.Int.{◌∣◌}
 use Rattle.std.proofs.lemmas.Bool.{cases_eq}
@@ -9,7 +9,7 @@ use Rattle.mob_ratio.specs.GcdLaws.{gcd-is, gcd_comm, gcd_pos, gcd_reduced, dvd_
 use Rattle.mob_ratio.specs.LowestLaws.{lowest_in, abs-div}
 use Rattle.mob_ratio.specs.Ratio.{Ratio, over, ◌+ℚ◌, ◌*ℚ◌}
 use Rattle.mob_ratio.proofs.IntRing.{linear, products}
-use Rattle.mob_ratio.proofs.RatioLemmas.{den_pos, lowest_gcd, over-self, over-same, over-cross, over-mul, over-parts}
+use Rattle.mob_ratio.proofs.RatioLemmas.{den_pos, lowest_gcd, over-same, over-cross, over-mul, over-parts}
 use Rattle.mob_ratio.proofs.ProductLemmas.{coprime-mul, coprime-dvd}
 use Rattle.mob_frac.specs.Fits.{IsLowest}
 

@@ -1,5 +1,5 @@
 -- Greatest common divisors of odd numbers, and of numbers with their twos put aside.
-use Rattle.std.proofs.Common.{◌≡◌, ℕ, zero, suc, ◌+◌, ◌-◌, ◌*◌, ◌/◌, ◌%◌, ◌^◌, ◌<◌, ◌≤◌, min, arith, refl, ap, sym, subst, ◌∙◌, mod-eq_of_lt, pow-suc, mul_assoc, mul_comm, ◌⊎◌, inl, inr}
+use Rattle.std.proofs.Common.{◌≡◌, ℕ, zero, suc, ◌+◌, ◌-◌, ◌*◌, ◌/◌, ◌%◌, ◌^◌, ◌<◌, ◌≤◌, min, arith, ap, sym, subst, ◌∙◌, mod-eq_of_lt, pow-suc, mul_assoc, mul_comm, ◌⊎◌, inl, inr}
 use Rattle.std.specs.Int.{IsGcd, bit_at, w64, trailing_zeros, ◌∣◌}
 use Rattle.std.proofs.lemmas.Nat.{shr_split, mod-pow-add, pow_pos, pow-add}
 use Rattle.std.proofs.lemmas.Nat.Bits.{bit_at_lowest, bit_at-suc, bit_at-trailing_zeros}

@@ -1,7 +1,4 @@
-use Rattle.std.proofs.Common.{◌≡◌, ℕ, ◌+◌, ◌-◌, ◌*◌, ◌^◌, sym, subst, ◌∙◌, min}
-use Rattle.std.specs.Int.{IsGcd, w64, trailing_zeros}
-use Rattle.std.proofs.lemmas.Nat.Gcd.{IsGcd-from_zero, IsGcd-swap, same_from_IsGcd}
-use Rattle.mob_ratio.specs.GcdLaws.{gcd-is}
+use Rattle.std.proofs.Common.{◌∙◌}
 use Rattle.mob_frac.proofs.Twos.{odd_step, odd_least, gcd_same}
 use Rattle.mob_frac.proofs.reduction.odd_gcd.Goals as goal
 

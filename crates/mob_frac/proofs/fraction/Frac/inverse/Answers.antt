@@ -1,4 +1,4 @@
-use Rattle.std.proofs.Common.{rules, ℤ, pos, ◌<ℤ◌, ◌≤ℤ◌, neg_ℤ, FitsSigned, arith, sym, ◌∙◌}
+use Rattle.std.proofs.Common.{rules, pos, ◌<ℤ◌, ◌≤ℤ◌, neg_ℤ, FitsSigned, arith, sym, ◌∙◌}
 use Rattle.std.specs.Int.{w64}
 use Rattle.std.proofs.lemmas.Int.{to_z-of_z, ints}
 use Rattle.mob_frac.proofs.Operations.{zero-sub, nonzero, inverse_above, inverse_below}
