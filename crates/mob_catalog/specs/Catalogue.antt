@@ -17,7 +17,7 @@ new_catalogue consts = record { store = record { tables = []; consts = consts };
 
 -- one more table of these columns, without rows
 abbrev pub with_empty_table : List Column → Catalogue → Catalogue
-with_empty_table columns c = record {
+with_empty_table columns c = record c {
   store = record c.store { tables = c.store.tables ++ record { rows = [] } ∷ [] };
   heads = c.heads ++ record { columns = columns; live = [] } ∷ [];
 }
@@ -42,7 +42,7 @@ with_live_row number head = record head { live = head.live ++ number ∷ [] }
 
 -- One more row in the table of this number. Its own number is the count of the rows that were put into the table before it.
 abbrev pub with_row : ℕ → List Value → Catalogue → Catalogue
-with_row n row c = record {
+with_row n row c = record c {
   store = record c.store { tables = with_changed n (with_last_row row) c.store.tables };
   heads = with_changed n (with_live_row (rows_put n c.store.tables)) c.heads;
 }
