@@ -47,7 +47,7 @@ due_or_failed (ScriptRefused e) s h =
     }))
 due_or_failed (Overflow number rows place formula) s h =
     inl (inr (each_input (λ settings input. StopsWith settings input h.cause.text number (rows, (place, formula))) (λ settings input. IsDue settings input (Overflow number rows place formula)) s
-        (λ settings input p. (h.cause.text, p)) h.cause.fault))
+    (λ settings input p. (h.cause.text, p)) h.cause.fault))
 
 -- where no count rose, it is due, or there was no memory
 pub due_or_memory : (ending : Ending) (s : Seen) → IsEndingOf ending s → IsFaultless s → IsDueOnInput ending s ⊎ (ending ≡ NoMemory)

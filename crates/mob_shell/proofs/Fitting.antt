@@ -1,5 +1,5 @@
 -- Where every part fits no statement has a fault.
-use Rattle.std.proofs.Common.{◌≡◌, inl, inr, refl, ℕ, ℤ, List, [], ◌∷◌, Option, Some, None, Result, Ok, Err}
+use Rattle.std.proofs.Common.{◌≡◌, ◌∙◌, inl, inr, refl, ap, ℕ, ℤ, List, [], ◌∷◌, Option, Some, None, Result, Ok, Err}
 use Rattle.std.specs.List.{AllByRecursion}
 use Rattle.mob_typed.specs.Trees.{TypedTree}
 use Rattle.mob_typed.specs.Selects.{TypedSelectParts}
@@ -57,8 +57,8 @@ module _ (pass : FaultsPass) where
   never_stops program settings input fits text n f h =
       let day = settings.epoch in
       let stopped = same_program program settings input (λ o p. StopsBehind (RunsStatement day) (Stops day) (begin p) o.statements h.before text f) h.out fits.out h.program fits.program h.is fits.is
-          (behind settings input text n f h) in
+      (behind settings input text n f h) in
       no_statement day stopped.stands stopped.statement f (λ q is. fits.fits h.before stopped.stands text q stopped.ran (subst-there q is stopped.there)) stopped.stops
     where
       subst-there : {o : Option StatementOut} {x : StatementOut} (q : TypedSelectParts) → x ≡ query q → o ≡ Some x → o ≡ Some (query q)
-      subst-there q is there = rw is there
+      subst-there q is there = there ∙ ap Some is

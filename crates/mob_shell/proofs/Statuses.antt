@@ -2,6 +2,8 @@
 use Rattle.std.proofs.Common.{◌≡◌, ap, inl, inr, refl, subst, ℕ, List}
 use Rattle.std.specs.Prelude.{◌⊎◌, Some, None}
 use Rattle.std.specs.Io.KnownBytes.{Keeps}
+use Rattle.mob_ast.specs.declared.refusal.Kind.{Kind}
+use Rattle.mob_slice.specs.declared.formula.Formula.{Formula}
 use Rattle.mob_ending.specs.Lines.{note_line, status_of}
 use Rattle.mob_ending.specs.declared.ending.Ending.{Ending}
 use Rattle.mob_ending.specs.declared.ending.Ending.TheVariants.{Done, Usage, ReadFault, WriteFault, NoMemory, TableRefused, ScriptRefused, Overflow}
@@ -27,17 +29,28 @@ by_write : (ending : Ending) (s : Seen) → IsCausedBy ending s → status_of en
 by_write WriteFault s h e = h
 by_write _ s h e = cc
 
+-- the ending of this status, told without its cause
+table_of : (ending : Ending) → status_of ending ≡ 6 → (name : List ℕ) × (kind : Kind) × (rec : ℕ) × (field : ℕ) × (ending ≡ TableRefused name kind rec field)
+table_of (TableRefused name kind rec field) e = (name, kind, rec, field, refl)
+table_of _ e = cc
+
+overflow_of : (ending : Ending) → status_of ending ≡ 8 → (number : ℕ) × (rows : List ℕ) × (place : ℕ) × (formula : Formula) × (ending ≡ Overflow number rows place formula)
+overflow_of (Overflow number rows place formula) e = (number, rows, place, formula, refl)
+overflow_of _ e = cc
+
 by_table : (ending : Ending) (s : Seen) → IsCausedBy ending s → status_of ending ≡ 6 → HasRefusedTable s
-by_table (TableRefused name kind rec field) s h e = (name, kind, rec, field, h.0)
-by_table _ s h e = cc
+by_table ending s h e =
+    let of = table_of ending e in
+    (of.0, of.1, of.2, of.3, (subst (λ (it : Ending). IsCausedBy it s) of.4 h).0)
 
 by_script : (ending : Ending) (s : Seen) → IsCausedBy ending s → status_of ending ≡ 7 → HasRefusedScript s
 by_script (ScriptRefused refusal) s h e = (refusal, h.0)
 by_script _ s h e = cc
 
 by_overflow : (ending : Ending) (s : Seen) → IsCausedBy ending s → status_of ending ≡ 8 → IsOverflow s
-by_overflow (Overflow number rows place formula) s h e = (number, rows, place, formula, h)
-by_overflow _ s h e = cc
+by_overflow ending s h e =
+    let of = overflow_of ending e in
+    (of.0, of.1, of.2, of.3, subst (λ (it : Ending). IsCausedBy it s) of.4 h)
 
 by_memory : (ending : Ending) (s : Seen) → IsCausedBy ending s → status_of ending ≡ 5 → Keeps s.out.told_before s.out.told_now ⊎ WroteSome s
 by_memory NoMemory s h e = h
@@ -69,7 +82,7 @@ with_note : (ending : Ending) (s : Seen) (Noted : List ℕ → Type 0) → IsDue
 with_note ending s Noted (inl (inl usage)) noted = inl (inl (usage.0, record { number = ap status_of usage.1; noted = subst (λ (it : Ending). Noted (note_line it)) usage.1 noted }))
 with_note ending s Noted (inl (inr on)) noted =
     inl (inr (each_input (λ settings input. IsDue settings input ending) (λ settings input. (due : Ending) × IsDue settings input due × EndsSo due (status_of ending) Noted) s
-        (λ settings input p. (ending, p, record { number = refl; noted = noted })) on))
+    (λ settings input p. (ending, p, record { number = refl; noted = noted })) on))
 with_note ending s Noted (inr memory) noted = inr (ap status_of memory)
 
 -- what a run promises, by its ending and what is noted of its line
