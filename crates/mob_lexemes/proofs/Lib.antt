@@ -2,3 +2,4 @@ mod Examples
 pub mod Placed
 mod Quotes
 pub mod Reserved
+pub mod Walked
