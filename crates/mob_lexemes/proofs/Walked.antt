@@ -1,19 +1,19 @@
 -- The walk along the tokens of an expression, against what the grammar counts.
-use Rattle.std.proofs.Common.{◌≡◌, ◌==◌, ◌≤◌, ◌<◌, ◌+◌, ◌-◌, ◌⊎◌, ◌↔◌, inl, inr, ℕ, zero, suc, List, [], ◌∷◌, Bool, true, false, cond, not, ◌||◌, Option, Some, None, refl, sym, ap, subst, ◌∙◌, arith}
-use Rattle.std.proofs.lemmas.Bool.{eq-eqb, eqb-true}
+use Rattle.std.proofs.Common.{◌≡◌, ◌==◌, ◌≤◌, ◌+◌, ◌-◌, ◌⊎◌, ◌↔◌, inl, inr, ℕ, List, [], ◌∷◌, Bool, true, false, cond, ◌||◌, Some, None, refl, sym, ap, subst, ◌∙◌, arith}
+use Rattle.std.proofs.lemmas.Bool.{eqb-true}
 use Rattle.std.proofs.lemmas.Bool.Decides.{nat_tests}
 use Rattle.mob_grammar.specs.declared.mark.Mark.{Mark}
 use Rattle.mob_grammar.specs.declared.mark.Mark.TheVariants.{Select, Distinct, From, Where, Order, By, Asc, Desc, Limit, Create, Table, Index, On, Using, Gist, Insert, Into, Values, Copy, With, Format, Csv, Header, Delimiter, Explain, And, Or, Not, Is, Null, True, False, As, Left, Join, Delete, Group, LiftedEqual, LiftedNotEqual, LiftedLess, LiftedLessEqual, LiftedGreater, LiftedGreaterEqual, EverEqual, EverNotEqual, EverLess, EverLessEqual, EverGreater, EverGreaterEqual, AlwaysEqual, AlwaysNotEqual, AlwaysLess, AlwaysLessEqual, AlwaysGreater, AlwaysGreaterEqual, Equal, NotEqual, Less, LessEqual, Greater, GreaterEqual, Distance, Approach, Plus, Minus, Times, Divide, Ampersand, Bar, Tilde, Concat, Overlap, Cast, Open, Close, Comma, Semicolon, Dot}
 use Rattle.mob_grammar.specs.Marks.{is, strength}
 use Rattle.mob_ast.specs.declared.types.TypeWord.{TypeWord}
 use Rattle.mob_ast.specs.Trees.{Tree, Trees}
-use Rattle.mob_grammar.specs.Expressions.{Rank, disjunction, conjunction, negation, nullness, comparison, other, complement, sum, product, signed, cast, primary, next, chains, prefixes, TypeName, plain, inner, Phrase, up, chain, prefixed, is_null, is_not_null, compared, cast_to, a_number, a_string, is_true, is_false, a_null, a_literal, a_call, a_column, a_table_column, in_brackets, Arguments, nothing, something, Behind, end, another}
+use Rattle.mob_grammar.specs.Expressions.{Rank, disjunction, conjunction, negation, nullness, comparison, other, complement, sum, product, signed, cast, primary, chains, prefixes, TypeName, plain, inner, Phrase, up, chain, prefixed, is_null, is_not_null, compared, cast_to, a_number, a_string, is_true, is_false, a_null, a_literal, a_call, a_column, a_table_column, in_brackets, Arguments, nothing, something, Behind, end, another}
 use Rattle.mob_grammar.specs.Symbols.{Symbol, fixed, name, number, quoted, PlacedSymbol, sign, identifier, numeral, string, binding, symbol_strength, is_mark, is_sign, is_string, is_string_symbol, is_name, is_literal, begins, starts, first, rest}
 use Rattle.mob_grammar.proofs.Steps.{told, token_is, name_is}
 use Rattle.mob_lexemes.specs.declared.heavy.TokenStanding.{TokenStanding}
-use Rattle.mob_lexemes.specs.Weights.{outside, is_function, counts, mark_counts, mark_ends}
+use Rattle.mob_lexemes.specs.Weights.{outside, is_function, mark_counts, mark_ends}
 use Rattle.mob_lexemes.specs.Weighed.{phrase_weight, arguments_weight, behind_weight, type_weight}
-use Rattle.mob_lexemes.specs.Heavy.{ends, standing_after, is_heavy, heavy_from, first_heavy}
+use Rattle.mob_lexemes.specs.Heavy.{standing_after, is_heavy, heavy_from, first_heavy}
 
 -- no token from here on is the 257th counted one
 abbrev pub Light : TokenStanding → List PlacedSymbol → Type 0
@@ -156,10 +156,10 @@ counted s z t l h e le = (
     apart w p = grind (arith, nat_tests)
 
 -- another adds nothing
-quiet : (s z : TokenStanding) (t : PlacedSymbol) (l : List PlacedSymbol) → is_heavy s t.symbol l ≡ false → standing_after s t.symbol l ≡ z → Light s (t ∷ l) ↔ Light z l
+pub quiet : (s z : TokenStanding) (t : PlacedSymbol) (l : List PlacedSymbol) → is_heavy s t.symbol l ≡ false → standing_after s t.symbol l ≡ z → Light s (t ∷ l) ↔ Light z l
 quiet s z t l h e = ((λ k. subst (λ y. Light y l) e k.1), (λ k. (h, subst (λ y. Light y l) (sym e) k)))
 
-never : (b : Bool) → cond b false false ≡ false
+pub never : (b : Bool) → cond b false false ≡ false
 never true = refl
 never false = refl
 
@@ -178,7 +178,7 @@ onward f g le = (
     at_most : {n m : ℕ} → n ≤ m → m ≤ 256 → n ≤ 256
     at_most p q = omega (arith, p, q)
 
-first_quiet : {P Q R : Type 0} → P ↔ Q → Q ↔ R → P ↔ R
+pub first_quiet : {P Q R : Type 0} → P ↔ Q → Q ↔ R → P ↔ R
 first_quiet f g = ((λ p. g.0 (f.0 p)), (λ r. f.1 (g.1 r)))
 
 last_quiet : {P Q R : Type 0} {n : ℕ} → P ↔ ((n ≤ 256) × Q) → Q ↔ R → P ↔ ((n ≤ 256) × R)
@@ -189,7 +189,7 @@ none_more : {P Q : Type 0} {n m : ℕ} → m ≡ n → n ≤ 256 → P ↔ Q →
 none_more e le f = ((λ p. (subst (λ k. k ≤ 256) (sym e) le, f.0 p)), (λ k. f.1 k.1))
 
 -- ---- operators
-symbol_operator : (x : Symbol) → joins (symbol_strength x) ≡ true → (m : Mark) × (x ≡ fixed m) × IsOperator m
+pub symbol_operator : (x : Symbol) → joins (symbol_strength x) ≡ true → (m : Mark) × (x ≡ fixed m) × IsOperator m
 symbol_operator (fixed m) h = (m, refl, operator m h)
 symbol_operator (name n) h = absurd (cc)
 symbol_operator (number n) h = absurd (cc)
@@ -256,7 +256,7 @@ at_weight {P = P} d r e f = subst (λ k. P ↔ ((k ≤ 256) × Light (at d k) r)
 nothing_counted : {P : Type 0} (d : ℕ) (r : List PlacedSymbol) {w v : ℕ} → v ≡ w → w ≤ 256 → P ↔ Light (at d w) r → P ↔ ((v ≤ 256) × Light (at d v) r)
 nothing_counted d r e le f = at_weight d r e (none_more refl le f)
 
-name_quiet : (b : Bool) (d w : ℕ) (n : List ℕ) (p : ℕ) (l : List PlacedSymbol) → is_function b l ≡ false → Light (behind b d w) (identifier n p ∷ l) ↔ Light (at d w) l
+pub name_quiet : (b : Bool) (d w : ℕ) (n : List ℕ) (p : ℕ) (l : List PlacedSymbol) → is_function b l ≡ false → Light (behind b d w) (identifier n p ∷ l) ↔ Light (at d w) l
 name_quiet b d w n p l e = quiet (behind b d w) (at d w) (identifier n p) l
     (ap (λ c. cond (w == 256) c false) e ∙ never (w == 256))
     (ap (λ c. record { selects = true; depth = d; weight = cond c (w + 1) w; no_call = false }) e)
@@ -372,7 +372,7 @@ behind_clear : {m r : List PlacedSymbol} {es : Trees} → Behind m es r → Clea
 behind_clear (end {r = r} {p = p}) = clear_mark Close p r refl
 behind_clear (another {l = l} {p = p} a b) = clear_mark Comma p l refl
 
-column_is : (r : List PlacedSymbol) → starts Open r ≡ false → is_function false r ≡ false
+pub column_is : (r : List PlacedSymbol) → starts Open r ≡ false → is_function false r ≡ false
 column_is r h = ap (λ b. cond b (cond (is_literal (rest r)) false true) false) h
 
 call_is : (l : List PlacedSymbol) (q : ℕ) → is_literal l ≡ false → is_function false (sign Open q ∷ l) ≡ true
