@@ -1,9 +1,13 @@
 -- Scripts by which the definition of counted tokens was checked.
-use Rattle.std.specs.Prelude.{◌≡◌, ℕ, zero, suc, List, [], ◌∷◌, codes, Some, None, refl}
+use Rattle.std.specs.Prelude.{◌≡◌, ℕ, zero, suc, List, [], ◌∷◌, codes, Some, None, refl, ◌+◌}
+use Rattle.std.proofs.Common.{ap}
+use Rattle.mob_ast.specs.declared.expression.Node.TheVariants as node
 use Rattle.mob_grammar.specs.declared.mark.Mark.{Mark}
-use Rattle.mob_grammar.specs.declared.mark.Mark.TheVariants.{Select, Plus, Open, Close, Comma, Semicolon, Cast, Dot}
-use Rattle.mob_grammar.specs.Symbols.{PlacedSymbol, sign, identifier, numeral}
+use Rattle.mob_grammar.specs.declared.mark.Mark.TheVariants.{Select, Plus, Open, Close, Comma, Semicolon, Cast, Dot, Is, Not, Null}
+use Rattle.mob_grammar.specs.Expressions.{nullness, Phrase, a_call, is_not_null, inner, nothing}
+use Rattle.mob_grammar.specs.Symbols.{PlacedSymbol, sign, identifier, numeral, leaf}
 use Rattle.mob_lexemes.specs.Heavy.{first_heavy}
+use Rattle.mob_lexemes.specs.Weighed.{phrase_weight, type_weight}
 
 abbrev one : PlacedSymbol
 one = numeral (codes "1") 0
@@ -57,3 +61,13 @@ column_not_counted = refl
 -- a constant of INSERT is no expression, and `;` begins a new statement
 insert_not_counted : first_heavy (nested 256 (one ∷ many 256 Close (mark Semicolon ∷ many 300 Open []))) ≡ None
 insert_not_counted = refl
+
+-- What the grammar counts: a call counts its name and its bracket, IS NOT NULL two words, and a type behind `::` its bracket.
+call_weighs : phrase_weight (a_call {n = codes "f"} {p = 0} {q = 0} (nothing {r = []} {p = 0})) ≡ 2
+call_weighs = refl
+
+not_null_weighs : (d : Phrase nullness (one ∷ mark Is ∷ mark Not ∷ mark Null ∷ []) (leaf (node.Number (codes "1")) 0) (mark Is ∷ mark Not ∷ mark Null ∷ [])) → phrase_weight d ≡ 0 → phrase_weight (is_not_null d) ≡ 2
+not_null_weighs d e = ap (λ n. n + 2) e
+
+bracketed_type_weighs : type_weight (inner {r = []} {n = codes "geometry"} {v = codes "point"} {p = 0} {q = 0} {o = 0} {s = 0}) ≡ 1
+bracketed_type_weighs = refl
