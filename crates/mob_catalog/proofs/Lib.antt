@@ -1,4 +1,5 @@
 mod Changed
+pub mod Live
 mod FirstFaults
 mod RecordCounts
 mod Refusals

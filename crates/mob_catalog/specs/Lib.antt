@@ -1,4 +1,5 @@
 pub mod Catalogue
+pub mod Live
 pub mod Constants
 pub mod Faults
 pub mod Fields

@@ -1,6 +1,7 @@
 //! What holds of every table file and of all constants. No code runs here.
 ghost use Rattle.mob_catalog.specs.OwnTypes.{ConstantsHaveTheirTypes, RowsHaveColumnTypes};
 ghost use Rattle.mob_catalog.specs.Outcomes.{HasOneFault, HasOneTable, ConstantsHaveOneMeaning, ConstantsHaveOneRefusal, ConstantsNeverMeanAndFail, NeverReadAndRefused};
+ghost use Rattle.mob_catalog.specs.Live.{RowsStayThere};
 
 use crate::Catalog;
 use mob_list::laws::crosses_threads;
@@ -24,6 +25,12 @@ pub fn one_meaning()
 pub fn values_have_their_types()
     ensures constants { ConstantsHaveTheirTypes }
     ensures rows { RowsHaveColumnTypes }
+{}
+
+/// Each row that was put into a table is there, by its number: so it is in a new catalogue, and so it stays with a new table and a new
+/// row.
+pub fn rows_stay_there()
+    ensures stay { RowsStayThere }
 {}
 
 /// Catalogues cross threads.

@@ -8,5 +8,6 @@ mod Statuses
 mod OneRun
 mod OneOutcome
 mod OneEnding
+mod Stored
 mod Fitting
 mod Due

@@ -3,6 +3,7 @@ pub mod EndsSeen
 pub mod Inputs
 pub mod Statements
 pub mod Runs
+pub mod Stored
 pub mod StepOutcomes
 pub mod Session
 pub mod Program

@@ -1,4 +1,5 @@
 //! What holds of every run. No code runs here.
+ghost use Rattle.mob_shell.specs.Stored.{AllRowsAreThere};
 ghost use Rattle.mob_shell.specs.StepOutcomes.{HasOneStatementFault, HasOneStep, NeverRunsAndStops, OneAnswer};
 ghost use Rattle.mob_shell.specs.Outcomes.{HasOneEnding, HasOneHalt, HasOneProgram, HasOneStop, HasOneText, NeverEndsAndStops, NeverProgramAndHalted};
 
@@ -47,4 +48,11 @@ pub fn one_ending()
     mob_accept::laws::one_text_refusal();
     one_program();
     one_text();
+}
+
+/// While a program runs all rows that it has put into tables are there, so a query reads all of them.
+pub fn all_rows_are_there()
+    ensures rows { AllRowsAreThere }
+{
+    mob_catalog::laws::rows_stay_there();
 }
