@@ -11,6 +11,8 @@ use Rattle.mob_slice.specs.CourseOf.{CourseOf}
 use Rattle.mob_numeral.specs.Verdict.{Lit}
 use Rattle.mob_written.specs.declared.written.Prefixes.{Prefixes}
 use Rattle.mob_written.specs.Prefix.{Prefix, interpolation, reference, without, ArePrefixes, admitted, remaining, says_step, is_first, begins_prefix}
+use Rattle.mob_written.specs.declared.written.Literal.{Literal}
+use Rattle.mob_written.specs.Literal.{Prefixed, literal}
 use Rattle.mob_written.specs.Printed.{moving_text}
 use Rattle.mob_written.specs.Style.{style_of}
 use Rattle.mob_literal.specs.Readable.{AreLevel, IsReadAgain, IsReadable}
@@ -19,6 +21,7 @@ use Rattle.mob_literal.proofs.Listing.{first_in}
 use Rattle.mob_literal.proofs.Drawn.{IsLawful}
 use Rattle.mob_literal.proofs.Begun.{IsBegun, IsNoSign, begun_by, begun_stops, moving_begun}
 use Rattle.mob_literal.proofs.MovingAgain.{moving_again}
+use Rattle.mob_written.proofs.Small.{false_true}
 
 none_first : (letter c : ℕ) → is_first letter false c ≡ false
 none_first letter c = and_right (nat_eq (to_ascii_lowercase c) letter) false refl
@@ -50,3 +53,16 @@ behind_prefixes {C} {B} course laws day has_srid value byte text has_value slice
     stops : Stops (begins_prefix (remaining (admitted course.steady has_srid) before)) (moving_text (style_of course text day) slices)
     stops = stops_less (begins_prefix (admitted course.steady has_srid)) (begins_prefix (remaining (admitted course.steady has_srid) before)) (left_first before (admitted course.steady has_srid)) (moving_text (style_of course text day) slices)
         (begun_stops (begins_prefix (admitted course.steady has_srid)) (moving_text (style_of course text day) slices) (moving_begun (begins_prefix (admitted course.steady has_srid)) (prefix_signs (admitted course.steady has_srid)) (style_of course text day) slices begun))
+
+-- where no prefix is admitted none is said
+pub record IsBare {A : Type 0} (entry : Text → A → Type 0) (text : Text) (v : Literal A) : Type 0 where
+  pub alone : literal entry text v.sequences
+  pub unsaid : v.says_step ≡ false
+
+pub bare : {A : Type 0} (entry : Text → A → Type 0) (text : Text) (v : Literal A) → Prefixed (admitted true false) entry text v → IsBare entry text v
+bare {A} entry text v p = by_said p.said p.prefixes p.step
+  where
+    by_said : (said : List Prefix) → ArePrefixes (admitted true false) p.front said → v.says_step ≡ says_step said → IsBare entry text v
+    by_said [] are step = record { alone = subst (λ (t : Text). literal entry t v.sequences) (sym (p.whole ∙ ap (λ (t : Text). t ++ p.back) are)) p.sequences; unsaid = step }
+    by_said (interpolation ∷ said) are step = absurd (false_true are.3)
+    by_said (reference ∷ said) are step = absurd (false_true are.3)

@@ -4,6 +4,9 @@ ghost use Rattle.std.specs.Prelude.{◌≡◌, ◌≢◌, ◌++◌, List, Bool, 
 ghost use Rattle.mob_language.specs.Language.{Text};
 ghost use Rattle.mob_ast.specs.declared.types.SqlType.{SqlType};
 ghost use Rattle.mob_literal.specs.Fields.{is_null_field, text_of_field, field_text};
+ghost use Rattle.mob_written.specs.declared.written.Literal.{Literal};
+ghost use Rattle.mob_written.specs.declared.written.Noted.{Noted};
+ghost use Rattle.mob_written.specs.Literal.{Prefixed, literal, noted};
 ghost use Rattle.mob_written.specs.Prefix.{Prefix, ArePrefixes, admitted, says_step};
 ghost use Rattle.mob_written.specs.Printed.{moving_text};
 ghost use Rattle.mob_literal.specs.Readable.{AnyTruth, AreLevel, IsInt, IsReadAgain, IsReadable, IsText};
@@ -30,6 +33,12 @@ ghost use Rattle.mob_value.specs.declared.value.Value.TheVariants.{Null};
 use mob_slice::Course;
 use mob_written::WrittenValue;
 use mob_written::printing::Printed;
+
+/// Nothing stands before a literal of a step type, whose text is that of its sequences alone.
+pub fn nothing_before_steps<T: WrittenValue>()
+    ensures alone { (day : ℤ) (text : Text) (v : Literal (Noted T.Base)) → Prefixed (admitted true false) (noted day T.shape) text v → literal (noted day T.shape) text v.sequences }
+    ensures unsaid { (day : ℤ) (text : Text) (v : Literal (Noted T.Base)) → Prefixed (admitted true false) (noted day T.shape) text v → v.says_step ≡ false }
+{}
 
 /// A literal of a step type has one reading, and so has the text of a value of each type.
 pub fn one_reading()
