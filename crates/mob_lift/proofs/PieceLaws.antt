@@ -15,7 +15,7 @@ use Rattle.mob_slice.specs.Cut.{slice_value}
 use Rattle.mob_slice.specs.Sides.{SideOf, Moves, Stays, OperandOf, Slices, Base, pieces, side_at, has_slices, given_at, HoldsSide, HoldsPiece}
 use Rattle.mob_slice.specs.declared.slice.Slice.{Slice}
 use Rattle.mob_lift.specs.Pieces.{AreInOrder, AreSound, IsOperandFront}
-use Rattle.mob_span.specs.Meets.{both_there}
+use Rattle.std.specs.Option.{option_zip}
 use Rattle.mob_span.proofs.MeetLaws.{meets_clear, meets_at, meets_hold, HoldsBoth, sides}
 
 pub sound_order : {C B : Type 0} (start end : C → B) (o : OperandOf C B) → AreSound start end o → AreInOrder o
@@ -73,7 +73,7 @@ twice f g None = refl
 twice f g (Some x) = refl
 
 module _ {X Y Z : Type 0} (op : X → Y → Z) where
-  pub both_map : {A B : Type 0} (f : A → X) (g : B → Y) (a : Option A) (b : Option B) → option_map (λ (p : A × B). op (f p.0) (g p.1)) (both_there a b) ≡ map_both op (option_map f a) (option_map g b)
+  pub both_map : {A B : Type 0} (f : A → X) (g : B → Y) (a : Option A) (b : Option B) → option_map (λ (p : A × B). op (f p.0) (g p.1)) (option_zip a b) ≡ map_both op (option_map f a) (option_map g b)
   both_map f g None b = refl
   both_map f g (Some a) None = refl
   both_map f g (Some a) (Some b) = refl
