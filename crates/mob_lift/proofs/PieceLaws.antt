@@ -1,10 +1,10 @@
 -- What follows of the pieces of two operands.
 use Rattle.std.specs.Prelude.{◌≡◌, Bool, true, false, cond, ◌||◌, Option, Some, None, option_map, List, [], ◌∷◌, map, refl}
 use Rattle.std.specs.List.{AllByRecursion}
-use Rattle.std.proofs.Common.{ap, sym, ◌∙◌, subst, true≢false}
+use Rattle.std.proofs.Common.{ap, sym, ◌∙◌, true≢false}
 use Rattle.mob_ratio.specs.Ratio.{Ratio}
-use Rattle.mob_span.specs.Span.{SpanOf, has, has_instant}
-use Rattle.mob_span.specs.Neighbours.{is_clear, is_inside}
+use Rattle.mob_span.specs.Span.{SpanOf, has}
+use Rattle.mob_span.specs.Neighbours.{is_clear}
 use Rattle.mob_span.specs.Meets.{PieceOf, shared_pieces}
 use Rattle.mob_span.proofs.Insides.{inside_self}
 use Rattle.mob_slice.specs.Slices.{OfHead, IsSound, value_at}
@@ -12,10 +12,10 @@ use Rattle.mob_slice.proofs.Orders.{ordered-clear, all_sound}
 use Rattle.mob_span.specs.Parts.{part_at, PartsAreClear}
 use Rattle.mob_slice.specs.Operands.{map_both}
 use Rattle.mob_slice.specs.Cut.{slice_value}
-use Rattle.mob_slice.specs.Sides.{SideOf, Moves, Stays, OperandOf, Slices, Base, pieces, side_at, has_slices, given_at, HoldsSide, HoldsPiece}
+use Rattle.mob_slice.specs.Sides.{SideOf, Moves, Stays, OperandOf, Slices, Base, pieces, side_at, has_slices, given_at, HoldsPiece}
 use Rattle.mob_slice.specs.declared.slice.Slice.{Slice}
-use Rattle.mob_lift.specs.Pieces.{AreInOrder, AreSound, IsOperandFront}
-use Rattle.mob_span.specs.Meets.{both_there}
+use Rattle.mob_lift.specs.Pieces.{AreInOrder, AreSound}
+use Rattle.std.specs.Option.{option_zip}
 use Rattle.mob_span.proofs.MeetLaws.{meets_clear, meets_at, meets_hold, HoldsBoth, sides}
 
 pub sound_order : {C B : Type 0} (start end : C → B) (o : OperandOf C B) → AreSound start end o → AreInOrder o
@@ -73,7 +73,7 @@ twice f g None = refl
 twice f g (Some x) = refl
 
 module _ {X Y Z : Type 0} (op : X → Y → Z) where
-  pub both_map : {A B : Type 0} (f : A → X) (g : B → Y) (a : Option A) (b : Option B) → option_map (λ (p : A × B). op (f p.0) (g p.1)) (both_there a b) ≡ map_both op (option_map f a) (option_map g b)
+  pub both_map : {A B : Type 0} (f : A → X) (g : B → Y) (a : Option A) (b : Option B) → option_map (λ (p : A × B). op (f p.0) (g p.1)) (option_zip a b) ≡ map_both op (option_map f a) (option_map g b)
   both_map f g None b = refl
   both_map f g (Some a) None = refl
   both_map f g (Some a) (Some b) = refl

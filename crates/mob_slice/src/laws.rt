@@ -11,8 +11,9 @@ use mob_list::laws::crosses_threads;
 use std::marker::{Send, Sync};
 
 /// Two courses on neighbouring spans go on as one exactly where some course on both spans has the values of each on its own.
+/// One of the spans may be a single instant, on which a course has equal limits, as in every slice.
 pub fn one_course<C: Course>()
-    ensures one { ContinuesAsOne C.value_of C.is_continued }
+    ensures one { ContinuesAsOne C.value_of C.start_of C.end_of C.is_continued }
 {}
 
 /// Two courses on one span that share their values at two instants are equal on it.

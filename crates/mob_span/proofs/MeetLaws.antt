@@ -1,21 +1,22 @@
 -- What follows of the pieces that two lists share.
 use Rattle.std.specs.Prelude.{◌≡◌, Bool, true, false, cond, ◌&&◌, Option, Some, None, option_map, List, [], ◌∷◌, ◌++◌, map, refl}
-use Rattle.std.specs.List.{flat_map, filter, AllByRecursion}
-use Rattle.std.proofs.Common.{ap, sym, ◌∙◌, subst, true≢false}
+use Rattle.std.specs.List.{filter, AllByRecursion}
+use Rattle.std.specs.Option.{option_zip}
+use Rattle.std.proofs.Common.{ap, sym, ◌∙◌}
 use Rattle.mob_ratio.specs.Ratio.{Ratio}
 use Rattle.mob_span.specs.Span.{SpanOf, has, has_instant}
 use Rattle.mob_span.specs.Neighbours.{is_clear, is_inside}
 use Rattle.mob_span.specs.Meet.{meet_of}
-use Rattle.mob_span.specs.Meets.{PieceOf, shared_pieces, both_there}
+use Rattle.mob_span.specs.Meets.{PieceOf, shared_pieces, SharedAreCommon}
 use Rattle.mob_span.proofs.SpanLemmas.{meet_has, no_instant}
 use Rattle.mob_span.proofs.Insides.{clear_meet, clear_meet', meet_clear, meet_clear', meet_left, meet_right}
 use Rattle.mob_span.specs.Chained.{OfHead}
 use Rattle.mob_span.specs.Parts.{part_at, PartsAreClear}
 use Rattle.mob_span.proofs.Shared.{AreAllClear, all_after, later, piece, row}
 
-both_there-none : {A B : Type 0} (x : Option A) → both_there {Y = B} x None ≡ None
-both_there-none None = refl
-both_there-none (Some x) = refl
+zip-none : {A B : Type 0} (x : Option A) → option_zip {U = B} x None ≡ None
+zip-none None = refl
+zip-none (Some x) = refl
 
 abbrev or_else : {B : Type 0} → Option B → Option B → Option B
 or_else None y = y
@@ -106,17 +107,21 @@ module _ {X Y : Type 0} (span : X → SpanOf) (span' : Y → SpanOf) where
           sym q ∙ pick b k (part_at (λ p. p.span) (row span span' x w) t) ih
 
   -- At each instant the piece there has the two that the lists have there, and there is no piece where one of them has none.
-  pub meets_at : (v : List X) (w : List Y) (t : Ratio) → option_map sides (part_at (λ p. p.span) (shared_pieces span span' v w) t) ≡ both_there (part_at span v t) (part_at span' w t)
+  pub meets_at : (v : List X) (w : List Y) (t : Ratio) → option_map sides (part_at (λ p. p.span) (shared_pieces span span' v w) t) ≡ option_zip (part_at span v t) (part_at span' w t)
   meets_at [] w t = refl
   meets_at (x ∷ v) w t = ap (option_map sides) (part_joined (row span span' x w) (shared_pieces span span' v w) t ∙ ap (λ o. or_else o (part_at (λ p. p.span) (shared_pieces span span' v w) t)) (row_at x w t (has (span x) t) refl)) ∙ by (has (span x) t) (part_at span' w t) (meets_at v w t)
     where
       rest : Option (PieceOf X Y)
       rest = part_at (λ p. p.span) (shared_pieces span span' v w) t
 
-      by : (b : Bool) (o : Option Y) → option_map sides rest ≡ both_there (part_at span v t) o → option_map sides (or_else (cond b (option_map (λ y. piece span span' x y) o) None) rest) ≡ both_there (cond b (Some x) (part_at span v t)) o
-      by true None h = h ∙ both_there-none (part_at span v t)
+      by : (b : Bool) (o : Option Y) → option_map sides rest ≡ option_zip (part_at span v t) o → option_map sides (or_else (cond b (option_map (λ y. piece span span' x y) o) None) rest) ≡ option_zip (cond b (Some x) (part_at span v t)) o
+      by true None h = h ∙ zip-none (part_at span v t)
       by true (Some y) h = refl
       by false o h = h
+
+  -- so the pieces of two ordered lists are the common ones
+  pub shared_common : SharedAreCommon span span'
+  shared_common v w h k = record { clear = meets_clear v w h k; at_each = λ t. meets_at v w t }
 
   module _ (P : X → Type 0) (Q : Y → Type 0) where
     -- what holds of each entry holds of the two of each piece, whose spans hold that of the piece

@@ -1,5 +1,6 @@
 -- The pieces of time that the entries of two lists share.
-use Rattle.std.specs.Prelude.{◌≡◌, List, Option, None, Some, map, option_map}
+use Rattle.std.specs.Prelude.{◌≡◌, List, map, option_map}
+use Rattle.std.specs.Option.{option_zip}
 use Rattle.std.specs.List.{flat_map, filter}
 use Rattle.mob_ratio.specs.Ratio.{Ratio}
 use Rattle.mob_span.specs.Span.{SpanOf, has_instant}
@@ -17,14 +18,12 @@ pub record PieceOf (X Y : Type 0) : Type 0 where
 abbrev pub shared_pieces : {X Y : Type 0} → (X → SpanOf) → (Y → SpanOf) → List X → List Y → List (PieceOf X Y)
 shared_pieces span span' v w = flat_map (λ x. map (λ y. record { span = meet_of (span x) (span' y); left = x; right = y }) (filter (λ y. has_instant (meet_of (span x) (span' y))) w)) v
 
--- the two, where both are there
-abbrev pub both_there : {X Y : Type 0} → Option X → Option Y → Option (X × Y)
-both_there None y = None
-both_there (Some x) None = None
-both_there (Some x) (Some y) = Some (x, y)
-
 -- The pieces are ordered and disjoint, each has an instant, and at each instant the piece there has the two that the lists
--- have there: there is no piece where one of the lists has none.
+-- have there, where both have one: there is no piece where one of the lists has none.
 pub record AreCommon {X Y : Type 0} (span : X → SpanOf) (span' : Y → SpanOf) (v : List X) (w : List Y) (pieces : List (PieceOf X Y)) : Type 0 where
   pub clear : PartsAreClear (λ p. p.span) pieces
-  pub at_each : (t : Ratio) → option_map (λ p. (p.left, p.right)) (part_at (λ p. p.span) pieces t) ≡ both_there (part_at span v t) (part_at span' w t)
+  pub at_each : (t : Ratio) → option_map (λ p. (p.left, p.right)) (part_at (λ p. p.span) pieces t) ≡ option_zip (part_at span v t) (part_at span' w t)
+
+-- of two lists, each of them ordered and disjoint, the shared pieces are the common ones
+abbrev pub SharedAreCommon : {X Y : Type 0} → (X → SpanOf) → (Y → SpanOf) → Type 0
+SharedAreCommon {X} {Y} span span' = (v : List X) (w : List Y) → PartsAreClear span v → PartsAreClear span' w → AreCommon span span' v w (shared_pieces span span' v w)

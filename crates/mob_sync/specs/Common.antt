@@ -1,8 +1,7 @@
 -- The walk over the common pieces of two temporal values, and what holds of them.
 use Rattle.std.specs.Prelude.{List}
-use Rattle.mob_span.specs.Meets.{PieceOf, shared_pieces, AreCommon}
+use Rattle.mob_span.specs.Meets.{PieceOf}
 use Rattle.mob_span.specs.Walk.{CanWalk, meets_left}
-use Rattle.mob_slice.specs.Slices.{IsOrdered}
 use Rattle.mob_slice.specs.Sides.{Moves, HoldsSide}
 use Rattle.mob_slice.specs.declared.slice.Slice.{Slice}
 use Rattle.mob_slice.specs.declared.part.Pair.{Pair}
@@ -23,7 +22,3 @@ common_left s = meets_left (λ s. s.span) (λ s. s.span) s.walk
 -- the slices of a common piece are sound and hold its span
 abbrev pub HoldsPair : {A X B Y : Type 0} → (A → X) → (A → X) → (B → Y) → (B → Y) → PieceOf (Slice A) (Slice B) → Type 0
 HoldsPair start end start' end' p = HoldsSide start end (Moves p.left) p.span × HoldsSide start' end' (Moves p.right) p.span
-
--- of two ordered lists of slices the shared pieces are the common ones
-abbrev pub MeetsAreCommon : {A B X Y : Type 0} → (A → X) → (A → X) → (B → Y) → (B → Y) → Type 0
-MeetsAreCommon {A} {B} start end start' end' = (v : List (Slice A)) (w : List (Slice B)) → IsOrdered start end v → IsOrdered start' end' w → AreCommon (λ s. s.span) (λ s. s.span) v w (shared_pieces (λ s. s.span) (λ s. s.span) v w)

@@ -1,7 +1,7 @@
 ghost use Rattle.std.specs.Prelude.{◌≡◌};
 ghost use Rattle.std.specs.Iterator.{YieldsFirstBy, item_count};
 ghost use Rattle.std.specs.List.{AllByRecursion};
-ghost use Rattle.mob_span.specs.Meets.{shared_pieces};
+ghost use Rattle.mob_span.specs.Meets.{shared_pieces, AreCommon};
 ghost use Rattle.mob_span.specs.Parts.{PartsAreClear};
 ghost use Rattle.mob_sync.specs.Common.{CanStep, HoldsPair, pair_of, common_left};
 
@@ -9,7 +9,7 @@ use mob_slice::{Course, Moving, Pair, Slice};
 use mob_span::SharedPieces;
 
 /// The common pieces of two temporal values, in order of time: exactly the pieces that a slice of one and a slice of the other
-/// share.
+/// share. They hold exactly the instants at which both have a value, each with the slices there.
 #[derive(Drop)]
 pub struct Common<'a, A, B> {
     walk: SharedPieces<'a, Slice<A>, Slice<B>>,
@@ -22,6 +22,7 @@ impl<'a, A: Course, B: Course> Common<'a, A, B> {
         ensures clear { PartsAreClear (λ p. p.span) (common_left result) }
         ensures hold { AllByRecursion (HoldsPair A.start_of A.end_of B.start_of B.end_of) (common_left result) }
         ensures all { common_left result ≡ shared_pieces (λ s. s.span) (λ s. s.span) a.now b.now }
+        ensures common { AreCommon (λ s. s.span) (λ s. s.span) a.now b.now (common_left result) }
     {
         Common {
             walk: SharedPieces::new(a.slices(), b.slices()),
