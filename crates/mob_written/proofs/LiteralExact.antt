@@ -4,7 +4,7 @@ use Rattle.std.specs.Prelude.{◌&&◌, ◌||◌, not, nat_eq}
 use Rattle.mob_language.specs.Language.{Text, Language, ◌▷◌, ◌∣◌, Means, Word, AreAll, Separated, blanks, is_blank, in_middle}
 use Rattle.mob_language.specs.Readers.{TextReader, ◌>>=◌, means_at, separated_at, items_at}
 use Rattle.mob_language.proofs.Exact.{Exact, Stops, Any, bind_some, then_exact, or_exact, means_exact, word_exact, one_exact, many_exact, many_again}
-use Rattle.mob_language.proofs.Heads.{NoHead, Apart, HasByte, stops_less, exact_less, byte_stops, means_head, one_head, or_head, then_byte, means_byte, or_byte, then_byte_stops, word_then_head, one_then_head, byte_head, one_byte, word_byte, spaced_exact, IsEnd, within_exact}
+use Rattle.mob_language.proofs.Heads.{NoHead, Apart, HasByte, stops_less, byte_stops, means_head, one_head, or_head, then_byte, means_byte, or_byte, then_byte_stops, word_then_head, one_then_head, byte_head, one_byte, word_byte, spaced_exact, IsEnd, within_exact}
 use Rattle.mob_language.proofs.Lists.{separated_exact}
 use Rattle.mob_scalar.proofs.MomentExact.{Closes, moment_exact}
 use Rattle.mob_numeral.proofs.WholeTexts.{back_nil, front_nil}
