@@ -10,3 +10,5 @@ mod OneOutcome
 mod OneEnding
 mod Fitting
 mod Due
+mod StoredFiles
+mod StoredRows

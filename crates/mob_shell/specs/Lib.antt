@@ -12,3 +12,4 @@ pub mod Run
 pub mod Parts
 pub mod Outcomes
 pub mod WrittenOrder
+pub mod StoredTypes

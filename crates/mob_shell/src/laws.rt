@@ -1,6 +1,7 @@
 //! What holds of every run. No code runs here.
 ghost use Rattle.mob_shell.specs.StepOutcomes.{HasOneStatementFault, HasOneStep, NeverRunsAndStops, OneAnswer};
 ghost use Rattle.mob_shell.specs.Outcomes.{HasOneEnding, HasOneHalt, HasOneProgram, HasOneStop, HasOneText, NeverEndsAndStops, NeverProgramAndHalted};
+ghost use Rattle.mob_shell.specs.StoredTypes.{StoredRowsHaveTheirTypes, TablesAreThoseMade};
 
 /// A query has one answer, or one fault.
 pub fn one_answer()
@@ -47,4 +48,15 @@ pub fn one_ending()
     mob_accept::laws::one_text_refusal();
     one_program();
     one_text();
+}
+
+/// Wherever a program stands, behind any number of its statements, each row of each table has a value for each column, of the column's
+/// type; and the tables there are those that these statements made.
+pub fn stored_rows_have_their_types()
+    ensures rows { StoredRowsHaveTheirTypes }
+    ensures tables { TablesAreThoseMade }
+{
+    mob_typing::laws::scripts_are_well_typed();
+    mob_load::laws::literals_have_their_values();
+    mob_catalog::laws::values_have_their_types();
 }
