@@ -12,3 +12,4 @@ mod Fitting
 mod Due
 mod StoredFiles
 mod StoredRows
+mod ReadAsStored

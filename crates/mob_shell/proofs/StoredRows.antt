@@ -52,10 +52,10 @@ columns_behind [] x = refl
 columns_behind (y ∷ ys) x = ap (λ (cs : List ColumnList). head_columns y ∷ cs) (columns_behind ys x)
 
 -- the tables have these columns and hold rows of their types, beside these constants
-record Holds (values : List Value) (tables : List ColumnList) (c : Catalogue) : Type 0 where
-  typed : HoldsTypedTables c
-  made : columns_of_tables c ≡ tables
-  consts : c.store.consts ≡ values
+pub record Holds (values : List Value) (tables : List ColumnList) (c : Catalogue) : Type 0 where
+  pub typed : HoldsTypedTables c
+  pub made : columns_of_tables c ≡ tables
+  pub consts : c.store.consts ≡ values
 
 module _ (values : List Value) (tables : List ColumnList) where
   table_held : (columns : ColumnList) (c : Catalogue) → Holds values tables c → Holds values (tables ++ columns ∷ []) (with_empty_table columns c)
@@ -77,7 +77,7 @@ module _ (values : List Value) (tables : List ColumnList) where
   rows_held n (row ∷ rows) c h fits = rows_held n rows (with_row n row c) (row_held n row c h fits.0) fits.1
 
 module _ (owns : ConstantsHaveTheirTypes) (day : ℤ) where
-  constant_fits : (consts : List ConstText) (values : List Value) (k : ℕ) (ty : SqlType) → AllZip (IsConstant day) consts values → constant_type consts k ≡ Some ty → is_of_type ty (constant_value values (Some k)) ≡ true
+  pub constant_fits : (consts : List ConstText) (values : List Value) (k : ℕ) (ty : SqlType) → AllZip (IsConstant day) consts values → constant_type consts k ≡ Some ty → is_of_type ty (constant_value values (Some k)) ≡ true
   constant_fits [] values k ty h is = absurd (cc)
   constant_fits (c ∷ cs) [] k ty h is = absurd h
   constant_fits (c ∷ cs) (v ∷ vs) zero ty h is = let same : c.ty ≡ ty = cc in subst (λ (t : SqlType). is_of_type t v ≡ true) same (owns day c v h.0)
@@ -134,7 +134,7 @@ module _ (owns : ConstantsHaveTheirTypes) (day : ℤ) where
         statements_keep ss count (n + 1) (tables_behind tables x) ran.0 t ran.2 (statement_keeps n tables x ss s ran.0 h ran.3.leaves) ran.4
 
 module _ (well : TypingGivesWellTyped) (has : ProgramHasValues) (owns : ConstantsHaveTheirTypes) (own : RowsHaveColumnTypes) where
-  held : (settings : Settings) (input : Input) (count : ℕ) (text : List ℕ) (run : WritesFirst settings input count text) → Holds run.program.values (tables_made [] (take count run.out.statements)) run.stands.catalogue
+  pub held : (settings : Settings) (input : Input) (count : ℕ) (text : List ℕ) (run : WritesFirst settings input count text) → Holds run.program.values (tables_made [] (take count run.out.statements)) run.stands.catalogue
   held settings input count text run =
       let day = settings.epoch in
       let mean = has day input.files run.out run.program run.is.loads in

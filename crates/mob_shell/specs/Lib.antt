@@ -13,3 +13,4 @@ pub mod Parts
 pub mod Outcomes
 pub mod WrittenOrder
 pub mod StoredTypes
+pub mod ReadAsStored

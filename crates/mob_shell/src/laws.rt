@@ -1,6 +1,7 @@
 //! What holds of every run. No code runs here.
 ghost use Rattle.mob_shell.specs.StepOutcomes.{HasOneStatementFault, HasOneStep, NeverRunsAndStops, OneAnswer};
 ghost use Rattle.mob_shell.specs.Outcomes.{HasOneEnding, HasOneHalt, HasOneProgram, HasOneStop, HasOneText, NeverEndsAndStops, NeverProgramAndHalted};
+ghost use Rattle.mob_shell.specs.ReadAsStored.{QueriesReadWhatIsStored};
 ghost use Rattle.mob_shell.specs.StoredTypes.{StoredRowsHaveTheirTypes, TablesAreThoseMade};
 
 /// A query has one answer, or one fault.
@@ -56,6 +57,16 @@ pub fn stored_rows_have_their_types()
     ensures rows { StoredRowsHaveTheirTypes }
     ensures tables { TablesAreThoseMade }
 {
+    mob_typing::laws::scripts_are_well_typed();
+    mob_load::laws::literals_have_their_values();
+    mob_catalog::laws::values_have_their_types();
+}
+
+/// A query reads each value as it is stored: no leaf of it names a value of another type, which would read as NULL.
+pub fn queries_read_what_is_stored()
+    ensures read { QueriesReadWhatIsStored }
+{
+    mob_eval::laws::stored_values_are_read();
     mob_typing::laws::scripts_are_well_typed();
     mob_load::laws::literals_have_their_values();
     mob_catalog::laws::values_have_their_types();
