@@ -1,13 +1,12 @@
 -- A query reads each value as it is stored: stored values have the types that its leaves say.
-use Rattle.std.proofs.Common.{◌≡◌, ◌∙◌, refl, sym, ap, subst, ℕ, ℤ, zero, suc, List, [], ◌∷◌, map, true, Option, Some, None, take}
-use Rattle.std.specs.Prelude.{IfSome, slice_get, option_map, option_and_then}
+use Rattle.std.proofs.Common.{◌≡◌, ◌∙◌, refl, sym, ap, subst, arith, ℕ, ℤ, zero, suc, ◌<◌, length, List, [], ◌∷◌, ◌++◌, map, true, Option, Some, None, take}
+use Rattle.std.specs.Prelude.{IfSome, slice_get, option_map, option_and_then, unwrap_or}
 use Rattle.std.specs.List.{AllByRecursion, AllZip}
 use Rattle.mob_ast.specs.declared.types.SqlType.{SqlType}
 use Rattle.mob_operators.specs.declared.operator.Op.{Op}
 use Rattle.mob_operators.specs.declared.operator.Op.TheVariants as op
 use Rattle.mob_value.specs.declared.value.Value.{Value}
 use Rattle.mob_value.specs.declared.store.Table.{Table}
-use Rattle.mob_value.specs.Null.{value_or_null}
 use Rattle.mob_value.specs.Types.{is_of_type}
 use Rattle.mob_typed.specs.declared.typed.ConstText.{ConstText}
 use Rattle.mob_typed.specs.Trees.{TypedTree, typed, TypedTrees, none, more, type_of}
@@ -20,65 +19,79 @@ use Rattle.mob_catalog.specs.Catalogue.{Catalogue}
 use Rattle.mob_catalog.specs.Constants.{IsConstant}
 use Rattle.mob_catalog.specs.OwnTypes.{ConstantsHaveTheirTypes, HasColumnTypes, RowsHaveColumnTypes}
 use Rattle.mob_catalog.specs.declared.catalog.TableHead.{TableHead}
-use Rattle.mob_eval.specs.Scene.{Scene, scene, constant_at, column_value}
+use Rattle.mob_eval.specs.Scene.{Scene, scene, constant_at}
 use Rattle.mob_eval.specs.Stored.{ConstantsAreRead, ColumnsAreRead}
+use Rattle.mob_tuples.specs.Tuples.{StandsIn}
 use Rattle.mob_load.specs.Loads.{ProgramHasValues}
-use Rattle.mob_shell.specs.StoredTypes.{HoldsTypedRows, head_columns, tables_made}
-use Rattle.mob_shell.specs.ReadAsStored.{LeafReadsStored, ReadsStored, AllReadStored, QueryReadsStored, QueriesReadWhatIsStored}
-use Rattle.mob_shell.proofs.StoredRows.{Holds, constant_fits, held}
+use Rattle.mob_shell.specs.StoredTypes.{HoldsLiveRows, HoldsTypedRows, head_columns, tables_made}
+use Rattle.mob_shell.specs.ReadAsStored.{IsLiveTuple, LeafReadsStored, ReadsStored, AllReadStored, QueryReadsStored, QueriesReadWhatIsStored}
+use Rattle.mob_shell.proofs.StoredRows.{Holds, held}
 
--- a value that stands in a column of a row
-value_in_row : (columns : ColumnList) (row : List Value) (k : ℕ) (ty : SqlType) (v : Value) → HasColumnTypes columns row → option_map (λ (c : List ℕ × SqlType). c.1) (slice_get columns k) ≡ Some ty → slice_get row k ≡ Some v → is_of_type ty v ≡ true
-value_in_row [] row k ty v h is at = absurd (cc)
-value_in_row (c ∷ cs) [] k ty v h is at = absurd h
-value_in_row (c ∷ cs) (w ∷ ws) zero ty v h is at =
-    let same : c.1 ≡ ty = cc in
-    let here : w ≡ v = cc in
-    subst (λ (x : Value). is_of_type ty x ≡ true) here (subst (λ (t : SqlType). is_of_type t w ≡ true) same h.0)
-value_in_row (c ∷ cs) (w ∷ ws) (suc k) ty v h is at = value_in_row cs ws k ty v h.1 is at
+-- a value of the type is there
+abbrev IsStored : SqlType → Option Value → Type 0
+IsStored ty o = (v : Value) × (o ≡ Some v) × (is_of_type ty v ≡ true)
 
-module _ (k : ℕ) (ty : SqlType) (v : Value) where
-  value_in_rows : (columns : ColumnList) (rows : List (List Value)) (n : ℕ) → AllByRecursion (HasColumnTypes columns) rows → option_map (λ (c : List ℕ × SqlType). c.1) (slice_get columns k) ≡ Some ty
-      → option_and_then (λ (vs : List Value). slice_get vs k) (slice_get rows n) ≡ Some v → is_of_type ty v ≡ true
-  value_in_rows columns [] n h is at = absurd (cc)
-  value_in_rows columns (row ∷ rows) zero h is at = value_in_row columns row k ty v h.0 is at
-  value_in_rows columns (row ∷ rows) (suc n) h is at = value_in_rows columns rows n h.1 is at
+-- in a column of a row
+value_in_row : (columns : ColumnList) (row : List Value) (k : ℕ) (ty : SqlType) → HasColumnTypes columns row → option_map (λ (c : List ℕ × SqlType). c.1) (slice_get columns k) ≡ Some ty → IsStored ty (slice_get row k)
+value_in_row [] row k ty h is = absurd (cc)
+value_in_row (c ∷ cs) [] k ty h is = absurd h
+value_in_row (c ∷ cs) (w ∷ ws) zero ty h is = let same : c.1 ≡ ty = cc in (w, refl, subst (λ (t : SqlType). is_of_type t w ≡ true) same h.0)
+value_in_row (c ∷ cs) (w ∷ ws) (suc k) ty h is = value_in_row cs ws k ty h.1 is
 
-  value_of_row : (columns : ColumnList) (rows : List (List Value)) (o : Option ℕ) → AllByRecursion (HasColumnTypes columns) rows → option_map (λ (c : List ℕ × SqlType). c.1) (slice_get columns k) ≡ Some ty
-      → option_and_then (λ (vs : List Value). slice_get vs k) (option_and_then (λ (n : ℕ). slice_get rows n) o) ≡ Some v → is_of_type ty v ≡ true
-  value_of_row columns rows None h is at = absurd (cc)
-  value_of_row columns rows (Some n) h is at = value_in_rows columns rows n h is at
+each_of_parts : (P : ℕ → Type 0) (front rest : List ℕ) (n : ℕ) → AllByRecursion P (front ++ n ∷ rest) → P n
+each_of_parts P [] rest n h = h.0
+each_of_parts P (m ∷ front) rest n h = each_of_parts P front rest n h.1
 
-  value_of_table : (heads : List TableHead) (tables : List Table) (t : ℕ) (o : Option ℕ) → AllZip HoldsTypedRows heads tables → column_type (map head_columns heads) t k ≡ Some ty
-      → option_and_then (λ (vs : List Value). slice_get vs k) (option_and_then (λ (rows : List (List Value)). option_and_then (λ (n : ℕ). slice_get rows n) o) (option_map (λ (x : Table). x.rows) (slice_get tables t))) ≡ Some v
-      → is_of_type ty v ≡ true
-  value_of_table [] tables t o h is at = absurd (cc)
-  value_of_table (x ∷ xs) [] t o h is at = absurd h
-  value_of_table (x ∷ xs) (y ∷ ys) zero o h is at = value_of_row x.columns y.rows o h.0 is at
-  value_of_table (x ∷ xs) (y ∷ ys) (suc t) o h is at = value_of_table xs ys t o h.1 is at
+each_that_stands : (P : ℕ → Type 0) (all : List ℕ) (n : ℕ) → StandsIn n all → AllByRecursion P all → P n
+each_that_stands P all n at h = each_of_parts P at.0 at.1 n (subst (AllByRecursion P) at.2 h)
 
-  value_of_place : (heads : List TableHead) (tables : List Table) (p o : Option ℕ) → AllZip HoldsTypedRows heads tables → option_and_then (λ (t : ℕ). column_type (map head_columns heads) t k) p ≡ Some ty
-      → option_and_then (λ (vs : List Value). slice_get vs k) (option_and_then (λ (rows : List (List Value)). option_and_then (λ (n : ℕ). slice_get rows n) o) (option_and_then (λ (t : ℕ). option_map (λ (x : Table). x.rows) (slice_get tables t)) p)) ≡ Some v
-      → is_of_type ty v ≡ true
-  value_of_place heads tables None o h is at = absurd (cc)
-  value_of_place heads tables (Some t) o h is at = value_of_table heads tables t o h is at
+module _ (k : ℕ) (ty : SqlType) where
+  value_in_rows : (columns : ColumnList) (rows : List (List Value)) (n : ℕ) → AllByRecursion (HasColumnTypes columns) rows → n < length rows → option_map (λ (c : List ℕ × SqlType). c.1) (slice_get columns k) ≡ Some ty
+      → IsStored ty (option_and_then (λ (vs : List Value). slice_get vs k) (slice_get rows n))
+  value_in_rows columns [] n h below is = absurd (omega (arith, below))
+  value_in_rows columns (row ∷ rows) zero h below is = value_in_row columns row k ty h.0 is
+  value_in_rows columns (row ∷ rows) (suc n) h below is = value_in_rows columns rows n h.1 (omega (arith, below)) is
 
-value_or_stands : (o : Option Value) (v : Value) → o ≡ Some v → value_or_null o ≡ v
-value_or_stands o v is = ap value_or_null is
+  value_of_table : (heads : List TableHead) (tables : List Table) (t n : ℕ) → AllZip HoldsTypedRows heads tables → AllZip HoldsLiveRows heads tables → StandsIn n (unwrap_or (option_map (λ (h : TableHead). h.live) (slice_get heads t)) [])
+      → column_type (map head_columns heads) t k ≡ Some ty
+      → IsStored ty (option_and_then (λ (vs : List Value). slice_get vs k) (option_and_then (λ (rows : List (List Value)). slice_get rows n) (option_map (λ (x : Table). x.rows) (slice_get tables t))))
+  value_of_table [] tables t n h live at is = absurd (cc)
+  value_of_table (x ∷ xs) [] t n h live at is = absurd h
+  value_of_table (x ∷ xs) (y ∷ ys) zero n h live at is = value_in_rows x.columns y.rows n h.0 (each_that_stands (λ (m : ℕ). m < length y.rows) x.live n at live.0) is
+  value_of_table (x ∷ xs) (y ∷ ys) (suc t) n h live at is = value_of_table xs ys t n h.1 live.1 at is
+
+  module _ (heads : List TableHead) (tables : List Table) (h : AllZip HoldsTypedRows heads tables) (live : AllZip HoldsLiveRows heads tables) where
+    value_of_place : (from tuple : List ℕ) (f : ℕ) → AllZip (λ (t number : ℕ). StandsIn number (unwrap_or (option_map (λ (x : TableHead). x.live) (slice_get heads t)) [])) from tuple
+        → from_type (map head_columns heads) from f k ≡ Some ty
+        → IsStored ty (option_and_then (λ (vs : List Value). slice_get vs k) (option_and_then (λ (rows : List (List Value)). option_and_then (λ (n : ℕ). slice_get rows n) (slice_get tuple f)) (option_and_then (λ (t : ℕ). option_map (λ (x : Table). x.rows) (slice_get tables t)) (slice_get from f))))
+    value_of_place [] tuple f at is = absurd (cc)
+    value_of_place (t ∷ ts) [] f at is = absurd at
+    value_of_place (t ∷ ts) (n ∷ ns) zero at is = value_of_table heads tables t n h live at.0 is
+    value_of_place (t ∷ ts) (n ∷ ns) (suc f) at is = value_of_place ts ns f at.1 is
+
+-- the value of a constant
+module _ (owns : ConstantsHaveTheirTypes) (day : ℤ) where
+  constant_stands : (consts : List ConstText) (values : List Value) (k : ℕ) (ty : SqlType) → AllZip (IsConstant day) consts values → constant_type consts k ≡ Some ty → IsStored ty (slice_get values k)
+  constant_stands [] values k ty h is = absurd (cc)
+  constant_stands (c ∷ cs) [] k ty h is = absurd h
+  constant_stands (c ∷ cs) (v ∷ vs) zero ty h is = let same : c.ty ≡ ty = cc in (v, refl, subst (λ (t : SqlType). is_of_type t v ≡ true) same (owns day c v h.0))
+  constant_stands (c ∷ cs) (v ∷ vs) (suc k) ty h is = constant_stands cs vs k ty h.1 is
 
 module _ (constants : ConstantsAreRead) (columns : ColumnsAreRead) (owns : ConstantsHaveTheirTypes) (day : ℤ) (consts : List ConstText) (values : List Value) (mean : AllZip (IsConstant day) consts values)
-    (tables : List ColumnList) (c : Catalogue) (holds : Holds values tables c) (from tuple : List ℕ) where
+    (tables : List ColumnList) (c : Catalogue) (holds : Holds values tables c) (from tuple : List ℕ) (live : IsLiveTuple c from tuple) where
   abbrev here : Scene
   here = scene c.store from tuple day
 
   constant_reads : (k : ℕ) (ty : SqlType) (place : ℕ) → HasNamedType tables from consts (op.Const k) ty → LeafReadsStored here (op.Const k) ty place
-  constant_reads k ty place is v at =
-      let stands : slice_get values k ≡ Some v = ap (λ (vs : List Value). slice_get vs k) (sym holds.consts) ∙ at in
-      constants here k place ty v at (subst (λ (w : Value). is_of_type ty w ≡ true) (value_or_stands (slice_get values k) v stands) (constant_fits owns day consts values k ty mean is))
+  constant_reads k ty place is =
+      let stands = constant_stands owns day consts values k ty mean is in
+      let at : constant_at here k ≡ Some stands.0 = ap (λ (vs : List Value). slice_get vs k) holds.consts ∙ stands.1 in
+      (stands.0, at, constants here k place ty stands.0 at stands.2)
 
   column_reads : (f k : ℕ) (ty : SqlType) (place : ℕ) → HasNamedType tables from consts (op.Column f k) ty → LeafReadsStored here (op.Column f k) ty place
-  column_reads f k ty place is v at =
-      columns here f k place ty v at (value_of_place k ty v c.heads c.store.tables (slice_get from f) (slice_get tuple f) holds.typed (subst (λ (ts : List ColumnList). from_type ts from f k ≡ Some ty) (sym holds.made) is) at)
+  column_reads f k ty place is =
+      let stands = value_of_place k ty c.heads c.store.tables holds.typed holds.live from tuple f live (subst (λ (ts : List ColumnList). from_type ts from f k ≡ Some ty) (sym holds.made) is) in
+      (stands.0, stands.1, columns here f k place ty stands.0 stands.1 stands.2)
 
   leaf_reads : (o : Op) (ty : SqlType) (place : ℕ) → HasNamedType tables from consts o ty → LeafReadsStored here o ty place
   leaf_reads (op.Const k) ty place is = constant_reads k ty place is
@@ -105,7 +118,7 @@ typed_at consts (s ∷ ss) (suc count) tables x h at = typed_at consts ss count 
 
 module _ (constants : ConstantsAreRead) (columns : ColumnsAreRead) (well : TypingGivesWellTyped) (has : ProgramHasValues) (owns : ConstantsHaveTheirTypes) (own : RowsHaveColumnTypes) where
   pub queries_read : QueriesReadWhatIsStored
-  queries_read settings input count text run q tuple next =
+  queries_read settings input count text run q tuple next live =
       let day = settings.epoch in
       let consts = run.out.consts in
       let values = run.program.values in
@@ -113,10 +126,10 @@ module _ (constants : ConstantsAreRead) (columns : ColumnsAreRead) (well : Typin
       let tables = tables_made [] (take count run.out.statements) in
       let holds = held well has owns own settings input count text run in
       let h = typed_at consts run.out.statements count [] (query q) (well run.is.script.trees run.out run.is.script.script.typed) next in
-      let reads = tree_reads constants columns owns day consts values mean tables run.stands.catalogue holds q.from tuple in
+      let reads = tree_reads constants columns owns day consts values mean tables run.stands.catalogue holds q.from tuple live in
       let s = scene run.stands.catalogue.store q.from tuple day in
       record {
         items = each_on (λ o. HasNamedTypes tables q.from consts o.0) (λ o. ReadsStored s o.0) (λ o g. reads o.0 g) q.items h.items;
-        condition = condition_reads constants columns owns day consts values mean tables run.stands.catalogue holds q.from tuple q.cond h.condition;
+        condition = condition_reads constants columns owns day consts values mean tables run.stands.catalogue holds q.from tuple live q.cond h.condition;
         keys = each_on (λ k. HasNamedTypes tables q.from consts k.0 × (is_key (type_of k.0) ≡ true)) (λ k. ReadsStored s k.0) (λ k g. reads k.0 g.0) q.keys h.keys;
       }

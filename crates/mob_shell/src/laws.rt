@@ -2,7 +2,7 @@
 ghost use Rattle.mob_shell.specs.StepOutcomes.{HasOneStatementFault, HasOneStep, NeverRunsAndStops, OneAnswer};
 ghost use Rattle.mob_shell.specs.Outcomes.{HasOneEnding, HasOneHalt, HasOneProgram, HasOneStop, HasOneText, NeverEndsAndStops, NeverProgramAndHalted};
 ghost use Rattle.mob_shell.specs.ReadAsStored.{QueriesReadWhatIsStored};
-ghost use Rattle.mob_shell.specs.StoredTypes.{StoredRowsHaveTheirTypes, TablesAreThoseMade};
+ghost use Rattle.mob_shell.specs.StoredTypes.{LiveRowsAreStored, StoredRowsHaveTheirTypes, TablesAreThoseMade};
 
 /// A query has one answer, or one fault.
 pub fn one_answer()
@@ -52,9 +52,10 @@ pub fn one_ending()
 }
 
 /// Wherever a program stands, behind any number of its statements, each row of each table has a value for each column, of the column's
-/// type; and the tables there are those that these statements made.
+/// type, and each row that is there is one of them; and the tables there are those that these statements made.
 pub fn stored_rows_have_their_types()
     ensures rows { StoredRowsHaveTheirTypes }
+    ensures live { LiveRowsAreStored }
     ensures tables { TablesAreThoseMade }
 {
     mob_typing::laws::scripts_are_well_typed();
@@ -62,7 +63,8 @@ pub fn stored_rows_have_their_types()
     mob_catalog::laws::values_have_their_types();
 }
 
-/// A query reads each value as it is stored: no leaf of it names a value of another type, which would read as NULL.
+/// A query reads, on the rows of its tables that are there, each value as it is stored: no leaf of it names a value that is missing, or one
+/// of another type, which would read as NULL.
 pub fn queries_read_what_is_stored()
     ensures read { QueriesReadWhatIsStored }
 {
