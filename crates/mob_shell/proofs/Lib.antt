@@ -12,4 +12,5 @@ mod Fitting
 mod Due
 mod StoredFiles
 mod StoredRows
+mod LiveTuples
 mod ReadAsStored

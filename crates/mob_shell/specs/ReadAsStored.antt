@@ -1,5 +1,5 @@
 -- A query reads each value as it is stored.
-use Rattle.std.specs.Prelude.{◌≡◌, ℕ, List, Option, Some, IfSome, slice_get}
+use Rattle.std.specs.Prelude.{◌≡◌, ℕ, List, [], Option, Some, IfSome, slice_get}
 use Rattle.std.specs.List.{AllByRecursion, AllZip}
 use Rattle.mob_ast.specs.declared.types.SqlType.{SqlType}
 use Rattle.mob_operators.specs.declared.operator.Op.{Op}
@@ -9,9 +9,10 @@ use Rattle.mob_typed.specs.Selects.{TypedSelectParts}
 use Rattle.mob_typed.specs.Statements.{query}
 use Rattle.mob_value.specs.declared.value.Value.{Value}
 use Rattle.mob_catalog.specs.Catalogue.{Catalogue, live_rows}
-use Rattle.mob_tuples.specs.Tuples.{StandsIn}
+use Rattle.mob_tuples.specs.Tuples.{AreTuples, StandsIn}
 use Rattle.mob_eval.specs.Scene.{Scene, scene, constant_at, column_value}
 use Rattle.mob_eval.specs.Values.{TreeHasValue}
+use Rattle.mob_join.specs.Rows.{TableGives}
 use Rattle.mob_words.specs.declared.options.Settings.{Settings}
 use Rattle.mob_shell.specs.Inputs.{Input}
 use Rattle.mob_shell.specs.Program.{WritesFirst}
@@ -19,6 +20,10 @@ use Rattle.mob_shell.specs.Program.{WritesFirst}
 -- a row of each table of FROM that is there
 abbrev pub IsLiveTuple : Catalogue → List ℕ → List ℕ → Type 0
 IsLiveTuple c from tuple = AllZip (λ t number. StandsIn number (live_rows c t)) from tuple
+
+-- The tuples of rows of the tables of FROM are such tuples.
+abbrev pub TuplesAreLive : Type 0
+TuplesAreLive = (c : Catalogue) (from : List ℕ) (tuples : List (List ℕ)) → AreTuples (TableGives c) from [] tuples → AllByRecursion (IsLiveTuple c from) tuples
 
 -- where a leaf names a constant or a column, a value is stored there, and it is the value of the leaf
 abbrev pub LeafReadsStored : Scene → Op → SqlType → ℕ → Type 0

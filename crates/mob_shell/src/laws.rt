@@ -1,7 +1,7 @@
 //! What holds of every run. No code runs here.
 ghost use Rattle.mob_shell.specs.StepOutcomes.{HasOneStatementFault, HasOneStep, NeverRunsAndStops, OneAnswer};
 ghost use Rattle.mob_shell.specs.Outcomes.{HasOneEnding, HasOneHalt, HasOneProgram, HasOneStop, HasOneText, NeverEndsAndStops, NeverProgramAndHalted};
-ghost use Rattle.mob_shell.specs.ReadAsStored.{QueriesReadWhatIsStored};
+ghost use Rattle.mob_shell.specs.ReadAsStored.{QueriesReadWhatIsStored, TuplesAreLive};
 ghost use Rattle.mob_shell.specs.StoredTypes.{LiveRowsAreStored, StoredRowsHaveTheirTypes, TablesAreThoseMade};
 
 /// A query has one answer, or one fault.
@@ -63,9 +63,10 @@ pub fn stored_rows_have_their_types()
     mob_catalog::laws::values_have_their_types();
 }
 
-/// A query reads, on the rows of its tables that are there, each value as it is stored: no leaf of it names a value that is missing, or one
-/// of another type, which would read as NULL.
+/// The tuples of a query are of rows that are there, and on these it reads each value as it is stored: no leaf of it names a value that is
+/// missing, or one of another type, which would read as NULL.
 pub fn queries_read_what_is_stored()
+    ensures tuples { TuplesAreLive }
     ensures read { QueriesReadWhatIsStored }
 {
     mob_eval::laws::stored_values_are_read();
