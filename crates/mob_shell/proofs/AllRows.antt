@@ -6,7 +6,7 @@ use Rattle.mob_catalog.specs.Catalogue.{Catalogue, with_row}
 use Rattle.mob_catalog.specs.Live.{AllAreThere, RowsStayThere}
 use Rattle.mob_shell.specs.Runs.{RunState, RunsStatement, StatementLeaves, begin, inserted_row, next_rows, with_all_rows}
 use Rattle.mob_shell.specs.Statements.{Ran}
-use Rattle.mob_shell.specs.Stored.{AllRowsAreThere}
+use Rattle.mob_shell.specs.AllRows.{AllRowsAreThere}
 
 module _ (stay : RowsStayThere) where
   rows_there : (n : ℕ) (rows : List (List Value)) (c : Catalogue) → AllAreThere c → AllAreThere (with_all_rows n rows c)
