@@ -1,5 +1,5 @@
 -- The tuples of a query are made of rows that are there.
-use Rattle.std.proofs.Common.{◌≡◌, ◌∙◌, refl, sym, ap, subst, ℕ, List, [], ◌∷◌, ◌++◌, append_assoc, append-nil}
+use Rattle.std.proofs.Common.{◌≡◌, ◌∙◌, sym, subst, ℕ, List, [], ◌∷◌, ◌++◌, append_assoc, append-nil}
 use Rattle.std.specs.List.{AllByRecursion}
 use Rattle.mob_typed.proofs.Rising.{each_both, each_on}
 use Rattle.mob_catalog.specs.Catalogue.{Catalogue, live_rows}

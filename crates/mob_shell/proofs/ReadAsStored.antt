@@ -10,11 +10,10 @@ use Rattle.mob_value.specs.declared.store.Table.{Table}
 use Rattle.mob_value.specs.Types.{is_of_type}
 use Rattle.mob_typed.specs.declared.typed.ConstText.{ConstText}
 use Rattle.mob_typed.specs.Trees.{TypedTree, typed, TypedTrees, none, more, type_of}
-use Rattle.mob_typed.specs.Selects.{TypedSelectParts}
 use Rattle.mob_typed.specs.Statements.{ColumnList, StatementOut, query}
 use Rattle.mob_typed.proofs.Rising.{each_on}
 use Rattle.mob_typing.specs.Selects.{is_bool, is_key}
-use Rattle.mob_typing.specs.WellTyped.{constant_type, column_type, from_type, HasNamedType, HasNamedTypes, AllHaveNamedTypes, AreTypedStatements, IsTypedQuery, IsTypedStatement, tables_behind, TypingGivesWellTyped}
+use Rattle.mob_typing.specs.WellTyped.{constant_type, column_type, from_type, HasNamedType, HasNamedTypes, AllHaveNamedTypes, AreTypedStatements, IsTypedStatement, tables_behind, TypingGivesWellTyped}
 use Rattle.mob_catalog.specs.Catalogue.{Catalogue}
 use Rattle.mob_catalog.specs.Constants.{IsConstant}
 use Rattle.mob_catalog.specs.OwnTypes.{ConstantsHaveTheirTypes, HasColumnTypes, RowsHaveColumnTypes}
@@ -24,7 +23,7 @@ use Rattle.mob_eval.specs.Stored.{ConstantsAreRead, ColumnsAreRead}
 use Rattle.mob_tuples.specs.Tuples.{StandsIn}
 use Rattle.mob_load.specs.Loads.{ProgramHasValues}
 use Rattle.mob_shell.specs.StoredTypes.{HoldsLiveRows, HoldsTypedRows, head_columns, tables_made}
-use Rattle.mob_shell.specs.ReadAsStored.{IsLiveTuple, LeafReadsStored, ReadsStored, AllReadStored, QueryReadsStored, QueriesReadWhatIsStored}
+use Rattle.mob_shell.specs.ReadAsStored.{IsLiveTuple, LeafReadsStored, ReadsStored, AllReadStored, QueriesReadWhatIsStored}
 use Rattle.mob_shell.proofs.StoredRows.{Holds, held}
 
 -- a value of the type is there

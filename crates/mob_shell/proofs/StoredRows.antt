@@ -1,8 +1,7 @@
 -- Statements put rows of the types of their columns into tables.
-use Rattle.std.proofs.Common.{◌≡◌, ◌∙◌, refl, sym, ap, subst, ℕ, ℤ, zero, suc, arith, ◌+◌, ◌<◌, ◌≤◌, length, List, [], ◌∷◌, ◌++◌, map, true, Option, Some, None, Ok, take}
-use Rattle.std.specs.Prelude.{slice_get}
+use Rattle.std.proofs.Common.{◌≡◌, ◌∙◌, refl, sym, ap, subst, ℕ, ℤ, zero, suc, arith, ◌+◌, ◌<◌, ◌≤◌, length, List, [], ◌∷◌, ◌++◌, map, true, Option, Some, None, take}
 use Rattle.std.specs.List.{AllByRecursion, AllZip}
-use Rattle.std.proofs.lemmas.List.{length-append}
+use Rattle.std.proofs.lemmas.List.{length-append, map-append}
 use Rattle.mob_ast.specs.declared.types.SqlType.{SqlType}
 use Rattle.mob_value.specs.declared.value.Value.{Value}
 use Rattle.mob_value.specs.declared.store.Table.{Table}
@@ -66,10 +65,6 @@ table_behind R x t new [] (u ∷ us) h = absurd h
 table_behind R x t new (y ∷ ys) [] h = absurd h
 table_behind R x t new (y ∷ ys) (u ∷ us) h = (h.0, table_behind R x t new ys us h.1)
 
-columns_behind : (heads : List TableHead) (x : TableHead) → map head_columns (heads ++ x ∷ []) ≡ map head_columns heads ++ head_columns x ∷ []
-columns_behind [] x = refl
-columns_behind (y ∷ ys) x = ap (λ (cs : List ColumnList). head_columns y ∷ cs) (columns_behind ys x)
-
 -- the tables have these columns and hold rows of their types, beside these constants
 pub record Holds (values : List Value) (tables : List ColumnList) (c : Catalogue) : Type 0 where
   pub typed : HoldsTypedTables c
@@ -82,7 +77,7 @@ module _ (values : List Value) (tables : List ColumnList) where
   table_held columns c h = record {
     typed = table_behind HoldsTypedRows (record { columns = columns; live = [] }) (record { rows = [] }) tt c.heads c.store.tables h.typed;
     live = table_behind HoldsLiveRows (record { columns = columns; live = [] }) (record { rows = [] }) tt c.heads c.store.tables h.live;
-    made = columns_behind c.heads (record { columns = columns; live = [] }) ∙ ap (λ (cs : List ColumnList). cs ++ columns ∷ []) h.made;
+    made = map-append head_columns c.heads (record { columns = columns; live = [] } ∷ []) ∙ ap (λ (cs : List ColumnList). cs ++ columns ∷ []) h.made;
     consts = h.consts;
   }
 

@@ -1,5 +1,5 @@
 -- A query reads each value as it is stored.
-use Rattle.std.specs.Prelude.{◌≡◌, ℕ, List, [], Option, Some, IfSome, slice_get}
+use Rattle.std.specs.Prelude.{◌≡◌, ℕ, List, [], Some, IfSome, slice_get}
 use Rattle.std.specs.List.{AllByRecursion, AllZip}
 use Rattle.mob_ast.specs.declared.types.SqlType.{SqlType}
 use Rattle.mob_operators.specs.declared.operator.Op.{Op}
