@@ -3,7 +3,7 @@
 use mob_arith::{times_const, times_step};
 use mob_ast::SqlType;
 use mob_frac::Frac;
-use mob_literal::{read_value, write_value};
+use mob_literal::{read_value, write_field};
 use mob_scalar::Epoch;
 use mob_slice::{Moving, Steady};
 use mob_sync::{Common, Ones};
@@ -12,7 +12,7 @@ use std::alloc::Global;
 
 fn is_printed(alloc: Global, value: &Value, wanted: &str) -> bool {
     let mut into = String::new(alloc);
-    write_value(value, &Epoch::standard(), &mut into).is_ok() && into.as_str() == wanted
+    write_field(value, &Epoch::standard(), &mut into).is_ok() && into.as_str() == wanted
 }
 
 // Whether the multiple by 2 prints so.
