@@ -9,6 +9,8 @@ mod courses;
 #[cfg(test)]
 mod fractions;
 #[cfg(test)]
+mod multiples;
+#[cfg(test)]
 mod queries;
 #[cfg(test)]
 mod spans;
