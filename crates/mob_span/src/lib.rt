@@ -4,12 +4,14 @@
 //! spans that do not touch.
 #![tactic(auto)]
 
+pub mod gap;
 pub mod laws;
 pub mod set;
 pub mod span;
 pub mod spanned;
 pub mod walk;
 
+pub use gap::gaps;
 pub use set::SpanSet;
 pub use span::Span;
 pub use spanned::Spanned;

@@ -1,0 +1,39 @@
+//! What spans leave of a span.
+
+ghost use Rattle.std.specs.Prelude.{◌≡◌, IfOk};
+ghost use Rattle.mob_span.specs.Parts.{PartsAreClear};
+ghost use Rattle.mob_span.specs.Gaps.{gaps_of, AreGaps};
+
+use crate::span::Span;
+use std::alloc::{AllocError, Global};
+
+/// The instants of a span that are in none of the given spans, in order of time. The given spans are in order too.
+pub fn gaps(alloc: Global, span: &Span, spans: &[Span]) -> Result<Vec<Span>, AllocError>
+    requires order { PartsAreClear (λ s. s) spans.now }
+    ensures instants { IfOk result (λ v. AreGaps span.now spans.now v.items) }
+    ensures order { IfOk result (λ v. PartsAreClear (λ s. s) v.items) }
+    ensures ends { IfOk result (λ v. v.items ≡ gaps_of span.now spans.now) }
+{
+    let _ = span.lower();
+    left_by(alloc, span, spans)
+}
+
+// What the spans leave of the span, from the first of them on.
+fn left_by(alloc: Global, span: &Span, spans: &[Span]) -> Result<Vec<Span>, AllocError>
+    ensures ends { IfOk result (λ v. v.items ≡ gaps_of span.now spans.now) }
+{
+    let _ = span.lower();
+    let mut found = Vec::new(alloc);
+    let mut rest = *span;
+    for next in spans {
+        if let Some(front) = rest.front(next) {
+            found.push(front)?;
+        }
+        match rest.back(next) {
+            Some(back) => rest = back,
+            None => return Ok(found),
+        }
+    }
+    found.push(rest)?;
+    Ok(found)
+}
