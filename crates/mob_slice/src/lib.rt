@@ -22,7 +22,7 @@ pub use base_value::BaseValue;
 pub use comparison::{Compared, Gaps, Ranked, Rel};
 pub use course::Course;
 pub use cutting::{cut, level, limit};
-pub use formula::{Formula, LookFault, OpFault, Passed};
+pub use formula::{Formula, LookFault, OpFault, Passed, operator_fault};
 pub use moving::Moving;
 pub use operand::Operand;
 pub use part::{One, Pair, Part};

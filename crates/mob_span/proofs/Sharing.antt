@@ -11,12 +11,12 @@ use Rattle.mob_span.specs.Sets.{in_some}
 use Rattle.mob_span.specs.Gaps.{IsInBoth}
 use Rattle.mob_span.proofs.MeetLaws.{meets_at, sides}
 
-abbrev is_there : {A : Type 0} → Option A → Bool
+abbrev pub is_there : {A : Type 0} → Option A → Bool
 is_there None = false
 is_there (Some x) = true
 
 -- some part has the instant exactly where there is a part there
-there : {P : Type 0} (span : P → SpanOf) (ps : List P) (t : Ratio) → list_any (λ p. has (span p) t) ps ≡ is_there (part_at span ps t)
+pub there : {P : Type 0} (span : P → SpanOf) (ps : List P) (t : Ratio) → list_any (λ p. has (span p) t) ps ≡ is_there (part_at span ps t)
 there span [] t = refl
 there span (p ∷ ps) t = ap (λ b. has (span p) t || b) (there span ps t) ∙ by (has (span p) t)
   where
@@ -24,7 +24,7 @@ there span (p ∷ ps) t = ap (λ b. has (span p) t || b) (there span ps t) ∙ b
     by true = refl
     by false = refl
 
-any_map : {P : Type 0} (span : P → SpanOf) (ps : List P) (t : Ratio) → in_some (map span ps) t ≡ list_any (λ p. has (span p) t) ps
+pub any_map : {P : Type 0} (span : P → SpanOf) (ps : List P) (t : Ratio) → in_some (map span ps) t ≡ list_any (λ p. has (span p) t) ps
 any_map span [] t = refl
 any_map span (p ∷ ps) t = ap (λ b. has (span p) t || b) (any_map span ps t)
 

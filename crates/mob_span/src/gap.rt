@@ -1,10 +1,13 @@
 //! What spans leave of a span.
 
-ghost use Rattle.std.specs.Prelude.{◌≡◌, IfOk};
+ghost use Rattle.std.specs.Prelude.{◌≡◌, true, [], IfOk, MatchOption};
+ghost use Rattle.std.specs.List.{AllByRecursion};
+ghost use Rattle.mob_span.specs.Neighbours.{is_inside};
 ghost use Rattle.mob_span.specs.Parts.{PartsAreClear};
 ghost use Rattle.mob_span.specs.Gaps.{gaps_of, AreGaps};
 
 use crate::span::Span;
+use crate::spanned::Spanned;
 use std::alloc::{AllocError, Global};
 
 /// The instants of a span that are in none of the given spans, in order of time. The given spans are in order too.
@@ -36,4 +39,23 @@ fn left_by(alloc: Global, span: &Span, spans: &[Span]) -> Result<Vec<Span>, Allo
     }
     found.push(rest)?;
     Ok(found)
+}
+
+/// From the start of the first to the end of the last of what stands on spans in order of time. None exactly where there is nothing.
+pub fn whole<X: Spanned>(items: &[X]) -> Option<Span>
+    requires order { PartsAreClear X.span_of items.now }
+    ensures holds { MatchOption result (items.now ≡ []) (λ h. AllByRecursion (λ x. is_inside h (X.span_of x) ≡ true) items.now) }
+{
+    let Some((first, _)) = items.split_first() else {
+        return None;
+    };
+    let Some((last, _)) = items.split_last() else {
+        return None;
+    };
+    Span::new(
+        *first.time().lower(),
+        *last.time().upper(),
+        first.time().lower_inc(),
+        last.time().upper_inc(),
+    )
 }

@@ -11,7 +11,7 @@ pub mod span;
 pub mod spanned;
 pub mod walk;
 
-pub use gap::gaps;
+pub use gap::{gaps, whole};
 pub use set::SpanSet;
 pub use span::Span;
 pub use spanned::Spanned;

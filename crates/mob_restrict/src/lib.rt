@@ -1,0 +1,8 @@
+//! Restriction by time: a temporal value at the instants of a set, or at all others, and the instants at which it is defined.
+#![tactic(auto)]
+
+mod by_time;
+mod defined;
+
+pub use by_time::{at_time, minus_time};
+pub use defined::get_time;
