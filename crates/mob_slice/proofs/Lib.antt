@@ -1,5 +1,6 @@
 pub mod Cuts
 pub mod Firsts
 pub mod Orders
+pub mod Straight
 pub mod Wholes
 pub mod Yielded

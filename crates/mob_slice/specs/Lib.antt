@@ -15,3 +15,6 @@ pub mod Cut
 pub mod Sides
 pub mod Wholes
 pub mod CourseOf
+pub mod Lines
+pub mod LineLaws
+pub mod PlaneLaws
