@@ -18,3 +18,4 @@ pub mod CourseOf
 pub mod Lines
 pub mod LineLaws
 pub mod PlaneLaws
+pub mod LineComparison

@@ -12,6 +12,7 @@ pub mod cutting;
 pub mod formula;
 pub mod laws;
 pub mod line;
+mod line_comparison;
 pub mod moving;
 pub mod operand;
 pub mod part;
