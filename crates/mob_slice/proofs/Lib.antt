@@ -1,5 +1,6 @@
 pub mod Cuts
 pub mod Firsts
+pub mod LookUps
 pub mod Orders
 pub mod Straight
 pub mod Wholes

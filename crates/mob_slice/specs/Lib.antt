@@ -12,6 +12,7 @@ pub mod Computed
 pub mod Comparison
 pub mod Entries
 pub mod Cut
+pub mod Instants
 pub mod Sides
 pub mod Wholes
 pub mod CourseOf

@@ -4,8 +4,8 @@ ghost use Rattle.mob_slice.specs.Entries.{OneFirst};
 ghost use Rattle.mob_slice.specs.Wholes.{ContinuesAsOne, TwoInstantsFix};
 
 use crate::{
-    Course, Formula, Gaps, LookFault, Moving, One, OpFault, Operand, Pair, Passed, Piece, Rel,
-    Side, Slice, Steady,
+    Course, Formula, Gaps, Line, LookFault, Moving, One, OpFault, Operand, Pair, Passed, Piece,
+    PlaneLine, Rel, Side, Slice, Steady,
 };
 use mob_list::laws::crosses_threads;
 use std::marker::{Send, Sync};
@@ -57,4 +57,10 @@ pub fn faults_cross_threads() {
 /// Steady courses over what crosses threads cross threads.
 pub fn steady_courses_cross_threads<B: Send + Sync>() {
     crosses_threads::<Steady<B>>();
+}
+
+/// Lines cross threads.
+pub fn lines_cross_threads() {
+    crosses_threads::<Line>();
+    crosses_threads::<PlaneLine>();
 }
