@@ -1,6 +1,6 @@
 -- Looking a list of slices up at one instant.
 use Rattle.std.specs.Prelude.{◌≡◌, Bool, true, false, cond, List, [], ◌∷◌, Option, Some, None, refl}
-use Rattle.std.proofs.Common.{true≢false}
+use Rattle.std.proofs.Common.{subst, true≢false}
 use Rattle.mob_ratio.specs.Ratio.{Ratio}
 use Rattle.mob_span.specs.Span.{has}
 use Rattle.mob_slice.specs.Cut.{slice_value, slice_parts}
@@ -10,23 +10,31 @@ use Rattle.mob_slice.specs.declared.slice.Slice.{Slice}
 
 -- what holds where a slice is found
 pub record IsFound {C B : Type 0} (value : C → Ratio → Ratio → Ratio → B) (parts : C → Ratio → Ratio → Ratio → List Ratio) (slices : List (Slice C)) (t : Ratio) (s : Slice C) : Type 0 where
-  pub inside : has s.span t ≡ true
   pub gives : value_at value slices t ≡ Some (slice_value value s t)
   pub takes : parts_at parts slices t ≡ slice_parts parts s t
 
 some_is : {X : Type 0} (x : X) (o : Option X) → o ≡ Some x → o ≡ None → true ≡ false
 some_is x o e n = cc
 
+pub some_same : {X : Type 0} (x y : X) → Some x ≡ Some y → x ≡ y
+some_same x y e = cc
+
+inside_by : {C : Type 0} (t : Ratio) (r : Slice C) (rest : List (Slice C)) (s : Slice C) (b : Bool) → has r.span t ≡ b → (slice_at rest t ≡ Some s → has s.span t ≡ true) → cond b (Some r) (slice_at rest t) ≡ Some s → has s.span t ≡ true
+inside_by {C} t r rest s true h f e = subst (λ (z : Slice C). has z.span t ≡ true) (some_same r s e) h
+inside_by t r rest s false h f e = f e
+
+-- the slice that is found has the instant
+pub inside_found : {C : Type 0} (t : Ratio) (slices : List (Slice C)) (s : Slice C) → slice_at slices t ≡ Some s → has s.span t ≡ true
+inside_found t [] s e = absurd (true≢false (some_is s None e refl))
+inside_found t (r ∷ rest) s e = inside_by t r rest s (has r.span t) refl (inside_found t rest s) e
+
 module _ {C B : Type 0} (value : C → Ratio → Ratio → Ratio → B) (parts : C → Ratio → Ratio → Ratio → List Ratio) (t : Ratio) where
   found_here : (r s : Slice C) (rest : List (Slice C)) → has r.span t ≡ true → r ≡ s → IsFound value parts (r ∷ rest) t s
-  found_here r s rest h e = rw (← e) record { inside = h; gives = rw h refl; takes = rw h refl }
-
-  some_same : {X : Type 0} (x y : X) → Some x ≡ Some y → x ≡ y
-  some_same x y e = cc
+  found_here r s rest h e = rw (← e) record { gives = rw h refl; takes = rw h refl }
 
   found_by : (r : Slice C) (rest : List (Slice C)) (s : Slice C) (b : Bool) → has r.span t ≡ b → (slice_at rest t ≡ Some s → IsFound value parts rest t s) → cond b (Some r) (slice_at rest t) ≡ Some s → IsFound value parts (r ∷ rest) t s
   found_by r rest s true h f e = found_here r s rest h (some_same r s e)
-  found_by r rest s false h f e = let k = f e in record { inside = k.inside; gives = rw h k.gives; takes = rw h k.takes }
+  found_by r rest s false h f e = let k = f e in record { gives = rw h k.gives; takes = rw h k.takes }
 
   pub found : (slices : List (Slice C)) (s : Slice C) → slice_at slices t ≡ Some s → IsFound value parts slices t s
   found [] s e = absurd (true≢false (some_is s None e refl))

@@ -7,16 +7,10 @@ use Rattle.mob_ratio.specs.Line.{line_at, line_continues}
 use Rattle.mob_ratio.proofs.Order.{same_exact}
 use Rattle.mob_ratio.proofs.LineAt.{line_at-lower, line_at-upper, line_at-level, line_at-part}
 use Rattle.mob_frac.specs.Formula.{line_parts}
+use Rattle.mob_span.proofs.Insides.{both, joined}
 use Rattle.mob_slice.specs.Course.{IsCourse}
 use Rattle.mob_slice.specs.Lines.{line_value_of, line_continued, line_parts_of}
 use Rattle.mob_slice.specs.declared.line.Line.{Line}
-
-pub both : (a b : Bool) → (a && b) ≡ true → (a ≡ true) × (b ≡ true)
-both true b h = (refl, h)
-both false b h = absurd (true≢false (sym h))
-
-pub and : (a b : Bool) → a ≡ true → b ≡ true → (a && b) ≡ true
-and a b h k = rw (h, k) refl
 
 or_true : (a b c : Bool) → b ≡ true → (a || b || c) ≡ true
 or_true a b c h = grind (arith, h)
@@ -35,7 +29,7 @@ goes_on_is x0 x1 y0 y1 l m u h = let p = both (same x1 y0) (same (line_at x0 y1 
 
 pub is_goes_on : (x0 x1 y0 y1 l m u : Ratio) → x1 ≡ y0 → line_at x0 y1 l u m ≡ x1 → line_continues x0 x1 y0 y1 l m u ≡ true
 unfolding line_continues
-is_goes_on x0 x1 y0 y1 l m u e f = and (same x1 y0) (same (line_at x0 y1 l u m) x1) ((same_exact x1 y0).1 e) ((same_exact (line_at x0 y1 l u m) x1).1 f)
+is_goes_on x0 x1 y0 y1 l m u e f = joined (same x1 y0) (same (line_at x0 y1 l u m) x1) ((same_exact x1 y0).1 e) ((same_exact (line_at x0 y1 l u m) x1).1 f)
 
 pub line_laws : IsCourse {C = Line} {B = Ratio} false false line_value_of (λ c. c.from) (λ c. c.to) (λ a b. ⊤) (λ a b. record { from = a; to = b }) line_continued line_parts_of
 line_laws = record {

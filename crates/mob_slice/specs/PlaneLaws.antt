@@ -4,11 +4,12 @@ use Rattle.std.proofs.Common.{ap, sym, true≢false}
 use Rattle.mob_ratio.specs.Ratio.{Ratio}
 use Rattle.mob_ratio.specs.Line.{line_at, line_continues}
 use Rattle.mob_ratio.proofs.LineAt.{line_at-lower, line_at-upper, line_at-level, line_at-part}
+use Rattle.mob_span.proofs.Insides.{both, joined}
 use Rattle.mob_plane.specs.Points.{point_by_coordinates}
 use Rattle.mob_plane.specs.declared.point.Point.{Point}
 use Rattle.mob_slice.specs.Course.{IsCourse}
 use Rattle.mob_slice.specs.Lines.{plane_value_of, plane_continued, plane_parts_of}
-use Rattle.mob_slice.specs.LineLaws.{both, and, none_at_lower, none_at_upper, goes_on_is, is_goes_on}
+use Rattle.mob_slice.specs.LineLaws.{none_at_lower, none_at_upper, goes_on_is, is_goes_on}
 use Rattle.mob_slice.specs.declared.line.PlaneLine.{PlaneLine}
 
 pub plane_laws : IsCourse {C = PlaneLine} {B = Point} false false plane_value_of (λ c. c.from) (λ c. c.to) (λ a b. ⊤) (λ a b. record { from = a; to = b }) plane_continued plane_parts_of
@@ -30,7 +31,7 @@ plane_laws = record {
     λ w.
       let x = is_goes_on c.from.x c.to.x d.from.x d.to.x l m u (ap (λ (p : Point). p.x) w.met) (ap (λ (p : Point). p.x) w.straight) in
       let y = is_goes_on c.from.y c.to.y d.from.y d.to.y l m u (ap (λ (p : Point). p.y) w.met) (ap (λ (p : Point). p.y) w.straight) in
-      and (line_continues c.from.x c.to.x d.from.x d.to.x l m u) (line_continues c.from.y c.to.y d.from.y d.to.y l m u) x y);
+      joined (line_continues c.from.x c.to.x d.from.x d.to.x l m u) (line_continues c.from.y c.to.y d.from.y d.to.y l m u) x y);
   one_value = λ h. absurd (true≢false (sym h));
   one_end = λ h. absurd (true≢false (sym h));
   no_parts = λ h. absurd (true≢false (sym h));

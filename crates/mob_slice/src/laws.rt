@@ -1,6 +1,7 @@
 //! What holds of every course, every temporal value and every list of formulas. No code runs here.
 
 ghost use Rattle.mob_slice.specs.Entries.{OneFirst};
+ghost use Rattle.mob_slice.specs.Instants.{OneSliceAt};
 ghost use Rattle.mob_slice.specs.Wholes.{ContinuesAsOne, TwoInstantsFix};
 
 use crate::{
@@ -19,6 +20,11 @@ pub fn one_course<C: Course>()
 /// Two courses on one span that share their values at two instants are equal on it.
 pub fn two_instants<C: Course>()
     ensures fixed { TwoInstantsFix C.value_of }
+{}
+
+/// The slice at an instant is the one slice of a temporal value whose span has the instant.
+pub fn one_slice_at<C: Course>()
+    ensures one { OneSliceAt C.start_of C.end_of }
 {}
 
 /// Of a list of entries one formula is the first that is passed, or none is.

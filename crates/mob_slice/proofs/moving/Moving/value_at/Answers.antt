@@ -1,9 +1,9 @@
 use Rattle.std.proofs.Common.{◌≡◌, ◌∙◌, sym, ap, Some}
-use Rattle.mob_slice.proofs.LookUps.{found, missing}
+use Rattle.mob_slice.proofs.LookUps.{inside_found, found, missing}
 use Rattle.mob_slice.proofs.moving.Moving.value_at.Goals as goal
 
 pub at-requires : goal.at-requires
-at-requires g c = record { inside = (found g.C.Course.value_of g.C.Course.parts_of c.args.t.now c.args.self.now c.in-Some.slice.now c.in-Some.ensures.slice).inside }
+at-requires g c = record { inside = inside_found c.args.t.now c.args.self.now c.in-Some.slice.now c.in-Some.ensures.slice }
 
 pub returns-in-Ok : goal.returns-in-Ok
 returns-in-Ok g c =
