@@ -1,4 +1,5 @@
 pub mod Cuts
+pub mod Examples
 pub mod Firsts
 pub mod LookUps
 pub mod OneAt
