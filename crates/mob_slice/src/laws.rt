@@ -65,8 +65,10 @@ pub fn steady_courses_cross_threads<B: Send + Sync>() {
     crosses_threads::<Steady<B>>();
 }
 
-/// Lines cross threads.
+/// Lines cross threads, and so do slices and temporal values of them.
 pub fn lines_cross_threads() {
     crosses_threads::<Line>();
     crosses_threads::<PlaneLine>();
+    slices_cross_threads::<Line>();
+    slices_cross_threads::<PlaneLine>();
 }
