@@ -28,7 +28,7 @@ abbrev pub line_end : Line → Ratio
 line_end c = c.to
 
 differ : (s r : Slice (Steady Ratio)) → same s.course.value r.course.value ≡ false → s.course.value ≢ r.course.value
-differ s r h e = true≢false (sym ((same_exact s.course.value r.course.value).1 e) ∙ h)
+differ s r h = λ e. true≢false (sym ((same_exact s.course.value r.course.value).1 e) ∙ h)
 
 -- steps that meet have different values, and level lines with different values do not go on as one
 level_pair : (s r : Slice (Steady Ratio)) → IsNormalPair steady_limit steady_limit steps_continue s r → IsNormalPair line_start line_end line_continued (level_line s) (level_line r)
@@ -48,8 +48,8 @@ level_chain [] h = tt
 level_chain (s ∷ v) h = (record { some = h.0.some; level = λ n. refl }, level_head s v h.1, level_chain v h.2)
 
 not_empty : (v : List (Slice (Steady Ratio))) → v ≢ [] → map level_line v ≢ []
-not_empty [] h e = h refl
-not_empty (s ∷ v) h e = cc
+not_empty [] h = λ e. h refl
+not_empty (s ∷ v) h = λ e. cc
 
 pub level_normal : (v : List (Slice (Steady Ratio))) (lines : List (Slice Line)) → IsNormal steady_limit steady_limit steps_continue v → lines ≡ map level_line v → IsNormal line_start line_end line_continued lines
 level_normal v lines h e = rw e record { some = not_empty v h.some; chained = level_chain v h.chained }
