@@ -2,6 +2,7 @@
 
 ghost use Rattle.mob_slice.specs.Entries.{OneFirst};
 ghost use Rattle.mob_slice.specs.Instants.{OneSliceAt};
+ghost use Rattle.mob_slice.specs.Lines.{NumbersAreStraight, PointsAreStraight};
 ghost use Rattle.mob_slice.specs.Wholes.{ContinuesAsOne, TwoInstantsFix};
 
 use crate::{
@@ -20,6 +21,13 @@ pub fn one_course<C: Course>()
 /// Two courses on one span that share their values at two instants are equal on it.
 pub fn two_instants<C: Course>()
     ensures fixed { TwoInstantsFix C.value_of }
+{}
+
+/// Lines are straight at every instant, of numbers and, by coordinate, of points: the value, weighted by the whole time, is
+/// the two limits, each weighted by the time to the other end.
+pub fn lines_are_straight()
+    ensures numbers { NumbersAreStraight }
+    ensures points { PointsAreStraight }
 {}
 
 /// The slice at an instant is the one slice of a temporal value whose span has the instant.
