@@ -26,12 +26,13 @@ use Rattle.mob_slice.specs.declared.formula.OpFault.{OpFault}
 use Rattle.mob_slice.specs.declared.formula.OpFault.TheVariants.{Passed as OpPassed, NoMemory as OpNoMemory}
 use Rattle.mob_slice.specs.declared.formula.LookFault.{LookFault}
 use Rattle.mob_slice.specs.declared.formula.LookFault.TheVariants.{Passed, NoMemory}
+use Rattle.mob_slice.proofs.LookUps.{value_by}
 use Rattle.mob_slice.proofs.Orders.{all_sound}
 use Rattle.mob_slice.proofs.Yielded.{drained}
 use Rattle.mob_lift.specs.Lifted.{IsLifted, IsFirstFailure}
 use Rattle.mob_lift.specs.Given.{AreOn, IsGiven}
 use Rattle.mob_lift.proofs.OnPieces.{one_on}
-use Rattle.mob_lift.proofs.PieceLaws.{map_at, twice, value_by, both_map}
+use Rattle.mob_lift.proofs.PieceLaws.{map_at, twice, both_map}
 use Rattle.mob_lift.proofs.Pointwise.{mapped_at}
 use Rattle.mob_lift.proofs.Judged.{judged}
 use Rattle.mob_restrict.specs.Restricted.{entry_of_cut, where_wanted, AreRestricted}
