@@ -168,9 +168,9 @@ module _ (P : Ratio → Type 0) (s : SpanOf) (low : P s.lower) (high : P s.upper
       by true ih = ((l, pick (is_clear h w) h.upper w.lower u k.0.0), ih)
       by false ih = ih
 
-  first_of : (b : Bool) (f : SpanOf) (rs : List SpanOf) → b ≡ true → InnerEnds (cond b (f ∷ rs) rs) → Inner f.lower × Inner f.upper
-  first_of true f rs e h = h.0
-  first_of false f rs e h = absurd (true≢false (sym e))
+  front_ends : (b : Bool) (f : SpanOf) (rs : List SpanOf) → b ≡ true → InnerEnds (cond b (f ∷ rs) rs) → Inner f.lower × Inner f.upper
+  front_ends true f rs e h = h.0
+  front_ends false f rs e h = absurd (true≢false (sym e))
 
   next_of : (b : Bool) (f : SpanOf) (rs : List SpanOf) → InnerEnds (cond b (f ∷ rs) rs) → InnerEnds rs
   next_of true f rs h = h.1
@@ -183,7 +183,7 @@ module _ (P : Ratio → Type 0) (s : SpanOf) (low : P s.lower) (high : P s.upper
   -- the first gap starts with the whole
   first_low : (k : SpanOf) (ws : List SpanOf) → has_instant k ≡ true → HeadLater k ws → InnerEnds (gaps_of k ws) → Inner k.lower
   first_low k [] i l g = g.0.0
-  first_low k (w ∷ ws) i l g = (first_of (has_instant (front_of k w)) (front_of k w) (cond (has_instant (back_of k w)) (gaps_of (back_of k w) ws) []) (front_some k w i l) g).0
+  first_low k (w ∷ ws) i l g = (front_ends (has_instant (front_of k w)) (front_of k w) (cond (has_instant (back_of k w)) (gaps_of (back_of k w) ws) []) (front_some k w i l) g).0
 
   -- spans past the end of s have no end strictly inside it
   past : (w : SpanOf) (ws : List SpanOf) → up_to s.upper w.upper ≡ true → AreAllClear (λ r. r) w ws → AllByRecursion (λ r. has_instant r ≡ true) ws → InnerEnds ws
@@ -209,7 +209,7 @@ module _ (P : Ratio → Type 0) (s : SpanOf) (low : P s.lower) (high : P s.upper
       starts : Inner w.lower
       starts a b =
           let n : is_clear h w ≡ false = not_before h w (before_upto w.lower s.upper h.upper b u) in
-          subst Inner (ap (λ z. cond z h.upper w.lower) n) (first_of (has_instant (front_of h w)) (front_of h w) tails (front_some h w i (begins a)) g).1 a b
+          subst Inner (ap (λ z. cond z h.upper w.lower) n) (front_ends (has_instant (front_of h w)) (front_of h w) tails (front_some h w i (begins a)) g).1 a b
 
       reaches : before s.lower w.upper ≡ true → is_clear w h ≡ false
       reaches a = ⊎_elim (λ k. not_after_long h w (upto_before h.lower s.lower w.upper k a)) (λ k. not_after h w o.0 k) l

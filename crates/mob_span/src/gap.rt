@@ -52,10 +52,12 @@ pub fn whole<X: Spanned>(items: &[X]) -> Option<Span>
     let Some((last, _)) = items.split_last() else {
         return None;
     };
+    let start = first.time();
+    let end = last.time();
     Span::new(
-        *first.time().lower(),
-        *last.time().upper(),
-        first.time().lower_inc(),
-        last.time().upper_inc(),
+        *start.lower(),
+        *end.upper(),
+        start.lower_inc(),
+        end.upper_inc(),
     )
 }
