@@ -54,6 +54,20 @@ where
     )
 }
 
+// Its slices at the instants of a set.
+fn inside<C: Course + Drop>(
+    alloc: Global,
+    a: &Moving<C>,
+    when: &SpanSet,
+) -> Result<Vec<Slice<C>>, OpFault>
+where
+    C::Base: Drop,
+    ensures slices { IfOk result (λ all. AreRestricted C.value_of C.start_of C.end_of true (λ t x. in_some when.now t) a.now all.items) }
+    ensures first { IsJudged (flat_map (entry_of_cut C.parts_of) (shared_pieces (λ s. s.span) (λ r. r) a.now when.now)) result }
+{
+    within(alloc, a, when.spans())
+}
+
 // Its slices at the instants that the set has not: those that the set leaves of its time.
 fn outside<C: Course + Drop>(
     alloc: Global,
@@ -88,7 +102,7 @@ where
     ensures value { IfOk result (λ r. IsRestricted C.value_of true (λ t x. in_some when.now t) a.now r) }
     ensures first { IsJudged (flat_map (entry_of_cut C.parts_of) (shared_pieces (λ s. s.span) (λ r. r) a.now when.now)) result }
 {
-    let slices = within(alloc, a, when.spans())?;
+    let slices = inside(alloc, a, when)?;
     match normal(alloc, slices) {
         Ok(value) => Ok(value),
         Err(_) => Err(OpFault::NoMemory),
