@@ -79,11 +79,13 @@ where
     ensures slices { IfOk result (λ all. AreRestricted C.value_of C.start_of C.end_of false (λ t x. in_some when.now t) a.now all.items) }
     ensures first { IsJudged (flat_map (entry_of_cut C.parts_of) (shared_pieces (λ s. s.span) (λ r. r) a.now when.now)) result }
 {
-    let Some(time) = whole(a.slices()) else {
+    let slices = a.slices();
+    let spans = when.spans();
+    let Some(time) = whole(slices) else {
         return Ok(Vec::new(alloc));
     };
     let _ = time.lower();
-    match gaps(alloc, &time, when.spans()) {
+    match gaps(alloc, &time, spans) {
         Ok(left) => within(alloc, a, left.as_slice()),
         Err(_) => Err(OpFault::NoMemory),
     }
