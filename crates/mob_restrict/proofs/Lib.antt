@@ -1,3 +1,4 @@
 pub mod Cutting
 pub mod Defined
 pub mod Outside
+mod Examples
