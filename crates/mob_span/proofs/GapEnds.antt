@@ -90,7 +90,7 @@ back_none_by h w true e i n = absurd (true≢false (sym i ∙ n))
 back_none_by h w false e i n = grind (arith, n)
 
 -- the spans of a list start after h
-abbrev HeadLater : SpanOf → List SpanOf → Type 0
+abbrev pub HeadLater : SpanOf → List SpanOf → Type 0
 HeadLater h [] = Unit {0}
 HeadLater h (w ∷ ws) = starts_before h w ≡ true
 
@@ -99,7 +99,7 @@ head_later h w [] n o = tt
 head_later h w (v ∷ ws) n o = back_later_by h w v (is_clear w h) n o.1
 
 -- each of a list in order has an instant
-pub all_some : (rs : List SpanOf) → PartsAreClear (λ r. r) rs → AllByRecursion (λ r. has_instant r ≡ true) rs
+all_some : (rs : List SpanOf) → PartsAreClear (λ r. r) rs → AllByRecursion (λ r. has_instant r ≡ true) rs
 all_some [] h = tt
 all_some (r ∷ rs) h = (h.0, all_some rs h.2)
 
@@ -137,11 +137,11 @@ module _ (P : Ratio → Type 0) (s : SpanOf) (low : P s.lower) (high : P s.upper
       within_by r.upper (before s.lower r.upper) (before r.upper s.upper) refl refl (upto_trans s.lower m.0 r.upper (has_upto_lower s m.0 h.0) (has_upto_upper r m.0 h.1)) (ends_upto s r e) k
 
   -- what is said of the ends of the spans strictly inside s, and of the ends of what they share with it, is the same
-  pub inner_shared : (rs : List SpanOf) → InnerEnds rs → SharedEnds rs
+  inner_shared : (rs : List SpanOf) → InnerEnds rs → SharedEnds rs
   inner_shared [] h = tt
   inner_shared (r ∷ rs) h = (λ i. (shared_low r (starts_before s r) refl i h.0.0, shared_high r (ends_before s r) refl i h.0.1), inner_shared rs h.1)
 
-  pub shared_inner : (rs : List SpanOf) → AllByRecursion (λ r. has_instant r ≡ true) rs → SharedEnds rs → InnerEnds rs
+  shared_inner : (rs : List SpanOf) → AllByRecursion (λ r. has_instant r ≡ true) rs → SharedEnds rs → InnerEnds rs
   shared_inner [] i h = tt
   shared_inner (r ∷ rs) i h = (
     (
@@ -156,7 +156,7 @@ module _ (P : Ratio → Type 0) (s : SpanOf) (low : P s.lower) (high : P s.upper
   pick false x y h k = k
 
   -- the ends of the gaps are ends of the spans, or of the whole
-  pub gaps_inner : (h : SpanOf) (ws : List SpanOf) → Inner h.lower → Inner h.upper → InnerEnds ws → InnerEnds (gaps_of h ws)
+  gaps_inner : (h : SpanOf) (ws : List SpanOf) → Inner h.lower → Inner h.upper → InnerEnds ws → InnerEnds (gaps_of h ws)
   gaps_inner h [] l u k = ((l, u), tt)
   gaps_inner h (w ∷ ws) l u k = by (has_instant (front_of h w)) (rest (has_instant (back_of h w)) (gaps_inner (back_of h w) ws (pick (is_clear w h) h.lower w.upper l k.0.1) u k.1))
     where
@@ -196,7 +196,7 @@ module _ (P : Ratio → Type 0) (s : SpanOf) (low : P s.lower) (high : P s.upper
       clear_upto p q h = grind (arith, before-back p.upper q.lower)
 
   -- where the spans lie in the whole, and s does: what is said of the ends of the gaps is said of those of the spans
-  pub spans_inner : (h : SpanOf) (ws : List SpanOf) → IsSpanSet ws → has_instant h ≡ true → (up_to h.lower s.lower ≡ true) ⊎ HeadLater h ws → up_to s.upper h.upper ≡ true → InnerEnds (gaps_of h ws) → InnerEnds ws
+  spans_inner : (h : SpanOf) (ws : List SpanOf) → IsSpanSet ws → has_instant h ≡ true → (up_to h.lower s.lower ≡ true) ⊎ HeadLater h ws → up_to s.upper h.upper ≡ true → InnerEnds (gaps_of h ws) → InnerEnds ws
   spans_inner h [] o i l u g = tt
   spans_inner h (w ∷ ws) o i l u g = ((starts, ends), by (has_instant (back_of h w)) refl (next_of (has_instant (front_of h w)) (front_of h w) tails g) (λ e d r. spans_inner (back_of h w) ws o.2 e d u r))
     where
