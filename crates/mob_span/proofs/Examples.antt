@@ -1,5 +1,5 @@
 -- Worked examples of the definitions. Each holds by computing.
-use Rattle.std.specs.Prelude.{◌≡◌, Bool, true, false, pos, List, [], ◌∷◌, map, refl}
+use Rattle.std.specs.Prelude.{◌≡◌, Bool, true, false, pos, [], ◌∷◌, map, refl}
 use Rattle.mob_ratio.specs.Gcd.{gcd, gcd_steps}
 use Rattle.mob_ratio.specs.Lowest.{in_lowest_terms}
 use Rattle.mob_ratio.specs.Ratio.{Ratio, over, whole}

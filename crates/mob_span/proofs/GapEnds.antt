@@ -11,7 +11,7 @@ use Rattle.mob_span.specs.Meet.{starts_before, ends_before, meet_of}
 use Rattle.mob_span.specs.Parts.{PartsAreClear}
 use Rattle.mob_span.specs.Sets.{is_apart, IsSpanSet}
 use Rattle.mob_span.specs.Gaps.{front_of, back_of, gaps_of}
-use Rattle.mob_span.proofs.SpanLemmas.{some_upto, has_upto_lower, has_upto_upper, some_instant, meet_some}
+use Rattle.mob_span.proofs.SpanLemmas.{some_upto, has_upto_lower, has_upto_upper, meet_some}
 use Rattle.mob_span.proofs.Insides.{both, joined}
 use Rattle.mob_span.proofs.Ends.{first_by, last_by}
 use Rattle.mob_span.proofs.Touching.{upto_trans}

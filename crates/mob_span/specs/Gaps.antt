@@ -1,5 +1,5 @@
 -- The instants of a span that are not in given spans.
-use Rattle.std.specs.Prelude.{◌≡◌, true, Bool, cond, not, ◌||◌, ◌&&◌, List, [], ◌∷◌}
+use Rattle.std.specs.Prelude.{◌≡◌, Bool, cond, not, ◌||◌, ◌&&◌, List, [], ◌∷◌}
 use Rattle.mob_ratio.specs.Ratio.{Ratio}
 use Rattle.mob_ratio.specs.Order.{before, up_to}
 use Rattle.mob_span.specs.Span.{SpanOf, has, has_instant}
