@@ -1,5 +1,5 @@
 -- Worked examples of the definitions. Each holds by computing.
-use Rattle.std.specs.Prelude.{◌≡◌, Bool, true, false, pos, List, [], ◌∷◌, Option, Some, None, refl}
+use Rattle.std.specs.Prelude.{◌≡◌, true, false, pos, [], ◌∷◌, Some, None, refl}
 use Rattle.std.specs.List.{flat_map}
 use Rattle.mob_ratio.specs.Gcd.{gcd, gcd_steps}
 use Rattle.mob_ratio.specs.Lowest.{in_lowest_terms}

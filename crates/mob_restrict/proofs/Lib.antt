@@ -1,4 +1,4 @@
 pub mod Cutting
-pub mod Defined
+pub mod SpansOf
 pub mod Outside
 mod Examples

@@ -15,7 +15,7 @@ use Rattle.mob_span.specs.Gaps.{AreGaps, gaps_of}
 use Rattle.mob_span.proofs.Insides.{inside_has}
 use Rattle.mob_span.proofs.Shared.{row}
 use Rattle.mob_span.proofs.Leaving.{set_clear}
-use Rattle.mob_span.proofs.GapEnds.{SharedEnds, gaps_cut, spans_cut}
+use Rattle.mob_span.proofs.GapEnds.{gaps_cut, spans_cut}
 use Rattle.mob_slice.specs.Course.{IsCourse}
 use Rattle.mob_slice.specs.Slices.{value_at}
 use Rattle.mob_slice.specs.Sides.{at_ends}
@@ -129,6 +129,6 @@ module _ {C B : Type 0} {steady copies : Bool} {value : C → Ratio → Ratio �
       → IsJudged (flat_map (entry_of_cut parts) (shared_pieces (λ s. s.span) (λ r. r) v gaps)) r → IsJudged (flat_map (entry_of_cut parts) (shared_pieces (λ s. s.span) (λ r. r) v spans)) r
   judged_by_set v spans gaps h r a i o e j =
       judged_alike parts (shared_pieces (λ s. s.span) (λ r. r) v (gaps_of h spans)) (shared_pieces (λ s. s.span) (λ r. r) v spans) r
-          (cut_alike parts v (gaps_of h spans) spans h a (λ s k. spans_cut (λ t. AllFit (slice_parts parts s t)) s.span (own_low s) (own_high s) h spans k i o))
-          (cut_alike parts v spans (gaps_of h spans) h a (λ s k. gaps_cut (λ t. AllFit (slice_parts parts s t)) s.span (own_low s) (own_high s) h spans k (set_clear spans o)))
-          (subst (λ z. IsJudged (flat_map (entry_of_cut parts) (shared_pieces (λ s. s.span) (λ r. r) v z)) r) e j)
+      (cut_alike parts v (gaps_of h spans) spans h a (λ s k. spans_cut (λ t. AllFit (slice_parts parts s t)) s.span (own_low s) (own_high s) h spans k i o))
+      (cut_alike parts v spans (gaps_of h spans) h a (λ s k. gaps_cut (λ t. AllFit (slice_parts parts s t)) s.span (own_low s) (own_high s) h spans k (set_clear spans o)))
+      (subst (λ z. IsJudged (flat_map (entry_of_cut parts) (shared_pieces (λ s. s.span) (λ r. r) v z)) r) e j)

@@ -1,4 +1,4 @@
-use Rattle.std.proofs.Common.{rules, subst, ap, sym, ◌∙◌, ◌≡◌, true, false, IfOk}
+use Rattle.std.proofs.Common.{subst, ap, sym, ◌∙◌, ◌≡◌, true}
 use Rattle.std.proofs.lemmas.Result.{IfOk-weaker}
 use Rattle.std.specs.List.{AllByRecursion}
 use Rattle.mob_span.specs.Neighbours.{is_inside}
