@@ -1,4 +1,4 @@
--- A temporal value at the instants that a set has not, by the gaps that the set leaves of its time.
+-- A temporal value at the instants that a set has not, by the remainders that the set leaves of its time.
 use Rattle.std.specs.Prelude.{◌≡◌, ◌⊎◌, Bool, true, false, cond, ◌&&◌, not, List, [], ◌∷◌, ◌++◌, map, Option, Some, None, Result, Ok, Err, refl, suc, ◌^◌, nat_abs}
 use Rattle.std.specs.List.{flat_map, filter, AllByRecursion}
 use Rattle.std.proofs.Common.{ap, sym, ◌∙◌, subst, inl, inr, ⊎_elim, true≢false, arith}
@@ -11,11 +11,11 @@ use Rattle.mob_span.specs.Neighbours.{is_inside}
 use Rattle.mob_span.specs.Meet.{meet_of}
 use Rattle.mob_span.specs.Meets.{PieceOf, shared_pieces}
 use Rattle.mob_span.specs.Sets.{in_some, IsSpanSet}
-use Rattle.mob_span.specs.Gaps.{AreGaps, gaps_of}
+use Rattle.mob_span.specs.Remainders.{AreRemainders, remainders_of}
 use Rattle.mob_span.proofs.Insides.{inside_has}
 use Rattle.mob_span.proofs.Shared.{row}
 use Rattle.mob_span.proofs.Leaving.{set_clear}
-use Rattle.mob_span.proofs.GapEnds.{gaps_cut, spans_cut}
+use Rattle.mob_span.proofs.RemainderEnds.{remainders_cut, spans_cut}
 use Rattle.mob_slice.specs.Course.{IsCourse}
 use Rattle.mob_slice.specs.Slices.{value_at}
 use Rattle.mob_slice.specs.Sides.{at_ends}
@@ -40,9 +40,9 @@ by_hull o false w f = rw (f refl) refl
 by_hull None true w f = refl
 by_hull (Some x) true w f = refl
 
--- what it has at the gaps that the set leaves of its time is what it has at the instants that the set has not
-pub outside_values : {C B : Type 0} (value : C → Ratio → Ratio → Ratio → B) (start end : C → B) (v slices : List (Slice C)) (h : SpanOf) (spans gaps : List SpanOf) → AllByRecursion (λ s. is_inside h s.span ≡ true) v → AreGaps h spans gaps → AreRestricted value start end true (λ t x. in_some gaps t) v slices → AreRestricted value start end false (λ t x. in_some spans t) v slices
-outside_values value start end v slices h spans gaps a g r = record {
+-- what it has at the remainders that the set leaves of its time is what it has at the instants that the set has not
+pub outside_values : {C B : Type 0} (value : C → Ratio → Ratio → Ratio → B) (start end : C → B) (v slices : List (Slice C)) (h : SpanOf) (spans remainders : List SpanOf) → AllByRecursion (λ s. is_inside h s.span ≡ true) v → AreRemainders h spans remainders → AreRestricted value start end true (λ t x. in_some remainders t) v slices → AreRestricted value start end false (λ t x. in_some spans t) v slices
+outside_values value start end v slices h spans remainders a g r = record {
   ordered = r.ordered;
   values = λ t. r.values t ∙ ap (λ b. where_wanted true (λ x. b) (value_at value v t)) (g t) ∙ by_hull (value_at value v t) (has h t) (in_some spans t) (λ n. gone value h v t a n);
 }
@@ -124,11 +124,11 @@ module _ {C B : Type 0} {steady copies : Bool} {value : C → Ratio → Ratio �
   own_high : (s : Slice C) → AllFit (slice_parts parts s s.span.upper)
   own_high s = subst AllFit (sym (laws.upper_parts s.course s.span.lower s.span.upper)) tt
 
-  -- The gaps that a set leaves of the time of a value cut it where the set does. So what is judged by the ones is judged by the other.
-  pub judged_by_set : {V : Type 0} (v : List (Slice C)) (spans gaps : List SpanOf) (h : SpanOf) (r : Result V OpFault) → AllByRecursion (λ s. is_inside h s.span ≡ true) v → has_instant h ≡ true → IsSpanSet spans → gaps ≡ gaps_of h spans
-      → IsJudged (flat_map (entry_of_cut parts) (shared_pieces (λ s. s.span) (λ r. r) v gaps)) r → IsJudged (flat_map (entry_of_cut parts) (shared_pieces (λ s. s.span) (λ r. r) v spans)) r
-  judged_by_set v spans gaps h r a i o e j =
-      judged_alike parts (shared_pieces (λ s. s.span) (λ r. r) v (gaps_of h spans)) (shared_pieces (λ s. s.span) (λ r. r) v spans) r
-      (cut_alike parts v (gaps_of h spans) spans h a (λ s k. spans_cut (λ t. AllFit (slice_parts parts s t)) s.span (own_low s) (own_high s) h spans k i o))
-      (cut_alike parts v spans (gaps_of h spans) h a (λ s k. gaps_cut (λ t. AllFit (slice_parts parts s t)) s.span (own_low s) (own_high s) h spans k (set_clear spans o)))
+  -- The remainders that a set leaves of the time of a value cut it where the set does. So what is judged by the ones is judged by the other.
+  pub judged_by_set : {V : Type 0} (v : List (Slice C)) (spans remainders : List SpanOf) (h : SpanOf) (r : Result V OpFault) → AllByRecursion (λ s. is_inside h s.span ≡ true) v → has_instant h ≡ true → IsSpanSet spans → remainders ≡ remainders_of h spans
+      → IsJudged (flat_map (entry_of_cut parts) (shared_pieces (λ s. s.span) (λ r. r) v remainders)) r → IsJudged (flat_map (entry_of_cut parts) (shared_pieces (λ s. s.span) (λ r. r) v spans)) r
+  judged_by_set v spans remainders h r a i o e j =
+      judged_alike parts (shared_pieces (λ s. s.span) (λ r. r) v (remainders_of h spans)) (shared_pieces (λ s. s.span) (λ r. r) v spans) r
+      (cut_alike parts v (remainders_of h spans) spans h a (λ s k. spans_cut (λ t. AllFit (slice_parts parts s t)) s.span (own_low s) (own_high s) h spans k i o))
+      (cut_alike parts v spans (remainders_of h spans) h a (λ s k. remainders_cut (λ t. AllFit (slice_parts parts s t)) s.span (own_low s) (own_high s) h spans k (set_clear spans o)))
       (subst (λ z. IsJudged (flat_map (entry_of_cut parts) (shared_pieces (λ s. s.span) (λ r. r) v z)) r) e j)

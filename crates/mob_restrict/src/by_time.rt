@@ -13,7 +13,7 @@ ghost use Rattle.mob_restrict.specs.Restricted.{IsRestricted, AreRestricted, ent
 use mob_lift::{lift, listed};
 use mob_normal::normal;
 use mob_slice::{Course, Moving, OpFault, Slice, cut, operator_fault};
-use mob_span::{Met, SharedPieces, Span, SpanSet, gaps, whole};
+use mob_span::{Met, SharedPieces, Span, SpanSet, remainders, whole};
 use std::alloc::Global;
 
 // A slice at the instants that it shares with a span.
@@ -85,7 +85,7 @@ where
         return Ok(Vec::new(alloc));
     };
     let _ = time.lower();
-    match gaps(alloc, &time, spans) {
+    match remainders(alloc, &time, spans) {
         Ok(left) => within(alloc, a, left.as_slice()),
         Err(_) => Err(OpFault::NoMemory),
     }

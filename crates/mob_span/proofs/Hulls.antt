@@ -9,7 +9,7 @@ use Rattle.mob_span.specs.Span.{SpanOf, has, has_instant}
 use Rattle.mob_span.specs.Neighbours.{is_clear, is_inside, joined}
 use Rattle.mob_span.specs.Parts.{PartsAreClear}
 use Rattle.mob_span.specs.Sets.{in_some}
-use Rattle.mob_span.specs.Gaps.{AreGaps, IsInBoth, IsInFirstAlone}
+use Rattle.mob_span.specs.Remainders.{AreRemainders, IsInBoth, IsInFirstAlone}
 use Rattle.mob_span.proofs.SpanLemmas.{some_instant}
 use Rattle.mob_span.proofs.Insides.{inside_self, inside_has, both, joined as both_true}
 use Rattle.mob_span.proofs.Clearness.{clear_before}
@@ -115,7 +115,7 @@ minus_by v true w f = refl
 minus_by v false w f = rw (f refl) refl
 
 -- what a set shares with what another leaves of a span that holds it is what the other leaves of it
-pub minus_same : (v w g set : List SpanOf) (h : SpanOf) → AllByRecursion (λ s. is_inside h s ≡ true) v → AreGaps h w g → IsInBoth v g set → IsInFirstAlone v w set
+pub minus_same : (v w g set : List SpanOf) (h : SpanOf) → AllByRecursion (λ s. is_inside h s ≡ true) v → AreRemainders h w g → IsInBoth v g set → IsInFirstAlone v w set
 minus_same v w g set h a k both t = both t ∙ ap (λ b. in_some v t && b) (k t) ∙ minus_by (in_some v t) (has h t) (in_some w t) (λ n. outside h v t a n)
 
 pub minus_nothing : (v w set : List SpanOf) → v ≡ [] → ((t : Ratio) → in_some set t ≡ false) → IsInFirstAlone v w set

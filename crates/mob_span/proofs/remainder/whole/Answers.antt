@@ -2,7 +2,7 @@ use Rattle.std.proofs.Common.{◌≡◌, refl}
 use Rattle.mob_span.specs.Span.{SpanOf}
 use Rattle.mob_span.specs.Neighbours.{joined}
 use Rattle.mob_span.proofs.Hulls.{whole_holds}
-use Rattle.mob_span.proofs.gap.whole.Goals as goal
+use Rattle.mob_span.proofs.remainder.whole.Goals as goal
 
 pub returns : goal.returns
 returns g c =
