@@ -1,5 +1,5 @@
 -- What is cut out of a temporal value.
-use Rattle.std.specs.Prelude.{◌≡◌, Bool, true, false, cond, List, [], ◌∷◌, map, Option, Some, None, option_map, Result, Ok, Err, MatchResult, IfOk, refl}
+use Rattle.std.specs.Prelude.{◌≡◌, Bool, true, List, [], ◌∷◌, map, Option, Some, None, option_map, Result, Ok, Err, MatchResult, IfOk, refl}
 use Rattle.std.specs.List.{flat_map, AllByRecursion}
 use Rattle.std.specs.Iterator.{Yields, Drains, YieldsFirstBy}
 use Rattle.std.proofs.Common.{ap, sym, ◌∙◌, subst, inl, inr}
@@ -7,7 +7,6 @@ use Rattle.std.proofs.lemmas.Result.{IfOk-weaker}
 use Rattle.mob_ratio.specs.Ratio.{Ratio}
 use Rattle.mob_frac.specs.Formula.{AllFit}
 use Rattle.mob_span.specs.Span.{SpanOf}
-use Rattle.mob_span.specs.Neighbours.{is_inside}
 use Rattle.mob_span.specs.Meets.{PieceOf, shared_pieces}
 use Rattle.mob_span.specs.Parts.{part_at}
 use Rattle.mob_span.specs.Sets.{in_some}
@@ -19,7 +18,7 @@ use Rattle.mob_slice.specs.Operands.{map_both}
 use Rattle.mob_slice.specs.Look.{IsLookFault}
 use Rattle.mob_slice.specs.Cut.{slice_value, slice_parts}
 use Rattle.mob_slice.specs.Sides.{at_ends, HasValues}
-use Rattle.mob_slice.specs.Entries.{Entry, IsFirst, IsJudged, OnFormula, operator_fault}
+use Rattle.mob_slice.specs.Entries.{IsFirst, IsJudged, OnFormula, operator_fault}
 use Rattle.mob_slice.specs.declared.slice.Slice.{Slice}
 use Rattle.mob_slice.specs.declared.formula.Formula.{Formula}
 use Rattle.mob_slice.specs.declared.formula.OpFault.{OpFault}
@@ -78,18 +77,18 @@ module _ {C B P V I W : Type 0} (value : C → Ratio → Ratio → Ratio → B) 
   within_values ps slices i h = record {
     ordered = h.ordered;
     values = λ t.
-      let f : PieceOf (Slice C) SpanOf → B = λ q. slice_value value q.left t in
-      let ms = shared_pieces (λ s. s.span) (λ r. r) v spans in
-      let k : Slice C × SpanOf → B = λ q. slice_value value q.0 t in
-      mapped_at h (λ p t. slice_value value (view p).left t) (λ p u t j g. (gave p u g).0.values t j) t
-      ∙ sym (ap (option_map f) (map_at span (λ q. q.span) view (λ p. refl) ps t) ∙ twice view f (part_at span ps t))
-      ∙ ap (λ qs. option_map f (part_at (λ q. q.span) qs t)) (sym i ∙ e)
-      ∙ sym (twice (sides (λ s. s.span) (λ r. r)) k (part_at (λ q. q.span) ms t))
-      ∙ ap (option_map k) (meets_at (λ s. s.span) (λ r. r) v spans t)
-      ∙ both_map (λ x r. x) (λ s. slice_value value s t) (λ r. r) (part_at (λ s. s.span) v t) (part_at (λ r. r) spans t)
-      ∙ ap (λ o. map_both (λ x r. x) o (option_map (λ r. r) (part_at (λ r. r) spans t))) (sym (value_by value v t))
-      ∙ ap (λ o. map_both (λ x r. x) (value_at value v t) o) (as_it_is (part_at (λ r. r) spans t))
-      ∙ wanted_there (value_at value v t) (part_at (λ r. r) spans t) (in_some spans t) (there (λ r. r) spans t);
+        let f : PieceOf (Slice C) SpanOf → B = λ q. slice_value value q.left t in
+        let ms = shared_pieces (λ s. s.span) (λ r. r) v spans in
+        let k : Slice C × SpanOf → B = λ q. slice_value value q.0 t in
+        mapped_at h (λ p t. slice_value value (view p).left t) (λ p u t j g. (gave p u g).0.values t j) t
+        ∙ sym (ap (option_map f) (map_at span (λ q. q.span) view (λ p. refl) ps t) ∙ twice view f (part_at span ps t))
+        ∙ ap (λ qs. option_map f (part_at (λ q. q.span) qs t)) (sym i ∙ e)
+        ∙ sym (twice (sides (λ s. s.span) (λ r. r)) k (part_at (λ q. q.span) ms t))
+        ∙ ap (option_map k) (meets_at (λ s. s.span) (λ r. r) v spans t)
+        ∙ both_map (λ x r. x) (λ s. slice_value value s t) (λ r. r) (part_at (λ s. s.span) v t) (part_at (λ r. r) spans t)
+        ∙ ap (λ o. map_both (λ x r. x) o (option_map (λ r. r) (part_at (λ r. r) spans t))) (sym (value_by value v t))
+        ∙ ap (λ o. map_both (λ x r. x) (value_at value v t) o) (as_it_is (part_at (λ r. r) spans t))
+        ∙ wanted_there (value_at value v t) (part_at (λ r. r) spans t) (in_some spans t) (there (λ r. r) spans t);
   }
 
   -- what the cuts of all pieces say of the whole

@@ -1,4 +1,5 @@
 pub mod Cutting
-pub mod Defined
+pub mod SpansOf
 pub mod Outside
 pub mod Axes
+mod Examples

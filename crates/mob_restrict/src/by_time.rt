@@ -13,7 +13,7 @@ ghost use Rattle.mob_restrict.specs.Restricted.{IsRestricted, AreRestricted, ent
 use mob_lift::{lift, listed};
 use mob_normal::normal;
 use mob_slice::{Course, Moving, OpFault, Slice, cut, operator_fault};
-use mob_span::{Met, SharedPieces, Span, SpanSet, gaps, whole};
+use mob_span::{Met, SharedPieces, Span, SpanSet, remainders, whole};
 use std::alloc::Global;
 
 // A slice at the instants that it shares with a span.
@@ -54,6 +54,20 @@ where
     )
 }
 
+// Its slices at the instants of a set.
+fn inside<C: Course + Drop>(
+    alloc: Global,
+    a: &Moving<C>,
+    when: &SpanSet,
+) -> Result<Vec<Slice<C>>, OpFault>
+where
+    C::Base: Drop,
+    ensures slices { IfOk result (λ all. AreRestricted C.value_of C.start_of C.end_of true (λ t x. in_some when.now t) a.now all.items) }
+    ensures first { IsJudged (flat_map (entry_of_cut C.parts_of) (shared_pieces (λ s. s.span) (λ r. r) a.now when.now)) result }
+{
+    within(alloc, a, when.spans())
+}
+
 // Its slices at the instants that the set has not: those that the set leaves of its time.
 fn outside<C: Course + Drop>(
     alloc: Global,
@@ -65,11 +79,13 @@ where
     ensures slices { IfOk result (λ all. AreRestricted C.value_of C.start_of C.end_of false (λ t x. in_some when.now t) a.now all.items) }
     ensures first { IsJudged (flat_map (entry_of_cut C.parts_of) (shared_pieces (λ s. s.span) (λ r. r) a.now when.now)) result }
 {
-    let Some(time) = whole(a.slices()) else {
+    let slices = a.slices();
+    let spans = when.spans();
+    let Some(time) = whole(slices) else {
         return Ok(Vec::new(alloc));
     };
     let _ = time.lower();
-    match gaps(alloc, &time, when.spans()) {
+    match remainders(alloc, &time, spans) {
         Ok(left) => within(alloc, a, left.as_slice()),
         Err(_) => Err(OpFault::NoMemory),
     }
@@ -88,7 +104,7 @@ where
     ensures value { IfOk result (λ r. IsRestricted C.value_of true (λ t x. in_some when.now t) a.now r) }
     ensures first { IsJudged (flat_map (entry_of_cut C.parts_of) (shared_pieces (λ s. s.span) (λ r. r) a.now when.now)) result }
 {
-    let slices = within(alloc, a, when.spans())?;
+    let slices = inside(alloc, a, when)?;
     match normal(alloc, slices) {
         Ok(value) => Ok(value),
         Err(_) => Err(OpFault::NoMemory),

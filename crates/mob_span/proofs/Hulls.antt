@@ -9,7 +9,7 @@ use Rattle.mob_span.specs.Span.{SpanOf, has, has_instant}
 use Rattle.mob_span.specs.Neighbours.{is_clear, is_inside, joined}
 use Rattle.mob_span.specs.Parts.{PartsAreClear}
 use Rattle.mob_span.specs.Sets.{in_some}
-use Rattle.mob_span.specs.Gaps.{AreGaps, IsInBoth, IsInFirstAlone}
+use Rattle.mob_span.specs.Remainders.{AreRemainders, IsInBoth, IsInFirstAlone}
 use Rattle.mob_span.proofs.SpanLemmas.{some_instant}
 use Rattle.mob_span.proofs.Insides.{inside_self, inside_has, both, joined as both_true}
 use Rattle.mob_span.proofs.Clearness.{clear_before}
@@ -40,7 +40,6 @@ wider h r s c k i = let m = both _ _ i in both_true _ _ m.0 (high_on s.upper h.u
 -- and holds the later one
 pub holds_later : (h r : SpanOf) → is_clear h r ≡ true → has_instant h ≡ true → has_instant r ≡ true → is_inside (joined h r) r ≡ true
 holds_later h r c i k =
-    let m = some_instant h i in
     let low : (before h.lower r.lower || (up_to h.lower r.lower && (h.lower_inc || not r.lower_inc))) ≡ true = grind (arith, c, i, before-trans h.lower h.upper r.lower, before-neither h.lower h.upper, before-neither h.upper r.lower, before-back h.lower r.lower, before-back h.lower h.upper, before-back h.upper r.lower) in
     both_true _ _ low (both _ _ (inside_self r)).1
 
@@ -76,11 +75,11 @@ module _ {X : Type 0} (span : X → SpanOf) where
   through_end h xs [] y e = ap (through_all h) e
   through_end h xs (z ∷ init) y e = ap (through_all h) e ∙ through_end (joined h (span z)) (init ++ y ∷ []) init y refl
 
-  first_or : X → List X → X
+  abbrev first_or : X → List X → X
   first_or d [] = d
   first_or d (x ∷ xs) = x
 
-  rest_of : List X → List X
+  abbrev rest_of : List X → List X
   rest_of [] = []
   rest_of (x ∷ xs) = xs
 
@@ -94,7 +93,7 @@ module _ {X : Type 0} (span : X → SpanOf) where
 
   whole_by : (items : List X) (s : SpanOf) (o : Option SpanOf) → has_instant s ≡ true → AllByRecursion (λ x. is_inside s (span x) ≡ true) items → IfSome o (λ h. h ≡ s) → MatchOption o (has_instant s ≡ false) (λ h. has_instant h ≡ true) → MatchOption o (items ≡ []) (λ h. AllByRecursion (λ x. is_inside h (span x) ≡ true) items)
   whole_by items s None i a e k = absurd (true≢false (sym i ∙ k))
-  whole_by items s (Some h) i a e k = rw e a
+  whole_by items s (Some h) i a e k = subst (λ z. AllByRecursion (λ x. is_inside z (span x) ≡ true) items) (sym e) a
 
   -- the span with these two ends holds each of a list in order
   pub whole_holds : (items : List X) (x : X) (xs init : List X) (y : X) (s : SpanOf) (o : Option SpanOf) → items ≡ x ∷ xs → items ≡ init ++ y ∷ [] → PartsAreClear span items → s ≡ joined (span x) (span y) → IfSome o (λ h. h ≡ s) → MatchOption o (has_instant s ≡ false) (λ h. has_instant h ≡ true) → MatchOption o (items ≡ []) (λ h. AllByRecursion (λ x. is_inside h (span x) ≡ true) items)
@@ -116,7 +115,7 @@ minus_by v true w f = refl
 minus_by v false w f = rw (f refl) refl
 
 -- what a set shares with what another leaves of a span that holds it is what the other leaves of it
-pub minus_same : (v w g set : List SpanOf) (h : SpanOf) → AllByRecursion (λ s. is_inside h s ≡ true) v → AreGaps h w g → IsInBoth v g set → IsInFirstAlone v w set
+pub minus_same : (v w g set : List SpanOf) (h : SpanOf) → AllByRecursion (λ s. is_inside h s ≡ true) v → AreRemainders h w g → IsInBoth v g set → IsInFirstAlone v w set
 minus_same v w g set h a k both t = both t ∙ ap (λ b. in_some v t && b) (k t) ∙ minus_by (in_some v t) (has h t) (in_some w t) (λ n. outside h v t a n)
 
 pub minus_nothing : (v w set : List SpanOf) → v ≡ [] → ((t : Ratio) → in_some set t ≡ false) → IsInFirstAlone v w set

@@ -1,15 +1,15 @@
 -- What spans in order leave of a span.
-use Rattle.std.specs.Prelude.{◌≡◌, Bool, true, false, cond, refl, ◌||◌, ◌&&◌, not, List, [], ◌∷◌, ◌++◌, IfSome, IsNone, MatchOption, Option, Some, None}
+use Rattle.std.specs.Prelude.{◌≡◌, Bool, true, false, cond, refl, ◌||◌, ◌&&◌, not, List, [], ◌∷◌, IfSome, MatchOption, Option, Some, None}
 use Rattle.std.proofs.Common.{arith, ap, sym, ◌∙◌, true≢false}
 use Rattle.mob_ratio.specs.Ratio.{Ratio}
 use Rattle.mob_ratio.specs.Order.{before, up_to}
-use Rattle.mob_ratio.proofs.Order.{before-self, before-back, before-trans, before-neither, false_unless}
+use Rattle.mob_ratio.proofs.Order.{before-back, before-trans, before-neither, false_unless}
 use Rattle.mob_span.specs.Span.{SpanOf, has, has_instant}
 use Rattle.mob_span.specs.Neighbours.{is_clear}
 use Rattle.mob_span.specs.Chained.{OfHead}
 use Rattle.mob_span.specs.Parts.{PartsAreClear}
 use Rattle.mob_span.specs.Sets.{in_some, is_apart, IsSpanSet}
-use Rattle.mob_span.specs.Gaps.{precedes, follows, front_of, back_of, gaps_of, AreGaps}
+use Rattle.mob_span.specs.Remainders.{precedes, follows, front_of, back_of, remainders_of, AreRemainders}
 use Rattle.mob_span.proofs.SpanLemmas.{some_instant, no_instant}
 use Rattle.mob_span.proofs.Clearness.{clear_before}
 use Rattle.mob_span.proofs.Shared.{AreAllClear, all_after}
@@ -57,10 +57,10 @@ left_by true false true w h = refl
 left_by true false false w h = refl
 left_by false p f w h = refl
 
--- The gaps have exactly the instants of the span that none of the spans has.
-pub gaps_in : (s : SpanOf) (w : List SpanOf) → PartsAreClear (λ s. s) w → AreGaps s w (gaps_of s w)
-gaps_in s [] h t = grind arith
-gaps_in s (r ∷ w) h t = by (has_instant (front_of s r)) (has_instant (back_of s r)) refl refl (gaps_in (back_of s r) w h.2 t)
+-- The remainders have exactly the instants of the span that none of the spans has.
+pub remainders_in : (s : SpanOf) (w : List SpanOf) → PartsAreClear (λ s. s) w → AreRemainders s w (remainders_of s w)
+remainders_in s [] h t = grind arith
+remainders_in s (r ∷ w) h t = by (has_instant (front_of s r)) (has_instant (back_of s r)) refl refl (remainders_in (back_of s r) w h.2 t)
   where
     whole : ((has s t && precedes t r) || ((has s t && follows t r) && not (in_some w t))) ≡ (has s t && not (has r t || in_some w t))
     whole = let m = some_instant r h.0 in left_by (has s t) (precedes t r) (follows t r) (in_some w t) (none_later r w t m.0 m.1 (all_after (λ s. s) r w h)) ∙ ap (λ b. has s t && not (b || in_some w t)) (sym (neither_has r t))
@@ -68,11 +68,11 @@ gaps_in s (r ∷ w) h t = by (has_instant (front_of s r)) (has_instant (back_of 
     ahead : (has (front_of s r) t || (has (back_of s r) t && not (in_some w t))) ≡ (has s t && not (has r t || in_some w t))
     ahead = ap (λ b. b || (has (back_of s r) t && not (in_some w t))) (front_has s r t) ∙ ap (λ b. (has s t && precedes t r) || (b && not (in_some w t))) (back_has s r t) ∙ whole
 
-    rest : (c : Bool) → has_instant (back_of s r) ≡ c → in_some (gaps_of (back_of s r) w) t ≡ (has (back_of s r) t && not (in_some w t)) → in_some (cond c (gaps_of (back_of s r) w) []) t ≡ (has (back_of s r) t && not (in_some w t))
+    rest : (c : Bool) → has_instant (back_of s r) ≡ c → in_some (remainders_of (back_of s r) w) t ≡ (has (back_of s r) t && not (in_some w t)) → in_some (cond c (remainders_of (back_of s r) w) []) t ≡ (has (back_of s r) t && not (in_some w t))
     rest true e ih = ih
     rest false e ih = rw (no_instant (back_of s r) t e) refl
 
-    by : (b c : Bool) → has_instant (front_of s r) ≡ b → has_instant (back_of s r) ≡ c → in_some (gaps_of (back_of s r) w) t ≡ (has (back_of s r) t && not (in_some w t)) → in_some (cond b (front_of s r ∷ cond c (gaps_of (back_of s r) w) []) (cond c (gaps_of (back_of s r) w) [])) t ≡ (has s t && not (has r t || in_some w t))
+    by : (b c : Bool) → has_instant (front_of s r) ≡ b → has_instant (back_of s r) ≡ c → in_some (remainders_of (back_of s r) w) t ≡ (has (back_of s r) t && not (in_some w t)) → in_some (cond b (front_of s r ∷ cond c (remainders_of (back_of s r) w) []) (cond c (remainders_of (back_of s r) w) [])) t ≡ (has s t && not (has r t || in_some w t))
     by true c e f ih = ap (λ b. has (front_of s r) t || b) (rest c f ih) ∙ ahead
     by false c e f ih = rest c f ih ∙ (rw (no_instant (front_of s r) t e) at ahead)
 
@@ -95,29 +95,29 @@ front_back_by s r false false e f h k = grind (arith, k)
 pub front_back : (s r : SpanOf) → has_instant s ≡ true → has_instant r ≡ true → is_clear (front_of s r) (back_of s r) ≡ true
 front_back s r h k = front_back_by s r (is_clear s r) (is_clear r s) refl refl h k
 
-gaps_head : (q s : SpanOf) (w : List SpanOf) → is_clear q s ≡ true → OfHead (λ p r. is_clear p r ≡ true) q (gaps_of s w)
-gaps_head q s [] h = h
-gaps_head q s (r ∷ w) h = by (has_instant (front_of s r)) (has_instant (back_of s r)) (gaps_head q (back_of s r) w (clear_back q s r h))
+remainders_head : (q s : SpanOf) (w : List SpanOf) → is_clear q s ≡ true → OfHead (λ p r. is_clear p r ≡ true) q (remainders_of s w)
+remainders_head q s [] h = h
+remainders_head q s (r ∷ w) h = by (has_instant (front_of s r)) (has_instant (back_of s r)) (remainders_head q (back_of s r) w (clear_back q s r h))
   where
-    by : (b c : Bool) → OfHead (λ p r. is_clear p r ≡ true) q (gaps_of (back_of s r) w) → OfHead (λ p r. is_clear p r ≡ true) q (cond b (front_of s r ∷ cond c (gaps_of (back_of s r) w) []) (cond c (gaps_of (back_of s r) w) []))
+    by : (b c : Bool) → OfHead (λ p r. is_clear p r ≡ true) q (remainders_of (back_of s r) w) → OfHead (λ p r. is_clear p r ≡ true) q (cond b (front_of s r ∷ cond c (remainders_of (back_of s r) w) []) (cond c (remainders_of (back_of s r) w) []))
     by true c ih = h
     by false true ih = ih
     by false false ih = tt
 
--- The gaps are in order, and each has an instant.
-pub gaps_clear : (s : SpanOf) (w : List SpanOf) → has_instant s ≡ true → PartsAreClear (λ s. s) w → PartsAreClear (λ s. s) (gaps_of s w)
-gaps_clear s [] h k = (h, tt, tt)
-gaps_clear s (r ∷ w) h k = by (has_instant (front_of s r)) (has_instant (back_of s r)) refl refl (λ i. gaps_clear (back_of s r) w i k.2)
+-- The remainders are in order, and each has an instant.
+pub remainders_clear : (s : SpanOf) (w : List SpanOf) → has_instant s ≡ true → PartsAreClear (λ s. s) w → PartsAreClear (λ s. s) (remainders_of s w)
+remainders_clear s [] h k = (h, tt, tt)
+remainders_clear s (r ∷ w) h k = by (has_instant (front_of s r)) (has_instant (back_of s r)) refl refl (λ i. remainders_clear (back_of s r) w i k.2)
   where
-    rest : (c : Bool) → has_instant (back_of s r) ≡ c → (has_instant (back_of s r) ≡ true → PartsAreClear (λ s. s) (gaps_of (back_of s r) w)) → PartsAreClear (λ s. s) (cond c (gaps_of (back_of s r) w) [])
+    rest : (c : Bool) → has_instant (back_of s r) ≡ c → (has_instant (back_of s r) ≡ true → PartsAreClear (λ s. s) (remainders_of (back_of s r) w)) → PartsAreClear (λ s. s) (cond c (remainders_of (back_of s r) w) [])
     rest true e ih = ih e
     rest false e ih = tt
 
-    head : (c : Bool) → OfHead (λ p r. is_clear p r ≡ true) (front_of s r) (cond c (gaps_of (back_of s r) w) [])
-    head true = gaps_head (front_of s r) (back_of s r) w (front_back s r h k.0)
+    head : (c : Bool) → OfHead (λ p r. is_clear p r ≡ true) (front_of s r) (cond c (remainders_of (back_of s r) w) [])
+    head true = remainders_head (front_of s r) (back_of s r) w (front_back s r h k.0)
     head false = tt
 
-    by : (b c : Bool) → has_instant (front_of s r) ≡ b → has_instant (back_of s r) ≡ c → (has_instant (back_of s r) ≡ true → PartsAreClear (λ s. s) (gaps_of (back_of s r) w)) → PartsAreClear (λ s. s) (cond b (front_of s r ∷ cond c (gaps_of (back_of s r) w) []) (cond c (gaps_of (back_of s r) w) []))
+    by : (b c : Bool) → has_instant (front_of s r) ≡ b → has_instant (back_of s r) ≡ c → (has_instant (back_of s r) ≡ true → PartsAreClear (λ s. s) (remainders_of (back_of s r) w)) → PartsAreClear (λ s. s) (cond b (front_of s r ∷ cond c (remainders_of (back_of s r) w) []) (cond c (remainders_of (back_of s r) w) []))
     by true c e f ih = (e, head c, rest c f ih)
     by false c e f ih = rest c f ih
 
@@ -139,8 +139,8 @@ pub set_clear : (v : List SpanOf) → IsSpanSet v → PartsAreClear (λ s. s) v
 set_clear [] h = tt
 set_clear (s ∷ v) h = (h.0, set_head s v h.1, set_clear v h.2)
 
-pub gaps_found : (s : SpanOf) (w v : List SpanOf) → v ≡ gaps_of s w → PartsAreClear (λ s. s) w → AreGaps s w v
-gaps_found s w v e h t = ap (λ z. in_some z t) e ∙ gaps_in s w h t
+pub remainders_found : (s : SpanOf) (w v : List SpanOf) → v ≡ remainders_of s w → PartsAreClear (λ s. s) w → AreRemainders s w v
+remainders_found s w v e h t = ap (λ z. in_some z t) e ∙ remainders_in s w h t
 
-pub gaps_order : (s : SpanOf) (w v : List SpanOf) → v ≡ gaps_of s w → has_instant s ≡ true → PartsAreClear (λ s. s) w → PartsAreClear (λ s. s) v
-gaps_order s w v e h k = rw e (gaps_clear s w h k)
+pub remainders_order : (s : SpanOf) (w v : List SpanOf) → v ≡ remainders_of s w → has_instant s ≡ true → PartsAreClear (λ s. s) w → PartsAreClear (λ s. s) v
+remainders_order s w v e h k = rw e (remainders_clear s w h k)

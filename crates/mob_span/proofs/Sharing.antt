@@ -8,7 +8,7 @@ use Rattle.mob_span.specs.Span.{SpanOf, has}
 use Rattle.mob_span.specs.Parts.{part_at}
 use Rattle.mob_span.specs.Meets.{PieceOf, shared_pieces}
 use Rattle.mob_span.specs.Sets.{in_some}
-use Rattle.mob_span.specs.Gaps.{IsInBoth}
+use Rattle.mob_span.specs.Remainders.{IsInBoth}
 use Rattle.mob_span.proofs.MeetLaws.{meets_at, sides}
 
 abbrev pub is_there : {A : Type 0} → Option A → Bool

@@ -4,14 +4,14 @@
 //! spans that do not touch.
 #![tactic(auto)]
 
-pub mod gap;
 pub mod laws;
+pub mod remainder;
 pub mod set;
 pub mod span;
 pub mod spanned;
 pub mod walk;
 
-pub use gap::{gaps, whole};
+pub use remainder::{remainders, whole};
 pub use set::SpanSet;
 pub use span::Span;
 pub use spanned::Spanned;

@@ -1,7 +1,7 @@
-use Rattle.std.proofs.Common.{rules, ap, ◌∙◌}
+use Rattle.std.proofs.Common.{ap, ◌∙◌}
 use Rattle.std.proofs.lemmas.Result.{IfOk-weaker}
 use Rattle.mob_span.specs.Sets.{in_some}
-use Rattle.mob_restrict.proofs.Defined.{all_taken, spans_at}
+use Rattle.mob_restrict.proofs.SpansOf.{all_taken, spans_at}
 use Rattle.mob_restrict.proofs.defined.get_time.Goals as goal
 
 pub returns-clause-same : goal.returns-clause-same

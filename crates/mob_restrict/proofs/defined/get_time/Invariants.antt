@@ -1,5 +1,5 @@
 use Rattle.std.proofs.Common.{◌≡◌, ◌++◌, drop}
-use Rattle.mob_restrict.proofs.Defined.{spans_of}
+use Rattle.mob_restrict.proofs.SpansOf.{spans_of}
 use Rattle.mob_restrict.proofs.defined.get_time.Given as goal
 
 abbrev pub invariant-loop-slice : goal.invariant-loop-slice

@@ -1,5 +1,5 @@
 -- The instants at which a temporal value is defined.
-use Rattle.std.specs.Prelude.{◌≡◌, Bool, true, false, cond, ◌||◌, Option, Some, None, List, [], ◌∷◌, ◌++◌, map, refl, ℕ, ◌≤◌, length}
+use Rattle.std.specs.Prelude.{◌≡◌, Bool, true, false, cond, ◌||◌, Some, List, [], ◌∷◌, ◌++◌, map, refl, ℕ, ◌≤◌, length}
 use Rattle.std.proofs.Common.{ap, sym, ◌∙◌, append-nil, drop}
 use Rattle.std.proofs.lemmas.List.{drop_all}
 use Rattle.mob_ratio.specs.Ratio.{Ratio}

@@ -4,18 +4,18 @@ ghost use Rattle.std.specs.Prelude.{◌≡◌, true, [], IfOk, MatchOption};
 ghost use Rattle.std.specs.List.{AllByRecursion};
 ghost use Rattle.mob_span.specs.Neighbours.{is_inside};
 ghost use Rattle.mob_span.specs.Parts.{PartsAreClear};
-ghost use Rattle.mob_span.specs.Gaps.{gaps_of, AreGaps};
+ghost use Rattle.mob_span.specs.Remainders.{remainders_of, AreRemainders};
 
 use crate::span::Span;
 use crate::spanned::Spanned;
 use std::alloc::{AllocError, Global};
 
 /// The instants of a span that are in none of the given spans, in order of time. The given spans are in order too.
-pub fn gaps(alloc: Global, span: &Span, spans: &[Span]) -> Result<Vec<Span>, AllocError>
+pub fn remainders(alloc: Global, span: &Span, spans: &[Span]) -> Result<Vec<Span>, AllocError>
     requires order { PartsAreClear (λ s. s) spans.now }
-    ensures instants { IfOk result (λ v. AreGaps span.now spans.now v.items) }
+    ensures instants { IfOk result (λ v. AreRemainders span.now spans.now v.items) }
     ensures order { IfOk result (λ v. PartsAreClear (λ s. s) v.items) }
-    ensures ends { IfOk result (λ v. v.items ≡ gaps_of span.now spans.now) }
+    ensures ends { IfOk result (λ v. v.items ≡ remainders_of span.now spans.now) }
 {
     let _ = span.lower();
     left_by(alloc, span, spans)
@@ -23,7 +23,7 @@ pub fn gaps(alloc: Global, span: &Span, spans: &[Span]) -> Result<Vec<Span>, All
 
 // What the spans leave of the span, from the first of them on.
 fn left_by(alloc: Global, span: &Span, spans: &[Span]) -> Result<Vec<Span>, AllocError>
-    ensures ends { IfOk result (λ v. v.items ≡ gaps_of span.now spans.now) }
+    ensures ends { IfOk result (λ v. v.items ≡ remainders_of span.now spans.now) }
 {
     let _ = span.lower();
     let mut found = Vec::new(alloc);
@@ -52,10 +52,12 @@ pub fn whole<X: Spanned>(items: &[X]) -> Option<Span>
     let Some((last, _)) = items.split_last() else {
         return None;
     };
+    let start = first.time();
+    let end = last.time();
     Span::new(
-        *first.time().lower(),
-        *last.time().upper(),
-        first.time().lower_inc(),
-        last.time().upper_inc(),
+        *start.lower(),
+        *end.upper(),
+        start.lower_inc(),
+        end.upper_inc(),
     )
 }

@@ -1,5 +1,5 @@
 -- The instants of a span that are not in given spans.
-use Rattle.std.specs.Prelude.{◌≡◌, true, Bool, cond, not, ◌||◌, ◌&&◌, List, [], ◌∷◌}
+use Rattle.std.specs.Prelude.{◌≡◌, Bool, cond, not, ◌||◌, ◌&&◌, List, [], ◌∷◌}
 use Rattle.mob_ratio.specs.Ratio.{Ratio}
 use Rattle.mob_ratio.specs.Order.{before, up_to}
 use Rattle.mob_span.specs.Span.{SpanOf, has, has_instant}
@@ -24,13 +24,13 @@ back_of s r = record { lower = cond (is_clear r s) s.lower r.upper; upper = s.up
 
 -- Of spans in order, what they leave of s: what of s comes before the first of them, and what the others leave of that which comes
 -- after it.
-abbrev pub gaps_of : SpanOf → List SpanOf → List SpanOf
-gaps_of s [] = s ∷ []
-gaps_of s (r ∷ spans) = cond (has_instant (front_of s r)) (front_of s r ∷ cond (has_instant (back_of s r)) (gaps_of (back_of s r) spans) []) (cond (has_instant (back_of s r)) (gaps_of (back_of s r) spans) [])
+abbrev pub remainders_of : SpanOf → List SpanOf → List SpanOf
+remainders_of s [] = s ∷ []
+remainders_of s (r ∷ spans) = cond (has_instant (front_of s r)) (front_of s r ∷ cond (has_instant (back_of s r)) (remainders_of (back_of s r) spans) []) (cond (has_instant (back_of s r)) (remainders_of (back_of s r) spans) [])
 
--- The gaps have exactly the instants of s that none of the spans has.
-abbrev pub AreGaps : SpanOf → List SpanOf → List SpanOf → Type 0
-AreGaps s spans gaps = (t : Ratio) → in_some gaps t ≡ (has s t && not (in_some spans t))
+-- The remainders have exactly the instants of s that none of the spans has.
+abbrev pub AreRemainders : SpanOf → List SpanOf → List SpanOf → Type 0
+AreRemainders s spans remainders = (t : Ratio) → in_some remainders t ≡ (has s t && not (in_some spans t))
 
 -- The set has exactly the instants that both sets have.
 abbrev pub IsInBoth : List SpanOf → List SpanOf → List SpanOf → Type 0

@@ -10,13 +10,13 @@ use Rattle.mob_span.specs.Neighbours.{is_clear, is_inside}
 use Rattle.mob_span.specs.Meet.{starts_before, ends_before, meet_of}
 use Rattle.mob_span.specs.Parts.{PartsAreClear}
 use Rattle.mob_span.specs.Sets.{is_apart, IsSpanSet}
-use Rattle.mob_span.specs.Gaps.{front_of, back_of, gaps_of}
-use Rattle.mob_span.proofs.SpanLemmas.{some_upto, has_upto_lower, has_upto_upper, some_instant, meet_some}
+use Rattle.mob_span.specs.Remainders.{front_of, back_of, remainders_of}
+use Rattle.mob_span.proofs.SpanLemmas.{some_upto, has_upto_lower, has_upto_upper, meet_some}
 use Rattle.mob_span.proofs.Insides.{both, joined}
 use Rattle.mob_span.proofs.Ends.{first_by, last_by}
 use Rattle.mob_span.proofs.Touching.{upto_trans}
 use Rattle.mob_span.proofs.Shared.{AreAllClear, all_after}
-use Rattle.mob_span.proofs.Leaving.{set_clear, gaps_clear}
+use Rattle.mob_span.proofs.Leaving.{set_clear, remainders_clear}
 
 later_from : (a l t : Ratio) (i : Bool) → before a l ≡ true → (before l t || (i && up_to l t)) ≡ true → before a t ≡ true
 later_from a l t i h k = grind (arith, before-trans a l t, before-neither l t)
@@ -90,7 +90,7 @@ back_none_by h w true e i n = absurd (true≢false (sym i ∙ n))
 back_none_by h w false e i n = grind (arith, n)
 
 -- the spans of a list start after h
-abbrev HeadLater : SpanOf → List SpanOf → Type 0
+abbrev pub HeadLater : SpanOf → List SpanOf → Type 0
 HeadLater h [] = Unit {0}
 HeadLater h (w ∷ ws) = starts_before h w ≡ true
 
@@ -99,7 +99,7 @@ head_later h w [] n o = tt
 head_later h w (v ∷ ws) n o = back_later_by h w v (is_clear w h) n o.1
 
 -- each of a list in order has an instant
-pub all_some : (rs : List SpanOf) → PartsAreClear (λ r. r) rs → AllByRecursion (λ r. has_instant r ≡ true) rs
+all_some : (rs : List SpanOf) → PartsAreClear (λ r. r) rs → AllByRecursion (λ r. has_instant r ≡ true) rs
 all_some [] h = tt
 all_some (r ∷ rs) h = (h.0, all_some rs h.2)
 
@@ -137,11 +137,11 @@ module _ (P : Ratio → Type 0) (s : SpanOf) (low : P s.lower) (high : P s.upper
       within_by r.upper (before s.lower r.upper) (before r.upper s.upper) refl refl (upto_trans s.lower m.0 r.upper (has_upto_lower s m.0 h.0) (has_upto_upper r m.0 h.1)) (ends_upto s r e) k
 
   -- what is said of the ends of the spans strictly inside s, and of the ends of what they share with it, is the same
-  pub inner_shared : (rs : List SpanOf) → InnerEnds rs → SharedEnds rs
+  inner_shared : (rs : List SpanOf) → InnerEnds rs → SharedEnds rs
   inner_shared [] h = tt
   inner_shared (r ∷ rs) h = (λ i. (shared_low r (starts_before s r) refl i h.0.0, shared_high r (ends_before s r) refl i h.0.1), inner_shared rs h.1)
 
-  pub shared_inner : (rs : List SpanOf) → AllByRecursion (λ r. has_instant r ≡ true) rs → SharedEnds rs → InnerEnds rs
+  shared_inner : (rs : List SpanOf) → AllByRecursion (λ r. has_instant r ≡ true) rs → SharedEnds rs → InnerEnds rs
   shared_inner [] i h = tt
   shared_inner (r ∷ rs) i h = (
     (
@@ -155,22 +155,22 @@ module _ (P : Ratio → Type 0) (s : SpanOf) (low : P s.lower) (high : P s.upper
   pick true x y h k = h
   pick false x y h k = k
 
-  -- the ends of the gaps are ends of the spans, or of the whole
-  pub gaps_inner : (h : SpanOf) (ws : List SpanOf) → Inner h.lower → Inner h.upper → InnerEnds ws → InnerEnds (gaps_of h ws)
-  gaps_inner h [] l u k = ((l, u), tt)
-  gaps_inner h (w ∷ ws) l u k = by (has_instant (front_of h w)) (rest (has_instant (back_of h w)) (gaps_inner (back_of h w) ws (pick (is_clear w h) h.lower w.upper l k.0.1) u k.1))
+  -- the ends of the remainders are ends of the spans, or of the whole
+  remainders_inner : (h : SpanOf) (ws : List SpanOf) → Inner h.lower → Inner h.upper → InnerEnds ws → InnerEnds (remainders_of h ws)
+  remainders_inner h [] l u k = ((l, u), tt)
+  remainders_inner h (w ∷ ws) l u k = by (has_instant (front_of h w)) (rest (has_instant (back_of h w)) (remainders_inner (back_of h w) ws (pick (is_clear w h) h.lower w.upper l k.0.1) u k.1))
     where
-      rest : (c : Bool) → InnerEnds (gaps_of (back_of h w) ws) → InnerEnds (cond c (gaps_of (back_of h w) ws) [])
+      rest : (c : Bool) → InnerEnds (remainders_of (back_of h w) ws) → InnerEnds (cond c (remainders_of (back_of h w) ws) [])
       rest true ih = ih
       rest false ih = tt
 
-      by : (b : Bool) → InnerEnds (cond (has_instant (back_of h w)) (gaps_of (back_of h w) ws) []) → InnerEnds (cond b (front_of h w ∷ cond (has_instant (back_of h w)) (gaps_of (back_of h w) ws) []) (cond (has_instant (back_of h w)) (gaps_of (back_of h w) ws) []))
+      by : (b : Bool) → InnerEnds (cond (has_instant (back_of h w)) (remainders_of (back_of h w) ws) []) → InnerEnds (cond b (front_of h w ∷ cond (has_instant (back_of h w)) (remainders_of (back_of h w) ws) []) (cond (has_instant (back_of h w)) (remainders_of (back_of h w) ws) []))
       by true ih = ((l, pick (is_clear h w) h.upper w.lower u k.0.0), ih)
       by false ih = ih
 
-  first_of : (b : Bool) (f : SpanOf) (rs : List SpanOf) → b ≡ true → InnerEnds (cond b (f ∷ rs) rs) → Inner f.lower × Inner f.upper
-  first_of true f rs e h = h.0
-  first_of false f rs e h = absurd (true≢false (sym e))
+  front_ends : (b : Bool) (f : SpanOf) (rs : List SpanOf) → b ≡ true → InnerEnds (cond b (f ∷ rs) rs) → Inner f.lower × Inner f.upper
+  front_ends true f rs e h = h.0
+  front_ends false f rs e h = absurd (true≢false (sym e))
 
   next_of : (b : Bool) (f : SpanOf) (rs : List SpanOf) → InnerEnds (cond b (f ∷ rs) rs) → InnerEnds rs
   next_of true f rs h = h.1
@@ -180,10 +180,10 @@ module _ (P : Ratio → Type 0) (s : SpanOf) (low : P s.lower) (high : P s.upper
   kept_of true rs e h = h
   kept_of false rs e h = absurd (true≢false (sym e))
 
-  -- the first gap starts with the whole
-  first_low : (k : SpanOf) (ws : List SpanOf) → has_instant k ≡ true → HeadLater k ws → InnerEnds (gaps_of k ws) → Inner k.lower
+  -- the first remainder starts with the whole
+  first_low : (k : SpanOf) (ws : List SpanOf) → has_instant k ≡ true → HeadLater k ws → InnerEnds (remainders_of k ws) → Inner k.lower
   first_low k [] i l g = g.0.0
-  first_low k (w ∷ ws) i l g = (first_of (has_instant (front_of k w)) (front_of k w) (cond (has_instant (back_of k w)) (gaps_of (back_of k w) ws) []) (front_some k w i l) g).0
+  first_low k (w ∷ ws) i l g = (front_ends (has_instant (front_of k w)) (front_of k w) (cond (has_instant (back_of k w)) (remainders_of (back_of k w) ws) []) (front_some k w i l) g).0
 
   -- spans past the end of s have no end strictly inside it
   past : (w : SpanOf) (ws : List SpanOf) → up_to s.upper w.upper ≡ true → AreAllClear (λ r. r) w ws → AllByRecursion (λ r. has_instant r ≡ true) ws → InnerEnds ws
@@ -195,13 +195,13 @@ module _ (P : Ratio → Type 0) (s : SpanOf) (low : P s.lower) (high : P s.upper
       clear_upto : (p q : SpanOf) → is_clear p q ≡ true → up_to p.upper q.lower ≡ true
       clear_upto p q h = grind (arith, before-back p.upper q.lower)
 
-  -- where the spans lie in the whole, and s does: what is said of the ends of the gaps is said of those of the spans
-  pub spans_inner : (h : SpanOf) (ws : List SpanOf) → IsSpanSet ws → has_instant h ≡ true → (up_to h.lower s.lower ≡ true) ⊎ HeadLater h ws → up_to s.upper h.upper ≡ true → InnerEnds (gaps_of h ws) → InnerEnds ws
+  -- where the spans lie in the whole, and s does: what is said of the ends of the remainders is said of those of the spans
+  spans_inner : (h : SpanOf) (ws : List SpanOf) → IsSpanSet ws → has_instant h ≡ true → (up_to h.lower s.lower ≡ true) ⊎ HeadLater h ws → up_to s.upper h.upper ≡ true → InnerEnds (remainders_of h ws) → InnerEnds ws
   spans_inner h [] o i l u g = tt
   spans_inner h (w ∷ ws) o i l u g = ((starts, ends), by (has_instant (back_of h w)) refl (next_of (has_instant (front_of h w)) (front_of h w) tails g) (λ e d r. spans_inner (back_of h w) ws o.2 e d u r))
     where
       tails : List SpanOf
-      tails = cond (has_instant (back_of h w)) (gaps_of (back_of h w) ws) []
+      tails = cond (has_instant (back_of h w)) (remainders_of (back_of h w) ws) []
 
       begins : before s.lower w.lower ≡ true → starts_before h w ≡ true
       begins a = ⊎_elim (λ k. starts_if h w (upto_before h.lower s.lower w.lower k a)) (λ k. k) l
@@ -209,7 +209,7 @@ module _ (P : Ratio → Type 0) (s : SpanOf) (low : P s.lower) (high : P s.upper
       starts : Inner w.lower
       starts a b =
           let n : is_clear h w ≡ false = not_before h w (before_upto w.lower s.upper h.upper b u) in
-          subst Inner (ap (λ z. cond z h.upper w.lower) n) (first_of (has_instant (front_of h w)) (front_of h w) tails (front_some h w i (begins a)) g).1 a b
+          subst Inner (ap (λ z. cond z h.upper w.lower) n) (front_ends (has_instant (front_of h w)) (front_of h w) tails (front_some h w i (begins a)) g).1 a b
 
       reaches : before s.lower w.upper ≡ true → is_clear w h ≡ false
       reaches a = ⊎_elim (λ k. not_after_long h w (upto_before h.lower s.lower w.upper k a)) (λ k. not_after h w o.0 k) l
@@ -218,14 +218,14 @@ module _ (P : Ratio → Type 0) (s : SpanOf) (low : P s.lower) (high : P s.upper
       ends a b =
           let n = reaches a in
           let some : has_instant (back_of h w) ≡ true = back_long_by h w (is_clear w h) n (before_upto w.upper s.upper h.upper b u) in
-          let rest = kept_of (has_instant (back_of h w)) (gaps_of (back_of h w) ws) some (next_of (has_instant (front_of h w)) (front_of h w) tails g) in
+          let rest = kept_of (has_instant (back_of h w)) (remainders_of (back_of h w) ws) some (next_of (has_instant (front_of h w)) (front_of h w) tails g) in
           subst Inner (ap (λ z. cond z h.lower w.upper) n) (first_low (back_of h w) ws some (head_later h w ws n o) rest) a b
 
       lower : (d : Bool) → is_clear w h ≡ d → (up_to (back_of h w).lower s.lower ≡ true) ⊎ HeadLater (back_of h w) ws
       lower true e = ⊎_elim (λ k. inl (subst (λ z. up_to (cond z h.lower w.upper) s.lower ≡ true) (sym e) k)) (λ k. absurd (true≢false (sym e ∙ not_after h w o.0 k))) l
       lower false e = inr (head_later h w ws e o)
 
-      by : (c : Bool) → has_instant (back_of h w) ≡ c → InnerEnds (cond c (gaps_of (back_of h w) ws) []) → (has_instant (back_of h w) ≡ true → (up_to (back_of h w).lower s.lower ≡ true) ⊎ HeadLater (back_of h w) ws → InnerEnds (gaps_of (back_of h w) ws) → InnerEnds ws) → InnerEnds ws
+      by : (c : Bool) → has_instant (back_of h w) ≡ c → InnerEnds (cond c (remainders_of (back_of h w) ws) []) → (has_instant (back_of h w) ≡ true → (up_to (back_of h w).lower s.lower ≡ true) ⊎ HeadLater (back_of h w) ws → InnerEnds (remainders_of (back_of h w) ws) → InnerEnds ws) → InnerEnds ws
       by true e r ih = ih e (lower (is_clear w h) refl) r
       by false e r ih =
           let n : up_to h.upper w.upper ≡ true = back_none_by h w (is_clear w h) refl i e in
@@ -237,9 +237,9 @@ module _ (P : Ratio → Type 0) (s : SpanOf) (low : P s.lower) (high : P s.upper
   inside_high : (h : SpanOf) → is_inside h s ≡ true → up_to s.upper h.upper ≡ true
   inside_high h k = grind (arith, k, before-back s.upper h.upper)
 
-  -- So s, which lies in h, is cut by the gaps of h where it is cut by the spans.
-  pub gaps_cut : (h : SpanOf) (ws : List SpanOf) → is_inside h s ≡ true → PartsAreClear (λ r. r) ws → SharedEnds ws → SharedEnds (gaps_of h ws)
-  gaps_cut h ws i o k = inner_shared (gaps_of h ws) (gaps_inner h ws (λ a b. absurd (not_upto s.lower h.lower a (inside_low h i))) (λ a b. absurd (not_upto h.upper s.upper b (inside_high h i))) (shared_inner ws (all_some ws o) k))
+  -- So s, which lies in h, is cut by the remainders of h where it is cut by the spans.
+  pub remainders_cut : (h : SpanOf) (ws : List SpanOf) → is_inside h s ≡ true → PartsAreClear (λ r. r) ws → SharedEnds ws → SharedEnds (remainders_of h ws)
+  remainders_cut h ws i o k = inner_shared (remainders_of h ws) (remainders_inner h ws (λ a b. absurd (not_upto s.lower h.lower a (inside_low h i))) (λ a b. absurd (not_upto h.upper s.upper b (inside_high h i))) (shared_inner ws (all_some ws o) k))
 
-  pub spans_cut : (h : SpanOf) (ws : List SpanOf) → is_inside h s ≡ true → has_instant h ≡ true → IsSpanSet ws → SharedEnds (gaps_of h ws) → SharedEnds ws
-  spans_cut h ws i j o k = inner_shared ws (spans_inner h ws o j (inl (inside_low h i)) (inside_high h i) (shared_inner (gaps_of h ws) (all_some (gaps_of h ws) (gaps_clear h ws j (set_clear ws o))) k))
+  pub spans_cut : (h : SpanOf) (ws : List SpanOf) → is_inside h s ≡ true → has_instant h ≡ true → IsSpanSet ws → SharedEnds (remainders_of h ws) → SharedEnds ws
+  spans_cut h ws i j o k = inner_shared ws (spans_inner h ws o j (inl (inside_low h i)) (inside_high h i) (shared_inner (remainders_of h ws) (all_some (remainders_of h ws) (remainders_clear h ws j (set_clear ws o))) k))
