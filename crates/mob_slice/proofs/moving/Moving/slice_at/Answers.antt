@@ -1,6 +1,5 @@
-use Rattle.std.proofs.Common.{rules, arith, ◌≡◌, None, Some}
+use Rattle.std.proofs.Common.{rules, arith}
 use Rattle.std.proofs.lemmas.Grind.{common_steps}
-use Rattle.mob_slice.specs.Instants.{slice_at}
 use Rattle.mob_slice.proofs.LookUps.{where_found, where_missing}
 use Rattle.mob_slice.proofs.moving.Moving.slice_at.Goals as goal
 
