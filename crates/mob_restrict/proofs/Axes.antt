@@ -1,5 +1,5 @@
 -- A coordinate of a moving point, slice by slice.
-use Rattle.std.specs.Prelude.{◌≡◌, ◌≢◌, Bool, true, false, cond, List, [], ◌∷◌, ◌++◌, map, Option, Some, None, option_map, refl, ℕ, ◌≤◌, length}
+use Rattle.std.specs.Prelude.{◌≡◌, ◌≢◌, Bool, true, false, cond, List, [], ◌∷◌, ◌++◌, map, Some, option_map, refl, ℕ, ◌≤◌, length}
 use Rattle.std.proofs.Common.{ap, sym, ◌∙◌, append-nil, drop}
 use Rattle.std.proofs.lemmas.List.{drop_all}
 use Rattle.mob_ratio.specs.Ratio.{Ratio}

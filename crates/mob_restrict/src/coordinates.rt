@@ -33,11 +33,7 @@ pub fn get_y(alloc: Global, a: &Moving<PlaneLine>) -> Result<Moving<Line>, Alloc
 }
 
 // The coordinate of a moving point on that axis.
-fn coordinate(
-    alloc: Global,
-    a: &Moving<PlaneLine>,
-    axis: Axis,
-) -> Result<Moving<Line>, AllocError>
+fn coordinate(alloc: Global, a: &Moving<PlaneLine>, axis: Axis) -> Result<Moving<Line>, AllocError>
     ensures value { IfOk result (λ r. (t : Ratio) → value_at line_value_of r t ≡ option_map (coordinate_of axis) (value_at plane_value_of a.now t)) }
 {
     let mut lines = Vec::new(alloc);

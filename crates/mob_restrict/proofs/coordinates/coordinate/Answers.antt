@@ -15,7 +15,8 @@ unreachable-requires c =
     let made = all_lines c.args.axis c.slices-slices.result.now c.args.a.now c.loop-slice.lines.items c.loop-slice.slice-index c.slices-slices.ensures.same c.loop-slice-test.false c.loop-slice.invariant in
     absurd (not_empty c.args.axis c.args.a.now c.slices-slices.ensures.normal.some (sym made ∙ (search rules)))
 
-pub returns-in-Some : goal.returns-in-Some
-returns-in-Some c =
+pub returns : goal.returns
+returns c =
     let made = all_lines c.args.axis c.slices-slices.result.now c.args.a.now c.loop-slice.lines.items c.loop-slice.slice-index c.slices-slices.ensures.same c.loop-slice-test.false c.loop-slice.invariant in
-    record { value = λ t. c.in-Some.ensures.same t ∙ ap (λ z. value_at line_value_of z t) made ∙ coordinate_at c.args.axis c.args.a.now t }
+    let same = rw c.in-Some.is at c.in_ok-value.ensures.same in
+    record { value = λ t. same t ∙ ap (λ z. value_at line_value_of z t) made ∙ coordinate_at c.args.axis c.args.a.now t }
