@@ -17,9 +17,7 @@ use crate::summed::Summed;
 use mob_frac::Frac;
 use mob_lift::{Pieces, lift, listed};
 use mob_normal::normal;
-use mob_slice::{
-    Course, Moving, OpFault, Operand, Passed, Piece, Slice, Steady, operator_fault,
-};
+use mob_slice::{Course, Moving, OpFault, Operand, Passed, Piece, Slice, Steady, operator_fault};
 use std::alloc::Global;
 
 /// An operation on the values of two courses that goes term by term: its result goes as a third course does.

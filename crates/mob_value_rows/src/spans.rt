@@ -223,7 +223,15 @@ fn parts(alloc: Global, a: Ends, b: Ends, both: Ends, left: Ends) -> bool {
 
 #[test]
 fn sets_share_and_leave_instants(rt: HostRuntime) {
-    assert!(rt; parts(rt.alloc(), (0, 2, true, false), (1, 3, true, true), (1, 2, true, false), (0, 1, true, false)));
+    assert!(rt;
+        parts(
+            rt.alloc(),
+            (0, 2, true, false),
+            (1, 3, true, true),
+            (1, 2, true, false),
+            (0, 1, true, false)
+        )
+    );
 }
 
 // When a truth value is true that has this text. The epoch is 2000-01-01, so that the instant 2 is its second 2.
