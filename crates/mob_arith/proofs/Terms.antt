@@ -9,7 +9,7 @@ use Rattle.mob_span.specs.Meets.{PieceOf}
 use Rattle.mob_slice.specs.Course.{IsCourse}
 use Rattle.mob_slice.specs.Look.{IsLookFault}
 use Rattle.mob_slice.specs.Sides.{SideOf, side_at, side_parts, at_ends, HasValues}
-use Rattle.mob_slice.specs.Entries.{Entry, IsFirst, OnFormula}
+use Rattle.mob_slice.specs.Entries.{Entry, IsFirst, OnFormula, operator_fault}
 use Rattle.mob_slice.specs.declared.slice.Slice.{Slice}
 use Rattle.mob_slice.specs.declared.formula.Formula.{Formula}
 use Rattle.mob_slice.specs.declared.formula.Formula.TheVariants.{F2}
@@ -17,7 +17,7 @@ use Rattle.mob_slice.specs.declared.formula.LookFault.{LookFault}
 use Rattle.mob_slice.specs.declared.formula.LookFault.TheVariants.{Passed, NoMemory}
 use Rattle.mob_slice.proofs.Cuts.{all_both, all_first, all_second}
 use Rattle.mob_arith.specs.Summed.{IsTermwise}
-use Rattle.mob_arith.specs.Termwise.{entries_at_ends, operator_fault}
+use Rattle.mob_arith.specs.Termwise.{entries_at_ends}
 
 -- a slice on a span of one instant has one limit
 level_of : {C B : Type 0} (value : C → Ratio → Ratio → Ratio → B) (start end : C → B) (e : Ratio → B) (r : SpanOf) (n : Slice C) → HasValues value start end e r n → before r.lower r.upper ≡ false → start n.course ≡ end n.course

@@ -5,10 +5,6 @@ use Rattle.mob_span.specs.Meets.{PieceOf}
 use Rattle.mob_slice.specs.Sides.{SideOf, side_at, side_parts, at_ends}
 use Rattle.mob_slice.specs.Entries.{Entry}
 use Rattle.mob_slice.specs.declared.formula.Formula.TheVariants.{F1, F2}
-use Rattle.mob_slice.specs.declared.formula.OpFault.{OpFault}
-use Rattle.mob_slice.specs.declared.formula.OpFault.TheVariants.{Passed, NoMemory}
-use Rattle.mob_slice.specs.declared.formula.LookFault.{LookFault}
-use Rattle.mob_slice.specs.declared.formula.LookFault.TheVariants.{Passed as LookPassed, NoMemory as LookNoMemory}
 
 -- The entries on one piece of an operation that goes term by term: F1 of the two operands at the ends of the piece, then
 -- F2 there, whose parts for two values are `parts`.
@@ -17,8 +13,3 @@ entries_at_ends value lines value' lines' parts p =
     record { formula = F1; parts = at_ends (side_parts lines p.left) p.span ++ at_ends (side_parts lines' p.right) p.span }
     ∷ record { formula = F2; parts = at_ends (λ t. parts (side_at value p.left t) (side_at value' p.right t)) p.span }
     ∷ []
-
--- the fault of an operator for that of a look-up
-abbrev pub operator_fault : LookFault → OpFault
-operator_fault (LookPassed f) = Passed f
-operator_fault LookNoMemory = NoMemory

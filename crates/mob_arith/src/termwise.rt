@@ -1,6 +1,6 @@
 //! Operations on two operands that go term by term.
 
-ghost use Rattle.std.specs.Prelude.{◌≡◌, true, ◌||◌, List, [], ◌∷◌, MatchResult, IfOk};
+ghost use Rattle.std.specs.Prelude.{◌≡◌, true, ◌||◌, List, IfOk};
 ghost use Rattle.std.specs.List.{flat_map};
 ghost use Rattle.mob_ratio.specs.Ratio.{Ratio};
 ghost use Rattle.mob_frac.specs.Formula.{sum_parts, difference_parts, product_parts};
@@ -11,13 +11,13 @@ ghost use Rattle.mob_slice.specs.Entries.{IsJudged};
 ghost use Rattle.mob_slice.specs.declared.formula.Formula.TheVariants.{F2};
 ghost use Rattle.mob_lift.specs.Given.{IsGiven, on_sides, AreLifted};
 ghost use Rattle.mob_arith.specs.Summed.{IsTermwise};
-ghost use Rattle.mob_arith.specs.Termwise.{entries_at_ends, operator_fault};
+ghost use Rattle.mob_arith.specs.Termwise.{entries_at_ends};
 
 use crate::summed::Summed;
 use mob_frac::Frac;
-use mob_lift::{Pieces, lift};
+use mob_lift::{Pieces, lift, listed};
 use mob_normal::normal;
-use mob_slice::{Course, LookFault, Moving, OpFault, Operand, Passed, Piece, Slice, Steady};
+use mob_slice::{Course, Moving, OpFault, Operand, Passed, Piece, Slice, Steady, operator_fault};
 use std::alloc::Global;
 
 /// An operation on the values of two courses that goes term by term: its result goes as a third course does.
@@ -94,27 +94,6 @@ impl<C: Summed> Termwise<Steady<Frac>, C, C> for Scaling {
     ghost law = { C.Summed.laws.turned };
 }
 
-// The fault of an operator for that of a look-up.
-fn operator_fault(fault: LookFault) -> OpFault
-    ensures same { result ≡ operator_fault fault }
-{
-    match fault {
-        LookFault::Passed { formula } => OpFault::Passed { formula },
-        LookFault::NoMemory => OpFault::NoMemory,
-    }
-}
-
-// One slice as a list.
-fn one<C: Drop>(alloc: Global, slice: Slice<C>) -> Result<Vec<Slice<C>>, OpFault>
-    ensures one { MatchResult result (λ v. v.items ≡ slice ∷ []) (λ e. e ≡ OpFault.NoMemory) }
-{
-    let mut slices = Vec::new(alloc);
-    match slices.push(slice) {
-        Ok(()) => Ok(slices),
-        Err(_) => Err(OpFault::NoMemory),
-    }
-}
-
 // The operation on one piece.
 fn on_piece<A: Course + Drop, B: Course + Drop, D: Course + Drop, O: Termwise<A, B, D>>(
     alloc: Global,
@@ -152,7 +131,7 @@ where
         }
     };
     let _ = piece.span.lower();
-    one(
+    listed(
         alloc,
         Slice {
             span: piece.span,

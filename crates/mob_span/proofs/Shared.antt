@@ -1,9 +1,8 @@
 -- What two lists in order share, from the front.
 use Rattle.std.specs.Prelude.{◌≡◌, Bool, true, false, cond, ◌&&◌, List, [], ◌∷◌, ◌++◌, map, refl}
-use Rattle.std.specs.List.{flat_map, filter}
+use Rattle.std.specs.List.{filter}
 use Rattle.std.specs.Iterator.{MakesProgress, item_count}
 use Rattle.std.proofs.Common.{ap, sym, ◌∙◌, subst, length, arith, Some}
-use Rattle.mob_ratio.specs.Ratio.{Ratio}
 use Rattle.mob_span.specs.Span.{SpanOf, has, has_instant}
 use Rattle.mob_span.specs.Neighbours.{is_clear}
 use Rattle.mob_span.specs.Meet.{ends_before, meet_of}

@@ -1,5 +1,6 @@
 pub mod Chained
 pub mod Span
+pub mod Remainders
 pub mod Meet
 pub mod Meets
 pub mod Neighbours

@@ -5,11 +5,13 @@
 #![tactic(auto)]
 
 pub mod laws;
+pub mod remainder;
 pub mod set;
 pub mod span;
 pub mod spanned;
 pub mod walk;
 
+pub use remainder::{remainders, whole};
 pub use set::SpanSet;
 pub use span::Span;
 pub use spanned::Spanned;

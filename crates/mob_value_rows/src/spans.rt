@@ -181,6 +181,59 @@ fn spans_that_touch_are_one(rt: HostRuntime) {
     assert!(rt; is_none_of_none(rt.alloc()));
 }
 
+fn one(alloc: Global, ends: Ends) -> Option<SpanSet> {
+    set(alloc, ends, ends, ends)
+}
+
+fn is_one(set: &SpanSet, wanted: Ends) -> bool {
+    match set.spans() {
+        [span] => ends_of(span) == wanted,
+        _ => false,
+    }
+}
+
+fn shares(alloc: Global, a: &SpanSet, b: &SpanSet, wanted: Ends) -> bool {
+    match &a.meet(alloc, b) {
+        Ok(both) => is_one(both, wanted),
+        Err(_) => false,
+    }
+}
+
+fn leaves(alloc: Global, a: &SpanSet, b: &SpanSet, wanted: Ends) -> bool {
+    match &a.minus(alloc, b) {
+        Ok(left) => is_one(left, wanted),
+        Err(_) => false,
+    }
+}
+
+fn parts_by(alloc: Global, a: &SpanSet, b: Ends, both: Ends, left: Ends) -> bool {
+    match &one(alloc, b) {
+        Some(b) => shares(alloc, a, b, both) && leaves(alloc, a, b, left),
+        None => false,
+    }
+}
+
+// Whether the sets of these two spans share that span, and the first has the last one alone.
+fn parts(alloc: Global, a: Ends, b: Ends, both: Ends, left: Ends) -> bool {
+    match &one(alloc, a) {
+        Some(a) => parts_by(alloc, a, b, both, left),
+        None => false,
+    }
+}
+
+#[test]
+fn sets_share_and_leave_instants(rt: HostRuntime) {
+    assert!(rt;
+        parts(
+            rt.alloc(),
+            (0, 2, true, false),
+            (1, 3, true, true),
+            (1, 2, true, false),
+            (0, 1, true, false)
+        )
+    );
+}
+
 // When a truth value is true that has this text. The epoch is 2000-01-01, so that the instant 2 is its second 2.
 fn times(alloc: Global, text: &str) -> Option<SpanSet> {
     match &read_value(alloc, SqlType::TBool, text, &Epoch::standard()) {

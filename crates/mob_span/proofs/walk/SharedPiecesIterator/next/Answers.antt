@@ -1,8 +1,7 @@
-use Rattle.std.proofs.Common.{◌≡◌, [], refl, sym, ap, ◌∙◌, subst, length, arith, true, false}
+use Rattle.std.proofs.Common.{◌≡◌, [], sym, ◌∙◌, subst, true, false}
 use Rattle.std.proofs.lemmas.List.{nil_from_length}
 use Rattle.mob_span.specs.Walk.{meets_left, CanWalk}
-use Rattle.mob_span.specs.Meets.{shared_pieces}
-use Rattle.mob_span.specs.Meet.{meet_of, ends_before}
+use Rattle.mob_span.specs.Meet.{meet_of}
 use Rattle.mob_span.specs.Span.{has_instant}
 use Rattle.mob_span.proofs.Shared.{none_left, progress, given_left, given_right, passed_left, passed_right}
 use Rattle.mob_span.proofs.walk.SharedPiecesIterator.next.Goals as goal

@@ -1,0 +1,5 @@
+pub mod Cutting
+pub mod SpansOf
+pub mod Outside
+pub mod Axes
+mod Examples

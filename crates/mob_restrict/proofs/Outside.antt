@@ -1,0 +1,134 @@
+-- A temporal value at the instants that a set has not, by the remainders that the set leaves of its time.
+use Rattle.std.specs.Prelude.{◌≡◌, ◌⊎◌, Bool, true, false, cond, ◌&&◌, not, List, [], ◌∷◌, ◌++◌, map, Option, Some, None, Result, Ok, Err, refl, suc, ◌^◌, nat_abs}
+use Rattle.std.specs.List.{flat_map, filter, AllByRecursion}
+use Rattle.std.proofs.Common.{ap, sym, ◌∙◌, subst, inl, inr, ⊎_elim, true≢false, arith}
+use Rattle.std.proofs.lemmas.Bool.Decides.{leb_tells}
+use Rattle.mob_ratio.specs.Ratio.{Ratio}
+use Rattle.mob_frac.specs.Fits.{Fits}
+use Rattle.mob_frac.specs.Formula.{AllFit}
+use Rattle.mob_span.specs.Span.{SpanOf, has, has_instant}
+use Rattle.mob_span.specs.Neighbours.{is_inside}
+use Rattle.mob_span.specs.Meet.{meet_of}
+use Rattle.mob_span.specs.Meets.{PieceOf, shared_pieces}
+use Rattle.mob_span.specs.Sets.{in_some, IsSpanSet}
+use Rattle.mob_span.specs.Remainders.{AreRemainders, remainders_of}
+use Rattle.mob_span.proofs.Insides.{inside_has}
+use Rattle.mob_span.proofs.Shared.{row}
+use Rattle.mob_span.proofs.Leaving.{set_clear}
+use Rattle.mob_span.proofs.RemainderEnds.{remainders_cut, spans_cut}
+use Rattle.mob_slice.specs.Course.{IsCourse}
+use Rattle.mob_slice.specs.Slices.{value_at}
+use Rattle.mob_slice.specs.Sides.{at_ends}
+use Rattle.mob_slice.specs.Cut.{slice_parts}
+use Rattle.mob_slice.specs.Entries.{IsFirst, IsJudged}
+use Rattle.mob_slice.specs.declared.slice.Slice.{Slice}
+use Rattle.mob_slice.specs.declared.formula.Formula.{Formula}
+use Rattle.mob_slice.specs.declared.formula.Formula.TheVariants.{F1}
+use Rattle.mob_slice.specs.declared.formula.OpFault.{OpFault}
+use Rattle.mob_slice.specs.declared.formula.OpFault.TheVariants.{Passed, NoMemory}
+use Rattle.mob_slice.proofs.Cuts.{all_both, all_first, all_second}
+use Rattle.mob_lift.proofs.Judged.{none_some}
+use Rattle.mob_restrict.specs.Restricted.{entry_of_cut, where_wanted, AreRestricted}
+
+-- a value is defined in its time alone
+gone : {C B : Type 0} (value : C → Ratio → Ratio → Ratio → B) (h : SpanOf) (v : List (Slice C)) (t : Ratio) → AllByRecursion (λ s. is_inside h s.span ≡ true) v → has h t ≡ false → value_at value v t ≡ None
+gone value h [] t a n = refl
+gone value h (s ∷ v) t a n = rw (inside_has h s.span t a.0 n) (gone value h v t a.1 n)
+
+by_hull : {B : Type 0} (o : Option B) (inside w : Bool) → (inside ≡ false → o ≡ None) → where_wanted true (λ x. inside && not w) o ≡ where_wanted false (λ x. w) o
+by_hull o false w f = rw (f refl) refl
+by_hull None true w f = refl
+by_hull (Some x) true w f = refl
+
+-- what it has at the remainders that the set leaves of its time is what it has at the instants that the set has not
+pub outside_values : {C B : Type 0} (value : C → Ratio → Ratio → Ratio → B) (start end : C → B) (v slices : List (Slice C)) (h : SpanOf) (spans remainders : List SpanOf) → AllByRecursion (λ s. is_inside h s.span ≡ true) v → AreRemainders h spans remainders → AreRestricted value start end true (λ t x. in_some remainders t) v slices → AreRestricted value start end false (λ t x. in_some spans t) v slices
+outside_values value start end v slices h spans remainders a g r = record {
+  ordered = r.ordered;
+  values = λ t. r.values t ∙ ap (λ b. where_wanted true (λ x. b) (value_at value v t)) (g t) ∙ by_hull (value_at value v t) (has h t) (in_some spans t) (λ n. gone value h v t a n);
+}
+
+-- a number fits or does not, and so do the parts of a formula
+fits_or : (q : Ratio) → Fits q ⊎ (¬ Fits q)
+fits_or q = ⊎_elim (λ m. ⊎_elim (λ n. inl (record { num_fits = omega (arith, m.1); den_fits = omega (arith, n.1) })) (λ n. inr (λ f. absurd (omega (arith, n.1, f.den_fits)))) (leb_tells (suc q.den) (2 ^ 62))) (λ m. inr (λ f. absurd (omega (arith, m.1, f.num_fits)))) (leb_tells (suc (nat_abs q.num)) (2 ^ 62))
+
+parts_or : (parts : List Ratio) → AllFit parts ⊎ (¬ AllFit parts)
+parts_or [] = inl tt
+parts_or (q ∷ parts) = ⊎_elim (λ m. ⊎_elim (λ n. inl (m, n)) (λ n. inr (λ f. n f.1)) (parts_or parts)) (λ m. inr (λ f. m f.0)) (fits_or q)
+
+module _ {C : Type 0} (parts : C → Ratio → Ratio → Ratio → List Ratio) where
+  -- every cut at the ends of the pieces fits
+  abbrev pub CutsFit : List (PieceOf (Slice C) SpanOf) → Type 0
+  CutsFit ps = AllByRecursion (λ p. AllFit (at_ends (slice_parts parts p.left) p.span)) ps
+
+  cuts_fit : (ps : List (PieceOf (Slice C) SpanOf)) → IsFirst (flat_map (entry_of_cut parts) ps) None → CutsFit ps
+  cuts_fit [] h = tt
+  cuts_fit (p ∷ ps) h = ⊎_elim (λ m. (m.0, cuts_fit ps m.1)) (λ m. none_some F1 m.1) h
+
+  none_first : (ps : List (PieceOf (Slice C) SpanOf)) → CutsFit ps → IsFirst (flat_map (entry_of_cut parts) ps) None
+  none_first [] h = refl
+  none_first (p ∷ ps) h = inl (h.0, none_first ps h.1)
+
+  one_fails : (ps : List (PieceOf (Slice C) SpanOf)) (f : Formula) → IsFirst (flat_map (entry_of_cut parts) ps) (Some f) → (Some f ≡ Some F1) × (¬ CutsFit ps)
+  one_fails [] f h = none_some f (sym h)
+  one_fails (p ∷ ps) f h = ⊎_elim (λ m. let n = one_fails ps f m.1 in (n.0, λ k. n.1 k.1)) (λ m. (m.1, λ k. m.0 k.0)) h
+
+  first_fails : (ps : List (PieceOf (Slice C) SpanOf)) → (¬ CutsFit ps) → IsFirst (flat_map (entry_of_cut parts) ps) (Some F1)
+  first_fails [] n = absurd (n tt)
+  first_fails (p ∷ ps) n = ⊎_elim (λ m. inl (m, first_fails ps (λ k. n (m, k)))) (λ m. inr (m, refl)) (parts_or (at_ends (slice_parts parts p.left) p.span))
+
+  -- cuts that fit together are judged alike
+  judged_alike : {V : Type 0} (ps qs : List (PieceOf (Slice C) SpanOf)) (r : Result V OpFault) → (CutsFit ps → CutsFit qs) → (CutsFit qs → CutsFit ps) → IsJudged (flat_map (entry_of_cut parts) ps) r → IsJudged (flat_map (entry_of_cut parts) qs) r
+  judged_alike ps qs (Ok v) f g h = none_first qs (f (cuts_fit ps h))
+  judged_alike ps qs (Err (Passed e)) f g h = let m = one_fails ps e h in subst (λ o. IsFirst (flat_map (entry_of_cut parts) qs) o) (sym m.0) (first_fails qs (λ k. m.1 (g k)))
+  judged_alike ps qs (Err NoMemory) f g h = tt
+
+  -- the cuts of one slice, at the ends of what it shares with each span
+  abbrev SliceFits : Slice C → List SpanOf → Type 0
+  SliceFits s rs = AllByRecursion (λ r. has_instant (meet_of s.span r) ≡ true → AllFit (slice_parts parts s (meet_of s.span r).lower) × AllFit (slice_parts parts s (meet_of s.span r).upper)) rs
+
+  row_fits : (s : Slice C) (rs : List SpanOf) → CutsFit (row (λ s. s.span) (λ r. r) s rs) → SliceFits s rs
+  row_fits s [] h = tt
+  row_fits s (r ∷ rs) h = by (has_instant (meet_of s.span r)) refl h (λ q. row_fits s rs q)
+    where
+      by : (b : Bool) → has_instant (meet_of s.span r) ≡ b → CutsFit (map (λ z. record { span = meet_of s.span z; left = s; right = z }) (cond b (r ∷ filter (λ z. has_instant (meet_of s.span z)) rs) (filter (λ z. has_instant (meet_of s.span z)) rs))) → (CutsFit (row (λ s. s.span) (λ r. r) s rs) → SliceFits s rs) → SliceFits s (r ∷ rs)
+      by true e k ih = (λ i. (all_first (slice_parts parts s (meet_of s.span r).lower) (slice_parts parts s (meet_of s.span r).upper) k.0, all_second (slice_parts parts s (meet_of s.span r).lower) (slice_parts parts s (meet_of s.span r).upper) k.0), ih k.1)
+      by false e k ih = (λ i. absurd (true≢false (sym i ∙ e)), ih k)
+
+  fits_row : (s : Slice C) (rs : List SpanOf) → SliceFits s rs → CutsFit (row (λ s. s.span) (λ r. r) s rs)
+  fits_row s [] h = tt
+  fits_row s (r ∷ rs) h = by (has_instant (meet_of s.span r)) refl (fits_row s rs h.1)
+    where
+      by : (b : Bool) → has_instant (meet_of s.span r) ≡ b → CutsFit (row (λ s. s.span) (λ r. r) s rs) → CutsFit (map (λ z. record { span = meet_of s.span z; left = s; right = z }) (cond b (r ∷ filter (λ z. has_instant (meet_of s.span z)) rs) (filter (λ z. has_instant (meet_of s.span z)) rs)))
+      by true e ih = let m = h.0 e in (all_both (slice_parts parts s (meet_of s.span r).lower) (slice_parts parts s (meet_of s.span r).upper) m.0 m.1, ih)
+      by false e ih = ih
+
+  fit_both : (ps qs : List (PieceOf (Slice C) SpanOf)) → CutsFit ps → CutsFit qs → CutsFit (ps ++ qs)
+  fit_both [] qs h k = k
+  fit_both (p ∷ ps) qs h k = (h.0, fit_both ps qs h.1 k)
+
+  fit_front : (ps qs : List (PieceOf (Slice C) SpanOf)) → CutsFit (ps ++ qs) → CutsFit ps × CutsFit qs
+  fit_front [] qs h = (tt, h)
+  fit_front (p ∷ ps) qs h = let m = fit_front ps qs h.1 in ((h.0, m.0), m.1)
+
+  -- where each slice is cut alike by two lists of spans, so is the whole
+  cut_alike : (v : List (Slice C)) (rs ws : List SpanOf) (h : SpanOf) → AllByRecursion (λ s. is_inside h s.span ≡ true) v → ((s : Slice C) → is_inside h s.span ≡ true → SliceFits s rs → SliceFits s ws) → CutsFit (shared_pieces (λ s. s.span) (λ r. r) v rs) → CutsFit (shared_pieces (λ s. s.span) (λ r. r) v ws)
+  cut_alike [] rs ws h a f k = tt
+  cut_alike (s ∷ v) rs ws h a f k =
+      let m = fit_front (row (λ s. s.span) (λ r. r) s rs) (shared_pieces (λ s. s.span) (λ r. r) v rs) k in
+      fit_both (row (λ s. s.span) (λ r. r) s ws) (shared_pieces (λ s. s.span) (λ r. r) v ws) (fits_row s ws (f s a.0 (row_fits s rs m.0))) (cut_alike v rs ws h a.1 f m.1)
+
+module _ {C B : Type 0} {steady copies : Bool} {value : C → Ratio → Ratio → Ratio → B} {start end : C → B} {can_make : B → B → Type 0} {make : B → B → C} {continues : C → C → Ratio → Ratio → Ratio → Bool} {parts : C → Ratio → Ratio → Ratio → List Ratio} (laws : IsCourse steady copies value start end can_make make continues parts) where
+  own_low : (s : Slice C) → AllFit (slice_parts parts s s.span.lower)
+  own_low s = subst AllFit (sym (laws.lower_parts s.course s.span.lower s.span.upper)) tt
+
+  own_high : (s : Slice C) → AllFit (slice_parts parts s s.span.upper)
+  own_high s = subst AllFit (sym (laws.upper_parts s.course s.span.lower s.span.upper)) tt
+
+  -- The remainders that a set leaves of the time of a value cut it where the set does. So what is judged by the ones is judged by the other.
+  pub judged_by_set : {V : Type 0} (v : List (Slice C)) (spans remainders : List SpanOf) (h : SpanOf) (r : Result V OpFault) → AllByRecursion (λ s. is_inside h s.span ≡ true) v → has_instant h ≡ true → IsSpanSet spans → remainders ≡ remainders_of h spans
+      → IsJudged (flat_map (entry_of_cut parts) (shared_pieces (λ s. s.span) (λ r. r) v remainders)) r → IsJudged (flat_map (entry_of_cut parts) (shared_pieces (λ s. s.span) (λ r. r) v spans)) r
+  judged_by_set v spans remainders h r a i o e j =
+      judged_alike parts (shared_pieces (λ s. s.span) (λ r. r) v (remainders_of h spans)) (shared_pieces (λ s. s.span) (λ r. r) v spans) r
+      (cut_alike parts v (remainders_of h spans) spans h a (λ s k. spans_cut (λ t. AllFit (slice_parts parts s t)) s.span (own_low s) (own_high s) h spans k i o))
+      (cut_alike parts v spans (remainders_of h spans) h a (λ s k. remainders_cut (λ t. AllFit (slice_parts parts s t)) s.span (own_low s) (own_high s) h spans k (set_clear spans o)))
+      (subst (λ z. IsJudged (flat_map (entry_of_cut parts) (shared_pieces (λ s. s.span) (λ r. r) v z)) r) e j)

@@ -1,0 +1,3 @@
+pub mod Restricted
+pub mod Times
+pub mod Coordinates

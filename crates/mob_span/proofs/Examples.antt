@@ -1,0 +1,32 @@
+-- Worked examples of the definitions. Each holds by computing.
+use Rattle.std.specs.Prelude.{◌≡◌, Bool, true, false, pos, [], ◌∷◌, map, refl}
+use Rattle.mob_ratio.specs.Gcd.{gcd, gcd_steps}
+use Rattle.mob_ratio.specs.Lowest.{in_lowest_terms}
+use Rattle.mob_ratio.specs.Ratio.{Ratio, over, whole}
+use Rattle.mob_ratio.specs.Order.{before}
+use Rattle.mob_span.specs.Span.{SpanOf}
+use Rattle.mob_span.specs.Meets.{shared_pieces}
+use Rattle.mob_span.specs.Remainders.{remainders_of}
+
+abbrev from_to : Ratio → Ratio → Bool → Bool → SpanOf
+from_to l u i j = record { lower = l; upper = u; lower_inc = i; upper_inc = j }
+
+-- [0, 2) and [1, 3] share [1, 2)
+shared_example : map (λ p. p.span) (shared_pieces (λ s. s) (λ s. s) (from_to (whole (pos 0)) (whole (pos 2)) true false ∷ []) (from_to (whole (pos 1)) (whole (pos 3)) true true ∷ [])) ≡ from_to (whole (pos 1)) (whole (pos 2)) true false ∷ []
+unfolding over gcd gcd_steps in_lowest_terms whole before
+shared_example = refl
+
+-- and [1, 3] leaves [0, 1) of [0, 2)
+left_example : remainders_of (from_to (whole (pos 0)) (whole (pos 2)) true false) (from_to (whole (pos 1)) (whole (pos 3)) true true ∷ []) ≡ from_to (whole (pos 0)) (whole (pos 1)) true false ∷ []
+unfolding over gcd gcd_steps in_lowest_terms whole before
+left_example = refl
+
+-- the instant 2 leaves two spans of [0, 4], neither of which has it
+hole_example : remainders_of (from_to (whole (pos 0)) (whole (pos 4)) true true) (from_to (whole (pos 2)) (whole (pos 2)) true true ∷ []) ≡ from_to (whole (pos 0)) (whole (pos 2)) true false ∷ from_to (whole (pos 2)) (whole (pos 4)) false true ∷ []
+unfolding over gcd gcd_steps in_lowest_terms whole before
+hole_example = refl
+
+-- between two spans that leave out one instant, that instant is left
+instant_example : remainders_of (from_to (whole (pos 0)) (whole (pos 4)) true true) (from_to (whole (pos 0)) (whole (pos 2)) true false ∷ from_to (whole (pos 2)) (whole (pos 4)) false true ∷ []) ≡ from_to (whole (pos 2)) (whole (pos 2)) true true ∷ []
+unfolding over gcd gcd_steps in_lowest_terms whole before
+instant_example = refl
