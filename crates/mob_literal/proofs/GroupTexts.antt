@@ -18,8 +18,9 @@ use Rattle.mob_written.specs.declared.written.Sequence.{Sequence}
 use Rattle.mob_written.specs.declared.written.Literal.{Literal}
 use Rattle.mob_written.specs.declared.written.Prefixes.{Prefixes}
 use Rattle.mob_written.specs.Prefix.{Prefix, ArePrefixes, remaining, says_step, begins_prefix}
-use Rattle.mob_written.specs.Fitting.{fitting}
-use Rattle.mob_written.specs.Literal.{at_sign, comma, noted, sequence, members, braced, alone, literal, temporal, opening as opening_bracket, closing as closing_bracket}
+use Rattle.mob_numeral.specs.Fitting.{fitting}
+use Rattle.mob_scalar.specs.Brackets.{comma, opening as opening_bracket, closing as closing_bracket}
+use Rattle.mob_written.specs.Literal.{at_sign, noted, sequence, members, braced, alone, literal, temporal}
 use Rattle.mob_written.specs.Printed.{Style, is_long, takes_up, groups_of, put_in_group, with_commas, instant_text, instants_of, start_text, opening_text, closing_text, group_text, groups_text, set_text, moving_text, in_braces}
 use Rattle.mob_written.specs.Style.{style_of}
 use Rattle.mob_literal.proofs.GroupSlices.{Alls, alls_rest, start_of, end_of, more, upper_of, sequence_of, AllHoldTogether, are_groups, joined}

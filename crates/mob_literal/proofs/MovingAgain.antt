@@ -26,7 +26,7 @@ use Rattle.mob_scalar.proofs.TruthAgain.{truth_plain}
 use Rattle.mob_scalar.proofs.MomentAgain.{moment_plain}
 use Rattle.mob_written.specs.declared.written.Written.{Written}
 use Rattle.mob_written.specs.declared.written.Sequence.{Sequence}
-use Rattle.mob_written.specs.Fitting.{fits, fitting}
+use Rattle.mob_numeral.specs.Fitting.{fits, fitting}
 use Rattle.mob_literal.specs.Sound.{instant_count, traverse, written_of, fitting_sequence, fitting_all, is_sound, Defines, literals, steps}
 use Rattle.mob_written.specs.Printed.{is_long, groups_of, instants_of, moving_text}
 use Rattle.mob_written.specs.Style.{style_of}

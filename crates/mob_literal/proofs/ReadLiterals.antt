@@ -19,7 +19,8 @@ use Rattle.mob_written.specs.declared.written.Sequence.{Sequence}
 use Rattle.mob_written.specs.declared.written.Literal.{Literal}
 use Rattle.mob_written.specs.declared.written.Prefixes.{Prefixes}
 use Rattle.mob_written.specs.Prefix.{admitted}
-use Rattle.mob_written.specs.Literal.{comma, noted, sequence, alone, members, literal, temporal, noted_at, temporal_at}
+use Rattle.mob_scalar.specs.Brackets.{comma}
+use Rattle.mob_written.specs.Literal.{noted, sequence, alone, members, literal, temporal, noted_at, temporal_at}
 use Rattle.mob_written.specs.ValueText.{IsValueText}
 use Rattle.mob_literal.specs.Sequences.{is_step, rises}
 use Rattle.mob_literal.specs.Slices.{slices_of}

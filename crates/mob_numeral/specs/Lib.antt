@@ -5,3 +5,4 @@ pub mod NumberReaders
 pub mod NumberValue
 pub mod Numbers
 pub mod NumberText
+pub mod Fitting

@@ -5,6 +5,7 @@ ghost use Rattle.mob_ratio.specs.Ratio.{over};
 ghost use Rattle.mob_frac.specs.Fits.{IsExact};
 ghost use Rattle.mob_frac.specs.Signed.{signed};
 ghost use Rattle.mob_numeral.specs.NumberValue.{IsBounded, numeral_value, up_of, down_of, value_in};
+ghost use Rattle.mob_numeral.specs.Fitting.{fitting};
 ghost use Rattle.mob_numeral.specs.Number.{count_of};
 ghost use Rattle.mob_numeral.specs.NumberReaders.{numeral_at};
 ghost use Rattle.mob_numeral.specs.declared.fault.ReadText.TheVariants.{NoMemory};
@@ -114,6 +115,18 @@ pub fn evaluate(n: Numeral) -> Result<Frac, Overflow>
             let down = places(part) + down(exponent) as u32;
             scaled(n.negative, size, up, down)
         }
+    }
+}
+
+/// The number that a numeral stands for, where it fits.
+#[tactic(auto, unfolding(crate::specs::Fitting::fits))]
+pub fn fitting_number(numeral: Numeral) -> Option<Frac>
+    requires bounded { IsBounded numeral }
+    ensures value { result ≡ fitting (numeral_value numeral) }
+{
+    match evaluate(numeral) {
+        Ok(value) => Some(value),
+        Err(_) => None,
     }
 }
 

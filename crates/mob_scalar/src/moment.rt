@@ -2,6 +2,7 @@
 ghost use Rattle.std.specs.Prelude.{◌≡◌, ◌<◌, ◌^◌, ℤ, pos, nat_abs, ◌*ℤ◌, ◌-ℤ◌, Option, Some, None, IfSome, true, ◌≢◌, Err};
 ghost use Rattle.mob_frac.specs.Fits.{IsExact};
 ghost use Rattle.mob_ratio.specs.Ratio.{whole, over, ◌+ℚ◌};
+ghost use Rattle.mob_numeral.specs.Fitting.{fitting};
 ghost use Rattle.mob_language.specs.Readers.{all_of, within_blanks_at};
 ghost use Rattle.mob_scalar.specs.Calendar.{is_civil as civil};
 ghost use Rattle.mob_scalar.specs.Moment.{instant, IsPartSmall};
@@ -52,6 +53,19 @@ pub fn place(stamp: Stamp, epoch: &Epoch) -> Result<Frac, Overflow>
     ensures exact { IsExact (instant epoch.now stamp) result }
 {
     plus_part(since(seconds_of(stamp), epoch), stamp.clock.part)
+}
+
+/// The instant of a moment. None where it does not fit.
+#[tactic(auto, unfolding(mob_numeral::specs::Fitting::fits))]
+pub fn instant_of(stamp: Stamp, epoch: &Epoch) -> Option<Frac>
+    requires date { civil stamp.date ≡ true }
+    requires part { IsPartSmall stamp.clock.part }
+    ensures value { result ≡ fitting (instant epoch.now stamp) }
+{
+    match place(stamp, epoch) {
+        Ok(instant) => Some(instant),
+        Err(_) => None,
+    }
 }
 
 /// All of the bytes, as a moment with blanks at its ends.

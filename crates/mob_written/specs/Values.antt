@@ -19,7 +19,7 @@ use Rattle.mob_numeral.proofs.WholeTexts.{number_head, number_byte}
 use Rattle.mob_scalar.proofs.WholeTexts.{truth_exact, truth_head, truth_byte}
 use Rattle.mob_numeral.proofs.BeforeSign.{number_before_at}
 use Rattle.mob_scalar.proofs.BeforeSign.{truth_before_at, text_value_before_at}
-use Rattle.mob_written.specs.Fitting.{fitting}
+use Rattle.mob_numeral.specs.Fitting.{fitting}
 use Rattle.mob_written.specs.ValueText.{IsValueText, begins_no_value}
 
 abbrev pub some_value : {B : Type 0} → B → Option B

@@ -1,7 +1,5 @@
 //! How the values of the temporal types are written and printed.
 ghost use Rattle.std.specs.Prelude.{◌≡◌, Option, IfOk, option_map, false};
-ghost use Rattle.mob_written.specs.Fitting.{fitting};
-ghost use Rattle.mob_numeral.specs.NumberValue.{numeral_value, IsBounded};
 ghost use Rattle.mob_numeral.specs.NumberText.{number_text};
 ghost use Rattle.mob_scalar.specs.Truth.{truth_text};
 ghost use Rattle.mob_scalar.specs.Quoted.{quoted_text};
@@ -11,7 +9,7 @@ use crate::printing::Printed;
 use mob_frac::Frac;
 use mob_list::text::Text;
 use mob_scalar::{
-    Numeral, evaluate, number_at, text_value_at, truth_at, write_number, write_text_value,
+    fitting_number, number_at, text_value_at, truth_at, write_number, write_text_value,
     write_truth,
 };
 use std::alloc::{AllocError, Global};
@@ -50,18 +48,6 @@ impl WrittenValue for Truths {
     }
 
     ghost exact = { truth_values };
-}
-
-/// A number, where it fits.
-#[tactic(auto, unfolding(crate::specs::Fitting::fits))]
-fn fitting_number(numeral: Numeral) -> Option<Frac>
-    requires bounded { IsBounded numeral }
-    ensures value { result ≡ fitting (numeral_value numeral) }
-{
-    match evaluate(numeral) {
-        Ok(value) => Some(value),
-        Err(_) => None,
-    }
 }
 
 /// The values of a tint: numbers that stand for whole ones.

@@ -1,8 +1,8 @@
 use Rattle.std.proofs.Common.{suc, length, sym, arith, Ok}
 use Rattle.mob_language.specs.Readers.{separated_at}
 use Rattle.mob_language.proofs.Lists.{loop_more, loop_ends, loop_fails, loop_done}
-use Rattle.mob_written.specs.Literal.{comma_at}
-use Rattle.mob_written.proofs.literal.separated_at.Goals as goal
+use Rattle.mob_scalar.specs.Brackets.{comma_at}
+use Rattle.mob_scalar.proofs.brackets.separated_at.Goals as goal
 
 pub returns-in_default : goal.returns-in_default
 returns-in_default g c = record { read = λ reader exact. loop_fails reader comma_at c.loop.members.items (suc (length c.args.bytes.now)) c.loop.counter c.loop.rest.now (separated_at reader comma_at c.args.bytes.now) (omega arith) (sym (rw c.in_default.is at (exact c.loop.rest (Ok c.in_ok-member.field-0) c.in_ok-member.ensures))) (c.loop.invariant reader exact) }
