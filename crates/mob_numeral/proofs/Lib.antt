@@ -8,3 +8,4 @@ pub mod Settled
 pub mod WholeTexts
 pub mod BeforeSign
 pub mod WholeNumbers
+pub mod Fitted

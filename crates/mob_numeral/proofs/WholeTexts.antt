@@ -23,7 +23,7 @@ pub record Inner {A : Type 0} (l : Language A) (v : A) : Type 0 where
 pub inner_of : {A : Type 0} {l : Language A} (text : Text) (v : A) → within_blanks l text v → Inner l v
 inner_of {l = l} text v w = record { text = w.said.second.front; said = subst (l w.said.second.front) (sym w.is) w.said.second.first }
 
-blank_stops : Apart is_blank continues
+pub blank_stops : Apart is_blank continues
 blank_stops c e = search rules
 
 -- no number begins with a byte that none of its parts begins with
@@ -83,5 +83,8 @@ number_byte text v said e =
     no_tail s.second.back m.meant.1.1 m.meant.1.0 s.second.second t (no_figures s.second.front m.meant.1.0 s.second.first d)
     (subst (λ (x : Numeral). has_digits x.digits x.tail ≡ true) m.is said.holds)
 
+pub number_blank : NoHead number is_blank
+number_blank = number_head is_blank sign_blank digit_blank refl refl e_blank
+
 pub number_whole : Exact (within_blanks number) (within_blanks_at numeral_at) IsEnd
-number_whole = within_exact number_exact (number_head is_blank sign_blank digit_blank refl refl e_blank) number_byte (blanks_stop continues blank_stops)
+number_whole = within_exact number_exact number_blank number_byte (blanks_stop continues blank_stops)

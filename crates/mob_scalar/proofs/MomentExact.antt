@@ -13,7 +13,7 @@ use Rattle.mob_numeral.specs.Figures.{digits}
 use Rattle.mob_numeral.specs.NumberReaders.{digits_at}
 use Rattle.mob_scalar.specs.Calendar.{has_count, number_in, fixed, civil_of, is_civil, date}
 use Rattle.mob_scalar.specs.CalendarReaders.{fixed_at, dash_at, date_at}
-use Rattle.mob_scalar.specs.Moment.{is_below, two_digits_below, point_part, is_point_part, fraction_part, is_fraction_part, part, clock_of, clock, offset_of, utc, is_z, zone, is_t, is_some_text, gap, time_of, time, stamp_of, is_in_years, moment}
+use Rattle.mob_scalar.specs.Moment.{some_blanks, is_below, two_digits_below, point_part, is_point_part, fraction_part, is_fraction_part, part, clock_of, clock, offset_of, utc, is_z, zone, is_t, is_some_text, gap, time_of, time, stamp_of, is_in_years, moment}
 use Rattle.mob_scalar.specs.MomentReaders.{two_digits_below_at, colon_at, decimals_at, below_at, quotient_at, second_part_at, seconds_at, clock_at, z_at, hours_at, zone_at, some_blanks_at, t_at, gap_at, time_at, moment_at}
 use Rattle.mob_numeral.proofs.NumberExact.{digits_base, left, right}
 
@@ -279,6 +279,15 @@ blanks_byte = means_byte (λ (c : Text). tt) some_byte
 
     some_byte : HasByte (Where is_some_text (ManyOf is_blank))
     some_byte text v said e = none (subst (λ (t : Text). is_some_text t ≡ true) (sym said.said.is ∙ e) said.holds)
+
+-- one blank or more
+pub some_blanks_exact : Exact some_blanks some_blanks_at (Stops is_blank)
+unfolding blanks_language
+some_blanks_exact = blanks_exact
+
+pub some_blanks_byte : HasByte some_blanks
+unfolding blanks_language
+some_blanks_byte = blanks_byte
 
 time_head : NoHead time is_digit
 unfolding blanks_language

@@ -1,7 +1,7 @@
 -- Brackets, braces and commas, with blanks beside them.
 --
 -- Blanks may stand on both sides of each sign of a text that stands outside a number, a moment and a quoted value.
-use Rattle.std.specs.Prelude.{ℕ, codes, Bool, ◌||◌, nat_eq}
+use Rattle.std.specs.Prelude.{ℕ, List, [], ◌∷◌, ◌++◌, codes, Bool, ◌||◌, nat_eq}
 use Rattle.mob_language.specs.Language.{Text, Language, ◌▷◌, Means, Word, OneOf, blanks, spaced, in_middle}
 use Rattle.mob_language.specs.Readers.{TextReader, then_at, means_at, word_at, one_at, blanks_at, spaced_at}
 
@@ -25,6 +25,17 @@ closing = Means (λ (v : Text × ℕ). v.1) (blanks ▷ OneOf is_close)
 -- a text in braces
 abbrev pub within_braces : {A : Type 0} → Language A → Language A
 within_braces l = Means in_middle ((Word (codes "{") ▷ blanks) ▷ (l ▷ (blanks ▷ Word (codes "}"))))
+
+-- ---- as they are printed
+
+-- the texts with a comma and a space between each two
+abbrev pub with_commas : List Text → Text
+with_commas [] = []
+with_commas (x ∷ []) = x
+with_commas (x ∷ y ∷ ys) = x ++ codes ", " ++ with_commas (y ∷ ys)
+
+abbrev pub in_braces : Text → Text
+in_braces text = codes "{" ++ text ++ codes "}"
 
 -- ---- the readers of these languages
 

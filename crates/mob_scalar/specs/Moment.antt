@@ -80,9 +80,13 @@ is_t c = nat_eq c 84 || nat_eq c 116
 abbrev pub is_some_text : Text → Bool
 is_some_text text = nat_lt 0 (length text)
 
+-- one blank or more
+abbrev pub some_blanks : Language (Unit {0})
+some_blanks = Means (λ (c : Text). tt) (Where is_some_text (ManyOf is_blank))
+
 -- one blank or more, or a T
 abbrev pub gap : Language Unit
-gap = Means (λ (c : Text). tt) (Where is_some_text (ManyOf is_blank)) ∣ Means (λ (c : ℕ). tt) (OneOf is_t)
+gap = some_blanks ∣ Means (λ (c : ℕ). tt) (OneOf is_t)
 
 abbrev pub zone_of : Option Offset → Offset
 zone_of None = utc

@@ -6,7 +6,8 @@ use Rattle.mob_language.specs.Language.{Text}
 use Rattle.mob_slice.specs.declared.slice.Slice.{Slice}
 use Rattle.mob_slice.specs.CourseOf.{CourseOf}
 use Rattle.mob_written.specs.Neighbours.{all_neighbours}
-use Rattle.mob_written.specs.Printed.{Style, is_long, shares_group, start_text, end_text, opening_text, closing_text, with_commas, instants_of, group_text, groups_of, put_in_group, groups_text, in_braces}
+use Rattle.mob_scalar.specs.Brackets.{with_commas, in_braces}
+use Rattle.mob_written.specs.Printed.{Style, is_long, shares_group, start_text, end_text, opening_text, closing_text, instants_of, group_text, groups_of, put_in_group, groups_text}
 use Rattle.mob_written.specs.FromLeft.{end_part, text_behind, more_starts, all_share_group, is_one_group}
 use Rattle.mob_written.proofs.Small.{false_true, cons_nil}
 

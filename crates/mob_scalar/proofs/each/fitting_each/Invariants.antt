@@ -1,8 +1,8 @@
 use Rattle.std.proofs.Common.{◌≡◌, length, Option, IfOk}
 use Rattle.std.specs.Vec.Iter.{into_iter_items, into_iter_len}
-use Rattle.mob_literal.specs.Sound.{traverse}
-use Rattle.mob_literal.proofs.Traversed.{with_list}
-use Rattle.mob_literal.proofs.temporal.fitting_each.Given as goal
+use Rattle.mob_scalar.specs.Traverse.{traverse}
+use Rattle.mob_scalar.proofs.Traversed.{with_list}
+use Rattle.mob_scalar.proofs.each.fitting_each.Given as goal
 
 -- those that are made, and those that are still made
 abbrev pub invariant-loop-item : goal.invariant-loop-item

@@ -1,7 +1,7 @@
 -- A function's values on a list, where it has one on each entry, as a loop makes them.
 use Rattle.std.proofs.Common.{◌≡◌, List, [], ◌∷◌, ◌++◌, Option, Some, None, refl, sym, ap, ◌∙◌, append_assoc, option_map}
 use Rattle.mob_language.specs.Readers.{◌>>=◌}
-use Rattle.mob_literal.specs.Sound.{traverse}
+use Rattle.mob_scalar.specs.Traverse.{traverse}
 
 -- those that are made, and those that are still made
 abbrev pub with_list : {C : Type 0} → List C → Option (List C) → Option (List C)

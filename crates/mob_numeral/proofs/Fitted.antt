@@ -1,0 +1,12 @@
+-- The test of a number that fits.
+use Rattle.std.proofs.Common.{◌≡◌, Bool, true, cond, Some, None, ap, subst, rules}
+use Rattle.mob_ratio.specs.Ratio.{Ratio}
+use Rattle.mob_frac.specs.Fits.{Fits}
+use Rattle.mob_numeral.specs.Fitting.{fits, fitting}
+
+fits_test : (q : Ratio) → Fits q → fits q ≡ true
+unfolding fits
+fits_test q f = let a = f.num_fits in let b = f.den_fits in search rules
+
+pub fitting_fits : (q r : Ratio) → Fits q → q ≡ r → fitting r ≡ Some q
+fitting_fits q r f e = subst (λ (x : Ratio). fitting x ≡ Some q) e (ap (λ (b : Bool). cond b (Some q) None) (fits_test q f))
