@@ -9,3 +9,5 @@ pub mod WholeTexts
 pub mod BeforeSign
 pub mod WholeNumbers
 pub mod Fitted
+pub mod AnyCase
+pub mod SomeBlanks

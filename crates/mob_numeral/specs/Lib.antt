@@ -6,3 +6,4 @@ pub mod NumberValue
 pub mod Numbers
 pub mod NumberText
 pub mod Fitting
+pub mod Blanks

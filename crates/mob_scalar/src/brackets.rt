@@ -1,20 +1,10 @@
 //! Brackets, commas and what stands between them.
-ghost use Rattle.std.specs.Prelude.{◌≡◌, option_map, [], ◌∷◌, IfOk};
-ghost use Rattle.mob_language.specs.Readers.{TextReader, separated_at as separated_in, spaced_at as spaced_in};
+ghost use Rattle.std.specs.Prelude.{◌≡◌, option_map, IfOk};
+ghost use Rattle.mob_language.specs.Readers.{TextReader, separated_at as separated_in};
 ghost use Rattle.mob_scalar.specs.Brackets.{comma_at as comma_in, opening_at as opening_in, closing_at as closing_in};
 
-use mob_numeral::blanks;
+use mob_numeral::{blanks, spaced_at};
 use std::alloc::{AllocError, Global};
-
-/// What stands behind the sign and the blanks on both sides of it.
-pub fn spaced_at(sign: u8, bytes: &[u8]) -> Option<&[u8]>
-    ensures read { option_map (λ rest. (tt, rest.now)) result ≡ spaced_in (sign ∷ []) bytes.now }
-{
-    match blanks(bytes).1 {
-        [first, rest @ ..] if *first == sign => Some(blanks(rest).1),
-        _ => None,
-    }
-}
 
 /// An opening bracket, and what stands behind it and the blanks after it.
 #[tactic(auto, unfolding(crate::specs::Brackets::opening_at))]

@@ -9,7 +9,7 @@ use crate::printing::Printed;
 use mob_frac::Frac;
 use mob_list::text::Text;
 use mob_scalar::{
-    fitting_number, number_at, text_value_at, truth_at, write_number, write_text_value,
+    number_value_at, text_value_at, truth_at, write_number, write_text_value,
     write_truth,
 };
 use std::alloc::{AllocError, Global};
@@ -55,7 +55,8 @@ pub struct WholeNumbers;
 
 impl WrittenValue for WholeNumbers {
     ghost use Rattle.mob_ratio.specs.Ratio.{Ratio};
-    ghost use Rattle.mob_written.specs.Values.{is_whole, number_value, number_value_at as number_in, number_follows, number_values};
+    ghost use Rattle.mob_numeral.specs.Fitting.{number_value, number_value_at as number_in};
+    ghost use Rattle.mob_written.specs.Values.{is_whole, number_follows, number_values};
 
     type Base = Frac;
 
@@ -71,10 +72,9 @@ impl WrittenValue for WholeNumbers {
 
     ghost has_value = { is_whole };
 
-    #[tactic(auto, unfolding(crate::specs::Values::number_value_at))]
     fn value_at(alloc: Global, bytes: &[u8]) -> Result<Option<(Option<Frac>, &[u8])>, AllocError> {
-        match number_at(bytes) {
-            Some((numeral, rest)) => Ok(Some((fitting_number(numeral), rest))),
+        match number_value_at(bytes) {
+            Some((value, rest)) => Ok(Some((value, rest))),
             None => Ok(None),
         }
     }

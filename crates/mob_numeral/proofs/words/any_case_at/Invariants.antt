@@ -1,6 +1,6 @@
 use Rattle.std.proofs.Common.{◌≡◌, drop}
 use Rattle.mob_language.specs.Readers.{any_case_at}
-use Rattle.mob_scalar.proofs.words.any_case_at.Given as goal
+use Rattle.mob_numeral.proofs.words.any_case_at.Given as goal
 
 -- what is still to be read
 abbrev pub invariant-loop-letter : goal.invariant-loop-letter
