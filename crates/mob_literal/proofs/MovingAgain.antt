@@ -20,8 +20,7 @@ use Rattle.mob_numeral.specs.NumberText.{number_text}
 use Rattle.mob_scalar.specs.Quoted.{quoted_text}
 use Rattle.std.proofs.lemmas.List.{length-map}
 use Rattle.std.proofs.lemmas.Bool.{and_parts as both, and_right, not-true as not_true}
-use Rattle.mob_numeral.proofs.Again.{number_plain}
-use Rattle.mob_numeral.proofs.Fitted.{fitting_fits}
+use Rattle.mob_numeral.proofs.Fitted.{number_value_said}
 use Rattle.mob_scalar.proofs.TruthAgain.{truth_plain}
 use Rattle.mob_scalar.proofs.BracketsSaid.{moment_said}
 use Rattle.mob_written.specs.declared.written.Written.{Written}
@@ -30,7 +29,8 @@ use Rattle.mob_scalar.specs.Traverse.{traverse}
 use Rattle.mob_literal.specs.Sound.{instant_count, written_of, fitting_sequence, fitting_all, is_sound, Defines, literals, steps}
 use Rattle.mob_written.specs.Printed.{is_long, groups_of, instants_of, moving_text}
 use Rattle.mob_written.specs.Style.{style_of}
-use Rattle.mob_written.specs.Values.{any_value, is_whole, truth_value, number_value, quoted_value}
+use Rattle.mob_numeral.specs.Fitting.{number_value}
+use Rattle.mob_written.specs.Values.{any_value, is_whole, truth_value, quoted_value}
 use Rattle.mob_written.specs.Prefix.{Prefix, ArePrefixes, admitted, remaining, says_step, begins_prefix}
 use Rattle.mob_literal.specs.Sequences.{is_step}
 use Rattle.mob_literal.specs.Readable.{AreLevel, IsReadable, instants_in, AnyTruth, IsInt, IsText}
@@ -155,9 +155,7 @@ truth_said : (b : Bool) → AnyTruth b → truth_value (truth_text b) (Some b)
 truth_said b h = record { meant = b; said = truth_plain b; is = refl }
 
 number_said : (q : Ratio) → IsInt q → number_value (number_text q) (Some q)
-number_said q h =
-    let n = number_plain q h.fits in
-    record { meant = n.0; said = n.1; is = sym (fitting_fits q _ h.fits n.2) }
+number_said q h = number_value_said q h.fits
 
 whole_test : (q : Ratio) → IsInt q → is_whole q ≡ true
 whole_test q h = rw h.is_whole refl

@@ -1,0 +1,3 @@
+pub mod PointsExact
+pub mod PointsAgain
+pub mod OnePoint
