@@ -15,7 +15,7 @@ use Rattle.mob_numeral.proofs.NumberExact.{continues}
 use Rattle.mob_numeral.proofs.SomeBlanks.{some_blanks_exact, some_blanks_byte}
 use Rattle.mob_numeral.proofs.WholeTexts.{back_nil, blank_stops, number_value_exact, number_value_blank, number_value_byte}
 use Rattle.mob_plane.specs.declared.point.Point.{Point}
-use Rattle.mob_points.specs.Points.{close_bracket, coordinates_said, coordinates, point_said, written_point, srid_said, srid_zero, past_srid, behind_srid, points, close_bracket_at, coordinates_at, written_point_at, srid_zero_at, behind_srid_at}
+use Rattle.mob_points.specs.Points.{close_bracket, coordinates_said, coordinates, point_said, written_point, srid_said, srid_zero, past_srid, point_value, points, close_bracket_at, coordinates_at, written_point_at, srid_zero_at, behind_srid_at, point_value_at}
 
 -- ---- two numbers and a closing bracket
 
@@ -94,6 +94,9 @@ unfolding srid_zero_at
 srid_nothing [] s = refl
 srid_nothing (c ∷ cs) s = rw ((or_parts (nat_eq (to_ascii_lowercase c) 115) (is_blank c) s).0) refl
 
+srid_head : (test : ℕ → Bool) → ((c : ℕ) → to_ascii_lowercase c ≡ 115 → test c ≡ false) → NoHead srid_zero test
+srid_head test h = means_head (byte_head (spaced (codes ";")) (any_case_head 115 (codes "rid=0") test h) (any_case_byte 115 (codes "rid=0")))
+
 p_no_blank : (c : ℕ) → to_ascii_lowercase c ≡ 112 → is_blank c ≡ false
 p_no_blank c e = search rules
 
@@ -103,29 +106,27 @@ neither a b h k = rw (h, k) refl
 p_begins_none : (c : ℕ) → to_ascii_lowercase c ≡ 112 → begins_srid c ≡ false
 p_begins_none c e = neither (nat_eq (to_ascii_lowercase c) 115) (is_blank c) (rw e refl) (p_no_blank c e)
 
-whole_exact : Exact (behind_srid written_point) (behind_srid_at written_point_at) Any
-unfolding behind_srid_at
-whole_exact = means_exact past_srid (then_byte_stops (maybe_stops srid_exact srid_nothing) point_exact (point_head begins_srid p_begins_none) point_byte)
+pub point_value_exact : Exact point_value point_value_at Any
+unfolding point_value_at behind_srid_at
+point_value_exact = means_exact past_srid (then_byte_stops (maybe_stops srid_exact srid_nothing) point_exact (point_head begins_srid p_begins_none) point_byte)
+
+-- it begins with the letter s or p, small or capital
+pub point_value_head : (test : ℕ → Bool) → ((c : ℕ) → to_ascii_lowercase c ≡ 115 → test c ≡ false) → ((c : ℕ) → to_ascii_lowercase c ≡ 112 → test c ≡ false) → NoHead point_value test
+point_value_head test h k = means_head (then_head (maybe_head (srid_head test h)) (point_head test k))
+
+pub point_value_byte : HasByte point_value
+point_value_byte = means_byte past_srid (λ text v said e. point_byte said.back v.1 said.second (back_nil said.front said.back (sym said.whole ∙ e)))
 
 s_no_blank : (c : ℕ) → to_ascii_lowercase c ≡ 115 → is_blank c ≡ false
 s_no_blank c e = search rules
 
-srid_blank : NoHead srid_zero is_blank
-srid_blank = means_head (byte_head (spaced (codes ";")) (any_case_head 115 (codes "rid=0") is_blank s_no_blank) (any_case_byte 115 (codes "rid=0")))
-
-whole_blank : NoHead (behind_srid written_point) is_blank
-whole_blank = means_head (then_head (maybe_head srid_blank) (point_head is_blank p_no_blank))
-
-whole_byte : HasByte (behind_srid written_point)
-whole_byte = means_byte past_srid (λ text v said e. point_byte said.back v.1 said.second (back_nil said.front said.back (sym said.whole ∙ e)))
-
-pub points_exact : Exact (within_blanks (behind_srid written_point)) (within_blanks_at (behind_srid_at written_point_at)) IsEnd
-points_exact = within_exact whole_exact whole_blank whole_byte (λ bs each. tt)
+pub points_exact : Exact (within_blanks point_value) (within_blanks_at point_value_at) IsEnd
+points_exact = within_exact point_value_exact (point_value_head is_blank s_no_blank p_no_blank) point_value_byte (λ bs each. tt)
 
 -- ---- what the code answers
 
 abbrev all_points : Text → Option (Option Point)
-all_points bytes = all_of (within_blanks_at (behind_srid_at written_point_at)) bytes
+all_points bytes = all_of (within_blanks_at point_value_at) bytes
 
 pub no_point : (text bytes : Text) → bytes ≡ text → ◌≡◌ {A = Option (Option Point)} None (all_points bytes) → Lit points text (Err NotText)
 no_point text bytes e h = λ s said. not_said points_exact refl text bytes s e h said

@@ -48,10 +48,14 @@ past_srid v = v.1
 abbrev pub behind_srid : {A : Type 0} → Language A → Language A
 behind_srid l = Means past_srid (Maybe srid_zero ▷ l)
 
+-- a point, before which SRID=0; may stand
+abbrev pub point_value : Language (Option Point)
+point_value = behind_srid written_point
+
 -- the form of points: a point, perhaps behind SRID=0;, with blanks at both ends
 abbrev pub points : TextForm (Option Point) Point
 points = record {
-  shape = within_blanks (behind_srid written_point);
+  shape = within_blanks point_value;
   long = λ s. ⊥;
   large = λ s. s ≡ None;
   unsound = λ s. ⊥;
@@ -74,3 +78,6 @@ srid_zero_at = means_at srid_said (then_at (any_case_at (codes "srid=0")) (space
 
 unfoldable pub behind_srid_at : {A : Type 0} → TextReader A → TextReader A
 behind_srid_at r = means_at past_srid (then_at (maybe_at srid_zero_at) r)
+
+unfoldable pub point_value_at : TextReader (Option Point)
+point_value_at = behind_srid_at written_point_at

@@ -3,7 +3,7 @@ ghost use Rattle.std.specs.Prelude.{◌≡◌, ◌≢◌, option_map, Option, So
 ghost use Rattle.mob_language.specs.Readers.{all_of, within_blanks_at};
 ghost use Rattle.mob_numeral.specs.declared.fault.ReadText.TheVariants.{NoMemory};
 ghost use Rattle.mob_numeral.specs.Verdict.{Lit};
-ghost use Rattle.mob_points.specs.Points.{point_of as point_made, close_bracket_at as close_bracket_in, coordinates_at as coordinates_in, written_point_at as written_point_in, srid_zero_at as srid_zero_in, behind_srid_at as behind_srid_in, points};
+ghost use Rattle.mob_points.specs.Points.{point_of as point_made, close_bracket_at as close_bracket_in, coordinates_at as coordinates_in, written_point_at as written_point_in, srid_zero_at as srid_zero_in, point_value_at as point_value_in, points};
 
 use mob_frac::Frac;
 use mob_numeral::{
@@ -45,7 +45,7 @@ fn coordinates_at(bytes: &[u8]) -> Option<(Option<Point>, &[u8])>
 
 /// The point in front, where its coordinates fit, and what stands behind it.
 #[tactic(auto, unfolding(crate::specs::Points::written_point_at))]
-pub fn written_point_at(bytes: &[u8]) -> Option<(Option<Point>, &[u8])>
+fn written_point_at(bytes: &[u8]) -> Option<(Option<Point>, &[u8])>
     ensures read { option_map (λ x. (x.0, x.1.now)) result ≡ written_point_in bytes.now }
 {
     let rest = any_case_at(b"point", bytes)?;
@@ -56,7 +56,7 @@ pub fn written_point_at(bytes: &[u8]) -> Option<(Option<Point>, &[u8])>
 
 /// What stands behind `SRID=0;`.
 #[tactic(auto, unfolding(crate::specs::Points::srid_zero_at))]
-pub fn srid_zero_at(bytes: &[u8]) -> Option<((), &[u8])>
+fn srid_zero_at(bytes: &[u8]) -> Option<((), &[u8])>
     ensures read { option_map (λ x. (x.0, x.1.now)) result ≡ srid_zero_in bytes.now }
 {
     let rest = any_case_at(b"srid=0", bytes)?;
@@ -64,10 +64,10 @@ pub fn srid_zero_at(bytes: &[u8]) -> Option<((), &[u8])>
     Some(((), rest))
 }
 
-/// The point in front, before which `SRID=0;` may stand, and what stands behind it.
-#[tactic(auto, unfolding(crate::specs::Points::behind_srid_at))]
-fn behind_srid_point_at(bytes: &[u8]) -> Option<(Option<Point>, &[u8])>
-    ensures read { option_map (λ x. (x.0, x.1.now)) result ≡ behind_srid_in written_point_in bytes.now }
+/// The point in front, before which `SRID=0;` may stand, where its coordinates fit, and what stands behind it.
+#[tactic(auto, unfolding(crate::specs::Points::point_value_at, crate::specs::Points::behind_srid_at))]
+pub fn point_value_at(bytes: &[u8]) -> Option<(Option<Point>, &[u8])>
+    ensures read { option_map (λ x. (x.0, x.1.now)) result ≡ point_value_in bytes.now }
 {
     let (_, rest) = maybe(srid_zero_at(bytes), bytes);
     let (point, rest) = written_point_at(rest)?;
@@ -76,9 +76,9 @@ fn behind_srid_point_at(bytes: &[u8]) -> Option<(Option<Point>, &[u8])>
 
 /// All of the bytes, as a point with blanks at its ends.
 fn point_in_all(bytes: &[u8]) -> Option<Option<Point>>
-    ensures value { result ≡ all_of (within_blanks_at (behind_srid_in written_point_in)) bytes.now }
+    ensures value { result ≡ all_of (within_blanks_at point_value_in) bytes.now }
 {
-    within_blanks(behind_srid_point_at, bytes)
+    within_blanks(point_value_at, bytes)
 }
 
 /// The point that a text says.

@@ -3,7 +3,7 @@ use Rattle.std.proofs.Common.{◌≡◌, ℕ, [], ◌∷◌, ◌++◌, Bool, tru
 use Rattle.std.specs.Prelude.{nat_eq}
 use Rattle.mob_language.specs.Language.{Text, Language, ◌▷◌, Word, AreAll, Separated, blanks, is_blank}
 use Rattle.mob_language.proofs.Exact.{Exact, Stops, Any, then_exact, means_exact, word_exact, one_exact, many_exact, many_again}
-use Rattle.mob_language.proofs.Heads.{NoHead, Apart, HasByte, stops_less, byte_stops, one_head, then_byte, means_byte, then_byte_stops, one_byte, word_byte, spaced_exact}
+use Rattle.mob_language.proofs.Heads.{NoHead, Apart, HasByte, stops_less, byte_stops, byte_head, means_head, one_head, then_byte, means_byte, then_byte_stops, one_byte, word_byte, spaced_exact}
 use Rattle.mob_numeral.proofs.WholeTexts.{back_nil, front_nil}
 use Rattle.mob_scalar.specs.Brackets.{comma, is_close, opening, is_open, closing, comma_at, opening_at, closing_at, open_brace_at, close_brace_at}
 use Rattle.mob_scalar.proofs.MomentExact.{Closes}
@@ -19,6 +19,15 @@ comma_exact = spaced_exact 44 [] refl
 pub opening_exact : Exact opening opening_at (Stops is_blank)
 unfolding opening_at
 opening_exact = means_exact (λ (v : ℕ × Text). v.0) (then_exact {F = Any} (one_exact is_open) (many_exact is_blank) (λ text rest v said after. tt))
+
+open_blank : Apart is_open is_blank
+open_blank c e = search rules
+
+pub opening_blank : NoHead opening is_blank
+opening_blank = means_head (byte_head blanks (one_head open_blank) (one_byte is_open))
+
+pub opening_byte : HasByte opening
+opening_byte = means_byte (λ (v : ℕ × Text). v.0) (then_byte blanks (one_byte is_open))
 
 pub closing_exact : Exact closing closing_at Any
 unfolding closing_at
@@ -101,3 +110,11 @@ pub close_brace_ends : (text rest : Text) (v : Text × Unit {0}) → (blanks ▷
 close_brace_ends text rest v s =
     let is : text ++ rest ≡ s.front ++ (125 ∷ rest) = ap (λ (t : Text). t ++ rest) s.whole ∙ append_assoc s.front s.back rest ∙ ap (λ (t : Text). s.front ++ (t ++ rest)) s.second in
     subst ListEnds (sym is) (sign_ends s.front 125 rest (subst (AreAll is_blank) (sym s.first.is) s.first.each) brace_ends refl)
+
+-- no comma stands before the rest
+abbrev pub NoComma : Text → Type 0
+NoComma rest = comma_at rest ≡ None
+
+-- what stands behind two texts, one behind the other
+pub regrouped : (text a b rest : Text) → text ≡ a ++ b → text ++ rest ≡ a ++ (b ++ rest)
+regrouped text a b rest e = ap (λ (t : Text). t ++ rest) e ∙ append_assoc a b rest

@@ -1,5 +1,5 @@
 -- Brackets, braces, commas and moments, as they are printed, are texts of their languages.
-use Rattle.std.proofs.Common.{◌≡◌, ℤ, List, [], ◌∷◌, ◌++◌, map, codes, Bool, true, false, cond, Some, refl, append_assoc}
+use Rattle.std.proofs.Common.{◌≡◌, ℤ, List, [], ◌∷◌, ◌++◌, map, codes, Bool, true, false, cond, Some, refl, sym, append_assoc}
 use Rattle.mob_ratio.specs.Ratio.{Ratio}
 use Rattle.mob_language.specs.Language.{Text, Language, Separated}
 use Rattle.mob_numeral.specs.Fitting.{fitting}
@@ -7,12 +7,13 @@ use Rattle.mob_numeral.proofs.Fitted.{fitting_fits}
 use Rattle.mob_scalar.specs.declared.stamp.Stamp.{Stamp}
 use Rattle.mob_scalar.specs.Brackets.{comma, opening, closing, within_braces, with_commas, in_braces}
 use Rattle.mob_scalar.specs.Moment.{moment, instant}
+use Rattle.mob_scalar.specs.Moments.{moment_value}
 use Rattle.mob_scalar.specs.MomentText.{moment_text, IsDated}
 use Rattle.mob_scalar.proofs.MomentAgain.{moment_plain}
 
 -- ---- signs as they are printed
 
-comma_said : comma (codes ", ") tt
+pub comma_said : comma (codes ", ") tt
 comma_said = record {
   meant = ([], (tt, codes " "));
   said = record { front = []; back = codes ", "; whole = refl; first = record { is = refl; each = tt }; second = record { front = codes ","; back = codes " "; whole = refl; first = refl; second = record { is = refl; each = (refl, tt) } } };
@@ -61,3 +62,8 @@ pub moment_said : (day : ℤ) (t : Ratio) → IsDated day t → IsMomentSaid day
 moment_said day t d =
     let m = moment_plain day t d.fits d.dated in
     record { stamp = m.0; said = m.1; fits = fitting_fits t _ d.fits m.2 }
+
+pub moment_value_said : (day : ℤ) (t : Ratio) → IsDated day t → moment_value day (moment_text day t) (Some t)
+moment_value_said day t d =
+    let m = moment_said day t d in
+    record { meant = m.stamp; said = m.said; is = sym m.fits }

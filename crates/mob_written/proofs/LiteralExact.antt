@@ -1,16 +1,16 @@
 -- The readers of temporal literals read exactly their texts, over any exact reader of values.
-use Rattle.std.proofs.Common.{◌≡◌, ℕ, ℤ, [], ◌∷◌, ◌++◌, map, Bool, true, false, List, Option, Some, None, refl, sym, ap, subst, ◌∙◌, append_assoc, rules, codes}
+use Rattle.std.proofs.Common.{◌≡◌, ℕ, ℤ, [], ◌∷◌, ◌++◌, map, Bool, false, List, Option, Some, None, refl, sym, ap, subst, ◌∙◌, append_assoc, rules}
 use Rattle.std.specs.Prelude.{◌&&◌, ◌||◌, not, nat_eq}
-use Rattle.mob_language.specs.Language.{Text, Language, ◌▷◌, ◌∣◌, Means, Word, AreAll, Separated, blanks, is_blank, in_middle}
+use Rattle.mob_language.specs.Language.{Text, Language, ◌∣◌, Means, Separated, blanks, is_blank, in_middle}
 use Rattle.mob_language.specs.Readers.{TextReader, ◌>>=◌, means_at, separated_at, items_at}
-use Rattle.mob_language.proofs.Exact.{Exact, Stops, Any, bind_some, then_exact, or_exact, means_exact, word_exact, one_exact, many_exact, many_again}
-use Rattle.mob_language.proofs.Heads.{NoHead, Apart, HasByte, stops_less, exact_less, byte_stops, means_head, one_head, or_head, then_byte, means_byte, or_byte, then_byte_stops, word_then_head, one_then_head, byte_head, one_byte, word_byte, spaced_exact, IsEnd, within_exact}
+use Rattle.mob_language.proofs.Exact.{Exact, Stops, Any, bind_some, then_exact, or_exact, means_exact}
+use Rattle.mob_language.proofs.Heads.{NoHead, Apart, HasByte, byte_stops, means_head, or_head, then_byte, means_byte, or_byte, then_byte_stops, word_then_head, one_then_head, byte_head, one_byte, word_byte, spaced_exact, IsEnd, within_exact}
 use Rattle.mob_language.proofs.Lists.{separated_exact}
 use Rattle.mob_scalar.proofs.MomentExact.{Closes, moment_exact}
-use Rattle.mob_numeral.proofs.WholeTexts.{back_nil, front_nil}
+use Rattle.mob_numeral.proofs.WholeTexts.{back_nil}
 use Rattle.mob_scalar.proofs.WholeTexts.{moment_blank, moment_byte, blanks_close}
-use Rattle.mob_scalar.specs.Brackets.{comma, is_open, opening, closing, comma_at, opening_at, open_brace_at}
-use Rattle.mob_scalar.proofs.BracketsExact.{comma_exact, opening_exact, closing_exact, comma_byte, head_less, list_head, list_byte, ListEnds, comma_closes, closing_ends, open_brace_exact, close_brace_exact, close_brace_ends}
+use Rattle.mob_scalar.specs.Brackets.{comma, is_open, closing, comma_at, opening_at, open_brace_at}
+use Rattle.mob_scalar.proofs.BracketsExact.{comma_exact, opening_exact, closing_exact, comma_byte, head_less, list_head, list_byte, ListEnds, comma_closes, closing_ends, open_brace_exact, close_brace_exact, close_brace_ends, NoComma, regrouped}
 use Rattle.mob_written.specs.Literal.{at_sign, noted_of, noted, sequence_of, sequence, alone, members, braced, one_sequence, one_instant, literal, Prefixed, temporal, at_sign_at, noted_at, instants_at, sequence_at, sequences_at, members_at, braced_at, temporal_literal_at, with_sequences, prefixed_at, temporal_at}
 use Rattle.mob_written.specs.declared.written.Prefixes.{Prefixes}
 use Rattle.mob_written.specs.declared.written.Sequence.{Sequence}
@@ -27,10 +27,7 @@ pub noted_exact : {B : Type 0} (day : ℤ) {value : Language (Option B)} {reader
 unfolding noted_at
 noted_exact {B} day {value} {reader} {F} v = means_exact (noted_of day) (then_exact v.exact
     (then_byte_stops at_exact moment_exact moment_blank moment_byte)
-    (λ text rest w said after. subst F (sym (regroup text said.front said.back rest said.whole)) (v.before_at said.front (said.back ++ rest) w.0 said.first)))
-  where
-    regroup : (text a b rest : Text) → text ≡ a ++ b → text ++ rest ≡ a ++ (b ++ rest)
-    regroup text a b rest e = ap (λ (t : Text). t ++ rest) e ∙ append_assoc a b rest
+    (λ text rest w said after. subst F (sym (regrouped text said.front said.back rest said.whole)) (v.before_at said.front (said.back ++ rest) w.0 said.first)))
 
 -- an entry of a literal: its reader, what it begins with, and that it has a byte
 pub record IsEntry {A : Type 0} (entry : Text → A → Type 0) (reader : TextReader A) : Type 0 where
@@ -85,9 +82,6 @@ other_blank c e = search rules
 
 other_brace : (c : ℕ) → not_open c ≡ false → nat_eq c 123 ≡ false
 other_brace c e = search rules
-
-abbrev pub NoComma : Text → Type 0
-NoComma rest = comma_at rest ≡ None
 
 pub sequences_exact : {A : Type 0} {entry : Language A} {reader : TextReader A} → IsEntry entry reader → Exact (Separated (sequence entry) comma) (sequences_at reader) NoComma
 unfolding sequences_at
@@ -166,9 +160,6 @@ literal_blank {entry = entry} e = or_head (means_head (byte_head _ (word_then_he
 literal_byte : {A : Type 0} {entry : Language A} {reader : TextReader A} → IsEntry entry reader → HasByte (literal entry)
 literal_byte {entry = entry} e = or_byte (means_byte in_middle (then_byte _ (then_byte blanks (word_byte 123 []))))
     (or_byte (means_byte one_sequence (sequence_byte entry)) (means_byte one_instant e.has_byte))
-
-regrouped : (text a b rest : Text) → text ≡ a ++ b → text ++ rest ≡ a ++ (b ++ rest)
-regrouped text a b rest e = ap (λ (t : Text). t ++ rest) e ∙ append_assoc a b rest
 
 said_so : {A : Type 0} (s : Bool) (v : Literal A) → s ≡ v.says_step → ◌≡◌ {A = Literal A} (record { says_step = s; sequences = v.sequences }) v
 said_so s v e = ap (λ (b : Bool). record { says_step = b; sequences = v.sequences }) e
