@@ -37,6 +37,11 @@ with_commas (x ∷ y ∷ ys) = x ++ codes ", " ++ with_commas (y ∷ ys)
 abbrev pub in_braces : Text → Text
 in_braces text = codes "{" ++ text ++ codes "}"
 
+-- what stands behind the first of texts with commas between
+abbrev pub more_texts : {A : Type 0} → (A → Text) → List A → Text
+more_texts text [] = []
+more_texts text (x ∷ xs) = codes ", " ++ text x ++ more_texts text xs
+
 -- ---- the readers of these languages
 
 unfoldable pub comma_at : TextReader (Unit {0})

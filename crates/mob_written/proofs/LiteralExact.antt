@@ -9,7 +9,7 @@ use Rattle.mob_language.proofs.Lists.{separated_exact}
 use Rattle.mob_scalar.proofs.MomentExact.{Closes, moment_exact}
 use Rattle.mob_numeral.proofs.WholeTexts.{back_nil}
 use Rattle.mob_scalar.proofs.WholeTexts.{moment_blank, moment_byte, blanks_close}
-use Rattle.mob_scalar.specs.Brackets.{comma, is_open, closing, comma_at, opening_at, open_brace_at}
+use Rattle.mob_scalar.specs.Brackets.{comma, is_open, closing, opening_at, open_brace_at}
 use Rattle.mob_scalar.proofs.BracketsExact.{comma_exact, opening_exact, closing_exact, comma_byte, head_less, list_head, list_byte, ListEnds, comma_closes, closing_ends, open_brace_exact, close_brace_exact, close_brace_ends, NoComma, regrouped}
 use Rattle.mob_written.specs.Literal.{at_sign, noted_of, noted, sequence_of, sequence, alone, members, braced, one_sequence, one_instant, literal, Prefixed, temporal, at_sign_at, noted_at, instants_at, sequence_at, sequences_at, members_at, braced_at, temporal_literal_at, with_sequences, prefixed_at, temporal_at}
 use Rattle.mob_written.specs.declared.written.Prefixes.{Prefixes}

@@ -1,7 +1,7 @@
 use Rattle.std.proofs.Common.{string_bytes, arith}
 use Rattle.mob_slice.specs.CourseOf.{course_of}
 use Rattle.mob_written.specs.Style.{style_of}
-use Rattle.mob_written.proofs.Parted.{parted}
+use Rattle.mob_scalar.proofs.Parted.{parted}
 use Rattle.mob_written.proofs.Groups.{starts_done}
 use Rattle.mob_written.proofs.printing.write_starts.Goals as goal
 
