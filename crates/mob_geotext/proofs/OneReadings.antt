@@ -9,7 +9,6 @@ use Rattle.mob_scalar.specs.Traverse.{traverse}
 use Rattle.mob_span.specs.Span.{SpanOf}
 use Rattle.mob_span.specs.Sets.{IsSpanSet, in_some}
 use Rattle.mob_span.proofs.OneSet.{one_set}
-use Rattle.mob_geotext.specs.declared.noted.NotedSpan.{NotedSpan}
 use Rattle.mob_geotext.specs.Spans.{bounds_of, spans, span_sets}
 use Rattle.mob_geotext.proofs.SpansExact.{spans_exact, span_sets_exact}
 

@@ -1,5 +1,5 @@
 -- What the reader of span sets answers, by what it reads.
-use Rattle.std.proofs.Common.{◌≡◌, ℤ, List, [], ◌∷◌, Bool, true, false, cond, Option, Some, None, Ok, Err, refl, sym, ap, subst, ◌∙◌}
+use Rattle.std.proofs.Common.{◌≡◌, ℤ, List, [], ◌∷◌, Bool, true, false, cond, Option, Some, None, Ok, Err, refl, sym, subst, ◌∙◌}
 use Rattle.std.specs.Prelude.{◌&&◌, MatchOption}
 use Rattle.std.specs.List.{list_all}
 use Rattle.std.proofs.lemmas.Bool.{and_parts}
@@ -15,7 +15,7 @@ use Rattle.mob_span.specs.Sets.{IsSpanSet, in_some}
 use Rattle.mob_geotext.specs.declared.noted.NotedSpan.{NotedSpan}
 use Rattle.mob_geotext.specs.Spans.{noted_spans_at, has_ends, has_many_ends, bounds_of, span_sets, bounded, sound_span}
 use Rattle.mob_geotext.proofs.SpansExact.{span_sets_exact}
-use Rattle.mob_geotext.proofs.SpansRead.{has_bounds}
+use Rattle.mob_geotext.proofs.SpansRead.{true_false, has_bounds}
 
 -- ---- lists of spans
 
@@ -30,7 +30,12 @@ have_bounds (s ∷ ss) h =
     let both = and_parts (has_ends s) (list_all has_ends ss) h in
     let b = has_bounds s both.0 in
     let more = have_bounds ss both.1 in
-    record { bounds = b.bounds ∷ more.bounds; are = rw (b.is, more.are) refl }
+    let those : Option (List SpanOf) = Some (b.bounds ∷ more.bounds) in
+    record {
+      bounds = b.bounds ∷ more.bounds;
+      are = subst (λ (o : Option SpanOf). (o >>= λ y. traverse bounds_of ss >>= λ ys. Some (y ∷ ys)) ≡ those) (sym b.is)
+          (subst (λ (o : Option (List SpanOf)). (o >>= λ ys. Some (b.bounds ∷ ys)) ≡ those) (sym more.are) refl);
+    }
 
 by_tests : (r : SpanOf) (rs : List SpanOf) (b c : Bool) → (cond b (Some r) None >>= λ y. cond c (Some rs) None >>= λ ys. Some (y ∷ ys)) ≡ cond (b && c) (Some (r ∷ rs)) None
 by_tests r rs true true = refl
@@ -47,7 +52,10 @@ sound_all (s ∷ ss) rs e =
     let b = bind_some (traverse bounds_of ss) (λ ys. Some (a.0 ∷ ys)) rs a.2 in
     let is : a.0 ∷ b.0 ≡ rs = some_is (a.0 ∷ b.0) rs b.2 in
     let more = sound_all ss b.0 b.1 in
-    let here : traverse sound_span (s ∷ ss) ≡ cond (list_all has_instant (a.0 ∷ b.0)) (Some (a.0 ∷ b.0)) None = rw (a.1, more) (by_tests a.0 b.0 (has_instant a.0) (list_all has_instant b.0)) in
+    let those : Option (List SpanOf) = cond (list_all has_instant (a.0 ∷ b.0)) (Some (a.0 ∷ b.0)) None in
+    let here : traverse sound_span (s ∷ ss) ≡ those =
+    subst (λ (o : Option SpanOf). ((o >>= bounded) >>= λ y. traverse sound_span ss >>= λ ys. Some (y ∷ ys)) ≡ those) (sym a.1)
+    (subst (λ (o : Option (List SpanOf)). (bounded a.0 >>= λ y. o >>= λ ys. Some (y ∷ ys)) ≡ those) (sym more) (by_tests a.0 b.0 (has_instant a.0) (list_all has_instant b.0))) in
     subst (λ (xs : List SpanOf). traverse sound_span (s ∷ ss) ≡ cond (list_all has_instant xs) (Some xs) None) is here
 
 all_kept : (rs qs : List SpanOf) → ◌≡◌ {A = Option (List SpanOf)} (Some qs) (cond (list_all has_instant rs) (Some rs) None) → (list_all has_instant rs ≡ true) × (rs ≡ qs)
@@ -63,9 +71,6 @@ not_all_kept rs e = by_test (list_all has_instant rs) refl e
     by_test : (b : Bool) → list_all has_instant rs ≡ b → ◌≡◌ {A = Option (List SpanOf)} None (cond b (Some rs) None) → list_all has_instant rs ≡ false
     by_test true h e = absurd cc
     by_test false h e = h
-
-true_false : true ≡ false → ⊥
-true_false e = absurd cc
 
 -- ---- what the code answers
 

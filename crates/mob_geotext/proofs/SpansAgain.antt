@@ -1,10 +1,10 @@
 -- Spans and span sets that are printed are read again as themselves.
-use Rattle.std.proofs.Common.{◌≡◌, ◌≢◌, ℕ, ℤ, ◌≤◌, List, [], ◌∷◌, ◌++◌, map, length, Bool, true, false, cond, Option, Some, Ok, refl, sym, ap, subst, ◌∙◌, codes, arith, rules}
-use Rattle.std.specs.Prelude.{◌&&◌, Contains, MatchOption, nat_eq, nat_lt}
+use Rattle.std.proofs.Common.{◌≡◌, ◌≢◌, ℕ, ℤ, ◌≤◌, List, [], ◌∷◌, ◌++◌, map, length, Bool, true, false, cond, Option, Some, Ok, refl, sym, subst, ◌∙◌, codes, arith}
+use Rattle.std.specs.Prelude.{MatchOption, nat_eq, nat_lt}
 use Rattle.std.specs.List.{list_all}
 use Rattle.std.proofs.lemmas.List.{length-map}
 use Rattle.mob_ratio.specs.Ratio.{Ratio}
-use Rattle.mob_language.specs.Language.{Text, Separated}
+use Rattle.mob_language.specs.Language.{Separated}
 use Rattle.mob_language.proofs.Heads.{within_said}
 use Rattle.mob_numeral.specs.Verdict.{Lit}
 use Rattle.mob_scalar.specs.Brackets.{comma, with_commas}
@@ -14,8 +14,9 @@ use Rattle.mob_scalar.proofs.BracketsSaid.{comma_said, opening_said, closing_sai
 use Rattle.mob_span.specs.Span.{SpanOf, has_instant}
 use Rattle.mob_span.specs.Sets.{IsSpanSet, in_some}
 use Rattle.mob_geotext.specs.declared.noted.NotedSpan.{NotedSpan}
-use Rattle.mob_geotext.specs.Spans.{noted_span, noted_spans, has_ends, has_many_ends, bounds_of, spans, span_sets}
+use Rattle.mob_geotext.specs.Spans.{noted_span, has_ends, bounds_of, spans, span_sets}
 use Rattle.mob_geotext.specs.SpanText.{span_text, span_set_text}
+use Rattle.mob_geotext.proofs.SpansRead.{true_false}
 use Rattle.mob_geotext.specs.Printable.{HasDatedEnds, HaveDatedEnds}
 
 -- a span as its text says it
@@ -52,9 +53,6 @@ span_said_by day s p = record {
   };
   is = note_is s s.lower_inc s.upper_inc;
 }
-
-true_false : true ≡ false → ⊥
-true_false e = absurd cc
 
 pub span_again : (day : ℤ) (s : SpanOf) → has_instant s ≡ true → HasDatedEnds day s → Lit (spans day) (span_text day s) (Ok s)
 span_again day s there p = (note s, within_said (span_text day s) (note s) (span_said_by day s p), (λ x. x), true_false, (λ (no : has_instant s ≡ false). true_false (sym there ∙ no)), refl)

@@ -1,9 +1,9 @@
 -- What the reader of spans answers, by what it reads.
-use Rattle.std.proofs.Common.{◌≡◌, ℤ, Bool, true, false, cond, Option, Some, None, Ok, Err, refl, sym, subst, ◌∙◌}
+use Rattle.std.proofs.Common.{◌≡◌, ℤ, Bool, true, false, cond, Option, Some, None, Ok, Err, refl, sym, ap, subst, ◌∙◌}
 use Rattle.std.specs.Prelude.{◌&&◌, is_some, IfSome, MatchOption}
 use Rattle.mob_ratio.specs.Ratio.{Ratio}
 use Rattle.mob_language.specs.Language.{Text}
-use Rattle.mob_language.specs.Readers.{all_of, within_blanks_at}
+use Rattle.mob_language.specs.Readers.{◌>>=◌, all_of, within_blanks_at}
 use Rattle.mob_language.proofs.Exact.{is_said, not_said}
 use Rattle.mob_numeral.specs.declared.fault.ReadText.TheVariants.{NotText, TooLarge, Unsound}
 use Rattle.mob_numeral.specs.Verdict.{Lit}
@@ -14,7 +14,7 @@ use Rattle.mob_geotext.proofs.SpansExact.{spans_exact}
 
 -- ---- the ends
 
-true_false : true ≡ false → ⊥
+pub true_false : true ≡ false → ⊥
 true_false e = absurd cc
 
 -- both ends, where they fit
@@ -30,24 +30,13 @@ has_bounds s h = by_ends s.lower s.upper refl refl h
     by_ends (Some a) None e f h = absurd (true_false (sym h))
     by_ends None b e f h = absurd (true_false (sym h))
 
-pub no_bounds : (s : NotedSpan) → has_ends s ≡ false → bounds_of s ≡ None
-no_bounds s h = by_ends s.lower s.upper refl refl h
-  where
-    by_ends : (a b : Option Ratio) → s.lower ≡ a → s.upper ≡ b → (is_some a && is_some b) ≡ false → bounds_of s ≡ None
-    by_ends (Some a) (Some b) e f h = absurd (true_false h)
-    by_ends (Some a) None e f h = rw (e, f) refl
-    by_ends None b e f h = rw e refl
-
 -- ---- a span in which some instant is
 
-some : {A : Type 0} → A → Option A
-some x = Some x
-
 pub made_span : (o : Option SpanOf) (r : SpanOf) → IfSome o (λ s. s ≡ r) → MatchOption o (has_instant r ≡ false) (λ s. has_instant s ≡ true) → o ≡ bounded r
-made_span None r is there = rw there refl
+made_span None r is there = subst (λ (b : Bool). ◌≡◌ {A = Option SpanOf} None (cond b (Some r) None)) (sym there) refl
 made_span (Some s) r is there =
     let h : has_instant r ≡ true = subst (λ (x : SpanOf). has_instant x ≡ true) is there in
-    rw (h, is) refl
+    subst (λ (b : Bool). ◌≡◌ {A = Option SpanOf} (Some s) (cond b (Some r) None)) (sym h) (ap (λ (x : SpanOf). Some x) is)
 
 -- a test that keeps a span, and one that does not
 pub kept : (r p : SpanOf) → ◌≡◌ {A = Option SpanOf} (Some p) (bounded r) → (has_instant r ≡ true) × (r ≡ p)
@@ -82,13 +71,13 @@ module _ (day : ℤ) (text bytes : Text) (s : NotedSpan) (e : bytes ≡ text) (h
   pub unsound_span : has_ends s ≡ true → ◌≡◌ {A = Option SpanOf} None (sound_span s) → Lit (spans day) text (Err Unsound)
   unsound_span k n =
       let b = has_bounds s k in
-      let empty : has_instant b.bounds ≡ false = not_kept b.bounds (rw b.is at n) in
+      let empty : has_instant b.bounds ≡ false = not_kept b.bounds (subst (λ (o : Option SpanOf). ◌≡◌ {A = Option SpanOf} None (o >>= bounded)) b.is n) in
       (s, is_said (spans_exact day) text bytes s e h, (λ x. x), fitting k, subst (λ (o : Option SpanOf). MatchOption o ⊥ (λ r. has_instant r ≡ false)) (sym b.is) empty)
 
   pub span_read : (r : SpanOf) → has_ends s ≡ true → ◌≡◌ {A = Option SpanOf} (Some r) (sound_span s) → Lit (spans day) text (Ok r)
   span_read r k n =
       let b = has_bounds s k in
-      let its = kept b.bounds r (rw b.is at n) in
+      let its = kept b.bounds r (subst (λ (o : Option SpanOf). ◌≡◌ {A = Option SpanOf} (Some r) (o >>= bounded)) b.is n) in
       let is : bounds_of s ≡ Some r = subst (λ (x : SpanOf). bounds_of s ≡ Some x) its.1 b.is in
       let sound : MatchOption (bounds_of s) ⊥ (λ x. has_instant x ≡ false) → ⊥ = subst (λ (o : Option SpanOf). MatchOption o ⊥ (λ x. has_instant x ≡ false) → ⊥) (sym b.is) (λ (no : has_instant b.bounds ≡ false). true_false (sym its.0 ∙ no)) in
       (s, is_said (spans_exact day) text bytes s e h, (λ x. x), fitting k, sound, is)

@@ -1,5 +1,5 @@
 //! What a text says of a span, before it is one.
-ghost use Rattle.std.specs.Prelude.{◌≡◌, ◌&&◌, is_some, option_map, true, false, IfSome, MatchOption};
+ghost use Rattle.std.specs.Prelude.{◌≡◌, option_map};
 ghost use Rattle.mob_geotext.specs.Spans.{noted_span_at as noted_span_in, has_ends as both_there, bounded as bounded_span, sound_span};
 
 use mob_frac::Frac;
