@@ -2,12 +2,14 @@
 #![tactic(auto)]
 
 mod laws;
+mod many;
 mod noted;
 mod printing;
 mod single;
-mod many;
 
-pub use laws::{one_reading, span_read_again, span_set_read_again};
+pub use laws::{
+    noted_spans_cross_threads, one_reading, span_read_again, span_set_read_again,
+};
 pub use many::read_span_set;
 pub use mob_points::{one_point, point_read_again, read_point, write_point};
 pub use noted::NotedSpan;
