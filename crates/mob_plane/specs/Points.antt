@@ -1,6 +1,6 @@
 -- When two points of the plane are one: by coordinate.
-use Rattle.std.specs.Prelude.{◌≡◌, ◌↔◌, Bool, true, false, IsTrue, ◌&&◌, refl}
-use Rattle.std.proofs.Common.{ap, sym, true≢false}
+use Rattle.std.specs.Prelude.{◌≡◌, ◌↔◌, Bool, true, IsTrue, ◌&&◌, refl}
+use Rattle.std.proofs.Common.{arith, ap, sym}
 use Rattle.std.specs.Cmp.{IsEquivalence}
 use Rattle.mob_ratio.specs.Order.{same}
 use Rattle.mob_ratio.proofs.Order.{same_exact, same_truth}
@@ -14,14 +14,10 @@ same_point a b = same a.x b.x && same a.y b.y
 pub point_by_coordinates : (a b : Point) → a.x ≡ b.x → a.y ≡ b.y → a ≡ b
 point_by_coordinates a b p q = λ i. record { x = p i; y = q i }
 
-both : (p q : Bool) → (p && q) ≡ true → (p ≡ true) × (q ≡ true)
-both true q h = (refl, h)
-both false q h = absurd (true≢false (sym h))
-
 -- the test is exact
 pub same_point_exact : (a b : Point) → IsTrue (same_point a b) ↔ (a ≡ b)
 same_point_exact a b = (
-  λ h. let k = both (same a.x b.x) (same a.y b.y) h in point_by_coordinates a b ((same_exact a.x b.x).0 k.0) ((same_exact a.y b.y).0 k.1),
+  λ h. point_by_coordinates a b ((same_exact a.x b.x).0 (grind (arith, h))) ((same_exact a.y b.y).0 (grind (arith, h))),
   λ e. rw ((same_exact a.x b.x).1 (ap (λ (p : Point). p.x) e), (same_exact a.y b.y).1 (ap (λ (p : Point). p.y) e)) refl,
 )
 
