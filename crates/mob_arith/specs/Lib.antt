@@ -1,3 +1,4 @@
 pub mod Operations
 pub mod Summed
 pub mod Termwise
+pub mod LineSummed

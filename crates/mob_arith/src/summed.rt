@@ -6,10 +6,11 @@ ghost use Rattle.mob_frac.specs.Formula.{sum_parts, difference_parts, product_pa
 ghost use Rattle.mob_slice.specs.Computed.{IsComputed};
 ghost use Rattle.mob_slice.specs.declared.formula.Formula.TheVariants.{F2};
 ghost use Rattle.mob_arith.specs.Operations.{sum_of, difference_of, product_of};
+ghost use Rattle.mob_arith.specs.LineSummed.{line_summed};
 ghost use Rattle.mob_arith.specs.Summed.{IsSummed, steady_summed};
 
 use mob_frac::{Frac, Overflow};
-use mob_slice::{Course, Formula, Passed, Steady};
+use mob_slice::{Course, Formula, Line, Passed, Steady};
 
 /// A course whose values can be added, subtracted and multiplied by a number. Each is the ordinary operation on the numbers
 /// that the values are, and its fault names F2, exactly where the result does not fit.
@@ -63,6 +64,30 @@ impl Summed for Steady<Frac> {
     }
 
     ghost laws = { steady_summed };
+}
+
+impl Summed for Line {
+    ghost number = { λ x. x };
+
+    ghost added = { sum_of };
+
+    ghost subtracted = { difference_of };
+
+    ghost multiplied = { product_of };
+
+    fn sum(a: &Frac, b: &Frac) -> Result<Frac, Passed> {
+        computed(a.add(b))
+    }
+
+    fn difference(a: &Frac, b: &Frac) -> Result<Frac, Passed> {
+        computed(a.sub(b))
+    }
+
+    fn scaled(a: &Frac, k: &Frac) -> Result<Frac, Passed> {
+        computed(a.mul(k))
+    }
+
+    ghost laws = { line_summed };
 }
 
 // The outcome of one operation on numbers.

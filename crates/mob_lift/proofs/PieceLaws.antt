@@ -8,6 +8,7 @@ use Rattle.mob_span.specs.Neighbours.{is_clear}
 use Rattle.mob_span.specs.Meets.{PieceOf, shared_pieces}
 use Rattle.mob_span.proofs.Insides.{inside_self}
 use Rattle.mob_slice.specs.Slices.{OfHead, IsSound, value_at}
+use Rattle.mob_slice.proofs.LookUps.{value_by}
 use Rattle.mob_slice.proofs.Orders.{ordered-clear, all_sound}
 use Rattle.mob_span.specs.Parts.{part_at, PartsAreClear}
 use Rattle.mob_slice.specs.Operands.{map_both}
@@ -59,14 +60,6 @@ pieces_hold start end start' end' (Slices v) (Slices w) h k =
 pieces_hold start end start' end' (Slices v) (Base b) h k = map_all (λ s. record { span = s.span; left = Moves s; right = Stays b }) (IsSound start end) (HoldsPiece start end start' end') (λ s m. ((m, inside_self s.span), tt)) v (all_sound start end v h)
 pieces_hold start end start' end' (Base a) (Slices w) h k = map_all (λ s. record { span = s.span; left = Stays a; right = Moves s }) (IsSound start' end') (HoldsPiece start end start' end') (λ s m. (tt, (m, inside_self s.span))) w (all_sound start' end' w k)
 pieces_hold start end start' end' (Base a) (Base b) h k = tt
-
-pub value_by : {C B : Type 0} (value : C → Ratio → Ratio → Ratio → B) (v : List (Slice C)) (t : Ratio) → value_at value v t ≡ option_map (λ s. slice_value value s t) (part_at (λ s. s.span) v t)
-value_by value [] t = refl
-value_by value (s ∷ v) t = ap (cond (has s.span t) (Some (slice_value value s t))) (value_by value v t) ∙ by (has s.span t)
-  where
-    by : (b : Bool) → cond b (Some (slice_value value s t)) (option_map (λ s. slice_value value s t) (part_at (λ s. s.span) v t)) ≡ option_map (λ s. slice_value value s t) (cond b (Some s) (part_at (λ s. s.span) v t))
-    by true = refl
-    by false = refl
 
 pub twice : {A B C : Type 0} (f : A → B) (g : B → C) (o : Option A) → option_map g (option_map f o) ≡ option_map (λ x. g (f x)) o
 twice f g None = refl

@@ -1,5 +1,9 @@
 pub mod Cuts
+pub mod Examples
 pub mod Firsts
+pub mod LookUps
+pub mod OneAt
 pub mod Orders
+pub mod Straight
 pub mod Wholes
 pub mod Yielded

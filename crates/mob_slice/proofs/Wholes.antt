@@ -11,7 +11,7 @@ at_self : (t : Ratio) → up_to t t ≡ true
 at_self t = rw (before-self t) refl
 
 -- the one instant of a span that has no other
-one_instant : (s t : Ratio) → up_to s t ≡ true → before s t ≡ false → s ≡ t
+pub one_instant : (s t : Ratio) → up_to s t ≡ true → before s t ≡ false → s ≡ t
 one_instant s t h k = before-neither s t k (grind (arith, h))
 
 -- an instant of such a span

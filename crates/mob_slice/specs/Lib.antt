@@ -12,6 +12,11 @@ pub mod Computed
 pub mod Comparison
 pub mod Entries
 pub mod Cut
+pub mod Instants
 pub mod Sides
 pub mod Wholes
 pub mod CourseOf
+pub mod Lines
+pub mod LineLaws
+pub mod PlaneLaws
+pub mod LineComparison

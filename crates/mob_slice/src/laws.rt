@@ -1,11 +1,13 @@
 //! What holds of every course, every temporal value and every list of formulas. No code runs here.
 
 ghost use Rattle.mob_slice.specs.Entries.{OneFirst};
+ghost use Rattle.mob_slice.specs.Instants.{OneSliceAt};
+ghost use Rattle.mob_slice.specs.Lines.{NumbersAreStraight, PointsAreStraight};
 ghost use Rattle.mob_slice.specs.Wholes.{ContinuesAsOne, TwoInstantsFix};
 
 use crate::{
-    Course, Formula, Gaps, LookFault, Moving, One, OpFault, Operand, Pair, Passed, Piece, Rel,
-    Side, Slice, Steady,
+    Course, Formula, Gaps, Line, LookFault, Moving, One, OpFault, Operand, Pair, Passed, Piece,
+    PlaneLine, Rel, Side, Slice, Steady,
 };
 use mob_list::laws::crosses_threads;
 use std::marker::{Send, Sync};
@@ -19,6 +21,18 @@ pub fn one_course<C: Course>()
 /// Two courses on one span that share their values at two instants are equal on it.
 pub fn two_instants<C: Course>()
     ensures fixed { TwoInstantsFix C.value_of }
+{}
+
+/// Lines are straight at every instant, of numbers and, by coordinate, of points: the value, weighted by the whole time, is
+/// the two limits, each weighted by the time to the other end.
+pub fn lines_are_straight()
+    ensures numbers { NumbersAreStraight }
+    ensures points { PointsAreStraight }
+{}
+
+/// The slice at an instant is the one slice of a temporal value whose span has the instant.
+pub fn one_slice_at<C: Course>()
+    ensures one { OneSliceAt C.start_of C.end_of }
 {}
 
 /// Of a list of entries one formula is the first that is passed, or none is.
@@ -57,4 +71,12 @@ pub fn faults_cross_threads() {
 /// Steady courses over what crosses threads cross threads.
 pub fn steady_courses_cross_threads<B: Send + Sync>() {
     crosses_threads::<Steady<B>>();
+}
+
+/// Lines cross threads, and so do slices and temporal values of them.
+pub fn lines_cross_threads() {
+    crosses_threads::<Line>();
+    crosses_threads::<PlaneLine>();
+    slices_cross_threads::<Line>();
+    slices_cross_threads::<PlaneLine>();
 }

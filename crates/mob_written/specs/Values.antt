@@ -1,11 +1,11 @@
--- The values of the step types as they are written.
+-- The values of the temporal types as they are written.
 use Rattle.std.proofs.Common.{◌≡◌, ℕ, Bool, true, false, Option, Some, refl, rules}
 use Rattle.std.specs.Prelude.{nat_eq}
-use Rattle.std.specs.Char.{is_ascii_alphabetic}
+use Rattle.std.specs.Char.{is_ascii_alphabetic, to_ascii_lowercase}
 use Rattle.mob_ratio.specs.Ratio.{Ratio}
 use Rattle.mob_language.specs.Language.{Text, Language, Means, is_blank, is_digit, is_number_sign, is_exponent_letter}
 use Rattle.mob_language.specs.Readers.{TextReader, means_at}
-use Rattle.mob_language.proofs.Exact.{Stops, means_exact}
+use Rattle.mob_language.proofs.Exact.{Stops, Any, means_exact}
 use Rattle.mob_language.proofs.Heads.{Apart, means_head, means_byte}
 use Rattle.mob_scalar.specs.Truth.{truth, truth_at}
 use Rattle.mob_scalar.specs.Quoted.{text_value, text_value_at, is_plain}
@@ -16,6 +16,8 @@ use Rattle.mob_scalar.proofs.WholeTexts.{truth_exact, truth_head, truth_byte}
 use Rattle.mob_numeral.proofs.BeforeSign.{number_before_at}
 use Rattle.mob_scalar.proofs.BeforeSign.{truth_before_at, text_value_before_at}
 use Rattle.mob_numeral.specs.Fitting.{number_value, number_value_at}
+use Rattle.mob_points.specs.Points.{point_value, point_value_at}
+use Rattle.mob_points.proofs.PointsExact.{point_value_exact, point_value_head, point_value_byte}
 use Rattle.mob_written.specs.ValueText.{IsValueText, begins_no_value}
 
 abbrev pub some_value : {B : Type 0} → B → Option B
@@ -88,4 +90,19 @@ quoted_values = record {
   before_at = text_value_before_at;
   well_begun = means_head (text_value_head begins_no_value refl plain_apart);
   has_byte = means_byte some_value text_value_byte;
+}
+
+-- the values of a tgeompoint: points, each of which may carry SRID=0; of its own
+letter_s : (c : ℕ) → to_ascii_lowercase c ≡ 115 → begins_no_value c ≡ false
+letter_s c e = search rules
+
+letter_p : (c : ℕ) → to_ascii_lowercase c ≡ 112 → begins_no_value c ≡ false
+letter_p c e = search rules
+
+pub point_values : IsValueText point_value point_value_at Any
+point_values = record {
+  exact = point_value_exact;
+  before_at = λ text rest u said. tt;
+  well_begun = point_value_head begins_no_value letter_s letter_p;
+  has_byte = point_value_byte;
 }

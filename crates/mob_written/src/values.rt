@@ -3,11 +3,14 @@ ghost use Rattle.std.specs.Prelude.{◌≡◌, Option, IfOk, option_map, false};
 ghost use Rattle.mob_numeral.specs.NumberText.{number_text};
 ghost use Rattle.mob_scalar.specs.Truth.{truth_text};
 ghost use Rattle.mob_scalar.specs.Quoted.{quoted_text};
+ghost use Rattle.mob_points.specs.PointText.{point_text};
 
 use crate::literal::WrittenValue;
 use crate::printing::Printed;
 use mob_frac::Frac;
 use mob_list::text::Text;
+use mob_plane::Point;
+use mob_points::{point_value_at, write_point};
 use mob_scalar::{
     number_value_at, text_value_at, truth_at, write_number, write_text_value,
     write_truth,
@@ -123,6 +126,43 @@ impl WrittenValue for Texts {
     ghost exact = { quoted_values };
 }
 
+/// The values of a tgeompoint: points, each of which may carry `SRID=0;` of its own.
+pub struct Points;
+
+impl WrittenValue for Points {
+    ghost use Rattle.std.specs.Prelude.{true};
+    ghost use Rattle.mob_language.proofs.Exact.{Any};
+    ghost use Rattle.mob_points.specs.Points.{point_value, point_value_at as point_in};
+    ghost use Rattle.mob_written.specs.Values.{any_value, point_values};
+
+    type Base = Point;
+
+    ghost shape = { point_value };
+
+    ghost reader = { point_in };
+
+    const HAS_SRID: bool = true;
+
+    ghost HAS_SRID = { true };
+
+    ghost follows = { Any };
+
+    ghost has_value = { any_value };
+
+    fn value_at(alloc: Global, bytes: &[u8]) -> Result<Option<(Option<Point>, &[u8])>, AllocError> {
+        match point_value_at(bytes) {
+            Some((point, rest)) => Ok(Some((point, rest))),
+            None => Ok(None),
+        }
+    }
+
+    fn has_value(value: &Point) -> bool {
+        true
+    }
+
+    ghost exact = { point_values };
+}
+
 impl Printed for bool {
     ghost text = { truth_text };
 
@@ -144,5 +184,13 @@ impl Printed for Text {
 
     fn write(&self, into: &mut String) -> Result<(), AllocError> {
         write_text_value(self, into)
+    }
+}
+
+impl Printed for Point {
+    ghost text = { point_text };
+
+    fn write(&self, into: &mut String) -> Result<(), AllocError> {
+        write_point(self, into)
     }
 }

@@ -1,0 +1,22 @@
+-- Lines meet the laws of sums, differences and multiples: each of them is a line between the results at the two ends.
+use Rattle.std.specs.Prelude.{◌≡◌, refl, ⊤}
+use Rattle.std.proofs.Common.{sym}
+use Rattle.mob_ratio.specs.Ratio.{Ratio}
+use Rattle.mob_ratio.proofs.LineAt.{line_at-sum, line_at-scale}
+use Rattle.mob_ratio.proofs.Signs.{line_at-diff}
+use Rattle.mob_slice.specs.Lines.{line_value_of}
+use Rattle.mob_slice.specs.declared.line.Line.{Line}
+use Rattle.mob_arith.specs.Operations.{sum_of, difference_of, product_of}
+use Rattle.mob_arith.specs.Summed.{IsSummed}
+
+pub line_summed : IsSummed {C = Line} {B = Ratio} line_value_of (λ c. c.from) (λ c. c.to) (λ a b. ⊤) (λ a b. record { from = a; to = b }) (λ x. x) sum_of difference_of product_of
+line_summed = record {
+  sums = λ c d l u. record { made = tt; same = λ t. line_at-sum c.from c.to d.from d.to l u t };
+  differences = λ c d l u. record { made = tt; same = λ t. sym (line_at-diff c.from c.to d.from d.to l u t) };
+  multiples = λ c d l u. record { made = tt; same = λ t. line_at-scale c.from c.to d.value l u t };
+  turned = λ d c l u. record { made = tt; same = λ t. line_at-scale c.from c.to d.value l u t };
+  one = λ x y h. h;
+  sum_is = λ x y. refl;
+  difference_is = λ x y. refl;
+  multiple_is = λ x k. refl;
+}

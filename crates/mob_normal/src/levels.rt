@@ -1,0 +1,38 @@
+//! Step values of numbers as values that change evenly.
+
+ghost use Rattle.std.specs.Prelude.{◌≡◌, IfOk};
+ghost use Rattle.mob_ratio.specs.Ratio.{Ratio};
+ghost use Rattle.mob_slice.specs.Lines.{line_value_of};
+ghost use Rattle.mob_slice.specs.Operands.{steady_value};
+ghost use Rattle.mob_slice.specs.Slices.{value_at};
+ghost use Rattle.mob_normal.specs.Widened.{level_line};
+
+use mob_frac::Frac;
+use mob_slice::{Line, Moving, Slice, Steady};
+use std::alloc::{AllocError, Global};
+
+/// The same function as a temporal number that may change evenly: at every instant it has the same value, or none. No
+/// number is computed, so none can be too large; memory is the one refusal.
+pub fn widen(alloc: Global, a: &Moving<Steady<Frac>>) -> Result<Moving<Line>, AllocError>
+    ensures same { IfOk result (λ b. (t : Ratio) → value_at line_value_of b t ≡ value_at steady_value a.now t) }
+{
+    let mut lines = Vec::new(alloc);
+    let slices = a.slices();
+    for slice in slices {
+        lines.push(level_line(slice))?;
+    }
+    Ok(Moving::from_normal(lines))
+}
+
+// The slice that goes from the value of a step to that value.
+fn level_line(slice: &Slice<Steady<Frac>>) -> Slice<Line>
+    ensures level { result ≡ level_line slice.now }
+{
+    Slice {
+        span: slice.span,
+        course: Line {
+            from: slice.course.value,
+            to: slice.course.value,
+        },
+    }
+}

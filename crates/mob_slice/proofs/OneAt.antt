@@ -1,0 +1,65 @@
+-- The slice of an ordered list at one instant.
+use Rattle.std.specs.Prelude.{◌≡◌, ◌⊎◌, Bool, true, false, cond, List, [], ◌∷◌, Some, Contains, refl}
+use Rattle.std.proofs.Common.{ap, sym, ◌∙◌, subst, inl, inr, true≢false, arith, length, ◌<◌}
+use Rattle.std.proofs.lemmas.List.Elements.{Contains-append_left, Contains-append_right, Contains-append_cases, Contains-push, Contains-push_cases}
+use Rattle.mob_ratio.specs.Ratio.{Ratio}
+use Rattle.mob_span.specs.Span.{SpanOf, has}
+use Rattle.mob_span.proofs.Insides.{clear_has}
+use Rattle.mob_span.proofs.Shared.{AreAllClear, all_after}
+use Rattle.mob_slice.specs.Instants.{slice_at, OneSliceAt}
+use Rattle.mob_slice.specs.Slices.{IsOrdered}
+use Rattle.mob_slice.specs.declared.slice.Slice.{Slice}
+use Rattle.mob_slice.proofs.LookUps.{inside_found, some_same}
+use Rattle.mob_slice.proofs.Orders.{ordered-clear}
+
+none_in : {A : Type 0} (x : A) → Contains [] x → ⊥
+none_in x h = let k = h.1 in absurd (omega arith)
+
+first_in : {A : Type 0} (y : A) (ys : List A) → Contains (y ∷ ys) y
+first_in y ys = Contains-append_left (y ∷ []) ys y (Contains-push [] y)
+
+later_in : {A : Type 0} (y : A) (ys : List A) (x : A) → Contains ys x → Contains (y ∷ ys) x
+later_in y ys x h = Contains-append_right (y ∷ []) ys x h
+
+alone_in : {A : Type 0} (y x : A) → Contains [] x ⊎ (y ≡ x) → y ≡ x
+alone_in y x (inl h) = absurd (none_in x h)
+alone_in y x (inr e) = e
+
+by_case : {A : Type 0} (y : A) (ys : List A) (x : A) → Contains (y ∷ []) x ⊎ Contains ys x → (y ≡ x) ⊎ Contains ys x
+by_case y ys x (inl h) = inl (alone_in y x (Contains-push_cases [] y x h))
+by_case y ys x (inr h) = inr h
+
+which_in : {A : Type 0} (y : A) (ys : List A) (x : A) → Contains (y ∷ ys) x → (y ≡ x) ⊎ Contains ys x
+which_in y ys x h = by_case y ys x (Contains-append_cases (y ∷ []) ys x h)
+
+module _ {C B : Type 0} (start end : C → B) (t : Ratio) where
+  -- no slice behind one that has t has it too
+  none_later : (q : SpanOf) (v : List (Slice C)) (s : Slice C) → AreAllClear (λ (r : Slice C). r.span) q v → has q t ≡ true → Contains v s → has s.span t ≡ true → ⊥
+  none_later q [] s a h c k = none_in s c
+  none_later q (r ∷ v) s a h c k = elim (which_in r v s c) [
+    inl e ↦ true≢false (sym k ∙ ap (λ (z : Slice C). has z.span t) (sym e) ∙ clear_has q r.span t a.0 h) |
+    inr d ↦ none_later q v s a.1 h d k
+  ]
+
+  held_by : (r : Slice C) (v : List (Slice C)) (s : Slice C) (b : Bool) → has r.span t ≡ b → AreAllClear (λ (z : Slice C). z.span) r.span v → (Contains v s → slice_at v t ≡ Some s) → ((r ≡ s) ⊎ Contains v s) → has s.span t ≡ true → cond b (Some r) (slice_at v t) ≡ Some s
+  held_by r v s true h a f (inl e) k = ap Some e
+  held_by r v s true h a f (inr c) k = absurd (none_later r.span v s a h c k)
+  held_by r v s false h a f (inl e) k = absurd (true≢false (sym k ∙ ap (λ (z : Slice C). has z.span t) (sym e) ∙ h))
+  held_by r v s false h a f (inr c) k = f c
+
+  held : (v : List (Slice C)) → IsOrdered start end v → (s : Slice C) → Contains v s → has s.span t ≡ true → slice_at v t ≡ Some s
+  held [] o s c k = absurd (none_in s c)
+  held (r ∷ v) o s c k = held_by r v s (has r.span t) refl (all_after (λ (z : Slice C). z.span) r v (ordered-clear start end (r ∷ v) o)) (λ d. held v o.2 s d k) (which_in r v s c) k
+
+  among_by : (r : Slice C) (v : List (Slice C)) (s : Slice C) (b : Bool) → (slice_at v t ≡ Some s → Contains v s) → cond b (Some r) (slice_at v t) ≡ Some s → Contains (r ∷ v) s
+  among_by r v s true f e = subst (λ z. Contains (r ∷ v) z) (some_same r s e) (first_in r v)
+  among_by r v s false f e = later_in r v s (f e)
+
+  among : (v : List (Slice C)) (s : Slice C) → slice_at v t ≡ Some s → Contains v s
+  among [] s e = cc
+  among (r ∷ v) s e = among_by r v s (has r.span t) (among v s) e
+
+pub one_slice_at : {C B : Type 0} (start end : C → B) → OneSliceAt start end
+one_slice_at start end v o t s = (
+  λ e. (among start end t v s e, inside_found t v s e),
+  λ h. held start end t v o s h.0 h.1)
