@@ -7,9 +7,7 @@ mod noted;
 mod printing;
 mod single;
 
-pub use laws::{
-    noted_spans_cross_threads, one_reading, span_read_again, span_set_read_again,
-};
+pub use laws::{noted_spans_cross_threads, one_reading, span_read_again, span_set_read_again};
 pub use many::read_span_set;
 pub use mob_points::{one_point, point_read_again, read_point, write_point};
 pub use noted::NotedSpan;

@@ -25,9 +25,13 @@ pub fn noted_span_at<'a>(epoch: &Epoch, bytes: &'a [u8]) -> Option<(NotedSpan, &
     ensures read { option_map (λ x. (x.0, x.1.now)) result ≡ noted_span_in epoch.now bytes.now }
 {
     let (bracket, rest) = opening_at(bytes)?;
-    let (lower, rest) = moment_value_at(epoch, rest)?;
+    let Some((lower, rest)) = moment_value_at(epoch, rest) else {
+        return None;
+    };
     let rest = spaced_at(b',', rest)?;
-    let (upper, rest) = moment_value_at(epoch, rest)?;
+    let Some((upper, rest)) = moment_value_at(epoch, rest) else {
+        return None;
+    };
     let (close, rest) = closing_at(rest)?;
     let noted = NotedSpan {
         lower,

