@@ -1,10 +1,9 @@
 -- Finding the slice at an instant by halves: the slices that end before it are the first ones, and none behind the next has it.
-use Rattle.std.specs.Prelude.{◌≡◌, Bool, true, false, cond, not, ◌&&◌, ◌||◌, List, [], ◌∷◌, Some, None, ℕ, zero, suc, ◌<◌, ◌≤◌, length, slice_index_or, refl}
+use Rattle.std.specs.Prelude.{◌≡◌, Bool, true, false, cond, List, [], ◌∷◌, Some, None, ℕ, zero, suc, ◌<◌, length, slice_index_or, refl}
 use Rattle.std.specs.List.{AllWithin}
 use Rattle.std.specs.List.Sorted.{IsPartitionedBy, IsPartitionPoint}
 use Rattle.std.proofs.Common.{arith, ap, sym, ◌∙◌, subst, true≢false}
 use Rattle.mob_ratio.specs.Ratio.{Ratio}
-use Rattle.mob_ratio.specs.Order.{before, up_to}
 use Rattle.mob_ratio.proofs.Order.{before-self, before-back, before-trans, before-neither}
 use Rattle.mob_span.specs.Span.{SpanOf, has, has_instant}
 use Rattle.mob_span.specs.Neighbours.{is_clear}

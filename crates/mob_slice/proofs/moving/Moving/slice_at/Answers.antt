@@ -1,4 +1,4 @@
-use Rattle.std.proofs.Common.{rules, arith, ◌≡◌, sym, subst, true, false, None, Some, ℕ, ◌<◌, length, slice_index_or, List}
+use Rattle.std.proofs.Common.{rules, arith, ◌≡◌, sym, subst, true, false, ◌<◌, length, slice_index_or}
 use Rattle.std.proofs.lemmas.Grind.{common_steps}
 use Rattle.mob_span.specs.Span.{has}
 use Rattle.mob_slice.specs.Slices.{IsOrdered}
