@@ -1,5 +1,5 @@
 -- When two points of the plane are one: by coordinate.
-use Rattle.std.specs.Prelude.{◌≡◌, ◌↔◌, Bool, true, IsTrue, ◌&&◌, refl}
+use Rattle.std.specs.Prelude.{◌≡◌, ◌↔◌, Bool, IsTrue, ◌&&◌, refl}
 use Rattle.std.proofs.Common.{arith, ap, sym}
 use Rattle.std.specs.Cmp.{IsEquivalence}
 use Rattle.mob_ratio.specs.Order.{same}

@@ -1,6 +1,6 @@
 -- The slice of an ordered list at one instant.
 use Rattle.std.specs.Prelude.{◌≡◌, ◌⊎◌, Bool, true, false, cond, List, [], ◌∷◌, Some, Contains, refl}
-use Rattle.std.proofs.Common.{ap, sym, ◌∙◌, subst, inl, inr, true≢false, arith, length, ◌<◌}
+use Rattle.std.proofs.Common.{ap, sym, ◌∙◌, subst, inl, inr, true≢false, arith}
 use Rattle.std.proofs.lemmas.List.Elements.{Contains-append_left, Contains-append_right, Contains-append_cases, Contains-push, Contains-push_cases}
 use Rattle.mob_ratio.specs.Ratio.{Ratio}
 use Rattle.mob_span.specs.Span.{SpanOf, has}
@@ -37,8 +37,8 @@ module _ {C B : Type 0} (start end : C → B) (t : Ratio) where
   none_later : (q : SpanOf) (v : List (Slice C)) (s : Slice C) → AreAllClear (λ (r : Slice C). r.span) q v → has q t ≡ true → Contains v s → has s.span t ≡ true → ⊥
   none_later q [] s a h c k = none_in s c
   none_later q (r ∷ v) s a h c k = elim (which_in r v s c) [
-    inl e ↦ true≢false (sym k ∙ ap (λ (z : Slice C). has z.span t) (sym e) ∙ clear_has q r.span t a.0 h) |
-    inr d ↦ none_later q v s a.1 h d k
+    | inl e ↦ true≢false (sym k ∙ ap (λ (z : Slice C). has z.span t) (sym e) ∙ clear_has q r.span t a.0 h)
+    | inr d ↦ none_later q v s a.1 h d k
   ]
 
   held_by : (r : Slice C) (v : List (Slice C)) (s : Slice C) (b : Bool) → has r.span t ≡ b → AreAllClear (λ (z : Slice C). z.span) r.span v → (Contains v s → slice_at v t ≡ Some s) → ((r ≡ s) ⊎ Contains v s) → has s.span t ≡ true → cond b (Some r) (slice_at v t) ≡ Some s
@@ -62,4 +62,5 @@ module _ {C B : Type 0} (start end : C → B) (t : Ratio) where
 pub one_slice_at : {C B : Type 0} (start end : C → B) → OneSliceAt start end
 one_slice_at start end v o t s = (
   λ e. (among start end t v s e, inside_found t v s e),
-  λ h. held start end t v o s h.0 h.1)
+  λ h. held start end t v o s h.0 h.1,
+)

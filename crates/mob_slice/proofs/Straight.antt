@@ -1,5 +1,5 @@
 -- Whether a point is on a line, as the code tests it.
-use Rattle.std.specs.Prelude.{◌≡◌, ◌≢◌, Bool, true, false, ◌&&◌, ◌↔◌, IsTrue, refl, pos}
+use Rattle.std.specs.Prelude.{◌≡◌, ◌≢◌, Bool, true, false, ◌↔◌, IsTrue, refl, pos}
 use Rattle.std.proofs.Common.{ap, sym, ◌∙◌, subst}
 use Rattle.mob_ratio.specs.Ratio.{Ratio, whole, ◌-ℚ◌, ◌/ℚ◌}
 use Rattle.mob_ratio.specs.Order.{before, up_to, same}

@@ -1,5 +1,5 @@
 -- Lines meet the laws of courses.
-use Rattle.std.specs.Prelude.{◌≡◌, Bool, true, false, ◌↔◌, refl, ◌&&◌, ◌||◌, [], ⊤}
+use Rattle.std.specs.Prelude.{◌≡◌, Bool, true, false, refl, ◌||◌, [], ⊤}
 use Rattle.std.proofs.Common.{sym, arith, true≢false}
 use Rattle.mob_ratio.specs.Ratio.{Ratio}
 use Rattle.mob_ratio.specs.Order.{same}
@@ -43,7 +43,8 @@ line_laws = record {
   part = λ c l u from to h k. record { made = tt; same = λ t. line_at-part c.from c.to l u from to t h k };
   whole = λ c d l m u. (
     λ h. let p = goes_on_is c.from c.to d.from d.to l m u h in record { made = tt; met = p.0; straight = p.1 },
-    λ w. is_goes_on c.from c.to d.from d.to l m u w.met w.straight);
+    λ w. is_goes_on c.from c.to d.from d.to l m u w.met w.straight,
+  );
   one_value = λ h. absurd (true≢false (sym h));
   one_end = λ h. absurd (true≢false (sym h));
   no_parts = λ h. absurd (true≢false (sym h));

@@ -105,14 +105,7 @@ impl Course for Line {
     }
 
     fn continues(&self, span: &Span, next: &Self, next_span: &Span) -> bool {
-        goes_on(
-            &self.from,
-            &self.to,
-            &next.from,
-            &next.to,
-            span,
-            next_span,
-        )
+        goes_on(&self.from, &self.to, &next.from, &next.to, span, next_span)
     }
 
     #[tactic(auto, using(mob_ratio::proofs::Order::same_exact))]

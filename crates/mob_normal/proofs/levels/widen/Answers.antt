@@ -1,7 +1,6 @@
-use Rattle.std.proofs.Common.{◌≡◌, ◌∙◌, ap, map}
+use Rattle.std.proofs.Common.{◌∙◌, ap}
 use Rattle.mob_slice.specs.Lines.{line_value_of}
 use Rattle.mob_slice.specs.Slices.{value_at}
-use Rattle.mob_normal.specs.Widened.{level_line}
 use Rattle.mob_normal.proofs.Widening.{level_normal, level_at, all_level}
 use Rattle.mob_normal.proofs.levels.widen.Goals as goal
 

@@ -1,4 +1,4 @@
-use Rattle.std.proofs.Common.{rules, ◌≡◌, true, false, ◌∙◌}
+use Rattle.std.proofs.Common.{rules, ◌∙◌}
 use Rattle.mob_slice.proofs.Straight.{at_first, at_last, at_middle, apart}
 use Rattle.mob_slice.proofs.line.is_straight.Goals as goal
 

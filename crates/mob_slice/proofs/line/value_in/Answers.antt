@@ -1,4 +1,3 @@
-use Rattle.std.proofs.Common.{rules, ◌≡◌}
 use Rattle.mob_span.proofs.SpanLemmas.{has_upto_lower, has_upto_upper}
 use Rattle.mob_slice.proofs.line.value_in.Goals as goal
 

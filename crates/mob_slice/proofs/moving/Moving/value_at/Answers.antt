@@ -1,4 +1,4 @@
-use Rattle.std.proofs.Common.{◌≡◌, ◌∙◌, sym, ap, Some}
+use Rattle.std.proofs.Common.{◌∙◌, sym, ap, Some}
 use Rattle.mob_slice.proofs.LookUps.{inside_found, found_value, found_parts, missing_value, missing_parts}
 use Rattle.mob_slice.proofs.moving.Moving.value_at.Goals as goal
 
