@@ -12,8 +12,7 @@ use mob_list::text::Text;
 use mob_plane::Point;
 use mob_points::{point_value_at, write_point};
 use mob_scalar::{
-    number_value_at, text_value_at, truth_at, write_number, write_text_value,
-    write_truth,
+    number_value_at, text_value_at, truth_at, write_number, write_text_value, write_truth,
 };
 use std::alloc::{AllocError, Global};
 
