@@ -9,8 +9,7 @@ use crate::printing::Printed;
 use mob_frac::Frac;
 use mob_list::text::Text;
 use mob_scalar::{
-    number_value_at, text_value_at, truth_at, write_number, write_text_value,
-    write_truth,
+    number_value_at, text_value_at, truth_at, write_number, write_text_value, write_truth,
 };
 use std::alloc::{AllocError, Global};
 
