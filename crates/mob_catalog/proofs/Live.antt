@@ -5,7 +5,7 @@ use Rattle.mob_value.specs.declared.store.Table.{Table}
 use Rattle.mob_value.specs.declared.value.Value.{Value}
 use Rattle.mob_catalog.specs.TableFile.{Column}
 use Rattle.mob_catalog.specs.declared.catalog.TableHead.{TableHead}
-use Rattle.mob_catalog.specs.Catalogue.{Catalogue, rows_put, with_changed, with_last_row, with_live_row}
+use Rattle.mob_catalog.specs.Catalogue.{rows_put, with_changed, with_last_row, with_live_row}
 use Rattle.mob_catalog.specs.Live.{HasAllRows, RowsStayThere}
 
 range_more : (a n : ℕ) → range_with_len a (n + 1) ≡ range_with_len a n ++ (a + n) ∷ []

@@ -6,7 +6,7 @@ use Rattle.mob_ast.specs.Trees.{Tree, StatementParts, ItemParts, KeyParts, Selec
 use Rattle.mob_grammar.specs.declared.mark.Mark.{Mark}
 use Rattle.mob_grammar.specs.declared.mark.Mark.TheVariants.{Select, From, Where, Order, Asc, Desc, Limit, With, Delimiter, As, Times, Open, Close, Comma, Semicolon}
 use Rattle.mob_grammar.specs.Marks.{is}
-use Rattle.mob_grammar.specs.Symbols.{Symbol, fixed, name, number, quoted, PlacedSymbol, sign, identifier, numeral, string, binding, is_mark, is_sign, is_string, is_string_symbol, begins, starts}
+use Rattle.mob_grammar.specs.Symbols.{Symbol, fixed, name, number, quoted, PlacedSymbol, sign, identifier, binding, is_mark, is_sign, is_string_symbol, starts}
 use Rattle.mob_grammar.specs.Symbols as grammar
 use Rattle.mob_grammar.specs.Expressions.{disjunction, Phrase, TypeName, plain, inner}
 use Rattle.mob_grammar.specs.Forms.{Production, ◌▸◌, ◌∣◌, Listed, single, several}

@@ -1,6 +1,6 @@
 -- A literal has one reading, and so has the text of an SQL value.
-use Rattle.std.proofs.Common.{◌≡◌, ℕ, ℤ, List, Bool, false, Option, Some, None, refl, sym}
-use Rattle.std.specs.Prelude.{◌↔◌, IsTrue, MatchOption}
+use Rattle.std.proofs.Common.{◌≡◌, ℕ, ℤ, List, Bool, Option, Some, None, refl, sym}
+use Rattle.std.specs.Prelude.{◌↔◌, MatchOption}
 use Rattle.mob_language.specs.Readers.{TextReader}
 use Rattle.mob_language.proofs.Exact.{one_value}
 use Rattle.mob_normal.proofs.Unique.{unique}

@@ -9,7 +9,7 @@ use Rattle.mob_span.specs.Span.{has}
 use Rattle.mob_slice.specs.Slices.{value_at}
 use Rattle.mob_slice.specs.CourseOf.{CourseOf}
 use Rattle.mob_written.specs.declared.written.Written.{Written}
-use Rattle.mob_literal.specs.Sequences.{SequenceAt, IsValueFrom, IsNextAfter, IsWrittenAt, IsOnTheWay, reaches, rises}
+use Rattle.mob_literal.specs.Sequences.{SequenceAt, IsValueFrom, IsNextAfter, reaches, rises}
 use Rattle.mob_literal.specs.Slices.{slices_of, stretch, point, drawn}
 use Rattle.mob_literal.proofs.Drawn.{IsLawful}
 use Rattle.mob_literal.proofs.Listing.{first_in, later_in, none_in, which_in}

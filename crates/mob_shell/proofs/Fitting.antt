@@ -1,5 +1,5 @@
 -- Where every part fits no statement has a fault.
-use Rattle.std.proofs.Common.{◌≡◌, ◌∙◌, inl, inr, refl, ap, ℕ, ℤ, List, [], ◌∷◌, Option, Some, None, Result, Ok, Err}
+use Rattle.std.proofs.Common.{◌≡◌, ◌∙◌, inl, inr, refl, ap, ℕ, ℤ, List, [], ◌∷◌, Option, Some, None, Result, Err}
 use Rattle.std.specs.List.{AllByRecursion}
 use Rattle.mob_typed.specs.Trees.{TypedTree}
 use Rattle.mob_typed.specs.Selects.{TypedSelectParts}
@@ -9,12 +9,12 @@ use Rattle.mob_eval.specs.Scene.{Scene, scene}
 use Rattle.mob_eval.specs.Evaluation.{Fault, TreeEvaluatesTo}
 use Rattle.mob_eval.specs.Passes.{FaultsPass, FitsOn}
 use Rattle.mob_eval.specs.QueryFaults.{TupleFault}
-use Rattle.mob_join.specs.Query.{FailsBy, IsKept}
-use Rattle.mob_tail.specs.Answers.{IsField, IsKey, IsRowOf, IsTupleRow, IsAnswerOnKept}
+use Rattle.mob_join.specs.Query.{FailsBy}
+use Rattle.mob_tail.specs.Answers.{IsField, IsKey, IsTupleRow}
 use Rattle.mob_tail.specs.IsMadeOfEach.{IsMadeOfEach}
 use Rattle.mob_words.specs.declared.options.Settings.{Settings}
 use Rattle.mob_shell.specs.Answers.{QueryAnswers}
-use Rattle.mob_shell.specs.Fits.{ProgramFits, QueryFits, RowFits, WhereFits}
+use Rattle.mob_shell.specs.Fits.{ProgramFits, QueryFits, RowFits}
 use Rattle.mob_shell.specs.Inputs.{Input}
 use Rattle.mob_shell.specs.Outcomes.{HasOneProgram}
 use Rattle.mob_shell.specs.Program.{StopsWith}

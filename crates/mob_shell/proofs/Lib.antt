@@ -8,6 +8,10 @@ mod Statuses
 mod OneRun
 mod OneOutcome
 mod OneEnding
-mod Stored
+mod AllRows
 mod Fitting
 mod Due
+mod StoredFiles
+mod StoredRows
+mod LiveTuples
+mod ReadAsStored

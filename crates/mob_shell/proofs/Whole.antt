@@ -1,6 +1,6 @@
 -- What was read is the whole script, and what its parts leave is the cause of the ending.
 use Rattle.std.proofs.Common.{arith, ◌≡◌, ◌∙◌, refl, sym, ap, subst, inl, inr, ℕ, ◌+◌, ◌≤◌, List, [], ◌++◌, length, Some, None}
-use Rattle.std.specs.Prelude.{◌⊎◌, Option, Ok, Err}
+use Rattle.std.specs.Prelude.{◌⊎◌, Option, Err}
 use Rattle.std.specs.Io.KnownBytes.{Keeps}
 use Rattle.std.proofs.Math.Nat.{eq-or-lt_of_le}
 use Rattle.std.proofs.lemmas.List.{append-nil, length-append}
@@ -13,14 +13,12 @@ use Rattle.mob_outside.proofs.Known.{takes_nothing}
 use Rattle.mob_outside.specs.Told.{Contents, KeepsFiles}
 use Rattle.mob_typed.specs.Statements.{ScriptOut}
 use Rattle.mob_load.specs.Fronts.{AreFilesFor, AsksForSome, IsAskedLast, OnFiles}
-use Rattle.mob_load.specs.Checks.{checks_of}
-use Rattle.mob_load.specs.Loads.{LoadsScript, Reaches, copied_files, nothing_loaded, refused, table_refused}
-use Rattle.mob_load.specs.declared.program.Program.{Program}
+use Rattle.mob_load.specs.Loads.{LoadsScript, copied_files, refused, table_refused}
 use Rattle.mob_ending.specs.declared.ending.Ending.{Ending}
 use Rattle.mob_ending.specs.declared.ending.Ending.TheVariants.{Done, Usage, ReadFault, WriteFault, NoMemory, TableRefused, ScriptRefused, Overflow}
 use Rattle.mob_shell.specs.Program.{IsHalted, IsReached, ProgramWrites, StopsWith, WritesFirst}
 use Rattle.mob_shell.specs.Ending.{AreCopied, AsksInOrder, IsCausedBy, IsEndingOf, IsCopied, IsUsage, ReadsThrough}
-use Rattle.mob_shell.specs.Inputs.{AreFilesOf, Input, IsInputOf, IsScriptOf, OnInput, OnScript, Seen}
+use Rattle.mob_shell.specs.Inputs.{AreFilesOf, Input, IsScriptOf, OnInput, OnScript, Seen}
 use Rattle.mob_shell.specs.Parts.{LoadEnds, IsTextEnding, RunsText}
 
 -- no name was asked for

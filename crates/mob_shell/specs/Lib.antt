@@ -3,7 +3,7 @@ pub mod EndsSeen
 pub mod Inputs
 pub mod Statements
 pub mod Runs
-pub mod Stored
+pub mod AllRows
 pub mod StepOutcomes
 pub mod Session
 pub mod Program
@@ -13,3 +13,5 @@ pub mod Run
 pub mod Parts
 pub mod Outcomes
 pub mod WrittenOrder
+pub mod StoredTypes
+pub mod ReadAsStored

@@ -1,7 +1,9 @@
 //! What holds of every run. No code runs here.
-ghost use Rattle.mob_shell.specs.Stored.{AllRowsAreThere};
+ghost use Rattle.mob_shell.specs.AllRows.{AllRowsAreThere};
 ghost use Rattle.mob_shell.specs.StepOutcomes.{HasOneStatementFault, HasOneStep, NeverRunsAndStops, OneAnswer};
 ghost use Rattle.mob_shell.specs.Outcomes.{HasOneEnding, HasOneHalt, HasOneProgram, HasOneStop, HasOneText, NeverEndsAndStops, NeverProgramAndHalted};
+ghost use Rattle.mob_shell.specs.ReadAsStored.{QueriesReadWhatIsStored, TuplesAreLive};
+ghost use Rattle.mob_shell.specs.StoredTypes.{LiveRowsAreStored, StoredRowsHaveTheirTypes, TablesAreThoseMade};
 
 /// A query has one answer, or one fault.
 pub fn one_answer()
@@ -55,4 +57,28 @@ pub fn all_rows_are_there()
     ensures rows { AllRowsAreThere }
 {
     mob_catalog::laws::rows_stay_there();
+}
+
+/// Wherever a program stands, behind any number of its statements, each row of each table has a value for each column, of the column's
+/// type, and each row that is there is one of them; and the tables there are those that these statements made.
+pub fn stored_rows_have_their_types()
+    ensures rows { StoredRowsHaveTheirTypes }
+    ensures live { LiveRowsAreStored }
+    ensures tables { TablesAreThoseMade }
+{
+    mob_typing::laws::scripts_are_well_typed();
+    mob_load::laws::literals_have_their_values();
+    mob_catalog::laws::values_have_their_types();
+}
+
+/// The tuples of a query are of rows that are there, and on these it reads each value as it is stored: no leaf of it names a value that is
+/// missing, or one of another type, which would read as NULL.
+pub fn queries_read_what_is_stored()
+    ensures tuples { TuplesAreLive }
+    ensures read { QueriesReadWhatIsStored }
+{
+    mob_eval::laws::stored_values_are_read();
+    mob_typing::laws::scripts_are_well_typed();
+    mob_load::laws::literals_have_their_values();
+    mob_catalog::laws::values_have_their_types();
 }

@@ -1,12 +1,11 @@
 -- The reader of prefixes reads exactly the prefixes that are admitted.
-use Rattle.std.proofs.Common.{◌≡◌, ℕ, List, [], ◌∷◌, ◌++◌, Bool, true, false, cond, Option, Some, None, refl, sym, ap, subst, ◌∙◌, append_assoc, append-nil, rules, codes, inl, inr, ◌⊎◌, true≢false}
+use Rattle.std.proofs.Common.{◌≡◌, ℕ, List, [], ◌∷◌, ◌++◌, Bool, true, false, cond, Option, Some, None, refl, sym, ap, subst, ◌∙◌, append_assoc, append-nil, rules, inl, inr, ◌⊎◌}
 use Rattle.std.specs.Prelude.{◌&&◌, ◌||◌, not, nat_eq}
 use Rattle.std.specs.Char.{to_ascii_lowercase}
 use Rattle.std.proofs.lemmas.Bool.{or_parts, and_parts, and_right}
-use Rattle.mob_language.specs.Language.{Text, Language, ◌▷◌, AnyCase, is_blank, spaced}
-use Rattle.mob_language.specs.Readers.{TextReader}
+use Rattle.mob_language.specs.Language.{Text, ◌▷◌, AnyCase, is_blank}
 use Rattle.mob_language.proofs.Exact.{Exact, Stops, bind_some, some_is, any_case_exact}
-use Rattle.mob_language.proofs.Heads.{after_any, spaced_exact, byte_stops}
+use Rattle.mob_language.proofs.Heads.{after_any, spaced_exact}
 use Rattle.mob_written.specs.declared.written.Prefixes.{Prefixes}
 use Rattle.mob_written.specs.Prefix.{Prefix, interpolation, reference, prefix_word, prefix_of, admits, without, remaining, ArePrefixes, says_step, is_first, begins_prefix, prefix_at, with_left, one_prefix_at, prefixes_at}
 

@@ -24,5 +24,5 @@ returns-in-File-clause-some g c = rw c.in-File.is (may_ask_some c.in-File.name.n
 pub returns-in-File-clause-loads : goal.returns-in-File-clause-loads
 returns-in-File-clause-loads g c =
     rw c.in-File.is
-        (of_told c.in-File.name.now _ (g.F.Files.files c.args.files.now) (λ m. LoadsTo c.load_file.result (loaded_of c.load_file.new.loading) (LoadsCheck c.args.epoch.now m (file c.in-File.table c.in-File.name.now) (loaded_of c.args.loading.now)))
-            c.load_file.ensures.loads)
+    (of_told c.in-File.name.now _ (g.F.Files.files c.args.files.now) (λ m. LoadsTo c.load_file.result (loaded_of c.load_file.new.loading) (LoadsCheck c.args.epoch.now m (file c.in-File.table c.in-File.name.now) (loaded_of c.args.loading.now)))
+    c.load_file.ensures.loads)

@@ -11,7 +11,7 @@ pub returns-in-Ok-clause-loaded : goal.returns-in-Ok-clause-loaded
 returns-in-Ok-clause-loaded g c =
     let same : map check_seen c.deref.result.now ≡ checks_of (script_seen c.args.typed.now) = ap (map check_seen) c.deref.ensures.value ∙ c.in_ok-checks.ensures.in_order in
     λ m are. program_loaded c.args.epoch.now m (map check_seen c.deref.result.now) (script_seen c.args.typed.now) (loaded_of c.in-Ok.loading) c.program_of.result same c.program_of.ensures
-        (c.in-Ok.ensures.loaded m (script_files (map check_seen c.deref.result.now) (script_seen c.args.typed.now) (g.F.Files.files c.args.files.now) m same are))
+    (c.in-Ok.ensures.loaded m (script_files (map check_seen c.deref.result.now) (script_seen c.args.typed.now) (g.F.Files.files c.args.files.now) m same are))
 
 pub returns-in-Ok-clause-asked : goal.returns-in-Ok-clause-asked
 returns-in-Ok-clause-asked g c =
@@ -27,7 +27,7 @@ pub returns-clause-stopped : goal.returns-clause-stopped
 returns-clause-stopped g c =
     let same : map check_seen c.deref.result.now ≡ checks_of (script_seen c.args.typed.now) = ap (map check_seen) c.deref.ensures.value ∙ c.in_ok-checks.ensures.in_order in
     λ m are. script_stops c.args.epoch.now m (map check_seen c.deref.result.now) (script_seen c.args.typed.now) c.in-Err.end same
-        (c.in-Err.ensures.stopped m (script_files (map check_seen c.deref.result.now) (script_seen c.args.typed.now) (g.F.Files.files c.args.files.now) m same are))
+    (c.in-Err.ensures.stopped m (script_files (map check_seen c.deref.result.now) (script_seen c.args.typed.now) (g.F.Files.files c.args.files.now) m same are))
 
 pub returns-clause-some : goal.returns-clause-some
 returns-clause-some g c =
@@ -48,11 +48,11 @@ pub returns-in-Ok-clause-complete : goal.returns-in-Ok-clause-complete
 returns-in-Ok-clause-complete g c =
     let same : map check_seen c.deref.result.now ≡ checks_of (script_seen c.args.typed.now) = ap (map check_seen) c.deref.ensures.value ∙ c.in_ok-checks.ensures.in_order in
     λ steady m are. program_loaded c.args.epoch.now m (map check_seen c.deref.result.now) (script_seen c.args.typed.now) (loaded_of c.in-Ok.loading) c.program_of.result same c.program_of.ensures
-        (c.in-Ok.ensures.loaded m (script_files (map check_seen c.deref.result.now) (script_seen c.args.typed.now) (g.F.Files.files c.args.files.now) m same are))
+    (c.in-Ok.ensures.loaded m (script_files (map check_seen c.deref.result.now) (script_seen c.args.typed.now) (g.F.Files.files c.args.files.now) m same are))
 
 pub returns-clause-complete : goal.returns-clause-complete
 returns-clause-complete g c =
     let same : map check_seen c.deref.result.now ≡ checks_of (script_seen c.args.typed.now) = ap (map check_seen) c.deref.ensures.value ∙ c.in_ok-checks.ensures.in_order in
     λ steady m are. stopped_outcome c.args.epoch.now m (script_seen c.args.typed.now) c.in-Err.end (g.F.Files.faults c.args.files.now) (g.F.Files.faults c.load_checks.new.files) steady c.in-Err.ensures.cause
-        (script_stops c.args.epoch.now m (map check_seen c.deref.result.now) (script_seen c.args.typed.now) c.in-Err.end same
-            (c.in-Err.ensures.stopped m (script_files (map check_seen c.deref.result.now) (script_seen c.args.typed.now) (g.F.Files.files c.args.files.now) m same are)))
+    (script_stops c.args.epoch.now m (map check_seen c.deref.result.now) (script_seen c.args.typed.now) c.in-Err.end same
+    (c.in-Err.ensures.stopped m (script_files (map check_seen c.deref.result.now) (script_seen c.args.typed.now) (g.F.Files.files c.args.files.now) m same are)))

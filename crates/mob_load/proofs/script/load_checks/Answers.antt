@@ -43,8 +43,8 @@ returns-in-Err-clause-stopped g c =
     let here : map check_seen (drop i all) ≡ check_seen x ∷ map check_seen (drop (i + 1) all) =
     ap (map check_seen) (drop_more all i x c.loop-check-test.true ∙ ap (λ y. y ∷ drop (i + 1) all) (sym c.check-item.is)) in
     λ m are. check_stops c.args.epoch.now m (map check_seen all) (map check_seen (drop i all)) (map check_seen (drop (i + 1) all)) (check_seen x) here (loaded_of c.loop-check.loading)
-        (loaded_of c.run_check.new.loading) (c.loop-check.invariant.left m are) c.in-Err.end
-        (c.in-Err.ensures.loads m (files_here all i x c.loop-check-test.true c.check-item.is (g.F.Files.files c.args.files.now) (g.F.Files.files c.loop-check.files) m c.loop-check.invariant.files are)) c.in-Err.ensures.fault
+    (loaded_of c.run_check.new.loading) (c.loop-check.invariant.left m are) c.in-Err.end
+    (c.in-Err.ensures.loads m (files_here all i x c.loop-check-test.true c.check-item.is (g.F.Files.files c.args.files.now) (g.F.Files.files c.loop-check.files) m c.loop-check.invariant.files are)) c.in-Err.ensures.fault
 
 pub returns-in-Err-clause-cause : goal.returns-in-Err-clause-cause
 returns-in-Err-clause-cause g c =
@@ -67,7 +67,7 @@ returns-in-Err-clause-files g c =
 pub returns-clause-loaded : goal.returns-clause-loaded
 returns-clause-loaded g c =
     λ m are. none_left c.args.epoch.now m (map check_seen c.args.checks.now) (map check_seen (drop c.loop-check.check-index c.args.checks.now)) (loaded_of c.loop-check.loading)
-        (ap (map check_seen) (drop_all c.loop-check.check-index c.args.checks.now c.loop-check-test.false)) (c.loop-check.invariant.left m are)
+    (ap (map check_seen) (drop_all c.loop-check.check-index c.args.checks.now c.loop-check-test.false)) (c.loop-check.invariant.left m are)
 
 pub returns-clause-asked : goal.returns-clause-asked
 returns-clause-asked g c =

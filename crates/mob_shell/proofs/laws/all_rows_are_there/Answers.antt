@@ -1,4 +1,4 @@
-use Rattle.mob_shell.proofs.Stored.{all_rows_are_there}
+use Rattle.mob_shell.proofs.AllRows.{all_rows_are_there}
 use Rattle.mob_shell.proofs.laws.all_rows_are_there.Goals as goal
 
 pub returns : goal.returns

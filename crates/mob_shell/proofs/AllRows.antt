@@ -2,11 +2,11 @@
 use Rattle.std.proofs.Common.{◌≡◌, sym, subst, ℕ, ℤ, List, [], ◌∷◌, map}
 use Rattle.mob_typed.specs.Statements.{StatementOut, nothing, new_table, new_index, new_rows, rows_from, query, plan_of}
 use Rattle.mob_value.specs.declared.value.Value.{Value}
-use Rattle.mob_catalog.specs.Catalogue.{Catalogue, with_empty_table, with_row}
+use Rattle.mob_catalog.specs.Catalogue.{Catalogue, with_row}
 use Rattle.mob_catalog.specs.Live.{AllAreThere, RowsStayThere}
 use Rattle.mob_shell.specs.Runs.{RunState, RunsStatement, StatementLeaves, begin, inserted_row, next_rows, with_all_rows}
 use Rattle.mob_shell.specs.Statements.{Ran}
-use Rattle.mob_shell.specs.Stored.{AllRowsAreThere}
+use Rattle.mob_shell.specs.AllRows.{AllRowsAreThere}
 
 module _ (stay : RowsStayThere) where
   rows_there : (n : ℕ) (rows : List (List Value)) (c : Catalogue) → AllAreThere c → AllAreThere (with_all_rows n rows c)
