@@ -22,7 +22,8 @@ use Rattle.mob_numeral.proofs.WholeTexts.{number_head, number_byte}
 use Rattle.mob_scalar.proofs.WholeTexts.{moment_head, moment_byte}
 use Rattle.mob_written.specs.Printed.{moving_text}
 use Rattle.mob_written.specs.Style.{style_of}
-use Rattle.mob_literal.specs.Readable.{IsDated, IsReadable}
+use Rattle.mob_scalar.specs.MomentText.{IsDated}
+use Rattle.mob_literal.specs.Readable.{IsReadable}
 use Rattle.mob_literal.specs.SqlReadable.{IsReadableAs}
 use Rattle.mob_literal.specs.SqlText.{SaysAs}
 use Rattle.mob_literal.specs.Fields.{is_null_text, is_empty, is_null_field, doubled, undoubled, text_of_field, field_text}

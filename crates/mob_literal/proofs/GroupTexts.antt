@@ -7,9 +7,8 @@ use Rattle.mob_ratio.specs.Order.{same}
 use Rattle.mob_language.specs.Language.{Text, Separated}
 use Rattle.mob_language.proofs.Exact.{Stops}
 use Rattle.mob_language.proofs.Heads.{within_said}
-use Rattle.mob_scalar.specs.declared.stamp.Stamp.{Stamp}
-use Rattle.mob_scalar.specs.Moment.{moment, instant}
 use Rattle.mob_scalar.specs.MomentText.{moment_text}
+use Rattle.mob_scalar.proofs.BracketsSaid.{opening_said, closing_said, Each, listed_said, within_braces_said, IsMomentSaid}
 use Rattle.mob_slice.specs.declared.slice.Slice.{Slice}
 use Rattle.mob_slice.specs.CourseOf.{CourseOf}
 use Rattle.mob_written.specs.declared.written.Written.{Written}
@@ -18,14 +17,14 @@ use Rattle.mob_written.specs.declared.written.Sequence.{Sequence}
 use Rattle.mob_written.specs.declared.written.Literal.{Literal}
 use Rattle.mob_written.specs.declared.written.Prefixes.{Prefixes}
 use Rattle.mob_written.specs.Prefix.{Prefix, ArePrefixes, remaining, says_step, begins_prefix}
-use Rattle.mob_written.specs.Fitting.{fitting}
-use Rattle.mob_written.specs.Literal.{at_sign, comma, noted, sequence, members, braced, alone, literal, temporal, opening as opening_bracket, closing as closing_bracket}
-use Rattle.mob_written.specs.Printed.{Style, is_long, takes_up, groups_of, put_in_group, with_commas, instant_text, instants_of, start_text, opening_text, closing_text, group_text, groups_text, set_text, moving_text, in_braces}
+use Rattle.mob_scalar.specs.Brackets.{comma, with_commas}
+use Rattle.mob_written.specs.Literal.{at_sign, noted, sequence, members, alone, literal, temporal}
+use Rattle.mob_written.specs.Printed.{Style, is_long, takes_up, groups_of, put_in_group, instant_text, instants_of, start_text, opening_text, closing_text, group_text, groups_text, set_text, moving_text}
 use Rattle.mob_written.specs.Style.{style_of}
 use Rattle.mob_literal.proofs.GroupSlices.{Alls, alls_rest, start_of, end_of, more, upper_of, sequence_of, AllHoldTogether, are_groups, joined}
 use Rattle.mob_written.proofs.Small.{false_true}
 
--- ---- signs as they are printed
+-- ---- the sign as it is printed
 
 at_said : at_sign (codes "@") tt
 at_said = record {
@@ -33,30 +32,6 @@ at_said = record {
   said = record { front = []; back = codes "@"; whole = refl; first = record { is = refl; each = tt }; second = record { front = codes "@"; back = []; whole = refl; first = refl; second = record { is = refl; each = tt } } };
   is = refl;
 }
-
-comma_said : comma (codes ", ") tt
-comma_said = record {
-  meant = ([], (tt, codes " "));
-  said = record { front = []; back = codes ", "; whole = refl; first = record { is = refl; each = tt }; second = record { front = codes ","; back = codes " "; whole = refl; first = refl; second = record { is = refl; each = (refl, tt) } } };
-  is = refl;
-}
-
-opening_said : (included : Bool) → opening_bracket (cond included (codes "[") (codes "(")) (cond included 91 40)
-opening_said true = record { meant = (91, []); said = record { front = codes "["; back = []; whole = refl; first = (refl, refl); second = record { is = refl; each = tt } }; is = refl }
-opening_said false = record { meant = (40, []); said = record { front = codes "("; back = []; whole = refl; first = (refl, refl); second = record { is = refl; each = tt } }; is = refl }
-
-closing_said : (included : Bool) → closing_bracket (cond included (codes "]") (codes ")")) (cond included 93 41)
-closing_said true = record { meant = ([], 93); said = record { front = []; back = codes "]"; whole = refl; first = record { is = refl; each = tt }; second = (refl, refl) }; is = refl }
-closing_said false = record { meant = ([], 41); said = record { front = []; back = codes ")"; whole = refl; first = record { is = refl; each = tt }; second = (refl, refl) }; is = refl }
-
--- the language says each of the values with its text
-abbrev pub Each : {A X : Type 0} → (Text → A → Type 0) → (X → Text) → (X → A) → List X → Type 0
-Each l f g [] = Unit {0}
-Each l f g (x ∷ xs) = l (f x) (g x) × Each l f g xs
-
-pub listed_said : {A X : Type 0} (l : Text → A → Type 0) (f : X → Text) (g : X → A) (x : X) (xs : List X) → Each l f g (x ∷ xs) → Separated l comma (with_commas (map f (x ∷ xs))) (map g (x ∷ xs))
-listed_said l f g x [] h = h.0
-listed_said l f g x (y ∷ ys) h = (f x, codes ", ", with_commas (map f (y ∷ ys)), append_assoc (f x) (codes ", ") (with_commas (map f (y ∷ ys))), h.0, comma_said, listed_said l f g y ys h.1)
 
 bracketed_said : {A : Type 0} (entry : Text → A → Type 0) (lower upper : Bool) (inner : Text) (is : List A) → Separated entry comma inner is
     → sequence entry (cond lower (codes "[") (codes "(") ++ (inner ++ cond upper (codes "]") (codes ")"))) (record { lower_inc = lower; instants = is; upper_inc = upper })
@@ -77,29 +52,10 @@ bracketed_said {A} entry lower upper inner is h = record {
   by_ends false true = refl
   by_ends false false = refl
 
-braced_said : {A : Type 0} (entry : Text → A → Type 0) (inner : Text) (qs : List (Sequence A)) → members entry inner qs → braced entry (in_braces inner) qs
-braced_said entry inner qs h = record {
-  meant = ((tt, []), (qs, ([], tt)));
-  said = record {
-    front = codes "{";
-    back = inner ++ codes "}";
-    whole = append_assoc (codes "{") inner (codes "}");
-    first = record { front = codes "{"; back = []; whole = refl; first = refl; second = record { is = refl; each = tt } };
-    second = record { front = inner; back = codes "}"; whole = refl; first = h; second = record { front = []; back = codes "}"; whole = refl; first = record { is = refl; each = tt }; second = refl } };
-  };
-  is = refl;
-}
-
 -- ---- values and moments as they are printed
 
 abbrev pub note : {B : Type 0} → Written B → Noted B
 note w = record { value = Some w.value; instant = Some w.instant }
-
--- a moment that is printed is read, and fits
-pub record IsMomentSaid (day : ℤ) (t : Ratio) : Type 0 where
-  pub stamp : Stamp
-  pub said : moment (moment_text day t) stamp
-  pub fits : fitting (instant day stamp) ≡ Some t
 
 -- the sequence of a group as it is noted
 abbrev pub noted_of_group : {C B : Type 0} → CourseOf C B → List (Slice C) → Sequence (Noted B)
@@ -198,7 +154,7 @@ module _ {C B : Type 0} (course : CourseOf C B) (day : ℤ) (value : Text → Op
   groups_literal [] some h = absurd (some refl)
   groups_literal (group ∷ []) some h = inr (inl (record { meant = noted_of_group course group; said = h.0; is = refl }))
   groups_literal (group ∷ next ∷ groups) some h =
-      inl (braced_said entry (with_commas (map (group_text style) (group ∷ next ∷ groups))) (map (noted_of_group course) (group ∷ next ∷ groups)) (inl (listed_said (sequence entry) (group_text style) (noted_of_group course) group (next ∷ groups) h)))
+      inl (within_braces_said {l = members entry} (with_commas (map (group_text style) (group ∷ next ∷ groups))) (map (noted_of_group course) (group ∷ next ∷ groups)) (inl (listed_said (sequence entry) (group_text style) (noted_of_group course) group (next ∷ groups) h)))
 
   -- ---- single instants
 
@@ -234,7 +190,7 @@ module _ {C B : Type 0} (course : CourseOf C B) (day : ℤ) (value : Text → Op
   set_literal [] some h = absurd (some refl)
   set_literal (s ∷ []) some h = inr (inr (record { meant = start_note s; said = start_said s h.0; is = refl }))
   set_literal (s ∷ r ∷ rest) some h =
-      inl (braced_said entry (with_commas (map (start_text style) (s ∷ r ∷ rest))) (map alone (map start_note (s ∷ r ∷ rest)))
+      inl (within_braces_said {l = members entry} (with_commas (map (start_text style) (s ∷ r ∷ rest))) (map alone (map start_note (s ∷ r ∷ rest)))
       (inr (record { meant = map start_note (s ∷ r ∷ rest); said = listed_said entry (start_text style) start_note s (r ∷ rest) (starts_said (s ∷ r ∷ rest) h); is = refl })))
 
   -- ---- all of a text

@@ -6,7 +6,6 @@ pub mod ReadLiterals
 pub mod Rows
 pub mod Drawn
 pub mod SequenceLemmas
-pub mod Traversed
 pub mod GroupSlices
 pub mod GroupTexts
 pub mod Begun

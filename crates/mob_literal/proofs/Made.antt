@@ -8,7 +8,7 @@ use Rattle.mob_slice.specs.declared.slice.Slice.{Slice}
 use Rattle.mob_slice.specs.CourseOf.{CourseOf}
 use Rattle.mob_written.specs.declared.written.Written.{Written}
 use Rattle.mob_literal.specs.Slices.{made, stretch, point, arrives}
-use Rattle.mob_literal.proofs.Traversed.{with_list}
+use Rattle.mob_scalar.proofs.Traversed.{with_list}
 
 -- an instant from which a span without its upper end goes on
 pub opens_before : (included : Bool) (a b : Ratio) → has_instant (record { lower = a; upper = b; lower_inc = included; upper_inc = false }) ≡ true → before a b ≡ true

@@ -1,5 +1,5 @@
 -- The printed text of a temporal value is read again as that value.
-use Rattle.std.proofs.Common.{◌≡◌, ℕ, ℤ, ◌+◌, ◌≤◌, List, [], ◌∷◌, ◌++◌, length, map, Bool, true, false, cond, Option, Some, None, Ok, refl, sym, ap, subst, ◌∙◌, arith, rules, inl}
+use Rattle.std.proofs.Common.{◌≡◌, ℕ, ℤ, ◌+◌, ◌≤◌, List, [], ◌∷◌, ◌++◌, length, map, Bool, true, false, Option, Some, Ok, refl, sym, ap, subst, ◌∙◌, arith, inl}
 use Rattle.std.specs.Prelude.{◌↔◌, IsTrue, Contains, MatchOption, not, nat_eq, nat_lt}
 use Rattle.std.specs.Char.{to_ascii_lowercase}
 use Rattle.std.specs.List.{list_all}
@@ -7,7 +7,6 @@ use Rattle.mob_ratio.specs.Ratio.{Ratio}
 use Rattle.mob_ratio.specs.Order.{same}
 use Rattle.mob_ratio.proofs.Order.{same_exact}
 use Rattle.mob_slice.specs.Sameness.{same_bool, same_bool_exact, same_bytes, same_bytes_exact}
-use Rattle.mob_frac.specs.Fits.{Fits}
 use Rattle.mob_language.specs.Language.{Text}
 use Rattle.mob_language.proofs.Exact.{Stops}
 use Rattle.mob_slice.specs.declared.slice.Slice.{Slice}
@@ -21,39 +20,26 @@ use Rattle.mob_numeral.specs.NumberText.{number_text}
 use Rattle.mob_scalar.specs.Quoted.{quoted_text}
 use Rattle.std.proofs.lemmas.List.{length-map}
 use Rattle.std.proofs.lemmas.Bool.{and_parts as both, and_right, not-true as not_true}
-use Rattle.mob_numeral.proofs.Again.{number_plain}
+use Rattle.mob_numeral.proofs.Fitted.{number_value_said}
 use Rattle.mob_scalar.proofs.TruthAgain.{truth_plain}
-use Rattle.mob_scalar.proofs.MomentAgain.{moment_plain}
+use Rattle.mob_scalar.proofs.BracketsSaid.{moment_said}
 use Rattle.mob_written.specs.declared.written.Written.{Written}
 use Rattle.mob_written.specs.declared.written.Sequence.{Sequence}
-use Rattle.mob_written.specs.Fitting.{fits, fitting}
-use Rattle.mob_literal.specs.Sound.{instant_count, traverse, written_of, fitting_sequence, fitting_all, is_sound, Defines, literals, steps}
+use Rattle.mob_scalar.specs.Traverse.{traverse}
+use Rattle.mob_literal.specs.Sound.{instant_count, written_of, fitting_sequence, fitting_all, is_sound, Defines, literals, steps}
 use Rattle.mob_written.specs.Printed.{is_long, groups_of, instants_of, moving_text}
 use Rattle.mob_written.specs.Style.{style_of}
-use Rattle.mob_written.specs.Values.{any_value, is_whole, truth_value, number_value, quoted_value}
+use Rattle.mob_numeral.specs.Fitting.{number_value}
+use Rattle.mob_written.specs.Values.{any_value, is_whole, truth_value, quoted_value}
 use Rattle.mob_written.specs.Prefix.{Prefix, ArePrefixes, admitted, remaining, says_step, begins_prefix}
 use Rattle.mob_literal.specs.Sequences.{is_step}
-use Rattle.mob_literal.specs.Readable.{AreLevel, IsDated, IsReadable, instants_in, AnyTruth, IsInt, IsText}
+use Rattle.mob_literal.specs.Readable.{AreLevel, IsReadable, instants_in, AnyTruth, IsInt, IsText}
 use Rattle.mob_literal.proofs.Listing.{first_in, later_in}
 use Rattle.mob_literal.proofs.Drawn.{IsLawful, lawful}
 use Rattle.mob_literal.proofs.FlatLemmas.{flat, Ordered, IsFlat, is_flat}
 use Rattle.mob_literal.proofs.GroupSlices.{Alls, start_of, more, sequence_of, are_groups, joined, IsKept, AreKept, HasAll, is_short, sound_groups, flat_values}
-use Rattle.mob_literal.proofs.GroupTexts.{note, noted_of_group, printed_literal, written_text, IsMomentSaid, IsSliceSaid, AreSaid, ArePoints, instants_are, printed_said}
+use Rattle.mob_literal.proofs.GroupTexts.{note, noted_of_group, printed_literal, written_text, IsSliceSaid, AreSaid, ArePoints, instants_are, printed_said}
 use Rattle.mob_written.proofs.Small.{false_true, some_none}
-
--- ---- numbers that fit
-
-fits_test : (q : Ratio) → Fits q → fits q ≡ true
-unfolding fits
-fits_test q f = let a = f.num_fits in let b = f.den_fits in search rules
-
-fitting_fits : (q r : Ratio) → Fits q → q ≡ r → fitting r ≡ Some q
-fitting_fits q r f e = subst (λ (x : Ratio). fitting x ≡ Some q) e (ap (λ (b : Bool). cond b (Some q) None) (fits_test q f))
-
-moment_said : (day : ℤ) (t : Ratio) → IsDated day t → IsMomentSaid day t
-moment_said day t d =
-    let m = moment_plain day t d.fits d.dated in
-    record { stamp = m.0; said = m.1; fits = fitting_fits t _ d.fits m.2 }
 
 -- ---- the numbers of the sequences fit, and there are as many as are printed
 
@@ -169,9 +155,7 @@ truth_said : (b : Bool) → AnyTruth b → truth_value (truth_text b) (Some b)
 truth_said b h = record { meant = b; said = truth_plain b; is = refl }
 
 number_said : (q : Ratio) → IsInt q → number_value (number_text q) (Some q)
-number_said q h =
-    let n = number_plain q h.fits in
-    record { meant = n.0; said = n.1; is = sym (fitting_fits q _ h.fits n.2) }
+number_said q h = number_value_said q h.fits
 
 whole_test : (q : Ratio) → IsInt q → is_whole q ≡ true
 whole_test q h = rw h.is_whole refl

@@ -19,11 +19,13 @@ use Rattle.mob_written.specs.declared.written.Sequence.{Sequence}
 use Rattle.mob_written.specs.declared.written.Literal.{Literal}
 use Rattle.mob_written.specs.declared.written.Prefixes.{Prefixes}
 use Rattle.mob_written.specs.Prefix.{admitted}
-use Rattle.mob_written.specs.Literal.{comma, noted, sequence, alone, members, literal, temporal, noted_at, temporal_at}
+use Rattle.mob_scalar.specs.Brackets.{comma}
+use Rattle.mob_written.specs.Literal.{noted, sequence, alone, members, literal, temporal, noted_at, temporal_at}
 use Rattle.mob_written.specs.ValueText.{IsValueText}
 use Rattle.mob_literal.specs.Sequences.{is_step, rises}
 use Rattle.mob_literal.specs.Slices.{slices_of}
-use Rattle.mob_literal.specs.Sound.{is_over_limit, traverse, written_of, fitting_sequence, fitting_all, is_closed_alone, is_sound_sequence, ends_level, are_in_order, is_sound, Defines, fitting_literal, written_literals, literals}
+use Rattle.mob_scalar.specs.Traverse.{traverse}
+use Rattle.mob_literal.specs.Sound.{is_over_limit, written_of, fitting_sequence, fitting_all, is_closed_alone, is_sound_sequence, ends_level, are_in_order, is_sound, Defines, fitting_literal, written_literals, literals}
 use Rattle.mob_literal.specs.Flat.{made_all}
 use Rattle.mob_written.proofs.LiteralExact.{noted_entry, temporal_exact}
 use Rattle.mob_literal.proofs.Drawn.{IsLawful}

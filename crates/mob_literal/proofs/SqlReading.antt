@@ -19,7 +19,8 @@ use Rattle.mob_scalar.specs.Truth.{truths}
 use Rattle.mob_scalar.proofs.OneReadings.{one_number, one_whole, one_moment, one_truth}
 use Rattle.mob_numeral.proofs.Settled.{settled}
 use Rattle.mob_literal.specs.Sound.{steps}
-use Rattle.mob_written.specs.Values.{any_value, is_whole, truth_values, number_values, quoted_values, truth_value, number_value, quoted_value}
+use Rattle.mob_numeral.specs.Fitting.{number_value}
+use Rattle.mob_written.specs.Values.{any_value, is_whole, truth_values, number_values, quoted_values, truth_value, quoted_value}
 use Rattle.mob_literal.specs.SqlText.{texts, no_texts, SaysInForm, SaysAs}
 use Rattle.mob_literal.proofs.OneReading.{one_reading}
 

@@ -5,7 +5,7 @@ use Rattle.mob_ratio.specs.Ratio.{Ratio}
 use Rattle.mob_frac.specs.Fits.{Fits}
 use Rattle.mob_language.specs.Language.{Text}
 use Rattle.mob_language.proofs.Exact.{Stops}
-use Rattle.mob_scalar.specs.MomentText.{HasDate}
+use Rattle.mob_scalar.specs.MomentText.{IsDated}
 use Rattle.mob_slice.specs.declared.slice.Slice.{Slice}
 use Rattle.mob_slice.specs.CourseOf.{CourseOf}
 use Rattle.mob_slice.specs.Slices.{IsNormal}
@@ -18,11 +18,6 @@ use Rattle.mob_written.specs.Style.{style_of}
 abbrev pub instants_in : {C B : Type 0} → Style C B → List (List (Slice C)) → ℕ
 instants_in style [] = 0
 instants_in style (group ∷ groups) = length (instants_of style group) + instants_in style groups
-
--- the instant fits, and lies in the years 0001 to 9999
-pub record IsDated (day : ℤ) (t : Ratio) : Type 0 where
-  pub fits : Fits t
-  pub dated : HasDate day t
 
 -- A normal value whose values can be written, whose instants lie in the years 0001 to 9999, and that prints at most 100,000 of them.
 pub record IsReadable {C B : Type 0} (course : CourseOf C B) (day : ℤ) (text : B → Text) (IsWritten : B → Type 0) (slices : List (Slice C)) : Type 0 where

@@ -10,6 +10,7 @@ use Rattle.mob_slice.specs.declared.steady.Steady.{Steady}
 use Rattle.mob_slice.specs.CourseOf.{CourseOf, steady_course}
 use Rattle.mob_slice.specs.Slices.{value_at, IsNormal}
 use Rattle.mob_numeral.specs.Verdict.{TextForm}
+use Rattle.mob_scalar.specs.Traverse.{traverse}
 use Rattle.mob_written.specs.declared.written.Written.{Written}
 use Rattle.mob_written.specs.declared.written.Noted.{Noted}
 use Rattle.mob_written.specs.declared.written.Sequence.{Sequence}
@@ -29,11 +30,6 @@ instant_count (q ∷ qs) = length q.instants + instant_count qs
 -- more than 100,000 instants
 abbrev pub is_over_limit : {A : Type 0} → List (Sequence A) → Bool
 is_over_limit qs = nat_lt 100000 (instant_count qs)
-
--- the values of f on a list, where it has one on each entry
-abbrev pub traverse : {A C : Type 0} → (A → Option C) → List A → Option (List C)
-traverse f [] = Some []
-traverse f (x ∷ xs) = f x >>= λ y. traverse f xs >>= λ ys. Some (y ∷ ys)
 
 -- the value at the instant, where the numbers of both fit
 abbrev pub written_of : {B : Type 0} → Noted B → Option (Written B)

@@ -11,7 +11,8 @@ use Rattle.mob_value.specs.declared.value.Value.TheVariants as value
 use Rattle.mob_numeral.specs.NumberText.{number_text}
 use Rattle.mob_scalar.specs.Truth.{truth_text}
 use Rattle.mob_scalar.specs.Quoted.{quoted_text}
-use Rattle.mob_literal.specs.Readable.{IsDated, IsReadable, AnyTruth, IsInt, IsText}
+use Rattle.mob_scalar.specs.MomentText.{IsDated}
+use Rattle.mob_literal.specs.Readable.{IsReadable, AnyTruth, IsInt, IsText}
 
 -- the value is one of the type, and its printed text is read again as that value
 abbrev pub IsReadableAs : SqlType → ℤ → Value → Type 0

@@ -17,7 +17,8 @@ use Rattle.mob_scalar.specs.MomentText.{moment_text}
 use Rattle.mob_scalar.specs.Truth.{truths, truth_text}
 use Rattle.mob_scalar.specs.Quoted.{quoted_text}
 use Rattle.mob_literal.specs.Sound.{steps}
-use Rattle.mob_written.specs.Values.{any_value, is_whole, truth_value, number_value, quoted_value}
+use Rattle.mob_numeral.specs.Fitting.{number_value}
+use Rattle.mob_written.specs.Values.{any_value, is_whole, truth_value, quoted_value}
 use Rattle.mob_written.specs.Printed.{moving_text}
 use Rattle.mob_written.specs.Style.{style_of}
 

@@ -8,7 +8,8 @@ ghost use Rattle.mob_scalar.specs.Truth.{truths};
 ghost use Rattle.mob_numeral.specs.declared.fault.ReadText.TheVariants.{NoMemory};
 ghost use Rattle.mob_literal.specs.Memory.{takes_memory};
 ghost use Rattle.mob_literal.specs.Sound.{steps};
-ghost use Rattle.mob_written.specs.Values.{any_value, is_whole, truth_value, number_value, quoted_value};
+ghost use Rattle.mob_numeral.specs.Fitting.{number_value};
+ghost use Rattle.mob_written.specs.Values.{any_value, is_whole, truth_value, quoted_value};
 ghost use Rattle.mob_literal.specs.SqlText.{SaysInForm, SaysAs, texts, value_text};
 
 use crate::temporal::read_moving;

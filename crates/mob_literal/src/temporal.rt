@@ -2,7 +2,7 @@
 ghost use Rattle.std.specs.Prelude.{◌≡◌, option_map, Option, Some, None, Ok, Err, IfOk, MatchResult, true, false};
 ghost use Rattle.std.specs.List.{list_all};
 ghost use Rattle.mob_numeral.specs.Verdict.{Lit};
-ghost use Rattle.mob_literal.specs.Sound.{is_over_limit, traverse, written_of as written_in, fitting_sequence as fitting_in, fitting_all as all_fitting, clear_ends as ends_clear, is_before as precedes, are_in_order as in_order, fitting_literal as fitting_in_literal, written_literals, literals};
+ghost use Rattle.mob_literal.specs.Sound.{is_over_limit, written_of as written_in, fitting_sequence as fitting_in, fitting_all as all_fitting, clear_ends as ends_clear, is_before as precedes, are_in_order as in_order, fitting_literal as fitting_in_literal, written_literals, literals};
 ghost use Rattle.mob_literal.specs.Sequences.{is_step as is_step_in};
 ghost use Rattle.mob_written.specs.Prefix.{admitted};
 ghost use Rattle.mob_slice.specs.CourseOf.{course_of};
@@ -11,7 +11,7 @@ ghost use Rattle.mob_literal.specs.Flat.{made_sequence, made_all};
 use crate::slicing::slices_of;
 use mob_list::items::Items;
 use mob_normal::normal;
-use mob_scalar::{Epoch, ReadText};
+use mob_scalar::{Epoch, ReadText, fitting_each};
 use mob_slice::{Course, Moving, Slice};
 use mob_written::written::{Literal, Noted, Sequence, Written};
 use mob_written::{WrittenValue, all_neighbours, literal_of};
@@ -39,25 +39,6 @@ fn written_of<B: Drop>(noted: Noted<B>) -> Option<Written<B>>
     let value = value?;
     let instant = instant?;
     Some(Written { value, instant })
-}
-
-/// What `fit` makes of each item, where it makes something of every one.
-fn fitting_each<A: Drop, B: Drop, F: Fn(A) -> Result<Option<B>, AllocError>>(
-    alloc: Global,
-    items: Vec<A>,
-    fit: F,
-) -> Result<Option<Vec<B>>, AllocError>
-    requires callable { F.IsAlwaysCallable fit }
-    ensures fitting { (part : A → Option B) → ((item : _) (made : _) → F.post fit item made → IfOk made (λ o. o ≡ part item)) → IfOk result (λ o. option_map (λ v. v.items) o ≡ traverse part items.items) }
-{
-    let mut fitting = Vec::new(alloc);
-    for item in items {
-        let Some(made) = fit(item)? else {
-            return Ok(None);
-        };
-        fitting.push(made)?;
-    }
-    Ok(Some(fitting))
 }
 
 fn fitting_sequence<B: Drop>(

@@ -8,3 +8,6 @@ pub mod Settled
 pub mod WholeTexts
 pub mod BeforeSign
 pub mod WholeNumbers
+pub mod Fitted
+pub mod AnyCase
+pub mod SomeBlanks

@@ -3,8 +3,8 @@ use Rattle.std.proofs.Common.{◌≡◌, ℕ, [], ◌∷◌, ◌++◌, length, B
 use Rattle.std.proofs.lemmas.Bool.Decides.{nat_tests}
 use Rattle.mob_language.specs.Language.{Text, Language, Maybe, behind, is_blank, within_blanks, is_digit, is_number_sign, is_exponent_letter}
 use Rattle.mob_language.specs.Readers.{within_blanks_at}
-use Rattle.mob_language.proofs.Exact.{Exact}
-use Rattle.mob_language.proofs.Heads.{NoHead, Apart, HasByte, IsEnd, then_head, means_head, maybe_head, where_head, one_head, many_head, within_exact, blanks_stop}
+use Rattle.mob_language.proofs.Exact.{Exact, Stops, means_exact}
+use Rattle.mob_language.proofs.Heads.{NoHead, Apart, HasByte, IsEnd, then_head, means_head, maybe_head, where_head, one_head, many_head, means_byte, within_exact, blanks_stop}
 use Rattle.mob_numeral.specs.declared.numeral.Figures.{Figures}
 use Rattle.mob_numeral.specs.declared.numeral.Exponent.{Exponent}
 use Rattle.mob_numeral.specs.declared.numeral.Tail.{Tail}
@@ -13,6 +13,7 @@ use Rattle.mob_numeral.specs.declared.numeral.Numeral.{Numeral}
 use Rattle.mob_numeral.specs.Figures.{digits}
 use Rattle.mob_numeral.specs.Number.{number, tail, has_digits}
 use Rattle.mob_numeral.specs.NumberReaders.{numeral_at}
+use Rattle.mob_numeral.specs.Fitting.{fitting_value, number_value, number_value_at}
 use Rattle.mob_numeral.proofs.NumberExact.{number_exact, continues, tail_head}
 
 -- what stands between the blanks
@@ -23,7 +24,7 @@ pub record Inner {A : Type 0} (l : Language A) (v : A) : Type 0 where
 pub inner_of : {A : Type 0} {l : Language A} (text : Text) (v : A) → within_blanks l text v → Inner l v
 inner_of {l = l} text v w = record { text = w.said.second.front; said = subst (l w.said.second.front) (sym w.is) w.said.second.first }
 
-blank_stops : Apart is_blank continues
+pub blank_stops : Apart is_blank continues
 blank_stops c e = search rules
 
 -- no number begins with a byte that none of its parts begins with
@@ -83,5 +84,18 @@ number_byte text v said e =
     no_tail s.second.back m.meant.1.1 m.meant.1.0 s.second.second t (no_figures s.second.front m.meant.1.0 s.second.first d)
     (subst (λ (x : Numeral). has_digits x.digits x.tail ≡ true) m.is said.holds)
 
+pub number_blank : NoHead number is_blank
+number_blank = number_head is_blank sign_blank digit_blank refl refl e_blank
+
+pub number_value_exact : Exact number_value number_value_at (Stops continues)
+unfolding number_value_at
+number_value_exact = means_exact fitting_value number_exact
+
+pub number_value_blank : NoHead number_value is_blank
+number_value_blank = means_head number_blank
+
+pub number_value_byte : HasByte number_value
+number_value_byte = means_byte fitting_value number_byte
+
 pub number_whole : Exact (within_blanks number) (within_blanks_at numeral_at) IsEnd
-number_whole = within_exact number_exact (number_head is_blank sign_blank digit_blank refl refl e_blank) number_byte (blanks_stop continues blank_stops)
+number_whole = within_exact number_exact number_blank number_byte (blanks_stop continues blank_stops)

@@ -5,3 +5,5 @@ pub mod NumberReaders
 pub mod NumberValue
 pub mod Numbers
 pub mod NumberText
+pub mod Fitting
+pub mod Blanks

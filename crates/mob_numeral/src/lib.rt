@@ -7,10 +7,14 @@ mod number;
 mod numeral;
 mod printing;
 mod readers;
+mod words;
 
 pub use fault::ReadText;
 pub use laws::{number_read_again, whole_read_again};
-pub use number::{evaluate, read_number, read_whole, ten_to};
+pub use number::{evaluate, number_value_at, read_number, read_whole, ten_to};
 pub use numeral::{Exponent, Figures, Numeral, Tail, digits_at, number_at};
 pub use printing::write_number;
-pub use readers::{behind, blanks, is_blank, maybe, split_while, within_blanks};
+pub use readers::{
+    behind, blanks, is_blank, maybe, some_blanks_at, spaced_at, split_while, within_blanks,
+};
+pub use words::any_case_at;

@@ -1,10 +1,11 @@
 //! Numbers, read from their texts.
-ghost use Rattle.std.specs.Prelude.{◌≡◌, ◌<◌, ◌≤◌, ◌^◌, ◌*◌, ◌+◌, Option, Some, None, ◌≢◌, Err};
+ghost use Rattle.std.specs.Prelude.{◌≡◌, ◌<◌, ◌≤◌, ◌^◌, ◌*◌, ◌+◌, option_map, Option, Some, None, ◌≢◌, Err};
 ghost use Rattle.mob_language.specs.Readers.{all_of, within_blanks_at};
 ghost use Rattle.mob_ratio.specs.Ratio.{over};
 ghost use Rattle.mob_frac.specs.Fits.{IsExact};
 ghost use Rattle.mob_frac.specs.Signed.{signed};
 ghost use Rattle.mob_numeral.specs.NumberValue.{IsBounded, numeral_value, up_of, down_of, value_in};
+ghost use Rattle.mob_numeral.specs.Fitting.{fitting, number_value_at as number_value_in};
 ghost use Rattle.mob_numeral.specs.Number.{count_of};
 ghost use Rattle.mob_numeral.specs.NumberReaders.{numeral_at};
 ghost use Rattle.mob_numeral.specs.declared.fault.ReadText.TheVariants.{NoMemory};
@@ -114,6 +115,29 @@ pub fn evaluate(n: Numeral) -> Result<Frac, Overflow>
             let down = places(part) + down(exponent) as u32;
             scaled(n.negative, size, up, down)
         }
+    }
+}
+
+/// The number that a numeral stands for, where it fits.
+#[tactic(auto, unfolding(crate::specs::Fitting::fits))]
+fn fitting_number(numeral: Numeral) -> Option<Frac>
+    requires bounded { IsBounded numeral }
+    ensures value { result ≡ fitting (numeral_value numeral) }
+{
+    match evaluate(numeral) {
+        Ok(value) => Some(value),
+        Err(_) => None,
+    }
+}
+
+/// The number in front, where it fits, and what stands behind it.
+#[tactic(auto, unfolding(crate::specs::Fitting::number_value_at))]
+pub fn number_value_at(bytes: &[u8]) -> Option<(Option<Frac>, &[u8])>
+    ensures read { option_map (λ x. (x.0, x.1.now)) result ≡ number_value_in bytes.now }
+{
+    match number_at(bytes) {
+        Some((numeral, rest)) => Some((fitting_number(numeral), rest)),
+        None => None,
     }
 }
 

@@ -1,7 +1,8 @@
 //! Parts that several readers share.
 ghost use Rattle.std.specs.Prelude.{◌≡◌, ◌<◌, ℕ, Bool, [], ◌∷◌, Option, Some, IfSome, option_map};
 ghost use Rattle.mob_language.specs.Language.{is_blank as blank};
-ghost use Rattle.mob_language.specs.Readers.{TextReader, all_of, split_while, maybe_of, word_at, within_blanks_at};
+ghost use Rattle.mob_language.specs.Readers.{TextReader, all_of, spaced_at as spaced_in, split_while, maybe_of, word_at, within_blanks_at};
+ghost use Rattle.mob_numeral.specs.Blanks.{some_blanks_at as some_blanks_in};
 
 /// What stands behind the sign, where the bytes begin with it.
 pub fn behind(sign: u8, bytes: &[u8]) -> Option<&[u8]>
@@ -50,6 +51,29 @@ pub fn blanks(bytes: &[u8]) -> (&[u8], &[u8])
     ensures split { (result.0.now, result.1.now) ≡ split_while blank bytes.now }
 {
     split_while(is_blank, bytes)
+}
+
+/// What stands behind the sign and the blanks on both sides of it.
+pub fn spaced_at(sign: u8, bytes: &[u8]) -> Option<&[u8]>
+    ensures read { option_map (λ rest. (tt, rest.now)) result ≡ spaced_in (sign ∷ []) bytes.now }
+{
+    match blanks(bytes).1 {
+        [first, rest @ ..] if *first == sign => Some(blanks(rest).1),
+        _ => None,
+    }
+}
+
+/// The blanks in front, of which there is one or more, and what stands behind them.
+#[tactic(auto, unfolding(crate::specs::Blanks::some_blanks_at))]
+pub fn some_blanks_at(bytes: &[u8]) -> Option<((), &[u8])>
+    ensures value { option_map (λ x. (x.0, x.1.now)) result ≡ some_blanks_in bytes.now }
+{
+    let (blanks, rest) = blanks(bytes);
+    if 0 < blanks.len() {
+        Some(((), rest))
+    } else {
+        None
+    }
 }
 
 /// All of the bytes, without blanks at their ends, as what a reader of their front finds.

@@ -3,9 +3,10 @@ use Rattle.std.proofs.Common.{◌≡◌, ℕ, [], ◌∷◌, ◌++◌, true, fal
 use Rattle.mob_language.specs.Language.{Text, AreAll, is_blank, is_digit}
 use Rattle.mob_language.proofs.Exact.{many_again, many_stops}
 use Rattle.mob_numeral.specs.NumberReaders.{digits_at}
+use Rattle.mob_numeral.specs.Blanks.{is_some_text, some_blanks_at}
 use Rattle.mob_scalar.specs.CalendarReaders.{fixed_at}
-use Rattle.mob_scalar.specs.Moment.{is_t, is_some_text}
-use Rattle.mob_scalar.specs.MomentReaders.{two_digits_below_at, clock_at, some_blanks_at, t_at, gap_at, time_at}
+use Rattle.mob_scalar.specs.Moment.{is_t}
+use Rattle.mob_scalar.specs.MomentReaders.{two_digits_below_at, clock_at, t_at, gap_at, time_at}
 use Rattle.mob_scalar.proofs.MomentExact.{moment_on, Closes}
 
 -- a byte that goes on no moment

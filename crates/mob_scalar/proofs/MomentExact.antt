@@ -1,20 +1,22 @@
 -- The reader of moments reads exactly the texts of moments.
-use Rattle.std.proofs.Common.{◌≡◌, ℕ, suc, [], ◌∷◌, length, Bool, true, false, Option, None, refl, sym, ap, subst, ◌∙◌, arith, rules, codes}
+use Rattle.std.proofs.Common.{◌≡◌, ℕ, suc, [], ◌∷◌, length, Bool, true, false, Option, None, refl, sym, ap, ◌∙◌, arith, rules, codes}
 use Rattle.std.specs.Prelude.{◌||◌, nat_eq}
 use Rattle.std.proofs.lemmas.Bool.{eqb-true}
-use Rattle.mob_language.specs.Language.{Text, Language, ◌▷◌, Maybe, Means, Where, Word, OneOf, ManyOf, behind, is_blank, is_digit, is_number_sign}
+use Rattle.mob_language.specs.Language.{Text, Language, ◌▷◌, Maybe, Means, Where, Word, OneOf, behind, is_blank, is_digit, is_number_sign}
 use Rattle.mob_language.specs.Readers.{TextReader, then_at, maybe_at, word_at, behind_at}
-use Rattle.mob_language.proofs.Exact.{Exact, Stops, then_exact, maybe_exact, means_exact, where_exact, one_exact, word_exact, many_exact, many_stops}
+use Rattle.mob_language.proofs.Exact.{Exact, Stops, then_exact, maybe_exact, means_exact, where_exact, one_exact, word_exact, many_stops}
 use Rattle.mob_language.proofs.Heads.{NoHead, Apart, Nothing, HasByte, exact_less, stops_less, stops_both, then_head, word_then_head, one_then_head, or_head, maybe_head, means_head, where_head, word_head, one_head, many_head, one_nothing, word_nothing, then_nothing, means_nothing, where_nothing, or_nothing, then_stops, after_any, maybe_stops, or_stops, then_byte, means_byte, where_byte, then_byte_stops, byte_head, one_byte, or_byte}
 use Rattle.mob_numeral.specs.declared.numeral.Figures.{Figures}
+use Rattle.mob_numeral.specs.Blanks.{some_blanks, some_blanks_at}
+use Rattle.mob_numeral.proofs.SomeBlanks.{some_blanks_exact, some_blanks_byte}
 use Rattle.mob_scalar.specs.declared.stamp.Part.{Part}
 use Rattle.mob_scalar.specs.declared.stamp.Offset.{Offset}
 use Rattle.mob_numeral.specs.Figures.{digits}
 use Rattle.mob_numeral.specs.NumberReaders.{digits_at}
 use Rattle.mob_scalar.specs.Calendar.{has_count, number_in, fixed, civil_of, is_civil, date}
 use Rattle.mob_scalar.specs.CalendarReaders.{fixed_at, dash_at, date_at}
-use Rattle.mob_scalar.specs.Moment.{is_below, two_digits_below, point_part, is_point_part, fraction_part, is_fraction_part, part, clock_of, clock, offset_of, utc, is_z, zone, is_t, is_some_text, gap, time_of, time, stamp_of, is_in_years, moment}
-use Rattle.mob_scalar.specs.MomentReaders.{two_digits_below_at, colon_at, decimals_at, below_at, quotient_at, second_part_at, seconds_at, clock_at, z_at, hours_at, zone_at, some_blanks_at, t_at, gap_at, time_at, moment_at}
+use Rattle.mob_scalar.specs.Moment.{is_below, two_digits_below, point_part, is_point_part, fraction_part, is_fraction_part, part, clock_of, clock, offset_of, utc, is_z, zone, is_t, gap, time_of, time, stamp_of, is_in_years, moment}
+use Rattle.mob_scalar.specs.MomentReaders.{two_digits_below_at, colon_at, decimals_at, below_at, quotient_at, second_part_at, seconds_at, clock_at, z_at, hours_at, zone_at, t_at, gap_at, time_at, moment_at}
 use Rattle.mob_numeral.proofs.NumberExact.{digits_base, left, right}
 
 same : (c : ℕ) → is_digit c ≡ false → is_digit c ≡ false
@@ -219,11 +221,11 @@ unfolding hours_language
 zone_head = or_head (means_head (one_head z_apart)) (hours_head clock_on sign_apart)
 
 blanks_language : Language Unit
-blanks_language = Means (λ (c : Text). tt) (Where is_some_text (ManyOf is_blank))
+blanks_language = some_blanks
 
 blanks_exact : Exact blanks_language some_blanks_at (Stops is_blank)
-unfolding blanks_language some_blanks_at
-blanks_exact = means_exact (λ (c : Text). tt) (where_exact is_some_text (many_exact is_blank))
+unfolding blanks_language
+blanks_exact = some_blanks_exact
 
 blanks_none : Nothing some_blanks_at is_blank
 unfolding some_blanks_at
@@ -272,13 +274,7 @@ time_exact = means_exact time_of (then_byte_stops gap_exact
 
 blanks_byte : HasByte blanks_language
 unfolding blanks_language
-blanks_byte = means_byte (λ (c : Text). tt) some_byte
-  where
-    none : is_some_text [] ≡ true → ⊥
-    none h = absurd cc
-
-    some_byte : HasByte (Where is_some_text (ManyOf is_blank))
-    some_byte text v said e = none (subst (λ (t : Text). is_some_text t ≡ true) (sym said.said.is ∙ e) said.holds)
+blanks_byte = some_blanks_byte
 
 time_head : NoHead time is_digit
 unfolding blanks_language

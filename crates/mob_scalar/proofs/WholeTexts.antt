@@ -1,15 +1,17 @@
 -- Whole texts of moments and truth values, with blanks at their ends, are read exactly.
-use Rattle.std.proofs.Common.{◌≡◌, ℕ, [], ◌∷◌, ◌++◌, Bool, true, Some, None, refl, sym, subst, ◌∙◌, rules}
+use Rattle.std.proofs.Common.{◌≡◌, ℕ, ℤ, [], ◌∷◌, ◌++◌, Bool, true, Some, None, refl, sym, subst, ◌∙◌, rules}
 use Rattle.std.specs.Char.{is_ascii_alphabetic}
 use Rattle.mob_language.specs.Language.{Text, Maybe, Where, ManyOf, AreAll, is_blank, within_blanks, is_digit}
 use Rattle.mob_language.specs.Readers.{within_blanks_at}
 use Rattle.mob_language.proofs.Exact.{Exact, Stops, means_exact, where_exact, many_exact, many_again}
 use Rattle.mob_language.proofs.Heads.{NoHead, Apart, HasByte, IsEnd, means_head, where_head, many_head, byte_head, means_byte, then_byte, where_byte, within_exact, blanks_stop}
 use Rattle.mob_numeral.specs.NumberReaders.{digits_at}
+use Rattle.mob_numeral.specs.Blanks.{is_some_text, some_blanks_at}
 use Rattle.mob_scalar.specs.Calendar.{date, fixed, civil_of, is_civil}
 use Rattle.mob_scalar.specs.CalendarReaders.{fixed_at}
-use Rattle.mob_scalar.specs.Moment.{moment, time, stamp_of, is_in_years, is_some_text}
-use Rattle.mob_scalar.specs.MomentReaders.{moment_at, time_at, clock_at, two_digits_below_at, gap_at, some_blanks_at}
+use Rattle.mob_scalar.specs.Moment.{moment, time, stamp_of, is_in_years}
+use Rattle.mob_scalar.specs.MomentReaders.{moment_at, time_at, clock_at, two_digits_below_at, gap_at}
+use Rattle.mob_scalar.specs.Moments.{fitting_instant, moment_value, moment_value_at}
 use Rattle.mob_scalar.specs.Truth.{truth, truth_at, is_truth, is_word_true}
 use Rattle.mob_scalar.proofs.MomentExact.{Closes, moment_exact, moment_on, fixed_byte, nothing_closes}
 
@@ -62,6 +64,17 @@ blanks_close (b ∷ bs) each = record {
 
 pub moment_whole : Exact (within_blanks moment) (within_blanks_at moment_at) IsEnd
 moment_whole = within_exact moment_exact moment_blank moment_byte blanks_close
+
+-- a moment for the instant that it stands for, where it fits
+pub moment_value_exact : (epoch : ℤ) → Exact (moment_value epoch) (moment_value_at epoch) Closes
+unfolding moment_value_at
+moment_value_exact epoch = means_exact (fitting_instant epoch) moment_exact
+
+pub moment_value_blank : (epoch : ℤ) → NoHead (moment_value epoch) is_blank
+moment_value_blank epoch = means_head moment_blank
+
+pub moment_value_byte : (epoch : ℤ) → HasByte (moment_value epoch)
+moment_value_byte epoch = means_byte (fitting_instant epoch) moment_byte
 
 -- ---- truth values
 

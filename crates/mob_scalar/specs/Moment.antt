@@ -1,9 +1,10 @@
 -- The texts of moments.
-use Rattle.std.specs.Prelude.{ℕ, ◌+◌, ◌*◌, ◌^◌, ◌<◌, length, codes, Bool, false, ◌&&◌, ◌||◌, cond, nat_le, nat_lt, nat_eq, Option, Some, None, ℤ, pos, neg_ℤ, ◌+ℤ◌, ◌-ℤ◌, ◌*ℤ◌}
+use Rattle.std.specs.Prelude.{ℕ, ◌+◌, ◌*◌, ◌^◌, ◌<◌, codes, Bool, false, ◌&&◌, ◌||◌, cond, nat_le, nat_lt, nat_eq, Option, Some, None, ℤ, pos, neg_ℤ, ◌+ℤ◌, ◌-ℤ◌, ◌*ℤ◌}
 use Rattle.std.specs.Int.Signed.{le_z}
 use Rattle.mob_ratio.specs.Ratio.{Ratio, over, whole, ◌+ℚ◌}
-use Rattle.mob_language.specs.Language.{Text, Language, ◌▷◌, ◌∣◌, Maybe, Means, Where, Word, OneOf, ManyOf, behind, is_blank, is_number_sign}
+use Rattle.mob_language.specs.Language.{Language, ◌▷◌, ◌∣◌, Maybe, Means, Where, Word, OneOf, behind, is_number_sign}
 use Rattle.mob_numeral.specs.declared.numeral.Figures.{Figures}
+use Rattle.mob_numeral.specs.Blanks.{some_blanks}
 use Rattle.mob_scalar.specs.declared.civil.Civil.{Civil}
 use Rattle.mob_scalar.specs.declared.stamp.Part.{Part}
 use Rattle.mob_scalar.specs.declared.stamp.Clock.{Clock}
@@ -77,12 +78,9 @@ zone = Means (λ (c : ℕ). utc) (OneOf is_z) ∣ Means offset_of (OneOf is_numb
 abbrev pub is_t : ℕ → Bool
 is_t c = nat_eq c 84 || nat_eq c 116
 
-abbrev pub is_some_text : Text → Bool
-is_some_text text = nat_lt 0 (length text)
-
 -- one blank or more, or a T
 abbrev pub gap : Language Unit
-gap = Means (λ (c : Text). tt) (Where is_some_text (ManyOf is_blank)) ∣ Means (λ (c : ℕ). tt) (OneOf is_t)
+gap = some_blanks ∣ Means (λ (c : ℕ). tt) (OneOf is_t)
 
 abbrev pub zone_of : Option Offset → Offset
 zone_of None = utc

@@ -1,15 +1,16 @@
 -- The readers of the languages of moments.
 use Rattle.std.specs.Prelude.{ℕ, codes, Option, Some}
-use Rattle.mob_language.specs.Language.{Text, is_blank, is_number_sign}
-use Rattle.mob_language.specs.Readers.{TextReader, ◌>>=◌, then_at, or_at, maybe_at, means_at, where_at, word_at, one_at, many_at, behind_at}
+use Rattle.mob_language.specs.Language.{Text, is_number_sign}
+use Rattle.mob_language.specs.Readers.{TextReader, ◌>>=◌, then_at, or_at, maybe_at, means_at, where_at, word_at, one_at, behind_at}
 use Rattle.mob_numeral.specs.declared.numeral.Figures.{Figures}
 use Rattle.mob_scalar.specs.declared.stamp.Part.{Part}
 use Rattle.mob_scalar.specs.declared.stamp.Clock.{Clock}
 use Rattle.mob_scalar.specs.declared.stamp.Offset.{Offset}
 use Rattle.mob_scalar.specs.declared.stamp.Stamp.{Stamp}
 use Rattle.mob_numeral.specs.NumberReaders.{digits_at}
+use Rattle.mob_numeral.specs.Blanks.{some_blanks_at}
 use Rattle.mob_scalar.specs.CalendarReaders.{fixed_at, date_at}
-use Rattle.mob_scalar.specs.Moment.{is_below, point_part, is_point_part, fraction_part, is_fraction_part, clock_of, offset_of, utc, is_z, is_t, is_some_text, time_of, stamp_of, is_in_years}
+use Rattle.mob_scalar.specs.Moment.{is_below, point_part, is_point_part, fraction_part, is_fraction_part, clock_of, offset_of, utc, is_z, is_t, time_of, stamp_of, is_in_years}
 
 unfoldable pub two_digits_below_at : ℕ → TextReader ℕ
 two_digits_below_at limit = where_at (is_below limit) (fixed_at 2)
@@ -43,9 +44,6 @@ hours_at = means_at offset_of (then_at (one_at is_number_sign) (then_at (two_dig
 
 unfoldable pub zone_at : TextReader Offset
 zone_at = or_at z_at hours_at
-
-unfoldable pub some_blanks_at : TextReader Unit
-some_blanks_at = means_at (λ (c : Text). tt) (where_at is_some_text (many_at is_blank))
 
 unfoldable pub t_at : TextReader Unit
 t_at = means_at (λ (c : ℕ). tt) (one_at is_t)

@@ -7,6 +7,7 @@ use Rattle.std.specs.Prelude.{◌≡◌, true, ℕ, zero, suc, ◌*◌, ◌-◌,
 use Rattle.std.specs.Fmt.{decimal}
 use Rattle.std.specs.Int.{int_div_euclid, int_rem_euclid}
 use Rattle.mob_ratio.specs.Ratio.{Ratio}
+use Rattle.mob_frac.specs.Fits.{Fits}
 use Rattle.mob_language.specs.Language.{Text}
 use Rattle.mob_scalar.specs.declared.civil.Civil.{Civil}
 use Rattle.mob_scalar.specs.Calendar.{date_of}
@@ -78,6 +79,11 @@ second_of epoch q = whole_seconds q +ℤ epoch *ℤ pos 86400
 -- the instant q lies in the years 0001 to 9999
 abbrev pub HasDate : ℤ → Ratio → Type 0
 HasDate epoch q = is_year_second (second_of epoch q) ≡ true
+
+-- the instant fits, and lies in the years 0001 to 9999
+pub record IsDated (day : ℤ) (t : Ratio) : Type 0 where
+  pub fits : Fits t
+  pub dated : HasDate day t
 
 -- the text of the instant q, in seconds since midnight UTC of the epoch's day
 unfoldable pub moment_text : ℤ → Ratio → Text

@@ -1,10 +1,13 @@
--- The form of moments: a moment, with blanks at its ends.
-use Rattle.std.specs.Prelude.{◌≡◌, ℤ}
+-- The form of moments: a moment, with blanks at its ends; and moments for the instants that they stand for, where these fit.
+use Rattle.std.specs.Prelude.{◌≡◌, Option, ℤ}
 use Rattle.mob_ratio.specs.Ratio.{Ratio}
 use Rattle.mob_frac.specs.Fits.{Fits}
-use Rattle.mob_language.specs.Language.{within_blanks}
+use Rattle.mob_language.specs.Language.{Language, Means, within_blanks}
+use Rattle.mob_language.specs.Readers.{TextReader, means_at}
+use Rattle.mob_numeral.specs.Fitting.{fitting}
 use Rattle.mob_scalar.specs.declared.stamp.Stamp.{Stamp}
 use Rattle.mob_scalar.specs.Moment.{moment, instant}
+use Rattle.mob_scalar.specs.MomentReaders.{moment_at}
 use Rattle.mob_numeral.specs.Verdict.{TextForm}
 
 abbrev pub moments : ℤ → TextForm Stamp Ratio
@@ -15,3 +18,14 @@ moments epoch = record {
   unsound = λ s. ⊥;
   means = λ s q. q ≡ instant epoch s;
 }
+
+-- the instant of a moment, where it fits
+abbrev pub fitting_instant : ℤ → Stamp → Option Ratio
+fitting_instant epoch s = fitting (instant epoch s)
+
+-- the texts of moments, for the instants that they stand for where these fit
+abbrev pub moment_value : ℤ → Language (Option Ratio)
+moment_value epoch = Means (fitting_instant epoch) moment
+
+unfoldable pub moment_value_at : ℤ → TextReader (Option Ratio)
+moment_value_at epoch = means_at (fitting_instant epoch) moment_at

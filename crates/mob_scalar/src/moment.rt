@@ -1,12 +1,13 @@
 //! The instants that moments stand for.
-ghost use Rattle.std.specs.Prelude.{◌≡◌, ◌<◌, ◌^◌, ℤ, pos, nat_abs, ◌*ℤ◌, ◌-ℤ◌, Option, Some, None, IfSome, true, ◌≢◌, Err};
+ghost use Rattle.std.specs.Prelude.{◌≡◌, ◌<◌, ◌^◌, ℤ, pos, nat_abs, ◌*ℤ◌, ◌-ℤ◌, option_map, Option, Some, None, IfSome, true, ◌≢◌, Err};
 ghost use Rattle.mob_frac.specs.Fits.{IsExact};
 ghost use Rattle.mob_ratio.specs.Ratio.{whole, over, ◌+ℚ◌};
+ghost use Rattle.mob_numeral.specs.Fitting.{fitting};
 ghost use Rattle.mob_language.specs.Readers.{all_of, within_blanks_at};
 ghost use Rattle.mob_scalar.specs.Calendar.{is_civil as civil};
 ghost use Rattle.mob_scalar.specs.Moment.{instant, IsPartSmall};
 ghost use Rattle.mob_scalar.specs.MomentReaders.{moment_at as moment_in};
-ghost use Rattle.mob_scalar.specs.Moments.{moments};
+ghost use Rattle.mob_scalar.specs.Moments.{moments, moment_value_at as moment_value_in};
 ghost use Rattle.mob_numeral.specs.declared.fault.ReadText.TheVariants.{NoMemory};
 ghost use Rattle.mob_numeral.specs.Verdict.{Lit};
 
@@ -52,6 +53,30 @@ pub fn place(stamp: Stamp, epoch: &Epoch) -> Result<Frac, Overflow>
     ensures exact { IsExact (instant epoch.now stamp) result }
 {
     plus_part(since(seconds_of(stamp), epoch), stamp.clock.part)
+}
+
+/// The instant of a moment. None where it does not fit.
+#[tactic(auto, unfolding(mob_numeral::specs::Fitting::fits))]
+pub fn instant_of(stamp: Stamp, epoch: &Epoch) -> Option<Frac>
+    requires date { civil stamp.date ≡ true }
+    requires part { IsPartSmall stamp.clock.part }
+    ensures value { result ≡ fitting (instant epoch.now stamp) }
+{
+    match place(stamp, epoch) {
+        Ok(instant) => Some(instant),
+        Err(_) => None,
+    }
+}
+
+/// The instant of the moment in front, where it fits, and what stands behind it.
+#[tactic(auto, unfolding(crate::specs::Moments::moment_value_at))]
+pub fn moment_value_at<'a>(epoch: &Epoch, bytes: &'a [u8]) -> Option<(Option<Frac>, &'a [u8])>
+    ensures read { option_map (λ x. (x.0, x.1.now)) result ≡ moment_value_in epoch.now bytes.now }
+{
+    match moment_at(bytes) {
+        Some((stamp, rest)) => Some((instant_of(stamp, epoch), rest)),
+        None => None,
+    }
 }
 
 /// All of the bytes, as a moment with blanks at its ends.

@@ -2,10 +2,10 @@
 ghost use Rattle.std.specs.Prelude.{◌≡◌, ◌<◌, ◌^◌, option_map, ℤ, pos, nat_abs, ◌*ℤ◌, ◌+ℤ◌, Option, Some, None, IfSome, true};
 ghost use Rattle.mob_scalar.specs.Calendar.{is_civil as civil};
 ghost use Rattle.mob_scalar.specs.Moment.{stamp_of as stamp_made, clock_of as clock_made, offset_of as offset_made, zone_of as zone_made, is_in_years as in_years, seconds, shift as moved};
-ghost use Rattle.mob_scalar.specs.MomentReaders.{two_digits_below_at as up_to_in, colon_at as colon_in, decimals_at as decimals_in, below_at as below_in, quotient_at as quotient_in, second_part_at, seconds_at as seconds_in, clock_at as clock_in, z_at as z_in, hours_at as hours_in, after_sign_in, zone_at as zone_in, some_blanks_at, t_at as t_in, gap_at as gap_in, time_at as time_in, moment_at as moment_in};
+ghost use Rattle.mob_scalar.specs.MomentReaders.{two_digits_below_at as up_to_in, colon_at as colon_in, decimals_at as decimals_in, below_at as below_in, quotient_at as quotient_in, second_part_at, seconds_at as seconds_in, clock_at as clock_in, z_at as z_in, hours_at as hours_in, after_sign_in, zone_at as zone_in, t_at as t_in, gap_at as gap_in, time_at as time_in, moment_at as moment_in};
 
 use crate::civil::{Civil, date_at, day_of, fixed_at};
-use mob_numeral::{Figures, behind, blanks, digits_at, maybe, ten_to};
+use mob_numeral::{Figures, behind, digits_at, maybe, some_blanks_at, ten_to};
 
 /// A part of a second, `numerator / denominator`.
 #[derive(Clone, Copy, Debug, PartialEq, Eq)]
@@ -238,18 +238,6 @@ fn zone_or_utc(zone: Option<Offset>) -> Offset
             seconds: 0,
         },
         Some(offset) => offset,
-    }
-}
-
-#[tactic(auto, unfolding(crate::specs::MomentReaders::some_blanks_at))]
-fn some_blanks_at(bytes: &[u8]) -> Option<((), &[u8])>
-    ensures value { option_map (λ x. (x.0, x.1.now)) result ≡ some_blanks_at bytes.now }
-{
-    let (blanks, rest) = blanks(bytes);
-    if 0 < blanks.len() {
-        Some(((), rest))
-    } else {
-        None
     }
 }
 

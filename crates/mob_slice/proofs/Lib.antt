@@ -1,3 +1,4 @@
+pub mod Bisection
 pub mod Cuts
 pub mod Examples
 pub mod Firsts

@@ -6,8 +6,9 @@ use Rattle.mob_language.specs.Language.{Text}
 use Rattle.mob_slice.specs.declared.slice.Slice.{Slice}
 use Rattle.mob_slice.specs.CourseOf.{CourseOf}
 use Rattle.mob_written.specs.Neighbours.{all_neighbours}
-use Rattle.mob_written.specs.Printed.{Style, is_long, shares_group, start_text, end_text, opening_text, closing_text, with_commas, instants_of, group_text, groups_of, put_in_group, groups_text, in_braces}
-use Rattle.mob_written.specs.FromLeft.{end_part, text_behind, more_starts, all_share_group, is_one_group}
+use Rattle.mob_scalar.specs.Brackets.{with_commas, in_braces}
+use Rattle.mob_written.specs.Printed.{Style, is_long, shares_group, start_text, end_text, opening_text, closing_text, instants_of, group_text, groups_of, put_in_group, groups_text}
+use Rattle.mob_written.specs.FromLeft.{end_part, text_behind, all_share_group, is_one_group}
 use Rattle.mob_written.proofs.Small.{false_true, cons_nil}
 
 -- a group without its opening bracket
@@ -152,18 +153,3 @@ groups_done style slices first last rest i old opened started now new is le open
     let none = drop_all i rest le in
     let done = rw none at written in
     ends ∙ done ∙ rw (start, opens, is, groups-from-left style first rest) (simp append_assoc)
-
--- the starts of slices, with a comma between each two
-starts_more : {C B : Type 0} (style : Style C B) (s : Slice C) (rest : List (Slice C)) → with_commas (map (start_text style) (s ∷ rest)) ≡ start_text style s ++ more_starts style rest
-starts_more style s [] = sym (append-nil (start_text style s))
-starts_more style s (r ∷ rest) =
-    ap (λ (x : Text). start_text style s ++ codes ", " ++ x) (starts_more style r rest) ∙ simp append_assoc
-
-pub starts_done : {C B : Type 0} (style : Style C B) (slices : List (Slice C)) (first : Slice C) (rest : List (Slice C)) (i : ℕ) (old started now : Text)
-    → slices ≡ first ∷ rest → length rest ≤ i → started ≡ old ++ start_text style first
-    → now ++ more_starts style (drop i rest) ≡ started ++ more_starts style rest
-    → now ≡ old ++ with_commas (map (start_text style) slices)
-starts_done style slices first rest i old started now is le start written =
-    let none = drop_all i rest le in
-    let done = rw none at written in
-    sym (append-nil now) ∙ done ∙ rw (start, is, starts_more style first rest) (simp append_assoc)

@@ -1,16 +1,17 @@
 -- The readers of temporal literals read exactly their texts, over any exact reader of values.
-use Rattle.std.proofs.Common.{◌≡◌, ℕ, ℤ, [], ◌∷◌, ◌++◌, map, Bool, true, false, List, Option, Some, None, refl, sym, ap, subst, ◌∙◌, append_assoc, rules, codes}
+use Rattle.std.proofs.Common.{◌≡◌, ℕ, ℤ, [], ◌∷◌, ◌++◌, map, Bool, false, List, Option, Some, None, refl, sym, ap, subst, ◌∙◌, append_assoc, rules}
 use Rattle.std.specs.Prelude.{◌&&◌, ◌||◌, not, nat_eq}
-use Rattle.mob_language.specs.Language.{Text, Language, ◌▷◌, ◌∣◌, Means, Word, AreAll, Separated, blanks, is_blank, in_middle}
+use Rattle.mob_language.specs.Language.{Text, Language, ◌∣◌, Means, Separated, blanks, is_blank, in_middle}
 use Rattle.mob_language.specs.Readers.{TextReader, ◌>>=◌, means_at, separated_at, items_at}
-use Rattle.mob_language.proofs.Exact.{Exact, Stops, Any, bind_some, then_exact, or_exact, means_exact, word_exact, one_exact, many_exact, many_again}
-use Rattle.mob_language.proofs.Heads.{NoHead, Apart, HasByte, stops_less, byte_stops, means_head, one_head, or_head, then_byte, means_byte, or_byte, then_byte_stops, word_then_head, one_then_head, byte_head, one_byte, word_byte, spaced_exact, IsEnd, within_exact}
+use Rattle.mob_language.proofs.Exact.{Exact, Stops, Any, bind_some, then_exact, or_exact, means_exact}
+use Rattle.mob_language.proofs.Heads.{NoHead, Apart, HasByte, byte_stops, means_head, or_head, then_byte, means_byte, or_byte, then_byte_stops, word_then_head, one_then_head, byte_head, one_byte, word_byte, spaced_exact, IsEnd, within_exact}
 use Rattle.mob_language.proofs.Lists.{separated_exact}
 use Rattle.mob_scalar.proofs.MomentExact.{Closes, moment_exact}
-use Rattle.mob_numeral.proofs.WholeTexts.{back_nil, front_nil}
+use Rattle.mob_numeral.proofs.WholeTexts.{back_nil}
 use Rattle.mob_scalar.proofs.WholeTexts.{moment_blank, moment_byte, blanks_close}
-use Rattle.mob_scalar.proofs.Closing.{Ends, sign_closes}
-use Rattle.mob_written.specs.Literal.{at_sign, comma, noted_of, noted, is_open, is_close, opening, closing, sequence_of, sequence, alone, members, braced, one_sequence, one_instant, literal, Prefixed, temporal, at_sign_at, comma_at, noted_at, opening_at, closing_at, instants_at, sequence_at, sequences_at, members_at, open_brace_at, close_brace_at, braced_at, temporal_literal_at, with_sequences, prefixed_at, temporal_at}
+use Rattle.mob_scalar.specs.Brackets.{comma, is_open, closing, opening_at, open_brace_at}
+use Rattle.mob_scalar.proofs.BracketsExact.{comma_exact, opening_exact, closing_exact, comma_byte, head_less, list_head, list_byte, ListEnds, comma_closes, closing_ends, open_brace_exact, close_brace_exact, close_brace_ends, NoComma, regrouped}
+use Rattle.mob_written.specs.Literal.{at_sign, noted_of, noted, sequence_of, sequence, alone, members, braced, one_sequence, one_instant, literal, Prefixed, temporal, at_sign_at, noted_at, instants_at, sequence_at, sequences_at, members_at, braced_at, temporal_literal_at, with_sequences, prefixed_at, temporal_at}
 use Rattle.mob_written.specs.declared.written.Prefixes.{Prefixes}
 use Rattle.mob_written.specs.declared.written.Sequence.{Sequence}
 use Rattle.mob_written.specs.declared.written.Literal.{Literal}
@@ -18,37 +19,15 @@ use Rattle.mob_written.specs.Prefix.{remaining, says_step, begins_prefix, prefix
 use Rattle.mob_written.proofs.Prefixes.{pair_is, prefixes_stop, prefixes_read, prefixes_sound, step_said}
 use Rattle.mob_written.specs.ValueText.{IsValueText, begins_no_value}
 
-close_blank : Apart is_close is_blank
-close_blank c e = search rules
-
 at_exact : Exact at_sign at_sign_at (Stops is_blank)
 unfolding at_sign_at
 at_exact = spaced_exact 64 [] refl
-
-comma_exact : Exact comma comma_at (Stops is_blank)
-unfolding comma_at
-comma_exact = spaced_exact 44 [] refl
-
-opening_exact : Exact opening opening_at (Stops is_blank)
-unfolding opening_at
-opening_exact = means_exact (λ (v : ℕ × Text). v.0) (then_exact {F = Any} (one_exact is_open) (many_exact is_blank) (λ text rest v said after. tt))
-
-closing_exact : Exact closing closing_at Any
-unfolding closing_at
-closing_exact = means_exact (λ (v : Text × ℕ). v.1) (then_byte_stops (many_exact is_blank) (one_exact is_close) (one_head close_blank) (one_byte is_close))
-
-comma_byte : HasByte comma
-comma_byte = means_byte (λ (v : Text × (Unit {0} × Text)). tt) (λ text v said e.
-    then_byte blanks (word_byte 44 []) said.back v.1 said.second (back_nil said.front said.back (sym said.whole ∙ e)))
 
 pub noted_exact : {B : Type 0} (day : ℤ) {value : Language (Option B)} {reader : TextReader (Option B)} {F : Text → Type 0} → IsValueText value reader F → Exact (noted day value) (noted_at day reader) Closes
 unfolding noted_at
 noted_exact {B} day {value} {reader} {F} v = means_exact (noted_of day) (then_exact v.exact
     (then_byte_stops at_exact moment_exact moment_blank moment_byte)
-    (λ text rest w said after. subst F (sym (regroup text said.front said.back rest said.whole)) (v.before_at said.front (said.back ++ rest) w.0 said.first)))
-  where
-    regroup : (text a b rest : Text) → text ≡ a ++ b → text ++ rest ≡ a ++ (b ++ rest)
-    regroup text a b rest e = ap (λ (t : Text). t ++ rest) e ∙ append_assoc a b rest
+    (λ text rest w said after. subst F (sym (regrouped text said.front said.back rest said.whole)) (v.before_at said.front (said.back ++ rest) w.0 said.first)))
 
 -- an entry of a literal: its reader, what it begins with, and that it has a byte
 pub record IsEntry {A : Type 0} (entry : Text → A → Type 0) (reader : TextReader A) : Type 0 where
@@ -71,61 +50,6 @@ mark_open c e = search rules
 
 mark_brace : (c : ℕ) → begins_no_value c ≡ false → nat_eq c 123 ≡ false
 mark_brace c e = search rules
-
-head_less : {A : Type 0} {l : Language A} {test some : ℕ → Bool} → ((c : ℕ) → test c ≡ false → some c ≡ false) → NoHead l test → NoHead l some
-head_less {test = test} {some = some} less h text v said = stops_less test some less text (h text v said)
-
--- a list begins as its first entry does
-list_head : {A : Type 0} (l : Language A) (s : Language (Unit {0})) (test : ℕ → Bool) → NoHead l test → HasByte l → NoHead (Separated l s) test
-list_head l s test h k text [] said = absurd said
-list_head l s test h k text (i ∷ []) said = h text i said
-list_head l s test h k text (i ∷ j ∷ is) said = subst (Stops test) (sym said.3) (byte_stops test said.0 (said.1 ++ said.2) (h said.0 i said.4) (k said.0 i said.4))
-
-list_byte : {A : Type 0} (l : Language A) (s : Language (Unit {0})) → HasByte l → HasByte (Separated l s)
-list_byte l s k text [] said e = absurd said
-list_byte l s k text (i ∷ []) said e = k text i said e
-list_byte l s k text (i ∷ j ∷ is) said e = k said.0 i said.4 (front_nil said.0 (said.1 ++ said.2) (sym said.3 ∙ e))
-
--- what ends a list of entries
-pub record ListEnds (rest : Text) : Type 0 where
-  pub closes : Closes rest
-  pub no_comma : comma_at rest ≡ None
-
--- blanks, a byte, and what follows
-signed_is : (text rest bs back mark after : Text) (c : ℕ) → text ≡ bs ++ back → back ≡ mark ++ after → mark ≡ c ∷ [] → text ++ rest ≡ bs ++ (c ∷ (after ++ rest))
-signed_is text rest bs back mark after c e f g =
-    let k : back ≡ c ∷ after = f ∙ ap (λ (m : Text). m ++ after) g in
-    ap (λ (t : Text). t ++ rest) e ∙ append_assoc bs back rest ∙ ap (λ (t : Text). bs ++ (t ++ rest)) k
-
-comma_ends : Ends 44
-comma_ends = record { moment = refl; blank = refl; digit = refl; t = refl }
-
-comma_closes : (y rest : Text) → comma y tt → Closes (y ++ rest)
-comma_closes y rest said =
-    let s = said.said in
-    subst Closes (sym (signed_is y rest s.front s.back s.second.front s.second.back 44 s.whole s.second.whole s.second.first))
-    (sign_closes s.front 44 (s.second.back ++ rest) (subst (AreAll is_blank) (sym s.first.is) s.first.each) comma_ends)
-
-no_comma_at : (bs : Text) (c : ℕ) (cs : Text) → AreAll is_blank bs → is_blank c ≡ false → nat_eq c 44 ≡ false → comma_at (bs ++ (c ∷ cs)) ≡ None
-unfolding comma_at
-no_comma_at bs c cs each h k = rw (many_again is_blank bs (c ∷ cs) each h, k) refl
-
--- a sign that ends a list, with blanks before it
-sign_ends : (bs : Text) (c : ℕ) (cs : Text) → AreAll is_blank bs → Ends c → nat_eq c 44 ≡ false → ListEnds (bs ++ (c ∷ cs))
-sign_ends bs c cs each h k = record { closes = sign_closes bs c cs each h; no_comma = no_comma_at bs c cs each h.blank k }
-
-close_ends : (c : ℕ) → is_close c ≡ true → Ends c
-close_ends c e = record { moment = search rules; blank = search rules; digit = search rules; t = search rules }
-
-close_no_comma : (c : ℕ) → is_close c ≡ true → nat_eq c 44 ≡ false
-close_no_comma c e = search rules
-
-closing_ends : (text rest : Text) (c : ℕ) → closing text c → ListEnds (text ++ rest)
-closing_ends text rest c said =
-    let s = said.said in
-    let d = said.meant.1 in
-    let is : text ++ rest ≡ s.front ++ (d ∷ rest) = ap (λ (t : Text). t ++ rest) s.whole ∙ append_assoc s.front s.back rest ∙ ap (λ (t : Text). s.front ++ (t ++ rest)) s.second.0 in
-    subst ListEnds (sym is) (sign_ends s.front d rest (subst (AreAll is_blank) (sym s.first.is) s.first.each) (close_ends d s.second.1) (close_no_comma d s.second.1))
 
 pub instants_exact : {A : Type 0} {entry : Language A} {reader : TextReader A} → IsEntry entry reader → Exact (Separated entry comma) (instants_at reader) ListEnds
 unfolding instants_at
@@ -159,9 +83,6 @@ other_blank c e = search rules
 other_brace : (c : ℕ) → not_open c ≡ false → nat_eq c 123 ≡ false
 other_brace c e = search rules
 
-abbrev pub NoComma : Text → Type 0
-NoComma rest = comma_at rest ≡ None
-
 pub sequences_exact : {A : Type 0} {entry : Language A} {reader : TextReader A} → IsEntry entry reader → Exact (Separated (sequence entry) comma) (sequences_at reader) NoComma
 unfolding sequences_at
 sequences_exact {A} {entry} {reader} e = separated_exact (sequence_exact e) comma_exact comma_byte
@@ -188,25 +109,6 @@ members_exact {A} {entry} {reader} e = or_exact (sequences_exact e) (means_exact
     (λ text rest v said after. no_sequences reader (text ++ rest) (byte_stops is_open text rest
     (list_head entry comma is_open (head_less mark_open e.well_begun) e.has_byte text said.meant said.said)
     (list_byte entry comma e.has_byte text said.meant said.said)))
-
-open_brace_exact : Exact (Word (codes "{") ▷ blanks) open_brace_at (Stops is_blank)
-unfolding open_brace_at
-open_brace_exact = then_exact {F = Any} (word_exact (codes "{")) (many_exact is_blank) (λ text rest v said after. tt)
-
-close_brace_exact : Exact (blanks ▷ Word (codes "}")) close_brace_at Any
-unfolding close_brace_at
-close_brace_exact = then_byte_stops (many_exact is_blank) (word_exact (codes "}")) (word_blank) (word_byte 125 [])
-  where
-    word_blank : NoHead (Word (codes "}")) is_blank
-    word_blank text v said = subst (Stops is_blank) (sym said) refl
-
-brace_ends : Ends 125
-brace_ends = record { moment = refl; blank = refl; digit = refl; t = refl }
-
-close_brace_ends : (text rest : Text) (v : Text × Unit {0}) → (blanks ▷ Word (codes "}")) text v → ListEnds (text ++ rest)
-close_brace_ends text rest v s =
-    let is : text ++ rest ≡ s.front ++ (125 ∷ rest) = ap (λ (t : Text). t ++ rest) s.whole ∙ append_assoc s.front s.back rest ∙ ap (λ (t : Text). s.front ++ (t ++ rest)) s.second in
-    subst ListEnds (sym is) (sign_ends s.front 125 rest (subst (AreAll is_blank) (sym s.first.is) s.first.each) brace_ends refl)
 
 members_head : {A : Type 0} {entry : Language A} {reader : TextReader A} → IsEntry entry reader → NoHead (members entry) is_blank
 members_head {entry = entry} e = or_head
@@ -258,9 +160,6 @@ literal_blank {entry = entry} e = or_head (means_head (byte_head _ (word_then_he
 literal_byte : {A : Type 0} {entry : Language A} {reader : TextReader A} → IsEntry entry reader → HasByte (literal entry)
 literal_byte {entry = entry} e = or_byte (means_byte in_middle (then_byte _ (then_byte blanks (word_byte 123 []))))
     (or_byte (means_byte one_sequence (sequence_byte entry)) (means_byte one_instant e.has_byte))
-
-regrouped : (text a b rest : Text) → text ≡ a ++ b → text ++ rest ≡ a ++ (b ++ rest)
-regrouped text a b rest e = ap (λ (t : Text). t ++ rest) e ∙ append_assoc a b rest
 
 said_so : {A : Type 0} (s : Bool) (v : Literal A) → s ≡ v.says_step → ◌≡◌ {A = Literal A} (record { says_step = s; sequences = v.sequences }) v
 said_so s v e = ap (λ (b : Bool). record { says_step = b; sequences = v.sequences }) e

@@ -1,20 +1,13 @@
 -- The reader of prefixes reads exactly the prefixes that are admitted.
-use Rattle.std.proofs.Common.{◌≡◌, ℕ, ◌<◌, length, drop, List, [], ◌∷◌, ◌++◌, Bool, true, false, cond, Option, Some, None, refl, sym, ap, subst, ◌∙◌, append_assoc, append-nil, arith, rules, inl, inr, ◌⊎◌}
+use Rattle.std.proofs.Common.{◌≡◌, ℕ, List, [], ◌∷◌, ◌++◌, Bool, true, false, cond, Option, Some, None, refl, sym, ap, subst, ◌∙◌, append_assoc, append-nil, rules, inl, inr, ◌⊎◌}
 use Rattle.std.specs.Prelude.{◌&&◌, ◌||◌, not, nat_eq}
 use Rattle.std.specs.Char.{to_ascii_lowercase}
 use Rattle.std.proofs.lemmas.Bool.{or_parts, and_parts, and_right}
-use Rattle.std.proofs.Math.Seq.{drop-cons}
 use Rattle.mob_language.specs.Language.{Text, ◌▷◌, AnyCase, is_blank}
-use Rattle.mob_language.specs.Readers.{any_case_at}
 use Rattle.mob_language.proofs.Exact.{Exact, Stops, bind_some, some_is, any_case_exact}
 use Rattle.mob_language.proofs.Heads.{after_any, spaced_exact}
 use Rattle.mob_written.specs.declared.written.Prefixes.{Prefixes}
 use Rattle.mob_written.specs.Prefix.{Prefix, interpolation, reference, prefix_word, prefix_of, admits, without, remaining, ArePrefixes, says_step, is_first, begins_prefix, prefix_at, with_left, one_prefix_at, prefixes_at}
-
--- a word of which a text ends before the last letter
-pub word_left : (word : Text) (i : ℕ) (rest bytes : Text) → i < length word → length rest < 1 → any_case_at (drop i word) rest ≡ any_case_at word bytes → ◌≡◌ {A = Option (Unit {0} × Text)} None (any_case_at word bytes)
-word_left word i [] bytes h short e = sym (rw (drop-cons word i 0 h) refl) ∙ e
-word_left word i (c ∷ cs) bytes h short e = absurd (omega (arith, short))
 
 prefix_exact : (p : Prefix) → Exact (prefix_of p) (prefix_at p) (Stops is_blank)
 unfolding prefix_at

@@ -19,11 +19,6 @@ abbrev pub text_behind : {C B : Type 0} → Style C B → Slice C → List (Slic
 text_behind style s [] = end_part style s
 text_behind style s (r ∷ rest) = between style s r ++ start_text style r ++ text_behind style r rest
 
--- what follows the start of the first of a set
-abbrev pub more_starts : {C B : Type 0} → Style C B → List (Slice C) → Text
-more_starts style [] = []
-more_starts style (r ∷ rest) = codes ", " ++ start_text style r ++ more_starts style rest
-
 -- each of the slices behind s goes on with the group
 abbrev pub all_share_group : {C B : Type 0} → CourseOf C B → Slice C → List (Slice C) → Bool
 all_share_group course s rest = all_neighbours (shares_group course) (s ∷ rest)

@@ -1,4 +1,3 @@
-pub mod Fitting
 pub mod Prefix
 pub mod Literal
 pub mod ValueText

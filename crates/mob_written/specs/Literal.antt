@@ -4,25 +4,23 @@
 -- stand at both ends, and on both sides of each sign that stands outside a value and a moment. An instant that stands alone or in a
 -- set stands for the sequence of that instant alone, so each literal stands for a list of sequences. What may stand before a literal
 -- says whether its sequences have step interpolation.
-use Rattle.std.specs.Prelude.{◌≡◌, ℕ, List, [], ◌∷◌, ◌++◌, map, codes, Bool, true, ◌||◌, ◌&&◌, not, nat_eq, Option, ℤ}
-use Rattle.mob_language.specs.Language.{Text, Language, ◌▷◌, ◌∣◌, Means, Word, OneOf, Separated, blanks, spaced, in_middle, within_blanks}
-use Rattle.mob_language.specs.Readers.{TextReader, ◌>>=◌, then_at, or_at, means_at, word_at, one_at, separated_at, blanks_at, spaced_at, within_blanks_at}
+use Rattle.std.specs.Prelude.{◌≡◌, ℕ, List, [], ◌∷◌, ◌++◌, map, codes, Bool, true, ◌&&◌, not, nat_eq, Option, ℤ}
+use Rattle.mob_language.specs.Language.{Text, Language, ◌▷◌, ◌∣◌, Means, Separated, spaced, in_middle, within_blanks}
+use Rattle.mob_language.specs.Readers.{TextReader, ◌>>=◌, then_at, or_at, means_at, separated_at, spaced_at, within_blanks_at}
 use Rattle.mob_language.proofs.Exact.{Stops}
 use Rattle.mob_scalar.specs.declared.stamp.Stamp.{Stamp}
 use Rattle.mob_scalar.specs.Moment.{moment, instant}
 use Rattle.mob_scalar.specs.MomentReaders.{moment_at}
+use Rattle.mob_scalar.specs.Brackets.{comma, opening, closing, within_braces, comma_at, opening_at, closing_at, open_brace_at, close_brace_at}
 use Rattle.mob_written.specs.declared.written.Noted.{Noted}
 use Rattle.mob_written.specs.declared.written.Sequence.{Sequence}
 use Rattle.mob_written.specs.declared.written.Literal.{Literal}
-use Rattle.mob_written.specs.Fitting.{fitting}
+use Rattle.mob_numeral.specs.Fitting.{fitting}
 use Rattle.mob_written.specs.declared.written.Prefixes.{Prefixes}
 use Rattle.mob_written.specs.Prefix.{Prefix, ArePrefixes, remaining, says_step, begins_prefix, prefixes_at}
 
 abbrev pub at_sign : Language (Unit {0})
 at_sign = spaced (codes "@")
-
-abbrev pub comma : Language (Unit {0})
-comma = spaced (codes ",")
 
 -- the instant of a moment may not fit
 abbrev pub noted_of : {B : Type 0} → ℤ → Option B × (Unit {0} × Stamp) → Noted B
@@ -31,20 +29,6 @@ noted_of day v = record { value = v.0; instant = fitting (instant day v.1.1) }
 -- value@moment
 abbrev pub noted : {B : Type 0} → ℤ → (Text → Option B → Type 0) → Language (Noted B)
 noted day value = Means (noted_of day) (value ▷ (at_sign ▷ moment))
-
-abbrev pub is_open : ℕ → Bool
-is_open c = nat_eq c 91 || nat_eq c 40
-
-abbrev pub is_close : ℕ → Bool
-is_close c = nat_eq c 93 || nat_eq c 41
-
--- an opening bracket; what stands behind it may begin with blanks
-abbrev pub opening : Language ℕ
-opening = Means (λ (v : ℕ × Text). v.0) (OneOf is_open ▷ blanks)
-
--- a closing bracket
-abbrev pub closing : Language ℕ
-closing = Means (λ (v : Text × ℕ). v.1) (blanks ▷ OneOf is_close)
 
 abbrev pub sequence_of : {A : Type 0} → ℕ × (List A × ℕ) → Sequence A
 sequence_of v = record { lower_inc = nat_eq v.0 91; instants = v.1.0; upper_inc = nat_eq v.1.1 93 }
@@ -62,7 +46,7 @@ abbrev pub members : {A : Type 0} → (Text → A → Type 0) → Language (List
 members entry = Separated (sequence entry) comma ∣ Means (map alone) (Separated entry comma)
 
 abbrev pub braced : {A : Type 0} → (Text → A → Type 0) → Language (List (Sequence A))
-braced entry = Means in_middle ((Word (codes "{") ▷ blanks) ▷ (members entry ▷ (blanks ▷ Word (codes "}"))))
+braced entry = within_braces (members entry)
 
 abbrev pub one_sequence : {A : Type 0} → Sequence A → List (Sequence A)
 one_sequence q = q ∷ []
@@ -93,17 +77,8 @@ temporal admitted entry = within_blanks (Prefixed admitted entry)
 unfoldable pub at_sign_at : TextReader (Unit {0})
 at_sign_at = spaced_at (codes "@")
 
-unfoldable pub comma_at : TextReader (Unit {0})
-comma_at = spaced_at (codes ",")
-
 unfoldable pub noted_at : {B : Type 0} → ℤ → TextReader (Option B) → TextReader (Noted B)
 noted_at day value = means_at (noted_of day) (then_at value (then_at at_sign_at moment_at))
-
-unfoldable pub opening_at : TextReader ℕ
-opening_at = means_at (λ (v : ℕ × Text). v.0) (then_at (one_at is_open) blanks_at)
-
-unfoldable pub closing_at : TextReader ℕ
-closing_at = means_at (λ (v : Text × ℕ). v.1) (then_at blanks_at (one_at is_close))
 
 unfoldable pub instants_at : {A : Type 0} → TextReader A → TextReader (List A)
 instants_at entry = separated_at entry comma_at
@@ -116,12 +91,6 @@ sequences_at entry = separated_at (sequence_at entry) comma_at
 
 unfoldable pub members_at : {A : Type 0} → TextReader A → TextReader (List (Sequence A))
 members_at entry = or_at (sequences_at entry) (means_at (map alone) (instants_at entry))
-
-unfoldable pub open_brace_at : TextReader (Unit {0} × Text)
-open_brace_at = then_at (word_at (codes "{")) blanks_at
-
-unfoldable pub close_brace_at : TextReader (Text × Unit {0})
-close_brace_at = then_at blanks_at (word_at (codes "}"))
 
 unfoldable pub braced_at : {A : Type 0} → TextReader A → TextReader (List (Sequence A))
 braced_at entry = means_at in_middle (then_at open_brace_at (then_at (members_at entry) close_brace_at))

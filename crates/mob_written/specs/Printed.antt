@@ -11,6 +11,7 @@ use Rattle.std.specs.List.{list_all}
 use Rattle.mob_ratio.specs.Ratio.{Ratio}
 use Rattle.mob_ratio.specs.Order.{before, same}
 use Rattle.mob_language.specs.Language.{Text}
+use Rattle.mob_scalar.specs.Brackets.{with_commas, in_braces}
 use Rattle.mob_slice.specs.declared.slice.Slice.{Slice}
 use Rattle.mob_slice.specs.CourseOf.{CourseOf}
 
@@ -19,12 +20,6 @@ pub record Style (C B : Type 0) : Type 0 where
   pub course : CourseOf C B
   pub value_text : B → Text
   pub moment_text : Ratio → Text
-
--- the texts with a comma and a space between each two
-abbrev pub with_commas : List Text → Text
-with_commas [] = []
-with_commas (x ∷ []) = x
-with_commas (x ∷ y ∷ ys) = x ++ codes ", " ++ with_commas (y ∷ ys)
 
 abbrev pub instant_text : {C B : Type 0} → Style C B → B → Ratio → Text
 instant_text style v t = style.value_text v ++ codes "@" ++ style.moment_text t
@@ -75,9 +70,6 @@ closing_text (s ∷ r ∷ rest) = closing_text (r ∷ rest)
 
 abbrev pub group_text : {C B : Type 0} → Style C B → List (Slice C) → Text
 group_text style group = opening_text group ++ with_commas (instants_of style group) ++ closing_text group
-
-abbrev pub in_braces : Text → Text
-in_braces text = codes "{" ++ text ++ codes "}"
 
 -- one group alone, or groups in braces
 abbrev pub groups_text : {C B : Type 0} → Style C B → List (List (Slice C)) → Text

@@ -4,7 +4,8 @@ use Rattle.mob_language.specs.Language.{Text, is_blank}
 use Rattle.mob_language.specs.Readers.{TextReader}
 use Rattle.mob_language.proofs.Exact.{Exact}
 use Rattle.mob_language.proofs.Heads.{NoHead, HasByte}
-use Rattle.mob_written.specs.Literal.{at_sign, is_open}
+use Rattle.mob_scalar.specs.Brackets.{is_open}
+use Rattle.mob_written.specs.Literal.{at_sign}
 
 -- a blank, an opening bracket or a brace: no value begins with one
 abbrev pub begins_no_value : ℕ → Bool

@@ -1,25 +1,23 @@
--- The values of the step types as they are written.
+-- The values of the temporal types as they are written.
 use Rattle.std.proofs.Common.{◌≡◌, ℕ, Bool, true, false, Option, Some, refl, rules}
 use Rattle.std.specs.Prelude.{nat_eq}
-use Rattle.std.specs.Char.{is_ascii_alphabetic}
+use Rattle.std.specs.Char.{is_ascii_alphabetic, to_ascii_lowercase}
 use Rattle.mob_ratio.specs.Ratio.{Ratio}
 use Rattle.mob_language.specs.Language.{Text, Language, Means, is_blank, is_digit, is_number_sign, is_exponent_letter}
 use Rattle.mob_language.specs.Readers.{TextReader, means_at}
-use Rattle.mob_language.proofs.Exact.{Stops, means_exact}
+use Rattle.mob_language.proofs.Exact.{Stops, Any, means_exact}
 use Rattle.mob_language.proofs.Heads.{Apart, means_head, means_byte}
-use Rattle.mob_numeral.specs.declared.numeral.Numeral.{Numeral}
-use Rattle.mob_numeral.specs.Number.{number}
-use Rattle.mob_numeral.specs.NumberReaders.{numeral_at}
-use Rattle.mob_numeral.specs.NumberValue.{numeral_value}
 use Rattle.mob_scalar.specs.Truth.{truth, truth_at}
 use Rattle.mob_scalar.specs.Quoted.{text_value, text_value_at, is_plain}
-use Rattle.mob_numeral.proofs.NumberExact.{number_exact, continues}
+use Rattle.mob_numeral.proofs.NumberExact.{continues}
 use Rattle.mob_scalar.proofs.QuotedExact.{Behind, text_value_exact, text_value_head, text_value_byte}
-use Rattle.mob_numeral.proofs.WholeTexts.{number_head, number_byte}
+use Rattle.mob_numeral.proofs.WholeTexts.{number_head, number_value_exact, number_value_byte}
 use Rattle.mob_scalar.proofs.WholeTexts.{truth_exact, truth_head, truth_byte}
 use Rattle.mob_numeral.proofs.BeforeSign.{number_before_at}
 use Rattle.mob_scalar.proofs.BeforeSign.{truth_before_at, text_value_before_at}
-use Rattle.mob_written.specs.Fitting.{fitting}
+use Rattle.mob_numeral.specs.Fitting.{number_value, number_value_at}
+use Rattle.mob_points.specs.Points.{point_value, point_value_at}
+use Rattle.mob_points.proofs.PointsExact.{point_value_exact, point_value_head, point_value_byte}
 use Rattle.mob_written.specs.ValueText.{IsValueText, begins_no_value}
 
 abbrev pub some_value : {B : Type 0} → B → Option B
@@ -51,17 +49,6 @@ truth_values = record {
   has_byte = means_byte some_value truth_byte;
 }
 
--- a number, where it fits
-abbrev pub fitting_value : Numeral → Option Ratio
-fitting_value n = fitting (numeral_value n)
-
--- the values of a tint
-abbrev pub number_value : Language (Option Ratio)
-number_value = Means fitting_value number
-
-unfoldable pub number_value_at : TextReader (Option Ratio)
-number_value_at = means_at fitting_value numeral_at
-
 abbrev pub number_follows : Text → Type 0
 number_follows rest = Stops continues rest
 
@@ -75,15 +62,14 @@ exponents_apart : Apart is_exponent_letter begins_no_value
 exponents_apart c e = search rules
 
 pub number_values : IsValueText number_value number_value_at number_follows
-unfolding number_value_at
 number_values = record {
-  exact = means_exact fitting_value number_exact;
+  exact = number_value_exact;
   before_at = number_before_at;
   well_begun = means_head (number_head begins_no_value signs_apart digits_apart refl refl exponents_apart);
-  has_byte = means_byte fitting_value number_byte;
+  has_byte = number_value_byte;
 }
 
--- a whole number
+-- the values of a tint: a whole number
 abbrev pub is_whole : Ratio → Bool
 is_whole q = nat_eq q.den 1
 
@@ -104,4 +90,19 @@ quoted_values = record {
   before_at = text_value_before_at;
   well_begun = means_head (text_value_head begins_no_value refl plain_apart);
   has_byte = means_byte some_value text_value_byte;
+}
+
+-- the values of a tgeompoint: points, each of which may carry SRID=0; of its own
+letter_s : (c : ℕ) → to_ascii_lowercase c ≡ 115 → begins_no_value c ≡ false
+letter_s c e = search rules
+
+letter_p : (c : ℕ) → to_ascii_lowercase c ≡ 112 → begins_no_value c ≡ false
+letter_p c e = search rules
+
+pub point_values : IsValueText point_value point_value_at Any
+point_values = record {
+  exact = point_value_exact;
+  before_at = λ text rest u said. tt;
+  well_begun = point_value_head begins_no_value letter_s letter_p;
+  has_byte = point_value_byte;
 }

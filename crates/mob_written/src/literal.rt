@@ -1,10 +1,7 @@
 //! Temporal literals, as they are written.
 ghost use Rattle.std.specs.Prelude.{◌≡◌, ℕ, map, option_map, List, [], ◌∷◌, Option, Some, None, IfOk, Bool, true, ◌&&◌, not};
-ghost use Rattle.mob_language.specs.Readers.{TextReader, all_of, means_at, separated_at as separated_in, spaced_at as spaced_in};
-ghost use Rattle.mob_scalar.specs.Calendar.{is_civil};
-ghost use Rattle.mob_scalar.specs.Moment.{instant, IsPartSmall};
-ghost use Rattle.mob_written.specs.Fitting.{fitting};
-ghost use Rattle.mob_written.specs.Literal.{alone as alone_of, one_sequence, one_instant, comma_at as comma_in, noted_at as noted_in, opening_at as opening_in, closing_at as closing_in, instants_at as instants_in, sequence_at as sequence_in, sequences_at as sequences_in, members_at as members_in, braced_at as braced_in, temporal_literal_at, prefixed_at as prefixed_in, temporal_at as temporal_in};
+ghost use Rattle.mob_language.specs.Readers.{all_of, means_at};
+ghost use Rattle.mob_written.specs.Literal.{alone as alone_of, one_sequence, one_instant, noted_at as noted_in, instants_at as instants_in, sequence_at as sequence_in, sequences_at as sequences_in, members_at as members_in, braced_at as braced_in, temporal_literal_at, prefixed_at as prefixed_in, temporal_at as temporal_in};
 ghost use Rattle.mob_written.specs.Prefix.{admitted};
 ghost use Rattle.mob_written.specs.ValueText.{IsValueText};
 
@@ -12,7 +9,9 @@ use crate::prefix::prefixes_at;
 use crate::written::{Literal, Noted, Prefixes, Sequence};
 use mob_frac::Frac;
 use mob_list::items::Items;
-use mob_scalar::{Epoch, Stamp, blanks, moment_at, place};
+use mob_scalar::{
+    Epoch, blanks, closing_at, instant_of, moment_at, opening_at, separated_at, spaced_at,
+};
 use mob_slice::BaseValue;
 use std::alloc::{AllocError, Global};
 
@@ -52,51 +51,6 @@ pub trait WrittenValue {
     ghost exact: { IsValueText shape reader follows };
 }
 
-/// What stands behind the sign and the blanks on both sides of it.
-pub fn spaced_at(sign: u8, bytes: &[u8]) -> Option<&[u8]>
-    ensures read { option_map (λ rest. (tt, rest.now)) result ≡ spaced_in (sign ∷ []) bytes.now }
-{
-    match blanks(bytes).1 {
-        [first, rest @ ..] if *first == sign => Some(blanks(rest).1),
-        _ => None,
-    }
-}
-
-#[tactic(auto, unfolding(crate::specs::Literal::opening_at))]
-fn opening_at(bytes: &[u8]) -> Option<(u8, &[u8])>
-    ensures read { option_map (λ x. (x.0, x.1.now)) result ≡ opening_in bytes.now }
-{
-    match bytes {
-        [91, rest @ ..] => Some((91, blanks(rest).1)),
-        [40, rest @ ..] => Some((40, blanks(rest).1)),
-        _ => None,
-    }
-}
-
-#[tactic(auto, unfolding(crate::specs::Literal::closing_at))]
-fn closing_at(bytes: &[u8]) -> Option<(u8, &[u8])>
-    ensures read { option_map (λ x. (x.0, x.1.now)) result ≡ closing_in bytes.now }
-{
-    match blanks(bytes).1 {
-        [93, rest @ ..] => Some((93, rest)),
-        [41, rest @ ..] => Some((41, rest)),
-        _ => None,
-    }
-}
-
-/// The instant of a moment. None where it does not fit.
-#[tactic(auto, unfolding(crate::specs::Fitting::fits))]
-fn instant_of(stamp: Stamp, epoch: &Epoch) -> Option<Frac>
-    requires date { is_civil stamp.date ≡ true }
-    requires part { IsPartSmall stamp.clock.part }
-    ensures value { result ≡ fitting (instant epoch.now stamp) }
-{
-    match place(stamp, epoch) {
-        Ok(instant) => Some(instant),
-        Err(_) => None,
-    }
-}
-
 /// One value at a moment, and what stands behind it.
 #[tactic(auto, unfolding(crate::specs::Literal::noted_at, crate::specs::Literal::at_sign_at))]
 fn noted_at<'a, T: WrittenValue>(
@@ -120,31 +74,6 @@ fn noted_at<'a, T: WrittenValue>(
         instant: instant_of(stamp, epoch),
     };
     Ok(Some((noted, rest)))
-}
-
-/// Members with commas between, and what stands behind them.
-#[tactic(auto, unfolding(mob_language::specs::Readers::separated_at))]
-fn separated_at<'a, A: Drop, F: Fn(&'a [u8]) -> Result<Option<(A, &'a [u8])>, AllocError>>(
-    alloc: Global,
-    member_at: F,
-    bytes: &'a [u8],
-) -> Result<Option<(Vec<A>, &'a [u8])>, AllocError>
-    requires callable { F.IsAlwaysCallable member_at }
-    ensures read { (reader : TextReader A) → ((text : _) (found : _) → F.post member_at text found → IfOk found (λ o. option_map (λ x. (x.0, x.1.now)) o ≡ reader text.now)) → IfOk result (λ o. option_map (λ x. (x.0.items, x.1.now)) o ≡ separated_in reader comma_in bytes.now) }
-{
-    let mut members = Vec::new(alloc);
-    let mut rest = bytes;
-    for _ in 0..bytes.len() + 1 {
-        let Some((member, after)) = member_at(rest)? else {
-            return Ok(None);
-        };
-        members.push(member)?;
-        match spaced_at(b',', after) {
-            Some(next) => rest = next,
-            None => return Ok(Some((members, after))),
-        }
-    }
-    Ok(None)
 }
 
 type Instants<B> = Vec<Noted<B>>;
@@ -243,7 +172,7 @@ fn members_at<'a, T: WrittenValue>(
     }
 }
 
-#[tactic(auto, unfolding(crate::specs::Literal::braced_at, crate::specs::Literal::open_brace_at, crate::specs::Literal::close_brace_at))]
+#[tactic(auto, unfolding(crate::specs::Literal::braced_at, mob_scalar::specs::Brackets::open_brace_at, mob_scalar::specs::Brackets::close_brace_at))]
 fn braced_at<'a, T: WrittenValue>(
     alloc: Global,
     epoch: &Epoch,

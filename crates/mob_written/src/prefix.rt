@@ -1,27 +1,9 @@
 //! What may stand before a temporal literal.
 ghost use Rattle.std.specs.Prelude.{◌≡◌, option_map};
-ghost use Rattle.mob_language.specs.Readers.{any_case_at as any_case_in};
 ghost use Rattle.mob_written.specs.Prefix.{interpolation, reference, is_first as first_in, prefix_at as prefix_in, one_prefix_at as one_prefix_in, prefixes_at as prefixes_in};
 
-use crate::literal::spaced_at;
 use crate::written::Prefixes;
-
-/// What stands behind a word, whose letters may be small or capital. The word is written in small letters.
-fn any_case_at<'a>(word: &[u8], bytes: &'a [u8]) -> Option<&'a [u8]>
-    ensures read { option_map (λ rest. (tt, rest.now)) result ≡ any_case_in word.now bytes.now }
-{
-    let mut rest = bytes;
-    for letter in word {
-        let [first, after @ ..] = rest else {
-            return None;
-        };
-        if first.to_ascii_lowercase() != *letter {
-            return None;
-        }
-        rest = after;
-    }
-    Some(rest)
-}
+use mob_scalar::{any_case_at, spaced_at};
 
 /// What stands behind `Interp=Step;`.
 #[tactic(auto, unfolding(crate::specs::Prefix::prefix_at))]

@@ -1,7 +1,8 @@
 //! Temporal values, printed.
 ghost use Rattle.std.specs.Prelude.{◌≡◌, ◌++◌, ◌&&◌, List, ℕ, [], ◌∷◌, map, not, OnOk, OnErr, string_bytes};
 ghost use Rattle.std.specs.List.{list_all};
-ghost use Rattle.mob_written.specs.Printed.{instant_text, is_long as long, takes_up as takes_up_in, shares_group, start_text, opening_text, closing_text, group_text, groups_of, groups_text, set_text, moving_text, with_commas};
+ghost use Rattle.mob_scalar.specs.Brackets.{with_commas};
+ghost use Rattle.mob_written.specs.Printed.{instant_text, is_long as long, takes_up as takes_up_in, shares_group, start_text, opening_text, closing_text, group_text, groups_of, groups_text, set_text, moving_text};
 ghost use Rattle.mob_written.specs.FromLeft.{end_part, between as gap, is_one_group};
 ghost use Rattle.mob_written.specs.Style.{style_of};
 ghost use Rattle.mob_slice.specs.CourseOf.{course_of};

@@ -1,18 +1,18 @@
 //! How the values of the temporal types are written and printed.
 ghost use Rattle.std.specs.Prelude.{◌≡◌, Option, IfOk, option_map, false};
-ghost use Rattle.mob_written.specs.Fitting.{fitting};
-ghost use Rattle.mob_numeral.specs.NumberValue.{numeral_value, IsBounded};
 ghost use Rattle.mob_numeral.specs.NumberText.{number_text};
 ghost use Rattle.mob_scalar.specs.Truth.{truth_text};
 ghost use Rattle.mob_scalar.specs.Quoted.{quoted_text};
+ghost use Rattle.mob_points.specs.PointText.{point_text};
 
 use crate::literal::WrittenValue;
 use crate::printing::Printed;
 use mob_frac::Frac;
 use mob_list::text::Text;
+use mob_plane::Point;
+use mob_points::{point_value_at, write_point};
 use mob_scalar::{
-    Numeral, evaluate, number_at, text_value_at, truth_at, write_number, write_text_value,
-    write_truth,
+    number_value_at, text_value_at, truth_at, write_number, write_text_value, write_truth,
 };
 use std::alloc::{AllocError, Global};
 
@@ -52,24 +52,13 @@ impl WrittenValue for Truths {
     ghost exact = { truth_values };
 }
 
-/// A number, where it fits.
-#[tactic(auto, unfolding(crate::specs::Fitting::fits))]
-fn fitting_number(numeral: Numeral) -> Option<Frac>
-    requires bounded { IsBounded numeral }
-    ensures value { result ≡ fitting (numeral_value numeral) }
-{
-    match evaluate(numeral) {
-        Ok(value) => Some(value),
-        Err(_) => None,
-    }
-}
-
 /// The values of a tint: numbers that stand for whole ones.
 pub struct WholeNumbers;
 
 impl WrittenValue for WholeNumbers {
     ghost use Rattle.mob_ratio.specs.Ratio.{Ratio};
-    ghost use Rattle.mob_written.specs.Values.{is_whole, number_value, number_value_at as number_in, number_follows, number_values};
+    ghost use Rattle.mob_numeral.specs.Fitting.{number_value, number_value_at as number_in};
+    ghost use Rattle.mob_written.specs.Values.{is_whole, number_follows, number_values};
 
     type Base = Frac;
 
@@ -85,10 +74,9 @@ impl WrittenValue for WholeNumbers {
 
     ghost has_value = { is_whole };
 
-    #[tactic(auto, unfolding(crate::specs::Values::number_value_at))]
     fn value_at(alloc: Global, bytes: &[u8]) -> Result<Option<(Option<Frac>, &[u8])>, AllocError> {
-        match number_at(bytes) {
-            Some((numeral, rest)) => Ok(Some((fitting_number(numeral), rest))),
+        match number_value_at(bytes) {
+            Some((value, rest)) => Ok(Some((value, rest))),
             None => Ok(None),
         }
     }
@@ -137,6 +125,43 @@ impl WrittenValue for Texts {
     ghost exact = { quoted_values };
 }
 
+/// The values of a tgeompoint: points, each of which may carry `SRID=0;` of its own.
+pub struct Points;
+
+impl WrittenValue for Points {
+    ghost use Rattle.std.specs.Prelude.{true};
+    ghost use Rattle.mob_language.proofs.Exact.{Any};
+    ghost use Rattle.mob_points.specs.Points.{point_value, point_value_at as point_in};
+    ghost use Rattle.mob_written.specs.Values.{any_value, point_values};
+
+    type Base = Point;
+
+    ghost shape = { point_value };
+
+    ghost reader = { point_in };
+
+    const HAS_SRID: bool = true;
+
+    ghost HAS_SRID = { true };
+
+    ghost follows = { Any };
+
+    ghost has_value = { any_value };
+
+    fn value_at(alloc: Global, bytes: &[u8]) -> Result<Option<(Option<Point>, &[u8])>, AllocError> {
+        match point_value_at(bytes) {
+            Some((point, rest)) => Ok(Some((point, rest))),
+            None => Ok(None),
+        }
+    }
+
+    fn has_value(value: &Point) -> bool {
+        true
+    }
+
+    ghost exact = { point_values };
+}
+
 impl Printed for bool {
     ghost text = { truth_text };
 
@@ -158,5 +183,13 @@ impl Printed for Text {
 
     fn write(&self, into: &mut String) -> Result<(), AllocError> {
         write_text_value(self, into)
+    }
+}
+
+impl Printed for Point {
+    ghost text = { point_text };
+
+    fn write(&self, into: &mut String) -> Result<(), AllocError> {
+        write_point(self, into)
     }
 }

@@ -2,7 +2,7 @@ use Rattle.std.proofs.Common.{◌≡◌, false, ◌∷◌, length}
 use Rattle.std.specs.Vec.Iter.{into_iter_items, into_iter_len}
 use Rattle.mob_slice.specs.CourseOf.{course_of}
 use Rattle.mob_literal.specs.Slices.{made}
-use Rattle.mob_literal.proofs.Traversed.{with_list}
+use Rattle.mob_scalar.proofs.Traversed.{with_list}
 use Rattle.mob_literal.proofs.slicing.slices_of.Given as goal
 
 -- the slices that are made, and those that are still made

@@ -2,7 +2,7 @@ use Rattle.std.proofs.Common.{◌≡◌, length}
 use Rattle.std.specs.Vec.Iter.{into_iter_items, into_iter_len}
 use Rattle.mob_slice.specs.CourseOf.{course_of}
 use Rattle.mob_literal.specs.Flat.{made_all}
-use Rattle.mob_literal.proofs.Traversed.{with_list}
+use Rattle.mob_scalar.proofs.Traversed.{with_list}
 use Rattle.mob_literal.proofs.temporal.all_slices.Given as goal
 
 -- those that are made, and those that are still made

@@ -1,0 +1,5 @@
+pub mod SpansExact
+pub mod SpansRead
+pub mod SetsRead
+pub mod SpansAgain
+pub mod OneReadings

@@ -1,0 +1,33 @@
+//! Laws of the texts of spans and span sets: each is a promise without running code.
+ghost use Rattle.std.specs.Prelude.{◌≡◌, ◌≢◌, ◌≤◌, ℤ, List, [], length, true, Ok};
+ghost use Rattle.mob_numeral.specs.Verdict.{HasOneReading, Lit};
+ghost use Rattle.mob_span.specs.Span.{SpanOf, has_instant};
+ghost use Rattle.mob_span.specs.Sets.{IsSpanSet};
+ghost use Rattle.mob_geotext.specs.Spans.{spans, span_sets};
+ghost use Rattle.mob_geotext.specs.SpanText.{span_text, span_set_text};
+ghost use Rattle.mob_geotext.specs.Printable.{HasDatedEnds, HaveDatedEnds};
+
+use crate::noted::NotedSpan;
+use mob_list::laws::crosses_threads;
+
+/// A text has one reading as a span, and one as a span set.
+pub fn one_reading()
+    ensures spans { (day : ℤ) → HasOneReading (spans day) }
+    ensures span_sets { (day : ℤ) → HasOneReading (span_sets day) }
+{}
+
+/// A span that is printed is read again as itself, where its ends lie in the years 0001 to 9999.
+pub fn span_read_again()
+    ensures again { (day : ℤ) (s : SpanOf) → has_instant s ≡ true → HasDatedEnds day s → Lit (spans day) (span_text day s) (Ok s) }
+{}
+
+/// A span set that is printed is read again as itself, where it has a span and at most 100,000 ends, which lie in the years 0001
+/// to 9999.
+pub fn span_set_read_again()
+    ensures again { (day : ℤ) (set : List SpanOf) → set ≢ [] → length set ≤ 50000 → IsSpanSet set → HaveDatedEnds day set → Lit (span_sets day) (span_set_text day set) (Ok set) }
+{}
+
+/// Spans as they are written cross threads.
+pub fn noted_spans_cross_threads() {
+    crosses_threads::<NotedSpan>();
+}

@@ -1,0 +1,15 @@
+//! Texts of points, of spans of time and of span sets, each read exactly and printed.
+#![tactic(auto)]
+
+mod laws;
+mod many;
+mod noted;
+mod printing;
+mod single;
+
+pub use laws::{noted_spans_cross_threads, one_reading, span_read_again, span_set_read_again};
+pub use many::read_span_set;
+pub use mob_points::{one_point, point_read_again, read_point, write_point};
+pub use noted::NotedSpan;
+pub use printing::{write_span, write_span_set};
+pub use single::read_span;

@@ -1,0 +1,4 @@
+pub mod PointsExact
+pub mod PointsAgain
+pub mod OnePoint
+mod Examples

@@ -1,0 +1,79 @@
+-- A point that is printed is read again as itself.
+use Rattle.std.proofs.Common.{[], ◌++◌, Option, Some, None, Ok, refl, codes}
+use Rattle.mob_frac.specs.Fits.{Fits}
+use Rattle.mob_language.specs.Language.{Text, spaced}
+use Rattle.mob_language.proofs.Heads.{within_said}
+use Rattle.mob_numeral.specs.Blanks.{some_blanks}
+use Rattle.mob_numeral.specs.NumberText.{number_text}
+use Rattle.mob_numeral.specs.Verdict.{Lit}
+use Rattle.mob_numeral.proofs.Fitted.{number_value_said}
+use Rattle.mob_plane.specs.declared.point.Point.{Point}
+use Rattle.mob_points.specs.Points.{close_bracket, coordinates, written_point, point_value, points}
+use Rattle.mob_points.specs.PointText.{point_text}
+use Rattle.mob_points.proofs.PointsExact.{some_none}
+
+close_said : close_bracket (codes ")") tt
+close_said = record {
+  meant = ([], tt);
+  said = record { front = []; back = codes ")"; whole = refl; first = record { is = refl; each = tt }; second = refl };
+  is = refl;
+}
+
+gap_said : some_blanks (codes " ") tt
+gap_said = record { meant = codes " "; said = record { said = record { is = refl; each = (refl, tt) }; holds = refl }; is = refl }
+
+open_said : spaced (codes "(") (codes "(") tt
+open_said = record {
+  meant = ([], (tt, []));
+  said = record { front = []; back = codes "("; whole = refl; first = record { is = refl; each = tt }; second = record { front = codes "("; back = []; whole = refl; first = refl; second = record { is = refl; each = tt } } };
+  is = refl;
+}
+
+coordinates_are : (p : Point) → Fits p.x → Fits p.y → coordinates (number_text p.x ++ (codes " " ++ (number_text p.y ++ codes ")"))) (Some p)
+coordinates_are p h k = record {
+  meant = (Some p.x, (tt, (Some p.y, tt)));
+  said = record {
+    front = number_text p.x;
+    back = codes " " ++ (number_text p.y ++ codes ")");
+    whole = refl;
+    first = number_value_said p.x h;
+    second = record {
+      front = codes " ";
+      back = number_text p.y ++ codes ")";
+      whole = refl;
+      first = gap_said;
+      second = record { front = number_text p.y; back = codes ")"; whole = refl; first = number_value_said p.y k; second = close_said };
+    };
+  };
+  is = refl;
+}
+
+-- the printed text of a point is a text of that point
+pub point_plain : (p : Point) → Fits p.x → Fits p.y → written_point (point_text p) (Some p)
+point_plain p h k = record {
+  meant = (tt, (tt, Some p));
+  said = record {
+    front = codes "POINT";
+    back = codes "(" ++ (number_text p.x ++ (codes " " ++ (number_text p.y ++ codes ")")));
+    whole = refl;
+    first = refl;
+    second = record {
+      front = codes "(";
+      back = number_text p.x ++ (codes " " ++ (number_text p.y ++ codes ")"));
+      whole = refl;
+      first = open_said;
+      second = coordinates_are p h k;
+    };
+  };
+  is = refl;
+}
+
+unreferenced : (text : Text) (v : Option Point) → written_point text v → point_value text v
+unreferenced text v said = record {
+  meant = (None, v);
+  said = record { front = []; back = text; whole = refl; first = refl; second = said };
+  is = refl;
+}
+
+pub point_again : (p : Point) → Fits p.x → Fits p.y → Lit points (point_text p) (Ok p)
+point_again p h k = (Some p, within_said (point_text p) (Some p) (unreferenced (point_text p) (Some p) (point_plain p h k)), (λ x. x), some_none p, (λ x. x), refl)

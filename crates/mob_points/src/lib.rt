@@ -1,0 +1,10 @@
+//! Texts of points, each read exactly and printed.
+#![tactic(auto)]
+
+mod laws;
+mod point;
+mod printing;
+
+pub use laws::{one_point, point_read_again};
+pub use point::{point_value_at, read_point};
+pub use printing::write_point;
