@@ -14,9 +14,14 @@ is_of_type sql.Int (value.Number number) = true
 is_of_type sql.Numeric (value.Number number) = true
 is_of_type sql.Text (value.Text text) = true
 is_of_type sql.Moment (value.Moment instant) = true
+is_of_type sql.Point (value.Point point) = true
+is_of_type sql.Span (value.Span span) = true
+is_of_type sql.SpanSet (value.SpanSet spans) = true
 is_of_type sql.TBool (value.MovingBool slices) = true
 is_of_type sql.TInt (value.MovingInt slices) = true
+is_of_type sql.TFrac (value.MovingFrac slices) = true
 is_of_type sql.TText (value.MovingText slices) = true
+is_of_type sql.TPoint (value.MovingPoint slices) = true
 is_of_type _ _ = false
 
 -- a value read as one of a type: itself, and NULL where it is of another type

@@ -1,28 +1,50 @@
 //! Copies of temporal values.
 ghost use Rattle.std.specs.Prelude.{◌≡◌, IfOk};
 
-use mob_slice::{BaseValue, Moving, Slice, Steady};
+use mob_slice::{BaseValue, Course, Line, Moving, PlaneLine, Slice, Steady};
 use std::alloc::{AllocError, Global};
 
-fn copy_slice<B: BaseValue + Drop>(
-    alloc: Global,
-    slice: &Slice<Steady<B>>,
-) -> Result<Slice<Steady<B>>, AllocError>
+/// A course of which there can be a second one, the same.
+pub trait CopiedCourse: Course + Drop {
+    /// A second course, the same.
+    fn copy_course(&self, alloc: Global) -> Result<Self, AllocError>
+        ensures same { IfOk result (λ copy. copy ≡ self.now) };
+}
+
+impl<B: BaseValue + Drop> CopiedCourse for Steady<B> {
+    fn copy_course(&self, alloc: Global) -> Result<Self, AllocError> {
+        Ok(Steady {
+            value: self.value.copy(alloc)?,
+        })
+    }
+}
+
+impl CopiedCourse for Line {
+    fn copy_course(&self, alloc: Global) -> Result<Self, AllocError> {
+        Ok(*self)
+    }
+}
+
+impl CopiedCourse for PlaneLine {
+    fn copy_course(&self, alloc: Global) -> Result<Self, AllocError> {
+        Ok(*self)
+    }
+}
+
+fn copy_slice<C: CopiedCourse>(alloc: Global, slice: &Slice<C>) -> Result<Slice<C>, AllocError>
     ensures same { IfOk result (λ copy. copy ≡ slice.now) }
 {
     Ok(Slice {
         span: slice.span,
-        course: Steady {
-            value: slice.course.value.copy(alloc)?,
-        },
+        course: slice.course.copy_course(alloc)?,
     })
 }
 
-/// A second step value, the same.
-pub fn copy_steps<B: BaseValue + Drop>(
+/// A second temporal value, the same.
+pub fn copy_moving<C: CopiedCourse>(
     alloc: Global,
-    moving: &Moving<Steady<B>>,
-) -> Result<Moving<Steady<B>>, AllocError>
+    moving: &Moving<C>,
+) -> Result<Moving<C>, AllocError>
     ensures same { IfOk result (λ copy. copy ≡ moving.now) }
 {
     let slices = moving.slices();

@@ -2,10 +2,12 @@
 ghost use Rattle.std.specs.Prelude.{◌≡◌, IfOk, OnErr, true};
 ghost use Rattle.mob_value.specs.Memory.{holds_memory};
 
-use crate::copies::copy_steps;
+use crate::copies::copy_moving;
 use mob_frac::Frac;
 use mob_list::text::Text;
-use mob_slice::{Moving, Steady};
+use mob_plane::Point;
+use mob_slice::{Line, Moving, PlaneLine, Steady};
+use mob_span::{Span, SpanSet};
 use std::alloc::{AllocError, Global};
 
 /// A value of SQL, or NULL.
@@ -24,17 +26,27 @@ pub enum Value {
     Text(Text),
     /// A moment.
     Moment(Frac),
+    /// A point of the plane.
+    Point(Point),
+    /// A tstzspan.
+    Span(Span),
+    /// A tstzspanset.
+    SpanSet(SpanSet),
     /// A tbool.
     MovingBool(Moving<Steady<bool>>),
     /// A tint.
     MovingInt(Moving<Steady<Frac>>),
+    /// A tfrac.
+    MovingFrac(Moving<Line>),
     /// A ttext.
     MovingText(Moving<Steady<Text>>),
+    /// A tgeompoint.
+    MovingPoint(Moving<PlaneLine>),
 }
 
 impl Value {
-    /// A second value, the same, in memory of its own. It asks for memory only where the value holds some: a text, or a value
-    /// over time.
+    /// A second value, the same, in memory of its own. It asks for memory only where the value holds some: a text, a span set,
+    /// or a value over time.
     pub fn copy(&self, alloc: Global) -> Result<Value, AllocError>
         ensures same { IfOk result (λ copy. copy ≡ self.now) }
         ensures memory { OnErr result (holds_memory self.now ≡ true) }
@@ -45,9 +57,14 @@ impl Value {
             Value::Number(number) => Ok(Value::Number(*number)),
             Value::Text(text) => Ok(Value::Text(text.copy(alloc)?)),
             Value::Moment(instant) => Ok(Value::Moment(*instant)),
-            Value::MovingBool(moving) => Ok(Value::MovingBool(copy_steps(alloc, moving)?)),
-            Value::MovingInt(moving) => Ok(Value::MovingInt(copy_steps(alloc, moving)?)),
-            Value::MovingText(moving) => Ok(Value::MovingText(copy_steps(alloc, moving)?)),
+            Value::Point(point) => Ok(Value::Point(*point)),
+            Value::Span(span) => Ok(Value::Span(*span)),
+            Value::SpanSet(set) => Ok(Value::SpanSet(set.copy(alloc)?)),
+            Value::MovingBool(moving) => Ok(Value::MovingBool(copy_moving(alloc, moving)?)),
+            Value::MovingInt(moving) => Ok(Value::MovingInt(copy_moving(alloc, moving)?)),
+            Value::MovingFrac(moving) => Ok(Value::MovingFrac(copy_moving(alloc, moving)?)),
+            Value::MovingText(moving) => Ok(Value::MovingText(copy_moving(alloc, moving)?)),
+            Value::MovingPoint(moving) => Ok(Value::MovingPoint(copy_moving(alloc, moving)?)),
         }
     }
 }

@@ -1,0 +1,5 @@
+use Rattle.std.proofs.Common.{◌≡◌, take}
+use Rattle.mob_span.proofs.set.SpanSet.copy.Given as goal
+
+abbrev pub invariant-loop-span : goal.invariant-loop-span
+invariant-loop-span l = l.copies.items ≡ take l.slice-index l.slices
