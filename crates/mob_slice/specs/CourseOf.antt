@@ -1,6 +1,12 @@
 -- The functions of a course in one record, for definitions that need many of them.
-use Rattle.std.specs.Prelude.{Bool, true}
+use Rattle.std.specs.Prelude.{Bool, true, false}
 use Rattle.mob_ratio.specs.Ratio.{Ratio}
+use Rattle.mob_ratio.specs.Order.{same}
+use Rattle.mob_plane.specs.Points.{same_point}
+use Rattle.mob_plane.specs.declared.point.Point.{Point}
+use Rattle.mob_slice.specs.Lines.{line_value_of, line_continued, plane_value_of, plane_continued}
+use Rattle.mob_slice.specs.declared.line.Line.{Line}
+use Rattle.mob_slice.specs.declared.line.PlaneLine.{PlaneLine}
 use Rattle.mob_slice.specs.declared.steady.Steady.{Steady}
 use Rattle.mob_slice.specs.Operands.{steady_value, steady_limit}
 
@@ -21,3 +27,10 @@ course_of steady value start end make continues is_same = record { steady = stea
 -- the course of step values
 abbrev pub steady_course : {B : Type 0} → (B → B → Bool) → CourseOf (Steady B) B
 steady_course is_same = course_of true steady_value steady_limit steady_limit (λ a b. record { value = a }) (λ c d lower middle upper. is_same c.value d.value) is_same
+
+-- the course of numbers that change evenly, and that of points
+abbrev pub line_course : CourseOf Line Ratio
+line_course = course_of false line_value_of (λ c. c.from) (λ c. c.to) (λ a b. record { from = a; to = b }) line_continued same
+
+abbrev pub plane_course : CourseOf PlaneLine Point
+plane_course = course_of false plane_value_of (λ c. c.from) (λ c. c.to) (λ a b. record { from = a; to = b }) plane_continued same_point
