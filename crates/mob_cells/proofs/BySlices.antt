@@ -1,0 +1,90 @@
+-- A restriction, slice by slice.
+use Rattle.std.specs.Prelude.{◌≡◌, Bool, true, false, cond, ℕ, zero, suc, slice_get, List, [], ◌∷◌, ◌++◌, Option, Some, None, MatchOption, refl}
+use Rattle.std.specs.List.{flat_map}
+use Rattle.std.proofs.Common.{ap, sym, ◌∙◌, subst, append_assoc, append-nil, inl, inr}
+use Rattle.mob_ratio.specs.Ratio.{Ratio}
+use Rattle.mob_frac.specs.Formula.{AllFit}
+use Rattle.mob_span.specs.Span.{SpanOf, has, has_instant}
+use Rattle.mob_slice.specs.Slices.{value_at, IsOrdered, IsSound, IsClearOf, OfHead}
+use Rattle.mob_span.specs.Neighbours.{is_clear}
+use Rattle.mob_span.specs.Parts.{part_at, PartsAreClear}
+use Rattle.mob_slice.specs.Cut.{slice_value}
+use Rattle.mob_slice.specs.Entries.{Entry, IsFirst, OnFormula}
+use Rattle.mob_slice.specs.declared.slice.Slice.{Slice}
+use Rattle.mob_slice.specs.declared.formula.Formula.{Formula}
+use Rattle.mob_slice.specs.declared.formula.OpFault.{OpFault}
+use Rattle.mob_slice.specs.declared.formula.OpFault.TheVariants.{Passed, NoMemory}
+use Rattle.mob_cells.specs.Kept.{AreKept, kept_value}
+use Rattle.mob_cells.specs.Restricted.{where_kept, AreRestricted}
+use Rattle.mob_cells.proofs.Joining.{LiftsTo, IsLifted, is_lifted}
+
+none_some : {A : Type 0} {R : Type 0} (x : A) → None ≡ Some x → R
+none_some x e = cc
+
+-- entries that all fit, before others
+pub first_joined : (xs ys : List Entry) (r : Option Formula) → IsFirst xs None → IsFirst ys r → IsFirst (xs ++ ys) r
+first_joined [] ys r h k = k
+first_joined (e ∷ xs) ys r h k = elim h [ inl m ↦ inl (m.0, first_joined xs ys r m.1 k) | inr m ↦ none_some e.formula m.1 ]
+
+-- what follows the first that does not fit is nothing to it
+pub first_front : (xs ys : List Entry) (f : Formula) → IsFirst xs (Some f) → IsFirst (xs ++ ys) (Some f)
+first_front [] ys f h = none_some f (sym h)
+first_front (e ∷ xs) ys f h = elim h [ inl m ↦ inl (m.0, first_front xs ys f m.1) | inr m ↦ inr m ]
+
+module _ {C B : Type 0} (value : C → Ratio → Ratio → Ratio → B) (start end : C → B) (want : Bool) (holds : Ratio → B → Bool) where
+  abbrev pub GivesSlice : Slice C → List (Slice C) → Type 0
+  GivesSlice s v = AreKept value start end (λ t. kept_value want (holds t (slice_value value s t)) (slice_value value s t)) s.span v
+
+  clear_parts : (v : List (Slice C)) → IsOrdered start end v → PartsAreClear (λ s. s.span) v
+  clear_parts [] h = tt
+  clear_parts (s ∷ v) h = (h.0.some, head s v h.1, clear_parts v h.2)
+    where
+      head : (s : Slice C) (v : List (Slice C)) → OfHead IsClearOf s v → OfHead (λ p q. is_clear p.span q.span ≡ true) s v
+      head s [] h = tt
+      head s (r ∷ v) h = h
+
+  found_by : (s : Slice C) (v : List (Slice C)) (t : Ratio) (o : Option B) (b : Bool) → has s.span t ≡ b → (MatchOption (part_at (λ s. s.span) v t) (o ≡ None) (λ p. (w : List (Slice C)) × GivesSlice p w × (o ≡ value_at value w t)) → o ≡ where_kept want (holds t) (value_at value v t)) → MatchOption (cond b (Some s) (part_at (λ s. s.span) v t)) (o ≡ None) (λ p. (w : List (Slice C)) × GivesSlice p w × (o ≡ value_at value w t)) → o ≡ where_kept want (holds t) (cond b (Some (value s.course s.span.lower s.span.upper t)) (value_at value v t))
+  found_by s v t o true e f m = m.2 ∙ m.1.values t e
+  found_by s v t o false e f m = f m
+
+  found : (v : List (Slice C)) (t : Ratio) (o : Option B) → MatchOption (part_at (λ s. s.span) v t) (o ≡ None) (λ p. (w : List (Slice C)) × GivesSlice p w × (o ≡ value_at value w t)) → o ≡ where_kept want (holds t) (value_at value v t)
+  found [] t o m = m
+  found (s ∷ v) t o m = found_by s v t o (has s.span t) refl (found v t o) m
+
+  -- what is left of the rest makes, behind what is there, what is left of all
+  abbrev pub IsLeft : List (Slice C) → List (Slice C) → List (Slice C) → Type 0
+  IsLeft all rest out = (v : List (Slice C)) → LiftsTo (λ v. v) GivesSlice rest v → LiftsTo (λ v. v) GivesSlice all (out ++ v)
+
+  pub left_step : (all rest later out out' more : List (Slice C)) (s : Slice C) → rest ≡ s ∷ later → out' ≡ out ++ more → GivesSlice s more → IsLeft all rest out → IsLeft all later out'
+  left_step all rest later out out' more s e n g m v k = rw (n, append_assoc out more v) (m (more ++ v) (subst (λ z. LiftsTo (λ v. v) GivesSlice z (more ++ v)) (sym e) (more, v, g, k, refl)))
+
+  pub left_end : (all rest out : List (Slice C)) → rest ≡ [] → IsOrdered start end all → IsLeft all rest out → AreRestricted value start end want holds all out
+  left_end all rest out e h m =
+      let l : IsLifted value start end (λ s. s.span) (λ v. v) GivesSlice all out = is_lifted value start end (λ s. s.span) (λ v. v) GivesSlice (λ p v k g. (g.ordered, g.inside)) all out (rw append-nil at (m [] (rw e refl))) (clear_parts all h) in
+      record { ordered = l.ordered; values = λ t. found all t (value_at value out t) (l.at_each t) }
+
+-- the entries of the slices so far all fit
+pub record IsFitting {A : Type 0} (entries : A → List Entry) (all rest : List A) : Type 0 where
+  pub pass : (r : Option Formula) → IsFirst (flat_map entries rest) r → IsFirst (flat_map entries all) r
+
+module _ {A : Type 0} (entries : A → List Entry) where
+  pub fitting_start : (all : List A) → IsFitting entries all all
+  fitting_start all = record { pass = λ r h. h }
+
+  pub fitting_step : (all rest later : List A) (x : A) → rest ≡ x ∷ later → IsFirst (entries x) None → IsFitting entries all rest → IsFitting entries all later
+  fitting_step all rest later x e h m = record { pass = λ r k. m.pass r (subst (λ z. IsFirst (flat_map entries z) r) (sym e) (first_joined (entries x) (flat_map entries later) r h k)) }
+
+  pub fitting_fails : (all rest later : List A) (x : A) (f : OpFault) → rest ≡ x ∷ later → IsFitting entries all rest → OnFormula (λ g. IsFirst (entries x) (Some g)) f → OnFormula (λ g. IsFirst (flat_map entries all) (Some g)) f
+  fitting_fails all rest later x (Passed g) e m h = m.pass (Some g) (subst (λ z. IsFirst (flat_map entries z) (Some g)) (sym e) (first_front (entries x) (flat_map entries later) g h))
+  fitting_fails all rest later x NoMemory e m h = tt
+
+  pub fitting_end : (all rest : List A) → rest ≡ [] → IsFitting entries all rest → IsFirst (flat_map entries all) None
+  fitting_end all rest e m = m.pass None (rw e refl)
+
+same_some : {A : Type 0} {x y : A} → Some x ≡ Some y → x ≡ y
+same_some e = cc
+
+pub sound_at : {C B : Type 0} (start end : C → B) (v : List (Slice C)) (i : ℕ) (s : Slice C) → IsOrdered start end v → slice_get v i ≡ Some s → IsSound start end s
+sound_at start end [] i s h e = none_some s e
+sound_at start end (r ∷ v) zero s h e = subst (IsSound start end) (same_some e) h.0
+sound_at start end (r ∷ v) (suc i) s h e = sound_at start end v i s h.2 e

@@ -1,0 +1,236 @@
+-- Cells, a function at a time.
+use Rattle.std.specs.Prelude.{◌≡◌, ◌⊎◌, Bool, true, false, cond, not, ◌&&◌, ◌||◌, ℕ, zero, suc, List, [], ◌∷◌, ◌++◌, map, slice_get, length, get_or, ◌<◌, Option, Some, None, MatchOption, refl}
+use Rattle.std.specs.List.{AllByRecursion, flat_map}
+use Rattle.std.proofs.Common.{arith, ap, sym, ◌∙◌, subst, true≢false, inl, inr, append_assoc, append-nil, drop, ◌+◌, add-one, drop-cons}
+use Rattle.std.proofs.lemmas.Option.{slice_get_read}
+use Rattle.std.proofs.lemmas.List.Concat.{flat_map-append}
+use Rattle.std.specs.declared.cmp.Ordering.{Ordering}
+use Rattle.std.specs.declared.cmp.Ordering.TheVariants.{Less, Equal, Greater}
+use Rattle.mob_ratio.specs.Ratio.{Ratio}
+use Rattle.mob_ratio.specs.Order.{before, up_to}
+use Rattle.mob_ratio.specs.Sign.{opposite, root_at, sign_on, sign_of}
+use Rattle.mob_ratio.proofs.Order.{before-back, before-neither}
+use Rattle.mob_frac.specs.Formula.{AllFit}
+use Rattle.mob_span.specs.Span.{SpanOf, has, has_instant}
+use Rattle.mob_span.specs.Sets.{in_some}
+use Rattle.mob_span.specs.Neighbours.{is_inside}
+use Rattle.mob_cells.specs.Cells.{IsIn}
+use Rattle.mob_slice.proofs.Cuts.{all_both, all_first, all_second}
+use Rattle.mob_cells.specs.declared.linear.Ends.{Ends}
+use Rattle.mob_cells.specs.declared.signs.Placed.{Placed}
+use Rattle.mob_cells.specs.Roots.{IsLevel, root_parts, root_of, roots, roots_parts, listed, function_at, IsOneRoot}
+use Rattle.mob_cells.specs.Cells.{AreCells, AreCutAt, IsSomeEnd, IsCut, AreSplit, IsPlaced, IsApart, AreSigned, functions_of, cut_at, split_at, start_cells, until, point, beyond, NoneWithin, is_cell, is_cell_of, placed_sign, signs_of}
+use Rattle.mob_cells.proofs.Splits.{split_are, split_out, split_self, start_are}
+use Rattle.mob_cells.proofs.Keeps.{kept, both}
+use Rattle.mob_cells.proofs.Zeros.{one_root, root_inside}
+
+-- the cells of the functions before the rest
+pub record IsMaking (s : SpanOf) (fs rest : List Ends) (cells : List SpanOf) (placed : List Placed) : Type 0 where
+  pub signed : AreSigned s placed cells
+  pub made : functions_of placed ++ rest ≡ fs
+  pub level : AllByRecursion (IsLevel s) rest
+  pub fit : AllFit (roots_parts s rest) → AllFit (roots_parts s fs)
+  pub fail : AllFit (roots_parts s fs) → AllFit (roots_parts s rest)
+
+each_more : {A : Type 0} (P : A → Type 0) (xs : List A) (x : A) → AllByRecursion P xs → P x → AllByRecursion P (xs ++ x ∷ [])
+each_more P [] x h k = (k, tt)
+each_more P (y ∷ xs) x h k = (h.0, each_more P xs x h.1 k)
+
+each_of : {A : Type 0} (P Q : A → Type 0) → ((x : A) → P x → Q x) → (xs : List A) → AllByRecursion P xs → AllByRecursion Q xs
+each_of P Q f [] h = tt
+each_of P Q f (x ∷ xs) h = (f x h.0, each_of P Q f xs h.1)
+
+map_more : (xs : List Placed) (x : Placed) → functions_of (xs ++ x ∷ []) ≡ functions_of xs ++ x.ends ∷ []
+map_more [] x = refl
+map_more (y ∷ xs) x = ap (λ z. y.ends ∷ z) (map_more xs x)
+
+cut_are : (s : SpanOf) (r : Option Ratio) (cells : List SpanOf) → AreSplit s cells → AreSplit s (cut_at r cells)
+cut_are s None cells h = h
+cut_are s (Some r) cells h = split_are s r cells h
+
+keep_by : (q : Option Ratio) (r : Option Ratio) (cells : List SpanOf) → MatchOption q (Unit {0}) (λ q. AllByRecursion (NoneWithin q) cells) → MatchOption q (Unit {0}) (λ q. AllByRecursion (NoneWithin q) (cut_at r cells))
+keep_by None r cells h = tt
+keep_by (Some q) None cells h = h
+keep_by (Some q) (Some r) cells h = split_out q r cells h
+
+keep_apart : (r : Option Ratio) (cells : List SpanOf) (ps : List Placed) → AllByRecursion (IsApart cells) ps → AllByRecursion (IsApart (cut_at r cells)) ps
+keep_apart r cells [] h = tt
+keep_apart r cells (p ∷ ps) h = (keep_by p.root r cells h.0, keep_apart r cells ps h.1)
+
+new_apart : (r : Option Ratio) (cells : List SpanOf) → MatchOption r (Unit {0}) (λ q. AllByRecursion (NoneWithin q) (cut_at r cells))
+new_apart None cells = tt
+new_apart (Some r) cells = split_self r cells
+
+-- ---- where the cells are cut
+in_front : {A : Type 0} (x : A) (xs ys : List A) → IsIn x xs → IsIn x (xs ++ ys)
+in_front x [] ys h = absurd h
+in_front x (z ∷ xs) ys h = elim h [ inl e ↦ inl e | inr k ↦ inr (in_front x xs ys k) ]
+
+in_back : {A : Type 0} (x : A) (xs ys : List A) → IsIn x ys → IsIn x (xs ++ ys)
+in_back x [] ys h = h
+in_back x (z ∷ xs) ys h = inr (in_back x xs ys h)
+
+cut_front : (s : SpanOf) (xs ys : List Ratio) (t : Ratio) → IsCut s xs t → IsCut s (xs ++ ys) t
+cut_front s xs ys t h = elim h [ inl e ↦ inl e | inr k ↦ inr (elim k [ inl e ↦ inl e | inr i ↦ inr (in_front t xs ys i) ]) ]
+
+abbrev HasEnds : (Ratio → Type 0) → SpanOf → Type 0
+HasEnds P c = P c.lower × P c.upper
+
+ends_by : (P : Ratio → Type 0) (r : Ratio) (c : SpanOf) (rest : List SpanOf) → P r → HasEnds P c → AllByRecursion (HasEnds P) rest → (b : Bool) → AllByRecursion (HasEnds P) (cond b (until c r ∷ point r ∷ beyond c r ∷ []) (c ∷ []) ++ rest)
+ends_by P r c rest p h k true = ((h.0, p), ((p, p), ((p, h.1), k)))
+ends_by P r c rest p h k false = (h, k)
+
+split_ends : (P : Ratio → Type 0) (r : Ratio) (cells : List SpanOf) → P r → AllByRecursion (HasEnds P) cells → AllByRecursion (HasEnds P) (split_at r cells)
+split_ends P r [] p h = tt
+split_ends P r (c ∷ cells) p h = ends_by P r c (split_at r cells) p h.0 (split_ends P r cells p h.1) (before c.lower r && before r c.upper)
+
+cut_ends : (P : Ratio → Type 0) (r : Option Ratio) (cells : List SpanOf) → MatchOption r (Unit {0}) P → AllByRecursion (HasEnds P) cells → AllByRecursion (HasEnds P) (cut_at r cells)
+cut_ends P None cells p h = h
+cut_ends P (Some r) cells p h = split_ends P r cells p h
+
+new_cut : (s : SpanOf) (xs : List Ratio) (r : Option Ratio) → MatchOption r (Unit {0}) (IsCut s (xs ++ listed r))
+new_cut s xs None = tt
+new_cut s xs (Some r) = inr (inr (in_back r xs (r ∷ []) (inl refl)))
+
+roots_more : (s : SpanOf) (placed : List Placed) (p : Placed) → roots s (functions_of (placed ++ p ∷ [])) ≡ roots s (functions_of placed) ++ listed (root_of s p.ends)
+roots_more s placed p = ap (roots s) (map_more placed p) ∙ flat_map-append (λ f. listed (root_of s f)) (functions_of placed) (p.ends ∷ []) ∙ ap (λ l. roots s (functions_of placed) ++ l) (append-nil (listed (root_of s p.ends)))
+
+only_more : (s : SpanOf) (placed : List Placed) (p : Placed) (cells : List SpanOf) → AllByRecursion (HasEnds (IsCut s (roots s (functions_of placed)))) cells → AllByRecursion (HasEnds (IsCut s (roots s (functions_of (placed ++ p ∷ []))))) (cut_at (root_of s p.ends) cells)
+only_more s placed p cells h =
+    let r = root_of s p.ends in
+    let xs = roots s (functions_of placed) in
+    subst (λ l. AllByRecursion (HasEnds (IsCut s l)) (cut_at r cells)) (sym (roots_more s placed p))
+    (cut_ends (IsCut s (xs ++ listed r)) r cells (new_cut s xs r) (each_of (HasEnds (IsCut s xs)) (HasEnds (IsCut s (xs ++ listed r))) (λ c k. (cut_front s xs (listed r) c.lower k.0, cut_front s xs (listed r) c.upper k.1)) cells h))
+
+start_only : (s : SpanOf) (b l u : Bool) → AllByRecursion (HasEnds (IsCut s [])) (cond b (cond l (point s.lower ∷ []) [] ++ record { lower = s.lower; upper = s.upper; lower_inc = false; upper_inc = false } ∷ cond u (point s.upper ∷ []) []) (s ∷ []))
+start_only s false l u = ((inl refl, inr (inl refl)), tt)
+start_only s true true true = ((inl refl, inl refl), ((inl refl, inr (inl refl)), ((inr (inl refl), inr (inl refl)), tt)))
+start_only s true true false = ((inl refl, inl refl), ((inl refl, inr (inl refl)), tt))
+start_only s true false true = ((inl refl, inr (inl refl)), ((inr (inl refl), inr (inl refl)), tt))
+start_only s true false false = ((inl refl, inr (inl refl)), tt)
+
+-- ---- the loop
+pub making_start : (s : SpanOf) (fs : List Ends) (cells : List SpanOf) → has_instant s ≡ true → cells ≡ start_cells s → AllByRecursion (IsLevel s) fs → IsMaking s fs fs cells []
+making_start s fs cells k e h = rw e (record {
+  signed = record { are = start_are s k; good = tt; apart = tt; only = start_only s (before s.lower s.upper) s.lower_inc s.upper_inc };
+  made = refl;
+  level = h;
+  fit = λ z. z;
+  fail = λ z. z;
+})
+
+pub making_step : (s : SpanOf) (fs rest later : List Ends) (f : Ends) (r : Option Ratio) (cells cells' : List SpanOf) (placed placed' : List Placed) → rest ≡ f ∷ later → r ≡ root_of s f → AllFit (root_parts s f) → cells' ≡ cut_at r cells → placed' ≡ placed ++ record { ends = f; root = r } ∷ [] → IsMaking s fs rest cells placed → IsMaking s fs later cells' placed'
+making_step s fs rest later f r cells cells' placed placed' e er fits ec ep m =
+    let p : Placed = record { ends = f; root = r } in
+    let level = subst (λ z. AllByRecursion (IsLevel s) z) e m.level in
+    rw (ec, ep) (record {
+      signed = record {
+        are = cut_are s r cells m.signed.are;
+        good = each_more (IsPlaced s) placed p m.signed.good (record { level = level.0; root = er });
+        apart = each_more (IsApart (cut_at r cells)) placed p (keep_apart r cells placed m.signed.apart) (new_apart r cells);
+        only = subst (λ z. AllByRecursion (HasEnds (IsCut s (roots s (functions_of (placed ++ p ∷ []))))) (cut_at z cells)) (sym er) (only_more s placed p cells m.signed.only);
+      };
+      made = ap (λ z. z ++ later) (map_more placed p) ∙ append_assoc (functions_of placed) (f ∷ []) later ∙ ap (λ z. functions_of placed ++ z) (sym e) ∙ m.made;
+      level = level.1;
+      fit = λ h. m.fit (subst (λ z. AllFit (roots_parts s z)) (sym e) (all_both (root_parts s f) (roots_parts s later) fits h));
+      fail = λ h. all_second (root_parts s f) (roots_parts s later) (subst (λ z. AllFit (roots_parts s z)) e (m.fail h));
+    })
+
+pub making_fails : (s : SpanOf) (fs rest later : List Ends) (f : Ends) (cells : List SpanOf) (placed : List Placed) → rest ≡ f ∷ later → (¬ AllFit (root_parts s f)) → IsMaking s fs rest cells placed → ¬ AllFit (roots_parts s fs)
+making_fails s fs rest later f cells placed e n m h = n (all_first (root_parts s f) (roots_parts s later) (subst (λ z. AllFit (roots_parts s z)) e (m.fail h)))
+
+pub making_end : (s : SpanOf) (fs rest : List Ends) (cells : List SpanOf) (placed : List Placed) → rest ≡ [] → IsMaking s fs rest cells placed → (functions_of placed ≡ fs) × AllFit (roots_parts s fs)
+making_end s fs rest cells placed e m = (sym (append-nil (functions_of placed)) ∙ ap (λ l. functions_of placed ++ l) (sym e) ∙ m.made, m.fit (rw e tt))
+
+pub level_next : (s : SpanOf) (fs rest later : List Ends) (f : Ends) (cells : List SpanOf) (placed : List Placed) → rest ≡ f ∷ later → IsMaking s fs rest cells placed → IsLevel s f
+level_next s fs rest later f cells placed e m = (subst (λ z. AllByRecursion (IsLevel s) z) e m.level).0
+
+-- ---- the sign of a function on a cell
+none_some : {A : Type 0} {x : A} → None ≡ Some x → ⊥
+none_some e = cc
+
+same_some : {A : Type 0} {x y : A} → Some x ≡ Some y → x ≡ y
+same_some e = cc
+
+pub each_get : {A : Type 0} (P : A → Type 0) (xs : List A) (i : ℕ) (x : A) → AllByRecursion P xs → slice_get xs i ≡ Some x → P x
+each_get P [] i x h e = absurd (none_some e)
+each_get P (y ∷ xs) zero x h e = subst P (same_some e) h.0
+each_get P (y ∷ xs) (suc i) x h e = each_get P xs i x h.1 e
+
+pub get_ends : (ps : List Placed) (i : ℕ) (p : Placed) → slice_get ps i ≡ Some p → slice_get (functions_of ps) i ≡ Some p.ends
+get_ends [] i p e = absurd (none_some e)
+get_ends (q ∷ ps) zero p e = ap (λ (z : Placed). Some z.ends) (same_some e)
+get_ends (q ∷ ps) (suc i) p e = get_ends ps i p e
+
+pub length_ends : (ps : List Placed) → length (functions_of ps) ≡ length ps
+length_ends [] = refl
+length_ends (p ∷ ps) = ap suc (length_ends ps)
+
+apart_by : (s : SpanOf) (f : Ends) (cells : List SpanOf) (i : ℕ) (c : SpanOf) (o : Bool) → opposite f.at_lower f.at_upper ≡ o → slice_get cells i ≡ Some c → MatchOption (cond o (Some (root_at f.at_lower f.at_upper s.lower s.upper)) None) (Unit {0}) (λ r. AllByRecursion (NoneWithin r) cells) → o ≡ true → NoneWithin (root_at f.at_lower f.at_upper s.lower s.upper) c
+apart_by s f cells i c true e g m h = each_get (NoneWithin (root_at f.at_lower f.at_upper s.lower s.upper)) cells i c m g
+apart_by s f cells i c false e g m h = absurd (true≢false (sym h))
+
+placed_kept : (s : SpanOf) (cells : List SpanOf) (i : ℕ) (c : SpanOf) (p : Placed) → AllByRecursion (λ c. is_cell_of s c ≡ true) cells → slice_get cells i ≡ Some c → IsPlaced s p → IsApart cells p → (t : Ratio) → has c t ≡ true → sign_of (function_at s p.ends t) ≡ placed_sign s c p
+placed_kept s cells i c p a e q m t k =
+    let n = subst (λ z. MatchOption z (Unit {0}) (λ r. AllByRecursion (NoneWithin r) cells)) q.root m in
+    kept p.ends.at_lower p.ends.at_upper s c q.level (each_get (λ c. is_cell_of s c ≡ true) cells i c a e) (apart_by s p.ends cells i c (opposite p.ends.at_lower p.ends.at_upper) refl e n) t k
+
+pub sign_kept : (s : SpanOf) (placed : List Placed) (cells : List SpanOf) (i j : ℕ) (c : SpanOf) (p : Placed) (o : Ordering) → AreSigned s placed cells → slice_get cells i ≡ Some c → slice_get placed j ≡ Some p → o ≡ placed_sign s c p → (t : Ratio) → has c t ≡ true → o ≡ sign_of (function_at s p.ends t)
+sign_kept s placed cells i j c p o h ei ej eo t k =
+    eo ∙ sym (placed_kept s cells i c p h.are.are ei (each_get (IsPlaced s) placed j p h.good ej) (each_get (IsApart cells) placed j p h.apart ej) t k)
+
+keep_all : (s : SpanOf) (cells : List SpanOf) (i : ℕ) (c : SpanOf) (ps : List Placed) → AllByRecursion (λ c. is_cell_of s c ≡ true) cells → slice_get cells i ≡ Some c → AllByRecursion (IsPlaced s) ps → AllByRecursion (IsApart cells) ps → (t : Ratio) → has c t ≡ true → map (placed_sign s c) ps ≡ signs_of s (functions_of ps) t
+keep_all s cells i c [] a e h k t m = refl
+keep_all s cells i c (p ∷ ps) a e h k t m = ap (λ o. o ∷ map (placed_sign s c) ps) (sym (placed_kept s cells i c p a e h.0 k.0 t m)) ∙ ap (λ l. sign_of (function_at s p.ends t) ∷ l) (keep_all s cells i c ps a e h.1 k.1 t m)
+
+pub signs_kept : (s : SpanOf) (placed : List Placed) (cells : List SpanOf) (i : ℕ) (c : SpanOf) (os : List Ordering) → AreSigned s placed cells → slice_get cells i ≡ Some c → os ≡ map (placed_sign s c) placed → (t : Ratio) → has c t ≡ true → os ≡ signs_of s (functions_of placed) t
+signs_kept s placed cells i c os h e eo t k = eo ∙ keep_all s cells i c placed h.are.are e h.good h.apart t k
+
+pub read_of : {A : Type 0} (xs ys : List A) (i : ℕ) (x : A) → xs ≡ ys → i < length ys → x ≡ get_or xs i x → slice_get ys i ≡ Some x
+read_of xs ys i x e h k = slice_get_read ys (length ys) i x refl h (k ∙ ap (λ z. get_or z i x) e)
+
+pub sign_found : (s : SpanOf) (placed : List Placed) (cells : List SpanOf) (i j : ℕ) (c : SpanOf) (p : Placed) (o : Ordering) → AreSigned s placed cells → slice_get cells i ≡ Some c → slice_get placed j ≡ Some p → o ≡ placed_sign s c p → (c' : SpanOf) (f : Ends) → slice_get cells i ≡ Some c' → slice_get (functions_of placed) j ≡ Some f → (t : Ratio) → has c' t ≡ true → o ≡ sign_of (function_at s f t)
+sign_found s placed cells i j c p o h ei ej eo c' f di dj t k =
+    let ec : c' ≡ c = same_some (sym di ∙ ei) in
+    let ef : p.ends ≡ f = same_some (sym (get_ends placed j p ej) ∙ dj) in
+    sign_kept s placed cells i j c p o h ei ej eo t (subst (λ z. has z t ≡ true) ec k) ∙ ap (λ z. sign_of (function_at s z t)) ef
+
+pub signs_found : (s : SpanOf) (placed : List Placed) (cells : List SpanOf) (i : ℕ) (c : SpanOf) (os : List Ordering) → AreSigned s placed cells → slice_get cells i ≡ Some c → os ≡ map (placed_sign s c) placed → (c' : SpanOf) → slice_get cells i ≡ Some c' → (t : Ratio) → has c' t ≡ true → os ≡ signs_of s (functions_of placed) t
+signs_found s placed cells i c os h ei eo c' di t k = signs_kept s placed cells i c os h ei eo t (subst (λ z. has z t ≡ true) (same_some (sym di ∙ ei)) k)
+
+pub list_read : {A : Type 0} (xs : List A) (i : ℕ) (x : A) → i < length xs → x ≡ get_or xs i x → drop i xs ≡ x ∷ drop (i + 1) xs
+list_read xs i x h e = rw add-one (rw (drop-cons xs i x) (ap (λ y. y ∷ drop (suc i) xs) (sym e)))
+
+-- ---- what callers see
+inside_of : (s : SpanOf) (cells : List SpanOf) → AllByRecursion (λ c. is_cell_of s c ≡ true) cells → AllByRecursion (λ c. is_inside s c ≡ true) cells
+inside_of s cells h = each_of (λ c. is_cell_of s c ≡ true) (λ c. is_inside s c ≡ true) (λ c k. (both (is_cell c) (is_inside s c) k).1) cells h
+
+pub are_cells : (s : SpanOf) (cells : List SpanOf) → AreSplit s cells → AreCells s cells
+are_cells s cells h = record { clear = h.clear; inside = inside_of s cells h.are; covers = h.covers }
+
+end_of : (c : SpanOf) (r : Ratio) → NoneWithin r c → has c r ≡ true → (b : Bool) → before c.lower r ≡ b → (c.lower ≡ r) ⊎ (c.upper ≡ r)
+end_of c r n h true e = inr (sym (before-neither r c.upper (grind (arith, n, e)) (grind (arith, h, e, before-back r c.upper))))
+end_of c r n h false e = inl (before-neither c.lower r e (grind (arith, h, e, before-back c.lower r)))
+
+some_end : (r : Ratio) (cells : List SpanOf) → AllByRecursion (NoneWithin r) cells → in_some cells r ≡ true → IsSomeEnd r cells
+some_end r [] n h = absurd (true≢false (sym h))
+some_end r (c ∷ cells) n h = by (has c r) refl h (λ k. some_end r cells n.1 k)
+  where
+    by : (b : Bool) → has c r ≡ b → (b || in_some cells r) ≡ true → (in_some cells r ≡ true → IsSomeEnd r cells) → IsSomeEnd r (c ∷ cells)
+    by true e k f = inl (end_of c r n.0 e (before c.lower r) refl)
+    by false e k f = inr (f k)
+
+root_ends : (s : SpanOf) (cells : List SpanOf) (f : Ends) → AreSplit s cells → IsLevel s f → (o : Bool) → opposite f.at_lower f.at_upper ≡ o → MatchOption (cond o (Some (root_at f.at_lower f.at_upper s.lower s.upper)) None) (Unit {0}) (λ r. AllByRecursion (NoneWithin r) cells) → AllByRecursion (λ r. IsSomeEnd r cells) (listed (cond o (Some (root_at f.at_lower f.at_upper s.lower s.upper)) None))
+root_ends s cells f a l true e m = (some_end (root_at f.at_lower f.at_upper s.lower s.upper) cells m (a.covers (root_at f.at_lower f.at_upper s.lower s.upper) ∙ root_inside s f l e), tt)
+root_ends s cells f a l false e m = tt
+
+each_both : {A : Type 0} (P : A → Type 0) (xs ys : List A) → AllByRecursion P xs → AllByRecursion P ys → AllByRecursion P (xs ++ ys)
+each_both P [] ys h k = k
+each_both P (x ∷ xs) ys h k = (h.0, each_both P xs ys h.1 k)
+
+all_ends : (s : SpanOf) (cells : List SpanOf) (ps : List Placed) → AreSplit s cells → AllByRecursion (IsPlaced s) ps → AllByRecursion (IsApart cells) ps → AllByRecursion (λ r. IsSomeEnd r cells) (roots s (functions_of ps))
+all_ends s cells [] a h k = tt
+all_ends s cells (p ∷ ps) a h k = each_both (λ r. IsSomeEnd r cells) (listed (root_of s p.ends)) (roots s (functions_of ps)) (root_ends s cells p.ends a h.0.level (opposite p.ends.at_lower p.ends.at_upper) refl (subst (λ z. MatchOption z (Unit {0}) (λ r. AllByRecursion (NoneWithin r) cells)) h.0.root k.0)) (all_ends s cells ps a h.1 k.1)
+
+pub are_cut : (s : SpanOf) (placed : List Placed) (cells : List SpanOf) → AreSigned s placed cells → AreCutAt s (roots s (functions_of placed)) cells
+are_cut s placed cells h = record { each = all_ends s cells placed h.are h.good h.apart; only = h.only }

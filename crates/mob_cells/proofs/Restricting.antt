@@ -1,0 +1,197 @@
+-- What is kept on each cell, and on all of them.
+use Rattle.std.specs.Prelude.{◌≡◌, ◌⊎◌, Bool, true, false, cond, not, ◌&&◌, ◌||◌, ℕ, List, [], ◌∷◌, ◌++◌, map, slice_get, length, get_or, ◌<◌, Option, Some, None, MatchOption, Result, Ok, Err, MatchResult, IfOk, refl}
+use Rattle.std.specs.List.{AllByRecursion, flat_map}
+use Rattle.std.proofs.Common.{arith, ap, sym, ◌∙◌, subst, true≢false, inl, inr, append_assoc, append-nil, drop, ◌+◌, suc, add-one, drop-cons}
+use Rattle.std.specs.declared.cmp.Ordering.{Ordering}
+use Rattle.mob_ratio.specs.Ratio.{Ratio}
+use Rattle.mob_frac.specs.Formula.{AllFit}
+use Rattle.mob_span.specs.Span.{SpanOf, has, has_instant}
+use Rattle.mob_span.specs.Neighbours.{is_clear, is_inside}
+use Rattle.mob_span.specs.Sets.{in_some}
+use Rattle.mob_span.proofs.Insides.{inside_self, both, joined}
+use Rattle.mob_ratio.specs.Order.{before, up_to}
+use Rattle.mob_ratio.proofs.Order.{before-back, before-trans, before-neither}
+use Rattle.mob_slice.specs.Slices.{value_at, IsOrdered, IsSound}
+use Rattle.mob_span.specs.Parts.{PartsAreClear, part_at}
+use Rattle.mob_slice.specs.Pieces.{AreInside}
+use Rattle.mob_cells.specs.Cells.{IsIn}
+use Rattle.mob_slice.specs.Sides.{HasValues, at_ends}
+use Rattle.mob_slice.specs.Cut.{slice_value, slice_parts}
+use Rattle.mob_slice.specs.Entries.{Entry, IsFirst, IsJudged, OnFormula}
+use Rattle.mob_slice.specs.Look.{IsLookFault}
+use Rattle.mob_slice.specs.Operands.{steady_value, steady_limit}
+use Rattle.mob_slice.specs.declared.slice.Slice.{Slice}
+use Rattle.mob_slice.specs.declared.steady.Steady.{Steady}
+use Rattle.mob_slice.specs.declared.formula.Formula.{Formula}
+use Rattle.mob_slice.specs.declared.formula.Formula.TheVariants.{F1, F3}
+use Rattle.mob_slice.specs.declared.formula.OpFault.{OpFault}
+use Rattle.mob_slice.specs.declared.formula.OpFault.TheVariants.{Passed, NoMemory}
+use Rattle.mob_slice.specs.declared.formula.LookFault.{LookFault}
+use Rattle.mob_slice.specs.declared.formula.LookFault.TheVariants.{Passed as LookPassed, NoMemory as LookNoMemory}
+use Rattle.mob_slice.proofs.Cuts.{all_both, all_first, all_second}
+use Rattle.mob_cells.specs.declared.linear.Ends.{Ends}
+use Rattle.mob_cells.specs.Roots.{roots, roots_parts}
+use Rattle.mob_cells.specs.Cells.{AreCells, AreCutAt, IsCut, IsSomeEnd, signs_of, CellsOf}
+use Rattle.mob_cells.specs.Kept.{AreKept, IsKeptBy, kept_value, is_wanted, refusal_of, IsCellFault, entry_of_cuts, entry_of_roots, entries_of_cuts}
+use Rattle.mob_cells.proofs.Joining.{LiftsTo, IsLifted, is_lifted}
+use Rattle.mob_cells.proofs.Making.{each_get}
+
+-- ---- one cell
+wanted_value : {B : Type 0} (want k : Bool) (x : B) → cond (is_wanted want k) (Some x) None ≡ kept_value want k x
+wanted_value true k x = refl
+wanted_value false true x = refl
+wanted_value false false x = refl
+
+module _ {C B : Type 0} (value : C → Ratio → Ratio → Ratio → B) (start end : C → B) where
+  kept_by : (f : Ratio → B) (g : Ratio → Option B) (c : SpanOf) (part : Slice C) (k : Bool) → HasValues value start end f c part → ((t : Ratio) → has c t ≡ true → g t ≡ cond k (Some (f t)) None) → AreKept value start end g c (cond k (part ∷ []) [])
+  kept_by f g c part true h e = record {
+    ordered = (h.sound, tt, tt);
+    inside = (rw h.on (inside_self c), tt);
+    values = λ t i. subst (λ z. cond (has z t) (Some (value part.course part.span.lower part.span.upper t)) None ≡ g t) (sym h.on) (rw i (ap Some (h.same t i) ∙ sym (e t i)));
+  }
+  kept_by f g c part false h e = record { ordered = tt; inside = tt; values = λ t i. sym (e t i) }
+
+  pub kept_is : (f : Ratio → B) (c : SpanOf) (part : Slice C) (want : Bool) (keeps : List Ordering → Bool) (signs : Ratio → List Ordering) (os : List Ordering) (k : Bool) → HasValues value start end f c part → ((t : Ratio) → has c t ≡ true → os ≡ signs t) → k ≡ is_wanted want (keeps os) → AreKept value start end (λ t. kept_value want (keeps (signs t)) (f t)) c (cond k (part ∷ []) [])
+  kept_is f c part want keeps signs os k h n e = kept_by f (λ t. kept_value want (keeps (signs t)) (f t)) c part k h (λ t i. sym (wanted_value want (keeps (signs t)) (f t)) ∙ ap (λ z. cond (is_wanted want (keeps z)) (Some (f t)) None) (sym (n t i)) ∙ ap (λ b. cond b (Some (f t)) None) (sym e))
+
+  pub cell_is : {V : Type 0} (items : V → List (Slice C)) (r : Result V OpFault) (f : Ratio → B) (c : SpanOf) (part : Slice C) (want : Bool) (keeps : List Ordering → Bool) (signs : Ratio → List Ordering) (os : List Ordering) (k : Bool) (fits : List Ratio) → HasValues value start end f c part → AllFit fits → ((t : Ratio) → has c t ≡ true → os ≡ signs t) → k ≡ is_wanted want (keeps os) → MatchResult r (λ v. items v ≡ cond k (part ∷ []) []) (λ e. e ≡ NoMemory) → MatchResult r (λ v. AreKept value start end (λ t. kept_value want (keeps (signs t)) (f t)) c (items v) × AllFit fits) (IsCellFault fits)
+  cell_is items (Ok v) f c part want keeps signs os k fits h a n e m = (rw m (kept_is f c part want keeps signs os k h n e), a)
+  cell_is items (Err fault) f c part want keeps signs os k fits h a n e m = rw m tt
+
+pub flag_is : (c : SpanOf) (keeps : List Ordering → Bool) (signs : Ratio → List Ordering) (os : List Ordering) (b : Bool) → has_instant c ≡ true → ((t : Ratio) → has c t ≡ true → os ≡ signs t) → b ≡ keeps os → AreKept {C = Steady Bool} steady_value steady_limit steady_limit (λ t. Some (keeps (signs t))) c (record { span = c; course = record { value = b } } ∷ [])
+flag_is c keeps signs os b k n e = record {
+  ordered = (record { some = k; level = λ z. refl }, tt, tt);
+  inside = (inside_self c, tt);
+  values = λ t i. rw i (ap Some (e ∙ ap keeps (n t i)));
+}
+
+pub cell_fault : (copies : Bool) (fits : List Ratio) (f : LookFault) (e : OpFault) → IsLookFault copies fits f → e ≡ refusal_of f → IsCellFault fits e
+cell_fault copies fits (LookPassed f) e h i = rw i h
+cell_fault copies fits LookNoMemory e h i = rw i tt
+
+-- ---- all cells
+low_in : (a b c : Ratio) (i j k : Bool) → (before a b || (up_to a b && (i || not j))) ≡ true → (before b c || (up_to b c && (j || not k))) ≡ true → (before a c || (up_to a c && (i || not k))) ≡ true
+low_in a b c i j k h g = grind (arith, h, g, before-trans a b c, before-neither a b, before-neither b c, before-trans c a b, before-trans b c a)
+
+high_in : (a b c : Ratio) (i j k : Bool) → (before a b || (up_to a b && (j || not i))) ≡ true → (before b c || (up_to b c && (k || not j))) ≡ true → (before a c || (up_to a c && (k || not i))) ≡ true
+high_in a b c i j k h g = grind (arith, h, g, before-trans a b c, before-neither a b, before-neither b c, before-trans c a b, before-trans b c a)
+
+pub inside_trans : (s c x : SpanOf) → is_inside s c ≡ true → is_inside c x ≡ true → is_inside s x ≡ true
+inside_trans s c x h k =
+    let p = both (before s.lower c.lower || (up_to s.lower c.lower && (s.lower_inc || not c.lower_inc))) (before c.upper s.upper || (up_to c.upper s.upper && (s.upper_inc || not c.upper_inc))) h in
+    let q = both (before c.lower x.lower || (up_to c.lower x.lower && (c.lower_inc || not x.lower_inc))) (before x.upper c.upper || (up_to x.upper c.upper && (c.upper_inc || not x.upper_inc))) k in
+    joined (before s.lower x.lower || (up_to s.lower x.lower && (s.lower_inc || not x.lower_inc))) (before x.upper s.upper || (up_to x.upper s.upper && (s.upper_inc || not x.upper_inc)))
+    (low_in s.lower c.lower x.lower s.lower_inc c.lower_inc x.lower_inc p.0 q.0)
+    (high_in x.upper c.upper s.upper x.upper_inc c.upper_inc s.upper_inc q.1 p.1)
+
+all_inside : {D : Type 0} (s c : SpanOf) (v : List (Slice D)) → is_inside s c ≡ true → AreInside c v → AreInside s v
+all_inside s c [] h k = tt
+all_inside s c (x ∷ v) h k = (inside_trans s c x.span h k.0, all_inside s c v h k.1)
+
+more_inside : {D : Type 0} (s : SpanOf) (v w : List (Slice D)) → AreInside s v → AreInside s w → AreInside s (v ++ w)
+more_inside s [] w h k = k
+more_inside s (x ∷ v) w h k = (h.0, more_inside s v w h.1 k)
+
+module _ {D B : Type 0} (value : D → Ratio → Ratio → Ratio → B) (start end : D → B) (f : Ratio → Option B) where
+  abbrev pub Gives : SpanOf → List (Slice D) → Type 0
+  Gives c v = AreKept value start end f c v
+
+  kept_inside : (s : SpanOf) (cells : List SpanOf) (slices : List (Slice D)) → LiftsTo (λ v. v) Gives cells slices → AllByRecursion (λ c. is_inside s c ≡ true) cells → AreInside s slices
+  kept_inside s [] slices h k = rw h tt
+  kept_inside s (c ∷ cells) slices h k = rw h.4 (more_inside s h.0 h.1 (all_inside s c h.0 k.0 h.2.inside) (kept_inside s cells h.1 h.3 k.1))
+
+  found_by : (c : SpanOf) (cells : List SpanOf) (t : Ratio) (o : Option B) (b : Bool) → has c t ≡ b → (b || in_some cells t) ≡ true → (in_some cells t ≡ true → MatchOption (part_at (λ c. c) cells t) (o ≡ None) (λ p. (v : List (Slice D)) × Gives p v × (o ≡ value_at value v t)) → o ≡ f t) → MatchOption (cond b (Some c) (part_at (λ c. c) cells t)) (o ≡ None) (λ p. (v : List (Slice D)) × Gives p v × (o ≡ value_at value v t)) → o ≡ f t
+  found_by c cells t o true e h g m = m.2 ∙ m.1.values t e
+  found_by c cells t o false e h g m = g h m
+
+  found : (cells : List SpanOf) (t : Ratio) (o : Option B) → in_some cells t ≡ true → MatchOption (part_at (λ c. c) cells t) (o ≡ None) (λ p. (v : List (Slice D)) × Gives p v × (o ≡ value_at value v t)) → o ≡ f t
+  found [] t o h m = absurd (true≢false (sym h))
+  found (c ∷ cells) t o h m = found_by c cells t o (has c t) refl h (λ k n. found cells t o k n) m
+
+  pub all_kept : (s : SpanOf) (cells : List SpanOf) (slices : List (Slice D)) → LiftsTo (λ v. v) Gives cells slices → AreCells s cells → AreKept value start end f s slices
+  all_kept s cells slices h a =
+      let l : IsLifted value start end (λ c. c) (λ v. v) Gives cells slices = is_lifted value start end (λ c. c) (λ v. v) Gives (λ p v k g. (g.ordered, g.inside)) cells slices h a.clear in
+      record { ordered = l.ordered; inside = kept_inside s cells slices h a.inside; values = λ t i. found cells t (value_at value slices t) (a.covers t ∙ i) (l.at_each t) }
+
+  -- what is kept of the rest makes, behind what is there, what is kept of all
+  abbrev pub IsMade : List SpanOf → List SpanOf → List (Slice D) → Type 0
+  IsMade all rest out = (v : List (Slice D)) → LiftsTo (λ v. v) Gives rest v → LiftsTo (λ v. v) Gives all (out ++ v)
+
+  pub made_step : (all rest later : List SpanOf) (out out' more : List (Slice D)) (c : SpanOf) → rest ≡ c ∷ later → out' ≡ out ++ more → Gives c more → IsMade all rest out → IsMade all later out'
+  made_step all rest later out out' more c e n g m v k = rw (n, append_assoc out more v) (m (more ++ v) (subst (λ z. LiftsTo (λ v. v) Gives z (more ++ v)) (sym e) (more, v, g, k, refl)))
+
+  pub made_end : (s : SpanOf) (all rest : List SpanOf) (out : List (Slice D)) → rest ≡ [] → AreCells s all → IsMade all rest out → AreKept value start end f s out
+  made_end s all rest out e a m = all_kept s all out (rw append-nil at (m [] (rw e refl))) a
+
+pub cell_read : (xs : List SpanOf) (i : ℕ) (x : SpanOf) → i < length xs → x ≡ get_or xs i x → drop i xs ≡ x ∷ drop (i + 1) xs
+cell_read xs i x h e = rw add-one (rw (drop-cons xs i x) (ap (λ y. y ∷ drop (suc i) xs) (sym e)))
+
+-- ---- the formulas
+module _ (parts : Ratio → List Ratio) where
+  abbrev EndsFit : SpanOf → Type 0
+  EndsFit c = AllFit (at_ends parts c)
+
+  roots_fit : (rs : List Ratio) → AllFit (flat_map parts rs) → AllByRecursion (λ t. AllFit (parts t)) rs
+  roots_fit [] h = tt
+  roots_fit (r ∷ rs) h = (all_first (parts r) (flat_map parts rs) h, roots_fit rs (all_second (parts r) (flat_map parts rs) h))
+
+  fit_roots : (rs : List Ratio) → AllByRecursion (λ t. AllFit (parts t)) rs → AllFit (flat_map parts rs)
+  fit_roots [] h = tt
+  fit_roots (r ∷ rs) h = all_both (parts r) (flat_map parts rs) h.0 (fit_roots rs h.1)
+
+  in_fits : (t : Ratio) (rs : List Ratio) → AllByRecursion (λ t. AllFit (parts t)) rs → IsIn t rs → AllFit (parts t)
+  in_fits t [] h i = absurd i
+  in_fits t (r ∷ rs) h i = elim i [ inl e ↦ subst (λ z. AllFit (parts z)) (sym e) h.0 | inr k ↦ in_fits t rs h.1 k ]
+
+  cut_fits : (s : SpanOf) (rs : List Ratio) (t : Ratio) → AllFit (parts s.lower) → AllFit (parts s.upper) → AllByRecursion (λ t. AllFit (parts t)) rs → IsCut s rs t → AllFit (parts t)
+  cut_fits s rs t a b h i = elim i [ inl e ↦ subst (λ z. AllFit (parts z)) (sym e) a | inr k ↦ elim k [ inl e ↦ subst (λ z. AllFit (parts z)) (sym e) b | inr j ↦ in_fits t rs h j ] ]
+
+  -- where the values at the ends of the piece and at the roots fit, so do those at the ends of each cell
+  cells_fit : (s : SpanOf) (rs : List Ratio) (cells : List SpanOf) → EndsFit s → AllByRecursion (λ t. AllFit (parts t)) rs → AllByRecursion (λ c. IsCut s rs c.lower × IsCut s rs c.upper) cells → AllByRecursion EndsFit cells
+  cells_fit s rs [] a h k = tt
+  cells_fit s rs (c ∷ cells) a h k =
+      let l = all_first (parts s.lower) (parts s.upper) a in
+      let u = all_second (parts s.lower) (parts s.upper) a in
+      (all_both (parts c.lower) (parts c.upper) (cut_fits s rs c.lower l u h k.0.0) (cut_fits s rs c.upper l u h k.0.1), cells_fit s rs cells a h k.1)
+
+  end_fits : (r : Ratio) (cells : List SpanOf) → AllByRecursion EndsFit cells → IsSomeEnd r cells → AllFit (parts r)
+  end_fits r [] h i = absurd i
+  end_fits r (c ∷ cells) h i = elim i [
+      inl k ↦ elim k [ inl e ↦ subst (λ z. AllFit (parts z)) e (all_first (parts c.lower) (parts c.upper) h.0) | inr e ↦ subst (λ z. AllFit (parts z)) e (all_second (parts c.lower) (parts c.upper) h.0) ]
+    | inr k ↦ end_fits r cells h.1 k ]
+
+  each_fits : (rs : List Ratio) (cells : List SpanOf) → AllByRecursion EndsFit cells → AllByRecursion (λ r. IsSomeEnd r cells) rs → AllByRecursion (λ t. AllFit (parts t)) rs
+  each_fits [] cells h k = tt
+  each_fits (r ∷ rs) cells h k = (end_fits r cells h k.0, each_fits rs cells h k.1)
+
+  pub cuts_fit : (s : SpanOf) (rs : List Ratio) (cells : List SpanOf) → AreCutAt s rs cells → AllByRecursion EndsFit cells → AllFit (flat_map parts rs)
+  cuts_fit s rs cells a h = fit_roots rs (each_fits rs cells h a.each)
+
+  pub cuts_fail : (s : SpanOf) (rs : List Ratio) (cells : List SpanOf) (i : ℕ) (c : SpanOf) → AreCutAt s rs cells → EndsFit s → slice_get cells i ≡ Some c → (¬ EndsFit c) → ¬ AllFit (flat_map parts rs)
+  cuts_fail s rs cells i c a b e n h = n (each_get EndsFit cells i c (cells_fit s rs cells b (roots_fit rs h) a.only) e)
+
+  pub fits_more : (all rest later : List SpanOf) (c : SpanOf) → rest ≡ c ∷ later → EndsFit c → (AllByRecursion EndsFit rest → AllByRecursion EndsFit all) → AllByRecursion EndsFit later → AllByRecursion EndsFit all
+  fits_more all rest later c e h m k = m (rw e (h, k))
+
+  pub fits_end : (all rest : List SpanOf) → rest ≡ [] → (AllByRecursion EndsFit rest → AllByRecursion EndsFit all) → AllByRecursion EndsFit all
+  fits_end all rest e m = m (rw e tt)
+
+pub kept_fault : (parts : List Ratio) (all : List Ratio) (f : OpFault) → IsCellFault parts f → ((¬ AllFit parts) → ¬ AllFit all) → OnFormula (λ g. IsFirst (record { formula = F1; parts = all } ∷ []) (Some g)) f
+kept_fault parts all (Passed f) h g = inr (g h.1, ap Some h.0)
+kept_fault parts all NoMemory h g = tt
+
+-- the entries of the roots, then those of the cuts
+pub roots_first : {V : Type 0} (Q : V → Type 0) (e : Entry) (entries : List Entry) (r : Result V OpFault) → IsFirst (e ∷ []) None → MatchResult r (λ v. Q v × IsFirst entries None) (OnFormula (λ g. IsFirst entries (Some g))) → MatchResult r (λ v. Q v × IsFirst (e ∷ entries) None) (OnFormula (λ g. IsFirst (e ∷ entries) (Some g)))
+roots_first Q e entries (Ok v) h m = (m.0, elim h [ inl k ↦ inl (k.0, m.1) | inr k ↦ inr k ])
+roots_first Q e entries (Err (Passed g)) h m = elim h [ inl k ↦ inl (k.0, m) | inr k ↦ none_some e.formula k.1 ]
+  where
+    none_some : {A : Type 0} {R : Type 0} (x : A) → None ≡ Some x → R
+    none_some x e = cc
+roots_first Q e entries (Err NoMemory) h m = tt
+
+pub roots_fail : (e : Entry) (entries : List Entry) (f : OpFault) → OnFormula (λ g. IsFirst (e ∷ []) (Some g)) f → OnFormula (λ g. IsFirst (e ∷ entries) (Some g)) f
+roots_fail e entries (Passed g) h = elim h [ inl k ↦ none_some g (sym k.1) | inr k ↦ inr k ]
+  where
+    none_some : {A : Type 0} {R : Type 0} (x : A) → None ≡ Some x → R
+    none_some x e = cc
+roots_fail e entries NoMemory h = tt

@@ -1,0 +1,118 @@
+-- Roots.
+use Rattle.std.specs.Prelude.{◌≡◌, ◌⊎◌, Bool, true, false, cond, not, ◌&&◌, ◌||◌, List, [], ◌∷◌, ◌++◌, Option, Some, None, MatchOption, Result, pos, refl}
+use Rattle.std.proofs.Common.{arith, ap, sym, ◌∙◌, subst, true≢false, inl, inr}
+use Rattle.std.specs.declared.cmp.Ordering.{Ordering}
+use Rattle.std.specs.declared.cmp.Ordering.TheVariants.{Less, Equal, Greater}
+use Rattle.mob_ratio.specs.Ratio.{Ratio, whole, ◌+ℚ◌, ◌-ℚ◌, ◌*ℚ◌, ◌/ℚ◌, ◌<ℚ◌, neg_ℚ, inverse}
+use Rattle.mob_ratio.specs.Order.{before, up_to}
+use Rattle.mob_ratio.specs.Line.{line_at}
+use Rattle.mob_ratio.specs.Sign.{nil, opposite, root_at, sign_of, IsRoot}
+use Rattle.mob_ratio.proofs.Order.{before-self, before-back, before-trans, before-neither, before-lt, lt-before, false_unless}
+use Rattle.mob_ratio.proofs.Signs.{root_holds, opposite_cases, sign_below, sign_above, sign_nil}
+use Rattle.mob_ratio.proofs.IntRing.{linear, products}
+use Rattle.mob_ratio.proofs.Clear.{clear2, fractions, cleared}
+use Rattle.mob_frac.specs.Fits.{Fits, IsExact}
+use Rattle.mob_frac.specs.Formula.{IsFormula}
+use Rattle.mob_frac.proofs.PartsOfLines.{last_part}
+use Rattle.mob_span.specs.Span.{SpanOf, has}
+use Rattle.mob_cells.specs.declared.linear.Ends.{Ends}
+use Rattle.mob_cells.specs.Roots.{function_at, IsLevel, IsOneRoot, inner_root_parts, opposes}
+
+opposite_self : (x : Ratio) → opposite x x ≡ false
+unfolding opposite
+opposite_self x = grind (arith, before-back x nil)
+
+pub long_of : (s : SpanOf) (f : Ends) → IsLevel s f → opposite f.at_lower f.at_upper ≡ true → (b : Bool) → before s.lower s.upper ≡ b → before s.lower s.upper ≡ true
+long_of s f l o true e = e
+long_of s f l o false e = absurd (true≢false (sym o ∙ ap (λ z. opposite f.at_lower z) (sym (l e)) ∙ opposite_self f.at_lower))
+
+is_root : (s : SpanOf) (f : Ends) → IsLevel s f → opposite f.at_lower f.at_upper ≡ true → IsRoot f.at_lower f.at_upper s.lower s.upper (root_at f.at_lower f.at_upper s.lower s.upper)
+is_root s f l o = root_holds f.at_lower f.at_upper s.lower s.upper (long_of s f l o (before s.lower s.upper) refl) o
+
+pub root_inside : (s : SpanOf) (f : Ends) → IsLevel s f → opposite f.at_lower f.at_upper ≡ true → has s (root_at f.at_lower f.at_upper s.lower s.upper) ≡ true
+root_inside s f l o = let r = is_root s f l o in rw (r.after, r.until) refl
+
+less_equal : Less ≡ Equal → ⊥
+less_equal e = cc
+
+greater_equal : Greater ≡ Equal → ⊥
+greater_equal e = cc
+
+opposite_signs : (f0 f1 : Ratio) → opposite f0 f1 ≡ true → (sign_of f0 ≡ Equal → ⊥) × (sign_of f1 ≡ Equal → ⊥)
+opposite_signs f0 f1 o = elim (opposite_cases f0 f1 o) [
+    inl k ↦ (λ e. less_equal (sym (sign_below f0 k.0) ∙ e), λ e. greater_equal (sym (sign_above f1 k.1) ∙ e))
+  | inr k ↦ (λ e. greater_equal (sym (sign_above f0 k.0) ∙ e), λ e. less_equal (sym (sign_below f1 k.1) ∙ e)) ]
+
+only_zero : (f0 f1 l u r t : Ratio) → IsRoot f0 f1 l u r → (sign_of f0 ≡ Equal → ⊥) → (sign_of f1 ≡ Equal → ⊥) → line_at f0 f1 l u t ≡ nil → (a b : Bool) → before t r ≡ a → before r t ≡ b → t ≡ r
+only_zero f0 f1 l u r t h n0 n1 z true b e k = absurd (n0 (sym (h.left t e) ∙ ap sign_of z ∙ sign_nil))
+only_zero f0 f1 l u r t h n0 n1 z false true e k = absurd (n1 (sym (h.right t k) ∙ ap sign_of z ∙ sign_nil))
+only_zero f0 f1 l u r t h n0 n1 z false false e k = before-neither t r e k
+
+pub one_root : (s : SpanOf) (f : Ends) → IsLevel s f → opposite f.at_lower f.at_upper ≡ true → IsOneRoot s f (root_at f.at_lower f.at_upper s.lower s.upper)
+one_root s f l o =
+    let h = is_root s f l o in
+    let n = opposite_signs f.at_lower f.at_upper o in
+    let r = root_at f.at_lower f.at_upper s.lower s.upper in
+    record { after = h.after; until = h.until; zero = h.zero; only = λ t z. only_zero f.at_lower f.at_upper s.lower s.upper r t h n.0 n.1 z (before t r) (before r t) refl refl }
+
+-- the difference of the ends is not 0
+sub_zero : (a b : Ratio) → a -ℚ b ≡ nil → a ≡ b
+sub_zero = clear2 _ (λ D a b p h. let h' = simp cleared at h in simp cleared (omega (arith, linear)))
+
+ne_by : (f0 f1 : Ratio) → before f0 f1 ≡ true → f0 -ℚ f1 ≡ nil → ⊥
+ne_by f0 f1 h e = true≢false (sym h ∙ ap (λ z. before z f1) (sub_zero f0 f1 e) ∙ before-self f1)
+
+ne_by' : (f0 f1 : Ratio) → before f1 f0 ≡ true → f0 -ℚ f1 ≡ nil → ⊥
+ne_by' f0 f1 h e = true≢false (sym h ∙ ap (λ z. before f1 z) (sub_zero f0 f1 e) ∙ before-self f1)
+
+pub opposite_differ : (f0 f1 : Ratio) → opposite f0 f1 ≡ true → f0 -ℚ f1 ≡ nil → ⊥
+opposite_differ f0 f1 h e = elim (opposite_cases f0 f1 h) [ inl k ↦ ne_by f0 f1 (before-trans f0 nil f1 k.0 k.1) e | inr k ↦ ne_by' f0 f1 (before-trans f1 nil f0 k.1 k.0) e ]
+
+-- opposite by signs
+opp : (a b c d : Bool) → (a && b) ≡ false → (c && d) ≡ false → opposes (cond a Less (cond b Greater Equal)) (cond c Less (cond d Greater Equal)) ≡ ((a && d) || (b && c))
+opp true true c d h k = absurd (true≢false h)
+opp true false true true h k = absurd (true≢false k)
+opp true false true false h k = refl
+opp true false false true h k = refl
+opp true false false false h k = refl
+opp false true true true h k = absurd (true≢false k)
+opp false true true false h k = refl
+opp false true false true h k = refl
+opp false true false false h k = refl
+opp false false true true h k = absurd (true≢false k)
+opp false false true false h k = refl
+opp false false false true h k = refl
+opp false false false false h k = refl
+
+not_two : (x y : Ratio) → (before x y && before y x) ≡ false
+not_two x y = grind (arith, before-back x y)
+
+pub opposite_by : (x y : Ratio) → opposes (sign_of x) (sign_of y) ≡ opposite x y
+unfolding sign_of opposite
+opposite_by x y = opp (before x nil) (before nil x) (before y nil) (before nil y) (not_two x nil) (not_two y nil)
+
+-- the sign, as it is looked up
+pub less_by : (x : Ratio) → x <ℚ whole (pos 0) → Less ≡ sign_of x
+less_by x h = sym (sign_below x (lt-before x nil h))
+
+pub equal_by : (x : Ratio) → x ≡ whole (pos 0) → Equal ≡ sign_of x
+equal_by x h = sym (ap sign_of h ∙ sign_nil)
+
+pub greater_by : (x : Ratio) → (x <ℚ whole (pos 0) → ⊥) → (x ≡ whole (pos 0) → ⊥) → Greater ≡ sign_of x
+greater_by x h k = sym (sign_above x (above (before nil x) refl))
+  where
+    above : (b : Bool) → before nil x ≡ b → before nil x ≡ true
+    above true e = e
+    above false e = absurd (k (before-neither x nil (false_unless (before x nil) (λ m. h (before-lt x nil m))) e))
+
+-- the parts of the root, once they are named
+pub root_last : {E : Type 0} (r : Result Ratio E) (f0 f1 l u d q w s : Ratio) → (d ≡ f0 -ℚ f1) × Fits (f0 -ℚ f1) → (q ≡ f0 /ℚ d) × Fits (f0 /ℚ d) → (w ≡ u -ℚ l) × Fits (u -ℚ l) → (s ≡ w *ℚ q) × Fits (w *ℚ q) → IsExact (l +ℚ s) r → IsFormula (inner_root_parts f0 f1 l u) (root_at f0 f1 l u) r
+unfolding root_at
+root_last r f0 f1 l u d q w s hd hq hw hs h =
+    let q' : q ≡ f0 /ℚ (f0 -ℚ f1) = hq.0 ∙ ap (λ z. f0 /ℚ z) hd.0 in
+    let fq : Fits (f0 /ℚ (f0 -ℚ f1)) = subst Fits (sym hq.0 ∙ q') hq.1 in
+    let s' : s ≡ (u -ℚ l) *ℚ (f0 /ℚ (f0 -ℚ f1)) = hs.0 ∙ ap (λ z. z *ℚ q) hw.0 ∙ ap (λ z. (u -ℚ l) *ℚ z) q' in
+    let fs : Fits ((u -ℚ l) *ℚ (f0 /ℚ (f0 -ℚ f1))) = subst Fits (sym hs.0 ∙ s') hs.1 in
+    last_part ((f0 -ℚ f1) ∷ (f0 /ℚ (f0 -ℚ f1)) ∷ (u -ℚ l) ∷ ((u -ℚ l) *ℚ (f0 /ℚ (f0 -ℚ f1))) ∷ []) (l +ℚ (u -ℚ l) *ℚ (f0 /ℚ (f0 -ℚ f1))) (l +ℚ (u -ℚ l) *ℚ (f0 /ℚ (f0 -ℚ f1))) r refl
+    (hd.1, (fq, (hw.1, (fs, tt))))
+    (subst (λ z. IsExact (l +ℚ z) r) s' h)
