@@ -14,8 +14,9 @@ use Rattle.mob_slice.specs.declared.slice.Slice.{Slice}
 use Rattle.mob_slice.specs.declared.formula.Formula.{Formula}
 use Rattle.mob_slice.specs.declared.formula.OpFault.{OpFault}
 use Rattle.mob_slice.specs.declared.formula.OpFault.TheVariants.{Passed, NoMemory}
-use Rattle.mob_cells.specs.Kept.{AreKept, kept_value}
-use Rattle.mob_cells.specs.Restricted.{where_kept, AreRestricted}
+use Rattle.mob_cells.specs.Kept.{AreKept}
+use Rattle.mob_cells.specs.Restricted.{kept_value}
+use Rattle.mob_cells.specs.Restricted.{where_wanted, AreRestricted}
 use Rattle.mob_cells.proofs.Joining.{LiftsTo, IsLifted, is_lifted}
 
 none_some : {A : Type 0} {R : Type 0} (x : A) → None ≡ Some x → R
@@ -43,11 +44,11 @@ module _ {C B : Type 0} (value : C → Ratio → Ratio → Ratio → B) (start e
       head s [] h = tt
       head s (r ∷ v) h = h
 
-  found_by : (s : Slice C) (v : List (Slice C)) (t : Ratio) (o : Option B) (b : Bool) → has s.span t ≡ b → (MatchOption (part_at (λ s. s.span) v t) (o ≡ None) (λ p. (w : List (Slice C)) × GivesSlice p w × (o ≡ value_at value w t)) → o ≡ where_kept want (holds t) (value_at value v t)) → MatchOption (cond b (Some s) (part_at (λ s. s.span) v t)) (o ≡ None) (λ p. (w : List (Slice C)) × GivesSlice p w × (o ≡ value_at value w t)) → o ≡ where_kept want (holds t) (cond b (Some (value s.course s.span.lower s.span.upper t)) (value_at value v t))
+  found_by : (s : Slice C) (v : List (Slice C)) (t : Ratio) (o : Option B) (b : Bool) → has s.span t ≡ b → (MatchOption (part_at (λ s. s.span) v t) (o ≡ None) (λ p. (w : List (Slice C)) × GivesSlice p w × (o ≡ value_at value w t)) → o ≡ where_wanted want (holds t) (value_at value v t)) → MatchOption (cond b (Some s) (part_at (λ s. s.span) v t)) (o ≡ None) (λ p. (w : List (Slice C)) × GivesSlice p w × (o ≡ value_at value w t)) → o ≡ where_wanted want (holds t) (cond b (Some (value s.course s.span.lower s.span.upper t)) (value_at value v t))
   found_by s v t o true e f m = m.2 ∙ m.1.values t e
   found_by s v t o false e f m = f m
 
-  found : (v : List (Slice C)) (t : Ratio) (o : Option B) → MatchOption (part_at (λ s. s.span) v t) (o ≡ None) (λ p. (w : List (Slice C)) × GivesSlice p w × (o ≡ value_at value w t)) → o ≡ where_kept want (holds t) (value_at value v t)
+  found : (v : List (Slice C)) (t : Ratio) (o : Option B) → MatchOption (part_at (λ s. s.span) v t) (o ≡ None) (λ p. (w : List (Slice C)) × GivesSlice p w × (o ≡ value_at value w t)) → o ≡ where_wanted want (holds t) (value_at value v t)
   found [] t o m = m
   found (s ∷ v) t o m = found_by s v t o (has s.span t) refl (found v t o) m
 

@@ -32,16 +32,13 @@ use Rattle.mob_slice.proofs.Cuts.{all_both, all_first, all_second}
 use Rattle.mob_cells.specs.declared.linear.Ends.{Ends}
 use Rattle.mob_cells.specs.Roots.{roots, roots_parts}
 use Rattle.mob_cells.specs.Cells.{AreCells, AreCutAt, IsCut, IsSomeEnd, signs_of, CellsOf}
-use Rattle.mob_cells.specs.Kept.{AreKept, IsKeptBy, kept_value, is_wanted, refusal_of, IsCellFault, entry_of_cuts, entry_of_roots, entries_of_cuts}
+use Rattle.mob_cells.specs.Kept.{AreKept, IsKeptBy, IsCellFault, entry_of_cuts, entry_of_roots, entries_of_cuts}
+use Rattle.mob_cells.specs.Restricted.{kept_value, is_wanted}
+use Rattle.mob_slice.specs.Entries.{operator_fault}
 use Rattle.mob_cells.proofs.Joining.{LiftsTo, IsLifted, is_lifted}
 use Rattle.mob_cells.proofs.Making.{each_get}
 
 -- ---- one cell
-wanted_value : {B : Type 0} (want k : Bool) (x : B) → cond (is_wanted want k) (Some x) None ≡ kept_value want k x
-wanted_value true k x = refl
-wanted_value false true x = refl
-wanted_value false false x = refl
-
 module _ {C B : Type 0} (value : C → Ratio → Ratio → Ratio → B) (start end : C → B) where
   kept_by : (f : Ratio → B) (g : Ratio → Option B) (c : SpanOf) (part : Slice C) (k : Bool) → HasValues value start end f c part → ((t : Ratio) → has c t ≡ true → g t ≡ cond k (Some (f t)) None) → AreKept value start end g c (cond k (part ∷ []) [])
   kept_by f g c part true h e = record {
@@ -52,7 +49,7 @@ module _ {C B : Type 0} (value : C → Ratio → Ratio → Ratio → B) (start e
   kept_by f g c part false h e = record { ordered = tt; inside = tt; values = λ t i. sym (e t i) }
 
   pub kept_is : (f : Ratio → B) (c : SpanOf) (part : Slice C) (want : Bool) (keeps : List Ordering → Bool) (signs : Ratio → List Ordering) (os : List Ordering) (k : Bool) → HasValues value start end f c part → ((t : Ratio) → has c t ≡ true → os ≡ signs t) → k ≡ is_wanted want (keeps os) → AreKept value start end (λ t. kept_value want (keeps (signs t)) (f t)) c (cond k (part ∷ []) [])
-  kept_is f c part want keeps signs os k h n e = kept_by f (λ t. kept_value want (keeps (signs t)) (f t)) c part k h (λ t i. sym (wanted_value want (keeps (signs t)) (f t)) ∙ ap (λ z. cond (is_wanted want (keeps z)) (Some (f t)) None) (sym (n t i)) ∙ ap (λ b. cond b (Some (f t)) None) (sym e))
+  kept_is f c part want keeps signs os k h n e = kept_by f (λ t. kept_value want (keeps (signs t)) (f t)) c part k h (λ t i. ap (λ z. cond (is_wanted want (keeps z)) (Some (f t)) None) (sym (n t i)) ∙ ap (λ b. cond b (Some (f t)) None) (sym e))
 
   pub cell_is : {V : Type 0} (items : V → List (Slice C)) (r : Result V OpFault) (f : Ratio → B) (c : SpanOf) (part : Slice C) (want : Bool) (keeps : List Ordering → Bool) (signs : Ratio → List Ordering) (os : List Ordering) (k : Bool) (fits : List Ratio) → HasValues value start end f c part → AllFit fits → ((t : Ratio) → has c t ≡ true → os ≡ signs t) → k ≡ is_wanted want (keeps os) → MatchResult r (λ v. items v ≡ cond k (part ∷ []) []) (λ e. e ≡ NoMemory) → MatchResult r (λ v. AreKept value start end (λ t. kept_value want (keeps (signs t)) (f t)) c (items v) × AllFit fits) (IsCellFault fits)
   cell_is items (Ok v) f c part want keeps signs os k fits h a n e m = (rw m (kept_is f c part want keeps signs os k h n e), a)
@@ -65,7 +62,7 @@ flag_is c keeps signs os b k n e = record {
   values = λ t i. rw i (ap Some (e ∙ ap keeps (n t i)));
 }
 
-pub cell_fault : (copies : Bool) (fits : List Ratio) (f : LookFault) (e : OpFault) → IsLookFault copies fits f → e ≡ refusal_of f → IsCellFault fits e
+pub cell_fault : (copies : Bool) (fits : List Ratio) (f : LookFault) (e : OpFault) → IsLookFault copies fits f → e ≡ operator_fault f → IsCellFault fits e
 cell_fault copies fits (LookPassed f) e h i = rw i h
 cell_fault copies fits LookNoMemory e h i = rw i tt
 

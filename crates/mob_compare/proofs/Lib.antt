@@ -1,1 +1,2 @@
 pub mod TrueSpans
+pub mod Comparing

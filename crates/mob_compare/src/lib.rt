@@ -1,8 +1,8 @@
-//! The six comparisons, instant by instant, on temporal values that go by steps, and when a truth value is true.
+//! The six comparisons, instant by instant, on temporal values, and when a truth value is true.
 #![tactic(auto)]
 
-mod steps;
+mod courses;
 mod times;
 
-pub use steps::compare;
+pub use courses::compare;
 pub use times::when_true;

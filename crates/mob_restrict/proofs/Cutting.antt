@@ -34,7 +34,8 @@ use Rattle.mob_lift.proofs.OnPieces.{one_on}
 use Rattle.mob_lift.proofs.PieceLaws.{map_at, twice, both_map}
 use Rattle.mob_lift.proofs.Pointwise.{mapped_at}
 use Rattle.mob_lift.proofs.Judged.{judged}
-use Rattle.mob_restrict.specs.Restricted.{entry_of_cut, where_wanted, AreRestricted}
+use Rattle.mob_cells.specs.Restricted.{where_wanted, AreRestricted}
+use Rattle.mob_restrict.specs.Cuts.{entry_of_cut}
 
 -- one cut, or why it was not given
 module _ {C : Type 0} (lines : C → Ratio → Ratio → Ratio → List Ratio) (p : PieceOf (Slice C) SpanOf) where

@@ -10,7 +10,8 @@ use Rattle.mob_span.specs.Span.{SpanOf}
 use Rattle.mob_span.specs.Meets.{shared_pieces}
 use Rattle.mob_slice.specs.declared.slice.Slice.{Slice}
 use Rattle.mob_slice.specs.declared.formula.Formula.TheVariants.{F1}
-use Rattle.mob_restrict.specs.Restricted.{where_wanted, entry_of_cut}
+use Rattle.mob_cells.specs.Restricted.{where_wanted}
+use Rattle.mob_restrict.specs.Cuts.{entry_of_cut}
 
 -- a value is kept where the instant is asked for, and in the minus form where it is not
 kept : where_wanted true (λ (x : Ratio). true) (Some (whole (pos 1))) ≡ Some (whole (pos 1))

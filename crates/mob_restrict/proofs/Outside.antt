@@ -28,7 +28,8 @@ use Rattle.mob_slice.specs.declared.formula.OpFault.{OpFault}
 use Rattle.mob_slice.specs.declared.formula.OpFault.TheVariants.{Passed, NoMemory}
 use Rattle.mob_slice.proofs.Cuts.{all_both, all_first, all_second}
 use Rattle.mob_lift.proofs.Judged.{none_some}
-use Rattle.mob_restrict.specs.Restricted.{entry_of_cut, where_wanted, AreRestricted}
+use Rattle.mob_cells.specs.Restricted.{where_wanted, AreRestricted}
+use Rattle.mob_restrict.specs.Cuts.{entry_of_cut}
 
 -- a value is defined in its time alone
 gone : {C B : Type 0} (value : C → Ratio → Ratio → Ratio → B) (h : SpanOf) (v : List (Slice C)) (t : Ratio) → AllByRecursion (λ s. is_inside h s.span ≡ true) v → has h t ≡ false → value_at value v t ≡ None

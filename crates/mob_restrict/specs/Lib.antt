@@ -1,3 +1,3 @@
-pub mod Restricted
+pub mod Cuts
 pub mod Times
 pub mod Coordinates

@@ -8,7 +8,8 @@ ghost use Rattle.mob_slice.specs.Parts.{HoldsMet};
 ghost use Rattle.mob_slice.specs.Cut.{slice_value};
 ghost use Rattle.mob_slice.specs.Entries.{IsJudged};
 ghost use Rattle.mob_lift.specs.Given.{IsGiven};
-ghost use Rattle.mob_restrict.specs.Restricted.{IsRestricted, AreRestricted, entry_of_cut};
+ghost use Rattle.mob_cells.specs.Restricted.{IsRestricted, AreRestricted};
+ghost use Rattle.mob_restrict.specs.Cuts.{entry_of_cut};
 
 use mob_lift::{lift, listed};
 use mob_normal::normal;

@@ -4,7 +4,8 @@ use Rattle.mob_span.specs.Meets.{shared_pieces}
 use Rattle.mob_span.specs.Sets.{in_some}
 use Rattle.mob_span.proofs.Leaving.{set_clear}
 use Rattle.mob_slice.specs.Entries.{IsJudged}
-use Rattle.mob_restrict.specs.Restricted.{AreRestricted, entry_of_cut}
+use Rattle.mob_cells.specs.Restricted.{AreRestricted}
+use Rattle.mob_restrict.specs.Cuts.{entry_of_cut}
 use Rattle.mob_restrict.proofs.by_time.inside.Goals as goal
 
 pub within-requires : goal.within-requires

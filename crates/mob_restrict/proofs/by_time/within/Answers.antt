@@ -9,7 +9,7 @@ use Rattle.mob_slice.specs.declared.formula.OpFault.TheVariants.{Passed}
 use Rattle.mob_slice.proofs.Orders.{ordered, ordered-clear}
 use Rattle.mob_slice.proofs.Yielded.{clear_along, all_along}
 use Rattle.mob_lift.specs.Given.{IsGiven}
-use Rattle.mob_restrict.specs.Restricted.{entry_of_cut}
+use Rattle.mob_restrict.specs.Cuts.{entry_of_cut}
 use Rattle.mob_restrict.proofs.Cutting.{met_hold, whole_within}
 use Rattle.mob_restrict.proofs.by_time.within.Goals as goal
 

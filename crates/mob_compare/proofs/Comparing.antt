@@ -1,0 +1,116 @@
+-- A comparison on one piece.
+use Rattle.std.specs.Prelude.{◌≡◌, Bool, true, false, List, [], ◌∷◌, ◌++◌, Option, Some, None, Result, Ok, Err, MatchResult, refl}
+use Rattle.std.specs.List.{AllByRecursion}
+use Rattle.std.proofs.Common.{ap, sym, ◌∙◌, subst, inl, inr}
+use Rattle.mob_ratio.specs.Ratio.{Ratio}
+use Rattle.mob_ratio.specs.Order.{before}
+use Rattle.mob_frac.specs.Formula.{AllFit}
+use Rattle.mob_span.specs.Span.{SpanOf, has, has_instant}
+use Rattle.mob_span.specs.Meets.{PieceOf}
+use Rattle.mob_span.proofs.Insides.{inside_self}
+use Rattle.mob_slice.specs.Course.{IsCourse}
+use Rattle.mob_slice.specs.Comparison.{IsComparison, MayAsk, gap_parts}
+use Rattle.mob_slice.specs.Look.{IsLookFault}
+use Rattle.mob_slice.specs.Operands.{steady_value, steady_limit}
+use Rattle.mob_slice.specs.Sides.{SideOf, Moves, Stays, side_at, side_parts, at_ends, HasValues}
+use Rattle.mob_slice.specs.Entries.{Entry, IsFirst, OnFormula, operator_fault}
+use Rattle.mob_slice.specs.declared.slice.Slice.{Slice}
+use Rattle.mob_slice.specs.declared.steady.Steady.{Steady}
+use Rattle.mob_slice.specs.declared.comparison.Rel.{Rel}
+use Rattle.mob_slice.specs.declared.comparison.Gaps.{Gaps}
+use Rattle.mob_slice.specs.declared.comparison.Gaps.TheVariants.{Constant}
+use Rattle.mob_slice.specs.declared.formula.Formula.{Formula}
+use Rattle.mob_slice.specs.declared.formula.OpFault.{OpFault}
+use Rattle.mob_slice.specs.declared.formula.OpFault.TheVariants.{Passed, NoMemory}
+use Rattle.mob_slice.specs.declared.formula.LookFault.{LookFault}
+use Rattle.mob_slice.specs.declared.formula.LookFault.TheVariants.{Passed as LookPassed, NoMemory as LookNoMemory}
+use Rattle.mob_slice.proofs.Cuts.{all_both, all_first, all_second}
+use Rattle.mob_lift.specs.Given.{AreOn, IsGiven, on_sides}
+use Rattle.mob_cells.specs.declared.linear.Ends.{Ends}
+use Rattle.mob_cells.specs.Roots.{IsLevel}
+use Rattle.mob_cells.specs.Cells.{signs_of}
+use Rattle.mob_cells.specs.Kept.{IsKeptBy, entry_of_roots}
+use Rattle.mob_cells.specs.Gaps.{gap_ends, related_by, IsGapFault}
+use Rattle.mob_cells.proofs.GapSigns.{by_gaps, no_gaps, gaps_level}
+use Rattle.mob_compare.specs.Compared.{entries_of_gaps, piece_gaps}
+
+module _ {C B : Type 0} (value : C → Ratio → Ratio → Ratio → B) (lines : C → Ratio → Ratio → Ratio → List Ratio) (gaps : B → B → Gaps) (p : PieceOf (SideOf C B) (SideOf C B)) where
+  pub left_fails : (copies : Bool) (f : LookFault) → IsLookFault copies (at_ends (side_parts lines p.left) p.span) f → OnFormula (λ g. IsFirst (entries_of_gaps value lines gaps p) (Some g)) (operator_fault f)
+  left_fails copies (LookPassed f) h = inr (λ all. h.1 (all_first (at_ends (side_parts lines p.left) p.span) (at_ends (side_parts lines p.right) p.span) all), ap Some h.0)
+  left_fails copies LookNoMemory h = tt
+
+  pub right_fails : (copies : Bool) (f : LookFault) → IsLookFault copies (at_ends (side_parts lines p.right) p.span) f → OnFormula (λ g. IsFirst (entries_of_gaps value lines gaps p) (Some g)) (operator_fault f)
+  right_fails copies (LookPassed f) h = inr (λ all. h.1 (all_second (at_ends (side_parts lines p.left) p.span) (at_ends (side_parts lines p.right) p.span) all), ap Some h.0)
+  right_fails copies LookNoMemory h = tt
+
+  module _ {start end : C → B} (l r : Slice C) (hl : HasValues value start end (side_at value p.left) p.span l) (hr : HasValues value start end (side_at value p.right) p.span r)
+      (fl : AllFit (at_ends (side_parts lines p.left) p.span)) (fr : AllFit (at_ends (side_parts lines p.right) p.span)) where
+    low : gaps (start l.course) (start r.course) ≡ piece_gaps value gaps p p.span.lower
+    low = ap (λ x. gaps x (start r.course)) hl.from ∙ ap (λ y. gaps (side_at value p.left p.span.lower) y) hr.from
+
+    high : gaps (end l.course) (end r.course) ≡ piece_gaps value gaps p p.span.upper
+    high = ap (λ x. gaps x (end r.course)) hl.to ∙ ap (λ y. gaps (side_at value p.left p.span.upper) y) hr.to
+
+    same_parts : gap_parts (gaps (start l.course) (start r.course)) ++ gap_parts (gaps (end l.course) (end r.course)) ≡ at_ends (λ t. gap_parts (piece_gaps value gaps p t)) p.span
+    same_parts = ap (λ g. gap_parts g ++ gap_parts (gaps (end l.course) (end r.course))) low ∙ ap (λ g. gap_parts (piece_gaps value gaps p p.span.lower) ++ gap_parts g) high
+
+    same_ends : gap_ends (gaps (start l.course) (start r.course)) (gaps (end l.course) (end r.course)) ≡ gap_ends (piece_gaps value gaps p p.span.lower) (piece_gaps value gaps p p.span.upper)
+    same_ends = ap (λ g. gap_ends g (gaps (end l.course) (end r.course))) low ∙ ap (λ g. gap_ends (piece_gaps value gaps p p.span.lower) g) high
+
+    first_fit : AllFit (at_ends (side_parts lines p.left) p.span ++ at_ends (side_parts lines p.right) p.span)
+    first_fit = all_both (at_ends (side_parts lines p.left) p.span) (at_ends (side_parts lines p.right) p.span) fl fr
+
+    pub gaps_fail : (f : OpFault) → IsGapFault (gap_parts (gaps (start l.course) (start r.course)) ++ gap_parts (gaps (end l.course) (end r.course))) f → OnFormula (λ g. IsFirst (entries_of_gaps value lines gaps p) (Some g)) f
+    gaps_fail (Passed f) h = inl (first_fit, inr (subst (λ z. ¬ AllFit z) same_parts h.1, ap Some h.0))
+    gaps_fail NoMemory h = tt
+
+    pub level_gaps : (fs : List Ends) → fs ≡ gap_ends (gaps (start l.course) (start r.course)) (gaps (end l.course) (end r.course)) → AllByRecursion (IsLevel p.span) fs
+    level_gaps fs e = rw e (gaps_level p.span (gaps (start l.course) (start r.course)) (gaps (end l.course) (end r.course)) (λ n.
+        ap (λ x. gaps x (start r.course)) (hl.sound.level (subst (λ z. before z.lower z.upper ≡ false) (sym hl.on) n)) ∙ ap (λ y. gaps (end l.course) y) (hr.sound.level (subst (λ z. before z.lower z.upper ≡ false) (sym hr.on) n))))
+
+    module _ {relation : Rel → B → B → Bool} {steady ordered : Bool} (laws : IsComparison steady ordered value start end relation gaps) (moves : steady ≡ false) (rel : Rel) (asked : MayAsk ordered rel) (fs : List Ends) (e : fs ≡ gap_ends (gaps (start l.course) (start r.course)) (gaps (end l.course) (end r.course)))
+        (fits : AllFit (gap_parts (gaps (start l.course) (start r.course)) ++ gap_parts (gaps (end l.course) (end r.course)))) where
+      related : (t : Ratio) → has p.span t ≡ true → related_by rel (signs_of p.span fs t) ≡ relation rel (side_at value p.left t) (side_at value p.right t)
+      related t i =
+          ap (λ z. related_by rel (signs_of p.span z t)) e
+          ∙ sym (by_gaps laws moves rel asked l.course r.course p.span t)
+          ∙ ap (λ x. relation rel x (value r.course p.span.lower p.span.upper t)) (subst (λ z. value l.course z.lower z.upper t ≡ side_at value p.left t) hl.on (hl.same t i))
+          ∙ ap (λ y. relation rel (side_at value p.left t) y) (subst (λ z. value r.course z.lower z.upper t ≡ side_at value p.right t) hr.on (hr.same t i))
+
+      behind : (r : Option Formula) → IsFirst (entry_of_roots p.span fs ∷ []) r → IsFirst (entries_of_gaps value lines gaps p) r
+      behind r h = inl (first_fit, inl (subst AllFit same_parts fits, subst (λ z. IsFirst (entry_of_roots p.span z ∷ []) r) (e ∙ same_ends) h))
+
+      pub lines_given : {V : Type 0} (items : V → List (Slice (Steady Bool))) (q : Result V OpFault) → IsKeptBy steady_value steady_limit steady_limit items (λ t. Some (related_by rel (signs_of p.span fs t))) p.span (entry_of_roots p.span fs ∷ []) q → IsGiven steady_value steady_limit steady_limit items (on_sides value value (relation rel) p) p.span (entries_of_gaps value lines gaps p) q
+      lines_given items (Ok v) m = (record { ordered = m.0.ordered; inside = m.0.inside; values = λ t i. m.0.values t i ∙ ap Some (related t i) }, behind None m.1)
+      lines_given items (Err (Passed f)) m = behind (Some f) m
+      lines_given items (Err NoMemory) m = tt
+
+-- ---- steady courses
+none_by : (xs ys : List Ratio) → xs ≡ [] → ys ≡ [] → xs ++ ys ≡ []
+none_by xs ys e f = rw (e, f) refl
+
+module _ {C B : Type 0} {steady copies : Bool} {value : C → Ratio → Ratio → Ratio → B} {start end : C → B} {can_make : B → B → Type 0} {make : B → B → C} {continues : C → C → Ratio → Ratio → Ratio → Bool} {parts : C → Ratio → Ratio → Ratio → List Ratio} (laws : IsCourse steady copies value start end can_make make continues parts)
+    {relation : Rel → B → B → Bool} {gaps : B → B → Gaps} {ordered : Bool} (comparison : IsComparison steady ordered value start end relation gaps) (s : steady ≡ true) (p : PieceOf (SideOf C B) (SideOf C B)) where
+  side_none : (q : SideOf C B) (t : Ratio) → side_parts parts q t ≡ []
+  side_none (Moves x) t = laws.no_parts s x.course x.span.lower x.span.upper t
+  side_none (Stays b) t = refl
+
+  ends_none : (f : Ratio → List Ratio) → ((t : Ratio) → f t ≡ []) → at_ends f p.span ≡ []
+  ends_none f h = none_by (f p.span.lower) (f p.span.upper) (h p.span.lower) (h p.span.upper)
+
+  gap_none : (t : Ratio) → piece_gaps value gaps p t ≡ Constant
+  gap_none t = no_gaps comparison s (side_at value p.left t) (side_at value p.right t)
+
+  fit_by : (xs : List Ratio) → xs ≡ [] → AllFit xs
+  fit_by xs e = rw e tt
+
+  steady_first : IsFirst (entries_of_gaps value parts gaps p) None
+  steady_first = inl (
+    fit_by (at_ends (side_parts parts p.left) p.span ++ at_ends (side_parts parts p.right) p.span) (none_by (at_ends (side_parts parts p.left) p.span) (at_ends (side_parts parts p.right) p.span) (ends_none (side_parts parts p.left) (side_none p.left)) (ends_none (side_parts parts p.right) (side_none p.right))),
+    inl (
+      fit_by (at_ends (λ t. gap_parts (piece_gaps value gaps p t)) p.span) (ends_none (λ t. gap_parts (piece_gaps value gaps p t)) (λ t. ap gap_parts (gap_none t))),
+      subst (λ z. IsFirst (entry_of_roots p.span z ∷ []) None) (sym (ap (λ h. gap_ends h (piece_gaps value gaps p p.span.upper)) (gap_none p.span.lower))) (inl (tt, refl))))
+
+  pub steady_given : {V : Type 0} (items : V → List (Slice (Steady Bool))) (rel : Rel) (q : Result V OpFault) (b : Bool) → has_instant p.span ≡ true → ((t : Ratio) → b ≡ relation rel (side_at value p.left t) (side_at value p.right t)) → MatchResult q (λ v. items v ≡ record { span = p.span; course = record { value = b } } ∷ []) (λ e. e ≡ NoMemory) → IsGiven steady_value steady_limit steady_limit items (on_sides value value (relation rel) p) p.span (entries_of_gaps value parts gaps p) q
+  steady_given items rel (Ok v) b k h m = (rw m (record { ordered = (record { some = k; level = λ n. refl }, tt, tt); inside = (inside_self p.span, tt); values = λ t i. rw i (ap Some (h t)) }), steady_first)
+  steady_given items rel (Err f) b k h m = rw m tt
