@@ -2,4 +2,5 @@ pub mod Cutting
 pub mod SpansOf
 pub mod Outside
 pub mod Axes
+pub mod ToOne
 mod Examples

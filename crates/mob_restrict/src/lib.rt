@@ -1,11 +1,13 @@
-//! Restriction by time: a temporal value at the instants of a set, or at all others, and the instants at which it is defined. The
-//! coordinates of a moving point.
+//! Restriction by time and by value: a temporal value at the instants of a set or of a value, or at all others, and the instants at which
+//! it is defined. The coordinates of a moving point.
 #![tactic(auto)]
 
 mod by_time;
+mod by_value;
 mod coordinates;
 mod defined;
 
 pub use by_time::{at_time, minus_time};
+pub use by_value::{at_value, minus_value};
 pub use coordinates::{get_x, get_y};
 pub use defined::get_time;

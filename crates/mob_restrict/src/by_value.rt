@@ -1,0 +1,145 @@
+ghost use Rattle.std.specs.Prelude.{◌≡◌, true, false, IfOk};
+ghost use Rattle.std.specs.List.{flat_map};
+ghost use Rattle.mob_slice.specs.Slices.{IsSound};
+ghost use Rattle.mob_slice.specs.Cut.{slice_value};
+ghost use Rattle.mob_slice.specs.Entries.{IsJudged};
+ghost use Rattle.mob_slice.specs.declared.comparison.Rel.TheVariants.{Eq};
+ghost use Rattle.mob_cells.specs.Kept.{IsKeptBy};
+ghost use Rattle.mob_cells.specs.Restricted.{IsRestricted, kept_value};
+ghost use Rattle.mob_restrict.specs.Values.{entries_of_value};
+
+use mob_cells::{ByGaps, Restriction, gap_functions, is_wanted, kept, restricted};
+use mob_lift::listed;
+use mob_normal::normal;
+use mob_slice::{Compared, Course, Moving, OpFault, Rel, Slice, cut, operator_fault};
+use std::alloc::Global;
+
+// What is left of a slice of a course that is not steady.
+fn on_lines<C: Compared + Drop>(
+    alloc: Global,
+    slice: &Slice<C>,
+    value: &C::Base,
+    want: bool,
+) -> Result<Vec<Slice<C>>, OpFault>
+where
+    C::Base: Drop,
+    requires moves { C.STEADY ≡ false }
+    requires sound { IsSound C.start_of C.end_of slice.now }
+    ensures kept { IsKeptBy C.value_of C.start_of C.end_of (λ v. v.items) (λ t. kept_value want (C.relation Eq (slice_value C.value_of slice.now t) value.now) (slice_value C.value_of slice.now t)) slice.now.span (entries_of_value C.value_of C.parts_of C.gaps_of value.now slice.now) result }
+{
+    let functions = match gap_functions::<C>(
+        alloc,
+        slice.course.start(),
+        value,
+        slice.course.end(),
+        value,
+    ) {
+        Ok(functions) => functions,
+        Err(fault) => return Err(fault),
+    };
+    kept(
+        alloc,
+        slice,
+        &slice.span,
+        functions,
+        &ByGaps { rel: Rel::Eq },
+        want,
+    )
+}
+
+// What is left of a slice of a steady course: all of it, or nothing.
+fn on_steps<C: Compared + Drop>(
+    alloc: Global,
+    slice: &Slice<C>,
+    value: &C::Base,
+    want: bool,
+) -> Result<Vec<Slice<C>>, OpFault>
+where
+    C::Base: Drop,
+    requires steady { C.STEADY ≡ true }
+    requires sound { IsSound C.start_of C.end_of slice.now }
+    ensures kept { IsKeptBy C.value_of C.start_of C.end_of (λ v. v.items) (λ t. kept_value want (C.relation Eq (slice_value C.value_of slice.now t) value.now) (slice_value C.value_of slice.now t)) slice.now.span (entries_of_value C.value_of C.parts_of C.gaps_of value.now slice.now) result }
+{
+    let keeps = C::relates(Rel::Eq, slice.course.start(), value);
+    if !is_wanted(want, keeps) {
+        return Ok(Vec::new(alloc));
+    }
+    match cut(alloc, slice, &slice.span) {
+        Ok(part) => listed(alloc, part),
+        Err(fault) => Err(operator_fault(fault)),
+    }
+}
+
+// The condition that a value is a given one.
+#[derive(Drop)]
+struct ToValue<'a, C: Course> {
+    value: &'a C::Base,
+}
+
+impl<'a, C: Compared + Drop> Restriction<C> for ToValue<'a, C>
+where
+    C::Base: Drop,
+{
+    ghost cond = { λ by t x. C.relation Eq x by.value.now };
+
+    ghost entries = { λ by s. entries_of_value C.value_of C.parts_of C.gaps_of by.value.now s };
+
+    fn on_slice(&self, alloc: Global, slice: &Slice<C>, want: bool) -> Result<Vec<Slice<C>>, OpFault> {
+        if C::STEADY {
+            return on_steps::<C>(alloc, slice, self.value, want);
+        }
+        on_lines::<C>(alloc, slice, self.value, want)
+    }
+}
+
+// The restriction to the instants at which equality with the value has the wanted truth value.
+fn to_value<C: Compared + Drop>(
+    alloc: Global,
+    a: &Moving<C>,
+    value: &C::Base,
+    want: bool,
+) -> Result<Option<Moving<C>>, OpFault>
+where
+    C::Base: Drop,
+    ensures value { IfOk result (λ r. IsRestricted C.value_of want (λ t x. C.relation Eq x value.now) a.now r) }
+    ensures first { IsJudged (flat_map (entries_of_value C.value_of C.parts_of C.gaps_of value.now) a.now) result }
+{
+    let slices = restricted::<C, ToValue<'_, C>>(alloc, a.slices(), &ToValue { value }, want)?;
+    match normal(alloc, slices) {
+        Ok(value) => Ok(value),
+        Err(_) => Err(OpFault::NoMemory),
+    }
+}
+
+/// The temporal value at the instants at which it is that value (MobilityDB's `atValues`). None exactly where there is no such instant.
+///
+/// `Passed` names the formula of the first entry that has a part that does not fit: on each slice F2, the gaps to that value
+/// at its ends, then F3, their roots, then F1 at these roots. Steady courses have no formula.
+pub fn at_value<C: Compared + Drop>(
+    alloc: Global,
+    a: &Moving<C>,
+    value: &C::Base,
+) -> Result<Option<Moving<C>>, OpFault>
+where
+    C::Base: Drop,
+    ensures value { IfOk result (λ r. IsRestricted C.value_of true (λ t x. C.relation Eq x value.now) a.now r) }
+    ensures first { IsJudged (flat_map (entries_of_value C.value_of C.parts_of C.gaps_of value.now) a.now) result }
+{
+    to_value::<C>(alloc, a, value, true)
+}
+
+/// The temporal value at the instants at which it is not that value (MobilityDB's `minusValues`). None exactly where there is no such instant.
+///
+/// `Passed` is that of `at_value`: the formulas are the same, whatever is left.
+pub fn minus_value<C: Compared + Drop>(
+    alloc: Global,
+    a: &Moving<C>,
+    value: &C::Base,
+) -> Result<Option<Moving<C>>, OpFault>
+where
+    C::Base: Drop,
+    ensures value { IfOk result (λ r. IsRestricted C.value_of false (λ t x. C.relation Eq x value.now) a.now r) }
+    ensures first { IsJudged (flat_map (entries_of_value C.value_of C.parts_of C.gaps_of value.now) a.now) result }
+{
+    to_value::<C>(alloc, a, value, false)
+}
