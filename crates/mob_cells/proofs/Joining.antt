@@ -111,4 +111,3 @@ module _ {P D B V : Type 0} (value : D → Ratio → Ratio → Ratio → B) (sta
 
   pub is_lifted : (parts : List P) (slices : List (Slice D)) → LiftsTo items gives parts slices → PartsAreClear span parts → IsLifted value start end span items gives parts slices
   is_lifted parts slices h k = record { made = h; ordered = made_ordered parts slices h k; at_each = made_at parts slices h k }
-

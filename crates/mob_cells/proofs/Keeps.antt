@@ -57,6 +57,7 @@ short_kept f0 f1 s c e h i t k =
   where
     upto_cell : (c : SpanOf) → is_cell c ≡ true → up_to c.lower c.upper ≡ true
     upto_cell c i = grind (arith, i, before-back c.lower c.upper)
+
     at_low : (l u a b : Ratio) → before l u ≡ false → up_to l a ≡ true → up_to b u ≡ true → up_to a b ≡ true → b ≡ l
     at_low l u a b h i j k = before-neither b l (grind (arith, h, i, j, k, before-trans b l a, before-neither l a, before-neither a b)) (grind (arith, h, i, j, k, before-trans l b u, before-neither b u))
 
@@ -66,4 +67,3 @@ kept_by f0 f1 s c l i n false h = short_kept f0 f1 s c (l h) h i
 
 pub kept : (f0 f1 : Ratio) (s c : SpanOf) → (before s.lower s.upper ≡ false → f0 ≡ f1) → is_cell_of s c ≡ true → (opposite f0 f1 ≡ true → NoneWithin (root_at f0 f1 s.lower s.upper) c) → Kept f0 f1 s c
 kept f0 f1 s c l i n = kept_by f0 f1 s c l i n (before s.lower s.upper) refl
-

@@ -154,8 +154,9 @@ module _ (parts : Ratio → List Ratio) where
   end_fits : (r : Ratio) (cells : List SpanOf) → AllByRecursion EndsFit cells → IsSomeEnd r cells → AllFit (parts r)
   end_fits r [] h i = absurd i
   end_fits r (c ∷ cells) h i = elim i [
-      inl k ↦ elim k [ inl e ↦ subst (λ z. AllFit (parts z)) e (all_first (parts c.lower) (parts c.upper) h.0) | inr e ↦ subst (λ z. AllFit (parts z)) e (all_second (parts c.lower) (parts c.upper) h.0) ]
-    | inr k ↦ end_fits r cells h.1 k ]
+    | inl k ↦ elim k [ inl e ↦ subst (λ z. AllFit (parts z)) e (all_first (parts c.lower) (parts c.upper) h.0) | inr e ↦ subst (λ z. AllFit (parts z)) e (all_second (parts c.lower) (parts c.upper) h.0) ]
+    | inr k ↦ end_fits r cells h.1 k
+  ]
 
   each_fits : (rs : List Ratio) (cells : List SpanOf) → AllByRecursion EndsFit cells → AllByRecursion (λ r. IsSomeEnd r cells) rs → AllByRecursion (λ t. AllFit (parts t)) rs
   each_fits [] cells h k = tt

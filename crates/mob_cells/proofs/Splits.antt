@@ -107,7 +107,8 @@ cut_out : (q r : Ratio) (c : SpanOf) → before c.lower r ≡ true → before r 
 cut_out q r c h k n = (
   grind (arith, h, k, n, before-trans q r c.upper),
   grind (arith, before-back q r),
-  grind (arith, h, k, n, before-trans c.lower r q))
+  grind (arith, h, k, n, before-trans c.lower r q),
+)
 
 out_by : (q r : Ratio) (c : SpanOf) (rest : List SpanOf) → NoneWithin q c → AllByRecursion (NoneWithin q) rest → (b : Bool) → (before c.lower r && before r c.upper) ≡ b → AllByRecursion (NoneWithin q) (cond b (until c r ∷ point r ∷ beyond c r ∷ []) (c ∷ []) ++ rest)
 out_by q r c rest h k true e = let w = both (before c.lower r) (before r c.upper) e in let p = cut_out q r c w.0 w.1 h in (p.0, (p.1, (p.2, k)))

@@ -40,8 +40,9 @@ greater_equal e = cc
 
 opposite_signs : (f0 f1 : Ratio) → opposite f0 f1 ≡ true → (sign_of f0 ≡ Equal → ⊥) × (sign_of f1 ≡ Equal → ⊥)
 opposite_signs f0 f1 o = elim (opposite_cases f0 f1 o) [
-    inl k ↦ (λ e. less_equal (sym (sign_below f0 k.0) ∙ e), λ e. greater_equal (sym (sign_above f1 k.1) ∙ e))
-  | inr k ↦ (λ e. greater_equal (sym (sign_above f0 k.0) ∙ e), λ e. less_equal (sym (sign_below f1 k.1) ∙ e)) ]
+  | inl k ↦ (λ e. less_equal (sym (sign_below f0 k.0) ∙ e), λ e. greater_equal (sym (sign_above f1 k.1) ∙ e))
+  | inr k ↦ (λ e. greater_equal (sym (sign_above f0 k.0) ∙ e), λ e. less_equal (sym (sign_below f1 k.1) ∙ e))
+]
 
 only_zero : (f0 f1 l u r t : Ratio) → IsRoot f0 f1 l u r → (sign_of f0 ≡ Equal → ⊥) → (sign_of f1 ≡ Equal → ⊥) → line_at f0 f1 l u t ≡ nil → (a b : Bool) → before t r ≡ a → before r t ≡ b → t ≡ r
 only_zero f0 f1 l u r t h n0 n1 z true b e k = absurd (n0 (sym (h.left t e) ∙ ap sign_of z ∙ sign_nil))

@@ -30,9 +30,9 @@ use Rattle.mob_cells.specs.declared.linear.Ends.{Ends}
 use Rattle.mob_cells.specs.Roots.{IsLevel}
 use Rattle.mob_cells.specs.Cells.{signs_of}
 use Rattle.mob_cells.specs.Kept.{IsKeptBy, entry_of_roots}
-use Rattle.mob_cells.specs.Gaps.{gap_ends, related_by, IsGapFault}
+use Rattle.mob_cells.specs.Gaps.{gap_ends, related_by, piece_gaps, IsGapFault}
 use Rattle.mob_cells.proofs.GapSigns.{by_gaps, no_gaps, gaps_level}
-use Rattle.mob_compare.specs.Compared.{entries_of_gaps, piece_gaps}
+use Rattle.mob_compare.specs.Compared.{entries_of_gaps}
 
 module _ {C B : Type 0} (value : C → Ratio → Ratio → Ratio → B) (lines : C → Ratio → Ratio → Ratio → List Ratio) (gaps : B → B → Gaps) (p : PieceOf (SideOf C B) (SideOf C B)) where
   pub left_fails : (copies : Bool) (f : LookFault) → IsLookFault copies (at_ends (side_parts lines p.left) p.span) f → OnFormula (λ g. IsFirst (entries_of_gaps value lines gaps p) (Some g)) (operator_fault f)
@@ -109,7 +109,9 @@ module _ {C B : Type 0} {steady copies : Bool} {value : C → Ratio → Ratio �
     fit_by (at_ends (side_parts parts p.left) p.span ++ at_ends (side_parts parts p.right) p.span) (none_by (at_ends (side_parts parts p.left) p.span) (at_ends (side_parts parts p.right) p.span) (ends_none (side_parts parts p.left) (side_none p.left)) (ends_none (side_parts parts p.right) (side_none p.right))),
     inl (
       fit_by (at_ends (λ t. gap_parts (piece_gaps value gaps p t)) p.span) (ends_none (λ t. gap_parts (piece_gaps value gaps p t)) (λ t. ap gap_parts (gap_none t))),
-      subst (λ z. IsFirst (entry_of_roots p.span z ∷ []) None) (sym (ap (λ h. gap_ends h (piece_gaps value gaps p p.span.upper)) (gap_none p.span.lower))) (inl (tt, refl))))
+      subst (λ z. IsFirst (entry_of_roots p.span z ∷ []) None) (sym (ap (λ h. gap_ends h (piece_gaps value gaps p p.span.upper)) (gap_none p.span.lower))) (inl (tt, refl)),
+    ),
+  )
 
   pub steady_given : {V : Type 0} (items : V → List (Slice (Steady Bool))) (rel : Rel) (q : Result V OpFault) (b : Bool) → has_instant p.span ≡ true → ((t : Ratio) → b ≡ relation rel (side_at value p.left t) (side_at value p.right t)) → MatchResult q (λ v. items v ≡ record { span = p.span; course = record { value = b } } ∷ []) (λ e. e ≡ NoMemory) → IsGiven steady_value steady_limit steady_limit items (on_sides value value (relation rel) p) p.span (entries_of_gaps value parts gaps p) q
   steady_given items rel (Ok v) b k h m = (rw m (record { ordered = (record { some = k; level = λ n. refl }, tt, tt); inside = (inside_self p.span, tt); values = λ t i. rw i (ap Some (h t)) }), steady_first)

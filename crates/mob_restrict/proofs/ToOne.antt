@@ -93,9 +93,12 @@ module _ {C B : Type 0} {steady copies : Bool} {value : C → Ratio → Ratio �
     steady_fails LookNoMemory h = tt
 
     pub steady_all : {V : Type 0} (items : V → List (Slice C)) (q : Result V OpFault) (want k : Bool) (p : Slice C) → k ≡ is_wanted want (relation Eq (start s.course) x) → k ≡ true → HasValues value start end (slice_value value s) s.span p → MatchResult q (λ v. items v ≡ p ∷ []) (λ e. e ≡ NoMemory) → IsKeptBy value start end items (λ t. kept_value want (relation Eq (slice_value value s t) x) (slice_value value s t)) s.span (entries_of_value value parts gaps x s) q
-    steady_all items (Ok v) want k p e n h m = (rw m (record {
-      ordered = (h.sound, tt, tt);
-      inside = (rw h.on (inside_self s.span), tt);
-      values = λ t i. subst (λ z. cond (has z t) (Some (value p.course p.span.lower p.span.upper t)) None ≡ kept_value want (relation Eq (slice_value value s t) x) (slice_value value s t)) (sym h.on) (rw i (ap Some (h.same t i) ∙ ap (λ b. cond b (Some (slice_value value s t)) None) (sym n) ∙ wanted want k t e));
-    }), steady_first)
+    steady_all items (Ok v) want k p e n h m = (
+      rw m (record {
+        ordered = (h.sound, tt, tt);
+        inside = (rw h.on (inside_self s.span), tt);
+        values = λ t i. subst (λ z. cond (has z t) (Some (value p.course p.span.lower p.span.upper t)) None ≡ kept_value want (relation Eq (slice_value value s t) x) (slice_value value s t)) (sym h.on) (rw i (ap Some (h.same t i) ∙ ap (λ b. cond b (Some (slice_value value s t)) None) (sym n) ∙ wanted want k t e));
+      }),
+      steady_first,
+    )
     steady_all items (Err f) want k p e n h m = rw m tt

@@ -84,7 +84,12 @@ where
 
     ghost entries = { λ by s. entries_of_value C.value_of C.parts_of C.gaps_of by.value.now s };
 
-    fn on_slice(&self, alloc: Global, slice: &Slice<C>, want: bool) -> Result<Vec<Slice<C>>, OpFault> {
+    fn on_slice(
+        &self,
+        alloc: Global,
+        slice: &Slice<C>,
+        want: bool,
+    ) -> Result<Vec<Slice<C>>, OpFault> {
         if C::STEADY {
             return on_steps::<C>(alloc, slice, self.value, want);
         }

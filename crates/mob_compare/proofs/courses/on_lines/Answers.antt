@@ -13,8 +13,10 @@ pub returns-in-Err-gap_functions : goal.returns-in-Err-gap_functions
 returns-in-Err-gap_functions g c =
     let h = c.in-Ok.ensures.slice in
     let k = c.in-Ok-on.ensures.slice in
-    record { given = gaps_fail g.C.Course.value_of g.C.Course.parts_of g.C.Compared.gaps_of (piece_of c.args.piece.now) c.in-Ok.left c.in-Ok-on.right h.0 k.0 h.1 k.1 c.in-Err-gap_functions.fault
-      (rw (c.start.ensures.limit, c.start-2.ensures.limit, c.end.ensures.limit, c.end-2.ensures.limit) at c.in-Err-gap_functions.ensures.functions) }
+    record {
+      given = gaps_fail g.C.Course.value_of g.C.Course.parts_of g.C.Compared.gaps_of (piece_of c.args.piece.now) c.in-Ok.left c.in-Ok-on.right h.0 k.0 h.1 k.1 c.in-Err-gap_functions.fault
+          (rw (c.start.ensures.limit, c.start-2.ensures.limit, c.end.ensures.limit, c.end-2.ensures.limit) at c.in-Err-gap_functions.ensures.functions);
+    }
 
 pub returns : goal.returns
 returns g c =

@@ -1,0 +1,8 @@
+pub mod Taking
+pub mod OnSpans
+pub mod BothNil
+pub mod Meeting
+pub mod OnPieces
+pub mod AllPieces
+pub mod Deciding
+pub mod Answering

@@ -1,0 +1,34 @@
+use Rattle.std.proofs.Common.{rules, ◌≡◌, ◌∙◌, ap, sym, subst, cond, false}
+use Rattle.mob_frac.specs.Formula.{AllFit}
+use Rattle.mob_slice.specs.Comparison.{gap_parts}
+use Rattle.mob_slice.specs.Sides.{piece_of}
+use Rattle.mob_ever.proofs.Deciding.{left_fails, right_fails, lower_fails, upper_fails, all_fit}
+use Rattle.mob_ever.proofs.piece.lines_meet.Goals as goal
+
+pub returns-in-Err-clause-first : goal.returns-in-Err-clause-first
+returns-in-Err-clause-first g c = left_fails g.C.Course.value_of g.C.Course.parts_of g.C.Compared.gaps_of (piece_of c.args.piece.now) c.in-Err.passed.formula c.in-Err.ensures.slice
+
+pub returns-in-Err-on_piece_of-clause-first : goal.returns-in-Err-on_piece_of-clause-first
+returns-in-Err-on_piece_of-clause-first g c = right_fails g.C.Course.value_of g.C.Course.parts_of g.C.Compared.gaps_of (piece_of c.args.piece.now) c.in-Err-on_piece_of.passed.formula c.in-Err-on_piece_of.ensures.slice
+
+pub returns-in-Err-gaps-clause-first : goal.returns-in-Err-gaps-clause-first
+returns-in-Err-gaps-clause-first g c =
+    let h = c.in-Ok.ensures.slice in
+    let k = c.in-Ok-on_piece_of.ensures.slice in
+    lower_fails g.C.Course.value_of g.C.Course.parts_of g.C.Compared.gaps_of (piece_of c.args.piece.now) c.in-Ok.left c.in-Ok-on_piece_of.right h.0 k.0 h.1 k.1 c.in-Err-gaps.passed.formula
+    (rw (c.start.ensures.limit, c.start-2.ensures.limit) at c.in-Err-gaps.ensures.gaps)
+
+pub returns-in-Err-gaps-2-clause-first : goal.returns-in-Err-gaps-2-clause-first
+returns-in-Err-gaps-2-clause-first g c =
+    let h = c.in-Ok.ensures.slice in
+    let k = c.in-Ok-on_piece_of.ensures.slice in
+    upper_fails g.C.Course.value_of g.C.Course.parts_of g.C.Compared.gaps_of (piece_of c.args.piece.now) c.in-Ok.left c.in-Ok-on_piece_of.right h.0 k.0 h.1 k.1 c.in-Err-gaps-2.passed.formula
+    (rw (c.end.ensures.limit, c.end-2.ensures.limit) at c.in-Err-gaps-2.ensures.gaps)
+
+pub returns-clause-first : goal.returns-clause-first
+returns-clause-first g c =
+    let h = c.in-Ok.ensures.slice in
+    let k = c.in-Ok-on_piece_of.ensures.slice in
+    let a = rw (c.start.ensures.limit, c.start-2.ensures.limit) at c.in-Ok-gaps.ensures.gaps in
+    let b = rw (c.end.ensures.limit, c.end-2.ensures.limit) at c.in-Ok-gaps-2.ensures.gaps in
+    all_fit g.C.Course.value_of g.C.Course.parts_of g.C.Compared.gaps_of (piece_of c.args.piece.now) c.in-Ok.left c.in-Ok-on_piece_of.right h.0 k.0 h.1 k.1 a.1 b.1

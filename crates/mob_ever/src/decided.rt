@@ -1,0 +1,104 @@
+ghost use Rattle.std.specs.Prelude.{◌≡◌, ◌||◌, true, false, IfOk, option_map, not};
+ghost use Rattle.std.specs.List.{flat_map};
+ghost use Rattle.mob_slice.specs.Comparison.{MayAsk};
+ghost use Rattle.mob_slice.specs.Sameness.{same_bool};
+ghost use Rattle.mob_slice.specs.Sides.{given_at, has_slices, operand_of, pieces};
+ghost use Rattle.mob_cells.specs.Gaps.{entries_of_ends};
+ghost use Rattle.mob_ever.specs.Met.{either};
+ghost use Rattle.mob_ever.specs.Sometime.{IsEver, IsAlways, IsDecided};
+
+use crate::piece::piece_meets;
+use mob_lift::Pieces;
+use mob_slice::{Compared, Operand, Passed, Rel};
+use std::alloc::Global;
+
+// The answer so far, or what a piece says.
+fn either(found: Option<bool>, here: bool) -> bool
+    ensures value { result ≡ either found here }
+{
+    match found {
+        Some(before) => before || here,
+        None => here,
+    }
+}
+
+// The contrary of an answer, where there is one.
+fn contrary(answer: Option<bool>) -> Option<bool>
+    ensures value { result ≡ option_map not answer }
+{
+    match answer {
+        Some(truth) => Some(!truth),
+        None => None,
+    }
+}
+
+// Whether the comparison has the wanted truth value at some common instant. None exactly where there is no such instant. Every piece is
+// walked, also behind one that has settled the answer: each has its formulas.
+fn sometime<C: Compared + Drop>(
+    alloc: Global,
+    a: Operand<'_, C>,
+    b: Operand<'_, C>,
+    rel: Rel,
+    want: bool,
+) -> Result<Option<bool>, Passed>
+where
+    C::Base: Drop,
+    requires asked { MayAsk C.ordered rel }
+    requires moving { (has_slices (operand_of a) || has_slices (operand_of b)) ≡ true }
+    ensures value { IfOk result (IsEver (λ x y. same_bool (C.relation rel x y) want) (given_at C.value_of (operand_of a.entry)) (given_at C.value_of (operand_of b.entry))) }
+    ensures first { IsDecided (flat_map (entries_of_ends C.value_of C.parts_of C.gaps_of) (pieces (operand_of a.entry) (operand_of b.entry))) result }
+{
+    let mut found = None;
+    for piece in Pieces::new(a, b) {
+        let here = match piece_meets(alloc, &piece, rel, want) {
+            Ok(here) => here,
+            Err(passed) => return Err(passed),
+        };
+        found = Some(either(found, here));
+    }
+    Ok(found)
+}
+
+/// Whether the comparison holds at some instant at which both operands have a value (the `?` signs; MobilityDB's ever comparisons). None
+/// exactly where there is no such instant. An order relation is asked only of values that have an order. It takes no memory.
+///
+/// `Passed` names the formula of the first entry that has a part that does not fit: on each piece that the operands share F1 at its ends,
+/// then F2, the gaps there, also on pieces behind one that has settled the answer. Steady courses have no formula.
+pub fn ever<C: Compared + Drop>(
+    alloc: Global,
+    a: Operand<'_, C>,
+    b: Operand<'_, C>,
+    rel: Rel,
+) -> Result<Option<bool>, Passed>
+where
+    C::Base: Drop,
+    requires asked { MayAsk C.ordered rel }
+    requires moving { (has_slices (operand_of a) || has_slices (operand_of b)) ≡ true }
+    ensures value { IfOk result (IsEver (C.relation rel) (given_at C.value_of (operand_of a.entry)) (given_at C.value_of (operand_of b.entry))) }
+    ensures first { IsDecided (flat_map (entries_of_ends C.value_of C.parts_of C.gaps_of) (pieces (operand_of a.entry) (operand_of b.entry))) result }
+{
+    sometime(alloc, a, b, rel, true)
+}
+
+/// Whether the comparison holds at every instant at which both operands have a value (the `%` signs; MobilityDB's always comparisons).
+/// None exactly where there is no such instant. An order relation is asked only of values that have an order. It takes no memory.
+///
+/// `Passed` is that of `ever`.
+pub fn always<C: Compared + Drop>(
+    alloc: Global,
+    a: Operand<'_, C>,
+    b: Operand<'_, C>,
+    rel: Rel,
+) -> Result<Option<bool>, Passed>
+where
+    C::Base: Drop,
+    requires asked { MayAsk C.ordered rel }
+    requires moving { (has_slices (operand_of a) || has_slices (operand_of b)) ≡ true }
+    ensures value { IfOk result (IsAlways (C.relation rel) (given_at C.value_of (operand_of a.entry)) (given_at C.value_of (operand_of b.entry))) }
+    ensures first { IsDecided (flat_map (entries_of_ends C.value_of C.parts_of C.gaps_of) (pieces (operand_of a.entry) (operand_of b.entry))) result }
+{
+    match sometime(alloc, a, b, rel, false) {
+        Ok(fails) => Ok(contrary(fails)),
+        Err(passed) => Err(passed),
+    }
+}
