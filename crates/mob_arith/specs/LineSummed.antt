@@ -1,13 +1,15 @@
 -- Lines meet the laws of sums, differences and multiples: each of them is a line between the results at the two ends.
 use Rattle.std.specs.Prelude.{◌≡◌, refl, ⊤}
 use Rattle.std.proofs.Common.{sym}
-use Rattle.mob_ratio.specs.Ratio.{Ratio}
+use Rattle.mob_ratio.specs.Ratio.{Ratio, inverse}
 use Rattle.mob_ratio.proofs.LineAt.{line_at-sum, line_at-scale}
 use Rattle.mob_ratio.proofs.Signs.{line_at-diff}
 use Rattle.mob_slice.specs.Lines.{line_value_of}
+use Rattle.mob_slice.specs.Operands.{steady_value, steady_limit}
 use Rattle.mob_slice.specs.declared.line.Line.{Line}
-use Rattle.mob_arith.specs.Operations.{sum_of, difference_of, product_of}
-use Rattle.mob_arith.specs.Summed.{IsSummed}
+use Rattle.mob_slice.specs.declared.steady.Steady.{Steady}
+use Rattle.mob_arith.specs.Operations.{sum_of, difference_of, product_of, quotient_of}
+use Rattle.mob_arith.specs.Summed.{IsSummed, IsTermwise}
 
 pub line_summed : IsSummed {C = Line} {B = Ratio} line_value_of (λ c. c.from) (λ c. c.to) (λ a b. ⊤) (λ a b. record { from = a; to = b }) (λ x. x) sum_of difference_of product_of
 line_summed = record {
@@ -20,3 +22,7 @@ line_summed = record {
   difference_is = λ x y. refl;
   multiple_is = λ x k. refl;
 }
+
+-- and so are quotients by a number that goes by steps
+pub line_divided : (c : Line) (d : Steady Ratio) (lower upper : Ratio) → IsTermwise line_value_of (λ c. c.from) (λ c. c.to) steady_value steady_limit steady_limit line_value_of (λ a b. ⊤) (λ a b. record { from = a; to = b }) quotient_of c d lower upper
+line_divided c d l u = record { made = tt; same = λ t. line_at-scale c.from c.to (inverse d.value) l u t }

@@ -11,5 +11,5 @@ pub mod texts;
 
 pub use logic::{and, not, or};
 pub use summed::Summed;
-pub use sums::{minus, plus, times, times_const, times_step};
+pub use sums::{minus, over_const, plus, times, times_const, times_step};
 pub use texts::join_text;

@@ -3,10 +3,11 @@
 //! `Passed` names the formula of the first entry that has a part that does not fit: on each piece that the operands share, F1 at
 //! its ends, then F2 there.
 
-ghost use Rattle.std.specs.Prelude.{◌≡◌, true, ◌||◌, IfOk, option_map};
+ghost use Rattle.std.specs.Prelude.{◌≡◌, ◌≢◌, true, ◌||◌, IfOk, option_map, pos};
 ghost use Rattle.std.specs.List.{flat_map};
-ghost use Rattle.mob_ratio.specs.Ratio.{Ratio};
-ghost use Rattle.mob_frac.specs.Formula.{sum_parts, difference_parts, product_parts};
+ghost use Rattle.mob_ratio.specs.Ratio.{Ratio, whole, ◌/ℚ◌};
+ghost use Rattle.mob_frac.specs.Formula.{sum_parts, difference_parts, product_parts, quotient_parts};
+ghost use Rattle.mob_slice.specs.Lines.{line_value_of, line_parts_of};
 ghost use Rattle.mob_slice.specs.Slices.{value_at};
 ghost use Rattle.mob_slice.specs.Operands.{steady_value, steady_parts, IsPointwise};
 ghost use Rattle.mob_slice.specs.Sides.{operand_of, has_slices, given_at, pieces, Slices, Base};
@@ -14,9 +15,9 @@ ghost use Rattle.mob_slice.specs.Entries.{IsJudged};
 ghost use Rattle.mob_arith.specs.Termwise.{entries_at_ends};
 
 use crate::summed::Summed;
-use crate::termwise::{Difference, Multiple, Scaling, Sum, by_terms};
+use crate::termwise::{Difference, Multiple, Quotient, Scaling, Sum, by_terms};
 use mob_frac::Frac;
-use mob_slice::{Moving, OpFault, Operand, Steady};
+use mob_slice::{Line, Moving, OpFault, Operand, Steady};
 use std::alloc::Global;
 
 /// The sum of two operands at each instant. None exactly where at no instant both have a value.
@@ -93,6 +94,24 @@ where
     // That `a` has a slice, so that the result has one, is known by this call.
     let _ = a.slices();
     match times(alloc, Operand::Moving(a), Operand::Fixed(k)) {
+        Ok(Some(value)) => Ok(value),
+        Ok(None) => unreachable!(),
+        Err(fault) => Err(fault),
+    }
+}
+
+/// A number that changes evenly, divided by one number other than 0, at each of its instants.
+pub fn over_const(alloc: Global, a: &Moving<Line>, k: &Frac) -> Result<Moving<Line>, OpFault>
+    requires divides { k.now ≢ whole (pos 0) }
+    ensures value { IfOk result (λ v. (t : Ratio) → value_at line_value_of v t ≡ option_map (λ x. x /ℚ k.now) (value_at line_value_of a.now t)) }
+    ensures first { IsJudged (flat_map (entries_at_ends line_value_of line_parts_of steady_value steady_parts quotient_parts) (pieces (Slices a.now) (Base k.now))) result }
+{
+    let _ = a.slices();
+    match by_terms::<Line, Steady<Frac>, Line, Quotient>(
+        alloc,
+        Operand::Moving(a),
+        Operand::Fixed(k),
+    ) {
         Ok(Some(value)) => Ok(value),
         Ok(None) => unreachable!(),
         Err(fault) => Err(fault),

@@ -3,13 +3,15 @@
 ghost use Rattle.std.specs.Prelude.{◌≡◌, true, ◌||◌, List, IfOk};
 ghost use Rattle.std.specs.List.{flat_map};
 ghost use Rattle.mob_ratio.specs.Ratio.{Ratio};
-ghost use Rattle.mob_frac.specs.Formula.{sum_parts, difference_parts, product_parts};
+ghost use Rattle.mob_frac.specs.Formula.{sum_parts, difference_parts, product_parts, quotient_parts};
 ghost use Rattle.mob_slice.specs.Computed.{IsComputed};
 ghost use Rattle.mob_slice.specs.Operands.{IsPointwise};
 ghost use Rattle.mob_slice.specs.Sides.{operand_of, has_slices, given_at, pieces, piece_of, HoldsPiece};
 ghost use Rattle.mob_slice.specs.Entries.{IsJudged};
 ghost use Rattle.mob_slice.specs.declared.formula.Formula.TheVariants.{F2};
 ghost use Rattle.mob_lift.specs.Given.{IsGiven, on_sides, AreLifted};
+ghost use Rattle.mob_arith.specs.LineSummed.{line_divided};
+ghost use Rattle.mob_arith.specs.Operations.{quotient_of};
 ghost use Rattle.mob_arith.specs.Summed.{IsTermwise};
 ghost use Rattle.mob_arith.specs.Termwise.{entries_at_ends};
 
@@ -17,7 +19,9 @@ use crate::summed::Summed;
 use mob_frac::Frac;
 use mob_lift::{Pieces, lift, listed};
 use mob_normal::normal;
-use mob_slice::{Course, Moving, OpFault, Operand, Passed, Piece, Slice, Steady, operator_fault};
+use mob_slice::{
+    Course, Formula, Line, Moving, OpFault, Operand, Passed, Piece, Slice, Steady, operator_fault,
+};
 use std::alloc::Global;
 
 /// An operation on the values of two courses that goes term by term: its result goes as a third course does.
@@ -92,6 +96,36 @@ impl<C: Summed> Termwise<Steady<Frac>, C, C> for Scaling {
     }
 
     ghost law = { C.Summed.laws.turned };
+}
+
+/// The quotient of a number that changes evenly by one that goes by steps.
+pub struct Quotient;
+
+impl Termwise<Line, Steady<Frac>, Line> for Quotient {
+    ghost op = { quotient_of };
+
+    ghost parts = { quotient_parts };
+
+    fn apply(a: &Frac, b: &Frac) -> Result<Frac, Passed> {
+        divided(a, b)
+    }
+
+    ghost law = { line_divided };
+}
+
+// The quotient of two numbers. (The one by 0, which nobody asks for, is 0.)
+fn divided(a: &Frac, b: &Frac) -> Result<Frac, Passed>
+    ensures result { IsComputed F2 (quotient_parts a.now b.now) (quotient_of a.now b.now) result }
+{
+    if b.is_zero() {
+        return Ok(Frac::zero());
+    }
+    match a.div(b) {
+        Ok(value) => Ok(value),
+        Err(_) => Err(Passed {
+            formula: Formula::F2,
+        }),
+    }
 }
 
 // The operation on one piece.

@@ -14,21 +14,11 @@ use mob_slice::{Gaps, Rel};
 use mob_span::Span;
 use std::cmp::Ordering;
 
-// The number 0.
-fn zero() -> Frac
-    ensures zero { result ≡ nil }
-{
-    match Frac::new(0, 1) {
-        Ok(zero) => zero,
-        Err(_) => unreachable!(),
-    }
-}
-
 // Whether the number is 0.
 fn is_nil(number: &Frac) -> bool
     ensures value { result ≡ same number.now nil }
 {
-    number.is_same(&zero())
+    number.is_same(&Frac::zero())
 }
 
 // Whether the number has this sign.
@@ -36,9 +26,9 @@ fn sign_is(sign: Ordering, number: &Frac) -> bool
     ensures value { result ≡ sign_is sign number.now }
 {
     match sign {
-        Ordering::Less => number.is_before(&zero()),
+        Ordering::Less => number.is_before(&Frac::zero()),
         Ordering::Equal => is_nil(number),
-        Ordering::Greater => zero().is_before(number),
+        Ordering::Greater => Frac::zero().is_before(number),
     }
 }
 
@@ -47,7 +37,7 @@ fn sign_is(sign: Ordering, number: &Frac) -> bool
 fn are_opposite(from: &Frac, to: &Frac) -> bool
     ensures value { result ≡ opposite from.now to.now }
 {
-    let zero = zero();
+    let zero = Frac::zero();
     (from.is_before(&zero) && zero.is_before(to)) || (zero.is_before(from) && to.is_before(&zero))
 }
 
@@ -57,9 +47,9 @@ fn takes_inside(ends: &Ends, sign: Ordering) -> bool
 {
     let (from, to) = (&ends.at_lower, &ends.at_upper);
     match sign {
-        Ordering::Less => from.is_before(&zero()) || to.is_before(&zero()),
+        Ordering::Less => from.is_before(&Frac::zero()) || to.is_before(&Frac::zero()),
         Ordering::Equal => are_opposite(from, to) || (is_nil(from) && is_nil(to)),
-        Ordering::Greater => zero().is_before(from) || zero().is_before(to),
+        Ordering::Greater => Frac::zero().is_before(from) || Frac::zero().is_before(to),
     }
 }
 
@@ -88,7 +78,7 @@ fn in_one_ratio(a: &Frac, b: &Frac, c: &Frac, d: &Frac) -> bool
     requires right { d.now ≢ nil }
     ensures same { result ≡ same (a.now /ℚ b.now) (c.now /ℚ d.now) }
 {
-    let zero = zero();
+    let zero = Frac::zero();
     same_ratio(
         &Wide::difference(a, &zero),
         &Wide::difference(b, &zero),

@@ -1,6 +1,6 @@
 //! Step values of numbers as values that change evenly.
 
-ghost use Rattle.std.specs.Prelude.{◌≡◌, IfOk};
+ghost use Rattle.std.specs.Prelude.{◌≡◌, IfOk, map};
 ghost use Rattle.mob_ratio.specs.Ratio.{Ratio};
 ghost use Rattle.mob_slice.specs.Lines.{line_value_of};
 ghost use Rattle.mob_slice.specs.Operands.{steady_value};
@@ -15,6 +15,7 @@ use std::alloc::{AllocError, Global};
 /// number is computed, so none can be too large; memory is the one refusal.
 pub fn widen(alloc: Global, a: &Moving<Steady<Frac>>) -> Result<Moving<Line>, AllocError>
     ensures same { IfOk result (λ b. (t : Ratio) → value_at line_value_of b t ≡ value_at steady_value a.now t) }
+    ensures level { IfOk result (λ b. b ≡ map level_line a.now) }
 {
     let mut lines = Vec::new(alloc);
     let slices = a.slices();

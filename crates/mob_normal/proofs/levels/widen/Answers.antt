@@ -14,4 +14,7 @@ pub returns : goal.returns
 returns c =
     let v = c.args.a.now in
     let made = all_level c.slices-slices.result.now v c.loop-slice.lines.items c.loop-slice.slice-index c.slices-slices.ensures.same c.loop-slice-test.false c.loop-slice.invariant in
-    record { same = λ t. ap (λ z. value_at line_value_of z t) c.from_normal.ensures.same ∙ level_at v c.loop-slice.lines.items made t }
+    record {
+      same = λ t. ap (λ z. value_at line_value_of z t) c.from_normal.ensures.same ∙ level_at v c.loop-slice.lines.items made t;
+      level = c.from_normal.ensures.same ∙ made;
+    }
