@@ -1,8 +1,8 @@
 pub mod Apart
 pub mod Limits
+pub mod OperatorRows
 pub mod Pushed
 pub mod RowSteps
-pub mod Rows
 pub mod ScriptSteps
 pub mod Sound
 pub mod Walk

@@ -1,5 +1,5 @@
 -- What is sound stays so beside more constants, and behind its numbers stands what they name.
-use Rattle.std.proofs.Common.{◌≡◌, ◌∙◌, ◌+◌, refl, sym, ap, subst, ℕ, zero, suc, List, [], ◌∷◌, ◌++◌, append_assoc, length, length-append, map, Bool, true, false, Option, Some, None}
+use Rattle.std.proofs.Common.{◌≡◌, ◌∙◌, ◌+◌, refl, sym, ap, subst, ℕ, zero, suc, List, [], ◌∷◌, ◌++◌, append_assoc, length, length-append, map, Bool, true, false, cond, Option, Some, None}
 use Rattle.std.specs.Prelude.{IfSome, slice_get, option_map, option_and_then}
 use Rattle.std.specs.List.{AllByRecursion, AllZip}
 use Rattle.std.specs.Str.{bytes_eq}
@@ -92,7 +92,7 @@ module _ (tables : List ColumnList) (from : List ℕ) where
 
 -- a number literal stays one
 pub literal_stays : (text : List ℕ) (cs more : List ConstText) {t : TypedTree} → IsNumberLiteral cs text t → IsNumberLiteral (cs ++ more) text t
-literal_stays text cs more (the_number {k} is) = the_number (part_stays (λ (c : ConstText). (c.text, c.ty)) (text, number_type text) k cs more is)
+literal_stays text cs more (the_number {k} is) = the_number (part_stays (λ (c : ConstText). c.text) text k cs more is.0, constant_stays (number_type text) k cs more is.1)
 literal_stays text cs more (behind_minus h) = behind_minus (literal_stays text cs more h)
 literal_stays text cs more (behind_plus h) = behind_plus (literal_stays text cs more h)
 

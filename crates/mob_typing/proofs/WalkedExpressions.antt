@@ -32,7 +32,7 @@ use Rattle.mob_grammar.proofs.Within.{within_all, within_back}
 use Rattle.mob_grammar.proofs.Places.{all_parts}
 use Rattle.mob_typing.specs.WellTyped.{column_type, from_type, HasNamedTypes, IsNumberLiteral, the_number, HasDivisor, is_division, IsOperated}
 use Rattle.mob_typing.proofs.Walk.{GivesOrStops, gives, stops, then, also, passes, finds, not_false, adds_none, adds_one, adds_within, adds_both, Steps, Stays, still}
-use Rattle.mob_typing.proofs.Rows.{is_of_table, found_of_table, names_nothing, row_fits, division_alone, has_row, own_cast, keeps_number, sign_keeps, behind_sign}
+use Rattle.mob_typing.proofs.OperatorRows.{is_of_table, found_of_table, names_nothing, row_fits, division_alone, has_row, own_cast, keeps_number, sign_keeps, behind_sign}
 use Rattle.mob_typing.proofs.Sound.{slice_map, slice_seam, slice_each, entry_stands, part_here, constant_here, literal_stays, tree_stays, operated_stays, operands_hold, all_operated, types_are}
 
 -- the tables of FROM are those of their numbers
@@ -121,7 +121,7 @@ module _ (At : ℕ → Type 0) (tables : List ColumnList) (s : ScopeParts) (ther
       → Steps s.statement (p ∷ ps) (Reads (Some text)) cs (typed (op.Const (length cs)) (number_type text) p none, cs ++ record { ty = number_type text; text = text; statement = s.statement; place = p } ∷ [])
   number_steps text p ps cs =
       let c : ConstText = record { ty = number_type text; text = text; statement = s.statement; place = p } in
-      record { adds = adds_one cs c; sound = (((constant_here cs c, tt), (refl, tt)), the_number (part_here (λ (c : ConstText). (c.text, c.ty)) cs c)) }
+      record { adds = adds_one cs c; sound = (((constant_here cs c, tt), (refl, tt)), the_number (part_here (λ (c : ConstText). c.text) cs c, constant_here cs c)) }
 
   literal_settles : (w : TypeWord) (text : List ℕ) (p : ℕ) (ps : List ℕ) (cs : List ConstText) (o : Option SqlType) → At w.name.place
       → GivesOrStops At (Settles None (p ∷ ps) cs) (found kind.UnknownName w.name.place o >>= (λ ty. constant s ty text p cs) >>= λ r. Ok (Some r.0, r.1))
@@ -190,8 +190,8 @@ module _ (At : ℕ → Type 0) (tables : List ColumnList) (s : ScopeParts) (ther
       → GivesOrStops At (IsApplied f name p divisor ts cs) (operated f name p divisor ts)
   applied_walked f name p divisor args ts cs at h own = by (found_in table f name (types_of ts) (is_some divisor)) refl
     where
-      there : AllByRecursion (HasNamedTypes tables from cs) ts × AllByRecursion (IsOperated cs) ts
-      there = operands_read args cs ts h
+      hold : AllByRecursion (HasNamedTypes tables from cs) ts × AllByRecursion (IsOperated cs) ts
+      hold = operands_read args cs ts h
 
       of_table : (a : Op × SqlType) → found_in table f name (types_of ts) (is_some divisor) ≡ Some a → is_of_table a.0 ≡ true
       of_table a is = subst (λ o. IfSome o (λ x. is_of_table x.0 ≡ true)) is (found_of_table f name (types_of ts) (is_some divisor))
@@ -209,7 +209,7 @@ module _ (At : ℕ → Type 0) (tables : List ColumnList) (s : ScopeParts) (ther
             answer = a;
             row = is;
             is = refl;
-            holds = ((names_nothing tables from cs a.0 a.1 (of_table a is), operands_hold tables from cs ts there.0), (row_fits cs a.0 a.1 (typed_trees ts) (of_table a is) row, all_operated cs ts there.1));
+            holds = ((names_nothing tables from cs a.0 a.1 (of_table a is), operands_hold tables from cs ts hold.0), (row_fits cs a.0 a.1 (typed_trees ts) (of_table a is) row, all_operated cs ts hold.1));
           }))
 
   -- an operator that is no sign is no number literal

@@ -243,13 +243,13 @@ module _ (At : ℕ → Type 0) (tables : List ColumnList) (s : ScopeParts) (ther
             (still ConditionHolds condition_stays c.0 d.adds b.sound) d.sound limited;
       })))))
 
+no_tables : (tables : List ColumnList) → IsScope tables []
+unfolding IsDistinct
+no_tables tables = record { there = tt; few = omega arith; apart = tt }
+
 pub select_walked : (At : ℕ → Type 0) (tables : List (List ℕ × ColumnList)) (n : ℕ) (x : SelectParts) (cs : List ConstText) → AllByRecursion At (select_held x)
     → GivesOrStops At (Steps n (select_places x) (IsTypedQuery (named tables)) cs) (typed_select tables n x cs)
 select_walked At tables n x cs h =
     let items = all_parts At (flat_map item_held x.items) (flat_map from_held x.from ++ (condition_held x.cond ++ (flat_map key_held x.keys ++ word_held x.limit))) h in
     let from = all_parts At (flat_map from_held x.from) (condition_held x.cond ++ (flat_map key_held x.keys ++ word_held x.limit)) items.1 in
-    then (tables_walked At tables [] x.from no_tables from.0) (λ f scope. clauses_walked At (named tables) (record { from = f; statement = n }) scope.there x cs scope.few scope.apart h)
-  where
-    no_tables : IsScope (named tables) []
-    unfolding IsDistinct
-    no_tables = record { there = tt; few = omega arith; apart = tt }
+    then (tables_walked At tables [] x.from (no_tables (named tables)) from.0) (λ f scope. clauses_walked At (named tables) (record { from = f; statement = n }) scope.there x cs scope.few scope.apart h)

@@ -39,6 +39,10 @@ record IsRoom (columns : ColumnList) : Type 0 where
   few : length columns ≤ 64
   apart : IsDistinct bytes_eq (map (λ c. c.0) columns)
 
+no_columns : IsRoom []
+unfolding IsDistinct
+no_columns = record { few = omega arith; apart = tt }
+
 -- the names of tables
 abbrev pub names_of : List (List ℕ × ColumnList) → List (List ℕ)
 names_of tables = map (λ t. t.0) tables
@@ -115,10 +119,6 @@ module _ (At : ℕ → Type 0) where
           apart = (λ h. name_last (names_of names.tables) name.text h (none_named 0 names.tables name.text new), no_more names.indexes);
           rows = none_within;
         }))))
-      where
-        no_columns : IsRoom []
-        unfolding IsDistinct
-        no_columns = record { few = omega arith; apart = tt }
 
     index_walked : (name table column : Word) → At name.place → At table.place → At column.place → GivesOrStops At IsMadeAlone (made_index names name table column)
     index_walked name table column at_name at_table at_column =

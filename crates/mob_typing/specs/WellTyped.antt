@@ -48,7 +48,7 @@ abbrev mutual
 
 -- the constant of this number is what a number literal of this text is: it has this text and its type
 abbrev pub IsNumber : List ConstText → List ℕ → ℕ → Type 0
-IsNumber consts text k = option_map (λ c. (c.text, c.ty)) (slice_get consts k) ≡ Some (text, number_type text)
+IsNumber consts text k = (option_map (λ c. c.text) (slice_get consts k) ≡ Some text) × (constant_type consts k ≡ Some (number_type text))
 
 -- `IsNumberLiteral consts text t`: the expression t is a number literal of this text, perhaps behind signs
 pub data IsNumberLiteral (consts : List ConstText) (text : List ℕ) : TypedTree → Type 0 where

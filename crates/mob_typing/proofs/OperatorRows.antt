@@ -136,7 +136,7 @@ module _ (f : Form) (name : List ℕ) (ts : List SqlType) where
       by (Some x) = refl
 
   -- without a literal a line that asks for one gives nothing, and every other gives what it gives with one
-  WithoutLiteral : Line → Type 0
+  abbrev WithoutLiteral : Line → Type 0
   WithoutLiteral l = ((answer_of l f name ts false ≡ None) × Passes is_division (answer_of l f name ts true)) ⊎ ((answer_of l f name ts true ≡ answer_of l f name ts false) × Passes not_division (answer_of l f name ts false))
 
   without_literal : (l : Line) → divides_by_literal l ≡ true → WithoutLiteral l
@@ -157,24 +157,26 @@ module _ (f : Form) (name : List ℕ) (ts : List SqlType) where
       by l (inr w) = w.1
 
   -- what is no division is found without a literal where it is found with one
-  found_with : (ls : List Line) → list_all divides_by_literal ls ≡ true → (a : Answer) → is_division a.0 ≡ false → found_in ls f name ts true ≡ Some a → found_in ls f name ts false ≡ Some a
+  abbrev AsWell : List Line → Answer → Type 0
+  AsWell ls a = found_in ls f name ts true ≡ Some a → found_in ls f name ts false ≡ Some a
+
+  found_with : (ls : List Line) → list_all divides_by_literal ls ≡ true → (a : Answer) → is_division a.0 ≡ false → AsWell ls a
   found_with [] h a other is = absurd (cc)
-  found_with (l ∷ ls) h a other is = by (without_literal l parts.0)
+  found_with (l ∷ ls) h a other is =
+      let parts = both_true (divides_by_literal l) (list_all divides_by_literal ls) h in
+      by (without_literal l parts.0) (found_with ls parts.1 a other)
     where
-      parts : (divides_by_literal l ≡ true) × (list_all divides_by_literal ls ≡ true)
-      parts = both_true (divides_by_literal l) (list_all divides_by_literal ls) h
+      off : (x : Option Answer) → Passes is_division x → AsWell ls a → option_or x (found_in ls f name ts true) ≡ Some a → found_in ls f name ts false ≡ Some a
+      off None d rest so = rest so
+      off (Some y) d rest so = let same : y ≡ a = cc in let division : is_division a.0 ≡ true = ap (λ (z : Answer). is_division z.0) (sym same) ∙ d in absurd (cc)
 
-      off : (x : Option Answer) → Passes is_division x → option_or x (found_in ls f name ts true) ≡ Some a → found_in ls f name ts false ≡ Some a
-      off None d so = found_with ls parts.1 a other so
-      off (Some y) d so = let same : y ≡ a = cc in let division : is_division a.0 ≡ true = ap (λ (z : Answer). is_division z.0) (sym same) ∙ d in absurd (cc)
+      on : (x : Option Answer) → AsWell ls a → option_or x (found_in ls f name ts true) ≡ Some a → option_or x (found_in ls f name ts false) ≡ Some a
+      on None rest so = rest so
+      on (Some y) rest so = so
 
-      on : (x : Option Answer) → option_or x (found_in ls f name ts true) ≡ Some a → option_or x (found_in ls f name ts false) ≡ Some a
-      on None so = found_with ls parts.1 a other so
-      on (Some y) so = so
-
-      by : WithoutLiteral l → option_or (answer_of l f name ts false) (found_in ls f name ts false) ≡ Some a
-      by (inl w) = ap (λ x. option_or x (found_in ls f name ts false)) w.0 ∙ off (answer_of l f name ts true) w.1 is
-      by (inr w) = on (answer_of l f name ts false) (ap (λ x. option_or x (found_in ls f name ts true)) (sym w.0) ∙ is)
+      by : WithoutLiteral l → AsWell ls a → option_or (answer_of l f name ts false) (found_in ls f name ts false) ≡ Some a
+      by (inl w) rest = ap (λ x. option_or x (found_in ls f name ts false)) w.0 ∙ off (answer_of l f name ts true) w.1 rest is
+      by (inr w) rest = on (answer_of l f name ts false) rest (ap (λ x. option_or x (found_in ls f name ts true)) (sym w.0) ∙ is)
 
 -- an operator that is found on typed operands has its row
 pub has_row : (cs : List ConstText) (f : Form) (name : List ℕ) (ts : List TypedTree) (literal : Bool) (a : Op × SqlType) → found_in table f name (types_of ts) literal ≡ Some a
