@@ -10,6 +10,7 @@ use Rattle.mob_parse.specs.Refusals.{IsTreeOf}
 use Rattle.mob_typed.specs.Statements.{StatementOut, ScriptOut}
 use Rattle.mob_typed.specs.Written.{brackets_of}
 use Rattle.mob_typing.specs.Statements.{typed_script}
+use Rattle.mob_typing.specs.Refused.{IsHeldRefusal}
 use Rattle.mob_accept.specs.UnbuiltWords.{statement_number}
 use Rattle.mob_accept.specs.Accepts.{IsAccepted, IsNoScript, IsWrongName}
 
@@ -52,6 +53,10 @@ TypingRefusesInside = (bytes : List ℕ) (trees : List StatementParts) (e : Refu
 abbrev pub WrongNamesAreNumbered : Type 0
 WrongNamesAreNumbered = (bytes : List ℕ) (e : Refusal) → IsWrongName bytes e → e.statement ≡ statement_number bytes e.place
 
--- so does a refusal of a token that goes wrong, or at which an expression is too complex
+-- and the tree of that statement, among the trees of the text, holds the place
+abbrev pub WrongNamesAreHeld : Type 0
+WrongNamesAreHeld = (bytes : List ℕ) (e : Refusal) → IsWrongName bytes e → (trees : List StatementParts) × IsTreeOf bytes trees × IsHeldRefusal trees e
+
+-- a refusal of a token that goes wrong, or at which an expression is too complex, names the statement of its place, too
 abbrev pub WrongTokensAreNumbered : Type 0
 WrongTokensAreNumbered = (bytes : List ℕ) (e : Refusal) → IsNoScript bytes e → (e.kind ≡ Syntax) ⊎ (e.kind ≡ TooComplex) → e.statement ≡ statement_number bytes e.place
