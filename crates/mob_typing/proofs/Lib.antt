@@ -1,4 +1,5 @@
 pub mod Apart
+mod Examples
 pub mod Limits
 pub mod OperatorRows
 pub mod Pushed

@@ -252,4 +252,4 @@ pub select_walked : (At : ℕ → Type 0) (tables : List (List ℕ × ColumnList
 select_walked At tables n x cs h =
     let items = all_parts At (flat_map item_held x.items) (flat_map from_held x.from ++ (condition_held x.cond ++ (flat_map key_held x.keys ++ word_held x.limit))) h in
     let from = all_parts At (flat_map from_held x.from) (condition_held x.cond ++ (flat_map key_held x.keys ++ word_held x.limit)) items.1 in
-    then (tables_walked At tables [] x.from (no_tables (named tables)) from.0) (λ f scope. clauses_walked At (named tables) (record { from = f; statement = n }) scope.there x cs scope.few scope.apart h)
+    then {P = Steps n (select_places x) (IsTypedQuery (named tables)) cs} (tables_walked At tables [] x.from (no_tables (named tables)) from.0) (λ f scope. clauses_walked At (named tables) (record { from = f; statement = n }) scope.there x cs scope.few scope.apart h)
