@@ -38,7 +38,7 @@ record Stands (n : ℕ) (before : List ConstText) (out : ScriptOut) : Type 0 whe
   later : AllByRecursion (BelongsFrom n) new
   rows : AllByRecursion HasRisingRows out.statements
 
-script_stands : {n : ℕ} {names : NameLists} {cs : List ConstText} {ss : List StatementParts} {out : ScriptOut} → AreMade n names cs ss out → Rising (script_places ss) → Stands n cs out
+script_stands : {At : ℕ → ℕ → Type 0} {n : ℕ} {names : NameLists} {cs : List ConstText} {ss : List StatementParts} {out : ScriptOut} → AreMade At n names cs ss out → Rising (script_places ss) → Stands n cs out
 script_stands (none_made {cs = cs}) up = record { new = []; is = sym (append-nil cs); rises = tt; later = tt; rows = tt }
 script_stands (one_made {n = n} {cs = cs} {s = s} {ss = ss} adds made others) up =
     let own : Rising (statement_places s) = rises_within (λ p q. p ≤ q) (within_front (script_places ss) (within_all (statement_places s))) up in

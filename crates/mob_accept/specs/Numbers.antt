@@ -10,7 +10,7 @@ use Rattle.mob_parse.specs.Refusals.{IsTreeOf}
 use Rattle.mob_typed.specs.Statements.{StatementOut, ScriptOut}
 use Rattle.mob_typed.specs.Written.{brackets_of}
 use Rattle.mob_typing.specs.Statements.{typed_script}
-use Rattle.mob_typing.specs.Refused.{IsHeldRefusal}
+use Rattle.mob_typing.specs.Stands.{OperatorsStand, IsHeldRefusal}
 use Rattle.mob_accept.specs.UnbuiltWords.{statement_number}
 use Rattle.mob_accept.specs.Accepts.{IsAccepted, IsNoScript, IsWrongName}
 
@@ -44,6 +44,10 @@ TypingKeepsNumbers = (bytes : List ℕ) (trees : List StatementParts) (out : Scr
 -- a text that is taken is numbered by its `;` tokens
 abbrev pub TextIsNumbered : Type 0
 TextIsNumbered = (bytes : List ℕ) (out : ScriptOut) → IsAccepted bytes out → IsNumbered bytes out
+
+-- each operator of a text that is taken is in its statement, constants and columns among them
+abbrev pub OperatorsAreNumbered : Type 0
+OperatorsAreNumbered = (bytes : List ℕ) (out : ScriptOut) → IsAccepted bytes out → OperatorsStand (λ n p. statement_number bytes p ≡ n) 1 out.statements
 
 -- typing refuses at a place of the statement that it names
 abbrev pub TypingRefusesInside : Type 0

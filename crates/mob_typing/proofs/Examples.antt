@@ -18,7 +18,7 @@ use Rattle.mob_typed.specs.Trees.{TypedTree, typed, TypedTrees, none, more}
 use Rattle.mob_typed.specs.Statements.{ScriptOut, new_table}
 use Rattle.mob_grammar.specs.Held.{statement_held}
 use Rattle.mob_typing.specs.Selects.{limit_value}
-use Rattle.mob_typing.specs.Refused.{IsHeldIn}
+use Rattle.mob_typing.specs.Stands.{IsHeldIn}
 use Rattle.mob_typing.specs.WellTyped.{IsNumberLiteral, the_number, behind_minus, behind_plus, HasDivisor, HasRow, IsOperated, HasDistinctNames}
 use Rattle.mob_typing.proofs.OperatorRows.{line_passes, first_passes}
 

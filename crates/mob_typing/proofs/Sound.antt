@@ -9,10 +9,11 @@ use Rattle.mob_operators.specs.declared.operator.Op.TheVariants as op
 use Rattle.mob_typed.specs.declared.typed.ConstText.{ConstText}
 use Rattle.mob_typed.specs.Trees.{TypedTree, typed, TypedTrees, none, more as more_trees, typed_trees, type_of, types_of, arg_types}
 use Rattle.mob_typed.specs.Statements.{ColumnList, nothing, new_table, new_index, new_rows, rows_from, query, plan_of}
-use Rattle.mob_typed.proofs.Rising.{each_on}
+use Rattle.mob_typed.proofs.Rising.{each_both, each_on}
 use Rattle.mob_expression.specs.Names.{entry_from}
 use Rattle.mob_expression.specs.Words.{number_type}
 use Rattle.mob_typing.specs.Selects.{is_bool, is_key}
+use Rattle.mob_typing.specs.Stands.{operators_in, operators_among}
 use Rattle.mob_typing.specs.WellTyped.{constant_type, HasNamedType, HasNamedTypes, AllHaveNamedTypes, IsNumber, IsNumberLiteral, the_number, behind_minus, behind_plus, HasDivisor, HasRow, FitsArguments, IsOperated, AreOperated, expressions_of, IsOfColumn, IsTypedQuery, IsTypedStatement}
 use Rattle.mob_typing.proofs.Walk.{Stays, all_stay}
 
@@ -90,6 +91,12 @@ module _ (tables : List ColumnList) (from : List ℕ) where
   operands_hold cs [] h = tt
   operands_hold cs (t ∷ ts) h = (h.0, operands_hold cs ts h.1)
 
+-- an expression is sound: its leaves name what is there, its operators have their rows, and they stand at such places
+pub record IsSound (At : ℕ → Type 0) (tables : List ColumnList) (from : List ℕ) (cs : List ConstText) (t : TypedTree) : Type 0 where
+  pub named : HasNamedTypes tables from cs t
+  pub operated : IsOperated cs t
+  pub placed : AllByRecursion At (operators_in t)
+
 -- a number literal stays one
 pub literal_stays : (text : List ℕ) (cs more : List ConstText) {t : TypedTree} → IsNumberLiteral cs text t → IsNumberLiteral (cs ++ more) text t
 literal_stays text cs more (the_number {k} is) = the_number (part_stays (λ (c : ConstText). c.text) text k cs more is.0, constant_stays (number_type text) k cs more is.1)
@@ -128,6 +135,13 @@ all_operated cs (t ∷ ts) h = (h.0, all_operated cs ts h.1)
 pub types_are : (ts : List TypedTree) → arg_types (typed_trees ts) ≡ types_of ts
 types_are [] = refl
 types_are (t ∷ ts) = ap (λ tys. type_of t ∷ tys) (types_are ts)
+
+pub all_placed : (At : ℕ → Type 0) (ts : List TypedTree) → AllByRecursion (λ t. AllByRecursion At (operators_in t)) ts → AllByRecursion At (operators_among (typed_trees ts))
+all_placed At [] h = tt
+all_placed At (t ∷ ts) h = each_both At (operators_in t) (operators_among (typed_trees ts)) h.0 (all_placed At ts h.1)
+
+pub sound_stays : (At : ℕ → Type 0) (tables : List ColumnList) (from : List ℕ) → Stays (IsSound At tables from)
+sound_stays At tables from t cs more h = record { named = tree_stays tables from t cs more h.named; operated = operated_stays t cs more h.operated; placed = h.placed }
 
 pub value_stays : (column : List ℕ × SqlType) → Stays (λ cs v. IsOfColumn cs column v)
 value_stays column None cs more h = tt

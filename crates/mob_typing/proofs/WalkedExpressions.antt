@@ -1,5 +1,5 @@
 -- The walk over expressions: their literals are gathered in written order, their leaves name what is there, their operators have their
--- rows, and what is refused is so at a place of the tree.
+-- rows, and what is refused, and each operator, is so at a place of the tree.
 use Rattle.std.specs.Prelude.{IfSome, not, codes, is_some, slice_get, option_map, option_and_then}
 use Rattle.std.specs.List.{AllByRecursion}
 use Rattle.std.proofs.Common.{◌≡◌, ◌∙◌, ◌+◌, refl, sym, ap, subst, ℕ, List, [], ◌∷◌, ◌++◌, append_assoc, length, length-append, map, Bool, true, false, cond, Option, Some, None, Ok}
@@ -20,6 +20,7 @@ use Rattle.mob_operators.specs.Table.{table, is_irrational}
 use Rattle.mob_typed.specs.declared.typed.ConstText.{ConstText}
 use Rattle.mob_typed.specs.Trees.{TypedTree, typed, none, typed_trees, type_of, types_of}
 use Rattle.mob_typed.specs.Statements.{ColumnList}
+use Rattle.mob_typed.proofs.Rising.{each_on}
 use Rattle.mob_expression.specs.declared.scope.Found.{Found}
 use Rattle.mob_expression.specs.Answers.{◌>>=◌, found, TypingStep}
 use Rattle.mob_expression.specs.Names.{column_of, entry_from}
@@ -30,10 +31,11 @@ use Rattle.mob_grammar.specs.Places.{IsWithin, nothing, same, literal_place, tre
 use Rattle.mob_grammar.specs.Held.{word_held, node_held, tree_held, trees_held}
 use Rattle.mob_grammar.proofs.Within.{within_all, within_back}
 use Rattle.mob_grammar.proofs.Places.{all_parts}
-use Rattle.mob_typing.specs.WellTyped.{column_type, from_type, HasNamedTypes, IsNumberLiteral, the_number, HasDivisor, is_division, IsOperated}
+use Rattle.mob_typing.specs.Stands.{operators_in}
+use Rattle.mob_typing.specs.WellTyped.{column_type, from_type, HasNamedType, HasNamedTypes, IsNumberLiteral, the_number, HasDivisor, is_division, FitsArguments, IsOperated}
 use Rattle.mob_typing.proofs.Walk.{GivesOrStops, gives, stops, then, also, passes, finds, not_false, adds_none, adds_one, adds_within, adds_both, Steps, Stays, still}
 use Rattle.mob_typing.proofs.OperatorRows.{is_of_table, found_of_table, names_nothing, row_fits, division_alone, has_row, own_cast, keeps_number, sign_keeps, behind_sign}
-use Rattle.mob_typing.proofs.Sound.{slice_map, slice_seam, slice_each, entry_stands, part_here, constant_here, literal_stays, tree_stays, operated_stays, operands_hold, all_operated, types_are}
+use Rattle.mob_typing.proofs.Sound.{slice_map, slice_seam, slice_each, entry_stands, part_here, constant_here, literal_stays, operands_hold, all_operated, all_placed, types_are, IsSound, sound_stays}
 
 -- the tables of FROM are those of their numbers
 abbrev pub AreThere : List ColumnList → List (List ℕ × ScopeTableParts) → Type 0
@@ -43,19 +45,18 @@ abbrev pub numbers_of : List (List ℕ × ScopeTableParts) → List ℕ
 numbers_of from = map (λ t. t.1.table) from
 
 -- the place of a lone string is among those of its trees
-lone_stands : (args : Trees) → IfSome (lone_string args) (λ x. IsWithin (x.1 ∷ []) (trees_places args))
-lone_stands no_trees = tt
-lone_stands (more_trees (tree (node.Str s) p us) no_trees) = same nothing
-lone_stands (more_trees (tree nd p us) no_trees) = tt
-lone_stands (more_trees t (more_trees u us)) = tt
+lone_stands : (At : ℕ → Type 0) (args : Trees) → AllByRecursion At (trees_held args) → IfSome (lone_string args) (λ x. IsWithin (x.1 ∷ []) (trees_places args) × At x.1)
+lone_stands At no_trees h = tt
+lone_stands At (more_trees (tree (node.Str s) p us) no_trees) h = (same nothing, h.0)
+lone_stands At (more_trees (tree nd p us) no_trees) h = tt
+lone_stands At (more_trees t (more_trees u us)) h = tt
 
 module _ (At : ℕ → Type 0) (tables : List ColumnList) (s : ScopeParts) (there : AreThere tables s.from) where
   abbrev from : List ℕ
   from = numbers_of s.from
 
-  -- the leaves name what is there, and each operator has its row
   abbrev Holds : List ConstText → TypedTree → Type 0
-  Holds cs t = HasNamedTypes tables from cs t × IsOperated cs t
+  Holds cs t = IsSound At tables from cs t
 
   -- and what has these digits is a number literal of this text
   abbrev Reads : Option (List ℕ) → List ConstText → TypedTree → Type 0
@@ -111,55 +112,67 @@ module _ (At : ℕ → Type 0) (tables : List ColumnList) (s : ScopeParts) (ther
   abbrev Settles : Option (List ℕ) → List ℕ → List ConstText → Option TypedTree × List ConstText → Type 0
   Settles digits ps cs x = Settled digits ps cs x.0 x.1
 
-  constant_steps : (ty : SqlType) (text : List ℕ) (p : ℕ) (ps : List ℕ) (cs : List ConstText)
+  constant_steps : (ty : SqlType) (text : List ℕ) (p : ℕ) (ps : List ℕ) (cs : List ConstText) → At p
       → Steps s.statement (p ∷ ps) (Reads None) cs (typed (op.Const (length cs)) ty p none, cs ++ record { ty = ty; text = text; statement = s.statement; place = p } ∷ [])
-  constant_steps ty text p ps cs =
+  constant_steps ty text p ps cs at =
       let c : ConstText = record { ty = ty; text = text; statement = s.statement; place = p } in
-      record { adds = adds_one cs c; sound = (((constant_here cs c, tt), (refl, tt)), tt) }
+      record { adds = adds_one cs c; sound = (record { named = (constant_here cs c, tt); operated = (refl, tt); placed = (at, tt) }, tt) }
 
-  number_steps : (text : List ℕ) (p : ℕ) (ps : List ℕ) (cs : List ConstText)
+  number_steps : (text : List ℕ) (p : ℕ) (ps : List ℕ) (cs : List ConstText) → At p
       → Steps s.statement (p ∷ ps) (Reads (Some text)) cs (typed (op.Const (length cs)) (number_type text) p none, cs ++ record { ty = number_type text; text = text; statement = s.statement; place = p } ∷ [])
-  number_steps text p ps cs =
+  number_steps text p ps cs at =
       let c : ConstText = record { ty = number_type text; text = text; statement = s.statement; place = p } in
-      record { adds = adds_one cs c; sound = (((constant_here cs c, tt), (refl, tt)), the_number (part_here (λ (c : ConstText). c.text) cs c, constant_here cs c)) }
+      record { adds = adds_one cs c; sound = (record { named = (constant_here cs c, tt); operated = (refl, tt); placed = (at, tt) }, the_number (part_here (λ (c : ConstText). c.text) cs c, constant_here cs c)) }
 
-  literal_settles : (w : TypeWord) (text : List ℕ) (p : ℕ) (ps : List ℕ) (cs : List ConstText) (o : Option SqlType) → At w.name.place
+  literal_settles : (w : TypeWord) (text : List ℕ) (p : ℕ) (ps : List ℕ) (cs : List ConstText) (o : Option SqlType) → At p → At w.name.place
       → GivesOrStops At (Settles None (p ∷ ps) cs) (found kind.UnknownName w.name.place o >>= (λ ty. constant s ty text p cs) >>= λ r. Ok (Some r.0, r.1))
-  literal_settles w text p ps cs None at = stops at
-  literal_settles w text p ps cs (Some ty) at = gives (constant_steps ty text p ps cs)
+  literal_settles w text p ps cs None at named = stops named
+  literal_settles w text p ps cs (Some ty) at named = gives (constant_steps ty text p ps cs at)
 
-  cast_settles : (w : TypeWord) (p : ℕ) (ps : List ℕ) (cs : List ConstText) (o : Option (List ℕ × ℕ)) → At w.name.place → IfSome o (λ x. IsWithin (x.1 ∷ []) ps) → GivesOrStops At (Settles None ps cs) (cast_of_string s w p o cs)
-  cast_settles w p ps cs None at h = gives refl
-  cast_settles w p ps cs (Some text) at h =
-      then (finds kind.UnknownName w.name.place (type_named w.name.text w.inner) at) (λ ty is.
-      let inner = constant_steps ty text.0 text.1 [] cs in
-      gives (record { adds = adds_within h inner.adds; sound = (((tt, (inner.sound.0.0, tt)), (own_cast ty, (inner.sound.0.1, tt))), tt) }))
+  cast_settles : (w : TypeWord) (p : ℕ) (ps : List ℕ) (cs : List ConstText) (o : Option (List ℕ × ℕ)) → At p → At w.name.place → IfSome o (λ x. IsWithin (x.1 ∷ []) ps × At x.1)
+      → GivesOrStops At (Settles None ps cs) (cast_of_string s w p o cs)
+  cast_settles w p ps cs None at named h = gives refl
+  cast_settles w p ps cs (Some text) at named h =
+      then (finds kind.UnknownName w.name.place (type_named w.name.text w.inner) named) (λ ty is.
+      let inner = constant_steps ty text.0 text.1 [] cs h.1 in
+      let own = inner.sound.0 in
+      gives (record { adds = adds_within h.0 inner.adds; sound = (record { named = (tt, (own.named, tt)); operated = (own_cast ty, (own.operated, tt)); placed = (at, (h.1, tt)) }, tt) }))
 
-  early_settles : (n : Node) (p : ℕ) (args : Trees) (digits : Option (List ℕ)) (cs : List ConstText) → At p → AllByRecursion At (node_held n)
+  early_settles : (n : Node) (p : ℕ) (args : Trees) (digits : Option (List ℕ)) (cs : List ConstText) → At p → AllByRecursion At (node_held n) → AllByRecursion At (trees_held args)
       → GivesOrStops At (Settles (signed_digits n digits) (literal_place n p ++ trees_places args) cs) (typed_before_operands s n p args cs)
   unfolding typed_before_operands
-  early_settles node.Null p args digits cs at h = gives (record { adds = adds_none; sound = (((tt, tt), ((refl, refl), tt)), tt) })
-  early_settles node.True p args digits cs at h = gives (constant_steps sql.Bool (codes "true") p (trees_places args) cs)
-  early_settles node.False p args digits cs at h = gives (constant_steps sql.Bool (codes "false") p (trees_places args) cs)
-  early_settles (node.Number n) p args digits cs at h = gives (number_steps n p (trees_places args) cs)
-  early_settles (node.Str t) p args digits cs at h = gives (constant_steps sql.Text t p (trees_places args) cs)
-  early_settles (node.Literal w t) p args digits cs at h = literal_settles w t p (trees_places args) cs (literal_type w.name.text w.inner t) h.0
-  early_settles (node.Column t c) p args digits cs at h = then (column_walked t c h) (λ f is. gives (record { adds = adds_none; sound = (((is, tt), (refl, tt)), tt) }))
-  early_settles (node.Call f) p args digits cs at h = then (passes (is_irrational form.Call f) kind.Irrational p at) (λ _ rational. gives refl)
-  early_settles (node.Sign g) p args digits cs at h = gives refl
-  early_settles (node.Cast w) p args digits cs at h = cast_settles w p (trees_places args) cs (lone_string args) h.0 (lone_stands args)
-  early_settles node.Not p args digits cs at h = gives refl
-  early_settles node.And p args digits cs at h = gives refl
-  early_settles node.Or p args digits cs at h = gives refl
-  early_settles node.IsNull p args digits cs at h = gives refl
-  early_settles node.IsNotNull p args digits cs at h = gives refl
+  early_settles node.Null p args digits cs at h held = gives (record { adds = adds_none; sound = (record { named = (tt, tt); operated = ((refl, refl), tt); placed = (at, tt) }, tt) })
+  early_settles node.True p args digits cs at h held = gives (constant_steps sql.Bool (codes "true") p (trees_places args) cs at)
+  early_settles node.False p args digits cs at h held = gives (constant_steps sql.Bool (codes "false") p (trees_places args) cs at)
+  early_settles (node.Number n) p args digits cs at h held = gives (number_steps n p (trees_places args) cs at)
+  early_settles (node.Str t) p args digits cs at h held = gives (constant_steps sql.Text t p (trees_places args) cs at)
+  early_settles (node.Literal w t) p args digits cs at h held = literal_settles w t p (trees_places args) cs (literal_type w.name.text w.inner t) at h.0
+  early_settles (node.Column t c) p args digits cs at h held = then (column_walked t c h) (λ f is. gives (record { adds = adds_none; sound = (record { named = (is, tt); operated = (refl, tt); placed = (at, tt) }, tt) }))
+  early_settles (node.Call f) p args digits cs at h held = then (passes (is_irrational form.Call f) kind.Irrational p at) (λ _ rational. gives refl)
+  early_settles (node.Sign g) p args digits cs at h held = gives refl
+  early_settles (node.Cast w) p args digits cs at h held = cast_settles w p (trees_places args) cs (lone_string args) at h.0 (lone_stands At args held)
+  early_settles node.Not p args digits cs at h held = gives refl
+  early_settles node.And p args digits cs at h held = gives refl
+  early_settles node.Or p args digits cs at h held = gives refl
+  early_settles node.IsNull p args digits cs at h held = gives refl
+  early_settles node.IsNotNull p args digits cs at h held = gives refl
 
-  -- operands that are read hold
-  operands_read : (args : Trees) (cs : List ConstText) (ts : List TypedTree) → ReadAs args cs ts → AllByRecursion (HasNamedTypes tables from cs) ts × AllByRecursion (IsOperated cs) ts
-  operands_read no_trees cs [] h = (tt, tt)
+  -- operands that are read are sound
+  operands_read : (args : Trees) (cs : List ConstText) (ts : List TypedTree) → ReadAs args cs ts → AllByRecursion (Holds cs) ts
+  operands_read no_trees cs [] h = tt
   operands_read no_trees cs (x ∷ xs) h = absurd h
   operands_read (more_trees t us) cs [] h = absurd h
-  operands_read (more_trees t us) cs (x ∷ xs) h = let others = operands_read us cs xs h.1 in ((h.0.0.0, others.0), (h.0.0.1, others.1))
+  operands_read (more_trees t us) cs (x ∷ xs) h = (h.0.0, operands_read us cs xs h.1)
+
+  -- and what is made of them is so by its own node
+  node_sound : (o : Op) (ty : SqlType) (p : ℕ) (args : Trees) (cs : List ConstText) (ts : List TypedTree) → ReadAs args cs ts → HasNamedType tables from cs o ty → FitsArguments cs o ty (typed_trees ts) → At p → Holds cs (typed o ty p (typed_trees ts))
+  node_sound o ty p args cs ts h own fits at =
+      let all = operands_read args cs ts h in
+      record {
+        named = (own, operands_hold tables from cs ts (each_on (Holds cs) (HasNamedTypes tables from cs) (λ t g. g.named) ts all));
+        operated = (fits, all_operated cs ts (each_on (Holds cs) (IsOperated cs) (λ t g. g.operated) ts all));
+        placed = (at, all_placed At ts (each_on (Holds cs) (λ t. AllByRecursion At (operators_in t)) (λ t g. g.placed) ts all));
+      }
 
   -- the second of two operands is a number literal that is 0 or not, where there is one
   abbrev IsDivisor : List ConstText → Option Bool → List TypedTree → Type 0
@@ -190,9 +203,6 @@ module _ (At : ℕ → Type 0) (tables : List ColumnList) (s : ScopeParts) (ther
       → GivesOrStops At (IsApplied f name p divisor ts cs) (operated f name p divisor ts)
   applied_walked f name p divisor args ts cs at h own = by (found_in table f name (types_of ts) (is_some divisor)) refl
     where
-      hold : AllByRecursion (HasNamedTypes tables from cs) ts × AllByRecursion (IsOperated cs) ts
-      hold = operands_read args cs ts h
-
       of_table : (a : Op × SqlType) → found_in table f name (types_of ts) (is_some divisor) ≡ Some a → is_of_table a.0 ≡ true
       of_table a is = subst (λ o. IfSome o (λ x. is_of_table x.0 ≡ true)) is (found_of_table f name (types_of ts) (is_some divisor))
 
@@ -209,7 +219,7 @@ module _ (At : ℕ → Type 0) (tables : List ColumnList) (s : ScopeParts) (ther
             answer = a;
             row = is;
             is = refl;
-            holds = ((names_nothing tables from cs a.0 a.1 (of_table a is), operands_hold tables from cs ts hold.0), (row_fits cs a.0 a.1 (typed_trees ts) (of_table a is) row, all_operated cs ts hold.1));
+            holds = node_sound a.0 a.1 p args cs ts h (names_nothing tables from cs a.0 a.1 (of_table a is)) (row_fits cs a.0 a.1 (typed_trees ts) (of_table a is) row) at;
           }))
 
   -- an operator that is no sign is no number literal
@@ -248,8 +258,7 @@ module _ (At : ℕ → Type 0) (tables : List ColumnList) (s : ScopeParts) (ther
   finished_walked (node.Cast w) p args ts cs at held h =
       then (finds kind.UnknownName w.name.place (type_named w.name.text w.inner) held.0) (λ ty is.
       then (passes (not (can_cast_all (types_of ts) ty)) kind.NoSuchOperator p at) (λ _ can.
-      let there = operands_read args cs ts h in
-      gives (((tt, operands_hold tables from cs ts there.0), (ap (λ tys. can_cast_all tys ty) (types_are ts) ∙ not_false (can_cast_all (types_of ts) ty) can, all_operated cs ts there.1)), tt)))
+      gives (node_sound op.Cast ty p args cs ts h tt (ap (λ tys. can_cast_all tys ty) (types_are ts) ∙ not_false (can_cast_all (types_of ts) ty) can) at, tt)))
   finished_walked node.Not p args ts cs at held h = plainly_applied form.Word (codes "not") p args ts cs at h
   finished_walked node.And p args ts cs at held h = plainly_applied form.Word (codes "and") p args ts cs at h
   finished_walked node.Or p args ts cs at held h = plainly_applied form.Word (codes "or") p args ts cs at h
@@ -264,12 +273,9 @@ module _ (At : ℕ → Type 0) (tables : List ColumnList) (s : ScopeParts) (ther
   later_walked digits own ps cs later None ds h k =
       also (subst (λ es. GivesOrStops At (Steps s.statement ps (Reads digits) es) (later ds)) h (k ds)) (λ x q. record { adds = adds_within (within_back own (within_all ps)) q.adds; sound = q.sound })
 
-  pub holds_stay : Stays Holds
-  holds_stay t cs more h = (tree_stays tables from t cs more h.0, operated_stays t cs more h.1)
-
   reads_stay : (digits : Option (List ℕ)) → Stays (Reads digits)
-  reads_stay None t cs more h = (holds_stay t cs more h.0, tt)
-  reads_stay (Some text) t cs more h = (holds_stay t cs more h.0, literal_stays text cs more h.1)
+  reads_stay None t cs more h = (sound_stays At tables from t cs more h.0, tt)
+  reads_stay (Some text) t cs more h = (sound_stays At tables from t cs more h.0, literal_stays text cs more h.1)
 
   mutual
     unfolding typed_expression typed_operands digits_of
@@ -278,7 +284,7 @@ module _ (At : ℕ → Type 0) (tables : List ColumnList) (s : ScopeParts) (ther
     tree_walked (tree n p args) cs h =
         let parts = all_parts At (node_held n) (trees_held args) h.1 in
         let digits = signed_digits n (digits_in args) in
-        then (early_settles n p args (digits_in args) cs h.0 parts.0) (λ e settled.
+        then (early_settles n p args (digits_in args) cs h.0 parts.0 parts.1) (λ e settled.
         later_walked digits (literal_place n p) (trees_places args) cs (λ ds. typed_operands s args ds >>= λ r. finished n p args r.0 >>= λ t. Ok (t, r.1)) e.0 e.1 settled
         (λ ds. then (operands_walked args ds parts.1) (λ r q. then (finished_walked n p args r.0 r.1 h.0 parts.0 q.sound) (λ t sound. gives (record { adds = q.adds; sound = sound })))))
 

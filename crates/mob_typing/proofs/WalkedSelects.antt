@@ -15,22 +15,23 @@ use Rattle.mob_ast.specs.declared.statement.FromTable.{FromTable}
 use Rattle.mob_ast.specs.Trees.{Tree, tree, ItemParts, every, one, KeyParts, SelectParts}
 use Rattle.mob_typed.specs.declared.typed.ConstText.{ConstText}
 use Rattle.mob_typed.specs.Trees.{TypedTree, type_of}
-use Rattle.mob_typed.specs.Selects.{Output}
+use Rattle.mob_typed.specs.Selects.{Output, TypedSelectParts}
 use Rattle.mob_typed.specs.Statements.{ColumnList}
 use Rattle.mob_typed.proofs.Rising.{each_both, each_map, each_on}
 use Rattle.mob_expression.specs.Names.{entry_from, has_entry}
 use Rattle.mob_expression.specs.Scopes.{ScopeTableParts, ScopeParts}
 use Rattle.mob_typing.specs.Names.{table_of}
 use Rattle.mob_typing.specs.Selects.{OutputLists, from_name, from_table, from_tables, columns_of_table, all_outputs, with_item, with_items, condition, is_bool, tree_place, aliased_node, aliased, or_typed, is_key, typed_key, typed_keys, limit_value, limit_of, no_outputs, typed_clauses, typed_select}
-use Rattle.mob_typing.specs.WellTyped.{column_type, from_type, HasNamedTypes, IsOperated, condition_alone, IsTypedQuery}
+use Rattle.mob_typing.specs.Stands.{operators_in}
+use Rattle.mob_typing.specs.WellTyped.{column_type, from_type, HasNamedTypes, IsOperated, condition_alone, expressions_of, IsTypedQuery}
 use Rattle.mob_grammar.specs.Places.{tree_places, item_places, condition_places, key_places, select_places}
 use Rattle.mob_grammar.specs.Held.{word_held, tree_held, item_held, from_held, condition_held, key_held, select_held}
 use Rattle.mob_grammar.proofs.Places.{all_parts}
 use Rattle.mob_typing.proofs.Walk.{GivesOrStops, gives, then, also, passes, finds, not_false, adds_none, adds_both, Steps, Stays, still, all_stay}
 use Rattle.mob_typing.proofs.Apart.{entry_last}
 use Rattle.mob_typing.proofs.Limits.{limit_small}
-use Rattle.mob_typing.proofs.Sound.{slice_map, slice_seam, slice_each, entry_stands}
-use Rattle.mob_typing.proofs.WalkedExpressions.{AreThere, numbers_of, holds_stay, expression_walked}
+use Rattle.mob_typing.proofs.Sound.{slice_map, slice_seam, slice_each, entry_stands, IsSound, sound_stays}
+use Rattle.mob_typing.proofs.WalkedExpressions.{AreThere, numbers_of, expression_walked}
 
 -- the tables of FROM
 abbrev pub named : List (List ℕ × ColumnList) → List ColumnList
@@ -48,6 +49,10 @@ record IsScope (tables : List ColumnList) (from : List (List ℕ × ScopeTablePa
 pub table_there : (tables : List (List ℕ × ColumnList)) (name : List ℕ) (t : ℕ × ColumnList) → table_of tables name ≡ Some t → slice_get (named tables) t.0 ≡ Some t.1
 table_there tables name t is =
     let entry = entry_stands [] tables name t is in slice_map (λ (x : List ℕ × ColumnList). x.1) tables t.0 entry.0 entry.1 ∙ ap (λ columns. Some columns) entry.2
+
+-- a query is typed, and its operators stand at such places
+abbrev pub IsStandingQuery : (ℕ → Type 0) → List ColumnList → List ConstText → TypedSelectParts → Type 0
+IsStandingQuery At tables cs q = IsTypedQuery tables cs q × AllByRecursion At (flat_map operators_in (expressions_of q))
 
 module _ (At : ℕ → Type 0) (tables : List (List ℕ × ColumnList)) where
   name_walked : (from : List (List ℕ × ScopeTableParts)) (table : Word) (alias : Option Word) → AllByRecursion At (table.place ∷ word_held alias) → GivesOrStops At (λ name. (length from < 4) × (has_entry from name ≡ false)) (from_name from table alias)
@@ -80,10 +85,10 @@ module _ (At : ℕ → Type 0) (tables : List ColumnList) (s : ScopeParts) (ther
   n = s.statement
 
   abbrev Holds : List ConstText → TypedTree → Type 0
-  Holds cs t = HasNamedTypes tables (numbers_of s.from) cs t × IsOperated cs t
+  Holds cs t = IsSound At tables (numbers_of s.from) cs t
 
   stay : Stays Holds
-  stay = holds_stay At tables s there
+  stay = sound_stays At tables (numbers_of s.from)
 
   abbrev OutputHolds : List ConstText → Output → Type 0
   OutputHolds cs o = Holds cs o.0
@@ -98,26 +103,26 @@ module _ (At : ℕ → Type 0) (tables : List ColumnList) (s : ScopeParts) (ther
   outputs_stay o cs more h = all_stay OutputHolds output_stays o.columns cs more h
 
   -- the columns behind `*`
-  columns_hold : (cs : List ConstText) (f : ℕ) (t : List ℕ × ScopeTableParts) (p : ℕ) (before columns : ColumnList) → slice_get s.from f ≡ Some t → before ++ columns ≡ t.1.columns → AllByRecursion (OutputHolds cs) (columns_of_table f (length before) columns p)
-  columns_hold cs f t p before [] at parts = tt
-  columns_hold cs f t p before (c ∷ columns) at parts =
-      (((typed_so, tt), (refl, tt)), subst (λ k. AllByRecursion (OutputHolds cs) (columns_of_table f k columns p)) (length-append before (c ∷ [])) (columns_hold cs f t p (before ++ c ∷ []) columns at (append_assoc before (c ∷ []) columns ∙ parts)))
+  columns_hold : (cs : List ConstText) (f : ℕ) (t : List ℕ × ScopeTableParts) (p : ℕ) (before columns : ColumnList) → At p → slice_get s.from f ≡ Some t → before ++ columns ≡ t.1.columns → AllByRecursion (OutputHolds cs) (columns_of_table f (length before) columns p)
+  columns_hold cs f t p before [] own at parts = tt
+  columns_hold cs f t p before (c ∷ columns) own at parts =
+      (record { named = (typed_so, tt); operated = (refl, tt); placed = (own, tt) }, subst (λ k. AllByRecursion (OutputHolds cs) (columns_of_table f k columns p)) (length-append before (c ∷ [])) (columns_hold cs f t p (before ++ c ∷ []) columns own at (append_assoc before (c ∷ []) columns ∙ parts)))
     where
       typed_so : from_type tables (numbers_of s.from) f (length before) ≡ Some c.1
       typed_so = ap (option_and_then (λ j. column_type tables j (length before))) (slice_map (λ (x : List ℕ × ScopeTableParts). x.1.table) s.from f t at)
           ∙ ap (option_and_then (λ (columns : ColumnList). option_map (λ k. k.1) (slice_get columns (length before)))) (slice_each (λ (x : List ℕ × ScopeTableParts). slice_get tables x.1.table ≡ Some x.1.columns) s.from f t there at)
           ∙ ap (λ (columns : ColumnList). option_map (λ k. k.1) (slice_get columns (length before))) (sym parts) ∙ ap (option_map (λ (k : List ℕ × SqlType). k.1)) (slice_seam before columns c)
 
-  all_hold : (cs : List ConstText) (p : ℕ) (before more : List (List ℕ × ScopeTableParts)) → before ++ more ≡ s.from → AllByRecursion (OutputHolds cs) (all_outputs (length before) more p)
-  all_hold cs p before [] parts = tt
-  all_hold cs p before (t ∷ more) parts =
+  all_hold : (cs : List ConstText) (p : ℕ) (before more : List (List ℕ × ScopeTableParts)) → At p → before ++ more ≡ s.from → AllByRecursion (OutputHolds cs) (all_outputs (length before) more p)
+  all_hold cs p before [] own parts = tt
+  all_hold cs p before (t ∷ more) own parts =
       each_both (OutputHolds cs) (columns_of_table (length before) 0 t.1.columns p) (all_outputs (length before + 1) more p)
-      (columns_hold cs (length before) t p [] t.1.columns (ap (λ xs. slice_get xs (length before)) (sym parts) ∙ slice_seam before more t) refl)
-      (subst (λ k. AllByRecursion (OutputHolds cs) (all_outputs k more p)) (length-append before (t ∷ [])) (all_hold cs p (before ++ t ∷ []) more (append_assoc before (t ∷ []) more ∙ parts)))
+      (columns_hold cs (length before) t p [] t.1.columns own (ap (λ xs. slice_get xs (length before)) (sym parts) ∙ slice_seam before more t) refl)
+      (subst (λ k. AllByRecursion (OutputHolds cs) (all_outputs k more p)) (length-append before (t ∷ [])) (all_hold cs p (before ++ t ∷ []) more own (append_assoc before (t ∷ []) more ∙ parts)))
 
   item_walked : (o : OutputLists) (i : ItemParts) (cs : List ConstText) → OutputsHold cs o → AllByRecursion At (item_held i) → GivesOrStops At (Steps n (item_places i) OutputsHold cs) (with_item s o i cs)
   item_walked o (every p) cs so_far h =
-      then (passes (length s.from == 0) kind.UnknownName p h.0) (λ _ some. gives (record { adds = adds_none; sound = each_both (OutputHolds cs) o.columns (all_outputs 0 s.from p) so_far (all_hold cs p [] s.from refl) }))
+      then (passes (length s.from == 0) kind.UnknownName p h.0) (λ _ some. gives (record { adds = adds_none; sound = each_both (OutputHolds cs) o.columns (all_outputs 0 s.from p) so_far (all_hold cs p [] s.from h.0 refl) }))
   item_walked o (one t a) cs so_far h =
       then (expression_walked At tables s there t cs (all_parts At (tree_held t) (word_held a) h).0) (λ r q.
       gives (record { adds = q.adds; sound = each_both (OutputHolds r.1) o.columns (_ ∷ []) (still OutputsHold outputs_stay o q.adds so_far) (q.sound, tt) }))
@@ -199,35 +204,49 @@ module _ (At : ℕ → Type 0) (tables : List ColumnList) (s : ScopeParts) (ther
 
   condition_named : (cs : List ConstText) (c : Option TypedTree) → ConditionHolds cs c → IfSome c (λ t. LeavesHold cs t × (is_bool (type_of t) ≡ true))
   condition_named cs None h = tt
-  condition_named cs (Some t) h = (h.0.0, h.1)
+  condition_named cs (Some t) h = (h.0.named, h.1)
 
-  condition_operated : (cs : List ConstText) (c : Option TypedTree) → ConditionHolds cs c → AllByRecursion (IsOperated cs) (condition_alone c)
-  condition_operated cs None h = tt
-  condition_operated cs (Some t) h = (h.0.1, tt)
+  condition_holds : (cs : List ConstText) (c : Option TypedTree) → ConditionHolds cs c → AllByRecursion (Holds cs) (condition_alone c)
+  condition_holds cs None h = tt
+  condition_holds cs (Some t) h = (h.0, tt)
+
+  abbrev IsQuery : List ConstText → TypedSelectParts → Type 0
+  IsQuery cs q = IsStandingQuery At tables cs q
+
+  all_stand : (cs : List ConstText) (ts : List TypedTree) → AllByRecursion (Holds cs) ts → AllByRecursion At (flat_map operators_in ts)
+  all_stand cs [] h = tt
+  all_stand cs (t ∷ ts) h = each_both At (operators_in t) (flat_map operators_in ts) h.0.placed (all_stand cs ts h.1)
 
   query_typed : (cs : List ConstText) (distinct : Bool) (o : OutputLists) (c : Option TypedTree) (ks : List (TypedTree × Bool)) (l : Option ℕ) → length s.from ≤ 4 → IsDistinct bytes_eq (names_of s.from)
       → OutputsHold cs o → ConditionHolds cs c → AllByRecursion (KeyHolds cs) ks → IfSome l (λ n. n < 10 ^ 18)
-      → IsTypedQuery tables cs (record { distinct = distinct; items = o.columns; from = map (λ t. t.1.table) s.from; names = map (λ t. t.0) s.from; cond = c; keys = ks; limit = l })
-  query_typed cs distinct o c ks l few apart items condition keys limited = record {
-    there = numbers_there s.from there;
-    few = subst (λ k. k ≤ 4) (sym long) few;
-    called = length-map s.from (λ (t : List ℕ × ScopeTableParts). t.0) ∙ sym long;
-    apart = apart;
-    operated =
-        each_both (IsOperated cs) (map (λ (x : Output). x.0) o.columns) (condition_alone c ++ map (λ (k : TypedTree × Bool). k.0) ks)
-        (each_map (OutputHolds cs) (IsOperated cs) (λ (x : Output). x.0) (λ x h. h.1) o.columns items)
-        (each_both (IsOperated cs) (condition_alone c) (map (λ (k : TypedTree × Bool). k.0) ks) (condition_operated cs c condition)
-        (each_map (KeyHolds cs) (IsOperated cs) (λ (k : TypedTree × Bool). k.0) (λ k h. h.0.1) ks keys));
-    limited = limited;
-    items = each_on (OutputHolds cs) (λ x. LeavesHold cs x.0) (λ x h. h.0) o.columns items;
-    condition = condition_named cs c condition;
-    keys = each_on (KeyHolds cs) (λ k. LeavesHold cs k.0 × (is_key (type_of k.0) ≡ true)) (λ k h. (h.0.0, h.1)) ks keys;
-  }
+      → IsQuery cs (record { distinct = distinct; items = o.columns; from = map (λ t. t.1.table) s.from; names = map (λ t. t.0) s.from; cond = c; keys = ks; limit = l })
+  query_typed cs distinct o c ks l few apart items condition keys limited = (
+    record {
+      there = numbers_there s.from there;
+      few = subst (λ k. k ≤ 4) (sym long) few;
+      called = length-map s.from (λ (t : List ℕ × ScopeTableParts). t.0) ∙ sym long;
+      apart = apart;
+      operated = each_on (Holds cs) (IsOperated cs) (λ t h. h.operated) expressions all;
+      limited = limited;
+      items = each_on (OutputHolds cs) (λ x. LeavesHold cs x.0) (λ x h. h.named) o.columns items;
+      condition = condition_named cs c condition;
+      keys = each_on (KeyHolds cs) (λ k. LeavesHold cs k.0 × (is_key (type_of k.0) ≡ true)) (λ k h. (h.0.named, h.1)) ks keys;
+    },
+    all_stand cs expressions all,
+  )
     where
       long : length (numbers_of s.from) ≡ length s.from
       long = length-map s.from (λ (t : List ℕ × ScopeTableParts). t.1.table)
 
-  clauses_walked : (x : SelectParts) (cs : List ConstText) → length s.from ≤ 4 → IsDistinct bytes_eq (names_of s.from) → AllByRecursion At (select_held x) → GivesOrStops At (Steps n (select_places x) (IsTypedQuery tables) cs) (typed_clauses s x cs)
+      expressions : List TypedTree
+      expressions = map (λ (x : Output). x.0) o.columns ++ (condition_alone c ++ map (λ (k : TypedTree × Bool). k.0) ks)
+
+      all : AllByRecursion (Holds cs) expressions
+      all =
+          each_both (Holds cs) (map (λ (x : Output). x.0) o.columns) (condition_alone c ++ map (λ (k : TypedTree × Bool). k.0) ks) (each_map (OutputHolds cs) (Holds cs) (λ (x : Output). x.0) (λ x h. h) o.columns items)
+          (each_both (Holds cs) (condition_alone c) (map (λ (k : TypedTree × Bool). k.0) ks) (condition_holds cs c condition) (each_map (KeyHolds cs) (Holds cs) (λ (k : TypedTree × Bool). k.0) (λ k h. h.0) ks keys))
+
+  clauses_walked : (x : SelectParts) (cs : List ConstText) → length s.from ≤ 4 → IsDistinct bytes_eq (names_of s.from) → AllByRecursion At (select_held x) → GivesOrStops At (Steps n (select_places x) IsQuery cs) (typed_clauses s x cs)
   clauses_walked x cs few apart h =
       let items = all_parts At (flat_map item_held x.items) (flat_map from_held x.from ++ (condition_held x.cond ++ (flat_map key_held x.keys ++ word_held x.limit))) h in
       let from = all_parts At (flat_map from_held x.from) (condition_held x.cond ++ (flat_map key_held x.keys ++ word_held x.limit)) items.1 in
@@ -248,8 +267,8 @@ unfolding IsDistinct
 no_tables tables = record { there = tt; few = omega arith; apart = tt }
 
 pub select_walked : (At : ℕ → Type 0) (tables : List (List ℕ × ColumnList)) (n : ℕ) (x : SelectParts) (cs : List ConstText) → AllByRecursion At (select_held x)
-    → GivesOrStops At (Steps n (select_places x) (IsTypedQuery (named tables)) cs) (typed_select tables n x cs)
+    → GivesOrStops At (Steps n (select_places x) (IsStandingQuery At (named tables)) cs) (typed_select tables n x cs)
 select_walked At tables n x cs h =
     let items = all_parts At (flat_map item_held x.items) (flat_map from_held x.from ++ (condition_held x.cond ++ (flat_map key_held x.keys ++ word_held x.limit))) h in
     let from = all_parts At (flat_map from_held x.from) (condition_held x.cond ++ (flat_map key_held x.keys ++ word_held x.limit)) items.1 in
-    then {P = Steps n (select_places x) (IsTypedQuery (named tables)) cs} (tables_walked At tables [] x.from (no_tables (named tables)) from.0) (λ f scope. clauses_walked At (named tables) (record { from = f; statement = n }) scope.there x cs scope.few scope.apart h)
+    then {P = Steps n (select_places x) (IsStandingQuery At (named tables)) cs} (tables_walked At tables [] x.from (no_tables (named tables)) from.0) (λ f scope. clauses_walked At (named tables) (record { from = f; statement = n }) scope.there x cs scope.few scope.apart h)

@@ -23,6 +23,7 @@ use Rattle.mob_expression.specs.Names.{column_of, has_entry}
 use Rattle.mob_expression.specs.Words.{type_named}
 use Rattle.mob_typing.specs.Names.{NameLists, table_of}
 use Rattle.mob_typing.specs.Statements.{Made, with_column, with_columns, made_table, made_index, inserted, good_delimiter, copied, keeping, typed_statement}
+use Rattle.mob_typing.specs.Stands.{operators_of}
 use Rattle.mob_typing.specs.WellTyped.{IsTypedStatement, tables_behind, table_made, index_made}
 use Rattle.mob_grammar.specs.Places.{IsWithin, nothing as none_within, same, tree_places, row_places, statement_places}
 use Rattle.mob_grammar.specs.Held.{string_held, column_held, row_held, statement_held}
@@ -51,14 +52,15 @@ names_of tables = map (λ t. t.0) tables
 abbrev pub KeepsApart : List (List ℕ) → List (List ℕ) → Type 0
 KeepsApart before new = IsDistinct bytes_eq before → IsDistinct bytes_eq (before ++ new)
 
--- a statement that is made keeps to the tables before it, makes its own, each table and each index under a new name, and its rows
--- stand at places among these
-pub record IsMade (names : NameLists) (ps : List ℕ) (consts : List ConstText) (m : Made) : Type 0 where
+-- a statement that is made keeps to the tables before it, makes its own, each table and each index under a new name, its operators
+-- stand at such places, and its rows at places among these
+pub record IsMade (At : ℕ → Type 0) (names : NameLists) (ps : List ℕ) (consts : List ConstText) (m : Made) : Type 0 where
   pub typed : IsTypedStatement (named names.tables) consts m.statement
   pub behind : named m.names.tables ≡ tables_behind (named names.tables) m.statement
   pub tables : names_of m.names.tables ≡ names_of names.tables ++ table_made m.statement
   pub indexes : m.names.indexes ≡ names.indexes ++ index_made m.statement
   pub apart : KeepsApart (names_of names.tables) (table_made m.statement) × KeepsApart names.indexes (index_made m.statement)
+  pub operators : AllByRecursion At (operators_of m.statement)
   pub rows : IsWithin (brackets_of m.statement) ps
 
 point_alone : (ty : SqlType) → same_type ty sql.TPoint ≡ true → ty ≡ sql.TPoint
@@ -90,20 +92,21 @@ module _ (At : ℕ → Type 0) where
 
     -- what is made without constants
     abbrev IsMadeAlone : Made → Type 0
-    IsMadeAlone m = (consts : List ConstText) → IsMade names [] consts m
+    IsMadeAlone m = (consts : List ConstText) → IsMade At names [] consts m
 
     -- a statement that makes no table and no index
     no_more : (before : List (List ℕ)) → KeepsApart before []
     no_more before h = subst (IsDistinct bytes_eq) (sym (append-nil before)) h
 
     plain : {ps : List ℕ} {consts : List ConstText} (statement : StatementOut) → IsTypedStatement tables consts statement → tables ≡ tables_behind tables statement → [] ≡ table_made statement → [] ≡ index_made statement
-        → IsWithin (brackets_of statement) ps → IsMade names ps consts (record { statement = statement; names = names })
-    plain statement typed behind no_table no_index rows = record {
+        → AllByRecursion At (operators_of statement) → IsWithin (brackets_of statement) ps → IsMade At names ps consts (record { statement = statement; names = names })
+    plain statement typed behind no_table no_index operators rows = record {
       typed = typed;
       behind = behind;
       tables = sym (ap (λ ns. names_of names.tables ++ ns) (sym no_table) ∙ append-nil (names_of names.tables));
       indexes = sym (ap (λ ns. names.indexes ++ ns) (sym no_index) ∙ append-nil names.indexes);
       apart = (subst (KeepsApart (names_of names.tables)) no_table (no_more (names_of names.tables)), subst (KeepsApart names.indexes) no_index (no_more names.indexes));
+      operators = operators;
       rows = rows;
     }
 
@@ -117,6 +120,7 @@ module _ (At : ℕ → Type 0) where
           tables = map-append (λ (t : List ℕ × ColumnList). t.0) names.tables ((name.text, cs) ∷ []);
           indexes = sym (append-nil names.indexes);
           apart = (λ h. name_last (names_of names.tables) name.text h (none_named 0 names.tables name.text new), no_more names.indexes);
+          operators = tt;
           rows = none_within;
         }))))
 
@@ -135,6 +139,7 @@ module _ (At : ℕ → Type 0) where
           tables = sym (append-nil (names_of names.tables));
           indexes = refl;
           apart = (no_more (names_of names.tables), λ h. name_last names.indexes name.text h new);
+          operators = tt;
           rows = none_within;
         })))))
 
@@ -145,27 +150,27 @@ module _ (At : ℕ → Type 0) where
     copy_walked : (table : Word) (file : Quoted) (d : Option Quoted) → At table.place → AllByRecursion At (string_held d) → GivesOrStops At IsMadeAlone (copied names table file d)
     copy_walked table file d at h =
         then (finds kind.UnknownName table.place (table_of names.tables table.text) at) (λ t there.
-        then (delimiter_walked d h) (λ _ good. gives (λ consts. plain (rows_from t.0 file.text) (slice_get_within tables t.0 t.1 (table_there names.tables table.text t there)) refl refl refl none_within)))
+        then (delimiter_walked d h) (λ _ good. gives (λ consts. plain (rows_from t.0 file.text) (slice_get_within tables t.0 t.1 (table_there names.tables table.text t there)) refl refl refl tt none_within)))
 
-    insert_walked : (n : ℕ) (table : Word) (rs : List RowParts) (cs : List ConstText) → At table.place → AllByRecursion At (flat_map row_held rs) → GivesOrStops At (Steps n (flat_map row_places rs) (IsMade names (flat_map row_places rs)) cs) (inserted n names table rs cs)
+    insert_walked : (n : ℕ) (table : Word) (rs : List RowParts) (cs : List ConstText) → At table.place → AllByRecursion At (flat_map row_held rs) → GivesOrStops At (Steps n (flat_map row_places rs) (IsMade At names (flat_map row_places rs)) cs) (inserted n names table rs cs)
     insert_walked n table rs cs at h =
         then (finds kind.UnknownName table.place (table_of names.tables table.text) at) (λ t there.
         then (rows_walked At n t.1 rs cs h) (λ r q. gives (record {
           adds = q.adds;
           sound =
               plain (new_rows t.0 r.0 (map (λ (row : RowParts). row.place) rs))
-              (record { columns = t.1; there = table_there names.tables table.text t there; values = q.sound.0; placed = length-map rs (λ (row : RowParts). row.place) ∙ q.sound.1 }) refl refl refl (brackets_within rs);
+              (record { columns = t.1; there = table_there names.tables table.text t there; values = q.sound.0; placed = length-map rs (λ (row : RowParts). row.place) ∙ q.sound.1 }) refl refl refl tt (brackets_within rs);
         })))
 
-    made_alone : (n : ℕ) (cs : List ConstText) {r : Result Made Mistake} → GivesOrStops At IsMadeAlone r → GivesOrStops At (Steps n [] (IsMade names []) cs) (keeping cs r)
+    made_alone : (n : ℕ) (cs : List ConstText) {r : Result Made Mistake} → GivesOrStops At IsMadeAlone r → GivesOrStops At (Steps n [] (IsMade At names []) cs) (keeping cs r)
     made_alone n cs h = then h (λ m made. gives (record { adds = adds_none; sound = made cs }))
 
-    pub statement_walked : (n : ℕ) (s : StatementParts) (cs : List ConstText) → AllByRecursion At (statement_held s) → GivesOrStops At (Steps n (statement_places s) (IsMade names (statement_places s)) cs) (typed_statement n names s cs)
+    pub statement_walked : (n : ℕ) (s : StatementParts) (cs : List ConstText) → AllByRecursion At (statement_held s) → GivesOrStops At (Steps n (statement_places s) (IsMade At names (statement_places s)) cs) (typed_statement n names s cs)
     unfolding typed_statement
-    statement_walked n empty cs h = gives (record { adds = adds_none; sound = plain nothing tt refl refl refl none_within })
+    statement_walked n empty cs h = gives (record { adds = adds_none; sound = plain nothing tt refl refl refl tt none_within })
     statement_walked n (create_table name columns) cs h = made_alone n cs (table_walked name columns h.0 h.1)
     statement_walked n (create_index name table column) cs h = made_alone n cs (index_walked name table column h.0 h.1.0 h.1.1.0)
     statement_walked n (insert table rows) cs h = insert_walked n table rows cs h.0 h.1
     statement_walked n (copy table file delimiter) cs h = made_alone n cs (copy_walked table file delimiter h.0 h.1.1)
-    statement_walked n (select s) cs h = then (select_walked At names.tables n s cs h) (λ r q. gives (record { adds = q.adds; sound = plain (query r.0) q.sound refl refl refl none_within }))
-    statement_walked n (explain s) cs h = then (select_walked At names.tables n s cs h) (λ r q. gives (record { adds = q.adds; sound = plain (plan_of r.0) q.sound refl refl refl none_within }))
+    statement_walked n (select s) cs h = then (select_walked At names.tables n s cs h) (λ r q. gives (record { adds = q.adds; sound = plain (query r.0) q.sound.0 refl refl refl q.sound.1 none_within }))
+    statement_walked n (explain s) cs h = then (select_walked At names.tables n s cs h) (λ r q. gives (record { adds = q.adds; sound = plain (plan_of r.0) q.sound.0 refl refl refl q.sound.1 none_within }))

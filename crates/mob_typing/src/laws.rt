@@ -1,5 +1,5 @@
 //! What holds of every typed script. No code runs here.
-ghost use Rattle.mob_typing.specs.Refused.{TypingRefusesWhatIsHeld};
+ghost use Rattle.mob_typing.specs.Stands.{TypingHoldsOperators, TypingRefusesWhatIsHeld};
 ghost use Rattle.mob_typing.specs.WellTyped.{TypingGivesWellTyped, TypingKeepsNamesApart};
 
 /// What a typed script names by a number is there, and has the type that is asked of it: constants, columns, tables. Each operator has a
@@ -10,7 +10,9 @@ pub fn scripts_are_well_typed()
     ensures names { TypingKeepsNamesApart }
 {}
 
-/// A refusal of a name or a type names the statement whose tree holds its place.
-pub fn refusals_are_held()
-    ensures held { TypingRefusesWhatIsHeld }
+/// A refusal of a name or a type names the statement whose tree holds its place, and each operator of a typed script stands at a place
+/// that the tree of its statement holds.
+pub fn places_are_held()
+    ensures refusals { TypingRefusesWhatIsHeld }
+    ensures operators { TypingHoldsOperators }
 {}
