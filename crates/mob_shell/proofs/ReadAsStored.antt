@@ -20,7 +20,7 @@ use Rattle.mob_catalog.specs.declared.catalog.TableHead.{TableHead}
 use Rattle.mob_eval.specs.Scene.{Scene, scene}
 use Rattle.mob_eval.specs.Stored.{ConstantsAreRead, ColumnsAreRead}
 use Rattle.mob_tuples.specs.Tuples.{StandsIn}
-use Rattle.mob_join.specs.TypedFor.{AllHaveStoredTypes, HasStoredType, HasStoredTypes, IsTypedFor}
+use Rattle.mob_join.specs.TypedFor.{AllHaveStoredTypes, HasStoredType, HasStoredTypes}
 use Rattle.mob_shell.specs.StoredTypes.{QueriesAreTyped}
 use Rattle.mob_shell.specs.ReadAsStored.{IsLiveTuple, LeafReadsStored, ReadsStored, AllReadStored, QueriesReadWhatIsStored, TypedQueriesReadWhatIsStored}
 
@@ -101,4 +101,4 @@ module _ (constants : ConstantsAreRead) (columns : ColumnsAreRead) where
       }
 
   pub queries_read : QueriesAreTyped → QueriesReadWhatIsStored
-  queries_read typed settings input count text run q tuple next live = typed_queries_read run.stands.catalogue q settings.epoch tuple (typed settings input count text run q next) live
+  queries_read fit settings input count text run q tuple next live = typed_queries_read run.stands.catalogue q settings.epoch tuple (fit settings input count text run q next) live

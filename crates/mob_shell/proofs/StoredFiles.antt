@@ -1,5 +1,5 @@
 -- The rows of the files that a script copies have the types of the tables into which they go.
-use Rattle.std.proofs.Common.{◌≡◌, ◌∙◌, refl, sym, ap, subst, Bool, true, false, ℕ, ℤ, ◌+◌, ◌-◌, List, [], ◌∷◌, ◌++◌, map, Option, Some, None, Result, Ok, Err, append_assoc, append-nil}
+use Rattle.std.proofs.Common.{◌≡◌, ◌∙◌, refl, sym, ap, subst, Bool, true, false, ℕ, ℤ, ◌+◌, ◌-◌, List, [], ◌∷◌, ◌++◌, map, Some, Ok, append_assoc, append-nil}
 use Rattle.std.specs.Prelude.{nat_lt, slice_get, if◌then◌else◌}
 use Rattle.std.specs.List.{AllByRecursion}
 use Rattle.mob_value.specs.declared.value.Value.{Value}
@@ -7,7 +7,7 @@ use Rattle.mob_catalog.specs.OwnTypes.{HasColumnTypes, RowsHaveColumnTypes}
 use Rattle.mob_typed.specs.declared.typed.ConstText.{ConstText}
 use Rattle.mob_typed.specs.Statements.{ColumnList, ScriptOut}
 use Rattle.mob_load.specs.Checks.{CheckParts, literal, table, room, file, Checkpoint, bracket, checkpoints_from, stands_before, checks_up_to, in_order, checks_of}
-use Rattle.mob_load.specs.Loads.{Loaded, LoadsFile, ReadsCheck, ReadsChecks, ReadsScript, one_row, greatest_rows, loaded_columns, loaded_row_count, nothing_loaded, columns_or_none, with_made_table, with_rows}
+use Rattle.mob_load.specs.Loads.{Loaded, LoadsFile, ReadsCheck, ReadsChecks, ReadsScript, one_row, greatest_rows, loaded_columns, loaded_row_count, nothing_loaded, columns_or_none, with_rows}
 use Rattle.mob_load.specs.declared.program.Program.{Program}
 use Rattle.mob_shell.specs.Runs.{next_rows, later_files}
 

@@ -102,9 +102,9 @@ module _ (owns : ConstantsHaveTheirTypes) (day : ℤ) where
 module _ (well : TypingGivesWellTyped) (has : ProgramHasValues) (owns : ConstantsHaveTheirTypes) (own : RowsHaveColumnTypes) where
   -- where the run of a typed script begins, whatever its files
   pub stands_first : (day : ℤ) (out : ScriptOut) (program : Program) → IsTypedScript out → ReadsScript day out program → StandsBefore out.consts program.values 1 [] out.statements (begin program)
-  stands_first day out program typed reads = record {
+  stands_first day out program is reads = record {
     holds = types_stay.new program.values;
-    typed = well typed.0 out typed.1;
+    typed = well is.0 out is.1;
     files = program_files own day out program reads;
   }
 
