@@ -205,7 +205,11 @@ static ROWS: [Row; 192] = [
     (Reading::Day, " 2000-01-01", "NotText"),
     (Reading::Value(SqlType::Text), "", ""),
     (Reading::Value(SqlType::Text), "\\N a ", "\\N a "),
-    (Reading::Value(SqlType::Point), "POINT(1 2)", "NotText"),
+    (
+        Reading::Value(SqlType::Polygon),
+        "POLYGON((0 0,1 0,0 1,0 0))",
+        "NotText",
+    ),
     (
         Reading::Value(SqlType::TBool),
         "T@2001-01-01",
