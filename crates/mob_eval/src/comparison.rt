@@ -11,7 +11,7 @@ use mob_ast::Cmp;
 use mob_frac::Frac;
 use mob_list::text::Text;
 use mob_plane::Point;
-use mob_slice::{Course, Line, Moving, Ranked, Rel, Slice, Steady};
+use mob_slice::{BaseValue, Course, Line, Moving, Ranked, Rel, Slice, Steady};
 use mob_span::{Span, SpanSet};
 use mob_value::Value;
 
