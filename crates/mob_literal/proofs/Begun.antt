@@ -38,6 +38,10 @@ pub record IsNoSign (test : ℕ → Bool) : Type 0 where
   pub included : test 91 ≡ false
   pub left_out : test 40 ≡ false
 
+pub bracket_begun : (test : ℕ → Bool) → IsNoSign test → (included : Bool) → IsBegun test (cond included (codes "[") (codes "("))
+bracket_begun test signs true = record { first = 91; rest = []; is = refl; other = signs.included }
+bracket_begun test signs false = record { first = 40; rest = []; is = refl; other = signs.left_out }
+
 module _ {C B : Type 0} (test : ℕ → Bool) (signs : IsNoSign test) (style : Style C B) where
   start_begun : (s : Slice C) → IsBegun test (style.value_text (style.course.start s.course)) → IsBegun test (start_text style s)
   start_begun s p = begun_front test (style.value_text (style.course.start s.course) ++ codes "@") (style.moment_text s.span.lower) (begun_front test (style.value_text (style.course.start s.course)) (codes "@") p)
@@ -50,14 +54,10 @@ module _ {C B : Type 0} (test : ℕ → Bool) (signs : IsNoSign test) (style : S
   set_begun (s ∷ []) h = start_begun s (h s [] refl)
   set_begun (s ∷ r ∷ rest) h = record { first = 123; rest = _; is = refl; other = signs.brace }
 
-  bracket_begun : (included : Bool) → IsBegun test (cond included (codes "[") (codes "("))
-  bracket_begun true = record { first = 91; rest = []; is = refl; other = signs.included }
-  bracket_begun false = record { first = 40; rest = []; is = refl; other = signs.left_out }
-
   groups_begun : (groups : List (List (Slice C))) → AllHoldTogether style.course groups → IsBegun test (groups_text style groups)
   groups_begun [] together = record { first = 123; rest = _; is = refl; other = signs.brace }
   groups_begun ([] ∷ []) together = absurd together
-  groups_begun ((s ∷ group) ∷ []) together = begun_front test _ _ (begun_front test _ _ (bracket_begun s.span.lower_inc))
+  groups_begun ((s ∷ group) ∷ []) together = begun_front test _ _ (begun_front test _ _ (bracket_begun test signs s.span.lower_inc))
   groups_begun (group ∷ next ∷ groups) together = record { first = 123; rest = _; is = refl; other = signs.brace }
 
   pub moving_begun : (slices : List (Slice C)) → FirstBegins slices → IsBegun test (moving_text style slices)

@@ -1,12 +1,11 @@
--- Worked examples of texts of numbers and points that change evenly, by hand. A number prints here as its place among the digits, and a
--- moment as D and its day's place.
+-- Worked examples of texts of numbers and points that change evenly, by hand. A number prints here as its digit, a point as P and the
+-- digits of its coordinates, and a moment as D and its day's place.
 use Rattle.std.proofs.Common.{◌≡◌, ℕ, ◌+◌, [], ◌∷◌, ◌++◌, Bool, true, false, Option, Some, None, codes, refl, nat_abs}
 use Rattle.std.specs.Prelude.{option_map, List}
 use Rattle.mob_ratio.specs.Ratio.{Ratio}
 use Rattle.mob_ratio.specs.Order.{before, same}
 use Rattle.mob_language.specs.Language.{Text}
 use Rattle.mob_plane.specs.declared.point.Point.{Point}
-use Rattle.mob_points.specs.PointText.{point_text}
 use Rattle.mob_slice.specs.declared.slice.Slice.{Slice}
 use Rattle.mob_slice.specs.declared.line.Line.{Line}
 use Rattle.mob_slice.specs.declared.line.PlaneLine.{PlaneLine}
@@ -54,7 +53,7 @@ unfolding before same
 line_left_out = refl
 
 -- a number that does not fit is seen before what is unsound
-too_large_first : fitting_all (record { lower_inc = true; instants = record { value = None; instant = Some d3 } ∷ record { value = Some d1; instant = Some d1 } ∷ []; upper_inc = false } ∷ []) ≡ None {A = List (Sequence (Written Ratio))}
+too_large_first : ◌≡◌ {A = Option (List (Sequence (Written Ratio)))} (fitting_all (record { lower_inc = true; instants = record { value = None; instant = Some d3 } ∷ record { value = Some d1; instant = Some d1 } ∷ []; upper_inc = false } ∷ [])) None
 too_large_first = refl
 
 -- ---- groups of lines
@@ -83,7 +82,7 @@ an_instant_missing = refl
 -- ---- points
 
 abbrev points : Style PlaneLine Point
-points = record { course = plane_course; value_text = point_text; moment_text = day_text }
+points = record { course = plane_course; value_text = λ p. codes "P" ++ (48 + nat_abs p.x.num) ∷ (48 + nat_abs p.y.num) ∷ []; moment_text = day_text }
 
 abbrev at : ℕ → Point
 at x = record { x = day x; y = day 0 }
@@ -92,10 +91,10 @@ abbrev way : Bool → Ratio → Ratio → Bool → ℕ → ℕ → Slice PlaneLi
 way lower_inc lower upper upper_inc from to = record { span = record { lower = lower; upper = upper; lower_inc = lower_inc; upper_inc = upper_inc }; course = record { from = at from; to = at to } }
 
 -- a way of which the middle is left out
-two_ways : moving_text points (way true (day 0) d1 false 0 1 ∷ way false d2 d3 true 2 3 ∷ []) ≡ codes "{[POINT(0 0)@D0, POINT(1 0)@D1), (POINT(2 0)@D2, POINT(3 0)@D3]}"
+two_ways : moving_text points (way true (day 0) d1 false 0 1 ∷ way false d2 d3 true 2 3 ∷ []) ≡ codes "{[P00@D0, P10@D1), (P20@D2, P30@D3]}"
 unfolding before same
 two_ways = refl
 
-one_place : moving_text points (way true d2 d2 true 2 2 ∷ []) ≡ codes "POINT(2 0)@D2"
+one_place : moving_text points (way true d2 d2 true 2 2 ∷ []) ≡ codes "P20@D2"
 unfolding before same
 one_place = refl

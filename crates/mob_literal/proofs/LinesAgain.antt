@@ -1,5 +1,5 @@
 -- The printed text of a tfrac and of a tgeompoint is read again as that value: nothing that stands there may be a prefix.
-use Rattle.std.proofs.Common.{◌≡◌, ℕ, ℤ, List, [], ◌∷◌, Bool, true, false, Option, Some, Ok, refl, rules}
+use Rattle.std.proofs.Common.{ℕ, ℤ, List, [], Bool, true, false, Option, Some, Ok, refl, rules}
 use Rattle.mob_ratio.specs.Ratio.{Ratio}
 use Rattle.mob_ratio.specs.Order.{same}
 use Rattle.mob_ratio.proofs.Order.{same_exact}
