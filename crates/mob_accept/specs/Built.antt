@@ -6,7 +6,7 @@ use Rattle.mob_operators.specs.Lookup.{has_type}
 
 -- the types whose values are built
 abbrev pub is_built : SqlType → Bool
-is_built ty = has_type (sql.Bool ∷ sql.Int ∷ sql.Numeric ∷ sql.Text ∷ sql.Moment ∷ sql.TBool ∷ sql.TInt ∷ sql.TText ∷ []) ty
+is_built ty = has_type (sql.Bool ∷ sql.Int ∷ sql.Numeric ∷ sql.Text ∷ sql.Moment ∷ sql.Point ∷ sql.Span ∷ sql.SpanSet ∷ sql.TBool ∷ sql.TInt ∷ sql.TFrac ∷ sql.TText ∷ sql.TPoint ∷ []) ty
 
 -- Of these the types whose operators are built, as sums and comparisons at each instant. An operator that comes with the values of a type
 -- does not ask for this.

@@ -25,15 +25,8 @@ abbrev pub is_later : Op → Bool
 is_later (op.Ever c) = true
 is_later (op.Always c) = true
 is_later op.Overlap = true
-is_later op.AtTime = true
-is_later op.MinusTime = true
 is_later op.AtValues = true
 is_later op.MinusValues = true
-is_later op.ValueAtTimestamp = true
-is_later op.GetTime = true
-is_later op.WhenTrue = true
-is_later op.GetX = true
-is_later op.GetY = true
 is_later op.BoxOf = true
 is_later op.ExpandSpace = true
 is_later op.AtStbox = true

@@ -15,9 +15,14 @@ pub fn is_built(ty: SqlType) -> bool
         | SqlType::Numeric
         | SqlType::Text
         | SqlType::Moment
+        | SqlType::Point
+        | SqlType::Span
+        | SqlType::SpanSet
         | SqlType::TBool
         | SqlType::TInt
-        | SqlType::TText => true,
+        | SqlType::TFrac
+        | SqlType::TText
+        | SqlType::TPoint => true,
         _ => false,
     }
 }

@@ -32,15 +32,8 @@ fn is_later(op: Op) -> bool
         Op::Ever(_)
         | Op::Always(_)
         | Op::Overlap
-        | Op::AtTime
-        | Op::MinusTime
         | Op::AtValues
         | Op::MinusValues
-        | Op::ValueAtTimestamp
-        | Op::GetTime
-        | Op::WhenTrue
-        | Op::GetX
-        | Op::GetY
         | Op::BoxOf
         | Op::ExpandSpace
         | Op::AtStbox
@@ -229,9 +222,8 @@ impl Places for TypedStatement {
 }
 
 /// The least place of an operator that is not built: one whose result or one of whose arguments has a type whose operators are not
-/// built, or, of an operator that comes with the values of a type, whose values are not built; `?`, `%` and `&&`, the restrictions and
-/// the functions of time and space, and a `#` sign between a tint and a numeric. The place is that of its sign, its word or its
-/// function name.
+/// built, or, of an operator that comes with the values of a type, whose values are not built; `?`, `%` and `&&`, the restrictions by
+/// value and in space, and a `#` sign between a tint and a numeric. The place is that of its sign, its word or its function name.
 pub fn first_unbuilt_operator(typed: &Typed) -> Option<u32>
     ensures least { result ≡ least (unbuilt_operators (script_seen typed.now).statements) }
 {
