@@ -5,6 +5,7 @@ pub mod OneReading
 pub mod ReadLiterals
 pub mod Rows
 mod LineRows
+mod LineTexts
 pub mod Drawn
 pub mod SequenceLemmas
 pub mod GroupSlices
