@@ -4,6 +4,7 @@ use Rattle.std.specs.Prelude.{pos}
 use Rattle.mob_ratio.specs.Ratio.{Ratio, whole, over, turned, inverse, ◌+ℚ◌, ◌*ℚ◌, neg_ℚ}
 use Rattle.mob_ratio.specs.Gcd.{gcd, gcd_steps}
 use Rattle.mob_ratio.specs.Lowest.{in_lowest_terms}
+use Rattle.mob_ratio.specs.Line.{line_at, line_value}
 use Rattle.mob_ratio.specs.Order.{before, same}
 use Rattle.mob_span.specs.Span.{SpanOf}
 use Rattle.mob_plane.specs.declared.point.Point.{Point}
@@ -130,7 +131,7 @@ look t = MovingPoint way ∷ Moment t ∷ []
 
 -- valueAtTimestamp on the way, at its end, and behind it
 on_the_way : OperatorGives scene op.ValueAtTimestamp sql.Point (sql.TPoint ∷ sql.Moment ∷ []) (look (whole (pos 2))) (PointValue halfway)
-unfolding ◌+ℚ◌ ◌*ℚ◌ neg_ℚ inverse turned whole over gcd gcd_steps in_lowest_terms before same
+unfolding line_at line_value ◌+ℚ◌ ◌*ℚ◌ neg_ℚ inverse turned whole over gcd gcd_steps in_lowest_terms before same
 on_the_way = refl
 
 behind : OperatorGives scene op.ValueAtTimestamp sql.Point (sql.TPoint ∷ sql.Moment ∷ []) (look (whole (pos 5))) Null

@@ -3,6 +3,7 @@ use Rattle.std.proofs.Common.{◌≡◌, Bool, false, List, map, refl, ap, sym, 
 use Rattle.std.specs.Prelude.{IsTrue, ◌↔◌}
 use Rattle.mob_ratio.specs.Ratio.{Ratio}
 use Rattle.mob_ratio.specs.Order.{same}
+use Rattle.mob_slice.specs.Course.{IsCourse}
 use Rattle.mob_slice.specs.CourseOf.{CourseOf, steady_course, line_course, plane_course}
 use Rattle.mob_slice.specs.LineLaws.{line_laws}
 use Rattle.mob_slice.specs.PlaneLaws.{plane_laws}
@@ -30,17 +31,12 @@ one_of_lines = unique line_laws
 pub one_of_points : OneList plane_course
 one_of_points = unique plane_laws
 
--- slices are told apart by their spans and limits
-module _ {C B : Type 0} (start end : C → B) (by_ends : (c d : C) → start c ≡ start d → end c ≡ end d → c ≡ d) where
-  pub same_ends : (s r : Slice C) → s.span ≡ r.span → start s.course ≡ start r.course → end s.course ≡ end r.course → s ≡ r
-  same_ends s r e f g = let h = by_ends s.course r.course f g in λ i. record { span = e i; course = h i }
-
--- the list that two lists of one function are, and back
-module _ {C B : Type 0} {value : C → Ratio → Ratio → Ratio → B} {start end : C → B} {continues : C → C → Ratio → Ratio → Ratio → Bool} (one : (v w : List (Slice C)) → AreNormal start end continues v → AreNormal start end continues w → ((t : Ratio) → value_at value v t ≡ value_at value w t) → v ≡ w) where
+-- lists are one function exactly where they are one list
+module _ {C B : Type 0} {steady copies : Bool} {value : C → Ratio → Ratio → Ratio → B} {start end : C → B} {can_make : B → B → Type 0} {make : B → B → C} {continues : C → C → Ratio → Ratio → Ratio → Bool} {parts : C → Ratio → Ratio → Ratio → List Ratio} (laws : IsCourse steady copies value start end can_make make continues parts) where
   pub function_test : (a b v w : List (Slice C)) (r : Bool) → v ≡ a → w ≡ b → IsNormal start end continues a → IsNormal start end continues b → IsTrue r ↔ (v ≡ w) → IsTrue r ↔ AreOneFunction (λ t. value_at value a t) (λ t. value_at value b t)
   function_test a b v w r e f n m h = (
     λ k t. ap (λ z. value_at value z t) (sym e ∙ h.0 k ∙ f),
-    λ k. h.1 (e ∙ one a b n.chained m.chained k ∙ sym f),
+    λ k. h.1 (e ∙ unique laws a b n.chained m.chained k ∙ sym f),
   )
 
 -- steps are the function of a list of lines exactly where that is the list of their level lines

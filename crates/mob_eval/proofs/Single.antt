@@ -170,6 +170,7 @@ widened_once _ v w h k = h ∙ sym k
 
 cast_to_once : (from to : SqlType) (a : Value) → Once (IsCastTo from to a)
 cast_to_once sql.TInt sql.TFrac a v w h k = widened_once a v w h k
+cast_to_once sql.Int sql.Numeric a v w h k = h ∙ sym k
 cast_to_once from to a v w h k = h ∙ sym k
 
 cast_once : (ts : List SqlType) (to : SqlType) (a : Value) → Once (IsCast ts to a)

@@ -1,20 +1,11 @@
 -- Spans and span sets as sets of instants.
-use Rattle.std.proofs.Common.{◌≡◌, arith, Bool, true, false, Option, Some, None, MatchOption, IfSome, List, [], ◌∷◌, refl, ap, sym, ◌∙◌, true≢false}
+use Rattle.std.proofs.Common.{◌≡◌, Bool, true, List, [], ◌∷◌, ap, sym, ◌∙◌}
 use Rattle.std.specs.Prelude.{IsTrue, ◌↔◌}
 use Rattle.mob_ratio.specs.Ratio.{Ratio}
-use Rattle.mob_ratio.proofs.Order.{before-self}
 use Rattle.mob_span.specs.Span.{SpanOf, has_instant}
 use Rattle.mob_span.specs.Sets.{in_some, IsSpanSet}
 use Rattle.mob_span.proofs.OneSet.{one_set}
 use Rattle.mob_eval.specs.Ordinary.{HaveSameInstants}
-use Rattle.mob_eval.specs.Times.{instant_span}
-
--- one instant is a span
-pub instant_some : (t : Ratio) → has_instant (instant_span t) ≡ true
-instant_some t = grind (arith, before-self t)
-
-pub instant_not_none : (t : Ratio) → has_instant (instant_span t) ≡ false → ⊥
-instant_not_none t h = true≢false (sym (instant_some t) ∙ h)
 
 -- a span that has an instant is a span set
 pub alone : (s : SpanOf) → has_instant s ≡ true → IsSpanSet (s ∷ [])
