@@ -216,6 +216,20 @@ fn parts(alloc: Global, a: Ends, b: Ends, both: Ends, left: Ends) -> bool {
     }
 }
 
+fn has_copy(alloc: Global, set: &SpanSet, wanted: Ends) -> bool {
+    match &set.copy(alloc) {
+        Ok(copy) => is_one(copy, wanted),
+        Err(_) => false,
+    }
+}
+
+fn is_copied(alloc: Global, ends: Ends) -> bool {
+    match &one(alloc, ends) {
+        Some(set) => has_copy(alloc, set, ends),
+        None => false,
+    }
+}
+
 #[test]
 fn sets_share_and_leave_instants(rt: HostRuntime) {
     assert!(rt;
@@ -227,4 +241,5 @@ fn sets_share_and_leave_instants(rt: HostRuntime) {
             (0, 1, true, false)
         )
     );
+    assert!(rt; is_copied(rt.alloc(), (1, 3, false, true)));
 }
