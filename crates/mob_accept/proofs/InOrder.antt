@@ -3,7 +3,8 @@ use Rattle.std.specs.List.{AllByRecursion}
 use Rattle.std.proofs.Common.{◌≡◌, ◌≤◌, ◌+◌, ◌∙◌, arith, sym, ap, subst, inl, inr, ℕ, List, [], ◌∷◌, ◌++◌, append_assoc, append-nil}
 use Rattle.mob_ast.specs.Trees.{StatementParts}
 use Rattle.mob_typed.specs.declared.typed.ConstText.{ConstText}
-use Rattle.mob_typed.specs.Statements.{ColumnList, ScriptOut}
+use Rattle.mob_typed.specs.Statements.{ScriptOut}
+use Rattle.mob_typing.specs.Names.{NameLists}
 use Rattle.mob_typed.specs.Written.{HasRisingRows, LiteralUpTo, Rises}
 use Rattle.mob_typed.proofs.Rising.{both_rise, each_both, each_on}
 use Rattle.mob_typing.proofs.Walk.{Belongs, places_of}
@@ -37,7 +38,7 @@ record Stands (n : ℕ) (before : List ConstText) (out : ScriptOut) : Type 0 whe
   later : AllByRecursion (BelongsFrom n) new
   rows : AllByRecursion HasRisingRows out.statements
 
-script_stands : {n : ℕ} {tables : List ColumnList} {cs : List ConstText} {ss : List StatementParts} {out : ScriptOut} → AreMade n tables cs ss out → Rising (script_places ss) → Stands n cs out
+script_stands : {At : ℕ → ℕ → Type 0} {n : ℕ} {names : NameLists} {cs : List ConstText} {ss : List StatementParts} {out : ScriptOut} → AreMade At n names cs ss out → Rising (script_places ss) → Stands n cs out
 script_stands (none_made {cs = cs}) up = record { new = []; is = sym (append-nil cs); rises = tt; later = tt; rows = tt }
 script_stands (one_made {n = n} {cs = cs} {s = s} {ss = ss} adds made others) up =
     let own : Rising (statement_places s) = rises_within (λ p q. p ≤ q) (within_front (script_places ss) (within_all (statement_places s))) up in

@@ -15,12 +15,13 @@ use Rattle.mob_grammar.proofs.Cuts.{places_are_cut, held_are_cut}
 use Rattle.mob_parse.specs.Refusals.{HasTokens, place_of, IsCause}
 use Rattle.mob_lexemes.specs.Lexed.{lexed}
 use Rattle.mob_typed.specs.declared.typed.ConstText.{ConstText}
-use Rattle.mob_typed.specs.Statements.{ColumnList, ScriptOut}
+use Rattle.mob_typed.specs.Statements.{ScriptOut}
+use Rattle.mob_typing.specs.Names.{NameLists}
 use Rattle.mob_accept.specs.UnbuiltWords.{statement_number}
-use Rattle.mob_accept.specs.Numbers.{AreIn, TreesAreIn, RowsAreIn, TreesAreNumbered, TypingKeepsNumbers, TextIsNumbered, TypingRefusesInside, WrongNamesAreNumbered, WrongTokensAreNumbered}
+use Rattle.mob_accept.specs.Numbers.{AreIn, TreesAreIn, RowsAreIn, TreesAreNumbered, TypingKeepsNumbers, TextIsNumbered, OperatorsAreNumbered, TypingRefusesInside, WrongNamesAreHeld, WrongNamesAreNumbered, WrongTokensAreNumbered}
 use Rattle.mob_typed.proofs.Rising.{each_both, each_on}
 use Rattle.mob_typing.proofs.Walk.{Belongs, places_of}
-use Rattle.mob_typing.proofs.WalkedScripts.{AreMade, none_made, one_made, HoldPlaces, script_made, script_stops_inside}
+use Rattle.mob_typing.proofs.WalkedScripts.{AreMade, none_made, one_made, HoldPlaces, script_made, script_made_at, script_stops_inside, operators_stand, typing_refuses_what_is_held}
 use Rattle.mob_accept.proofs.Ends.{behind_is, place_behind}
 use Rattle.mob_accept.proofs.OnParts.{all_within}
 
@@ -47,7 +48,7 @@ module _ (bytes : List ℕ) where
     own : AllByRecursion IsOwn new
     rows : RowsAreIn bytes n out.statements
 
-  script_stands : {n : ℕ} {tables : List ColumnList} {cs : List ConstText} {ss : List StatementParts} {out : ScriptOut} → AreMade n tables cs ss out → TreesAreIn statement_places bytes n ss → Stands n cs out
+  script_stands : {At : ℕ → ℕ → Type 0} {n : ℕ} {names : NameLists} {cs : List ConstText} {ss : List StatementParts} {out : ScriptOut} → AreMade At n names cs ss out → TreesAreIn statement_places bytes n ss → Stands n cs out
   script_stands (none_made {cs = cs}) at = record { new = []; is = sym (append-nil cs); own = tt; rows = tt }
   script_stands (one_made {n = n} {cs = cs} adds made others) at =
       let rest = script_stands others at.1 in
@@ -67,10 +68,17 @@ pub typing_keeps_numbers : TypingKeepsNumbers
 typing_keeps_numbers bytes ss out at typed = let h = script_stands bytes (script_made ss out typed) at in record { literals = subst (AllByRecursion (IsOwn bytes)) (sym h.is) h.own; rows = h.rows }
 
 pub typing_refuses_inside : TypingRefusesInside
-typing_refuses_inside bytes ss e at wrong = sym (script_stops_inside (λ k p. statement_number bytes p ≡ k) ss e (hold_places bytes 1 ss at) wrong)
+typing_refuses_inside bytes ss e at wrong = sym (script_stops_inside (λ k p. statement_number bytes p ≡ k) ss (hold_places bytes 1 ss at) e wrong)
 
 pub wrong_names_are_numbered : WrongNamesAreNumbered
 wrong_names_are_numbered bytes e h = typing_refuses_inside bytes h.trees e (trees_are_numbered bytes h.trees h.read.tree).1 h.first
+
+pub operators_are_numbered : OperatorsAreNumbered
+operators_are_numbered bytes out h =
+    operators_stand (script_made_at (λ k p. statement_number bytes p ≡ k) h.trees (hold_places bytes 1 h.trees (trees_are_numbered bytes h.trees h.script.read.tree).1) out h.script.typed)
+
+pub wrong_names_are_held : WrongNamesAreHeld
+wrong_names_are_held bytes e h = (h.trees, h.read.tree, typing_refuses_what_is_held h.trees e h.first)
 
 pub text_is_numbered : TextIsNumbered
 text_is_numbered bytes out h = typing_keeps_numbers bytes h.trees out (trees_are_numbered bytes h.trees h.script.read.tree).0 h.script.typed

@@ -10,6 +10,7 @@ use Rattle.mob_parse.specs.Refusals.{IsTreeOf}
 use Rattle.mob_typed.specs.Statements.{StatementOut, ScriptOut}
 use Rattle.mob_typed.specs.Written.{brackets_of}
 use Rattle.mob_typing.specs.Statements.{typed_script}
+use Rattle.mob_typing.specs.Stands.{OperatorsStand, IsHeldRefusal}
 use Rattle.mob_accept.specs.UnbuiltWords.{statement_number}
 use Rattle.mob_accept.specs.Accepts.{IsAccepted, IsNoScript, IsWrongName}
 
@@ -44,6 +45,10 @@ TypingKeepsNumbers = (bytes : List ℕ) (trees : List StatementParts) (out : Scr
 abbrev pub TextIsNumbered : Type 0
 TextIsNumbered = (bytes : List ℕ) (out : ScriptOut) → IsAccepted bytes out → IsNumbered bytes out
 
+-- each operator of a text that is taken is in its statement, constants and columns among them
+abbrev pub OperatorsAreNumbered : Type 0
+OperatorsAreNumbered = (bytes : List ℕ) (out : ScriptOut) → IsAccepted bytes out → OperatorsStand (λ n p. statement_number bytes p ≡ n) 1 out.statements
+
 -- typing refuses at a place of the statement that it names
 abbrev pub TypingRefusesInside : Type 0
 TypingRefusesInside = (bytes : List ℕ) (trees : List StatementParts) (e : Refusal) → TreesAreIn statement_held bytes 1 trees → typed_script trees ≡ Err e → e.statement ≡ statement_number bytes e.place
@@ -52,6 +57,10 @@ TypingRefusesInside = (bytes : List ℕ) (trees : List StatementParts) (e : Refu
 abbrev pub WrongNamesAreNumbered : Type 0
 WrongNamesAreNumbered = (bytes : List ℕ) (e : Refusal) → IsWrongName bytes e → e.statement ≡ statement_number bytes e.place
 
--- so does a refusal of a token that goes wrong, or at which an expression is too complex
+-- and the tree of that statement, among the trees of the text, holds the place
+abbrev pub WrongNamesAreHeld : Type 0
+WrongNamesAreHeld = (bytes : List ℕ) (e : Refusal) → IsWrongName bytes e → (trees : List StatementParts) × IsTreeOf bytes trees × IsHeldRefusal trees e
+
+-- a refusal of a token that goes wrong, or at which an expression is too complex, names the statement of its place, too
 abbrev pub WrongTokensAreNumbered : Type 0
 WrongTokensAreNumbered = (bytes : List ℕ) (e : Refusal) → IsNoScript bytes e → (e.kind ≡ Syntax) ⊎ (e.kind ≡ TooComplex) → e.statement ≡ statement_number bytes e.place

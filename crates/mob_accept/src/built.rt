@@ -1,6 +1,6 @@
 // What is built yet, said once, by type.
 ghost use Rattle.std.specs.Prelude.{◌≡◌};
-ghost use Rattle.mob_accept.specs.Built.{is_built, unbuilt_at};
+ghost use Rattle.mob_accept.specs.Built.{has_operators, is_built, unbuilt_at};
 ghost use Rattle.mob_accept.specs.Least.{least};
 
 use mob_ast::SqlType;
@@ -8,6 +8,28 @@ use mob_ast::SqlType;
 // Whether the values of a type are built.
 pub fn is_built(ty: SqlType) -> bool
     ensures { result ≡ is_built ty }
+{
+    match ty {
+        SqlType::Bool
+        | SqlType::Int
+        | SqlType::Numeric
+        | SqlType::Text
+        | SqlType::Moment
+        | SqlType::Point
+        | SqlType::Span
+        | SqlType::SpanSet
+        | SqlType::TBool
+        | SqlType::TInt
+        | SqlType::TFrac
+        | SqlType::TText
+        | SqlType::TPoint => true,
+        _ => false,
+    }
+}
+
+// Whether the operators of a type are built, which stand on its values.
+pub fn has_operators(ty: SqlType) -> bool
+    ensures { result ≡ has_operators ty }
 {
     match ty {
         SqlType::Bool

@@ -1,6 +1,6 @@
 //! What holds of every text of a script. No code runs here.
 ghost use Rattle.mob_accept.specs.Least.{LeastIsFirst};
-ghost use Rattle.mob_accept.specs.Numbers.{TextIsNumbered, TreesAreNumbered, TypingKeepsNumbers, TypingRefusesInside, WrongNamesAreNumbered, WrongTokensAreNumbered};
+ghost use Rattle.mob_accept.specs.Numbers.{OperatorsAreNumbered, TextIsNumbered, TreesAreNumbered, TypingKeepsNumbers, TypingRefusesInside, WrongNamesAreHeld, WrongNamesAreNumbered, WrongTokensAreNumbered};
 ghost use Rattle.mob_accept.specs.Outcomes.{HasOneScript, NeverTakenAndRefused, HasOneTextRefusal};
 ghost use Rattle.mob_accept.specs.Written.{AreWritten, TreesRise, TypingKeepsOrder};
 
@@ -28,18 +28,20 @@ pub fn text_is_written()
     ensures order { AreWritten }
 {}
 
-/// A text that is taken is numbered by its `;` tokens: each literal is in the statement whose number it has, and each row in its
-/// statement. So are the trees of a text, and typing keeps their numbers.
+/// A text that is taken is numbered by its `;` tokens: each literal is in the statement whose number it has, and each row and each operator
+/// in its statement. So are the trees of a text, and typing keeps their numbers.
 pub fn text_is_numbered()
     ensures trees { TreesAreNumbered }
     ensures typing { TypingKeepsNumbers }
     ensures numbers { TextIsNumbered }
+    ensures operators { OperatorsAreNumbered }
 {}
 
 /// A refusal of a name, a type or a token names the statement in which its place is. Where the places that trees hold are numbered by
-/// the statements of a text, what typing refuses is.
+/// the statements of a text, what typing refuses is. That of a name or a type stands at a place that the tree of its statement holds.
 pub fn refusals_are_numbered()
     ensures typing { TypingRefusesInside }
     ensures names { WrongNamesAreNumbered }
+    ensures held { WrongNamesAreHeld }
     ensures tokens { WrongTokensAreNumbered }
 {}

@@ -6,12 +6,11 @@ ghost use Rattle.mob_typed.specs.Trees.{typed_of, type_of};
 ghost use Rattle.mob_typed.specs.Selects.{select_seen};
 ghost use Rattle.mob_typed.specs.Statements.{statement_seen, script_seen};
 ghost use Rattle.mob_accept.specs.Least.{least};
-ghost use Rattle.mob_accept.specs.Built.{is_built};
-ghost use Rattle.mob_accept.specs.UnbuiltOperators.{is_leaf, is_later, is_lifted, is_widened, is_unbuilt, own_place, in_typed, in_typed_condition, in_query, in_typed_statement, unbuilt_operators};
+ghost use Rattle.mob_accept.specs.UnbuiltOperators.{is_leaf, is_later, is_sameness, comes_with_values, is_built_for, is_lifted, is_widened, is_unbuilt, own_place, in_typed, in_typed_condition, in_query, in_typed_statement, unbuilt_operators};
 
-use crate::built::is_built;
+use crate::built::{has_operators, is_built};
 use crate::least::{Places, earlier, first_among};
-use mob_ast::SqlType;
+use mob_ast::{Cmp, SqlType};
 use mob_list::text::Text;
 use mob_typed::{Op, TExpr, Typed, TypedSelect, TypedStatement};
 
@@ -33,15 +32,8 @@ fn is_later(op: Op) -> bool
         Op::Ever(_)
         | Op::Always(_)
         | Op::Overlap
-        | Op::AtTime
-        | Op::MinusTime
         | Op::AtValues
         | Op::MinusValues
-        | Op::ValueAtTimestamp
-        | Op::GetTime
-        | Op::WhenTrue
-        | Op::GetX
-        | Op::GetY
         | Op::BoxOf
         | Op::ExpandSpace
         | Op::AtStbox
@@ -53,6 +45,46 @@ fn is_later(op: Op) -> bool
         | Op::NearestApproachSquared => true,
         _ => false,
     }
+}
+
+fn is_sameness(cmp: Cmp) -> bool
+    ensures { result ≡ is_sameness cmp }
+{
+    match cmp {
+        Cmp::Eq | Cmp::Ne => true,
+        _ => false,
+    }
+}
+
+// The operators that are built together with the values of a type.
+fn comes_with_values(op: Op) -> bool
+    ensures { result ≡ comes_with_values op }
+{
+    match op {
+        Op::Test(cmp) => is_sameness(cmp),
+        Op::IsNull
+        | Op::IsNotNull
+        | Op::AsText
+        | Op::Cast
+        | Op::AtTime
+        | Op::MinusTime
+        | Op::ValueAtTimestamp
+        | Op::GetTime
+        | Op::WhenTrue
+        | Op::GetX
+        | Op::GetY => true,
+        _ => false,
+    }
+}
+
+// Whether what an operator needs of a type is built.
+fn is_built_for(op: Op, ty: SqlType) -> bool
+    ensures { result ≡ is_built_for op ty }
+{
+    if comes_with_values(op) {
+        return is_built(ty);
+    }
+    has_operators(ty)
 }
 
 fn is_lifted(op: Op) -> bool
@@ -84,12 +116,12 @@ fn has_type(args: &[TExpr], ty: SqlType) -> bool
     false
 }
 
-// Whether one of these has a type that is not built.
-fn has_unbuilt(args: &[TExpr]) -> bool
-    ensures { result ≡ list_any (λ t. not (is_built t)) (map (λ e. type_of (typed_of e)) args.now) }
+// Whether one of these has a type of which the operator needs what is not built.
+fn has_unbuilt(op: Op, args: &[TExpr]) -> bool
+    ensures { result ≡ list_any (λ t. not (is_built_for op t)) (map (λ e. type_of (typed_of e)) args.now) }
 {
     for arg in args {
-        if !is_built(type_of(arg)) {
+        if !is_built_for(op, type_of(arg)) {
             return true;
         }
     }
@@ -110,7 +142,7 @@ fn is_unbuilt(op: Op, ty: SqlType, args: &[TExpr]) -> bool
     if is_leaf(op) {
         return false;
     }
-    is_later(op) || !is_built(ty) || has_unbuilt(args) || is_widened(op, args)
+    is_later(op) || !is_built_for(op, ty) || has_unbuilt(op, args) || is_widened(op, args)
 }
 
 // The place of an operator, where it is not built.
@@ -189,9 +221,9 @@ impl Places for TypedStatement {
     }
 }
 
-/// The least place of an operator that is not built: one whose result or one of whose arguments has a type that is not
-/// built, `?`, `%` and `&&`, the restrictions and the functions of time and space, and a `#` sign between a tint and a numeric.
-/// The place is that of its sign, its word or its function name.
+/// The least place of an operator that is not built: one whose result or one of whose arguments has a type whose operators are not
+/// built, or, of an operator that comes with the values of a type, whose values are not built; `?`, `%` and `&&`, the restrictions by
+/// value and in space, and a `#` sign between a tint and a numeric. The place is that of its sign, its word or its function name.
 pub fn first_unbuilt_operator(typed: &Typed) -> Option<u32>
     ensures least { result ≡ least (unbuilt_operators (script_seen typed.now).statements) }
 {

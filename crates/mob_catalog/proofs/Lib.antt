@@ -8,3 +8,4 @@ mod OneFirst
 pub mod OneTable
 pub mod OneMeaning
 mod OwnTypes
+pub mod TypedTables

@@ -20,13 +20,13 @@ says_its_type sql.Moment day text v h = ap (is_of_type sql.Moment) h.1
 says_its_type sql.TBool day text v h = ap (is_of_type sql.TBool) h.1
 says_its_type sql.TInt day text v h = ap (is_of_type sql.TInt) h.1
 says_its_type sql.TText day text v h = ap (is_of_type sql.TText) h.1
-says_its_type sql.Point day text v h = absurd h.2.1
+says_its_type sql.Point day text v h = ap (is_of_type sql.Point) h.1
 says_its_type sql.Polygon day text v h = absurd h.2.1
-says_its_type sql.Span day text v h = absurd h.2.1
-says_its_type sql.SpanSet day text v h = absurd h.2.1
+says_its_type sql.Span day text v h = ap (is_of_type sql.Span) h.1
+says_its_type sql.SpanSet day text v h = ap (is_of_type sql.SpanSet) h.1
 says_its_type sql.Box day text v h = absurd h.2.1
-says_its_type sql.TFrac day text v h = absurd h.2.1
-says_its_type sql.TPoint day text v h = absurd h.2.1
+says_its_type sql.TFrac day text v h = ap (is_of_type sql.TFrac) h.1
+says_its_type sql.TPoint day text v h = ap (is_of_type sql.TPoint) h.1
 
 pub constants_have_their_types : ConstantsHaveTheirTypes
 constants_have_their_types day constant value h = says_its_type constant.ty day constant.text value h

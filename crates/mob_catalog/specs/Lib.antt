@@ -7,3 +7,4 @@ pub mod FirstFault
 pub mod Outcomes
 pub mod TableFile
 pub mod OwnTypes
+pub mod TypedTables

@@ -2,6 +2,7 @@
 ghost use Rattle.mob_catalog.specs.OwnTypes.{ConstantsHaveTheirTypes, RowsHaveColumnTypes};
 ghost use Rattle.mob_catalog.specs.Outcomes.{HasOneFault, HasOneTable, ConstantsHaveOneMeaning, ConstantsHaveOneRefusal, ConstantsNeverMeanAndFail, NeverReadAndRefused};
 ghost use Rattle.mob_catalog.specs.Live.{RowsStayThere};
+ghost use Rattle.mob_catalog.specs.TypedTables.{TypesStay};
 
 use crate::Catalog;
 use mob_list::laws::crosses_threads;
@@ -31,6 +32,12 @@ pub fn values_have_their_types()
 /// row.
 pub fn rows_stay_there()
     ensures stay { RowsStayThere }
+{}
+
+/// Tables hold values of the types of their columns: so it is in a new catalogue, and so it stays with a new table and with a new row that
+/// has the types of its table's columns.
+pub fn types_stay()
+    ensures stay { TypesStay }
 {}
 
 /// Catalogues cross threads.

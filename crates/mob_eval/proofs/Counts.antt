@@ -5,13 +5,13 @@ use Rattle.mob_typed.specs.declared.typed.TExpr.{TExpr}
 use Rattle.mob_value.specs.declared.value.Value.{Value}
 use Rattle.mob_value.specs.declared.value.Value.TheVariants.{Null}
 use Rattle.mob_eval.specs.SoFar.{operand_types}
-use Rattle.mob_eval.specs.Types.{meeting, cast_of}
+use Rattle.mob_eval.specs.Types.{meeting, IsCast}
 
 -- where there is not one, nothing is cast
-pub no_cast : (es : List TExpr) (ty : SqlType) (v : Value) → (length es ≡ 1 → ⊥) → Null ≡ cast_of (operand_types es) ty v
-no_cast [] ty v h = refl
-no_cast (a ∷ []) ty v h = absurd (h refl)
-no_cast (a ∷ b ∷ rest) ty v h = refl
+pub no_cast : (es : List TExpr) (ty : SqlType) (a : Value) → (length es ≡ 1 → ⊥) → IsCast (operand_types es) ty a Null
+no_cast [] ty a h = refl
+no_cast (e ∷ []) ty a h = absurd (h refl)
+no_cast (e ∷ f ∷ rest) ty a h = refl
 
 -- where there are not two, none meet
 pub no_meeting : (es : List TExpr) → (length es ≡ 2 → ⊥) → None ≡ meeting (operand_types es)

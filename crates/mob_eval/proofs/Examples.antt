@@ -1,22 +1,33 @@
 -- Worked expressions, by the definition.
-use Rattle.std.proofs.Common.{inl, inr, true, false, [], ◌∷◌, Some, Ok, refl, arith}
+use Rattle.std.proofs.Common.{inl, inr, true, false, List, [], ◌∷◌, Some, Ok, refl, arith, ◌≡◌}
 use Rattle.std.specs.Prelude.{pos}
-use Rattle.mob_ratio.specs.Ratio.{Ratio, whole, over, ◌+ℚ◌}
+use Rattle.mob_ratio.specs.Ratio.{Ratio, whole, over, turned, inverse, ◌+ℚ◌, ◌*ℚ◌, neg_ℚ}
 use Rattle.mob_ratio.specs.Gcd.{gcd, gcd_steps}
 use Rattle.mob_ratio.specs.Lowest.{in_lowest_terms}
+use Rattle.mob_ratio.specs.Line.{line_at, line_value}
+use Rattle.mob_ratio.specs.Order.{before, same}
+use Rattle.mob_span.specs.Span.{SpanOf}
+use Rattle.mob_plane.specs.declared.point.Point.{Point}
 use Rattle.mob_ast.specs.declared.types.Cmp.TheVariants as cmp
 use Rattle.mob_ast.specs.declared.types.SqlType.{SqlType}
 use Rattle.mob_ast.specs.declared.types.SqlType.TheVariants as sql
+use Rattle.mob_slice.specs.CourseOf.{line_course, plane_course}
 use Rattle.mob_slice.specs.declared.comparison.Rel.TheVariants as rel
+use Rattle.mob_slice.specs.declared.line.Line.{Line}
+use Rattle.mob_slice.specs.declared.line.PlaneLine.{PlaneLine}
+use Rattle.mob_slice.specs.declared.slice.Slice.{Slice}
 use Rattle.mob_operators.specs.declared.operator.Op.{Op}
 use Rattle.mob_operators.specs.declared.operator.Op.TheVariants as op
 use Rattle.mob_typed.specs.Trees.{TypedTree, typed, none, more}
 use Rattle.mob_value.specs.declared.value.Value.{Value}
-use Rattle.mob_value.specs.declared.value.Value.TheVariants.{Null, Bool as Truth, Number, Text, MovingInt}
+use Rattle.mob_value.specs.declared.value.Value.TheVariants.{Null, Bool as Truth, Number, Text, Moment, Point as PointValue, Span, SpanSet, MovingInt, MovingFrac, MovingPoint}
 use Rattle.mob_eval.specs.Scene.{Scene}
-use Rattle.mob_slice.specs.declared.formula.Formula.TheVariants.{F2}
-use Rattle.mob_eval.specs.Lifted.{StepSlices, OnPair, number_pair, IsMovingBool, number_test}
-use Rattle.mob_eval.specs.Operators.{OperatorGives, IsFirstFormula}
+use Rattle.mob_slice.specs.declared.formula.Formula.TheVariants.{F1, F2}
+use Rattle.mob_restrict.specs.Times.{is_defined}
+use Rattle.mob_eval.specs.Moving.{StepSlices, IsFunction, step_function, plane_function}
+use Rattle.mob_eval.specs.Lifted.{OnPair, number_pair, IsMovingBool, number_test}
+use Rattle.mob_eval.specs.Operators.{OperatorGives, operator_entries, IsFirstFormula}
+use Rattle.mob_eval.specs.Times.{instant_span, IsLeftOf, AreInstantsOf, set_or_null}
 use Rattle.mob_eval.specs.Evaluation.{TreeEvaluatesTo}
 
 -- one table with one row, (7, NULL), and the constants false, 1, 2
@@ -86,6 +97,13 @@ to_itself = refl
 to_text : OperatorGives scene op.Cast sql.Text (sql.Int ∷ []) (Number (whole (pos 1)) ∷ []) Null
 to_text = refl
 
+-- a tint to a tfrac of the same values, and a tfrac to a tint, which no typed script has
+to_tfrac : (m : StepSlices Ratio) (v : Value) → IsFunction line_course MovingFrac (step_function m) v → OperatorGives scene op.Cast sql.TFrac (sql.TInt ∷ []) (MovingInt m ∷ []) v
+to_tfrac m v h = h
+
+to_tint : (m : List (Slice Line)) → OperatorGives scene op.Cast sql.TInt (sql.TFrac ∷ []) (MovingFrac m ∷ []) Null
+to_tint m = refl
+
 -- a tint beside an int meets it in tint; with the same values in hand, a tint beside a numeric meets it in no type that is built
 beside_int : (m : StepSlices Ratio) (n : Ratio) (v : Value) → OnPair (number_pair (MovingInt m) (Number n)) (IsMovingBool (number_test rel.Lt)) v → OperatorGives scene (op.Lifted cmp.Lt) sql.TBool (sql.TInt ∷ sql.Int ∷ []) (MovingInt m ∷ Number n ∷ []) v
 beside_int m n v h = h
@@ -97,3 +115,60 @@ beside_numeric m n = refl
 a_fault : IsFirstFormula op.Add sql.Int (sql.Int ∷ sql.Int ∷ []) (Number (whole (pos 4611686018427387903)) ∷ Number (whole (pos 1)) ∷ []) (Some F2)
 unfolding ◌+ℚ◌ whole over gcd gcd_steps in_lowest_terms
 a_fault = inr ((λ h. omega (arith, h.0.num_fits)), refl)
+
+-- a point that goes from (0, 0) at 0 to (4, 8) at 4
+abbrev way : List (Slice PlaneLine)
+way = record {
+  span = record { lower = whole (pos 0); upper = whole (pos 4); lower_inc = true; upper_inc = true };
+  course = record { from = record { x = whole (pos 0); y = whole (pos 0) }; to = record { x = whole (pos 4); y = whole (pos 8) } };
+} ∷ []
+
+abbrev halfway : Point
+halfway = record { x = whole (pos 2); y = whole (pos 4) }
+
+abbrev look : Ratio → List Value
+look t = MovingPoint way ∷ Moment t ∷ []
+
+-- valueAtTimestamp on the way, at its end, and behind it
+on_the_way : OperatorGives scene op.ValueAtTimestamp sql.Point (sql.TPoint ∷ sql.Moment ∷ []) (look (whole (pos 2))) (PointValue halfway)
+unfolding line_at line_value ◌+ℚ◌ ◌*ℚ◌ neg_ℚ inverse turned whole over gcd gcd_steps in_lowest_terms before same
+on_the_way = refl
+
+behind : OperatorGives scene op.ValueAtTimestamp sql.Point (sql.TPoint ∷ sql.Moment ∷ []) (look (whole (pos 5))) Null
+unfolding whole over gcd gcd_steps in_lowest_terms before
+behind = refl
+
+-- of no time but a moment
+not_a_moment : OperatorGives scene op.ValueAtTimestamp sql.Point (sql.TPoint ∷ sql.Span ∷ []) (MovingPoint way ∷ Span (instant_span (whole (pos 2))) ∷ []) Null
+not_a_moment = refl
+
+-- at an end no part is computed
+given_end : operator_entries op.ValueAtTimestamp sql.Point (sql.TPoint ∷ sql.Moment ∷ []) (look (whole (pos 4))) ≡ record { formula = F1; parts = [] } ∷ []
+unfolding whole over gcd gcd_steps in_lowest_terms before same
+given_end = refl
+
+-- atTime is what is left of the way at that moment, and minusTime at all others
+at_moment : (v : Value) → IsLeftOf plane_course MovingPoint true (instant_span (whole (pos 2)) ∷ []) way v → OperatorGives scene op.AtTime sql.TPoint (sql.TPoint ∷ sql.Moment ∷ []) (look (whole (pos 2))) v
+at_moment v h = h
+
+minus_moment : (v : Value) → IsLeftOf plane_course MovingPoint false (instant_span (whole (pos 2)) ∷ []) way v → OperatorGives scene op.MinusTime sql.TPoint (sql.TPoint ∷ sql.Moment ∷ []) (look (whole (pos 2))) v
+minus_moment v h = h
+
+-- a text asks for no instants
+no_time : OperatorGives scene op.AtTime sql.TPoint (sql.TPoint ∷ sql.Text ∷ []) (MovingPoint way ∷ Text [] ∷ []) Null
+no_time = refl
+
+-- getTime of the way: from 0 to 4
+its_time : AreInstantsOf (λ t. is_defined (plane_function way t)) (record { lower = whole (pos 0); upper = whole (pos 4); lower_inc = true; upper_inc = true } ∷ []) → OperatorGives scene op.GetTime sql.SpanSet (sql.TPoint ∷ []) (MovingPoint way ∷ []) (SpanSet (record { lower = whole (pos 0); upper = whole (pos 4); lower_inc = true; upper_inc = true } ∷ []))
+its_time h = (_, h, refl)
+
+-- whenTrue is NULL where there is no instant
+never : set_or_null [] ≡ Null
+never = refl
+
+-- a span is equal to another of the same instants, and no span set
+alike : (s : SpanOf) → OperatorGives scene (op.Test cmp.Eq) sql.Bool (sql.Span ∷ sql.Span ∷ []) (Span s ∷ Span s ∷ []) (Truth true)
+alike s = (true, ((λ h t. refl), (λ h. refl)), refl)
+
+other_types : (s : SpanOf) → OperatorGives scene (op.Test cmp.Eq) sql.Bool (sql.Span ∷ sql.SpanSet ∷ []) (Span s ∷ SpanSet (s ∷ []) ∷ []) Null
+other_types s = refl

@@ -1,5 +1,6 @@
 pub mod Numbers
 pub mod Functions
+mod Spans
 pub mod Loops
 pub mod Nodes
 mod Counts

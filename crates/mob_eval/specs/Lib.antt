@@ -1,6 +1,9 @@
 pub mod Scene
 pub mod Views
+pub mod Moving
 pub mod Ordinary
+pub mod Coordinates
+pub mod Times
 pub mod Types
 pub mod Lifted
 pub mod Operators

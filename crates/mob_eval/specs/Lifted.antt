@@ -3,12 +3,11 @@
 use Rattle.std.specs.Prelude.{◌≡◌, Bool, not, ℕ, List, Option, Some, None, MatchOption, option_map}
 use Rattle.mob_ratio.specs.Ratio.{Ratio}
 use Rattle.mob_ratio.specs.Order.{same}
-use Rattle.mob_slice.specs.Slices.{value_at, IsNormal}
-use Rattle.mob_slice.specs.Operands.{steady_value, steady_limit, IsPointwise}
+use Rattle.mob_slice.specs.CourseOf.{steady_course}
+use Rattle.mob_slice.specs.Operands.{steady_value, IsPointwise}
 use Rattle.mob_slice.specs.Sides.{OperandOf, Slices, Base, operand_of, given_at}
 use Rattle.mob_slice.specs.Sameness.{same_bool, same_bytes}
 use Rattle.mob_slice.specs.Ranks.{holds, compare_ratio, compare_bool, compare_bytes}
-use Rattle.mob_slice.specs.declared.slice.Slice.{Slice}
 use Rattle.mob_slice.specs.declared.steady.Steady.{Steady}
 use Rattle.mob_slice.specs.declared.comparison.Rel.{Rel}
 use Rattle.mob_slice.specs.declared.operand.Operand.{Operand}
@@ -18,28 +17,16 @@ use Rattle.mob_ast.specs.declared.types.Cmp.{Cmp}
 use Rattle.mob_ast.specs.declared.types.Cmp.TheVariants as cmp
 use Rattle.mob_value.specs.declared.value.Value.{Value}
 use Rattle.mob_value.specs.declared.value.Value.TheVariants.{Null, Bool as Truth, Number, Text, MovingBool, MovingInt, MovingText}
+use Rattle.mob_eval.specs.Moving.{StepSlices, OverTime, step_function, AreNormalBy, IsFunction, IsFunctionOrNull}
 use Rattle.mob_eval.specs.Ordinary.{rel_of}
-
--- a list of slices that go by steps
-abbrev pub StepSlices : Type 0 → Type 0
-StepSlices B = List (Slice (Steady B))
-
--- what an operand is at each instant
-abbrev pub OverTime : Type 0 → Type 0
-OverTime B = Ratio → Option B
 
 -- the slices are normal, where `is_same` tells whether two values are one
 abbrev pub AreNormalSteps : {B : Type 0} → (B → B → Bool) → StepSlices B → Type 0
-AreNormalSteps is_same slices = IsNormal steady_limit steady_limit (λ c d lower middle upper. is_same c.value d.value) slices
-
--- the temporal value, or NULL where there is none
-abbrev pub or_nothing : {B : Type 0} → (StepSlices B → Value) → Option (StepSlices B) → Value
-or_nothing make None = Null
-or_nothing make (Some r) = make r
+AreNormalSteps is_same slices = AreNormalBy (steady_course is_same) slices
 
 -- v is the one normal value that is at each instant the operation on the two operands
 abbrev pub IsLiftedValue : {X Y Z : Type 0} → (StepSlices Z → Value) → (Z → Z → Bool) → (X → Y → Z) → OverTime X → OverTime Y → Value → Type 0
-IsLiftedValue {X} {Y} {Z} make is_same op left right v = (r : Option (StepSlices Z)) × IsPointwise steady_value op left right r × MatchOption r (Unit {0}) (AreNormalSteps is_same) × (v ≡ or_nothing make r)
+IsLiftedValue make is_same op left right v = IsFunctionOrNull (steady_course is_same) make (IsPointwise steady_value op left right) v
 
 abbrev pub IsMovingBool : {X Y : Type 0} → (X → Y → Bool) → OverTime X → OverTime Y → Value → Type 0
 IsMovingBool op left right v = IsLiftedValue MovingBool same_bool op left right v
@@ -119,5 +106,5 @@ IsLiftedTest c met a b v = IsOrderTest (rel_of c) met a b v
 
 -- the other truth value at each instant
 abbrev pub IsLiftedNot : Value → Value → Type 0
-IsLiftedNot (MovingBool a) v = (r : StepSlices Bool) × ((t : Ratio) → value_at steady_value r t ≡ option_map not (value_at steady_value a t)) × AreNormalSteps same_bool r × (v ≡ MovingBool r)
+IsLiftedNot (MovingBool a) v = IsFunction (steady_course same_bool) MovingBool (λ t. option_map not (step_function a t)) v
 IsLiftedNot _ v = v ≡ Null

@@ -1,7 +1,7 @@
 -- What each operator gives, on numbers of any size, and which formula it passes: by its type, the types of its operands and the values of
 -- those that were evaluated. An operator that is not built, types that it does not take, and a count of operands that no operator has, give
 -- NULL. No typed script has any of these.
-use Rattle.std.specs.Prelude.{◌≡◌, cond, not, ℤ, List, [], ◌∷◌, Option, Some, None, option_map}
+use Rattle.std.specs.Prelude.{◌≡◌, true, false, cond, not, ℤ, List, [], ◌∷◌, Option, Some, None, option_map}
 use Rattle.std.specs.List.{flat_map}
 use Rattle.mob_ratio.specs.Ratio.{Ratio, ◌/ℚ◌}
 use Rattle.mob_frac.specs.Formula.{sum_parts, difference_parts, product_parts, quotient_parts}
@@ -17,11 +17,13 @@ use Rattle.mob_ast.specs.declared.types.SqlType.TheVariants as sql
 use Rattle.mob_operators.specs.declared.operator.Op.{Op}
 use Rattle.mob_operators.specs.declared.operator.Op.TheVariants as op
 use Rattle.mob_value.specs.declared.value.Value.{Value}
-use Rattle.mob_value.specs.declared.value.Value.TheVariants.{Null, Bool as Truth, Number, Text, MovingBool, MovingInt, MovingText}
+use Rattle.mob_value.specs.declared.value.Value.TheVariants.{Null, Bool as Truth, Number, Text, Point, Span, SpanSet, MovingBool, MovingInt, MovingFrac, MovingText, MovingPoint}
 use Rattle.mob_literal.specs.SqlText.{value_text}
 use Rattle.mob_eval.specs.Scene.{Scene, leaf_value}
 use Rattle.mob_eval.specs.Ordinary.{truth_of, known, conjunction, disjunction, is_null, IsTest, negated, unchanged, is_nil}
-use Rattle.mob_eval.specs.Types.{meeting, cast_of}
+use Rattle.mob_eval.specs.Coordinates.{IsEast, IsNorth}
+use Rattle.mob_eval.specs.Times.{IsTimeRestriction, restriction_entries, look_up, look_entries, IsDefinedTime, IsTrueTime}
+use Rattle.mob_eval.specs.Types.{meeting, IsCast}
 use Rattle.mob_eval.specs.Lifted.{Pair, IsMovingBool, IsMovingInt, IsMovingText, OnPair, truth_pair, number_pair, text_pair, IsLiftedTest, IsLiftedNot}
 
 -- an operation on two plain numbers
@@ -57,12 +59,17 @@ IsJoined sql.Text a b v = v ≡ concatenation a b
 IsJoined sql.TText a b v = OnPair (text_pair a b) (IsMovingText text_of) v
 IsJoined _ a b v = v ≡ Null
 
--- the printed text of a temporal value, with instants counted from a day
-abbrev pub temporal_text : ℤ → Value → Value
-temporal_text day (MovingBool m) = Text (value_text day (MovingBool m))
-temporal_text day (MovingInt m) = Text (value_text day (MovingInt m))
-temporal_text day (MovingText m) = Text (value_text day (MovingText m))
-temporal_text day _ = Null
+-- the printed text of a point, a time or a temporal value, with instants counted from a day
+abbrev pub printed_text : ℤ → Value → Value
+printed_text day (Point p) = Text (value_text day (Point p))
+printed_text day (Span s) = Text (value_text day (Span s))
+printed_text day (SpanSet spans) = Text (value_text day (SpanSet spans))
+printed_text day (MovingBool m) = Text (value_text day (MovingBool m))
+printed_text day (MovingInt m) = Text (value_text day (MovingInt m))
+printed_text day (MovingFrac m) = Text (value_text day (MovingFrac m))
+printed_text day (MovingText m) = Text (value_text day (MovingText m))
+printed_text day (MovingPoint m) = Text (value_text day (MovingPoint m))
+printed_text day _ = Null
 
 -- on one operand; AND and OR have one where it settles them
 abbrev pub GivesOfOne : Scene → Op → SqlType → List SqlType → Value → Value → Type 0
@@ -74,8 +81,12 @@ GivesOfOne s op.IsNotNull ty ts a v = v ≡ Truth (not (is_null a))
 GivesOfOne s op.Negate ty ts a v = v ≡ negated a
 GivesOfOne s op.Same ty ts a v = v ≡ unchanged a
 GivesOfOne s op.LiftedNot ty ts a v = IsLiftedNot a v
-GivesOfOne s op.AsText ty ts a v = v ≡ temporal_text s.day a
-GivesOfOne s op.Cast ty ts a v = v ≡ cast_of ts ty a
+GivesOfOne s op.GetTime ty ts a v = IsDefinedTime a v
+GivesOfOne s op.WhenTrue ty ts a v = IsTrueTime a v
+GivesOfOne s op.GetX ty ts a v = IsEast a v
+GivesOfOne s op.GetY ty ts a v = IsNorth a v
+GivesOfOne s op.AsText ty ts a v = v ≡ printed_text s.day a
+GivesOfOne s op.Cast ty ts a v = IsCast ts ty a v
 GivesOfOne s _ ty ts a v = v ≡ Null
 
 -- on two operands
@@ -91,6 +102,9 @@ GivesOfTwo op.Join ty ts a b v = IsJoined ty a b v
 GivesOfTwo op.LiftedAnd ty ts a b v = OnPair (truth_pair a b) (IsMovingBool both_hold) v
 GivesOfTwo op.LiftedOr ty ts a b v = OnPair (truth_pair a b) (IsMovingBool one_holds) v
 GivesOfTwo (op.Lifted c) ty ts a b v = IsLiftedTest c (meeting ts) a b v
+GivesOfTwo op.AtTime ty ts a b v = IsTimeRestriction true a b v
+GivesOfTwo op.MinusTime ty ts a b v = IsTimeRestriction false a b v
+GivesOfTwo op.ValueAtTimestamp ty ts a b v = v ≡ look_up a b
 GivesOfTwo _ ty ts a b v = v ≡ Null
 
 -- the value of an operator of a type on operands of these types, with the values of those that were evaluated
@@ -136,6 +150,9 @@ entries_of_two op.Add ty ts a b = arithmetic_entries sum_parts ty a b
 entries_of_two op.Subtract ty ts a b = arithmetic_entries difference_parts ty a b
 entries_of_two op.Multiply ty ts a b = arithmetic_entries product_parts ty a b
 entries_of_two op.Divide ty ts a b = divided_entries ty a b
+entries_of_two op.AtTime ty ts a b = restriction_entries a b
+entries_of_two op.MinusTime ty ts a b = restriction_entries a b
+entries_of_two op.ValueAtTimestamp ty ts a b = look_entries a b
 entries_of_two _ ty ts a b = []
 
 -- the entries of an operator of a type on operands of these types, with the values of those that were evaluated

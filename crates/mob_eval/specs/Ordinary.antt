@@ -1,5 +1,5 @@
 -- The ordinary operators. Each is NULL where an operand is NULL, or is no value that it takes.
-use Rattle.std.specs.Prelude.{◌≡◌, ◌↔◌, Bool, true, false, cond, ◌&&◌, ◌||◌, IsTrue, pos, List, Option, Some, None}
+use Rattle.std.specs.Prelude.{◌≡◌, ◌↔◌, Bool, true, false, cond, ◌&&◌, ◌||◌, IsTrue, pos, List, [], ◌∷◌, Option, Some, None}
 use Rattle.mob_ratio.specs.Ratio.{Ratio, whole, neg_ℚ}
 use Rattle.mob_ratio.specs.Order.{same}
 use Rattle.mob_ast.specs.declared.types.Cmp.{Cmp}
@@ -8,12 +8,11 @@ use Rattle.mob_slice.specs.declared.comparison.Rel.{Rel}
 use Rattle.mob_slice.specs.declared.comparison.Rel.TheVariants as rel
 use Rattle.mob_slice.specs.Ranks.{holds, compare_ratio, compare_bytes}
 use Rattle.mob_slice.specs.Sameness.{same_bool}
-use Rattle.mob_slice.specs.Slices.{value_at}
-use Rattle.mob_slice.specs.Operands.{steady_value}
-use Rattle.mob_slice.specs.declared.slice.Slice.{Slice}
-use Rattle.mob_slice.specs.declared.steady.Steady.{Steady}
+use Rattle.mob_span.specs.Sets.{in_some}
+use Rattle.mob_span.specs.Span.{SpanOf}
 use Rattle.mob_value.specs.declared.value.Value.{Value}
-use Rattle.mob_value.specs.declared.value.Value.TheVariants.{Null, Bool as Truth, Number, Text, Moment, MovingBool, MovingInt, MovingText}
+use Rattle.mob_value.specs.declared.value.Value.TheVariants.{Null, Bool as Truth, Number, Text, Moment, Point, Span, SpanSet, MovingBool, MovingInt, MovingFrac, MovingText, MovingPoint}
+use Rattle.mob_eval.specs.Moving.{OverTime, step_function, line_function, plane_function}
 
 -- the truth value of a value, where it is one
 abbrev pub truth_of : Value → Option Bool
@@ -61,19 +60,31 @@ rel_of cmp.Ge = rel.Ge
 abbrev pub IsTruthOf : Bool → Type 0 → Value → Type 0
 IsTruthOf wanted P v = (c : Bool) × (IsTrue c ↔ P) × (v ≡ Truth (same_bool wanted c))
 
--- two temporal values are one function of time
-abbrev pub AreOneFunction : {B : Type 0} → List (Slice (Steady B)) → List (Slice (Steady B)) → Type 0
-AreOneFunction a b = (t : Ratio) → value_at steady_value a t ≡ value_at steady_value b t
+-- two temporal values are one function of time: at each instant both have the same value, or neither has one
+abbrev pub AreOneFunction : {B : Type 0} → OverTime B → OverTime B → Type 0
+AreOneFunction f g = (t : Ratio) → f t ≡ g t
 
--- `=` where `wanted` is true, and `<>` where it is false
+-- two sets have the same instants
+abbrev pub HaveSameInstants : List SpanOf → List SpanOf → Type 0
+HaveSameInstants a b = (t : Ratio) → in_some a t ≡ in_some b t
+
+-- `=` where `wanted` is true, and `<>` where it is false: points by coordinates, spans and span sets as sets of instants, temporal values as
+-- functions of time, whether they go by steps or change evenly
 abbrev pub IsEquality : Bool → Value → Value → Value → Type 0
 IsEquality wanted (Truth a) (Truth b) v = IsTruthOf wanted (a ≡ b) v
 IsEquality wanted (Number a) (Number b) v = IsTruthOf wanted (a ≡ b) v
 IsEquality wanted (Text a) (Text b) v = IsTruthOf wanted (a ≡ b) v
 IsEquality wanted (Moment a) (Moment b) v = IsTruthOf wanted (a ≡ b) v
-IsEquality wanted (MovingBool a) (MovingBool b) v = IsTruthOf wanted (AreOneFunction a b) v
-IsEquality wanted (MovingInt a) (MovingInt b) v = IsTruthOf wanted (AreOneFunction a b) v
-IsEquality wanted (MovingText a) (MovingText b) v = IsTruthOf wanted (AreOneFunction a b) v
+IsEquality wanted (Point a) (Point b) v = IsTruthOf wanted (a ≡ b) v
+IsEquality wanted (Span a) (Span b) v = IsTruthOf wanted (HaveSameInstants (a ∷ []) (b ∷ [])) v
+IsEquality wanted (SpanSet a) (SpanSet b) v = IsTruthOf wanted (HaveSameInstants a b) v
+IsEquality wanted (MovingBool a) (MovingBool b) v = IsTruthOf wanted (AreOneFunction (step_function a) (step_function b)) v
+IsEquality wanted (MovingInt a) (MovingInt b) v = IsTruthOf wanted (AreOneFunction (step_function a) (step_function b)) v
+IsEquality wanted (MovingInt a) (MovingFrac b) v = IsTruthOf wanted (AreOneFunction (step_function a) (line_function b)) v
+IsEquality wanted (MovingFrac a) (MovingInt b) v = IsTruthOf wanted (AreOneFunction (step_function b) (line_function a)) v
+IsEquality wanted (MovingFrac a) (MovingFrac b) v = IsTruthOf wanted (AreOneFunction (line_function a) (line_function b)) v
+IsEquality wanted (MovingText a) (MovingText b) v = IsTruthOf wanted (AreOneFunction (step_function a) (step_function b)) v
+IsEquality wanted (MovingPoint a) (MovingPoint b) v = IsTruthOf wanted (AreOneFunction (plane_function a) (plane_function b)) v
 IsEquality wanted _ _ v = v ≡ Null
 
 -- an order relation: numbers and moments by size, texts by their bytes

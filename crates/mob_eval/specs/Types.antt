@@ -1,10 +1,11 @@
 -- What the types of the operands say of an operator.
-use Rattle.std.specs.Prelude.{List, [], ◌∷◌, Option, Some, None, cond}
+use Rattle.std.specs.Prelude.{◌≡◌, List, [], ◌∷◌, Option, Some, None, cond}
 use Rattle.mob_ast.specs.declared.types.SqlType.{SqlType}
 use Rattle.mob_ast.specs.declared.types.SqlType.TheVariants as sql
 use Rattle.mob_operators.specs.Lookup.{same_type}
 use Rattle.mob_value.specs.declared.value.Value.{Value}
 use Rattle.mob_value.specs.declared.value.Value.TheVariants.{Null}
+use Rattle.mob_eval.specs.Coordinates.{IsWidened}
 use Rattle.mob_eval.specs.Ordinary.{unchanged}
 
 -- The temporal type in which two operands are compared at each instant: one of them at least has it, and the other has it too or has its
@@ -26,13 +27,15 @@ abbrev pub meeting : List SqlType → Option SqlType
 meeting (a ∷ b ∷ []) = common_type a b
 meeting _ = None
 
--- What a value of the first type becomes by a cast to the second. An int is made a numeric, which is the same number, and a value of a
--- type is one of it already. A cast that is not built, or that no typed script has, gives NULL.
-abbrev pub cast_to : SqlType → SqlType → Value → Value
-cast_to sql.Int sql.Numeric v = unchanged v
-cast_to from to v = cond (same_type from to) v Null
+-- v is what a value of the first type becomes by a cast to the second. An int is made a numeric, which is the same number, a tint a tfrac,
+-- which is the same function of time, and a value of a type is one of it already. A cast that is not built, or that no typed script has,
+-- gives NULL.
+abbrev pub IsCastTo : SqlType → SqlType → Value → Value → Type 0
+IsCastTo sql.Int sql.Numeric a v = v ≡ unchanged a
+IsCastTo sql.TInt sql.TFrac a v = IsWidened a v
+IsCastTo from to a v = v ≡ cond (same_type from to) a Null
 
 -- the same of an operator that has one operand
-abbrev pub cast_of : List SqlType → SqlType → Value → Value
-cast_of (from ∷ []) to v = cast_to from to v
-cast_of _ to v = Null
+abbrev pub IsCast : List SqlType → SqlType → Value → Value → Type 0
+IsCast (from ∷ []) to a v = IsCastTo from to a v
+IsCast _ to a v = v ≡ Null

@@ -3,10 +3,11 @@ ghost use Rattle.std.specs.Prelude.{◌≡◌, IfOk};
 ghost use Rattle.mob_operators.specs.Lookup.{same_type};
 ghost use Rattle.mob_eval.specs.Held.{held};
 ghost use Rattle.mob_eval.specs.SoFar.{operand_types};
-ghost use Rattle.mob_eval.specs.Types.{cast_to, cast_of};
+ghost use Rattle.mob_eval.specs.Types.{IsCastTo, IsCast};
 
 use crate::arithmetic::unchanged;
-use crate::held::Held;
+use crate::coordinates::widened;
+use crate::held::{Held, made};
 use mob_ast::SqlType;
 use mob_typed::TExpr;
 use mob_value::Value;
@@ -25,10 +26,11 @@ fn cast_to<'a>(
     to: SqlType,
     operand: &Held<'a>,
 ) -> Result<Held<'a>, AllocError>
-    ensures value { IfOk result (λ h. held h ≡ cast_to from to (held operand.now)) }
+    ensures value { IfOk result (λ h. IsCastTo from to (held operand.now) (held h)) }
 {
     match (from, to) {
         (SqlType::Int, SqlType::Numeric) => Ok(Held::Made(unchanged(operand.get()))),
+        (SqlType::TInt, SqlType::TFrac) => made(widened(alloc, operand.get())),
         _ => {
             if is_same_type(from, to) {
                 operand.share(alloc)
@@ -47,7 +49,7 @@ pub fn cast<'a>(
     args: &[TExpr],
     operand: &Held<'a>,
 ) -> Result<Held<'a>, AllocError>
-    ensures value { IfOk result (λ h. held h ≡ cast_of (operand_types args.now) ty (held operand.now)) }
+    ensures value { IfOk result (λ h. IsCast (operand_types args.now) ty (held operand.now) (held h)) }
 {
     match args {
         [] => Ok(Held::Made(Value::Null)),

@@ -3,20 +3,25 @@
 
 mod apply;
 mod arithmetic;
+mod asked;
 mod casting;
 mod comparison;
 mod condition;
+mod coordinates;
+mod defined;
 mod evaluate;
 mod fault;
 mod held;
 pub mod laws;
 mod lifting;
 mod logic;
+mod look;
 mod meeting;
 mod operators;
 mod pair;
 mod printed;
 mod query_fault;
+mod restriction;
 mod scene;
 mod temporal;
 mod walk;

@@ -1,5 +1,5 @@
 //! Each operator, on the values of its operands.
-ghost use Rattle.std.specs.Prelude.{◌≡◌, IfOk, IfErr, IsErr, MatchResult, None, Some, Ok, Err};
+ghost use Rattle.std.specs.Prelude.{◌≡◌, IfOk, IfErr, MatchResult, None, Some, Ok, Err};
 ghost use Rattle.mob_eval.specs.Views.{scene_of};
 ghost use Rattle.mob_eval.specs.Operators.{GivesOfOne, GivesOfTwo, entries_of_two};
 ghost use Rattle.mob_eval.specs.SoFar.{operand_types};
@@ -9,11 +9,15 @@ ghost use Rattle.mob_eval.specs.Held.{held};
 use crate::arithmetic::{Calculation, calculate, division, negation, unchanged};
 use crate::casting::cast;
 use crate::comparison::test;
-use crate::held::Held;
+use crate::coordinates::{east, north};
+use crate::defined::{defined_time, true_time};
+use crate::held::{Held, made};
 use crate::lifting::{join, lifted_and, lifted_not, lifted_or, lifted_test};
 use crate::logic::{conjunction, disjunction, is_null, known, negation as contrary, truth_of};
+use crate::look::look_up;
 use crate::meeting::meeting;
 use crate::printed::as_text;
+use crate::restriction::restriction;
 use crate::scene::View;
 use mob_ast::SqlType;
 use mob_operators::Op;
@@ -21,16 +25,6 @@ use mob_slice::OpFault;
 use mob_typed::TExpr;
 use mob_value::Value;
 use std::alloc::{AllocError, Global};
-
-// A value that was made, or want of memory.
-fn made<'a>(value: Result<Value, AllocError>) -> Result<Held<'a>, AllocError>
-    ensures value { MatchResult value (λ v. IfOk result (λ h. held h ≡ v)) (λ _. IsErr result) }
-{
-    match value {
-        Ok(value) => Ok(Held::Made(value)),
-        Err(_) => Err(AllocError),
-    }
-}
 
 /// An operator on one operand.
 pub fn of_one<'a>(
@@ -53,6 +47,10 @@ pub fn of_one<'a>(
         Op::Negate => Ok(Held::Made(negation(value))),
         Op::Same => Ok(Held::Made(unchanged(value))),
         Op::LiftedNot => made(lifted_not(alloc, value)),
+        Op::GetTime => made(defined_time(alloc, value)),
+        Op::WhenTrue => made(true_time(alloc, value)),
+        Op::GetX => made(east(alloc, value)),
+        Op::GetY => made(north(alloc, value)),
         Op::AsText => made(as_text(alloc, value, view.epoch)),
         Op::Cast => cast(alloc, ty, args, operand),
         _ => Ok(Held::Made(Value::Null)),
@@ -94,6 +92,9 @@ pub fn of_two(
         Op::LiftedAnd => without_formula(lifted_and(alloc, left, right)),
         Op::LiftedOr => without_formula(lifted_or(alloc, left, right)),
         Op::Lifted(sign) => without_formula(lifted_test(alloc, sign, meeting(args), left, right)),
+        Op::AtTime => restriction(alloc, true, left, right),
+        Op::MinusTime => restriction(alloc, false, left, right),
+        Op::ValueAtTimestamp => look_up(alloc, left, right),
         _ => Ok(Value::Null),
     }
 }

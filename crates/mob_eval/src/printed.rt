@@ -1,8 +1,8 @@
-//! The printed texts of temporal values.
+//! The printed texts of points, times and temporal values.
 ghost use Rattle.std.specs.Prelude.{◌≡◌, ◌≢◌, IfOk};
 ghost use Rattle.mob_value.specs.declared.value.Value.TheVariants.{Null, Text as TextOf};
 ghost use Rattle.mob_literal.specs.SqlText.{value_text};
-ghost use Rattle.mob_eval.specs.Operators.{temporal_text};
+ghost use Rattle.mob_eval.specs.Operators.{printed_text};
 
 use mob_list::text::Text;
 use mob_literal::write_value;
@@ -19,14 +19,19 @@ fn text_of(alloc: Global, value: &Value, epoch: &Epoch) -> Result<Value, AllocEr
     Ok(Value::Text(Text::from_string(text)))
 }
 
-/// asText: the printed text of a temporal value.
+/// asText: the printed text of a point, a time or a temporal value.
 pub fn as_text(alloc: Global, value: &Value, epoch: &Epoch) -> Result<Value, AllocError>
-    ensures value { IfOk result (λ v. v ≡ temporal_text epoch.now value.now) }
+    ensures value { IfOk result (λ v. v ≡ printed_text epoch.now value.now) }
 {
     match value {
+        Value::Point(_) => text_of(alloc, value, epoch),
+        Value::Span(_) => text_of(alloc, value, epoch),
+        Value::SpanSet(_) => text_of(alloc, value, epoch),
         Value::MovingBool(_) => text_of(alloc, value, epoch),
         Value::MovingInt(_) => text_of(alloc, value, epoch),
+        Value::MovingFrac(_) => text_of(alloc, value, epoch),
         Value::MovingText(_) => text_of(alloc, value, epoch),
+        Value::MovingPoint(_) => text_of(alloc, value, epoch),
         _ => Ok(Value::Null),
     }
 }

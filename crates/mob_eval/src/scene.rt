@@ -67,9 +67,14 @@ fn is_of_type(ty: SqlType, value: &Value) -> bool
         (SqlType::Numeric, Value::Number(_)) => true,
         (SqlType::Text, Value::Text(_)) => true,
         (SqlType::Moment, Value::Moment(_)) => true,
+        (SqlType::Point, Value::Point(_)) => true,
+        (SqlType::Span, Value::Span(_)) => true,
+        (SqlType::SpanSet, Value::SpanSet(_)) => true,
         (SqlType::TBool, Value::MovingBool(_)) => true,
         (SqlType::TInt, Value::MovingInt(_)) => true,
+        (SqlType::TFrac, Value::MovingFrac(_)) => true,
         (SqlType::TText, Value::MovingText(_)) => true,
+        (SqlType::TPoint, Value::MovingPoint(_)) => true,
         _ => false,
     }
 }

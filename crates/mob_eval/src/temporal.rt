@@ -4,12 +4,14 @@
 ghost use Rattle.std.specs.Prelude.{◌≡◌, MatchOption};
 ghost use Rattle.mob_ratio.specs.Order.{same};
 ghost use Rattle.mob_slice.specs.Sameness.{same_bool, same_bytes};
-ghost use Rattle.mob_value.specs.declared.value.Value.TheVariants.{MovingBool, MovingInt, MovingText};
-ghost use Rattle.mob_eval.specs.Lifted.{or_nothing, AreNormalSteps};
+ghost use Rattle.mob_slice.specs.CourseOf.{line_course, plane_course};
+ghost use Rattle.mob_value.specs.declared.value.Value.TheVariants.{MovingBool, MovingInt, MovingFrac, MovingText, MovingPoint};
+ghost use Rattle.mob_eval.specs.Moving.{or_nothing, AreNormalBy};
+ghost use Rattle.mob_eval.specs.Lifted.{AreNormalSteps};
 
 use mob_frac::Frac;
 use mob_list::text::Text;
-use mob_slice::{Moving, Steady};
+use mob_slice::{Line, Moving, PlaneLine, Steady};
 use mob_value::Value;
 
 /// A tbool, or NULL for None.
@@ -40,6 +42,20 @@ pub fn int_or_null(value: Option<Moving<Steady<Frac>>>) -> Value
     }
 }
 
+/// A tfrac, or NULL for None.
+pub fn frac_or_null(value: Option<Moving<Line>>) -> Value
+    ensures value { result ≡ or_nothing MovingFrac value }
+    ensures normal { MatchOption value (Unit {0}) (AreNormalBy line_course) }
+{
+    match value {
+        Some(moving) => {
+            let _ = moving.slices();
+            Value::MovingFrac(moving)
+        }
+        None => Value::Null,
+    }
+}
+
 /// A ttext, or NULL for None.
 pub fn text_or_null(value: Option<Moving<Steady<Text>>>) -> Value
     ensures value { result ≡ or_nothing MovingText value }
@@ -49,6 +65,20 @@ pub fn text_or_null(value: Option<Moving<Steady<Text>>>) -> Value
         Some(moving) => {
             let _ = moving.slices();
             Value::MovingText(moving)
+        }
+        None => Value::Null,
+    }
+}
+
+/// A tgeompoint, or NULL for None.
+pub fn point_or_null(value: Option<Moving<PlaneLine>>) -> Value
+    ensures value { result ≡ or_nothing MovingPoint value }
+    ensures normal { MatchOption value (Unit {0}) (AreNormalBy plane_course) }
+{
+    match value {
+        Some(moving) => {
+            let _ = moving.slices();
+            Value::MovingPoint(moving)
         }
         None => Value::Null,
     }

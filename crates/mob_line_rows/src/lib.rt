@@ -1,5 +1,12 @@
-//! Tests of numbers and points that change evenly: the value at an instant, when two go on as one, and their gaps.
+//! Tests of what values over time are made of: spans and sets of them, steady courses, and numbers and points that change evenly, by
+//! themselves and as values that are asked.
 #![tactic(auto)]
 
 #[cfg(test)]
+mod courses;
+#[cfg(test)]
 mod lines;
+#[cfg(test)]
+mod moving;
+#[cfg(test)]
+mod spans;

@@ -1,13 +1,17 @@
 -- Texts that begin with another byte than those that pass a test: the printed text of a value, where the values do.
-use Rattle.std.proofs.Common.{◌≡◌, ℕ, List, [], ◌∷◌, ◌++◌, codes, Bool, true, false, cond, refl, sym, ap, subst}
-use Rattle.std.specs.Prelude.{not}
+use Rattle.std.proofs.Common.{◌≡◌, ℕ, ℤ, List, [], ◌∷◌, ◌++◌, codes, Bool, true, false, cond, refl, sym, ap, subst}
+use Rattle.std.specs.Prelude.{not, Contains}
 use Rattle.std.specs.List.{list_all}
 use Rattle.mob_language.specs.Language.{Text, Language}
 use Rattle.mob_language.proofs.Exact.{Stops}
 use Rattle.mob_language.proofs.Heads.{NoHead, HasByte}
 use Rattle.mob_slice.specs.declared.slice.Slice.{Slice}
+use Rattle.mob_slice.specs.CourseOf.{CourseOf}
 use Rattle.mob_written.specs.Printed.{Style, is_long, groups_of, start_text, groups_text, set_text, moving_text}
+use Rattle.mob_written.specs.Style.{style_of}
+use Rattle.mob_literal.specs.Readable.{IsReadable}
 use Rattle.mob_literal.proofs.GroupSlices.{AllHoldTogether, are_groups}
+use Rattle.mob_literal.proofs.Listing.{first_in}
 
 pub record IsBegun (test : ℕ → Bool) (text : Text) : Type 0 where
   pub first : ℕ
@@ -34,6 +38,10 @@ pub record IsNoSign (test : ℕ → Bool) : Type 0 where
   pub included : test 91 ≡ false
   pub left_out : test 40 ≡ false
 
+pub bracket_begun : (test : ℕ → Bool) → IsNoSign test → (included : Bool) → IsBegun test (cond included (codes "[") (codes "("))
+bracket_begun test signs true = record { first = 91; rest = []; is = refl; other = signs.included }
+bracket_begun test signs false = record { first = 40; rest = []; is = refl; other = signs.left_out }
+
 module _ {C B : Type 0} (test : ℕ → Bool) (signs : IsNoSign test) (style : Style C B) where
   start_begun : (s : Slice C) → IsBegun test (style.value_text (style.course.start s.course)) → IsBegun test (start_text style s)
   start_begun s p = begun_front test (style.value_text (style.course.start s.course) ++ codes "@") (style.moment_text s.span.lower) (begun_front test (style.value_text (style.course.start s.course)) (codes "@") p)
@@ -46,14 +54,10 @@ module _ {C B : Type 0} (test : ℕ → Bool) (signs : IsNoSign test) (style : S
   set_begun (s ∷ []) h = start_begun s (h s [] refl)
   set_begun (s ∷ r ∷ rest) h = record { first = 123; rest = _; is = refl; other = signs.brace }
 
-  bracket_begun : (included : Bool) → IsBegun test (cond included (codes "[") (codes "("))
-  bracket_begun true = record { first = 91; rest = []; is = refl; other = signs.included }
-  bracket_begun false = record { first = 40; rest = []; is = refl; other = signs.left_out }
-
   groups_begun : (groups : List (List (Slice C))) → AllHoldTogether style.course groups → IsBegun test (groups_text style groups)
   groups_begun [] together = record { first = 123; rest = _; is = refl; other = signs.brace }
   groups_begun ([] ∷ []) together = absurd together
-  groups_begun ((s ∷ group) ∷ []) together = begun_front test _ _ (begun_front test _ _ (bracket_begun s.span.lower_inc))
+  groups_begun ((s ∷ group) ∷ []) together = begun_front test _ _ (begun_front test _ _ (bracket_begun test signs s.span.lower_inc))
   groups_begun (group ∷ next ∷ groups) together = record { first = 123; rest = _; is = refl; other = signs.brace }
 
   pub moving_begun : (slices : List (Slice C)) → FirstBegins slices → IsBegun test (moving_text style slices)
@@ -62,3 +66,7 @@ module _ {C B : Type 0} (test : ℕ → Bool) (signs : IsNoSign test) (style : S
       by_lengths : (set : Bool) → IsBegun test (cond set (set_text style slices) (groups_text style (groups_of style.course slices)))
       by_lengths true = set_begun slices h
       by_lengths false = groups_begun (groups_of style.course slices) (are_groups style.course slices).together
+
+-- so begins the printed text of a value that is read again, where the text of each of its values does
+pub readable_begun : {C B : Type 0} (test : ℕ → Bool) → IsNoSign test → {course : CourseOf C B} {day : ℤ} {text : B → Text} {IsWritten : B → Type 0} → ((v : B) → IsWritten v → IsBegun test (text v)) → (slices : List (Slice C)) → IsReadable course day text IsWritten slices → IsBegun test (moving_text (style_of course text day) slices)
+readable_begun {C} {B} test signs {course} {day} {text} {IsWritten} begun slices r = moving_begun test signs (style_of course text day) slices (λ s rest e. begun (course.start s.course) (subst (λ (xs : List (Slice C)). ((x : Slice C) → Contains xs x → IsWritten (course.start x.course)) → IsWritten (course.start s.course)) (sym e) (λ f. f s (first_in s rest)) r.starts))

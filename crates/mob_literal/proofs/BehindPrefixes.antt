@@ -1,6 +1,6 @@
 -- What is printed of a value over time is read again as that value behind each of the prefixes that its type admits.
 use Rattle.std.proofs.Common.{◌≡◌, ℕ, ℤ, List, [], ◌∷◌, ◌++◌, Bool, true, false, Option, Some, Ok, refl, sym, ap, subst, ◌∙◌}
-use Rattle.std.specs.Prelude.{◌&&◌, ◌||◌, nat_eq, Contains}
+use Rattle.std.specs.Prelude.{nat_eq, Contains}
 use Rattle.std.specs.Char.{to_ascii_lowercase}
 use Rattle.std.proofs.lemmas.Bool.{and_right, or_parts}
 use Rattle.mob_language.specs.Language.{Text, Language}
@@ -35,7 +35,7 @@ left_first : (before : List Prefix) (a : Prefixes) (c : ℕ) → begins_prefix a
 left_first [] a c h = h
 left_first (p ∷ before) a c h = left_first before (without p a) c (fewer_first p a c h)
 
-prefix_signs : (a : Prefixes) → IsNoSign (begins_prefix a)
+pub prefix_signs : (a : Prefixes) → IsNoSign (begins_prefix a)
 prefix_signs a = record { brace = refl; included = refl; left_out = refl }
 
 pub behind_prefixes : {C B : Type 0} (course : CourseOf C B) → IsLawful course → (day : ℤ) (has_srid : Bool) (value : Language (Option B)) → HasByte value → (text : B → Text) (has_value : B → Bool)

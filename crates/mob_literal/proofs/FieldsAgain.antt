@@ -1,11 +1,15 @@
 -- The field of a value is read again as that value.
-use Rattle.std.proofs.Common.{◌≡◌, ℕ, ℤ, List, [], ◌∷◌, ◌++◌, Bool, true, false, cond, refl, sym, subst, Ok, rules}
-use Rattle.std.specs.Prelude.{nat_eq, Contains}
+use Rattle.std.proofs.Common.{◌≡◌, ℕ, ℤ, List, [], ◌∷◌, Bool, true, false, cond, refl, sym, subst, Ok, rules}
+use Rattle.std.specs.Prelude.{nat_eq}
 use Rattle.std.proofs.lemmas.Bool.{eqb-true}
 use Rattle.mob_ratio.specs.Ratio.{Ratio}
 use Rattle.mob_frac.specs.Fits.{Fits}
+use Rattle.mob_geotext.specs.SpanText.{span_text, span_set_text}
 use Rattle.mob_language.specs.Language.{Text, is_digit, is_number_sign, is_exponent_letter}
 use Rattle.mob_language.proofs.Heads.{Apart}
+use Rattle.mob_plane.specs.declared.point.Point.{Point}
+use Rattle.mob_points.specs.PointText.{point_text}
+use Rattle.mob_span.specs.Span.{SpanOf}
 use Rattle.mob_slice.specs.declared.slice.Slice.{Slice}
 use Rattle.mob_slice.specs.CourseOf.{CourseOf}
 use Rattle.mob_ast.specs.declared.types.SqlType.{SqlType}
@@ -27,8 +31,7 @@ use Rattle.mob_literal.specs.Readable.{IsReadable}
 use Rattle.mob_literal.specs.SqlReadable.{IsReadableAs}
 use Rattle.mob_literal.specs.SqlText.{SaysAs}
 use Rattle.mob_literal.specs.Fields.{is_null_text, is_empty, is_null_field, doubled, undoubled, text_of_field, field_text}
-use Rattle.mob_literal.proofs.Listing.{first_in}
-use Rattle.mob_literal.proofs.Begun.{IsBegun, IsNoSign, begun_said, moving_begun}
+use Rattle.mob_literal.proofs.Begun.{IsBegun, IsNoSign, begun_front, begun_said, bracket_begun, readable_begun}
 use Rattle.mob_literal.proofs.SqlAgain.{value_again}
 
 -- ---- texts that begin with another byte than a backslash
@@ -66,7 +69,18 @@ no_backslash : IsNoSign is_backslash
 no_backslash = record { brace = refl; included = refl; left_out = refl }
 
 first_value : {C B : Type 0} {course : CourseOf C B} {day : ℤ} {text : B → Text} {IsWritten : B → Type 0} → ((v : B) → IsWritten v → IsPlain (text v)) → (slices : List (Slice C)) → IsReadable course day text IsWritten slices → IsPlain (moving_text (style_of course text day) slices)
-first_value {C} {B} {course} {day} {text} {IsWritten} plain slices r = moving_begun is_backslash no_backslash (style_of course text day) slices (λ s rest e. plain (course.start s.course) (subst (λ (xs : List (Slice C)). ((x : Slice C) → Contains xs x → IsWritten (course.start x.course)) → IsWritten (course.start s.course)) (sym e) (λ f. f s (first_in s rest)) r.starts))
+first_value plain slices r = readable_begun is_backslash no_backslash plain slices r
+
+-- ---- points, spans and span sets
+
+point_is_plain : (p : Point) → IsPlain (point_text p)
+point_is_plain p = record { first = 80; rest = _; is = refl; other = refl }
+
+span_is_plain : (day : ℤ) (s : SpanOf) → IsPlain (span_text day s)
+span_is_plain day s = begun_front is_backslash _ _ (bracket_begun is_backslash no_backslash s.lower_inc)
+
+set_is_plain : (day : ℤ) (spans : List SpanOf) → IsPlain (span_set_text day spans)
+set_is_plain day spans = record { first = 123; rest = _; is = refl; other = refl }
 
 -- ---- fields
 
@@ -108,9 +122,14 @@ field_again sql.Int day (value.Number q) h = record { there = not_null _ (number
 field_again sql.Numeric day (value.Number q) h = record { there = not_null _ (number_is_plain q h); says = value_again sql.Numeric day (value.Number q) h }
 field_again sql.Text day (value.Text t) h = record { there = doubled_null t; says = subst (λ (x : Text). SaysAs sql.Text day x (Ok (value.Text t))) (sym (doubled_again t)) (value_again sql.Text day (value.Text t) h) }
 field_again sql.Moment day (value.Moment t) h = record { there = not_null _ (moment_is_plain day t h); says = value_again sql.Moment day (value.Moment t) h }
+field_again sql.Point day (value.Point p) h = record { there = not_null _ (point_is_plain p); says = value_again sql.Point day (value.Point p) h }
+field_again sql.Span day (value.Span s) h = record { there = not_null _ (span_is_plain day s); says = value_again sql.Span day (value.Span s) h }
+field_again sql.SpanSet day (value.SpanSet v) h = record { there = not_null _ (set_is_plain day v); says = value_again sql.SpanSet day (value.SpanSet v) h }
 field_again sql.TBool day (value.MovingBool v) h = record { there = not_null _ (first_value (λ b w. truth_is_plain b) v h); says = value_again sql.TBool day (value.MovingBool v) h }
 field_again sql.TInt day (value.MovingInt v) h = record { there = not_null _ (first_value (λ q w. number_is_plain q w.fits) v h); says = value_again sql.TInt day (value.MovingInt v) h }
+field_again sql.TFrac day (value.MovingFrac v) h = record { there = not_null _ (first_value (λ q w. number_is_plain q w) v h); says = value_again sql.TFrac day (value.MovingFrac v) h }
 field_again sql.TText day (value.MovingText v) h = record { there = not_null _ (first_value (λ t w. quoted_is_plain t) v h); says = value_again sql.TText day (value.MovingText v) h }
+field_again sql.TPoint day (value.MovingPoint v) h = record { there = not_null _ (first_value (λ p w. point_is_plain p) v h); says = value_again sql.TPoint day (value.MovingPoint v) h }
 field_again type day v h = absurd h
 
 pub null_again : (type : SqlType) (day : ℤ) → is_null_field type (field_text day value.Null) ≡ true

@@ -1,7 +1,7 @@
 -- The written instants of the groups of slices: they are sound sequences, and define what the slices do.
 use Rattle.std.proofs.Common.{◌≡◌, suc, ◌-◌, List, [], ◌∷◌, ◌++◌, length, map, Bool, true, false, cond, Option, Some, None, refl, sym, ap, subst, ◌∙◌, arith, inl, inr, ◌⊎◌}
 use Rattle.std.proofs.lemmas.Bool.{and_parts as both, and_from as and, not-true as not_true}
-use Rattle.std.specs.Prelude.{◌&&◌, ◌||◌, not, slice_get, ◌↔◌}
+use Rattle.std.specs.Prelude.{◌&&◌, ◌||◌, not, slice_get}
 use Rattle.std.specs.List.{list_all}
 use Rattle.mob_ratio.specs.Ratio.{Ratio}
 use Rattle.mob_ratio.specs.Order.{before, up_to, same}
@@ -14,7 +14,7 @@ use Rattle.mob_normal.proofs.Runs.{or_else, value_at-append}
 use Rattle.mob_written.specs.declared.written.Written.{Written}
 use Rattle.mob_written.specs.declared.written.Sequence.{Sequence}
 use Rattle.mob_literal.specs.Sequences.{rises}
-use Rattle.mob_literal.specs.Slices.{slices_of, stretch, point, drawn}
+use Rattle.mob_literal.specs.Slices.{slices_of, stretch, drawn}
 use Rattle.mob_literal.specs.Sound.{ends_level, is_closed_alone, is_sound_sequence, clear_ends, is_before, are_in_order, is_sound}
 use Rattle.mob_written.specs.Printed.{is_long, takes_up, shares_group, groups_of, put_in_group}
 use Rattle.mob_literal.proofs.Drawn.{IsLawful, drawn_again, arrives_again}

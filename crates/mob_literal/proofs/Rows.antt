@@ -15,16 +15,16 @@ use Rattle.mob_written.specs.Prefix.{admitted, prefix_at, one_prefix_at, prefixe
 use Rattle.mob_written.specs.Printed.{Style, moving_text}
 use Rattle.mob_literal.specs.Fields.{is_null_field, doubled, undoubled, text_of_field, field_text}
 
-abbrev day : ℕ → Ratio
+abbrev pub day : ℕ → Ratio
 day n = record { num = pos n; den = 1; lowest = lowest_in (pos n) 1 (omega arith) (gcd_one_right n) }
 
-abbrev d1 : Ratio
+abbrev pub d1 : Ratio
 d1 = day 1
 
-abbrev d2 : Ratio
+abbrev pub d2 : Ratio
 d2 = day 2
 
-abbrev d3 : Ratio
+abbrev pub d3 : Ratio
 d3 = day 3
 
 abbrev plain : Style (Steady Text) Text

@@ -9,7 +9,10 @@ use Rattle.mob_scalar.proofs.TruthAgain.{truth_again}
 use Rattle.mob_scalar.proofs.MomentAgain.{moment_again}
 use Rattle.mob_literal.specs.SqlText.{SaysAs, value_text}
 use Rattle.mob_literal.specs.SqlReadable.{IsReadableAs}
+use Rattle.mob_points.proofs.PointsAgain.{point_again}
+use Rattle.mob_geotext.proofs.SpansAgain.{span_again, span_set_again}
 use Rattle.mob_literal.proofs.MovingAgain.{truths_again, numbers_again, texts_again}
+use Rattle.mob_literal.proofs.LinesAgain.{lines_again, plane_lines_again}
 
 pub value_again : (type : SqlType) (day : ℤ) (v : Value) → IsReadableAs type day v → SaysAs type day (value_text day v) (Ok v)
 value_again sql.Bool day (value.Bool b) h = (b, refl, truth_again b)
@@ -17,7 +20,12 @@ value_again sql.Int day (value.Number q) h = (q, refl, whole_again q h.fits h.is
 value_again sql.Numeric day (value.Number q) h = (q, refl, number_again q h)
 value_again sql.Text day (value.Text t) h = (t, refl, (t, refl, (λ x. x), (λ x. x), (λ x. x), refl))
 value_again sql.Moment day (value.Moment t) h = (t, refl, moment_again day t h.fits h.dated)
+value_again sql.Point day (value.Point p) h = (p, refl, point_again p h.x_fits h.y_fits)
+value_again sql.Span day (value.Span s) h = (s, refl, span_again day s h.some h.dated)
+value_again sql.SpanSet day (value.SpanSet v) h = (v, refl, span_set_again day v h.some h.short h.normal h.dated)
 value_again sql.TBool day (value.MovingBool v) h = (v, refl, truths_again day v h)
 value_again sql.TInt day (value.MovingInt v) h = (v, refl, numbers_again day v h)
+value_again sql.TFrac day (value.MovingFrac v) h = (v, refl, lines_again day v h)
 value_again sql.TText day (value.MovingText v) h = (v, refl, texts_again day v h)
+value_again sql.TPoint day (value.MovingPoint v) h = (v, refl, plane_lines_again day v h)
 value_again type day v h = absurd h

@@ -1,11 +1,19 @@
 -- The text of an SQL value has one reading.
-use Rattle.std.proofs.Common.{◌≡◌, ◌≢◌, ℤ, false, Ok, Err, sym, ap, ◌∙◌}
+use Rattle.std.proofs.Common.{◌≡◌, ◌≢◌, ℤ, false, true, Ok, Err, sym, ap, ◌∙◌}
 use Rattle.std.specs.Prelude.{Result}
 use Rattle.mob_ratio.specs.Order.{same}
 use Rattle.mob_ratio.proofs.Order.{same_exact}
 use Rattle.mob_language.specs.Language.{Text}
 use Rattle.mob_slice.specs.Sameness.{same_bool, same_bool_exact, same_bytes, same_bytes_exact}
 use Rattle.mob_slice.specs.SteadyLaws.{steady_laws}
+use Rattle.mob_slice.specs.LineLaws.{line_laws}
+use Rattle.mob_slice.specs.PlaneLaws.{plane_laws}
+use Rattle.mob_slice.specs.CourseOf.{line_course, plane_course}
+use Rattle.mob_plane.specs.Points.{same_point}
+use Rattle.mob_points.specs.Points.{points, point_value}
+use Rattle.mob_points.proofs.OnePoint.{one_point}
+use Rattle.mob_geotext.specs.Spans.{spans, span_sets}
+use Rattle.mob_geotext.proofs.OneReadings.{one_span, one_span_set}
 use Rattle.mob_ast.specs.declared.types.SqlType.{SqlType}
 use Rattle.mob_ast.specs.declared.types.SqlType.TheVariants as sql
 use Rattle.mob_value.specs.declared.value.Value.{Value}
@@ -18,9 +26,9 @@ use Rattle.mob_scalar.specs.Moments.{moments}
 use Rattle.mob_scalar.specs.Truth.{truths}
 use Rattle.mob_scalar.proofs.OneReadings.{one_number, one_whole, one_moment, one_truth}
 use Rattle.mob_numeral.proofs.Settled.{settled}
-use Rattle.mob_literal.specs.Sound.{steps}
+use Rattle.mob_literal.specs.Sound.{literals, steps}
 use Rattle.mob_numeral.specs.Fitting.{number_value}
-use Rattle.mob_written.specs.Values.{any_value, is_whole, truth_values, number_values, quoted_values, truth_value, quoted_value}
+use Rattle.mob_written.specs.Values.{any_value, is_whole, truth_values, number_values, quoted_values, point_values, truth_value, quoted_value}
 use Rattle.mob_literal.specs.SqlText.{texts, no_texts, SaysInForm, SaysAs}
 use Rattle.mob_literal.proofs.OneReading.{one_reading}
 
@@ -64,7 +72,12 @@ one_sql_reading sql.Int day text = says_one whole_numbers value.Number one_whole
 one_sql_reading sql.Numeric day text = says_one numbers value.Number one_number text
 one_sql_reading sql.Text day text = says_one texts value.Text one_text text
 one_sql_reading sql.Moment day text = says_one (moments day) value.Moment (one_moment day) text
+one_sql_reading sql.Point day text = says_one points value.Point one_point text
+one_sql_reading sql.Span day text = says_one (spans day) value.Span (one_span day) text
+one_sql_reading sql.SpanSet day text = says_one (span_sets day) value.SpanSet (one_span_set day) text
 one_sql_reading sql.TBool day text = says_one (steps day truth_value any_value same_bool) value.MovingBool (one_reading day same_bool (steady_laws false same_bool same_bool_exact) truth_values false any_value) text
 one_sql_reading sql.TInt day text = says_one (steps day number_value is_whole same) value.MovingInt (one_reading day same (steady_laws false same same_exact) number_values false is_whole) text
+one_sql_reading sql.TFrac day text = says_one (literals day false number_value any_value line_course) value.MovingFrac (one_reading day same line_laws number_values false any_value) text
 one_sql_reading sql.TText day text = says_one (steps day quoted_value any_value same_bytes) value.MovingText (one_reading day same_bytes (steady_laws false same_bytes same_bytes_exact) quoted_values false any_value) text
+one_sql_reading sql.TPoint day text = says_one (literals day true point_value any_value plane_course) value.MovingPoint (one_reading day same_point plane_laws point_values true any_value) text
 one_sql_reading type day text = says_one no_texts value.Text none_said text

@@ -6,7 +6,10 @@ use Rattle.mob_ast.specs.declared.types.SqlType.TheVariants as sql
 -- to read a value of the type takes memory; a type without texts takes none
 abbrev pub takes_memory : SqlType → Bool
 takes_memory sql.Text = true
+takes_memory sql.SpanSet = true
 takes_memory sql.TBool = true
 takes_memory sql.TInt = true
+takes_memory sql.TFrac = true
 takes_memory sql.TText = true
+takes_memory sql.TPoint = true
 takes_memory type = false

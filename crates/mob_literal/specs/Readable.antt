@@ -1,14 +1,18 @@
--- When the printed text of a temporal value is read again as that value.
-use Rattle.std.specs.Prelude.{◌≡◌, ◌+◌, ◌≤◌, ℕ, ℤ, List, [], ◌∷◌, length, Contains, Bool, true, Option, Some}
+-- When the printed text of a point, a span, a span set and a temporal value is read again as that value.
+use Rattle.std.specs.Prelude.{◌≡◌, ◌≢◌, ◌+◌, ◌≤◌, ℕ, ℤ, List, [], ◌∷◌, length, Contains, Bool, true, Option, Some}
 use Rattle.std.specs.Str.{is_utf8}
 use Rattle.mob_ratio.specs.Ratio.{Ratio}
 use Rattle.mob_frac.specs.Fits.{Fits}
+use Rattle.mob_geotext.specs.Printable.{HasDatedEnds, HaveDatedEnds}
 use Rattle.mob_language.specs.Language.{Text}
 use Rattle.mob_language.proofs.Exact.{Stops}
+use Rattle.mob_plane.specs.declared.point.Point.{Point}
 use Rattle.mob_scalar.specs.MomentText.{IsDated}
 use Rattle.mob_slice.specs.declared.slice.Slice.{Slice}
 use Rattle.mob_slice.specs.CourseOf.{CourseOf}
 use Rattle.mob_slice.specs.Slices.{IsNormal}
+use Rattle.mob_span.specs.Span.{SpanOf, has_instant}
+use Rattle.mob_span.specs.Sets.{IsSpanSet}
 use Rattle.mob_written.specs.declared.written.Prefixes.{Prefixes}
 use Rattle.mob_written.specs.Prefix.{begins_prefix}
 use Rattle.mob_written.specs.Printed.{Style, groups_of, instants_of}
@@ -46,6 +50,23 @@ AnyTruth b = Unit {0}
 pub record IsInt (q : Ratio) : Type 0 where
   pub fits : Fits q
   pub is_whole : q.den ≡ 1
+
+-- both coordinates fit
+pub record PointFits (p : Point) : Type 0 where
+  pub x_fits : Fits p.x
+  pub y_fits : Fits p.y
+
+-- some instant is in the span, and its ends lie in the years 0001 to 9999
+pub record IsReadableSpan (day : ℤ) (s : SpanOf) : Type 0 where
+  pub some : has_instant s ≡ true
+  pub dated : HasDatedEnds day s
+
+-- The spans are a span set that has an instant and at most 100,000 ends, which lie in the years 0001 to 9999.
+pub record IsReadableSet (day : ℤ) (spans : List SpanOf) : Type 0 where
+  pub normal : IsSpanSet spans
+  pub some : spans ≢ []
+  pub short : length spans ≤ 50000
+  pub dated : HaveDatedEnds day spans
 
 -- like all text it is UTF-8
 abbrev pub IsText : Text → Type 0

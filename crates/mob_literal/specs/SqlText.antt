@@ -1,9 +1,9 @@
 -- The texts of SQL values, type by type: what a text says as a value of a type, and what a value prints as.
-use Rattle.std.specs.Prelude.{◌≡◌, ℤ, [], Result, Ok, Err}
+use Rattle.std.specs.Prelude.{◌≡◌, ℤ, [], true, false, Result, Ok, Err}
 use Rattle.mob_ratio.specs.Order.{same}
 use Rattle.mob_language.specs.Language.{Text}
 use Rattle.mob_slice.specs.Sameness.{same_bool, same_bytes}
-use Rattle.mob_slice.specs.CourseOf.{steady_course}
+use Rattle.mob_slice.specs.CourseOf.{steady_course, line_course, plane_course}
 use Rattle.mob_ast.specs.declared.types.SqlType.{SqlType}
 use Rattle.mob_ast.specs.declared.types.SqlType.TheVariants as sql
 use Rattle.mob_value.specs.declared.value.Value.{Value}
@@ -16,7 +16,11 @@ use Rattle.mob_scalar.specs.Moments.{moments}
 use Rattle.mob_scalar.specs.MomentText.{moment_text}
 use Rattle.mob_scalar.specs.Truth.{truths, truth_text}
 use Rattle.mob_scalar.specs.Quoted.{quoted_text}
-use Rattle.mob_literal.specs.Sound.{steps}
+use Rattle.mob_points.specs.Points.{point_value, points}
+use Rattle.mob_points.specs.PointText.{point_text}
+use Rattle.mob_geotext.specs.Spans.{spans, span_sets}
+use Rattle.mob_geotext.specs.SpanText.{span_text, span_set_text}
+use Rattle.mob_literal.specs.Sound.{literals, steps}
 use Rattle.mob_numeral.specs.Fitting.{number_value}
 use Rattle.mob_written.specs.Values.{any_value, is_whole, truth_value, quoted_value}
 use Rattle.mob_written.specs.Printed.{moving_text}
@@ -54,9 +58,14 @@ SaysAs sql.Int day text r = SaysInForm whole_numbers value.Number text r
 SaysAs sql.Numeric day text r = SaysInForm numbers value.Number text r
 SaysAs sql.Text day text r = SaysInForm texts value.Text text r
 SaysAs sql.Moment day text r = SaysInForm (moments day) value.Moment text r
+SaysAs sql.Point day text r = SaysInForm points value.Point text r
+SaysAs sql.Span day text r = SaysInForm (spans day) value.Span text r
+SaysAs sql.SpanSet day text r = SaysInForm (span_sets day) value.SpanSet text r
 SaysAs sql.TBool day text r = SaysInForm (steps day truth_value any_value same_bool) value.MovingBool text r
 SaysAs sql.TInt day text r = SaysInForm (steps day number_value is_whole same) value.MovingInt text r
+SaysAs sql.TFrac day text r = SaysInForm (literals day false number_value any_value line_course) value.MovingFrac text r
 SaysAs sql.TText day text r = SaysInForm (steps day quoted_value any_value same_bytes) value.MovingText text r
+SaysAs sql.TPoint day text r = SaysInForm (literals day true point_value any_value plane_course) value.MovingPoint text r
 SaysAs type day text r = SaysInForm no_texts value.Text text r
 
 -- The printed text of a value, with instants counted from a day. NULL has none.
@@ -66,6 +75,11 @@ value_text day (value.Bool truth) = truth_text truth
 value_text day (value.Number number) = number_text number
 value_text day (value.Text text) = text
 value_text day (value.Moment instant) = moment_text day instant
+value_text day (value.Point point) = point_text point
+value_text day (value.Span span) = span_text day span
+value_text day (value.SpanSet spans) = span_set_text day spans
 value_text day (value.MovingBool slices) = moving_text (style_of (steady_course same_bool) truth_text day) slices
 value_text day (value.MovingInt slices) = moving_text (style_of (steady_course same) number_text day) slices
+value_text day (value.MovingFrac slices) = moving_text (style_of line_course number_text day) slices
 value_text day (value.MovingText slices) = moving_text (style_of (steady_course same_bytes) quoted_text day) slices
+value_text day (value.MovingPoint slices) = moving_text (style_of plane_course point_text day) slices

@@ -1,13 +1,16 @@
 //! SQL values, read from their texts and printed.
-ghost use Rattle.std.specs.Prelude.{◌≡◌, ◌≢◌, ◌++◌, Err, OnOk, OnErr, false, string_bytes};
+ghost use Rattle.std.specs.Prelude.{◌≡◌, ◌≢◌, ◌++◌, Err, OnOk, OnErr, false, true, string_bytes};
 ghost use Rattle.mob_ratio.specs.Order.{same};
+ghost use Rattle.mob_slice.specs.CourseOf.{line_course, plane_course};
 ghost use Rattle.mob_slice.specs.Sameness.{same_bool, same_bytes};
 ghost use Rattle.mob_numeral.specs.Numbers.{numbers, whole_numbers};
 ghost use Rattle.mob_scalar.specs.Moments.{moments};
 ghost use Rattle.mob_scalar.specs.Truth.{truths};
 ghost use Rattle.mob_numeral.specs.declared.fault.ReadText.TheVariants.{NoMemory};
+ghost use Rattle.mob_points.specs.Points.{points, point_value};
+ghost use Rattle.mob_geotext.specs.Spans.{spans, span_sets};
 ghost use Rattle.mob_literal.specs.Memory.{takes_memory};
-ghost use Rattle.mob_literal.specs.Sound.{steps};
+ghost use Rattle.mob_literal.specs.Sound.{literals, steps};
 ghost use Rattle.mob_numeral.specs.Fitting.{number_value};
 ghost use Rattle.mob_written.specs.Values.{any_value, is_whole, truth_value, quoted_value};
 ghost use Rattle.mob_literal.specs.SqlText.{SaysInForm, SaysAs, texts, value_text};
@@ -15,15 +18,16 @@ ghost use Rattle.mob_literal.specs.SqlText.{SaysInForm, SaysAs, texts, value_tex
 use crate::temporal::read_moving;
 use mob_ast::SqlType;
 use mob_frac::Frac;
+use mob_geotext::{read_point, read_span, read_span_set, write_point, write_span, write_span_set};
 use mob_list::text::Text;
 use mob_scalar::{
     Epoch, ReadText, read_moment, read_number, read_truth, read_whole, write_moment, write_number,
     write_truth,
 };
-use mob_slice::Steady;
+use mob_slice::{Line, PlaneLine, Steady};
 use mob_value::Value;
 use mob_written::printing::write_moving;
-use mob_written::values::{Texts, Truths, WholeNumbers};
+use mob_written::values::{Numbers, Points, Texts, Truths, WholeNumbers};
 use std::alloc::{AllocError, Global};
 
 fn read_bool(text: &str) -> Result<Value, ReadText>
@@ -63,6 +67,26 @@ fn read_timestamp(text: &str, epoch: &Epoch) -> Result<Value, ReadText>
     Ok(Value::Moment(read_moment(text, epoch)?))
 }
 
+fn read_geometry(text: &str) -> Result<Value, ReadText>
+    ensures reading { SaysInForm points Value.Point text.now result }
+    ensures memory { result ≢ Err NoMemory }
+{
+    Ok(Value::Point(read_point(text)?))
+}
+
+fn read_tstzspan(text: &str, epoch: &Epoch) -> Result<Value, ReadText>
+    ensures reading { SaysInForm (spans epoch.now) Value.Span text.now result }
+    ensures memory { result ≢ Err NoMemory }
+{
+    Ok(Value::Span(read_span(text, epoch)?))
+}
+
+fn read_tstzspanset(alloc: Global, text: &str, epoch: &Epoch) -> Result<Value, ReadText>
+    ensures reading { SaysInForm (span_sets epoch.now) Value.SpanSet text.now result }
+{
+    Ok(Value::SpanSet(read_span_set(alloc, text, epoch)?))
+}
+
 fn read_tbool(alloc: Global, text: &str, epoch: &Epoch) -> Result<Value, ReadText>
     ensures reading { SaysInForm (steps epoch.now truth_value any_value same_bool) Value.MovingBool text.now result }
 {
@@ -75,17 +99,29 @@ fn read_tint(alloc: Global, text: &str, epoch: &Epoch) -> Result<Value, ReadText
     Ok(Value::MovingInt(read_moving::<WholeNumbers, Steady<Frac>>(alloc, text, epoch)?))
 }
 
+fn read_tfrac(alloc: Global, text: &str, epoch: &Epoch) -> Result<Value, ReadText>
+    ensures reading { SaysInForm (literals epoch.now false number_value any_value line_course) Value.MovingFrac text.now result }
+{
+    Ok(Value::MovingFrac(read_moving::<Numbers, Line>(alloc, text, epoch)?))
+}
+
 fn read_ttext(alloc: Global, text: &str, epoch: &Epoch) -> Result<Value, ReadText>
     ensures reading { SaysInForm (steps epoch.now quoted_value any_value same_bytes) Value.MovingText text.now result }
 {
     Ok(Value::MovingText(read_moving::<Texts, Steady<Text>>(alloc, text, epoch)?))
 }
 
+fn read_tgeompoint(alloc: Global, text: &str, epoch: &Epoch) -> Result<Value, ReadText>
+    ensures reading { SaysInForm (literals epoch.now true point_value any_value plane_course) Value.MovingPoint text.now result }
+{
+    Ok(Value::MovingPoint(read_moving::<Points, PlaneLine>(alloc, text, epoch)?))
+}
+
 /// The value of a type that a text says. Instants count from midnight UTC of the epoch's day.
 ///
-/// The first fault in the order `NotText`, `Limit`, `TooLarge` and `Unsound`, or `NoMemory`. A text of a number, a moment,
-/// a truth value and a temporal value may have blanks at its ends; a text of the type text keeps all its characters. A type
-/// that is not built yet has no texts, so each text is `NotText` there. Only a text and a value over time take memory.
+/// The first fault in the order `NotText`, `Limit`, `TooLarge` and `Unsound`, or `NoMemory`. A text of each type may have
+/// blanks at its ends, but one of the type text keeps all its characters. A polygon and a box are not built yet and have no
+/// texts, so each text is `NotText` there. Only a text, a span set and a value over time take memory.
 pub fn read_value(alloc: Global, ty: SqlType, text: &str, epoch: &Epoch) -> Result<Value, ReadText>
     ensures reading { SaysAs ty epoch.now text.now result }
     ensures memory { takes_memory ty ≡ false → result ≢ Err NoMemory }
@@ -96,9 +132,14 @@ pub fn read_value(alloc: Global, ty: SqlType, text: &str, epoch: &Epoch) -> Resu
         SqlType::Numeric => read_numeric(text),
         SqlType::Text => read_text(alloc, text),
         SqlType::Moment => read_timestamp(text, epoch),
+        SqlType::Point => read_geometry(text),
+        SqlType::Span => read_tstzspan(text, epoch),
+        SqlType::SpanSet => read_tstzspanset(alloc, text, epoch),
         SqlType::TBool => read_tbool(alloc, text, epoch),
         SqlType::TInt => read_tint(alloc, text, epoch),
+        SqlType::TFrac => read_tfrac(alloc, text, epoch),
         SqlType::TText => read_ttext(alloc, text, epoch),
+        SqlType::TPoint => read_tgeompoint(alloc, text, epoch),
         _ => Err(ReadText::NotText),
     }
 }
@@ -115,8 +156,13 @@ pub fn write_value(value: &Value, epoch: &Epoch, into: &mut String) -> Result<()
         Value::Number(number) => write_number(number, into),
         Value::Text(text) => into.push_str(text.as_str()),
         Value::Moment(instant) => write_moment(instant, epoch, into),
+        Value::Point(point) => write_point(point, into),
+        Value::Span(span) => write_span(span, epoch, into),
+        Value::SpanSet(set) => write_span_set(set, epoch, into),
         Value::MovingBool(moving) => write_moving(moving, epoch, into),
         Value::MovingInt(moving) => write_moving(moving, epoch, into),
+        Value::MovingFrac(moving) => write_moving(moving, epoch, into),
         Value::MovingText(moving) => write_moving(moving, epoch, into),
+        Value::MovingPoint(moving) => write_moving(moving, epoch, into),
     }
 }

@@ -4,6 +4,7 @@ mod Literals
 pub mod Examples
 pub mod Fronts
 pub mod Narrow
+pub mod Reading
 pub mod Steps
 pub mod Values
 pub mod OneLoading

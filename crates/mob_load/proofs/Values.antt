@@ -1,15 +1,14 @@
 -- The literals of a script and their values, one by one.
-use Rattle.std.proofs.Common.{◌≡◌, ◌∙◌, refl, sym, ap, subst, Bool, true, false, ℕ, ℤ, ◌+◌, List, [], ◌∷◌, ◌++◌, map, Option, Some, None, Result, Ok, Err, append_assoc, append-nil}
+use Rattle.std.proofs.Common.{◌≡◌, ◌∙◌, refl, sym, ap, subst, Bool, true, false, ℕ, ℤ, ◌+◌, List, [], ◌∷◌, ◌++◌, map, Ok, append_assoc, append-nil}
 use Rattle.std.specs.Prelude.{nat_lt}
 use Rattle.std.specs.List.{AllByRecursion, AllZip}
 use Rattle.mob_value.specs.declared.value.Value.{Value}
-use Rattle.mob_outside.specs.Told.{Contents, file_of}
 use Rattle.mob_catalog.specs.Constants.{IsConstant}
 use Rattle.mob_typed.specs.declared.typed.ConstText.{ConstText}
 use Rattle.mob_typed.specs.Statements.{StatementOut}
 use Rattle.mob_load.specs.declared.program.Program.{Program}
 use Rattle.mob_load.specs.Checks.{CheckParts, literal, table, room, file, Checkpoint, checkpoints_of, checkpoints_from, stands_before, checks_up_to, in_order, checks_of}
-use Rattle.mob_load.specs.Loads.{Loaded, Halt, Loads, LoadsCheck, LoadsFile, literal_of, literals_in, ContinuesBy, one_row, greatest_rows, loaded_row_count, nothing_loaded, LooksAtLiterals, ProgramHasValues}
+use Rattle.mob_load.specs.Loads.{Loaded, ReadsCheck, ReadsChecks, literal_of, literals_in, one_row, greatest_rows, loaded_row_count, nothing_loaded, LooksAtLiterals, ProgramHasValues}
 use Rattle.mob_load.proofs.EachCheckpoint.{each_checkpoint}
 use Rattle.mob_typed.proofs.Rising.{each_both}
 
@@ -50,37 +49,28 @@ no_all n (s ∷ ss) = each_both IsNoLiteral (checkpoints_of n s) (checkpoints_fr
 pub looked_at : LooksAtLiterals
 looked_at out = order_literals (checkpoints_from 1 out.statements) (no_all 1 out.statements) out.consts
 
--- a row, a table and a file leave the values as they were
+-- a row leaves the values as they were
 row_values : (b : Bool) (t n p : ℕ) (l k : Loaded) → nat_lt (loaded_row_count l t) greatest_rows ≡ b → Ok k ≡ one_row t n p l → k.values ≡ l.values
 row_values true t n p l k test is = let same = rw test at is in cc
 row_values false t n p l k test is = let same = rw test at is in cc
-
-file_values : (day : ℤ) (t : ℕ) (name : List ℕ) (l k : Loaded) (o : Option (List ℕ)) → LoadsFile day t name l o (Ok k) → k.values ≡ l.values
-file_values day t name l k None h = cc
-file_values day t name l k (Some bytes) h = ap (λ (x : Loaded). x.values) h.2
 
 -- the values that checks add to those so far
 abbrev Adds : ℤ → List CheckParts → Loaded → Loaded → Type 0
 Adds day cs l m = (vs : List Value) × AllZip (IsConstant day) (literals_in cs) vs × (m.values ≡ l.values ++ vs)
 
-adds_on : (day : ℤ) (files : Contents) (c : CheckParts) (cs : List CheckParts) (l k m : Loaded) → LoadsCheck day files c l (Ok k) → Adds day cs k m → Adds day (c ∷ cs) l m
-adds_on day files (literal c) cs l k m passes adds =
+adds_on : (day : ℤ) (c : CheckParts) (cs : List CheckParts) (l k m : Loaded) → ReadsCheck day c l k → Adds day cs k m → Adds day (c ∷ cs) l m
+adds_on day (literal c) cs l k m passes adds =
     (passes.0 ∷ adds.0, (passes.1, adds.1), adds.2 ∙ ap (λ (x : Loaded). x.values ++ adds.0) passes.2 ∙ append_assoc l.values (passes.0 ∷ []) adds.0)
-adds_on day files (table columns) cs l k m passes adds = (adds.0, adds.1, adds.2 ∙ ap (λ (vs : List Value). vs ++ adds.0) (let same : k.values ≡ l.values = cc in same))
-adds_on day files (room t n p) cs l k m passes adds = (adds.0, adds.1, adds.2 ∙ ap (λ (vs : List Value). vs ++ adds.0) (row_values (nat_lt (loaded_row_count l t) greatest_rows) t n p l k refl passes))
-adds_on day files (file t name) cs l k m passes adds = (adds.0, adds.1, adds.2 ∙ ap (λ (vs : List Value). vs ++ adds.0) (file_values day t name l k (file_of name files) passes))
+adds_on day (table columns) cs l k m passes adds = (adds.0, adds.1, adds.2 ∙ ap (λ (x : Loaded). x.values ++ adds.0) passes)
+adds_on day (room t n p) cs l k m passes adds = (adds.0, adds.1, adds.2 ∙ ap (λ (vs : List Value). vs ++ adds.0) (row_values (nat_lt (loaded_row_count l t) greatest_rows) t n p l k refl passes))
+adds_on day (file t name) cs l k m passes adds = (adds.0, adds.1, adds.2 ∙ ap (λ (x : Loaded). x.values ++ adds.0) passes.1.2)
 
-goes_add : (day : ℤ) (files : Contents) (c : CheckParts) (cs : List CheckParts) (l m : Loaded) → ((k : Loaded) → Loads day files cs k (Ok m) → Adds day cs k m)
-    → (s : Result Loaded Halt) → LoadsCheck day files c l s → ContinuesBy (Loads day files cs) s (Ok m) → Adds day (c ∷ cs) l m
-goes_add day files c cs l m each (Ok k) passes goes = adds_on day files c cs l k m passes (each k goes)
-goes_add day files c cs l m each (Err h) passes goes = cc
-
-loads_add : (day : ℤ) (files : Contents) (cs : List CheckParts) (l m : Loaded) → Loads day files cs l (Ok m) → Adds day cs l m
-loads_add day files [] l m is = let same : m.values ≡ l.values = cc in ([], tt, same ∙ sym (append-nil l.values))
-loads_add day files (c ∷ cs) l m h = goes_add day files c cs l m (λ k rest. loads_add day files cs k m rest) h.0 h.1 h.2
+reads_add : (day : ℤ) (cs : List CheckParts) (l m : Loaded) → ReadsChecks day cs l m → Adds day cs l m
+reads_add day [] l m is = ([], tt, ap (λ (x : Loaded). x.values) is ∙ sym (append-nil l.values))
+reads_add day (c ∷ cs) l m h = adds_on day c cs l h.0 m h.1 (reads_add day cs h.0 m h.2)
 
 pub program_values : ProgramHasValues
-program_values day files out p loads =
-    let adds = loads_add day files (checks_of out) nothing_loaded loads.0 loads.1 in
+program_values day out p reads =
+    let adds = reads_add day (checks_of out) nothing_loaded reads.0 reads.1 in
     subst (λ (cs : List ConstText). AllZip (IsConstant day) cs p.values) (looked_at out)
-    (subst (λ (vs : List Value). AllZip (IsConstant day) (literals_in (checks_of out)) vs) (sym (ap (λ (q : Program). q.values) loads.2 ∙ adds.2)) adds.1)
+    (subst (λ (vs : List Value). AllZip (IsConstant day) (literals_in (checks_of out)) vs) (sym (ap (λ (q : Program). q.values) reads.2 ∙ adds.2)) adds.1)

@@ -120,6 +120,19 @@ abbrev pub Reaches : ℤ → Contents → List CheckParts → Loaded → List �
 Reaches day files [] l name = ⊥
 Reaches day files (c ∷ cs) l name = IsFile c name ⊎ ((m : Loaded) × LoadsCheck day files c l (Ok m) × Reaches day files cs m name)
 
+-- What a check adds to what was read, whatever bytes the files have: a literal the value of its text, a table its columns, a row of an
+-- INSERT itself, and a file the rows of some bytes.
+abbrev pub ReadsCheck : ℤ → CheckParts → Loaded → Loaded → Type 0
+ReadsCheck day (literal c) l m = LoadsLiteral day c l (Ok m)
+ReadsCheck day (table columns) l m = m ≡ with_made_table l columns
+ReadsCheck day (room t n p) l m = Ok m ≡ one_row t n p l
+ReadsCheck day (file t name) l m = (bytes : List ℕ) × LoadsFile day t name l (Some bytes) (Ok m)
+
+-- so do the checks one after the other
+abbrev pub ReadsChecks : ℤ → List CheckParts → Loaded → Loaded → Type 0
+ReadsChecks day [] l m = m ≡ l
+ReadsChecks day (c ∷ cs) l m = (k : Loaded) × ReadsCheck day c l k × ReadsChecks day cs k m
+
 -- the program's state of loading as such a value
 abbrev pub loaded_of : Loading → Loaded
 loaded_of l = record { values = l.values; tables = map (λ t. t.now) l.tables.items; rows = l.rows.items; files = l.files }
@@ -181,6 +194,14 @@ abbrev pub LoadsScript : ℤ → Contents → ScriptOut → Result Program Halt 
 LoadsScript day files out (Ok p) = (l : Loaded) × Loads day files (checks_of out) nothing_loaded (Ok l) × (p ≡ record { values = l.values; files = l.files })
 LoadsScript day files out (Err h) = Loads day files (checks_of out) nothing_loaded (Err h)
 
+-- What a script has read, whatever its files: the values of its literals and, for each COPY, the rows of some bytes.
+abbrev pub ReadsScript : ℤ → ScriptOut → Program → Type 0
+ReadsScript day out p = (l : Loaded) × ReadsChecks day (checks_of out) nothing_loaded l × (p ≡ record { values = l.values; files = l.files })
+
+-- what a script reads of files that are told, it has read
+abbrev pub LoadedIsRead : Type 0
+LoadedIsRead = (day : ℤ) (files : Contents) (out : ScriptOut) (p : Program) → LoadsScript day files out (Ok p) → ReadsScript day out p
+
 -- the program's answer is what a script reads or its first refusal, or memory was wanted
 abbrev pub IsOutcome : ℤ → Contents → ScriptOut → Result Program LoadEnd → Type 0
 IsOutcome day files out (Ok p) = LoadsScript day files out (Ok p)
@@ -213,6 +234,6 @@ literals_in cs = flat_map literal_of cs
 abbrev pub LooksAtLiterals : Type 0
 LooksAtLiterals = (out : ScriptOut) → literals_in (checks_of out) ≡ out.consts
 
--- the values of a program are those of the script's literals, one by one
+-- the values of a program are those of the script's literals, one by one, whatever its files
 abbrev pub ProgramHasValues : Type 0
-ProgramHasValues = (day : ℤ) (files : Contents) (out : ScriptOut) (p : Program) → LoadsScript day files out (Ok p) → AllZip (IsConstant day) out.consts p.values
+ProgramHasValues = (day : ℤ) (out : ScriptOut) (p : Program) → ReadsScript day out p → AllZip (IsConstant day) out.consts p.values

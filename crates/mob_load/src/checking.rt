@@ -5,7 +5,7 @@ ghost use Rattle.mob_catalog.specs.Faults.{OnRefused};
 ghost use Rattle.mob_catalog.specs.TableFile.{FileFails, IsTable};
 ghost use Rattle.mob_load.specs.Checks.{check_seen, file};
 ghost use Rattle.mob_load.specs.Fronts.{AsksForAll, AsksForSome, OnFiles};
-ghost use Rattle.mob_load.specs.Loads.{LoadsTo, HasFaultCause, HasNarrow, IsFaultAt, IsNarrow, IsNoFault, IsRead, LoadsCheck, LoadsFile, LoadsLiteral, columns_or_none, loaded_of, names_of, one_row, loaded_row_count, with_file, with_made_table};
+ghost use Rattle.mob_load.specs.Loads.{LoadsTo, HasFaultCause, HasNarrow, IsFaultAt, IsNarrow, IsNoFault, IsRead, LoadsCheck, LoadsFile, LoadsLiteral, ReadsCheck, columns_or_none, loaded_of, names_of, one_row, loaded_row_count, with_file, with_made_table};
 ghost use Rattle.mob_load.specs.declared.program.LoadEnd.TheVariants.{NoMemory, Refused};
 
 use crate::check::Check;
@@ -194,6 +194,7 @@ fn load_file<F: Files>(
 ) -> Result<(), LoadEnd>
     requires narrow { HasNarrow (loaded_of loading.old).tables }
     ensures loads { IfSome (F.files files.old) (λ m. LoadsTo result (loaded_of loading.new) (LoadsFile epoch.now table name.now (loaded_of loading.old) (file_of name.now m))) }
+    ensures reads { OnOk result (ReadsCheck epoch.now (file table name.now) (loaded_of loading.old) (loaded_of loading.new)) }
     ensures fault { IfErr result (IsFaultAt (file table name.now)) }
     ensures tables { OnOk result ((loaded_of loading.new).tables ≡ (loaded_of loading.old).tables) }
     ensures cause { IfErr result (HasFaultCause (F.faults files.old) (F.faults files.new)) }
@@ -221,6 +222,7 @@ pub fn run_check<'a, F: Files>(
     requires narrow { IsNarrow (check_seen check) }
     requires tables { HasNarrow (loaded_of loading.old).tables }
     ensures loads { OnFiles (names_of (check_seen check.entry)) (F.files files.old) (λ m. LoadsTo result (loaded_of loading.new) (LoadsCheck epoch.now m (check_seen check.entry) (loaded_of loading.old))) }
+    ensures reads { OnOk result (ReadsCheck epoch.now (check_seen check.entry) (loaded_of loading.old) (loaded_of loading.new)) }
     ensures fault { IfErr result (IsFaultAt (check_seen check.entry)) }
     ensures narrow { OnOk result (HasNarrow (loaded_of loading.new).tables) }
     ensures cause { IfErr result (HasFaultCause (F.faults files.old) (F.faults files.new)) }

@@ -1,5 +1,5 @@
 //! Laws of loading. Each is proved for every script; calling one does nothing.
-ghost use Rattle.mob_load.specs.Loads.{LooksAtLiterals, ProgramHasValues};
+ghost use Rattle.mob_load.specs.Loads.{LoadedIsRead, LooksAtLiterals, ProgramHasValues};
 ghost use Rattle.mob_load.specs.Outcomes.{HasOneLoading, LoadsOneProgram};
 
 /// Each literal of a script is looked at once, in written order.
@@ -7,7 +7,12 @@ pub fn literals_are_looked_at()
     ensures once { LooksAtLiterals }
 {}
 
-/// The values of a program are those of the script's literals, one by one.
+/// What a script reads of files that are told, it has read; so what holds of all that it reads, whatever its files, holds of that.
+pub fn loaded_is_read()
+    ensures read { LoadedIsRead }
+{}
+
+/// The values of a program are those of the script's literals, one by one, whatever its files.
 pub fn literals_have_their_values()
     ensures values { ProgramHasValues }
 {}

@@ -68,7 +68,7 @@ point_plain p h k = record {
   is = refl;
 }
 
-unreferenced : (text : Text) (v : Option Point) → written_point text v → point_value text v
+pub unreferenced : (text : Text) (v : Option Point) → written_point text v → point_value text v
 unreferenced text v said = record {
   meant = (None, v);
   said = record { front = []; back = text; whole = refl; first = refl; second = said };

@@ -34,12 +34,20 @@ point_said v = v.1.1
 abbrev pub written_point : Language (Option Point)
 written_point = Means point_said (AnyCase (codes "point") ▷ (spaced (codes "(") ▷ coordinates))
 
+-- a word before a text, its letters small or capital, and its semicolon
+abbrev pub heading : Text → Language (Unit {0} × Unit {0})
+heading word = AnyCase word ▷ spaced (codes ";")
+
+-- the word of a plane without a reference system
+abbrev pub srid_word : Text
+srid_word = codes "srid=0"
+
 abbrev pub srid_said : Unit {0} × Unit {0} → Unit {0}
 srid_said v = tt
 
 -- SRID=0;
 abbrev pub srid_zero : Language (Unit {0})
-srid_zero = Means srid_said (AnyCase (codes "srid=0") ▷ spaced (codes ";"))
+srid_zero = Means srid_said (heading srid_word)
 
 abbrev pub past_srid : {A : Type 0} → Option (Unit {0}) × A → A
 past_srid v = v.1
@@ -73,8 +81,11 @@ coordinates_at = means_at coordinates_said (then_at number_value_at (then_at som
 unfoldable pub written_point_at : TextReader (Option Point)
 written_point_at = means_at point_said (then_at (any_case_at (codes "point")) (then_at (spaced_at (codes "(")) coordinates_at))
 
+abbrev pub heading_at : Text → TextReader (Unit {0} × Unit {0})
+heading_at word = then_at (any_case_at word) (spaced_at (codes ";"))
+
 unfoldable pub srid_zero_at : TextReader (Unit {0})
-srid_zero_at = means_at srid_said (then_at (any_case_at (codes "srid=0")) (spaced_at (codes ";")))
+srid_zero_at = means_at srid_said (heading_at srid_word)
 
 unfoldable pub behind_srid_at : {A : Type 0} → TextReader A → TextReader A
 behind_srid_at r = means_at past_srid (then_at (maybe_at srid_zero_at) r)

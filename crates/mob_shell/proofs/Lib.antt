@@ -13,5 +13,6 @@ mod Fitting
 mod Due
 mod StoredFiles
 mod StoredRows
+mod Runnable
 mod LiveTuples
 mod ReadAsStored

@@ -1,11 +1,13 @@
 -- The tuples of a query are made of rows that are there.
-use Rattle.std.proofs.Common.{◌≡◌, ◌∙◌, sym, subst, ℕ, List, [], ◌∷◌, ◌++◌, append_assoc, append-nil}
+use Rattle.std.proofs.Common.{◌≡◌, ◌∙◌, inl, inr, refl, sym, ap, subst, arith, ℕ, List, [], ◌∷◌, ◌++◌, length, length-append, map, Some, append_assoc, append-nil, slice_get, unwrap_or, option_map}
 use Rattle.std.specs.List.{AllByRecursion}
 use Rattle.mob_typed.proofs.Rising.{each_both, each_on}
 use Rattle.mob_catalog.specs.Catalogue.{Catalogue, live_rows}
-use Rattle.mob_tuples.specs.Tuples.{AreTuples, Joined, StandsIn}
-use Rattle.mob_join.specs.Rows.{TableGives}
-use Rattle.mob_shell.specs.ReadAsStored.{IsLiveTuple, TuplesAreLive}
+use Rattle.mob_plan.specs.Plans.{scan}
+use Rattle.mob_tuples.specs.Tuples.{AreTuples, IsTuple, Joined, Reached, StandsIn}
+use Rattle.mob_join.specs.Rows.{StepGives, TableGives}
+use Rattle.mob_join.proofs.Scans.{get_behind}
+use Rattle.mob_shell.specs.ReadAsStored.{IsLiveTuple, TuplesAreLive, VisitsAreLive}
 
 -- each entry of a list stands in it
 all_stand : (front rest all : List ℕ) → all ≡ front ++ rest → AllByRecursion (λ x. StandsIn x all) rest
@@ -17,6 +19,13 @@ joined_each : (Q : ℕ → Type 0) (T : ℕ → List (List ℕ) → Type 0) (P :
     → (xs : List ℕ) (ys : List (List ℕ)) → AllByRecursion Q xs → Joined T xs ys → AllByRecursion P ys
 joined_each Q T P each [] ys q h = subst (AllByRecursion P) (sym h) tt
 joined_each Q T P each (x ∷ xs) ys q h = subst (AllByRecursion P) (sym h.4) (each_both P h.0 h.1 (each x h.0 q.0 h.2) (joined_each Q T P each xs h.1 q.1 h.3))
+
+-- what one of the entries gives is given by one of which this holds
+reached_one : (Q : ℕ → Type 0) (T : ℕ → List (List ℕ) → Type 0) (R : ℕ → List (List ℕ) → List ℕ → Type 0) (xs : List ℕ) (before : List (List ℕ)) (y : List ℕ) → AllByRecursion Q xs → Reached T R xs before y
+    → (x : ℕ) × (first : List (List ℕ)) × Q x × R x first y
+reached_one Q T R [] before y q h = absurd h
+reached_one Q T R (x ∷ xs) before y q (inl h) = (x, before, q.0, h)
+reached_one Q T R (x ∷ xs) before y q (inr h) = reached_one Q T R xs h.1 y q.1 h.3
 
 module _ (c : Catalogue) where
   -- a tuple that begins with these rows, and then has rows that are there
@@ -32,6 +41,23 @@ module _ (c : Catalogue) where
       joined_each (λ (row : ℕ). StandsIn row (live_rows c s)) (λ (row : ℕ). AreTuples (TableGives c) ss (begin ++ row ∷ [])) (GoesOnLive (s ∷ ss) begin)
       (λ row some stands are. each_on (GoesOnLive ss (begin ++ row ∷ [])) (GoesOnLive (s ∷ ss) begin) (one_row_more s ss begin row stands) some (tuples_go_on ss (begin ++ row ∷ []) some are))
       h.0 tuples (all_stand [] h.0 (live_rows c s) (sym h.1)) h.2
+
+  -- what scans visit
+  visits_go_on : (from front tables : List ℕ) → from ≡ front ++ tables → (begin : List ℕ) → length begin ≡ length front → (before : List (List ℕ)) (tuple : List ℕ)
+      → IsTuple (StepGives c from) (map (λ _. scan) tables) begin before tuple → GoesOnLive tables begin tuple
+  visits_go_on from front [] e begin n before tuple h = ([], h.1 ∙ sym (append-nil begin), tt)
+  visits_go_on from front (t ∷ ts) e begin n before tuple h =
+      let there : slice_get from (length begin) ≡ Some t = ap (slice_get from) n ∙ ap (λ z. slice_get z (length front)) e ∙ get_behind front ts t in
+      let rows : h.0 ≡ live_rows c t = h.1 ∙ ap (λ o. unwrap_or (option_map (live_rows c) o) []) there in
+      let stand = all_stand [] h.0 (live_rows c t) (sym rows) in
+      let one =
+      reached_one (λ (row : ℕ). StandsIn row (live_rows c t)) (λ (row : ℕ). AreTuples (StepGives c from) (map (λ _. scan) ts) (begin ++ row ∷ [])) (λ (row : ℕ). IsTuple (StepGives c from) (map (λ _. scan) ts) (begin ++ row ∷ []))
+      h.0 before tuple stand h.2 in
+      let longer : length (begin ++ one.0 ∷ []) ≡ length (front ++ t ∷ []) = omega (arith, length-append begin (one.0 ∷ []), length-append front (t ∷ []), n) in
+      one_row_more t ts begin one.0 one.2 tuple (visits_go_on from (front ++ t ∷ []) ts (e ∙ sym (append_assoc front (t ∷ []) ts)) (begin ++ one.0 ∷ []) longer one.1 tuple one.3)
+
+pub visits_are_live : VisitsAreLive
+visits_are_live c q before tuple h = let g = visits_go_on c q.from [] q.from refl [] refl before tuple h in subst (IsLiveTuple c q.from) (sym g.1) g.2
 
 pub tuples_are_live : TuplesAreLive
 tuples_are_live c from tuples h = each_on (GoesOnLive c from []) (IsLiveTuple c from) (λ tuple g. subst (IsLiveTuple c from) (sym g.1) g.2) tuples (tuples_go_on c from [] tuples h)

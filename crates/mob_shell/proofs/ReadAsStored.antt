@@ -1,5 +1,5 @@
 -- A query reads each value as it is stored: stored values have the types that its leaves say.
-use Rattle.std.proofs.Common.{◌≡◌, ◌∙◌, refl, sym, ap, subst, arith, ℕ, ℤ, zero, suc, ◌<◌, length, List, [], ◌∷◌, ◌++◌, map, true, Option, Some, None, take}
+use Rattle.std.proofs.Common.{◌≡◌, refl, subst, arith, ℕ, ℤ, zero, suc, ◌<◌, length, List, [], ◌∷◌, ◌++◌, map, true, Option, Some, None}
 use Rattle.std.specs.Prelude.{IfSome, slice_get, option_map, option_and_then, unwrap_or}
 use Rattle.std.specs.List.{AllByRecursion, AllZip}
 use Rattle.mob_ast.specs.declared.types.SqlType.{SqlType}
@@ -8,23 +8,21 @@ use Rattle.mob_operators.specs.declared.operator.Op.TheVariants as op
 use Rattle.mob_value.specs.declared.value.Value.{Value}
 use Rattle.mob_value.specs.declared.store.Table.{Table}
 use Rattle.mob_value.specs.Types.{is_of_type}
-use Rattle.mob_typed.specs.declared.typed.ConstText.{ConstText}
 use Rattle.mob_typed.specs.Trees.{TypedTree, typed, TypedTrees, none, more, type_of}
-use Rattle.mob_typed.specs.Statements.{ColumnList, StatementOut, query}
+use Rattle.mob_typed.specs.Statements.{ColumnList}
 use Rattle.mob_typed.proofs.Rising.{each_on}
 use Rattle.mob_typing.specs.Selects.{is_bool, is_key}
-use Rattle.mob_typing.specs.WellTyped.{constant_type, column_type, from_type, HasNamedType, HasNamedTypes, AllHaveNamedTypes, AreTypedStatements, IsTypedStatement, tables_behind, TypingGivesWellTyped}
+use Rattle.mob_typing.specs.WellTyped.{column_type, from_type}
 use Rattle.mob_catalog.specs.Catalogue.{Catalogue}
-use Rattle.mob_catalog.specs.Constants.{IsConstant}
-use Rattle.mob_catalog.specs.OwnTypes.{ConstantsHaveTheirTypes, HasColumnTypes, RowsHaveColumnTypes}
+use Rattle.mob_catalog.specs.OwnTypes.{HasColumnTypes}
+use Rattle.mob_catalog.specs.TypedTables.{HoldsLiveRows, HoldsLiveTables, HoldsTypedRows, HoldsTypedTables, head_columns}
 use Rattle.mob_catalog.specs.declared.catalog.TableHead.{TableHead}
-use Rattle.mob_eval.specs.Scene.{Scene, scene, constant_at}
+use Rattle.mob_eval.specs.Scene.{Scene, scene}
 use Rattle.mob_eval.specs.Stored.{ConstantsAreRead, ColumnsAreRead}
 use Rattle.mob_tuples.specs.Tuples.{StandsIn}
-use Rattle.mob_load.specs.Loads.{ProgramHasValues}
-use Rattle.mob_shell.specs.StoredTypes.{HoldsLiveRows, HoldsTypedRows, head_columns, tables_made}
-use Rattle.mob_shell.specs.ReadAsStored.{IsLiveTuple, LeafReadsStored, ReadsStored, AllReadStored, QueriesReadWhatIsStored}
-use Rattle.mob_shell.proofs.StoredRows.{Holds, held}
+use Rattle.mob_join.specs.TypedFor.{AllHaveStoredTypes, HasStoredType, HasStoredTypes}
+use Rattle.mob_shell.specs.StoredTypes.{QueriesAreTyped}
+use Rattle.mob_shell.specs.ReadAsStored.{IsLiveTuple, LeafReadsStored, ReadsStored, AllReadStored, QueriesReadWhatIsStored, TypedQueriesReadWhatIsStored}
 
 -- a value of the type is there
 abbrev IsStored : SqlType → Option Value → Type 0
@@ -68,67 +66,39 @@ module _ (k : ℕ) (ty : SqlType) where
     value_of_place (t ∷ ts) (n ∷ ns) zero at is = value_of_table heads tables t n h live at.0 is
     value_of_place (t ∷ ts) (n ∷ ns) (suc f) at is = value_of_place ts ns f at.1 is
 
--- the value of a constant
-module _ (owns : ConstantsHaveTheirTypes) (day : ℤ) where
-  constant_stands : (consts : List ConstText) (values : List Value) (k : ℕ) (ty : SqlType) → AllZip (IsConstant day) consts values → constant_type consts k ≡ Some ty → IsStored ty (slice_get values k)
-  constant_stands [] values k ty h is = absurd (cc)
-  constant_stands (c ∷ cs) [] k ty h is = absurd h
-  constant_stands (c ∷ cs) (v ∷ vs) zero ty h is = let same : c.ty ≡ ty = cc in (v, refl, subst (λ (t : SqlType). is_of_type t v ≡ true) same (owns day c v h.0))
-  constant_stands (c ∷ cs) (v ∷ vs) (suc k) ty h is = constant_stands cs vs k ty h.1 is
-
-module _ (constants : ConstantsAreRead) (columns : ColumnsAreRead) (owns : ConstantsHaveTheirTypes) (day : ℤ) (consts : List ConstText) (values : List Value) (mean : AllZip (IsConstant day) consts values)
-    (tables : List ColumnList) (c : Catalogue) (holds : Holds values tables c) (from tuple : List ℕ) (live : IsLiveTuple c from tuple) where
+module _ (constants : ConstantsAreRead) (columns : ColumnsAreRead) (c : Catalogue) (rows : HoldsTypedTables c) (there : HoldsLiveTables c) (from tuple : List ℕ) (day : ℤ) (live : IsLiveTuple c from tuple) where
   abbrev here : Scene
   here = scene c.store from tuple day
 
-  constant_reads : (k : ℕ) (ty : SqlType) (place : ℕ) → HasNamedType tables from consts (op.Const k) ty → LeafReadsStored here (op.Const k) ty place
-  constant_reads k ty place is =
-      let stands = constant_stands owns day consts values k ty mean is in
-      let at : constant_at here k ≡ Some stands.0 = ap (λ (vs : List Value). slice_get vs k) holds.consts ∙ stands.1 in
-      (stands.0, at, constants here k place ty stands.0 at stands.2)
-
-  column_reads : (f k : ℕ) (ty : SqlType) (place : ℕ) → HasNamedType tables from consts (op.Column f k) ty → LeafReadsStored here (op.Column f k) ty place
-  column_reads f k ty place is =
-      let stands = value_of_place k ty c.heads c.store.tables holds.typed holds.live from tuple f live (subst (λ (ts : List ColumnList). from_type ts from f k ≡ Some ty) (sym holds.made) is) in
+  leaf_reads : (o : Op) (ty : SqlType) (place : ℕ) → HasStoredType c from o ty → LeafReadsStored here o ty place
+  leaf_reads (op.Const k) ty place is = (is.0, is.1, constants here k place ty is.0 is.1 is.2)
+  leaf_reads (op.Column f k) ty place is =
+      let stands = value_of_place k ty c.heads c.store.tables rows there from tuple f live is in
       (stands.0, stands.1, columns here f k place ty stands.0 stands.1 stands.2)
-
-  leaf_reads : (o : Op) (ty : SqlType) (place : ℕ) → HasNamedType tables from consts o ty → LeafReadsStored here o ty place
-  leaf_reads (op.Const k) ty place is = constant_reads k ty place is
-  leaf_reads (op.Column f k) ty place is = column_reads f k ty place is
   leaf_reads _ ty place is = tt
 
   mutual
-    tree_reads : (t : TypedTree) → HasNamedTypes tables from consts t → ReadsStored here t
+    tree_reads : (t : TypedTree) → HasStoredTypes c from t → ReadsStored here t
     tree_reads (typed o ty place args) h = (leaf_reads o ty place h.0, trees_read args h.1)
 
-    trees_read : (ts : TypedTrees) → AllHaveNamedTypes tables from consts ts → AllReadStored here ts
+    trees_read : (ts : TypedTrees) → AllHaveStoredTypes c from ts → AllReadStored here ts
     trees_read none h = tt
     trees_read (more t ts) h = (tree_reads t h.0, trees_read ts h.1)
 
-  condition_reads : (o : Option TypedTree) → IfSome o (λ t. HasNamedTypes tables from consts t × (is_bool (type_of t) ≡ true)) → IfSome o (ReadsStored here)
+  condition_reads : (o : Option TypedTree) → IfSome o (λ t. HasStoredTypes c from t × (is_bool (type_of t) ≡ true)) → IfSome o (ReadsStored here)
   condition_reads None h = tt
   condition_reads (Some t) h = tree_reads t h.0
 
--- the statement behind so many others keeps to the tables that these made
-typed_at : (consts : List ConstText) (ss : List StatementOut) (count : ℕ) (tables : List ColumnList) (x : StatementOut) → AreTypedStatements tables consts ss → slice_get ss count ≡ Some x → IsTypedStatement (tables_made tables (take count ss)) consts x
-typed_at consts [] count tables x h at = absurd (cc)
-typed_at consts (s ∷ ss) zero tables x h at = let same : s ≡ x = cc in subst (IsTypedStatement tables consts) same h.0
-typed_at consts (s ∷ ss) (suc count) tables x h at = typed_at consts ss count (tables_behind tables s) x h.1 at
-
-module _ (constants : ConstantsAreRead) (columns : ColumnsAreRead) (well : TypingGivesWellTyped) (has : ProgramHasValues) (owns : ConstantsHaveTheirTypes) (own : RowsHaveColumnTypes) where
-  pub queries_read : QueriesReadWhatIsStored
-  queries_read settings input count text run q tuple next live =
-      let day = settings.epoch in
-      let consts = run.out.consts in
-      let values = run.program.values in
-      let mean = has day input.files run.out run.program run.is.loads in
-      let tables = tables_made [] (take count run.out.statements) in
-      let holds = held well has owns own settings input count text run in
-      let h = typed_at consts run.out.statements count [] (query q) (well run.is.script.trees run.out run.is.script.script.typed) next in
-      let reads = tree_reads constants columns owns day consts values mean tables run.stands.catalogue holds q.from tuple live in
-      let s = scene run.stands.catalogue.store q.from tuple day in
+module _ (constants : ConstantsAreRead) (columns : ColumnsAreRead) where
+  pub typed_queries_read : TypedQueriesReadWhatIsStored
+  typed_queries_read c q day tuple h live =
+      let reads = tree_reads constants columns c h.rows h.live q.from tuple day live in
+      let s = scene c.store q.from tuple day in
       record {
-        items = each_on (λ o. HasNamedTypes tables q.from consts o.0) (λ o. ReadsStored s o.0) (λ o g. reads o.0 g) q.items h.items;
-        condition = condition_reads constants columns owns day consts values mean tables run.stands.catalogue holds q.from tuple live q.cond h.condition;
-        keys = each_on (λ k. HasNamedTypes tables q.from consts k.0 × (is_key (type_of k.0) ≡ true)) (λ k. ReadsStored s k.0) (λ k g. reads k.0 g.0) q.keys h.keys;
+        items = each_on (λ o. HasStoredTypes c q.from o.0) (λ o. ReadsStored s o.0) (λ o g. reads o.0 g) q.items h.items;
+        condition = condition_reads constants columns c h.rows h.live q.from tuple day live q.cond h.condition;
+        keys = each_on (λ k. HasStoredTypes c q.from k.0 × (is_key (type_of k.0) ≡ true)) (λ k. ReadsStored s k.0) (λ k g. reads k.0 g.0) q.keys h.keys;
       }
+
+  pub queries_read : QueriesAreTyped → QueriesReadWhatIsStored
+  queries_read fit settings input count text run q tuple next live = typed_queries_read run.stands.catalogue q settings.epoch tuple (fit settings input count text run q next) live

@@ -1,12 +1,12 @@
 -- One statement more.
-use Rattle.std.proofs.Common.{◌≡◌, ◌∙◌, refl, sym, ap, subst, arith, ℕ, ◌+◌, ◌<◌, length, get_or, take, List, [], ◌∷◌, ◌++◌, append-nil, append_assoc}
+use Rattle.std.proofs.Common.{◌≡◌, ◌∙◌, refl, sym, ap, subst, arith, ℕ, ◌+◌, ◌<◌, length, get_or, take, drop, List, [], ◌∷◌, ◌++◌, append-nil, append_assoc}
 use Rattle.std.specs.Prelude.{Option}
 use Rattle.std.specs.Io.KnownBytes.{Appends}
 use Rattle.std.proofs.lemmas.Grind.{take_at_read}
-use Rattle.std.proofs.lemmas.List.{length-append}
+use Rattle.std.proofs.lemmas.List.{drop_more, length-append}
 use Rattle.std.proofs.Math.Seq.{take-append-add}
 use Rattle.mob_outside.specs.Streams.{PutsPart}
-use Rattle.mob_shell.specs.Statements.{Ran, RanFirst, PutsFront}
+use Rattle.mob_shell.specs.Statements.{CanAllRun, Ran, RanFirst, PutsFront}
 use Rattle.mob_outside.proofs.Known.{puts_more, puts_nothing}
 
 module _ {E S : Type 0} (step : E → S → E → List ℕ → Type 0) where
@@ -46,3 +46,14 @@ module _ {E S : Type 0} (step : E → S → E → List ℕ → Type 0) where
           ran = ran_on j x t u h.text b lt is h.ran g;
           part = (length h.text + part.0, omega arith, rw cut (puts_more old now next h.text (take part.0 b) h.put part.2));
         }
+
+-- what is left of statements that can be run
+module _ {E S : Type 0} (step : E → S → E → List ℕ → Type 0) (can : E → S → Type 0) (all : List S) (i : ℕ) (x : S) (lt : i < length all) (is : x ≡ get_or all i x) (s : E) (left : CanAllRun step can s (drop i all)) where
+  can_left : CanAllRun step can s (x ∷ drop (i + 1) all)
+  can_left = subst (CanAllRun step can s) (drop_more all i x lt ∙ ap (λ y. y ∷ drop (i + 1) all) (sym is)) left
+
+  pub can_next : can s x
+  can_next = can_left.0
+
+  pub can_rest : (t : E) (text : List ℕ) → step s x t text → CanAllRun step can t (drop (i + 1) all)
+  can_rest t text ran = can_left.1 t text ran

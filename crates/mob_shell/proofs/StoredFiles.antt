@@ -1,14 +1,13 @@
 -- The rows of the files that a script copies have the types of the tables into which they go.
-use Rattle.std.proofs.Common.{◌≡◌, ◌∙◌, refl, sym, ap, subst, Bool, true, false, ℕ, ℤ, ◌+◌, ◌-◌, List, [], ◌∷◌, ◌++◌, map, Option, Some, None, Result, Ok, Err, append_assoc, append-nil}
+use Rattle.std.proofs.Common.{◌≡◌, ◌∙◌, refl, sym, ap, subst, Bool, true, false, ℕ, ℤ, ◌+◌, ◌-◌, List, [], ◌∷◌, ◌++◌, map, Some, Ok, append_assoc, append-nil}
 use Rattle.std.specs.Prelude.{nat_lt, slice_get, if◌then◌else◌}
 use Rattle.std.specs.List.{AllByRecursion}
 use Rattle.mob_value.specs.declared.value.Value.{Value}
-use Rattle.mob_outside.specs.Told.{Contents, file_of}
 use Rattle.mob_catalog.specs.OwnTypes.{HasColumnTypes, RowsHaveColumnTypes}
 use Rattle.mob_typed.specs.declared.typed.ConstText.{ConstText}
 use Rattle.mob_typed.specs.Statements.{ColumnList, ScriptOut}
 use Rattle.mob_load.specs.Checks.{CheckParts, literal, table, room, file, Checkpoint, bracket, checkpoints_from, stands_before, checks_up_to, in_order, checks_of}
-use Rattle.mob_load.specs.Loads.{Loaded, Halt, Loads, LoadsCheck, LoadsFile, LoadsScript, ContinuesBy, one_row, greatest_rows, loaded_columns, loaded_row_count, nothing_loaded, columns_or_none, with_made_table, with_rows}
+use Rattle.mob_load.specs.Loads.{Loaded, LoadsFile, ReadsCheck, ReadsChecks, ReadsScript, one_row, greatest_rows, loaded_columns, loaded_row_count, nothing_loaded, columns_or_none, with_rows}
 use Rattle.mob_load.specs.declared.program.Program.{Program}
 use Rattle.mob_shell.specs.Runs.{next_rows, later_files}
 
@@ -71,30 +70,24 @@ row_left : (b : Bool) (t n p : ℕ) (l k : Loaded) → nat_lt (loaded_row_count 
 row_left true t n p l k test is = let same = rw test at is in cc
 row_left false t n p l k test is = let same = rw test at is in cc
 
-module _ (own : RowsHaveColumnTypes) (day : ℤ) (files : Contents) where
-  file_comes : (t : ℕ) (name : List ℕ) (cs : List CheckParts) (l k m : Loaded) (o : Option (List ℕ)) → LoadsFile day t name l o (Ok k) → Comes cs k m → Comes (file t name ∷ cs) l m
-  file_comes t name cs l k m None h comes = absurd (cc)
-  file_comes t name cs l k m (Some bytes) h comes =
+module _ (own : RowsHaveColumnTypes) (day : ℤ) where
+  file_comes : (t : ℕ) (name : List ℕ) (cs : List CheckParts) (l k m : Loaded) (bytes : List ℕ) → LoadsFile day t name l (Some bytes) (Ok k) → Comes cs k m → Comes (file t name ∷ cs) l m
+  file_comes t name cs l k m bytes h comes =
       let more = subst (λ (z : Loaded). Comes cs z m) h.2 comes in
       (h.0 ∷ more.0, more.1 ∙ append_assoc l.files (h.0 ∷ []) more.0, (own (loaded_columns l t) day (greatest_rows - loaded_row_count l t) bytes h.0 h.1, more.2))
 
-  check_comes : (c : CheckParts) (cs : List CheckParts) (l k m : Loaded) → LoadsCheck day files c l (Ok k) → Comes cs k m → Comes (c ∷ cs) l m
+  check_comes : (c : CheckParts) (cs : List CheckParts) (l k m : Loaded) → ReadsCheck day c l k → Comes cs k m → Comes (c ∷ cs) l m
   check_comes (literal c) cs l k m passes comes = subst (λ (z : Loaded). Comes cs z m) passes.2 comes
-  check_comes (table columns) cs l k m passes comes = let is : k ≡ with_made_table l columns = cc in subst (λ (z : Loaded). Comes cs z m) is comes
+  check_comes (table columns) cs l k m passes comes = subst (λ (z : Loaded). Comes cs z m) passes comes
   check_comes (room t n p) cs l k m passes comes = subst (λ (z : Loaded). Comes cs z m) (row_left (nat_lt (loaded_row_count l t) greatest_rows) t n p l k refl passes) comes
-  check_comes (file t name) cs l k m passes comes = file_comes t name cs l k m (file_of name files) passes comes
+  check_comes (file t name) cs l k m passes comes = file_comes t name cs l k m passes.0 passes.1 comes
 
-  goes_on : (c : CheckParts) (cs : List CheckParts) (l m : Loaded) → ((k : Loaded) → Loads day files cs k (Ok m) → Comes cs k m)
-      → (s : Result Loaded Halt) → LoadsCheck day files c l s → ContinuesBy (Loads day files cs) s (Ok m) → Comes (c ∷ cs) l m
-  goes_on c cs l m each (Ok k) passes goes = check_comes c cs l k m passes (each k goes)
-  goes_on c cs l m each (Err h) passes goes = absurd (cc)
+  checks_come : (cs : List CheckParts) (l m : Loaded) → ReadsChecks day cs l m → Comes cs l m
+  checks_come [] l m is = ([], ap (λ (x : Loaded). x.files) is ∙ sym (append-nil l.files), tt)
+  checks_come (c ∷ cs) l m h = check_comes c cs l h.0 m h.1 (checks_come cs h.0 m h.2)
 
-  checks_come : (cs : List CheckParts) (l m : Loaded) → Loads day files cs l (Ok m) → Comes cs l m
-  checks_come [] l m is = let same : m.files ≡ l.files = cc in ([], same ∙ sym (append-nil l.files), tt)
-  checks_come (c ∷ cs) l m h = goes_on c cs l m (λ k rest. checks_come cs k m rest) h.0 h.1 h.2
-
-  pub program_files : (out : ScriptOut) (p : Program) → LoadsScript day files out (Ok p) → FilesFit (checks_at (checkpoints_from 1 out.statements)) [] p.files
-  program_files out p loads =
-      let comes = checks_come (checks_of out) nothing_loaded loads.0 loads.1 in
-      subst (λ (fs : Files). FilesFit (checks_at (checkpoints_from 1 out.statements)) [] fs) (sym (ap (λ (q : Program). q.files) loads.2 ∙ comes.1))
+  pub program_files : (out : ScriptOut) (p : Program) → ReadsScript day out p → FilesFit (checks_at (checkpoints_from 1 out.statements)) [] p.files
+  program_files out p reads =
+      let comes = checks_come (checks_of out) nothing_loaded reads.0 reads.1 in
+      subst (λ (fs : Files). FilesFit (checks_at (checkpoints_from 1 out.statements)) [] fs) (sym (ap (λ (q : Program). q.files) reads.2 ∙ comes.1))
       (at_checkpoints (checkpoints_from 1 out.statements) out.consts [] comes.0 comes.2)

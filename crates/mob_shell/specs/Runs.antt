@@ -7,6 +7,7 @@ use Rattle.mob_catalog.specs.Catalogue.{Catalogue, new_catalogue, with_empty_tab
 use Rattle.mob_typed.specs.Selects.{TypedSelectParts, Output}
 use Rattle.mob_typed.specs.Statements.{StatementOut, nothing, new_table, new_index, new_rows, rows_from, query, plan_of}
 use Rattle.mob_eval.specs.QueryFaults.{TupleFault}
+use Rattle.mob_join.specs.TypedFor.{IsTypedFor}
 use Rattle.mob_load.specs.declared.program.Program.{Program}
 use Rattle.mob_shell.specs.Answers.{QueryAnswers}
 use Rattle.mob_tail.specs.AnswerText.{answer_text}
@@ -42,6 +43,12 @@ next_rows (rows ∷ files) = rows
 abbrev pub later_files : List (List (List Value)) → List (List (List Value))
 later_files [] = []
 later_files (rows ∷ files) = files
+
+-- Which statements can be run where a run stands: a SELECT, or an EXPLAIN of one, that is typed for the tables there, and each other statement.
+abbrev pub CanRun : RunState → StatementOut → Type 0
+CanRun s (query q) = IsTypedFor s.catalogue q
+CanRun s (plan_of q) = IsTypedFor s.catalogue q
+CanRun s _ = Unit {0}
 
 -- What a statement leaves: where a run stands behind it, which stood at s before. A change is told by the fields that change.
 abbrev pub StatementLeaves : ℤ → RunState → StatementOut → RunState → Type 0

@@ -3,6 +3,7 @@ ghost use Rattle.std.specs.Prelude.{◌≡◌, Ok, Err, IfOk, IfErr, map};
 ghost use Rattle.mob_typed.specs.Selects.{select_seen};
 ghost use Rattle.mob_eval.specs.QueryFaults.{OnTuple};
 ghost use Rattle.mob_join.specs.Query.{IsKept};
+ghost use Rattle.mob_join.specs.TypedFor.{IsTypedFor};
 ghost use Rattle.mob_shell.specs.Answers.{QueryAnswers};
 
 use mob_catalog::Catalog;
@@ -22,6 +23,7 @@ fn kept_tuples(
     catalog: &Catalog,
     epoch: &Epoch,
 ) -> Result<Items<Items<u32>>, QueryFault>
+    requires typed { IsTypedFor catalog.now (select_seen select.now) }
     ensures kept { IfOk result (λ kept. IsKept (select_seen select.now) catalog.now epoch.now (Ok kept)) }
     ensures fault { IfErr result (OnTuple (λ f. IsKept (select_seen select.now) catalog.now epoch.now (Err f))) }
 {
@@ -41,7 +43,7 @@ fn kept_tuples(
     kept(alloc, &query)
 }
 
-/// What a query answers, or its first fault: that of WHERE on the tuples that its plan visits, in order, and then that of the select list
+/// What a query answers that is typed for the tables, or its first fault: that of WHERE on the tuples that its plan visits, in order, and then that of the select list
 /// and the keys on the kept ones.
 pub fn answered(
     alloc: Global,
@@ -49,6 +51,7 @@ pub fn answered(
     catalog: &Catalog,
     epoch: &Epoch,
 ) -> Result<Answer, QueryFault>
+    requires typed { IsTypedFor catalog.now (select_seen select.now) }
     ensures names { IfOk result (λ answer. answer.names ≡ map (λ item. item.1) (select_seen select.now).items) }
     ensures rows { IfOk result (λ answer. QueryAnswers (select_seen select.now) catalog.now epoch.now (Ok answer.rows)) }
     ensures fault { IfErr result (OnTuple (λ f. QueryAnswers (select_seen select.now) catalog.now epoch.now (Err f))) }

@@ -1,7 +1,7 @@
 // Statements that run one after another, each with the text of its answer.
 ghost use Rattle.std.specs.Prelude.{◌≤◌, IfOk, IfErr, List, ℕ};
 ghost use Rattle.mob_shell.specs.EndsSeen.{stream_seen};
-ghost use Rattle.mob_shell.specs.Statements.{StatementsEnd, EndsWithoutAnswer, OnFault};
+ghost use Rattle.mob_shell.specs.Statements.{CanAllRun, StatementsEnd, EndsWithoutAnswer, OnFault};
 
 use mob_outside::{Sink, put_all};
 use std::alloc::Global;
@@ -36,6 +36,9 @@ pub trait Engine {
     /// A fault of a statement.
     type Fault: Drop;
 
+    // The statement can be run in this state.
+    ghost can_run: { Self → Self.Statement → Type 0 };
+
     // The statement takes one state to the other and answers this text.
     ghost step: { Self → Self.Statement → Self → List ℕ → Type 0 };
 
@@ -48,18 +51,20 @@ pub trait Engine {
         alloc: Global,
         statement: &Self::Statement,
     ) -> Result<Vec<u8>, NoAnswer<Self::Fault>>
+        requires can { can_run self.old statement.now }
         ensures step { IfOk result (λ text. step self.old statement.now self.new text.items) }
         ensures fault { IfErr result (OnFault (λ f. stops self.old statement.now f)) };
 }
 
 /// Runs all statements, and puts each answer before the next statement runs. Where all ran, the engine is left as the
-/// last of them left it.
+/// last of them left it. Each has to be one that can be run in every state that those before it may leave.
 pub fn run_all<E: Engine, K: Sink>(
     alloc: Global,
     engine: &mut E,
     statements: &[E::Statement],
     out: &mut K,
 ) -> RunEnd<E::Fault>
+    requires can { CanAllRun E.step E.can_run engine.old statements.now }
     ensures ends { StatementsEnd E.step E.stops engine.old engine.new statements.now (stream_seen K.held K.faults out.old out.new) result }
     ensures later { K.faults out.old ≤ K.faults out.new }
 {

@@ -2,8 +2,8 @@
 ghost use Rattle.mob_shell.specs.AllRows.{AllRowsAreThere};
 ghost use Rattle.mob_shell.specs.StepOutcomes.{HasOneStatementFault, HasOneStep, NeverRunsAndStops, OneAnswer};
 ghost use Rattle.mob_shell.specs.Outcomes.{HasOneEnding, HasOneHalt, HasOneProgram, HasOneStop, HasOneText, NeverEndsAndStops, NeverProgramAndHalted};
-ghost use Rattle.mob_shell.specs.ReadAsStored.{QueriesReadWhatIsStored, TuplesAreLive};
-ghost use Rattle.mob_shell.specs.StoredTypes.{LiveRowsAreStored, StoredRowsHaveTheirTypes, TablesAreThoseMade};
+ghost use Rattle.mob_shell.specs.ReadAsStored.{QueriesReadWhatIsStored, TuplesAreLive, TypedQueriesReadWhatIsStored, VisitsAreLive};
+ghost use Rattle.mob_shell.specs.StoredTypes.{LiveRowsAreStored, QueriesAreTyped, StoredRowsHaveTheirTypes, TablesAreThoseMade};
 
 /// A query has one answer, or one fault.
 pub fn one_answer()
@@ -67,18 +67,31 @@ pub fn stored_rows_have_their_types()
     ensures tables { TablesAreThoseMade }
 {
     mob_typing::laws::scripts_are_well_typed();
+    mob_load::laws::loaded_is_read();
     mob_load::laws::literals_have_their_values();
     mob_catalog::laws::values_have_their_types();
 }
 
-/// The tuples of a query are of rows that are there, and on these it reads each value as it is stored: no leaf of it names a value that is
-/// missing, or one of another type, which would read as NULL.
+/// Wherever a program stands, a query that is next is typed for the tables there: it can be run.
+pub fn queries_are_typed()
+    ensures typed { QueriesAreTyped }
+{
+    mob_typing::laws::scripts_are_well_typed();
+    mob_load::laws::loaded_is_read();
+    mob_load::laws::literals_have_their_values();
+    mob_catalog::laws::values_have_their_types();
+    mob_join::laws::typed_queries_fit();
+}
+
+/// The tuples of a query, and those that its plan visits, are of rows that are there, and on these a query that is typed for the tables
+/// there, as each query of a run is, reads each value as it is stored: no leaf of it names a value that is missing, or one of another type,
+/// which would read as NULL.
 pub fn queries_read_what_is_stored()
     ensures tuples { TuplesAreLive }
+    ensures visits { VisitsAreLive }
+    ensures typed { TypedQueriesReadWhatIsStored }
     ensures read { QueriesReadWhatIsStored }
 {
     mob_eval::laws::stored_values_are_read();
-    mob_typing::laws::scripts_are_well_typed();
-    mob_load::laws::literals_have_their_values();
-    mob_catalog::laws::values_have_their_types();
+    queries_are_typed();
 }

@@ -8,11 +8,15 @@ ghost use Rattle.mob_shell.specs.EndsSeen.{files_seen, stream_seen};
 ghost use Rattle.mob_shell.specs.Parts.{LoadEnds};
 
 use crate::statements::run_statements;
+use mob_catalog::laws::values_have_their_types;
 use mob_ending::Ending;
+use mob_join::laws::typed_queries_fit;
+use mob_load::laws::literals_have_their_values;
 use mob_load::{LoadEnd, load};
 use mob_outside::{Files, Sink};
 use mob_scalar::Epoch;
 use mob_typed::Typed;
+use mob_typing::laws::scripts_are_well_typed;
 use std::alloc::Global;
 
 // Reads the literals and the files of a typed script, and runs its statements.
@@ -30,6 +34,10 @@ pub fn run_typed<F: Files, K: Sink>(
     ensures filed_later { F.faults files.old ≤ F.faults files.new }
     ensures put_later { K.faults out.old ≤ K.faults out.new }
 {
+    scripts_are_well_typed();
+    literals_have_their_values();
+    values_have_their_types();
+    typed_queries_fit();
     match load(alloc, typed, files, &epoch) {
         Ok(program) => run_statements(alloc, typed, program, epoch, out),
         Err(LoadEnd::Refused(refusal)) => Ending::ScriptRefused { refusal },

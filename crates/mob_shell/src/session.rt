@@ -3,6 +3,7 @@ ghost use Rattle.std.specs.Prelude.{◌≡◌, IfOk, IfErr, OnOk};
 ghost use Rattle.mob_shell.specs.Statements.{OnFault};
 ghost use Rattle.mob_typed.specs.Selects.{select_seen};
 ghost use Rattle.mob_typed.specs.Statements.{query, statement_seen};
+ghost use Rattle.mob_join.specs.TypedFor.{IsTypedFor};
 ghost use Rattle.mob_shell.specs.Runs.{Stops, StatementWrites, StatementLeaves, begin, later_files, next_rows};
 ghost use Rattle.mob_shell.specs.Session.{HasNoAnswerBy, session_day, overflow_fault, session_state};
 
@@ -69,6 +70,7 @@ impl Session {
 
     // The text of the answer of a query.
     fn answer(&self, alloc: Global, select: &TypedSelect) -> Result<Vec<u8>, NoAnswer<Overflow>>
+        requires typed { IsTypedFor (session_state self.now).catalogue (select_seen select.now) }
         ensures text { IfOk result (λ text. StatementWrites (session_day self.now) (session_state self.now) (query (select_seen select.now)) text.items) }
         ensures fault { IfErr result (OnFault (λ o. Stops (session_day self.now) (session_state self.now) (query (select_seen select.now)) (overflow_fault o))) }
     {
@@ -126,11 +128,13 @@ fn no_answer_by(fault: QueryFault) -> NoAnswer<Overflow>
 }
 
 impl Engine for Session {
-    ghost use Rattle.mob_shell.specs.Session.{SessionRuns, StopsOn};
+    ghost use Rattle.mob_shell.specs.Session.{SessionCanRun, SessionRuns, StopsOn};
 
     type Statement = TypedStatement;
 
     type Fault = Overflow;
+
+    ghost can_run = { SessionCanRun };
 
     ghost step = { SessionRuns };
 

@@ -3,6 +3,8 @@ ghost use Rattle.std.specs.Prelude.{◌≤◌};
 ghost use Rattle.mob_typed.specs.Statements.{script_seen};
 ghost use Rattle.mob_shell.specs.EndsSeen.{stream_seen};
 ghost use Rattle.mob_shell.specs.Parts.{RunEnds};
+ghost use Rattle.mob_shell.specs.Runs.{CanRun, RunsStatement, begin};
+ghost use Rattle.mob_shell.specs.Statements.{CanAllRun};
 
 use crate::engine::{RunEnd, run_all};
 use crate::session::Session;
@@ -21,6 +23,7 @@ pub fn run_statements<K: Sink>(
     epoch: Epoch,
     out: &mut K,
 ) -> Ending
+    requires can { CanAllRun (RunsStatement epoch) CanRun (begin program) (script_seen typed.now).statements }
     ensures ends { RunEnds epoch (script_seen typed.now) program (stream_seen K.held K.faults out.old out.new) result }
     ensures later { K.faults out.old ≤ K.faults out.new }
 {

@@ -16,10 +16,15 @@ fn place(value: &Value) -> u8
         Value::Number(_) => 1,
         Value::Text(_) => 2,
         Value::Moment(_) => 3,
-        Value::MovingBool(_) => 4,
-        Value::MovingInt(_) => 5,
-        Value::MovingText(_) => 6,
-        Value::Null => 7,
+        Value::Point(_) => 4,
+        Value::Span(_) => 5,
+        Value::SpanSet(_) => 6,
+        Value::MovingBool(_) => 7,
+        Value::MovingInt(_) => 8,
+        Value::MovingFrac(_) => 9,
+        Value::MovingText(_) => 10,
+        Value::MovingPoint(_) => 11,
+        Value::Null => 12,
     }
 }
 

@@ -1,4 +1,7 @@
+pub mod Apart
+mod Examples
 pub mod Limits
+pub mod OperatorRows
 pub mod Pushed
 pub mod RowSteps
 pub mod ScriptSteps

@@ -43,8 +43,11 @@ module _ (bs : List ℕ) (h : is_limit bs ≡ true) where
   no_plus : without_leading_plus bs ≡ bs
   no_plus = let r = digit_at bs 0 digits some in without_leading_plus_none bs (λ e. absurd (omega (arith, r)))
 
+  small : digits_value 10 bs < 10 ^ 18
+  small = let own : digits_value 10 bs < 10 ^ length bs = digits_value-lt 10 bs digits in let below : 10 ^ length bs ≤ 10 ^ 18 = pow-le-pow_right {n = 10} (lit< tt) few in omega (arith, own, below)
+
   fits : digits_value 10 bs < 2 ^ 64
-  fits = let small : digits_value 10 bs < 10 ^ length bs = digits_value-lt 10 bs digits in let below : 10 ^ length bs ≤ 10 ^ 18 = pow-le-pow_right {n = 10} (lit< tt) few in omega (arith, small, below)
+  fits = omega (arith, small)
 
   numeral : IsNumeral 10 bs
   numeral = (some, digits)
@@ -55,3 +58,11 @@ module _ (bs : List ℕ) (h : is_limit bs ≡ true) where
   pub limit_parsed : {E : Type 0} (r : Result ℕ E) → ParsesUnsigned 64 10 bs r → result_ok r ≡ limit_value bs
   limit_parsed (Ok n) p = ap (λ v. Some v) (p.1 ∙ ap (digits_value 10) no_plus) ∙ sym value
   limit_parsed (Err e) p = absurd (p (subst (λ ds. IsNumeral 10 ds) (sym no_plus) numeral, subst (λ ds. digits_value 10 ds < 2 ^ 64) (sym no_plus) fits))
+
+-- and that number is below 10 to the 18th
+pub limit_small : (text : List ℕ) (n : ℕ) → limit_value text ≡ Some n → n < 10 ^ 18
+limit_small text n h = by (is_limit text) refl h
+  where
+    by : (b : Bool) → is_limit text ≡ b → cond b (Some (digits_value 10 text)) None ≡ Some n → n < 10 ^ 18
+    by true is so = let same : digits_value 10 text ≡ n = cc in subst (λ k. k < 10 ^ 18) same (small text is)
+    by false is so = absurd (cc)

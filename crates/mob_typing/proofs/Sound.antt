@@ -1,22 +1,20 @@
 -- What is sound stays so beside more constants, and behind its numbers stands what they name.
-use Rattle.std.proofs.Common.{◌≡◌, ◌∙◌, ◌+◌, refl, sym, ap, subst, ℕ, zero, suc, List, [], ◌∷◌, ◌++◌, append_assoc, length, length-append, map, Bool, true, false, cond, ◌&&◌, Option, Some, None}
+use Rattle.std.proofs.Common.{◌≡◌, ◌∙◌, ◌+◌, refl, sym, ap, subst, ℕ, zero, suc, List, [], ◌∷◌, ◌++◌, append_assoc, length, length-append, map, Bool, true, false, cond, Option, Some, None}
 use Rattle.std.specs.Prelude.{IfSome, slice_get, option_map, option_and_then}
-use Rattle.std.specs.List.{AllByRecursion, AllZip, list_all}
-use Rattle.std.specs.Option.{option_or}
+use Rattle.std.specs.List.{AllByRecursion, AllZip}
 use Rattle.std.specs.Str.{bytes_eq}
 use Rattle.mob_ast.specs.declared.types.SqlType.{SqlType}
-use Rattle.mob_operators.specs.declared.operator.Form.{Form}
 use Rattle.mob_operators.specs.declared.operator.Op.{Op}
 use Rattle.mob_operators.specs.declared.operator.Op.TheVariants as op
-use Rattle.mob_operators.specs.Lookup.{Line, operator_named, same_form, takes, given, answer_of, found_in}
-use Rattle.mob_operators.specs.Table.{table}
 use Rattle.mob_typed.specs.declared.typed.ConstText.{ConstText}
-use Rattle.mob_typed.specs.Trees.{TypedTree, typed, TypedTrees, none, more as more_trees, typed_trees, type_of}
+use Rattle.mob_typed.specs.Trees.{TypedTree, typed, TypedTrees, none, more as more_trees, typed_trees, type_of, types_of, arg_types}
 use Rattle.mob_typed.specs.Statements.{ColumnList, nothing, new_table, new_index, new_rows, rows_from, query, plan_of}
-use Rattle.mob_typed.proofs.Rising.{each_on}
+use Rattle.mob_typed.proofs.Rising.{each_both, each_on}
 use Rattle.mob_expression.specs.Names.{entry_from}
+use Rattle.mob_expression.specs.Words.{number_type}
 use Rattle.mob_typing.specs.Selects.{is_bool, is_key}
-use Rattle.mob_typing.specs.WellTyped.{constant_type, HasNamedType, HasNamedTypes, AllHaveNamedTypes, IsOfColumn, IsTypedQuery, IsTypedStatement}
+use Rattle.mob_typing.specs.Stands.{operators_in, operators_among}
+use Rattle.mob_typing.specs.WellTyped.{constant_type, HasNamedType, HasNamedTypes, AllHaveNamedTypes, IsNumber, IsNumberLiteral, the_number, behind_minus, behind_plus, HasDivisor, HasRow, FitsArguments, IsOperated, AreOperated, expressions_of, IsOfColumn, IsTypedQuery, IsTypedStatement}
 use Rattle.mob_typing.proofs.Walk.{Stays, all_stay}
 
 -- what stands at a number of a list stands there in a longer one
@@ -58,15 +56,22 @@ entry_stands {A} before (x ∷ es) name e h = by (bytes_eq name x.0) refl (entry
         subst (λ all. StandsIn all e) (append_assoc before (x ∷ []) es) (later (ap (λ n. entry_from n es name) (length-append before (x ∷ [])) ∙ behind))
 
 -- soundness beside more constants
+module _ {A : Type 0} (f : ConstText → A) where
+  pub part_stays : (y : A) (k : ℕ) (cs more : List ConstText) → option_map f (slice_get cs k) ≡ Some y → option_map f (slice_get (cs ++ more) k) ≡ Some y
+  part_stays y k cs more h = by (slice_get cs k) refl
+    where
+      by : (o : Option ConstText) → slice_get cs k ≡ o → option_map f (slice_get (cs ++ more) k) ≡ Some y
+      by None is = let missing : ◌≡◌ {A = Option A} None (Some y) = sym (ap (option_map f) is) ∙ h in absurd (cc)
+      by (Some c) is = ap (option_map f) (slice_more cs more k c is) ∙ sym (ap (option_map f) is) ∙ h
+
+  pub part_here : (cs : List ConstText) (c : ConstText) → option_map f (slice_get (cs ++ c ∷ []) (length cs)) ≡ Some (f c)
+  part_here cs c = ap (option_map f) (slice_seam cs [] c)
+
 pub constant_stays : (ty : SqlType) (k : ℕ) (cs more : List ConstText) → constant_type cs k ≡ Some ty → constant_type (cs ++ more) k ≡ Some ty
-constant_stays ty k cs more h = by (slice_get cs k) refl
-  where
-    by : (o : Option ConstText) → slice_get cs k ≡ o → constant_type (cs ++ more) k ≡ Some ty
-    by None is = let missing : ◌≡◌ {A = Option SqlType} None (Some ty) = sym (ap (option_map (λ (c : ConstText). c.ty)) is) ∙ h in absurd (cc)
-    by (Some c) is = ap (option_map (λ (c : ConstText). c.ty)) (slice_more cs more k c is) ∙ sym (ap (option_map (λ (c : ConstText). c.ty)) is) ∙ h
+constant_stays ty k cs more h = part_stays (λ (c : ConstText). c.ty) ty k cs more h
 
 pub constant_here : (cs : List ConstText) (c : ConstText) → constant_type (cs ++ c ∷ []) (length cs) ≡ Some c.ty
-constant_here cs c = ap (option_map (λ (c : ConstText). c.ty)) (slice_seam cs [] c)
+constant_here cs c = part_here (λ (c : ConstText). c.ty) cs c
 
 module _ (tables : List ColumnList) (from : List ℕ) where
   leaf_stays : (o : Op) (ty : SqlType) (cs more : List ConstText) → HasNamedType tables from cs o ty → HasNamedType tables from (cs ++ more) o ty
@@ -86,6 +91,58 @@ module _ (tables : List ColumnList) (from : List ℕ) where
   operands_hold cs [] h = tt
   operands_hold cs (t ∷ ts) h = (h.0, operands_hold cs ts h.1)
 
+-- an expression is sound: its leaves name what is there, its operators have their rows, and they stand at such places
+pub record IsSound (At : ℕ → Type 0) (tables : List ColumnList) (from : List ℕ) (cs : List ConstText) (t : TypedTree) : Type 0 where
+  pub named : HasNamedTypes tables from cs t
+  pub operated : IsOperated cs t
+  pub placed : AllByRecursion At (operators_in t)
+
+-- a number literal stays one
+pub literal_stays : (text : List ℕ) (cs more : List ConstText) {t : TypedTree} → IsNumberLiteral cs text t → IsNumberLiteral (cs ++ more) text t
+literal_stays text cs more (the_number {k} is) = the_number (part_stays (λ (c : ConstText). c.text) text k cs more is.0, constant_stays (number_type text) k cs more is.1)
+literal_stays text cs more (behind_minus h) = behind_minus (literal_stays text cs more h)
+literal_stays text cs more (behind_plus h) = behind_plus (literal_stays text cs more h)
+
+divisor_stays : (args : TypedTrees) (cs more : List ConstText) → HasDivisor cs args → HasDivisor (cs ++ more) args
+divisor_stays (more_trees a (more_trees b none)) cs more h = (h.0, literal_stays h.0 cs more h.1, h.2)
+divisor_stays none cs more h = absurd h
+divisor_stays (more_trees a none) cs more h = absurd h
+divisor_stays (more_trees a (more_trees b (more_trees c ts))) cs more h = absurd h
+
+-- a node stays as it is by its arguments
+row_stays_so : (o : Op) (ty : SqlType) (args : TypedTrees) (cs more : List ConstText) → HasRow cs o ty args → HasRow (cs ++ more) o ty args
+row_stays_so o ty args cs more h = record { form = h.form; name = h.name; row = h.row; divisor = λ division. divisor_stays args cs more (h.divisor division) }
+
+node_stays : (o : Op) (ty : SqlType) (args : TypedTrees) (cs more : List ConstText) → FitsArguments cs o ty args → FitsArguments (cs ++ more) o ty args
+node_stays (op.Const k) ty args cs more h = h
+node_stays (op.Column f k) ty args cs more h = h
+node_stays op.Null ty args cs more h = h
+node_stays op.Cast ty args cs more h = h
+node_stays o ty args cs more h = row_stays_so o ty args cs more h
+
+mutual
+  pub operated_stays : (t : TypedTree) (cs more : List ConstText) → IsOperated cs t → IsOperated (cs ++ more) t
+  operated_stays (typed o ty p args) cs more h = (node_stays o ty args cs more h.0, all_operated_stay args cs more h.1)
+
+  all_operated_stay : (ts : TypedTrees) (cs more : List ConstText) → AreOperated cs ts → AreOperated (cs ++ more) ts
+  all_operated_stay none cs more h = tt
+  all_operated_stay (more_trees t ts) cs more h = (operated_stays t cs more h.0, all_operated_stay ts cs more h.1)
+
+pub all_operated : (cs : List ConstText) (ts : List TypedTree) → AllByRecursion (IsOperated cs) ts → AreOperated cs (typed_trees ts)
+all_operated cs [] h = tt
+all_operated cs (t ∷ ts) h = (h.0, all_operated cs ts h.1)
+
+pub types_are : (ts : List TypedTree) → arg_types (typed_trees ts) ≡ types_of ts
+types_are [] = refl
+types_are (t ∷ ts) = ap (λ tys. type_of t ∷ tys) (types_are ts)
+
+pub all_placed : (At : ℕ → Type 0) (ts : List TypedTree) → AllByRecursion (λ t. AllByRecursion At (operators_in t)) ts → AllByRecursion At (operators_among (typed_trees ts))
+all_placed At [] h = tt
+all_placed At (t ∷ ts) h = each_both At (operators_in t) (operators_among (typed_trees ts)) h.0 (all_placed At ts h.1)
+
+pub sound_stays : (At : ℕ → Type 0) (tables : List ColumnList) (from : List ℕ) → Stays (IsSound At tables from)
+sound_stays At tables from t cs more h = record { named = tree_stays tables from t cs more h.named; operated = operated_stays t cs more h.operated; placed = h.placed }
+
 pub value_stays : (column : List ℕ × SqlType) → Stays (λ cs v. IsOfColumn cs column v)
 value_stays column None cs more h = tt
 value_stays column (Some k) cs more h = constant_stays column.1 k cs more h
@@ -100,6 +157,10 @@ query_stays : (tables : List ColumnList) → Stays (IsTypedQuery tables)
 query_stays tables s cs more h = record {
   there = h.there;
   few = h.few;
+  called = h.called;
+  apart = h.apart;
+  operated = all_stay (λ ds t. IsOperated ds t) operated_stays (expressions_of s) cs more h.operated;
+  limited = h.limited;
   items = each_on (λ o. HasNamedTypes tables s.from cs o.0) (λ o. HasNamedTypes tables s.from (cs ++ more) o.0) (λ o g. tree_stays tables s.from o.0 cs more g) s.items h.items;
   condition = condition_stays s.cond h.condition;
   keys = each_on (λ k. HasNamedTypes tables s.from cs k.0 × (is_key (type_of k.0) ≡ true)) (λ k. HasNamedTypes tables s.from (cs ++ more) k.0 × (is_key (type_of k.0) ≡ true)) (λ k g. (tree_stays tables s.from k.0 cs more g.0, g.1)) s.keys h.keys;
@@ -117,70 +178,3 @@ statement_stays tables (new_rows t rows places) cs more h = record { columns = h
 statement_stays tables (rows_from t name) cs more h = h
 statement_stays tables (query s) cs more h = query_stays tables s cs more h
 statement_stays tables (plan_of s) cs more h = query_stays tables s cs more h
-
--- an operator of the table names nothing by a number
-abbrev names_nothing : Op → Bool
-names_nothing (op.Const k) = false
-names_nothing (op.Column f k) = false
-names_nothing _ = true
-
-abbrev line_names_nothing : Line → Bool
-line_names_nothing l = list_all (λ n. names_nothing n.1) l.names
-
-table_names_nothing : list_all line_names_nothing table ≡ true
-unfolding table
-table_names_nothing = refl
-
-both_true : (a b : Bool) → (a && b) ≡ true → (a ≡ true) × (b ≡ true)
-both_true true b h = (refl, h)
-both_true false b h = absurd (cc)
-
-named_nothing : (ns : List (List ℕ × Op)) (name : List ℕ) → list_all (λ n. names_nothing n.1) ns ≡ true → IfSome (operator_named ns name) (λ o. names_nothing o ≡ true)
-named_nothing [] name h = tt
-named_nothing (n ∷ ns) name h =
-    let parts = both_true (names_nothing n.1) (list_all (λ m. names_nothing m.1) ns) h in
-    by (bytes_eq n.0 name) parts.0 (named_nothing ns name parts.1)
-  where
-    by : (b : Bool) → names_nothing n.1 ≡ true → IfSome (operator_named ns name) (λ o. names_nothing o ≡ true) → IfSome (cond b (Some n.1) (operator_named ns name)) (λ o. names_nothing o ≡ true)
-    by true own others = own
-    by false own others = others
-
-line_gives_nothing : (l : Line) (f : Form) (name : List ℕ) (ts : List SqlType) (literal : Bool) → line_names_nothing l ≡ true → IfSome (answer_of l f name ts literal) (λ a. names_nothing a.0 ≡ true)
-line_gives_nothing l f name ts literal h = by (same_form l.form f) (operator_named l.names name) (named_nothing l.names name h)
-  where
-    by_type : (o : Op) (t : Option SqlType) → names_nothing o ≡ true → IfSome {T = Op × SqlType} (option_map (λ ty. (o, ty)) t) (λ a. names_nothing a.0 ≡ true)
-    by_type o None own = tt
-    by_type o (Some ty) own = own
-
-    by_test : (o : Op) (b : Bool) → names_nothing o ≡ true → IfSome {T = Op × SqlType} (cond b (option_map (λ ty. (o, ty)) (given l.gives ts)) None) (λ a. names_nothing a.0 ≡ true)
-    by_test o true own = by_type o (given l.gives ts) own
-    by_test o false own = tt
-
-    by : (b : Bool) (o : Option Op) → IfSome o (λ x. names_nothing x ≡ true)
-        → IfSome {T = Op × SqlType} (option_and_then (λ x. cond (takes l ts literal) (option_map (λ ty. (x, ty)) (given l.gives ts)) None) (cond b o None)) (λ a. names_nothing a.0 ≡ true)
-    by true None own = tt
-    by true (Some o) own = by_test o (takes l ts literal) own
-    by false o own = tt
-
-lines_give_nothing : (ls : List Line) (f : Form) (name : List ℕ) (ts : List SqlType) (literal : Bool) → list_all line_names_nothing ls ≡ true → IfSome (found_in ls f name ts literal) (λ a. names_nothing a.0 ≡ true)
-lines_give_nothing [] f name ts literal h = tt
-lines_give_nothing (l ∷ ls) f name ts literal h =
-    let parts = both_true (line_names_nothing l) (list_all line_names_nothing ls) h in
-    by (answer_of l f name ts literal) (line_gives_nothing l f name ts literal parts.0) (lines_give_nothing ls f name ts literal parts.1)
-  where
-    by : (o : Option (Op × SqlType)) → IfSome o (λ a. names_nothing a.0 ≡ true) → IfSome (found_in ls f name ts literal) (λ a. names_nothing a.0 ≡ true) → IfSome (option_or o (found_in ls f name ts literal)) (λ a. names_nothing a.0 ≡ true)
-    by None own others = others
-    by (Some a) own others = own
-
-leaf_free : (tables : List ColumnList) (from : List ℕ) (cs : List ConstText) (o : Op) (ty : SqlType) → names_nothing o ≡ true → HasNamedType tables from cs o ty
-leaf_free tables from cs (op.Const k) ty h = absurd (cc)
-leaf_free tables from cs (op.Column f k) ty h = absurd (cc)
-leaf_free tables from cs _ ty h = tt
-
--- an operator that is found has nothing to name
-pub operator_holds : (tables : List ColumnList) (from : List ℕ) (cs : List ConstText) (f : Form) (name : List ℕ) (ts : List SqlType) (literal : Bool) → IfSome (found_in table f name ts literal) (λ a. HasNamedType tables from cs a.0 a.1)
-operator_holds tables from cs f name ts literal = by (found_in table f name ts literal) (lines_give_nothing table f name ts literal table_names_nothing)
-  where
-    by : (o : Option (Op × SqlType)) → IfSome o (λ a. names_nothing a.0 ≡ true) → IfSome o (λ a. HasNamedType tables from cs a.0 a.1)
-    by None h = tt
-    by (Some a) h = leaf_free tables from cs a.0 a.1 h

@@ -1,8 +1,8 @@
--- The walk over expressions: their literals are gathered in written order, their leaves name what is there, and what is refused is so
--- at a place of the tree.
+-- The walk over expressions: their literals are gathered in written order, their leaves name what is there, their operators have their
+-- rows, and what is refused, and each operator, is so at a place of the tree.
 use Rattle.std.specs.Prelude.{IfSome, not, codes, is_some, slice_get, option_map, option_and_then}
 use Rattle.std.specs.List.{AllByRecursion}
-use Rattle.std.proofs.Common.{◌≡◌, ◌∙◌, ◌+◌, refl, sym, ap, subst, ℕ, List, [], ◌∷◌, ◌++◌, append_assoc, length, length-append, map, Bool, Option, Some, None, Ok}
+use Rattle.std.proofs.Common.{◌≡◌, ◌∙◌, ◌+◌, refl, sym, ap, subst, ℕ, List, [], ◌∷◌, ◌++◌, append_assoc, length, length-append, map, Bool, true, false, cond, Option, Some, None, Ok}
 use Rattle.mob_ast.specs.declared.types.Word.{Word}
 use Rattle.mob_ast.specs.declared.types.TypeWord.{TypeWord}
 use Rattle.mob_ast.specs.declared.types.SqlType.{SqlType}
@@ -18,21 +18,24 @@ use Rattle.mob_operators.specs.declared.operator.Form.TheVariants as form
 use Rattle.mob_operators.specs.Lookup.{found_in}
 use Rattle.mob_operators.specs.Table.{table, is_irrational}
 use Rattle.mob_typed.specs.declared.typed.ConstText.{ConstText}
-use Rattle.mob_typed.specs.Trees.{TypedTree, typed, none, types_of}
+use Rattle.mob_typed.specs.Trees.{TypedTree, typed, none, typed_trees, type_of, types_of}
 use Rattle.mob_typed.specs.Statements.{ColumnList}
+use Rattle.mob_typed.proofs.Rising.{each_on}
 use Rattle.mob_expression.specs.declared.scope.Found.{Found}
 use Rattle.mob_expression.specs.Answers.{◌>>=◌, found, TypingStep}
 use Rattle.mob_expression.specs.Names.{column_of, entry_from}
 use Rattle.mob_expression.specs.Scopes.{ScopeTableParts, ScopeParts}
 use Rattle.mob_expression.specs.Words.{type_named, literal_type, number_type, is_zero}
-use Rattle.mob_expression.specs.Expressions.{constant, with_first, matches, the_one, column_named, lone_string, cast_of_string, typed_before_operands, divisor_of, divides_by_zero, applied, operated, can_cast_all, finished, or_later, typed_expression, typed_operands}
+use Rattle.mob_expression.specs.Expressions.{constant, with_first, matches, the_one, column_named, lone_string, cast_of_string, typed_before_operands, is_signed, signed_digits, digits_of, digits_in, divisor_of, divides_by_zero, applied, operated, can_cast_all, finished, or_later, typed_expression, typed_operands}
 use Rattle.mob_grammar.specs.Places.{IsWithin, nothing, same, literal_place, tree_places, trees_places}
 use Rattle.mob_grammar.specs.Held.{word_held, node_held, tree_held, trees_held}
 use Rattle.mob_grammar.proofs.Within.{within_all, within_back}
 use Rattle.mob_grammar.proofs.Places.{all_parts}
-use Rattle.mob_typing.specs.WellTyped.{column_type, from_type, HasNamedType, HasNamedTypes}
-use Rattle.mob_typing.proofs.Walk.{GivesOrStops, gives, stops, then, also, passes, finds, adds_none, adds_one, adds_within, adds_both, Steps, still}
-use Rattle.mob_typing.proofs.Sound.{slice_map, slice_seam, slice_each, entry_stands, constant_here, tree_stays, operands_hold, operator_holds}
+use Rattle.mob_typing.specs.Stands.{operators_in}
+use Rattle.mob_typing.specs.WellTyped.{column_type, from_type, HasNamedType, HasNamedTypes, IsNumberLiteral, the_number, HasDivisor, is_division, FitsArguments, IsOperated}
+use Rattle.mob_typing.proofs.Walk.{GivesOrStops, gives, stops, then, also, passes, finds, not_false, adds_none, adds_one, adds_within, adds_both, Steps, Stays, still}
+use Rattle.mob_typing.proofs.OperatorRows.{is_of_table, found_of_table, names_nothing, row_fits, division_alone, has_row, own_cast, keeps_number, sign_keeps, behind_sign}
+use Rattle.mob_typing.proofs.Sound.{slice_map, slice_seam, slice_each, entry_stands, part_here, constant_here, literal_stays, operands_hold, all_operated, all_placed, types_are, IsSound, sound_stays}
 
 -- the tables of FROM are those of their numbers
 abbrev pub AreThere : List ColumnList → List (List ℕ × ScopeTableParts) → Type 0
@@ -42,18 +45,28 @@ abbrev pub numbers_of : List (List ℕ × ScopeTableParts) → List ℕ
 numbers_of from = map (λ t. t.1.table) from
 
 -- the place of a lone string is among those of its trees
-lone_stands : (args : Trees) → IfSome (lone_string args) (λ x. IsWithin (x.1 ∷ []) (trees_places args))
-lone_stands no_trees = tt
-lone_stands (more_trees (tree (node.Str s) p us) no_trees) = same nothing
-lone_stands (more_trees (tree nd p us) no_trees) = tt
-lone_stands (more_trees t (more_trees u us)) = tt
+lone_stands : (At : ℕ → Type 0) (args : Trees) → AllByRecursion At (trees_held args) → IfSome (lone_string args) (λ x. IsWithin (x.1 ∷ []) (trees_places args) × At x.1)
+lone_stands At no_trees h = tt
+lone_stands At (more_trees (tree (node.Str s) p us) no_trees) h = (same nothing, h.0)
+lone_stands At (more_trees (tree nd p us) no_trees) h = tt
+lone_stands At (more_trees t (more_trees u us)) h = tt
 
 module _ (At : ℕ → Type 0) (tables : List ColumnList) (s : ScopeParts) (there : AreThere tables s.from) where
   abbrev from : List ℕ
   from = numbers_of s.from
 
   abbrev Holds : List ConstText → TypedTree → Type 0
-  Holds cs t = HasNamedTypes tables from cs t
+  Holds cs t = IsSound At tables from cs t
+
+  -- and what has these digits is a number literal of this text
+  abbrev Reads : Option (List ℕ) → List ConstText → TypedTree → Type 0
+  Reads digits cs t = Holds cs t × IfSome digits (λ text. IsNumberLiteral cs text t)
+
+  -- operands are read as their trees
+  abbrev ReadAs : Trees → List ConstText → List TypedTree → Type 0
+  ReadAs no_trees cs [] = Unit {0}
+  ReadAs (more_trees t us) cs (x ∷ xs) = Reads (digits_of t) cs x × ReadAs us cs xs
+  ReadAs _ cs _ = ⊥
 
   -- a column that is found has its type
   abbrev IsFound : Found → Type 0
@@ -92,90 +105,195 @@ module _ (At : ℕ → Type 0) (tables : List ColumnList) (s : ScopeParts) (ther
       gives (found_there f.0 entry.0 c.text k entry.1 (ap (λ (x : ScopeTableParts). column_of x.columns c.text) entry.2 ∙ is))))
 
   -- what is typed before its operands adds its literals; where nothing is settled, nothing is added
-  abbrev Settled : List ℕ → List ConstText → Option TypedTree → List ConstText → Type 0
-  Settled ps cs None ds = ds ≡ cs
-  Settled ps cs (Some t) ds = Steps s.statement ps Holds cs (t, ds)
+  abbrev Settled : Option (List ℕ) → List ℕ → List ConstText → Option TypedTree → List ConstText → Type 0
+  Settled digits ps cs None ds = ds ≡ cs
+  Settled digits ps cs (Some t) ds = Steps s.statement ps (Reads digits) cs (t, ds)
 
-  abbrev Settles : List ℕ → List ConstText → Option TypedTree × List ConstText → Type 0
-  Settles ps cs x = Settled ps cs x.0 x.1
+  abbrev Settles : Option (List ℕ) → List ℕ → List ConstText → Option TypedTree × List ConstText → Type 0
+  Settles digits ps cs x = Settled digits ps cs x.0 x.1
 
-  constant_steps : (ty : SqlType) (text : List ℕ) (p : ℕ) (ps : List ℕ) (cs : List ConstText)
-      → Steps s.statement (p ∷ ps) Holds cs (typed (op.Const (length cs)) ty p none, cs ++ record { ty = ty; text = text; statement = s.statement; place = p } ∷ [])
-  constant_steps ty text p ps cs =
+  constant_steps : (ty : SqlType) (text : List ℕ) (p : ℕ) (ps : List ℕ) (cs : List ConstText) → At p
+      → Steps s.statement (p ∷ ps) (Reads None) cs (typed (op.Const (length cs)) ty p none, cs ++ record { ty = ty; text = text; statement = s.statement; place = p } ∷ [])
+  constant_steps ty text p ps cs at =
       let c : ConstText = record { ty = ty; text = text; statement = s.statement; place = p } in
-      record { adds = adds_one cs c; sound = (constant_here cs c, tt) }
+      record { adds = adds_one cs c; sound = (record { named = (constant_here cs c, tt); operated = (refl, tt); placed = (at, tt) }, tt) }
 
-  literal_settles : (w : TypeWord) (text : List ℕ) (p : ℕ) (ps : List ℕ) (cs : List ConstText) (o : Option SqlType) → At w.name.place
-      → GivesOrStops At (Settles (p ∷ ps) cs) (found kind.UnknownName w.name.place o >>= (λ ty. constant s ty text p cs) >>= λ r. Ok (Some r.0, r.1))
-  literal_settles w text p ps cs None at = stops at
-  literal_settles w text p ps cs (Some ty) at = gives (constant_steps ty text p ps cs)
+  number_steps : (text : List ℕ) (p : ℕ) (ps : List ℕ) (cs : List ConstText) → At p
+      → Steps s.statement (p ∷ ps) (Reads (Some text)) cs (typed (op.Const (length cs)) (number_type text) p none, cs ++ record { ty = number_type text; text = text; statement = s.statement; place = p } ∷ [])
+  number_steps text p ps cs at =
+      let c : ConstText = record { ty = number_type text; text = text; statement = s.statement; place = p } in
+      record { adds = adds_one cs c; sound = (record { named = (constant_here cs c, tt); operated = (refl, tt); placed = (at, tt) }, the_number (part_here (λ (c : ConstText). c.text) cs c, constant_here cs c)) }
 
-  cast_settles : (w : TypeWord) (p : ℕ) (ps : List ℕ) (cs : List ConstText) (o : Option (List ℕ × ℕ)) → At w.name.place → IfSome o (λ x. IsWithin (x.1 ∷ []) ps) → GivesOrStops At (Settles ps cs) (cast_of_string s w p o cs)
-  cast_settles w p ps cs None at h = gives refl
-  cast_settles w p ps cs (Some text) at h =
-      then (finds kind.UnknownName w.name.place (type_named w.name.text w.inner) at) (λ ty is.
-      let inner = constant_steps ty text.0 text.1 [] cs in
-      gives (record { adds = adds_within h inner.adds; sound = (tt, (inner.sound, tt)) }))
+  literal_settles : (w : TypeWord) (text : List ℕ) (p : ℕ) (ps : List ℕ) (cs : List ConstText) (o : Option SqlType) → At p → At w.name.place
+      → GivesOrStops At (Settles None (p ∷ ps) cs) (found kind.UnknownName w.name.place o >>= (λ ty. constant s ty text p cs) >>= λ r. Ok (Some r.0, r.1))
+  literal_settles w text p ps cs None at named = stops named
+  literal_settles w text p ps cs (Some ty) at named = gives (constant_steps ty text p ps cs at)
 
-  early_settles : (n : Node) (p : ℕ) (args : Trees) (cs : List ConstText) → At p → AllByRecursion At (node_held n) → GivesOrStops At (Settles (literal_place n p ++ trees_places args) cs) (typed_before_operands s n p args cs)
+  cast_settles : (w : TypeWord) (p : ℕ) (ps : List ℕ) (cs : List ConstText) (o : Option (List ℕ × ℕ)) → At p → At w.name.place → IfSome o (λ x. IsWithin (x.1 ∷ []) ps × At x.1)
+      → GivesOrStops At (Settles None ps cs) (cast_of_string s w p o cs)
+  cast_settles w p ps cs None at named h = gives refl
+  cast_settles w p ps cs (Some text) at named h =
+      then (finds kind.UnknownName w.name.place (type_named w.name.text w.inner) named) (λ ty is.
+      let inner = constant_steps ty text.0 text.1 [] cs h.1 in
+      let own = inner.sound.0 in
+      gives (record { adds = adds_within h.0 inner.adds; sound = (record { named = (tt, (own.named, tt)); operated = (own_cast ty, (own.operated, tt)); placed = (at, (h.1, tt)) }, tt) }))
+
+  early_settles : (n : Node) (p : ℕ) (args : Trees) (digits : Option (List ℕ)) (cs : List ConstText) → At p → AllByRecursion At (node_held n) → AllByRecursion At (trees_held args)
+      → GivesOrStops At (Settles (signed_digits n digits) (literal_place n p ++ trees_places args) cs) (typed_before_operands s n p args cs)
   unfolding typed_before_operands
-  early_settles node.Null p args cs at h = gives (record { adds = adds_none; sound = (tt, tt) })
-  early_settles node.True p args cs at h = gives (constant_steps sql.Bool (codes "true") p (trees_places args) cs)
-  early_settles node.False p args cs at h = gives (constant_steps sql.Bool (codes "false") p (trees_places args) cs)
-  early_settles (node.Number n) p args cs at h = gives (constant_steps (number_type n) n p (trees_places args) cs)
-  early_settles (node.Str t) p args cs at h = gives (constant_steps sql.Text t p (trees_places args) cs)
-  early_settles (node.Literal w t) p args cs at h = literal_settles w t p (trees_places args) cs (literal_type w.name.text w.inner t) h.0
-  early_settles (node.Column t c) p args cs at h = then (column_walked t c h) (λ f is. gives (record { adds = adds_none; sound = (is, tt) }))
-  early_settles (node.Call f) p args cs at h = then (passes (is_irrational form.Call f) kind.Irrational p at) (λ _ rational. gives refl)
-  early_settles (node.Sign g) p args cs at h = gives refl
-  early_settles (node.Cast w) p args cs at h = cast_settles w p (trees_places args) cs (lone_string args) h.0 (lone_stands args)
-  early_settles node.Not p args cs at h = gives refl
-  early_settles node.And p args cs at h = gives refl
-  early_settles node.Or p args cs at h = gives refl
-  early_settles node.IsNull p args cs at h = gives refl
-  early_settles node.IsNotNull p args cs at h = gives refl
+  early_settles node.Null p args digits cs at h held = gives (record { adds = adds_none; sound = (record { named = (tt, tt); operated = ((refl, refl), tt); placed = (at, tt) }, tt) })
+  early_settles node.True p args digits cs at h held = gives (constant_steps sql.Bool (codes "true") p (trees_places args) cs at)
+  early_settles node.False p args digits cs at h held = gives (constant_steps sql.Bool (codes "false") p (trees_places args) cs at)
+  early_settles (node.Number n) p args digits cs at h held = gives (number_steps n p (trees_places args) cs at)
+  early_settles (node.Str t) p args digits cs at h held = gives (constant_steps sql.Text t p (trees_places args) cs at)
+  early_settles (node.Literal w t) p args digits cs at h held = literal_settles w t p (trees_places args) cs (literal_type w.name.text w.inner t) at h.0
+  early_settles (node.Column t c) p args digits cs at h held = then (column_walked t c h) (λ f is. gives (record { adds = adds_none; sound = (record { named = (is, tt); operated = (refl, tt); placed = (at, tt) }, tt) }))
+  early_settles (node.Call f) p args digits cs at h held = then (passes (is_irrational form.Call f) kind.Irrational p at) (λ _ rational. gives refl)
+  early_settles (node.Sign g) p args digits cs at h held = gives refl
+  early_settles (node.Cast w) p args digits cs at h held = cast_settles w p (trees_places args) cs (lone_string args) at h.0 (lone_stands At args held)
+  early_settles node.Not p args digits cs at h held = gives refl
+  early_settles node.And p args digits cs at h held = gives refl
+  early_settles node.Or p args digits cs at h held = gives refl
+  early_settles node.IsNull p args digits cs at h held = gives refl
+  early_settles node.IsNotNull p args digits cs at h held = gives refl
 
-  -- the operator on its typed operands
-  applied_walked : (f : Form) (name : List ℕ) (p : ℕ) (divisor : Option Bool) (ts : List TypedTree) (cs : List ConstText) → At p → AllByRecursion (Holds cs) ts → GivesOrStops At (Holds cs) (operated f name p divisor ts)
-  applied_walked f name p divisor ts cs at h = by (found_in table f name (types_of ts) (is_some divisor)) (operator_holds tables from cs f name (types_of ts) (is_some divisor))
+  -- operands that are read are sound
+  operands_read : (args : Trees) (cs : List ConstText) (ts : List TypedTree) → ReadAs args cs ts → AllByRecursion (Holds cs) ts
+  operands_read no_trees cs [] h = tt
+  operands_read no_trees cs (x ∷ xs) h = absurd h
+  operands_read (more_trees t us) cs [] h = absurd h
+  operands_read (more_trees t us) cs (x ∷ xs) h = (h.0.0, operands_read us cs xs h.1)
+
+  -- and what is made of them is so by its own node
+  node_sound : (o : Op) (ty : SqlType) (p : ℕ) (args : Trees) (cs : List ConstText) (ts : List TypedTree) → ReadAs args cs ts → HasNamedType tables from cs o ty → FitsArguments cs o ty (typed_trees ts) → At p → Holds cs (typed o ty p (typed_trees ts))
+  node_sound o ty p args cs ts h own fits at =
+      let all = operands_read args cs ts h in
+      record {
+        named = (own, operands_hold tables from cs ts (each_on (Holds cs) (HasNamedTypes tables from cs) (λ t g. g.named) ts all));
+        operated = (fits, all_operated cs ts (each_on (Holds cs) (IsOperated cs) (λ t g. g.operated) ts all));
+        placed = (at, all_placed At ts (each_on (Holds cs) (λ t. AllByRecursion At (operators_in t)) (λ t g. g.placed) ts all));
+      }
+
+  -- the second of two operands is a number literal that is 0 or not, where there is one
+  abbrev IsDivisor : List ConstText → Option Bool → List TypedTree → Type 0
+  IsDivisor cs None ts = Unit {0}
+  IsDivisor cs (Some zero) ts = zero ≡ false → HasDivisor cs (typed_trees ts)
+
+  divisor_read : (args : Trees) (cs : List ConstText) (ts : List TypedTree) → ReadAs args cs ts → IsDivisor cs (option_map is_zero (divisor_of args)) ts
+  divisor_read no_trees cs ts h = tt
+  divisor_read (more_trees a no_trees) cs ts h = tt
+  divisor_read (more_trees a (more_trees b no_trees)) cs (x ∷ y ∷ []) h = by (digits_of b) h.1.0.1
     where
-      by : (o : Option (Op × SqlType)) → IfSome o (λ a. HasNamedType tables from cs a.0 a.1) → GivesOrStops At (Holds cs) (applied f name p divisor ts o)
-      by None own = stops at
-      by (Some a) own = then (passes (divides_by_zero a.0 divisor) kind.ZeroDivisor p at) (λ _ sound. gives (own, operands_hold tables from cs ts h))
+      by : (o : Option (List ℕ)) → IfSome o (λ text. IsNumberLiteral cs text y) → IsDivisor cs (option_map is_zero o) (x ∷ y ∷ [])
+      by None is = tt
+      by (Some text) is = λ other. (text, is, other)
+  divisor_read (more_trees a (more_trees b no_trees)) cs [] h = absurd h
+  divisor_read (more_trees a (more_trees b no_trees)) cs (x ∷ []) h = absurd h.1
+  divisor_read (more_trees a (more_trees b no_trees)) cs (x ∷ y ∷ z ∷ ts) h = absurd h.1.1
+  divisor_read (more_trees a (more_trees b (more_trees c us))) cs ts h = tt
 
-  finished_walked : (n : Node) (p : ℕ) (args : Trees) (ts : List TypedTree) (cs : List ConstText) → At p → AllByRecursion At (node_held n) → AllByRecursion (Holds cs) ts → GivesOrStops At (Holds cs) (finished n p args ts)
+  -- what an operator gives on typed operands
+  record IsApplied (f : Form) (name : List ℕ) (p : ℕ) (divisor : Option Bool) (ts : List TypedTree) (cs : List ConstText) (t : TypedTree) : Type 0 where
+    answer : Op × SqlType
+    row : found_in table f name (types_of ts) (is_some divisor) ≡ Some answer
+    is : t ≡ typed answer.0 answer.1 p (typed_trees ts)
+    holds : Holds cs t
+
+  applied_walked : (f : Form) (name : List ℕ) (p : ℕ) (divisor : Option Bool) (args : Trees) (ts : List TypedTree) (cs : List ConstText) → At p → ReadAs args cs ts → IsDivisor cs divisor ts
+      → GivesOrStops At (IsApplied f name p divisor ts cs) (operated f name p divisor ts)
+  applied_walked f name p divisor args ts cs at h own = by (found_in table f name (types_of ts) (is_some divisor)) refl
+    where
+      of_table : (a : Op × SqlType) → found_in table f name (types_of ts) (is_some divisor) ≡ Some a → is_of_table a.0 ≡ true
+      of_table a is = subst (λ o. IfSome o (λ x. is_of_table x.0 ≡ true)) is (found_of_table f name (types_of ts) (is_some divisor))
+
+      not_zero : (d : Option Bool) (o : Op) → IsDivisor cs d ts → divides_by_zero o d ≡ false → is_some d ≡ true → is_division o ≡ true → HasDivisor cs (typed_trees ts)
+      not_zero None o so passed literal division = absurd (cc)
+      not_zero (Some zero) o so passed literal division = so (ap (λ x. divides_by_zero x (Some zero)) (sym (division_alone o division)) ∙ passed)
+
+      by : (o : Option (Op × SqlType)) → found_in table f name (types_of ts) (is_some divisor) ≡ o → GivesOrStops At (IsApplied f name p divisor ts cs) (applied f name p divisor ts o)
+      by None is = stops at
+      by (Some a) is =
+          then (passes (divides_by_zero a.0 divisor) kind.ZeroDivisor p at) (λ _ passed.
+          let row = has_row cs f name ts (is_some divisor) a is (not_zero divisor a.0 own passed) in
+          gives (record {
+            answer = a;
+            row = is;
+            is = refl;
+            holds = node_sound a.0 a.1 p args cs ts h (names_nothing tables from cs a.0 a.1 (of_table a is)) (row_fits cs a.0 a.1 (typed_trees ts) (of_table a is) row) at;
+          }))
+
+  -- an operator that is no sign is no number literal
+  plainly_applied : (f : Form) (name : List ℕ) (p : ℕ) (args : Trees) (ts : List TypedTree) (cs : List ConstText) → At p → ReadAs args cs ts → GivesOrStops At (Reads None cs) (operated f name p None ts)
+  plainly_applied f name p args ts cs at h = also (applied_walked f name p None args ts cs at h tt) (λ t applied. (applied.holds, tt))
+
+  -- a sign before a number literal makes a number literal
+  sign_read : (g : List ℕ) (p : ℕ) (args : Trees) (ts : List TypedTree) (cs : List ConstText) (t : TypedTree) → ReadAs args cs ts → IsApplied form.Sign g p (option_map is_zero (divisor_of args)) ts cs t
+      → IfSome (signed_digits (node.Sign g) (digits_in args)) (λ text. IsNumberLiteral cs text t)
+  unfolding digits_of digits_in
+  sign_read g p no_trees ts cs t h applied = none_left (is_signed g)
+    where
+      none_left : (b : Bool) → IfSome {T = List ℕ} (cond b None None) (λ text. IsNumberLiteral cs text t)
+      none_left true = tt
+      none_left false = tt
+  sign_read g p (more_trees a no_trees) [] cs t h applied = absurd h
+  sign_read g p (more_trees a no_trees) (x ∷ y ∷ ts) cs t h applied = absurd h.1
+  sign_read g p (more_trees a no_trees) (x ∷ []) cs t h applied = by (is_signed g) refl (digits_of a) h.0.1
+    where
+      by : (b : Bool) → is_signed g ≡ b → (o : Option (List ℕ)) → IfSome o (λ text. IsNumberLiteral cs text x) → IfSome (cond b o None) (λ text. IsNumberLiteral cs text t)
+      by false signed o is = tt
+      by true signed None is = tt
+      by true signed (Some text) is =
+          let keeps = subst (λ o. IfSome o (λ e. keeps_number e.0 ≡ true)) applied.row (sign_keeps g (type_of x) signed) in
+          subst (IsNumberLiteral cs text) (sym applied.is) (behind_sign cs text x applied.answer.0 applied.answer.1 p keeps is)
+  sign_read g p (more_trees a (more_trees b us)) ts cs t h applied = none_left (is_signed g)
+    where
+      none_left : (b : Bool) → IfSome {T = List ℕ} (cond b None None) (λ text. IsNumberLiteral cs text t)
+      none_left true = tt
+      none_left false = tt
+
+  finished_walked : (n : Node) (p : ℕ) (args : Trees) (ts : List TypedTree) (cs : List ConstText) → At p → AllByRecursion At (node_held n) → ReadAs args cs ts → GivesOrStops At (Reads (signed_digits n (digits_in args)) cs) (finished n p args ts)
   unfolding finished
-  finished_walked (node.Call f) p args ts cs at held h = applied_walked form.Call f p None ts cs at h
-  finished_walked (node.Sign g) p args ts cs at held h = applied_walked form.Sign g p (option_map is_zero (divisor_of args)) ts cs at h
+  finished_walked (node.Call f) p args ts cs at held h = plainly_applied form.Call f p args ts cs at h
+  finished_walked (node.Sign g) p args ts cs at held h = also (applied_walked form.Sign g p (option_map is_zero (divisor_of args)) args ts cs at h (divisor_read args cs ts h)) (λ t applied. (applied.holds, sign_read g p args ts cs t h applied))
   finished_walked (node.Cast w) p args ts cs at held h =
       then (finds kind.UnknownName w.name.place (type_named w.name.text w.inner) held.0) (λ ty is.
-      then (passes (not (can_cast_all (types_of ts) ty)) kind.NoSuchOperator p at) (λ _ can. gives (tt, operands_hold tables from cs ts h)))
-  finished_walked node.Not p args ts cs at held h = applied_walked form.Word (codes "not") p None ts cs at h
-  finished_walked node.And p args ts cs at held h = applied_walked form.Word (codes "and") p None ts cs at h
-  finished_walked node.Or p args ts cs at held h = applied_walked form.Word (codes "or") p None ts cs at h
-  finished_walked node.IsNull p args ts cs at held h = applied_walked form.Word (codes "is null") p None ts cs at h
-  finished_walked node.IsNotNull p args ts cs at held h = applied_walked form.Word (codes "is not null") p None ts cs at h
+      then (passes (not (can_cast_all (types_of ts) ty)) kind.NoSuchOperator p at) (λ _ can.
+      gives (node_sound op.Cast ty p args cs ts h tt (ap (λ tys. can_cast_all tys ty) (types_are ts) ∙ not_false (can_cast_all (types_of ts) ty) can) at, tt)))
+  finished_walked node.Not p args ts cs at held h = plainly_applied form.Word (codes "not") p args ts cs at h
+  finished_walked node.And p args ts cs at held h = plainly_applied form.Word (codes "and") p args ts cs at h
+  finished_walked node.Or p args ts cs at held h = plainly_applied form.Word (codes "or") p args ts cs at h
+  finished_walked node.IsNull p args ts cs at held h = plainly_applied form.Word (codes "is null") p args ts cs at h
+  finished_walked node.IsNotNull p args ts cs at held h = plainly_applied form.Word (codes "is not null") p args ts cs at h
   finished_walked n p args ts cs at held h = stops at
 
   -- what is settled early is all, and else the operands follow
-  later_walked : (own ps : List ℕ) (cs : List ConstText) (later : TypingStep TypedTree) (o : Option TypedTree) (ds : List ConstText) → Settled (own ++ ps) cs o ds → ((es : List ConstText) → GivesOrStops At (Steps s.statement ps Holds es) (later es))
-      → GivesOrStops At (Steps s.statement (own ++ ps) Holds cs) (or_later later o ds)
-  later_walked own ps cs later (Some t) ds h k = gives h
-  later_walked own ps cs later None ds h k = also (subst (λ es. GivesOrStops At (Steps s.statement ps Holds es) (later ds)) h (k ds)) (λ x q. record { adds = adds_within (within_back own (within_all ps)) q.adds; sound = q.sound })
+  later_walked : (digits : Option (List ℕ)) (own ps : List ℕ) (cs : List ConstText) (later : TypingStep TypedTree) (o : Option TypedTree) (ds : List ConstText) → Settled digits (own ++ ps) cs o ds
+      → ((es : List ConstText) → GivesOrStops At (Steps s.statement ps (Reads digits) es) (later es)) → GivesOrStops At (Steps s.statement (own ++ ps) (Reads digits) cs) (or_later later o ds)
+  later_walked digits own ps cs later (Some t) ds h k = gives h
+  later_walked digits own ps cs later None ds h k =
+      also (subst (λ es. GivesOrStops At (Steps s.statement ps (Reads digits) es) (later ds)) h (k ds)) (λ x q. record { adds = adds_within (within_back own (within_all ps)) q.adds; sound = q.sound })
+
+  reads_stay : (digits : Option (List ℕ)) → Stays (Reads digits)
+  reads_stay None t cs more h = (sound_stays At tables from t cs more h.0, tt)
+  reads_stay (Some text) t cs more h = (sound_stays At tables from t cs more h.0, literal_stays text cs more h.1)
 
   mutual
-    unfolding typed_expression typed_operands
+    unfolding typed_expression typed_operands digits_of
 
-    pub expression_walked : (t : Tree) (cs : List ConstText) → AllByRecursion At (tree_held t) → GivesOrStops At (Steps s.statement (tree_places t) Holds cs) (typed_expression s t cs)
-    expression_walked (tree n p args) cs h =
+    tree_walked : (t : Tree) (cs : List ConstText) → AllByRecursion At (tree_held t) → GivesOrStops At (Steps s.statement (tree_places t) (Reads (digits_of t)) cs) (typed_expression s t cs)
+    tree_walked (tree n p args) cs h =
         let parts = all_parts At (node_held n) (trees_held args) h.1 in
-        then (early_settles n p args cs h.0 parts.0) (λ e settled.
-        later_walked (literal_place n p) (trees_places args) cs (λ ds. typed_operands s args ds >>= λ r. finished n p args r.0 >>= λ t. Ok (t, r.1)) e.0 e.1 settled
+        let digits = signed_digits n (digits_in args) in
+        then (early_settles n p args (digits_in args) cs h.0 parts.0 parts.1) (λ e settled.
+        later_walked digits (literal_place n p) (trees_places args) cs (λ ds. typed_operands s args ds >>= λ r. finished n p args r.0 >>= λ t. Ok (t, r.1)) e.0 e.1 settled
         (λ ds. then (operands_walked args ds parts.1) (λ r q. then (finished_walked n p args r.0 r.1 h.0 parts.0 q.sound) (λ t sound. gives (record { adds = q.adds; sound = sound })))))
 
-    operands_walked : (us : Trees) (cs : List ConstText) → AllByRecursion At (trees_held us) → GivesOrStops At (Steps s.statement (trees_places us) (λ ds ts. AllByRecursion (Holds ds) ts) cs) (typed_operands s us cs)
+    operands_walked : (us : Trees) (cs : List ConstText) → AllByRecursion At (trees_held us) → GivesOrStops At (Steps s.statement (trees_places us) (ReadAs us) cs) (typed_operands s us cs)
     operands_walked no_trees cs h = gives (record { adds = adds_none; sound = tt })
     operands_walked (more_trees t us) cs h =
         let parts = all_parts At (tree_held t) (trees_held us) h in
-        then (expression_walked t cs parts.0) (λ x a.
-        then (operands_walked us x.1 parts.1) (λ xs b. gives (record { adds = adds_both a.adds b.adds; sound = (still Holds (tree_stays tables from) x.0 b.adds a.sound, b.sound) })))
+        then (tree_walked t cs parts.0) (λ x a.
+        then (operands_walked us x.1 parts.1) (λ xs b. gives (record { adds = adds_both a.adds b.adds; sound = (still (Reads (digits_of t)) (reads_stay (digits_of t)) x.0 b.adds a.sound, b.sound) })))
+
+  pub expression_walked : (t : Tree) (cs : List ConstText) → AllByRecursion At (tree_held t) → GivesOrStops At (Steps s.statement (tree_places t) Holds cs) (typed_expression s t cs)
+  expression_walked t cs h = also (tree_walked t cs h) (λ x q. record { adds = q.adds; sound = q.sound.0 })

@@ -1,26 +1,31 @@
 -- The walk over scripts, statement by statement.
-use Rattle.std.specs.List.{AllByRecursion}
-use Rattle.std.proofs.Common.{◌≡◌, ◌+◌, ◌∙◌, sym, ap, subst, ℕ, List, [], ◌∷◌, ◌++◌, append_assoc, append-nil, Result, Ok, Err}
+use Rattle.std.specs.List.{AllByRecursion, Contains, IsDistinct, flat_map}
+use Rattle.std.specs.Str.{bytes_eq}
+use Rattle.std.proofs.Common.{◌≡◌, ◌+◌, ◌∙◌, refl, sym, ap, subst, arith, ℕ, List, [], ◌∷◌, ◌++◌, append_assoc, append-nil, length, length-append, Result, Ok, Err}
+use Rattle.std.proofs.lemmas.List.Elements.{Contains-append_right}
 use Rattle.mob_ast.specs.declared.refusal.Refusal.{Refusal}
 use Rattle.mob_ast.specs.Trees.{StatementParts}
 use Rattle.mob_typed.specs.declared.typed.ConstText.{ConstText}
-use Rattle.mob_typed.specs.Statements.{ColumnList, StatementOut, ScriptOut}
+use Rattle.mob_typed.specs.Statements.{StatementOut, ScriptOut}
+use Rattle.mob_typed.proofs.Rising.{each_on}
 use Rattle.mob_expression.specs.Answers.{Mistake}
 use Rattle.mob_typing.specs.Names.{NameLists}
 use Rattle.mob_typing.specs.Statements.{Made, in_statement, or_refused, put_statement, typed_from, typed_script, no_names}
-use Rattle.mob_typing.specs.WellTyped.{AreTypedStatements, IsTypedStatement, TypingGivesWellTyped}
+use Rattle.mob_typing.specs.Stands.{IsHeldIn, OperatorsStand, TypingHoldsOperators, TypingRefusesWhatIsHeld}
+use Rattle.mob_typing.specs.WellTyped.{AreTypedStatements, IsTypedStatement, TypingGivesWellTyped, table_made, index_made, TypingKeepsNamesApart}
 use Rattle.mob_grammar.specs.Places.{statement_places}
 use Rattle.mob_grammar.specs.Held.{statement_held}
 use Rattle.mob_typing.proofs.Walk.{GivesOrStops, gives, stops, Adds, Steps}
 use Rattle.mob_typing.proofs.Sound.{statement_stays}
 use Rattle.mob_typing.proofs.WalkedSelects.{named}
-use Rattle.mob_typing.proofs.WalkedStatements.{IsMade, statement_walked}
+use Rattle.mob_typing.proofs.WalkedStatements.{names_of, KeepsApart, IsMade, statement_walked}
 
--- what a typed script is made of: for each tree in order its statement, with the constants that this adds
-pub data AreMade : ℕ → List ColumnList → List ConstText → List StatementParts → ScriptOut → Type 0 where
-  none_made : {n : ℕ} {tables : List ColumnList} {cs : List ConstText} → AreMade n tables cs [] (record { statements = []; consts = cs })
-  one_made : {n : ℕ} {tables : List ColumnList} {cs ds : List ConstText} {s : StatementParts} {ss : List StatementParts} {m : Made} {out : ScriptOut}
-      → Adds n (statement_places s) cs ds → IsMade tables (statement_places s) ds m → AreMade (n + 1) (named m.names.tables) ds ss out → AreMade n tables cs (s ∷ ss) (put_statement m.statement out)
+-- what a typed script is made of: for each tree in order its statement, with the constants that this adds; operators stand at such
+-- places of their statements
+pub data AreMade (At : ℕ → ℕ → Type 0) : ℕ → NameLists → List ConstText → List StatementParts → ScriptOut → Type 0 where
+  none_made : {n : ℕ} {names : NameLists} {cs : List ConstText} → AreMade At n names cs [] (record { statements = []; consts = cs })
+  one_made : {n : ℕ} {names : NameLists} {cs ds : List ConstText} {s : StatementParts} {ss : List StatementParts} {m : Made} {out : ScriptOut}
+      → Adds n (statement_places s) cs ds → IsMade (At n) names (statement_places s) ds m → AreMade At (n + 1) m.names ds ss out → AreMade At n names cs (s ∷ ss) (put_statement m.statement out)
 
 -- a script gives what has this property, or stops in such a statement at such a place
 pub data ScriptGivesOrStops (At : ℕ → ℕ → Type 0) (Gives : ScriptOut → Type 0) : Result ScriptOut Refusal → Type 0 where
@@ -42,12 +47,12 @@ module _ (At : ℕ → ℕ → Type 0) where
   statement_first n (gives q) k = k _ q
   statement_first n (stops at) k = script_stops at
 
-  pub statements_walked : (n : ℕ) (names : NameLists) (ss : List StatementParts) (cs : List ConstText) → HoldPlaces At n ss → ScriptGivesOrStops At (AreMade n (named names.tables) cs ss) (typed_from n names ss cs)
+  pub statements_walked : (n : ℕ) (names : NameLists) (ss : List StatementParts) (cs : List ConstText) → HoldPlaces At n ss → ScriptGivesOrStops At (AreMade At n names cs ss) (typed_from n names ss cs)
   statements_walked n names [] cs h = script_gives none_made
   statements_walked n names (s ∷ ss) cs h =
       statement_first n (statement_walked (At n) names n s cs h.0) (λ x q. others_follow x.0.statement (statements_walked (n + 1) x.0.names ss x.1 h.1) (λ out made. script_gives_more x q out made))
     where
-      script_gives_more : (x : Made × List ConstText) → Steps n (statement_places s) (IsMade (named names.tables) (statement_places s)) cs x → (out : ScriptOut) → AreMade (n + 1) (named x.0.names.tables) x.1 ss out → AreMade n (named names.tables) cs (s ∷ ss) (put_statement x.0.statement out)
+      script_gives_more : (x : Made × List ConstText) → Steps n (statement_places s) (IsMade (At n) names (statement_places s)) cs x → (out : ScriptOut) → AreMade At (n + 1) x.0.names x.1 ss out → AreMade At n names cs (s ∷ ss) (put_statement x.0.statement out)
       script_gives_more x q out made = one_made q.adds q.sound made
 
 -- what a script gives where it is typed, and where it is refused
@@ -57,7 +62,10 @@ given (script_gives h) = h
 stopped : {At : ℕ → ℕ → Type 0} {P : ScriptOut → Type 0} {e : Refusal} → ScriptGivesOrStops At P (Err e) → At e.statement e.place
 stopped (script_stops h) = h
 
-anywhere : (n : ℕ) (ss : List StatementParts) → HoldPlaces (λ k p. Unit {0}) n ss
+abbrev pub Anywhere : ℕ → ℕ → Type 0
+Anywhere n p = Unit {0}
+
+anywhere : (n : ℕ) (ss : List StatementParts) → HoldPlaces Anywhere n ss
 anywhere n [] = tt
 anywhere n (s ∷ ss) = (all_anywhere (statement_held s), anywhere (n + 1) ss)
   where
@@ -65,22 +73,72 @@ anywhere n (s ∷ ss) = (all_anywhere (statement_held s), anywhere (n + 1) ss)
     all_anywhere [] = tt
     all_anywhere (p ∷ ps) = (tt, all_anywhere ps)
 
-pub script_made : (ss : List StatementParts) (out : ScriptOut) → typed_script ss ≡ Ok out → AreMade 1 [] [] ss out
-script_made ss out typed = given (subst (ScriptGivesOrStops (λ k p. Unit {0}) (AreMade 1 [] [] ss)) typed (statements_walked (λ k p. Unit {0}) 1 no_names ss [] (anywhere 1 ss)))
+-- where the trees hold such places a script is made so, or stops at one of them
+module _ (At : ℕ → ℕ → Type 0) (ss : List StatementParts) (held : HoldPlaces At 1 ss) where
+  pub script_made_at : (out : ScriptOut) → typed_script ss ≡ Ok out → AreMade At 1 no_names [] ss out
+  script_made_at out typed = given (subst (ScriptGivesOrStops At (AreMade At 1 no_names [] ss)) typed (statements_walked At 1 no_names ss [] held))
 
-pub script_stops_inside : (At : ℕ → ℕ → Type 0) (ss : List StatementParts) (e : Refusal) → HoldPlaces At 1 ss → typed_script ss ≡ Err e → At e.statement e.place
-script_stops_inside At ss e h wrong = stopped (subst (ScriptGivesOrStops At (AreMade 1 [] [] ss)) wrong (statements_walked At 1 no_names ss [] h))
+  pub script_stops_inside : (e : Refusal) → typed_script ss ≡ Err e → At e.statement e.place
+  script_stops_inside e wrong = stopped (subst (ScriptGivesOrStops At (AreMade At 1 no_names [] ss)) wrong (statements_walked At 1 no_names ss [] held))
+
+pub script_made : (ss : List StatementParts) (out : ScriptOut) → typed_script ss ≡ Ok out → AreMade Anywhere 1 no_names [] ss out
+script_made ss out typed = script_made_at Anywhere ss (anywhere 1 ss) out typed
 
 -- the constants of a script go on from those before it
-follows : {n : ℕ} {tables : List ColumnList} {cs : List ConstText} {ss : List StatementParts} {out : ScriptOut} → AreMade n tables cs ss out → (new : List ConstText) × (out.consts ≡ cs ++ new)
+follows : {At : ℕ → ℕ → Type 0} {n : ℕ} {names : NameLists} {cs : List ConstText} {ss : List StatementParts} {out : ScriptOut} → AreMade At n names cs ss out → (new : List ConstText) × (out.consts ≡ cs ++ new)
 follows (none_made {cs = cs}) = ([], sym (append-nil cs))
 follows (one_made {cs = cs} adds made others) = let rest = follows others in (adds.new ++ rest.0, rest.1 ∙ ap (λ x. x ++ rest.0) adds.is ∙ append_assoc cs adds.new rest.0)
 
-are_typed : {n : ℕ} {tables : List ColumnList} {cs : List ConstText} {ss : List StatementParts} {out : ScriptOut} → AreMade n tables cs ss out → AreTypedStatements tables out.consts out.statements
+are_typed : {At : ℕ → ℕ → Type 0} {n : ℕ} {names : NameLists} {cs : List ConstText} {ss : List StatementParts} {out : ScriptOut} → AreMade At n names cs ss out → AreTypedStatements (named names.tables) out.consts out.statements
 are_typed none_made = tt
-are_typed (one_made {tables = tables} {ds = ds} {m = m} {out = out} adds made others) =
+are_typed (one_made {names = names} {ds = ds} {m = m} {out = out} adds made others) =
     let rest = follows others in
-    (subst (λ cs. IsTypedStatement tables cs m.statement) (sym rest.1) (statement_stays tables m.statement ds rest.0 made.typed), subst (λ ts. AreTypedStatements ts out.consts out.statements) made.behind (are_typed others))
+    (subst (λ cs. IsTypedStatement (named names.tables) cs m.statement) (sym rest.1) (statement_stays (named names.tables) m.statement ds rest.0 made.typed), subst (λ ts. AreTypedStatements ts out.consts out.statements) made.behind (are_typed others))
 
 pub typing_gives_well_typed : TypingGivesWellTyped
 typing_gives_well_typed ss out typed = are_typed (script_made ss out typed)
+
+-- the names of the tables and of the indexes that statements make, behind those before them
+tables_apart : {At : ℕ → ℕ → Type 0} {n : ℕ} {names : NameLists} {cs : List ConstText} {ss : List StatementParts} {out : ScriptOut} → AreMade At n names cs ss out → KeepsApart (names_of names.tables) (flat_map table_made out.statements)
+tables_apart (none_made {names = names}) h = subst (IsDistinct bytes_eq) (sym (append-nil (names_of names.tables))) h
+tables_apart (one_made {names = names} {m = m} {out = out} adds made others) h =
+    let rest = flat_map table_made out.statements in
+    subst (IsDistinct bytes_eq) (ap (λ ns. ns ++ rest) made.tables ∙ append_assoc (names_of names.tables) (table_made m.statement) rest)
+    (tables_apart others (subst (IsDistinct bytes_eq) (sym made.tables) (made.apart.0 h)))
+
+indexes_apart : {At : ℕ → ℕ → Type 0} {n : ℕ} {names : NameLists} {cs : List ConstText} {ss : List StatementParts} {out : ScriptOut} → AreMade At n names cs ss out → KeepsApart names.indexes (flat_map index_made out.statements)
+indexes_apart (none_made {names = names}) h = subst (IsDistinct bytes_eq) (sym (append-nil names.indexes)) h
+indexes_apart (one_made {names = names} {m = m} {out = out} adds made others) h =
+    let rest = flat_map index_made out.statements in
+    subst (IsDistinct bytes_eq) (ap (λ ns. ns ++ rest) made.indexes ∙ append_assoc names.indexes (index_made m.statement) rest)
+    (indexes_apart others (subst (IsDistinct bytes_eq) (sym made.indexes) (made.apart.1 h)))
+
+no_name : IsDistinct {K = List ℕ} bytes_eq []
+unfolding IsDistinct
+no_name = tt
+
+pub typing_keeps_names_apart : TypingKeepsNamesApart
+typing_keeps_names_apart ss out typed = let made = script_made ss out typed in record { tables = tables_apart made no_name; indexes = indexes_apart made no_name }
+
+-- each place that a tree holds is held in it
+all_contained : (before ps : List ℕ) → AllByRecursion (Contains (before ++ ps)) ps
+all_contained before [] = tt
+all_contained before (p ∷ ps) = (Contains-append_right before (p ∷ ps) p (0, omega arith, refl), subst (λ all. AllByRecursion (Contains all) ps) (append_assoc before (p ∷ []) ps) (all_contained (before ++ p ∷ []) ps))
+
+-- and so in the tree of its number among those of a script
+hold_own : (trees front ss : List StatementParts) (n : ℕ) → trees ≡ front ++ ss → length front + 1 ≡ n → HoldPlaces (IsHeldIn trees) n ss
+hold_own trees front [] n parts number = tt
+hold_own trees front (s ∷ ss) n parts number = (
+  each_on (Contains (statement_held s)) (IsHeldIn trees n) (λ p held. record { front = front; own = s; behind = ss; parts = parts; number = number; held = held }) (statement_held s) (all_contained [] (statement_held s)),
+  hold_own trees (front ++ s ∷ []) ss (n + 1) (parts ∙ sym (append_assoc front (s ∷ []) ss)) (ap (λ k. k + 1) (length-append front (s ∷ []) ∙ number)),
+)
+
+pub operators_stand : {At : ℕ → ℕ → Type 0} {n : ℕ} {names : NameLists} {cs : List ConstText} {ss : List StatementParts} {out : ScriptOut} → AreMade At n names cs ss out → OperatorsStand At n out.statements
+operators_stand none_made = tt
+operators_stand (one_made adds made others) = (made.operators, operators_stand others)
+
+pub typing_holds_operators : TypingHoldsOperators
+typing_holds_operators trees out typed = operators_stand (script_made_at (IsHeldIn trees) trees (hold_own trees [] trees 1 refl refl) out typed)
+
+pub typing_refuses_what_is_held : TypingRefusesWhatIsHeld
+typing_refuses_what_is_held trees e wrong = script_stops_inside (IsHeldIn trees) trees (hold_own trees [] trees 1 refl refl) e wrong

@@ -1,4 +1,5 @@
 pub mod Names
 pub mod Selects
+pub mod Stands
 pub mod Statements
 pub mod WellTyped

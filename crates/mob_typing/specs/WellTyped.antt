@@ -1,15 +1,22 @@
--- What a typed script keeps to, whatever its text: what a number names is there, and has the type that is asked of it.
-use Rattle.std.specs.Prelude.{◌≡◌, ◌≤◌, ◌<◌, ◌++◌, ℕ, List, [], ◌∷◌, true, Option, Some, None, Ok, IfSome, length, slice_get, option_map, option_and_then}
-use Rattle.std.specs.List.{AllByRecursion, AllZip}
+-- What a typed script keeps to, whatever its text: what a number names is there and has the type that is asked of it, each operator has
+-- a row of the table for the types of its arguments, and names are distinct.
+use Rattle.std.specs.Prelude.{◌≡◌, ◌≤◌, ◌<◌, ◌^◌, ◌++◌, ℕ, List, [], ◌∷◌, Bool, true, false, Option, Some, None, Ok, IfSome, length, map, slice_get, option_map, option_and_then}
+use Rattle.std.specs.List.{AllByRecursion, AllZip, IsDistinct, flat_map}
+use Rattle.std.specs.Str.{bytes_eq}
 use Rattle.mob_ast.specs.declared.types.SqlType.{SqlType}
 use Rattle.mob_ast.specs.declared.types.SqlType.TheVariants as sql
 use Rattle.mob_ast.specs.Trees.{StatementParts}
 use Rattle.mob_operators.specs.declared.operator.Op.{Op}
 use Rattle.mob_operators.specs.declared.operator.Op.TheVariants as op
+use Rattle.mob_operators.specs.declared.operator.Form.{Form}
+use Rattle.mob_operators.specs.Lookup.{found_in}
+use Rattle.mob_operators.specs.Table.{table}
 use Rattle.mob_typed.specs.declared.typed.ConstText.{ConstText}
-use Rattle.mob_typed.specs.Trees.{TypedTree, typed, TypedTrees, none, more, type_of}
+use Rattle.mob_typed.specs.Trees.{TypedTree, typed, TypedTrees, none, more, type_of, arg_types}
 use Rattle.mob_typed.specs.Selects.{TypedSelectParts}
 use Rattle.mob_typed.specs.Statements.{ColumnList, StatementOut, nothing, new_table, new_index, new_rows, rows_from, query, plan_of, ScriptOut}
+use Rattle.mob_expression.specs.Words.{number_type, is_zero}
+use Rattle.mob_expression.specs.Expressions.{can_cast_all}
 use Rattle.mob_typing.specs.Selects.{is_bool, is_key}
 use Rattle.mob_typing.specs.Statements.{typed_script}
 
@@ -39,10 +46,68 @@ abbrev mutual
   AllHaveNamedTypes tables from consts none = Unit {0}
   AllHaveNamedTypes tables from consts (more t ts) = HasNamedTypes tables from consts t × AllHaveNamedTypes tables from consts ts
 
--- FROM has at most four tables, all of them there; the condition is a bool, and each key is of a type that has an order
+-- the constant of this number is what a number literal of this text is: it has this text and its type
+abbrev pub IsNumber : List ConstText → List ℕ → ℕ → Type 0
+IsNumber consts text k = (option_map (λ c. c.text) (slice_get consts k) ≡ Some text) × (constant_type consts k ≡ Some (number_type text))
+
+-- `IsNumberLiteral consts text t`: the expression t is a number literal of this text, perhaps behind signs
+pub data IsNumberLiteral (consts : List ConstText) (text : List ℕ) : TypedTree → Type 0 where
+  the_number : {k p : ℕ} {ty : SqlType} → IsNumber consts text k → IsNumberLiteral consts text (typed (op.Const k) ty p none)
+  behind_minus : {t : TypedTree} {ty : SqlType} {p : ℕ} → IsNumberLiteral consts text t → IsNumberLiteral consts text (typed op.Negate ty p (more t none))
+  behind_plus : {t : TypedTree} {ty : SqlType} {p : ℕ} → IsNumberLiteral consts text t → IsNumberLiteral consts text (typed op.Same ty p (more t none))
+
+-- the second of two arguments is a number literal other than 0
+abbrev pub HasDivisor : List ConstText → TypedTrees → Type 0
+HasDivisor consts (more a (more b none)) = (text : List ℕ) × IsNumberLiteral consts text b × (is_zero text ≡ false)
+HasDivisor consts _ = ⊥
+
+abbrev pub is_division : Op → Bool
+is_division op.Divide = true
+is_division _ = false
+
+-- The operator has a row of the table: for arguments of these types that row gives this operator and its type. A division alone asks its
+-- last argument to be a number literal, which is not 0.
+pub record HasRow (consts : List ConstText) (o : Op) (ty : SqlType) (args : TypedTrees) : Type 0 where
+  pub form : Form
+  pub name : List ℕ
+  pub row : found_in table form name (arg_types args) (is_division o) ≡ Some (o, ty)
+  pub divisor : is_division o ≡ true → HasDivisor consts args
+
+-- What a node is by its arguments and their types: a leaf has none, NULL is a text, a cast makes its own type of that of its argument, and
+-- every other operator has its row.
+abbrev pub FitsArguments : List ConstText → Op → SqlType → TypedTrees → Type 0
+FitsArguments consts (op.Const k) ty args = args ≡ none
+FitsArguments consts (op.Column f k) ty args = args ≡ none
+FitsArguments consts op.Null ty args = (ty ≡ sql.Text) × (args ≡ none)
+FitsArguments consts op.Cast ty args = can_cast_all (arg_types args) ty ≡ true
+FitsArguments consts o ty args = HasRow consts o ty args
+
+-- each node of an expression is so
+abbrev mutual
+  pub IsOperated : List ConstText → TypedTree → Type 0
+  IsOperated consts (typed o ty p args) = FitsArguments consts o ty args × AreOperated consts args
+
+  pub AreOperated : List ConstText → TypedTrees → Type 0
+  AreOperated consts none = Unit {0}
+  AreOperated consts (more t ts) = IsOperated consts t × AreOperated consts ts
+
+-- the expressions of a query: its columns, its condition and its keys
+abbrev pub condition_alone : Option TypedTree → List TypedTree
+condition_alone None = []
+condition_alone (Some t) = t ∷ []
+
+abbrev pub expressions_of : TypedSelectParts → List TypedTree
+expressions_of s = map (λ o. o.0) s.items ++ (condition_alone s.cond ++ map (λ k. k.0) s.keys)
+
+-- FROM has at most four tables, all of them there, each with a name of its own; the condition is a bool, each key is of a type that has
+-- an order, and a limit has at most 18 digits
 pub record IsTypedQuery (tables : List ColumnList) (consts : List ConstText) (s : TypedSelectParts) : Type 0 where
   pub there : AllByRecursion (λ t. t < length tables) s.from
   pub few : length s.from ≤ 4
+  pub called : length s.names ≡ length s.from
+  pub apart : IsDistinct bytes_eq s.names
+  pub operated : AllByRecursion (IsOperated consts) (expressions_of s)
+  pub limited : IfSome s.limit (λ n. n < 10 ^ 18)
   pub items : AllByRecursion (λ o. HasNamedTypes tables s.from consts o.0) s.items
   pub condition : IfSome s.cond (λ t. HasNamedTypes tables s.from consts t × (is_bool (type_of t) ≡ true))
   pub keys : AllByRecursion (λ k. HasNamedTypes tables s.from consts k.0 × (is_key (type_of k.0) ≡ true)) s.keys
@@ -59,11 +124,12 @@ pub record AreTypedRows (tables : List ColumnList) (consts : List ConstText) (t 
   pub values : AllByRecursion (AllZip (IsOfColumn consts) columns) rows
   pub placed : length places ≡ length rows
 
--- a new table takes the next number below 64, and has at most 64 columns
+-- a new table takes the next number below 64, and has at most 64 columns, of which no two have one name
 pub record IsNextTable (tables : List ColumnList) (t : ℕ) (columns : ColumnList) : Type 0 where
   pub next : t ≡ length tables
   pub few : t < 64
   pub narrow : length columns ≤ 64
+  pub apart : IsDistinct bytes_eq (map (λ c. c.0) columns)
 
 -- what a statement keeps to where these tables were made before it; an index is on a tgeompoint
 abbrev pub IsTypedStatement : List ColumnList → List ConstText → StatementOut → Type 0
@@ -91,3 +157,21 @@ IsWellTyped out = AreTypedStatements [] out.consts out.statements
 -- what typing gives is well typed
 abbrev pub TypingGivesWellTyped : Type 0
 TypingGivesWellTyped = (ss : List StatementParts) (out : ScriptOut) → typed_script ss ≡ Ok out → IsWellTyped out
+
+-- the name of the table, and of the index, that a statement makes
+abbrev pub table_made : StatementOut → List (List ℕ)
+table_made (new_table t name columns) = name ∷ []
+table_made _ = []
+
+abbrev pub index_made : StatementOut → List (List ℕ)
+index_made (new_index t k name) = name ∷ []
+index_made _ = []
+
+-- no two tables of a script have one name, and no two indexes
+pub record HasDistinctNames (out : ScriptOut) : Type 0 where
+  pub tables : IsDistinct bytes_eq (flat_map table_made out.statements)
+  pub indexes : IsDistinct bytes_eq (flat_map index_made out.statements)
+
+-- typing gives each table and each index a name of its own
+abbrev pub TypingKeepsNamesApart : Type 0
+TypingKeepsNamesApart = (ss : List StatementParts) (out : ScriptOut) → typed_script ss ≡ Ok out → HasDistinctNames out

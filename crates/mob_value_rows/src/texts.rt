@@ -28,7 +28,7 @@ enum Reading {
 // A text, and what is printed of what it says, or the name of its fault.
 type Row = (Reading, &'static str, &'static str);
 
-static ROWS: [Row; 146] = [
+static ROWS: [Row; 192] = [
     (Reading::Value(SqlType::Numeric), " \t1.50\n", "3/2"),
     (Reading::Value(SqlType::Numeric), "-.5e1", "-5"),
     (Reading::Value(SqlType::Numeric), "5.", "5"),
@@ -205,7 +205,11 @@ static ROWS: [Row; 146] = [
     (Reading::Day, " 2000-01-01", "NotText"),
     (Reading::Value(SqlType::Text), "", ""),
     (Reading::Value(SqlType::Text), "\\N a ", "\\N a "),
-    (Reading::Value(SqlType::Point), "POINT(1 2)", "NotText"),
+    (
+        Reading::Value(SqlType::Polygon),
+        "POLYGON((0 0,1 0,0 1,0 0))",
+        "NotText",
+    ),
     (
         Reading::Value(SqlType::TBool),
         "T@2001-01-01",
@@ -306,6 +310,200 @@ static ROWS: [Row; 146] = [
         Reading::Value(SqlType::TText),
         "\"ż\\\"\\\\\"@2001-01-01",
         "\"ż\\\"\\\\\"@2001-01-01 00:00:00+00",
+    ),
+    (
+        Reading::Value(SqlType::Point),
+        " point ( 1/2  -1.50 ) ",
+        "POINT(1/2 -3/2)",
+    ),
+    (
+        Reading::Value(SqlType::Point),
+        "SRID=0;POINT(1 2)",
+        "POINT(1 2)",
+    ),
+    (Reading::Value(SqlType::Point), "POINT(1)", "NotText"),
+    (Reading::Value(SqlType::Point), "POINT(1 2 3)", "NotText"),
+    (
+        Reading::Value(SqlType::Point),
+        "POINT(1 2)@2001-01-01",
+        "NotText",
+    ),
+    (
+        Reading::Value(SqlType::Point),
+        "POLYGON((0 0,1 0,0 1,0 0))",
+        "NotText",
+    ),
+    (
+        Reading::Value(SqlType::Point),
+        "SRID=4326;POINT(1 2)",
+        "NotText",
+    ),
+    (
+        Reading::Value(SqlType::Point),
+        "POINT(1 4611686018427387904)",
+        "TooLarge",
+    ),
+    (
+        Reading::Value(SqlType::Span),
+        " [ 2001-01-01 , 2001-01-02 ) ",
+        "[2001-01-01 00:00:00+00, 2001-01-02 00:00:00+00)",
+    ),
+    (
+        Reading::Value(SqlType::Span),
+        "[2001-01-01,2001-01-01]",
+        "[2001-01-01 00:00:00+00, 2001-01-01 00:00:00+00]",
+    ),
+    (
+        Reading::Value(SqlType::Span),
+        "(2001-01-01, 2001-01-01]",
+        "Unsound",
+    ),
+    (
+        Reading::Value(SqlType::Span),
+        "[2001-01-02, 2001-01-01]",
+        "Unsound",
+    ),
+    (Reading::Value(SqlType::Span), "[2001-01-01]", "NotText"),
+    (
+        Reading::Value(SqlType::Span),
+        "{[2001-01-01, 2001-01-02]}",
+        "NotText",
+    ),
+    (
+        Reading::Value(SqlType::Span),
+        "[2001-01-02, 2001-01-01 00:00:00.000000000000000001]",
+        "TooLarge",
+    ),
+    (
+        Reading::Value(SqlType::SpanSet),
+        "{[2001-01-02, 2001-01-03], [2001-01-01, 2001-01-02)}",
+        "{[2001-01-01 00:00:00+00, 2001-01-03 00:00:00+00]}",
+    ),
+    (
+        Reading::Value(SqlType::SpanSet),
+        "{(2001-01-01, 2001-01-02),(2001-01-02, 2001-01-03)}",
+        "{(2001-01-01 00:00:00+00, 2001-01-02 00:00:00+00), (2001-01-02 00:00:00+00, 2001-01-03 00:00:00+00)}",
+    ),
+    (Reading::Value(SqlType::SpanSet), "{}", "NotText"),
+    (
+        Reading::Value(SqlType::SpanSet),
+        "[2001-01-01, 2001-01-02]",
+        "NotText",
+    ),
+    (
+        Reading::Value(SqlType::SpanSet),
+        "{[2001-01-01, 2001-01-02], (2001-01-01, 2001-01-01]}",
+        "Unsound",
+    ),
+    (
+        Reading::Value(SqlType::SpanSet),
+        "{(2001-01-01, 2001-01-01], [2001-01-01 00:00:00.000000000000000001, 2001-01-02]}",
+        "TooLarge",
+    ),
+    (
+        Reading::Value(SqlType::TFrac),
+        "[0@2001-01-01, 1/2@2001-01-02, 1@2001-01-03]",
+        "[0@2001-01-01 00:00:00+00, 1@2001-01-03 00:00:00+00]",
+    ),
+    (
+        Reading::Value(SqlType::TFrac),
+        "{[0@2001-01-01, 1@2001-01-02], (2@2001-01-02, 3@2001-01-03]}",
+        "{[0@2001-01-01 00:00:00+00, 1@2001-01-02 00:00:00+00], (2@2001-01-02 00:00:00+00, 3@2001-01-03 00:00:00+00]}",
+    ),
+    (
+        Reading::Value(SqlType::TFrac),
+        "[1@2001-01-01, 2@2001-01-02)",
+        "[1@2001-01-01 00:00:00+00, 2@2001-01-02 00:00:00+00)",
+    ),
+    (
+        Reading::Value(SqlType::TFrac),
+        "Interp=Step;[1@2001-01-01, 2@2001-01-02]",
+        "{[1@2001-01-01 00:00:00+00, 1@2001-01-02 00:00:00+00), [2@2001-01-02 00:00:00+00]}",
+    ),
+    (
+        Reading::Value(SqlType::TFrac),
+        "Interp=Step;[1@2001-01-01, 2@2001-01-02)",
+        "Unsound",
+    ),
+    (
+        Reading::Value(SqlType::TFrac),
+        "Interp=Linear;1@2001-01-01",
+        "NotText",
+    ),
+    (
+        Reading::Value(SqlType::TFrac),
+        "SRID=0;1@2001-01-01",
+        "NotText",
+    ),
+    (
+        Reading::Value(SqlType::TFrac),
+        "[1@2001-01-02, 4611686018427387904@2001-01-01]",
+        "TooLarge",
+    ),
+    (
+        Reading::Value(SqlType::TFrac),
+        "[1@2001-01-02, 2@2001-01-01]",
+        "Unsound",
+    ),
+    (Reading::Value(SqlType::TFrac), "1", "NotText"),
+    (
+        Reading::Value(SqlType::TInt),
+        "Interp=Step;1@2001-01-01",
+        "NotText",
+    ),
+    (
+        Reading::Value(SqlType::TPoint),
+        "[POINT(0 0)@2001-01-01, Point(1 2)@2001-01-02, POINT(2 4)@2001-01-03]",
+        "[POINT(0 0)@2001-01-01 00:00:00+00, POINT(2 4)@2001-01-03 00:00:00+00]",
+    ),
+    (
+        Reading::Value(SqlType::TPoint),
+        "[POINT(0 0)@2001-01-01, Point(1 2)@2001-01-02, POINT(2 2)@2001-01-03]",
+        "[POINT(0 0)@2001-01-01 00:00:00+00, POINT(1 2)@2001-01-02 00:00:00+00, POINT(2 2)@2001-01-03 00:00:00+00]",
+    ),
+    (
+        Reading::Value(SqlType::TPoint),
+        " interp=step ; SRID=0; SRID=0;POINT(1 2)@2001-01-01",
+        "POINT(1 2)@2001-01-01 00:00:00+00",
+    ),
+    (
+        Reading::Value(SqlType::TPoint),
+        "srid=0;Interp=Step;{[POINT(1 2)@2001-01-01, POINT(1 3)@2001-01-02]}",
+        "{[POINT(1 2)@2001-01-01 00:00:00+00, POINT(1 2)@2001-01-02 00:00:00+00), [POINT(1 3)@2001-01-02 00:00:00+00]}",
+    ),
+    (
+        Reading::Value(SqlType::TPoint),
+        "SRID=0;SRID=0;[POINT(1 2)@2001-01-01]",
+        "NotText",
+    ),
+    (
+        Reading::Value(SqlType::TPoint),
+        "SRID=4326;POINT(1 2)@2001-01-01",
+        "NotText",
+    ),
+    (
+        Reading::Value(SqlType::TPoint),
+        "POINT(1)@2001-01-01",
+        "NotText",
+    ),
+    (Reading::Value(SqlType::TPoint), "POINT(1 2)", "NotText"),
+    (
+        Reading::Value(SqlType::TPoint),
+        "{POINT(4611686018427387904 0)@2001-01-02, POINT(1 2)@2001-01-01}",
+        "TooLarge",
+    ),
+    (
+        Reading::Value(SqlType::TPoint),
+        "{POINT(0 0)@2001-01-02, POINT(1 2)@2001-01-01}",
+        "Unsound",
+    ),
+    (Reading::Field(SqlType::Point), "", "\\N"),
+    (Reading::Field(SqlType::TPoint), "\\N", "\\N"),
+    (Reading::Field(SqlType::SpanSet), " ", "NotText"),
+    (
+        Reading::Field(SqlType::TFrac),
+        " 1@2001-01-01 ",
+        "1@2001-01-01 00:00:00+00",
     ),
     (Reading::Field(SqlType::Text), "\\N", "\\N"),
     (Reading::Field(SqlType::Text), "", ""),

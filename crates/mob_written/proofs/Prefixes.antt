@@ -1,9 +1,9 @@
 -- The reader of prefixes reads exactly the prefixes that are admitted.
 use Rattle.std.proofs.Common.{◌≡◌, ℕ, List, [], ◌∷◌, ◌++◌, Bool, true, false, cond, Option, Some, None, refl, sym, ap, subst, ◌∙◌, append_assoc, append-nil, rules, inl, inr, ◌⊎◌}
-use Rattle.std.specs.Prelude.{◌&&◌, ◌||◌, not, nat_eq}
+use Rattle.std.specs.Prelude.{◌&&◌, not, nat_eq}
 use Rattle.std.specs.Char.{to_ascii_lowercase}
 use Rattle.std.proofs.lemmas.Bool.{or_parts, and_parts, and_right}
-use Rattle.mob_language.specs.Language.{Text, ◌▷◌, AnyCase, is_blank}
+use Rattle.mob_language.specs.Language.{Text, AnyCase, is_blank}
 use Rattle.mob_language.proofs.Exact.{Exact, Stops, bind_some, some_is, any_case_exact}
 use Rattle.mob_language.proofs.Heads.{after_any, spaced_exact}
 use Rattle.mob_written.specs.declared.written.Prefixes.{Prefixes}

@@ -6,8 +6,9 @@
 -- the prefixes begins with the first letter of none that might still stand.
 use Rattle.std.specs.Prelude.{◌≡◌, ℕ, List, [], ◌∷◌, ◌++◌, codes, Bool, true, false, ◌&&◌, ◌||◌, not, cond, nat_eq, Option, Some, None}
 use Rattle.std.specs.Char.{to_ascii_lowercase}
-use Rattle.mob_language.specs.Language.{Text, Language, ◌▷◌, AnyCase, spaced}
-use Rattle.mob_language.specs.Readers.{TextReader, ◌>>=◌, then_at, any_case_at, spaced_at}
+use Rattle.mob_language.specs.Language.{Text, Language}
+use Rattle.mob_language.specs.Readers.{TextReader, ◌>>=◌}
+use Rattle.mob_points.specs.Points.{heading, srid_word, heading_at}
 use Rattle.mob_written.specs.declared.written.Prefixes.{Prefixes}
 
 pub data Prefix : Type 0 where
@@ -17,10 +18,10 @@ pub data Prefix : Type 0 where
 -- the word before the semicolon
 abbrev pub prefix_word : Prefix → Text
 prefix_word interpolation = codes "interp=step"
-prefix_word reference = codes "srid=0"
+prefix_word reference = srid_word
 
 abbrev pub prefix_of : Prefix → Language (Unit {0} × Unit {0})
-prefix_of p = AnyCase (prefix_word p) ▷ spaced (codes ";")
+prefix_of p = heading (prefix_word p)
 
 -- the prefixes that a type admits: `Interp=Step;` where its courses are not steady, and `SRID=0;` where it has a reference system
 abbrev pub admitted : Bool → Bool → Prefixes
@@ -61,7 +62,7 @@ begins_prefix a c = is_first 105 a.step c || is_first 115 a.srid c
 -- ---- the readers of these languages
 
 unfoldable pub prefix_at : Prefix → TextReader (Unit {0} × Unit {0})
-prefix_at p = then_at (any_case_at (prefix_word p)) (spaced_at (codes ";"))
+prefix_at p = heading_at (prefix_word p)
 
 abbrev pub with_left : Prefixes → Option ((Unit {0} × Unit {0}) × Text) → Option (Prefixes × Text)
 with_left left None = None

@@ -88,6 +88,41 @@ impl WrittenValue for WholeNumbers {
     ghost exact = { number_values };
 }
 
+/// The values of a tfrac: numbers.
+pub struct Numbers;
+
+impl WrittenValue for Numbers {
+    ghost use Rattle.mob_numeral.specs.Fitting.{number_value, number_value_at as number_in};
+    ghost use Rattle.mob_written.specs.Values.{any_value, number_follows, number_values};
+
+    type Base = Frac;
+
+    ghost shape = { number_value };
+
+    ghost reader = { number_in };
+
+    const HAS_SRID: bool = false;
+
+    ghost HAS_SRID = { false };
+
+    ghost follows = { number_follows };
+
+    ghost has_value = { any_value };
+
+    fn value_at(alloc: Global, bytes: &[u8]) -> Result<Option<(Option<Frac>, &[u8])>, AllocError> {
+        match number_value_at(bytes) {
+            Some((value, rest)) => Ok(Some((value, rest))),
+            None => Ok(None),
+        }
+    }
+
+    fn has_value(value: &Frac) -> bool {
+        true
+    }
+
+    ghost exact = { number_values };
+}
+
 /// The values of a ttext: in double quotes, or bare.
 pub struct Texts;
 

@@ -1,7 +1,9 @@
-use Rattle.std.proofs.Common.{sym, subst, List, ℕ}
+use Rattle.std.proofs.Common.{sym, subst, List, ℕ, Some}
 use Rattle.std.specs.Prelude.{IfSome}
 use Rattle.mob_load.specs.Fronts.{IsFront}
-use Rattle.mob_load.specs.Loads.{loaded_of}
+use Rattle.mob_load.specs.Loads.{LoadsFile, loaded_of}
+use Rattle.mob_load.proofs.Narrow.{ok_on}
+use Rattle.mob_load.proofs.Reading.{on_loads}
 use Rattle.mob_load.proofs.Steps.{file_loads}
 use Rattle.mob_load.proofs.checking.load_file.Goals as goal
 
@@ -13,3 +15,8 @@ returns-clause-loads g c =
     let front = subst (λ (b : List ℕ). IfSome told (λ m. IsFront c.args.name.now m b)) (sym c.deref.ensures.value) named in
     file_loads c.args.epoch.now c.args.table c.args.name.now c.deref.result.now (loaded_of c.args.loading.now) told c.load_bytes.result (loaded_of c.load_bytes.new.loading)
     front c.load_bytes.ensures.loads
+
+pub returns-clause-reads : goal.returns-clause-reads
+returns-clause-reads g c =
+    ok_on c.load_bytes.result (λ h. (c.deref.result.now, h))
+    (on_loads (LoadsFile c.args.epoch.now c.args.table c.args.name.now (loaded_of c.args.loading.now) (Some c.deref.result.now)) c.load_bytes.result (loaded_of c.load_bytes.new.loading) c.load_bytes.ensures.loads)

@@ -4,6 +4,7 @@ use Rattle.mob_load.specs.Checks.{check_seen, checks_of}
 use Rattle.mob_load.specs.Loads.{AreNarrow, loaded_of}
 use Rattle.mob_load.proofs.Narrow.{script_narrow}
 use Rattle.mob_load.proofs.Asked.{script_asks, script_asks_some, script_files, script_last}
+use Rattle.mob_load.proofs.Reading.{program_read}
 use Rattle.mob_load.proofs.Steps.{program_loaded, script_stops, stopped_outcome}
 use Rattle.mob_load.proofs.script.load.Goals as goal
 
@@ -12,6 +13,11 @@ returns-in-Ok-clause-loaded g c =
     let same : map check_seen c.deref.result.now ≡ checks_of (script_seen c.args.typed.now) = ap (map check_seen) c.deref.ensures.value ∙ c.in_ok-checks.ensures.in_order in
     λ m are. program_loaded c.args.epoch.now m (map check_seen c.deref.result.now) (script_seen c.args.typed.now) (loaded_of c.in-Ok.loading) c.program_of.result same c.program_of.ensures
     (c.in-Ok.ensures.loaded m (script_files (map check_seen c.deref.result.now) (script_seen c.args.typed.now) (g.F.Files.files c.args.files.now) m same are))
+
+pub returns-in-Ok-clause-reads : goal.returns-in-Ok-clause-reads
+returns-in-Ok-clause-reads g c =
+    let same : map check_seen c.deref.result.now ≡ checks_of (script_seen c.args.typed.now) = ap (map check_seen) c.deref.ensures.value ∙ c.in_ok-checks.ensures.in_order in
+    program_read c.args.epoch.now (map check_seen c.deref.result.now) (script_seen c.args.typed.now) (loaded_of c.in-Ok.loading) c.program_of.result same c.program_of.ensures c.in-Ok.ensures.reads
 
 pub returns-in-Ok-clause-asked : goal.returns-in-Ok-clause-asked
 returns-in-Ok-clause-asked g c =

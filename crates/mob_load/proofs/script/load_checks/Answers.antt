@@ -5,12 +5,14 @@ use Rattle.mob_load.specs.declared.check.Check.{Check}
 use Rattle.mob_load.specs.Loads.{IsNarrow, loaded_of}
 use Rattle.mob_load.proofs.Narrow.{check_narrow, nothing_narrow}
 use Rattle.mob_load.proofs.Asked.{asked_on, asked_some, fault_last, files_here, asked_all, all_some, none_asked}
+use Rattle.mob_load.proofs.Reading.{all_unread, check_reads, none_unread}
 use Rattle.mob_load.proofs.Steps.{all_left, none_left, check_loads, check_stops, keeps_same, keeps_on, rose_before}
 use Rattle.mob_load.proofs.script.load_checks.Goals as goal
 
 pub loop-check-init : goal.loop-check-init
 loop-check-init g c = record {
   left = λ m are. all_left c.args.epoch.now m (map check_seen c.args.checks.now) (map check_seen c.args.checks.now) (loaded_of c.nothing_loaded-loading.result) refl c.nothing_loaded-loading.ensures;
+  unread = all_unread c.args.epoch.now (map check_seen c.args.checks.now) (loaded_of c.nothing_loaded-loading.result) c.nothing_loaded-loading.ensures;
   files = keeps_same (g.F.Files.files c.args.files.now);
   asked = none_asked (g.F.Files.asked c.args.files.now);
   narrow = nothing_narrow (loaded_of c.nothing_loaded-loading.result) c.nothing_loaded-loading.ensures;
@@ -28,6 +30,8 @@ loop-check-preserved g c =
       left = λ m are. check_loads c.args.epoch.now m (map check_seen all) (map check_seen (drop i all)) (map check_seen (drop (i + 1) all)) (check_seen x) here (loaded_of c.loop-check.loading)
           (loaded_of c.run_check.new.loading) (c.loop-check.invariant.left m are)
           (c.in-Ok.ensures.loads m (files_here all i x c.loop-check-test.true c.check-item.is (g.F.Files.files c.args.files.now) (g.F.Files.files c.loop-check.files) m c.loop-check.invariant.files are));
+      unread = check_reads c.args.epoch.now (map check_seen all) (map check_seen (drop i all)) (map check_seen (drop (i + 1) all)) (check_seen x) here (loaded_of c.loop-check.loading)
+          (loaded_of c.run_check.new.loading) c.loop-check.invariant.unread c.in-Ok.ensures.reads;
       files = keeps_on (g.F.Files.files c.args.files.now) (g.F.Files.files c.loop-check.files) (g.F.Files.files c.run_check.new.files) c.loop-check.invariant.files c.in-Ok.ensures.files;
       asked = asked_on all i x c.loop-check-test.true c.check-item.is (g.F.Files.asked c.args.files.now) (g.F.Files.asked c.loop-check.files) (g.F.Files.asked c.run_check.new.files)
           c.loop-check.invariant.asked c.in-Ok.ensures.asked;
@@ -68,6 +72,11 @@ pub returns-clause-loaded : goal.returns-clause-loaded
 returns-clause-loaded g c =
     λ m are. none_left c.args.epoch.now m (map check_seen c.args.checks.now) (map check_seen (drop c.loop-check.check-index c.args.checks.now)) (loaded_of c.loop-check.loading)
     (ap (map check_seen) (drop_all c.loop-check.check-index c.args.checks.now c.loop-check-test.false)) (c.loop-check.invariant.left m are)
+
+pub returns-clause-reads : goal.returns-clause-reads
+returns-clause-reads g c =
+    none_unread c.args.epoch.now (map check_seen c.args.checks.now) (map check_seen (drop c.loop-check.check-index c.args.checks.now)) (loaded_of c.loop-check.loading)
+    (ap (map check_seen) (drop_all c.loop-check.check-index c.args.checks.now c.loop-check-test.false)) c.loop-check.invariant.unread
 
 pub returns-clause-asked : goal.returns-clause-asked
 returns-clause-asked g c =

@@ -1,5 +1,5 @@
-use Rattle.std.proofs.Common.{◌≡◌, ◌+◌, ◌≤◌, length}
-use Rattle.mob_shell.specs.Statements.{RanFirst}
+use Rattle.std.proofs.Common.{◌≡◌, ◌+◌, ◌≤◌, drop, length}
+use Rattle.mob_shell.specs.Statements.{CanAllRun, RanFirst}
 use Rattle.mob_shell.proofs.engine.run_all.Given as goal
 
 abbrev pub invariant-loop-statement : goal.invariant-loop-statement
@@ -7,5 +7,6 @@ invariant-loop-statement g l = record {
   number : l.number ≡ l.statement-index + 1;
   within : l.statement-index ≤ length l.statements;
   ran : RanFirst g.E.Engine.step l.initial.engine l.statements l.statement-index l.engine (g.K.Sink.held l.fn.out) (g.K.Sink.held l.out);
+  can : CanAllRun g.E.Engine.step g.E.Engine.can_run l.engine (drop l.statement-index l.statements);
   later : g.K.Sink.faults l.fn.out ≤ g.K.Sink.faults l.out;
 }

@@ -1,5 +1,8 @@
-use Rattle.mob_shell.proofs.Seen.{seen_all, seen_first, seen_stop}
+use Rattle.mob_shell.proofs.Seen.{can_all, seen_all, seen_first, seen_stop}
 use Rattle.mob_shell.proofs.statements.run_statements.Goals as goal
+
+pub run_all-requires : goal.run_all-requires
+run_all-requires g c = record { can = rw c.as_slice.ensures.same (can_all c.args.epoch c.args.program c.args.typed.now c.new-session.result c.new-session.ensures.begins c.new-session.ensures.day c.requires.can) }
 
 pub returns-in-Done-clause-ends : goal.returns-in-Done-clause-ends
 returns-in-Done-clause-ends g c =

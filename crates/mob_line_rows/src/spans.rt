@@ -1,12 +1,7 @@
-// Spans between whole numbers, sets of them, and when a truth value is true.
+// Spans between whole numbers, and sets of them.
 
-use mob_ast::SqlType;
-use mob_compare::when_true;
 use mob_frac::Frac;
-use mob_literal::read_value;
-use mob_scalar::Epoch;
 use mob_span::{Span, SpanSet};
-use mob_value::Value;
 use std::alloc::Global;
 
 // The ends of a span, and whether it includes them.
@@ -221,6 +216,20 @@ fn parts(alloc: Global, a: Ends, b: Ends, both: Ends, left: Ends) -> bool {
     }
 }
 
+fn has_copy(alloc: Global, set: &SpanSet, wanted: Ends) -> bool {
+    match &set.copy(alloc) {
+        Ok(copy) => is_one(copy, wanted),
+        Err(_) => false,
+    }
+}
+
+fn is_copied(alloc: Global, ends: Ends) -> bool {
+    match &one(alloc, ends) {
+        Some(set) => has_copy(alloc, set, ends),
+        None => false,
+    }
+}
+
 #[test]
 fn sets_share_and_leave_instants(rt: HostRuntime) {
     assert!(rt;
@@ -232,28 +241,5 @@ fn sets_share_and_leave_instants(rt: HostRuntime) {
             (0, 1, true, false)
         )
     );
-}
-
-// When a truth value is true that has this text. The epoch is 2000-01-01, so that the instant 2 is its second 2.
-fn times(alloc: Global, text: &str) -> Option<SpanSet> {
-    match &read_value(alloc, SqlType::TBool, text, &Epoch::standard()) {
-        Ok(Value::MovingBool(truths)) => when_true(alloc, truths).ok()?,
-        _ => None,
-    }
-}
-
-// Whether those are the instants 2, 3 and 4, in one span.
-fn are_times(alloc: Global, text: &str, wanted: (bool, bool, bool)) -> bool {
-    match &times(alloc, text) {
-        Some(set) => set.spans().len() == 1 && instants(set) == Some(wanted),
-        None => false,
-    }
-}
-
-const AT_THREE: &str = "[f@2000-01-01 00:00:02, t@2000-01-01 00:00:03, f@2000-01-01 00:00:04]";
-
-#[test]
-fn truth_values_are_true_at_times(rt: HostRuntime) {
-    assert!(rt; are_times(rt.alloc(), AT_THREE, (false, true, false)));
-    assert!(rt; times(rt.alloc(), "[f@2000-01-01, f@2000-01-02]").is_none());
+    assert!(rt; is_copied(rt.alloc(), (1, 3, false, true)));
 }

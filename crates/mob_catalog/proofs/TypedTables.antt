@@ -1,0 +1,78 @@
+-- Tables keep values of the types of their columns.
+use Rattle.std.proofs.Common.{◌≡◌, ◌∙◌, refl, ap, ℕ, zero, suc, arith, ◌+◌, ◌<◌, ◌≤◌, length, List, [], ◌∷◌, ◌++◌, map}
+use Rattle.std.specs.Prelude.{slice_get, option_map, unwrap_or}
+use Rattle.std.specs.List.{AllZip}
+use Rattle.std.proofs.lemmas.List.{length-append, map-append}
+use Rattle.mob_value.specs.declared.value.Value.{Value}
+use Rattle.mob_value.specs.declared.store.Table.{Table}
+use Rattle.mob_typed.specs.Statements.{ColumnList}
+use Rattle.mob_typed.proofs.Rising.{each_both, each_on}
+use Rattle.mob_catalog.specs.Catalogue.{Catalogue, with_empty_table, with_changed, rows_put, table_columns, with_last_row, with_live_row, with_row}
+use Rattle.mob_catalog.specs.OwnTypes.{HasColumnTypes}
+use Rattle.mob_catalog.specs.TypedTables.{HoldsLiveRows, HoldsTypedRows, Stores, TypesStay, head_columns}
+use Rattle.mob_catalog.specs.declared.catalog.TableHead.{TableHead}
+
+-- one row more in a table
+row_behind : (n : ℕ) (heads : List TableHead) (tables : List Table) (row : List Value) (k : ℕ) → AllZip HoldsTypedRows heads tables → HasColumnTypes (unwrap_or (option_map (λ (h : TableHead). h.columns) (slice_get heads n)) []) row
+    → AllZip HoldsTypedRows (with_changed n (with_live_row k) heads) (with_changed n (with_last_row row) tables)
+row_behind zero [] [] row k h fits = tt
+row_behind (suc n) [] [] row k h fits = tt
+row_behind n [] (t ∷ ts) row k h fits = absurd h
+row_behind n (x ∷ xs) [] row k h fits = absurd h
+row_behind zero (x ∷ xs) (t ∷ ts) row k h fits = (each_both (HasColumnTypes x.columns) t.rows (row ∷ []) h.0 (fits, tt), h.1)
+row_behind (suc n) (x ∷ xs) (t ∷ ts) row k h fits = (h.0, row_behind n xs ts row k h.1 fits)
+
+-- its number is below the count of the rows behind it
+below_last : (rows : List (List Value)) (row : List Value) (m : ℕ) → m ≤ length rows → m < length (rows ++ row ∷ [])
+below_last rows row m le = let long : length (rows ++ row ∷ []) ≡ length rows + 1 = length-append rows (row ∷ []) in omega (arith, long, le)
+
+live_behind : (n : ℕ) (heads : List TableHead) (tables : List Table) (row : List Value) → AllZip HoldsLiveRows heads tables
+    → AllZip HoldsLiveRows (with_changed n (with_live_row (rows_put n tables)) heads) (with_changed n (with_last_row row) tables)
+live_behind zero [] [] row h = tt
+live_behind (suc n) [] [] row h = tt
+live_behind n [] (t ∷ ts) row h = absurd h
+live_behind n (x ∷ xs) [] row h = absurd h
+live_behind zero (x ∷ xs) (t ∷ ts) row h = (
+  each_both (λ (m : ℕ). m < length (t.rows ++ row ∷ [])) x.live (length t.rows ∷ [])
+      (each_on (λ (m : ℕ). m < length t.rows) (λ (m : ℕ). m < length (t.rows ++ row ∷ [])) (λ m lt. below_last t.rows row m (omega (arith, lt))) x.live h.0)
+      (below_last t.rows row (length t.rows) (omega arith), tt),
+  h.1,
+)
+live_behind (suc n) (x ∷ xs) (t ∷ ts) row h = (h.0, live_behind n xs ts row h.1)
+
+columns_kept : (n k : ℕ) (heads : List TableHead) → map head_columns (with_changed n (with_live_row k) heads) ≡ map head_columns heads
+columns_kept zero k [] = refl
+columns_kept (suc n) k [] = refl
+columns_kept zero k (x ∷ xs) = refl
+columns_kept (suc n) k (x ∷ xs) = ap (λ (cs : List ColumnList). head_columns x ∷ cs) (columns_kept n k xs)
+
+-- one table more
+table_behind : (R : TableHead → Table → Type 0) (x : TableHead) (t : Table) → R x t → (heads : List TableHead) (tables : List Table) → AllZip R heads tables → AllZip R (heads ++ x ∷ []) (tables ++ t ∷ [])
+table_behind R x t new [] [] h = (new, tt)
+table_behind R x t new [] (u ∷ us) h = absurd h
+table_behind R x t new (y ∷ ys) [] h = absurd h
+table_behind R x t new (y ∷ ys) (u ∷ us) h = (h.0, table_behind R x t new ys us h.1)
+
+module _ (values : List Value) (tables : List ColumnList) where
+  table_held : (columns : ColumnList) (c : Catalogue) → Stores values tables c → Stores values (tables ++ columns ∷ []) (with_empty_table columns c)
+  table_held columns c h = record {
+    typed = table_behind HoldsTypedRows (record { columns = columns; live = [] }) (record { rows = [] }) tt c.heads c.store.tables h.typed;
+    live = table_behind HoldsLiveRows (record { columns = columns; live = [] }) (record { rows = [] }) tt c.heads c.store.tables h.live;
+    made = map-append head_columns c.heads (record { columns = columns; live = [] } ∷ []) ∙ ap (λ (cs : List ColumnList). cs ++ columns ∷ []) h.made;
+    consts = h.consts;
+  }
+
+  row_held : (n : ℕ) (row : List Value) (c : Catalogue) → Stores values tables c → HasColumnTypes (table_columns c n) row → Stores values tables (with_row n row c)
+  row_held n row c h fits = record {
+    typed = row_behind n c.heads c.store.tables row (rows_put n c.store.tables) h.typed fits;
+    live = live_behind n c.heads c.store.tables row h.live;
+    made = columns_kept n (rows_put n c.store.tables) c.heads ∙ h.made;
+    consts = h.consts;
+  }
+
+pub types_stay : TypesStay
+types_stay = record {
+  new = λ values. record { typed = tt; live = tt; made = refl; consts = refl };
+  table = λ values tables columns c h. table_held values tables columns c h;
+  row = λ values tables n row c h fits. row_held values tables n row c h fits;
+}

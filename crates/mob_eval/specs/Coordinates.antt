@@ -1,0 +1,25 @@
+-- Temporal numbers that change evenly, made of other temporal values: the coordinates of a moving point, and a tint as a tfrac.
+use Rattle.std.specs.Prelude.{◌≡◌, option_map}
+use Rattle.mob_ratio.specs.Ratio.{Ratio}
+use Rattle.mob_plane.specs.declared.point.Point.{Point}
+use Rattle.mob_slice.specs.CourseOf.{line_course}
+use Rattle.mob_value.specs.declared.value.Value.{Value}
+use Rattle.mob_value.specs.declared.value.Value.TheVariants.{Null, MovingInt, MovingFrac, MovingPoint}
+use Rattle.mob_eval.specs.Moving.{IsFunction, step_function, plane_function}
+
+-- v has at each instant this coordinate of a moving point
+abbrev pub IsCoordinate : (Point → Ratio) → Value → Value → Type 0
+IsCoordinate coordinate (MovingPoint a) v = IsFunction line_course MovingFrac (λ t. option_map coordinate (plane_function a t)) v
+IsCoordinate coordinate _ v = v ≡ Null
+
+-- getX and getY
+abbrev pub IsEast : Value → Value → Type 0
+IsEast a v = IsCoordinate (λ p. p.x) a v
+
+abbrev pub IsNorth : Value → Value → Type 0
+IsNorth a v = IsCoordinate (λ p. p.y) a v
+
+-- v is the tint as a tfrac: it has the same value at each instant
+abbrev pub IsWidened : Value → Value → Type 0
+IsWidened (MovingInt a) v = IsFunction line_course MovingFrac (step_function a) v
+IsWidened _ v = v ≡ Null

@@ -1,0 +1,62 @@
+-- What a script has read, whatever its files.
+use Rattle.std.proofs.Common.{◌≡◌, refl, subst, ℕ, ℤ, List, [], ◌∷◌, Option, Some, None, Result, Ok, Err}
+use Rattle.std.specs.Prelude.{OnOk}
+use Rattle.mob_outside.specs.Told.{Contents, file_of}
+use Rattle.mob_typed.specs.Statements.{ScriptOut}
+use Rattle.mob_load.specs.Checks.{CheckParts, literal, table, room, file, checks_of}
+use Rattle.mob_load.specs.Loads.{Loaded, Halt, Loads, LoadsCheck, LoadsFile, LoadsTo, LoadedIsRead, ContinuesBy, ReadsCheck, ReadsChecks, ReadsScript, nothing_loaded, with_made_table}
+use Rattle.mob_load.specs.declared.program.LoadEnd.{LoadEnd}
+use Rattle.mob_load.specs.declared.program.Program.{Program}
+
+-- what an answer says, where it is good
+pub on_loads : {A : Type 0} (P : Result Loaded Halt → Type 0) (r : Result A LoadEnd) (after : Loaded) → LoadsTo r after P → OnOk r (P (Ok after))
+on_loads P (Ok x) after h = h
+on_loads P (Err e) after h = tt
+
+-- What is left of the checks reads on what was read.
+pub record ReadsOn (day : ℤ) (all rest : List CheckParts) (l : Loaded) : Type 0 where
+  pub reads : (m : Loaded) → ReadsChecks day rest l m → ReadsChecks day all nothing_loaded m
+
+module _ (day : ℤ) (all : List CheckParts) where
+  pub all_unread : (l : Loaded) → l ≡ nothing_loaded → ReadsOn day all all l
+  all_unread l nothing = record { reads = λ m h. subst (λ (x : Loaded). ReadsChecks day all x m) nothing h }
+
+  pub none_unread : (rest : List CheckParts) (l : Loaded) → rest ≡ [] → ReadsOn day all rest l → ReadsChecks day all nothing_loaded l
+  none_unread rest l is left =
+      let last : ReadsOn day all [] l = subst (λ (cs : List CheckParts). ReadsOn day all cs l) is left in
+      last.reads l refl
+
+  -- a check that passes
+  pub check_reads : (rest others : List CheckParts) (c : CheckParts) → rest ≡ c ∷ others → (l m : Loaded) → ReadsOn day all rest l → ReadsCheck day c l m → ReadsOn day all others m
+  check_reads rest others c is l m left passes =
+      let first : ReadsOn day all (c ∷ others) l = subst (λ (cs : List CheckParts). ReadsOn day all cs l) is left in
+      record { reads = λ n h. first.reads n (m, passes, h) }
+
+-- checks that all pass have read a program
+pub program_read : (day : ℤ) (cs : List CheckParts) (out : ScriptOut) (l : Loaded) (p : Program) → cs ≡ checks_of out → p ≡ record { values = l.values; files = l.files }
+    → ReadsChecks day cs nothing_loaded l → ReadsScript day out p
+program_read day cs out l p same is reads = (l, subst (λ (x : List CheckParts). ReadsChecks day x nothing_loaded l) same reads, is)
+
+-- what is read of files that are told
+module _ (day : ℤ) (files : Contents) where
+  file_read : (t : ℕ) (name : List ℕ) (l k : Loaded) (o : Option (List ℕ)) → LoadsFile day t name l o (Ok k) → ReadsCheck day (file t name) l k
+  file_read t name l k None h = absurd (cc)
+  file_read t name l k (Some bytes) h = (bytes, h)
+
+  check_read : (c : CheckParts) (l k : Loaded) → LoadsCheck day files c l (Ok k) → ReadsCheck day c l k
+  check_read (literal c) l k h = h
+  check_read (table columns) l k h = let same : k ≡ with_made_table l columns = cc in same
+  check_read (room t n p) l k h = h
+  check_read (file t name) l k h = file_read t name l k (file_of name files) h
+
+  goes_read : (c : CheckParts) (cs : List CheckParts) (l m : Loaded) → ((k : Loaded) → Loads day files cs k (Ok m) → ReadsChecks day cs k m)
+      → (s : Result Loaded Halt) → LoadsCheck day files c l s → ContinuesBy (Loads day files cs) s (Ok m) → ReadsChecks day (c ∷ cs) l m
+  goes_read c cs l m each (Ok k) passes goes = (k, check_read c l k passes, each k goes)
+  goes_read c cs l m each (Err h) passes goes = absurd (cc)
+
+  checks_read : (cs : List CheckParts) (l m : Loaded) → Loads day files cs l (Ok m) → ReadsChecks day cs l m
+  checks_read [] l m is = let same : m ≡ l = cc in same
+  checks_read (c ∷ cs) l m h = goes_read c cs l m (λ k rest. checks_read cs k m rest) h.0 h.1 h.2
+
+pub loaded_is_read : LoadedIsRead
+loaded_is_read day files out p loads = (loads.0, checks_read day files (checks_of out) nothing_loaded loads.0 loads.1, loads.2)

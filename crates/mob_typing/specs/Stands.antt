@@ -1,0 +1,50 @@
+-- Where a refusal of names and types stands, and each operator of a typed script: in the statement whose tree holds its place.
+use Rattle.std.specs.Prelude.{◌≡◌, ◌+◌, ◌++◌, ℕ, List, [], ◌∷◌, length, Ok, Err}
+use Rattle.std.specs.List.{AllByRecursion, Contains, flat_map}
+use Rattle.mob_ast.specs.declared.refusal.Refusal.{Refusal}
+use Rattle.mob_ast.specs.Trees.{StatementParts}
+use Rattle.mob_grammar.specs.Held.{statement_held}
+use Rattle.mob_typed.specs.Trees.{TypedTree, typed, TypedTrees, none, more}
+use Rattle.mob_typed.specs.Statements.{StatementOut, query, plan_of, ScriptOut}
+use Rattle.mob_typing.specs.Statements.{typed_script}
+use Rattle.mob_typing.specs.WellTyped.{expressions_of}
+
+-- the tree of this number, counted from 1, holds this place
+pub record IsHeldIn (trees : List StatementParts) (n place : ℕ) : Type 0 where
+  pub front : List StatementParts
+  pub own : StatementParts
+  pub behind : List StatementParts
+  pub parts : trees ≡ front ++ own ∷ behind
+  pub number : length front + 1 ≡ n
+  pub held : Contains (statement_held own) place
+
+-- a refusal names the statement whose tree holds its place
+abbrev pub IsHeldRefusal : List StatementParts → Refusal → Type 0
+IsHeldRefusal trees e = IsHeldIn trees e.statement e.place
+
+-- what typing refuses, it refuses at a place that the tree of the statement holds
+abbrev pub TypingRefusesWhatIsHeld : Type 0
+TypingRefusesWhatIsHeld = (trees : List StatementParts) (e : Refusal) → typed_script trees ≡ Err e → IsHeldRefusal trees e
+
+-- the places of the operators of a typed expression, constants and columns among them
+abbrev mutual
+  pub operators_in : TypedTree → List ℕ
+  operators_in (typed o ty p args) = p ∷ operators_among args
+
+  pub operators_among : TypedTrees → List ℕ
+  operators_among none = []
+  operators_among (more t ts) = operators_in t ++ operators_among ts
+
+abbrev pub operators_of : StatementOut → List ℕ
+operators_of (query s) = flat_map operators_in (expressions_of s)
+operators_of (plan_of s) = flat_map operators_in (expressions_of s)
+operators_of _ = []
+
+-- the operators of the first of these statements stand at such places of statement n, and those of each other of one more
+abbrev pub OperatorsStand : (ℕ → ℕ → Type 0) → ℕ → List StatementOut → Type 0
+OperatorsStand At n [] = Unit {0}
+OperatorsStand At n (s ∷ ss) = AllByRecursion (At n) (operators_of s) × OperatorsStand At (n + 1) ss
+
+-- each operator of a typed script stands at a place that the tree of its statement holds
+abbrev pub TypingHoldsOperators : Type 0
+TypingHoldsOperators = (trees : List StatementParts) (out : ScriptOut) → typed_script trees ≡ Ok out → OperatorsStand (IsHeldIn trees) 1 out.statements

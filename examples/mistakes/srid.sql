@@ -1,0 +1,4 @@
+-- The file names a reference system, as asEWKT writes it. Here numbers are numbers: asText writes the same without it.
+CREATE TABLE ships (ship text, trip tgeompoint);
+COPY ships FROM 'srid.csv' WITH (FORMAT csv, HEADER);
+SELECT ship FROM ships;
