@@ -10,7 +10,7 @@ use Rattle.mob_span.proofs.OneSet.{one_set}
 use Rattle.mob_plane.specs.declared.point.Point.{Point as PointOf}
 use Rattle.mob_arith.specs.Operations.{sum_of, difference_of, product_of, both_hold, one_holds, text_of}
 use Rattle.mob_compare.specs.Times.{is_true}
-use Rattle.mob_restrict.specs.Restricted.{where_wanted}
+use Rattle.mob_cells.specs.Restricted.{where_wanted}
 use Rattle.mob_restrict.specs.Times.{is_defined}
 use Rattle.mob_slice.specs.CourseOf.{CourseOf, steady_course, line_course, plane_course}
 use Rattle.mob_slice.specs.Operands.{map_both}

@@ -16,7 +16,8 @@ use Rattle.mob_slice.specs.Sameness.{same_bool, same_bytes}
 use Rattle.mob_slice.specs.declared.formula.Formula.TheVariants.{F1}
 use Rattle.mob_slice.specs.declared.slice.Slice.{Slice}
 use Rattle.mob_compare.specs.Times.{is_true}
-use Rattle.mob_restrict.specs.Restricted.{IsRestricted, entry_of_cut}
+use Rattle.mob_cells.specs.Restricted.{IsRestricted}
+use Rattle.mob_restrict.specs.Cuts.{entry_of_cut}
 use Rattle.mob_restrict.specs.Times.{is_defined}
 use Rattle.mob_value.specs.declared.value.Value.{Value}
 use Rattle.mob_value.specs.declared.value.Value.TheVariants.{Null, Bool as Truth, Number, Text, Moment, Point, Span, SpanSet, MovingBool, MovingInt, MovingFrac, MovingText, MovingPoint}

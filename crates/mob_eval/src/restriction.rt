@@ -2,7 +2,7 @@
 ghost use Rattle.std.specs.Prelude.{[], ◌∷◌, None, Some, IfOk, IfErr};
 ghost use Rattle.mob_span.specs.Sets.{in_some};
 ghost use Rattle.mob_slice.specs.Entries.{IsFirst, IsJudged, OnFormula};
-ghost use Rattle.mob_restrict.specs.Restricted.{IsRestricted};
+ghost use Rattle.mob_cells.specs.Restricted.{IsRestricted};
 ghost use Rattle.mob_eval.specs.Times.{IsLeft, IsTimeRestriction, cut_entries, cuts_of, restriction_entries};
 
 use crate::asked::{instant_span, one_span};
