@@ -221,16 +221,12 @@ plus_keeps sql.Int = refl
 plus_keeps sql.Numeric = refl
 plus_keeps _ = tt
 
-either_true : (a b : Bool) → (a || b) ≡ true → (a ≡ true) ⊎ (b ≡ true)
-either_true true b h = inl refl
-either_true false b h = inr h
-
 pub sign_keeps : (g : List ℕ) (ty : SqlType) → is_signed g ≡ true → KeepsNumber (found_in table form.Sign g (ty ∷ []) false)
-sign_keeps g ty h = by (either_true (bytes_eq g (codes "-")) (bytes_eq g (codes "+")) h)
+sign_keeps g ty h = by (bytes_eq g (codes "-")) refl h
   where
-    by : (bytes_eq g (codes "-") ≡ true) ⊎ (bytes_eq g (codes "+") ≡ true) → KeepsNumber (found_in table form.Sign g (ty ∷ []) false)
-    by (inl minus) = subst (λ s. KeepsNumber (found_in table form.Sign s (ty ∷ []) false)) (sym ((bytes_eq-Decides g (codes "-")).0 minus)) (minus_keeps ty)
-    by (inr plus) = subst (λ s. KeepsNumber (found_in table form.Sign s (ty ∷ []) false)) (sym ((bytes_eq-Decides g (codes "+")).0 plus)) (plus_keeps ty)
+    by : (b : Bool) → bytes_eq g (codes "-") ≡ b → (b || bytes_eq g (codes "+")) ≡ true → KeepsNumber (found_in table form.Sign g (ty ∷ []) false)
+    by true minus h = subst (λ s. KeepsNumber (found_in table form.Sign s (ty ∷ []) false)) (sym ((bytes_eq-Decides g (codes "-")).0 minus)) (minus_keeps ty)
+    by false other plus = subst (λ s. KeepsNumber (found_in table form.Sign s (ty ∷ []) false)) (sym ((bytes_eq-Decides g (codes "+")).0 plus)) (plus_keeps ty)
 
 -- behind such an operator a number literal stays one
 pub behind_sign : (cs : List ConstText) (text : List ℕ) (t : TypedTree) (o : Op) (ty : SqlType) (p : ℕ) → keeps_number o ≡ true → IsNumberLiteral cs text t → IsNumberLiteral cs text (typed o ty p (more t none))

@@ -91,11 +91,12 @@ abbrev mutual
   AreOperated consts none = Unit {0}
   AreOperated consts (more t ts) = IsOperated consts t × AreOperated consts ts
 
--- the expressions of a query: its columns, its condition and its keys
+-- the condition of a query, where it has one
 abbrev pub condition_alone : Option TypedTree → List TypedTree
 condition_alone None = []
 condition_alone (Some t) = t ∷ []
 
+-- the expressions of a query: its columns, its condition and its keys
 abbrev pub expressions_of : TypedSelectParts → List TypedTree
 expressions_of s = map (λ o. o.0) s.items ++ (condition_alone s.cond ++ map (λ k. k.0) s.keys)
 
