@@ -1,37 +1,39 @@
 -- A comparison on one piece.
-use Rattle.std.specs.Prelude.{◌≡◌, Bool, true, false, List, [], ◌∷◌, ◌++◌, Option, Some, None, Result, Ok, Err, MatchResult, refl}
-use Rattle.std.specs.List.{AllByRecursion}
+use Rattle.std.specs.Prelude.{◌≡◌, Bool, true, false, List, [], ◌∷◌, ◌++◌, Option, Some, None, Result, Ok, Err, IfErr, MatchResult, refl}
+use Rattle.std.specs.List.{AllByRecursion, flat_map}
 use Rattle.std.proofs.Common.{ap, sym, ◌∙◌, subst, inl, inr}
 use Rattle.mob_ratio.specs.Ratio.{Ratio}
 use Rattle.mob_ratio.specs.Order.{before}
 use Rattle.mob_frac.specs.Formula.{AllFit}
-use Rattle.mob_span.specs.Span.{SpanOf, has, has_instant}
+use Rattle.mob_span.specs.Span.{has, has_instant}
 use Rattle.mob_span.specs.Meets.{PieceOf}
 use Rattle.mob_span.proofs.Insides.{inside_self}
 use Rattle.mob_slice.specs.Course.{IsCourse}
 use Rattle.mob_slice.specs.Comparison.{IsComparison, MayAsk, gap_parts}
 use Rattle.mob_slice.specs.Look.{IsLookFault}
 use Rattle.mob_slice.specs.Operands.{steady_value, steady_limit}
-use Rattle.mob_slice.specs.Sides.{SideOf, Moves, Stays, side_at, side_parts, at_ends, HasValues}
-use Rattle.mob_slice.specs.Entries.{Entry, IsFirst, OnFormula, operator_fault}
+use Rattle.mob_slice.specs.Sides.{SideOf, side_at, side_parts, at_ends, HasValues}
+use Rattle.mob_slice.specs.Entries.{IsFirst, IsJudged, OnFormula, operator_fault}
 use Rattle.mob_slice.specs.declared.slice.Slice.{Slice}
 use Rattle.mob_slice.specs.declared.steady.Steady.{Steady}
 use Rattle.mob_slice.specs.declared.comparison.Rel.{Rel}
 use Rattle.mob_slice.specs.declared.comparison.Gaps.{Gaps}
-use Rattle.mob_slice.specs.declared.comparison.Gaps.TheVariants.{Constant}
 use Rattle.mob_slice.specs.declared.formula.Formula.{Formula}
 use Rattle.mob_slice.specs.declared.formula.OpFault.{OpFault}
 use Rattle.mob_slice.specs.declared.formula.OpFault.TheVariants.{Passed, NoMemory}
 use Rattle.mob_slice.specs.declared.formula.LookFault.{LookFault}
 use Rattle.mob_slice.specs.declared.formula.LookFault.TheVariants.{Passed as LookPassed, NoMemory as LookNoMemory}
 use Rattle.mob_slice.proofs.Cuts.{all_both, all_first, all_second}
-use Rattle.mob_lift.specs.Given.{AreOn, IsGiven, on_sides}
+use Rattle.mob_slice.proofs.Firsts.{one_first}
+use Rattle.mob_lift.proofs.Judged.{none_some, first_joined}
+use Rattle.mob_lift.specs.Given.{IsGiven, on_sides}
 use Rattle.mob_cells.specs.declared.linear.Ends.{Ends}
 use Rattle.mob_cells.specs.Roots.{IsLevel}
 use Rattle.mob_cells.specs.Cells.{signs_of}
 use Rattle.mob_cells.specs.Kept.{IsKeptBy, entry_of_roots}
-use Rattle.mob_cells.specs.Gaps.{gap_ends, related_by, piece_gaps, IsGapFault}
-use Rattle.mob_cells.proofs.GapSigns.{by_gaps, no_gaps, gaps_level}
+use Rattle.mob_cells.specs.Gaps.{gap_ends, related_by, piece_gaps, IsGapFault, entries_of_ends}
+use Rattle.mob_cells.proofs.GapSigns.{by_gaps, gaps_level}
+use Rattle.mob_cells.proofs.SteadyEnds.{gap_none, steady_ends}
 use Rattle.mob_compare.specs.Compared.{entries_of_gaps}
 
 module _ {C B : Type 0} (value : C → Ratio → Ratio → Ratio → B) (lines : C → Ratio → Ratio → Ratio → List Ratio) (gaps : B → B → Gaps) (p : PieceOf (SideOf C B) (SideOf C B)) where
@@ -86,33 +88,22 @@ module _ {C B : Type 0} (value : C → Ratio → Ratio → Ratio → B) (lines :
       lines_given items (Err NoMemory) m = tt
 
 -- ---- steady courses
-none_by : (xs ys : List Ratio) → xs ≡ [] → ys ≡ [] → xs ++ ys ≡ []
-none_by xs ys e f = rw (e, f) refl
-
 module _ {C B : Type 0} {steady copies : Bool} {value : C → Ratio → Ratio → Ratio → B} {start end : C → B} {can_make : B → B → Type 0} {make : B → B → C} {continues : C → C → Ratio → Ratio → Ratio → Bool} {parts : C → Ratio → Ratio → Ratio → List Ratio} (laws : IsCourse steady copies value start end can_make make continues parts)
-    {relation : Rel → B → B → Bool} {gaps : B → B → Gaps} {ordered : Bool} (comparison : IsComparison steady ordered value start end relation gaps) (s : steady ≡ true) (p : PieceOf (SideOf C B) (SideOf C B)) where
-  side_none : (q : SideOf C B) (t : Ratio) → side_parts parts q t ≡ []
-  side_none (Moves x) t = laws.no_parts s x.course x.span.lower x.span.upper t
-  side_none (Stays b) t = refl
+    {relation : Rel → B → B → Bool} {gaps : B → B → Gaps} {ordered : Bool} (comparison : IsComparison steady ordered value start end relation gaps) (s : steady ≡ true) where
+  steady_first : (p : PieceOf (SideOf C B) (SideOf C B)) → IsFirst (entries_of_gaps value parts gaps p) None
+  steady_first p = first_joined (entries_of_ends value parts gaps p) (entry_of_roots p.span (gap_ends (piece_gaps value gaps p p.span.lower) (piece_gaps value gaps p p.span.upper)) ∷ []) None (steady_ends laws comparison s p)
+      (subst (λ z. IsFirst (entry_of_roots p.span z ∷ []) None) (sym (ap (λ h. gap_ends h (piece_gaps value gaps p p.span.upper)) (gap_none laws comparison s p p.span.lower))) (inl (tt, refl)))
 
-  ends_none : (f : Ratio → List Ratio) → ((t : Ratio) → f t ≡ []) → at_ends f p.span ≡ []
-  ends_none f h = none_by (f p.span.lower) (f p.span.upper) (h p.span.lower) (h p.span.upper)
+  pub steady_given : (p : PieceOf (SideOf C B) (SideOf C B)) {V : Type 0} (items : V → List (Slice (Steady Bool))) (rel : Rel) (q : Result V OpFault) (b : Bool) → has_instant p.span ≡ true → ((t : Ratio) → b ≡ relation rel (side_at value p.left t) (side_at value p.right t)) → MatchResult q (λ v. items v ≡ record { span = p.span; course = record { value = b } } ∷ []) (λ e. e ≡ NoMemory) → IsGiven steady_value steady_limit steady_limit items (on_sides value value (relation rel) p) p.span (entries_of_gaps value parts gaps p) q
+  steady_given p items rel (Ok v) b k h m = (rw m (record { ordered = (record { some = k; level = λ n. refl }, tt, tt); inside = (inside_self p.span, tt); values = λ t i. rw i (ap Some (h t)) }), steady_first p)
+  steady_given p items rel (Err f) b k h m = rw m tt
 
-  gap_none : (t : Ratio) → piece_gaps value gaps p t ≡ Constant
-  gap_none t = no_gaps comparison s (side_at value p.left t) (side_at value p.right t)
+  steady_fits : (ps : List (PieceOf (SideOf C B) (SideOf C B))) → IsFirst (flat_map (entries_of_gaps value parts gaps) ps) None
+  steady_fits [] = refl
+  steady_fits (p ∷ ps) = first_joined (entries_of_gaps value parts gaps p) (flat_map (entries_of_gaps value parts gaps) ps) None (steady_first p) (steady_fits ps)
 
-  fit_by : (xs : List Ratio) → xs ≡ [] → AllFit xs
-  fit_by xs e = rw e tt
-
-  steady_first : IsFirst (entries_of_gaps value parts gaps p) None
-  steady_first = inl (
-    fit_by (at_ends (side_parts parts p.left) p.span ++ at_ends (side_parts parts p.right) p.span) (none_by (at_ends (side_parts parts p.left) p.span) (at_ends (side_parts parts p.right) p.span) (ends_none (side_parts parts p.left) (side_none p.left)) (ends_none (side_parts parts p.right) (side_none p.right))),
-    inl (
-      fit_by (at_ends (λ t. gap_parts (piece_gaps value gaps p t)) p.span) (ends_none (λ t. gap_parts (piece_gaps value gaps p t)) (λ t. ap gap_parts (gap_none t))),
-      subst (λ z. IsFirst (entry_of_roots p.span z ∷ []) None) (sym (ap (λ h. gap_ends h (piece_gaps value gaps p p.span.upper)) (gap_none p.span.lower))) (inl (tt, refl)),
-    ),
-  )
-
-  pub steady_given : {V : Type 0} (items : V → List (Slice (Steady Bool))) (rel : Rel) (q : Result V OpFault) (b : Bool) → has_instant p.span ≡ true → ((t : Ratio) → b ≡ relation rel (side_at value p.left t) (side_at value p.right t)) → MatchResult q (λ v. items v ≡ record { span = p.span; course = record { value = b } } ∷ []) (λ e. e ≡ NoMemory) → IsGiven steady_value steady_limit steady_limit items (on_sides value value (relation rel) p) p.span (entries_of_gaps value parts gaps p) q
-  steady_given items rel (Ok v) b k h m = (rw m (record { ordered = (record { some = k; level = λ n. refl }, tt, tt); inside = (inside_self p.span, tt); values = λ t i. rw i (ap Some (h t)) }), steady_first)
-  steady_given items rel (Err f) b k h m = rw m tt
+  -- so memory alone is refused
+  pub memory_alone : {V : Type 0} (ps : List (PieceOf (SideOf C B) (SideOf C B))) (q : Result V OpFault) → IsJudged (flat_map (entries_of_gaps value parts gaps) ps) q → IfErr q (λ e. e ≡ NoMemory)
+  memory_alone ps (Ok v) h = tt
+  memory_alone ps (Err (Passed f)) h = none_some f (one_first (flat_map (entries_of_gaps value parts gaps) ps) None (Some f) (steady_fits ps) h)
+  memory_alone ps (Err NoMemory) h = refl

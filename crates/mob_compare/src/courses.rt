@@ -1,4 +1,4 @@
-ghost use Rattle.std.specs.Prelude.{◌≡◌, true, false, ◌||◌, IfOk};
+ghost use Rattle.std.specs.Prelude.{◌≡◌, true, false, ◌||◌, IfOk, IfErr};
 ghost use Rattle.std.specs.List.{flat_map};
 ghost use Rattle.mob_slice.specs.Comparison.{MayAsk};
 ghost use Rattle.mob_slice.specs.Operands.{IsPointwise, steady_value, steady_limit};
@@ -82,6 +82,7 @@ where
     requires moving { (has_slices (operand_of a) || has_slices (operand_of b)) ≡ true }
     ensures slices { IfOk result (λ all. AreLifted C.value_of C.value_of steady_value steady_limit steady_limit (C.relation rel) (operand_of a.entry) (operand_of b.entry) all.items) }
     ensures first { IsJudged (flat_map (entries_of_gaps C.value_of C.parts_of C.gaps_of) (pieces (operand_of a.entry) (operand_of b.entry))) result }
+    ensures memory { C.STEADY ≡ true → IfErr result (λ e. e ≡ OpFault.NoMemory) }
 {
     lift(
         alloc,
@@ -98,7 +99,7 @@ where
 /// exactly where there is no such instant. An order relation is asked only of values that have an order.
 ///
 /// `Passed` names the formula of the first entry that has a part that does not fit: on each piece that the operands share,
-/// F1 at its ends, then F2, the gaps there, then F3, the roots of the gaps. Steady courses have no formula.
+/// F1 at its ends, then F2, the gaps there, then F3, the roots of the gaps. Steady courses have no formula, and memory is the one refusal there.
 pub fn compare<C: Compared + Drop>(
     alloc: Global,
     a: Operand<'_, C>,
@@ -111,6 +112,7 @@ where
     requires moving { (has_slices (operand_of a) || has_slices (operand_of b)) ≡ true }
     ensures value { IfOk result (λ r. IsPointwise steady_value (C.relation rel) (given_at C.value_of (operand_of a.entry)) (given_at C.value_of (operand_of b.entry)) r) }
     ensures first { IsJudged (flat_map (entries_of_gaps C.value_of C.parts_of C.gaps_of) (pieces (operand_of a.entry) (operand_of b.entry))) result }
+    ensures memory { C.STEADY ≡ true → IfErr result (λ e. e ≡ OpFault.NoMemory) }
 {
     let slices = compared::<C>(alloc, a, b, rel)?;
     match normal(alloc, slices) {

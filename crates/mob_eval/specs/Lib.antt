@@ -6,6 +6,10 @@ pub mod Coordinates
 pub mod Times
 pub mod Types
 pub mod Lifted
+pub mod Lines
+pub mod Signs
+pub mod Arithmetic
+pub mod ByValue
 pub mod Operators
 pub mod Evaluation
 pub mod Values

@@ -1,24 +1,20 @@
 -- The operators on temporal values: at each instant the ordinary operator on the operands, where both have a value, and
 -- NULL where at no instant both have one. A base value beside a temporal one has itself at every instant.
-use Rattle.std.specs.Prelude.{◌≡◌, Bool, not, ℕ, List, Option, Some, None, MatchOption, option_map}
+use Rattle.std.specs.Prelude.{◌≡◌, Bool, not, ℕ, List, [], Option, Some, None, MatchOption, option_map}
+use Rattle.std.specs.List.{flat_map}
 use Rattle.mob_ratio.specs.Ratio.{Ratio}
 use Rattle.mob_ratio.specs.Order.{same}
+use Rattle.mob_span.specs.Meets.{PieceOf}
 use Rattle.mob_slice.specs.CourseOf.{steady_course}
 use Rattle.mob_slice.specs.Operands.{steady_value, IsPointwise}
-use Rattle.mob_slice.specs.Sides.{OperandOf, Slices, Base, operand_of, given_at}
+use Rattle.mob_slice.specs.Entries.{Entry}
+use Rattle.mob_slice.specs.Sides.{SideOf, OperandOf, Slices, Base, operand_of, given_at, pieces}
 use Rattle.mob_slice.specs.Sameness.{same_bool, same_bytes}
-use Rattle.mob_slice.specs.Ranks.{holds, compare_ratio, compare_bool, compare_bytes}
 use Rattle.mob_slice.specs.declared.steady.Steady.{Steady}
-use Rattle.mob_slice.specs.declared.comparison.Rel.{Rel}
 use Rattle.mob_slice.specs.declared.operand.Operand.{Operand}
-use Rattle.mob_ast.specs.declared.types.SqlType.{SqlType}
-use Rattle.mob_ast.specs.declared.types.SqlType.TheVariants as sql
-use Rattle.mob_ast.specs.declared.types.Cmp.{Cmp}
-use Rattle.mob_ast.specs.declared.types.Cmp.TheVariants as cmp
 use Rattle.mob_value.specs.declared.value.Value.{Value}
 use Rattle.mob_value.specs.declared.value.Value.TheVariants.{Null, Bool as Truth, Number, Text, MovingBool, MovingInt, MovingText}
 use Rattle.mob_eval.specs.Moving.{StepSlices, OverTime, step_function, AreNormalBy, IsFunction, IsFunctionOrNull}
-use Rattle.mob_eval.specs.Ordinary.{rel_of}
 
 -- the slices are normal, where `is_same` tells whether two values are one
 abbrev pub AreNormalSteps : {B : Type 0} → (B → B → Bool) → StepSlices B → Type 0
@@ -71,38 +67,21 @@ text_pair (Text a) (MovingText b) = Some (Base a, Slices b)
 text_pair _ _ = None
 
 -- what contracts see of two operands
-abbrev pub operands_of : {B : Type 0} → Operand (Steady B) B × Operand (Steady B) B → StepOperand B × StepOperand B
+abbrev pub operands_of : {A X B Y : Type 0} → Operand A X × Operand B Y → OperandOf A X × OperandOf B Y
 operands_of p = (operand_of p.0, operand_of p.1)
 
--- what holds of v where the operands are such a pair; and NULL where they are none
+-- What holds of v where the operands are a pair, each of a course with these values; and NULL where they are none.
+abbrev pub OnOperands : {A X B Y : Type 0} → (A → Ratio → Ratio → Ratio → X) → (B → Ratio → Ratio → Ratio → Y) → Option (OperandOf A X × OperandOf B Y) → (OverTime X → OverTime Y → Value → Type 0) → Value → Type 0
+OnOperands value value' pair row v = MatchOption pair (v ≡ Null) (λ p. row (given_at value p.0) (given_at value' p.1) v)
+
+-- the same of two that go by steps
 abbrev pub OnPair : {B : Type 0} → Pair B → (OverTime B → OverTime B → Value → Type 0) → Value → Type 0
-OnPair pair row v = MatchOption pair (v ≡ Null) (λ p. row (over_time p.0) (over_time p.1) v)
+OnPair pair row v = OnOperands steady_value steady_value pair row v
 
-abbrev pub number_test : Rel → Ratio → Ratio → Bool
-number_test r x y = holds r (compare_ratio x y)
-
-abbrev pub text_test : Rel → List ℕ → List ℕ → Bool
-text_test r x y = holds r (compare_bytes x y)
-
-abbrev pub truth_test : Rel → Bool → Bool → Bool
-truth_test r x y = holds r (compare_bool x y)
-
--- a comparison at each instant of operands that meet in this type: whole numbers, or texts
-abbrev pub IsOrderTest : Rel → Option SqlType → Value → Value → Value → Type 0
-IsOrderTest r (Some sql.TInt) a b v = OnPair (number_pair a b) (IsMovingBool (number_test r)) v
-IsOrderTest r (Some sql.TText) a b v = OnPair (text_pair a b) (IsMovingBool (text_test r)) v
-IsOrderTest r _ a b v = v ≡ Null
-
--- the same, also of truth values
-abbrev pub IsAnyTest : Rel → Option SqlType → Value → Value → Value → Type 0
-IsAnyTest r (Some sql.TBool) a b v = OnPair (truth_pair a b) (IsMovingBool (truth_test r)) v
-IsAnyTest r met a b v = IsOrderTest r met a b v
-
--- The six comparisons at each instant, of operands that meet in a type or in none. Truth values are equal or not, and have no order here.
-abbrev pub IsLiftedTest : Cmp → Option SqlType → Value → Value → Value → Type 0
-IsLiftedTest cmp.Eq met a b v = IsAnyTest (rel_of cmp.Eq) met a b v
-IsLiftedTest cmp.Ne met a b v = IsAnyTest (rel_of cmp.Ne) met a b v
-IsLiftedTest c met a b v = IsOrderTest (rel_of c) met a b v
+-- the entries of an operator on two operands: those on each piece that they share
+abbrev pub entries_on : {A X B Y : Type 0} → (PieceOf (SideOf A X) (SideOf B Y) → List Entry) → Option (OperandOf A X × OperandOf B Y) → List Entry
+entries_on entries None = []
+entries_on entries (Some p) = flat_map entries (pieces p.0 p.1)
 
 -- the other truth value at each instant
 abbrev pub IsLiftedNot : Value → Value → Type 0

@@ -1,17 +1,10 @@
 -- What each operator gives, on numbers of any size, and which formula it passes: by its type, the types of its operands and the values of
 -- those that were evaluated. An operator that is not built, types that it does not take, and a count of operands that no operator has, give
 -- NULL. No typed script has any of these.
-use Rattle.std.specs.Prelude.{◌≡◌, true, false, cond, not, ℤ, List, [], ◌∷◌, Option, Some, None, option_map}
-use Rattle.std.specs.List.{flat_map}
-use Rattle.mob_ratio.specs.Ratio.{Ratio, ◌/ℚ◌}
-use Rattle.mob_frac.specs.Formula.{sum_parts, difference_parts, product_parts, quotient_parts}
-use Rattle.mob_arith.specs.Operations.{sum_of, difference_of, product_of, both_hold, one_holds, text_of}
-use Rattle.mob_arith.specs.Termwise.{entries_at_ends}
-use Rattle.mob_slice.specs.Operands.{steady_value, steady_parts}
-use Rattle.mob_slice.specs.Sides.{pieces}
+use Rattle.std.specs.Prelude.{◌≡◌, true, false, not, ℤ, List, [], ◌∷◌, Option, None, option_map}
+use Rattle.mob_arith.specs.Operations.{both_hold, one_holds, text_of}
 use Rattle.mob_slice.specs.Entries.{Entry, IsFirst}
 use Rattle.mob_slice.specs.declared.formula.Formula.{Formula}
-use Rattle.mob_slice.specs.declared.formula.Formula.TheVariants.{F2}
 use Rattle.mob_ast.specs.declared.types.SqlType.{SqlType}
 use Rattle.mob_ast.specs.declared.types.SqlType.TheVariants as sql
 use Rattle.mob_operators.specs.declared.operator.Op.{Op}
@@ -19,34 +12,17 @@ use Rattle.mob_operators.specs.declared.operator.Op.TheVariants as op
 use Rattle.mob_value.specs.declared.value.Value.{Value}
 use Rattle.mob_value.specs.declared.value.Value.TheVariants.{Null, Bool as Truth, Number, Text, Point, Span, SpanSet, MovingBool, MovingInt, MovingFrac, MovingText, MovingPoint}
 use Rattle.mob_literal.specs.SqlText.{value_text}
+use Rattle.mob_eval.specs.declared.arithmetic.Calculation.TheVariants.{Sum, Difference, Product}
+use Rattle.mob_eval.specs.declared.signs.Scope.TheVariants.{Each, Ever, Always}
 use Rattle.mob_eval.specs.Scene.{Scene, leaf_value}
-use Rattle.mob_eval.specs.Ordinary.{truth_of, known, conjunction, disjunction, is_null, IsTest, negated, unchanged, is_nil}
+use Rattle.mob_eval.specs.Ordinary.{truth_of, known, conjunction, disjunction, is_null, IsTest, negated, unchanged}
+use Rattle.mob_eval.specs.Arithmetic.{IsArithmetic, IsDivided, arithmetic_entries, divided_entries}
+use Rattle.mob_eval.specs.ByValue.{IsValueRestriction, value_entries}
 use Rattle.mob_eval.specs.Coordinates.{IsEast, IsNorth}
 use Rattle.mob_eval.specs.Times.{IsTimeRestriction, restriction_entries, look_up, look_entries, IsDefinedTime, IsTrueTime}
 use Rattle.mob_eval.specs.Types.{meeting, IsCast}
-use Rattle.mob_eval.specs.Lifted.{Pair, IsMovingBool, IsMovingInt, IsMovingText, OnPair, truth_pair, number_pair, text_pair, IsLiftedTest, IsLiftedNot}
-
--- an operation on two plain numbers
-abbrev pub on_numbers : (Ratio → Ratio → Ratio) → Value → Value → Value
-on_numbers f (Number a) (Number b) = Number (f a b)
-on_numbers f _ _ = Null
-
--- an operation on numbers with a result of this type: on plain numbers, or at each instant
-abbrev pub IsArithmetic : (Ratio → Ratio → Ratio) → SqlType → Value → Value → Value → Type 0
-IsArithmetic f sql.Int a b v = v ≡ on_numbers f a b
-IsArithmetic f sql.Numeric a b v = v ≡ on_numbers f a b
-IsArithmetic f sql.TInt a b v = OnPair (number_pair a b) (IsMovingInt f) v
-IsArithmetic f _ a b v = v ≡ Null
-
--- a number divided by another, which is NULL where the divisor is 0; typing lets no such divisor through
-abbrev pub quotient : Value → Value → Value
-quotient (Number a) (Number b) = cond (is_nil b) Null (Number (a /ℚ b))
-quotient _ _ = Null
-
--- `/` with a result of this type
-abbrev pub divided : SqlType → Value → Value → Value
-divided sql.Numeric a b = quotient a b
-divided _ a b = Null
+use Rattle.mob_eval.specs.Signs.{IsSignTest, sign_entries}
+use Rattle.mob_eval.specs.Lifted.{IsMovingBool, IsMovingText, OnPair, truth_pair, text_pair, IsLiftedNot}
 
 -- the first text followed by the second
 abbrev pub concatenation : Value → Value → Value
@@ -94,16 +70,20 @@ abbrev pub GivesOfTwo : Op → SqlType → List SqlType → Value → Value → 
 GivesOfTwo op.And ty ts a b v = v ≡ known (conjunction (truth_of a) (truth_of b))
 GivesOfTwo op.Or ty ts a b v = v ≡ known (disjunction (truth_of a) (truth_of b))
 GivesOfTwo (op.Test c) ty ts a b v = IsTest c a b v
-GivesOfTwo op.Add ty ts a b v = IsArithmetic sum_of ty a b v
-GivesOfTwo op.Subtract ty ts a b v = IsArithmetic difference_of ty a b v
-GivesOfTwo op.Multiply ty ts a b v = IsArithmetic product_of ty a b v
-GivesOfTwo op.Divide ty ts a b v = v ≡ divided ty a b
+GivesOfTwo op.Add ty ts a b v = IsArithmetic Sum ty a b v
+GivesOfTwo op.Subtract ty ts a b v = IsArithmetic Difference ty a b v
+GivesOfTwo op.Multiply ty ts a b v = IsArithmetic Product ty a b v
+GivesOfTwo op.Divide ty ts a b v = IsDivided ty a b v
 GivesOfTwo op.Join ty ts a b v = IsJoined ty a b v
 GivesOfTwo op.LiftedAnd ty ts a b v = OnPair (truth_pair a b) (IsMovingBool both_hold) v
 GivesOfTwo op.LiftedOr ty ts a b v = OnPair (truth_pair a b) (IsMovingBool one_holds) v
-GivesOfTwo (op.Lifted c) ty ts a b v = IsLiftedTest c (meeting ts) a b v
+GivesOfTwo (op.Lifted c) ty ts a b v = IsSignTest Each c (meeting ts) a b v
+GivesOfTwo (op.Ever c) ty ts a b v = IsSignTest Ever c (meeting ts) a b v
+GivesOfTwo (op.Always c) ty ts a b v = IsSignTest Always c (meeting ts) a b v
 GivesOfTwo op.AtTime ty ts a b v = IsTimeRestriction true a b v
 GivesOfTwo op.MinusTime ty ts a b v = IsTimeRestriction false a b v
+GivesOfTwo op.AtValues ty ts a b v = IsValueRestriction true a b v
+GivesOfTwo op.MinusValues ty ts a b v = IsValueRestriction false a b v
 GivesOfTwo op.ValueAtTimestamp ty ts a b v = v ≡ look_up a b
 GivesOfTwo _ ty ts a b v = v ≡ Null
 
@@ -114,44 +94,19 @@ OperatorGives s o ty ts (a ∷ []) v = GivesOfOne s o ty ts a v
 OperatorGives s o ty ts (a ∷ b ∷ []) v = GivesOfTwo o ty ts a b v
 OperatorGives s o ty ts (a ∷ b ∷ c ∷ rest) v = v ≡ Null
 
--- the entry of an operation on two plain numbers: F2
-abbrev pub plain_entries : List Ratio → List Entry
-plain_entries parts = record { formula = F2; parts = parts } ∷ []
-
--- the parts of an operation on two plain numbers
-abbrev pub parts_on : (Ratio → Ratio → List Ratio) → Value → Value → List Ratio
-parts_on parts (Number a) (Number b) = parts a b
-parts_on parts _ _ = []
-
--- the entries of an operation on two numbers of which one is temporal: those on each piece that they share
-abbrev pub paired_entries : (Ratio → Ratio → List Ratio) → Pair Ratio → List Entry
-paired_entries parts None = []
-paired_entries parts (Some p) = flat_map (entries_at_ends steady_value steady_parts steady_value steady_parts parts) (pieces p.0 p.1)
-
--- the entries of an operation on numbers with a result of this type
-abbrev pub arithmetic_entries : (Ratio → Ratio → List Ratio) → SqlType → Value → Value → List Entry
-arithmetic_entries parts sql.Int a b = plain_entries (parts_on parts a b)
-arithmetic_entries parts sql.Numeric a b = plain_entries (parts_on parts a b)
-arithmetic_entries parts sql.TInt a b = paired_entries parts (number_pair a b)
-arithmetic_entries parts _ a b = []
-
--- a quotient has no part where the divisor is 0
-abbrev pub divided_parts : Ratio → Ratio → List Ratio
-divided_parts a b = cond (is_nil b) [] (quotient_parts a b)
-
--- the entries of `/` with a result of this type
-abbrev pub divided_entries : SqlType → Value → Value → List Entry
-divided_entries sql.Numeric a b = plain_entries (parts_on divided_parts a b)
-divided_entries _ a b = []
-
 -- the entries of an operator on two operands
 abbrev pub entries_of_two : Op → SqlType → List SqlType → Value → Value → List Entry
-entries_of_two op.Add ty ts a b = arithmetic_entries sum_parts ty a b
-entries_of_two op.Subtract ty ts a b = arithmetic_entries difference_parts ty a b
-entries_of_two op.Multiply ty ts a b = arithmetic_entries product_parts ty a b
+entries_of_two op.Add ty ts a b = arithmetic_entries Sum ty a b
+entries_of_two op.Subtract ty ts a b = arithmetic_entries Difference ty a b
+entries_of_two op.Multiply ty ts a b = arithmetic_entries Product ty a b
 entries_of_two op.Divide ty ts a b = divided_entries ty a b
+entries_of_two (op.Lifted c) ty ts a b = sign_entries Each c (meeting ts) a b
+entries_of_two (op.Ever c) ty ts a b = sign_entries Ever c (meeting ts) a b
+entries_of_two (op.Always c) ty ts a b = sign_entries Always c (meeting ts) a b
 entries_of_two op.AtTime ty ts a b = restriction_entries a b
 entries_of_two op.MinusTime ty ts a b = restriction_entries a b
+entries_of_two op.AtValues ty ts a b = value_entries a b
+entries_of_two op.MinusValues ty ts a b = value_entries a b
 entries_of_two op.ValueAtTimestamp ty ts a b = look_entries a b
 entries_of_two _ ty ts a b = []
 

@@ -8,8 +8,8 @@ use Rattle.mob_value.specs.declared.value.Value.TheVariants.{Null}
 use Rattle.mob_eval.specs.Coordinates.{IsWidened}
 use Rattle.mob_eval.specs.Ordinary.{unchanged}
 
--- The temporal type in which two operands are compared at each instant: one of them at least has it, and the other has it too or has its
--- base. A tint and a numeric meet in no type that is built.
+-- The temporal type in which two operands are compared: one of them at least is temporal, and each has it or its base, or is a tint or an
+-- int, whose values are numbers too, beside a tfrac or a numeric.
 abbrev pub common_type : SqlType → SqlType → Option SqlType
 common_type sql.TBool sql.TBool = Some sql.TBool
 common_type sql.TBool sql.Bool = Some sql.TBool
@@ -17,9 +17,21 @@ common_type sql.Bool sql.TBool = Some sql.TBool
 common_type sql.TInt sql.TInt = Some sql.TInt
 common_type sql.TInt sql.Int = Some sql.TInt
 common_type sql.Int sql.TInt = Some sql.TInt
+common_type sql.TInt sql.Numeric = Some sql.TFrac
+common_type sql.Numeric sql.TInt = Some sql.TFrac
+common_type sql.TFrac sql.TFrac = Some sql.TFrac
+common_type sql.TFrac sql.TInt = Some sql.TFrac
+common_type sql.TInt sql.TFrac = Some sql.TFrac
+common_type sql.TFrac sql.Int = Some sql.TFrac
+common_type sql.Int sql.TFrac = Some sql.TFrac
+common_type sql.TFrac sql.Numeric = Some sql.TFrac
+common_type sql.Numeric sql.TFrac = Some sql.TFrac
 common_type sql.TText sql.TText = Some sql.TText
 common_type sql.TText sql.Text = Some sql.TText
 common_type sql.Text sql.TText = Some sql.TText
+common_type sql.TPoint sql.TPoint = Some sql.TPoint
+common_type sql.TPoint sql.Point = Some sql.TPoint
+common_type sql.Point sql.TPoint = Some sql.TPoint
 common_type _ _ = None
 
 -- the same of the operands of an operator that has two

@@ -7,11 +7,12 @@ ghost use Rattle.mob_value.specs.declared.value.Value.TheVariants.{Number};
 ghost use Rattle.mob_slice.specs.Operands.{steady_value, steady_parts, IsPointwise};
 ghost use Rattle.mob_slice.specs.Sides.{operand_of, has_slices, given_at, pieces};
 ghost use Rattle.mob_eval.specs.Ordinary.{negated, unchanged, is_nil};
-ghost use Rattle.mob_eval.specs.Operators.{IsArithmetic, arithmetic_entries, paired_entries, plain_entries, on_numbers, quotient, divided, divided_parts, divided_entries, parts_on};
-ghost use Rattle.mob_eval.specs.Lifted.{IsMovingInt, OnPair, number_pair};
+ghost use Rattle.mob_eval.specs.Arithmetic.{IsArithmetic, arithmetic_entries, plain_entries, on_numbers, quotient, IsDivided, divided_parts, divided_entries, parts_on};
+ghost use Rattle.mob_eval.specs.Lifted.{IsMovingInt, OnPair, entries_on, number_pair};
 ghost use Rattle.mob_eval.specs.Calculations.{result_by, parts_by};
 ghost use Rattle.mob_slice.specs.Entries.{IsFirst, IsJudged, OnFormula};
 
+use crate::line_arithmetic::{line_calculated, line_divided};
 use crate::pair::number_pair;
 use crate::temporal::int_or_null;
 use mob_arith::{minus, plus, times};
@@ -80,8 +81,8 @@ fn lifted(
 // On two values of which one is a tint.
 fn moving(alloc: Global, by: Calculation, left: &Value, right: &Value) -> Result<Value, OpFault>
     ensures value { IfOk result (λ v. OnPair (number_pair left.now right.now) (IsMovingInt (result_by by)) v) }
-    ensures fits { IfOk result (λ _. IsFirst (paired_entries (parts_by by) (number_pair left.now right.now)) None) }
-    ensures fault { IfErr result (OnFormula (λ f. IsFirst (paired_entries (parts_by by) (number_pair left.now right.now)) (Some f))) }
+    ensures fits { IfOk result (λ _. IsFirst (entries_on (entries_at_ends steady_value steady_parts steady_value steady_parts (parts_by by)) (number_pair left.now right.now)) None) }
+    ensures fault { IfErr result (OnFormula (λ f. IsFirst (entries_on (entries_at_ends steady_value steady_parts steady_value steady_parts (parts_by by)) (number_pair left.now right.now)) (Some f))) }
 {
     match number_pair(left, right) {
         Some((left, right)) => match lifted(alloc, by, left, right) {
@@ -100,19 +101,21 @@ pub fn calculate(
     left: &Value,
     right: &Value,
 ) -> Result<Value, OpFault>
-    ensures value { IfOk result (λ v. IsArithmetic (result_by by) ty left.now right.now v) }
-    ensures fits { IfOk result (λ _. IsFirst (arithmetic_entries (parts_by by) ty left.now right.now) None) }
-    ensures fault { IfErr result (OnFormula (λ f. IsFirst (arithmetic_entries (parts_by by) ty left.now right.now) (Some f))) }
+    ensures value { IfOk result (λ v. IsArithmetic by ty left.now right.now v) }
+    ensures fits { IfOk result (λ _. IsFirst (arithmetic_entries by ty left.now right.now) None) }
+    ensures fault { IfErr result (OnFormula (λ f. IsFirst (arithmetic_entries by ty left.now right.now) (Some f))) }
 {
     match ty {
         SqlType::Int => plain(by, left, right),
         SqlType::Numeric => plain(by, left, right),
         SqlType::TInt => moving(alloc, by, left, right),
+        SqlType::TFrac => line_calculated(alloc, by, left, right),
         _ => Ok(Value::Null),
     }
 }
 
-fn is_nil(number: &Frac) -> bool
+/// Whether a number is 0.
+pub fn is_nil(number: &Frac) -> bool
     ensures value { result ≡ is_nil number.now }
 {
     number.is_zero()
@@ -147,13 +150,19 @@ fn plain_division(left: &Value, right: &Value) -> Result<Value, OpFault>
 }
 
 /// `/` between two values, with a result of this type. NULL where the divisor is 0.
-pub fn division(ty: SqlType, left: &Value, right: &Value) -> Result<Value, OpFault>
-    ensures value { IfOk result (λ v. v ≡ divided ty left.now right.now) }
+pub fn division(
+    alloc: Global,
+    ty: SqlType,
+    left: &Value,
+    right: &Value,
+) -> Result<Value, OpFault>
+    ensures value { IfOk result (λ v. IsDivided ty left.now right.now v) }
     ensures fits { IfOk result (λ _. IsFirst (divided_entries ty left.now right.now) None) }
     ensures fault { IfErr result (OnFormula (λ f. IsFirst (divided_entries ty left.now right.now) (Some f))) }
 {
     match ty {
         SqlType::Numeric => plain_division(left, right),
+        SqlType::TFrac => line_divided(alloc, left, right),
         _ => Ok(Value::Null),
     }
 }

@@ -4,6 +4,7 @@
 mod apply;
 mod arithmetic;
 mod asked;
+mod by_value;
 mod casting;
 mod comparison;
 mod condition;
@@ -14,6 +15,8 @@ mod fault;
 mod held;
 pub mod laws;
 mod lifting;
+mod line_arithmetic;
+mod lines;
 mod logic;
 mod look;
 mod meeting;
@@ -23,7 +26,9 @@ mod printed;
 mod query_fault;
 mod restriction;
 mod scene;
+mod signs;
 mod temporal;
+mod unfailing;
 mod walk;
 
 pub use condition::holds;

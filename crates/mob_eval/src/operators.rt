@@ -1,5 +1,5 @@
 //! Each operator, on the values of its operands.
-ghost use Rattle.std.specs.Prelude.{◌≡◌, IfOk, IfErr, MatchResult, None, Some, Ok, Err};
+ghost use Rattle.std.specs.Prelude.{◌≡◌, IfOk, IfErr, None, Some};
 ghost use Rattle.mob_eval.specs.Views.{scene_of};
 ghost use Rattle.mob_eval.specs.Operators.{GivesOfOne, GivesOfTwo, entries_of_two};
 ghost use Rattle.mob_eval.specs.SoFar.{operand_types};
@@ -7,18 +7,21 @@ ghost use Rattle.mob_slice.specs.Entries.{IsFirst, OnFormula};
 ghost use Rattle.mob_eval.specs.Held.{held};
 
 use crate::arithmetic::{Calculation, calculate, division, negation, unchanged};
+use crate::by_value::value_restriction;
 use crate::casting::cast;
 use crate::comparison::test;
 use crate::coordinates::{east, north};
 use crate::defined::{defined_time, true_time};
 use crate::held::{Held, made};
-use crate::lifting::{join, lifted_and, lifted_not, lifted_or, lifted_test};
+use crate::lifting::{join, lifted_and, lifted_not, lifted_or};
 use crate::logic::{conjunction, disjunction, is_null, known, negation as contrary, truth_of};
 use crate::look::look_up;
 use crate::meeting::meeting;
 use crate::printed::as_text;
 use crate::restriction::restriction;
 use crate::scene::View;
+use crate::signs::{Scope, sign_test};
+use crate::unfailing::without_formula;
 use mob_ast::SqlType;
 use mob_operators::Op;
 use mob_slice::OpFault;
@@ -57,16 +60,6 @@ pub fn of_one<'a>(
     }
 }
 
-// A value, where no formula can be passed.
-fn without_formula(value: Result<Value, AllocError>) -> Result<Value, OpFault>
-    ensures value { MatchResult value (λ v. result ≡ Ok v) (λ _. result ≡ Err OpFault.NoMemory) }
-{
-    match value {
-        Ok(value) => Ok(value),
-        Err(_) => Err(OpFault::NoMemory),
-    }
-}
-
 /// An operator on two operands, or its first formula with a part that does not fit.
 pub fn of_two(
     alloc: Global,
@@ -87,13 +80,17 @@ pub fn of_two(
         Op::Add => calculate(alloc, Calculation::Sum, ty, left, right),
         Op::Subtract => calculate(alloc, Calculation::Difference, ty, left, right),
         Op::Multiply => calculate(alloc, Calculation::Product, ty, left, right),
-        Op::Divide => division(ty, left, right),
+        Op::Divide => division(alloc, ty, left, right),
         Op::Join => without_formula(join(alloc, ty, left, right)),
         Op::LiftedAnd => without_formula(lifted_and(alloc, left, right)),
         Op::LiftedOr => without_formula(lifted_or(alloc, left, right)),
-        Op::Lifted(sign) => without_formula(lifted_test(alloc, sign, meeting(args), left, right)),
+        Op::Lifted(sign) => sign_test(alloc, Scope::Each, sign, meeting(args), left, right),
+        Op::Ever(sign) => sign_test(alloc, Scope::Ever, sign, meeting(args), left, right),
+        Op::Always(sign) => sign_test(alloc, Scope::Always, sign, meeting(args), left, right),
         Op::AtTime => restriction(alloc, true, left, right),
         Op::MinusTime => restriction(alloc, false, left, right),
+        Op::AtValues => value_restriction(alloc, true, left, right),
+        Op::MinusValues => value_restriction(alloc, false, left, right),
         Op::ValueAtTimestamp => look_up(alloc, left, right),
         _ => Ok(Value::Null),
     }

@@ -1,18 +1,26 @@
 -- The formulas of a piece.
-use Rattle.std.specs.Prelude.{◌≡◌, List, ◌++◌, Option, Some, None, refl}
+use Rattle.std.specs.Prelude.{◌≡◌, Bool, true, List, [], ◌∷◌, ◌++◌, Option, Some, None, Result, Ok, Err, IsOk, refl}
+use Rattle.std.specs.List.{flat_map}
 use Rattle.std.proofs.Common.{ap, sym, ◌∙◌, subst, inl, inr}
 use Rattle.mob_ratio.specs.Ratio.{Ratio}
 use Rattle.mob_frac.specs.Formula.{AllFit}
 use Rattle.mob_span.specs.Meets.{PieceOf}
-use Rattle.mob_slice.specs.Comparison.{gap_parts}
+use Rattle.mob_slice.specs.Course.{IsCourse}
+use Rattle.mob_slice.specs.Comparison.{IsComparison, gap_parts}
 use Rattle.mob_slice.specs.Sides.{SideOf, side_at, side_parts, at_ends, HasValues}
 use Rattle.mob_slice.specs.Entries.{IsFirst}
+use Rattle.mob_slice.specs.declared.comparison.Rel.{Rel}
 use Rattle.mob_slice.specs.declared.comparison.Gaps.{Gaps}
 use Rattle.mob_slice.specs.declared.formula.Formula.{Formula}
 use Rattle.mob_slice.specs.declared.formula.Formula.TheVariants.{F1, F2}
+use Rattle.mob_slice.specs.declared.formula.Passed.{Passed}
 use Rattle.mob_slice.specs.declared.slice.Slice.{Slice}
 use Rattle.mob_slice.proofs.Cuts.{all_both, all_first, all_second}
+use Rattle.mob_slice.proofs.Firsts.{one_first}
+use Rattle.mob_lift.proofs.Judged.{none_some, first_joined}
 use Rattle.mob_cells.specs.Gaps.{piece_gaps, entries_of_ends}
+use Rattle.mob_cells.proofs.SteadyEnds.{steady_ends}
+use Rattle.mob_ever.specs.Sometime.{IsDecided}
 
 module _ {C B : Type 0} (value : C → Ratio → Ratio → Ratio → B) (lines : C → Ratio → Ratio → Ratio → List Ratio) (gaps : B → B → Gaps) (p : PieceOf (SideOf C B) (SideOf C B)) where
   pub left_fails : (f : Formula) → (f ≡ F1) × (¬ AllFit (at_ends (side_parts lines p.left) p.span)) → IsFirst (entries_of_ends value lines gaps p) (Some f)
@@ -40,3 +48,15 @@ module _ {C B : Type 0} (value : C → Ratio → Ratio → Ratio → B) (lines :
 
     pub all_fit : AllFit (gap_parts (gaps (start l.course) (start r.course))) → AllFit (gap_parts (gaps (end l.course) (end r.course))) → IsFirst (entries_of_ends value lines gaps p) None
     all_fit a b = inl (ends_fit, inl (all_both (gap_parts (piece_gaps value gaps p p.span.lower)) (gap_parts (piece_gaps value gaps p p.span.upper)) (subst (λ g. AllFit (gap_parts g)) low a) (subst (λ g. AllFit (gap_parts g)) high b), refl))
+
+-- ---- steady courses
+module _ {C B : Type 0} {steady copies : Bool} {value : C → Ratio → Ratio → Ratio → B} {start end : C → B} {can_make : B → B → Type 0} {make : B → B → C} {continues : C → C → Ratio → Ratio → Ratio → Bool} {parts : C → Ratio → Ratio → Ratio → List Ratio} (laws : IsCourse steady copies value start end can_make make continues parts)
+    {relation : Rel → B → B → Bool} {gaps : B → B → Gaps} {ordered : Bool} (comparison : IsComparison steady ordered value start end relation gaps) (s : steady ≡ true) where
+  steady_fits : (ps : List (PieceOf (SideOf C B) (SideOf C B))) → IsFirst (flat_map (entries_of_ends value parts gaps) ps) None
+  steady_fits [] = refl
+  steady_fits (p ∷ ps) = first_joined (entries_of_ends value parts gaps p) (flat_map (entries_of_ends value parts gaps) ps) None (steady_ends laws comparison s p) (steady_fits ps)
+
+  -- so there is an answer
+  pub always_settled : {V : Type 0} (ps : List (PieceOf (SideOf C B) (SideOf C B))) (q : Result V Passed) → IsDecided (flat_map (entries_of_ends value parts gaps) ps) q → IsOk q
+  always_settled ps (Ok v) h = refl
+  always_settled ps (Err e) h = none_some e.formula (one_first (flat_map (entries_of_ends value parts gaps) ps) None (Some e.formula) (steady_fits ps) h)

@@ -1,4 +1,4 @@
-ghost use Rattle.std.specs.Prelude.{◌≡◌, ◌||◌, true, false, IfOk, option_map, not};
+ghost use Rattle.std.specs.Prelude.{◌≡◌, ◌||◌, true, false, IfOk, IsOk, option_map, not};
 ghost use Rattle.std.specs.List.{flat_map};
 ghost use Rattle.mob_slice.specs.Comparison.{MayAsk};
 ghost use Rattle.mob_slice.specs.Sameness.{same_bool};
@@ -47,6 +47,7 @@ where
     requires moving { (has_slices (operand_of a) || has_slices (operand_of b)) ≡ true }
     ensures value { IfOk result (IsEver (λ x y. same_bool (C.relation rel x y) want) (given_at C.value_of (operand_of a.entry)) (given_at C.value_of (operand_of b.entry))) }
     ensures first { IsDecided (flat_map (entries_of_ends C.value_of C.parts_of C.gaps_of) (pieces (operand_of a.entry) (operand_of b.entry))) result }
+    ensures settled { C.STEADY ≡ true → IsOk result }
 {
     let mut found = None;
     for piece in Pieces::new(a, b) {
@@ -63,7 +64,7 @@ where
 /// exactly where there is no such instant. An order relation is asked only of values that have an order. It takes no memory.
 ///
 /// `Passed` names the formula of the first entry that has a part that does not fit: on each piece that the operands share F1 at its ends,
-/// then F2, the gaps there, also on pieces behind one that has settled the answer. Steady courses have no formula.
+/// then F2, the gaps there, also on pieces behind one that has settled the answer. Steady courses have no formula, and there is an answer always.
 pub fn ever<C: Compared + Drop>(
     alloc: Global,
     a: Operand<'_, C>,
@@ -76,6 +77,7 @@ where
     requires moving { (has_slices (operand_of a) || has_slices (operand_of b)) ≡ true }
     ensures value { IfOk result (IsEver (C.relation rel) (given_at C.value_of (operand_of a.entry)) (given_at C.value_of (operand_of b.entry))) }
     ensures first { IsDecided (flat_map (entries_of_ends C.value_of C.parts_of C.gaps_of) (pieces (operand_of a.entry) (operand_of b.entry))) result }
+    ensures settled { C.STEADY ≡ true → IsOk result }
 {
     sometime(alloc, a, b, rel, true)
 }
@@ -96,6 +98,7 @@ where
     requires moving { (has_slices (operand_of a) || has_slices (operand_of b)) ≡ true }
     ensures value { IfOk result (IsAlways (C.relation rel) (given_at C.value_of (operand_of a.entry)) (given_at C.value_of (operand_of b.entry))) }
     ensures first { IsDecided (flat_map (entries_of_ends C.value_of C.parts_of C.gaps_of) (pieces (operand_of a.entry) (operand_of b.entry))) result }
+    ensures settled { C.STEADY ≡ true → IsOk result }
 {
     match sometime(alloc, a, b, rel, false) {
         Ok(fails) => Ok(contrary(fails)),

@@ -1,5 +1,5 @@
 use Rattle.std.proofs.Common.{rules, subst, Ok, Err, Vec, Global, Bool}
-use Rattle.mob_slice.specs.Sides.{piece_of, operand_of, HoldsPiece}
+use Rattle.mob_slice.specs.Sides.{piece_of, pieces, operand_of, HoldsPiece}
 use Rattle.mob_slice.specs.declared.slice.Slice.{Slice}
 use Rattle.mob_slice.specs.declared.formula.OpFault.TheVariants.{Passed}
 use Rattle.mob_slice.proofs.Yielded.{clear_along, all_along}
@@ -9,6 +9,7 @@ use Rattle.mob_lift.proofs.Overall.{whole}
 use Rattle.mob_slice.specs.Operands.{steady_value, steady_limit}
 use Rattle.mob_slice.specs.declared.steady.Steady.{Steady}
 use Rattle.mob_compare.specs.Compared.{entries_of_gaps}
+use Rattle.mob_compare.proofs.Comparing.{memory_alone}
 use Rattle.mob_compare.proofs.courses.compared.Goals as goal
 
 pub lift-requires-clause-clear : goal.lift-requires-clause-clear
@@ -41,3 +42,6 @@ returns-clause-first g c =
     subst (λ z. IsGiven {V = Vec (Slice (Steady Bool)) Global} steady_value steady_limit steady_limit (λ v. v.items) (on_sides g.C.Course.value_of g.C.Course.value_of (g.C.Compared.relation c.args.rel) (piece_of z)) z.span (entries (piece_of z)) (Ok v)) k.1.shows at) (λ f p k.
     let at : IsGiven {V = Vec (Slice (Steady Bool)) Global} steady_value steady_limit steady_limit (λ v. v.items) (on_sides g.C.Course.value_of g.C.Course.value_of (g.C.Compared.relation c.args.rel) (piece_of k.1.shown.now)) k.1.shown.now.span (entries (piece_of k.1.shown.now)) (Err (Passed f)) = search rules in
     subst (λ z. IsGiven {V = Vec (Slice (Steady Bool)) Global} steady_value steady_limit steady_limit (λ v. v.items) (on_sides g.C.Course.value_of g.C.Course.value_of (g.C.Compared.relation c.args.rel) (piece_of z)) z.span (entries (piece_of z)) (Err (Passed f))) k.1.shows at) c.lift.ensures.lifted c.lift.ensures.passed).1
+
+pub returns-clause-memory : goal.returns-clause-memory
+returns-clause-memory g c = λ s. memory_alone g.met.C.Course.laws g.met.C.Compared.laws s (pieces (operand_of c.args.a) (operand_of c.args.b)) c.lift.result (returns-clause-first g c)

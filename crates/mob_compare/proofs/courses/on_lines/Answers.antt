@@ -1,6 +1,5 @@
-use Rattle.std.proofs.Common.{rules, ◌≡◌, ◌∙◌, sym, ap}
 use Rattle.mob_slice.specs.Sides.{piece_of}
-use Rattle.mob_compare.proofs.Comparing.{left_fails, right_fails, gaps_fail, level_gaps, lines_given}
+use Rattle.mob_compare.proofs.Comparing.{left_fails, right_fails, gaps_fail, lines_given}
 use Rattle.mob_compare.proofs.courses.on_lines.Goals as goal
 
 pub returns-in-Err : goal.returns-in-Err
