@@ -8,11 +8,6 @@ use Rattle.mob_operators.specs.Lookup.{has_type}
 abbrev pub is_built : SqlType → Bool
 is_built ty = has_type (sql.Bool ∷ sql.Int ∷ sql.Numeric ∷ sql.Text ∷ sql.Moment ∷ sql.Point ∷ sql.Span ∷ sql.SpanSet ∷ sql.TBool ∷ sql.TInt ∷ sql.TFrac ∷ sql.TText ∷ sql.TPoint ∷ []) ty
 
--- Of these the types whose operators are built, as sums and comparisons at each instant. An operator that comes with the values of a type
--- does not ask for this.
-abbrev pub has_operators : SqlType → Bool
-has_operators ty = has_type (sql.Bool ∷ sql.Int ∷ sql.Numeric ∷ sql.Text ∷ sql.Moment ∷ sql.TBool ∷ sql.TInt ∷ sql.TText ∷ []) ty
-
 -- this place, where a type stands at it whose values are not built
 abbrev pub unbuilt_at : ℕ → Option SqlType → List ℕ
 unbuilt_at p None = []

@@ -1,14 +1,10 @@
 -- Where a typed script has an operator that is not built.
 use Rattle.std.specs.Prelude.{◌&&◌, ◌||◌, not, ℕ, List, [], ◌∷◌, ◌++◌, Bool, true, false, Option, Some, None, if◌then◌else◌}
 use Rattle.std.specs.List.{flat_map, list_any}
-use Rattle.mob_ast.specs.declared.types.Cmp.{Cmp}
-use Rattle.mob_ast.specs.declared.types.Cmp.TheVariants as cmp
 use Rattle.mob_ast.specs.declared.types.SqlType.{SqlType}
-use Rattle.mob_ast.specs.declared.types.SqlType.TheVariants as sql
 use Rattle.mob_operators.specs.declared.operator.Op.{Op}
 use Rattle.mob_operators.specs.declared.operator.Op.TheVariants as op
-use Rattle.mob_operators.specs.Lookup.{has_type}
-use Rattle.mob_accept.specs.Built.{is_built, has_operators}
+use Rattle.mob_accept.specs.Built.{is_built}
 use Rattle.mob_typed.specs.Trees.{TypedTree, typed, TypedTrees, none, more, arg_types}
 use Rattle.mob_typed.specs.Selects.{Output, TypedSelectParts}
 use Rattle.mob_typed.specs.Statements.{StatementOut, nothing, new_table, new_index, new_rows, rows_from, query, plan_of}
@@ -22,11 +18,7 @@ is_leaf _ = false
 
 -- the operators that are not built for any types
 abbrev pub is_later : Op → Bool
-is_later (op.Ever c) = true
-is_later (op.Always c) = true
 is_later op.Overlap = true
-is_later op.AtValues = true
-is_later op.MinusValues = true
 is_later op.BoxOf = true
 is_later op.ExpandSpace = true
 is_later op.AtStbox = true
@@ -38,44 +30,10 @@ is_later op.EDwithin = true
 is_later op.NearestApproachSquared = true
 is_later _ = false
 
--- the comparisons that ask whether two values are the same
-abbrev pub is_sameness : Cmp → Bool
-is_sameness cmp.Eq = true
-is_sameness cmp.Ne = true
-is_sameness _ = false
-
--- The operators that come with the values of a type: whether two values are the same and whether one is there, a value as a text or in
--- another type, and of a value over time its time, its value at an instant, its part in some time, and its coordinates.
-abbrev pub comes_with_values : Op → Bool
-comes_with_values op.IsNull = true
-comes_with_values op.IsNotNull = true
-comes_with_values (op.Test c) = is_sameness c
-comes_with_values op.AsText = true
-comes_with_values op.Cast = true
-comes_with_values op.AtTime = true
-comes_with_values op.MinusTime = true
-comes_with_values op.ValueAtTimestamp = true
-comes_with_values op.GetTime = true
-comes_with_values op.WhenTrue = true
-comes_with_values op.GetX = true
-comes_with_values op.GetY = true
-comes_with_values _ = false
-
--- whether what an operator needs of a type is built: the values of the type where it comes with them, else the operators of the type
-abbrev pub is_built_for : Op → SqlType → Bool
-is_built_for o ty = if comes_with_values o then is_built ty else has_operators ty
-
-abbrev pub is_lifted : Op → Bool
-is_lifted (op.Lifted c) = true
-is_lifted _ = false
-
--- a tint beside a numeric is widened to a linear value, which is not built
-abbrev pub is_widened : Op → List SqlType → Bool
-is_widened o ts = is_lifted o && has_type ts sql.TInt && has_type ts sql.Numeric
-
--- whether an operator is not built for arguments of these types and a result of this one
+-- Whether an operator is not built for arguments of these types and a result of this one: none is for a type whose values are not built, and
+-- all others are built for every type that they take.
 abbrev pub is_unbuilt : Op → SqlType → List SqlType → Bool
-is_unbuilt o ty ts = not (is_leaf o) && (is_later o || not (is_built_for o ty) || list_any (λ t. not (is_built_for o t)) ts || is_widened o ts)
+is_unbuilt o ty ts = not (is_leaf o) && (is_later o || not (is_built ty) || list_any (λ t. not (is_built t)) ts)
 
 -- the place of an operator, where it is not built
 abbrev pub own_place : Op → SqlType → ℕ → List SqlType → List ℕ

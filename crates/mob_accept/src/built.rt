@@ -1,6 +1,6 @@
 // What is built yet, said once, by type.
 ghost use Rattle.std.specs.Prelude.{◌≡◌};
-ghost use Rattle.mob_accept.specs.Built.{has_operators, is_built, unbuilt_at};
+ghost use Rattle.mob_accept.specs.Built.{is_built, unbuilt_at};
 ghost use Rattle.mob_accept.specs.Least.{least};
 
 use mob_ast::SqlType;
@@ -23,23 +23,6 @@ pub fn is_built(ty: SqlType) -> bool
         | SqlType::TFrac
         | SqlType::TText
         | SqlType::TPoint => true,
-        _ => false,
-    }
-}
-
-// Whether the operators of a type are built, which stand on its values.
-pub fn has_operators(ty: SqlType) -> bool
-    ensures { result ≡ has_operators ty }
-{
-    match ty {
-        SqlType::Bool
-        | SqlType::Int
-        | SqlType::Numeric
-        | SqlType::Text
-        | SqlType::Moment
-        | SqlType::TBool
-        | SqlType::TInt
-        | SqlType::TText => true,
         _ => false,
     }
 }

@@ -1,16 +1,16 @@
 // Where a typed script has an operator that is not built.
 ghost use Rattle.std.specs.Prelude.{◌≡◌, not, map, option_map};
 ghost use Rattle.std.specs.List.{list_any};
-ghost use Rattle.mob_operators.specs.Lookup.{has_type};
 ghost use Rattle.mob_typed.specs.Trees.{typed_of, type_of};
 ghost use Rattle.mob_typed.specs.Selects.{select_seen};
 ghost use Rattle.mob_typed.specs.Statements.{statement_seen, script_seen};
+ghost use Rattle.mob_accept.specs.Built.{is_built};
 ghost use Rattle.mob_accept.specs.Least.{least};
-ghost use Rattle.mob_accept.specs.UnbuiltOperators.{is_leaf, is_later, is_sameness, comes_with_values, is_built_for, is_lifted, is_widened, is_unbuilt, own_place, in_typed, in_typed_condition, in_query, in_typed_statement, unbuilt_operators};
+ghost use Rattle.mob_accept.specs.UnbuiltOperators.{is_leaf, is_later, is_unbuilt, own_place, in_typed, in_typed_condition, in_query, in_typed_statement, unbuilt_operators};
 
-use crate::built::{has_operators, is_built};
+use crate::built::is_built;
 use crate::least::{Places, earlier, first_among};
-use mob_ast::{Cmp, SqlType};
+use mob_ast::SqlType;
 use mob_list::text::Text;
 use mob_typed::{Op, TExpr, Typed, TypedSelect, TypedStatement};
 
@@ -29,11 +29,7 @@ fn is_later(op: Op) -> bool
     ensures { result ≡ is_later op }
 {
     match op {
-        Op::Ever(_)
-        | Op::Always(_)
-        | Op::Overlap
-        | Op::AtValues
-        | Op::MinusValues
+        Op::Overlap
         | Op::BoxOf
         | Op::ExpandSpace
         | Op::AtStbox
@@ -47,55 +43,6 @@ fn is_later(op: Op) -> bool
     }
 }
 
-fn is_sameness(cmp: Cmp) -> bool
-    ensures { result ≡ is_sameness cmp }
-{
-    match cmp {
-        Cmp::Eq | Cmp::Ne => true,
-        _ => false,
-    }
-}
-
-// The operators that are built together with the values of a type.
-fn comes_with_values(op: Op) -> bool
-    ensures { result ≡ comes_with_values op }
-{
-    match op {
-        Op::Test(cmp) => is_sameness(cmp),
-        Op::IsNull
-        | Op::IsNotNull
-        | Op::AsText
-        | Op::Cast
-        | Op::AtTime
-        | Op::MinusTime
-        | Op::ValueAtTimestamp
-        | Op::GetTime
-        | Op::WhenTrue
-        | Op::GetX
-        | Op::GetY => true,
-        _ => false,
-    }
-}
-
-// Whether what an operator needs of a type is built.
-fn is_built_for(op: Op, ty: SqlType) -> bool
-    ensures { result ≡ is_built_for op ty }
-{
-    if comes_with_values(op) {
-        return is_built(ty);
-    }
-    has_operators(ty)
-}
-
-fn is_lifted(op: Op) -> bool
-    ensures { result ≡ is_lifted op }
-{
-    match op {
-        Op::Lifted(_) => true,
-        _ => false,
-    }
-}
-
 // The type of a typed expression.
 #[tactic(auto, using(mob_typed::proofs::TreeFacts::type_is))]
 fn type_of(e: &TExpr) -> SqlType
@@ -104,35 +51,16 @@ fn type_of(e: &TExpr) -> SqlType
     e.ty
 }
 
-// Whether one of these has this type.
-fn has_type(args: &[TExpr], ty: SqlType) -> bool
-    ensures { result ≡ has_type (map (λ e. type_of (typed_of e)) args.now) ty }
+// Whether one of these has a type whose values are not built.
+fn has_unbuilt(args: &[TExpr]) -> bool
+    ensures { result ≡ list_any (λ t. not (is_built t)) (map (λ e. type_of (typed_of e)) args.now) }
 {
     for arg in args {
-        if type_of(arg) == ty {
+        if !is_built(type_of(arg)) {
             return true;
         }
     }
     false
-}
-
-// Whether one of these has a type of which the operator needs what is not built.
-fn has_unbuilt(op: Op, args: &[TExpr]) -> bool
-    ensures { result ≡ list_any (λ t. not (is_built_for op t)) (map (λ e. type_of (typed_of e)) args.now) }
-{
-    for arg in args {
-        if !is_built_for(op, type_of(arg)) {
-            return true;
-        }
-    }
-    false
-}
-
-// A tint beside a numeric is widened to a linear value, which is not built.
-fn is_widened(op: Op, args: &[TExpr]) -> bool
-    ensures { result ≡ is_widened op (map (λ e. type_of (typed_of e)) args.now) }
-{
-    is_lifted(op) && has_type(args, SqlType::TInt) && has_type(args, SqlType::Numeric)
 }
 
 // Whether an operator is not built for these arguments and a result of this type.
@@ -142,7 +70,7 @@ fn is_unbuilt(op: Op, ty: SqlType, args: &[TExpr]) -> bool
     if is_leaf(op) {
         return false;
     }
-    is_later(op) || !is_built_for(op, ty) || has_unbuilt(op, args) || is_widened(op, args)
+    is_later(op) || !is_built(ty) || has_unbuilt(args)
 }
 
 // The place of an operator, where it is not built.
@@ -221,9 +149,8 @@ impl Places for TypedStatement {
     }
 }
 
-/// The least place of an operator that is not built: one whose result or one of whose arguments has a type whose operators are not
-/// built, or, of an operator that comes with the values of a type, whose values are not built; `?`, `%` and `&&`, the restrictions by
-/// value and in space, and a `#` sign between a tint and a numeric. The place is that of its sign, its word or its function name.
+/// The least place of an operator that is not built: `&&`, the restrictions and tests in space, boxes and nearness, and one whose result or
+/// one of whose arguments has a type whose values are not built. The place is that of its sign, its word or its function name.
 pub fn first_unbuilt_operator(typed: &Typed) -> Option<u32>
     ensures least { result ≡ least (unbuilt_operators (script_seen typed.now).statements) }
 {

@@ -1,5 +1,5 @@
 -- Worked expressions, by the definition.
-use Rattle.std.proofs.Common.{inl, inr, true, false, List, [], ◌∷◌, Some, Ok, refl, arith, ◌≡◌}
+use Rattle.std.proofs.Common.{inl, inr, true, false, List, [], ◌∷◌, map, Some, Ok, refl, arith, ◌≡◌}
 use Rattle.std.specs.Prelude.{pos}
 use Rattle.mob_ratio.specs.Ratio.{Ratio, whole, over, turned, inverse, ◌+ℚ◌, ◌*ℚ◌, neg_ℚ}
 use Rattle.mob_ratio.specs.Gcd.{gcd, gcd_steps}
@@ -11,7 +11,10 @@ use Rattle.mob_plane.specs.declared.point.Point.{Point}
 use Rattle.mob_ast.specs.declared.types.Cmp.TheVariants as cmp
 use Rattle.mob_ast.specs.declared.types.SqlType.{SqlType}
 use Rattle.mob_ast.specs.declared.types.SqlType.TheVariants as sql
+use Rattle.mob_normal.specs.Widened.{level_line}
 use Rattle.mob_slice.specs.CourseOf.{line_course, plane_course}
+use Rattle.mob_slice.specs.Lines.{line_value_of}
+use Rattle.mob_slice.specs.Sides.{Slices, Base}
 use Rattle.mob_slice.specs.declared.comparison.Rel.TheVariants as rel
 use Rattle.mob_slice.specs.declared.line.Line.{Line}
 use Rattle.mob_slice.specs.declared.line.PlaneLine.{PlaneLine}
@@ -25,7 +28,8 @@ use Rattle.mob_eval.specs.Scene.{Scene}
 use Rattle.mob_slice.specs.declared.formula.Formula.TheVariants.{F1, F2}
 use Rattle.mob_restrict.specs.Times.{is_defined}
 use Rattle.mob_eval.specs.Moving.{StepSlices, IsFunction, step_function, plane_function}
-use Rattle.mob_eval.specs.Lifted.{OnPair, number_pair, IsMovingBool, number_test}
+use Rattle.mob_eval.specs.Lifted.{OnPair, OnOperands, number_pair, IsMovingBool}
+use Rattle.mob_eval.specs.Signs.{number_test}
 use Rattle.mob_eval.specs.Operators.{OperatorGives, operator_entries, IsFirstFormula}
 use Rattle.mob_eval.specs.Times.{instant_span, IsLeftOf, AreInstantsOf, set_or_null}
 use Rattle.mob_eval.specs.Evaluation.{TreeEvaluatesTo}
@@ -104,12 +108,12 @@ to_tfrac m v h = h
 to_tint : (m : List (Slice Line)) → OperatorGives scene op.Cast sql.TInt (sql.TFrac ∷ []) (MovingFrac m ∷ []) Null
 to_tint m = refl
 
--- a tint beside an int meets it in tint; with the same values in hand, a tint beside a numeric meets it in no type that is built
+-- a tint beside an int meets it in tint; with the same values in hand, a tint beside a numeric meets it in tfrac
 beside_int : (m : StepSlices Ratio) (n : Ratio) (v : Value) → OnPair (number_pair (MovingInt m) (Number n)) (IsMovingBool (number_test rel.Lt)) v → OperatorGives scene (op.Lifted cmp.Lt) sql.TBool (sql.TInt ∷ sql.Int ∷ []) (MovingInt m ∷ Number n ∷ []) v
 beside_int m n v h = h
 
-beside_numeric : (m : StepSlices Ratio) (n : Ratio) → OperatorGives scene (op.Lifted cmp.Lt) sql.TBool (sql.TInt ∷ sql.Numeric ∷ []) (MovingInt m ∷ Number n ∷ []) Null
-beside_numeric m n = refl
+beside_numeric : (m : StepSlices Ratio) (n : Ratio) (v : Value) → OnOperands line_value_of line_value_of (Some (Slices (map level_line m), Base n)) (IsMovingBool (number_test rel.Lt)) v → OperatorGives scene (op.Lifted cmp.Lt) sql.TBool (sql.TInt ∷ sql.Numeric ∷ []) (MovingInt m ∷ Number n ∷ []) v
+beside_numeric m n v h = h
 
 -- 4611686018427387903 + 1 is 2^62, which does not fit
 a_fault : IsFirstFormula op.Add sql.Int (sql.Int ∷ sql.Int ∷ []) (Number (whole (pos 4611686018427387903)) ∷ Number (whole (pos 1)) ∷ []) (Some F2)

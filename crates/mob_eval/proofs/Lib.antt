@@ -5,9 +5,13 @@ pub mod Loops
 pub mod Nodes
 mod Counts
 pub mod Once
+pub mod OneValue
+pub mod OneSign
+pub mod OneNumber
 pub mod Single
 pub mod Values
 mod Passes
 mod Stored
 pub mod QueryFaults
 mod Examples
+mod SignExamples
