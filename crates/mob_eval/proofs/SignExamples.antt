@@ -72,7 +72,7 @@ meets_once = (Some true, ((n 1, n 1, n 1, at_one, refl, tt), ((λ e. (n 1, n 1, 
 
 -- two operands without a common instant have no answer at all
 no_time_in_common : GivesOfTwo (op.Always cmp.Eq) sql.Bool (sql.TFrac ∷ sql.TFrac ∷ []) (MovingFrac []) (MovingFrac rise) Null
-no_time_in_common = (None, ((λ h. no_value (h.1) h.3), refl))
+no_time_in_common = (None, (λ h. no_value h.1 h.3), refl)
   where
     no_value : (x : Ratio) → None ≡ Some x → ⊥
     no_value x e = cc
@@ -87,7 +87,7 @@ nothing_to_do = record { num_fits = omega arith; den_fits = omega arith }
 
 unfit_behind : IsFirstFormula (op.Ever cmp.Eq) sql.Bool (sql.TFrac ∷ sql.Int ∷ []) (MovingFrac settled ∷ Number (n 1) ∷ []) (Some F2)
 unfolding line_at line_value ◌+ℚ◌ ◌*ℚ◌ neg_ℚ inverse turned whole over gcd gcd_steps in_lowest_terms before same
-unfit_behind = inl (tt, inl ((nothing_to_do, nothing_to_do, tt), inl (tt, inr ((λ h. omega (arith, h.0.num_fits)), refl))))
+unfit_behind = inl (tt, inl ((nothing_to_do, (nothing_to_do, tt)), inl (tt, inr ((λ h. omega (arith, h.0.num_fits)), refl))))
 
 -- steps have no formula, and a tint beside a numeric has those of a line
 of_steps : (m : StepSlices Ratio) → entries_of_two (op.Lifted cmp.Lt) sql.TBool (sql.TInt ∷ sql.Int ∷ []) (MovingInt m) (Number (n 1)) ≡ []
@@ -103,7 +103,7 @@ no_product = refl
 
 -- by 0 nothing is divided
 by_nil : GivesOfTwo op.Divide sql.TFrac (sql.TFrac ∷ sql.Int ∷ []) (MovingFrac rise) (Number nil) Null
-unfolding whole over gcd gcd_steps in_lowest_terms same
+unfolding whole over gcd gcd_steps in_lowest_terms before same
 by_nil = refl
 
 -- atValues keeps the instant at which it is 1, and minusValues the others

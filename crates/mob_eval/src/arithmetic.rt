@@ -150,12 +150,7 @@ fn plain_division(left: &Value, right: &Value) -> Result<Value, OpFault>
 }
 
 /// `/` between two values, with a result of this type. NULL where the divisor is 0.
-pub fn division(
-    alloc: Global,
-    ty: SqlType,
-    left: &Value,
-    right: &Value,
-) -> Result<Value, OpFault>
+pub fn division(alloc: Global, ty: SqlType, left: &Value, right: &Value) -> Result<Value, OpFault>
     ensures value { IfOk result (λ v. IsDivided ty left.now right.now v) }
     ensures fits { IfOk result (λ _. IsFirst (divided_entries ty left.now right.now) None) }
     ensures fault { IfErr result (OnFormula (λ f. IsFirst (divided_entries ty left.now right.now) (Some f))) }

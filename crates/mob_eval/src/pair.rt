@@ -11,8 +11,11 @@ use mob_value::Value;
 
 // Two operands of a lifted operator.
 type Pair<'a, B> = (Operand<'a, Steady<B>>, Operand<'a, Steady<B>>);
+
 type LinePair<'a> = (Operand<'a, Line>, Operand<'a, Line>);
+
 type PlanePair<'a> = (Operand<'a, PlaneLine>, Operand<'a, PlaneLine>);
+
 type Factors<'a> = (Operand<'a, Line>, Operand<'a, Steady<Frac>>);
 
 /// Two truth values. None where none is temporal, or one is no truth value.
