@@ -42,8 +42,7 @@ module _ {C B : Type 0} {steady copies : Bool} {value : C → Ratio → Ratio �
 -- steps are the function of a list of lines exactly where that is the list of their level lines
 pub level_test : (a v : StepSlices Ratio) (b w : List (Slice Line)) (r : Bool) → v ≡ a → w ≡ b → AreNormalBy (steady_course same) a → AreNormalBy line_course b → IsTrue r ↔ (map level_line v ≡ w) → IsTrue r ↔ AreOneFunction (step_function a) (line_function b)
 level_test a v b w r e f n m h =
-    let level = ap (map level_line) e in
-    (
+    let level = ap (map level_line) e in (
       λ k t. sym (level_at a b (sym f ∙ sym (h.0 k) ∙ level) t),
       λ k. h.1 (level ∙ one_of_lines (map level_line a) b (level_normal a (map level_line a) n refl).chained m.chained (λ t. level_at a (map level_line a) refl t ∙ k t) ∙ sym f),
     )

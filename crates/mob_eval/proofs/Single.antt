@@ -34,7 +34,7 @@ use Rattle.mob_eval.specs.Moving.{StepSlices, OverTime, AreNormalBy, or_nothing,
 use Rattle.mob_eval.specs.Ordinary.{IsTruthOf, IsEquality, IsTest, rel_of}
 use Rattle.mob_eval.specs.Lifted.{Pair, over_time, IsLiftedValue, IsMovingBool, IsMovingInt, IsMovingText, OnPair, truth_pair, number_pair, text_pair, number_test, text_test, truth_test, IsOrderTest, IsAnyTest, IsLiftedTest, IsLiftedNot}
 use Rattle.mob_eval.specs.Operators.{OperatorGives, IsFirstFormula, IsArithmetic, IsJoined, GivesOfOne, GivesOfTwo, operator_entries}
-use Rattle.mob_eval.specs.Times.{asked_spans, IsLeftOf, IsLeft, AreInstantsOf, IsTimeOf, IsDefinedTime, set_or_null, IsTrueTime}
+use Rattle.mob_eval.specs.Times.{asked_spans, IsRestrictionOf, IsRestriction, AreInstantsOf, IsTimeOf, IsDefinedTime, set_or_null, IsTrueTime}
 use Rattle.mob_eval.specs.Types.{meeting, IsCastTo, IsCast}
 use Rattle.mob_eval.specs.Outcomes.{IsSingle}
 use Rattle.mob_eval.proofs.Functions.{OneList, one_of_steps, one_of_lines, one_of_points}
@@ -126,20 +126,20 @@ not_once (MovingBool a) v w h k = function_once (steady_course same_bool) (one_o
 not_once _ v w h k = h ∙ sym k
 
 -- what is left of slices is one value
-left_of_once : {C B : Type 0} (course : CourseOf C B) → OneList course → (make : List (Slice C) → Value) (want : Bool) (spans : List SpanOf) (slices : List (Slice C)) → Once (IsLeftOf course make want spans slices)
-left_of_once course one make want spans slices v w h k = or_null_once course one make (λ t. where_wanted want (λ x. in_some spans t) (value_at course.value slices t)) v w h k
+restriction_of_once : {C B : Type 0} (course : CourseOf C B) → OneList course → (make : List (Slice C) → Value) (want : Bool) (spans : List SpanOf) (slices : List (Slice C)) → Once (IsRestrictionOf course make want spans slices)
+restriction_of_once course one make want spans slices v w h k = or_null_once course one make (λ t. where_wanted want (λ x. in_some spans t) (value_at course.value slices t)) v w h k
 
-left_once : (want : Bool) (spans : List SpanOf) (a : Value) → Once (IsLeft want spans a)
-left_once want spans (MovingBool a) v w h k = left_of_once (steady_course same_bool) (one_of_steps same_bool same_bool_exact) MovingBool want spans a v w h k
-left_once want spans (MovingInt a) v w h k = left_of_once (steady_course same) (one_of_steps same same_exact) MovingInt want spans a v w h k
-left_once want spans (MovingFrac a) v w h k = left_of_once line_course one_of_lines MovingFrac want spans a v w h k
-left_once want spans (MovingText a) v w h k = left_of_once (steady_course same_bytes) (one_of_steps same_bytes same_bytes_exact) MovingText want spans a v w h k
-left_once want spans (MovingPoint a) v w h k = left_of_once plane_course one_of_points MovingPoint want spans a v w h k
-left_once want spans _ v w h k = h ∙ sym k
+restriction_once : (want : Bool) (spans : List SpanOf) (a : Value) → Once (IsRestriction want spans a)
+restriction_once want spans (MovingBool a) v w h k = restriction_of_once (steady_course same_bool) (one_of_steps same_bool same_bool_exact) MovingBool want spans a v w h k
+restriction_once want spans (MovingInt a) v w h k = restriction_of_once (steady_course same) (one_of_steps same same_exact) MovingInt want spans a v w h k
+restriction_once want spans (MovingFrac a) v w h k = restriction_of_once line_course one_of_lines MovingFrac want spans a v w h k
+restriction_once want spans (MovingText a) v w h k = restriction_of_once (steady_course same_bytes) (one_of_steps same_bytes same_bytes_exact) MovingText want spans a v w h k
+restriction_once want spans (MovingPoint a) v w h k = restriction_of_once plane_course one_of_points MovingPoint want spans a v w h k
+restriction_once want spans _ v w h k = h ∙ sym k
 
-asked_once : (want : Bool) (a : Value) (spans : Option (List SpanOf)) → Once (λ v. MatchOption spans (v ≡ Null) (λ s. IsLeft want s a v))
+asked_once : (want : Bool) (a : Value) (spans : Option (List SpanOf)) → Once (λ v. MatchOption spans (v ≡ Null) (λ s. IsRestriction want s a v))
 asked_once want a None v w h k = h ∙ sym k
-asked_once want a (Some spans) v w h k = left_once want spans a v w h k
+asked_once want a (Some spans) v w h k = restriction_once want spans a v w h k
 
 -- one span set has the instants of a test
 instants_once : (f : Ratio → Bool) (v w : List SpanOf) → AreInstantsOf f v → AreInstantsOf f w → v ≡ w
