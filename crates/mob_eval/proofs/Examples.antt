@@ -31,7 +31,7 @@ use Rattle.mob_eval.specs.Moving.{StepSlices, IsFunction, step_function, plane_f
 use Rattle.mob_eval.specs.Lifted.{OnPair, OnOperands, number_pair, IsMovingBool}
 use Rattle.mob_eval.specs.Signs.{number_test}
 use Rattle.mob_eval.specs.Operators.{OperatorGives, operator_entries, IsFirstFormula}
-use Rattle.mob_eval.specs.Times.{instant_span, IsLeftOf, AreInstantsOf, set_or_null}
+use Rattle.mob_eval.specs.Times.{instant_span, IsRestrictionOf, AreInstantsOf, set_or_null}
 use Rattle.mob_eval.specs.Evaluation.{TreeEvaluatesTo}
 
 -- one table with one row, (7, NULL), and the constants false, 1, 2
@@ -152,10 +152,10 @@ unfolding whole over gcd gcd_steps in_lowest_terms before same
 given_end = refl
 
 -- atTime is what is left of the way at that moment, and minusTime at all others
-at_moment : (v : Value) → IsLeftOf plane_course MovingPoint true (instant_span (whole (pos 2)) ∷ []) way v → OperatorGives scene op.AtTime sql.TPoint (sql.TPoint ∷ sql.Moment ∷ []) (look (whole (pos 2))) v
+at_moment : (v : Value) → IsRestrictionOf plane_course MovingPoint true (instant_span (whole (pos 2)) ∷ []) way v → OperatorGives scene op.AtTime sql.TPoint (sql.TPoint ∷ sql.Moment ∷ []) (look (whole (pos 2))) v
 at_moment v h = h
 
-minus_moment : (v : Value) → IsLeftOf plane_course MovingPoint false (instant_span (whole (pos 2)) ∷ []) way v → OperatorGives scene op.MinusTime sql.TPoint (sql.TPoint ∷ sql.Moment ∷ []) (look (whole (pos 2))) v
+minus_moment : (v : Value) → IsRestrictionOf plane_course MovingPoint false (instant_span (whole (pos 2)) ∷ []) way v → OperatorGives scene op.MinusTime sql.TPoint (sql.TPoint ∷ sql.Moment ∷ []) (look (whole (pos 2))) v
 minus_moment v h = h
 
 -- a text asks for no instants

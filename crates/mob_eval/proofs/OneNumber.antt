@@ -29,7 +29,7 @@ use Rattle.mob_eval.specs.Lines.{as_line, line_pair, product_pair, IsMovingFrac}
 use Rattle.mob_eval.specs.Moving.{line_function}
 use Rattle.mob_eval.specs.Ordinary.{is_nil}
 use Rattle.mob_eval.specs.Signs.{number_test, text_test, truth_test}
-use Rattle.mob_eval.specs.Times.{IsLeftOf, IsLeft}
+use Rattle.mob_eval.specs.Times.{IsRestrictionOf, IsRestriction}
 use Rattle.mob_eval.proofs.Functions.{OneList, one_of_steps, one_of_lines, one_of_points}
 use Rattle.mob_eval.proofs.OneValue.{Once, function_once, or_null_once, operands_once, pair_once, int_once, frac_once}
 
@@ -57,16 +57,16 @@ divided_once sql.TFrac a b v w h k = line_quotient_once (as_line a) b v w h k
 divided_once _ a b v w h k = h ∙ sym k
 
 -- what is left of slices is one value
-left_of_once : {C B : Type 0} (course : CourseOf C B) → OneList course → (make : List (Slice C) → Value) (want : Bool) (spans : List SpanOf) (slices : List (Slice C)) → Once (IsLeftOf course make want spans slices)
-left_of_once course one make want spans slices v w h k = or_null_once course one make (λ t. where_wanted want (λ x. in_some spans t) (value_at course.value slices t)) v w h k
+restriction_of_once : {C B : Type 0} (course : CourseOf C B) → OneList course → (make : List (Slice C) → Value) (want : Bool) (spans : List SpanOf) (slices : List (Slice C)) → Once (IsRestrictionOf course make want spans slices)
+restriction_of_once course one make want spans slices v w h k = or_null_once course one make (λ t. where_wanted want (λ x. in_some spans t) (value_at course.value slices t)) v w h k
 
-pub left_once : (want : Bool) (spans : List SpanOf) (a : Value) → Once (IsLeft want spans a)
-left_once want spans (MovingBool a) v w h k = left_of_once (steady_course same_bool) (one_of_steps same_bool same_bool_exact) MovingBool want spans a v w h k
-left_once want spans (MovingInt a) v w h k = left_of_once (steady_course same) (one_of_steps same same_exact) MovingInt want spans a v w h k
-left_once want spans (MovingFrac a) v w h k = left_of_once line_course one_of_lines MovingFrac want spans a v w h k
-left_once want spans (MovingText a) v w h k = left_of_once (steady_course same_bytes) (one_of_steps same_bytes same_bytes_exact) MovingText want spans a v w h k
-left_once want spans (MovingPoint a) v w h k = left_of_once plane_course one_of_points MovingPoint want spans a v w h k
-left_once want spans _ v w h k = h ∙ sym k
+pub restriction_once : (want : Bool) (spans : List SpanOf) (a : Value) → Once (IsRestriction want spans a)
+restriction_once want spans (MovingBool a) v w h k = restriction_of_once (steady_course same_bool) (one_of_steps same_bool same_bool_exact) MovingBool want spans a v w h k
+restriction_once want spans (MovingInt a) v w h k = restriction_of_once (steady_course same) (one_of_steps same same_exact) MovingInt want spans a v w h k
+restriction_once want spans (MovingFrac a) v w h k = restriction_of_once line_course one_of_lines MovingFrac want spans a v w h k
+restriction_once want spans (MovingText a) v w h k = restriction_of_once (steady_course same_bytes) (one_of_steps same_bytes same_bytes_exact) MovingText want spans a v w h k
+restriction_once want spans (MovingPoint a) v w h k = restriction_of_once plane_course one_of_points MovingPoint want spans a v w h k
+restriction_once want spans _ v w h k = h ∙ sym k
 
 -- and so it is where a test of the value tells
 where_once : {C B : Type 0} (course : CourseOf C B) → OneList course → (make : List (Slice C) → Value) (want : Bool) (test : B → Bool) (slices : List (Slice C)) → Once (IsWhere course make want test slices)

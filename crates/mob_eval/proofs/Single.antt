@@ -28,13 +28,13 @@ use Rattle.mob_eval.specs.Moving.{OverTime, step_function, line_function, plane_
 use Rattle.mob_eval.specs.Ordinary.{IsTruthOf, IsEquality, IsTest}
 use Rattle.mob_eval.specs.Lifted.{IsMovingBool, IsMovingText, truth_pair, text_pair, IsLiftedNot}
 use Rattle.mob_eval.specs.Operators.{OperatorGives, IsFirstFormula, IsJoined, GivesOfOne, GivesOfTwo, operator_entries}
-use Rattle.mob_eval.specs.Times.{asked_spans, IsLeft, AreInstantsOf, IsTimeOf, IsDefinedTime, set_or_null, IsTrueTime}
+use Rattle.mob_eval.specs.Times.{asked_spans, IsRestriction, AreInstantsOf, IsTimeOf, IsDefinedTime, set_or_null, IsTrueTime}
 use Rattle.mob_eval.specs.Types.{meeting, IsCastTo, IsCast}
 use Rattle.mob_eval.specs.Outcomes.{IsSingle}
 use Rattle.mob_eval.proofs.Functions.{one_of_steps, one_of_lines}
 use Rattle.mob_eval.proofs.OneValue.{Once, one_test, function_once, pair_once, bool_once, text_once}
 use Rattle.mob_eval.proofs.OneSign.{sign_test_once}
-use Rattle.mob_eval.proofs.OneNumber.{arithmetic_once, divided_once, left_once, by_value_once}
+use Rattle.mob_eval.proofs.OneNumber.{arithmetic_once, divided_once, restriction_once, by_value_once}
 
 says_once : (wanted : Bool) (P : Type 0) → Once (IsTruthOf wanted P)
 says_once wanted P v w h k = h.2 ∙ ap (λ c. Truth (same_bool wanted c)) (one_test h.0 k.0 h.1 k.1) ∙ sym k.2
@@ -65,9 +65,9 @@ not_once : (a : Value) → Once (IsLiftedNot a)
 not_once (MovingBool a) v w h k = function_once (steady_course same_bool) (one_of_steps same_bool same_bool_exact) MovingBool (λ t. option_map not (step_function a t)) v w h k
 not_once _ v w h k = h ∙ sym k
 
-asked_once : (want : Bool) (a : Value) (spans : Option (List SpanOf)) → Once (λ v. MatchOption spans (v ≡ Null) (λ s. IsLeft want s a v))
+asked_once : (want : Bool) (a : Value) (spans : Option (List SpanOf)) → Once (λ v. MatchOption spans (v ≡ Null) (λ s. IsRestriction want s a v))
 asked_once want a None v w h k = h ∙ sym k
-asked_once want a (Some spans) v w h k = left_once want spans a v w h k
+asked_once want a (Some spans) v w h k = restriction_once want spans a v w h k
 
 -- one span set has the instants of a test
 instants_once : (f : Ratio → Bool) (v w : List SpanOf) → AreInstantsOf f v → AreInstantsOf f w → v ≡ w

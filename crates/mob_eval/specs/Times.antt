@@ -36,21 +36,21 @@ asked_spans _ = None
 
 -- v is what is left of slices at the instants of the spans, where `want` is true, or at the others, where it is false: the one normal value,
 -- or NULL where no instant is left
-abbrev pub IsLeftOf : {C B : Type 0} → CourseOf C B → (List (Slice C) → Value) → Bool → List SpanOf → List (Slice C) → Value → Type 0
-IsLeftOf course make want spans slices v = IsFunctionOrNull course make (IsRestricted course.value want (λ t x. in_some spans t) slices) v
+abbrev pub IsRestrictionOf : {C B : Type 0} → CourseOf C B → (List (Slice C) → Value) → Bool → List SpanOf → List (Slice C) → Value → Type 0
+IsRestrictionOf course make want spans slices v = IsFunctionOrNull course make (IsRestricted course.value want (λ t x. in_some spans t) slices) v
 
 -- what is left of a temporal value, which is of its type; NULL where it is no temporal value
-abbrev pub IsLeft : Bool → List SpanOf → Value → Value → Type 0
-IsLeft want spans (MovingBool a) v = IsLeftOf (steady_course same_bool) MovingBool want spans a v
-IsLeft want spans (MovingInt a) v = IsLeftOf (steady_course same) MovingInt want spans a v
-IsLeft want spans (MovingFrac a) v = IsLeftOf line_course MovingFrac want spans a v
-IsLeft want spans (MovingText a) v = IsLeftOf (steady_course same_bytes) MovingText want spans a v
-IsLeft want spans (MovingPoint a) v = IsLeftOf plane_course MovingPoint want spans a v
-IsLeft want spans _ v = v ≡ Null
+abbrev pub IsRestriction : Bool → List SpanOf → Value → Value → Type 0
+IsRestriction want spans (MovingBool a) v = IsRestrictionOf (steady_course same_bool) MovingBool want spans a v
+IsRestriction want spans (MovingInt a) v = IsRestrictionOf (steady_course same) MovingInt want spans a v
+IsRestriction want spans (MovingFrac a) v = IsRestrictionOf line_course MovingFrac want spans a v
+IsRestriction want spans (MovingText a) v = IsRestrictionOf (steady_course same_bytes) MovingText want spans a v
+IsRestriction want spans (MovingPoint a) v = IsRestrictionOf plane_course MovingPoint want spans a v
+IsRestriction want spans _ v = v ≡ Null
 
 -- atTime where `want` is true, and minusTime where it is false
 abbrev pub IsTimeRestriction : Bool → Value → Value → Value → Type 0
-IsTimeRestriction want a b v = MatchOption (asked_spans b) (v ≡ Null) (λ spans. IsLeft want spans a v)
+IsTimeRestriction want a b v = MatchOption (asked_spans b) (v ≡ Null) (λ spans. IsRestriction want spans a v)
 
 -- the entries of both: F1 at the two ends of what a slice and a span share
 abbrev pub cut_entries : {C : Type 0} → (C → Ratio → Ratio → Ratio → List Ratio) → List SpanOf → List (Slice C) → List Entry

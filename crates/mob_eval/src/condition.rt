@@ -12,6 +12,7 @@ use mob_steps::Steps;
 use mob_typed::TExpr;
 use mob_value::{Store, Value};
 use std::alloc::Global;
+use std::mem::drop;
 use std::sync::ledger::Ledger;
 
 /// Whether a typed expression is true on a tuple of rows, which are given as for `eval`. It is not where it is NULL. A call is one step.
@@ -37,7 +38,11 @@ pub fn holds<L: Ledger>(
         epoch,
     };
     match held_value(alloc, e, &view) {
-        Ok(held) => Ok(is_true_value(held.get())),
+        Ok(held) => {
+            let truth = is_true_value(held.get());
+            drop(held);
+            Ok(truth)
+        }
         Err(fault) => Err(fault),
     }
 }

@@ -3,7 +3,7 @@ ghost use Rattle.std.specs.Prelude.{[], ◌∷◌, None, Some, IfOk, IfErr};
 ghost use Rattle.mob_span.specs.Sets.{in_some};
 ghost use Rattle.mob_slice.specs.Entries.{IsFirst, IsJudged, OnFormula};
 ghost use Rattle.mob_cells.specs.Restricted.{IsRestricted};
-ghost use Rattle.mob_eval.specs.Times.{IsLeft, IsTimeRestriction, cut_entries, cuts_of, restriction_entries};
+ghost use Rattle.mob_eval.specs.Times.{IsRestriction, IsTimeRestriction, cut_entries, cuts_of, restriction_entries};
 
 use crate::asked::{instant_span, one_span};
 use crate::temporal::{bool_or_null, frac_or_null, int_or_null, point_or_null, text_or_null};
@@ -14,7 +14,7 @@ use mob_value::Value;
 use std::alloc::Global;
 
 // What is left at the instants of a set, where those are wanted, or at the others.
-fn left_of<C: Course + Drop>(
+fn restricted<C: Course + Drop>(
     alloc: Global,
     want: bool,
     a: &Moving<C>,
@@ -32,30 +32,35 @@ where
 }
 
 // The same of a value of SQL.
-fn left(alloc: Global, want: bool, value: &Value, when: &SpanSet) -> Result<Value, OpFault>
-    ensures value { IfOk result (λ v. IsLeft want when.now value.now v) }
+fn restricted_value(
+    alloc: Global,
+    want: bool,
+    value: &Value,
+    when: &SpanSet,
+) -> Result<Value, OpFault>
+    ensures value { IfOk result (λ v. IsRestriction want when.now value.now v) }
     ensures fits { IfOk result (λ _. IsFirst (cuts_of when.now value.now) None) }
     ensures fault { IfErr result (OnFormula (λ f. IsFirst (cuts_of when.now value.now) (Some f))) }
 {
     match value {
-        Value::MovingBool(a) => match left_of(alloc, want, a, when) {
-            Ok(left) => Ok(bool_or_null(left)),
+        Value::MovingBool(a) => match restricted(alloc, want, a, when) {
+            Ok(rest) => Ok(bool_or_null(rest)),
             Err(fault) => Err(fault),
         },
-        Value::MovingInt(a) => match left_of(alloc, want, a, when) {
-            Ok(left) => Ok(int_or_null(left)),
+        Value::MovingInt(a) => match restricted(alloc, want, a, when) {
+            Ok(rest) => Ok(int_or_null(rest)),
             Err(fault) => Err(fault),
         },
-        Value::MovingFrac(a) => match left_of(alloc, want, a, when) {
-            Ok(left) => Ok(frac_or_null(left)),
+        Value::MovingFrac(a) => match restricted(alloc, want, a, when) {
+            Ok(rest) => Ok(frac_or_null(rest)),
             Err(fault) => Err(fault),
         },
-        Value::MovingText(a) => match left_of(alloc, want, a, when) {
-            Ok(left) => Ok(text_or_null(left)),
+        Value::MovingText(a) => match restricted(alloc, want, a, when) {
+            Ok(rest) => Ok(text_or_null(rest)),
             Err(fault) => Err(fault),
         },
-        Value::MovingPoint(a) => match left_of(alloc, want, a, when) {
-            Ok(left) => Ok(point_or_null(left)),
+        Value::MovingPoint(a) => match restricted(alloc, want, a, when) {
+            Ok(rest) => Ok(point_or_null(rest)),
             Err(fault) => Err(fault),
         },
         _ => Ok(Value::Null),
@@ -63,13 +68,18 @@ fn left(alloc: Global, want: bool, value: &Value, when: &SpanSet) -> Result<Valu
 }
 
 // With one span that is asked for.
-fn left_by_span(alloc: Global, want: bool, value: &Value, span: &Span) -> Result<Value, OpFault>
-    ensures value { IfOk result (λ v. IsLeft want (span.now ∷ []) value.now v) }
+fn restricted_to_span(
+    alloc: Global,
+    want: bool,
+    value: &Value,
+    span: &Span,
+) -> Result<Value, OpFault>
+    ensures value { IfOk result (λ v. IsRestriction want (span.now ∷ []) value.now v) }
     ensures fits { IfOk result (λ _. IsFirst (cuts_of (span.now ∷ []) value.now) None) }
     ensures fault { IfErr result (OnFormula (λ f. IsFirst (cuts_of (span.now ∷ []) value.now) (Some f))) }
 {
     match one_span(alloc, span) {
-        Ok(when) => left(alloc, want, value, &when),
+        Ok(when) => restricted_value(alloc, want, value, &when),
         Err(_) => Err(OpFault::NoMemory),
     }
 }
@@ -87,9 +97,9 @@ pub fn restriction(
     ensures fault { IfErr result (OnFormula (λ f. IsFirst (restriction_entries value.now asked.now) (Some f))) }
 {
     match asked {
-        Value::Moment(t) => left_by_span(alloc, want, value, &instant_span(t)),
-        Value::Span(span) => left_by_span(alloc, want, value, span),
-        Value::SpanSet(when) => left(alloc, want, value, when),
+        Value::Moment(t) => restricted_to_span(alloc, want, value, &instant_span(t)),
+        Value::Span(span) => restricted_to_span(alloc, want, value, span),
+        Value::SpanSet(when) => restricted_value(alloc, want, value, when),
         _ => Ok(Value::Null),
     }
 }

@@ -1,8 +1,7 @@
 -- Worked examples of what typing guarantees, and of what it excludes.
-use Rattle.std.proofs.Common.{◌≡◌, ◌+◌, ◌<◌, ◌^◌, ◌-◌, refl, sym, ap, subst, arith, ℕ, zero, suc, List, [], ◌∷◌, ◌++◌, Bool, true, false, cond, ◌&&◌, ◌||◌, length, codes, Option, Some, None}
+use Rattle.std.proofs.Common.{◌≡◌, ◌+◌, ◌^◌, ◌-◌, refl, sym, subst, arith, ℕ, zero, suc, List, [], ◌∷◌, ◌++◌, Bool, true, false, cond, ◌&&◌, ◌||◌, length, codes, Option, Some, None}
 use Rattle.std.specs.Prelude.{IfSome, not, option_map, option_and_then}
 use Rattle.std.specs.List.{Contains, IsDistinct, list_all}
-use Rattle.mob_ast.specs.declared.types.Word.{Word}
 use Rattle.mob_ast.specs.declared.types.SqlType.{SqlType}
 use Rattle.mob_ast.specs.declared.types.SqlType.TheVariants as sql
 use Rattle.mob_ast.specs.declared.expression.Node.TheVariants as node
@@ -14,12 +13,12 @@ use Rattle.mob_operators.specs.declared.operator.Op.TheVariants as op
 use Rattle.mob_operators.specs.Lookup.{Line, types_fit, meets, given, operator_in, answer_of, found_in}
 use Rattle.mob_operators.specs.Table.{table}
 use Rattle.mob_typed.specs.declared.typed.ConstText.{ConstText}
-use Rattle.mob_typed.specs.Trees.{TypedTree, typed, TypedTrees, none, more}
-use Rattle.mob_typed.specs.Statements.{ScriptOut, new_table}
+use Rattle.mob_typed.specs.Trees.{TypedTree, typed, none, more}
+use Rattle.mob_typed.specs.Statements.{new_table}
 use Rattle.mob_grammar.specs.Held.{statement_held}
 use Rattle.mob_typing.specs.Selects.{limit_value}
 use Rattle.mob_typing.specs.Stands.{IsHeldIn}
-use Rattle.mob_typing.specs.WellTyped.{IsNumberLiteral, the_number, behind_minus, behind_plus, HasDivisor, HasRow, IsOperated, HasDistinctNames}
+use Rattle.mob_typing.specs.WellTyped.{IsNumberLiteral, the_number, behind_minus, HasDivisor, HasRow, IsOperated, HasDistinctNames}
 use Rattle.mob_typing.proofs.OperatorRows.{line_passes, first_passes}
 
 -- SELECT b: a place that the one tree does not hold, as that of the blank, is the place of no refusal

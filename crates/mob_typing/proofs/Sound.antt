@@ -1,6 +1,6 @@
 -- What is sound stays so beside more constants, and behind its numbers stands what they name.
 use Rattle.std.proofs.Common.{◌≡◌, ◌∙◌, ◌+◌, refl, sym, ap, subst, ℕ, zero, suc, List, [], ◌∷◌, ◌++◌, append_assoc, length, length-append, map, Bool, true, false, cond, Option, Some, None}
-use Rattle.std.specs.Prelude.{IfSome, slice_get, option_map, option_and_then}
+use Rattle.std.specs.Prelude.{IfSome, slice_get, option_map}
 use Rattle.std.specs.List.{AllByRecursion, AllZip}
 use Rattle.std.specs.Str.{bytes_eq}
 use Rattle.mob_ast.specs.declared.types.SqlType.{SqlType}
@@ -14,7 +14,7 @@ use Rattle.mob_expression.specs.Names.{entry_from}
 use Rattle.mob_expression.specs.Words.{number_type}
 use Rattle.mob_typing.specs.Selects.{is_bool, is_key}
 use Rattle.mob_typing.specs.Stands.{operators_in, operators_among}
-use Rattle.mob_typing.specs.WellTyped.{constant_type, HasNamedType, HasNamedTypes, AllHaveNamedTypes, IsNumber, IsNumberLiteral, the_number, behind_minus, behind_plus, HasDivisor, HasRow, FitsArguments, IsOperated, AreOperated, expressions_of, IsOfColumn, IsTypedQuery, IsTypedStatement}
+use Rattle.mob_typing.specs.WellTyped.{constant_type, HasNamedType, HasNamedTypes, AllHaveNamedTypes, IsNumberLiteral, the_number, behind_minus, behind_plus, HasDivisor, HasRow, FitsArguments, IsOperated, AreOperated, expressions_of, IsOfColumn, IsTypedQuery, IsTypedStatement}
 use Rattle.mob_typing.proofs.Walk.{Stays, all_stay}
 
 -- what stands at a number of a list stands there in a longer one

@@ -11,4 +11,4 @@ returns-in-Ok-clause-value g c =
     let s = scene c.args.store.now c.args.from.now c.args.tuple.now c.args.epoch.now in
     let e = typed_of c.args.e.now in
     let v = held c.in-Ok.held in
-    true_by_value s e v _ (evaluates_to_its_value s e v c.in-Ok.ensures.value) (c.is_true_value.ensures.value ∙ ap is_true_value c.get.ensures.value)
+    true_by_value s e v _ (evaluates_to_its_value s e v c.in-Ok.ensures.value) (c.is_true_value-truth.ensures.value ∙ ap is_true_value c.get.ensures.value)
