@@ -1,5 +1,5 @@
 -- What an expression is refused for is a part that does not fit.
-use Rattle.std.proofs.Common.{◌≡◌, inl, inr, Bool, List, [], ◌∷◌, Option, Some, Err}
+use Rattle.std.proofs.Common.{inl, inr, Bool, List, [], ◌∷◌, Option, Some, Err}
 use Rattle.mob_slice.specs.Entries.{Entry, IsFirst}
 use Rattle.mob_slice.specs.declared.formula.Formula.{Formula}
 use Rattle.mob_typed.specs.Trees.{TypedTree, typed, TypedTrees, none, more, arg_types}
