@@ -15,3 +15,4 @@ mod StoredFiles
 mod StoredRows
 mod LiveTuples
 mod ReadAsStored
+mod FaultPlaces

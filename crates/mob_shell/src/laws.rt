@@ -1,5 +1,6 @@
 //! What holds of every run. No code runs here.
 ghost use Rattle.mob_shell.specs.AllRows.{AllRowsAreThere};
+ghost use Rattle.mob_shell.specs.FaultPlaces.{FaultsAreNumbered};
 ghost use Rattle.mob_shell.specs.StepOutcomes.{HasOneStatementFault, HasOneStep, NeverRunsAndStops, OneAnswer};
 ghost use Rattle.mob_shell.specs.Outcomes.{HasOneEnding, HasOneHalt, HasOneProgram, HasOneStop, HasOneText, NeverEndsAndStops, NeverProgramAndHalted};
 ghost use Rattle.mob_shell.specs.ReadAsStored.{QueriesReadWhatIsStored, TuplesAreLive};
@@ -81,4 +82,11 @@ pub fn queries_read_what_is_stored()
     mob_typing::laws::scripts_are_well_typed();
     mob_load::laws::literals_have_their_values();
     mob_catalog::laws::values_have_their_types();
+}
+
+/// The fault of a statement stands in it: its place is in the statement of its number, counted by the `;` tokens before it.
+pub fn faults_are_numbered()
+    ensures faults { FaultsAreNumbered }
+{
+    mob_accept::laws::text_is_numbered();
 }
