@@ -16,3 +16,4 @@ mod StoredRows
 mod LiveTuples
 mod ReadAsStored
 mod FaultPlaces
+mod HaltPlaces

@@ -1,6 +1,6 @@
 //! What holds of every run. No code runs here.
 ghost use Rattle.mob_shell.specs.AllRows.{AllRowsAreThere};
-ghost use Rattle.mob_shell.specs.FaultPlaces.{FaultsAreNumbered};
+ghost use Rattle.mob_shell.specs.FaultPlaces.{FaultsAreNumbered, HaltsAreNumbered};
 ghost use Rattle.mob_shell.specs.StepOutcomes.{HasOneStatementFault, HasOneStep, NeverRunsAndStops, OneAnswer};
 ghost use Rattle.mob_shell.specs.Outcomes.{HasOneEnding, HasOneHalt, HasOneProgram, HasOneStop, HasOneText, NeverEndsAndStops, NeverProgramAndHalted};
 ghost use Rattle.mob_shell.specs.ReadAsStored.{QueriesReadWhatIsStored, TuplesAreLive};
@@ -84,9 +84,11 @@ pub fn queries_read_what_is_stored()
     mob_catalog::laws::values_have_their_types();
 }
 
-/// The fault of a statement stands in it: its place is in the statement of its number, counted by the `;` tokens before it.
+/// The fault of a statement stands in it: its place is in the statement of its number, counted by the `;` tokens before it. So does a
+/// literal or a row that is refused before the script runs.
 pub fn faults_are_numbered()
     ensures faults { FaultsAreNumbered }
+    ensures halts { HaltsAreNumbered }
 {
     mob_accept::laws::text_is_numbered();
 }
