@@ -73,7 +73,7 @@ pub fn stored_rows_have_their_types()
     mob_catalog::laws::values_have_their_types();
 }
 
-/// Wherever a program stands, a query that is next is typed for the tables there: it can be run.
+/// Wherever a program stands, the statement that is next can be run: the query of a SELECT or of an EXPLAIN is typed for the tables there.
 pub fn queries_are_typed()
     ensures typed { QueriesAreTyped }
 {
