@@ -1,4 +1,5 @@
 pub mod Asked
+pub mod EachCheck
 pub mod EachCheckpoint
 mod Literals
 pub mod Examples

@@ -1,5 +1,5 @@
 -- The tables of a typed script have at most 64 columns.
-use Rattle.std.proofs.Common.{◌≡◌, refl, sym, subst, arith, Bool, true, false, ℕ, zero, suc, ◌+◌, ◌≤◌, ◌<◌, List, [], ◌∷◌, ◌++◌, length, map, get_or, Result, Ok, Err}
+use Rattle.std.proofs.Common.{◌≡◌, sym, subst, arith, ℕ, zero, suc, ◌+◌, ◌≤◌, ◌<◌, List, [], ◌∷◌, ◌++◌, length, map, get_or, Result, Ok, Err}
 use Rattle.std.specs.List.{AllByRecursion}
 use Rattle.std.specs.Prelude.{OnOk, slice_get}
 use Rattle.mob_ast.specs.Trees.{StatementParts}
@@ -8,9 +8,10 @@ use Rattle.mob_typed.specs.Statements.{ColumnList, ScriptOut, StatementOut, new_
 use Rattle.mob_typing.specs.Statements.{typed_script}
 use Rattle.mob_typing.specs.WellTyped.{IsTypedStatement, tables_behind, AreTypedStatements}
 use Rattle.mob_typing.proofs.WalkedScripts.{typing_gives_well_typed}
-use Rattle.mob_load.specs.Checks.{CheckParts, check_seen, literal, Checkpoint, checkpoints_of, checkpoints_from, stands_before, checks_up_to, in_order, checks_of}
+use Rattle.mob_load.specs.Checks.{check_seen, literal, Checkpoint, checkpoints_of, checkpoints_from, in_order, checks_of}
 use Rattle.mob_load.specs.declared.check.Check.{Check}
 use Rattle.mob_load.specs.Loads.{Loaded, nothing_loaded, with_made_table as add_table, IsNarrow, AreNarrow, HasNarrow, columns_or_none}
+use Rattle.mob_load.proofs.EachCheck.{order_each}
 use Rattle.mob_load.proofs.EachCheckpoint.{each_checkpoint}
 use Rattle.mob_typed.proofs.Rising.{each_both}
 
@@ -28,28 +29,18 @@ statements_narrow tables consts [] h = tt
 statements_narrow tables consts (s ∷ ss) h = (statement_narrow tables consts s h.0, statements_narrow (tables_behind tables s) consts ss h.1)
 
 -- the checks of narrow statements are narrow
-literals_narrow : (cs : List ConstText) → AreNarrow (map literal cs)
-literals_narrow [] = tt
-literals_narrow (c ∷ cs) = (tt, literals_narrow cs)
-
-module _ (next : List ConstText → List CheckParts) (narrow : (cs : List ConstText) → AreNarrow (next cs)) (m : Checkpoint) (own : IsNarrow m.check) where
-  choice : (b : Bool) (c : ConstText) (cs : List ConstText) → AreNarrow (checks_up_to next m cs) → stands_before c m.statement m.place ≡ b → AreNarrow (checks_up_to next m (c ∷ cs))
-  choice true c cs rest is = rw is (tt, rest)
-  choice false c cs rest is = rw is (own, narrow (c ∷ cs))
-
-  up_to_narrow : (cs : List ConstText) → AreNarrow (checks_up_to next m cs)
-  up_to_narrow [] = (own, narrow [])
-  up_to_narrow (c ∷ cs) = choice (stands_before c m.statement m.place) c cs (up_to_narrow cs) refl
-
 abbrev IsNarrowCheckpoint : Checkpoint → Type 0
 IsNarrowCheckpoint m = IsNarrow m.check
 
 abbrev NarrowCheckpoints : List Checkpoint → Type 0
 NarrowCheckpoints ms = AllByRecursion IsNarrowCheckpoint ms
 
+any_literals : (cs : List ConstText) → AllByRecursion (λ c. IsNarrow (literal c)) cs
+any_literals [] = tt
+any_literals (c ∷ cs) = (tt, any_literals cs)
+
 order_narrow : (ms : List Checkpoint) → NarrowCheckpoints ms → (cs : List ConstText) → AreNarrow (in_order ms cs)
-order_narrow [] all cs = literals_narrow cs
-order_narrow (m ∷ ms) all cs = up_to_narrow (in_order ms) (order_narrow ms all.1) m all.0 cs
+order_narrow ms all cs = order_each IsNarrow ms all cs (any_literals cs)
 
 checkpoints_narrow : (n : ℕ) (s : StatementOut) → NarrowStatement s → NarrowCheckpoints (checkpoints_of n s)
 checkpoints_narrow n s narrow = each_checkpoint IsNarrowCheckpoint n (λ t p. tt) (λ t name. tt) s (λ t name columns is. subst NarrowStatement is narrow)

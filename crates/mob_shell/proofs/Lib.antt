@@ -16,3 +16,5 @@ mod StoredRows
 mod Runnable
 mod LiveTuples
 mod ReadAsStored
+mod FaultPlaces
+mod HaltPlaces

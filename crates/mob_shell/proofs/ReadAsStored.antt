@@ -9,7 +9,7 @@ use Rattle.mob_value.specs.declared.value.Value.{Value}
 use Rattle.mob_value.specs.declared.store.Table.{Table}
 use Rattle.mob_value.specs.Types.{is_of_type}
 use Rattle.mob_typed.specs.Trees.{TypedTree, typed, TypedTrees, none, more, type_of}
-use Rattle.mob_typed.specs.Statements.{ColumnList}
+use Rattle.mob_typed.specs.Statements.{ColumnList, query}
 use Rattle.mob_typed.proofs.Rising.{each_on}
 use Rattle.mob_typing.specs.Selects.{is_bool, is_key}
 use Rattle.mob_typing.specs.WellTyped.{column_type, from_type}
@@ -101,4 +101,4 @@ module _ (constants : ConstantsAreRead) (columns : ColumnsAreRead) where
       }
 
   pub queries_read : QueriesAreTyped → QueriesReadWhatIsStored
-  queries_read fit settings input count text run q tuple next live = typed_queries_read run.stands.catalogue q settings.epoch tuple (fit settings input count text run q next) live
+  queries_read fit settings input count text run q tuple next live = typed_queries_read run.stands.catalogue q settings.epoch tuple (fit settings input count text run (query q) next) live

@@ -15,3 +15,4 @@ pub mod Outcomes
 pub mod WrittenOrder
 pub mod StoredTypes
 pub mod ReadAsStored
+pub mod FaultPlaces

@@ -43,8 +43,8 @@ fn kept_tuples(
     kept(alloc, &query)
 }
 
-/// What a query answers that is typed for the tables, or its first fault: that of WHERE on the tuples that its plan visits, in order, and then that of the select list
-/// and the keys on the kept ones.
+/// What a query answers that is typed for the tables, or its first fault: that of WHERE on the tuples that its plan visits, in order, and
+/// then that of the select list and the keys on the kept ones.
 pub fn answered(
     alloc: Global,
     select: &TypedSelect,

@@ -1,5 +1,6 @@
 //! What holds of every run. No code runs here.
 ghost use Rattle.mob_shell.specs.AllRows.{AllRowsAreThere};
+ghost use Rattle.mob_shell.specs.FaultPlaces.{FaultsAreNumbered, HaltsAreNumbered};
 ghost use Rattle.mob_shell.specs.StepOutcomes.{HasOneStatementFault, HasOneStep, NeverRunsAndStops, OneAnswer};
 ghost use Rattle.mob_shell.specs.Outcomes.{HasOneEnding, HasOneHalt, HasOneProgram, HasOneStop, HasOneText, NeverEndsAndStops, NeverProgramAndHalted};
 ghost use Rattle.mob_shell.specs.ReadAsStored.{QueriesReadWhatIsStored, TuplesAreLive, TypedQueriesReadWhatIsStored, VisitsAreLive};
@@ -72,7 +73,7 @@ pub fn stored_rows_have_their_types()
     mob_catalog::laws::values_have_their_types();
 }
 
-/// Wherever a program stands, a query that is next is typed for the tables there: it can be run.
+/// Wherever a program stands, the statement that is next can be run: the query of a SELECT or of an EXPLAIN is typed for the tables there.
 pub fn queries_are_typed()
     ensures typed { QueriesAreTyped }
 {
@@ -94,4 +95,13 @@ pub fn queries_read_what_is_stored()
 {
     mob_eval::laws::stored_values_are_read();
     queries_are_typed();
+}
+
+/// The fault of a statement stands in it: its place is in the statement of its number, counted by the `;` tokens before it. So does a
+/// literal or a row that is refused before the script runs.
+pub fn faults_are_numbered()
+    ensures faults { FaultsAreNumbered }
+    ensures halts { HaltsAreNumbered }
+{
+    mob_accept::laws::text_is_numbered();
 }

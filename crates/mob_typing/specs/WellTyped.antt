@@ -46,17 +46,18 @@ abbrev mutual
   AllHaveNamedTypes tables from consts none = Unit {0}
   AllHaveNamedTypes tables from consts (more t ts) = HasNamedTypes tables from consts t × AllHaveNamedTypes tables from consts ts
 
--- the constant of this number is what a number literal of this text is: it has this text and its type
+-- the constant of this number has this text, and the type that a number literal of this text has
 abbrev pub IsNumber : List ConstText → List ℕ → ℕ → Type 0
 IsNumber consts text k = (option_map (λ c. c.text) (slice_get consts k) ≡ Some text) × (constant_type consts k ≡ Some (number_type text))
 
--- `IsNumberLiteral consts text t`: the expression t is a number literal of this text, perhaps behind signs
+-- `IsNumberLiteral consts text t`: the expression t is such a constant of this text, perhaps behind signs
 pub data IsNumberLiteral (consts : List ConstText) (text : List ℕ) : TypedTree → Type 0 where
   the_number : {k p : ℕ} {ty : SqlType} → IsNumber consts text k → IsNumberLiteral consts text (typed (op.Const k) ty p none)
   behind_minus : {t : TypedTree} {ty : SqlType} {p : ℕ} → IsNumberLiteral consts text t → IsNumberLiteral consts text (typed op.Negate ty p (more t none))
   behind_plus : {t : TypedTree} {ty : SqlType} {p : ℕ} → IsNumberLiteral consts text t → IsNumberLiteral consts text (typed op.Same ty p (more t none))
 
--- the second of two arguments is a number literal other than 0
+-- The second of two arguments is a constant of a text with a byte other than 0 and the point, before any e, and of the type that a number
+-- literal of this text has. What the text is besides, the tree of the script says.
 abbrev pub HasDivisor : List ConstText → TypedTrees → Type 0
 HasDivisor consts (more a (more b none)) = (text : List ℕ) × IsNumberLiteral consts text b × (is_zero text ≡ false)
 HasDivisor consts _ = ⊥
@@ -65,8 +66,8 @@ abbrev pub is_division : Op → Bool
 is_division op.Divide = true
 is_division _ = false
 
--- The operator has a row of the table: for arguments of these types that row gives this operator and its type. A division alone asks its
--- last argument to be a number literal, which is not 0.
+-- The operator has a row of the table: for arguments of these types that row gives this operator and its type. A division alone asks
+-- something of its last argument.
 pub record HasRow (consts : List ConstText) (o : Op) (ty : SqlType) (args : TypedTrees) : Type 0 where
   pub form : Form
   pub name : List ℕ
