@@ -1,6 +1,6 @@
 -- Worked expressions, by the definition.
 use Rattle.std.proofs.Common.{inl, inr, true, false, List, [], ◌∷◌, map, Some, Ok, refl, arith, ◌≡◌}
-use Rattle.std.specs.Prelude.{pos}
+use Rattle.std.specs.Prelude.{pos, is_some}
 use Rattle.mob_ratio.specs.Ratio.{Ratio, whole, over, turned, inverse, ◌+ℚ◌, ◌*ℚ◌, neg_ℚ}
 use Rattle.mob_ratio.specs.Gcd.{gcd, gcd_steps}
 use Rattle.mob_ratio.specs.Lowest.{in_lowest_terms}
@@ -26,7 +26,6 @@ use Rattle.mob_value.specs.declared.value.Value.{Value}
 use Rattle.mob_value.specs.declared.value.Value.TheVariants.{Null, Bool as Truth, Number, Text, Moment, Point as PointValue, Span, SpanSet, MovingInt, MovingFrac, MovingPoint}
 use Rattle.mob_eval.specs.Scene.{Scene}
 use Rattle.mob_slice.specs.declared.formula.Formula.TheVariants.{F1, F2}
-use Rattle.mob_restrict.specs.Times.{is_defined}
 use Rattle.mob_eval.specs.Moving.{StepSlices, IsFunction, step_function, plane_function}
 use Rattle.mob_eval.specs.Lifted.{OnPair, OnOperands, number_pair, IsMovingBool}
 use Rattle.mob_eval.specs.Signs.{number_test}
@@ -163,7 +162,7 @@ no_time : OperatorGives scene op.AtTime sql.TPoint (sql.TPoint ∷ sql.Text ∷ 
 no_time = refl
 
 -- getTime of the way: from 0 to 4
-its_time : AreInstantsOf (λ t. is_defined (plane_function way t)) (record { lower = whole (pos 0); upper = whole (pos 4); lower_inc = true; upper_inc = true } ∷ []) → OperatorGives scene op.GetTime sql.SpanSet (sql.TPoint ∷ []) (MovingPoint way ∷ []) (SpanSet (record { lower = whole (pos 0); upper = whole (pos 4); lower_inc = true; upper_inc = true } ∷ []))
+its_time : AreInstantsOf (λ t. is_some (plane_function way t)) (record { lower = whole (pos 0); upper = whole (pos 4); lower_inc = true; upper_inc = true } ∷ []) → OperatorGives scene op.GetTime sql.SpanSet (sql.TPoint ∷ []) (MovingPoint way ∷ []) (SpanSet (record { lower = whole (pos 0); upper = whole (pos 4); lower_inc = true; upper_inc = true } ∷ []))
 its_time h = (_, h, refl)
 
 -- whenTrue is NULL where there is no instant

@@ -1,13 +1,12 @@
 -- Each operator has one value, and one first formula or none.
 use Rattle.std.proofs.Common.{◌≡◌, Bool, true, false, not, List, [], ◌∷◌, Option, Some, None, MatchOption, option_map, sym, ap, ◌∙◌}
-use Rattle.std.specs.Prelude.{IsTrue, ◌↔◌}
+use Rattle.std.specs.Prelude.{IsTrue, ◌↔◌, is_some}
 use Rattle.mob_ratio.specs.Ratio.{Ratio}
 use Rattle.mob_span.specs.Span.{SpanOf}
 use Rattle.mob_span.proofs.OneSet.{one_set}
 use Rattle.mob_plane.specs.declared.point.Point.{Point as PointOf}
 use Rattle.mob_arith.specs.Operations.{both_hold, one_holds, text_of}
 use Rattle.mob_compare.specs.Times.{is_true}
-use Rattle.mob_restrict.specs.Times.{is_defined}
 use Rattle.mob_slice.specs.CourseOf.{steady_course, line_course}
 use Rattle.mob_slice.proofs.Firsts.{one_first}
 use Rattle.mob_slice.specs.Sameness.{same_bool, same_bool_exact}
@@ -74,7 +73,7 @@ instants_once : (f : Ratio → Bool) (v w : List SpanOf) → AreInstantsOf f v �
 instants_once f v w h k = one_set v w h.0 k.0 (λ t. h.1 t ∙ sym (k.1 t))
 
 time_of_once : {B : Type 0} (f : OverTime B) → Once (IsTimeOf f)
-time_of_once f v w h k = h.2 ∙ ap SpanSet (instants_once (λ t. is_defined (f t)) h.0 k.0 h.1 k.1) ∙ sym k.2
+time_of_once f v w h k = h.2 ∙ ap SpanSet (instants_once (λ t. is_some (f t)) h.0 k.0 h.1 k.1) ∙ sym k.2
 
 defined_once : (a : Value) → Once (IsDefinedTime a)
 defined_once (MovingBool a) v w h k = time_of_once (step_function a) v w h k

@@ -1,6 +1,6 @@
 -- Operators on the instants of a temporal value: its restriction to instants that are asked for, or to the others, its value at
 -- one instant, and the instants at which it is defined or true.
-use Rattle.std.specs.Prelude.{◌≡◌, Bool, true, List, [], ◌∷◌, Option, Some, None, MatchOption}
+use Rattle.std.specs.Prelude.{◌≡◌, Bool, true, List, [], ◌∷◌, Option, Some, None, MatchOption, is_some}
 use Rattle.std.specs.List.{flat_map}
 use Rattle.mob_ratio.specs.Ratio.{Ratio}
 use Rattle.mob_ratio.specs.Order.{same}
@@ -18,7 +18,6 @@ use Rattle.mob_slice.specs.declared.slice.Slice.{Slice}
 use Rattle.mob_compare.specs.Times.{is_true}
 use Rattle.mob_cells.specs.Restricted.{IsRestricted}
 use Rattle.mob_restrict.specs.Cuts.{entry_of_cut}
-use Rattle.mob_restrict.specs.Times.{is_defined}
 use Rattle.mob_value.specs.declared.value.Value.{Value}
 use Rattle.mob_value.specs.declared.value.Value.TheVariants.{Null, Bool as Truth, Number, Text, Moment, Point, Span, SpanSet, MovingBool, MovingInt, MovingFrac, MovingText, MovingPoint}
 use Rattle.mob_eval.specs.Moving.{OverTime, step_function, line_function, plane_function, or_nothing, IsFunctionOrNull}
@@ -86,20 +85,20 @@ look_up a (Moment t) = value_there a t
 look_up a _ = Null
 
 -- the parts of the formula of that value
-abbrev pub parts_there : Value → Ratio → List Ratio
-parts_there (MovingBool a) t = parts_at steady_parts a t
-parts_there (MovingInt a) t = parts_at steady_parts a t
-parts_there (MovingFrac a) t = parts_at line_parts_of a t
-parts_there (MovingText a) t = parts_at steady_parts a t
-parts_there (MovingPoint a) t = parts_at plane_parts_of a t
-parts_there _ t = []
+abbrev pub value_parts : Value → Ratio → List Ratio
+value_parts (MovingBool a) t = parts_at steady_parts a t
+value_parts (MovingInt a) t = parts_at steady_parts a t
+value_parts (MovingFrac a) t = parts_at line_parts_of a t
+value_parts (MovingText a) t = parts_at steady_parts a t
+value_parts (MovingPoint a) t = parts_at plane_parts_of a t
+value_parts _ t = []
 
 -- its one entry: F1 at that instant
 abbrev pub look_entry : List Ratio → List Entry
 look_entry parts = record { formula = F1; parts = parts } ∷ []
 
 abbrev pub look_entries : Value → Value → List Entry
-look_entries a (Moment t) = look_entry (parts_there a t)
+look_entries a (Moment t) = look_entry (value_parts a t)
 look_entries a _ = []
 
 -- the spans are the one span set that has exactly the instants of the test f
@@ -108,7 +107,7 @@ AreInstantsOf f spans = IsSpanSet spans × ((t : Ratio) → in_some spans t ≡ 
 
 -- getTime: the instants at which the value is defined
 abbrev pub IsTimeOf : {B : Type 0} → OverTime B → Value → Type 0
-IsTimeOf f v = (spans : List SpanOf) × AreInstantsOf (λ t. is_defined (f t)) spans × (v ≡ SpanSet spans)
+IsTimeOf f v = (spans : List SpanOf) × AreInstantsOf (λ t. is_some (f t)) spans × (v ≡ SpanSet spans)
 
 abbrev pub IsDefinedTime : Value → Value → Type 0
 IsDefinedTime (MovingBool a) v = IsTimeOf (step_function a) v

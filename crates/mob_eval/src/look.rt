@@ -5,7 +5,7 @@ ghost use Rattle.mob_slice.specs.Instants.{parts_at};
 ghost use Rattle.mob_slice.specs.Slices.{value_at};
 ghost use Rattle.mob_value.specs.declared.value.Value.TheVariants.{Number as NumberOf, Text as TextOf, Point as PointOf};
 ghost use Rattle.mob_eval.specs.Moving.{or_nothing};
-ghost use Rattle.mob_eval.specs.Times.{look_up, look_entry, look_entries, parts_there, value_there};
+ghost use Rattle.mob_eval.specs.Times.{look_up, look_entry, look_entries, value_parts, value_there};
 
 use crate::logic::known;
 use mob_frac::Frac;
@@ -58,8 +58,8 @@ where
 // The same as a value of SQL.
 fn value_there(alloc: Global, value: &Value, t: &Frac) -> Result<Value, OpFault>
     ensures value { IfOk result (λ v. v ≡ value_there value.now t.now) }
-    ensures fits { IfOk result (λ _. IsFirst (look_entry (parts_there value.now t.now)) None) }
-    ensures fault { IfErr result (OnFormula (λ f. IsFirst (look_entry (parts_there value.now t.now)) (Some f))) }
+    ensures fits { IfOk result (λ _. IsFirst (look_entry (value_parts value.now t.now)) None) }
+    ensures fault { IfErr result (OnFormula (λ f. IsFirst (look_entry (value_parts value.now t.now)) (Some f))) }
 {
     match value {
         Value::MovingBool(a) => match base_at(alloc, a, t) {

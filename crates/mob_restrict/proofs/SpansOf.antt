@@ -1,5 +1,5 @@
 -- The instants at which a temporal value is defined.
-use Rattle.std.specs.Prelude.{◌≡◌, Bool, true, false, cond, ◌||◌, Some, List, [], ◌∷◌, ◌++◌, map, refl, ℕ, ◌≤◌, length}
+use Rattle.std.specs.Prelude.{◌≡◌, Bool, true, false, cond, ◌||◌, Some, List, [], ◌∷◌, ◌++◌, map, refl, ℕ, ◌≤◌, length, is_some}
 use Rattle.std.proofs.Common.{ap, sym, ◌∙◌, append-nil, drop}
 use Rattle.std.proofs.lemmas.List.{drop_all}
 use Rattle.mob_ratio.specs.Ratio.{Ratio}
@@ -7,18 +7,17 @@ use Rattle.mob_span.specs.Span.{SpanOf, has}
 use Rattle.mob_span.specs.Sets.{in_some}
 use Rattle.mob_slice.specs.Slices.{value_at}
 use Rattle.mob_slice.specs.declared.slice.Slice.{Slice}
-use Rattle.mob_restrict.specs.Times.{is_defined}
 
 -- the spans of a list of slices
 abbrev pub spans_of : {C : Type 0} → List (Slice C) → List SpanOf
 spans_of v = map (λ s. s.span) v
 
 -- they have exactly the instants at which there is a value
-pub spans_at : {C B : Type 0} (value : C → Ratio → Ratio → Ratio → B) (v : List (Slice C)) (t : Ratio) → in_some (spans_of v) t ≡ is_defined (value_at value v t)
+pub spans_at : {C B : Type 0} (value : C → Ratio → Ratio → Ratio → B) (v : List (Slice C)) (t : Ratio) → in_some (spans_of v) t ≡ is_some (value_at value v t)
 spans_at value [] t = refl
 spans_at value (s ∷ v) t = ap (λ b. has s.span t || b) (spans_at value v t) ∙ by (has s.span t)
   where
-    by : (b : Bool) → (b || is_defined (value_at value v t)) ≡ is_defined (cond b (Some (value s.course s.span.lower s.span.upper t)) (value_at value v t))
+    by : (b : Bool) → (b || is_some (value_at value v t)) ≡ is_some (cond b (Some (value s.course s.span.lower s.span.upper t)) (value_at value v t))
     by true = refl
     by false = refl
 

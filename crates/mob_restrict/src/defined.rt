@@ -1,8 +1,7 @@
-ghost use Rattle.std.specs.Prelude.{◌≡◌, IfOk};
+ghost use Rattle.std.specs.Prelude.{◌≡◌, IfOk, is_some};
 ghost use Rattle.mob_ratio.specs.Ratio.{Ratio};
 ghost use Rattle.mob_span.specs.Sets.{in_some, IsSpanSet};
 ghost use Rattle.mob_slice.specs.Slices.{value_at};
-ghost use Rattle.mob_restrict.specs.Times.{is_defined};
 
 use mob_slice::{Course, Moving};
 use mob_span::SpanSet;
@@ -10,7 +9,7 @@ use std::alloc::{AllocError, Global};
 
 /// The instants at which a temporal value is defined (MobilityDB's `getTime`).
 pub fn get_time<C: Course>(alloc: Global, a: &Moving<C>) -> Result<SpanSet, AllocError>
-    ensures same { IfOk result (λ set. (t : Ratio) → in_some set t ≡ is_defined (value_at C.value_of a.now t)) }
+    ensures same { IfOk result (λ set. (t : Ratio) → in_some set t ≡ is_some (value_at C.value_of a.now t)) }
     ensures normal { IfOk result (λ set. IsSpanSet set) }
 {
     let mut spans = Vec::new(alloc);

@@ -1,8 +1,7 @@
 -- A list of slices at one instant.
-use Rattle.std.specs.Prelude.{◌≡◌, ◌↔◌, Bool, true, not, ◌&&◌, ◌||◌, List, [], Option, Some, None, Contains}
+use Rattle.std.specs.Prelude.{◌≡◌, ◌↔◌, true, List, [], Option, Some, None, Contains}
 use Rattle.mob_ratio.specs.Ratio.{Ratio}
-use Rattle.mob_ratio.specs.Order.{before, up_to}
-use Rattle.mob_span.specs.Span.{SpanOf, has}
+use Rattle.mob_span.specs.Span.{has}
 use Rattle.mob_span.specs.Parts.{part_at}
 use Rattle.mob_slice.specs.Cut.{slice_parts}
 use Rattle.mob_slice.specs.Slices.{IsOrdered}
@@ -23,7 +22,3 @@ parts_at parts slices t = parts_there parts t (slice_at slices t)
 -- of slices that are ordered and disjoint, the slice at t is the one among them whose span has t
 abbrev pub OneSliceAt : {C B : Type 0} → (C → B) → (C → B) → Type 0
 OneSliceAt {C} start end = (slices : List (Slice C)) → IsOrdered start end slices → (t : Ratio) (s : Slice C) → (slice_at slices t ≡ Some s) ↔ (Contains slices s × (has s.span t ≡ true))
-
--- the span s ends before the instant t
-abbrev pub is_past : SpanOf → Ratio → Bool
-is_past s t = before s.upper t || (not s.upper_inc && up_to s.upper t)

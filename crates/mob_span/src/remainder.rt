@@ -41,7 +41,8 @@ fn left_by(alloc: Global, span: &Span, spans: &[Span]) -> Result<Vec<Span>, Allo
     Ok(found)
 }
 
-/// From the start of the first to the end of the last of what stands on spans in order of time. None exactly where there is nothing.
+/// A span that holds all that stands on spans in order of time: from the start of the first to the end of the last. None exactly where
+/// there is nothing.
 pub fn whole<X: Spanned>(items: &[X]) -> Option<Span>
     requires order { PartsAreClear X.span_of items.now }
     ensures holds { MatchOption result (items.now ≡ []) (λ h. AllByRecursion (λ x. is_inside h (X.span_of x) ≡ true) items.now) }
