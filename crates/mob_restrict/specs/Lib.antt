@@ -1,4 +1,3 @@
 pub mod Cuts
-pub mod Times
 pub mod Coordinates
 pub mod Values
