@@ -1,7 +1,9 @@
 //! Laws of reading and printing numbers: each is a promise without running code.
-ghost use Rattle.std.specs.Prelude.{◌≡◌, Ok};
+ghost use Rattle.std.specs.Prelude.{◌≡◌, ◌≢◌, Ok, pos, true};
 ghost use Rattle.mob_ratio.specs.Ratio.{Ratio};
 ghost use Rattle.mob_frac.specs.Fits.{Fits};
+ghost use Rattle.mob_language.specs.Language.{Text};
+ghost use Rattle.mob_language.specs.NonZero.{has_figure};
 ghost use Rattle.mob_numeral.specs.Numbers.{numbers, whole_numbers};
 ghost use Rattle.mob_numeral.specs.NumberText.{number_text};
 ghost use Rattle.mob_numeral.specs.Verdict.{Lit};
@@ -14,4 +16,10 @@ pub fn number_read_again()
 /// An int that is printed is read again as itself.
 pub fn whole_read_again()
     ensures again { (q : Ratio) → Fits q → q.den ≡ 1 → Lit whole_numbers (number_text q) (Ok q) }
+{}
+
+/// A number is not 0 where its text has a digit other than 0 before any exponent and any slash.
+pub fn numbers_with_figures()
+    ensures numbers { (text : Text) (q : Ratio) → has_figure text ≡ true → Lit numbers text (Ok q) → q.num ≢ pos 0 }
+    ensures whole { (text : Text) (q : Ratio) → has_figure text ≡ true → Lit whole_numbers text (Ok q) → q.num ≢ pos 0 }
 {}
