@@ -1,9 +1,10 @@
 -- Words and numbers of a script: which type they name, and what a number is worth.
-use Rattle.std.specs.Prelude.{◌==◌, ◌&&◌, ◌||◌, not, ℕ, List, [], ◌∷◌, Bool, true, false, Option, Some, None, codes, drop, take_while, if◌then◌else◌}
+use Rattle.std.specs.Prelude.{◌==◌, ◌&&◌, ◌||◌, not, ℕ, List, [], ◌∷◌, Bool, true, false, Option, Some, None, codes, drop, if◌then◌else◌}
 use Rattle.std.specs.List.{list_all}
 use Rattle.std.specs.Char.{is_ascii_digit, to_ascii_lowercase}
 use Rattle.std.specs.Str.{bytes_eq}
 use Rattle.mob_language.specs.Language.{is_blank}
+use Rattle.mob_language.specs.NonZero.{has_figure}
 use Rattle.mob_ast.specs.declared.types.Word.{Word}
 use Rattle.mob_ast.specs.declared.types.SqlType.{SqlType}
 use Rattle.mob_ast.specs.declared.types.SqlType.TheVariants as sql
@@ -32,9 +33,9 @@ type_named name (Some inner) = if bytes_eq name (codes "geometry") then type_amo
 abbrev pub number_type : List ℕ → SqlType
 number_type s = if list_all is_ascii_digit s then sql.Int else sql.Numeric
 
--- whether a number is 0: its digits, those of an exponent aside, are all 0
+-- whether a number is 0: no digit of it is another than 0, those of an exponent aside
 abbrev pub is_zero : List ℕ → Bool
-is_zero s = list_all (λ b. b == 48 || b == 46) (take_while (λ b. not (b == 101 || b == 69)) s)
+is_zero s = not (has_figure s)
 
 -- behind the blanks in front
 abbrev pub skip_blanks : List ℕ → List ℕ

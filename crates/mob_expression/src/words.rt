@@ -3,6 +3,7 @@ ghost use Rattle.std.specs.Prelude.{◌≡◌, map};
 ghost use Rattle.std.specs.List.{list_all};
 ghost use Rattle.std.specs.Char.{is_ascii_digit};
 ghost use Rattle.mob_language.specs.Language.{is_blank};
+ghost use Rattle.mob_language.specs.NonZero.{has_figure};
 ghost use Rattle.mob_expression.specs.Words.{type_among, type_words, geometry_words, type_named, number_type, is_zero, skip_blanks, begins_with_word, after_srid, after_semicolon, is_polygon, geometry_type, literal_type};
 
 use mob_ast::{SqlType, TypeWord};
@@ -89,14 +90,20 @@ pub fn has_digits_alone(text: &[u8]) -> bool
     text.iter().all(|b| b.is_ascii_digit())
 }
 
-/// Whether a number is 0: its digits, those of an exponent aside, are all 0.
+/// Whether a number is 0: no digit of it is another than 0, those of an exponent aside.
 pub fn is_zero(text: &str) -> bool
     ensures zero { result ≡ is_zero text.now }
 {
-    text.as_bytes()
-        .iter()
-        .take_while(|b| !(**b == b'e' || **b == b'E'))
-        .all(|b| *b == b'0' || *b == b'.')
+    !has_figure(text.as_bytes())
+}
+
+// Whether a digit other than 0 stands before any letter of an exponent and any slash.
+fn has_figure(text: &[u8]) -> bool
+    ensures { result ≡ has_figure text.now }
+{
+    text.iter()
+        .take_while(|b| !(**b == b'e' || **b == b'E' || **b == b'/'))
+        .any(|b| b'1' <= *b && *b <= b'9')
 }
 
 fn is_blank(b: u8) -> bool
