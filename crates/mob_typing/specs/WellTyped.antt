@@ -50,14 +50,18 @@ abbrev mutual
 abbrev pub IsNumber : List ConstText → List ℕ → ℕ → Type 0
 IsNumber consts text k = (option_map (λ c. c.text) (slice_get consts k) ≡ Some text) × (constant_type consts k ≡ Some (number_type text))
 
--- `IsNumberLiteral consts text t`: the expression t is such a constant of this text, perhaps behind signs
-pub data IsNumberLiteral (consts : List ConstText) (text : List ℕ) : TypedTree → Type 0 where
-  the_number : {k p : ℕ} {ty : SqlType} → IsNumber consts text k → IsNumberLiteral consts text (typed (op.Const k) ty p none)
-  behind_minus : {t : TypedTree} {ty : SqlType} {p : ℕ} → IsNumberLiteral consts text t → IsNumberLiteral consts text (typed op.Negate ty p (more t none))
-  behind_plus : {t : TypedTree} {ty : SqlType} {p : ℕ} → IsNumberLiteral consts text t → IsNumberLiteral consts text (typed op.Same ty p (more t none))
+-- `IsBehindSigns is t`: the expression t is a constant, perhaps behind signs, of a number that is so
+pub data IsBehindSigns (is : ℕ → Type 0) : TypedTree → Type 0 where
+  the_number : {k p : ℕ} {ty : SqlType} → is k → IsBehindSigns is (typed (op.Const k) ty p none)
+  behind_minus : {t : TypedTree} {ty : SqlType} {p : ℕ} → IsBehindSigns is t → IsBehindSigns is (typed op.Negate ty p (more t none))
+  behind_plus : {t : TypedTree} {ty : SqlType} {p : ℕ} → IsBehindSigns is t → IsBehindSigns is (typed op.Same ty p (more t none))
 
--- The second of two arguments is a constant of a text with a byte other than 0 and the point, before any e, and of the type that a number
--- literal of this text has. What the text is besides, the tree of the script says.
+-- the expression is such a constant of this text, perhaps behind signs
+abbrev pub IsNumberLiteral : List ConstText → List ℕ → TypedTree → Type 0
+IsNumberLiteral consts text = IsBehindSigns (IsNumber consts text)
+
+-- The second of two arguments is a constant of a text with a digit other than 0, before any e and any slash, and of the type that a number
+-- literal of this text has; so the number that it says is not 0.
 abbrev pub HasDivisor : List ConstText → TypedTrees → Type 0
 HasDivisor consts (more a (more b none)) = (text : List ℕ) × IsNumberLiteral consts text b × (is_zero text ≡ false)
 HasDivisor consts _ = ⊥
