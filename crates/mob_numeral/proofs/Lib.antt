@@ -11,3 +11,4 @@ pub mod WholeNumbers
 pub mod Fitted
 pub mod AnyCase
 pub mod SomeBlanks
+pub mod NonZero
