@@ -10,7 +10,7 @@ mod readers;
 mod words;
 
 pub use fault::ReadText;
-pub use laws::{number_read_again, whole_read_again};
+pub use laws::{number_read_again, numbers_with_figures, whole_read_again};
 pub use number::{evaluate, number_value_at, read_number, read_whole, ten_to};
 pub use numeral::{Exponent, Figures, Numeral, Tail, digits_at, number_at};
 pub use printing::write_number;
