@@ -61,9 +61,9 @@ figure_within p on [] rest each h = inr h
 figure_within p on (c ∷ cs) rest each h = elim (either (is_figure c) (has_figure (cs ++ rest)) (sym (figure_on c (cs ++ rest) (on c each.0)) ∙ h)) [
   | inl e ↦ inl (ap (λ (b : Bool). b || list_any is_figure cs) e)
   | inr e ↦ elim (figure_within p on cs rest each.1 e) [
-      | inl f ↦ inl (or_right (is_figure c) (list_any is_figure cs) f)
-      | inr f ↦ inr f
-    ]
+    | inl f ↦ inl (or_right (is_figure c) (list_any is_figure cs) f)
+    | inr f ↦ inr f
+  ]
 ]
 
 no_figure_in : (p : ℕ → Bool) → ((c : ℕ) → p c ≡ true → is_figure c ≡ false) → (front : Text) → AreAll p front → list_any is_figure front ≡ false
@@ -199,6 +199,7 @@ value_nonzero negative whole (Decimal part raised) there h =
   where
     sum_front : (x y : ℕ) → 0 < x → 0 < x + y
     sum_front x y k = omega (arith, k)
+
     sum_back : (x y : ℕ) → 0 < y → 0 < x + y
     sum_back x y k = omega (arith, k)
 
@@ -208,7 +209,7 @@ number_nonzero text n k h =
     let s = k.said.said in
     let behind_sign = sign_figure s.front s.back k.said.meant.0 s.first (subst (λ (t : Text). has_figure t ≡ true) s.whole h) in
     let value : (0 < k.said.meant.1.0.value) ⊎ HasPart k.said.meant.1.1 = elim (digits_figure s.second.front s.second.back k.said.meant.1.0 s.second.first
-        (subst (λ (t : Text). has_figure t ≡ true) s.second.whole behind_sign)) [
+    (subst (λ (t : Text). has_figure t ≡ true) s.second.whole behind_sign)) [
       | inl a ↦ inl a
       | inr b ↦ inr (tail_figure s.second.back k.said.meant.1.1 s.second.second b)
     ] in
