@@ -1,19 +1,13 @@
 -- On a cell a line keeps its sign.
-use Rattle.std.specs.Prelude.{◌≡◌, ◌⊎◌, Bool, true, false, cond, not, ◌&&◌, ◌||◌, ℕ, zero, suc, List, [], ◌∷◌, ◌++◌, map, slice_get, length, get_or, ◌<◌, Option, Some, None, MatchOption, refl}
-use Rattle.std.specs.List.{AllByRecursion, flat_map}
-use Rattle.std.proofs.Common.{arith, ap, sym, ◌∙◌, subst, true≢false, inl, inr, append_assoc}
-use Rattle.std.specs.declared.cmp.Ordering.{Ordering}
-use Rattle.std.specs.declared.cmp.Ordering.TheVariants.{Less, Equal, Greater}
-use Rattle.mob_ratio.specs.Ratio.{Ratio, ◌-ℚ◌, ◌+ℚ◌, neg_ℚ}
-use Rattle.mob_ratio.specs.Order.{before, up_to, same}
+use Rattle.std.specs.Prelude.{◌≡◌, Bool, true, false, not, ◌&&◌, ◌||◌, refl}
+use Rattle.std.proofs.Common.{arith, sym, true≢false}
+use Rattle.mob_ratio.specs.Ratio.{Ratio}
+use Rattle.mob_ratio.specs.Order.{before, up_to}
 use Rattle.mob_ratio.specs.Line.{line_at}
-use Rattle.mob_ratio.specs.Sign.{nil, sign_of, opposite, root_at, sign_on, IsClearCell}
-use Rattle.mob_ratio.proofs.Order.{before-self, before-back, before-trans, before-neither, same_exact}
-use Rattle.mob_span.specs.Span.{SpanOf, has, has_instant}
-use Rattle.mob_span.specs.Neighbours.{is_clear, is_inside}
-use Rattle.mob_span.specs.Sets.{in_some}
-use Rattle.mob_slice.specs.Slices.{OfHead}
-use Rattle.mob_span.specs.Parts.{PartsAreClear}
+use Rattle.mob_ratio.specs.Sign.{sign_of, opposite, root_at, sign_on, IsClearCell}
+use Rattle.mob_ratio.proofs.Order.{before-back, before-trans, before-neither}
+use Rattle.mob_span.specs.Span.{SpanOf, has}
+use Rattle.mob_span.specs.Neighbours.{is_inside}
 use Rattle.mob_ratio.proofs.Signs.{sign_open, sign_point, sign_short}
 use Rattle.mob_cells.specs.Cells.{is_cell, is_cell_of, NoneWithin}
 

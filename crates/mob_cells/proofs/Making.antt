@@ -1,14 +1,13 @@
 -- Cells, a function at a time.
-use Rattle.std.specs.Prelude.{◌≡◌, ◌⊎◌, Bool, true, false, cond, not, ◌&&◌, ◌||◌, ℕ, zero, suc, List, [], ◌∷◌, ◌++◌, map, slice_get, length, get_or, ◌<◌, Option, Some, None, MatchOption, refl}
-use Rattle.std.specs.List.{AllByRecursion, flat_map}
+use Rattle.std.specs.Prelude.{◌≡◌, ◌⊎◌, Bool, true, false, cond, ◌&&◌, ◌||◌, ℕ, zero, suc, List, [], ◌∷◌, ◌++◌, map, slice_get, length, get_or, ◌<◌, Option, Some, None, MatchOption, refl}
+use Rattle.std.specs.List.{AllByRecursion}
 use Rattle.std.proofs.Common.{arith, ap, sym, ◌∙◌, subst, true≢false, inl, inr, append_assoc, append-nil, drop, ◌+◌, add-one, drop-cons}
 use Rattle.std.proofs.lemmas.Option.{slice_get_read}
 use Rattle.std.proofs.lemmas.List.Concat.{flat_map-append}
 use Rattle.std.specs.declared.cmp.Ordering.{Ordering}
-use Rattle.std.specs.declared.cmp.Ordering.TheVariants.{Less, Equal, Greater}
 use Rattle.mob_ratio.specs.Ratio.{Ratio}
-use Rattle.mob_ratio.specs.Order.{before, up_to}
-use Rattle.mob_ratio.specs.Sign.{opposite, root_at, sign_on, sign_of}
+use Rattle.mob_ratio.specs.Order.{before}
+use Rattle.mob_ratio.specs.Sign.{opposite, root_at, sign_of}
 use Rattle.mob_ratio.proofs.Order.{before-back, before-neither}
 use Rattle.mob_frac.specs.Formula.{AllFit}
 use Rattle.mob_span.specs.Span.{SpanOf, has, has_instant}
@@ -18,11 +17,11 @@ use Rattle.mob_cells.specs.Cells.{IsIn}
 use Rattle.mob_slice.proofs.Cuts.{all_both, all_first, all_second}
 use Rattle.mob_cells.specs.declared.linear.Ends.{Ends}
 use Rattle.mob_cells.specs.declared.signs.Placed.{Placed}
-use Rattle.mob_cells.specs.Roots.{IsLevel, root_parts, root_of, roots, roots_parts, listed, function_at, IsOneRoot}
+use Rattle.mob_cells.specs.Roots.{IsLevel, root_parts, root_of, roots, roots_parts, listed, function_at}
 use Rattle.mob_cells.specs.Cells.{AreCells, AreCutAt, IsSomeEnd, IsCut, AreSplit, IsPlaced, IsApart, AreSigned, functions_of, cut_at, split_at, start_cells, until, point, beyond, NoneWithin, is_cell, is_cell_of, placed_sign, signs_of}
 use Rattle.mob_cells.proofs.Splits.{split_are, split_out, split_self, start_are}
 use Rattle.mob_cells.proofs.Keeps.{kept, both}
-use Rattle.mob_cells.proofs.Zeros.{one_root, root_inside}
+use Rattle.mob_cells.proofs.Zeros.{root_inside}
 
 -- the cells of the functions before the rest
 pub record IsMaking (s : SpanOf) (fs rest : List Ends) (cells : List SpanOf) (placed : List Placed) : Type 0 where

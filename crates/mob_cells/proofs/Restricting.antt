@@ -1,38 +1,34 @@
 -- What is kept on each cell, and on all of them.
-use Rattle.std.specs.Prelude.{◌≡◌, ◌⊎◌, Bool, true, false, cond, not, ◌&&◌, ◌||◌, ℕ, List, [], ◌∷◌, ◌++◌, map, slice_get, length, get_or, ◌<◌, Option, Some, None, MatchOption, Result, Ok, Err, MatchResult, IfOk, refl}
+use Rattle.std.specs.Prelude.{◌≡◌, Bool, true, false, cond, not, ◌&&◌, ◌||◌, ℕ, List, [], ◌∷◌, ◌++◌, slice_get, length, get_or, ◌<◌, Option, Some, None, MatchOption, Result, Ok, Err, MatchResult, refl}
 use Rattle.std.specs.List.{AllByRecursion, flat_map}
 use Rattle.std.proofs.Common.{arith, ap, sym, ◌∙◌, subst, true≢false, inl, inr, append_assoc, append-nil, drop, ◌+◌, suc, add-one, drop-cons}
 use Rattle.std.specs.declared.cmp.Ordering.{Ordering}
 use Rattle.mob_ratio.specs.Ratio.{Ratio}
 use Rattle.mob_frac.specs.Formula.{AllFit}
 use Rattle.mob_span.specs.Span.{SpanOf, has, has_instant}
-use Rattle.mob_span.specs.Neighbours.{is_clear, is_inside}
+use Rattle.mob_span.specs.Neighbours.{is_inside}
 use Rattle.mob_span.specs.Sets.{in_some}
 use Rattle.mob_span.proofs.Insides.{inside_self, both, joined}
 use Rattle.mob_ratio.specs.Order.{before, up_to}
-use Rattle.mob_ratio.proofs.Order.{before-back, before-trans, before-neither}
-use Rattle.mob_slice.specs.Slices.{value_at, IsOrdered, IsSound}
-use Rattle.mob_span.specs.Parts.{PartsAreClear, part_at}
+use Rattle.mob_ratio.proofs.Order.{before-trans, before-neither}
+use Rattle.mob_slice.specs.Slices.{value_at}
+use Rattle.mob_span.specs.Parts.{part_at}
 use Rattle.mob_slice.specs.Pieces.{AreInside}
 use Rattle.mob_cells.specs.Cells.{IsIn}
 use Rattle.mob_slice.specs.Sides.{HasValues, at_ends}
-use Rattle.mob_slice.specs.Cut.{slice_value, slice_parts}
-use Rattle.mob_slice.specs.Entries.{Entry, IsFirst, IsJudged, OnFormula}
+use Rattle.mob_slice.specs.Entries.{Entry, IsFirst, OnFormula}
 use Rattle.mob_slice.specs.Look.{IsLookFault}
 use Rattle.mob_slice.specs.Operands.{steady_value, steady_limit}
 use Rattle.mob_slice.specs.declared.slice.Slice.{Slice}
 use Rattle.mob_slice.specs.declared.steady.Steady.{Steady}
-use Rattle.mob_slice.specs.declared.formula.Formula.{Formula}
-use Rattle.mob_slice.specs.declared.formula.Formula.TheVariants.{F1, F3}
+use Rattle.mob_slice.specs.declared.formula.Formula.TheVariants.{F1}
 use Rattle.mob_slice.specs.declared.formula.OpFault.{OpFault}
 use Rattle.mob_slice.specs.declared.formula.OpFault.TheVariants.{Passed, NoMemory}
 use Rattle.mob_slice.specs.declared.formula.LookFault.{LookFault}
 use Rattle.mob_slice.specs.declared.formula.LookFault.TheVariants.{Passed as LookPassed, NoMemory as LookNoMemory}
 use Rattle.mob_slice.proofs.Cuts.{all_both, all_first, all_second}
-use Rattle.mob_cells.specs.declared.linear.Ends.{Ends}
-use Rattle.mob_cells.specs.Roots.{roots, roots_parts}
-use Rattle.mob_cells.specs.Cells.{AreCells, AreCutAt, IsCut, IsSomeEnd, signs_of, CellsOf}
-use Rattle.mob_cells.specs.Kept.{AreKept, IsKeptBy, IsCellFault, entry_of_cuts, entry_of_roots, entries_of_cuts}
+use Rattle.mob_cells.specs.Cells.{AreCells, AreCutAt, IsCut, IsSomeEnd}
+use Rattle.mob_cells.specs.Kept.{AreKept, IsCellFault}
 use Rattle.mob_cells.specs.Restricted.{kept_value, is_wanted}
 use Rattle.mob_slice.specs.Entries.{operator_fault}
 use Rattle.mob_cells.proofs.Joining.{LiftsTo, IsLifted, is_lifted}

@@ -1,12 +1,10 @@
 -- The sign on a cell, as it is looked up.
-use Rattle.std.specs.Prelude.{◌≡◌, Bool, true, false, cond, not, ◌&&◌, ◌||◌, ◌↔◌, IsTrue, Option, Some, None, pos, refl}
-use Rattle.std.proofs.Common.{arith, ap, sym, ◌∙◌, subst, true≢false, Ordering, Less, Equal, Greater}
-use Rattle.std.specs.Ordering.{MatchOrdering}
-use Rattle.mob_ratio.specs.Ratio.{Ratio, whole, ◌<ℚ◌}
-use Rattle.mob_ratio.specs.Order.{before, up_to, same}
+use Rattle.std.specs.Prelude.{◌≡◌, Bool, true, false, cond, ◌↔◌, IsTrue, Some, None, refl}
+use Rattle.std.proofs.Common.{sym, ◌∙◌, true≢false, Equal}
+use Rattle.mob_ratio.specs.Ratio.{Ratio}
+use Rattle.mob_ratio.specs.Order.{before, same}
 use Rattle.mob_ratio.specs.Sign.{nil, sign_of, opposite, root_at, sign_on}
-use Rattle.mob_ratio.proofs.Order.{before-self, before-back, lt-before, false_unless, same_exact}
-use Rattle.mob_ratio.proofs.Signs.{sign_below, sign_above, sign_nil}
+use Rattle.mob_ratio.proofs.Order.{false_unless, same_exact}
 use Rattle.mob_span.specs.Span.{SpanOf}
 use Rattle.mob_cells.specs.Roots.{root_of}
 use Rattle.mob_cells.specs.declared.linear.Ends.{Ends}

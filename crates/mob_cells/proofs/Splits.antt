@@ -1,20 +1,16 @@
 -- Cutting the cells at an instant.
-use Rattle.std.specs.Prelude.{◌≡◌, ◌⊎◌, Bool, true, false, cond, not, ◌&&◌, ◌||◌, ℕ, zero, suc, List, [], ◌∷◌, ◌++◌, map, slice_get, length, get_or, ◌<◌, Option, Some, None, MatchOption, refl}
-use Rattle.std.specs.List.{AllByRecursion, flat_map}
-use Rattle.std.proofs.Common.{arith, ap, sym, ◌∙◌, subst, true≢false, inl, inr, append_assoc}
-use Rattle.std.specs.declared.cmp.Ordering.{Ordering}
-use Rattle.std.specs.declared.cmp.Ordering.TheVariants.{Less, Equal, Greater}
-use Rattle.mob_ratio.specs.Ratio.{Ratio, ◌-ℚ◌, ◌+ℚ◌, neg_ℚ}
-use Rattle.mob_ratio.specs.Order.{before, up_to, same}
-use Rattle.mob_ratio.specs.Line.{line_at}
-use Rattle.mob_ratio.specs.Sign.{nil, sign_of, opposite, root_at, sign_on, IsClearCell}
-use Rattle.mob_ratio.proofs.Order.{before-self, before-back, before-trans, before-neither, same_exact}
+use Rattle.std.specs.Prelude.{◌≡◌, Bool, true, false, cond, not, ◌&&◌, ◌||◌, List, [], ◌∷◌, ◌++◌, refl}
+use Rattle.std.specs.List.{AllByRecursion}
+use Rattle.std.proofs.Common.{arith, ap, sym, ◌∙◌, true≢false}
+use Rattle.mob_ratio.specs.Ratio.{Ratio}
+use Rattle.mob_ratio.specs.Order.{before, up_to}
+use Rattle.mob_ratio.proofs.Order.{before-self, before-back, before-trans, before-neither}
 use Rattle.mob_span.specs.Span.{SpanOf, has, has_instant}
 use Rattle.mob_span.specs.Neighbours.{is_clear, is_inside}
 use Rattle.mob_span.specs.Sets.{in_some}
 use Rattle.mob_slice.specs.Slices.{OfHead}
 use Rattle.mob_span.specs.Parts.{PartsAreClear}
-use Rattle.mob_cells.specs.Cells.{point, inner, until, beyond, split_one, split_at, start_cells, is_cell, is_cell_of, AreSplit, NoneWithin}
+use Rattle.mob_cells.specs.Cells.{point, inner, until, beyond, split_at, start_cells, is_cell, is_cell_of, AreSplit, NoneWithin}
 
 -- ---- one cell
 and_of : (a b : Bool) → a ≡ true → b ≡ true → (a && b) ≡ true

@@ -1,22 +1,21 @@
 -- Roots.
-use Rattle.std.specs.Prelude.{◌≡◌, ◌⊎◌, Bool, true, false, cond, not, ◌&&◌, ◌||◌, List, [], ◌∷◌, ◌++◌, Option, Some, None, MatchOption, Result, pos, refl}
+use Rattle.std.specs.Prelude.{◌≡◌, Bool, true, false, cond, ◌&&◌, ◌||◌, [], ◌∷◌, Result, pos, refl}
 use Rattle.std.proofs.Common.{arith, ap, sym, ◌∙◌, subst, true≢false, inl, inr}
-use Rattle.std.specs.declared.cmp.Ordering.{Ordering}
 use Rattle.std.specs.declared.cmp.Ordering.TheVariants.{Less, Equal, Greater}
-use Rattle.mob_ratio.specs.Ratio.{Ratio, whole, ◌+ℚ◌, ◌-ℚ◌, ◌*ℚ◌, ◌/ℚ◌, ◌<ℚ◌, neg_ℚ, inverse}
-use Rattle.mob_ratio.specs.Order.{before, up_to}
+use Rattle.mob_ratio.specs.Ratio.{Ratio, whole, ◌+ℚ◌, ◌-ℚ◌, ◌*ℚ◌, ◌/ℚ◌, ◌<ℚ◌}
+use Rattle.mob_ratio.specs.Order.{before}
 use Rattle.mob_ratio.specs.Line.{line_at}
 use Rattle.mob_ratio.specs.Sign.{nil, opposite, root_at, sign_of, IsRoot}
 use Rattle.mob_ratio.proofs.Order.{before-self, before-back, before-trans, before-neither, before-lt, lt-before, false_unless}
 use Rattle.mob_ratio.proofs.Signs.{root_holds, opposite_cases, sign_below, sign_above, sign_nil}
-use Rattle.mob_ratio.proofs.IntRing.{linear, products}
-use Rattle.mob_ratio.proofs.Clear.{clear2, fractions, cleared}
+use Rattle.mob_ratio.proofs.IntRing.{linear}
+use Rattle.mob_ratio.proofs.Clear.{clear2, cleared}
 use Rattle.mob_frac.specs.Fits.{Fits, IsExact}
 use Rattle.mob_frac.specs.Formula.{IsFormula}
 use Rattle.mob_frac.proofs.PartsOfLines.{last_part}
 use Rattle.mob_span.specs.Span.{SpanOf, has}
 use Rattle.mob_cells.specs.declared.linear.Ends.{Ends}
-use Rattle.mob_cells.specs.Roots.{function_at, IsLevel, IsOneRoot, inner_root_parts, opposes}
+use Rattle.mob_cells.specs.Roots.{IsLevel, IsOneRoot, inner_root_parts, opposes}
 
 opposite_self : (x : Ratio) → opposite x x ≡ false
 unfolding opposite

@@ -6,8 +6,8 @@ use Rattle.std.specs.declared.cmp.Ordering.TheVariants.{Less, Equal, Greater}
 use Rattle.mob_ratio.specs.Ratio.{Ratio}
 use Rattle.mob_ratio.specs.Order.{before, up_to}
 use Rattle.mob_ratio.specs.Sign.{sign_on, sign_of}
-use Rattle.mob_span.specs.Span.{SpanOf, has, has_instant}
-use Rattle.mob_span.specs.Neighbours.{is_clear, is_inside}
+use Rattle.mob_span.specs.Span.{SpanOf, has}
+use Rattle.mob_span.specs.Neighbours.{is_inside}
 use Rattle.mob_span.specs.Sets.{in_some}
 use Rattle.mob_span.specs.Parts.{PartsAreClear}
 use Rattle.mob_cells.specs.declared.linear.Ends.{Ends}
