@@ -1,5 +1,5 @@
 -- Lines meet the laws of sums, differences and multiples: each of them is a line between the results at the two ends.
-use Rattle.std.specs.Prelude.{◌≡◌, refl, ⊤}
+use Rattle.std.specs.Prelude.{refl, ⊤}
 use Rattle.std.proofs.Common.{sym}
 use Rattle.mob_ratio.specs.Ratio.{Ratio, inverse}
 use Rattle.mob_ratio.proofs.LineAt.{line_at-sum, line_at-scale}

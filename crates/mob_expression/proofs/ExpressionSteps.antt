@@ -1,5 +1,5 @@
 -- The typing of an expression in memory, step by step.
-use Rattle.std.proofs.Common.{◌≡◌, ◌∙◌, refl, sym, ap, ℕ, List, [], ◌∷◌, ◌++◌, Option, Some, None, Result, Ok, Err}
+use Rattle.std.proofs.Common.{◌≡◌, ◌∙◌, sym, ap, ℕ, List, [], ◌∷◌, ◌++◌, Option, Some, None, Result, Ok, Err}
 use Rattle.std.specs.Prelude.{option_map}
 use Rattle.mob_ast.specs.declared.expression.Node.{Node}
 use Rattle.mob_ast.specs.declared.expression.Expr.{Expr}

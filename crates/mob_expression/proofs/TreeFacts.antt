@@ -5,9 +5,7 @@ use Rattle.mob_ast.specs.declared.expression.Expr.TheViews.{out-Expr}
 use Rattle.mob_ast.specs.declared.expression.Expr.TheFolds.{fold_out-Expr}
 use Rattle.mob_ast.specs.Trees.{Tree, tree, tree_step, tree_of, trees_of}
 use Rattle.mob_typed.specs.declared.typed.TExpr.{TExpr}
-use Rattle.mob_typed.specs.declared.typed.TExpr.TheViews.{out-TExpr}
-use Rattle.mob_typed.specs.declared.typed.TExpr.TheFolds.{fold_out-TExpr}
-use Rattle.mob_typed.specs.Trees.{TypedTree, typed, typed_trees, typed_step, typed_of, type_of, types_of}
+use Rattle.mob_typed.specs.Trees.{typed_of, type_of, types_of}
 use Rattle.mob_expression.specs.Expressions.{is_signed, digits_of, digits_in, signed_digits}
 use Rattle.mob_ast.specs.declared.expression.Node.TheVariants.{Sign}
 

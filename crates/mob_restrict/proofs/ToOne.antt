@@ -1,11 +1,10 @@
 -- The restriction of a slice to one value.
-use Rattle.std.specs.Prelude.{◌≡◌, Bool, true, false, cond, List, [], ◌∷◌, ◌++◌, Option, Some, None, Result, Ok, Err, MatchResult, refl}
-use Rattle.std.specs.List.{AllByRecursion, flat_map}
-use Rattle.std.proofs.Common.{ap, sym, ◌∙◌, subst, inl, inr, true≢false}
+use Rattle.std.specs.Prelude.{◌≡◌, Bool, true, false, cond, List, [], ◌∷◌, ◌++◌, Some, None, Result, Ok, Err, MatchResult, refl}
+use Rattle.std.specs.List.{AllByRecursion}
+use Rattle.std.proofs.Common.{ap, sym, ◌∙◌, subst, inl, inr}
 use Rattle.mob_ratio.specs.Ratio.{Ratio}
-use Rattle.mob_ratio.specs.Order.{before}
 use Rattle.mob_frac.specs.Formula.{AllFit}
-use Rattle.mob_span.specs.Span.{SpanOf, has, has_instant}
+use Rattle.mob_span.specs.Span.{has}
 use Rattle.mob_span.proofs.Insides.{inside_self}
 use Rattle.mob_slice.specs.Course.{IsCourse}
 use Rattle.mob_slice.specs.Slices.{IsSound}
@@ -13,25 +12,24 @@ use Rattle.mob_slice.specs.Comparison.{IsComparison, gap_parts}
 use Rattle.mob_slice.specs.Look.{IsLookFault}
 use Rattle.mob_slice.specs.Cut.{slice_value, slice_parts}
 use Rattle.mob_slice.specs.Sides.{at_ends, HasValues}
-use Rattle.mob_slice.specs.Entries.{Entry, IsFirst, OnFormula, operator_fault}
+use Rattle.mob_slice.specs.Entries.{IsFirst, OnFormula, operator_fault}
 use Rattle.mob_slice.specs.declared.slice.Slice.{Slice}
 use Rattle.mob_slice.specs.declared.comparison.Rel.{Rel}
 use Rattle.mob_slice.specs.declared.comparison.Rel.TheVariants.{Eq}
 use Rattle.mob_slice.specs.declared.comparison.Gaps.{Gaps}
 use Rattle.mob_slice.specs.declared.comparison.Gaps.TheVariants.{Constant}
-use Rattle.mob_slice.specs.declared.formula.Formula.{Formula}
 use Rattle.mob_slice.specs.declared.formula.OpFault.{OpFault}
 use Rattle.mob_slice.specs.declared.formula.OpFault.TheVariants.{Passed, NoMemory}
 use Rattle.mob_slice.specs.declared.formula.LookFault.{LookFault}
 use Rattle.mob_slice.specs.declared.formula.LookFault.TheVariants.{Passed as LookPassed, NoMemory as LookNoMemory}
 use Rattle.mob_cells.specs.declared.linear.Ends.{Ends}
-use Rattle.mob_cells.specs.Roots.{IsLevel, roots, roots_parts}
+use Rattle.mob_cells.specs.Roots.{IsLevel}
 use Rattle.mob_cells.specs.Cells.{signs_of}
 use Rattle.mob_cells.specs.Kept.{AreKept, IsKeptBy, entries_of_cuts}
 use Rattle.mob_cells.specs.Restricted.{kept_value, is_wanted}
 use Rattle.mob_cells.specs.Gaps.{gap_ends, related_by, IsGapFault}
 use Rattle.mob_cells.proofs.GapSigns.{by_gaps, no_gaps, gaps_level}
-use Rattle.mob_cells.proofs.OwnEnds.{own_ends, own_fit, start_value, end_value, kept_behind}
+use Rattle.mob_cells.proofs.OwnEnds.{own_fit, start_value, end_value, kept_behind}
 use Rattle.mob_restrict.specs.Values.{entries_of_value, slice_gaps}
 
 module _ {C B : Type 0} {steady copies : Bool} {value : C → Ratio → Ratio → Ratio → B} {start end : C → B} {can_make : B → B → Type 0} {make : B → B → C} {continues : C → C → Ratio → Ratio → Ratio → Bool} {parts : C → Ratio → Ratio → Ratio → List Ratio} (laws : IsCourse steady copies value start end can_make make continues parts)

@@ -4,7 +4,7 @@ use Rattle.mob_ratio.specs.Gcd.{gcd, gcd_steps}
 use Rattle.mob_ratio.specs.Ratio.{Ratio, Ratio-same, whole, over, turned, inverse, ◌*ℚ◌, ◌/ℚ◌}
 use Rattle.mob_ratio.specs.Sign.{nil}
 use Rattle.mob_ratio.proofs.Clear.{clear1, cleared}
-use Rattle.mob_ratio.proofs.IntRing.{linear, products}
+use Rattle.mob_ratio.proofs.IntRing.{linear}
 use Rattle.mob_arith.proofs.termwise.divided.Goals as goal
 
 nil_num : nil.num ≡ pos 0

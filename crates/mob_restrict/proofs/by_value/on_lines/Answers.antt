@@ -1,4 +1,3 @@
-use Rattle.std.proofs.Common.{rules, ◌≡◌, ◌∙◌, sym, ap}
 use Rattle.mob_span.proofs.Insides.{inside_self}
 use Rattle.mob_cells.proofs.OwnEnds.{own_fit}
 use Rattle.mob_restrict.proofs.ToOne.{gaps_fail, level_gaps, lines_kept}

@@ -1,4 +1,4 @@
-use Rattle.std.proofs.Common.{rules, ◌≡◌, ◌∙◌, sym, ap, true, false}
+use Rattle.std.proofs.Common.{rules, ◌∙◌, ap}
 use Rattle.mob_span.proofs.Insides.{inside_self}
 use Rattle.mob_cells.specs.Restricted.{is_wanted}
 use Rattle.mob_restrict.proofs.ToOne.{steady_first, steady_nothing, steady_all, steady_fails}
