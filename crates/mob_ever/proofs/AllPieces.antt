@@ -1,9 +1,9 @@
 -- The pieces of two operands one after the other, and the instants that they share.
-use Rattle.std.specs.Prelude.{◌≡◌, ◌⊎◌, ◌↔◌, ◌||◌, Bool, true, false, cond, not, List, [], ◌∷◌, ◌++◌, Option, Some, None, option_map, refl, ⊤}
+use Rattle.std.specs.Prelude.{◌≡◌, ◌⊎◌, ◌↔◌, ◌||◌, Bool, true, false, cond, List, [], ◌∷◌, Option, Some, None, option_map, refl}
 use Rattle.std.specs.List.{AllByRecursion, flat_map}
 use Rattle.std.proofs.Common.{ap, sym, ◌∙◌, subst, true≢false, inl, inr}
 use Rattle.mob_ratio.specs.Ratio.{Ratio}
-use Rattle.mob_span.specs.Span.{SpanOf, has, has_instant}
+use Rattle.mob_span.specs.Span.{SpanOf, has}
 use Rattle.mob_span.specs.Parts.{PartsAreClear, part_at}
 use Rattle.mob_span.specs.Meets.{PieceOf}
 use Rattle.mob_span.proofs.Insides.{clear_has}
@@ -16,7 +16,7 @@ use Rattle.mob_lift.proofs.PieceLaws.{pieces_value}
 use Rattle.mob_lift.proofs.Judged.{first_joined, first_front}
 use Rattle.mob_ever.proofs.Meeting.{some_instant}
 use Rattle.mob_ever.specs.Met.{either}
-use Rattle.mob_ever.specs.Sometime.{IsSometime, HaveCommon, IsEver, IsAlways}
+use Rattle.mob_ever.specs.Sometime.{IsSometime, HaveCommon, IsEver}
 
 no_some : {A R : Type 0} (x : A) → None ≡ Some x → R
 no_some x e = cc

@@ -1,24 +1,23 @@
 -- When two linear functions are 0 at one instant.
-use Rattle.std.specs.Prelude.{◌≡◌, ◌↔◌, Bool, true, false, cond, not, ◌&&◌, ◌||◌, refl}
+use Rattle.std.specs.Prelude.{◌≡◌, ◌↔◌, Bool, true, false, cond, ◌&&◌, ◌||◌, refl}
 use Rattle.std.proofs.Common.{arith, ap, sym, ◌∙◌, subst, true≢false}
-use Rattle.std.specs.declared.cmp.Ordering.{Ordering}
-use Rattle.std.specs.declared.cmp.Ordering.TheVariants.{Less, Equal, Greater}
+use Rattle.std.specs.declared.cmp.Ordering.TheVariants.{Equal}
 use Rattle.mob_ratio.specs.Ratio.{Ratio, ◌-ℚ◌, ◌*ℚ◌, ◌/ℚ◌}
 use Rattle.mob_ratio.specs.Order.{before, same}
 use Rattle.mob_ratio.specs.Line.{line_at}
-use Rattle.mob_ratio.specs.Sign.{nil, opposite, root_at, sign_of, IsRoot}
-use Rattle.mob_ratio.proofs.Order.{before-self, before-trans, before-neither, same_exact, false_unless}
+use Rattle.mob_ratio.specs.Sign.{nil, opposite, sign_of}
+use Rattle.mob_ratio.proofs.Order.{before-self, same_exact}
 use Rattle.mob_ratio.proofs.Field.{mul_comm, sub_self}
 use Rattle.mob_ratio.proofs.Divide.{mul_cancel, quotients_same}
 use Rattle.mob_ratio.proofs.LineAt.{line_at-lower, line_at-upper, line_at-short, line_at-level, line_at-scale}
-use Rattle.mob_ratio.proofs.Clear.{clear1, clear2, fractions, cleared}
-use Rattle.mob_ratio.proofs.IntRing.{linear, products}
-use Rattle.mob_ratio.proofs.Signs.{root_holds, line_at-diff, sign_nil}
+use Rattle.mob_ratio.proofs.Clear.{clear1, clear2, cleared}
+use Rattle.mob_ratio.proofs.IntRing.{linear}
+use Rattle.mob_ratio.proofs.Signs.{line_at-diff, sign_nil}
 use Rattle.mob_span.specs.Span.{SpanOf, has, has_instant}
 use Rattle.mob_cells.specs.declared.linear.Ends.{Ends}
 use Rattle.mob_cells.specs.Roots.{function_at}
 use Rattle.mob_ever.specs.Taken.{takes_inside, is_nil_line, nil_inside, both_nil}
-use Rattle.mob_ever.proofs.Taking.{inside_from, inside_to, level_sign, no_opposite, sign_of_is, is_sign_of}
+use Rattle.mob_ever.proofs.Taking.{inside_from, inside_to, level_sign, no_opposite, is_sign_of}
 use Rattle.mob_ever.proofs.OnSpans.{IsPlace, at_lower, within, at_upper, place_of, inside_has, lower_has, upper_has, short_has}
 
 nil_mul : (a : Ratio) → nil *ℚ a ≡ nil

@@ -1,6 +1,6 @@
 -- When courses pass a test of their order on a piece.
 use Rattle.std.specs.Prelude.{◌≡◌, ◌↔◌, Bool, true, false, cond, ◌&&◌, ◌||◌, refl}
-use Rattle.std.proofs.Common.{arith, ap, sym, ◌∙◌, subst, true≢false}
+use Rattle.std.proofs.Common.{arith, ap, sym, ◌∙◌, true≢false}
 use Rattle.std.specs.declared.cmp.Ordering.{Ordering}
 use Rattle.std.specs.declared.cmp.Ordering.TheVariants.{Less, Equal, Greater}
 use Rattle.mob_ratio.specs.Ratio.{Ratio}
@@ -16,7 +16,7 @@ use Rattle.mob_cells.specs.Roots.{function_at}
 use Rattle.mob_ever.specs.Taken.{takes, both_nil}
 use Rattle.mob_ever.specs.Met.{order_of, line_between, one_meets, two_meet, gaps_meet}
 use Rattle.mob_ever.proofs.Taking.{sign_of_is, is_sign_of}
-use Rattle.mob_ever.proofs.OnSpans.{IsTaken, takes_exact, inside_has, short_has}
+use Rattle.mob_ever.proofs.OnSpans.{takes_exact, inside_has, short_has}
 use Rattle.mob_ever.proofs.BothNil.{both_nil_exact}
 
 -- a span with an instant has one

@@ -1,20 +1,17 @@
 -- The signs that linear functions take on a span.
-use Rattle.std.specs.Prelude.{◌≡◌, ◌↔◌, Bool, true, false, cond, not, ◌&&◌, ◌||◌, refl}
-use Rattle.std.proofs.Common.{arith, ap, sym, ◌∙◌, subst, true≢false}
+use Rattle.std.specs.Prelude.{◌≡◌, ◌↔◌, Bool, true, false, cond, ◌&&◌, ◌||◌, refl}
+use Rattle.std.proofs.Common.{arith, ap, sym, ◌∙◌, subst}
 use Rattle.std.specs.declared.cmp.Ordering.{Ordering}
-use Rattle.std.specs.declared.cmp.Ordering.TheVariants.{Less, Equal, Greater}
-use Rattle.mob_ratio.specs.Ratio.{Ratio, whole, ◌+ℚ◌, ◌-ℚ◌, ◌*ℚ◌, ◌/ℚ◌}
-use Rattle.mob_ratio.specs.Order.{before, up_to, same}
-use Rattle.mob_ratio.specs.Line.{line_at, IsOnLine}
-use Rattle.mob_ratio.specs.Sign.{nil, opposite, root_at, sign_of}
-use Rattle.mob_ratio.proofs.Order.{before-self, before-back, before-trans, before-neither, false_unless, same_exact, before-lt}
-use Rattle.mob_ratio.proofs.LineAt.{line_at-lower, line_at-upper, line_at-short, line_at-level, line_at-is, line_at-known}
-use Rattle.mob_ratio.proofs.Signs.{root_holds}
+use Rattle.mob_ratio.specs.Ratio.{Ratio}
+use Rattle.mob_ratio.specs.Order.{before}
+use Rattle.mob_ratio.specs.Sign.{sign_of}
+use Rattle.mob_ratio.proofs.Order.{before-self, before-neither}
+use Rattle.mob_ratio.proofs.LineAt.{line_at-lower, line_at-upper, line_at-short}
 use Rattle.mob_span.specs.Span.{SpanOf, has, has_instant}
 use Rattle.mob_cells.specs.declared.linear.Ends.{Ends}
-use Rattle.mob_cells.specs.Roots.{function_at, IsLevel}
+use Rattle.mob_cells.specs.Roots.{function_at}
 use Rattle.mob_ever.specs.Taken.{sign_is, takes_inside, takes}
-use Rattle.mob_ever.proofs.Taking.{inside_from, inside_to, IsTakenInside, sign_of_is, is_sign_of}
+use Rattle.mob_ever.proofs.Taking.{inside_from, inside_to, sign_of_is, is_sign_of}
 
 -- ---- where an instant of a span lies
 pub inside_has : (s : SpanOf) (t : Ratio) → before s.lower t ≡ true → before t s.upper ≡ true → has s t ≡ true

@@ -1,5 +1,5 @@
 -- Which signs a linear function takes on a span, by its values at the two ends alone: no root is computed.
-use Rattle.std.specs.Prelude.{◌≡◌, Bool, true, false, cond, ◌&&◌, ◌||◌}
+use Rattle.std.specs.Prelude.{Bool, cond, ◌&&◌, ◌||◌}
 use Rattle.std.specs.declared.cmp.Ordering.{Ordering}
 use Rattle.std.specs.declared.cmp.Ordering.TheVariants.{Less, Equal, Greater}
 use Rattle.mob_ratio.specs.Ratio.{Ratio, ◌/ℚ◌}

@@ -1,4 +1,3 @@
-use Rattle.std.proofs.Common.{rules}
 use Rattle.mob_slice.specs.Sides.{operand_of, given_at}
 use Rattle.mob_ever.proofs.Answering.{always_is}
 use Rattle.mob_ever.proofs.decided.always.Goals as goal

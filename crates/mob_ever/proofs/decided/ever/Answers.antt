@@ -1,4 +1,3 @@
-use Rattle.std.proofs.Common.{rules}
 use Rattle.std.proofs.lemmas.Result.{IfOk-weaker}
 use Rattle.mob_slice.specs.Sides.{operand_of, given_at}
 use Rattle.mob_ever.proofs.Answering.{ever_is}

@@ -1,4 +1,4 @@
-use Rattle.std.proofs.Common.{rules, ◌≡◌, sym, subst, []}
+use Rattle.std.proofs.Common.{sym, subst}
 use Rattle.std.specs.List.{AllByRecursion}
 use Rattle.mob_span.specs.Parts.{PartsAreClear}
 use Rattle.mob_lift.specs.Pieces.{pieces_left}

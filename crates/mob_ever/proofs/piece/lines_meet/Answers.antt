@@ -1,6 +1,3 @@
-use Rattle.std.proofs.Common.{rules, ◌≡◌, ◌∙◌, ap, sym, subst, cond, false}
-use Rattle.mob_frac.specs.Formula.{AllFit}
-use Rattle.mob_slice.specs.Comparison.{gap_parts}
 use Rattle.mob_slice.specs.Sides.{piece_of}
 use Rattle.mob_ever.proofs.Deciding.{left_fails, right_fails, lower_fails, upper_fails, all_fit}
 use Rattle.mob_ever.proofs.piece.lines_meet.Goals as goal

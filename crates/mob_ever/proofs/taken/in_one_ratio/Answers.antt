@@ -1,10 +1,10 @@
-use Rattle.std.proofs.Common.{rules, arith, ◌≡◌, ◌∙◌, ap, sym}
+use Rattle.std.proofs.Common.{arith, ◌≡◌, ◌∙◌, ap, sym}
 use Rattle.mob_ratio.specs.Ratio.{Ratio, ◌-ℚ◌, ◌/ℚ◌}
 use Rattle.mob_ratio.specs.Order.{same}
 use Rattle.mob_ratio.specs.Sign.{nil}
 use Rattle.mob_ratio.proofs.Order.{same_exact, same_truth}
 use Rattle.mob_ratio.proofs.Clear.{clear1, cleared}
-use Rattle.mob_ratio.proofs.IntRing.{linear, products}
+use Rattle.mob_ratio.proofs.IntRing.{linear}
 use Rattle.mob_ever.proofs.taken.in_one_ratio.Goals as goal
 
 minus_nil : (a : Ratio) → a -ℚ nil ≡ a
