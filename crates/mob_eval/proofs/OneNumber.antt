@@ -1,5 +1,5 @@
 -- An operation on numbers has one value, and so have restrictions.
-use Rattle.std.proofs.Common.{◌≡◌, Bool, true, false, List, option_map, sym, ◌∙◌}
+use Rattle.std.proofs.Common.{Bool, true, false, List, option_map, sym, ◌∙◌}
 use Rattle.mob_ratio.specs.Ratio.{Ratio, ◌/ℚ◌}
 use Rattle.mob_ratio.specs.Order.{same}
 use Rattle.mob_ratio.proofs.Order.{same_exact}

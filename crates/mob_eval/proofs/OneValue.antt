@@ -11,7 +11,7 @@ use Rattle.mob_slice.specs.Sides.{OperandOf, given_at}
 use Rattle.mob_slice.specs.Slices.{value_at}
 use Rattle.mob_slice.specs.declared.slice.Slice.{Slice}
 use Rattle.mob_value.specs.declared.value.Value.{Value}
-use Rattle.mob_value.specs.declared.value.Value.TheVariants.{Null, MovingBool, MovingInt, MovingFrac, MovingText}
+use Rattle.mob_value.specs.declared.value.Value.TheVariants.{MovingBool, MovingInt, MovingFrac, MovingText}
 use Rattle.mob_eval.specs.Moving.{StepSlices, OverTime, AreNormalBy, or_nothing, IsFunction, IsFunctionOrNull}
 use Rattle.mob_eval.specs.Lifted.{Pair, IsLiftedValue, IsMovingBool, IsMovingInt, IsMovingText, OnOperands, OnPair}
 use Rattle.mob_eval.specs.Lines.{IsMovingFrac}

@@ -13,13 +13,12 @@ use Rattle.mob_ast.specs.declared.types.Cmp.TheVariants as cmp
 use Rattle.mob_ast.specs.declared.types.SqlType.TheVariants as sql
 use Rattle.mob_cells.specs.Restricted.{where_wanted}
 use Rattle.mob_slice.specs.Operands.{map_both}
-use Rattle.mob_slice.specs.Sides.{Slices, Base}
+use Rattle.mob_slice.specs.Sides.{Slices}
 use Rattle.mob_slice.specs.declared.comparison.Rel.TheVariants as rel
 use Rattle.mob_slice.specs.declared.formula.Formula.TheVariants.{F2}
 use Rattle.mob_slice.specs.declared.line.Line.{Line}
 use Rattle.mob_slice.specs.declared.slice.Slice.{Slice}
 use Rattle.mob_operators.specs.declared.operator.Op.TheVariants as op
-use Rattle.mob_value.specs.declared.value.Value.{Value}
 use Rattle.mob_value.specs.declared.value.Value.TheVariants.{Null, Bool as Truth, Number, MovingInt, MovingFrac}
 use Rattle.mob_eval.specs.Lines.{product_pair}
 use Rattle.mob_eval.specs.Moving.{StepSlices, line_function}

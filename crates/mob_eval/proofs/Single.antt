@@ -1,6 +1,6 @@
 -- Each operator has one value, and one first formula or none.
 use Rattle.std.proofs.Common.{◌≡◌, Bool, true, false, not, List, [], ◌∷◌, Option, Some, None, MatchOption, option_map, sym, ap, ◌∙◌}
-use Rattle.std.specs.Prelude.{IsTrue, ◌↔◌, is_some}
+use Rattle.std.specs.Prelude.{is_some}
 use Rattle.mob_ratio.specs.Ratio.{Ratio}
 use Rattle.mob_span.specs.Span.{SpanOf}
 use Rattle.mob_span.proofs.OneSet.{one_set}

@@ -1,7 +1,6 @@
 -- atValues and minusValues: a temporal value at the instants at which it is a given base value, or at the others.
 use Rattle.std.specs.Prelude.{◌≡◌, Bool, List, []}
 use Rattle.std.specs.List.{flat_map}
-use Rattle.mob_ratio.specs.Ratio.{Ratio}
 use Rattle.mob_ratio.specs.Order.{same}
 use Rattle.mob_slice.specs.CourseOf.{CourseOf, steady_course, line_course, plane_course}
 use Rattle.mob_slice.specs.Entries.{Entry}

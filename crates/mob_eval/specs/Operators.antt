@@ -10,7 +10,7 @@ use Rattle.mob_ast.specs.declared.types.SqlType.TheVariants as sql
 use Rattle.mob_operators.specs.declared.operator.Op.{Op}
 use Rattle.mob_operators.specs.declared.operator.Op.TheVariants as op
 use Rattle.mob_value.specs.declared.value.Value.{Value}
-use Rattle.mob_value.specs.declared.value.Value.TheVariants.{Null, Bool as Truth, Number, Text, Point, Span, SpanSet, MovingBool, MovingInt, MovingFrac, MovingText, MovingPoint}
+use Rattle.mob_value.specs.declared.value.Value.TheVariants.{Null, Bool as Truth, Text, Point, Span, SpanSet, MovingBool, MovingInt, MovingFrac, MovingText, MovingPoint}
 use Rattle.mob_literal.specs.SqlText.{value_text}
 use Rattle.mob_eval.specs.declared.arithmetic.Calculation.TheVariants.{Sum, Difference, Product}
 use Rattle.mob_eval.specs.declared.signs.Scope.TheVariants.{Each, Ever, Always}

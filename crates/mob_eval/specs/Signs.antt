@@ -1,5 +1,5 @@
 -- The signs that compare two values over time: `#` at each instant, `?` at some instant, and `%` at every instant.
-use Rattle.std.specs.Prelude.{◌≡◌, ℕ, Bool, List, [], Option, Some, None}
+use Rattle.std.specs.Prelude.{◌≡◌, ℕ, Bool, List, [], Option, Some}
 use Rattle.mob_ratio.specs.Ratio.{Ratio}
 use Rattle.mob_span.specs.Meets.{PieceOf}
 use Rattle.mob_slice.specs.Entries.{Entry}
