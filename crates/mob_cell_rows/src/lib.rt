@@ -1,0 +1,16 @@
+//! Tests of values that cross between written instants: the roots and cells of linear functions, comparisons instant by instant and on the
+//! whole, restriction by value, and arithmetic on lines.
+#![tactic(auto)]
+
+#[cfg(test)]
+mod arithmetic;
+#[cfg(test)]
+mod cells;
+#[cfg(test)]
+mod comparisons;
+#[cfg(test)]
+mod decisions;
+#[cfg(test)]
+mod printed;
+#[cfg(test)]
+mod restrictions;
