@@ -3,14 +3,10 @@
 #![tactic(auto)]
 
 #[cfg(test)]
-mod arithmetic;
-#[cfg(test)]
 mod cells;
 #[cfg(test)]
-mod comparisons;
-#[cfg(test)]
-mod decisions;
+mod pairs;
 #[cfg(test)]
 mod printed;
 #[cfg(test)]
-mod restrictions;
+mod singles;
