@@ -169,7 +169,7 @@ fn equality(wanted: bool, left: &Value, right: &Value) -> Value
         (Value::Text(a), Value::Text(b)) => says(wanted, same_text(a, b)),
         (Value::Moment(a), Value::Moment(b)) => says(wanted, same_number(a, b)),
         (Value::Point(a), Value::Point(b)) => says(wanted, same_point(a, b)),
-        (Value::Span(a), Value::Span(b)) => says(wanted, same_instants(a, b)),
+        (Value::Span(a), Value::Span(b)) => says(wanted, same_instants(a.get(), b.get())),
         (Value::SpanSet(a), Value::SpanSet(b)) => says(wanted, same_set(a, b)),
         (Value::MovingBool(a), Value::MovingBool(b)) => says(wanted, same_function(a, b)),
         (Value::MovingInt(a), Value::MovingInt(b)) => says(wanted, same_function(a, b)),

@@ -98,7 +98,7 @@ pub fn restriction(
 {
     match asked {
         Value::Moment(t) => restricted_to_span(alloc, want, value, &instant_span(t)),
-        Value::Span(span) => restricted_to_span(alloc, want, value, span),
+        Value::Span(span) => restricted_to_span(alloc, want, value, span.get()),
         Value::SpanSet(when) => restricted_value(alloc, want, value, when),
         _ => Ok(Value::Null),
     }

@@ -6,6 +6,7 @@ use Rattle.mob_ast.specs.declared.types.SqlType.TheVariants as sql
 -- to read a value of the type takes memory; a type without texts takes none
 abbrev pub takes_memory : SqlType → Bool
 takes_memory sql.Text = true
+takes_memory sql.Span = true
 takes_memory sql.SpanSet = true
 takes_memory sql.TBool = true
 takes_memory sql.TInt = true

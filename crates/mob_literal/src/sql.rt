@@ -25,7 +25,7 @@ use mob_scalar::{
     write_truth,
 };
 use mob_slice::{Line, PlaneLine, Steady};
-use mob_value::Value;
+use mob_value::{Boxed, Value};
 use mob_written::printing::write_moving;
 use mob_written::values::{Numbers, Points, Texts, Truths, WholeNumbers};
 use std::alloc::{AllocError, Global};
@@ -74,11 +74,14 @@ fn read_geometry(text: &str) -> Result<Value, ReadText>
     Ok(Value::Point(read_point(text)?))
 }
 
-fn read_tstzspan(text: &str, epoch: &Epoch) -> Result<Value, ReadText>
+fn read_tstzspan(alloc: Global, text: &str, epoch: &Epoch) -> Result<Value, ReadText>
     ensures reading { SaysInForm (spans epoch.now) Value.Span text.now result }
-    ensures memory { result ≢ Err NoMemory }
 {
-    Ok(Value::Span(read_span(text, epoch)?))
+    let span = read_span(text, epoch)?;
+    match Boxed::new(alloc, span) {
+        Ok(span) => Ok(Value::Span(span)),
+        Err(_) => Err(ReadText::NoMemory),
+    }
 }
 
 fn read_tstzspanset(alloc: Global, text: &str, epoch: &Epoch) -> Result<Value, ReadText>
@@ -121,7 +124,7 @@ fn read_tgeompoint(alloc: Global, text: &str, epoch: &Epoch) -> Result<Value, Re
 ///
 /// The first fault in the order `NotText`, `Limit`, `TooLarge` and `Unsound`, or `NoMemory`. A text of each type may have
 /// blanks at its ends, but one of the type text keeps all its characters. A polygon and a box are not built yet and have no
-/// texts, so each text is `NotText` there. Only a text, a span set and a value over time take memory.
+/// texts, so each text is `NotText` there. Only a text, a span, a span set and a value over time take memory.
 pub fn read_value(alloc: Global, ty: SqlType, text: &str, epoch: &Epoch) -> Result<Value, ReadText>
     ensures reading { SaysAs ty epoch.now text.now result }
     ensures memory { takes_memory ty ≡ false → result ≢ Err NoMemory }
@@ -133,7 +136,7 @@ pub fn read_value(alloc: Global, ty: SqlType, text: &str, epoch: &Epoch) -> Resu
         SqlType::Text => read_text(alloc, text),
         SqlType::Moment => read_timestamp(text, epoch),
         SqlType::Point => read_geometry(text),
-        SqlType::Span => read_tstzspan(text, epoch),
+        SqlType::Span => read_tstzspan(alloc, text, epoch),
         SqlType::SpanSet => read_tstzspanset(alloc, text, epoch),
         SqlType::TBool => read_tbool(alloc, text, epoch),
         SqlType::TInt => read_tint(alloc, text, epoch),
@@ -157,7 +160,7 @@ pub fn write_value(value: &Value, epoch: &Epoch, into: &mut String) -> Result<()
         Value::Text(text) => into.push_str(text.as_str()),
         Value::Moment(instant) => write_moment(instant, epoch, into),
         Value::Point(point) => write_point(point, into),
-        Value::Span(span) => write_span(span, epoch, into),
+        Value::Span(span) => write_span(span.get(), epoch, into),
         Value::SpanSet(set) => write_span_set(set, epoch, into),
         Value::MovingBool(moving) => write_moving(moving, epoch, into),
         Value::MovingInt(moving) => write_moving(moving, epoch, into),

@@ -2,6 +2,7 @@
 ghost use Rattle.std.specs.Prelude.{◌≡◌, IfOk, OnErr, true};
 ghost use Rattle.mob_value.specs.Memory.{holds_memory};
 
+use crate::boxed::Boxed;
 use crate::copies::copy_moving;
 use mob_frac::Frac;
 use mob_list::text::Text;
@@ -29,7 +30,7 @@ pub enum Value {
     /// A point of the plane.
     Point(Point),
     /// A tstzspan.
-    Span(Span),
+    Span(Boxed<Span>),
     /// A tstzspanset.
     SpanSet(SpanSet),
     /// A tbool.
@@ -44,9 +45,12 @@ pub enum Value {
     MovingPoint(Moving<PlaneLine>),
 }
 
+// A table has a cell for each row and column, so a variant that is larger stands in a `Boxed`.
+const _: () = prove!(size_of::<Value>() <= 40);
+
 impl Value {
-    /// A second value, the same, in memory of its own. It asks for memory only where the value holds some: a text, a span set,
-    /// or a value over time.
+    /// A second value, the same, in memory of its own. It asks for memory only where the value holds some: a text, a span, a
+    /// span set, or a value over time.
     pub fn copy(&self, alloc: Global) -> Result<Value, AllocError>
         ensures same { IfOk result (λ copy. copy ≡ self.now) }
         ensures memory { OnErr result (holds_memory self.now ≡ true) }
@@ -58,7 +62,7 @@ impl Value {
             Value::Text(text) => Ok(Value::Text(text.copy(alloc)?)),
             Value::Moment(instant) => Ok(Value::Moment(*instant)),
             Value::Point(point) => Ok(Value::Point(*point)),
-            Value::Span(span) => Ok(Value::Span(*span)),
+            Value::Span(span) => Ok(Value::Span(Boxed::new(alloc, *span.get())?)),
             Value::SpanSet(set) => Ok(Value::SpanSet(set.copy(alloc)?)),
             Value::MovingBool(moving) => Ok(Value::MovingBool(copy_moving(alloc, moving)?)),
             Value::MovingInt(moving) => Ok(Value::MovingInt(copy_moving(alloc, moving)?)),
