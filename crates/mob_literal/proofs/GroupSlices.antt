@@ -2,7 +2,7 @@
 use Rattle.std.proofs.Common.{◌≡◌, suc, ◌-◌, List, [], ◌∷◌, ◌++◌, length, map, Bool, true, false, cond, Option, Some, None, refl, sym, ap, subst, ◌∙◌, arith, inl, inr, ◌⊎◌}
 use Rattle.std.proofs.lemmas.Bool.{and_parts as both, and_from as and, not-true as not_true}
 use Rattle.std.specs.Prelude.{◌&&◌, ◌||◌, not, slice_get}
-use Rattle.std.specs.List.{list_all}
+use Rattle.std.specs.List.{AllByRecursion, list_all}
 use Rattle.mob_ratio.specs.Ratio.{Ratio}
 use Rattle.mob_ratio.specs.Order.{before, up_to, same}
 use Rattle.mob_ratio.proofs.Order.{before-back, before-neither, same_exact}
@@ -21,12 +21,7 @@ use Rattle.mob_literal.proofs.Drawn.{IsLawful, drawn_again, arrives_again}
 use Rattle.mob_literal.proofs.FlatLemmas.{flat, Ordered, ordered_rest}
 use Rattle.mob_written.proofs.Small.{false_true}
 
--- P holds of each
-abbrev pub Alls : {A : Type 0} → (A → Type 0) → List A → Type 0
-Alls P [] = Unit {0}
-Alls P (x ∷ xs) = P x × Alls P xs
-
-pub alls_rest : {A : Type 0} (P : A → Type 0) (xs ys : List A) → Alls P (xs ++ ys) → Alls P ys
+pub alls_rest : {A : Type 0} (P : A → Type 0) (xs ys : List A) → AllByRecursion P (xs ++ ys) → AllByRecursion P ys
 alls_rest P [] ys h = h
 alls_rest P (x ∷ xs) ys h = alls_rest P xs ys h.1
 
@@ -182,7 +177,7 @@ module _ {C B : Type 0} (has_value : B → Bool) (course : CourseOf C B) (laws :
   IsKept s = step ≡ true → course.start s.course ≡ course.end s.course
 
   abbrev pub AreKept : List (Slice C) → Type 0
-  AreKept slices = Alls IsKept slices
+  AreKept slices = AllByRecursion IsKept slices
 
   abbrev LevelEnds : Written B → List (Written B) → Type 0
   LevelEnds i [] = ⊥
@@ -276,7 +271,7 @@ module _ {C B : Type 0} (has_value : B → Bool) (course : CourseOf C B) (laws :
 
   -- the type has the value of each slice
   abbrev pub HasAll : List (Slice C) → Type 0
-  HasAll slices = Alls (λ (s : Slice C). (has_value (course.start s.course) ≡ true) × (has_value (course.end s.course) ≡ true)) slices
+  HasAll slices = AllByRecursion (λ (s : Slice C). (has_value (course.start s.course) ≡ true) × (has_value (course.end s.course) ≡ true)) slices
 
   has_more : (s : Slice C) (group tail : List (Slice C)) → HasAll (s ∷ (group ++ tail)) → list_all (λ (i : Written B). has_value i.value) (start_of course s ∷ more course s group) ≡ true
   has_more s [] tail h = by_length (is_long s)

@@ -1,7 +1,7 @@
 -- The printed text of slices is a literal of the sequences of their groups.
 use Rattle.std.proofs.Common.{◌≡◌, ℤ, List, [], ◌∷◌, ◌++◌, map, codes, Bool, true, false, cond, Option, Some, refl, sym, ap, subst, ◌∙◌, append_assoc, inl, inr}
 use Rattle.std.specs.Prelude.{◌&&◌, not, nat_eq}
-use Rattle.std.specs.List.{list_all}
+use Rattle.std.specs.List.{AllByRecursion, list_all}
 use Rattle.mob_ratio.specs.Ratio.{Ratio}
 use Rattle.mob_ratio.specs.Order.{same}
 use Rattle.mob_language.specs.Language.{Text, Separated}
@@ -21,7 +21,7 @@ use Rattle.mob_scalar.specs.Brackets.{comma, with_commas}
 use Rattle.mob_written.specs.Literal.{at_sign, noted, sequence, members, alone, literal, temporal}
 use Rattle.mob_written.specs.Printed.{Style, is_long, takes_up, groups_of, put_in_group, instant_text, instants_of, start_text, opening_text, closing_text, group_text, groups_text, set_text, moving_text}
 use Rattle.mob_written.specs.Style.{style_of}
-use Rattle.mob_literal.proofs.GroupSlices.{Alls, alls_rest, start_of, end_of, more, upper_of, sequence_of, AllHoldTogether, are_groups, joined}
+use Rattle.mob_literal.proofs.GroupSlices.{alls_rest, start_of, end_of, more, upper_of, sequence_of, AllHoldTogether, are_groups, joined}
 use Rattle.mob_written.proofs.Small.{false_true}
 
 -- ---- the sign as it is printed
@@ -66,7 +66,7 @@ abbrev pub IsPoint : {C : Type 0} → Slice C → Type 0
 IsPoint s = (is_long s ≡ false) × (s.span.lower_inc ≡ true) × (s.span.upper_inc ≡ true)
 
 abbrev pub ArePoints : {C : Type 0} → List (Slice C) → Type 0
-ArePoints slices = Alls IsPoint slices
+ArePoints slices = AllByRecursion IsPoint slices
 
 module _ {C B : Type 0} (course : CourseOf C B) (day : ℤ) (value : Text → Option B → Type 0) (text : B → Text) where
   -- what is printed of a slice is read
@@ -77,7 +77,7 @@ module _ {C B : Type 0} (course : CourseOf C B) (day : ℤ) (value : Text → Op
     pub upper_said : IsMomentSaid day s.span.upper
 
   abbrev pub AreSaid : List (Slice C) → Type 0
-  AreSaid slices = Alls IsSliceSaid slices
+  AreSaid slices = AllByRecursion IsSliceSaid slices
 
   abbrev pub style : Style C B
   style = style_of course text day

@@ -17,3 +17,4 @@ pub mod LinesAgain
 pub mod SqlReading
 pub mod SqlAgain
 pub mod FieldsAgain
+pub mod StepValues

@@ -1,6 +1,7 @@
 -- Entries of a list.
-use Rattle.std.proofs.Common.{◌≡◌, ℕ, zero, suc, ◌<◌, List, [], ◌∷◌, length, refl, arith, inl, inr, ◌⊎◌}
+use Rattle.std.proofs.Common.{◌≡◌, ℕ, zero, suc, ◌<◌, List, [], ◌∷◌, length, refl, subst, arith, inl, inr, ◌⊎◌}
 use Rattle.std.specs.Prelude.{Contains, slice_index_or}
+use Rattle.std.specs.List.{AllByRecursion}
 
 pub first_in : {A : Type 0} (y : A) (ys : List A) → Contains (y ∷ ys) y
 first_in y ys = (0, omega arith, refl)
@@ -17,3 +18,16 @@ which_in {A} y ys x h = by_place h.0 h.1 h.2
     by_place : (k : ℕ) → k < length (y ∷ ys) → slice_index_or (y ∷ ys) k x ≡ x → (y ≡ x) ⊎ Contains ys x
     by_place zero lt e = inl e
     by_place (suc k) lt e = inr (k, omega arith, e)
+
+-- what holds of each entry holds of all, and what holds of all holds of each
+pub all_by_each : {A : Type 0} (P : A → Type 0) (xs : List A) → ((x : A) → Contains xs x → P x) → AllByRecursion P xs
+all_by_each P [] h = tt
+all_by_each P (x ∷ xs) h = (h x (first_in x xs), all_by_each P xs (λ y c. h y (later_in x xs y c)))
+
+pub each_of_all : {A : Type 0} (P : A → Type 0) (xs : List A) → AllByRecursion P xs → (x : A) → Contains xs x → P x
+each_of_all P [] h x c = absurd (none_in x c)
+each_of_all {A} P (y ∷ ys) h x c = by_place (which_in y ys x c)
+  where
+    by_place : (y ≡ x) ⊎ Contains ys x → P x
+    by_place (inl e) = subst P e h.0
+    by_place (inr d) = each_of_all P ys h.1 x d

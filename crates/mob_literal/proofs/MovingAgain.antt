@@ -2,7 +2,7 @@
 use Rattle.std.proofs.Common.{◌≡◌, ℕ, ℤ, ◌+◌, ◌≤◌, List, [], ◌∷◌, ◌++◌, length, map, Bool, true, false, Option, Some, Ok, refl, sym, ap, subst, ◌∙◌, arith, inl}
 use Rattle.std.specs.Prelude.{◌↔◌, IsTrue, Contains, MatchOption, not, nat_eq, nat_lt}
 use Rattle.std.specs.Char.{to_ascii_lowercase}
-use Rattle.std.specs.List.{list_all}
+use Rattle.std.specs.List.{AllByRecursion, list_all}
 use Rattle.mob_ratio.specs.Ratio.{Ratio}
 use Rattle.mob_ratio.specs.Order.{same}
 use Rattle.mob_ratio.proofs.Order.{same_exact}
@@ -34,10 +34,10 @@ use Rattle.mob_written.specs.Values.{any_value, is_whole, truth_value, quoted_va
 use Rattle.mob_written.specs.Prefix.{Prefix, ArePrefixes, admitted, remaining, says_step, begins_prefix}
 use Rattle.mob_literal.specs.Sequences.{is_step}
 use Rattle.mob_literal.specs.Readable.{AreLevel, IsReadable, instants_in, AnyTruth, IsInt, IsText}
-use Rattle.mob_literal.proofs.Listing.{first_in, later_in}
+use Rattle.mob_literal.proofs.Listing.{all_by_each}
 use Rattle.mob_literal.proofs.Drawn.{IsLawful, lawful}
 use Rattle.mob_literal.proofs.FlatLemmas.{flat, Ordered, IsFlat, is_flat}
-use Rattle.mob_literal.proofs.GroupSlices.{Alls, start_of, more, sequence_of, are_groups, joined, IsKept, AreKept, HasAll, is_short, sound_groups, flat_values}
+use Rattle.mob_literal.proofs.GroupSlices.{start_of, more, sequence_of, are_groups, joined, IsKept, AreKept, HasAll, is_short, sound_groups, flat_values}
 use Rattle.mob_literal.proofs.GroupTexts.{note, noted_of_group, printed_literal, written_text, IsSliceSaid, AreSaid, ArePoints, instants_are, printed_said}
 use Rattle.mob_written.proofs.Small.{false_true, some_none}
 
@@ -74,10 +74,6 @@ module _ {C B : Type 0} (course : CourseOf C B) where
       let i = is_short s.span.lower s.span.upper s.span.lower_inc s.span.upper_inc n.0.some short in
       ((short, i.lower, i.upper), all_points rest n.2 a.1)
 
-by_each : {A : Type 0} (P : A → Type 0) (xs : List A) → ((x : A) → Contains xs x → P x) → Alls P xs
-by_each P [] h = tt
-by_each P (x ∷ xs) h = (h x (first_in x xs), by_each P xs (λ y c. h y (later_in x xs y c)))
-
 count_is : {C B : Type 0} (course : CourseOf C B) (day : ℤ) (value : Text → Option B → Type 0) (text : B → Text) (groups : List (List (Slice C))) → instant_count (map (noted_of_group course) groups) ≡ instants_in (style_of course text day) groups
 count_is course day value text [] = refl
 count_is course day value text ([] ∷ groups) = ap (λ (n : ℕ). 0 + n) (count_is course day value text groups)
@@ -111,12 +107,12 @@ pub moving_again : {C B : Type 0} (course : CourseOf C B) → IsLawful course �
 moving_again {C} {B} course laws day value text IsWritten has_value say has slices r has_srid before front are stops level =
     let step = is_step course.steady (says_step before) in
     let moves = not_step course.steady (says_step before) in
-    let kept : AreKept has_value course laws step moves slices = by_each (IsKept has_value course laws step moves) slices (λ s c. kept_of course laws (says_step before) slices level s c) in
+    let kept : AreKept has_value course laws step moves slices = all_by_each (IsKept has_value course laws step moves) slices (λ s c. kept_of course laws (says_step before) slices level s c) in
     let ordered = normal_ordered course slices r.normal.chained in
     let groups = groups_of course slices in
     let g = are_groups course slices in
-    let said : AreSaid course day value text slices = by_each (IsSliceSaid course day value text) slices (λ s c. record { start_value = say (course.start s.course) (r.starts s c); end_value = say (course.end s.course) (r.ends s c); lower_said = moment_said day s.span.lower (r.lowers s c); upper_said = moment_said day s.span.upper (r.uppers s c) }) in
-    let values : HasAll has_value course laws step moves slices = by_each (λ (s : Slice C). (has_value (course.start s.course) ≡ true) × (has_value (course.end s.course) ≡ true)) slices (λ s c. (has (course.start s.course) (r.starts s c), has (course.end s.course) (r.ends s c))) in
+    let said : AreSaid course day value text slices = all_by_each (IsSliceSaid course day value text) slices (λ s c. record { start_value = say (course.start s.course) (r.starts s c); end_value = say (course.end s.course) (r.ends s c); lower_said = moment_said day s.span.lower (r.lowers s c); upper_said = moment_said day s.span.upper (r.uppers s c) }) in
+    let values : HasAll has_value course laws step moves slices = all_by_each (λ (s : Slice C). (has_value (course.start s.course) ≡ true) × (has_value (course.end s.course) ≡ true)) slices (λ s c. (has (course.start s.course) (r.starts s c), has (course.end s.course) (r.ends s c))) in
     let in_groups : Ordered course (joined groups) = subst (Ordered course) (sym g.whole) ordered in
     let kept_groups : AreKept has_value course laws step moves (joined groups) = subst (AreKept has_value course laws step moves) (sym g.whole) kept in
     let sound : is_sound has_value course step (map (sequence_of course) groups) ≡ true = sound_groups has_value course laws step moves groups g.together in_groups kept_groups (subst (HasAll has_value course laws step moves) (sym g.whole) values) in

@@ -32,7 +32,7 @@ IsStored ty o = (v : Value) × (o ≡ Some v) × (is_of_type ty v ≡ true)
 value_in_row : (columns : ColumnList) (row : List Value) (k : ℕ) (ty : SqlType) → HasColumnTypes columns row → option_map (λ (c : List ℕ × SqlType). c.1) (slice_get columns k) ≡ Some ty → IsStored ty (slice_get row k)
 value_in_row [] row k ty h is = absurd (cc)
 value_in_row (c ∷ cs) [] k ty h is = absurd h
-value_in_row (c ∷ cs) (w ∷ ws) zero ty h is = let same : c.1 ≡ ty = cc in (w, refl, subst (λ (t : SqlType). is_of_type t w ≡ true) same h.0)
+value_in_row (c ∷ cs) (w ∷ ws) zero ty h is = let same : c.1 ≡ ty = cc in (w, refl, subst (λ (t : SqlType). is_of_type t w ≡ true) same h.0.form)
 value_in_row (c ∷ cs) (w ∷ ws) (suc k) ty h is = value_in_row cs ws k ty h.1 is
 
 each_of_parts : (P : ℕ → Type 0) (front rest : List ℕ) (n : ℕ) → AllByRecursion P (front ++ n ∷ rest) → P n
@@ -71,7 +71,7 @@ module _ (constants : ConstantsAreRead) (columns : ColumnsAreRead) (c : Catalogu
   here = scene c.store from tuple day
 
   leaf_reads : (o : Op) (ty : SqlType) (place : ℕ) → HasStoredType c from o ty → LeafReadsStored here o ty place
-  leaf_reads (op.Const k) ty place is = (is.0, is.1, constants here k place ty is.0 is.1 is.2)
+  leaf_reads (op.Const k) ty place is = (is.0, is.1, constants here k place ty is.0 is.1 is.2.form)
   leaf_reads (op.Column f k) ty place is =
       let stands = value_of_place k ty c.heads c.store.tables rows there from tuple f live is in
       (stands.0, stands.1, columns here f k place ty stands.0 stands.1 stands.2)

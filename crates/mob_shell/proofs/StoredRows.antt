@@ -4,13 +4,12 @@ use Rattle.std.specs.Prelude.{slice_get, option_map, unwrap_or}
 use Rattle.std.specs.List.{AllByRecursion, AllZip}
 use Rattle.mob_ast.specs.declared.types.SqlType.{SqlType}
 use Rattle.mob_value.specs.declared.value.Value.{Value}
-use Rattle.mob_value.specs.Types.{is_of_type}
 use Rattle.mob_typed.specs.declared.typed.ConstText.{ConstText}
 use Rattle.mob_typed.specs.Statements.{ColumnList, ScriptOut, StatementOut, nothing, new_table, new_index, new_rows, rows_from, query, plan_of}
 use Rattle.mob_typing.specs.WellTyped.{constant_type, IsOfColumn, AreTypedRows, AreTypedStatements, tables_behind, TypingGivesWellTyped}
 use Rattle.mob_catalog.specs.Catalogue.{Catalogue, table_columns, with_row}
 use Rattle.mob_catalog.specs.Constants.{IsConstant}
-use Rattle.mob_catalog.specs.OwnTypes.{ConstantsHaveTheirTypes, HasColumnTypes, RowsHaveColumnTypes}
+use Rattle.mob_catalog.specs.OwnTypes.{ConstantsHaveTheirTypes, HasColumnTypes, IsValueOf, RowsHaveColumnTypes}
 use Rattle.mob_catalog.specs.TypedTables.{Stores, head_columns}
 use Rattle.mob_catalog.specs.declared.catalog.TableHead.{TableHead}
 use Rattle.mob_catalog.proofs.TypedTables.{types_stay}
@@ -49,15 +48,15 @@ pub record StandsBefore (consts : List ConstText) (values : List Value) (n : ℕ
   pub files : FilesFit (checks_at (checkpoints_from n ss)) tables s.files
 
 module _ (owns : ConstantsHaveTheirTypes) (day : ℤ) where
-  constant_fits : (consts : List ConstText) (values : List Value) (k : ℕ) (ty : SqlType) → AllZip (IsConstant day) consts values → constant_type consts k ≡ Some ty → is_of_type ty (constant_value values (Some k)) ≡ true
+  constant_fits : (consts : List ConstText) (values : List Value) (k : ℕ) (ty : SqlType) → AllZip (IsConstant day) consts values → constant_type consts k ≡ Some ty → IsValueOf ty (constant_value values (Some k))
   constant_fits [] values k ty h is = absurd (cc)
   constant_fits (c ∷ cs) [] k ty h is = absurd h
-  constant_fits (c ∷ cs) (v ∷ vs) zero ty h is = let same : c.ty ≡ ty = cc in subst (λ (t : SqlType). is_of_type t v ≡ true) same (owns day c v h.0)
+  constant_fits (c ∷ cs) (v ∷ vs) zero ty h is = let same : c.ty ≡ ty = cc in subst (λ (t : SqlType). IsValueOf t v) same (owns day c v h.0)
   constant_fits (c ∷ cs) (v ∷ vs) (suc k) ty h is = constant_fits cs vs k ty h.1 is
 
   module _ (consts : List ConstText) (values : List Value) (mean : AllZip (IsConstant day) consts values) where
-    value_fits : (column : List ℕ × SqlType) (v : Option ℕ) → IsOfColumn consts column v → is_of_type column.1 (constant_value values v) ≡ true
-    value_fits column None h = refl
+    value_fits : (column : List ℕ × SqlType) (v : Option ℕ) → IsOfColumn consts column v → IsValueOf column.1 (constant_value values v)
+    value_fits column None h = record { form = refl; whole = tt }
     value_fits column (Some k) h = constant_fits consts values k column.1 mean h
 
     -- the row of an INSERT
