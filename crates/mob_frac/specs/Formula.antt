@@ -44,3 +44,7 @@ product_parts x y = (x *ℚ y) ∷ []
 -- where y is not 0
 abbrev pub quotient_parts : Ratio → Ratio → List Ratio
 quotient_parts x y = (x /ℚ y) ∷ []
+
+-- F7, an area made wider: each of its sides moved outward by d, in the order in which they are written.
+abbrev pub expansion_parts : Ratio → Ratio → Ratio → Ratio → Ratio → List Ratio
+expansion_parts xmin xmax ymin ymax d = (xmin -ℚ d) ∷ (xmax +ℚ d) ∷ (ymin -ℚ d) ∷ (ymax +ℚ d) ∷ []

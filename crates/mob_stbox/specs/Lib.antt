@@ -1,0 +1,4 @@
+pub mod Areas
+pub mod Boxes
+pub mod Expansion
+pub mod SameBoxes

@@ -1,0 +1,89 @@
+-- The test whether two boxes are one is exact.
+use Rattle.std.specs.Prelude.{◌≡◌, ◌↔◌, Bool, true, false, IsTrue, refl, Option, Some, None, not}
+use Rattle.std.proofs.Common.{arith, ap, sym, ◌∙◌, true≢false}
+use Rattle.std.specs.Cmp.{IsEquivalence}
+use Rattle.mob_ratio.specs.Ratio.{Ratio}
+use Rattle.mob_ratio.specs.Order.{same}
+use Rattle.mob_ratio.proofs.Order.{same_exact, same_truth}
+use Rattle.mob_span.specs.Span.{SpanOf}
+use Rattle.mob_span.proofs.Insides.{both, joined as both_true}
+use Rattle.mob_stbox.specs.Areas.{same_area}
+use Rattle.mob_stbox.specs.Boxes.{BoxOf, same_flag, same_span, same_part, same_box}
+use Rattle.mob_stbox.specs.declared.area.Area.{Area}
+
+flag_is : (a b : Bool) → same_flag a b ≡ true → a ≡ b
+flag_is true b h = sym h
+flag_is false b h = grind (arith, h)
+
+flag_self : (a : Bool) → same_flag a a ≡ true
+flag_self true = refl
+flag_self false = refl
+
+area_is : (a b : Area) → same_area a b ≡ true → a ≡ b
+area_is a b h =
+    let k = both _ _ h in
+    let x = both _ _ k.0 in
+    let y = both _ _ k.1 in
+    let p = (same_exact a.xmin b.xmin).0 x.0 in
+    let q = (same_exact a.xmax b.xmax).0 x.1 in
+    let r = (same_exact a.ymin b.ymin).0 y.0 in
+    let s = (same_exact a.ymax b.ymax).0 y.1 in
+    λ i. record { xmin = p i; xmax = q i; ymin = r i; ymax = s i }
+
+number_self : (a : Ratio) → same a a ≡ true
+number_self a = (same_exact a a).1 refl
+
+area_self : (a : Area) → same_area a a ≡ true
+area_self a = both_true _ _ (both_true _ _ (number_self a.xmin) (number_self a.xmax)) (both_true _ _ (number_self a.ymin) (number_self a.ymax))
+
+span_is : (s r : SpanOf) → same_span s r ≡ true → s ≡ r
+span_is s r h =
+    let k = both _ _ h in
+    let x = both _ _ k.0 in
+    let y = both _ _ k.1 in
+    let p = (same_exact s.lower r.lower).0 x.0 in
+    let q = (same_exact s.upper r.upper).0 x.1 in
+    let u = flag_is s.lower_inc r.lower_inc y.0 in
+    let v = flag_is s.upper_inc r.upper_inc y.1 in
+    λ i. record { lower = p i; upper = q i; lower_inc = u i; upper_inc = v i }
+
+span_self : (s : SpanOf) → same_span s s ≡ true
+span_self s = both_true _ _ (both_true _ _ (number_self s.lower) (number_self s.upper)) (both_true _ _ (flag_self s.lower_inc) (flag_self s.upper_inc))
+
+part_is : {A : Type 0} (test : A → A → Bool) → ((x y : A) → test x y ≡ true → x ≡ y) → (a b : Option A) → same_part test a b ≡ true → a ≡ b
+part_is test f None None h = refl
+part_is test f None (Some y) h = absurd (true≢false (sym h))
+part_is test f (Some x) None h = absurd (true≢false (sym h))
+part_is test f (Some x) (Some y) h = ap Some (f x y h)
+
+part_self : {A : Type 0} (test : A → A → Bool) → ((x : A) → test x x ≡ true) → (a : Option A) → same_part test a a ≡ true
+part_self test f None = refl
+part_self test f (Some x) = f x
+
+-- a box is the same as itself alone
+pub same_self : (a : BoxOf) → same_box a a ≡ true
+unfolding same_box
+same_self a = both_true _ _ (part_self same_area area_self a.space) (part_self same_span span_self a.time)
+
+pub same_is : (a b : BoxOf) → same_box a b ≡ true → a ≡ b
+unfolding same_box
+same_is a b h =
+    let k = both _ _ h in
+    let p = part_is same_area area_is a.space b.space k.0 in
+    let q = part_is same_span span_is a.time b.time k.1 in
+    λ i. record { space = p i; time = q i }
+
+pub same_box_exact : (a b : BoxOf) → IsTrue (same_box a b) ↔ (a ≡ b)
+same_box_exact a b = (same_is a b, λ e. ap (λ z. same_box a z) (sym e) ∙ same_self a)
+
+-- as the answer to a question
+pub same_box_exact_as : (a b : BoxOf) (r : Bool) → r ≡ same_box a b → IsTrue r ↔ (a ≡ b)
+same_box_exact_as a b r e = rw e (same_box_exact a b)
+
+-- being one box is an equivalence
+pub same_box_equivalence : IsEquivalence same_box
+same_box_equivalence = record {
+  refl = same_self;
+  symm = λ a b. same_truth (same_box a b) (same_box b a) (λ h. (same_box_exact b a).1 (sym (same_is a b h))) (λ h. (same_box_exact a b).1 (sym (same_is b a h)));
+  congr = λ a b c h. ap (λ z. same_box z c) (same_is a b h);
+}
