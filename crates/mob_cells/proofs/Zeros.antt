@@ -11,11 +11,11 @@ use Rattle.mob_ratio.proofs.Signs.{root_holds, opposite_cases, sign_below, sign_
 use Rattle.mob_ratio.proofs.IntRing.{linear}
 use Rattle.mob_ratio.proofs.Clear.{clear2, cleared}
 use Rattle.mob_frac.specs.Fits.{Fits, IsExact}
-use Rattle.mob_frac.specs.Formula.{IsFormula}
+use Rattle.mob_frac.specs.Formula.{IsFormula, inner_root_parts}
 use Rattle.mob_frac.proofs.PartsOfLines.{last_part}
 use Rattle.mob_span.specs.Span.{SpanOf, has}
 use Rattle.mob_cells.specs.declared.linear.Ends.{Ends}
-use Rattle.mob_cells.specs.Roots.{IsLevel, IsOneRoot, inner_root_parts, opposes}
+use Rattle.mob_cells.specs.Roots.{IsLevel, IsOneRoot, opposes}
 
 opposite_self : (x : Ratio) → opposite x x ≡ false
 unfolding opposite

@@ -45,6 +45,16 @@ product_parts x y = (x *ℚ y) ∷ []
 abbrev pub quotient_parts : Ratio → Ratio → List Ratio
 quotient_parts x y = (x /ℚ y) ∷ []
 
+-- F3, the root of the line from f0 at l to f1 at u, where the two have opposite signs: one step of the rule of false position, which is
+-- exact on a line (Knuth, The Art of Computer Programming, volume 2, section 4.5.1, for the steps).
+abbrev pub inner_root_parts : Ratio → Ratio → Ratio → Ratio → List Ratio
+inner_root_parts f0 f1 l u =
+    let d = f0 -ℚ f1 in
+    let q = f0 /ℚ d in
+    let w = u -ℚ l in
+    let s = w *ℚ q in
+    d ∷ q ∷ w ∷ s ∷ (l +ℚ s) ∷ []
+
 -- F4, the turn of the point (x, y) against the way from (x0, y0) to (x1, y1): the cross product of that way and of the way to
 -- the point (Cormen, Leiserson, Rivest and Stein, Introduction to Algorithms, section "Line-segment properties").
 abbrev pub parts_of_turn : Ratio → Ratio → Ratio → Ratio → Ratio → Ratio → List Ratio
