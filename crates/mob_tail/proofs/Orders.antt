@@ -9,7 +9,7 @@ use Rattle.mob_ratio.specs.Ratio.{Ratio, over}
 use Rattle.mob_slice.specs.Ranks.{compare_ratio, compare_bytes}
 use Rattle.mob_slice.specs.RankLaws.{ranking_bytes, ranking_ratio}
 use Rattle.mob_value.specs.declared.value.Value.{Value}
-use Rattle.mob_value.specs.declared.value.Value.TheVariants.{Null, Bool as Truth, Number, Text, Moment, Point, Span, SpanSet, MovingBool, MovingInt, MovingFrac, MovingText, MovingPoint}
+use Rattle.mob_value.specs.declared.value.Value.TheVariants.{Null, Bool as Truth, Number, Text, Moment, Point, Polygon, Span, SpanSet, Box, MovingBool, MovingInt, MovingFrac, MovingText, MovingPoint}
 use Rattle.mob_tail.specs.declared.keyed.Keyed.{Keyed}
 use Rattle.mob_tail.specs.Order.{type_rank, compare_values, compare_key, first_key, other_keys, compare_keys, compare_rows}
 
@@ -57,8 +57,10 @@ same_parts (Number a) (Number b) = refl
 same_parts (Text a) (Text b) = last (compare_bytes a b)
 same_parts (Moment a) (Moment b) = refl
 same_parts (Point a) (Point b) = last Equal
+same_parts (Polygon a) (Polygon b) = last Equal
 same_parts (Span a) (Span b) = last Equal
 same_parts (SpanSet a) (SpanSet b) = last Equal
+same_parts (Box a) (Box b) = last Equal
 same_parts (MovingBool a) (MovingBool b) = last Equal
 same_parts (MovingInt a) (MovingInt b) = last Equal
 same_parts (MovingFrac a) (MovingFrac b) = last Equal

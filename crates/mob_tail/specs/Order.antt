@@ -6,7 +6,7 @@ use Rattle.std.specs.declared.cmp.Ordering.{Ordering}
 use Rattle.std.specs.declared.cmp.Ordering.TheVariants.{Equal}
 use Rattle.mob_slice.specs.Ranks.{compare_ratio, compare_bytes}
 use Rattle.mob_value.specs.declared.value.Value.{Value}
-use Rattle.mob_value.specs.declared.value.Value.TheVariants.{Null, Bool as Truth, Number, Text, Moment, Point, Span, SpanSet, MovingBool, MovingInt, MovingFrac, MovingText, MovingPoint}
+use Rattle.mob_value.specs.declared.value.Value.TheVariants.{Null, Bool as Truth, Number, Text, Moment, Point, Polygon, Span, SpanSet, Box, MovingBool, MovingInt, MovingFrac, MovingText, MovingPoint}
 use Rattle.mob_tail.specs.declared.keyed.Keyed.{Keyed}
 
 -- The place of a value among values of other types, with NULL behind every other value. A key has one type, so that only NULL stands
@@ -17,14 +17,16 @@ type_rank (Number a) = 1
 type_rank (Text a) = 2
 type_rank (Moment a) = 3
 type_rank (Point a) = 4
-type_rank (Span a) = 5
-type_rank (SpanSet a) = 6
-type_rank (MovingBool a) = 7
-type_rank (MovingInt a) = 8
-type_rank (MovingFrac a) = 9
-type_rank (MovingText a) = 10
-type_rank (MovingPoint a) = 11
-type_rank Null = 12
+type_rank (Polygon a) = 5
+type_rank (Span a) = 6
+type_rank (SpanSet a) = 7
+type_rank (Box a) = 8
+type_rank (MovingBool a) = 9
+type_rank (MovingInt a) = 10
+type_rank (MovingFrac a) = 11
+type_rank (MovingText a) = 12
+type_rank (MovingPoint a) = 13
+type_rank Null = 14
 
 -- false before true, numbers by size, texts by their bytes, moments by time
 abbrev pub compare_values : Value → Value → Ordering

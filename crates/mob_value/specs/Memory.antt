@@ -3,7 +3,7 @@ use Rattle.std.specs.Prelude.{Bool, true, false}
 use Rattle.mob_value.specs.declared.value.Value.{Value}
 use Rattle.mob_value.specs.declared.value.Value.TheVariants as value
 
--- the value is a text, a span, a span set or a value over time; every other one is plain data
+-- the value is a text, a polygon, a span, a span set, a box or a value over time; every other one is plain data
 abbrev pub holds_memory : Value → Bool
 holds_memory value.Null = false
 holds_memory (value.Bool truth) = false
@@ -11,8 +11,10 @@ holds_memory (value.Number number) = false
 holds_memory (value.Text text) = true
 holds_memory (value.Moment instant) = false
 holds_memory (value.Point point) = false
+holds_memory (value.Polygon rings) = true
 holds_memory (value.Span span) = true
 holds_memory (value.SpanSet spans) = true
+holds_memory (value.Box box) = true
 holds_memory (value.MovingBool slices) = true
 holds_memory (value.MovingInt slices) = true
 holds_memory (value.MovingFrac slices) = true

@@ -6,9 +6,10 @@ use crate::boxed::Boxed;
 use crate::copies::copy_moving;
 use mob_frac::Frac;
 use mob_list::text::Text;
-use mob_plane::Point;
+use mob_plane::{Point, Polygon};
 use mob_slice::{Line, Moving, PlaneLine, Steady};
 use mob_span::{Span, SpanSet};
+use mob_stbox::StBox;
 use std::alloc::{AllocError, Global};
 
 /// A value of SQL, or NULL.
@@ -29,10 +30,14 @@ pub enum Value {
     Moment(Frac),
     /// A point of the plane.
     Point(Point),
+    /// A polygon of the plane.
+    Polygon(Polygon),
     /// A tstzspan.
     Span(Boxed<Span>),
     /// A tstzspanset.
     SpanSet(SpanSet),
+    /// An stbox.
+    Box(Boxed<StBox>),
     /// A tbool.
     MovingBool(Moving<Steady<bool>>),
     /// A tint.
@@ -49,8 +54,8 @@ pub enum Value {
 const _: () = prove!(size_of::<Value>() <= 40);
 
 impl Value {
-    /// A second value, the same, in memory of its own. It asks for memory only where the value holds some: a text, a span, a
-    /// span set, or a value over time.
+    /// A second value, the same, in memory of its own. It asks for memory only where the value holds some: a text, a polygon,
+    /// a span, a span set, a box, or a value over time.
     pub fn copy(&self, alloc: Global) -> Result<Value, AllocError>
         ensures same { IfOk result (λ copy. copy ≡ self.now) }
         ensures memory { OnErr result (holds_memory self.now ≡ true) }
@@ -62,8 +67,10 @@ impl Value {
             Value::Text(text) => Ok(Value::Text(text.copy(alloc)?)),
             Value::Moment(instant) => Ok(Value::Moment(*instant)),
             Value::Point(point) => Ok(Value::Point(*point)),
+            Value::Polygon(polygon) => Ok(Value::Polygon(polygon.copy(alloc)?)),
             Value::Span(span) => Ok(Value::Span(Boxed::new(alloc, *span.get())?)),
             Value::SpanSet(set) => Ok(Value::SpanSet(set.copy(alloc)?)),
+            Value::Box(area) => Ok(Value::Box(Boxed::new(alloc, *area.get())?)),
             Value::MovingBool(moving) => Ok(Value::MovingBool(copy_moving(alloc, moving)?)),
             Value::MovingInt(moving) => Ok(Value::MovingInt(copy_moving(alloc, moving)?)),
             Value::MovingFrac(moving) => Ok(Value::MovingFrac(copy_moving(alloc, moving)?)),
