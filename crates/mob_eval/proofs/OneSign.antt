@@ -3,7 +3,7 @@ use Rattle.std.proofs.Common.{◌≡◌, Bool, Option, Some, None, refl, sym, ap
 use Rattle.mob_slice.specs.LineComparison.{point_relates}
 use Rattle.mob_slice.specs.Lines.{line_value_of, plane_value_of}
 use Rattle.mob_slice.specs.declared.comparison.Rel.{Rel}
-use Rattle.mob_ever.specs.Sometime.{IsEver, IsAlways}
+use Rattle.mob_lift.specs.Sometime.{IsEver, IsAlways}
 use Rattle.mob_ast.specs.declared.types.Cmp.{Cmp}
 use Rattle.mob_ast.specs.declared.types.Cmp.TheVariants as cmp
 use Rattle.mob_ast.specs.declared.types.SqlType.{SqlType}

@@ -11,7 +11,7 @@ use Rattle.mob_slice.specs.declared.comparison.Gaps.{Gaps}
 use Rattle.mob_slice.specs.declared.comparison.Rel.{Rel}
 use Rattle.mob_cells.specs.Gaps.{entries_of_ends}
 use Rattle.mob_compare.specs.Compared.{entries_of_gaps}
-use Rattle.mob_ever.specs.Sometime.{IsEver, IsAlways}
+use Rattle.mob_lift.specs.Sometime.{IsEver, IsAlways}
 use Rattle.mob_ast.specs.declared.types.SqlType.{SqlType}
 use Rattle.mob_ast.specs.declared.types.SqlType.TheVariants as sql
 use Rattle.mob_ast.specs.declared.types.Cmp.{Cmp}

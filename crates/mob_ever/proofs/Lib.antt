@@ -3,6 +3,5 @@ pub mod OnSpans
 pub mod BothNil
 pub mod Meeting
 pub mod OnPieces
-pub mod AllPieces
 pub mod Deciding
 pub mod Answering

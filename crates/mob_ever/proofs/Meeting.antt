@@ -8,6 +8,7 @@ use Rattle.mob_ratio.specs.Order.{before, same}
 use Rattle.mob_ratio.specs.Sign.{nil, sign_of}
 use Rattle.mob_ratio.proofs.Order.{between, same_exact, false_unless}
 use Rattle.mob_span.specs.Span.{SpanOf, has, has_instant}
+use Rattle.mob_span.proofs.SpanLemmas.{some_instant}
 use Rattle.mob_slice.specs.Comparison.{gaps_at}
 use Rattle.mob_slice.specs.declared.comparison.Gaps.{Gaps}
 use Rattle.mob_slice.specs.declared.comparison.Gaps.TheVariants.{Constant, One, Two}
@@ -18,14 +19,6 @@ use Rattle.mob_ever.specs.Met.{order_of, line_between, one_meets, two_meet, gaps
 use Rattle.mob_ever.proofs.Taking.{sign_of_is, is_sign_of}
 use Rattle.mob_ever.proofs.OnSpans.{takes_exact, inside_has, short_has}
 use Rattle.mob_ever.proofs.BothNil.{both_nil_exact}
-
--- a span with an instant has one
-some_by : (s : SpanOf) → has_instant s ≡ true → (b : Bool) → before s.lower s.upper ≡ b → (t : Ratio) × (has s t ≡ true)
-some_by s i true h = let m = between s.lower s.upper h in (m.0, inside_has s m.0 m.1 m.2)
-some_by s i false h = (s.lower, short_has s h i)
-
-pub some_instant : (s : SpanOf) → has_instant s ≡ true → (t : Ratio) × (has s t ≡ true)
-some_instant s i = some_by s i (before s.lower s.upper) refl
 
 -- an instant of the span at which the test passes
 abbrev pub Passes : (Ordering → Bool) → SpanOf → (Ratio → Ordering) → Type 0

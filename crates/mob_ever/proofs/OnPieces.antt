@@ -18,7 +18,8 @@ use Rattle.mob_slice.specs.declared.slice.Slice.{Slice}
 use Rattle.mob_slice.proofs.Cuts.{cut_is, level_is}
 use Rattle.mob_cells.specs.Gaps.{piece_gaps}
 use Rattle.mob_ever.specs.Met.{order_of, gaps_meet, piece_meets}
-use Rattle.mob_ever.proofs.Meeting.{gaps_exact, some_instant}
+use Rattle.mob_span.proofs.SpanLemmas.{some_instant}
+use Rattle.mob_ever.proofs.Meeting.{gaps_exact}
 
 by_order : (rel : Rel) (g : Gaps) → relates_gaps rel g ≡ holds rel (order_of g)
 by_order rel Constant = refl

@@ -1,5 +1,5 @@
 -- Whether a comparison has a wanted truth value at some instant of a piece that two operands share.
-use Rattle.std.specs.Prelude.{Bool, cond, ◌&&◌, ◌||◌, Option, Some, None}
+use Rattle.std.specs.Prelude.{Bool, cond, ◌&&◌, ◌||◌}
 use Rattle.std.specs.declared.cmp.Ordering.{Ordering}
 use Rattle.std.specs.declared.cmp.Ordering.TheVariants.{Less, Equal, Greater}
 use Rattle.mob_ratio.specs.Ratio.{Ratio}
@@ -46,8 +46,3 @@ piece_meets steady value start relation gaps rel want p =
     cond steady
     (same_bool (relation rel (side_start start p.left) (side_start start p.right)) want)
     (gaps_meet (λ o. same_bool (holds rel o) want) p.span (piece_gaps value gaps p p.span.lower) (piece_gaps value gaps p p.span.upper))
-
--- the answer so far, or what one more piece says
-abbrev pub either : Option Bool → Bool → Bool
-either None b = b
-either (Some a) b = a || b

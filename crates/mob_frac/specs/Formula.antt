@@ -1,9 +1,10 @@
 -- Formulas: an operation on numbers is taken step by step, and each step has to fit. The parts of a formula are the results
 -- of its operations in lowest terms, in the order in which they are written. The part lists of all formulas stand here, each
 -- under the letter and number by which a refusal names it.
-use Rattle.std.specs.Prelude.{◌≡◌, cond, ◌||◌, List, [], ◌∷◌, Result, MatchResult}
+use Rattle.std.specs.Prelude.{◌≡◌, cond, ◌&&◌, ◌||◌, List, [], ◌∷◌, Result, MatchResult}
 use Rattle.mob_ratio.specs.Ratio.{Ratio, ◌+ℚ◌, ◌-ℚ◌, ◌*ℚ◌, ◌/ℚ◌}
-use Rattle.mob_ratio.specs.Order.{same}
+use Rattle.mob_ratio.specs.Order.{before, same}
+use Rattle.mob_ratio.specs.Sign.{nil}
 use Rattle.mob_frac.specs.Fits.{Fits}
 
 -- every part of the formula fits
@@ -66,6 +67,33 @@ parts_of_turn x0 y0 x1 y1 x y =
     let f = x -ℚ x0 in
     let n = e *ℚ f in
     c ∷ d ∷ m ∷ e ∷ f ∷ n ∷ (m -ℚ n) ∷ []
+
+-- F5, the point of the straight line from (x0, y0) to (x1, y1) that is nearest to (0, 0), as the closest approach of two moving points: the
+-- foot of the perpendicular. It lies strictly between the ends where the line comes nearer at the first and goes away at the last. There
+-- alone are quotients, of A, the square of the line's length, and of K, that length times the distance of the foot.
+abbrev pub foot_parts : (Ratio → Ratio → List Ratio) → Ratio → Ratio → Ratio → Ratio → List Ratio
+foot_parts quotients x0 y0 x1 y1 =
+    let ex = x1 -ℚ x0 in
+    let ey = y1 -ℚ y0 in
+    let A = ex *ℚ ex +ℚ ey *ℚ ey in
+    let B = x0 *ℚ ex +ℚ y0 *ℚ ey in
+    let K = x0 *ℚ ey -ℚ y0 *ℚ ex in
+    ex ∷ ey ∷ (ex *ℚ ex) ∷ (ey *ℚ ey) ∷ A ∷ (x0 *ℚ ex) ∷ (y0 *ℚ ey) ∷ B ∷ (A +ℚ B) ∷ (x0 *ℚ ey) ∷ (y0 *ℚ ex) ∷ K ∷ cond (before B nil && before nil (A +ℚ B)) (quotients A K) []
+
+-- for the square of the distance of the foot
+abbrev pub approach_parts : Ratio → Ratio → Ratio → Ratio → List Ratio
+approach_parts = foot_parts (λ A K. (K /ℚ A) ∷ (K *ℚ (K /ℚ A)) ∷ [])
+
+-- for whether that is at most D: where K is 0 it is
+abbrev pub within_parts : Ratio → Ratio → Ratio → Ratio → Ratio → List Ratio
+within_parts D = foot_parts (λ A K. (K /ℚ A) ∷ cond (same K nil) [] ((D /ℚ K) ∷ []))
+
+-- F6, the square of the distance of two points whose coordinates differ by x and y (Pythagoras); and the square of a distance d
+abbrev pub square_parts : Ratio → Ratio → List Ratio
+square_parts x y = (x *ℚ x) ∷ (y *ℚ y) ∷ (x *ℚ x +ℚ y *ℚ y) ∷ []
+
+abbrev pub distance_parts : Ratio → List Ratio
+distance_parts d = (d *ℚ d) ∷ []
 
 -- F7, an area made wider: each of its sides moved outward by d, in the order in which they are written.
 abbrev pub expansion_parts : Ratio → Ratio → Ratio → Ratio → Ratio → List Ratio

@@ -1,0 +1,12 @@
+ghost use Rattle.std.specs.Prelude.{◌≡◌};
+ghost use Rattle.mob_lift.specs.Sometime.{either};
+
+/// The answer so far, or what one more piece says.
+pub fn either(found: Option<bool>, here: bool) -> bool
+    ensures value { result ≡ either found here }
+{
+    match found {
+        Some(before) => before || here,
+        None => here,
+    }
+}

@@ -1,0 +1,4 @@
+pub mod Distances
+pub mod Approaches
+pub mod Entries
+pub mod Legs

@@ -1,0 +1,8 @@
+//! How near two moving points come, excluded ends included: whether they are ever within a distance, and the square of their nearest
+//! approach.
+#![tactic(auto)]
+
+mod leg;
+mod nearness;
+
+pub use nearness::{approach_squared, ever_within};

@@ -1,0 +1,4 @@
+pub mod Convex
+pub mod Tests
+pub mod Absolute
+pub mod Examples

@@ -1,0 +1,63 @@
+-- Convex quadratic functions of a number that goes from 0 to 1, as the square of the length of a difference that changes evenly. A function is
+-- given by a, b and c: its value at s is `a·s·s + 2·b·s + c`, so c is its value at 0, and b is half its slope there.
+use Rattle.std.specs.Prelude.{◌≡◌, Bool, true, cond, ◌&&◌, ◌||◌, pos}
+use Rattle.mob_ratio.specs.Ratio.{Ratio, whole, ◌+ℚ◌, ◌-ℚ◌, ◌*ℚ◌, ◌/ℚ◌, neg_ℚ}
+use Rattle.mob_ratio.specs.Order.{before, up_to, same}
+use Rattle.mob_ratio.specs.Sign.{nil}
+
+-- the number 1
+abbrev pub one : Ratio
+one = whole (pos 1)
+
+-- the value at s
+abbrev pub quadratic : Ratio → Ratio → Ratio → Ratio → Ratio
+quadratic a b c s = (c +ℚ s *ℚ (b +ℚ b)) +ℚ (s *ℚ s) *ℚ a
+
+-- and that at 1
+abbrev pub at_one : Ratio → Ratio → Ratio → Ratio
+at_one a b c = (c +ℚ (b +ℚ b)) +ℚ a
+
+-- s lies strictly between 0 and 1, or is one of them that counts
+abbrev pub in_unit : Bool → Bool → Ratio → Bool
+in_unit with_nil with_one s = (before nil s || (with_nil && up_to nil s)) && (before s one || (with_one && up_to s one))
+
+-- whether the function has its least value strictly between 0 and 1: it falls at 0 and rises at 1
+abbrev pub dips : Ratio → Ratio → Bool
+dips a b = before b nil && before nil (a +ℚ b)
+
+-- a times that least value
+abbrev pub scaled_least : Ratio → Ratio → Ratio → Ratio
+scaled_least a b c = a *ℚ c -ℚ b *ℚ b
+
+-- whether some value is at most d, by the values at 0 and 1 and the least one between. An end that does not count serves where the value
+-- there is below d, since so are those near it, or where both ends have at most d, since so have all between.
+abbrev pub falls_to : Ratio → Ratio → Ratio → Ratio → Bool → Bool → Bool
+falls_to a b c d with_nil with_one =
+    before c d || (before (at_one a b c) d || ((with_nil && up_to c d) || ((with_one && up_to (at_one a b c) d) || ((up_to c d && up_to (at_one a b c) d) || (dips a b && up_to (scaled_least a b c) (a *ℚ d))))))
+
+-- the greatest lower bound of the values: a least one between, else the lesser one at an end, whether or not that counts
+abbrev pub infimum : Ratio → Ratio → Ratio → Ratio
+infimum a b c = cond (dips a b) (scaled_least a b c /ℚ a) (cond (before (at_one a b c) c) (at_one a b c) c)
+
+-- s counts, and the value there is at most d
+pub record IsAtMost (a b c d : Ratio) (with_nil with_one : Bool) (s : Ratio) : Type 0 where
+  pub inside : in_unit with_nil with_one s ≡ true
+  pub near : up_to (quadratic a b c s) d ≡ true
+
+-- s counts, and the value there is below m
+pub record IsUnderAt (a b c m : Ratio) (with_nil with_one : Bool) (s : Ratio) : Type 0 where
+  pub inside : in_unit with_nil with_one s ≡ true
+  pub under : before (quadratic a b c s) m ≡ true
+
+-- m is the greatest lower bound of the values at all s that count: none is below it, and below each greater number is one
+pub record IsInfimum (a b c : Ratio) (with_nil with_one : Bool) (m : Ratio) : Type 0 where
+  pub lower : (s : Ratio) → in_unit with_nil with_one s ≡ true → up_to m (quadratic a b c s) ≡ true
+  pub greatest : (n : Ratio) → before m n ≡ true → (s : Ratio) × IsUnderAt a b c n with_nil with_one s
+
+-- the number without its sign
+unfoldable pub absolute : Ratio → Ratio
+absolute q = cond (before q nil) (neg_ℚ q) q
+
+-- whether k·k is at most a·d, by quotients: where k is 0 it is
+abbrev pub square_is_within : Ratio → Ratio → Ratio → Bool
+square_is_within a k d = same k nil || up_to (absolute (k /ℚ a)) (absolute (d /ℚ k))
