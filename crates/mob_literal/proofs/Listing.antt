@@ -26,8 +26,7 @@ all_by_each P (x ∷ xs) h = (h x (first_in x xs), all_by_each P xs (λ y c. h y
 
 pub each_of_all : {A : Type 0} (P : A → Type 0) (xs : List A) → AllByRecursion P xs → (x : A) → Contains xs x → P x
 each_of_all P [] h x c = absurd (none_in x c)
-each_of_all {A} P (y ∷ ys) h x c = by_place (which_in y ys x c)
-  where
-    by_place : (y ≡ x) ⊎ Contains ys x → P x
-    by_place (inl e) = subst P e h.0
-    by_place (inr d) = each_of_all P ys h.1 x d
+each_of_all P (y ∷ ys) h x c = elim (which_in y ys x c) [
+  | inl e ↦ subst P e h.0
+  | inr d ↦ each_of_all P ys h.1 x d
+]

@@ -1,5 +1,5 @@
 -- Each value that the slices of a step literal have is one that the type has, since each is one of those that are written.
-use Rattle.std.proofs.Common.{◌≡◌, ◌∙◌, refl, sym, subst, true≢false, ℤ, List, [], ◌∷◌, Bool, true, false, cond, Option, Some, None, Ok, inl, inr, ◌⊎◌}
+use Rattle.std.proofs.Common.{◌≡◌, refl, sym, subst, true≢false, ℤ, List, [], ◌∷◌, Bool, true, false, Option, Some, None, Ok, inl, inr}
 use Rattle.std.proofs.lemmas.Bool.{and_parts as both}
 use Rattle.std.specs.Prelude.{Contains, MatchOption}
 use Rattle.std.specs.List.{AllByRecursion, list_all}
@@ -25,11 +25,10 @@ module _ {A : Type 0} (test : A → Bool) where
   -- a test that all entries pass is passed by one of them
   one_passes : (xs : List A) (x : A) → list_all test xs ≡ true → Contains xs x → test x ≡ true
   one_passes [] x h c = absurd (none_in x c)
-  one_passes (y ∷ ys) x h c = by_place (which_in y ys x c)
-    where
-      by_place : (y ≡ x) ⊎ Contains ys x → test x ≡ true
-      by_place (inl e) = subst (λ (z : A). test z ≡ true) e (both (test y) (list_all test ys) h).0
-      by_place (inr d) = one_passes ys x (both (test y) (list_all test ys) h).1 d
+  one_passes (y ∷ ys) x h c = elim (which_in y ys x c) [
+    | inl e ↦ subst (λ (z : A). test z ≡ true) e (both (test y) (list_all test ys) h).0
+    | inr d ↦ one_passes ys x (both (test y) (list_all test ys) h).1 d
+  ]
 
 not_refused : (b : Bool) → ¬ (b ≡ false) → b ≡ true
 not_refused true h = refl
