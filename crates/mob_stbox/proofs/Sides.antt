@@ -11,7 +11,7 @@ use Rattle.mob_span.proofs.SpanLemmas.{has_exact, some_instant, instant_some, me
 use Rattle.mob_span.proofs.Insides.{both, joined as both_true, inside_has}
 use Rattle.mob_span.proofs.Touching.{upto_trans}
 use Rattle.mob_plane.specs.declared.point.Point.{Point}
-use Rattle.mob_stbox.specs.Areas.{InArea, in_area, is_area, areas_meet, area_over, area_cover, smaller, greater}
+use Rattle.mob_stbox.specs.Areas.{InArea, in_area, is_area, areas_meet, area_over, area_cover, smaller, greater, area_between, IsAreaOver}
 use Rattle.mob_stbox.specs.Boxes.{span_cover}
 use Rattle.mob_stbox.specs.declared.area.Area.{Area}
 
@@ -49,6 +49,17 @@ pub record IsShared (al ah bl bh x : Ratio) : Type 0 where
 axis_shared : (al ah bl bh : Ratio) (b : Bool) → before al bl ≡ b → up_to al ah ≡ true → up_to bl bh ≡ true → up_to al bh ≡ true → up_to bl ah ≡ true → IsShared al ah bl bh (cond b bl al)
 axis_shared al ah bl bh true e h k l m = record { from_a = grind (arith, before-back al bl e); to_a = m; from_b = upto_self bl; to_b = k }
 axis_shared al ah bl bh false e h k l m = record { from_a = upto_self al; to_a = h; from_b = grind (arith, e); to_b = l }
+
+-- an area has a point exactly where no least coordinate is above its greatest
+pub area_has_point : (a : Area) → (is_area a ≡ true) ↔ ((p : Point) × InArea a p)
+area_has_point a = (
+  λ h.
+      let k = both (up_to a.xmin a.xmax) (up_to a.ymin a.ymax) h in
+      (record { x = a.xmin; y = a.ymin }, (in_area_exact a (record { x = a.xmin; y = a.ymin })).0 (all_four (up_to a.xmin a.xmin) (up_to a.xmin a.xmax) (up_to a.ymin a.ymin) (up_to a.ymin a.ymax) (upto_self a.xmin) k.0 (upto_self a.ymin) k.1)),
+  λ m.
+      let k = four (up_to a.xmin m.0.x) (up_to m.0.x a.xmax) (up_to a.ymin m.0.y) (up_to m.0.y a.ymax) ((in_area_exact a m.0).1 m.1) in
+      both_true (up_to a.xmin a.xmax) (up_to a.ymin a.ymax) (upto_trans a.xmin m.0.x a.xmax k.0 k.1) (upto_trans a.ymin m.0.y a.ymax k.2 k.3),
+)
 
 -- two areas share a point exactly where on each axis neither lies wholly on one side of the other
 pub areas_meet_exact : (a b : Area) → is_area a ≡ true → is_area b ≡ true → (areas_meet a b ≡ true) ↔ ((p : Point) × InArea a p × InArea b p)
@@ -126,6 +137,40 @@ smaller_least s t u h k = grind arith
 
 greater_least : (s t u : Ratio) → up_to s u ≡ true → up_to t u ≡ true → up_to (greater s t) u ≡ true
 greater_least s t u h k = grind arith
+
+-- the least area over two points
+pub between_is_area : (p q : Point) → is_area (area_between p q) ≡ true
+between_is_area p q = both_true (up_to (smaller p.x q.x) (greater p.x q.x)) (up_to (smaller p.y q.y) (greater p.y q.y)) (upto_trans (smaller p.x q.x) p.x (greater p.x q.x) (smaller_left p.x q.x) (greater_left p.x q.x)) (upto_trans (smaller p.y q.y) p.y (greater p.y q.y) (smaller_left p.y q.y) (greater_left p.y q.y))
+
+pub between_is_over : (p q : Point) → IsAreaOver p q (area_between p q)
+between_is_over p q = let a = area_between p q in record {
+  first = (in_area_exact a p).0 (all_four (up_to a.xmin p.x) (up_to p.x a.xmax) (up_to a.ymin p.y) (up_to p.y a.ymax) (smaller_left p.x q.x) (greater_left p.x q.x) (smaller_left p.y q.y) (greater_left p.y q.y));
+  second = (in_area_exact a q).0 (all_four (up_to a.xmin q.x) (up_to q.x a.xmax) (up_to a.ymin q.y) (up_to q.y a.ymax) (smaller_right p.x q.x) (greater_right p.x q.x) (smaller_right p.y q.y) (greater_right p.y q.y));
+  least = λ b h k r m. in_over b a r (between_least p q b h k) m;
+}
+  where
+    between_least : (p q : Point) (b : Area) → InArea b p → InArea b q → area_over b (area_between p q) ≡ true
+    between_least p q b h k =
+        let i = four (up_to b.xmin p.x) (up_to p.x b.xmax) (up_to b.ymin p.y) (up_to p.y b.ymax) ((in_area_exact b p).1 h) in
+        let j = four (up_to b.xmin q.x) (up_to q.x b.xmax) (up_to b.ymin q.y) (up_to q.y b.ymax) ((in_area_exact b q).1 k) in
+        all_four (up_to b.xmin (smaller p.x q.x)) (up_to (greater p.x q.x) b.xmax) (up_to b.ymin (smaller p.y q.y)) (up_to (greater p.y q.y) b.ymax) (smaller_least p.x q.x b.xmin i.0 j.0) (greater_least p.x q.x b.xmax i.1 j.1) (smaller_least p.y q.y b.ymin i.2 j.2) (greater_least p.y q.y b.ymax i.3 j.3)
+
+smaller_first : (s t : Ratio) → up_to s t ≡ true → smaller s t ≡ s
+smaller_first s t h = let e : before t s ≡ false = grind (arith, h) in rw e refl
+
+greater_last : (s t : Ratio) (b : Bool) → before s t ≡ b → up_to s t ≡ true → cond b t s ≡ t
+greater_last s t true e h = refl
+greater_last s t false e h = before-neither s t e (grind (arith, h))
+
+-- an area is the one between its least corner and its greatest
+pub between_again : (a : Area) → is_area a ≡ true → area_between (record { x = a.xmin; y = a.ymin }) (record { x = a.xmax; y = a.ymax }) ≡ a
+between_again a h =
+    let k = both (up_to a.xmin a.xmax) (up_to a.ymin a.ymax) h in
+    let p = smaller_first a.xmin a.xmax k.0 in
+    let q = greater_last a.xmin a.xmax (before a.xmin a.xmax) refl k.0 in
+    let r = smaller_first a.ymin a.ymax k.1 in
+    let s = greater_last a.ymin a.ymax (before a.ymin a.ymax) refl k.1 in
+    λ i. record { xmin = p i; xmax = q i; ymin = r i; ymax = s i }
 
 pub area_cover_left : (a b : Area) → area_over (area_cover a b) a ≡ true
 area_cover_left a b = let c = area_cover a b in all_four (up_to c.xmin a.xmin) (up_to a.xmax c.xmax) (up_to c.ymin a.ymin) (up_to a.ymax c.ymax) (smaller_left a.xmin b.xmin) (greater_left a.xmax b.xmax) (smaller_left a.ymin b.ymin) (greater_left a.ymax b.ymax)
