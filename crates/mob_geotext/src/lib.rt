@@ -1,12 +1,16 @@
-//! Texts of points, of spans of time and of span sets, each read exactly and printed.
+//! Texts of points, of spans of time, of span sets and of boxes, each read exactly and printed.
 #![tactic(auto)]
 
+mod box_printing;
+mod boxes;
 mod laws;
 mod many;
 mod noted;
 mod printing;
 mod single;
 
+pub use box_printing::write_stbox;
+pub use boxes::{NotedBox, NotedCorners, read_stbox};
 pub use laws::{noted_spans_cross_threads, one_reading, span_read_again, span_set_read_again};
 pub use many::read_span_set;
 pub use mob_points::{one_point, point_read_again, read_point, write_point};

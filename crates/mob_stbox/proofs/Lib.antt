@@ -1,1 +1,3 @@
+pub mod Sides
+pub mod BoxLaws
 mod Examples

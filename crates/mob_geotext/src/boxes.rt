@@ -1,0 +1,285 @@
+//! Boxes, read from their texts.
+ghost use Rattle.std.specs.Prelude.{◌≡◌, ◌≢◌, option_map, Err, true, IfSome};
+ghost use Rattle.mob_language.specs.Readers.{all_of, within_blanks_at};
+ghost use Rattle.mob_numeral.specs.declared.fault.ReadText.TheVariants.{NoMemory};
+ghost use Rattle.mob_numeral.specs.Verdict.{Lit};
+ghost use Rattle.mob_points.specs.Points.{point_of as point_made, close_bracket_at as close_bracket_in};
+ghost use Rattle.mob_stbox.specs.Areas.{is_area};
+ghost use Rattle.mob_geotext.specs.Boxes.{open_bracket_at as open_bracket_in, corner_at as corner_in, corners_at as corners_in, closed_span_at as closed_span_in, space_alone_at as space_alone_in, space_and_time_at as space_and_time_in, time_alone_at as time_alone_in, with_space_at as with_space_in, written_box_at as written_box_in, area_of as area_said, has_corners as corners_there, has_sides as sides_there, box_in_space as in_space, box_in_time as in_time, box_in_both as in_both, sound_box, boxes};
+
+use crate::noted::{NotedSpan, has_ends, noted_span_at, span_of};
+use mob_frac::Frac;
+use mob_numeral::{any_case_at, blanks, number_value_at, some_blanks_at, spaced_at};
+use mob_plane::Point;
+use mob_scalar::{Epoch, ReadText};
+use mob_span::Span;
+use mob_stbox::{Area, StBox};
+
+/// What a text says of two opposite corners of a rectangle. A corner is None where a coordinate of it does not fit.
+#[derive(Drop)]
+pub struct NotedCorners {
+    /// The one that is written first.
+    pub first: Option<Point>,
+    /// The other one.
+    pub second: Option<Point>,
+}
+
+/// What a text says of a box, before its sides are known to fit and its span to hold an instant.
+#[derive(Drop)]
+pub enum NotedBox {
+    /// A rectangle.
+    Space(NotedCorners),
+    /// A span of time.
+    Time(NotedSpan),
+    /// A rectangle and a span of time.
+    Both(NotedCorners, NotedSpan),
+}
+
+/// The point with these coordinates, where both of them are there.
+fn point_of(x: Option<Frac>, y: Option<Frac>) -> Option<Point>
+    ensures value { result ≡ point_made x y }
+{
+    let east = x?;
+    let north = y?;
+    Some(Point { x: east, y: north })
+}
+
+/// What stands behind an opening bracket and the blanks after it.
+#[tactic(auto, unfolding(crate::specs::Boxes::open_bracket_at))]
+fn open_bracket_at(bytes: &[u8]) -> Option<&[u8]>
+    ensures read { option_map (λ rest. (tt, rest.now)) result ≡ open_bracket_in bytes.now }
+{
+    match bytes {
+        [40, rest @ ..] => Some(blanks(rest).1),
+        _ => None,
+    }
+}
+
+/// What stands behind a closing bracket and the blanks before it.
+#[tactic(auto, unfolding(mob_points::specs::Points::close_bracket_at))]
+fn close_bracket_at(bytes: &[u8]) -> Option<&[u8]>
+    ensures read { option_map (λ rest. (tt, rest.now)) result ≡ close_bracket_in bytes.now }
+{
+    match blanks(bytes).1 {
+        [41, rest @ ..] => Some(rest),
+        _ => None,
+    }
+}
+
+/// The corner in front, where its coordinates fit, and what stands behind it.
+#[tactic(auto, unfolding(crate::specs::Boxes::corner_at, mob_scalar::specs::Brackets::comma_at))]
+fn corner_at(bytes: &[u8]) -> Option<(Option<Point>, &[u8])>
+    ensures read { option_map (λ x. (x.0, x.1.now)) result ≡ corner_in bytes.now }
+{
+    let rest = open_bracket_at(bytes)?;
+    let Some((x, rest)) = number_value_at(rest) else {
+        return None;
+    };
+    let rest = spaced_at(b',', rest)?;
+    let Some((y, rest)) = number_value_at(rest) else {
+        return None;
+    };
+    let rest = close_bracket_at(rest)?;
+    Some((point_of(x, y), rest))
+}
+
+/// Two corners and a closing bracket, and what stands behind it.
+#[tactic(auto, unfolding(crate::specs::Boxes::corners_at, mob_scalar::specs::Brackets::comma_at))]
+fn corners_at(bytes: &[u8]) -> Option<(NotedCorners, &[u8])>
+    ensures read { option_map (λ x. (x.0, x.1.now)) result ≡ corners_in bytes.now }
+{
+    let Some((first, rest)) = corner_at(bytes) else {
+        return None;
+    };
+    let rest = spaced_at(b',', rest)?;
+    let Some((second, rest)) = corner_at(rest) else {
+        return None;
+    };
+    let rest = close_bracket_at(rest)?;
+    Some((NotedCorners { first, second }, rest))
+}
+
+/// A span and a closing bracket, and what stands behind it.
+#[tactic(auto, unfolding(crate::specs::Boxes::closed_span_at))]
+fn closed_span_at<'a>(epoch: &Epoch, bytes: &'a [u8]) -> Option<(NotedSpan, &'a [u8])>
+    ensures read { option_map (λ x. (x.0, x.1.now)) result ≡ closed_span_in epoch.now bytes.now }
+{
+    let Some((span, rest)) = noted_span_at(epoch, bytes) else {
+        return None;
+    };
+    let rest = close_bracket_at(rest)?;
+    Some((span, rest))
+}
+
+/// The rectangle in brackets behind `X`, and what stands behind it.
+#[tactic(auto, unfolding(crate::specs::Boxes::space_alone_at))]
+fn space_alone_at(bytes: &[u8]) -> Option<(NotedBox, &[u8])>
+    ensures read { option_map (λ x. (x.0, x.1.now)) result ≡ space_alone_in bytes.now }
+{
+    let rest = spaced_at(b'(', bytes)?;
+    let Some((corners, rest)) = corners_at(rest) else {
+        return None;
+    };
+    Some((NotedBox::Space(corners), rest))
+}
+
+/// The letter `T` behind `X` and the two dimensions in brackets, and what stands behind them.
+#[tactic(auto, unfolding(crate::specs::Boxes::space_and_time_at, mob_scalar::specs::Brackets::comma_at))]
+fn space_and_time_at<'a>(epoch: &Epoch, bytes: &'a [u8]) -> Option<(NotedBox, &'a [u8])>
+    ensures read { option_map (λ x. (x.0, x.1.now)) result ≡ space_and_time_in epoch.now bytes.now }
+{
+    let rest = any_case_at(b"t", bytes)?;
+    let rest = spaced_at(b'(', rest)?;
+    let rest = open_bracket_at(rest)?;
+    let Some((corners, rest)) = corners_at(rest) else {
+        return None;
+    };
+    let rest = spaced_at(b',', rest)?;
+    let Some((span, rest)) = closed_span_at(epoch, rest) else {
+        return None;
+    };
+    Some((NotedBox::Both(corners, span), rest))
+}
+
+/// The letter `T` and a span in brackets, and what stands behind it.
+#[tactic(auto, unfolding(crate::specs::Boxes::time_alone_at))]
+fn time_alone_at<'a>(epoch: &Epoch, bytes: &'a [u8]) -> Option<(NotedBox, &'a [u8])>
+    ensures read { option_map (λ x. (x.0, x.1.now)) result ≡ time_alone_in epoch.now bytes.now }
+{
+    let rest = any_case_at(b"t", bytes)?;
+    let rest = spaced_at(b'(', rest)?;
+    let Some((span, rest)) = closed_span_at(epoch, rest) else {
+        return None;
+    };
+    Some((NotedBox::Time(span), rest))
+}
+
+/// The letter `X` and the rectangle, with or without time, and what stands behind it.
+#[tactic(auto, unfolding(crate::specs::Boxes::with_space_at))]
+fn with_space_at<'a>(epoch: &Epoch, bytes: &'a [u8]) -> Option<(NotedBox, &'a [u8])>
+    ensures read { option_map (λ x. (x.0, x.1.now)) result ≡ with_space_in epoch.now bytes.now }
+{
+    let rest = any_case_at(b"x", bytes)?;
+    if let Some((noted, after)) = space_and_time_at(epoch, rest) {
+        return Some((noted, after));
+    }
+    let Some((noted, after)) = space_alone_at(rest) else {
+        return None;
+    };
+    Some((noted, after))
+}
+
+/// The box in front, as it is written, and what stands behind it.
+#[tactic(auto, unfolding(crate::specs::Boxes::written_box_at))]
+fn written_box_at<'a>(epoch: &Epoch, bytes: &'a [u8]) -> Option<(NotedBox, &'a [u8])>
+    ensures read { option_map (λ x. (x.0, x.1.now)) result ≡ written_box_in epoch.now bytes.now }
+{
+    let rest = any_case_at(b"stbox", bytes)?;
+    let (_, rest) = some_blanks_at(rest)?;
+    if let Some((noted, after)) = time_alone_at(epoch, rest) {
+        return Some((noted, after));
+    }
+    let Some((noted, after)) = with_space_at(epoch, rest) else {
+        return None;
+    };
+    Some((noted, after))
+}
+
+/// All of the bytes, as a box with blanks at its ends.
+fn noted_in_all(epoch: &Epoch, bytes: &[u8]) -> Option<NotedBox>
+    ensures value { result ≡ all_of (within_blanks_at (written_box_in epoch.now)) bytes.now }
+{
+    let Some((noted, rest)) = written_box_at(epoch, blanks(bytes).1) else {
+        return None;
+    };
+    match blanks(rest).1 {
+        [] => Some(noted),
+        _ => None,
+    }
+}
+
+/// Whether the coordinates of both corners fit.
+fn has_corners(corners: &NotedCorners) -> bool
+    ensures value { result ≡ corners_there corners.now }
+{
+    corners.first.is_some() && corners.second.is_some()
+}
+
+/// Whether all coordinates and ends fit.
+fn has_sides(noted: &NotedBox) -> bool
+    ensures value { result ≡ sides_there noted.now }
+{
+    match noted {
+        NotedBox::Space(corners) => has_corners(corners),
+        NotedBox::Time(span) => has_ends(span),
+        NotedBox::Both(corners, span) => has_corners(corners) && has_ends(span),
+    }
+}
+
+/// The rectangle between the corners, where their coordinates fit.
+fn area_of(corners: NotedCorners) -> Option<Area>
+    ensures value { result ≡ area_said corners }
+    ensures area { IfSome result (λ a. is_area a ≡ true) }
+{
+    let NotedCorners { first, second } = corners;
+    let one = first?;
+    let other = second?;
+    Some(Area::between(&one, &other))
+}
+
+/// The box with this rectangle.
+fn box_in_space(area: Option<Area>) -> Option<StBox>
+    requires area { IfSome area (λ a. is_area a ≡ true) }
+    ensures value { result ≡ in_space area }
+{
+    StBox::new(Some(area?), None)
+}
+
+/// The box with this span.
+fn box_in_time(span: Option<Span>) -> Option<StBox>
+    ensures value { result ≡ in_time span }
+{
+    StBox::new(None, Some(span?))
+}
+
+/// The box with this rectangle and this span.
+fn box_in_both(area: Option<Area>, span: Option<Span>) -> Option<StBox>
+    requires area { IfSome area (λ a. is_area a ≡ true) }
+    ensures value { result ≡ in_both area span }
+{
+    StBox::new(Some(area?), Some(span?))
+}
+
+/// The box, where its sides fit and some instant is in its span.
+fn box_of(noted: NotedBox) -> Option<StBox>
+    ensures value { result ≡ sound_box noted }
+{
+    match noted {
+        NotedBox::Space(corners) => box_in_space(area_of(corners)),
+        NotedBox::Time(span) => box_in_time(span_of(span)),
+        NotedBox::Both(corners, span) => box_in_both(area_of(corners), span_of(span)),
+    }
+}
+
+/// The box that a text says. Instants count from midnight UTC of the epoch's day.
+///
+/// A box is `STBOX X((x,y),(x,y))`, `STBOX T(span)` or `STBOX XT(((x,y),(x,y)),span)`, its letters small or capital. The corners
+/// may be any two opposite ones. Blanks may stand beside each bracket and comma and at both ends, and one or more stand behind
+/// `STBOX`. The faults in order: `NotText` for any other text, `TooLarge` where a coordinate or an end has more than 62 bits, and
+/// `Unsound` where no instant is in the span. It takes no memory.
+pub fn read_stbox(text: &str, epoch: &Epoch) -> Result<StBox, ReadText>
+    ensures reading { Lit (boxes epoch.now) text.now result }
+    ensures memory { result ≢ Err NoMemory }
+{
+    let noted = match noted_in_all(epoch, text.as_bytes()) {
+        None => return Err(ReadText::NotText),
+        Some(noted) => noted,
+    };
+    if !has_sides(&noted) {
+        return Err(ReadText::TooLarge);
+    }
+    match box_of(noted) {
+        Some(found) => Ok(found),
+        None => Err(ReadText::Unsound),
+    }
+}
