@@ -1,6 +1,6 @@
 -- Where an edge crosses the height of a point to the right of it, the point turns from the edge as the edge rises.
-use Rattle.std.specs.Prelude.{◌≡◌, ◌≢◌, Bool, true, false, pos, ◌+ℤ◌, neg_ℤ, ◌<ℤ◌}
-use Rattle.std.proofs.Common.{arith, sym, ap, ◌∙◌}
+use Rattle.std.specs.Prelude.{◌≡◌, ◌≢◌, true, pos, ◌+ℤ◌, neg_ℤ}
+use Rattle.std.proofs.Common.{arith}
 use Rattle.mob_ratio.specs.Ratio.{Ratio, whole, ◌<ℚ◌, ◌+ℚ◌, ◌-ℚ◌, ◌*ℚ◌}
 use Rattle.mob_ratio.specs.Order.{before}
 use Rattle.mob_ratio.specs.Sign.{nil}

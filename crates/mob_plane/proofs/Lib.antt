@@ -5,3 +5,5 @@ pub mod TurnsAlong
 pub mod Crossings
 pub mod BySigns
 pub mod Counts
+pub mod RingTests
+pub mod Widening

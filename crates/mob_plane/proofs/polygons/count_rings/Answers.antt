@@ -16,5 +16,5 @@ returns-in-Err c =
     let h = rw c.as_slice.ensures.value at c.in-Err.ensures.counted in
     record {
       counted = counting_ring_fails _ _ _ (edges c.ring-item.result.items) (all_edges (rings_of (drop (at.ring-index + 1) c.args.rings.now))) _ _
-      (rings_read c.args.rings.now at.ring-index c.ring-item.result (omega arith) c.ring-item.is) h at.invariant;
+          (rings_read c.args.rings.now at.ring-index c.ring-item.result (omega arith) c.ring-item.is) h at.invariant;
     }
