@@ -2,6 +2,7 @@
 use Rattle.std.specs.Prelude.{◌≡◌, refl, Bool, true, false, ◌||◌, ℕ, zero, suc, ◌-◌, ◌<◌, ◌≤◌, List, [], ◌∷◌, ◌++◌, length, get_or}
 use Rattle.std.specs.Prelude.{Vec}
 use Rattle.std.proofs.Common.{ap, sym, ◌∙◌, subst, arith, drop, ◌+◌, add-one, drop-cons}
+use Rattle.std.proofs.Math.Bool.{or_assoc}
 use Rattle.std.specs.declared.alloc.Global.{Global}
 use Rattle.mob_frac.specs.Formula.{AllFit}
 use Rattle.mob_frac.proofs.Fitting.{all_both, all_first, all_second}
@@ -19,9 +20,6 @@ alone_assoc true true true = refl
 alone_assoc true true false = refl
 alone_assoc true false c = refl
 alone_assoc false b c = refl
-
-or_assoc : (a b c : Bool) → ((a || b) || c) ≡ (a || (b || c))
-or_assoc a b c = grind arith
 
 counted_on : (t : Tally) (ss : List EdgeSigns) → (counted t ss).on ≡ (t.on || some_on ss)
 counted_on t [] = grind arith

@@ -76,9 +76,6 @@ cond_one : (b : Bool) (x y : Ratio) → (cond b y x ≡ x) ⊎ (cond b y x ≡ y
 cond_one true x y = inr refl
 cond_one false x y = inl refl
 
-up_to-self : (x : Ratio) → up_to x x ≡ true
-up_to-self x = rw (before-self x) refl
-
 greater_first : (x y : Ratio) → up_to x (greater x y) ≡ true
 greater_first x y = by (before x y) refl
   where
@@ -101,14 +98,14 @@ greatest_by f x ps = fold (λ x p. greater x (f p)) x ps
 
 is_least : (f : Point → Ratio) (s : Point) (ps : List Point) → Contains ps s → IsLeastAmong f ps (least_by f (f s) ps)
 is_least f s ps h = record {
-  some = listed up_to lesser lesser_first lesser_second (λ x y. cond_one (before y x) x y) up_to-self up_to-next f s ps h;
-  none_less = before_all up_to lesser lesser_first lesser_second (λ x y. cond_one (before y x) x y) up_to-self up_to-next f (f s) ps;
+  some = listed up_to lesser lesser_first lesser_second (λ x y. cond_one (before y x) x y) (λ x. rw (before-self x) refl) up_to-next f s ps h;
+  none_less = before_all up_to lesser lesser_first lesser_second (λ x y. cond_one (before y x) x y) (λ x. rw (before-self x) refl) up_to-next f (f s) ps;
 }
 
 is_greatest : (f : Point → Ratio) (s : Point) (ps : List Point) → Contains ps s → IsGreatestAmong f ps (greatest_by f (f s) ps)
 is_greatest f s ps h = record {
-  some = listed (λ x y. up_to y x) greater greater_first greater_second (λ x y. cond_one (before x y) x y) up_to-self (λ x y z h k. up_to-next z y x k h) f s ps h;
-  none_greater = before_all (λ x y. up_to y x) greater greater_first greater_second (λ x y. cond_one (before x y) x y) up_to-self (λ x y z h k. up_to-next z y x k h) f (f s) ps;
+  some = listed (λ x y. up_to y x) greater greater_first greater_second (λ x y. cond_one (before x y) x y) (λ x. rw (before-self x) refl) (λ x y z h k. up_to-next z y x k h) f s ps h;
+  none_greater = before_all (λ x y. up_to y x) greater greater_first greater_second (λ x y. cond_one (before x y) x y) (λ x. rw (before-self x) refl) (λ x y z h k. up_to-next z y x k h) f (f s) ps;
 }
 
 -- ---- corner by corner

@@ -3,7 +3,7 @@ ghost use Rattle.std.specs.Prelude.{◌≡◌, ◌↔◌, true, false, Ok, Err, 
 ghost use Rattle.std.specs.List.{list_any};
 ghost use Rattle.mob_frac.specs.Formula.{IsFormula};
 ghost use Rattle.mob_plane.specs.Turns.{turns_parts};
-ghost use Rattle.mob_plane.specs.Rings.{rings_of, all_edges, has_short, has_open, is_short, is_open, are_sound};
+ghost use Rattle.mob_plane.specs.Rings.{rings_of, all_edges, has_short, has_open, is_short_ring, is_open_ring, are_sound};
 ghost use Rattle.mob_plane.specs.Membership.{inside};
 ghost use Rattle.mob_plane.specs.EdgeWise.{signs_to, counted, none_yet};
 ghost use Rattle.mob_plane.specs.Corners.{all_points, AreCorners};
@@ -47,14 +47,14 @@ impl Model for Polygon {
 
 /// Whether the ring has fewer than four points.
 fn is_short(ring: &[Point]) -> bool
-    ensures value { result ≡ is_short ring.now }
+    ensures value { result ≡ is_short_ring ring.now }
 {
     ring.len() < 4
 }
 
 /// Whether the ring's first and last points differ.
 fn is_open(ring: &[Point]) -> bool
-    ensures value { result ≡ is_open ring.now }
+    ensures value { result ≡ is_open_ring ring.now }
 {
     match (ring.first(), ring.last()) {
         (Some(first), Some(last)) => !first.is_same(last),
@@ -64,7 +64,7 @@ fn is_open(ring: &[Point]) -> bool
 
 /// Whether some ring is short.
 fn some_short(rings: &[Vec<Point>]) -> bool
-    ensures value { result ≡ list_any (λ r. is_short r.items) rings.now }
+    ensures value { result ≡ list_any (λ r. is_short_ring r.items) rings.now }
 {
     rings.iter().any(|ring| is_short(ring.as_slice()))
 }
@@ -78,7 +78,7 @@ fn has_short(rings: &[Vec<Point>]) -> bool
 
 /// Whether some ring is open.
 fn some_open(rings: &[Vec<Point>]) -> bool
-    ensures value { result ≡ list_any (λ r. is_open r.items) rings.now }
+    ensures value { result ≡ list_any (λ r. is_open_ring r.items) rings.now }
 {
     rings.iter().any(|ring| is_open(ring.as_slice()))
 }
