@@ -1,5 +1,5 @@
 -- The least and the greatest coordinates of points.
-use Rattle.std.specs.Prelude.{◌≡◌, Bool, true, cond, List, Any, All}
+use Rattle.std.specs.Prelude.{◌≡◌, true, cond, List, Any, All}
 use Rattle.std.specs.List.{flat_map}
 use Rattle.mob_ratio.specs.Ratio.{Ratio}
 use Rattle.mob_ratio.specs.Order.{before, up_to}

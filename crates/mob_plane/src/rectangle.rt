@@ -28,6 +28,16 @@ fn greater(x: &Frac, y: &Frac) -> Frac
     if x.is_before(y) { *y } else { *x }
 }
 
+/// The rectangle that is one point.
+pub fn at_point(p: &Point) -> Corners
+    ensures value { result ≡ record { least = p.now; greatest = p.now } }
+{
+    Corners {
+        least: *p,
+        greatest: *p,
+    }
+}
+
 /// The least rectangle that has this one and a point.
 fn widened(corners: &Corners, p: &Point) -> Corners
     ensures value { result ≡ widened corners.now p.now }
