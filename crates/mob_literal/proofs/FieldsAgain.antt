@@ -1,15 +1,19 @@
 -- The field of a value is read again as that value.
-use Rattle.std.proofs.Common.{◌≡◌, ℕ, ℤ, List, [], ◌∷◌, Bool, true, false, cond, refl, sym, subst, Ok, rules}
-use Rattle.std.specs.Prelude.{nat_eq}
-use Rattle.std.proofs.lemmas.Bool.{eqb-true}
+use Rattle.std.proofs.Common.{◌≡◌, ℕ, ℤ, List, [], ◌∷◌, Bool, true, false, cond, Option, Some, None, refl, sym, subst, true≢false, Ok, rules}
+use Rattle.std.specs.Prelude.{nat_eq, is_some, ◌&&◌, ◌||◌}
+use Rattle.std.proofs.lemmas.Bool.{and_parts as both, eqb-true}
 use Rattle.mob_ratio.specs.Ratio.{Ratio}
 use Rattle.mob_frac.specs.Fits.{Fits}
+use Rattle.mob_geotext.specs.BoxText.{box_text, dimensions_text}
+use Rattle.mob_geotext.specs.PolygonText.{polygon_text}
 use Rattle.mob_geotext.specs.SpanText.{span_text, span_set_text}
 use Rattle.mob_language.specs.Language.{Text, is_digit, is_number_sign, is_exponent_letter}
 use Rattle.mob_language.proofs.Heads.{Apart}
 use Rattle.mob_plane.specs.declared.point.Point.{Point}
 use Rattle.mob_points.specs.PointText.{point_text}
 use Rattle.mob_span.specs.Span.{SpanOf}
+use Rattle.mob_stbox.specs.Boxes.{BoxOf, is_box, area_stands, span_stands}
+use Rattle.mob_stbox.specs.declared.area.Area.{Area}
 use Rattle.mob_slice.specs.declared.slice.Slice.{Slice}
 use Rattle.mob_slice.specs.CourseOf.{CourseOf}
 use Rattle.mob_ast.specs.declared.types.SqlType.{SqlType}
@@ -71,10 +75,22 @@ no_backslash = record { brace = refl; included = refl; left_out = refl }
 first_value : {C B : Type 0} {course : CourseOf C B} {day : ℤ} {text : B → Text} {IsWritten : B → Type 0} → ((v : B) → IsWritten v → IsPlain (text v)) → (slices : List (Slice C)) → IsReadable course day text IsWritten slices → IsPlain (moving_text (style_of course text day) slices)
 first_value plain slices r = readable_begun is_backslash no_backslash plain slices r
 
--- ---- points, spans and span sets
+-- ---- points, polygons, spans, span sets and boxes
 
 point_is_plain : (p : Point) → IsPlain (point_text p)
 point_is_plain p = record { first = 80; rest = _; is = refl; other = refl }
+
+polygon_is_plain : (rings : List (List Point)) → IsPlain (polygon_text rings)
+polygon_is_plain rings = record { first = 80; rest = _; is = refl; other = refl }
+
+dimensions_are_plain : (day : ℤ) (space : Option Area) (time : Option SpanOf) → (is_some space || is_some time) ≡ true → IsPlain (dimensions_text day space time)
+dimensions_are_plain day (Some a) None h = record { first = 83; rest = _; is = refl; other = refl }
+dimensions_are_plain day None (Some s) h = record { first = 83; rest = _; is = refl; other = refl }
+dimensions_are_plain day (Some a) (Some s) h = record { first = 83; rest = _; is = refl; other = refl }
+dimensions_are_plain day None None h = absurd (true≢false (sym h))
+
+box_is_plain : (day : ℤ) (b : BoxOf) → is_box b ≡ true → IsPlain (box_text day b)
+box_is_plain day b h = dimensions_are_plain day b.space b.time (both (is_some b.space || is_some b.time) (area_stands b.space && span_stands b.time) h).0
 
 span_is_plain : (day : ℤ) (s : SpanOf) → IsPlain (span_text day s)
 span_is_plain day s = begun_front is_backslash _ _ (bracket_begun is_backslash no_backslash s.lower_inc)
@@ -123,8 +139,10 @@ field_again sql.Numeric day (value.Number q) h = record { there = not_null _ (nu
 field_again sql.Text day (value.Text t) h = record { there = doubled_null t; says = subst (λ (x : Text). SaysAs sql.Text day x (Ok (value.Text t))) (sym (doubled_again t)) (value_again sql.Text day (value.Text t) h) }
 field_again sql.Moment day (value.Moment t) h = record { there = not_null _ (moment_is_plain day t h); says = value_again sql.Moment day (value.Moment t) h }
 field_again sql.Point day (value.Point p) h = record { there = not_null _ (point_is_plain p); says = value_again sql.Point day (value.Point p) h }
+field_again sql.Polygon day (value.Polygon rings) h = record { there = not_null _ (polygon_is_plain rings); says = value_again sql.Polygon day (value.Polygon rings) h }
 field_again sql.Span day (value.Span s) h = record { there = not_null _ (span_is_plain day s); says = value_again sql.Span day (value.Span s) h }
 field_again sql.SpanSet day (value.SpanSet v) h = record { there = not_null _ (set_is_plain day v); says = value_again sql.SpanSet day (value.SpanSet v) h }
+field_again sql.Box day (value.Box b) h = record { there = not_null _ (box_is_plain day b h.stands); says = value_again sql.Box day (value.Box b) h }
 field_again sql.TBool day (value.MovingBool v) h = record { there = not_null _ (first_value (λ b w. truth_is_plain b) v h); says = value_again sql.TBool day (value.MovingBool v) h }
 field_again sql.TInt day (value.MovingInt v) h = record { there = not_null _ (first_value (λ q w. number_is_plain q w.fits) v h); says = value_again sql.TInt day (value.MovingInt v) h }
 field_again sql.TFrac day (value.MovingFrac v) h = record { there = not_null _ (first_value (λ q w. number_is_plain q w) v h); says = value_again sql.TFrac day (value.MovingFrac v) h }

@@ -12,6 +12,8 @@ use Rattle.mob_slice.specs.CourseOf.{line_course, plane_course}
 use Rattle.mob_plane.specs.Points.{same_point}
 use Rattle.mob_points.specs.Points.{points, point_value}
 use Rattle.mob_points.proofs.OnePoint.{one_point}
+use Rattle.mob_geotext.specs.Boxes.{boxes}
+use Rattle.mob_geotext.specs.Polygons.{polygons}
 use Rattle.mob_geotext.specs.Spans.{spans, span_sets}
 use Rattle.mob_geotext.proofs.OneReadings.{one_span, one_span_set}
 use Rattle.mob_ast.specs.declared.types.SqlType.{SqlType}
@@ -29,7 +31,7 @@ use Rattle.mob_numeral.proofs.Settled.{settled}
 use Rattle.mob_literal.specs.Sound.{literals, steps}
 use Rattle.mob_numeral.specs.Fitting.{number_value}
 use Rattle.mob_written.specs.Values.{any_value, is_whole, truth_values, number_values, quoted_values, point_values, truth_value, quoted_value}
-use Rattle.mob_literal.specs.SqlText.{texts, no_texts, SaysInForm, SaysAs}
+use Rattle.mob_literal.specs.SqlText.{texts, SaysInForm, SaysAs}
 use Rattle.mob_literal.proofs.OneReading.{one_reading}
 
 module _ {S V : Type 0} (f : TextForm S V) (made : V → Value) (one : HasOneReading f) (text : Text) where
@@ -63,9 +65,6 @@ module _ {S V : Type 0} (f : TextForm S V) (made : V → Value) (one : HasOneRea
 one_text : HasOneReading texts
 one_text text = settled texts text (λ s t a b. sym a ∙ b) (λ s v w a b. a ∙ sym b)
 
-none_said : HasOneReading no_texts
-none_said text = settled no_texts text (λ s t a b. absurd a) (λ s v w a b. absurd a)
-
 pub one_sql_reading : (type : SqlType) (day : ℤ) (text : Text) (a b : Result Value ReadText) → a ≢ Err NoMemory → b ≢ Err NoMemory → SaysAs type day text a → SaysAs type day text b → a ≡ b
 one_sql_reading sql.Bool day text = says_one truths value.Bool one_truth text
 one_sql_reading sql.Int day text = says_one whole_numbers value.Number one_whole text
@@ -73,11 +72,12 @@ one_sql_reading sql.Numeric day text = says_one numbers value.Number one_number 
 one_sql_reading sql.Text day text = says_one texts value.Text one_text text
 one_sql_reading sql.Moment day text = says_one (moments day) value.Moment (one_moment day) text
 one_sql_reading sql.Point day text = says_one points value.Point one_point text
+one_sql_reading sql.Polygon day text = says_one polygons value.Polygon one_polygon text
 one_sql_reading sql.Span day text = says_one (spans day) value.Span (one_span day) text
 one_sql_reading sql.SpanSet day text = says_one (span_sets day) value.SpanSet (one_span_set day) text
+one_sql_reading sql.Box day text = says_one (boxes day) value.Box (one_box day) text
 one_sql_reading sql.TBool day text = says_one (steps day truth_value any_value same_bool) value.MovingBool (one_reading day same_bool (steady_laws false same_bool same_bool_exact) truth_values false any_value) text
 one_sql_reading sql.TInt day text = says_one (steps day number_value is_whole same) value.MovingInt (one_reading day same (steady_laws false same same_exact) number_values false is_whole) text
 one_sql_reading sql.TFrac day text = says_one (literals day false number_value any_value line_course) value.MovingFrac (one_reading day same line_laws number_values false any_value) text
 one_sql_reading sql.TText day text = says_one (steps day quoted_value any_value same_bytes) value.MovingText (one_reading day same_bytes (steady_laws false same_bytes same_bytes_exact) quoted_values false any_value) text
 one_sql_reading sql.TPoint day text = says_one (literals day true point_value any_value plane_course) value.MovingPoint (one_reading day same_point plane_laws point_values true any_value) text
-one_sql_reading type day text = says_one no_texts value.Text none_said text

@@ -13,7 +13,7 @@ use Rattle.mob_scalar.specs.Truth.{truth_text}
 use Rattle.mob_scalar.specs.Quoted.{quoted_text}
 use Rattle.mob_scalar.specs.MomentText.{IsDated}
 use Rattle.mob_points.specs.PointText.{point_text}
-use Rattle.mob_literal.specs.Readable.{IsReadable, AnyTruth, IsInt, PointFits, IsReadableSpan, IsReadableSet, IsText}
+use Rattle.mob_literal.specs.Readable.{IsReadable, AnyTruth, IsInt, PointFits, IsReadablePolygon, IsReadableSpan, IsReadableSet, IsReadableBox, IsText}
 
 -- the value is one of the type, and its printed text is read again as that value
 abbrev pub IsReadableAs : SqlType → ℤ → Value → Type 0
@@ -23,8 +23,10 @@ IsReadableAs sql.Numeric day (value.Number number) = Fits number
 IsReadableAs sql.Text day (value.Text text) = Unit {0}
 IsReadableAs sql.Moment day (value.Moment instant) = IsDated day instant
 IsReadableAs sql.Point day (value.Point point) = PointFits point
+IsReadableAs sql.Polygon day (value.Polygon rings) = IsReadablePolygon rings
 IsReadableAs sql.Span day (value.Span span) = IsReadableSpan day span
 IsReadableAs sql.SpanSet day (value.SpanSet spans) = IsReadableSet day spans
+IsReadableAs sql.Box day (value.Box box) = IsReadableBox day box
 IsReadableAs sql.TBool day (value.MovingBool slices) = IsReadable (steady_course same_bool) day truth_text AnyTruth slices
 IsReadableAs sql.TInt day (value.MovingInt slices) = IsReadable (steady_course same) day number_text IsInt slices
 IsReadableAs sql.TFrac day (value.MovingFrac slices) = IsReadable line_course day number_text Fits slices

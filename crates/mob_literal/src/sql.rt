@@ -1,5 +1,5 @@
 //! SQL values, read from their texts and printed.
-ghost use Rattle.std.specs.Prelude.{◌≡◌, ◌≢◌, ◌++◌, Err, OnOk, OnErr, false, true, string_bytes};
+ghost use Rattle.std.specs.Prelude.{◌≡◌, ◌≢◌, ◌++◌, Err, MatchResult, OnOk, OnErr, false, true, string_bytes};
 ghost use Rattle.mob_ratio.specs.Order.{same};
 ghost use Rattle.mob_slice.specs.CourseOf.{line_course, plane_course};
 ghost use Rattle.mob_slice.specs.Sameness.{same_bool, same_bytes};
@@ -8,6 +8,8 @@ ghost use Rattle.mob_scalar.specs.Moments.{moments};
 ghost use Rattle.mob_scalar.specs.Truth.{truths};
 ghost use Rattle.mob_numeral.specs.declared.fault.ReadText.TheVariants.{NoMemory};
 ghost use Rattle.mob_points.specs.Points.{points, point_value};
+ghost use Rattle.mob_geotext.specs.Boxes.{boxes};
+ghost use Rattle.mob_geotext.specs.Polygons.{polygons};
 ghost use Rattle.mob_geotext.specs.Spans.{spans, span_sets};
 ghost use Rattle.mob_literal.specs.Memory.{takes_memory};
 ghost use Rattle.mob_literal.specs.Sound.{literals, steps};
@@ -18,7 +20,10 @@ ghost use Rattle.mob_literal.specs.SqlText.{SaysInForm, SaysAs, texts, value_tex
 use crate::temporal::read_moving;
 use mob_ast::SqlType;
 use mob_frac::Frac;
-use mob_geotext::{read_point, read_span, read_span_set, write_point, write_span, write_span_set};
+use mob_geotext::{
+    read_point, read_polygon, read_span, read_span_set, read_stbox, write_point, write_polygon,
+    write_span, write_span_set, write_stbox,
+};
 use mob_list::text::Text;
 use mob_scalar::{
     Epoch, ReadText, read_moment, read_number, read_truth, read_whole, write_moment, write_number,
@@ -74,14 +79,32 @@ fn read_geometry(text: &str) -> Result<Value, ReadText>
     Ok(Value::Point(read_point(text)?))
 }
 
+fn read_area(alloc: Global, text: &str) -> Result<Value, ReadText>
+    ensures reading { SaysInForm polygons Value.Polygon text.now result }
+{
+    Ok(Value::Polygon(read_polygon(alloc, text)?))
+}
+
+// A value that is large, in memory of its own.
+fn boxed<T: Drop>(alloc: Global, value: T) -> Result<Boxed<T>, ReadText>
+    ensures same { MatchResult result (λ b. b ≡ value) (λ e. e ≡ NoMemory) }
+{
+    match Boxed::new(alloc, value) {
+        Ok(boxed) => Ok(boxed),
+        Err(_) => Err(ReadText::NoMemory),
+    }
+}
+
 fn read_tstzspan(alloc: Global, text: &str, epoch: &Epoch) -> Result<Value, ReadText>
     ensures reading { SaysInForm (spans epoch.now) Value.Span text.now result }
 {
-    let span = read_span(text, epoch)?;
-    match Boxed::new(alloc, span) {
-        Ok(span) => Ok(Value::Span(span)),
-        Err(_) => Err(ReadText::NoMemory),
-    }
+    Ok(Value::Span(boxed(alloc, read_span(text, epoch)?)?))
+}
+
+fn read_box(alloc: Global, text: &str, epoch: &Epoch) -> Result<Value, ReadText>
+    ensures reading { SaysInForm (boxes epoch.now) Value.Box text.now result }
+{
+    Ok(Value::Box(boxed(alloc, read_stbox(text, epoch)?)?))
 }
 
 fn read_tstzspanset(alloc: Global, text: &str, epoch: &Epoch) -> Result<Value, ReadText>
@@ -123,8 +146,8 @@ fn read_tgeompoint(alloc: Global, text: &str, epoch: &Epoch) -> Result<Value, Re
 /// The value of a type that a text says. Instants count from midnight UTC of the epoch's day.
 ///
 /// The first fault in the order `NotText`, `Limit`, `TooLarge` and `Unsound`, or `NoMemory`. A text of each type may have
-/// blanks at its ends, but one of the type text keeps all its characters. A polygon and a box are not built yet and have no
-/// texts, so each text is `NotText` there. Only a text, a span, a span set and a value over time take memory.
+/// blanks at its ends, but one of the type text keeps all its characters. Only a text, a polygon, a
+/// span, a span set, a box and a value over time take memory.
 pub fn read_value(alloc: Global, ty: SqlType, text: &str, epoch: &Epoch) -> Result<Value, ReadText>
     ensures reading { SaysAs ty epoch.now text.now result }
     ensures memory { takes_memory ty ≡ false → result ≢ Err NoMemory }
@@ -136,14 +159,15 @@ pub fn read_value(alloc: Global, ty: SqlType, text: &str, epoch: &Epoch) -> Resu
         SqlType::Text => read_text(alloc, text),
         SqlType::Moment => read_timestamp(text, epoch),
         SqlType::Point => read_geometry(text),
+        SqlType::Polygon => read_area(alloc, text),
         SqlType::Span => read_tstzspan(alloc, text, epoch),
         SqlType::SpanSet => read_tstzspanset(alloc, text, epoch),
+        SqlType::Box => read_box(alloc, text, epoch),
         SqlType::TBool => read_tbool(alloc, text, epoch),
         SqlType::TInt => read_tint(alloc, text, epoch),
         SqlType::TFrac => read_tfrac(alloc, text, epoch),
         SqlType::TText => read_ttext(alloc, text, epoch),
         SqlType::TPoint => read_tgeompoint(alloc, text, epoch),
-        _ => Err(ReadText::NotText),
     }
 }
 
@@ -160,8 +184,10 @@ pub fn write_value(value: &Value, epoch: &Epoch, into: &mut String) -> Result<()
         Value::Text(text) => into.push_str(text.as_str()),
         Value::Moment(instant) => write_moment(instant, epoch, into),
         Value::Point(point) => write_point(point, into),
+        Value::Polygon(polygon) => write_polygon(polygon, into),
         Value::Span(span) => write_span(span.get(), epoch, into),
         Value::SpanSet(set) => write_span_set(set, epoch, into),
+        Value::Box(area) => write_stbox(area.get(), epoch, into),
         Value::MovingBool(moving) => write_moving(moving, epoch, into),
         Value::MovingInt(moving) => write_moving(moving, epoch, into),
         Value::MovingFrac(moving) => write_moving(moving, epoch, into),
