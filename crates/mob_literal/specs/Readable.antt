@@ -1,6 +1,5 @@
--- When the printed text of a point, a polygon, a span, a span set, a box and a temporal value is read again as that value.
+-- When the printed text of a point, a span, a span set, a box and a temporal value is read again as that value.
 use Rattle.std.specs.Prelude.{◌≡◌, ◌≢◌, ◌+◌, ◌≤◌, ℕ, ℤ, List, [], ◌∷◌, length, Contains, Bool, true, Option, Some}
-use Rattle.std.specs.List.{AllByRecursion}
 use Rattle.std.specs.Str.{is_utf8}
 use Rattle.mob_ratio.specs.Ratio.{Ratio}
 use Rattle.mob_frac.specs.Fits.{Fits}
@@ -8,8 +7,6 @@ use Rattle.mob_geotext.specs.BoxText.{HasDatedSides}
 use Rattle.mob_geotext.specs.Printable.{HasDatedEnds, HaveDatedEnds}
 use Rattle.mob_language.specs.Language.{Text}
 use Rattle.mob_language.proofs.Exact.{Stops}
-use Rattle.mob_plane.specs.Corners.{all_points}
-use Rattle.mob_plane.specs.Rings.{are_sound}
 use Rattle.mob_plane.specs.declared.point.Point.{Point}
 use Rattle.mob_scalar.specs.MomentText.{IsDated}
 use Rattle.mob_slice.specs.declared.slice.Slice.{Slice}
@@ -72,12 +69,6 @@ pub record IsReadableSet (day : ℤ) (spans : List SpanOf) : Type 0 where
   pub some : spans ≢ []
   pub short : length spans ≤ 50000
   pub dated : HaveDatedEnds day spans
-
--- The rings bound a polygon and have at most 1,000 points, whose coordinates fit.
-pub record IsReadablePolygon (rings : List (List Point)) : Type 0 where
-  pub sound : are_sound rings ≡ true
-  pub short : length (all_points rings) ≤ 1000
-  pub fits : AllByRecursion PointFits (all_points rings)
 
 -- The box has a dimension, no least coordinate above its greatest, and an instant in its span; its coordinates fit, and the ends of its span
 -- lie in the years 0001 to 9999.

@@ -12,8 +12,9 @@ use Rattle.mob_numeral.specs.NumberText.{number_text}
 use Rattle.mob_scalar.specs.Truth.{truth_text}
 use Rattle.mob_scalar.specs.Quoted.{quoted_text}
 use Rattle.mob_scalar.specs.MomentText.{IsDated}
+use Rattle.mob_geotext.specs.PolygonText.{IsReadablePolygon}
 use Rattle.mob_points.specs.PointText.{point_text}
-use Rattle.mob_literal.specs.Readable.{IsReadable, AnyTruth, IsInt, PointFits, IsReadablePolygon, IsReadableSpan, IsReadableSet, IsReadableBox, IsText}
+use Rattle.mob_literal.specs.Readable.{IsReadable, AnyTruth, IsInt, PointFits, IsReadableSpan, IsReadableSet, IsReadableBox, IsText}
 
 -- the value is one of the type, and its printed text is read again as that value
 abbrev pub IsReadableAs : SqlType → ℤ → Value → Type 0
