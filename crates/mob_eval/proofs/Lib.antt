@@ -8,6 +8,8 @@ pub mod Once
 pub mod OneValue
 pub mod OneSign
 pub mod OneNumber
+pub mod OneNearness
+pub mod OnePlace
 pub mod Single
 pub mod Values
 mod Passes

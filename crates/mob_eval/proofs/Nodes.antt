@@ -22,12 +22,13 @@ use Rattle.mob_slice.specs.Entries.{OnFormula}
 use Rattle.mob_eval.specs.Faults.{fault_of}
 use Rattle.mob_eval.specs.SoFar.{trees, operand_types}
 
--- more than two operands give NULL
-pub many : (s : Scene) (o : Op) (ty : SqlType) (ts : List SqlType) (hs : List Held) → 3 ≤ length hs → OperatorGives s o ty ts (map held hs) Null
+-- more than three operands give NULL
+pub many : (s : Scene) (o : Op) (ty : SqlType) (ts : List SqlType) (hs : List Held) → 4 ≤ length hs → OperatorGives s o ty ts (map held hs) Null
 many s o ty ts [] h = absurd (omega (arith, h))
 many s o ty ts (a ∷ []) h = absurd (omega (arith, h))
 many s o ty ts (a ∷ b ∷ []) h = absurd (omega (arith, h))
-many s o ty ts (a ∷ b ∷ c ∷ rest) h = refl
+many s o ty ts (a ∷ b ∷ c ∷ []) h = absurd (omega (arith, h))
+many s o ty ts (a ∷ b ∷ c ∷ d ∷ rest) h = refl
 
 module _ (s : Scene) (e : TExpr) (stop : Option Bool) (xs : List TExpr) (es : stop ≡ stop_of (out-TExpr e).op) (ex : xs ≡ (out-TExpr e).args.items) where
   moved : (r : Result (List Value) Fault) → OperandsEvaluateTo s stop (trees xs) r → OperandsEvaluateTo s (stop_of (out-TExpr e).op) (trees (out-TExpr e).args.items) r

@@ -31,7 +31,7 @@ module _ {X : Type 0} (test : X → X → Bool) (left right : OverTime X) where
   always_once (Some a) None h k = absurd (k h.0)
   always_once (Some a) (Some b) h k = ap Some (one_test a b h.1 k.1)
 
-sign_once : {X : Type 0} (scope : Scope) (test : X → X → Bool) (left right : OverTime X) → Once (IsAsked scope test left right)
+pub sign_once : {X : Type 0} (scope : Scope) (test : X → X → Bool) (left right : OverTime X) → Once (IsAsked scope test left right)
 sign_once Each test left right v w h k = bool_once test left right v w h k
 sign_once Ever test left right v w h k = h.2 ∙ ap known (ever_once test left right h.0 k.0 h.1 k.1) ∙ sym k.2
 sign_once Always test left right v w h k = h.2 ∙ ap known (always_once test left right h.0 k.0 h.1 k.1) ∙ sym k.2

@@ -9,6 +9,9 @@ use Rattle.mob_arith.specs.Operations.{both_hold, one_holds, text_of}
 use Rattle.mob_compare.specs.Times.{is_true}
 use Rattle.mob_slice.specs.CourseOf.{steady_course, line_course}
 use Rattle.mob_slice.proofs.Firsts.{one_first}
+use Rattle.mob_slice.specs.Lines.{plane_value_of}
+use Rattle.mob_stbox.specs.Boxes.{BoxOf, BoxesMeet}
+use Rattle.mob_clip.specs.Polygons.{IsEverInside}
 use Rattle.mob_slice.specs.Sameness.{same_bool, same_bool_exact}
 use Rattle.mob_slice.specs.declared.formula.Formula.{Formula}
 use Rattle.mob_ast.specs.declared.types.Cmp.{Cmp}
@@ -18,7 +21,7 @@ use Rattle.mob_ast.specs.declared.types.SqlType.TheVariants as sql
 use Rattle.mob_operators.specs.declared.operator.Op.{Op}
 use Rattle.mob_operators.specs.declared.operator.Op.TheVariants as op
 use Rattle.mob_value.specs.declared.value.Value.{Value}
-use Rattle.mob_value.specs.declared.value.Value.TheVariants.{Null, Bool as Truth, Number, Text, Moment, Point, Span, SpanSet, MovingBool, MovingInt, MovingFrac, MovingText, MovingPoint}
+use Rattle.mob_value.specs.declared.value.Value.TheVariants.{Null, Bool as Truth, Number, Text, Moment, Point, Polygon, Span, SpanSet, Box, MovingBool, MovingInt, MovingFrac, MovingText, MovingPoint}
 use Rattle.mob_eval.specs.declared.arithmetic.Calculation.TheVariants.{Sum, Difference, Product}
 use Rattle.mob_eval.specs.declared.signs.Scope.TheVariants.{Each, Ever, Always}
 use Rattle.mob_eval.specs.Scene.{Scene}
@@ -26,14 +29,20 @@ use Rattle.mob_eval.specs.Coordinates.{IsCoordinate, IsWidened}
 use Rattle.mob_eval.specs.Moving.{OverTime, step_function, line_function, plane_function}
 use Rattle.mob_eval.specs.Ordinary.{IsTruthOf, IsEquality, IsTest}
 use Rattle.mob_eval.specs.Lifted.{IsMovingBool, IsMovingText, truth_pair, text_pair, IsLiftedNot}
-use Rattle.mob_eval.specs.Operators.{OperatorGives, IsFirstFormula, IsJoined, GivesOfOne, GivesOfTwo, operator_entries}
+use Rattle.mob_eval.specs.Operators.{OperatorGives, IsFirstFormula, IsJoined, GivesOfOne, GivesOfTwo, GivesOfThree, operator_entries}
+use Rattle.mob_eval.specs.Boxes.{own_box, IsMeeting}
+use Rattle.mob_eval.specs.Lines.{plane_pair}
+use Rattle.mob_eval.specs.Nearness.{IsApproachValue}
+use Rattle.mob_eval.specs.Polygons.{IsIntersecting}
 use Rattle.mob_eval.specs.Times.{asked_spans, IsRestriction, AreInstantsOf, IsTimeOf, IsDefinedTime, set_or_null, IsTrueTime}
 use Rattle.mob_eval.specs.Types.{meeting, IsCastTo, IsCast}
 use Rattle.mob_eval.specs.Outcomes.{IsSingle}
 use Rattle.mob_eval.proofs.Functions.{one_of_steps, one_of_lines}
-use Rattle.mob_eval.proofs.OneValue.{Once, one_test, function_once, pair_once, bool_once, text_once}
+use Rattle.mob_eval.proofs.OneValue.{Once, one_test, function_once, operands_once, pair_once, bool_once, text_once}
 use Rattle.mob_eval.proofs.OneSign.{sign_test_once}
 use Rattle.mob_eval.proofs.OneNumber.{arithmetic_once, divided_once, restriction_once, by_value_once}
+use Rattle.mob_eval.proofs.OneNearness.{within_once, approach_once}
+use Rattle.mob_eval.proofs.OnePlace.{in_box_once, in_polygon_once}
 
 says_once : (wanted : Bool) (P : Type 0) → Once (IsTruthOf wanted P)
 says_once wanted P v w h k = h.2 ∙ ap (λ c. Truth (same_bool wanted c)) (one_test h.0 k.0 h.1 k.1) ∙ sym k.2
@@ -46,6 +55,7 @@ equality_once wanted (Moment a) (Moment b) v w h k = says_once wanted _ v w h k
 equality_once wanted (Point a) (Point b) v w h k = says_once wanted _ v w h k
 equality_once wanted (Span a) (Span b) v w h k = says_once wanted _ v w h k
 equality_once wanted (SpanSet a) (SpanSet b) v w h k = says_once wanted _ v w h k
+equality_once wanted (Box a) (Box b) v w h k = says_once wanted _ v w h k
 equality_once wanted (MovingBool a) (MovingBool b) v w h k = says_once wanted _ v w h k
 equality_once wanted (MovingInt a) (MovingInt b) v w h k = says_once wanted _ v w h k
 equality_once wanted (MovingInt a) (MovingFrac b) v w h k = says_once wanted _ v w h k
@@ -114,6 +124,14 @@ one_once s op.GetY ty ts a v w h k = coordinate_once (λ p. p.y) a v w h k
 one_once s op.Cast ty ts a v w h k = cast_once ts ty a v w h k
 one_once s _ ty ts a v w h k = h ∙ sym k
 
+meeting_once : (x y : Option BoxOf) → Once (IsMeeting x y)
+meeting_once (Some x) (Some y) v w h k = says_once true (BoxesMeet x y) v w h k
+meeting_once _ _ v w h k = h ∙ sym k
+
+intersecting_once : (a b : Value) → Once (IsIntersecting a b)
+intersecting_once (MovingPoint a) (Polygon rings) v w h k = says_once true (IsEverInside rings a) v w h k
+intersecting_once _ _ v w h k = h ∙ sym k
+
 joined_once : (ty : SqlType) (a b : Value) → Once (IsJoined ty a b)
 joined_once sql.TText a b v w h k = pair_once (text_pair a b) (IsMovingText text_of) (text_once text_of) v w h k
 joined_once _ a b v w h k = h ∙ sym k
@@ -134,13 +152,25 @@ two_once op.AtTime ty ts a b v w h k = asked_once true a (asked_spans b) v w h k
 two_once op.MinusTime ty ts a b v w h k = asked_once false a (asked_spans b) v w h k
 two_once op.AtValues ty ts a b v w h k = by_value_once true a b v w h k
 two_once op.MinusValues ty ts a b v w h k = by_value_once false a b v w h k
+two_once op.Overlap ty ts a b v w h k = meeting_once (own_box a) (own_box b) v w h k
+two_once op.AtStbox ty ts a b v w h k = in_box_once true a b v w h k
+two_once op.MinusStbox ty ts a b v w h k = in_box_once false a b v w h k
+two_once op.AtGeometry ty ts a b v w h k = in_polygon_once true a b v w h k
+two_once op.MinusGeometry ty ts a b v w h k = in_polygon_once false a b v w h k
+two_once op.EIntersects ty ts a b v w h k = intersecting_once a b v w h k
+two_once op.NearestApproachSquared ty ts a b v w h k = operands_once plane_value_of plane_value_of (plane_pair a b) IsApproachValue approach_once v w h k
 two_once _ ty ts a b v w h k = h ∙ sym k
+
+three_once : (o : Op) (a b c : Value) → Once (GivesOfThree o a b c)
+three_once op.EDwithin a b c v w h k = within_once a b c v w h k
+three_once _ a b c v w h k = h ∙ sym k
 
 value_once : (s : Scene) (o : Op) (ty : SqlType) (ts : List SqlType) (vs : List Value) → Once (OperatorGives s o ty ts vs)
 value_once s o ty ts [] v w h k = h ∙ sym k
 value_once s o ty ts (a ∷ []) v w h k = one_once s o ty ts a v w h k
 value_once s o ty ts (a ∷ b ∷ []) v w h k = two_once o ty ts a b v w h k
-value_once s o ty ts (a ∷ b ∷ c ∷ rest) v w h k = h ∙ sym k
+value_once s o ty ts (a ∷ b ∷ c ∷ []) v w h k = three_once o a b c v w h k
+value_once s o ty ts (a ∷ b ∷ c ∷ d ∷ rest) v w h k = h ∙ sym k
 
 first_once : (o : Op) (ty : SqlType) (ts : List SqlType) (vs : List Value) (f g : Option Formula) → IsFirstFormula o ty ts vs f → IsFirstFormula o ty ts vs g → f ≡ g
 first_once o ty ts vs f g h k = one_first (operator_entries o ty ts vs) f g h k

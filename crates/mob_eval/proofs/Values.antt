@@ -2,7 +2,7 @@
 use Rattle.std.proofs.Common.{◌≡◌, ◌↔◌, inl, inr, Bool, true, IsTrue, List, [], ◌∷◌, Option, Ok, sym, ap, ap₂, subst, ◌∙◌, true≢false}
 use Rattle.mob_typed.specs.Trees.{TypedTree, typed, TypedTrees, none, more, arg_types}
 use Rattle.mob_value.specs.declared.value.Value.{Value}
-use Rattle.mob_value.specs.declared.value.Value.TheVariants.{Null, Bool as Truth, Number, Text, Moment, Point, Span, SpanSet, MovingBool, MovingInt, MovingFrac, MovingText, MovingPoint}
+use Rattle.mob_value.specs.declared.value.Value.TheVariants.{Null, Bool as Truth, Number, Text, Moment, Point, Polygon, Span, SpanSet, Box, MovingBool, MovingInt, MovingFrac, MovingText, MovingPoint}
 use Rattle.mob_eval.specs.Scene.{Scene}
 use Rattle.mob_eval.specs.Ordinary.{is_true_value}
 use Rattle.mob_eval.specs.Operators.{OperatorGives}
@@ -48,8 +48,10 @@ is_true (Number a) h = absurd (true≢false (sym h))
 is_true (Text a) h = absurd (true≢false (sym h))
 is_true (Moment a) h = absurd (true≢false (sym h))
 is_true (Point a) h = absurd (true≢false (sym h))
+is_true (Polygon a) h = absurd (true≢false (sym h))
 is_true (Span a) h = absurd (true≢false (sym h))
 is_true (SpanSet a) h = absurd (true≢false (sym h))
+is_true (Box a) h = absurd (true≢false (sym h))
 is_true (MovingBool a) h = absurd (true≢false (sym h))
 is_true (MovingInt a) h = absurd (true≢false (sym h))
 is_true (MovingFrac a) h = absurd (true≢false (sym h))

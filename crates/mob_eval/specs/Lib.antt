@@ -10,6 +10,9 @@ pub mod Lines
 pub mod Signs
 pub mod Arithmetic
 pub mod ByValue
+pub mod Boxes
+pub mod Polygons
+pub mod Nearness
 pub mod Operators
 pub mod Evaluation
 pub mod Values

@@ -1,6 +1,6 @@
 -- What each operator gives, on numbers of any size, and which formula it passes: by its type, the types of its operands and the values of
--- those that were evaluated. An operator that is not built, types that it does not take, and a count of operands that no operator has, give
--- NULL. No typed script has any of these.
+-- those that were evaluated. Types that an operator does not take, and a count of operands that it has not, give NULL. No typed script has
+-- any of these.
 use Rattle.std.specs.Prelude.{◌≡◌, true, false, not, ℤ, List, [], ◌∷◌, Option, None, option_map}
 use Rattle.mob_arith.specs.Operations.{both_hold, one_holds, text_of}
 use Rattle.mob_slice.specs.Entries.{Entry, IsFirst}
@@ -10,15 +10,18 @@ use Rattle.mob_ast.specs.declared.types.SqlType.TheVariants as sql
 use Rattle.mob_operators.specs.declared.operator.Op.{Op}
 use Rattle.mob_operators.specs.declared.operator.Op.TheVariants as op
 use Rattle.mob_value.specs.declared.value.Value.{Value}
-use Rattle.mob_value.specs.declared.value.Value.TheVariants.{Null, Bool as Truth, Text, Point, Span, SpanSet, MovingBool, MovingInt, MovingFrac, MovingText, MovingPoint}
+use Rattle.mob_value.specs.declared.value.Value.TheVariants.{Null, Bool as Truth, Text, Point, Polygon, Span, SpanSet, Box, MovingBool, MovingInt, MovingFrac, MovingText, MovingPoint}
 use Rattle.mob_literal.specs.SqlText.{value_text}
 use Rattle.mob_eval.specs.declared.arithmetic.Calculation.TheVariants.{Sum, Difference, Product}
 use Rattle.mob_eval.specs.declared.signs.Scope.TheVariants.{Each, Ever, Always}
 use Rattle.mob_eval.specs.Scene.{Scene, leaf_value}
 use Rattle.mob_eval.specs.Ordinary.{truth_of, known, conjunction, disjunction, is_null, IsTest, negated, unchanged}
 use Rattle.mob_eval.specs.Arithmetic.{IsArithmetic, IsDivided, arithmetic_entries, divided_entries}
+use Rattle.mob_eval.specs.Boxes.{box_value, IsOverlap, expansion, expansion_entries, IsBoxRestriction, box_entries}
 use Rattle.mob_eval.specs.ByValue.{IsValueRestriction, value_entries}
 use Rattle.mob_eval.specs.Coordinates.{IsEast, IsNorth}
+use Rattle.mob_eval.specs.Nearness.{IsWithin, IsNearestApproach, within_entries, approach_entries}
+use Rattle.mob_eval.specs.Polygons.{IsPolygonRestriction, IsIntersecting, polygon_entries}
 use Rattle.mob_eval.specs.Times.{IsTimeRestriction, restriction_entries, look_up, look_entries, IsDefinedTime, IsTrueTime}
 use Rattle.mob_eval.specs.Types.{meeting, IsCast}
 use Rattle.mob_eval.specs.Signs.{IsSignTest, sign_entries}
@@ -35,11 +38,13 @@ IsJoined sql.Text a b v = v ≡ concatenation a b
 IsJoined sql.TText a b v = OnPair (text_pair a b) (IsMovingText text_of) v
 IsJoined _ a b v = v ≡ Null
 
--- the printed text of a point, a time or a temporal value, with instants counted from a day
+-- the printed text of a point, a polygon, a time, a box or a temporal value, with instants counted from a day
 abbrev pub printed_text : ℤ → Value → Value
 printed_text day (Point p) = Text (value_text day (Point p))
+printed_text day (Polygon rings) = Text (value_text day (Polygon rings))
 printed_text day (Span s) = Text (value_text day (Span s))
 printed_text day (SpanSet spans) = Text (value_text day (SpanSet spans))
+printed_text day (Box b) = Text (value_text day (Box b))
 printed_text day (MovingBool m) = Text (value_text day (MovingBool m))
 printed_text day (MovingInt m) = Text (value_text day (MovingInt m))
 printed_text day (MovingFrac m) = Text (value_text day (MovingFrac m))
@@ -61,6 +66,7 @@ GivesOfOne s op.GetTime ty ts a v = IsDefinedTime a v
 GivesOfOne s op.WhenTrue ty ts a v = IsTrueTime a v
 GivesOfOne s op.GetX ty ts a v = IsEast a v
 GivesOfOne s op.GetY ty ts a v = IsNorth a v
+GivesOfOne s op.BoxOf ty ts a v = v ≡ box_value a
 GivesOfOne s op.AsText ty ts a v = v ≡ printed_text s.day a
 GivesOfOne s op.Cast ty ts a v = IsCast ts ty a v
 GivesOfOne s _ ty ts a v = v ≡ Null
@@ -85,14 +91,28 @@ GivesOfTwo op.MinusTime ty ts a b v = IsTimeRestriction false a b v
 GivesOfTwo op.AtValues ty ts a b v = IsValueRestriction true a b v
 GivesOfTwo op.MinusValues ty ts a b v = IsValueRestriction false a b v
 GivesOfTwo op.ValueAtTimestamp ty ts a b v = v ≡ look_up a b
+GivesOfTwo op.Overlap ty ts a b v = IsOverlap a b v
+GivesOfTwo op.ExpandSpace ty ts a b v = v ≡ expansion a b
+GivesOfTwo op.AtStbox ty ts a b v = IsBoxRestriction true a b v
+GivesOfTwo op.MinusStbox ty ts a b v = IsBoxRestriction false a b v
+GivesOfTwo op.AtGeometry ty ts a b v = IsPolygonRestriction true a b v
+GivesOfTwo op.MinusGeometry ty ts a b v = IsPolygonRestriction false a b v
+GivesOfTwo op.EIntersects ty ts a b v = IsIntersecting a b v
+GivesOfTwo op.NearestApproachSquared ty ts a b v = IsNearestApproach a b v
 GivesOfTwo _ ty ts a b v = v ≡ Null
+
+-- on three operands
+abbrev pub GivesOfThree : Op → Value → Value → Value → Value → Type 0
+GivesOfThree op.EDwithin a b c v = IsWithin a b c v
+GivesOfThree _ a b c v = v ≡ Null
 
 -- the value of an operator of a type on operands of these types, with the values of those that were evaluated
 abbrev pub OperatorGives : Scene → Op → SqlType → List SqlType → List Value → Value → Type 0
 OperatorGives s o ty ts [] v = v ≡ leaf_value s o ty
 OperatorGives s o ty ts (a ∷ []) v = GivesOfOne s o ty ts a v
 OperatorGives s o ty ts (a ∷ b ∷ []) v = GivesOfTwo o ty ts a b v
-OperatorGives s o ty ts (a ∷ b ∷ c ∷ rest) v = v ≡ Null
+OperatorGives s o ty ts (a ∷ b ∷ c ∷ []) v = GivesOfThree o a b c v
+OperatorGives s o ty ts (a ∷ b ∷ c ∷ d ∷ rest) v = v ≡ Null
 
 -- the entries of an operator on two operands
 abbrev pub entries_of_two : Op → SqlType → List SqlType → Value → Value → List Entry
@@ -108,11 +128,24 @@ entries_of_two op.MinusTime ty ts a b = restriction_entries a b
 entries_of_two op.AtValues ty ts a b = value_entries a b
 entries_of_two op.MinusValues ty ts a b = value_entries a b
 entries_of_two op.ValueAtTimestamp ty ts a b = look_entries a b
+entries_of_two op.ExpandSpace ty ts a b = expansion_entries a b
+entries_of_two op.AtStbox ty ts a b = box_entries a b
+entries_of_two op.MinusStbox ty ts a b = box_entries a b
+entries_of_two op.AtGeometry ty ts a b = polygon_entries a b
+entries_of_two op.MinusGeometry ty ts a b = polygon_entries a b
+entries_of_two op.EIntersects ty ts a b = polygon_entries a b
+entries_of_two op.NearestApproachSquared ty ts a b = approach_entries a b
 entries_of_two _ ty ts a b = []
+
+-- and on three
+abbrev pub entries_of_three : Op → Value → Value → Value → List Entry
+entries_of_three op.EDwithin a b c = within_entries a b c
+entries_of_three _ a b c = []
 
 -- the entries of an operator of a type on operands of these types, with the values of those that were evaluated
 abbrev pub operator_entries : Op → SqlType → List SqlType → List Value → List Entry
 operator_entries o ty ts (a ∷ b ∷ []) = entries_of_two o ty ts a b
+operator_entries o ty ts (a ∷ b ∷ c ∷ []) = entries_of_three o a b c
 operator_entries o ty ts _ = []
 
 -- the formula of its first entry with a part that does not fit, or none

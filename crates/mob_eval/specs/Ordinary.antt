@@ -11,7 +11,7 @@ use Rattle.mob_slice.specs.Sameness.{same_bool}
 use Rattle.mob_span.specs.Sets.{in_some}
 use Rattle.mob_span.specs.Span.{SpanOf}
 use Rattle.mob_value.specs.declared.value.Value.{Value}
-use Rattle.mob_value.specs.declared.value.Value.TheVariants.{Null, Bool as Truth, Number, Text, Moment, Point, Span, SpanSet, MovingBool, MovingInt, MovingFrac, MovingText, MovingPoint}
+use Rattle.mob_value.specs.declared.value.Value.TheVariants.{Null, Bool as Truth, Number, Text, Moment, Point, Span, SpanSet, Box, MovingBool, MovingInt, MovingFrac, MovingText, MovingPoint}
 use Rattle.mob_eval.specs.Moving.{OverTime, step_function, line_function, plane_function}
 
 -- the truth value of a value, where it is one
@@ -68,8 +68,8 @@ AreOneFunction f g = (t : Ratio) → f t ≡ g t
 abbrev pub HaveSameInstants : List SpanOf → List SpanOf → Type 0
 HaveSameInstants a b = (t : Ratio) → in_some a t ≡ in_some b t
 
--- `=` where `wanted` is true, and `<>` where it is false: points by coordinates, spans and span sets as sets of instants, temporal values as
--- functions of time, whether they go by steps or change evenly
+-- `=` where `wanted` is true, and `<>` where it is false: points by coordinates, boxes by sides, spans and span sets as sets of instants, temporal
+-- values as functions of time, whether they go by steps or change evenly
 abbrev pub IsEquality : Bool → Value → Value → Value → Type 0
 IsEquality wanted (Truth a) (Truth b) v = IsTruthOf wanted (a ≡ b) v
 IsEquality wanted (Number a) (Number b) v = IsTruthOf wanted (a ≡ b) v
@@ -78,6 +78,7 @@ IsEquality wanted (Moment a) (Moment b) v = IsTruthOf wanted (a ≡ b) v
 IsEquality wanted (Point a) (Point b) v = IsTruthOf wanted (a ≡ b) v
 IsEquality wanted (Span a) (Span b) v = IsTruthOf wanted (HaveSameInstants (a ∷ []) (b ∷ [])) v
 IsEquality wanted (SpanSet a) (SpanSet b) v = IsTruthOf wanted (HaveSameInstants a b) v
+IsEquality wanted (Box a) (Box b) v = IsTruthOf wanted (a ≡ b) v
 IsEquality wanted (MovingBool a) (MovingBool b) v = IsTruthOf wanted (AreOneFunction (step_function a) (step_function b)) v
 IsEquality wanted (MovingInt a) (MovingInt b) v = IsTruthOf wanted (AreOneFunction (step_function a) (step_function b)) v
 IsEquality wanted (MovingInt a) (MovingFrac b) v = IsTruthOf wanted (AreOneFunction (step_function a) (line_function b)) v

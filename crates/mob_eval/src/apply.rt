@@ -7,7 +7,7 @@ ghost use Rattle.mob_eval.specs.Held.{held};
 ghost use Rattle.mob_eval.specs.SoFar.{operand_types};
 
 use crate::held::Held;
-use crate::operators::{of_one, of_two};
+use crate::operators::{of_one, of_three, of_two};
 use crate::scene::{View, leaf_value};
 use mob_ast::SqlType;
 use mob_operators::Op;
@@ -40,6 +40,12 @@ pub fn result_of<'a>(
             Ok(value) => Ok(Held::Made(value)),
             Err(fault) => Err(fault),
         },
+        [first, second, third] => {
+            match of_three(alloc, op, first.get(), second.get(), third.get()) {
+                Ok(value) => Ok(Held::Made(value)),
+                Err(fault) => Err(fault),
+            }
+        }
         _ => Ok(Held::Made(Value::Null)),
     }
 }

@@ -13,6 +13,7 @@ use mob_list::text::Text;
 use mob_plane::Point;
 use mob_slice::{BaseValue, Course, Line, Moving, Ranked, Rel, Slice, Steady};
 use mob_span::{Span, SpanSet};
+use mob_stbox::StBox;
 use mob_value::Value;
 
 /// The comparison of courses that a sign stands for.
@@ -62,6 +63,12 @@ fn same_point(left: &Point, right: &Point) -> bool
     ensures exact { IsTrue result ↔ (left.now ≡ right.now) }
 {
     left.is_same(right)
+}
+
+fn same_box(left: &StBox, right: &StBox) -> bool
+    ensures exact { IsTrue result ↔ (left.now ≡ right.now) }
+{
+    left.same(right)
 }
 
 // Whether two spans have the same instants.
@@ -171,6 +178,7 @@ fn equality(wanted: bool, left: &Value, right: &Value) -> Value
         (Value::Point(a), Value::Point(b)) => says(wanted, same_point(a, b)),
         (Value::Span(a), Value::Span(b)) => says(wanted, same_instants(a.get(), b.get())),
         (Value::SpanSet(a), Value::SpanSet(b)) => says(wanted, same_set(a, b)),
+        (Value::Box(a), Value::Box(b)) => says(wanted, same_box(a.get(), b.get())),
         (Value::MovingBool(a), Value::MovingBool(b)) => says(wanted, same_function(a, b)),
         (Value::MovingInt(a), Value::MovingInt(b)) => says(wanted, same_function(a, b)),
         (Value::MovingInt(a), Value::MovingFrac(b)) => says(wanted, same_number_function(a, b)),

@@ -4,6 +4,7 @@
 mod apply;
 mod arithmetic;
 mod asked;
+mod boxes;
 mod by_value;
 mod casting;
 mod comparison;
@@ -20,8 +21,10 @@ mod lines;
 mod logic;
 mod look;
 mod meeting;
+mod nearness;
 mod operators;
 mod pair;
+mod polygons;
 mod printed;
 mod query_fault;
 mod restriction;

@@ -1,12 +1,13 @@
 //! Each operator, on the values of its operands.
 ghost use Rattle.std.specs.Prelude.{◌≡◌, IfOk, IfErr, None, Some};
 ghost use Rattle.mob_eval.specs.Views.{scene_of};
-ghost use Rattle.mob_eval.specs.Operators.{GivesOfOne, GivesOfTwo, entries_of_two};
+ghost use Rattle.mob_eval.specs.Operators.{GivesOfOne, GivesOfTwo, GivesOfThree, entries_of_two, entries_of_three};
 ghost use Rattle.mob_eval.specs.SoFar.{operand_types};
 ghost use Rattle.mob_slice.specs.Entries.{IsFirst, OnFormula};
 ghost use Rattle.mob_eval.specs.Held.{held};
 
 use crate::arithmetic::{Calculation, calculate, division, negation, unchanged};
+use crate::boxes::{box_restriction, box_value, expansion, overlap};
 use crate::by_value::value_restriction;
 use crate::casting::cast;
 use crate::comparison::test;
@@ -17,6 +18,8 @@ use crate::lifting::{join, lifted_and, lifted_not, lifted_or};
 use crate::logic::{conjunction, disjunction, is_null, known, negation as contrary, truth_of};
 use crate::look::look_up;
 use crate::meeting::meeting;
+use crate::nearness::{nearest_approach, within};
+use crate::polygons::{intersects, polygon_restriction};
 use crate::printed::as_text;
 use crate::restriction::restriction;
 use crate::scene::View;
@@ -54,6 +57,7 @@ pub fn of_one<'a>(
         Op::WhenTrue => made(true_time(alloc, value)),
         Op::GetX => made(east(alloc, value)),
         Op::GetY => made(north(alloc, value)),
+        Op::BoxOf => made(box_value(alloc, value)),
         Op::AsText => made(as_text(alloc, value, view.epoch)),
         Op::Cast => cast(alloc, ty, args, operand),
         _ => Ok(Held::Made(Value::Null)),
@@ -92,6 +96,32 @@ pub fn of_two(
         Op::AtValues => value_restriction(alloc, true, left, right),
         Op::MinusValues => value_restriction(alloc, false, left, right),
         Op::ValueAtTimestamp => look_up(alloc, left, right),
+        Op::Overlap => Ok(overlap(left, right)),
+        Op::ExpandSpace => expansion(alloc, left, right),
+        Op::AtStbox => box_restriction(alloc, true, left, right),
+        Op::MinusStbox => box_restriction(alloc, false, left, right),
+        Op::AtGeometry => polygon_restriction(alloc, true, left, right),
+        Op::MinusGeometry => polygon_restriction(alloc, false, left, right),
+        Op::EIntersects => intersects(alloc, left, right),
+        Op::NearestApproachSquared => nearest_approach(alloc, left, right),
+        _ => Ok(Value::Null),
+    }
+}
+
+/// An operator on three operands, or its first formula with a part that does not fit.
+pub fn of_three(
+    alloc: Global,
+    op: Op,
+    first: &Value,
+    second: &Value,
+    third: &Value,
+) -> Result<Value, OpFault>
+    ensures value { IfOk result (λ v. GivesOfThree op first.now second.now third.now v) }
+    ensures fits { IfOk result (λ _. IsFirst (entries_of_three op first.now second.now third.now) None) }
+    ensures fault { IfErr result (OnFormula (λ f. IsFirst (entries_of_three op first.now second.now third.now) (Some f))) }
+{
+    match op {
+        Op::EDwithin => within(alloc, first, second, third),
         _ => Ok(Value::Null),
     }
 }

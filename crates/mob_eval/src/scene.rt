@@ -70,6 +70,8 @@ fn is_of_type(ty: SqlType, value: &Value) -> bool
         (SqlType::Point, Value::Point(_)) => true,
         (SqlType::Span, Value::Span(_)) => true,
         (SqlType::SpanSet, Value::SpanSet(_)) => true,
+        (SqlType::Polygon, Value::Polygon(_)) => true,
+        (SqlType::Box, Value::Box(_)) => true,
         (SqlType::TBool, Value::MovingBool(_)) => true,
         (SqlType::TInt, Value::MovingInt(_)) => true,
         (SqlType::TFrac, Value::MovingFrac(_)) => true,
