@@ -13,10 +13,7 @@ use Rattle.mob_typed.specs.Statements.{ScriptOut}
 use Rattle.mob_typing.specs.Statements.{typed_script, IsTypingRefusal}
 use Rattle.mob_accept.specs.Least.{earlier, least}
 use Rattle.mob_accept.specs.UnbuiltWords.{unbuilt_words}
-use Rattle.mob_accept.specs.UnbuiltTypes.{unbuilt_types}
-use Rattle.mob_accept.specs.UnbuiltOperators.{unbuilt_operators}
-use Rattle.mob_accept.proofs.Places.{least_append}
-use Rattle.mob_accept.specs.Accepts.{HasTrees, IsAccepted, IsTooLong, IsNotBuiltAt, IsAcceptRefusal, script_limit, unbuilt_places}
+use Rattle.mob_accept.specs.Accepts.{HasTrees, IsAccepted, IsTooLong, IsNotBuiltAt, IsAcceptRefusal, script_limit}
 
 -- a refusal of the parser is want of memory, or another
 split : (k : Kind) (n p : ℕ) (bytes : List ℕ) → IsCause k bytes (record { kind = k; statement = n; place = p }) → (◌≡◌ {A = Refusal} (record { kind = k; statement = n; place = p }) no_memory) ⊎ (k ≢ NoMemory)
@@ -65,13 +62,9 @@ wrong_name bytes trees h e wrong = elim wrong [
 pub only_typed : (bytes : List ℕ) (trees : List StatementParts) (out : ScriptOut) → IsRead bytes trees → typed_script trees ≡ Ok out → (o : ScriptOut) → IsAccepted bytes o → o ≡ out
 only_typed bytes trees out h typed o g = let same = h.only g.trees g.script.read in let other = g.script.typed in cc
 
--- the least place of three lists
-pub first_place : (bytes text : List ℕ) (trees : List StatementParts) (out : ScriptOut) (w t o : Option ℕ) → text ≡ bytes → w ≡ least (unbuilt_words text) → t ≡ least (unbuilt_types trees) → o ≡ least (unbuilt_operators out.statements)
-    → earlier w (earlier t o) ≡ least (unbuilt_places bytes trees out)
-first_place bytes text trees out w t o same words types operators =
-    sym (least_append (unbuilt_words bytes) _ ∙ ap (earlier (least (unbuilt_words bytes))) (least_append (unbuilt_types trees) (unbuilt_operators out.statements))
-    ∙ ap (λ x. earlier x (earlier (least (unbuilt_types trees)) (least (unbuilt_operators out.statements)))) (sym (words ∙ ap (λ b. least (unbuilt_words b)) same))
-    ∙ ap (λ x. earlier w (earlier x (least (unbuilt_operators out.statements)))) (sym types) ∙ ap (λ x. earlier w (earlier t x)) (sym operators))
+-- the least place of a word, of the text as it was read
+pub first_word : (bytes text : List ℕ) (w : Option ℕ) → text ≡ bytes → w ≡ least (unbuilt_words text) → w ≡ least (unbuilt_words bytes)
+first_word bytes text w same words = words ∙ ap (λ b. least (unbuilt_words b)) same
 
 some-earlier : (p : ℕ) (q : Option ℕ) → earlier (Some p) q ≡ None → ⊥
 some-earlier p None e = cc
@@ -81,7 +74,7 @@ pub least_none : (ps : List ℕ) → least ps ≡ None → ps ≡ []
 least_none [] e = refl
 least_none (p ∷ ps) e = absurd (some-earlier p (least ps) e)
 
-pub not_built : (bytes text : List ℕ) (trees : List StatementParts) (out : ScriptOut) (place : ℕ) (e : Refusal) → IsRead bytes trees → typed_script trees ≡ Ok out → text ≡ bytes → least (unbuilt_places bytes trees out) ≡ Some place
+pub not_built : (bytes text : List ℕ) (trees : List StatementParts) (out : ScriptOut) (place : ℕ) (e : Refusal) → IsRead bytes trees → typed_script trees ≡ Ok out → text ≡ bytes → least (unbuilt_words bytes) ≡ Some place
     → (e ≡ no_memory) ⊎ IsNotBuiltAt text place e → IsAcceptRefusal bytes e
 not_built bytes text trees out place e h typed same first says = elim says [
   | inl none ↦ inl none
@@ -91,9 +84,6 @@ not_built bytes text trees out place e h typed same first says = elim says [
   )
 ]
   where
-    some-place : (bytes : List ℕ) (trees : List StatementParts) (out o : ScriptOut) (place : ℕ) → IsRead bytes trees → typed_script trees ≡ Ok out → least (unbuilt_places bytes trees out) ≡ Some place → IsAccepted bytes o → ⊥
+    some-place : (bytes : List ℕ) (trees : List StatementParts) (out o : ScriptOut) (place : ℕ) → IsRead bytes trees → typed_script trees ≡ Ok out → least (unbuilt_words bytes) ≡ Some place → IsAccepted bytes o → ⊥
     some-place bytes trees out o place h typed first g =
-        let same_trees = h.only g.trees g.script.read in
-        let same_out = only_typed bytes trees out h typed o g in
-        let none : unbuilt_places bytes trees out ≡ [] = subst (λ t. unbuilt_places bytes t out ≡ []) same_trees (subst (λ x. unbuilt_places bytes g.trees x ≡ []) same_out g.built) in
-        let empty : least (unbuilt_places bytes trees out) ≡ None = ap least none in cc
+        let empty : least (unbuilt_words bytes) ≡ None = ap least g.built in cc

@@ -6,6 +6,5 @@ pub mod OnParts
 pub mod OneRefusal
 pub mod OneScript
 pub mod Places
-pub mod TypedFacts
 pub mod Within
 pub mod Written

@@ -6,7 +6,7 @@ use Rattle.mob_ast.specs.declared.refusal.Refusal.{Refusal}
 use Rattle.mob_ast.specs.Trees.{StatementParts}
 use Rattle.mob_parse.proofs.Refused.{no_tree, one_refusal as one_first}
 use Rattle.mob_accept.specs.Least.{least}
-use Rattle.mob_accept.specs.Accepts.{HasTrees, IsNoScript, IsWrongName, IsNotBuilt, unbuilt_places, script_limit}
+use Rattle.mob_accept.specs.Accepts.{HasTrees, IsNoScript, IsWrongName, IsNotBuilt, script_limit}
 use Rattle.mob_accept.specs.Outcomes.{HasOneTextRefusal}
 use Rattle.mob_accept.proofs.OneScript.{one_text, one_typed}
 
@@ -50,8 +50,7 @@ tree_once bytes d e (inl h) (inl k) =
 tree_once bytes d e (inl h) (inr k) = absurd (never_wrong_name_and_not_built bytes d e h k)
 tree_once bytes d e (inr h) (inl k) = absurd (never_wrong_name_and_not_built bytes e d k h)
 tree_once bytes d e (inr h) (inr k) =
-    let same = one_typed bytes h.trees k.trees h.out k.out h.script k.script in
-    let one : least (unbuilt_places bytes k.trees k.out) ≡ Some h.place = subst (λ o. least (unbuilt_places bytes k.trees o) ≡ Some h.place) same.1 (subst (λ x. least (unbuilt_places bytes x h.out) ≡ Some h.place) same.0 h.first) in
+    let one = h.first in
     let other = k.first in
     let place : h.place ≡ k.place = cc in
     let here = h.says in

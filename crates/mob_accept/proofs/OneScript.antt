@@ -9,7 +9,8 @@ use Rattle.mob_parse.proofs.Refused.{no_tree, same_tokens}
 use Rattle.mob_parse.proofs.Scripts.{script_only}
 use Rattle.mob_typed.specs.Statements.{ScriptOut}
 use Rattle.mob_accept.specs.Least.{least}
-use Rattle.mob_accept.specs.Accepts.{IsTypedAs, unbuilt_places}
+use Rattle.mob_accept.specs.UnbuiltWords.{unbuilt_words}
+use Rattle.mob_accept.specs.Accepts.{IsTypedAs}
 use Rattle.mob_accept.specs.Outcomes.{HasOneScript, NeverTakenAndRefused}
 
 -- tokens have one tree: what the reading of them gives
@@ -40,8 +41,6 @@ never_taken_and_refused bytes out e h (inr (inr (inl k))) =
     let wrong = k.first in
     absurd cc
 never_taken_and_refused bytes out e h (inr (inr (inr k))) =
-    let same = one_typed bytes h.trees k.trees out k.out h.script k.script in
-    let places = ap₂ (λ (x : List StatementParts) (o : ScriptOut). unbuilt_places bytes x o) same.0 same.1 in
-    let none : least (unbuilt_places bytes k.trees k.out) ≡ None = ap least (sym places ∙ h.built) in
+    let none : least (unbuilt_words bytes) ≡ None = ap least h.built in
     let some = k.first in
     absurd cc

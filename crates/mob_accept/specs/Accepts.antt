@@ -1,5 +1,5 @@
 -- Which texts are scripts that are taken, and why a text is refused by itself, before any literal or file is looked at.
-use Rattle.std.specs.Prelude.{◌≡◌, ◌≢◌, ◌⊎◌, ◌<◌, ◌≤◌, ◌++◌, ℕ, List, [], length, Some, Ok, Err}
+use Rattle.std.specs.Prelude.{◌≡◌, ◌≢◌, ◌⊎◌, ◌<◌, ◌≤◌, ℕ, List, [], length, Some, Ok, Err}
 use Rattle.mob_ast.specs.declared.refusal.Kind.TheVariants.{NotBuilt, NoMemory, Limit}
 use Rattle.mob_ast.specs.declared.refusal.Refusal.{Refusal}
 use Rattle.mob_ast.specs.Kinds.{no_memory}
@@ -9,8 +9,6 @@ use Rattle.mob_typed.specs.Statements.{ScriptOut}
 use Rattle.mob_typing.specs.Statements.{typed_script}
 use Rattle.mob_accept.specs.Least.{least}
 use Rattle.mob_accept.specs.UnbuiltWords.{unbuilt_words, statement_number}
-use Rattle.mob_accept.specs.UnbuiltTypes.{unbuilt_types}
-use Rattle.mob_accept.specs.UnbuiltOperators.{unbuilt_operators}
 
 -- the greatest length of a script in bytes
 abbrev pub script_limit : ℕ
@@ -27,15 +25,11 @@ pub record IsTypedAs (bytes : List ℕ) (trees : List StatementParts) (out : Scr
   pub read : HasTrees bytes trees
   pub typed : typed_script trees ≡ Ok out
 
--- the places at which a script uses what is not built yet
-abbrev pub unbuilt_places : List ℕ → List StatementParts → ScriptOut → List ℕ
-unbuilt_places bytes trees out = unbuilt_words bytes ++ (unbuilt_types trees ++ unbuilt_operators out.statements)
-
 -- The text is a script that is taken, and this is what it is with names and types: all that it uses is built.
 pub record IsAccepted (bytes : List ℕ) (out : ScriptOut) : Type 0 where
   pub trees : List StatementParts
   pub script : IsTypedAs bytes trees out
-  pub built : unbuilt_places bytes trees out ≡ []
+  pub built : unbuilt_words bytes ≡ []
 
 -- the text is longer than the limit
 pub record IsTooLong (bytes : List ℕ) (e : Refusal) : Type 0 where
@@ -66,7 +60,7 @@ pub record IsNotBuilt (bytes : List ℕ) (e : Refusal) : Type 0 where
   pub out : ScriptOut
   pub script : IsTypedAs bytes trees out
   pub place : ℕ
-  pub first : least (unbuilt_places bytes trees out) ≡ Some place
+  pub first : least (unbuilt_words bytes) ≡ Some place
   pub says : IsNotBuiltAt bytes place e
 
 -- why a text is refused: by its length, its characters, tokens and grammar, its names and types, or what is not built yet

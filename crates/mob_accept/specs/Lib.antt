@@ -1,9 +1,6 @@
 pub mod Accepts
-pub mod Built
 pub mod Least
 pub mod Numbers
 pub mod Outcomes
-pub mod UnbuiltOperators
-pub mod UnbuiltTypes
 pub mod UnbuiltWords
 pub mod Written

@@ -1,12 +1,9 @@
 //! Which texts are scripts that are taken, and the first refusal of one that is not.
 #![tactic(auto)]
 
-pub mod built;
 pub mod laws;
 pub mod least;
 pub mod text;
-pub mod unbuilt_operators;
-pub mod unbuilt_types;
 pub mod unbuilt_words;
 
 pub use text::{SCRIPT_LIMIT, accept};

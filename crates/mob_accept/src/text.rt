@@ -6,9 +6,6 @@ ghost use Rattle.mob_typed.specs.Statements.{ScriptOut, script_seen};
 ghost use Rattle.mob_ast.specs.Trees.{StatementParts};
 ghost use Rattle.mob_accept.specs.Accepts.{HasTrees, IsAccepted, IsNotBuiltAt, IsAcceptRefusal, script_limit};
 
-use crate::least::earlier;
-use crate::unbuilt_operators::first_unbuilt_operator;
-use crate::unbuilt_types::first_unbuilt_type;
 use crate::unbuilt_words::{first_unbuilt_word, statement_number};
 use mob_ast::{Kind, Refusal, Script};
 use mob_parse::script::parse;
@@ -67,8 +64,8 @@ fn not_built(alloc: Global, text: &str, place: u32) -> Refusal
     }
 }
 
-/// Judges a script as a text: its length, its characters, tokens and grammar, its names and types, and whether all that it
-/// uses is built. It answers the typed script, or the first refusal in this order, with its place.
+/// Judges a script as a text: its length, its characters, tokens and grammar, its names and types, and whether all
+/// statements that it has are built. It answers the typed script, or the first refusal in this order, with its place.
 ///
 /// A text that is longer than 4,194,304 bytes is refused by `Limit` at that place. The other refusals are those of `parse`
 /// and `type_script`, and then `NotBuilt` at the first place of what is not built yet. Want of memory is `NoMemory`, with the
@@ -79,16 +76,14 @@ pub fn accept(alloc: Global, bytes: &[u8]) -> Result<Typed, Refusal>
     ensures refused { IfErr result (IsAcceptRefusal bytes.now) }
 {
     let script = trees_of(alloc, bytes)?;
-    let types = first_unbuilt_type(&script);
     let typed = type_script(alloc, script)?;
-    let operators = first_unbuilt_operator(&typed);
     let Ok(text) = str::from_utf8(bytes) else {
         unreachable!()
     };
     let Ok(words) = first_unbuilt_word(alloc, text) else {
         return Err(out_of_memory());
     };
-    match earlier(words, earlier(types, operators)) {
+    match words {
         None => Ok(typed),
         Some(place) => Err(not_built(alloc, text, place)),
     }

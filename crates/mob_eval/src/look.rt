@@ -15,7 +15,8 @@ use mob_slice::{Course, Moving, OpFault, operator_fault};
 use mob_value::Value;
 use std::alloc::Global;
 
-fn number_or_null(value: Option<Frac>) -> Value
+/// A number, or NULL for None.
+pub fn number_or_null(value: Option<Frac>) -> Value
     ensures value { result ≡ or_nothing NumberOf value }
 {
     match value {

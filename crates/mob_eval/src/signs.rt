@@ -59,8 +59,8 @@ where
     }
 }
 
-// An answer as a value: NULL where there is none.
-fn answered(answer: Result<Option<bool>, Passed>) -> Result<Value, OpFault>
+/// An answer as a value: NULL where there is none.
+pub fn answered(answer: Result<Option<bool>, Passed>) -> Result<Value, OpFault>
     ensures value { MatchResult answer (λ truth. result ≡ Ok (known truth)) (λ e. result ≡ Err (OpFault.Passed e.formula)) }
 {
     match answer {
