@@ -1,7 +1,7 @@
 #!/bin/sh
 # Tries what README.md and docs/LANGUAGE.md show. In a block `try` a line is `EXPRESSION → FIELD`: what SELECT of the expression
-# shows, or in its place the note of the refusal. A block `sql` is a script, which is run in examples/shop; the block `answer`
-# behind it is what it writes, and its note.
+# shows, or in its place the note of the refusal. A block `sql` is a script, which is run in examples/shop, or in the folder of examples/
+# that stands behind the word; the block `answer` behind it is what it writes, and its note.
 # `sh checks/documents.sh PROGRAM` takes a program that is there; without a word one is built.
 . "$(dirname "$0")/common"
 
@@ -10,12 +10,19 @@ cat README.md docs/LANGUAGE.md | awk -v folder="$work" '
     function put(line, name) { print line >> (folder "/" name); close(folder "/" name) }
     function field(text) { return text ~ /[",]/ ? "\"" doubled(text) "\"" : text }
     function doubled(text) { gsub(/"/, "\"\"", text); return text }
-    /^```/ { inside = !inside; kind = inside ? substr($0, 4) : ""; if (kind == "sql") number++; next }
+    /^```/ {
+        inside = !inside
+        split(inside ? substr($0, 4) : "", word, " ")
+        kind = word[1]
+        if (kind == "sql") { number++; put(word[2] == "" ? "shop" : word[2], number ".folder") }
+        next
+    }
     kind == "sql" { put($0, number ".sql") }
     kind == "answer" { put($0, number ".wanted") }
     kind == "try" {
         number++
         split($0, part, / +→ +/)
+        put("shop", number ".folder")
         put("SELECT " part[1] ";", number ".sql")
         put(part[2] ~ /^statement / ? part[2] : "c1\n" field(part[2]) "\n(1 rows)", number ".wanted")
     }'
@@ -24,7 +31,7 @@ failed=0
 tried=0
 for script in "$work"/*.sql; do
     tried=$((tried + 1))
-    (cd examples/shop && "$program" < "$script") > "$work/written" 2>&1 || true
+    (cd "examples/$(cat "${script%.sql}.folder")" && "$program" < "$script") > "$work/written" 2>&1 || true
     if ! diff "$work/written" "${script%.sql}.wanted"; then
         echo "a document shows something else for this script:"
         cat "$script"

@@ -1,0 +1,15 @@
+-- Who came near whom? Thirteen ships of one day, in metres from the light. Gannet lies at anchor, and Heron leaves and comes back.
+CREATE TABLE tracks (ship text, track tgeompoint);
+CREATE TABLE watches (watch text, hours tstzspan);
+COPY tracks FROM 'tracks.csv' WITH (FORMAT csv, HEADER);
+COPY watches FROM 'watches.csv' WITH (FORMAT csv, HEADER);
+
+-- Which two ships came within 50 metres, and in which watch?
+SELECT a.ship AS one, b.ship AS other, watch
+FROM tracks a, tracks b, watches
+WHERE a.ship < b.ship AND eDwithin(atTime(a.track, hours), b.track, 50);
+
+-- And how near did they come? The answer is the square of the distance, so that it is exact: 2500 is 50 metres, and 0 is one place.
+SELECT a.ship AS one, b.ship AS other, nearestApproachSquared(a.track, b.track) AS squared
+FROM tracks a, tracks b
+WHERE a.ship < b.ship AND eDwithin(a.track, b.track, 50);
