@@ -7,3 +7,4 @@ pub mod Numbers
 pub mod NumberText
 pub mod Fitting
 pub mod Blanks
+pub mod NonNil

@@ -1,9 +1,8 @@
 //! Laws of reading and printing numbers: each is a promise without running code.
-ghost use Rattle.std.specs.Prelude.{◌≡◌, ◌≢◌, Ok, pos, true};
+ghost use Rattle.std.specs.Prelude.{◌≡◌, Ok};
 ghost use Rattle.mob_ratio.specs.Ratio.{Ratio};
 ghost use Rattle.mob_frac.specs.Fits.{Fits};
-ghost use Rattle.mob_language.specs.Language.{Text};
-ghost use Rattle.mob_language.specs.NonZero.{has_figure};
+ghost use Rattle.mob_numeral.specs.NonNil.{FiguresAreNonZero};
 ghost use Rattle.mob_numeral.specs.Numbers.{numbers, whole_numbers};
 ghost use Rattle.mob_numeral.specs.NumberText.{number_text};
 ghost use Rattle.mob_numeral.specs.Verdict.{Lit};
@@ -20,6 +19,6 @@ pub fn whole_read_again()
 
 /// A number is not 0 where its text has a digit other than 0 before any exponent and any slash.
 pub fn numbers_with_figures()
-    ensures numbers { (text : Text) (q : Ratio) → has_figure text ≡ true → Lit numbers text (Ok q) → q.num ≢ pos 0 }
-    ensures whole { (text : Text) (q : Ratio) → has_figure text ≡ true → Lit whole_numbers text (Ok q) → q.num ≢ pos 0 }
+    ensures numbers { FiguresAreNonZero numbers }
+    ensures whole { FiguresAreNonZero whole_numbers }
 {}
