@@ -2,13 +2,18 @@ use Rattle.std.proofs.Common.{nat_abs, arith}
 use Rattle.std.specs.Int.{w64}
 use Rattle.std.proofs.lemmas.Int.{to_z_pos, ints}
 use Rattle.mob_ratio.specs.Gcd.{gcd}
-use Rattle.mob_frac.proofs.Reductions.{gcd_fits, common_is, common_unit}
+use Rattle.mob_frac.proofs.Reductions.{gcd_fits, common_is, common_unit, unit_common}
 use Rattle.mob_frac.proofs.reduction.divisor.Goals as goal
 
 pub returns-then-den-eq1 : goal.returns-then-den-eq1
 returns-then-den-eq1 c =
     let d = c.ranges.den in
     record { value = common_unit c.args.num c.args.den (omega (arith, ints, c.if-den-eq1.true)) }
+
+pub returns-then-num-eq1 : goal.returns-then-num-eq1
+returns-then-num-eq1 c =
+    let n = c.ranges.num in
+    record { value = unit_common c.args.num c.args.den (omega (arith, ints, c.if-num-eq1.true)) }
 
 pub overflow_cast-result : goal.overflow_cast-result
 overflow_cast-result c =
