@@ -3,3 +3,6 @@ pub mod SpansRead
 pub mod SetsRead
 pub mod SpansAgain
 pub mod OneReadings
+pub mod BoxesExact
+pub mod BoxesRead
+pub mod BoxesAgain

@@ -20,7 +20,7 @@ use Rattle.mob_geotext.proofs.SpansRead.{true_false}
 use Rattle.mob_geotext.specs.Printable.{HasDatedEnds, HaveDatedEnds}
 
 -- a span as its text says it
-abbrev note : SpanOf → NotedSpan
+abbrev pub note : SpanOf → NotedSpan
 note s = record { lower = Some s.lower; upper = Some s.upper; lower_inc = s.lower_inc; upper_inc = s.upper_inc }
 
 note_is : (s : SpanOf) (a b : Bool) → ◌≡◌ {A = NotedSpan} (record { lower = Some s.lower; upper = Some s.upper; lower_inc = a; upper_inc = b }) (record { lower = Some s.lower; upper = Some s.upper; lower_inc = nat_eq (cond a 91 40) 91; upper_inc = nat_eq (cond b 93 41) 93 })
@@ -29,7 +29,7 @@ note_is s true false = refl
 note_is s false true = refl
 note_is s false false = refl
 
-span_said_by : (day : ℤ) (s : SpanOf) → HasDatedEnds day s → noted_span day (span_text day s) (note s)
+pub span_said_by : (day : ℤ) (s : SpanOf) → HasDatedEnds day s → noted_span day (span_text day s) (note s)
 span_said_by day s p = record {
   meant = (cond s.lower_inc 91 40, (Some s.lower, (tt, (Some s.upper, cond s.upper_inc 93 41))));
   said = record {

@@ -30,10 +30,10 @@ span_exact day = means_exact span_said (then_byte_stops opening_exact (ends_exac
     (byte_head (comma ▷ (moment_value day ▷ closing)) (moment_value_blank day) (moment_value_byte day))
     (then_byte (comma ▷ (moment_value day ▷ closing)) (moment_value_byte day)))
 
-span_blank : (day : ℤ) → NoHead (noted_span day) is_blank
+pub span_blank : (day : ℤ) → NoHead (noted_span day) is_blank
 span_blank day = means_head (byte_head (moment_value day ▷ (comma ▷ (moment_value day ▷ closing))) opening_blank opening_byte)
 
-span_byte : (day : ℤ) → HasByte (noted_span day)
+pub span_byte : (day : ℤ) → HasByte (noted_span day)
 span_byte day = means_byte span_said (then_byte (moment_value day ▷ (comma ▷ (moment_value day ▷ closing))) opening_byte)
 
 pub spans_exact : (day : ℤ) → Exact (within_blanks (noted_span day)) (within_blanks_at (noted_span_at day)) IsEnd

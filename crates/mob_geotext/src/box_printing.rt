@@ -45,12 +45,7 @@ fn push_time(span: &Span, epoch: &Epoch, into: &mut String) -> Result<(), AllocE
     into.push_str(")")
 }
 
-fn push_both(
-    area: &Area,
-    span: &Span,
-    epoch: &Epoch,
-    into: &mut String,
-) -> Result<(), AllocError>
+fn push_both(area: &Area, span: &Span, epoch: &Epoch, into: &mut String) -> Result<(), AllocError>
     ensures written { OnOk result (string_bytes into.new ≡ string_bytes into.old ++ (codes "STBOX XT((" ++ (corners_text area.now ++ (codes "," ++ (span_text epoch.now span.now ++ codes ")"))))) }
 {
     into.push_str("STBOX XT((")?;

@@ -1,6 +1,7 @@
 //! Texts of points, of spans of time, of span sets and of boxes, each read exactly and printed.
 #![tactic(auto)]
 
+mod box_laws;
 mod box_printing;
 mod boxes;
 mod laws;
@@ -9,6 +10,7 @@ mod noted;
 mod printing;
 mod single;
 
+pub use box_laws::{box_read_again, noted_boxes_cross_threads, one_box};
 pub use box_printing::write_stbox;
 pub use boxes::{NotedBox, NotedCorners, read_stbox};
 pub use laws::{noted_spans_cross_threads, one_reading, span_read_again, span_set_read_again};

@@ -12,17 +12,17 @@ use Rattle.mob_points.specs.Points.{close_bracket, coordinates, written_point, p
 use Rattle.mob_points.specs.PointText.{point_text}
 use Rattle.mob_points.proofs.PointsExact.{some_none}
 
-close_said : close_bracket (codes ")") tt
+pub close_said : close_bracket (codes ")") tt
 close_said = record {
   meant = ([], tt);
   said = record { front = []; back = codes ")"; whole = refl; first = record { is = refl; each = tt }; second = refl };
   is = refl;
 }
 
-gap_said : some_blanks (codes " ") tt
+pub gap_said : some_blanks (codes " ") tt
 gap_said = record { meant = codes " "; said = record { said = record { is = refl; each = (refl, tt) }; holds = refl }; is = refl }
 
-open_said : spaced (codes "(") (codes "(") tt
+pub open_said : spaced (codes "(") (codes "(") tt
 open_said = record {
   meant = ([], (tt, []));
   said = record { front = []; back = codes "("; whole = refl; first = record { is = refl; each = tt }; second = record { front = codes "("; back = []; whole = refl; first = refl; second = record { is = refl; each = tt } } };

@@ -19,18 +19,18 @@ use Rattle.mob_points.specs.Points.{close_bracket, coordinates_said, coordinates
 
 -- ---- two numbers and a closing bracket
 
-close_exact : Exact close_bracket close_bracket_at Any
+pub close_exact : Exact close_bracket close_bracket_at Any
 unfolding close_bracket_at
 close_exact = means_exact (λ (v : Text × Unit {0}). tt) (then_byte_stops (many_exact is_blank) (word_exact (codes ")")) (word_head (codes ")") is_blank refl) (word_byte 41 []))
 
 -- no number goes on with what closes a bracket
-close_continues : NoHead close_bracket continues
+pub close_continues : NoHead close_bracket continues
 close_continues = means_head (then_head (many_head blank_stops) (word_head (codes ")") continues refl))
 
-close_byte : HasByte close_bracket
+pub close_byte : HasByte close_bracket
 close_byte = means_byte (λ (v : Text × Unit {0}). tt) (λ text v said e. word_byte 41 [] said.back v.1 said.second (back_nil said.front said.back (sym said.whole ∙ e)))
 
-last_exact : Exact (number_value ▷ close_bracket) (then_at number_value_at close_bracket_at) Any
+pub last_exact : Exact (number_value ▷ close_bracket) (then_at number_value_at close_bracket_at) Any
 last_exact = then_byte_stops number_value_exact close_exact close_continues close_byte
 
 gap_exact : Exact (some_blanks ▷ (number_value ▷ close_bracket)) (then_at some_blanks_at (then_at number_value_at close_bracket_at)) Any
@@ -55,11 +55,11 @@ first_letter : (c w : ℕ) (cs ws : Text) → c ∷ cs ≡ w ∷ ws → c ≡ w
 first_letter c w cs ws e = cc
 
 -- no such word begins with a byte that passes the test, where its first letter, small or capital, passes it not
-any_case_head : (w : ℕ) (ws : Text) (test : ℕ → Bool) → ((c : ℕ) → to_ascii_lowercase c ≡ w → test c ≡ false) → NoHead (AnyCase (w ∷ ws)) test
+pub any_case_head : (w : ℕ) (ws : Text) (test : ℕ → Bool) → ((c : ℕ) → to_ascii_lowercase c ≡ w → test c ≡ false) → NoHead (AnyCase (w ∷ ws)) test
 any_case_head w ws test h [] v said = tt
 any_case_head w ws test h (c ∷ cs) v said = h c (first_letter _ w _ ws said)
 
-any_case_byte : (w : ℕ) (ws : Text) → HasByte (AnyCase (w ∷ ws))
+pub any_case_byte : (w : ℕ) (ws : Text) → HasByte (AnyCase (w ∷ ws))
 any_case_byte w ws [] v said e = absurd cc
 any_case_byte w ws (c ∷ cs) v said e = absurd cc
 

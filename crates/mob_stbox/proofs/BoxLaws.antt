@@ -1,5 +1,5 @@
 -- What holds of boxes: what their tests mean, and what a search through boxes over boxes stands on.
-use Rattle.std.specs.Prelude.{◌≡◌, ◌↔◌, ◌⊎◌, IsTrue, Bool, true, false, refl, ◌||◌, ◌&&◌, Option, Some, None, is_some, IfSome, MatchOption}
+use Rattle.std.specs.Prelude.{◌≡◌, ◌↔◌, ◌⊎◌, IsTrue, Bool, true, false, refl, ◌||◌, ◌&&◌, Option, Some, None, is_some, IfSome, IsNone, MatchOption}
 use Rattle.std.proofs.Common.{arith, ap, sym, ◌∙◌, true≢false, inl, inr, subst}
 use Rattle.mob_ratio.specs.Ratio.{Ratio, ◌<ℚ◌}
 use Rattle.mob_ratio.specs.Order.{before, up_to}
@@ -262,6 +262,11 @@ none_where space time a e h = (λ k. subst (λ s. NoBox s time) (sym e) (no_area
 
 pub some_where : (space : Option Area) (time : Option SpanOf) (a : Area) → space ≡ Some a → is_area a ≡ true → (true ≡ false) ↔ NoBox space time
 some_where space time a e h = (λ k. absurd (true≢false k), λ n. absurd (an_area a time h (subst (λ s. NoBox s time) e n)))
+
+-- what is made of an area is that box
+pub made_box : (a : Area) (time : Option SpanOf) (o : Option BoxOf) → is_area a ≡ true → IsNone o ↔ NoBox (Some a) time → IfSome o (λ b. b ≡ record { space = Some a; time = time }) → o ≡ Some (record { space = Some a; time = time })
+made_box a time None h n v = absurd (an_area a time h (n.0 refl))
+made_box a time (Some b) h n v = ap Some v
 
 -- a point is an area
 pub point_is_area : (x y : Ratio) → is_area (record { xmin = x; xmax = x; ymin = y; ymax = y }) ≡ true

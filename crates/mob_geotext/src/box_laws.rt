@@ -1,0 +1,25 @@
+//! Laws of the texts of boxes: each is a promise without running code.
+ghost use Rattle.std.specs.Prelude.{◌≡◌, ℤ, true, Ok};
+ghost use Rattle.mob_numeral.specs.Verdict.{HasOneReading, Lit};
+ghost use Rattle.mob_stbox.specs.Boxes.{BoxOf, is_box};
+ghost use Rattle.mob_geotext.specs.Boxes.{boxes};
+ghost use Rattle.mob_geotext.specs.BoxText.{box_text, HasDatedSides};
+
+use crate::boxes::{NotedBox, NotedCorners};
+use mob_list::laws::crosses_threads;
+
+/// A text has one reading as a box.
+pub fn one_box()
+    ensures one { (day : ℤ) → HasOneReading (boxes day) }
+{}
+
+/// A box that is printed is read again as itself, where its span lies in the years 0001 to 9999.
+pub fn box_read_again()
+    ensures again { (day : ℤ) (b : BoxOf) → is_box b ≡ true → HasDatedSides day b → Lit (boxes day) (box_text day b) (Ok b) }
+{}
+
+/// Boxes as they are written cross threads.
+pub fn noted_boxes_cross_threads() {
+    crosses_threads::<NotedCorners>();
+    crosses_threads::<NotedBox>();
+}
