@@ -3,3 +3,5 @@ pub mod SpanText
 pub mod Printable
 pub mod Boxes
 pub mod BoxText
+pub mod Polygons
+pub mod PolygonText

@@ -4,7 +4,7 @@ use Rattle.std.proofs.Common.{arith, sym, ◌∙◌, subst, inl, inr}
 use Rattle.mob_ratio.specs.Ratio.{Ratio}
 use Rattle.mob_ratio.specs.Order.{before, up_to}
 use Rattle.mob_ratio.proofs.Order.{before-self, before-back, before-trans, before-neither}
-use Rattle.mob_plane.specs.Corners.{IsLeastAmong, IsGreatestAmong, AreCorners, lesser, greater, widened}
+use Rattle.mob_plane.specs.Corners.{IsLeastAmong, IsGreatestAmong, AreCorners, smaller, greater, widened}
 use Rattle.mob_plane.specs.declared.point.Point.{Point}
 use Rattle.mob_plane.specs.declared.rectangle.Corners.{Corners}
 
@@ -53,22 +53,22 @@ module _ (comes : Ratio → Ratio → Bool) (kept : Ratio → Ratio → Ratio) (
   pub listed : (s : Point) (ps : List Point) → Contains ps s → Any (λ p. coordinate p ≡ best (coordinate s) ps) ps
   listed s ps h = listed_of s ps (best (coordinate s) ps) h (is_some (coordinate s) ps)
 
--- ---- the lesser and the greater of two
+-- ---- the smaller and the greater of two
 
 up_to-next : (x y z : Ratio) → up_to x y ≡ true → up_to y z ≡ true → up_to x z ≡ true
 up_to-next x y z h k = grind (arith, h, k, before-trans z x y, before-neither x y)
 
-lesser_first : (x y : Ratio) → up_to (lesser x y) x ≡ true
-lesser_first x y = by (before y x) refl
+smaller_first : (x y : Ratio) → up_to (smaller x y) x ≡ true
+smaller_first x y = by (before y x) refl
   where
-    by : (b : Bool) → before y x ≡ b → up_to (lesser x y) x ≡ true
+    by : (b : Bool) → before y x ≡ b → up_to (smaller x y) x ≡ true
     by true h = rw (h, before-back y x h) refl
     by false h = rw (h, before-self x) refl
 
-lesser_second : (x y : Ratio) → up_to (lesser x y) y ≡ true
-lesser_second x y = by (before y x) refl
+smaller_second : (x y : Ratio) → up_to (smaller x y) y ≡ true
+smaller_second x y = by (before y x) refl
   where
-    by : (b : Bool) → before y x ≡ b → up_to (lesser x y) y ≡ true
+    by : (b : Bool) → before y x ≡ b → up_to (smaller x y) y ≡ true
     by true h = rw (h, before-self y) refl
     by false h = rw (h, h) refl
 
@@ -91,15 +91,15 @@ greater_second x y = by (before x y) refl
     by false h = rw (h, h) refl
 
 abbrev least_by : (Point → Ratio) → Ratio → List Point → Ratio
-least_by f x ps = fold (λ x p. lesser x (f p)) x ps
+least_by f x ps = fold (λ x p. smaller x (f p)) x ps
 
 abbrev greatest_by : (Point → Ratio) → Ratio → List Point → Ratio
 greatest_by f x ps = fold (λ x p. greater x (f p)) x ps
 
 is_least : (f : Point → Ratio) (s : Point) (ps : List Point) → Contains ps s → IsLeastAmong f ps (least_by f (f s) ps)
 is_least f s ps h = record {
-  some = listed up_to lesser lesser_first lesser_second (λ x y. cond_one (before y x) x y) (λ x. rw (before-self x) refl) up_to-next f s ps h;
-  none_less = before_all up_to lesser lesser_first lesser_second (λ x y. cond_one (before y x) x y) (λ x. rw (before-self x) refl) up_to-next f (f s) ps;
+  some = listed up_to smaller smaller_first smaller_second (λ x y. cond_one (before y x) x y) (λ x. rw (before-self x) refl) up_to-next f s ps h;
+  none_less = before_all up_to smaller smaller_first smaller_second (λ x y. cond_one (before y x) x y) (λ x. rw (before-self x) refl) up_to-next f (f s) ps;
 }
 
 is_greatest : (f : Point → Ratio) (s : Point) (ps : List Point) → Contains ps s → IsGreatestAmong f ps (greatest_by f (f s) ps)
