@@ -2,6 +2,7 @@ mod Changed
 pub mod Live
 mod FirstFaults
 mod RecordCounts
+mod Reading
 mod Refusals
 mod Places
 mod OneFirst

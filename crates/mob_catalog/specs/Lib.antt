@@ -5,6 +5,7 @@ pub mod Faults
 pub mod Fields
 pub mod FirstFault
 pub mod Outcomes
+pub mod RecordsLeft
 pub mod TableFile
 pub mod OwnTypes
 pub mod TypedTables

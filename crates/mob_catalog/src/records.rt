@@ -1,33 +1,36 @@
-// The records of a table file.
-ghost use Rattle.std.specs.Prelude.{◌≤◌, ◌+◌, IfOk, length, map};
+// The records of a table file, one after the other.
+ghost use Rattle.std.specs.Prelude.{List, IfOk};
 ghost use Rattle.csv.specs.Records.{fields_of};
-ghost use Rattle.mob_catalog.specs.TableFile.{HasRecords};
+ghost use Rattle.mob_catalog.specs.TableFile.{Field};
+ghost use Rattle.mob_catalog.specs.RecordsLeft.{IsReading, IsNext, Reads, ReadsAll};
 
-use csv::{ByteRecord, ErrorKind, ReaderBuilder};
+use csv::{ByteRecord, ErrorKind, Reader, ReaderBuilder};
 use std::alloc::{AllocError, Global};
 
-// Every record of a file, of any length and of any bytes. A slice gives no error of a reader, but `csv` does not say so; such
-// an error would be want of memory too.
-pub fn records_of(alloc: Global, bytes: &[u8]) -> Result<Vec<ByteRecord>, AllocError>
-    ensures all { IfOk result (λ v. HasRecords bytes.now (map fields_of v.items)) }
-    ensures count { IfOk result (λ v. length v.items ≤ length bytes.now + 1) }
+// A reader of a file, before its first record. Records are of any length and of any bytes.
+pub fn reader_of<'a>(alloc: Global, bytes: &'a [u8]) -> Reader<&'a [u8]>
+    ensures all { ReadsAll bytes.now result }
 {
-    let reader = ReaderBuilder::new()
+    ReaderBuilder::new()
         .has_headers(false)
         .flexible(true)
-        .from_reader(alloc, bytes);
-    let mut records = Vec::new(alloc);
-    for record in reader.into_byte_records() {
-        match record {
-            Ok(record) => records.push(record)?,
-            Err(error) => match error.into_kind() {
-                ErrorKind::OutOfMemory | ErrorKind::Io(_) => return Err(AllocError),
-                ErrorKind::UnequalLengths { .. } => unreachable!(),
-                ErrorKind::Utf8 { .. } => unreachable!(),
-                ErrorKind::Serialize(_) => unreachable!(),
-                ErrorKind::Deserialize { .. } => unreachable!(),
-            },
-        }
+        .from_reader(alloc, bytes)
+}
+
+// Whether there is one more record, which is put in place of the one that was read before. A slice gives no error of a reader, but `csv`
+// does not say so; such an error would be want of memory too.
+pub fn read_next(reader: &mut Reader<&[u8]>, csv_record: &mut ByteRecord) -> Result<bool, AllocError>
+    requires reading { Reads reader.old }
+    ensures next { IfOk result (λ found. (records : List (List Field)) → IsReading reader.old records → IsNext records found (fields_of csv_record.new) reader.new) }
+{
+    match reader.read_byte_record(csv_record) {
+        Ok(found) => Ok(found),
+        Err(error) => match error.into_kind() {
+            ErrorKind::OutOfMemory | ErrorKind::Io(_) => Err(AllocError),
+            ErrorKind::UnequalLengths { .. } => unreachable!(),
+            ErrorKind::Utf8 { .. } => unreachable!(),
+            ErrorKind::Serialize(_) => unreachable!(),
+            ErrorKind::Deserialize { .. } => unreachable!(),
+        },
     }
-    Ok(records)
 }

@@ -1,16 +1,16 @@
 // The rows of a table file.
-ghost use Rattle.std.specs.Prelude.{◌≡◌, ◌≤◌, ◌<◌, ◌+◌, ◌^◌, Err, IfErr, IfOk, length, map};
+ghost use Rattle.std.specs.Prelude.{◌≡◌, ◌≤◌, ◌<◌, ◌+◌, ◌^◌, Err, IfErr, IfOk, List, length};
 ghost use Rattle.std.specs.List.{AllZip};
-ghost use Rattle.csv.specs.Records.{fields_of};
 ghost use Rattle.mob_catalog.specs.Faults.{OnRefused};
 ghost use Rattle.mob_catalog.specs.FirstFault.{IsFirstFault};
-ghost use Rattle.mob_catalog.specs.TableFile.{FileFails, IsRow, IsTable, RecordFails, file_limit};
+ghost use Rattle.mob_catalog.specs.RecordsLeft.{IsNextRow, IsReading, NextRowFails, Reads};
+ghost use Rattle.mob_catalog.specs.TableFile.{Field, FileFails, IsRow, IsTable, RecordFails, file_limit};
 
 use crate::fault::{LoadFault, record_fault};
-use crate::header::below_header;
-use crate::records::records_of;
+use crate::header::has_header;
+use crate::records::{read_next, reader_of};
 use crate::row::row_of;
-use csv::ByteRecord;
+use csv::{ByteRecord, Reader};
 use mob_ast::{Kind, SqlType};
 use mob_list::items::Items;
 use mob_list::text::Text;
@@ -21,29 +21,59 @@ use std::alloc::Global;
 /// The greatest length of a table file in bytes.
 pub const FILE_LIMIT: usize = 16_777_216;
 
-// The rows of the records below the header, or what is wrong first in them.
+// The row of the next record, if there is one, or what is wrong first in it. `rec` is the number of that record.
+fn next_row(
+    alloc: Global,
+    columns: &[(Text, SqlType)],
+    reader: &mut Reader<&[u8]>,
+    csv_record: &mut ByteRecord,
+    epoch: &Epoch,
+    rec: u32,
+) -> Result<Option<Items<Value>>, LoadFault>
+    requires most { length columns.now ≤ 64 }
+    requires reading { Reads reader.old }
+    ensures row { IfOk result (λ row. (records : List (List Field)) → IsReading reader.old records → IsNextRow columns.now epoch.now records row reader.new) }
+    ensures fault { IfErr result (OnRefused (λ w. (records : List (List Field)) → IsReading reader.old records → NextRowFails columns.now epoch.now rec records w)) }
+{
+    match read_next(reader, csv_record) {
+        Ok(true) => match row_of(alloc, columns, csv_record, epoch, rec) {
+            Ok(row) => Ok(Some(row)),
+            Err(fault) => Err(fault),
+        },
+        Ok(false) => Ok(None),
+        Err(_) => Err(LoadFault::NoMemory),
+    }
+}
+
+// The rows of the records that are left below the header, or what is wrong first in them. One record is in memory at a time.
 fn rows_of(
     alloc: Global,
     columns: &[(Text, SqlType)],
-    records: &[ByteRecord],
+    reader: &mut Reader<&[u8]>,
+    csv_record: &mut ByteRecord,
     epoch: &Epoch,
     room: u32,
 ) -> Result<Items<Items<Value>>, LoadFault>
     requires most { length columns.now ≤ 64 }
-    requires count { length records.now + 2 < 2 ^ 32 }
-    ensures rows { IfOk result (AllZip (IsRow columns.now epoch.now) (map fields_of records.now)) }
-    ensures within { IfOk result (λ rows. length records.now ≤ room) }
-    ensures first_fault { IfErr result (OnRefused (IsFirstFault (IsRow columns.now epoch.now) (RecordFails columns.now epoch.now room) (map fields_of records.now))) }
+    requires reading { Reads reader.old }
+    requires count { (records : List (List Field)) → IsReading reader.old records → length records + 2 < 2 ^ 32 }
+    ensures rows { IfOk result (λ rows. (records : List (List Field)) → IsReading reader.old records → AllZip (IsRow columns.now epoch.now) records rows) }
+    ensures within { IfOk result (λ rows. length rows ≤ room) }
+    ensures first_fault { IfErr result (OnRefused (λ w. (records : List (List Field)) → IsReading reader.old records → IsFirstFault (IsRow columns.now epoch.now) (RecordFails columns.now epoch.now room) records w)) }
 {
     let mut rows = Items::new(alloc);
-    for (i, record) in records.iter().enumerate() {
-        let rec = i as u32 + 2;
-        if i == room as usize {
-            return Err(record_fault(Kind::Limit, rec));
+    for before in 0..room {
+        match next_row(alloc, columns, reader, csv_record, epoch, before + 2) {
+            Ok(Some(row)) => rows.push(row)?,
+            Ok(None) => return Ok(rows),
+            Err(fault) => return Err(fault),
         }
-        rows.push(row_of(alloc, columns, record, epoch, rec)?)?;
     }
-    Ok(rows)
+    match read_next(reader, csv_record) {
+        Ok(true) => Err(record_fault(Kind::Limit, room + 2)),
+        Ok(false) => Ok(rows),
+        Err(_) => Err(LoadFault::NoMemory),
+    }
 }
 
 /// The rows of a table file, or what is wrong first in it.
@@ -75,9 +105,11 @@ pub fn read_table(
     if bytes.len() > FILE_LIMIT {
         return Err(record_fault(Kind::Limit, 0));
     }
-    let records = records_of(alloc, bytes)?;
-    match below_header(columns, &records) {
-        Some(rows) => rows_of(alloc, columns, rows, epoch, room),
-        None => Err(record_fault(Kind::BadHeader, 1)),
+    let mut reader = reader_of(alloc, bytes);
+    let mut csv_record = ByteRecord::new(alloc);
+    match has_header(columns, &mut reader, &mut csv_record) {
+        Ok(true) => rows_of(alloc, columns, &mut reader, &mut csv_record, epoch, room),
+        Ok(false) => Err(record_fault(Kind::BadHeader, 1)),
+        Err(_) => Err(LoadFault::NoMemory),
     }
 }

@@ -2,9 +2,9 @@
 ghost use Rattle.std.specs.Prelude.{◌≡◌};
 
 use mob_ast::{Kind, Refusal};
-use mob_list::items::Items;
 use mob_list::text::Text;
 use mob_slice::Formula;
+use mob_tuples::Tuple;
 
 /// How a run ended. Each ending has a status, and each but the good one a line for the notes.
 #[derive(Drop)]
@@ -43,7 +43,7 @@ pub enum Ending {
         /// The number of the statement, from 1.
         statement: u32,
         /// The number of the row of each table of FROM, from 0.
-        rows: Items<u32>,
+        rows: Tuple,
         /// The place of the operator in the script, in bytes from 0.
         place: u32,
         /// The formula.

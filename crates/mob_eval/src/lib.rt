@@ -37,5 +37,7 @@ mod walk;
 pub use condition::holds;
 pub use evaluate::eval;
 pub use fault::EvalFault;
+pub use held::Held;
 pub use query_fault::QueryFault;
 pub use scene::View;
+pub use walk::held_value;

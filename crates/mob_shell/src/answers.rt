@@ -13,6 +13,7 @@ use mob_list::items::Items;
 use mob_plan::plan;
 use mob_scalar::Epoch;
 use mob_tail::{Answer, answer_to};
+use mob_tuples::Tuple;
 use mob_typed::TypedSelect;
 use std::alloc::Global;
 
@@ -22,7 +23,7 @@ fn kept_tuples(
     select: &TypedSelect,
     catalog: &Catalog,
     epoch: &Epoch,
-) -> Result<Items<Items<u32>>, QueryFault>
+) -> Result<Items<Tuple>, QueryFault>
     requires typed { IsTypedFor catalog.now (select_seen select.now) }
     ensures kept { IfOk result (λ kept. IsKept (select_seen select.now) catalog.now epoch.now (Ok kept)) }
     ensures fault { IfErr result (OnTuple (λ f. IsKept (select_seen select.now) catalog.now epoch.now (Err f))) }

@@ -17,6 +17,7 @@ use mob_load::Program;
 use mob_scalar::Epoch;
 use mob_slice::Formula;
 use mob_tail::answer_text;
+use mob_tuples::Tuple;
 use mob_typed::{TypedSelect, TypedStatement};
 use mob_value::Value;
 use std::alloc::{AllocError, Global};
@@ -26,7 +27,7 @@ use std::collections::VecDeque;
 #[derive(Drop)]
 pub struct Overflow {
     /// The number of the row of each table of FROM, from 0.
-    pub rows: Items<u32>,
+    pub rows: Tuple,
     /// The place of the operator in the script, in bytes from 0.
     pub place: u32,
     /// The formula.

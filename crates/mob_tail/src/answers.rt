@@ -12,6 +12,7 @@ use mob_eval::QueryFault;
 use mob_list::items::Items;
 use mob_list::text::Text;
 use mob_scalar::Epoch;
+use mob_tuples::Tuple;
 use mob_typed::{TExpr, TypedSelect};
 use mob_value::Store;
 use std::alloc::{AllocError, Global};
@@ -70,7 +71,7 @@ pub fn answer_to(
     alloc: Global,
     select: &TypedSelect,
     store: &Store,
-    kept: &[Items<u32>],
+    kept: &[Tuple],
     epoch: &Epoch,
 ) -> Result<Answer, QueryFault>
     ensures names { IfOk result (λ answer. answer.names ≡ map (λ item. item.1) (select_seen select.now).items) }

@@ -13,7 +13,7 @@ use std::alloc::{AllocError, Global};
 fn fields_of(alloc: Global, rows: Vec<Keyed>) -> Result<Vec<Items<Text>>, AllocError>
     ensures fields { IfOk result (λ fields. fields.items ≡ map (λ row. row.fields) rows.items) }
 {
-    let mut fields = Vec::new(alloc);
+    let mut fields = Vec::with_capacity(alloc, rows.len())?;
     for row in rows {
         fields.push(row.fields)?;
     }

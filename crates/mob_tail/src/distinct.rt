@@ -14,7 +14,7 @@ fn flags_of(alloc: Global, rows: &[Items<Text>]) -> Result<Vec<bool>, AllocError
     ensures first { IfOk result (λ flags. AreFirst [] rows.now (flagged rows.now flags.items)) }
 {
     let mut seen = IndexSet::new(alloc);
-    let mut flags = Vec::new(alloc);
+    let mut flags = Vec::with_capacity(alloc, rows.len())?;
     for row in rows {
         let is_new = seen.insert(bytes_of(alloc, row.as_slice())?)?;
         flags.push(is_new)?;

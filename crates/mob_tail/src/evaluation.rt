@@ -10,26 +10,25 @@ ghost use Rattle.mob_tail.specs.IsMadeOfEach.{IsMadeOfEach};
 ghost use Rattle.mob_tail.specs.Answers.{IsField, IsKey, IsRowOf, IsTupleRow};
 
 use crate::keyed::Keyed;
-use mob_eval::{EvalFault, QueryFault, View, eval};
+use mob_eval::{EvalFault, QueryFault, View, eval, held_value};
 use mob_list::items::Items;
 use mob_list::text::Text;
 use mob_literal::write_field;
 use mob_scalar::Epoch;
+use mob_tuples::Tuple;
 use mob_typed::{TExpr, TypedSelect};
 use mob_value::{Store, Value};
 use std::alloc::Global;
 
-// The printed field of an entry of the select list.
+// The printed field of an entry of the select list. A stored value is printed from where it stands.
 fn field_of(alloc: Global, view: &View<'_>, item: &(TExpr, Text)) -> Result<Text, EvalFault>
     ensures field { IfOk result (λ field. IsField (scene_of view.now) (output_of item.now) (Ok field)) }
     ensures fault { IfErr result (OnPassed (λ f. IsField (scene_of view.now) (output_of item.now) (Err f))) }
 {
-    match eval(
-        alloc, &item.0, view.store, view.from, view.tuple, view.epoch,
-    ) {
+    match held_value(alloc, &item.0, view) {
         Ok(value) => {
             let mut text = String::new(alloc);
-            match write_field(&value, view.epoch, &mut text) {
+            match write_field(value.get(), view.epoch, &mut text) {
                 Ok(()) => Ok(Text::from_string(text)),
                 Err(_) => Err(EvalFault::NoMemory),
             }
@@ -56,7 +55,9 @@ fn each_of<T, V: Drop, F: Fn(&T) -> Result<V, EvalFault>>(
     ensures made { IfOk result (λ made. IsMadeOfEach (FnReturnsAt F.Fn make) entries.now (Ok made)) }
     ensures fault { IfErr result (λ e. IsMadeOfEach (FnReturnsAt F.Fn make) entries.now (Err e) ⊎ (e ≡ EvalFault.NoMemory)) }
 {
-    let mut made = Items::new(alloc);
+    let Ok(mut made) = Vec::with_capacity(alloc, entries.len()) else {
+        return Err(EvalFault::NoMemory);
+    };
     for entry in entries {
         let value = match make(entry) {
             Ok(value) => value,
@@ -66,7 +67,7 @@ fn each_of<T, V: Drop, F: Fn(&T) -> Result<V, EvalFault>>(
             return Err(EvalFault::NoMemory);
         }
     }
-    Ok(made)
+    Ok(Items::from_vec(made))
 }
 
 // The printed fields of the select list.
@@ -131,17 +132,19 @@ pub fn rows_on(
     alloc: Global,
     select: &TypedSelect,
     store: &Store,
-    kept: &[Items<u32>],
+    kept: &[Tuple],
     epoch: &Epoch,
 ) -> Result<Vec<Keyed>, QueryFault>
     ensures rows { IfOk result (λ rows. IsMadeOfEach (IsTupleRow (select_seen select.now) store.now epoch.now) kept.now (Ok rows.items)) }
     ensures fault { IfErr result (OnTuple (λ f. IsMadeOfEach (IsTupleRow (select_seen select.now) store.now epoch.now) kept.now (Err f))) }
 {
-    let mut rows = Vec::new(alloc);
+    let Ok(mut rows) = Vec::with_capacity(alloc, kept.len()) else {
+        return Err(QueryFault::NoMemory);
+    };
     for tuple in kept {
         let row = match row_of(alloc, select, store, tuple.as_slice(), epoch) {
             Ok(row) => row,
-            Err(fault) => return Err(QueryFault::on(alloc, tuple.as_slice(), fault)),
+            Err(fault) => return Err(QueryFault::on(tuple, fault)),
         };
         if rows.push(row).is_err() {
             return Err(QueryFault::NoMemory);

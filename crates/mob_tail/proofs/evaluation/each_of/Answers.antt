@@ -8,14 +8,14 @@ pub loop-entry-preserved : goal.loop-entry-preserved
 loop-entry-preserved g c =
     let at = c.loop-entry in
     let given : FnReturnsAt g.F.Fn c.args.make c.entry-item.result (Ok c.in-Ok.value) = says_at g.F.Fn c.make.ensures c.in-Ok.is in
-    let pushed : c.push.new.self ≡ at.made ++ c.in-Ok.value ∷ [] = search rules in
-    each_next (FnReturnsAt g.F.Fn c.args.make) c.args.entries.now at.entry-index c.entry-item.result c.loop-entry-test.true c.entry-item.is at.made at.invariant c.in-Ok.value c.push.new.self given pushed
+    let pushed : c.push.new.self.items ≡ at.made.items ++ c.in-Ok.value ∷ [] = search rules in
+    each_next (FnReturnsAt g.F.Fn c.args.make) c.args.entries.now at.entry-index c.entry-item.result c.loop-entry-test.true c.entry-item.is at.made.items at.invariant c.in-Ok.value c.push.new.self.items given pushed
 
 pub returns-in-Err-clause-fault : goal.returns-in-Err-clause-fault
 returns-in-Err-clause-fault g c =
     let at = c.loop-entry in
     let given : FnReturnsAt g.F.Fn c.args.make c.entry-item.result (Err c.in-Err.fault) = says_at g.F.Fn c.make.ensures c.in-Err.is in
-    inl (each_fault (FnReturnsAt g.F.Fn c.args.make) c.args.entries.now at.entry-index c.entry-item.result c.loop-entry-test.true c.entry-item.is at.made at.invariant c.in-Err.fault given)
+    inl (each_fault (FnReturnsAt g.F.Fn c.args.make) c.args.entries.now at.entry-index c.entry-item.result c.loop-entry-test.true c.entry-item.is at.made.items at.invariant c.in-Err.fault given)
 
 pub returns-clause-made : goal.returns-clause-made
-returns-clause-made g c = each_all (FnReturnsAt g.F.Fn c.args.make) c.args.entries.now c.loop-entry.entry-index c.loop-entry.made (omega arith) c.loop-entry.invariant
+returns-clause-made g c = each_all (FnReturnsAt g.F.Fn c.args.make) c.args.entries.now c.loop-entry.entry-index c.loop-entry.made.items (omega arith) c.loop-entry.invariant

@@ -2,7 +2,6 @@ use Rattle.std.proofs.Common.{rules, ◌≡◌, ◌++◌, ◌∷◌, [], Ok, Err
 use Rattle.mob_typed.specs.Selects.{select_seen}
 use Rattle.mob_eval.specs.Scene.{scene}
 use Rattle.mob_eval.specs.Evaluation.{OnPassed}
-use Rattle.mob_eval.specs.QueryFaults.{OnTuple, IsFaultOn}
 use Rattle.mob_eval.proofs.QueryFaults.{on_tuple}
 use Rattle.mob_tail.specs.IsMadeOfEach.{IsMadeOfEach}
 use Rattle.mob_tail.specs.Answers.{IsTupleRow, IsRowOf}
@@ -28,7 +27,7 @@ returns-in-Err-clause-fault c =
     let step = each_fault R c.args.kept.now at.tuple-index c.tuple-item.result c.loop-tuple-test.true c.tuple-item.is at.rows.items at.invariant in
     on_tuple c.tuple-item.result (λ f. IsRowOf select (there c.tuple-item.result) (Err f)) (λ f. IsMadeOfEach R c.args.kept.now (Err f)) (λ f is h. step f (is, h)) c.in-Err.fault c.on.result
     (subst (λ t. OnPassed (λ f. IsRowOf select (there t) (Err f)) c.in-Err.fault) c.as_slice.ensures.same c.in-Err.ensures.fault)
-    (subst (λ t. OnTuple (λ f. IsFaultOn t f c.in-Err.fault) c.on.result) c.as_slice-in-Err.ensures.same c.on.ensures.fault)
+    c.on.ensures.fault
 
 pub returns-clause-rows : goal.returns-clause-rows
 returns-clause-rows c =
