@@ -98,6 +98,20 @@ is_contains a b k e = both_true (lies_in area_over a.space b.space) (lies_in is_
 pub contains_exact_as : (a b : BoxOf) (r : Bool) → is_box b ≡ true → r ≡ contains a b → IsTrue r ↔ BoxContains a b
 contains_exact_as a b r k e = rw e (contains_is a b, is_contains a b k)
 
+-- what is in a box is in one that contains it
+pub in_contained : (a b : BoxOf) (t : Ratio) (p : Point) → BoxContains a b → InBox b t p → InBox a t p
+in_contained a b t p c h = record { in_space = in_other a.space b.space c.in_space h.in_space; in_time = at_other a.time b.time c.in_time h.in_time }
+  where
+    in_other : (x y : Option Area) → IfSome x (λ x. MatchOption y ⊥ (λ y. (p : Point) → InArea y p → InArea x p)) → IfSome y (λ y. InArea y p) → IfSome x (λ x. InArea x p)
+    in_other None y f h = tt
+    in_other (Some x) None f h = absurd f
+    in_other (Some x) (Some y) f h = f p h
+
+    at_other : (s r : Option SpanOf) → IfSome s (λ x. MatchOption r ⊥ (λ y. (t : Ratio) → InSpan y t → InSpan x t)) → IfSome r (λ y. InSpan y t) → IfSome s (λ x. InSpan x t)
+    at_other None r f h = tt
+    at_other (Some x) None f h = absurd f
+    at_other (Some x) (Some y) f h = f t h
+
 -- Laws of boxes that have space and time.
 pub whole_is : (a : BoxOf) → is_whole a ≡ true → (is_some a.space ≡ true) × (is_some a.time ≡ true)
 unfolding is_whole

@@ -120,16 +120,16 @@ area_over_meets a b q h k =
     let j = four (up_to b.xmin q.xmax) (up_to q.xmin b.xmax) (up_to b.ymin q.ymax) (up_to q.ymin b.ymax) k in
     all_four (up_to a.xmin q.xmax) (up_to q.xmin a.xmax) (up_to a.ymin q.ymax) (up_to q.ymin a.ymax) (upto_trans a.xmin b.xmin q.xmax i.0 j.0) (upto_trans q.xmin b.xmax a.xmax j.1 i.1) (upto_trans a.ymin b.ymin q.ymax i.2 j.2) (upto_trans q.ymin b.ymax a.ymax j.3 i.3)
 
-smaller_left : (s t : Ratio) → up_to (smaller s t) s ≡ true
+pub smaller_left : (s t : Ratio) → up_to (smaller s t) s ≡ true
 smaller_left s t = grind (arith, before-back t s, before-self s)
 
-smaller_right : (s t : Ratio) → up_to (smaller s t) t ≡ true
+pub smaller_right : (s t : Ratio) → up_to (smaller s t) t ≡ true
 smaller_right s t = grind (arith, before-back t s, before-self t)
 
-greater_left : (s t : Ratio) → up_to s (greater s t) ≡ true
+pub greater_left : (s t : Ratio) → up_to s (greater s t) ≡ true
 greater_left s t = grind (arith, before-back s t, before-self s)
 
-greater_right : (s t : Ratio) → up_to t (greater s t) ≡ true
+pub greater_right : (s t : Ratio) → up_to t (greater s t) ≡ true
 greater_right s t = grind (arith, before-back s t, before-self t)
 
 smaller_least : (s t u : Ratio) → up_to u s ≡ true → up_to u t ≡ true → up_to u (smaller s t) ≡ true
@@ -142,18 +142,19 @@ greater_least s t u h k = grind arith
 pub between_is_area : (p q : Point) → is_area (area_between p q) ≡ true
 between_is_area p q = both_true (up_to (smaller p.x q.x) (greater p.x q.x)) (up_to (smaller p.y q.y) (greater p.y q.y)) (upto_trans (smaller p.x q.x) p.x (greater p.x q.x) (smaller_left p.x q.x) (greater_left p.x q.x)) (upto_trans (smaller p.y q.y) p.y (greater p.y q.y) (smaller_left p.y q.y) (greater_left p.y q.y))
 
+-- an area with two points has the least area over them
+pub between_least : (p q : Point) (b : Area) → InArea b p → InArea b q → area_over b (area_between p q) ≡ true
+between_least p q b h k =
+    let i = four (up_to b.xmin p.x) (up_to p.x b.xmax) (up_to b.ymin p.y) (up_to p.y b.ymax) ((in_area_exact b p).1 h) in
+    let j = four (up_to b.xmin q.x) (up_to q.x b.xmax) (up_to b.ymin q.y) (up_to q.y b.ymax) ((in_area_exact b q).1 k) in
+    all_four (up_to b.xmin (smaller p.x q.x)) (up_to (greater p.x q.x) b.xmax) (up_to b.ymin (smaller p.y q.y)) (up_to (greater p.y q.y) b.ymax) (smaller_least p.x q.x b.xmin i.0 j.0) (greater_least p.x q.x b.xmax i.1 j.1) (smaller_least p.y q.y b.ymin i.2 j.2) (greater_least p.y q.y b.ymax i.3 j.3)
+
 pub between_is_over : (p q : Point) → IsAreaOver p q (area_between p q)
 between_is_over p q = let a = area_between p q in record {
   first = (in_area_exact a p).0 (all_four (up_to a.xmin p.x) (up_to p.x a.xmax) (up_to a.ymin p.y) (up_to p.y a.ymax) (smaller_left p.x q.x) (greater_left p.x q.x) (smaller_left p.y q.y) (greater_left p.y q.y));
   second = (in_area_exact a q).0 (all_four (up_to a.xmin q.x) (up_to q.x a.xmax) (up_to a.ymin q.y) (up_to q.y a.ymax) (smaller_right p.x q.x) (greater_right p.x q.x) (smaller_right p.y q.y) (greater_right p.y q.y));
   least = λ b h k r m. in_over b a r (between_least p q b h k) m;
 }
-  where
-    between_least : (p q : Point) (b : Area) → InArea b p → InArea b q → area_over b (area_between p q) ≡ true
-    between_least p q b h k =
-        let i = four (up_to b.xmin p.x) (up_to p.x b.xmax) (up_to b.ymin p.y) (up_to p.y b.ymax) ((in_area_exact b p).1 h) in
-        let j = four (up_to b.xmin q.x) (up_to q.x b.xmax) (up_to b.ymin q.y) (up_to q.y b.ymax) ((in_area_exact b q).1 k) in
-        all_four (up_to b.xmin (smaller p.x q.x)) (up_to (greater p.x q.x) b.xmax) (up_to b.ymin (smaller p.y q.y)) (up_to (greater p.y q.y) b.ymax) (smaller_least p.x q.x b.xmin i.0 j.0) (greater_least p.x q.x b.xmax i.1 j.1) (smaller_least p.y q.y b.ymin i.2 j.2) (greater_least p.y q.y b.ymax i.3 j.3)
 
 smaller_first : (s t : Ratio) → up_to s t ≡ true → smaller s t ≡ s
 smaller_first s t h = let e : before t s ≡ false = grind (arith, h) in rw e refl

@@ -6,7 +6,9 @@ mod copies;
 pub mod laws;
 mod store;
 mod value;
+mod value_box;
 
 pub use boxed::Boxed;
 pub use store::{Store, Table};
 pub use value::Value;
+pub use value_box::box_of;

@@ -1,0 +1,44 @@
+//! The box of a value over time.
+ghost use Rattle.std.specs.Prelude.{◌≡◌, true};
+ghost use Rattle.mob_stbox.specs.Boxes.{is_whole};
+ghost use Rattle.mob_value.specs.ValueBoxes.{IsBoxOf, slice_box as box_of_slice, covered};
+
+use mob_slice::{Moving, PlaneLine, Slice};
+use mob_stbox::{Area, StBox};
+
+// The box of one slice.
+#[tactic(auto, unfolding(mob_stbox::specs::Boxes::is_whole))]
+fn slice_box(slice: &Slice<PlaneLine>) -> StBox
+    ensures value { result ≡ box_of_slice slice.now }
+    ensures whole { is_whole result ≡ true }
+{
+    let area = Area::between(&slice.course.from, &slice.course.to);
+    match StBox::new(Some(area), Some(slice.span)) {
+        Some(found) => found,
+        None => unreachable!(),
+    }
+}
+
+// The least box over a box and those of the slices.
+fn cover_all(first: StBox, slices: &[Slice<PlaneLine>]) -> StBox
+    requires whole { is_whole first ≡ true }
+    ensures value { result ≡ covered first slices.now }
+{
+    let mut over = first;
+    for slice in slices {
+        over = over.cover(&slice_box(slice));
+    }
+    over
+}
+
+/// The box of a moving point: the least closed rectangle that has all of its positions, and the least span that has each instant at
+/// which it is defined. It takes no memory.
+pub fn box_of(moving: &Moving<PlaneLine>) -> StBox
+    ensures least { IsBoxOf moving.now result }
+{
+    let slices = moving.slices();
+    match slices {
+        [first, ..] => cover_all(slice_box(first), slices),
+        [] => unreachable!(),
+    }
+}
