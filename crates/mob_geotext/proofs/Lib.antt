@@ -6,3 +6,8 @@ pub mod OneReadings
 pub mod BoxesExact
 pub mod BoxesRead
 pub mod BoxesAgain
+pub mod PolygonsExact
+pub mod PolygonsRead
+pub mod PolygonsAgain
+pub mod JoinedWritten
+mod Examples

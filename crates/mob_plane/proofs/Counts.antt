@@ -111,11 +111,10 @@ counting_ring p all rest ring later first now next e n f m = rw n (record {
 pub counting_ring_fails : (p : Point) (all rest ring later : List (Point × Point)) (first now : Tally) → rest ≡ ring ++ later → (¬ AllFit (turns_parts p ring)) → IsCounting p all rest first now → ¬ AllFit (turns_parts p all)
 counting_ring_fails p all rest ring later first now e n m h = n (parts_first p ring later (subst (λ r. AllFit (turns_parts p r)) e (m.fail h)))
 
-drop_read : {X : Type 0} (xs : List X) (i : ℕ) (x : X) → i < length xs → x ≡ get_or xs i x → drop i xs ≡ x ∷ drop (i + 1) xs
-drop_read xs i x h e = rw add-one (rw (drop-cons xs i x) (ap (λ y. y ∷ drop (suc i) xs) (sym e)))
-
 pub rings_read : (rings : List (Vec Point Global)) (i : ℕ) (r : Vec Point Global) → i < length rings → r ≡ get_or rings i r → all_edges (rings_of (drop i rings)) ≡ edges r.items ++ all_edges (rings_of (drop (i + 1) rings))
-rings_read rings i r h e = ap (λ z. all_edges (rings_of z)) (drop_read rings i r h e)
+rings_read rings i r h e =
+    let next : drop i rings ≡ r ∷ drop (i + 1) rings = rw add-one (rw (drop-cons rings i r) (ap (λ q. q ∷ drop (suc i) rings) (sym e))) in
+    ap (λ z. all_edges (rings_of z)) next
 
 pub is_inside : (rings : List (List Point)) (p : Point) (t : Tally) (b : Bool) → b ≡ (t.on || t.odd) → (t ≡ counted none_yet (signs_to (all_edges rings) p)) × AllFit (turns_parts p (all_edges rings)) → (b ≡ inside rings p) × AllFit (turns_parts p (all_edges rings))
 is_inside rings p t b e h = (e ∙ ap (λ (t : Tally). t.on || t.odd) h.0 ∙ counted_all (signs_to (all_edges rings) p) ∙ sym (inside_signs rings p), h.1)

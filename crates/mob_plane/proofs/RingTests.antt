@@ -17,3 +17,6 @@ some_ring rings b h k = k ∙ any_of is_short_ring rings ∙ ap (λ z. z || list
 
 pub sound_rings : (rings : List (List Point)) → has_short rings ≡ false → has_open rings ≡ false → are_sound rings ≡ true
 sound_rings rings h k = rw (h, k) refl
+
+pub open_rings : (rings : List (List Point)) → has_short rings ≡ false → has_open rings ≡ true → false ≡ are_sound rings
+open_rings rings h k = rw (h, k) refl

@@ -1,5 +1,5 @@
 //! Polygons of one closed ring or more.
-ghost use Rattle.std.specs.Prelude.{◌≡◌, ◌↔◌, true, false, Ok, Err, IfOk, Contains};
+ghost use Rattle.std.specs.Prelude.{◌≡◌, ◌↔◌, true, false, Ok, Err, is_ok, IfOk, Contains};
 ghost use Rattle.std.specs.List.{list_any};
 ghost use Rattle.mob_frac.specs.Formula.{IsFormula};
 ghost use Rattle.mob_plane.specs.Turns.{turns_parts};
@@ -114,6 +114,7 @@ impl Polygon {
     pub fn new(rings: Vec<Vec<Point>>) -> Result<Polygon, RingFault>
         ensures made { IfOk result (λ p. p ≡ rings_of rings.items) }
         ensures short { (result ≡ Err RingFault.Short) ↔ (has_short (rings_of rings.items) ≡ true) }
+        ensures sound { is_ok result ≡ are_sound (rings_of rings.items) }
         ensures open_ends { (result ≡ Err RingFault.Open) ↔ ((has_short (rings_of rings.items) ≡ false) × (has_open (rings_of rings.items) ≡ true)) }
     {
         if has_short(rings.as_slice()) {
