@@ -2,7 +2,9 @@
 //! approach.
 #![tactic(auto)]
 
+mod foot;
 mod leg;
 mod nearness;
+mod piece;
 
 pub use nearness::{approach_squared, ever_within};
