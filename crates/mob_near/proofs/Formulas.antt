@@ -1,7 +1,7 @@
 -- The parts of the formulas, once their numbers are named.
 use Rattle.std.specs.Prelude.{◌≡◌, true, ◌&&◌, List, [], ◌∷◌, ◌++◌, Result, Ok, Err, refl}
 use Rattle.std.proofs.Common.{arith, ap, sym, ◌∙◌, subst}
-use Rattle.mob_ratio.specs.Ratio.{Ratio, ◌+ℚ◌, ◌-ℚ◌, ◌*ℚ◌, ◌<ℚ◌, neg_ℚ}
+use Rattle.mob_ratio.specs.Ratio.{Ratio, ◌+ℚ◌, ◌-ℚ◌, ◌*ℚ◌, ◌<ℚ◌}
 use Rattle.mob_ratio.specs.Order.{before}
 use Rattle.mob_ratio.specs.Sign.{nil}
 use Rattle.mob_ratio.proofs.Order.{before-lt}

@@ -1,1 +1,6 @@
 pub mod Formulas
+pub mod Place
+pub mod OnPieces
+pub mod AllNearest
+pub mod Judging
+pub mod Answering

@@ -1,6 +1,6 @@
 -- How the difference of two points goes on a piece of time, straight from (x0, y0) to (x1, y1), and what follows for its length.
-use Rattle.std.specs.Prelude.{◌≡◌, Bool, true, false, cond, ◌&&◌, ◌||◌, List, [], ◌∷◌, ◌++◌, Option, Some, None}
-use Rattle.mob_ratio.specs.Ratio.{Ratio, ◌+ℚ◌, ◌-ℚ◌, ◌*ℚ◌, ◌/ℚ◌, neg_ℚ}
+use Rattle.std.specs.Prelude.{Bool, true, false, cond, ◌&&◌, ◌||◌, List, [], ◌∷◌, ◌++◌, Option, Some, None}
+use Rattle.mob_ratio.specs.Ratio.{Ratio, ◌+ℚ◌, ◌-ℚ◌, ◌*ℚ◌, ◌/ℚ◌}
 use Rattle.mob_ratio.specs.Order.{before, up_to, same}
 use Rattle.mob_ratio.specs.Sign.{nil}
 use Rattle.mob_frac.specs.Formula.{square_parts}

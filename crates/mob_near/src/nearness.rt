@@ -1,4 +1,4 @@
-ghost use Rattle.std.specs.Prelude.{◌≡◌, ◌||◌, true, false, cond, Some, None, Ok, Err, IfOk};
+ghost use Rattle.std.specs.Prelude.{◌≡◌, ◌||◌, true, false, cond, Some, None, Ok, Err, IfOk, IsTrue, ◌↔◌};
 ghost use Rattle.std.specs.List.{flat_map};
 ghost use Rattle.mob_ratio.specs.Ratio.{◌*ℚ◌};
 ghost use Rattle.mob_ratio.specs.Order.{up_to};
@@ -7,7 +7,7 @@ ghost use Rattle.mob_slice.specs.Entries.{IsDecided};
 ghost use Rattle.mob_slice.specs.Lines.{plane_value_of};
 ghost use Rattle.mob_slice.specs.Sides.{given_at, has_slices, operand_of, pieces};
 ghost use Rattle.mob_slice.specs.declared.formula.Formula.TheVariants.{F6};
-ghost use Rattle.mob_lift.specs.Sometime.{IsEver};
+ghost use Rattle.mob_lift.specs.Sometime.{IsEver, HaveCommon};
 ghost use Rattle.mob_near.specs.Distances.{are_within, distance_squared};
 ghost use Rattle.mob_near.specs.Approaches.{IsApproach};
 ghost use Rattle.mob_near.specs.Entries.{entries_of_within, entries_of_reach, entries_of_approach};
@@ -19,8 +19,10 @@ use mob_lift::{Pieces, either};
 use mob_slice::{Formula, Operand, Passed, PlaneLine};
 use std::alloc::Global;
 
-// Whether the two operands share a piece of time.
+// Whether there is a common instant.
 fn share_time(a: Operand<'_, PlaneLine>, b: Operand<'_, PlaneLine>) -> bool
+    requires moving { (has_slices (operand_of a) || has_slices (operand_of b)) ≡ true }
+    ensures common { IsTrue result ↔ HaveCommon (given_at plane_value_of (operand_of a.entry)) (given_at plane_value_of (operand_of b.entry)) }
     ensures value { result ≡ are_some (pieces (operand_of a.entry) (operand_of b.entry)) }
 {
     let mut pieces = Pieces::new(a, b);
