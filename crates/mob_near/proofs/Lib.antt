@@ -4,3 +4,5 @@ pub mod OnPieces
 pub mod AllNearest
 pub mod Judging
 pub mod Answering
+pub mod OneApproach
+pub mod Examples

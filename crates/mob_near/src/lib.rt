@@ -3,8 +3,10 @@
 #![tactic(auto)]
 
 mod foot;
+pub mod laws;
 mod leg;
 mod nearness;
 mod piece;
 
+pub use laws::one_approach;
 pub use nearness::{approach_squared, ever_within};
