@@ -1,19 +1,21 @@
 -- The gaps at the ends of a piece, and their entries.
-use Rattle.std.specs.Prelude.{◌≡◌, List, [], ◌∷◌, ◌++◌, Some, None, refl}
+use Rattle.std.specs.Prelude.{◌≡◌, Bool, true, false, List, ◌++◌, Some, None, refl}
 use Rattle.std.proofs.Common.{ap, sym, ◌∙◌, subst, inl, inr}
 use Rattle.mob_ratio.specs.Ratio.{Ratio}
 use Rattle.mob_frac.specs.Formula.{AllFit}
+use Rattle.mob_span.specs.Span.{SpanOf, has, has_instant}
 use Rattle.mob_span.specs.Meets.{PieceOf}
-use Rattle.mob_slice.specs.Comparison.{gap_parts}
-use Rattle.mob_slice.specs.Sides.{SideOf, side_at, side_parts, at_ends, HasValues}
+use Rattle.mob_slice.specs.Comparison.{IsComparison, gap_parts, gaps_at}
+use Rattle.mob_slice.specs.Course.{IsCourse}
+use Rattle.mob_slice.specs.Sides.{SideOf, Moves, Stays, side_at, side_parts, at_ends, HoldsSide, HoldsPiece, HasValues}
+use Rattle.mob_slice.specs.declared.comparison.Rel.{Rel}
 use Rattle.mob_slice.specs.Entries.{IsFirst}
 use Rattle.mob_slice.specs.declared.comparison.Gaps.{Gaps}
 use Rattle.mob_slice.specs.declared.formula.Formula.{Formula}
 use Rattle.mob_slice.specs.declared.formula.Formula.TheVariants.{F1, F2}
 use Rattle.mob_slice.specs.declared.slice.Slice.{Slice}
-use Rattle.mob_slice.proofs.Cuts.{all_both, all_first, all_second}
+use Rattle.mob_slice.proofs.Cuts.{all_both, all_first, all_second, cut_is, level_is}
 use Rattle.mob_cells.specs.Gaps.{piece_gaps, end_gaps, entries_of_ends}
-use Rattle.mob_cells.specs.declared.differences.EndGaps.{EndGaps}
 
 module _ {C B : Type 0} (value : C → Ratio → Ratio → Ratio → B) (lines : C → Ratio → Ratio → Ratio → List Ratio) (gaps : B → B → Gaps) (p : PieceOf (SideOf C B) (SideOf C B)) where
   pub left_fails : (f : Formula) → (f ≡ F1) × (¬ AllFit (at_ends (side_parts lines p.left) p.span)) → IsFirst (entries_of_ends value lines gaps p) (Some f)
@@ -44,3 +46,25 @@ module _ {C B : Type 0} (value : C → Ratio → Ratio → Ratio → B) (lines :
 
     pub both_ends : (g h : Gaps) → g ≡ gaps (start l.course) (start r.course) → h ≡ gaps (end l.course) (end r.course) → record { at_lower = g; at_upper = h } ≡ end_gaps value gaps p
     both_ends g h e f = λ i. record { at_lower = (e ∙ low) i; at_upper = (f ∙ high) i }
+
+-- ---- and so at each instant between
+module _ {C B : Type 0} {steady copies : Bool} {value : C → Ratio → Ratio → Ratio → B} {start end : C → B} {can_make : B → B → Type 0} {make : B → B → C} {continues : C → C → Ratio → Ratio → Ratio → Bool} {parts : C → Ratio → Ratio → Ratio → List Ratio} (laws : IsCourse steady copies value start end can_make make continues parts)
+    {relation : Rel → B → B → Bool} {gaps : B → B → Gaps} {ordered : Bool} (comparison : IsComparison steady ordered value start end relation gaps) where
+  -- a side has its values on the piece as a slice
+  on_side : (q : SideOf C B) (r : SpanOf) → HoldsSide start end q r → has_instant r ≡ true → (s : Slice C) × HasValues value start end (side_at value q) r s
+  on_side (Moves s) r h k = let v : Ratio → B = λ t. value s.course s.span.lower s.span.upper t in (record { span = r; course = make (v r.lower) (v r.upper) }, cut_is laws s r (v r.lower) (v r.upper) h.1 k refl refl)
+  on_side (Stays b) r h k = (record { span = r; course = make b b }, level_is laws b b b r k refl refl)
+
+  -- the gaps of two courses on a piece go evenly from those at its lower end to those at the upper one
+  pub gaps_on : (p : PieceOf (SideOf C B) (SideOf C B)) → HoldsPiece start end start end p → has_instant p.span ≡ true → steady ≡ false → (t : Ratio) → has p.span t ≡ true → gaps (side_at value p.left t) (side_at value p.right t) ≡ gaps_at (piece_gaps value gaps p p.span.lower) (piece_gaps value gaps p p.span.upper) p.span.lower p.span.upper t
+  gaps_on p held some e t i =
+      let l = on_side p.left p.span held.0 some in
+      let r = on_side p.right p.span held.1 some in
+      let a = subst (λ z. value l.0.course z.lower z.upper t ≡ side_at value p.left t) l.1.on (l.1.same t i) in
+      let b = subst (λ z. value r.0.course z.lower z.upper t ≡ side_at value p.right t) r.1.on (r.1.same t i) in
+      ap (λ x. gaps x (side_at value p.right t)) (sym a) ∙ ap (λ y. gaps (value l.0.course p.span.lower p.span.upper t) y) (sym b)
+      ∙ comparison.linear e l.0.course r.0.course p.span.lower p.span.upper t
+      ∙ ap (λ x. gaps_at (gaps x (start r.0.course)) (gaps (end l.0.course) (end r.0.course)) p.span.lower p.span.upper t) l.1.from
+      ∙ ap (λ y. gaps_at (gaps (side_at value p.left p.span.lower) y) (gaps (end l.0.course) (end r.0.course)) p.span.lower p.span.upper t) r.1.from
+      ∙ ap (λ x. gaps_at (piece_gaps value gaps p p.span.lower) (gaps x (end r.0.course)) p.span.lower p.span.upper t) l.1.to
+      ∙ ap (λ y. gaps_at (piece_gaps value gaps p p.span.lower) (gaps (side_at value p.left p.span.upper) y) p.span.lower p.span.upper t) r.1.to

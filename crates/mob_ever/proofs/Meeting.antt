@@ -4,9 +4,9 @@ use Rattle.std.proofs.Common.{arith, ap, sym, ◌∙◌, true≢false}
 use Rattle.std.specs.declared.cmp.Ordering.{Ordering}
 use Rattle.std.specs.declared.cmp.Ordering.TheVariants.{Less, Equal, Greater}
 use Rattle.mob_ratio.specs.Ratio.{Ratio}
-use Rattle.mob_ratio.specs.Order.{before, same}
+use Rattle.mob_ratio.specs.Order.{same}
 use Rattle.mob_ratio.specs.Sign.{nil, sign_of}
-use Rattle.mob_ratio.proofs.Order.{between, same_exact, false_unless}
+use Rattle.mob_ratio.proofs.Order.{same_exact, false_unless}
 use Rattle.mob_span.specs.Span.{SpanOf, has, has_instant}
 use Rattle.mob_span.proofs.SpanLemmas.{some_instant}
 use Rattle.mob_slice.specs.Comparison.{gaps_at}
@@ -17,7 +17,7 @@ use Rattle.mob_cells.specs.Roots.{function_at}
 use Rattle.mob_ever.specs.Taken.{takes, both_nil}
 use Rattle.mob_ever.specs.Met.{order_of, line_between, one_meets, two_meet, gaps_meet}
 use Rattle.mob_ever.proofs.Taking.{sign_of_is, is_sign_of}
-use Rattle.mob_ever.proofs.OnSpans.{takes_exact, inside_has, short_has}
+use Rattle.mob_ever.proofs.OnSpans.{takes_exact}
 use Rattle.mob_ever.proofs.BothNil.{both_nil_exact}
 
 -- an instant of the span at which the test passes

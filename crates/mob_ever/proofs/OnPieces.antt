@@ -3,19 +3,18 @@ use Rattle.std.specs.Prelude.{◌≡◌, ◌↔◌, Bool, true, false, cond, Lis
 use Rattle.std.specs.List.{AllByRecursion}
 use Rattle.std.proofs.Common.{ap, sym, ◌∙◌, subst}
 use Rattle.mob_ratio.specs.Ratio.{Ratio}
-use Rattle.mob_span.specs.Span.{SpanOf, has, has_instant}
+use Rattle.mob_span.specs.Span.{has, has_instant}
 use Rattle.mob_span.specs.Meets.{PieceOf}
 use Rattle.mob_span.specs.Parts.{PartsAreClear}
 use Rattle.mob_slice.specs.Comparison.{IsComparison, MayAsk, relates_gaps, gaps_at}
 use Rattle.mob_slice.specs.Course.{IsCourse}
 use Rattle.mob_slice.specs.Ranks.{holds}
 use Rattle.mob_slice.specs.Sameness.{same_bool}
-use Rattle.mob_slice.specs.Sides.{SideOf, Moves, Stays, side_at, side_start, HoldsSide, HoldsPiece, HasValues}
+use Rattle.mob_slice.specs.Sides.{SideOf, Moves, Stays, side_at, side_start, HoldsPiece}
 use Rattle.mob_slice.specs.declared.comparison.Rel.{Rel}
 use Rattle.mob_slice.specs.declared.comparison.Gaps.{Gaps}
 use Rattle.mob_slice.specs.declared.comparison.Gaps.TheVariants.{Constant, One, Two}
-use Rattle.mob_slice.specs.declared.slice.Slice.{Slice}
-use Rattle.mob_slice.proofs.Cuts.{cut_is, level_is}
+use Rattle.mob_cells.proofs.AtEnds.{gaps_on}
 use Rattle.mob_cells.specs.Gaps.{piece_gaps}
 use Rattle.mob_ever.specs.Met.{order_of, gaps_meet, piece_meets}
 use Rattle.mob_span.proofs.SpanLemmas.{some_instant}
@@ -28,11 +27,6 @@ by_order rel (Two g h) = refl
 
 module _ {C B : Type 0} {steady copies : Bool} {value : C → Ratio → Ratio → Ratio → B} {start end : C → B} {can_make : B → B → Type 0} {make : B → B → C} {continues : C → C → Ratio → Ratio → Ratio → Bool} {parts : C → Ratio → Ratio → Ratio → List Ratio} (laws : IsCourse steady copies value start end can_make make continues parts)
     {relation : Rel → B → B → Bool} {gaps : B → B → Gaps} {ordered : Bool} (comparison : IsComparison steady ordered value start end relation gaps) where
-  -- a side has its values on the piece as a slice
-  on_side : (q : SideOf C B) (r : SpanOf) → HoldsSide start end q r → has_instant r ≡ true → (s : Slice C) × HasValues value start end (side_at value q) r s
-  on_side (Moves s) r h k = let v : Ratio → B = λ t. value s.course s.span.lower s.span.upper t in (record { span = r; course = make (v r.lower) (v r.upper) }, cut_is laws s r (v r.lower) (v r.upper) h.1 k refl refl)
-  on_side (Stays b) r h k = (record { span = r; course = make b b }, level_is laws b b b r k refl refl)
-
   steady_side : (q : SideOf C B) (t : Ratio) → steady ≡ true → side_start start q ≡ side_at value q t
   steady_side (Moves s) t e = sym (laws.one_value e s.course s.span.lower s.span.upper t)
   steady_side (Stays b) t e = refl
@@ -41,19 +35,9 @@ module _ {C B : Type 0} {steady copies : Bool} {value : C → Ratio → Ratio �
     -- the comparison at an instant, by the gaps there
     order_at : steady ≡ false → (t : Ratio) → has p.span t ≡ true → relation rel (side_at value p.left t) (side_at value p.right t) ≡ holds rel (order_of (gaps_at (piece_gaps value gaps p p.span.lower) (piece_gaps value gaps p p.span.upper) p.span.lower p.span.upper t))
     order_at e t i =
-        let l = on_side p.left p.span held.0 some in
-        let r = on_side p.right p.span held.1 some in
-        let a = subst (λ z. value l.0.course z.lower z.upper t ≡ side_at value p.left t) l.1.on (l.1.same t i) in
-        let b = subst (λ z. value r.0.course z.lower z.upper t ≡ side_at value p.right t) r.1.on (r.1.same t i) in
         comparison.by_signs e rel (side_at value p.left t) (side_at value p.right t) asked
         ∙ by_order rel (gaps (side_at value p.left t) (side_at value p.right t))
-        ∙ ap (λ g. holds rel (order_of g)) (
-        ap (λ x. gaps x (side_at value p.right t)) (sym a) ∙ ap (λ y. gaps (value l.0.course p.span.lower p.span.upper t) y) (sym b)
-        ∙ comparison.linear e l.0.course r.0.course p.span.lower p.span.upper t
-        ∙ ap (λ x. gaps_at (gaps x (start r.0.course)) (gaps (end l.0.course) (end r.0.course)) p.span.lower p.span.upper t) l.1.from
-        ∙ ap (λ y. gaps_at (gaps (side_at value p.left p.span.lower) y) (gaps (end l.0.course) (end r.0.course)) p.span.lower p.span.upper t) r.1.from
-        ∙ ap (λ x. gaps_at (piece_gaps value gaps p p.span.lower) (gaps x (end r.0.course)) p.span.lower p.span.upper t) l.1.to
-        ∙ ap (λ y. gaps_at (piece_gaps value gaps p p.span.lower) (gaps (side_at value p.left p.span.upper) y) p.span.lower p.span.upper t) r.1.to)
+        ∙ ap (λ g. holds rel (order_of g)) (gaps_on laws comparison p held some e t i)
 
     -- the comparison has the wanted truth value at an instant of the piece
     abbrev pub IsMetOn : Type 0

@@ -25,13 +25,7 @@ where
     ensures first { IsDecided (entries_of_ends C.value_of C.parts_of C.gaps_of (piece_of piece.now)) result }
 {
     match gaps_at_ends(alloc, piece) {
-        Ok(gaps) => Ok(gaps_meet(
-            &piece.span,
-            rel,
-            want,
-            &gaps.at_lower,
-            &gaps.at_upper,
-        )),
+        Ok(gaps) => Ok(gaps_meet(&piece.span, rel, want, &gaps.at_lower, &gaps.at_upper)),
         Err(passed) => Err(passed),
     }
 }

@@ -1,7 +1,7 @@
 -- How far two points are apart, and whether that is at most a given distance.
 use Rattle.std.specs.Prelude.{Bool, ◌&&◌}
-use Rattle.mob_ratio.specs.Ratio.{Ratio, ◌+ℚ◌, ◌-ℚ◌, ◌*ℚ◌, neg_ℚ}
-use Rattle.mob_ratio.specs.Order.{before, up_to}
+use Rattle.mob_ratio.specs.Ratio.{Ratio, ◌+ℚ◌, ◌-ℚ◌, ◌*ℚ◌}
+use Rattle.mob_ratio.specs.Order.{up_to}
 use Rattle.mob_ratio.specs.Sign.{nil}
 use Rattle.mob_plane.specs.declared.point.Point.{Point}
 

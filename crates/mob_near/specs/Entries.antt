@@ -1,7 +1,7 @@
 -- The formulas of nearness, on each piece that two points share, in the order in which they are judged.
-use Rattle.std.specs.Prelude.{Bool, cond, List, [], ◌∷◌, ◌++◌}
+use Rattle.std.specs.Prelude.{cond, List, [], ◌∷◌, ◌++◌}
 use Rattle.std.specs.List.{flat_map}
-use Rattle.mob_ratio.specs.Ratio.{Ratio, ◌-ℚ◌, ◌*ℚ◌, neg_ℚ}
+use Rattle.mob_ratio.specs.Ratio.{Ratio, ◌-ℚ◌, ◌*ℚ◌}
 use Rattle.mob_ratio.specs.Order.{before}
 use Rattle.mob_ratio.specs.Sign.{nil}
 use Rattle.mob_frac.specs.Formula.{square_parts, distance_parts, approach_parts, within_parts}

@@ -1,72 +1,112 @@
 -- How the difference of two points goes on a piece of time, straight from (x0, y0) to (x1, y1), and what follows for its length.
-use Rattle.std.specs.Prelude.{Bool, cond, ◌&&◌, ◌||◌, Option, Some, None}
-use Rattle.mob_ratio.specs.Ratio.{Ratio, ◌+ℚ◌, ◌-ℚ◌, ◌*ℚ◌, ◌/ℚ◌, neg_ℚ}
-use Rattle.mob_ratio.specs.Order.{before, up_to}
-use Rattle.mob_span.specs.Span.{SpanOf}
-use Rattle.mob_quadratic.specs.Quadratic.{dips, square_is_within}
+use Rattle.std.specs.Prelude.{Bool, true, false, cond, ◌&&◌, ◌||◌, List, [], ◌∷◌, ◌++◌, Option, Some, None}
+use Rattle.mob_ratio.specs.Ratio.{Ratio, ◌+ℚ◌, ◌-ℚ◌, ◌*ℚ◌, ◌/ℚ◌}
+use Rattle.mob_ratio.specs.Order.{before, up_to, same}
+use Rattle.mob_ratio.specs.Sign.{nil}
+use Rattle.mob_frac.specs.Formula.{square_parts}
+use Rattle.mob_slice.specs.declared.comparison.Gaps.{Gaps}
+use Rattle.mob_slice.specs.declared.comparison.Gaps.TheVariants.{Constant, One, Two}
+use Rattle.mob_quadratic.specs.Quadratic.{square_is_within}
 use Rattle.mob_near.specs.Distances.{length_squared}
 use Rattle.mob_near.specs.Entries.{PointPiece, gap_x, gap_y}
 use Rattle.mob_near.specs.declared.leg.Leg.{Leg}
-use Rattle.mob_near.specs.declared.leg.Foot.{Foot}
+use Rattle.mob_near.specs.declared.leg.Squares.{Squares}
+use Rattle.mob_near.specs.declared.foot.Foot.{Foot}
 
 -- the way of the difference on a piece
 abbrev pub leg_of : PointPiece → Leg
 leg_of p = record { x0 = gap_x p p.span.lower; y0 = gap_y p p.span.lower; x1 = gap_x p p.span.upper; y1 = gap_y p p.span.upper }
 
--- the squares of its lengths at both ends
-abbrev pub first_square : Leg → Ratio
-first_square g = length_squared g.x0 g.y0
+-- the gaps are those of points
+abbrev pub are_two : Gaps → Bool
+are_two Constant = false
+are_two (One g) = false
+are_two (Two g h) = true
 
-abbrev pub last_square : Leg → Ratio
-last_square g = length_squared g.x1 g.y1
+-- the squares of its lengths at both ends, and the parts of their formula
+abbrev pub squares_of : Leg → Squares
+squares_of g = record { first = length_squared g.x0 g.y0; last = length_squared g.x1 g.y1 }
 
--- the numbers by which the point of the way that is nearest to (0, 0) is found: the square of the way's length, the product of the
--- first difference along the way and that across it
+abbrev pub squares_parts : Leg → List Ratio
+squares_parts g = square_parts g.x0 g.y0 ++ square_parts g.x1 g.y1
+
+-- the numbers by which the point of a way that is nearest to (0, 0) is found, from its start and how far it goes on each axis: the square of the
+-- way's length, the product of start and way, that of end and way, and that of the start and the way turned by a right angle
+abbrev pub foot_by : Ratio → Ratio → Ratio → Ratio → Foot
+foot_by x0 y0 ex ey = record {
+  length = ex *ℚ ex +ℚ ey *ℚ ey;
+  along = x0 *ℚ ex +ℚ y0 *ℚ ey;
+  beyond = (ex *ℚ ex +ℚ ey *ℚ ey) +ℚ (x0 *ℚ ex +ℚ y0 *ℚ ey);
+  across = x0 *ℚ ey -ℚ y0 *ℚ ex;
+}
+
+-- x·y + z·w and x·y - z·w, with the parts of these formulas
+abbrev pub dot_parts : Ratio → Ratio → Ratio → Ratio → List Ratio
+dot_parts x y z w = (x *ℚ y) ∷ (z *ℚ w) ∷ (x *ℚ y +ℚ z *ℚ w) ∷ []
+
+abbrev pub cross_parts : Ratio → Ratio → Ratio → Ratio → List Ratio
+cross_parts x y z w = (x *ℚ y) ∷ (z *ℚ w) ∷ (x *ℚ y -ℚ z *ℚ w) ∷ []
+
+-- the parts of their formula
+abbrev pub foot_by_parts : Ratio → Ratio → Ratio → Ratio → List Ratio
+foot_by_parts x0 y0 ex ey = dot_parts ex ex ey ey ++ (dot_parts x0 ex y0 ey ++ (((ex *ℚ ex +ℚ ey *ℚ ey) +ℚ (x0 *ℚ ex +ℚ y0 *ℚ ey)) ∷ cross_parts x0 ey y0 ex))
+
 abbrev pub foot_of : Leg → Foot
-foot_of g =
-    let ex = g.x1 -ℚ g.x0 in
-    let ey = g.y1 -ℚ g.y0 in
-    record {
-      length = ex *ℚ ex +ℚ ey *ℚ ey;
-      along = g.x0 *ℚ ex +ℚ g.y0 *ℚ ey;
-      across = g.x0 *ℚ ey -ℚ g.y0 *ℚ ex;
-      beyond = (ex *ℚ ex +ℚ ey *ℚ ey) +ℚ (g.x0 *ℚ ex +ℚ g.y0 *ℚ ey);
-    }
+foot_of g = foot_by g.x0 g.y0 (g.x1 -ℚ g.x0) (g.y1 -ℚ g.y0)
 
--- whether that point lies strictly between the ends
+-- whether that point lies strictly between the ends: at the start the way comes nearer, at the end it goes away
 abbrev pub is_between : Foot → Bool
-is_between f = dips f.length f.along
+is_between f = before f.along nil && before nil f.beyond
 
--- whether it lies there and the square of its length is at most D
+-- whether it lies there and the square of its length is at most D, and the parts of the quotients
 abbrev pub foot_reaches : Ratio → Foot → Bool
 foot_reaches D f = is_between f && square_is_within f.length f.across D
 
--- the square of its length where it lies there
+abbrev pub reach_quotients : Ratio → Foot → List Ratio
+reach_quotients D f = cond (is_between f) ((f.across /ℚ f.length) ∷ cond (same f.across nil) [] ((D /ℚ f.across) ∷ [])) []
+
+-- the square of its length where it lies there, and the parts
 abbrev pub foot_square : Foot → Option Ratio
 foot_square f = cond (is_between f) (Some (f.across *ℚ (f.across /ℚ f.length))) None
 
--- whether the square of the length is at most D somewhere on a way that takes longer than an instant. At an end that is left out it has to be less,
--- since so it is near that end; or both ends have at most D, since so has all between them.
-abbrev pub way_reaches : Ratio → Bool → Bool → Leg → Bool
-way_reaches D lower_inc upper_inc g =
-    before (first_square g) D || before (last_square g) D || (lower_inc && up_to (first_square g) D) || (upper_inc && up_to (last_square g) D) || (up_to (first_square g) D && up_to (last_square g) D) || foot_reaches D (foot_of g)
+abbrev pub square_quotients : Foot → List Ratio
+square_quotients f = cond (is_between f) ((f.across /ℚ f.length) ∷ (f.across *ℚ (f.across /ℚ f.length)) ∷ []) []
+
+-- Whether the square of the length is at most D somewhere on a way that takes longer than an instant. At an end that is left out it has to
+-- be less, since so it is near that end; or both ends have at most D, since so has all between them.
+abbrev pub reaches_by : Ratio → Bool → Bool → Squares → Bool → Bool
+reaches_by D lower_inc upper_inc q foot =
+    before q.first D || before q.last D || (lower_inc && up_to q.first D) || (upper_inc && up_to q.last D) || (up_to q.first D && up_to q.last D) || foot
+
+abbrev pub leg_reaches : Ratio → Bool → Bool → Leg → Bool
+leg_reaches D lower_inc upper_inc g = reaches_by D lower_inc upper_inc (squares_of g) (foot_reaches D (foot_of g))
 
 -- the lesser one of two
 abbrev pub lesser : Ratio → Ratio → Ratio
 lesser a b = cond (before a b) a b
 
+-- the square of the foot's length where there is one, else the lesser one at an end
+abbrev pub approach_by : Squares → Option Ratio → Ratio
+approach_by q None = lesser q.last q.first
+approach_by q (Some m) = m
+
 -- the greatest lower bound of the square of the length on such a way, whichever ends are included
-abbrev pub way_approach : Leg → Ratio
-way_approach g = cond (is_between (foot_of g)) ((foot_of g).across *ℚ ((foot_of g).across /ℚ (foot_of g).length)) (lesser (last_square g) (first_square g))
+abbrev pub leg_approach : Leg → Ratio
+leg_approach g = approach_by (squares_of g) (foot_square (foot_of g))
 
 -- on a piece of time
 abbrev pub piece_reaches : Ratio → PointPiece → Bool
-piece_reaches D p = cond (before p.span.lower p.span.upper) (way_reaches D p.span.lower_inc p.span.upper_inc (leg_of p)) (up_to (first_square (leg_of p)) D)
+piece_reaches D p = cond (before p.span.lower p.span.upper) (leg_reaches D p.span.lower_inc p.span.upper_inc (leg_of p)) (up_to (squares_of (leg_of p)).first D)
 
 abbrev pub piece_approach : PointPiece → Ratio
-piece_approach p = cond (before p.span.lower p.span.upper) (way_approach (leg_of p)) (first_square (leg_of p))
+piece_approach p = cond (before p.span.lower p.span.upper) (leg_approach (leg_of p)) (squares_of (leg_of p)).first
 
 -- the lesser one of what there was so far and what one more piece has
 abbrev pub nearest_of : Option Ratio → Ratio → Ratio
 nearest_of None m = m
 nearest_of (Some b) m = lesser b m
+
+-- there is a piece
+abbrev pub are_some : List PointPiece → Bool
+are_some [] = false
+are_some (p ∷ ps) = true

@@ -2,7 +2,11 @@
 //! approach.
 #![tactic(auto)]
 
+mod foot;
+pub mod laws;
 mod leg;
 mod nearness;
+mod piece;
 
+pub use laws::one_approach;
 pub use nearness::{approach_squared, ever_within};

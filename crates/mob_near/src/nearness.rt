@@ -1,16 +1,79 @@
-ghost use Rattle.std.specs.Prelude.{◌≡◌, ◌||◌, true, IfOk};
+ghost use Rattle.std.specs.Prelude.{◌≡◌, ◌||◌, true, false, cond, Some, None, Ok, Err, IfOk, IsTrue, ◌↔◌};
 ghost use Rattle.std.specs.List.{flat_map};
+ghost use Rattle.mob_ratio.specs.Ratio.{◌*ℚ◌};
+ghost use Rattle.mob_ratio.specs.Order.{up_to};
+ghost use Rattle.mob_ratio.specs.Sign.{nil};
 ghost use Rattle.mob_slice.specs.Entries.{IsDecided};
 ghost use Rattle.mob_slice.specs.Lines.{plane_value_of};
 ghost use Rattle.mob_slice.specs.Sides.{given_at, has_slices, operand_of, pieces};
-ghost use Rattle.mob_lift.specs.Sometime.{IsEver};
-ghost use Rattle.mob_near.specs.Distances.{are_within};
+ghost use Rattle.mob_slice.specs.declared.formula.Formula.TheVariants.{F6};
+ghost use Rattle.mob_lift.specs.Sometime.{IsEver, HaveCommon};
+ghost use Rattle.mob_near.specs.Distances.{are_within, distance_squared};
 ghost use Rattle.mob_near.specs.Approaches.{IsApproach};
-ghost use Rattle.mob_near.specs.Entries.{entries_of_within, entries_of_approach};
+ghost use Rattle.mob_near.specs.Entries.{entries_of_within, entries_of_reach, entries_of_approach};
+ghost use Rattle.mob_near.specs.Legs.{are_some, nearest_of};
 
+use crate::piece::{lesser, piece_approach, piece_reaches};
 use mob_frac::Frac;
-use mob_slice::{Operand, Passed, PlaneLine};
+use mob_lift::{Pieces, either};
+use mob_slice::{Formula, Operand, Passed, PlaneLine};
 use std::alloc::Global;
+
+// Whether there is a common instant.
+fn share_time(a: Operand<'_, PlaneLine>, b: Operand<'_, PlaneLine>) -> bool
+    requires moving { (has_slices (operand_of a) || has_slices (operand_of b)) ≡ true }
+    ensures common { IsTrue result ↔ HaveCommon (given_at plane_value_of (operand_of a.entry)) (given_at plane_value_of (operand_of b.entry)) }
+    ensures value { result ≡ are_some (pieces (operand_of a.entry) (operand_of b.entry)) }
+{
+    let mut pieces = Pieces::new(a, b);
+    pieces.next().is_some()
+}
+
+// No, where there is a common instant.
+fn never(shared: bool) -> Option<bool>
+    ensures value { result ≡ cond shared (Some false) None }
+{
+    if shared {
+        return Some(false);
+    }
+    None
+}
+
+// The square of a distance does not fit, where a piece asks for it.
+fn passed_where(shared: bool) -> Result<Option<bool>, Passed>
+    ensures value { result ≡ cond shared (Err (record { formula = F6 })) (Ok None) }
+{
+    if shared {
+        return Err(Passed {
+            formula: Formula::F6,
+        });
+    }
+    Ok(None)
+}
+
+// Whether the square of the distance is at most `square` at some common instant. Every piece is walked, also behind one that has settled the
+// answer: each has its formulas.
+fn ever_reaches(
+    alloc: Global,
+    a: Operand<'_, PlaneLine>,
+    b: Operand<'_, PlaneLine>,
+    square: &Frac,
+) -> Result<Option<bool>, Passed>
+    requires moving { (has_slices (operand_of a) || has_slices (operand_of b)) ≡ true }
+    requires square { up_to nil square.now ≡ true }
+    ensures value { IfOk result (IsEver (λ x y. up_to (distance_squared x y) square.now) (given_at plane_value_of (operand_of a.entry)) (given_at plane_value_of (operand_of b.entry))) }
+    ensures first { IsDecided (flat_map (entries_of_reach square.now) (pieces (operand_of a.entry) (operand_of b.entry))) result }
+{
+    let mut found = None;
+    for piece in Pieces::new(a, b) {
+        let here = match piece_reaches(alloc, &piece, square) {
+            Ok(here) => here,
+            Err(passed) => return Err(passed),
+        };
+        found = Some(either(found, here));
+    }
+    Ok(found)
+}
 
 /// Whether the two points are within the distance `d` of each other at some instant at which both are somewhere (MobilityDB's `eDwithin`).
 /// Only actual instants count: an end that is left out does not. For a distance below 0 the answer is false. None exactly where there is no such
@@ -29,7 +92,23 @@ pub fn ever_within(
     ensures value { IfOk result (IsEver (are_within d.now) (given_at plane_value_of (operand_of a.entry)) (given_at plane_value_of (operand_of b.entry))) }
     ensures first { IsDecided (entries_of_within d.now (pieces (operand_of a.entry) (operand_of b.entry))) result }
 {
-    Ok(None)
+    if d.is_before(&Frac::zero()) {
+        return Ok(never(share_time(a, b)));
+    }
+    match d.mul(d) {
+        Ok(square) => ever_reaches(alloc, a, b, &square),
+        Err(_) => passed_where(share_time(a, b)),
+    }
+}
+
+// The lesser one of what there was so far and what one more piece has.
+fn nearest_of(found: Option<Frac>, here: Frac) -> Frac
+    ensures value { result ≡ nearest_of found here }
+{
+    match found {
+        Some(before) => lesser(before, here),
+        None => here,
+    }
 }
 
 /// The greatest lower bound of the square of the distance of the two points over all instants at which both are somewhere: the square of
@@ -46,5 +125,13 @@ pub fn approach_squared(
     ensures value { IfOk result (IsApproach (given_at plane_value_of (operand_of a.entry)) (given_at plane_value_of (operand_of b.entry))) }
     ensures first { IsDecided (flat_map entries_of_approach (pieces (operand_of a.entry) (operand_of b.entry))) result }
 {
-    Ok(None)
+    let mut found = None;
+    for piece in Pieces::new(a, b) {
+        let here = match piece_approach(alloc, &piece) {
+            Ok(here) => here,
+            Err(passed) => return Err(passed),
+        };
+        found = Some(nearest_of(found, here));
+    }
+    Ok(found)
 }

@@ -113,7 +113,7 @@ at_inner a b c d li ui h k =
     )
 
 -- one of six
-pub some : (a b c d : Ratio) (li ui : Bool) → nil ≤ℚ a → nil ≤ℚ c → nil ≤ℚ at_one a b c → (p q : Bool) → before c d ≡ p → before (at_one a b c) d ≡ q → (r s t v : Bool) → (li && up_to c d) ≡ r → (ui && up_to (at_one a b c) d) ≡ s → (up_to c d && up_to (at_one a b c) d) ≡ t → (dips a b && up_to (scaled_least a b c) (a *ℚ d)) ≡ v → (p || (q || (r || (s || (t || v))))) ≡ true → (s : Ratio) × IsAtMost a b c d li ui s
+pub some : (a b c d : Ratio) (li ui : Bool) → nil ≤ℚ a → nil ≤ℚ c → nil ≤ℚ at_one a b c → (p q : Bool) → before c d ≡ p → before (at_one a b c) d ≡ q → (r s t v : Bool) → (li && up_to c d) ≡ r → (ui && up_to (at_one a b c) d) ≡ s → (up_to c d && up_to (at_one a b c) d) ≡ t → (dips a b && up_to (scaled_least a b c) (a *ℚ d)) ≡ v → (p || q || r || s || t || v) ≡ true → (s : Ratio) × IsAtMost a b c d li ui s
 some a b c d li ui ha hc hl true q ep eq r s t v er es et ev h = from_below a b c d li ui (below_first a b c d ha hc hl (before-lt c d ep))
 some a b c d li ui ha hc hl false true ep eq r s t v er es et ev h = from_below a b c d li ui (below_last a b c d ha hc hl (before-lt _ d eq))
 some a b c d true ui ha hc hl false false ep eq true s t v er es et ev h = at_first a b c d ui er
@@ -167,7 +167,7 @@ right_by : (a b c d s : Ratio) (ui : Bool) → nil ≤ℚ a → (a +ℚ b) ≤�
 right_by a b c d s ui ha hb hs ht w h =
     subst (λ z. IsLeft (at_one a b c) z d ui) (mirror_last a b c) (left_by a (back a b) (at_one a b c) d (one -ℚ s) ui ha (back_le a b hb) (sub_le s one ht) (back_until s hs) (flip s ui w) (rw (mirror a b c s) h))
 
-from_left : (c e d : Ratio) (li ui r : Bool) → IsLeft c e d li → (before c d || (before e d || ((li && up_to c d) || ((ui && up_to e d) || ((up_to c d && up_to e d) || r))))) ≡ true
+from_left : (c e d : Ratio) (li ui r : Bool) → IsLeft c e d li → (before c d || before e d || (li && up_to c d) || (ui && up_to e d) || (up_to c d && up_to e d) || r) ≡ true
 from_left c e d li ui r f = elim f.how [
   | inl k ↦ (elim k [
     | inl g ↦ (rw (lt-before c d g) refl)
@@ -176,7 +176,7 @@ from_left c e d li ui r f = elim f.how [
   | inr k ↦ (let m = le-up_to c d f.at_most in let n = le-up_to e d k in grind (arith, m, n))
 ]
 
-from_right : (c e d : Ratio) (li ui r : Bool) → IsLeft e c d ui → (before c d || (before e d || ((li && up_to c d) || ((ui && up_to e d) || ((up_to c d && up_to e d) || r))))) ≡ true
+from_right : (c e d : Ratio) (li ui r : Bool) → IsLeft e c d ui → (before c d || before e d || (li && up_to c d) || (ui && up_to e d) || (up_to c d && up_to e d) || r) ≡ true
 from_right c e d li ui r f = elim f.how [
   | inl k ↦ (elim k [
     | inl g ↦ (let m = lt-before e d g in grind (arith, m))

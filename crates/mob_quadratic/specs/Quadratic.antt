@@ -33,7 +33,7 @@ scaled_least a b c = a *ℚ c -ℚ b *ℚ b
 -- there is below d, since so are those near it, or where both ends have at most d, since so have all between.
 abbrev pub falls_to : Ratio → Ratio → Ratio → Ratio → Bool → Bool → Bool
 falls_to a b c d with_nil with_one =
-    before c d || (before (at_one a b c) d || ((with_nil && up_to c d) || ((with_one && up_to (at_one a b c) d) || ((up_to c d && up_to (at_one a b c) d) || (dips a b && up_to (scaled_least a b c) (a *ℚ d))))))
+    before c d || before (at_one a b c) d || (with_nil && up_to c d) || (with_one && up_to (at_one a b c) d) || (up_to c d && up_to (at_one a b c) d) || (dips a b && up_to (scaled_least a b c) (a *ℚ d))
 
 -- the greatest lower bound of the values: a least one between, else the lesser one at an end, whether or not that counts
 abbrev pub infimum : Ratio → Ratio → Ratio → Ratio

@@ -1,0 +1,73 @@
+-- What the answers of all pieces say of a distance.
+use Rattle.std.specs.Prelude.{◌≡◌, ◌↔◌, ◌||◌, Bool, true, false, cond, List, [], ◌∷◌, Option, Some, None, Result, Ok, Err, IfOk, IsTrue, MatchOption, not, refl}
+use Rattle.std.specs.Option.{is_some}
+use Rattle.std.proofs.Common.{ap, sym, ◌∙◌, subst, true≢false}
+use Rattle.mob_ratio.specs.Ratio.{Ratio, ◌*ℚ◌}
+use Rattle.mob_ratio.specs.Order.{before, up_to}
+use Rattle.mob_ratio.specs.Sign.{nil}
+use Rattle.mob_ratio.proofs.Order.{le-up_to}
+use Rattle.mob_plane.specs.declared.point.Point.{Point}
+use Rattle.mob_span.specs.Parts.{PartsAreClear}
+use Rattle.mob_span.proofs.SpanLemmas.{some_instant}
+use Rattle.mob_slice.specs.Sides.{OperandOf, pieces, given_at, has_slices}
+use Rattle.mob_slice.specs.Lines.{plane_value_of}
+use Rattle.mob_slice.specs.declared.formula.Passed.{Passed}
+use Rattle.mob_slice.specs.declared.line.PlaneLine.{PlaneLine}
+use Rattle.mob_lift.specs.Sometime.{HaveCommon, IsEver}
+use Rattle.mob_lift.proofs.PieceAt.{no_common, common_by}
+use Rattle.mob_quadratic.proofs.Convex.{square_le}
+use Rattle.mob_near.specs.Distances.{distance_squared, are_within}
+use Rattle.mob_near.specs.Entries.{PointPiece}
+use Rattle.mob_near.specs.Legs.{are_some}
+
+-- ---- a common instant
+-- the first step of a walk tells whether there is a piece
+pub next_tells : {A : Type 0} (view : A → PointPiece) (r : Option A) (all rest : List PointPiece) → MatchOption r ((all ≡ []) × (rest ≡ [])) (λ x. all ≡ view x ∷ rest) → is_some r ≡ are_some all
+next_tells view None all rest h = sym (ap are_some h.0)
+next_tells view (Some x) all rest h = sym (ap are_some h)
+
+module _ (a b : OperandOf PlaneLine Point) (moving : (has_slices a || has_slices b) ≡ true) where
+  common_of : (all : List PointPiece) → pieces a b ≡ all → PartsAreClear (λ q. q.span) all → IsTrue (are_some all) ↔ HaveCommon (given_at plane_value_of a) (given_at plane_value_of b)
+  common_of [] e c = (λ h. absurd (true≢false (sym h)), λ h. absurd (no_common plane_value_of plane_value_of a b moving e h))
+  common_of (p ∷ ps) e c = let i = some_instant p.span c.0 in (λ h. common_by plane_value_of plane_value_of a b moving ps p i.0 e i.1, λ h. refl)
+
+  -- there is one exactly where there is a piece
+  pub common_exact : (r : Bool) → r ≡ are_some (pieces a b) → PartsAreClear (λ q. q.span) (pieces a b) → IsTrue r ↔ HaveCommon (given_at plane_value_of a) (given_at plane_value_of b)
+  common_exact r e c = subst (λ z. IsTrue z ↔ HaveCommon (given_at plane_value_of a) (given_at plane_value_of b)) (sym e) (common_of (pieces a b) refl c)
+
+-- ---- answers without a walk
+module _ (d : Ratio) (left right : Ratio → Option Point) where
+  below_nil : (x y : Point) → before d nil ≡ true → are_within d x y ≡ true → {R : Type 0} → R
+  below_nil x y h k = absurd (true≢false (sym (rw h at k)))
+
+  -- nothing is within a distance below 0
+  pub never_within : (b : Bool) (r : Option Bool) → IsTrue b ↔ HaveCommon left right → before d nil ≡ true → r ≡ cond b (Some false) None → IsEver (are_within d) left right r
+  never_within true r h k e = subst (IsEver (are_within d) left right) (sym e) (h.0 refl, (λ f. absurd (true≢false (sym f)), λ m. below_nil m.1 m.2 k m.5))
+  never_within false r h k e = subst (IsEver (are_within d) left right) (sym e) (λ m. true≢false (sym (h.1 m)))
+
+  -- without a common instant there is no answer
+  pub none_within : (b : Bool) (r : Result (Option Bool) Passed) (f : Passed) → IsTrue b ↔ HaveCommon left right → r ≡ cond b (Err f) (Ok None) → IfOk r (IsEver (are_within d) left right)
+  none_within true r f h e = subst (λ z. IfOk z (IsEver (are_within d) left right)) (sym e) tt
+  none_within false r f h e = subst (λ z. IfOk z (IsEver (are_within d) left right)) (sym e) (λ m. true≢false (sym (h.1 m)))
+
+  -- ---- by squares
+  same_within : (s : Ratio) (x y : Point) → before d nil ≡ false → s ≡ d *ℚ d → up_to (distance_squared x y) s ≡ are_within d x y
+  same_within s x y h e = rw h (ap (λ z. up_to (distance_squared x y) z) e)
+
+  ever_within_by : (s : Ratio) (r : Option Bool) → before d nil ≡ false → s ≡ d *ℚ d → IsEver (λ x y. up_to (distance_squared x y) s) left right r → IsEver (are_within d) left right r
+  ever_within_by s None h e k = k
+  ever_within_by s (Some b) h e k = (
+    k.0,
+    (
+      λ f. let m = k.1.0 f in (m.0, m.1, m.2, m.3, m.4, sym (same_within s m.1 m.2 h e) ∙ m.5),
+      λ m. k.1.1 (m.0, m.1, m.2, m.3, m.4, same_within s m.1 m.2 h e ∙ m.5),
+    ),
+  )
+
+  -- two points are within a distance where the squares stand so
+  pub within_by_squares : (s : Ratio) (r : Result (Option Bool) Passed) → before d nil ≡ false → s ≡ d *ℚ d → IfOk r (IsEver (λ x y. up_to (distance_squared x y) s) left right) → IfOk r (IsEver (are_within d) left right)
+  within_by_squares s (Ok v) h e k = ever_within_by s v h e k
+  within_by_squares s (Err f) h e k = tt
+
+pub square_up_to : (d s : Ratio) → s ≡ d *ℚ d → up_to nil s ≡ true
+square_up_to d s e = ap (up_to nil) e ∙ ap not (le-up_to nil (d *ℚ d) (square_le d))

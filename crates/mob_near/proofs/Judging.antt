@@ -1,0 +1,63 @@
+-- The entries of a piece, and of all pieces.
+use Rattle.std.specs.Prelude.{◌≡◌, Bool, true, false, cond, List, [], ◌∷◌, ◌++◌, Option, Some, None, Result, Ok, Err, refl}
+use Rattle.std.specs.List.{flat_map}
+use Rattle.std.proofs.Common.{ap, sym, subst, inl, inr, ⊎_elim}
+use Rattle.mob_ratio.specs.Ratio.{Ratio, ◌*ℚ◌}
+use Rattle.mob_ratio.specs.Order.{before}
+use Rattle.mob_ratio.specs.Sign.{nil}
+use Rattle.mob_frac.specs.Formula.{AllFit, distance_parts}
+use Rattle.mob_slice.specs.Entries.{Entry, IsFirst, IsDecided}
+use Rattle.mob_slice.specs.LineComparison.{point_gaps}
+use Rattle.mob_slice.specs.Lines.{plane_value_of, plane_parts_of}
+use Rattle.mob_slice.specs.declared.formula.Formula.{Formula}
+use Rattle.mob_slice.specs.declared.formula.Formula.TheVariants.{F5, F6}
+use Rattle.mob_slice.specs.declared.formula.Passed.{Passed}
+use Rattle.mob_cells.specs.Gaps.{entries_of_ends}
+use Rattle.mob_lift.proofs.Judged.{first_joined, first_front}
+use Rattle.mob_near.specs.Entries.{PointPiece, entries_of_squares, entries_of_reach, entries_of_within}
+use Rattle.mob_near.specs.Legs.{leg_of, squares_parts, are_some}
+use Rattle.mob_near.specs.declared.leg.Leg.{Leg}
+
+module _ (p : PointPiece) (five : List Ratio) where
+  abbrev ends : List Entry
+  ends = entries_of_ends plane_value_of plane_parts_of point_gaps p
+
+  abbrev all : List Entry
+  all = entries_of_squares p ++ record { formula = F5; parts = five } ∷ []
+
+  abbrev rest : List Entry
+  rest = record { formula = F6; parts = squares_parts (leg_of p) } ∷ record { formula = F5; parts = five } ∷ []
+
+  pub leg_fails : (f : Formula) → IsFirst ends (Some f) → IsFirst all (Some f)
+  leg_fails f h = first_front ends rest f h
+
+  module _ (fit : IsFirst ends None) (g : Leg) (e : g ≡ leg_of p) where
+    pub squares_fail : (f : Formula) → (f ≡ F6) × (¬ AllFit (squares_parts g)) → IsFirst all (Some f)
+    squares_fail f h = first_joined ends rest (Some f) fit (inr (λ a. h.1 (subst (λ z. AllFit (squares_parts z)) (sym e) a), ap Some h.0))
+
+-- ---- all pieces, each with the square of the distance first
+abbrev with_distance : Ratio → PointPiece → List Entry
+with_distance d p = record { formula = F6; parts = distance_parts d } ∷ entries_of_reach (d *ℚ d) p
+
+module _ (d : Ratio) where
+  squares_fit : AllFit (distance_parts d) → (ps : List PointPiece) (r : Option Formula) → IsFirst (flat_map (entries_of_reach (d *ℚ d)) ps) r → IsFirst (flat_map (with_distance d) ps) r
+  squares_fit fit [] r h = h
+  squares_fit fit (p ∷ ps) r h = inl (fit, split (entries_of_reach (d *ℚ d) p) (flat_map (entries_of_reach (d *ℚ d)) ps) (flat_map (with_distance d) ps) r (squares_fit fit ps) h)
+    where
+      split : (xs ys zs : List Entry) (r : Option Formula) → ((r : Option Formula) → IsFirst ys r → IsFirst zs r) → IsFirst (xs ++ ys) r → IsFirst (xs ++ zs) r
+      split [] ys zs r f h = f r h
+      split (x ∷ xs) ys zs r f h = ⊎_elim (λ m. inl (m.0, split xs ys zs r f m.1)) (λ m. inr m) h
+
+  -- the square of a distance that is not below 0 fits, and the rest is as it is
+  pub within_fits : {V : Type 0} (ps : List PointPiece) (r : Result V Passed) → before d nil ≡ false → AllFit (distance_parts d) → IsDecided (flat_map (entries_of_reach (d *ℚ d)) ps) r → IsDecided (entries_of_within d ps) r
+  within_fits ps (Ok v) h fit k = rw h (squares_fit fit ps None k)
+  within_fits ps (Err e) h fit k = rw h (squares_fit fit ps (Some e.formula) k)
+
+  -- it does not fit, where there is a piece
+  pub within_unfit : (ps : List PointPiece) → before d nil ≡ false → (¬ AllFit (distance_parts d)) → IsDecided {V = Option Bool} (entries_of_within d ps) (cond (are_some ps) (Err (record { formula = F6 })) (Ok None))
+  within_unfit [] h bad = rw h refl
+  within_unfit (p ∷ ps) h bad = rw h (inr (bad, refl))
+
+  -- a distance below 0 has no formula
+  pub within_none : {V : Type 0} (ps : List PointPiece) (v : V) → before d nil ≡ true → IsDecided (entries_of_within d ps) (Ok v)
+  within_none ps v h = rw h refl

@@ -1,0 +1,32 @@
+use Rattle.std.proofs.Common.{sym, subst}
+use Rattle.std.specs.List.{AllByRecursion}
+use Rattle.mob_ratio.specs.Order.{up_to}
+use Rattle.mob_ratio.specs.Sign.{nil}
+use Rattle.mob_ratio.proofs.Order.{not-up_to-le}
+use Rattle.mob_span.specs.Parts.{PartsAreClear}
+use Rattle.mob_slice.specs.Lines.{plane_value_of}
+use Rattle.mob_slice.specs.Sides.{operand_of, pieces, piece_of, given_at}
+use Rattle.mob_lift.specs.Pieces.{pieces_left}
+use Rattle.mob_lift.specs.Sometime.{IsEver, either}
+use Rattle.mob_lift.proofs.Walking.{walking_end, walking_fails}
+use Rattle.mob_lift.proofs.AllPieces.{is_ever}
+use Rattle.mob_near.specs.Distances.{distance_squared}
+use Rattle.mob_near.specs.Entries.{entries_of_reach}
+use Rattle.mob_near.specs.Legs.{piece_reaches}
+use Rattle.mob_near.proofs.OnPieces.{IsHeld, all_reached}
+use Rattle.mob_near.proofs.nearness.ever_reaches.Goals as goal
+
+pub returns-clause-value : goal.returns-clause-value
+returns-clause-value c =
+    let a = operand_of c.args.a in
+    let b = operand_of c.args.b in
+    let all = pieces a b in
+    let D = c.args.square.now in
+    let clear = subst (PartsAreClear (λ p. p.span)) c.new-piece-items.ensures.all c.new-piece-items.ensures.clear in
+    let hold = subst (AllByRecursion IsHeld) c.new-piece-items.ensures.all c.new-piece-items.ensures.hold in
+    let ended = walking_end either (piece_reaches D) (entries_of_reach D) all (pieces_left c.loop-piece.piece-iterator) c.loop-piece.found c.in-None.ensures.steps.0 c.loop-piece.invariant.walking in
+    subst (λ o. IsEver (λ x y. up_to (distance_squared x y) D) (given_at plane_value_of a) (given_at plane_value_of b) o) (sym ended.0)
+    (is_ever plane_value_of plane_value_of a b c.requires.moving (λ x y. up_to (distance_squared x y) D) (piece_reaches D) clear (all_reached D (not-up_to-le nil D c.requires.square) all clear hold))
+
+pub returns-in-Err-clause-first : goal.returns-in-Err-clause-first
+returns-in-Err-clause-first c = walking_fails either (piece_reaches c.args.square.now) (entries_of_reach c.args.square.now) (pieces (operand_of c.args.a) (operand_of c.args.b)) (pieces_left c.loop-piece.piece-iterator) (pieces_left c.next.new.self) c.loop-piece.found (piece_of c.in-Some.piece) c.in-Err.passed.formula c.in-Some.ensures.steps c.in-Err.ensures.first c.loop-piece.invariant.walking

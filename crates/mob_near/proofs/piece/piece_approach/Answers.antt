@@ -1,0 +1,15 @@
+use Rattle.mob_frac.specs.Formula.{approach_parts}
+use Rattle.mob_slice.specs.Sides.{piece_of}
+use Rattle.mob_near.specs.Entries.{parts_between}
+use Rattle.mob_near.proofs.Judging.{leg_fails, squares_fail}
+use Rattle.mob_near.proofs.piece.piece_approach.Goals as goal
+
+pub returns-in-Err-clause-first : goal.returns-in-Err-clause-first
+returns-in-Err-clause-first c =
+    let p = piece_of c.args.piece.now in
+    leg_fails p (parts_between approach_parts p) c.in-Err.passed.formula c.in-Err.ensures.first
+
+pub returns-in-Err-squares_at_ends-clause-first : goal.returns-in-Err-squares_at_ends-clause-first
+returns-in-Err-squares_at_ends-clause-first c =
+    let p = piece_of c.args.piece.now in
+    squares_fail p (parts_between approach_parts p) c.in-Ok.ensures.first c.in-Ok.leg c.in-Ok.ensures.leg c.in-Err-squares_at_ends.passed.formula c.in-Err-squares_at_ends.ensures.value

@@ -1,0 +1,128 @@
+//! The point of a way that is nearest to (0, 0).
+ghost use Rattle.std.specs.Prelude.{◌≡◌, ◌&&◌, ◌++◌, ◌∷◌};
+ghost use Rattle.mob_ratio.specs.Ratio.{◌+ℚ◌, ◌-ℚ◌, ◌*ℚ◌};
+ghost use Rattle.mob_ratio.specs.Order.{before, same};
+ghost use Rattle.mob_ratio.specs.Sign.{nil};
+ghost use Rattle.mob_frac.specs.Formula.{IsFormula, approach_parts, within_parts};
+ghost use Rattle.mob_quadratic.specs.Quadratic.{absolute};
+ghost use Rattle.mob_near.specs.Legs.{dot_parts, cross_parts, foot_by, foot_by_parts, foot_of, is_between, foot_reaches, reach_quotients, foot_square, square_quotients};
+
+use crate::leg::Leg;
+use mob_frac::{Frac, Overflow};
+
+/// By what the nearest point of the way of a difference is found.
+#[derive(Clone, Copy, Drop)]
+pub struct Foot {
+    /// The square of the length of the way.
+    pub length: Frac,
+    /// The product of the first difference and the way: below 0 where the points first come nearer.
+    pub along: Frac,
+    /// That of the last difference and the way: above 0 where the points at last go apart.
+    pub beyond: Frac,
+    /// That of the first difference and the way turned by a right angle.
+    pub across: Frac,
+}
+
+// `x·y + z·w`
+fn dot(x: &Frac, y: &Frac, z: &Frac, w: &Frac) -> Result<Frac, Overflow>
+    ensures value { IsFormula (dot_parts x.now y.now z.now w.now) (x.now *ℚ y.now +ℚ z.now *ℚ w.now) result }
+{
+    let p = x.mul(y)?;
+    let q = z.mul(w)?;
+    p.add(&q)
+}
+
+// `x·y - z·w`
+fn cross(x: &Frac, y: &Frac, z: &Frac, w: &Frac) -> Result<Frac, Overflow>
+    ensures value { IsFormula (cross_parts x.now y.now z.now w.now) (x.now *ℚ y.now -ℚ z.now *ℚ w.now) result }
+{
+    let p = x.mul(y)?;
+    let q = z.mul(w)?;
+    p.sub(&q)
+}
+
+// The numbers of a way from (x0, y0) that goes `ex` to the east and `ey` to the north.
+fn foot_by(x0: &Frac, y0: &Frac, ex: &Frac, ey: &Frac) -> Result<Foot, Overflow>
+    ensures value { IsFormula (foot_by_parts x0.now y0.now ex.now ey.now) (foot_by x0.now y0.now ex.now ey.now) result }
+{
+    let length = dot(ex, ex, ey, ey)?;
+    let along = dot(x0, ex, y0, ey)?;
+    let beyond = length.add(&along)?;
+    let across = cross(x0, ey, y0, ex)?;
+    Ok(Foot {
+        length,
+        along,
+        beyond,
+        across,
+    })
+}
+
+// Whether the nearest point lies strictly between the ends.
+fn is_between(foot: &Foot) -> bool
+    ensures value { result ≡ is_between foot.now }
+{
+    foot.along.is_before(&Frac::zero()) && Frac::zero().is_before(&foot.beyond)
+}
+
+// The number without its sign.
+#[tactic(auto, unfolding(mob_quadratic::specs::Quadratic::absolute))]
+fn absolute(number: &Frac) -> Frac
+    ensures value { result ≡ absolute number.now }
+{
+    if number.is_before(&Frac::zero()) {
+        return number.negate();
+    }
+    *number
+}
+
+// Whether the nearest point lies between the ends, and the square of its length is at most `square`.
+fn foot_reaches(foot: &Foot, square: &Frac) -> Result<bool, Overflow>
+    requires sum { foot.now.beyond ≡ foot.now.length +ℚ foot.now.along }
+    ensures value { IsFormula (reach_quotients square.now foot.now) (foot_reaches square.now foot.now) result }
+{
+    if !is_between(foot) {
+        return Ok(false);
+    }
+    let height = foot.across.div(&foot.length)?;
+    if foot.across.is_same(&Frac::zero()) {
+        return Ok(true);
+    }
+    let bound = square.div(&foot.across)?;
+    Ok(!absolute(&bound).is_before(&absolute(&height)))
+}
+
+// The square of the length of the nearest point, where it lies between the ends.
+fn foot_square(foot: &Foot) -> Result<Option<Frac>, Overflow>
+    requires sum { foot.now.beyond ≡ foot.now.length +ℚ foot.now.along }
+    ensures value { IsFormula (square_quotients foot.now) (foot_square foot.now) result }
+{
+    if !is_between(foot) {
+        return Ok(None);
+    }
+    let height = foot.across.div(&foot.length)?;
+    Ok(Some(foot.across.mul(&height)?))
+}
+
+/// Whether the nearest point of a leg lies strictly between its ends, and the square of its length is at most `square`.
+pub fn reaches_between(leg: &Leg, square: &Frac) -> Result<bool, Overflow>
+    ensures value { IsFormula (within_parts square.now leg.now.x0 leg.now.y0 leg.now.x1 leg.now.y1) (foot_reaches square.now (foot_of leg.now)) result }
+{
+    let ex = leg.x1.sub(&leg.x0)?;
+    let ey = leg.y1.sub(&leg.y0)?;
+    match foot_by(&leg.x0, &leg.y0, &ex, &ey) {
+        Ok(foot) => foot_reaches(&foot, square),
+        Err(fault) => Err(fault),
+    }
+}
+
+/// The square of the length of the nearest point of a leg, where it lies strictly between its ends.
+pub fn square_between(leg: &Leg) -> Result<Option<Frac>, Overflow>
+    ensures value { IsFormula (approach_parts leg.now.x0 leg.now.y0 leg.now.x1 leg.now.y1) (foot_square (foot_of leg.now)) result }
+{
+    let ex = leg.x1.sub(&leg.x0)?;
+    let ey = leg.y1.sub(&leg.y0)?;
+    match foot_by(&leg.x0, &leg.y0, &ex, &ey) {
+        Ok(foot) => foot_square(&foot),
+        Err(fault) => Err(fault),
+    }
+}

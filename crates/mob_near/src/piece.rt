@@ -1,0 +1,111 @@
+//! How near two points come on one piece of time.
+ghost use Rattle.std.specs.Prelude.{◌≡◌, ◌&&◌, ◌||◌, true, IfOk};
+ghost use Rattle.mob_ratio.specs.Order.{before, up_to};
+ghost use Rattle.mob_ratio.specs.Sign.{nil};
+ghost use Rattle.mob_slice.specs.Entries.{IsDecided};
+ghost use Rattle.mob_slice.specs.Sides.{HoldsPiece, piece_of};
+ghost use Rattle.mob_near.specs.Entries.{entries_of_reach, entries_of_approach};
+ghost use Rattle.mob_near.specs.Legs.{approach_by, lesser, piece_reaches, piece_approach, reaches_by};
+
+use crate::foot::{reaches_between, square_between};
+use crate::leg::{Squares, leg_on, squares_at_ends};
+use mob_frac::Frac;
+use mob_slice::{Formula, Passed, Piece, PlaneLine};
+use mob_span::Span;
+use std::alloc::Global;
+
+// Whether the bound is reached at some instant of a span longer than one, by the squares at its ends and whether the nearest point reaches it.
+fn reaches_by(span: &Span, squares: &Squares, square: &Frac, between: bool) -> bool
+    ensures value { result ≡ reaches_by square.now span.now.lower_inc span.now.upper_inc squares.now between }
+{
+    let at_lower = !square.is_before(&squares.first);
+    let at_upper = !square.is_before(&squares.last);
+    squares.first.is_before(square)
+        || squares.last.is_before(square)
+        || (span.lower_inc() && at_lower)
+        || (span.upper_inc() && at_upper)
+        || (at_lower && at_upper)
+        || between
+}
+
+/// Whether the square of the distance is at most `square` at some instant of the piece.
+///
+/// `Passed` names the formula of the first entry that does not fit: F1 at the ends of the piece, F2, the difference there, F6, the squares
+/// there, and F5, the nearest point between.
+pub fn piece_reaches(
+    alloc: Global,
+    piece: &Piece<'_, PlaneLine, PlaneLine>,
+    square: &Frac,
+) -> Result<bool, Passed>
+    requires holds { HoldsPiece (λ c. c.from) (λ c. c.to) (λ c. c.from) (λ c. c.to) (piece_of piece.now) }
+    ensures value { IfOk result (λ b. b ≡ piece_reaches square.now (piece_of piece.now)) }
+    ensures first { IsDecided (entries_of_reach square.now (piece_of piece.now)) result }
+{
+    let leg = match leg_on(alloc, piece) {
+        Ok(leg) => leg,
+        Err(passed) => return Err(passed),
+    };
+    let squares = match squares_at_ends(&leg) {
+        Ok(squares) => squares,
+        Err(passed) => return Err(passed),
+    };
+    if !piece.span.is_long() {
+        return Ok(!square.is_before(&squares.first));
+    }
+    match reaches_between(&leg, square) {
+        Ok(between) => Ok(reaches_by(&piece.span, &squares, square, between)),
+        Err(_) => Err(Passed {
+            formula: Formula::F5,
+        }),
+    }
+}
+
+/// The lesser one of two numbers.
+pub fn lesser(a: Frac, b: Frac) -> Frac
+    ensures value { result ≡ lesser a b }
+{
+    if a.is_before(&b) {
+        return a;
+    }
+    b
+}
+
+// The least square: that of the nearest point, else the lesser one at an end.
+fn approach_by(squares: &Squares, between: Option<Frac>) -> Frac
+    ensures value { result ≡ approach_by squares.now between }
+{
+    match between {
+        Some(square) => square,
+        None => lesser(squares.last, squares.first),
+    }
+}
+
+/// The greatest lower bound of the square of the distance on the piece.
+///
+/// `Passed` names the formula of the first entry that does not fit, as that of `piece_reaches`.
+pub fn piece_approach(
+    alloc: Global,
+    piece: &Piece<'_, PlaneLine, PlaneLine>,
+) -> Result<Frac, Passed>
+    requires holds { HoldsPiece (λ c. c.from) (λ c. c.to) (λ c. c.from) (λ c. c.to) (piece_of piece.now) }
+    ensures value { IfOk result (λ m. m ≡ piece_approach (piece_of piece.now)) }
+    ensures first { IsDecided (entries_of_approach (piece_of piece.now)) result }
+{
+    let leg = match leg_on(alloc, piece) {
+        Ok(leg) => leg,
+        Err(passed) => return Err(passed),
+    };
+    let squares = match squares_at_ends(&leg) {
+        Ok(squares) => squares,
+        Err(passed) => return Err(passed),
+    };
+    if !piece.span.is_long() {
+        return Ok(squares.first);
+    }
+    match square_between(&leg) {
+        Ok(between) => Ok(approach_by(&squares, between)),
+        Err(_) => Err(Passed {
+            formula: Formula::F5,
+        }),
+    }
+}
