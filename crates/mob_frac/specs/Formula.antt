@@ -45,6 +45,18 @@ product_parts x y = (x *ℚ y) ∷ []
 abbrev pub quotient_parts : Ratio → Ratio → List Ratio
 quotient_parts x y = (x /ℚ y) ∷ []
 
+-- F4, the turn of the point (x, y) against the way from (x0, y0) to (x1, y1): the cross product of that way and of the way to
+-- the point (Cormen, Leiserson, Rivest and Stein, Introduction to Algorithms, section "Line-segment properties").
+abbrev pub parts_of_turn : Ratio → Ratio → Ratio → Ratio → Ratio → Ratio → List Ratio
+parts_of_turn x0 y0 x1 y1 x y =
+    let c = x1 -ℚ x0 in
+    let d = y -ℚ y0 in
+    let m = c *ℚ d in
+    let e = y1 -ℚ y0 in
+    let f = x -ℚ x0 in
+    let n = e *ℚ f in
+    c ∷ d ∷ m ∷ e ∷ f ∷ n ∷ (m -ℚ n) ∷ []
+
 -- F7, an area made wider: each of its sides moved outward by d, in the order in which they are written.
 abbrev pub expansion_parts : Ratio → Ratio → Ratio → Ratio → Ratio → List Ratio
 expansion_parts xmin xmax ymin ymax d = (xmin -ℚ d) ∷ (xmax +ℚ d) ∷ (ymin -ℚ d) ∷ (ymax +ℚ d) ∷ []

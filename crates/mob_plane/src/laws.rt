@@ -1,6 +1,15 @@
-//! What holds of every point. No code runs here.
+//! What holds of every point and every polygon. No code runs here.
+ghost use Rattle.std.specs.Prelude.{◌≡◌, true, List};
+ghost use Rattle.mob_ratio.specs.Ratio.{◌-ℚ◌};
+ghost use Rattle.mob_ratio.specs.Order.{before};
+ghost use Rattle.mob_ratio.specs.Sign.{sign_of};
+ghost use Rattle.mob_plane.specs.Turns.{turn};
+ghost use Rattle.mob_plane.specs.Rings.{all_edges};
+ghost use Rattle.mob_plane.specs.Membership.{inside, lies_on, passes_height, passes_right, crossing_at};
+ghost use Rattle.mob_plane.specs.EdgeWise.{signs_at, signs_to, is_on, crosses, inside_by, same_order};
+ghost use Rattle.mob_plane.specs.declared.point.Point.{Point as PointOf};
 
-use crate::Point;
+use crate::{EdgeSigns, Point, Polygon, RingFault, Tally};
 use std::marker::{Send, Sync};
 
 // Values of the type may be sent to another thread, and several threads may read one.
@@ -10,3 +19,26 @@ fn crosses_threads<T: Send + Sync>() {}
 pub fn points_cross_threads() {
     crosses_threads::<Point>();
 }
+
+/// So do polygons, what refuses one, and what is known of a point after some edges.
+pub fn polygons_cross_threads() {
+    crosses_threads::<Polygon>();
+    crosses_threads::<RingFault>();
+    crosses_threads::<EdgeSigns>();
+    crosses_threads::<Tally>();
+}
+
+/// Where an edge has one end above a point and the other is not, it crosses the height of the point to the right of it exactly where
+/// the point turns from the edge as the edge rises: to the left where it goes up, to the right where it goes down.
+pub fn crossings_by_turns()
+    ensures right { (a b p : PointOf) → passes_height p (a, b) ≡ true → before p.x (crossing_at (a, b) p.y) ≡ same_order (sign_of (b.y -ℚ a.y)) (sign_of (turn a b p)) }
+{}
+
+/// Whether a point lies on an edge, passes it and is in a polygon is told by signs alone: those of its turns with the edges, and of
+/// its differences to their ends. So two points that lie in the same ways to all edges are in the polygon or not together.
+pub fn membership_by_signs()
+    ensures on { (a b p : PointOf) → lies_on p (a, b) ≡ is_on (signs_at p a b) }
+    ensures right { (a b p : PointOf) → passes_right p (a, b) ≡ crosses (signs_at p a b) }
+    ensures within { (rings : List (List PointOf)) (p : PointOf) → inside rings p ≡ inside_by (signs_to (all_edges rings) p) }
+    ensures same { (rings : List (List PointOf)) (p q : PointOf) → signs_to (all_edges rings) p ≡ signs_to (all_edges rings) q → inside rings p ≡ inside rings q }
+{}

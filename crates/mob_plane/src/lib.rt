@@ -1,7 +1,12 @@
-//! Points of the plane, exactly: their coordinates are fractions.
+//! Points of the plane, exactly, and polygons: their coordinates are fractions.
 #![tactic(auto)]
 
+mod edges;
 pub mod laws;
 mod point;
+mod polygons;
+mod rectangle;
 
+pub use edges::{EdgeSigns, Tally, crosses, is_in, is_on, turn, with_edge};
 pub use point::Point;
+pub use polygons::{Polygon, RingFault};

@@ -1,0 +1,41 @@
+-- The least and the greatest coordinates of points.
+use Rattle.std.specs.Prelude.{◌≡◌, Bool, true, cond, List, Any, All}
+use Rattle.std.specs.List.{flat_map}
+use Rattle.mob_ratio.specs.Ratio.{Ratio}
+use Rattle.mob_ratio.specs.Order.{before, up_to}
+use Rattle.mob_plane.specs.declared.point.Point.{Point}
+use Rattle.mob_plane.specs.declared.rectangle.Corners.{Corners}
+
+-- the points of all rings
+abbrev pub all_points : List (List Point) → List Point
+all_points rings = flat_map (λ r. r) rings
+
+-- the least of the coordinates is x: some point has it, and none has a lesser one
+pub record IsLeastAmong (coordinate : Point → Ratio) (points : List Point) (x : Ratio) : Type 0 where
+  pub some : Any (λ p. coordinate p ≡ x) points
+  pub none_less : All (λ p. up_to x (coordinate p) ≡ true) points
+
+-- the greatest of the coordinates is x
+pub record IsGreatestAmong (coordinate : Point → Ratio) (points : List Point) (x : Ratio) : Type 0 where
+  pub some : Any (λ p. coordinate p ≡ x) points
+  pub none_greater : All (λ p. up_to (coordinate p) x ≡ true) points
+
+-- the corners of the least rectangle that has all points
+pub record AreCorners (points : List Point) (least greatest : Point) : Type 0 where
+  pub least_x : IsLeastAmong (λ p. p.x) points least.x
+  pub least_y : IsLeastAmong (λ p. p.y) points least.y
+  pub greatest_x : IsGreatestAmong (λ p. p.x) points greatest.x
+  pub greatest_y : IsGreatestAmong (λ p. p.y) points greatest.y
+
+-- the corners that are widened over one point more
+abbrev pub lesser : Ratio → Ratio → Ratio
+lesser x y = cond (before y x) y x
+
+abbrev pub greater : Ratio → Ratio → Ratio
+greater x y = cond (before x y) y x
+
+abbrev pub widened : Corners → Point → Corners
+widened c p = record {
+  least = record { x = lesser c.least.x p.x; y = lesser c.least.y p.y };
+  greatest = record { x = greater c.greatest.x p.x; y = greater c.greatest.y p.y };
+}

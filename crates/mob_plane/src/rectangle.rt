@@ -1,0 +1,67 @@
+//! The least rectangle that has some points.
+ghost use Rattle.std.specs.Prelude.{◌≡◌, fold};
+ghost use Rattle.mob_ratio.specs.Order.{before};
+ghost use Rattle.mob_plane.specs.Corners.{all_points, widened, lesser, greater};
+ghost use Rattle.mob_plane.specs.Rings.{rings_of};
+
+use crate::Point;
+use mob_frac::Frac;
+
+/// A rectangle by two opposite corners.
+#[derive(Clone, Copy, Debug, Drop)]
+pub struct Corners {
+    /// Its least coordinates.
+    pub least: Point,
+    /// Its greatest coordinates.
+    pub greatest: Point,
+}
+
+fn lesser(x: &Frac, y: &Frac) -> Frac
+    ensures value { result ≡ lesser x.now y.now }
+{
+    if y.is_before(x) { *y } else { *x }
+}
+
+fn greater(x: &Frac, y: &Frac) -> Frac
+    ensures value { result ≡ greater x.now y.now }
+{
+    if x.is_before(y) { *y } else { *x }
+}
+
+/// The least rectangle that has this one and a point.
+fn widened(corners: &Corners, p: &Point) -> Corners
+    ensures value { result ≡ widened corners.now p.now }
+{
+    Corners {
+        least: Point {
+            x: lesser(&corners.least.x, &p.x),
+            y: lesser(&corners.least.y, &p.y),
+        },
+        greatest: Point {
+            x: greater(&corners.greatest.x, &p.x),
+            y: greater(&corners.greatest.y, &p.y),
+        },
+    }
+}
+
+/// The least rectangle that has this one and the points of a ring.
+fn over_ring(first: &Corners, ring: &[Point]) -> Corners
+    ensures value { result ≡ fold widened first.now ring.now }
+{
+    let mut corners = *first;
+    for p in ring {
+        corners = widened(&corners, p);
+    }
+    corners
+}
+
+/// The least rectangle that has this one and the points of all rings.
+pub fn over_rings(first: &Corners, rings: &[Vec<Point>]) -> Corners
+    ensures value { result ≡ fold widened first.now (all_points (rings_of rings.now)) }
+{
+    let mut corners = *first;
+    for ring in rings {
+        corners = over_ring(&corners, ring.as_slice());
+    }
+    corners
+}
