@@ -1,0 +1,2 @@
+pub mod InAreas
+pub mod InTime

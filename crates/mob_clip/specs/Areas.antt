@@ -1,0 +1,46 @@
+-- Rectangles: membership by the signs of the differences to the sides.
+use Rattle.std.specs.Prelude.{◌≡◌, Bool, true, false, not, ◌&&◌, List, [], ◌∷◌, ◌++◌}
+use Rattle.std.specs.declared.cmp.Ordering.{Ordering}
+use Rattle.std.specs.Ordering.{is_lt, is_gt}
+use Rattle.mob_ratio.specs.Ratio.{Ratio, ◌-ℚ◌}
+use Rattle.mob_span.specs.Span.{SpanOf}
+use Rattle.mob_slice.specs.Sides.{at_ends}
+use Rattle.mob_slice.specs.Cut.{slice_value}
+use Rattle.mob_slice.specs.Lines.{plane_value_of, plane_parts_of}
+use Rattle.mob_slice.specs.Entries.{Entry}
+use Rattle.mob_slice.specs.declared.slice.Slice.{Slice}
+use Rattle.mob_plane.specs.declared.point.Point.{Point}
+use Rattle.mob_slice.specs.declared.line.PlaneLine.{PlaneLine}
+use Rattle.mob_slice.specs.declared.formula.Formula.TheVariants.{F2}
+use Rattle.mob_cells.specs.declared.linear.Ends.{Ends}
+use Rattle.mob_cells.specs.Kept.{entries_of_cuts}
+use Rattle.mob_stbox.specs.declared.area.Area.{Area}
+use Rattle.mob_clip.specs.declared.areas.Sides.{Sides}
+
+-- F2: the differences of a point to the four sides
+abbrev pub side_parts : Area → Point → List Ratio
+side_parts a p = (p.x -ℚ a.xmin) ∷ (p.x -ℚ a.xmax) ∷ (p.y -ℚ a.ymin) ∷ (p.y -ℚ a.ymax) ∷ []
+
+abbrev pub sides_of : Area → Point → Sides
+sides_of a p = record { left = p.x -ℚ a.xmin; right = p.x -ℚ a.xmax; low = p.y -ℚ a.ymin; high = p.y -ℚ a.ymax }
+
+-- the linear functions that are these differences on the way from p to q
+abbrev pub area_ends : Area → Point → Point → List Ends
+area_ends a p q =
+    record { at_lower = p.x -ℚ a.xmin; at_upper = q.x -ℚ a.xmin }
+    ∷ record { at_lower = p.x -ℚ a.xmax; at_upper = q.x -ℚ a.xmax }
+    ∷ record { at_lower = p.y -ℚ a.ymin; at_upper = q.y -ℚ a.ymin }
+    ∷ record { at_lower = p.y -ℚ a.ymax; at_upper = q.y -ℚ a.ymax }
+    ∷ []
+
+-- membership by the signs of the four differences
+abbrev pub in_area_by : List Ordering → Bool
+in_area_by (left ∷ right ∷ low ∷ high ∷ []) = not (is_lt left) && not (is_gt right) && (not (is_lt low) && not (is_gt high))
+in_area_by os = false
+
+-- The entries of space on the piece r of the slice s: F2, the differences to the sides at the two ends of the piece, then
+-- F3, their roots on the piece, then F1, the values of the slice at these roots.
+abbrev pub entries_of_area : Area → Slice PlaneLine → SpanOf → List Entry
+entries_of_area a s r =
+    record { formula = F2; parts = at_ends (λ t. side_parts a (slice_value plane_value_of s t)) r }
+    ∷ entries_of_cuts plane_parts_of s r (area_ends a (slice_value plane_value_of s r.lower) (slice_value plane_value_of s r.upper))

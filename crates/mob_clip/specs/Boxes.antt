@@ -1,0 +1,49 @@
+-- The formulas of a restriction by a box, and what is left around its time.
+use Rattle.std.specs.Prelude.{◌≡◌, Bool, true, false, not, cond, ◌&&◌, List, [], ◌∷◌, ◌++◌, Option, Some, None}
+use Rattle.mob_ratio.specs.Ratio.{Ratio}
+use Rattle.mob_span.specs.Span.{SpanOf, has, has_instant}
+use Rattle.mob_span.specs.Meet.{meet_of}
+use Rattle.mob_slice.specs.Sides.{at_ends}
+use Rattle.mob_slice.specs.Cut.{slice_value, slice_parts}
+use Rattle.mob_slice.specs.Lines.{plane_value_of, plane_parts_of}
+use Rattle.mob_slice.specs.Entries.{Entry}
+use Rattle.mob_slice.specs.declared.slice.Slice.{Slice}
+use Rattle.mob_plane.specs.declared.point.Point.{Point}
+use Rattle.mob_slice.specs.declared.line.PlaneLine.{PlaneLine}
+use Rattle.mob_slice.specs.declared.formula.Formula.TheVariants.{F1}
+use Rattle.mob_cells.specs.Kept.{AreKept}
+use Rattle.mob_cells.specs.Restricted.{kept_value}
+use Rattle.mob_stbox.specs.Boxes.{BoxOf}
+use Rattle.mob_cells.specs.Restricted.{is_wanted}
+use Rattle.mob_clip.specs.Pieces.{some_span, AreWhole}
+use Rattle.mob_clip.specs.Areas.{entries_of_area}
+use Rattle.mob_stbox.specs.declared.area.Area.{Area}
+
+-- the entries of space on the piece r of a slice; a box without space has none
+abbrev pub entries_of_space : Option Area → Slice PlaneLine → SpanOf → List Entry
+entries_of_space None s r = []
+entries_of_space (Some a) s r = entries_of_area a s r
+
+-- The entries of one slice. Where the box has a time that shares an instant with the slice: F1 of the slice at the ends of
+-- what they share, then those of space there.
+abbrev pub entries_in_time : Option SpanOf → Option Area → Slice PlaneLine → List Entry
+entries_in_time None space s = entries_of_space space s s.span
+entries_in_time (Some r) space s = cond (has_instant (meet_of s.span r)) (record { formula = F1; parts = at_ends (slice_parts plane_parts_of s) (meet_of s.span r) } ∷ entries_of_space space s (meet_of s.span r)) []
+
+abbrev pub entries_of_box : BoxOf → Slice PlaneLine → List Entry
+entries_of_box b s = entries_in_time b.time b.space s
+
+-- what of s comes before its part m, and after it
+abbrev pub front_span : SpanOf → SpanOf → SpanOf
+front_span s m = record { lower = s.lower; upper = m.lower; lower_inc = s.lower_inc; upper_inc = not m.lower_inc }
+
+abbrev pub back_span : SpanOf → SpanOf → SpanOf
+back_span s m = record { lower = m.upper; upper = s.upper; lower_inc = not m.upper_inc; upper_inc = s.upper_inc }
+
+-- the slices are `middle`, behind what is left in front of the part m, and before what is left after it
+pub record AreAround (s : Slice PlaneLine) (want : Bool) (m : SpanOf) (middle v : List (Slice PlaneLine)) : Type 0 where
+  pub front : List (Slice PlaneLine)
+  pub back : List (Slice PlaneLine)
+  pub in_front : AreWhole s (is_wanted want false) (some_span (front_span s.span m)) front
+  pub behind : AreWhole s (is_wanted want false) (some_span (back_span s.span m)) back
+  pub all : v ≡ (front ++ middle) ++ back

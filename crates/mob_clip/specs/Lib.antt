@@ -1,0 +1,9 @@
+pub mod Areas
+pub mod Boxes
+pub mod Polygons
+pub mod Sides
+pub mod Known
+pub mod Roots
+pub mod Steps
+pub mod Signs
+pub mod Pieces

@@ -1,0 +1,46 @@
+-- What is left of a slice on pieces of its span, and a piece before and behind an instant.
+use Rattle.std.specs.Prelude.{◌≡◌, Bool, true, false, cond, not, ◌||◌, ◌&&◌, List, [], Option, Some, None, MatchOption}
+use Rattle.mob_ratio.specs.Ratio.{Ratio}
+use Rattle.mob_ratio.specs.Order.{before}
+use Rattle.mob_frac.specs.Formula.{AllFit}
+use Rattle.mob_span.specs.Span.{SpanOf, has_instant}
+use Rattle.mob_span.specs.Neighbours.{is_inside}
+use Rattle.mob_slice.specs.Sides.{at_ends}
+use Rattle.mob_slice.specs.Cut.{slice_value, slice_parts}
+use Rattle.mob_slice.specs.Lines.{plane_value_of, plane_parts_of}
+use Rattle.mob_slice.specs.declared.slice.Slice.{Slice}
+use Rattle.mob_slice.specs.declared.line.PlaneLine.{PlaneLine}
+use Rattle.mob_cells.specs.Kept.{AreKept}
+use Rattle.mob_plane.specs.declared.edges.Tally.{Tally}
+
+-- the point is inside the polygon, by what is known of it
+abbrev pub is_known_in : Tally → Bool
+is_known_in t = t.on || t.odd
+
+-- the span, where it has an instant
+abbrev pub some_span : SpanOf → Option SpanOf
+some_span r = cond (has_instant r) (Some r) None
+
+-- what of c is before r, with r where it is included, and what is behind
+abbrev pub left_span : SpanOf → Ratio → Bool → SpanOf
+left_span c r included = cond (before c.upper r) c (record { lower = c.lower; upper = r; lower_inc = c.lower_inc; upper_inc = included && (before r c.upper || c.upper_inc) })
+
+abbrev pub right_span : SpanOf → Ratio → Bool → SpanOf
+right_span c r included = cond (before r c.lower) c (record { lower = r; upper = c.upper; lower_inc = not included && (before c.lower r || c.lower_inc); upper_inc = c.upper_inc })
+
+abbrev pub left_piece : Option SpanOf → Ratio → Bool → Option SpanOf
+left_piece None r included = None
+left_piece (Some c) r included = some_span (left_span c r included)
+
+abbrev pub right_piece : Option SpanOf → Ratio → Bool → Option SpanOf
+right_piece None r included = None
+right_piece (Some c) r included = some_span (right_span c r included)
+
+-- the slice has the piece, if there is one, and its values at the ends of the piece fit
+abbrev pub HoldsPiece : Slice PlaneLine → Option SpanOf → Type 0
+HoldsPiece s piece = MatchOption piece (Unit {0}) (λ r. (is_inside s.span r ≡ true) × AllFit (at_ends (slice_parts plane_parts_of s) r))
+
+-- the slices are all of s on the piece, or nothing
+abbrev pub AreWhole : Slice PlaneLine → Bool → Option SpanOf → List (Slice PlaneLine) → Type 0
+AreWhole s keeps None v = v ≡ []
+AreWhole s keeps (Some r) v = AreKept plane_value_of (λ c. c.from) (λ c. c.to) (λ t. cond keeps (Some (slice_value plane_value_of s t)) None) r v

@@ -1,0 +1,58 @@
+-- The functions of an edge on a slice, each with its root.
+use Rattle.std.specs.Prelude.{◌≡◌, List, [], ◌∷◌, ◌++◌, Option, MatchOption}
+use Rattle.std.specs.List.{AllByRecursion, flat_map}
+use Rattle.mob_ratio.specs.Ratio.{Ratio}
+use Rattle.mob_frac.specs.Formula.{AllFit}
+use Rattle.mob_span.specs.Span.{SpanOf}
+use Rattle.mob_plane.specs.declared.point.Point.{Point}
+use Rattle.mob_slice.specs.Cut.{slice_parts}
+use Rattle.mob_slice.specs.Lines.{plane_parts_of}
+use Rattle.mob_slice.specs.declared.slice.Slice.{Slice}
+use Rattle.mob_slice.specs.declared.line.PlaneLine.{PlaneLine}
+use Rattle.mob_cells.specs.declared.linear.Ends.{Ends}
+use Rattle.mob_cells.specs.declared.signs.Placed.{Placed}
+use Rattle.mob_cells.specs.Roots.{root_of, listed}
+use Rattle.mob_cells.specs.Cells.{IsPlaced}
+use Rattle.mob_clip.specs.declared.sides.EdgeEnds.{EdgeEnds}
+use Rattle.mob_clip.specs.declared.roots.EdgePlaced.{EdgePlaced}
+use Rattle.mob_clip.specs.Sides.{beside, with_turn}
+
+abbrev pub listed_ends : EdgeEnds → List Ends
+listed_ends g = g.turn ∷ g.x_a ∷ g.x_b ∷ g.y_a ∷ g.y_b ∷ []
+
+-- a function with its root
+abbrev pub place : SpanOf → Ends → Placed
+place s f = record { ends = f; root = root_of s f }
+
+abbrev pub place_edge : SpanOf → EdgeEnds → EdgePlaced
+place_edge s g = record { turn = place s g.turn; x_a = place s g.x_a; x_b = place s g.x_b; y_a = place s g.y_a; y_b = place s g.y_b }
+
+-- those of an edge, on a slice
+abbrev pub placed_edge : Slice PlaneLine → Point × Point → EdgePlaced
+placed_edge s e = place_edge s.span (with_turn s.course.from s.course.to (beside s.course.from s.course.to e))
+
+-- each root is that of its function on the span, which has equal ends on a span of one instant
+pub record IsPlacedEdge (s : SpanOf) (g : EdgePlaced) : Type 0 where
+  pub turn : IsPlaced s g.turn
+  pub x_a : IsPlaced s g.x_a
+  pub x_b : IsPlaced s g.x_b
+  pub y_a : IsPlaced s g.y_a
+  pub y_b : IsPlaced s g.y_b
+
+-- the parts of F1 at a root, if there is one, and at those of an edge
+abbrev pub cut_parts : Slice PlaneLine → Option Ratio → List Ratio
+cut_parts s root = flat_map (slice_parts plane_parts_of s) (listed root)
+
+abbrev pub edge_cuts : Slice PlaneLine → EdgePlaced → List Ratio
+edge_cuts s g = cut_parts s g.turn.root ++ cut_parts s g.x_a.root ++ cut_parts s g.x_b.root ++ cut_parts s g.y_a.root ++ cut_parts s g.y_b.root
+
+-- the parts of a formula fit at each root of an edge
+abbrev pub FitsRoot : (Ratio → List Ratio) → Placed → Type 0
+FitsRoot parts p = MatchOption p.root (Unit {0}) (λ r. AllFit (parts r))
+
+pub record CutsFit (parts : Ratio → List Ratio) (g : EdgePlaced) : Type 0 where
+  pub turn : FitsRoot parts g.turn
+  pub x_a : FitsRoot parts g.x_a
+  pub x_b : FitsRoot parts g.x_b
+  pub y_a : FitsRoot parts g.y_a
+  pub y_b : FitsRoot parts g.y_b

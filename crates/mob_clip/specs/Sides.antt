@@ -1,0 +1,43 @@
+-- How a point on a straight way, from p to q, lies to edges.
+use Rattle.std.specs.Prelude.{◌≡◌, List, [], ◌∷◌, ◌++◌}
+use Rattle.mob_ratio.specs.Ratio.{Ratio, ◌-ℚ◌}
+use Rattle.mob_frac.specs.Formula.{AllFit}
+use Rattle.mob_plane.specs.declared.point.Point.{Point}
+use Rattle.mob_plane.specs.Turns.{turn, turn_parts}
+use Rattle.mob_slice.specs.declared.formula.Formula.{Formula}
+use Rattle.mob_slice.specs.declared.formula.OpFault.{OpFault}
+use Rattle.mob_slice.specs.declared.formula.OpFault.TheVariants.{Passed, NoMemory}
+use Rattle.mob_cells.specs.declared.linear.Ends.{Ends}
+use Rattle.mob_clip.specs.declared.sides.ToPoint.{ToPoint}
+use Rattle.mob_clip.specs.declared.sides.Beside.{Beside}
+use Rattle.mob_clip.specs.declared.sides.EdgeEnds.{EdgeEnds}
+
+-- the differences to the point v, by coordinate, and their parts of F2
+abbrev pub to_point : Point → Point → Point → ToPoint
+to_point p q v = record { x = record { at_lower = p.x -ℚ v.x; at_upper = q.x -ℚ v.x }; y = record { at_lower = p.y -ℚ v.y; at_upper = q.y -ℚ v.y } }
+
+abbrev pub point_parts : Point → Point → Point → List Ratio
+point_parts p q v = (p.x -ℚ v.x) ∷ (q.x -ℚ v.x) ∷ (p.y -ℚ v.y) ∷ (q.y -ℚ v.y) ∷ []
+
+-- an edge with the differences to its two ends
+abbrev pub beside : Point → Point → Point × Point → Beside
+beside p q e = record { edge = e; to_a = to_point p q e.0; to_b = to_point p q e.1 }
+
+abbrev pub beside_parts : Point → Point → Point × Point → List Ratio
+beside_parts p q e = point_parts p q e.0 ++ point_parts p q e.1
+
+-- the turns with an edge, and their parts of F4
+abbrev pub turning : Point → Point → Point × Point → Ends
+turning p q e = record { at_lower = turn e.0 e.1 p; at_upper = turn e.0 e.1 q }
+
+abbrev pub turning_parts : Point → Point → Point × Point → List Ratio
+turning_parts p q e = turn_parts e.0 e.1 p ++ turn_parts e.0 e.1 q
+
+-- all functions of an edge
+abbrev pub with_turn : Point → Point → Beside → EdgeEnds
+with_turn p q b = record { turn = turning p q b.edge; x_a = b.to_a.x; x_b = b.to_b.x; y_a = b.to_a.y; y_b = b.to_b.y }
+
+-- why a list of formulas was not computed
+abbrev pub IsPartFault : Formula → List Ratio → OpFault → Type 0
+IsPartFault formula parts (Passed f) = (f ≡ formula) × (¬ AllFit parts)
+IsPartFault formula parts NoMemory = Unit {0}

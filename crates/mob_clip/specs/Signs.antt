@@ -1,0 +1,91 @@
+-- Signs that change, and what is known of a point by the signs of some edges.
+use Rattle.std.specs.Prelude.{◌≡◌, false, cond, ◌||◌, List, [], ◌∷◌, Option, Some, None, MatchOption}
+use Rattle.std.specs.declared.cmp.Ordering.{Ordering}
+use Rattle.std.specs.declared.cmp.Ordering.TheVariants.{Less, Equal, Greater}
+use Rattle.mob_ratio.specs.Ratio.{Ratio}
+use Rattle.mob_ratio.specs.Order.{before}
+use Rattle.mob_ratio.specs.Sign.{sign_of}
+use Rattle.mob_frac.specs.Formula.{AllFit}
+use Rattle.mob_span.specs.Span.{SpanOf}
+use Rattle.mob_cells.specs.Roots.{function_at}
+use Rattle.mob_plane.specs.Membership.{is_one_alone}
+use Rattle.mob_plane.specs.declared.edges.EdgeSigns.{EdgeSigns}
+use Rattle.mob_plane.specs.declared.edges.Tally.{Tally}
+use Rattle.mob_plane.specs.EdgeWise.{with_edge, none_yet}
+use Rattle.mob_clip.specs.declared.membership.SignChange.{SignChange}
+use Rattle.mob_clip.specs.declared.membership.Place.{Place}
+use Rattle.mob_clip.specs.declared.membership.Place.TheVariants.{Turn, XA, XB, YA, YB}
+use Rattle.mob_clip.specs.declared.steps.Change.{Change}
+use Rattle.mob_clip.specs.declared.roots.EdgePlaced.{EdgePlaced}
+
+-- the sign at the instant t, which is Equal where it changes
+abbrev pub turned_at : Ordering → Option Ratio → Ordering → Ratio → Ordering
+turned_at first None behind t = first
+turned_at first (Some r) behind t = cond (before t r) first (cond (before r t) behind Equal)
+
+abbrev pub sign_at : SignChange → Ratio → Ordering
+sign_at c t = turned_at c.first c.at c.behind t
+
+-- the parts of a formula fit at the instant of the change
+abbrev pub FitsChange : (Ratio → List Ratio) → SignChange → Type 0
+FitsChange parts c = MatchOption c.at (Unit {0}) (λ r. AllFit (parts r))
+
+-- one of two signs, of which one at least is Equal
+abbrev pub joined : Ordering → Ordering → Ordering
+joined Less o = Less
+joined Equal o = o
+joined Greater o = Greater
+
+-- the signs of an edge, of which some are known by the first and others by the second
+abbrev pub joined_signs : EdgeSigns → EdgeSigns → EdgeSigns
+joined_signs a b = record { turn = joined a.turn b.turn; x_a = joined a.x_a b.x_a; x_b = joined a.x_b b.x_b; y_a = joined a.y_a b.y_a; y_b = joined a.y_b b.y_b }
+
+-- the sign o at one place, and Equal at the others
+abbrev pub only : Place → Ordering → EdgeSigns
+only Turn o = record { turn = o; x_a = Equal; x_b = Equal; y_a = Equal; y_b = Equal }
+only XA o = record { turn = Equal; x_a = o; x_b = Equal; y_a = Equal; y_b = Equal }
+only XB o = record { turn = Equal; x_a = Equal; x_b = o; y_a = Equal; y_b = Equal }
+only YA o = record { turn = Equal; x_a = Equal; x_b = Equal; y_a = o; y_b = Equal }
+only YB o = record { turn = Equal; x_a = Equal; x_b = Equal; y_a = Equal; y_b = o }
+
+-- the sign between two ends of these signs, where no root lies between them
+abbrev pub ends_change : SpanOf → Ordering → Ordering → SignChange
+ends_change s Equal Equal = record { first = Equal; at = None; behind = Equal }
+ends_change s Equal u = record { first = u; at = Some s.lower; behind = u }
+ends_change s l Equal = record { first = l; at = Some s.upper; behind = l }
+ends_change s l u = record { first = l; at = None; behind = l }
+
+-- how a point lies to an edge at the instant t
+abbrev pub signs_on : SpanOf → Ratio → EdgePlaced → EdgeSigns
+signs_on s t g = record {
+  turn = sign_of (function_at s g.turn.ends t);
+  x_a = sign_of (function_at s g.x_a.ends t);
+  x_b = sign_of (function_at s g.x_b.ends t);
+  y_a = sign_of (function_at s g.y_a.ends t);
+  y_b = sign_of (function_at s g.y_b.ends t);
+}
+
+-- and to its ends alone
+abbrev pub signs_beside : SpanOf → Ratio → EdgePlaced → EdgeSigns
+signs_beside s t g = record {
+  turn = Equal;
+  x_a = sign_of (function_at s g.x_a.ends t);
+  x_b = sign_of (function_at s g.x_b.ends t);
+  y_a = sign_of (function_at s g.y_a.ends t);
+  y_b = sign_of (function_at s g.y_b.ends t);
+}
+
+-- what is known of a point by one edge
+abbrev pub edge_tally : EdgeSigns → Tally
+edge_tally s = with_edge none_yet s
+
+abbrev pub tally_change : Change EdgeSigns → Change Tally
+tally_change c = record { at = c.at; there = edge_tally c.there; behind = edge_tally c.behind }
+
+-- what is known of a point by some edges and by others
+abbrev pub tally_both : Tally → Tally → Tally
+tally_both a b = record { on = a.on || b.on; odd = is_one_alone a.odd b.odd }
+
+abbrev pub tally_all : List Tally → Tally
+tally_all [] = record { on = false; odd = false }
+tally_all (t ∷ ts) = tally_both t (tally_all ts)

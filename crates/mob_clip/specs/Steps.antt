@@ -1,0 +1,27 @@
+-- Values that change at some instants.
+use Rattle.std.specs.Prelude.{◌≡◌, cond, List, [], ◌∷◌}
+use Rattle.std.specs.List.{AllByRecursion}
+use Rattle.mob_ratio.specs.Ratio.{Ratio}
+use Rattle.mob_ratio.specs.Order.{before}
+use Rattle.mob_frac.specs.Formula.{AllFit}
+use Rattle.mob_clip.specs.declared.steps.Change.{Change}
+use Rattle.mob_clip.specs.declared.steps.Steps.{Steps}
+
+-- x in front of the first change, and from each change on what stands behind it
+abbrev pub step_at : {T : Type 0} → T → List (Change T) → Ratio → T
+step_at x [] t = x
+step_at x (c ∷ rest) t = cond (before t c.at) x (cond (before c.at t) (step_at c.behind rest t) c.there)
+
+abbrev pub steps_at : {T : Type 0} → Steps T → Ratio → T
+steps_at s t = step_at s.first s.changes.items t
+
+-- the parts of a formula fit at the instant of each change
+abbrev pub ChangesFit : {T : Type 0} → (Ratio → List Ratio) → List (Change T) → Type 0
+ChangesFit parts changes = AllByRecursion (λ c. AllFit (parts c.at)) changes
+
+-- The change c is the next of two walks, of which left and right stand in front, and left' and right' behind it: where what follows
+-- behind it is the two taken together, so is the whole.
+pub record IsMet {T : Type 0} (mix : T → T → T) (left right : T) (xs ys : List (Change T)) (c : Change T) (left' right' : T) (xs' ys' : List (Change T)) : Type 0 where
+  pub whole : (rest : List (Change T)) (t : Ratio) → step_at (mix left' right') rest t ≡ mix (step_at left' xs' t) (step_at right' ys' t) → step_at (mix left right) (c ∷ rest) t ≡ mix (step_at left xs t) (step_at right ys t)
+  pub behind : c.behind ≡ mix left' right'
+  pub fit : (parts : Ratio → List Ratio) → ChangesFit parts xs → ChangesFit parts ys → AllFit (parts c.at) × ChangesFit parts xs' × ChangesFit parts ys'

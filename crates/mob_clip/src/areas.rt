@@ -1,0 +1,151 @@
+//! A moving point and a closed rectangle.
+
+ghost use Rattle.std.specs.Prelude.{◌≡◌, true, false, [], ◌∷◌, ◌++◌, MatchResult};
+ghost use Rattle.std.specs.List.{AllByRecursion};
+ghost use Rattle.mob_frac.specs.Formula.{AllFit, IsFormula};
+ghost use Rattle.mob_span.specs.Neighbours.{is_inside};
+ghost use Rattle.mob_slice.specs.Slices.{IsSound};
+ghost use Rattle.mob_slice.specs.Sides.{at_ends, HasValues};
+ghost use Rattle.mob_slice.specs.Cut.{slice_value, slice_parts};
+ghost use Rattle.mob_slice.specs.Lines.{plane_value_of, plane_parts_of};
+ghost use Rattle.mob_cells.specs.Gaps.{IsGapFault};
+ghost use Rattle.mob_cells.specs.Kept.{IsKeptBy};
+ghost use Rattle.mob_cells.specs.Restricted.{kept_value};
+ghost use Rattle.mob_stbox.specs.Areas.{in_area};
+ghost use Rattle.mob_clip.specs.Areas.{side_parts, sides_of, area_ends, in_area_by, entries_of_area};
+
+use mob_cells::{Ends, Test, kept};
+use mob_frac::{Frac, Overflow};
+use mob_plane::Point;
+use mob_slice::{Course, Formula, OpFault, PlaneLine, Slice};
+use mob_span::Span;
+use mob_stbox::Area;
+use std::alloc::Global;
+use std::cmp::Ordering;
+
+/// The differences of a point to the four sides.
+#[derive(Clone, Copy, Drop)]
+pub struct Sides {
+    left: Frac,
+    right: Frac,
+    low: Frac,
+    high: Frac,
+}
+
+// The differences to the sides.
+fn to_sides(area: &Area, p: &Point) -> Result<Sides, Overflow>
+    ensures value { IsFormula (side_parts area.now p.now) (sides_of area.now p.now) result }
+{
+    let left = p.x.sub(&area.xmin)?;
+    let right = p.x.sub(&area.xmax)?;
+    let low = p.y.sub(&area.ymin)?;
+    let high = p.y.sub(&area.ymax)?;
+    Ok(Sides {
+        left,
+        right,
+        low,
+        high,
+    })
+}
+
+// The linear functions by whose signs a point on the way from `p` to `q` is in the area.
+fn functions(alloc: Global, area: &Area, p: &Point, q: &Point) -> Result<Vec<Ends>, OpFault>
+    ensures functions { MatchResult result (λ v. (v.items ≡ area_ends area.now p.now q.now) × AllFit (side_parts area.now p.now ++ side_parts area.now q.now)) (IsGapFault (side_parts area.now p.now ++ side_parts area.now q.now)) }
+{
+    let Ok(from) = to_sides(area, p) else {
+        return Err(OpFault::Passed {
+            formula: Formula::F2,
+        });
+    };
+    let Ok(to) = to_sides(area, q) else {
+        return Err(OpFault::Passed {
+            formula: Formula::F2,
+        });
+    };
+    functions_of(alloc, &from, &to)
+}
+
+// The same, of the differences at both ends.
+fn functions_of(alloc: Global, from: &Sides, to: &Sides) -> Result<Vec<Ends>, OpFault>
+    ensures functions { MatchResult result (λ v. v.items ≡ record { at_lower = from.now.left; at_upper = to.now.left } ∷ record { at_lower = from.now.right; at_upper = to.now.right } ∷ record { at_lower = from.now.low; at_upper = to.now.low } ∷ record { at_lower = from.now.high; at_upper = to.now.high } ∷ []) (λ e. e ≡ OpFault.NoMemory) }
+{
+    let mut functions = Vec::new(alloc);
+    if functions
+        .push(Ends {
+            at_lower: from.left,
+            at_upper: to.left,
+        })
+        .is_err()
+    {
+        return Err(OpFault::NoMemory);
+    }
+    if functions
+        .push(Ends {
+            at_lower: from.right,
+            at_upper: to.right,
+        })
+        .is_err()
+    {
+        return Err(OpFault::NoMemory);
+    }
+    if functions
+        .push(Ends {
+            at_lower: from.low,
+            at_upper: to.low,
+        })
+        .is_err()
+    {
+        return Err(OpFault::NoMemory);
+    }
+    if functions
+        .push(Ends {
+            at_lower: from.high,
+            at_upper: to.high,
+        })
+        .is_err()
+    {
+        return Err(OpFault::NoMemory);
+    }
+    Ok(functions)
+}
+
+// Whether a point is in the area, by the signs of its differences to the sides.
+#[derive(Clone, Copy)]
+struct InArea {}
+
+impl Test for InArea {
+    ghost keeps = { λ test signs. in_area_by signs };
+
+    fn keeps(&self, signs: &[Ordering]) -> bool {
+        match signs {
+            [left, right, low, high] => {
+                *left != Ordering::Less
+                    && *right != Ordering::Greater
+                    && *low != Ordering::Less
+                    && *high != Ordering::Greater
+            }
+            _ => false,
+        }
+    }
+}
+
+/// What is left of a slice on a piece of its span, which is given as a slice too, where being in the area has the wanted
+/// truth value.
+pub fn in_area_on(
+    alloc: Global,
+    slice: &Slice<PlaneLine>,
+    part: &Slice<PlaneLine>,
+    area: &Area,
+    want: bool,
+) -> Result<Vec<Slice<PlaneLine>>, OpFault>
+    requires holds { IsSound (λ c. c.from) (λ c. c.to) slice.now × (is_inside slice.now.span part.now.span ≡ true) }
+    requires ends { AllFit (at_ends (slice_parts plane_parts_of slice.now) part.now.span) }
+    requires part { HasValues plane_value_of (λ c. c.from) (λ c. c.to) (slice_value plane_value_of slice.now) part.now.span part.now }
+    ensures kept { IsKeptBy plane_value_of (λ c. c.from) (λ c. c.to) (λ v. v.items) (λ t. kept_value want (in_area area.now (slice_value plane_value_of slice.now t)) (slice_value plane_value_of slice.now t)) part.now.span (entries_of_area area.now slice.now part.now.span) result }
+{
+    let functions = match functions(alloc, area, &part.course.from, &part.course.to) {
+        Ok(functions) => functions,
+        Err(fault) => return Err(fault),
+    };
+    kept(alloc, slice, &part.span, functions, &InArea {}, want)
+}

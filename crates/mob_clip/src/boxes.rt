@@ -1,0 +1,220 @@
+//! A moving point and a box.
+
+ghost use Rattle.std.specs.Prelude.{◌≡◌, Bool, true, false, not, [], ◌∷◌, cond, ◌&&◌, Option, Some, None, MatchOption, MatchResult, IfOk, List};
+ghost use Rattle.std.specs.List.{flat_map};
+ghost use Rattle.mob_frac.specs.Formula.{AllFit};
+ghost use Rattle.mob_span.specs.Span.{has, has_instant};
+ghost use Rattle.mob_span.specs.Neighbours.{is_inside};
+ghost use Rattle.mob_slice.specs.Slices.{IsSound};
+ghost use Rattle.mob_slice.specs.Sides.{at_ends, HasValues};
+ghost use Rattle.mob_slice.specs.Cut.{slice_value, slice_parts};
+ghost use Rattle.mob_slice.specs.Entries.{IsJudged};
+ghost use Rattle.mob_slice.specs.Lines.{plane_value_of, plane_parts_of};
+ghost use Rattle.mob_cells.specs.Kept.{IsKeptBy, AreKept};
+ghost use Rattle.mob_cells.specs.Restricted.{kept_value};
+ghost use Rattle.mob_cells.specs.Restricted.{IsRestricted};
+ghost use Rattle.mob_stbox.specs.Boxes.{in_box, in_space};
+ghost use Rattle.mob_clip.specs.Boxes.{entries_of_space, entries_of_box, entries_in_time, AreAround, front_span, back_span};
+ghost use Rattle.mob_clip.specs.Pieces.{some_span};
+
+use crate::areas::in_area_on;
+use crate::pieces::piece_on;
+use mob_cells::{Restriction, append, is_wanted, listed, restricted};
+use mob_normal::normal;
+use mob_slice::{Moving, OpFault, PlaneLine, Slice, cut, operator_fault};
+use mob_span::Span;
+use mob_stbox::{Area, StBox};
+use std::alloc::Global;
+
+// What is left of a slice on a piece of its span, where being in the space has the wanted truth value.
+fn in_space_on(
+    alloc: Global,
+    slice: &Slice<PlaneLine>,
+    part: Slice<PlaneLine>,
+    space: &Option<Area>,
+    want: bool,
+) -> Result<Vec<Slice<PlaneLine>>, OpFault>
+    requires holds { IsSound (λ c. c.from) (λ c. c.to) slice.now × (is_inside slice.now.span part.span ≡ true) }
+    requires ends { AllFit (at_ends (slice_parts plane_parts_of slice.now) part.span) }
+    requires part { HasValues plane_value_of (λ c. c.from) (λ c. c.to) (slice_value plane_value_of slice.now) part.span part }
+    ensures kept { IsKeptBy plane_value_of (λ c. c.from) (λ c. c.to) (λ v. v.items) (λ t. kept_value want (in_space space.now (slice_value plane_value_of slice.now t)) (slice_value plane_value_of slice.now t)) part.span (entries_of_space space.now slice.now part.span) result }
+{
+    match space {
+        Some(area) => in_area_on(alloc, slice, &part, area, want),
+        None => listed(alloc, part, want),
+    }
+}
+
+// What of a span comes before a part of it.
+fn front(span: &Span, part: &Span) -> Option<Span>
+    ensures span { result ≡ some_span (front_span span.now part.now) }
+{
+    Span::new(
+        *span.lower(),
+        *part.lower(),
+        span.lower_inc(),
+        !part.lower_inc(),
+    )
+}
+
+// What of a span comes after a part of it.
+fn back(span: &Span, part: &Span) -> Option<Span>
+    ensures span { result ≡ some_span (back_span span.now part.now) }
+{
+    Span::new(
+        *part.upper(),
+        *span.upper(),
+        !part.upper_inc(),
+        span.upper_inc(),
+    )
+}
+
+// What is left of a slice: some slices on a part of it, and what is left around that part, which lies outside of the time.
+fn around(
+    alloc: Global,
+    slice: &Slice<PlaneLine>,
+    part: &Span,
+    middle: Vec<Slice<PlaneLine>>,
+    want: bool,
+) -> Result<Vec<Slice<PlaneLine>>, OpFault>
+    requires holds { IsSound (λ c. c.from) (λ c. c.to) slice.now × (is_inside slice.now.span part.now ≡ true) }
+    requires ends { AllFit (at_ends (slice_parts plane_parts_of slice.now) part.now) }
+    ensures around { MatchResult result (λ v. AreAround slice.now want part.now middle.items v.items) (λ e. e ≡ OpFault.NoMemory) }
+{
+    let _ = part.lower();
+    let mut out = match piece_on(alloc, slice, front(&slice.span, part), is_wanted(want, false)) {
+        Ok(out) => out,
+        Err(fault) => return Err(fault),
+    };
+    let more = match piece_on(alloc, slice, back(&slice.span, part), is_wanted(want, false)) {
+        Ok(more) => more,
+        Err(fault) => return Err(fault),
+    };
+    if append(&mut out, middle).is_err() {
+        return Err(OpFault::NoMemory);
+    }
+    if append(&mut out, more).is_err() {
+        return Err(OpFault::NoMemory);
+    }
+    Ok(out)
+}
+
+// What is left of a slice beside a span of time.
+fn in_time_on(
+    alloc: Global,
+    slice: &Slice<PlaneLine>,
+    time: &Span,
+    space: &Option<Area>,
+    want: bool,
+) -> Result<Vec<Slice<PlaneLine>>, OpFault>
+    requires sound { IsSound (λ c. c.from) (λ c. c.to) slice.now }
+    ensures kept { IsKeptBy plane_value_of (λ c. c.from) (λ c. c.to) (λ v. v.items) (λ t. kept_value want (in_space space.now (slice_value plane_value_of slice.now t) && has time.now t) (slice_value plane_value_of slice.now t)) slice.now.span (entries_in_time (Some time.now) space.now slice.now) result }
+{
+    let shared = match slice.span.meet(time) {
+        Some(shared) => shared,
+        None => return piece_on(alloc, slice, Some(slice.span), is_wanted(want, false)),
+    };
+    let part = match cut(alloc, slice, &shared) {
+        Ok(part) => part,
+        Err(fault) => return Err(operator_fault(fault)),
+    };
+    let middle = match in_space_on(alloc, slice, part, space, want) {
+        Ok(middle) => middle,
+        Err(fault) => return Err(fault),
+    };
+    around(alloc, slice, &shared, middle, want)
+}
+
+// A copy of the slice, which takes no memory.
+fn whole(slice: &Slice<PlaneLine>) -> Slice<PlaneLine>
+    requires sound { IsSound (λ c. c.from) (λ c. c.to) slice.now }
+    ensures whole { HasValues plane_value_of (λ c. c.from) (λ c. c.to) (slice_value plane_value_of slice.now) slice.now.span result }
+{
+    Slice {
+        span: slice.span,
+        course: slice.course,
+    }
+}
+
+// The rectangle of a box, if it has space.
+fn space_of(b: &StBox) -> Option<Area>
+    ensures space { result ≡ b.now.space }
+{
+    match b.space() {
+        Some(area) => Some(*area),
+        None => None,
+    }
+}
+
+// The condition that a position and its instant are in a box.
+#[derive(Drop)]
+struct ToBox<'a> {
+    to: &'a StBox,
+}
+
+impl<'a> Restriction<PlaneLine> for ToBox<'a> {
+    ghost cond = { λ by. in_box by.to.now };
+
+    ghost entries = { λ by. entries_of_box by.to.now };
+
+    fn on_slice(
+        &self,
+        alloc: Global,
+        slice: &Slice<PlaneLine>,
+        want: bool,
+    ) -> Result<Vec<Slice<PlaneLine>>, OpFault> {
+        let space = space_of(self.to);
+        match self.to.time() {
+            Some(time) => in_time_on(alloc, slice, time, &space, want),
+            None => in_space_on(alloc, slice, whole(slice), &space, want),
+        }
+    }
+}
+
+// The restriction to the instants at which being in the box has the wanted truth value.
+fn to_box(
+    alloc: Global,
+    a: &Moving<PlaneLine>,
+    b: &StBox,
+    want: bool,
+) -> Result<Option<Moving<PlaneLine>>, OpFault>
+    ensures value { IfOk result (λ r. IsRestricted plane_value_of want (in_box b.now) a.now r) }
+    ensures first { IsJudged (flat_map (entries_of_box b.now) a.now) result }
+{
+    let slices =
+        restricted::<PlaneLine, ToBox<'_>>(alloc, a.slices(), &ToBox { to: b }, want)?;
+    match normal(alloc, slices) {
+        Ok(value) => Ok(value),
+        Err(_) => Err(OpFault::NoMemory),
+    }
+}
+
+/// The moving point at the instants at which it is in the box. None exactly where there is no such instant.
+///
+/// `Passed` names the formula of the first entry that has a part that does not fit: on each slice that shares an instant with
+/// the time of the box F1 at the ends of what they share, then F2, the differences to the sides there, then F3, their
+/// roots, then F1 at these roots.
+pub fn at_box(
+    alloc: Global,
+    a: &Moving<PlaneLine>,
+    b: &StBox,
+) -> Result<Option<Moving<PlaneLine>>, OpFault>
+    ensures value { IfOk result (λ r. IsRestricted plane_value_of true (in_box b.now) a.now r) }
+    ensures first { IsJudged (flat_map (entries_of_box b.now) a.now) result }
+{
+    to_box(alloc, a, b, true)
+}
+
+/// The moving point at the instants at which it is not in the box. None exactly where there is no such instant.
+///
+/// `Passed` is that of `at_box`: the formulas are the same, whatever is left.
+pub fn minus_box(
+    alloc: Global,
+    a: &Moving<PlaneLine>,
+    b: &StBox,
+) -> Result<Option<Moving<PlaneLine>>, OpFault>
+    ensures value { IfOk result (λ r. IsRestricted plane_value_of false (in_box b.now) a.now r) }
+    ensures first { IsJudged (flat_map (entries_of_box b.now) a.now) result }
+{
+    to_box(alloc, a, b, false)
+}

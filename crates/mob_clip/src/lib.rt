@@ -1,0 +1,15 @@
+//! Restriction of moving points to boxes and to polygons, and whether they are ever inside one.
+#![tactic(auto)]
+
+mod areas;
+mod boxes;
+mod edges;
+mod membership;
+mod pieces;
+mod polygons;
+mod roots;
+mod sides;
+mod steps;
+
+pub use boxes::{at_box, minus_box};
+pub use polygons::{at_polygon, ever_inside, minus_polygon};

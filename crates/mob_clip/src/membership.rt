@@ -1,0 +1,344 @@
+//! Whether a moving point is inside a polygon, edge by edge.
+
+ghost use Rattle.std.specs.Prelude.{◌≡◌, true, [], None, Some, map, List, IfOk, MatchOption};
+ghost use Rattle.std.specs.List.{AllByRecursion};
+ghost use Rattle.mob_ratio.specs.Ratio.{Ratio};
+ghost use Rattle.mob_ratio.specs.Sign.{sign_of};
+ghost use Rattle.mob_frac.specs.Formula.{AllFit};
+ghost use Rattle.mob_span.specs.Span.{has};
+ghost use Rattle.mob_cells.specs.Roots.{function_at};
+ghost use Rattle.mob_cells.specs.Cells.{IsPlaced};
+ghost use Rattle.mob_clip.specs.Roots.{IsPlacedEdge, FitsRoot, CutsFit};
+ghost use Rattle.mob_clip.specs.Steps.{steps_at, ChangesFit};
+ghost use Rattle.mob_clip.specs.Signs.{sign_at, joined, joined_signs, only, ends_change, tally_both, tally_all, edge_tally, tally_change, signs_on, signs_beside, FitsChange};
+
+use crate::roots::EdgePlaced;
+use crate::steps::{Change, Mix, Steps, merged};
+use mob_cells::signs::Placed;
+use mob_frac::Frac;
+use mob_plane::{EdgeSigns, Tally, with_edge};
+use mob_span::Span;
+use std::alloc::{AllocError, Global};
+use std::cmp::Ordering;
+
+/// The sign of a linear function on a span: in front of the instant at which it is 0, and behind it; or one sign, if there is no
+/// such instant alone.
+#[derive(Clone, Copy, Drop)]
+pub struct SignChange {
+    /// In front.
+    pub first: Ordering,
+    /// The instant.
+    pub at: Option<Frac>,
+    /// Behind.
+    pub behind: Ordering,
+}
+
+/// One of the signs of an edge.
+#[derive(Clone, Copy, PartialEq, Eq)]
+pub enum Place {
+    /// That of the turn.
+    Turn,
+    /// That of the difference in x to the first end.
+    XA,
+    /// That of the difference in x to the second end.
+    XB,
+    /// That of the difference in y to the first end.
+    YA,
+    /// That of the difference in y to the second end.
+    YB,
+}
+
+impl Mix for EdgeSigns {
+    ghost mix = { joined_signs };
+
+    fn mix(&self, other: &EdgeSigns) -> EdgeSigns {
+        EdgeSigns {
+            turn: joined(self.turn, other.turn),
+            x_a: joined(self.x_a, other.x_a),
+            x_b: joined(self.x_b, other.x_b),
+            y_a: joined(self.y_a, other.y_a),
+            y_b: joined(self.y_b, other.y_b),
+        }
+    }
+}
+
+impl Mix for Tally {
+    ghost mix = { tally_both };
+
+    fn mix(&self, other: &Tally) -> Tally {
+        Tally {
+            on: self.on || other.on,
+            odd: self.odd != other.odd,
+        }
+    }
+}
+
+// One of two signs, of which one at least is Equal.
+fn joined(a: Ordering, b: Ordering) -> Ordering
+    ensures value { result ≡ joined a b }
+{
+    match a {
+        Ordering::Less => Ordering::Less,
+        Ordering::Equal => b,
+        Ordering::Greater => Ordering::Greater,
+    }
+}
+
+// How the number stands to 0.
+fn sign(x: &Frac) -> Ordering
+    ensures sign { result ≡ sign_of x.now }
+{
+    x.compare(&Frac::zero())
+}
+
+// The sign of a function that has no root strictly inside the span, and ends with these signs.
+fn without_root(span: &Span, lower: Ordering, upper: Ordering) -> SignChange
+    ensures change { result ≡ ends_change span.now lower upper }
+{
+    if lower.is_ne() {
+        if upper.is_ne() {
+            return SignChange {
+                first: lower,
+                at: None,
+                behind: lower,
+            };
+        }
+        return SignChange {
+            first: lower,
+            at: Some(*span.upper()),
+            behind: lower,
+        };
+    }
+    if upper.is_ne() {
+        return SignChange {
+            first: upper,
+            at: Some(*span.lower()),
+            behind: upper,
+        };
+    }
+    SignChange {
+        first: Ordering::Equal,
+        at: None,
+        behind: Ordering::Equal,
+    }
+}
+
+// The sign of a function on a span.
+fn change_of(span: &Span, placed: &Placed) -> SignChange
+    requires placed { IsPlaced span.now placed.now }
+    ensures signs { (t : Ratio) → has span.now t ≡ true → sign_at result t ≡ sign_of (function_at span.now placed.now.ends t) }
+    ensures fits { (parts : Ratio → List Ratio) → AllFit (parts span.now.lower) → AllFit (parts span.now.upper) → FitsRoot parts placed.now → FitsChange parts result }
+{
+    let lower = sign(&placed.ends.at_lower);
+    let upper = sign(&placed.ends.at_upper);
+    match placed.root {
+        Some(r) => SignChange {
+            first: lower,
+            at: Some(r),
+            behind: upper,
+        },
+        None => without_root(span, lower, upper),
+    }
+}
+
+// The signs of an edge, of which one is known.
+fn only(place: Place, sign: Ordering) -> EdgeSigns
+    ensures value { result ≡ only place sign }
+{
+    let none = EdgeSigns {
+        turn: Ordering::Equal,
+        x_a: Ordering::Equal,
+        x_b: Ordering::Equal,
+        y_a: Ordering::Equal,
+        y_b: Ordering::Equal,
+    };
+    match place {
+        Place::Turn => EdgeSigns { turn: sign, ..none },
+        Place::XA => EdgeSigns { x_a: sign, ..none },
+        Place::XB => EdgeSigns { x_b: sign, ..none },
+        Place::YA => EdgeSigns { y_a: sign, ..none },
+        Place::YB => EdgeSigns { y_b: sign, ..none },
+    }
+}
+
+// The sign of one function as steps.
+fn one_sign(
+    alloc: Global,
+    change: &SignChange,
+    place: Place,
+) -> Result<Steps<EdgeSigns>, AllocError>
+    ensures values { IfOk result (λ s. (t : Ratio) → steps_at s t ≡ only place (sign_at change.now t)) }
+    ensures fit { IfOk result (λ s. (parts : Ratio → List Ratio) → FitsChange parts change.now → ChangesFit parts s.changes.items) }
+{
+    let mut changes = Vec::new(alloc);
+    if let Some(at) = change.at {
+        changes.push(Change {
+            at,
+            there: only(place, Ordering::Equal),
+            behind: only(place, change.behind),
+        })?;
+    }
+    Ok(Steps {
+        first: only(place, change.first),
+        changes,
+    })
+}
+
+// The signs of two functions.
+fn two_signs(
+    alloc: Global,
+    span: &Span,
+    a: &Placed,
+    at: Place,
+    b: &Placed,
+    beside: Place,
+) -> Result<Steps<EdgeSigns>, AllocError>
+    requires first { IsPlaced span.now a.now }
+    requires second { IsPlaced span.now b.now }
+    ensures values { IfOk result (λ s. (t : Ratio) → has span.now t ≡ true → steps_at s t ≡ joined_signs (only at (sign_of (function_at span.now a.now.ends t))) (only beside (sign_of (function_at span.now b.now.ends t)))) }
+    ensures fit { IfOk result (λ s. (parts : Ratio → List Ratio) → AllFit (parts span.now.lower) → AllFit (parts span.now.upper) → FitsRoot parts a.now → FitsRoot parts b.now → ChangesFit parts s.changes.items) }
+{
+    let left = one_sign(alloc, &change_of(span, a), at)?;
+    let right = one_sign(alloc, &change_of(span, b), beside)?;
+    merged(alloc, &left, &right)
+}
+
+// The signs of the differences to both ends of an edge.
+fn end_signs(
+    alloc: Global,
+    span: &Span,
+    edge: &EdgePlaced,
+) -> Result<Steps<EdgeSigns>, AllocError>
+    requires placed { IsPlacedEdge span.now edge.now }
+    ensures values { IfOk result (λ s. (t : Ratio) → has span.now t ≡ true → steps_at s t ≡ signs_beside span.now t edge.now) }
+    ensures fit { IfOk result (λ s. (parts : Ratio → List Ratio) → AllFit (parts span.now.lower) → AllFit (parts span.now.upper) → CutsFit parts edge.now → ChangesFit parts s.changes.items) }
+{
+    let xs = two_signs(alloc, span, &edge.x_a, Place::XA, &edge.x_b, Place::XB)?;
+    let ys = two_signs(alloc, span, &edge.y_a, Place::YA, &edge.y_b, Place::YB)?;
+    merged(alloc, &xs, &ys)
+}
+
+// The signs of an edge.
+fn edge_signs(
+    alloc: Global,
+    span: &Span,
+    edge: &EdgePlaced,
+) -> Result<Steps<EdgeSigns>, AllocError>
+    requires placed { IsPlacedEdge span.now edge.now }
+    ensures values { IfOk result (λ s. (t : Ratio) → has span.now t ≡ true → steps_at s t ≡ signs_on span.now t edge.now) }
+    ensures fit { IfOk result (λ s. (parts : Ratio → List Ratio) → AllFit (parts span.now.lower) → AllFit (parts span.now.upper) → CutsFit parts edge.now → ChangesFit parts s.changes.items) }
+{
+    let turn = one_sign(alloc, &change_of(span, &edge.turn), Place::Turn)?;
+    let ends = end_signs(alloc, span, edge)?;
+    merged(alloc, &turn, &ends)
+}
+
+// What is known of a point by one edge.
+fn edge_tally(signs: &EdgeSigns) -> Tally
+    ensures value { result ≡ edge_tally signs.now }
+{
+    with_edge(
+        Tally {
+            on: false,
+            odd: false,
+        },
+        signs,
+    )
+}
+
+// The same along a walk.
+fn tallied(alloc: Global, signs: &Steps<EdgeSigns>) -> Result<Steps<Tally>, AllocError>
+    ensures tallied { IfOk result (λ s. (s.first ≡ edge_tally signs.now.first) × (s.changes.items ≡ map tally_change signs.now.changes.items)) }
+{
+    let mut changes = Vec::new(alloc);
+    let all = signs.changes.as_slice();
+    for change in all {
+        changes.push(Change {
+            at: change.at,
+            there: edge_tally(&change.there),
+            behind: edge_tally(&change.behind),
+        })?;
+    }
+    Ok(Steps {
+        first: edge_tally(&signs.first),
+        changes,
+    })
+}
+
+// What is known of a point by one edge, on a span.
+fn edge_steps(
+    alloc: Global,
+    span: &Span,
+    edge: &EdgePlaced,
+) -> Result<Steps<Tally>, AllocError>
+    requires placed { IsPlacedEdge span.now edge.now }
+    ensures values { IfOk result (λ s. (t : Ratio) → has span.now t ≡ true → steps_at s t ≡ edge_tally (signs_on span.now t edge.now)) }
+    ensures fit { IfOk result (λ s. (parts : Ratio → List Ratio) → AllFit (parts span.now.lower) → AllFit (parts span.now.upper) → CutsFit parts edge.now → ChangesFit parts s.changes.items) }
+{
+    let signs = edge_signs(alloc, span, edge)?;
+    tallied(alloc, &signs)
+}
+
+// What is known of a point by each edge.
+fn each_edge(
+    alloc: Global,
+    span: &Span,
+    edges: &[EdgePlaced],
+) -> Result<Vec<Steps<Tally>>, AllocError>
+    requires placed { AllByRecursion (IsPlacedEdge span.now) edges.now }
+    ensures values { IfOk result (λ v. (t : Ratio) → has span.now t ≡ true → map (λ s. steps_at s t) v.items ≡ map (λ g. edge_tally (signs_on span.now t g)) edges.now) }
+    ensures fit { IfOk result (λ v. (parts : Ratio → List Ratio) → AllFit (parts span.now.lower) → AllFit (parts span.now.upper) → AllByRecursion (CutsFit parts) edges.now → AllByRecursion (λ s. ChangesFit parts s.changes.items) v.items) }
+{
+    let _lower = span.lower();
+    let mut out = Vec::new(alloc);
+    for edge in edges {
+        out.push(edge_steps(alloc, span, edge)?)?;
+    }
+    Ok(out)
+}
+
+// Nothing is known.
+fn nothing(alloc: Global) -> Steps<Tally>
+    ensures nothing { (result.first ≡ tally_all []) × (result.changes.items ≡ []) }
+{
+    Steps {
+        first: Tally {
+            on: false,
+            odd: false,
+        },
+        changes: Vec::new(alloc),
+    }
+}
+
+// What is known of a point by all edges together: halves are taken together, so that each change is seen as often as there are
+// halves above it.
+fn together(alloc: Global, edges: &[Steps<Tally>]) -> Result<Steps<Tally>, AllocError>
+    ensures values { IfOk result (λ s. (t : Ratio) → steps_at s t ≡ tally_all (map (λ e. steps_at e t) edges.now)) }
+    ensures fit { IfOk result (λ s. (parts : Ratio → List Ratio) → AllByRecursion (λ e. ChangesFit parts e.changes.items) edges.now → ChangesFit parts s.changes.items) }
+{
+    if edges.is_empty() {
+        return Ok(nothing(alloc));
+    }
+    if edges.len() == 1 {
+        return merged(alloc, &edges[0], &nothing(alloc));
+    }
+    let (left, right) = edges.split_at(edges.len() / 2);
+    let left = together(alloc, left)?;
+    let right = together(alloc, right)?;
+    merged(alloc, &left, &right)
+}
+
+/// What is known of a moving point on a span by all edges: whether it lies on one, and whether it is odd how many pass its height to
+/// the right of it. Changes stand at roots of the functions of the edges, or at ends of the span.
+pub fn membership(
+    alloc: Global,
+    span: &Span,
+    edges: &[EdgePlaced],
+) -> Result<Steps<Tally>, AllocError>
+    requires placed { AllByRecursion (IsPlacedEdge span.now) edges.now }
+    ensures values { IfOk result (λ s. (t : Ratio) → has span.now t ≡ true → steps_at s t ≡ tally_all (map (λ g. edge_tally (signs_on span.now t g)) edges.now)) }
+    ensures fit { IfOk result (λ s. (parts : Ratio → List Ratio) → AllFit (parts span.now.lower) → AllFit (parts span.now.upper) → AllByRecursion (CutsFit parts) edges.now → ChangesFit parts s.changes.items) }
+{
+    let each = each_edge(alloc, span, edges)?;
+    together(alloc, each.as_slice())
+}

@@ -1,0 +1,154 @@
+//! What is left of a slice on pieces of its span, and between the changes of a walk.
+
+ghost use Rattle.std.specs.Prelude.{◌≡◌, ◌++◌, List, true, false, MatchResult};
+ghost use Rattle.mob_frac.specs.Formula.{AllFit};
+ghost use Rattle.mob_slice.specs.Slices.{IsSound};
+ghost use Rattle.mob_slice.specs.Cut.{slice_value, slice_parts};
+ghost use Rattle.mob_slice.specs.Lines.{plane_value_of, plane_parts_of};
+ghost use Rattle.mob_slice.specs.declared.slice.Slice.{Slice as SliceOf};
+ghost use Rattle.mob_slice.specs.declared.line.PlaneLine.{PlaneLine as PlaneLineOf};
+ghost use Rattle.mob_cells.specs.Kept.{AreKept};
+ghost use Rattle.mob_cells.specs.Restricted.{kept_value, is_wanted};
+ghost use Rattle.mob_clip.specs.Steps.{steps_at, ChangesFit};
+ghost use Rattle.mob_clip.specs.Pieces.{is_known_in, some_span, left_span, right_span, left_piece, right_piece, HoldsPiece, AreWhole};
+
+use crate::steps::Steps;
+use mob_cells::{append, is_wanted, listed};
+use mob_frac::Frac;
+use mob_plane::{Tally, is_in};
+use mob_slice::{OpFault, PlaneLine, Slice, cut, operator_fault};
+use mob_span::Span;
+use std::alloc::Global;
+
+/// All of a slice on a piece of its span, or nothing.
+pub fn piece_on(
+    alloc: Global,
+    slice: &Slice<PlaneLine>,
+    piece: Option<Span>,
+    keeps: bool,
+) -> Result<Vec<Slice<PlaneLine>>, OpFault>
+    requires sound { IsSound (λ c. c.from) (λ c. c.to) slice.now }
+    requires holds { HoldsPiece slice.now piece }
+    ensures whole { MatchResult result (λ v. AreWhole slice.now keeps piece v.items) (λ e. e ≡ OpFault.NoMemory) }
+{
+    let span = match piece {
+        Some(span) => span,
+        None => return Ok(Vec::new(alloc)),
+    };
+    match cut(alloc, slice, &span) {
+        Ok(part) => listed(alloc, part, keeps),
+        Err(fault) => Err(operator_fault(fault)),
+    }
+}
+
+// What of a span is before an instant, with that instant where it is included.
+fn left_of(span: &Span, r: &Frac, included: bool) -> Option<Span>
+    ensures span { result ≡ some_span (left_span span.now r.now included) }
+{
+    if span.upper().is_before(r) {
+        return Some(*span);
+    }
+    let upper_inc = included && (r.is_before(span.upper()) || span.upper_inc());
+    Span::new(*span.lower(), *r, span.lower_inc(), upper_inc)
+}
+
+// What of a span is behind an instant, with that instant where it is not included before.
+fn right_of(span: &Span, r: &Frac, included: bool) -> Option<Span>
+    ensures span { result ≡ some_span (right_span span.now r.now included) }
+{
+    if r.is_before(span.lower()) {
+        return Some(*span);
+    }
+    let lower_inc = !included && (span.lower().is_before(r) || span.lower_inc());
+    Span::new(*r, *span.upper(), lower_inc, span.upper_inc())
+}
+
+// Adds what is left of a slice on what of a piece is before an instant, and gives what of the piece is behind it.
+fn pass(
+    alloc: Global,
+    slice: &Slice<PlaneLine>,
+    out: &mut Vec<Slice<PlaneLine>>,
+    piece: Option<Span>,
+    r: &Frac,
+    included: bool,
+    keeps: bool,
+) -> Result<Option<Span>, OpFault>
+    requires sound { IsSound (λ c. c.from) (λ c. c.to) slice.now }
+    requires holds { HoldsPiece slice.now piece }
+    requires fits { AllFit (slice_parts plane_parts_of slice.now r.now) }
+    ensures passed { MatchResult result (λ rest. (rest ≡ right_piece piece r.now included) × (v : List (SliceOf PlaneLineOf)) × (out.new.items ≡ out.old.items ++ v) × AreWhole slice.now keeps (left_piece piece r.now included) v) (λ e. e ≡ OpFault.NoMemory) }
+{
+    let span = match piece {
+        Some(span) => span,
+        None => return Ok(None),
+    };
+    let more = match piece_on(alloc, slice, left_of(&span, r, included), keeps) {
+        Ok(more) => more,
+        Err(fault) => return Err(fault),
+    };
+    if append(out, more).is_err() {
+        return Err(OpFault::NoMemory);
+    }
+    Ok(right_of(&span, r, included))
+}
+
+// Adds what is left of a slice on a last piece.
+fn finish(
+    alloc: Global,
+    slice: &Slice<PlaneLine>,
+    out: Vec<Slice<PlaneLine>>,
+    piece: Option<Span>,
+    keeps: bool,
+) -> Result<Vec<Slice<PlaneLine>>, OpFault>
+    requires sound { IsSound (λ c. c.from) (λ c. c.to) slice.now }
+    requires holds { HoldsPiece slice.now piece }
+    ensures all { MatchResult result (λ all. (v : List (SliceOf PlaneLineOf)) × (all.items ≡ out.items ++ v) × AreWhole slice.now keeps piece v) (λ e. e ≡ OpFault.NoMemory) }
+{
+    let mut all = out;
+    let more = match piece_on(alloc, slice, piece, keeps) {
+        Ok(more) => more,
+        Err(fault) => return Err(fault),
+    };
+    match append(&mut all, more) {
+        Ok(()) => Ok(all),
+        Err(_) => Err(OpFault::NoMemory),
+    }
+}
+
+// Whether a point of which so much is known is kept.
+fn is_kept(want: bool, tally: &Tally) -> bool
+    ensures value { result ≡ is_wanted want (is_known_in tally.now) }
+{
+    is_wanted(want, is_in(tally))
+}
+
+/// What is left of a slice where what is known of it by all edges says what is wanted: its own values there, and nothing elsewhere.
+pub fn kept_on(
+    alloc: Global,
+    slice: &Slice<PlaneLine>,
+    steps: &Steps<Tally>,
+    want: bool,
+) -> Result<Vec<Slice<PlaneLine>>, OpFault>
+    requires sound { IsSound (λ c. c.from) (λ c. c.to) slice.now }
+    requires fit { ChangesFit (slice_parts plane_parts_of slice.now) steps.now.changes.items }
+    ensures kept { MatchResult result (λ v. AreKept plane_value_of (λ c. c.from) (λ c. c.to) (λ t. kept_value want (is_known_in (steps_at steps.now t)) (slice_value plane_value_of slice.now t)) slice.now.span v.items) (λ e. e ≡ OpFault.NoMemory) }
+{
+    let mut out = Vec::new(alloc);
+    let mut rest = Some(slice.span);
+    let mut now = steps.first;
+    let changes = steps.changes.as_slice();
+    for change in changes {
+        let front = is_kept(want, &now);
+        rest = match pass(alloc, slice, &mut out, rest, &change.at, false, front) {
+            Ok(rest) => rest,
+            Err(fault) => return Err(fault),
+        };
+        let there = is_kept(want, &change.there);
+        rest = match pass(alloc, slice, &mut out, rest, &change.at, true, there) {
+            Ok(rest) => rest,
+            Err(fault) => return Err(fault),
+        };
+        now = change.behind;
+    }
+    finish(alloc, slice, out, rest, is_kept(want, &now))
+}

@@ -1,0 +1,138 @@
+//! A moving point and a polygon.
+
+ghost use Rattle.std.specs.Prelude.{◌≡◌, ◌↔◌, true, false, IsTrue, IfOk};
+ghost use Rattle.std.specs.List.{flat_map};
+ghost use Rattle.mob_slice.specs.Slices.{IsSound};
+ghost use Rattle.mob_slice.specs.Cut.{slice_value};
+ghost use Rattle.mob_slice.specs.Entries.{IsJudged};
+ghost use Rattle.mob_slice.specs.Lines.{plane_value_of};
+ghost use Rattle.mob_cells.specs.Kept.{IsKeptBy};
+ghost use Rattle.mob_cells.specs.Restricted.{IsRestricted, kept_value};
+ghost use Rattle.mob_plane.specs.Membership.{inside};
+ghost use Rattle.mob_clip.specs.Polygons.{is_inside_edges, entries_of_edges, entries_of_polygon, IsEverInside};
+
+use crate::edges::edges_of;
+use crate::membership::membership;
+use crate::pieces::kept_on;
+use crate::roots::placed_on;
+use mob_cells::{Restriction, restricted};
+use mob_normal::normal;
+use mob_plane::{Point, Polygon};
+use mob_slice::{Moving, OpFault, PlaneLine, Slice};
+use std::alloc::Global;
+
+// What is left of a slice, where being inside the edges has the wanted truth value.
+fn edges_on(
+    alloc: Global,
+    slice: &Slice<PlaneLine>,
+    edges: &[(Point, Point)],
+    want: bool,
+) -> Result<Vec<Slice<PlaneLine>>, OpFault>
+    requires sound { IsSound (λ c. c.from) (λ c. c.to) slice.now }
+    ensures kept { IsKeptBy plane_value_of (λ c. c.from) (λ c. c.to) (λ v. v.items) (λ t. kept_value want (is_inside_edges edges.now (slice_value plane_value_of slice.now t)) (slice_value plane_value_of slice.now t)) slice.now.span (entries_of_edges edges.now slice.now) result }
+{
+    let placed = match placed_on(alloc, slice, edges) {
+        Ok(placed) => placed,
+        Err(fault) => return Err(fault),
+    };
+    let steps = match membership(alloc, &slice.span, placed.as_slice()) {
+        Ok(steps) => steps,
+        Err(_) => return Err(OpFault::NoMemory),
+    };
+    kept_on(alloc, slice, &steps, want)
+}
+
+// The condition that a position is inside the polygon of some edges.
+#[derive(Drop)]
+struct ToEdges<'a> {
+    edges: &'a [(Point, Point)],
+}
+
+impl<'a> Restriction<PlaneLine> for ToEdges<'a> {
+    ghost cond = { λ by t p. is_inside_edges by.edges.now p };
+
+    ghost entries = { λ by s. entries_of_edges by.edges.now s };
+
+    fn on_slice(
+        &self,
+        alloc: Global,
+        slice: &Slice<PlaneLine>,
+        want: bool,
+    ) -> Result<Vec<Slice<PlaneLine>>, OpFault> {
+        edges_on(alloc, slice, self.edges, want)
+    }
+}
+
+// The restriction to the instants at which being inside the polygon has the wanted truth value.
+fn to_polygon(
+    alloc: Global,
+    a: &Moving<PlaneLine>,
+    p: &Polygon,
+    want: bool,
+) -> Result<Option<Moving<PlaneLine>>, OpFault>
+    ensures value { IfOk result (λ r. IsRestricted plane_value_of want (λ t x. inside p.now x) a.now r) }
+    ensures first { IsJudged (flat_map (entries_of_polygon p.now) a.now) result }
+{
+    let edges = match edges_of(alloc, p.rings()) {
+        Ok(edges) => edges,
+        Err(_) => return Err(OpFault::NoMemory),
+    };
+    let by = ToEdges {
+        edges: edges.as_slice(),
+    };
+    let slices = match restricted::<PlaneLine, ToEdges<'_>>(alloc, a.slices(), &by, want) {
+        Ok(slices) => slices,
+        Err(fault) => return Err(fault),
+    };
+    match normal(alloc, slices) {
+        Ok(value) => Ok(value),
+        Err(_) => Err(OpFault::NoMemory),
+    }
+}
+
+/// The moving point at the instants at which it is inside the polygon or on its boundary (MobilityDB's `atGeometry`). None exactly
+/// where there is no such instant.
+///
+/// `Passed` names the formula of the first entry that has a part that does not fit: on each slice F2, the differences of the
+/// positions at its two ends to the points of the rings, then F4, their turns with the edges, then F3, the roots of all of these,
+/// then F1 at these roots, whatever is left there.
+pub fn at_polygon(
+    alloc: Global,
+    a: &Moving<PlaneLine>,
+    p: &Polygon,
+) -> Result<Option<Moving<PlaneLine>>, OpFault>
+    ensures value { IfOk result (λ r. IsRestricted plane_value_of true (λ t x. inside p.now x) a.now r) }
+    ensures first { IsJudged (flat_map (entries_of_polygon p.now) a.now) result }
+{
+    to_polygon(alloc, a, p, true)
+}
+
+/// The moving point at the instants at which it is outside the polygon and not on its boundary (MobilityDB's `minusGeometry`). None
+/// exactly where there is no such instant.
+///
+/// `Passed` is that of `at_polygon`: the formulas are the same, whatever is left.
+pub fn minus_polygon(
+    alloc: Global,
+    a: &Moving<PlaneLine>,
+    p: &Polygon,
+) -> Result<Option<Moving<PlaneLine>>, OpFault>
+    ensures value { IfOk result (λ r. IsRestricted plane_value_of false (λ t x. inside p.now x) a.now r) }
+    ensures first { IsJudged (flat_map (entries_of_polygon p.now) a.now) result }
+{
+    to_polygon(alloc, a, p, false)
+}
+
+/// Whether the moving point is inside the polygon or on its boundary at some rational instant at which it is defined (MobilityDB's
+/// `eIntersects`).
+///
+/// `Passed` is that of `at_polygon`: the formulas of all slices are asked for, also behind an instant that settles the answer.
+pub fn ever_inside(alloc: Global, a: &Moving<PlaneLine>, p: &Polygon) -> Result<bool, OpFault>
+    ensures value { IfOk result (λ b. IsTrue b ↔ IsEverInside p.now a.now) }
+    ensures first { IsJudged (flat_map (entries_of_polygon p.now) a.now) result }
+{
+    match at_polygon(alloc, a, p) {
+        Ok(Some(_)) => Ok(true),
+        Ok(None) => Ok(false),
+        Err(fault) => Err(fault),
+    }
+}

@@ -1,0 +1,186 @@
+//! How a point on a straight way lies to edges: the linear functions of which the signs say so.
+
+ghost use Rattle.std.specs.Prelude.{◌≡◌, ◌++◌, map, MatchResult};
+ghost use Rattle.std.specs.List.{flat_map};
+ghost use Rattle.mob_frac.specs.Formula.{AllFit, IsFormula};
+ghost use Rattle.mob_plane.specs.Turns.{turn_parts};
+ghost use Rattle.mob_clip.specs.Sides.{point_parts, to_point, beside_parts, beside, turning_parts, turning, with_turn, IsPartFault};
+ghost use Rattle.mob_clip.specs.Known.{IsKnown};
+ghost use Rattle.mob_slice.specs.declared.formula.Formula.TheVariants.{F2, F4};
+
+use mob_cells::Ends;
+use mob_frac::Overflow;
+use mob_plane::{Point, turn};
+use mob_slice::{Formula, OpFault};
+use std::alloc::Global;
+
+/// The differences of a point on its way to another point, by coordinate.
+#[derive(Clone, Copy, Drop)]
+pub struct ToPoint {
+    /// To the east.
+    pub x: Ends,
+    /// To the north.
+    pub y: Ends,
+}
+
+/// An edge with the differences to its two ends.
+#[derive(Clone, Copy, Drop)]
+pub struct Beside {
+    /// The edge.
+    pub edge: (Point, Point),
+    /// The differences to its first end.
+    pub to_a: ToPoint,
+    /// The differences to its second end.
+    pub to_b: ToPoint,
+}
+
+/// The linear functions of an edge.
+#[derive(Clone, Copy, Drop)]
+pub struct EdgeEnds {
+    /// The turn.
+    pub turn: Ends,
+    /// The difference in x to the first end.
+    pub x_a: Ends,
+    /// The difference in x to the second end.
+    pub x_b: Ends,
+    /// The difference in y to the first end.
+    pub y_a: Ends,
+    /// The difference in y to the second end.
+    pub y_b: Ends,
+}
+
+// The differences of the way from `p` to `q` to the point `v`.
+fn to_point(p: &Point, q: &Point, v: &Point) -> Result<ToPoint, Overflow>
+    ensures value { IsFormula (point_parts p.now q.now v.now) (to_point p.now q.now v.now) result }
+{
+    let x0 = p.x.sub(&v.x)?;
+    let x1 = q.x.sub(&v.x)?;
+    let y0 = p.y.sub(&v.y)?;
+    let y1 = q.y.sub(&v.y)?;
+    Ok(ToPoint {
+        x: Ends {
+            at_lower: x0,
+            at_upper: x1,
+        },
+        y: Ends {
+            at_lower: y0,
+            at_upper: y1,
+        },
+    })
+}
+
+// The turns of `p` and of `q` with an edge.
+fn turning(p: &Point, q: &Point, edge: &(Point, Point)) -> Result<Ends, Overflow>
+    ensures value { IsFormula (turning_parts p.now q.now edge.now) (turning p.now q.now edge.now) result }
+{
+    let at_lower = turn(&edge.0, &edge.1, p)?;
+    let at_upper = turn(&edge.0, &edge.1, q)?;
+    Ok(Ends { at_lower, at_upper })
+}
+
+// A point with the differences to it.
+#[derive(Clone, Copy, Drop)]
+struct Known {
+    point: Point,
+    to: ToPoint,
+}
+
+// The differences to a point, which are known where it is the point before.
+fn to_start(p: &Point, q: &Point, v: &Point, known: &Option<Known>) -> Result<ToPoint, Overflow>
+    requires known { IsKnown p.now q.now known.now }
+    ensures value { IsFormula (point_parts p.now q.now v.now) (to_point p.now q.now v.now) result }
+{
+    match known {
+        Some(last) => {
+            if last.point.is_same(v) {
+                return Ok(last.to);
+            }
+            to_point(p, q, v)
+        }
+        None => to_point(p, q, v),
+    }
+}
+
+// An edge with the differences to its ends.
+fn with_differences(
+    p: &Point,
+    q: &Point,
+    edge: &(Point, Point),
+    known: &Option<Known>,
+) -> Result<Beside, Overflow>
+    requires known { IsKnown p.now q.now known.now }
+    ensures value { IsFormula (beside_parts p.now q.now edge.now) (beside p.now q.now edge.now) result }
+{
+    let to_a = to_start(p, q, &edge.0, known)?;
+    let to_b = to_point(p, q, &edge.1)?;
+    Ok(Beside {
+        edge: *edge,
+        to_a,
+        to_b,
+    })
+}
+
+/// The edges with the differences to their ends, of the way from `p` to `q`. Where an edge begins at the end of the one before, it
+/// takes over the differences to it.
+pub fn besides(
+    alloc: Global,
+    edges: &[(Point, Point)],
+    p: &Point,
+    q: &Point,
+) -> Result<Vec<Beside>, OpFault>
+    ensures made { MatchResult result (λ v. (v.items ≡ map (beside p.now q.now) edges.now) × AllFit (flat_map (beside_parts p.now q.now) edges.now)) (IsPartFault F2 (flat_map (beside_parts p.now q.now) edges.now)) }
+{
+    let mut out = Vec::new(alloc);
+    let mut known = None;
+    for edge in edges {
+        let next = match with_differences(p, q, edge, &known) {
+            Ok(next) => next,
+            Err(_) => {
+                return Err(OpFault::Passed {
+                    formula: Formula::F2,
+                });
+            }
+        };
+        known = Some(Known {
+            point: edge.1,
+            to: next.to_b,
+        });
+        if out.push(next).is_err() {
+            return Err(OpFault::NoMemory);
+        }
+    }
+    Ok(out)
+}
+
+/// The functions of each edge, of the way from `p` to `q`.
+pub fn turned(
+    alloc: Global,
+    edges: &[Beside],
+    p: &Point,
+    q: &Point,
+) -> Result<Vec<EdgeEnds>, OpFault>
+    ensures made { MatchResult result (λ v. (v.items ≡ map (with_turn p.now q.now) edges.now) × AllFit (flat_map (λ b. turning_parts p.now q.now b.edge) edges.now)) (IsPartFault F4 (flat_map (λ b. turning_parts p.now q.now b.edge) edges.now)) }
+{
+    let mut out = Vec::new(alloc);
+    for beside in edges {
+        let turn = match turning(p, q, &beside.edge) {
+            Ok(turn) => turn,
+            Err(_) => {
+                return Err(OpFault::Passed {
+                    formula: Formula::F4,
+                });
+            }
+        };
+        let next = EdgeEnds {
+            turn,
+            x_a: beside.to_a.x,
+            x_b: beside.to_b.x,
+            y_a: beside.to_a.y,
+            y_b: beside.to_b.y,
+        };
+        if out.push(next).is_err() {
+            return Err(OpFault::NoMemory);
+        }
+    }
+    Ok(out)
+}

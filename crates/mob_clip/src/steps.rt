@@ -1,0 +1,159 @@
+//! Values that change at some instants, and pairs of them taken together in one walk.
+
+ghost use Rattle.std.specs.Prelude.{◌≡◌, ◌<◌, ◌≤◌, ◌+◌, length, drop, map, List, IfOk};
+ghost use Rattle.mob_ratio.specs.Ratio.{Ratio};
+ghost use Rattle.mob_clip.specs.Steps.{steps_at, ChangesFit, IsMet};
+
+use mob_frac::Frac;
+use std::alloc::{AllocError, Global};
+
+/// A change: what stands at an instant, and behind it until the next one.
+#[derive(Clone, Copy, Drop)]
+pub struct Change<T> {
+    /// The instant.
+    pub at: Frac,
+    /// What stands there.
+    pub there: T,
+    /// What stands behind.
+    pub behind: T,
+}
+
+/// A value at each instant: the first one, and from each change on what stands behind it.
+#[derive(Drop)]
+pub struct Steps<T> {
+    /// What stands in front of the first change.
+    pub first: T,
+    /// The changes, in order of time.
+    pub changes: Vec<Change<T>>,
+}
+
+/// Values of which two are taken together.
+pub trait Mix: Copy {
+    /// The two together.
+    ghost mix: { Self → Self → Self };
+
+    /// The two together.
+    fn mix(&self, other: &Self) -> Self
+        ensures value { result ≡ mix self.now other.now };
+}
+
+// The next change of two walks, and where they go on: what stands on each side, and at which place.
+#[derive(Clone, Copy, Drop)]
+struct Met<T> {
+    change: Change<T>,
+    left: T,
+    right: T,
+    i: usize,
+    j: usize,
+}
+
+// A change of the first walk alone.
+fn take_left<T: Mix>(x: &Change<T>, right: &T, i: usize, j: usize) -> Met<T>
+    ensures met { result ≡ record { change = record { at = x.now.at; there = T.mix x.now.there right.now; behind = T.mix x.now.behind right.now }; left = x.now.behind; right = right.now; i = i; j = j } }
+{
+    Met {
+        change: Change {
+            at: x.at,
+            there: x.there.mix(right),
+            behind: x.behind.mix(right),
+        },
+        left: x.behind,
+        right: *right,
+        i,
+        j,
+    }
+}
+
+// A change of the second walk alone.
+fn take_right<T: Mix>(left: &T, y: &Change<T>, i: usize, j: usize) -> Met<T>
+    ensures met { result ≡ record { change = record { at = y.now.at; there = T.mix left.now y.now.there; behind = T.mix left.now y.now.behind }; left = left.now; right = y.now.behind; i = i; j = j } }
+{
+    Met {
+        change: Change {
+            at: y.at,
+            there: left.mix(&y.there),
+            behind: left.mix(&y.behind),
+        },
+        left: *left,
+        right: y.behind,
+        i,
+        j,
+    }
+}
+
+// A change of both, at one instant.
+fn take_both<T: Mix>(x: &Change<T>, y: &Change<T>, i: usize, j: usize) -> Met<T>
+    ensures met { result ≡ record { change = record { at = x.now.at; there = T.mix x.now.there y.now.there; behind = T.mix x.now.behind y.now.behind }; left = x.now.behind; right = y.now.behind; i = i; j = j } }
+{
+    Met {
+        change: Change {
+            at: x.at,
+            there: x.there.mix(&y.there),
+            behind: x.behind.mix(&y.behind),
+        },
+        left: x.behind,
+        right: y.behind,
+        i,
+        j,
+    }
+}
+
+// The next change of either walk.
+fn meet<T: Mix>(
+    xs: &[Change<T>],
+    i: usize,
+    ys: &[Change<T>],
+    j: usize,
+    left: &T,
+    right: &T,
+) -> Met<T>
+    requires first { i ≤ length xs.now }
+    requires second { j ≤ length ys.now }
+    requires some { i + j < length xs.now + length ys.now }
+    ensures met { IsMet T.mix left.now right.now (drop i xs.now) (drop j ys.now) result.change result.left result.right (drop result.i xs.now) (drop result.j ys.now) }
+    ensures first { result.i ≤ length xs.now }
+    ensures second { result.j ≤ length ys.now }
+    ensures on { i + j < result.i + result.j }
+{
+    if i == xs.len() {
+        return take_right(left, &ys[j], i, j + 1);
+    }
+    if j == ys.len() {
+        return take_left(&xs[i], right, i + 1, j);
+    }
+    if xs[i].at.is_before(&ys[j].at) {
+        return take_left(&xs[i], right, i + 1, j);
+    }
+    if ys[j].at.is_before(&xs[i].at) {
+        return take_right(left, &ys[j], i, j + 1);
+    }
+    take_both(&xs[i], &ys[j], i + 1, j + 1)
+}
+
+/// Two of them taken together at each instant.
+pub fn merged<T: Mix>(
+    alloc: Global,
+    a: &Steps<T>,
+    b: &Steps<T>,
+) -> Result<Steps<T>, AllocError>
+    ensures values { IfOk result (λ m. (t : Ratio) → steps_at m t ≡ T.mix (steps_at a.now t) (steps_at b.now t)) }
+    ensures fit { IfOk result (λ m. (parts : Ratio → List Ratio) → ChangesFit parts a.now.changes.items → ChangesFit parts b.now.changes.items → ChangesFit parts m.changes.items) }
+{
+    let xs = a.changes.as_slice();
+    let ys = b.changes.as_slice();
+    let first = a.first.mix(&b.first);
+    let mut changes = Vec::new(alloc);
+    let mut left = a.first;
+    let mut right = b.first;
+    let mut i = 0;
+    let mut j = 0;
+    while i < xs.len() || j < ys.len() {
+        let met = meet(xs, i, ys, j, &left, &right);
+        changes.push(met.change)?;
+        left = met.left;
+        right = met.right;
+        i = met.i;
+        j = met.j;
+    }
+    Ok(Steps { first, changes })
+}
