@@ -55,16 +55,21 @@ next_step a b true fields records h r on = by records h.all
         let same : m.2.0 ≡ all.2.0 = cc both in
         let here : x ≡ fields = all.2.2 ∙ sym (ap (λ (q : Read). q.0) same) ∙ sym m.2.2 in
         let rest : Reached default_config m.2.0.1 m.2.0.2 xs all.0 all.1 = subst (λ (q : Read). Reached default_config q.1 q.2 xs all.0 all.1) (sym same) all.2.3 in
-        let there : Reached default_config b.state m.2.0.2 xs all.0 all.1 = subst (λ s. Reached default_config s m.2.0.2 xs all.0 all.1) m.2.3.0 rest in
-        (xs, (ap (λ z. z ∷ xs) here, record {
-          trim = r.3 ∙ h.trim;
-          ready = ((on refl).4 h.ready).0;
-          config = r.2 ∙ h.config;
-          flexible = (on refl).2 ∙ h.flexible;
-          bytes = m.0;
-          source = m.1;
-          all = (all.0, all.1, subst (λ ys. Reached default_config b.state ys xs all.0 all.1) m.2.3.1 there, all.3);
-        }))
+        let there : Reached default_config b.state m.2.0.2 xs all.0 all.1 = subst (λ s. Reached default_config s m.2.0.2 xs all.0 all.1) m.2.3.0 rest in (
+          xs,
+          (
+            ap (λ z. z ∷ xs) here,
+            record {
+              trim = r.3 ∙ h.trim;
+              ready = ((on refl).4 h.ready).0;
+              config = r.2 ∙ h.config;
+              flexible = (on refl).2 ∙ h.flexible;
+              bytes = m.0;
+              source = m.1;
+              all = (all.0, all.1, subst (λ ys. Reached default_config b.state ys xs all.0 all.1) m.2.3.1 there, all.3);
+            },
+          ),
+        )
 next_step a b false fields records h r on = by records h.all
   where
     none : next_record default_config a.state [] [] h.bytes ≡ None

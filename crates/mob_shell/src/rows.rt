@@ -30,7 +30,7 @@ fn row_of(
 ) -> Result<Items<Value>, AllocError>
     ensures row { IfOk result (λ row. row ≡ values_of consts.now numbers.now) }
 {
-    let mut row = Vec::new(alloc);
+    let mut row = Vec::with_capacity(alloc, numbers.len())?;
     for number in numbers {
         row.push(value_of(alloc, consts, number)?)?;
     }

@@ -12,13 +12,17 @@ returns c =
     let bytes = strip_bom c.args.bytes.now in
     let some = some_records (length bytes) st.StartRecord bytes (omega arith) in
     record {
-      all = (some.0, some.1, record {
-        trim = rw e at fr.trim ∙ c.new.ensures.trim;
-        ready = inr (inr (rw e at fr.has_headers, fr.headers));
-        config = rw e at fr.config ∙ c.new.ensures.config;
-        flexible = rw e at fr.flexible;
-        bytes = bytes;
-        source = fr.source;
-        all = subst (λ s. AreRecords default_config s bytes some.0) (sym fr.state) some.1;
-      });
+      all = (
+        some.0,
+        some.1,
+        record {
+          trim = rw e at fr.trim ∙ c.new.ensures.trim;
+          ready = inr (inr (rw e at fr.has_headers, fr.headers));
+          config = rw e at fr.config ∙ c.new.ensures.config;
+          flexible = rw e at fr.flexible;
+          bytes = bytes;
+          source = fr.source;
+          all = subst (λ s. AreRecords default_config s bytes some.0) (sym fr.state) some.1;
+        },
+      );
     }
