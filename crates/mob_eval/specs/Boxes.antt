@@ -9,7 +9,7 @@ use Rattle.mob_cells.specs.Restricted.{IsRestricted}
 use Rattle.mob_stbox.specs.Boxes.{BoxOf, BoxesMeet, in_box}
 use Rattle.mob_stbox.specs.Expansion.{expanded, parts_of_expansion}
 use Rattle.mob_clip.specs.Boxes.{entries_of_box}
-use Rattle.mob_value.specs.BoxOf.{box_of}
+use Rattle.mob_value.specs.ValueBoxes.{value_box}
 use Rattle.mob_value.specs.declared.value.Value.{Value}
 use Rattle.mob_value.specs.declared.value.Value.TheVariants.{Null, Number, Box, MovingPoint}
 use Rattle.mob_eval.specs.Moving.{or_nothing, IsFunctionOrNull}
@@ -18,12 +18,12 @@ use Rattle.mob_eval.specs.Ordinary.{IsTruthOf}
 -- a box has itself, and a moving point the least box that has all its places and instants
 abbrev pub own_box : Value → Option BoxOf
 own_box (Box b) = Some b
-own_box (MovingPoint a) = Some (box_of a)
+own_box (MovingPoint a) = Some (value_box a)
 own_box _ = None
 
 -- stbox
 abbrev pub box_value : Value → Value
-box_value (MovingPoint a) = Box (box_of a)
+box_value (MovingPoint a) = Box (value_box a)
 box_value _ = Null
 
 -- `&&`: whether two boxes meet

@@ -55,6 +55,7 @@ inner_root_parts f0 f1 l u =
     let w = u -ℚ l in
     let s = w *ℚ q in
     d ∷ q ∷ w ∷ s ∷ (l +ℚ s) ∷ []
+
 -- F4, the turn of the point (x, y) against the way from (x0, y0) to (x1, y1): the cross product of that way and of the way to
 -- the point (Cormen, Leiserson, Rivest and Stein, Introduction to Algorithms, section "Line-segment properties").
 abbrev pub parts_of_turn : Ratio → Ratio → Ratio → Ratio → Ratio → Ratio → List Ratio
@@ -78,17 +79,22 @@ foot_parts quotients x0 y0 x1 y1 =
     let B = x0 *ℚ ex +ℚ y0 *ℚ ey in
     let K = x0 *ℚ ey -ℚ y0 *ℚ ex in
     ex ∷ ey ∷ (ex *ℚ ex) ∷ (ey *ℚ ey) ∷ A ∷ (x0 *ℚ ex) ∷ (y0 *ℚ ey) ∷ B ∷ (A +ℚ B) ∷ (x0 *ℚ ey) ∷ (y0 *ℚ ex) ∷ K ∷ cond (before B nil && before nil (A +ℚ B)) (quotients A K) []
+
 -- for the square of the distance of the foot
 abbrev pub approach_parts : Ratio → Ratio → Ratio → Ratio → List Ratio
 approach_parts = foot_parts (λ A K. (K /ℚ A) ∷ (K *ℚ (K /ℚ A)) ∷ [])
+
 -- for whether that is at most D: where K is 0 it is
 abbrev pub within_parts : Ratio → Ratio → Ratio → Ratio → Ratio → List Ratio
 within_parts D = foot_parts (λ A K. (K /ℚ A) ∷ cond (same K nil) [] ((D /ℚ K) ∷ []))
+
 -- F6, the square of the distance of two points whose coordinates differ by x and y (Pythagoras); and the square of a distance d
 abbrev pub square_parts : Ratio → Ratio → List Ratio
 square_parts x y = (x *ℚ x) ∷ (y *ℚ y) ∷ (x *ℚ x +ℚ y *ℚ y) ∷ []
+
 abbrev pub distance_parts : Ratio → List Ratio
 distance_parts d = (d *ℚ d) ∷ []
+
 -- F7, an area made wider: each of its sides moved outward by d, in the order in which they are written.
 abbrev pub expansion_parts : Ratio → Ratio → Ratio → Ratio → Ratio → List Ratio
 expansion_parts xmin xmax ymin ymax d = (xmin -ℚ d) ∷ (xmax +ℚ d) ∷ (ymin -ℚ d) ∷ (ymax +ℚ d) ∷ []

@@ -1,5 +1,5 @@
 -- The box of a value over time.
-use Rattle.std.specs.Prelude.{◌≡◌, true, List, [], ◌∷◌, Option, Some, IfSome}
+use Rattle.std.specs.Prelude.{◌≡◌, true, List, [], ◌∷◌, Option, Some, None, IfSome}
 use Rattle.mob_ratio.specs.Ratio.{Ratio}
 use Rattle.mob_plane.specs.declared.point.Point.{Point}
 use Rattle.mob_slice.specs.Lines.{plane_value_of}
@@ -30,3 +30,8 @@ slice_box s = record { space = Some (area_between s.course.from s.course.to); ti
 abbrev pub covered : BoxOf → List (Slice PlaneLine) → BoxOf
 covered b [] = b
 covered b (s ∷ rest) = covered (cover b (slice_box s)) rest
+
+-- the box of a value; a list of no slices, which no value is, has none
+abbrev pub value_box : List (Slice PlaneLine) → BoxOf
+value_box [] = record { space = None; time = None }
+value_box (s ∷ rest) = covered (slice_box s) (s ∷ rest)

@@ -1,7 +1,7 @@
 //! The box of a value over time.
 ghost use Rattle.std.specs.Prelude.{◌≡◌, true};
 ghost use Rattle.mob_stbox.specs.Boxes.{is_whole};
-ghost use Rattle.mob_value.specs.ValueBoxes.{IsBoxOf, slice_box as box_of_slice, covered};
+ghost use Rattle.mob_value.specs.ValueBoxes.{IsBoxOf, slice_box as box_of_slice, covered, value_box};
 
 use mob_slice::{Moving, PlaneLine, Slice};
 use mob_stbox::{Area, StBox};
@@ -35,6 +35,7 @@ fn cover_all(first: StBox, slices: &[Slice<PlaneLine>]) -> StBox
 /// which it is defined. It takes no memory.
 pub fn box_of(moving: &Moving<PlaneLine>) -> StBox
     ensures least { IsBoxOf moving.now result }
+    ensures value { result ≡ value_box moving.now }
 {
     let slices = moving.slices();
     match slices {
