@@ -1,5 +1,5 @@
 -- The box that covers the boxes of all slices is that of the value.
-use Rattle.std.specs.Prelude.{◌≡◌, Bool, true, false, cond, refl, List, [], ◌∷◌, Option, Some, None, IfSome, MatchOption, not, ◌&&◌, ◌||◌}
+use Rattle.std.specs.Prelude.{◌≡◌, ◌≢◌, Bool, true, false, cond, refl, List, [], ◌∷◌, Option, Some, None, IfSome, MatchOption, not, ◌&&◌, ◌||◌}
 use Rattle.std.specs.Prelude.{ℕ, ◌+◌, ◌<◌, length}
 use Rattle.std.proofs.Common.{drop, get_or}
 use Rattle.std.proofs.lemmas.List.{drop_more}
@@ -29,7 +29,7 @@ use Rattle.mob_stbox.specs.Boxes.{BoxOf, InBox, in_space, in_time, BoxContains, 
 use Rattle.mob_stbox.specs.declared.area.Area.{Area}
 use Rattle.mob_stbox.proofs.BoxLaws.{in_contained, contains_is, over_self, over_trans, cover_over_left, cover_over_right, cover_least, cover_whole}
 use Rattle.mob_stbox.proofs.Sides.{four, all_four, in_area_exact, smaller_left, smaller_right, greater_left, greater_right, between_least}
-use Rattle.mob_value.specs.ValueBoxes.{HasPositions, IsBoxOf, slice_box, covered}
+use Rattle.mob_value.specs.ValueBoxes.{HasPositions, IsBoxOf, slice_box, covered, value_box}
 
 abbrev start : PlaneLine → Point
 start c = c.from
@@ -197,6 +197,11 @@ is_box_of continues (s ∷ rest) first b normal e is =
       least = λ d f. let a = all_least all d o f in contains_is d (covered (slice_box s) all) (covered_least (slice_box s) d all a.0 a);
     } in
     subst (λ z. IsBoxOf all z) (sym (is ∙ ap (λ (z : Slice PlaneLine). covered (slice_box z) all) e)) whole
+
+-- which is the box of the value
+pub is_value_box : (slices : List (Slice PlaneLine)) (first : Slice PlaneLine) (b : BoxOf) → slices ≢ [] → first ≡ get_or slices 0 first → b ≡ covered (slice_box first) slices → b ≡ value_box slices
+is_value_box [] first b some e is = absurd (some refl)
+is_value_box (s ∷ rest) first b some e is = is ∙ ap (λ (z : Slice PlaneLine). covered (slice_box z) (s ∷ rest)) e
 
 -- one slice more
 pub next_covered : (over next first : BoxOf) (slices : List (Slice PlaneLine)) (i : ℕ) (s : Slice PlaneLine) → i < length slices → s ≡ get_or slices i s → next ≡ cover over (slice_box s) → covered over (drop i slices) ≡ covered first slices → covered next (drop (i + 1) slices) ≡ covered first slices
