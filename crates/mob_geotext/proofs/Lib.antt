@@ -6,3 +6,4 @@ pub mod OneReadings
 pub mod BoxesExact
 pub mod BoxesRead
 pub mod BoxesAgain
+mod Examples

@@ -1,6 +1,5 @@
-use Rattle.std.proofs.Common.{rules, sym, ap, ◌∙◌, ◌≡◌, subst}
+use Rattle.std.proofs.Common.{rules}
 use Rattle.mob_slice.specs.Lines.{plane_continued}
-use Rattle.mob_value.specs.ValueBoxes.{slice_box, covered}
 use Rattle.mob_value.proofs.ValueBoxes.{is_box_of}
 use Rattle.mob_value.proofs.value_box.box_of.Goals as goal
 
