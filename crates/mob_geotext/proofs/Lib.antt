@@ -11,3 +11,4 @@ pub mod PolygonsRead
 pub mod PolygonsAgain
 pub mod JoinedWritten
 mod Examples
+mod BoxExamples

@@ -1,19 +1,19 @@
 -- What holds of boxes: what their tests mean, and what a search through boxes over boxes stands on.
-use Rattle.std.specs.Prelude.{◌≡◌, ◌↔◌, ◌⊎◌, IsTrue, Bool, true, false, refl, ◌||◌, ◌&&◌, Option, Some, None, is_some, IfSome, IsNone, MatchOption}
+use Rattle.std.specs.Prelude.{◌≡◌, ◌↔◌, ◌⊎◌, IsTrue, Bool, true, false, refl, ◌||◌, ◌&&◌, not, Option, Some, None, is_some, IfSome, IsNone, MatchOption}
 use Rattle.std.proofs.Common.{arith, ap, sym, ◌∙◌, true≢false, inl, inr, subst}
 use Rattle.mob_ratio.specs.Ratio.{Ratio, ◌<ℚ◌}
 use Rattle.mob_ratio.specs.Order.{before, up_to}
-use Rattle.mob_ratio.proofs.Order.{before-lt, lt-before}
-use Rattle.mob_span.specs.Span.{SpanOf, InSpan, has, has_instant}
+use Rattle.mob_ratio.proofs.Order.{before-lt, lt-before, before-back, before-neither}
+use Rattle.mob_span.specs.Span.{SpanOf, InSpan}
 use Rattle.mob_span.specs.Neighbours.{is_inside}
 use Rattle.mob_span.proofs.SpanLemmas.{has_exact}
 use Rattle.mob_span.proofs.Ends.{inside_exact}
 use Rattle.mob_span.proofs.Insides.{both, joined as both_true, inside_self}
 use Rattle.mob_plane.specs.declared.point.Point.{Point}
-use Rattle.mob_stbox.specs.Areas.{InArea, in_area, is_area, areas_meet, area_over, area_cover}
+use Rattle.mob_stbox.specs.Areas.{InArea, is_area, areas_meet, area_over, area_cover}
 use Rattle.mob_stbox.specs.Boxes.{BoxOf, NoBox, area_stands, span_stands, is_box, is_whole, InBox, in_space, in_time, in_box, both_have, BoxesMeet, where_both, spans_meet, overlaps, BoxContains, lies_in, contains, IsCover, span_cover, of_both, cover}
 use Rattle.mob_stbox.specs.declared.area.Area.{Area}
-use Rattle.mob_stbox.proofs.Sides.{upto_self, in_area_exact, areas_meet_exact, spans_meet_exact, area_over_exact, in_over, in_inside, area_over_self, area_over_trans, area_over_meets, area_cover_left, area_cover_right, area_cover_least, over_is_area, inside_meets, inside_trans, span_cover_left, span_cover_right, span_cover_least, span_cover_some}
+use Rattle.mob_stbox.proofs.Sides.{four, upto_self, in_area_exact, areas_meet_exact, spans_meet_exact, area_over_exact, in_over, in_inside, area_over_self, area_over_trans, area_over_meets, area_cover_left, area_cover_right, area_cover_least, over_is_area, inside_meets, inside_trans, span_cover_left, span_cover_right, span_cover_least, span_cover_some}
 
 -- the dimensions of a box stand
 pub box_area : (b : BoxOf) → is_box b ≡ true → area_stands b.space ≡ true
@@ -285,3 +285,59 @@ made_box a time (Some b) h n v = ap Some v
 -- a point is an area
 pub point_is_area : (x y : Ratio) → is_area (record { xmin = x; xmax = x; ymin = y; ymax = y }) ≡ true
 point_is_area x y = both_true (up_to x x) (up_to y y) (upto_self x) (upto_self y)
+
+-- ---- two boxes that contain one another are one
+
+upto_both : (s t : Ratio) → up_to s t ≡ true → up_to t s ≡ true → s ≡ t
+upto_both s t h k = before-neither s t (grind (arith, k)) (grind (arith, h))
+
+area_both : (a b : Area) → area_over a b ≡ true → area_over b a ≡ true → a ≡ b
+area_both a b h k =
+    let i = four (up_to a.xmin b.xmin) (up_to b.xmax a.xmax) (up_to a.ymin b.ymin) (up_to b.ymax a.ymax) h in
+    let j = four (up_to b.xmin a.xmin) (up_to a.xmax b.xmax) (up_to b.ymin a.ymin) (up_to a.ymax b.ymax) k in
+    let p = upto_both a.xmin b.xmin i.0 j.0 in
+    let q = upto_both a.xmax b.xmax j.1 i.1 in
+    let r = upto_both a.ymin b.ymin i.2 j.2 in
+    let s = upto_both a.ymax b.ymax j.3 i.3 in
+    λ n. record { xmin = p n; xmax = q n; ymin = r n; ymax = s n }
+
+end_both : (a b : Ratio) (i j : Bool) → (before a b || (up_to a b && (i || not j))) ≡ true → (before b a || (up_to b a && (j || not i))) ≡ true → (a ≡ b) × (i ≡ j)
+end_both a b i j h k =
+    let e = before-neither a b (grind (arith, h, k, before-back a b, before-back b a)) (grind (arith, h, k, before-back a b, before-back b a)) in
+    (e, flag i j (grind (arith, h, k, before-back a b, before-back b a)) (grind (arith, h, k, before-back a b, before-back b a)))
+  where
+    flag : (i j : Bool) → (i || not j) ≡ true → (j || not i) ≡ true → i ≡ j
+    flag true true h k = refl
+    flag false false h k = refl
+    flag true false h k = sym k
+    flag false true h k = h
+
+span_both : (s r : SpanOf) → is_inside s r ≡ true → is_inside r s ≡ true → s ≡ r
+span_both s r h k =
+    let i = both _ _ h in
+    let j = both _ _ k in
+    let l = end_both s.lower r.lower s.lower_inc r.lower_inc i.0 j.0 in
+    let u = end_both r.upper s.upper s.upper_inc r.upper_inc i.1 j.1 in
+    let p = l.0 in
+    let q = sym u.0 in
+    let v = l.1 in
+    let w = u.1 in
+    λ n. record { lower = p n; upper = q n; lower_inc = v n; upper_inc = w n }
+
+part_both : {A : Type 0} (over : A → A → Bool) → ((x y : A) → over x y ≡ true → over y x ≡ true → x ≡ y) → (a b : Option A) → lies_in over a b ≡ true → lies_in over b a ≡ true → a ≡ b
+part_both over f None None h k = refl
+part_both over f None (Some y) h k = absurd (true≢false (sym k))
+part_both over f (Some x) None h k = absurd (true≢false (sym h))
+part_both over f (Some x) (Some y) h k = ap Some (f x y h k)
+
+pub contains_both : (a b : BoxOf) → contains a b ≡ true → contains b a ≡ true → a ≡ b
+unfolding contains
+contains_both a b h k =
+    let m = both (lies_in area_over a.space b.space) (lies_in is_inside a.time b.time) h in
+    let n = both (lies_in area_over b.space a.space) (lies_in is_inside b.time a.time) k in
+    let p = part_both area_over area_both a.space b.space m.0 n.0 in
+    let q = part_both is_inside span_both a.time b.time m.1 n.1 in
+    λ i. record { space = p i; time = q i }
+
+pub one_box : (a b : BoxOf) → is_box a ≡ true → is_box b ≡ true → BoxContains a b → BoxContains b a → a ≡ b
+one_box a b h k c d = contains_both a b (is_contains a b k c) (is_contains b a h d)

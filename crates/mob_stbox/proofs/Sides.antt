@@ -1,6 +1,6 @@
 -- How areas and spans lie, by their sides.
 use Rattle.std.specs.Prelude.{◌≡◌, ◌↔◌, Bool, true, false, cond, refl, ◌||◌, ◌&&◌, not, IsTrue}
-use Rattle.std.proofs.Common.{arith, ap, sym, ◌∙◌, true≢false}
+use Rattle.std.proofs.Common.{arith, sym, ◌∙◌, true≢false}
 use Rattle.mob_ratio.specs.Ratio.{Ratio, ◌≤ℚ◌}
 use Rattle.mob_ratio.specs.Order.{before, up_to}
 use Rattle.mob_ratio.proofs.Order.{before-self, before-back, before-trans, before-neither, not-up_to-le, le-up_to}

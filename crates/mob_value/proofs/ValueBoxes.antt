@@ -1,5 +1,5 @@
 -- The box that covers the boxes of all slices is that of the value.
-use Rattle.std.specs.Prelude.{◌≡◌, ◌≢◌, Bool, true, false, cond, refl, List, [], ◌∷◌, Option, Some, None, IfSome, MatchOption, not, ◌&&◌, ◌||◌}
+use Rattle.std.specs.Prelude.{◌≡◌, ◌≢◌, Bool, true, false, cond, refl, List, [], ◌∷◌, Option, Some, None, IfSome}
 use Rattle.std.specs.Prelude.{ℕ, ◌+◌, ◌<◌, length}
 use Rattle.std.proofs.Common.{drop, get_or}
 use Rattle.std.proofs.lemmas.List.{drop_more}
@@ -10,11 +10,11 @@ use Rattle.mob_ratio.specs.Order.{before, up_to}
 use Rattle.mob_ratio.specs.Line.{line_at}
 use Rattle.mob_ratio.proofs.Between.{within, start_below, end_below, start_above, end_above}
 use Rattle.mob_ratio.proofs.LineAt.{line_at-short}
-use Rattle.mob_ratio.proofs.Order.{before-self, before-back, before-trans, before-neither, false_unless}
+use Rattle.mob_ratio.proofs.Order.{before-self, before-back, false_unless}
 use Rattle.mob_span.specs.Span.{SpanOf, InSpan, has, has_instant}
 use Rattle.mob_span.specs.Neighbours.{is_inside}
 use Rattle.mob_span.proofs.Ends.{inside_exact}
-use Rattle.mob_span.proofs.Insides.{both, joined as both_true, clear_has}
+use Rattle.mob_span.proofs.Insides.{joined as both_true, clear_has}
 use Rattle.mob_span.proofs.Shared.{AreAllClear, all_after}
 use Rattle.mob_span.proofs.SpanLemmas.{has_exact, has_upto_lower, has_upto_upper}
 use Rattle.mob_span.proofs.Touching.{upto_trans}
@@ -24,11 +24,11 @@ use Rattle.mob_slice.specs.Slices.{value_at, IsSound, IsOrdered, IsNormal}
 use Rattle.mob_slice.specs.declared.line.PlaneLine.{PlaneLine}
 use Rattle.mob_slice.specs.declared.slice.Slice.{Slice}
 use Rattle.mob_slice.proofs.Orders.{ordered, ordered-clear}
-use Rattle.mob_stbox.specs.Areas.{InArea, in_area, area_over, area_between, smaller, greater}
-use Rattle.mob_stbox.specs.Boxes.{BoxOf, InBox, in_space, in_time, BoxContains, is_whole, contains, lies_in, cover}
+use Rattle.mob_stbox.specs.Areas.{InArea, area_over, area_between, is_area, smaller, greater}
+use Rattle.mob_stbox.specs.Boxes.{BoxOf, InBox, is_box, is_whole, contains, lies_in, cover}
 use Rattle.mob_stbox.specs.declared.area.Area.{Area}
-use Rattle.mob_stbox.proofs.BoxLaws.{in_contained, contains_is, over_self, over_trans, cover_over_left, cover_over_right, cover_least, cover_whole}
-use Rattle.mob_stbox.proofs.Sides.{four, all_four, in_area_exact, smaller_left, smaller_right, greater_left, greater_right, between_least}
+use Rattle.mob_stbox.proofs.BoxLaws.{in_contained, contains_is, over_self, over_trans, cover_over_left, cover_over_right, cover_least, cover_whole, cover_is_box, one_box}
+use Rattle.mob_stbox.proofs.Sides.{four, all_four, in_area_exact, smaller_left, smaller_right, greater_left, greater_right, between_least, between_is_area}
 use Rattle.mob_value.specs.ValueBoxes.{HasPositions, IsBoxOf, slice_box, covered, value_box}
 
 abbrev start : PlaneLine → Point
@@ -96,6 +96,13 @@ covered_has b (s ∷ rest) t = has_by s rest (covered (cover b (slice_box s)) re
 covered_whole : (b : BoxOf) (slices : List (Slice PlaneLine)) → is_whole b ≡ true → is_whole (covered b slices) ≡ true
 covered_whole b [] w = w
 covered_whole b (s ∷ rest) w = covered_whole (cover b (slice_box s)) rest (cover_whole b (slice_box s) w (slice_whole s))
+
+slice_is_box : (s : Slice PlaneLine) → IsSound start end s → is_box (slice_box s) ≡ true
+slice_is_box s sound = both_true (is_area (area_between s.course.from s.course.to)) (has_instant s.span) (between_is_area s.course.from s.course.to) sound.some
+
+covered_is_box : (b : BoxOf) (slices : List (Slice PlaneLine)) → is_whole b ≡ true → is_box b ≡ true → is_box (covered b slices) ≡ true
+covered_is_box b [] w h = h
+covered_is_box b (s ∷ rest) w h = covered_is_box (cover b (slice_box s)) rest (cover_whole b (slice_box s) w (slice_whole s)) (cover_is_box b (slice_box s) w (slice_whole s) h)
 
 -- ---- a box with all positions of a slice contains the slice's box
 
@@ -192,6 +199,7 @@ is_box_of continues (s ∷ rest) first b normal e is =
     let all = s ∷ rest in
     let o : IsOrdered start end all = ordered start end continues all normal.chained in
     let whole : IsBoxOf all (covered (slice_box s) all) = record {
+      sound = covered_is_box (slice_box s) all (slice_whole s) (slice_is_box s o.0);
       whole = covered_whole (slice_box s) all (slice_whole s);
       has = covered_has (slice_box s) all;
       least = λ d f. let a = all_least all d o f in contains_is d (covered (slice_box s) all) (covered_least (slice_box s) d all a.0 a);
@@ -210,3 +218,7 @@ next_covered over next first slices i s low here is h =
 
 pub next_whole : (over next : BoxOf) (s : Slice PlaneLine) → is_whole over ≡ true → next ≡ cover over (slice_box s) → is_whole next ≡ true
 next_whole over next s h is = rw is (cover_whole over (slice_box s) h (slice_whole s))
+
+-- a value has one box
+pub one_value_box : (slices : List (Slice PlaneLine)) (b c : BoxOf) → IsBoxOf slices b → IsBoxOf slices c → b ≡ c
+one_value_box slices b c h k = one_box b c h.sound k.sound (k.least b h.has) (h.least c k.has)

@@ -1,13 +1,12 @@
 -- The box of a value over time.
-use Rattle.std.specs.Prelude.{◌≡◌, true, List, [], ◌∷◌, Option, Some, None, IfSome}
+use Rattle.std.specs.Prelude.{◌≡◌, true, List, [], ◌∷◌, Some, None, IfSome}
 use Rattle.mob_ratio.specs.Ratio.{Ratio}
-use Rattle.mob_plane.specs.declared.point.Point.{Point}
 use Rattle.mob_slice.specs.Lines.{plane_value_of}
 use Rattle.mob_slice.specs.Slices.{value_at}
 use Rattle.mob_slice.specs.declared.line.PlaneLine.{PlaneLine}
 use Rattle.mob_slice.specs.declared.slice.Slice.{Slice}
 use Rattle.mob_stbox.specs.Areas.{area_between}
-use Rattle.mob_stbox.specs.Boxes.{BoxOf, InBox, BoxContains, is_whole, cover}
+use Rattle.mob_stbox.specs.Boxes.{BoxOf, InBox, BoxContains, is_box, is_whole, cover}
 
 -- at each instant at which the value is defined, its position there is in the box at that instant
 abbrev pub HasPositions : List (Slice PlaneLine) → BoxOf → Type 0
@@ -16,6 +15,7 @@ HasPositions slices b = (t : Ratio) → IfSome (value_at plane_value_of slices t
 -- The box of a value has space and time and all positions of the value, each at its instant, and each box that has them contains it: so
 -- its rectangle is the least closed one, and its span the least one.
 pub record IsBoxOf (slices : List (Slice PlaneLine)) (b : BoxOf) : Type 0 where
+  pub sound : is_box b ≡ true
   pub whole : is_whole b ≡ true
   pub has : HasPositions slices b
   pub least : (d : BoxOf) → HasPositions slices d → BoxContains d b

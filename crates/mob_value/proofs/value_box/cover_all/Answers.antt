@@ -1,4 +1,4 @@
-use Rattle.std.proofs.Common.{rules, arith, sym, ap, ◌∙◌, ◌≡◌}
+use Rattle.std.proofs.Common.{arith, ap, ◌∙◌, ◌≡◌}
 use Rattle.mob_stbox.specs.Boxes.{cover}
 use Rattle.mob_value.specs.ValueBoxes.{slice_box}
 use Rattle.mob_value.proofs.ValueBoxes.{next_covered, next_whole}
