@@ -10,6 +10,8 @@ use Rattle.mob_scalar.proofs.MomentAgain.{moment_again}
 use Rattle.mob_literal.specs.SqlText.{SaysAs, value_text}
 use Rattle.mob_literal.specs.SqlReadable.{IsReadableAs}
 use Rattle.mob_points.proofs.PointsAgain.{point_again}
+use Rattle.mob_geotext.proofs.BoxesAgain.{box_again}
+use Rattle.mob_geotext.proofs.PolygonsAgain.{polygon_again}
 use Rattle.mob_geotext.proofs.SpansAgain.{span_again, span_set_again}
 use Rattle.mob_literal.proofs.MovingAgain.{truths_again, numbers_again, texts_again}
 use Rattle.mob_literal.proofs.LinesAgain.{lines_again, plane_lines_again}

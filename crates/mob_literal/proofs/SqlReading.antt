@@ -15,7 +15,8 @@ use Rattle.mob_points.proofs.OnePoint.{one_point}
 use Rattle.mob_geotext.specs.Boxes.{boxes}
 use Rattle.mob_geotext.specs.Polygons.{polygons}
 use Rattle.mob_geotext.specs.Spans.{spans, span_sets}
-use Rattle.mob_geotext.proofs.OneReadings.{one_span, one_span_set}
+use Rattle.mob_geotext.proofs.BoxesAgain.{one_box}
+use Rattle.mob_geotext.proofs.OneReadings.{one_span, one_span_set, one_polygon}
 use Rattle.mob_ast.specs.declared.types.SqlType.{SqlType}
 use Rattle.mob_ast.specs.declared.types.SqlType.TheVariants as sql
 use Rattle.mob_value.specs.declared.value.Value.{Value}
