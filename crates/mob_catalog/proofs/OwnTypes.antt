@@ -47,10 +47,10 @@ says_its_type sql.TBool day text v h = made_so sql.TBool value.MovingBool h.0 v 
 says_its_type sql.TInt day text v h = made_so sql.TInt value.MovingInt h.0 v h.1 refl (step_values day number_value is_whole same text h.0 h.2)
 says_its_type sql.TText day text v h = made_so sql.TText value.MovingText h.0 v h.1 refl tt
 says_its_type sql.Point day text v h = made_so sql.Point value.Point h.0 v h.1 refl tt
-says_its_type sql.Polygon day text v h = absurd h.2.1
+says_its_type sql.Polygon day text v h = made_so sql.Polygon value.Polygon h.0 v h.1 refl tt
 says_its_type sql.Span day text v h = made_so sql.Span value.Span h.0 v h.1 refl tt
 says_its_type sql.SpanSet day text v h = made_so sql.SpanSet value.SpanSet h.0 v h.1 refl tt
-says_its_type sql.Box day text v h = absurd h.2.1
+says_its_type sql.Box day text v h = made_so sql.Box value.Box h.0 v h.1 refl tt
 says_its_type sql.TFrac day text v h = made_so sql.TFrac value.MovingFrac h.0 v h.1 refl tt
 says_its_type sql.TPoint day text v h = made_so sql.TPoint value.MovingPoint h.0 v h.1 refl tt
 
