@@ -1,4 +1,4 @@
-use Rattle.std.proofs.Common.{arith, rules, ◌≡◌, ◌∙◌, ◌≤◌, ◌<◌, ap, length, sym}
+use Rattle.std.proofs.Common.{arith, rules, ◌∙◌, ◌≤◌, ap, length, sym}
 use Rattle.mob_catalog.specs.Catalogue.{Catalogue, rows_put, with_last_row, with_live_row, with_row}
 use Rattle.mob_catalog.proofs.Changed.{length_changed, no_change}
 use Rattle.mob_catalog.proofs.catalog.Catalog.add_row.Goals as goal
