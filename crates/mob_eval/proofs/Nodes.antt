@@ -30,6 +30,14 @@ many s o ty ts (a ∷ b ∷ []) h = absurd (omega (arith, h))
 many s o ty ts (a ∷ b ∷ c ∷ []) h = absurd (omega (arith, h))
 many s o ty ts (a ∷ b ∷ c ∷ d ∷ rest) h = refl
 
+-- and have no formula
+pub many_first : (o : Op) (ty : SqlType) (ts : List SqlType) (hs : List Held) → 4 ≤ length hs → IsFirstFormula o ty ts (map held hs) None
+many_first o ty ts [] h = absurd (omega (arith, h))
+many_first o ty ts (a ∷ []) h = absurd (omega (arith, h))
+many_first o ty ts (a ∷ b ∷ []) h = absurd (omega (arith, h))
+many_first o ty ts (a ∷ b ∷ c ∷ []) h = absurd (omega (arith, h))
+many_first o ty ts (a ∷ b ∷ c ∷ d ∷ rest) h = refl
+
 module _ (s : Scene) (e : TExpr) (stop : Option Bool) (xs : List TExpr) (es : stop ≡ stop_of (out-TExpr e).op) (ex : xs ≡ (out-TExpr e).args.items) where
   moved : (r : Result (List Value) Fault) → OperandsEvaluateTo s stop (trees xs) r → OperandsEvaluateTo s (stop_of (out-TExpr e).op) (trees (out-TExpr e).args.items) r
   moved r h = subst (λ o. OperandsEvaluateTo s o (trees (out-TExpr e).args.items) r) es (subst (λ ys. OperandsEvaluateTo s stop (trees ys) r) ex h)
