@@ -1,5 +1,5 @@
 -- Where an edge crosses the height of a point to the right of it, the point turns from the edge as the edge rises.
-use Rattle.std.specs.Prelude.{◌≡◌, ◌≢◌, true, pos, ◌+ℤ◌, neg_ℤ}
+use Rattle.std.specs.Prelude.{◌≡◌, ◌≢◌, refl, Bool, false, true, pos, ◌+ℤ◌, neg_ℤ}
 use Rattle.std.proofs.Common.{arith}
 use Rattle.mob_ratio.specs.Ratio.{Ratio, whole, ◌<ℚ◌, ◌+ℚ◌, ◌-ℚ◌, ◌*ℚ◌}
 use Rattle.mob_ratio.specs.Order.{before}
@@ -8,7 +8,7 @@ use Rattle.mob_ratio.specs.Line.{IsOnLine, line_value}
 use Rattle.mob_ratio.proofs.IntRing.{linear, products, lt_mul, lt_of_mul}
 use Rattle.mob_ratio.proofs.Clear.{clear2, clear7, cleared, fractions}
 use Rattle.mob_ratio.proofs.Divide.{div-mul, sub_ne-zero}
-use Rattle.mob_ratio.proofs.Order.{before-lt, lt-before, same_truth}
+use Rattle.mob_ratio.proofs.Order.{before-lt, lt-before, before-neither, same_truth}
 use Rattle.mob_plane.specs.Turns.{turn}
 use Rattle.mob_plane.specs.Membership.{crossing_at}
 use Rattle.mob_plane.specs.declared.point.Point.{Point}
@@ -57,6 +57,15 @@ falling_ne = clear2 _ (λ D l u p h e.
 crossing_is : (a b : Point) (h : Ratio) → b.y -ℚ a.y ≢ whole (pos 0) → IsOnLine a.y a.x b.y b.x h (crossing_at (a, b) h)
 unfolding line_value
 crossing_is a b h n = record { is = div-mul (a.x *ℚ (b.y -ℚ h) +ℚ b.x *ℚ (h -ℚ a.y)) (b.y -ℚ a.y) n }
+
+level_by : (l u : Ratio) (a b : Bool) → before l u ≡ a → before u l ≡ b → l ≢ u → u -ℚ l ≢ whole (pos 0)
+level_by l u true b ea eb n = sub_ne-zero l u (before-lt l u ea)
+level_by l u false true ea eb n = falling_ne l u (before-lt u l eb)
+level_by l u false false ea eb n = absurd (n (before-neither l u ea eb))
+
+-- where the edge is not level
+pub crossing_on : (a b : Point) (h : Ratio) → a.y ≢ b.y → IsOnLine a.y a.x b.y b.x h (crossing_at (a, b) h)
+crossing_on a b h n = crossing_is a b h (level_by a.y b.y (before a.y b.y) (before b.y a.y) refl refl n)
 
 pub rising_crossing : (a b p : Point) → before a.y b.y ≡ true → before p.x (crossing_at (a, b) p.y) ≡ before nil (turn a b p)
 rising_crossing a b p h =
