@@ -7,9 +7,9 @@ use Rattle.mob_tail.proofs.evaluation.each_of.Goals as goal
 pub loop-entry-preserved : goal.loop-entry-preserved
 loop-entry-preserved g c =
     let at = c.loop-entry in
-    let given : FnReturnsAt g.F.Fn c.args.make c.entry-item.result (Ok c.in-Ok.value) = says_at g.F.Fn c.make.ensures c.in-Ok.is in
-    let pushed : c.push.new.self.items ≡ at.made.items ++ c.in-Ok.value ∷ [] = search rules in
-    each_next (FnReturnsAt g.F.Fn c.args.make) c.args.entries.now at.entry-index c.entry-item.result c.loop-entry-test.true c.entry-item.is at.made.items at.invariant c.in-Ok.value c.push.new.self.items given pushed
+    let given : FnReturnsAt g.F.Fn c.args.make c.entry-item.result (Ok c.in-Ok-make.value) = says_at g.F.Fn c.make.ensures c.in-Ok-make.is in
+    let pushed : c.push.new.self.items ≡ at.made.items ++ c.in-Ok-make.value ∷ [] = search rules in
+    each_next (FnReturnsAt g.F.Fn c.args.make) c.args.entries.now at.entry-index c.entry-item.result c.loop-entry-test.true c.entry-item.is at.made.items at.invariant c.in-Ok-make.value c.push.new.self.items given pushed
 
 pub returns-in-Err-clause-fault : goal.returns-in-Err-clause-fault
 returns-in-Err-clause-fault g c =
@@ -18,4 +18,4 @@ returns-in-Err-clause-fault g c =
     inl (each_fault (FnReturnsAt g.F.Fn c.args.make) c.args.entries.now at.entry-index c.entry-item.result c.loop-entry-test.true c.entry-item.is at.made.items at.invariant c.in-Err.fault given)
 
 pub returns-clause-made : goal.returns-clause-made
-returns-clause-made g c = each_all (FnReturnsAt g.F.Fn c.args.make) c.args.entries.now c.loop-entry.entry-index c.loop-entry.made.items (omega arith) c.loop-entry.invariant
+returns-clause-made g c = rw c.from_vec.ensures.same (each_all (FnReturnsAt g.F.Fn c.args.make) c.args.entries.now c.loop-entry.entry-index c.loop-entry.made.items (omega arith) c.loop-entry.invariant)

@@ -14,9 +14,9 @@ loop-tuple-preserved c =
     let select = select_seen c.args.select.now in
     let R = IsTupleRow select c.args.store.now c.args.epoch.now in
     let there = λ (t : List ℕ). scene c.args.store.now select.from t c.args.epoch.now in
-    let pushed : c.push.new.self.items ≡ at.rows.items ++ c.in-Ok.row ∷ [] = search rules in
-    each_next R c.args.kept.now at.tuple-index c.tuple-item.result c.loop-tuple-test.true c.tuple-item.is at.rows.items at.invariant c.in-Ok.row c.push.new.self.items
-    (subst (λ t. IsRowOf select (there t) (Ok c.in-Ok.row)) c.as_slice.ensures.same c.in-Ok.ensures.row) pushed
+    let pushed : c.push.new.self.items ≡ at.rows.items ++ c.in-Ok-row_of.row ∷ [] = search rules in
+    each_next R c.args.kept.now at.tuple-index c.tuple-item.result c.loop-tuple-test.true c.tuple-item.is at.rows.items at.invariant c.in-Ok-row_of.row c.push.new.self.items
+    (subst (λ t. IsRowOf select (there t) (Ok c.in-Ok-row_of.row)) c.as_slice.ensures.same c.in-Ok-row_of.ensures.row) pushed
 
 pub returns-in-Err-clause-fault : goal.returns-in-Err-clause-fault
 returns-in-Err-clause-fault c =
