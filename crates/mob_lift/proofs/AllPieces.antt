@@ -10,7 +10,8 @@ use Rattle.mob_span.proofs.SpanLemmas.{some_instant}
 use Rattle.mob_slice.specs.Sides.{SideOf, OperandOf, side_at, pieces, given_at, has_slices}
 use Rattle.mob_lift.specs.Sometime.{IsSometime, IsEver, either}
 use Rattle.mob_lift.proofs.Walking.{walked}
-use Rattle.mob_lift.proofs.PieceAt.{no_some, first_at, later_at, which_at, there, found, no_common, common_by}
+use Rattle.mob_lift.proofs.Judged.{none_some}
+use Rattle.mob_lift.proofs.PieceAt.{first_at, later_at, which_at, there, found, no_common, common_by}
 
 -- ---- the instants of the pieces
 module _ {P : Type 0} (span : P → SpanOf) (holds : P → Ratio → Bool) (meets : P → Bool) where
@@ -52,7 +53,7 @@ module _ {P : Type 0} (span : P → SpanOf) (holds : P → Ratio → Bool) (meet
 
   nothing_said : (a : Bool) → (a ≡ true) ⊎ ((t : Ratio) × PassesAt [] t) → a ≡ true
   nothing_said a (inl h) = h
-  nothing_said a (inr m) = no_some m.1.0 m.1.1
+  nothing_said a (inr m) = none_some m.1.0 m.1.1
 
   pub walked_says : (ps : List P) → PartsAreClear span ps → AllByRecursion IsExactOn ps → (a : Bool) → (b : Bool) × (walked either meets (Some a) ps ≡ Some b) × IsSaid b a ps
   walked_says [] c e a = (a, refl, (λ h. inl h, nothing_said a))

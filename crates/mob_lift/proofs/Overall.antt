@@ -1,5 +1,5 @@
 -- What an operator gives on all pieces of two operands.
-use Rattle.std.specs.Prelude.{◌≡◌, true, ◌||◌, List, map, Option, Some, None, option_map, Result, Ok, Err, IfOk, refl}
+use Rattle.std.specs.Prelude.{◌≡◌, true, ◌||◌, List, map, Some, None, option_map, Result, Err, IfOk, refl}
 use Rattle.std.specs.List.{flat_map}
 use Rattle.std.specs.Iterator.{Yields, Drains, YieldsFirstBy}
 use Rattle.std.proofs.Common.{ap, sym, ◌∙◌, subst}

@@ -10,12 +10,10 @@ use Rattle.mob_span.proofs.Shared.{AreAllClear, all_after}
 use Rattle.mob_slice.specs.Operands.{map_both}
 use Rattle.mob_slice.specs.Sides.{SideOf, OperandOf, side_at, pieces, given_at, has_slices}
 use Rattle.mob_lift.specs.Sometime.{HaveCommon}
+use Rattle.mob_lift.proofs.Judged.{none_some}
 use Rattle.mob_lift.proofs.PieceLaws.{pieces_value}
 
-pub no_some : {A R : Type 0} (x : A) → None ≡ Some x → R
-no_some x e = cc
-
-pub same_some : {A : Type 0} (x y : A) → Some x ≡ Some y → x ≡ y
+same_some : {A : Type 0} (x y : A) → Some x ≡ Some y → x ≡ y
 same_some x y e = cc
 
 -- ---- parts of time in order
@@ -25,7 +23,7 @@ module _ {P : Type 0} (span : P → SpanOf) where
   none_after q (p ∷ ps) t a h = ap (λ b. cond b (Some p) (part_at span ps t)) (clear_has q (span p) t a.0 h) ∙ none_after q ps t a.1 h
 
   not_here : (p : P) (ps : List P) (t : Ratio) (q : P) → PartsAreClear span (p ∷ ps) → part_at span ps t ≡ Some q → (b : Bool) → has (span p) t ≡ b → has (span p) t ≡ false
-  not_here p ps t q c e true h = no_some q (sym (none_after (span p) ps t (all_after span p ps c) h) ∙ e)
+  not_here p ps t q c e true h = none_some q (sym (none_after (span p) ps t (all_after span p ps c) h) ∙ e)
   not_here p ps t q c e false h = h
 
   -- the first part, or a later one, has the instant
@@ -47,14 +45,14 @@ abbrev pair : {X Y : Type 0} → X → Y → X × Y
 pair x y = (x, y)
 
 both_some : {X Y : Type 0} (a : Option X) (b : Option Y) (x : X) (y : Y) → map_both pair a b ≡ Some (x, y) → (a ≡ Some x) × (b ≡ Some y)
-both_some None b x y e = no_some (x, y) e
-both_some (Some u) None x y e = no_some (x, y) e
+both_some None b x y e = none_some (x, y) e
+both_some (Some u) None x y e = none_some (x, y) e
 both_some {X} {Y} (Some u) (Some v) x y e =
     let h : (u, v) ≡ (x, y) = same_some (u, v) (x, y) e in
     (ap (λ (p : X × Y). Some p.0) h, ap (λ (p : X × Y). Some p.1) h)
 
 mapped_some : {A B : Type 0} (f : A → B) (o : Option A) (z : B) → option_map f o ≡ Some z → (a : A) × (o ≡ Some a) × (f a ≡ z)
-mapped_some f None z e = no_some z e
+mapped_some f None z e = none_some z e
 mapped_some f (Some a) z e = (a, refl, same_some (f a) z e)
 
 module _ {A X B Y : Type 0} (value : A → Ratio → Ratio → Ratio → X) (value' : B → Ratio → Ratio → Ratio → Y) (a : OperandOf A X) (b : OperandOf B Y) (m : (has_slices a || has_slices b) ≡ true) where
@@ -77,7 +75,7 @@ module _ {A X B Y : Type 0} (value : A → Ratio → Ratio → Ratio → X) (val
 
   -- without a piece there is no common instant, and each instant of the first piece is one
   pub no_common : pieces a b ≡ [] → HaveCommon left right → ⊥
-  no_common e h = let w = found h.0 h.1 h.2 h.3 h.4 in no_some w.0 (sym (ap (λ ps. part_at (λ q. q.span) ps h.0) e) ∙ w.1)
+  no_common e h = let w = found h.0 h.1 h.2 h.3 h.4 in none_some w.0 (sym (ap (λ ps. part_at (λ q. q.span) ps h.0) e) ∙ w.1)
 
   pub common_by : (ps : List (PieceOf (SideOf A X) (SideOf B Y))) (p : PieceOf (SideOf A X) (SideOf B Y)) (t : Ratio) → pieces a b ≡ p ∷ ps → has p.span t ≡ true → HaveCommon left right
   common_by ps p t e h = let w = there t p (ap (λ l. part_at (λ q. q.span) l t) e ∙ first_at (λ q. q.span) p ps t h) in (t, side_at value p.left t, side_at value' p.right t, w.0, w.1, tt)

@@ -14,7 +14,8 @@ use Rattle.mob_slice.specs.Lines.{plane_value_of}
 use Rattle.mob_slice.specs.declared.line.PlaneLine.{PlaneLine}
 use Rattle.mob_lift.specs.Sometime.{IsSometime}
 use Rattle.mob_lift.proofs.Walking.{walked}
-use Rattle.mob_lift.proofs.PieceAt.{no_some, first_at, later_at, which_at, there, found, no_common, common_by}
+use Rattle.mob_lift.proofs.Judged.{none_some}
+use Rattle.mob_lift.proofs.PieceAt.{first_at, later_at, which_at, there, found, no_common, common_by}
 use Rattle.mob_near.specs.Approaches.{IsNearest, IsApproach}
 use Rattle.mob_near.specs.Distances.{distance_squared}
 use Rattle.mob_near.specs.Entries.{PointPiece}
@@ -63,7 +64,7 @@ least_step b p ps m c near k =
     }
 
 least_of : (ps : List PointPiece) → PartsAreClear (λ q. q.span) ps → AllByRecursion (λ p. IsNearestOn p (piece_approach p)) ps → (b : Ratio) → (m : Ratio) × (walked nearest_of piece_approach (Some b) ps ≡ Some m) × IsLeast b ps m
-least_of [] c near b = (b, refl, record { before_all = ap not (before-self b); lower = λ t p e. no_some p e; greatest = λ n h. inl h })
+least_of [] c near b = (b, refl, record { before_all = ap not (before-self b); lower = λ t p e. none_some p e; greatest = λ n h. inl h })
 least_of (p ∷ ps) c near b =
     let k = least_of ps c.2 near.1 (lesser b (piece_approach p)) in
     (k.0, k.1, least_step b p ps k.0 c near.0 k.2)

@@ -5,13 +5,13 @@ use Rattle.mob_ratio.specs.Order.{before, up_to, same}
 use Rattle.mob_ratio.proofs.Order.{before-lt, before-neither, up_to-le, le-up_to, not-up_to-le, same_exact, same_truth}
 use Rattle.mob_ratio.proofs.IntRing.{linear}
 use Rattle.mob_ratio.proofs.Clear.{clear1, cleared}
-use Rattle.mob_ratio.proofs.Field.{lt_by, le_of_lt, le_of_eq, cases_lt, not_both, le_antisymm}
+use Rattle.mob_ratio.proofs.Field.{lt_by, le_of_lt, cases_lt, le_antisymm}
 use Rattle.mob_ratio.proofs.Divide.{div-mul}
 use Rattle.mob_ratio.proofs.Ring.{at, lit, minus, ◌⊕◌, ◌⊗◌}
 use Rattle.mob_ratio.proofs.Rings.{ring_ℚ}
 use Rattle.mob_ratio.specs.Sign.{nil}
 use Rattle.mob_quadratic.specs.Quadratic.{absolute, square_is_within}
-use Rattle.mob_quadratic.proofs.Convex.{mul_le, mul_lt, le_of_mul_pos, le_mul_pos}
+use Rattle.mob_quadratic.proofs.Convex.{above_ne, mul_le, mul_lt, le_of_mul_pos, le_mul_pos}
 
 neg_nil : neg_ℚ nil ≡ nil
 neg_nil = ring_ℚ [] (minus (lit (pos 0))) (lit (pos 0)) refl
@@ -69,9 +69,6 @@ size_above_by a ne false false ep eq = absurd (ne (before-neither a nil ep eq))
 
 pub size_above : (a : Ratio) → (a ≡ nil → ⊥) → nil <ℚ absolute a
 size_above a ne = size_above_by a ne _ _ refl refl
-
-above_ne : (a : Ratio) → nil <ℚ a → a ≡ nil → ⊥
-above_ne a h e = not_both nil a h (le_of_eq a nil e)
 
 -- the order is kept by a product with what is above 0
 up_to_mul : (p q n : Ratio) → nil <ℚ n → up_to p q ≡ up_to (p *ℚ n) (q *ℚ n)

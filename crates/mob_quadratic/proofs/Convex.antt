@@ -139,7 +139,7 @@ one_above = simp cleared (omega (arith, linear))
 above_one : (a : Ratio) → a <ℚ (a +ℚ one)
 above_one a = let A = at 0 in lt_by nil one a (a +ℚ one) one_above (ring_ℚ (a ∷ []) (A ⊕ lit (pos 1)) ((A ⊕ lit (pos 1)) ⊕ lit (pos 0)) refl)
 
-above_ne : (a : Ratio) → nil <ℚ a → a ≡ nil → ⊥
+pub above_ne : (a : Ratio) → nil <ℚ a → a ≡ nil → ⊥
 above_ne a h e = not_both nil a h (le_of_eq a nil e)
 
 below_by : (a b c m s : Ratio) → nil ≤ℚ a → nil ≤ℚ c → nil ≤ℚ at_one a b c → c <ℚ m → s *ℚ (((m -ℚ c) +ℚ at_one a b c) +ℚ one) ≡ m -ℚ c → nil <ℚ (((m -ℚ c) +ℚ at_one a b c) +ℚ one) → IsBelowInside a b c m s

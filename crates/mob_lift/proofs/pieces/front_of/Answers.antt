@@ -1,4 +1,4 @@
-use Rattle.std.proofs.Common.{ap, sym}
+use Rattle.std.proofs.Common.{ap}
 use Rattle.mob_slice.specs.Sides.{Slices}
 use Rattle.mob_slice.proofs.Orders.{ordered}
 use Rattle.mob_lift.proofs.pieces.front_of.Goals as goal
