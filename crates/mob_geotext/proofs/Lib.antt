@@ -3,3 +3,8 @@ pub mod SpansRead
 pub mod SetsRead
 pub mod SpansAgain
 pub mod OneReadings
+pub mod PolygonsExact
+pub mod PolygonsRead
+pub mod PolygonsAgain
+pub mod JoinedWritten
+mod Examples

@@ -1,4 +1,4 @@
--- A text has one reading as a span, and one as a span set.
+-- A text has one reading as a span, one as a span set, and one as a polygon.
 use Rattle.std.proofs.Common.{◌≡◌, ℤ, List, Option, Some, None, refl, sym, ◌∙◌}
 use Rattle.std.specs.Prelude.{MatchOption}
 use Rattle.mob_ratio.specs.Ratio.{Ratio}
@@ -10,7 +10,9 @@ use Rattle.mob_span.specs.Span.{SpanOf}
 use Rattle.mob_span.specs.Sets.{IsSpanSet, in_some}
 use Rattle.mob_span.proofs.OneSet.{one_set}
 use Rattle.mob_geotext.specs.Spans.{bounds_of, spans, span_sets}
+use Rattle.mob_geotext.specs.Polygons.{polygons}
 use Rattle.mob_geotext.proofs.SpansExact.{spans_exact, span_sets_exact}
+use Rattle.mob_geotext.proofs.PolygonsExact.{polygons_exact}
 
 pub one_span : (day : ℤ) → HasOneReading (spans day)
 one_span day text = settled (spans day) text (one_value (spans_exact day) refl text) (λ s v w a b. some_is v w (sym a ∙ b))
@@ -25,3 +27,6 @@ same_set (Some rs) v w a b = one_set v w a.0 b.0 (λ t. a.1 t ∙ sym (b.1 t))
 
 pub one_span_set : (day : ℤ) → HasOneReading (span_sets day)
 one_span_set day text = settled (span_sets day) text (one_value (span_sets_exact day) refl text) (λ ss v w a b. same_set (traverse bounds_of ss) v w a b)
+
+pub one_polygon : HasOneReading polygons
+one_polygon text = settled polygons text (one_value polygons_exact refl text) (λ s v w a b. some_is v w (sym a ∙ b))

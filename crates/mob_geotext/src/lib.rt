@@ -1,9 +1,12 @@
-//! Texts of points, of spans of time and of span sets, each read exactly and printed.
+//! Texts of points, of polygons, of spans of time and of span sets, each read exactly and printed.
 #![tactic(auto)]
 
 mod laws;
 mod many;
 mod noted;
+mod polygon_laws;
+mod polygon_printing;
+mod polygons;
 mod printing;
 mod single;
 
@@ -11,5 +14,8 @@ pub use laws::{noted_spans_cross_threads, one_reading, span_read_again, span_set
 pub use many::read_span_set;
 pub use mob_points::{one_point, point_read_again, read_point, write_point};
 pub use noted::NotedSpan;
+pub use polygon_laws::{one_polygon, polygon_read_again};
+pub use polygon_printing::write_polygon;
+pub use polygons::read_polygon;
 pub use printing::{write_span, write_span_set};
 pub use single::read_span;

@@ -1,5 +1,5 @@
 -- The least and the greatest coordinates of points.
-use Rattle.std.specs.Prelude.{◌≡◌, Bool, true, cond, List, Any, All}
+use Rattle.std.specs.Prelude.{◌≡◌, true, cond, List, Any, All}
 use Rattle.std.specs.List.{flat_map}
 use Rattle.mob_ratio.specs.Ratio.{Ratio}
 use Rattle.mob_ratio.specs.Order.{before, up_to}
@@ -27,15 +27,16 @@ pub record AreCorners (points : List Point) (least greatest : Point) : Type 0 wh
   pub greatest_x : IsGreatestAmong (λ p. p.x) points greatest.x
   pub greatest_y : IsGreatestAmong (λ p. p.y) points greatest.y
 
--- the corners that are widened over one point more
-abbrev pub lesser : Ratio → Ratio → Ratio
-lesser x y = cond (before y x) y x
+-- the smaller and the greater of two numbers
+abbrev pub smaller : Ratio → Ratio → Ratio
+smaller x y = cond (before y x) y x
 
 abbrev pub greater : Ratio → Ratio → Ratio
 greater x y = cond (before x y) y x
 
+-- the corners of the least rectangle that has another one and a point
 abbrev pub widened : Corners → Point → Corners
 widened c p = record {
-  least = record { x = lesser c.least.x p.x; y = lesser c.least.y p.y };
+  least = record { x = smaller c.least.x p.x; y = smaller c.least.y p.y };
   greatest = record { x = greater c.greatest.x p.x; y = greater c.greatest.y p.y };
 }

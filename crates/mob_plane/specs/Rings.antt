@@ -1,5 +1,5 @@
 -- Rings of points: their edges, and which of them bound a polygon.
-use Rattle.std.specs.Prelude.{Bool, true, false, not, ◌&&◌, ◌||◌, ◌-◌, List, [], ◌∷◌, ◌++◌, map, length, slice_get, nat_eq, nat_lt, Option, Some, None}
+use Rattle.std.specs.Prelude.{Bool, false, not, ◌&&◌, ◌||◌, ◌-◌, List, [], ◌∷◌, ◌++◌, map, length, slice_get, nat_eq, nat_lt, Option, Some}
 use Rattle.std.specs.Prelude.{Vec}
 use Rattle.std.specs.List.{list_any}
 use Rattle.std.specs.declared.alloc.Global.{Global}
@@ -22,24 +22,24 @@ all_edges [] = []
 all_edges (ring ∷ rings) = edges ring ++ all_edges rings
 
 -- fewer than four points
-abbrev pub is_short : List Point → Bool
-is_short ring = nat_lt (length ring) 4
+abbrev pub is_short_ring : List Point → Bool
+is_short_ring ring = nat_lt (length ring) 4
 
 -- there is no ring, or one of them is short
 abbrev pub has_short : List (List Point) → Bool
-has_short rings = nat_eq (length rings) 0 || list_any is_short rings
+has_short rings = nat_eq (length rings) 0 || list_any is_short_ring rings
 
 abbrev pub are_one : Option Point → Option Point → Bool
 are_one (Some a) (Some b) = same_point a b
 are_one a b = false
 
 -- its first and its last point differ
-abbrev pub is_open : List Point → Bool
-is_open ring = not (are_one (slice_get ring 0) (slice_get ring (length ring - 1)))
+abbrev pub is_open_ring : List Point → Bool
+is_open_ring ring = not (are_one (slice_get ring 0) (slice_get ring (length ring - 1)))
 
 -- one of the rings is open
 abbrev pub has_open : List (List Point) → Bool
-has_open rings = list_any is_open rings
+has_open rings = list_any is_open_ring rings
 
 -- rings that bound a polygon: there is one or more, each has four points or more, and ends where it begins
 abbrev pub are_sound : List (List Point) → Bool

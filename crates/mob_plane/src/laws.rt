@@ -1,8 +1,9 @@
 //! What holds of every point and every polygon. No code runs here.
-ghost use Rattle.std.specs.Prelude.{◌≡◌, true, List};
-ghost use Rattle.mob_ratio.specs.Ratio.{◌-ℚ◌};
+ghost use Rattle.std.specs.Prelude.{◌≡◌, ◌≢◌, true, List};
+ghost use Rattle.mob_ratio.specs.Ratio.{Ratio, ◌-ℚ◌};
 ghost use Rattle.mob_ratio.specs.Order.{before};
 ghost use Rattle.mob_ratio.specs.Sign.{sign_of};
+ghost use Rattle.mob_ratio.specs.Line.{IsOnLine};
 ghost use Rattle.mob_plane.specs.Turns.{turn};
 ghost use Rattle.mob_plane.specs.Rings.{all_edges};
 ghost use Rattle.mob_plane.specs.Membership.{inside, lies_on, passes_height, passes_right, crossing_at};
@@ -28,9 +29,11 @@ pub fn polygons_cross_threads() {
     crosses_threads::<Tally>();
 }
 
-/// Where an edge has one end above a point and the other is not, it crosses the height of the point to the right of it exactly where
+/// Where an edge is not level, its crossing with a height is the point of the straight line through its ends that has this height. Where
+/// one end is above a point and the other is not, it crosses the height of the point to the right of it exactly where
 /// the point turns from the edge as the edge rises: to the left where it goes up, to the right where it goes down.
 pub fn crossings_by_turns()
+    ensures on_line { (a b : PointOf) (h : Ratio) → a.y ≢ b.y → IsOnLine a.y a.x b.y b.x h (crossing_at (a, b) h) }
     ensures right { (a b p : PointOf) → passes_height p (a, b) ≡ true → before p.x (crossing_at (a, b) p.y) ≡ same_order (sign_of (b.y -ℚ a.y)) (sign_of (turn a b p)) }
 {}
 

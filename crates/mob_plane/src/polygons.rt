@@ -1,16 +1,16 @@
 //! Polygons of one closed ring or more.
-ghost use Rattle.std.specs.Prelude.{◌≡◌, ◌↔◌, true, false, Ok, Err, IfOk, Contains};
+ghost use Rattle.std.specs.Prelude.{◌≡◌, ◌↔◌, true, false, Ok, Err, is_ok, IfOk, Contains};
 ghost use Rattle.std.specs.List.{list_any};
 ghost use Rattle.mob_frac.specs.Formula.{IsFormula};
 ghost use Rattle.mob_plane.specs.Turns.{turns_parts};
-ghost use Rattle.mob_plane.specs.Rings.{rings_of, all_edges, has_short, has_open, is_short, is_open, are_sound};
+ghost use Rattle.mob_plane.specs.Rings.{rings_of, all_edges, has_short, has_open, is_short_ring, is_open_ring, are_sound};
 ghost use Rattle.mob_plane.specs.Membership.{inside};
 ghost use Rattle.mob_plane.specs.EdgeWise.{signs_to, counted, none_yet};
 ghost use Rattle.mob_plane.specs.Corners.{all_points, AreCorners};
 
 use crate::Point;
 use crate::edges::{Tally, count_ring, is_in};
-use crate::rectangle::{Corners, over_rings};
+use crate::rectangle::{at_point, over_rings};
 use mob_frac::Overflow;
 use std::alloc::{AllocError, Global};
 use std::marker::Model;
@@ -47,14 +47,14 @@ impl Model for Polygon {
 
 /// Whether the ring has fewer than four points.
 fn is_short(ring: &[Point]) -> bool
-    ensures value { result ≡ is_short ring.now }
+    ensures value { result ≡ is_short_ring ring.now }
 {
     ring.len() < 4
 }
 
 /// Whether the ring's first and last points differ.
 fn is_open(ring: &[Point]) -> bool
-    ensures value { result ≡ is_open ring.now }
+    ensures value { result ≡ is_open_ring ring.now }
 {
     match (ring.first(), ring.last()) {
         (Some(first), Some(last)) => !first.is_same(last),
@@ -62,16 +62,23 @@ fn is_open(ring: &[Point]) -> bool
     }
 }
 
+/// Whether some ring is short.
+fn some_short(rings: &[Vec<Point>]) -> bool
+    ensures value { result ≡ list_any (λ r. is_short_ring r.items) rings.now }
+{
+    rings.iter().any(|ring| is_short(ring.as_slice()))
+}
+
 /// Whether there is no ring, or one that is short.
 fn has_short(rings: &[Vec<Point>]) -> bool
     ensures value { result ≡ has_short (rings_of rings.now) }
 {
-    rings.is_empty() || rings.iter().any(|ring| is_short(ring.as_slice()))
+    rings.is_empty() || some_short(rings)
 }
 
 /// Whether some ring is open.
-fn has_open(rings: &[Vec<Point>]) -> bool
-    ensures value { result ≡ has_open (rings_of rings.now) }
+fn some_open(rings: &[Vec<Point>]) -> bool
+    ensures value { result ≡ list_any (λ r. is_open_ring r.items) rings.now }
 {
     rings.iter().any(|ring| is_open(ring.as_slice()))
 }
@@ -107,12 +114,13 @@ impl Polygon {
     pub fn new(rings: Vec<Vec<Point>>) -> Result<Polygon, RingFault>
         ensures made { IfOk result (λ p. p ≡ rings_of rings.items) }
         ensures short { (result ≡ Err RingFault.Short) ↔ (has_short (rings_of rings.items) ≡ true) }
+        ensures sound { is_ok result ≡ are_sound (rings_of rings.items) }
         ensures open_ends { (result ≡ Err RingFault.Open) ↔ ((has_short (rings_of rings.items) ≡ false) × (has_open (rings_of rings.items) ≡ true)) }
     {
         if has_short(rings.as_slice()) {
             return Err(RingFault::Short);
         }
-        if has_open(rings.as_slice()) {
+        if some_open(rings.as_slice()) {
             return Err(RingFault::Open);
         }
         Ok(Polygon { rings })
@@ -131,14 +139,8 @@ impl Polygon {
     pub fn corners(&self) -> (Point, Point)
         ensures corners { AreCorners (all_points self.now) result.0 result.1 }
     {
-        let start = start(self.rings.as_slice());
-        let corners = over_rings(
-            &Corners {
-                least: start,
-                greatest: start,
-            },
-            self.rings.as_slice(),
-        );
+        let first = at_point(&start(self.rings.as_slice()));
+        let corners = over_rings(&first, self.rings.as_slice());
         (corners.least, corners.greatest)
     }
 

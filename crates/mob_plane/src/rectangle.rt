@@ -1,7 +1,7 @@
 //! The least rectangle that has some points.
 ghost use Rattle.std.specs.Prelude.{◌≡◌, fold};
 ghost use Rattle.mob_ratio.specs.Order.{before};
-ghost use Rattle.mob_plane.specs.Corners.{all_points, widened, lesser, greater};
+ghost use Rattle.mob_plane.specs.Corners.{all_points, widened, smaller, greater};
 ghost use Rattle.mob_plane.specs.Rings.{rings_of};
 
 use crate::Point;
@@ -16,8 +16,8 @@ pub struct Corners {
     pub greatest: Point,
 }
 
-fn lesser(x: &Frac, y: &Frac) -> Frac
-    ensures value { result ≡ lesser x.now y.now }
+fn smaller(x: &Frac, y: &Frac) -> Frac
+    ensures value { result ≡ smaller x.now y.now }
 {
     if y.is_before(x) { *y } else { *x }
 }
@@ -28,14 +28,24 @@ fn greater(x: &Frac, y: &Frac) -> Frac
     if x.is_before(y) { *y } else { *x }
 }
 
+/// The rectangle that is one point.
+pub fn at_point(p: &Point) -> Corners
+    ensures value { result ≡ record { least = p.now; greatest = p.now } }
+{
+    Corners {
+        least: *p,
+        greatest: *p,
+    }
+}
+
 /// The least rectangle that has this one and a point.
 fn widened(corners: &Corners, p: &Point) -> Corners
     ensures value { result ≡ widened corners.now p.now }
 {
     Corners {
         least: Point {
-            x: lesser(&corners.least.x, &p.x),
-            y: lesser(&corners.least.y, &p.y),
+            x: smaller(&corners.least.x, &p.x),
+            y: smaller(&corners.least.y, &p.y),
         },
         greatest: Point {
             x: greater(&corners.greatest.x, &p.x),

@@ -1,14 +1,14 @@
 -- A point that is printed is read again as itself.
-use Rattle.std.proofs.Common.{[], ◌++◌, Option, Some, None, Ok, refl, codes}
+use Rattle.std.proofs.Common.{[], ◌++◌, Some, None, Ok, refl, codes}
 use Rattle.mob_frac.specs.Fits.{Fits}
-use Rattle.mob_language.specs.Language.{Text, spaced}
+use Rattle.mob_language.specs.Language.{Text, Language, spaced}
 use Rattle.mob_language.proofs.Heads.{within_said}
 use Rattle.mob_numeral.specs.Blanks.{some_blanks}
 use Rattle.mob_numeral.specs.NumberText.{number_text}
 use Rattle.mob_numeral.specs.Verdict.{Lit}
 use Rattle.mob_numeral.proofs.Fitted.{number_value_said}
 use Rattle.mob_plane.specs.declared.point.Point.{Point}
-use Rattle.mob_points.specs.Points.{close_bracket, coordinates, written_point, point_value, points}
+use Rattle.mob_points.specs.Points.{close_bracket, coordinates, written_point, behind_srid, points}
 use Rattle.mob_points.specs.PointText.{point_text}
 use Rattle.mob_points.proofs.PointsExact.{some_none}
 
@@ -19,7 +19,7 @@ close_said = record {
   is = refl;
 }
 
-gap_said : some_blanks (codes " ") tt
+pub gap_said : some_blanks (codes " ") tt
 gap_said = record { meant = codes " "; said = record { said = record { is = refl; each = (refl, tt) }; holds = refl }; is = refl }
 
 open_said : spaced (codes "(") (codes "(") tt
@@ -68,7 +68,8 @@ point_plain p h k = record {
   is = refl;
 }
 
-pub unreferenced : (text : Text) (v : Option Point) → written_point text v → point_value text v
+-- a text before which no SRID=0; stands
+pub unreferenced : {A : Type 0} {l : Language A} (text : Text) (v : A) → l text v → behind_srid l text v
 unreferenced text v said = record {
   meant = (None, v);
   said = record { front = []; back = text; whole = refl; first = refl; second = said };

@@ -3,8 +3,8 @@ use Rattle.std.proofs.Common.{◌≡◌, ℕ, [], ◌∷◌, Bool, false, Option
 use Rattle.std.specs.Prelude.{◌||◌, nat_eq}
 use Rattle.std.specs.Char.{to_ascii_lowercase}
 use Rattle.std.proofs.lemmas.Bool.{or_parts}
-use Rattle.mob_language.specs.Language.{Text, ◌▷◌, AnyCase, is_blank, spaced, within_blanks}
-use Rattle.mob_language.specs.Readers.{then_at, all_of, within_blanks_at}
+use Rattle.mob_language.specs.Language.{Text, Language, ◌▷◌, AnyCase, is_blank, spaced, within_blanks}
+use Rattle.mob_language.specs.Readers.{TextReader, then_at, all_of, within_blanks_at}
 use Rattle.mob_language.proofs.Exact.{Exact, Stops, Any, means_exact, many_exact, word_exact, any_case_exact, is_said, not_said}
 use Rattle.mob_language.proofs.Heads.{NoHead, HasByte, Nothing, exact_less, stops_less, then_head, maybe_head, means_head, where_head, many_head, word_head, maybe_stops, byte_head, then_byte, means_byte, word_byte, then_byte_stops, after_any, spaced_exact, IsEnd, within_exact}
 use Rattle.mob_numeral.specs.Blanks.{some_blanks, some_blanks_at}
@@ -15,7 +15,7 @@ use Rattle.mob_numeral.proofs.NumberExact.{continues}
 use Rattle.mob_numeral.proofs.SomeBlanks.{some_blanks_exact, some_blanks_byte}
 use Rattle.mob_numeral.proofs.WholeTexts.{back_nil, blank_stops, number_value_exact, number_value_blank, number_value_byte}
 use Rattle.mob_plane.specs.declared.point.Point.{Point}
-use Rattle.mob_points.specs.Points.{close_bracket, coordinates_said, coordinates, point_said, written_point, srid_said, srid_zero, past_srid, point_value, points, close_bracket_at, coordinates_at, written_point_at, srid_zero_at, behind_srid_at, point_value_at}
+use Rattle.mob_points.specs.Points.{close_bracket, coordinates_said, coordinates, point_said, written_point, srid_said, srid_zero, past_srid, behind_srid, point_value, points, close_bracket_at, coordinates_at, written_point_at, srid_zero_at, behind_srid_at, point_value_at}
 
 -- ---- two numbers and a closing bracket
 
@@ -55,11 +55,11 @@ first_letter : (c w : ℕ) (cs ws : Text) → c ∷ cs ≡ w ∷ ws → c ≡ w
 first_letter c w cs ws e = cc
 
 -- no such word begins with a byte that passes the test, where its first letter, small or capital, passes it not
-any_case_head : (w : ℕ) (ws : Text) (test : ℕ → Bool) → ((c : ℕ) → to_ascii_lowercase c ≡ w → test c ≡ false) → NoHead (AnyCase (w ∷ ws)) test
+pub any_case_head : (w : ℕ) (ws : Text) (test : ℕ → Bool) → ((c : ℕ) → to_ascii_lowercase c ≡ w → test c ≡ false) → NoHead (AnyCase (w ∷ ws)) test
 any_case_head w ws test h [] v said = tt
 any_case_head w ws test h (c ∷ cs) v said = h c (first_letter _ w _ ws said)
 
-any_case_byte : (w : ℕ) (ws : Text) → HasByte (AnyCase (w ∷ ws))
+pub any_case_byte : (w : ℕ) (ws : Text) → HasByte (AnyCase (w ∷ ws))
 any_case_byte w ws [] v said e = absurd cc
 any_case_byte w ws (c ∷ cs) v said e = absurd cc
 
@@ -106,22 +106,41 @@ neither a b h k = rw (h, k) refl
 p_begins_none : (c : ℕ) → to_ascii_lowercase c ≡ 112 → begins_srid c ≡ false
 p_begins_none c e = neither (nat_eq (to_ascii_lowercase c) 115) (is_blank c) (rw e refl) (p_no_blank c e)
 
-pub point_value_exact : Exact point_value point_value_at Any
-unfolding point_value_at behind_srid_at
-point_value_exact = means_exact past_srid (then_byte_stops (maybe_stops srid_exact srid_nothing) point_exact (point_head begins_srid p_begins_none) point_byte)
+-- each text of the language begins with the letter p, small or capital
+abbrev pub BeginsWithP : {A : Type 0} → Language A → Type 0
+BeginsWithP l = (test : ℕ → Bool) → ((c : ℕ) → to_ascii_lowercase c ≡ 112 → test c ≡ false) → NoHead l test
 
--- it begins with the letter s or p, small or capital
+-- such a text behind SRID=0;
+module _ {A : Type 0} {l : Language A} where
+  pub behind_srid_exact : {r : TextReader A} → Exact l r Any → BeginsWithP l → HasByte l → Exact (behind_srid l) (behind_srid_at r) Any
+  unfolding behind_srid_at
+  behind_srid_exact p head byte = means_exact past_srid (then_byte_stops (maybe_stops srid_exact srid_nothing) p (head begins_srid p_begins_none) byte)
+
+  -- it begins with the letter s or p, small or capital
+  pub behind_srid_head : BeginsWithP l → (test : ℕ → Bool) → ((c : ℕ) → to_ascii_lowercase c ≡ 115 → test c ≡ false) → ((c : ℕ) → to_ascii_lowercase c ≡ 112 → test c ≡ false) → NoHead (behind_srid l) test
+  behind_srid_head head test h k = means_head (then_head (maybe_head (srid_head test h)) (head test k))
+
+  pub behind_srid_byte : HasByte l → HasByte (behind_srid l)
+  behind_srid_byte byte = means_byte past_srid (λ text v said e. byte said.back v.1 said.second (back_nil said.front said.back (sym said.whole ∙ e)))
+
+pub point_value_exact : Exact point_value point_value_at Any
+unfolding point_value_at
+point_value_exact = behind_srid_exact point_exact point_head point_byte
+
 pub point_value_head : (test : ℕ → Bool) → ((c : ℕ) → to_ascii_lowercase c ≡ 115 → test c ≡ false) → ((c : ℕ) → to_ascii_lowercase c ≡ 112 → test c ≡ false) → NoHead point_value test
-point_value_head test h k = means_head (then_head (maybe_head (srid_head test h)) (point_head test k))
+point_value_head = behind_srid_head point_head
 
 pub point_value_byte : HasByte point_value
-point_value_byte = means_byte past_srid (λ text v said e. point_byte said.back v.1 said.second (back_nil said.front said.back (sym said.whole ∙ e)))
+point_value_byte = behind_srid_byte point_byte
 
 s_no_blank : (c : ℕ) → to_ascii_lowercase c ≡ 115 → is_blank c ≡ false
 s_no_blank c e = search rules
 
+pub behind_srid_blank : {A : Type 0} {l : Language A} → BeginsWithP l → NoHead (behind_srid l) is_blank
+behind_srid_blank head = behind_srid_head head is_blank s_no_blank p_no_blank
+
 pub points_exact : Exact (within_blanks point_value) (within_blanks_at point_value_at) IsEnd
-points_exact = within_exact point_value_exact (point_value_head is_blank s_no_blank p_no_blank) point_value_byte (λ bs each. tt)
+points_exact = within_exact point_value_exact (behind_srid_blank point_head) point_value_byte (λ bs each. tt)
 
 -- ---- what the code answers
 

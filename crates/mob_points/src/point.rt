@@ -12,7 +12,7 @@ use mob_numeral::{
 use mob_plane::Point;
 
 /// The point with these coordinates, where both of them are there.
-fn point_of(x: Option<Frac>, y: Option<Frac>) -> Option<Point>
+pub fn point_of(x: Option<Frac>, y: Option<Frac>) -> Option<Point>
     ensures value { result ≡ point_made x y }
 {
     let east = x?;
@@ -62,7 +62,7 @@ fn written_point_at(bytes: &[u8]) -> Option<(Option<Point>, &[u8])>
 
 /// What stands behind `SRID=0;`.
 #[tactic(auto, unfolding(crate::specs::Points::srid_zero_at))]
-fn srid_zero_at(bytes: &[u8]) -> Option<((), &[u8])>
+pub fn srid_zero_at(bytes: &[u8]) -> Option<((), &[u8])>
     ensures read { option_map (λ x. (x.0, x.1.now)) result ≡ srid_zero_in bytes.now }
 {
     let rest = any_case_at(b"srid=0", bytes)?;

@@ -5,6 +5,7 @@ use Rattle.mob_ratio.specs.Ratio.{Ratio}
 use Rattle.mob_ratio.specs.Order.{before, up_to, same}
 use Rattle.mob_ratio.proofs.Order.{before-self, before-back, before-trans, before-neither, same_exact}
 use Rattle.mob_frac.specs.Formula.{AllFit}
+pub use Rattle.mob_frac.proofs.Fitting.{all_both, all_first, all_second}
 use Rattle.mob_span.specs.Span.{SpanOf, has, has_instant}
 use Rattle.mob_slice.specs.Course.{IsCourse}
 use Rattle.mob_slice.specs.Slices.{IsSound}
@@ -120,19 +121,6 @@ module _ {C B : Type 0} {steady copies : Bool} {value : C → Ratio → Ratio �
       looked : (r : Result B LookFault) (x : B) → MatchResult r (λ b. b ≡ x) (IsLookFault copies []) → IsLooked copies [] x r
       looked (Ok b) x m = (m, tt)
       looked (Err f) x m = m
-
--- what is wanted of two lists of parts
-pub all_both : (p q : List Ratio) → AllFit p → AllFit q → AllFit (p ++ q)
-all_both [] q h k = k
-all_both (x ∷ p) q h k = (h.0, all_both p q h.1 k)
-
-pub all_first : (p q : List Ratio) → AllFit (p ++ q) → AllFit p
-all_first [] q h = tt
-all_first (x ∷ p) q h = (h.0, all_first p q h.1)
-
-pub all_second : (p q : List Ratio) → AllFit (p ++ q) → AllFit q
-all_second [] q h = h
-all_second (x ∷ p) q h = all_second p q h.1
 
 pub fault_first : (copies : Bool) (p q : List Ratio) (f : LookFault) → IsLookFault copies p f → IsLookFault copies (p ++ q) f
 fault_first copies p q (Passed f) h = (h.0, λ all. h.1 (all_first p q all))

@@ -1,0 +1,36 @@
+-- The texts of polygons as they are printed, and which of them are read again.
+use Rattle.std.specs.Prelude.{◌≡◌, ◌≤◌, List, [], ◌∷◌, ◌++◌, map, length, codes, true}
+use Rattle.std.specs.List.{join_with_byte}
+use Rattle.mob_frac.specs.Fits.{Fits}
+use Rattle.mob_language.specs.Language.{Text}
+use Rattle.mob_numeral.specs.NumberText.{number_text}
+use Rattle.mob_plane.specs.Rings.{are_sound}
+use Rattle.mob_plane.specs.Corners.{all_points}
+use Rattle.mob_plane.specs.declared.point.Point.{Point}
+
+-- members in brackets, with a comma alone between each two
+abbrev pub in_brackets : List Text → Text
+in_brackets texts = codes "(" ++ (join_with_byte 44 texts ++ codes ")")
+
+-- x y
+abbrev pub vertex_text : Point → Text
+vertex_text p = number_text p.x ++ (codes " " ++ number_text p.y)
+
+-- (x y,x y,x y,x y)
+abbrev pub ring_text : List Point → Text
+ring_text ring = in_brackets (map vertex_text ring)
+
+-- POLYGON((x y,x y,x y,x y),(x y,x y,x y,x y))
+abbrev pub polygon_text : List (List Point) → Text
+polygon_text rings = codes "POLYGON" ++ in_brackets (map ring_text rings)
+
+-- both coordinates of each of the points fit
+abbrev pub HaveFittingCoordinates : List Point → Type 0
+HaveFittingCoordinates [] = Unit {0}
+HaveFittingCoordinates (p ∷ points) = (Fits p.x × Fits p.y) × HaveFittingCoordinates points
+
+-- a polygon whose printed text is read again: it has at most 1,000 points, whose coordinates fit as those of each polygon of the code do
+pub record IsReadablePolygon (rings : List (List Point)) : Type 0 where
+  pub sound : are_sound rings ≡ true
+  pub few : length (all_points rings) ≤ 1000
+  pub fits : HaveFittingCoordinates (all_points rings)
