@@ -131,7 +131,10 @@ pub fn ever_inside(alloc: Global, a: &Moving<PlaneLine>, p: &Polygon) -> Result<
     ensures first { IsJudged (flat_map (entries_of_polygon p.now) a.now) result }
 {
     match at_polygon(alloc, a, p) {
-        Ok(Some(_)) => Ok(true),
+        Ok(Some(left)) => {
+            let _slices = left.slices();
+            Ok(true)
+        }
         Ok(None) => Ok(false),
         Err(fault) => Err(fault),
     }

@@ -1,5 +1,5 @@
 -- Worked examples of boxes. Each holds by computing.
-use Rattle.std.specs.Prelude.{◌≡◌, Bool, true, false, pos, Option, Some, None, refl}
+use Rattle.std.specs.Prelude.{◌≡◌, Bool, true, false, pos, Some, None, refl}
 use Rattle.mob_ratio.specs.Gcd.{gcd, gcd_steps}
 use Rattle.mob_ratio.specs.Lowest.{in_lowest_terms}
 use Rattle.mob_ratio.specs.Ratio.{Ratio, over, whole, ◌+ℚ◌, neg_ℚ}

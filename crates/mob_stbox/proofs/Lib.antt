@@ -1,1 +1,4 @@
+pub mod Sides
+pub mod BoxLaws
+pub mod Moves
 mod Examples

@@ -39,6 +39,16 @@ greater s t = cond (before s t) t s
 abbrev pub area_cover : Area → Area → Area
 area_cover a b = record { xmin = smaller a.xmin b.xmin; xmax = greater a.xmax b.xmax; ymin = smaller a.ymin b.ymin; ymax = greater a.ymax b.ymax }
 
+-- the least area over two points, which are opposite corners of it
+abbrev pub area_between : Point → Point → Area
+area_between p q = record { xmin = smaller p.x q.x; xmax = greater p.x q.x; ymin = smaller p.y q.y; ymax = greater p.y q.y }
+
+-- both points lie in the area, and each area in which both lie has all of its points
+pub record IsAreaOver (p q : Point) (a : Area) : Type 0 where
+  pub first : InArea a p
+  pub second : InArea a q
+  pub least : (b : Area) → InArea b p → InArea b q → (r : Point) → InArea a r → InArea b r
+
 -- the two have the same sides
 abbrev pub same_area : Area → Area → Bool
 same_area a b = same a.xmin b.xmin && same a.xmax b.xmax && (same a.ymin b.ymin && same a.ymax b.ymax)

@@ -1,10 +1,10 @@
 -- Boxes made wider or narrower in space.
-use Rattle.std.specs.Prelude.{◌≡◌, ◌↔◌, true, cond, List, [], Option, Some, None}
-use Rattle.mob_ratio.specs.Ratio.{Ratio, ◌+ℚ◌, ◌-ℚ◌, ◌≤ℚ◌, neg_ℚ}
+use Rattle.std.specs.Prelude.{cond, List, [], Option, Some, None}
+use Rattle.mob_ratio.specs.Ratio.{Ratio, ◌+ℚ◌, ◌-ℚ◌, ◌≤ℚ◌}
 use Rattle.mob_frac.specs.Formula.{expansion_parts}
 use Rattle.mob_span.specs.Span.{SpanOf}
 use Rattle.mob_plane.specs.declared.point.Point.{Point}
-use Rattle.mob_stbox.specs.Areas.{InArea, is_area}
+use Rattle.mob_stbox.specs.Areas.{is_area}
 use Rattle.mob_stbox.specs.Boxes.{BoxOf}
 use Rattle.mob_stbox.specs.declared.area.Area.{Area}
 

@@ -1,5 +1,5 @@
 -- The test whether two boxes are one is exact.
-use Rattle.std.specs.Prelude.{◌≡◌, ◌↔◌, Bool, true, false, IsTrue, refl, Option, Some, None, not}
+use Rattle.std.specs.Prelude.{◌≡◌, ◌↔◌, Bool, true, false, IsTrue, refl, Option, Some, None}
 use Rattle.std.proofs.Common.{arith, ap, sym, ◌∙◌, true≢false}
 use Rattle.std.specs.Cmp.{IsEquivalence}
 use Rattle.mob_ratio.specs.Ratio.{Ratio}

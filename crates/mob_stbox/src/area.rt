@@ -1,10 +1,11 @@
 //! Closed rectangles of the plane.
-ghost use Rattle.std.specs.Prelude.{◌≡◌, ◌↔◌, IsTrue};
+ghost use Rattle.std.specs.Prelude.{◌≡◌, true};
 ghost use Rattle.mob_frac.specs.Formula.{IsFormula, expansion_parts};
-ghost use Rattle.mob_stbox.specs.Areas.{is_area, areas_meet, area_over, area_cover, same_area, smaller, greater};
+ghost use Rattle.mob_stbox.specs.Areas.{is_area, areas_meet, area_over, area_cover, area_between, IsAreaOver, same_area, smaller, greater};
 ghost use Rattle.mob_stbox.specs.Expansion.{moved_area};
 
 use mob_frac::{Frac, Overflow};
+use mob_plane::Point;
 
 /// A closed rectangle of the plane, by its least and its greatest coordinates. Its sides belong to it. Any four numbers can stand
 /// here; a `StBox` has no least coordinate above its greatest.
@@ -33,6 +34,20 @@ fn greater(a: &Frac, b: &Frac) -> Frac
 }
 
 impl Area {
+    /// The least rectangle over two points, which are opposite corners of it. They may be any two opposite ones.
+    pub fn between(a: &Point, b: &Point) -> Area
+        ensures value { result ≡ area_between a.now b.now }
+        ensures area { is_area result ≡ true }
+        ensures least { IsAreaOver a.now b.now result }
+    {
+        Area {
+            xmin: smaller(&a.x, &b.x),
+            xmax: greater(&a.x, &b.x),
+            ymin: smaller(&a.y, &b.y),
+            ymax: greater(&a.y, &b.y),
+        }
+    }
+
     // Whether no least coordinate is above its greatest.
     pub(crate) fn is_area(&self) -> bool
         ensures value { result ≡ is_area self.now }

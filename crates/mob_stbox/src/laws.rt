@@ -1,7 +1,40 @@
 //! What holds of every box, for proofs that stand on boxes. No code runs here.
 
+ghost use Rattle.std.specs.Prelude.{◌≡◌, ◌↔◌, IsTrue, true, pos};
+ghost use Rattle.mob_ratio.specs.Ratio.{Ratio, ◌≤ℚ◌, neg_ℚ, whole};
+ghost use Rattle.mob_plane.specs.declared.point.Point.{Point};
+ghost use Rattle.mob_stbox.specs.Areas.{InArea, in_area, is_area};
+ghost use Rattle.mob_stbox.specs.Boxes.{BoxOf, InBox, in_box, is_box, BoxContains};
+ghost use Rattle.mob_stbox.specs.Expansion.{moved_area, IsNear};
+ghost use Rattle.mob_stbox.specs.declared.area.Area.{Area};
+
 use crate::{Area, StBox};
 use mob_list::laws::crosses_threads;
+
+/// The tests of membership say what they mean: a point is in an area, and who is at a point at an instant is in a box.
+pub fn membership()
+    ensures areas { (a : Area) (p : Point) → IsTrue (in_area a p) ↔ InArea a p }
+    ensures boxes { (b : BoxOf) (t : Ratio) (p : Point) → IsTrue (in_box b t p) ↔ InBox b t p }
+{}
+
+/// Some point lies in an area exactly where no least coordinate is above its greatest.
+pub fn areas_have_points()
+    ensures exact { (a : Area) → (is_area a ≡ true) ↔ ((p : Point) × InArea a p) }
+{}
+
+/// Two boxes that contain one another are one. So there is one least box over two boxes.
+pub fn one_box()
+    ensures one { (a b : BoxOf) → is_box a ≡ true → is_box b ≡ true → BoxContains a b → BoxContains b a → a ≡ b }
+{}
+
+/// An area whose sides are moved outward has the points that are so near to one of its own, by coordinate; where they are moved
+/// inward it keeps the points of which all that are so near are in it.
+pub fn expansions()
+    ensures outward { (a : Area) (d : Ratio) → is_area a ≡ true → whole (pos 0) ≤ℚ d
+        → (p : Point) → InArea (moved_area a d) p ↔ ((q : Point) × InArea a q × IsNear p q d) }
+    ensures inward { (a : Area) (d : Ratio) → d ≤ℚ whole (pos 0)
+        → (p : Point) → InArea (moved_area a d) p ↔ ((q : Point) → IsNear q p (neg_ℚ d) → InArea a q) }
+{}
 
 /// Areas and boxes cross threads.
 pub fn boxes_cross_threads() {

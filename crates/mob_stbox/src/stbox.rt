@@ -38,11 +38,6 @@ impl Model for StBox {
     ghost inverse = { λ b. record { space = b.space; time = b.time } };
 }
 
-// The span of the instant 0 alone.
-fn instant_zero() -> Option<Span> {
-    Span::new(Frac::zero(), Frac::zero(), true, true)
-}
-
 // The box with this area and this time, if the area has a point.
 fn with_space(area: Area, time: Option<Span>) -> Option<StBox>
     ensures value { result ≡ box_over area time }
@@ -171,16 +166,17 @@ impl Eq for StBox {
 }
 
 impl Default for StBox {
-    /// The point 0 0 at the instant 0. It stands where an array wants something to begin with.
+    /// The point 0 0 at any time. It stands where an array wants something to begin with.
     fn default() -> StBox {
+        let zero = Frac::zero();
         StBox {
             space: Some(Area {
-                xmin: Frac::zero(),
-                xmax: Frac::zero(),
-                ymin: Frac::zero(),
-                ymax: Frac::zero(),
+                xmin: zero,
+                xmax: zero,
+                ymin: zero,
+                ymax: zero,
             }),
-            time: instant_zero(),
+            time: None,
         }
     }
 }
