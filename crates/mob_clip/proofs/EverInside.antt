@@ -50,3 +50,7 @@ wanted_same m n want (Some x) h = ap (λ b. kept_value want b x) (h x)
 
 pub inside_same : (rings : List (List Point)) (es : List (Point × Point)) (want : Bool) (v : List (Slice PlaneLine)) (t : Ratio) → es ≡ all_edges rings → where_wanted want (is_inside_edges es) (value_at plane_value_of v t) ≡ where_wanted want (λ x. inside rings x) (value_at plane_value_of v t)
 inside_same rings es want v t e = wanted_same (is_inside_edges es) (λ x. inside rings x) want (value_at plane_value_of v t) (λ x. ap (λ z. is_inside_edges z x) e ∙ sym (inside_signs rings x))
+
+pub restricted_same : (rings : List (List Point)) (es : List (Point × Point)) (want : Bool) (v : List (Slice PlaneLine)) (r : Option (List (Slice PlaneLine))) → es ≡ all_edges rings → IsRestricted plane_value_of want (λ t x. is_inside_edges es x) v r → IsRestricted plane_value_of want (λ t x. inside rings x) v r
+restricted_same rings es want v None e h = λ t. sym (inside_same rings es want v t e) ∙ h t
+restricted_same rings es want v (Some w) e h = λ t. h t ∙ inside_same rings es want v t e
