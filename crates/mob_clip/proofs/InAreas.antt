@@ -10,8 +10,8 @@ use Rattle.mob_ratio.specs.Order.{before, up_to}
 use Rattle.mob_ratio.specs.Line.{line_at}
 use Rattle.mob_ratio.specs.Sign.{sign_of}
 use Rattle.mob_ratio.proofs.Order.{before-back}
-use Rattle.mob_ratio.proofs.LineAt.{line_at-level}
-use Rattle.mob_ratio.proofs.Signs.{sign-diff, line_at-diff}
+use Rattle.mob_plane.proofs.TurnsAlong.{line_at-from}
+use Rattle.mob_ratio.proofs.Signs.{sign-diff}
 use Rattle.mob_frac.specs.Formula.{AllFit}
 use Rattle.mob_span.specs.Span.{SpanOf, has}
 use Rattle.mob_slice.specs.Sides.{at_ends, HasValues}
@@ -50,9 +50,6 @@ lt_sign x y = ap is_lt (sym (sign-diff x y)) ∙ lt_by (before x y) (before y x)
 
 gt_sign : (x y : Ratio) → is_gt (sign_of (x -ℚ y)) ≡ before y x
 gt_sign x y = ap is_gt (sym (sign-diff x y)) ∙ gt_by (before x y) (before y x) (before-back x y)
-
-pub line_at-from : (x0 x1 a l u t : Ratio) → line_at x0 x1 l u t -ℚ a ≡ line_at (x0 -ℚ a) (x1 -ℚ a) l u t
-line_at-from x0 x1 a l u t = ap (λ z. line_at x0 x1 l u t -ℚ z) (sym (line_at-level a l u t)) ∙ line_at-diff x0 x1 a a l u t
 
 not_below : (x0 x1 a l u t : Ratio) → not (is_lt (sign_of (line_at (x0 -ℚ a) (x1 -ℚ a) l u t))) ≡ up_to a (line_at x0 x1 l u t)
 not_below x0 x1 a l u t = ap (λ z. not (is_lt (sign_of z))) (sym (line_at-from x0 x1 a l u t)) ∙ ap not (lt_sign (line_at x0 x1 l u t) a)

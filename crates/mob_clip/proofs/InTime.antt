@@ -82,7 +82,7 @@ module _ (s m : SpanOf) (inside : is_inside s m ≡ true) (some : has_instant m 
       ap (λ z. (low s.lower s.lower_inc t && z) || (has m t || has (back_span s m) t)) (low_front m.lower t m.lower_inc)
       ∙ ap (λ z. (low s.lower s.lower_inc t && not (low m.lower m.lower_inc t)) || (has m t || (z && high s.upper s.upper_inc t))) (high_back m.upper t m.upper_inc)
       ∙ cover (low s.lower s.lower_inc t) (low m.lower m.lower_inc t) (high m.upper m.upper_inc t) (high s.upper s.upper_inc t)
-        (low_inside s.lower m.lower t s.lower_inc m.lower_inc low_side) (high_inside s.upper m.upper t s.upper_inc m.upper_inc high_side) (not_both m t some)
+      (low_inside s.lower m.lower t s.lower_inc m.lower_inc low_side) (high_inside s.upper m.upper t s.upper_inc m.upper_inc high_side) (not_both m t some)
 
   pub front_inside : is_inside s (front_span s m) ≡ true
   front_inside = grind (arith, inside, some, before-self s.lower, before-trans m.lower m.upper s.upper, before-neither m.lower m.upper, before-neither m.upper s.upper, before-back m.lower m.upper, before-trans s.upper m.lower m.upper)

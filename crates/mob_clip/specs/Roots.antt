@@ -1,12 +1,11 @@
 -- The functions of an edge on a slice, each with its root.
-use Rattle.std.specs.Prelude.{◌≡◌, List, [], ◌∷◌, ◌++◌, Option, MatchOption}
-use Rattle.std.specs.List.{AllByRecursion, flat_map}
+use Rattle.std.specs.Prelude.{◌≡◌, true, List, [], ◌∷◌, MatchOption}
+use Rattle.std.specs.List.{flat_map}
 use Rattle.mob_ratio.specs.Ratio.{Ratio}
+use Rattle.mob_ratio.specs.Order.{up_to}
 use Rattle.mob_frac.specs.Formula.{AllFit}
 use Rattle.mob_span.specs.Span.{SpanOf}
 use Rattle.mob_plane.specs.declared.point.Point.{Point}
-use Rattle.mob_slice.specs.Cut.{slice_parts}
-use Rattle.mob_slice.specs.Lines.{plane_parts_of}
 use Rattle.mob_slice.specs.declared.slice.Slice.{Slice}
 use Rattle.mob_slice.specs.declared.line.PlaneLine.{PlaneLine}
 use Rattle.mob_cells.specs.declared.linear.Ends.{Ends}
@@ -39,12 +38,13 @@ pub record IsPlacedEdge (s : SpanOf) (g : EdgePlaced) : Type 0 where
   pub y_a : IsPlaced s g.y_a
   pub y_b : IsPlaced s g.y_b
 
--- the parts of F1 at a root, if there is one, and at those of an edge
-abbrev pub cut_parts : Slice PlaneLine → Option Ratio → List Ratio
-cut_parts s root = flat_map (slice_parts plane_parts_of s) (listed root)
+-- the roots of an edge
+abbrev pub edge_roots : EdgePlaced → List Ratio
+edge_roots g = flat_map (λ p. listed p.root) (g.turn ∷ g.x_a ∷ g.x_b ∷ g.y_a ∷ g.y_b ∷ [])
 
-abbrev pub edge_cuts : Slice PlaneLine → EdgePlaced → List Ratio
-edge_cuts s g = cut_parts s g.turn.root ++ cut_parts s g.x_a.root ++ cut_parts s g.x_b.root ++ cut_parts s g.y_a.root ++ cut_parts s g.y_b.root
+-- r lies between the ends of the span, or is one of them
+abbrev pub IsWithin : SpanOf → Ratio → Type 0
+IsWithin s r = (up_to s.lower r ≡ true) × (up_to r s.upper ≡ true)
 
 -- the parts of a formula fit at each root of an edge
 abbrev pub FitsRoot : (Ratio → List Ratio) → Placed → Type 0

@@ -82,11 +82,21 @@ fn around(
     ensures around { MatchResult result (λ v. AreAround slice.now want part.now middle.items v.items) (λ e. e ≡ OpFault.NoMemory) }
 {
     let _ = part.lower();
-    let mut out = match piece_on(alloc, slice, front(&slice.span, part), is_wanted(want, false)) {
+    let mut out = match piece_on(
+        alloc,
+        slice,
+        front(&slice.span, part),
+        is_wanted(want, false),
+    ) {
         Ok(out) => out,
         Err(fault) => return Err(fault),
     };
-    let more = match piece_on(alloc, slice, back(&slice.span, part), is_wanted(want, false)) {
+    let more = match piece_on(
+        alloc,
+        slice,
+        back(&slice.span, part),
+        is_wanted(want, false),
+    ) {
         Ok(more) => more,
         Err(fault) => return Err(fault),
     };
@@ -181,8 +191,7 @@ fn to_box(
     ensures value { IfOk result (λ r. IsRestricted plane_value_of want (in_box b.now) a.now r) }
     ensures first { IsJudged (flat_map (entries_of_box b.now) a.now) result }
 {
-    let slices =
-        restricted::<PlaneLine, ToBox<'_>>(alloc, a.slices(), &ToBox { to: b }, want)?;
+    let slices = restricted::<PlaneLine, ToBox<'_>>(alloc, a.slices(), &ToBox { to: b }, want)?;
     match normal(alloc, slices) {
         Ok(value) => Ok(value),
         Err(_) => Err(OpFault::NoMemory),

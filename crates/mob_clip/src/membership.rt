@@ -15,6 +15,7 @@ ghost use Rattle.mob_clip.specs.Signs.{sign_at, joined, joined_signs, only, ends
 use crate::roots::EdgePlaced;
 use crate::steps::{Change, Mix, Steps, merged};
 use mob_cells::signs::Placed;
+use mob_cells::zero::sign_of;
 use mob_frac::Frac;
 use mob_plane::{EdgeSigns, Tally, with_edge};
 use mob_span::Span;
@@ -84,13 +85,6 @@ fn joined(a: Ordering, b: Ordering) -> Ordering
     }
 }
 
-// How the number stands to 0.
-fn sign(x: &Frac) -> Ordering
-    ensures sign { result ≡ sign_of x.now }
-{
-    x.compare(&Frac::zero())
-}
-
 // The sign of a function that has no root strictly inside the span, and ends with these signs.
 fn without_root(span: &Span, lower: Ordering, upper: Ordering) -> SignChange
     ensures change { result ≡ ends_change span.now lower upper }
@@ -129,8 +123,8 @@ fn change_of(span: &Span, placed: &Placed) -> SignChange
     ensures signs { (t : Ratio) → has span.now t ≡ true → sign_at result t ≡ sign_of (function_at span.now placed.now.ends t) }
     ensures fits { (parts : Ratio → List Ratio) → AllFit (parts span.now.lower) → AllFit (parts span.now.upper) → FitsRoot parts placed.now → FitsChange parts result }
 {
-    let lower = sign(&placed.ends.at_lower);
-    let upper = sign(&placed.ends.at_upper);
+    let lower = sign_of(&placed.ends.at_lower);
+    let upper = sign_of(&placed.ends.at_upper);
     match placed.root {
         Some(r) => SignChange {
             first: lower,
@@ -204,11 +198,7 @@ fn two_signs(
 }
 
 // The signs of the differences to both ends of an edge.
-fn end_signs(
-    alloc: Global,
-    span: &Span,
-    edge: &EdgePlaced,
-) -> Result<Steps<EdgeSigns>, AllocError>
+fn end_signs(alloc: Global, span: &Span, edge: &EdgePlaced) -> Result<Steps<EdgeSigns>, AllocError>
     requires placed { IsPlacedEdge span.now edge.now }
     ensures values { IfOk result (λ s. (t : Ratio) → has span.now t ≡ true → steps_at s t ≡ signs_beside span.now t edge.now) }
     ensures fit { IfOk result (λ s. (parts : Ratio → List Ratio) → AllFit (parts span.now.lower) → AllFit (parts span.now.upper) → CutsFit parts edge.now → ChangesFit parts s.changes.items) }
@@ -219,11 +209,7 @@ fn end_signs(
 }
 
 // The signs of an edge.
-fn edge_signs(
-    alloc: Global,
-    span: &Span,
-    edge: &EdgePlaced,
-) -> Result<Steps<EdgeSigns>, AllocError>
+fn edge_signs(alloc: Global, span: &Span, edge: &EdgePlaced) -> Result<Steps<EdgeSigns>, AllocError>
     requires placed { IsPlacedEdge span.now edge.now }
     ensures values { IfOk result (λ s. (t : Ratio) → has span.now t ≡ true → steps_at s t ≡ signs_on span.now t edge.now) }
     ensures fit { IfOk result (λ s. (parts : Ratio → List Ratio) → AllFit (parts span.now.lower) → AllFit (parts span.now.upper) → CutsFit parts edge.now → ChangesFit parts s.changes.items) }
@@ -266,11 +252,7 @@ fn tallied(alloc: Global, signs: &Steps<EdgeSigns>) -> Result<Steps<Tally>, Allo
 }
 
 // What is known of a point by one edge, on a span.
-fn edge_steps(
-    alloc: Global,
-    span: &Span,
-    edge: &EdgePlaced,
-) -> Result<Steps<Tally>, AllocError>
+fn edge_steps(alloc: Global, span: &Span, edge: &EdgePlaced) -> Result<Steps<Tally>, AllocError>
     requires placed { IsPlacedEdge span.now edge.now }
     ensures values { IfOk result (λ s. (t : Ratio) → has span.now t ≡ true → steps_at s t ≡ edge_tally (signs_on span.now t edge.now)) }
     ensures fit { IfOk result (λ s. (parts : Ratio → List Ratio) → AllFit (parts span.now.lower) → AllFit (parts span.now.upper) → CutsFit parts edge.now → ChangesFit parts s.changes.items) }
@@ -292,7 +274,8 @@ fn each_edge(
     let _lower = span.lower();
     let mut out = Vec::new(alloc);
     for edge in edges {
-        out.push(edge_steps(alloc, span, edge)?)?;
+        let next = edge_steps(alloc, span, edge)?;
+        out.push(next)?;
     }
     Ok(out)
 }
@@ -316,16 +299,16 @@ fn together(alloc: Global, edges: &[Steps<Tally>]) -> Result<Steps<Tally>, Alloc
     ensures values { IfOk result (λ s. (t : Ratio) → steps_at s t ≡ tally_all (map (λ e. steps_at e t) edges.now)) }
     ensures fit { IfOk result (λ s. (parts : Ratio → List Ratio) → AllByRecursion (λ e. ChangesFit parts e.changes.items) edges.now → ChangesFit parts s.changes.items) }
 {
-    if edges.is_empty() {
-        return Ok(nothing(alloc));
+    match edges {
+        [] => Ok(nothing(alloc)),
+        [edge] => merged(alloc, edge, &nothing(alloc)),
+        _ => {
+            let (front, back) = edges.split_at(edges.len() / 2);
+            let left = together(alloc, front)?;
+            let right = together(alloc, back)?;
+            merged(alloc, &left, &right)
+        }
     }
-    if edges.len() == 1 {
-        return merged(alloc, &edges[0], &nothing(alloc));
-    }
-    let (left, right) = edges.split_at(edges.len() / 2);
-    let left = together(alloc, left)?;
-    let right = together(alloc, right)?;
-    merged(alloc, &left, &right)
 }
 
 /// What is known of a moving point on a span by all edges: whether it lies on one, and whether it is odd how many pass its height to

@@ -63,6 +63,24 @@ impl<'a> Restriction<PlaneLine> for ToEdges<'a> {
     }
 }
 
+// The restriction to the instants at which being inside the polygon of some edges has the wanted truth value.
+fn to_edges(
+    alloc: Global,
+    a: &Moving<PlaneLine>,
+    edges: &[(Point, Point)],
+    want: bool,
+) -> Result<Option<Moving<PlaneLine>>, OpFault>
+    ensures value { IfOk result (λ r. IsRestricted plane_value_of want (λ t x. is_inside_edges edges.now x) a.now r) }
+    ensures first { IsJudged (flat_map (entries_of_edges edges.now) a.now) result }
+{
+    let by = ToEdges { edges };
+    let slices = restricted::<PlaneLine, ToEdges<'_>>(alloc, a.slices(), &by, want)?;
+    match normal(alloc, slices) {
+        Ok(value) => Ok(value),
+        Err(_) => Err(OpFault::NoMemory),
+    }
+}
+
 // The restriction to the instants at which being inside the polygon has the wanted truth value.
 fn to_polygon(
     alloc: Global,
@@ -77,17 +95,7 @@ fn to_polygon(
         Ok(edges) => edges,
         Err(_) => return Err(OpFault::NoMemory),
     };
-    let by = ToEdges {
-        edges: edges.as_slice(),
-    };
-    let slices = match restricted::<PlaneLine, ToEdges<'_>>(alloc, a.slices(), &by, want) {
-        Ok(slices) => slices,
-        Err(fault) => return Err(fault),
-    };
-    match normal(alloc, slices) {
-        Ok(value) => Ok(value),
-        Err(_) => Err(OpFault::NoMemory),
-    }
+    to_edges(alloc, a, edges.as_slice(), want)
 }
 
 /// The moving point at the instants at which it is inside the polygon or on its boundary (MobilityDB's `atGeometry`). None exactly
@@ -131,7 +139,10 @@ pub fn ever_inside(alloc: Global, a: &Moving<PlaneLine>, p: &Polygon) -> Result<
     ensures first { IsJudged (flat_map (entries_of_polygon p.now) a.now) result }
 {
     match at_polygon(alloc, a, p) {
-        Ok(Some(_)) => Ok(true),
+        Ok(Some(left)) => {
+            let _slices = left.slices();
+            Ok(true)
+        }
         Ok(None) => Ok(false),
         Err(fault) => Err(fault),
     }

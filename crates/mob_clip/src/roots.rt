@@ -1,8 +1,7 @@
 //! The roots of the functions of edges on a slice.
 
-ghost use Rattle.std.specs.Prelude.{◌≡◌, true, map, None, Some, MatchOption, MatchResult};
+ghost use Rattle.std.specs.Prelude.{◌≡◌, [], ◌∷◌, ◌++◌, map, None, Some, IfOk, OnOk, MatchResult};
 ghost use Rattle.std.specs.List.{AllByRecursion, flat_map};
-ghost use Rattle.mob_ratio.specs.Order.{up_to};
 ghost use Rattle.mob_frac.specs.Formula.{AllFit};
 ghost use Rattle.mob_slice.specs.Slices.{IsSound};
 ghost use Rattle.mob_slice.specs.Computed.{IsComputed};
@@ -10,19 +9,19 @@ ghost use Rattle.mob_slice.specs.Cut.{slice_parts};
 ghost use Rattle.mob_slice.specs.Lines.{plane_parts_of};
 ghost use Rattle.mob_slice.specs.Entries.{IsFirst, OnFormula};
 ghost use Rattle.mob_slice.specs.declared.formula.Formula.TheVariants.{F1, F3};
-ghost use Rattle.mob_cells.specs.Roots.{IsLevel, root_parts, roots_parts};
+ghost use Rattle.mob_cells.specs.Roots.{IsLevel, root_parts, roots_parts, listed};
 ghost use Rattle.mob_clip.specs.Sides.{IsPartFault};
-ghost use Rattle.mob_clip.specs.Roots.{place, place_edge, listed_ends, cut_parts, edge_cuts, IsPlacedEdge, placed_edge, CutsFit};
+ghost use Rattle.mob_clip.specs.Roots.{place, place_edge, listed_ends, edge_roots, IsWithin, IsPlacedEdge, placed_edge, CutsFit};
 ghost use Rattle.mob_clip.specs.Polygons.{entries_of_edges};
 
-use crate::sides::{EdgeEnds, besides, turned};
+use crate::sides::{EdgeEnds, add, besides, turned};
 use mob_cells::signs::Placed;
 use mob_cells::{Ends, root};
 use mob_frac::Frac;
 use mob_plane::Point;
 use mob_slice::{Formula, LookFault, OpFault, Passed, PlaneLine, Slice, limit};
 use mob_span::Span;
-use std::alloc::Global;
+use std::alloc::{AllocError, Global};
 
 /// The linear functions of an edge, each with its root.
 #[derive(Clone, Copy, Drop)]
@@ -67,6 +66,27 @@ fn place_edge(span: &Span, edge: &EdgeEnds) -> Result<EdgePlaced, Passed>
     })
 }
 
+// Adds the functions of an edge with their roots.
+fn push_placed(out: &mut Vec<EdgePlaced>, span: &Span, edge: &EdgeEnds) -> Result<(), OpFault>
+    requires level { AllByRecursion (IsLevel span.now) (listed_ends edge.now) }
+    ensures pushed { MatchResult result (λ _. (out.new.items ≡ out.old.items ++ place_edge span.now edge.now ∷ []) × AllFit (roots_parts span.now (listed_ends edge.now))) (IsPartFault F3 (roots_parts span.now (listed_ends edge.now))) }
+{
+    // the types of what is added
+    let _types: (Option<Placed>, Frac) = (None, edge.turn.at_lower);
+    let next = match place_edge(span, edge) {
+        Ok(next) => next,
+        Err(passed) => {
+            return Err(OpFault::Passed {
+                formula: passed.formula,
+            });
+        }
+    };
+    match add(out, next) {
+        Ok(()) => Ok(()),
+        Err(_) => Err(OpFault::NoMemory),
+    }
+}
+
 // The functions of all edges with their roots.
 fn placed(alloc: Global, span: &Span, edges: &[EdgeEnds]) -> Result<Vec<EdgePlaced>, OpFault>
     requires level { AllByRecursion (λ g. AllByRecursion (IsLevel span.now) (listed_ends g)) edges.now }
@@ -75,61 +95,82 @@ fn placed(alloc: Global, span: &Span, edges: &[EdgeEnds]) -> Result<Vec<EdgePlac
     let _lower = span.lower();
     let mut out = Vec::new(alloc);
     for edge in edges {
-        let next = match place_edge(span, edge) {
-            Ok(next) => next,
-            Err(passed) => {
-                return Err(OpFault::Passed {
-                    formula: passed.formula,
-                });
-            }
-        };
-        if out.push(next).is_err() {
-            return Err(OpFault::NoMemory);
+        match push_placed(&mut out, span, edge) {
+            Ok(()) => {}
+            Err(fault) => return Err(fault),
         }
     }
     Ok(out)
 }
 
-// Whether the position at a root fits.
-fn fits_at(alloc: Global, slice: &Slice<PlaneLine>, root: &Option<Frac>) -> Result<(), OpFault>
-    requires inside { MatchOption root.now (Unit {0}) (λ r. (up_to slice.now.span.lower r ≡ true) × (up_to r slice.now.span.upper ≡ true)) }
-    ensures fits { MatchResult result (λ _. AllFit (cut_parts slice.now root.now)) (IsPartFault F1 (cut_parts slice.now root.now)) }
+// Adds a root, if there is one.
+fn push_root(out: &mut Vec<Frac>, root: &Option<Frac>) -> Result<(), AllocError>
+    ensures pushed { OnOk result (out.new.items ≡ out.old.items ++ listed root.now) }
 {
-    match root {
-        Some(r) => match limit::<PlaneLine>(alloc, slice, r) {
-            Ok(_) => Ok(()),
-            Err(LookFault::Passed { formula }) => Err(OpFault::Passed { formula }),
-            Err(LookFault::NoMemory) => Err(OpFault::NoMemory),
-        },
-        None => Ok(()),
+    if let Some(r) = root {
+        out.push(*r)?;
     }
-}
-
-// Whether the positions at the roots of an edge fit.
-fn edge_fits(alloc: Global, slice: &Slice<PlaneLine>, edge: &EdgePlaced) -> Result<(), OpFault>
-    requires placed { IsPlacedEdge slice.now.span edge.now }
-    ensures fits { MatchResult result (λ _. AllFit (edge_cuts slice.now edge.now)) (IsPartFault F1 (edge_cuts slice.now edge.now)) }
-{
-    fits_at(alloc, slice, &edge.turn.root)?;
-    fits_at(alloc, slice, &edge.x_a.root)?;
-    fits_at(alloc, slice, &edge.x_b.root)?;
-    fits_at(alloc, slice, &edge.y_a.root)?;
-    fits_at(alloc, slice, &edge.y_b.root)?;
     Ok(())
 }
 
-// Whether the positions at all roots fit.
-fn roots_fit(alloc: Global, slice: &Slice<PlaneLine>, edges: &[EdgePlaced]) -> Result<(), OpFault>
-    requires placed { AllByRecursion (IsPlacedEdge slice.now.span) edges.now }
-    ensures fits { MatchResult result (λ _. AllFit (flat_map (edge_cuts slice.now) edges.now)) (IsPartFault F1 (flat_map (edge_cuts slice.now) edges.now)) }
+// Adds the roots of an edge.
+fn push_roots(out: &mut Vec<Frac>, edge: &EdgePlaced) -> Result<(), AllocError>
+    ensures pushed { OnOk result (out.new.items ≡ out.old.items ++ edge_roots edge.now) }
 {
+    push_root(out, &edge.turn.root)?;
+    push_root(out, &edge.x_a.root)?;
+    push_root(out, &edge.x_b.root)?;
+    push_root(out, &edge.y_a.root)?;
+    push_root(out, &edge.y_b.root)
+}
+
+// The roots of all edges.
+fn roots_of(alloc: Global, edges: &[EdgePlaced]) -> Result<Vec<Frac>, AllocError>
+    ensures roots { IfOk result (λ v. v.items ≡ flat_map edge_roots edges.now) }
+{
+    let mut out = Vec::new(alloc);
     for edge in edges {
-        match edge_fits(alloc, slice, edge) {
+        push_roots(&mut out, edge)?;
+    }
+    Ok(out)
+}
+
+// Whether the position at an instant fits.
+fn fits_at(alloc: Global, slice: &Slice<PlaneLine>, r: &Frac) -> Result<(), OpFault>
+    requires within { IsWithin slice.now.span r.now }
+    ensures fits { MatchResult result (λ _. AllFit (slice_parts plane_parts_of slice.now r.now)) (IsPartFault F1 (slice_parts plane_parts_of slice.now r.now)) }
+{
+    match limit::<PlaneLine>(alloc, slice, r) {
+        Ok(_) => Ok(()),
+        Err(LookFault::Passed { formula }) => Err(OpFault::Passed { formula }),
+        Err(LookFault::NoMemory) => Err(OpFault::NoMemory),
+    }
+}
+
+// Whether the positions at all roots fit.
+fn all_fit(alloc: Global, slice: &Slice<PlaneLine>, roots: &[Frac]) -> Result<(), OpFault>
+    requires within { AllByRecursion (IsWithin slice.now.span) roots.now }
+    ensures fits { MatchResult result (λ _. AllFit (flat_map (slice_parts plane_parts_of slice.now) roots.now)) (IsPartFault F1 (flat_map (slice_parts plane_parts_of slice.now) roots.now)) }
+{
+    for r in roots {
+        match fits_at(alloc, slice, r) {
             Ok(()) => {}
             Err(fault) => return Err(fault),
         }
     }
     Ok(())
+}
+
+// Whether the positions at the roots of all edges fit.
+fn roots_fit(alloc: Global, slice: &Slice<PlaneLine>, edges: &[EdgePlaced]) -> Result<(), OpFault>
+    requires placed { AllByRecursion (IsPlacedEdge slice.now.span) edges.now }
+    ensures fits { MatchResult result (λ _. AllFit (flat_map (slice_parts plane_parts_of slice.now) (flat_map edge_roots edges.now))) (IsPartFault F1 (flat_map (slice_parts plane_parts_of slice.now) (flat_map edge_roots edges.now))) }
+{
+    let roots = match roots_of(alloc, edges) {
+        Ok(roots) => roots,
+        Err(_) => return Err(OpFault::NoMemory),
+    };
+    all_fit(alloc, slice, roots.as_slice())
 }
 
 /// The functions of all edges with their roots on a slice, where every entry of a restriction by these edges fits.

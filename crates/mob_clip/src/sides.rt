@@ -1,6 +1,6 @@
 //! How a point on a straight way lies to edges: the linear functions of which the signs say so.
 
-ghost use Rattle.std.specs.Prelude.{◌≡◌, ◌++◌, map, MatchResult};
+ghost use Rattle.std.specs.Prelude.{◌≡◌, [], ◌∷◌, ◌++◌, map, OnOk, MatchResult};
 ghost use Rattle.std.specs.List.{flat_map};
 ghost use Rattle.mob_frac.specs.Formula.{AllFit, IsFormula};
 ghost use Rattle.mob_plane.specs.Turns.{turn_parts};
@@ -12,7 +12,7 @@ use mob_cells::Ends;
 use mob_frac::Overflow;
 use mob_plane::{Point, turn};
 use mob_slice::{Formula, OpFault};
-use std::alloc::Global;
+use std::alloc::{AllocError, Global};
 
 /// The differences of a point on its way to another point, by coordinate.
 #[derive(Clone, Copy, Drop)]
@@ -47,6 +47,14 @@ pub struct EdgeEnds {
     pub y_a: Ends,
     /// The difference in y to the second end.
     pub y_b: Ends,
+}
+
+/// Adds one more at the end.
+pub fn add<T: Drop>(out: &mut Vec<T>, next: T) -> Result<(), AllocError>
+    ensures added { OnOk result (out.new.items ≡ out.old.items ++ next ∷ []) }
+{
+    out.push(next)?;
+    Ok(())
 }
 
 // The differences of the way from `p` to `q` to the point `v`.
@@ -145,7 +153,7 @@ pub fn besides(
             point: edge.1,
             to: next.to_b,
         });
-        if out.push(next).is_err() {
+        if add(&mut out, next).is_err() {
             return Err(OpFault::NoMemory);
         }
     }
@@ -178,7 +186,7 @@ pub fn turned(
             y_a: beside.to_a.y,
             y_b: beside.to_b.y,
         };
-        if out.push(next).is_err() {
+        if add(&mut out, next).is_err() {
             return Err(OpFault::NoMemory);
         }
     }

@@ -121,21 +121,19 @@ fn meet<T: Mix>(
     if j == ys.len() {
         return take_left(&xs[i], right, i + 1, j);
     }
-    if xs[i].at.is_before(&ys[j].at) {
-        return take_left(&xs[i], right, i + 1, j);
+    let x = &xs[i];
+    let y = &ys[j];
+    if x.at.is_before(&y.at) {
+        return take_left(x, right, i + 1, j);
     }
-    if ys[j].at.is_before(&xs[i].at) {
-        return take_right(left, &ys[j], i, j + 1);
+    if y.at.is_before(&x.at) {
+        return take_right(left, y, i, j + 1);
     }
-    take_both(&xs[i], &ys[j], i + 1, j + 1)
+    take_both(x, y, i + 1, j + 1)
 }
 
 /// Two of them taken together at each instant.
-pub fn merged<T: Mix>(
-    alloc: Global,
-    a: &Steps<T>,
-    b: &Steps<T>,
-) -> Result<Steps<T>, AllocError>
+pub fn merged<T: Mix>(alloc: Global, a: &Steps<T>, b: &Steps<T>) -> Result<Steps<T>, AllocError>
     ensures values { IfOk result (λ m. (t : Ratio) → steps_at m t ≡ T.mix (steps_at a.now t) (steps_at b.now t)) }
     ensures fit { IfOk result (λ m. (parts : Ratio → List Ratio) → ChangesFit parts a.now.changes.items → ChangesFit parts b.now.changes.items → ChangesFit parts m.changes.items) }
 {

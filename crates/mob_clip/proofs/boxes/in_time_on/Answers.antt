@@ -21,7 +21,7 @@ pub piece_on-requires-clause-holds : goal.piece_on-requires-clause-holds
 piece_on-requires-clause-holds c = (inside_self c.args.slice.now.span, own_fit plane_laws c.args.slice.now)
 
 pub returns-in-None : goal.returns-in-None
-returns-in-None c = record { kept = none_shared c.args.slice.now c.requires.sound c.args.want c.args.time.now c.args.space.now (λ v. v.items) c.piece_on.result c.in-None.ensures.test c.piece_on.ensures.whole }
+returns-in-None c = record { kept = none_shared c.args.slice.now c.requires.sound c.args.want c.args.time.now c.args.space.now (λ v. v.items) c.piece_on.result c.in-None.ensures.test (rw c.is_wanted.ensures.value at c.piece_on.ensures.whole) }
 
 pub cut-requires : goal.cut-requires
 cut-requires c =
@@ -46,7 +46,9 @@ returns c =
     let s = c.args.slice.now in
     let on = c.in-Ok.ensures.slice.0.on in
     let k = c.in-Ok-in_space_on.ensures.kept in
-    record { kept = time_kept s c.requires.sound c.args.want c.args.time.now c.args.space.now (λ v. v.items) c.around.result c.in-Some.shared c.in-Ok-in_space_on.middle.items c.in-Some.ensures.ends c.in-Some.ensures.test c.in-Ok.ensures.slice.1
-      (subst (λ z. AreKept plane_value_of (λ q. q.from) (λ q. q.to) (λ t. kept_value c.args.want (in_space c.args.space.now (slice_value plane_value_of s t)) (slice_value plane_value_of s t)) z c.in-Ok-in_space_on.middle.items) on k.0)
-      (subst (λ z. IsFirst (entries_of_space c.args.space.now s z) _) on k.1)
-      c.around.ensures.around }
+    record {
+      kept = time_kept s c.requires.sound c.args.want c.args.time.now c.args.space.now (λ v. v.items) c.around.result c.in-Some.shared c.in-Ok-in_space_on.middle.items c.in-Some.ensures.ends c.in-Some.ensures.test c.in-Ok.ensures.slice.1
+          (subst (λ z. AreKept plane_value_of (λ q. q.from) (λ q. q.to) (λ t. kept_value c.args.want (in_space c.args.space.now (slice_value plane_value_of s t)) (slice_value plane_value_of s t)) z c.in-Ok-in_space_on.middle.items) on k.0)
+          (subst (λ z. IsFirst (entries_of_space c.args.space.now s z) _) on k.1)
+          c.around.ensures.around;
+    }

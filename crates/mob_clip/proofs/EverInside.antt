@@ -1,0 +1,56 @@
+-- When something is left of a moving point inside a polygon.
+use Rattle.std.specs.Prelude.{◌≡◌, Bool, true, false, cond, List, [], ◌∷◌, Option, Some, None, MatchOption, refl}
+use Rattle.std.proofs.Common.{ap, sym, ◌∙◌, subst}
+use Rattle.mob_ratio.specs.Ratio.{Ratio}
+use Rattle.mob_span.specs.Span.{has}
+use Rattle.mob_span.proofs.SpanLemmas.{some_instant}
+use Rattle.mob_plane.specs.declared.point.Point.{Point}
+use Rattle.mob_plane.specs.Rings.{all_edges}
+use Rattle.mob_plane.specs.Membership.{inside}
+use Rattle.mob_plane.proofs.BySigns.{inside_signs}
+use Rattle.mob_slice.specs.Slices.{value_at, IsNormal}
+use Rattle.mob_slice.specs.Lines.{plane_value_of, plane_continued}
+use Rattle.mob_slice.specs.declared.slice.Slice.{Slice}
+use Rattle.mob_slice.specs.declared.line.PlaneLine.{PlaneLine}
+use Rattle.mob_cells.specs.Restricted.{kept_value, where_wanted, IsRestricted}
+use Rattle.mob_clip.specs.Polygons.{is_inside_edges, IsEverInside}
+
+none_some : {A : Type 0} {R : Type 0} (x : A) → None ≡ Some x → R
+none_some x e = cc
+
+wanted_meets : (m : Point → Bool) (o : Option Point) (y : Point) → where_wanted true m o ≡ Some y → (x : Point) × (o ≡ Some x) × (m x ≡ true)
+wanted_meets m None y e = none_some y e
+wanted_meets m (Some x) y e = (x, refl, by (m x) e)
+  where
+    by : (b : Bool) → kept_value true b x ≡ Some y → b ≡ true
+    by true e = refl
+    by false e = none_some y e
+
+-- the first slice of what is left has an instant
+some_value : (w : List (Slice PlaneLine)) → IsNormal (λ c. c.from) (λ c. c.to) plane_continued w → (t : Ratio) × (y : Point) × (value_at plane_value_of w t ≡ Some y)
+some_value [] h = absurd (h.some refl)
+some_value (s ∷ w) h = let i = some_instant s.span h.chained.0.some in (i.0, plane_value_of s.course s.span.lower s.span.upper i.0, rw i.1 refl)
+
+pub ever_some : (rings : List (List Point)) (v w : List (Slice PlaneLine)) → IsNormal (λ c. c.from) (λ c. c.to) plane_continued w → ((t : Ratio) → value_at plane_value_of w t ≡ where_wanted true (λ x. inside rings x) (value_at plane_value_of v t)) → IsEverInside rings v
+ever_some rings v w h k =
+    let i = some_value w h in
+    let m = wanted_meets (λ x. inside rings x) (value_at plane_value_of v i.0) i.1 (sym (k i.0) ∙ i.2) in
+    (i.0, m.0, m.1, m.2)
+
+pub ever_none : (rings : List (List Point)) (v : List (Slice PlaneLine)) → ((t : Ratio) → where_wanted true (λ x. inside rings x) (value_at plane_value_of v t) ≡ None) → IsEverInside rings v → ⊥
+ever_none rings v k e = some_none e.1 (sym (ap (λ o. where_wanted true (λ x. inside rings x) o) e.2 ∙ ap (λ b. kept_value true b e.1) e.3) ∙ k e.0)
+  where
+    some_none : (x : Point) → Some x ≡ None → ⊥
+    some_none x e = cc
+
+-- the condition by the edges is that of the polygon
+wanted_same : (m n : Point → Bool) (want : Bool) (o : Option Point) → ((x : Point) → m x ≡ n x) → where_wanted want m o ≡ where_wanted want n o
+wanted_same m n want None h = refl
+wanted_same m n want (Some x) h = ap (λ b. kept_value want b x) (h x)
+
+pub inside_same : (rings : List (List Point)) (es : List (Point × Point)) (want : Bool) (v : List (Slice PlaneLine)) (t : Ratio) → es ≡ all_edges rings → where_wanted want (is_inside_edges es) (value_at plane_value_of v t) ≡ where_wanted want (λ x. inside rings x) (value_at plane_value_of v t)
+inside_same rings es want v t e = wanted_same (is_inside_edges es) (λ x. inside rings x) want (value_at plane_value_of v t) (λ x. ap (λ z. is_inside_edges z x) e ∙ sym (inside_signs rings x))
+
+pub restricted_same : (rings : List (List Point)) (es : List (Point × Point)) (want : Bool) (v : List (Slice PlaneLine)) (r : Option (List (Slice PlaneLine))) → es ≡ all_edges rings → IsRestricted plane_value_of want (λ t x. is_inside_edges es x) v r → IsRestricted plane_value_of want (λ t x. inside rings x) v r
+restricted_same rings es want v None e h = λ t. sym (inside_same rings es want v t e) ∙ h t
+restricted_same rings es want v (Some w) e h = λ t. h t ∙ inside_same rings es want v t e

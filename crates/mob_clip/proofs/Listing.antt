@@ -1,0 +1,55 @@
+-- Lists that are made of others, part by part.
+use Rattle.std.specs.Prelude.{◌≡◌, List, [], ◌∷◌, ◌++◌, map, refl}
+use Rattle.std.specs.List.{flat_map}
+use Rattle.std.proofs.Common.{ap, sym, ◌∙◌, subst, append_assoc, append-nil}
+use Rattle.mob_ratio.specs.Ratio.{Ratio}
+use Rattle.mob_frac.specs.Formula.{AllFit}
+use Rattle.mob_slice.specs.declared.formula.Formula.{Formula}
+use Rattle.mob_slice.specs.declared.formula.OpFault.{OpFault}
+use Rattle.mob_slice.specs.declared.formula.OpFault.TheVariants.{Passed, NoMemory}
+use Rattle.mob_slice.proofs.Cuts.{all_both, all_first, all_second}
+use Rattle.mob_clip.specs.Sides.{IsPartFault}
+
+-- the parts of a list that fit where those of the rest do
+pub record IsChecking {A : Type 0} (parts : A → List Ratio) (all rest : List A) : Type 0 where
+  pub fit : AllFit (flat_map parts rest) → AllFit (flat_map parts all)
+  pub fail : AllFit (flat_map parts all) → AllFit (flat_map parts rest)
+
+module _ {A : Type 0} (parts : A → List Ratio) where
+  pub checking_start : (all : List A) → IsChecking parts all all
+  checking_start all = record { fit = λ h. h; fail = λ h. h }
+
+  pub checking_step : (all rest later : List A) (x : A) → rest ≡ x ∷ later → AllFit (parts x) → IsChecking parts all rest → IsChecking parts all later
+  checking_step all rest later x e h m = record {
+    fit = λ k. m.fit (subst (λ z. AllFit (flat_map parts z)) (sym e) (all_both (parts x) (flat_map parts later) h k));
+    fail = λ k. all_second (parts x) (flat_map parts later) (subst (λ z. AllFit (flat_map parts z)) e (m.fail k));
+  }
+
+  pub checking_fails : (all rest later : List A) (x : A) → rest ≡ x ∷ later → (¬ AllFit (parts x)) → IsChecking parts all rest → ¬ AllFit (flat_map parts all)
+  checking_fails all rest later x e n m h = n (all_first (parts x) (flat_map parts later) (subst (λ z. AllFit (flat_map parts z)) e (m.fail h)))
+
+  pub checking_end : (all rest : List A) → rest ≡ [] → IsChecking parts all rest → AllFit (flat_map parts all)
+  checking_end all rest e m = m.fit (rw e tt)
+
+-- the list so far, with what is made of the rest, is that of all; and all fit where the rest does
+pub record IsMapping {A B : Type 0} (f : A → B) (parts : A → List Ratio) (all rest : List A) (out : List B) : Type 0 where
+  pub made : out ++ map f rest ≡ map f all
+  pub checked : IsChecking parts all rest
+
+module _ {A B : Type 0} (f : A → B) (parts : A → List Ratio) where
+  pub mapping_start : (all : List A) → IsMapping f parts all all []
+  mapping_start all = record { made = refl; checked = checking_start parts all }
+
+  pub mapping_step : (all rest later : List A) (out out' : List B) (x : A) (y : B) → rest ≡ x ∷ later → out' ≡ out ++ y ∷ [] → y ≡ f x → AllFit (parts x) → IsMapping f parts all rest out → IsMapping f parts all later out'
+  mapping_step all rest later out out' x y e n i h m = record {
+    made = ap (λ z. z ++ map f later) (n ∙ ap (λ z. out ++ z ∷ []) i) ∙ append_assoc out (f x ∷ []) (map f later) ∙ ap (λ z. out ++ map f z) (sym e) ∙ m.made;
+    checked = checking_step parts all rest later x e h m.checked;
+  }
+
+  pub mapping_end : (all rest : List A) (out : List B) → rest ≡ [] → IsMapping f parts all rest out → (out ≡ map f all) × AllFit (flat_map parts all)
+  mapping_end all rest out e m = (sym (append-nil out) ∙ ap (λ z. out ++ map f z) (sym e) ∙ m.made, checking_end parts all rest e m.checked)
+
+-- why some parts failed says why all did
+pub fault_of_all : (formula : Formula) (p q : List Ratio) (f : OpFault) → IsPartFault formula p f → ((¬ AllFit p) → ¬ AllFit q) → IsPartFault formula q f
+fault_of_all formula p q (Passed f) h k = (h.0, k h.1)
+fault_of_all formula p q NoMemory h k = tt

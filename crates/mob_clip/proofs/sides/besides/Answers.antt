@@ -1,0 +1,21 @@
+use Rattle.std.proofs.Common.{rules, arith, ap, ◌≡◌, ◌++◌, ◌∷◌, [], ◌+◌, drop}
+use Rattle.mob_slice.proofs.Cuts.{all_second}
+use Rattle.mob_cells.proofs.Making.{list_read}
+use Rattle.mob_clip.specs.declared.sides.Beside.{Beside}
+use Rattle.mob_clip.specs.Sides.{beside, beside_parts, point_parts}
+use Rattle.mob_clip.proofs.Listing.{mapping_step}
+use Rattle.mob_clip.proofs.sides.besides.Goals as goal
+
+pub loop-edge-preserved : goal.loop-edge-preserved
+loop-edge-preserved c =
+    let at = c.loop-edge in
+    let xs = c.args.edges.now in
+    let p = c.args.p.now in
+    let q = c.args.q.now in
+    let x = c.edge-item.result in
+    let v = c.in-Ok.ensures.value in
+    let n : c.add.new.out.items ≡ at.out.items ++ c.in-Ok.next ∷ [] = search rules in
+    record {
+      listed = mapping_step (beside p q) (beside_parts p q) xs (drop at.edge-index xs) (drop (at.edge-index + 1) xs) at.out.items c.add.new.out.items x c.in-Ok.next (list_read xs at.edge-index x (omega arith) c.edge-item.is) n v.0 v.1 at.invariant.listed;
+      known = (ap (λ (b : Beside). b.to_b) v.0, all_second (point_parts p q x.0) (point_parts p q x.1) v.1);
+    }
