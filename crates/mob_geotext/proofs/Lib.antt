@@ -7,4 +7,4 @@ pub mod PolygonsExact
 pub mod PolygonsRead
 pub mod PolygonsAgain
 pub mod JoinedWritten
-mod Examples
+mod PolygonTexts
