@@ -10,5 +10,5 @@ pub mod PolygonsExact
 pub mod PolygonsRead
 pub mod PolygonsAgain
 pub mod JoinedWritten
-mod Examples
+mod PolygonTexts
 mod BoxExamples

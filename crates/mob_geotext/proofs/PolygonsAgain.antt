@@ -23,7 +23,7 @@ use Rattle.mob_geotext.proofs.SpansRead.{true_false}
 
 -- ---- lists in brackets, as they are printed
 
-comma_alone : comma (codes ",") tt
+pub comma_alone : comma (codes ",") tt
 comma_alone = record {
   meant = ([], (tt, []));
   said = record { front = []; back = codes ","; whole = refl; first = record { is = refl; each = tt }; second = record { front = codes ","; back = []; whole = refl; first = refl; second = record { is = refl; each = tt } } };

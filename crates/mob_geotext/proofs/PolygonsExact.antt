@@ -58,7 +58,7 @@ close_continues = then_head (many_head blank_stops) (word_head (codes ")") conti
 close_byte : HasByte (blanks ▷ Word (codes ")"))
 close_byte text v said e = word_byte 41 [] said.back v.1 said.second (back_nil said.front said.back (sym said.whole ∙ e))
 
-comma_continues : NoHead comma continues
+pub comma_continues : NoHead comma continues
 comma_continues = means_head (then_head (many_head blank_stops) (word_then_head 44 [] continues refl))
 
 -- members in brackets: what stands behind a list of them is no further member, where no comma stands there
