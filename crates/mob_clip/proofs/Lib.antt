@@ -1,10 +1,10 @@
+pub mod Examples
 pub mod InAreas
 pub mod InTime
 pub mod Listing
 pub mod Changing
 pub mod Walks
 pub mod Placing
-pub mod RingEdges
 pub mod Knowing
 pub mod Passing
 pub mod Judging

@@ -49,6 +49,10 @@ module _ {A B : Type 0} (f : A → B) (parts : A → List Ratio) where
   pub mapping_end : (all rest : List A) (out : List B) → rest ≡ [] → IsMapping f parts all rest out → (out ≡ map f all) × AllFit (flat_map parts all)
   mapping_end all rest out e m = (sym (append-nil out) ∙ ap (λ z. out ++ map f z) (sym e) ∙ m.made, checking_end parts all rest e m.checked)
 
+-- a list with nothing behind it
+pub all_made : {A : Type 0} (out rest all : List A) → rest ≡ [] → out ++ rest ≡ all → out ≡ all
+all_made out rest all e h = sym (append-nil out) ∙ ap (λ z. out ++ z) (sym e) ∙ h
+
 -- why some parts failed says why all did
 pub fault_of_all : (formula : Formula) (p q : List Ratio) (f : OpFault) → IsPartFault formula p f → ((¬ AllFit p) → ¬ AllFit q) → IsPartFault formula q f
 fault_of_all formula p q (Passed f) h k = (h.0, k h.1)
