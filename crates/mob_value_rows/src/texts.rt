@@ -208,7 +208,7 @@ static ROWS: [Row; 146] = [
     (
         Reading::Value(SqlType::Polygon),
         "POLYGON((0 0,1 0,0 1,0 0))",
-        "NotText",
+        "POLYGON((0 0,1 0,0 1,0 0))",
     ),
     (
         Reading::Value(SqlType::TBool),
