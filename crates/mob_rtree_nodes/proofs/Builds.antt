@@ -6,13 +6,13 @@ use Rattle.std.proofs.lemmas.Bool.Decides.{nat_tests}
 use Rattle.std.proofs.lemmas.List.Sums.{sum_by-cons, sum_by-append}
 use Rattle.std.proofs.lemmas.List.Elements.{All-head, All-tail, All-append, All-cons, All-nil, All-weaker}
 use Rattle.mob_stbox.specs.Boxes.{BoxOf, contains, is_whole}
-use Rattle.mob_rtree_nodes.specs.Tree.{Kid, EntryOf, entry_of, target, Ref, IsTree, IsSoundNode, is_fit, nodes_sum, kids_sum, refs_sum, entries_sum, entries_list, AreSame}
+use Rattle.mob_rtree_nodes.specs.Tree.{Kid, EntryOf, entry_of, target, Ref, IsTree, IsSoundNode, AreLive, is_fit, nodes_sum, kids_sum, refs_sum, entries_sum, entries_list, AreSame}
 use Rattle.mob_rtree_nodes.specs.Builds.{kid_of, leaf_sum, IsForest, IsPacking, IsClosed}
 use Rattle.mob_rtree_nodes.specs.declared.node.Child.TheVariants.{Node, Entry}
 use Rattle.mob_rtree_nodes.specs.declared.node.TreeNode.{TreeNode}
 use Rattle.mob_rtree_nodes.proofs.Sums.{live_is}
 use Rattle.mob_rtree_nodes.proofs.Walks.{kids_nil}
-use Rattle.mob_rtree_nodes.proofs.Inserts.{ref_of, links_of, leaf_of, nodes_append, node_fit}
+use Rattle.mob_rtree_nodes.proofs.Inserts.{ref_of, links_of, leaf_of, leaf_nil, nodes_append, node_fit}
 use Rattle.mob_rtree_nodes.proofs.Roots.{one_fit, entries_listed}
 
 kids_push : (f : Ref → ℕ) (h : ℕ) (xs ys : List Kid) → kids_sum f h (xs ++ ys) ≡ kids_sum f h xs + kids_sum f h ys
@@ -29,13 +29,6 @@ leaf_push g h xs ys = by_test (h == 0)
     by_test true = sum_by-append w xs ys
     by_test false = refl
 
-pub leaf_nil : (g : EntryOf → ℕ) (h : ℕ) → leaf_sum g [] h ≡ 0
-leaf_nil g h = by_test (h == 0)
-  where
-    by_test : (b : Bool) → ◌≡◌ {A = ℕ} (cond b 0 0) 0
-    by_test true = refl
-    by_test false = refl
-
 count_push : (test : Kid → Bool) (xs : List Kid) (k : Kid) → count_by (λ k. not (test k)) xs ≡ 0 → test k ≡ true → count_by (λ k. not (test k)) (xs ++ k ∷ []) ≡ 0
 count_push test xs k none passes =
     let w : Kid → ℕ = λ k. cond (not (test k)) 1 0 in
@@ -48,6 +41,7 @@ packing_start h kids ps by =
       entries = λ g. refl;
       sound = by.sound;
       low = All-weaker (λ p. p.height < h) (λ p. p.height ≤ h) (λ p l. omega (arith, l)) ps by.low;
+      live = by.live;
       fit = refl;
       waits = refl;
     }
@@ -59,6 +53,7 @@ packing_push h old came ps above waiting kid by fit =
       entries = λ g. omega (arith, by.entries g, leaf_push g h came (kid ∷ []), leaf_push g h waiting (kid ∷ []));
       sound = by.sound;
       low = by.low;
+      live = by.live;
       fit = by.fit;
       waits = count_push (is_fit h) waiting kid by.waits fit;
     }
@@ -102,6 +97,7 @@ packing_close h old came ps above waiting new beyond some by closed =
       );
       sound = subst (All IsSoundNode) (sym closed.nodes) (All-append IsSoundNode ps (part ∷ []) by.sound (All-cons IsSoundNode part [] closed.sound (All-nil IsSoundNode)));
       low = subst (All (λ p. p.height ≤ h)) (sym closed.nodes) (All-append (λ p. p.height ≤ h) ps (part ∷ []) by.low (All-cons (λ p. p.height ≤ h) part [] (omega (arith, closed.height)) (All-nil (λ p. p.height ≤ h))));
+      live = subst AreLive (sym closed.nodes) (All-append (λ p. 0 < length p.kids.items) ps (part ∷ []) by.live (All-cons (λ p. 0 < length p.kids.items) part [] live (All-nil (λ p. 0 < length p.kids.items))));
       fit = ap (count_by (λ k. not (is_fit (suc h) k))) closed.listed ∙ count_push (is_fit (suc h)) above k by.fit (let up : suc h ≡ h + 1 = omega arith in ap (λ h. is_fit h k) up ∙ node_fit h (length ps) part.area closed.sound.whole);
       waits = refl;
     }
@@ -114,6 +110,7 @@ forest_up h kids old ps above from by =
       once = λ f. omega (arith, from.once f, by.once f, kids_nil f h);
       sound = by.sound;
       low = All-weaker (λ p. p.height ≤ h) (λ p. p.height < suc h) (λ p l. omega (arith, l)) ps by.low;
+      live = by.live;
       fit = by.fit;
     })
 
@@ -128,7 +125,7 @@ forest_root h k kids ps one by =
 
 -- entries are a forest of no node
 pub forest_start : (kids : List Kid) → count_by (λ k. not (is_fit 0 k)) kids ≡ 0 → IsForest 0 kids []
-forest_start kids fit = record { once = λ f. refl; sound = All-nil IsSoundNode; low = All-nil (λ p. p.height < 0); fit = fit }
+forest_start kids fit = record { once = λ f. refl; sound = All-nil IsSoundNode; low = All-nil (λ p. p.height < 0); live = All-nil (λ p. 0 < length p.kids.items); fit = fit }
 
 pub leaf_above : (g : EntryOf → ℕ) (kids : List Kid) (h : ℕ) → leaf_sum g kids (h + 1) ≡ 0
 leaf_above g kids h = ap (λ b. cond b (sum_by (λ k. g (entry_of k)) kids) 0) (ne_eqb (h + 1) 0 (λ z. absurd (omega (arith, z))))

@@ -6,13 +6,14 @@ use Rattle.std.proofs.lemmas.Bool.{ne_eqb}
 use Rattle.std.proofs.lemmas.List.{length-set, get_or-set_same, get_or-set_other, get_or_append_left, get_or_default}
 use Rattle.std.proofs.lemmas.List.Sums.{sum_by-cons, sum_by-append, sum_by-set}
 use Rattle.std.proofs.lemmas.List.Elements.{All-set, All-append, All-cons, All-nil, All-get_or}
-use Rattle.mob_rtree_nodes.specs.Tree.{Kid, EntryOf, entry_of, target, if_live, is_fit, Ref, IsTree, IsSoundNode, nodes_sum, kids_sum, refs_sum, entries_sum, kids_at, height_at, kids_of_more, some_list, IsAttached, IsReplaced, IsGrown, more_sum}
+use Rattle.mob_rtree_nodes.specs.Tree.{Kid, EntryOf, entry_of, target, if_live, is_fit, Ref, IsTree, IsSoundNode, nodes_sum, kids_sum, refs_sum, entries_sum, kids_at, height_at, kids_of_more, IsPut, IsAttached, IsReplaced, IsGrown, more_sum, IsFree, IsReused}
 use Rattle.mob_rtree_nodes.specs.Builds.{leaf_sum}
 use Rattle.mob_rtree_nodes.specs.declared.node.TreeNode.{TreeNode}
 use Rattle.mob_rtree_nodes.specs.declared.insert.Grown.{Grown}
 use Rattle.mob_rtree_nodes.specs.declared.node.Child.TheVariants.{Node}
 use Rattle.mob_stbox.specs.Boxes.{BoxOf, is_whole}
 use Rattle.mob_rtree_nodes.proofs.Sums.{live_is, kids_of, height_of, node_at}
+use Rattle.mob_rtree_nodes.proofs.Frees.{free_set, reused_set}
 use Rattle.mob_rtree_nodes.proofs.Walks.{alive, kids_nil, tied_same, tied_height}
 use Rattle.mob_rtree_nodes.proofs.Visits.{at_self}
 
@@ -47,7 +48,7 @@ pub record Attached (old : List TreeNode) (n : ℕ) (p : TreeNode) (kid : Kid) (
   pub entries : (g : EntryOf → ℕ) → entries_sum g new ≡ entries_sum g old + cond (p.height == 0) (g (entry_of kid)) 0
   pub sound : All IsSoundNode old → All IsSoundNode new
   pub low : (m : ℕ) → All (λ p. p.height ≤ m) old → All (λ p. p.height ≤ m) new
-  pub others : (i : ℕ) (q : TreeNode) → i < length old → (i ≡ n → ⊥) → q ≡ get_or old i q → q ≡ get_or new i q
+  pub others : (i : ℕ) (q : TreeNode) → i < length old → 0 < length q.kids.items → (i ≡ n → ⊥) → q ≡ get_or old i q → q ≡ get_or new i q
   pub longer : length old ≤ length new
   pub few : length new ≤ length old + 1
 
@@ -75,49 +76,93 @@ leaf_parted h g xs ys zs k says = by_test (h == 0)
 abbrev pub links_of : (Ref → ℕ) → TreeNode → ℕ
 links_of F p = kids_sum F p.height p.kids.items
 
-cond_nil : (b : Bool) → ◌≡◌ {A = ℕ} (cond b 0 0) 0
-cond_nil true = refl
-cond_nil false = refl
+pub leaf_nil : (g : EntryOf → ℕ) (h : ℕ) → leaf_sum g [] h ≡ 0
+leaf_nil g h = by_test (h == 0)
+  where
+    by_test : (b : Bool) → ◌≡◌ {A = ℕ} (cond b 0 0) 0
+    by_test true = refl
+    by_test false = refl
 
 pub low_one : (m n : ℕ) (old : List TreeNode) (p part : TreeNode) → n < length old → p ≡ get_or old n p → part.height ≡ p.height → All (λ p. p.height ≤ m) old → part.height ≤ m
 low_one m n old p part inside is same all = let a = All-get_or (λ p. p.height ≤ m) old n p inside all in let b = ap (λ (p : TreeNode). p.height) is in omega (arith, a, b, same)
 
 attached_one : (old : List TreeNode) (n : ℕ) (p part : TreeNode) (kid : Kid) (grown : Grown) (new : List TreeNode) → n < length old → p ≡ get_or old n p → 0 < length p.kids.items → 0 < length part.kids.items
-    → new ≡ set old n part ++ [] → part.height ≡ p.height → part.area ≡ grown.area → IsSoundNode part → ((f : Kid → ℕ) → sum_by f part.kids.items + sum_by f [] ≡ sum_by f p.kids.items + f kid) → grown.more ≡ None
+    → new ≡ set old n part → part.height ≡ p.height → part.area ≡ grown.area → IsSoundNode part → ((f : Kid → ℕ) → sum_by f part.kids.items + sum_by f [] ≡ sum_by f p.kids.items + f kid) → grown.more ≡ None
     → Attached old n p kid grown new
 attached_one old n p part kid grown new inside is p-live part-live made same area sound kids none =
-    subst (λ new. Attached old n p kid grown new) (sym (made ∙ append-nil (set old n part)))
+    subst (λ new. Attached old n p kid grown new) (sym made)
     (record {
       nodes = λ F. omega (arith, nodes_set F n 0 n old p part (omega arith) inside is, live_is p.kids.items (F (ref_of p n)) p-live, live_is part.kids.items (F (ref_of part n)) part-live, ap (λ a. F (record { area = a; node = n; height = p.height })) area, ap (λ h. F (record { area = part.area; node = n; height = h })) same, ap (more_sum F p.height) none);
       refs = λ F. omega (arith, sum_by-set (links_of F) old n part p inside, ap (links_of F) is, kids_parted F p.height part.kids.items [] p.kids.items kid kids, kids_nil F p.height, ap (λ h. kids_sum F h part.kids.items) same);
-      entries = λ g. omega (arith, sum_by-set (leaf_of g) old n part p inside, ap (leaf_of g) is, leaf_parted p.height g part.kids.items [] p.kids.items kid kids, cond_nil (p.height == 0), ap (leaf_sum g part.kids.items) same);
+      entries = λ g. omega (arith, sum_by-set (leaf_of g) old n part p inside, ap (leaf_of g) is, leaf_parted p.height g part.kids.items [] p.kids.items kid kids, leaf_nil g p.height, ap (leaf_sum g part.kids.items) same);
       sound = λ all. All-set IsSoundNode old n part sound all;
       low = λ m all. All-set (λ p. p.height ≤ m) old n part (low_one m n old p part inside is same all) all;
-      others = λ i q h no' e. e ∙ sym (get_or-set_other old n i part q no');
+      others = λ i q h q-live no' e. e ∙ sym (get_or-set_other old n i part q no');
       longer = omega (arith, length-set old n part);
       few = omega (arith, length-set old n part);
     })
 
-attached_two : (old : List TreeNode) (n : ℕ) (p part r : TreeNode) (kid : Kid) (grown : Grown) (new : List TreeNode) → n < length old → p ≡ get_or old n p → 0 < length p.kids.items → 0 < length part.kids.items → 0 < length r.kids.items
-    → new ≡ set old n part ++ r ∷ [] → part.height ≡ p.height → part.area ≡ grown.area → IsSoundNode part → ((f : Kid → ℕ) → sum_by f part.kids.items + sum_by f r.kids.items ≡ sum_by f p.kids.items + f kid)
-    → r.height ≡ p.height → IsSoundNode r → grown.more ≡ Some (r.area, Node (length old))
+-- what a node that is put in changes
+pub record PutIn (old : List TreeNode) (r : TreeNode) (m : ℕ) (new : List TreeNode) : Type 0 where
+  pub nodes : (F : Ref → ℕ) → nodes_sum F 0 new ≡ nodes_sum F 0 old + F (ref_of r m)
+  pub refs : (F : Ref → ℕ) → refs_sum F new ≡ refs_sum F old + links_of F r
+  pub entries : (g : EntryOf → ℕ) → entries_sum g new ≡ entries_sum g old + leaf_of g r
+  pub all : (P : TreeNode → Type 0) → All P old → P r → All P new
+  pub others : (i : ℕ) (q : TreeNode) → i < length old → 0 < length q.kids.items → q ≡ get_or old i q → q ≡ get_or new i q
+  pub longer : length old ≤ length new
+  pub few : length new ≤ length old + 1
+
+put_over : (old : List TreeNode) (r : TreeNode) (m : ℕ) → 0 < length r.kids.items → m < length old → kids_at old m ≡ [] → PutIn old r m (set old m r)
+put_over old r m live inside none =
+    let p = node_at old m inside in
+    let kids : p.0.kids.items ≡ [] = sym (kids_of old m p.0 inside p.1) ∙ none in
+    record {
+      nodes = λ F. omega (arith, nodes_set F m 0 m old p.0 r (omega arith) inside p.1, live_is r.kids.items (F (ref_of r m)) live, ap (λ l. if_live l (F (ref_of p.0 m))) kids);
+      refs = λ F. omega (arith, sum_by-set (links_of F) old m r p.0 inside, ap (links_of F) p.1, ap (kids_sum F p.0.height) kids, kids_nil F p.0.height);
+      entries = λ g. omega (arith, sum_by-set (leaf_of g) old m r p.0 inside, ap (leaf_of g) p.1, ap (λ l. leaf_sum g l p.0.height) kids, leaf_nil g p.0.height);
+      all = λ P all one. All-set P old m r one all;
+      others = λ i q h q-live is. is ∙ sym (get_or-set_other old m i r q (λ i-m. absurd (omega (arith, q-live, ap (λ (l : List Kid). length l) (sym (kids_of old i q h is) ∙ ap (kids_at old) i-m ∙ none)))));
+      longer = omega (arith, length-set old m r);
+      few = omega (arith, length-set old m r);
+    }
+
+put_behind : (old : List TreeNode) (r : TreeNode) → 0 < length r.kids.items → PutIn old r (length old) (old ++ r ∷ [])
+put_behind old r live = record {
+  nodes = λ F.
+      let t : 0 + length old ≡ length old = omega arith in
+      let m = ap (λ i. nodes_sum F i (r ∷ [])) t in
+      omega (arith, nodes_append F 0 old (r ∷ []), m, live_is r.kids.items (F (ref_of r (length old))) live);
+  refs = λ F. omega (arith, sum_by-append (links_of F) old (r ∷ []), sum_by-cons (links_of F) r []);
+  entries = λ g. omega (arith, sum_by-append (leaf_of g) old (r ∷ []), sum_by-cons (leaf_of g) r []);
+  all = λ P all one. All-append P old (r ∷ []) all (All-cons P r [] one (All-nil P));
+  others = λ i q h q-live is. is ∙ sym (get_or_append_left old (r ∷ []) q i h);
+  longer = omega (arith, length-append old (r ∷ []));
+  few = omega (arith, length-append old (r ∷ []));
+}
+
+pub put_in : (old : List TreeNode) (r : TreeNode) (m : ℕ) (new : List TreeNode) → 0 < length r.kids.items → IsPut old r m new → PutIn old r m new
+put_in old r m new live by = elim by [
+  | inl o ↦ subst (PutIn old r m) (sym o.2) (put_over old r m live o.0 o.1)
+  | inr b ↦ subst (λ m. PutIn old r m new) (sym b.0) (subst (PutIn old r (length old)) (sym b.1) (put_behind old r live))
+]
+
+attached_two : (old : List TreeNode) (n : ℕ) (p part r : TreeNode) (number : ℕ) (kid : Kid) (grown : Grown) (new : List TreeNode) → n < length old → p ≡ get_or old n p → 0 < length p.kids.items → 0 < length part.kids.items → 0 < length r.kids.items
+    → IsPut (set old n part) r number new → part.height ≡ p.height → part.area ≡ grown.area → IsSoundNode part → ((f : Kid → ℕ) → sum_by f part.kids.items + sum_by f r.kids.items ≡ sum_by f p.kids.items + f kid)
+    → r.height ≡ p.height → IsSoundNode r → grown.more ≡ Some (r.area, Node number)
     → Attached old n p kid grown new
-attached_two old n p part r kid grown new inside is p-live part-live r-live made same area sound kids r-same r-sound some =
+attached_two old n p part r number kid grown new inside is p-live part-live r-live made same area sound kids r-same r-sound some =
     let len = length-set old n part in
-    subst (λ new. Attached old n p kid grown new) (sym made)
-    (record {
-      nodes = λ F.
-          let t : 0 + length (set old n part) ≡ length old = omega (arith, len) in
-          let m = ap (λ i. nodes_sum F i (r ∷ [])) t in
-          omega (arith, nodes_set F n 0 n old p part (omega arith) inside is, live_is p.kids.items (F (ref_of p n)) p-live, live_is part.kids.items (F (ref_of part n)) part-live, live_is r.kids.items (F (ref_of r (length old))) r-live, nodes_append F 0 (set old n part) (r ∷ []), m, ap (λ a. F (record { area = a; node = n; height = p.height })) area, ap (λ h. F (record { area = part.area; node = n; height = h })) same, ap (more_sum F p.height) some, ap (λ h. F (record { area = r.area; node = length old; height = h })) r-same);
-      refs = λ F. omega (arith, sum_by-append (links_of F) (set old n part) (r ∷ []), sum_by-cons (links_of F) r [], sum_by-set (links_of F) old n part p inside, ap (links_of F) is, kids_parted F p.height part.kids.items r.kids.items p.kids.items kid kids, ap (λ h. kids_sum F h part.kids.items) same, ap (λ h. kids_sum F h r.kids.items) r-same);
-      entries = λ g. omega (arith, sum_by-append (leaf_of g) (set old n part) (r ∷ []), sum_by-cons (leaf_of g) r [], sum_by-set (leaf_of g) old n part p inside, ap (leaf_of g) is, leaf_parted p.height g part.kids.items r.kids.items p.kids.items kid kids, ap (leaf_sum g part.kids.items) same, ap (leaf_sum g r.kids.items) r-same);
-      sound = λ all. All-append IsSoundNode (set old n part) (r ∷ []) (All-set IsSoundNode old n part sound all) (All-cons IsSoundNode r [] r-sound (All-nil IsSoundNode));
-      low = λ m all. All-append (λ p. p.height ≤ m) (set old n part) (r ∷ []) (All-set (λ p. p.height ≤ m) old n part (low_one m n old p part inside is same all) all) (All-cons (λ p. p.height ≤ m) r [] (low_one m n old p r inside is r-same all) (All-nil (λ p. p.height ≤ m)));
-      others = λ i q h no' e. e ∙ sym (get_or-set_other old n i part q no') ∙ sym (get_or_append_left (set old n part) (r ∷ []) q i (omega (arith, len, h)));
-      longer = omega (arith, len, length-append (set old n part) (r ∷ []));
-      few = omega (arith, len, length-append (set old n part) (r ∷ []));
-    })
+    let last = put_in (set old n part) r number new r-live made in
+    record {
+      nodes = λ F. omega (arith, last.nodes F, nodes_set F n 0 n old p part (omega arith) inside is, live_is p.kids.items (F (ref_of p n)) p-live, live_is part.kids.items (F (ref_of part n)) part-live, ap (λ a. F (record { area = a; node = n; height = p.height })) area, ap (λ h. F (record { area = part.area; node = n; height = h })) same, ap (more_sum F p.height) some, ap (λ h. F (record { area = r.area; node = number; height = h })) r-same);
+      refs = λ F. omega (arith, last.refs F, sum_by-set (links_of F) old n part p inside, ap (links_of F) is, kids_parted F p.height part.kids.items r.kids.items p.kids.items kid kids, ap (λ h. kids_sum F h part.kids.items) same, ap (λ h. kids_sum F h r.kids.items) r-same);
+      entries = λ g. omega (arith, last.entries g, sum_by-set (leaf_of g) old n part p inside, ap (leaf_of g) is, leaf_parted p.height g part.kids.items r.kids.items p.kids.items kid kids, ap (leaf_sum g part.kids.items) same, ap (leaf_sum g r.kids.items) r-same);
+      sound = λ all. last.all IsSoundNode (All-set IsSoundNode old n part sound all) r-sound;
+      low = λ m all. last.all (λ p. p.height ≤ m) (All-set (λ p. p.height ≤ m) old n part (low_one m n old p part inside is same all) all) (low_one m n old p r inside is r-same all);
+      others = λ i q h q-live no' e. last.others i q (omega (arith, len, h)) q-live (e ∙ sym (get_or-set_other old n i part q no'));
+      longer = omega (arith, len, last.longer);
+      few = omega (arith, len, last.few);
+    }
 
 pub attached : (old : List TreeNode) (n : ℕ) (p : TreeNode) (kid : Kid) (grown : Grown) (new : List TreeNode) → n < length old → p ≡ get_or old n p → 0 < length p.kids.items → IsAttached old n kid grown new → Attached old n p kid grown new
 attached old n p kid grown new inside is p-live by = by_more by.more by.nodes by.kids by.other
@@ -128,10 +173,10 @@ attached old n p kid grown new inside is p-live by = by_more by.more by.nodes by
     with_kids : (ys : List Kid) → ((f : Kid → ℕ) → sum_by f by.part.kids.items + sum_by f ys ≡ sum_by f (kids_at old n) + f kid) → (f : Kid → ℕ) → sum_by f by.part.kids.items + sum_by f ys ≡ sum_by f p.kids.items + f kid
     with_kids ys h f = omega (arith, h f, ap (sum_by f) (kids_of old n p inside is))
 
-    by_more : (more : Option TreeNode) → new ≡ set old n by.part ++ some_list more → ((f : Kid → ℕ) → sum_by f by.part.kids.items + sum_by f (kids_of_more more) ≡ sum_by f (kids_at old n) + f kid)
-        → MatchOption more (grown.more ≡ None) (λ p. (p.height ≡ height_at old n) × IsSoundNode p × (0 < length p.kids.items) × (grown.more ≡ Some (p.area, Node (length old)))) → Attached old n p kid grown new
+    by_more : (more : Option TreeNode) → MatchOption more (new ≡ set old n by.part) (λ r. IsPut (set old n by.part) r by.number new) → ((f : Kid → ℕ) → sum_by f by.part.kids.items + sum_by f (kids_of_more more) ≡ sum_by f (kids_at old n) + f kid)
+        → MatchOption more (grown.more ≡ None) (λ p. (p.height ≡ height_at old n) × IsSoundNode p × (0 < length p.kids.items) × (grown.more ≡ Some (p.area, Node by.number))) → Attached old n p kid grown new
     by_more None made kids none = attached_one old n p by.part kid grown new inside is p-live by.live made height by.area by.sound (with_kids [] kids) none
-    by_more (Some r) made kids some = attached_two old n p by.part r kid grown new inside is p-live by.live some.2 made height by.area by.sound (with_kids r.kids.items kids) (some.0 ∙ height_of old n p inside is) some.1 some.3
+    by_more (Some r) made kids some = attached_two old n p by.part r by.number kid grown new inside is p-live by.live some.2 made height by.area by.sound (with_kids r.kids.items kids) (some.0 ∙ height_of old n p inside is) some.1 some.3
 
 pub same_read : (ps : List TreeNode) (n : ℕ) (p q : TreeNode) → n < length ps → p ≡ get_or ps n p → q ≡ get_or ps n q → p ≡ q
 same_read ps n p q h a b = a ∙ get_or_default ps n p q h ∙ sym b
@@ -148,9 +193,9 @@ node_fit h n b w = let up : h + 1 ≡ suc h = omega arith in ap (λ m. is_fit m 
 attached_fit : (old : List TreeNode) (n : ℕ) (kid : Kid) (grown : Grown) (new : List TreeNode) → IsAttached old n kid grown new → MatchOption grown.more (0 ≤ 0) (λ k. is_fit (height_at old n + 1) k ≡ true)
 attached_fit old n kid grown new by = by_more by.more by.other
   where
-    by_more : (more : Option TreeNode) → MatchOption more (grown.more ≡ None) (λ p. (p.height ≡ height_at old n) × IsSoundNode p × (0 < length p.kids.items) × (grown.more ≡ Some (p.area, Node (length old)))) → MatchOption grown.more (0 ≤ 0) (λ k. is_fit (height_at old n + 1) k ≡ true)
+    by_more : (more : Option TreeNode) → MatchOption more (grown.more ≡ None) (λ p. (p.height ≡ height_at old n) × IsSoundNode p × (0 < length p.kids.items) × (grown.more ≡ Some (p.area, Node by.number))) → MatchOption grown.more (0 ≤ 0) (λ k. is_fit (height_at old n + 1) k ≡ true)
     by_more None none = subst (λ m. MatchOption m (0 ≤ 0) (λ k. is_fit (height_at old n + 1) k ≡ true)) (sym none) (omega arith)
-    by_more (Some r) some = subst (λ m. MatchOption m (0 ≤ 0) (λ k. is_fit (height_at old n + 1) k ≡ true)) (sym some.3) (node_fit (height_at old n) (length old) r.area some.1.whole)
+    by_more (Some r) some = subst (λ m. MatchOption m (0 ≤ 0) (λ k. is_fit (height_at old n + 1) k ≡ true)) (sym some.3) (node_fit (height_at old n) by.number r.area some.1.whole)
 
 -- an entry that is put into a leaf
 pub grown_leaf : (old : List TreeNode) (n : ℕ) (p : TreeNode) (kid : Kid) (grown : Grown) (new : List TreeNode) → n < length old → p ≡ get_or old n p → p.height ≡ 0 → 0 < length p.kids.items → All IsSoundNode old → IsAttached old n kid grown new → IsGrown old n kid grown new
@@ -162,7 +207,7 @@ grown_leaf old n p kid grown new inside is leaf live sound by =
       entries = λ g. omega (arith, a.entries g, ap (leaf_one g kid) leaf);
       sound = a.sound sound;
       low = a.low;
-      above = λ i q h above e. a.others i q h (λ i-is. absurd (omega (arith, above, height_of old n p inside is, leaf, height_of old i q h e, ap (height_at old) i-is))) e;
+      above = λ i q h q-live above e. a.others i q h q-live (λ i-is. absurd (omega (arith, above, height_of old n p inside is, leaf, height_of old i q h e, ap (height_at old) i-is))) e;
       longer = a.longer;
       few = omega (arith, a.few);
       whole = ap is_whole (sym by.area) ∙ by.sound.whole;
@@ -220,7 +265,7 @@ module _ (root : Ref) (old : List TreeNode) (tree : IsTree root old) (n h i : �
   inside1 = omega (arith, below.longer, inside)
 
   kept : p ≡ get_or ps1 n p
-  kept = below.above n p inside (omega (arith, there.1, up)) is
+  kept = below.above n p inside (omega (arith, within)) (omega (arith, there.1, up)) is
 
   same : p1 ≡ p
   same = same_read ps1 n p1 p inside1 read kept
@@ -247,7 +292,7 @@ module _ (root : Ref) (old : List TreeNode) (tree : IsTree root old) (n h i : �
         entries = λ f. wide.entries f ∙ below.entries f;
         sound = wide.sound below.sound;
         low = λ m all. wide.low m (below.low m all);
-        above = λ j q h' above e. wide.others j q (omega (arith, h', below.longer)) (not_here q.height (omega (arith, above, height_of old n p inside is, up)) q j h' e refl) (below.above j q h' (omega (arith, above, height_of old n p inside is, up, there.1)) e);
+        above = λ j q h' q-live above e. wide.others j q (omega (arith, h', below.longer)) (not_here q.height (omega (arith, above, height_of old n p inside is, up)) q j h' e refl) (below.above j q h' q-live (omega (arith, above, height_of old n p inside is, up, there.1)) e);
         longer = omega (arith, below.longer, wide.size);
         few = omega (arith, below.few, wide.size, there.1, height_of old n p inside is, up);
         whole = by.sound.whole;
@@ -279,9 +324,9 @@ module _ (root : Ref) (old : List TreeNode) (tree : IsTree root old) (n h i : �
         entries = λ f. omega (arith, last.entries f, inner_one f m h part.height up2, wide.entries f, below.entries f);
         sound = last.sound (wide.sound below.sound);
         low = λ m all. last.low m (wide.low m (below.low m all));
-        above = λ j q h' above e.
+        above = λ j q h' q-live above e.
             let no' = not_here q.height (omega (arith, above, height_of old n p inside is, up)) q j h' e refl in
-            last.others j q (omega (arith, h', below.longer, wide.size)) no' (wide.others j q (omega (arith, h', below.longer)) no' (below.above j q h' (omega (arith, above, height_of old n p inside is, up, there.1)) e));
+            last.others j q (omega (arith, h', below.longer, wide.size)) q-live no' (wide.others j q (omega (arith, h', below.longer)) no' (below.above j q h' q-live (omega (arith, above, height_of old n p inside is, up, there.1)) e));
         longer = omega (arith, below.longer, wide.size, last.longer);
         few = omega (arith, below.few, wide.size, last.few, there.1, height_of old n p inside is, up);
         whole = ap is_whole (sym put.area) ∙ put.sound.whole;
@@ -292,7 +337,7 @@ pub same_node : (root : Ref) (old : List TreeNode) (tree : IsTree root old) (n h
     (kid : Kid) (g1 : Grown) (ps1 : List TreeNode) (below : IsGrown old (target k.1) kid g1 ps1) (p1 : TreeNode) (read : p1 ≡ get_or ps1 n p1) → p1 ≡ p
 same_node root old tree n h i p k inside is up within at kid g1 ps1 below p1 read =
     let t = tied_height root old tree n h i p k inside is up within at in
-    same_read ps1 n p1 p (omega (arith, below.longer, inside)) read (below.above n p inside (omega (arith, t.1, up)) is)
+    same_read ps1 n p1 p (omega (arith, below.longer, inside)) read (below.above n p inside (omega (arith, within)) (omega (arith, t.1, up)) is)
 
 pub inner : (m : ℕ) → (m ≡ 0 → ⊥) → (h : ℕ) × (m ≡ suc h)
 inner zero z = absurd (z refl)
@@ -327,4 +372,19 @@ lower root ps tree n i p kids k number inside is same within at say up =
       high = ap (height_at ps) say ∙ t.1;
       here = height_of ps n p inside is;
       alive = subst (λ n. 0 < length (kids_at ps n)) (sym say) (alive root ps tree n h.0 i p k inside is h.1 l a);
+    }
+
+-- a node whose child's box was written anew has a child still
+pub record StillLive (free : List ℕ) (ps : List TreeNode) (n : ℕ) (part : TreeNode) : Type 0 where
+  pub live : 0 < length (kids_at (set ps n part) n)
+  pub free : IsFree free (set ps n part)
+  pub reused : IsReused ps (set ps n part)
+
+pub still_live : (free : List ℕ) (ps : List TreeNode) (n i : ℕ) (p part : TreeNode) (k : Kid) (area : BoxOf) → n < length ps → p ≡ get_or ps n p → i < length p.kids.items → IsReplaced p i area part → IsFree free ps → StillLive free ps n part
+still_live free ps n i p part k area inside is within by frees =
+    let live : 0 < length part.kids.items = omega (arith, within, ap (λ (l : List Kid). length l) (by.kids k), length-set p.kids.items i (area, (get_or p.kids.items i k).1)) in
+    record {
+      live = omega (arith, live, ap (λ (l : List Kid). length l) (kids_of (set ps n part) n part (omega (arith, inside, length-set ps n part)) (sym (get_or-set_same ps n part part inside))));
+      free = free_set free ps n p part inside is (omega (arith, within)) live frees;
+      reused = reused_set ps n part live;
     }

@@ -7,7 +7,7 @@ use Rattle.std.proofs.lemmas.List.Sums.{sum_by-cons, sum_by-append}
 use Rattle.std.proofs.lemmas.List.Concat.{flat_map-cons}
 use Rattle.std.proofs.lemmas.List.Elements.{All-head, All-tail, All-append, All-cons, All-nil, All-weaker}
 use Rattle.mob_stbox.specs.Boxes.{BoxOf, overlaps, contains, cover, is_whole}
-use Rattle.mob_rtree_nodes.specs.Tree.{areas_list, if_live_list, is_kind, GoesUp, Kid, EntryOf, entry_of, target, if_live, is_fit, Ref, IsTree, IsSoundNode, IsLeast, nodes_sum, kids_sum, refs_sum, entries_sum, entries_list, kids_at, height_at, IsGrown, more_sum, walk_sum, AreFound, ref, IsAdded}
+use Rattle.mob_rtree_nodes.specs.Tree.{areas_list, if_live_list, is_kind, GoesUp, Kid, EntryOf, entry_of, target, if_live, is_fit, Ref, IsTree, IsSoundNode, IsLeast, nodes_sum, kids_sum, refs_sum, entries_sum, entries_list, kids_at, height_at, IsGrown, more_sum, IsPut, walk_sum, AreFound, ref, IsAdded}
 use Rattle.mob_rtree_nodes.specs.declared.node.TreeNode.{TreeNode}
 use Rattle.mob_rtree_nodes.specs.declared.node.Child.TheVariants.{Node}
 use Rattle.mob_rtree_nodes.specs.declared.insert.Grown.{Grown}
@@ -15,7 +15,7 @@ use Rattle.mob_stbox.proofs.BoxLaws.{cover_whole, cover_over_left, cover_over_ri
 use Rattle.mob_rtree_nodes.proofs.Sums.{live_le, live_some, live_is, live_zero, kids_of, height_of, node_at, nodes_none, nodes_one, same_sums, zero_sum}
 use Rattle.mob_rtree_nodes.proofs.Covers.{left_true}
 use Rattle.mob_rtree_nodes.proofs.Walks.{self_is, walk_all, own_upto, entries_of}
-use Rattle.mob_rtree_nodes.proofs.Inserts.{node_fit, ref_of, nodes_append, links_of, leaf_of}
+use Rattle.mob_rtree_nodes.proofs.Inserts.{node_fit, put_in, ref_of, links_of, leaf_of}
 
 one_same : (x y : ℕ) → 1 ≤ cond (x == y) 1 0 → x ≡ y
 one_same x y h = grind (arith, nat_tests)
@@ -79,8 +79,10 @@ one_fit h k a =
 -- the root split, and stands below a new one
 pub tree_some : (root : Ref) (old : List TreeNode) (tree : IsTree root old) (kid : Kid) (g : Grown) (new : List TreeNode) → IsGrown old root.node kid g new → (m : Kid) → g.more ≡ Some m
     → (r : TreeNode) → r.kids.items ≡ (g.area, Node root.node) ∷ m ∷ [] → r.height ≡ root.height + 1 → r.area ≡ cover g.area m.0
-    → IsTree (record { area = r.area; node = length new; height = root.height + 1 }) (new ++ r ∷ [])
-tree_some root old tree kid g new by m some r kids height area =
+    → (number : ℕ) (after : List TreeNode) → IsPut new r number after → IsTree (record { area = r.area; node = number; height = root.height + 1 }) after
+tree_some root old tree kid g new by m some r kids height area number after put =
+    let live : 0 < length r.kids.items = omega (arith, ap (λ (l : List Kid). length l) kids) in
+    let last = put_in new r number after live put in
     let k : Kid = (g.area, Node root.node) in
     let low_r : r.height ≤ root.height + 1 = omega (arith, height) in
     let m-fit : is_fit (root.height + 1) m ≡ true = ap (λ h. is_fit (h + 1) m) (sym (root_height root old tree)) ∙ subst (λ o. MatchOption o (0 ≤ 0) (λ k. is_fit (height_at old root.node + 1) k ≡ true)) some by.more in
@@ -88,25 +90,20 @@ tree_some root old tree kid g new by m some r kids height area =
     record {
       once = λ F.
           let f : Kid → ℕ = λ k. F (record { area = k.0; node = target k.1; height = root.height }) in
-          let live : 0 < length r.kids.items = omega (arith, ap (λ (l : List Kid). length l) kids) in
           let a : links_of F r ≡ sum_by f (k ∷ m ∷ []) = ap (λ h. kids_sum F h r.kids.items) (height ∙ more_one root.height) ∙ ap (sum_by f) kids in
-          let b : nodes_sum F (0 + length new) (r ∷ []) ≡ F (record { area = r.area; node = length new; height = root.height + 1 }) = last F r (length new) (root.height + 1) live height in
-          omega (arith, grown_once root old tree kid g new by F, ap (more_sum F root.height) some, nodes_append F 0 new (r ∷ []), b, sum_by-append (links_of F) new (r ∷ []), sum_by-cons (links_of F) r [], a, sum_by-cons f k (m ∷ []), sum_by-cons f m []);
-      sound = All-append IsSoundNode new (r ∷ []) by.sound (All-cons IsSoundNode r [] (record {
+          omega (arith, grown_once root old tree kid g new by F, ap (more_sum F root.height) some, last.nodes F, last.refs F, a, sum_by-cons f k (m ∷ []), sum_by-cons f m [], ap (λ h. F (record { area = r.area; node = number; height = h })) height);
+      sound = last.all IsSoundNode by.sound (record {
         whole = ap is_whole area ∙ cover_whole g.area m.0 by.whole m-whole;
         least = λ live. subst (IsLeast r.area) (sym kids) (λ d all. ap (contains d) area ∙ cover_least g.area m.0 d (all 0 k (omega arith)) (all 1 k (omega arith)));
         fit = ap (λ (l : List Kid). count_by (λ k. not (is_fit r.height k)) l) kids ∙ two_fit r.height k m (ap (λ h. is_fit h k) height ∙ node_fit root.height root.node g.area by.whole) (ap (λ h. is_fit h m) height ∙ m-fit);
         over = subst (λ l. All (λ k. contains r.area k.0 ≡ true) l) (sym kids)
             (All-cons (λ k. contains r.area k.0 ≡ true) k (m ∷ []) (ap (λ a. contains a g.area) area ∙ cover_over_left g.area m.0) (All-cons (λ k. contains r.area k.0 ≡ true) m [] (ap (λ a. contains a m.0) area ∙ cover_over_right g.area m.0) (All-nil (λ k. contains r.area k.0 ≡ true))));
-      }) (All-nil IsSoundNode));
-      low = All-append (λ p. p.height ≤ root.height + 1) new (r ∷ []) (All-weaker (λ p. p.height ≤ root.height) (λ p. p.height ≤ root.height + 1) (λ p h. omega (arith, h)) new (by.low root.height tree.low)) (All-cons (λ p. p.height ≤ root.height + 1) r [] low_r (All-nil (λ p. p.height ≤ root.height + 1)));
+      });
+      low = last.all (λ p. p.height ≤ root.height + 1) (All-weaker (λ p. p.height ≤ root.height) (λ p. p.height ≤ root.height + 1) (λ p h. omega (arith, h)) new (by.low root.height tree.low)) low_r;
     }
   where
     more_one : (h : ℕ) → h + 1 ≡ suc h
     more_one h = omega arith
-
-    last : (F : Ref → ℕ) (r : TreeNode) (n h : ℕ) → 0 < length r.kids.items → r.height ≡ h → nodes_sum F (0 + n) (r ∷ []) ≡ F (record { area = r.area; node = n; height = h })
-    last F r n h live e = let z : 0 + n ≡ n = omega arith in let m = ap (λ i. nodes_sum F i (r ∷ [])) z in omega (arith, m, live_is r.kids.items (F (ref_of r n)) live, ap (λ h. F (record { area = r.area; node = n; height = h })) e)
 
 -- all entries, as a list and as a sum
 pub entries_listed : (g : EntryOf → ℕ) (ps : List TreeNode) → sum_by g (entries_list ps) ≡ entries_sum g ps
@@ -200,10 +197,12 @@ walk_meets q root ps tree over =
 pub added : (old : List TreeNode) (n : ℕ) (kid : Kid) (g : Grown) (new : List TreeNode) → IsGrown old n kid g new → IsAdded (entries_list old) (entry_of kid) (entries_list new)
 added old n kid g new by w = omega (arith, entries_listed w old, entries_listed w new, by.entries w)
 
-pub added_root : (old new : List TreeNode) (kid : EntryOf) (r : TreeNode) (h : ℕ) → r.height ≡ h + 1 → IsAdded (entries_list old) kid (entries_list new) → IsAdded (entries_list old) kid (entries_list (new ++ r ∷ []))
-added_root old new kid r h up by w =
+pub added_root : (old new : List TreeNode) (kid : EntryOf) (r : TreeNode) (h : ℕ) → r.height ≡ h + 1 → 0 < length r.kids.items → IsAdded (entries_list old) kid (entries_list new)
+    → (number : ℕ) (after : List TreeNode) → IsPut new r number after → IsAdded (entries_list old) kid (entries_list after)
+added_root old new kid r h up live by number after put w =
     let z = ap (λ b. cond b (sum_by (λ k. w (entry_of k)) r.kids.items) 0) (ne_eqb r.height 0 (λ z. absurd (omega (arith, up, z)))) in
-    omega (arith, by w, entries_listed w new, entries_listed w (new ++ r ∷ []), sum_by-append (leaf_of w) new (r ∷ []), sum_by-cons (leaf_of w) r [], z)
+    let last = put_in new r number after live put in
+    omega (arith, by w, entries_listed w new, entries_listed w after, last.entries w, z)
 
 -- a tree of one leaf
 pub tree_one : (kid : Kid) (r : TreeNode) → is_fit 0 kid ≡ true → r.kids.items ≡ kid ∷ [] → r.height ≡ 0 → r.area ≡ kid.0 → IsTree (record { area = kid.0; node = 0; height = 0 }) (r ∷ [])

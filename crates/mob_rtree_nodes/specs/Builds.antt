@@ -1,6 +1,6 @@
 -- How a tree is built, branch_height upon branch_height.
 use Rattle.std.specs.Prelude.{◌≡◌, ℕ, zero, suc, ◌+◌, ◌<◌, ◌≤◌, true, cond, not, ◌==◌, List, [], ◌∷◌, ◌++◌, All, sum_by, count_by, length}
-use Rattle.mob_rtree_nodes.specs.Tree.{Kid, EntryOf, entry_of, Ref, IsSoundNode, is_fit, nodes_sum, kids_sum, refs_sum, entries_sum}
+use Rattle.mob_rtree_nodes.specs.Tree.{Kid, EntryOf, entry_of, Ref, IsSoundNode, AreLive, is_fit, nodes_sum, kids_sum, refs_sum, entries_sum}
 use Rattle.mob_rtree_nodes.specs.declared.node.Child.TheVariants.{Node, Entry}
 use Rattle.mob_rtree_nodes.specs.declared.node.TreeNode.{TreeNode}
 
@@ -17,6 +17,7 @@ pub record IsForest (h : ℕ) (kids : List Kid) (ps : List TreeNode) : Type 0 wh
   pub once : (f : Ref → ℕ) → kids_sum f h kids + refs_sum f ps ≡ nodes_sum f 0 ps
   pub sound : All IsSoundNode ps
   pub low : All (λ p. p.height < h) ps
+  pub live : AreLive ps
   pub fit : count_by (λ k. not (is_fit h k)) kids ≡ 0
 
 -- of the children of a branch_height, those that came stand in nodes, which are in above, or wait
@@ -25,6 +26,7 @@ pub record IsPacking (h : ℕ) (old : List TreeNode) (came : List Kid) (ps : Lis
   pub entries : (g : EntryOf → ℕ) → entries_sum g ps + leaf_sum g waiting h ≡ entries_sum g old + leaf_sum g came h
   pub sound : All IsSoundNode ps
   pub low : All (λ p. p.height ≤ h) ps
+  pub live : AreLive ps
   pub fit : count_by (λ k. not (is_fit (suc h) k)) above ≡ 0
   pub waits : count_by (λ k. not (is_fit h k)) waiting ≡ 0
 

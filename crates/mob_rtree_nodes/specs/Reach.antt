@@ -5,13 +5,14 @@ use Rattle.mob_rtree_nodes.specs.Tree.{Kid, EntryOf, entry_of, target, IsLeast}
 use Rattle.mob_rtree_nodes.specs.declared.node.Child.TheVariants.{Node, Entry}
 use Rattle.mob_rtree_nodes.specs.declared.node.TreeNode.{TreeNode}
 
--- a node: its height above the leaves, and its children
+-- a node: its box, its height above the leaves, and its children
 pub record Branch : Type 0 where
+  pub area : BoxOf
   pub height : ℕ
   pub kids : List Kid
 
 abbrev pub branch_of : TreeNode → Branch
-branch_of p = record { height = p.height; kids = p.kids.items }
+branch_of p = record { area = p.area; height = p.height; kids = p.kids.items }
 
 abbrev pub root_number : List TreeNode → ℕ → Option ℕ
 root_number [] n = None

@@ -1,5 +1,5 @@
 -- What an arena of nodes has to be, to be a tree.
-use Rattle.std.specs.Prelude.{◌≡◌, ◌≢◌, ℕ, zero, suc, ◌+◌, ◌-◌, ◌<◌, ◌≤◌, ◌^◌, Bool, true, false, cond, ◌&&◌, ◌==◌, not, nat_le, List, [], ◌∷◌, ◌++◌, All, sum_by, count_by, length, Option, Some, None, MatchOption, set, get_or, flat_map, map}
+use Rattle.std.specs.Prelude.{◌≡◌, ◌≢◌, ◌⊎◌, ℕ, zero, suc, ◌+◌, ◌-◌, ◌<◌, ◌≤◌, ◌^◌, Bool, true, false, cond, ◌&&◌, ◌==◌, not, nat_le, List, [], ◌∷◌, ◌++◌, All, sum_by, count_by, length, Option, Some, None, MatchOption, set, get_or, flat_map, map}
 use Rattle.mob_stbox.specs.Boxes.{BoxOf, overlaps, contains, is_whole, same_box}
 use Rattle.mob_rtree_nodes.specs.declared.node.Child.{Child}
 use Rattle.mob_rtree_nodes.specs.declared.node.Child.TheVariants.{Node, Entry}
@@ -50,6 +50,45 @@ abbrev pub nodes_sum : (Ref → ℕ) → ℕ → List TreeNode → ℕ
 nodes_sum f i [] = 0
 nodes_sum f i (p ∷ ps) = if_live p.kids.items (f (record { area = p.area; node = i; height = p.height })) + nodes_sum f (i + 1) ps
 
+-- what a node has
+abbrev pub kids_at : List TreeNode → ℕ → List Kid
+kids_at [] n = []
+kids_at (p ∷ ps) zero = p.kids.items
+kids_at (p ∷ ps) (suc n) = kids_at ps n
+
+abbrev pub height_at : List TreeNode → ℕ → ℕ
+height_at [] n = 0
+height_at (p ∷ ps) zero = p.height
+height_at (p ∷ ps) (suc n) = height_at ps n
+
+-- n, unless there is a child
+abbrev pub if_dropped : List Kid → ℕ → ℕ
+if_dropped [] n = n
+if_dropped (k ∷ ks) n = 0
+
+-- the sum of f over the numbers of all nodes that have no child, of which the first node has the number i
+abbrev pub dropped_sum : (ℕ → ℕ) → ℕ → List TreeNode → ℕ
+dropped_sum f i [] = 0
+dropped_sum f i (p ∷ ps) = if_dropped p.kids.items (f i) + dropped_sum f (i + 1) ps
+
+-- free has the number of each node that has no child, once
+abbrev pub IsFree : List ℕ → List TreeNode → Type 0
+IsFree free ps = (f : ℕ → ℕ) → sum_by f free ≡ dropped_sum f 0 ps
+
+-- each node has a child
+abbrev pub AreLive : List TreeNode → Type 0
+AreLive ps = All (λ p. 0 < length p.kids.items) ps
+
+-- Nodes are added only where no dropped one is left: the nodes stay as many, unless each has a child. Where each has one before,
+-- each has one after.
+pub record IsReused (old new : List TreeNode) : Type 0 where
+  pub same : (length new ≡ length old) ⊎ AreLive new
+  pub live : AreLive old → AreLive new
+
+-- the node r stands at the number m, where a dropped one was or behind all
+abbrev pub IsPut : List TreeNode → TreeNode → ℕ → List TreeNode → Type 0
+IsPut old r m new = ((m < length old) × (kids_at old m ≡ []) × (new ≡ set old m r)) ⊎ ((m ≡ length old) × (new ≡ old ++ r ∷ []))
+
 -- the sum of f over the references in a node of height h
 abbrev pub kids_sum : (Ref → ℕ) → ℕ → List Kid → ℕ
 kids_sum f zero kids = 0
@@ -81,17 +120,6 @@ pub record IsTree (root : Ref) (ps : List TreeNode) : Type 0 where
   pub sound : All IsSoundNode ps
   pub low : All (λ p. p.height ≤ root.height) ps
 
--- what a node has
-abbrev pub kids_at : List TreeNode → ℕ → List Kid
-kids_at [] n = []
-kids_at (p ∷ ps) zero = p.kids.items
-kids_at (p ∷ ps) (suc n) = kids_at ps n
-
-abbrev pub height_at : List TreeNode → ℕ → ℕ
-height_at [] n = 0
-height_at (p ∷ ps) zero = p.height
-height_at (p ∷ ps) (suc n) = height_at ps n
-
 -- what a walk down from node n of height h sums up: own for each node, and g for each entry, whose boxes pass a test
 unfoldable pub walk_sum : (BoxOf → Bool) → (own : ℕ) → (g : EntryOf → ℕ) → List TreeNode → ℕ → ℕ → ℕ
 walk_sum test own g ps zero n = own + sum_by (λ k. cond (test k.0) (g (entry_of k)) 0) (kids_at ps n)
@@ -111,21 +139,18 @@ abbrev pub kids_of_more : Option TreeNode → List Kid
 kids_of_more None = []
 kids_of_more (Some p) = p.kids.items
 
-abbrev pub some_list : Option TreeNode → List TreeNode
-some_list None = []
-some_list (Some p) = p ∷ []
-
 -- how node n of the nodes was changed by one more child
 pub record IsAttached (old : List TreeNode) (n : ℕ) (kid : Kid) (grown : Grown) (new : List TreeNode) : Type 0 where
   pub part : TreeNode
   pub more : Option TreeNode
-  pub nodes : new ≡ set old n part ++ some_list more
+  pub number : ℕ
+  pub nodes : MatchOption more (new ≡ set old n part) (λ r. IsPut (set old n part) r number new)
   pub height : part.height ≡ height_at old n
   pub area : part.area ≡ grown.area
   pub sound : IsSoundNode part
   pub live : 0 < length part.kids.items
   pub kids : (f : Kid → ℕ) → sum_by f part.kids.items + sum_by f (kids_of_more more) ≡ sum_by f (kids_at old n) + f kid
-  pub other : MatchOption more (grown.more ≡ None) (λ p. (p.height ≡ height_at old n) × IsSoundNode p × (0 < length p.kids.items) × (grown.more ≡ Some (p.area, Node (length old))))
+  pub other : MatchOption more (grown.more ≡ None) (λ p. (p.height ≡ height_at old n) × IsSoundNode p × (0 < length p.kids.items) × (grown.more ≡ Some (p.area, Node number)))
 
 -- how a node is changed by a new box beside a child
 pub record IsReplaced (old : TreeNode) (slot : ℕ) (area : BoxOf) (new : TreeNode) : Type 0 where
@@ -145,7 +170,7 @@ pub record IsGrown (old : List TreeNode) (n : ℕ) (kid : Kid) (grown : Grown) (
   pub entries : (g : EntryOf → ℕ) → entries_sum g new ≡ entries_sum g old + g (entry_of kid)
   pub sound : All IsSoundNode new
   pub low : (m : ℕ) → All (λ p. p.height ≤ m) old → All (λ p. p.height ≤ m) new
-  pub above : (i : ℕ) (p : TreeNode) → i < length old → height_at old n < p.height → p ≡ get_or old i p → p ≡ get_or new i p
+  pub above : (i : ℕ) (p : TreeNode) → i < length old → 0 < length p.kids.items → height_at old n < p.height → p ≡ get_or old i p → p ≡ get_or new i p
   pub longer : length old ≤ length new
   pub few : length new ≤ length old + height_at old n + 1
   pub whole : is_whole grown.area ≡ true

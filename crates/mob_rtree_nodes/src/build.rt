@@ -3,7 +3,7 @@ ghost use Rattle.std.specs.Prelude.{◌≡◌, ℕ, ◌+◌, ◌*◌, ◌^◌, �
 ghost use Rattle.std.specs.Vec.{vec_len};
 ghost use Rattle.arrayvec.specs.ArrayVec.{array_vec_len};
 ghost use Rattle.mob_stbox.specs.Boxes.{is_whole};
-ghost use Rattle.mob_rtree_nodes.specs.Tree.{IsTree, IsSoundNode, Kid, EntryOf, entry_of, ref, is_fit, entries_sum};
+ghost use Rattle.mob_rtree_nodes.specs.Tree.{IsTree, IsSoundNode, Kid, EntryOf, entry_of, ref, is_fit, entries_sum, AreLive};
 ghost use Rattle.mob_rtree_nodes.specs.Builds.{kid_of, IsForest, IsPacking, IsClosed, leaf_sum};
 
 use crate::insert::cover_all;
@@ -142,6 +142,7 @@ pub fn raise(
     requires some { 0 < length kids.now }
     ensures tree { IfOk result (λ root. IsTree (ref root) nodes.new.items) }
     ensures entries { OnOk result ((g : EntryOf → ℕ) → entries_sum g nodes.new.items ≡ entries_sum g nodes.old.items + leaf_sum g kids.now height) }
+    ensures live { OnOk result (AreLive nodes.new.items) }
 {
     if height > 4294967294 {
         return Err(AllocError);

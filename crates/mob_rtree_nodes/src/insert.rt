@@ -3,7 +3,7 @@ ghost use Rattle.std.specs.Prelude.{◌≡◌, ℕ, ◌+◌, ◌*◌, ◌^◌, �
 ghost use Rattle.std.specs.Vec.{vec_len, vec_capacity};
 ghost use Rattle.arrayvec.specs.ArrayVec.{array_vec_len};
 ghost use Rattle.mob_stbox.specs.Boxes.{contains, is_whole};
-ghost use Rattle.mob_rtree_nodes.specs.Tree.{IsTree, IsSoundNode, Kid, height_at, kids_at, kids_of_more, Ref, IsAttached, IsReplaced, IsGrown, IsLeast, is_fit};
+ghost use Rattle.mob_rtree_nodes.specs.Tree.{IsTree, IsSoundNode, Kid, height_at, kids_at, kids_of_more, Ref, IsAttached, IsReplaced, IsGrown, IsLeast, IsFree, IsPut, IsReused, is_fit};
 
 use crate::node::{Child, TreeNode};
 use crate::lengths::{growth, longest, middle_of};
@@ -118,28 +118,57 @@ pub fn add(part: &mut TreeNode, kid: (StBox, Child)) -> Option<TreeNode>
     None
 }
 
+/// Puts a node where one was dropped, or behind all where there is none, and answers its number.
+pub fn put_node(nodes: &mut Vec<TreeNode>, free: &mut Vec<u32>, part: TreeNode) -> u32
+    requires free { IsFree free.old.items nodes.old.items }
+    requires live { 0 < length part.kids.items }
+    requires small { length nodes.old.items < 2 ^ 32 }
+    requires room { vec_len nodes.old < vec_capacity nodes.old }
+    ensures put { IsPut nodes.old.items part result nodes.new.items }
+    ensures free { IsFree free.new.items nodes.new.items }
+    ensures reused { IsReused nodes.old.items nodes.new.items }
+    ensures capacity { vec_capacity nodes.new ≡ vec_capacity nodes.old }
+    ensures free_capacity { vec_capacity free.new ≡ vec_capacity free.old }
+{
+    match free.pop() {
+        Some(number) => {
+            nodes[number as usize] = part;
+            number
+        }
+        None => {
+            let number = nodes.len() as u32;
+            nodes.push_reserved(part);
+            number
+        }
+    }
+}
+
 /// Adds a child to the node of a number.
-pub fn place(nodes: &mut Vec<TreeNode>, node: usize, kid: (StBox, Child)) -> Grown
+pub fn place(nodes: &mut Vec<TreeNode>, free: &mut Vec<u32>, node: usize, kid: (StBox, Child)) -> Grown
     requires there { node < length nodes.old.items }
+    requires live { 0 < length (kids_at nodes.old.items node) }
     requires sound { All IsSoundNode nodes.old.items }
     requires fit { is_fit (height_at nodes.old.items node) kid ≡ true }
+    requires free { IsFree free.old.items nodes.old.items }
     requires small { length nodes.old.items < 2 ^ 32 }
     requires room { vec_len nodes.old < vec_capacity nodes.old }
     ensures attached { IsAttached nodes.old.items node kid result nodes.new.items }
+    ensures free { IsFree free.new.items nodes.new.items }
+    ensures reused { IsReused nodes.old.items nodes.new.items }
     ensures capacity { vec_capacity nodes.new ≡ vec_capacity nodes.old }
+    ensures free_capacity { vec_capacity free.new ≡ vec_capacity free.old }
 {
-    let number = nodes.len() as u32;
     let part = &mut nodes[node];
     let more = add(part, kid);
     let area = part.area;
     match more {
         None => Grown { area, more: None },
         Some(other) => {
-            let kid = (other.area, Child::Node(number));
-            nodes.push_reserved(other);
+            let beside = other.area;
+            let number = put_node(nodes, free, other);
             Grown {
                 area,
-                more: Some(kid),
+                more: Some((beside, Child::Node(number))),
             }
         }
     }
@@ -158,24 +187,28 @@ pub fn widen(part: &mut TreeNode, slot: usize, area: StBox)
 }
 
 /// Adds an entry below a node.
-pub fn insert_at(nodes: &mut Vec<TreeNode>, node: usize, kid: (StBox, Child)) -> Grown
+pub fn insert_at(nodes: &mut Vec<TreeNode>, free: &mut Vec<u32>, node: usize, kid: (StBox, Child)) -> Grown
     requires tree { (root : Ref) × IsTree root nodes.old.items }
     requires there { node < length nodes.old.items }
     requires live { 0 < length (kids_at nodes.old.items node) }
     requires fit { is_fit 0 kid ≡ true }
+    requires free { IsFree free.old.items nodes.old.items }
     requires small { length nodes.old.items + height_at nodes.old.items node < 2 ^ 32 }
     requires room { vec_len nodes.old + height_at nodes.old.items node < vec_capacity nodes.old }
     ensures grown { IsGrown nodes.old.items node kid result nodes.new.items }
+    ensures free { IsFree free.new.items nodes.new.items }
+    ensures reused { IsReused nodes.old.items nodes.new.items }
     ensures capacity { vec_capacity nodes.new ≡ vec_capacity nodes.old }
+    ensures free_capacity { vec_capacity free.new ≡ vec_capacity free.old }
 {
     let part = &nodes[node];
     if part.height == 0 {
-        return place(nodes, node, kid);
+        return place(nodes, free, node, kid);
     }
     let kids = part.kids.as_slice();
     let slot = choose(kids, &kid.0);
     let below = kids[slot].1.number();
-    let grown = insert_at(nodes, below as usize, kid);
+    let grown = insert_at(nodes, free, below as usize, kid);
     let part = &mut nodes[node];
     widen(part, slot, grown.area);
     let other = grown.more;
@@ -184,6 +217,6 @@ pub fn insert_at(nodes: &mut Vec<TreeNode>, node: usize, kid: (StBox, Child)) ->
             area: part.area,
             more: None,
         },
-        Some(more) => place(nodes, node, more),
+        Some(more) => place(nodes, free, node, more),
     }
 }

@@ -2,7 +2,7 @@
 ghost use Rattle.std.specs.Prelude.{◌≡◌, ◌≢◌, ℕ, ◌+◌, ◌<◌, sum_by, count_by, length, List, All, set, get_or, MatchOption, true, []};
 ghost use Rattle.std.specs.Vec.{vec_capacity};
 ghost use Rattle.mob_stbox.specs.Boxes.{contains, is_whole};
-ghost use Rattle.mob_rtree_nodes.specs.Tree.{IsTree, IsSoundNode, Ref, Kid, kids_at, height_at};
+ghost use Rattle.mob_rtree_nodes.specs.Tree.{IsTree, IsSoundNode, IsFree, Ref, Kid, kids_at, height_at};
 ghost use Rattle.mob_rtree_nodes.specs.declared.remove.Removed.TheVariants.{Missing, Narrowed, Emptied};
 ghost use Rattle.mob_rtree_nodes.specs.Removes.{is_entry, IsSettled, IsSettledAt, IsRemoved, is_whole_left};
 
@@ -62,60 +62,80 @@ fn settle(part: &mut TreeNode, slot: usize, removed: Removed) -> Removed
     }
 }
 
-/// The same at the node of a number.
-fn settle_at(nodes: &mut Vec<TreeNode>, node: usize, slot: usize, removed: Removed) -> Removed
+/// The same at the node of a number, which is free where it has no child any more.
+fn settle_at(nodes: &mut Vec<TreeNode>, free: &mut Vec<u32>, node: u32, slot: usize, removed: Removed) -> Removed
     requires there { node < length nodes.old.items }
     requires slot { slot < length (kids_at nodes.old.items node) }
     requires sound { All IsSoundNode nodes.old.items }
     requires left { is_whole_left removed ≡ true }
+    requires free { IsFree free.old.items nodes.old.items }
+    requires room { length nodes.old.items ≤ vec_capacity free.old }
     ensures settled { IsSettledAt nodes.old.items node slot removed result nodes.new.items }
+    ensures free { IsFree free.new.items nodes.new.items }
     ensures capacity { vec_capacity nodes.new ≡ vec_capacity nodes.old }
+    ensures free_capacity { vec_capacity free.new ≡ vec_capacity free.old }
 {
-    let part = &mut nodes[node];
-    settle(part, slot, removed)
+    let part = &mut nodes[node as usize];
+    let left = settle(part, slot, removed);
+    match left {
+        Removed::Emptied => {
+            free.push_reserved(node);
+            Removed::Emptied
+        }
+        Removed::Narrowed(area) => Removed::Narrowed(area),
+        Removed::Missing => Removed::Missing,
+    }
 }
 
 /// Takes an entry out of a leaf.
-fn remove_entry(nodes: &mut Vec<TreeNode>, node: usize, b: &StBox, id: u32) -> Removed
+fn remove_entry(nodes: &mut Vec<TreeNode>, free: &mut Vec<u32>, node: u32, b: &StBox, id: u32) -> Removed
     requires there { node < length nodes.old.items }
     requires sound { All IsSoundNode nodes.old.items }
     requires leaf { height_at nodes.old.items node ≡ 0 }
+    requires free { IsFree free.old.items nodes.old.items }
+    requires room { length nodes.old.items ≤ vec_capacity free.old }
     ensures removed { IsRemoved nodes.old.items node (b.now, id) result nodes.new.items }
     ensures missing { result ≡ Missing → nodes.new ≡ nodes.old }
+    ensures free { IsFree free.new.items nodes.new.items }
     ensures capacity { vec_capacity nodes.new ≡ vec_capacity nodes.old }
+    ensures free_capacity { vec_capacity free.new ≡ vec_capacity free.old }
 {
-    let part = &nodes[node];
+    let part = &nodes[node as usize];
     let found = position(part.kids.as_slice(), b, id);
     match found {
         None => Removed::Missing,
-        Some(slot) => settle_at(nodes, node, slot, Removed::Emptied),
+        Some(slot) => settle_at(nodes, free, node, slot, Removed::Emptied),
     }
 }
 
 /// Takes an entry out below a node.
-pub fn remove_at(nodes: &mut Vec<TreeNode>, node: usize, b: &StBox, id: u32) -> Removed
+pub fn remove_at(nodes: &mut Vec<TreeNode>, free: &mut Vec<u32>, node: u32, b: &StBox, id: u32) -> Removed
     requires tree { (root : Ref) × IsTree root nodes.old.items }
     requires there { node < length nodes.old.items }
+    requires free { IsFree free.old.items nodes.old.items }
+    requires room { length nodes.old.items ≤ vec_capacity free.old }
     ensures removed { IsRemoved nodes.old.items node (b.now, id) result nodes.new.items }
     ensures missing { result ≡ Missing → nodes.new ≡ nodes.old }
+    ensures free { IsFree free.new.items nodes.new.items }
     ensures capacity { vec_capacity nodes.new ≡ vec_capacity nodes.old }
+    ensures free_capacity { vec_capacity free.new ≡ vec_capacity free.old }
 {
-    let part = &nodes[node];
+    let part = &nodes[node as usize];
     if part.height == 0 {
-        return remove_entry(nodes, node, b, id);
+        return remove_entry(nodes, free, node, b, id);
     }
     let count = part.kids.len();
     for slot in 0..count {
-        let kid = nodes[node].kids.as_slice()[slot];
+        let kid = nodes[node as usize].kids.as_slice()[slot];
         if kid.0.contains(b) {
             let number = kid.1.number();
-            let removed = remove_at(nodes, number as usize, b, id);
+            let removed = remove_at(nodes, free, number, b, id);
             match removed {
                 Removed::Missing => {}
                 Removed::Narrowed(area) => {
-                    return settle_at(nodes, node, slot, Removed::Narrowed(area));
+                    return settle_at(nodes, free, node, slot, Removed::Narrowed(area));
                 }
-                Removed::Emptied => return settle_at(nodes, node, slot, Removed::Emptied),
+                Removed::Emptied => return settle_at(nodes, free, node, slot, Removed::Emptied),
             }
         }
     }

@@ -3,12 +3,12 @@ ghost use Rattle.std.specs.Prelude.{◌≡◌, ℕ, ◌+◌, ◌*◌, ◌^◌, �
 ghost use Rattle.std.specs.Ordering.{nat_cmp};
 ghost use Rattle.std.specs.Vec.{vec_len, vec_capacity};
 ghost use Rattle.mob_stbox.specs.Boxes.{overlaps, is_whole};
-ghost use Rattle.mob_rtree_nodes.specs.Tree.{IsTree, ref, entry_of, is_fit, entries_list, areas_list, IsAdded, AreSame, AreFound};
+ghost use Rattle.mob_rtree_nodes.specs.Tree.{IsTree, ref, entry_of, is_fit, entries_list, areas_list, IsAdded, AreSame, AreFound, AreLive, IsFree, IsReused};
 ghost use Rattle.mob_rtree_nodes.specs.Removes.{IsTakenOut};
 ghost use Rattle.mob_rtree_nodes.specs.declared.remove.Removed.TheVariants.{Missing};
 
 use crate::build::{gather_near, leaf_kids, raise};
-use crate::insert::insert_at;
+use crate::insert::{insert_at, put_node};
 use crate::node::{Child, Root, TreeNode};
 use crate::remove::{remove_at, Removed};
 use crate::search::visit;
@@ -19,15 +19,20 @@ use std::alloc::{AllocError, Global};
 use std::sync::ledger::Ledger;
 
 /// Adds an entry below the root, and answers the new root.
-pub fn put(nodes: &mut Vec<TreeNode>, root: Root, kid: (StBox, Child)) -> Root
+pub fn put(nodes: &mut Vec<TreeNode>, free: &mut Vec<u32>, root: Root, kid: (StBox, Child)) -> Root
     requires tree { IsTree (ref root) nodes.old.items }
     requires fit { is_fit 0 kid ≡ true }
+    requires free { IsFree free.old.items nodes.old.items }
     requires small { length nodes.old.items + root.height + 2 ≤ 2 ^ 32 }
     requires room { vec_len nodes.old + root.height + 2 ≤ vec_capacity nodes.old }
     ensures tree { IsTree (ref result) nodes.new.items }
     ensures entries { IsAdded (entries_list nodes.old.items) (entry_of kid) (entries_list nodes.new.items) }
+    ensures free { IsFree free.new.items nodes.new.items }
+    ensures reused { IsReused nodes.old.items nodes.new.items }
+    ensures few { length nodes.new.items ≤ length nodes.old.items + root.height + 2 }
+    ensures free_capacity { vec_capacity free.new ≡ vec_capacity free.old }
 {
-    let grown = insert_at(nodes, root.node as usize, kid);
+    let grown = insert_at(nodes, free, root.node as usize, kid);
     let other = grown.more;
     let Some(more) = other else {
         return Root {
@@ -40,9 +45,8 @@ pub fn put(nodes: &mut Vec<TreeNode>, root: Root, kid: (StBox, Child)) -> Root
     let mut kids = ArrayVec::new();
     kids.push((grown.area, Child::Node(root.node)));
     kids.push(more);
-    let node = nodes.len() as u32;
     let height = root.height + 1;
-    nodes.push_reserved(TreeNode { area, height, kids });
+    let node = put_node(nodes, free, TreeNode { area, height, kids });
     Root { area, node, height }
 }
 
@@ -53,6 +57,8 @@ pub fn put_first(nodes: &mut Vec<TreeNode>, kid: (StBox, Child)) -> Root
     requires room { vec_len nodes.old < vec_capacity nodes.old }
     ensures tree { IsTree (ref result) nodes.new.items }
     ensures entries { IsAdded (entries_list nodes.old.items) (entry_of kid) (entries_list nodes.new.items) }
+    ensures live { AreLive nodes.new.items }
+    ensures one { length nodes.new.items ≡ 1 }
 {
     let area = kid.0;
     let mut kids = ArrayVec::new();
@@ -94,17 +100,21 @@ pub fn gather<L: Ledger>(
 }
 
 /// Takes an entry out below the root.
-pub fn take_entry(nodes: &mut Vec<TreeNode>, root: Root, b: &StBox, id: u32) -> Removed
+pub fn take_entry(nodes: &mut Vec<TreeNode>, free: &mut Vec<u32>, root: Root, b: &StBox, id: u32) -> Removed
     requires tree { IsTree (ref root) nodes.old.items }
-    ensures taken_out { IsTakenOut (ref root) nodes.old.items (b.now, id) result nodes.new.items }
+    requires free { IsFree free.old.items nodes.old.items }
+    requires room { length nodes.old.items ≤ vec_capacity free.old }
+    ensures taken { IsTakenOut (ref root) nodes.old.items (b.now, id) result nodes.new.items }
     ensures missing { result ≡ Missing → nodes.new ≡ nodes.old }
+    ensures free { IsFree free.new.items nodes.new.items }
     ensures capacity { vec_capacity nodes.new ≡ vec_capacity nodes.old }
     ensures size { vec_len nodes.new ≡ vec_len nodes.old }
+    ensures free_capacity { vec_capacity free.new ≡ vec_capacity free.old }
 {
     if !root.area.contains(b) {
         return Removed::Missing;
     }
-    remove_at(nodes, root.node as usize, b, id)
+    remove_at(nodes, free, root.node, b, id)
 }
 
 /// Makes the nodes of these entries, and answers the root.
@@ -114,6 +124,7 @@ pub fn raise_entries(alloc: Global, nodes: &mut Vec<TreeNode>, entries: &[(StBox
     requires whole { All (λ e. is_whole e.0 ≡ true) entries.now }
     ensures tree { IfOk result (λ root. IsTree (ref root) nodes.new.items) }
     ensures entries { OnOk result (AreSame (entries_list nodes.new.items) entries.now) }
+    ensures live { OnOk result (AreLive nodes.new.items) }
 {
     let kids = leaf_kids(alloc, entries)?;
     let near = gather_near(alloc, kids.as_slice())?;

@@ -2,7 +2,8 @@ use Rattle.std.proofs.Common.{◌≡◌, refl, ap, ◌∙◌, sym, subst, arith,
 use Rattle.std.proofs.lemmas.List.{take_more}
 use Rattle.mob_rtree_nodes.specs.Tree.{Kid}
 use Rattle.mob_rtree_nodes.specs.Builds.{IsPacking}
-use Rattle.mob_rtree_nodes.proofs.Builds.{packing_start, packing_close, forest_up, leaf_nil}
+use Rattle.mob_rtree_nodes.proofs.Builds.{packing_start, packing_close, forest_up}
+use Rattle.mob_rtree_nodes.proofs.Inserts.{leaf_nil}
 use Rattle.mob_rtree_nodes.proofs.build.pack.Goals as goal
 
 pub loop-kid-init : goal.loop-kid-init

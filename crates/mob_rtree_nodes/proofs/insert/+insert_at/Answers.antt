@@ -1,12 +1,14 @@
 use Rattle.std.proofs.Common.{arith, ◌≡◌, refl, sym, ◌∙◌, ap, subst, ℕ, ◌+◌, ◌<◌, ◌≤◌, true, length, get_or, set, List, not}
 use Rattle.std.specs.Prelude.{count_by, MatchOption}
 use Rattle.std.proofs.lemmas.List.{length-set, get_or-set_same}
+use Rattle.std.proofs.lemmas.List.Elements.{All-set}
 use Rattle.mob_stbox.specs.Boxes.{is_whole}
 use Rattle.mob_rtree_nodes.specs.Tree.{Kid, target, is_fit, IsTree, IsSoundNode, height_at, kids_at, IsReplaced, IsAttached, IsGrown}
 use Rattle.mob_rtree_nodes.specs.declared.node.TreeNode.{TreeNode}
 use Rattle.mob_rtree_nodes.proofs.Sums.{height_of, kids_of, sound_at}
 use Rattle.mob_rtree_nodes.proofs.Covers.{fit_whole}
-use Rattle.mob_rtree_nodes.proofs.Inserts.{grown_leaf, grown_none, grown_some, same_node, lower}
+use Rattle.mob_rtree_nodes.proofs.Inserts.{grown_leaf, grown_none, grown_some, same_node, lower, still_live}
+use Rattle.mob_rtree_nodes.proofs.Frees.{reused_trans}
 use Rattle.mob_rtree_nodes.proofs.insert.+insert_at.Goals as goal
 
 pub place-requires-clause-fit : goal.place-requires-clause-fit
@@ -42,7 +44,7 @@ insert_at-grown-requires t c =
     let e = c.decreases in
     let s = c.requires.small in
     let r = c.requires.room in
-    (omega (arith, d.high, e, d.here, d.up), (c.requires.tree, (d.there, (d.alive, (c.requires.fit, (omega (arith, d.high, s, d.here, d.up), omega (arith, d.high, r, d.here, d.up)))))))
+    (omega (arith, d.high, e, d.here, d.up), (c.requires.tree, (d.there, (d.alive, (c.requires.fit, (c.requires.free, (omega (arith, d.high, s, d.here, d.up), omega (arith, d.high, r, d.here, d.up))))))))
 
 pub widen-requires-clause-slot : goal.widen-requires-clause-slot
 widen-requires-clause-slot t c =
@@ -60,6 +62,101 @@ widen-requires-clause-slot t c =
     let e = same_node c.requires.tree.0 old c.requires.tree.1 n d.h c.choose-slot.result p k c.requires.there c.index-part.ensures d.up d.within d.at c.args.kid c.insert_at-grown.result ps1 (subst (λ m. IsGrown old m c.args.kid c.insert_at-grown.result ps1) say below) p1 read in
     let l = ap (λ (p : TreeNode). length p.kids.items) e in
     omega (arith, d.within, l)
+
+pub place-requires-in-Some-clause-live : goal.place-requires-in-Some-clause-live
+place-requires-in-Some-clause-live t c =
+    let old = c.args.nodes.now.items in
+    let p = c.index-part.result.now in
+    let n = c.args.node in
+    let k = c.index-kids-slot.result in
+    let say = c.number-below.ensures ∙ ap (λ (k : Kid). target k.1) (sym c.index-kids-slot.is) in
+    let d = lower c.requires.tree.0 old c.requires.tree.1 n c.choose-slot.result p c.as_slice-kids.result.now k c.number-below.result c.requires.there c.index-part.ensures c.as_slice-kids.ensures.value c.choose-slot.ensures c.index-kids-slot.is say c.if-part-eq0.false in
+    let below = c.insert_at-grown.ensures.grown in
+    let ps1 = c.insert_at-grown.new.nodes.items in
+    let p1 = c.index_mut-part.result.now in
+    let read = c.index_mut-part.ensures.value in
+    let below2 = subst (λ m. IsGrown old m c.args.kid c.insert_at-grown.result ps1) say below in
+    let e = same_node c.requires.tree.0 old c.requires.tree.1 n d.h c.choose-slot.result p k c.requires.there c.index-part.ensures d.up d.within d.at c.args.kid c.insert_at-grown.result ps1 below2 p1 read in
+    let longer = below.longer in
+    let there = c.requires.there in
+    let still = still_live c.insert_at-grown.new.free.items ps1 n c.choose-slot.result p1 c.widen.new.part k c.insert_at-grown.result.area (omega (arith, longer, there)) read (omega (arith, d.within, ap (λ (p : TreeNode). length p.kids.items) e)) c.widen.ensures c.insert_at-grown.ensures.free in
+    still.live
+
+pub place-requires-in-Some-clause-free : goal.place-requires-in-Some-clause-free
+place-requires-in-Some-clause-free t c =
+    let old = c.args.nodes.now.items in
+    let p = c.index-part.result.now in
+    let n = c.args.node in
+    let k = c.index-kids-slot.result in
+    let say = c.number-below.ensures ∙ ap (λ (k : Kid). target k.1) (sym c.index-kids-slot.is) in
+    let d = lower c.requires.tree.0 old c.requires.tree.1 n c.choose-slot.result p c.as_slice-kids.result.now k c.number-below.result c.requires.there c.index-part.ensures c.as_slice-kids.ensures.value c.choose-slot.ensures c.index-kids-slot.is say c.if-part-eq0.false in
+    let below = c.insert_at-grown.ensures.grown in
+    let ps1 = c.insert_at-grown.new.nodes.items in
+    let p1 = c.index_mut-part.result.now in
+    let read = c.index_mut-part.ensures.value in
+    let below2 = subst (λ m. IsGrown old m c.args.kid c.insert_at-grown.result ps1) say below in
+    let e = same_node c.requires.tree.0 old c.requires.tree.1 n d.h c.choose-slot.result p k c.requires.there c.index-part.ensures d.up d.within d.at c.args.kid c.insert_at-grown.result ps1 below2 p1 read in
+    let longer = below.longer in
+    let there = c.requires.there in
+    let still = still_live c.insert_at-grown.new.free.items ps1 n c.choose-slot.result p1 c.widen.new.part k c.insert_at-grown.result.area (omega (arith, longer, there)) read (omega (arith, d.within, ap (λ (p : TreeNode). length p.kids.items) e)) c.widen.ensures c.insert_at-grown.ensures.free in
+    still.free
+
+pub returns-in-None-clause-free : goal.returns-in-None-clause-free
+returns-in-None-clause-free t c =
+    let old = c.args.nodes.now.items in
+    let p = c.index-part.result.now in
+    let n = c.args.node in
+    let k = c.index-kids-slot.result in
+    let say = c.number-below.ensures ∙ ap (λ (k : Kid). target k.1) (sym c.index-kids-slot.is) in
+    let d = lower c.requires.tree.0 old c.requires.tree.1 n c.choose-slot.result p c.as_slice-kids.result.now k c.number-below.result c.requires.there c.index-part.ensures c.as_slice-kids.ensures.value c.choose-slot.ensures c.index-kids-slot.is say c.if-part-eq0.false in
+    let below = c.insert_at-grown.ensures.grown in
+    let ps1 = c.insert_at-grown.new.nodes.items in
+    let p1 = c.index_mut-part.result.now in
+    let read = c.index_mut-part.ensures.value in
+    let below2 = subst (λ m. IsGrown old m c.args.kid c.insert_at-grown.result ps1) say below in
+    let e = same_node c.requires.tree.0 old c.requires.tree.1 n d.h c.choose-slot.result p k c.requires.there c.index-part.ensures d.up d.within d.at c.args.kid c.insert_at-grown.result ps1 below2 p1 read in
+    let longer = below.longer in
+    let there = c.requires.there in
+    let still = still_live c.insert_at-grown.new.free.items ps1 n c.choose-slot.result p1 c.widen.new.part k c.insert_at-grown.result.area (omega (arith, longer, there)) read (omega (arith, d.within, ap (λ (p : TreeNode). length p.kids.items) e)) c.widen.ensures c.insert_at-grown.ensures.free in
+    still.free
+
+pub returns-in-None-clause-reused : goal.returns-in-None-clause-reused
+returns-in-None-clause-reused t c =
+    let old = c.args.nodes.now.items in
+    let p = c.index-part.result.now in
+    let n = c.args.node in
+    let k = c.index-kids-slot.result in
+    let say = c.number-below.ensures ∙ ap (λ (k : Kid). target k.1) (sym c.index-kids-slot.is) in
+    let d = lower c.requires.tree.0 old c.requires.tree.1 n c.choose-slot.result p c.as_slice-kids.result.now k c.number-below.result c.requires.there c.index-part.ensures c.as_slice-kids.ensures.value c.choose-slot.ensures c.index-kids-slot.is say c.if-part-eq0.false in
+    let below = c.insert_at-grown.ensures.grown in
+    let ps1 = c.insert_at-grown.new.nodes.items in
+    let p1 = c.index_mut-part.result.now in
+    let read = c.index_mut-part.ensures.value in
+    let below2 = subst (λ m. IsGrown old m c.args.kid c.insert_at-grown.result ps1) say below in
+    let e = same_node c.requires.tree.0 old c.requires.tree.1 n d.h c.choose-slot.result p k c.requires.there c.index-part.ensures d.up d.within d.at c.args.kid c.insert_at-grown.result ps1 below2 p1 read in
+    let longer = below.longer in
+    let there = c.requires.there in
+    let still = still_live c.insert_at-grown.new.free.items ps1 n c.choose-slot.result p1 c.widen.new.part k c.insert_at-grown.result.area (omega (arith, longer, there)) read (omega (arith, d.within, ap (λ (p : TreeNode). length p.kids.items) e)) c.widen.ensures c.insert_at-grown.ensures.free in
+    reused_trans old ps1 (set ps1 n c.widen.new.part) c.insert_at-grown.ensures.reused still.reused
+
+pub returns-in-Some-clause-reused : goal.returns-in-Some-clause-reused
+returns-in-Some-clause-reused t c =
+    let old = c.args.nodes.now.items in
+    let p = c.index-part.result.now in
+    let n = c.args.node in
+    let k = c.index-kids-slot.result in
+    let say = c.number-below.ensures ∙ ap (λ (k : Kid). target k.1) (sym c.index-kids-slot.is) in
+    let d = lower c.requires.tree.0 old c.requires.tree.1 n c.choose-slot.result p c.as_slice-kids.result.now k c.number-below.result c.requires.there c.index-part.ensures c.as_slice-kids.ensures.value c.choose-slot.ensures c.index-kids-slot.is say c.if-part-eq0.false in
+    let below = c.insert_at-grown.ensures.grown in
+    let ps1 = c.insert_at-grown.new.nodes.items in
+    let p1 = c.index_mut-part.result.now in
+    let read = c.index_mut-part.ensures.value in
+    let below2 = subst (λ m. IsGrown old m c.args.kid c.insert_at-grown.result ps1) say below in
+    let e = same_node c.requires.tree.0 old c.requires.tree.1 n d.h c.choose-slot.result p k c.requires.there c.index-part.ensures d.up d.within d.at c.args.kid c.insert_at-grown.result ps1 below2 p1 read in
+    let longer = below.longer in
+    let there = c.requires.there in
+    let still = still_live c.insert_at-grown.new.free.items ps1 n c.choose-slot.result p1 c.widen.new.part k c.insert_at-grown.result.area (omega (arith, longer, there)) read (omega (arith, d.within, ap (λ (p : TreeNode). length p.kids.items) e)) c.widen.ensures c.insert_at-grown.ensures.free in
+    reused_trans old (set ps1 n c.widen.new.part) c.place-in-Some.new.nodes.items (reused_trans old ps1 (set ps1 n c.widen.new.part) c.insert_at-grown.ensures.reused still.reused) c.place-in-Some.ensures.reused
 
 pub place-requires-in-Some-clause-fit : goal.place-requires-in-Some-clause-fit
 place-requires-in-Some-clause-fit t c =
@@ -152,3 +249,6 @@ returns-in-Some-clause-grown t c =
     let read = c.index_mut-part.ensures.value in
     let below2 = subst (λ m. IsGrown old m c.args.kid c.insert_at-grown.result ps1) say below in
     grown_some c.requires.tree.0 old c.requires.tree.1 n d.h c.choose-slot.result p k c.requires.there c.index-part.ensures d.up d.within d.at c.args.kid c.insert_at-grown.result ps1 below2 p1 c.widen.new.part read c.widen.ensures c.in-Some.more c.place-in-Some.result c.place-in-Some.new.nodes.items c.in-Some.is c.place-in-Some.ensures.attached
+
+pub place-requires-in-Some-clause-sound : goal.place-requires-in-Some-clause-sound
+place-requires-in-Some-clause-sound t c = All-set IsSoundNode c.insert_at-grown.new.nodes.items c.args.node c.widen.new.part c.widen.ensures.sound c.insert_at-grown.ensures.grown.sound

@@ -1,5 +1,6 @@
 use Rattle.std.proofs.Common.{arith, ap, sym, ◌∙◌, subst, refl, List, length, ◌≡◌, get_or, set, ℕ, ◌+◌, ◌<◌, take, true, false, Bool}
 use Rattle.std.specs.Prelude.{sum_by}
+use Rattle.std.specs.Vec.{vec_capacity}
 use Rattle.mob_stbox.specs.Boxes.{BoxOf, contains}
 use Rattle.mob_rtree_nodes.specs.Tree.{Kid, EntryOf, entry_of, target, IsTree, height_at, kids_at, walk_sum, step_sum}
 use Rattle.mob_rtree_nodes.specs.Removes.{hit, IsRemoved, IsShrunk}
@@ -27,7 +28,7 @@ remove_at-removed-requires t c =
     let a = lower_again root old tree n i c.index-part.result.now p c.as_slice.result.now k c.number-number.result c.len-count.result c.requires.there c.index-part.ensures c.if-part-eq0.false c.len-count.ensures.value c.loop-slot-test.true c.loop-slot.nodes.items same c.index.ensures c.as_slice.ensures.value c.index-as_slice-slot.is c.number-number.ensures in
     let lo = a.lower in
     let d = c.decreases in
-    (omega (arith, d, lo.high, lo.here, lo.up, ap (λ ps. height_at ps c.number-number.result) same), ((root, subst (IsTree root) (sym same) tree), omega (arith, lo.there, ap length same)))
+    (omega (arith, d, lo.high, lo.here, lo.up, ap (λ ps. height_at ps c.number-number.result) same), ((root, subst (IsTree root) (sym same) tree), (omega (arith, lo.there, ap length same), (c.loop-slot.invariant.2, omega (arith, c.loop-slot.invariant.3, c.requires.room, ap length same)))))
 
 pub settle_at-requires-clause-slot : goal.settle_at-requires-clause-slot
 settle_at-requires-clause-slot t c =
@@ -172,10 +173,10 @@ loop-slot-preserved t c =
       | then-contains+in-Missing w ↦
           let walk = subst (λ m. walk_sum test 0 (hit e) old (height_at old m) m ≡ 0) w.number-number.ensures (subst (λ ps. walk_sum test 0 (hit e) ps (height_at ps w.number-number.result) w.number-number.result ≡ 0) same w.in-Missing.ensures.removed) in
           let s = step_down test 0 (hit e) old (height_at old n) (height_at old (target k.1)) k up (sym c.contains.ensures.test ∙ w.if-contains.true) in
-          (w.nodes-is ∙ w.in-Missing.ensures.missing refl ∙ c.loop-slot.invariant.0, one_missing test e old n i k a.within a.at (s ∙ walk) c.loop-slot.invariant.1)
+          (w.nodes-is ∙ w.in-Missing.ensures.missing refl ∙ c.loop-slot.invariant.0, one_missing test e old n i k a.within a.at (s ∙ walk) c.loop-slot.invariant.1, rw w.free-is (rw w.nodes-is w.in-Missing.ensures.free), ap vec_capacity w.free-is ∙ w.in-Missing.ensures.free_capacity ∙ c.loop-slot.invariant.3)
       | else-contains w ↦
           let s = step_skip test 0 (hit e) old (height_at old n) k (sym c.contains.ensures.test ∙ w.if-contains.false) in
-          (w.nodes-is ∙ c.loop-slot.invariant.0, one_missing test e old n i k a.within a.at s c.loop-slot.invariant.1)
+          (w.nodes-is ∙ c.loop-slot.invariant.0, one_missing test e old n i k a.within a.at s c.loop-slot.invariant.1, rw w.free-is (rw w.nodes-is c.loop-slot.invariant.2), ap vec_capacity w.free-is ∙ c.loop-slot.invariant.3)
     ]
 
 pub returns-clause-removed : goal.returns-clause-removed
