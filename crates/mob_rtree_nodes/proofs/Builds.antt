@@ -1,6 +1,6 @@
 -- How sums over a forest change where a branch_height is packed.
 use Rattle.std.proofs.Common.{◌≡◌, refl, ℕ, zero, suc, ◌+◌, ◌*◌, ◌<◌, ◌≤◌, Bool, true, false, cond, not, ◌==◌, ◌&&◌, List, [], ◌∷◌, ◌++◌, length, get_or, map, take, arith, ap, sym, ◌∙◌, subst}
-use Rattle.std.specs.Prelude.{All, sum_by, count_by, Result, Ok, Err, OnOk}
+use Rattle.std.specs.Prelude.{All, sum_by, count_by, Result, Ok, Err, OnOk, IfOk}
 use Rattle.std.proofs.lemmas.Bool.{ne_eqb}
 use Rattle.std.proofs.lemmas.Bool.Decides.{nat_tests}
 use Rattle.std.proofs.lemmas.List.Sums.{sum_by-cons, sum_by-append}
@@ -10,7 +10,7 @@ use Rattle.mob_rtree_nodes.specs.Tree.{Kid, EntryOf, entry_of, target, Ref, IsTr
 use Rattle.mob_rtree_nodes.specs.Builds.{kid_of, leaf_sum, IsForest, IsPacking, IsClosed}
 use Rattle.mob_rtree_nodes.specs.declared.node.Child.TheVariants.{Node, Entry}
 use Rattle.mob_rtree_nodes.specs.declared.node.TreeNode.{TreeNode}
-use Rattle.mob_rtree_nodes.proofs.Sums.{live_is}
+use Rattle.mob_rtree_nodes.proofs.Sums.{mapped_sum, live_is}
 use Rattle.mob_rtree_nodes.proofs.Walks.{kids_nil}
 use Rattle.mob_rtree_nodes.proofs.Inserts.{ref_of, links_of, leaf_of, leaf_nil, nodes_append, node_fit}
 use Rattle.mob_rtree_nodes.proofs.Roots.{one_fit, entries_listed}
@@ -146,17 +146,17 @@ entry_fits (e ∷ es) all =
     let o = ap {B = ℕ} (λ b. cond (not (b && true)) 1 0) (All-head (λ e. is_whole e.0 ≡ true) e es all) in
     omega (arith, sum_by-cons w (kid_of e) (map kid_of es), o, entry_fits es (All-tail (λ e. is_whole e.0 ≡ true) e es all))
 
-entry_sums : (g : EntryOf → ℕ) (es : List EntryOf) → sum_by (λ k. g (entry_of k)) (map kid_of es) ≡ sum_by g es
-entry_sums g [] = refl
-entry_sums g (e ∷ es) = omega (arith, sum_by-cons (λ k. g (entry_of k)) (kid_of e) (map kid_of es), sum_by-cons g e es, entry_sums g es)
-
 pub fits_arranged : (kids new : List Kid) → ((f : Kid → ℕ) → sum_by f new ≡ sum_by f kids) → count_by (λ k. not (is_fit 0 k)) kids ≡ 0 → count_by (λ k. not (is_fit 0 k)) new ≡ 0
 fits_arranged kids new same none = same (λ k. cond (not (is_fit 0 k)) 1 0) ∙ none
 
 -- what a built tree has
 pub built_same : (es : List EntryOf) (kids : List Kid) (ps : List TreeNode) → ((f : Kid → ℕ) → sum_by f kids ≡ sum_by f (map kid_of es)) → ((g : EntryOf → ℕ) → entries_sum g ps ≡ entries_sum g [] + leaf_sum g kids 0) → AreSame (entries_list ps) es
-built_same es kids ps same sums g = omega (arith, entries_listed g ps, sums g, same (λ k. g (entry_of k)), entry_sums g es)
+built_same es kids ps same sums g = omega (arith, entries_listed g ps, sums g, same (λ k. g (entry_of k)), mapped_sum (λ k. g (entry_of k)) kid_of es)
 
 pub on_ok : {A B : Type 0} (r : Result A B) (P Q : Type 0) → (P → Q) → OnOk r P → OnOk r Q
 on_ok (Ok a) P Q f h = f h
 on_ok (Err e) P Q f h = h
+
+pub if_ok : {A B : Type 0} (r : Result A B) (P Q : A → Type 0) → ((a : A) → P a → Q a) → IfOk r P → IfOk r Q
+if_ok (Ok a) P Q f h = f a h
+if_ok (Err e) P Q f h = h

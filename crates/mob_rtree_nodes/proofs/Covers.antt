@@ -100,5 +100,8 @@ none_out test xs zs i d made within none =
     let w : Kid → ℕ = λ k. cond (not (test k)) 1 0 in
     omega (arith, ap (sum_by w) made, sum_by-remove w zs i d within, none)
 
+pub none_left : (n : ℕ) → (n == 0) ≡ true → n ≡ 0
+none_left n h = grind (arith, nat_tests)
+
 pub some_left : (n : ℕ) → (n == 0) ≡ false → 0 < n
 some_left n h = grind (arith, nat_tests)

@@ -54,7 +54,7 @@ dropped_at t i (p ∷ ps) h = elim (cases_lt 0 (dropped_sum (λ n. cond (n == t)
 pub popped : (free left : List ℕ) (m : ℕ) (ps : List TreeNode) → free ≡ left ++ m ∷ [] → IsFree free ps → (m < length ps) × (kids_at ps m ≡ [])
 popped free left m ps e by =
     let f : ℕ → ℕ = λ n. cond (n == m) 1 0 in
-    let t = ap (λ b. cond b 1 0) (eq-eqb m m refl) in
+    let t = ap {B = ℕ} (λ b. cond b 1 0) (eq-eqb m m refl) in
     let r = dropped_at m 0 ps (omega (arith, ap (sum_by f) e, sum_by-append f left (m ∷ []), sum_by-cons f m [], t, by f)) in
     let j : r.0 ≡ m = omega (arith, r.1) in
     (omega (arith, r.2, j), ap (kids_at ps) (sym j) ∙ r.3)
@@ -126,8 +126,8 @@ all_live i (p ∷ ps) h = All-cons IsLive p ps (some p.kids.items (omega (arith,
     some (k ∷ ks) h = omega arith
 
 -- where no number is free each node has a child, and where each has one none is
-pub live_of_free : (free : List ℕ) (ps : List TreeNode) → free ≡ [] → IsFree free ps → AreLive ps
-live_of_free free ps none by = all_live 0 ps (omega (arith, by (λ _. 1), ap (sum_by (λ _. 1)) none))
+pub live_of_free : (free : List ℕ) (ps : List TreeNode) → length free ≡ 0 → IsFree free ps → AreLive ps
+live_of_free free ps none by = all_live 0 ps (omega (arith, by (λ _. 1), ones free, none))
 
 none_dropped : (f : ℕ → ℕ) (i : ℕ) (ps : List TreeNode) → AreLive ps → dropped_sum f i ps ≡ 0
 none_dropped f i [] live = refl
@@ -135,6 +135,14 @@ none_dropped f i (p ∷ ps) live = omega (arith, not_dropped p.kids.items (f i) 
 
 pub free_none : (ps : List TreeNode) → AreLive ps → IsFree [] ps
 free_none ps live f = sym (none_dropped f 0 ps live)
+
+-- where there was no node, no number is free
+pub free_first : (free : List ℕ) (ps new : List TreeNode) → length ps ≡ 0 → IsFree free ps → AreLive new → IsFree free new
+free_first free ps new none by live = subst (λ l. IsFree l new) (sym (nil free (omega (arith, ones free, by (λ _. 1), dropped_le 0 ps, none)))) (free_none new live)
+  where
+    nil : (xs : List ℕ) → length xs ≡ 0 → xs ≡ []
+    nil [] h = refl
+    nil (x ∷ xs) h = absurd (omega (arith, h))
 
 -- nodes are used again
 pub reused_trans : (a b c : List TreeNode) → IsReused a b → IsReused b c → IsReused a c

@@ -1,5 +1,5 @@
 -- How sums over a tree change where one child is added.
-use Rattle.std.proofs.Common.{◌≡◌, ◌≢◌, refl, ℕ, zero, suc, ◌+◌, ◌*◌, ◌<◌, ◌≤◌, Bool, true, false, cond, ◌==◌, ◌&&◌, List, [], ◌∷◌, ◌++◌, length, get_or, set, take, arith, ap, sym, ◌∙◌, subst, append-nil, length-append, Option, Some, None, eq-eqb}
+use Rattle.std.proofs.Common.{◌≡◌, ◌≢◌, refl, ℕ, zero, suc, ◌+◌, ◌*◌, ◌<◌, ◌≤◌, Bool, true, false, cond, ◌==◌, ◌&&◌, List, [], ◌∷◌, ◌++◌, length, get_or, set, take, arith, ap, sym, ◌∙◌, subst, append-nil, length-append, Option, Some, None, eq-eqb, inl, inr}
 use Rattle.std.specs.Prelude.{MatchOption}
 use Rattle.std.specs.Prelude.{All, sum_by}
 use Rattle.std.proofs.lemmas.Bool.{ne_eqb}
@@ -107,7 +107,6 @@ pub record PutIn (old : List TreeNode) (r : TreeNode) (m : ℕ) (new : List Tree
   pub nodes : (F : Ref → ℕ) → nodes_sum F 0 new ≡ nodes_sum F 0 old + F (ref_of r m)
   pub refs : (F : Ref → ℕ) → refs_sum F new ≡ refs_sum F old + links_of F r
   pub entries : (g : EntryOf → ℕ) → entries_sum g new ≡ entries_sum g old + leaf_of g r
-  pub all : (P : TreeNode → Type 0) → All P old → P r → All P new
   pub others : (i : ℕ) (q : TreeNode) → i < length old → 0 < length q.kids.items → q ≡ get_or old i q → q ≡ get_or new i q
   pub longer : length old ≤ length new
   pub few : length new ≤ length old + 1
@@ -120,7 +119,6 @@ put_over old r m live inside none =
       nodes = λ F. omega (arith, nodes_set F m 0 m old p.0 r (omega arith) inside p.1, live_is r.kids.items (F (ref_of r m)) live, ap (λ l. if_live l (F (ref_of p.0 m))) kids);
       refs = λ F. omega (arith, sum_by-set (links_of F) old m r p.0 inside, ap (links_of F) p.1, ap (kids_sum F p.0.height) kids, kids_nil F p.0.height);
       entries = λ g. omega (arith, sum_by-set (leaf_of g) old m r p.0 inside, ap (leaf_of g) p.1, ap (λ l. leaf_sum g l p.0.height) kids, leaf_nil g p.0.height);
-      all = λ P all one. All-set P old m r one all;
       others = λ i q h q-live is. is ∙ sym (get_or-set_other old m i r q (λ i-m. absurd (omega (arith, q-live, ap (λ (l : List Kid). length l) (sym (kids_of old i q h is) ∙ ap (kids_at old) i-m ∙ none)))));
       longer = omega (arith, length-set old m r);
       few = omega (arith, length-set old m r);
@@ -134,7 +132,6 @@ put_behind old r live = record {
       omega (arith, nodes_append F 0 old (r ∷ []), m, live_is r.kids.items (F (ref_of r (length old))) live);
   refs = λ F. omega (arith, sum_by-append (links_of F) old (r ∷ []), sum_by-cons (links_of F) r []);
   entries = λ g. omega (arith, sum_by-append (leaf_of g) old (r ∷ []), sum_by-cons (leaf_of g) r []);
-  all = λ P all one. All-append P old (r ∷ []) all (All-cons P r [] one (All-nil P));
   others = λ i q h q-live is. is ∙ sym (get_or_append_left old (r ∷ []) q i h);
   longer = omega (arith, length-append old (r ∷ []));
   few = omega (arith, length-append old (r ∷ []));
@@ -144,6 +141,13 @@ pub put_in : (old : List TreeNode) (r : TreeNode) (m : ℕ) (new : List TreeNode
 put_in old r m new live by = elim by [
   | inl o ↦ subst (PutIn old r m) (sym o.2) (put_over old r m live o.0 o.1)
   | inr b ↦ subst (λ m. PutIn old r m new) (sym b.0) (subst (PutIn old r (length old)) (sym b.1) (put_behind old r live))
+]
+
+-- what holds of each node still does
+pub put_all : (P : TreeNode → Type 0) (old : List TreeNode) (r : TreeNode) (m : ℕ) (new : List TreeNode) → IsPut old r m new → All P old → P r → All P new
+put_all P old r m new by all one = elim by [
+  | inl o ↦ subst (All P) (sym o.2) (All-set P old m r one all)
+  | inr b ↦ subst (All P) (sym b.1) (All-append P old (r ∷ []) all (All-cons P r [] one (All-nil P)))
 ]
 
 attached_two : (old : List TreeNode) (n : ℕ) (p part r : TreeNode) (number : ℕ) (kid : Kid) (grown : Grown) (new : List TreeNode) → n < length old → p ≡ get_or old n p → 0 < length p.kids.items → 0 < length part.kids.items → 0 < length r.kids.items
@@ -157,8 +161,8 @@ attached_two old n p part r number kid grown new inside is p-live part-live r-li
       nodes = λ F. omega (arith, last.nodes F, nodes_set F n 0 n old p part (omega arith) inside is, live_is p.kids.items (F (ref_of p n)) p-live, live_is part.kids.items (F (ref_of part n)) part-live, ap (λ a. F (record { area = a; node = n; height = p.height })) area, ap (λ h. F (record { area = part.area; node = n; height = h })) same, ap (more_sum F p.height) some, ap (λ h. F (record { area = r.area; node = number; height = h })) r-same);
       refs = λ F. omega (arith, last.refs F, sum_by-set (links_of F) old n part p inside, ap (links_of F) is, kids_parted F p.height part.kids.items r.kids.items p.kids.items kid kids, ap (λ h. kids_sum F h part.kids.items) same, ap (λ h. kids_sum F h r.kids.items) r-same);
       entries = λ g. omega (arith, last.entries g, sum_by-set (leaf_of g) old n part p inside, ap (leaf_of g) is, leaf_parted p.height g part.kids.items r.kids.items p.kids.items kid kids, ap (leaf_sum g part.kids.items) same, ap (leaf_sum g r.kids.items) r-same);
-      sound = λ all. last.all IsSoundNode (All-set IsSoundNode old n part sound all) r-sound;
-      low = λ m all. last.all (λ p. p.height ≤ m) (All-set (λ p. p.height ≤ m) old n part (low_one m n old p part inside is same all) all) (low_one m n old p r inside is r-same all);
+      sound = λ all. put_all IsSoundNode (set old n part) r number new made (All-set IsSoundNode old n part sound all) r-sound;
+      low = λ m all. put_all (λ p. p.height ≤ m) (set old n part) r number new made (All-set (λ p. p.height ≤ m) old n part (low_one m n old p part inside is same all) all) (low_one m n old p r inside is r-same all);
       others = λ i q h q-live no' e. last.others i q (omega (arith, len, h)) q-live (e ∙ sym (get_or-set_other old n i part q no'));
       longer = omega (arith, len, last.longer);
       few = omega (arith, len, last.few);
@@ -375,9 +379,9 @@ lower root ps tree n i p kids k number inside is same within at say up =
     }
 
 -- a node whose child's box was written anew has a child still
-pub record StillLive (free : List ℕ) (ps : List TreeNode) (n : ℕ) (part : TreeNode) : Type 0 where
+pub record StillLive (frees : List ℕ) (ps : List TreeNode) (n : ℕ) (part : TreeNode) : Type 0 where
   pub live : 0 < length (kids_at (set ps n part) n)
-  pub free : IsFree free (set ps n part)
+  pub free : IsFree frees (set ps n part)
   pub reused : IsReused ps (set ps n part)
 
 pub still_live : (free : List ℕ) (ps : List TreeNode) (n i : ℕ) (p part : TreeNode) (k : Kid) (area : BoxOf) → n < length ps → p ≡ get_or ps n p → i < length p.kids.items → IsReplaced p i area part → IsFree free ps → StillLive free ps n part

@@ -12,7 +12,7 @@ use Rattle.mob_rtree_nodes.specs.Reach.{Branch, branch_of, root_number, children
 use Rattle.mob_rtree_nodes.specs.declared.node.Child.{Child}
 use Rattle.mob_rtree_nodes.specs.declared.node.Child.TheVariants.{Node, Entry}
 use Rattle.mob_rtree_nodes.specs.declared.node.TreeNode.{TreeNode}
-use Rattle.mob_rtree_nodes.proofs.Sums.{kids_of, height_of, node_at, sound_at}
+use Rattle.mob_rtree_nodes.proofs.Sums.{mapped_sum, kids_of, height_of, node_at, sound_at}
 use Rattle.mob_rtree_nodes.proofs.Covers.{none_fails}
 use Rattle.mob_rtree_nodes.proofs.Walks.{tied_same, tied_height, alive}
 use Rattle.mob_rtree_nodes.proofs.Roots.{root_there, root_height, root_alive, walk_entries}
@@ -27,10 +27,6 @@ level_is [] n = refl
 level_is (p ∷ ps) zero = refl
 level_is (p ∷ ps) (suc n) = level_is ps n
 
-mapped : (g : EntryOf → ℕ) (kids : List Kid) → sum_by g (map entry_of kids) ≡ sum_by (λ k. g (entry_of k)) kids
-mapped g [] = refl
-mapped g (k ∷ kids) = omega (arith, sum_by-cons g (entry_of k) (map entry_of kids), sum_by-cons (λ k. g (entry_of k)) k kids, mapped g kids)
-
 flat_sum : {X Y : Type 0} (g : Y → ℕ) (f : X → List Y) (v : X → ℕ) → ((x : X) → sum_by g (f x) ≡ v x) → (xs : List X) → sum_by g (flat_map f xs) ≡ sum_by v xs
 flat_sum g f v says [] = refl
 flat_sum g f v says (x ∷ xs) = omega (arith, ap (sum_by g) (flat_map-cons f x xs), sum_by-append g (f x) (flat_map f xs), sum_by-cons v x xs, says x, flat_sum g f v says xs)
@@ -38,7 +34,7 @@ flat_sum g f v says (x ∷ xs) = omega (arith, ap (sum_by g) (flat_map-cons f x 
 -- the entries below a node, as a walk sums them up
 pub gathered_sum : (g : EntryOf → ℕ) (ps : List TreeNode) (h n : ℕ) → sum_by g (gathered (map branch_of ps) h n) ≡ walk_sum (λ _. true) 0 g ps h n
 unfolding gathered walk_sum
-gathered_sum g ps zero n = omega (arith, ap (λ l. sum_by g (map entry_of l)) (children_is ps n), mapped g (kids_at ps n))
+gathered_sum g ps zero n = omega (arith, ap (λ l. sum_by g (map entry_of l)) (children_is ps n), mapped_sum g entry_of (kids_at ps n))
 gathered_sum g ps (suc h) n =
     let bs = map branch_of ps in
     omega (

@@ -12,10 +12,10 @@ use Rattle.mob_rtree_nodes.specs.declared.node.TreeNode.{TreeNode}
 use Rattle.mob_rtree_nodes.specs.declared.node.Child.TheVariants.{Node}
 use Rattle.mob_rtree_nodes.specs.declared.insert.Grown.{Grown}
 use Rattle.mob_stbox.proofs.BoxLaws.{cover_whole, cover_over_left, cover_over_right, cover_least, over_self, over_overlaps}
-use Rattle.mob_rtree_nodes.proofs.Sums.{live_le, live_some, live_is, live_zero, kids_of, height_of, node_at, nodes_none, nodes_one, same_sums, zero_sum}
+use Rattle.mob_rtree_nodes.proofs.Sums.{mapped_sum, live_le, live_some, live_is, live_zero, kids_of, height_of, node_at, nodes_none, nodes_one, same_sums, zero_sum}
 use Rattle.mob_rtree_nodes.proofs.Covers.{left_true}
 use Rattle.mob_rtree_nodes.proofs.Walks.{self_is, walk_all, own_upto, entries_of}
-use Rattle.mob_rtree_nodes.proofs.Inserts.{node_fit, put_in, ref_of, links_of, leaf_of}
+use Rattle.mob_rtree_nodes.proofs.Inserts.{node_fit, put_in, put_all, ref_of, links_of, leaf_of}
 
 one_same : (x y : ℕ) → 1 ≤ cond (x == y) 1 0 → x ≡ y
 one_same x y h = grind (arith, nat_tests)
@@ -92,14 +92,14 @@ tree_some root old tree kid g new by m some r kids height area number after put 
           let f : Kid → ℕ = λ k. F (record { area = k.0; node = target k.1; height = root.height }) in
           let a : links_of F r ≡ sum_by f (k ∷ m ∷ []) = ap (λ h. kids_sum F h r.kids.items) (height ∙ more_one root.height) ∙ ap (sum_by f) kids in
           omega (arith, grown_once root old tree kid g new by F, ap (more_sum F root.height) some, last.nodes F, last.refs F, a, sum_by-cons f k (m ∷ []), sum_by-cons f m [], ap (λ h. F (record { area = r.area; node = number; height = h })) height);
-      sound = last.all IsSoundNode by.sound (record {
+      sound = put_all IsSoundNode new r number after put by.sound (record {
         whole = ap is_whole area ∙ cover_whole g.area m.0 by.whole m-whole;
         least = λ live. subst (IsLeast r.area) (sym kids) (λ d all. ap (contains d) area ∙ cover_least g.area m.0 d (all 0 k (omega arith)) (all 1 k (omega arith)));
         fit = ap (λ (l : List Kid). count_by (λ k. not (is_fit r.height k)) l) kids ∙ two_fit r.height k m (ap (λ h. is_fit h k) height ∙ node_fit root.height root.node g.area by.whole) (ap (λ h. is_fit h m) height ∙ m-fit);
         over = subst (λ l. All (λ k. contains r.area k.0 ≡ true) l) (sym kids)
             (All-cons (λ k. contains r.area k.0 ≡ true) k (m ∷ []) (ap (λ a. contains a g.area) area ∙ cover_over_left g.area m.0) (All-cons (λ k. contains r.area k.0 ≡ true) m [] (ap (λ a. contains a m.0) area ∙ cover_over_right g.area m.0) (All-nil (λ k. contains r.area k.0 ≡ true))));
       });
-      low = last.all (λ p. p.height ≤ root.height + 1) (All-weaker (λ p. p.height ≤ root.height) (λ p. p.height ≤ root.height + 1) (λ p h. omega (arith, h)) new (by.low root.height tree.low)) low_r;
+      low = put_all (λ p. p.height ≤ root.height + 1) new r number after put (All-weaker (λ p. p.height ≤ root.height) (λ p. p.height ≤ root.height + 1) (λ p h. omega (arith, h)) new (by.low root.height tree.low)) low_r;
     }
   where
     more_one : (h : ℕ) → h + 1 ≡ suc h
@@ -112,12 +112,8 @@ entries_listed g (p ∷ ps) =
     let a = ap (sum_by g) (flat_map-cons (λ p. cond (p.height == 0) (map entry_of p.kids.items) []) p ps) in
     omega (arith, a, sum_by-append g (cond (p.height == 0) (map entry_of p.kids.items) []) (entries_list ps), sum_by-cons (leaf_of g) p ps, by_test (p.height == 0), entries_listed g ps)
   where
-    mapped : (kids : List Kid) → sum_by g (map entry_of kids) ≡ sum_by (λ k. g (entry_of k)) kids
-    mapped [] = refl
-    mapped (k ∷ kids) = omega (arith, sum_by-cons g (entry_of k) (map entry_of kids), sum_by-cons (λ k. g (entry_of k)) k kids, mapped kids)
-
     by_test : (b : Bool) → sum_by g (cond b (map entry_of p.kids.items) []) ≡ cond b (sum_by (λ k. g (entry_of k)) p.kids.items) 0
-    by_test true = mapped p.kids.items
+    by_test true = mapped_sum g entry_of p.kids.items
     by_test false = refl
 
 -- the entries that pass, as a walk sums them up

@@ -1,5 +1,5 @@
 -- Sums over the nodes of a tree.
-use Rattle.std.proofs.Common.{◌≡◌, refl, ℕ, zero, ◌+◌, ◌*◌, ◌<◌, ◌≤◌, Bool, true, false, cond, ◌&&◌, ◌==◌, List, [], ◌∷◌, ◌++◌, length, get_or, set, arith, ap, sym, ◌∙◌, eq-eqb, suc, subst}
+use Rattle.std.proofs.Common.{◌≡◌, refl, ℕ, zero, ◌+◌, ◌*◌, ◌<◌, ◌≤◌, Bool, true, false, cond, ◌&&◌, ◌==◌, List, [], ◌∷◌, ◌++◌, length, get_or, set, map, arith, ap, sym, ◌∙◌, eq-eqb, suc, subst}
 use Rattle.std.proofs.lemmas.Bool.{ne_eqb}
 use Rattle.std.specs.Prelude.{All, sum_by}
 use Rattle.std.proofs.lemmas.List.Sums.{sum_by-cons, sum_by-append, sum_by-set, get_or-le-sum_by}
@@ -19,6 +19,10 @@ zero_sum f P says (x ∷ xs) all = omega (arith, sum_by-cons f x xs, says x (All
 pub joined_sums : {X : Type 0} (f g : X → ℕ) (xs : List X) → sum_by (λ x. f x + g x) xs ≡ sum_by f xs + sum_by g xs
 joined_sums f g [] = refl
 joined_sums f g (x ∷ xs) = omega (arith, sum_by-cons f x xs, sum_by-cons g x xs, sum_by-cons (λ x. f x + g x) x xs, joined_sums f g xs)
+
+pub mapped_sum : {X Y : Type 0} (f : Y → ℕ) (g : X → Y) (xs : List X) → sum_by f (map g xs) ≡ sum_by (λ x. f (g x)) xs
+mapped_sum f g [] = refl
+mapped_sum f g (x ∷ xs) = omega (arith, sum_by-cons f (g x) (map g xs), sum_by-cons (λ x. f (g x)) x xs, mapped_sum f g xs)
 
 pub live_zero : (kids : List Kid) → if_live kids 0 ≡ 0
 live_zero [] = refl

@@ -1,5 +1,5 @@
 //! How an entry is taken out below a node.
-ghost use Rattle.std.specs.Prelude.{◌≡◌, ◌≢◌, ℕ, ◌+◌, ◌<◌, sum_by, count_by, length, List, All, set, get_or, MatchOption, true, []};
+ghost use Rattle.std.specs.Prelude.{◌≡◌, ◌≢◌, ℕ, ◌+◌, ◌<◌, ◌≤◌, sum_by, count_by, length, List, All, set, get_or, MatchOption, true, []};
 ghost use Rattle.std.specs.Vec.{vec_capacity};
 ghost use Rattle.mob_stbox.specs.Boxes.{contains, is_whole};
 ghost use Rattle.mob_rtree_nodes.specs.Tree.{IsTree, IsSoundNode, IsFree, Ref, Kid, kids_at, height_at};

@@ -75,6 +75,26 @@ pub fn put_first(nodes: &mut Vec<TreeNode>, kid: (StBox, Child)) -> Root
     }
 }
 
+/// Adds an entry, be there one or none.
+pub fn put_any(nodes: &mut Vec<TreeNode>, free: &mut Vec<u32>, root: Root, kid: (StBox, Child)) -> Root
+    requires tree { (0 < length nodes.old.items) → IsTree (ref root) nodes.old.items }
+    requires fit { is_fit 0 kid ≡ true }
+    requires free { IsFree free.old.items nodes.old.items }
+    requires small { length nodes.old.items + root.height + 2 ≤ 2 ^ 32 }
+    requires room { vec_len nodes.old + root.height + 2 ≤ vec_capacity nodes.old }
+    ensures tree { IsTree (ref result) nodes.new.items }
+    ensures entries { IsAdded (entries_list nodes.old.items) (entry_of kid) (entries_list nodes.new.items) }
+    ensures free { IsFree free.new.items nodes.new.items }
+    ensures reused { IsReused nodes.old.items nodes.new.items }
+    ensures few { length nodes.new.items ≤ length nodes.old.items + root.height + 2 }
+    ensures free_capacity { vec_capacity free.new ≡ vec_capacity free.old }
+{
+    if nodes.is_empty() {
+        return put_first(nodes, kid);
+    }
+    put(nodes, free, root, kid)
+}
+
 /// Appends the ids of the entries that overlap a box, in rising order.
 pub fn gather<L: Ledger>(
     nodes: &[TreeNode],
