@@ -24,11 +24,13 @@ use Rattle.mob_slice.specs.Slices.{value_at, IsSound, IsOrdered, IsNormal}
 use Rattle.mob_slice.specs.declared.line.PlaneLine.{PlaneLine}
 use Rattle.mob_slice.specs.declared.slice.Slice.{Slice}
 use Rattle.mob_slice.proofs.Orders.{ordered, ordered-clear}
-use Rattle.mob_stbox.specs.Areas.{InArea, area_over, area_between, is_area, smaller, greater}
+use Rattle.mob_stbox.specs.Areas.{InArea, area_over, area_between, is_area}
 use Rattle.mob_stbox.specs.Boxes.{BoxOf, InBox, is_box, is_whole, contains, lies_in, cover}
 use Rattle.mob_stbox.specs.declared.area.Area.{Area}
 use Rattle.mob_stbox.proofs.BoxLaws.{in_contained, contains_is, over_self, over_trans, cover_over_left, cover_over_right, cover_least, cover_whole, cover_is_box, one_box}
-use Rattle.mob_stbox.proofs.Sides.{four, all_four, in_area_exact, smaller_left, smaller_right, greater_left, greater_right, between_least, between_is_area}
+use Rattle.mob_plane.specs.Corners.{smaller, greater}
+use Rattle.mob_plane.proofs.Widening.{smaller_left, smaller_right, greater_left, greater_right}
+use Rattle.mob_stbox.proofs.Sides.{four, all_four, in_area_exact, between_least, between_is_area}
 use Rattle.mob_value.specs.ValueBoxes.{HasPositions, IsBoxOf, slice_box, covered, value_box}
 
 abbrev start : PlaneLine → Point
