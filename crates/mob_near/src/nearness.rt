@@ -126,13 +126,13 @@ pub fn approach_squared(
     ensures value { IfOk result (IsApproach (given_at plane_value_of (operand_of a.entry)) (given_at plane_value_of (operand_of b.entry))) }
     ensures first { IsDecided (flat_map entries_of_approach (pieces (operand_of a.entry) (operand_of b.entry))) result }
 {
-    let mut found = None;
+    let mut nearest = None;
     for piece in Pieces::new(a, b) {
         let here = match piece_approach(alloc, &piece) {
             Ok(here) => here,
             Err(passed) => return Err(passed),
         };
-        found = Some(nearest_of(found, here));
+        nearest = Some(nearest_of(nearest, here));
     }
-    Ok(found)
+    Ok(nearest)
 }
