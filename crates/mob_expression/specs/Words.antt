@@ -33,7 +33,7 @@ type_named name (Some inner) = if bytes_eq name (codes "geometry") then type_amo
 abbrev pub number_type : List ℕ → SqlType
 number_type s = if list_all is_ascii_digit s then sql.Int else sql.Numeric
 
--- whether a number is 0: no digit of it is another than 0, those of an exponent aside
+-- whether a number is 0: no digit of it before any exponent and any slash is another than 0
 abbrev pub is_zero : List ℕ → Bool
 is_zero s = not (has_figure s)
 

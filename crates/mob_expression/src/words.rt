@@ -90,7 +90,7 @@ pub fn has_digits_alone(text: &[u8]) -> bool
     text.iter().all(|b| b.is_ascii_digit())
 }
 
-/// Whether a number is 0: no digit of it is another than 0, those of an exponent aside.
+/// Whether a number is 0: no digit of it before any exponent and any slash is another than 0.
 pub fn is_zero(text: &str) -> bool
     ensures zero { result ≡ is_zero text.now }
 {
