@@ -36,7 +36,10 @@ fn is_read(alloc: Global, text: &str, wanted: &str) -> bool {
 
 // A text, and what is printed of the polygon that it says, or why it says none.
 static TEXTS: [(&'static str, &'static str); 10] = [
-    ("POLYGON((2 0,3 1,2 2,1 1,2 0))", "POLYGON((2 0,3 1,2 2,1 1,2 0))"),
+    (
+        "POLYGON((2 0,3 1,2 2,1 1,2 0))",
+        "POLYGON((2 0,3 1,2 2,1 1,2 0))",
+    ),
     // letters of either case, and blanks
     (
         " srid=0 ; polygon ( ( 0 0 , 1 0 , 0 1 , 0 0 ) ) ",
