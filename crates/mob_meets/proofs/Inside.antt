@@ -1,18 +1,18 @@
 -- A point inside closed rings lies in each area that has their corners.
-use Rattle.std.proofs.Common.{◌≡◌, Bool, true, false, not, ◌&&◌, ◌||◌, List, [], ◌∷◌, ◌++◌, Option, Some, None, arith, refl, sym, ap, ◌∙◌, subst, true≢false}
-use Rattle.std.specs.Prelude.{All, ℕ, zero, suc, length, slice_get, IfSome, ◌-◌}
+use Rattle.std.proofs.Common.{◌≡◌, Bool, true, false, not, ◌&&◌, ◌||◌, List, [], ◌∷◌, ◌++◌, Option, Some, arith, refl, sym, ap, ◌∙◌, subst, inl, inr, true≢false}
+use Rattle.std.specs.Prelude.{All, suc, length, slice_get, ◌-◌}
 use Rattle.std.specs.List.{AllByRecursion, list_any}
 use Rattle.mob_ratio.specs.Ratio.{Ratio, ◌+ℚ◌, ◌-ℚ◌, neg_ℚ, ◌*ℚ◌, ◌<ℚ◌, ◌≤ℚ◌}
-use Rattle.mob_ratio.specs.Order.{before, up_to, same}
+use Rattle.mob_ratio.specs.Order.{before, up_to}
 use Rattle.mob_ratio.specs.Sign.{nil}
 use Rattle.mob_ratio.proofs.IntRing.{linear}
-use Rattle.mob_ratio.proofs.Clear.{clear1, clear2, clear6, cleared}
+use Rattle.mob_ratio.proofs.Clear.{clear1, clear6, cleared}
 use Rattle.mob_ratio.proofs.Field.{cases_lt}
-use Rattle.mob_ratio.proofs.Order.{lt-before, before-lt, up_to-le, le-up_to, not-up_to-le, before-back, before-trans, before-neither}
+use Rattle.mob_ratio.proofs.Order.{lt-before, before-lt, up_to-le, before-back, before-trans, before-neither}
 use Rattle.mob_quadratic.proofs.Convex.{mul_lt, mul_le, sub_lt, sub_le, add_lt_le, lt_le, le_lt}
 use Rattle.mob_plane.specs.Corners.{all_points}
-use Rattle.mob_plane.specs.EdgeWise.{signs_at, signs_to, is_on, crosses, some_on, odd_cross, inside_by}
-use Rattle.mob_plane.specs.Membership.{inside, lies_between, lies_on, is_one_alone, passes_height, passes_right, crossing_at}
+use Rattle.mob_plane.specs.EdgeWise.{signs_at, signs_to, is_on, crosses, some_on, odd_cross}
+use Rattle.mob_plane.specs.Membership.{inside, lies_between, lies_on, is_one_alone, passes_right, crossing_at}
 use Rattle.mob_plane.specs.Points.{same_point, same_point_exact}
 use Rattle.mob_plane.specs.Rings.{edges, all_edges, are_one, is_open_ring, has_open}
 use Rattle.mob_plane.specs.Turns.{turn}
@@ -246,9 +246,9 @@ each_closed (r ∷ rs) h = let n = neither (is_open_ring r) (list_any is_open_ri
 -- a number that cannot be before another is at or past it
 never_before : (s t : Ratio) → (before t s ≡ true → ⊥) → s ≤ℚ t
 never_before s t f = elim (cases_lt t s) [
-    inl l ↦ absurd (f (lt-before t s l))
-    | inr r ↦ r
-    ]
+  | inl l ↦ absurd (f (lt-before t s l))
+  | inr r ↦ r
+]
 
 pub inside_in : (a : Area) (rings : List (List Point)) (p : Point) → has_open rings ≡ false → All (InArea a) (all_points rings) → inside rings p ≡ true → InArea a p
 inside_in a rings p closed all k =

@@ -1,19 +1,19 @@
 -- Boxes of polygons, and the one box by which a value is looked for.
-use Rattle.std.proofs.Common.{◌≡◌, Bool, true, false, List, Option, Some, None, arith, refl, sym, ap, ◌∙◌, subst}
+use Rattle.std.proofs.Common.{◌≡◌, true, false, List, Option, Some, None, arith, refl, sym, ap, ◌∙◌, subst}
 use Rattle.std.specs.Prelude.{All, IfSome, is_some, ◌&&◌, ◌||◌}
 use Rattle.std.proofs.lemmas.List.Elements.{All-contains}
 use Rattle.mob_ratio.specs.Ratio.{Ratio}
-use Rattle.mob_ratio.specs.Order.{before, up_to}
+use Rattle.mob_ratio.specs.Order.{up_to}
 use Rattle.mob_ratio.proofs.Order.{before-neither, not-up_to-le}
+use Rattle.mob_span.specs.Span.{SpanOf, InSpan}
 use Rattle.mob_plane.specs.Corners.{all_points, AreCorners, IsLeastAmong, IsGreatestAmong}
 use Rattle.mob_plane.specs.Membership.{inside}
 use Rattle.mob_plane.specs.Points.{point_by_coordinates}
 use Rattle.mob_plane.specs.Rings.{has_open}
 use Rattle.mob_plane.specs.declared.point.Point.{Point as PointOf}
 use Rattle.mob_stbox.specs.Areas.{InArea}
-use Rattle.mob_stbox.specs.Boxes.{BoxOf, BoxesMeet, InBox, both_have}
+use Rattle.mob_stbox.specs.Boxes.{BoxOf, BoxesMeet, both_have}
 use Rattle.mob_stbox.specs.declared.area.Area.{Area}
-use Rattle.mob_value.specs.ValueBoxes.{HasBox}
 use Rattle.mob_value.specs.declared.value.Value.{Value}
 use Rattle.mob_value.specs.declared.value.Value.TheVariants.{Point, Polygon}
 use Rattle.mob_value.proofs.ValueBoxes.{one_own_box}
@@ -41,12 +41,12 @@ entered place b rings least greatest covers s closed corners t p e k =
     record {
       share = ap (λ o. (is_some o && true) || both_have b.time None) x.1;
       in_space = subst (λ o. IfSome o (λ z. (r : PointOf) × InArea z r × InArea a r)) (sym x.1) (p, there, within);
-      in_time = no_time b.time;
+      in_time = no_time b.time None refl;
     }
   where
-    no_time : {A B : Type 0} {P : A → B → Type 0} (o : Option A) → IfSome o (λ s. IfSome (the (Option B) None) (λ r. P s r))
-    no_time None = tt
-    no_time (Some s) = tt
+    no_time : (o r : Option SpanOf) → r ≡ None → IfSome o (λ s. IfSome r (λ z. (u : Ratio) × InSpan s u × InSpan z u))
+    no_time None r e = tt
+    no_time (Some s) r e = subst (λ w. IfSome w (λ z. (u : Ratio) × InSpan s u × InSpan z u)) (sym e) tt
 
 -- ---- there is one
 

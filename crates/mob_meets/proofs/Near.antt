@@ -1,7 +1,7 @@
 -- What is near in the plane is near by each coordinate; so boxes meet.
-use Rattle.std.proofs.Common.{◌≡◌, Bool, true, inl, inr, Option, Some, None, arith, refl, sym, ap, ◌∙◌, subst}
+use Rattle.std.proofs.Common.{◌≡◌, true, inl, inr, Option, Some, None, arith, refl, sym, ap, ◌∙◌, subst}
 use Rattle.std.specs.Prelude.{IfSome, is_some, cond, ◌||◌, ◌&&◌}
-use Rattle.mob_ratio.specs.Ratio.{Ratio, ◌+ℚ◌, ◌-ℚ◌, neg_ℚ, ◌*ℚ◌, ◌<ℚ◌, ◌≤ℚ◌}
+use Rattle.mob_ratio.specs.Ratio.{Ratio, ◌+ℚ◌, ◌-ℚ◌, ◌*ℚ◌, ◌<ℚ◌, ◌≤ℚ◌}
 use Rattle.mob_ratio.specs.Order.{up_to}
 use Rattle.mob_ratio.specs.Sign.{nil}
 use Rattle.mob_ratio.proofs.IntRing.{linear}
@@ -28,14 +28,14 @@ part_le = clear2 _ (λ D x y p h. let h' = simp cleared at h in simp cleared (om
 -- a number whose square is at most that of d is at most d
 root_le : (u d : Ratio) → nil ≤ℚ d → (u *ℚ u) ≤ℚ (d *ℚ d) → u ≤ℚ d
 root_le u d h k = elim (cases_lt d u) [
-    inl l ↦
-        let above : nil <ℚ u = le_lt nil d u h l in
-        let one : (d *ℚ u) <ℚ (u *ℚ u) = lt_mul_pos d u u above l in
-        let two : (d *ℚ d) ≤ℚ (u *ℚ d) = le_mul_pos d u d h (le_of_lt d u l) in
-        let three : (d *ℚ d) ≤ℚ (d *ℚ u) = le_trans (d *ℚ d) (u *ℚ d) (d *ℚ u) two (le_of_eq _ _ (mul_comm u d)) in
-        absurd (not_both (d *ℚ d) (u *ℚ u) (le_lt (d *ℚ d) (d *ℚ u) (u *ℚ u) three one) k)
-    | inr r ↦ r
-    ]
+  | inl l ↦
+      let above : nil <ℚ u = le_lt nil d u h l in
+      let one : (d *ℚ u) <ℚ (u *ℚ u) = lt_mul_pos d u u above l in
+      let two : (d *ℚ d) ≤ℚ (u *ℚ d) = le_mul_pos d u d h (le_of_lt d u l) in
+      let three : (d *ℚ d) ≤ℚ (d *ℚ u) = le_trans (d *ℚ d) (u *ℚ d) (d *ℚ u) two (le_of_eq _ _ (mul_comm u d)) in
+      absurd (not_both (d *ℚ d) (u *ℚ u) (le_lt (d *ℚ d) (d *ℚ u) (u *ℚ u) three one) k)
+  | inr r ↦ r
+]
 
 other_way : (p q : Ratio) → (q -ℚ p) *ℚ (q -ℚ p) ≡ (p -ℚ q) *ℚ (p -ℚ q)
 other_way = clear2 _ (λ D x y p. simp cleared (omega (arith, linear)))
@@ -86,7 +86,6 @@ near_first a p q d h i = near_second a q p d (within_back d p q h) i
 
 -- ---- boxes
 
-
 -- the box of the second, moved outward, beside that of the first; t is an instant at which both are somewhere
 wide_meets : (b c : BoxOf) (x y : Area) (t d : Ratio) (p q : Point) → b.space ≡ Some x → c.space ≡ Some y → InBox b t p → InBox c t q → are_within d p q ≡ true → (wide : BoxOf) × (expanded c d ≡ Some wide) × BoxesMeet b wide
 wide_meets b c x y t d p q eb ec ib ic near =
@@ -95,14 +94,15 @@ wide_meets b c x y t d p q eb ec ib ic near =
     let inx : InArea x p = subst (λ o. IfSome o (λ a. InArea a p)) eb ib.in_space in
     let iny : InArea y q = subst (λ o. IfSome o (λ a. InArea a q)) ec ic.in_space in
     let there : InArea moved p = near_first y p q d near iny in
-    let stands : is_area moved ≡ true = (area_has_point moved).1 (p, there) in
-    ( wide
-    , ap (λ o. moved_space o c.time d) ec ∙ ap (λ z. cond z (Some wide) None) stands
-    , record {
+    let stands : is_area moved ≡ true = (area_has_point moved).1 (p, there) in (
+      wide,
+      ap (λ o. moved_space o c.time d) ec ∙ ap (λ z. cond z (Some wide) None) stands,
+      record {
         share = ap (λ o. (is_some o && true) || both_have b.time c.time) eb;
         in_space = subst (λ o. IfSome o (λ a. (r : Point) × InArea a r × InArea moved r)) (sym eb) (p, inx, there);
         in_time = both_times b.time c.time t ib.in_time ic.in_time;
-      })
+      },
+    )
   where
     both_times : (s r : Option SpanOf) (t : Ratio) → IfSome s (λ z. InSpan z t) → IfSome r (λ z. InSpan z t) → IfSome s (λ z. IfSome r (λ w. (u : Ratio) × InSpan z u × InSpan w u))
     both_times None r t h k = tt

@@ -1,5 +1,5 @@
 -- Boxes of what is somewhere at some instants, and the box by which a value is looked for.
-use Rattle.std.specs.Prelude.{◌≡◌, List, Option, Some, None, IfSome}
+use Rattle.std.specs.Prelude.{◌≡◌, Option, Some, None, IfSome}
 use Rattle.mob_ratio.specs.Ratio.{Ratio}
 use Rattle.mob_plane.specs.Corners.{all_points, AreCorners}
 use Rattle.mob_plane.specs.declared.point.Point.{Point as PointOf}
