@@ -56,6 +56,35 @@ fn next_number(tables: &[Table], table: u32) -> Result<u32, AllocError>
     }
 }
 
+// Makes room for more items behind those of a list.
+fn make_room<T>(alloc: Global, items: &mut Items<T>, more: usize) -> Result<(), AllocError>
+where
+    T: Drop,
+    ensures same { items.new ≡ items.old }
+{
+    let mut all = mem::replace(items, Items::new(alloc)).into_vec();
+    let made = all.reserve(more);
+    *items = Items::from_vec(all);
+    made
+}
+
+// Makes room for more rows behind those of a table that is there.
+fn room_for_rows(
+    alloc: Global,
+    tables: &mut Items<Table>,
+    table: u32,
+    more: usize,
+) -> Result<(), AllocError>
+    requires there { table < length tables.old }
+    ensures same { tables.new ≡ tables.old }
+{
+    let nothing = Items::new(alloc);
+    let mut all = mem::replace(tables, nothing).into_vec();
+    let made = make_room(alloc, &mut all[table as usize].rows, more);
+    *tables = Items::from_vec(all);
+    made
+}
+
 // Puts a row behind those of a table that is there.
 fn push_row(
     alloc: Global,
@@ -126,6 +155,18 @@ impl Catalog {
                 Err(error)
             }
         }
+    }
+
+    /// Makes room at once for this many more rows of the table with this number, so that those of a whole file take no more memory than
+    /// they need; a table that is not there gets none. The catalogue stays as it was.
+    pub fn reserve_rows(&mut self, table: u32, more: usize) -> Result<(), AllocError>
+        ensures same { self.new ≡ self.old }
+    {
+        if table as usize >= self.heads.len() {
+            return Ok(());
+        }
+        make_room(self.alloc, &mut self.heads[table as usize].live, more)?;
+        room_for_rows(self.alloc, &mut self.store.tables, table, more)
     }
 
     /// Puts a row behind those of the table with this number; a table that is not there takes none. Where memory is refused the
