@@ -4,6 +4,7 @@ use Rattle.std.specs.Prelude.{All, IfSome, is_some, ◌&&◌, ◌||◌}
 use Rattle.std.proofs.lemmas.List.Elements.{All-contains}
 use Rattle.mob_ratio.specs.Ratio.{Ratio}
 use Rattle.mob_ratio.specs.Order.{up_to}
+use Rattle.mob_ratio.proofs.Field.{le_trans}
 use Rattle.mob_ratio.proofs.Order.{before-neither, not-up_to-le}
 use Rattle.mob_span.specs.Span.{SpanOf, InSpan}
 use Rattle.mob_plane.specs.Corners.{all_points, AreCorners, IsLeastAmong, IsGreatestAmong}
@@ -11,9 +12,9 @@ use Rattle.mob_plane.specs.Membership.{inside}
 use Rattle.mob_plane.specs.Points.{point_by_coordinates}
 use Rattle.mob_plane.specs.Rings.{has_open}
 use Rattle.mob_plane.specs.declared.point.Point.{Point as PointOf}
-use Rattle.mob_stbox.specs.Areas.{InArea}
+use Rattle.mob_stbox.specs.Areas.{InArea, area_between}
 use Rattle.mob_stbox.specs.Boxes.{BoxOf, BoxesMeet, both_have}
-use Rattle.mob_stbox.specs.declared.area.Area.{Area}
+use Rattle.mob_plane.proofs.Widening.{smaller_left, greater_right}
 use Rattle.mob_value.specs.declared.value.Value.{Value}
 use Rattle.mob_value.specs.declared.value.Value.TheVariants.{Point, Polygon}
 use Rattle.mob_value.proofs.ValueBoxes.{one_own_box}
@@ -22,18 +23,18 @@ use Rattle.mob_meets.proofs.Near.{area_of, there_in}
 use Rattle.mob_meets.proofs.Inside.{inside_in}
 
 -- all points are in the rectangle between their corners
-corners_have : (ps : List PointOf) (least greatest : PointOf) → AreCorners ps least greatest → All (InArea (record { xmin = least.x; xmax = greatest.x; ymin = least.y; ymax = greatest.y })) ps
+corners_have : (ps : List PointOf) (least greatest : PointOf) → AreCorners ps least greatest → All (InArea (area_between least greatest)) ps
 corners_have ps least greatest h k d lt = record {
-  from_west = not-up_to-le _ _ (h.least_x.none_less k d lt);
-  to_east = not-up_to-le _ _ (h.greatest_x.none_greater k d lt);
-  from_south = not-up_to-le _ _ (h.least_y.none_less k d lt);
-  to_north = not-up_to-le _ _ (h.greatest_y.none_greater k d lt);
+  from_west = le_trans _ least.x _ (not-up_to-le _ _ (smaller_left least.x greatest.x)) (not-up_to-le _ _ (h.least_x.none_less k d lt));
+  to_east = le_trans _ greatest.x _ (not-up_to-le _ _ (h.greatest_x.none_greater k d lt)) (not-up_to-le _ _ (greater_right least.x greatest.x));
+  from_south = le_trans _ least.y _ (not-up_to-le _ _ (smaller_left least.y greatest.y)) (not-up_to-le _ _ (h.least_y.none_less k d lt));
+  to_north = le_trans _ greatest.y _ (not-up_to-le _ _ (h.greatest_y.none_greater k d lt)) (not-up_to-le _ _ (greater_right least.y greatest.y));
 }
 
 pub entered : (place : Ratio → Option PointOf) (b : BoxOf) (rings : List (List PointOf)) (least greatest : PointOf) → Covers place b → is_some b.space ≡ true → has_open rings ≡ false
     → AreCorners (all_points rings) least greatest → (t : Ratio) (p : PointOf) → place t ≡ Some p → inside rings p ≡ true → BoxesMeet b (box_between least greatest)
 entered place b rings least greatest covers s closed corners t p e k =
-    let a : Area = record { xmin = least.x; xmax = greatest.x; ymin = least.y; ymax = greatest.y } in
+    let a = area_between least greatest in
     let x = area_of b.space s in
     let i = there_in place b t p covers e in
     let there : InArea x.0 p = subst (λ o. IfSome o (λ z. InArea z p)) x.1 i.in_space in
