@@ -1,6 +1,6 @@
 -- What a catalogue keeps to, and what a new row does to its indexes.
 use Rattle.std.specs.Prelude.{◌≡◌, ◌==◌, ◌<◌, ◌^◌, ℕ, List, if◌then◌else◌, length, map}
-use Rattle.std.specs.List.{AllZip}
+use Rattle.std.specs.List.{AllByRecursion}
 use Rattle.mob_rtree.specs.Shape.{IsAsBefore}
 use Rattle.mob_rtree_nodes.specs.Tree.{EntryOf, IsAdded}
 use Rattle.mob_value.specs.declared.store.Table.{Table}
@@ -18,7 +18,7 @@ pub record IsKeptTogether (c : Catalogue) (indexes : List TableIndex) : Type 0 w
   pub heads : length c.heads ≡ length c.store.tables
   pub live : HoldsLiveTables c
   pub on : map (λ (i : TableIndex). i.on) indexes ≡ c.indexed
-  pub held : AllZip (λ on (i : TableIndex). IndexHolds c on i.tree.entries) c.indexed indexes
+  pub held : AllByRecursion (λ (i : TableIndex). IndexHolds c i.on i.tree.entries) indexes
   pub few : length c.indexed < 2 ^ 32
 
 -- the index is as before, but for the memory that its tree keeps
