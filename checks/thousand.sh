@@ -6,25 +6,25 @@
 
 awk -v folder="$work" '
     function clock(second) { return sprintf("2001-01-01 00:%02d:%02d", second / 60, second % 60) }
-    function both(text) { printf "%s", text > (folder "/script.sql") }
+    function script(text) { printf "%s", text > (folder "/script.sql") }
     function wanted(text) { printf "%s", text > (folder "/wanted") }
-    function side(x, y) { both(sep "" x " " y); sep = "," }
+    function side(x, y) { script(sep "" x " " y); sep = "," }
     BEGIN {
-        both("CREATE TABLE trip (track tgeompoint); CREATE TABLE strip (area geometry(Polygon), frame stbox);\nINSERT INTO trip VALUES (\x27")
+        script("CREATE TABLE trip (track tgeompoint); CREATE TABLE strip (area geometry(Polygon), frame stbox);\nINSERT INTO trip VALUES (\x27")
         for (second = 0; second <= 1000; second++) {
-            both((second ? ", " : "[") "POINT(" 10 + second / 2 " " (second % 2 ? 3 : -1) ")@" clock(second))
+            script((second ? ", " : "[") "POINT(" 10 + second / 2 " " (second % 2 ? 3 : -1) ")@" clock(second))
             if (second < 1000)
                 times = times (second ? ", " : "{") "[" clock(second) ".25+00, " clock(second) ".75+00]"
         }
-        both("]\x27);\nINSERT INTO strip VALUES (\x27POLYGON((")
+        script("]\x27);\nINSERT INTO strip VALUES (\x27POLYGON((")
         for (x = 0; x <= 1000; x += 2) side(x, 0)
         for (x = 1000; x >= 6; x -= 2) side(x, 2)
         side(0, 0)
-        both("))\x27, \x27STBOX X((0,0),(1000,2))\x27);\n")
-        both("SELECT getTime(atGeometry(track, area)) AS seconds FROM trip, strip;\n")
-        both("SELECT getTime(atStbox(track, frame)) AS seconds FROM trip, strip;\n")
-        both("SELECT eIntersects(track, area) AS polygon, getTime(minusGeometry(track, area)) = getTime(minusStbox(track, frame)) AS others,\n")
-        both("    eDwithin(track, geometry \x27POINT(600 3)\x27, 91) AS near FROM trip, strip;\n")
+        script("))\x27, \x27STBOX X((0,0),(1000,2))\x27);\n")
+        script("SELECT getTime(atGeometry(track, area)) AS seconds FROM trip, strip;\n")
+        script("SELECT getTime(atStbox(track, frame)) AS seconds FROM trip, strip;\n")
+        script("SELECT eIntersects(track, area) AS polygon, getTime(minusGeometry(track, area)) = getTime(minusStbox(track, frame)) AS others,\n")
+        script("    eDwithin(track, geometry \x27POINT(600 3)\x27, 91) AS near FROM trip, strip;\n")
         wanted("seconds\n\"" times "}\"\n(1 rows)\nseconds\n\"" times "}\"\n(1 rows)\npolygon,others,near\nt,t,t\n(1 rows)\n")
     }'
 

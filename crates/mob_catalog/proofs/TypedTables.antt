@@ -26,7 +26,7 @@ row_behind (suc n) (x ∷ xs) (t ∷ ts) row k h fits = (h.0, row_behind n xs ts
 below_last : (rows : List (List Value)) (row : List Value) (m : ℕ) → m ≤ length rows → m < length (rows ++ row ∷ [])
 below_last rows row m le = let long : length (rows ++ row ∷ []) ≡ length rows + 1 = length-append rows (row ∷ []) in omega (arith, long, le)
 
-live_behind : (n : ℕ) (heads : List TableHead) (tables : List Table) (row : List Value) → AllZip HoldsLiveRows heads tables
+pub live_behind : (n : ℕ) (heads : List TableHead) (tables : List Table) (row : List Value) → AllZip HoldsLiveRows heads tables
     → AllZip HoldsLiveRows (with_changed n (with_live_row (rows_put n tables)) heads) (with_changed n (with_last_row row) tables)
 live_behind zero [] [] row h = tt
 live_behind (suc n) [] [] row h = tt
@@ -47,7 +47,7 @@ columns_kept zero k (x ∷ xs) = refl
 columns_kept (suc n) k (x ∷ xs) = ap (λ (cs : List ColumnList). head_columns x ∷ cs) (columns_kept n k xs)
 
 -- one table more
-table_behind : (R : TableHead → Table → Type 0) (x : TableHead) (t : Table) → R x t → (heads : List TableHead) (tables : List Table) → AllZip R heads tables → AllZip R (heads ++ x ∷ []) (tables ++ t ∷ [])
+pub table_behind : (R : TableHead → Table → Type 0) (x : TableHead) (t : Table) → R x t → (heads : List TableHead) (tables : List Table) → AllZip R heads tables → AllZip R (heads ++ x ∷ []) (tables ++ t ∷ [])
 table_behind R x t new [] [] h = (new, tt)
 table_behind R x t new [] (u ∷ us) h = absurd h
 table_behind R x t new (y ∷ ys) [] h = absurd h

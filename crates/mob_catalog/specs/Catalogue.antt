@@ -6,14 +6,17 @@ use Rattle.mob_value.specs.declared.value.Value.{Value}
 use Rattle.mob_catalog.specs.TableFile.{Column}
 use Rattle.mob_catalog.specs.declared.catalog.TableHead.{TableHead}
 
--- the rows of the tables with the constants; and of each table its columns and which of its rows are there
+-- The rows of the tables with the constants; of each table its columns and which of its rows are there; and the table and the column of
+-- each index, with its name, in the order in which indexes were made.
 pub record Catalogue : Type 0 where
   pub store : Store
   pub heads : List TableHead
+  pub indexed : List (ℕ × ℕ)
+  pub index_names : List (List ℕ)
 
 -- no table, and these constants
 abbrev pub new_catalogue : List Value → Catalogue
-new_catalogue consts = record { store = record { tables = []; consts = consts }; heads = [] }
+new_catalogue consts = record { store = record { tables = []; consts = consts }; heads = []; indexed = []; index_names = [] }
 
 -- one more table of these columns, without rows
 abbrev pub with_empty_table : List Column → Catalogue → Catalogue
@@ -21,6 +24,10 @@ with_empty_table columns c = record c {
   store = record c.store { tables = c.store.tables ++ record { rows = [] } ∷ [] };
   heads = c.heads ++ record { columns = columns; live = [] } ∷ [];
 }
+
+-- one more index of this name on a column of a table
+abbrev pub with_index : List ℕ → ℕ → ℕ → Catalogue → Catalogue
+with_index name table column c = record c { indexed = c.indexed ++ (table, column) ∷ []; index_names = c.index_names ++ name ∷ [] }
 
 -- the list with one entry changed; the same list, where there is no such entry
 abbrev pub with_changed : {A : Type 0} → ℕ → (A → A) → List A → List A
@@ -52,5 +59,8 @@ abbrev pub table_columns : Catalogue → ℕ → List Column
 table_columns c n = unwrap_or (option_map (λ (h : TableHead). h.columns) (slice_get c.heads n)) []
 
 -- The numbers of the rows of the table of this number that are there, rising; a row is found by its number, which it keeps.
+abbrev pub live_of : List TableHead → ℕ → List ℕ
+live_of heads n = unwrap_or (option_map (λ (h : TableHead). h.live) (slice_get heads n)) []
+
 abbrev pub live_rows : Catalogue → ℕ → List ℕ
-live_rows c n = unwrap_or (option_map (λ (h : TableHead). h.live) (slice_get c.heads n)) []
+live_rows c n = live_of c.heads n

@@ -39,7 +39,7 @@ use Rattle.mob_cells.proofs.OwnEnds.{kept_same, kept_behind, start_value, end_va
 use Rattle.mob_stbox.specs.declared.area.Area.{Area}
 use Rattle.mob_stbox.specs.Boxes.{BoxOf, in_space, in_time, in_box}
 use Rattle.mob_clip.specs.Boxes.{entries_of_space, entries_in_time, entries_of_box, AreAround, front_span, back_span}
-use Rattle.mob_clip.specs.Pieces.{some_span, AreWhole, HoldsPiece}
+use Rattle.mob_clip.specs.Pieces.{some_span, AreWhole, IsOnSlice}
 
 -- ---- a span and a part of it
 -- the two sides of a span by themselves

@@ -33,7 +33,7 @@ use Rattle.mob_cells.proofs.OwnEnds.{start_value, end_value}
 use Rattle.mob_clip.specs.declared.sides.EdgeEnds.{EdgeEnds}
 use Rattle.mob_clip.specs.declared.roots.EdgePlaced.{EdgePlaced}
 use Rattle.mob_clip.specs.Sides.{beside, beside_parts, with_turn, turning_parts, IsPartFault}
-use Rattle.mob_clip.specs.Roots.{place, place_edge, placed_edge, listed_ends, edge_roots, IsWithin, IsPlacedEdge, FitsRoot, CutsFit}
+use Rattle.mob_clip.specs.Roots.{place, place_edge, placed_edge, listed_ends, edge_roots, IsBetweenEnds, IsPlacedEdge, FitsRoot, CutsFit}
 use Rattle.mob_clip.specs.Polygons.{edge_parts, edges_parts, edge_ends, edges_ends, entries_of_edges}
 
 -- ---- parts of three formulas over one list
@@ -50,10 +50,10 @@ module _ {A : Type 0} (f g h : A → List Ratio) where
   gather k (x ∷ xs) a b = all_both (f x) (flat_map f xs) (k x (all_first (g x) (flat_map g xs) a) (all_first (h x) (flat_map h xs) b)) (gather k xs (all_second (g x) (flat_map g xs) a) (all_second (h x) (flat_map h xs) b))
 
 -- ---- the roots of an edge
-pub within_root : (s : SpanOf) (p : Placed) → IsPlaced s p → AllByRecursion (IsWithin s) (listed p.root)
-within_root s p h = subst (λ z. AllByRecursion (IsWithin s) (listed z)) (sym h.root) (by (opposite p.ends.at_lower p.ends.at_upper) refl)
+pub within_root : (s : SpanOf) (p : Placed) → IsPlaced s p → AllByRecursion (IsBetweenEnds s) (listed p.root)
+within_root s p h = subst (λ z. AllByRecursion (IsBetweenEnds s) (listed z)) (sym h.root) (by (opposite p.ends.at_lower p.ends.at_upper) refl)
   where
-    by : (b : Bool) → opposite p.ends.at_lower p.ends.at_upper ≡ b → AllByRecursion (IsWithin s) (listed (cond b (Some (root_at p.ends.at_lower p.ends.at_upper s.lower s.upper)) None))
+    by : (b : Bool) → opposite p.ends.at_lower p.ends.at_upper ≡ b → AllByRecursion (IsBetweenEnds s) (listed (cond b (Some (root_at p.ends.at_lower p.ends.at_upper s.lower s.upper)) None))
     by true o = let r = root_at p.ends.at_lower p.ends.at_upper s.lower s.upper in let i = root_inside s p.ends h.level o in ((has_upto_lower s r i, has_upto_upper s r i), tt)
     by false o = tt
 
@@ -61,20 +61,20 @@ each_joined : {A : Type 0} (P : A → Type 0) (xs ys : List A) → AllByRecursio
 each_joined P [] ys h k = k
 each_joined P (x ∷ xs) ys h k = (h.0, each_joined P xs ys h.1 k)
 
-within_edge : (s : SpanOf) (g : EdgePlaced) → IsPlacedEdge s g → AllByRecursion (IsWithin s) (edge_roots g)
+within_edge : (s : SpanOf) (g : EdgePlaced) → IsPlacedEdge s g → AllByRecursion (IsBetweenEnds s) (edge_roots g)
 within_edge s g h =
-    let W = IsWithin s in
+    let W = IsBetweenEnds s in
     each_joined W (listed g.turn.root) (flat_map (λ p. listed p.root) (g.x_a ∷ g.x_b ∷ g.y_a ∷ g.y_b ∷ [])) (within_root s g.turn h.turn)
     (each_joined W (listed g.x_a.root) (flat_map (λ p. listed p.root) (g.x_b ∷ g.y_a ∷ g.y_b ∷ [])) (within_root s g.x_a h.x_a)
     (each_joined W (listed g.x_b.root) (flat_map (λ p. listed p.root) (g.y_a ∷ g.y_b ∷ [])) (within_root s g.x_b h.x_b)
     (each_joined W (listed g.y_a.root) (flat_map (λ p. listed p.root) (g.y_b ∷ [])) (within_root s g.y_a h.y_a)
     (each_joined W (listed g.y_b.root) [] (within_root s g.y_b h.y_b) tt))))
 
-within_edges : (s : SpanOf) (gs : List EdgePlaced) → AllByRecursion (IsPlacedEdge s) gs → AllByRecursion (IsWithin s) (flat_map edge_roots gs)
+within_edges : (s : SpanOf) (gs : List EdgePlaced) → AllByRecursion (IsPlacedEdge s) gs → AllByRecursion (IsBetweenEnds s) (flat_map edge_roots gs)
 within_edges s [] h = tt
-within_edges s (g ∷ gs) h = each_joined (IsWithin s) (edge_roots g) (flat_map edge_roots gs) (within_edge s g h.0) (within_edges s gs h.1)
+within_edges s (g ∷ gs) h = each_joined (IsBetweenEnds s) (edge_roots g) (flat_map edge_roots gs) (within_edge s g h.0) (within_edges s gs h.1)
 
-pub within_all : (s : SpanOf) (gs : List EdgePlaced) (rs : List Ratio) → rs ≡ flat_map edge_roots gs → AllByRecursion (IsPlacedEdge s) gs → AllByRecursion (IsWithin s) rs
+pub within_all : (s : SpanOf) (gs : List EdgePlaced) (rs : List Ratio) → rs ≡ flat_map edge_roots gs → AllByRecursion (IsPlacedEdge s) gs → AllByRecursion (IsBetweenEnds s) rs
 within_all s gs rs e h = rw e (within_edges s gs h)
 
 placed_each : (s : SpanOf) (gs : List EdgeEnds) → AllByRecursion (λ g. AllByRecursion (IsLevel s) (listed_ends g)) gs → AllByRecursion (IsPlacedEdge s) (map (place_edge s) gs)

@@ -28,7 +28,7 @@ use Rattle.mob_plane.specs.declared.edges.Tally.{Tally}
 use Rattle.mob_clip.specs.declared.steps.Change.{Change}
 use Rattle.mob_clip.specs.declared.steps.Steps.{Steps}
 use Rattle.mob_clip.specs.Steps.{step_at, steps_at, ChangesFit}
-use Rattle.mob_clip.specs.Pieces.{is_known_in, some_span, left_span, right_span, left_piece, right_piece, HoldsPiece, AreWhole}
+use Rattle.mob_clip.specs.Pieces.{is_known_in, some_span, left_span, right_span, left_piece, right_piece, IsOnSlice, AreWhole}
 
 -- ---- a span before and behind an instant
 -- t is before r, or is r where it is included
@@ -155,20 +155,20 @@ module _ (s : Slice PlaneLine) where
       by true = h
       by false = all_both (parts r) (parts c.upper) k (all_second (parts c.lower) (parts c.upper) h)
 
-  some_holds : (c : SpanOf) → is_inside s.span c ≡ true → AllFit (at_ends parts c) → HoldsPiece s (some_span c)
+  some_holds : (c : SpanOf) → is_inside s.span c ≡ true → AllFit (at_ends parts c) → IsOnSlice s (some_span c)
   some_holds c h k = by (has_instant c)
     where
-      by : (b : Bool) → HoldsPiece s (cond b (Some c) None)
+      by : (b : Bool) → IsOnSlice s (cond b (Some c) None)
       by true = (h, k)
       by false = tt
 
-  pub left_holds : (c : SpanOf) (r : Ratio) (i : Bool) → HoldsPiece s (Some c) → AllFit (parts r) → HoldsPiece s (some_span (left_span c r i))
+  pub left_holds : (c : SpanOf) (r : Ratio) (i : Bool) → IsOnSlice s (Some c) → AllFit (parts r) → IsOnSlice s (some_span (left_span c r i))
   left_holds c r i h k = some_holds (left_span c r i) (inside_trans s.span c (left_span c r i) h.0 (left_inside c r i)) (left_fits c r i h.1 k)
 
-  pub right_holds : (c : SpanOf) (r : Ratio) (i : Bool) → HoldsPiece s (Some c) → AllFit (parts r) → HoldsPiece s (some_span (right_span c r i))
+  pub right_holds : (c : SpanOf) (r : Ratio) (i : Bool) → IsOnSlice s (Some c) → AllFit (parts r) → IsOnSlice s (some_span (right_span c r i))
   right_holds c r i h k = some_holds (right_span c r i) (inside_trans s.span c (right_span c r i) h.0 (right_inside c r i)) (right_fits c r i h.1 k)
 
-  pub rest_holds : (rest : Option SpanOf) (r : Ratio) (i : Bool) → HoldsPiece s rest → AllFit (parts r) → HoldsPiece s (right_piece rest r i)
+  pub rest_holds : (rest : Option SpanOf) (r : Ratio) (i : Bool) → IsOnSlice s rest → AllFit (parts r) → IsOnSlice s (right_piece rest r i)
   rest_holds None r i h k = tt
   rest_holds (Some c) r i h k = right_holds c r i h k
 
@@ -177,7 +177,7 @@ module _ (s : Slice PlaneLine) where
     pub ordered : IsOrdered (λ k. k.from) (λ k. k.to) out
     pub inside : AreInside s.span out
     pub ahead : MatchOption rest (Unit {0}) (λ c. (has_instant c ≡ true) × AllBefore c out)
-    pub holds : HoldsPiece s rest
+    pub holds : IsOnSlice s rest
     pub values : (t : Ratio) → has s.span t ≡ true → has_piece rest t ≡ false → value_at plane_value_of out t ≡ f t
 
   module _ (f : Ratio → Option Point) where

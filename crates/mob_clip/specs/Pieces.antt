@@ -37,8 +37,8 @@ right_piece None r included = None
 right_piece (Some c) r included = some_span (right_span c r included)
 
 -- the slice has the piece, if there is one, and its values at the ends of the piece fit
-abbrev pub HoldsPiece : Slice PlaneLine → Option SpanOf → Type 0
-HoldsPiece s piece = MatchOption piece (Unit {0}) (λ r. (is_inside s.span r ≡ true) × AllFit (at_ends (slice_parts plane_parts_of s) r))
+abbrev pub IsOnSlice : Slice PlaneLine → Option SpanOf → Type 0
+IsOnSlice s piece = MatchOption piece (Unit {0}) (λ r. (is_inside s.span r ≡ true) × AllFit (at_ends (slice_parts plane_parts_of s) r))
 
 -- the slices are all of s on the piece, or nothing
 abbrev pub AreWhole : Slice PlaneLine → Bool → Option SpanOf → List (Slice PlaneLine) → Type 0

@@ -43,8 +43,8 @@ abbrev pub edge_roots : EdgePlaced → List Ratio
 edge_roots g = flat_map (λ p. listed p.root) (g.turn ∷ g.x_a ∷ g.x_b ∷ g.y_a ∷ g.y_b ∷ [])
 
 -- r lies between the ends of the span, or is one of them
-abbrev pub IsWithin : SpanOf → Ratio → Type 0
-IsWithin s r = (up_to s.lower r ≡ true) × (up_to r s.upper ≡ true)
+abbrev pub IsBetweenEnds : SpanOf → Ratio → Type 0
+IsBetweenEnds s r = (up_to s.lower r ≡ true) × (up_to r s.upper ≡ true)
 
 -- the parts of a formula fit at each root of an edge
 abbrev pub FitsRoot : (Ratio → List Ratio) → Placed → Type 0

@@ -10,7 +10,7 @@ ghost use Rattle.mob_slice.specs.declared.line.PlaneLine.{PlaneLine as PlaneLine
 ghost use Rattle.mob_cells.specs.Kept.{AreKept};
 ghost use Rattle.mob_cells.specs.Restricted.{kept_value, is_wanted};
 ghost use Rattle.mob_clip.specs.Steps.{steps_at, ChangesFit};
-ghost use Rattle.mob_clip.specs.Pieces.{is_known_in, some_span, left_span, right_span, left_piece, right_piece, HoldsPiece, AreWhole};
+ghost use Rattle.mob_clip.specs.Pieces.{is_known_in, some_span, left_span, right_span, left_piece, right_piece, IsOnSlice, AreWhole};
 
 use crate::steps::Steps;
 use mob_cells::{append, is_wanted, listed};
@@ -28,7 +28,7 @@ pub fn piece_on(
     keeps: bool,
 ) -> Result<Vec<Slice<PlaneLine>>, OpFault>
     requires sound { IsSound (λ c. c.from) (λ c. c.to) slice.now }
-    requires holds { HoldsPiece slice.now piece }
+    requires holds { IsOnSlice slice.now piece }
     ensures whole { MatchResult result (λ v. AreWhole slice.now keeps piece v.items) (λ e. e ≡ OpFault.NoMemory) }
 {
     let span = match piece {
@@ -74,7 +74,7 @@ fn pass(
     keeps: bool,
 ) -> Result<Option<Span>, OpFault>
     requires sound { IsSound (λ c. c.from) (λ c. c.to) slice.now }
-    requires holds { HoldsPiece slice.now piece }
+    requires holds { IsOnSlice slice.now piece }
     requires fits { AllFit (slice_parts plane_parts_of slice.now r.now) }
     ensures passed { MatchResult result (λ rest. (rest ≡ right_piece piece r.now included) × (v : List (SliceOf PlaneLineOf)) × (out.new.items ≡ out.old.items ++ v) × AreWhole slice.now keeps (left_piece piece r.now included) v) (λ e. e ≡ OpFault.NoMemory) }
 {
@@ -101,7 +101,7 @@ fn finish(
     keeps: bool,
 ) -> Result<Vec<Slice<PlaneLine>>, OpFault>
     requires sound { IsSound (λ c. c.from) (λ c. c.to) slice.now }
-    requires holds { HoldsPiece slice.now piece }
+    requires holds { IsOnSlice slice.now piece }
     ensures all { MatchResult result (λ all. (v : List (SliceOf PlaneLineOf)) × (all.items ≡ out.items ++ v) × AreWhole slice.now keeps piece v) (λ e. e ≡ OpFault.NoMemory) }
 {
     let mut all = out;

@@ -11,7 +11,7 @@ ghost use Rattle.mob_slice.specs.Entries.{IsFirst, OnFormula};
 ghost use Rattle.mob_slice.specs.declared.formula.Formula.TheVariants.{F1, F3};
 ghost use Rattle.mob_cells.specs.Roots.{IsLevel, root_parts, roots_parts, listed};
 ghost use Rattle.mob_clip.specs.Sides.{IsPartFault};
-ghost use Rattle.mob_clip.specs.Roots.{place, place_edge, listed_ends, edge_roots, IsWithin, IsPlacedEdge, placed_edge, CutsFit};
+ghost use Rattle.mob_clip.specs.Roots.{place, place_edge, listed_ends, edge_roots, IsBetweenEnds, IsPlacedEdge, placed_edge, CutsFit};
 ghost use Rattle.mob_clip.specs.Polygons.{entries_of_edges};
 
 use crate::sides::{EdgeEnds, add, besides, turned};
@@ -137,7 +137,7 @@ fn roots_of(alloc: Global, edges: &[EdgePlaced]) -> Result<Vec<Frac>, AllocError
 
 // Whether the position at an instant fits.
 fn fits_at(alloc: Global, slice: &Slice<PlaneLine>, r: &Frac) -> Result<(), OpFault>
-    requires within { IsWithin slice.now.span r.now }
+    requires within { IsBetweenEnds slice.now.span r.now }
     ensures fits { MatchResult result (λ _. AllFit (slice_parts plane_parts_of slice.now r.now)) (IsPartFault F1 (slice_parts plane_parts_of slice.now r.now)) }
 {
     match limit::<PlaneLine>(alloc, slice, r) {
@@ -149,7 +149,7 @@ fn fits_at(alloc: Global, slice: &Slice<PlaneLine>, r: &Frac) -> Result<(), OpFa
 
 // Whether the positions at all roots fit.
 fn all_fit(alloc: Global, slice: &Slice<PlaneLine>, roots: &[Frac]) -> Result<(), OpFault>
-    requires within { AllByRecursion (IsWithin slice.now.span) roots.now }
+    requires within { AllByRecursion (IsBetweenEnds slice.now.span) roots.now }
     ensures fits { MatchResult result (λ _. AllFit (flat_map (slice_parts plane_parts_of slice.now) roots.now)) (IsPartFault F1 (flat_map (slice_parts plane_parts_of slice.now) roots.now)) }
 {
     for r in roots {

@@ -29,7 +29,7 @@ use Rattle.mob_slice.specs.declared.formula.Formula.TheVariants.{F1, F2}
 use Rattle.mob_eval.specs.Moving.{StepSlices, IsFunction, step_function, plane_function}
 use Rattle.mob_eval.specs.Lifted.{OnPair, OnOperands, number_pair, IsMovingBool}
 use Rattle.mob_eval.specs.Signs.{number_test}
-use Rattle.mob_eval.specs.Operators.{OperatorGives, operator_entries, IsFirstFormula}
+use Rattle.mob_eval.specs.Operators.{OperatorGives, entries_of_two, IsFirstFormula}
 use Rattle.mob_eval.specs.Times.{instant_span, IsRestrictionOf, AreInstantsOf, set_or_null}
 use Rattle.mob_eval.specs.Evaluation.{TreeEvaluatesTo}
 
@@ -146,7 +146,7 @@ not_a_moment : OperatorGives scene op.ValueAtTimestamp sql.Point (sql.TPoint ∷
 not_a_moment = refl
 
 -- at an end no part is computed
-given_end : operator_entries op.ValueAtTimestamp sql.Point (sql.TPoint ∷ sql.Moment ∷ []) (look (whole (pos 4))) ≡ record { formula = F1; parts = [] } ∷ []
+given_end : entries_of_two op.ValueAtTimestamp sql.Point (sql.TPoint ∷ sql.Moment ∷ []) (MovingPoint way) (Moment (whole (pos 4))) ≡ record { formula = F1; parts = [] } ∷ []
 unfolding whole over gcd gcd_steps in_lowest_terms before same
 given_end = refl
 

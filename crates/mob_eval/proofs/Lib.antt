@@ -17,3 +17,4 @@ mod Stored
 pub mod QueryFaults
 mod Examples
 mod SignExamples
+pub mod OwnBoxes

@@ -8,9 +8,8 @@ use Rattle.mob_plane.specs.declared.point.Point.{Point as PointOf}
 use Rattle.mob_arith.specs.Operations.{both_hold, one_holds, text_of}
 use Rattle.mob_compare.specs.Times.{is_true}
 use Rattle.mob_slice.specs.CourseOf.{steady_course, line_course}
-use Rattle.mob_slice.proofs.Firsts.{one_first}
 use Rattle.mob_slice.specs.Lines.{plane_value_of}
-use Rattle.mob_stbox.specs.Boxes.{BoxOf, BoxesMeet}
+use Rattle.mob_stbox.specs.Boxes.{BoxesMeet}
 use Rattle.mob_clip.specs.Polygons.{IsEverInside}
 use Rattle.mob_slice.specs.Sameness.{same_bool, same_bool_exact}
 use Rattle.mob_slice.specs.declared.formula.Formula.{Formula}
@@ -29,8 +28,8 @@ use Rattle.mob_eval.specs.Coordinates.{IsCoordinate, IsWidened}
 use Rattle.mob_eval.specs.Moving.{OverTime, step_function, line_function, plane_function}
 use Rattle.mob_eval.specs.Ordinary.{IsTruthOf, IsEquality, IsTest}
 use Rattle.mob_eval.specs.Lifted.{IsMovingBool, IsMovingText, truth_pair, text_pair, IsLiftedNot}
-use Rattle.mob_eval.specs.Operators.{OperatorGives, IsFirstFormula, IsJoined, GivesOfOne, GivesOfTwo, GivesOfThree, operator_entries}
-use Rattle.mob_eval.specs.Boxes.{own_box, IsMeeting}
+use Rattle.mob_eval.specs.Operators.{OperatorGives, IsFirstFormula, IsJoined, GivesOfOne, GivesOfTwo, GivesOfThree}
+use Rattle.mob_eval.specs.Boxes.{IsOverlap}
 use Rattle.mob_eval.specs.Lines.{plane_pair}
 use Rattle.mob_eval.specs.Nearness.{IsApproachValue}
 use Rattle.mob_eval.specs.Polygons.{IsIntersecting}
@@ -41,6 +40,8 @@ use Rattle.mob_eval.proofs.Functions.{one_of_steps, one_of_lines}
 use Rattle.mob_eval.proofs.OneValue.{Once, one_test, function_once, operands_once, pair_once, bool_once, text_once}
 use Rattle.mob_eval.proofs.OneSign.{sign_test_once}
 use Rattle.mob_eval.proofs.OneNumber.{arithmetic_once, divided_once, restriction_once, by_value_once}
+use Rattle.mob_value.specs.ValueBoxes.{OnBox}
+use Rattle.mob_eval.proofs.OwnBoxes.{on_box_once, stbox_once, expansion_once, one_formula}
 use Rattle.mob_eval.proofs.OneNearness.{within_once, approach_once}
 use Rattle.mob_eval.proofs.OnePlace.{in_box_once, in_polygon_once}
 
@@ -121,12 +122,13 @@ one_once s op.GetTime ty ts a v w h k = defined_once a v w h k
 one_once s op.WhenTrue ty ts a v w h k = true_time_once a v w h k
 one_once s op.GetX ty ts a v w h k = coordinate_once (λ p. p.x) a v w h k
 one_once s op.GetY ty ts a v w h k = coordinate_once (λ p. p.y) a v w h k
+one_once s op.BoxOf ty ts a v w h k = stbox_once a v w h k
 one_once s op.Cast ty ts a v w h k = cast_once ts ty a v w h k
 one_once s _ ty ts a v w h k = h ∙ sym k
 
-meeting_once : (x y : Option BoxOf) → Once (IsMeeting x y)
-meeting_once (Some x) (Some y) v w h k = says_once true (BoxesMeet x y) v w h k
-meeting_once _ _ v w h k = h ∙ sym k
+overlap_once : (a b : Value) → Once (IsOverlap a b)
+overlap_once a b v w h k = on_box_once a (λ one v. OnBox b (λ other. IsTruthOf true (BoxesMeet one other) v) (v ≡ Null)) (λ v. v ≡ Null)
+    (λ one. on_box_once b (λ other v. IsTruthOf true (BoxesMeet one other) v) (λ v. v ≡ Null) (λ other. says_once true (BoxesMeet one other)) (λ v w h k. h ∙ sym k)) (λ v w h k. h ∙ sym k) v w h k
 
 intersecting_once : (a b : Value) → Once (IsIntersecting a b)
 intersecting_once (MovingPoint a) (Polygon rings) v w h k = says_once true (IsEverInside rings a) v w h k
@@ -152,7 +154,8 @@ two_once op.AtTime ty ts a b v w h k = asked_once true a (asked_spans b) v w h k
 two_once op.MinusTime ty ts a b v w h k = asked_once false a (asked_spans b) v w h k
 two_once op.AtValues ty ts a b v w h k = by_value_once true a b v w h k
 two_once op.MinusValues ty ts a b v w h k = by_value_once false a b v w h k
-two_once op.Overlap ty ts a b v w h k = meeting_once (own_box a) (own_box b) v w h k
+two_once op.Overlap ty ts a b v w h k = overlap_once a b v w h k
+two_once op.ExpandSpace ty ts a b v w h k = expansion_once a b v w h k
 two_once op.AtStbox ty ts a b v w h k = in_box_once true a b v w h k
 two_once op.MinusStbox ty ts a b v w h k = in_box_once false a b v w h k
 two_once op.AtGeometry ty ts a b v w h k = in_polygon_once true a b v w h k
@@ -173,7 +176,7 @@ value_once s o ty ts (a ∷ b ∷ c ∷ []) v w h k = three_once o a b c v w h k
 value_once s o ty ts (a ∷ b ∷ c ∷ d ∷ rest) v w h k = h ∙ sym k
 
 first_once : (o : Op) (ty : SqlType) (ts : List SqlType) (vs : List Value) (f g : Option Formula) → IsFirstFormula o ty ts vs f → IsFirstFormula o ty ts vs g → f ≡ g
-first_once o ty ts vs f g h k = one_first (operator_entries o ty ts vs) f g h k
+first_once = one_formula
 
 pub each_single : IsSingle
 each_single = record { value = value_once; first = first_once }

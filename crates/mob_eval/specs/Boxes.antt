@@ -1,5 +1,5 @@
 -- Operators on boxes: the box of a moving point, boxes that meet, boxes made wider, and what of a moving point lies in a box.
-use Rattle.std.specs.Prelude.{◌≡◌, Bool, true, List, [], ◌∷◌, Option, Some, None}
+use Rattle.std.specs.Prelude.{◌≡◌, Bool, true, List, [], ◌∷◌}
 use Rattle.std.specs.List.{flat_map}
 use Rattle.mob_slice.specs.CourseOf.{plane_course}
 use Rattle.mob_slice.specs.Entries.{Entry}
@@ -9,46 +9,37 @@ use Rattle.mob_cells.specs.Restricted.{IsRestricted}
 use Rattle.mob_stbox.specs.Boxes.{BoxOf, BoxesMeet, in_box}
 use Rattle.mob_stbox.specs.Expansion.{expanded, parts_of_expansion}
 use Rattle.mob_clip.specs.Boxes.{entries_of_box}
-use Rattle.mob_value.specs.ValueBoxes.{value_box}
+use Rattle.mob_value.specs.ValueBoxes.{IsBoxOf, OnBox}
 use Rattle.mob_value.specs.declared.value.Value.{Value}
 use Rattle.mob_value.specs.declared.value.Value.TheVariants.{Null, Number, Box, MovingPoint}
 use Rattle.mob_eval.specs.Moving.{or_nothing, IsFunctionOrNull}
 use Rattle.mob_eval.specs.Ordinary.{IsTruthOf}
 
--- a box has itself, and a moving point the least box that has all its places and instants
-abbrev pub own_box : Value → Option BoxOf
-own_box (Box b) = Some b
-own_box (MovingPoint a) = Some (value_box a)
-own_box _ = None
+-- stbox: the least box over a moving point
+abbrev pub IsStBox : Value → Value → Type 0
+IsStBox (MovingPoint a) v = (b : BoxOf) × IsBoxOf a b × (v ≡ Box b)
+IsStBox _ v = v ≡ Null
 
--- stbox
-abbrev pub box_value : Value → Value
-box_value (MovingPoint a) = Box (value_box a)
-box_value _ = Null
-
--- `&&`: whether two boxes meet
-abbrev pub IsMeeting : Option BoxOf → Option BoxOf → Value → Type 0
-IsMeeting (Some a) (Some b) v = IsTruthOf true (BoxesMeet a b) v
-IsMeeting _ _ v = v ≡ Null
-
+-- `&&`: whether the boxes of two values meet
 abbrev pub IsOverlap : Value → Value → Value → Type 0
-IsOverlap a b v = IsMeeting (own_box a) (own_box b) v
+IsOverlap a b v = OnBox a (λ one. OnBox b (λ other. IsTruthOf true (BoxesMeet one other) v) (v ≡ Null)) (v ≡ Null)
 
--- expandSpace: a box with each of its sides moved outward, or NULL where none is left
-abbrev pub moved_outward : Option BoxOf → Value → Value
-moved_outward (Some b) (Number d) = or_nothing Box (expanded b d)
-moved_outward _ _ = Null
+-- expandSpace: the value's box with each of its sides moved outward, or NULL where none is left
+abbrev pub moved_outward : BoxOf → Value → Value
+moved_outward b (Number d) = or_nothing Box (expanded b d)
+moved_outward b _ = Null
 
-abbrev pub expansion : Value → Value → Value
-expansion a d = moved_outward (own_box a) d
+abbrev pub IsExpansion : Value → Value → Value → Type 0
+IsExpansion a d v = OnBox a (λ b. v ≡ moved_outward b d) (v ≡ Null)
 
 -- its one entry: F7, the new sides
-abbrev pub entries_outward : Option BoxOf → Value → List Entry
-entries_outward (Some b) (Number d) = record { formula = F7; parts = parts_of_expansion b d } ∷ []
-entries_outward _ _ = []
+abbrev pub entries_outward : BoxOf → Value → List Entry
+entries_outward b (Number d) = record { formula = F7; parts = parts_of_expansion b d } ∷ []
+entries_outward b _ = []
 
-abbrev pub expansion_entries : Value → Value → List Entry
-expansion_entries a d = entries_outward (own_box a) d
+-- what holds of its entries
+abbrev pub OnExpansion : Value → Value → (List Entry → Type 0) → Type 0
+OnExpansion a d P = OnBox a (λ b. P (entries_outward b d)) (P [])
 
 -- atStbox where `want` is true, and minusStbox where it is false
 abbrev pub IsBoxRestriction : Bool → Value → Value → Value → Type 0

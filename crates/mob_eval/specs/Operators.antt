@@ -17,7 +17,7 @@ use Rattle.mob_eval.specs.declared.signs.Scope.TheVariants.{Each, Ever, Always}
 use Rattle.mob_eval.specs.Scene.{Scene, leaf_value}
 use Rattle.mob_eval.specs.Ordinary.{truth_of, known, conjunction, disjunction, is_null, IsTest, negated, unchanged}
 use Rattle.mob_eval.specs.Arithmetic.{IsArithmetic, IsDivided, arithmetic_entries, divided_entries}
-use Rattle.mob_eval.specs.Boxes.{box_value, IsOverlap, expansion, expansion_entries, IsBoxRestriction, box_entries}
+use Rattle.mob_eval.specs.Boxes.{IsStBox, IsOverlap, IsExpansion, OnExpansion, IsBoxRestriction, box_entries}
 use Rattle.mob_eval.specs.ByValue.{IsValueRestriction, value_entries}
 use Rattle.mob_eval.specs.Coordinates.{IsEast, IsNorth}
 use Rattle.mob_eval.specs.Nearness.{IsWithin, IsNearestApproach, within_entries, approach_entries}
@@ -66,7 +66,7 @@ GivesOfOne s op.GetTime ty ts a v = IsDefinedTime a v
 GivesOfOne s op.WhenTrue ty ts a v = IsTrueTime a v
 GivesOfOne s op.GetX ty ts a v = IsEast a v
 GivesOfOne s op.GetY ty ts a v = IsNorth a v
-GivesOfOne s op.BoxOf ty ts a v = v ≡ box_value a
+GivesOfOne s op.BoxOf ty ts a v = IsStBox a v
 GivesOfOne s op.AsText ty ts a v = v ≡ printed_text s.day a
 GivesOfOne s op.Cast ty ts a v = IsCast ts ty a v
 GivesOfOne s _ ty ts a v = v ≡ Null
@@ -92,7 +92,7 @@ GivesOfTwo op.AtValues ty ts a b v = IsValueRestriction true a b v
 GivesOfTwo op.MinusValues ty ts a b v = IsValueRestriction false a b v
 GivesOfTwo op.ValueAtTimestamp ty ts a b v = v ≡ look_up a b
 GivesOfTwo op.Overlap ty ts a b v = IsOverlap a b v
-GivesOfTwo op.ExpandSpace ty ts a b v = v ≡ expansion a b
+GivesOfTwo op.ExpandSpace ty ts a b v = IsExpansion a b v
 GivesOfTwo op.AtStbox ty ts a b v = IsBoxRestriction true a b v
 GivesOfTwo op.MinusStbox ty ts a b v = IsBoxRestriction false a b v
 GivesOfTwo op.AtGeometry ty ts a b v = IsPolygonRestriction true a b v
@@ -114,7 +114,7 @@ OperatorGives s o ty ts (a ∷ b ∷ []) v = GivesOfTwo o ty ts a b v
 OperatorGives s o ty ts (a ∷ b ∷ c ∷ []) v = GivesOfThree o a b c v
 OperatorGives s o ty ts (a ∷ b ∷ c ∷ d ∷ rest) v = v ≡ Null
 
--- the entries of an operator on two operands
+-- the entries of an operator on two operands; those of expandSpace are said of the box of its operand
 abbrev pub entries_of_two : Op → SqlType → List SqlType → Value → Value → List Entry
 entries_of_two op.Add ty ts a b = arithmetic_entries Sum ty a b
 entries_of_two op.Subtract ty ts a b = arithmetic_entries Difference ty a b
@@ -128,7 +128,6 @@ entries_of_two op.MinusTime ty ts a b = restriction_entries a b
 entries_of_two op.AtValues ty ts a b = value_entries a b
 entries_of_two op.MinusValues ty ts a b = value_entries a b
 entries_of_two op.ValueAtTimestamp ty ts a b = look_entries a b
-entries_of_two op.ExpandSpace ty ts a b = expansion_entries a b
 entries_of_two op.AtStbox ty ts a b = box_entries a b
 entries_of_two op.MinusStbox ty ts a b = box_entries a b
 entries_of_two op.AtGeometry ty ts a b = polygon_entries a b
@@ -142,12 +141,16 @@ abbrev pub entries_of_three : Op → Value → Value → Value → List Entry
 entries_of_three op.EDwithin a b c = within_entries a b c
 entries_of_three _ a b c = []
 
--- the entries of an operator of a type on operands of these types, with the values of those that were evaluated
-abbrev pub operator_entries : Op → SqlType → List SqlType → List Value → List Entry
-operator_entries o ty ts (a ∷ b ∷ []) = entries_of_two o ty ts a b
-operator_entries o ty ts (a ∷ b ∷ c ∷ []) = entries_of_three o a b c
-operator_entries o ty ts _ = []
+-- what holds of the entries of an operator of a type on operands of these types, with the values of those that were evaluated
+abbrev pub OnEntriesOfTwo : Op → SqlType → List SqlType → Value → Value → (List Entry → Type 0) → Type 0
+OnEntriesOfTwo op.ExpandSpace ty ts a b P = OnExpansion a b P
+OnEntriesOfTwo o ty ts a b P = P (entries_of_two o ty ts a b)
+
+abbrev pub OnEntries : Op → SqlType → List SqlType → List Value → (List Entry → Type 0) → Type 0
+OnEntries o ty ts (a ∷ b ∷ []) P = OnEntriesOfTwo o ty ts a b P
+OnEntries o ty ts (a ∷ b ∷ c ∷ []) P = P (entries_of_three o a b c)
+OnEntries o ty ts _ P = P []
 
 -- the formula of its first entry with a part that does not fit, or none
 abbrev pub IsFirstFormula : Op → SqlType → List SqlType → List Value → Option Formula → Type 0
-IsFirstFormula o ty ts vs f = IsFirst (operator_entries o ty ts vs) f
+IsFirstFormula o ty ts vs f = OnEntries o ty ts vs (λ entries. IsFirst entries f)

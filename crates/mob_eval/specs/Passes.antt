@@ -6,7 +6,7 @@ use Rattle.mob_slice.specs.declared.formula.Formula.{Formula}
 use Rattle.mob_typed.specs.Trees.{TypedTree, typed, TypedTrees, none, more, arg_types}
 use Rattle.mob_value.specs.declared.value.Value.{Value}
 use Rattle.mob_eval.specs.Scene.{Scene}
-use Rattle.mob_eval.specs.Operators.{operator_entries}
+use Rattle.mob_eval.specs.Operators.{OnEntries}
 use Rattle.mob_eval.specs.Evaluation.{Fault, TreeEvaluatesTo, stops, stop_of}
 use Rattle.mob_eval.specs.Values.{TreeHasValue, OperandsHaveValues}
 
@@ -20,7 +20,7 @@ abbrev mutual
   -- needed for the value: those behind an operand that settles AND or OR are not. Which of them is evaluated first is not asked.
   pub TreePasses : Scene → TypedTree → Fault → Type 0
   TreePasses s (typed o ty place args) f =
-      OperandsPass s (stop_of o) args f ⊎ ((vs : List Value) × OperandsHaveValues s (stop_of o) args vs × HasUnfit (operator_entries o ty (arg_types args) vs) f.1 × (f.0 ≡ place))
+      OperandsPass s (stop_of o) args f ⊎ ((vs : List Value) × OperandsHaveValues s (stop_of o) args vs × OnEntries o ty (arg_types args) vs (λ entries. HasUnfit entries f.1) × (f.0 ≡ place))
 
   -- one of the operands does, up to the first after which no further one is needed
   pub OperandsPass : Scene → Option Bool → TypedTrees → Fault → Type 0

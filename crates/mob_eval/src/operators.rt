@@ -1,7 +1,7 @@
 //! Each operator, on the values of its operands.
 ghost use Rattle.std.specs.Prelude.{◌≡◌, IfOk, IfErr, None, Some};
 ghost use Rattle.mob_eval.specs.Views.{scene_of};
-ghost use Rattle.mob_eval.specs.Operators.{GivesOfOne, GivesOfTwo, GivesOfThree, entries_of_two, entries_of_three};
+ghost use Rattle.mob_eval.specs.Operators.{GivesOfOne, GivesOfTwo, GivesOfThree, OnEntriesOfTwo, entries_of_three};
 ghost use Rattle.mob_eval.specs.SoFar.{operand_types};
 ghost use Rattle.mob_slice.specs.Entries.{IsFirst, OnFormula};
 ghost use Rattle.mob_eval.specs.Held.{held};
@@ -74,8 +74,8 @@ pub fn of_two(
     right: &Value,
 ) -> Result<Value, OpFault>
     ensures value { IfOk result (λ v. GivesOfTwo op ty (operand_types args.now) left.now right.now v) }
-    ensures fits { IfOk result (λ _. IsFirst (entries_of_two op ty (operand_types args.now) left.now right.now) None) }
-    ensures fault { IfErr result (OnFormula (λ f. IsFirst (entries_of_two op ty (operand_types args.now) left.now right.now) (Some f))) }
+    ensures fits { IfOk result (λ _. OnEntriesOfTwo op ty (operand_types args.now) left.now right.now (λ entries. IsFirst entries None)) }
+    ensures fault { IfErr result (OnFormula (λ f. OnEntriesOfTwo op ty (operand_types args.now) left.now right.now (λ entries. IsFirst entries (Some f)))) }
 {
     match op {
         Op::And => Ok(known(conjunction(truth_of(left), truth_of(right)))),

@@ -48,7 +48,10 @@ fn fault_at(place: u32, fault: OpFault) -> EvalFault
     }
 }
 
-/// The value of an expression, where it stands or in memory of its own.
+/// The value of an expression, where it stands or in memory of its own: a column's value and a constant are lent by the tables, and what
+/// an operator gives is held. A column, row or constant that is not there gives NULL.
+///
+/// The faults are those of `eval`: `Passed` at the place of the first operator with a formula that does not fit, and want of memory.
 #[cycle(walk)]
 pub fn held_value<'a>(alloc: Global, e: &TExpr, view: &View<'a>) -> Result<Held<'a>, EvalFault>
     ensures value { IfOk result (λ h. EvaluatesTo (scene_of view.now) e.now (Ok (held h))) }

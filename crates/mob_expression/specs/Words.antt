@@ -33,7 +33,7 @@ type_named name (Some inner) = if bytes_eq name (codes "geometry") then type_amo
 abbrev pub number_type : List ℕ → SqlType
 number_type s = if list_all is_ascii_digit s then sql.Int else sql.Numeric
 
--- whether a number is 0: no digit of it is another than 0, those of an exponent aside
+-- whether a number is 0: no digit of it before any exponent and any slash is another than 0
 abbrev pub is_zero : List ℕ → Bool
 is_zero s = not (has_figure s)
 
@@ -48,15 +48,24 @@ begins_with_word s [] = true
 begins_with_word [] (w ∷ ws) = false
 begins_with_word (b ∷ bs) (w ∷ ws) = to_ascii_lowercase b == w && begins_with_word bs ws
 
--- behind `SRID=0;` and the blanks round its sign, where the text begins so
+-- behind the digits in front
+abbrev pub skip_digits : List ℕ → List ℕ
+skip_digits [] = []
+skip_digits (b ∷ bs) = if is_ascii_digit b then skip_digits bs else b ∷ bs
+
+-- behind `SRID=`, a digit or more, `;` and the blanks round it, where the text begins so; else the whole text
 abbrev pub after_semicolon : List ℕ → List ℕ → List ℕ
 after_semicolon whole [] = whole
 after_semicolon whole (b ∷ bs) = if b == 59 then skip_blanks bs else whole
 
-abbrev pub after_srid : List ℕ → List ℕ
-after_srid s = if begins_with_word s (codes "srid=0") then after_semicolon s (skip_blanks (drop 6 s)) else s
+abbrev pub after_digits : List ℕ → List ℕ → List ℕ
+after_digits whole [] = whole
+after_digits whole (b ∷ bs) = if is_ascii_digit b then after_semicolon whole (skip_blanks (skip_digits bs)) else whole
 
--- whether a text of geometry is a polygon's: behind blanks and `SRID=0;` it begins with `polygon`
+abbrev pub after_srid : List ℕ → List ℕ
+after_srid s = if begins_with_word s (codes "srid=") then after_digits s (drop 5 s) else s
+
+-- whether a text of geometry is a polygon's: behind blanks and an SRID, whatever its number, it begins with `polygon`
 abbrev pub is_polygon : List ℕ → Bool
 is_polygon s = begins_with_word (after_srid (skip_blanks s)) (codes "polygon")
 

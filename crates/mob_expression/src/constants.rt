@@ -1,8 +1,8 @@
 //! Constants, and what else is settled before operands are looked at.
-ghost use Rattle.std.specs.Prelude.{◌≡◌, None, Some, option_map, map};
+ghost use Rattle.std.specs.Prelude.{◌≡◌, None, Some, option_map};
 ghost use Rattle.mob_ast.specs.Trees.{tree_of, trees_of};
 ghost use Rattle.mob_expression.specs.Answers.{TypesTo, refuse};
-ghost use Rattle.mob_typed.specs.Trees.{typed, typed_of, none, typed_trees};
+ghost use Rattle.mob_typed.specs.Trees.{typed, typed_of, none};
 ghost use Rattle.mob_expression.specs.Scopes.{scope_of};
 ghost use Rattle.mob_expression.specs.Expressions.{constant, settled, typed_string, only, lone_string, cast_of_string, typed_before_operands};
 
@@ -14,20 +14,8 @@ use mob_ast::{Expr, Kind, Node, SqlType, TypeWord};
 use mob_list::items::Items;
 use mob_list::text::Text;
 use mob_operators::{Form, Op, is_irrational};
-use mob_typed::{ConstText, TExpr};
+use mob_typed::{ConstText, TExpr, with_args};
 use std::alloc::Global;
-
-/// A typed expression with these arguments.
-pub fn with_args(op: Op, ty: SqlType, place: u32, args: Vec<TExpr>) -> TExpr
-    ensures tree { typed_of result ≡ typed op ty place (typed_trees (map typed_of args.items)) }
-{
-    TExpr {
-        op,
-        ty,
-        place,
-        args,
-    }
-}
 
 /// A typed expression without arguments.
 pub fn leaf(alloc: Global, op: Op, ty: SqlType, place: u32) -> TExpr

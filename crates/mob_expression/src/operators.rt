@@ -6,12 +6,12 @@ ghost use Rattle.mob_typed.specs.Trees.{typed_of, type_of, types_of};
 ghost use Rattle.mob_expression.specs.Words.{is_zero};
 ghost use Rattle.mob_expression.specs.Expressions.{is_signed, digits_of, divisor_of, missing, missing_sign, are_linear, divides_by_zero, operated, can_cast, can_cast_all, cast, finished};
 
-use crate::constants::{only, with_args};
+use crate::constants::only;
 use crate::fault::Fault;
 use crate::words::{is_zero, type_named};
 use mob_ast::{Expr, Kind, Node, SqlType, TypeWord};
 use mob_operators::{Form, Op, is_function, is_irrational, operator_for};
-use mob_typed::TExpr;
+use mob_typed::{TExpr, with_args};
 use std::alloc::{AllocError, Global};
 
 /// The type of a typed expression.

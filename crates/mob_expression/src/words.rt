@@ -4,7 +4,7 @@ ghost use Rattle.std.specs.List.{list_all};
 ghost use Rattle.std.specs.Char.{is_ascii_digit};
 ghost use Rattle.mob_language.specs.Language.{is_blank};
 ghost use Rattle.mob_language.specs.NonZero.{has_figure};
-ghost use Rattle.mob_expression.specs.Words.{type_among, type_words, geometry_words, type_named, number_type, is_zero, skip_blanks, begins_with_word, after_srid, after_semicolon, is_polygon, geometry_type, literal_type};
+ghost use Rattle.mob_expression.specs.Words.{type_among, type_words, geometry_words, type_named, number_type, is_zero, skip_blanks, begins_with_word, skip_digits, after_srid, after_digits, after_semicolon, is_polygon, geometry_type, literal_type};
 
 use mob_ast::{SqlType, TypeWord};
 
@@ -90,7 +90,7 @@ pub fn has_digits_alone(text: &[u8]) -> bool
     text.iter().all(|b| b.is_ascii_digit())
 }
 
-/// Whether a number is 0: no digit of it is another than 0, those of an exponent aside.
+/// Whether a number is 0: no digit of it before any exponent and any slash is another than 0.
 pub fn is_zero(text: &str) -> bool
     ensures zero { result ≡ is_zero text.now }
 {
@@ -139,17 +139,45 @@ fn begins_with_word(text: &[u8], word: &[u8]) -> bool
     letter.to_ascii_lowercase() == *small && begins_with_word(text, word)
 }
 
-// What stands behind `SRID=0;` and the blanks round its sign, where the text begins so, else the text.
+// A loop, as that over blanks.
+fn skip_digits(text: &[u8]) -> &[u8]
+    ensures { result.now ≡ skip_digits text.now }
+{
+    let mut rest = text;
+    'digits: while let Some((first, behind)) = rest.split_first() {
+        if !first.is_ascii_digit() {
+            return rest;
+        }
+        rest = behind;
+    }
+    rest
+}
+
+// What stands behind a digit or more, `;` and the blanks round it, where `rest` begins so, else the whole text.
+fn after_digits<'a>(whole: &'a [u8], rest: &'a [u8]) -> &'a [u8]
+    ensures { result.now ≡ after_digits whole.now rest.now }
+{
+    let Some((first, more)) = rest.split_first() else {
+        return whole;
+    };
+    if !first.is_ascii_digit() {
+        return whole;
+    }
+    match skip_blanks(skip_digits(more)) {
+        [b';', rest @ ..] => skip_blanks(rest),
+        _ => whole,
+    }
+}
+
+// What stands behind `SRID=`, its number, `;` and the blanks round it, where the text begins so, else the text. Whether there is
+// such an SRID is said when the text is read.
 fn after_srid(text: &[u8]) -> &[u8]
     ensures { result.now ≡ after_srid text.now }
 {
-    if !begins_with_word(text, b"srid=0") {
+    if !begins_with_word(text, b"srid=") {
         return text;
     }
-    match skip_blanks(&text[6..]) {
-        [b';', rest @ ..] => skip_blanks(rest),
-        _ => text,
-    }
+    after_digits(text, &text[5..])
 }
 
 // Whether a text of geometry is a polygon's.

@@ -3,14 +3,13 @@ ghost use Rattle.std.specs.Prelude.{◌≡◌, ◌≢◌, option_map, Err, true,
 ghost use Rattle.mob_language.specs.Readers.{all_of, within_blanks_at};
 ghost use Rattle.mob_numeral.specs.declared.fault.ReadText.TheVariants.{NoMemory};
 ghost use Rattle.mob_numeral.specs.Verdict.{Lit};
-ghost use Rattle.mob_points.specs.Points.{point_of as point_made, close_bracket_at as close_bracket_in};
 ghost use Rattle.mob_stbox.specs.Areas.{is_area};
 ghost use Rattle.mob_geotext.specs.Boxes.{open_bracket_at as open_bracket_in, corner_at as corner_in, corners_at as corners_in, closed_span_at as closed_span_in, space_alone_at as space_alone_in, space_and_time_at as space_and_time_in, time_alone_at as time_alone_in, with_space_at as with_space_in, written_box_at as written_box_in, area_of as area_said, has_corners as corners_there, has_sides as sides_there, box_in_space as in_space, box_in_time as in_time, box_in_both as in_both, sound_box, boxes};
 
 use crate::noted::{NotedSpan, has_ends, noted_span_at, span_of};
-use mob_frac::Frac;
 use mob_numeral::{any_case_at, blanks, number_value_at, some_blanks_at, spaced_at};
 use mob_plane::Point;
+use mob_points::{close_bracket_at, point_of};
 use mob_scalar::{Epoch, ReadText};
 use mob_span::Span;
 use mob_stbox::{Area, StBox};
@@ -35,15 +34,6 @@ pub enum NotedBox {
     Both(NotedCorners, NotedSpan),
 }
 
-/// The point with these coordinates, where both of them are there.
-fn point_of(x: Option<Frac>, y: Option<Frac>) -> Option<Point>
-    ensures value { result ≡ point_made x y }
-{
-    let east = x?;
-    let north = y?;
-    Some(Point { x: east, y: north })
-}
-
 /// What stands behind an opening bracket and the blanks after it.
 #[tactic(auto, unfolding(crate::specs::Boxes::open_bracket_at))]
 fn open_bracket_at(bytes: &[u8]) -> Option<&[u8]>
@@ -51,17 +41,6 @@ fn open_bracket_at(bytes: &[u8]) -> Option<&[u8]>
 {
     match bytes {
         [40, rest @ ..] => Some(blanks(rest).1),
-        _ => None,
-    }
-}
-
-/// What stands behind a closing bracket and the blanks before it.
-#[tactic(auto, unfolding(mob_points::specs::Points::close_bracket_at))]
-fn close_bracket_at(bytes: &[u8]) -> Option<&[u8]>
-    ensures read { option_map (λ rest. (tt, rest.now)) result ≡ close_bracket_in bytes.now }
-{
-    match blanks(bytes).1 {
-        [41, rest @ ..] => Some(rest),
         _ => None,
     }
 }

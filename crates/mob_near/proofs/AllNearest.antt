@@ -19,24 +19,25 @@ use Rattle.mob_lift.proofs.PieceAt.{first_at, later_at, which_at, there, found, 
 use Rattle.mob_near.specs.Approaches.{IsNearest, IsApproach}
 use Rattle.mob_near.specs.Distances.{distance_squared}
 use Rattle.mob_near.specs.Entries.{PointPiece}
-use Rattle.mob_near.specs.Legs.{lesser, nearest_of, piece_approach}
+use Rattle.mob_plane.specs.Corners.{smaller}
+use Rattle.mob_near.specs.Legs.{nearest_of, piece_approach}
 use Rattle.mob_near.proofs.OnPieces.{square_on, IsNearestOn}
 
 up_to-trans : (a b c : Ratio) → up_to a b ≡ true → up_to b c ≡ true → up_to a c ≡ true
 up_to-trans a b c h k = rw (le-up_to a c (le_trans a b c (not-up_to-le a b h) (not-up_to-le b c k))) refl
 
--- ---- the lesser one of two
-lesser_cases : (a b n : Ratio) (c : Bool) → before a b ≡ c → before (cond c a b) n ≡ true → (before a n ≡ true) ⊎ (before b n ≡ true)
-lesser_cases a b n true e h = inl h
-lesser_cases a b n false e h = inr h
+-- ---- the smaller one of two
+either_below : (a b n : Ratio) (c : Bool) → before a b ≡ c → before (cond c a b) n ≡ true → (before a n ≡ true) ⊎ (before b n ≡ true)
+either_below a b n true e h = inl h
+either_below a b n false e h = inr h
 
-lesser_left : (a b m : Ratio) (c : Bool) → before a b ≡ c → up_to m (cond c a b) ≡ true → up_to m a ≡ true
-lesser_left a b m true e h = h
-lesser_left a b m false e h = up_to-trans m b a h (ap not e)
+up_to_first : (a b m : Ratio) (c : Bool) → before a b ≡ c → up_to m (cond c a b) ≡ true → up_to m a ≡ true
+up_to_first a b m true e h = h
+up_to_first a b m false e h = up_to-trans m b a h (ap not e)
 
-lesser_right : (a b m : Ratio) (c : Bool) → before a b ≡ c → up_to m (cond c a b) ≡ true → up_to m b ≡ true
-lesser_right a b m true e h = up_to-trans m a b h (grind (arith, e, before-trans b a b, before-self b))
-lesser_right a b m false e h = h
+up_to_second : (a b m : Ratio) (c : Bool) → before a b ≡ c → up_to m (cond c a b) ≡ true → up_to m b ≡ true
+up_to_second a b m true e h = up_to-trans m a b h (grind (arith, e, before-trans b a b, before-self b))
+up_to_second a b m false e h = h
 
 -- ---- over pieces
 -- m is the greatest lower bound of b and of the squares at the instants of the pieces
@@ -45,17 +46,17 @@ record IsLeast (b : Ratio) (ps : List PointPiece) (m : Ratio) : Type 0 where
   pub lower : (t : Ratio) (p : PointPiece) → part_at (λ q. q.span) ps t ≡ Some p → up_to m (square_on p t) ≡ true
   pub greatest : (n : Ratio) → before m n ≡ true → (before b n ≡ true) ⊎ ((t : Ratio) × (p : PointPiece) × (part_at (λ q. q.span) ps t ≡ Some p) × (before (square_on p t) n ≡ true))
 
-least_step : (b : Ratio) (p : PointPiece) (ps : List PointPiece) (m : Ratio) → PartsAreClear (λ q. q.span) (p ∷ ps) → IsNearestOn p (piece_approach p) → IsLeast (lesser b (piece_approach p)) ps m → IsLeast b (p ∷ ps) m
+least_step : (b : Ratio) (p : PointPiece) (ps : List PointPiece) (m : Ratio) → PartsAreClear (λ q. q.span) (p ∷ ps) → IsNearestOn p (piece_approach p) → IsLeast (smaller (piece_approach p) b) ps m → IsLeast b (p ∷ ps) m
 least_step b p ps m c near k =
     let a = piece_approach p in
     record {
-      before_all = lesser_left b a m (before b a) refl k.before_all;
+      before_all = up_to_first b a m (before b a) refl k.before_all;
       lower = λ t q e. elim (which_at (λ q. q.span) p ps t q e) [
-        | inl h ↦ subst (λ z. up_to m (square_on z t) ≡ true) h.1 (up_to-trans m a (square_on p t) (lesser_right b a m (before b a) refl k.before_all) (near.lower t h.0))
+        | inl h ↦ subst (λ z. up_to m (square_on z t) ≡ true) h.1 (up_to-trans m a (square_on p t) (up_to_second b a m (before b a) refl k.before_all) (near.lower t h.0))
         | inr h ↦ k.lower t q h
       ];
       greatest = λ n h. elim (k.greatest n h) [
-        | inl f ↦ (elim (lesser_cases b a n (before b a) refl f) [
+        | inl f ↦ (elim (either_below b a n (before b a) refl f) [
           | inl g ↦ inl g
           | inr g ↦ let w = near.greatest n g in inr (w.0, p, first_at (λ q. q.span) p ps w.0 w.1, w.2)
         ])
@@ -66,7 +67,7 @@ least_step b p ps m c near k =
 least_of : (ps : List PointPiece) → PartsAreClear (λ q. q.span) ps → AllByRecursion (λ p. IsNearestOn p (piece_approach p)) ps → (b : Ratio) → (m : Ratio) × (walked nearest_of piece_approach (Some b) ps ≡ Some m) × IsLeast b ps m
 least_of [] c near b = (b, refl, record { before_all = ap not (before-self b); lower = λ t p e. none_some p e; greatest = λ n h. inl h })
 least_of (p ∷ ps) c near b =
-    let k = least_of ps c.2 near.1 (lesser b (piece_approach p)) in
+    let k = least_of ps c.2 near.1 (smaller (piece_approach p) b) in
     (k.0, k.1, least_step b p ps k.0 c near.0 k.2)
 
 -- ---- two operands

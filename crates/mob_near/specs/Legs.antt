@@ -4,6 +4,7 @@ use Rattle.mob_ratio.specs.Ratio.{Ratio, ◌+ℚ◌, ◌-ℚ◌, ◌*ℚ◌, ◌
 use Rattle.mob_ratio.specs.Order.{before, up_to, same}
 use Rattle.mob_ratio.specs.Sign.{nil}
 use Rattle.mob_frac.specs.Formula.{square_parts}
+use Rattle.mob_plane.specs.Corners.{smaller}
 use Rattle.mob_slice.specs.declared.comparison.Gaps.{Gaps}
 use Rattle.mob_slice.specs.declared.comparison.Gaps.TheVariants.{Constant, One, Two}
 use Rattle.mob_quadratic.specs.Quadratic.{square_is_within}
@@ -55,22 +56,22 @@ abbrev pub foot_of : Leg → Foot
 foot_of g = foot_by g.x0 g.y0 (g.x1 -ℚ g.x0) (g.y1 -ℚ g.y0)
 
 -- whether that point lies strictly between the ends: at the start the way comes nearer, at the end it goes away
-abbrev pub is_between : Foot → Bool
-is_between f = before f.along nil && before nil f.beyond
+abbrev pub is_on_the_way : Foot → Bool
+is_on_the_way f = before f.along nil && before nil f.beyond
 
 -- whether it lies there and the square of its length is at most D, and the parts of the quotients
 abbrev pub foot_reaches : Ratio → Foot → Bool
-foot_reaches D f = is_between f && square_is_within f.length f.across D
+foot_reaches D f = is_on_the_way f && square_is_within f.length f.across D
 
 abbrev pub reach_quotients : Ratio → Foot → List Ratio
-reach_quotients D f = cond (is_between f) ((f.across /ℚ f.length) ∷ cond (same f.across nil) [] ((D /ℚ f.across) ∷ [])) []
+reach_quotients D f = cond (is_on_the_way f) ((f.across /ℚ f.length) ∷ cond (same f.across nil) [] ((D /ℚ f.across) ∷ [])) []
 
 -- the square of its length where it lies there, and the parts
 abbrev pub foot_square : Foot → Option Ratio
-foot_square f = cond (is_between f) (Some (f.across *ℚ (f.across /ℚ f.length))) None
+foot_square f = cond (is_on_the_way f) (Some (f.across *ℚ (f.across /ℚ f.length))) None
 
 abbrev pub square_quotients : Foot → List Ratio
-square_quotients f = cond (is_between f) ((f.across /ℚ f.length) ∷ (f.across *ℚ (f.across /ℚ f.length)) ∷ []) []
+square_quotients f = cond (is_on_the_way f) ((f.across /ℚ f.length) ∷ (f.across *ℚ (f.across /ℚ f.length)) ∷ []) []
 
 -- Whether the square of the length is at most D somewhere on a way that takes longer than an instant. At an end that is left out it has to
 -- be less, since so it is near that end; or both ends have at most D, since so has all between them.
@@ -81,13 +82,9 @@ reaches_by D lower_inc upper_inc q foot =
 abbrev pub leg_reaches : Ratio → Bool → Bool → Leg → Bool
 leg_reaches D lower_inc upper_inc g = reaches_by D lower_inc upper_inc (squares_of g) (foot_reaches D (foot_of g))
 
--- the lesser one of two
-abbrev pub lesser : Ratio → Ratio → Ratio
-lesser a b = cond (before a b) a b
-
--- the square of the foot's length where there is one, else the lesser one at an end
+-- the square of the foot's length where there is one, else the smaller one at an end
 abbrev pub approach_by : Squares → Option Ratio → Ratio
-approach_by q None = lesser q.last q.first
+approach_by q None = smaller q.first q.last
 approach_by q (Some m) = m
 
 -- the greatest lower bound of the square of the length on such a way, whichever ends are included
@@ -101,10 +98,10 @@ piece_reaches D p = cond (before p.span.lower p.span.upper) (leg_reaches D p.spa
 abbrev pub piece_approach : PointPiece → Ratio
 piece_approach p = cond (before p.span.lower p.span.upper) (leg_approach (leg_of p)) (squares_of (leg_of p)).first
 
--- the lesser one of what there was so far and what one more piece has
+-- the smaller one of what there was so far and what one more piece has
 abbrev pub nearest_of : Option Ratio → Ratio → Ratio
 nearest_of None m = m
-nearest_of (Some b) m = lesser b m
+nearest_of (Some b) m = smaller m b
 
 -- there is a piece
 abbrev pub are_some : List PointPiece → Bool

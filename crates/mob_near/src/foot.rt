@@ -5,7 +5,7 @@ ghost use Rattle.mob_ratio.specs.Order.{before, same};
 ghost use Rattle.mob_ratio.specs.Sign.{nil};
 ghost use Rattle.mob_frac.specs.Formula.{IsFormula, approach_parts, within_parts};
 ghost use Rattle.mob_quadratic.specs.Quadratic.{absolute};
-ghost use Rattle.mob_near.specs.Legs.{dot_parts, cross_parts, foot_by, foot_by_parts, foot_of, is_between, foot_reaches, reach_quotients, foot_square, square_quotients};
+ghost use Rattle.mob_near.specs.Legs.{dot_parts, cross_parts, foot_by, foot_by_parts, foot_of, is_on_the_way, foot_reaches, reach_quotients, foot_square, square_quotients};
 
 use crate::leg::Leg;
 use mob_frac::{Frac, Overflow};
@@ -58,8 +58,8 @@ fn foot_by(x0: &Frac, y0: &Frac, ex: &Frac, ey: &Frac) -> Result<Foot, Overflow>
 }
 
 // Whether the nearest point lies strictly between the ends.
-fn is_between(foot: &Foot) -> bool
-    ensures value { result ≡ is_between foot.now }
+fn is_on_the_way(foot: &Foot) -> bool
+    ensures value { result ≡ is_on_the_way foot.now }
 {
     foot.along.is_before(&Frac::zero()) && Frac::zero().is_before(&foot.beyond)
 }
@@ -80,7 +80,7 @@ fn foot_reaches(foot: &Foot, square: &Frac) -> Result<bool, Overflow>
     requires sum { foot.now.beyond ≡ foot.now.length +ℚ foot.now.along }
     ensures value { IsFormula (reach_quotients square.now foot.now) (foot_reaches square.now foot.now) result }
 {
-    if !is_between(foot) {
+    if !is_on_the_way(foot) {
         return Ok(false);
     }
     let height = foot.across.div(&foot.length)?;
@@ -96,7 +96,7 @@ fn foot_square(foot: &Foot) -> Result<Option<Frac>, Overflow>
     requires sum { foot.now.beyond ≡ foot.now.length +ℚ foot.now.along }
     ensures value { IsFormula (square_quotients foot.now) (foot_square foot.now) result }
 {
-    if !is_between(foot) {
+    if !is_on_the_way(foot) {
         return Ok(None);
     }
     let height = foot.across.div(&foot.length)?;

@@ -13,9 +13,10 @@ ghost use Rattle.mob_near.specs.Approaches.{IsApproach};
 ghost use Rattle.mob_near.specs.Entries.{entries_of_within, entries_of_reach, entries_of_approach};
 ghost use Rattle.mob_near.specs.Legs.{are_some, nearest_of};
 
-use crate::piece::{lesser, piece_approach, piece_reaches};
+use crate::piece::{piece_approach, piece_reaches};
 use mob_frac::Frac;
 use mob_lift::{Pieces, either};
+use mob_plane::smaller;
 use mob_slice::{Formula, Operand, Passed, PlaneLine};
 use std::alloc::Global;
 
@@ -101,12 +102,12 @@ pub fn ever_within(
     }
 }
 
-// The lesser one of what there was so far and what one more piece has.
+// The smaller one of what there was so far and what one more piece has.
 fn nearest_of(found: Option<Frac>, here: Frac) -> Frac
     ensures value { result ≡ nearest_of found here }
 {
     match found {
-        Some(before) => lesser(before, here),
+        Some(before) => smaller(&here, &before),
         None => here,
     }
 }
@@ -125,13 +126,13 @@ pub fn approach_squared(
     ensures value { IfOk result (IsApproach (given_at plane_value_of (operand_of a.entry)) (given_at plane_value_of (operand_of b.entry))) }
     ensures first { IsDecided (flat_map entries_of_approach (pieces (operand_of a.entry) (operand_of b.entry))) result }
 {
-    let mut found = None;
+    let mut nearest = None;
     for piece in Pieces::new(a, b) {
         let here = match piece_approach(alloc, &piece) {
             Ok(here) => here,
             Err(passed) => return Err(passed),
         };
-        found = Some(nearest_of(found, here));
+        nearest = Some(nearest_of(nearest, here));
     }
-    Ok(found)
+    Ok(nearest)
 }

@@ -5,11 +5,12 @@ ghost use Rattle.mob_ratio.specs.Sign.{nil};
 ghost use Rattle.mob_slice.specs.Entries.{IsDecided};
 ghost use Rattle.mob_slice.specs.Sides.{HoldsPiece, piece_of};
 ghost use Rattle.mob_near.specs.Entries.{entries_of_reach, entries_of_approach};
-ghost use Rattle.mob_near.specs.Legs.{approach_by, lesser, piece_reaches, piece_approach, reaches_by};
+ghost use Rattle.mob_near.specs.Legs.{approach_by, piece_reaches, piece_approach, reaches_by};
 
 use crate::foot::{reaches_between, square_between};
 use crate::leg::{Squares, leg_on, squares_at_ends};
 use mob_frac::Frac;
+use mob_plane::smaller;
 use mob_slice::{Formula, Passed, Piece, PlaneLine};
 use mob_span::Span;
 use std::alloc::Global;
@@ -60,23 +61,13 @@ pub fn piece_reaches(
     }
 }
 
-/// The lesser one of two numbers.
-pub fn lesser(a: Frac, b: Frac) -> Frac
-    ensures value { result ≡ lesser a b }
-{
-    if a.is_before(&b) {
-        return a;
-    }
-    b
-}
-
-// The least square: that of the nearest point, else the lesser one at an end.
+// The least square: that of the nearest point, else the smaller one at an end.
 fn approach_by(squares: &Squares, between: Option<Frac>) -> Frac
     ensures value { result ≡ approach_by squares.now between }
 {
     match between {
         Some(square) => square,
-        None => lesser(squares.last, squares.first),
+        None => smaller(&squares.first, &squares.last),
     }
 }
 

@@ -58,15 +58,15 @@ module _ (comes : Ratio → Ratio → Bool) (kept : Ratio → Ratio → Ratio) (
 up_to-next : (x y z : Ratio) → up_to x y ≡ true → up_to y z ≡ true → up_to x z ≡ true
 up_to-next x y z h k = grind (arith, h, k, before-trans z x y, before-neither x y)
 
-smaller_first : (x y : Ratio) → up_to (smaller x y) x ≡ true
-smaller_first x y = by (before y x) refl
+pub smaller_left : (x y : Ratio) → up_to (smaller x y) x ≡ true
+smaller_left x y = by (before y x) refl
   where
     by : (b : Bool) → before y x ≡ b → up_to (smaller x y) x ≡ true
     by true h = rw (h, before-back y x h) refl
     by false h = rw (h, before-self x) refl
 
-smaller_second : (x y : Ratio) → up_to (smaller x y) y ≡ true
-smaller_second x y = by (before y x) refl
+pub smaller_right : (x y : Ratio) → up_to (smaller x y) y ≡ true
+smaller_right x y = by (before y x) refl
   where
     by : (b : Bool) → before y x ≡ b → up_to (smaller x y) y ≡ true
     by true h = rw (h, before-self y) refl
@@ -76,15 +76,15 @@ cond_one : (b : Bool) (x y : Ratio) → (cond b y x ≡ x) ⊎ (cond b y x ≡ y
 cond_one true x y = inr refl
 cond_one false x y = inl refl
 
-greater_first : (x y : Ratio) → up_to x (greater x y) ≡ true
-greater_first x y = by (before x y) refl
+pub greater_left : (x y : Ratio) → up_to x (greater x y) ≡ true
+greater_left x y = by (before x y) refl
   where
     by : (b : Bool) → before x y ≡ b → up_to x (greater x y) ≡ true
     by true h = rw (h, before-back x y h) refl
     by false h = rw (h, before-self x) refl
 
-greater_second : (x y : Ratio) → up_to y (greater x y) ≡ true
-greater_second x y = by (before x y) refl
+pub greater_right : (x y : Ratio) → up_to y (greater x y) ≡ true
+greater_right x y = by (before x y) refl
   where
     by : (b : Bool) → before x y ≡ b → up_to y (greater x y) ≡ true
     by true h = rw (h, before-self y) refl
@@ -98,14 +98,14 @@ greatest_by f x ps = fold (λ x p. greater x (f p)) x ps
 
 is_least : (f : Point → Ratio) (s : Point) (ps : List Point) → Contains ps s → IsLeastAmong f ps (least_by f (f s) ps)
 is_least f s ps h = record {
-  some = listed up_to smaller smaller_first smaller_second (λ x y. cond_one (before y x) x y) (λ x. rw (before-self x) refl) up_to-next f s ps h;
-  none_less = before_all up_to smaller smaller_first smaller_second (λ x y. cond_one (before y x) x y) (λ x. rw (before-self x) refl) up_to-next f (f s) ps;
+  some = listed up_to smaller smaller_left smaller_right (λ x y. cond_one (before y x) x y) (λ x. rw (before-self x) refl) up_to-next f s ps h;
+  none_less = before_all up_to smaller smaller_left smaller_right (λ x y. cond_one (before y x) x y) (λ x. rw (before-self x) refl) up_to-next f (f s) ps;
 }
 
 is_greatest : (f : Point → Ratio) (s : Point) (ps : List Point) → Contains ps s → IsGreatestAmong f ps (greatest_by f (f s) ps)
 is_greatest f s ps h = record {
-  some = listed (λ x y. up_to y x) greater greater_first greater_second (λ x y. cond_one (before x y) x y) (λ x. rw (before-self x) refl) (λ x y z h k. up_to-next z y x k h) f s ps h;
-  none_greater = before_all (λ x y. up_to y x) greater greater_first greater_second (λ x y. cond_one (before x y) x y) (λ x. rw (before-self x) refl) (λ x y z h k. up_to-next z y x k h) f (f s) ps;
+  some = listed (λ x y. up_to y x) greater greater_left greater_right (λ x y. cond_one (before x y) x y) (λ x. rw (before-self x) refl) (λ x y z h k. up_to-next z y x k h) f s ps h;
+  none_greater = before_all (λ x y. up_to y x) greater greater_left greater_right (λ x y. cond_one (before x y) x y) (λ x. rw (before-self x) refl) (λ x y z h k. up_to-next z y x k h) f (f s) ps;
 }
 
 -- ---- corner by corner

@@ -10,3 +10,4 @@ mod rectangle;
 pub use edges::{EdgeSigns, Tally, crosses, is_in, is_on, turn, with_edge};
 pub use point::Point;
 pub use polygons::{Polygon, RingFault};
+pub use rectangle::{greater, smaller};

@@ -158,7 +158,7 @@ impl Polygon {
     pub fn copy(&self, alloc: Global) -> Result<Polygon, AllocError>
         ensures same { IfOk result (λ copy. copy ≡ self.now) }
     {
-        let mut copies = Vec::new(alloc);
+        let mut copies = Vec::with_capacity(alloc, self.rings.len())?;
         for ring in self.rings.as_slice() {
             let copy = Vec::from_slice(alloc, ring.as_slice())?;
             copies.push(copy)?;

@@ -16,13 +16,15 @@ pub struct Corners {
     pub greatest: Point,
 }
 
-fn smaller(x: &Frac, y: &Frac) -> Frac
+/// The smaller one of two numbers.
+pub fn smaller(x: &Frac, y: &Frac) -> Frac
     ensures value { result ≡ smaller x.now y.now }
 {
     if y.is_before(x) { *y } else { *x }
 }
 
-fn greater(x: &Frac, y: &Frac) -> Frac
+/// The greater one of two numbers.
+pub fn greater(x: &Frac, y: &Frac) -> Frac
     ensures value { result ≡ greater x.now y.now }
 {
     if x.is_before(y) { *y } else { *x }

@@ -22,7 +22,7 @@ pub fn point_of(x: Option<Frac>, y: Option<Frac>) -> Option<Point>
 
 /// What stands behind a closing bracket and the blanks before it.
 #[tactic(auto, unfolding(crate::specs::Points::close_bracket_at))]
-fn close_bracket_at(bytes: &[u8]) -> Option<&[u8]>
+pub fn close_bracket_at(bytes: &[u8]) -> Option<&[u8]>
     ensures read { option_map (λ rest. (tt, rest.now)) result ≡ close_bracket_in bytes.now }
 {
     match blanks(bytes).1 {

@@ -10,8 +10,10 @@ use Rattle.mob_span.specs.Neighbours.{is_inside}
 use Rattle.mob_span.proofs.SpanLemmas.{has_exact, some_instant, instant_some, meet_some}
 use Rattle.mob_span.proofs.Insides.{both, joined as both_true, inside_has}
 use Rattle.mob_span.proofs.Touching.{upto_trans}
+use Rattle.mob_plane.specs.Corners.{smaller, greater}
 use Rattle.mob_plane.specs.declared.point.Point.{Point}
-use Rattle.mob_stbox.specs.Areas.{InArea, in_area, is_area, areas_meet, area_over, area_cover, smaller, greater, area_between, IsAreaOver}
+use Rattle.mob_plane.proofs.Widening.{smaller_left, smaller_right, greater_left, greater_right}
+use Rattle.mob_stbox.specs.Areas.{InArea, in_area, is_area, areas_meet, area_over, area_cover, area_between, IsAreaOver}
 use Rattle.mob_stbox.specs.Boxes.{span_cover}
 use Rattle.mob_stbox.specs.declared.area.Area.{Area}
 
@@ -120,18 +122,6 @@ area_over_meets a b q h k =
     let j = four (up_to b.xmin q.xmax) (up_to q.xmin b.xmax) (up_to b.ymin q.ymax) (up_to q.ymin b.ymax) k in
     all_four (up_to a.xmin q.xmax) (up_to q.xmin a.xmax) (up_to a.ymin q.ymax) (up_to q.ymin a.ymax) (upto_trans a.xmin b.xmin q.xmax i.0 j.0) (upto_trans q.xmin b.xmax a.xmax j.1 i.1) (upto_trans a.ymin b.ymin q.ymax i.2 j.2) (upto_trans q.ymin b.ymax a.ymax j.3 i.3)
 
-pub smaller_left : (s t : Ratio) → up_to (smaller s t) s ≡ true
-smaller_left s t = grind (arith, before-back t s, before-self s)
-
-pub smaller_right : (s t : Ratio) → up_to (smaller s t) t ≡ true
-smaller_right s t = grind (arith, before-back t s, before-self t)
-
-pub greater_left : (s t : Ratio) → up_to s (greater s t) ≡ true
-greater_left s t = grind (arith, before-back s t, before-self s)
-
-pub greater_right : (s t : Ratio) → up_to t (greater s t) ≡ true
-greater_right s t = grind (arith, before-back s t, before-self t)
-
 smaller_least : (s t u : Ratio) → up_to u s ≡ true → up_to u t ≡ true → up_to u (smaller s t) ≡ true
 smaller_least s t u h k = grind arith
 
@@ -156,21 +146,21 @@ between_is_over p q = let a = area_between p q in record {
   least = λ b h k r m. in_over b a r (between_least p q b h k) m;
 }
 
-smaller_first : (s t : Ratio) → up_to s t ≡ true → smaller s t ≡ s
-smaller_first s t h = let e : before t s ≡ false = grind (arith, h) in rw e refl
+smaller_is : (s t : Ratio) → up_to s t ≡ true → smaller s t ≡ s
+smaller_is s t h = let e : before t s ≡ false = grind (arith, h) in rw e refl
 
-greater_last : (s t : Ratio) (b : Bool) → before s t ≡ b → up_to s t ≡ true → cond b t s ≡ t
-greater_last s t true e h = refl
-greater_last s t false e h = before-neither s t e (grind (arith, h))
+greater_is : (s t : Ratio) (b : Bool) → before s t ≡ b → up_to s t ≡ true → cond b t s ≡ t
+greater_is s t true e h = refl
+greater_is s t false e h = before-neither s t e (grind (arith, h))
 
 -- an area is the one between its least corner and its greatest
 pub between_again : (a : Area) → is_area a ≡ true → area_between (record { x = a.xmin; y = a.ymin }) (record { x = a.xmax; y = a.ymax }) ≡ a
 between_again a h =
     let k = both (up_to a.xmin a.xmax) (up_to a.ymin a.ymax) h in
-    let p = smaller_first a.xmin a.xmax k.0 in
-    let q = greater_last a.xmin a.xmax (before a.xmin a.xmax) refl k.0 in
-    let r = smaller_first a.ymin a.ymax k.1 in
-    let s = greater_last a.ymin a.ymax (before a.ymin a.ymax) refl k.1 in
+    let p = smaller_is a.xmin a.xmax k.0 in
+    let q = greater_is a.xmin a.xmax (before a.xmin a.xmax) refl k.0 in
+    let r = smaller_is a.ymin a.ymax k.1 in
+    let s = greater_is a.ymin a.ymax (before a.ymin a.ymax) refl k.1 in
     λ i. record { xmin = p i; xmax = q i; ymin = r i; ymax = s i }
 
 pub area_cover_left : (a b : Area) → area_over (area_cover a b) a ≡ true

@@ -1,7 +1,8 @@
 -- Closed rectangles of the plane.
-use Rattle.std.specs.Prelude.{Bool, cond, ◌&&◌}
+use Rattle.std.specs.Prelude.{Bool, ◌&&◌}
 use Rattle.mob_ratio.specs.Ratio.{Ratio, ◌≤ℚ◌}
-use Rattle.mob_ratio.specs.Order.{before, up_to, same}
+use Rattle.mob_ratio.specs.Order.{up_to, same}
+use Rattle.mob_plane.specs.Corners.{smaller, greater}
 use Rattle.mob_plane.specs.declared.point.Point.{Point}
 use Rattle.mob_stbox.specs.declared.area.Area.{Area}
 
@@ -27,13 +28,6 @@ areas_meet a b = up_to a.xmin b.xmax && up_to b.xmin a.xmax && (up_to a.ymin b.y
 -- b lies in a
 abbrev pub area_over : Area → Area → Bool
 area_over a b = up_to a.xmin b.xmin && up_to b.xmax a.xmax && (up_to a.ymin b.ymin && up_to b.ymax a.ymax)
-
--- the smaller and the greater of two numbers
-abbrev pub smaller : Ratio → Ratio → Ratio
-smaller s t = cond (before t s) t s
-
-abbrev pub greater : Ratio → Ratio → Ratio
-greater s t = cond (before s t) t s
 
 -- the least area over both
 abbrev pub area_cover : Area → Area → Area

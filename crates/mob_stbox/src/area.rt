@@ -1,11 +1,11 @@
 //! Closed rectangles of the plane.
 ghost use Rattle.std.specs.Prelude.{◌≡◌, true};
 ghost use Rattle.mob_frac.specs.Formula.{IsFormula, expansion_parts};
-ghost use Rattle.mob_stbox.specs.Areas.{is_area, areas_meet, area_over, area_cover, area_between, IsAreaOver, same_area, smaller, greater};
+ghost use Rattle.mob_stbox.specs.Areas.{is_area, areas_meet, area_over, area_cover, area_between, IsAreaOver, same_area};
 ghost use Rattle.mob_stbox.specs.Expansion.{moved_area};
 
 use mob_frac::{Frac, Overflow};
-use mob_plane::Point;
+use mob_plane::{Point, greater, smaller};
 
 /// A closed rectangle of the plane, by its least and its greatest coordinates. Its sides belong to it. Any four numbers can stand
 /// here; a `StBox` has no least coordinate above its greatest.
@@ -19,18 +19,6 @@ pub struct Area {
     pub ymin: Frac,
     /// The coordinate of its north side.
     pub ymax: Frac,
-}
-
-fn smaller(a: &Frac, b: &Frac) -> Frac
-    ensures value { result ≡ smaller a.now b.now }
-{
-    if b.is_before(a) { *b } else { *a }
-}
-
-fn greater(a: &Frac, b: &Frac) -> Frac
-    ensures value { result ≡ greater a.now b.now }
-{
-    if a.is_before(b) { *b } else { *a }
 }
 
 impl Area {

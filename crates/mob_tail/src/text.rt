@@ -65,7 +65,7 @@ fn write_record(
 pub fn bytes_of<'a>(alloc: Global, fields: &'a [Text]) -> Result<Vec<&'a [u8]>, AllocError>
     ensures same { IfOk result (λ v. map (λ b. b.now) v.items ≡ fields.now) }
 {
-    let mut bytes = Vec::new(alloc);
+    let mut bytes = Vec::with_capacity(alloc, fields.len())?;
     for field in fields {
         bytes.push(field.as_str().as_bytes())?;
     }

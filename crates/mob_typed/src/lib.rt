@@ -2,7 +2,9 @@
 #![tactic(auto)]
 
 pub mod laws;
+mod making;
 pub mod typed;
 
+pub use making::{copy_of, with_args};
 pub use mob_operators::Op;
 pub use typed::{ConstText, TExpr, Typed, TypedSelect, TypedStatement};

@@ -10,7 +10,6 @@ ghost use Rattle.mob_typing.specs.Selects.{outputs_seen, tree_place, is_bool, co
 
 use crate::outputs::Outputs;
 use mob_ast::{Expr, Key, Kind, Node, SqlType, Word};
-use mob_expression::constants::with_args;
 use mob_expression::expression::type_expr;
 use mob_expression::fault::Fault;
 use mob_expression::operators::type_of;
@@ -18,8 +17,8 @@ use mob_expression::scope::Scope;
 use mob_expression::words::has_digits_alone;
 use mob_list::items::Items;
 use mob_list::text::Text;
-use mob_typed::{ConstText, TExpr};
-use std::alloc::{AllocError, Global};
+use mob_typed::{ConstText, TExpr, copy_of};
+use std::alloc::Global;
 
 // The place of an expression as a whole.
 #[tactic(auto, using(mob_expression::proofs::TreeFacts::tree_is))]
@@ -101,19 +100,6 @@ fn aliased<'a>(outputs: &'a Outputs<'_>, e: &Expr) -> Option<&'a TExpr>
         }
         _ => None,
     }
-}
-
-// A second typed tree like this one.
-#[tactic(auto, using(mob_typed::proofs::TreeFacts::typed_is))]
-fn copy_of(alloc: Global, value: &TExpr) -> Result<TExpr, AllocError>
-    ensures { IfOk result (λ t. typed_of t ≡ typed_of value.now) }
-{
-    let mut args = Vec::new(alloc);
-    for arg in &value.args {
-        let copy = copy_of(alloc, arg)?;
-        args.push(copy)?;
-    }
-    Ok(with_args(value.op, value.ty, value.place, args))
 }
 
 // The value of a key.

@@ -4,7 +4,7 @@ ghost use Rattle.mob_typing.specs.WellTyped.{TypingGivesWellTyped, TypingKeepsNa
 
 /// What a typed script names by a number is there, and has the type that is asked of it: constants, columns, tables. Each operator has a
 /// row of the table for the types of its arguments, and the divisor of a division is a constant of a number, whose text has a digit other
-/// than 0 before any e. No two tables have one name, no two indexes, no two columns of a table and no two tables of a FROM.
+/// than 0 before any e and any slash. No two tables have one name, no two indexes, no two columns of a table and no two tables of a FROM.
 pub fn scripts_are_well_typed()
     ensures typed { TypingGivesWellTyped }
     ensures names { TypingKeepsNamesApart }

@@ -1,5 +1,5 @@
 -- The box that covers the boxes of all slices is that of the value.
-use Rattle.std.specs.Prelude.{◌≡◌, ◌≢◌, Bool, true, false, cond, refl, List, [], ◌∷◌, Option, Some, None, IfSome}
+use Rattle.std.specs.Prelude.{◌≡◌, ◌≢◌, Bool, true, false, cond, refl, List, [], ◌∷◌, Option, Some, None, IfSome, MatchOption}
 use Rattle.std.specs.Prelude.{ℕ, ◌+◌, ◌<◌, length}
 use Rattle.std.proofs.Common.{drop, get_or}
 use Rattle.std.proofs.lemmas.List.{drop_more}
@@ -19,17 +19,22 @@ use Rattle.mob_span.proofs.Shared.{AreAllClear, all_after}
 use Rattle.mob_span.proofs.SpanLemmas.{has_exact, has_upto_lower, has_upto_upper}
 use Rattle.mob_span.proofs.Touching.{upto_trans}
 use Rattle.mob_plane.specs.declared.point.Point.{Point}
+use Rattle.mob_slice.specs.CourseOf.{plane_course}
 use Rattle.mob_slice.specs.Lines.{plane_value_of}
 use Rattle.mob_slice.specs.Slices.{value_at, IsSound, IsOrdered, IsNormal}
 use Rattle.mob_slice.specs.declared.line.PlaneLine.{PlaneLine}
 use Rattle.mob_slice.specs.declared.slice.Slice.{Slice}
 use Rattle.mob_slice.proofs.Orders.{ordered, ordered-clear}
-use Rattle.mob_stbox.specs.Areas.{InArea, area_over, area_between, is_area, smaller, greater}
+use Rattle.mob_stbox.specs.Areas.{InArea, area_over, area_between, is_area}
 use Rattle.mob_stbox.specs.Boxes.{BoxOf, InBox, is_box, is_whole, contains, lies_in, cover}
 use Rattle.mob_stbox.specs.declared.area.Area.{Area}
 use Rattle.mob_stbox.proofs.BoxLaws.{in_contained, contains_is, over_self, over_trans, cover_over_left, cover_over_right, cover_least, cover_whole, cover_is_box, one_box}
-use Rattle.mob_stbox.proofs.Sides.{four, all_four, in_area_exact, smaller_left, smaller_right, greater_left, greater_right, between_least, between_is_area}
-use Rattle.mob_value.specs.ValueBoxes.{HasPositions, IsBoxOf, slice_box, covered, value_box}
+use Rattle.mob_plane.specs.Corners.{smaller, greater}
+use Rattle.mob_plane.proofs.Widening.{smaller_left, smaller_right, greater_left, greater_right}
+use Rattle.mob_stbox.proofs.Sides.{four, all_four, in_area_exact, between_least, between_is_area}
+use Rattle.mob_value.specs.ValueBoxes.{HasPositions, IsBoxOf, HasBox, OnBox, slice_box, covered, value_box}
+use Rattle.mob_value.specs.declared.value.Value.{Value}
+use Rattle.mob_value.specs.declared.value.Value.TheVariants.{Box, MovingPoint}
 
 abbrev start : PlaneLine → Point
 start c = c.from
@@ -222,3 +227,25 @@ next_whole over next s h is = rw is (cover_whole over (slice_box s) h (slice_who
 -- a value has one box
 pub one_value_box : (slices : List (Slice PlaneLine)) (b c : BoxOf) → IsBoxOf slices b → IsBoxOf slices c → b ≡ c
 one_value_box slices b c h k = one_box b c h.sound k.sound (k.least b h.has) (h.least c k.has)
+
+-- the cover is the least box, whatever came to it
+pub value_box_least : (slices : List (Slice PlaneLine)) → IsNormal plane_course.start plane_course.end plane_course.continues slices → IsBoxOf slices (value_box slices)
+value_box_least [] normal = absurd (normal.some refl)
+value_box_least (s ∷ rest) normal = is_box_of plane_course.continues (s ∷ rest) s (value_box (s ∷ rest)) normal refl refl
+
+pub one_own_box : (value : Value) (b c : BoxOf) → HasBox value b → HasBox value c → b ≡ c
+one_own_box (Box a) b c h k = h ∙ sym k
+one_own_box (MovingPoint a) b c h k = one_value_box a b c h k
+one_own_box _ b c h k = absurd h
+
+-- what is known of the box that a call gave holds on the box of the value
+pub on_box : (value : Value) (found : Option BoxOf) (P : BoxOf → Type 0) (none : Type 0) → OnBox value (λ b. found ≡ Some b) (found ≡ None) → MatchOption found none P → OnBox value P none
+on_box (Box a) found P none h k = subst (λ o. MatchOption o none P) h k
+on_box (MovingPoint a) found P none h k = (h.0, h.1, subst (λ o. MatchOption o none P) h.2 k)
+on_box _ found P none h k = subst (λ o. MatchOption o none P) h k
+
+-- what holds on the box of a value holds of each box that it has
+pub of_own_box : (value : Value) (b : BoxOf) (P : BoxOf → Type 0) (none : Type 0) → HasBox value b → OnBox value P none → P b
+of_own_box (Box a) b P none h k = subst P (sym h) k
+of_own_box (MovingPoint a) b P none h k = subst P (one_value_box a k.0 b k.1 h) k.2
+of_own_box _ b P none h k = absurd h

@@ -7,6 +7,8 @@ use Rattle.mob_slice.specs.declared.line.PlaneLine.{PlaneLine}
 use Rattle.mob_slice.specs.declared.slice.Slice.{Slice}
 use Rattle.mob_stbox.specs.Areas.{area_between}
 use Rattle.mob_stbox.specs.Boxes.{BoxOf, InBox, BoxContains, is_box, is_whole, cover}
+use Rattle.mob_value.specs.declared.value.Value.{Value}
+use Rattle.mob_value.specs.declared.value.Value.TheVariants.{Box, MovingPoint}
 
 -- at each instant at which the value is defined, its position there is in the box at that instant
 abbrev pub HasPositions : List (Slice PlaneLine) → BoxOf → Type 0
@@ -19,6 +21,18 @@ pub record IsBoxOf (slices : List (Slice PlaneLine)) (b : BoxOf) : Type 0 where
   pub whole : is_whole b ≡ true
   pub has : HasPositions slices b
   pub least : (d : BoxOf) → HasPositions slices d → BoxContains d b
+
+-- a box is its own, a moving point has the least one over it, and no other value has a box
+abbrev pub HasBox : Value → BoxOf → Type 0
+HasBox (Box b) c = c ≡ b
+HasBox (MovingPoint a) c = IsBoxOf a c
+HasBox _ c = ⊥
+
+-- what holds of the box that a value has, or what holds where it has none
+abbrev pub OnBox : Value → (BoxOf → Type 0) → Type 0 → Type 0
+OnBox (Box b) P none = P b
+OnBox (MovingPoint a) P none = (b : BoxOf) × IsBoxOf a b × P b
+OnBox _ P none = none
 
 -- ---- how it comes about
 

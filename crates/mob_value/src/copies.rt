@@ -48,7 +48,7 @@ pub fn copy_moving<C: CopiedCourse>(
     ensures same { IfOk result (λ copy. copy ≡ moving.now) }
 {
     let slices = moving.slices();
-    let mut copies = Vec::new(alloc);
+    let mut copies = Vec::with_capacity(alloc, slices.len())?;
     for slice in slices {
         copies.push(copy_slice(alloc, slice)?)?;
     }

@@ -11,4 +11,4 @@ mod value_box;
 pub use boxed::Boxed;
 pub use store::{Store, Table};
 pub use value::Value;
-pub use value_box::box_of;
+pub use value_box::{box_of, box_of_value};

@@ -1,8 +1,9 @@
 //! The box of a value over time.
-ghost use Rattle.std.specs.Prelude.{◌≡◌, true};
+ghost use Rattle.std.specs.Prelude.{◌≡◌, true, Some, None};
 ghost use Rattle.mob_stbox.specs.Boxes.{is_whole};
-ghost use Rattle.mob_value.specs.ValueBoxes.{IsBoxOf, slice_box as box_of_slice, covered, value_box};
+ghost use Rattle.mob_value.specs.ValueBoxes.{IsBoxOf, OnBox, slice_box as box_of_slice, covered, value_box};
 
+use crate::value::Value;
 use mob_slice::{Moving, PlaneLine, Slice};
 use mob_stbox::{Area, StBox};
 
@@ -41,5 +42,16 @@ pub fn box_of(moving: &Moving<PlaneLine>) -> StBox
     match slices {
         [first, ..] => cover_all(slice_box(first), slices),
         [] => unreachable!(),
+    }
+}
+
+/// The box that a value has: a box is its own, and a moving point has the least one over it. No other value has one.
+pub fn box_of_value(value: &Value) -> Option<StBox>
+    ensures own { OnBox value.now (λ b. result ≡ Some b) (result ≡ None) }
+{
+    match value {
+        Value::Box(area) => Some(*area.get()),
+        Value::MovingPoint(moving) => Some(box_of(moving)),
+        _ => None,
     }
 }

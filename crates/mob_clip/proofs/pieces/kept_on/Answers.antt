@@ -5,7 +5,7 @@ use Rattle.mob_slice.specs.Lines.{plane_parts_of}
 use Rattle.mob_slice.specs.PlaneLaws.{plane_laws}
 use Rattle.mob_cells.proofs.Making.{list_read}
 use Rattle.mob_cells.proofs.OwnEnds.{own_fit}
-use Rattle.mob_clip.specs.Pieces.{HoldsPiece}
+use Rattle.mob_clip.specs.Pieces.{IsOnSlice}
 use Rattle.mob_clip.specs.Steps.{ChangesFit}
 use Rattle.mob_clip.proofs.Passing.{rest_holds, passing_start, passing_step, passing_ends}
 use Rattle.mob_clip.proofs.pieces.kept_on.Goals as goal

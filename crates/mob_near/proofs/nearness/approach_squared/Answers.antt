@@ -19,8 +19,8 @@ returns-clause-value c =
     let all = pieces a b in
     let clear = subst (PartsAreClear (λ p. p.span)) c.new-piece-items.ensures.all c.new-piece-items.ensures.clear in
     let hold = subst (AllByRecursion IsHeld) c.new-piece-items.ensures.all c.new-piece-items.ensures.hold in
-    let ended = walking_end nearest_of piece_approach entries_of_approach all (pieces_left c.loop-piece.piece-iterator) c.loop-piece.found c.in-None.ensures.steps.0 c.loop-piece.invariant.walking in
+    let ended = walking_end nearest_of piece_approach entries_of_approach all (pieces_left c.loop-piece.piece-iterator) c.loop-piece.nearest c.in-None.ensures.steps.0 c.loop-piece.invariant.walking in
     subst (λ o. IsApproach (given_at plane_value_of a) (given_at plane_value_of b) o) (sym ended.0) (is_approach a b c.requires.moving clear (all_nearest all clear hold))
 
 pub returns-in-Err-clause-first : goal.returns-in-Err-clause-first
-returns-in-Err-clause-first c = walking_fails nearest_of piece_approach entries_of_approach (pieces (operand_of c.args.a) (operand_of c.args.b)) (pieces_left c.loop-piece.piece-iterator) (pieces_left c.next.new.self) c.loop-piece.found (piece_of c.in-Some.piece) c.in-Err.passed.formula c.in-Some.ensures.steps c.in-Err.ensures.first c.loop-piece.invariant.walking
+returns-in-Err-clause-first c = walking_fails nearest_of piece_approach entries_of_approach (pieces (operand_of c.args.a) (operand_of c.args.b)) (pieces_left c.loop-piece.piece-iterator) (pieces_left c.next.new.self) c.loop-piece.nearest (piece_of c.in-Some.piece) c.in-Err.passed.formula c.in-Some.ensures.steps c.in-Err.ensures.first c.loop-piece.invariant.walking

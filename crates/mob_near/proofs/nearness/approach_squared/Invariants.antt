@@ -12,5 +12,5 @@ invariant-loop-piece l = record {
   goes : (goal.iterator-loop-piece).can_next l.piece-iterator;
   ends : (goal.iterator-loop-piece).is_finite l.piece-iterator;
   hold : AllByRecursion IsHeld (pieces_left l.piece-iterator);
-  walking : IsWalking nearest_of piece_approach entries_of_approach (pieces (operand_of l.fn.a) (operand_of l.fn.b)) (pieces_left l.piece-iterator) l.found;
+  walking : IsWalking nearest_of piece_approach entries_of_approach (pieces (operand_of l.fn.a) (operand_of l.fn.b)) (pieces_left l.piece-iterator) l.nearest;
 }

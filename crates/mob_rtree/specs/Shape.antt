@@ -1,0 +1,30 @@
+-- What a contract sees of an R-tree.
+use Rattle.std.specs.Prelude.{◌≡◌, ◌⊎◌, ◌<◌, ℕ, true, List, All, Option, length}
+use Rattle.mob_stbox.specs.Boxes.{BoxOf, contains}
+use Rattle.mob_rtree_nodes.specs.Tree.{EntryOf, IsLeast}
+use Rattle.mob_rtree_nodes.specs.Reach.{Branch}
+
+-- the entries, in any order, the boxes of the nodes that have a child, for how many more entries there is memory, the nodes by their
+-- numbers, dropped ones too, which have no child, and the number of the root
+pub record Shape : Type 0 where
+  pub entries : List EntryOf
+  pub areas : List BoxOf
+  pub spare : ℕ
+  pub nodes : List Branch
+  pub root : Option ℕ
+
+-- all is as before, but for the memory that is kept
+pub record IsAsBefore (old new : Shape) : Type 0 where
+  pub entries : new.entries ≡ old.entries
+  pub areas : new.areas ≡ old.areas
+  pub nodes : new.nodes ≡ old.nodes
+  pub root : new.root ≡ old.root
+
+-- dropped nodes are used again: the nodes stay as many, unless each has a child
+abbrev pub AreUsedAgain : List Branch → List Branch → Type 0
+AreUsedAgain old new = (length new ≡ length old) ⊎ All (λ b. 0 < length b.kids) new
+
+-- where a node has a child, its box is the least one over those of its children: it contains each, and lies in each box that does
+pub record HasLeastBox (b : Branch) : Type 0 where
+  pub over : All (λ k. contains b.area k.0 ≡ true) b.kids
+  pub least : 0 < length b.kids → IsLeast b.area b.kids

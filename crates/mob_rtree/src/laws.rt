@@ -1,0 +1,20 @@
+//! What holds of every tree. No code runs here.
+
+ghost use Rattle.std.specs.Prelude.{◌≡◌, All, List};
+ghost use Rattle.mob_rtree.specs.Shape.{HasLeastBox};
+
+use crate::{Child, RTree};
+use mob_list::laws::crosses_threads;
+
+/// The box of each node is the least one over the boxes of its children.
+pub fn boxes_are_least(tree: &RTree)
+    ensures { All HasLeastBox tree.now.nodes }
+{
+    tree.has_root();
+}
+
+/// Trees cross threads.
+pub fn trees_cross_threads() {
+    crosses_threads::<RTree>();
+    crosses_threads::<Child>();
+}

@@ -1,0 +1,27 @@
+use Rattle.std.proofs.Common.{◌≡◌, ap, ◌∙◌, sym, subst, ℕ, ◌+◌, not, map, List, []}
+use Rattle.std.specs.Prelude.{count_by, sum_by, OnOk}
+use Rattle.mob_stbox.specs.Boxes.{is_whole}
+use Rattle.mob_rtree_nodes.specs.Tree.{Kid, EntryOf, is_fit, AreSame, entries_list, entries_sum}
+use Rattle.mob_rtree_nodes.specs.Builds.{IsForest, kid_of, leaf_sum}
+use Rattle.mob_rtree_nodes.specs.declared.node.TreeNode.{TreeNode}
+use Rattle.mob_rtree_nodes.proofs.Covers.{fit_whole}
+use Rattle.mob_rtree_nodes.proofs.Builds.{entry_fits, fits_arranged, forest_start, built_same, on_ok}
+use Rattle.mob_rtree_nodes.proofs.whole.raise_entries.Goals as goal
+
+pub gather_near-requires-clause-whole : goal.gather_near-requires-clause-whole
+gather_near-requires-clause-whole c = ap (count_by (λ (k : Kid). not (is_whole k.0))) c.as_slice.ensures.value ∙ fit_whole 0 c.in_ok-kids.kids.items (ap (count_by (λ (k : Kid). not (is_fit 0 k))) c.in_ok-kids.ensures ∙ entry_fits c.args.entries.now c.requires.whole)
+
+pub raise-requires-clause-forest : goal.raise-requires-clause-forest
+raise-requires-clause-forest c =
+    let count = count_by (λ (k : Kid). not (is_fit 0 k)) in
+    let fit = ap count c.as_slice.ensures.value ∙ ap count c.in_ok-kids.ensures ∙ entry_fits c.args.entries.now c.requires.whole in
+    let near = fits_arranged c.as_slice.result.now c.in_ok-near.near.items c.in_ok-near.ensures.kids fit in
+    subst (λ ps. IsForest 0 c.as_slice-2.result.now ps) (sym c.requires.none) (subst (λ kids. IsForest 0 kids []) (sym c.as_slice-2.ensures.value) (forest_start c.in_ok-near.near.items near))
+
+pub returns-clause-entries : goal.returns-clause-entries
+returns-clause-entries c =
+    on_ok c.raise.result _ _
+        (λ sums. built_same c.args.entries.now c.as_slice-2.result.now c.raise.new.nodes.items
+            (λ f. ap (sum_by f) c.as_slice-2.ensures.value ∙ c.in_ok-near.ensures.kids f ∙ ap (sum_by f) c.as_slice.ensures.value ∙ ap (sum_by f) c.in_ok-kids.ensures)
+            (λ g. sums g ∙ ap (λ ps. entries_sum g ps + leaf_sum g c.as_slice-2.result.now 0) c.requires.none))
+        c.raise.ensures.entries

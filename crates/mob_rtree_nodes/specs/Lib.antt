@@ -1,0 +1,4 @@
+pub mod Tree
+pub mod Reach
+pub mod Builds
+pub mod Removes

@@ -1,0 +1,160 @@
+//! How a tree is built of many entries: near ones beside one another, packed level upon level.
+ghost use Rattle.std.specs.Prelude.{◌≡◌, ℕ, ◌+◌, ◌*◌, ◌^◌, ◌<◌, ◌≤◌, sum_by, count_by, length, map, OnOk, IfOk, All, true, not, List, [], ◌∷◌, ◌++◌};
+ghost use Rattle.std.specs.Vec.{vec_len};
+ghost use Rattle.arrayvec.specs.ArrayVec.{array_vec_len};
+ghost use Rattle.mob_stbox.specs.Boxes.{is_whole};
+ghost use Rattle.mob_rtree_nodes.specs.Tree.{IsTree, IsSoundNode, Kid, EntryOf, entry_of, ref, is_fit, entries_sum, AreLive};
+ghost use Rattle.mob_rtree_nodes.specs.Builds.{kid_of, IsForest, IsPacking, IsClosed, leaf_sum};
+
+use crate::insert::cover_all;
+use crate::lengths::place_of;
+use crate::node::{Child, TreeNode, Root};
+use arrayvec::ArrayVec;
+use std::alloc::{AllocError, Global};
+use mob_stbox::StBox;
+
+/// Children with the places that they are to be ordered by, each computed once.
+fn keyed(alloc: Global, kids: &[(StBox, Child)], over: &StBox) -> Result<Vec<(u64, (StBox, Child))>, AllocError>
+    ensures { IfOk result (λ pairs. map (λ p. p.1) pairs.items ≡ kids.now) }
+{
+    let mut pairs = Vec::new(alloc);
+    for kid in kids {
+        pairs.push((place_of(&kid.0, over), *kid))?;
+    }
+    Ok(pairs)
+}
+
+/// The children of these pairs.
+fn unkeyed(alloc: Global, pairs: &[(u64, (StBox, Child))]) -> Result<Vec<(StBox, Child)>, AllocError>
+    ensures { IfOk result (λ kids. kids.items ≡ map (λ p. p.1) pairs.now) }
+{
+    let mut kids = Vec::new(alloc);
+    for pair in pairs {
+        kids.push(pair.1)?;
+    }
+    Ok(kids)
+}
+
+/// These children with near ones beside one another.
+pub fn gather_near(alloc: Global, kids: &[(StBox, Child)]) -> Result<Vec<(StBox, Child)>, AllocError>
+    requires some { 0 < length kids.now }
+    requires whole { count_by (λ k. not (is_whole k.0)) kids.now ≡ 0 }
+    ensures kids { IfOk result (λ near. (f : Kid → ℕ) → sum_by f near.items ≡ sum_by f kids.now) }
+    ensures len { IfOk result (λ near. length near.items ≡ length kids.now) }
+{
+    let over = cover_all(kids);
+    let mut pairs = keyed(alloc, kids, &over)?;
+    pairs.sort_unstable_by_key(|pair| pair.0);
+    unkeyed(alloc, pairs.as_slice())
+}
+
+/// Entries as the children of leaves.
+pub fn leaf_kids(alloc: Global, entries: &[(StBox, u32)]) -> Result<Vec<(StBox, Child)>, AllocError>
+    ensures { IfOk result (λ kids. kids.items ≡ map kid_of entries.now) }
+{
+    let mut kids = Vec::new(alloc);
+    for entry in entries {
+        kids.push((entry.0, Child::Entry(entry.1)))?;
+    }
+    Ok(kids)
+}
+
+/// Makes a node of these children, and puts it among those of its branch_height.
+fn close(
+    nodes: &mut Vec<TreeNode>,
+    above: &mut Vec<(StBox, Child)>,
+    waiting: ArrayVec<(StBox, Child), 16>,
+    height: u32,
+) -> Result<(), AllocError>
+    requires some { 0 < length waiting.items }
+    requires fit { count_by (λ k. not (is_fit height k)) waiting.items ≡ 0 }
+    ensures { OnOk result (IsClosed height nodes.old.items above.old.items waiting.items nodes.new.items above.new.items) }
+{
+    let count = nodes.len();
+    if count > 4294967294 {
+        return Err(AllocError);
+    }
+    let area = cover_all(waiting.as_slice());
+    above.push((area, Child::Node(count as u32)))?;
+    nodes.push(TreeNode {
+        area,
+        height,
+        kids: waiting,
+    })?;
+    Ok(())
+}
+
+/// Puts one more child into a branch_height.
+fn pack_one(
+    nodes: &mut Vec<TreeNode>,
+    above: &mut Vec<(StBox, Child)>,
+    waiting: ArrayVec<(StBox, Child), 16>,
+    height: u32,
+    kid: (StBox, Child),
+) -> Result<ArrayVec<(StBox, Child), 16>, AllocError>
+    requires fit { count_by (λ k. not (is_fit height k)) waiting.items ≡ 0 }
+    requires kid { is_fit height kid ≡ true }
+    ensures packing { (old : List TreeNode) → (came : List Kid) → IsPacking height old came nodes.old.items above.old.items waiting.items → IfOk result (λ now. IsPacking height old (came ++ kid ∷ []) nodes.new.items above.new.items now.items) }
+    ensures count { IfOk result (λ now. 16 * length above.new.items + length now.items ≡ 16 * length above.old.items + length waiting.items + 1) }
+    ensures some { IfOk result (λ now. 0 < length now.items) }
+{
+    if waiting.is_full() {
+        close(nodes, above, waiting, height)?;
+        let mut next = ArrayVec::new();
+        next.push(kid);
+        return Ok(next);
+    }
+    let mut next = waiting;
+    next.push(kid);
+    Ok(next)
+}
+
+/// Packs the children of a branch_height into nodes, and answers the branch_height above.
+fn pack(
+    alloc: Global,
+    nodes: &mut Vec<TreeNode>,
+    kids: &[(StBox, Child)],
+    height: u32,
+) -> Result<Vec<(StBox, Child)>, AllocError>
+    requires forest { IsForest height kids.now nodes.old.items }
+    requires some { 0 < length kids.now }
+    ensures forest { IfOk result (λ above. IsForest (height + 1) above.items nodes.new.items) }
+    ensures entries { IfOk result (λ above. (g : EntryOf → ℕ) → entries_sum g nodes.new.items ≡ entries_sum g nodes.old.items + leaf_sum g kids.now height) }
+    ensures fewer { IfOk result (λ above. (0 < length above.items) × (16 * length above.items < length kids.now + 16)) }
+{
+    let mut above = Vec::new(alloc);
+    let mut waiting = ArrayVec::new();
+    for kid in kids {
+        waiting = pack_one(nodes, &mut above, waiting, height, *kid)?;
+    }
+    close(nodes, &mut above, waiting, height)?;
+    Ok(above)
+}
+
+/// Packs branch_height upon branch_height, and answers the root.
+pub fn raise(
+    alloc: Global,
+    nodes: &mut Vec<TreeNode>,
+    kids: &[(StBox, Child)],
+    height: u32,
+) -> Result<Root, AllocError>
+    requires forest { IsForest height kids.now nodes.old.items }
+    requires some { 0 < length kids.now }
+    ensures tree { IfOk result (λ root. IsTree (ref root) nodes.new.items) }
+    ensures entries { OnOk result ((g : EntryOf → ℕ) → entries_sum g nodes.new.items ≡ entries_sum g nodes.old.items + leaf_sum g kids.now height) }
+    ensures live { OnOk result (AreLive nodes.new.items) }
+{
+    if height > 4294967294 {
+        return Err(AllocError);
+    }
+    let above = pack(alloc, nodes, kids, height)?;
+    if above.len() == 1 {
+        let top = above[0];
+        return Ok(Root {
+            area: top.0,
+            node: top.1.number(),
+            height,
+        });
+    }
+    raise(alloc, nodes, above.as_slice(), height + 1)
+}

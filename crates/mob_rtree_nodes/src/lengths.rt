@@ -1,0 +1,124 @@
+//! About how long the sides of boxes are, in whole parts of 2^-20. Where children lie in the tree is chosen by these numbers, and no
+//! clause speaks of them: a tree finds the same entries wherever they lie. Lengths tell apart boxes of no area too, as those of points.
+
+use mob_frac::Frac;
+use mob_span::Span;
+use mob_stbox::{Area, StBox};
+
+/// About 2^20 times the fraction.
+fn rounded(f: &Frac) -> i128 {
+    let parts = (f.num() as i128).saturating_mul(1048576);
+    if f.den() == 1 {
+        return parts;
+    }
+    parts.checked_div(f.den() as i128).unwrap_or(0)
+}
+
+/// How far the second number is past the first; 0 where it is not.
+fn past(from: &Frac, to: &Frac) -> i128 {
+    if from.is_before(to) {
+        return rounded(to).saturating_sub(rounded(from));
+    }
+    0
+}
+
+/// How much longer the sides of an area become over another one too.
+fn area_growth(a: &Area, b: &Area) -> i128 {
+    let x = past(&b.xmin, &a.xmin).saturating_add(past(&a.xmax, &b.xmax));
+    let y = past(&b.ymin, &a.ymin).saturating_add(past(&a.ymax, &b.ymax));
+    x.saturating_add(y)
+}
+
+/// How much longer a span becomes over another one too.
+fn span_growth(s: &Span, r: &Span) -> i128 {
+    past(r.lower(), s.lower()).saturating_add(past(s.upper(), r.upper()))
+}
+
+/// How much longer the sides of a box become over another one too.
+pub fn growth(b: &StBox, other: &StBox) -> i128 {
+    let space = match (b.space(), other.space()) {
+        (Some(x), Some(y)) => area_growth(x, y),
+        _ => 0,
+    };
+    match (b.time(), other.time()) {
+        (Some(s), Some(r)) => space.saturating_add(span_growth(s, r)),
+        _ => space,
+    }
+}
+
+/// Where a box begins along an axis, 0 and 1 in space and 2 in time.
+pub fn least_of(b: &StBox, axis: u8) -> i128 {
+    if axis == 2 {
+        return match b.time() {
+            None => 0,
+            Some(span) => rounded(span.lower()),
+        };
+    }
+    match b.space() {
+        None => 0,
+        Some(area) => rounded(if axis == 0 { &area.xmin } else { &area.ymin }),
+    }
+}
+
+/// Where it ends along an axis.
+fn greatest_of(b: &StBox, axis: u8) -> i128 {
+    if axis == 2 {
+        return match b.time() {
+            None => 0,
+            Some(span) => rounded(span.upper()),
+        };
+    }
+    match b.space() {
+        None => 0,
+        Some(area) => rounded(if axis == 0 { &area.xmax } else { &area.ymax }),
+    }
+}
+
+/// Twice where its middle is along an axis.
+pub fn middle_of(b: &StBox, axis: u8) -> i128 {
+    least_of(b, axis).saturating_add(greatest_of(b, axis))
+}
+
+/// How long its side is along an axis.
+pub fn length_of(b: &StBox, axis: u8) -> u128 {
+    greatest_of(b, axis).abs_diff(least_of(b, axis))
+}
+
+/// The axis of its longest side.
+pub fn longest(b: &StBox) -> u8 {
+    let x = length_of(b, 0);
+    let y = length_of(b, 1);
+    let time = length_of(b, 2);
+    if x >= y && x >= time {
+        0
+    } else if y >= time {
+        1
+    } else {
+        2
+    }
+}
+
+/// Takes the bits of a number apart, so that two others fit between each two.
+fn spread(number: u64) -> u64 {
+    let mut n = number;
+    n = (n | (n << 32)) & 0x1f00000000ffff;
+    n = (n | (n << 16)) & 0x1f0000ff0000ff;
+    n = (n | (n << 8)) & 0x100f00f00f00f00f;
+    n = (n | (n << 4)) & 0x10c30c30c30c30c3;
+    (n | (n << 2)) & 0x1249249249249249
+}
+
+/// Where the middle of a box is along an axis of a box over it, in parts of its side.
+fn step_of(b: &StBox, over: &StBox, axis: u8) -> u64 {
+    let from = middle_of(b, axis).abs_diff(least_of(over, axis).saturating_mul(2));
+    let part = length_of(over, axis) / 524288;
+    ((from / part.saturating_add(1)) % 2097152) as u64
+}
+
+/// Where the middle of a box is in a box over it, as a number whose neighbours lie near one another.
+pub fn place_of(b: &StBox, over: &StBox) -> u64 {
+    let x = spread(step_of(b, over, 0));
+    let y = spread(step_of(b, over, 1));
+    let time = spread(step_of(b, over, 2));
+    x | (y << 1) | (time << 2)
+}

@@ -1,0 +1,143 @@
+//! How an entry is taken out below a node.
+ghost use Rattle.std.specs.Prelude.{◌≡◌, ◌≢◌, ℕ, ◌+◌, ◌<◌, ◌≤◌, sum_by, count_by, length, List, All, set, get_or, MatchOption, true, []};
+ghost use Rattle.std.specs.Vec.{vec_capacity};
+ghost use Rattle.mob_stbox.specs.Boxes.{contains, is_whole};
+ghost use Rattle.mob_rtree_nodes.specs.Tree.{IsTree, IsSoundNode, IsFree, Ref, Kid, kids_at, height_at};
+ghost use Rattle.mob_rtree_nodes.specs.declared.remove.Removed.TheVariants.{Missing, Narrowed, Emptied};
+ghost use Rattle.mob_rtree_nodes.specs.Removes.{is_entry, IsSettled, IsSettledAt, IsRemoved, is_whole_left};
+
+use crate::insert::{cover_all, widen};
+use crate::node::{Child, TreeNode};
+use mob_stbox::StBox;
+
+/// What became of a node when an entry was to be taken_out out below it: it was not there, the node has a narrower box,
+/// or it has no child any more.
+#[derive(Clone, Copy)]
+pub enum Removed {
+    Missing,
+    Narrowed(StBox),
+    Emptied,
+}
+
+/// The slot of an entry.
+fn position(kids: &[(StBox, Child)], b: &StBox, id: u32) -> Option<usize>
+    ensures { MatchOption result (count_by (is_entry b.now id) kids.now ≡ 0) (λ i. (i < length kids.now) × ((k : Kid) → k ≡ get_or kids.now i k → is_entry b.now id k ≡ true)) }
+{
+    for (slot, kid) in kids.iter().enumerate() {
+        if kid.0.same(b) && kid.1.number() == id {
+            return Some(slot);
+        }
+    }
+    None
+}
+
+/// Takes a child out.
+fn take_out(part: &mut TreeNode, slot: usize) -> Removed
+    requires slot { slot < length part.old.kids.items }
+    requires sound { IsSoundNode part.old }
+    ensures { IsSettled part.old slot Emptied result part.new }
+{
+    part.kids.remove(slot);
+    if part.kids.is_empty() {
+        return Removed::Emptied;
+    }
+    part.area = cover_all(part.kids.as_slice());
+    Removed::Narrowed(part.area)
+}
+
+/// Writes down at a node what became of a child.
+fn settle(part: &mut TreeNode, slot: usize, removed: Removed) -> Removed
+    requires slot { slot < length part.old.kids.items }
+    requires sound { IsSoundNode part.old }
+    requires left { is_whole_left removed ≡ true }
+    ensures { IsSettled part.old slot removed result part.new }
+{
+    match removed {
+        Removed::Narrowed(area) => {
+            widen(part, slot, area);
+            Removed::Narrowed(part.area)
+        }
+        Removed::Missing => take_out(part, slot),
+        Removed::Emptied => take_out(part, slot),
+    }
+}
+
+/// The same at the node of a number, which is free where it has no child any more.
+fn settle_at(nodes: &mut Vec<TreeNode>, free: &mut Vec<u32>, node: u32, slot: usize, removed: Removed) -> Removed
+    requires there { node < length nodes.old.items }
+    requires slot { slot < length (kids_at nodes.old.items node) }
+    requires sound { All IsSoundNode nodes.old.items }
+    requires left { is_whole_left removed ≡ true }
+    requires free { IsFree free.old.items nodes.old.items }
+    requires room { length nodes.old.items ≤ vec_capacity free.old }
+    ensures settled { IsSettledAt nodes.old.items node slot removed result nodes.new.items }
+    ensures free { IsFree free.new.items nodes.new.items }
+    ensures capacity { vec_capacity nodes.new ≡ vec_capacity nodes.old }
+    ensures free_capacity { vec_capacity free.new ≡ vec_capacity free.old }
+{
+    let part = &mut nodes[node as usize];
+    let left = settle(part, slot, removed);
+    match left {
+        Removed::Emptied => {
+            free.push_reserved(node);
+            Removed::Emptied
+        }
+        Removed::Narrowed(area) => Removed::Narrowed(area),
+        Removed::Missing => Removed::Missing,
+    }
+}
+
+/// Takes an entry out of a leaf.
+fn remove_entry(nodes: &mut Vec<TreeNode>, free: &mut Vec<u32>, node: u32, b: &StBox, id: u32) -> Removed
+    requires there { node < length nodes.old.items }
+    requires sound { All IsSoundNode nodes.old.items }
+    requires leaf { height_at nodes.old.items node ≡ 0 }
+    requires free { IsFree free.old.items nodes.old.items }
+    requires room { length nodes.old.items ≤ vec_capacity free.old }
+    ensures removed { IsRemoved nodes.old.items node (b.now, id) result nodes.new.items }
+    ensures missing { result ≡ Missing → nodes.new ≡ nodes.old }
+    ensures free { IsFree free.new.items nodes.new.items }
+    ensures capacity { vec_capacity nodes.new ≡ vec_capacity nodes.old }
+    ensures free_capacity { vec_capacity free.new ≡ vec_capacity free.old }
+{
+    let part = &nodes[node as usize];
+    let found = position(part.kids.as_slice(), b, id);
+    match found {
+        None => Removed::Missing,
+        Some(slot) => settle_at(nodes, free, node, slot, Removed::Emptied),
+    }
+}
+
+/// Takes an entry out below a node.
+pub fn remove_at(nodes: &mut Vec<TreeNode>, free: &mut Vec<u32>, node: u32, b: &StBox, id: u32) -> Removed
+    requires tree { (root : Ref) × IsTree root nodes.old.items }
+    requires there { node < length nodes.old.items }
+    requires free { IsFree free.old.items nodes.old.items }
+    requires room { length nodes.old.items ≤ vec_capacity free.old }
+    ensures removed { IsRemoved nodes.old.items node (b.now, id) result nodes.new.items }
+    ensures missing { result ≡ Missing → nodes.new ≡ nodes.old }
+    ensures free { IsFree free.new.items nodes.new.items }
+    ensures capacity { vec_capacity nodes.new ≡ vec_capacity nodes.old }
+    ensures free_capacity { vec_capacity free.new ≡ vec_capacity free.old }
+{
+    let part = &nodes[node as usize];
+    if part.height == 0 {
+        return remove_entry(nodes, free, node, b, id);
+    }
+    let count = part.kids.len();
+    for slot in 0..count {
+        let kid = nodes[node as usize].kids.as_slice()[slot];
+        if kid.0.contains(b) {
+            let number = kid.1.number();
+            let removed = remove_at(nodes, free, number, b, id);
+            match removed {
+                Removed::Missing => {}
+                Removed::Narrowed(area) => {
+                    return settle_at(nodes, free, node, slot, Removed::Narrowed(area));
+                }
+                Removed::Emptied => return settle_at(nodes, free, node, slot, Removed::Emptied),
+            }
+        }
+    }
+    Removed::Missing
+}
