@@ -1,9 +1,10 @@
 -- The tuples of a query are made of rows that are there.
-use Rattle.std.proofs.Common.{◌≡◌, ◌∙◌, inl, inr, refl, sym, ap, subst, arith, ℕ, List, [], ◌∷◌, ◌++◌, length, length-append, map, Some, append_assoc, append-nil, slice_get, unwrap_or, option_map}
+use Rattle.std.proofs.Common.{◌≡◌, ◌∙◌, ◌+◌, inl, inr, refl, sym, ap, subst, arith, ℕ, List, [], ◌∷◌, ◌++◌, length, length-append, map, Some, append_assoc, append-nil, slice_get, unwrap_or, option_map}
 use Rattle.std.specs.List.{AllByRecursion}
 use Rattle.mob_typed.proofs.Rising.{each_both, each_on}
 use Rattle.mob_catalog.specs.Catalogue.{Catalogue, live_rows}
-use Rattle.mob_plan.specs.Plans.{scan}
+use Rattle.mob_plan.specs.Keys.{Offer, offers_of}
+use Rattle.mob_plan.specs.Plans.{IndexedColumns, PlanStep, scan, probe, step_at, steps_from}
 use Rattle.mob_tuples.specs.Tuples.{AreTuples, IsTuple, Joined, Reached, StandsIn}
 use Rattle.mob_join.specs.Rows.{StepGives, TableGives}
 use Rattle.mob_join.proofs.Scans.{get_behind}
@@ -42,22 +43,27 @@ module _ (c : Catalogue) where
       (λ row some stands are. each_on (GoesOnLive ss (begin ++ row ∷ [])) (GoesOnLive (s ∷ ss) begin) (one_row_more s ss begin row stands) some (tuples_go_on ss (begin ++ row ∷ []) some are))
       h.0 tuples (all_stand [] h.0 (live_rows c s) (sym h.1)) h.2
 
-  -- what scans visit
-  visits_go_on : (from front tables : List ℕ) → from ≡ front ++ tables → (begin : List ℕ) → length begin ≡ length front → (before : List (List ℕ)) (tuple : List ℕ)
-      → IsTuple (StepGives c from) (map (λ _. scan) tables) begin before tuple → GoesOnLive tables begin tuple
-  visits_go_on from front [] e begin n before tuple h = ([], h.1 ∙ sym (append-nil begin), tt)
-  visits_go_on from front (t ∷ ts) e begin n before tuple h =
+  -- what a step gives is there
+  step_live : (from begin : List ℕ) (t : ℕ) (step : PlanStep) (rows : List ℕ) → slice_get from (length begin) ≡ Some t → StepGives c from step begin rows → AllByRecursion (λ x. StandsIn x (live_rows c t)) rows
+  step_live from begin t scan rows there h = all_stand [] rows (live_rows c t) (sym (h ∙ ap (λ o. unwrap_or (option_map (live_rows c) o) []) there))
+  step_live from begin t (probe index key) rows there h = ?
+
+  -- what a plan visits, whatever it looks up
+  visits_go_on : (indexed : IndexedColumns) (offered : List Offer) (from front tables : List ℕ) → from ≡ front ++ tables → (place : ℕ) (begin : List ℕ) → length begin ≡ length front → (before : List (List ℕ)) (tuple : List ℕ)
+      → IsTuple (StepGives c from) (steps_from indexed offered place tables) begin before tuple → GoesOnLive tables begin tuple
+  visits_go_on indexed offered from front [] e place begin n before tuple h = ([], h.1 ∙ sym (append-nil begin), tt)
+  visits_go_on indexed offered from front (t ∷ ts) e place begin n before tuple h =
       let there : slice_get from (length begin) ≡ Some t = ap (slice_get from) n ∙ ap (λ z. slice_get z (length front)) e ∙ get_behind front ts t in
-      let rows : h.0 ≡ live_rows c t = h.1 ∙ ap (λ o. unwrap_or (option_map (live_rows c) o) []) there in
-      let stand = all_stand [] h.0 (live_rows c t) (sym rows) in
+      let steps = steps_from indexed offered (place + 1) ts in
       let one =
-      reached_one (λ (row : ℕ). StandsIn row (live_rows c t)) (λ (row : ℕ). AreTuples (StepGives c from) (map (λ _. scan) ts) (begin ++ row ∷ [])) (λ (row : ℕ). IsTuple (StepGives c from) (map (λ _. scan) ts) (begin ++ row ∷ []))
-      h.0 before tuple stand h.2 in
+      reached_one (λ (row : ℕ). StandsIn row (live_rows c t)) (λ (row : ℕ). AreTuples (StepGives c from) steps (begin ++ row ∷ [])) (λ (row : ℕ). IsTuple (StepGives c from) steps (begin ++ row ∷ []))
+      h.0 before tuple (step_live from begin t (step_at indexed offered place t) h.0 there h.1) h.2 in
       let longer : length (begin ++ one.0 ∷ []) ≡ length (front ++ t ∷ []) = omega (arith, length-append begin (one.0 ∷ []), length-append front (t ∷ []), n) in
-      one_row_more t ts begin one.0 one.2 tuple (visits_go_on from (front ++ t ∷ []) ts (e ∙ sym (append_assoc front (t ∷ []) ts)) (begin ++ one.0 ∷ []) longer one.1 tuple one.3)
+      one_row_more t ts begin one.0 one.2 tuple (visits_go_on indexed offered from (front ++ t ∷ []) ts (e ∙ sym (append_assoc front (t ∷ []) ts)) (place + 1) (begin ++ one.0 ∷ []) longer one.1 tuple one.3)
 
 pub visits_are_live : VisitsAreLive
-visits_are_live c q before tuple h = let g = visits_go_on c q.from [] q.from refl [] refl before tuple h in subst (IsLiveTuple c q.from) (sym g.1) g.2
+visits_are_live c q before tuple h =
+    let g = visits_go_on c c.indexed (offers_of q.cond) q.from [] q.from refl 0 [] refl before tuple h in subst (IsLiveTuple c q.from) (sym g.1) g.2
 
 pub tuples_are_live : TuplesAreLive
 tuples_are_live c from tuples h = each_on (GoesOnLive c from []) (IsLiveTuple c from) (λ tuple g. subst (IsLiveTuple c from) (sym g.1) g.2) tuples (tuples_go_on c from [] tuples h)
