@@ -7,7 +7,7 @@ use Rattle.mob_value.specs.declared.value.Value.{Value}
 use Rattle.mob_typed.specs.declared.typed.ConstText.{ConstText}
 use Rattle.mob_typed.specs.Statements.{ColumnList, ScriptOut, StatementOut, nothing, new_table, new_index, new_rows, rows_from, query, plan_of}
 use Rattle.mob_typing.specs.WellTyped.{constant_type, IsOfColumn, AreTypedRows, AreTypedStatements, tables_behind, TypingGivesWellTyped}
-use Rattle.mob_catalog.specs.Catalogue.{Catalogue, table_columns, with_index, with_row}
+use Rattle.mob_catalog.specs.Catalogue.{Catalogue, table_columns, with_row}
 use Rattle.mob_catalog.specs.Constants.{IsConstant}
 use Rattle.mob_catalog.specs.OwnTypes.{ConstantsHaveTheirTypes, HasColumnTypes, IsValueOf, RowsHaveColumnTypes}
 use Rattle.mob_catalog.specs.TypedTables.{Stores, head_columns}
@@ -40,10 +40,6 @@ module _ (values : List Value) (tables : List ColumnList) where
   rows_stored : (n : ℕ) (rows : List (List Value)) (c : Catalogue) → Stores values tables c → AreOfColumns (columns_at tables n) rows → Stores values tables (with_all_rows n rows c)
   rows_stored n [] c h fits = h
   rows_stored n (row ∷ rows) c h fits = rows_stored n rows (with_row n row c) (row_stored n row c h fits.0) fits.1
-
--- an index changes no table
-index_stored : (values : List Value) (tables : List ColumnList) (name : List ℕ) (n column : ℕ) (c : Catalogue) → Stores values tables c → Stores values tables (with_index name n column c)
-index_stored values tables name n column c h = record { typed = h.typed; live = h.live; made = h.made; consts = h.consts }
 
 -- where a run stands before these statements, the first of which has this number
 pub record StandsBefore (consts : List ConstText) (values : List Value) (n : ℕ) (tables : List ColumnList) (ss : List StatementOut) (s : RunState) : Type 0 where
@@ -82,7 +78,7 @@ module _ (owns : ConstantsHaveTheirTypes) (day : ℤ) where
     statement_keeps n tables (new_table k name columns) ss s t h is =
         subst (StandsBefore consts values (n + 1) (tables ++ columns ∷ []) ss) (sym is) (record { holds = types_stay.table values tables columns s.catalogue h.holds; typed = h.typed.1; files = h.files })
     statement_keeps n tables (new_index k c name) ss s t h is =
-        subst (StandsBefore consts values (n + 1) tables ss) (sym is) (record { holds = index_stored values tables name k c s.catalogue h.holds; typed = h.typed.1; files = h.files })
+        subst (StandsBefore consts values (n + 1) tables ss) (sym is) (record { holds = types_stay.index values tables name k c s.catalogue h.holds h.typed.0; typed = h.typed.1; files = h.files })
     statement_keeps n tables (new_rows k rows places) ss s t h is =
         let fits = subst (λ (vs : List Value). AreOfColumns (columns_at tables k) (map (inserted_row vs) rows)) (sym h.holds.consts) (inserted_fit tables k rows places h.typed.0) in
         subst (StandsBefore consts values (n + 1) tables ss) (sym is) (record {
