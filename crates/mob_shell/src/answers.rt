@@ -33,7 +33,7 @@ fn kept_tuples(
     let Ok(plan) = plan(alloc, select, catalog.indexed()) else {
         return Err(QueryFault::NoMemory);
     };
-    let Ok(outer) = outer(alloc, select, &plan, catalog) else {
+    let Ok(outer) = outer(alloc, select, &plan, catalog, epoch) else {
         return Err(QueryFault::NoMemory);
     };
     let query = Query::new(QueryParts {
