@@ -7,7 +7,7 @@ pub returns : goal.returns
 returns c =
     record {
       rows = elim c.in-None.ensures.steps [
-        | inl p ↦ all_made _ _ _ _ _ (inl (nil_from_length _ p.1.0)) c.loop-step.invariant
-        | inr p ↦ all_made _ _ _ _ _ (inr (nil_from_length _ p.1.0)) c.loop-step.invariant
+        | inl p ↦ all_made c.args.catalog.now _ _ _ _ (inl (nil_from_length _ p.1.0)) c.loop-step.invariant
+        | inr p ↦ all_made c.args.catalog.now _ _ _ _ (inr (nil_from_length _ p.1.0)) c.loop-step.invariant
       ];
     }
