@@ -74,5 +74,5 @@ corner_box ps l g m h a b =
 
 pub one_looked_for : (v : Value) (b c : BoxOf) → IsLookedForBy v b → IsLookedForBy v c → b ≡ c
 one_looked_for (Point p) b c h k = h ∙ sym k
-one_looked_for (Polygon rings) b c h k = h.3 ∙ corner_box (all_points rings) h.0 h.1 k.0 k.1 h.2 k.2 ∙ sym k.3
+one_looked_for (Polygon rings) b c h k = h.4 ∙ corner_box (all_points rings) h.1 h.2 k.1 k.2 h.3 k.3 ∙ sym k.4
 one_looked_for v b c h k = one_own_box v b c h k

@@ -86,29 +86,6 @@ near_first a p q d h i = near_second a q p d (within_back d p q h) i
 
 -- ---- boxes
 
--- the box of the second, moved outward, beside that of the first; t is an instant at which both are somewhere
-wide_meets : (b c : BoxOf) (x y : Area) (t d : Ratio) (p q : Point) → b.space ≡ Some x → c.space ≡ Some y → InBox b t p → InBox c t q → are_within d p q ≡ true → (wide : BoxOf) × (expanded c d ≡ Some wide) × BoxesMeet b wide
-wide_meets b c x y t d p q eb ec ib ic near =
-    let moved = moved_area y d in
-    let wide : BoxOf = record { space = Some moved; time = c.time } in
-    let inx : InArea x p = subst (λ o. IfSome o (λ a. InArea a p)) eb ib.in_space in
-    let iny : InArea y q = subst (λ o. IfSome o (λ a. InArea a q)) ec ic.in_space in
-    let there : InArea moved p = near_first y p q d near iny in
-    let stands : is_area moved ≡ true = (area_has_point moved).1 (p, there) in (
-      wide,
-      ap (λ o. moved_space o c.time d) ec ∙ ap (λ z. cond z (Some wide) None) stands,
-      record {
-        share = ap (λ o. (is_some o && true) || both_have b.time c.time) eb;
-        in_space = subst (λ o. IfSome o (λ a. (r : Point) × InArea a r × InArea moved r)) (sym eb) (p, inx, there);
-        in_time = both_times b.time c.time t ib.in_time ic.in_time;
-      },
-    )
-  where
-    both_times : (s r : Option SpanOf) (t : Ratio) → IfSome s (λ z. InSpan z t) → IfSome r (λ z. InSpan z t) → IfSome s (λ z. IfSome r (λ w. (u : Ratio) × InSpan z u × InSpan w u))
-    both_times None r t h k = tt
-    both_times (Some s) None t h k = tt
-    both_times (Some s) (Some r) t h k = (t, h, k)
-
 -- a box that has space has an area
 pub area_of : (o : Option Area) → is_some o ≡ true → (a : Area) × (o ≡ Some a)
 area_of None h = absurd cc
@@ -117,11 +94,37 @@ area_of (Some a) h = (a, refl)
 pub there_in : (place : Ratio → Option Point) (b : BoxOf) (t : Ratio) (p : Point) → Covers place b → place t ≡ Some p → InBox b t p
 there_in place b t p h e = subst (λ o. IfSome o (λ q. InBox b t q)) e (h t)
 
-pub boxes_second : (one other : Ratio → Option Point) (b c : BoxOf) (d : Ratio) → Covers one b → Covers other c → is_some b.space ≡ true → is_some c.space ≡ true → IsSometime (λ p q. are_within d p q ≡ true) one other → (wide : BoxOf) × (expanded c d ≡ Some wide) × BoxesMeet b wide
-boxes_second one other b c d h k sb sc (t, p, q, ep, eq, near) =
-    let x = area_of b.space sb in
-    let y = area_of c.space sc in
-    wide_meets b c x.0 y.0 t d p q x.1 y.1 (there_in one b t p h ep) (there_in other c t q k eq) near
+both_times : (s r : Option SpanOf) (t : Ratio) → IfSome s (λ z. InSpan z t) → IfSome r (λ z. InSpan z t) → IfSome s (λ z. IfSome r (λ w. (u : Ratio) × InSpan z u × InSpan w u))
+both_times None r t h k = tt
+both_times (Some s) None t h k = tt
+both_times (Some s) (Some r) t h k = (t, h, k)
 
-pub boxes_first : (one other : Ratio → Option Point) (b c : BoxOf) (d : Ratio) → Covers one b → Covers other c → is_some b.space ≡ true → is_some c.space ≡ true → IsSometime (λ p q. are_within d p q ≡ true) one other → (wide : BoxOf) × (expanded b d ≡ Some wide) × BoxesMeet c wide
-boxes_first one other b c d h k sb sc (t, p, q, ep, eq, near) = boxes_second other one c b d k h sc sb (t, q, p, eq, ep, within_back d p q near)
+-- a box over the first, beside one that has the first's place at an instant of its own time
+over_meets : (b : BoxOf) (moved : Area) (time : Option SpanOf) (t : Ratio) (p : Point) → is_some b.space ≡ true → InBox b t p → InArea moved p → IfSome time (λ r. InSpan r t) → BoxesMeet b (record { space = Some moved; time = time })
+over_meets b moved time t p s i there at =
+    let x = area_of b.space s in
+    let inx : InArea x.0 p = subst (λ o. IfSome o (λ a. InArea a p)) x.1 i.in_space in
+    record {
+      share = ap (λ o. (is_some o && true) || both_have b.time time) x.1;
+      in_space = subst (λ o. IfSome o (λ a. (r : Point) × InArea a r × InArea moved r)) (sym x.1) (p, inx, there);
+      in_time = both_times b.time time t i.in_time at;
+    }
+
+pub boxes_second : (one other : Ratio → Option Point) (c : BoxOf) (d : Ratio) → Covers other c → is_some c.space ≡ true → IsSometime (λ p q. are_within d p q ≡ true) one other
+    → (wide : BoxOf) × (expanded c d ≡ Some wide) × ((b : BoxOf) → Covers one b → is_some b.space ≡ true → BoxesMeet b wide)
+boxes_second one other c d k sc (t, p, q, ep, eq, near) =
+    let y = area_of c.space sc in
+    let i = there_in other c t q k eq in
+    let moved = moved_area y.0 d in
+    let wide : BoxOf = record { space = Some moved; time = c.time } in
+    let iny : InArea y.0 q = subst (λ o. IfSome o (λ a. InArea a q)) y.1 i.in_space in
+    let there : InArea moved p = near_first y.0 p q d near iny in
+    let stands : is_area moved ≡ true = (area_has_point moved).1 (p, there) in (
+      wide,
+      ap (λ o. moved_space o c.time d) y.1 ∙ ap (λ z. cond z (Some wide) None) stands,
+      (λ b h s. over_meets b moved c.time t p s (there_in one b t p h ep) there i.in_time),
+    )
+
+pub boxes_first : (one other : Ratio → Option Point) (b : BoxOf) (d : Ratio) → Covers one b → is_some b.space ≡ true → IsSometime (λ p q. are_within d p q ≡ true) one other
+    → (wide : BoxOf) × (expanded b d ≡ Some wide) × ((c : BoxOf) → Covers other c → is_some c.space ≡ true → BoxesMeet c wide)
+boxes_first one other b d h sb (t, p, q, ep, eq, near) = boxes_second other one b d h sb (t, q, p, eq, ep, within_back d p q near)

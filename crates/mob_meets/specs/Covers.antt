@@ -1,7 +1,8 @@
 -- Boxes of what is somewhere at some instants, and the box by which a value is looked for.
-use Rattle.std.specs.Prelude.{◌≡◌, Option, Some, None, IfSome}
+use Rattle.std.specs.Prelude.{◌≡◌, true, Option, Some, None, IfSome}
 use Rattle.mob_ratio.specs.Ratio.{Ratio}
 use Rattle.mob_plane.specs.Corners.{all_points, AreCorners}
+use Rattle.mob_plane.specs.Rings.{are_sound}
 use Rattle.mob_plane.specs.declared.point.Point.{Point as PointOf}
 use Rattle.mob_stbox.specs.Areas.{area_between}
 use Rattle.mob_stbox.specs.Boxes.{BoxOf, InBox}
@@ -21,5 +22,5 @@ box_between p q = record { space = Some (area_between p q); time = None }
 -- rectangle between its least and its greatest corner, both at all times. Other values have none.
 abbrev pub IsLookedForBy : Value → BoxOf → Type 0
 IsLookedForBy (Point p) b = b ≡ box_between p p
-IsLookedForBy (Polygon rings) b = (least : PointOf) × (greatest : PointOf) × AreCorners (all_points rings) least greatest × (b ≡ box_between least greatest)
+IsLookedForBy (Polygon rings) b = (are_sound rings ≡ true) × (least : PointOf) × (greatest : PointOf) × AreCorners (all_points rings) least greatest × (b ≡ box_between least greatest)
 IsLookedForBy v b = HasBox v b

@@ -20,13 +20,13 @@ pub fn near_points_share_areas()
     ensures first { (a : AreaOf) (p q : PointOf) (d : Ratio) → are_within d p q ≡ true → InArea a q → InArea (moved_area a d) p }
 {}
 
-/// Where two moving points are within a distance at some instant, a box over each of them, with its sides moved outward by that
+/// Where two moving points are within a distance at some instant, a box over one of them, with its sides moved outward by that
 /// distance, is there and meets each box over the other.
 pub fn near_boxes_meet()
-    ensures second { (one other : Ratio → Option PointOf) (b c : BoxOf) (d : Ratio) → Covers one b → Covers other c → is_some b.space ≡ true → is_some c.space ≡ true
-        → IsSometime (λ p q. are_within d p q ≡ true) one other → (wide : BoxOf) × (expanded c d ≡ Some wide) × BoxesMeet b wide }
-    ensures first { (one other : Ratio → Option PointOf) (b c : BoxOf) (d : Ratio) → Covers one b → Covers other c → is_some b.space ≡ true → is_some c.space ≡ true
-        → IsSometime (λ p q. are_within d p q ≡ true) one other → (wide : BoxOf) × (expanded b d ≡ Some wide) × BoxesMeet c wide }
+    ensures second { (one other : Ratio → Option PointOf) (c : BoxOf) (d : Ratio) → Covers other c → is_some c.space ≡ true → IsSometime (λ p q. are_within d p q ≡ true) one other
+        → (wide : BoxOf) × (expanded c d ≡ Some wide) × ((b : BoxOf) → Covers one b → is_some b.space ≡ true → BoxesMeet b wide) }
+    ensures first { (one other : Ratio → Option PointOf) (b : BoxOf) (d : Ratio) → Covers one b → is_some b.space ≡ true → IsSometime (λ p q. are_within d p q ≡ true) one other
+        → (wide : BoxOf) × (expanded b d ≡ Some wide) × ((c : BoxOf) → Covers other c → is_some c.space ≡ true → BoxesMeet c wide) }
 {}
 
 /// A point inside closed rings lies in each area that has all of their corners.
