@@ -5,8 +5,8 @@ ghost use Rattle.arrayvec.specs.ArrayVec.{array_vec_len};
 ghost use Rattle.mob_stbox.specs.Boxes.{contains, is_whole};
 ghost use Rattle.mob_rtree_nodes.specs.Tree.{IsTree, IsSoundNode, Kid, height_at, kids_at, kids_of_more, Ref, IsAttached, IsReplaced, IsGrown, IsLeast, IsFree, IsPut, IsReused, is_fit};
 
-use crate::node::{Child, TreeNode};
 use crate::lengths::{growth, longest, middle_of};
+use crate::node::{Child, TreeNode};
 use arrayvec::ArrayVec;
 use mob_stbox::StBox;
 
@@ -73,7 +73,11 @@ fn move_last(kids: &mut ArrayVec<(StBox, Child), 16>, second: &mut ArrayVec<(StB
 }
 
 /// Takes half of the children away, with one more on the side that fits it.
-fn split(kids: &mut ArrayVec<(StBox, Child), 16>, axis: u8, kid: (StBox, Child)) -> ArrayVec<(StBox, Child), 16>
+fn split(
+    kids: &mut ArrayVec<(StBox, Child), 16>,
+    axis: u8,
+    kid: (StBox, Child),
+) -> ArrayVec<(StBox, Child), 16>
     requires { array_vec_len kids.old ≡ 16 }
     ensures kids { (f : Kid → ℕ) → sum_by f kids.new.items + sum_by f result.items ≡ sum_by f kids.old.items + f kid }
     ensures first { 0 < length kids.new.items }
@@ -144,7 +148,12 @@ pub fn put_node(nodes: &mut Vec<TreeNode>, free: &mut Vec<u32>, part: TreeNode) 
 }
 
 /// Adds a child to the node of a number.
-pub fn place(nodes: &mut Vec<TreeNode>, free: &mut Vec<u32>, node: usize, kid: (StBox, Child)) -> Grown
+pub fn place(
+    nodes: &mut Vec<TreeNode>,
+    free: &mut Vec<u32>,
+    node: usize,
+    kid: (StBox, Child),
+) -> Grown
     requires there { node < length nodes.old.items }
     requires live { 0 < length (kids_at nodes.old.items node) }
     requires sound { All IsSoundNode nodes.old.items }
@@ -187,7 +196,12 @@ pub fn widen(part: &mut TreeNode, slot: usize, area: StBox)
 }
 
 /// Adds an entry below a node.
-pub fn insert_at(nodes: &mut Vec<TreeNode>, free: &mut Vec<u32>, node: usize, kid: (StBox, Child)) -> Grown
+pub fn insert_at(
+    nodes: &mut Vec<TreeNode>,
+    free: &mut Vec<u32>,
+    node: usize,
+    kid: (StBox, Child),
+) -> Grown
     requires tree { (root : Ref) × IsTree root nodes.old.items }
     requires there { node < length nodes.old.items }
     requires live { 0 < length (kids_at nodes.old.items node) }

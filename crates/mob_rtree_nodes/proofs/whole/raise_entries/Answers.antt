@@ -21,7 +21,7 @@ raise-requires-clause-forest c =
 pub returns-clause-entries : goal.returns-clause-entries
 returns-clause-entries c =
     on_ok c.raise.result _ _
-        (λ sums. built_same c.args.entries.now c.as_slice-2.result.now c.raise.new.nodes.items
-            (λ f. ap (sum_by f) c.as_slice-2.ensures.value ∙ c.in_ok-near.ensures.kids f ∙ ap (sum_by f) c.as_slice.ensures.value ∙ ap (sum_by f) c.in_ok-kids.ensures)
-            (λ g. sums g ∙ ap (λ ps. entries_sum g ps + leaf_sum g c.as_slice-2.result.now 0) c.requires.none))
-        c.raise.ensures.entries
+    (λ sums. built_same c.args.entries.now c.as_slice-2.result.now c.raise.new.nodes.items
+    (λ f. ap (sum_by f) c.as_slice-2.ensures.value ∙ c.in_ok-near.ensures.kids f ∙ ap (sum_by f) c.as_slice.ensures.value ∙ ap (sum_by f) c.in_ok-kids.ensures)
+    (λ g. sums g ∙ ap (λ ps. entries_sum g ps + leaf_sum g c.as_slice-2.result.now 0) c.requires.none))
+    c.raise.ensures.entries
