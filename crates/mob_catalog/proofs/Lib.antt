@@ -10,3 +10,4 @@ pub mod OneTable
 pub mod OneMeaning
 mod OwnTypes
 pub mod TypedTables
+mod Holding

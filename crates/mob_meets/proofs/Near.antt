@@ -119,10 +119,11 @@ boxes_second one other c d k sc (t, p, q, ep, eq, near) =
     let wide : BoxOf = record { space = Some moved; time = c.time } in
     let iny : InArea y.0 q = subst (λ o. IfSome o (λ a. InArea a q)) y.1 i.in_space in
     let there : InArea moved p = near_first y.0 p q d near iny in
-    let stands : is_area moved ≡ true = (area_has_point moved).1 (p, there) in
-    ( wide
-    , ap (λ o. moved_space o c.time d) y.1 ∙ ap (λ z. cond z (Some wide) None) stands
-    , (λ b h s. over_meets b moved c.time t p s (there_in one b t p h ep) there i.in_time))
+    let stands : is_area moved ≡ true = (area_has_point moved).1 (p, there) in (
+      wide,
+      ap (λ o. moved_space o c.time d) y.1 ∙ ap (λ z. cond z (Some wide) None) stands,
+      (λ b h s. over_meets b moved c.time t p s (there_in one b t p h ep) there i.in_time),
+    )
 
 pub boxes_first : (one other : Ratio → Option Point) (b : BoxOf) (d : Ratio) → Covers one b → is_some b.space ≡ true → IsSometime (λ p q. are_within d p q ≡ true) one other
     → (wide : BoxOf) × (expanded b d ≡ Some wide) × ((c : BoxOf) → Covers other c → is_some c.space ≡ true → BoxesMeet c wide)

@@ -1,15 +1,14 @@
 -- From the root each entry is reached as often as it is there.
-use Rattle.std.proofs.Common.{◌≡◌, refl, ℕ, zero, suc, ◌+◌, ◌<◌, ◌≤◌, Bool, true, false, cond, not, ◌==◌, ◌&&◌, List, [], ◌∷◌, ◌++◌, length, get_or, map, arith, ap, sym, ◌∙◌, subst, Option, Some, None}
-use Rattle.std.specs.Prelude.{All, sum_by, count_by, flat_map}
+use Rattle.std.proofs.Common.{◌≡◌, refl, ℕ, zero, suc, ◌<◌, ◌≤◌, Bool, true, false, cond, ◌&&◌, List, [], ◌∷◌, ◌++◌, length, get_or, map, arith, ap, sym, ◌∙◌, subst, Option, Some, None}
+use Rattle.std.specs.Prelude.{All, sum_by, flat_map}
 use Rattle.std.proofs.lemmas.Bool.{true≢false}
 use Rattle.std.proofs.lemmas.List.Sums.{sum_by-cons, sum_by-append, get_or-le-sum_by}
 use Rattle.std.proofs.lemmas.List.Concat.{flat_map-cons, flat_map_single}
 use Rattle.std.proofs.lemmas.List.Elements.{All-head, All-tail, All-append, All-cons, All-nil}
 use Rattle.mob_stbox.specs.Boxes.{BoxOf, contains, is_whole}
 use Rattle.mob_stbox.proofs.BoxLaws.{over_self, over_trans, over_whole}
-use Rattle.mob_rtree_nodes.specs.Tree.{Kid, EntryOf, entry_of, target, Ref, IsTree, IsSoundNode, entries_list, kids_at, height_at, walk_sum, is_fit, is_kind, AreSame, IsLeast}
+use Rattle.mob_rtree_nodes.specs.Tree.{Kid, EntryOf, entry_of, target, Ref, IsTree, IsSoundNode, entries_list, kids_at, height_at, walk_sum, is_fit, is_kind, AreSame, IsLeastOver}
 use Rattle.mob_rtree_nodes.specs.Reach.{Branch, branch_of, root_number, children, branch_height, gathered, entries_under, entries_below, IsReachedNode, is_root, is_child, IsSpread}
-use Rattle.mob_rtree_nodes.specs.declared.node.Child.{Child}
 use Rattle.mob_rtree_nodes.specs.declared.node.Child.TheVariants.{Node, Entry}
 use Rattle.mob_rtree_nodes.specs.declared.node.TreeNode.{TreeNode}
 use Rattle.mob_rtree_nodes.proofs.Sums.{mapped_sum, kids_of, height_of, node_at, sound_at}
@@ -121,14 +120,14 @@ module _ (root : Ref) (ps : List TreeNode) (tree : IsTree root ps) where
       all_held (k ∷ kids) all = All-cons (λ e. contains a e.0 ≡ true) (entry_of k) (map entry_of kids) (All-head (λ k. contains a k.0 ≡ true) k kids all) (all_held kids (All-tail (λ k. contains a k.0 ≡ true) k kids all))
   gathered_over a whole (suc h) m c inside is high over =
       subst (λ l. All (λ e. contains a e.0 ≡ true) (flat_map (λ k. gathered (map branch_of ps) h (target k.1)) l)) (sym (children_is ps m ∙ kids_of ps m c inside is))
-          (all_flat c.kids.items (λ i d l.
-              let k = get_or c.kids.items i d in
-              let at : k ≡ get_or c.kids.items i k = at_again c.kids.items i d l in
-              let t = tied_height root ps tree m h i c k inside is high l at in
-              let below = node_at ps (target k.1) t.0 in
-              let one = over_trans a c.area k.0 over ((sound_at ps m c inside is tree.sound).over i d l) in
-              let same = tied_same root ps tree m h i c k inside is high l at below.0 t.0 below.1 (λ r. cond (contains a r.area) 1 0) in
-              gathered_over a whole h (target k.1) below.0 t.0 below.1 (sym (height_of ps (target k.1) below.0 t.0 below.1) ∙ t.1) (one_true (contains a below.0.area) (same ∙ ap {B = ℕ} (λ b. cond b 1 0) one))))
+      (all_flat c.kids.items (λ i d l.
+      let k = get_or c.kids.items i d in
+      let at : k ≡ get_or c.kids.items i k = at_again c.kids.items i d l in
+      let t = tied_height root ps tree m h i c k inside is high l at in
+      let below = node_at ps (target k.1) t.0 in
+      let one = over_trans a c.area k.0 over ((sound_at ps m c inside is tree.sound).over i d l) in
+      let same = tied_same root ps tree m h i c k inside is high l at below.0 t.0 below.1 (λ r. cond (contains a r.area) 1 0) in
+      gathered_over a whole h (target k.1) below.0 t.0 below.1 (sym (height_of ps (target k.1) below.0 t.0 below.1) ∙ t.1) (one_true (contains a below.0.area) (same ∙ ap {B = ℕ} (λ b. cond b 1 0) one))))
     where
       at_again : (xs : List Kid) (i : ℕ) (d : Kid) → i < length xs → get_or xs i d ≡ get_or xs i (get_or xs i d)
       at_again [] i d l = absurd (omega (arith, l))
@@ -140,7 +139,7 @@ module _ (root : Ref) (ps : List TreeNode) (tree : IsTree root ps) where
       all_flat (k ∷ kids) all =
           let P : Kid → Type 0 = λ k. All (λ e. contains a e.0 ≡ true) (gathered (map branch_of ps) h (target k.1)) in
           subst (All (λ e. contains a e.0 ≡ true)) (sym (flat_map-cons (λ k. gathered (map branch_of ps) h (target k.1)) k kids))
-              (All-append (λ e. contains a e.0 ≡ true) (gathered (map branch_of ps) h (target k.1)) (flat_map (λ k. gathered (map branch_of ps) h (target k.1)) kids) (All-head P k kids all) (all_flat kids (All-tail P k kids all)))
+          (All-append (λ e. contains a e.0 ≡ true) (gathered (map branch_of ps) h (target k.1)) (flat_map (λ k. gathered (map branch_of ps) h (target k.1)) kids) (All-head P k kids all) (all_flat kids (All-tail P k kids all)))
 
   -- a child at a slot, as a record of what is known of it
   kid_below : (a : BoxOf) → is_whole a ≡ true → (n i : ℕ) (p : TreeNode) (k : Kid) → n < length ps → p ≡ get_or ps n p → i < length p.kids.items → k ≡ get_or p.kids.items i k → contains a k.0 ≡ true
@@ -152,6 +151,7 @@ module _ (root : Ref) (ps : List TreeNode) (tree : IsTree root ps) where
       let same = tied_same root ps tree n r.0 i p (b, Node m) inside is r.1 within at c.0 r.2 c.1 (λ r. cond (contains a r.area) 1 0) in
       let high = level_is ps m in
       gathered_over a whole (branch_height (map branch_of ps) m) m c.0 r.2 c.1 (sym (height_of ps m c.0 r.2 c.1) ∙ sym high) (one_true (contains a c.0.area) (same ∙ ap {B = ℕ} (λ b. cond b 1 0) over))
+
   kid_list : (n i : ℕ) (p : TreeNode) (k : Kid) (h : ℕ) → n < length ps → p ≡ get_or ps n p → i < length p.kids.items → k ≡ get_or p.kids.items i k → p.height ≡ suc h
       → gathered (map branch_of ps) h (target k.1) ≡ entries_below (map branch_of ps) k
   kid_list n i p (b, Entry id) h inside is within at high = absurd (omega (arith, high, entry_low p.height id (kind_at ps n i p (b, Entry id) tree.sound inside is within at)))
@@ -174,15 +174,15 @@ module _ (root : Ref) (ps : List TreeNode) (tree : IsTree root ps) where
       ap (flat_map (λ k. gathered (map branch_of ps) h (target k.1))) e ∙ same_flat (λ k. gathered (map branch_of ps) h (target k.1)) (entries_below (map branch_of ps)) p.kids.items (λ i k l at. kid_list n i p k h inside is l at high) ∙ ap (flat_map (entries_below (map branch_of ps))) (sym e)
 
   -- the box beside a node is the least over that node's children
-  least_below : (n i m : ℕ) (b : BoxOf) (p : TreeNode) → n < length ps → p ≡ get_or ps n p → i < length p.kids.items → (b, Node m) ≡ get_or p.kids.items i (b, Node m) → IsLeast b (children (map branch_of ps) m)
+  least_below : (n i m : ℕ) (b : BoxOf) (p : TreeNode) → n < length ps → p ≡ get_or ps n p → i < length p.kids.items → (b, Node m) ≡ get_or p.kids.items i (b, Node m) → IsLeastOver b (children (map branch_of ps) m)
   least_below n i m b p inside is within at =
       let r = node_kid n i m b p inside is within at in
       let c = node_at ps m r.2 in
       let e = kids_of ps m c.0 r.2 c.1 in
-      subst (IsLeast b) (sym (children_is ps m ∙ e)) (λ a all.
-          let low = (sound_at ps m c.0 r.2 c.1 tree.sound).least (omega (arith, r.4, ap (λ (l : List Kid). length l) e)) a all in
-          let same = tied_same root ps tree n r.0 i p (b, Node m) inside is r.1 within at c.0 r.2 c.1 (λ r. cond (contains a r.area) 1 0) in
-          one_true (contains a b) (sym same ∙ ap {B = ℕ} (λ b. cond b 1 0) low))
+      subst (IsLeastOver b) (sym (children_is ps m ∙ e)) (λ a all.
+      let low = (sound_at ps m c.0 r.2 c.1 tree.sound).least (omega (arith, r.4, ap (λ (l : List Kid). length l) e)) a all in
+      let same = tied_same root ps tree n r.0 i p (b, Node m) inside is r.1 within at c.0 r.2 c.1 (λ r. cond (contains a r.area) 1 0) in
+      one_true (contains a b) (sym same ∙ ap {B = ℕ} (λ b. cond b 1 0) low))
 
   pub spreads : (n : ℕ) → IsReachedNode (map branch_of ps) (Some root.node) n → IsSpread (map branch_of ps) n
   spreads n way =

@@ -8,13 +8,17 @@ ghost use Rattle.mob_rtree_nodes.specs.Builds.{kid_of, IsForest, IsPacking, IsCl
 
 use crate::insert::cover_all;
 use crate::lengths::place_of;
-use crate::node::{Child, TreeNode, Root};
+use crate::node::{Child, Root, TreeNode};
 use arrayvec::ArrayVec;
-use std::alloc::{AllocError, Global};
 use mob_stbox::StBox;
+use std::alloc::{AllocError, Global};
 
 /// Children with the places that they are to be ordered by, each computed once.
-fn keyed(alloc: Global, kids: &[(StBox, Child)], over: &StBox) -> Result<Vec<(u64, (StBox, Child))>, AllocError>
+fn keyed(
+    alloc: Global,
+    kids: &[(StBox, Child)],
+    over: &StBox,
+) -> Result<Vec<(u64, (StBox, Child))>, AllocError>
     ensures { IfOk result (λ pairs. map (λ p. p.1) pairs.items ≡ kids.now) }
 {
     let mut pairs = Vec::new(alloc);
@@ -25,7 +29,10 @@ fn keyed(alloc: Global, kids: &[(StBox, Child)], over: &StBox) -> Result<Vec<(u6
 }
 
 /// The children of these pairs.
-fn unkeyed(alloc: Global, pairs: &[(u64, (StBox, Child))]) -> Result<Vec<(StBox, Child)>, AllocError>
+fn unkeyed(
+    alloc: Global,
+    pairs: &[(u64, (StBox, Child))],
+) -> Result<Vec<(StBox, Child)>, AllocError>
     ensures { IfOk result (λ kids. kids.items ≡ map (λ p. p.1) pairs.now) }
 {
     let mut kids = Vec::new(alloc);
@@ -36,7 +43,10 @@ fn unkeyed(alloc: Global, pairs: &[(u64, (StBox, Child))]) -> Result<Vec<(StBox,
 }
 
 /// These children with near ones beside one another.
-pub fn gather_near(alloc: Global, kids: &[(StBox, Child)]) -> Result<Vec<(StBox, Child)>, AllocError>
+pub fn gather_near(
+    alloc: Global,
+    kids: &[(StBox, Child)],
+) -> Result<Vec<(StBox, Child)>, AllocError>
     requires some { 0 < length kids.now }
     requires whole { count_by (λ k. not (is_whole k.0)) kids.now ≡ 0 }
     ensures kids { IfOk result (λ near. (f : Kid → ℕ) → sum_by f near.items ≡ sum_by f kids.now) }

@@ -3,10 +3,10 @@ ghost use Rattle.std.specs.Prelude.{◌≡◌, ℕ, ◌+◌, ◌*◌, ◌^◌, �
 ghost use Rattle.std.specs.Vec.{vec_len, vec_capacity};
 ghost use Rattle.arrayvec.specs.ArrayVec.{array_vec_len};
 ghost use Rattle.mob_stbox.specs.Boxes.{contains, is_whole};
-ghost use Rattle.mob_rtree_nodes.specs.Tree.{IsTree, IsSoundNode, Kid, height_at, kids_at, kids_of_more, Ref, IsAttached, IsReplaced, IsGrown, IsLeast, IsFree, IsPut, IsReused, is_fit};
+ghost use Rattle.mob_rtree_nodes.specs.Tree.{IsTree, IsSoundNode, Kid, height_at, kids_at, kids_of_more, Ref, IsAttached, IsReplaced, IsGrown, IsLeastOver, IsFree, IsPut, IsReused, is_fit};
 
-use crate::node::{Child, TreeNode};
 use crate::lengths::{growth, longest, middle_of};
+use crate::node::{Child, TreeNode};
 use arrayvec::ArrayVec;
 use mob_stbox::StBox;
 
@@ -22,7 +22,7 @@ pub fn cover_all(kids: &[(StBox, Child)]) -> StBox
     requires some { 0 < length kids.now }
     requires whole { count_by (λ k. not (is_whole k.0)) kids.now ≡ 0 }
     ensures over { All (λ k. contains result k.0 ≡ true) kids.now }
-    ensures least { IsLeast result kids.now }
+    ensures least { IsLeastOver result kids.now }
     ensures whole { is_whole result ≡ true }
 {
     let mut area = kids[0].0;
@@ -34,8 +34,7 @@ pub fn cover_all(kids: &[(StBox, Child)]) -> StBox
 
 /// The child whose box grows least, by the lengths of its sides.
 pub fn choose(kids: &[(StBox, Child)], area: &StBox) -> usize
-    requires some { 0 < length kids.now }
-    requires whole { count_by (λ k. not (is_whole k.0)) kids.now ≡ 0 }
+    requires { 0 < length kids.now }
     ensures { result < length kids.now }
 {
     let mut best: usize = 0;
@@ -73,7 +72,11 @@ fn move_last(kids: &mut ArrayVec<(StBox, Child), 16>, second: &mut ArrayVec<(StB
 }
 
 /// Takes half of the children away, with one more on the side that fits it.
-fn split(kids: &mut ArrayVec<(StBox, Child), 16>, axis: u8, kid: (StBox, Child)) -> ArrayVec<(StBox, Child), 16>
+fn split(
+    kids: &mut ArrayVec<(StBox, Child), 16>,
+    axis: u8,
+    kid: (StBox, Child),
+) -> ArrayVec<(StBox, Child), 16>
     requires { array_vec_len kids.old ≡ 16 }
     ensures kids { (f : Kid → ℕ) → sum_by f kids.new.items + sum_by f result.items ≡ sum_by f kids.old.items + f kid }
     ensures first { 0 < length kids.new.items }
@@ -144,7 +147,12 @@ pub fn put_node(nodes: &mut Vec<TreeNode>, free: &mut Vec<u32>, part: TreeNode) 
 }
 
 /// Adds a child to the node of a number.
-pub fn place(nodes: &mut Vec<TreeNode>, free: &mut Vec<u32>, node: usize, kid: (StBox, Child)) -> Grown
+pub fn place(
+    nodes: &mut Vec<TreeNode>,
+    free: &mut Vec<u32>,
+    node: usize,
+    kid: (StBox, Child),
+) -> Grown
     requires there { node < length nodes.old.items }
     requires live { 0 < length (kids_at nodes.old.items node) }
     requires sound { All IsSoundNode nodes.old.items }
@@ -187,7 +195,12 @@ pub fn widen(part: &mut TreeNode, slot: usize, area: StBox)
 }
 
 /// Adds an entry below a node.
-pub fn insert_at(nodes: &mut Vec<TreeNode>, free: &mut Vec<u32>, node: usize, kid: (StBox, Child)) -> Grown
+pub fn insert_at(
+    nodes: &mut Vec<TreeNode>,
+    free: &mut Vec<u32>,
+    node: usize,
+    kid: (StBox, Child),
+) -> Grown
     requires tree { (root : Ref) × IsTree root nodes.old.items }
     requires there { node < length nodes.old.items }
     requires live { 0 < length (kids_at nodes.old.items node) }

@@ -63,7 +63,13 @@ fn settle(part: &mut TreeNode, slot: usize, removed: Removed) -> Removed
 }
 
 /// The same at the node of a number, which is free where it has no child any more.
-fn settle_at(nodes: &mut Vec<TreeNode>, free: &mut Vec<u32>, node: u32, slot: usize, removed: Removed) -> Removed
+fn settle_at(
+    nodes: &mut Vec<TreeNode>,
+    free: &mut Vec<u32>,
+    node: u32,
+    slot: usize,
+    removed: Removed,
+) -> Removed
     requires there { node < length nodes.old.items }
     requires slot { slot < length (kids_at nodes.old.items node) }
     requires sound { All IsSoundNode nodes.old.items }
@@ -88,7 +94,13 @@ fn settle_at(nodes: &mut Vec<TreeNode>, free: &mut Vec<u32>, node: u32, slot: us
 }
 
 /// Takes an entry out of a leaf.
-fn remove_entry(nodes: &mut Vec<TreeNode>, free: &mut Vec<u32>, node: u32, b: &StBox, id: u32) -> Removed
+fn remove_entry(
+    nodes: &mut Vec<TreeNode>,
+    free: &mut Vec<u32>,
+    node: u32,
+    b: &StBox,
+    id: u32,
+) -> Removed
     requires there { node < length nodes.old.items }
     requires sound { All IsSoundNode nodes.old.items }
     requires leaf { height_at nodes.old.items node ≡ 0 }
@@ -109,7 +121,13 @@ fn remove_entry(nodes: &mut Vec<TreeNode>, free: &mut Vec<u32>, node: u32, b: &S
 }
 
 /// Takes an entry out below a node.
-pub fn remove_at(nodes: &mut Vec<TreeNode>, free: &mut Vec<u32>, node: u32, b: &StBox, id: u32) -> Removed
+pub fn remove_at(
+    nodes: &mut Vec<TreeNode>,
+    free: &mut Vec<u32>,
+    node: u32,
+    b: &StBox,
+    id: u32,
+) -> Removed
     requires tree { (root : Ref) × IsTree root nodes.old.items }
     requires there { node < length nodes.old.items }
     requires free { IsFree free.old.items nodes.old.items }

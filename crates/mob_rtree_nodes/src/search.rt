@@ -4,10 +4,10 @@ ghost use Rattle.mob_stbox.specs.Boxes.{overlaps};
 ghost use Rattle.mob_rtree_nodes.specs.Tree.{IsTree, EntryOf, height_at, walk_sum, Ref};
 
 use crate::node::TreeNode;
+use mob_stbox::StBox;
 use mob_steps::Steps;
 use std::alloc::AllocError;
 use std::sync::ledger::Ledger;
-use mob_stbox::StBox;
 
 /// Appends the ids of the entries below a node that overlap a box.
 pub fn visit<L: Ledger>(

@@ -10,7 +10,7 @@ ghost use Rattle.mob_rtree_nodes.specs.declared.remove.Removed.TheVariants.{Miss
 use crate::build::{gather_near, leaf_kids, raise};
 use crate::insert::{insert_at, put_node};
 use crate::node::{Child, Root, TreeNode};
-use crate::remove::{remove_at, Removed};
+use crate::remove::{Removed, remove_at};
 use crate::search::visit;
 use arrayvec::ArrayVec;
 use mob_stbox::StBox;
@@ -76,7 +76,12 @@ pub fn put_first(nodes: &mut Vec<TreeNode>, kid: (StBox, Child)) -> Root
 }
 
 /// Adds an entry, be there one or none.
-pub fn put_any(nodes: &mut Vec<TreeNode>, free: &mut Vec<u32>, root: Root, kid: (StBox, Child)) -> Root
+pub fn put_any(
+    nodes: &mut Vec<TreeNode>,
+    free: &mut Vec<u32>,
+    root: Root,
+    kid: (StBox, Child),
+) -> Root
     requires tree { (0 < length nodes.old.items) → IsTree (ref root) nodes.old.items }
     requires fit { is_fit 0 kid ≡ true }
     requires free { IsFree free.old.items nodes.old.items }
@@ -120,7 +125,13 @@ pub fn gather<L: Ledger>(
 }
 
 /// Takes an entry out below the root.
-pub fn take_entry(nodes: &mut Vec<TreeNode>, free: &mut Vec<u32>, root: Root, b: &StBox, id: u32) -> Removed
+pub fn take_entry(
+    nodes: &mut Vec<TreeNode>,
+    free: &mut Vec<u32>,
+    root: Root,
+    b: &StBox,
+    id: u32,
+) -> Removed
     requires tree { IsTree (ref root) nodes.old.items }
     requires free { IsFree free.old.items nodes.old.items }
     requires room { length nodes.old.items ≤ vec_capacity free.old }
@@ -138,7 +149,11 @@ pub fn take_entry(nodes: &mut Vec<TreeNode>, free: &mut Vec<u32>, root: Root, b:
 }
 
 /// Makes the nodes of these entries, and answers the root.
-pub fn raise_entries(alloc: Global, nodes: &mut Vec<TreeNode>, entries: &[(StBox, u32)]) -> Result<Root, AllocError>
+pub fn raise_entries(
+    alloc: Global,
+    nodes: &mut Vec<TreeNode>,
+    entries: &[(StBox, u32)],
+) -> Result<Root, AllocError>
     requires none { nodes.old.items ≡ [] }
     requires some { 0 < length entries.now }
     requires whole { All (λ e. is_whole e.0 ≡ true) entries.now }

@@ -10,13 +10,13 @@ use std::alloc::Global;
 
 // Their boxes; the one that is asked for.
 #[derive(Clone, Copy)]
-struct Boxes {
+struct ThreeBoxes {
     near: StBox,
     far: StBox,
     asked: StBox,
 }
 
-fn boxes() -> Option<Boxes>
+fn boxes() -> Option<ThreeBoxes>
     ensures near { IfSome result (λ b. is_whole b.near ≡ true) }
     ensures far { IfSome result (λ b. is_whole b.far ≡ true) }
     ensures asked { IfSome result (λ b. is_whole b.asked ≡ true) }
@@ -24,10 +24,10 @@ fn boxes() -> Option<Boxes>
     let near = boxed((2, 3), (2, 3), (1, 2))?;
     let far = boxed((9, 9), (8, 9), (1, 2))?;
     let asked = boxed((0, 2), (0, 2), (0, 1))?;
-    Some(Boxes { near, far, asked })
+    Some(ThreeBoxes { near, far, asked })
 }
 
-fn first_tree(alloc: Global, boxes: &Boxes) -> Option<RTree>
+fn first_tree(alloc: Global, boxes: &ThreeBoxes) -> Option<RTree>
     requires near { is_whole boxes.now.near ≡ true }
     requires far { is_whole boxes.now.far ≡ true }
 {
@@ -44,7 +44,7 @@ fn put_in(tree: &mut RTree, b: StBox, id: u32) -> bool
     tree.reserve_one().is_ok() && tree.insert(b, id).is_ok()
 }
 
-fn grows(alloc: Global, boxes: &Boxes) -> bool
+fn grows(alloc: Global, boxes: &ThreeBoxes) -> bool
     requires near { is_whole boxes.now.near ≡ true }
     requires far { is_whole boxes.now.far ≡ true }
     requires asked { is_whole boxes.now.asked ≡ true }
@@ -58,7 +58,7 @@ fn grows(alloc: Global, boxes: &Boxes) -> bool
     put_in(&mut tree, boxes.asked, 3) && finds(alloc, &tree, &boxes.asked, [0, 1, 3].as_slice())
 }
 
-fn shrinks(alloc: Global, boxes: &Boxes) -> bool
+fn shrinks(alloc: Global, boxes: &ThreeBoxes) -> bool
     requires near { is_whole boxes.now.near ≡ true }
     requires far { is_whole boxes.now.far ≡ true }
 {

@@ -1,4 +1,4 @@
-use Rattle.std.proofs.Common.{◌≡◌, ℕ, ap, sym, ◌∙◌, map}
+use Rattle.std.proofs.Common.{ℕ, ap, sym, ◌∙◌, map}
 use Rattle.std.specs.Prelude.{sum_by}
 use Rattle.std.proofs.lemmas.List.Sorted.{sum_by-IsPermutation}
 use Rattle.mob_rtree_nodes.specs.Tree.{Kid}
@@ -12,10 +12,10 @@ returns-clause-kids c =
     let old = c.in_ok-pairs.pairs.items in
     let new = c.sort_unstable_by_key.new.self.items in
     if_ok c.unkeyed.result _ _
-        (λ v e f.
-            ap (sum_by f) (e ∙ ap (map near) c.as_slice.ensures.value)
-            ∙ mapped_sum f near new
-            ∙ sum_by-IsPermutation (λ p. f (near p)) old new c.sort_unstable_by_key.ensures.permutation
-            ∙ sym (mapped_sum f near old)
-            ∙ ap (sum_by f) c.in_ok-pairs.ensures)
-        c.unkeyed.ensures
+    (λ v e f.
+    ap (sum_by f) (e ∙ ap (map near) c.as_slice.ensures.value)
+    ∙ mapped_sum f near new
+    ∙ sum_by-IsPermutation (λ p. f (near p)) old new c.sort_unstable_by_key.ensures.permutation
+    ∙ sym (mapped_sum f near old)
+    ∙ ap (sum_by f) c.in_ok-pairs.ensures)
+    c.unkeyed.ensures

@@ -1,9 +1,8 @@
-use Rattle.std.proofs.Common.{◌≡◌, ap, ◌∙◌, sym, subst, ℕ, ◌+◌, not, map, List, []}
-use Rattle.std.specs.Prelude.{count_by, sum_by, OnOk}
+use Rattle.std.proofs.Common.{ap, ◌∙◌, sym, subst, ◌+◌, not, []}
+use Rattle.std.specs.Prelude.{count_by, sum_by}
 use Rattle.mob_stbox.specs.Boxes.{is_whole}
-use Rattle.mob_rtree_nodes.specs.Tree.{Kid, EntryOf, is_fit, AreSame, entries_list, entries_sum}
-use Rattle.mob_rtree_nodes.specs.Builds.{IsForest, kid_of, leaf_sum}
-use Rattle.mob_rtree_nodes.specs.declared.node.TreeNode.{TreeNode}
+use Rattle.mob_rtree_nodes.specs.Tree.{Kid, is_fit, entries_sum}
+use Rattle.mob_rtree_nodes.specs.Builds.{IsForest, leaf_sum}
 use Rattle.mob_rtree_nodes.proofs.Covers.{fit_whole}
 use Rattle.mob_rtree_nodes.proofs.Builds.{entry_fits, fits_arranged, forest_start, built_same, on_ok}
 use Rattle.mob_rtree_nodes.proofs.whole.raise_entries.Goals as goal
@@ -21,7 +20,7 @@ raise-requires-clause-forest c =
 pub returns-clause-entries : goal.returns-clause-entries
 returns-clause-entries c =
     on_ok c.raise.result _ _
-        (λ sums. built_same c.args.entries.now c.as_slice-2.result.now c.raise.new.nodes.items
-            (λ f. ap (sum_by f) c.as_slice-2.ensures.value ∙ c.in_ok-near.ensures.kids f ∙ ap (sum_by f) c.as_slice.ensures.value ∙ ap (sum_by f) c.in_ok-kids.ensures)
-            (λ g. sums g ∙ ap (λ ps. entries_sum g ps + leaf_sum g c.as_slice-2.result.now 0) c.requires.none))
-        c.raise.ensures.entries
+    (λ sums. built_same c.args.entries.now c.as_slice-2.result.now c.raise.new.nodes.items
+    (λ f. ap (sum_by f) c.as_slice-2.ensures.value ∙ c.in_ok-near.ensures.kids f ∙ ap (sum_by f) c.as_slice.ensures.value ∙ ap (sum_by f) c.in_ok-kids.ensures)
+    (λ g. sums g ∙ ap (λ ps. entries_sum g ps + leaf_sum g c.as_slice-2.result.now 0) c.requires.none))
+    c.raise.ensures.entries

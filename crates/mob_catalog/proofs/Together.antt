@@ -1,0 +1,156 @@
+-- A catalogue and its indexes keep together as they grow.
+use Rattle.std.proofs.Common.{◌≡◌, ◌∙◌, refl, sym, ap, subst, ℕ, zero, suc, arith, ◌+◌, ◌<◌, ◌≤◌, ◌^◌, length, List, [], ◌∷◌, ◌++◌, get_or, set, take, map, if◌then◌else◌, ◌==◌}
+use Rattle.std.specs.List.{AllByRecursion, AllZip}
+use Rattle.std.proofs.lemmas.List.{length-append, map-append, take_more_set}
+use Rattle.mob_rtree_nodes.specs.Tree.{EntryOf, IsAdded}
+use Rattle.mob_rtree.specs.Shape.{IsAsBefore}
+use Rattle.mob_value.specs.declared.value.Value.{Value}
+use Rattle.mob_value.specs.declared.store.Table.{Table}
+use Rattle.mob_typed.proofs.Rising.{each_both, each_on}
+use Rattle.mob_catalog.specs.declared.indexes.TableIndex.{TableIndex}
+use Rattle.mob_catalog.specs.TableFile.{Column}
+use Rattle.mob_catalog.specs.TypedTables.{HoldsLiveRows}
+use Rattle.mob_catalog.specs.Catalogue.{Catalogue, new_catalogue, rows_put, with_changed, with_empty_table, with_index, with_last_row, with_live_row, with_row}
+use Rattle.mob_catalog.specs.Indexes.{IndexHolds, OnWay, table_value}
+use Rattle.mob_catalog.specs.Kept.{HasRoom, IsEntered, IsKeptTogether, IsSameIndex, names_of}
+use Rattle.mob_catalog.proofs.Changed.{length_changed}
+use Rattle.mob_catalog.proofs.TypedTables.{live_behind, table_behind}
+use Rattle.mob_catalog.proofs.Holding.{holds_row, holds_table}
+
+-- ---- loops that change each of a list
+
+-- the first n of a list are changed so, and the others not at all
+abbrev pub AreChanged : {A : Type 0} → (A → A → Type 0) → ℕ → List A → List A → Type 0
+AreChanged R n [] [] = Unit {0}
+AreChanged R n [] (y ∷ ys) = ⊥
+AreChanged R n (x ∷ xs) [] = ⊥
+AreChanged R zero (x ∷ xs) (y ∷ ys) = (y ≡ x) × AreChanged R zero xs ys
+AreChanged R (suc n) (x ∷ xs) (y ∷ ys) = R x y × AreChanged R n xs ys
+
+module _ {A : Type 0} (R : A → A → Type 0) where
+  pub none_changed : (xs : List A) → AreChanged R 0 xs xs
+  none_changed [] = tt
+  none_changed (x ∷ xs) = (refl, none_changed xs)
+
+  pub next_changed : (n : ℕ) (xs ys : List A) (y z : A) → n < length ys → y ≡ get_or ys n y → R y z → AreChanged R n xs ys → AreChanged R (suc n) xs (set ys n z)
+  next_changed n [] [] y z lt is new h = absurd (omega (arith, lt))
+  next_changed n [] (b ∷ ys) y z lt is new h = absurd h
+  next_changed n (x ∷ xs) [] y z lt is new h = absurd h
+  next_changed zero (x ∷ xs) (b ∷ ys) y z lt is new h = (subst (λ a. R a z) (is ∙ h.0) new, h.1)
+  next_changed (suc n) (x ∷ xs) (b ∷ ys) y z lt is new h = (h.0, next_changed n xs ys y z (omega (arith, lt)) is new h.1)
+
+  pub all_changed : (n : ℕ) (xs ys : List A) → length ys ≤ n → AreChanged R n xs ys → AllZip R xs ys
+  all_changed n [] [] le h = tt
+  all_changed n [] (y ∷ ys) le h = absurd h
+  all_changed n (x ∷ xs) [] le h = absurd h
+  all_changed zero (x ∷ xs) (y ∷ ys) le h = absurd (omega (arith, le))
+  all_changed (suc n) (x ∷ xs) (y ∷ ys) le h = (h.0, all_changed n xs ys (omega (arith, le)) h.1)
+
+-- ---- indexes that stay as they are
+
+same_index : (i : TableIndex) → IsSameIndex i i
+same_index i = record { on = refl; name = refl; tree = record { entries = refl; areas = refl; nodes = refl; root = refl } }
+
+pub all_same : (is : List TableIndex) → AllZip IsSameIndex is is
+all_same [] = tt
+all_same (i ∷ is) = (same_index i, all_same is)
+
+same_twice : (a b c : TableIndex) → IsSameIndex a b → IsSameIndex b c → IsSameIndex a c
+same_twice a b c h k = record {
+  on = k.on ∙ h.on;
+  name = k.name ∙ h.name;
+  tree = record { entries = k.tree.entries ∙ h.tree.entries; areas = k.tree.areas ∙ h.tree.areas; nodes = k.tree.nodes ∙ h.tree.nodes; root = k.tree.root ∙ h.tree.root };
+}
+
+pub same_set : (old now : List TableIndex) (i : ℕ) (y z : TableIndex) → i < length now → y ≡ get_or now i y → IsSameIndex y z → AllZip IsSameIndex old now → AllZip IsSameIndex old (set now i z)
+same_set [] [] i y z lt is new h = absurd (omega (arith, lt))
+same_set [] (b ∷ ys) i y z lt is new h = absurd h
+same_set (x ∷ xs) [] i y z lt is new h = absurd h
+same_set (x ∷ xs) (b ∷ ys) zero y z lt is new h = (same_twice x b z h.0 (subst (λ a. IsSameIndex a z) is new), h.1)
+same_set (x ∷ xs) (b ∷ ys) (suc i) y z lt is new h = (h.0, same_set xs ys i y z (omega (arith, lt)) is new h.1)
+
+pub room_set : (table : ℕ) (now : List TableIndex) (i : ℕ) (z : TableIndex) → i < length now → HasRoom table z → AllByRecursion (HasRoom table) (take i now) → AllByRecursion (HasRoom table) (take (i + 1) (set now i z))
+room_set table now i z lt new h = subst (AllByRecursion (HasRoom table)) (sym (take_more_set now i z lt)) (each_both (HasRoom table) (take i now) (z ∷ []) h (new, tt))
+
+pub same_names : (old new : List TableIndex) → AllZip IsSameIndex old new → names_of new ≡ names_of old
+same_names [] [] h = refl
+same_names [] (y ∷ ys) h = absurd h
+same_names (x ∷ xs) [] h = absurd h
+same_names (x ∷ xs) (y ∷ ys) h = ap (λ n. n ∷ names_of ys) h.0.name ∙ ap (λ ns. x.name ∷ ns) (same_names xs ys h.1)
+
+same_on : (old new : List TableIndex) → AllZip IsSameIndex old new → map (λ (i : TableIndex). i.on) new ≡ map (λ (i : TableIndex). i.on) old
+same_on [] [] h = refl
+same_on [] (y ∷ ys) h = absurd h
+same_on (x ∷ xs) [] h = absurd h
+same_on (x ∷ xs) (y ∷ ys) h = ap (λ o. o ∷ map (λ (i : TableIndex). i.on) ys) h.0.on ∙ ap (λ os. x.on ∷ os) (same_on xs ys h.1)
+
+
+same_held : (c : Catalogue) (old new : List TableIndex) → AllZip IsSameIndex old new → AllByRecursion (λ (i : TableIndex). IndexHolds c i.on i.tree.entries) old → AllByRecursion (λ (i : TableIndex). IndexHolds c i.on i.tree.entries) new
+same_held c [] [] h k = tt
+same_held c [] (y ∷ ys) h k = absurd h
+same_held c (x ∷ xs) [] h k = absurd h
+same_held c (x ∷ xs) (y ∷ ys) h k =
+    (subst (λ on. IndexHolds c on y.tree.entries) (sym h.0.on) (subst (IndexHolds c x.on) (sym h.0.tree.entries) k.0), same_held c xs ys h.1 k.1)
+
+pub kept_same : (c : Catalogue) (old new : List TableIndex) → IsKeptTogether c old → AllZip IsSameIndex old new → IsKeptTogether c new
+kept_same c old new h same = record {
+  heads = h.heads;
+  live = h.live;
+  on = same_on old new same ∙ h.on;
+  held = same_held c old new same h.held;
+  few = h.few;
+}
+
+-- ---- what is new
+
+pub kept_new : (consts : List Value) → IsKeptTogether (new_catalogue consts) []
+kept_new consts = record { heads = refl; live = tt; on = refl; held = tt; few = omega arith }
+
+pub kept_table : (columns : List Column) (c : Catalogue) (is : List TableIndex) → IsKeptTogether c is → IsKeptTogether (with_empty_table columns c) is
+kept_table columns c is h = record {
+  heads = omega (arith, h.heads, length-append c.heads (record { columns = columns; live = [] } ∷ []), length-append c.store.tables (record { rows = [] } ∷ []));
+  live = table_behind HoldsLiveRows (record { columns = columns; live = [] }) (record { rows = [] }) tt c.heads c.store.tables h.live;
+  on = h.on;
+  held = each_on (λ (i : TableIndex). IndexHolds c i.on i.tree.entries) (λ (i : TableIndex). IndexHolds (with_empty_table columns c) i.on i.tree.entries) (λ i held. holds_table c columns i.on i.tree.entries held) is h.held;
+  few = h.few;
+}
+
+pub kept_index : (name : List ℕ) (c : Catalogue) (is : List TableIndex) (i : TableIndex) → length c.indexed < 4294967295 → IndexHolds c i.on i.tree.entries → IsKeptTogether c is → IsKeptTogether (with_index name i.on.0 i.on.1 c) (is ++ i ∷ [])
+kept_index name c is i few held h = record {
+  heads = h.heads;
+  live = h.live;
+  on = map-append (λ (j : TableIndex). j.on) is (i ∷ []) ∙ ap (λ (os : List (ℕ × ℕ)). os ++ i.on ∷ []) h.on;
+  held = each_both (λ (j : TableIndex). IndexHolds (with_index name i.on.0 i.on.1 c) j.on j.tree.entries) is (i ∷ []) h.held (held, tt);
+  few = omega (arith, few, length-append c.indexed (i.on ∷ []));
+}
+
+module _ (c : Catalogue) (n : ℕ) (row : List Value) (lt : n < length c.heads) (live : AllZip HoldsLiveRows c.heads c.store.tables) where
+  row_held : (old new : List TableIndex) → AllZip (IsEntered (with_changed n (with_last_row row) c.store.tables) n (rows_put n c.store.tables)) old new
+      → AllByRecursion (λ (i : TableIndex). IndexHolds c i.on i.tree.entries) old → AllByRecursion (λ (i : TableIndex). IndexHolds (with_row n row c) i.on i.tree.entries) new
+  row_held [] [] h k = tt
+  row_held [] (y ∷ ys) h k = absurd h
+  row_held (x ∷ xs) [] h k = absurd h
+  row_held (x ∷ xs) (y ∷ ys) h k =
+      (subst (λ on. IndexHolds (with_row n row c) on y.tree.entries) (sym h.0.on) (holds_row c n row x.on x.tree.entries y.tree.entries lt live k.0 h.0.entries), row_held xs ys h.1 k.1)
+
+  row_on : (tables : List Table) (number : ℕ) (old new : List TableIndex) → AllZip (IsEntered tables n number) old new → map (λ (i : TableIndex). i.on) new ≡ map (λ (i : TableIndex). i.on) old
+  row_on tables number [] [] h = refl
+  row_on tables number [] (y ∷ ys) h = absurd h
+  row_on tables number (x ∷ xs) [] h = absurd h
+  row_on tables number (x ∷ xs) (y ∷ ys) h = ap (λ o. o ∷ map (λ (i : TableIndex). i.on) ys) h.0.on ∙ ap (λ os. x.on ∷ os) (row_on tables number xs ys h.1)
+
+pub row_names : (tables : List Table) (n number : ℕ) (old new : List TableIndex) → AllZip (IsEntered tables n number) old new → names_of new ≡ names_of old
+row_names tables n number [] [] h = refl
+row_names tables n number [] (y ∷ ys) h = absurd h
+row_names tables n number (x ∷ xs) [] h = absurd h
+row_names tables n number (x ∷ xs) (y ∷ ys) h = ap (λ m. m ∷ names_of ys) h.0.name ∙ ap (λ ns. x.name ∷ ns) (row_names tables n number xs ys h.1)
+
+pub kept_row : (c : Catalogue) (n : ℕ) (row : List Value) (old new : List TableIndex) → n < length c.heads → IsKeptTogether c old
+    → AllZip (IsEntered (with_changed n (with_last_row row) c.store.tables) n (rows_put n c.store.tables)) old new → IsKeptTogether (with_row n row c) new
+kept_row c n row old new lt h entered = record {
+  heads = length_changed n (with_live_row (rows_put n c.store.tables)) c.heads ∙ h.heads ∙ sym (length_changed n (with_last_row row) c.store.tables);
+  live = live_behind n c.heads c.store.tables row h.live;
+  on = row_on c n row lt h.live (with_changed n (with_last_row row) c.store.tables) (rows_put n c.store.tables) old new entered ∙ h.on;
+  held = row_held c n row lt h.live old new entered h.held;
+  few = h.few;
+}
