@@ -8,7 +8,7 @@ use Rattle.mob_value.specs.declared.store.Table.{Table}
 use Rattle.mob_typed.specs.Statements.{ColumnList}
 use Rattle.mob_typed.specs.Written.{Rises}
 use Rattle.mob_typed.proofs.Rising.{each_both, each_on}
-use Rattle.mob_catalog.specs.Catalogue.{Catalogue, with_empty_table, with_changed, with_index, rows_put, table_columns, with_last_row, with_live_row, with_row}
+use Rattle.mob_catalog.specs.Catalogue.{Catalogue, live_of, with_empty_table, with_changed, with_index, rows_put, table_columns, with_last_row, with_live_row, with_row}
 use Rattle.mob_catalog.specs.OwnTypes.{HasColumnTypes}
 use Rattle.mob_catalog.specs.TypedTables.{HoldsLiveRows, HoldsTypedRows, IsOnWays, Stores, TypesStay, head_columns}
 use Rattle.mob_catalog.specs.declared.catalog.TableHead.{TableHead}
@@ -48,6 +48,13 @@ live_behind zero (x ∷ xs) (t ∷ ts) row h = (
   h.1,
 )
 live_behind (suc n) (x ∷ xs) (t ∷ ts) row h = (h.0, live_behind n xs ts row h.1)
+
+-- the rows that are there rise
+pub live_rise : (heads : List TableHead) (tables : List Table) (n : ℕ) → AllZip HoldsLiveRows heads tables → Rises (λ (m k : ℕ). m < k) (live_of heads n)
+live_rise [] tables n h = tt
+live_rise (x ∷ xs) [] n h = absurd h
+live_rise (x ∷ xs) (t ∷ ts) zero h = h.0.1
+live_rise (x ∷ xs) (t ∷ ts) (suc n) h = live_rise xs ts n h.1
 
 columns_kept : (n k : ℕ) (heads : List TableHead) → map head_columns (with_changed n (with_live_row k) heads) ≡ map head_columns heads
 columns_kept zero k [] = refl
