@@ -1,7 +1,7 @@
 -- The tokens of a text as the grammar sees them begin one behind the other; and how many `;` of them stand before a place.
-use Rattle.std.specs.Prelude.{IfSome, filter, nat_lt}
+use Rattle.std.specs.Prelude.{IfSome}
 use Rattle.std.specs.List.{AllByRecursion}
-use Rattle.std.proofs.Common.{◌≡◌, ◌<◌, ◌≤◌, ◌+◌, ◌∙◌, sym, ap, subst, arith, ℕ, List, [], ◌∷◌, ◌++◌, length, append-nil, cond, Option, Some, None, Ok}
+use Rattle.std.proofs.Common.{◌≡◌, ◌<◌, ◌≤◌, ◌+◌, ◌∙◌, refl, sym, ap, subst, arith, ℕ, List, [], ◌∷◌, ◌++◌, length, append-nil, cond, Option, Some, None, Ok}
 use Rattle.std.proofs.lemmas.Bool.{lt-ltb, le-ltb}
 use Rattle.mob_chars.specs.declared.token.Token.{Token}
 use Rattle.mob_chars.specs.Tokens.{token, end_at, tokens_of}

@@ -1,5 +1,5 @@
 -- A text is judged in one way.
-use Rattle.std.proofs.Common.{arith, ◌≡◌, ◌∙◌, refl, sym, ap, ap₂, subst, inl, inr, ℕ, List, []}
+use Rattle.std.proofs.Common.{arith, ◌≡◌, refl, subst, inl, inr, ℕ, List, []}
 use Rattle.mob_ast.specs.Trees.{StatementParts}
 use Rattle.mob_grammar.specs.Symbols.{PlacedSymbol}
 use Rattle.mob_grammar.specs.Scripts.{IsScript}

@@ -7,9 +7,9 @@ use Rattle.mob_typed.specs.Trees.{TypedTree}
 use Rattle.mob_plan.specs.Keys.{PlanKey}
 use Rattle.mob_plan.specs.Plans.{PlanStep, scan, probe, planned}
 use Rattle.mob_plan.specs.Served.{AreServed, IsServed, ProbesAreServed}
-use Rattle.mob_tuples.specs.Kept.{AreKept}
 use Rattle.mob_tuples.specs.Tuples.{AreTuples, IsTuple, Joined, Reached, StandsIn}
-use Rattle.mob_join.specs.Rows.{IsAskedFor, StepGives, TableGives, index_rows}
+use Rattle.mob_join.specs.Rows.{IsRowAsked, StepGives, TableGives, index_rows}
+use Rattle.mob_join.proofs.Rising.{kept_each}
 use Rattle.mob_join.proofs.Scans.{get_behind}
 use Rattle.mob_shell.specs.ReadAsStored.{IsLiveTuple, TuplesAreLive, VisitsAreLive}
 
@@ -30,12 +30,6 @@ reached_one : (Q : ℕ → Type 0) (T : ℕ → List (List ℕ) → Type 0) (R :
 reached_one Q T R [] before y q h = absurd h
 reached_one Q T R (x ∷ xs) before y q (inl h) = (x, before, q.0, h)
 reached_one Q T R (x ∷ xs) before y q (inr h) = reached_one Q T R xs h.1 y q.1 h.3
-
--- what is kept of a list are entries of it
-kept_each : {X : Type 0} (K Q : X → Type 0) (xs ys : List X) → AreKept K xs ys → AllByRecursion Q xs → AllByRecursion Q ys
-kept_each K Q [] ys h q = subst (AllByRecursion Q) (sym h) tt
-kept_each K Q (x ∷ xs) ys (inl h) q = subst (AllByRecursion Q) (sym h.1.1) (q.0, kept_each K Q xs h.1.0 h.1.2 q.1)
-kept_each K Q (x ∷ xs) ys (inr h) q = kept_each K Q xs ys h.1 q.1
 
 one_longer : (begin front : List ℕ) (row t : ℕ) → length begin ≡ length front → length (begin ++ row ∷ []) ≡ length (front ++ t ∷ [])
 one_longer begin front row t n = omega (arith, length-append begin (row ∷ []), length-append front (t ∷ []), n)
@@ -64,7 +58,7 @@ module _ (c : Catalogue) where
       → AllByRecursion (λ x. StandsIn x (live_rows c t)) rows
   probe_live cond from begin day place t index key rows served h =
       let same : index_rows c index ≡ live_rows c t = ap (λ o. unwrap_or (option_map (λ (on : ℕ × ℕ). live_rows c on.0) o) []) served.indexed_by.there in
-      kept_each (IsAskedFor c index h.0) (λ x. StandsIn x (live_rows c t)) (index_rows c index) rows h.2 (subst (AllByRecursion (λ x. StandsIn x (live_rows c t))) (sym same) (all_stand [] (live_rows c t) (live_rows c t) refl))
+      kept_each (IsRowAsked c index h.0) (λ x. StandsIn x (live_rows c t)) (index_rows c index) rows h.2 (subst (AllByRecursion (λ x. StandsIn x (live_rows c t))) (sym same) (all_stand [] (live_rows c t) (live_rows c t) refl))
 
   module _ (cond : Option TypedTree) (from : List ℕ) (day : ℤ) where
     -- what a step gives that is there, and what the steps behind it go on with
