@@ -113,7 +113,7 @@ module _ (row : List Value) (column : ℕ) where
   values_kept (x ∷ xs) [] n table h = absurd h
   values_kept (x ∷ xs) (u ∷ us) zero zero h =
       each_on (λ (r : ℕ). r < length u.rows) (λ (r : ℕ). table_value (with_last_row row u ∷ us) 0 column r ≡ table_value (u ∷ us) 0 column r)
-      (λ r lt. ap (λ o. option_and_then (λ (values : List Value). slice_get values column) o) (front_kept u.rows (row ∷ []) r lt)) x.live h.0.0
+      (λ r lt. ap (λ o. option_and_then (λ (values : List Value). slice_get values column) o) (front_kept u.rows (row ∷ []) r lt)) x.live h.0
   values_kept (x ∷ xs) (u ∷ us) zero (suc table) h = all_alike (table_value us table column) (live_of xs table)
   values_kept (x ∷ xs) (u ∷ us) (suc n) zero h = all_alike (table_value (u ∷ us) 0 column) x.live
   values_kept (x ∷ xs) (u ∷ us) (suc n) (suc table) h = values_kept xs us n table h.1
@@ -158,39 +158,20 @@ holds_row c n row old new lt live h entered = by (old.on.0 == n) refl
     here : AllByRecursion (λ r. table_value (with_changed n (with_last_row row) c.store.tables) old.on.0 old.on.1 r ≡ table_value c.store.tables old.on.0 old.on.1 r) (live_rows c old.on.0)
     here = values_kept row old.on.1 c.heads c.store.tables n old.on.0 live
 
-<<<<<<< HEAD
-    by : (b : Bool) → (on.0 == n) ≡ b
-        → (if b then OnWay (table_value (with_row n row c).store.tables on.0 on.1 (rows_put n c.store.tables)) (λ x. IsAdded old (x, rows_put n c.store.tables) new) (new ≡ old) else (new ≡ old))
-        → IndexHolds (with_row n row c) on new
-    by true t e =
-        let same : on.0 ≡ n = eqb-true on.0 n t in
-        let value = table_value (with_row n row c).store.tables on.0 on.1 in
-        let with_entry = entered_way (value (rows_put n c.store.tables)) (rows_put n c.store.tables) h.0 old new h.2 e in
-        let rows : live_rows (with_row n row c) on.0 ≡ live_rows c on.0 ++ rows_put n c.store.tables ∷ [] =
-        subst (λ m. live_of (with_changed n (with_live_row (rows_put n c.store.tables)) c.heads) m ≡ live_of c.heads m ++ rows_put n c.store.tables ∷ []) (sym same) (live_more c.heads n (rows_put n c.store.tables) lt) in (
-=======
     by : (b : Bool) → (old.on.0 == n) ≡ b → IndexHolds (with_row n row c) old.on new.tree.entries
     by true t =
         let same : old.on.0 ≡ n = eqb-true old.on.0 n t in
         let value = table_value (with_row n row c).store.tables old.on.0 old.on.1 in
         let with_entry = entered_way (value (rows_put n c.store.tables)) (rows_put n c.store.tables) h.0 old.tree.entries new.tree.entries h.2 (entered.here same) in
         let rows : live_rows (with_row n row c) old.on.0 ≡ live_rows c old.on.0 ++ rows_put n c.store.tables ∷ [] =
-            subst (λ m. live_of (with_changed n (with_live_row (rows_put n c.store.tables)) c.heads) m ≡ live_of c.heads m ++ rows_put n c.store.tables ∷ []) (sym same) (live_more c.heads n (rows_put n c.store.tables) lt) in
-        (
->>>>>>> origin/plans
+        subst (λ m. live_of (with_changed n (with_live_row (rows_put n c.store.tables)) c.heads) m ≡ live_of c.heads m ++ rows_put n c.store.tables ∷ []) (sym same) (live_more c.heads n (rows_put n c.store.tables) lt) in (
           h.0 ++ with_entry.others,
           subst (λ rs. AreEntries value rs (h.0 ++ with_entry.others)) (sym rows)
               (entries_behind value (live_rows c old.on.0) (rows_put n c.store.tables ∷ []) h.0 with_entry.others (entries_kept (table_value c.store.tables old.on.0 old.on.1) value (live_rows c old.on.0) h.0 here h.1) with_entry.are),
           with_entry.same,
         )
-<<<<<<< HEAD
-    by false t e =
-        let value = table_value (with_row n row c).store.tables on.0 on.1 in (
-=======
     by false t =
-        let value = table_value (with_row n row c).store.tables old.on.0 old.on.1 in
-        (
->>>>>>> origin/plans
+        let value = table_value (with_row n row c).store.tables old.on.0 old.on.1 in (
           h.0,
           subst (λ rs. AreEntries value rs h.0) (sym (live_kept c.heads n old.on.0 (rows_put n c.store.tables) (eqb-false old.on.0 n t))) (entries_kept (table_value c.store.tables old.on.0 old.on.1) value (live_rows c old.on.0) h.0 here h.1),
           λ g. ap (sum_by g) (entered.elsewhere (eqb-false old.on.0 n t)) ∙ h.2 g,
