@@ -1,13 +1,12 @@
 -- What the indexes of a catalogue hold, as it grows.
-use Rattle.std.proofs.Common.{◌≡◌, ◌∙◌, refl, sym, ap, subst, ℕ, zero, suc, arith, ◌+◌, ◌<◌, ◌==◌, length, List, [], ◌∷◌, ◌++◌, Bool, true, false, Option, Some, None, slice_get, map, sum_by, unwrap_or, option_map, if◌then◌else◌}
+use Rattle.std.proofs.Common.{◌≡◌, ◌∙◌, refl, sym, ap, subst, ℕ, zero, suc, arith, ◌+◌, ◌<◌, ◌==◌, length, List, [], ◌∷◌, ◌++◌, Bool, true, false, Option, Some, None, slice_get, get_or, take, sum_by, option_map}
 use Rattle.std.specs.Prelude.{option_and_then}
 use Rattle.std.specs.List.{AllByRecursion, AllZip}
 use Rattle.std.proofs.lemmas.Bool.{eqb-true, eqb-false}
-use Rattle.std.proofs.lemmas.List.{append-nil, map-append}
+use Rattle.std.proofs.lemmas.List.{append-nil, take_more}
 use Rattle.std.proofs.lemmas.List.Sums.{sum_by_push}
 use Rattle.mob_stbox.specs.Boxes.{BoxOf}
 use Rattle.mob_rtree_nodes.specs.Tree.{AreSame, EntryOf, IsAdded}
-use Rattle.mob_rtree.specs.Shape.{IsAsBefore}
 use Rattle.mob_value.specs.declared.value.Value.{Value}
 use Rattle.mob_value.specs.declared.value.Value.TheVariants.{MovingPoint}
 use Rattle.mob_value.specs.declared.store.Table.{Table}
@@ -16,11 +15,9 @@ use Rattle.mob_catalog.specs.declared.catalog.TableHead.{TableHead}
 use Rattle.mob_catalog.specs.declared.indexes.TableIndex.{TableIndex}
 use Rattle.mob_catalog.specs.TableFile.{Column}
 use Rattle.mob_catalog.specs.TypedTables.{HoldsLiveRows}
-use Rattle.mob_catalog.specs.Catalogue.{Catalogue, live_of, live_rows, rows_put, with_changed, with_empty_table, with_index, with_last_row, with_live_row, with_row}
-use Rattle.mob_catalog.specs.Indexes.{AreEntries, IndexHolds, IsMadeOf, OnWay, table_value}
-use Rattle.mob_catalog.specs.Kept.{IsEntered, IsKeptTogether, IsSameIndex, names_of}
-use Rattle.mob_catalog.proofs.Changed.{length_changed}
-use Rattle.mob_catalog.proofs.TypedTables.{live_behind, table_behind}
+use Rattle.mob_catalog.specs.Catalogue.{Catalogue, live_of, live_rows, rows_put, with_changed, with_empty_table, with_last_row, with_live_row, with_row}
+use Rattle.mob_catalog.specs.Indexes.{AreEntries, IndexHolds, OnWay, table_value}
+use Rattle.mob_catalog.specs.Kept.{IsEntered, with_found}
 
 -- ---- entries of rows
 
@@ -60,6 +57,26 @@ entered_way (Some (MovingPoint a)) row entries old new same h = record {
   same = λ g. h.2 g ∙ ap (λ n. n + g (h.0, row)) (same g) ∙ sym (sum_by_push g entries (h.0, row));
 }
 entered_way (Some _) row entries old new same h = record { others = []; are = refl; same = none_entered entries old new same h }
+
+-- what was found in a row, put behind
+pub found_behind : (value : ℕ → Option Value) (rows : List ℕ) (i : ℕ) (found : Option BoxOf) (entries : List EntryOf) → i < length rows
+    → OnWay (value (get_or rows i 0)) (λ b. found ≡ Some b) (found ≡ None) → AreEntries value (take i rows) entries → AreEntries value (take (i + 1) rows) (with_found found (get_or rows i 0) entries)
+found_behind value rows i None entries lt own h =
+    subst (λ rs. AreEntries value rs entries) (sym (take_more rows i 0 lt)) (subst (AreEntries value (take i rows ++ get_or rows i 0 ∷ [])) (append-nil entries)
+    (entries_behind value (take i rows) (get_or rows i 0 ∷ []) entries [] h (on_way (value (get_or rows i 0)) (λ b e. absurd (none_some e)) (λ e. refl) own)))
+  where
+    none_some : {A : Type 0} {x : A} → None ≡ Some x → ⊥
+    none_some e = cc e
+found_behind value rows i (Some f) entries lt own h =
+    subst (λ rs. AreEntries value rs (entries ++ (f, get_or rows i 0) ∷ [])) (sym (take_more rows i 0 lt))
+    (entries_behind value (take i rows) (get_or rows i 0 ∷ []) entries ((f, get_or rows i 0) ∷ []) h
+    (on_way (value (get_or rows i 0)) (λ b e. ([], ap (λ (x : BoxOf). (x, get_or rows i 0) ∷ []) (some_same e), refl)) (λ e. absurd (some_none e)) own))
+  where
+    some_same : {A : Type 0} {x y : A} → Some x ≡ Some y → x ≡ y
+    some_same e = cc e
+
+    some_none : {A : Type 0} {x : A} → Some x ≡ None → ⊥
+    some_none e = cc e
 
 -- ---- tables
 
@@ -124,39 +141,39 @@ all_new_values tables table column (r ∷ rows) = (new_values tables table colum
 -- ---- indexes
 
 -- an index holds what it should, with a new row
-holds_row : (c : Catalogue) (n : ℕ) (row : List Value) (on : ℕ × ℕ) (old new : List EntryOf) → n < length c.heads → AllZip HoldsLiveRows c.heads c.store.tables → IndexHolds c on old
-    → (if on.0 == n then OnWay (table_value (with_row n row c).store.tables on.0 on.1 (rows_put n c.store.tables)) (λ b. IsAdded old (b, rows_put n c.store.tables) new) (new ≡ old) else (new ≡ old))
-    → IndexHolds (with_row n row c) on new
-holds_row c n row on old new lt live h entered = by (on.0 == n) refl entered
+pub holds_row : (c : Catalogue) (n : ℕ) (row : List Value) (old new : TableIndex) → n < length c.heads → AllZip HoldsLiveRows c.heads c.store.tables → IndexHolds c old.on old.tree.entries
+    → IsEntered (with_changed n (with_last_row row) c.store.tables) n (rows_put n c.store.tables) old new → IndexHolds (with_row n row c) old.on new.tree.entries
+holds_row c n row old new lt live h entered = by (old.on.0 == n) refl
   where
-    here : AllByRecursion (λ r. table_value (with_changed n (with_last_row row) c.store.tables) on.0 on.1 r ≡ table_value c.store.tables on.0 on.1 r) (live_rows c on.0)
-    here = values_kept row on.1 c.heads c.store.tables n on.0 live
+    here : AllByRecursion (λ r. table_value (with_changed n (with_last_row row) c.store.tables) old.on.0 old.on.1 r ≡ table_value c.store.tables old.on.0 old.on.1 r) (live_rows c old.on.0)
+    here = values_kept row old.on.1 c.heads c.store.tables n old.on.0 live
 
-    by : (b : Bool) → (on.0 == n) ≡ b
-        → (if b then OnWay (table_value (with_row n row c).store.tables on.0 on.1 (rows_put n c.store.tables)) (λ x. IsAdded old (x, rows_put n c.store.tables) new) (new ≡ old) else (new ≡ old))
-        → IndexHolds (with_row n row c) on new
-    by true t e =
-        let same : on.0 ≡ n = eqb-true on.0 n t in
-        let value = table_value (with_row n row c).store.tables on.0 on.1 in
-        let with_entry = entered_way (value (rows_put n c.store.tables)) (rows_put n c.store.tables) h.0 old new h.2 e in
-        let rows : live_rows (with_row n row c) on.0 ≡ live_rows c on.0 ++ rows_put n c.store.tables ∷ [] =
-        subst (λ m. live_of (with_changed n (with_live_row (rows_put n c.store.tables)) c.heads) m ≡ live_of c.heads m ++ rows_put n c.store.tables ∷ []) (sym same) (live_more c.heads n (rows_put n c.store.tables) lt) in (
+    by : (b : Bool) → (old.on.0 == n) ≡ b → IndexHolds (with_row n row c) old.on new.tree.entries
+    by true t =
+        let same : old.on.0 ≡ n = eqb-true old.on.0 n t in
+        let value = table_value (with_row n row c).store.tables old.on.0 old.on.1 in
+        let with_entry = entered_way (value (rows_put n c.store.tables)) (rows_put n c.store.tables) h.0 old.tree.entries new.tree.entries h.2 (entered.here same) in
+        let rows : live_rows (with_row n row c) old.on.0 ≡ live_rows c old.on.0 ++ rows_put n c.store.tables ∷ [] =
+            subst (λ m. live_of (with_changed n (with_live_row (rows_put n c.store.tables)) c.heads) m ≡ live_of c.heads m ++ rows_put n c.store.tables ∷ []) (sym same) (live_more c.heads n (rows_put n c.store.tables) lt) in
+        (
           h.0 ++ with_entry.others,
           subst (λ rs. AreEntries value rs (h.0 ++ with_entry.others)) (sym rows)
-              (entries_behind value (live_rows c on.0) (rows_put n c.store.tables ∷ []) h.0 with_entry.others (entries_kept (table_value c.store.tables on.0 on.1) value (live_rows c on.0) h.0 here h.1) with_entry.are),
+              (entries_behind value (live_rows c old.on.0) (rows_put n c.store.tables ∷ []) h.0 with_entry.others (entries_kept (table_value c.store.tables old.on.0 old.on.1) value (live_rows c old.on.0) h.0 here h.1) with_entry.are),
           with_entry.same,
         )
-    by false t e =
-        let value = table_value (with_row n row c).store.tables on.0 on.1 in (
+    by false t =
+        let value = table_value (with_row n row c).store.tables old.on.0 old.on.1 in
+        (
           h.0,
-          subst (λ rs. AreEntries value rs h.0) (sym (live_kept c.heads n on.0 (rows_put n c.store.tables) (eqb-false on.0 n t))) (entries_kept (table_value c.store.tables on.0 on.1) value (live_rows c on.0) h.0 here h.1),
-          λ g. ap (sum_by g) e ∙ h.2 g,
+          subst (λ rs. AreEntries value rs h.0) (sym (live_kept c.heads n old.on.0 (rows_put n c.store.tables) (eqb-false old.on.0 n t))) (entries_kept (table_value c.store.tables old.on.0 old.on.1) value (live_rows c old.on.0) h.0 here h.1),
+          λ g. ap (sum_by g) (entered.elsewhere (eqb-false old.on.0 n t)) ∙ h.2 g,
         )
 
 -- with a new table
-holds_table : (c : Catalogue) (columns : List Column) (on : ℕ × ℕ) (held : List EntryOf) → IndexHolds c on held → IndexHolds (with_empty_table columns c) on held
+pub holds_table : (c : Catalogue) (columns : List Column) (on : ℕ × ℕ) (held : List EntryOf) → IndexHolds c on held → IndexHolds (with_empty_table columns c) on held
 holds_table c columns on held h =
-    let value = table_value (with_empty_table columns c).store.tables on.0 on.1 in (
+    let value = table_value (with_empty_table columns c).store.tables on.0 on.1 in
+    (
       h.0,
       subst (λ rs. AreEntries value rs h.0) (sym (new_live columns c.heads on.0))
           (entries_kept (table_value c.store.tables on.0 on.1) value (live_rows c on.0) h.0 (all_new_values c.store.tables on.0 on.1 (live_rows c on.0)) h.1),

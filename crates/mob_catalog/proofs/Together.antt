@@ -1,17 +1,16 @@
 -- A catalogue and its indexes keep together as they grow.
-use Rattle.std.proofs.Common.{◌≡◌, ◌∙◌, refl, sym, ap, subst, ℕ, zero, suc, arith, ◌+◌, ◌<◌, ◌≤◌, ◌^◌, length, List, [], ◌∷◌, ◌++◌, get_or, set, take, map, if◌then◌else◌, ◌==◌}
+use Rattle.std.proofs.Common.{◌≡◌, ◌∙◌, refl, sym, ap, subst, ℕ, zero, suc, arith, ◌+◌, ◌<◌, ◌≤◌, ◌^◌, length, List, [], ◌∷◌, ◌++◌, get_or, set, take, map}
 use Rattle.std.specs.List.{AllByRecursion, AllZip}
 use Rattle.std.proofs.lemmas.List.{length-append, map-append, take_more_set}
-use Rattle.mob_rtree_nodes.specs.Tree.{EntryOf, IsAdded}
-use Rattle.mob_rtree.specs.Shape.{IsAsBefore}
 use Rattle.mob_value.specs.declared.value.Value.{Value}
 use Rattle.mob_value.specs.declared.store.Table.{Table}
 use Rattle.mob_typed.proofs.Rising.{each_both, each_on}
+use Rattle.mob_catalog.specs.declared.catalog.TableHead.{TableHead}
 use Rattle.mob_catalog.specs.declared.indexes.TableIndex.{TableIndex}
 use Rattle.mob_catalog.specs.TableFile.{Column}
 use Rattle.mob_catalog.specs.TypedTables.{HoldsLiveRows}
 use Rattle.mob_catalog.specs.Catalogue.{Catalogue, new_catalogue, rows_put, with_changed, with_empty_table, with_index, with_last_row, with_live_row, with_row}
-use Rattle.mob_catalog.specs.Indexes.{IndexHolds, OnWay, table_value}
+use Rattle.mob_catalog.specs.Indexes.{IndexHolds}
 use Rattle.mob_catalog.specs.Kept.{HasRoom, IsEntered, IsKeptTogether, IsSameIndex, names_of}
 use Rattle.mob_catalog.proofs.Changed.{length_changed}
 use Rattle.mob_catalog.proofs.TypedTables.{live_behind, table_behind}
@@ -105,7 +104,7 @@ same_held c (x ∷ xs) [] h k = absurd h
 same_held c (x ∷ xs) (y ∷ ys) h k =
     (subst (λ on. IndexHolds c on y.tree.entries) (sym h.0.on) (subst (IndexHolds c x.on) (sym h.0.tree.entries) k.0), same_held c xs ys h.1 k.1)
 
-pub kept_same : (c : Catalogue) (old new : List TableIndex) → IsKeptTogether c old → AllZip IsSameIndex old new → IsKeptTogether c new
+pub kept_same : (c : Catalogue) (old new : List TableIndex) → IsKeptTogether c old → AllZip IsSameIndex old new → IsKeptTogether (record c { index_names = names_of new }) new
 kept_same c old new h same = record {
   heads = h.heads;
   live = h.live;
@@ -113,6 +112,18 @@ kept_same c old new h same = record {
   held = same_held c old new same h.held;
   few = h.few;
 }
+
+-- ---- one catalogue in two ways
+
+abbrev pub catalogue_of : List Table → List Value → List TableHead → List (ℕ × ℕ) → List (List ℕ) → Catalogue
+catalogue_of tables consts heads indexed names = record { store = record { tables = tables; consts = consts }; heads = heads; indexed = indexed; index_names = names }
+
+module _ (consts : List Value) (indexed : List (ℕ × ℕ)) where
+  pub alike : (t u : List Table) (h k : List TableHead) (n m : List (List ℕ)) → t ≡ u → h ≡ k → n ≡ m → catalogue_of t consts h indexed n ≡ catalogue_of u consts k indexed m
+  alike t u h k n m a b c = ap (λ x. catalogue_of x consts h indexed n) a ∙ ap (λ x. catalogue_of u consts x indexed n) b ∙ ap (λ x. catalogue_of u consts k indexed x) c
+
+  pub kept_alike : (t u : List Table) (h k : List TableHead) (n : List (List ℕ)) (is : List TableIndex) → t ≡ u → h ≡ k → IsKeptTogether (catalogue_of u consts k indexed n) is → IsKeptTogether (catalogue_of t consts h indexed n) is
+  kept_alike t u h k n is a b held = subst (λ c. IsKeptTogether c is) (sym (alike t u h k n n a b refl)) held
 
 -- ---- what is new
 
@@ -144,7 +155,7 @@ module _ (c : Catalogue) (n : ℕ) (row : List Value) (lt : n < length c.heads) 
   row_held [] (y ∷ ys) h k = absurd h
   row_held (x ∷ xs) [] h k = absurd h
   row_held (x ∷ xs) (y ∷ ys) h k =
-      (subst (λ on. IndexHolds (with_row n row c) on y.tree.entries) (sym h.0.on) (holds_row c n row x.on x.tree.entries y.tree.entries lt live k.0 h.0.entries), row_held xs ys h.1 k.1)
+      (subst (λ on. IndexHolds (with_row n row c) on y.tree.entries) (sym h.0.on) (holds_row c n row x y lt live k.0 h.0), row_held xs ys h.1 k.1)
 
   row_on : (tables : List Table) (number : ℕ) (old new : List TableIndex) → AllZip (IsEntered tables n number) old new → map (λ (i : TableIndex). i.on) new ≡ map (λ (i : TableIndex). i.on) old
   row_on tables number [] [] h = refl
@@ -159,7 +170,7 @@ row_names tables n number (x ∷ xs) [] h = absurd h
 row_names tables n number (x ∷ xs) (y ∷ ys) h = ap (λ m. m ∷ names_of ys) h.0.name ∙ ap (λ ns. x.name ∷ ns) (row_names tables n number xs ys h.1)
 
 pub kept_row : (c : Catalogue) (n : ℕ) (row : List Value) (old new : List TableIndex) → n < length c.heads → IsKeptTogether c old
-    → AllZip (IsEntered (with_changed n (with_last_row row) c.store.tables) n (rows_put n c.store.tables)) old new → IsKeptTogether (with_row n row c) new
+    → AllZip (IsEntered (with_changed n (with_last_row row) c.store.tables) n (rows_put n c.store.tables)) old new → IsKeptTogether (record (with_row n row c) { index_names = names_of new }) new
 kept_row c n row old new lt h entered = record {
   heads = length_changed n (with_live_row (rows_put n c.store.tables)) c.heads ∙ h.heads ∙ sym (length_changed n (with_last_row row) c.store.tables);
   live = live_behind n c.heads c.store.tables row h.live;

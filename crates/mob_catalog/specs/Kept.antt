@@ -1,5 +1,6 @@
 -- What a catalogue keeps to, and what a new row does to its indexes.
-use Rattle.std.specs.Prelude.{◌≡◌, ◌==◌, ◌<◌, ◌^◌, ℕ, List, if◌then◌else◌, length, map}
+use Rattle.std.specs.Prelude.{◌≡◌, ◌<◌, ◌^◌, ◌++◌, ◌∷◌, ℕ, List, [], Option, Some, None, length, map}
+use Rattle.mob_stbox.specs.Boxes.{BoxOf}
 use Rattle.std.specs.List.{AllByRecursion}
 use Rattle.mob_rtree.specs.Shape.{IsAsBefore}
 use Rattle.mob_rtree_nodes.specs.Tree.{EntryOf, IsAdded}
@@ -35,6 +36,10 @@ HasRoom table index = index.on.0 ≡ table → 0 < index.tree.spare
 pub record IsEntered (tables : List Table) (table number : ℕ) (old new : TableIndex) : Type 0 where
   pub on : new.on ≡ old.on
   pub name : new.name ≡ old.name
-  pub entries : if old.on.0 == table
-      then OnWay (table_value tables old.on.0 old.on.1 number) (λ b. IsAdded old.tree.entries (b, number) new.tree.entries) (new.tree.entries ≡ old.tree.entries)
-      else (new.tree.entries ≡ old.tree.entries)
+  pub here : old.on.0 ≡ table → OnWay (table_value tables old.on.0 old.on.1 number) (λ b. IsAdded old.tree.entries (b, number) new.tree.entries) (new.tree.entries ≡ old.tree.entries)
+  pub elsewhere : (old.on.0 ≡ table → ⊥) → new.tree.entries ≡ old.tree.entries
+
+-- the entries with one more behind, for a box that was found in the row of this number
+abbrev pub with_found : Option BoxOf → ℕ → List EntryOf → List EntryOf
+with_found None number entries = entries
+with_found (Some b) number entries = entries ++ (b, number) ∷ []

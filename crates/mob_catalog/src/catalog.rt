@@ -75,6 +75,19 @@ where
     made
 }
 
+// Makes room for the numbers of more rows of a table that is there.
+fn room_for_live(
+    alloc: Global,
+    heads: &mut Vec<TableHead>,
+    table: u32,
+    more: usize,
+) -> Result<(), AllocError>
+    requires there { table < length heads.old.items }
+    ensures same { heads.new.items ≡ heads.old.items }
+{
+    make_room(alloc, &mut heads[table as usize].live, more)
+}
+
 // Makes room for more rows behind those of a table that is there.
 fn room_for_rows(
     alloc: Global,
@@ -128,6 +141,28 @@ fn pop_live(alloc: Global, heads: &mut Vec<TableHead>, table: u32)
     let mut live = mem::replace(&mut head.live, Items::new(alloc)).into_vec();
     let _ = live.pop();
     head.live = Items::from_vec(live);
+}
+
+// Puts a table behind the others, with its head: both, or neither where memory is refused.
+fn push_table(
+    tables: &mut Items<Table>,
+    heads: &mut Vec<TableHead>,
+    table: Table,
+    head: TableHead,
+) -> Result<(), AllocError>
+    ensures table { OnOk result (tables.new ≡ tables.old ++ table ∷ []) }
+    ensures head { OnOk result (heads.new.items ≡ heads.old.items ++ head ∷ []) }
+    ensures same_tables { OnErr result (tables.new ≡ tables.old) }
+    ensures same_heads { OnErr result (heads.new.items ≡ heads.old.items) }
+{
+    heads.push(head)?;
+    match tables.push(table) {
+        Ok(()) => Ok(()),
+        Err(error) => {
+            let _ = heads.pop();
+            Err(error)
+        }
+    }
 }
 
 // Puts a row behind those of a table that is there, and says that it is there: both, or neither where memory is refused.
@@ -231,13 +266,14 @@ impl Catalog {
             rows: Items::new(self.alloc),
         };
         let live = Items::new(self.alloc);
-        self.heads.push(TableHead { columns, live })?;
-        match self.store.tables.push(table) {
+        match push_table(
+            &mut self.store.tables,
+            &mut self.heads,
+            table,
+            TableHead { columns, live },
+        ) {
             Ok(()) => Ok(()),
-            Err(error) => {
-                let _ = self.heads.pop();
-                Err(error)
-            }
+            Err(error) => Err(error),
         }
     }
 
@@ -249,7 +285,7 @@ impl Catalog {
         if table as usize >= self.heads.len() {
             return Ok(());
         }
-        make_room(self.alloc, &mut self.heads[table as usize].live, more)?;
+        room_for_live(self.alloc, &mut self.heads, table, more)?;
         room_for_rows(self.alloc, &mut self.store.tables, table, more)
     }
 
@@ -297,7 +333,10 @@ impl Catalog {
             name,
             (table, column),
         )?;
-        push_index(&mut self.indexed, &mut self.indexes, index)
+        match push_index(&mut self.indexed, &mut self.indexes, index) {
+            Ok(()) => Ok(()),
+            Err(error) => Err(error),
+        }
     }
 
     /// The tables with their rows, and the constants.

@@ -5,7 +5,7 @@ ghost use Rattle.mob_rtree_nodes.specs.Tree.{IsAdded};
 ghost use Rattle.mob_rtree.specs.Shape.{IsAsBefore};
 ghost use Rattle.mob_stbox.specs.Boxes.{is_whole};
 ghost use Rattle.mob_catalog.specs.Indexes.{AreEntries, OnWay, table_value as value_in};
-ghost use Rattle.mob_catalog.specs.Kept.{HasRoom, IsEntered, IsSameIndex};
+ghost use Rattle.mob_catalog.specs.Kept.{HasRoom, IsEntered, IsSameIndex, with_found};
 
 use mob_list::items::Items;
 use mob_list::text::Text;
@@ -56,6 +56,20 @@ fn way_at(tables: &[Table], table: u32, column: u32, row: u32) -> Option<StBox>
     }
 }
 
+// Puts an entry behind the others for a box that was found in a row.
+fn push_entry(
+    entries: &mut Vec<(StBox, u32)>,
+    found: Option<StBox>,
+    row: u32,
+) -> Result<(), AllocError>
+    ensures pushed { OnOk result (entries.new.items ≡ with_found found row entries.old.items) }
+{
+    match found {
+        Some(own) => Ok(entries.push((own, row))?),
+        None => Ok(()),
+    }
+}
+
 // The entries of an index over these rows of a table.
 pub fn entries_of(
     alloc: Global,
@@ -69,10 +83,8 @@ pub fn entries_of(
 {
     let mut entries = Vec::new(alloc);
     for row in rows {
-        match way_at(tables, table, column, *row) {
-            Some(found) => entries.push((found, *row))?,
-            None => {}
-        }
+        let found = way_at(tables, table, column, *row);
+        push_entry(&mut entries, found, *row)?;
     }
     Ok(entries)
 }
