@@ -11,3 +11,4 @@ pub mod OneMeaning
 mod OwnTypes
 pub mod TypedTables
 mod Holding
+mod Together

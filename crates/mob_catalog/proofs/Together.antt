@@ -46,6 +46,20 @@ module _ {A : Type 0} (R : A → A → Type 0) where
   all_changed zero (x ∷ xs) (y ∷ ys) le h = absurd (omega (arith, le))
   all_changed (suc n) (x ∷ xs) (y ∷ ys) le h = (h.0, all_changed n xs ys (omega (arith, le)) h.1)
 
+  -- what is not changed yet is as it was
+  pub still : (n : ℕ) (xs ys : List A) (y : A) → n < length ys → y ≡ get_or ys n y → AreChanged R n xs ys → (n < length xs) × (y ≡ get_or xs n y)
+  still n [] [] y lt is h = absurd (omega (arith, lt))
+  still n [] (b ∷ ys) y lt is h = absurd h
+  still n (x ∷ xs) [] y lt is h = absurd h
+  still zero (x ∷ xs) (b ∷ ys) y lt is h = (omega arith, is ∙ h.0)
+  still (suc n) (x ∷ xs) (b ∷ ys) y lt is h = let k = still n xs ys y (omega (arith, lt)) is h.1 in (omega (arith, k.0), k.1)
+
+-- what holds of each of a list holds of the one of this number
+pub each_at : {A : Type 0} (P : A → Type 0) (xs : List A) (n : ℕ) (x : A) → n < length xs → x ≡ get_or xs n x → AllByRecursion P xs → P x
+each_at P [] n x lt is h = absurd (omega (arith, lt))
+each_at P (y ∷ xs) zero x lt is h = subst P (sym is) h.0
+each_at P (y ∷ xs) (suc n) x lt is h = each_at P xs n x (omega (arith, lt)) is h.1
+
 -- ---- indexes that stay as they are
 
 same_index : (i : TableIndex) → IsSameIndex i i
@@ -83,7 +97,6 @@ same_on [] [] h = refl
 same_on [] (y ∷ ys) h = absurd h
 same_on (x ∷ xs) [] h = absurd h
 same_on (x ∷ xs) (y ∷ ys) h = ap (λ o. o ∷ map (λ (i : TableIndex). i.on) ys) h.0.on ∙ ap (λ os. x.on ∷ os) (same_on xs ys h.1)
-
 
 same_held : (c : Catalogue) (old new : List TableIndex) → AllZip IsSameIndex old new → AllByRecursion (λ (i : TableIndex). IndexHolds c i.on i.tree.entries) old → AllByRecursion (λ (i : TableIndex). IndexHolds c i.on i.tree.entries) new
 same_held c [] [] h k = tt

@@ -1,6 +1,6 @@
 // The indexes of a catalogue.
-ghost use Rattle.std.specs.Prelude.{◌≡◌, ◌<◌, ℕ, All, IfOk, IfSome, None, OnOk, Some, true};
-ghost use Rattle.std.specs.List.{AllZip};
+ghost use Rattle.std.specs.Prelude.{◌≡◌, ◌<◌, ℕ, All, IfOk, IfSome, None, OnOk, Some, option_map, true};
+ghost use Rattle.std.specs.List.{AllByRecursion, AllZip};
 ghost use Rattle.mob_rtree_nodes.specs.Tree.{IsAdded};
 ghost use Rattle.mob_rtree.specs.Shape.{IsAsBefore};
 ghost use Rattle.mob_stbox.specs.Boxes.{is_whole};
@@ -91,7 +91,7 @@ fn reserve_entry(index: &mut TableIndex, table: u32) -> Result<(), AllocError>
 // Makes memory for one more entry in each index on this table.
 pub fn reserve_entries(indexes: &mut Vec<TableIndex>, table: u32) -> Result<(), AllocError>
     ensures same { AllZip IsSameIndex indexes.old.items indexes.new.items }
-    ensures room { OnOk result (All (HasRoom table) indexes.new.items) }
+    ensures room { OnOk result (AllByRecursion (HasRoom table) indexes.new.items) }
 {
     for i in 0..indexes.len() {
         reserve_entry(&mut indexes[i], table)?;
@@ -127,7 +127,7 @@ fn enter_row(index: &mut TableIndex, tables: &[Table], table: u32, row: u32)
 
 // Enters a row of this table into each index, for which there is memory.
 pub fn enter_rows(indexes: &mut Vec<TableIndex>, tables: &[Table], table: u32, row: u32)
-    requires room { All (HasRoom table) indexes.old.items }
+    requires room { AllByRecursion (HasRoom table) indexes.old.items }
     ensures entered { AllZip (IsEntered tables.now table row) indexes.old.items indexes.new.items }
 {
     for i in 0..indexes.len() {

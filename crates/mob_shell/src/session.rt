@@ -126,7 +126,9 @@ impl Session {
                 column,
                 name,
             } => self.catalog.create_index(name.as_str(), *table, *column),
-            TypedStatement::Empty | TypedStatement::Select(_) | TypedStatement::Explain(_) => Ok(()),
+            TypedStatement::Empty | TypedStatement::Select(_) | TypedStatement::Explain(_) => Ok(
+                (),
+            ),
         }
     }
 }
