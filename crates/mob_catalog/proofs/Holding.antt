@@ -1,11 +1,12 @@
 -- What the indexes of a catalogue hold, as it grows.
 use Rattle.std.proofs.Common.{◌≡◌, ◌∙◌, refl, sym, ap, subst, ℕ, zero, suc, arith, ◌+◌, ◌<◌, ◌==◌, length, List, [], ◌∷◌, ◌++◌, Bool, true, false, Option, Some, None, slice_get, get_or, take, sum_by, option_map}
-use Rattle.std.specs.Prelude.{option_and_then}
+use Rattle.std.specs.Prelude.{All, IfSome, option_and_then}
 use Rattle.std.specs.List.{AllByRecursion, AllZip}
 use Rattle.std.proofs.lemmas.Bool.{eqb-true, eqb-false}
 use Rattle.std.proofs.lemmas.List.{append-nil, take_more}
+use Rattle.std.proofs.lemmas.List.Elements.{All-append}
 use Rattle.std.proofs.lemmas.List.Sums.{sum_by_push}
-use Rattle.mob_stbox.specs.Boxes.{BoxOf}
+use Rattle.mob_stbox.specs.Boxes.{BoxOf, is_whole}
 use Rattle.mob_rtree_nodes.specs.Tree.{AreSame, EntryOf, IsAdded}
 use Rattle.mob_value.specs.declared.value.Value.{Value}
 use Rattle.mob_value.specs.declared.value.Value.TheVariants.{MovingPoint}
@@ -77,6 +78,15 @@ found_behind value rows i (Some f) entries lt own h =
 
     some_none : {A : Type 0} {x : A} → Some x ≡ None → ⊥
     some_none e = cc e
+
+-- entries have boxes that are whole, with what was found too
+pub found_whole : (found : Option BoxOf) (row : ℕ) (entries : List EntryOf) → IfSome found (λ b. is_whole b ≡ true) → All (λ (e : EntryOf). is_whole e.0 ≡ true) entries → All (λ (e : EntryOf). is_whole e.0 ≡ true) (with_found found row entries)
+found_whole None row entries whole h = h
+found_whole (Some b) row entries whole h = All-append (λ (e : EntryOf). is_whole e.0 ≡ true) entries ((b, row) ∷ []) h one
+  where
+    one : All (λ (e : EntryOf). is_whole e.0 ≡ true) ((b, row) ∷ [])
+    one zero d lt = whole
+    one (suc k) d lt = absurd (omega (arith, lt))
 
 -- ---- tables
 

@@ -1,7 +1,9 @@
 -- A catalogue and its indexes keep together as they grow.
-use Rattle.std.proofs.Common.{◌≡◌, ◌∙◌, refl, sym, ap, subst, ℕ, zero, suc, arith, ◌+◌, ◌<◌, ◌≤◌, ◌^◌, length, List, [], ◌∷◌, ◌++◌, get_or, set, take, map}
+use Rattle.std.proofs.Common.{◌≡◌, ◌∙◌, refl, sym, ap, subst, ℕ, zero, suc, arith, ◌+◌, ◌<◌, ◌≤◌, ◌^◌, length, List, [], ◌∷◌, ◌++◌, get_or, set, take, map, Result, Ok, Err}
+use Rattle.std.specs.Prelude.{OnErr}
 use Rattle.std.specs.List.{AllByRecursion, AllZip}
 use Rattle.std.proofs.lemmas.List.{length-append, map-append, take_more_set}
+use Rattle.mob_rtree_nodes.specs.Tree.{EntryOf}
 use Rattle.mob_value.specs.declared.value.Value.{Value}
 use Rattle.mob_value.specs.declared.store.Table.{Table}
 use Rattle.mob_typed.proofs.Rising.{each_both, each_on}
@@ -9,8 +11,8 @@ use Rattle.mob_catalog.specs.declared.catalog.TableHead.{TableHead}
 use Rattle.mob_catalog.specs.declared.indexes.TableIndex.{TableIndex}
 use Rattle.mob_catalog.specs.TableFile.{Column}
 use Rattle.mob_catalog.specs.TypedTables.{HoldsLiveRows}
-use Rattle.mob_catalog.specs.Catalogue.{Catalogue, new_catalogue, rows_put, with_changed, with_empty_table, with_index, with_last_row, with_live_row, with_row}
-use Rattle.mob_catalog.specs.Indexes.{IndexHolds}
+use Rattle.mob_catalog.specs.Catalogue.{Catalogue, live_rows, new_catalogue, rows_put, with_changed, with_empty_table, with_last_row, with_live_row, with_row}
+use Rattle.mob_catalog.specs.Indexes.{IndexHolds, IsMadeOf, table_value}
 use Rattle.mob_catalog.specs.Kept.{HasRoom, IsEntered, IsKeptTogether, IsSameIndex, names_of}
 use Rattle.mob_catalog.proofs.Changed.{length_changed}
 use Rattle.mob_catalog.proofs.TypedTables.{live_behind, table_behind}
@@ -44,6 +46,13 @@ module _ {A : Type 0} (R : A → A → Type 0) where
   all_changed n (x ∷ xs) [] le h = absurd h
   all_changed zero (x ∷ xs) (y ∷ ys) le h = absurd (omega (arith, le))
   all_changed (suc n) (x ∷ xs) (y ∷ ys) le h = (h.0, all_changed n xs ys (omega (arith, le)) h.1)
+
+  pub changed_length : (n : ℕ) (xs ys : List A) → AreChanged R n xs ys → length ys ≡ length xs
+  changed_length n [] [] h = refl
+  changed_length n [] (y ∷ ys) h = absurd h
+  changed_length n (x ∷ xs) [] h = absurd h
+  changed_length zero (x ∷ xs) (y ∷ ys) h = ap suc (changed_length zero xs ys h.1)
+  changed_length (suc n) (x ∷ xs) (y ∷ ys) h = ap suc (changed_length n xs ys h.1)
 
   -- what is not changed yet is as it was
   pub still : (n : ℕ) (xs ys : List A) (y : A) → n < length ys → y ≡ get_or ys n y → AreChanged R n xs ys → (n < length xs) × (y ≡ get_or xs n y)
@@ -115,6 +124,10 @@ kept_same c old new h same = record {
 
 -- ---- one catalogue in two ways
 
+pub on_err : {T E : Type 0} {P : Type 0} (r : Result T E) → P → OnErr r P
+on_err (Ok x) p = tt
+on_err (Err e) p = p
+
 abbrev pub catalogue_of : List Table → List Value → List TableHead → List (ℕ × ℕ) → List (List ℕ) → Catalogue
 catalogue_of tables consts heads indexed names = record { store = record { tables = tables; consts = consts }; heads = heads; indexed = indexed; index_names = names }
 
@@ -139,14 +152,19 @@ kept_table columns c is h = record {
   few = h.few;
 }
 
-pub kept_index : (name : List ℕ) (c : Catalogue) (is : List TableIndex) (i : TableIndex) → length c.indexed < 4294967295 → IndexHolds c i.on i.tree.entries → IsKeptTogether c is → IsKeptTogether (with_index name i.on.0 i.on.1 c) (is ++ i ∷ [])
-kept_index name c is i few held h = record {
+pub kept_index : (c : Catalogue) (is : List TableIndex) (i : TableIndex) → length c.indexed < 4294967295 → IndexHolds c i.on i.tree.entries → IsKeptTogether c is
+    → IsKeptTogether (record c { indexed = c.indexed ++ i.on ∷ []; index_names = names_of (is ++ i ∷ []) }) (is ++ i ∷ [])
+kept_index c is i few held h = record {
   heads = h.heads;
   live = h.live;
   on = map-append (λ (j : TableIndex). j.on) is (i ∷ []) ∙ ap (λ (os : List (ℕ × ℕ)). os ++ i.on ∷ []) h.on;
-  held = each_both (λ (j : TableIndex). IndexHolds (with_index name i.on.0 i.on.1 c) j.on j.tree.entries) is (i ∷ []) h.held (held, tt);
+  held = each_both (λ (j : TableIndex). IndexHolds c j.on j.tree.entries) is (i ∷ []) h.held (held, tt);
   few = omega (arith, few, length-append c.indexed (i.on ∷ []));
 }
+
+pub kept_indexes : (c : Catalogue) (a b : List (ℕ × ℕ)) (is js : List TableIndex) → a ≡ b → is ≡ js → IsKeptTogether (record c { indexed = b; index_names = names_of js }) js → IsKeptTogether (record c { indexed = a; index_names = names_of is }) is
+kept_indexes c a b is js e f h =
+    subst (λ x. IsKeptTogether (record c { indexed = x; index_names = names_of is }) is) (sym e) (subst (λ x. IsKeptTogether (record c { indexed = b; index_names = names_of x }) x) (sym f) h)
 
 module _ (c : Catalogue) (n : ℕ) (row : List Value) (lt : n < length c.heads) (live : AllZip HoldsLiveRows c.heads c.store.tables) where
   row_held : (old new : List TableIndex) → AllZip (IsEntered (with_changed n (with_last_row row) c.store.tables) n (rows_put n c.store.tables)) old new
@@ -178,3 +196,9 @@ kept_row c n row old new lt h entered = record {
   held = row_held c n row lt h.live old new entered h.held;
   few = h.few;
 }
+
+-- an index that has its entries, and has them by another name of its rows
+pub holds_made : (c : Catalogue) (table column : ℕ) (on : ℕ × ℕ) (tables : List Table) (rows : List ℕ) (held : List EntryOf) → on ≡ (table, column) → tables ≡ c.store.tables → rows ≡ live_rows c table
+    → IsMadeOf (table_value tables table column) rows held → IndexHolds c on held
+holds_made c table column on tables rows held a b d h =
+    subst (λ o. IndexHolds c o held) (sym a) (subst (λ ts. IsMadeOf (table_value ts table column) (live_rows c table) held) b (subst (λ rs. IsMadeOf (table_value tables table column) rs held) d h))

@@ -266,15 +266,13 @@ impl Catalog {
             rows: Items::new(self.alloc),
         };
         let live = Items::new(self.alloc);
-        match push_table(
+        push_table(
             &mut self.store.tables,
             &mut self.heads,
             table,
             TableHead { columns, live },
-        ) {
-            Ok(()) => Ok(()),
-            Err(error) => Err(error),
-        }
+        )?;
+        Ok(())
     }
 
     /// Makes room at once for this many more rows of the table with this number, so that those of a whole file take no more memory than
@@ -333,10 +331,8 @@ impl Catalog {
             name,
             (table, column),
         )?;
-        match push_index(&mut self.indexed, &mut self.indexes, index) {
-            Ok(()) => Ok(()),
-            Err(error) => Err(error),
-        }
+        push_index(&mut self.indexed, &mut self.indexes, index)?;
+        Ok(())
     }
 
     /// The tables with their rows, and the constants.
