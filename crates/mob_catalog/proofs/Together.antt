@@ -106,7 +106,6 @@ same_on [] (y ∷ ys) h = absurd h
 same_on (x ∷ xs) [] h = absurd h
 same_on (x ∷ xs) (y ∷ ys) h = ap (λ o. o ∷ map (λ (i : TableIndex). i.on) ys) h.0.on ∙ ap (λ os. x.on ∷ os) (same_on xs ys h.1)
 
-
 same_held : (c : Catalogue) (old new : List TableIndex) → AllZip IsSameIndex old new → AllByRecursion (λ (i : TableIndex). IndexHolds c i.on i.tree.entries) old → AllByRecursion (λ (i : TableIndex). IndexHolds c i.on i.tree.entries) new
 same_held c [] [] h k = tt
 same_held c [] (y ∷ ys) h k = absurd h

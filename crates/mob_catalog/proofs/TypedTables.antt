@@ -75,4 +75,5 @@ types_stay = record {
   new = λ values. record { typed = tt; live = tt; made = refl; consts = refl };
   table = λ values tables columns c h. table_held values tables columns c h;
   row = λ values tables n row c h fits. row_held values tables n row c h fits;
+  index = λ values tables name n column c h. record { typed = h.typed; live = h.live; made = h.made; consts = h.consts };
 }

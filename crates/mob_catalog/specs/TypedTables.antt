@@ -4,7 +4,7 @@ use Rattle.std.specs.List.{AllByRecursion, AllZip}
 use Rattle.mob_value.specs.declared.store.Table.{Table}
 use Rattle.mob_value.specs.declared.value.Value.{Value}
 use Rattle.mob_typed.specs.Statements.{ColumnList}
-use Rattle.mob_catalog.specs.Catalogue.{Catalogue, new_catalogue, table_columns, with_empty_table, with_row}
+use Rattle.mob_catalog.specs.Catalogue.{Catalogue, new_catalogue, table_columns, with_empty_table, with_index, with_row}
 use Rattle.mob_catalog.specs.OwnTypes.{HasColumnTypes}
 use Rattle.mob_catalog.specs.declared.catalog.TableHead.{TableHead}
 
@@ -38,8 +38,10 @@ pub record Stores (values : List Value) (tables : List ColumnList) (c : Catalogu
   pub made : columns_of_tables c ≡ tables
   pub consts : c.store.consts ≡ values
 
--- So does a new catalogue without tables, and so it stays with a new table, and with a new row that has the types of its table's columns.
+-- So does a new catalogue without tables, and so it stays with a new table, with a new row that has the types of its table's columns, and with
+-- a new index.
 pub record TypesStay : Type 0 where
   pub new : (values : List Value) → Stores values [] (new_catalogue values)
   pub table : (values : List Value) (tables : List ColumnList) (columns : ColumnList) (c : Catalogue) → Stores values tables c → Stores values (tables ++ columns ∷ []) (with_empty_table columns c)
   pub row : (values : List Value) (tables : List ColumnList) (n : ℕ) (row : List Value) (c : Catalogue) → Stores values tables c → HasColumnTypes (table_columns c n) row → Stores values tables (with_row n row c)
+  pub index : (values : List Value) (tables : List ColumnList) (name : List ℕ) (n column : ℕ) (c : Catalogue) → Stores values tables c → Stores values tables (with_index name n column c)
