@@ -164,16 +164,14 @@ holds_row c n row old new lt live h entered = by (old.on.0 == n) refl
         let value = table_value (with_row n row c).store.tables old.on.0 old.on.1 in
         let with_entry = entered_way (value (rows_put n c.store.tables)) (rows_put n c.store.tables) h.0 old.tree.entries new.tree.entries h.2 (entered.here same) in
         let rows : live_rows (with_row n row c) old.on.0 ≡ live_rows c old.on.0 ++ rows_put n c.store.tables ∷ [] =
-            subst (λ m. live_of (with_changed n (with_live_row (rows_put n c.store.tables)) c.heads) m ≡ live_of c.heads m ++ rows_put n c.store.tables ∷ []) (sym same) (live_more c.heads n (rows_put n c.store.tables) lt) in
-        (
+        subst (λ m. live_of (with_changed n (with_live_row (rows_put n c.store.tables)) c.heads) m ≡ live_of c.heads m ++ rows_put n c.store.tables ∷ []) (sym same) (live_more c.heads n (rows_put n c.store.tables) lt) in (
           h.0 ++ with_entry.others,
           subst (λ rs. AreEntries value rs (h.0 ++ with_entry.others)) (sym rows)
               (entries_behind value (live_rows c old.on.0) (rows_put n c.store.tables ∷ []) h.0 with_entry.others (entries_kept (table_value c.store.tables old.on.0 old.on.1) value (live_rows c old.on.0) h.0 here h.1) with_entry.are),
           with_entry.same,
         )
     by false t =
-        let value = table_value (with_row n row c).store.tables old.on.0 old.on.1 in
-        (
+        let value = table_value (with_row n row c).store.tables old.on.0 old.on.1 in (
           h.0,
           subst (λ rs. AreEntries value rs h.0) (sym (live_kept c.heads n old.on.0 (rows_put n c.store.tables) (eqb-false old.on.0 n t))) (entries_kept (table_value c.store.tables old.on.0 old.on.1) value (live_rows c old.on.0) h.0 here h.1),
           λ g. ap (sum_by g) (entered.elsewhere (eqb-false old.on.0 n t)) ∙ h.2 g,
@@ -182,8 +180,7 @@ holds_row c n row old new lt live h entered = by (old.on.0 == n) refl
 -- with a new table
 pub holds_table : (c : Catalogue) (columns : List Column) (on : ℕ × ℕ) (held : List EntryOf) → IndexHolds c on held → IndexHolds (with_empty_table columns c) on held
 holds_table c columns on held h =
-    let value = table_value (with_empty_table columns c).store.tables on.0 on.1 in
-    (
+    let value = table_value (with_empty_table columns c).store.tables on.0 on.1 in (
       h.0,
       subst (λ rs. AreEntries value rs h.0) (sym (new_live columns c.heads on.0))
           (entries_kept (table_value c.store.tables on.0 on.1) value (live_rows c on.0) h.0 (all_new_values c.store.tables on.0 on.1 (live_rows c on.0)) h.1),

@@ -27,7 +27,7 @@ returns-in_err-reserve_entries-clause-unchanged c =
     let i = c.self.inside in
     let new = c.reserve_entries.new.indexes.items in
     on_err _ (alike i.store.consts i.indexed.items i.store.tables i.store.tables i.heads.items i.heads.items (names_of new) (names_of i.indexes.items) refl refl
-        (same_names i.indexes.items new c.in_err-reserve_entries.ensures.same) ∙ c.self.view_is)
+    (same_names i.indexes.items new c.in_err-reserve_entries.ensures.same) ∙ c.self.view_is)
 
 pub invariant_of-self-in_err-put_row : goal.invariant_of-self-in_err-put_row
 invariant_of-self-in_err-put_row c =
@@ -42,7 +42,7 @@ returns-in_err-put_row-clause-unchanged c =
     let i = c.self.inside in
     let new = c.reserve_entries.new.indexes.items in
     on_err _ (alike i.store.consts i.indexed.items c.put_row.new.tables i.store.tables c.put_row.new.heads.items i.heads.items (names_of new) (names_of i.indexes.items)
-        c.in_err-put_row.ensures.same_rows c.in_err-put_row.ensures.same_live (same_names i.indexes.items new c.in_ok-reserve_entries.ensures.same) ∙ c.self.view_is)
+    c.in_err-put_row.ensures.same_rows c.in_err-put_row.ensures.same_live (same_names i.indexes.items new c.in_ok-reserve_entries.ensures.same) ∙ c.self.view_is)
 
 pub invariant_of-self-2 : goal.invariant_of-self-2
 invariant_of-self-2 c =
@@ -56,10 +56,10 @@ invariant_of-self-2 c =
     let number : c.in_ok-number.number ≡ rows_put n i.store.tables = c.in_ok-number.ensures.number ∙ ap (rows_put n) c.as_slice.ensures.same in
     let tables : c.put_row.new.tables ≡ with_changed n (with_last_row c.args.row) i.store.tables = c.in_ok-put_row.ensures.row in
     let heads : c.put_row.new.heads.items ≡ with_changed n (with_live_row (rows_put n i.store.tables)) i.heads.items =
-        c.in_ok-put_row.ensures.live ∙ ap (λ k. with_changed n (with_live_row k) i.heads.items) number in
+    c.in_ok-put_row.ensures.live ∙ ap (λ k. with_changed n (with_live_row k) i.heads.items) number in
     let entered : AllZip (IsEntered (with_changed n (with_last_row c.args.row) i.store.tables) n (rows_put n i.store.tables)) mid new =
-        subst (λ (ts : List Table). AllZip (IsEntered ts n (rows_put n i.store.tables)) mid new) (c.as_slice-2.ensures.same ∙ tables)
-        (subst (λ (k : ℕ). AllZip (IsEntered c.as_slice-2.result.now n k) mid new) number c.enter_rows.ensures.entered) in
+    subst (λ (ts : List Table). AllZip (IsEntered ts n (rows_put n i.store.tables)) mid new) (c.as_slice-2.ensures.same ∙ tables)
+    (subst (λ (k : ℕ). AllZip (IsEntered c.as_slice-2.result.now n k) mid new) number c.enter_rows.ensures.entered) in
     let kept = kept_row between n c.args.row mid new there (kept_same before i.indexes.items mid c.self.invariant c.in_ok-reserve_entries.ensures.same) entered in
     kept_alike i.store.consts i.indexed.items c.put_row.new.tables (with_changed n (with_last_row c.args.row) i.store.tables) c.put_row.new.heads.items (with_changed n (with_live_row (rows_put n i.store.tables)) i.heads.items)
     (names_of new) new tables heads kept
@@ -72,7 +72,7 @@ returns-clause-added c =
     let new = c.enter_rows.new.indexes.items in
     let number : c.in_ok-number.number ≡ rows_put n i.store.tables = c.in_ok-number.ensures.number ∙ ap (rows_put n) c.as_slice.ensures.same in
     let heads : c.put_row.new.heads.items ≡ with_changed n (with_live_row (rows_put n i.store.tables)) i.heads.items =
-        c.in_ok-put_row.ensures.live ∙ ap (λ k. with_changed n (with_live_row k) i.heads.items) number in
+    c.in_ok-put_row.ensures.live ∙ ap (λ k. with_changed n (with_live_row k) i.heads.items) number in
     let names : names_of new ≡ names_of i.indexes.items = row_names c.as_slice-2.result.now n c.in_ok-number.number mid new c.enter_rows.ensures.entered ∙ same_names i.indexes.items mid c.in_ok-reserve_entries.ensures.same in
     alike i.store.consts i.indexed.items c.put_row.new.tables (with_changed n (with_last_row c.args.row) i.store.tables) c.put_row.new.heads.items (with_changed n (with_live_row (rows_put n i.store.tables)) i.heads.items)
     (names_of new) (names_of i.indexes.items) c.in_ok-put_row.ensures.row heads names
