@@ -75,5 +75,8 @@ pub fn explained(
     ensures rows { IfOk result (λ answer. answer.rows ≡ plan_rows catalog.now (planned (select_seen select.now) catalog.now.indexed) (select_seen select.now).names) }
 {
     let plan = plan(alloc, select, catalog.indexed())?;
-    plan_answer(alloc, &plan, select, catalog)
+    match plan_answer(alloc, &plan, select, catalog) {
+        Ok(answer) => Ok(answer),
+        Err(error) => Err(error),
+    }
 }

@@ -4,7 +4,7 @@ ghost use Rattle.mob_shell.specs.Statements.{OnFault};
 ghost use Rattle.mob_typed.specs.Selects.{select_seen};
 ghost use Rattle.mob_typed.specs.Statements.{plan_of, query, statement_seen};
 ghost use Rattle.mob_join.specs.TypedFor.{IsTypedFor};
-ghost use Rattle.mob_shell.specs.Runs.{Stops, StatementWrites, StatementLeaves, begin, later_files, next_rows, plan_text};
+ghost use Rattle.mob_shell.specs.Runs.{Stops, StatementWrites, StatementLeaves, begin, later_files, next_rows};
 ghost use Rattle.mob_shell.specs.Session.{HasNoAnswerBy, session_day, overflow_fault, session_state};
 
 use crate::answers::{answered, explained};
@@ -85,20 +85,16 @@ impl Session {
         }
     }
 
-    // The text of the plan of a query.
-    fn explanation(&self, alloc: Global, select: &TypedSelect) -> Result<Vec<u8>, AllocError>
-        ensures text { IfOk result (λ text. text.items ≡ plan_text (session_state self.now).catalogue (select_seen select.now)) }
-    {
-        let plan = explained(alloc, select, &self.catalog)?;
-        answer_text(alloc, &plan)
-    }
-
-    // What EXPLAIN writes: it has no fault.
+    // The text of the plan of a query. It has no fault.
     fn explain(&self, alloc: Global, select: &TypedSelect) -> Result<Vec<u8>, NoAnswer<Overflow>>
         ensures text { IfOk result (λ text. StatementWrites (session_day self.now) (session_state self.now) (plan_of (select_seen select.now)) text.items) }
         ensures fault { IfErr result (OnFault (λ o. Stops (session_day self.now) (session_state self.now) (plan_of (select_seen select.now)) (overflow_fault o))) }
     {
-        match self.explanation(alloc, select) {
+        let answer = match explained(alloc, select, &self.catalog) {
+            Ok(answer) => answer,
+            Err(_) => return Err(NoAnswer::NoMemory),
+        };
+        match answer_text(alloc, &answer) {
             Ok(text) => Ok(text),
             Err(_) => Err(NoAnswer::NoMemory),
         }
