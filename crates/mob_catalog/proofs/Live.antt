@@ -44,4 +44,5 @@ rows_stay_there = record {
   new = λ consts. tt;
   table = λ columns c h. table_there columns c.heads c.store.tables h;
   row = λ n row c h. row_there n row c.heads c.store.tables h;
+  index = λ name n column c h. h;
 }

@@ -28,14 +28,14 @@ pub fn values_have_their_types()
     ensures rows { RowsHaveColumnTypes }
 {}
 
-/// Each row that was put into a table is there, by its number: so it is in a new catalogue, and so it stays with a new table and a new
-/// row.
+/// Each row that was put into a table is there, by its number: so it is in a new catalogue, and so it stays with a new table, a new row
+/// and a new index.
 pub fn rows_stay_there()
     ensures stay { RowsStayThere }
 {}
 
-/// Tables hold values of the types of their columns: so it is in a new catalogue, and so it stays with a new table and with a new row that
-/// has the types of its table's columns.
+/// Tables hold values of the types of their columns: so it is in a new catalogue, and so it stays with a new table, with a new row that
+/// has the types of its table's columns, and with a new index.
 pub fn types_stay()
     ensures stay { TypesStay }
 {}

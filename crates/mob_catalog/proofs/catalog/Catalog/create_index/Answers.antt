@@ -4,14 +4,14 @@ use Rattle.mob_catalog.specs.Kept.{names_of}
 use Rattle.mob_catalog.proofs.Together.{catalogue_of, holds_made, kept_index, kept_indexes}
 use Rattle.mob_catalog.proofs.catalog.Catalog.create_index.Goals as goal
 
-pub invariant_of-self-in_err-push_index : goal.invariant_of-self-in_err-push_index
-invariant_of-self-in_err-push_index c =
+pub invariant_of-self : goal.invariant_of-self
+invariant_of-self c =
     let i = c.self.inside in
     let before = catalogue_of i.store.tables i.store.consts i.heads.items i.indexed.items (names_of i.indexes.items) in
     kept_indexes before c.push_index.new.indexed.items i.indexed.items c.push_index.new.indexes.items i.indexes.items c.in_err-push_index.ensures.same_on c.in_err-push_index.ensures.same c.self.invariant
 
-pub invariant_of-self : goal.invariant_of-self
-invariant_of-self c =
+pub invariant_of-self-2 : goal.invariant_of-self-2
+invariant_of-self-2 c =
     let i = c.self.inside in
     let index = c.in_ok-index.index in
     let before = catalogue_of i.store.tables i.store.consts i.heads.items i.indexed.items (names_of i.indexes.items) in

@@ -7,14 +7,14 @@ use Rattle.mob_catalog.specs.Kept.{names_of}
 use Rattle.mob_catalog.proofs.Together.{catalogue_of, kept_alike, kept_table}
 use Rattle.mob_catalog.proofs.catalog.Catalog.create_table.Goals as goal
 
-pub invariant_of-self-in_err-push_table : goal.invariant_of-self-in_err-push_table
-invariant_of-self-in_err-push_table c =
+pub invariant_of-self : goal.invariant_of-self
+invariant_of-self c =
     let i = c.self.inside in
     kept_alike i.store.consts i.indexed.items c.push_table.new.tables i.store.tables c.push_table.new.heads.items i.heads.items (names_of i.indexes.items) i.indexes.items
     c.in_err-push_table.ensures.same_tables c.in_err-push_table.ensures.same_heads c.self.invariant
 
-pub invariant_of-self : goal.invariant_of-self
-invariant_of-self c =
+pub invariant_of-self-2 : goal.invariant_of-self-2
+invariant_of-self-2 c =
     let i = c.self.inside in
     let before = catalogue_of i.store.tables i.store.consts i.heads.items i.indexed.items (names_of i.indexes.items) in
     let after = with_empty_table c.args.columns before in
