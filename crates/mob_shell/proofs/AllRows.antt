@@ -16,7 +16,7 @@ module _ (stay : RowsStayThere) where
   there_behind : (day : ℤ) (s t : RunState) (x : StatementOut) → StatementLeaves day s x t → AllAreThere s.catalogue → AllAreThere t.catalogue
   there_behind day s t nothing leaves h = subst (λ (u : RunState). AllAreThere u.catalogue) (sym leaves) h
   there_behind day s t (new_table n name columns) leaves h = subst (λ (u : RunState). AllAreThere u.catalogue) (sym leaves) (stay.table columns s.catalogue h)
-  there_behind day s t (new_index n c name) leaves h = subst (λ (u : RunState). AllAreThere u.catalogue) (sym leaves) h
+  there_behind day s t (new_index n c name) leaves h = subst (λ (u : RunState). AllAreThere u.catalogue) (sym leaves) (stay.index name n c s.catalogue h)
   there_behind day s t (new_rows n rows places) leaves h = subst (λ (u : RunState). AllAreThere u.catalogue) (sym leaves) (rows_there n (map (inserted_row s.catalogue.store.consts) rows) s.catalogue h)
   there_behind day s t (rows_from n name) leaves h = subst (λ (u : RunState). AllAreThere u.catalogue) (sym leaves) (rows_there n (next_rows s.files) s.catalogue h)
   there_behind day s t (query q) leaves h = subst (λ (u : RunState). AllAreThere u.catalogue) (sym leaves) h
