@@ -1,6 +1,6 @@
--- Why a text has no trees, no types, or uses what is not built.
-use Rattle.std.proofs.Common.{arith, ◌≡◌, refl, sym, ap, subst, ◌∙◌, inl, inr, ℕ, ◌≤◌, List, [], ◌∷◌, length, Some, None, Ok, Err}
-use Rattle.std.specs.Prelude.{◌⊎◌, ◌≢◌, Option, Result, IfOk, IfErr}
+-- Why a text has no trees, or no types.
+use Rattle.std.proofs.Common.{arith, ◌≡◌, refl, inl, inr, ℕ, ◌≤◌, List, length, Ok, Err}
+use Rattle.std.specs.Prelude.{◌⊎◌, ◌≢◌, Result, IfOk, IfErr}
 use Rattle.mob_ast.specs.declared.statement.Script.{Script}
 use Rattle.mob_ast.specs.declared.refusal.Kind.{Kind}
 use Rattle.mob_ast.specs.declared.refusal.Kind.TheVariants.{NotUtf8, Lexical, Syntax, TooComplex, NoMemory}
@@ -9,11 +9,10 @@ use Rattle.mob_ast.specs.Kinds.{no_memory}
 use Rattle.mob_ast.specs.Trees.{StatementParts, script_of}
 use Rattle.mob_parse.specs.Refusals.{IsCause, IsTreeOf, ParsesToRefusal as HasNoTree}
 use Rattle.mob_parse.proofs.Refused.{no_tree}
-use Rattle.mob_typed.specs.Statements.{ScriptOut}
+use Rattle.mob_typed.specs.declared.typed.Typed.{Typed}
+use Rattle.mob_typed.specs.Statements.{ScriptOut, script_seen}
 use Rattle.mob_typing.specs.Statements.{typed_script, IsTypingRefusal}
-use Rattle.mob_accept.specs.Least.{earlier, least}
-use Rattle.mob_accept.specs.UnbuiltWords.{unbuilt_words}
-use Rattle.mob_accept.specs.Accepts.{HasTrees, IsAccepted, IsTooLong, IsNotBuiltAt, IsAcceptRefusal, script_limit}
+use Rattle.mob_accept.specs.Accepts.{HasTrees, IsAccepted, IsTooLong, IsAcceptRefusal, script_limit}
 
 -- a refusal of the parser is want of memory, or another
 split : (k : Kind) (n p : ℕ) (bytes : List ℕ) → IsCause k bytes (record { kind = k; statement = n; place = p }) → (◌≡◌ {A = Refusal} (record { kind = k; statement = n; place = p }) no_memory) ⊎ (k ≢ NoMemory)
@@ -54,7 +53,7 @@ pub wrong_name : (bytes : List ℕ) (trees : List StatementParts) → IsRead byt
 wrong_name bytes trees h e wrong = elim wrong [
   | inl none ↦ inl none
   | inr first ↦ inr (
-    inr (inr (inl (record { trees = trees; read = h.read; first = first }))),
+    inr (inr (record { trees = trees; read = h.read; first = first })),
     λ out g. let same = h.only g.trees g.script.read in let typed = g.script.typed in cc,
   )
 ]
@@ -62,28 +61,16 @@ wrong_name bytes trees h e wrong = elim wrong [
 pub only_typed : (bytes : List ℕ) (trees : List StatementParts) (out : ScriptOut) → IsRead bytes trees → typed_script trees ≡ Ok out → (o : ScriptOut) → IsAccepted bytes o → o ≡ out
 only_typed bytes trees out h typed o g = let same = h.only g.trees g.script.read in let other = g.script.typed in cc
 
--- the least place of a word, of the text as it was read
-pub first_word : (bytes text : List ℕ) (w : Option ℕ) → text ≡ bytes → w ≡ least (unbuilt_words text) → w ≡ least (unbuilt_words bytes)
-first_word bytes text w same words = words ∙ ap (λ b. least (unbuilt_words b)) same
+-- what typing answers of the one reading of a text, in other words
+module _ (bytes : List ℕ) (trees : List StatementParts) (h : IsRead bytes trees) where
+  pub accepted_typed : (r : Result Typed Refusal) → IfOk r (λ t. typed_script trees ≡ Ok (script_seen t)) → IfOk r (λ t. IsAccepted bytes (script_seen t))
+  accepted_typed (Ok t) typed = record { trees = trees; script = record { read = h.read; typed = typed } }
+  accepted_typed (Err e) typed = tt
 
-some-earlier : (p : ℕ) (q : Option ℕ) → earlier (Some p) q ≡ None → ⊥
-some-earlier p None e = cc
-some-earlier p (Some q) e = cc
+  pub none_else : (r : Result Typed Refusal) → IfOk r (λ t. typed_script trees ≡ Ok (script_seen t)) → IfOk r (λ t. (o : ScriptOut) → IsAccepted bytes o → o ≡ script_seen t)
+  none_else (Ok t) typed = only_typed bytes trees (script_seen t) h typed
+  none_else (Err e) typed = tt
 
-pub least_none : (ps : List ℕ) → least ps ≡ None → ps ≡ []
-least_none [] e = refl
-least_none (p ∷ ps) e = absurd (some-earlier p (least ps) e)
-
-pub not_built : (bytes text : List ℕ) (trees : List StatementParts) (out : ScriptOut) (place : ℕ) (e : Refusal) → IsRead bytes trees → typed_script trees ≡ Ok out → text ≡ bytes → least (unbuilt_words bytes) ≡ Some place
-    → (e ≡ no_memory) ⊎ IsNotBuiltAt text place e → IsAcceptRefusal bytes e
-not_built bytes text trees out place e h typed same first says = elim says [
-  | inl none ↦ inl none
-  | inr here ↦ inr (
-    inr (inr (inr (record { trees = trees; out = out; script = record { read = h.read; typed = typed }; place = place; first = first; says = subst (λ b. IsNotBuiltAt b place e) same here }))),
-    λ o g. some-place bytes trees out o place h typed first g,
-  )
-]
-  where
-    some-place : (bytes : List ℕ) (trees : List StatementParts) (out o : ScriptOut) (place : ℕ) → IsRead bytes trees → typed_script trees ≡ Ok out → least (unbuilt_words bytes) ≡ Some place → IsAccepted bytes o → ⊥
-    some-place bytes trees out o place h typed first g =
-        let empty : least (unbuilt_words bytes) ≡ None = ap least g.built in cc
+  pub wrong_typed : (r : Result Typed Refusal) → IfErr r (λ e. IsTypingRefusal e (typed_script trees)) → IfErr r (IsAcceptRefusal bytes)
+  wrong_typed (Ok t) wrong = tt
+  wrong_typed (Err e) wrong = wrong_name bytes trees h e wrong

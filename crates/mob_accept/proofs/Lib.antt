@@ -5,6 +5,5 @@ pub mod Numbered
 pub mod OnParts
 pub mod OneRefusal
 pub mod OneScript
-pub mod Places
 pub mod Within
 pub mod Written

@@ -1,18 +1,38 @@
--- The number of a statement and a place say one thing: what typing numbers by statements stands so among the `;` tokens.
-use Rattle.std.specs.Prelude.{◌≡◌, ◌⊎◌, ◌+◌, ℕ, List, [], ◌∷◌, Ok, Err}
+-- Which statement a place is in; and the number of a statement and a place say one thing: what typing numbers by statements stands so among the `;` tokens.
+use Rattle.std.specs.Prelude.{◌≡◌, ◌⊎◌, ◌+◌, ℕ, List, [], ◌∷◌, filter, nat_lt, Result, Ok, Err}
 use Rattle.std.specs.List.{AllByRecursion}
 use Rattle.mob_ast.specs.Trees.{StatementParts}
 use Rattle.mob_ast.specs.declared.refusal.Kind.TheVariants.{Syntax, TooComplex}
 use Rattle.mob_ast.specs.declared.refusal.Refusal.{Refusal}
+use Rattle.mob_chars.specs.declared.token.Token.{Token}
+use Rattle.mob_chars.specs.Tokens.{tokens_of}
+use Rattle.mob_grammar.specs.Symbols.{PlacedSymbol}
+use Rattle.mob_grammar.specs.Cuts.{ends_among}
 use Rattle.mob_grammar.specs.Places.{statement_places}
 use Rattle.mob_grammar.specs.Held.{statement_held}
+use Rattle.mob_lexemes.specs.Lexed.{lexed}
 use Rattle.mob_parse.specs.Refusals.{IsTreeOf}
 use Rattle.mob_typed.specs.Statements.{StatementOut, ScriptOut}
 use Rattle.mob_typed.specs.Written.{brackets_of}
 use Rattle.mob_typing.specs.Statements.{typed_script}
 use Rattle.mob_typing.specs.Stands.{OperatorsStand, IsHeldRefusal}
-use Rattle.mob_accept.specs.UnbuiltWords.{statement_number}
 use Rattle.mob_accept.specs.Accepts.{IsAccepted, IsNoScript, IsWrongName}
+
+-- the tokens, where the text has them
+abbrev pub tokens_in : Result (List Token) ℕ → List Token
+tokens_in (Ok ts) = ts
+tokens_in (Err p) = []
+
+-- the tokens of a text as the grammar sees them, where the text has them, and those before a place
+abbrev pub symbols_in : List ℕ → List PlacedSymbol
+symbols_in text = lexed text (tokens_in (tokens_of text))
+
+abbrev pub symbols_before : ℕ → List PlacedSymbol → List PlacedSymbol
+symbols_before place l = filter (λ t. nat_lt t.place place) l
+
+-- the number of the statement of a place: 1 and the `;` before it
+abbrev pub statement_number : List ℕ → ℕ → ℕ
+statement_number text place = 1 + ends_among (symbols_before place (symbols_in text))
 
 -- this is the number of the statement that each of these places is in
 abbrev pub AreIn : List ℕ → ℕ → List ℕ → Type 0

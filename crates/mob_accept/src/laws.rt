@@ -1,13 +1,7 @@
 //! What holds of every text of a script. No code runs here.
-ghost use Rattle.mob_accept.specs.Least.{LeastIsFirst};
 ghost use Rattle.mob_accept.specs.Numbers.{OperatorsAreNumbered, TextIsNumbered, TreesAreNumbered, TypingKeepsNumbers, TypingRefusesInside, WrongNamesAreHeld, WrongNamesAreNumbered, WrongTokensAreNumbered};
 ghost use Rattle.mob_accept.specs.Outcomes.{HasOneScript, NeverTakenAndRefused, HasOneTextRefusal};
 ghost use Rattle.mob_accept.specs.Written.{AreWritten, TreesRise, TypingKeepsOrder};
-
-/// The least of some places is one of them, and none of them is before it.
-pub fn least_is_first()
-    ensures first { LeastIsFirst }
-{}
 
 /// A text that is taken is one script, and no text is both taken and refused.
 pub fn one_script()

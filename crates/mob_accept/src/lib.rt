@@ -2,8 +2,6 @@
 #![tactic(auto)]
 
 pub mod laws;
-pub mod least;
 pub mod text;
-pub mod unbuilt_words;
 
 pub use text::{SCRIPT_LIMIT, accept};

@@ -113,7 +113,7 @@ module _ (row : List Value) (column : ℕ) where
   values_kept (x ∷ xs) [] n table h = absurd h
   values_kept (x ∷ xs) (u ∷ us) zero zero h =
       each_on (λ (r : ℕ). r < length u.rows) (λ (r : ℕ). table_value (with_last_row row u ∷ us) 0 column r ≡ table_value (u ∷ us) 0 column r)
-      (λ r lt. ap (λ o. option_and_then (λ (values : List Value). slice_get values column) o) (front_kept u.rows (row ∷ []) r lt)) x.live h.0
+      (λ r lt. ap (λ o. option_and_then (λ (values : List Value). slice_get values column) o) (front_kept u.rows (row ∷ []) r lt)) x.live h.0.0
   values_kept (x ∷ xs) (u ∷ us) zero (suc table) h = all_alike (table_value us table column) (live_of xs table)
   values_kept (x ∷ xs) (u ∷ us) (suc n) zero h = all_alike (table_value (u ∷ us) 0 column) x.live
   values_kept (x ∷ xs) (u ∷ us) (suc n) (suc table) h = values_kept xs us n table h.1

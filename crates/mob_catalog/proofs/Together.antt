@@ -146,7 +146,7 @@ kept_new consts = record { heads = refl; live = tt; on = refl; held = tt; few = 
 pub kept_table : (columns : List Column) (c : Catalogue) (is : List TableIndex) → IsKeptTogether c is → IsKeptTogether (with_empty_table columns c) is
 kept_table columns c is h = record {
   heads = omega (arith, h.heads, length-append c.heads (record { columns = columns; live = [] } ∷ []), length-append c.store.tables (record { rows = [] } ∷ []));
-  live = table_behind HoldsLiveRows (record { columns = columns; live = [] }) (record { rows = [] }) tt c.heads c.store.tables h.live;
+  live = table_behind HoldsLiveRows (record { columns = columns; live = [] }) (record { rows = [] }) (tt, tt) c.heads c.store.tables h.live;
   on = h.on;
   held = each_on (λ (i : TableIndex). IndexHolds c i.on i.tree.entries) (λ (i : TableIndex). IndexHolds (with_empty_table columns c) i.on i.tree.entries) (λ i held. holds_table c columns i.on i.tree.entries held) is h.held;
   few = h.few;

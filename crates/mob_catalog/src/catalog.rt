@@ -1,5 +1,6 @@
 // The tables of a script.
 ghost use Rattle.std.specs.Prelude.{◌≡◌, ◌<◌, ◌^◌, ◌++◌, ◌∷◌, ℕ, List, [], length, IfOk, IfSome, OnErr, OnOk, slice_get};
+ghost use Rattle.mob_typed.specs.Written.{Rises};
 ghost use Rattle.mob_catalog.specs.declared.catalog.TableHead.{TableHead as TableHeadSeen};
 ghost use Rattle.mob_catalog.specs.Catalogue.{live_of, live_rows, new_catalogue, rows_put, table_columns, with_changed, with_empty_table, with_index, with_last_row, with_live_row, with_row};
 ghost use Rattle.mob_catalog.specs.Indexes.{IndexHolds, IsMadeOf, index_name as name_of, table_value};
@@ -355,6 +356,7 @@ impl Catalog {
     /// memory.
     pub fn live(&self, table: u32) -> &[u32]
         ensures same { result.now ≡ live_rows self.now table }
+        ensures rising { Rises (λ m n. m < n) result.now }
     {
         rows_of(&self.heads, table)
     }

@@ -14,7 +14,7 @@ use std::alloc::Global;
 // A moving point, a box, what is inside, and what is outside.
 type Clip = (&'static str, &'static str, &'static str, &'static str);
 
-static CLIPS: [Clip; 7] = [
+static CLIPS: [Clip; 10] = [
     // inside from 1 to 3, of which the time has what is before 2
     (
         "[POINT(0 0)@2000-01-01 00:00:00, POINT(4 0)@2000-01-01 00:00:04]",
@@ -63,6 +63,27 @@ static CLIPS: [Clip; 7] = [
         "STBOX X((0,0),(0,0))",
         "F3",
         "F3",
+    ),
+    // the way to 1 is 2^62, which is asked for where the time of the box begins, before any side
+    (
+        "[POINT(-4611686018427387903 0)@2000-01-01 00:00:00, POINT(1 0)@2000-01-01 00:00:02]",
+        "STBOX XT(((2,0),(3,0)),[2000-01-01 00:00:01, 2000-01-01 00:00:03])",
+        "F1",
+        "F1",
+    ),
+    // and not where it begins at the point's own end
+    (
+        "[POINT(-4611686018427387903 0)@2000-01-01 00:00:00, POINT(1 0)@2000-01-01 00:00:02]",
+        "STBOX T([2000-01-01 00:00:00, 2000-01-01 00:00:03])",
+        "[POINT(-4611686018427387903 0)@2000-01-01 00:00:00+00, POINT(1 0)@2000-01-01 00:00:02+00]",
+        "NULL",
+    ),
+    // at x = 0, a fifth of the way, y is 1/(5 * 10^18), though nothing is in the box
+    (
+        "[POINT(-1 0)@2000-01-01 00:00:00, POINT(4 1/1000000000000000000)@2000-01-01 00:00:01]",
+        "STBOX X((0,1),(4,1))",
+        "F1",
+        "F1",
     ),
 ];
 

@@ -76,7 +76,7 @@ type Clip = (
     &'static str,
 );
 
-static CLIPS: [Clip; 8] = [
+static CLIPS: [Clip; 12] = [
     // on a corner at 2 alone
     (
         "[POINT(0 0)@2000-01-01 00:00:00, POINT(4 0)@2000-01-01 00:00:04]",
@@ -140,6 +140,38 @@ static CLIPS: [Clip; 8] = [
         "F4",
         "F4",
         "F4",
+    ),
+    // all differences come before the first turn, at both ends
+    (
+        "[POINT(3000000000 3000000000)@2000-01-01 00:00:00, POINT(4611686018427387903 0)@2000-01-01 00:00:01]",
+        "POLYGON((0 0,3000000000 0,0 3000000000,-1 0,0 0))",
+        "F2",
+        "F2",
+        "F2",
+    ),
+    // the turn with the first edge goes from 2^62 - 1 to -1, so that its root is of a difference of 2^62
+    (
+        "[POINT(-4611686018427387903 0)@2000-01-01 00:00:00, POINT(1 0)@2000-01-01 00:00:02]",
+        "POLYGON((0 0,0 1,-1 0,0 0))",
+        "F3",
+        "F3",
+        "F3",
+    ),
+    // at x = 0, a fifth of the way, y is 1/(5 * 10^18), also where the point passes the x of a corner and is never inside
+    (
+        "[POINT(-1 0)@2000-01-01 00:00:00, POINT(4 1/1000000000000000000)@2000-01-01 00:00:01]",
+        "POLYGON((0 1,2 1,2 2,0 2,0 1))",
+        "F1",
+        "F1",
+        "F1",
+    ),
+    // a first part that is inside settles the answer, and not which formula is told
+    (
+        "{[POINT(1 1)@2000-01-01 00:00:00, POINT(2 2)@2000-01-01 00:00:01], [POINT(-4611686018427387903 0)@2000-01-01 00:00:02]}",
+        "POLYGON((0 0,4 0,4 4,0 4,0 0))",
+        "F2",
+        "F2",
+        "F2",
     ),
 ];
 

@@ -18,3 +18,4 @@ pub mod QueryFaults
 mod Examples
 mod SignExamples
 pub mod OwnBoxes
+pub mod Probing

@@ -1,12 +1,12 @@
 -- Nearness has one value.
-use Rattle.std.proofs.Common.{◌≡◌, arith, Bool, true, false, Option, Some, None, refl, sym, ap, ◌∙◌, true≢false}
+use Rattle.std.proofs.Common.{◌≡◌, arith, Bool, true, false, Option, Some, None, refl, sym, ap, ◌∙◌}
 use Rattle.mob_ratio.specs.Ratio.{Ratio}
-use Rattle.mob_ratio.specs.Order.{before, up_to}
+use Rattle.mob_ratio.specs.Order.{before}
 use Rattle.mob_ratio.proofs.Order.{before-neither}
 use Rattle.mob_plane.specs.declared.point.Point.{Point}
 use Rattle.mob_slice.specs.Lines.{plane_value_of}
 use Rattle.mob_near.specs.Approaches.{IsNearest, IsApproach}
-use Rattle.mob_near.specs.Distances.{are_within, distance_squared}
+use Rattle.mob_near.specs.Distances.{are_within}
 use Rattle.mob_value.specs.declared.value.Value.{Value}
 use Rattle.mob_value.specs.declared.value.Value.TheVariants.{Number}
 use Rattle.mob_eval.specs.declared.signs.Scope.TheVariants.{Ever}

@@ -10,7 +10,7 @@ use Rattle.mob_slice.proofs.Firsts.{one_first}
 use Rattle.mob_ast.specs.declared.types.SqlType.{SqlType}
 use Rattle.mob_operators.specs.declared.operator.Op.{Op}
 use Rattle.mob_operators.specs.declared.operator.Op.TheVariants as op
-use Rattle.mob_value.specs.ValueBoxes.{IsBoxOf, OnBox}
+use Rattle.mob_value.specs.ValueBoxes.{OnBox}
 use Rattle.mob_value.specs.declared.value.Value.{Value}
 use Rattle.mob_value.specs.declared.value.Value.TheVariants.{Null, Box, MovingPoint}
 use Rattle.mob_value.proofs.ValueBoxes.{one_value_box, on_box}

@@ -5,6 +5,7 @@ pub mod Ordinary
 pub mod Coordinates
 pub mod Times
 pub mod Types
+pub mod Keys
 pub mod Lifted
 pub mod Lines
 pub mod Signs

@@ -1,14 +1,10 @@
 -- atGeometry, minusGeometry and eIntersects: what of a moving point lies in a polygon.
-use Rattle.std.specs.Prelude.{◌≡◌, Bool, true, List, [], Some}
+use Rattle.std.specs.Prelude.{◌≡◌, Bool, true, List, []}
 use Rattle.std.specs.List.{flat_map}
-use Rattle.mob_ratio.specs.Ratio.{Ratio}
 use Rattle.mob_plane.specs.Membership.{inside}
-use Rattle.mob_plane.specs.declared.point.Point.{Point}
 use Rattle.mob_slice.specs.CourseOf.{plane_course}
 use Rattle.mob_slice.specs.Entries.{Entry}
 use Rattle.mob_slice.specs.Lines.{plane_value_of}
-use Rattle.mob_slice.specs.declared.line.PlaneLine.{PlaneLine}
-use Rattle.mob_slice.specs.declared.slice.Slice.{Slice}
 use Rattle.mob_cells.specs.Restricted.{IsRestricted}
 use Rattle.mob_clip.specs.Polygons.{IsEverInside, entries_of_polygon}
 use Rattle.mob_value.specs.declared.value.Value.{Value}

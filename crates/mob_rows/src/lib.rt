@@ -1,8 +1,10 @@
-//! Tests of whole runs: ends whose calls fail, the ends by themselves, and the words. Rows of whole scripts stand in `checks/rows`.
+//! Tests of whole runs: ends whose calls fail, a large join, the ends by themselves, and the words. Rows of whole scripts stand in `checks/rows`.
 #![tactic(auto)]
 
 #[cfg(test)]
 mod failing;
+#[cfg(test)]
+mod large;
 #[cfg(test)]
 mod outside;
 #[cfg(test)]

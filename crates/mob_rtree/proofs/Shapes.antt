@@ -1,12 +1,12 @@
 -- From the nodes to what a contract sees of them.
-use Rattle.std.proofs.Common.{◌≡◌, refl, ℕ, suc, zero, ◌+◌, ◌<◌, List, [], ◌∷◌, length, map, arith, ap, sym, ◌∙◌, true, inl, inr}
+use Rattle.std.proofs.Common.{◌≡◌, refl, suc, ◌<◌, List, [], ◌∷◌, ◌++◌, length, map, arith, ap, sym, ◌∙◌, inl, inr}
 use Rattle.std.specs.Prelude.{All}
+use Rattle.std.proofs.lemmas.List.Concat.{flat_map-cons}
 use Rattle.std.proofs.lemmas.List.Elements.{All-head, All-tail, All-cons, All-nil}
-use Rattle.mob_stbox.specs.Boxes.{contains}
-use Rattle.mob_rtree_nodes.specs.Tree.{IsSoundNode, IsReused, AreLive, IsTree, Ref}
+use Rattle.mob_rtree_nodes.specs.Tree.{IsSoundNode, IsReused, AreLive, IsTree, Ref, areas_list, if_live_list}
 use Rattle.mob_rtree_nodes.specs.Reach.{Branch, branch_of}
 use Rattle.mob_rtree_nodes.specs.declared.node.TreeNode.{TreeNode}
-use Rattle.mob_rtree.specs.Shape.{AreUsedAgain, HasLeastBox}
+use Rattle.mob_rtree.specs.Shape.{AreUsedAgain, HasLeastBox, boxes_of}
 
 sizes : (ps : List TreeNode) → length (map branch_of ps) ≡ length ps
 sizes [] = refl
@@ -18,6 +18,13 @@ live_branches (p ∷ ps) all = All-cons (λ b. 0 < length b.kids) (branch_of p) 
 
 pub used_again : (old new : List TreeNode) → IsReused old new → AreUsedAgain (map branch_of old) (map branch_of new)
 used_again old new by = elim by.same [ inl e ↦ inl (sizes new ∙ e ∙ sym (sizes old)) | inr l ↦ inr (live_branches new l) ]
+
+pub areas_are : (ps : List TreeNode) → areas_list ps ≡ boxes_of (map branch_of ps)
+areas_are [] = refl
+areas_are (p ∷ ps) =
+    flat_map-cons (λ (p : TreeNode). if_live_list p.kids.items p.area) p ps
+    ∙ ap (λ l. if_live_list p.kids.items p.area ++ l) (areas_are ps)
+    ∙ sym (flat_map-cons (λ (b : Branch). if_live_list b.kids b.area) (branch_of p) (map branch_of ps))
 
 least_boxes : (ps : List TreeNode) → All IsSoundNode ps → All HasLeastBox (map branch_of ps)
 least_boxes [] all = All-nil HasLeastBox

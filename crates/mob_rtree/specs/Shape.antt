@@ -1,7 +1,7 @@
 -- What a contract sees of an R-tree.
-use Rattle.std.specs.Prelude.{◌≡◌, ◌⊎◌, ◌<◌, ℕ, true, List, All, Option, length}
+use Rattle.std.specs.Prelude.{◌≡◌, ◌⊎◌, ◌<◌, ℕ, true, List, All, Option, length, flat_map}
 use Rattle.mob_stbox.specs.Boxes.{BoxOf, contains}
-use Rattle.mob_rtree_nodes.specs.Tree.{EntryOf, IsLeast}
+use Rattle.mob_rtree_nodes.specs.Tree.{EntryOf, IsLeastOver, if_live_list}
 use Rattle.mob_rtree_nodes.specs.Reach.{Branch}
 
 -- the entries, in any order, the boxes of the nodes that have a child, for how many more entries there is memory, the nodes by their
@@ -24,7 +24,11 @@ pub record IsAsBefore (old new : Shape) : Type 0 where
 abbrev pub AreUsedAgain : List Branch → List Branch → Type 0
 AreUsedAgain old new = (length new ≡ length old) ⊎ All (λ b. 0 < length b.kids) new
 
+-- the boxes of the nodes that have a child
+abbrev pub boxes_of : List Branch → List BoxOf
+boxes_of bs = flat_map (λ b. if_live_list b.kids b.area) bs
+
 -- where a node has a child, its box is the least one over those of its children: it contains each, and lies in each box that does
 pub record HasLeastBox (b : Branch) : Type 0 where
   pub over : All (λ k. contains b.area k.0 ≡ true) b.kids
-  pub least : 0 < length b.kids → IsLeast b.area b.kids
+  pub least : 0 < length b.kids → IsLeastOver b.area b.kids

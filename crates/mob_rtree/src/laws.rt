@@ -1,14 +1,16 @@
 //! What holds of every tree. No code runs here.
 
 ghost use Rattle.std.specs.Prelude.{◌≡◌, All, List};
-ghost use Rattle.mob_rtree.specs.Shape.{HasLeastBox};
+ghost use Rattle.mob_rtree.specs.Shape.{HasLeastBox, boxes_of};
 
 use crate::{Child, RTree};
 use mob_list::laws::crosses_threads;
 
-/// The box of each node is the least one over the boxes of its children.
+/// The box of each node is the least one over the boxes of its children, and these are the boxes by which the steps of a search are
+/// bounded.
 pub fn boxes_are_least(tree: &RTree)
-    ensures { All HasLeastBox tree.now.nodes }
+    ensures least { All HasLeastBox tree.now.nodes }
+    ensures areas { tree.now.areas ≡ boxes_of tree.now.nodes }
 {
     tree.has_root();
 }

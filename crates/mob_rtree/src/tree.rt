@@ -4,7 +4,7 @@ ghost use Rattle.std.specs.Ordering.{nat_cmp};
 ghost use Rattle.mob_stbox.specs.Boxes.{overlaps, is_whole};
 ghost use Rattle.mob_rtree_nodes.specs.Tree.{entry_of, is_fit, IsAdded, AreSame, AreFound};
 ghost use Rattle.mob_rtree_nodes.specs.Reach.{IsReachedNode, IsSpread, children, entries_under};
-ghost use Rattle.mob_rtree.specs.Shape.{Shape, IsAsBefore, AreUsedAgain, HasLeastBox};
+ghost use Rattle.mob_rtree.specs.Shape.{Shape, IsAsBefore, AreUsedAgain, HasLeastBox, boxes_of};
 
 use mob_rtree_nodes::node::{Child, Root, TreeNode};
 use mob_rtree_nodes::remove::Removed;
@@ -189,9 +189,10 @@ impl RTree {
         self.nodes[node as usize].kids.as_slice()
     }
 
-    // Whether there is a node.
+    // Whether there is a node. What is said of each tree's boxes is proved here, where its fields are seen.
     pub(crate) fn has_root(&self) -> bool
-        ensures { All HasLeastBox self.now.nodes }
+        ensures least { All HasLeastBox self.now.nodes }
+        ensures areas { self.now.areas ≡ boxes_of self.now.nodes }
     {
         !self.nodes.is_empty()
     }

@@ -1,5 +1,5 @@
 -- Boxes over many boxes, and children that are put into another order.
-use Rattle.std.proofs.Common.{◌≡◌, refl, ℕ, zero, suc, ◌+◌, ◌<◌, ◌≤◌, Bool, true, false, cond, not, ◌&&◌, ◌==◌, List, [], ◌∷◌, ◌++◌, length, get_or, set, take, drop, arith, ap, sym, ◌∙◌, subst, append-nil}
+use Rattle.std.proofs.Common.{◌≡◌, refl, ℕ, zero, suc, ◌+◌, ◌<◌, ◌≤◌, Bool, true, false, cond, not, ◌&&◌, ◌==◌, List, [], ◌∷◌, ◌++◌, length, get_or, set, take, drop, arith, ap, sym, ◌∙◌}
 use Rattle.std.specs.Prelude.{All, sum_by, count_by, IsPermutation}
 use Rattle.std.proofs.lemmas.Bool.{true≢false}
 use Rattle.std.proofs.lemmas.Bool.Decides.{nat_tests}
@@ -9,7 +9,7 @@ use Rattle.std.proofs.lemmas.List.{length-set}
 use Rattle.std.proofs.lemmas.List.Elements.{All-more, All-weaker}
 use Rattle.std.proofs.lemmas.List.Sorted.{sum_by-IsPermutation, length_permutation}
 use Rattle.mob_stbox.specs.Boxes.{BoxOf, contains, cover, is_whole}
-use Rattle.mob_rtree_nodes.specs.Tree.{Kid, IsLeast, is_fit, is_kind}
+use Rattle.mob_rtree_nodes.specs.Tree.{Kid, IsLeastOver, is_fit, is_kind}
 use Rattle.mob_stbox.proofs.BoxLaws.{cover_whole, cover_over_left, cover_over_right, cover_least, over_trans}
 
 -- what no element fails, none fails
@@ -34,7 +34,7 @@ cover_more kids i k a b e within at none whole all =
     (b-whole, All-more (λ k. contains b k.0 ≡ true) kids i k within (All-weaker (λ k. contains a k.0 ≡ true) (λ k. contains b k.0 ≡ true) (λ k h. over_trans b a k.0 over h) (take i kids) all) (ap (λ (k : Kid). contains b k.0) (sym at) ∙ last))
 
 -- a cover is in each box over what it covers
-pub cover_still_least : (kids : List Kid) (i : ℕ) (k : Kid) (a b : BoxOf) → b ≡ cover a k.0 → i < length kids → k ≡ get_or kids i k → IsLeast a kids → IsLeast b kids
+pub cover_still_least : (kids : List Kid) (i : ℕ) (k : Kid) (a b : BoxOf) → b ≡ cover a k.0 → i < length kids → k ≡ get_or kids i k → IsLeastOver a kids → IsLeastOver b kids
 cover_still_least kids i k a b e within at least d all =
     let kid : contains d k.0 ≡ true = ap (λ (k : Kid). contains d k.0) at ∙ all i k within in
     ap (contains d) e ∙ cover_least a k.0 d (least d all) kid

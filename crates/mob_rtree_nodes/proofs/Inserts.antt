@@ -1,5 +1,5 @@
 -- How sums over a tree change where one child is added.
-use Rattle.std.proofs.Common.{◌≡◌, ◌≢◌, refl, ℕ, zero, suc, ◌+◌, ◌*◌, ◌<◌, ◌≤◌, Bool, true, false, cond, ◌==◌, ◌&&◌, List, [], ◌∷◌, ◌++◌, length, get_or, set, take, arith, ap, sym, ◌∙◌, subst, append-nil, length-append, Option, Some, None, eq-eqb, inl, inr}
+use Rattle.std.proofs.Common.{◌≡◌, refl, ℕ, zero, suc, ◌+◌, ◌<◌, ◌≤◌, Bool, true, false, cond, ◌==◌, ◌&&◌, List, [], ◌∷◌, ◌++◌, length, get_or, set, arith, ap, sym, ◌∙◌, subst, length-append, Option, Some, None, inl, inr}
 use Rattle.std.specs.Prelude.{MatchOption}
 use Rattle.std.specs.Prelude.{All, sum_by}
 use Rattle.std.proofs.lemmas.Bool.{ne_eqb}
@@ -15,7 +15,6 @@ use Rattle.mob_stbox.specs.Boxes.{BoxOf, is_whole}
 use Rattle.mob_rtree_nodes.proofs.Sums.{live_is, kids_of, height_of, node_at}
 use Rattle.mob_rtree_nodes.proofs.Frees.{free_set, reused_set}
 use Rattle.mob_rtree_nodes.proofs.Walks.{alive, kids_nil, tied_same, tied_height}
-use Rattle.mob_rtree_nodes.proofs.Visits.{at_self}
 
 -- a node as it is referred to
 abbrev pub ref_of : TreeNode → ℕ → Ref

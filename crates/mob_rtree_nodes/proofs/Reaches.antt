@@ -1,15 +1,14 @@
 -- From the root each entry is reached as often as it is there.
-use Rattle.std.proofs.Common.{◌≡◌, refl, ℕ, zero, suc, ◌+◌, ◌<◌, ◌≤◌, Bool, true, false, cond, not, ◌==◌, ◌&&◌, List, [], ◌∷◌, ◌++◌, length, get_or, map, arith, ap, sym, ◌∙◌, subst, Option, Some, None}
-use Rattle.std.specs.Prelude.{All, sum_by, count_by, flat_map}
+use Rattle.std.proofs.Common.{◌≡◌, refl, ℕ, zero, suc, ◌<◌, ◌≤◌, Bool, true, false, cond, ◌&&◌, List, [], ◌∷◌, ◌++◌, length, get_or, map, arith, ap, sym, ◌∙◌, subst, Option, Some, None}
+use Rattle.std.specs.Prelude.{All, sum_by, flat_map}
 use Rattle.std.proofs.lemmas.Bool.{true≢false}
 use Rattle.std.proofs.lemmas.List.Sums.{sum_by-cons, sum_by-append, get_or-le-sum_by}
 use Rattle.std.proofs.lemmas.List.Concat.{flat_map-cons, flat_map_single}
 use Rattle.std.proofs.lemmas.List.Elements.{All-head, All-tail, All-append, All-cons, All-nil}
 use Rattle.mob_stbox.specs.Boxes.{BoxOf, contains, is_whole}
 use Rattle.mob_stbox.proofs.BoxLaws.{over_self, over_trans, over_whole}
-use Rattle.mob_rtree_nodes.specs.Tree.{Kid, EntryOf, entry_of, target, Ref, IsTree, IsSoundNode, entries_list, kids_at, height_at, walk_sum, is_fit, is_kind, AreSame, IsLeast}
+use Rattle.mob_rtree_nodes.specs.Tree.{Kid, EntryOf, entry_of, target, Ref, IsTree, IsSoundNode, entries_list, kids_at, height_at, walk_sum, is_fit, is_kind, AreSame, IsLeastOver}
 use Rattle.mob_rtree_nodes.specs.Reach.{Branch, branch_of, root_number, children, branch_height, gathered, entries_under, entries_below, IsReachedNode, is_root, is_child, IsSpread}
-use Rattle.mob_rtree_nodes.specs.declared.node.Child.{Child}
 use Rattle.mob_rtree_nodes.specs.declared.node.Child.TheVariants.{Node, Entry}
 use Rattle.mob_rtree_nodes.specs.declared.node.TreeNode.{TreeNode}
 use Rattle.mob_rtree_nodes.proofs.Sums.{mapped_sum, kids_of, height_of, node_at, sound_at}
@@ -175,12 +174,12 @@ module _ (root : Ref) (ps : List TreeNode) (tree : IsTree root ps) where
       ap (flat_map (λ k. gathered (map branch_of ps) h (target k.1))) e ∙ same_flat (λ k. gathered (map branch_of ps) h (target k.1)) (entries_below (map branch_of ps)) p.kids.items (λ i k l at. kid_list n i p k h inside is l at high) ∙ ap (flat_map (entries_below (map branch_of ps))) (sym e)
 
   -- the box beside a node is the least over that node's children
-  least_below : (n i m : ℕ) (b : BoxOf) (p : TreeNode) → n < length ps → p ≡ get_or ps n p → i < length p.kids.items → (b, Node m) ≡ get_or p.kids.items i (b, Node m) → IsLeast b (children (map branch_of ps) m)
+  least_below : (n i m : ℕ) (b : BoxOf) (p : TreeNode) → n < length ps → p ≡ get_or ps n p → i < length p.kids.items → (b, Node m) ≡ get_or p.kids.items i (b, Node m) → IsLeastOver b (children (map branch_of ps) m)
   least_below n i m b p inside is within at =
       let r = node_kid n i m b p inside is within at in
       let c = node_at ps m r.2 in
       let e = kids_of ps m c.0 r.2 c.1 in
-      subst (IsLeast b) (sym (children_is ps m ∙ e)) (λ a all.
+      subst (IsLeastOver b) (sym (children_is ps m ∙ e)) (λ a all.
       let low = (sound_at ps m c.0 r.2 c.1 tree.sound).least (omega (arith, r.4, ap (λ (l : List Kid). length l) e)) a all in
       let same = tied_same root ps tree n r.0 i p (b, Node m) inside is r.1 within at c.0 r.2 c.1 (λ r. cond (contains a r.area) 1 0) in
       one_true (contains a b) (sym same ∙ ap {B = ℕ} (λ b. cond b 1 0) low))

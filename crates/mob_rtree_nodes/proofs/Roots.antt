@@ -1,20 +1,20 @@
 -- The root, and what the whole tree has.
-use Rattle.std.proofs.Common.{◌≡◌, ◌≢◌, refl, ℕ, zero, suc, ◌+◌, ◌*◌, ◌<◌, ◌≤◌, Bool, true, false, cond, not, ◌==◌, ◌&&◌, List, [], ◌∷◌, ◌++◌, length, get_or, set, take, map, arith, ap, sym, ◌∙◌, subst, append-nil, length-append, Option, Some, None, eq-eqb, inl, inr}
-use Rattle.std.specs.Prelude.{MatchOption, All, sum_by, count_by, flat_map, nat_le}
-use Rattle.std.proofs.lemmas.Bool.{cases_lt, ne_eqb, true≢false}
+use Rattle.std.proofs.Common.{◌≡◌, refl, ℕ, suc, ◌+◌, ◌<◌, ◌≤◌, Bool, true, false, cond, not, ◌==◌, ◌&&◌, List, [], ◌∷◌, length, get_or, map, arith, ap, sym, ◌∙◌, subst, Some, None, eq-eqb, inl, inr}
+use Rattle.std.specs.Prelude.{MatchOption, All, sum_by, count_by, nat_le}
+use Rattle.std.proofs.lemmas.Bool.{cases_lt, ne_eqb}
 use Rattle.std.proofs.lemmas.Bool.Decides.{nat_tests}
 use Rattle.std.proofs.lemmas.List.Sums.{sum_by-cons, sum_by-append}
 use Rattle.std.proofs.lemmas.List.Concat.{flat_map-cons}
-use Rattle.std.proofs.lemmas.List.Elements.{All-head, All-tail, All-append, All-cons, All-nil, All-weaker}
+use Rattle.std.proofs.lemmas.List.Elements.{All-head, All-tail, All-cons, All-nil, All-weaker}
 use Rattle.mob_stbox.specs.Boxes.{BoxOf, overlaps, contains, cover, is_whole}
-use Rattle.mob_rtree_nodes.specs.Tree.{areas_list, if_live_list, is_kind, GoesUp, Kid, EntryOf, entry_of, target, if_live, is_fit, Ref, IsTree, IsSoundNode, IsLeast, nodes_sum, kids_sum, refs_sum, entries_sum, entries_list, kids_at, height_at, IsGrown, more_sum, IsPut, walk_sum, AreFound, ref, IsAdded}
+use Rattle.mob_rtree_nodes.specs.Tree.{areas_list, if_live_list, is_kind, GoesUp, Kid, EntryOf, entry_of, target, if_live, is_fit, Ref, IsTree, IsSoundNode, IsLeastOver, nodes_sum, kids_sum, refs_sum, entries_sum, entries_list, kids_at, height_at, IsGrown, more_sum, IsPut, walk_sum, AreFound, IsAdded}
 use Rattle.mob_rtree_nodes.specs.declared.node.TreeNode.{TreeNode}
 use Rattle.mob_rtree_nodes.specs.declared.node.Child.TheVariants.{Node}
 use Rattle.mob_rtree_nodes.specs.declared.insert.Grown.{Grown}
 use Rattle.mob_stbox.proofs.BoxLaws.{cover_whole, cover_over_left, cover_over_right, cover_least, over_self, over_overlaps}
-use Rattle.mob_rtree_nodes.proofs.Sums.{mapped_sum, live_le, live_some, live_is, live_zero, kids_of, height_of, node_at, nodes_none, nodes_one, same_sums, zero_sum}
+use Rattle.mob_rtree_nodes.proofs.Sums.{mapped_sum, live_le, live_some, live_is, live_zero, kids_of, height_of, node_at, nodes_none, nodes_one}
 use Rattle.mob_rtree_nodes.proofs.Covers.{left_true}
-use Rattle.mob_rtree_nodes.proofs.Walks.{self_is, walk_all, own_upto, entries_of}
+use Rattle.mob_rtree_nodes.proofs.Walks.{self_is, cond_nil, walk_all, own_upto, entries_of}
 use Rattle.mob_rtree_nodes.proofs.Inserts.{node_fit, put_in, put_all, ref_of, links_of, leaf_of}
 
 one_same : (x y : ℕ) → 1 ≤ cond (x == y) 1 0 → x ≡ y
@@ -94,7 +94,7 @@ tree_some root old tree kid g new by m some r kids height area number after put 
           omega (arith, grown_once root old tree kid g new by F, ap (more_sum F root.height) some, last.nodes F, last.refs F, a, sum_by-cons f k (m ∷ []), sum_by-cons f m [], ap (λ h. F (record { area = r.area; node = number; height = h })) height);
       sound = put_all IsSoundNode new r number after put by.sound (record {
         whole = ap is_whole area ∙ cover_whole g.area m.0 by.whole m-whole;
-        least = λ live. subst (IsLeast r.area) (sym kids) (λ d all. ap (contains d) area ∙ cover_least g.area m.0 d (all 0 k (omega arith)) (all 1 k (omega arith)));
+        least = λ live. subst (IsLeastOver r.area) (sym kids) (λ d all. ap (contains d) area ∙ cover_least g.area m.0 d (all 0 k (omega arith)) (all 1 k (omega arith)));
         fit = ap (λ (l : List Kid). count_by (λ k. not (is_fit r.height k)) l) kids ∙ two_fit r.height k m (ap (λ h. is_fit h k) height ∙ node_fit root.height root.node g.area by.whole) (ap (λ h. is_fit h m) height ∙ m-fit);
         over = subst (λ l. All (λ k. contains r.area k.0 ≡ true) l) (sym kids)
             (All-cons (λ k. contains r.area k.0 ≡ true) k (m ∷ []) (ap (λ a. contains a g.area) area ∙ cover_over_left g.area m.0) (All-cons (λ k. contains r.area k.0 ≡ true) m [] (ap (λ a. contains a m.0) area ∙ cover_over_right g.area m.0) (All-nil (λ k. contains r.area k.0 ≡ true))));
@@ -120,13 +120,9 @@ entries_listed g (p ∷ ps) =
 pub passed_sum : (test : BoxOf → Bool) (g : EntryOf → ℕ) (ps : List TreeNode) → sum_by (entries_of test g) ps ≡ sum_by (λ e. cond (test e.0) (g e) 0) (entries_list ps)
 passed_sum test g ps = sym (entries_listed (λ e. cond (test e.0) (g e) 0) ps)
 
-zero_cond : (b : Bool) → ◌≡◌ {A = ℕ} (cond b 0 0) 0
-zero_cond true = refl
-zero_cond false = refl
-
 own_none : (test : BoxOf → Bool) (h : ℕ) (ps : List TreeNode) → sum_by (own_upto test 0 h) ps ≡ 0
 own_none test h [] = refl
-own_none test h (p ∷ ps) = omega (arith, sum_by-cons (own_upto test 0 h) p ps, ap (if_live p.kids.items) (zero_cond (nat_le p.height h && test p.area)), live_zero p.kids.items, own_none test h ps)
+own_none test h (p ∷ ps) = omega (arith, sum_by-cons (own_upto test 0 h) p ps, ap (if_live p.kids.items) (cond_nil (nat_le p.height h && test p.area)), live_zero p.kids.items, own_none test h ps)
 
 -- what a walk from the root sums up of the entries
 pub walk_entries : (test : BoxOf → Bool) → GoesUp test → (g : EntryOf → ℕ) (root : Ref) (ps : List TreeNode) → IsTree root ps
@@ -183,11 +179,11 @@ walk_meets q root ps tree over =
   where
     nothing_in : (kids : List Kid) → sum_by (λ k. cond (overlaps k.0 q) 0 0) kids ≡ 0
     nothing_in [] = refl
-    nothing_in (k ∷ kids) = let f : Kid → ℕ = λ k. cond (overlaps k.0 q) 0 0 in omega (arith, sum_by-cons f k kids, zero_cond (overlaps k.0 q), nothing_in kids)
+    nothing_in (k ∷ kids) = let f : Kid → ℕ = λ k. cond (overlaps k.0 q) 0 0 in omega (arith, sum_by-cons f k kids, cond_nil (overlaps k.0 q), nothing_in kids)
 
     nothing_found : (ps : List TreeNode) → sum_by (entries_of (λ b. overlaps b q) (λ _. 0)) ps ≡ 0
     nothing_found [] = refl
-    nothing_found (p ∷ ps) = omega (arith, sum_by-cons (entries_of (λ b. overlaps b q) (λ _. 0)) p ps, ap (λ (n : ℕ). cond (p.height == 0) n 0) (nothing_in p.kids.items), zero_cond (p.height == 0), nothing_found ps)
+    nothing_found (p ∷ ps) = omega (arith, sum_by-cons (entries_of (λ b. overlaps b q) (λ _. 0)) p ps, ap (λ (n : ℕ). cond (p.height == 0) n 0) (nothing_in p.kids.items), cond_nil (p.height == 0), nothing_found ps)
 
 -- the entries of a tree with one more
 pub added : (old : List TreeNode) (n : ℕ) (kid : Kid) (g : Grown) (new : List TreeNode) → IsGrown old n kid g new → IsAdded (entries_list old) (entry_of kid) (entries_list new)
@@ -205,7 +201,7 @@ pub tree_one : (kid : Kid) (r : TreeNode) → is_fit 0 kid ≡ true → r.kids.i
 tree_one kid r fit kids flat area =
     record {
       once = λ F. omega (arith, sum_by-cons (links_of F) r [], live_is r.kids.items (F (ref_of r 0)) (omega (arith, ap (λ (l : List Kid). length l) kids)), ap (λ h. kids_sum F h r.kids.items) flat, ap (λ a. F (record { area = a; node = 0; height = 0 })) area, ap (λ h. F (record { area = r.area; node = 0; height = h })) flat);
-      sound = All-cons IsSoundNode r [] (record { whole = ap is_whole area ∙ left_true (is_whole kid.0) (is_kind 0 kid.1) fit; least = λ live. subst (IsLeast r.area) (sym kids) (λ d all. ap (contains d) area ∙ all 0 kid (omega arith)); fit = ap (λ (l : List Kid). count_by (λ k. not (is_fit r.height k)) l) kids ∙ one_fit r.height kid (ap (λ h. is_fit h kid) flat ∙ fit); over = subst (λ l. All (λ k. contains r.area k.0 ≡ true) l) (sym kids) (All-cons (λ k. contains r.area k.0 ≡ true) kid [] (ap (λ a. contains a kid.0) area ∙ over_self kid.0) (All-nil (λ k. contains r.area k.0 ≡ true))) }) (All-nil IsSoundNode);
+      sound = All-cons IsSoundNode r [] (record { whole = ap is_whole area ∙ left_true (is_whole kid.0) (is_kind 0 kid.1) fit; least = λ live. subst (IsLeastOver r.area) (sym kids) (λ d all. ap (contains d) area ∙ all 0 kid (omega arith)); fit = ap (λ (l : List Kid). count_by (λ k. not (is_fit r.height k)) l) kids ∙ one_fit r.height kid (ap (λ h. is_fit h kid) flat ∙ fit); over = subst (λ l. All (λ k. contains r.area k.0 ≡ true) l) (sym kids) (All-cons (λ k. contains r.area k.0 ≡ true) kid [] (ap (λ a. contains a kid.0) area ∙ over_self kid.0) (All-nil (λ k. contains r.area k.0 ≡ true))) }) (All-nil IsSoundNode);
       low = All-cons (λ p. p.height ≤ 0) r [] (omega (arith, flat)) (All-nil (λ p. p.height ≤ 0));
     }
 

@@ -1,10 +1,10 @@
 -- Sums over the nodes of a tree.
-use Rattle.std.proofs.Common.{◌≡◌, refl, ℕ, zero, ◌+◌, ◌*◌, ◌<◌, ◌≤◌, Bool, true, false, cond, ◌&&◌, ◌==◌, List, [], ◌∷◌, ◌++◌, length, get_or, set, map, arith, ap, sym, ◌∙◌, eq-eqb, suc, subst}
+use Rattle.std.proofs.Common.{◌≡◌, refl, ℕ, zero, ◌+◌, ◌<◌, ◌≤◌, cond, ◌==◌, List, [], ◌∷◌, length, get_or, map, arith, ap, sym, eq-eqb, suc, subst}
 use Rattle.std.proofs.lemmas.Bool.{ne_eqb}
 use Rattle.std.specs.Prelude.{All, sum_by}
-use Rattle.std.proofs.lemmas.List.Sums.{sum_by-cons, sum_by-append, sum_by-set, get_or-le-sum_by}
+use Rattle.std.proofs.lemmas.List.Sums.{sum_by-cons}
 use Rattle.std.proofs.lemmas.List.Elements.{All-head, All-tail}
-use Rattle.mob_rtree_nodes.specs.Tree.{IsSoundNode, Kid, EntryOf, entry_of, target, if_live, is_fit, Ref, nodes_sum, kids_sum, refs_sum, kids_at, height_at}
+use Rattle.mob_rtree_nodes.specs.Tree.{IsSoundNode, Kid, if_live, Ref, nodes_sum, kids_at, height_at}
 use Rattle.mob_rtree_nodes.specs.declared.node.TreeNode.{TreeNode}
 
 -- equal terms, where each element meets P

@@ -1,15 +1,14 @@
 -- A walk down a tree meets each node and each entry once.
-use Rattle.std.proofs.Common.{◌≡◌, refl, ℕ, zero, suc, ◌+◌, ◌*◌, ◌<◌, ◌≤◌, Bool, true, false, cond, ◌&&◌, ◌==◌, List, [], ◌∷◌, ◌++◌, length, get_or, arith, ap, sym, ◌∙◌, eq-eqb, ◌⊎◌, inl, inr}
+use Rattle.std.proofs.Common.{◌≡◌, refl, ℕ, zero, suc, ◌+◌, ◌<◌, ◌≤◌, Bool, true, false, cond, ◌&&◌, ◌==◌, List, [], ◌∷◌, length, get_or, arith, ap, sym, ◌∙◌, eq-eqb, ◌⊎◌, inl, inr}
 use Rattle.std.proofs.lemmas.Bool.{cases_lt, true≢false}
 use Rattle.std.specs.Prelude.{All, sum_by, nat_le}
-use Rattle.std.proofs.lemmas.Bool.{ne_eqb, le-leb}
+use Rattle.std.proofs.lemmas.Bool.{ne_eqb}
 use Rattle.std.proofs.lemmas.Bool.Decides.{nat_tests, eqb_tells}
 use Rattle.std.proofs.lemmas.List.Sums.{sum_by-cons, get_or-le-sum_by}
-use Rattle.std.proofs.lemmas.List.Elements.{All-head, All-tail, All-get_or}
-use Rattle.mob_stbox.specs.Boxes.{BoxOf, overlaps, contains, is_whole}
-use Rattle.mob_rtree_nodes.specs.Tree.{Kid, EntryOf, entry_of, target, if_live, is_fit, Ref, IsTree, IsSoundNode, nodes_sum, kids_sum, refs_sum, entries_sum, kids_at, height_at, walk_sum, step_sum, GoesUp}
+use Rattle.mob_stbox.specs.Boxes.{BoxOf, contains, is_whole}
+use Rattle.mob_rtree_nodes.specs.Tree.{Kid, EntryOf, entry_of, target, if_live, Ref, IsTree, IsSoundNode, nodes_sum, kids_sum, refs_sum, kids_at, height_at, walk_sum, step_sum, GoesUp}
 use Rattle.mob_rtree_nodes.specs.declared.node.TreeNode.{TreeNode}
-use Rattle.mob_rtree_nodes.proofs.Sums.{same_sums, zero_sum, joined_sums, nodes_from_zero, nodes_past, nodes_none, nodes_one, kids_of, height_of, node_at, live_le, live_some}
+use Rattle.mob_rtree_nodes.proofs.Sums.{same_sums, zero_sum, joined_sums, nodes_from_zero, nodes_none, nodes_one, kids_of, height_of, node_at, live_le, live_some}
 
 pub self_is : (x n : ℕ) → cond (x == x) n 0 ≡ n
 self_is x n = ap (λ b. cond b n 0) (eq-eqb x x refl)
@@ -105,7 +104,7 @@ zero_cases : (ht : ℕ) (o : Bool) (own s : ℕ) → (o ≡ false → s ≡ 0) �
 zero_cases ht true own s h = grind (arith, nat_tests)
 zero_cases ht false own s h = let e = h refl in grind (arith, nat_tests)
 
-cond_nil : (b : Bool) → ◌≡◌ {A = ℕ} (cond b 0 0) 0
+pub cond_nil : (b : Bool) → ◌≡◌ {A = ℕ} (cond b 0 0) 0
 cond_nil true = refl
 cond_nil false = refl
 

@@ -1,5 +1,5 @@
 -- How a tree is built, branch_height upon branch_height.
-use Rattle.std.specs.Prelude.{◌≡◌, ℕ, zero, suc, ◌+◌, ◌<◌, ◌≤◌, true, cond, not, ◌==◌, List, [], ◌∷◌, ◌++◌, All, sum_by, count_by, length}
+use Rattle.std.specs.Prelude.{◌≡◌, ℕ, suc, ◌+◌, ◌<◌, ◌≤◌, cond, not, ◌==◌, List, [], ◌∷◌, ◌++◌, All, sum_by, count_by, length}
 use Rattle.mob_rtree_nodes.specs.Tree.{Kid, EntryOf, entry_of, Ref, IsSoundNode, AreLive, is_fit, nodes_sum, kids_sum, refs_sum, entries_sum}
 use Rattle.mob_rtree_nodes.specs.declared.node.Child.TheVariants.{Node, Entry}
 use Rattle.mob_rtree_nodes.specs.declared.node.TreeNode.{TreeNode}

@@ -1,7 +1,7 @@
 -- What a caller sees of the nodes, and what is reached from the root.
-use Rattle.std.specs.Prelude.{◌≡◌, ℕ, zero, suc, ◌+◌, ◌<◌, true, List, [], ◌∷◌, All, length, Option, Some, None, get_or, map, flat_map}
+use Rattle.std.specs.Prelude.{◌≡◌, ℕ, zero, suc, ◌<◌, true, List, [], ◌∷◌, All, length, Option, Some, None, get_or, map, flat_map}
 use Rattle.mob_stbox.specs.Boxes.{BoxOf, contains}
-use Rattle.mob_rtree_nodes.specs.Tree.{Kid, EntryOf, entry_of, target, IsLeast}
+use Rattle.mob_rtree_nodes.specs.Tree.{Kid, EntryOf, entry_of, target, IsLeastOver}
 use Rattle.mob_rtree_nodes.specs.declared.node.Child.TheVariants.{Node, Entry}
 use Rattle.mob_rtree_nodes.specs.declared.node.TreeNode.{TreeNode}
 
@@ -56,4 +56,4 @@ pub record IsSpread (bs : List Branch) (n : ℕ) : Type 0 where
   pub spread : entries_under bs n ≡ flat_map (entries_below bs) (children bs n)
   pub over : All (λ k. All (λ e. contains k.0 e.0 ≡ true) (entries_below bs k)) (children bs n)
   pub lower : (i m : ℕ) (b : BoxOf) → i < length (children bs n) → (b, Node m) ≡ get_or (children bs n) i (b, Node m) → branch_height bs m < branch_height bs n
-  pub least : (i m : ℕ) (b : BoxOf) → i < length (children bs n) → (b, Node m) ≡ get_or (children bs n) i (b, Node m) → IsLeast b (children bs m)
+  pub least : (i m : ℕ) (b : BoxOf) → i < length (children bs n) → (b, Node m) ≡ get_or (children bs n) i (b, Node m) → IsLeastOver b (children bs m)

@@ -1,6 +1,6 @@
 -- What an arena of nodes has to be, to be a tree.
-use Rattle.std.specs.Prelude.{◌≡◌, ◌≢◌, ◌⊎◌, ℕ, zero, suc, ◌+◌, ◌-◌, ◌<◌, ◌≤◌, ◌^◌, Bool, true, false, cond, ◌&&◌, ◌==◌, not, nat_le, List, [], ◌∷◌, ◌++◌, All, sum_by, count_by, length, Option, Some, None, MatchOption, set, get_or, flat_map, map}
-use Rattle.mob_stbox.specs.Boxes.{BoxOf, overlaps, contains, is_whole, same_box}
+use Rattle.std.specs.Prelude.{◌≡◌, ◌⊎◌, ℕ, zero, suc, ◌+◌, ◌<◌, ◌≤◌, Bool, true, false, cond, ◌&&◌, ◌==◌, not, List, [], ◌∷◌, ◌++◌, All, sum_by, count_by, length, Option, Some, None, MatchOption, set, get_or, flat_map, map}
+use Rattle.mob_stbox.specs.Boxes.{BoxOf, overlaps, contains, is_whole}
 use Rattle.mob_rtree_nodes.specs.declared.node.Child.{Child}
 use Rattle.mob_rtree_nodes.specs.declared.node.Child.TheVariants.{Node, Entry}
 use Rattle.mob_rtree_nodes.specs.declared.node.TreeNode.{TreeNode}
@@ -103,14 +103,14 @@ abbrev pub entries_sum : (EntryOf → ℕ) → List TreeNode → ℕ
 entries_sum g ps = sum_by (λ p. cond (p.height == 0) (sum_by (λ k. g (entry_of k)) p.kids.items) 0) ps
 
 -- each box that contains those of all these children contains this one
-abbrev pub IsLeast : BoxOf → List Kid → Type 0
-IsLeast a kids = (b : BoxOf) → All (λ k. contains b k.0 ≡ true) kids → contains b a ≡ true
+abbrev pub IsLeastOver : BoxOf → List Kid → Type 0
+IsLeastOver a kids = (b : BoxOf) → All (λ k. contains b k.0 ≡ true) kids → contains b a ≡ true
 
 -- a node's box is the least one over its children's, and these are of its kind
 pub record IsSoundNode (p : TreeNode) : Type 0 where
   pub whole : is_whole p.area ≡ true
   pub over : All (λ k. contains p.area k.0 ≡ true) p.kids.items
-  pub least : 0 < length p.kids.items → IsLeast p.area p.kids.items
+  pub least : 0 < length p.kids.items → IsLeastOver p.area p.kids.items
   pub fit : count_by (λ k. not (is_fit p.height k)) p.kids.items ≡ 0
 
 -- each node that has a child is referred to once, from a node one higher, beside its own box, but for the root;

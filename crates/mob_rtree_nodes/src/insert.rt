@@ -3,7 +3,7 @@ ghost use Rattle.std.specs.Prelude.{◌≡◌, ℕ, ◌+◌, ◌*◌, ◌^◌, �
 ghost use Rattle.std.specs.Vec.{vec_len, vec_capacity};
 ghost use Rattle.arrayvec.specs.ArrayVec.{array_vec_len};
 ghost use Rattle.mob_stbox.specs.Boxes.{contains, is_whole};
-ghost use Rattle.mob_rtree_nodes.specs.Tree.{IsTree, IsSoundNode, Kid, height_at, kids_at, kids_of_more, Ref, IsAttached, IsReplaced, IsGrown, IsLeast, IsFree, IsPut, IsReused, is_fit};
+ghost use Rattle.mob_rtree_nodes.specs.Tree.{IsTree, IsSoundNode, Kid, height_at, kids_at, kids_of_more, Ref, IsAttached, IsReplaced, IsGrown, IsLeastOver, IsFree, IsPut, IsReused, is_fit};
 
 use crate::lengths::{growth, longest, middle_of};
 use crate::node::{Child, TreeNode};
@@ -22,7 +22,7 @@ pub fn cover_all(kids: &[(StBox, Child)]) -> StBox
     requires some { 0 < length kids.now }
     requires whole { count_by (λ k. not (is_whole k.0)) kids.now ≡ 0 }
     ensures over { All (λ k. contains result k.0 ≡ true) kids.now }
-    ensures least { IsLeast result kids.now }
+    ensures least { IsLeastOver result kids.now }
     ensures whole { is_whole result ≡ true }
 {
     let mut area = kids[0].0;
@@ -34,8 +34,7 @@ pub fn cover_all(kids: &[(StBox, Child)]) -> StBox
 
 /// The child whose box grows least, by the lengths of its sides.
 pub fn choose(kids: &[(StBox, Child)], area: &StBox) -> usize
-    requires some { 0 < length kids.now }
-    requires whole { count_by (λ k. not (is_whole k.0)) kids.now ≡ 0 }
+    requires { 0 < length kids.now }
     ensures { result < length kids.now }
 {
     let mut best: usize = 0;

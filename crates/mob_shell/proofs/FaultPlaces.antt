@@ -8,8 +8,7 @@ use Rattle.mob_typed.specs.Selects.{Output, TypedSelectParts}
 use Rattle.mob_typed.specs.Statements.{StatementOut, query}
 use Rattle.mob_typing.specs.Stands.{operators_in, operators_among, operators_of, OperatorsStand}
 use Rattle.mob_typing.specs.WellTyped.{condition_alone, expressions_of}
-use Rattle.mob_accept.specs.Numbers.{OperatorsAreNumbered}
-use Rattle.mob_accept.specs.UnbuiltWords.{statement_number}
+use Rattle.mob_accept.specs.Numbers.{OperatorsAreNumbered, statement_number}
 use Rattle.mob_catalog.specs.Catalogue.{Catalogue}
 use Rattle.mob_eval.specs.Scene.{Scene, scene}
 use Rattle.mob_eval.specs.Evaluation.{Fault, TreeEvaluatesTo, OperandsEvaluateTo, stop_of}

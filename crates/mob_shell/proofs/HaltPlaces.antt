@@ -7,8 +7,7 @@ use Rattle.mob_ast.specs.declared.refusal.Refusal.{Refusal}
 use Rattle.mob_typed.specs.Statements.{StatementOut, nothing, new_table, new_index, new_rows, rows_from, query, plan_of, ScriptOut}
 use Rattle.mob_typed.specs.Written.{brackets_of}
 use Rattle.mob_typed.proofs.Rising.{each_both, each_map}
-use Rattle.mob_accept.specs.Numbers.{AreIn, RowsAreIn, IsNumbered, TextIsNumbered}
-use Rattle.mob_accept.specs.UnbuiltWords.{statement_number}
+use Rattle.mob_accept.specs.Numbers.{AreIn, RowsAreIn, IsNumbered, TextIsNumbered, statement_number}
 use Rattle.mob_outside.specs.Told.{Contents, file_of}
 use Rattle.mob_catalog.specs.Constants.{at_constant}
 use Rattle.mob_load.specs.Checks.{CheckParts, literal, table, room, file, Checkpoint, bracket, checkpoints_of, checkpoints_from, checks_of}

@@ -54,7 +54,7 @@ module _ (k : ℕ) (ty : SqlType) where
       → IsStored ty (option_and_then (λ (vs : List Value). slice_get vs k) (option_and_then (λ (rows : List (List Value)). slice_get rows n) (option_map (λ (x : Table). x.rows) (slice_get tables t))))
   value_of_table [] tables t n h live at is = absurd (cc)
   value_of_table (x ∷ xs) [] t n h live at is = absurd h
-  value_of_table (x ∷ xs) (y ∷ ys) zero n h live at is = value_in_rows x.columns y.rows n h.0 (each_that_stands (λ (m : ℕ). m < length y.rows) x.live n at live.0) is
+  value_of_table (x ∷ xs) (y ∷ ys) zero n h live at is = value_in_rows x.columns y.rows n h.0 (each_that_stands (λ (m : ℕ). m < length y.rows) x.live n at live.0.0) is
   value_of_table (x ∷ xs) (y ∷ ys) (suc t) n h live at is = value_of_table xs ys t n h.1 live.1 at is
 
   module _ (heads : List TableHead) (tables : List Table) (h : AllZip HoldsTypedRows heads tables) (live : AllZip HoldsLiveRows heads tables) where

@@ -77,7 +77,8 @@ module _ (owns : ConstantsHaveTheirTypes) (day : ℤ) where
     statement_keeps n tables nothing ss s t h is = subst (StandsBefore consts values (n + 1) tables ss) (sym is) (record { holds = h.holds; typed = h.typed.1; files = h.files })
     statement_keeps n tables (new_table k name columns) ss s t h is =
         subst (StandsBefore consts values (n + 1) (tables ++ columns ∷ []) ss) (sym is) (record { holds = types_stay.table values tables columns s.catalogue h.holds; typed = h.typed.1; files = h.files })
-    statement_keeps n tables (new_index k c name) ss s t h is = subst (StandsBefore consts values (n + 1) tables ss) (sym is) (record { holds = h.holds; typed = h.typed.1; files = h.files })
+    statement_keeps n tables (new_index k c name) ss s t h is =
+        subst (StandsBefore consts values (n + 1) tables ss) (sym is) (record { holds = types_stay.index values tables name k c s.catalogue h.holds h.typed.0; typed = h.typed.1; files = h.files })
     statement_keeps n tables (new_rows k rows places) ss s t h is =
         let fits = subst (λ (vs : List Value). AreOfColumns (columns_at tables k) (map (inserted_row vs) rows)) (sym h.holds.consts) (inserted_fit tables k rows places h.typed.0) in
         subst (StandsBefore consts values (n + 1) tables ss) (sym is) (record {

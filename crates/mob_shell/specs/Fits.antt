@@ -31,7 +31,7 @@ RowFits select catalogue day tuple =
 
 -- no part of WHERE fails to fit on any tuple that the plan visits, and no part of an item or a key on any tuple that is kept
 pub record QueryFits (select : TypedSelectParts) (catalogue : Catalogue) (day : ℤ) : Type 0 where
-  pub condition : (before : List (List ℕ)) (tuple : List ℕ) → IsAnyVisit (StepGives catalogue select.from) (planned select) before tuple → WhereFits select catalogue day tuple
+  pub condition : (before : List (List ℕ)) (tuple : List ℕ) → IsAnyVisit (StepGives catalogue select.from day) (planned select catalogue.indexed) before tuple → WhereFits select catalogue day tuple
   pub rows : (kept : List (List ℕ)) → IsKept select catalogue day (Ok kept) → AllByRecursion (RowFits select catalogue day) kept
 
 -- There is a program, so nothing is refused; and so it is with each of its queries, on the tables as they are then.

@@ -30,7 +30,7 @@ TuplesAreLive = (c : Catalogue) (from : List ℕ) (tuples : List (List ℕ)) →
 
 -- So is each tuple that the plan of a query visits.
 abbrev pub VisitsAreLive : Type 0
-VisitsAreLive = (c : Catalogue) (q : TypedSelectParts) (before : List (List ℕ)) (tuple : List ℕ) → IsAnyVisit (StepGives c q.from) (planned q) before tuple → IsLiveTuple c q.from tuple
+VisitsAreLive = (c : Catalogue) (q : TypedSelectParts) (day : ℤ) (before : List (List ℕ)) (tuple : List ℕ) → IsAnyVisit (StepGives c q.from day) (planned q c.indexed) before tuple → IsLiveTuple c q.from tuple
 
 -- where a leaf names a constant or a column, a value is stored there, and it is the value of the leaf
 abbrev pub LeafReadsStored : Scene → Op → SqlType → ℕ → Type 0

@@ -3,14 +3,16 @@ use Rattle.std.specs.Prelude.{◌≡◌, ℕ, ℤ, List, [], ◌∷◌, map, Opt
 use Rattle.mob_value.specs.declared.value.Value.{Value}
 use Rattle.mob_value.specs.declared.value.Value.TheVariants.{Null}
 use Rattle.mob_value.specs.Null.{value_or_null}
-use Rattle.mob_catalog.specs.Catalogue.{Catalogue, new_catalogue, with_empty_table, with_row}
+use Rattle.mob_catalog.specs.Catalogue.{Catalogue, new_catalogue, with_empty_table, with_index, with_row}
 use Rattle.mob_typed.specs.Selects.{TypedSelectParts, Output}
 use Rattle.mob_typed.specs.Statements.{StatementOut, nothing, new_table, new_index, new_rows, rows_from, query, plan_of}
+use Rattle.mob_plan.specs.Plans.{planned}
 use Rattle.mob_eval.specs.QueryFaults.{TupleFault}
 use Rattle.mob_join.specs.TypedFor.{IsTypedFor}
 use Rattle.mob_load.specs.declared.program.Program.{Program}
 use Rattle.mob_shell.specs.Answers.{QueryAnswers}
 use Rattle.mob_tail.specs.AnswerText.{answer_text}
+use Rattle.mob_tail.specs.PlanAnswers.{plan_names, plan_rows}
 
 -- where a run stands: the tables and the constants, and the rows of the files that are yet to be put into tables, in order
 pub record RunState : Type 0 where
@@ -54,7 +56,7 @@ CanRun s _ = Unit {0}
 abbrev pub StatementLeaves : ℤ → RunState → StatementOut → RunState → Type 0
 StatementLeaves day s nothing t = t ≡ s
 StatementLeaves day s (new_table n name columns) t = t ≡ record s { catalogue = with_empty_table columns s.catalogue }
-StatementLeaves day s (new_index n c name) t = t ≡ s
+StatementLeaves day s (new_index n c name) t = t ≡ record s { catalogue = with_index name n c s.catalogue }
 StatementLeaves day s (new_rows n rows places) t = t ≡ record s { catalogue = with_all_rows n (map (inserted_row s.catalogue.store.consts) rows) s.catalogue }
 StatementLeaves day s (rows_from n name) t = t ≡ record s { catalogue = with_all_rows n (next_rows s.files) s.catalogue; files = later_files s.files }
 StatementLeaves day s (query q) t = t ≡ s
@@ -64,9 +66,14 @@ StatementLeaves day s (plan_of q) t = t ≡ s
 abbrev pub answer_names : TypedSelectParts → List (List ℕ)
 answer_names q = map (λ (item : Output). item.1) q.items
 
--- What is written for a statement: the answer of a SELECT, and nothing for every other one.
+-- what EXPLAIN shows of a query: the plan by which its SELECT would run here
+abbrev pub plan_text : Catalogue → TypedSelectParts → List ℕ
+plan_text c q = answer_text plan_names (plan_rows c (planned q c.indexed) q.names)
+
+-- What is written for a statement: the answer of a SELECT, the plan of an EXPLAIN, and nothing for every other one.
 abbrev pub StatementWrites : ℤ → RunState → StatementOut → List ℕ → Type 0
 StatementWrites day s (query q) text = (rows : List (List (List ℕ))) × QueryAnswers q s.catalogue day (Ok rows) × (text ≡ answer_text (answer_names q) rows)
+StatementWrites day s (plan_of q) text = text ≡ plan_text s.catalogue q
 StatementWrites day s _ text = text ≡ []
 
 -- a statement has this fault: only a SELECT has one

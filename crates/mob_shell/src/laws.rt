@@ -93,6 +93,7 @@ pub fn queries_read_what_is_stored()
     ensures typed { TypedQueriesReadWhatIsStored }
     ensures read { QueriesReadWhatIsStored }
 {
+    mob_plan::laws::probes_are_served();
     mob_eval::laws::stored_values_are_read();
     queries_are_typed();
 }

@@ -2,12 +2,12 @@
 ghost use Rattle.std.specs.Prelude.{◌≡◌, IfOk, IfErr, OnOk};
 ghost use Rattle.mob_shell.specs.Statements.{OnFault};
 ghost use Rattle.mob_typed.specs.Selects.{select_seen};
-ghost use Rattle.mob_typed.specs.Statements.{query, statement_seen};
+ghost use Rattle.mob_typed.specs.Statements.{plan_of, query, statement_seen};
 ghost use Rattle.mob_join.specs.TypedFor.{IsTypedFor};
 ghost use Rattle.mob_shell.specs.Runs.{Stops, StatementWrites, StatementLeaves, begin, later_files, next_rows};
 ghost use Rattle.mob_shell.specs.Session.{HasNoAnswerBy, session_day, overflow_fault, session_state};
 
-use crate::answers::answered;
+use crate::answers::{answered, explained};
 use crate::engine::{Engine, NoAnswer};
 use crate::rows::{copy_of_columns, put_constants, put_rows};
 use mob_catalog::Catalog;
@@ -85,7 +85,22 @@ impl Session {
         }
     }
 
-    // What a statement that is no query does: it writes nothing.
+    // The text of the plan of a query. It has no fault.
+    fn explain(&self, alloc: Global, select: &TypedSelect) -> Result<Vec<u8>, NoAnswer<Overflow>>
+        ensures text { IfOk result (λ text. StatementWrites (session_day self.now) (session_state self.now) (plan_of (select_seen select.now)) text.items) }
+        ensures fault { IfErr result (OnFault (λ o. Stops (session_day self.now) (session_state self.now) (plan_of (select_seen select.now)) (overflow_fault o))) }
+    {
+        let answer = match explained(alloc, select, &self.catalog) {
+            Ok(answer) => answer,
+            Err(_) => return Err(NoAnswer::NoMemory),
+        };
+        match answer_text(alloc, &answer) {
+            Ok(text) => Ok(text),
+            Err(_) => Err(NoAnswer::NoMemory),
+        }
+    }
+
+    // What a statement that writes nothing does.
     fn change(&mut self, alloc: Global, statement: &TypedStatement) -> Result<(), AllocError>
         ensures leaves { OnOk result (StatementLeaves (session_day self.old) (session_state self.old) (statement_seen statement.now) (session_state self.new)) }
         ensures day { OnOk result (session_day self.new ≡ session_day self.old) }
@@ -102,10 +117,14 @@ impl Session {
                 let rows = self.next_file(alloc);
                 put_rows(&mut self.catalog, *table, rows)
             }
-            TypedStatement::Empty
-            | TypedStatement::CreateIndex { .. }
-            | TypedStatement::Select(_)
-            | TypedStatement::Explain(_) => Ok(()),
+            TypedStatement::CreateIndex {
+                table,
+                column,
+                name,
+            } => self.catalog.create_index(name.as_str(), *table, *column),
+            TypedStatement::Empty | TypedStatement::Select(_) | TypedStatement::Explain(_) => Ok(
+                (),
+            ),
         }
     }
 }
@@ -148,6 +167,7 @@ impl Engine for Session {
     ) -> Result<Vec<u8>, NoAnswer<Overflow>> {
         match statement {
             TypedStatement::Select(select) => self.answer(alloc, select),
+            TypedStatement::Explain(select) => self.explain(alloc, select),
             _ => match self.change(alloc, statement) {
                 Ok(()) => Ok(Vec::new(alloc)),
                 Err(_) => Err(NoAnswer::NoMemory),

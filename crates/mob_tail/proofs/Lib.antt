@@ -1,5 +1,6 @@
 mod RecordText
 mod Orders
+mod PlanRows
 mod Reading
 mod Seen
 mod Making

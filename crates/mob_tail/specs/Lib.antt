@@ -1,4 +1,5 @@
 pub mod AnswerText
+pub mod PlanAnswers
 pub mod Records
 pub mod Order
 pub mod Rows

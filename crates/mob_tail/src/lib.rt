@@ -1,4 +1,4 @@
-//! What a query answers on the tuples that it keeps, and the text in which it is written.
+//! What a query answers on the tuples that it keeps, what EXPLAIN answers, and the text in which an answer is written.
 #![tactic(auto)]
 
 mod answers;
@@ -8,8 +8,10 @@ mod evaluation;
 mod keyed;
 pub mod laws;
 mod order;
+mod plans;
 mod text;
 
 pub use answers::{Answer, answer_to};
 pub use keyed::Keyed;
+pub use plans::plan_answer;
 pub use text::answer_text;

@@ -1,4 +1,4 @@
-use Rattle.std.proofs.Common.{◌≡◌, ℕ, ap, sym, ◌∙◌, map}
+use Rattle.std.proofs.Common.{ℕ, ap, sym, ◌∙◌, map}
 use Rattle.std.specs.Prelude.{sum_by}
 use Rattle.std.proofs.lemmas.List.Sorted.{sum_by-IsPermutation}
 use Rattle.mob_rtree_nodes.specs.Tree.{Kid}

@@ -1,4 +1,4 @@
-use Rattle.std.proofs.Common.{◌≡◌, refl, ap, ◌∙◌, sym, subst, arith, ℕ, ◌+◌, ◌*◌, ◌<◌, ◌++◌, ◌∷◌, [], List, length, take, take_all, length-append}
+use Rattle.std.proofs.Common.{◌≡◌, ap, ◌∙◌, sym, subst, arith, ◌+◌, ◌++◌, ◌∷◌, [], List, length, take, take_all, length-append}
 use Rattle.std.proofs.lemmas.List.{take_more}
 use Rattle.mob_rtree_nodes.specs.Tree.{Kid}
 use Rattle.mob_rtree_nodes.specs.Builds.{IsPacking}

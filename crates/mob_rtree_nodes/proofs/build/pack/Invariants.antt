@@ -1,4 +1,4 @@
-use Rattle.std.proofs.Common.{◌≡◌, ℕ, take, ◌+◌, ◌*◌, ◌<◌, length}
+use Rattle.std.proofs.Common.{◌≡◌, take, ◌+◌, ◌*◌, ◌<◌, length}
 use Rattle.mob_rtree_nodes.specs.Builds.{IsPacking}
 use Rattle.mob_rtree_nodes.proofs.build.pack.Given as goal
 

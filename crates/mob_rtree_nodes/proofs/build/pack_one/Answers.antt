@@ -1,4 +1,4 @@
-use Rattle.std.proofs.Common.{◌≡◌, ap, ◌∙◌, sym, subst, ◌++◌, ◌∷◌, []}
+use Rattle.std.proofs.Common.{ap, ◌∙◌, sym, subst, ◌++◌, ◌∷◌, []}
 use Rattle.mob_rtree_nodes.specs.Builds.{IsPacking}
 use Rattle.mob_rtree_nodes.proofs.Builds.{packing_close, packing_push, full_some}
 use Rattle.mob_rtree_nodes.proofs.build.pack_one.Goals as goal

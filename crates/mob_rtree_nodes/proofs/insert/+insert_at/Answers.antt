@@ -1,12 +1,10 @@
-use Rattle.std.proofs.Common.{arith, ◌≡◌, refl, sym, ◌∙◌, ap, subst, ℕ, ◌+◌, ◌<◌, ◌≤◌, true, length, get_or, set, List, not}
-use Rattle.std.specs.Prelude.{count_by, MatchOption}
+use Rattle.std.proofs.Common.{arith, ◌≡◌, sym, ◌∙◌, ap, subst, ◌+◌, ◌<◌, ◌≤◌, true, length, set, List}
+use Rattle.std.specs.Prelude.{MatchOption}
 use Rattle.std.proofs.lemmas.List.{length-set, get_or-set_same}
 use Rattle.std.proofs.lemmas.List.Elements.{All-set}
-use Rattle.mob_stbox.specs.Boxes.{is_whole}
-use Rattle.mob_rtree_nodes.specs.Tree.{Kid, target, is_fit, IsTree, IsSoundNode, height_at, kids_at, IsReplaced, IsAttached, IsGrown}
+use Rattle.mob_rtree_nodes.specs.Tree.{Kid, target, is_fit, IsSoundNode, height_at, IsGrown}
 use Rattle.mob_rtree_nodes.specs.declared.node.TreeNode.{TreeNode}
-use Rattle.mob_rtree_nodes.proofs.Sums.{height_of, kids_of, sound_at}
-use Rattle.mob_rtree_nodes.proofs.Covers.{fit_whole}
+use Rattle.mob_rtree_nodes.proofs.Sums.{height_of, kids_of}
 use Rattle.mob_rtree_nodes.proofs.Inserts.{grown_leaf, grown_none, grown_some, same_node, lower, still_live}
 use Rattle.mob_rtree_nodes.proofs.Frees.{reused_trans}
 use Rattle.mob_rtree_nodes.proofs.insert.+insert_at.Goals as goal
@@ -20,18 +18,12 @@ returns-then-part-eq0-clause-grown t c =
     let l = c.requires.live in
     grown_leaf c.args.nodes.now.items c.args.node c.index-part.result.now c.args.kid c.place.result c.place.new.nodes.items c.requires.there c.index-part.ensures c.if-part-eq0.true (omega (arith, live, l)) c.requires.tree.1.sound c.place.ensures.attached
 
-pub choose-slot-requires-clause-some : goal.choose-slot-requires-clause-some
-choose-slot-requires-clause-some t c =
+pub choose-slot-requires : goal.choose-slot-requires
+choose-slot-requires t c =
     let live = ap (λ (l : List Kid). length l) (kids_of c.args.nodes.now.items c.args.node c.index-part.result.now c.requires.there c.index-part.ensures) in
     let l = c.requires.live in
     let v = ap (λ (l : List Kid). length l) c.as_slice-kids.ensures.value in
     omega (arith, live, l, v)
-
-pub choose-slot-requires-clause-whole : goal.choose-slot-requires-clause-whole
-choose-slot-requires-clause-whole t c =
-    let p = c.index-part.result.now in
-    let s = sound_at c.args.nodes.now.items c.args.node p c.requires.there c.index-part.ensures c.requires.tree.1.sound in
-    ap (count_by (λ (k : Kid). not (is_whole k.0))) c.as_slice-kids.ensures.value ∙ fit_whole p.height p.kids.items s.fit
 
 pub insert_at-grown-requires : goal.insert_at-grown-requires
 insert_at-grown-requires t c =

@@ -1,4 +1,4 @@
-use Rattle.mob_rtree_nodes.specs.Tree.{Kid, EntryOf, entry_of, target, if_live, is_fit, height_at}
+use Rattle.mob_rtree_nodes.specs.Tree.{height_at}
 use Rattle.mob_rtree_nodes.proofs.insert.+insert_at.Given as goal
 
 abbrev pub decreases-insert_at : goal.decreases-insert_at

@@ -1,4 +1,4 @@
-use Rattle.std.proofs.Common.{arith, ◌≡◌, refl, ℕ, ◌+◌, ◌<◌, sym, ◌∙◌, ap, Some, None, List, length}
+use Rattle.std.proofs.Common.{arith, refl, sym, ◌∙◌, ap, Some, None, List, length}
 use Rattle.std.specs.Prelude.{sum_by}
 use Rattle.mob_rtree_nodes.specs.Tree.{Kid, is_fit, kids_of_more}
 use Rattle.mob_rtree_nodes.proofs.Sums.{kids_of, height_of}

@@ -1,4 +1,4 @@
-use Rattle.std.proofs.Common.{◌≡◌, refl}
+use Rattle.std.proofs.Common.{refl}
 use Rattle.mob_stbox.specs.Boxes.{is_whole}
 use Rattle.mob_rtree_nodes.proofs.Covers.{none_refilled, fit_whole}
 use Rattle.mob_rtree_nodes.proofs.insert.widen.Goals as goal

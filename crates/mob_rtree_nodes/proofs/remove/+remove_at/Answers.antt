@@ -1,10 +1,9 @@
-use Rattle.std.proofs.Common.{arith, ap, sym, ◌∙◌, subst, refl, List, length, ◌≡◌, get_or, set, ℕ, ◌+◌, ◌<◌, take, true, false, Bool}
-use Rattle.std.specs.Prelude.{sum_by}
+use Rattle.std.proofs.Common.{arith, ap, sym, ◌∙◌, subst, refl, List, length, ◌≡◌, set, ◌+◌, Bool}
 use Rattle.std.specs.Vec.{vec_capacity}
 use Rattle.mob_stbox.specs.Boxes.{BoxOf, contains}
-use Rattle.mob_rtree_nodes.specs.Tree.{Kid, EntryOf, entry_of, target, IsTree, height_at, kids_at, walk_sum, step_sum}
+use Rattle.mob_rtree_nodes.specs.Tree.{Kid, EntryOf, target, IsTree, height_at, walk_sum}
 use Rattle.mob_rtree_nodes.specs.Removes.{hit, IsRemoved, IsShrunk}
-use Rattle.mob_rtree_nodes.specs.declared.remove.Removed.TheVariants.{Missing, Narrowed, Emptied}
+use Rattle.mob_rtree_nodes.specs.declared.remove.Removed.TheVariants.{Narrowed, Emptied}
 use Rattle.mob_rtree_nodes.proofs.Sums.{kids_of, height_of}
 use Rattle.mob_rtree_nodes.proofs.Visits.{step_skip, step_down}
 use Rattle.mob_rtree_nodes.proofs.Shrinks.{lower_again, inside_left, kept_left, shrunk_inner, told_removed, told_not, one_missing, all_missing}

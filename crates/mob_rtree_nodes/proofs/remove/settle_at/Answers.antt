@@ -1,4 +1,4 @@
-use Rattle.std.proofs.Common.{◌≡◌, arith, ap, List, length, ℕ, ◌<◌}
+use Rattle.std.proofs.Common.{arith, ap, List, length, ◌<◌}
 use Rattle.mob_rtree_nodes.specs.Tree.{Kid}
 use Rattle.mob_rtree_nodes.proofs.Sums.{kids_of}
 use Rattle.mob_rtree_nodes.proofs.Frees.{free_few, free_drop, free_set}

@@ -1,7 +1,7 @@
-use Rattle.std.proofs.Common.{◌≡◌, refl, ap, ◌∙◌, sym, arith, length, not, ◌+◌, ◌<◌, ℕ, subst, true}
-use Rattle.std.specs.Prelude.{count_by, sum_by, All}
+use Rattle.std.proofs.Common.{◌≡◌, refl, ap, ◌∙◌, sym, length, not, subst, true}
+use Rattle.std.specs.Prelude.{count_by, All}
 use Rattle.mob_stbox.specs.Boxes.{is_whole, contains}
-use Rattle.mob_rtree_nodes.specs.Tree.{Kid, IsLeast, is_fit}
+use Rattle.mob_rtree_nodes.specs.Tree.{Kid, IsLeastOver, is_fit}
 use Rattle.mob_rtree_nodes.specs.declared.node.TreeNode.{TreeNode}
 use Rattle.mob_rtree_nodes.proofs.Covers.{fit_whole, none_out, some_left}
 use Rattle.mob_rtree_nodes.proofs.Shrinks.{kids_without}
@@ -21,7 +21,7 @@ returns c =
       sound = record {
         whole = c.cover_all-part.ensures.whole;
         over = subst (λ l. All (λ k. contains c.cover_all-part.result k.0 ≡ true) l) c.as_slice.ensures.value c.cover_all-part.ensures.over;
-        least = λ live. subst (λ l. IsLeast c.cover_all-part.result l) c.as_slice.ensures.value c.cover_all-part.ensures.least;
+        least = λ live. subst (λ l. IsLeastOver c.cover_all-part.result l) c.as_slice.ensures.value c.cover_all-part.ensures.least;
         fit = none_out (is_fit p.height) c.remove.new.self.items p.kids.items c.args.slot c.remove.result c.remove.ensures.items c.requires.slot c.requires.sound.fit;
       };
       kids = kids_without p part c.args.slot c.requires.slot c.remove.ensures.items;

@@ -1,7 +1,7 @@
-use Rattle.std.proofs.Common.{rules, arith, ◌≡◌, refl, sym, ◌∙◌, ap, append_assoc, ℕ, ◌+◌, ◌*◌, ◌<◌, ◌≤◌, sum_by, length, OnOk, List, ◌++◌, ◌-◌, ◌/◌, ◌%◌, Bool, true, false, nat_eq, nat_lt, [], ◌∷◌, slice_index_or, slice_set, bit_and, bit_or, Fits, w8, w32, w64, Bor, MutBor}
+use Rattle.std.proofs.Common.{arith, sym, ◌∙◌, ap, append_assoc, ◌+◌, ◌++◌, Bool, [], ◌∷◌}
 use Rattle.mob_stbox.specs.Boxes.{BoxOf, overlaps}
-use Rattle.mob_rtree_nodes.specs.Tree.{Kid, EntryOf, entry_of, target, if_live, is_fit, IsTree, height_at, walk_sum, Ref}
-use Rattle.mob_rtree_nodes.proofs.Visits.{down, found_all, cost_all, cost_more, found_skip, found_leaf, found_down, step_leaf, step_skip, step_down}
+use Rattle.mob_rtree_nodes.specs.Tree.{target, height_at, walk_sum}
+use Rattle.mob_rtree_nodes.proofs.Visits.{down, found_all, cost_all, cost_more, found_skip, found_leaf, found_down, step_down}
 use Rattle.mob_rtree_nodes.proofs.search.+visit.Goals as goal
 use Rattle.mob_rtree_nodes.proofs.search.+visit.Goals.{then-overlaps+then-part-eq0+in_ok-push, then-overlaps+else-part-eq0+in_ok-visit, else-overlaps}
 

@@ -1,7 +1,7 @@
-use Rattle.std.proofs.Common.{◌≡◌, ℕ, ◌+◌, ◌*◌, ◌<◌, ◌≤◌, length, List, ◌++◌, ◌-◌, take}
+use Rattle.std.proofs.Common.{◌≡◌, ℕ, ◌+◌, ◌*◌, ◌≤◌, List, ◌++◌, take}
 use Rattle.std.specs.Prelude.{sum_by}
-use Rattle.mob_stbox.specs.Boxes.{BoxOf, overlaps}
-use Rattle.mob_rtree_nodes.specs.Tree.{Kid, EntryOf, entry_of, target, if_live, is_fit, IsTree, height_at, walk_sum, step_sum, Ref}
+use Rattle.mob_stbox.specs.Boxes.{overlaps}
+use Rattle.mob_rtree_nodes.specs.Tree.{height_at, step_sum}
 use Rattle.mob_rtree_nodes.proofs.search.+visit.Given as goal
 
 abbrev pub decreases-visit : goal.decreases-visit

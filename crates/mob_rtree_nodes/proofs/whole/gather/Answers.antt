@@ -1,9 +1,8 @@
-use Rattle.std.proofs.Common.{arith, rules, ◌≡◌, refl, sym, ◌∙◌, ap, subst, ℕ, ◌+◌, ◌*◌, ◌≤◌, ◌++◌, ◌∷◌, [], length, append-nil, true, false}
-use Rattle.std.proofs.lemmas.List.Sums.{sum_by-cons}
+use Rattle.std.proofs.Common.{arith, ◌≡◌, sym, ◌∙◌, ap, ℕ, ◌++◌, [], append-nil}
 use Rattle.std.proofs.lemmas.List.Sorted.{sum_by-IsPermutation}
 use Rattle.std.specs.Prelude.{sum_by}
-use Rattle.mob_stbox.specs.Boxes.{BoxOf, overlaps}
-use Rattle.mob_rtree_nodes.specs.Tree.{Kid, EntryOf, entry_of, target, if_live, is_fit, IsTree, ref, entries_list, AreFound, walk_sum, height_at}
+use Rattle.mob_stbox.specs.Boxes.{overlaps}
+use Rattle.mob_rtree_nodes.specs.Tree.{ref, walk_sum}
 use Rattle.mob_rtree_nodes.proofs.Roots.{root_there, root_height, walk_finds, walk_misses, walk_meets}
 use Rattle.mob_rtree_nodes.proofs.whole.gather.Goals as goal
 

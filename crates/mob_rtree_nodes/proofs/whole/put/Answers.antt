@@ -1,6 +1,6 @@
-use Rattle.std.proofs.Common.{arith, ◌≡◌, refl, sym, ◌∙◌, ap, subst, ℕ, ◌+◌, ◌<◌, List, length, length-append, None, Some, [], ◌∷◌, ◌++◌}
+use Rattle.std.proofs.Common.{arith, ◌≡◌, refl, ◌∙◌, ap, ◌+◌, ◌<◌, List, length, length-append, [], ◌∷◌, ◌++◌}
 use Rattle.mob_rtree_nodes.specs.declared.node.TreeNode.{TreeNode}
-use Rattle.mob_rtree_nodes.specs.Tree.{Kid, EntryOf, entry_of, target, if_live, is_fit, IsTree, height_at, ref, IsAdded, entries_list}
+use Rattle.mob_rtree_nodes.specs.Tree.{Kid, entry_of, ref}
 use Rattle.mob_rtree_nodes.specs.declared.node.Child.TheVariants.{Node}
 use Rattle.mob_rtree_nodes.proofs.Roots.{root_alive, root_there, root_height, tree_none, tree_some, added, added_root}
 use Rattle.mob_rtree_nodes.proofs.Inserts.{put_in}

@@ -1,4 +1,4 @@
-use Rattle.std.proofs.Common.{◌≡◌, sym, ◌∙◌, arith}
+use Rattle.std.proofs.Common.{sym, ◌∙◌, arith}
 use Rattle.mob_rtree_nodes.proofs.Covers.{none_left}
 use Rattle.mob_rtree_nodes.proofs.Frees.{free_first}
 use Rattle.mob_rtree_nodes.proofs.whole.put_any.Goals as goal

@@ -1,5 +1,5 @@
-use Rattle.std.proofs.Common.{arith, ◌≡◌, refl, sym, ◌∙◌, ap, subst, ℕ, ◌+◌, ◌++◌, ◌<◌, ◌∷◌, [], List, length}
-use Rattle.mob_rtree_nodes.specs.Tree.{Kid, EntryOf, entry_of, target, if_live, is_fit, IsTree, ref, entries_list, IsAdded, AreLive}
+use Rattle.std.proofs.Common.{arith, ◌≡◌, refl, sym, ◌∙◌, ap, subst, ◌++◌, ◌<◌, ◌∷◌, [], List, length}
+use Rattle.mob_rtree_nodes.specs.Tree.{Kid, entry_of, IsTree, entries_list, IsAdded, AreLive}
 use Rattle.mob_rtree_nodes.specs.declared.node.TreeNode.{TreeNode}
 use Rattle.std.proofs.lemmas.List.Elements.{All-cons, All-nil}
 use Rattle.mob_rtree_nodes.proofs.Roots.{tree_one, added_one}

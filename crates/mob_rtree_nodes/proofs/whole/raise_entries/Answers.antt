@@ -1,9 +1,8 @@
-use Rattle.std.proofs.Common.{◌≡◌, ap, ◌∙◌, sym, subst, ℕ, ◌+◌, not, map, List, []}
-use Rattle.std.specs.Prelude.{count_by, sum_by, OnOk}
+use Rattle.std.proofs.Common.{ap, ◌∙◌, sym, subst, ◌+◌, not, []}
+use Rattle.std.specs.Prelude.{count_by, sum_by}
 use Rattle.mob_stbox.specs.Boxes.{is_whole}
-use Rattle.mob_rtree_nodes.specs.Tree.{Kid, EntryOf, is_fit, AreSame, entries_list, entries_sum}
-use Rattle.mob_rtree_nodes.specs.Builds.{IsForest, kid_of, leaf_sum}
-use Rattle.mob_rtree_nodes.specs.declared.node.TreeNode.{TreeNode}
+use Rattle.mob_rtree_nodes.specs.Tree.{Kid, is_fit, entries_sum}
+use Rattle.mob_rtree_nodes.specs.Builds.{IsForest, leaf_sum}
 use Rattle.mob_rtree_nodes.proofs.Covers.{fit_whole}
 use Rattle.mob_rtree_nodes.proofs.Builds.{entry_fits, fits_arranged, forest_start, built_same, on_ok}
 use Rattle.mob_rtree_nodes.proofs.whole.raise_entries.Goals as goal

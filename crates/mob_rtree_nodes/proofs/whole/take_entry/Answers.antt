@@ -1,4 +1,4 @@
-use Rattle.std.proofs.Common.{◌≡◌, sym, ◌∙◌}
+use Rattle.std.proofs.Common.{sym, ◌∙◌}
 use Rattle.mob_rtree_nodes.specs.Tree.{ref}
 use Rattle.mob_rtree_nodes.proofs.Roots.{root_there, root_height}
 use Rattle.mob_rtree_nodes.proofs.Shrinks.{taken_out, taken_early}

@@ -1,4 +1,4 @@
-use Rattle.std.proofs.Common.{◌≡◌, ◌∙◌, sym}
+use Rattle.std.proofs.Common.{sym}
 use Rattle.mob_rtree_nodes.specs.Reach.{is_root}
 use Rattle.mob_rtree_rows.proofs.walked.children_of_root.Goals as goal
 

@@ -7,7 +7,7 @@ returns c =
     let stored = c.stored_values_are_read.ensures in
     record {
       tuples = tuples_are_live;
-      visits = visits_are_live;
+      visits = visits_are_live c.probes_are_served.ensures.served;
       typed = typed_queries_read stored.constants stored.columns;
       read = queries_read stored.constants stored.columns c.queries_are_typed.ensures.typed;
     }

@@ -1,7 +1,7 @@
-use Rattle.std.proofs.Common.{◌≡◌, ◌∙◌, ap, sym, subst, arith, ℕ, ◌<◌, map}
+use Rattle.std.proofs.Common.{◌∙◌, ap, sym, subst, arith}
 use Rattle.mob_rtree.specs.Shape.{Shape}
 use Rattle.mob_rtree_nodes.specs.Tree.{ref}
-use Rattle.mob_rtree_nodes.specs.Reach.{IsReachedNode, IsSpread, children, branch_of}
+use Rattle.mob_rtree_nodes.specs.Reach.{IsReachedNode, IsSpread, children}
 use Rattle.mob_rtree_nodes.proofs.Sums.{kids_of}
 use Rattle.mob_rtree_nodes.proofs.Reaches.{reached_inside, children_is}
 use Rattle.mob_rtree.proofs.tree.RTree.part.Goals as goal

@@ -1,4 +1,4 @@
-use Rattle.std.proofs.Common.{◌≡◌, ◌∙◌, ap, sym, subst, arith, ℕ, ◌<◌, length}
+use Rattle.std.proofs.Common.{◌∙◌, sym, subst, arith, ◌<◌, length}
 use Rattle.mob_rtree.specs.Shape.{Shape}
 use Rattle.mob_rtree_nodes.specs.Tree.{ref, AreSame}
 use Rattle.mob_rtree_nodes.specs.Reach.{entries_under}

@@ -1,8 +1,8 @@
-use Rattle.std.proofs.Common.{arith, ◌≡◌, ℕ, List, ◌++◌, ◌∙◌, ap, subst}
+use Rattle.std.proofs.Common.{◌≡◌, ℕ, List, ◌++◌, ◌∙◌, ap, subst}
 use Rattle.std.specs.Prelude.{OnOk, IsSorted}
 use Rattle.std.specs.Ordering.{nat_cmp}
 use Rattle.mob_rtree.specs.Shape.{Shape}
-use Rattle.mob_rtree_nodes.specs.Tree.{Kid, EntryOf, entry_of, target, if_live, is_fit, entries_list, AreFound}
+use Rattle.mob_rtree_nodes.specs.Tree.{entries_list, AreFound}
 use Rattle.mob_rtree.proofs.tree.RTree.search.Goals as goal
 
 pub returns-clause-found : goal.returns-clause-found
