@@ -79,12 +79,7 @@ pub fn plan_answer(
     ensures names { IfOk result (λ answer. answer.names ≡ plan_names) }
     ensures rows { IfOk result (λ answer. answer.rows ≡ plan_rows catalog.now (plan_seen plan.now) (select_seen select.now).names) }
 {
-    let rows = lines_of(
-        alloc,
-        plan.steps.as_slice(),
-        select.names.as_slice(),
-        catalog,
-    )?;
+    let rows = lines_of(alloc, plan.steps(), select.names.as_slice(), catalog)?;
     let names = one_field(alloc, Text::from_string(String::from_str(alloc, "plan")?))?;
     Ok(Answer { names, rows })
 }
