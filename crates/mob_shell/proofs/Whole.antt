@@ -45,8 +45,7 @@ read-within old (Some left) bytes reads = let parts : length old ≡ length byte
 refused-whole : (e : Refusal) (old : List ℕ) (new : Option (List ℕ)) (bytes : List ℕ) → ReadsTo script_limit (Some old) new bytes → IsTextRefused bytes e → IsTextRefused old e
 refused-whole e old new bytes reads (inl h) = inl (record { long = let within = read-within old new bytes reads in let long = h.long in omega arith; says = h.says })
 refused-whole e old new bytes reads (inr (inl h)) = subst (λ b. IsTextRefused b e) (sym (read-whole old new bytes reads h.short)) (inr (inl h))
-refused-whole e old new bytes reads (inr (inr (inl h))) = subst (λ b. IsTextRefused b e) (sym (read-whole old new bytes reads h.read.short)) (inr (inr (inl h)))
-refused-whole e old new bytes reads (inr (inr (inr h))) = subst (λ b. IsTextRefused b e) (sym (read-whole old new bytes reads h.script.read.short)) (inr (inr (inr h)))
+refused-whole e old new bytes reads (inr (inr h)) = subst (λ b. IsTextRefused b e) (sym (read-whole old new bytes reads h.read.short)) (inr (inr h))
 
 -- the script was read to its end, or to one byte past the limit
 read-through : (s : Seen) (bytes : List ℕ) → ReadsTo script_limit s.script.told_before s.script.told_now bytes → ReadsThrough s
