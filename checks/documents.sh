@@ -1,7 +1,8 @@
 #!/bin/sh
 # Tries what README.md and docs/LANGUAGE.md show. In a block `try` a line is `EXPRESSION → FIELD`: what SELECT of the expression
 # shows, or in its place the note of the refusal. A block `sql` is a script, which is run in examples/shop, or in the folder of examples/
-# that stands behind the word; the block `answer` behind it is what it writes, and its note.
+# that stands behind the word, with the words behind that; the block `answer` behind it is what it writes, and its note. Each is run with one worker
+# and with three.
 # `sh checks/documents.sh PROGRAM` takes a program that is there; without a word one is built.
 . "$(dirname "$0")/common"
 
@@ -14,7 +15,11 @@ cat README.md docs/LANGUAGE.md | awk -v folder="$work" '
         inside = !inside
         split(inside ? substr($0, 4) : "", word, " ")
         kind = word[1]
-        if (kind == "sql") { number++; put(word[2] == "" ? "shop" : word[2], number ".folder") }
+        if (kind == "sql") {
+            number++
+            put(word[2] == "" ? "shop" : word[2], number ".folder")
+            for (i = 3; i in word; i++) put(word[i], number ".words")
+        }
         next
     }
     kind == "sql" { put($0, number ".sql") }
@@ -31,12 +36,15 @@ failed=0
 tried=0
 for script in "$work"/*.sql; do
     tried=$((tried + 1))
-    (cd "examples/$(cat "${script%.sql}.folder")" && "$program" < "$script") > "$work/written" 2>&1 || true
-    if ! diff "$work/written" "${script%.sql}.wanted"; then
-        echo "a document shows something else for this script:"
-        cat "$script"
-        failed=1
-    fi
+    words=$(cat "${script%.sql}.words" 2> /dev/null || true)
+    for workers in 1 3; do
+        (cd "examples/$(cat "${script%.sql}.folder")" && "$program" --workers $workers $words < "$script") > "$work/written" 2>&1 || true
+        if ! diff "$work/written" "${script%.sql}.wanted"; then
+            echo "a document shows something else for this script, with --workers $workers:"
+            cat "$script"
+            failed=1
+        fi
+    done
 done
 echo "documents: $tried scripts tried"
 exit $failed

@@ -1,6 +1,7 @@
 #!/bin/sh
 # Runs each script of examples/ in its folder: NAME.sql must write NAME.answer, put NAME.note into its notes, and end with the
-# status that NAME.status says. Where such a file is missing, the answer or the note is to be empty, and the status 0.
+# status that NAME.status says. Where such a file is missing, the answer or the note is to be empty, and the status 0. With three workers it
+# is to do the same. A picture NAME.svg is what examples/picture draws of NAME.answer.
 # `sh checks/examples.sh PROGRAM` takes a program that is there; without a word one is built.
 . "$(dirname "$0")/common"
 
@@ -12,16 +13,24 @@ text_of() {
 failed=0
 for script in examples/*/*.sql; do
     name=${script%.sql}
-    status=0
-    (cd "$(dirname "$script")" && "$program" < "$(basename "$script")") > "$work/answer" 2> "$work/note" || status=$?
     text_of "$name.answer" > "$work/wanted.answer"
     text_of "$name.note" > "$work/wanted.note"
     wanted_status=$(text_of "$name.status")
-    if cmp "$work/answer" "$work/wanted.answer" && cmp "$work/note" "$work/wanted.note" && [ "$status" = "${wanted_status:-0}" ]; then
-        echo "example $name: as expected"
-    else
-        echo "example $name: FAILED with status $status"
-        failed=1
-    fi
+    for words in "" "--workers 3"; do
+        status=0
+        (cd "$(dirname "$script")" && "$program" $words < "$(basename "$script")") > "$work/answer" 2> "$work/note" || status=$?
+        if cmp "$work/answer" "$work/wanted.answer" && cmp "$work/note" "$work/wanted.note" && [ "$status" = "${wanted_status:-0}" ]; then
+            echo "example $name $words: as expected"
+        else
+            echo "example $name $words: FAILED with status $status"
+            failed=1
+        fi
+    done
+done
+for picture in examples/*/*.svg; do
+    kind=bars
+    [ "$(basename "$picture")" != map.svg ] || kind=map
+    examples/picture "$kind" < "${picture%.svg}.answer" > "$work/picture"
+    cmp "$work/picture" "$picture" || { echo "picture $picture: FAILED"; failed=1; }
 done
 exit $failed

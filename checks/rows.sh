@@ -11,6 +11,8 @@
 #   ?  a row by itself: an expression, ` → ` and the field that SELECT of it shows
 #   #  a remark
 #
+# A row is run once more with `--workers 3`, where it says no workers of its own, and is to do the same.
+#
 # In `file`, `script` and `answer` stand `\n`, `\r`, `\\`, `\xHH` for a byte, and `\{N TEXT}` for N times a text.
 # `sh checks/rows.sh PROGRAM` takes a program that is there; without a word one is built.
 . "$(dirname "$0")/common"
@@ -87,21 +89,21 @@ cut_rows() {
     END { finish(); print number + 0 > "/dev/stdout" }' "$1"
 }
 
-# Runs the row of a number of a folder, and leaves what it writes in `answer` and `note` of the work folder and its status in `status`.
+# Runs the row of a number of a folder, with further words before its own, and leaves what it writes in `answer` and `note` of the work
+# folder and its status in `status`.
 run_row() {
     rm -rf "$work/here"
     mkdir "$work/here"
     for file in "$1.file."*; do
         [ ! -f "$file" ] || cp "$file" "$work/here/${file#"$1.file."}"
     done
-    set -- "$1"
+    of=$1
+    shift
     while IFS= read -r word; do
         set -- "$@" "$word"
-    done < "$1.words"
-    row=$1
-    shift
+    done < "$of.words"
     status=0
-    (cd "$work/here" && "$program" "$@" < "$row.script") > "$work/answer" 2> "$work/note" || status=$?
+    (cd "$work/here" && "$program" "$@" < "$of.script") > "$work/answer" 2> "$work/note" || status=$?
 }
 
 failed=0
@@ -113,16 +115,19 @@ for rows in checks/rows/*.rows; do
     number=0
     while [ "$number" -lt "$count" ]; do
         number=$((number + 1))
-        tried=$((tried + 1))
         row=$cut/$number
-        run_row "$row"
-        if ! cmp -s "$work/answer" "$row.answer" || ! cmp -s "$work/note" "$row.note" || [ "$status" != "$(cat "$row.status")" ]; then
-            echo "$rows:$(cat "$row.place"): FAILED with status $status; then what it wrote and noted, against what is wanted"
-            diff "$work/answer" "$row.answer" | head -20 || true
-            diff "$work/note" "$row.note" | head -20 || true
-            failed=$((failed + 1))
-        fi
+        for more in "" "--workers 3"; do
+            [ -z "$more" ] || ! grep -q -e --workers "$row.words" || continue
+            tried=$((tried + 1))
+            run_row "$row" $more
+            if ! cmp -s "$work/answer" "$row.answer" || ! cmp -s "$work/note" "$row.note" || [ "$status" != "$(cat "$row.status")" ]; then
+                echo "$rows:$(cat "$row.place"): FAILED with status $status, words '$more'; then what it wrote and noted, against what is wanted"
+                diff "$work/answer" "$row.answer" | head -20 || true
+                diff "$work/note" "$row.note" | head -20 || true
+                failed=$((failed + 1))
+            fi
+        done
     done
 done
-echo "rows: $tried tried, $failed failed"
+echo "rows: $tried runs tried, $failed failed"
 [ "$failed" = 0 ]

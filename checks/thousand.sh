@@ -1,6 +1,6 @@
 #!/bin/sh
 # A track of 1,000 legs to and fro over a strip of 2 metres, and the strip, once as a polygon of 1,000 points and once as a box: the
-# track is in it from a quarter to three quarters of each second, both ends included.
+# track is in it from a quarter to three quarters of each second, both ends included. By one worker and by three.
 # `sh checks/thousand.sh PROGRAM` takes a program that is there; without a word one is built.
 . "$(dirname "$0")/common"
 
@@ -28,6 +28,8 @@ awk -v folder="$work" '
         wanted("seconds\n\"" times "}\"\n(1 rows)\nseconds\n\"" times "}\"\n(1 rows)\npolygon,others,near\nt,t,t\n(1 rows)\n")
     }'
 
-"$program" < "$work/script.sql" > "$work/answer" || { echo "thousand: FAILED with status $?"; exit 1; }
-cmp "$work/answer" "$work/wanted" || { echo "thousand: FAILED"; exit 1; }
+for workers in 1 3; do
+    "$program" --workers $workers < "$work/script.sql" > "$work/answer" || { echo "thousand: FAILED with status $?"; exit 1; }
+    cmp "$work/answer" "$work/wanted" || { echo "thousand: FAILED"; exit 1; }
+done
 echo "thousand: as expected"

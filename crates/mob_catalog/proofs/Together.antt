@@ -13,7 +13,7 @@ use Rattle.mob_catalog.specs.TableFile.{Column}
 use Rattle.mob_catalog.specs.TypedTables.{HoldsLiveRows}
 use Rattle.mob_catalog.specs.Catalogue.{Catalogue, live_rows, new_catalogue, rows_put, with_changed, with_empty_table, with_last_row, with_live_row, with_row}
 use Rattle.mob_catalog.specs.Indexes.{IndexHolds, IsMadeOf, table_value}
-use Rattle.mob_catalog.specs.Kept.{HasRoom, IsEntered, IsKeptTogether, IsSameIndex, names_of}
+use Rattle.mob_catalog.specs.Kept.{HasRoom, IsEntered, IsKeptTogether, IsSameIndex, index_names_of}
 use Rattle.mob_catalog.proofs.Changed.{length_changed}
 use Rattle.mob_catalog.proofs.TypedTables.{live_behind, table_behind}
 use Rattle.mob_catalog.proofs.Holding.{holds_row, holds_table}
@@ -94,11 +94,11 @@ same_set (x ∷ xs) (b ∷ ys) (suc i) y z lt is new h = (h.0, same_set xs ys i 
 pub room_set : (table : ℕ) (now : List TableIndex) (i : ℕ) (z : TableIndex) → i < length now → HasRoom table z → AllByRecursion (HasRoom table) (take i now) → AllByRecursion (HasRoom table) (take (i + 1) (set now i z))
 room_set table now i z lt new h = subst (AllByRecursion (HasRoom table)) (sym (take_more_set now i z lt)) (each_both (HasRoom table) (take i now) (z ∷ []) h (new, tt))
 
-pub same_names : (old new : List TableIndex) → AllZip IsSameIndex old new → names_of new ≡ names_of old
+pub same_names : (old new : List TableIndex) → AllZip IsSameIndex old new → index_names_of new ≡ index_names_of old
 same_names [] [] h = refl
 same_names [] (y ∷ ys) h = absurd h
 same_names (x ∷ xs) [] h = absurd h
-same_names (x ∷ xs) (y ∷ ys) h = ap (λ n. n ∷ names_of ys) h.0.name ∙ ap (λ ns. x.name ∷ ns) (same_names xs ys h.1)
+same_names (x ∷ xs) (y ∷ ys) h = ap (λ n. n ∷ index_names_of ys) h.0.name ∙ ap (λ ns. x.name ∷ ns) (same_names xs ys h.1)
 
 same_on : (old new : List TableIndex) → AllZip IsSameIndex old new → map (λ (i : TableIndex). i.on) new ≡ map (λ (i : TableIndex). i.on) old
 same_on [] [] h = refl
@@ -113,7 +113,7 @@ same_held c (x ∷ xs) [] h k = absurd h
 same_held c (x ∷ xs) (y ∷ ys) h k =
     (subst (λ on. IndexHolds c on y.tree.entries) (sym h.0.on) (subst (IndexHolds c x.on) (sym h.0.tree.entries) k.0), same_held c xs ys h.1 k.1)
 
-pub kept_same : (c : Catalogue) (old new : List TableIndex) → IsKeptTogether c old → AllZip IsSameIndex old new → IsKeptTogether (record c { index_names = names_of new }) new
+pub kept_same : (c : Catalogue) (old new : List TableIndex) → IsKeptTogether c old → AllZip IsSameIndex old new → IsKeptTogether (record c { index_names = index_names_of new }) new
 kept_same c old new h same = record {
   heads = h.heads;
   live = h.live;
@@ -153,7 +153,7 @@ kept_table columns c is h = record {
 }
 
 pub kept_index : (c : Catalogue) (is : List TableIndex) (i : TableIndex) → length c.indexed < 4294967295 → IndexHolds c i.on i.tree.entries → IsKeptTogether c is
-    → IsKeptTogether (record c { indexed = c.indexed ++ i.on ∷ []; index_names = names_of (is ++ i ∷ []) }) (is ++ i ∷ [])
+    → IsKeptTogether (record c { indexed = c.indexed ++ i.on ∷ []; index_names = index_names_of (is ++ i ∷ []) }) (is ++ i ∷ [])
 kept_index c is i few held h = record {
   heads = h.heads;
   live = h.live;
@@ -162,9 +162,9 @@ kept_index c is i few held h = record {
   few = omega (arith, few, length-append c.indexed (i.on ∷ []));
 }
 
-pub kept_indexes : (c : Catalogue) (a b : List (ℕ × ℕ)) (is js : List TableIndex) → a ≡ b → is ≡ js → IsKeptTogether (record c { indexed = b; index_names = names_of js }) js → IsKeptTogether (record c { indexed = a; index_names = names_of is }) is
+pub kept_indexes : (c : Catalogue) (a b : List (ℕ × ℕ)) (is js : List TableIndex) → a ≡ b → is ≡ js → IsKeptTogether (record c { indexed = b; index_names = index_names_of js }) js → IsKeptTogether (record c { indexed = a; index_names = index_names_of is }) is
 kept_indexes c a b is js e f h =
-    subst (λ x. IsKeptTogether (record c { indexed = x; index_names = names_of is }) is) (sym e) (subst (λ x. IsKeptTogether (record c { indexed = b; index_names = names_of x }) x) (sym f) h)
+    subst (λ x. IsKeptTogether (record c { indexed = x; index_names = index_names_of is }) is) (sym e) (subst (λ x. IsKeptTogether (record c { indexed = b; index_names = index_names_of x }) x) (sym f) h)
 
 module _ (c : Catalogue) (n : ℕ) (row : List Value) (lt : n < length c.heads) (live : AllZip HoldsLiveRows c.heads c.store.tables) where
   row_held : (old new : List TableIndex) → AllZip (IsEntered (with_changed n (with_last_row row) c.store.tables) n (rows_put n c.store.tables)) old new
@@ -181,14 +181,14 @@ module _ (c : Catalogue) (n : ℕ) (row : List Value) (lt : n < length c.heads) 
   row_on tables number (x ∷ xs) [] h = absurd h
   row_on tables number (x ∷ xs) (y ∷ ys) h = ap (λ o. o ∷ map (λ (i : TableIndex). i.on) ys) h.0.on ∙ ap (λ os. x.on ∷ os) (row_on tables number xs ys h.1)
 
-pub row_names : (tables : List Table) (n number : ℕ) (old new : List TableIndex) → AllZip (IsEntered tables n number) old new → names_of new ≡ names_of old
+pub row_names : (tables : List Table) (n number : ℕ) (old new : List TableIndex) → AllZip (IsEntered tables n number) old new → index_names_of new ≡ index_names_of old
 row_names tables n number [] [] h = refl
 row_names tables n number [] (y ∷ ys) h = absurd h
 row_names tables n number (x ∷ xs) [] h = absurd h
-row_names tables n number (x ∷ xs) (y ∷ ys) h = ap (λ m. m ∷ names_of ys) h.0.name ∙ ap (λ ns. x.name ∷ ns) (row_names tables n number xs ys h.1)
+row_names tables n number (x ∷ xs) (y ∷ ys) h = ap (λ m. m ∷ index_names_of ys) h.0.name ∙ ap (λ ns. x.name ∷ ns) (row_names tables n number xs ys h.1)
 
 pub kept_row : (c : Catalogue) (n : ℕ) (row : List Value) (old new : List TableIndex) → n < length c.heads → IsKeptTogether c old
-    → AllZip (IsEntered (with_changed n (with_last_row row) c.store.tables) n (rows_put n c.store.tables)) old new → IsKeptTogether (record (with_row n row c) { index_names = names_of new }) new
+    → AllZip (IsEntered (with_changed n (with_last_row row) c.store.tables) n (rows_put n c.store.tables)) old new → IsKeptTogether (record (with_row n row c) { index_names = index_names_of new }) new
 kept_row c n row old new lt h entered = record {
   heads = length_changed n (with_live_row (rows_put n c.store.tables)) c.heads ∙ h.heads ∙ sym (length_changed n (with_last_row row) c.store.tables);
   live = live_behind n c.heads c.store.tables row h.live;

@@ -8,7 +8,7 @@ use Rattle.mob_value.specs.declared.store.Table.{Table}
 use Rattle.mob_typed.specs.Statements.{ColumnList}
 use Rattle.mob_typed.specs.Written.{Rises}
 use Rattle.mob_typed.proofs.Rising.{each_both, each_on}
-use Rattle.mob_catalog.specs.Catalogue.{Catalogue, live_of, with_empty_table, with_changed, with_index, rows_put, table_columns, with_last_row, with_live_row, with_row}
+use Rattle.mob_catalog.specs.Catalogue.{Catalogue, live_of, with_empty_table, with_changed, with_index_on, rows_put, table_columns, with_last_row, with_live_row, with_row}
 use Rattle.mob_catalog.specs.OwnTypes.{HasColumnTypes}
 use Rattle.mob_catalog.specs.TypedTables.{HoldsLiveRows, HoldsTypedRows, IsOnWays, Stores, TypesStay, head_columns}
 use Rattle.mob_catalog.specs.declared.catalog.TableHead.{TableHead}
@@ -94,7 +94,7 @@ module _ (values : List Value) (tables : List ColumnList) where
     ways = h.ways;
   }
 
-  index_held : (name : List ℕ) (table column : ℕ) (c : Catalogue) → Stores values tables c → IsOnWays tables (table, column) → Stores values tables (with_index name table column c)
+  index_held : (name : List ℕ) (table column : ℕ) (c : Catalogue) → Stores values tables c → IsOnWays tables (table, column) → Stores values tables (with_index_on name table column c)
   index_held name table column c h on = record {
     typed = h.typed;
     live = h.live;

@@ -26,8 +26,8 @@ with_empty_table columns c = record c {
 }
 
 -- one more index of this name on a column of a table
-abbrev pub with_index : List ℕ → ℕ → ℕ → Catalogue → Catalogue
-with_index name table column c = record c { indexed = c.indexed ++ (table, column) ∷ []; index_names = c.index_names ++ name ∷ [] }
+abbrev pub with_index_on : List ℕ → ℕ → ℕ → Catalogue → Catalogue
+with_index_on name table column c = record c { indexed = c.indexed ++ (table, column) ∷ []; index_names = c.index_names ++ name ∷ [] }
 
 -- the list with one entry changed; the same list, where there is no such entry
 abbrev pub with_changed : {A : Type 0} → ℕ → (A → A) → List A → List A

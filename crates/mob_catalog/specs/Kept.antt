@@ -11,8 +11,8 @@ use Rattle.mob_catalog.specs.TypedTables.{HoldsLiveTables}
 use Rattle.mob_catalog.specs.declared.indexes.TableIndex.{TableIndex}
 
 -- the names of indexes
-abbrev pub names_of : List TableIndex → List (List ℕ)
-names_of indexes = map (λ (i : TableIndex). i.name) indexes
+abbrev pub index_names_of : List TableIndex → List (List ℕ)
+index_names_of indexes = map (λ (i : TableIndex). i.name) indexes
 
 -- Each table has its head, the rows that are there were put into their table, each index has its entries, and indexes have numbers of 32 bits.
 pub record IsKeptTogether (c : Catalogue) (indexes : List TableIndex) : Type 0 where

@@ -5,7 +5,7 @@ use Rattle.mob_value.specs.declared.store.Table.{Table}
 use Rattle.mob_value.specs.declared.value.Value.{Value}
 use Rattle.mob_catalog.specs.TableFile.{Column}
 use Rattle.mob_catalog.specs.declared.catalog.TableHead.{TableHead}
-use Rattle.mob_catalog.specs.Catalogue.{Catalogue, new_catalogue, with_empty_table, with_index, with_row}
+use Rattle.mob_catalog.specs.Catalogue.{Catalogue, new_catalogue, with_empty_table, with_index_on, with_row}
 
 -- of a table with this head all rows are there, by the numbers from 0
 abbrev pub HasAllRows : TableHead → Table → Type 0
@@ -20,4 +20,4 @@ pub record RowsStayThere : Type 0 where
   pub new : (consts : List Value) → AllAreThere (new_catalogue consts)
   pub table : (columns : List Column) (c : Catalogue) → AllAreThere c → AllAreThere (with_empty_table columns c)
   pub row : (n : ℕ) (row : List Value) (c : Catalogue) → AllAreThere c → AllAreThere (with_row n row c)
-  pub index : (name : List ℕ) (n column : ℕ) (c : Catalogue) → AllAreThere c → AllAreThere (with_index name n column c)
+  pub index : (name : List ℕ) (n column : ℕ) (c : Catalogue) → AllAreThere c → AllAreThere (with_index_on name n column c)

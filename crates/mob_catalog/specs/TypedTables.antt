@@ -6,7 +6,7 @@ use Rattle.mob_value.specs.declared.store.Table.{Table}
 use Rattle.mob_value.specs.declared.value.Value.{Value}
 use Rattle.mob_typed.specs.Statements.{ColumnList}
 use Rattle.mob_typed.specs.Written.{Rises}
-use Rattle.mob_catalog.specs.Catalogue.{Catalogue, new_catalogue, table_columns, with_empty_table, with_index, with_row}
+use Rattle.mob_catalog.specs.Catalogue.{Catalogue, new_catalogue, table_columns, with_empty_table, with_index_on, with_row}
 use Rattle.mob_catalog.specs.OwnTypes.{HasColumnTypes}
 use Rattle.mob_catalog.specs.declared.catalog.TableHead.{TableHead}
 
@@ -52,4 +52,4 @@ pub record TypesStay : Type 0 where
   pub new : (values : List Value) → Stores values [] (new_catalogue values)
   pub table : (values : List Value) (tables : List ColumnList) (columns : ColumnList) (c : Catalogue) → Stores values tables c → Stores values (tables ++ columns ∷ []) (with_empty_table columns c)
   pub row : (values : List Value) (tables : List ColumnList) (n : ℕ) (row : List Value) (c : Catalogue) → Stores values tables c → HasColumnTypes (table_columns c n) row → Stores values tables (with_row n row c)
-  pub index : (values : List Value) (tables : List ColumnList) (name : List ℕ) (table column : ℕ) (c : Catalogue) → Stores values tables c → IsOnWays tables (table, column) → Stores values tables (with_index name table column c)
+  pub index : (values : List Value) (tables : List ColumnList) (name : List ℕ) (table column : ℕ) (c : Catalogue) → Stores values tables c → IsOnWays tables (table, column) → Stores values tables (with_index_on name table column c)

@@ -2,7 +2,7 @@
 ghost use Rattle.std.specs.Prelude.{◌≡◌, ◌<◌, ◌^◌, ◌++◌, ◌∷◌, ℕ, List, [], length, IfOk, IfSome, OnErr, OnOk, slice_get};
 ghost use Rattle.mob_typed.specs.Written.{Rises};
 ghost use Rattle.mob_catalog.specs.declared.catalog.TableHead.{TableHead as TableHeadSeen};
-ghost use Rattle.mob_catalog.specs.Catalogue.{live_of, live_rows, new_catalogue, rows_put, table_columns, with_changed, with_empty_table, with_index, with_last_row, with_live_row, with_row};
+ghost use Rattle.mob_catalog.specs.Catalogue.{live_of, live_rows, new_catalogue, rows_put, table_columns, with_changed, with_empty_table, with_index_on, with_last_row, with_live_row, with_row};
 ghost use Rattle.mob_catalog.specs.Indexes.{IndexHolds, IsMadeOf, index_name as name_of, table_value};
 
 use crate::indexes::{TableIndex, enter_rows, entries_of, reserve_entries};
@@ -40,13 +40,13 @@ pub struct Catalog {
 impl Model for Catalog {
     ghost use Rattle.std.specs.Prelude.{map};
     ghost use Rattle.mob_catalog.specs.Catalogue.{Catalogue};
-    ghost use Rattle.mob_catalog.specs.Kept.{IsKeptTogether, names_of};
+    ghost use Rattle.mob_catalog.specs.Kept.{IsKeptTogether, index_names_of};
 
     ghost Value = { Catalogue };
 
-    ghost view = { λ c. record { store = c.store; heads = c.heads.items; indexed = c.indexed.items; index_names = names_of c.indexes.items } };
+    ghost view = { λ c. record { store = c.store; heads = c.heads.items; indexed = c.indexed.items; index_names = index_names_of c.indexes.items } };
 
-    ghost invariant = { λ c. IsKeptTogether (record { store = c.store; heads = c.heads.items; indexed = c.indexed.items; index_names = names_of c.indexes.items }) c.indexes.items };
+    ghost invariant = { λ c. IsKeptTogether (record { store = c.store; heads = c.heads.items; indexed = c.indexed.items; index_names = index_names_of c.indexes.items }) c.indexes.items };
 }
 
 // How many rows were put into the table of this number. One with more rows than have numbers is no longer in memory.
@@ -318,7 +318,7 @@ impl Catalog {
     /// Makes an index of this name on a column of a table: an entry for each row of the table that has a moving point in the column. Where
     /// memory is refused the catalogue stays as it was.
     pub fn create_index(&mut self, name: &str, table: u32, column: u32) -> Result<(), AllocError>
-        ensures made { OnOk result (self.new ≡ with_index name.now table column self.old) }
+        ensures made { OnOk result (self.new ≡ with_index_on name.now table column self.old) }
         ensures unchanged { OnErr result (self.new ≡ self.old) }
     {
         if self.indexed.len() >= 4294967295 {

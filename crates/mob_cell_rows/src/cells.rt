@@ -10,7 +10,7 @@ use mob_span::Span;
 use std::alloc::Global;
 
 // A fraction by its parts.
-pub type Parts = (i64, i64);
+type Parts = (i64, i64);
 
 // A function by its values at the ends of a span.
 type Function = (Parts, Parts);
@@ -21,7 +21,7 @@ type Limits = (i64, i64, bool, bool);
 // A cell by its ends, and the sign of a function there. A cell has both ends where they are one instant, and else none.
 type Signed = (Parts, Parts, i8);
 
-pub fn fraction(parts: Parts) -> Option<Frac> {
+fn fraction(parts: Parts) -> Option<Frac> {
     if parts.1 == 0 {
         return None;
     }

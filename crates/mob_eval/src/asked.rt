@@ -1,6 +1,6 @@
 //! The instants for which a moment, a span or a span set asks, as a span set.
 ghost use Rattle.std.specs.Prelude.{◌≡◌, [], ◌∷◌, IfOk};
-ghost use Rattle.mob_eval.specs.Times.{instant_span};
+ghost use Rattle.mob_meaning.specs.Times.{instant_span};
 
 use mob_frac::Frac;
 use mob_span::{Span, SpanSet};

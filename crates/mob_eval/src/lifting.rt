@@ -1,8 +1,8 @@
 //! Logic and joining at each instant.
 ghost use Rattle.std.specs.Prelude.{◌≡◌, IfOk};
 ghost use Rattle.mob_arith.specs.Operations.{both_hold, one_holds, text_of};
-ghost use Rattle.mob_eval.specs.Lifted.{OnPair, IsMovingBool, IsMovingText, IsLiftedNot, truth_pair, text_pair};
-ghost use Rattle.mob_eval.specs.Operators.{concatenation, IsJoined};
+ghost use Rattle.mob_meaning.specs.Lifted.{OnPair, IsMovingBool, IsMovingText, IsLiftedNot, truth_pair, text_pair};
+ghost use Rattle.mob_meaning.specs.Operators.{concatenation, IsJoined};
 
 use crate::pair::{text_pair, truth_pair};
 use crate::temporal::{bool_or_null, text_or_null};

@@ -6,13 +6,14 @@ ghost use Rattle.mob_near.specs.Entries.{entries_of_within, entries_of_approach}
 ghost use Rattle.mob_slice.specs.Entries.{IsFirst, IsJudged, OnFormula};
 ghost use Rattle.mob_slice.specs.Lines.{plane_value_of};
 ghost use Rattle.mob_slice.specs.Sides.{operand_of, has_slices, given_at, pieces};
-ghost use Rattle.mob_eval.specs.Nearness.{IsWithin, IsApproachValue, IsNearestApproach, within_entries, approach_entries};
-ghost use Rattle.mob_eval.specs.Signs.{IsAsked};
+ghost use Rattle.mob_meaning.specs.Nearness.{IsWithin, IsApproachValue, IsNearestApproach, within_entries, approach_entries};
+ghost use Rattle.mob_meaning.specs.Signs.{IsAsked};
 
 use crate::look::number_or_null;
 use crate::pair::plane_pair;
-use crate::signs::{Scope, answered};
+use crate::signs::answered;
 use mob_frac::Frac;
+use mob_meaning::Scope;
 use mob_near::{approach_squared, ever_within};
 use mob_slice::{OpFault, Operand, Passed, PlaneLine};
 use mob_value::Value;

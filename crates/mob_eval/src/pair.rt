@@ -1,8 +1,8 @@
 //! Operands of which one at least is temporal.
 ghost use Rattle.std.specs.Prelude.{◌≡◌, ◌||◌, true, IfSome, option_map};
 ghost use Rattle.mob_slice.specs.Sides.{operand_of, has_slices};
-ghost use Rattle.mob_eval.specs.Lifted.{truth_pair, number_pair, text_pair, operands_of};
-ghost use Rattle.mob_eval.specs.Lines.{frac_pair, plane_pair, factors};
+ghost use Rattle.mob_meaning.specs.Lifted.{truth_pair, number_pair, text_pair, operands_of};
+ghost use Rattle.mob_meaning.specs.Lines.{frac_pair, plane_pair, factors};
 
 use mob_frac::Frac;
 use mob_list::text::Text;

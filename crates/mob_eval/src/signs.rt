@@ -9,34 +9,24 @@ ghost use Rattle.mob_slice.specs.LineComparison.{number_gaps, point_relates, poi
 ghost use Rattle.mob_slice.specs.Lines.{line_value_of, line_parts_of, plane_value_of, plane_parts_of};
 ghost use Rattle.mob_slice.specs.Ranks.{holds};
 ghost use Rattle.mob_slice.specs.Sides.{operand_of, has_slices, given_at, pieces};
-ghost use Rattle.mob_eval.specs.Lifted.{IsMovingBool, OnPair, OnOperands, entries_on, truth_pair, number_pair, text_pair, over_time};
-ghost use Rattle.mob_eval.specs.Lines.{frac_pair, line_pair, plane_pair};
-ghost use Rattle.mob_eval.specs.Ordinary.{known};
-ghost use Rattle.mob_eval.specs.Signs.{number_test, text_test, truth_test, IsAsked, IsOrderTest, IsAnyTest, IsSignTest, entries_asked, order_entries, any_entries, sign_entries};
+ghost use Rattle.mob_meaning.specs.Lifted.{IsMovingBool, OnPair, OnOperands, entries_on, truth_pair, number_pair, text_pair, over_time};
+ghost use Rattle.mob_meaning.specs.Lines.{frac_pair, line_pair, plane_pair};
+ghost use Rattle.mob_ordinary.specs.Ordinary.{known};
+ghost use Rattle.mob_meaning.specs.Signs.{number_test, text_test, truth_test, IsAsked, IsOrderTest, IsAnyTest, IsSignTest, entries_asked, order_entries, any_entries, sign_entries};
 
-use crate::comparison::rel_of;
 use crate::lines::as_lines;
-use crate::logic::known;
 use crate::pair::{frac_pair, number_pair, plane_pair, text_pair, truth_pair};
 use crate::temporal::bool_or_null;
 use crate::unfailing::without_formula;
 use mob_ast::{Cmp, SqlType};
 use mob_compare::compare;
 use mob_ever::{always, ever};
+use mob_meaning::Scope;
+use mob_ordinary::comparison::rel_of;
+use mob_ordinary::logic::known;
 use mob_slice::{Compared, OpFault, Operand, Passed, Ranked, Rel, Steady};
 use mob_value::Value;
 use std::alloc::{AllocError, Global};
-
-/// At which of the instants at which both operands have a value a sign asks for its comparison.
-#[derive(Clone, Copy, Debug, PartialEq, Eq)]
-pub enum Scope {
-    /// `#`: at each of them, which gives a tbool.
-    Each,
-    /// `?`: at some of them.
-    Ever,
-    /// `%`: at every one of them.
-    Always,
-}
 
 // The comparison of two operands at each instant.
 fn compared<C: Compared + Drop>(

@@ -1,6 +1,6 @@
 // Steady courses, lists and texts.
 
-use crate::spans::span;
+use crate::lines::span;
 use mob_frac::Frac;
 use mob_list::items::Items;
 use mob_list::text::Text;

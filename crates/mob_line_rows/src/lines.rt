@@ -12,20 +12,22 @@ type Row = (i64, i64, bool, bool, i64, i64);
 // A fraction by its parts.
 type Parts = (i64, i64);
 
+/// The span with these ends, of which each is included or not.
+pub fn span(ends: (i64, i64, bool, bool)) -> Option<Span> {
+    match (Frac::new(ends.0, 1), Frac::new(ends.1, 1)) {
+        (Ok(lower), Ok(upper)) => Span::new(lower, upper, ends.2, ends.3),
+        _ => None,
+    }
+}
+
 fn line(row: &Row) -> Option<(Span, Line)> {
     let (lower, upper, lower_inc, upper_inc, from, to) = *row;
     match (
-        Frac::new(lower, 1),
-        Frac::new(upper, 1),
+        span((lower, upper, lower_inc, upper_inc)),
         Frac::new(from, 1),
         Frac::new(to, 1),
     ) {
-        (Ok(lower), Ok(upper), Ok(from), Ok(to)) => {
-            match Span::new(lower, upper, lower_inc, upper_inc) {
-                Some(span) => Some((span, Line { from, to })),
-                None => None,
-            }
-        }
+        (Some(span), Ok(from), Ok(to)) => Some((span, Line { from, to })),
         _ => None,
     }
 }

@@ -9,7 +9,7 @@ ghost use Rattle.mob_load.specs.Loads.{LoadsTo, HasFaultCause, HasNarrow, IsFaul
 ghost use Rattle.mob_load.specs.declared.program.LoadEnd.TheVariants.{NoMemory, Refused};
 
 use crate::check::Check;
-use crate::file::read_file;
+use crate::file::{FileEnd, read_file};
 use crate::loading::Loading;
 use crate::program::LoadEnd;
 use mob_ast::{Kind, Refusal, SqlType};
@@ -203,12 +203,13 @@ fn load_file<F: Files>(
     ensures may_ask { MayAskFor name.now (F.asked files.old) (F.asked files.new) }
     ensures later { F.faults files.old ≤ F.faults files.new }
 {
-    let Some(bytes) = read_file(alloc, files, name.as_str())? else {
-        return Err(LoadEnd::ReadFault {
+    match read_file(alloc, files, name.as_str()) {
+        Ok(bytes) => load_bytes(alloc, loading, table, name, &bytes, epoch),
+        Err(FileEnd::NotOpened | FileEnd::Fault) => Err(LoadEnd::ReadFault {
             file: name.copy(alloc)?,
-        });
-    };
-    load_bytes(alloc, loading, table, name, &bytes, epoch)
+        }),
+        Err(FileEnd::NoMemory) => Err(LoadEnd::NoMemory),
+    }
 }
 
 /// One check, and what was read so far. A script is refused at the first check that fails.

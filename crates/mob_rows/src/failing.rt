@@ -1,5 +1,5 @@
 // Ends whose k-th call fails, for each k until no call is the k-th, in runs without a word. What whole scripts answer stands in
-// `checks/rows`.
+// `checks/rows`. How often an end has failed it tells contracts alone (clauses `fails`, `counts` and `failed` of the ends in memory).
 
 use crate::runs::{Failing, Report, run_once};
 use std::alloc::{AllocError, Global};
@@ -33,7 +33,7 @@ const COPY: &str =
 
 const FILE: &[u8] = b"k\n1\n2\n3\n";
 
-static FAILED: [Failed; 5] = [
+static FAILED: [Failed; 7] = [
     // An empty script has one call, which meets the end.
     (
         End::Script,
@@ -73,6 +73,41 @@ static FAILED: [Failed; 5] = [
             (0, 13, 0),
             (0, 13, 0),
         ],
+    ),
+    // The script has 99 bytes, so there are 16 calls: fifteen with bytes, and one that meets the end.
+    (
+        End::Script,
+        COPY,
+        "k\n3\n(1 rows)\n",
+        "read fault: script\n",
+        &[
+            (3, 0, 19),
+            (3, 0, 19),
+            (3, 0, 19),
+            (3, 0, 19),
+            (3, 0, 19),
+            (3, 0, 19),
+            (3, 0, 19),
+            (3, 0, 19),
+            (3, 0, 19),
+            (3, 0, 19),
+            (3, 0, 19),
+            (3, 0, 19),
+            (3, 0, 19),
+            (3, 0, 19),
+            (3, 0, 19),
+            (3, 0, 19),
+            (0, 13, 0),
+            (0, 13, 0),
+        ],
+    ),
+    // The answer has 13 bytes, so there are 2 calls.
+    (
+        End::Out,
+        COPY,
+        "k\n3\n(1 rows)\n",
+        "write fault\n",
+        &[(4, 0, 12), (4, 7, 12), (0, 13, 0), (0, 13, 0)],
     ),
     // The answer has 37 bytes, so there are 6 calls, of which each before the failing one took 7 bytes.
     (

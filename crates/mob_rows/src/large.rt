@@ -14,7 +14,7 @@ SELECT a.id AS a, b.id AS b FROM p a, p b WHERE a.trip && b.trip LIMIT 2;
 
 const ANSWER: &[u8] = b"a,b\n1,1\n2,2\n(2 rows)\n";
 
-// A table file of points beside one another: the point of row k stands at (k 0), all at one instant.
+// A table file of points beside one another, and of one far from them all: the point of row k stands at (k 0), all at one instant.
 fn points(alloc: Global, count: u32) -> Result<Vec<u8>, AllocError> {
     let mut file = b"id,trip\n".to_vec(alloc)?;
     let mut digits = Buffer::new();
@@ -25,6 +25,7 @@ fn points(alloc: Global, count: u32) -> Result<Vec<u8>, AllocError> {
         file.extend_from_slice(number)?;
         file.extend_from_slice(b" 0)@2001-01-01\n")?;
     }
+    file.extend_from_slice(b"0,POINT(4611686018427387903 0)@2001-01-01\n")?;
     Ok(file)
 }
 

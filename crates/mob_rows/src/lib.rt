@@ -1,4 +1,5 @@
-//! Tests of whole runs: ends whose calls fail, a large join, the ends by themselves, and the words. Rows of whole scripts stand in `checks/rows`.
+//! Tests of whole runs: ends whose calls fail, a large join, many workers, the demo, the ends by themselves, and the words. Rows of whole
+//! scripts stand in `checks/rows`.
 #![tactic(auto)]
 
 #[cfg(test)]
@@ -11,3 +12,5 @@ mod outside;
 mod runs;
 #[cfg(test)]
 mod words;
+#[cfg(test)]
+mod workers;

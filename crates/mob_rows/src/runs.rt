@@ -1,6 +1,6 @@
 // One run over ends in memory.
 
-use mob_outside::{MemFiles, MemSink, MemSource, OpenGate};
+use mob_outside::{Gate, MemFiles, MemSink, MemSource, OpenGate};
 use mob_shell::run;
 use std::alloc::{AllocError, Global};
 use std::thread::Threads;
@@ -46,6 +46,19 @@ pub fn run_once(
     named: &[(&str, &[u8])],
     failing: Failing,
 ) -> Result<Report, AllocError> {
+    run_through(rt, alloc, words, script, named, failing, &OpenGate)
+}
+
+/// The same, with a gate that the pieces of its work pass.
+pub fn run_through(
+    rt: &(impl Threads + Sync),
+    alloc: Global,
+    words: &[&str],
+    script: &[u8],
+    named: &[(&str, &[u8])],
+    failing: Failing,
+    gate: &impl Gate,
+) -> Result<Report, AllocError> {
     let mut list = Vec::new(alloc);
     for word in words {
         list.push(String::from_str(alloc, word)?)?;
@@ -66,7 +79,7 @@ pub fn run_once(
         &mut files,
         &mut out,
         &mut notes,
-        &OpenGate,
+        gate,
     );
     Ok(Report {
         status,

@@ -3,20 +3,24 @@
 use mob_words::settings;
 use std::alloc::{AllocError, Global};
 
-// Words, and the workers and the day of the epoch that they say.
-static ROWS: [(&[&str], u32, i64); 8] = [
-    (&[], 1, 10957),
-    (&["mobsql"], 1, 10957),
-    (&["mobsql", "--workers", "3"], 3, 10957),
-    (&["mobsql", "--workers=3"], 3, 10957),
-    (&["mobsql", "--workers=1"], 1, 10957),
-    (&["mobsql", "--workers", "64"], 64, 10957),
-    (&["mobsql", "--epoch", "2001-01-01"], 1, 11323),
+// Words, and the workers, the day of the epoch and the ships of the demo that they say. No ship stands for no demo.
+static ROWS: [(&[&str], u32, i64, u32); 11] = [
+    (&[], 1, 10957, 0),
+    (&["mobsql"], 1, 10957, 0),
+    (&["mobsql", "--workers", "3"], 3, 10957, 0),
+    (&["mobsql", "--workers=3"], 3, 10957, 0),
+    (&["mobsql", "--workers=1"], 1, 10957, 0),
+    (&["mobsql", "--workers", "64"], 64, 10957, 0),
+    (&["mobsql", "--epoch", "2001-01-01"], 1, 11323, 0),
     (
         &["mobsql", "--epoch=2001-01-01", "--workers", "10"],
         10,
         11323,
+        0,
     ),
+    (&["mobsql", "--demo", "1"], 1, 10957, 1),
+    (&["mobsql", "--demo=1000"], 1, 10957, 1000),
+    (&["mobsql", "--demo", "200", "--workers=64"], 64, 10957, 200),
 ];
 
 fn listed(alloc: Global, words: &[&str]) -> Result<Vec<String>, AllocError> {
@@ -27,23 +31,27 @@ fn listed(alloc: Global, words: &[&str]) -> Result<Vec<String>, AllocError> {
     Ok(list)
 }
 
-fn say(alloc: Global, words: &[String], workers: u32, day: i64) -> bool {
+fn say(alloc: Global, words: &[String], workers: u32, day: i64, ships: u32) -> bool {
     match &settings(alloc, words) {
-        Ok(Some(settings)) => settings.workers == workers && settings.epoch.day() == day,
+        Ok(Some(settings)) => {
+            settings.workers == workers
+                && settings.epoch.day() == day
+                && settings.demo.unwrap_or(0) == ships
+        }
         _ => false,
     }
 }
 
-fn are_taken(alloc: Global, words: &[&str], workers: u32, day: i64) -> bool {
+fn are_taken(alloc: Global, words: &[&str], workers: u32, day: i64, ships: u32) -> bool {
     match &listed(alloc, words) {
-        Ok(list) => say(alloc, list, workers, day),
+        Ok(list) => say(alloc, list, workers, day, ships),
         Err(_) => false,
     }
 }
 
 #[test]
 fn words_say_their_settings(rt: HostRuntime) {
-    for (words, workers, day) in &ROWS {
-        assert!(rt; are_taken(rt.alloc(), words, *workers, *day));
+    for (words, workers, day, ships) in &ROWS {
+        assert!(rt; are_taken(rt.alloc(), words, *workers, *day, *ships));
     }
 }

@@ -1,4 +1,4 @@
--- How sums over a forest change where a branch_height is packed.
+-- How sums over a forest change where a level is packed.
 use Rattle.std.proofs.Common.{◌≡◌, refl, ℕ, zero, suc, ◌+◌, ◌<◌, ◌≤◌, Bool, true, false, cond, not, ◌==◌, ◌&&◌, List, [], ◌∷◌, ◌++◌, length, get_or, map, arith, ap, sym, ◌∙◌, subst}
 use Rattle.std.specs.Prelude.{All, sum_by, count_by, Result, Ok, Err, OnOk, IfOk}
 use Rattle.std.proofs.lemmas.Bool.{ne_eqb}

@@ -1,4 +1,4 @@
--- How an arena of nodes changes where an entry is taken_out out.
+-- How an arena of nodes changes where an entry is taken out.
 use Rattle.std.specs.Prelude.{◌≡◌, ℕ, ◌+◌, ◌<◌, ◌≤◌, ◌&&◌, Bool, true, cond, ◌==◌, List, [], All, sum_by, length, set, get_or}
 use Rattle.mob_stbox.specs.Boxes.{BoxOf, contains, is_whole, same_box}
 use Rattle.mob_rtree_nodes.specs.Tree.{Kid, EntryOf, target, Ref, IsTree, IsAdded, entries_list, IsSoundNode, nodes_sum, refs_sum, entries_sum, height_at, walk_sum}
@@ -60,13 +60,13 @@ pub record IsShrunk (old : List TreeNode) (n : ℕ) (e : EntryOf) (result : Remo
   pub size : length new ≡ length old
   pub whole : is_whole_left result ≡ true
 
--- what is said where an entry was to be taken_out out below node n
+-- what is said where an entry was to be taken out below node n
 abbrev pub IsRemoved : List TreeNode → ℕ → EntryOf → Removed → List TreeNode → Type 0
 IsRemoved old n e Missing new = walk_sum (λ a. contains a e.0) 0 (hit e) old (height_at old n) n ≡ 0
 IsRemoved old n e (Narrowed b) new = IsShrunk old n e (Narrowed b) new
 IsRemoved old n e Emptied new = IsShrunk old n e Emptied new
 
--- what is said where an entry was to be taken_out out of a tree
+-- what is said where an entry was to be taken out of a tree
 abbrev pub IsTakenOut : Ref → List TreeNode → EntryOf → Removed → List TreeNode → Type 0
 IsTakenOut root old e Missing new = All (λ x. x ≡ e → ⊥) (entries_list old)
 IsTakenOut root old e (Narrowed b) new = IsTree (record { area = b; node = root.node; height = root.height }) new × IsAdded (entries_list new) e (entries_list old)

@@ -2,28 +2,27 @@
 ghost use Rattle.std.specs.Prelude.{◌≡◌, ℕ, ◌+◌, ◌*◌, ◌^◌, ◌<◌, ◌≤◌, sum_by, count_by, length, map, OnOk, IfOk, All, true, not, List, [], ◌∷◌, ◌++◌};
 ghost use Rattle.std.specs.Vec.{vec_len};
 ghost use Rattle.arrayvec.specs.ArrayVec.{array_vec_len};
-ghost use Rattle.mob_stbox.specs.Boxes.{is_whole};
 ghost use Rattle.mob_rtree_nodes.specs.Tree.{IsTree, IsSoundNode, Kid, EntryOf, entry_of, ref, is_fit, entries_sum, AreLive};
 ghost use Rattle.mob_rtree_nodes.specs.Builds.{kid_of, IsForest, IsPacking, IsClosed, leaf_sum};
 
 use crate::insert::cover_all;
-use crate::lengths::place_of;
 use crate::node::{Child, Root, TreeNode};
+use crate::places::Ranks;
 use arrayvec::ArrayVec;
 use mob_stbox::StBox;
 use std::alloc::{AllocError, Global};
 
-/// Children with the places that they are to be ordered by, each computed once.
-fn keyed(
-    alloc: Global,
-    kids: &[(StBox, Child)],
-    over: &StBox,
-) -> Result<Vec<(u64, (StBox, Child))>, AllocError>
+/// Children with the places that they are to be ordered by, each computed once: neighbours among these numbers lie near one another.
+fn keyed(alloc: Global, kids: &[(StBox, Child)]) -> Result<Vec<(u64, (StBox, Child))>, AllocError>
     ensures { IfOk result (λ pairs. map (λ p. p.1) pairs.items ≡ kids.now) }
 {
+    let x = Ranks::along(alloc, kids, 0)?;
+    let y = Ranks::along(alloc, kids, 1)?;
+    let time = Ranks::along(alloc, kids, 2)?;
     let mut pairs = Vec::new(alloc);
-    for kid in kids {
-        pairs.push((place_of(&kid.0, over), *kid))?;
+    for (i, kid) in kids.iter().enumerate() {
+        let place = x.spread_place(i) | (y.spread_place(i) << 1) | (time.spread_place(i) << 2);
+        pairs.push((place, *kid))?;
     }
     Ok(pairs)
 }
@@ -47,13 +46,10 @@ pub fn gather_near(
     alloc: Global,
     kids: &[(StBox, Child)],
 ) -> Result<Vec<(StBox, Child)>, AllocError>
-    requires some { 0 < length kids.now }
-    requires whole { count_by (λ k. not (is_whole k.0)) kids.now ≡ 0 }
     ensures kids { IfOk result (λ near. (f : Kid → ℕ) → sum_by f near.items ≡ sum_by f kids.now) }
     ensures len { IfOk result (λ near. length near.items ≡ length kids.now) }
 {
-    let over = cover_all(kids);
-    let mut pairs = keyed(alloc, kids, &over)?;
+    let mut pairs = keyed(alloc, kids)?;
     pairs.sort_unstable_by_key(|pair| pair.0);
     unkeyed(alloc, pairs.as_slice())
 }
@@ -69,7 +65,7 @@ pub fn leaf_kids(alloc: Global, entries: &[(StBox, u32)]) -> Result<Vec<(StBox, 
     Ok(kids)
 }
 
-/// Makes a node of these children, and puts it among those of its branch_height.
+/// Makes a node of these children, and puts it among those of its level.
 fn close(
     nodes: &mut Vec<TreeNode>,
     above: &mut Vec<(StBox, Child)>,
@@ -94,7 +90,7 @@ fn close(
     Ok(())
 }
 
-/// Puts one more child into a branch_height.
+/// Puts one more child into a level.
 fn pack_one(
     nodes: &mut Vec<TreeNode>,
     above: &mut Vec<(StBox, Child)>,
@@ -119,7 +115,7 @@ fn pack_one(
     Ok(next)
 }
 
-/// Packs the children of a branch_height into nodes, and answers the branch_height above.
+/// Packs the children of a level into nodes, and answers the level above.
 fn pack(
     alloc: Global,
     nodes: &mut Vec<TreeNode>,
@@ -141,7 +137,7 @@ fn pack(
     Ok(above)
 }
 
-/// Packs branch_height upon branch_height, and answers the root.
+/// Packs level upon level, and answers the root.
 pub fn raise(
     alloc: Global,
     nodes: &mut Vec<TreeNode>,

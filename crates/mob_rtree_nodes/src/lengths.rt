@@ -1,13 +1,13 @@
-//! About how long the sides of boxes are, in whole parts of 2^-20. Where children lie in the tree is chosen by these numbers, and no
-//! clause speaks of them: a tree finds the same entries wherever they lie. Lengths tell apart boxes of no area too, as those of points.
+//! About how long the sides of boxes are, in whole parts of 2^-62. Where an entry is put in is chosen by these numbers, and no clause speaks of
+//! them: a tree finds the same entries wherever they lie. Lengths tell apart boxes of no area too, as those of points.
 
 use mob_frac::Frac;
 use mob_span::Span;
 use mob_stbox::{Area, StBox};
 
-/// About 2^20 times the fraction.
+/// About 2^62 times the fraction.
 fn rounded(f: &Frac) -> i128 {
-    let parts = (f.num() as i128).saturating_mul(1048576);
+    let parts = (f.num() as i128).saturating_mul(4611686018427387904);
     if f.den() == 1 {
         return parts;
     }
@@ -96,29 +96,4 @@ pub fn longest(b: &StBox) -> u8 {
     } else {
         2
     }
-}
-
-/// Takes the bits of a number apart, so that two others fit between each two.
-fn spread(number: u64) -> u64 {
-    let mut n = number;
-    n = (n | (n << 32)) & 0x1f00000000ffff;
-    n = (n | (n << 16)) & 0x1f0000ff0000ff;
-    n = (n | (n << 8)) & 0x100f00f00f00f00f;
-    n = (n | (n << 4)) & 0x10c30c30c30c30c3;
-    (n | (n << 2)) & 0x1249249249249249
-}
-
-/// Where the middle of a box is along an axis of a box over it, in parts of its side.
-fn step_of(b: &StBox, over: &StBox, axis: u8) -> u64 {
-    let from = middle_of(b, axis).abs_diff(least_of(over, axis).saturating_mul(2));
-    let part = length_of(over, axis) / 524288;
-    ((from / part.saturating_add(1)) % 2097152) as u64
-}
-
-/// Where the middle of a box is in a box over it, as a number whose neighbours lie near one another.
-pub fn place_of(b: &StBox, over: &StBox) -> u64 {
-    let x = spread(step_of(b, over, 0));
-    let y = spread(step_of(b, over, 1));
-    let time = spread(step_of(b, over, 2));
-    x | (y << 1) | (time << 2)
 }

@@ -7,6 +7,7 @@ pub mod build;
 pub mod insert;
 mod lengths;
 pub mod node;
+mod places;
 pub mod remove;
 pub mod search;
 pub mod whole;

@@ -10,7 +10,7 @@ use crate::insert::{cover_all, widen};
 use crate::node::{Child, TreeNode};
 use mob_stbox::StBox;
 
-/// What became of a node when an entry was to be taken_out out below it: it was not there, the node has a narrower box,
+/// What became of a node when an entry was to be taken out below it: it was not there, the node has a narrower box,
 /// or it has no child any more.
 #[derive(Clone, Copy)]
 pub enum Removed {

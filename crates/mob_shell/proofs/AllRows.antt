@@ -1,5 +1,5 @@
 -- All rows are there while a program runs.
-use Rattle.std.proofs.Common.{◌≡◌, sym, subst, ℕ, ℤ, List, [], ◌∷◌, map}
+use Rattle.std.proofs.Common.{sym, subst, ℕ, ℤ, List, [], ◌∷◌, map}
 use Rattle.mob_typed.specs.Statements.{StatementOut, nothing, new_table, new_index, new_rows, rows_from, query, plan_of}
 use Rattle.mob_value.specs.declared.value.Value.{Value}
 use Rattle.mob_catalog.specs.Catalogue.{Catalogue, with_row}

@@ -10,8 +10,8 @@ use Rattle.mob_typing.specs.Stands.{operators_in, operators_among, operators_of,
 use Rattle.mob_typing.specs.WellTyped.{condition_alone, expressions_of}
 use Rattle.mob_accept.specs.Numbers.{OperatorsAreNumbered, statement_number}
 use Rattle.mob_catalog.specs.Catalogue.{Catalogue}
-use Rattle.mob_eval.specs.Scene.{Scene, scene}
-use Rattle.mob_eval.specs.Evaluation.{Fault, TreeEvaluatesTo, OperandsEvaluateTo, stop_of}
+use Rattle.mob_meaning.specs.Scene.{Scene, scene}
+use Rattle.mob_meaning.specs.Evaluation.{Fault, TreeEvaluatesTo, OperandsEvaluateTo, stop_of}
 use Rattle.mob_eval.specs.QueryFaults.{TupleFault}
 use Rattle.mob_join.specs.Query.{FailsBy}
 use Rattle.mob_tail.specs.Answers.{IsField, IsKey, IsRowOf, IsTupleRow}

@@ -5,9 +5,9 @@ use Rattle.mob_typed.specs.Trees.{TypedTree}
 use Rattle.mob_typed.specs.Selects.{TypedSelectParts}
 use Rattle.mob_typed.specs.Statements.{StatementOut, query}
 use Rattle.mob_catalog.specs.Catalogue.{Catalogue}
-use Rattle.mob_eval.specs.Scene.{Scene, scene}
-use Rattle.mob_eval.specs.Evaluation.{Fault, TreeEvaluatesTo}
-use Rattle.mob_eval.specs.Passes.{FaultsPass, FitsOn}
+use Rattle.mob_meaning.specs.Scene.{Scene, scene}
+use Rattle.mob_meaning.specs.Evaluation.{Fault, TreeEvaluatesTo}
+use Rattle.mob_meaning.specs.Passes.{FaultsPass, FitsOn}
 use Rattle.mob_eval.specs.QueryFaults.{TupleFault}
 use Rattle.mob_join.specs.Query.{FailsBy}
 use Rattle.mob_tail.specs.Answers.{IsField, IsKey, IsTupleRow}

@@ -4,6 +4,8 @@ mod OneStep
 mod Running
 mod Seen
 pub mod Whole
+mod DemoRun
+mod Settings
 mod Statuses
 mod OneRun
 mod OneOutcome

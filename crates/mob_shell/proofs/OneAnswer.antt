@@ -2,7 +2,7 @@
 use Rattle.std.proofs.Common.{◌≡◌, inl, inr, ℤ, ℕ, List, Result, Ok, Err, ap, subst}
 use Rattle.mob_typed.specs.Selects.{TypedSelectParts}
 use Rattle.mob_catalog.specs.Catalogue.{Catalogue}
-use Rattle.mob_eval.specs.Outcomes.{IsOne}
+use Rattle.mob_meaning.specs.Outcomes.{IsOne}
 use Rattle.mob_eval.specs.QueryFaults.{TupleFault}
 use Rattle.mob_join.specs.Query.{IsKept}
 use Rattle.mob_tail.specs.Answers.{IsAnswerOnKept}

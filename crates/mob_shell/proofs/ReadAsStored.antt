@@ -17,8 +17,8 @@ use Rattle.mob_catalog.specs.Catalogue.{Catalogue}
 use Rattle.mob_catalog.specs.OwnTypes.{HasColumnTypes}
 use Rattle.mob_catalog.specs.TypedTables.{HoldsLiveRows, HoldsLiveTables, HoldsTypedRows, HoldsTypedTables, head_columns}
 use Rattle.mob_catalog.specs.declared.catalog.TableHead.{TableHead}
-use Rattle.mob_eval.specs.Scene.{Scene, scene}
-use Rattle.mob_eval.specs.Stored.{ConstantsAreRead, ColumnsAreRead}
+use Rattle.mob_meaning.specs.Scene.{Scene, scene}
+use Rattle.mob_meaning.specs.Stored.{ConstantsAreRead, ColumnsAreRead}
 use Rattle.mob_tuples.specs.Tuples.{StandsIn}
 use Rattle.mob_join.specs.TypedFor.{AllHaveStoredTypes, HasStoredType, HasStoredTypes}
 use Rattle.mob_shell.specs.StoredTypes.{QueriesAreTyped}

@@ -1,5 +1,5 @@
 -- The rows of the files that a script copies have the types of the tables into which they go.
-use Rattle.std.proofs.Common.{◌≡◌, ◌∙◌, refl, sym, ap, subst, Bool, true, false, ℕ, ℤ, ◌+◌, ◌-◌, List, [], ◌∷◌, ◌++◌, map, Some, Ok, append_assoc, append-nil}
+use Rattle.std.proofs.Common.{◌≡◌, ◌∙◌, refl, sym, ap, subst, Bool, true, false, ℕ, ℤ, ◌-◌, List, [], ◌∷◌, ◌++◌, map, Some, Ok, append_assoc, append-nil}
 use Rattle.std.specs.Prelude.{nat_lt, slice_get, if◌then◌else◌}
 use Rattle.std.specs.List.{AllByRecursion}
 use Rattle.mob_value.specs.declared.value.Value.{Value}

@@ -8,8 +8,8 @@ use Rattle.mob_typed.specs.Selects.{TypedSelectParts}
 use Rattle.mob_typed.specs.Statements.{ScriptOut, query}
 use Rattle.mob_catalog.specs.Catalogue.{Catalogue}
 use Rattle.mob_load.specs.declared.program.Program.{Program}
-use Rattle.mob_eval.specs.Scene.{scene}
-use Rattle.mob_eval.specs.Passes.{FitsOn}
+use Rattle.mob_meaning.specs.Scene.{scene}
+use Rattle.mob_meaning.specs.Passes.{FitsOn}
 use Rattle.mob_plan.specs.Plans.{planned}
 use Rattle.mob_tuples.specs.Ranges.{IsAnyVisit}
 use Rattle.mob_join.specs.Rows.{StepGives}

@@ -12,8 +12,8 @@ use Rattle.mob_catalog.specs.Catalogue.{Catalogue, live_rows}
 use Rattle.mob_plan.specs.Plans.{planned}
 use Rattle.mob_tuples.specs.Ranges.{IsAnyVisit}
 use Rattle.mob_tuples.specs.Tuples.{AreTuples, StandsIn}
-use Rattle.mob_eval.specs.Scene.{Scene, scene, constant_at, column_value}
-use Rattle.mob_eval.specs.Values.{TreeHasValue}
+use Rattle.mob_meaning.specs.Scene.{Scene, scene, constant_at, column_value}
+use Rattle.mob_meaning.specs.Values.{TreeHasValue}
 use Rattle.mob_join.specs.Rows.{TableGives, StepGives}
 use Rattle.mob_join.specs.TypedFor.{IsTypedFor}
 use Rattle.mob_words.specs.declared.options.Settings.{Settings}

@@ -3,7 +3,7 @@ use Rattle.std.specs.Prelude.{◌≡◌, ℕ, ℤ, List, [], ◌∷◌, map, Opt
 use Rattle.mob_value.specs.declared.value.Value.{Value}
 use Rattle.mob_value.specs.declared.value.Value.TheVariants.{Null}
 use Rattle.mob_value.specs.Null.{value_or_null}
-use Rattle.mob_catalog.specs.Catalogue.{Catalogue, new_catalogue, with_empty_table, with_index, with_row}
+use Rattle.mob_catalog.specs.Catalogue.{Catalogue, new_catalogue, with_empty_table, with_index_on, with_row}
 use Rattle.mob_typed.specs.Selects.{TypedSelectParts, Output}
 use Rattle.mob_typed.specs.Statements.{StatementOut, nothing, new_table, new_index, new_rows, rows_from, query, plan_of}
 use Rattle.mob_plan.specs.Plans.{planned}
@@ -56,7 +56,7 @@ CanRun s _ = Unit {0}
 abbrev pub StatementLeaves : ℤ → RunState → StatementOut → RunState → Type 0
 StatementLeaves day s nothing t = t ≡ s
 StatementLeaves day s (new_table n name columns) t = t ≡ record s { catalogue = with_empty_table columns s.catalogue }
-StatementLeaves day s (new_index n c name) t = t ≡ record s { catalogue = with_index name n c s.catalogue }
+StatementLeaves day s (new_index n c name) t = t ≡ record s { catalogue = with_index_on name n c s.catalogue }
 StatementLeaves day s (new_rows n rows places) t = t ≡ record s { catalogue = with_all_rows n (map (inserted_row s.catalogue.store.consts) rows) s.catalogue }
 StatementLeaves day s (rows_from n name) t = t ≡ record s { catalogue = with_all_rows n (next_rows s.files) s.catalogue; files = later_files s.files }
 StatementLeaves day s (query q) t = t ≡ s

@@ -94,7 +94,7 @@ pub fn queries_read_what_is_stored()
     ensures read { QueriesReadWhatIsStored }
 {
     mob_plan::laws::probes_are_served();
-    mob_eval::laws::stored_values_are_read();
+    mob_meaning::laws::stored_values_are_read();
     queries_are_typed();
 }
 

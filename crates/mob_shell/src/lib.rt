@@ -6,6 +6,7 @@
 
 mod answers;
 mod decide;
+mod demo;
 mod engine;
 mod judge;
 pub mod laws;

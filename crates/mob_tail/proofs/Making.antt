@@ -1,7 +1,8 @@
 -- How far a loop is that makes something of each entry of a list.
 use Rattle.std.proofs.Common.{◌≡◌, ◌⊎◌, inl, inr, ℕ, ◌+◌, ◌<◌, List, [], ◌∷◌, ◌++◌, Result, Ok, Err, length, map, take, drop, get_or, ◌≤◌, refl, sym, ap, subst, ◌∙◌, arith}
 use Rattle.std.proofs.lemmas.List.{take_more, take_all, take-append-drop}
-use Rattle.mob_eval.specs.Evaluation.{Fault, OnPassed}
+use Rattle.mob_meaning.specs.Evaluation.{Fault}
+use Rattle.mob_eval.specs.Faults.{OnPassed}
 use Rattle.mob_slice.specs.declared.formula.Formula.{Formula}
 use Rattle.mob_eval.specs.declared.fault.EvalFault.{EvalFault}
 use Rattle.mob_eval.specs.declared.fault.EvalFault.TheVariants.{Passed, NoMemory}

@@ -5,9 +5,9 @@ use Rattle.mob_typed.specs.Trees.{TypedTree}
 use Rattle.mob_typed.specs.Selects.{TypedSelectParts}
 use Rattle.mob_value.specs.declared.store.Store.{Store}
 use Rattle.mob_literal.specs.Fields.{field_text}
-use Rattle.mob_eval.specs.Scene.{Scene, scene}
-use Rattle.mob_eval.specs.Outcomes.{HasOneOutcome, IsOne}
-use Rattle.mob_eval.specs.Evaluation.{Fault}
+use Rattle.mob_meaning.specs.Scene.{Scene, scene}
+use Rattle.mob_meaning.specs.Outcomes.{HasOneOutcome, IsOne}
+use Rattle.mob_meaning.specs.Evaluation.{Fault}
 use Rattle.mob_tail.specs.declared.keyed.Keyed.{Keyed}
 use Rattle.mob_tail.specs.IsMadeOfEach.{IsMadeOfEach}
 use Rattle.mob_tail.specs.Order.{IsOrderedByKeys, compare_rows}

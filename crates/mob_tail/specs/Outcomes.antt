@@ -2,7 +2,7 @@
 use Rattle.std.specs.Prelude.{ℕ, ℤ, List}
 use Rattle.mob_typed.specs.Selects.{TypedSelectParts}
 use Rattle.mob_value.specs.declared.store.Store.{Store}
-use Rattle.mob_eval.specs.Outcomes.{IsOne}
+use Rattle.mob_meaning.specs.Outcomes.{IsOne}
 use Rattle.mob_tail.specs.Answers.{IsAnswerOnKept}
 
 abbrev pub HasOneQueryAnswer : Type 0

@@ -2,9 +2,9 @@
 ghost use Rattle.std.specs.Prelude.{◌≡◌, ◌⊎◌, Ok, Err, IfOk, IfErr};
 ghost use Rattle.std.specs.Fn.{FnReturnsAt};
 ghost use Rattle.mob_typed.specs.Selects.{select_seen, output_of, key_seen};
-ghost use Rattle.mob_eval.specs.Scene.{scene};
+ghost use Rattle.mob_meaning.specs.Scene.{scene};
 ghost use Rattle.mob_eval.specs.Views.{scene_of};
-ghost use Rattle.mob_eval.specs.Evaluation.{OnPassed};
+ghost use Rattle.mob_eval.specs.Faults.{OnPassed};
 ghost use Rattle.mob_eval.specs.QueryFaults.{OnTuple};
 ghost use Rattle.mob_tail.specs.IsMadeOfEach.{IsMadeOfEach};
 ghost use Rattle.mob_tail.specs.Answers.{IsField, IsKey, IsRowOf, IsTupleRow};

@@ -6,5 +6,5 @@ ghost use Rattle.mob_tail.specs.Outcomes.{HasOneQueryAnswer};
 pub fn one_answer_to()
     ensures outcome { HasOneQueryAnswer }
 {
-    mob_eval::laws::one_outcome();
+    mob_meaning::laws::one_outcome();
 }

@@ -1,4 +1,4 @@
-//! Tests of values, as tables: fractions, texts, constants, and queries call by call. What whole scripts answer stands in `checks/rows`.
+//! Tests of values, as tables: fractions, texts, constants and multiples.
 #![tactic(auto)]
 
 #[cfg(test)]
@@ -7,7 +7,5 @@ mod constants;
 mod fractions;
 #[cfg(test)]
 mod multiples;
-#[cfg(test)]
-mod queries;
 #[cfg(test)]
 mod texts;

@@ -7,16 +7,15 @@ use Rattle.mob_load.proofs.Reading.{on_loads}
 use Rattle.mob_load.proofs.Steps.{file_loads}
 use Rattle.mob_load.proofs.checking.load_file.Goals as goal
 
-pub returns-clause-loads : goal.returns-clause-loads
-returns-clause-loads g c =
+pub returns-in-Ok-clause-loads : goal.returns-in-Ok-clause-loads
+returns-in-Ok-clause-loads g c =
     let told = g.F.Files.files c.args.files.now in
-    let read = rw c.in-Some.is at c.in_ok-bytes.ensures.bytes in
-    let named = subst (λ (n : List ℕ). IfSome told (λ m. IsFront n m c.in-Some.bytes.items)) c.as_str.ensures.same read in
+    let named = subst (λ (n : List ℕ). IfSome told (λ m. IsFront n m c.in-Ok.bytes.items)) c.as_str.ensures.same c.in-Ok.ensures.bytes in
     let front = subst (λ (b : List ℕ). IfSome told (λ m. IsFront c.args.name.now m b)) (sym c.deref.ensures.value) named in
     file_loads c.args.epoch.now c.args.table c.args.name.now c.deref.result.now (loaded_of c.args.loading.now) told c.load_bytes.result (loaded_of c.load_bytes.new.loading)
     front c.load_bytes.ensures.loads
 
-pub returns-clause-reads : goal.returns-clause-reads
-returns-clause-reads g c =
+pub returns-in-Ok-clause-reads : goal.returns-in-Ok-clause-reads
+returns-in-Ok-clause-reads g c =
     ok_on c.load_bytes.result (λ h. (c.deref.result.now, h))
     (on_loads (LoadsFile c.args.epoch.now c.args.table c.args.name.now (loaded_of c.args.loading.now) (Some c.deref.result.now)) c.load_bytes.result (loaded_of c.load_bytes.new.loading) c.load_bytes.ensures.loads)

@@ -1,14 +1,9 @@
 use Rattle.std.proofs.Common.{ap, ◌∙◌, sym, subst, ◌+◌, not, []}
 use Rattle.std.specs.Prelude.{count_by, sum_by}
-use Rattle.mob_stbox.specs.Boxes.{is_whole}
 use Rattle.mob_rtree_nodes.specs.Tree.{Kid, is_fit, entries_sum}
 use Rattle.mob_rtree_nodes.specs.Builds.{IsForest, leaf_sum}
-use Rattle.mob_rtree_nodes.proofs.Covers.{fit_whole}
 use Rattle.mob_rtree_nodes.proofs.Builds.{entry_fits, fits_arranged, forest_start, built_same, on_ok}
 use Rattle.mob_rtree_nodes.proofs.whole.raise_entries.Goals as goal
-
-pub gather_near-requires-clause-whole : goal.gather_near-requires-clause-whole
-gather_near-requires-clause-whole c = ap (count_by (λ (k : Kid). not (is_whole k.0))) c.as_slice.ensures.value ∙ fit_whole 0 c.in_ok-kids.kids.items (ap (count_by (λ (k : Kid). not (is_fit 0 k))) c.in_ok-kids.ensures ∙ entry_fits c.args.entries.now c.requires.whole)
 
 pub raise-requires-clause-forest : goal.raise-requires-clause-forest
 raise-requires-clause-forest c =

@@ -6,7 +6,7 @@ use Rattle.mob_shell.specs.Answers.{QueryAnswers}
 use Rattle.mob_shell.proofs.answers.answered.Goals as goal
 
 pub returns-in-Err-clause-fault : goal.returns-in-Err-clause-fault
-returns-in-Err-clause-fault c =
+returns-in-Err-clause-fault g c =
     let select = select_seen c.args.select.now in
     let catalogue = c.args.catalog.now in
     let day = c.args.epoch.now in

@@ -1,7 +1,7 @@
 use Rattle.std.proofs.Common.{rules, ◌≡◌, ◌++◌, ◌∷◌, [], Ok, Err, ℕ, List, arith, subst}
 use Rattle.mob_typed.specs.Selects.{select_seen}
-use Rattle.mob_eval.specs.Scene.{scene}
-use Rattle.mob_eval.specs.Evaluation.{OnPassed}
+use Rattle.mob_meaning.specs.Scene.{scene}
+use Rattle.mob_eval.specs.Faults.{OnPassed}
 use Rattle.mob_eval.proofs.QueryFaults.{on_tuple}
 use Rattle.mob_tail.specs.IsMadeOfEach.{IsMadeOfEach}
 use Rattle.mob_tail.specs.Answers.{IsTupleRow, IsRowOf}

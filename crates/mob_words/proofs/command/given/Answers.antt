@@ -26,6 +26,14 @@ returns-in-Ok-clause-epoch c =
     c.get_str-in-Ok.ensures ∙ first_value-rows (found_of c.in-Ok.matches) (codes "epoch")
     ∙ ap (first_of (codes "epoch")) ((c.in-Ok.ensures.matches (ap is_simple is ∙ command_is_simple)).0 ∙ ap (λ (a : App). matches_of a words) is)
 
+pub returns-in-Ok-clause-demo : goal.returns-in-Ok-clause-demo
+unfolding option_value
+returns-in-Ok-clause-demo c =
+    let is : app_of c.in_ok-command.command ≡ command = c.in_ok-command.ensures.command in
+    let words = map string_bytes c.args.words.now in
+    c.get_str-in-Ok-2.ensures ∙ first_value-rows (found_of c.in-Ok.matches) (codes "demo")
+    ∙ ap (first_of (codes "demo")) ((c.in-Ok.ensures.matches (ap is_simple is ∙ command_is_simple)).0 ∙ ap (λ (a : App). matches_of a words) is)
+
 pub returns : goal.returns
 returns c =
     let is : app_of c.in_ok-command.command ≡ command = c.in_ok-command.ensures.command in
@@ -37,4 +45,5 @@ returns c =
       ];
       workers = tt;
       epoch = tt;
+      demo = tt;
     }

@@ -1,0 +1,28 @@
+#!/bin/sh
+# Each prefix of a script: it is taken or refused, and what is refused writes nothing.
+# `sh checks/prefixes.sh PROGRAM` takes a program that is there; without a word one is built.
+. "$(dirname "$0")/common"
+
+cat > "$work/script.sql" <<'END'
+CREATE TABLE t (id int, k int);
+INSERT INTO t VALUES (1, 5), (2, NULL), (3, 4), (4, 5);
+SELECT id FROM t ORDER BY k DESC;
+SELECT id FROM t ORDER BY k LIMIT 3;
+END
+
+length=$(wc -c < "$work/script.sql")
+count=0
+while [ "$count" -le "$length" ]; do
+    status=0
+    head -c "$count" "$work/script.sql" | "$program" > "$work/answer" 2> "$work/note" || status=$?
+    lines=$(wc -l < "$work/note")
+    case "$status $lines" in
+        "0 0") ;;
+        "7 1") [ ! -s "$work/answer" ] || { echo "prefixes: FAILED: the first $count bytes are refused, and something is written"; exit 1; } ;;
+        *) echo "prefixes: FAILED: the first $count bytes end with status $status and $lines lines of notes"; exit 1 ;;
+    esac
+    count=$((count + 1))
+done
+printf 'id\n2\n1\n4\n3\n(4 rows)\nid\n3\n1\n4\n(3 rows)\n' > "$work/wanted"
+cmp "$work/answer" "$work/wanted" || { echo "prefixes: FAILED: the whole script"; exit 1; }
+echo "prefixes: $count tried, as expected"

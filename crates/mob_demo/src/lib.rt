@@ -1,0 +1,10 @@
+//! The input of the demo: a table file of ships that go to and fro in a square for an hour, and a script that asks of them.
+#![tactic(auto)]
+
+pub mod laws;
+mod places;
+mod script;
+mod table;
+
+pub use script::demo_script;
+pub use table::demo_file;

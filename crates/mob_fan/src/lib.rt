@@ -1,0 +1,11 @@
+//! A range of work, divided among threads. The answer is that of the whole range done at once, for every number of workers.
+#![tactic(auto)]
+
+mod dividing;
+pub mod laws;
+mod outcomes;
+mod work;
+
+pub use dividing::fan;
+pub use outcomes::Outcome;
+pub use work::Work;

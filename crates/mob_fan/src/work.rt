@@ -1,0 +1,33 @@
+ghost use Rattle.std.specs.Prelude.{ℕ, ◌≤◌, List, Result, IfOk};
+ghost use Rattle.mob_fan.specs.Outcomes.{IsWork, outcome_seen};
+
+use crate::outcomes::Outcome;
+use std::alloc::{AllocError, Global};
+use std::marker::{Send, Sync};
+
+/// Work on a range of numbers, from 0 up to its size. Each range within it has an outcome, and that of a range is made of those of
+/// its two neighbouring parts.
+pub trait Work: Sync {
+    /// What the work gives, in order.
+    type Item: Send + Drop;
+
+    /// Why a range has no items.
+    type Fault: Send + Drop;
+
+    ghost size_of: { Self → ℕ };
+
+    ghost comes: { Self → ℕ → ℕ → Result (List Self.Item) Self.Fault → Type 0 };
+
+    /// The outcome of the range from `from` up to `to`. Want of memory is no part of it.
+    fn piece(
+        &self,
+        alloc: Global,
+        from: usize,
+        to: usize,
+    ) -> Result<Outcome<Self::Item, Self::Fault>, AllocError>
+        requires order { from ≤ to }
+        requires range { to ≤ size_of self.now }
+        ensures outcome { IfOk result (λ o. comes self.now from to (outcome_seen o)) };
+
+    ghost law: { IsWork size_of comes };
+}

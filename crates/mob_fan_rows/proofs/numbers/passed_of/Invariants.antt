@@ -1,0 +1,8 @@
+-- What has passed, and what is left, give what all of them give.
+use Rattle.std.proofs.Common.{◌≡◌, drop, Ok}
+use Rattle.mob_fan.specs.Outcomes.{joined_outcomes}
+use Rattle.mob_fan_rows.specs.Numbers.{passed}
+use Rattle.mob_fan_rows.proofs.numbers.passed_of.Given as goal
+
+abbrev pub invariant-loop-number : goal.invariant-loop-number
+invariant-loop-number l = joined_outcomes (Ok l.items) (passed l.limit (drop l.number-index l.numbers)) ≡ passed l.limit l.numbers

@@ -1,0 +1,48 @@
+-- Normal lists of slices that are one function of time are one list, by the course of their values.
+use Rattle.std.proofs.Common.{◌≡◌, Bool, false, List, map, refl, ap, sym, ◌∙◌}
+use Rattle.std.specs.Prelude.{IsTrue, ◌↔◌}
+use Rattle.mob_ratio.specs.Ratio.{Ratio}
+use Rattle.mob_ratio.specs.Order.{same}
+use Rattle.mob_slice.specs.Course.{IsCourse}
+use Rattle.mob_slice.specs.CourseOf.{CourseOf, steady_course, line_course, plane_course}
+use Rattle.mob_slice.specs.LineLaws.{line_laws}
+use Rattle.mob_slice.specs.PlaneLaws.{plane_laws}
+use Rattle.mob_slice.specs.Slices.{value_at, AreNormal, IsNormal}
+use Rattle.mob_slice.specs.SteadyLaws.{steady_laws}
+use Rattle.mob_slice.specs.declared.line.Line.{Line}
+use Rattle.mob_slice.specs.declared.slice.Slice.{Slice}
+use Rattle.mob_normal.specs.Widened.{level_line}
+use Rattle.mob_normal.proofs.Unique.{unique}
+use Rattle.mob_normal.proofs.Widening.{level_normal, level_at}
+use Rattle.mob_ordinary.specs.Moving.{StepSlices, AreNormalBy, step_function, line_function}
+use Rattle.mob_ordinary.specs.Ordinary.{AreOneFunction}
+
+-- two normal lists of slices that are one function of time are one list
+abbrev pub OneList : {C B : Type 0} → CourseOf C B → Type 0
+OneList {C} course = (v w : List (Slice C)) → AreNormal course.start course.end course.continues v → AreNormal course.start course.end course.continues w → ((t : Ratio) → value_at course.value v t ≡ value_at course.value w t) → v ≡ w
+
+-- so it is with steps, with numbers that change evenly, and with points
+pub one_of_steps : {B : Type 0} (is_same : B → B → Bool) → ((a b : B) → IsTrue (is_same a b) ↔ (a ≡ b)) → OneList (steady_course is_same)
+one_of_steps is_same exact = unique (steady_laws false is_same exact)
+
+pub one_of_lines : OneList line_course
+one_of_lines = unique line_laws
+
+pub one_of_points : OneList plane_course
+one_of_points = unique plane_laws
+
+-- lists are one function exactly where they are one list
+module _ {C B : Type 0} {steady copies : Bool} {value : C → Ratio → Ratio → Ratio → B} {start end : C → B} {can_make : B → B → Type 0} {make : B → B → C} {continues : C → C → Ratio → Ratio → Ratio → Bool} {parts : C → Ratio → Ratio → Ratio → List Ratio} (laws : IsCourse steady copies value start end can_make make continues parts) where
+  pub function_test : (a b v w : List (Slice C)) (r : Bool) → v ≡ a → w ≡ b → IsNormal start end continues a → IsNormal start end continues b → IsTrue r ↔ (v ≡ w) → IsTrue r ↔ AreOneFunction (λ t. value_at value a t) (λ t. value_at value b t)
+  function_test a b v w r e f n m h = (
+    λ k t. ap (λ z. value_at value z t) (sym e ∙ h.0 k ∙ f),
+    λ k. h.1 (e ∙ unique laws a b n.chained m.chained k ∙ sym f),
+  )
+
+-- steps are the function of a list of lines exactly where that is the list of their level lines
+pub level_test : (a v : StepSlices Ratio) (b w : List (Slice Line)) (r : Bool) → v ≡ a → w ≡ b → AreNormalBy (steady_course same) a → AreNormalBy line_course b → IsTrue r ↔ (map level_line v ≡ w) → IsTrue r ↔ AreOneFunction (step_function a) (line_function b)
+level_test a v b w r e f n m h =
+    let level = ap (map level_line) e in (
+      λ k t. sym (level_at a b (sym f ∙ sym (h.0 k) ∙ level) t),
+      λ k. h.1 (level ∙ one_of_lines (map level_line a) b (level_normal a (map level_line a) n refl).chained m.chained (λ t. level_at a (map level_line a) refl t ∙ k t) ∙ sym f),
+    )

@@ -1,0 +1,116 @@
+-- The ordinary operators. Each is NULL where an operand is NULL, or is no value that it takes.
+use Rattle.std.specs.Prelude.{◌≡◌, ◌↔◌, Bool, true, false, cond, ◌&&◌, ◌||◌, IsTrue, pos, List, [], ◌∷◌, Option, Some, None}
+use Rattle.mob_ratio.specs.Ratio.{Ratio, whole, neg_ℚ}
+use Rattle.mob_ratio.specs.Order.{same}
+use Rattle.mob_ast.specs.declared.types.Cmp.{Cmp}
+use Rattle.mob_ast.specs.declared.types.Cmp.TheVariants as cmp
+use Rattle.mob_slice.specs.declared.comparison.Rel.{Rel}
+use Rattle.mob_slice.specs.declared.comparison.Rel.TheVariants as rel
+use Rattle.mob_slice.specs.Ranks.{holds, compare_ratio, compare_bytes}
+use Rattle.mob_slice.specs.Sameness.{same_bool}
+use Rattle.mob_span.specs.Sets.{in_some}
+use Rattle.mob_span.specs.Span.{SpanOf}
+use Rattle.mob_value.specs.declared.value.Value.{Value}
+use Rattle.mob_value.specs.declared.value.Value.TheVariants.{Null, Bool as Truth, Number, Text, Moment, Point, Span, SpanSet, Box, MovingBool, MovingInt, MovingFrac, MovingText, MovingPoint}
+use Rattle.mob_ordinary.specs.Moving.{OverTime, step_function, line_function, plane_function}
+
+-- the truth value of a value, where it is one
+abbrev pub truth_of : Value → Option Bool
+truth_of (Truth b) = Some b
+truth_of _ = None
+
+-- whether a value is true
+abbrev pub is_true_value : Value → Bool
+is_true_value (Truth b) = b
+is_true_value _ = false
+
+-- a truth value, or NULL where there is none
+abbrev pub known : Option Bool → Value
+known None = Null
+known (Some b) = Truth b
+
+-- AND: false where one operand is false, true where both are true
+abbrev pub conjunction : Option Bool → Option Bool → Option Bool
+conjunction (Some a) (Some b) = Some (a && b)
+conjunction (Some a) None = cond a None (Some false)
+conjunction None (Some b) = cond b None (Some false)
+conjunction None None = None
+
+-- OR: true where one operand is true, false where both are false
+abbrev pub disjunction : Option Bool → Option Bool → Option Bool
+disjunction (Some a) (Some b) = Some (a || b)
+disjunction (Some a) None = cond a (Some true) None
+disjunction None (Some b) = cond b (Some true) None
+disjunction None None = None
+
+-- whether a value is NULL
+abbrev pub is_null : Value → Bool
+is_null Null = true
+is_null _ = false
+
+abbrev pub rel_of : Cmp → Rel
+rel_of cmp.Eq = rel.Eq
+rel_of cmp.Ne = rel.Ne
+rel_of cmp.Lt = rel.Lt
+rel_of cmp.Le = rel.Le
+rel_of cmp.Gt = rel.Gt
+rel_of cmp.Ge = rel.Ge
+
+-- v is the truth value of P where `wanted` is true, and that of its contrary where it is false
+abbrev pub IsTruthOf : Bool → Type 0 → Value → Type 0
+IsTruthOf wanted P v = (c : Bool) × (IsTrue c ↔ P) × (v ≡ Truth (same_bool wanted c))
+
+-- two temporal values are one function of time: at each instant both have the same value, or neither has one
+abbrev pub AreOneFunction : {B : Type 0} → OverTime B → OverTime B → Type 0
+AreOneFunction f g = (t : Ratio) → f t ≡ g t
+
+-- two sets have the same instants
+abbrev pub HaveSameInstants : List SpanOf → List SpanOf → Type 0
+HaveSameInstants a b = (t : Ratio) → in_some a t ≡ in_some b t
+
+-- `=` where `wanted` is true, and `<>` where it is false: points by coordinates, boxes by sides, spans and span sets as sets of instants, temporal
+-- values as functions of time, whether they go by steps or change evenly
+abbrev pub IsEquality : Bool → Value → Value → Value → Type 0
+IsEquality wanted (Truth a) (Truth b) v = IsTruthOf wanted (a ≡ b) v
+IsEquality wanted (Number a) (Number b) v = IsTruthOf wanted (a ≡ b) v
+IsEquality wanted (Text a) (Text b) v = IsTruthOf wanted (a ≡ b) v
+IsEquality wanted (Moment a) (Moment b) v = IsTruthOf wanted (a ≡ b) v
+IsEquality wanted (Point a) (Point b) v = IsTruthOf wanted (a ≡ b) v
+IsEquality wanted (Span a) (Span b) v = IsTruthOf wanted (HaveSameInstants (a ∷ []) (b ∷ [])) v
+IsEquality wanted (SpanSet a) (SpanSet b) v = IsTruthOf wanted (HaveSameInstants a b) v
+IsEquality wanted (Box a) (Box b) v = IsTruthOf wanted (a ≡ b) v
+IsEquality wanted (MovingBool a) (MovingBool b) v = IsTruthOf wanted (AreOneFunction (step_function a) (step_function b)) v
+IsEquality wanted (MovingInt a) (MovingInt b) v = IsTruthOf wanted (AreOneFunction (step_function a) (step_function b)) v
+IsEquality wanted (MovingInt a) (MovingFrac b) v = IsTruthOf wanted (AreOneFunction (step_function a) (line_function b)) v
+IsEquality wanted (MovingFrac a) (MovingInt b) v = IsTruthOf wanted (AreOneFunction (step_function b) (line_function a)) v
+IsEquality wanted (MovingFrac a) (MovingFrac b) v = IsTruthOf wanted (AreOneFunction (line_function a) (line_function b)) v
+IsEquality wanted (MovingText a) (MovingText b) v = IsTruthOf wanted (AreOneFunction (step_function a) (step_function b)) v
+IsEquality wanted (MovingPoint a) (MovingPoint b) v = IsTruthOf wanted (AreOneFunction (plane_function a) (plane_function b)) v
+IsEquality wanted _ _ v = v ≡ Null
+
+-- an order relation: numbers and moments by size, texts by their bytes
+abbrev pub ordered : Rel → Value → Value → Value
+ordered r (Number a) (Number b) = Truth (holds r (compare_ratio a b))
+ordered r (Text a) (Text b) = Truth (holds r (compare_bytes a b))
+ordered r (Moment a) (Moment b) = Truth (holds r (compare_ratio a b))
+ordered r _ _ = Null
+
+-- the six plain comparisons
+abbrev pub IsTest : Cmp → Value → Value → Value → Type 0
+IsTest cmp.Eq a b v = IsEquality true a b v
+IsTest cmp.Ne a b v = IsEquality false a b v
+IsTest c a b v = v ≡ ordered (rel_of c) a b
+
+-- a number with its sign turned
+abbrev pub negated : Value → Value
+negated (Number a) = Number (neg_ℚ a)
+negated _ = Null
+
+-- a number
+abbrev pub unchanged : Value → Value
+unchanged (Number a) = Number a
+unchanged _ = Null
+
+-- whether a number is 0
+abbrev pub is_nil : Ratio → Bool
+is_nil a = same a (whole (pos 0))

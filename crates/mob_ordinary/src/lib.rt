@@ -1,0 +1,5 @@
+//! The ordinary operators that have no formula: comparisons of two values of SQL, and logic.
+#![tactic(auto)]
+
+pub mod comparison;
+pub mod logic;

@@ -1,0 +1,93 @@
+//! Where the children of a tree that is built are packed: by their ranks along each axis, so that no outlier crowds the others together. No clause
+//! speaks of it: a tree finds the same entries wherever they lie.
+
+use crate::node::Child;
+use mob_frac::Frac;
+use mob_stbox::StBox;
+use std::alloc::{AllocError, Global};
+
+/// A fraction by which fractions are put in order: its whole parts of 2^-62, and those of 2^-124 in what is left. No two fractions with parts below
+/// 2^62 lie as near to one another as 2^-124.
+type Exact = (i128, i128);
+
+fn exact(f: &Frac) -> Exact {
+    let parts = (f.num() as i128).saturating_mul(4611686018427387904);
+    if f.den() == 1 {
+        return (parts, 0);
+    }
+    let den = f.den() as i128;
+    let whole = parts.checked_div(den).unwrap_or(0);
+    let rest = parts.saturating_sub(whole.saturating_mul(den));
+    let fine = rest.saturating_mul(4611686018427387904);
+    (whole, fine.checked_div(den).unwrap_or(0))
+}
+
+/// Where a box begins and ends along an axis, 0 and 1 in space and 2 in time.
+fn ends_of(b: &StBox, axis: u8) -> (Exact, Exact) {
+    match (axis, b.space(), b.time()) {
+        (0, Some(area), _) => (exact(&area.xmin), exact(&area.xmax)),
+        (1, Some(area), _) => (exact(&area.ymin), exact(&area.ymax)),
+        (2, _, Some(span)) => (exact(span.lower()), exact(span.upper())),
+        _ => ((0, 0), (0, 0)),
+    }
+}
+
+/// The ends of these children along an axis in order, each with the number of its child.
+fn ordered_ends(
+    alloc: Global,
+    kids: &[(StBox, Child)],
+    axis: u8,
+) -> Result<Vec<((Exact, Exact), usize)>, AllocError> {
+    let mut ends = Vec::new(alloc);
+    for (i, kid) in kids.iter().enumerate() {
+        ends.push((ends_of(&kid.0, axis), i))?;
+    }
+    ends.sort_unstable();
+    Ok(ends)
+}
+
+/// The ranks of children along an axis.
+#[derive(Drop)]
+pub struct Ranks {
+    of: Vec<u64>,
+    greatest: u64,
+}
+
+impl Ranks {
+    /// The ranks of these children, in their order: children with the same ends have the same one.
+    pub fn along(alloc: Global, kids: &[(StBox, Child)], axis: u8) -> Result<Ranks, AllocError> {
+        let ends = ordered_ends(alloc, kids, axis)?;
+        let mut of = vec![in alloc; 0u64; kids.len()]?;
+        let mut greatest = 0u64;
+        let mut before = None;
+        for (own, kid) in &ends {
+            if before != Some(own) {
+                greatest = greatest.saturating_add(1);
+            }
+            before = Some(own);
+            if let Some(rank) = of.get_mut(*kid) {
+                *rank = greatest;
+            }
+        }
+        Ok(Ranks { of, greatest })
+    }
+
+    /// The place of a child along the axis, from 0 to below 2^21, with its bits taken apart, so that those of two other axes fit between each two.
+    pub fn spread_place(&self, kid: usize) -> u64 {
+        let rank = match self.of.get(kid) {
+            Some(rank) => *rank,
+            None => 0,
+        };
+        spread(rank.saturating_mul(2097151) / self.greatest.saturating_add(1))
+    }
+}
+
+/// Takes the bits of a number apart, so that two others fit between each two.
+fn spread(number: u64) -> u64 {
+    let mut n = number;
+    n = (n | (n << 32)) & 0x1f00000000ffff;
+    n = (n | (n << 16)) & 0x1f0000ff0000ff;
+    n = (n | (n << 8)) & 0x100f00f00f00f00f;
+    n = (n | (n << 4)) & 0x10c30c30c30c30c3;
+    (n | (n << 2)) & 0x1249249249249249
+}
