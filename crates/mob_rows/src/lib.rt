@@ -1,5 +1,5 @@
-//! Tests of whole runs: ends whose calls fail, a large join, many workers, the demo, the ends by themselves, and the words. Rows of whole
-//! scripts stand in `checks/rows`.
+//! Tests of whole runs: ends whose calls fail, a large join, the ends by themselves, and the words. Runs by many workers and of the demo stand in
+//! `mob_worker_rows`, which takes a run from here, and rows of whole scripts in `checks/rows`.
 #![tactic(auto)]
 
 #[cfg(test)]
@@ -8,9 +8,6 @@ mod failing;
 mod large;
 #[cfg(test)]
 mod outside;
-#[cfg(test)]
-mod runs;
+pub mod runs;
 #[cfg(test)]
 mod words;
-#[cfg(test)]
-mod workers;

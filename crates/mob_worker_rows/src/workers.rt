@@ -1,8 +1,8 @@
 // Runs by many workers, whose pieces pass a gate; and runs of the demo, in which no call of the script and the files is made.
 
-use crate::runs::{Failing, Report, run_once, run_through};
 use mob_fan_rows::gates::TwoFlags;
 use mob_outside::{Gate, OpenGate};
+use mob_rows::runs::{Failing, Report, run_once, run_through};
 use std::alloc::{AllocError, Global};
 use std::thread::Threads;
 
