@@ -1,7 +1,8 @@
 #!/bin/sh
 # Runs each script of examples/ in its folder: NAME.sql must write NAME.answer, put NAME.note into its notes, and end with the
 # status that NAME.status says. Where such a file is missing, the answer or the note is to be empty, and the status 0. With three workers it
-# is to do the same. A picture NAME.svg is what examples/picture draws of NAME.answer.
+# is to do the same. A picture NAME.svg is what examples/picture draws of NAME.answer. The tables that are made of a log are what examples/log_to_table makes of
+# it, and corners.csv is what examples/table_to_log makes of corners.answer.
 # `sh checks/examples.sh PROGRAM` takes a program that is there; without a word one is built.
 . "$(dirname "$0")/common"
 
@@ -33,4 +34,7 @@ for picture in examples/*/*.svg; do
     examples/picture "$kind" < "${picture%.svg}.answer" > "$work/picture"
     cmp "$work/picture" "$picture" || { echo "picture $picture: FAILED"; failed=1; }
 done
+examples/log_to_table track 3600 < examples/harbour/log.csv | cmp - examples/harbour/tracks.csv || { echo "log of harbour: FAILED"; failed=1; }
+examples/log_to_table celsius 86400 < examples/sensors/readings.csv | cmp - examples/sensors/heat.csv || { echo "log of sensors: FAILED"; failed=1; }
+examples/table_to_log x y < examples/harbour/corners.answer | cmp - examples/harbour/corners.csv || { echo "corners of harbour: FAILED"; failed=1; }
 exit $failed

@@ -1,4 +1,5 @@
 -- Who came near whom? Thirteen ships of one day, in metres from the light. Gannet lies at anchor, and Heron leaves and comes back.
+-- `../log_to_table track 3600 < log.csv > tracks.csv` has made the table of the log, which has a line for each report.
 CREATE TABLE tracks (ship text, track tgeompoint);
 CREATE TABLE watches (watch text, hours tstzspan);
 COPY tracks FROM 'tracks.csv' WITH (FORMAT csv, HEADER);

@@ -13,7 +13,7 @@ use Rattle.mob_slice.specs.declared.slice.Slice.{Slice}
 use Rattle.mob_slice.specs.declared.formula.Formula.{Formula}
 use Rattle.mob_slice.specs.declared.formula.OpFault.{OpFault}
 use Rattle.mob_slice.specs.declared.formula.OpFault.TheVariants.{Passed, NoMemory}
-use Rattle.mob_cells.specs.Kept.{AreKept}
+use Rattle.mob_cells.specs.Kept.{AreKeptOn}
 use Rattle.mob_cells.specs.Restricted.{kept_value}
 use Rattle.mob_cells.specs.Restricted.{where_wanted, AreRestricted}
 use Rattle.mob_cells.proofs.Joining.{LiftsTo, IsLifted, is_lifted}
@@ -33,7 +33,7 @@ first_front (e ∷ xs) ys f h = elim h [ inl m ↦ inl (m.0, first_front xs ys f
 
 module _ {C B : Type 0} (value : C → Ratio → Ratio → Ratio → B) (start end : C → B) (want : Bool) (holds : Ratio → B → Bool) where
   abbrev pub GivesSlice : Slice C → List (Slice C) → Type 0
-  GivesSlice s v = AreKept value start end (λ t. kept_value want (holds t (slice_value value s t)) (slice_value value s t)) s.span v
+  GivesSlice s v = AreKeptOn value start end (λ t. kept_value want (holds t (slice_value value s t)) (slice_value value s t)) s.span v
 
   clear_parts : (v : List (Slice C)) → IsOrdered start end v → PartsAreClear (λ s. s.span) v
   clear_parts [] h = tt

@@ -1,5 +1,6 @@
 -- On a cell a line keeps its sign.
 use Rattle.std.specs.Prelude.{◌≡◌, Bool, true, false, not, ◌&&◌, ◌||◌, refl}
+use Rattle.std.proofs.lemmas.Bool.{and_parts}
 use Rattle.std.proofs.Common.{arith, sym, true≢false}
 use Rattle.mob_ratio.specs.Ratio.{Ratio}
 use Rattle.mob_ratio.specs.Order.{before, up_to}
@@ -15,10 +16,6 @@ use Rattle.mob_cells.specs.Cells.{is_cell, is_cell_of, NoneWithin}
 upto_of : (l c : Ratio) (a b : Bool) → (before l c || (up_to l c && (a || b))) ≡ true → up_to l c ≡ true
 upto_of l c a b h = grind (arith, h, before-back l c)
 
-pub both : (a b : Bool) → (a && b) ≡ true → (a ≡ true) × (b ≡ true)
-both true b h = (refl, h)
-both false b h = absurd (true≢false (sym h))
-
 abbrev Kept : Ratio → Ratio → SpanOf → SpanOf → Type 0
 Kept f0 f1 s c = (t : Ratio) → has c t ≡ true → sign_of (line_at f0 f1 s.lower s.upper t) ≡ sign_on f0 f1 s.lower s.upper c.lower c.upper
 
@@ -32,8 +29,8 @@ point_has c t i h k =
 
 long_kept : (f0 f1 : Ratio) (s c : SpanOf) → before s.lower s.upper ≡ true → is_cell_of s c ≡ true → (opposite f0 f1 ≡ true → NoneWithin (root_at f0 f1 s.lower s.upper) c) → (b : Bool) → before c.lower c.upper ≡ b → Kept f0 f1 s c
 long_kept f0 f1 s c h i n b e t k =
-    let w = both (is_cell c) (is_inside s c) i in
-    let x = both (before s.lower c.lower || (up_to s.lower c.lower && (s.lower_inc || not c.lower_inc))) (before c.upper s.upper || (up_to c.upper s.upper && (s.upper_inc || not c.upper_inc))) w.1 in
+    let w = and_parts (is_cell c) (is_inside s c) i in
+    let x = and_parts (before s.lower c.lower || (up_to s.lower c.lower && (s.lower_inc || not c.lower_inc))) (before c.upper s.upper || (up_to c.upper s.upper && (s.upper_inc || not c.upper_inc))) w.1 in
     let q : IsClearCell f0 f1 s.lower s.upper c.lower c.upper = record { after = upto_of s.lower c.lower s.lower_inc (not c.lower_inc) x.0; until = upto_of c.upper s.upper s.upper_inc (not c.upper_inc) x.1; no_root = n } in
     by f0 f1 s c t h q w.0 k b e
   where
@@ -43,8 +40,8 @@ long_kept f0 f1 s c h i n b e t k =
 
 short_kept : (f0 f1 : Ratio) (s c : SpanOf) → f0 ≡ f1 → before s.lower s.upper ≡ false → is_cell_of s c ≡ true → Kept f0 f1 s c
 short_kept f0 f1 s c e h i t k =
-    let w = both (is_cell c) (is_inside s c) i in
-    let x = both (before s.lower c.lower || (up_to s.lower c.lower && (s.lower_inc || not c.lower_inc))) (before c.upper s.upper || (up_to c.upper s.upper && (s.upper_inc || not c.upper_inc))) w.1 in
+    let w = and_parts (is_cell c) (is_inside s c) i in
+    let x = and_parts (before s.lower c.lower || (up_to s.lower c.lower && (s.lower_inc || not c.lower_inc))) (before c.upper s.upper || (up_to c.upper s.upper && (s.upper_inc || not c.upper_inc))) w.1 in
     let low = upto_of s.lower c.lower s.lower_inc (not c.lower_inc) x.0 in
     let high = upto_of c.upper s.upper s.upper_inc (not c.upper_inc) x.1 in
     sign_short f0 f1 s.lower s.upper c.lower c.upper t e h (at_low s.lower s.upper c.lower c.upper h low high (upto_cell c w.0))

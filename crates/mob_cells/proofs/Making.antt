@@ -1,5 +1,6 @@
 -- Cells, a function at a time.
 use Rattle.std.specs.Prelude.{◌≡◌, ◌⊎◌, Bool, true, false, cond, ◌&&◌, ◌||◌, ℕ, zero, suc, List, [], ◌∷◌, ◌++◌, map, slice_get, length, get_or, ◌<◌, Option, Some, None, MatchOption, refl}
+use Rattle.std.proofs.lemmas.Bool.{and_parts}
 use Rattle.std.specs.List.{AllByRecursion}
 use Rattle.std.proofs.Common.{arith, ap, sym, ◌∙◌, subst, true≢false, inl, inr, append_assoc, append-nil, drop, ◌+◌, add-one, drop-cons}
 use Rattle.std.proofs.lemmas.Option.{slice_get_read}
@@ -17,10 +18,10 @@ use Rattle.mob_cells.specs.Cells.{IsIn}
 use Rattle.mob_slice.proofs.Cuts.{all_both, all_first, all_second}
 use Rattle.mob_cells.specs.declared.linear.Ends.{Ends}
 use Rattle.mob_cells.specs.declared.signs.Placed.{Placed}
-use Rattle.mob_cells.specs.Roots.{IsLevel, root_parts, root_of, roots, roots_parts, listed, function_at}
-use Rattle.mob_cells.specs.Cells.{AreCells, AreCutAt, IsSomeEnd, IsCut, AreSplit, IsPlaced, IsApart, AreSigned, functions_of, cut_at, split_at, start_cells, until, point, beyond, NoneWithin, is_cell, is_cell_of, placed_sign, signs_of}
+use Rattle.mob_cells.specs.Roots.{IsLevel, root_parts, root_of, roots, roots_parts, as_list, function_at}
+use Rattle.mob_cells.specs.Cells.{AreCells, AreCutAt, IsSomeEnd, IsCut, AreSplit, IsPlaced, IsApart, AreSigned, functions_of, cut_at, split_at, start_cells, until, instant_span, beyond, NoneWithin, is_cell, is_cell_of, placed_sign, signs_of}
 use Rattle.mob_cells.proofs.Splits.{split_are, split_out, split_self, start_are}
-use Rattle.mob_cells.proofs.Keeps.{kept, both}
+use Rattle.mob_cells.proofs.Keeps.{kept}
 use Rattle.mob_cells.proofs.Zeros.{root_inside}
 
 -- the cells of the functions before the rest
@@ -31,7 +32,7 @@ pub record IsMaking (s : SpanOf) (fs rest : List Ends) (cells : List SpanOf) (pl
   pub fit : AllFit (roots_parts s rest) → AllFit (roots_parts s fs)
   pub fail : AllFit (roots_parts s fs) → AllFit (roots_parts s rest)
 
-each_more : {A : Type 0} (P : A → Type 0) (xs : List A) (x : A) → AllByRecursion P xs → P x → AllByRecursion P (xs ++ x ∷ [])
+pub each_more : {A : Type 0} (P : A → Type 0) (xs : List A) (x : A) → AllByRecursion P xs → P x → AllByRecursion P (xs ++ x ∷ [])
 each_more P [] x h k = (k, tt)
 each_more P (y ∷ xs) x h k = (h.0, each_more P xs x h.1 k)
 
@@ -75,7 +76,7 @@ cut_front s xs ys t h = elim h [ inl e ↦ inl e | inr k ↦ inr (elim k [ inl e
 abbrev HasEnds : (Ratio → Type 0) → SpanOf → Type 0
 HasEnds P c = P c.lower × P c.upper
 
-ends_by : (P : Ratio → Type 0) (r : Ratio) (c : SpanOf) (rest : List SpanOf) → P r → HasEnds P c → AllByRecursion (HasEnds P) rest → (b : Bool) → AllByRecursion (HasEnds P) (cond b (until c r ∷ point r ∷ beyond c r ∷ []) (c ∷ []) ++ rest)
+ends_by : (P : Ratio → Type 0) (r : Ratio) (c : SpanOf) (rest : List SpanOf) → P r → HasEnds P c → AllByRecursion (HasEnds P) rest → (b : Bool) → AllByRecursion (HasEnds P) (cond b (until c r ∷ instant_span r ∷ beyond c r ∷ []) (c ∷ []) ++ rest)
 ends_by P r c rest p h k true = ((h.0, p), ((p, p), ((p, h.1), k)))
 ends_by P r c rest p h k false = (h, k)
 
@@ -87,21 +88,21 @@ cut_ends : (P : Ratio → Type 0) (r : Option Ratio) (cells : List SpanOf) → M
 cut_ends P None cells p h = h
 cut_ends P (Some r) cells p h = split_ends P r cells p h
 
-new_cut : (s : SpanOf) (xs : List Ratio) (r : Option Ratio) → MatchOption r (Unit {0}) (IsCut s (xs ++ listed r))
+new_cut : (s : SpanOf) (xs : List Ratio) (r : Option Ratio) → MatchOption r (Unit {0}) (IsCut s (xs ++ as_list r))
 new_cut s xs None = tt
 new_cut s xs (Some r) = inr (inr (in_back r xs (r ∷ []) (inl refl)))
 
-roots_more : (s : SpanOf) (placed : List Placed) (p : Placed) → roots s (functions_of (placed ++ p ∷ [])) ≡ roots s (functions_of placed) ++ listed (root_of s p.ends)
-roots_more s placed p = ap (roots s) (map_more placed p) ∙ flat_map-append (λ f. listed (root_of s f)) (functions_of placed) (p.ends ∷ []) ∙ ap (λ l. roots s (functions_of placed) ++ l) (append-nil (listed (root_of s p.ends)))
+roots_more : (s : SpanOf) (placed : List Placed) (p : Placed) → roots s (functions_of (placed ++ p ∷ [])) ≡ roots s (functions_of placed) ++ as_list (root_of s p.ends)
+roots_more s placed p = ap (roots s) (map_more placed p) ∙ flat_map-append (λ f. as_list (root_of s f)) (functions_of placed) (p.ends ∷ []) ∙ ap (λ l. roots s (functions_of placed) ++ l) (append-nil (as_list (root_of s p.ends)))
 
 only_more : (s : SpanOf) (placed : List Placed) (p : Placed) (cells : List SpanOf) → AllByRecursion (HasEnds (IsCut s (roots s (functions_of placed)))) cells → AllByRecursion (HasEnds (IsCut s (roots s (functions_of (placed ++ p ∷ []))))) (cut_at (root_of s p.ends) cells)
 only_more s placed p cells h =
     let r = root_of s p.ends in
     let xs = roots s (functions_of placed) in
     subst (λ l. AllByRecursion (HasEnds (IsCut s l)) (cut_at r cells)) (sym (roots_more s placed p))
-    (cut_ends (IsCut s (xs ++ listed r)) r cells (new_cut s xs r) (each_of (HasEnds (IsCut s xs)) (HasEnds (IsCut s (xs ++ listed r))) (λ c k. (cut_front s xs (listed r) c.lower k.0, cut_front s xs (listed r) c.upper k.1)) cells h))
+    (cut_ends (IsCut s (xs ++ as_list r)) r cells (new_cut s xs r) (each_of (HasEnds (IsCut s xs)) (HasEnds (IsCut s (xs ++ as_list r))) (λ c k. (cut_front s xs (as_list r) c.lower k.0, cut_front s xs (as_list r) c.upper k.1)) cells h))
 
-start_only : (s : SpanOf) (b l u : Bool) → AllByRecursion (HasEnds (IsCut s [])) (cond b (cond l (point s.lower ∷ []) [] ++ record { lower = s.lower; upper = s.upper; lower_inc = false; upper_inc = false } ∷ cond u (point s.upper ∷ []) []) (s ∷ []))
+start_only : (s : SpanOf) (b l u : Bool) → AllByRecursion (HasEnds (IsCut s [])) (cond b (cond l (instant_span s.lower ∷ []) [] ++ record { lower = s.lower; upper = s.upper; lower_inc = false; upper_inc = false } ∷ cond u (instant_span s.upper ∷ []) []) (s ∷ []))
 start_only s false l u = ((inl refl, inr (inl refl)), tt)
 start_only s true true true = ((inl refl, inl refl), ((inl refl, inr (inl refl)), ((inr (inl refl), inr (inl refl)), tt)))
 start_only s true true false = ((inl refl, inl refl), ((inl refl, inr (inl refl)), tt))
@@ -202,7 +203,7 @@ list_read xs i x h e = rw add-one (rw (drop-cons xs i x) (ap (λ y. y ∷ drop (
 
 -- ---- what callers see
 inside_of : (s : SpanOf) (cells : List SpanOf) → AllByRecursion (λ c. is_cell_of s c ≡ true) cells → AllByRecursion (λ c. is_inside s c ≡ true) cells
-inside_of s cells h = each_of (λ c. is_cell_of s c ≡ true) (λ c. is_inside s c ≡ true) (λ c k. (both (is_cell c) (is_inside s c) k).1) cells h
+inside_of s cells h = each_of (λ c. is_cell_of s c ≡ true) (λ c. is_inside s c ≡ true) (λ c k. (and_parts (is_cell c) (is_inside s c) k).1) cells h
 
 pub are_cells : (s : SpanOf) (cells : List SpanOf) → AreSplit s cells → AreCells s cells
 are_cells s cells h = record { clear = h.clear; inside = inside_of s cells h.are; covers = h.covers }
@@ -219,17 +220,17 @@ some_end r (c ∷ cells) n h = by (has c r) refl h (λ k. some_end r cells n.1 k
     by true e k f = inl (end_of c r n.0 e (before c.lower r) refl)
     by false e k f = inr (f k)
 
-root_ends : (s : SpanOf) (cells : List SpanOf) (f : Ends) → AreSplit s cells → IsLevel s f → (o : Bool) → opposite f.at_lower f.at_upper ≡ o → MatchOption (cond o (Some (root_at f.at_lower f.at_upper s.lower s.upper)) None) (Unit {0}) (λ r. AllByRecursion (NoneWithin r) cells) → AllByRecursion (λ r. IsSomeEnd r cells) (listed (cond o (Some (root_at f.at_lower f.at_upper s.lower s.upper)) None))
+root_ends : (s : SpanOf) (cells : List SpanOf) (f : Ends) → AreSplit s cells → IsLevel s f → (o : Bool) → opposite f.at_lower f.at_upper ≡ o → MatchOption (cond o (Some (root_at f.at_lower f.at_upper s.lower s.upper)) None) (Unit {0}) (λ r. AllByRecursion (NoneWithin r) cells) → AllByRecursion (λ r. IsSomeEnd r cells) (as_list (cond o (Some (root_at f.at_lower f.at_upper s.lower s.upper)) None))
 root_ends s cells f a l true e m = (some_end (root_at f.at_lower f.at_upper s.lower s.upper) cells m (a.covers (root_at f.at_lower f.at_upper s.lower s.upper) ∙ root_inside s f l e), tt)
 root_ends s cells f a l false e m = tt
 
-each_both : {A : Type 0} (P : A → Type 0) (xs ys : List A) → AllByRecursion P xs → AllByRecursion P ys → AllByRecursion P (xs ++ ys)
+pub each_both : {A : Type 0} (P : A → Type 0) (xs ys : List A) → AllByRecursion P xs → AllByRecursion P ys → AllByRecursion P (xs ++ ys)
 each_both P [] ys h k = k
 each_both P (x ∷ xs) ys h k = (h.0, each_both P xs ys h.1 k)
 
 all_ends : (s : SpanOf) (cells : List SpanOf) (ps : List Placed) → AreSplit s cells → AllByRecursion (IsPlaced s) ps → AllByRecursion (IsApart cells) ps → AllByRecursion (λ r. IsSomeEnd r cells) (roots s (functions_of ps))
 all_ends s cells [] a h k = tt
-all_ends s cells (p ∷ ps) a h k = each_both (λ r. IsSomeEnd r cells) (listed (root_of s p.ends)) (roots s (functions_of ps)) (root_ends s cells p.ends a h.0.level (opposite p.ends.at_lower p.ends.at_upper) refl (subst (λ z. MatchOption z (Unit {0}) (λ r. AllByRecursion (NoneWithin r) cells)) h.0.root k.0)) (all_ends s cells ps a h.1 k.1)
+all_ends s cells (p ∷ ps) a h k = each_both (λ r. IsSomeEnd r cells) (as_list (root_of s p.ends)) (roots s (functions_of ps)) (root_ends s cells p.ends a h.0.level (opposite p.ends.at_lower p.ends.at_upper) refl (subst (λ z. MatchOption z (Unit {0}) (λ r. AllByRecursion (NoneWithin r) cells)) h.0.root k.0)) (all_ends s cells ps a h.1 k.1)
 
 pub are_cut : (s : SpanOf) (placed : List Placed) (cells : List SpanOf) → AreSigned s placed cells → AreCutAt s (roots s (functions_of placed)) cells
 are_cut s placed cells h = record { each = all_ends s cells placed h.are h.good h.apart; only = h.only }

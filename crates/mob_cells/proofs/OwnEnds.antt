@@ -16,7 +16,7 @@ use Rattle.mob_slice.specs.declared.slice.Slice.{Slice}
 use Rattle.mob_slice.specs.declared.formula.Formula.{Formula}
 use Rattle.mob_slice.specs.declared.formula.OpFault.{OpFault}
 use Rattle.mob_slice.specs.declared.formula.OpFault.TheVariants.{Passed, NoMemory}
-use Rattle.mob_cells.specs.Kept.{AreKept, IsKeptBy}
+use Rattle.mob_cells.specs.Kept.{AreKeptOn, IsKeptBy}
 
 module _ {C B : Type 0} {steady copies : Bool} {value : C → Ratio → Ratio → Ratio → B} {start end : C → B} {can_make : B → B → Type 0} {make : B → B → C} {continues : C → C → Ratio → Ratio → Ratio → Bool} {parts : C → Ratio → Ratio → Ratio → List Ratio} (laws : IsCourse steady copies value start end can_make make continues parts) where
   -- the values at its own ends are given and not computed
@@ -39,7 +39,7 @@ module _ {C B : Type 0} {steady copies : Bool} {value : C → Ratio → Ratio �
   end_value s h = end_by s h (before s.span.lower s.span.upper) refl
 
 module _ {C B : Type 0} (value : C → Ratio → Ratio → Ratio → B) (start end : C → B) where
-  pub kept_same : (f g : Ratio → Option B) (r : SpanOf) (v : List (Slice C)) → ((t : Ratio) → has r t ≡ true → f t ≡ g t) → AreKept value start end f r v → AreKept value start end g r v
+  pub kept_same : (f g : Ratio → Option B) (r : SpanOf) (v : List (Slice C)) → ((t : Ratio) → has r t ≡ true → f t ≡ g t) → AreKeptOn value start end f r v → AreKeptOn value start end g r v
   kept_same f g r v e h = record { ordered = h.ordered; inside = h.inside; values = λ t i. h.values t i ∙ e t i }
 
   -- the same values under another name, behind other entries
@@ -47,12 +47,3 @@ module _ {C B : Type 0} (value : C → Ratio → Ratio → Ratio → B) (start e
   kept_behind items f g r before after (Ok v) e h m = (kept_same f g r (items v) e m.0, h None m.1)
   kept_behind items f g r before after (Err (Passed x)) e h m = h (Some x) m
   kept_behind items f g r before after (Err NoMemory) e h m = tt
-
--- normal slices are ordered
-head_ordered : {C B : Type 0} (start end : C → B) (continues : C → C → Ratio → Ratio → Ratio → Bool) (s : Slice C) (v : List (Slice C)) → OfHead (IsNormalPair start end continues) s v → OfHead IsClearOf s v
-head_ordered start end continues s [] h = tt
-head_ordered start end continues s (r ∷ v) h = h.in_order
-
-pub ordered : {C B : Type 0} (start end : C → B) (continues : C → C → Ratio → Ratio → Ratio → Bool) (v : List (Slice C)) → AreNormal start end continues v → IsOrdered start end v
-ordered start end continues [] h = tt
-ordered start end continues (s ∷ v) h = (h.0, head_ordered start end continues s v h.1, ordered start end continues v h.2)

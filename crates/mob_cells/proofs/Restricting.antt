@@ -1,5 +1,6 @@
 -- What is kept on each cell, and on all of them.
 use Rattle.std.specs.Prelude.{◌≡◌, Bool, true, false, cond, not, ◌&&◌, ◌||◌, ℕ, List, [], ◌∷◌, ◌++◌, slice_get, length, get_or, ◌<◌, Option, Some, None, MatchOption, Result, Ok, Err, MatchResult, refl}
+use Rattle.std.proofs.lemmas.Bool.{and_parts, and_from}
 use Rattle.std.specs.List.{AllByRecursion, flat_map}
 use Rattle.std.proofs.Common.{arith, ap, sym, ◌∙◌, subst, true≢false, inl, inr, append_assoc, append-nil, drop, ◌+◌, suc, add-one, drop-cons}
 use Rattle.std.specs.declared.cmp.Ordering.{Ordering}
@@ -8,7 +9,7 @@ use Rattle.mob_frac.specs.Formula.{AllFit}
 use Rattle.mob_span.specs.Span.{SpanOf, has, has_instant}
 use Rattle.mob_span.specs.Neighbours.{is_inside}
 use Rattle.mob_span.specs.Sets.{in_some}
-use Rattle.mob_span.proofs.Insides.{inside_self, both, joined}
+use Rattle.mob_span.proofs.Insides.{inside_self}
 use Rattle.mob_ratio.specs.Order.{before, up_to}
 use Rattle.mob_ratio.proofs.Order.{before-trans, before-neither}
 use Rattle.mob_slice.specs.Slices.{value_at}
@@ -28,7 +29,7 @@ use Rattle.mob_slice.specs.declared.formula.LookFault.{LookFault}
 use Rattle.mob_slice.specs.declared.formula.LookFault.TheVariants.{Passed as LookPassed, NoMemory as LookNoMemory}
 use Rattle.mob_slice.proofs.Cuts.{all_both, all_first, all_second}
 use Rattle.mob_cells.specs.Cells.{AreCells, AreCutAt, IsCut, IsSomeEnd}
-use Rattle.mob_cells.specs.Kept.{AreKept, IsCellFault}
+use Rattle.mob_cells.specs.Kept.{AreKeptOn, IsCellFault}
 use Rattle.mob_cells.specs.Restricted.{kept_value, is_wanted}
 use Rattle.mob_slice.specs.Entries.{operator_fault}
 use Rattle.mob_cells.proofs.Joining.{LiftsTo, IsLifted, is_lifted}
@@ -36,7 +37,7 @@ use Rattle.mob_cells.proofs.Making.{each_get}
 
 -- ---- one cell
 module _ {C B : Type 0} (value : C → Ratio → Ratio → Ratio → B) (start end : C → B) where
-  kept_by : (f : Ratio → B) (g : Ratio → Option B) (c : SpanOf) (part : Slice C) (k : Bool) → HasValues value start end f c part → ((t : Ratio) → has c t ≡ true → g t ≡ cond k (Some (f t)) None) → AreKept value start end g c (cond k (part ∷ []) [])
+  kept_by : (f : Ratio → B) (g : Ratio → Option B) (c : SpanOf) (part : Slice C) (k : Bool) → HasValues value start end f c part → ((t : Ratio) → has c t ≡ true → g t ≡ cond k (Some (f t)) None) → AreKeptOn value start end g c (cond k (part ∷ []) [])
   kept_by f g c part true h e = record {
     ordered = (h.sound, tt, tt);
     inside = (rw h.on (inside_self c), tt);
@@ -44,14 +45,14 @@ module _ {C B : Type 0} (value : C → Ratio → Ratio → Ratio → B) (start e
   }
   kept_by f g c part false h e = record { ordered = tt; inside = tt; values = λ t i. sym (e t i) }
 
-  pub kept_is : (f : Ratio → B) (c : SpanOf) (part : Slice C) (want : Bool) (keeps : List Ordering → Bool) (signs : Ratio → List Ordering) (os : List Ordering) (k : Bool) → HasValues value start end f c part → ((t : Ratio) → has c t ≡ true → os ≡ signs t) → k ≡ is_wanted want (keeps os) → AreKept value start end (λ t. kept_value want (keeps (signs t)) (f t)) c (cond k (part ∷ []) [])
+  pub kept_is : (f : Ratio → B) (c : SpanOf) (part : Slice C) (want : Bool) (keeps : List Ordering → Bool) (signs : Ratio → List Ordering) (os : List Ordering) (k : Bool) → HasValues value start end f c part → ((t : Ratio) → has c t ≡ true → os ≡ signs t) → k ≡ is_wanted want (keeps os) → AreKeptOn value start end (λ t. kept_value want (keeps (signs t)) (f t)) c (cond k (part ∷ []) [])
   kept_is f c part want keeps signs os k h n e = kept_by f (λ t. kept_value want (keeps (signs t)) (f t)) c part k h (λ t i. ap (λ z. cond (is_wanted want (keeps z)) (Some (f t)) None) (sym (n t i)) ∙ ap (λ b. cond b (Some (f t)) None) (sym e))
 
-  pub cell_is : {V : Type 0} (items : V → List (Slice C)) (r : Result V OpFault) (f : Ratio → B) (c : SpanOf) (part : Slice C) (want : Bool) (keeps : List Ordering → Bool) (signs : Ratio → List Ordering) (os : List Ordering) (k : Bool) (fits : List Ratio) → HasValues value start end f c part → AllFit fits → ((t : Ratio) → has c t ≡ true → os ≡ signs t) → k ≡ is_wanted want (keeps os) → MatchResult r (λ v. items v ≡ cond k (part ∷ []) []) (λ e. e ≡ NoMemory) → MatchResult r (λ v. AreKept value start end (λ t. kept_value want (keeps (signs t)) (f t)) c (items v) × AllFit fits) (IsCellFault fits)
+  pub cell_is : {V : Type 0} (items : V → List (Slice C)) (r : Result V OpFault) (f : Ratio → B) (c : SpanOf) (part : Slice C) (want : Bool) (keeps : List Ordering → Bool) (signs : Ratio → List Ordering) (os : List Ordering) (k : Bool) (fits : List Ratio) → HasValues value start end f c part → AllFit fits → ((t : Ratio) → has c t ≡ true → os ≡ signs t) → k ≡ is_wanted want (keeps os) → MatchResult r (λ v. items v ≡ cond k (part ∷ []) []) (λ e. e ≡ NoMemory) → MatchResult r (λ v. AreKeptOn value start end (λ t. kept_value want (keeps (signs t)) (f t)) c (items v) × AllFit fits) (IsCellFault fits)
   cell_is items (Ok v) f c part want keeps signs os k fits h a n e m = (rw m (kept_is f c part want keeps signs os k h n e), a)
   cell_is items (Err fault) f c part want keeps signs os k fits h a n e m = rw m tt
 
-pub flag_is : (c : SpanOf) (keeps : List Ordering → Bool) (signs : Ratio → List Ordering) (os : List Ordering) (b : Bool) → has_instant c ≡ true → ((t : Ratio) → has c t ≡ true → os ≡ signs t) → b ≡ keeps os → AreKept {C = Steady Bool} steady_value steady_limit steady_limit (λ t. Some (keeps (signs t))) c (record { span = c; course = record { value = b } } ∷ [])
+pub flag_is : (c : SpanOf) (keeps : List Ordering → Bool) (signs : Ratio → List Ordering) (os : List Ordering) (b : Bool) → has_instant c ≡ true → ((t : Ratio) → has c t ≡ true → os ≡ signs t) → b ≡ keeps os → AreKeptOn {C = Steady Bool} steady_value steady_limit steady_limit (λ t. Some (keeps (signs t))) c (record { span = c; course = record { value = b } } ∷ [])
 flag_is c keeps signs os b k n e = record {
   ordered = (record { some = k; level = λ z. refl }, tt, tt);
   inside = (inside_self c, tt);
@@ -71,9 +72,9 @@ high_in a b c i j k h g = grind (arith, h, g, before-trans a b c, before-neither
 
 pub inside_trans : (s c x : SpanOf) → is_inside s c ≡ true → is_inside c x ≡ true → is_inside s x ≡ true
 inside_trans s c x h k =
-    let p = both (before s.lower c.lower || (up_to s.lower c.lower && (s.lower_inc || not c.lower_inc))) (before c.upper s.upper || (up_to c.upper s.upper && (s.upper_inc || not c.upper_inc))) h in
-    let q = both (before c.lower x.lower || (up_to c.lower x.lower && (c.lower_inc || not x.lower_inc))) (before x.upper c.upper || (up_to x.upper c.upper && (c.upper_inc || not x.upper_inc))) k in
-    joined (before s.lower x.lower || (up_to s.lower x.lower && (s.lower_inc || not x.lower_inc))) (before x.upper s.upper || (up_to x.upper s.upper && (s.upper_inc || not x.upper_inc)))
+    let p = and_parts (before s.lower c.lower || (up_to s.lower c.lower && (s.lower_inc || not c.lower_inc))) (before c.upper s.upper || (up_to c.upper s.upper && (s.upper_inc || not c.upper_inc))) h in
+    let q = and_parts (before c.lower x.lower || (up_to c.lower x.lower && (c.lower_inc || not x.lower_inc))) (before x.upper c.upper || (up_to x.upper c.upper && (c.upper_inc || not x.upper_inc))) k in
+    and_from (before s.lower x.lower || (up_to s.lower x.lower && (s.lower_inc || not x.lower_inc))) (before x.upper s.upper || (up_to x.upper s.upper && (s.upper_inc || not x.upper_inc)))
     (low_in s.lower c.lower x.lower s.lower_inc c.lower_inc x.lower_inc p.0 q.0)
     (high_in x.upper c.upper s.upper x.upper_inc c.upper_inc s.upper_inc q.1 p.1)
 
@@ -87,7 +88,7 @@ more_inside s (x ∷ v) w h k = (h.0, more_inside s v w h.1 k)
 
 module _ {D B : Type 0} (value : D → Ratio → Ratio → Ratio → B) (start end : D → B) (f : Ratio → Option B) where
   abbrev pub Gives : SpanOf → List (Slice D) → Type 0
-  Gives c v = AreKept value start end f c v
+  Gives c v = AreKeptOn value start end f c v
 
   kept_inside : (s : SpanOf) (cells : List SpanOf) (slices : List (Slice D)) → LiftsTo (λ v. v) Gives cells slices → AllByRecursion (λ c. is_inside s c ≡ true) cells → AreInside s slices
   kept_inside s [] slices h k = rw h tt
@@ -101,7 +102,7 @@ module _ {D B : Type 0} (value : D → Ratio → Ratio → Ratio → B) (start e
   found [] t o h m = absurd (true≢false (sym h))
   found (c ∷ cells) t o h m = found_by c cells t o (has c t) refl h (λ k n. found cells t o k n) m
 
-  pub all_kept : (s : SpanOf) (cells : List SpanOf) (slices : List (Slice D)) → LiftsTo (λ v. v) Gives cells slices → AreCells s cells → AreKept value start end f s slices
+  pub all_kept : (s : SpanOf) (cells : List SpanOf) (slices : List (Slice D)) → LiftsTo (λ v. v) Gives cells slices → AreCells s cells → AreKeptOn value start end f s slices
   all_kept s cells slices h a =
       let l : IsLifted value start end (λ c. c) (λ v. v) Gives cells slices = is_lifted value start end (λ c. c) (λ v. v) Gives (λ p v k g. (g.ordered, g.inside)) cells slices h a.clear in
       record { ordered = l.ordered; inside = kept_inside s cells slices h a.inside; values = λ t i. found cells t (value_at value slices t) (a.covers t ∙ i) (l.at_each t) }
@@ -113,7 +114,7 @@ module _ {D B : Type 0} (value : D → Ratio → Ratio → Ratio → B) (start e
   pub made_step : (all rest later : List SpanOf) (out out' more : List (Slice D)) (c : SpanOf) → rest ≡ c ∷ later → out' ≡ out ++ more → Gives c more → IsMade all rest out → IsMade all later out'
   made_step all rest later out out' more c e n g m v k = rw (n, append_assoc out more v) (m (more ++ v) (subst (λ z. LiftsTo (λ v. v) Gives z (more ++ v)) (sym e) (more, v, g, k, refl)))
 
-  pub made_end : (s : SpanOf) (all rest : List SpanOf) (out : List (Slice D)) → rest ≡ [] → AreCells s all → IsMade all rest out → AreKept value start end f s out
+  pub made_end : (s : SpanOf) (all rest : List SpanOf) (out : List (Slice D)) → rest ≡ [] → AreCells s all → IsMade all rest out → AreKeptOn value start end f s out
   made_end s all rest out e a m = all_kept s all out (rw append-nil at (m [] (rw e refl))) a
 
 pub cell_read : (xs : List SpanOf) (i : ℕ) (x : SpanOf) → i < length xs → x ≡ get_or xs i x → drop i xs ≡ x ∷ drop (i + 1) xs

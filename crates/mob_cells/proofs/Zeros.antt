@@ -7,7 +7,7 @@ use Rattle.mob_ratio.specs.Order.{before}
 use Rattle.mob_ratio.specs.Line.{line_at}
 use Rattle.mob_ratio.specs.Sign.{nil, opposite, root_at, sign_of, IsRoot}
 use Rattle.mob_ratio.proofs.Order.{before-self, before-back, before-trans, before-neither, before-lt, lt-before, false_unless}
-use Rattle.mob_ratio.proofs.Signs.{root_holds, opposite_cases, sign_below, sign_above, sign_nil}
+use Rattle.mob_ratio.proofs.Signs.{root_holds, opposite_cases, sign_below, sign_above, sign_nil, ne_by, ne_by'}
 use Rattle.mob_ratio.proofs.IntRing.{linear}
 use Rattle.mob_ratio.proofs.Clear.{clear2, cleared}
 use Rattle.mob_frac.specs.Fits.{Fits, IsExact}
@@ -54,16 +54,6 @@ one_root s f l o =
     let n = opposite_signs f.at_lower f.at_upper o in
     let r = root_at f.at_lower f.at_upper s.lower s.upper in
     record { after = h.after; until = h.until; zero = h.zero; only = λ t z. only_zero f.at_lower f.at_upper s.lower s.upper r t h n.0 n.1 z (before t r) (before r t) refl refl }
-
--- the difference of the ends is not 0
-sub_zero : (a b : Ratio) → a -ℚ b ≡ nil → a ≡ b
-sub_zero = clear2 _ (λ D a b p h. let h' = simp cleared at h in simp cleared (omega (arith, linear)))
-
-ne_by : (f0 f1 : Ratio) → before f0 f1 ≡ true → f0 -ℚ f1 ≡ nil → ⊥
-ne_by f0 f1 h e = true≢false (sym h ∙ ap (λ z. before z f1) (sub_zero f0 f1 e) ∙ before-self f1)
-
-ne_by' : (f0 f1 : Ratio) → before f1 f0 ≡ true → f0 -ℚ f1 ≡ nil → ⊥
-ne_by' f0 f1 h e = true≢false (sym h ∙ ap (λ z. before f1 z) (sub_zero f0 f1 e) ∙ before-self f1)
 
 pub opposite_differ : (f0 f1 : Ratio) → opposite f0 f1 ≡ true → f0 -ℚ f1 ≡ nil → ⊥
 opposite_differ f0 f1 h e = elim (opposite_cases f0 f1 h) [ inl k ↦ ne_by f0 f1 (before-trans f0 nil f1 k.0 k.1) e | inr k ↦ ne_by' f0 f1 (before-trans f1 nil f0 k.1 k.0) e ]

@@ -52,16 +52,16 @@ abbrev pub signs_of : SpanOf → List Ends → Ratio → List Ordering
 signs_of s functions t = map (λ f. sign_of (function_at s f t)) functions
 
 -- -1 below 0, 0 at 0 and 1 above
-abbrev pub number_of : Ordering → ℤ
-number_of Less = negsuc 0
-number_of Equal = pos 0
-number_of Greater = pos 1
+abbrev pub sign_number : Ordering → ℤ
+sign_number Less = negsuc 0
+sign_number Equal = pos 0
+sign_number Greater = pos 1
 
 -- ---- how they are made
 
--- the one instant
-abbrev pub point : Ratio → SpanOf
-point t = record { lower = t; upper = t; lower_inc = true; upper_inc = true }
+-- the span of one instant
+abbrev pub instant_span : Ratio → SpanOf
+instant_span t = record { lower = t; upper = t; lower_inc = true; upper_inc = true }
 
 -- what lies strictly between the ends
 abbrev pub inner : SpanOf → SpanOf
@@ -77,7 +77,7 @@ beyond s r = record { lower = r; upper = s.upper; lower_inc = false; upper_inc =
 
 -- c cut at r
 abbrev pub split_one : Ratio → SpanOf → List SpanOf
-split_one r c = cond (before c.lower r && before r c.upper) (until c r ∷ point r ∷ beyond c r ∷ []) (c ∷ [])
+split_one r c = cond (before c.lower r && before r c.upper) (until c r ∷ instant_span r ∷ beyond c r ∷ []) (c ∷ [])
 
 abbrev pub split_at : Ratio → List SpanOf → List SpanOf
 split_at r [] = []
@@ -85,7 +85,7 @@ split_at r (c ∷ cells) = split_one r c ++ split_at r cells
 
 -- the ends of s that it has, and what is between
 abbrev pub start_cells : SpanOf → List SpanOf
-start_cells s = cond (before s.lower s.upper) (cond s.lower_inc (point s.lower ∷ []) [] ++ inner s ∷ cond s.upper_inc (point s.upper ∷ []) []) (s ∷ [])
+start_cells s = cond (before s.lower s.upper) (cond s.lower_inc (instant_span s.lower ∷ []) [] ++ inner s ∷ cond s.upper_inc (instant_span s.upper ∷ []) []) (s ∷ [])
 
 -- one instant, or what lies strictly between two
 abbrev pub is_cell : SpanOf → Bool

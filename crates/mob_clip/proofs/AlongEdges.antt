@@ -20,7 +20,7 @@ use Rattle.mob_slice.specs.declared.slice.Slice.{Slice}
 use Rattle.mob_slice.specs.declared.line.PlaneLine.{PlaneLine}
 use Rattle.mob_slice.specs.declared.formula.OpFault.{OpFault}
 use Rattle.mob_slice.specs.declared.formula.OpFault.TheVariants.{NoMemory}
-use Rattle.mob_cells.specs.Kept.{AreKept, IsKeptBy}
+use Rattle.mob_cells.specs.Kept.{AreKeptOn, IsKeptBy}
 use Rattle.mob_cells.specs.Restricted.{kept_value}
 use Rattle.mob_cells.proofs.OwnEnds.{kept_same}
 use Rattle.mob_clip.specs.declared.roots.EdgePlaced.{EdgePlaced}
@@ -61,7 +61,7 @@ placed_are s es ps sound e = are_placed s.span (ways es s sound) ps (e ∙ sym (
 
 -- what is kept by what is known is kept by membership
 pub edges_kept : {V : Type 0} (items : V → List (Slice PlaneLine)) (r : Result V OpFault) (want : Bool) (s : Slice PlaneLine) (es : List (Point × Point)) (ps : List EdgePlaced) (known : Ratio → Tally) (entries : List Entry) → ps ≡ map (placed_edge s) es → ((t : Ratio) → has s.span t ≡ true → known t ≡ tally_all (map (λ g. edge_tally (signs_on s.span t g)) ps)) → IsFirst entries None
-    → MatchResult r (λ v. AreKept plane_value_of (λ c. c.from) (λ c. c.to) (λ t. kept_value want (is_known_in (known t)) (slice_value plane_value_of s t)) s.span (items v)) (λ e. e ≡ NoMemory)
+    → MatchResult r (λ v. AreKeptOn plane_value_of (λ c. c.from) (λ c. c.to) (λ t. kept_value want (is_known_in (known t)) (slice_value plane_value_of s t)) s.span (items v)) (λ e. e ≡ NoMemory)
     → IsKeptBy plane_value_of (λ c. c.from) (λ c. c.to) items (λ t. kept_value want (is_inside_edges es (slice_value plane_value_of s t)) (slice_value plane_value_of s t)) s.span entries r
 edges_kept items (Ok v) want s es ps known entries e k f h = (kept_same plane_value_of (λ c. c.from) (λ c. c.to) (λ t. kept_value want (is_known_in (known t)) (slice_value plane_value_of s t)) (λ t. kept_value want (is_inside_edges es (slice_value plane_value_of s t)) (slice_value plane_value_of s t)) s.span (items v) (λ t i. ap (λ b. kept_value want b (slice_value plane_value_of s t)) (inside_along s es ps t (known t) e (k t i))) h, f)
 edges_kept items (Err x) want s es ps known entries e k f h = rw h tt

@@ -12,23 +12,23 @@ use Rattle.mob_span.specs.Span.{SpanOf, has}
 use Rattle.mob_span.specs.Neighbours.{is_inside}
 use Rattle.mob_cells.specs.declared.linear.Ends.{Ends}
 use Rattle.mob_cells.specs.Roots.{IsLevel, root_of, function_at}
-use Rattle.mob_cells.specs.Cells.{point, is_cell, is_cell_of, NoneWithin}
+use Rattle.mob_cells.specs.Cells.{instant_span, is_cell, is_cell_of, NoneWithin}
 use Rattle.mob_cells.proofs.Keeps.{kept}
 use Rattle.mob_cells.proofs.SignsAt.{first_side, second_side, no_side}
-use Rattle.mob_clip.specs.Signs.{turned_at, sign_at, ends_change}
+use Rattle.mob_clip.specs.Signs.{turned_at, changing_sign, ends_change}
 
 -- ---- the instant as a cell
-cell_at : (s : SpanOf) (t : Ratio) → has s t ≡ true → is_cell_of s (point t) ≡ true
+cell_at : (s : SpanOf) (t : Ratio) → has s t ≡ true → is_cell_of s (instant_span t) ≡ true
 cell_at s t h = grind (arith, h, before-self t)
 
-none_at : (r t : Ratio) → NoneWithin r (point t)
+none_at : (r t : Ratio) → NoneWithin r (instant_span t)
 none_at r t = grind (arith, before-back t r)
 
-point_has : (t : Ratio) → has (point t) t ≡ true
+point_has : (t : Ratio) → has (instant_span t) t ≡ true
 point_has t = rw (before-self t) refl
 
 at_instant : (s : SpanOf) (f : Ends) (t : Ratio) → IsLevel s f → has s t ≡ true → sign_of (function_at s f t) ≡ sign_on f.at_lower f.at_upper s.lower s.upper t t
-at_instant s f t l h = kept f.at_lower f.at_upper s (point t) l (cell_at s t h) (λ o. none_at (root_at f.at_lower f.at_upper s.lower s.upper) t) t (point_has t)
+at_instant s f t l h = kept f.at_lower f.at_upper s (instant_span t) l (cell_at s t h) (λ o. none_at (root_at f.at_lower f.at_upper s.lower s.upper) t) t (point_has t)
 
 -- ---- a root strictly inside
 pub some_change : (s : SpanOf) (f : Ends) (r t : Ratio) → IsLevel s f → root_of s f ≡ Some r → has s t ≡ true → turned_at (sign_of f.at_lower) (Some r) (sign_of f.at_upper) t ≡ sign_of (function_at s f t)
@@ -94,7 +94,7 @@ three x false false false = refl
 
 -- the change by the signs at the ends, where tl says that t is behind the lower end and tu that it is in front of the upper one
 ends_by : (o u : Ordering) (tl tu : Bool) → (tl ≡ false → tu ≡ false → o ≡ u) → (is_eq o ≡ false → is_eq u ≡ false → o ≡ u) → (s : SpanOf) (t : Ratio) → before t s.lower ≡ false → before s.lower t ≡ tl → before t s.upper ≡ tu → before s.upper t ≡ false
-    → sign_at (ends_change s o u) t ≡ cond (not tl) o (cond (not tu) u (cond (is_eq o) u o))
+    → changing_sign (ends_change s o u) t ≡ cond (not tl) o (cond (not tu) u (cond (is_eq o) u o))
 ends_by Equal Equal tl tu short one s t a b c d = three Equal (not tl) (not tu) true
 ends_by Equal Less true true short one s t a b c d = rw (a, b) refl
 ends_by Equal Less true false short one s t a b c d = rw (a, b) refl
@@ -143,7 +143,7 @@ same_other x t h = rw h (and_true (not (before t x)))
     and_true true = refl
     and_true false = refl
 
-pub none_change : (s : SpanOf) (f : Ends) (t : Ratio) → IsLevel s f → root_of s f ≡ None → has s t ≡ true → sign_at (ends_change s (sign_of f.at_lower) (sign_of f.at_upper)) t ≡ sign_of (function_at s f t)
+pub none_change : (s : SpanOf) (f : Ends) (t : Ratio) → IsLevel s f → root_of s f ≡ None → has s t ≡ true → changing_sign (ends_change s (sign_of f.at_lower) (sign_of f.at_upper)) t ≡ sign_of (function_at s f t)
 none_change s f t l e h =
     let o = not_opposite s f e (opposite f.at_lower f.at_upper) refl in
     let a = lower_side s t h in

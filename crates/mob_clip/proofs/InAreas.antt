@@ -33,7 +33,7 @@ use Rattle.mob_cells.specs.Gaps.{IsGapFault}
 use Rattle.mob_cells.proofs.OwnEnds.{kept_behind}
 use Rattle.mob_stbox.specs.declared.area.Area.{Area}
 use Rattle.mob_stbox.specs.Areas.{in_area}
-use Rattle.mob_clip.specs.Areas.{in_area_by, side_parts, area_ends, entries_of_area}
+use Rattle.mob_clip.specs.Areas.{in_area_by, area_parts, area_ends, entries_of_area}
 
 lt_by : (a b : Bool) → is_lt (cond a Less (cond b Greater Equal)) ≡ a
 lt_by true b = refl
@@ -67,20 +67,20 @@ sides_level : (a : Area) (r : SpanOf) (p q : Point) → (before r.lower r.upper 
 sides_level a r p q h = (λ n. ap (λ (z : Point). z.x -ℚ a.xmin) (h n), (λ n. ap (λ (z : Point). z.x -ℚ a.xmax) (h n), (λ n. ap (λ (z : Point). z.y -ℚ a.ymin) (h n), (λ n. ap (λ (z : Point). z.y -ℚ a.ymax) (h n), tt))))
 
 module _ (a : Area) (s part : Slice PlaneLine) (h : HasValues plane_value_of (λ c. c.from) (λ c. c.to) (slice_value plane_value_of s) part.span part) where
-  same_parts : side_parts a part.course.from ++ side_parts a part.course.to ≡ at_ends (λ t. side_parts a (slice_value plane_value_of s t)) part.span
-  same_parts = ap (λ p. side_parts a p ++ side_parts a part.course.to) h.from ∙ ap (λ q. side_parts a (slice_value plane_value_of s part.span.lower) ++ side_parts a q) h.to
+  same_parts : area_parts a part.course.from ++ area_parts a part.course.to ≡ at_ends (λ t. area_parts a (slice_value plane_value_of s t)) part.span
+  same_parts = ap (λ p. area_parts a p ++ area_parts a part.course.to) h.from ∙ ap (λ q. area_parts a (slice_value plane_value_of s part.span.lower) ++ area_parts a q) h.to
 
   same_ends : area_ends a part.course.from part.course.to ≡ area_ends a (slice_value plane_value_of s part.span.lower) (slice_value plane_value_of s part.span.upper)
   same_ends = ap (λ p. area_ends a p part.course.to) h.from ∙ ap (λ q. area_ends a (slice_value plane_value_of s part.span.lower) q) h.to
 
-  pub sides_fail : (f : OpFault) → IsGapFault (side_parts a part.course.from ++ side_parts a part.course.to) f → OnFormula (λ g. IsFirst (entries_of_area a s part.span) (Some g)) f
+  pub sides_fail : (f : OpFault) → IsGapFault (area_parts a part.course.from ++ area_parts a part.course.to) f → OnFormula (λ g. IsFirst (entries_of_area a s part.span) (Some g)) f
   sides_fail (Passed f) k = inr (subst (λ z. ¬ AllFit z) same_parts k.1, ap Some k.0)
   sides_fail NoMemory k = tt
 
   pub level_sides : (fs : List Ends) → fs ≡ area_ends a part.course.from part.course.to → AllByRecursion (IsLevel part.span) fs
   level_sides fs e = rw e (sides_level a part.span part.course.from part.course.to h.sound.level)
 
-  pub area_kept : {V : Type 0} (items : V → List (Slice PlaneLine)) (want : Bool) (fs : List Ends) (q : Result V OpFault) → fs ≡ area_ends a part.course.from part.course.to → AllFit (side_parts a part.course.from ++ side_parts a part.course.to)
+  pub area_kept : {V : Type 0} (items : V → List (Slice PlaneLine)) (want : Bool) (fs : List Ends) (q : Result V OpFault) → fs ≡ area_ends a part.course.from part.course.to → AllFit (area_parts a part.course.from ++ area_parts a part.course.to)
       → IsKeptBy plane_value_of (λ c. c.from) (λ c. c.to) items (λ t. kept_value want (in_area_by (signs_of part.span fs t)) (slice_value plane_value_of s t)) part.span (entries_of_cuts plane_parts_of s part.span fs) q
       → IsKeptBy plane_value_of (λ c. c.from) (λ c. c.to) items (λ t. kept_value want (in_area a (slice_value plane_value_of s t)) (slice_value plane_value_of s t)) part.span (entries_of_area a s part.span) q
   area_kept items want fs q e fits m = kept_behind plane_value_of (λ c. c.from) (λ c. c.to) items

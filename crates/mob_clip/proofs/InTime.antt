@@ -1,5 +1,6 @@
 -- A slice, and the span of time of a box.
 use Rattle.std.specs.Prelude.{◌≡◌, Bool, true, false, cond, not, ◌&&◌, ◌||◌, List, [], ◌∷◌, ◌++◌, Option, Some, None, MatchOption, Result, Ok, Err, MatchResult, refl}
+use Rattle.std.proofs.lemmas.Bool.{and_parts, and_from}
 use Rattle.std.specs.List.{AllByRecursion}
 use Rattle.std.proofs.Common.{arith, ap, sym, ◌∙◌, subst, inl, inr, true≢false, append_assoc, append-nil}
 use Rattle.mob_ratio.specs.Ratio.{Ratio}
@@ -11,7 +12,7 @@ use Rattle.mob_span.specs.Meet.{meet_of}
 use Rattle.mob_span.specs.Neighbours.{is_clear, is_inside}
 use Rattle.mob_span.specs.Sets.{in_some}
 use Rattle.mob_span.proofs.SpanLemmas.{no_instant, meet_has, meet_none}
-use Rattle.mob_span.proofs.Insides.{meet_left, clear_has, inside_has, inside_self, both, joined, low_inside, high_inside}
+use Rattle.mob_span.proofs.Insides.{meet_left, clear_has, inside_has, inside_self, low_inside, high_inside}
 use Rattle.mob_span.specs.Parts.{PartsAreClear}
 use Rattle.mob_slice.specs.Slices.{IsSound}
 use Rattle.mob_slice.specs.Look.{IsLookFault}
@@ -30,7 +31,7 @@ use Rattle.mob_slice.specs.declared.formula.LookFault.{LookFault}
 use Rattle.mob_slice.specs.declared.formula.LookFault.TheVariants.{Passed as LookPassed, NoMemory as LookNoMemory}
 use Rattle.mob_slice.proofs.Cuts.{all_both, all_first, all_second}
 use Rattle.mob_cells.specs.Cells.{AreCells}
-use Rattle.mob_cells.specs.Kept.{AreKept, IsKeptBy}
+use Rattle.mob_cells.specs.Kept.{AreKeptOn, IsKeptBy}
 use Rattle.mob_cells.specs.Restricted.{kept_value, is_wanted}
 use Rattle.mob_slice.specs.Entries.{operator_fault}
 use Rattle.mob_cells.proofs.Joining.{LiftsTo}
@@ -39,7 +40,7 @@ use Rattle.mob_cells.proofs.OwnEnds.{kept_same, kept_behind, start_value, end_va
 use Rattle.mob_stbox.specs.declared.area.Area.{Area}
 use Rattle.mob_stbox.specs.Boxes.{BoxOf, in_space, in_time, in_box}
 use Rattle.mob_clip.specs.Boxes.{entries_of_space, entries_in_time, entries_of_box, AreAround, front_span, back_span}
-use Rattle.mob_clip.specs.Pieces.{some_span, AreWhole, IsOnSlice}
+use Rattle.mob_clip.specs.Pieces.{some_span, AreAllOrNothing, IsOnSlice}
 
 -- ---- a span and a part of it
 -- the two sides of a span by themselves
@@ -55,7 +56,7 @@ low_front l t i = grind (arith, before-back l t, before-back t l, before-neither
 high_back : (u t : Ratio) (i : Bool) → low u (not i) t ≡ not (high u i t)
 high_back u t i = grind (arith, before-back u t, before-back t u, before-neither u t)
 
--- an instant is not both before and after a span that has one
+-- an instant is not and_parts before and after a span that has one
 not_both : (m : SpanOf) (t : Ratio) → has_instant m ≡ true → (low m.lower m.lower_inc t || high m.upper m.upper_inc t) ≡ true
 not_both m t h = grind (arith, h, before-trans m.lower t m.upper, before-trans t m.lower m.upper, before-trans m.lower m.upper t, before-neither m.lower t, before-neither t m.upper, before-neither m.lower m.upper)
 
@@ -72,10 +73,10 @@ cover false false false hs a b c = absurd (true≢false (sym c))
 
 module _ (s m : SpanOf) (inside : is_inside s m ≡ true) (some : has_instant m ≡ true) where
   low_side : (before s.lower m.lower || (up_to s.lower m.lower && (s.lower_inc || not m.lower_inc))) ≡ true
-  low_side = (both (before s.lower m.lower || (up_to s.lower m.lower && (s.lower_inc || not m.lower_inc))) (before m.upper s.upper || (up_to m.upper s.upper && (s.upper_inc || not m.upper_inc))) inside).0
+  low_side = (and_parts (before s.lower m.lower || (up_to s.lower m.lower && (s.lower_inc || not m.lower_inc))) (before m.upper s.upper || (up_to m.upper s.upper && (s.upper_inc || not m.upper_inc))) inside).0
 
   high_side : (before m.upper s.upper || (up_to m.upper s.upper && (s.upper_inc || not m.upper_inc))) ≡ true
-  high_side = (both (before s.lower m.lower || (up_to s.lower m.lower && (s.lower_inc || not m.lower_inc))) (before m.upper s.upper || (up_to m.upper s.upper && (s.upper_inc || not m.upper_inc))) inside).1
+  high_side = (and_parts (before s.lower m.lower || (up_to s.lower m.lower && (s.lower_inc || not m.lower_inc))) (before m.upper s.upper || (up_to m.upper s.upper && (s.upper_inc || not m.upper_inc))) inside).1
 
   covers_all : (t : Ratio) → (has (front_span s m) t || (has m t || has (back_span s m) t)) ≡ has s t
   covers_all t =
@@ -146,15 +147,15 @@ module _ (s : Slice PlaneLine) (m : SpanOf) (inside : is_inside s.span m ≡ tru
   f t = kept_value want (in_space space (x t) && has T t) (x t)
 
   abbrev pub Gives : SpanOf → List (Slice PlaneLine) → Type 0
-  Gives r v = AreKept plane_value_of (λ c. c.from) (λ c. c.to) f r v
+  Gives r v = AreKeptOn plane_value_of (λ c. c.from) (λ c. c.to) f r v
 
   no_time : (t : Ratio) → has s.span t ≡ true → has m t ≡ false → has T t ≡ false
   no_time t h k = sym (ap (λ z. z && has T t) h) ∙ sym (shared t) ∙ k
 
   in_the_time : (t : Ratio) → has m t ≡ true → has T t ≡ true
-  in_the_time t h = (both (has s.span t) (has T t) (sym (shared t) ∙ h)).1
+  in_the_time t h = (and_parts (has s.span t) (has T t) (sym (shared t) ∙ h)).1
 
-  outside_gives : (r : SpanOf) (v : List (Slice PlaneLine)) → is_inside s.span r ≡ true → ((t : Ratio) → has r t ≡ true → has m t ≡ false) → AreWhole s (is_wanted want false) (Some r) v → Gives r v
+  outside_gives : (r : SpanOf) (v : List (Slice PlaneLine)) → is_inside s.span r ≡ true → ((t : Ratio) → has r t ≡ true → has m t ≡ false) → AreAllOrNothing s (is_wanted want false) (Some r) v → Gives r v
   outside_gives r v i n h = kept_same plane_value_of (λ c. c.from) (λ c. c.to) (λ t. kept_value want false (x t)) f r v (λ t k. ap (λ b. kept_value want b (x t)) (nowhere (in_space space (x t)) (has T t) (no_time t (in_span t k) (n t k)))) h
     where
       in_span : (t : Ratio) → has r t ≡ true → has s.span t ≡ true
@@ -164,18 +165,18 @@ module _ (s : Slice PlaneLine) (m : SpanOf) (inside : is_inside s.span m ≡ tru
           by true e = e
           by false e = absurd (true≢false (sym k ∙ inside_has s.span r t i e))
 
-  middle_gives : (v : List (Slice PlaneLine)) → AreKept plane_value_of (λ c. c.from) (λ c. c.to) (λ t. kept_value want (in_space space (x t)) (x t)) m v → Gives m v
+  middle_gives : (v : List (Slice PlaneLine)) → AreKeptOn plane_value_of (λ c. c.from) (λ c. c.to) (λ t. kept_value want (in_space space (x t)) (x t)) m v → Gives m v
   middle_gives v h = kept_same plane_value_of (λ c. c.from) (λ c. c.to) (λ t. kept_value want (in_space space (x t)) (x t)) f m v (λ t k. ap (λ b. kept_value want b (x t)) (everywhere (in_space space (x t)) (has T t) (in_the_time t k))) h
 
-  back_lifts : (b : Bool) (v : List (Slice PlaneLine)) → AreWhole s (is_wanted want false) (cond b (Some (back_span s.span m)) None) v → LiftsTo (λ v. v) Gives (cond b (back_span s.span m ∷ []) []) v
+  back_lifts : (b : Bool) (v : List (Slice PlaneLine)) → AreAllOrNothing s (is_wanted want false) (cond b (Some (back_span s.span m)) None) v → LiftsTo (λ v. v) Gives (cond b (back_span s.span m ∷ []) []) v
   back_lifts true v h = (v, [], outside_gives (back_span s.span m) v (back_inside s.span m inside some) (back_not s.span m inside some) h, refl, sym (append-nil v))
   back_lifts false v h = h
 
-  all_lifts : (a b : Bool) (front middle back v : List (Slice PlaneLine)) → AreWhole s (is_wanted want false) (cond a (Some (front_span s.span m)) None) front → Gives m middle → LiftsTo (λ v. v) Gives (cond b (back_span s.span m ∷ []) []) back → v ≡ (front ++ middle) ++ back → LiftsTo (λ v. v) Gives (cond a (front_span s.span m ∷ []) [] ++ m ∷ cond b (back_span s.span m ∷ []) []) v
+  all_lifts : (a b : Bool) (front middle back v : List (Slice PlaneLine)) → AreAllOrNothing s (is_wanted want false) (cond a (Some (front_span s.span m)) None) front → Gives m middle → LiftsTo (λ v. v) Gives (cond b (back_span s.span m ∷ []) []) back → v ≡ (front ++ middle) ++ back → LiftsTo (λ v. v) Gives (cond a (front_span s.span m ∷ []) [] ++ m ∷ cond b (back_span s.span m ∷ []) []) v
   all_lifts true b front middle back v h g k e = (front, middle ++ back, outside_gives (front_span s.span m) front (front_inside s.span m inside some) (front_not s.span m inside some) h, (middle, back, g, k, refl), e ∙ append_assoc front middle back)
   all_lifts false b front middle back v h g k e = (middle, back, g, k, e ∙ ap (λ z. (z ++ middle) ++ back) h)
 
-  pub around_kept : (middle v : List (Slice PlaneLine)) → AreKept plane_value_of (λ c. c.from) (λ c. c.to) (λ t. kept_value want (in_space space (x t)) (x t)) m middle → AreAround s want m middle v → AreKept plane_value_of (λ c. c.from) (λ c. c.to) (λ t. kept_value want (in_space space (x t) && has T t) (x t)) s.span v
+  pub around_kept : (middle v : List (Slice PlaneLine)) → AreKeptOn plane_value_of (λ c. c.from) (λ c. c.to) (λ t. kept_value want (in_space space (x t)) (x t)) m middle → AreAround s want m middle v → AreKeptOn plane_value_of (λ c. c.from) (λ c. c.to) (λ t. kept_value want (in_space space (x t) && has T t) (x t)) s.span v
   around_kept middle v g h =
       let a = has_instant (front_span s.span m) in
       let b = has_instant (back_span s.span m) in
@@ -191,7 +192,7 @@ module _ (s : Slice PlaneLine) (sound : IsSound (λ c. c.from) (λ c. c.to) s) w
     abbrev pub wanted : Ratio → Option Point
     wanted t = kept_value want (in_space space (slice_value plane_value_of s t) && has T t) (slice_value plane_value_of s t)
 
-    pub none_shared : {V : Type 0} (items : V → List (Slice PlaneLine)) (q : Result V OpFault) → has_instant (meet_of s.span T) ≡ false → MatchResult q (λ v. AreWhole s (is_wanted want false) (Some s.span) (items v)) (λ e. e ≡ NoMemory) → IsKeptBy plane_value_of (λ c. c.from) (λ c. c.to) items wanted s.span (entries_in_time (Some T) space s) q
+    pub none_shared : {V : Type 0} (items : V → List (Slice PlaneLine)) (q : Result V OpFault) → has_instant (meet_of s.span T) ≡ false → MatchResult q (λ v. AreAllOrNothing s (is_wanted want false) (Some s.span) (items v)) (λ e. e ≡ NoMemory) → IsKeptBy plane_value_of (λ c. c.from) (λ c. c.to) items wanted s.span (entries_in_time (Some T) space s) q
     none_shared items (Ok v) n h = (kept_same plane_value_of (λ c. c.from) (λ c. c.to) (λ t. kept_value want false (slice_value plane_value_of s t)) wanted s.span (items v) (λ t k. ap (λ b. kept_value want b (slice_value plane_value_of s t)) (nowhere (in_space space (slice_value plane_value_of s t)) (has T t) (out t k))) h, rw n refl)
       where
         out : (t : Ratio) → has s.span t ≡ true → has T t ≡ false
@@ -210,7 +211,7 @@ module _ (s : Slice PlaneLine) (sound : IsSound (λ c. c.from) (λ c. c.to) s) w
     space_fails m NoMemory e k fits h = tt
 
     pub time_kept : {V : Type 0} (items : V → List (Slice PlaneLine)) (q : Result V OpFault) (m : SpanOf) (middle : List (Slice PlaneLine)) → m ≡ meet_of s.span T → has_instant m ≡ true → AllFit (at_ends (slice_parts plane_parts_of s) m)
-        → AreKept plane_value_of (λ c. c.from) (λ c. c.to) (λ t. kept_value want (in_space space (slice_value plane_value_of s t)) (slice_value plane_value_of s t)) m middle → IsFirst (entries_of_space space s m) None
+        → AreKeptOn plane_value_of (λ c. c.from) (λ c. c.to) (λ t. kept_value want (in_space space (slice_value plane_value_of s t)) (slice_value plane_value_of s t)) m middle → IsFirst (entries_of_space space s m) None
         → MatchResult q (λ v. AreAround s want m middle (items v)) (λ e. e ≡ NoMemory) → IsKeptBy plane_value_of (λ c. c.from) (λ c. c.to) items wanted s.span (entries_in_time (Some T) space s) q
     time_kept items (Ok v) m middle e k fits g first h = (around_kept s m (subst (λ z. is_inside s.span z ≡ true) (sym e) (meet_left s.span T)) k want T space (λ t. ap (λ z. has z t) e ∙ meet_has s.span T t) middle (items v) g h, behind m None e k fits first)
     time_kept items (Err f) m middle e k fits g first h = rw h tt

@@ -26,10 +26,11 @@ use Rattle.mob_slice.specs.declared.formula.OpFault.TheVariants.{Passed, NoMemor
 use Rattle.mob_slice.proofs.Cuts.{all_both, all_first, all_second}
 use Rattle.mob_cells.specs.declared.linear.Ends.{Ends}
 use Rattle.mob_cells.specs.declared.signs.Placed.{Placed}
-use Rattle.mob_cells.specs.Roots.{IsLevel, root_of, root_parts, roots_parts, roots, listed}
+use Rattle.mob_cells.specs.Roots.{IsLevel, root_of, root_parts, roots_parts, roots, as_list}
 use Rattle.mob_cells.specs.Cells.{IsPlaced}
 use Rattle.mob_cells.proofs.Zeros.{root_inside}
 use Rattle.mob_cells.proofs.OwnEnds.{start_value, end_value}
+use Rattle.mob_cells.proofs.Making.{each_both}
 use Rattle.mob_clip.specs.declared.sides.EdgeEnds.{EdgeEnds}
 use Rattle.mob_clip.specs.declared.roots.EdgePlaced.{EdgePlaced}
 use Rattle.mob_clip.specs.Sides.{beside, beside_parts, with_turn, turning_parts, IsPartFault}
@@ -50,29 +51,25 @@ module _ {A : Type 0} (f g h : A → List Ratio) where
   gather k (x ∷ xs) a b = all_both (f x) (flat_map f xs) (k x (all_first (g x) (flat_map g xs) a) (all_first (h x) (flat_map h xs) b)) (gather k xs (all_second (g x) (flat_map g xs) a) (all_second (h x) (flat_map h xs) b))
 
 -- ---- the roots of an edge
-pub within_root : (s : SpanOf) (p : Placed) → IsPlaced s p → AllByRecursion (IsBetweenEnds s) (listed p.root)
-within_root s p h = subst (λ z. AllByRecursion (IsBetweenEnds s) (listed z)) (sym h.root) (by (opposite p.ends.at_lower p.ends.at_upper) refl)
+pub within_root : (s : SpanOf) (p : Placed) → IsPlaced s p → AllByRecursion (IsBetweenEnds s) (as_list p.root)
+within_root s p h = subst (λ z. AllByRecursion (IsBetweenEnds s) (as_list z)) (sym h.root) (by (opposite p.ends.at_lower p.ends.at_upper) refl)
   where
-    by : (b : Bool) → opposite p.ends.at_lower p.ends.at_upper ≡ b → AllByRecursion (IsBetweenEnds s) (listed (cond b (Some (root_at p.ends.at_lower p.ends.at_upper s.lower s.upper)) None))
+    by : (b : Bool) → opposite p.ends.at_lower p.ends.at_upper ≡ b → AllByRecursion (IsBetweenEnds s) (as_list (cond b (Some (root_at p.ends.at_lower p.ends.at_upper s.lower s.upper)) None))
     by true o = let r = root_at p.ends.at_lower p.ends.at_upper s.lower s.upper in let i = root_inside s p.ends h.level o in ((has_upto_lower s r i, has_upto_upper s r i), tt)
     by false o = tt
-
-each_joined : {A : Type 0} (P : A → Type 0) (xs ys : List A) → AllByRecursion P xs → AllByRecursion P ys → AllByRecursion P (xs ++ ys)
-each_joined P [] ys h k = k
-each_joined P (x ∷ xs) ys h k = (h.0, each_joined P xs ys h.1 k)
 
 within_edge : (s : SpanOf) (g : EdgePlaced) → IsPlacedEdge s g → AllByRecursion (IsBetweenEnds s) (edge_roots g)
 within_edge s g h =
     let W = IsBetweenEnds s in
-    each_joined W (listed g.turn.root) (flat_map (λ p. listed p.root) (g.x_a ∷ g.x_b ∷ g.y_a ∷ g.y_b ∷ [])) (within_root s g.turn h.turn)
-    (each_joined W (listed g.x_a.root) (flat_map (λ p. listed p.root) (g.x_b ∷ g.y_a ∷ g.y_b ∷ [])) (within_root s g.x_a h.x_a)
-    (each_joined W (listed g.x_b.root) (flat_map (λ p. listed p.root) (g.y_a ∷ g.y_b ∷ [])) (within_root s g.x_b h.x_b)
-    (each_joined W (listed g.y_a.root) (flat_map (λ p. listed p.root) (g.y_b ∷ [])) (within_root s g.y_a h.y_a)
-    (each_joined W (listed g.y_b.root) [] (within_root s g.y_b h.y_b) tt))))
+    each_both W (as_list g.turn.root) (flat_map (λ p. as_list p.root) (g.x_a ∷ g.x_b ∷ g.y_a ∷ g.y_b ∷ [])) (within_root s g.turn h.turn)
+    (each_both W (as_list g.x_a.root) (flat_map (λ p. as_list p.root) (g.x_b ∷ g.y_a ∷ g.y_b ∷ [])) (within_root s g.x_a h.x_a)
+    (each_both W (as_list g.x_b.root) (flat_map (λ p. as_list p.root) (g.y_a ∷ g.y_b ∷ [])) (within_root s g.x_b h.x_b)
+    (each_both W (as_list g.y_a.root) (flat_map (λ p. as_list p.root) (g.y_b ∷ [])) (within_root s g.y_a h.y_a)
+    (each_both W (as_list g.y_b.root) [] (within_root s g.y_b h.y_b) tt))))
 
 within_edges : (s : SpanOf) (gs : List EdgePlaced) → AllByRecursion (IsPlacedEdge s) gs → AllByRecursion (IsBetweenEnds s) (flat_map edge_roots gs)
 within_edges s [] h = tt
-within_edges s (g ∷ gs) h = each_joined (IsBetweenEnds s) (edge_roots g) (flat_map edge_roots gs) (within_edge s g h.0) (within_edges s gs h.1)
+within_edges s (g ∷ gs) h = each_both (IsBetweenEnds s) (edge_roots g) (flat_map edge_roots gs) (within_edge s g h.0) (within_edges s gs h.1)
 
 pub within_all : (s : SpanOf) (gs : List EdgePlaced) (rs : List Ratio) → rs ≡ flat_map edge_roots gs → AllByRecursion (IsPlacedEdge s) gs → AllByRecursion (IsBetweenEnds s) rs
 within_all s gs rs e h = rw e (within_edges s gs h)
@@ -94,7 +91,7 @@ pub are_placed : (s : SpanOf) (gs : List EdgeEnds) (ps : List EdgePlaced) → ps
 are_placed s gs ps e h = rw e (placed_each s gs h)
 
 module _ (parts : Ratio → List Ratio) where
-  fits_root : (o : Option Ratio) → AllFit (flat_map parts (listed o)) → MatchOption o (Unit {0}) (λ r. AllFit (parts r))
+  fits_root : (o : Option Ratio) → AllFit (flat_map parts (as_list o)) → MatchOption o (Unit {0}) (λ r. AllFit (parts r))
   fits_root None h = tt
   fits_root (Some r) h = all_first (parts r) [] h
 
@@ -103,11 +100,11 @@ module _ (parts : Ratio → List Ratio) where
 
   edge_fits : (g : EdgePlaced) → AllFit (flat_map parts (edge_roots g)) → CutsFit parts g
   edge_fits g h =
-      let a = first_root (listed g.turn.root) (flat_map (λ p. listed p.root) (g.x_a ∷ g.x_b ∷ g.y_a ∷ g.y_b ∷ [])) h in
-      let b = first_root (listed g.x_a.root) (flat_map (λ p. listed p.root) (g.x_b ∷ g.y_a ∷ g.y_b ∷ [])) a.1 in
-      let c = first_root (listed g.x_b.root) (flat_map (λ p. listed p.root) (g.y_a ∷ g.y_b ∷ [])) b.1 in
-      let d = first_root (listed g.y_a.root) (flat_map (λ p. listed p.root) (g.y_b ∷ [])) c.1 in
-      let e = first_root (listed g.y_b.root) [] d.1 in
+      let a = first_root (as_list g.turn.root) (flat_map (λ p. as_list p.root) (g.x_a ∷ g.x_b ∷ g.y_a ∷ g.y_b ∷ [])) h in
+      let b = first_root (as_list g.x_a.root) (flat_map (λ p. as_list p.root) (g.x_b ∷ g.y_a ∷ g.y_b ∷ [])) a.1 in
+      let c = first_root (as_list g.x_b.root) (flat_map (λ p. as_list p.root) (g.y_a ∷ g.y_b ∷ [])) b.1 in
+      let d = first_root (as_list g.y_a.root) (flat_map (λ p. as_list p.root) (g.y_b ∷ [])) c.1 in
+      let e = first_root (as_list g.y_b.root) [] d.1 in
       record { turn = fits_root g.turn.root a.0; x_a = fits_root g.x_a.root b.0; x_b = fits_root g.x_b.root c.0; y_a = fits_root g.y_a.root d.0; y_b = fits_root g.y_b.root e.0 }
 
   pub cuts_each : (gs : List EdgePlaced) → AllFit (flat_map parts (flat_map edge_roots gs)) → AllByRecursion (CutsFit parts) gs
@@ -197,7 +194,7 @@ module _ (es : List (Point × Point)) (s : Slice PlaneLine) (sound : IsSound (λ
 
   -- F1
   cuts_same : flat_map parts (flat_map edge_roots (map (place_edge s.span) ways)) ≡ flat_map parts (roots s.span (edges_ends (slice_value plane_value_of s s.span.lower) (slice_value plane_value_of s s.span.upper) es))
-  cuts_same = ap (flat_map parts) (flat_map_map edge_roots (place_edge s.span) ways ∙ ways_flat (λ f. listed (root_of s.span f)) ∙ ap (roots s.span) (sym same_ends))
+  cuts_same = ap (flat_map parts) (flat_map_map edge_roots (place_edge s.span) ways ∙ ways_flat (λ f. as_list (root_of s.span f)) ∙ ap (roots s.span) (sym same_ends))
 
   levels : (xs : List (Point × Point)) → AllByRecursion (λ g. AllByRecursion (IsLevel s.span) (listed_ends g)) (map (with_turn p q) (map (beside p q) xs))
   levels [] = tt

@@ -10,34 +10,36 @@ use Rattle.mob_ratio.specs.Sign.{sign_of}
 use Rattle.mob_frac.specs.Formula.{AllFit}
 use Rattle.mob_span.specs.Span.{SpanOf, has}
 use Rattle.mob_cells.specs.Roots.{function_at}
+use Rattle.mob_cells.proofs.Making.{each_more}
 use Rattle.mob_plane.specs.Membership.{is_one_alone}
 use Rattle.mob_plane.specs.EdgeWise.{is_on, crosses, some_on, odd_cross, inside_by}
 use Rattle.mob_plane.specs.declared.edges.EdgeSigns.{EdgeSigns}
 use Rattle.mob_plane.specs.declared.edges.Tally.{Tally}
+use Rattle.mob_plane.proofs.Counts.{alone_assoc}
 use Rattle.mob_clip.specs.declared.steps.Change.{Change}
 use Rattle.mob_clip.specs.declared.steps.Steps.{Steps}
 use Rattle.mob_clip.specs.declared.membership.Place.TheVariants.{Turn, XA, XB, YA, YB}
 use Rattle.mob_clip.specs.declared.roots.EdgePlaced.{EdgePlaced}
 use Rattle.mob_clip.specs.Steps.{step_at, steps_at, ChangesFit}
-use Rattle.mob_clip.specs.Signs.{joined, joined_signs, only, signs_on, signs_beside, edge_tally, tally_change, tally_both, tally_all}
+use Rattle.mob_clip.specs.Signs.{known_sign, known_signs, one_sign, signs_on, signs_beside, edge_tally, tally_change, tally_both, tally_all}
 use Rattle.mob_clip.specs.Roots.{CutsFit, IsPlacedEdge}
 
 -- ---- the signs of an edge from those of its functions
-joined_end : (o : Ordering) → joined o Equal ≡ o
+joined_end : (o : Ordering) → known_sign o Equal ≡ o
 joined_end Less = refl
 joined_end Equal = refl
 joined_end Greater = refl
 
-pub ends_joined : (s : SpanOf) (t : Ratio) (g : EdgePlaced) (x y : EdgeSigns) → x ≡ joined_signs (only XA (sign_of (function_at s g.x_a.ends t))) (only XB (sign_of (function_at s g.x_b.ends t))) → y ≡ joined_signs (only YA (sign_of (function_at s g.y_a.ends t))) (only YB (sign_of (function_at s g.y_b.ends t))) → joined_signs x y ≡ signs_beside s t g
+pub ends_joined : (s : SpanOf) (t : Ratio) (g : EdgePlaced) (x y : EdgeSigns) → x ≡ known_signs (one_sign XA (sign_of (function_at s g.x_a.ends t))) (one_sign XB (sign_of (function_at s g.x_b.ends t))) → y ≡ known_signs (one_sign YA (sign_of (function_at s g.y_a.ends t))) (one_sign YB (sign_of (function_at s g.y_b.ends t))) → known_signs x y ≡ signs_beside s t g
 ends_joined s t g x y h k = rw (h, k) (λ i. record {
   turn = Equal;
-  x_a = (joined_end (joined (sign_of (function_at s g.x_a.ends t)) Equal) ∙ joined_end (sign_of (function_at s g.x_a.ends t))) i;
+  x_a = (joined_end (known_sign (sign_of (function_at s g.x_a.ends t)) Equal) ∙ joined_end (sign_of (function_at s g.x_a.ends t))) i;
   x_b = joined_end (sign_of (function_at s g.x_b.ends t)) i;
   y_a = joined_end (sign_of (function_at s g.y_a.ends t)) i;
   y_b = sign_of (function_at s g.y_b.ends t);
 })
 
-pub turn_joined : (s : SpanOf) (t : Ratio) (g : EdgePlaced) (x y : EdgeSigns) → x ≡ only Turn (sign_of (function_at s g.turn.ends t)) → y ≡ signs_beside s t g → joined_signs x y ≡ signs_on s t g
+pub turn_joined : (s : SpanOf) (t : Ratio) (g : EdgePlaced) (x y : EdgeSigns) → x ≡ one_sign Turn (sign_of (function_at s g.turn.ends t)) → y ≡ signs_beside s t g → known_signs x y ≡ signs_on s t g
 turn_joined s t g x y h k = rw (h, k) (λ i. record {
   turn = joined_end (sign_of (function_at s g.turn.ends t)) i;
   x_a = sign_of (function_at s g.x_a.ends t);
@@ -70,12 +72,6 @@ tally_fit s r parts k h = rw k (tallied_fit parts s.changes.items h)
 or_assoc : (a b c : Bool) → ((a || b) || c) ≡ (a || (b || c))
 or_assoc true b c = refl
 or_assoc false b c = refl
-
-alone_assoc : (a b c : Bool) → is_one_alone (is_one_alone a b) c ≡ is_one_alone a (is_one_alone b c)
-alone_assoc true true true = refl
-alone_assoc true true false = refl
-alone_assoc true false c = refl
-alone_assoc false b c = refl
 
 tally_assoc : (a b c : Tally) → tally_both (tally_both a b) c ≡ tally_both a (tally_both b c)
 tally_assoc a b c = λ i. record { on = or_assoc a.on b.on c.on i; odd = alone_assoc a.odd b.odd c.odd i }
@@ -136,10 +132,6 @@ knowing_start s all h = record { values = λ t i. refl; fit = λ parts a b k. (t
 
 pub knowing_next : (s : SpanOf) (all rest later : List EdgePlaced) (g : EdgePlaced) (out : List (Steps Tally)) → rest ≡ g ∷ later → IsKnowing s all rest out → IsPlacedEdge s g
 knowing_next s all rest later g out e m = (subst (AllByRecursion (IsPlacedEdge s)) e m.placed).0
-
-each_more : {A : Type 0} (P : A → Type 0) (xs : List A) (x : A) → AllByRecursion P xs → P x → AllByRecursion P (xs ++ x ∷ [])
-each_more P [] x h k = (k, tt)
-each_more P (y ∷ xs) x h k = (h.0, each_more P xs x h.1 k)
 
 pub knowing_step : (s : SpanOf) (all rest later : List EdgePlaced) (g : EdgePlaced) (out out' : List (Steps Tally)) (x : Steps Tally) → rest ≡ g ∷ later → out' ≡ out ++ x ∷ [] → ((t : Ratio) → has s t ≡ true → steps_at x t ≡ edge_tally (signs_on s t g))
     → ((parts : Ratio → List Ratio) → AllFit (parts s.lower) → AllFit (parts s.upper) → CutsFit parts g → ChangesFit parts x.changes.items) → IsKnowing s all rest out → IsKnowing s all later out'

@@ -1,5 +1,6 @@
 -- What is left of a slice, from its start to where a walk has come.
 use Rattle.std.specs.Prelude.{◌≡◌, Bool, true, false, cond, not, ◌&&◌, ◌||◌, List, [], ◌∷◌, ◌++◌, Option, Some, None, MatchOption, Result, Ok, Err, MatchResult, refl}
+use Rattle.std.proofs.lemmas.Bool.{and_parts}
 use Rattle.std.specs.List.{AllByRecursion}
 use Rattle.std.proofs.Common.{arith, ap, sym, ◌∙◌, subst, true≢false, append-nil}
 use Rattle.mob_ratio.specs.Ratio.{Ratio}
@@ -9,7 +10,7 @@ use Rattle.mob_frac.specs.Formula.{AllFit}
 use Rattle.mob_span.specs.Span.{SpanOf, has, has_instant}
 use Rattle.mob_span.specs.Neighbours.{is_clear, is_inside}
 use Rattle.mob_span.proofs.SpanLemmas.{no_instant}
-use Rattle.mob_span.proofs.Insides.{clear_inside, inside_clear, clear_has, inside_has, inside_self, both}
+use Rattle.mob_span.proofs.Insides.{clear_inside, inside_clear, clear_has, inside_has, inside_self}
 use Rattle.mob_plane.specs.declared.point.Point.{Point}
 use Rattle.mob_slice.specs.Slices.{value_at, IsOrdered, IsSound, IsClearOf, OfHead}
 use Rattle.mob_slice.specs.Pieces.{AreInside}
@@ -21,14 +22,14 @@ use Rattle.mob_slice.specs.declared.line.PlaneLine.{PlaneLine}
 use Rattle.mob_slice.specs.declared.formula.OpFault.{OpFault}
 use Rattle.mob_slice.specs.declared.formula.OpFault.TheVariants.{NoMemory}
 use Rattle.mob_slice.proofs.Cuts.{all_both, all_first, all_second}
-use Rattle.mob_cells.specs.Kept.{AreKept}
+use Rattle.mob_cells.specs.Kept.{AreKeptOn}
 use Rattle.mob_cells.specs.Restricted.{kept_value, is_wanted}
 use Rattle.mob_cells.proofs.Restricting.{inside_trans}
 use Rattle.mob_plane.specs.declared.edges.Tally.{Tally}
 use Rattle.mob_clip.specs.declared.steps.Change.{Change}
 use Rattle.mob_clip.specs.declared.steps.Steps.{Steps}
 use Rattle.mob_clip.specs.Steps.{step_at, steps_at, ChangesFit}
-use Rattle.mob_clip.specs.Pieces.{is_known_in, some_span, left_span, right_span, left_piece, right_piece, IsOnSlice, AreWhole}
+use Rattle.mob_clip.specs.Pieces.{is_known_in, some_span, left_span, right_span, left_piece, right_piece, IsOnSlice, AreAllOrNothing}
 
 -- ---- a span before and behind an instant
 -- t is before r, or is r where it is included
@@ -185,13 +186,13 @@ module _ (s : Slice PlaneLine) where
     left_start h k = record { ordered = tt; inside = tt; ahead = (h.some, tt); holds = (inside_self s.span, k); values = λ t i n. absurd (true≢false (sym i ∙ n)) }
 
     -- all of a piece, or nothing, has the values f there
-    whole_kept : (keeps : Bool) (c : SpanOf) (v : List (Slice PlaneLine)) → AreWhole s keeps (Some c) v → ((t : Ratio) → has c t ≡ true → cond keeps (Some (slice_value plane_value_of s t)) None ≡ f t) → AreKept plane_value_of (λ k. k.from) (λ k. k.to) f c v
+    whole_kept : (keeps : Bool) (c : SpanOf) (v : List (Slice PlaneLine)) → AreAllOrNothing s keeps (Some c) v → ((t : Ratio) → has c t ≡ true → cond keeps (Some (slice_value plane_value_of s t)) None ≡ f t) → AreKeptOn plane_value_of (λ k. k.from) (λ k. k.to) f c v
     whole_kept keeps c v h k = record { ordered = h.ordered; inside = h.inside; values = λ t i. h.values t i ∙ k t i }
 
-    some_kept : (keeps : Bool) (c : SpanOf) (v : List (Slice PlaneLine)) → AreWhole s keeps (some_span c) v → ((t : Ratio) → has_piece (some_span c) t ≡ true → cond keeps (Some (slice_value plane_value_of s t)) None ≡ f t) → AreKept plane_value_of (λ k. k.from) (λ k. k.to) f c v
+    some_kept : (keeps : Bool) (c : SpanOf) (v : List (Slice PlaneLine)) → AreAllOrNothing s keeps (some_span c) v → ((t : Ratio) → has_piece (some_span c) t ≡ true → cond keeps (Some (slice_value plane_value_of s t)) None ≡ f t) → AreKeptOn plane_value_of (λ k. k.from) (λ k. k.to) f c v
     some_kept keeps c v h k = by (has_instant c) refl h k
       where
-        by : (b : Bool) → has_instant c ≡ b → AreWhole s keeps (cond b (Some c) None) v → ((t : Ratio) → has_piece (cond b (Some c) None) t ≡ true → cond keeps (Some (slice_value plane_value_of s t)) None ≡ f t) → AreKept plane_value_of (λ k. k.from) (λ k. k.to) f c v
+        by : (b : Bool) → has_instant c ≡ b → AreAllOrNothing s keeps (cond b (Some c) None) v → ((t : Ratio) → has_piece (cond b (Some c) None) t ≡ true → cond keeps (Some (slice_value plane_value_of s t)) None ≡ f t) → AreKeptOn plane_value_of (λ k. k.from) (λ k. k.to) f c v
         by true e h k = whole_kept keeps c v h k
         by false e h k = rw h (record { ordered = tt; inside = tt; values = λ t i. absurd (true≢false (sym i ∙ no_instant c t e)) })
 
@@ -204,7 +205,7 @@ module _ (s : Slice PlaneLine) where
     not_left true b h = absurd (true≢false h)
     not_left false b h = refl
 
-    passed_some : (c : SpanOf) (r : Ratio) (i : Bool) (out v : List (Slice PlaneLine)) → AllFit (parts r) → AreKept plane_value_of (λ k. k.from) (λ k. k.to) f (left_span c r i) v → IsLeft f (Some c) out → IsLeft f (some_span (right_span c r i)) (out ++ v)
+    passed_some : (c : SpanOf) (r : Ratio) (i : Bool) (out v : List (Slice PlaneLine)) → AllFit (parts r) → AreKeptOn plane_value_of (λ k. k.from) (λ k. k.to) f (left_span c r i) v → IsLeft f (Some c) out → IsLeft f (some_span (right_span c r i)) (out ++ v)
     passed_some c r i out v k w m = record {
       ordered = order_joined (left_span c r i) out v m.ordered (before_part c (left_span c r i) out (left_inside c r i) m.ahead.1) w.inside w.ordered;
       inside = inside_joined s.span (left_span c r i) out v m.inside (inside_trans s.span c (left_span c r i) m.holds.0 (left_inside c r i)) w.inside;
@@ -221,11 +222,11 @@ module _ (s : Slice PlaneLine) where
         at t h n true e = value_behind c out v t m.ahead.1 e ∙ w.values t (left_has c r i t ∙ in_left (has c t) (is_left r i t) (sym (right_has c r i t) ∙ n) e)
         at t h n false e = value_front out v t (no_value (left_span c r i) v t w.inside (left_has c r i t ∙ not_left (has c t) (is_left r i t) e)) ∙ m.values t h e
 
-    pub passed : (rest rest' : Option SpanOf) (r : Ratio) (i keeps : Bool) (out out' v : List (Slice PlaneLine)) → AllFit (parts r) → rest' ≡ right_piece rest r i → out' ≡ out ++ v → AreWhole s keeps (left_piece rest r i) v → ((t : Ratio) → has_piece (left_piece rest r i) t ≡ true → cond keeps (Some (slice_value plane_value_of s t)) None ≡ f t) → IsLeft f rest out → IsLeft f rest' out'
+    pub passed : (rest rest' : Option SpanOf) (r : Ratio) (i keeps : Bool) (out out' v : List (Slice PlaneLine)) → AllFit (parts r) → rest' ≡ right_piece rest r i → out' ≡ out ++ v → AreAllOrNothing s keeps (left_piece rest r i) v → ((t : Ratio) → has_piece (left_piece rest r i) t ≡ true → cond keeps (Some (slice_value plane_value_of s t)) None ≡ f t) → IsLeft f rest out → IsLeft f rest' out'
     passed None rest' r i keeps out out' v k e n h g m = rw (e, n, h, append-nil out) m
     passed (Some c) rest' r i keeps out out' v k e n h g m = rw (e, n) (passed_some c r i out v k (some_kept keeps (left_span c r i) v h g) m)
 
-    pub finished : (rest : Option SpanOf) (keeps : Bool) (out all v : List (Slice PlaneLine)) → all ≡ out ++ v → AreWhole s keeps rest v → ((t : Ratio) → has_piece rest t ≡ true → cond keeps (Some (slice_value plane_value_of s t)) None ≡ f t) → IsLeft f rest out → AreKept plane_value_of (λ k. k.from) (λ k. k.to) f s.span all
+    pub finished : (rest : Option SpanOf) (keeps : Bool) (out all v : List (Slice PlaneLine)) → all ≡ out ++ v → AreAllOrNothing s keeps rest v → ((t : Ratio) → has_piece rest t ≡ true → cond keeps (Some (slice_value plane_value_of s t)) None ≡ f t) → IsLeft f rest out → AreKeptOn plane_value_of (λ k. k.from) (λ k. k.to) f s.span all
     finished None keeps out all v n h g m = rw (n, h, append-nil out) (record { ordered = m.ordered; inside = m.inside; values = λ t i. m.values t i refl })
     finished (Some c) keeps out all v n h g m = rw n (record {
       ordered = order_joined c out v m.ordered m.ahead.1 h.inside h.ordered;
@@ -256,11 +257,11 @@ module _ (s : Slice PlaneLine) (want : Bool) (steps : Steps Tally) where
 
   left_of : (rest : Option SpanOf) (r : Ratio) (i : Bool) (t : Ratio) → has_piece (left_piece rest r i) t ≡ true → (has_piece rest t ≡ true) × (is_left r i t ≡ true)
   left_of None r i t h = absurd (true≢false (sym h))
-  left_of (Some c) r i t h = both (has c t) (is_left r i t) (sym (left_has c r i t) ∙ sym (some_has (left_span c r i) t) ∙ h)
+  left_of (Some c) r i t h = and_parts (has c t) (is_left r i t) (sym (left_has c r i t) ∙ sym (some_has (left_span c r i) t) ∙ h)
 
   right_of : (rest : Option SpanOf) (r : Ratio) (i : Bool) (t : Ratio) → has_piece (right_piece rest r i) t ≡ true → (has_piece rest t ≡ true) × (not (is_left r i t) ≡ true)
   right_of None r i t h = absurd (true≢false (sym h))
-  right_of (Some c) r i t h = both (has c t) (not (is_left r i t)) (sym (right_has c r i t) ∙ sym (some_has (right_span c r i) t) ∙ h)
+  right_of (Some c) r i t h = and_parts (has c t) (not (is_left r i t)) (sym (right_has c r i t) ∙ sym (some_has (right_span c r i) t) ∙ h)
 
   is_front : (r t : Ratio) → is_left r false t ≡ true → before t r ≡ true
   is_front r t h = grind (arith, h)
@@ -273,8 +274,8 @@ module _ (s : Slice PlaneLine) (want : Bool) (steps : Steps Tally) where
 
   -- past a change: what is in front of it, what stands there, and what is behind
   pub passing_step : (rest rest' rest'' : Option SpanOf) (now : Tally) (later later' : List (Change Tally)) (c : Change Tally) (front there : Bool) (out out' out'' v w : List (Slice PlaneLine)) → later ≡ c ∷ later'
-      → front ≡ is_wanted want (is_known_in now) → rest' ≡ right_piece rest c.at false → out' ≡ out ++ v → AreWhole s front (left_piece rest c.at false) v
-      → there ≡ is_wanted want (is_known_in c.there) → rest'' ≡ right_piece rest' c.at true → out'' ≡ out' ++ w → AreWhole s there (left_piece rest' c.at true) w
+      → front ≡ is_wanted want (is_known_in now) → rest' ≡ right_piece rest c.at false → out' ≡ out ++ v → AreAllOrNothing s front (left_piece rest c.at false) v
+      → there ≡ is_wanted want (is_known_in c.there) → rest'' ≡ right_piece rest' c.at true → out'' ≡ out' ++ w → AreAllOrNothing s there (left_piece rest' c.at true) w
       → IsPassing rest now later out → IsPassing rest'' c.behind later' out''
   passing_step rest rest' rest'' now later later' c front there out out' out'' v w e kf rf nf hf kt rt nt ht m =
       let fits = subst (ChangesFit (slice_parts plane_parts_of s)) e m.fits in
@@ -287,10 +288,10 @@ module _ (s : Slice PlaneLine) (want : Bool) (steps : Steps Tally) where
         fits = fits.1;
       }
 
-  pub passing_end : (rest : Option SpanOf) (now : Tally) (later : List (Change Tally)) (keeps : Bool) (out all v : List (Slice PlaneLine)) → later ≡ [] → keeps ≡ is_wanted want (is_known_in now) → all ≡ out ++ v → AreWhole s keeps rest v → IsPassing rest now later out → AreKept plane_value_of (λ k. k.from) (λ k. k.to) wanted s.span all
+  pub passing_end : (rest : Option SpanOf) (now : Tally) (later : List (Change Tally)) (keeps : Bool) (out all v : List (Slice PlaneLine)) → later ≡ [] → keeps ≡ is_wanted want (is_known_in now) → all ≡ out ++ v → AreAllOrNothing s keeps rest v → IsPassing rest now later out → AreKeptOn plane_value_of (λ k. k.from) (λ k. k.to) wanted s.span all
   passing_end rest now later keeps out all v e k n h m = finished s wanted rest keeps out all v n h (λ t i. keeps_is keeps now t k (m.same t i ∙ ap (λ z. step_at now z t) e)) m.left
 
   pub passing_ends : {V : Type 0} (items : V → List (Slice PlaneLine)) (result : Result V OpFault) (rest : Option SpanOf) (now : Tally) (later : List (Change Tally)) (keeps : Bool) (out : List (Slice PlaneLine)) → later ≡ [] → keeps ≡ is_wanted want (is_known_in now) → IsPassing rest now later out
-      → MatchResult result (λ all. (v : List (Slice PlaneLine)) × (items all ≡ out ++ v) × AreWhole s keeps rest v) (λ e. e ≡ NoMemory) → MatchResult result (λ all. AreKept plane_value_of (λ k. k.from) (λ k. k.to) wanted s.span (items all)) (λ e. e ≡ NoMemory)
+      → MatchResult result (λ all. (v : List (Slice PlaneLine)) × (items all ≡ out ++ v) × AreAllOrNothing s keeps rest v) (λ e. e ≡ NoMemory) → MatchResult result (λ all. AreKeptOn plane_value_of (λ k. k.from) (λ k. k.to) wanted s.span (items all)) (λ e. e ≡ NoMemory)
   passing_ends items (Ok all) rest now later keeps out e k m h = passing_end rest now later keeps out (items all) h.0 e k h.1 h.2 m
   passing_ends items (Err f) rest now later keeps out e k m h = h

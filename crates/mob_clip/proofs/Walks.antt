@@ -9,7 +9,7 @@ use Rattle.mob_frac.specs.Formula.{AllFit}
 use Rattle.mob_clip.specs.declared.steps.Change.{Change}
 use Rattle.mob_clip.specs.declared.steps.Met.{Met}
 use Rattle.mob_clip.specs.declared.steps.Steps.{Steps}
-use Rattle.mob_clip.specs.Steps.{step_at, steps_at, ChangesFit, IsMet}
+use Rattle.mob_clip.specs.Steps.{step_at, steps_at, ChangesFit, IsNextChange}
 
 -- t is not behind x, which is before y
 in_front : (t x y : Ratio) → before x t ≡ false → before x y ≡ true → before t y ≡ true
@@ -26,7 +26,7 @@ module _ {T : Type 0} (mix : T → T → T) where
   ahead_at g (y ∷ ys) x t h k = rw (in_front t x y.at k h) refl
 
   -- a change of the first walk alone
-  pub met_left : (f g : T) (x : Change T) (xs ys : List (Change T)) → IsAhead x.at ys → IsMet mix f g (x ∷ xs) ys (record { at = x.at; there = mix x.there g; behind = mix x.behind g }) x.behind g xs ys
+  pub met_left : (f g : T) (x : Change T) (xs ys : List (Change T)) → IsAhead x.at ys → IsNextChange mix f g (x ∷ xs) ys (record { at = x.at; there = mix x.there g; behind = mix x.behind g }) x.behind g xs ys
   met_left f g x xs ys h = record {
     whole = λ rest t k. by rest t k (before t x.at) refl (before x.at t) refl;
     behind = refl;
@@ -40,7 +40,7 @@ module _ {T : Type 0} (mix : T → T → T) where
       by rest t k false p false q = ap (mix x.there) (sym (ahead_at g ys x.at t h q))
 
   -- a change of the second walk alone
-  pub met_right : (f g : T) (xs : List (Change T)) (y : Change T) (ys : List (Change T)) → IsAhead y.at xs → IsMet mix f g xs (y ∷ ys) (record { at = y.at; there = mix f y.there; behind = mix f y.behind }) f y.behind xs ys
+  pub met_right : (f g : T) (xs : List (Change T)) (y : Change T) (ys : List (Change T)) → IsAhead y.at xs → IsNextChange mix f g xs (y ∷ ys) (record { at = y.at; there = mix f y.there; behind = mix f y.behind }) f y.behind xs ys
   met_right f g xs y ys h = record {
     whole = λ rest t k. by rest t k (before t y.at) refl (before y.at t) refl;
     behind = refl;
@@ -54,7 +54,7 @@ module _ {T : Type 0} (mix : T → T → T) where
       by rest t k false p false q = ap (λ z. mix z y.there) (sym (ahead_at f xs y.at t h q))
 
   -- a change of both, at one instant
-  pub met_both : (f g : T) (x : Change T) (xs : List (Change T)) (y : Change T) (ys : List (Change T)) → x.at ≡ y.at → IsMet mix f g (x ∷ xs) (y ∷ ys) (record { at = x.at; there = mix x.there y.there; behind = mix x.behind y.behind }) x.behind y.behind xs ys
+  pub met_both : (f g : T) (x : Change T) (xs : List (Change T)) (y : Change T) (ys : List (Change T)) → x.at ≡ y.at → IsNextChange mix f g (x ∷ xs) (y ∷ ys) (record { at = x.at; there = mix x.there y.there; behind = mix x.behind y.behind }) x.behind y.behind xs ys
   met_both f g x xs y ys e = record {
     whole = λ rest t k. subst (λ z. cond (before t x.at) (mix f g) (cond (before x.at t) (step_at (mix x.behind y.behind) rest t) (mix x.there y.there)) ≡ mix (cond (before t x.at) f (cond (before x.at t) (step_at x.behind xs t) x.there)) (cond (before t z) g (cond (before z t) (step_at y.behind ys t) y.there))) e (by rest t k (before t x.at) (before x.at t));
     behind = refl;
@@ -67,13 +67,13 @@ module _ {T : Type 0} (mix : T → T → T) where
       by rest t k false true = k
       by rest t k false false = refl
 
-  pub left_met : (f g : T) (xs ys : List (Change T)) (i j k n : ℕ) (x y : Change T) (m : Met T) → drop i xs ≡ x ∷ drop k xs → drop j ys ≡ y ∷ drop n ys → before x.at y.at ≡ true → m ≡ record { change = record { at = x.at; there = mix x.there g; behind = mix x.behind g }; left = x.behind; right = g; i = k; j = j } → IsMet mix f g (drop i xs) (drop j ys) m.change m.left m.right (drop m.i xs) (drop m.j ys)
+  pub left_met : (f g : T) (xs ys : List (Change T)) (i j k n : ℕ) (x y : Change T) (m : Met T) → drop i xs ≡ x ∷ drop k xs → drop j ys ≡ y ∷ drop n ys → before x.at y.at ≡ true → m ≡ record { change = record { at = x.at; there = mix x.there g; behind = mix x.behind g }; left = x.behind; right = g; i = k; j = j } → IsNextChange mix f g (drop i xs) (drop j ys) m.change m.left m.right (drop m.i xs) (drop m.j ys)
   left_met f g xs ys i j k n x y m e d h q = rw (q, e, d) (met_left f g x (drop k xs) (y ∷ drop n ys) h)
 
-  pub right_met : (f g : T) (xs ys : List (Change T)) (i j k n : ℕ) (x y : Change T) (m : Met T) → drop i xs ≡ x ∷ drop k xs → drop j ys ≡ y ∷ drop n ys → before y.at x.at ≡ true → m ≡ record { change = record { at = y.at; there = mix f y.there; behind = mix f y.behind }; left = f; right = y.behind; i = i; j = n } → IsMet mix f g (drop i xs) (drop j ys) m.change m.left m.right (drop m.i xs) (drop m.j ys)
+  pub right_met : (f g : T) (xs ys : List (Change T)) (i j k n : ℕ) (x y : Change T) (m : Met T) → drop i xs ≡ x ∷ drop k xs → drop j ys ≡ y ∷ drop n ys → before y.at x.at ≡ true → m ≡ record { change = record { at = y.at; there = mix f y.there; behind = mix f y.behind }; left = f; right = y.behind; i = i; j = n } → IsNextChange mix f g (drop i xs) (drop j ys) m.change m.left m.right (drop m.i xs) (drop m.j ys)
   right_met f g xs ys i j k n x y m e d h q = rw (q, e, d) (met_right f g (x ∷ drop k xs) y (drop n ys) h)
 
-  pub both_met : (f g : T) (xs ys : List (Change T)) (i j k n : ℕ) (x y : Change T) (m : Met T) → drop i xs ≡ x ∷ drop k xs → drop j ys ≡ y ∷ drop n ys → before x.at y.at ≡ false → before y.at x.at ≡ false → m ≡ record { change = record { at = x.at; there = mix x.there y.there; behind = mix x.behind y.behind }; left = x.behind; right = y.behind; i = k; j = n } → IsMet mix f g (drop i xs) (drop j ys) m.change m.left m.right (drop m.i xs) (drop m.j ys)
+  pub both_met : (f g : T) (xs ys : List (Change T)) (i j k n : ℕ) (x y : Change T) (m : Met T) → drop i xs ≡ x ∷ drop k xs → drop j ys ≡ y ∷ drop n ys → before x.at y.at ≡ false → before y.at x.at ≡ false → m ≡ record { change = record { at = x.at; there = mix x.there y.there; behind = mix x.behind y.behind }; left = x.behind; right = y.behind; i = k; j = n } → IsNextChange mix f g (drop i xs) (drop j ys) m.change m.left m.right (drop m.i xs) (drop m.j ys)
   both_met f g xs ys i j k n x y m e d a b q = rw (q, e, d) (met_both f g x (drop k xs) y (drop n ys) (before-neither x.at y.at a b))
 
   -- the walk so far, and what is still to come of both
@@ -88,7 +88,7 @@ module _ {T : Type 0} (mix : T → T → T) where
   fit_more parts [] c h k = (k, tt)
   fit_more parts (d ∷ out) c h k = (h.0, fit_more parts out c h.1 k)
 
-  pub merging_step : (f0 g0 : T) (all all' : List (Change T)) (f g f' g' : T) (xs ys xs' ys' out out' : List (Change T)) (c : Change T) → out' ≡ out ++ c ∷ [] → IsMet mix f g xs ys c f' g' xs' ys' → IsMerging f0 g0 all all' f g xs ys out → IsMerging f0 g0 all all' f' g' xs' ys' out'
+  pub merging_step : (f0 g0 : T) (all all' : List (Change T)) (f g f' g' : T) (xs ys xs' ys' out out' : List (Change T)) (c : Change T) → out' ≡ out ++ c ∷ [] → IsNextChange mix f g xs ys c f' g' xs' ys' → IsMerging f0 g0 all all' f g xs ys out → IsMerging f0 g0 all all' f' g' xs' ys' out'
   merging_step f0 g0 all all' f g f' g' xs ys xs' ys' out out' c e m h = record {
     whole = λ rest t k. ap (λ z. step_at (mix f0 g0) (z ++ rest) t) e ∙ ap (λ z. step_at (mix f0 g0) z t) (append_assoc out (c ∷ []) rest) ∙ h.whole (c ∷ rest) t (m.whole rest t k);
     fit = λ parts k l. let w = h.fit parts k l in let v = m.fit parts w.1 w.2 in (subst (ChangesFit parts) (sym e) (fit_more parts out c w.0 v.0), v.1, v.2);

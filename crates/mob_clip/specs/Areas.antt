@@ -18,8 +18,8 @@ use Rattle.mob_stbox.specs.declared.area.Area.{Area}
 use Rattle.mob_clip.specs.declared.areas.Sides.{Sides}
 
 -- F2: the differences of a point to the four sides
-abbrev pub side_parts : Area → Point → List Ratio
-side_parts a p = (p.x -ℚ a.xmin) ∷ (p.x -ℚ a.xmax) ∷ (p.y -ℚ a.ymin) ∷ (p.y -ℚ a.ymax) ∷ []
+abbrev pub area_parts : Area → Point → List Ratio
+area_parts a p = (p.x -ℚ a.xmin) ∷ (p.x -ℚ a.xmax) ∷ (p.y -ℚ a.ymin) ∷ (p.y -ℚ a.ymax) ∷ []
 
 abbrev pub sides_of : Area → Point → Sides
 sides_of a p = record { left = p.x -ℚ a.xmin; right = p.x -ℚ a.xmax; low = p.y -ℚ a.ymin; high = p.y -ℚ a.ymax }
@@ -42,5 +42,5 @@ in_area_by os = false
 -- F3, their roots on the piece, then F1, the values of the slice at these roots.
 abbrev pub entries_of_area : Area → Slice PlaneLine → SpanOf → List Entry
 entries_of_area a s r =
-    record { formula = F2; parts = at_ends (λ t. side_parts a (slice_value plane_value_of s t)) r }
+    record { formula = F2; parts = at_ends (λ t. area_parts a (slice_value plane_value_of s t)) r }
     ∷ entries_of_cuts plane_parts_of s r (area_ends a (slice_value plane_value_of s r.lower) (slice_value plane_value_of s r.upper))

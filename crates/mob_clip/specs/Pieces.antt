@@ -10,7 +10,7 @@ use Rattle.mob_slice.specs.Cut.{slice_value, slice_parts}
 use Rattle.mob_slice.specs.Lines.{plane_value_of, plane_parts_of}
 use Rattle.mob_slice.specs.declared.slice.Slice.{Slice}
 use Rattle.mob_slice.specs.declared.line.PlaneLine.{PlaneLine}
-use Rattle.mob_cells.specs.Kept.{AreKept}
+use Rattle.mob_cells.specs.Kept.{AreKeptOn}
 use Rattle.mob_plane.specs.declared.edges.Tally.{Tally}
 
 -- the point is inside the polygon, by what is known of it
@@ -41,6 +41,6 @@ abbrev pub IsOnSlice : Slice PlaneLine → Option SpanOf → Type 0
 IsOnSlice s piece = MatchOption piece (Unit {0}) (λ r. (is_inside s.span r ≡ true) × AllFit (at_ends (slice_parts plane_parts_of s) r))
 
 -- the slices are all of s on the piece, or nothing
-abbrev pub AreWhole : Slice PlaneLine → Bool → Option SpanOf → List (Slice PlaneLine) → Type 0
-AreWhole s keeps None v = v ≡ []
-AreWhole s keeps (Some r) v = AreKept plane_value_of (λ c. c.from) (λ c. c.to) (λ t. cond keeps (Some (slice_value plane_value_of s t)) None) r v
+abbrev pub AreAllOrNothing : Slice PlaneLine → Bool → Option SpanOf → List (Slice PlaneLine) → Type 0
+AreAllOrNothing s keeps None v = v ≡ []
+AreAllOrNothing s keeps (Some r) v = AreKeptOn plane_value_of (λ c. c.from) (λ c. c.to) (λ t. cond keeps (Some (slice_value plane_value_of s t)) None) r v

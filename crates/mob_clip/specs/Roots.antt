@@ -10,7 +10,7 @@ use Rattle.mob_slice.specs.declared.slice.Slice.{Slice}
 use Rattle.mob_slice.specs.declared.line.PlaneLine.{PlaneLine}
 use Rattle.mob_cells.specs.declared.linear.Ends.{Ends}
 use Rattle.mob_cells.specs.declared.signs.Placed.{Placed}
-use Rattle.mob_cells.specs.Roots.{root_of, listed}
+use Rattle.mob_cells.specs.Roots.{root_of, as_list}
 use Rattle.mob_cells.specs.Cells.{IsPlaced}
 use Rattle.mob_clip.specs.declared.sides.EdgeEnds.{EdgeEnds}
 use Rattle.mob_clip.specs.declared.roots.EdgePlaced.{EdgePlaced}
@@ -40,7 +40,7 @@ pub record IsPlacedEdge (s : SpanOf) (g : EdgePlaced) : Type 0 where
 
 -- the roots of an edge
 abbrev pub edge_roots : EdgePlaced → List Ratio
-edge_roots g = flat_map (λ p. listed p.root) (g.turn ∷ g.x_a ∷ g.x_b ∷ g.y_a ∷ g.y_b ∷ [])
+edge_roots g = flat_map (λ p. as_list p.root) (g.turn ∷ g.x_a ∷ g.x_b ∷ g.y_a ∷ g.y_b ∷ [])
 
 -- r lies between the ends of the span, or is one of them
 abbrev pub IsBetweenEnds : SpanOf → Ratio → Type 0

@@ -23,30 +23,30 @@ abbrev pub turned_at : Ordering → Option Ratio → Ordering → Ratio → Orde
 turned_at first None behind t = first
 turned_at first (Some r) behind t = cond (before t r) first (cond (before r t) behind Equal)
 
-abbrev pub sign_at : SignChange → Ratio → Ordering
-sign_at c t = turned_at c.first c.at c.behind t
+abbrev pub changing_sign : SignChange → Ratio → Ordering
+changing_sign c t = turned_at c.first c.at c.behind t
 
 -- the parts of a formula fit at the instant of the change
 abbrev pub FitsChange : (Ratio → List Ratio) → SignChange → Type 0
 FitsChange parts c = MatchOption c.at (Unit {0}) (λ r. AllFit (parts r))
 
 -- one of two signs, of which one at least is Equal
-abbrev pub joined : Ordering → Ordering → Ordering
-joined Less o = Less
-joined Equal o = o
-joined Greater o = Greater
+abbrev pub known_sign : Ordering → Ordering → Ordering
+known_sign Less o = Less
+known_sign Equal o = o
+known_sign Greater o = Greater
 
 -- the signs of an edge, of which some are known by the first and others by the second
-abbrev pub joined_signs : EdgeSigns → EdgeSigns → EdgeSigns
-joined_signs a b = record { turn = joined a.turn b.turn; x_a = joined a.x_a b.x_a; x_b = joined a.x_b b.x_b; y_a = joined a.y_a b.y_a; y_b = joined a.y_b b.y_b }
+abbrev pub known_signs : EdgeSigns → EdgeSigns → EdgeSigns
+known_signs a b = record { turn = known_sign a.turn b.turn; x_a = known_sign a.x_a b.x_a; x_b = known_sign a.x_b b.x_b; y_a = known_sign a.y_a b.y_a; y_b = known_sign a.y_b b.y_b }
 
 -- the sign o at one place, and Equal at the others
-abbrev pub only : Place → Ordering → EdgeSigns
-only Turn o = record { turn = o; x_a = Equal; x_b = Equal; y_a = Equal; y_b = Equal }
-only XA o = record { turn = Equal; x_a = o; x_b = Equal; y_a = Equal; y_b = Equal }
-only XB o = record { turn = Equal; x_a = Equal; x_b = o; y_a = Equal; y_b = Equal }
-only YA o = record { turn = Equal; x_a = Equal; x_b = Equal; y_a = o; y_b = Equal }
-only YB o = record { turn = Equal; x_a = Equal; x_b = Equal; y_a = Equal; y_b = o }
+abbrev pub one_sign : Place → Ordering → EdgeSigns
+one_sign Turn o = record { turn = o; x_a = Equal; x_b = Equal; y_a = Equal; y_b = Equal }
+one_sign XA o = record { turn = Equal; x_a = o; x_b = Equal; y_a = Equal; y_b = Equal }
+one_sign XB o = record { turn = Equal; x_a = Equal; x_b = o; y_a = Equal; y_b = Equal }
+one_sign YA o = record { turn = Equal; x_a = Equal; x_b = Equal; y_a = o; y_b = Equal }
+one_sign YB o = record { turn = Equal; x_a = Equal; x_b = Equal; y_a = Equal; y_b = o }
 
 -- the sign between two ends of these signs, where no root lies between them
 abbrev pub ends_change : SpanOf → Ordering → Ordering → SignChange

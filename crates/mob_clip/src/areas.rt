@@ -12,7 +12,7 @@ ghost use Rattle.mob_cells.specs.Gaps.{IsGapFault};
 ghost use Rattle.mob_cells.specs.Kept.{IsKeptBy};
 ghost use Rattle.mob_cells.specs.Restricted.{kept_value};
 ghost use Rattle.mob_stbox.specs.Areas.{in_area};
-ghost use Rattle.mob_clip.specs.Areas.{side_parts, sides_of, area_ends, in_area_by, entries_of_area};
+ghost use Rattle.mob_clip.specs.Areas.{area_parts, sides_of, area_ends, in_area_by, entries_of_area};
 
 use mob_cells::{Ends, Test, kept};
 use mob_frac::{Frac, Overflow};
@@ -34,7 +34,7 @@ pub struct Sides {
 
 // The differences to the sides.
 fn to_sides(area: &Area, p: &Point) -> Result<Sides, Overflow>
-    ensures value { IsFormula (side_parts area.now p.now) (sides_of area.now p.now) result }
+    ensures value { IsFormula (area_parts area.now p.now) (sides_of area.now p.now) result }
 {
     let left = p.x.sub(&area.xmin)?;
     let right = p.x.sub(&area.xmax)?;
@@ -50,7 +50,7 @@ fn to_sides(area: &Area, p: &Point) -> Result<Sides, Overflow>
 
 // The linear functions by whose signs a point on the way from `p` to `q` is in the area.
 fn functions(alloc: Global, area: &Area, p: &Point, q: &Point) -> Result<Vec<Ends>, OpFault>
-    ensures functions { MatchResult result (λ v. (v.items ≡ area_ends area.now p.now q.now) × AllFit (side_parts area.now p.now ++ side_parts area.now q.now)) (IsGapFault (side_parts area.now p.now ++ side_parts area.now q.now)) }
+    ensures functions { MatchResult result (λ v. (v.items ≡ area_ends area.now p.now q.now) × AllFit (area_parts area.now p.now ++ area_parts area.now q.now)) (IsGapFault (area_parts area.now p.now ++ area_parts area.now q.now)) }
 {
     let Ok(from) = to_sides(area, p) else {
         return Err(OpFault::Passed {

@@ -10,7 +10,7 @@ ghost use Rattle.mob_slice.specs.Sides.{at_ends, HasValues};
 ghost use Rattle.mob_slice.specs.Cut.{slice_value, slice_parts};
 ghost use Rattle.mob_slice.specs.Entries.{IsJudged};
 ghost use Rattle.mob_slice.specs.Lines.{plane_value_of, plane_parts_of};
-ghost use Rattle.mob_cells.specs.Kept.{IsKeptBy, AreKept};
+ghost use Rattle.mob_cells.specs.Kept.{IsKeptBy, AreKeptOn};
 ghost use Rattle.mob_cells.specs.Restricted.{kept_value};
 ghost use Rattle.mob_cells.specs.Restricted.{IsRestricted};
 ghost use Rattle.mob_stbox.specs.Boxes.{in_box, in_space};

@@ -10,7 +10,7 @@ ghost use Rattle.mob_cells.specs.Roots.{function_at};
 ghost use Rattle.mob_cells.specs.Cells.{IsPlaced};
 ghost use Rattle.mob_clip.specs.Roots.{IsPlacedEdge, FitsRoot, CutsFit};
 ghost use Rattle.mob_clip.specs.Steps.{steps_at, ChangesFit};
-ghost use Rattle.mob_clip.specs.Signs.{sign_at, joined, joined_signs, only, ends_change, tally_both, tally_all, edge_tally, tally_change, signs_on, signs_beside, FitsChange};
+ghost use Rattle.mob_clip.specs.Signs.{changing_sign, known_sign, known_signs, one_sign, ends_change, tally_both, tally_all, edge_tally, tally_change, signs_on, signs_beside, FitsChange};
 
 use crate::roots::EdgePlaced;
 use crate::steps::{Change, Mix, Steps, merged};
@@ -50,7 +50,7 @@ pub enum Place {
 }
 
 impl Mix for EdgeSigns {
-    ghost mix = { joined_signs };
+    ghost mix = { known_signs };
 
     fn mix(&self, other: &EdgeSigns) -> EdgeSigns {
         EdgeSigns {
@@ -76,7 +76,7 @@ impl Mix for Tally {
 
 // One of two signs, of which one at least is Equal.
 fn joined(a: Ordering, b: Ordering) -> Ordering
-    ensures value { result ≡ joined a b }
+    ensures value { result ≡ known_sign a b }
 {
     match a {
         Ordering::Less => Ordering::Less,
@@ -120,7 +120,7 @@ fn without_root(span: &Span, lower: Ordering, upper: Ordering) -> SignChange
 // The sign of a function on a span.
 fn change_of(span: &Span, placed: &Placed) -> SignChange
     requires placed { IsPlaced span.now placed.now }
-    ensures signs { (t : Ratio) → has span.now t ≡ true → sign_at result t ≡ sign_of (function_at span.now placed.now.ends t) }
+    ensures signs { (t : Ratio) → has span.now t ≡ true → changing_sign result t ≡ sign_of (function_at span.now placed.now.ends t) }
     ensures fits { (parts : Ratio → List Ratio) → AllFit (parts span.now.lower) → AllFit (parts span.now.upper) → FitsRoot parts placed.now → FitsChange parts result }
 {
     let lower = sign_of(&placed.ends.at_lower);
@@ -137,7 +137,7 @@ fn change_of(span: &Span, placed: &Placed) -> SignChange
 
 // The signs of an edge, of which one is known.
 fn only(place: Place, sign: Ordering) -> EdgeSigns
-    ensures value { result ≡ only place sign }
+    ensures value { result ≡ one_sign place sign }
 {
     let none = EdgeSigns {
         turn: Ordering::Equal,
@@ -161,7 +161,7 @@ fn one_sign(
     change: &SignChange,
     place: Place,
 ) -> Result<Steps<EdgeSigns>, AllocError>
-    ensures values { IfOk result (λ s. (t : Ratio) → steps_at s t ≡ only place (sign_at change.now t)) }
+    ensures values { IfOk result (λ s. (t : Ratio) → steps_at s t ≡ one_sign place (changing_sign change.now t)) }
     ensures fit { IfOk result (λ s. (parts : Ratio → List Ratio) → FitsChange parts change.now → ChangesFit parts s.changes.items) }
 {
     let mut changes = Vec::new(alloc);
@@ -189,7 +189,7 @@ fn two_signs(
 ) -> Result<Steps<EdgeSigns>, AllocError>
     requires first { IsPlaced span.now a.now }
     requires second { IsPlaced span.now b.now }
-    ensures values { IfOk result (λ s. (t : Ratio) → has span.now t ≡ true → steps_at s t ≡ joined_signs (only at (sign_of (function_at span.now a.now.ends t))) (only beside (sign_of (function_at span.now b.now.ends t)))) }
+    ensures values { IfOk result (λ s. (t : Ratio) → has span.now t ≡ true → steps_at s t ≡ known_signs (one_sign at (sign_of (function_at span.now a.now.ends t))) (one_sign beside (sign_of (function_at span.now b.now.ends t)))) }
     ensures fit { IfOk result (λ s. (parts : Ratio → List Ratio) → AllFit (parts span.now.lower) → AllFit (parts span.now.upper) → FitsRoot parts a.now → FitsRoot parts b.now → ChangesFit parts s.changes.items) }
 {
     let left = one_sign(alloc, &change_of(span, a), at)?;

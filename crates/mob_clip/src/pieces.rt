@@ -7,10 +7,10 @@ ghost use Rattle.mob_slice.specs.Cut.{slice_value, slice_parts};
 ghost use Rattle.mob_slice.specs.Lines.{plane_value_of, plane_parts_of};
 ghost use Rattle.mob_slice.specs.declared.slice.Slice.{Slice as SliceOf};
 ghost use Rattle.mob_slice.specs.declared.line.PlaneLine.{PlaneLine as PlaneLineOf};
-ghost use Rattle.mob_cells.specs.Kept.{AreKept};
+ghost use Rattle.mob_cells.specs.Kept.{AreKeptOn};
 ghost use Rattle.mob_cells.specs.Restricted.{kept_value, is_wanted};
 ghost use Rattle.mob_clip.specs.Steps.{steps_at, ChangesFit};
-ghost use Rattle.mob_clip.specs.Pieces.{is_known_in, some_span, left_span, right_span, left_piece, right_piece, IsOnSlice, AreWhole};
+ghost use Rattle.mob_clip.specs.Pieces.{is_known_in, some_span, left_span, right_span, left_piece, right_piece, IsOnSlice, AreAllOrNothing};
 
 use crate::steps::Steps;
 use mob_cells::{append, is_wanted, listed};
@@ -29,7 +29,7 @@ pub fn piece_on(
 ) -> Result<Vec<Slice<PlaneLine>>, OpFault>
     requires sound { IsSound (λ c. c.from) (λ c. c.to) slice.now }
     requires holds { IsOnSlice slice.now piece }
-    ensures whole { MatchResult result (λ v. AreWhole slice.now keeps piece v.items) (λ e. e ≡ OpFault.NoMemory) }
+    ensures whole { MatchResult result (λ v. AreAllOrNothing slice.now keeps piece v.items) (λ e. e ≡ OpFault.NoMemory) }
 {
     let span = match piece {
         Some(span) => span,
@@ -76,7 +76,7 @@ fn pass(
     requires sound { IsSound (λ c. c.from) (λ c. c.to) slice.now }
     requires holds { IsOnSlice slice.now piece }
     requires fits { AllFit (slice_parts plane_parts_of slice.now r.now) }
-    ensures passed { MatchResult result (λ rest. (rest ≡ right_piece piece r.now included) × (v : List (SliceOf PlaneLineOf)) × (out.new.items ≡ out.old.items ++ v) × AreWhole slice.now keeps (left_piece piece r.now included) v) (λ e. e ≡ OpFault.NoMemory) }
+    ensures passed { MatchResult result (λ rest. (rest ≡ right_piece piece r.now included) × (v : List (SliceOf PlaneLineOf)) × (out.new.items ≡ out.old.items ++ v) × AreAllOrNothing slice.now keeps (left_piece piece r.now included) v) (λ e. e ≡ OpFault.NoMemory) }
 {
     let span = match piece {
         Some(span) => span,
@@ -102,7 +102,7 @@ fn finish(
 ) -> Result<Vec<Slice<PlaneLine>>, OpFault>
     requires sound { IsSound (λ c. c.from) (λ c. c.to) slice.now }
     requires holds { IsOnSlice slice.now piece }
-    ensures all { MatchResult result (λ all. (v : List (SliceOf PlaneLineOf)) × (all.items ≡ out.items ++ v) × AreWhole slice.now keeps piece v) (λ e. e ≡ OpFault.NoMemory) }
+    ensures all { MatchResult result (λ all. (v : List (SliceOf PlaneLineOf)) × (all.items ≡ out.items ++ v) × AreAllOrNothing slice.now keeps piece v) (λ e. e ≡ OpFault.NoMemory) }
 {
     let mut all = out;
     let more = match piece_on(alloc, slice, piece, keeps) {
@@ -131,7 +131,7 @@ pub fn kept_on(
 ) -> Result<Vec<Slice<PlaneLine>>, OpFault>
     requires sound { IsSound (λ c. c.from) (λ c. c.to) slice.now }
     requires fit { ChangesFit (slice_parts plane_parts_of slice.now) steps.now.changes.items }
-    ensures kept { MatchResult result (λ v. AreKept plane_value_of (λ c. c.from) (λ c. c.to) (λ t. kept_value want (is_known_in (steps_at steps.now t)) (slice_value plane_value_of slice.now t)) slice.now.span v.items) (λ e. e ≡ OpFault.NoMemory) }
+    ensures kept { MatchResult result (λ v. AreKeptOn plane_value_of (λ c. c.from) (λ c. c.to) (λ t. kept_value want (is_known_in (steps_at steps.now t)) (slice_value plane_value_of slice.now t)) slice.now.span v.items) (λ e. e ≡ OpFault.NoMemory) }
 {
     let mut out = Vec::new(alloc);
     let mut rest = Some(slice.span);

@@ -9,7 +9,7 @@ ghost use Rattle.mob_slice.specs.Cut.{slice_parts};
 ghost use Rattle.mob_slice.specs.Lines.{plane_parts_of};
 ghost use Rattle.mob_slice.specs.Entries.{IsFirst, OnFormula};
 ghost use Rattle.mob_slice.specs.declared.formula.Formula.TheVariants.{F1, F3};
-ghost use Rattle.mob_cells.specs.Roots.{IsLevel, root_parts, roots_parts, listed};
+ghost use Rattle.mob_cells.specs.Roots.{IsLevel, root_parts, roots_parts, as_list};
 ghost use Rattle.mob_clip.specs.Sides.{IsPartFault};
 ghost use Rattle.mob_clip.specs.Roots.{place, place_edge, listed_ends, edge_roots, IsBetweenEnds, IsPlacedEdge, placed_edge, CutsFit};
 ghost use Rattle.mob_clip.specs.Polygons.{entries_of_edges};
@@ -105,7 +105,7 @@ fn placed(alloc: Global, span: &Span, edges: &[EdgeEnds]) -> Result<Vec<EdgePlac
 
 // Adds a root, if there is one.
 fn push_root(out: &mut Vec<Frac>, root: &Option<Frac>) -> Result<(), AllocError>
-    ensures pushed { OnOk result (out.new.items ≡ out.old.items ++ listed root.now) }
+    ensures pushed { OnOk result (out.new.items ≡ out.old.items ++ as_list root.now) }
 {
     if let Some(r) = root {
         out.push(*r)?;

@@ -2,7 +2,7 @@
 
 ghost use Rattle.std.specs.Prelude.{◌≡◌, ◌<◌, ◌≤◌, ◌+◌, length, drop, map, List, IfOk};
 ghost use Rattle.mob_ratio.specs.Ratio.{Ratio};
-ghost use Rattle.mob_clip.specs.Steps.{steps_at, ChangesFit, IsMet};
+ghost use Rattle.mob_clip.specs.Steps.{steps_at, ChangesFit, IsNextChange};
 
 use mob_frac::Frac;
 use std::alloc::{AllocError, Global};
@@ -110,7 +110,7 @@ fn meet<T: Mix>(
     requires first { i ≤ length xs.now }
     requires second { j ≤ length ys.now }
     requires some { i + j < length xs.now + length ys.now }
-    ensures met { IsMet T.mix left.now right.now (drop i xs.now) (drop j ys.now) result.change result.left result.right (drop result.i xs.now) (drop result.j ys.now) }
+    ensures met { IsNextChange T.mix left.now right.now (drop i xs.now) (drop j ys.now) result.change result.left result.right (drop result.i xs.now) (drop result.j ys.now) }
     ensures first { result.i ≤ length xs.now }
     ensures second { result.j ≤ length ys.now }
     ensures on { i + j < result.i + result.j }

@@ -1,5 +1,5 @@
 //! The signs that compare two values over time: `#` at each instant, `?` at some instant, `%` at every instant.
-ghost use Rattle.std.specs.Prelude.{◌≡◌, ◌||◌, true, false, Ok, Err, None, Some, IfOk, IfErr, MatchResult};
+ghost use Rattle.std.specs.Prelude.{◌≡◌, ◌||◌, true, false, Ok, Err, None, Some, IfOk, IfErr, IfSome, MatchResult, option_map};
 ghost use Rattle.std.specs.List.{flat_map};
 ghost use Rattle.mob_cells.specs.Gaps.{entries_of_ends};
 ghost use Rattle.mob_compare.specs.Compared.{entries_of_gaps};
@@ -9,13 +9,13 @@ ghost use Rattle.mob_slice.specs.LineComparison.{number_gaps, point_relates, poi
 ghost use Rattle.mob_slice.specs.Lines.{line_value_of, line_parts_of, plane_value_of, plane_parts_of};
 ghost use Rattle.mob_slice.specs.Ranks.{holds};
 ghost use Rattle.mob_slice.specs.Sides.{operand_of, has_slices, given_at, pieces};
-ghost use Rattle.mob_meaning.specs.Lifted.{IsMovingBool, OnPair, OnOperands, entries_on, truth_pair, number_pair, text_pair, over_time};
+ghost use Rattle.mob_meaning.specs.Lifted.{IsMovingBool, OnPair, OnOperands, entries_on, operands_of, over_time};
 ghost use Rattle.mob_meaning.specs.Lines.{frac_pair, line_pair, plane_pair};
 ghost use Rattle.mob_ordinary.specs.Ordinary.{known};
-ghost use Rattle.mob_meaning.specs.Signs.{number_test, text_test, truth_test, IsAsked, IsOrderTest, IsAnyTest, IsSignTest, entries_asked, order_entries, any_entries, sign_entries};
+ghost use Rattle.mob_meaning.specs.Signs.{number_test, IsAsked, IsOrderTest, IsAnyTest, IsSignTest, entries_asked, order_entries, any_entries, sign_entries};
 
 use crate::lines::as_lines;
-use crate::pair::{frac_pair, number_pair, plane_pair, text_pair, truth_pair};
+use crate::pair::{Pair, frac_pair, number_pair, plane_pair, text_pair, truth_pair};
 use crate::temporal::bool_or_null;
 use crate::unfailing::without_formula;
 use mob_ast::{Cmp, SqlType};
@@ -136,46 +136,17 @@ fn steps_asked<B: Ranked + Drop>(
     }
 }
 
-fn truths_asked(
+// Of a pair of them. NULL where there is none.
+fn pair_asked<B: Ranked + Drop>(
     alloc: Global,
     scope: Scope,
     rel: Rel,
-    left: &Value,
-    right: &Value,
+    pair: Option<Pair<'_, B>>,
 ) -> Result<Value, AllocError>
-    ensures value { IfOk result (λ v. OnPair (truth_pair left.now right.now) (IsAsked scope (truth_test rel)) v) }
+    requires moving { IfSome pair (λ p. (has_slices (operand_of p.0) || has_slices (operand_of p.1)) ≡ true) }
+    ensures value { IfOk result (λ v. OnPair (option_map operands_of pair.entry) (IsAsked scope (λ x y. holds rel (B.compare_of x y))) v) }
 {
-    match truth_pair(left, right) {
-        Some((left, right)) => steps_asked(alloc, scope, rel, left, right),
-        None => Ok(Value::Null),
-    }
-}
-
-fn numbers_asked(
-    alloc: Global,
-    scope: Scope,
-    rel: Rel,
-    left: &Value,
-    right: &Value,
-) -> Result<Value, AllocError>
-    ensures value { IfOk result (λ v. OnPair (number_pair left.now right.now) (IsAsked scope (number_test rel)) v) }
-{
-    match number_pair(left, right) {
-        Some((left, right)) => steps_asked(alloc, scope, rel, left, right),
-        None => Ok(Value::Null),
-    }
-}
-
-fn texts_asked(
-    alloc: Global,
-    scope: Scope,
-    rel: Rel,
-    left: &Value,
-    right: &Value,
-) -> Result<Value, AllocError>
-    ensures value { IfOk result (λ v. OnPair (text_pair left.now right.now) (IsAsked scope (text_test rel)) v) }
-{
-    match text_pair(left, right) {
+    match pair {
         Some((left, right)) => steps_asked(alloc, scope, rel, left, right),
         None => Ok(Value::Null),
     }
@@ -245,9 +216,19 @@ fn order(
     ensures first { IsJudged (order_entries scope met left.now right.now) result }
 {
     match met {
-        Some(SqlType::TInt) => without_formula(numbers_asked(alloc, scope, rel, left, right)),
+        Some(SqlType::TInt) => without_formula(pair_asked(
+            alloc,
+            scope,
+            rel,
+            number_pair(left, right),
+        )),
         Some(SqlType::TFrac) => lines_asked(alloc, scope, rel, left, right),
-        Some(SqlType::TText) => without_formula(texts_asked(alloc, scope, rel, left, right)),
+        Some(SqlType::TText) => without_formula(pair_asked(
+            alloc,
+            scope,
+            rel,
+            text_pair(left, right),
+        )),
         _ => Ok(Value::Null),
     }
 }
@@ -266,7 +247,12 @@ fn sameness(
     ensures first { IsJudged (any_entries scope met left.now right.now) result }
 {
     match met {
-        Some(SqlType::TBool) => without_formula(truths_asked(alloc, scope, rel, left, right)),
+        Some(SqlType::TBool) => without_formula(pair_asked(
+            alloc,
+            scope,
+            rel,
+            truth_pair(left, right),
+        )),
         Some(SqlType::TPoint) => points_asked(alloc, scope, rel, left, right),
         _ => order(alloc, scope, rel, met, left, right),
     }

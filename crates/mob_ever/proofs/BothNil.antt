@@ -12,7 +12,7 @@ use Rattle.mob_ratio.proofs.Divide.{mul_cancel, quotients_same}
 use Rattle.mob_ratio.proofs.LineAt.{line_at-lower, line_at-upper, line_at-short, line_at-level, line_at-scale}
 use Rattle.mob_ratio.proofs.Clear.{clear1, clear2, cleared}
 use Rattle.mob_ratio.proofs.IntRing.{linear}
-use Rattle.mob_ratio.proofs.Signs.{line_at-diff, sign_nil}
+use Rattle.mob_ratio.proofs.Signs.{line_at-diff, sign_nil, sub_zero}
 use Rattle.mob_span.specs.Span.{SpanOf, has, has_instant}
 use Rattle.mob_cells.specs.declared.linear.Ends.{Ends}
 use Rattle.mob_cells.specs.Roots.{function_at}
@@ -22,9 +22,6 @@ use Rattle.mob_ever.proofs.OnSpans.{IsPlace, at_lower, within, at_upper, place_o
 
 nil_mul : (a : Ratio) → nil *ℚ a ≡ nil
 nil_mul = clear1 _ (λ D a p. simp cleared (omega (arith, linear)))
-
-sub_zero : (a b : Ratio) → a -ℚ b ≡ nil → a ≡ b
-sub_zero = clear2 _ (λ D a b p h. let h' = simp cleared at h in simp cleared (omega (arith, linear)))
 
 -- a number is 0 where it has the sign of 0
 equal_nil : (q : Ratio) → sign_of q ≡ Equal → q ≡ nil

@@ -10,7 +10,7 @@ use Rattle.mob_ratio.proofs.LineAt.{line_at-lower, line_at-upper, line_at-short}
 use Rattle.mob_span.specs.Span.{SpanOf, has, has_instant}
 use Rattle.mob_cells.specs.declared.linear.Ends.{Ends}
 use Rattle.mob_cells.specs.Roots.{function_at}
-use Rattle.mob_ever.specs.Taken.{sign_is, takes_inside, takes}
+use Rattle.mob_ever.specs.Taken.{sign_is, takes_inside, takes_sign}
 use Rattle.mob_ever.proofs.Taking.{inside_from, inside_to, sign_of_is, is_sign_of}
 
 -- ---- where an instant of a span lies
@@ -55,7 +55,7 @@ long_from s f o t h e (at_lower p i) = let w = is_sign_of f.at_lower o (sym (ap 
 long_from s f o t h e (within a b) = let w = inside_from f.at_lower f.at_upper s.lower s.upper t o a b e in grind (arith, w)
 long_from s f o t h e (at_upper p i) = let w = is_sign_of f.at_upper o (sym (ap sign_of (line_at-upper f.at_lower f.at_upper s.lower s.upper h)) ∙ ap (λ z. sign_of (function_at s f z)) (sym p) ∙ e) in grind (arith, w, i)
 
-takes_by : (s : SpanOf) (f : Ends) (o : Ordering) → has_instant s ≡ true → (b : Bool) → before s.lower s.upper ≡ b → (takes s f o ≡ true) ↔ IsTaken s f o
+takes_by : (s : SpanOf) (f : Ends) (o : Ordering) → has_instant s ≡ true → (b : Bool) → before s.lower s.upper ≡ b → (takes_sign s f o ≡ true) ↔ IsTaken s f o
 takes_by s f o i true h = (
   λ k. long_to s f o h (takes_inside f.at_lower f.at_upper o) (s.lower_inc && sign_is o f.at_lower) refl refl (subst (λ z. cond z (takes_inside f.at_lower f.at_upper o || (s.lower_inc && sign_is o f.at_lower) || (s.upper_inc && sign_is o f.at_upper)) (sign_is o f.at_lower) ≡ true) h k),
   λ k. rw h (long_from s f o k.0 h k.2 (place_of s k.0 k.1)),
@@ -66,5 +66,5 @@ takes_by s f o i false h = (
 )
 
 -- a function takes a sign on a span exactly where the test of its ends says so
-pub takes_exact : (s : SpanOf) (f : Ends) (o : Ordering) → has_instant s ≡ true → (takes s f o ≡ true) ↔ IsTaken s f o
+pub takes_exact : (s : SpanOf) (f : Ends) (o : Ordering) → has_instant s ≡ true → (takes_sign s f o ≡ true) ↔ IsTaken s f o
 takes_exact s f o i = takes_by s f o i (before s.lower s.upper) refl

@@ -15,7 +15,7 @@ use Rattle.mob_slice.specs.declared.comparison.Gaps.{Gaps}
 use Rattle.mob_slice.specs.declared.comparison.Gaps.TheVariants.{Constant, One, Two}
 use Rattle.mob_cells.specs.declared.linear.Ends.{Ends}
 use Rattle.mob_cells.specs.Gaps.{piece_gaps}
-use Rattle.mob_ever.specs.Taken.{takes, both_nil}
+use Rattle.mob_ever.specs.Taken.{takes_sign, both_nil}
 
 -- how two values with these gaps stand to each other: two points are one where both gaps are 0
 abbrev pub order_of : Gaps → Ordering
@@ -28,11 +28,11 @@ line_between f g = record { at_lower = f; at_upper = g }
 
 -- whether a line passes a test of its sign at some instant of the span
 abbrev pub one_meets : (Ordering → Bool) → SpanOf → Ends → Bool
-one_meets test s f = (test Less && takes s f Less) || (test Equal && takes s f Equal) || (test Greater && takes s f Greater)
+one_meets test s f = (test Less && takes_sign s f Less) || (test Equal && takes_sign s f Equal) || (test Greater && takes_sign s f Greater)
 
 -- whether two lines pass a test that is Equal where both are 0, and else Less
 abbrev pub two_meet : (Ordering → Bool) → SpanOf → Ends → Ends → Bool
-two_meet test s f e = (test Equal && both_nil s f e) || (test Less && (takes s f Less || takes s f Greater || takes s e Less || takes s e Greater))
+two_meet test s f e = (test Equal && both_nil s f e) || (test Less && (takes_sign s f Less || takes_sign s f Greater || takes_sign s e Less || takes_sign s e Greater))
 
 -- whether courses with the first gaps at the lower end of the span and the second at the upper one pass a test of their order
 abbrev pub gaps_meet : (Ordering → Bool) → SpanOf → Gaps → Gaps → Bool

@@ -22,8 +22,8 @@ takes_inside f g Equal = opposite f g || (same f nil && same g nil)
 takes_inside f g Greater = before nil f || before nil g
 
 -- whether the function takes this sign at some instant of the span
-abbrev pub takes : SpanOf → Ends → Ordering → Bool
-takes s f o = cond (before s.lower s.upper) (takes_inside f.at_lower f.at_upper o || (s.lower_inc && sign_is o f.at_lower) || (s.upper_inc && sign_is o f.at_upper)) (sign_is o f.at_lower)
+abbrev pub takes_sign : SpanOf → Ends → Ordering → Bool
+takes_sign s f o = cond (before s.lower s.upper) (takes_inside f.at_lower f.at_upper o || (s.lower_inc && sign_is o f.at_lower) || (s.upper_inc && sign_is o f.at_upper)) (sign_is o f.at_lower)
 
 -- whether a line is 0 from end to end
 abbrev pub is_nil_line : Ends → Bool

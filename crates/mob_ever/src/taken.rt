@@ -5,7 +5,7 @@ ghost use Rattle.mob_ratio.specs.Order.{same};
 ghost use Rattle.mob_ratio.specs.Sign.{nil, opposite};
 ghost use Rattle.mob_slice.specs.Ranks.{holds};
 ghost use Rattle.mob_slice.specs.Sameness.{same_bool};
-ghost use Rattle.mob_ever.specs.Taken.{sign_is, takes_inside, takes, is_nil_line, nil_inside, both_nil};
+ghost use Rattle.mob_ever.specs.Taken.{sign_is, takes_inside, takes_sign, is_nil_line, nil_inside, both_nil};
 ghost use Rattle.mob_ever.specs.Met.{one_meets, two_meet, gaps_meet};
 
 use mob_cells::Ends;
@@ -55,7 +55,7 @@ fn takes_inside(ends: &Ends, sign: Ordering) -> bool
 
 // Whether it takes it at some instant of the span.
 fn takes(span: &Span, ends: &Ends, sign: Ordering) -> bool
-    ensures value { result ≡ takes span.now ends.now sign }
+    ensures value { result ≡ takes_sign span.now ends.now sign }
 {
     if !span.is_long() {
         return sign_is(sign, &ends.at_lower);
@@ -129,7 +129,7 @@ fn one_meets(span: &Span, rel: Rel, want: bool, f: &Ends) -> bool
 
 // Whether one of the two functions is other than 0 at some instant of the span.
 fn some_apart(span: &Span, f: &Ends, e: &Ends) -> bool
-    ensures value { result ≡ (takes span.now f.now Ordering.Less || takes span.now f.now Ordering.Greater || takes span.now e.now Ordering.Less || takes span.now e.now Ordering.Greater) }
+    ensures value { result ≡ (takes_sign span.now f.now Ordering.Less || takes_sign span.now f.now Ordering.Greater || takes_sign span.now e.now Ordering.Less || takes_sign span.now e.now Ordering.Greater) }
 {
     takes(span, f, Ordering::Less)
         || takes(span, f, Ordering::Greater)

@@ -1,5 +1,5 @@
 //! The columns of a table, by name and by number.
-ghost use Rattle.std.specs.Prelude.{◌≡◌, ◌<◌, Some, ◌∷◌, ◌++◌, [], false, length, OnOk, slice_get};
+ghost use Rattle.std.specs.Prelude.{◌≡◌, ◌<◌, Some, ◌∷◌, ◌++◌, [], false, length, OnErr, OnOk, slice_get};
 ghost use Rattle.mob_expression.specs.Names.{column_of, has_entry};
 
 use indexmap::IndexMap;
@@ -56,7 +56,7 @@ impl Columns {
 
     /// The name and the type of the column of this number.
     pub fn at(&self, index: usize) -> (&str, SqlType)
-        requires { index < length self.now }
+        requires there { index < length self.now }
         ensures stored { slice_get self.now index ≡ Some (result.0.now, result.1) }
     {
         let Some((name, ty)) = self.types.get_index(index) else {
@@ -65,10 +65,11 @@ impl Columns {
         (name.as_str(), *ty)
     }
 
-    /// Adds a column of a new name behind the others.
+    /// Adds a column of a new name behind the others. Where memory is refused they stay as they were.
     pub fn add(&mut self, alloc: Global, name: &str, ty: SqlType) -> Result<(), AllocError>
-        requires { has_entry self.old name.now ≡ false }
+        requires absent { has_entry self.old name.now ≡ false }
         ensures last { OnOk result (self.new ≡ self.old ++ (name.now, ty) ∷ []) }
+        ensures unchanged { OnErr result (self.new ≡ self.old) }
     {
         self.types.insert(String::from_str(alloc, name)?, ty)?;
         Ok(())

@@ -66,8 +66,8 @@ fn pieces<R: Threads + Sync, W: Work, G: Gate>(
     both(left?, right?)
 }
 
-// Where the first `low` of `count` pieces of a range end. Each piece has its even share, rounded down, and the first ones have one more each of
-// what is left over.
+// Where the first `low` of `count` pieces of a range end. On both sides of it there is an even share for each piece, rounded down, and at most one
+// more for each: what is left over goes to the first ones, one each.
 fn part_end(from: usize, to: usize, low: usize, count: usize) -> usize
     requires order { from ≤ to }
     requires some { 1 ≤ count }
@@ -76,6 +76,8 @@ fn part_end(from: usize, to: usize, low: usize, count: usize) -> usize
     ensures before { result ≤ to }
     ensures share { (to - from) / count * low ≤ result - from }
     ensures share_behind { (to - from) / count * (count - low) ≤ to - result }
+    ensures most { result - from ≤ (to - from) / count * low + low }
+    ensures most_behind { to - result ≤ (to - from) / count * (count - low) + (count - low) }
 {
     let share = (to - from) / count;
     let left_over = (to - from) % count;

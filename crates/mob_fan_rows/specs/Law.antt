@@ -7,14 +7,14 @@ use Rattle.mob_fan.proofs.Lists.{list_work}
 use Rattle.mob_fan_rows.specs.Numbers.{passed}
 
 -- of the first number, in both of them
-one_more : (n : ℕ) (b : Bool) (r s t : Result (List ℕ) ℕ) → t ≡ joined_outcomes r s
+first_in_both : (n : ℕ) (b : Bool) (r s t : Result (List ℕ) ℕ) → t ≡ joined_outcomes r s
     → (if b then joined_outcomes (Ok (n ∷ [])) t else Err n) ≡ joined_outcomes (if b then joined_outcomes (Ok (n ∷ [])) r else Err n) s
-one_more n true r s t is = ap (joined_outcomes (Ok (n ∷ []))) is ∙ sym (joined_three (Ok (n ∷ [])) r s)
-one_more n false r s t is = refl
+first_in_both n true r s t is = ap (joined_outcomes (Ok (n ∷ []))) is ∙ sym (joined_three (Ok (n ∷ [])) r s)
+first_in_both n false r s t is = refl
 
 passed_joined : (limit : ℕ) (xs ys : List ℕ) → passed limit (xs ++ ys) ≡ joined_outcomes (passed limit xs) (passed limit ys)
 passed_joined limit [] ys = sym (nothing_before (passed limit ys))
-passed_joined limit (n ∷ ns) ys = one_more n (nat_le n limit) (passed limit ns) (passed limit ys) (passed limit (ns ++ ys)) (passed_joined limit ns ys)
+passed_joined limit (n ∷ ns) ys = first_in_both n (nat_le n limit) (passed limit ns) (passed limit ys) (passed limit (ns ++ ys)) (passed_joined limit ns ys)
 
 both_pass : (limit : ℕ) (xs ys : List ℕ) (r s : Result (List ℕ) ℕ) → r ≡ passed limit xs → s ≡ passed limit ys → joined_outcomes r s ≡ passed limit (xs ++ ys)
 both_pass limit xs ys r s left right = ap₂ joined_outcomes left right ∙ sym (passed_joined limit xs ys)

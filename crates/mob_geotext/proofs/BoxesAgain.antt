@@ -26,11 +26,12 @@ use Rattle.mob_geotext.specs.declared.boxes.NotedBox.TheVariants.{Space, Time, B
 use Rattle.mob_geotext.specs.declared.boxes.NotedCorners.{NotedCorners}
 use Rattle.mob_geotext.specs.SpanText.{span_text}
 use Rattle.mob_geotext.specs.Printable.{HasDatedEnds}
-use Rattle.mob_geotext.specs.Boxes.{open_bracket, corner, corners, closed_span, space_alone, space_and_time, time_alone, with_space, written_box, area_of, has_sides, sides_of, boxes}
+use Rattle.mob_geotext.specs.Boxes.{open_bracket, corner, corners, closed_span, space_alone, space_and_time, time_alone, with_space, written_box, area_of, has_sides, sides_said, boxes}
 use Rattle.mob_geotext.specs.BoxText.{corner_text, corners_text, dimensions_text, box_text, HasFittingSides, HasDatedSides}
 use Rattle.mob_geotext.proofs.BoxesExact.{boxes_exact}
 use Rattle.mob_geotext.proofs.SpansAgain.{note, span_said_by}
 use Rattle.mob_geotext.proofs.SpansRead.{true_false}
+use Rattle.mob_geotext.proofs.PolygonsAgain.{comma_alone}
 
 -- a text has one reading
 pub one_box : (day : ℤ) → HasOneReading (boxes day)
@@ -40,13 +41,6 @@ one_box day text = settled (boxes day) text (one_value (boxes_exact day) refl te
 
 begin_said : open_bracket (codes "(") tt
 begin_said = record { meant = (tt, []); said = record { front = codes "("; back = []; whole = refl; first = refl; second = record { is = refl; each = tt } }; is = refl }
-
-between_said : comma (codes ",") tt
-between_said = record {
-  meant = ([], (tt, []));
-  said = record { front = []; back = codes ","; whole = refl; first = record { is = refl; each = tt }; second = record { front = codes ","; back = []; whole = refl; first = refl; second = record { is = refl; each = tt } } };
-  is = refl;
-}
 
 corner_said_by : (x y : Ratio) → Fits x → Fits y → corner (corner_text x y) (Some (record { x = x; y = y }))
 corner_said_by x y h k = record {
@@ -65,7 +59,7 @@ corner_said_by x y h k = record {
         front = codes ",";
         back = number_text y ++ codes ")";
         whole = refl;
-        first = between_said;
+        first = comma_alone;
         second = record { front = number_text y; back = codes ")"; whole = refl; first = number_value_said y k; second = close_said };
       };
     };
@@ -89,7 +83,7 @@ corners_said_by a h = record {
       front = codes ",";
       back = corner_text a.xmax a.ymax ++ codes ")";
       whole = refl;
-      first = between_said;
+      first = comma_alone;
       second = record { front = corner_text a.xmax a.ymax; back = codes ")"; whole = refl; first = corner_said_by a.xmax a.ymax h.xmax h.ymax; second = close_said };
     };
   };
@@ -173,7 +167,7 @@ both_said_by day a s h k =
                   back = last;
                   whole = refl;
                   first = corners_said_by a h;
-                  second = record { front = codes ","; back = span_text day s ++ codes ")"; whole = refl; first = between_said; second = closed_said day s k };
+                  second = record { front = codes ","; back = span_text day s ++ codes ")"; whole = refl; first = comma_alone; second = closed_said day s k };
                 };
               };
             };
@@ -187,9 +181,9 @@ both_said_by day a s h k =
 area_is : (a : Area) → is_area a ≡ true → area_of (noted a) ≡ Some a
 area_is a h = ap Some (between_again a h)
 
-again_by : (day : ℤ) (text : Text) (b : NotedBox) (r : BoxOf) → written_box day text b → sides_of b ≡ Some r → has_sides b ≡ true → span_stands r.time ≡ true → Lit (boxes day) text (Ok r)
+again_by : (day : ℤ) (text : Text) (b : NotedBox) (r : BoxOf) → written_box day text b → sides_said b ≡ Some r → has_sides b ≡ true → span_stands r.time ≡ true → Lit (boxes day) text (Ok r)
 again_by day text b r said is fit there =
-    let sound : MatchOption (sides_of b) ⊥ (λ x. span_stands x.time ≡ false) → ⊥ = subst (λ (o : Option BoxOf). MatchOption o ⊥ (λ x. span_stands x.time ≡ false) → ⊥) (sym is) (λ (no : span_stands r.time ≡ false). true_false (sym there ∙ no)) in
+    let sound : MatchOption (sides_said b) ⊥ (λ x. span_stands x.time ≡ false) → ⊥ = subst (λ (o : Option BoxOf). MatchOption o ⊥ (λ x. span_stands x.time ≡ false) → ⊥) (sym is) (λ (no : span_stands r.time ≡ false). true_false (sym there ∙ no)) in
     (b, within_said text b said, (λ x. x), (λ (no : has_sides b ≡ false). true_false (sym fit ∙ no)), sound, is)
 
 again_dimensions : (day : ℤ) (space : Option Area) (time : Option SpanOf) → (is_some space || is_some time) ≡ true → area_stands space ≡ true → span_stands time ≡ true → IfSome space HasFittingSides → IfSome time (HasDatedEnds day)

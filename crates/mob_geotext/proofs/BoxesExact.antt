@@ -12,7 +12,7 @@ use Rattle.mob_numeral.proofs.NumberExact.{continues}
 use Rattle.mob_numeral.proofs.SomeBlanks.{some_blanks_exact, some_blanks_byte}
 use Rattle.mob_numeral.proofs.WholeTexts.{back_nil, blank_stops, number_value_exact, number_value_blank, number_value_byte}
 use Rattle.mob_points.specs.Points.{close_bracket, close_bracket_at}
-use Rattle.mob_points.proofs.PointsExact.{close_exact, close_byte, last_exact, any_case_head, any_case_byte}
+use Rattle.mob_points.proofs.PointsExact.{close_exact, close_byte, last_exact, any_case_head, any_case_byte, s_no_blank}
 use Rattle.mob_scalar.specs.Brackets.{comma, comma_at}
 use Rattle.mob_scalar.proofs.BracketsExact.{comma_exact, comma_byte}
 use Rattle.mob_geotext.specs.Spans.{noted_span}
@@ -20,6 +20,7 @@ use Rattle.mob_geotext.specs.declared.noted.NotedSpan.{NotedSpan}
 use Rattle.mob_geotext.specs.declared.boxes.NotedBox.{NotedBox}
 use Rattle.mob_geotext.specs.Boxes.{open_bracket, corner_said, corner, corners_said, corners, closed_span, space_said, space_alone, both_said, space_and_time, time_said, time_alone, with_space, box_said, written_box, open_bracket_at, corner_at, corners_at, closed_span_at, space_alone_at, space_and_time_at, time_alone_at, with_space_at, written_box_at}
 use Rattle.mob_geotext.proofs.SpansExact.{span_exact, span_blank, span_byte}
+use Rattle.mob_geotext.proofs.PolygonsExact.{comma_continues}
 
 -- ---- corners
 
@@ -32,10 +33,6 @@ open_blank = means_head (word_then_head 40 [] is_blank refl)
 
 open_byte : HasByte open_bracket
 open_byte = means_byte (λ (v : Unit {0} × Text). tt) (then_byte blanks (word_byte 40 []))
-
--- no number goes on with a comma
-comma_continues : NoHead comma continues
-comma_continues = means_head (then_head (many_head blank_stops) (word_then_head 44 [] continues refl))
 
 second_exact : Exact (comma ▷ (number_value ▷ close_bracket)) (then_at comma_at (then_at number_value_at close_bracket_at)) Any
 second_exact = then_byte_stops comma_exact last_exact (byte_head close_bracket number_value_blank number_value_byte) (then_byte close_bracket number_value_byte)
@@ -156,9 +153,6 @@ t_no_blank c e = search rules
 
 x_no_blank : (c : ℕ) → to_ascii_lowercase c ≡ 120 → is_blank c ≡ false
 x_no_blank c e = search rules
-
-s_no_blank : (c : ℕ) → to_ascii_lowercase c ≡ 115 → is_blank c ≡ false
-s_no_blank c e = search rules
 
 abbrev behind_t : ℤ → Language (Unit {0} × NotedSpan)
 behind_t day = spaced (codes "(") ▷ closed_span day

@@ -16,7 +16,7 @@ use Rattle.mob_geotext.specs.declared.boxes.NotedBox.{NotedBox}
 use Rattle.mob_geotext.specs.declared.boxes.NotedBox.TheVariants.{Space, Time, Both}
 use Rattle.mob_geotext.specs.declared.boxes.NotedCorners.{NotedCorners}
 use Rattle.mob_geotext.specs.Spans.{bounded}
-use Rattle.mob_geotext.specs.Boxes.{area_of, has_corners, has_sides, box_in_both, sides_of, boxes, written_box_at, with_instant, sound_box}
+use Rattle.mob_geotext.specs.Boxes.{area_of, has_corners, has_sides, box_in_both, sides_said, boxes, written_box_at, with_instant, sound_box}
 use Rattle.mob_geotext.proofs.BoxesExact.{boxes_exact}
 use Rattle.mob_geotext.proofs.SpansRead.{true_false, has_bounds}
 
@@ -38,7 +38,7 @@ has_area c h = by_corners c.first c.second refl refl h
 -- all sides, where they fit
 pub record HasSides (b : NotedBox) : Type 0 where
   pub sides : BoxOf
-  pub is : sides_of b ≡ Some sides
+  pub is : sides_said b ≡ Some sides
 
 sides : (b : NotedBox) → has_sides b ≡ true → HasSides b
 sides (Space c) h = let a = has_area c h in record { sides = record { space = Some a.area; time = None }; is = rw a.is refl }
@@ -101,6 +101,6 @@ module _ (day : ℤ) (text bytes : Text) (b : NotedBox) (e : bytes ≡ text) (h 
   box_read r k n =
       let s = sides b k in
       let its = kept s.sides r (subst (λ (o : Option BoxOf). ◌≡◌ {A = Option BoxOf} (Some r) (o >>= with_instant)) s.is n) in
-      let is : sides_of b ≡ Some r = subst (λ (x : BoxOf). sides_of b ≡ Some x) its.1 s.is in
-      let sound : MatchOption (sides_of b) ⊥ (λ x. span_stands x.time ≡ false) → ⊥ = subst (λ (o : Option BoxOf). MatchOption o ⊥ (λ x. span_stands x.time ≡ false) → ⊥) (sym s.is) (λ (no : span_stands s.sides.time ≡ false). true_false (sym its.0 ∙ no)) in
+      let is : sides_said b ≡ Some r = subst (λ (x : BoxOf). sides_said b ≡ Some x) its.1 s.is in
+      let sound : MatchOption (sides_said b) ⊥ (λ x. span_stands x.time ≡ false) → ⊥ = subst (λ (o : Option BoxOf). MatchOption o ⊥ (λ x. span_stands x.time ≡ false) → ⊥) (sym s.is) (λ (no : span_stands s.sides.time ≡ false). true_false (sym its.0 ∙ no)) in
       (b, is_said (boxes_exact day) text bytes b e h, (λ x. x), fitting k, sound, is)

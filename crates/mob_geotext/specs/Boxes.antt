@@ -104,10 +104,10 @@ abbrev pub box_in_both : Option Area → Option SpanOf → Option BoxOf
 box_in_both area span = area >>= λ a. span >>= λ s. Some (record { space = Some a; time = Some s })
 
 -- the dimensions that are said, where all coordinates and ends fit
-abbrev pub sides_of : NotedBox → Option BoxOf
-sides_of (Space c) = box_in_space (area_of c)
-sides_of (Time s) = box_in_time (bounds_of s)
-sides_of (Both c s) = box_in_both (area_of c) (bounds_of s)
+abbrev pub sides_said : NotedBox → Option BoxOf
+sides_said (Space c) = box_in_space (area_of c)
+sides_said (Time s) = box_in_time (bounds_of s)
+sides_said (Both c s) = box_in_both (area_of c) (bounds_of s)
 
 -- the form of boxes: it is unsound where no instant is in its span
 abbrev pub boxes : ℤ → TextForm NotedBox BoxOf
@@ -115,8 +115,8 @@ boxes day = record {
   shape = within_blanks (written_box day);
   long = λ b. ⊥;
   large = λ b. has_sides b ≡ false;
-  unsound = λ b. MatchOption (sides_of b) ⊥ (λ r. span_stands r.time ≡ false);
-  means = λ b r. sides_of b ≡ Some r;
+  unsound = λ b. MatchOption (sides_said b) ⊥ (λ r. span_stands r.time ≡ false);
+  means = λ b r. sides_said b ≡ Some r;
 }
 
 -- ---- the readers of these languages
@@ -156,4 +156,4 @@ with_instant r = cond (span_stands r.time) (Some r) None
 
 -- the box that is said, where all of its sides fit and some instant is in its span
 abbrev pub sound_box : NotedBox → Option BoxOf
-sound_box b = sides_of b >>= with_instant
+sound_box b = sides_said b >>= with_instant

@@ -17,6 +17,7 @@ use Rattle.mob_grammar.specs.Reading as read
 use Rattle.mob_grammar.proofs.Steps.{passed, told, token_is, name_is, string_is, chain_goes_on, chain_stops, prefix_goes_on, prefix_stops, compared_goes_on, compared_stops, postfix_goes_on, postfix_stops, closed_there, listed_goes_on, listed_stops}
 use Rattle.mob_grammar.proofs.Tells.{through}
 use Rattle.mob_grammar.proofs.Same.{expression_unfolds, column_arguments}
+use Rattle.mob_grammar.proofs.Sizes.{type_taken}
 
 -- what follows does not go on a phrase of that rank
 abbrev pub Stops : Rank → List PlacedSymbol → Type 0
@@ -64,10 +65,6 @@ stops_string (t ∷ r) h = elim (told (is_string t)) [
 ]
 
 -- a phrase takes a token
-shorter_type : {l r : List PlacedSymbol} {ty : TypeWord} → TypeName l ty r → length r < length l
-shorter_type plain = omega arith
-shorter_type inner = omega arith
-
 mutual
   pub shorter : {k : Rank} {l r : List PlacedSymbol} {e : Tree} → Phrase k l e r → length r < length l
   shorter (up d) = shorter d
@@ -76,13 +73,13 @@ mutual
   shorter (is_null a) = omega (arith, shorter a)
   shorter (is_not_null a) = omega (arith, shorter a)
   shorter (compared a c b) = omega (arith, shorter a, shorter b)
-  shorter (cast_to a t) = omega (arith, shorter a, shorter_type t)
+  shorter (cast_to a t) = omega (arith, shorter a, type_taken t)
   shorter a_number = omega arith
   shorter a_string = omega arith
   shorter is_true = omega arith
   shorter is_false = omega arith
   shorter a_null = omega arith
-  shorter (a_literal t) = omega (arith, shorter_type t)
+  shorter (a_literal t) = omega (arith, type_taken t)
   shorter (a_call es) = omega (arith, shorter_arguments es)
   shorter a_column = omega arith
   shorter a_table_column = omega arith
@@ -471,7 +468,7 @@ mutual
       let s6 : Stops other r = stops_next comparison r s in
       begin_comparison (other_rank expression_at) l (t ∷ m) a (whole other l a (t ∷ m) (complete da (omega arith)) (omega arith))
       ∙ compared_goes_on (other_rank expression_at) a t m c ∙ through (other_rank expression_at m) b r _ (whole other m b r (complete db (stops_next other r s6)) s6)
-  complete (cast_to {l} {m} {r} {a} {ty} {p} d t) stops = longer_postfix cast Cast cast_at l m r a p (node.Cast ty) refl (complete d (omega arith)) (omega (arith, shorter_type t)) (type_tail t (stops_mark primary Open r (omega arith) stops))
+  complete (cast_to {l} {m} {r} {a} {ty} {p} d t) stops = longer_postfix cast Cast cast_at l m r a p (node.Cast ty) refl (complete d (omega arith)) (omega (arith, type_taken t)) (type_tail t (stops_mark primary Open r (omega arith) stops))
   complete (a_number {r} {n} {p}) stops = number_read n p r
   complete (a_string {r} {s} {p}) stops = string_read s p r
   complete (is_true {r} {p}) stops = true_read p r

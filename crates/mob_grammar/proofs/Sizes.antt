@@ -12,7 +12,7 @@ use Rattle.mob_grammar.specs.Forms.{Production, ◌▸◌, ◌∣◌, Listed, si
 use Rattle.mob_grammar.specs.Scripts.{Const, Row, ColumnType, FromEntry, SecondName, Alias, SelectItem, Direction, OrderKey, OnlyDistinct, FromPart, WherePart, OrderPart, LimitPart, SelectBody, CreateTable, CreateIndex, InsertRows, CopyFile, WithFormat, WithDelimiter, Statement}
 use Rattle.mob_grammar.specs.Sizes.{nodes, nodes_in, row_nodes, item_nodes, key_nodes, condition_nodes, select_nodes, statement_nodes, HasFewNodes}
 
-type_taken : {l r : List PlacedSymbol} {ty : TypeWord} → TypeName l ty r → length r < length l
+pub type_taken : {l r : List PlacedSymbol} {ty : TypeWord} → TypeName l ty r → length r < length l
 type_taken plain = omega arith
 type_taken inner = omega arith
 

@@ -16,7 +16,7 @@ use Rattle.mob_normal.proofs.Runs.{or_else, value_at-append}
 use Rattle.mob_written.specs.declared.written.Written.{Written}
 use Rattle.mob_written.specs.declared.written.Sequence.{Sequence}
 use Rattle.mob_literal.specs.Sequences.{rises, SequenceAt}
-use Rattle.mob_literal.specs.Slices.{slices_of, made, stretch, point, arrives}
+use Rattle.mob_literal.specs.Slices.{slices_of, made, stretch, instant_slice, arrives}
 use Rattle.mob_literal.specs.Sound.{ends_level, is_closed_alone, is_sound_sequence, clear_ends, is_before, are_in_order, is_sound, LitAt}
 use Rattle.mob_literal.specs.Flat.{made_sequence, made_all}
 use Rattle.mob_literal.proofs.Listing.{first_in, later_in, none_in, which_in}
@@ -28,7 +28,7 @@ use Rattle.mob_literal.proofs.SequenceLemmas.{slices_sequence, sequence_slices}
 made_tail : {C B : Type 0} (course : CourseOf C B) (step : Bool) (i j : Written B) (is : List (Written B)) (upper : Bool) → made course step (arrives course step i.value j.value) true (j ∷ is) upper ≡ cond (rises (j ∷ is) && (upper || ends_level course step (i ∷ j ∷ is))) (Some (slices_of course step true (j ∷ is) upper)) None
 made_tail {C} {B} course step i j [] upper = by_end upper (arrives course step i.value j.value)
   where
-    by_end : (u l : Bool) → cond u (Some (point course true j ∷ [])) (cond l (Some []) None) ≡ cond (true && (u || l)) (Some (cond u (point course true j ∷ []) [])) None
+    by_end : (u l : Bool) → cond u (Some (instant_slice course true j ∷ [])) (cond l (Some []) None) ≡ cond (true && (u || l)) (Some (cond u (instant_slice course true j ∷ []) [])) None
     by_end true l = refl
     by_end false true = refl
     by_end false false = refl
@@ -86,7 +86,7 @@ all_is {C} {B} has_value course step (q ∷ qs) = by_sound (is_sound_sequence ha
 pub sound_stretch : {C B : Type 0} (course : CourseOf C B) (step : Bool) (lower : Bool) (i j : Written B) → before i.instant j.instant ≡ true → IsSound course.start course.end (stretch course step lower i j)
 sound_stretch course step lower i j h = record { some = rw h refl; level = λ e. absurd (true≢false (sym h ∙ e)) }
 
-pub sound_point : {C B : Type 0} (course : CourseOf C B) → IsLawful course → (i : Written B) → IsSound course.start course.end (point course true i)
+pub sound_point : {C B : Type 0} (course : CourseOf C B) → IsLawful course → (i : Written B) → IsSound course.start course.end (instant_slice course true i)
 sound_point course laws i = record { some = grind (arith, before-self i.instant); level = λ e. laws.level_start i.value ∙ sym (laws.level_end i.value) }
 
 -- the slice begins behind the last of the instants
@@ -110,7 +110,7 @@ clear_next course step lower false i j [] [] h = tt
 clear_next course step lower false i j [] (r ∷ rest) h = h
 clear_next course step lower upper i j (k ∷ is) tail h = grind (arith, before-self j.instant)
 
-head_point : {C B : Type 0} (course : CourseOf C B) (i : Written B) (tail : List (Slice C)) → TailAfter true (i ∷ []) tail → OfHead IsClearOf (point course true i) tail
+head_point : {C B : Type 0} (course : CourseOf C B) (i : Written B) (tail : List (Slice C)) → TailAfter true (i ∷ []) tail → OfHead IsClearOf (instant_slice course true i) tail
 head_point course i [] h = tt
 head_point course i (r ∷ rest) h = h
 
@@ -153,7 +153,7 @@ tail_after {C} {B} course step q r rest h closed = by_instants r.lower_inc r.ins
   where
     by_instants : (lower : Bool) (is : List (Written B)) (upper : Bool) → clear_ends q.upper_inc lower (slice_get q.instants (length q.instants - 1)) (slice_get is 0) ≡ true → is_closed_alone lower upper is ≡ true → TailAfter q.upper_inc q.instants (slices_of course step lower is upper ++ rest)
     by_instants lower [] upper h closed = absurd (none_clear q.upper_inc lower (slice_get q.instants (length q.instants - 1)) h)
-    by_instants lower (j ∷ []) true h closed = after_last q.upper_inc lower q.instants j (point course lower j) refl refl h
+    by_instants lower (j ∷ []) true h closed = after_last q.upper_inc lower q.instants j (instant_slice course lower j) refl refl h
     by_instants lower (j ∷ []) false h closed = absurd (never lower closed)
       where
         never : (l : Bool) → (l && false) ≡ true → ⊥

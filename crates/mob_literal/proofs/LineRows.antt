@@ -1,5 +1,5 @@
--- Worked examples of texts of numbers and points that change evenly, by hand. A number prints here as its digit, a point as P and the
--- digits of its coordinates, and a moment as D and its day's place.
+-- Worked examples of texts of numbers and points that change evenly, by hand. A number prints here as its digit, a point as
+-- the digits of its coordinates in brackets, and a moment as its day and the day's place.
 use Rattle.std.proofs.Common.{◌≡◌, ℕ, ◌+◌, [], ◌∷◌, ◌++◌, Bool, true, false, Option, Some, None, codes, refl, nat_abs}
 use Rattle.std.specs.Prelude.{option_map, List}
 use Rattle.mob_ratio.specs.Ratio.{Ratio}
@@ -16,17 +16,17 @@ use Rattle.mob_written.specs.Printed.{Style, moving_text}
 use Rattle.mob_written.specs.Values.{any_value}
 use Rattle.mob_literal.specs.Flat.{made_all}
 use Rattle.mob_literal.specs.Sound.{fitting_all, is_sound}
-use Rattle.mob_literal.proofs.Rows.{day, d1, d2, d3}
+use Rattle.mob_literal.proofs.Rows.{day, first_day, second_day, third_day}
 
 abbrev day_text : Ratio → Text
-day_text t = codes "D" ++ (48 + nat_abs t.num) ∷ []
+day_text t = codes "day " ++ (48 + nat_abs t.num) ∷ []
 
 abbrev numbers : Style Line Ratio
 numbers = record { course = line_course; value_text = λ q. (48 + nat_abs q.num) ∷ []; moment_text = day_text }
 
 -- the sequence from 1 on the first day to 2 on the third
 abbrev rising : Bool → Bool → Sequence (Written Ratio)
-rising lower_inc upper_inc = record { lower_inc = lower_inc; instants = record { value = day 1; instant = d1 } ∷ record { value = day 2; instant = d3 } ∷ []; upper_inc = upper_inc }
+rising lower_inc upper_inc = record { lower_inc = lower_inc; instants = record { value = day 1; instant = first_day } ∷ record { value = day 2; instant = third_day } ∷ []; upper_inc = upper_inc }
 
 -- ---- Interp=Step;
 
@@ -34,12 +34,12 @@ rising lower_inc upper_inc = record { lower_inc = lower_inc; instants = record {
 abbrev printed : Bool → List (Sequence (Written Ratio)) → Option Text
 printed step qs = option_map (moving_text numbers) (made_all any_value line_course step qs)
 
-line_printed : printed false (rising true true ∷ []) ≡ Some (codes "[1@D1, 2@D3]")
+line_printed : printed false (rising true true ∷ []) ≡ Some (codes "[1@day 1, 2@day 3]")
 unfolding before same
 line_printed = refl
 
 -- the value holds until the second instant, and each of the two prints by itself
-step_printed : printed true (rising true true ∷ []) ≡ Some (codes "{[1@D1, 1@D3), [2@D3]}")
+step_printed : printed true (rising true true ∷ []) ≡ Some (codes "{[1@day 1, 1@day 3), [2@day 3]}")
 unfolding before same
 step_printed = refl
 
@@ -53,7 +53,7 @@ unfolding before same
 line_left_out = refl
 
 -- a number that does not fit is seen before what is unsound
-too_large_first : ◌≡◌ {A = Option (List (Sequence (Written Ratio)))} (fitting_all (record { lower_inc = true; instants = record { value = None; instant = Some d3 } ∷ record { value = Some d1; instant = Some d1 } ∷ []; upper_inc = false } ∷ [])) None
+too_large_first : ◌≡◌ {A = Option (List (Sequence (Written Ratio)))} (fitting_all (record { lower_inc = true; instants = record { value = None; instant = Some third_day } ∷ record { value = Some first_day; instant = Some first_day } ∷ []; upper_inc = false } ∷ [])) None
 too_large_first = refl
 
 -- ---- groups of lines
@@ -61,28 +61,28 @@ too_large_first = refl
 abbrev line : Bool → Ratio → Ratio → Bool → ℕ → ℕ → Slice Line
 line lower_inc lower upper upper_inc from to = record { span = record { lower = lower; upper = upper; lower_inc = lower_inc; upper_inc = upper_inc }; course = record { from = day from; to = day to } }
 
-a_bend : moving_text numbers (line true d1 d2 false 1 2 ∷ line true d2 d3 true 2 1 ∷ []) ≡ codes "[1@D1, 2@D2, 1@D3]"
+a_bend : moving_text numbers (line true first_day second_day false 1 2 ∷ line true second_day third_day true 2 1 ∷ []) ≡ codes "[1@day 1, 2@day 2, 1@day 3]"
 unfolding before same
 a_bend = refl
 
 -- at a jump a group ends, whichever of the two lines has the instant
-first_has_jump : moving_text numbers (line true d1 d2 true 1 2 ∷ line false d2 d3 true 3 5 ∷ []) ≡ codes "{[1@D1, 2@D2], (3@D2, 5@D3]}"
+first_has_jump : moving_text numbers (line true first_day second_day true 1 2 ∷ line false second_day third_day true 3 5 ∷ []) ≡ codes "{[1@day 1, 2@day 2], (3@day 2, 5@day 3]}"
 unfolding before same
 first_has_jump = refl
 
-second_has_jump : moving_text numbers (line true d1 d2 false 1 2 ∷ line true d2 d3 true 3 5 ∷ []) ≡ codes "{[1@D1, 2@D2), [3@D2, 5@D3]}"
+second_has_jump : moving_text numbers (line true first_day second_day false 1 2 ∷ line true second_day third_day true 3 5 ∷ []) ≡ codes "{[1@day 1, 2@day 2), [3@day 2, 5@day 3]}"
 unfolding before same
 second_has_jump = refl
 
 -- an instant that no line has parts two groups
-an_instant_missing : moving_text numbers (line true d1 d2 false 1 2 ∷ line false d2 d3 true 2 3 ∷ []) ≡ codes "{[1@D1, 2@D2), (2@D2, 3@D3]}"
+an_instant_missing : moving_text numbers (line true first_day second_day false 1 2 ∷ line false second_day third_day true 2 3 ∷ []) ≡ codes "{[1@day 1, 2@day 2), (2@day 2, 3@day 3]}"
 unfolding before same
 an_instant_missing = refl
 
 -- ---- points
 
 abbrev points : Style PlaneLine Point
-points = record { course = plane_course; value_text = λ p. codes "P" ++ (48 + nat_abs p.x.num) ∷ (48 + nat_abs p.y.num) ∷ []; moment_text = day_text }
+points = record { course = plane_course; value_text = λ p. codes "(" ++ (48 + nat_abs p.x.num) ∷ 32 ∷ (48 + nat_abs p.y.num) ∷ codes ")"; moment_text = day_text }
 
 abbrev at : ℕ → Point
 at x = record { x = day x; y = day 0 }
@@ -91,10 +91,10 @@ abbrev way : Bool → Ratio → Ratio → Bool → ℕ → ℕ → Slice PlaneLi
 way lower_inc lower upper upper_inc from to = record { span = record { lower = lower; upper = upper; lower_inc = lower_inc; upper_inc = upper_inc }; course = record { from = at from; to = at to } }
 
 -- a way of which the middle is left out
-two_ways : moving_text points (way true (day 0) d1 false 0 1 ∷ way false d2 d3 true 2 3 ∷ []) ≡ codes "{[P00@D0, P10@D1), (P20@D2, P30@D3]}"
+two_ways : moving_text points (way true (day 0) first_day false 0 1 ∷ way false second_day third_day true 2 3 ∷ []) ≡ codes "{[(0 0)@day 0, (1 0)@day 1), ((2 0)@day 2, (3 0)@day 3]}"
 unfolding before same
 two_ways = refl
 
-one_place : moving_text points (way true d2 d2 true 2 2 ∷ []) ≡ codes "P20@D2"
+one_place : moving_text points (way true second_day second_day true 2 2 ∷ []) ≡ codes "(2 0)@day 2"
 unfolding before same
 one_place = refl

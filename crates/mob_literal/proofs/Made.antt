@@ -7,7 +7,7 @@ use Rattle.mob_span.specs.Span.{has_instant}
 use Rattle.mob_slice.specs.declared.slice.Slice.{Slice}
 use Rattle.mob_slice.specs.CourseOf.{CourseOf}
 use Rattle.mob_written.specs.declared.written.Written.{Written}
-use Rattle.mob_literal.specs.Slices.{made, stretch, point, arrives}
+use Rattle.mob_literal.specs.Slices.{made, stretch, instant_slice, arrives}
 use Rattle.mob_scalar.proofs.Traversed.{with_list}
 
 -- an instant from which a span without its upper end goes on
@@ -36,7 +36,7 @@ module _ {C B : Type 0} (course : CourseOf C B) (step : Bool) where
       regroup (Some slices) = ap (λ (x : List (Slice C)). Some x) (append_assoc front (stretch course step lower i j ∷ []) slices)
 
   -- the last slice
-  pub made_ends : (slices pushed : List (Slice C)) (level included upper : Bool) (last : Written B) (rest : List (Written B)) (total : Option (List (Slice C))) → with_list slices (made course step level included (last ∷ rest) upper) ≡ total → rest ≡ [] → upper ≡ true → included ≡ true → pushed ≡ slices ++ point course included last ∷ [] → Some pushed ≡ total
+  pub made_ends : (slices pushed : List (Slice C)) (level included upper : Bool) (last : Written B) (rest : List (Written B)) (total : Option (List (Slice C))) → with_list slices (made course step level included (last ∷ rest) upper) ≡ total → rest ≡ [] → upper ≡ true → included ≡ true → pushed ≡ slices ++ instant_slice course included last ∷ [] → Some pushed ≡ total
   made_ends slices pushed level included upper last rest total h none u k e =
-      let ends : with_list slices (made course step level included (last ∷ rest) upper) ≡ Some (slices ++ point course included last ∷ []) = rw (none, u, k) refl in
+      let ends : with_list slices (made course step level included (last ∷ rest) upper) ≡ Some (slices ++ instant_slice course included last ∷ []) = rw (none, u, k) refl in
       ap (λ (x : List (Slice C)). Some x) e ∙ sym ends ∙ h

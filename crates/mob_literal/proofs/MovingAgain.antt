@@ -30,7 +30,7 @@ use Rattle.mob_literal.specs.Sound.{instant_count, written_of, fitting_sequence,
 use Rattle.mob_written.specs.Printed.{is_long, groups_of, instants_of, moving_text}
 use Rattle.mob_written.specs.Style.{style_of}
 use Rattle.mob_numeral.specs.Fitting.{number_value}
-use Rattle.mob_written.specs.Values.{any_value, is_whole, truth_value, quoted_value}
+use Rattle.mob_written.specs.Values.{any_value, is_whole_number, truth_value, quoted_value}
 use Rattle.mob_written.specs.Prefix.{Prefix, ArePrefixes, admitted, remaining, says_step, begins_prefix}
 use Rattle.mob_literal.specs.Sequences.{is_step}
 use Rattle.mob_literal.specs.Readable.{AreLevel, IsReadable, instants_in, AnyTruth, IsInt, IsText}
@@ -153,7 +153,7 @@ truth_said b h = record { meant = b; said = truth_plain b; is = refl }
 number_said : (q : Ratio) → IsInt q → number_value (number_text q) (Some q)
 number_said q h = number_value_said q h.fits
 
-whole_test : (q : Ratio) → IsInt q → is_whole q ≡ true
+whole_test : (q : Ratio) → IsInt q → is_whole_number q ≡ true
 whole_test q h = rw h.is_whole refl
 
 text_said : (v : Text) → IsText v → quoted_value (quoted_text v) (Some v)
@@ -162,8 +162,8 @@ text_said v h = record { meant = v; said = record { said = inl refl; holds = h }
 pub truths_again : (day : ℤ) (v : List (Slice (Steady Bool))) → IsReadable (steady_course same_bool) day truth_text AnyTruth v → Lit (steps day truth_value any_value same_bool) (moving_text (style_of (steady_course same_bool) truth_text day) v) (Ok v)
 truths_again day = bare_again same_bool same_bool_exact day truth_value truth_text AnyTruth any_value truth_said (λ b h. refl)
 
-pub numbers_again : (day : ℤ) (v : List (Slice (Steady Ratio))) → IsReadable (steady_course same) day number_text IsInt v → Lit (steps day number_value is_whole same) (moving_text (style_of (steady_course same) number_text day) v) (Ok v)
-numbers_again day = bare_again same same_exact day number_value number_text IsInt is_whole number_said whole_test
+pub numbers_again : (day : ℤ) (v : List (Slice (Steady Ratio))) → IsReadable (steady_course same) day number_text IsInt v → Lit (steps day number_value is_whole_number same) (moving_text (style_of (steady_course same) number_text day) v) (Ok v)
+numbers_again day = bare_again same same_exact day number_value number_text IsInt is_whole_number number_said whole_test
 
 pub texts_again : (day : ℤ) (v : List (Slice (Steady Text))) → IsReadable (steady_course same_bytes) day quoted_text IsText v → Lit (steps day quoted_value any_value same_bytes) (moving_text (style_of (steady_course same_bytes) quoted_text day) v) (Ok v)
 texts_again day = bare_again same_bytes same_bytes_exact day quoted_value quoted_text IsText any_value text_said (λ v h. refl)

@@ -1,4 +1,4 @@
--- Worked examples of printed texts and of fields, by hand. A moment prints here as D and its day's place.
+-- Worked examples of printed texts and of fields, by hand. A moment prints here as its day and the day's place.
 use Rattle.std.proofs.Common.{◌≡◌, ℕ, ◌+◌, [], ◌∷◌, ◌++◌, Bool, true, false, Some, None, codes, refl, pos, nat_abs, arith}
 use Rattle.mob_ratio.specs.GcdLaws.{gcd_one_right}
 use Rattle.mob_ratio.specs.LowestLaws.{lowest_in}
@@ -18,82 +18,82 @@ use Rattle.mob_literal.specs.Fields.{is_null_field, doubled, undoubled, text_of_
 abbrev pub day : ℕ → Ratio
 day n = record { num = pos n; den = 1; lowest = lowest_in (pos n) 1 (omega arith) (gcd_one_right n) }
 
-abbrev pub d1 : Ratio
-d1 = day 1
+abbrev pub first_day : Ratio
+first_day = day 1
 
-abbrev pub d2 : Ratio
-d2 = day 2
+abbrev pub second_day : Ratio
+second_day = day 2
 
-abbrev pub d3 : Ratio
-d3 = day 3
+abbrev pub third_day : Ratio
+third_day = day 3
 
 abbrev plain : Style (Steady Text) Text
-plain = record { course = steady_course same_bytes; value_text = λ v. v; moment_text = λ t. codes "D" ++ (48 + nat_abs t.num) ∷ [] }
+plain = record { course = steady_course same_bytes; value_text = λ v. v; moment_text = λ t. codes "day " ++ (48 + nat_abs t.num) ∷ [] }
 
 abbrev on : Bool → Ratio → Ratio → Bool → Text → Slice (Steady Text)
 on lower_inc lower upper upper_inc v = record { span = record { lower = lower; upper = upper; lower_inc = lower_inc; upper_inc = upper_inc }; course = record { value = v } }
 
 -- a value that changes at its last instant
-one_group : moving_text plain (on true d1 d3 false (codes "1") ∷ on true d3 d3 true (codes "2") ∷ []) ≡ codes "[1@D1, 2@D3]"
+one_group : moving_text plain (on true first_day third_day false (codes "1") ∷ on true third_day third_day true (codes "2") ∷ []) ≡ codes "[1@day 1, 2@day 3]"
 unfolding before same
 one_group = refl
 
 -- the last slice is longer than an instant
-end_written : moving_text plain (on true d1 d2 false (codes "1") ∷ on true d2 d3 true (codes "2") ∷ []) ≡ codes "[1@D1, 2@D2, 2@D3]"
+end_written : moving_text plain (on true first_day second_day false (codes "1") ∷ on true second_day third_day true (codes "2") ∷ []) ≡ codes "[1@day 1, 2@day 2, 2@day 3]"
 unfolding before same
 end_written = refl
 
-one_instant : moving_text plain (on true d1 d1 true (codes "5") ∷ []) ≡ codes "5@D1"
+one_instant : moving_text plain (on true first_day first_day true (codes "5") ∷ []) ≡ codes "5@day 1"
 unfolding before same
 one_instant = refl
 
-instants_alone : moving_text plain (on true d1 d1 true (codes "5") ∷ on true d3 d3 true (codes "6") ∷ []) ≡ codes "{5@D1, 6@D3}"
+instants_alone : moving_text plain (on true first_day first_day true (codes "5") ∷ on true third_day third_day true (codes "6") ∷ []) ≡ codes "{5@day 1, 6@day 3}"
 unfolding before same
 instants_alone = refl
 
 -- true on the second day alone
-whole_day : moving_text plain (on true d1 d2 false (codes "f") ∷ on true d2 d3 false (codes "t") ∷ on true d3 d3 true (codes "f") ∷ []) ≡ codes "[f@D1, t@D2, f@D3]"
+whole_day : moving_text plain (on true first_day second_day false (codes "f") ∷ on true second_day third_day false (codes "t") ∷ on true third_day third_day true (codes "f") ∷ []) ≡ codes "[f@day 1, t@day 2, f@day 3]"
 unfolding before same
 whole_day = refl
 
 -- a value that is given at one instant only, between two others: the group ends with it
-given_once : moving_text plain (on true d1 d2 false (codes "f") ∷ on true d2 d2 true (codes "t") ∷ on false d2 d3 true (codes "f") ∷ []) ≡ codes "{[f@D1, t@D2], (f@D2, f@D3]}"
+given_once : moving_text plain (on true first_day second_day false (codes "f") ∷ on true second_day second_day true (codes "t") ∷ on false second_day third_day true (codes "f") ∷ []) ≡ codes "{[f@day 1, t@day 2], (f@day 2, f@day 3]}"
 unfolding before same
 given_once = refl
 
 -- two slices that share an instant, which the first has
-joint_given : moving_text plain (on true d1 d2 true (codes "t") ∷ on false d2 d3 true (codes "f") ∷ []) ≡ codes "{[t@D1, t@D2], (f@D2, f@D3]}"
+joint_given : moving_text plain (on true first_day second_day true (codes "t") ∷ on false second_day third_day true (codes "f") ∷ []) ≡ codes "{[t@day 1, t@day 2], (f@day 2, f@day 3]}"
 unfolding before same
 joint_given = refl
 
-ends_left_out : moving_text plain (on false d1 d2 false (codes "1") ∷ []) ≡ codes "(1@D1, 1@D2)"
+ends_left_out : moving_text plain (on false first_day second_day false (codes "1") ∷ []) ≡ codes "(1@day 1, 1@day 2)"
 unfolding before same
 ends_left_out = refl
 
-a_point_of_others : moving_text plain (on true d1 d2 false (codes "1") ∷ on true d3 d3 true (codes "6") ∷ []) ≡ codes "{[1@D1, 1@D2), [6@D3]}"
+a_point_of_others : moving_text plain (on true first_day second_day false (codes "1") ∷ on true third_day third_day true (codes "6") ∷ []) ≡ codes "{[1@day 1, 1@day 2), [6@day 3]}"
 unfolding before same
 a_point_of_others = refl
 
 -- ---- courses that are not steady, each given by its two ends
 
 abbrev ends : Style (Text × Text) Text
-ends = record { course = course_of false (λ c l u t. c.0) (λ c. c.0) (λ c. c.1) (λ a b. (a, b)) (λ c d l m u. false) same_bytes; value_text = λ v. v; moment_text = λ t. codes "D" ++ (48 + nat_abs t.num) ∷ [] }
+ends = record { course = course_of false (λ c l u t. c.0) (λ c. c.0) (λ c. c.1) (λ a b. (a, b)) (λ c d l m u. false) same_bytes; value_text = λ v. v; moment_text = λ t. codes "day " ++ (48 + nat_abs t.num) ∷ [] }
 
 abbrev from : Bool → Ratio → Ratio → Bool → Text → Text → Slice (Text × Text)
 from lower_inc lower upper upper_inc v w = record { span = record { lower = lower; upper = upper; lower_inc = lower_inc; upper_inc = upper_inc }; course = (v, w) }
 
 -- the next one takes up the value with which the first ends
-taken_up : moving_text ends (from true d1 d2 false (codes "1") (codes "2") ∷ from true d2 d3 true (codes "2") (codes "5") ∷ []) ≡ codes "[1@D1, 2@D2, 5@D3]"
+taken_up : moving_text ends (from true first_day second_day false (codes "1") (codes "2") ∷ from true second_day third_day true (codes "2") (codes "5") ∷ []) ≡ codes "[1@day 1, 2@day 2, 5@day 3]"
 unfolding before same
 taken_up = refl
 
 -- the next one begins with another value
-a_jump : moving_text ends (from true d1 d2 false (codes "1") (codes "2") ∷ from true d2 d3 true (codes "3") (codes "5") ∷ []) ≡ codes "{[1@D1, 2@D2), [3@D2, 5@D3]}"
+a_jump : moving_text ends (from true first_day second_day false (codes "1") (codes "2") ∷ from true second_day third_day true (codes "3") (codes "5") ∷ []) ≡ codes "{[1@day 1, 2@day 2), [3@day 2, 5@day 3]}"
 unfolding before same
 a_jump = refl
 
 -- a step value of such a type: each of its values by itself
-steps_apart : moving_text ends (from true d1 d2 false (codes "1") (codes "1") ∷ from true d2 d2 true (codes "2") (codes "2") ∷ []) ≡ codes "{[1@D1, 1@D2), [2@D2]}"
+steps_apart : moving_text ends (from true first_day second_day false (codes "1") (codes "1") ∷ from true second_day second_day true (codes "2") (codes "2") ∷ []) ≡ codes "{[1@day 1, 1@day 2), [2@day 2]}"
 unfolding before same
 steps_apart = refl
 

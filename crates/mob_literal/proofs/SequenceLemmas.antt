@@ -10,7 +10,7 @@ use Rattle.mob_slice.specs.Slices.{value_at}
 use Rattle.mob_slice.specs.CourseOf.{CourseOf}
 use Rattle.mob_written.specs.declared.written.Written.{Written}
 use Rattle.mob_literal.specs.Sequences.{SequenceAt, IsValueFrom, IsNextAfter, reaches, rises}
-use Rattle.mob_literal.specs.Slices.{slices_of, stretch, point, drawn}
+use Rattle.mob_literal.specs.Slices.{slices_of, stretch, instant_slice, drawn}
 use Rattle.mob_literal.proofs.Drawn.{IsLawful}
 use Rattle.mob_literal.proofs.Listing.{first_in, later_in, none_in, which_in}
 
@@ -220,7 +220,7 @@ module _ {C B : Type 0} (course : CourseOf C B) (laws : IsLawful course) where
 
   pub slices_sequence : (step lower : Bool) (is : List (Written B)) (upper : Bool) (t : Ratio) (v : B) → rises is ≡ true → value_at course.value (slices_of course step lower is upper) t ≡ Some v → SequenceAt course step lower is upper t v
   slices_sequence step lower [] upper t v up h = absurd cc
-  slices_sequence step lower (i ∷ []) true t v up h = elim (looked (has (point course lower i).span t) (course.value (course.make i.value i.value) i.instant i.instant t) None v h) [
+  slices_sequence step lower (i ∷ []) true t v up h = elim (looked (has (instant_slice course lower i).span t) (course.value (course.make i.value i.value) i.instant i.instant t) None v h) [
     | inl s ↦ let b = both (reaches lower i.instant t) (before t i.instant || (true && up_to t i.instant)) s.0 in point_within step lower true i t v b.0 (reaches_upto true t i.instant b.1) refl (sym (laws.level i.value i.instant i.instant t) ∙ s.1)
     | inr n ↦ absurd (none_some v n.1)
   ]
@@ -257,7 +257,7 @@ module _ {C B : Type 0} (course : CourseOf C B) (laws : IsLawful course) where
         | inr n ↦ absurd (none_in x n)
       ]
 
-  has_point : (lower : Bool) (i : Written B) (t : Ratio) → reaches lower i.instant t ≡ true → up_to t i.instant ≡ true → has (point course lower i).span t ≡ true
+  has_point : (lower : Bool) (i : Written B) (t : Ratio) → reaches lower i.instant t ≡ true → up_to t i.instant ≡ true → has (instant_slice course lower i).span t ≡ true
   has_point lower i t a b = and (reaches lower i.instant t) (before t i.instant || (true && up_to t i.instant)) a (upto_reaches t i.instant b)
 
   has_stretch : (step lower : Bool) (i j : Written B) (t : Ratio) → reaches lower i.instant t ≡ true → before t j.instant ≡ true → has (stretch course step lower i j).span t ≡ true

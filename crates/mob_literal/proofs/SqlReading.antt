@@ -31,7 +31,7 @@ use Rattle.mob_scalar.proofs.OneReadings.{one_number, one_whole, one_moment, one
 use Rattle.mob_numeral.proofs.Settled.{settled}
 use Rattle.mob_literal.specs.Sound.{literals, steps}
 use Rattle.mob_numeral.specs.Fitting.{number_value}
-use Rattle.mob_written.specs.Values.{any_value, is_whole, truth_values, number_values, quoted_values, point_values, truth_value, quoted_value}
+use Rattle.mob_written.specs.Values.{any_value, is_whole_number, truth_values, number_values, quoted_values, point_values, truth_value, quoted_value}
 use Rattle.mob_literal.specs.SqlText.{texts, SaysInForm, SaysAs}
 use Rattle.mob_literal.proofs.OneReading.{one_reading}
 
@@ -78,7 +78,7 @@ one_sql_reading sql.Span day text = says_one (spans day) value.Span (one_span da
 one_sql_reading sql.SpanSet day text = says_one (span_sets day) value.SpanSet (one_span_set day) text
 one_sql_reading sql.Box day text = says_one (boxes day) value.Box (one_box day) text
 one_sql_reading sql.TBool day text = says_one (steps day truth_value any_value same_bool) value.MovingBool (one_reading day same_bool (steady_laws false same_bool same_bool_exact) truth_values false any_value) text
-one_sql_reading sql.TInt day text = says_one (steps day number_value is_whole same) value.MovingInt (one_reading day same (steady_laws false same same_exact) number_values false is_whole) text
+one_sql_reading sql.TInt day text = says_one (steps day number_value is_whole_number same) value.MovingInt (one_reading day same (steady_laws false same same_exact) number_values false is_whole_number) text
 one_sql_reading sql.TFrac day text = says_one (literals day false number_value any_value line_course) value.MovingFrac (one_reading day same line_laws number_values false any_value) text
 one_sql_reading sql.TText day text = says_one (steps day quoted_value any_value same_bytes) value.MovingText (one_reading day same_bytes (steady_laws false same_bytes same_bytes_exact) quoted_values false any_value) text
 one_sql_reading sql.TPoint day text = says_one (literals day true point_value any_value plane_course) value.MovingPoint (one_reading day same_point plane_laws point_values true any_value) text

@@ -18,18 +18,18 @@ abbrev pub stretch : {C B : Type 0} → CourseOf C B → Bool → Bool → Writt
 stretch course step lower_inc i j = record { span = record { lower = i.instant; upper = j.instant; lower_inc = lower_inc; upper_inc = false }; course = drawn course step i.value j.value }
 
 -- the value at one written instant alone
-abbrev pub point : {C B : Type 0} → CourseOf C B → Bool → Written B → Slice C
-point course lower_inc i = record { span = record { lower = i.instant; upper = i.instant; lower_inc = lower_inc; upper_inc = true }; course = course.make i.value i.value }
+abbrev pub instant_slice : {C B : Type 0} → CourseOf C B → Bool → Written B → Slice C
+instant_slice course lower_inc i = record { span = record { lower = i.instant; upper = i.instant; lower_inc = lower_inc; upper_inc = true }; course = course.make i.value i.value }
 
 -- a slice from each instant to the next, and one for the last where it is included
 abbrev pub slices_of : {C B : Type 0} → CourseOf C B → Bool → Bool → List (Written B) → Bool → List (Slice C)
 slices_of course step lower_inc [] upper_inc = []
-slices_of course step lower_inc (i ∷ []) upper_inc = cond upper_inc (point course lower_inc i ∷ []) []
+slices_of course step lower_inc (i ∷ []) upper_inc = cond upper_inc (instant_slice course lower_inc i ∷ []) []
 slices_of course step lower_inc (i ∷ j ∷ is) upper_inc = stretch course step lower_inc i j ∷ slices_of course step true (j ∷ is) upper_inc
 
 -- The same where the sequence is sound: its instants rise, a sequence of one instant includes both ends, and in one without its upper
 -- end the last course ends with the last value. None where it is not. `level` says that the course before the first instant ends so.
 abbrev pub made : {C B : Type 0} → CourseOf C B → Bool → Bool → Bool → List (Written B) → Bool → Option (List (Slice C))
 made course step level lower_inc [] upper_inc = Some []
-made course step level lower_inc (i ∷ []) upper_inc = cond upper_inc (cond lower_inc (Some (point course lower_inc i ∷ [])) None) (cond level (Some []) None)
+made course step level lower_inc (i ∷ []) upper_inc = cond upper_inc (cond lower_inc (Some (instant_slice course lower_inc i ∷ [])) None) (cond level (Some []) None)
 made course step level lower_inc (i ∷ j ∷ is) upper_inc = cond (before i.instant j.instant) (option_map (λ slices. stretch course step lower_inc i j ∷ slices) (made course step (arrives course step i.value j.value) true (j ∷ is) upper_inc)) None

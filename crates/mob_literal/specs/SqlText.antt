@@ -26,7 +26,7 @@ use Rattle.mob_geotext.specs.Boxes.{boxes}
 use Rattle.mob_geotext.specs.BoxText.{box_text}
 use Rattle.mob_literal.specs.Sound.{literals, steps}
 use Rattle.mob_numeral.specs.Fitting.{number_value}
-use Rattle.mob_written.specs.Values.{any_value, is_whole, truth_value, quoted_value}
+use Rattle.mob_written.specs.Values.{any_value, is_whole_number, truth_value, quoted_value}
 use Rattle.mob_written.specs.Printed.{moving_text}
 use Rattle.mob_written.specs.Style.{style_of}
 
@@ -58,7 +58,7 @@ SaysAs sql.Span day text r = SaysInForm (spans day) value.Span text r
 SaysAs sql.SpanSet day text r = SaysInForm (span_sets day) value.SpanSet text r
 SaysAs sql.Box day text r = SaysInForm (boxes day) value.Box text r
 SaysAs sql.TBool day text r = SaysInForm (steps day truth_value any_value same_bool) value.MovingBool text r
-SaysAs sql.TInt day text r = SaysInForm (steps day number_value is_whole same) value.MovingInt text r
+SaysAs sql.TInt day text r = SaysInForm (steps day number_value is_whole_number same) value.MovingInt text r
 SaysAs sql.TFrac day text r = SaysInForm (literals day false number_value any_value line_course) value.MovingFrac text r
 SaysAs sql.TText day text r = SaysInForm (steps day quoted_value any_value same_bytes) value.MovingText text r
 SaysAs sql.TPoint day text r = SaysInForm (literals day true point_value any_value plane_course) value.MovingPoint text r

@@ -15,7 +15,7 @@ ghost use Rattle.mob_literal.specs.SqlReadable.{IsReadableAs};
 ghost use Rattle.mob_literal.specs.SqlText.{SaysAs, value_text};
 ghost use Rattle.mob_written.specs.Style.{style_of};
 ghost use Rattle.mob_numeral.specs.Fitting.{number_value};
-ghost use Rattle.mob_written.specs.Values.{any_value, is_whole, quoted_value, truth_value};
+ghost use Rattle.mob_written.specs.Values.{any_value, is_whole_number, quoted_value, truth_value};
 ghost use Rattle.mob_ratio.specs.Order.{same};
 ghost use Rattle.mob_ratio.specs.Ratio.{Ratio};
 ghost use Rattle.mob_numeral.specs.NumberText.{number_text};
@@ -44,7 +44,7 @@ pub fn nothing_before_steps<T: WrittenValue>()
 /// A literal of a step type has one reading, and so has the text of a value of each type.
 pub fn one_reading()
     ensures truths { (day : ℤ) → HasOneReading (steps day truth_value any_value same_bool) }
-    ensures numbers { (day : ℤ) → HasOneReading (steps day number_value is_whole same) }
+    ensures numbers { (day : ℤ) → HasOneReading (steps day number_value is_whole_number same) }
     ensures texts { (day : ℤ) → HasOneReading (steps day quoted_value any_value same_bytes) }
     ensures values { (ty : SqlType) (day : ℤ) (text : Text) (a b : Result Value ReadText)
         → a ≢ Err NoMemory → b ≢ Err NoMemory → SaysAs ty day text a → SaysAs ty day text b → a ≡ b }
@@ -61,7 +61,7 @@ pub fn steps_read_again()
     ensures truths { (day : ℤ) (v : List (Slice (Steady Bool))) → IsReadable (steady_course same_bool) day truth_text AnyTruth v
         → Lit (steps day truth_value any_value same_bool) (moving_text (style_of (steady_course same_bool) truth_text day) v) (Ok v) }
     ensures numbers { (day : ℤ) (v : List (Slice (Steady Ratio))) → IsReadable (steady_course same) day number_text IsInt v
-        → Lit (steps day number_value is_whole same) (moving_text (style_of (steady_course same) number_text day) v) (Ok v) }
+        → Lit (steps day number_value is_whole_number same) (moving_text (style_of (steady_course same) number_text day) v) (Ok v) }
     ensures texts { (day : ℤ) (v : List (Slice (Steady (List ℕ)))) → IsReadable (steady_course same_bytes) day quoted_text IsText v
         → Lit (steps day quoted_value any_value same_bytes) (moving_text (style_of (steady_course same_bytes) quoted_text day) v) (Ok v) }
 {}

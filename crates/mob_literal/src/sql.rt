@@ -14,7 +14,7 @@ ghost use Rattle.mob_geotext.specs.Spans.{spans, span_sets};
 ghost use Rattle.mob_literal.specs.Memory.{takes_memory};
 ghost use Rattle.mob_literal.specs.Sound.{literals, steps};
 ghost use Rattle.mob_numeral.specs.Fitting.{number_value};
-ghost use Rattle.mob_written.specs.Values.{any_value, is_whole, truth_value, quoted_value};
+ghost use Rattle.mob_written.specs.Values.{any_value, is_whole_number, truth_value, quoted_value};
 ghost use Rattle.mob_literal.specs.SqlText.{SaysInForm, SaysAs, texts, value_text};
 
 use crate::temporal::read_moving;
@@ -120,7 +120,7 @@ fn read_tbool(alloc: Global, text: &str, epoch: &Epoch) -> Result<Value, ReadTex
 }
 
 fn read_tint(alloc: Global, text: &str, epoch: &Epoch) -> Result<Value, ReadText>
-    ensures reading { SaysInForm (steps epoch.now number_value is_whole same) Value.MovingInt text.now result }
+    ensures reading { SaysInForm (steps epoch.now number_value is_whole_number same) Value.MovingInt text.now result }
 {
     Ok(Value::MovingInt(read_moving::<WholeNumbers, Steady<Frac>>(alloc, text, epoch)?))
 }

@@ -1,10 +1,11 @@
 -- What a script has read, whatever its files.
-use Rattle.std.proofs.Common.{◌≡◌, refl, subst, ℕ, ℤ, List, [], ◌∷◌, Option, Some, None, Result, Ok, Err}
+use Rattle.std.proofs.Common.{◌≡◌, refl, sym, subst, ℕ, ℤ, List, [], ◌∷◌, Option, Some, None, Result, Ok, Err}
 use Rattle.std.specs.Prelude.{OnOk}
+use Rattle.std.proofs.lemmas.Slice.Eq.{bytes_eq-Decides}
 use Rattle.mob_outside.specs.Told.{Contents, file_of}
 use Rattle.mob_typed.specs.Statements.{ScriptOut}
-use Rattle.mob_load.specs.Checks.{CheckParts, literal, table, room, file, checks_of}
-use Rattle.mob_load.specs.Loads.{Loaded, Halt, Loads, LoadsCheck, LoadsFile, LoadsTo, LoadedIsRead, ContinuesBy, ReadsCheck, ReadsChecks, ReadsScript, nothing_loaded, with_made_table}
+use Rattle.mob_load.specs.Checks.{CheckParts, file, checks_of}
+use Rattle.mob_load.specs.Loads.{Loaded, Halt, Loads, LoadsCheck, LoadsFile, LoadsTo, LoadedIsRead, ContinuesBy, ReadsCheck, ReadsChecks, ReadsScript, nothing_loaded}
 use Rattle.mob_load.specs.declared.program.LoadEnd.{LoadEnd}
 use Rattle.mob_load.specs.declared.program.Program.{Program}
 
@@ -37,21 +38,18 @@ pub program_read : (day : ℤ) (cs : List CheckParts) (out : ScriptOut) (l : Loa
     → ReadsChecks day cs nothing_loaded l → ReadsScript day out p
 program_read day cs out l p same is reads = (l, subst (λ (x : List CheckParts). ReadsChecks day x nothing_loaded l) same reads, is)
 
+-- a file with some bytes
+pub bytes_read : (day : ℤ) (t : ℕ) (name bytes : List ℕ) (l m : Loaded) → LoadsFile day t name l (Some bytes) (Ok m) → ReadsCheck day (file t name) l m
+bytes_read day t name bytes l m h =
+    let own = (bytes_eq-Decides name name).1 refl in
+    let found : file_of name ((name, bytes) ∷ []) ≡ Some bytes = rw own refl in
+    ((name, bytes) ∷ [], subst (λ (o : Option (List ℕ)). LoadsFile day t name l o (Ok m)) (sym found) h)
+
 -- what is read of files that are told
 module _ (day : ℤ) (files : Contents) where
-  file_read : (t : ℕ) (name : List ℕ) (l k : Loaded) (o : Option (List ℕ)) → LoadsFile day t name l o (Ok k) → ReadsCheck day (file t name) l k
-  file_read t name l k None h = absurd (cc)
-  file_read t name l k (Some bytes) h = (bytes, h)
-
-  check_read : (c : CheckParts) (l k : Loaded) → LoadsCheck day files c l (Ok k) → ReadsCheck day c l k
-  check_read (literal c) l k h = h
-  check_read (table columns) l k h = let same : k ≡ with_made_table l columns = cc in same
-  check_read (room t n p) l k h = h
-  check_read (file t name) l k h = file_read t name l k (file_of name files) h
-
   goes_read : (c : CheckParts) (cs : List CheckParts) (l m : Loaded) → ((k : Loaded) → Loads day files cs k (Ok m) → ReadsChecks day cs k m)
       → (s : Result Loaded Halt) → LoadsCheck day files c l s → ContinuesBy (Loads day files cs) s (Ok m) → ReadsChecks day (c ∷ cs) l m
-  goes_read c cs l m each (Ok k) passes goes = (k, check_read c l k passes, each k goes)
+  goes_read c cs l m each (Ok k) passes goes = (k, (files, passes), each k goes)
   goes_read c cs l m each (Err h) passes goes = absurd (cc)
 
   checks_read : (cs : List CheckParts) (l m : Loaded) → Loads day files cs l (Ok m) → ReadsChecks day cs l m

@@ -1,14 +1,15 @@
 -- The literals of a script and their values, one by one.
-use Rattle.std.proofs.Common.{◌≡◌, ◌∙◌, refl, sym, ap, subst, Bool, true, false, ℕ, ℤ, ◌+◌, List, [], ◌∷◌, ◌++◌, map, Ok, append_assoc, append-nil}
+use Rattle.std.proofs.Common.{◌≡◌, ◌∙◌, refl, sym, ap, subst, Bool, true, false, ℕ, ℤ, ◌+◌, List, [], ◌∷◌, ◌++◌, map, Option, Some, None, Ok, append_assoc, append-nil}
 use Rattle.std.specs.Prelude.{nat_lt}
 use Rattle.std.specs.List.{AllByRecursion, AllZip}
+use Rattle.mob_outside.specs.Told.{file_of}
 use Rattle.mob_value.specs.declared.value.Value.{Value}
 use Rattle.mob_catalog.specs.Constants.{IsConstant}
 use Rattle.mob_typed.specs.declared.typed.ConstText.{ConstText}
 use Rattle.mob_typed.specs.Statements.{StatementOut}
 use Rattle.mob_load.specs.declared.program.Program.{Program}
 use Rattle.mob_load.specs.Checks.{CheckParts, literal, table, room, file, Checkpoint, checkpoints_of, checkpoints_from, stands_before, checks_up_to, in_order, checks_of}
-use Rattle.mob_load.specs.Loads.{Loaded, ReadsCheck, ReadsChecks, literal_of, literals_in, one_row, greatest_rows, loaded_row_count, nothing_loaded, LooksAtLiterals, ProgramHasValues}
+use Rattle.mob_load.specs.Loads.{Loaded, LoadsFile, ReadsCheck, ReadsChecks, literal_of, literals_in, one_row, greatest_rows, loaded_row_count, nothing_loaded, with_made_table, LooksAtLiterals, ProgramHasValues}
 use Rattle.mob_load.proofs.EachCheckpoint.{each_checkpoint}
 use Rattle.mob_typed.proofs.Rising.{each_both}
 
@@ -54,16 +55,21 @@ row_values : (b : Bool) (t n p : ℕ) (l k : Loaded) → nat_lt (loaded_row_coun
 row_values true t n p l k test is = let same = rw test at is in cc
 row_values false t n p l k test is = let same = rw test at is in cc
 
+-- so does a file
+file_values : (day : ℤ) (t : ℕ) (name : List ℕ) (l k : Loaded) (o : Option (List ℕ)) → LoadsFile day t name l o (Ok k) → k.values ≡ l.values
+file_values day t name l k None h = absurd (cc)
+file_values day t name l k (Some bytes) h = ap (λ (x : Loaded). x.values) h.2
+
 -- the values that checks add to those so far
 abbrev Adds : ℤ → List CheckParts → Loaded → Loaded → Type 0
 Adds day cs l m = (vs : List Value) × AllZip (IsConstant day) (literals_in cs) vs × (m.values ≡ l.values ++ vs)
 
 adds_on : (day : ℤ) (c : CheckParts) (cs : List CheckParts) (l k m : Loaded) → ReadsCheck day c l k → Adds day cs k m → Adds day (c ∷ cs) l m
 adds_on day (literal c) cs l k m passes adds =
-    (passes.0 ∷ adds.0, (passes.1, adds.1), adds.2 ∙ ap (λ (x : Loaded). x.values ++ adds.0) passes.2 ∙ append_assoc l.values (passes.0 ∷ []) adds.0)
-adds_on day (table columns) cs l k m passes adds = (adds.0, adds.1, adds.2 ∙ ap (λ (x : Loaded). x.values ++ adds.0) passes)
-adds_on day (room t n p) cs l k m passes adds = (adds.0, adds.1, adds.2 ∙ ap (λ (vs : List Value). vs ++ adds.0) (row_values (nat_lt (loaded_row_count l t) greatest_rows) t n p l k refl passes))
-adds_on day (file t name) cs l k m passes adds = (adds.0, adds.1, adds.2 ∙ ap (λ (x : Loaded). x.values ++ adds.0) passes.1.2)
+    (passes.1.0 ∷ adds.0, (passes.1.1, adds.1), adds.2 ∙ ap (λ (x : Loaded). x.values ++ adds.0) passes.1.2 ∙ append_assoc l.values (passes.1.0 ∷ []) adds.0)
+adds_on day (table columns) cs l k m passes adds = let made = passes.1 in let same : k ≡ with_made_table l columns = cc in (adds.0, adds.1, adds.2 ∙ ap (λ (x : Loaded). x.values ++ adds.0) same)
+adds_on day (room t n p) cs l k m passes adds = (adds.0, adds.1, adds.2 ∙ ap (λ (vs : List Value). vs ++ adds.0) (row_values (nat_lt (loaded_row_count l t) greatest_rows) t n p l k refl passes.1))
+adds_on day (file t name) cs l k m passes adds = (adds.0, adds.1, adds.2 ∙ ap (λ (vs : List Value). vs ++ adds.0) (file_values day t name l k (file_of name passes.0) passes.1))
 
 reads_add : (day : ℤ) (cs : List CheckParts) (l m : Loaded) → ReadsChecks day cs l m → Adds day cs l m
 reads_add day [] l m is = ([], tt, ap (λ (x : Loaded). x.values) is ∙ sym (append-nil l.values))

@@ -120,15 +120,11 @@ abbrev pub Reaches : ℤ → Contents → List CheckParts → Loaded → List �
 Reaches day files [] l name = ⊥
 Reaches day files (c ∷ cs) l name = IsFile c name ⊎ ((m : Loaded) × LoadsCheck day files c l (Ok m) × Reaches day files cs m name)
 
--- What a check adds to what was read, whatever bytes the files have: a literal the value of its text, a table its columns, a row of an
--- INSERT itself, and a file the rows of some bytes.
+-- What a check adds to what was read, whatever the files are: what it loads of some files.
 abbrev pub ReadsCheck : ℤ → CheckParts → Loaded → Loaded → Type 0
-ReadsCheck day (literal c) l m = LoadsLiteral day c l (Ok m)
-ReadsCheck day (table columns) l m = m ≡ with_made_table l columns
-ReadsCheck day (room t n p) l m = Ok m ≡ one_row t n p l
-ReadsCheck day (file t name) l m = (bytes : List ℕ) × LoadsFile day t name l (Some bytes) (Ok m)
+ReadsCheck day c l m = (files : Contents) × LoadsCheck day files c l (Ok m)
 
--- so do the checks one after the other
+-- what the checks add one after the other, each of files of its own
 abbrev pub ReadsChecks : ℤ → List CheckParts → Loaded → Loaded → Type 0
 ReadsChecks day [] l m = m ≡ l
 ReadsChecks day (c ∷ cs) l m = (k : Loaded) × ReadsCheck day c l k × ReadsChecks day cs k m

@@ -16,15 +16,12 @@ use Rattle.mob_slice.specs.Sameness.{same_bool, same_bytes}
 use Rattle.mob_slice.specs.declared.formula.Formula.TheVariants.{F1}
 use Rattle.mob_slice.specs.declared.slice.Slice.{Slice}
 use Rattle.mob_compare.specs.Times.{is_true}
+use Rattle.mob_cells.specs.Cells.{instant_span}
 use Rattle.mob_cells.specs.Restricted.{IsRestricted}
 use Rattle.mob_restrict.specs.Cuts.{entry_of_cut}
 use Rattle.mob_value.specs.declared.value.Value.{Value}
 use Rattle.mob_value.specs.declared.value.Value.TheVariants.{Null, Bool as Truth, Number, Text, Moment, Point, Span, SpanSet, MovingBool, MovingInt, MovingFrac, MovingText, MovingPoint}
 use Rattle.mob_ordinary.specs.Moving.{OverTime, step_function, line_function, plane_function, or_nothing, IsFunctionOrNull}
-
--- the span of one instant
-abbrev pub instant_span : Ratio → SpanOf
-instant_span t = record { lower = t; upper = t; lower_inc = true; upper_inc = true }
 
 -- the spans of the instants for which a moment, a span or a span set asks; no other value asks for any
 abbrev pub asked_spans : Value → Option (List SpanOf)

@@ -1,5 +1,6 @@
 -- A point inside closed rings lies in each area that has their corners.
 use Rattle.std.proofs.Common.{◌≡◌, Bool, true, false, not, ◌&&◌, ◌||◌, List, [], ◌∷◌, ◌++◌, Option, Some, arith, refl, sym, ap, ◌∙◌, subst, inl, inr, true≢false}
+use Rattle.std.proofs.lemmas.Bool.{or_parts}
 use Rattle.std.specs.Prelude.{All, suc, length, slice_get, ◌-◌}
 use Rattle.std.specs.List.{AllByRecursion, list_any}
 use Rattle.mob_ratio.specs.Ratio.{Ratio, ◌+ℚ◌, ◌-ℚ◌, neg_ℚ, ◌*ℚ◌, ◌<ℚ◌, ◌≤ℚ◌}
@@ -17,7 +18,7 @@ use Rattle.mob_plane.specs.Points.{same_point, same_point_exact}
 use Rattle.mob_plane.specs.Rings.{edges, all_edges, are_one, is_open_ring, has_open}
 use Rattle.mob_plane.specs.Turns.{turn}
 use Rattle.mob_plane.specs.declared.point.Point.{Point}
-use Rattle.mob_plane.proofs.BySigns.{on_is, right_is, inside_signs}
+use Rattle.mob_plane.proofs.BySigns.{falls, on_is, right_is, inside_signs}
 use Rattle.mob_plane.proofs.Crossings.{rising_crossing, falling_crossing}
 use Rattle.mob_stbox.specs.Areas.{InArea}
 use Rattle.mob_stbox.specs.declared.area.Area.{Area}
@@ -67,10 +68,6 @@ turned_up p a b h = lt-before _ _ (subst (λ z. nil <ℚ z) (sym (turn_back a.x 
 turned_down : (p a b : Point) → before nil (turn b a p) ≡ true → before (turn a b p) nil ≡ true
 turned_down p a b h = lt-before _ _ (subst (λ z. z <ℚ nil) (sym (turn_back a.x a.y b.x b.y p.x p.y)) (neg_lt _ (before-lt _ _ h)))
 
--- of two ends, the one above p is above the one that is not
-lower_end : (p a b : Ratio) → before p a ≡ true → before p b ≡ false → before b a ≡ true
-lower_end p a b h k = grind (arith, h, k, before-trans b p a, before-neither b p)
-
 by_height : (ya yb far : Bool) → (ya ≡ true → yb ≡ false → far ≡ true) → (yb ≡ true → ya ≡ false → far ≡ true) → (is_one_alone ya yb && far) ≡ is_one_alone ya yb
 by_height true true far h k = refl
 by_height true false far h k = h refl refl
@@ -87,15 +84,15 @@ never_far false false far h k = refl
 cross_right : (p a b : Point) → before p.x a.x ≡ true → before p.x b.x ≡ true → passes_right p (a, b) ≡ is_one_alone (above p a) (above p b)
 cross_right p a b la lb =
     by_height (above p a) (above p b) (before p.x (crossing_at (a, b) p.y))
-    (λ ua ub. falling_crossing a b p (lower_end p.y a.y b.y ua ub) ∙ falls_right p a b ua ub la lb)
-    (λ ub ua. rising_crossing a b p (lower_end p.y b.y a.y ub ua) ∙ turned_up p a b (falls_right p b a ub ua lb la))
+    (λ ua ub. falling_crossing a b p (falls p.y a.y b.y ua ub) ∙ falls_right p a b ua ub la lb)
+    (λ ub ua. rising_crossing a b p (falls p.y b.y a.y ub ua) ∙ turned_up p a b (falls_right p b a ub ua lb la))
 
 -- an edge to the left of it never does
 cross_left : (p a b : Point) → before a.x p.x ≡ true → before b.x p.x ≡ true → passes_right p (a, b) ≡ false
 cross_left p a b la lb =
     never_far (above p a) (above p b) (before p.x (crossing_at (a, b) p.y))
-    (λ ua ub. falling_crossing a b p (lower_end p.y a.y b.y ua ub) ∙ before-back _ _ (falls_left p a b ua ub la lb))
-    (λ ub ua. rising_crossing a b p (lower_end p.y b.y a.y ub ua) ∙ before-back _ _ (turned_down p a b (falls_left p b a ub ua lb la)))
+    (λ ua ub. falling_crossing a b p (falls p.y a.y b.y ua ub) ∙ before-back _ _ (falls_left p a b ua ub la lb))
+    (λ ub ua. rising_crossing a b p (falls p.y b.y a.y ub ua) ∙ before-back _ _ (turned_down p a b (falls_left p b a ub ua lb la)))
 
 alone_same : (a b far : Bool) → a ≡ b → (is_one_alone a b && far) ≡ false
 alone_same true true far e = refl
@@ -235,13 +232,9 @@ all_then : {X : Type 0} (P Q : X → Type 0) → ((x : X) → P x → Q x) → (
 all_then P Q f [] h = tt
 all_then P Q f (x ∷ xs) h = (f x h.0, all_then P Q f xs h.1)
 
-neither : (a b : Bool) → (a || b) ≡ false → (a ≡ false) × (b ≡ false)
-neither true b h = absurd (true≢false h)
-neither false b h = (refl, h)
-
 each_closed : (rings : List (List Point)) → has_open rings ≡ false → AllByRecursion (λ r. is_open_ring r ≡ false) rings
 each_closed [] h = tt
-each_closed (r ∷ rs) h = let n = neither (is_open_ring r) (list_any is_open_ring rs) h in (n.0, each_closed rs n.1)
+each_closed (r ∷ rs) h = let n = or_parts (is_open_ring r) (list_any is_open_ring rs) h in (n.0, each_closed rs n.1)
 
 -- a number that cannot be before another is at or past it
 never_before : (s t : Ratio) → (before t s ≡ true → ⊥) → s ≤ℚ t

@@ -1,5 +1,6 @@
 -- What is near in the plane is near by each coordinate; so boxes meet.
 use Rattle.std.proofs.Common.{◌≡◌, true, inl, inr, Option, Some, None, arith, refl, sym, ap, ◌∙◌, subst}
+use Rattle.std.proofs.lemmas.Bool.{and_parts}
 use Rattle.std.specs.Prelude.{IfSome, is_some, cond, ◌||◌, ◌&&◌}
 use Rattle.mob_ratio.specs.Ratio.{Ratio, ◌+ℚ◌, ◌-ℚ◌, ◌*ℚ◌, ◌<ℚ◌, ◌≤ℚ◌}
 use Rattle.mob_ratio.specs.Order.{up_to}
@@ -10,7 +11,6 @@ use Rattle.mob_ratio.proofs.Field.{le_trans, le_of_lt, le_of_eq, cases_lt, not_b
 use Rattle.mob_ratio.proofs.Order.{not-up_to-le}
 use Rattle.mob_quadratic.proofs.Convex.{le_lt, le_mul_pos, square_le}
 use Rattle.mob_span.specs.Span.{SpanOf, InSpan}
-use Rattle.mob_span.proofs.Insides.{both}
 use Rattle.mob_plane.specs.declared.point.Point.{Point}
 use Rattle.mob_stbox.specs.Areas.{InArea, is_area}
 use Rattle.mob_stbox.specs.Boxes.{BoxOf, BoxesMeet, InBox, both_have}
@@ -47,7 +47,7 @@ not_before_side = clear4 _ (λ D l p q d z a b. let a' = simp cleared at a in le
 not_past_side : (h p q d : Ratio) → p ≤ℚ h → (q -ℚ p) ≤ℚ d → q ≤ℚ (h +ℚ d)
 not_past_side = clear4 _ (λ D h p q d z a b. let a' = simp cleared at a in let b' = simp cleared at b in simp cleared (omega (arith, linear)))
 
--- the difference by one coordinate is at most d both ways, where its square and another not below nil are at most that of d
+-- the difference by one coordinate is at most d and_parts ways, where its square and another not below nil are at most that of d
 pub record AreClose (p q d : Ratio) : Type 0 where
   pub forward : (p -ℚ q) ≤ℚ d
   pub back : (q -ℚ p) ≤ℚ d
@@ -63,7 +63,7 @@ close p q d o h k sum =
 
 pub near_second : (a : Area) (p q : Point) (d : Ratio) → are_within d p q ≡ true → InArea a p → InArea (moved_area a d) q
 near_second a p q d h i =
-    let w = both _ _ h in
+    let w = and_parts _ _ h in
     let zero : nil ≤ℚ d = not-up_to-le nil d w.0 in
     let sum = not-up_to-le (distance_squared p q) (d *ℚ d) w.1 in
     let dx = p.x -ℚ q.x in
@@ -77,7 +77,7 @@ near_second a p q d h i =
       to_north = not_past_side a.ymax p.y q.y d i.to_north y.back;
     }
 
--- a distance is the same both ways
+-- a distance is the same and_parts ways
 within_back : (d : Ratio) (p q : Point) → are_within d p q ≡ true → are_within d q p ≡ true
 within_back d p q h = subst (λ z. (up_to nil d && up_to z (d *ℚ d)) ≡ true) (sym (ap (λ x. x +ℚ (q.y -ℚ p.y) *ℚ (q.y -ℚ p.y)) (other_way p.x q.x) ∙ ap (λ y. (p.x -ℚ q.x) *ℚ (p.x -ℚ q.x) +ℚ y) (other_way p.y q.y))) h
 

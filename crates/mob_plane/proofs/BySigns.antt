@@ -68,7 +68,7 @@ on_is a b p = rw (eq_of (turn a b p), ← between_is a.x b.x p.x, ← between_is
 
 -- ---- an edge to the right
 
-falls : (p a b : Ratio) → before p a ≡ true → before p b ≡ false → before b a ≡ true
+pub falls : (p a b : Ratio) → before p a ≡ true → before p b ≡ false → before b a ≡ true
 falls p a b h k = grind (arith, h, k, before-trans b p a, before-neither b p)
 
 or_false : (a : Bool) → (a || false) ≡ a

@@ -15,7 +15,7 @@ use Rattle.mob_plane.specs.declared.point.Point.{Point}
 use Rattle.mob_plane.specs.declared.edges.EdgeSigns.{EdgeSigns}
 use Rattle.mob_plane.specs.declared.edges.Tally.{Tally}
 
-alone_assoc : (a b c : Bool) → is_one_alone (is_one_alone a b) c ≡ is_one_alone a (is_one_alone b c)
+pub alone_assoc : (a b c : Bool) → is_one_alone (is_one_alone a b) c ≡ is_one_alone a (is_one_alone b c)
 alone_assoc true true true = refl
 alone_assoc true true false = refl
 alone_assoc true false c = refl

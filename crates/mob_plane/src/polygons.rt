@@ -83,7 +83,7 @@ fn some_open(rings: &[Vec<Point>]) -> bool
     rings.iter().any(|ring| is_open(ring.as_slice()))
 }
 
-/// The first point of the first ring.
+/// A point of the rings: the first of the first ring.
 fn start(rings: &[Vec<Point>]) -> Point
     requires some { has_short (rings_of rings.now) ≡ false }
     ensures listed { Contains (all_points (rings_of rings.now)) result }

@@ -2,7 +2,7 @@
 use Rattle.std.proofs.Common.{◌≡◌, ℕ, [], ◌∷◌, Bool, false, Option, Some, None, Ok, Err, refl, sym, ◌∙◌, rules, codes}
 use Rattle.std.specs.Prelude.{◌||◌, nat_eq}
 use Rattle.std.specs.Char.{to_ascii_lowercase}
-use Rattle.std.proofs.lemmas.Bool.{or_parts}
+use Rattle.std.proofs.lemmas.Bool.{or_parts, or_from}
 use Rattle.mob_language.specs.Language.{Text, Language, ◌▷◌, AnyCase, is_blank, spaced, within_blanks}
 use Rattle.mob_language.specs.Readers.{TextReader, then_at, all_of, within_blanks_at}
 use Rattle.mob_language.proofs.Exact.{Exact, Stops, Any, means_exact, many_exact, word_exact, any_case_exact, is_said, not_said}
@@ -100,11 +100,8 @@ srid_head test h = means_head (byte_head (spaced (codes ";")) (any_case_head 115
 p_no_blank : (c : ℕ) → to_ascii_lowercase c ≡ 112 → is_blank c ≡ false
 p_no_blank c e = search rules
 
-neither : (a b : Bool) → a ≡ false → b ≡ false → (a || b) ≡ false
-neither a b h k = rw (h, k) refl
-
 p_begins_none : (c : ℕ) → to_ascii_lowercase c ≡ 112 → begins_srid c ≡ false
-p_begins_none c e = neither (nat_eq (to_ascii_lowercase c) 115) (is_blank c) (rw e refl) (p_no_blank c e)
+p_begins_none c e = or_from (nat_eq (to_ascii_lowercase c) 115) (is_blank c) (rw e refl) (p_no_blank c e)
 
 -- each text of the language begins with the letter p, small or capital
 abbrev pub BeginsWithP : {A : Type 0} → Language A → Type 0
@@ -133,7 +130,7 @@ point_value_head = behind_srid_head point_head
 pub point_value_byte : HasByte point_value
 point_value_byte = behind_srid_byte point_byte
 
-s_no_blank : (c : ℕ) → to_ascii_lowercase c ≡ 115 → is_blank c ≡ false
+pub s_no_blank : (c : ℕ) → to_ascii_lowercase c ≡ 115 → is_blank c ≡ false
 s_no_blank c e = search rules
 
 pub behind_srid_blank : {A : Type 0} {l : Language A} → BeginsWithP l → NoHead (behind_srid l) is_blank

@@ -25,7 +25,7 @@ use Rattle.mob_slice.specs.declared.formula.LookFault.TheVariants.{Passed as Loo
 use Rattle.mob_cells.specs.declared.linear.Ends.{Ends}
 use Rattle.mob_cells.specs.Roots.{IsLevel}
 use Rattle.mob_cells.specs.Cells.{signs_of}
-use Rattle.mob_cells.specs.Kept.{AreKept, IsKeptBy, entries_of_cuts}
+use Rattle.mob_cells.specs.Kept.{AreKeptOn, IsKeptBy, entries_of_cuts}
 use Rattle.mob_cells.specs.Restricted.{kept_value, is_wanted}
 use Rattle.mob_cells.specs.Gaps.{gap_ends, related_by, IsGapFault}
 use Rattle.mob_cells.proofs.GapSigns.{by_gaps, no_gaps, gaps_level}
@@ -83,7 +83,7 @@ module _ {C B : Type 0} {steady copies : Bool} {value : C → Ratio → Ratio �
     wanted : (want k : Bool) (t : Ratio) → k ≡ is_wanted want (relation Eq (start s.course) x) → cond k (Some (slice_value value s t)) None ≡ kept_value want (relation Eq (slice_value value s t) x) (slice_value value s t)
     wanted want k t e = ap (λ b. cond b (Some (slice_value value s t)) None) (e ∙ ap (λ y. is_wanted want (relation Eq y x)) (sym (value_same t)))
 
-    pub steady_nothing : (want k : Bool) (v : List (Slice C)) → k ≡ is_wanted want (relation Eq (start s.course) x) → k ≡ false → v ≡ [] → AreKept value start end (λ t. kept_value want (relation Eq (slice_value value s t) x) (slice_value value s t)) s.span v
+    pub steady_nothing : (want k : Bool) (v : List (Slice C)) → k ≡ is_wanted want (relation Eq (start s.course) x) → k ≡ false → v ≡ [] → AreKeptOn value start end (λ t. kept_value want (relation Eq (slice_value value s t) x) (slice_value value s t)) s.span v
     steady_nothing want k v e n m = rw m (record { ordered = tt; inside = tt; values = λ t i. ap (λ b. cond b (Some (slice_value value s t)) None) (sym n) ∙ wanted want k t e })
 
     pub steady_fails : (f : LookFault) → IsLookFault copies (at_ends (slice_parts parts s) s.span) f → OnFormula (λ g. IsFirst (entries_of_value value parts gaps x s) (Some g)) (operator_fault f)

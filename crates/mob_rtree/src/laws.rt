@@ -1,6 +1,7 @@
 //! What holds of every tree. No code runs here.
 
 ghost use Rattle.std.specs.Prelude.{◌≡◌, All, List};
+ghost use Rattle.mob_rtree_nodes.specs.Reach.{HaveOneDepth};
 ghost use Rattle.mob_rtree.specs.Shape.{HasLeastBox, boxes_of};
 
 use crate::{Child, RTree};
@@ -11,6 +12,13 @@ use mob_list::laws::crosses_threads;
 pub fn boxes_are_least(tree: &RTree)
     ensures least { All HasLeastBox tree.now.nodes }
     ensures areas { tree.now.areas ≡ boxes_of tree.now.nodes }
+{
+    tree.has_root();
+}
+
+/// All leaves have one depth: as many steps lead from the root to each of them.
+pub fn leaves_have_one_depth(tree: &RTree)
+    ensures depth { HaveOneDepth tree.now.nodes tree.now.root }
 {
     tree.has_root();
 }

@@ -3,7 +3,7 @@ ghost use Rattle.std.specs.Prelude.{◌≡◌, ◌≢◌, ℕ, ◌+◌, ◌*◌,
 ghost use Rattle.std.specs.Ordering.{nat_cmp};
 ghost use Rattle.mob_stbox.specs.Boxes.{overlaps, is_whole};
 ghost use Rattle.mob_rtree_nodes.specs.Tree.{entry_of, is_fit, IsAdded, AreSame, AreFound};
-ghost use Rattle.mob_rtree_nodes.specs.Reach.{IsReachedNode, IsSpread, children, entries_under};
+ghost use Rattle.mob_rtree_nodes.specs.Reach.{HaveOneDepth, IsReachedNode, IsSpread, children, entries_under};
 ghost use Rattle.mob_rtree.specs.Shape.{Shape, IsAsBefore, AreUsedAgain, HasLeastBox, boxes_of};
 
 use mob_rtree_nodes::node::{Child, Root, TreeNode};
@@ -43,7 +43,7 @@ impl Model for RTree {
 impl RTree {
     /// The tree of no entry.
     pub fn new(alloc: Global) -> RTree
-        ensures { result ≡ record { entries = []; areas = []; spare = 0; nodes = []; root = None } }
+        ensures empty { result ≡ record { entries = []; areas = []; spare = 0; nodes = []; root = None } }
     {
         RTree {
             nodes: Vec::new(alloc),
@@ -56,8 +56,8 @@ impl RTree {
     /// A tree of these entries, with near ones beside one another. It takes less time than as many calls of `insert`, and mostly makes
     /// a tree that is faster to search.
     pub fn build(alloc: Global, entries: Vec<(StBox, u32)>) -> Result<RTree, AllocError>
-        requires { All (λ e. is_whole e.0 ≡ true) entries.items }
-        ensures { IfOk result (λ t. AreSame t.entries entries.items) }
+        requires whole { All (λ e. is_whole e.0 ≡ true) entries.items }
+        ensures entries { IfOk result (λ t. AreSame t.entries entries.items) }
     {
         if entries.is_empty() {
             return Ok(RTree::new(alloc));
@@ -116,7 +116,7 @@ impl RTree {
 
     /// Adds an entry. Where `reserve_one` made memory, and no entry was put in since, it succeeds.
     pub fn insert(&mut self, b: StBox, id: u32) -> Result<(), AllocError>
-        requires { is_whole b ≡ true }
+        requires whole { is_whole b ≡ true }
         ensures ok { OnOk result (IsAdded self.old.entries (b, id) self.new.entries) }
         ensures err { OnErr result (IsAsBefore self.old self.new) }
         ensures spare { 0 < self.old.spare → IsOk result }
@@ -127,10 +127,12 @@ impl RTree {
         Ok(())
     }
 
-    /// Takes one entry of this box and id out, and tells whether it was there. It takes no memory.
+    /// Takes one entry of this box and id out, and tells whether it was there. It takes no memory, and none of what `reserve_one` made.
     pub fn remove(&mut self, b: &StBox, id: u32) -> bool
         ensures found { result ≡ true → IsAdded self.new.entries (b.now, id) self.old.entries }
-        ensures missing { result ≡ false → IsAsBefore self.old self.new × All (λ e. e ≢ (b.now, id)) self.old.entries }
+        ensures missing { result ≡ false → All (λ e. e ≢ (b.now, id)) self.old.entries }
+        ensures same { result ≡ false → IsAsBefore self.old self.new }
+        ensures spare { self.new.spare ≡ self.old.spare }
     {
         if self.nodes.is_empty() {
             return false;
@@ -180,19 +182,21 @@ impl RTree {
         Some(self.root.node)
     }
 
-    /// The children of a node that is reached from the root.
+    /// The children of a node that is reached from the root; there are at most 16.
     pub fn part(&self, node: u32) -> &[(StBox, Child)]
-        requires { IsReachedNode self.now.nodes self.now.root node }
+        requires reached { IsReachedNode self.now.nodes self.now.root node }
         ensures children { result.now ≡ children self.now.nodes node }
+        ensures few { length result.now ≤ 16 }
         ensures spread { IsSpread self.now.nodes node }
     {
         self.nodes[node as usize].kids.as_slice()
     }
 
-    // Whether there is a node. What is said of each tree's boxes is proved here, where its fields are seen.
+    // Whether there is a node. What is said of each tree's boxes and leaves is proved here, where its fields are seen.
     pub(crate) fn has_root(&self) -> bool
         ensures least { All HasLeastBox self.now.nodes }
         ensures areas { self.now.areas ≡ boxes_of self.now.nodes }
+        ensures depth { HaveOneDepth self.now.nodes self.now.root }
     {
         !self.nodes.is_empty()
     }

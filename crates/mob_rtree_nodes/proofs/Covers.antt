@@ -56,6 +56,10 @@ pub left_true : (a b : Bool) → (a && b) ≡ true → a ≡ true
 left_true true b h = refl
 left_true false b h = h
 
+pub right_true : (a b : Bool) → (a && b) ≡ true → b ≡ true
+right_true true b h = h
+right_true false b h = absurd (true≢false (sym h))
+
 pub fit_whole : (h : ℕ) (kids : List Kid) → count_by (λ k. not (is_fit h k)) kids ≡ 0 → count_by (λ k. not (is_whole k.0)) kids ≡ 0
 fit_whole h kids none = counts_less (is_fit h) (λ k. is_whole k.0) (λ k e. left_true (is_whole k.0) (is_kind h k.1) e) kids none
 

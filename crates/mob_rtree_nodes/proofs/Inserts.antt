@@ -391,3 +391,26 @@ still_live free ps n i p part k area inside is within by frees =
       free = free_set free ps n p part inside is (omega (arith, within)) live frees;
       reused = reused_set ps n part live;
     }
+
+-- node n, whose child at slot i has one more entry below it: the node is as it was
+pub record Beneath (old : List TreeNode) (n i : ℕ) (p : TreeNode) (k : Kid) (number : ℕ) (kid : Kid) (grown : Grown) (ps : List TreeNode) (p1 : TreeNode) : Type 0 where
+  pub lower : Lower old n i p k number
+  pub below : IsGrown old (target k.1) kid grown ps
+  pub there : n < length ps
+  pub same : p1 ≡ p
+  pub within : i < length p1.kids.items
+
+pub beneath : {root : Ref} {old : List TreeNode} {n i number : ℕ} {p p1 : TreeNode} {kids : List Kid} {k kid : Kid} {grown : Grown} {ps : List TreeNode}
+    → IsTree root old → n < length old → p ≡ get_or old n p → kids ≡ p.kids.items → i < length kids → k ≡ get_or kids i k → number ≡ target k.1 → (p.height ≡ 0 → ⊥) → IsGrown old number kid grown ps → p1 ≡ get_or ps n p1
+    → Beneath old n i p k number kid grown ps p1
+beneath {root} {old} {n} {i} {number} {p} {p1} {kids} {k} {kid} {grown} {ps} tree inside is kids-are within at say up by read =
+    let d = lower root old tree n i p kids k number inside is kids-are within at say up in
+    let below = subst (λ m. IsGrown old m kid grown ps) say by in
+    let same = same_node root old tree n d.h i p k inside is d.up d.within d.at kid grown ps below p1 read in
+    record {
+      lower = d;
+      below = below;
+      there = omega (arith, below.longer, inside);
+      same = same;
+      within = omega (arith, d.within, ap (λ (p : TreeNode). length p.kids.items) same);
+    }

@@ -1,18 +1,20 @@
 -- From the root each entry is reached as often as it is there.
-use Rattle.std.proofs.Common.{◌≡◌, refl, ℕ, zero, suc, ◌<◌, ◌≤◌, Bool, true, false, cond, ◌&&◌, List, [], ◌∷◌, ◌++◌, length, get_or, map, arith, ap, sym, ◌∙◌, subst, Option, Some, None}
+use Rattle.std.proofs.Common.{◌≡◌, refl, ℕ, zero, suc, ◌+◌, ◌<◌, ◌≤◌, Bool, true, false, cond, List, [], ◌∷◌, ◌++◌, length, get_or, map, arith, ap, sym, ◌∙◌, subst, Option, Some, None}
 use Rattle.std.specs.Prelude.{All, sum_by, flat_map}
 use Rattle.std.proofs.lemmas.Bool.{true≢false}
+use Rattle.std.proofs.lemmas.List.{get_or_default}
 use Rattle.std.proofs.lemmas.List.Sums.{sum_by-cons, sum_by-append, get_or-le-sum_by}
 use Rattle.std.proofs.lemmas.List.Concat.{flat_map-cons, flat_map_single}
 use Rattle.std.proofs.lemmas.List.Elements.{All-head, All-tail, All-append, All-cons, All-nil}
 use Rattle.mob_stbox.specs.Boxes.{BoxOf, contains, is_whole}
 use Rattle.mob_stbox.proofs.BoxLaws.{over_self, over_trans, over_whole}
 use Rattle.mob_rtree_nodes.specs.Tree.{Kid, EntryOf, entry_of, target, Ref, IsTree, IsSoundNode, entries_list, kids_at, height_at, walk_sum, is_fit, is_kind, AreSame, IsLeastOver}
-use Rattle.mob_rtree_nodes.specs.Reach.{Branch, branch_of, root_number, children, branch_height, gathered, entries_under, entries_below, IsReachedNode, is_root, is_child, IsSpread}
+use Rattle.mob_rtree_nodes.specs.Reach.{Branch, branch_of, root_number, children, branch_height, gathered, entries_under, entries_below, StandsAtDepth, IsReachedNode, is_root, is_child, IsLeaf, HaveOneDepth, IsSpread}
+use Rattle.mob_rtree_nodes.specs.declared.node.Child.{Child}
 use Rattle.mob_rtree_nodes.specs.declared.node.Child.TheVariants.{Node, Entry}
 use Rattle.mob_rtree_nodes.specs.declared.node.TreeNode.{TreeNode}
 use Rattle.mob_rtree_nodes.proofs.Sums.{mapped_sum, kids_of, height_of, node_at, sound_at}
-use Rattle.mob_rtree_nodes.proofs.Covers.{none_fails}
+use Rattle.mob_rtree_nodes.proofs.Covers.{none_fails, right_true}
 use Rattle.mob_rtree_nodes.proofs.Walks.{tied_same, tied_height, alive}
 use Rattle.mob_rtree_nodes.proofs.Roots.{root_there, root_height, root_alive, walk_entries}
 
@@ -53,14 +55,15 @@ kind_at ps n i p k sound inside is within at =
     let s = sound_at ps n p inside is sound in
     let f = none_fails (is_fit p.height) p.kids.items i k s.fit within in
     right_true (is_whole k.0) (is_kind p.height k.1) (ap (λ (k : Kid). is_fit p.height k) at ∙ f)
-  where
-    right_true : (a b : Bool) → (a && b) ≡ true → b ≡ true
-    right_true true b h = h
-    right_true false b h = absurd (true≢false (sym h))
 
 entry_low : (h : ℕ) (id : ℕ) → is_kind h (Entry id) ≡ true → h ≡ 0
 entry_low zero id e = refl
 entry_low (suc h) id e = absurd (true≢false (sym e))
+
+-- where a child may stand at two heights of which one is 0, so is the other
+kind_low : (h : ℕ) (c : Child) → is_kind 0 c ≡ true → is_kind h c ≡ true → h ≡ 0
+kind_low h (Entry id) low e = entry_low h id e
+kind_low h (Node m) low e = absurd (true≢false (sym low))
 
 node_high : (h m : ℕ) → is_kind h (Node m) ≡ true → (l : ℕ) × (h ≡ suc l)
 node_high zero m e = absurd (true≢false (sym e))
@@ -78,10 +81,9 @@ same_flat f g [] says = refl
 same_flat f g (x ∷ xs) says =
     flat_map-cons f x xs ∙ ap (λ l. l ++ flat_map f xs) (says 0 x (omega arith) refl) ∙ ap (λ l. g x ++ l) (same_flat f g xs (λ i k l at. says (suc i) k (omega (arith, l)) at)) ∙ sym (flat_map-cons g x xs)
 
+-- an element read with another default, itself
 read_again : (xs : List Kid) (i : ℕ) (d : Kid) → i < length xs → get_or xs i d ≡ get_or xs i (get_or xs i d)
-read_again [] i d l = absurd (omega (arith, l))
-read_again (x ∷ xs) zero d l = refl
-read_again (x ∷ xs) (suc i) d l = read_again xs i d (omega (arith, l))
+read_again xs i d l = get_or_default xs i d (get_or xs i d) l
 
 first_kid : (xs : List Kid) → 0 < length xs → (k : Kid) × (k ≡ get_or xs 0 k)
 first_kid [] l = absurd (omega (arith, l))
@@ -100,14 +102,34 @@ module _ (root : Ref) (ps : List TreeNode) (tree : IsTree root ps) where
       let t = tied_height root ps tree n h.0 i p (b, Node m) inside is h.1 within at in
       (h.0, h.1, t.0, t.1, alive root ps tree n h.0 i p (b, Node m) inside is h.1 within at)
 
-  pub reached_ok : (n : ℕ) → IsReachedNode (map branch_of ps) (Some root.node) n → (n < length ps) × (0 < length (kids_at ps n))
-  reached_ok n (is_root e) = subst (λ n. (n < length ps) × (0 < length (kids_at ps n))) (some_number root.node n e) (root_there root ps tree, root_alive root ps tree)
-  reached_ok n (is_child {n = up} {i = i} {b = b} way within at) =
-      let o = reached_ok up way in
+  -- a node that is reached is there, has a child, and is as much lower than the root as it is deep
+  reached_ok : (depth n : ℕ) → StandsAtDepth (map branch_of ps) (Some root.node) depth n → (n < length ps) × (0 < length (kids_at ps n)) × (height_at ps n + depth ≡ root.height)
+  reached_ok depth n (is_root e) =
+      subst (λ n. (n < length ps) × (0 < length (kids_at ps n)) × (height_at ps n + 0 ≡ root.height)) (some_number root.node n e) (root_there root ps tree, root_alive root ps tree, omega (arith, root_height root ps tree))
+  reached_ok depth n (is_child {depth = above} {n = up} {i = i} {b = b} way within at) =
+      let o = reached_ok above up way in
       let p = node_at ps up o.0 in
       let same = children_is ps up ∙ kids_of ps up p.0 o.0 p.1 in
       let r = node_kid up i n b p.0 o.0 p.1 (omega (arith, within, ap (λ (l : List Kid). length l) same)) (at ∙ ap (λ l. get_or l i (b, Node n)) same) in
-      (r.2, r.4)
+      (r.2, r.4, omega (arith, o.2, height_of ps up p.0 o.0 p.1, r.1, r.3))
+
+  -- the children of a node are of its kind
+  kinds_at : (n : ℕ) (p : TreeNode) → n < length ps → p ≡ get_or ps n p → All (λ k. is_kind p.height k.1 ≡ true) p.kids.items
+  kinds_at n p inside is i d l = kind_at ps n i p (get_or p.kids.items i d) tree.sound inside is l (read_again p.kids.items i d l)
+
+  leaf_low : (depth n : ℕ) → StandsAtDepth (map branch_of ps) (Some root.node) depth n → IsLeaf (map branch_of ps) n → depth ≡ root.height
+  leaf_low depth n way leaf =
+      let o = reached_ok depth n way in
+      let p = node_at ps n o.0 in
+      let same = kids_of ps n p.0 o.0 p.1 in
+      let k = first_kid p.0.kids.items (omega (arith, o.1, ap (λ (l : List Kid). length l) same)) in
+      let l : 0 < length p.0.kids.items = omega (arith, o.1, ap (λ (l : List Kid). length l) same) in
+      let low = subst (λ l. All (λ k. is_kind 0 k.1 ≡ true) l) (children_is ps n ∙ same) leaf 0 k.0 l in
+      let zero_high = kind_low p.0.height (get_or p.0.kids.items 0 k.0).1 low (kinds_at n p.0 o.0 p.1 0 k.0 l) in
+      omega (arith, o.2, height_of ps n p.0 o.0 p.1, zero_high)
+
+  pub one_depth : HaveOneDepth (map branch_of ps) (Some root.node)
+  one_depth depth other n m way way_too leaf leaf_too = leaf_low depth n way leaf ∙ sym (leaf_low other m way_too leaf_too)
 
   -- what is below a node lies in each box over it
   gathered_over : (a : BoxOf) → is_whole a ≡ true → (h m : ℕ) (c : TreeNode) → m < length ps → c ≡ get_or ps m c → c.height ≡ h → contains a c.area ≡ true → All (λ e. contains a e.0 ≡ true) (gathered (map branch_of ps) h m)
@@ -122,18 +144,13 @@ module _ (root : Ref) (ps : List TreeNode) (tree : IsTree root ps) where
       subst (λ l. All (λ e. contains a e.0 ≡ true) (flat_map (λ k. gathered (map branch_of ps) h (target k.1)) l)) (sym (children_is ps m ∙ kids_of ps m c inside is))
       (all_flat c.kids.items (λ i d l.
       let k = get_or c.kids.items i d in
-      let at : k ≡ get_or c.kids.items i k = at_again c.kids.items i d l in
+      let at : k ≡ get_or c.kids.items i k = read_again c.kids.items i d l in
       let t = tied_height root ps tree m h i c k inside is high l at in
       let below = node_at ps (target k.1) t.0 in
       let one = over_trans a c.area k.0 over ((sound_at ps m c inside is tree.sound).over i d l) in
       let same = tied_same root ps tree m h i c k inside is high l at below.0 t.0 below.1 (λ r. cond (contains a r.area) 1 0) in
       gathered_over a whole h (target k.1) below.0 t.0 below.1 (sym (height_of ps (target k.1) below.0 t.0 below.1) ∙ t.1) (one_true (contains a below.0.area) (same ∙ ap {B = ℕ} (λ b. cond b 1 0) one))))
     where
-      at_again : (xs : List Kid) (i : ℕ) (d : Kid) → i < length xs → get_or xs i d ≡ get_or xs i (get_or xs i d)
-      at_again [] i d l = absurd (omega (arith, l))
-      at_again (x ∷ xs) zero d l = refl
-      at_again (x ∷ xs) (suc i) d l = at_again xs i d (omega (arith, l))
-
       all_flat : (kids : List Kid) → All (λ k. All (λ e. contains a e.0 ≡ true) (gathered (map branch_of ps) h (target k.1))) kids → All (λ e. contains a e.0 ≡ true) (flat_map (λ k. gathered (map branch_of ps) h (target k.1)) kids)
       all_flat [] all = All-nil (λ e. contains a e.0 ≡ true)
       all_flat (k ∷ kids) all =
@@ -184,23 +201,23 @@ module _ (root : Ref) (ps : List TreeNode) (tree : IsTree root ps) where
       let same = tied_same root ps tree n r.0 i p (b, Node m) inside is r.1 within at c.0 r.2 c.1 (λ r. cond (contains a r.area) 1 0) in
       one_true (contains a b) (sym same ∙ ap {B = ℕ} (λ b. cond b 1 0) low))
 
-  pub spreads : (n : ℕ) → IsReachedNode (map branch_of ps) (Some root.node) n → IsSpread (map branch_of ps) n
-  spreads n way =
-      let o = reached_ok n way in
+  spreads : (depth n : ℕ) → StandsAtDepth (map branch_of ps) (Some root.node) depth n → IsSpread (map branch_of ps) n
+  spreads depth n way =
+      let o = reached_ok depth n way in
       let c = node_at ps n o.0 in
       let p = c.0 in
       let e = children_is ps n ∙ kids_of ps n p o.0 c.1 in
       let high = level_is ps n ∙ height_of ps n p o.0 c.1 in
       let sound = sound_at ps n p o.0 c.1 tree.sound in
-      let alive-here = o.1 in
       record {
-        some = omega (arith, alive-here, ap (λ (l : List Kid). length l) (children_is ps n));
+        some = omega (arith, o.1, ap (λ (l : List Kid). length l) (children_is ps n));
         spread = spread_at n p o.0 c.1 (branch_height (map branch_of ps) n) (sym high);
         over = subst (All (λ k. All (λ e. contains k.0 e.0 ≡ true) (entries_below (map branch_of ps) k))) (sym e) (λ i d l.
             let k = get_or p.kids.items i d in
             let at = read_again p.kids.items i d l in
             kid_below k.0 (over_whole p.area k.0 sound.whole (sound.over i d l)) n i p k o.0 c.1 l at (over_self k.0));
-        lower = λ i m b l at.
+        kind = subst (λ h. All (λ k. is_kind h k.1 ≡ true) (children (map branch_of ps) n)) (sym high) (subst (λ l. All (λ k. is_kind p.height k.1 ≡ true) l) (sym e) (kinds_at n p o.0 c.1));
+        one_lower = λ i m b l at.
             let r = node_kid n i m b p o.0 c.1 (omega (arith, l, ap (λ (l : List Kid). length l) e)) (at ∙ ap (λ l. get_or l i (b, Node m)) e) in
             omega (arith, r.1, r.3, level_is ps m, high);
         least = λ i m b l at. least_below n i m b p o.0 c.1 (omega (arith, l, ap (λ (l : List Kid). length l) e)) (at ∙ ap (λ l. get_or l i (b, Node m)) e);
@@ -231,8 +248,8 @@ module _ (root : Ref) (ps : List TreeNode) (tree : IsTree root ps) where
       by_list [] h = absurd (omega (arith, h))
       by_list (e ∷ es) h = omega arith
 
-none_reached : (bs : List Branch) (o : Option ℕ) (n : ℕ) → o ≡ None → IsReachedNode bs o n → ⊥
-none_reached bs o n e (is_root f) = absurd (none_some n (sym e ∙ f))
+none_reached : (bs : List Branch) (o : Option ℕ) (depth n : ℕ) → o ≡ None → StandsAtDepth bs o depth n → ⊥
+none_reached bs o depth n e (is_root f) = absurd (none_some n (sym e ∙ f))
   where
     none_some : (n : ℕ) → ◌≡◌ {A = Option ℕ} None (Some n) → ⊥
     none_some n e = absurd (omega (arith, ap (λ (o : Option ℕ). from o) e))
@@ -240,9 +257,14 @@ none_reached bs o n e (is_root f) = absurd (none_some n (sym e ∙ f))
         from : Option ℕ → ℕ
         from None = 0
         from (Some n) = 1
-none_reached bs o n e (is_child {n = up} way within at) = none_reached bs o up e way
+none_reached bs o depth n e (is_child {depth = above} {n = up} way within at) = none_reached bs o above up e way
 
 -- where a node is reached there is a tree
 pub reached_inside : (root : Ref) (ps : List TreeNode) → ((0 < length ps) → IsTree root ps) → (n : ℕ) → IsReachedNode (map branch_of ps) (root_number ps root.node) n → (n < length ps) × IsSpread (map branch_of ps) n
-reached_inside root [] tree n way = absurd (none_reached [] None n refl way)
-reached_inside root (p ∷ ps) tree n way = let t = tree (omega arith) in ((reached_ok root (p ∷ ps) t n way).0, spreads root (p ∷ ps) t n way)
+reached_inside root [] tree n way = absurd (none_reached [] None way.0 n refl way.1)
+reached_inside root (p ∷ ps) tree n way = let t = tree (omega arith) in ((reached_ok root (p ∷ ps) t way.0 n way.1).0, spreads root (p ∷ ps) t way.0 n way.1)
+
+-- all leaves of a tree have one depth, and where there is no node there is none
+pub leaves_level : (root : Ref) (ps : List TreeNode) → ((0 < length ps) → IsTree root ps) → HaveOneDepth (map branch_of ps) (root_number ps root.node)
+leaves_level root [] tree = λ depth other n m way way_too leaf leaf_too. absurd (none_reached [] None depth n refl way)
+leaves_level root (p ∷ ps) tree = one_depth root (p ∷ ps) (tree (omega arith))

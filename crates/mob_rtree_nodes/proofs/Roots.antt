@@ -14,11 +14,8 @@ use Rattle.mob_rtree_nodes.specs.declared.insert.Grown.{Grown}
 use Rattle.mob_stbox.proofs.BoxLaws.{cover_whole, cover_over_left, cover_over_right, cover_least, over_self, over_overlaps}
 use Rattle.mob_rtree_nodes.proofs.Sums.{mapped_sum, live_le, live_some, live_is, live_zero, kids_of, height_of, node_at, nodes_none, nodes_one}
 use Rattle.mob_rtree_nodes.proofs.Covers.{left_true}
-use Rattle.mob_rtree_nodes.proofs.Walks.{self_is, cond_nil, walk_all, own_upto, entries_of}
+use Rattle.mob_rtree_nodes.proofs.Walks.{one_same, self_is, cond_nil, walk_all, own_upto, entries_of}
 use Rattle.mob_rtree_nodes.proofs.Inserts.{node_fit, put_in, put_all, ref_of, links_of, leaf_of}
-
-one_same : (x y : ℕ) → 1 ≤ cond (x == y) 1 0 → x ≡ y
-one_same x y h = grind (arith, nat_tests)
 
 -- the root is a node
 pub root_there : (root : Ref) (ps : List TreeNode) → IsTree root ps → root.node < length ps
@@ -159,11 +156,12 @@ overlap_up : (q : BoxOf) → GoesUp (λ b. overlaps b q)
 overlap_up q a b w o h = over_overlaps a b q w o h
 
 -- what a walk from the root finds
-pub walk_finds : (q : BoxOf) (root : Ref) (ps : List TreeNode) → IsTree root ps → overlaps root.area q ≡ true → (more : List ℕ) → ((g : ℕ → ℕ) → sum_by g more ≡ walk_sum (λ b. overlaps b q) 0 (λ e. g e.1) ps root.height root.node) → AreFound q (entries_list ps) more
+pub walk_finds : (q : BoxOf) (root : Ref) (ps : List TreeNode) → IsTree root ps → overlaps root.area q ≡ true → (more : List ℕ) → ((g : ℕ → ℕ) → sum_by g more ≡ walk_sum (λ b. overlaps b q) 0 (λ e. g e.1) ps (height_at ps root.node) root.node) → AreFound q (entries_list ps) more
 walk_finds q root ps tree over more says id =
     let g : ℕ → ℕ = λ n. cond (n == id) 1 0 in
+    let high = ap (λ h. walk_sum (λ b. overlaps b q) 0 (λ e. g e.1) ps h root.node) (root_height root ps tree) in
     let t = ap (λ b. cond b (walk_sum (λ b. overlaps b q) 0 (λ e. g e.1) ps root.height root.node) 0) over in
-    omega (arith, says g, t, walk_entries (λ b. overlaps b q) (overlap_up q) (λ e. g e.1) root ps tree, ids_of q id (entries_list ps))
+    omega (arith, says g, high, t, walk_entries (λ b. overlaps b q) (overlap_up q) (λ e. g e.1) root ps tree, ids_of q id (entries_list ps))
 
 pub walk_misses : (q : BoxOf) (root : Ref) (ps : List TreeNode) → IsTree root ps → overlaps root.area q ≡ false → AreFound q (entries_list ps) []
 walk_misses q root ps tree over id =
@@ -172,10 +170,11 @@ walk_misses q root ps tree over id =
     omega (arith, t, walk_entries (λ b. overlaps b q) (overlap_up q) (λ e. g e.1) root ps tree, ids_of q id (entries_list ps))
 
 -- how many nodes it meets
-pub walk_meets : (q : BoxOf) (root : Ref) (ps : List TreeNode) → IsTree root ps → overlaps root.area q ≡ true → walk_sum (λ b. overlaps b q) 1 (λ _. 0) ps root.height root.node ≡ count_by (λ b. overlaps b q) (areas_list ps)
+pub walk_meets : (q : BoxOf) (root : Ref) (ps : List TreeNode) → IsTree root ps → overlaps root.area q ≡ true → walk_sum (λ b. overlaps b q) 1 (λ _. 0) ps (height_at ps root.node) root.node ≡ count_by (λ b. overlaps b q) (areas_list ps)
 walk_meets q root ps tree over =
+    let high = ap (λ h. walk_sum (λ b. overlaps b q) 1 (λ _. 0) ps h root.node) (root_height root ps tree) in
     let t = ap (λ b. cond b (walk_sum (λ b. overlaps b q) 1 (λ _. 0) ps root.height root.node) 0) over in
-    omega (arith, t, walk_all (λ b. overlaps b q) (overlap_up q) 1 (λ _. 0) root ps tree, own_all q root.height ps tree.low, nothing_found ps)
+    omega (arith, high, t, walk_all (λ b. overlaps b q) (overlap_up q) 1 (λ _. 0) root ps tree, own_all q root.height ps tree.low, nothing_found ps)
   where
     nothing_in : (kids : List Kid) → sum_by (λ k. cond (overlaps k.0 q) 0 0) kids ≡ 0
     nothing_in [] = refl

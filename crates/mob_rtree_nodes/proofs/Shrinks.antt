@@ -2,7 +2,7 @@
 use Rattle.std.proofs.Common.{◌≡◌, refl, ℕ, zero, suc, ◌+◌, ◌<◌, ◌≤◌, Bool, true, false, cond, ◌==◌, ◌&&◌, List, [], ◌∷◌, length, get_or, set, take, arith, ap, sym, ◌∙◌, subst, eq-eqb, take_all}
 use Rattle.std.specs.Prelude.{All, sum_by, count_by}
 use Rattle.std.specs.List.{remove}
-use Rattle.std.proofs.lemmas.Bool.{true≢false}
+use Rattle.std.proofs.lemmas.Bool.{eqb-true}
 use Rattle.std.proofs.lemmas.List.{length-set, get_or-set_other}
 use Rattle.std.proofs.lemmas.List.Sums.{sum_by-cons, sum_by-set, sum_by-remove, sum_by_more, get_or-le-sum_by}
 use Rattle.std.proofs.lemmas.List.Elements.{All-set}
@@ -10,14 +10,13 @@ use Rattle.mob_stbox.specs.Boxes.{BoxOf, contains, is_whole, same_box}
 use Rattle.mob_stbox.proofs.BoxLaws.{over_self, over_trans}
 use Rattle.mob_stbox.specs.SameBoxes.{same_self, same_is}
 use Rattle.mob_rtree_nodes.specs.Tree.{Kid, EntryOf, entry_of, target, if_live, Ref, IsTree, IsSoundNode, IsReplaced, nodes_sum, kids_sum, refs_sum, entries_sum, entries_list, kids_at, height_at, walk_sum, step_sum, GoesUp}
-use Rattle.mob_rtree_nodes.specs.Removes.{is_entry, hit, is_whole_left, kid_left, node_left, IsNodeLeft, IsSettled, IsShrunk, IsRemoved, IsTakenOut}
+use Rattle.mob_rtree_nodes.specs.Removes.{is_entry, hit, is_whole_left, kid_left, node_left, IsNodeLeft, IsSettled, IsSettledAt, IsShrunk, IsRemoved, IsTakenOut}
 use Rattle.mob_rtree_nodes.specs.Builds.{leaf_sum}
 use Rattle.mob_rtree_nodes.specs.declared.node.TreeNode.{TreeNode}
 use Rattle.mob_rtree_nodes.specs.declared.remove.Removed.{Removed}
 use Rattle.mob_rtree_nodes.specs.declared.remove.Removed.TheVariants.{Missing, Narrowed, Emptied}
 use Rattle.mob_rtree_nodes.proofs.Sums.{kids_of, height_of, node_at, live_is}
-use Rattle.std.proofs.lemmas.Bool.Decides.{nat_tests}
-use Rattle.mob_rtree_nodes.proofs.Covers.{left_true}
+use Rattle.mob_rtree_nodes.proofs.Covers.{left_true, right_true}
 use Rattle.mob_rtree_nodes.proofs.Walks.{tied_same, tied_height, walk_steps, all_dead, entries_of}
 use Rattle.mob_rtree_nodes.proofs.Inserts.{Lower, lower, ref_of, live_of, links_of, leaf_of, nodes_set, low_one, inner_leaf, same_read}
 use Rattle.mob_rtree_nodes.proofs.Roots.{root_there, root_same, entries_listed, walk_entries, passed_sum}
@@ -189,9 +188,6 @@ taken_out root old tree e Emptied new over high s = λ g.
 pub taken_early : (root : Ref) (old : List TreeNode) (tree : IsTree root old) (e : EntryOf) → contains root.area e.0 ≡ false → IsTakenOut root old e Missing old
 taken_early root old tree e out = none_there e root old tree (ap (λ b. cond b (walk_sum (λ a. contains a e.0) 0 (hit e) old root.height root.node) 0) out)
 
-pub told_not : (part : TreeNode) (r : Removed) → IsNodeLeft part r → r ≡ Missing → ⊥
-told_not part r t e = subst (IsNodeLeft part) e t
-
 -- the child at a slot, as a loop that changed nothing reads it
 pub record Again (old : List TreeNode) (n i : ℕ) (p : TreeNode) (k : Kid) (number : ℕ) : Type 0 where
   pub is : p ≡ get_or old n p
@@ -214,15 +210,40 @@ lower_again root old tree n i p0 p kids k number count inside is0 up len within 
       at = lo.at ∙ ap (λ l. get_or l i k) (sym here);
     }
 
+-- node n, below whose child at slot i an entry was taken out: the node is as it was
+pub record LeftBeneath (old : List TreeNode) (n i : ℕ) (p : TreeNode) (k : Kid) (number : ℕ) (e : EntryOf) (r : Removed) (ps : List TreeNode) : Type 0 where
+  pub again : Again old n i p k number
+  pub below : IsShrunk old (target k.1) e r ps
+  pub kept : p ≡ get_or ps n p
+  pub slot : i < length (kids_at ps n)
+
+pub left_beneath : {root : Ref} {old now : List TreeNode} {n i number : ℕ} {p : TreeNode} {k : Kid} {e : EntryOf} {r : Removed} {ps : List TreeNode}
+    → IsTree root old → n < length old → Again old n i p k number → number ≡ target k.1 → now ≡ old → IsShrunk now number e r ps → LeftBeneath old n i p k number e r ps
+left_beneath {root} {old} {now} {n} {i} {number} {p} {k} {e} {r} {ps} tree inside a say same by =
+    let lo = a.lower in
+    let below = subst (λ m. IsShrunk old m e r ps) say (subst (λ ps0. IsShrunk ps0 number e r ps) same by) in
+    let kept = kept_left root old tree n lo.h i p k inside a.is lo.up lo.within lo.at e r ps below in
+    let there = inside_left root old tree n lo.h i p k inside a.is lo.up lo.within lo.at e r ps below in
+    record {
+      again = a;
+      below = below;
+      kept = kept;
+      slot = omega (arith, lo.within, ap (λ (l : List Kid). length l) (kids_of ps n p there kept));
+    }
+
+-- what is said of a node once it is written down what became of its child
+pub removed_beneath : {root : Ref} {old : List TreeNode} {n i number : ℕ} {p : TreeNode} {k : Kid} {e : EntryOf} {r left : Removed} {ps new : List TreeNode}
+    → IsTree root old → n < length old → LeftBeneath old n i p k number e r ps → IsSettledAt ps n i r left new → IsRemoved old n e left new
+removed_beneath {root} {old} {n} {i} {number} {p} {k} {e} {r} {left} {ps} {new} tree inside b s =
+    let lo = b.again.lower in
+    let st = s.settled p b.kept in
+    subst (λ new. IsRemoved old n e left new) (sym s.nodes) (told_removed s.part old n e (set ps n s.part) left st.told (shrunk_inner root old tree n lo.h i p k inside b.again.is lo.up lo.within lo.at e r ps b.below s.part left st))
+
+pub found_beneath : {old : List TreeNode} {n i number : ℕ} {p : TreeNode} {k : Kid} {e : EntryOf} {r left : Removed} {ps new : List TreeNode} → LeftBeneath old n i p k number e r ps → IsSettledAt ps n i r left new → left ≡ Missing → ⊥
+found_beneath {p = p} b s missing = let st = s.settled p b.kept in subst (IsNodeLeft s.part) missing st.told
+
 pub held_is : (b : BoxOf) (id : ℕ) (k : Kid) → is_entry b id k ≡ true → entry_of k ≡ (b, id)
 held_is b id k h =
     let e : k.0 ≡ b = same_is k.0 b (left_true (same_box k.0 b) (target k.1 == id) h) in
-    let f : target k.1 ≡ id = eqb_eq (target k.1) id (right_true (same_box k.0 b) (target k.1 == id) h) in
+    let f : target k.1 ≡ id = eqb-true (target k.1) id (right_true (same_box k.0 b) (target k.1 == id) h) in
     ap (λ a. (a, target k.1)) e ∙ ap (λ n. (b, n)) f
-  where
-    right_true : (a b : Bool) → (a && b) ≡ true → b ≡ true
-    right_true true b h = h
-    right_true false b h = absurd (true≢false (sym h))
-
-    eqb_eq : (a b : ℕ) → (a == b) ≡ true → a ≡ b
-    eqb_eq a b h = grind (arith, nat_tests)

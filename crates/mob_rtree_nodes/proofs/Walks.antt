@@ -46,6 +46,9 @@ tied root ps tree n h i p k inside is up within at c there c-is F =
     let e : cond (target k.1 == target k.1) (F r) 0 ≡ F r = ap (λ b. cond b (F r) 0) (eq-eqb (target k.1) (target k.1) refl) in
     omega (arith, a, e, tree.once f, nodes_one F (target k.1) 0 (target k.1) ps c (omega arith) there c-is, live_le c.kids.items (F (record { area = c.area; node = target k.1; height = c.height })))
 
+pub one_same : (x y : ℕ) → 1 ≤ cond (x == y) 1 0 → x ≡ y
+one_same x y h = grind (arith, nat_tests)
+
 -- so the two agree in each number
 pub tied_same : (root : Ref) (ps : List TreeNode) → IsTree root ps → (n h i : ℕ) (p : TreeNode) (k : Kid) → n < length ps → p ≡ get_or ps n p → p.height ≡ suc h → i < length p.kids.items → k ≡ get_or p.kids.items i k
     → (c : TreeNode) → (target k.1) < length ps → c ≡ get_or ps (target k.1) c → (F : Ref → ℕ) → F (record { area = c.area; node = target k.1; height = c.height }) ≡ F (record { area = k.0; node = target k.1; height = h })
@@ -55,9 +58,6 @@ tied_same root ps tree n h i p k inside is up within at c there c-is F =
     let a = tied root ps tree n h i p k inside is up within at c there c-is (λ x. cond (F x == F r) 1 0) in
     let e = self_is (F r) 1 in
     one_same (F s) (F r) (omega (arith, a, e))
-  where
-    one_same : (x y : ℕ) → 1 ≤ cond (x == y) 1 0 → x ≡ y
-    one_same x y h = grind (arith, nat_tests)
 
 pub tied_height : (root : Ref) (ps : List TreeNode) → IsTree root ps → (n h i : ℕ) (p : TreeNode) (k : Kid) → n < length ps → p ≡ get_or ps n p → p.height ≡ suc h → i < length p.kids.items → k ≡ get_or p.kids.items i k
     → ((target k.1) < length ps) × (height_at ps (target k.1) ≡ h)

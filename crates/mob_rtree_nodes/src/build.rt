@@ -14,7 +14,7 @@ use std::alloc::{AllocError, Global};
 
 /// Children with the places that they are to be ordered by, each computed once: neighbours among these numbers lie near one another.
 fn keyed(alloc: Global, kids: &[(StBox, Child)]) -> Result<Vec<(u64, (StBox, Child))>, AllocError>
-    ensures { IfOk result (λ pairs. map (λ p. p.1) pairs.items ≡ kids.now) }
+    ensures kids { IfOk result (λ pairs. map (λ p. p.1) pairs.items ≡ kids.now) }
 {
     let x = Ranks::along(alloc, kids, 0)?;
     let y = Ranks::along(alloc, kids, 1)?;
@@ -32,7 +32,7 @@ fn unkeyed(
     alloc: Global,
     pairs: &[(u64, (StBox, Child))],
 ) -> Result<Vec<(StBox, Child)>, AllocError>
-    ensures { IfOk result (λ kids. kids.items ≡ map (λ p. p.1) pairs.now) }
+    ensures kids { IfOk result (λ kids. kids.items ≡ map (λ p. p.1) pairs.now) }
 {
     let mut kids = Vec::new(alloc);
     for pair in pairs {
@@ -56,7 +56,7 @@ pub fn gather_near(
 
 /// Entries as the children of leaves.
 pub fn leaf_kids(alloc: Global, entries: &[(StBox, u32)]) -> Result<Vec<(StBox, Child)>, AllocError>
-    ensures { IfOk result (λ kids. kids.items ≡ map kid_of entries.now) }
+    ensures kids { IfOk result (λ kids. kids.items ≡ map kid_of entries.now) }
 {
     let mut kids = Vec::new(alloc);
     for entry in entries {
@@ -74,7 +74,7 @@ fn close(
 ) -> Result<(), AllocError>
     requires some { 0 < length waiting.items }
     requires fit { count_by (λ k. not (is_fit height k)) waiting.items ≡ 0 }
-    ensures { OnOk result (IsClosed height nodes.old.items above.old.items waiting.items nodes.new.items above.new.items) }
+    ensures closed { OnOk result (IsClosed height nodes.old.items above.old.items waiting.items nodes.new.items above.new.items) }
 {
     let count = nodes.len();
     if count > 4294967294 {

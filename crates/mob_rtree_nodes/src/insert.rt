@@ -34,8 +34,8 @@ pub fn cover_all(kids: &[(StBox, Child)]) -> StBox
 
 /// The child whose box grows least, by the lengths of its sides.
 pub fn choose(kids: &[(StBox, Child)], area: &StBox) -> usize
-    requires { 0 < length kids.now }
-    ensures { result < length kids.now }
+    requires some { 0 < length kids.now }
+    ensures there { result < length kids.now }
 {
     let mut best: usize = 0;
     let mut least = i128::MAX;
@@ -77,7 +77,7 @@ fn split(
     axis: u8,
     kid: (StBox, Child),
 ) -> ArrayVec<(StBox, Child), 16>
-    requires { array_vec_len kids.old ≡ 16 }
+    requires full { array_vec_len kids.old ≡ 16 }
     ensures kids { (f : Kid → ℕ) → sum_by f kids.new.items + sum_by f result.items ≡ sum_by f kids.old.items + f kid }
     ensures first { 0 < length kids.new.items }
     ensures second { 0 < length result.items }
@@ -187,7 +187,7 @@ pub fn widen(part: &mut TreeNode, slot: usize, area: StBox)
     requires slot { slot < length part.old.kids.items }
     requires sound { IsSoundNode part.old }
     requires whole { is_whole area ≡ true }
-    ensures { IsReplaced part.old slot area part.new }
+    ensures replaced { IsReplaced part.old slot area part.new }
 {
     let kids = part.kids.as_mut_slice();
     kids[slot].0 = area;

@@ -5,9 +5,12 @@ use mob_frac::Frac;
 use mob_span::Span;
 use mob_stbox::{Area, StBox};
 
+/// How many of these parts a whole has.
+pub const PARTS: i128 = 4611686018427387904;
+
 /// About 2^62 times the fraction.
-fn rounded(f: &Frac) -> i128 {
-    let parts = (f.num() as i128).saturating_mul(4611686018427387904);
+pub fn rounded(f: &Frac) -> i128 {
+    let parts = (f.num() as i128).saturating_mul(PARTS);
     if f.den() == 1 {
         return parts;
     }

@@ -21,7 +21,7 @@ impl Default for Child {
 impl Child {
     /// The number or the id.
     pub fn number(&self) -> u32
-        ensures { result ≡ target self.now }
+        ensures target { result ≡ target self.now }
     {
         match self {
             Child::Node(number) => *number,

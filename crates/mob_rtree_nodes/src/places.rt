@@ -1,6 +1,7 @@
 //! Where the children of a tree that is built are packed: by their ranks along each axis, so that no outlier crowds the others together. No clause
 //! speaks of it: a tree finds the same entries wherever they lie.
 
+use crate::lengths::{PARTS, rounded};
 use crate::node::Child;
 use mob_frac::Frac;
 use mob_stbox::StBox;
@@ -11,14 +12,11 @@ use std::alloc::{AllocError, Global};
 type Exact = (i128, i128);
 
 fn exact(f: &Frac) -> Exact {
-    let parts = (f.num() as i128).saturating_mul(4611686018427387904);
-    if f.den() == 1 {
-        return (parts, 0);
-    }
+    let whole = rounded(f);
     let den = f.den() as i128;
-    let whole = parts.checked_div(den).unwrap_or(0);
+    let parts = (f.num() as i128).saturating_mul(PARTS);
     let rest = parts.saturating_sub(whole.saturating_mul(den));
-    let fine = rest.saturating_mul(4611686018427387904);
+    let fine = rest.saturating_mul(PARTS);
     (whole, fine.checked_div(den).unwrap_or(0))
 }
 

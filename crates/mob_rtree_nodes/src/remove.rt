@@ -1,5 +1,5 @@
 //! How an entry is taken out below a node.
-ghost use Rattle.std.specs.Prelude.{◌≡◌, ◌≢◌, ℕ, ◌+◌, ◌<◌, ◌≤◌, sum_by, count_by, length, List, All, set, get_or, MatchOption, true, []};
+ghost use Rattle.std.specs.Prelude.{◌≡◌, ◌≢◌, ℕ, ◌+◌, ◌<◌, ◌≤◌, sum_by, count_by, length, List, All, set, get_or, IfNone, IfSome, true, []};
 ghost use Rattle.std.specs.Vec.{vec_capacity};
 ghost use Rattle.mob_stbox.specs.Boxes.{contains, is_whole};
 ghost use Rattle.mob_rtree_nodes.specs.Tree.{IsTree, IsSoundNode, IsFree, Ref, Kid, kids_at, height_at};
@@ -21,7 +21,9 @@ pub enum Removed {
 
 /// The slot of an entry.
 fn position(kids: &[(StBox, Child)], b: &StBox, id: u32) -> Option<usize>
-    ensures { MatchOption result (count_by (is_entry b.now id) kids.now ≡ 0) (λ i. (i < length kids.now) × ((k : Kid) → k ≡ get_or kids.now i k → is_entry b.now id k ≡ true)) }
+    ensures none { IfNone result (count_by (is_entry b.now id) kids.now ≡ 0) }
+    ensures there { IfSome result (λ i. i < length kids.now) }
+    ensures entry { IfSome result (λ i. (k : Kid) → k ≡ get_or kids.now i k → is_entry b.now id k ≡ true) }
 {
     for (slot, kid) in kids.iter().enumerate() {
         if kid.0.same(b) && kid.1.number() == id {
@@ -35,7 +37,7 @@ fn position(kids: &[(StBox, Child)], b: &StBox, id: u32) -> Option<usize>
 fn take_out(part: &mut TreeNode, slot: usize) -> Removed
     requires slot { slot < length part.old.kids.items }
     requires sound { IsSoundNode part.old }
-    ensures { IsSettled part.old slot Emptied result part.new }
+    ensures settled { IsSettled part.old slot Emptied result part.new }
 {
     part.kids.remove(slot);
     if part.kids.is_empty() {
@@ -50,7 +52,7 @@ fn settle(part: &mut TreeNode, slot: usize, removed: Removed) -> Removed
     requires slot { slot < length part.old.kids.items }
     requires sound { IsSoundNode part.old }
     requires left { is_whole_left removed ≡ true }
-    ensures { IsSettled part.old slot removed result part.new }
+    ensures settled { IsSettled part.old slot removed result part.new }
 {
     match removed {
         Removed::Narrowed(area) => {

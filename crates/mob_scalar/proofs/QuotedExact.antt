@@ -2,7 +2,7 @@
 use Rattle.std.proofs.Common.{◌≡◌, ℕ, [], ◌∷◌, ◌++◌, Bool, true, false, cond, Option, Some, None, refl, sym, ap, subst, ◌∙◌, append_assoc, rules, codes}
 use Rattle.std.specs.Prelude.{◌||◌, nat_eq}
 use Rattle.std.specs.Str.{is_utf8}
-use Rattle.std.proofs.lemmas.Bool.{and_parts as both, eqb-true, not-true as not_true, or_parts}
+use Rattle.std.proofs.lemmas.Bool.{and_parts as both, eqb-true, not-true as not_true, or_parts, or_from}
 use Rattle.mob_language.specs.Language.{Text, AreAll, is_blank}
 use Rattle.mob_language.specs.Readers.{◌>>=◌, behind_at, word_at, split_while}
 use Rattle.mob_language.proofs.Exact.{Reads, Exact, Stops, Any, bind_some, some_is, or_exact, where_exact, many_again, split_parts, word_exact}
@@ -29,10 +29,6 @@ record Pending (text v rest : Text) : Type 0 where
 abbrev Says : Bool → Text → Text → Text → Type 0
 Says false text v rest = text ≡ escaped v ++ (34 ∷ rest)
 Says true text v rest = Pending text v rest
-
-neither : (a b : Bool) → a ≡ false → b ≡ false → (a || b) ≡ false
-neither true b e h = e
-neither false b e h = h
 
 unescaped_sound : (pending : Bool) (text rest v : Text) → unescaped_at pending text ≡ Some (v, rest) → Says pending text v rest
 unfolding unescaped_at
@@ -70,7 +66,7 @@ unescaped_sound false (c ∷ cs) rest v e = by_byte (nat_eq c 34) (nat_eq c 92) 
     by_byte false false h k e opened closed =
         let a = bind_some (unescaped_at false cs) (λ x. Some (c ∷ x.0, x.1)) (v, rest) e in
         let is : ◌≡◌ {A = Text × Text} (c ∷ a.0.0, a.0.1) (v, rest) = some_is _ _ a.2 in
-        ap (λ (t : Text). c ∷ t) (closed a.0.0 a.0.1 a.1) ∙ ap (λ (t : Text). t ++ (34 ∷ a.0.1)) (sym (plain_byte c a.0.0 (neither (nat_eq c 34) (nat_eq c 92) h k)))
+        ap (λ (t : Text). c ∷ t) (closed a.0.0 a.0.1 a.1) ∙ ap (λ (t : Text). t ++ (34 ∷ a.0.1)) (sym (plain_byte c a.0.0 (or_from (nat_eq c 34) (nat_eq c 92) h k)))
         ∙ ap (λ (x : Text × Text). escaped x.0 ++ (34 ∷ x.1)) is
 
 pub unescaped_again : (v rest : Text) → unescaped_at false (escaped v ++ (34 ∷ rest)) ≡ Some (v, rest)
@@ -80,7 +76,7 @@ unescaped_again (c ∷ cs) rest = by_escape (is_escaped c) refl (unescaped_again
   where
     by_escape : (b : Bool) → is_escaped c ≡ b → unescaped_at false (escaped cs ++ (34 ∷ rest)) ≡ Some (cs, rest) → unescaped_at false (cond b (92 ∷ c ∷ escaped cs) (c ∷ escaped cs) ++ (34 ∷ rest)) ≡ Some (c ∷ cs, rest)
     by_escape true h ih = rw (h, ih) refl
-    by_escape false h ih = let neither = or_parts (nat_eq c 34) (nat_eq c 92) h in rw (neither.0, neither.1, ih) refl
+    by_escape false h ih = let or_from = or_parts (nat_eq c 34) (nat_eq c 92) h in rw (or_from.0, or_from.1, ih) refl
 
 pub quoted_exact : Exact quoted quoted_at Any
 unfolding quoted_at quoted_text

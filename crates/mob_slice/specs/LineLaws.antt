@@ -1,5 +1,6 @@
 -- Lines meet the laws of courses.
 use Rattle.std.specs.Prelude.{◌≡◌, Bool, true, false, refl, ◌||◌, [], ⊤}
+use Rattle.std.proofs.lemmas.Bool.{and_parts, and_from}
 use Rattle.std.proofs.Common.{sym, arith, true≢false}
 use Rattle.mob_ratio.specs.Ratio.{Ratio}
 use Rattle.mob_ratio.specs.Order.{same}
@@ -7,7 +8,6 @@ use Rattle.mob_ratio.specs.Line.{line_at, line_continues}
 use Rattle.mob_ratio.proofs.Order.{same_exact}
 use Rattle.mob_ratio.proofs.LineAt.{line_at-lower, line_at-upper, line_at-level, line_at-part}
 use Rattle.mob_frac.specs.Formula.{line_parts}
-use Rattle.mob_span.proofs.Insides.{both, joined}
 use Rattle.mob_slice.specs.Course.{IsCourse}
 use Rattle.mob_slice.specs.Lines.{line_value_of, line_continued, line_parts_of}
 use Rattle.mob_slice.specs.declared.line.Line.{Line}
@@ -25,11 +25,11 @@ none_at_upper x0 x1 l u = rw (or_true (same u l) (same u u) (same x0 x1) ((same_
 -- what it means that one line goes on as another
 pub goes_on_is : (x0 x1 y0 y1 l m u : Ratio) → line_continues x0 x1 y0 y1 l m u ≡ true → (x1 ≡ y0) × (line_at x0 y1 l u m ≡ x1)
 unfolding line_continues
-goes_on_is x0 x1 y0 y1 l m u h = let p = both (same x1 y0) (same (line_at x0 y1 l u m) x1) h in ((same_exact x1 y0).0 p.0, (same_exact (line_at x0 y1 l u m) x1).0 p.1)
+goes_on_is x0 x1 y0 y1 l m u h = let p = and_parts (same x1 y0) (same (line_at x0 y1 l u m) x1) h in ((same_exact x1 y0).0 p.0, (same_exact (line_at x0 y1 l u m) x1).0 p.1)
 
 pub is_goes_on : (x0 x1 y0 y1 l m u : Ratio) → x1 ≡ y0 → line_at x0 y1 l u m ≡ x1 → line_continues x0 x1 y0 y1 l m u ≡ true
 unfolding line_continues
-is_goes_on x0 x1 y0 y1 l m u e f = joined (same x1 y0) (same (line_at x0 y1 l u m) x1) ((same_exact x1 y0).1 e) ((same_exact (line_at x0 y1 l u m) x1).1 f)
+is_goes_on x0 x1 y0 y1 l m u e f = and_from (same x1 y0) (same (line_at x0 y1 l u m) x1) ((same_exact x1 y0).1 e) ((same_exact (line_at x0 y1 l u m) x1).1 f)
 
 pub line_laws : IsCourse {C = Line} {B = Ratio} false false line_value_of (λ c. c.from) (λ c. c.to) (λ a b. ⊤) (λ a b. record { from = a; to = b }) line_continued line_parts_of
 line_laws = record {

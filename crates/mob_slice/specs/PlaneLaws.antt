@@ -1,9 +1,9 @@
 -- Lines of the plane meet the laws of courses, by coordinate.
 use Rattle.std.specs.Prelude.{false, refl, ⊤}
+use Rattle.std.proofs.lemmas.Bool.{and_parts, and_from}
 use Rattle.std.proofs.Common.{ap, sym, true≢false}
 use Rattle.mob_ratio.specs.Line.{line_continues}
 use Rattle.mob_ratio.proofs.LineAt.{line_at-lower, line_at-upper, line_at-level, line_at-part}
-use Rattle.mob_span.proofs.Insides.{both, joined}
 use Rattle.mob_plane.specs.Points.{point_by_coordinates}
 use Rattle.mob_plane.specs.declared.point.Point.{Point}
 use Rattle.mob_slice.specs.Course.{IsCourse}
@@ -23,14 +23,14 @@ plane_laws = record {
   part = λ c l u from to h k. record { made = tt; same = λ t. point_by_coordinates _ _ (line_at-part c.from.x c.to.x l u from to t h k) (line_at-part c.from.y c.to.y l u from to t h k) };
   whole = λ c d l m u. (
     λ h.
-        let p = both (line_continues c.from.x c.to.x d.from.x d.to.x l m u) (line_continues c.from.y c.to.y d.from.y d.to.y l m u) h in
+        let p = and_parts (line_continues c.from.x c.to.x d.from.x d.to.x l m u) (line_continues c.from.y c.to.y d.from.y d.to.y l m u) h in
         let x = goes_on_is c.from.x c.to.x d.from.x d.to.x l m u p.0 in
         let y = goes_on_is c.from.y c.to.y d.from.y d.to.y l m u p.1 in
         record { made = tt; met = point_by_coordinates _ _ x.0 y.0; straight = point_by_coordinates _ _ x.1 y.1 },
     λ w.
         let x = is_goes_on c.from.x c.to.x d.from.x d.to.x l m u (ap (λ (p : Point). p.x) w.met) (ap (λ (p : Point). p.x) w.straight) in
         let y = is_goes_on c.from.y c.to.y d.from.y d.to.y l m u (ap (λ (p : Point). p.y) w.met) (ap (λ (p : Point). p.y) w.straight) in
-        joined (line_continues c.from.x c.to.x d.from.x d.to.x l m u) (line_continues c.from.y c.to.y d.from.y d.to.y l m u) x y,
+        and_from (line_continues c.from.x c.to.x d.from.x d.to.x l m u) (line_continues c.from.y c.to.y d.from.y d.to.y l m u) x y,
   );
   one_value = λ h. absurd (true≢false (sym h));
   one_end = λ h. absurd (true≢false (sym h));

@@ -1,5 +1,6 @@
 -- From the first span of a list in order to the last.
 use Rattle.std.specs.Prelude.{◌≡◌, Bool, true, false, ◌||◌, ◌&&◌, not, List, [], ◌∷◌, ◌++◌, Option, Some, None, IfSome, MatchOption, refl}
+use Rattle.std.proofs.lemmas.Bool.{and_parts, and_from}
 use Rattle.std.specs.List.{AllByRecursion}
 use Rattle.std.proofs.Common.{arith, ap, sym, ◌∙◌, subst, true≢false}
 use Rattle.mob_ratio.specs.Ratio.{Ratio}
@@ -11,7 +12,7 @@ use Rattle.mob_span.specs.Parts.{PartsAreClear}
 use Rattle.mob_span.specs.Sets.{in_some}
 use Rattle.mob_span.specs.Remainders.{AreRemainders, IsInBoth, IsInFirstAlone}
 use Rattle.mob_span.proofs.SpanLemmas.{some_instant}
-use Rattle.mob_span.proofs.Insides.{inside_self, inside_has, both, joined as both_true}
+use Rattle.mob_span.proofs.Insides.{inside_self, inside_has}
 use Rattle.mob_span.proofs.Clearness.{clear_before}
 use Rattle.mob_span.proofs.Shared.{AreAllClear, all_after, later}
 
@@ -23,7 +24,7 @@ pub through_some : (s r : SpanOf) → is_clear s r ≡ true → has_instant s �
 through_some s r c h k =
     let m = some_instant s h in
     let n = some_instant r k in
-    let long : before s.lower r.upper ≡ true = long_by s.lower m.0 n.0 r.upper s.lower_inc r.upper_inc (clear_before s r m.0 n.0 c m.1 n.1) (both _ _ m.1).0 (both _ _ n.1).1 in
+    let long : before s.lower r.upper ≡ true = long_by s.lower m.0 n.0 r.upper s.lower_inc r.upper_inc (clear_before s r m.0 n.0 c m.1 n.1) (and_parts _ _ m.1).0 (and_parts _ _ n.1).1 in
     grind (arith, long)
 
 -- a later span ends no earlier
@@ -35,13 +36,13 @@ high_on : (p s r : Ratio) (i j k : Bool) → (before p s || (up_to p s && (j || 
 high_on p s r i j k h e = grind (arith, before-trans p s r, before-neither p s, before-neither s r, before-back p r, before-back p s, before-back s r)
 
 pub wider : (h r s : SpanOf) → is_clear h r ≡ true → has_instant r ≡ true → is_inside h s ≡ true → is_inside (joined h r) s ≡ true
-wider h r s c k i = let m = both _ _ i in both_true _ _ m.0 (high_on s.upper h.upper r.upper s.upper_inc h.upper_inc r.upper_inc m.1 (high_by h r (before h.upper r.upper) refl c k))
+wider h r s c k i = let m = and_parts _ _ i in and_from _ _ m.0 (high_on s.upper h.upper r.upper s.upper_inc h.upper_inc r.upper_inc m.1 (high_by h r (before h.upper r.upper) refl c k))
 
 -- and holds the later one
 pub holds_later : (h r : SpanOf) → is_clear h r ≡ true → has_instant h ≡ true → has_instant r ≡ true → is_inside (joined h r) r ≡ true
 holds_later h r c i k =
     let low : (before h.lower r.lower || (up_to h.lower r.lower && (h.lower_inc || not r.lower_inc))) ≡ true = grind (arith, c, i, before-trans h.lower h.upper r.lower, before-neither h.lower h.upper, before-neither h.upper r.lower, before-back h.lower r.lower, before-back h.lower h.upper, before-back h.upper r.lower) in
-    both_true _ _ low (both _ _ (inside_self r)).1
+    and_from _ _ low (and_parts _ _ (inside_self r)).1
 
 module _ {X : Type 0} (span : X → SpanOf) where
   -- from the start of h to the end of the last of a list
@@ -116,7 +117,7 @@ minus_by v false w f = rw (f refl) refl
 
 -- what a set shares with what another leaves of a span that holds it is what the other leaves of it
 pub minus_same : (v w g set : List SpanOf) (h : SpanOf) → AllByRecursion (λ s. is_inside h s ≡ true) v → AreRemainders h w g → IsInBoth v g set → IsInFirstAlone v w set
-minus_same v w g set h a k both t = both t ∙ ap (λ b. in_some v t && b) (k t) ∙ minus_by (in_some v t) (has h t) (in_some w t) (λ n. outside h v t a n)
+minus_same v w g set h a k and_parts t = and_parts t ∙ ap (λ b. in_some v t && b) (k t) ∙ minus_by (in_some v t) (has h t) (in_some w t) (λ n. outside h v t a n)
 
 pub minus_nothing : (v w set : List SpanOf) → v ≡ [] → ((t : Ratio) → in_some set t ≡ false) → IsInFirstAlone v w set
 minus_nothing v w set e n t = n t ∙ ap (λ z. in_some z t && not (in_some w t)) (sym e)

@@ -1,5 +1,6 @@
 -- The ends of what spans leave of a span are theirs: inside a slice of time the one list is cut where the other is.
 use Rattle.std.specs.Prelude.{◌≡◌, ◌⊎◌, Bool, true, false, cond, ◌||◌, ◌&&◌, not, List, [], ◌∷◌, refl}
+use Rattle.std.proofs.lemmas.Bool.{and_parts, and_from}
 use Rattle.std.specs.List.{AllByRecursion}
 use Rattle.std.proofs.Common.{arith, ap, sym, ◌∙◌, subst, inl, inr, ⊎_elim, true≢false}
 use Rattle.mob_ratio.specs.Ratio.{Ratio}
@@ -12,7 +13,6 @@ use Rattle.mob_span.specs.Parts.{PartsAreClear}
 use Rattle.mob_span.specs.Sets.{is_apart, IsSpanSet}
 use Rattle.mob_span.specs.Remainders.{front_of, back_of, remainders_of}
 use Rattle.mob_span.proofs.SpanLemmas.{some_upto, has_upto_lower, has_upto_upper, meet_some}
-use Rattle.mob_span.proofs.Insides.{both, joined}
 use Rattle.mob_span.proofs.Ends.{first_by, last_by}
 use Rattle.mob_span.proofs.Touching.{upto_trans}
 use Rattle.mob_span.proofs.Shared.{AreAllClear, all_after}
@@ -37,12 +37,12 @@ ends_not s r h = grind (arith, h, before-back r.upper s.upper)
 low_meets : (s r : SpanOf) → has_instant r ≡ true → before s.lower r.lower ≡ true → before r.lower s.upper ≡ true → has_instant (meet_of s r) ≡ true
 low_meets s r i a b =
     let m = first_by r s.upper (before r.lower r.upper) (before s.upper r.upper) refl refl i b in
-    (meet_some s r).1 (m.0, joined _ _ (strictly_has s m.0 (later_from s.lower r.lower m.0 r.lower_inc a (both _ _ m.1).0) m.2) m.1)
+    (meet_some s r).1 (m.0, and_from _ _ (strictly_has s m.0 (later_from s.lower r.lower m.0 r.lower_inc a (and_parts _ _ m.1).0) m.2) m.1)
 
 high_meets : (s r : SpanOf) → has_instant r ≡ true → before s.lower r.upper ≡ true → before r.upper s.upper ≡ true → has_instant (meet_of s r) ≡ true
 high_meets s r i a b =
     let m = last_by r s.lower (before r.lower r.upper) (before r.lower s.lower) refl refl i a in
-    (meet_some s r).1 (m.0, joined _ _ (strictly_has s m.0 m.2 (sooner_to m.0 r.upper s.upper r.upper_inc b (both _ _ m.1).1)) m.1)
+    (meet_some s r).1 (m.0, and_from _ _ (strictly_has s m.0 m.2 (sooner_to m.0 r.upper s.upper r.upper_inc b (and_parts _ _ m.1).1)) m.1)
 
 starts_upto : (s r : SpanOf) → starts_before s r ≡ true → up_to s.lower r.lower ≡ true
 starts_upto s r h = grind (arith, before-back s.lower r.lower)
@@ -109,11 +109,11 @@ module _ (P : Ratio → Type 0) (s : SpanOf) (low : P s.lower) (high : P s.upper
   abbrev pub Inner : Ratio → Type 0
   Inner e = before s.lower e ≡ true → before e s.upper ≡ true → P e
 
-  -- of both ends of each span of a list
+  -- of and_parts ends of each span of a list
   abbrev pub InnerEnds : List SpanOf → Type 0
   InnerEnds rs = AllByRecursion (λ r. Inner r.lower × Inner r.upper) rs
 
-  -- of both ends of what s shares with each of them
+  -- of and_parts ends of what s shares with each of them
   abbrev pub SharedEnds : List SpanOf → Type 0
   SharedEnds rs = AllByRecursion (λ r. has_instant (meet_of s r) ≡ true → P (meet_of s r).lower × P (meet_of s r).upper) rs
 
@@ -125,7 +125,7 @@ module _ (P : Ratio → Type 0) (s : SpanOf) (low : P s.lower) (high : P s.upper
   shared_low : (r : SpanOf) (b : Bool) → starts_before s r ≡ b → has_instant (meet_of s r) ≡ true → Inner r.lower → P (cond b r.lower s.lower)
   shared_low r true e i k =
       let m = (meet_some s r).0 i in
-      let h = both _ _ m.1 in
+      let h = and_parts _ _ m.1 in
       within_by r.lower (before s.lower r.lower) (before r.lower s.upper) refl refl (starts_upto s r e) (upto_trans r.lower m.0 s.upper (has_upto_lower r m.0 h.1) (has_upto_upper s m.0 h.0)) k
   shared_low r false e i k = low
 
@@ -133,7 +133,7 @@ module _ (P : Ratio → Type 0) (s : SpanOf) (low : P s.lower) (high : P s.upper
   shared_high r true e i k = high
   shared_high r false e i k =
       let m = (meet_some s r).0 i in
-      let h = both _ _ m.1 in
+      let h = and_parts _ _ m.1 in
       within_by r.upper (before s.lower r.upper) (before r.upper s.upper) refl refl (upto_trans s.lower m.0 r.upper (has_upto_lower s m.0 h.0) (has_upto_upper r m.0 h.1)) (ends_upto s r e) k
 
   -- what is said of the ends of the spans strictly inside s, and of the ends of what they share with it, is the same

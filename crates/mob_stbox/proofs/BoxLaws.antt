@@ -1,5 +1,6 @@
 -- What holds of boxes: what their tests mean, and what a search through boxes over boxes stands on.
 use Rattle.std.specs.Prelude.{◌≡◌, ◌↔◌, ◌⊎◌, IsTrue, Bool, true, false, refl, ◌||◌, ◌&&◌, not, Option, Some, None, is_some, IfSome, IsNone, MatchOption}
+use Rattle.std.proofs.lemmas.Bool.{and_parts, and_from}
 use Rattle.std.proofs.Common.{arith, ap, sym, ◌∙◌, true≢false, inl, inr, subst}
 use Rattle.mob_ratio.specs.Ratio.{Ratio, ◌<ℚ◌}
 use Rattle.mob_ratio.specs.Order.{before, up_to}
@@ -8,7 +9,7 @@ use Rattle.mob_span.specs.Span.{SpanOf, InSpan}
 use Rattle.mob_span.specs.Neighbours.{is_inside}
 use Rattle.mob_span.proofs.SpanLemmas.{has_exact}
 use Rattle.mob_span.proofs.Ends.{inside_exact}
-use Rattle.mob_span.proofs.Insides.{both, joined as both_true, inside_self}
+use Rattle.mob_span.proofs.Insides.{inside_self}
 use Rattle.mob_plane.specs.declared.point.Point.{Point}
 use Rattle.mob_stbox.specs.Areas.{InArea, is_area, areas_meet, area_over, area_cover}
 use Rattle.mob_stbox.specs.Boxes.{BoxOf, NoBox, area_stands, span_stands, is_box, is_whole, InBox, in_space, in_time, in_box, both_have, BoxesMeet, where_both, spans_meet, overlaps, BoxContains, lies_in, contains, IsCover, span_cover, of_both, cover}
@@ -17,16 +18,16 @@ use Rattle.mob_stbox.proofs.Sides.{four, upto_self, in_area_exact, areas_meet_ex
 
 -- the dimensions of a box stand
 pub box_area : (b : BoxOf) → is_box b ≡ true → area_stands b.space ≡ true
-box_area b h = (both (area_stands b.space) (span_stands b.time) (both (is_some b.space || is_some b.time) _ h).1).0
+box_area b h = (and_parts (area_stands b.space) (span_stands b.time) (and_parts (is_some b.space || is_some b.time) _ h).1).0
 
 pub box_span : (b : BoxOf) → is_box b ≡ true → span_stands b.time ≡ true
-box_span b h = (both (area_stands b.space) (span_stands b.time) (both (is_some b.space || is_some b.time) _ h).1).1
+box_span b h = (and_parts (area_stands b.space) (span_stands b.time) (and_parts (is_some b.space || is_some b.time) _ h).1).1
 
 -- membership
 pub in_box_exact : (b : BoxOf) (t : Ratio) (p : Point) → IsTrue (in_box b t p) ↔ InBox b t p
 in_box_exact b t p = (
-  λ h. let k = both (in_space b.space p) (in_time b.time t) h in record { in_space = (space_part b.space).0 k.0; in_time = (time_part b.time).0 k.1 },
-  λ h. both_true (in_space b.space p) (in_time b.time t) ((space_part b.space).1 h.in_space) ((time_part b.time).1 h.in_time),
+  λ h. let k = and_parts (in_space b.space p) (in_time b.time t) h in record { in_space = (space_part b.space).0 k.0; in_time = (time_part b.time).0 k.1 },
+  λ h. and_from (in_space b.space p) (in_time b.time t) ((space_part b.space).1 h.in_space) ((time_part b.time).1 h.in_time),
 )
   where
     space_part : (a : Option Area) → (in_space a p ≡ true) ↔ IfSome a (λ x. InArea x p)
@@ -48,20 +49,20 @@ time_meet None r = (λ e. tt, λ e. refl)
 time_meet (Some x) None = (λ e. tt, λ e. refl)
 time_meet (Some x) (Some y) = spans_meet_exact x y
 
-pub overlaps_exact : (a b : BoxOf) → is_box a ≡ true → is_box b ≡ true → IsTrue (overlaps a b) ↔ BoxesMeet a b
+-- the test of two boxes whose rectangles have a point
+pub meet_by_test : (a b : BoxOf) → area_stands a.space ≡ true → area_stands b.space ≡ true → (overlaps a b ≡ true) ↔ BoxesMeet a b
 unfolding overlaps
-overlaps_exact a b h k = (
+meet_by_test a b h k = (
   λ e.
-      let m = both (both_have a.space b.space || both_have a.time b.time) (where_both areas_meet a.space b.space && where_both spans_meet a.time b.time) e in
-      let n = both (where_both areas_meet a.space b.space) (where_both spans_meet a.time b.time) m.1 in
-      record {
-        share = m.0;
-        in_space = (space_meet a.space b.space (box_area a h) (box_area b k)).0 n.0;
-        in_time = (time_meet a.time b.time).0 n.1;
-      },
-  λ e. both_true (both_have a.space b.space || both_have a.time b.time) (where_both areas_meet a.space b.space && where_both spans_meet a.time b.time) e.share
-      (both_true (where_both areas_meet a.space b.space) (where_both spans_meet a.time b.time) ((space_meet a.space b.space (box_area a h) (box_area b k)).1 e.in_space) ((time_meet a.time b.time).1 e.in_time)),
+      let m = and_parts (both_have a.space b.space || both_have a.time b.time) (where_both areas_meet a.space b.space && where_both spans_meet a.time b.time) e in
+      let n = and_parts (where_both areas_meet a.space b.space) (where_both spans_meet a.time b.time) m.1 in
+      record { share = m.0; in_space = (space_meet a.space b.space h k).0 n.0; in_time = (time_meet a.time b.time).0 n.1 },
+  λ e. and_from (both_have a.space b.space || both_have a.time b.time) (where_both areas_meet a.space b.space && where_both spans_meet a.time b.time) e.share
+      (and_from (where_both areas_meet a.space b.space) (where_both spans_meet a.time b.time) ((space_meet a.space b.space h k).1 e.in_space) ((time_meet a.time b.time).1 e.in_time)),
 )
+
+pub overlaps_exact : (a b : BoxOf) → is_box a ≡ true → is_box b ≡ true → IsTrue (overlaps a b) ↔ BoxesMeet a b
+overlaps_exact a b h k = meet_by_test a b (box_area a h) (box_area b k)
 
 pub overlaps_exact_as : (a b : BoxOf) (r : Bool) → is_box a ≡ true → is_box b ≡ true → r ≡ overlaps a b → IsTrue r ↔ BoxesMeet a b
 overlaps_exact_as a b r h k e = rw e (overlaps_exact a b h k)
@@ -89,11 +90,11 @@ time_over-back (Some x) (Some y) h f = (inside_exact x y h).1 f
 
 pub contains_is : (a b : BoxOf) → contains a b ≡ true → BoxContains a b
 unfolding contains
-contains_is a b e = let m = both (lies_in area_over a.space b.space) (lies_in is_inside a.time b.time) e in record { in_space = space_over a.space b.space m.0; in_time = time_over a.time b.time m.1 }
+contains_is a b e = let m = and_parts (lies_in area_over a.space b.space) (lies_in is_inside a.time b.time) e in record { in_space = space_over a.space b.space m.0; in_time = time_over a.time b.time m.1 }
 
 pub is_contains : (a b : BoxOf) → is_box b ≡ true → BoxContains a b → contains a b ≡ true
 unfolding contains
-is_contains a b k e = both_true (lies_in area_over a.space b.space) (lies_in is_inside a.time b.time) (space_over-back a.space b.space (box_area b k) e.in_space) (time_over-back a.time b.time (box_span b k) e.in_time)
+is_contains a b k e = and_from (lies_in area_over a.space b.space) (lies_in is_inside a.time b.time) (space_over-back a.space b.space (box_area b k) e.in_space) (time_over-back a.time b.time (box_span b k) e.in_time)
 
 pub contains_exact_as : (a b : BoxOf) (r : Bool) → is_box b ≡ true → r ≡ contains a b → IsTrue r ↔ BoxContains a b
 contains_exact_as a b r k e = rw e (contains_is a b, is_contains a b k)
@@ -115,7 +116,7 @@ in_contained a b t p c h = record { in_space = in_other a.space b.space c.in_spa
 -- Laws of boxes that have space and time.
 pub whole_is : (a : BoxOf) → is_whole a ≡ true → (is_some a.space ≡ true) × (is_some a.time ≡ true)
 unfolding is_whole
-whole_is a w = both (is_some a.space) (is_some a.time) w
+whole_is a w = and_parts (is_some a.space) (is_some a.time) w
 
 some_over : {A : Type 0} (over : A → A → Bool) (a b : Option A) → is_some a ≡ true → lies_in over a b ≡ true → is_some b ≡ true
 some_over over None b w h = absurd (true≢false (sym w))
@@ -146,33 +147,33 @@ pub over_overlaps : (a b q : BoxOf) → is_whole a ≡ true → contains a b ≡
 unfolding contains overlaps
 over_overlaps a b q w h k =
     let s = whole_is a w in
-    let m = both (lies_in area_over a.space b.space) (lies_in is_inside a.time b.time) h in
-    let n = both (both_have b.space q.space || both_have b.time q.time) (where_both areas_meet b.space q.space && where_both spans_meet b.time q.time) k in
-    let o = both (where_both areas_meet b.space q.space) (where_both spans_meet b.time q.time) n.1 in
-    both_true (both_have a.space q.space || both_have a.time q.time) (where_both areas_meet a.space q.space && where_both spans_meet a.time q.time)
+    let m = and_parts (lies_in area_over a.space b.space) (lies_in is_inside a.time b.time) h in
+    let n = and_parts (both_have b.space q.space || both_have b.time q.time) (where_both areas_meet b.space q.space && where_both spans_meet b.time q.time) k in
+    let o = and_parts (where_both areas_meet b.space q.space) (where_both spans_meet b.time q.time) n.1 in
+    and_from (both_have a.space q.space || both_have a.time q.time) (where_both areas_meet a.space q.space && where_both spans_meet a.time q.time)
     (share_over (is_some a.space) (is_some a.time) (is_some b.space) (is_some b.time) (is_some q.space) (is_some q.time) s.0 s.1 n.0)
-    (both_true (where_both areas_meet a.space q.space) (where_both spans_meet a.time q.time)
+    (and_from (where_both areas_meet a.space q.space) (where_both spans_meet a.time q.time)
     (meet_over area_over areas_meet area_over_meets a.space b.space q.space s.0 m.0 o.0)
     (meet_over is_inside spans_meet inside_meets a.time b.time q.time s.1 m.1 o.1))
 
--- what lies in a box with space and time has both
+-- what lies in a box with space and time has and_parts
 pub over_whole : (a b : BoxOf) → is_whole a ≡ true → contains a b ≡ true → is_whole b ≡ true
 unfolding contains is_whole
 over_whole a b w h =
-    let s = both (is_some a.space) (is_some a.time) w in
-    let m = both (lies_in area_over a.space b.space) (lies_in is_inside a.time b.time) h in
-    both_true (is_some b.space) (is_some b.time) (some_over area_over a.space b.space s.0 m.0) (some_over is_inside a.time b.time s.1 m.1)
+    let s = and_parts (is_some a.space) (is_some a.time) w in
+    let m = and_parts (lies_in area_over a.space b.space) (lies_in is_inside a.time b.time) h in
+    and_from (is_some b.space) (is_some b.time) (some_over area_over a.space b.space s.0 m.0) (some_over is_inside a.time b.time s.1 m.1)
 
 pub over_trans : (a b c : BoxOf) → contains a b ≡ true → contains b c ≡ true → contains a c ≡ true
 unfolding contains
 over_trans a b c h k =
-    let m = both (lies_in area_over a.space b.space) (lies_in is_inside a.time b.time) h in
-    let n = both (lies_in area_over b.space c.space) (lies_in is_inside b.time c.time) k in
-    both_true (lies_in area_over a.space c.space) (lies_in is_inside a.time c.time) (trans_over area_over area_over_trans a.space b.space c.space m.0 n.0) (trans_over is_inside inside_trans a.time b.time c.time m.1 n.1)
+    let m = and_parts (lies_in area_over a.space b.space) (lies_in is_inside a.time b.time) h in
+    let n = and_parts (lies_in area_over b.space c.space) (lies_in is_inside b.time c.time) k in
+    and_from (lies_in area_over a.space c.space) (lies_in is_inside a.time c.time) (trans_over area_over area_over_trans a.space b.space c.space m.0 n.0) (trans_over is_inside inside_trans a.time b.time c.time m.1 n.1)
 
 pub over_self : (a : BoxOf) → contains a a ≡ true
 unfolding contains
-over_self a = both_true (lies_in area_over a.space a.space) (lies_in is_inside a.time a.time) (self_over area_over area_over_self a.space) (self_over is_inside inside_self a.time)
+over_self a = and_from (lies_in area_over a.space a.space) (lies_in is_inside a.time a.time) (self_over area_over area_over_self a.space) (self_over is_inside inside_self a.time)
 
 -- The cover of two boxes that have space and time.
 some_of_both : {A : Type 0} (join : A → A → A) (a b : Option A) → is_some a ≡ true → is_some b ≡ true → is_some (of_both join a b) ≡ true
@@ -199,24 +200,24 @@ both_over_least over join f (Some x) (Some y) (Some z) h k = f x y z h k
 pub cover_whole : (a b : BoxOf) → is_whole a ≡ true → is_whole b ≡ true → is_whole (cover a b) ≡ true
 unfolding is_whole cover
 cover_whole a b w v =
-    let s = both (is_some a.space) (is_some a.time) w in
-    let r = both (is_some b.space) (is_some b.time) v in
-    both_true (is_some (of_both area_cover a.space b.space)) (is_some (of_both span_cover a.time b.time)) (some_of_both area_cover a.space b.space s.0 r.0) (some_of_both span_cover a.time b.time s.1 r.1)
+    let s = and_parts (is_some a.space) (is_some a.time) w in
+    let r = and_parts (is_some b.space) (is_some b.time) v in
+    and_from (is_some (of_both area_cover a.space b.space)) (is_some (of_both span_cover a.time b.time)) (some_of_both area_cover a.space b.space s.0 r.0) (some_of_both span_cover a.time b.time s.1 r.1)
 
 pub cover_over_left : (a b : BoxOf) → contains (cover a b) a ≡ true
 unfolding contains cover
-cover_over_left a b = both_true (lies_in area_over (of_both area_cover a.space b.space) a.space) (lies_in is_inside (of_both span_cover a.time b.time) a.time) (both_over_left area_over area_cover area_cover_left a.space b.space) (both_over_left is_inside span_cover span_cover_left a.time b.time)
+cover_over_left a b = and_from (lies_in area_over (of_both area_cover a.space b.space) a.space) (lies_in is_inside (of_both span_cover a.time b.time) a.time) (both_over_left area_over area_cover area_cover_left a.space b.space) (both_over_left is_inside span_cover span_cover_left a.time b.time)
 
 pub cover_over_right : (a b : BoxOf) → contains (cover a b) b ≡ true
 unfolding contains cover
-cover_over_right a b = both_true (lies_in area_over (of_both area_cover a.space b.space) b.space) (lies_in is_inside (of_both span_cover a.time b.time) b.time) (both_over_right area_over area_cover area_cover_right a.space b.space) (both_over_right is_inside span_cover span_cover_right a.time b.time)
+cover_over_right a b = and_from (lies_in area_over (of_both area_cover a.space b.space) b.space) (lies_in is_inside (of_both span_cover a.time b.time) b.time) (both_over_right area_over area_cover area_cover_right a.space b.space) (both_over_right is_inside span_cover span_cover_right a.time b.time)
 
 pub cover_least : (a b d : BoxOf) → contains d a ≡ true → contains d b ≡ true → contains d (cover a b) ≡ true
 unfolding contains cover
 cover_least a b d h k =
-    let m = both (lies_in area_over d.space a.space) (lies_in is_inside d.time a.time) h in
-    let n = both (lies_in area_over d.space b.space) (lies_in is_inside d.time b.time) k in
-    both_true (lies_in area_over d.space (of_both area_cover a.space b.space)) (lies_in is_inside d.time (of_both span_cover a.time b.time)) (both_over_least area_over area_cover area_cover_least a.space b.space d.space m.0 n.0) (both_over_least is_inside span_cover span_cover_least a.time b.time d.time m.1 n.1)
+    let m = and_parts (lies_in area_over d.space a.space) (lies_in is_inside d.time a.time) h in
+    let n = and_parts (lies_in area_over d.space b.space) (lies_in is_inside d.time b.time) k in
+    and_from (lies_in area_over d.space (of_both area_cover a.space b.space)) (lies_in is_inside d.time (of_both span_cover a.time b.time)) (both_over_least area_over area_cover area_cover_least a.space b.space d.space m.0 n.0) (both_over_least is_inside span_cover span_cover_least a.time b.time d.time m.1 n.1)
 
 pub cover_is : (a b : BoxOf) → is_box a ≡ true → is_box b ≡ true → IsCover a b (cover a b)
 cover_is a b h k = record {
@@ -245,8 +246,8 @@ cover_is_box a b w v h =
     let s = whole_is a w in
     let r = whole_is b v in
     let k = some_of_both area_cover a.space b.space s.0 r.0 in
-    both_true (is_some (of_both area_cover a.space b.space) || is_some (of_both span_cover a.time b.time)) _ (rw k refl)
-    (both_true (area_stands (of_both area_cover a.space b.space)) (span_stands (of_both span_cover a.time b.time)) (area_of_both a.space b.space (box_area a h)) (span_of_both a.time b.time (box_span a h)))
+    and_from (is_some (of_both area_cover a.space b.space) || is_some (of_both span_cover a.time b.time)) _ (rw k refl)
+    (and_from (area_stands (of_both area_cover a.space b.space)) (span_stands (of_both span_cover a.time b.time)) (area_of_both a.space b.space (box_area a h)) (span_of_both a.time b.time (box_span a h)))
 
 -- When no box has given dimensions.
 not_area : (a : Area) → is_area a ≡ false → (a.xmax <ℚ a.xmin) ⊎ (a.ymax <ℚ a.ymin)
@@ -284,7 +285,7 @@ made_box a time (Some b) h n v = ap Some v
 
 -- a point is an area
 pub point_is_area : (x y : Ratio) → is_area (record { xmin = x; xmax = x; ymin = y; ymax = y }) ≡ true
-point_is_area x y = both_true (up_to x x) (up_to y y) (upto_self x) (upto_self y)
+point_is_area x y = and_from (up_to x x) (up_to y y) (upto_self x) (upto_self y)
 
 -- ---- two boxes that contain one another are one
 
@@ -314,8 +315,8 @@ end_both a b i j h k =
 
 span_both : (s r : SpanOf) → is_inside s r ≡ true → is_inside r s ≡ true → s ≡ r
 span_both s r h k =
-    let i = both _ _ h in
-    let j = both _ _ k in
+    let i = and_parts _ _ h in
+    let j = and_parts _ _ k in
     let l = end_both s.lower r.lower s.lower_inc r.lower_inc i.0 j.0 in
     let u = end_both r.upper s.upper s.upper_inc r.upper_inc i.1 j.1 in
     let p = l.0 in
@@ -333,8 +334,8 @@ part_both over f (Some x) (Some y) h k = ap Some (f x y h k)
 pub contains_both : (a b : BoxOf) → contains a b ≡ true → contains b a ≡ true → a ≡ b
 unfolding contains
 contains_both a b h k =
-    let m = both (lies_in area_over a.space b.space) (lies_in is_inside a.time b.time) h in
-    let n = both (lies_in area_over b.space a.space) (lies_in is_inside b.time a.time) k in
+    let m = and_parts (lies_in area_over a.space b.space) (lies_in is_inside a.time b.time) h in
+    let n = and_parts (lies_in area_over b.space a.space) (lies_in is_inside b.time a.time) k in
     let p = part_both area_over area_both a.space b.space m.0 n.0 in
     let q = part_both is_inside span_both a.time b.time m.1 n.1 in
     λ i. record { space = p i; time = q i }

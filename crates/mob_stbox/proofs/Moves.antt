@@ -1,5 +1,6 @@
 -- Areas made wider or narrower, by their points.
 use Rattle.std.specs.Prelude.{◌≡◌, ◌↔◌, Bool, true, false, pos, refl}
+use Rattle.std.proofs.lemmas.Bool.{and_parts}
 use Rattle.std.proofs.Common.{arith}
 use Rattle.mob_ratio.specs.Ratio.{Ratio, whole, ◌+ℚ◌, ◌-ℚ◌, ◌≤ℚ◌, neg_ℚ}
 use Rattle.mob_ratio.specs.Order.{before, up_to}
@@ -7,7 +8,6 @@ use Rattle.mob_ratio.proofs.Clear.{clear2, clear3, clear4, cleared}
 use Rattle.mob_ratio.proofs.Field.{le_refl, le_trans, le_of_lt}
 use Rattle.mob_ratio.proofs.IntRing.{linear}
 use Rattle.mob_ratio.proofs.Order.{before-lt, up_to-le, not-up_to-le}
-use Rattle.mob_span.proofs.Insides.{both}
 use Rattle.mob_plane.specs.declared.point.Point.{Point}
 use Rattle.mob_stbox.specs.Areas.{InArea, is_area}
 use Rattle.mob_stbox.specs.Expansion.{moved_area, IsNear}
@@ -63,7 +63,7 @@ near_by l u d p false false e f h k m n = record { near = p; from = up_to-le l p
 pub moved_outward : (a : Area) (d : Ratio) → is_area a ≡ true → whole (pos 0) ≤ℚ d → (p : Point) → InArea (moved_area a d) p ↔ ((q : Point) × InArea a q × IsNear p q d)
 moved_outward a d h k p = (
   λ i.
-      let s = both (up_to a.xmin a.xmax) (up_to a.ymin a.ymax) h in
+      let s = and_parts (up_to a.xmin a.xmax) (up_to a.ymin a.ymax) h in
       let x = near_by a.xmin a.xmax d p.x (before p.x a.xmin) (before a.xmax p.x) refl refl (not-up_to-le a.xmin a.xmax s.0) k i.from_west i.to_east in
       let y = near_by a.ymin a.ymax d p.y (before p.y a.ymin) (before a.ymax p.y) refl refl (not-up_to-le a.ymin a.ymax s.1) k i.from_south i.to_north in (
         record { x = x.near; y = y.near },

@@ -1,5 +1,6 @@
 -- How areas and spans lie, by their sides.
 use Rattle.std.specs.Prelude.{◌≡◌, ◌↔◌, Bool, true, false, cond, refl, ◌||◌, ◌&&◌, not, IsTrue}
+use Rattle.std.proofs.lemmas.Bool.{and_parts, and_from}
 use Rattle.std.proofs.Common.{arith, sym, ◌∙◌, true≢false}
 use Rattle.mob_ratio.specs.Ratio.{Ratio, ◌≤ℚ◌}
 use Rattle.mob_ratio.specs.Order.{before, up_to}
@@ -8,7 +9,7 @@ use Rattle.mob_span.specs.Span.{SpanOf, InSpan, has, has_instant}
 use Rattle.mob_span.specs.Meet.{meet_of, starts_before, ends_before}
 use Rattle.mob_span.specs.Neighbours.{is_inside}
 use Rattle.mob_span.proofs.SpanLemmas.{has_exact, some_instant, instant_some, meet_some}
-use Rattle.mob_span.proofs.Insides.{both, joined as both_true, inside_has}
+use Rattle.mob_span.proofs.Insides.{inside_has}
 use Rattle.mob_span.proofs.Touching.{upto_trans}
 use Rattle.mob_plane.specs.Corners.{smaller, greater}
 use Rattle.mob_plane.specs.declared.point.Point.{Point}
@@ -24,7 +25,7 @@ pub upto_self : (t : Ratio) → up_to t t ≡ true
 upto_self t = grind (arith, before-self t)
 
 pub four : (a b c d : Bool) → (a && b && (c && d)) ≡ true → (a ≡ true) × (b ≡ true) × (c ≡ true) × (d ≡ true)
-four a b c d h = let k = both (a && b) (c && d) h in let l = both a b k.0 in let r = both c d k.1 in (l.0, l.1, r.0, r.1)
+four a b c d h = let k = and_parts (a && b) (c && d) h in let l = and_parts a b k.0 in let r = and_parts c d k.1 in (l.0, l.1, r.0, r.1)
 
 pub all_four : (a b c d : Bool) → a ≡ true → b ≡ true → c ≡ true → d ≡ true → (a && b && (c && d)) ≡ true
 all_four a b c d h k l m = rw (h, k, l, m) refl
@@ -56,19 +57,19 @@ axis_shared al ah bl bh false e h k l m = record { from_a = upto_self al; to_a =
 pub area_has_point : (a : Area) → (is_area a ≡ true) ↔ ((p : Point) × InArea a p)
 area_has_point a = (
   λ h.
-      let k = both (up_to a.xmin a.xmax) (up_to a.ymin a.ymax) h in
+      let k = and_parts (up_to a.xmin a.xmax) (up_to a.ymin a.ymax) h in
       (record { x = a.xmin; y = a.ymin }, (in_area_exact a (record { x = a.xmin; y = a.ymin })).0 (all_four (up_to a.xmin a.xmin) (up_to a.xmin a.xmax) (up_to a.ymin a.ymin) (up_to a.ymin a.ymax) (upto_self a.xmin) k.0 (upto_self a.ymin) k.1)),
   λ m.
       let k = four (up_to a.xmin m.0.x) (up_to m.0.x a.xmax) (up_to a.ymin m.0.y) (up_to m.0.y a.ymax) ((in_area_exact a m.0).1 m.1) in
-      both_true (up_to a.xmin a.xmax) (up_to a.ymin a.ymax) (upto_trans a.xmin m.0.x a.xmax k.0 k.1) (upto_trans a.ymin m.0.y a.ymax k.2 k.3),
+      and_from (up_to a.xmin a.xmax) (up_to a.ymin a.ymax) (upto_trans a.xmin m.0.x a.xmax k.0 k.1) (upto_trans a.ymin m.0.y a.ymax k.2 k.3),
 )
 
 -- two areas share a point exactly where on each axis neither lies wholly on one side of the other
 pub areas_meet_exact : (a b : Area) → is_area a ≡ true → is_area b ≡ true → (areas_meet a b ≡ true) ↔ ((p : Point) × InArea a p × InArea b p)
 areas_meet_exact a b h k = (
   λ m.
-      let i = both (up_to a.xmin a.xmax) (up_to a.ymin a.ymax) h in
-      let j = both (up_to b.xmin b.xmax) (up_to b.ymin b.ymax) k in
+      let i = and_parts (up_to a.xmin a.xmax) (up_to a.ymin a.ymax) h in
+      let j = and_parts (up_to b.xmin b.xmax) (up_to b.ymin b.ymax) k in
       let n = four (up_to a.xmin b.xmax) (up_to b.xmin a.xmax) (up_to a.ymin b.ymax) (up_to b.ymin a.ymax) m in
       let x = axis_shared a.xmin a.xmax b.xmin b.xmax (before a.xmin b.xmin) refl i.0 j.0 n.0 n.1 in
       let y = axis_shared a.ymin a.ymax b.ymin b.ymax (before a.ymin b.ymin) refl i.1 j.1 n.2 n.3 in
@@ -96,7 +97,7 @@ pub area_over_exact : (a b : Area) → is_area b ≡ true → (area_over a b ≡
 area_over_exact a b h = (
   λ k p i. in_over a b p k i,
   λ f.
-      let s = both (up_to b.xmin b.xmax) (up_to b.ymin b.ymax) h in
+      let s = and_parts (up_to b.xmin b.xmax) (up_to b.ymin b.ymax) h in
       let p : Point = record { x = b.xmin; y = b.ymin } in
       let q : Point = record { x = b.xmax; y = b.ymax } in
       let i = (in_area_exact a p).1 (f p ((in_area_exact b p).0 (all_four (up_to b.xmin b.xmin) (up_to b.xmin b.xmax) (up_to b.ymin b.ymin) (up_to b.ymin b.ymax) (upto_self b.xmin) s.0 (upto_self b.ymin) s.1))) in
@@ -130,7 +131,7 @@ greater_least s t u h k = grind arith
 
 -- the least area over two points
 pub between_is_area : (p q : Point) → is_area (area_between p q) ≡ true
-between_is_area p q = both_true (up_to (smaller p.x q.x) (greater p.x q.x)) (up_to (smaller p.y q.y) (greater p.y q.y)) (upto_trans (smaller p.x q.x) p.x (greater p.x q.x) (smaller_left p.x q.x) (greater_left p.x q.x)) (upto_trans (smaller p.y q.y) p.y (greater p.y q.y) (smaller_left p.y q.y) (greater_left p.y q.y))
+between_is_area p q = and_from (up_to (smaller p.x q.x) (greater p.x q.x)) (up_to (smaller p.y q.y) (greater p.y q.y)) (upto_trans (smaller p.x q.x) p.x (greater p.x q.x) (smaller_left p.x q.x) (greater_left p.x q.x)) (upto_trans (smaller p.y q.y) p.y (greater p.y q.y) (smaller_left p.y q.y) (greater_left p.y q.y))
 
 -- an area with two points has the least area over them
 pub between_least : (p q : Point) (b : Area) → InArea b p → InArea b q → area_over b (area_between p q) ≡ true
@@ -156,7 +157,7 @@ greater_is s t false e h = before-neither s t e (grind (arith, h))
 -- an area is the one between its least corner and its greatest
 pub between_again : (a : Area) → is_area a ≡ true → area_between (record { x = a.xmin; y = a.ymin }) (record { x = a.xmax; y = a.ymax }) ≡ a
 between_again a h =
-    let k = both (up_to a.xmin a.xmax) (up_to a.ymin a.ymax) h in
+    let k = and_parts (up_to a.xmin a.xmax) (up_to a.ymin a.ymax) h in
     let p = smaller_is a.xmin a.xmax k.0 in
     let q = greater_is a.xmin a.xmax (before a.xmin a.xmax) refl k.0 in
     let r = smaller_is a.ymin a.ymax k.1 in
@@ -180,8 +181,8 @@ area_cover_least a b d h k =
 pub over_is_area : (a b : Area) → area_over a b ≡ true → is_area b ≡ true → is_area a ≡ true
 over_is_area a b h k =
     let i = four (up_to a.xmin b.xmin) (up_to b.xmax a.xmax) (up_to a.ymin b.ymin) (up_to b.ymax a.ymax) h in
-    let s = both (up_to b.xmin b.xmax) (up_to b.ymin b.ymax) k in
-    both_true (up_to a.xmin a.xmax) (up_to a.ymin a.ymax) (upto_trans a.xmin b.xmin a.xmax i.0 (upto_trans b.xmin b.xmax a.xmax s.0 i.1)) (upto_trans a.ymin b.ymin a.ymax i.2 (upto_trans b.ymin b.ymax a.ymax s.1 i.3))
+    let s = and_parts (up_to b.xmin b.xmax) (up_to b.ymin b.ymax) k in
+    and_from (up_to a.xmin a.xmax) (up_to a.ymin a.ymax) (upto_trans a.xmin b.xmin a.xmax i.0 (upto_trans b.xmin b.xmax a.xmax s.0 i.1)) (upto_trans a.ymin b.ymin a.ymax i.2 (upto_trans b.ymin b.ymax a.ymax s.1 i.3))
 
 -- spans: what is in a span is in one over it
 pub in_inside : (s r : SpanOf) (t : Ratio) → is_inside s r ≡ true → has r t ≡ true → has s t ≡ true
@@ -194,13 +195,13 @@ in_inside s r t h k = by_test (has s t) refl
 -- two spans share an instant exactly where their meet has one
 pub spans_meet_exact : (s r : SpanOf) → (has_instant (meet_of s r) ≡ true) ↔ ((t : Ratio) × InSpan s t × InSpan r t)
 spans_meet_exact s r = (
-  λ h. let m = (meet_some s r).0 h in let k = both (has s m.0) (has r m.0) m.1 in (m.0, (has_exact s m.0).0 k.0, (has_exact r m.0).0 k.1),
-  λ m. (meet_some s r).1 (m.0, both_true (has s m.0) (has r m.0) ((has_exact s m.0).1 m.1) ((has_exact r m.0).1 m.2)),
+  λ h. let m = (meet_some s r).0 h in let k = and_parts (has s m.0) (has r m.0) m.1 in (m.0, (has_exact s m.0).0 k.0, (has_exact r m.0).0 k.1),
+  λ m. (meet_some s r).1 (m.0, and_from (has s m.0) (has r m.0) ((has_exact s m.0).1 m.1) ((has_exact r m.0).1 m.2)),
 )
 
 -- what meets a span meets one over it
 pub inside_meets : (a b q : SpanOf) → is_inside a b ≡ true → has_instant (meet_of b q) ≡ true → has_instant (meet_of a q) ≡ true
-inside_meets a b q h k = let m = (meet_some b q).0 k in let i = both (has b m.0) (has q m.0) m.1 in (meet_some a q).1 (m.0, both_true (has a m.0) (has q m.0) (in_inside a b m.0 h i.0) i.1)
+inside_meets a b q h k = let m = (meet_some b q).0 k in let i = and_parts (has b m.0) (has q m.0) m.1 in (meet_some a q).1 (m.0, and_from (has a m.0) (has q m.0) (in_inside a b m.0 h i.0) i.1)
 
 pub inside_some : (s r : SpanOf) → is_inside s r ≡ true → has_instant r ≡ true → has_instant s ≡ true
 inside_some s r h k = let m = some_instant r k in instant_some s m.0 (in_inside s r m.0 h m.1)
@@ -210,9 +211,9 @@ low_trans a b c i j k h m = grind (arith, before-trans a b c, before-neither a b
 
 pub inside_trans : (a b c : SpanOf) → is_inside a b ≡ true → is_inside b c ≡ true → is_inside a c ≡ true
 inside_trans a b c h k =
-    let m = both _ _ h in
-    let n = both _ _ k in
-    both_true _ _ (low_trans a.lower b.lower c.lower a.lower_inc b.lower_inc c.lower_inc m.0 n.0) (high_trans c.upper b.upper a.upper c.upper_inc b.upper_inc a.upper_inc n.1 m.1)
+    let m = and_parts _ _ h in
+    let n = and_parts _ _ k in
+    and_from _ _ (low_trans a.lower b.lower c.lower a.lower_inc b.lower_inc c.lower_inc m.0 n.0) (high_trans c.upper b.upper a.upper c.upper_inc b.upper_inc a.upper_inc n.1 m.1)
   where
     high_trans : (c b a : Ratio) (k j i : Bool) → (before c b || (up_to c b && (j || not k))) ≡ true → (before b a || (up_to b a && (i || not j))) ≡ true → (before c a || (up_to c a && (i || not k))) ≡ true
     high_trans c b a k j i h m = grind (arith, before-trans c b a, before-neither c b, before-neither b a, before-back c a, before-back c b, before-back b a)
@@ -234,16 +235,16 @@ high_right u w i j true h = grind (arith, before-self w)
 high_right u w i j false h = grind (arith, h)
 
 pub span_cover_left : (s r : SpanOf) → is_inside (span_cover s r) s ≡ true
-span_cover_left s r = both_true _ _ (low_left s.lower r.lower s.lower_inc r.lower_inc (starts_before r s) refl) (high_left s.upper r.upper s.upper_inc r.upper_inc (ends_before s r) refl)
+span_cover_left s r = and_from _ _ (low_left s.lower r.lower s.lower_inc r.lower_inc (starts_before r s) refl) (high_left s.upper r.upper s.upper_inc r.upper_inc (ends_before s r) refl)
 
 pub span_cover_right : (s r : SpanOf) → is_inside (span_cover s r) r ≡ true
-span_cover_right s r = both_true _ _ (low_right s.lower r.lower s.lower_inc r.lower_inc (starts_before r s) refl) (high_right s.upper r.upper s.upper_inc r.upper_inc (ends_before s r) refl)
+span_cover_right s r = and_from _ _ (low_right s.lower r.lower s.lower_inc r.lower_inc (starts_before r s) refl) (high_right s.upper r.upper s.upper_inc r.upper_inc (ends_before s r) refl)
 
 pub span_cover_least : (s r d : SpanOf) → is_inside d s ≡ true → is_inside d r ≡ true → is_inside d (span_cover s r) ≡ true
 span_cover_least s r d h k =
-    let m = both _ _ h in
-    let n = both _ _ k in
-    both_true _ _ (low_of (starts_before r s) m.0 n.0) (high_of (ends_before s r) m.1 n.1)
+    let m = and_parts _ _ h in
+    let n = and_parts _ _ k in
+    and_from _ _ (low_of (starts_before r s) m.0 n.0) (high_of (ends_before s r) m.1 n.1)
   where
     low_of : (b : Bool) → (before d.lower s.lower || (up_to d.lower s.lower && (d.lower_inc || not s.lower_inc))) ≡ true → (before d.lower r.lower || (up_to d.lower r.lower && (d.lower_inc || not r.lower_inc))) ≡ true
         → (before d.lower (cond b r.lower s.lower) || (up_to d.lower (cond b r.lower s.lower) && (d.lower_inc || not (cond b r.lower_inc s.lower_inc)))) ≡ true

@@ -2,6 +2,7 @@
 use Rattle.std.specs.Prelude.{◌≡◌, ◌⊎◌, Bool, true, false, cond, ◌&&◌, ◌||◌, not, Option, Some, None, is_some, IfSome, MatchOption}
 use Rattle.mob_ratio.specs.Ratio.{Ratio, ◌<ℚ◌}
 use Rattle.mob_ratio.specs.Order.{same}
+use Rattle.mob_ratio.specs.Sign.{nil}
 use Rattle.mob_span.specs.Span.{SpanOf, InSpan, has, has_instant}
 use Rattle.mob_span.specs.Meet.{meet_of, starts_before, ends_before}
 use Rattle.mob_span.specs.Neighbours.{is_inside}
@@ -29,6 +30,10 @@ span_stands (Some s) = has_instant s
 
 abbrev pub is_box : BoxOf → Bool
 is_box b = (is_some b.space || is_some b.time) && (area_stands b.space && span_stands b.time)
+
+-- the point 0 0 at any time
+abbrev pub origin : BoxOf
+origin = record { space = Some (record { xmin = nil; xmax = nil; ymin = nil; ymax = nil }); time = None }
 
 -- space and time are there
 unfoldable pub is_whole : BoxOf → Bool

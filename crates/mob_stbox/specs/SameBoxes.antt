@@ -1,12 +1,12 @@
 -- The test whether two boxes are one is exact.
 use Rattle.std.specs.Prelude.{◌≡◌, ◌↔◌, Bool, true, false, IsTrue, refl, Option, Some, None}
+use Rattle.std.proofs.lemmas.Bool.{and_parts, and_from}
 use Rattle.std.proofs.Common.{arith, ap, sym, ◌∙◌, true≢false}
 use Rattle.std.specs.Cmp.{IsEquivalence}
 use Rattle.mob_ratio.specs.Ratio.{Ratio}
 use Rattle.mob_ratio.specs.Order.{same}
 use Rattle.mob_ratio.proofs.Order.{same_exact, same_truth}
 use Rattle.mob_span.specs.Span.{SpanOf}
-use Rattle.mob_span.proofs.Insides.{both, joined as both_true}
 use Rattle.mob_stbox.specs.Areas.{same_area}
 use Rattle.mob_stbox.specs.Boxes.{BoxOf, same_flag, same_span, same_part, same_box}
 use Rattle.mob_stbox.specs.declared.area.Area.{Area}
@@ -21,9 +21,9 @@ flag_self false = refl
 
 area_is : (a b : Area) → same_area a b ≡ true → a ≡ b
 area_is a b h =
-    let k = both _ _ h in
-    let x = both _ _ k.0 in
-    let y = both _ _ k.1 in
+    let k = and_parts _ _ h in
+    let x = and_parts _ _ k.0 in
+    let y = and_parts _ _ k.1 in
     let p = (same_exact a.xmin b.xmin).0 x.0 in
     let q = (same_exact a.xmax b.xmax).0 x.1 in
     let r = (same_exact a.ymin b.ymin).0 y.0 in
@@ -34,13 +34,13 @@ number_self : (a : Ratio) → same a a ≡ true
 number_self a = (same_exact a a).1 refl
 
 area_self : (a : Area) → same_area a a ≡ true
-area_self a = both_true _ _ (both_true _ _ (number_self a.xmin) (number_self a.xmax)) (both_true _ _ (number_self a.ymin) (number_self a.ymax))
+area_self a = and_from _ _ (and_from _ _ (number_self a.xmin) (number_self a.xmax)) (and_from _ _ (number_self a.ymin) (number_self a.ymax))
 
 span_is : (s r : SpanOf) → same_span s r ≡ true → s ≡ r
 span_is s r h =
-    let k = both _ _ h in
-    let x = both _ _ k.0 in
-    let y = both _ _ k.1 in
+    let k = and_parts _ _ h in
+    let x = and_parts _ _ k.0 in
+    let y = and_parts _ _ k.1 in
     let p = (same_exact s.lower r.lower).0 x.0 in
     let q = (same_exact s.upper r.upper).0 x.1 in
     let u = flag_is s.lower_inc r.lower_inc y.0 in
@@ -48,7 +48,7 @@ span_is s r h =
     λ i. record { lower = p i; upper = q i; lower_inc = u i; upper_inc = v i }
 
 span_self : (s : SpanOf) → same_span s s ≡ true
-span_self s = both_true _ _ (both_true _ _ (number_self s.lower) (number_self s.upper)) (both_true _ _ (flag_self s.lower_inc) (flag_self s.upper_inc))
+span_self s = and_from _ _ (and_from _ _ (number_self s.lower) (number_self s.upper)) (and_from _ _ (flag_self s.lower_inc) (flag_self s.upper_inc))
 
 part_is : {A : Type 0} (test : A → A → Bool) → ((x y : A) → test x y ≡ true → x ≡ y) → (a b : Option A) → same_part test a b ≡ true → a ≡ b
 part_is test f None None h = refl
@@ -63,12 +63,12 @@ part_self test f (Some x) = f x
 -- a box is the same as itself alone
 pub same_self : (a : BoxOf) → same_box a a ≡ true
 unfolding same_box
-same_self a = both_true _ _ (part_self same_area area_self a.space) (part_self same_span span_self a.time)
+same_self a = and_from _ _ (part_self same_area area_self a.space) (part_self same_span span_self a.time)
 
 pub same_is : (a b : BoxOf) → same_box a b ≡ true → a ≡ b
 unfolding same_box
 same_is a b h =
-    let k = both _ _ h in
+    let k = and_parts _ _ h in
     let p = part_is same_area area_is a.space b.space k.0 in
     let q = part_is same_span span_is a.time b.time k.1 in
     λ i. record { space = p i; time = q i }

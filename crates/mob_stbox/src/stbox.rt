@@ -3,7 +3,7 @@ ghost use Rattle.std.specs.Prelude.{◌≡◌, ◌↔◌, true, false, IsTrue, I
 ghost use Rattle.std.specs.Cmp.{partial_equiv_from_equiv};
 ghost use Rattle.mob_frac.specs.Formula.{IsFormula};
 ghost use Rattle.mob_stbox.specs.Areas.{is_area};
-ghost use Rattle.mob_stbox.specs.Boxes.{BoxOf, NoBox, is_box, is_whole, BoxesMeet, BoxContains, IsCover, overlaps, contains, cover, same_box};
+ghost use Rattle.mob_stbox.specs.Boxes.{BoxOf, NoBox, is_box, is_whole, origin, BoxesMeet, BoxContains, IsCover, overlaps, contains, cover, same_box};
 ghost use Rattle.mob_stbox.specs.SameBoxes.{same_box_equivalence};
 ghost use Rattle.mob_stbox.specs.Expansion.{box_over, expanded, parts_of_expansion};
 
@@ -166,6 +166,8 @@ impl Eq for StBox {
 }
 
 impl Default for StBox {
+    ghost is_default = { λ b. b ≡ origin };
+
     /// The point 0 0 at any time. It stands where an array wants something to begin with.
     fn default() -> StBox {
         let zero = Frac::zero();

@@ -1,7 +1,6 @@
 mod RecordText
 mod Orders
 mod PlanRows
-mod Reading
 mod Seen
 mod Making
 mod OneOrder

@@ -11,7 +11,7 @@ use Rattle.std.proofs.lemmas.Map.Views.{list_any-from_Contains, Contains-from_an
 use Rattle.std.proofs.lemmas.List.{drop_all, map-append}
 use Rattle.indexmap.specs.IndexSet.{insert_key}
 use Rattle.mob_tail.specs.Flags.{flagged}
-use Rattle.mob_tail.proofs.Reading.{drop_read}
+use Rattle.mob_eval.proofs.Loops.{drop_read}
 use Rattle.mob_tail.specs.Rows.{AreFirst}
 
 -- the texts that a vector refers to

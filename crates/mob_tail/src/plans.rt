@@ -21,7 +21,7 @@ fn scan_line(alloc: Global, name: &str) -> Result<Text, AllocError>
     Ok(Text::from_string(line))
 }
 
-// The line of a table whose rows are looked up.
+// The line of a table of which an index gives the rows.
 fn probe_line(alloc: Global, name: &str, index: &str) -> Result<Text, AllocError>
     ensures says { IfOk result (λ line. line ≡ codes "probe " ++ name.now ++ codes " by " ++ index.now) }
 {

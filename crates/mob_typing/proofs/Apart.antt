@@ -1,5 +1,6 @@
 -- Distinct names stay distinct with a new one behind them.
 use Rattle.std.proofs.Common.{◌≡◌, refl, sym, subst, ℕ, ◌+◌, List, [], ◌∷◌, ◌++◌, map, Bool, true, false, cond, ◌||◌, Some}
+use Rattle.std.proofs.lemmas.Bool.{or_parts}
 use Rattle.std.specs.Prelude.{is_some}
 use Rattle.std.specs.List.{IsDistinct, list_any}
 use Rattle.std.specs.Str.{bytes_eq}
@@ -8,10 +9,6 @@ use Rattle.std.proofs.lemmas.Slice.Eq.{bytes_eq-Decides}
 use Rattle.mob_operators.specs.Table.{is_one_of}
 use Rattle.mob_expression.specs.Names.{entry_from, has_entry}
 use Rattle.mob_typed.proofs.Rising.{each_both}
-
-both_false : (a b : Bool) → (a || b) ≡ false → (a ≡ false) × (b ≡ false)
-both_false true b h = absurd (cc)
-both_false false b h = (refl, h)
 
 other_way : (a b : List ℕ) → bytes_eq a b ≡ false → bytes_eq b a ≡ false
 other_way a b h = by (bytes_eq b a) refl
@@ -24,7 +21,7 @@ pub name_last : (ns : List (List ℕ)) (name : List ℕ) → IsDistinct bytes_eq
 unfolding IsDistinct
 name_last [] name h new = (tt, tt)
 name_last (n ∷ ns) name h new =
-    let parts = both_false (bytes_eq name n) (list_any (λ k. bytes_eq name k) ns) new in
+    let parts = or_parts (bytes_eq name n) (list_any (λ k. bytes_eq name k) ns) new in
     (each_both (λ y. bytes_eq n y ≡ false) ns (name ∷ []) h.0 (other_way name n parts.0, tt), name_last ns name h.1 parts.1)
 
 pub none_named : {A : Type 0} (n : ℕ) (es : List (List ℕ × A)) (name : List ℕ) → is_some (entry_from n es name) ≡ false → is_one_of (map (λ e. e.0) es) name ≡ false

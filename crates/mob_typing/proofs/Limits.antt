@@ -5,40 +5,32 @@ use Rattle.std.specs.List.{list_all}
 use Rattle.std.specs.Char.{is_ascii_digit, digit_value}
 use Rattle.std.specs.Result.{result_ok}
 use Rattle.std.specs.Str.Parse.{AllDigits, IsNumeral, digits_value, ParsesUnsigned, without_leading_plus}
-use Rattle.std.proofs.lemmas.Bool.{leb-true}
+use Rattle.std.proofs.lemmas.Bool.{and_parts, leb-true}
 use Rattle.std.proofs.lemmas.Bool.Decides.{nat_tests}
 use Rattle.std.proofs.lemmas.Int.Digits.{digits_value-lt}
 use Rattle.std.proofs.lemmas.Str.Parse.{digit_at, without_leading_plus_none}
 use Rattle.std.proofs.Math.Nat.{pow-le-pow_right}
 use Rattle.mob_typing.specs.Selects.{is_limit, limit_value}
 
-and_left : (a b : Bool) → (a && b) ≡ true → a ≡ true
-and_left true b h = refl
-and_left false b h = h
-
-and_right : (a b : Bool) → (a && b) ≡ true → b ≡ true
-and_right true b h = h
-and_right false b h = absurd (cc)
-
 digit_small : (c : ℕ) → is_ascii_digit c ≡ true → digit_value c < 10
 digit_small c h = grind (arith, nat_tests)
 
 all_digits : (bs : List ℕ) → list_all is_ascii_digit bs ≡ true → AllDigits 10 bs
 all_digits [] h = tt
-all_digits (c ∷ cs) h = (digit_small c (and_left (is_ascii_digit c) (list_all is_ascii_digit cs) h), all_digits cs (and_right (is_ascii_digit c) (list_all is_ascii_digit cs) h))
+all_digits (c ∷ cs) h = let parts = and_parts (is_ascii_digit c) (list_all is_ascii_digit cs) h in (digit_small c parts.0, all_digits cs parts.1)
 
 module _ (bs : List ℕ) (h : is_limit bs ≡ true) where
   front : (list_all is_ascii_digit bs && nat_le 1 (length bs)) ≡ true
-  front = and_left (list_all is_ascii_digit bs && nat_le 1 (length bs)) (nat_le (length bs) 18) h
+  front = (and_parts (list_all is_ascii_digit bs && nat_le 1 (length bs)) (nat_le (length bs) 18) h).0
 
   digits : AllDigits 10 bs
-  digits = all_digits bs (and_left (list_all is_ascii_digit bs) (nat_le 1 (length bs)) front)
+  digits = all_digits bs (and_parts (list_all is_ascii_digit bs) (nat_le 1 (length bs)) front).0
 
   some : 1 ≤ length bs
-  some = leb-true 1 (length bs) (and_right (list_all is_ascii_digit bs) (nat_le 1 (length bs)) front)
+  some = leb-true 1 (length bs) (and_parts (list_all is_ascii_digit bs) (nat_le 1 (length bs)) front).1
 
   few : length bs ≤ 18
-  few = leb-true (length bs) 18 (and_right (list_all is_ascii_digit bs && nat_le 1 (length bs)) (nat_le (length bs) 18) h)
+  few = leb-true (length bs) 18 (and_parts (list_all is_ascii_digit bs && nat_le 1 (length bs)) (nat_le (length bs) 18) h).1
 
   no_plus : without_leading_plus bs ≡ bs
   no_plus = let r = digit_at bs 0 digits some in without_leading_plus_none bs (λ e. absurd (omega (arith, r)))

@@ -1,6 +1,7 @@
 -- What the table of operators gives: no leaf and no cast, a division by a number literal alone, and for a sign before one argument the
 -- operator that keeps or turns its sign.
 use Rattle.std.proofs.Common.{◌≡◌, ◌∙◌, refl, sym, ap, subst, inl, inr, ℕ, List, [], ◌∷◌, Bool, true, false, cond, ◌&&◌, ◌||◌, Option, Some, None}
+use Rattle.std.proofs.lemmas.Bool.{and_parts}
 use Rattle.std.specs.Prelude.{◌⊎◌, IfSome, not, option_map, option_and_then, codes}
 use Rattle.std.specs.List.{list_all}
 use Rattle.std.specs.Option.{option_or}
@@ -27,10 +28,6 @@ use Rattle.mob_typing.proofs.Sound.{types_are}
 abbrev Answer : Type 0
 Answer = Op × SqlType
 
-both_true : (a b : Bool) → (a && b) ≡ true → (a ≡ true) × (b ≡ true)
-both_true true b h = (refl, h)
-both_true false b h = absurd (cc)
-
 -- what holds of each operator that a line names holds of what it gives
 module _ (P : Op → Bool) where
   abbrev Passes : Option Answer → Type 0
@@ -39,7 +36,7 @@ module _ (P : Op → Bool) where
   named_pass : (ns : List (List ℕ × Op)) (name : List ℕ) → list_all (λ n. P n.1) ns ≡ true → IfSome (operator_named ns name) (λ o. P o ≡ true)
   named_pass [] name h = tt
   named_pass (n ∷ ns) name h =
-      let parts = both_true (P n.1) (list_all (λ m. P m.1) ns) h in
+      let parts = and_parts (P n.1) (list_all (λ m. P m.1) ns) h in
       by (bytes_eq n.0 name) parts.0 (named_pass ns name parts.1)
     where
       by : (b : Bool) → P n.1 ≡ true → IfSome (operator_named ns name) (λ o. P o ≡ true) → IfSome (cond b (Some n.1) (operator_named ns name)) (λ o. P o ≡ true)
@@ -66,7 +63,7 @@ module _ (P : Op → Bool) where
 pub first_passes : (P : Op → Bool) (ls : List Line) (f : Form) (name : List ℕ) (ts : List SqlType) (literal : Bool) (each : Line → Bool) → ((l : Line) → each l ≡ true → Passes P (answer_of l f name ts literal)) → list_all each ls ≡ true → Passes P (found_in ls f name ts literal)
 first_passes P [] f name ts literal each own h = tt
 first_passes P (l ∷ ls) f name ts literal each own h =
-    let parts = both_true (each l) (list_all each ls) h in
+    let parts = and_parts (each l) (list_all each ls) h in
     by (answer_of l f name ts literal) (own l parts.0) (first_passes P ls f name ts literal each own parts.1)
   where
     by : (o : Option Answer) → Passes P o → Passes P (found_in ls f name ts literal) → Passes P (option_or o (found_in ls f name ts literal))
@@ -163,7 +160,7 @@ module _ (f : Form) (name : List ℕ) (ts : List SqlType) where
   found_with : (ls : List Line) → list_all divides_by_literal ls ≡ true → (a : Answer) → is_division a.0 ≡ false → AsWell ls a
   found_with [] h a other is = absurd (cc)
   found_with (l ∷ ls) h a other is =
-      let parts = both_true (divides_by_literal l) (list_all divides_by_literal ls) h in
+      let parts = and_parts (divides_by_literal l) (list_all divides_by_literal ls) h in
       by (without_literal l parts.0) (found_with ls parts.1 a other)
     where
       off : (x : Option Answer) → Passes is_division x → AsWell ls a → option_or x (found_in ls f name ts true) ≡ Some a → found_in ls f name ts false ≡ Some a

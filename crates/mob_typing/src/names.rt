@@ -1,5 +1,5 @@
 //! The tables and the indexes that a script has made so far, by name and by number.
-ghost use Rattle.std.specs.Prelude.{◌≡◌, ◌∷◌, ◌++◌, [], false, length, OnOk, option_map};
+ghost use Rattle.std.specs.Prelude.{◌≡◌, ◌∷◌, ◌++◌, [], false, length, OnErr, OnOk, option_map};
 ghost use Rattle.mob_operators.specs.Table.{is_one_of};
 ghost use Rattle.mob_expression.specs.Names.{has_entry};
 ghost use Rattle.mob_typing.specs.Names.{table_of};
@@ -66,26 +66,28 @@ impl Names {
         self.indexes.contains(name)
     }
 
-    /// Adds a table of a new name behind the others.
+    /// Adds a table of a new name behind the others. Where memory is refused the names stay as they were.
     pub fn add_table(
         &mut self,
         alloc: Global,
         name: &str,
         columns: Columns,
     ) -> Result<(), AllocError>
-        requires { has_entry self.old.tables name.now ≡ false }
+        requires absent { has_entry self.old.tables name.now ≡ false }
         ensures last { OnOk result (self.new.tables ≡ self.old.tables ++ (name.now, columns) ∷ []) }
         ensures same_indexes { OnOk result (self.new.indexes ≡ self.old.indexes) }
+        ensures unchanged { OnErr result (self.new ≡ self.old) }
     {
         self.tables.insert(String::from_str(alloc, name)?, columns)?;
         Ok(())
     }
 
-    /// Adds an index of a new name behind the others.
+    /// Adds an index of a new name behind the others. Where memory is refused the names stay as they were.
     pub fn add_index(&mut self, alloc: Global, name: &str) -> Result<(), AllocError>
-        requires { is_one_of self.old.indexes name.now ≡ false }
+        requires absent { is_one_of self.old.indexes name.now ≡ false }
         ensures last { OnOk result (self.new.indexes ≡ self.old.indexes ++ name.now ∷ []) }
         ensures same_tables { OnOk result (self.new.tables ≡ self.old.tables) }
+        ensures unchanged { OnErr result (self.new ≡ self.old) }
     {
         self.indexes.insert(String::from_str(alloc, name)?)?;
         Ok(())

@@ -1,5 +1,6 @@
 -- The box that covers the boxes of all slices is that of the value.
 use Rattle.std.specs.Prelude.{◌≡◌, ◌≢◌, Bool, true, false, cond, refl, List, [], ◌∷◌, Option, Some, None, IfSome, MatchOption}
+use Rattle.std.proofs.lemmas.Bool.{and_from}
 use Rattle.std.specs.Prelude.{ℕ, ◌+◌, ◌<◌, length}
 use Rattle.std.proofs.Common.{drop, get_or}
 use Rattle.std.proofs.lemmas.List.{drop_more}
@@ -14,7 +15,7 @@ use Rattle.mob_ratio.proofs.Order.{before-self, before-back, false_unless}
 use Rattle.mob_span.specs.Span.{SpanOf, InSpan, has, has_instant}
 use Rattle.mob_span.specs.Neighbours.{is_inside}
 use Rattle.mob_span.proofs.Ends.{inside_exact}
-use Rattle.mob_span.proofs.Insides.{joined as both_true, clear_has}
+use Rattle.mob_span.proofs.Insides.{clear_has}
 use Rattle.mob_span.proofs.Shared.{AreAllClear, all_after}
 use Rattle.mob_span.proofs.SpanLemmas.{has_exact, has_upto_lower, has_upto_upper}
 use Rattle.mob_span.proofs.Touching.{upto_trans}
@@ -103,7 +104,7 @@ covered_whole b [] w = w
 covered_whole b (s ∷ rest) w = covered_whole (cover b (slice_box s)) rest (cover_whole b (slice_box s) w (slice_whole s))
 
 slice_is_box : (s : Slice PlaneLine) → IsSound start end s → is_box (slice_box s) ≡ true
-slice_is_box s sound = both_true (is_area (area_between s.course.from s.course.to)) (has_instant s.span) (between_is_area s.course.from s.course.to) sound.some
+slice_is_box s sound = and_from (is_area (area_between s.course.from s.course.to)) (has_instant s.span) (between_is_area s.course.from s.course.to) sound.some
 
 covered_is_box : (b : BoxOf) (slices : List (Slice PlaneLine)) → is_whole b ≡ true → is_box b ≡ true → is_box (covered b slices) ≡ true
 covered_is_box b [] w h = h
@@ -168,7 +169,7 @@ time_least s (Some r) i f = (inside_exact r s i).1 (λ t h. f t ((has_exact s t)
 
 slice_least : (s : Slice PlaneLine) (d : BoxOf) → IsSound start end s → ((t : Ratio) → has s.span t ≡ true → InBox d t (there s t)) → contains d (slice_box s) ≡ true
 unfolding contains
-slice_least s d sound f = both_true (lies_in area_over d.space (Some (area_between s.course.from s.course.to))) (lies_in is_inside d.time (Some s.span)) (space_least s d.space sound (λ t h. (f t h).in_space)) (time_least s.span d.time sound.some (λ t h. (f t h).in_time))
+slice_least s d sound f = and_from (lies_in area_over d.space (Some (area_between s.course.from s.course.to))) (lies_in is_inside d.time (Some s.span)) (space_least s d.space sound (λ t h. (f t h).in_space)) (time_least s.span d.time sound.some (λ t h. (f t h).in_time))
 
 -- ---- so each box with all positions contains the cover
 

@@ -70,8 +70,8 @@ number_values = record {
 }
 
 -- the values of a tint: a whole number
-abbrev pub is_whole : Ratio → Bool
-is_whole q = nat_eq q.den 1
+abbrev pub is_whole_number : Ratio → Bool
+is_whole_number q = nat_eq q.den 1
 
 -- the values of a ttext
 abbrev pub quoted_value : Language (Option Text)

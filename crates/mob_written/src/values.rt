@@ -58,7 +58,7 @@ pub struct WholeNumbers;
 impl WrittenValue for WholeNumbers {
     ghost use Rattle.mob_ratio.specs.Ratio.{Ratio};
     ghost use Rattle.mob_numeral.specs.Fitting.{number_value, number_value_at as number_in};
-    ghost use Rattle.mob_written.specs.Values.{is_whole, number_follows, number_values};
+    ghost use Rattle.mob_written.specs.Values.{is_whole_number, number_follows, number_values};
 
     type Base = Frac;
 
@@ -72,7 +72,7 @@ impl WrittenValue for WholeNumbers {
 
     ghost follows = { number_follows };
 
-    ghost has_value = { is_whole };
+    ghost has_value = { is_whole_number };
 
     fn value_at(alloc: Global, bytes: &[u8]) -> Result<Option<(Option<Frac>, &[u8])>, AllocError> {
         match number_value_at(bytes) {

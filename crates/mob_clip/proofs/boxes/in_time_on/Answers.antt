@@ -9,7 +9,7 @@ use Rattle.mob_slice.specs.Cut.{slice_parts, slice_value}
 use Rattle.mob_slice.specs.Lines.{plane_parts_of, plane_value_of}
 use Rattle.mob_slice.specs.PlaneLaws.{plane_laws}
 use Rattle.mob_slice.specs.Entries.{IsFirst}
-use Rattle.mob_cells.specs.Kept.{AreKept}
+use Rattle.mob_cells.specs.Kept.{AreKeptOn}
 use Rattle.mob_cells.specs.Restricted.{kept_value}
 use Rattle.mob_cells.proofs.OwnEnds.{own_fit}
 use Rattle.mob_stbox.specs.Boxes.{in_space}
@@ -48,7 +48,7 @@ returns c =
     let k = c.in-Ok-in_space_on.ensures.kept in
     record {
       kept = time_kept s c.requires.sound c.args.want c.args.time.now c.args.space.now (λ v. v.items) c.around.result c.in-Some.shared c.in-Ok-in_space_on.middle.items c.in-Some.ensures.ends c.in-Some.ensures.test c.in-Ok.ensures.slice.1
-          (subst (λ z. AreKept plane_value_of (λ q. q.from) (λ q. q.to) (λ t. kept_value c.args.want (in_space c.args.space.now (slice_value plane_value_of s t)) (slice_value plane_value_of s t)) z c.in-Ok-in_space_on.middle.items) on k.0)
+          (subst (λ z. AreKeptOn plane_value_of (λ q. q.from) (λ q. q.to) (λ t. kept_value c.args.want (in_space c.args.space.now (slice_value plane_value_of s t)) (slice_value plane_value_of s t)) z c.in-Ok-in_space_on.middle.items) on k.0)
           (subst (λ z. IsFirst (entries_of_space c.args.space.now s z) _) on k.1)
           c.around.ensures.around;
     }

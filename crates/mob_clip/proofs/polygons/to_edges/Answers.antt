@@ -1,5 +1,5 @@
 use Rattle.mob_slice.specs.Lines.{plane_continued}
-use Rattle.mob_cells.proofs.OwnEnds.{ordered}
+use Rattle.mob_slice.proofs.Orders.{ordered}
 use Rattle.mob_clip.proofs.polygons.to_edges.Goals as goal
 
 pub restricted-requires : goal.restricted-requires

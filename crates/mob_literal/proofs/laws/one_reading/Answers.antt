@@ -3,7 +3,7 @@ use Rattle.mob_ratio.specs.Order.{same}
 use Rattle.mob_ratio.proofs.Order.{same_exact}
 use Rattle.mob_slice.specs.Sameness.{same_bool, same_bool_exact, same_bytes, same_bytes_exact}
 use Rattle.mob_slice.specs.SteadyLaws.{steady_laws}
-use Rattle.mob_written.specs.Values.{any_value, is_whole, truth_values, number_values, quoted_values}
+use Rattle.mob_written.specs.Values.{any_value, is_whole_number, truth_values, number_values, quoted_values}
 use Rattle.mob_literal.proofs.OneReading.{one_reading}
 use Rattle.mob_literal.proofs.SqlReading.{one_sql_reading}
 use Rattle.mob_literal.proofs.laws.one_reading.Goals as goal
@@ -11,7 +11,7 @@ use Rattle.mob_literal.proofs.laws.one_reading.Goals as goal
 pub returns : goal.returns
 returns c = record {
   truths = λ day. one_reading day same_bool (steady_laws false same_bool same_bool_exact) truth_values false any_value;
-  numbers = λ day. one_reading day same (steady_laws false same same_exact) number_values false is_whole;
+  numbers = λ day. one_reading day same (steady_laws false same same_exact) number_values false is_whole_number;
   texts = λ day. one_reading day same_bytes (steady_laws false same_bytes same_bytes_exact) quoted_values false any_value;
   values = one_sql_reading;
 }

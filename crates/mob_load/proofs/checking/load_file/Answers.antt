@@ -3,7 +3,7 @@ use Rattle.std.specs.Prelude.{IfSome}
 use Rattle.mob_load.specs.Fronts.{IsFront}
 use Rattle.mob_load.specs.Loads.{LoadsFile, loaded_of}
 use Rattle.mob_load.proofs.Narrow.{ok_on}
-use Rattle.mob_load.proofs.Reading.{on_loads}
+use Rattle.mob_load.proofs.Reading.{bytes_read, on_loads}
 use Rattle.mob_load.proofs.Steps.{file_loads}
 use Rattle.mob_load.proofs.checking.load_file.Goals as goal
 
@@ -17,5 +17,5 @@ returns-in-Ok-clause-loads g c =
 
 pub returns-in-Ok-clause-reads : goal.returns-in-Ok-clause-reads
 returns-in-Ok-clause-reads g c =
-    ok_on c.load_bytes.result (λ h. (c.deref.result.now, h))
+    ok_on c.load_bytes.result (λ h. bytes_read c.args.epoch.now c.args.table c.args.name.now c.deref.result.now (loaded_of c.args.loading.now) (loaded_of c.load_bytes.new.loading) h)
     (on_loads (LoadsFile c.args.epoch.now c.args.table c.args.name.now (loaded_of c.args.loading.now) (Some c.deref.result.now)) c.load_bytes.result (loaded_of c.load_bytes.new.loading) c.load_bytes.ensures.loads)

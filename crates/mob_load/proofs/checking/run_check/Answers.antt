@@ -1,4 +1,4 @@
-use Rattle.std.proofs.Common.{◌≡◌}
+use Rattle.std.proofs.Common.{◌≡◌, [], Ok, ap}
 use Rattle.mob_load.specs.Checks.{file}
 use Rattle.mob_load.specs.Loads.{LoadsCheck, LoadsLiteral, LoadsTo, loaded_of, one_row}
 use Rattle.mob_load.proofs.Narrow.{made_narrow, ok_on, same_narrow}
@@ -32,15 +32,17 @@ returns-in-File-clause-loads g c =
 pub returns-in-Literal-clause-reads : goal.returns-in-Literal-clause-reads
 returns-in-Literal-clause-reads g c =
     rw c.in-Literal.is
-    (on_loads (LoadsLiteral c.args.epoch.now c.in-Literal.literal.now (loaded_of c.args.loading.now)) c.read_literal.result (loaded_of c.read_literal.new.loading) c.read_literal.ensures.read)
+    (ok_on c.read_literal.result (λ h. ([], h))
+    (on_loads (LoadsLiteral c.args.epoch.now c.in-Literal.literal.now (loaded_of c.args.loading.now)) c.read_literal.result (loaded_of c.read_literal.new.loading) c.read_literal.ensures.read))
 
 pub returns-in-Table-clause-reads : goal.returns-in-Table-clause-reads
-returns-in-Table-clause-reads g c = rw c.in-Table.is c.make_table.ensures.made
+returns-in-Table-clause-reads g c = rw c.in-Table.is (ok_on c.make_table.result (λ made. ([], ap Ok made)) c.make_table.ensures.made)
 
 pub returns-in-Room-clause-reads : goal.returns-in-Room-clause-reads
 returns-in-Room-clause-reads g c =
     rw c.in-Room.is
-    (on_loads (λ r. r ≡ one_row c.in-Room.table c.in-Room.statement c.in-Room.place (loaded_of c.args.loading.now)) c.take_row.result (loaded_of c.take_row.new.loading) c.take_row.ensures.row)
+    (ok_on c.take_row.result (λ h. ([], h))
+    (on_loads (λ r. r ≡ one_row c.in-Room.table c.in-Room.statement c.in-Room.place (loaded_of c.args.loading.now)) c.take_row.result (loaded_of c.take_row.new.loading) c.take_row.ensures.row))
 
 pub returns-in-File-clause-reads : goal.returns-in-File-clause-reads
 returns-in-File-clause-reads g c = rw c.in-File.is c.load_file.ensures.reads

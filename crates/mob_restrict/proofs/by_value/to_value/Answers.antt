@@ -1,4 +1,4 @@
-use Rattle.mob_cells.proofs.OwnEnds.{ordered}
+use Rattle.mob_slice.proofs.Orders.{ordered}
 use Rattle.mob_restrict.proofs.by_value.to_value.Goals as goal
 
 pub restricted-requires : goal.restricted-requires

@@ -17,5 +17,5 @@ returns-clause-kids c =
     ∙ mapped_sum f near new
     ∙ sum_by-IsPermutation (λ p. f (near p)) old new c.sort_unstable_by_key.ensures.permutation
     ∙ sym (mapped_sum f near old)
-    ∙ ap (sum_by f) c.in_ok-pairs.ensures)
-    c.unkeyed.ensures
+    ∙ ap (sum_by f) c.in_ok-pairs.ensures.kids)
+    c.unkeyed.ensures.kids

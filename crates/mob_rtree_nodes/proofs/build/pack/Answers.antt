@@ -41,7 +41,7 @@ returns-clause-forest c =
     let i = c.loop-kid.kid-index in
     let s = c.requires.some in
     let f = c.loop-kid-test.false in
-    let p = packing_close h old (take i c.args.kids.now) c.loop-kid.nodes.items c.loop-kid.above.items c.loop-kid.waiting.items c.close.new.nodes.items c.close.new.above.items (c.loop-kid.invariant.2 (omega (arith, s, f))) c.loop-kid.invariant.0 c.in_ok-close.ensures in
+    let p = packing_close h old (take i c.args.kids.now) c.loop-kid.nodes.items c.loop-kid.above.items c.loop-kid.waiting.items c.close.new.nodes.items c.close.new.above.items (c.loop-kid.invariant.2 (omega (arith, s, f))) c.loop-kid.invariant.0 c.in_ok-close.ensures.closed in
     let q = subst (λ came. IsPacking h old came c.close.new.nodes.items c.close.new.above.items []) (take_all i c.args.kids.now f) p in
     forest_up h c.args.kids.now old c.close.new.nodes.items c.close.new.above.items c.requires.forest q
 
@@ -52,7 +52,7 @@ returns-clause-entries c g =
     let i = c.loop-kid.kid-index in
     let s = c.requires.some in
     let f = c.loop-kid-test.false in
-    let p = packing_close h old (take i c.args.kids.now) c.loop-kid.nodes.items c.loop-kid.above.items c.loop-kid.waiting.items c.close.new.nodes.items c.close.new.above.items (c.loop-kid.invariant.2 (omega (arith, s, f))) c.loop-kid.invariant.0 c.in_ok-close.ensures in
+    let p = packing_close h old (take i c.args.kids.now) c.loop-kid.nodes.items c.loop-kid.above.items c.loop-kid.waiting.items c.close.new.nodes.items c.close.new.above.items (c.loop-kid.invariant.2 (omega (arith, s, f))) c.loop-kid.invariant.0 c.in_ok-close.ensures.closed in
     let q = subst (λ came. IsPacking h old came c.close.new.nodes.items c.close.new.above.items []) (take_all i c.args.kids.now f) p in
     omega (arith, q.entries g, leaf_nil g h)
 
@@ -64,5 +64,5 @@ returns-clause-fewer c =
     let e = c.loop-kid.auto.kid-index-end in
     let w = c.loop-kid.invariant.2 (omega (arith, s, f)) in
     let n = c.loop-kid.invariant.1 in
-    let l = ap (λ (l : List Kid). length l) c.in_ok-close.ensures.listed ∙ length-append c.loop-kid.above.items _ in
+    let l = ap (λ (l : List Kid). length l) c.in_ok-close.ensures.closed.listed ∙ length-append c.loop-kid.above.items _ in
     (omega (arith, l), omega (arith, l, e, w, n))

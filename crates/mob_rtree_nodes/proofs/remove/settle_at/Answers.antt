@@ -28,7 +28,7 @@ returns-in-Emptied-clause-free c =
     let is = c.index_mut-part.ensures.value in
     let s = c.requires.slot in
     let live : 0 < length p.kids.items = omega (arith, s, ap (λ (l : List Kid). length l) (kids_of old n p c.requires.there is)) in
-    free_drop c.args.free.now.items c.push_reserved.new.self.items old n p c.settle-left.new.part c.requires.there is live c.in-Emptied.ensures.told c.push_reserved.ensures.items c.requires.free
+    free_drop c.args.free.now.items c.push_reserved.new.self.items old n p c.settle-left.new.part c.requires.there is live c.in-Emptied.ensures.settled.told c.push_reserved.ensures.items c.requires.free
 
 pub returns-in-Narrowed-clause-free : goal.returns-in-Narrowed-clause-free
 returns-in-Narrowed-clause-free c =
@@ -38,7 +38,7 @@ returns-in-Narrowed-clause-free c =
     let is = c.index_mut-part.ensures.value in
     let s = c.requires.slot in
     let live : 0 < length p.kids.items = omega (arith, s, ap (λ (l : List Kid). length l) (kids_of old n p c.requires.there is)) in
-    free_set c.args.free.now.items old n p c.settle-left.new.part c.requires.there is live c.in-Narrowed.ensures.told.1 c.requires.free
+    free_set c.args.free.now.items old n p c.settle-left.new.part c.requires.there is live c.in-Narrowed.ensures.settled.told.1 c.requires.free
 
 pub returns-in-Missing-clause-free : goal.returns-in-Missing-clause-free
-returns-in-Missing-clause-free c = absurd c.in-Missing.ensures.told
+returns-in-Missing-clause-free c = absurd c.in-Missing.ensures.settled.told

@@ -17,13 +17,15 @@ returns c =
     let p = c.args.part.now in
     let part : TreeNode = record { area = c.cover_all-part.result; height = p.height; kids = c.remove.new.self } in
     record {
-      height = refl;
-      sound = record {
-        whole = c.cover_all-part.ensures.whole;
-        over = subst (λ l. All (λ k. contains c.cover_all-part.result k.0 ≡ true) l) c.as_slice.ensures.value c.cover_all-part.ensures.over;
-        least = λ live. subst (λ l. IsLeastOver c.cover_all-part.result l) c.as_slice.ensures.value c.cover_all-part.ensures.least;
-        fit = none_out (is_fit p.height) c.remove.new.self.items p.kids.items c.args.slot c.remove.result c.remove.ensures.items c.requires.slot c.requires.sound.fit;
+      settled = record {
+        height = refl;
+        sound = record {
+          whole = c.cover_all-part.ensures.whole;
+          over = subst (λ l. All (λ k. contains c.cover_all-part.result k.0 ≡ true) l) c.as_slice.ensures.value c.cover_all-part.ensures.over;
+          least = λ live. subst (λ l. IsLeastOver c.cover_all-part.result l) c.as_slice.ensures.value c.cover_all-part.ensures.least;
+          fit = none_out (is_fit p.height) c.remove.new.self.items p.kids.items c.args.slot c.remove.result c.remove.ensures.items c.requires.slot c.requires.sound.fit;
+        };
+        kids = kids_without p part c.args.slot c.requires.slot c.remove.ensures.items;
+        told = (refl, some_left (length c.remove.new.self.items) (sym c.is_empty.ensures ∙ c.if-is_empty.false));
       };
-      kids = kids_without p part c.args.slot c.requires.slot c.remove.ensures.items;
-      told = (refl, some_left (length c.remove.new.self.items) (sym c.is_empty.ensures ∙ c.if-is_empty.false));
     }

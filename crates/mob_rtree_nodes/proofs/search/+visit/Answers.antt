@@ -16,7 +16,7 @@ pub visit-requires : goal.visit-requires
 visit-requires g t c κs within =
     let d = down c.requires.tree.0 c.args.nodes.now c.requires.tree.1 c.args.node c.loop-kid.kid-index c.index-nodes-node.result c.as_slice-kid-items.result.now c.kid-item.result c.requires.there c.index-nodes-node.is c.as_slice-kid-items.ensures.value c.loop-kid-test.true c.kid-item.is c.if-part-eq0.false in
     let e = c.decreases in
-    let n = c.number-number.ensures in
+    let n = c.number-number.ensures.target in
     let hn = ap (height_at c.args.nodes.now) n in
     (omega (arith, d.1, d.2, e, hn), (within, (c.requires.tree, omega (arith, d.0, n))))
 
@@ -26,7 +26,7 @@ returns-in_err-visit-clause-cost g t c =
     let test = c.loop-kid-test.true in
     let d = down c.requires.tree.0 c.args.nodes.now c.requires.tree.1 c.args.node c.loop-kid.kid-index c.index-nodes-node.result c.as_slice-kid-items.result.now c.kid-item.result c.requires.there c.index-nodes-node.is c.as_slice-kid-items.ensures.value c.loop-kid-test.true c.kid-item.is c.if-part-eq0.false in
     let s = step_down (λ b. overlaps b c.args.q.now) 1 (λ _. 0) c.args.nodes.now c.index-nodes-node.result.height _ c.kid-item.result d.1 (sym c.overlaps.ensures.test ∙ c.if-overlaps.true) in
-    let same = ap (λ n. walk_sum (λ b. overlaps b c.args.q.now) 1 (λ _. 0) c.args.nodes.now (height_at c.args.nodes.now n) n) c.number-number.ensures in
+    let same = ap (λ n. walk_sum (λ b. overlaps b c.args.q.now) 1 (λ _. 0) c.args.nodes.now (height_at c.args.nodes.now n) n) c.number-number.ensures.target in
     let b = cost_more (λ b. overlaps b c.args.q.now) c.args.nodes.now c.index-nodes-node.result.height c.as_slice-kid-items.result.now c.loop-kid.kid-index c.kid-item.result c.kid-item.is test [] [] c.args.steps.now c.loop-kid.steps c.visit.new.steps c.loop-kid.invariant.1 (omega (arith, c.tick.ensures.counted, c.visit.ensures.cost, s, same)) in
     cost_all (λ b. overlaps b c.args.q.now) c.args.nodes.now c.args.node (c.loop-kid.kid-index + 1) c.index-nodes-node.result c.as_slice-kid-items.result.now c.args.steps.now c.visit.new.steps c.requires.there c.index-nodes-node.is c.as_slice-kid-items.ensures.value (omega (arith, fits, test)) b
 
@@ -44,15 +44,15 @@ loop-kid-preserved g t c =
     let k = c.kid-item.result in
     elim c.if-overlaps.branch [
       | then-overlaps+then-part-eq0+in_ok-push w ↦ (
-        found_leaf q ps h kids i c.kid-item.result c.kid-item.is test c.args.into.now.items c.loop-kid.into.items c.if-overlaps.into.items c.loop-kid.invariant.0 (ap (λ v. v.items) w.into-is ∙ w.in_ok-push.ensures.items ∙ ap (λ n. c.loop-kid.into.items ++ n ∷ []) c.number-number.ensures) w.if-part-eq0.true (sym c.overlaps.ensures.test ∙ w.if-overlaps.true),
+        found_leaf q ps h kids i c.kid-item.result c.kid-item.is test c.args.into.now.items c.loop-kid.into.items c.if-overlaps.into.items c.loop-kid.invariant.0 (ap (λ v. v.items) w.into-is ∙ w.in_ok-push.ensures.items ∙ ap (λ n. c.loop-kid.into.items ++ n ∷ []) c.number-number.ensures.target) w.if-part-eq0.true (sym c.overlaps.ensures.test ∙ w.if-overlaps.true),
         cost_more q ps h kids i c.kid-item.result c.kid-item.is test [] [] c.args.steps.now c.loop-kid.steps c.if-overlaps.steps c.loop-kid.invariant.1 (omega (arith, w.steps-is, c.tick.ensures.counted)),
       )
       | then-overlaps+else-part-eq0+in_ok-visit w ↦
           let d = down c.requires.tree.0 ps c.requires.tree.1 c.args.node i c.index-nodes-node.result kids c.kid-item.result c.requires.there c.index-nodes-node.is c.as_slice-kid-items.ensures.value test c.kid-item.is w.if-part-eq0.false in
           let s = step_down q 1 (λ _. 0) ps h (height_at ps (target k.1)) k d.1 (sym c.overlaps.ensures.test ∙ w.if-overlaps.true) in
-          let same = ap (λ n. walk_sum q 1 (λ _. 0) ps (height_at ps n) n) c.number-number.ensures in
+          let same = ap (λ n. walk_sum q 1 (λ _. 0) ps (height_at ps n) n) c.number-number.ensures.target in
           let f = w.in_ok-visit.ensures.found in (
-            found_down q ps h kids i c.kid-item.result c.kid-item.is test c.args.into.now.items c.loop-kid.into.items c.if-overlaps.into.items c.loop-kid.invariant.0 d.1 (sym c.overlaps.ensures.test ∙ w.if-overlaps.true) (f.0, ap (λ v. v.items) w.into-is ∙ f.1, λ e. f.2 e ∙ ap (λ n. walk_sum q 0 (λ x. e x.1) ps (height_at ps n) n) c.number-number.ensures),
+            found_down q ps h kids i c.kid-item.result c.kid-item.is test c.args.into.now.items c.loop-kid.into.items c.if-overlaps.into.items c.loop-kid.invariant.0 d.1 (sym c.overlaps.ensures.test ∙ w.if-overlaps.true) (f.0, ap (λ v. v.items) w.into-is ∙ f.1, λ e. f.2 e ∙ ap (λ n. walk_sum q 0 (λ x. e x.1) ps (height_at ps n) n) c.number-number.ensures.target),
             cost_more q ps h kids i c.kid-item.result c.kid-item.is test [] [] c.args.steps.now c.loop-kid.steps c.if-overlaps.steps c.loop-kid.invariant.1 (omega (arith, w.steps-is, c.tick.ensures.counted, w.in_ok-visit.ensures.cost, s, same)),
           )
       | else-overlaps w ↦ (

@@ -4,7 +4,7 @@ use Rattle.mob_rtree_nodes.specs.Reach.{is_root, is_child, children}
 use Rattle.mob_rtree_rows.proofs.walked.children_below.Goals as goal
 
 pub part-requires : goal.part-requires
-part-requires c = is_root (sym c.in-Some.ensures.is)
+part-requires c = record { reached = (0, is_root (sym c.in-Some.ensures.is)) }
 
 pub part-requires-in-Node : goal.part-requires-in-Node
 part-requires-in-Node c =
@@ -12,4 +12,4 @@ part-requires-in-Node c =
     let e = c.part.ensures.children in
     let at = c.index-part-0.is ∙ ap (λ l. get_or l 0 k) e in
     let n = ap (λ t. (k.0, t)) c.in-Node.is in
-    is_child {i = 0} {b = k.0} (is_root (sym c.in-Some.ensures.is)) c.part.ensures.spread.some (subst (λ (x : Kid). x ≡ get_or (children c.args.tree.now.nodes c.in-Some.root) 0 x) n at)
+    record { reached = (1, is_child {i = 0} {b = k.0} (is_root (sym c.in-Some.ensures.is)) c.part.ensures.spread.some (subst (λ (x : Kid). x ≡ get_or (children c.args.tree.now.nodes c.in-Some.root) 0 x) n at)) }

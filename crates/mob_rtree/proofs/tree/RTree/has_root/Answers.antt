@@ -2,6 +2,8 @@ use Rattle.std.proofs.Common.{◌≡◌, subst}
 use Rattle.std.specs.Prelude.{All}
 use Rattle.mob_rtree.specs.Shape.{Shape, HasLeastBox, boxes_of}
 use Rattle.mob_rtree_nodes.specs.Tree.{ref}
+use Rattle.mob_rtree_nodes.specs.Reach.{HaveOneDepth}
+use Rattle.mob_rtree_nodes.proofs.Reaches.{leaves_level}
 use Rattle.mob_rtree.proofs.Shapes.{boxes_least, areas_are}
 use Rattle.mob_rtree.proofs.tree.RTree.has_root.Goals as goal
 
@@ -10,3 +12,6 @@ returns-clause-areas c = subst (λ (s : Shape). s.areas ≡ boxes_of s.nodes) c.
 
 pub returns-clause-least : goal.returns-clause-least
 returns-clause-least c = subst (λ (s : Shape). All HasLeastBox s.nodes) c.self.view_is (boxes_least (ref c.self.inside.root) c.self.inside.nodes.items c.self.invariant.0)
+
+pub returns-clause-depth : goal.returns-clause-depth
+returns-clause-depth c = subst (λ (s : Shape). HaveOneDepth s.nodes s.root) c.self.view_is (leaves_level (ref c.self.inside.root) c.self.inside.nodes.items c.self.invariant.0)

@@ -1,7 +1,7 @@
 use Rattle.std.proofs.Common.{refl}
-use Rattle.mob_span.proofs.Insides.{joined}
+use Rattle.std.proofs.lemmas.Bool.{and_from}
 use Rattle.mob_stbox.proofs.BoxLaws.{point_is_area}
 use Rattle.mob_stbox.proofs.stbox.StBoxDefault.default.Goals as goal
 
 pub invariant_of-result : goal.invariant_of-result
-invariant_of-result c = joined _ _ (point_is_area _ _) refl
+invariant_of-result c = and_from _ _ (point_is_area _ _) refl

@@ -4,4 +4,4 @@ use Rattle.std.proofs.Common.{sym, ap}
 use Rattle.mob_typing.proofs.names.Names.add_index.Goals as goal
 
 pub returns-clause-last : goal.returns-clause-last
-returns-clause-last c = name_last _ _ _ _ _ (ap (λ (n : NameLists). n.indexes) (sym c.self.view_is)) c.in_ok-from_str.ensures.ok c.requires c.in_ok-insert.ensures.keys
+returns-clause-last c = name_last _ _ _ _ _ (ap (λ (n : NameLists). n.indexes) (sym c.self.view_is)) c.in_ok-from_str.ensures.ok c.requires.absent c.in_ok-insert.ensures.keys

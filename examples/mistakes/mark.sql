@@ -1,0 +1,2 @@
+﻿-- The script begins with a byte order mark.
+SELECT 1;

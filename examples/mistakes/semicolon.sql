@@ -1,0 +1,3 @@
+-- There is no semicolon behind the first statement.
+CREATE TABLE gates (name text, open tbool)
+COPY gates FROM 'gates.csv' WITH (FORMAT csv, HEADER);

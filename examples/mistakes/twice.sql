@@ -1,0 +1,3 @@
+-- The ship tells two places at one second.
+CREATE TABLE ships (ship text, trip tgeompoint);
+COPY ships FROM 'twice.csv' WITH (FORMAT csv, HEADER);
