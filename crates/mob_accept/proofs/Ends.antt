@@ -13,7 +13,7 @@ use Rattle.mob_grammar.specs.Cuts.{ends_among, StandsBehind}
 use Rattle.mob_lexemes.specs.Lexed.{symbol_at, before_lexed, lexed}
 use Rattle.mob_parse.specs.Refusals.{place_of}
 use Rattle.mob_typed.specs.Written.{Rises}
-use Rattle.mob_typed.proofs.Rising.{each_on, one_of}
+use Rattle.mob_list.proofs.Each.{each_on, one_of}
 use Rattle.mob_accept.proofs.Within.{ends_later}
 use Rattle.mob_accept.specs.Numbers.{tokens_in, symbols_before, statement_number}
 

@@ -6,7 +6,8 @@ use Rattle.mob_typed.specs.declared.typed.ConstText.{ConstText}
 use Rattle.mob_typed.specs.Statements.{ScriptOut}
 use Rattle.mob_typing.specs.Names.{NameLists}
 use Rattle.mob_typed.specs.Written.{HasRisingRows, LiteralUpTo, Rises}
-use Rattle.mob_typed.proofs.Rising.{both_rise, each_both, each_on}
+use Rattle.mob_list.proofs.Each.{each_both, each_on}
+use Rattle.mob_typed.proofs.Rising.{both_rise}
 use Rattle.mob_typing.proofs.Walk.{Belongs, places_of}
 use Rattle.mob_typing.proofs.WalkedScripts.{AreMade, none_made, one_made, script_made}
 use Rattle.mob_grammar.specs.Places.{statement_places, script_places}

@@ -18,7 +18,7 @@ use Rattle.mob_typed.specs.declared.typed.ConstText.{ConstText}
 use Rattle.mob_typed.specs.Statements.{ScriptOut}
 use Rattle.mob_typing.specs.Names.{NameLists}
 use Rattle.mob_accept.specs.Numbers.{statement_number, AreIn, TreesAreIn, RowsAreIn, TreesAreNumbered, TypingKeepsNumbers, TextIsNumbered, OperatorsAreNumbered, TypingRefusesInside, WrongNamesAreHeld, WrongNamesAreNumbered, WrongTokensAreNumbered}
-use Rattle.mob_typed.proofs.Rising.{each_both, each_on}
+use Rattle.mob_list.proofs.Each.{each_both, each_on}
 use Rattle.mob_typing.proofs.Walk.{Belongs, places_of}
 use Rattle.mob_typing.proofs.WalkedScripts.{AreMade, none_made, one_made, HoldPlaces, script_made, script_made_at, script_stops_inside, operators_stand, typing_refuses_what_is_held}
 use Rattle.mob_accept.proofs.Ends.{behind_is, place_behind}

@@ -7,7 +7,7 @@ use Rattle.mob_chars.specs.Layout.{InOrder}
 use Rattle.mob_chars.proofs.Along.{are_in_order}
 use Rattle.mob_parse.proofs.Places.{stands_in_text}
 use Rattle.mob_accept.specs.Written.{AreWritten, TreesRise}
-use Rattle.mob_typed.proofs.Rising.{each_on}
+use Rattle.mob_list.proofs.Each.{each_on}
 use Rattle.mob_accept.proofs.InOrder.{Rising, typing_keeps_order}
 use Rattle.mob_accept.proofs.OnParts.{rises_within}
 

@@ -44,8 +44,9 @@ fn steps_of<A: Course, B: Course, O: Operation<A::Base, B::Base>>(
         alloc,
         Pieces::new(a, b),
         |piece: &Piece<'_, A, B>| -> Result<Vec<Slice<Steady<O::Value>>>, OpFault>
-            requires { (A.STEADY ≡ true) × (B.STEADY ≡ true) }
-            ensures { IsGiven steady_value steady_limit steady_limit (λ v. v.items) (on_sides A.value_of B.value_of O.result_of (piece_of piece.now)) piece.now.span [] result }
+            requires left { A.STEADY ≡ true }
+            requires right { B.STEADY ≡ true }
+            ensures given { IsGiven steady_value steady_limit steady_limit (λ v. v.items) (on_sides A.value_of B.value_of O.result_of (piece_of piece.now)) piece.now.span [] result }
         { on_steps::<A, B, O>(alloc, piece) },
     )
 }

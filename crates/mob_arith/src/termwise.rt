@@ -192,8 +192,8 @@ where
         alloc,
         Pieces::new(a, b),
         |piece: &Piece<'_, A, B>| -> Result<Vec<Slice<D>>, OpFault>
-            requires { HoldsPiece A.start_of A.end_of B.start_of B.end_of (piece_of piece.now) }
-            ensures { IsGiven D.value_of D.start_of D.end_of (λ v. v.items) (on_sides A.value_of B.value_of O.op (piece_of piece.now)) piece.now.span (entries_at_ends A.value_of A.parts_of B.value_of B.parts_of O.parts (piece_of piece.now)) result }
+            requires holds { HoldsPiece A.start_of A.end_of B.start_of B.end_of (piece_of piece.now) }
+            ensures given { IsGiven D.value_of D.start_of D.end_of (λ v. v.items) (on_sides A.value_of B.value_of O.op (piece_of piece.now)) piece.now.span (entries_at_ends A.value_of A.parts_of B.value_of B.parts_of O.parts (piece_of piece.now)) result }
         { on_piece::<A, B, D, O>(alloc, piece) },
     )
 }

@@ -1,5 +1,5 @@
 -- What the indexes of a catalogue hold, as it grows.
-use Rattle.std.proofs.Common.{◌≡◌, ◌∙◌, refl, sym, ap, subst, ℕ, zero, suc, arith, ◌+◌, ◌<◌, ◌==◌, length, List, [], ◌∷◌, ◌++◌, Bool, true, false, Option, Some, None, slice_get, get_or, take, sum_by, option_map}
+use Rattle.std.proofs.Common.{◌≡◌, ◌∙◌, refl, sym, ap, subst, ℕ, zero, suc, arith, ◌+◌, ◌<◌, ◌==◌, length, List, [], ◌∷◌, ◌++◌, Bool, true, false, Option, Some, None, slice_get, get_or, take, sum_by}
 use Rattle.std.specs.Prelude.{All, IfSome, option_and_then}
 use Rattle.std.specs.List.{AllByRecursion, AllZip}
 use Rattle.std.proofs.lemmas.Bool.{eqb-true, eqb-false}
@@ -11,7 +11,7 @@ use Rattle.mob_rtree_nodes.specs.Tree.{AreSame, EntryOf, IsAdded}
 use Rattle.mob_value.specs.declared.value.Value.{Value}
 use Rattle.mob_value.specs.declared.value.Value.TheVariants.{MovingPoint}
 use Rattle.mob_value.specs.declared.store.Table.{Table}
-use Rattle.mob_typed.proofs.Rising.{each_on}
+use Rattle.mob_list.proofs.Each.{each_on}
 use Rattle.mob_catalog.specs.declared.catalog.TableHead.{TableHead}
 use Rattle.mob_catalog.specs.declared.indexes.TableIndex.{TableIndex}
 use Rattle.mob_catalog.specs.TableFile.{Column}

@@ -7,7 +7,7 @@ use Rattle.mob_value.specs.declared.value.Value.{Value}
 use Rattle.mob_value.specs.declared.store.Table.{Table}
 use Rattle.mob_typed.specs.Statements.{ColumnList}
 use Rattle.mob_typed.specs.Written.{Rises}
-use Rattle.mob_typed.proofs.Rising.{each_both, each_on}
+use Rattle.mob_list.proofs.Each.{each_both, each_on}
 use Rattle.mob_catalog.specs.Catalogue.{Catalogue, live_of, with_empty_table, with_changed, with_index_on, rows_put, table_columns, with_last_row, with_live_row, with_row}
 use Rattle.mob_catalog.specs.OwnTypes.{HasColumnTypes}
 use Rattle.mob_catalog.specs.TypedTables.{HoldsLiveRows, HoldsTypedRows, IsOnWays, Stores, TypesStay, head_columns}

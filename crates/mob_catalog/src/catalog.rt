@@ -63,7 +63,7 @@ fn next_number(tables: &[Table], table: u32) -> Result<u32, AllocError>
     }
 }
 
-// Makes room for more items behind those of a list.
+// Makes room for more items behind those of a list. The list is seen as its items alone, so no clause tells of the room.
 fn make_room<T>(alloc: Global, items: &mut Items<T>, more: usize) -> Result<(), AllocError>
 where
     T: Drop,
@@ -276,7 +276,8 @@ impl Catalog {
     }
 
     /// Makes room at once for this many more rows of the table with this number, so that those of a whole file take no more memory than
-    /// they need; a table that is not there gets none. The catalogue stays as it was.
+    /// they need; a table that is not there gets none. The catalogue stays as it was: the room is no part of what is seen of it, no clause
+    /// tells of it, and `add_row` may still be refused memory.
     pub fn reserve_rows(&mut self, table: u32, more: usize) -> Result<(), AllocError>
         ensures same { self.new ≡ self.old }
     {

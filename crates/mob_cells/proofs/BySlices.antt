@@ -1,7 +1,7 @@
 -- A restriction, slice by slice.
 use Rattle.std.specs.Prelude.{◌≡◌, Bool, true, false, cond, ℕ, zero, suc, slice_get, List, [], ◌∷◌, ◌++◌, Option, Some, None, MatchOption, refl}
 use Rattle.std.specs.List.{flat_map}
-use Rattle.std.proofs.Common.{sym, ◌∙◌, subst, append_assoc, append-nil, inl, inr}
+use Rattle.std.proofs.Common.{sym, ◌∙◌, subst, append_assoc, append-nil}
 use Rattle.mob_ratio.specs.Ratio.{Ratio}
 use Rattle.mob_span.specs.Span.{has}
 use Rattle.mob_slice.specs.Slices.{value_at, IsOrdered, IsSound, IsClearOf, OfHead}
@@ -16,20 +16,10 @@ use Rattle.mob_slice.specs.declared.formula.OpFault.TheVariants.{Passed, NoMemor
 use Rattle.mob_cells.specs.Kept.{AreKeptOn}
 use Rattle.mob_cells.specs.Restricted.{kept_value}
 use Rattle.mob_cells.specs.Restricted.{where_wanted, AreRestricted}
-use Rattle.mob_cells.proofs.Joining.{LiftsTo, IsLifted, is_lifted}
-
-none_some : {A : Type 0} {R : Type 0} (x : A) → None ≡ Some x → R
-none_some x e = cc
-
--- entries that all fit, before others
-pub first_joined : (xs ys : List Entry) (r : Option Formula) → IsFirst xs None → IsFirst ys r → IsFirst (xs ++ ys) r
-first_joined [] ys r h k = k
-first_joined (e ∷ xs) ys r h k = elim h [ inl m ↦ inl (m.0, first_joined xs ys r m.1 k) | inr m ↦ none_some e.formula m.1 ]
-
--- what follows the first that does not fit is nothing to it
-pub first_front : (xs ys : List Entry) (f : Formula) → IsFirst xs (Some f) → IsFirst (xs ++ ys) (Some f)
-first_front [] ys f h = none_some f (sym h)
-first_front (e ∷ xs) ys f h = elim h [ inl m ↦ inl (m.0, first_front xs ys f m.1) | inr m ↦ inr m ]
+use Rattle.mob_lifted.specs.Lifted.{LiftsTo, IsLifted}
+use Rattle.mob_lifted.proofs.Making.{is_lifted}
+use Rattle.mob_lifted.proofs.Options.{none_some, same_some}
+use Rattle.mob_lifted.proofs.Firsts.{first_joined, first_front}
 
 module _ {C B : Type 0} (value : C → Ratio → Ratio → Ratio → B) (start end : C → B) (want : Bool) (holds : Ratio → B → Bool) where
   abbrev pub GivesSlice : Slice C → List (Slice C) → Type 0
@@ -80,9 +70,6 @@ module _ {A : Type 0} (entries : A → List Entry) where
 
   pub fitting_end : (all rest : List A) → rest ≡ [] → IsFitting entries all rest → IsFirst (flat_map entries all) None
   fitting_end all rest e m = m.pass None (rw e refl)
-
-same_some : {A : Type 0} {x y : A} → Some x ≡ Some y → x ≡ y
-same_some e = cc
 
 pub sound_at : {C B : Type 0} (start end : C → B) (v : List (Slice C)) (i : ℕ) (s : Slice C) → IsOrdered start end v → slice_get v i ≡ Some s → IsSound start end s
 sound_at start end [] i s h e = none_some s e

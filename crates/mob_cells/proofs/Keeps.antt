@@ -1,7 +1,7 @@
 -- On a cell a line keeps its sign.
 use Rattle.std.specs.Prelude.{◌≡◌, Bool, true, false, not, ◌&&◌, ◌||◌, refl}
 use Rattle.std.proofs.lemmas.Bool.{and_parts}
-use Rattle.std.proofs.Common.{arith, sym, true≢false}
+use Rattle.std.proofs.Common.{arith}
 use Rattle.mob_ratio.specs.Ratio.{Ratio}
 use Rattle.mob_ratio.specs.Order.{before, up_to}
 use Rattle.mob_ratio.specs.Line.{line_at}

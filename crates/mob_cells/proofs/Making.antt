@@ -6,6 +6,7 @@ use Rattle.std.proofs.Common.{arith, ap, sym, ◌∙◌, subst, true≢false, in
 use Rattle.std.proofs.lemmas.Option.{slice_get_read}
 use Rattle.std.proofs.lemmas.List.Concat.{flat_map-append}
 use Rattle.std.specs.declared.cmp.Ordering.{Ordering}
+use Rattle.mob_list.proofs.Each.{each_both}
 use Rattle.mob_ratio.specs.Ratio.{Ratio}
 use Rattle.mob_ratio.specs.Order.{before}
 use Rattle.mob_ratio.specs.Sign.{opposite, root_at, sign_of}
@@ -20,6 +21,7 @@ use Rattle.mob_cells.specs.declared.linear.Ends.{Ends}
 use Rattle.mob_cells.specs.declared.signs.Placed.{Placed}
 use Rattle.mob_cells.specs.Roots.{IsLevel, root_parts, root_of, roots, roots_parts, as_list, function_at}
 use Rattle.mob_cells.specs.Cells.{AreCells, AreCutAt, IsSomeEnd, IsCut, AreSplit, IsPlaced, IsApart, AreSigned, functions_of, cut_at, split_at, start_cells, until, instant_span, beyond, NoneWithin, is_cell, is_cell_of, placed_sign, signs_of}
+use Rattle.mob_lifted.proofs.Options.{none_some, same_some}
 use Rattle.mob_cells.proofs.Splits.{split_are, split_out, split_self, start_are}
 use Rattle.mob_cells.proofs.Keeps.{kept}
 use Rattle.mob_cells.proofs.Zeros.{root_inside}
@@ -146,19 +148,13 @@ pub level_next : (s : SpanOf) (fs rest later : List Ends) (f : Ends) (cells : Li
 level_next s fs rest later f cells placed e m = (subst (λ z. AllByRecursion (IsLevel s) z) e m.level).0
 
 -- ---- the sign of a function on a cell
-none_some : {A : Type 0} {x : A} → None ≡ Some x → ⊥
-none_some e = cc
-
-same_some : {A : Type 0} {x y : A} → Some x ≡ Some y → x ≡ y
-same_some e = cc
-
 pub each_get : {A : Type 0} (P : A → Type 0) (xs : List A) (i : ℕ) (x : A) → AllByRecursion P xs → slice_get xs i ≡ Some x → P x
-each_get P [] i x h e = absurd (none_some e)
+each_get P [] i x h e = none_some x e
 each_get P (y ∷ xs) zero x h e = subst P (same_some e) h.0
 each_get P (y ∷ xs) (suc i) x h e = each_get P xs i x h.1 e
 
 pub get_ends : (ps : List Placed) (i : ℕ) (p : Placed) → slice_get ps i ≡ Some p → slice_get (functions_of ps) i ≡ Some p.ends
-get_ends [] i p e = absurd (none_some e)
+get_ends [] i p e = none_some p e
 get_ends (q ∷ ps) zero p e = ap (λ (z : Placed). Some z.ends) (same_some e)
 get_ends (q ∷ ps) (suc i) p e = get_ends ps i p e
 
@@ -223,10 +219,6 @@ some_end r (c ∷ cells) n h = by (has c r) refl h (λ k. some_end r cells n.1 k
 root_ends : (s : SpanOf) (cells : List SpanOf) (f : Ends) → AreSplit s cells → IsLevel s f → (o : Bool) → opposite f.at_lower f.at_upper ≡ o → MatchOption (cond o (Some (root_at f.at_lower f.at_upper s.lower s.upper)) None) (Unit {0}) (λ r. AllByRecursion (NoneWithin r) cells) → AllByRecursion (λ r. IsSomeEnd r cells) (as_list (cond o (Some (root_at f.at_lower f.at_upper s.lower s.upper)) None))
 root_ends s cells f a l true e m = (some_end (root_at f.at_lower f.at_upper s.lower s.upper) cells m (a.covers (root_at f.at_lower f.at_upper s.lower s.upper) ∙ root_inside s f l e), tt)
 root_ends s cells f a l false e m = tt
-
-pub each_both : {A : Type 0} (P : A → Type 0) (xs ys : List A) → AllByRecursion P xs → AllByRecursion P ys → AllByRecursion P (xs ++ ys)
-each_both P [] ys h k = k
-each_both P (x ∷ xs) ys h k = (h.0, each_both P xs ys h.1 k)
 
 all_ends : (s : SpanOf) (cells : List SpanOf) (ps : List Placed) → AreSplit s cells → AllByRecursion (IsPlaced s) ps → AllByRecursion (IsApart cells) ps → AllByRecursion (λ r. IsSomeEnd r cells) (roots s (functions_of ps))
 all_ends s cells [] a h k = tt

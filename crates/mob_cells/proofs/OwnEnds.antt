@@ -1,5 +1,5 @@
 -- A slice at the ends of its own span, and what is kept with the same values.
-use Rattle.std.specs.Prelude.{◌≡◌, Bool, true, false, List, [], ◌∷◌, Option, Some, None, Result, Ok, Err, refl}
+use Rattle.std.specs.Prelude.{◌≡◌, Bool, true, false, List, [], Option, Some, None, Result, Ok, Err, refl}
 use Rattle.std.proofs.Common.{arith, ap, sym, ◌∙◌}
 use Rattle.mob_ratio.specs.Ratio.{Ratio}
 use Rattle.mob_ratio.specs.Order.{before}
@@ -8,7 +8,7 @@ use Rattle.mob_frac.specs.Formula.{AllFit}
 use Rattle.mob_span.specs.Span.{SpanOf, has}
 use Rattle.mob_span.proofs.SpanLemmas.{some_upto}
 use Rattle.mob_slice.specs.Course.{IsCourse}
-use Rattle.mob_slice.specs.Slices.{IsSound, IsOrdered, AreNormal, IsNormalPair, OfHead, IsClearOf}
+use Rattle.mob_slice.specs.Slices.{IsSound}
 use Rattle.mob_slice.specs.Sides.{at_ends}
 use Rattle.mob_slice.specs.Cut.{slice_value, slice_parts}
 use Rattle.mob_slice.specs.Entries.{Entry, IsFirst}

@@ -32,7 +32,9 @@ use Rattle.mob_cells.specs.Cells.{AreCells, AreCutAt, IsCut, IsSomeEnd}
 use Rattle.mob_cells.specs.Kept.{AreKeptOn, IsCellFault}
 use Rattle.mob_cells.specs.Restricted.{kept_value, is_wanted}
 use Rattle.mob_slice.specs.Entries.{operator_fault}
-use Rattle.mob_cells.proofs.Joining.{LiftsTo, IsLifted, is_lifted}
+use Rattle.mob_lifted.specs.Lifted.{LiftsTo, IsLifted}
+use Rattle.mob_lifted.proofs.Making.{is_lifted}
+use Rattle.mob_lifted.proofs.Options.{none_some}
 use Rattle.mob_cells.proofs.Making.{each_get}
 
 -- ---- one cell
@@ -179,14 +181,8 @@ kept_fault parts all NoMemory h g = tt
 pub roots_first : {V : Type 0} (Q : V → Type 0) (e : Entry) (entries : List Entry) (r : Result V OpFault) → IsFirst (e ∷ []) None → MatchResult r (λ v. Q v × IsFirst entries None) (OnFormula (λ g. IsFirst entries (Some g))) → MatchResult r (λ v. Q v × IsFirst (e ∷ entries) None) (OnFormula (λ g. IsFirst (e ∷ entries) (Some g)))
 roots_first Q e entries (Ok v) h m = (m.0, elim h [ inl k ↦ inl (k.0, m.1) | inr k ↦ inr k ])
 roots_first Q e entries (Err (Passed g)) h m = elim h [ inl k ↦ inl (k.0, m) | inr k ↦ none_some e.formula k.1 ]
-  where
-    none_some : {A : Type 0} {R : Type 0} (x : A) → None ≡ Some x → R
-    none_some x e = cc
 roots_first Q e entries (Err NoMemory) h m = tt
 
 pub roots_fail : (e : Entry) (entries : List Entry) (f : OpFault) → OnFormula (λ g. IsFirst (e ∷ []) (Some g)) f → OnFormula (λ g. IsFirst (e ∷ entries) (Some g)) f
 roots_fail e entries (Passed g) h = elim h [ inl k ↦ none_some g (sym k.1) | inr k ↦ inr k ]
-  where
-    none_some : {A : Type 0} {R : Type 0} (x : A) → None ≡ Some x → R
-    none_some x e = cc
 roots_fail e entries NoMemory h = tt

@@ -6,26 +6,21 @@ use Rattle.mob_ratio.specs.Order.{before, same}
 use Rattle.mob_ratio.specs.Sign.{nil, sign_of, opposite, root_at, sign_on}
 use Rattle.mob_ratio.proofs.Order.{false_unless, same_exact}
 use Rattle.mob_span.specs.Span.{SpanOf}
+use Rattle.mob_lifted.proofs.Options.{none_some, same_some}
 use Rattle.mob_cells.specs.Roots.{root_of}
 use Rattle.mob_cells.specs.declared.linear.Ends.{Ends}
 
-same_some : (x y : Ratio) → Some x ≡ Some y → x ≡ y
-same_some x y e = cc
-
-no_some : (x : Ratio) → None ≡ Some x → ⊥
-no_some x e = cc
-
 some_by : (f0 f1 l u r a b : Ratio) (o : Bool) → opposite f0 f1 ≡ o → cond o (Some (root_at f0 f1 l u)) None ≡ Some r → sign_on f0 f1 l u a b ≡ cond (before a r) (sign_of f0) (cond (before r b) (sign_of f1) Equal)
 unfolding sign_on
-some_by f0 f1 l u r a b true o e = rw (o, same_some (root_at f0 f1 l u) r e) refl
-some_by f0 f1 l u r a b false o e = absurd (no_some r e)
+some_by f0 f1 l u r a b true o e = rw (o, same_some e) refl
+some_by f0 f1 l u r a b false o e = none_some r e
 
 some_sign : (s : SpanOf) (f : Ends) (r a b : Ratio) → root_of s f ≡ Some r → sign_on f.at_lower f.at_upper s.lower s.upper a b ≡ cond (before a r) (sign_of f.at_lower) (cond (before r b) (sign_of f.at_upper) Equal)
 some_sign s f r a b e = some_by f.at_lower f.at_upper s.lower s.upper r a b (opposite f.at_lower f.at_upper) refl e
 
 none_by : (f0 f1 l u a b : Ratio) (o : Bool) → opposite f0 f1 ≡ o → cond o (Some (root_at f0 f1 l u)) None ≡ None → sign_on f0 f1 l u a b ≡ cond (same b l) (sign_of f0) (cond (same a u) (sign_of f1) (cond (same f0 nil) (sign_of f1) (sign_of f0)))
 unfolding sign_on
-none_by f0 f1 l u a b true o e = absurd (no_some (root_at f0 f1 l u) (sym e))
+none_by f0 f1 l u a b true o e = none_some (root_at f0 f1 l u) (sym e)
 none_by f0 f1 l u a b false o e = rw o refl
 
 none_sign : (s : SpanOf) (f : Ends) (a b : Ratio) → root_of s f ≡ None → sign_on f.at_lower f.at_upper s.lower s.upper a b ≡ cond (same b s.lower) (sign_of f.at_lower) (cond (same a s.upper) (sign_of f.at_upper) (cond (same f.at_lower nil) (sign_of f.at_upper) (sign_of f.at_lower)))

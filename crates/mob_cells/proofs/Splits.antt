@@ -2,7 +2,7 @@
 use Rattle.std.specs.Prelude.{◌≡◌, Bool, true, false, cond, not, ◌&&◌, ◌||◌, List, [], ◌∷◌, ◌++◌, refl}
 use Rattle.std.proofs.lemmas.Bool.{and_from, and_parts}
 use Rattle.std.specs.List.{AllByRecursion}
-use Rattle.std.proofs.Common.{arith, ap, sym, ◌∙◌, true≢false}
+use Rattle.std.proofs.Common.{arith, ap, ◌∙◌}
 use Rattle.mob_ratio.specs.Ratio.{Ratio}
 use Rattle.mob_ratio.specs.Order.{before, up_to}
 use Rattle.mob_ratio.proofs.Order.{before-self, before-back, before-trans, before-neither}

@@ -6,10 +6,8 @@ use Rattle.mob_ratio.specs.Ratio.{Ratio, whole, ◌+ℚ◌, ◌-ℚ◌, ◌*ℚ�
 use Rattle.mob_ratio.specs.Order.{before}
 use Rattle.mob_ratio.specs.Line.{line_at}
 use Rattle.mob_ratio.specs.Sign.{nil, opposite, root_at, sign_of, IsRoot}
-use Rattle.mob_ratio.proofs.Order.{before-self, before-back, before-trans, before-neither, before-lt, lt-before, false_unless}
+use Rattle.mob_ratio.proofs.Order.{before-back, before-trans, before-neither, before-lt, lt-before, false_unless}
 use Rattle.mob_ratio.proofs.Signs.{root_holds, opposite_cases, sign_below, sign_above, sign_nil, ne_by, ne_by'}
-use Rattle.mob_ratio.proofs.IntRing.{linear}
-use Rattle.mob_ratio.proofs.Clear.{clear2, cleared}
 use Rattle.mob_frac.specs.Fits.{Fits, IsExact}
 use Rattle.mob_frac.specs.Formula.{IsFormula, inner_root_parts}
 use Rattle.mob_frac.proofs.PartsOfLines.{last_part}

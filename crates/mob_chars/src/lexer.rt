@@ -11,7 +11,7 @@ use std::alloc::Global;
 
 // The kind and the length of the token that the text begins with.
 fn token_length(text: &[u8]) -> Option<(TokenKind, usize)>
-    requires { 0 < length text.now }
+    requires some { 0 < length text.now }
     ensures value { result ≡ token_at text.now }
     ensures within { IfSome result (λ x. (0 < x.1) × (x.1 ≤ length text.now)) }
 {

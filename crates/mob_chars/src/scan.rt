@@ -6,28 +6,28 @@ ghost use Rattle.mob_chars.specs.Signs.{first_sign, sign_length};
 
 /// Whether a byte is a blank: a space, a tab, a carriage return or a line feed.
 pub fn is_blank(byte: u8) -> bool
-    ensures { result ≡ is_blank byte }
+    ensures blank { result ≡ is_blank byte }
 {
     matches!(byte, b' ' | b'\t' | b'\r' | b'\n')
 }
 
 /// Whether a byte is a digit.
 pub fn is_digit(byte: u8) -> bool
-    ensures { result ≡ is_digit byte }
+    ensures digit { result ≡ is_digit byte }
 {
     byte.is_ascii_digit()
 }
 
 /// Whether a byte is one of the letters a to z, in either case, or `_`: what a word begins with.
 pub fn is_letter(byte: u8) -> bool
-    ensures { result ≡ is_letter byte }
+    ensures letter { result ≡ is_letter byte }
 {
     matches!(byte, b'a'..=b'z' | b'A'..=b'Z' | b'_')
 }
 
 /// How many letters, digits and `_` come first.
 pub fn word_length(text: &[u8]) -> usize
-    ensures { result ≡ word_length text.now }
+    ensures value { result ≡ word_length text.now }
 {
     text.iter()
         .take_while(|b| is_letter(**b) || is_digit(**b))
@@ -36,14 +36,14 @@ pub fn word_length(text: &[u8]) -> usize
 
 /// How many digits come first.
 pub fn digits_length(text: &[u8]) -> usize
-    ensures { result ≡ digits_length text.now }
+    ensures value { result ≡ digits_length text.now }
 {
     text.iter().take_while(|b| is_digit(**b)).count()
 }
 
 /// Whether a number comes first: a digit, or a point and a digit.
 pub fn begins_number(text: &[u8]) -> bool
-    ensures { result ≡ begins_number text.now }
+    ensures begins { result ≡ begins_number text.now }
 {
     match text {
         [b'.', second, ..] => is_digit(*second),
@@ -78,8 +78,8 @@ pub fn exponent_length(text: &[u8]) -> usize
 
 // The length of a mark and the digits behind it, where there is a digit; else 0.
 fn with_digits(mark: usize, digits: usize) -> usize
-    requires { mark + digits < 2 ^ 64 }
-    ensures { result ≡ with_digits mark digits }
+    requires fits { mark + digits < 2 ^ 64 }
+    ensures value { result ≡ with_digits mark digits }
 {
     if digits == 0 { 0 } else { mark + digits }
 }
@@ -113,7 +113,7 @@ pub fn quoted_length(text: &[u8]) -> Option<usize>
 
 /// The length of a comment up to the line feed that ends it or to the end of the text, the line feed left out.
 pub fn comment_length(text: &[u8]) -> usize
-    ensures { result ≡ comment_length text.now }
+    ensures value { result ≡ comment_length text.now }
 {
     text.iter().take_while(|b| **b != b'\n').count()
 }
@@ -148,7 +148,7 @@ pub fn sign_length(text: &[u8]) -> Option<usize>
 
 // The length of the first of the signs that the text begins with.
 fn first_sign(signs: &[&[u8]], text: &[u8]) -> Option<usize>
-    ensures { result ≡ first_sign (map (λ s. s.now) signs.now) text.now }
+    ensures first { result ≡ first_sign (map (λ s. s.now) signs.now) text.now }
 {
     for sign in signs {
         if text.starts_with(sign) {

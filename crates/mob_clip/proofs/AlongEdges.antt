@@ -1,21 +1,19 @@
 -- A moving point and edges: what is known of it by their signs is whether it is inside.
-use Rattle.std.specs.Prelude.{◌≡◌, Bool, true, List, [], ◌∷◌, map, Option, Some, None, MatchOption, Result, Ok, Err, MatchResult, IfOk, refl}
+use Rattle.std.specs.Prelude.{◌≡◌, Bool, true, List, [], ◌∷◌, map, None, Result, Ok, Err, MatchResult, refl}
 use Rattle.std.specs.List.{AllByRecursion}
-use Rattle.std.proofs.Common.{ap, sym, ◌∙◌, subst}
-use Rattle.std.specs.declared.cmp.Ordering.{Ordering}
+use Rattle.std.proofs.Common.{ap, sym, ◌∙◌}
 use Rattle.mob_ratio.specs.Ratio.{Ratio, ◌-ℚ◌}
 use Rattle.mob_ratio.specs.Line.{line_at}
 use Rattle.mob_ratio.specs.Sign.{sign_of}
-use Rattle.mob_span.specs.Span.{SpanOf, has}
+use Rattle.mob_span.specs.Span.{has}
 use Rattle.mob_plane.specs.declared.point.Point.{Point}
-use Rattle.mob_plane.specs.EdgeWise.{signs_at, signs_to, inside_by}
-use Rattle.mob_plane.specs.declared.edges.EdgeSigns.{EdgeSigns}
+use Rattle.mob_plane.specs.EdgeWise.{signs_at, signs_to}
 use Rattle.mob_plane.specs.declared.edges.Tally.{Tally}
 use Rattle.mob_plane.proofs.TurnsAlong.{turn-line, line_at-from}
 use Rattle.mob_slice.specs.Slices.{IsSound}
 use Rattle.mob_slice.specs.Cut.{slice_value}
 use Rattle.mob_slice.specs.Lines.{plane_value_of}
-use Rattle.mob_slice.specs.Entries.{Entry, IsFirst, OnFormula}
+use Rattle.mob_slice.specs.Entries.{Entry, IsFirst}
 use Rattle.mob_slice.specs.declared.slice.Slice.{Slice}
 use Rattle.mob_slice.specs.declared.line.PlaneLine.{PlaneLine}
 use Rattle.mob_slice.specs.declared.formula.OpFault.{OpFault}

@@ -1,21 +1,20 @@
 -- The sign of a linear function at an instant, by the instant at which it changes.
-use Rattle.std.specs.Prelude.{◌≡◌, Bool, true, false, cond, not, ◌&&◌, ◌||◌, Option, Some, None, refl}
+use Rattle.std.specs.Prelude.{◌≡◌, Bool, true, false, cond, not, ◌&&◌, ◌||◌, Some, None, refl}
 use Rattle.std.proofs.Common.{arith, ap, sym, ◌∙◌, true≢false}
 use Rattle.std.specs.declared.cmp.Ordering.{Ordering}
 use Rattle.std.specs.declared.cmp.Ordering.TheVariants.{Less, Equal, Greater}
 use Rattle.std.specs.Ordering.{is_eq}
 use Rattle.mob_ratio.specs.Ratio.{Ratio}
-use Rattle.mob_ratio.specs.Order.{before, up_to, same}
+use Rattle.mob_ratio.specs.Order.{before, same}
 use Rattle.mob_ratio.specs.Sign.{nil, sign_of, opposite, root_at, sign_on}
 use Rattle.mob_ratio.proofs.Order.{before-self, before-back, before-neither}
 use Rattle.mob_span.specs.Span.{SpanOf, has}
-use Rattle.mob_span.specs.Neighbours.{is_inside}
 use Rattle.mob_cells.specs.declared.linear.Ends.{Ends}
 use Rattle.mob_cells.specs.Roots.{IsLevel, root_of, function_at}
-use Rattle.mob_cells.specs.Cells.{instant_span, is_cell, is_cell_of, NoneWithin}
+use Rattle.mob_cells.specs.Cells.{instant_span, is_cell_of, NoneWithin}
 use Rattle.mob_cells.proofs.Keeps.{kept}
 use Rattle.mob_cells.proofs.SignsAt.{first_side, second_side, no_side}
-use Rattle.mob_clip.specs.Signs.{turned_at, changing_sign, ends_change}
+use Rattle.mob_clip.specs.Signs.{changing_at, changing_sign, ends_change}
 
 -- ---- the instant as a cell
 cell_at : (s : SpanOf) (t : Ratio) → has s t ≡ true → is_cell_of s (instant_span t) ≡ true
@@ -31,7 +30,7 @@ at_instant : (s : SpanOf) (f : Ends) (t : Ratio) → IsLevel s f → has s t ≡
 at_instant s f t l h = kept f.at_lower f.at_upper s (instant_span t) l (cell_at s t h) (λ o. none_at (root_at f.at_lower f.at_upper s.lower s.upper) t) t (point_has t)
 
 -- ---- a root strictly inside
-pub some_change : (s : SpanOf) (f : Ends) (r t : Ratio) → IsLevel s f → root_of s f ≡ Some r → has s t ≡ true → turned_at (sign_of f.at_lower) (Some r) (sign_of f.at_upper) t ≡ sign_of (function_at s f t)
+pub some_change : (s : SpanOf) (f : Ends) (r t : Ratio) → IsLevel s f → root_of s f ≡ Some r → has s t ≡ true → changing_at (sign_of f.at_lower) (Some r) (sign_of f.at_upper) t ≡ sign_of (function_at s f t)
 some_change s f r t l e h = by (before t r) refl (before r t) refl ∙ sym (at_instant s f t l h)
   where
     by : (a : Bool) → before t r ≡ a → (b : Bool) → before r t ≡ b → cond a (sign_of f.at_lower) (cond b (sign_of f.at_upper) Equal) ≡ sign_on f.at_lower f.at_upper s.lower s.upper t t
@@ -73,9 +72,9 @@ signs_by false true true d h p q = absurd (true≢false (sym (or_true (false && 
     or_true false = refl
 signs_by false true false true h p q = refl
 
-one_sign : (f0 f1 : Ratio) → opposite f0 f1 ≡ false → is_eq (sign_of f0) ≡ false → is_eq (sign_of f1) ≡ false → sign_of f0 ≡ sign_of f1
+same_sign : (f0 f1 : Ratio) → opposite f0 f1 ≡ false → is_eq (sign_of f0) ≡ false → is_eq (sign_of f1) ≡ false → sign_of f0 ≡ sign_of f1
 unfolding sign_of opposite
-one_sign f0 f1 h p q = signs_by (before f0 nil) (before nil f0) (before f1 nil) (before nil f1) h p q
+same_sign f0 f1 h p q = signs_by (before f0 nil) (before nil f0) (before f1 nil) (before nil f1) h p q
 
 less_equal : Less ≡ Equal → ⊥
 less_equal e = cc
@@ -148,7 +147,7 @@ none_change s f t l e h =
     let o = not_opposite s f e (opposite f.at_lower f.at_upper) refl in
     let a = lower_side s t h in
     let d = upper_side s t h in
-    ends_by (sign_of f.at_lower) (sign_of f.at_upper) (before s.lower t) (before t s.upper) (λ b c. ap sign_of (l (short_span s t a b c d))) (one_sign f.at_lower f.at_upper o) s t a refl refl d
+    ends_by (sign_of f.at_lower) (sign_of f.at_upper) (before s.lower t) (before t s.upper) (λ b c. ap sign_of (l (short_span s t a b c d))) (same_sign f.at_lower f.at_upper o) s t a refl refl d
     ∙ sym (ap (λ z. cond z (sign_of f.at_lower) (cond (not (before t s.upper)) (sign_of f.at_upper) (cond (is_eq (sign_of f.at_lower)) (sign_of f.at_upper) (sign_of f.at_lower)))) (same_side s.lower t a))
     ∙ sym (ap (λ z. cond (same t s.lower) (sign_of f.at_lower) (cond z (sign_of f.at_upper) (cond (is_eq (sign_of f.at_lower)) (sign_of f.at_upper) (sign_of f.at_lower)))) (same_other s.upper t d))
     ∙ sym (ap (λ z. cond (same t s.lower) (sign_of f.at_lower) (cond (same t s.upper) (sign_of f.at_upper) (cond z (sign_of f.at_upper) (sign_of f.at_lower)))) (zero_sign f.at_lower))

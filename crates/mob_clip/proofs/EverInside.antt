@@ -1,8 +1,7 @@
 -- When something is left of a moving point inside a polygon.
-use Rattle.std.specs.Prelude.{◌≡◌, Bool, true, false, cond, List, [], ◌∷◌, Option, Some, None, MatchOption, refl}
-use Rattle.std.proofs.Common.{ap, sym, ◌∙◌, subst}
+use Rattle.std.specs.Prelude.{◌≡◌, Bool, true, false, List, [], ◌∷◌, Option, Some, None, refl}
+use Rattle.std.proofs.Common.{ap, sym, ◌∙◌}
 use Rattle.mob_ratio.specs.Ratio.{Ratio}
-use Rattle.mob_span.specs.Span.{has}
 use Rattle.mob_span.proofs.SpanLemmas.{some_instant}
 use Rattle.mob_plane.specs.declared.point.Point.{Point}
 use Rattle.mob_plane.specs.Rings.{all_edges}
@@ -12,11 +11,9 @@ use Rattle.mob_slice.specs.Slices.{value_at, IsNormal}
 use Rattle.mob_slice.specs.Lines.{plane_value_of, plane_continued}
 use Rattle.mob_slice.specs.declared.slice.Slice.{Slice}
 use Rattle.mob_slice.specs.declared.line.PlaneLine.{PlaneLine}
+use Rattle.mob_lifted.proofs.Options.{none_some}
 use Rattle.mob_cells.specs.Restricted.{kept_value, where_wanted, IsRestricted}
 use Rattle.mob_clip.specs.Polygons.{is_inside_edges, IsEverInside}
-
-none_some : {A : Type 0} {R : Type 0} (x : A) → None ≡ Some x → R
-none_some x e = cc
 
 wanted_meets : (m : Point → Bool) (o : Option Point) (y : Point) → where_wanted true m o ≡ Some y → (x : Point) × (o ≡ Some x) × (m x ≡ true)
 wanted_meets m None y e = none_some y e

@@ -1,12 +1,11 @@
 -- Worked examples of the definitions. Each holds by computing.
-use Rattle.std.specs.Prelude.{◌≡◌, Bool, true, false, pos, negsuc, List, [], ◌∷◌, Some, None, refl}
+use Rattle.std.specs.Prelude.{◌≡◌, Bool, true, false, pos, negsuc, List, [], ◌∷◌, Some, refl}
 use Rattle.mob_ratio.specs.Gcd.{gcd, gcd_steps}
 use Rattle.mob_ratio.specs.Lowest.{in_lowest_terms}
-use Rattle.mob_ratio.specs.Ratio.{Ratio, over, whole, turned, inverse, ◌+ℚ◌, ◌*ℚ◌, neg_ℚ}
+use Rattle.mob_ratio.specs.Ratio.{over, whole, turned, inverse, ◌+ℚ◌, ◌*ℚ◌, neg_ℚ}
 use Rattle.mob_ratio.specs.Order.{before, same}
 use Rattle.mob_ratio.specs.Line.{line_at, line_value}
 use Rattle.mob_ratio.specs.Sign.{opposite, root_at, sign_of}
-use Rattle.mob_plane.specs.declared.point.Point.{Point}
 use Rattle.mob_slice.specs.declared.slice.Slice.{Slice}
 use Rattle.mob_slice.specs.declared.line.PlaneLine.{PlaneLine}
 use Rattle.mob_slice.specs.declared.formula.Formula.TheVariants.{F1, F2, F3}

@@ -1,11 +1,10 @@
 -- A moving point and a rectangle.
-use Rattle.std.specs.Prelude.{◌≡◌, Bool, true, false, cond, not, ◌&&◌, List, [], ◌∷◌, ◌++◌, Option, Some, None, Result, Ok, Err, refl}
+use Rattle.std.specs.Prelude.{◌≡◌, Bool, false, not, ◌&&◌, List, ◌++◌, Some, Result, refl}
 use Rattle.std.specs.List.{AllByRecursion}
 use Rattle.std.proofs.Common.{ap, sym, ◌∙◌, subst, inl, inr}
-use Rattle.std.specs.declared.cmp.Ordering.{Ordering}
-use Rattle.std.specs.declared.cmp.Ordering.TheVariants.{Less, Equal, Greater}
 use Rattle.std.specs.Ordering.{is_lt, is_gt}
-use Rattle.mob_ratio.specs.Ratio.{Ratio, ◌-ℚ◌, ◌+ℚ◌, neg_ℚ}
+use Rattle.mob_plane.proofs.BySigns.{lt_cond, gt_cond}
+use Rattle.mob_ratio.specs.Ratio.{Ratio, ◌-ℚ◌}
 use Rattle.mob_ratio.specs.Order.{before, up_to}
 use Rattle.mob_ratio.specs.Line.{line_at}
 use Rattle.mob_ratio.specs.Sign.{sign_of}
@@ -13,15 +12,14 @@ use Rattle.mob_ratio.proofs.Order.{before-back}
 use Rattle.mob_plane.proofs.TurnsAlong.{line_at-from}
 use Rattle.mob_ratio.proofs.Signs.{sign-diff}
 use Rattle.mob_frac.specs.Formula.{AllFit}
-use Rattle.mob_span.specs.Span.{SpanOf, has}
+use Rattle.mob_span.specs.Span.{SpanOf}
 use Rattle.mob_slice.specs.Sides.{at_ends, HasValues}
-use Rattle.mob_slice.specs.Cut.{slice_value, slice_parts}
+use Rattle.mob_slice.specs.Cut.{slice_value}
 use Rattle.mob_slice.specs.Lines.{plane_value_of, plane_parts_of}
-use Rattle.mob_slice.specs.Entries.{Entry, IsFirst, OnFormula}
+use Rattle.mob_slice.specs.Entries.{IsFirst, OnFormula}
 use Rattle.mob_slice.specs.declared.slice.Slice.{Slice}
 use Rattle.mob_plane.specs.declared.point.Point.{Point}
 use Rattle.mob_slice.specs.declared.line.PlaneLine.{PlaneLine}
-use Rattle.mob_slice.specs.declared.formula.Formula.{Formula}
 use Rattle.mob_slice.specs.declared.formula.OpFault.{OpFault}
 use Rattle.mob_slice.specs.declared.formula.OpFault.TheVariants.{Passed, NoMemory}
 use Rattle.mob_cells.specs.declared.linear.Ends.{Ends}
@@ -35,21 +33,11 @@ use Rattle.mob_stbox.specs.declared.area.Area.{Area}
 use Rattle.mob_stbox.specs.Areas.{in_area}
 use Rattle.mob_clip.specs.Areas.{in_area_by, area_parts, area_ends, entries_of_area}
 
-lt_by : (a b : Bool) → is_lt (cond a Less (cond b Greater Equal)) ≡ a
-lt_by true b = refl
-lt_by false true = refl
-lt_by false false = refl
-
-gt_by : (a b : Bool) → (a ≡ true → b ≡ false) → is_gt (cond a Less (cond b Greater Equal)) ≡ b
-gt_by true b h = sym (h refl)
-gt_by false true h = refl
-gt_by false false h = refl
-
 lt_sign : (x y : Ratio) → is_lt (sign_of (x -ℚ y)) ≡ before x y
-lt_sign x y = ap is_lt (sym (sign-diff x y)) ∙ lt_by (before x y) (before y x)
+lt_sign x y = ap is_lt (sym (sign-diff x y)) ∙ lt_cond (before x y) (before y x)
 
 gt_sign : (x y : Ratio) → is_gt (sign_of (x -ℚ y)) ≡ before y x
-gt_sign x y = ap is_gt (sym (sign-diff x y)) ∙ gt_by (before x y) (before y x) (before-back x y)
+gt_sign x y = ap is_gt (sym (sign-diff x y)) ∙ gt_cond (before x y) (before y x) (before-back x y)
 
 not_below : (x0 x1 a l u t : Ratio) → not (is_lt (sign_of (line_at (x0 -ℚ a) (x1 -ℚ a) l u t))) ≡ up_to a (line_at x0 x1 l u t)
 not_below x0 x1 a l u t = ap (λ z. not (is_lt (sign_of z))) (sym (line_at-from x0 x1 a l u t)) ∙ ap not (lt_sign (line_at x0 x1 l u t) a)

@@ -1,7 +1,6 @@
 -- A slice, and the span of time of a box.
 use Rattle.std.specs.Prelude.{◌≡◌, Bool, true, false, cond, not, ◌&&◌, ◌||◌, List, [], ◌∷◌, ◌++◌, Option, Some, None, MatchOption, Result, Ok, Err, MatchResult, refl}
-use Rattle.std.proofs.lemmas.Bool.{and_parts, and_from}
-use Rattle.std.specs.List.{AllByRecursion}
+use Rattle.std.proofs.lemmas.Bool.{and_parts}
 use Rattle.std.proofs.Common.{arith, ap, sym, ◌∙◌, subst, inl, inr, true≢false, append_assoc, append-nil}
 use Rattle.mob_ratio.specs.Ratio.{Ratio}
 use Rattle.mob_ratio.specs.Order.{before, up_to}
@@ -12,15 +11,14 @@ use Rattle.mob_span.specs.Meet.{meet_of}
 use Rattle.mob_span.specs.Neighbours.{is_clear, is_inside}
 use Rattle.mob_span.specs.Sets.{in_some}
 use Rattle.mob_span.proofs.SpanLemmas.{no_instant, meet_has, meet_none}
-use Rattle.mob_span.proofs.Insides.{meet_left, clear_has, inside_has, inside_self, low_inside, high_inside}
-use Rattle.mob_span.specs.Parts.{PartsAreClear}
+use Rattle.mob_span.proofs.Insides.{meet_left, clear_has, inside_has, low_inside, high_inside}
 use Rattle.mob_slice.specs.Slices.{IsSound}
 use Rattle.mob_slice.specs.Look.{IsLookFault}
 use Rattle.mob_slice.specs.Sides.{at_ends, HasValues}
 use Rattle.mob_slice.specs.Cut.{slice_value, slice_parts}
 use Rattle.mob_slice.specs.Lines.{plane_value_of, plane_parts_of}
 use Rattle.mob_slice.specs.PlaneLaws.{plane_laws}
-use Rattle.mob_slice.specs.Entries.{Entry, IsFirst, OnFormula}
+use Rattle.mob_slice.specs.Entries.{IsFirst, OnFormula}
 use Rattle.mob_slice.specs.declared.slice.Slice.{Slice}
 use Rattle.mob_plane.specs.declared.point.Point.{Point}
 use Rattle.mob_slice.specs.declared.line.PlaneLine.{PlaneLine}
@@ -34,13 +32,13 @@ use Rattle.mob_cells.specs.Cells.{AreCells}
 use Rattle.mob_cells.specs.Kept.{AreKeptOn, IsKeptBy}
 use Rattle.mob_cells.specs.Restricted.{kept_value, is_wanted}
 use Rattle.mob_slice.specs.Entries.{operator_fault}
-use Rattle.mob_cells.proofs.Joining.{LiftsTo}
+use Rattle.mob_lifted.specs.Lifted.{LiftsTo}
 use Rattle.mob_cells.proofs.Restricting.{all_kept}
-use Rattle.mob_cells.proofs.OwnEnds.{kept_same, kept_behind, start_value, end_value, own_fit}
+use Rattle.mob_cells.proofs.OwnEnds.{kept_same, kept_behind, start_value, end_value}
 use Rattle.mob_stbox.specs.declared.area.Area.{Area}
 use Rattle.mob_stbox.specs.Boxes.{BoxOf, in_space, in_time, in_box}
 use Rattle.mob_clip.specs.Boxes.{entries_of_space, entries_in_time, entries_of_box, AreAround, front_span, back_span}
-use Rattle.mob_clip.specs.Pieces.{some_span, AreAllOrNothing, IsOnSlice}
+use Rattle.mob_clip.specs.Pieces.{some_span, AreAllOrNothing}
 
 -- ---- a span and a part of it
 -- the two sides of a span by themselves

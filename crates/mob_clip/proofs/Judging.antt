@@ -1,10 +1,9 @@
 -- The entries of a restriction by edges, stage by stage.
 use Rattle.std.specs.Prelude.{◌≡◌, Bool, true, false, cond, List, [], ◌∷◌, ◌++◌, map, Option, Some, None, MatchOption, refl}
 use Rattle.std.specs.List.{AllByRecursion, flat_map}
-use Rattle.std.proofs.Common.{ap, sym, ◌∙◌, subst, true≢false, inl, inr}
+use Rattle.std.proofs.Common.{ap, sym, ◌∙◌, subst, inl, inr}
 use Rattle.std.proofs.lemmas.List.Concat.{flat_map-append}
 use Rattle.mob_ratio.specs.Ratio.{Ratio, ◌-ℚ◌}
-use Rattle.mob_ratio.specs.Order.{before, up_to}
 use Rattle.mob_ratio.specs.Sign.{opposite, root_at}
 use Rattle.mob_frac.specs.Formula.{AllFit}
 use Rattle.mob_span.specs.Span.{SpanOf}
@@ -16,10 +15,9 @@ use Rattle.mob_slice.specs.Sides.{at_ends}
 use Rattle.mob_slice.specs.Cut.{slice_value, slice_parts}
 use Rattle.mob_slice.specs.Lines.{plane_value_of, plane_parts_of}
 use Rattle.mob_slice.specs.PlaneLaws.{plane_laws}
-use Rattle.mob_slice.specs.Entries.{Entry, IsFirst, OnFormula}
+use Rattle.mob_slice.specs.Entries.{IsFirst, OnFormula}
 use Rattle.mob_slice.specs.declared.slice.Slice.{Slice}
 use Rattle.mob_slice.specs.declared.line.PlaneLine.{PlaneLine}
-use Rattle.mob_slice.specs.declared.formula.Formula.{Formula}
 use Rattle.mob_slice.specs.declared.formula.Formula.TheVariants.{F1, F2, F3, F4}
 use Rattle.mob_slice.specs.declared.formula.OpFault.{OpFault}
 use Rattle.mob_slice.specs.declared.formula.OpFault.TheVariants.{Passed, NoMemory}
@@ -30,11 +28,12 @@ use Rattle.mob_cells.specs.Roots.{IsLevel, root_of, root_parts, roots_parts, roo
 use Rattle.mob_cells.specs.Cells.{IsPlaced}
 use Rattle.mob_cells.proofs.Zeros.{root_inside}
 use Rattle.mob_cells.proofs.OwnEnds.{start_value, end_value}
-use Rattle.mob_cells.proofs.Making.{each_both}
+use Rattle.mob_list.proofs.Each.{each_both}
+use Rattle.mob_clip.specs.declared.sides.Beside.{Beside}
 use Rattle.mob_clip.specs.declared.sides.EdgeEnds.{EdgeEnds}
 use Rattle.mob_clip.specs.declared.roots.EdgePlaced.{EdgePlaced}
 use Rattle.mob_clip.specs.Sides.{beside, beside_parts, with_turn, turning_parts, IsPartFault}
-use Rattle.mob_clip.specs.Roots.{place, place_edge, placed_edge, listed_ends, edge_roots, IsBetweenEnds, IsPlacedEdge, FitsRoot, CutsFit}
+use Rattle.mob_clip.specs.Roots.{place_edge, placed_edge, listed_ends, edge_roots, IsBetweenEnds, IsPlacedEdge, CutsFit}
 use Rattle.mob_clip.specs.Polygons.{edge_parts, edges_parts, edge_ends, edges_ends, entries_of_edges}
 
 -- ---- parts of three formulas over one list
@@ -203,28 +202,41 @@ module _ (es : List (Point × Point)) (s : Slice PlaneLine) (sound : IsSound (λ
   pub level_ways : (gs : List EdgeEnds) → gs ≡ ways → AllByRecursion (λ g. AllByRecursion (IsLevel s.span) (listed_ends g)) gs
   level_ways gs e = rw e (levels es)
 
-  -- ---- the first that does not fit
+  pub placed_same : map (place_edge s.span) ways ≡ map (placed_edge s) es
+  placed_same = map_twice (place_edge s.span) (with_turn p q) (map (beside p q) es) ∙ map_twice (λ b. place_edge s.span (with_turn p q b)) (beside p q) es
+
+  -- ---- the first that does not fit, by the lists that are made so far
   pub besides_fail : (f : OpFault) → IsPartFault F2 (flat_map (beside_parts p q) es) f → OnFormula (λ g. IsFirst (entries_of_edges es s) (Some g)) f
   besides_fail (Passed f) h = inr (λ a. h.1 (fit_besides a), ap Some h.0)
   besides_fail NoMemory h = tt
 
-  module _ (a : AllFit (flat_map (beside_parts p q) es)) where
-    pub turned_fail : (f : OpFault) → IsPartFault F4 (flat_map (λ b. turning_parts p q b.edge) (map (beside p q) es)) f → OnFormula (λ g. IsFirst (entries_of_edges es s) (Some g)) f
-    turned_fail (Passed f) h = inl (besides_fit a, inr (λ b. h.1 (fit_turned b), ap Some h.0))
-    turned_fail NoMemory h = tt
+  module _ (bs : List Beside) (e : bs ≡ map (beside p q) es) where
+    pub are_ways : (gs : List EdgeEnds) → gs ≡ map (with_turn p q) bs → gs ≡ ways
+    are_ways gs k = k ∙ ap (map (with_turn p q)) e
 
-    module _ (b : AllFit (flat_map (λ b. turning_parts p q b.edge) (map (beside p q) es))) where
-      pub placed_fail : (f : OpFault) → IsPartFault F3 (flat_map (λ g. roots_parts s.span (listed_ends g)) ways) f → OnFormula (λ g. IsFirst (entries_of_edges es s) (Some g)) f
-      placed_fail (Passed f) h = inl (besides_fit a, inl (turned_fit b, inr (λ c. h.1 (subst AllFit (sym roots_same) c), ap Some h.0)))
-      placed_fail NoMemory h = tt
+    module _ (a : AllFit (flat_map (beside_parts p q) es)) where
+      pub turned_fail : (f : OpFault) → IsPartFault F4 (flat_map (λ b. turning_parts p q b.edge) bs) f → OnFormula (λ g. IsFirst (entries_of_edges es s) (Some g)) f
+      turned_fail (Passed f) h = inl (besides_fit a, inr (λ b. h.1 (rw e (fit_turned b)), ap Some h.0))
+      turned_fail NoMemory h = tt
 
-      module _ (c : AllFit (flat_map (λ g. roots_parts s.span (listed_ends g)) ways)) where
-        pub cuts_fail : (f : OpFault) → IsPartFault F1 (flat_map parts (flat_map edge_roots (map (place_edge s.span) ways))) f → OnFormula (λ g. IsFirst (entries_of_edges es s) (Some g)) f
-        cuts_fail (Passed f) h = inl (besides_fit a, inl (turned_fit b, inl (subst AllFit roots_same c, inr (λ d. h.1 (subst AllFit (sym cuts_same) d), ap Some h.0))))
-        cuts_fail NoMemory h = tt
+      module _ (b : AllFit (flat_map (λ b. turning_parts p q b.edge) bs)) (gs : List EdgeEnds) (k : gs ≡ map (with_turn p q) bs) where
+        turns : AllFit (at_ends (λ t. turns_parts (slice_value plane_value_of s t) es) s.span)
+        turns = turned_fit (rw e at b)
 
-        pub none_fails : AllFit (flat_map parts (flat_map edge_roots (map (place_edge s.span) ways))) → IsFirst (entries_of_edges es s) None
-        none_fails d = inl (besides_fit a, inl (turned_fit b, inl (subst AllFit roots_same c, inl (subst AllFit cuts_same d, refl))))
+        pub placed_fail : (f : OpFault) → IsPartFault F3 (flat_map (λ g. roots_parts s.span (listed_ends g)) gs) f → OnFormula (λ g. IsFirst (entries_of_edges es s) (Some g)) f
+        placed_fail (Passed f) h = inl (besides_fit a, inl (turns, inr (λ c. h.1 (rw (are_ways gs k) (subst AllFit (sym roots_same) c)), ap Some h.0)))
+        placed_fail NoMemory h = tt
 
-  pub placed_same : map (place_edge s.span) ways ≡ map (placed_edge s) es
-  placed_same = map_twice (place_edge s.span) (with_turn p q) (map (beside p q) es) ∙ map_twice (λ b. place_edge s.span (with_turn p q b)) (beside p q) es
+        module _ (c : AllFit (flat_map (λ g. roots_parts s.span (listed_ends g)) gs)) (ps : List EdgePlaced) (l : ps ≡ map (place_edge s.span) gs) where
+          are_all : ps ≡ map (place_edge s.span) ways
+          are_all = l ∙ ap (map (place_edge s.span)) (are_ways gs k)
+
+          roots_are : AllFit (roots_parts s.span (edges_ends (slice_value plane_value_of s s.span.lower) (slice_value plane_value_of s s.span.upper) es))
+          roots_are = subst AllFit roots_same (rw (are_ways gs k) at c)
+
+          pub cuts_fail : (f : OpFault) → IsPartFault F1 (flat_map parts (flat_map edge_roots ps)) f → OnFormula (λ g. IsFirst (entries_of_edges es s) (Some g)) f
+          cuts_fail (Passed f) h = inl (besides_fit a, inl (turns, inl (roots_are, inr (λ d. h.1 (rw are_all (subst AllFit (sym cuts_same) d)), ap Some h.0))))
+          cuts_fail NoMemory h = tt
+
+          pub none_fails : AllFit (flat_map parts (flat_map edge_roots ps)) → (ps ≡ map (placed_edge s) es) × IsFirst (entries_of_edges es s) None × AllByRecursion (CutsFit parts) ps
+          none_fails d = (are_all ∙ placed_same, inl (besides_fit a, inl (turns, inl (roots_are, inl (subst AllFit cuts_same (rw are_all at d), refl)))), cuts_each parts ps d)

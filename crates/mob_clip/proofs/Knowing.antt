@@ -1,5 +1,5 @@
 -- What is known of a point by edges.
-use Rattle.std.specs.Prelude.{◌≡◌, Bool, true, false, cond, not, ◌||◌, ℕ, List, [], ◌∷◌, ◌++◌, map, length, get_or, Result, Ok, Err, IfOk, refl}
+use Rattle.std.specs.Prelude.{◌≡◌, Bool, true, false, cond, ◌||◌, List, [], ◌∷◌, ◌++◌, map, length, get_or, Result, Ok, Err, IfOk, refl}
 use Rattle.std.specs.List.{AllByRecursion}
 use Rattle.std.proofs.Common.{arith, ap, sym, ◌∙◌, subst, append_assoc, append-nil}
 use Rattle.std.specs.declared.cmp.Ordering.{Ordering}
@@ -18,10 +18,10 @@ use Rattle.mob_plane.specs.declared.edges.Tally.{Tally}
 use Rattle.mob_plane.proofs.Counts.{alone_assoc}
 use Rattle.mob_clip.specs.declared.steps.Change.{Change}
 use Rattle.mob_clip.specs.declared.steps.Steps.{Steps}
-use Rattle.mob_clip.specs.declared.membership.Place.TheVariants.{Turn, XA, XB, YA, YB}
+use Rattle.mob_clip.specs.declared.membership.EdgeSign.TheVariants.{Turn, XA, XB, YA, YB}
 use Rattle.mob_clip.specs.declared.roots.EdgePlaced.{EdgePlaced}
 use Rattle.mob_clip.specs.Steps.{step_at, steps_at, ChangesFit}
-use Rattle.mob_clip.specs.Signs.{known_sign, known_signs, one_sign, signs_on, signs_beside, edge_tally, tally_change, tally_both, tally_all}
+use Rattle.mob_clip.specs.Signs.{known_sign, known_signs, one_known, signs_on, signs_beside, edge_tally, tally_change, tally_both, tally_all}
 use Rattle.mob_clip.specs.Roots.{CutsFit, IsPlacedEdge}
 
 -- ---- the signs of an edge from those of its functions
@@ -30,7 +30,7 @@ joined_end Less = refl
 joined_end Equal = refl
 joined_end Greater = refl
 
-pub ends_joined : (s : SpanOf) (t : Ratio) (g : EdgePlaced) (x y : EdgeSigns) → x ≡ known_signs (one_sign XA (sign_of (function_at s g.x_a.ends t))) (one_sign XB (sign_of (function_at s g.x_b.ends t))) → y ≡ known_signs (one_sign YA (sign_of (function_at s g.y_a.ends t))) (one_sign YB (sign_of (function_at s g.y_b.ends t))) → known_signs x y ≡ signs_beside s t g
+pub ends_joined : (s : SpanOf) (t : Ratio) (g : EdgePlaced) (x y : EdgeSigns) → x ≡ known_signs (one_known XA (sign_of (function_at s g.x_a.ends t))) (one_known XB (sign_of (function_at s g.x_b.ends t))) → y ≡ known_signs (one_known YA (sign_of (function_at s g.y_a.ends t))) (one_known YB (sign_of (function_at s g.y_b.ends t))) → known_signs x y ≡ signs_beside s t g
 ends_joined s t g x y h k = rw (h, k) (λ i. record {
   turn = Equal;
   x_a = (joined_end (known_sign (sign_of (function_at s g.x_a.ends t)) Equal) ∙ joined_end (sign_of (function_at s g.x_a.ends t))) i;
@@ -39,7 +39,7 @@ ends_joined s t g x y h k = rw (h, k) (λ i. record {
   y_b = sign_of (function_at s g.y_b.ends t);
 })
 
-pub turn_joined : (s : SpanOf) (t : Ratio) (g : EdgePlaced) (x y : EdgeSigns) → x ≡ one_sign Turn (sign_of (function_at s g.turn.ends t)) → y ≡ signs_beside s t g → known_signs x y ≡ signs_on s t g
+pub turn_joined : (s : SpanOf) (t : Ratio) (g : EdgePlaced) (x y : EdgeSigns) → x ≡ one_known Turn (sign_of (function_at s g.turn.ends t)) → y ≡ signs_beside s t g → known_signs x y ≡ signs_on s t g
 turn_joined s t g x y h k = rw (h, k) (λ i. record {
   turn = joined_end (sign_of (function_at s g.turn.ends t)) i;
   x_a = sign_of (function_at s g.x_a.ends t);

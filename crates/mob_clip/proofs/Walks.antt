@@ -1,10 +1,9 @@
 -- Two walks in one.
-use Rattle.std.specs.Prelude.{◌≡◌, Bool, true, false, cond, ℕ, zero, suc, List, [], ◌∷◌, ◌++◌, map, drop, length, ◌≤◌, refl}
-use Rattle.std.specs.List.{AllByRecursion}
-use Rattle.std.proofs.Common.{arith, ap, sym, ◌∙◌, subst, true≢false, append_assoc, append-nil}
+use Rattle.std.specs.Prelude.{◌≡◌, Bool, true, false, cond, ℕ, List, [], ◌∷◌, ◌++◌, drop, refl}
+use Rattle.std.proofs.Common.{arith, ap, sym, ◌∙◌, subst, append_assoc, append-nil}
 use Rattle.mob_ratio.specs.Ratio.{Ratio}
 use Rattle.mob_ratio.specs.Order.{before}
-use Rattle.mob_ratio.proofs.Order.{before-self, before-back, before-trans, before-neither}
+use Rattle.mob_ratio.proofs.Order.{before-back, before-trans, before-neither}
 use Rattle.mob_frac.specs.Formula.{AllFit}
 use Rattle.mob_clip.specs.declared.steps.Change.{Change}
 use Rattle.mob_clip.specs.declared.steps.Met.{Met}

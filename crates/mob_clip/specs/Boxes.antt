@@ -1,18 +1,14 @@
 -- The formulas of a restriction by a box, and what is left around its time.
-use Rattle.std.specs.Prelude.{◌≡◌, Bool, true, false, not, cond, ◌&&◌, List, [], ◌∷◌, ◌++◌, Option, Some, None}
-use Rattle.mob_ratio.specs.Ratio.{Ratio}
-use Rattle.mob_span.specs.Span.{SpanOf, has, has_instant}
+use Rattle.std.specs.Prelude.{◌≡◌, Bool, false, not, cond, List, [], ◌∷◌, ◌++◌, Option, Some, None}
+use Rattle.mob_span.specs.Span.{SpanOf, has_instant}
 use Rattle.mob_span.specs.Meet.{meet_of}
 use Rattle.mob_slice.specs.Sides.{at_ends}
-use Rattle.mob_slice.specs.Cut.{slice_value, slice_parts}
-use Rattle.mob_slice.specs.Lines.{plane_value_of, plane_parts_of}
+use Rattle.mob_slice.specs.Cut.{slice_parts}
+use Rattle.mob_slice.specs.Lines.{plane_parts_of}
 use Rattle.mob_slice.specs.Entries.{Entry}
 use Rattle.mob_slice.specs.declared.slice.Slice.{Slice}
-use Rattle.mob_plane.specs.declared.point.Point.{Point}
 use Rattle.mob_slice.specs.declared.line.PlaneLine.{PlaneLine}
 use Rattle.mob_slice.specs.declared.formula.Formula.TheVariants.{F1}
-use Rattle.mob_cells.specs.Kept.{AreKeptOn}
-use Rattle.mob_cells.specs.Restricted.{kept_value}
 use Rattle.mob_stbox.specs.Boxes.{BoxOf}
 use Rattle.mob_cells.specs.Restricted.{is_wanted}
 use Rattle.mob_clip.specs.Pieces.{some_span, AreAllOrNothing}

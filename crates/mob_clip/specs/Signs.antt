@@ -1,5 +1,5 @@
 -- Signs that change, and what is known of a point by the signs of some edges.
-use Rattle.std.specs.Prelude.{◌≡◌, false, cond, ◌||◌, List, [], ◌∷◌, Option, Some, None, MatchOption}
+use Rattle.std.specs.Prelude.{false, cond, ◌||◌, List, [], ◌∷◌, Option, Some, None, MatchOption}
 use Rattle.std.specs.declared.cmp.Ordering.{Ordering}
 use Rattle.std.specs.declared.cmp.Ordering.TheVariants.{Less, Equal, Greater}
 use Rattle.mob_ratio.specs.Ratio.{Ratio}
@@ -13,18 +13,18 @@ use Rattle.mob_plane.specs.declared.edges.EdgeSigns.{EdgeSigns}
 use Rattle.mob_plane.specs.declared.edges.Tally.{Tally}
 use Rattle.mob_plane.specs.EdgeWise.{with_edge, none_yet}
 use Rattle.mob_clip.specs.declared.membership.SignChange.{SignChange}
-use Rattle.mob_clip.specs.declared.membership.Place.{Place}
-use Rattle.mob_clip.specs.declared.membership.Place.TheVariants.{Turn, XA, XB, YA, YB}
+use Rattle.mob_clip.specs.declared.membership.EdgeSign.{EdgeSign}
+use Rattle.mob_clip.specs.declared.membership.EdgeSign.TheVariants.{Turn, XA, XB, YA, YB}
 use Rattle.mob_clip.specs.declared.steps.Change.{Change}
 use Rattle.mob_clip.specs.declared.roots.EdgePlaced.{EdgePlaced}
 
 -- the sign at the instant t, which is Equal where it changes
-abbrev pub turned_at : Ordering → Option Ratio → Ordering → Ratio → Ordering
-turned_at first None behind t = first
-turned_at first (Some r) behind t = cond (before t r) first (cond (before r t) behind Equal)
+abbrev pub changing_at : Ordering → Option Ratio → Ordering → Ratio → Ordering
+changing_at first None behind t = first
+changing_at first (Some r) behind t = cond (before t r) first (cond (before r t) behind Equal)
 
 abbrev pub changing_sign : SignChange → Ratio → Ordering
-changing_sign c t = turned_at c.first c.at c.behind t
+changing_sign c t = changing_at c.first c.at c.behind t
 
 -- the parts of a formula fit at the instant of the change
 abbrev pub FitsChange : (Ratio → List Ratio) → SignChange → Type 0
@@ -40,13 +40,13 @@ known_sign Greater o = Greater
 abbrev pub known_signs : EdgeSigns → EdgeSigns → EdgeSigns
 known_signs a b = record { turn = known_sign a.turn b.turn; x_a = known_sign a.x_a b.x_a; x_b = known_sign a.x_b b.x_b; y_a = known_sign a.y_a b.y_a; y_b = known_sign a.y_b b.y_b }
 
--- the sign o at one place, and Equal at the others
-abbrev pub one_sign : Place → Ordering → EdgeSigns
-one_sign Turn o = record { turn = o; x_a = Equal; x_b = Equal; y_a = Equal; y_b = Equal }
-one_sign XA o = record { turn = Equal; x_a = o; x_b = Equal; y_a = Equal; y_b = Equal }
-one_sign XB o = record { turn = Equal; x_a = Equal; x_b = o; y_a = Equal; y_b = Equal }
-one_sign YA o = record { turn = Equal; x_a = Equal; x_b = Equal; y_a = o; y_b = Equal }
-one_sign YB o = record { turn = Equal; x_a = Equal; x_b = Equal; y_a = Equal; y_b = o }
+-- the signs of an edge of which one is known, o, and the others are Equal
+abbrev pub one_known : EdgeSign → Ordering → EdgeSigns
+one_known Turn o = record { turn = o; x_a = Equal; x_b = Equal; y_a = Equal; y_b = Equal }
+one_known XA o = record { turn = Equal; x_a = o; x_b = Equal; y_a = Equal; y_b = Equal }
+one_known XB o = record { turn = Equal; x_a = Equal; x_b = o; y_a = Equal; y_b = Equal }
+one_known YA o = record { turn = Equal; x_a = Equal; x_b = Equal; y_a = o; y_b = Equal }
+one_known YB o = record { turn = Equal; x_a = Equal; x_b = Equal; y_a = Equal; y_b = o }
 
 -- the sign between two ends of these signs, where no root lies between them
 abbrev pub ends_change : SpanOf → Ordering → Ordering → SignChange

@@ -163,7 +163,7 @@ struct ToBox<'a> {
 }
 
 impl<'a> Restriction<PlaneLine> for ToBox<'a> {
-    ghost cond = { λ by. in_box by.to.now };
+    ghost meets = { λ by. in_box by.to.now };
 
     ghost entries = { λ by. entries_of_box by.to.now };
 

@@ -10,7 +10,7 @@ ghost use Rattle.mob_cells.specs.Roots.{function_at};
 ghost use Rattle.mob_cells.specs.Cells.{IsPlaced};
 ghost use Rattle.mob_clip.specs.Roots.{IsPlacedEdge, FitsRoot, CutsFit};
 ghost use Rattle.mob_clip.specs.Steps.{steps_at, ChangesFit};
-ghost use Rattle.mob_clip.specs.Signs.{changing_sign, known_sign, known_signs, one_sign, ends_change, tally_both, tally_all, edge_tally, tally_change, signs_on, signs_beside, FitsChange};
+ghost use Rattle.mob_clip.specs.Signs.{changing_sign, known_sign, known_signs, one_known, ends_change, tally_both, tally_all, edge_tally, tally_change, signs_on, signs_beside, FitsChange};
 
 use crate::roots::EdgePlaced;
 use crate::steps::{Change, Mix, Steps, merged};
@@ -36,7 +36,7 @@ pub struct SignChange {
 
 /// One of the signs of an edge.
 #[derive(Clone, Copy, PartialEq, Eq)]
-pub enum Place {
+pub enum EdgeSign {
     /// That of the turn.
     Turn,
     /// That of the difference in x to the first end.
@@ -54,11 +54,11 @@ impl Mix for EdgeSigns {
 
     fn mix(&self, other: &EdgeSigns) -> EdgeSigns {
         EdgeSigns {
-            turn: joined(self.turn, other.turn),
-            x_a: joined(self.x_a, other.x_a),
-            x_b: joined(self.x_b, other.x_b),
-            y_a: joined(self.y_a, other.y_a),
-            y_b: joined(self.y_b, other.y_b),
+            turn: known_sign(self.turn, other.turn),
+            x_a: known_sign(self.x_a, other.x_a),
+            x_b: known_sign(self.x_b, other.x_b),
+            y_a: known_sign(self.y_a, other.y_a),
+            y_b: known_sign(self.y_b, other.y_b),
         }
     }
 }
@@ -75,7 +75,7 @@ impl Mix for Tally {
 }
 
 // One of two signs, of which one at least is Equal.
-fn joined(a: Ordering, b: Ordering) -> Ordering
+fn known_sign(a: Ordering, b: Ordering) -> Ordering
     ensures value { result ≡ known_sign a b }
 {
     match a {
@@ -136,8 +136,8 @@ fn change_of(span: &Span, placed: &Placed) -> SignChange
 }
 
 // The signs of an edge, of which one is known.
-fn only(place: Place, sign: Ordering) -> EdgeSigns
-    ensures value { result ≡ one_sign place sign }
+fn one_known(which: EdgeSign, sign: Ordering) -> EdgeSigns
+    ensures value { result ≡ one_known which sign }
 {
     let none = EdgeSigns {
         turn: Ordering::Equal,
@@ -146,12 +146,12 @@ fn only(place: Place, sign: Ordering) -> EdgeSigns
         y_a: Ordering::Equal,
         y_b: Ordering::Equal,
     };
-    match place {
-        Place::Turn => EdgeSigns { turn: sign, ..none },
-        Place::XA => EdgeSigns { x_a: sign, ..none },
-        Place::XB => EdgeSigns { x_b: sign, ..none },
-        Place::YA => EdgeSigns { y_a: sign, ..none },
-        Place::YB => EdgeSigns { y_b: sign, ..none },
+    match which {
+        EdgeSign::Turn => EdgeSigns { turn: sign, ..none },
+        EdgeSign::XA => EdgeSigns { x_a: sign, ..none },
+        EdgeSign::XB => EdgeSigns { x_b: sign, ..none },
+        EdgeSign::YA => EdgeSigns { y_a: sign, ..none },
+        EdgeSign::YB => EdgeSigns { y_b: sign, ..none },
     }
 }
 
@@ -159,21 +159,21 @@ fn only(place: Place, sign: Ordering) -> EdgeSigns
 fn one_sign(
     alloc: Global,
     change: &SignChange,
-    place: Place,
+    which: EdgeSign,
 ) -> Result<Steps<EdgeSigns>, AllocError>
-    ensures values { IfOk result (λ s. (t : Ratio) → steps_at s t ≡ one_sign place (changing_sign change.now t)) }
+    ensures values { IfOk result (λ s. (t : Ratio) → steps_at s t ≡ one_known which (changing_sign change.now t)) }
     ensures fit { IfOk result (λ s. (parts : Ratio → List Ratio) → FitsChange parts change.now → ChangesFit parts s.changes.items) }
 {
     let mut changes = Vec::new(alloc);
     if let Some(at) = change.at {
         changes.push(Change {
             at,
-            there: only(place, Ordering::Equal),
-            behind: only(place, change.behind),
+            there: one_known(which, Ordering::Equal),
+            behind: one_known(which, change.behind),
         })?;
     }
     Ok(Steps {
-        first: only(place, change.first),
+        first: one_known(which, change.first),
         changes,
     })
 }
@@ -183,17 +183,17 @@ fn two_signs(
     alloc: Global,
     span: &Span,
     a: &Placed,
-    at: Place,
+    first: EdgeSign,
     b: &Placed,
-    beside: Place,
+    second: EdgeSign,
 ) -> Result<Steps<EdgeSigns>, AllocError>
-    requires first { IsPlaced span.now a.now }
-    requires second { IsPlaced span.now b.now }
-    ensures values { IfOk result (λ s. (t : Ratio) → has span.now t ≡ true → steps_at s t ≡ known_signs (one_sign at (sign_of (function_at span.now a.now.ends t))) (one_sign beside (sign_of (function_at span.now b.now.ends t)))) }
+    requires placed_a { IsPlaced span.now a.now }
+    requires placed_b { IsPlaced span.now b.now }
+    ensures values { IfOk result (λ s. (t : Ratio) → has span.now t ≡ true → steps_at s t ≡ known_signs (one_known first (sign_of (function_at span.now a.now.ends t))) (one_known second (sign_of (function_at span.now b.now.ends t)))) }
     ensures fit { IfOk result (λ s. (parts : Ratio → List Ratio) → AllFit (parts span.now.lower) → AllFit (parts span.now.upper) → FitsRoot parts a.now → FitsRoot parts b.now → ChangesFit parts s.changes.items) }
 {
-    let left = one_sign(alloc, &change_of(span, a), at)?;
-    let right = one_sign(alloc, &change_of(span, b), beside)?;
+    let left = one_sign(alloc, &change_of(span, a), first)?;
+    let right = one_sign(alloc, &change_of(span, b), second)?;
     merged(alloc, &left, &right)
 }
 
@@ -203,8 +203,22 @@ fn end_signs(alloc: Global, span: &Span, edge: &EdgePlaced) -> Result<Steps<Edge
     ensures values { IfOk result (λ s. (t : Ratio) → has span.now t ≡ true → steps_at s t ≡ signs_beside span.now t edge.now) }
     ensures fit { IfOk result (λ s. (parts : Ratio → List Ratio) → AllFit (parts span.now.lower) → AllFit (parts span.now.upper) → CutsFit parts edge.now → ChangesFit parts s.changes.items) }
 {
-    let xs = two_signs(alloc, span, &edge.x_a, Place::XA, &edge.x_b, Place::XB)?;
-    let ys = two_signs(alloc, span, &edge.y_a, Place::YA, &edge.y_b, Place::YB)?;
+    let xs = two_signs(
+        alloc,
+        span,
+        &edge.x_a,
+        EdgeSign::XA,
+        &edge.x_b,
+        EdgeSign::XB,
+    )?;
+    let ys = two_signs(
+        alloc,
+        span,
+        &edge.y_a,
+        EdgeSign::YA,
+        &edge.y_b,
+        EdgeSign::YB,
+    )?;
     merged(alloc, &xs, &ys)
 }
 
@@ -214,7 +228,7 @@ fn edge_signs(alloc: Global, span: &Span, edge: &EdgePlaced) -> Result<Steps<Edg
     ensures values { IfOk result (λ s. (t : Ratio) → has span.now t ≡ true → steps_at s t ≡ signs_on span.now t edge.now) }
     ensures fit { IfOk result (λ s. (parts : Ratio → List Ratio) → AllFit (parts span.now.lower) → AllFit (parts span.now.upper) → CutsFit parts edge.now → ChangesFit parts s.changes.items) }
 {
-    let turn = one_sign(alloc, &change_of(span, &edge.turn), Place::Turn)?;
+    let turn = one_sign(alloc, &change_of(span, &edge.turn), EdgeSign::Turn)?;
     let ends = end_signs(alloc, span, edge)?;
     merged(alloc, &turn, &ends)
 }

@@ -64,7 +64,7 @@ fn right_of(span: &Span, r: &Frac, included: bool) -> Option<Span>
 }
 
 // Adds what is left of a slice on what of a piece is before an instant, and gives what of the piece is behind it.
-fn pass(
+fn push_before(
     alloc: Global,
     slice: &Slice<PlaneLine>,
     out: &mut Vec<Slice<PlaneLine>>,
@@ -76,7 +76,7 @@ fn pass(
     requires sound { IsSound (λ c. c.from) (λ c. c.to) slice.now }
     requires holds { IsOnSlice slice.now piece }
     requires fits { AllFit (slice_parts plane_parts_of slice.now r.now) }
-    ensures passed { MatchResult result (λ rest. (rest ≡ right_piece piece r.now included) × (v : List (SliceOf PlaneLineOf)) × (out.new.items ≡ out.old.items ++ v) × AreAllOrNothing slice.now keeps (left_piece piece r.now included) v) (λ e. e ≡ OpFault.NoMemory) }
+    ensures pushed { MatchResult result (λ rest. (rest ≡ right_piece piece r.now included) × (v : List (SliceOf PlaneLineOf)) × (out.new.items ≡ out.old.items ++ v) × AreAllOrNothing slice.now keeps (left_piece piece r.now included) v) (λ e. e ≡ OpFault.NoMemory) }
 {
     let span = match piece {
         Some(span) => span,
@@ -139,12 +139,12 @@ pub fn kept_on(
     let changes = steps.changes.as_slice();
     for change in changes {
         let front = is_kept(want, &now);
-        rest = match pass(alloc, slice, &mut out, rest, &change.at, false, front) {
+        rest = match push_before(alloc, slice, &mut out, rest, &change.at, false, front) {
             Ok(rest) => rest,
             Err(fault) => return Err(fault),
         };
         let there = is_kept(want, &change.there);
-        rest = match pass(alloc, slice, &mut out, rest, &change.at, true, there) {
+        rest = match push_before(alloc, slice, &mut out, rest, &change.at, true, there) {
             Ok(rest) => rest,
             Err(fault) => return Err(fault),
         };

@@ -49,7 +49,7 @@ struct ToEdges<'a> {
 }
 
 impl<'a> Restriction<PlaneLine> for ToEdges<'a> {
-    ghost cond = { λ by t p. is_inside_edges by.edges.now p };
+    ghost meets = { λ by t p. is_inside_edges by.edges.now p };
 
     ghost entries = { λ by s. entries_of_edges by.edges.now s };
 

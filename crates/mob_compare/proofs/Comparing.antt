@@ -25,7 +25,8 @@ use Rattle.mob_slice.specs.declared.formula.LookFault.{LookFault}
 use Rattle.mob_slice.specs.declared.formula.LookFault.TheVariants.{Passed as LookPassed, NoMemory as LookNoMemory}
 use Rattle.mob_slice.proofs.Cuts.{all_both, all_first, all_second}
 use Rattle.mob_slice.proofs.Firsts.{one_first}
-use Rattle.mob_lift.proofs.Judged.{none_some, first_joined}
+use Rattle.mob_lifted.proofs.Options.{none_some}
+use Rattle.mob_lifted.proofs.Firsts.{first_joined}
 use Rattle.mob_lift.specs.Given.{IsGiven, on_sides}
 use Rattle.mob_cells.specs.declared.linear.Ends.{Ends}
 use Rattle.mob_cells.specs.Roots.{IsLevel}

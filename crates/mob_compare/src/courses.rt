@@ -90,7 +90,7 @@ where
         |piece: &Piece<'_, C, C>| -> Result<Vec<Slice<Steady<bool>>>, OpFault>
             requires asked { MayAsk C.ordered rel }
             requires holds { HoldsPiece C.start_of C.end_of C.start_of C.end_of (piece_of piece.now) }
-            ensures { IsGiven steady_value steady_limit steady_limit (λ v. v.items) (on_sides C.value_of C.value_of (C.relation rel) (piece_of piece.now)) piece.now.span (entries_of_gaps C.value_of C.parts_of C.gaps_of (piece_of piece.now)) result }
+            ensures given { IsGiven steady_value steady_limit steady_limit (λ v. v.items) (on_sides C.value_of C.value_of (C.relation rel) (piece_of piece.now)) piece.now.span (entries_of_gaps C.value_of C.parts_of C.gaps_of (piece_of piece.now)) result }
         { on_piece::<C>(alloc, piece, rel) },
     )
 }

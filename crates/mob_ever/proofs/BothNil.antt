@@ -2,6 +2,7 @@
 use Rattle.std.specs.Prelude.{◌≡◌, ◌↔◌, Bool, true, false, cond, ◌&&◌, ◌||◌, refl}
 use Rattle.std.proofs.Common.{arith, ap, sym, ◌∙◌, subst, true≢false}
 use Rattle.std.specs.declared.cmp.Ordering.TheVariants.{Equal}
+use Rattle.mob_span.proofs.Insides.{inner_has}
 use Rattle.mob_ratio.specs.Ratio.{Ratio, ◌-ℚ◌, ◌*ℚ◌, ◌/ℚ◌}
 use Rattle.mob_ratio.specs.Order.{before, same}
 use Rattle.mob_ratio.specs.Line.{line_at}
@@ -10,7 +11,7 @@ use Rattle.mob_ratio.proofs.Order.{before-self, same_exact}
 use Rattle.mob_ratio.proofs.Field.{mul_comm, sub_self}
 use Rattle.mob_ratio.proofs.Divide.{mul_cancel, quotients_same}
 use Rattle.mob_ratio.proofs.LineAt.{line_at-lower, line_at-upper, line_at-short, line_at-level, line_at-scale}
-use Rattle.mob_ratio.proofs.Clear.{clear1, clear2, cleared}
+use Rattle.mob_ratio.proofs.Clear.{clear1, cleared}
 use Rattle.mob_ratio.proofs.IntRing.{linear}
 use Rattle.mob_ratio.proofs.Signs.{line_at-diff, sign_nil, sub_zero}
 use Rattle.mob_span.specs.Span.{SpanOf, has, has_instant}
@@ -18,7 +19,7 @@ use Rattle.mob_cells.specs.declared.linear.Ends.{Ends}
 use Rattle.mob_cells.specs.Roots.{function_at}
 use Rattle.mob_ever.specs.Taken.{takes_inside, is_nil_line, nil_inside, both_nil}
 use Rattle.mob_ever.proofs.Taking.{inside_from, inside_to, level_sign, no_opposite, is_sign_of}
-use Rattle.mob_ever.proofs.OnSpans.{IsPlace, at_lower, within, at_upper, place_of, inside_has, lower_has, upper_has, short_has}
+use Rattle.mob_ever.proofs.OnSpans.{IsPlace, at_lower, within, at_upper, place_of, lower_has, upper_has, short_has}
 
 nil_mul : (a : Ratio) → nil *ℚ a ≡ nil
 nil_mul = clear1 _ (λ D a p. simp cleared (omega (arith, linear)))
@@ -123,7 +124,7 @@ high_nil : (s : SpanOf) (f : Ends) (t : Ratio) → before s.lower s.upper ≡ tr
 high_nil s f t k e z = (same_exact f.at_upper nil).1 (sym (line_at-upper f.at_lower f.at_upper s.lower s.upper k) ∙ ap (λ q. function_at s f q) (sym e) ∙ z)
 
 long_to : (s : SpanOf) (f e : Ends) → before s.lower s.upper ≡ true → (a b : Bool) → nil_inside f e ≡ a → (s.lower_inc && same f.at_lower nil && same e.at_lower nil) ≡ b → (a || b || (s.upper_inc && same f.at_upper nil && same e.at_upper nil)) ≡ true → IsBothNil s f e
-long_to s f e h true b ea eb k = let m = (nil_inside_is f e s.lower s.upper h).0 ea in (m.0, inside_has s m.0 m.1 m.2, m.3, m.4)
+long_to s f e h true b ea eb k = let m = (nil_inside_is f e s.lower s.upper h).0 ea in (m.0, inner_has s m.0 m.1 m.2, m.3, m.4)
 long_to s f e h false true ea eb k = (s.lower, lower_has s h (grind (arith, eb)), at_low s f (grind (arith, eb)), at_low s e (grind (arith, eb)))
 long_to s f e h false false ea eb k = (s.upper, upper_has s h (grind (arith, k)), at_high s f h (grind (arith, k)), at_high s e h (grind (arith, k)))
 

@@ -11,7 +11,8 @@ use Rattle.mob_slice.specs.declared.comparison.Rel.{Rel}
 use Rattle.mob_slice.specs.declared.comparison.Gaps.{Gaps}
 use Rattle.mob_slice.specs.declared.formula.Passed.{Passed}
 use Rattle.mob_slice.proofs.Firsts.{one_first}
-use Rattle.mob_lift.proofs.Judged.{none_some, first_joined}
+use Rattle.mob_lifted.proofs.Options.{none_some}
+use Rattle.mob_lifted.proofs.Firsts.{first_joined}
 use Rattle.mob_cells.specs.Gaps.{entries_of_ends}
 use Rattle.mob_cells.proofs.SteadyEnds.{steady_ends}
 

@@ -1,4 +1,4 @@
--- When courses pass a test of their order on a piece.
+-- When courses meet a test of their order on a piece.
 use Rattle.std.specs.Prelude.{◌≡◌, ◌↔◌, Bool, true, false, cond, ◌&&◌, ◌||◌, refl}
 use Rattle.std.proofs.Common.{arith, ap, sym, ◌∙◌, true≢false}
 use Rattle.std.specs.declared.cmp.Ordering.{Ordering}
@@ -20,15 +20,15 @@ use Rattle.mob_ever.proofs.Taking.{sign_of_is, is_sign_of}
 use Rattle.mob_ever.proofs.OnSpans.{takes_exact}
 use Rattle.mob_ever.proofs.BothNil.{both_nil_exact}
 
--- an instant of the span at which the test passes
-abbrev pub Passes : (Ordering → Bool) → SpanOf → (Ratio → Ordering) → Type 0
-Passes test s order = (t : Ratio) × (has s t ≡ true) × (test (order t) ≡ true)
+-- an instant of the span at which the test is met
+abbrev pub Meets : (Ordering → Bool) → SpanOf → (Ratio → Ordering) → Type 0
+Meets test s order = (t : Ratio) × (has s t ≡ true) × (test (order t) ≡ true)
 
 -- ---- one line
-by_sign : (test : Ordering → Bool) (s : SpanOf) (f : Ends) (o : Ordering) → has_instant s ≡ true → (test o && takes_sign s f o) ≡ true → Passes test s (λ t. sign_of (function_at s f t))
+by_sign : (test : Ordering → Bool) (s : SpanOf) (f : Ends) (o : Ordering) → has_instant s ≡ true → (test o && takes_sign s f o) ≡ true → Meets test s (λ t. sign_of (function_at s f t))
 by_sign test s f o i h = let m = (takes_exact s f o i).0 (grind (arith, h)) in (m.0, m.1, ap test m.2 ∙ grind (arith, h))
 
-one_to : (test : Ordering → Bool) (s : SpanOf) (f : Ends) → has_instant s ≡ true → (a b : Bool) → (test Less && takes_sign s f Less) ≡ a → (test Equal && takes_sign s f Equal) ≡ b → (a || b || (test Greater && takes_sign s f Greater)) ≡ true → Passes test s (λ t. sign_of (function_at s f t))
+one_to : (test : Ordering → Bool) (s : SpanOf) (f : Ends) → has_instant s ≡ true → (a b : Bool) → (test Less && takes_sign s f Less) ≡ a → (test Equal && takes_sign s f Equal) ≡ b → (a || b || (test Greater && takes_sign s f Greater)) ≡ true → Meets test s (λ t. sign_of (function_at s f t))
 one_to test s f i true b ea eb h = by_sign test s f Less i ea
 one_to test s f i false true ea eb h = by_sign test s f Equal i eb
 one_to test s f i false false ea eb h = by_sign test s f Greater i h
@@ -51,22 +51,22 @@ greater_not e = cc
 apart : (s : SpanOf) (f : Ends) (o : Ordering) (t : Ratio) → sign_of (function_at s f t) ≡ o → (o ≡ Equal → ⊥) → same (function_at s f t) nil ≡ false
 apart s f o t e n = false_unless (same (function_at s f t) nil) (λ h. n (sym e ∙ sign_of_is (function_at s f t) Equal h))
 
-at_less : (test : Ordering → Bool) (s : SpanOf) (f e : Ends) (t : Ratio) → has s t ≡ true → test Less ≡ true → (same (function_at s f t) nil && same (function_at s e t) nil) ≡ false → Passes test s (two_order s f e)
+at_less : (test : Ordering → Bool) (s : SpanOf) (f e : Ends) (t : Ratio) → has s t ≡ true → test Less ≡ true → (same (function_at s f t) nil && same (function_at s e t) nil) ≡ false → Meets test s (two_order s f e)
 at_less test s f e t h k n = (t, h, ap (λ z. test (cond z Equal Less)) n ∙ k)
 
-first_apart : (test : Ordering → Bool) (s : SpanOf) (f e : Ends) (o : Ordering) → has_instant s ≡ true → (o ≡ Equal → ⊥) → test Less ≡ true → takes_sign s f o ≡ true → Passes test s (two_order s f e)
+first_apart : (test : Ordering → Bool) (s : SpanOf) (f e : Ends) (o : Ordering) → has_instant s ≡ true → (o ≡ Equal → ⊥) → test Less ≡ true → takes_sign s f o ≡ true → Meets test s (two_order s f e)
 first_apart test s f e o i n k h = let m = (takes_exact s f o i).0 h in at_less test s f e m.0 m.1 k (rw (apart s f o m.0 m.2 n) refl)
 
-second_apart : (test : Ordering → Bool) (s : SpanOf) (f e : Ends) (o : Ordering) → has_instant s ≡ true → (o ≡ Equal → ⊥) → test Less ≡ true → takes_sign s e o ≡ true → Passes test s (two_order s f e)
+second_apart : (test : Ordering → Bool) (s : SpanOf) (f e : Ends) (o : Ordering) → has_instant s ≡ true → (o ≡ Equal → ⊥) → test Less ≡ true → takes_sign s e o ≡ true → Meets test s (two_order s f e)
 second_apart test s f e o i n k h = let m = (takes_exact s e o i).0 h in let w = apart s e o m.0 m.2 n in at_less test s f e m.0 m.1 k (grind (arith, w))
 
-apart_to : (test : Ordering → Bool) (s : SpanOf) (f e : Ends) → has_instant s ≡ true → test Less ≡ true → (a b c : Bool) → takes_sign s f Less ≡ a → takes_sign s f Greater ≡ b → takes_sign s e Less ≡ c → (a || b || c || takes_sign s e Greater) ≡ true → Passes test s (two_order s f e)
+apart_to : (test : Ordering → Bool) (s : SpanOf) (f e : Ends) → has_instant s ≡ true → test Less ≡ true → (a b c : Bool) → takes_sign s f Less ≡ a → takes_sign s f Greater ≡ b → takes_sign s e Less ≡ c → (a || b || c || takes_sign s e Greater) ≡ true → Meets test s (two_order s f e)
 apart_to test s f e i k true b c ea eb ec h = first_apart test s f e Less i less_not k ea
 apart_to test s f e i k false true c ea eb ec h = first_apart test s f e Greater i greater_not k eb
 apart_to test s f e i k false false true ea eb ec h = second_apart test s f e Less i less_not k ec
 apart_to test s f e i k false false false ea eb ec h = second_apart test s f e Greater i greater_not k h
 
-two_to : (test : Ordering → Bool) (s : SpanOf) (f e : Ends) → has_instant s ≡ true → (a : Bool) → (test Equal && both_nil s f e) ≡ a → (a || (test Less && (takes_sign s f Less || takes_sign s f Greater || takes_sign s e Less || takes_sign s e Greater))) ≡ true → Passes test s (two_order s f e)
+two_to : (test : Ordering → Bool) (s : SpanOf) (f e : Ends) → has_instant s ≡ true → (a : Bool) → (test Equal && both_nil s f e) ≡ a → (a || (test Less && (takes_sign s f Less || takes_sign s f Greater || takes_sign s e Less || takes_sign s e Greater))) ≡ true → Meets test s (two_order s f e)
 two_to test s f e i true ea h =
     let m = (both_nil_exact s f e i).0 (grind (arith, ea)) in
     (m.0, m.1, rw ((same_exact (function_at s f m.0) nil).1 m.2, (same_exact (function_at s e m.0) nil).1 m.3) (grind (arith, ea)))
@@ -99,14 +99,14 @@ two_from test s f e t i h false b ea eb k = apart_from (test Equal && both_nil s
     before_two a b c h = grind (arith, h)
 
 -- ---- courses by their gaps
-abbrev pub GapsPass : (Ordering → Bool) → SpanOf → Gaps → Gaps → Type 0
-GapsPass test s a b = Passes test s (λ t. order_of (gaps_at a b s.lower s.upper t))
+abbrev pub GapsMeet : (Ordering → Bool) → SpanOf → Gaps → Gaps → Type 0
+GapsMeet test s a b = Meets test s (λ t. order_of (gaps_at a b s.lower s.upper t))
 
-level_gaps : (test : Ordering → Bool) (s : SpanOf) → has_instant s ≡ true → (test Equal ≡ true) ↔ Passes test s (λ t. Equal)
+level_gaps : (test : Ordering → Bool) (s : SpanOf) → has_instant s ≡ true → (test Equal ≡ true) ↔ Meets test s (λ t. Equal)
 level_gaps test s i = (λ h. let m = some_instant s i in (m.0, m.1, h), λ m. m.2)
 
--- the test of the gaps at the two ends is true exactly where at some instant of the span the order passes
-pub gaps_exact : (test : Ordering → Bool) (s : SpanOf) (a b : Gaps) → has_instant s ≡ true → (gaps_meet test s a b ≡ true) ↔ GapsPass test s a b
+-- the test of the gaps at the two ends is true exactly where at some instant of the span the order meets it
+pub gaps_exact : (test : Ordering → Bool) (s : SpanOf) (a b : Gaps) → has_instant s ≡ true → (gaps_meet test s a b ≡ true) ↔ GapsMeet test s a b
 gaps_exact test s (One f) (One g) i = (
   λ h. one_to test s (line_between f g) i (test Less && takes_sign s (line_between f g) Less) (test Equal && takes_sign s (line_between f g) Equal) refl refl h,
   λ m. one_from test s (line_between f g) m.0 i m.1 (sign_of (function_at s (line_between f g) m.0)) refl m.2,

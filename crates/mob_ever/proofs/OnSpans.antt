@@ -2,6 +2,7 @@
 use Rattle.std.specs.Prelude.{◌≡◌, ◌↔◌, Bool, true, false, cond, ◌&&◌, ◌||◌, refl}
 use Rattle.std.proofs.Common.{arith, ap, sym, ◌∙◌, subst}
 use Rattle.std.specs.declared.cmp.Ordering.{Ordering}
+use Rattle.mob_span.proofs.Insides.{inner_has}
 use Rattle.mob_ratio.specs.Ratio.{Ratio}
 use Rattle.mob_ratio.specs.Order.{before}
 use Rattle.mob_ratio.specs.Sign.{sign_of}
@@ -14,9 +15,6 @@ use Rattle.mob_ever.specs.Taken.{sign_is, takes_inside, takes_sign}
 use Rattle.mob_ever.proofs.Taking.{inside_from, inside_to, sign_of_is, is_sign_of}
 
 -- ---- where an instant of a span lies
-pub inside_has : (s : SpanOf) (t : Ratio) → before s.lower t ≡ true → before t s.upper ≡ true → has s t ≡ true
-inside_has s t h k = rw (h, k) refl
-
 pub lower_has : (s : SpanOf) → before s.lower s.upper ≡ true → s.lower_inc ≡ true → has s s.lower ≡ true
 lower_has s h i = rw (before-self s.lower, h, i) refl
 
@@ -46,7 +44,7 @@ abbrev pub IsTaken : SpanOf → Ends → Ordering → Type 0
 IsTaken s f o = (t : Ratio) × (has s t ≡ true) × (sign_of (function_at s f t) ≡ o)
 
 long_to : (s : SpanOf) (f : Ends) (o : Ordering) → before s.lower s.upper ≡ true → (a b : Bool) → takes_inside f.at_lower f.at_upper o ≡ a → (s.lower_inc && sign_is o f.at_lower) ≡ b → (a || b || (s.upper_inc && sign_is o f.at_upper)) ≡ true → IsTaken s f o
-long_to s f o h true b ea eb k = let m = inside_to f.at_lower f.at_upper s.lower s.upper o h ea in (m.0, inside_has s m.0 m.1 m.2, m.3)
+long_to s f o h true b ea eb k = let m = inside_to f.at_lower f.at_upper s.lower s.upper o h ea in (m.0, inner_has s m.0 m.1 m.2, m.3)
 long_to s f o h false true ea eb k = (s.lower, lower_has s h (grind (arith, eb)), ap sign_of (line_at-lower f.at_lower f.at_upper s.lower s.upper) ∙ sign_of_is f.at_lower o (grind (arith, eb)))
 long_to s f o h false false ea eb k = (s.upper, upper_has s h (grind (arith, k)), ap sign_of (line_at-upper f.at_lower f.at_upper s.lower s.upper h) ∙ sign_of_is f.at_upper o (grind (arith, k)))
 

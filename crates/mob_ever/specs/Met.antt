@@ -26,15 +26,15 @@ order_of (Two g h) = cond (same g nil && same h nil) Equal Less
 abbrev pub line_between : Ratio → Ratio → Ends
 line_between f g = record { at_lower = f; at_upper = g }
 
--- whether a line passes a test of its sign at some instant of the span
+-- whether a line meets a test of its sign at some instant of the span
 abbrev pub one_meets : (Ordering → Bool) → SpanOf → Ends → Bool
 one_meets test s f = (test Less && takes_sign s f Less) || (test Equal && takes_sign s f Equal) || (test Greater && takes_sign s f Greater)
 
--- whether two lines pass a test that is Equal where both are 0, and else Less
+-- whether two lines meet a test that is Equal where both are 0, and else Less
 abbrev pub two_meet : (Ordering → Bool) → SpanOf → Ends → Ends → Bool
 two_meet test s f e = (test Equal && both_nil s f e) || (test Less && (takes_sign s f Less || takes_sign s f Greater || takes_sign s e Less || takes_sign s e Greater))
 
--- whether courses with the first gaps at the lower end of the span and the second at the upper one pass a test of their order
+-- whether courses with the first gaps at the lower end of the span and the second at the upper one meet a test of their order
 abbrev pub gaps_meet : (Ordering → Bool) → SpanOf → Gaps → Gaps → Bool
 gaps_meet test s (One f) (One g) = one_meets test s (line_between f g)
 gaps_meet test s (Two f e) (Two g h) = two_meet test s (line_between f g) (line_between e h)

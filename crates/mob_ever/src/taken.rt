@@ -6,7 +6,7 @@ ghost use Rattle.mob_ratio.specs.Sign.{nil, opposite};
 ghost use Rattle.mob_slice.specs.Ranks.{holds};
 ghost use Rattle.mob_slice.specs.Sameness.{same_bool};
 ghost use Rattle.mob_ever.specs.Taken.{sign_is, takes_inside, takes_sign, is_nil_line, nil_inside, both_nil};
-ghost use Rattle.mob_ever.specs.Met.{one_meets, two_meet, gaps_meet};
+ghost use Rattle.mob_ever.specs.Met.{line_between, one_meets, two_meet, gaps_meet};
 
 use mob_cells::Ends;
 use mob_frac::{Frac, Wide, same_ratio};
@@ -54,7 +54,7 @@ fn takes_inside(ends: &Ends, sign: Ordering) -> bool
 }
 
 // Whether it takes it at some instant of the span.
-fn takes(span: &Span, ends: &Ends, sign: Ordering) -> bool
+fn takes_sign(span: &Span, ends: &Ends, sign: Ordering) -> bool
     ensures value { result ≡ takes_sign span.now ends.now sign }
 {
     if !span.is_long() {
@@ -113,39 +113,42 @@ fn both_nil(span: &Span, f: &Ends, e: &Ends) -> bool
 }
 
 // Whether the comparison has the wanted truth value for two values that stand so to each other.
-fn passes(rel: Rel, want: bool, order: Ordering) -> bool
+fn is_as_wanted(rel: Rel, want: bool, order: Ordering) -> bool
     ensures value { result ≡ same_bool (holds rel order) want }
 {
     rel.holds(order) == want
 }
 
+// Whether the comparison has the wanted truth value at some instant of the span, for courses with this one gap.
 fn one_meets(span: &Span, rel: Rel, want: bool, f: &Ends) -> bool
     ensures value { result ≡ one_meets (λ o. same_bool (holds rel o) want) span.now f.now }
 {
-    (passes(rel, want, Ordering::Less) && takes(span, f, Ordering::Less))
-        || (passes(rel, want, Ordering::Equal) && takes(span, f, Ordering::Equal))
-        || (passes(rel, want, Ordering::Greater) && takes(span, f, Ordering::Greater))
+    (is_as_wanted(rel, want, Ordering::Less) && takes_sign(span, f, Ordering::Less))
+        || (is_as_wanted(rel, want, Ordering::Equal) && takes_sign(span, f, Ordering::Equal))
+        || (is_as_wanted(rel, want, Ordering::Greater) && takes_sign(span, f, Ordering::Greater))
 }
 
 // Whether one of the two functions is other than 0 at some instant of the span.
 fn some_apart(span: &Span, f: &Ends, e: &Ends) -> bool
     ensures value { result ≡ (takes_sign span.now f.now Ordering.Less || takes_sign span.now f.now Ordering.Greater || takes_sign span.now e.now Ordering.Less || takes_sign span.now e.now Ordering.Greater) }
 {
-    takes(span, f, Ordering::Less)
-        || takes(span, f, Ordering::Greater)
-        || takes(span, e, Ordering::Less)
-        || takes(span, e, Ordering::Greater)
+    takes_sign(span, f, Ordering::Less)
+        || takes_sign(span, f, Ordering::Greater)
+        || takes_sign(span, e, Ordering::Less)
+        || takes_sign(span, e, Ordering::Greater)
 }
 
+// The same for courses with two gaps, as points.
 fn two_meet(span: &Span, rel: Rel, want: bool, f: &Ends, e: &Ends) -> bool
     ensures value { result ≡ two_meet (λ o. same_bool (holds rel o) want) span.now f.now e.now }
 {
-    (passes(rel, want, Ordering::Equal) && both_nil(span, f, e))
-        || (passes(rel, want, Ordering::Less) && some_apart(span, f, e))
+    (is_as_wanted(rel, want, Ordering::Equal) && both_nil(span, f, e))
+        || (is_as_wanted(rel, want, Ordering::Less) && some_apart(span, f, e))
 }
 
-fn ends(at_lower: Frac, at_upper: Frac) -> Ends
-    ensures ends { result ≡ record { at_lower = at_lower; at_upper = at_upper } }
+// The line between two values, at the lower end and at the upper one.
+fn line_between(at_lower: Frac, at_upper: Frac) -> Ends
+    ensures line { result ≡ line_between at_lower at_upper }
 {
     Ends { at_lower, at_upper }
 }
@@ -156,14 +159,14 @@ pub fn gaps_meet(span: &Span, rel: Rel, want: bool, lower: &Gaps, upper: &Gaps) 
     ensures value { result ≡ gaps_meet (λ o. same_bool (holds rel o) want) span.now lower.now upper.now }
 {
     match *lower {
-        Gaps::Constant => passes(rel, want, Ordering::Equal),
+        Gaps::Constant => is_as_wanted(rel, want, Ordering::Equal),
         Gaps::One(f) => match *upper {
-            Gaps::One(g) => one_meets(span, rel, want, &ends(f, g)),
-            _ => passes(rel, want, Ordering::Equal),
+            Gaps::One(g) => one_meets(span, rel, want, &line_between(f, g)),
+            _ => is_as_wanted(rel, want, Ordering::Equal),
         },
         Gaps::Two(f, e) => match *upper {
-            Gaps::Two(g, h) => two_meet(span, rel, want, &ends(f, g), &ends(e, h)),
-            _ => passes(rel, want, Ordering::Equal),
+            Gaps::Two(g, h) => two_meet(span, rel, want, &line_between(f, g), &line_between(e, h)),
+            _ => is_as_wanted(rel, want, Ordering::Equal),
         },
     }
 }

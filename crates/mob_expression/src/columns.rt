@@ -11,7 +11,7 @@ use mob_ast::{Kind, SqlType, Word};
 
 // The one column of this name in all tables of FROM.
 fn bare_column(from: &[ScopeTable<'_>], name: &Word) -> Result<Found, Fault>
-    ensures { AnswersAs (λ f. f) result (the_one name.now.place (matches 0 (sources_of from.now) name.now.text)) }
+    ensures only_one { AnswersAs (λ f. f) result (the_one name.now.place (matches 0 (sources_of from.now) name.now.text)) }
 {
     let mut one: Option<Found> = None;
     for (index, source) in from.iter().enumerate() {

@@ -59,7 +59,7 @@ pub fn only(args: &[Expr]) -> Option<&Expr>
 
 // The string and its place, where the operands are a bare string alone.
 fn lone_string(args: &[Expr]) -> Option<(&str, u32)>
-    ensures { option_map (λ r. (r.0.now, r.1)) result ≡ lone_string (trees_of args.now) }
+    ensures alone { option_map (λ r. (r.0.now, r.1)) result ≡ lone_string (trees_of args.now) }
 {
     let only = only(args)?;
     match &only.node {
@@ -77,7 +77,7 @@ fn cast_of_string(
     place: u32,
     args: &[Expr],
 ) -> Result<Option<TExpr>, Fault>
-    ensures { TypesTo (option_map typed_of) result consts.new (cast_of_string (scope_of scope.now) word.now place (lone_string (trees_of args.now)) consts.old) }
+    ensures at_once { TypesTo (option_map typed_of) result consts.new (cast_of_string (scope_of scope.now) word.now place (lone_string (trees_of args.now)) consts.old) }
 {
     let Some((text, text_place)) = lone_string(args) else {
         return Ok(None);
@@ -103,7 +103,7 @@ fn settled_constant(
     text: &str,
     place: u32,
 ) -> Result<Option<TExpr>, Fault>
-    ensures { TypesTo (option_map typed_of) result consts.new (settled (constant (scope_of scope.now) ty text.now place) consts.old) }
+    ensures at_once { TypesTo (option_map typed_of) result consts.new (settled (constant (scope_of scope.now) ty text.now place) consts.old) }
 {
     Ok(Some(constant(alloc, scope, consts, ty, text, place)?))
 }
@@ -117,7 +117,7 @@ fn settled_string(
     text: &str,
     place: u32,
 ) -> Result<Option<TExpr>, Fault>
-    ensures { TypesTo (option_map typed_of) result consts.new (settled (typed_string (scope_of scope.now) word.now text.now place) consts.old) }
+    ensures at_once { TypesTo (option_map typed_of) result consts.new (settled (typed_string (scope_of scope.now) word.now text.now place) consts.old) }
 {
     let Some(ty) = literal_type(word, text) else {
         return Err(Fault::Wrong {

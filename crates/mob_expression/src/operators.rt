@@ -17,14 +17,14 @@ use std::alloc::{AllocError, Global};
 /// The type of a typed expression.
 #[tactic(auto, using(mob_typed::proofs::TreeFacts::typed_is))]
 pub fn type_of(e: &TExpr) -> SqlType
-    ensures { result ≡ type_of (typed_of e.now) }
+    ensures own_type { result ≡ type_of (typed_of e.now) }
 {
     e.ty
 }
 
 // The types of typed expressions.
 fn types_of(alloc: Global, args: &[TExpr]) -> Result<Vec<SqlType>, AllocError>
-    ensures { IfOk result (λ v. v.items ≡ types_of (map typed_of args.now)) }
+    ensures in_order { IfOk result (λ v. v.items ≡ types_of (map typed_of args.now)) }
 {
     let mut types = Vec::new(alloc);
     for arg in args {
@@ -43,7 +43,7 @@ pub fn is_signed(sign: &str) -> bool
 // Whether a number literal under any number of signs is 0; None for another expression.
 #[tactic(auto, using(crate::proofs::TreeFacts::digits_is))]
 fn literal_of(e: &Expr) -> Option<bool>
-    ensures { result ≡ option_map is_zero (digits_of (tree_of e.now)) }
+    ensures zero { result ≡ option_map is_zero (digits_of (tree_of e.now)) }
 {
     match &e.node {
         Node::Number(text) => Some(is_zero(text.as_str())),
@@ -63,7 +63,7 @@ fn literal_of(e: &Expr) -> Option<bool>
 
 // Whether the second of two operands is a number literal that is 0; None where it is none.
 fn divisor_of(args: &[Expr]) -> Option<bool>
-    ensures { result ≡ option_map is_zero (divisor_of (trees_of args.now)) }
+    ensures zero { result ≡ option_map is_zero (divisor_of (trees_of args.now)) }
 {
     let (_, others) = args.split_first()?;
     literal_of(only(others)?)
@@ -71,7 +71,7 @@ fn divisor_of(args: &[Expr]) -> Option<bool>
 
 // Why an operator has no line in the table for these types.
 fn missing(form: Form, name: &str, types: &[SqlType]) -> Kind
-    ensures { result ≡ missing form name.now types.now }
+    ensures cause { result ≡ missing form name.now types.now }
 {
     match form {
         Form::Word => Kind::NoSuchOperator,
@@ -87,7 +87,7 @@ fn missing(form: Form, name: &str, types: &[SqlType]) -> Kind
 }
 
 fn missing_sign(name: &str, types: &[SqlType]) -> Kind
-    ensures { result ≡ missing_sign name.now types.now }
+    ensures cause { result ≡ missing_sign name.now types.now }
 {
     if is_irrational(Form::Sign, name) {
         return Kind::Irrational;
@@ -99,7 +99,7 @@ fn missing_sign(name: &str, types: &[SqlType]) -> Kind
 }
 
 fn are_linear(types: &[SqlType]) -> bool
-    ensures { result ≡ are_linear types.now }
+    ensures linear { result ≡ are_linear types.now }
 {
     match types {
         [SqlType::TFrac, SqlType::TFrac] => true,
@@ -108,7 +108,7 @@ fn are_linear(types: &[SqlType]) -> bool
 }
 
 fn divides_by_zero(op: Op, divisor: Option<bool>) -> bool
-    ensures { result ≡ divides_by_zero op divisor }
+    ensures by_zero { result ≡ divides_by_zero op divisor }
 {
     match (op, divisor) {
         (Op::Divide, Some(zero)) => zero,
@@ -125,7 +125,7 @@ fn operated(
     divisor: Option<bool>,
     args: Vec<TExpr>,
 ) -> Result<TExpr, Fault>
-    ensures { AnswersAs typed_of result (operated form name.now place divisor (map typed_of args.items)) }
+    ensures typed { AnswersAs typed_of result (operated form name.now place divisor (map typed_of args.items)) }
 {
     let types = types_of(alloc, &args)?;
     let Some((op, ty)) = operator_for(form, name, &types, divisor.is_some()) else {
@@ -144,7 +144,7 @@ fn operated(
 }
 
 fn can_cast(from: SqlType, to: SqlType) -> bool
-    ensures { result ≡ can_cast from to }
+    ensures allowed { result ≡ can_cast from to }
 {
     match (from, to) {
         (SqlType::Int, SqlType::Numeric) => true,
@@ -155,7 +155,7 @@ fn can_cast(from: SqlType, to: SqlType) -> bool
 
 // A cast of a typed operand.
 fn cast(alloc: Global, word: &TypeWord, place: u32, args: Vec<TExpr>) -> Result<TExpr, Fault>
-    ensures { AnswersAs typed_of result (cast word.now place (map typed_of args.items)) }
+    ensures typed { AnswersAs typed_of result (cast word.now place (map typed_of args.items)) }
 {
     let Some(ty) = type_named(word) else {
         return Err(Fault::Wrong {
@@ -174,7 +174,7 @@ fn cast(alloc: Global, word: &TypeWord, place: u32, args: Vec<TExpr>) -> Result<
 }
 
 fn can_cast_all(types: &[SqlType], to: SqlType) -> bool
-    ensures { result ≡ can_cast_all types.now to }
+    ensures one_allowed { result ≡ can_cast_all types.now to }
 {
     match types {
         [from] => can_cast(*from, to),

@@ -34,7 +34,7 @@ static GEOMETRY_WORDS: [(&'static str, SqlType); 2] = [
 
 // The type of this name among these.
 fn type_among(words: &[(&str, SqlType)], name: &str) -> Option<SqlType>
-    ensures { result ≡ type_among (map (λ w. (w.0.now, w.1)) words.now) name.now }
+    ensures first { result ≡ type_among (map (λ w. (w.0.now, w.1)) words.now) name.now }
 {
     for (word, ty) in words {
         if *word == name {
@@ -45,13 +45,13 @@ fn type_among(words: &[(&str, SqlType)], name: &str) -> Option<SqlType>
 }
 
 fn type_words() -> &'static [(&'static str, SqlType)]
-    ensures { map (λ w. (w.0.now, w.1)) result.now ≡ type_words }
+    ensures all { map (λ w. (w.0.now, w.1)) result.now ≡ type_words }
 {
     &TYPE_WORDS
 }
 
 fn geometry_words() -> &'static [(&'static str, SqlType)]
-    ensures { map (λ w. (w.0.now, w.1)) result.now ≡ geometry_words }
+    ensures all { map (λ w. (w.0.now, w.1)) result.now ≡ geometry_words }
 {
     &GEOMETRY_WORDS
 }
@@ -99,7 +99,7 @@ pub fn is_zero(text: &str) -> bool
 
 // Whether a digit other than 0 stands before any letter of an exponent and any slash.
 fn has_figure(text: &[u8]) -> bool
-    ensures { result ≡ has_figure text.now }
+    ensures figure { result ≡ has_figure text.now }
 {
     text.iter()
         .take_while(|b| !(**b == b'e' || **b == b'E' || **b == b'/'))
@@ -107,14 +107,14 @@ fn has_figure(text: &[u8]) -> bool
 }
 
 fn is_blank(b: u8) -> bool
-    ensures { result ≡ is_blank b }
+    ensures blank { result ≡ is_blank b }
 {
     b == b' ' || b == b'\t' || b == b'\r' || b == b'\n'
 }
 
 // A loop, since a script may have any number of blanks, and a call for each would take stack.
 fn skip_blanks(text: &[u8]) -> &[u8]
-    ensures { result.now ≡ skip_blanks text.now }
+    ensures behind_blanks { result.now ≡ skip_blanks text.now }
 {
     let mut rest = text;
     'blanks: while let Some((first, behind)) = rest.split_first() {
@@ -128,7 +128,7 @@ fn skip_blanks(text: &[u8]) -> &[u8]
 
 // Whether a text begins with this word in letters of either case.
 fn begins_with_word(text: &[u8], word: &[u8]) -> bool
-    ensures { result ≡ begins_with_word text.now word.now }
+    ensures begins { result ≡ begins_with_word text.now word.now }
 {
     let Some((small, word)) = word.split_first() else {
         return true;
@@ -141,7 +141,7 @@ fn begins_with_word(text: &[u8], word: &[u8]) -> bool
 
 // A loop, as that over blanks.
 fn skip_digits(text: &[u8]) -> &[u8]
-    ensures { result.now ≡ skip_digits text.now }
+    ensures behind_digits { result.now ≡ skip_digits text.now }
 {
     let mut rest = text;
     'digits: while let Some((first, behind)) = rest.split_first() {
@@ -155,7 +155,7 @@ fn skip_digits(text: &[u8]) -> &[u8]
 
 // What stands behind a digit or more, `;` and the blanks round it, where `rest` begins so, else the whole text.
 fn after_digits<'a>(whole: &'a [u8], rest: &'a [u8]) -> &'a [u8]
-    ensures { result.now ≡ after_digits whole.now rest.now }
+    ensures behind_number { result.now ≡ after_digits whole.now rest.now }
 {
     let Some((first, more)) = rest.split_first() else {
         return whole;
@@ -172,7 +172,7 @@ fn after_digits<'a>(whole: &'a [u8], rest: &'a [u8]) -> &'a [u8]
 // What stands behind `SRID=`, its number, `;` and the blanks round it, where the text begins so, else the text. Whether there is
 // such an SRID is said when the text is read.
 fn after_srid(text: &[u8]) -> &[u8]
-    ensures { result.now ≡ after_srid text.now }
+    ensures behind_srid { result.now ≡ after_srid text.now }
 {
     if !begins_with_word(text, b"srid=") {
         return text;
@@ -182,13 +182,13 @@ fn after_srid(text: &[u8]) -> &[u8]
 
 // Whether a text of geometry is a polygon's.
 fn is_polygon(text: &[u8]) -> bool
-    ensures { result ≡ is_polygon text.now }
+    ensures polygon { result ≡ is_polygon text.now }
 {
     begins_with_word(after_srid(skip_blanks(text)), b"polygon")
 }
 
 fn geometry_type(text: &str) -> SqlType
-    ensures { result ≡ geometry_type text.now }
+    ensures by_word { result ≡ geometry_type text.now }
 {
     if is_polygon(text.as_bytes()) {
         SqlType::Polygon

@@ -55,12 +55,22 @@ fn pieces<R: Threads + Sync, W: Work, G: Gate>(
     let next = first + low;
     let middle = part_end(from, to, low, count);
     let front = move || -> Result<Outcome<W::Item, W::Fault>, AllocError>
-        requires { IsSync R.row × IsSync W.row × IsSync G.row × IsSend W.Item.row × IsSend W.Fault.row × (1 ≤ low) × (first + low ≤ 64) × (from ≤ middle) × (middle ≤ W.size_of work.now) }
-        ensures { IfOk result (λ o. W.comes work.entry.now from middle (outcome_seen o)) }
+        requires shared { IsSync R.row × IsSync W.row × IsSync G.row }
+        requires sent { IsSend W.Item.row × IsSend W.Fault.row }
+        requires some { 1 ≤ low }
+        requires few { first + low ≤ 64 }
+        requires order { from ≤ middle }
+        requires range { middle ≤ W.size_of work.now }
+        ensures outcome { IfOk result (λ o. W.comes work.entry.now from middle (outcome_seen o)) }
     { pieces(rt, alloc, work, gate, from, middle, first, low) };
     let back = move || -> Result<Outcome<W::Item, W::Fault>, AllocError>
-        requires { IsSync R.row × IsSync W.row × IsSync G.row × IsSend W.Item.row × IsSend W.Fault.row × (1 ≤ high) × (next + high ≤ 64) × (middle ≤ to) × (to ≤ W.size_of work.now) }
-        ensures { IfOk result (λ o. W.comes work.entry.now middle to (outcome_seen o)) }
+        requires shared { IsSync R.row × IsSync W.row × IsSync G.row }
+        requires sent { IsSend W.Item.row × IsSend W.Fault.row }
+        requires some { 1 ≤ high }
+        requires few { next + high ≤ 64 }
+        requires order { middle ≤ to }
+        requires range { to ≤ W.size_of work.now }
+        ensures outcome { IfOk result (λ o. W.comes work.entry.now middle to (outcome_seen o)) }
     { pieces(rt, alloc, work, gate, middle, to, next, high) };
     let (left, right) = join(rt, front, back);
     both(left?, right?)

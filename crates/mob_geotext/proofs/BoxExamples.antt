@@ -1,5 +1,5 @@
 -- Worked examples, by hand: which texts are boxes of the plane, and what they say.
-use Rattle.std.proofs.Common.{◌≡◌, true, pos, Option, Some, None, codes, refl}
+use Rattle.std.proofs.Common.{◌≡◌, true, pos, Option, None, codes, refl}
 use Rattle.std.specs.Prelude.{is_some}
 use Rattle.mob_language.specs.Language.{Text}
 use Rattle.mob_language.specs.Readers.{all_of, within_blanks_at}
@@ -9,7 +9,7 @@ use Rattle.mob_numeral.specs.NumberReaders.{numeral_at, sign_at, digits_at, tail
 use Rattle.mob_points.specs.Points.{close_bracket_at}
 use Rattle.mob_scalar.specs.Brackets.{comma_at}
 use Rattle.mob_geotext.specs.declared.boxes.NotedBox.{NotedBox}
-use Rattle.mob_geotext.specs.Boxes.{open_bracket_at, corner_at, corners_at, closed_span_at, space_alone_at, space_and_time_at, time_alone_at, with_space_at, written_box_at}
+use Rattle.mob_geotext.specs.Boxes.{open_bracket_at, corner_at, corners_at, space_alone_at, space_and_time_at, time_alone_at, with_space_at, written_box_at}
 
 abbrev read : Text → Option NotedBox
 read text = all_of (within_blanks_at (written_box_at (pos 0))) text

@@ -4,19 +4,16 @@ use Rattle.std.specs.Prelude.{◌||◌, ◌⊎◌, is_some, IfSome, MatchOption}
 use Rattle.std.proofs.lemmas.Bool.{and_parts}
 use Rattle.mob_frac.specs.Fits.{Fits}
 use Rattle.mob_ratio.specs.Ratio.{Ratio}
-use Rattle.mob_language.specs.Language.{Text, spaced}
+use Rattle.mob_language.specs.Language.{Text}
 use Rattle.mob_language.proofs.Exact.{one_value, some_is}
 use Rattle.mob_language.proofs.Heads.{within_said}
-use Rattle.mob_numeral.specs.Blanks.{some_blanks}
 use Rattle.mob_numeral.specs.NumberText.{number_text}
 use Rattle.mob_numeral.specs.Verdict.{HasOneReading, Lit}
 use Rattle.mob_numeral.proofs.Fitted.{number_value_said}
 use Rattle.mob_numeral.proofs.Settled.{settled}
-use Rattle.mob_points.specs.Points.{close_bracket}
 use Rattle.mob_points.proofs.PointsAgain.{close_said, gap_said, open_said}
-use Rattle.mob_scalar.specs.Brackets.{comma}
-use Rattle.mob_span.specs.Span.{SpanOf, has_instant}
-use Rattle.mob_stbox.specs.Areas.{is_area, area_between}
+use Rattle.mob_span.specs.Span.{SpanOf}
+use Rattle.mob_stbox.specs.Areas.{is_area}
 use Rattle.mob_stbox.specs.Boxes.{BoxOf, is_box, area_stands, span_stands}
 use Rattle.mob_stbox.specs.declared.area.Area.{Area}
 use Rattle.mob_stbox.proofs.Sides.{between_again}
@@ -26,7 +23,7 @@ use Rattle.mob_geotext.specs.declared.boxes.NotedBox.TheVariants.{Space, Time, B
 use Rattle.mob_geotext.specs.declared.boxes.NotedCorners.{NotedCorners}
 use Rattle.mob_geotext.specs.SpanText.{span_text}
 use Rattle.mob_geotext.specs.Printable.{HasDatedEnds}
-use Rattle.mob_geotext.specs.Boxes.{open_bracket, corner, corners, closed_span, space_alone, space_and_time, time_alone, with_space, written_box, area_of, has_sides, sides_said, boxes}
+use Rattle.mob_geotext.specs.Boxes.{open_bracket, corner, corners, closed_span, time_alone, with_space, written_box, area_of, has_sides, sides_said, boxes}
 use Rattle.mob_geotext.specs.BoxText.{corner_text, corners_text, dimensions_text, box_text, HasFittingSides, HasDatedSides}
 use Rattle.mob_geotext.proofs.BoxesExact.{boxes_exact}
 use Rattle.mob_geotext.proofs.SpansAgain.{note, span_said_by}

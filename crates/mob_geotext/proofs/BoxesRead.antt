@@ -1,5 +1,5 @@
 -- What the reader of boxes answers, by what it reads.
-use Rattle.std.proofs.Common.{◌≡◌, ℤ, Bool, true, false, cond, Option, Some, None, Ok, Err, refl, sym, ap, subst, ◌∙◌}
+use Rattle.std.proofs.Common.{◌≡◌, ℤ, Bool, true, false, cond, Option, Some, None, Ok, Err, refl, sym, subst, ◌∙◌}
 use Rattle.std.specs.Prelude.{◌&&◌, is_some, MatchOption}
 use Rattle.std.proofs.lemmas.Bool.{and_parts}
 use Rattle.mob_language.specs.Language.{Text}
@@ -9,7 +9,7 @@ use Rattle.mob_numeral.specs.declared.fault.ReadText.TheVariants.{NotText, TooLa
 use Rattle.mob_numeral.specs.Verdict.{Lit}
 use Rattle.mob_plane.specs.declared.point.Point.{Point}
 use Rattle.mob_span.specs.Span.{SpanOf, has_instant}
-use Rattle.mob_stbox.specs.Areas.{is_area, area_between}
+use Rattle.mob_stbox.specs.Areas.{area_between}
 use Rattle.mob_stbox.specs.Boxes.{BoxOf, span_stands}
 use Rattle.mob_stbox.specs.declared.area.Area.{Area}
 use Rattle.mob_geotext.specs.declared.boxes.NotedBox.{NotedBox}

@@ -4,7 +4,7 @@
 -- rectangle in brackets, behind T a span of time, and behind XT the two corners in brackets of their own, a comma and the span. The
 -- corners may be any two opposite ones. Letters may be small or capital, and blanks may stand beside each bracket and each comma,
 -- and at both ends of the whole.
-use Rattle.std.specs.Prelude.{◌≡◌, codes, Bool, true, false, cond, ◌&&◌, Option, Some, None, is_some, MatchOption, ℤ}
+use Rattle.std.specs.Prelude.{◌≡◌, codes, Bool, false, cond, ◌&&◌, Option, Some, None, is_some, MatchOption, ℤ}
 use Rattle.mob_ratio.specs.Ratio.{Ratio}
 use Rattle.mob_language.specs.Language.{Text, Language, ◌▷◌, ◌∣◌, Means, Word, AnyCase, blanks, spaced, within_blanks}
 use Rattle.mob_language.specs.Readers.{TextReader, ◌>>=◌, then_at, or_at, means_at, word_at, any_case_at, blanks_at, spaced_at}
@@ -14,7 +14,7 @@ use Rattle.mob_numeral.specs.Verdict.{TextForm}
 use Rattle.mob_plane.specs.declared.point.Point.{Point}
 use Rattle.mob_points.specs.Points.{point_of, close_bracket, close_bracket_at}
 use Rattle.mob_scalar.specs.Brackets.{comma, comma_at}
-use Rattle.mob_span.specs.Span.{SpanOf, has_instant}
+use Rattle.mob_span.specs.Span.{SpanOf}
 use Rattle.mob_stbox.specs.Areas.{area_between}
 use Rattle.mob_stbox.specs.Boxes.{BoxOf, span_stands}
 use Rattle.mob_stbox.specs.declared.area.Area.{Area}

@@ -11,7 +11,7 @@ use Rattle.mob_ast.specs.Trees.{Tree, Trees}
 use Rattle.mob_grammar.specs.declared.mark.Mark.{Mark}
 use Rattle.mob_grammar.specs.declared.mark.Mark.TheVariants.{And, Or, Not, Tilde, With, Delimiter, Comma, Semicolon}
 use Rattle.mob_grammar.specs.Symbols as symbol
-use Rattle.mob_grammar.specs.Symbols.{PlacedSymbol, Symbol, sign, numeral, is_sign, binding, symbol_strength, mark_node, symbol_node, binary, unary, leaf}
+use Rattle.mob_grammar.specs.Symbols.{PlacedSymbol, Symbol, sign, is_sign, binding, symbol_strength, mark_node, symbol_node, binary, unary, leaf}
 use Rattle.mob_grammar.specs.Expressions.{Rank, disjunction, conjunction, negation, nullness, comparison, other as other_rank, complement, sum, product, signed, cast, primary, chains, prefixes, TypeName, plain, inner, Phrase, up, chain, prefixed, is_null, is_not_null, compared, cast_to, a_number, a_string, is_true, is_false, a_null, a_literal, a_call, a_column, a_table_column, in_brackets, Arguments, nothing as no_arguments, something, Behind, end, another}
 use Rattle.mob_grammar.specs.Forms.{Production, ◌▸◌, ◌∣◌, Listed, single, several}
 use Rattle.mob_grammar.specs.Scripts.{Const, Row, ColumnType, FromEntry, SecondName, Alias, SelectItem, Direction, OrderKey, OnlyDistinct, FromPart, WherePart, OrderPart, LimitPart, SelectBody, CreateTable, CreateIndex, InsertRows, CopyFile, WithFormat, WithDelimiter, Statement}

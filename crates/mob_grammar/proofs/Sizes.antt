@@ -3,7 +3,7 @@ use Rattle.std.proofs.Common.{◌≡◌, ◌≤◌, ◌<◌, ◌+◌, inl, inr, 
 use Rattle.std.specs.List.{sum_by}
 use Rattle.std.proofs.lemmas.List.Sums.{sum_by-cons}
 use Rattle.mob_ast.specs.declared.types.TypeWord.{TypeWord}
-use Rattle.mob_ast.specs.Trees.{Tree, Trees}
+use Rattle.mob_ast.specs.Trees.{Tree, tree, Trees}
 use Rattle.mob_grammar.specs.declared.mark.Mark.{Mark}
 use Rattle.mob_grammar.specs.declared.mark.Mark.TheVariants.{With, Delimiter, Comma, Semicolon}
 use Rattle.mob_grammar.specs.Symbols.{PlacedSymbol, sign}
@@ -36,13 +36,18 @@ mutual
   phrase_few a_table_column = omega arith
   phrase_few (in_brackets a) = omega (arith, phrase_few a)
 
-  arguments_few : {l r : List PlacedSymbol} {es : Trees} → Arguments l es r → nodes_in es + length r ≤ length l
+  -- the closing bracket is one token more
+  arguments_few : {l r : List PlacedSymbol} {es : Trees} → Arguments l es r → nodes_in es + length r < length l
   arguments_few nothing = omega arith
   arguments_few (something a b) = omega (arith, phrase_few a, behind_few b)
 
-  behind_few : {l r : List PlacedSymbol} {es : Trees} → Behind l es r → nodes_in es + length r ≤ length l
+  behind_few : {l r : List PlacedSymbol} {es : Trees} → Behind l es r → nodes_in es + length r < length l
   behind_few end = omega arith
   behind_few (another a b) = omega (arith, phrase_few a, behind_few b)
+
+-- a phrase takes a token, since it has a node
+pub shorter : {k : Rank} {l r : List PlacedSymbol} {e : Tree} → Phrase k l e r → length r < length l
+shorter {e = tree n p ts} d = omega (arith, phrase_few d)
 
 -- a form takes a token for each node of what it says
 abbrev Few : {A : Type 0} → (A → ℕ) → Production A → Type 0

@@ -155,11 +155,11 @@ word_exact word = record {
 }
 
 -- a test that chose a value, and not None
-chosen_by : {A : Type 0} (b : Bool) (o : Option A) (y : A) → cond b o None ≡ Some y → (b ≡ true) × (o ≡ Some y)
+pub chosen_by : {A : Type 0} (b : Bool) (o : Option A) (y : A) → cond b o None ≡ Some y → (b ≡ true) × (o ≡ Some y)
 chosen_by true o y e = (refl, e)
 chosen_by false o y e = absurd cc
 
-two_heads : (a b : ℕ) (s t : Text) → a ≡ b → s ≡ t → a ∷ s ≡ b ∷ t
+pub two_heads : (a b : ℕ) (s t : Text) → a ≡ b → s ≡ t → a ∷ s ≡ b ∷ t
 two_heads a b s t e h = cc
 
 any_case_sound : (word text rest : Text) (v : Unit {0}) → any_case_at word text ≡ Some (v, rest) → Reads (AnyCase word) text rest v

@@ -10,7 +10,7 @@ use Rattle.mob_span.proofs.SpanLemmas.{some_instant}
 use Rattle.mob_slice.specs.Sides.{SideOf, OperandOf, side_at, pieces, given_at, has_slices}
 use Rattle.mob_lift.specs.Sometime.{IsSometime, IsEver, either}
 use Rattle.mob_lift.proofs.Walking.{walked}
-use Rattle.mob_lift.proofs.Judged.{none_some}
+use Rattle.mob_lifted.proofs.Options.{none_some}
 use Rattle.mob_lift.proofs.PieceAt.{first_at, later_at, which_at, there, found, no_common, common_by}
 
 -- ---- the instants of the pieces

@@ -1,4 +1,3 @@
-pub mod Making
 pub mod Pointwise
 pub mod PieceLaws
 pub mod Judged

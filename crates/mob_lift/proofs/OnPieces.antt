@@ -15,6 +15,7 @@ use Rattle.mob_slice.specs.declared.steady.Steady.{Steady}
 use Rattle.mob_slice.specs.declared.formula.Formula.{Formula}
 use Rattle.mob_slice.specs.declared.formula.OpFault.{OpFault}
 use Rattle.mob_slice.specs.declared.formula.OpFault.TheVariants.{Passed, NoMemory}
+use Rattle.mob_lifted.proofs.Options.{none_some}
 use Rattle.mob_lift.specs.Given.{AreOn, IsGiven, on_sides}
 
 -- one slice on a span, as a list
@@ -46,9 +47,6 @@ step_given value value' p x y left right op items z (Ok v) s e m = (
   refl,
 )
 step_given value value' p x y left right op items z (Err g) s e m = rw m tt
-
-none_some : {A : Type 0} {R : Type 0} (x : A) → None ≡ Some x → R
-none_some x e = cc
 
 no_first : {P : Type 0} (f : Formula) (ps : List P) → IsFirst (flat_map (λ p. []) ps) (Some f) → ⊥
 no_first f [] h = none_some f (sym h)

@@ -17,7 +17,7 @@ use Rattle.mob_slice.specs.declared.formula.OpFault.{OpFault}
 use Rattle.mob_slice.specs.declared.formula.OpFault.TheVariants.{Passed}
 use Rattle.mob_slice.proofs.Yielded.{drained}
 use Rattle.mob_lift.proofs.PieceLaws.{map_at, twice, pieces_value}
-use Rattle.mob_lift.specs.Lifted.{IsLifted, IsFirstFailure}
+use Rattle.mob_lifted.specs.Lifted.{IsLifted, IsFirstFailure}
 use Rattle.mob_lift.specs.Given.{AreOn, on_sides, AreLifted}
 use Rattle.mob_lift.proofs.Pointwise.{mapped_at}
 use Rattle.mob_lift.proofs.Judged.{judged}

@@ -10,11 +10,8 @@ use Rattle.mob_span.proofs.Shared.{AreAllClear, all_after}
 use Rattle.mob_slice.specs.Operands.{map_both}
 use Rattle.mob_slice.specs.Sides.{SideOf, OperandOf, side_at, pieces, given_at, has_slices}
 use Rattle.mob_lift.specs.Sometime.{HaveCommon}
-use Rattle.mob_lift.proofs.Judged.{none_some}
+use Rattle.mob_lifted.proofs.Options.{none_some, same_some}
 use Rattle.mob_lift.proofs.PieceLaws.{pieces_value}
-
-same_some : {A : Type 0} (x y : A) → Some x ≡ Some y → x ≡ y
-same_some x y e = cc
 
 -- ---- parts of time in order
 module _ {P : Type 0} (span : P → SpanOf) where
@@ -34,7 +31,7 @@ module _ {P : Type 0} (span : P → SpanOf) where
   later_at p ps t q c e = ap (λ b. cond b (Some p) (part_at span ps t)) (not_here p ps t q c e (has (span p) t) refl) ∙ e
 
   which_by : (p : P) (ps : List P) (t : Ratio) (q : P) (b : Bool) → has (span p) t ≡ b → cond b (Some p) (part_at span ps t) ≡ Some q → ((has (span p) t ≡ true) × (p ≡ q)) ⊎ (part_at span ps t ≡ Some q)
-  which_by p ps t q true h e = inl (h, same_some p q e)
+  which_by p ps t q true h e = inl (h, same_some e)
   which_by p ps t q false h e = inr e
 
   pub which_at : (p : P) (ps : List P) (t : Ratio) (q : P) → part_at span (p ∷ ps) t ≡ Some q → ((has (span p) t ≡ true) × (p ≡ q)) ⊎ (part_at span ps t ≡ Some q)
@@ -48,12 +45,12 @@ both_some : {X Y : Type 0} (a : Option X) (b : Option Y) (x : X) (y : Y) → map
 both_some None b x y e = none_some (x, y) e
 both_some (Some u) None x y e = none_some (x, y) e
 both_some {X} {Y} (Some u) (Some v) x y e =
-    let h : (u, v) ≡ (x, y) = same_some (u, v) (x, y) e in
+    let h : (u, v) ≡ (x, y) = same_some e in
     (ap (λ (p : X × Y). Some p.0) h, ap (λ (p : X × Y). Some p.1) h)
 
 mapped_some : {A B : Type 0} (f : A → B) (o : Option A) (z : B) → option_map f o ≡ Some z → (a : A) × (o ≡ Some a) × (f a ≡ z)
 mapped_some f None z e = none_some z e
-mapped_some f (Some a) z e = (a, refl, same_some (f a) z e)
+mapped_some f (Some a) z e = (a, refl, same_some e)
 
 module _ {A X B Y : Type 0} (value : A → Ratio → Ratio → Ratio → X) (value' : B → Ratio → Ratio → Ratio → Y) (a : OperandOf A X) (b : OperandOf B Y) (m : (has_slices a || has_slices b) ≡ true) where
   abbrev left : Ratio → Option X

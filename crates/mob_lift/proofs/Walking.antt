@@ -4,7 +4,7 @@ use Rattle.std.specs.List.{flat_map}
 use Rattle.std.proofs.Common.{ap, sym, ◌∙◌, subst}
 use Rattle.mob_slice.specs.Entries.{Entry, IsFirst}
 use Rattle.mob_slice.specs.declared.formula.Formula.{Formula}
-use Rattle.mob_lift.proofs.Judged.{first_joined, first_front}
+use Rattle.mob_lifted.proofs.Firsts.{first_joined, first_front}
 
 -- the answer so far and what the pieces add to it
 abbrev pub walked : {P V : Type 0} → (Option V → V → V) → (P → V) → Option V → List P → Option V

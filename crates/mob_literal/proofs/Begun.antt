@@ -5,13 +5,13 @@ use Rattle.std.specs.List.{list_all}
 use Rattle.mob_language.specs.Language.{Text, Language}
 use Rattle.mob_language.proofs.Exact.{Stops}
 use Rattle.mob_language.proofs.Heads.{NoHead, HasByte}
+use Rattle.mob_list.proofs.Entries.{first_in}
 use Rattle.mob_slice.specs.declared.slice.Slice.{Slice}
 use Rattle.mob_slice.specs.CourseOf.{CourseOf}
 use Rattle.mob_written.specs.Printed.{Style, is_long, groups_of, start_text, groups_text, set_text, moving_text}
 use Rattle.mob_written.specs.Style.{style_of}
 use Rattle.mob_literal.specs.Readable.{IsReadable}
 use Rattle.mob_literal.proofs.GroupSlices.{AllHoldTogether, are_groups}
-use Rattle.mob_literal.proofs.Listing.{first_in}
 
 pub record IsBegun (test : ℕ → Bool) (text : Text) : Type 0 where
   pub first : ℕ

@@ -6,6 +6,7 @@ use Rattle.std.proofs.lemmas.Bool.{and_right, or_parts}
 use Rattle.mob_language.specs.Language.{Text, Language}
 use Rattle.mob_language.proofs.Exact.{Stops}
 use Rattle.mob_language.proofs.Heads.{stops_less, HasByte}
+use Rattle.mob_list.proofs.Entries.{first_in}
 use Rattle.mob_slice.specs.declared.slice.Slice.{Slice}
 use Rattle.mob_slice.specs.CourseOf.{CourseOf}
 use Rattle.mob_numeral.specs.Verdict.{Lit}
@@ -17,7 +18,6 @@ use Rattle.mob_written.specs.Printed.{moving_text}
 use Rattle.mob_written.specs.Style.{style_of}
 use Rattle.mob_literal.specs.Readable.{AreLevel, IsReadAgain, IsReadable}
 use Rattle.mob_literal.specs.Sound.{literals}
-use Rattle.mob_literal.proofs.Listing.{first_in}
 use Rattle.mob_literal.proofs.Drawn.{IsLawful}
 use Rattle.mob_literal.proofs.Begun.{IsBegun, IsNoSign, begun_by, begun_stops, moving_begun}
 use Rattle.mob_literal.proofs.MovingAgain.{moving_again}

@@ -3,23 +3,24 @@ use Rattle.std.proofs.Common.{◌≡◌, true≢false, suc, ◌-◌, List, [], �
 use Rattle.std.proofs.lemmas.Bool.{and_parts as both}
 use Rattle.std.specs.Prelude.{◌&&◌, ◌||◌, not, ◌↔◌, slice_get}
 use Rattle.std.specs.List.{list_all}
+use Rattle.mob_span.proofs.FirstOf.{or_else}
 use Rattle.mob_language.specs.Readers.{◌>>=◌}
 use Rattle.mob_ratio.specs.Ratio.{Ratio}
 use Rattle.mob_ratio.specs.Order.{before, up_to}
 use Rattle.mob_ratio.proofs.Order.{before-self}
+use Rattle.mob_list.proofs.Entries.{first_in, later_in, none_in, which_in}
 use Rattle.mob_span.specs.Span.{has}
 use Rattle.mob_slice.specs.declared.slice.Slice.{Slice}
 use Rattle.mob_slice.specs.CourseOf.{CourseOf}
 use Rattle.mob_slice.specs.Slices.{IsSound, IsOrdered, IsClearOf, OfHead, value_at}
 use Rattle.mob_normal.proofs.Regions.{is_left, left_has, left_clear, in_left}
-use Rattle.mob_normal.proofs.Runs.{or_else, value_at-append}
+use Rattle.mob_normal.proofs.Runs.{value_at-append}
 use Rattle.mob_written.specs.declared.written.Written.{Written}
 use Rattle.mob_written.specs.declared.written.Sequence.{Sequence}
 use Rattle.mob_literal.specs.Sequences.{rises, SequenceAt}
 use Rattle.mob_literal.specs.Slices.{slices_of, made, stretch, instant_slice, arrives}
 use Rattle.mob_literal.specs.Sound.{ends_level, is_closed_alone, is_sound_sequence, clear_ends, is_before, are_in_order, is_sound, LitAt}
 use Rattle.mob_literal.specs.Flat.{made_sequence, made_all}
-use Rattle.mob_literal.proofs.Listing.{first_in, later_in, none_in, which_in}
 use Rattle.mob_literal.proofs.Drawn.{IsLawful}
 use Rattle.mob_literal.proofs.SequenceLemmas.{slices_sequence, sequence_slices}
 

@@ -3,6 +3,7 @@ use Rattle.std.proofs.Common.{◌≡◌, suc, ◌-◌, List, [], ◌∷◌, ◌+
 use Rattle.std.proofs.lemmas.Bool.{and_parts as both, and_from as and, not-true as not_true}
 use Rattle.std.specs.Prelude.{◌&&◌, ◌||◌, not, slice_get}
 use Rattle.std.specs.List.{AllByRecursion, list_all}
+use Rattle.mob_span.proofs.FirstOf.{or_else}
 use Rattle.mob_ratio.specs.Ratio.{Ratio}
 use Rattle.mob_ratio.specs.Order.{before, up_to, same}
 use Rattle.mob_ratio.proofs.Order.{before-back, before-neither, same_exact}
@@ -10,7 +11,7 @@ use Rattle.mob_span.specs.Span.{has, has_instant}
 use Rattle.mob_slice.specs.declared.slice.Slice.{Slice}
 use Rattle.mob_slice.specs.CourseOf.{CourseOf}
 use Rattle.mob_slice.specs.Slices.{value_at}
-use Rattle.mob_normal.proofs.Runs.{or_else, value_at-append}
+use Rattle.mob_normal.proofs.Runs.{value_at-append}
 use Rattle.mob_written.specs.declared.written.Written.{Written}
 use Rattle.mob_written.specs.declared.written.Sequence.{Sequence}
 use Rattle.mob_literal.specs.Sequences.{rises}

@@ -1,5 +1,4 @@
 pub mod FlatLemmas
-pub mod Listing
 pub mod Made
 pub mod OneReading
 pub mod ReadLiterals

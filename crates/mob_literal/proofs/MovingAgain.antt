@@ -2,7 +2,7 @@
 use Rattle.std.proofs.Common.{◌≡◌, ℕ, ℤ, ◌+◌, ◌≤◌, List, [], ◌∷◌, ◌++◌, length, map, Bool, true, false, Option, Some, Ok, refl, sym, ap, subst, ◌∙◌, arith, inl}
 use Rattle.std.specs.Prelude.{◌↔◌, IsTrue, Contains, MatchOption, not, nat_eq, nat_lt}
 use Rattle.std.specs.Char.{to_ascii_lowercase}
-use Rattle.std.specs.List.{AllByRecursion, list_all}
+use Rattle.std.specs.List.{list_all}
 use Rattle.mob_ratio.specs.Ratio.{Ratio}
 use Rattle.mob_ratio.specs.Order.{same}
 use Rattle.mob_ratio.proofs.Order.{same_exact}
@@ -20,6 +20,7 @@ use Rattle.mob_numeral.specs.NumberText.{number_text}
 use Rattle.mob_scalar.specs.Quoted.{quoted_text}
 use Rattle.std.proofs.lemmas.List.{length-map}
 use Rattle.std.proofs.lemmas.Bool.{and_parts as both, and_right, not-true as not_true}
+use Rattle.mob_list.proofs.Entries.{all_by_each}
 use Rattle.mob_numeral.proofs.Fitted.{number_value_said}
 use Rattle.mob_scalar.proofs.TruthAgain.{truth_plain}
 use Rattle.mob_scalar.proofs.BracketsSaid.{moment_said}
@@ -34,7 +35,6 @@ use Rattle.mob_written.specs.Values.{any_value, is_whole_number, truth_value, qu
 use Rattle.mob_written.specs.Prefix.{Prefix, ArePrefixes, admitted, remaining, says_step, begins_prefix}
 use Rattle.mob_literal.specs.Sequences.{is_step}
 use Rattle.mob_literal.specs.Readable.{AreLevel, IsReadable, instants_in, AnyTruth, IsInt, IsText}
-use Rattle.mob_literal.proofs.Listing.{all_by_each}
 use Rattle.mob_literal.proofs.Drawn.{IsLawful, lawful}
 use Rattle.mob_literal.proofs.FlatLemmas.{flat, Ordered, IsFlat, is_flat}
 use Rattle.mob_literal.proofs.GroupSlices.{start_of, more, sequence_of, are_groups, joined, IsKept, AreKept, HasAll, is_short, sound_groups, flat_values}

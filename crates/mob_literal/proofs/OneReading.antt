@@ -3,13 +3,13 @@ use Rattle.std.proofs.Common.{◌≡◌, ℕ, ℤ, List, Bool, Option, Some, Non
 use Rattle.std.specs.Prelude.{◌↔◌, MatchOption}
 use Rattle.mob_language.specs.Readers.{TextReader}
 use Rattle.mob_language.proofs.Exact.{one_value}
-use Rattle.mob_normal.proofs.Unique.{unique}
+use Rattle.mob_normal.proofs.Unique.{unique, OneList}
 use Rattle.mob_numeral.specs.Verdict.{HasOneReading}
 use Rattle.mob_numeral.proofs.Settled.{settled}
 use Rattle.mob_slice.specs.declared.slice.Slice.{Slice}
 use Rattle.mob_slice.specs.CourseOf.{CourseOf, course_of}
 use Rattle.mob_ratio.specs.Ratio.{Ratio}
-use Rattle.mob_slice.specs.Slices.{AreNormal, value_at}
+use Rattle.mob_slice.specs.Slices.{value_at}
 use Rattle.mob_slice.specs.Course.{IsCourse}
 use Rattle.mob_written.specs.declared.written.Written.{Written}
 use Rattle.mob_written.specs.declared.written.Sequence.{Sequence}
@@ -25,18 +25,14 @@ one_option None None h = refl
 one_option None (Some y) h = (h y).1 refl
 one_option (Some x) p h = sym ((h x).0 refl)
 
--- two normal lists of slices with the same value at each instant are one list
-abbrev pub IsUnique : {C B : Type 0} → CourseOf C B → Type 0
-IsUnique {C} course = (v w : List (Slice C)) → AreNormal course.start course.end course.continues v → AreNormal course.start course.end course.continues w → ((t : Ratio) → value_at course.value v t ≡ value_at course.value w t) → v ≡ w
-
 -- sequences define one value
-one_defined : {C B : Type 0} (course : CourseOf C B) → IsUnique course → (step : Bool) (qs : List (Sequence (Written B))) (v w : List (Slice C)) → Defines course step qs v → Defines course step qs w → v ≡ w
+one_defined : {C B : Type 0} (course : CourseOf C B) → OneList course → (step : Bool) (qs : List (Sequence (Written B))) (v w : List (Slice C)) → Defines course step qs v → Defines course step qs w → v ≡ w
 one_defined course one step qs v w p q =
     one v w p.normal.chained q.normal.chained
     (λ t. one_option (value_at course.value v t) (value_at course.value w t)
     (λ x. (λ e. (q.same t x).1 ((p.same t x).0 e), λ e. (p.same t x).1 ((q.same t x).0 e))))
 
-one_meaning : {C B : Type 0} (course : CourseOf C B) → IsUnique course → (step : Bool) (o : Option (List (Sequence (Written B)))) (v w : List (Slice C)) → MatchOption o ⊥ (λ qs. Defines course step qs v) → MatchOption o ⊥ (λ qs. Defines course step qs w) → v ≡ w
+one_meaning : {C B : Type 0} (course : CourseOf C B) → OneList course → (step : Bool) (o : Option (List (Sequence (Written B)))) (v w : List (Slice C)) → MatchOption o ⊥ (λ qs. Defines course step qs v) → MatchOption o ⊥ (λ qs. Defines course step qs w) → v ≡ w
 one_meaning course one step None v w a b = absurd a
 one_meaning course one step (Some qs) v w a b = one_defined course one step qs v w a b
 

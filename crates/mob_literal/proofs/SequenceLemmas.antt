@@ -5,6 +5,7 @@ use Rattle.std.specs.Prelude.{Contains, ◌&&◌, ◌||◌}
 use Rattle.mob_ratio.specs.Ratio.{Ratio}
 use Rattle.mob_ratio.specs.Order.{before, up_to}
 use Rattle.mob_ratio.proofs.Order.{before-self, before-back, before-trans, before-neither}
+use Rattle.mob_list.proofs.Entries.{first_in, later_in, none_in, which_in}
 use Rattle.mob_span.specs.Span.{has}
 use Rattle.mob_slice.specs.Slices.{value_at}
 use Rattle.mob_slice.specs.CourseOf.{CourseOf}
@@ -12,7 +13,6 @@ use Rattle.mob_written.specs.declared.written.Written.{Written}
 use Rattle.mob_literal.specs.Sequences.{SequenceAt, IsValueFrom, IsNextAfter, reaches, rises}
 use Rattle.mob_literal.specs.Slices.{slices_of, stretch, instant_slice, drawn}
 use Rattle.mob_literal.proofs.Drawn.{IsLawful}
-use Rattle.mob_literal.proofs.Listing.{first_in, later_in, none_in, which_in}
 
 upto_self : (a : Ratio) → up_to a a ≡ true
 upto_self a = grind (arith, before-self a)

@@ -6,6 +6,7 @@ use Rattle.std.specs.List.{AllByRecursion, list_all}
 use Rattle.mob_ratio.specs.Ratio.{Ratio}
 use Rattle.mob_span.proofs.SpanLemmas.{some_instant}
 use Rattle.mob_language.specs.Language.{Text}
+use Rattle.mob_list.proofs.Entries.{none_in, which_in, all_by_each, each_of_all}
 use Rattle.mob_numeral.specs.Verdict.{Lit}
 use Rattle.mob_slice.specs.CourseOf.{steady_course}
 use Rattle.mob_slice.specs.Operands.{steady_limit, steady_value}
@@ -19,7 +20,6 @@ use Rattle.mob_written.specs.declared.written.Written.{Written}
 use Rattle.mob_written.specs.declared.written.Sequence.{Sequence}
 use Rattle.mob_literal.specs.Sequences.{IsValueFrom, is_step}
 use Rattle.mob_literal.specs.Sound.{Defines, LitAt, fitting_all, is_sound, is_sound_sequence, are_in_order, steps}
-use Rattle.mob_literal.proofs.Listing.{all_by_each, each_of_all, none_in, which_in}
 
 module _ {A : Type 0} (test : A → Bool) where
   -- a test that all entries pass is passed by one of them

@@ -2,7 +2,7 @@
 use Rattle.std.proofs.Common.{◌≡◌, refl, Bool, true, false, List, [], ◌∷◌}
 use Rattle.std.specs.List.{AllByRecursion}
 use Rattle.mob_typed.specs.declared.typed.ConstText.{ConstText}
-use Rattle.mob_typed.proofs.Rising.{each_map}
+use Rattle.mob_list.proofs.Each.{each_map}
 use Rattle.mob_load.specs.Checks.{CheckParts, literal, Checkpoint, stands_before, checks_up_to, in_order}
 
 module _ (P : CheckParts → Type 0) where

@@ -13,7 +13,7 @@ use Rattle.mob_load.specs.declared.check.Check.{Check}
 use Rattle.mob_load.specs.Loads.{Loaded, nothing_loaded, with_made_table as add_table, IsNarrow, AreNarrow, HasNarrow, columns_or_none}
 use Rattle.mob_load.proofs.EachCheck.{order_each}
 use Rattle.mob_load.proofs.EachCheckpoint.{each_checkpoint}
-use Rattle.mob_typed.proofs.Rising.{each_both}
+use Rattle.mob_list.proofs.Each.{each_both}
 
 -- a new table has at most 64 columns
 abbrev NarrowStatement : StatementOut → Type 0

@@ -11,7 +11,7 @@ use Rattle.mob_load.specs.declared.program.Program.{Program}
 use Rattle.mob_load.specs.Checks.{CheckParts, literal, table, room, file, Checkpoint, checkpoints_of, checkpoints_from, stands_before, checks_up_to, in_order, checks_of}
 use Rattle.mob_load.specs.Loads.{Loaded, LoadsFile, ReadsCheck, ReadsChecks, literal_of, literals_in, one_row, greatest_rows, loaded_row_count, nothing_loaded, with_made_table, LooksAtLiterals, ProgramHasValues}
 use Rattle.mob_load.proofs.EachCheckpoint.{each_checkpoint}
-use Rattle.mob_typed.proofs.Rising.{each_both}
+use Rattle.mob_list.proofs.Each.{each_both}
 
 -- checkpoints that are no literals
 abbrev IsNoLiteral : Checkpoint → Type 0

@@ -9,7 +9,8 @@ use Rattle.mob_load.specs.Checks.{CheckParts, literal, Checkpoint, bracket, chec
 use Rattle.mob_load.specs.Loads.{literal_of}
 use Rattle.mob_typed.specs.Written.{HasRisingRows, IsUpTo, LiteralUpTo, Rises}
 use Rattle.mob_load.specs.Order.{IsCutAt, LooksInOrder}
-use Rattle.mob_typed.proofs.Rising.{both_rise, each_both, each_map, each_on, one_of}
+use Rattle.mob_list.proofs.Each.{each_both, each_map, each_on, one_of}
+use Rattle.mob_typed.proofs.Rising.{both_rise}
 use Rattle.mob_load.proofs.EachCheckpoint.{each_checkpoint}
 use Rattle.mob_load.proofs.Checkpoints.{own_checkpoint}
 use Rattle.mob_load.proofs.Values.{NoLiterals, no_all}

@@ -68,7 +68,7 @@ fn make_table<'a>(loading: &mut Loading<'a>, columns: &'a [(Text, SqlType)]) -> 
 
 // How many rows were put into the table of this number.
 fn row_count(rows: &[u32], table: u32) -> u32
-    ensures { result ≡ slice_index rows.now table }
+    ensures count { result ≡ slice_index rows.now table }
 {
     match rows.get(table as usize) {
         Some(count) => *count,
@@ -114,7 +114,7 @@ fn columns_of_table<'a>(
     tables: &[&'a [(Text, SqlType)]],
     table: u32,
 ) -> Option<&'a [(Text, SqlType)]>
-    ensures { option_map (λ c. c.now) result ≡ slice_get (map (λ c. c.now) tables.now) table }
+    ensures columns { option_map (λ c. c.now) result ≡ slice_get (map (λ c. c.now) tables.now) table }
 {
     match tables.get(table as usize) {
         Some(columns) => Some(*columns),

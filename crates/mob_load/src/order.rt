@@ -10,7 +10,7 @@ use std::alloc::{AllocError, Global};
 
 // Whether a literal stands before this place of this statement.
 fn stands_before(literal: &ConstText, statement: u32, place: u32) -> bool
-    ensures { result ≡ stands_before literal.now statement place }
+    ensures before { result ≡ stands_before literal.now statement place }
 {
     literal.statement < statement || (literal.statement == statement && literal.place < place)
 }

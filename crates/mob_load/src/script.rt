@@ -20,7 +20,7 @@ use std::alloc::Global;
 
 // What was read before the first check.
 fn nothing_loaded<'a>(alloc: Global) -> Loading<'a>
-    ensures { loaded_of result ≡ nothing_loaded }
+    ensures nothing { loaded_of result ≡ nothing_loaded }
 {
     Loading {
         values: Items::new(alloc),
@@ -60,7 +60,7 @@ fn load_checks<'a, F: Files>(
 
 // What was read is the program.
 fn program_of(loading: Loading<'_>) -> Program
-    ensures { result ≡ record { values = (loaded_of loading.entry).values; files = (loaded_of loading.entry).files } }
+    ensures read { result ≡ record { values = (loaded_of loading.entry).values; files = (loaded_of loading.entry).files } }
 {
     let Loading { values, files, .. } = loading;
     Program { values, files }

@@ -14,7 +14,7 @@ use Rattle.mob_slice.specs.Lines.{plane_value_of}
 use Rattle.mob_slice.specs.declared.line.PlaneLine.{PlaneLine}
 use Rattle.mob_lift.specs.Sometime.{IsSometime}
 use Rattle.mob_lift.proofs.Walking.{walked}
-use Rattle.mob_lift.proofs.Judged.{none_some}
+use Rattle.mob_lifted.proofs.Options.{none_some}
 use Rattle.mob_lift.proofs.PieceAt.{first_at, later_at, which_at, there, found, no_common, common_by}
 use Rattle.mob_near.specs.Approaches.{IsNearest, IsApproach}
 use Rattle.mob_near.specs.Distances.{distance_squared}

@@ -13,7 +13,7 @@ use Rattle.mob_slice.specs.declared.formula.Formula.{Formula}
 use Rattle.mob_slice.specs.declared.formula.Formula.TheVariants.{F5, F6}
 use Rattle.mob_slice.specs.declared.formula.Passed.{Passed}
 use Rattle.mob_cells.specs.Gaps.{entries_of_ends}
-use Rattle.mob_lift.proofs.Judged.{first_joined, first_front}
+use Rattle.mob_lifted.proofs.Firsts.{first_joined, first_front}
 use Rattle.mob_near.specs.Entries.{PointPiece, entries_of_squares, entries_of_reach, entries_of_within}
 use Rattle.mob_near.specs.Legs.{leg_of, squares_parts, are_some}
 use Rattle.mob_near.specs.declared.leg.Leg.{Leg}

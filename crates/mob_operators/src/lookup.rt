@@ -10,20 +10,20 @@ use mob_ast::SqlType;
 
 // Whether two types are one.
 fn is_same(a: SqlType, b: SqlType) -> bool
-    ensures { result ≡ same_type a b }
+    ensures same { result ≡ same_type a b }
 {
     a == b
 }
 
 // Whether a type is among these.
 fn has_type(class: &[SqlType], ty: SqlType) -> bool
-    ensures { result ≡ has_type class.now ty }
+    ensures among { result ≡ has_type class.now ty }
 {
     class.iter().any(|t| is_same(*t, ty))
 }
 
 fn is_temporal(ty: SqlType) -> bool
-    ensures { result ≡ is_temporal ty }
+    ensures temporal { result ≡ is_temporal ty }
 {
     matches!(
         ty,
@@ -32,26 +32,26 @@ fn is_temporal(ty: SqlType) -> bool
 }
 
 fn is_whole_type(ty: SqlType) -> bool
-    ensures { result ≡ is_whole_type ty }
+    ensures whole { result ≡ is_whole_type ty }
 {
     matches!(ty, SqlType::Int | SqlType::TInt)
 }
 
 fn any_temporal(types: &[SqlType]) -> bool
-    ensures { result ≡ list_any is_temporal types.now }
+    ensures one_temporal { result ≡ list_any is_temporal types.now }
 {
     types.iter().any(|ty| is_temporal(*ty))
 }
 
 fn all_whole(types: &[SqlType]) -> bool
-    ensures { result ≡ list_all is_whole_type types.now }
+    ensures each_whole { result ≡ list_all is_whole_type types.now }
 {
     types.iter().all(|ty| is_whole_type(*ty))
 }
 
 // Whether the arguments have one for one a type that is taken.
 fn types_fit(classes: &[&[SqlType]], types: &[SqlType]) -> bool
-    ensures { result ≡ types_fit (map (λ c. c.now) classes.now) types.now }
+    ensures one_for_one { result ≡ types_fit (map (λ c. c.now) classes.now) types.now }
 {
     let Some((class, other_classes)) = classes.split_first() else {
         return types.is_empty();
@@ -63,7 +63,7 @@ fn types_fit(classes: &[&[SqlType]], types: &[SqlType]) -> bool
 }
 
 fn are_same(types: &[SqlType]) -> bool
-    ensures { result ≡ are_same types.now }
+    ensures same { result ≡ are_same types.now }
 {
     match types {
         [a, b] => is_same(*a, *b),
@@ -73,7 +73,7 @@ fn are_same(types: &[SqlType]) -> bool
 
 impl Bond {
     fn meets(self, types: &[SqlType], by_literal: bool) -> bool
-        ensures { result ≡ meets self types.now by_literal }
+        ensures met { result ≡ meets self types.now by_literal }
     {
         match self {
             Bond::Free => true,
@@ -86,7 +86,7 @@ impl Bond {
 
 impl ResultType {
     fn given(self, types: &[SqlType]) -> Option<SqlType>
-        ensures { result ≡ given self types.now }
+        ensures result_type { result ≡ given self types.now }
     {
         match self {
             ResultType::Only(ty) => Some(ty),
@@ -99,7 +99,7 @@ impl ResultType {
 impl Row {
     // The operator of this form and name.
     fn operator(&self, form: Form, name: &str) -> Option<Op>
-        ensures { result ≡ operator_in (line_of self.now) form name.now }
+        ensures named { result ≡ operator_in (line_of self.now) form name.now }
     {
         if self.form == form {
             operator_named(self.names, name)
@@ -110,7 +110,7 @@ impl Row {
 
     // Whether it takes these arguments.
     fn takes(&self, types: &[SqlType], by_literal: bool) -> bool
-        ensures { result ≡ takes (line_of self.now) types.now by_literal }
+        ensures taken { result ≡ takes (line_of self.now) types.now by_literal }
     {
         types_fit(self.takes, types) && self.bond.meets(types, by_literal)
     }
@@ -122,7 +122,7 @@ impl Row {
         types: &[SqlType],
         by_literal: bool,
     ) -> Option<(Op, SqlType)>
-        ensures { result ≡ answer_of (line_of self.now) form name.now types.now by_literal }
+        ensures of_row { result ≡ answer_of (line_of self.now) form name.now types.now by_literal }
     {
         let op = self.operator(form, name)?;
         if !self.takes(types, by_literal) {
@@ -135,7 +135,7 @@ impl Row {
 
 // The operator of this name.
 fn operator_named(names: &[(&str, Op)], name: &str) -> Option<Op>
-    ensures { result ≡ operator_named (map (λ n. (n.0.now, n.1)) names.now) name.now }
+    ensures first { result ≡ operator_named (map (λ n. (n.0.now, n.1)) names.now) name.now }
 {
     for (other, op) in names {
         if *other == name {
@@ -153,7 +153,7 @@ fn first_of(
     types: &[SqlType],
     by_literal: bool,
 ) -> Option<(Op, SqlType)>
-    ensures { result ≡ found_in (lines_of rows.now) form name.now types.now by_literal }
+    ensures first_row { result ≡ found_in (lines_of rows.now) form name.now types.now by_literal }
 {
     for row in rows {
         if let Some(answer) = row.answer(form, name, types, by_literal) {
@@ -165,7 +165,7 @@ fn first_of(
 
 // Whether some row is about a function of this name.
 fn any_function(rows: &[Row], name: &str) -> bool
-    ensures { result ≡ has_function (lines_of rows.now) name.now }
+    ensures known { result ≡ has_function (lines_of rows.now) name.now }
 {
     for row in rows {
         if row.operator(Form::Call, name).is_some() {
@@ -177,7 +177,7 @@ fn any_function(rows: &[Row], name: &str) -> bool
 
 // The rows of the table.
 fn rows() -> &'static [Row]
-    ensures { lines_of result.now ≡ table }
+    ensures all { lines_of result.now ≡ table }
 {
     &ROWS
 }

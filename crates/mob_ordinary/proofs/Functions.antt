@@ -4,22 +4,18 @@ use Rattle.std.specs.Prelude.{IsTrue, ◌↔◌}
 use Rattle.mob_ratio.specs.Ratio.{Ratio}
 use Rattle.mob_ratio.specs.Order.{same}
 use Rattle.mob_slice.specs.Course.{IsCourse}
-use Rattle.mob_slice.specs.CourseOf.{CourseOf, steady_course, line_course, plane_course}
+use Rattle.mob_slice.specs.CourseOf.{steady_course, line_course, plane_course}
 use Rattle.mob_slice.specs.LineLaws.{line_laws}
 use Rattle.mob_slice.specs.PlaneLaws.{plane_laws}
-use Rattle.mob_slice.specs.Slices.{value_at, AreNormal, IsNormal}
+use Rattle.mob_slice.specs.Slices.{value_at, IsNormal}
 use Rattle.mob_slice.specs.SteadyLaws.{steady_laws}
 use Rattle.mob_slice.specs.declared.line.Line.{Line}
 use Rattle.mob_slice.specs.declared.slice.Slice.{Slice}
 use Rattle.mob_normal.specs.Widened.{level_line}
-use Rattle.mob_normal.proofs.Unique.{unique}
+use Rattle.mob_normal.proofs.Unique.{unique, OneList}
 use Rattle.mob_normal.proofs.Widening.{level_normal, level_at}
 use Rattle.mob_ordinary.specs.Moving.{StepSlices, AreNormalBy, step_function, line_function}
 use Rattle.mob_ordinary.specs.Ordinary.{AreOneFunction}
-
--- two normal lists of slices that are one function of time are one list
-abbrev pub OneList : {C B : Type 0} → CourseOf C B → Type 0
-OneList {C} course = (v w : List (Slice C)) → AreNormal course.start course.end course.continues v → AreNormal course.start course.end course.continues w → ((t : Ratio) → value_at course.value v t ≡ value_at course.value w t) → v ≡ w
 
 -- so it is with steps, with numbers that change evenly, and with points
 pub one_of_steps : {B : Type 0} (is_same : B → B → Bool) → ((a b : B) → IsTrue (is_same a b) ↔ (a ≡ b)) → OneList (steady_course is_same)

@@ -21,12 +21,12 @@ use Rattle.mob_plane.specs.declared.point.Point.{Point}
 
 -- ---- what a sign says
 
-lt_cond : (a b : Bool) → is_lt (cond a Less (cond b Greater Equal)) ≡ a
+pub lt_cond : (a b : Bool) → is_lt (cond a Less (cond b Greater Equal)) ≡ a
 lt_cond true b = refl
 lt_cond false true = refl
 lt_cond false false = refl
 
-gt_cond : (a b : Bool) → (a ≡ true → b ≡ false) → is_gt (cond a Less (cond b Greater Equal)) ≡ b
+pub gt_cond : (a b : Bool) → (a ≡ true → b ≡ false) → is_gt (cond a Less (cond b Greater Equal)) ≡ b
 gt_cond true true h = absurd (let e = h refl in cc)
 gt_cond true false h = refl
 gt_cond false true h = refl

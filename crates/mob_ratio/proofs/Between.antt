@@ -1,12 +1,11 @@
 -- The values of a line between two of its points, and how they come near its limits.
-use Rattle.std.proofs.Common.{◌≡◌, Bool, true, false, ℤ, pos, negsuc, ◌+ℤ◌, neg_ℤ, ◌*ℤ◌, ◌<ℤ◌, ◌≤ℤ◌, refl, arith, ap, sym, ◌∙◌}
+use Rattle.std.proofs.Common.{◌≡◌, Bool, true, false, ℤ, pos, negsuc, ◌+ℤ◌, neg_ℤ, ◌*ℤ◌, ◌<ℤ◌, ◌≤ℤ◌, refl, arith}
 use Rattle.mob_ratio.specs.Ratio.{Ratio, ◌<ℚ◌, ◌≤ℚ◌}
 use Rattle.mob_ratio.specs.Order.{before, up_to}
 use Rattle.mob_ratio.specs.Line.{IsOnLine, line_at}
 use Rattle.mob_ratio.proofs.IntRing.{linear, products, lt_mul, le_mul, lt_of_mul, le_cancel}
 use Rattle.mob_ratio.proofs.Clear.{clear6, fractions, cleared}
-use Rattle.mob_ratio.proofs.Order.{before-lt, lt-before, before-trans, before-neither, before-back, between, up_to-le, le-up_to, not-up_to-le}
-use Rattle.mob_ratio.proofs.Field.{lt_trans}
+use Rattle.mob_ratio.proofs.Order.{before-lt, lt-before, before-trans, before-neither, before-back, between, le-up_to, not-up_to-le}
 use Rattle.mob_ratio.proofs.LineAt.{line_at-is, line_at-known}
 
 le_of_mul : (a b c : ℤ) → pos 0 <ℤ c → (a *ℤ c) ≤ℤ (b *ℤ c) → a ≤ℤ b
@@ -75,7 +74,7 @@ pub record IsWithin (x0 x1 x : Ratio) : Type 0 where
   pub rising : up_to x0 x1 ≡ true → (up_to x0 x ≡ true) × (up_to x x1 ≡ true)
   pub falling : up_to x1 x0 ≡ true → (up_to x1 x ≡ true) × (up_to x x0 ≡ true)
 
-as_test : (s t : Ratio) → s ≤ℚ t → up_to s t ≡ true
+pub as_test : (s t : Ratio) → s ≤ℚ t → up_to s t ≡ true
 as_test s t h = grind (arith, le-up_to s t h)
 
 pub within : (x0 x1 l u t : Ratio) → before l u ≡ true → up_to l t ≡ true → up_to t u ≡ true → IsWithin x0 x1 (line_at x0 x1 l u t)

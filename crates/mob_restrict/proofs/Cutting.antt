@@ -28,7 +28,7 @@ use Rattle.mob_slice.specs.declared.formula.LookFault.TheVariants.{Passed, NoMem
 use Rattle.mob_slice.proofs.LookUps.{value_by}
 use Rattle.mob_slice.proofs.Orders.{all_sound}
 use Rattle.mob_slice.proofs.Yielded.{drained}
-use Rattle.mob_lift.specs.Lifted.{IsLifted, IsFirstFailure}
+use Rattle.mob_lifted.specs.Lifted.{IsLifted, IsFirstFailure}
 use Rattle.mob_lift.specs.Given.{AreOn, IsGiven}
 use Rattle.mob_lift.proofs.OnPieces.{one_on}
 use Rattle.mob_lift.proofs.PieceLaws.{map_at, twice, both_map}

@@ -49,8 +49,8 @@ where
         alloc,
         SharedPieces::new(a.slices(), spans),
         |met: &Met<'_, Slice<C>, Span>| -> Result<Vec<Slice<C>>, OpFault>
-            requires { HoldsMet C.start_of C.end_of (met_of met.now) }
-            ensures { IsGiven C.value_of C.start_of C.end_of (λ v. v.items) (slice_value C.value_of met.now.left.now) met.now.span (entry_of_cut C.parts_of (met_of met.now)) result }
+            requires holds { HoldsMet C.start_of C.end_of (met_of met.now) }
+            ensures given { IsGiven C.value_of C.start_of C.end_of (λ v. v.items) (slice_value C.value_of met.now.left.now) met.now.span (entry_of_cut C.parts_of (met_of met.now)) result }
         { on_met::<C>(alloc, met) },
     )
 }

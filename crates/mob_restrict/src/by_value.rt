@@ -80,7 +80,7 @@ impl<'a, C: Compared + Drop> Restriction<C> for ToValue<'a, C>
 where
     C::Base: Drop,
 {
-    ghost cond = { λ by t x. C.relation Eq x by.value.now };
+    ghost meets = { λ by t x. C.relation Eq x by.value.now };
 
     ghost entries = { λ by s. entries_of_value C.value_of C.parts_of C.gaps_of by.value.now s };
 

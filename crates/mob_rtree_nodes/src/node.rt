@@ -1,6 +1,7 @@
 //! The nodes of a tree and what stands in them.
 ghost use Rattle.std.specs.Prelude.{◌≡◌};
 ghost use Rattle.mob_rtree_nodes.specs.Tree.{target};
+ghost use Rattle.mob_rtree_nodes.specs.declared.node.Child.TheVariants.{Node};
 
 use arrayvec::ArrayVec;
 use mob_stbox::StBox;
@@ -13,6 +14,9 @@ pub enum Child {
 }
 
 impl Default for Child {
+    ghost is_default = { λ c. c ≡ Node 0 };
+
+    /// The node 0. It stands where an array wants something to begin with.
     fn default() -> Child {
         Child::Node(0)
     }

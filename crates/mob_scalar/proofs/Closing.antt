@@ -27,7 +27,7 @@ no_t : (c : ℕ) (cs : Text) → is_t c ≡ false → t_at (c ∷ cs) ≡ None
 unfolding t_at
 no_t c cs e = rw e refl
 
-some_blank : (b : ℕ) (bs : Text) → is_some_text (b ∷ bs) ≡ true
+pub some_blank : (b : ℕ) (bs : Text) → is_some_text (b ∷ bs) ≡ true
 some_blank b bs = search rules
 
 gap_of_blanks : (b : ℕ) (bs : Text) (c : ℕ) (cs : Text) → AreAll is_blank (b ∷ bs) → is_blank c ≡ false → gap_at ((b ∷ bs) ++ (c ∷ cs)) ≡ Some (tt, c ∷ cs)

@@ -1,22 +1,15 @@
 -- The reader of the values of a ttext reads exactly their texts.
-use Rattle.std.proofs.Common.{◌≡◌, ℕ, [], ◌∷◌, ◌++◌, Bool, true, false, cond, Option, Some, None, refl, sym, ap, subst, ◌∙◌, append_assoc, rules, codes}
-use Rattle.std.specs.Prelude.{◌||◌, nat_eq}
+use Rattle.std.proofs.Common.{◌≡◌, ℕ, [], ◌∷◌, ◌++◌, Bool, true, false, cond, Some, None, refl, sym, ap, subst, ◌∙◌, append_assoc, rules, codes}
+use Rattle.std.specs.Prelude.{nat_eq}
 use Rattle.std.specs.Str.{is_utf8}
 use Rattle.std.proofs.lemmas.Bool.{and_parts as both, eqb-true, not-true as not_true, or_parts, or_from}
 use Rattle.mob_language.specs.Language.{Text, AreAll, is_blank}
 use Rattle.mob_language.specs.Readers.{◌>>=◌, behind_at, word_at, split_while}
-use Rattle.mob_language.proofs.Exact.{Reads, Exact, Stops, Any, bind_some, some_is, or_exact, where_exact, many_again, split_parts, word_exact}
+use Rattle.mob_language.proofs.Exact.{Reads, Exact, Stops, Any, bind_some, some_is, or_exact, where_exact, many_again, split_parts, word_exact, chosen_by, two_heads}
 use Rattle.mob_language.proofs.Heads.{NoHead, Nothing, HasByte, exact_less, byte_stops, word_nothing, then_nothing, means_nothing, where_head, or_head, where_byte, or_byte}
 use Rattle.mob_scalar.specs.Quoted.{is_escaped, escaped, quoted_text, quoted, is_plain, begins_well, ends_well, is_bare, bare, text_value, put_first, unescaped_at, quoted_at, put_before, trimmed, bare_of, bare_at, text_value_at}
 
 -- ---- quoted values
-
-guard : {A : Type 0} (b : Bool) (o : Option A) (y : A) → cond b o None ≡ Some y → (b ≡ true) × (o ≡ Some y)
-guard true o y e = (refl, e)
-guard false o y e = absurd cc
-
-two_heads : (a b : ℕ) (s t : Text) → a ≡ b → s ≡ t → a ∷ s ≡ b ∷ t
-two_heads a b s t e h = cc
 
 -- a byte behind its backslash, and the rest of the value up to the closing quote
 record Pending (text v rest : Text) : Type 0 where
@@ -35,7 +28,7 @@ unfolding unescaped_at
 unescaped_sound true [] rest v e = absurd cc
 unescaped_sound false [] rest v e = absurd cc
 unescaped_sound true (c ∷ cs) rest v e =
-    let g = guard (is_escaped c) (put_first c (unescaped_at false cs)) (v, rest) e in
+    let g = chosen_by (is_escaped c) (put_first c (unescaped_at false cs)) (v, rest) e in
     let a = bind_some (unescaped_at false cs) (λ x. Some (c ∷ x.0, x.1)) (v, rest) g.1 in
     let is : ◌≡◌ {A = Text × Text} (c ∷ a.0.0, a.0.1) (v, rest) = some_is _ _ a.2 in
     let ih = unescaped_sound false cs a.0.1 a.0.0 a.1 in
@@ -156,7 +149,7 @@ bare_exact = record {
   sound = λ text rest v e.
       let run = split_while is_plain text in
       let parts = trimmed run.0 in
-      let g = guard (is_bare parts.0) (Some (parts.0, parts.1 ++ run.1)) (v, rest) e in
+      let g = chosen_by (is_bare parts.0) (Some (parts.0, parts.1 ++ run.1)) (v, rest) e in
       let is : ◌≡◌ {A = Text × Text} (parts.0, parts.1 ++ run.1) (v, rest) = some_is _ _ g.1 in
       let h = split_parts is_plain text in
       let w = trim_whole run.0 in

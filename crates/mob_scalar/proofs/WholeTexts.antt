@@ -1,12 +1,13 @@
 -- Whole texts of moments and truth values, with blanks at their ends, are read exactly.
 use Rattle.std.proofs.Common.{◌≡◌, ℕ, ℤ, [], ◌∷◌, ◌++◌, Bool, true, Some, None, refl, sym, subst, ◌∙◌, rules}
 use Rattle.std.specs.Char.{is_ascii_alphabetic}
+use Rattle.mob_scalar.proofs.Closing.{some_blank}
 use Rattle.mob_language.specs.Language.{Text, Maybe, Where, ManyOf, AreAll, is_blank, within_blanks, is_digit}
 use Rattle.mob_language.specs.Readers.{within_blanks_at}
 use Rattle.mob_language.proofs.Exact.{Exact, Stops, means_exact, where_exact, many_exact, many_again}
 use Rattle.mob_language.proofs.Heads.{NoHead, Apart, HasByte, IsEnd, means_head, where_head, many_head, byte_head, means_byte, then_byte, where_byte, within_exact, blanks_stop}
 use Rattle.mob_numeral.specs.NumberReaders.{digits_at}
-use Rattle.mob_numeral.specs.Blanks.{is_some_text, some_blanks_at}
+use Rattle.mob_numeral.specs.Blanks.{some_blanks_at}
 use Rattle.mob_scalar.specs.Calendar.{date, fixed, civil_of, is_civil}
 use Rattle.mob_scalar.specs.CalendarReaders.{fixed_at}
 use Rattle.mob_scalar.specs.Moment.{moment, time, stamp_of, is_in_years}
@@ -41,9 +42,6 @@ moment_byte = where_byte is_in_years (means_byte stamp_of (then_byte (Maybe time
 
 blank_on : Apart is_blank moment_on
 blank_on c e = search rules
-
-some_blank : (b : ℕ) (bs : Text) → is_some_text (b ∷ bs) ≡ true
-some_blank b bs = search rules
 
 no_clock : clock_at [] ≡ None
 unfolding clock_at two_digits_below_at fixed_at digits_at

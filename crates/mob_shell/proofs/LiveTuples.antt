@@ -1,7 +1,7 @@
 -- The tuples of a query are made of rows that are there.
 use Rattle.std.proofs.Common.{◌≡◌, ◌∙◌, ◌+◌, inl, inr, refl, sym, ap, subst, arith, ℕ, ℤ, List, [], ◌∷◌, ◌++◌, length, length-append, Option, Some, append_assoc, append-nil, slice_get, unwrap_or, option_map}
 use Rattle.std.specs.List.{AllByRecursion}
-use Rattle.mob_typed.proofs.Rising.{each_both, each_on}
+use Rattle.mob_list.proofs.Each.{each_both, each_on}
 use Rattle.mob_catalog.specs.Catalogue.{Catalogue, live_rows}
 use Rattle.mob_typed.specs.Trees.{TypedTree}
 use Rattle.mob_plan.specs.Keys.{PlanKey}

@@ -10,7 +10,7 @@ use Rattle.mob_value.specs.declared.store.Table.{Table}
 use Rattle.mob_value.specs.Types.{is_of_type}
 use Rattle.mob_typed.specs.Trees.{TypedTree, typed, TypedTrees, none, more, type_of}
 use Rattle.mob_typed.specs.Statements.{ColumnList, query}
-use Rattle.mob_typed.proofs.Rising.{each_on}
+use Rattle.mob_list.proofs.Each.{each_on}
 use Rattle.mob_typing.specs.Selects.{is_bool, is_key}
 use Rattle.mob_typing.specs.WellTyped.{column_type, from_type}
 use Rattle.mob_catalog.specs.Catalogue.{Catalogue}

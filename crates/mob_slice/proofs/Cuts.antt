@@ -1,14 +1,13 @@
 -- Cutting a slice.
-use Rattle.std.specs.Prelude.{◌≡◌, Bool, true, false, not, ◌&&◌, ◌||◌, List, [], ◌∷◌, ◌++◌, refl, MatchResult, Result, Ok, Err}
-use Rattle.std.proofs.Common.{arith, ap, sym, ◌∙◌, subst, true≢false}
+use Rattle.std.specs.Prelude.{◌≡◌, Bool, true, false, List, [], ◌++◌, refl, MatchResult, Result, Ok, Err}
+use Rattle.std.proofs.Common.{arith, ap, sym, ◌∙◌, subst}
 use Rattle.mob_ratio.specs.Ratio.{Ratio}
 use Rattle.mob_ratio.specs.Order.{before, up_to, same}
-use Rattle.mob_ratio.proofs.Order.{before-self, before-back, before-trans, before-neither, same_exact}
+use Rattle.mob_ratio.proofs.Order.{before-back, before-trans, before-neither, same_exact}
 use Rattle.mob_frac.specs.Formula.{AllFit}
 pub use Rattle.mob_frac.proofs.Fitting.{all_both, all_first, all_second}
 use Rattle.mob_span.specs.Span.{SpanOf, has, has_instant}
 use Rattle.mob_slice.specs.Course.{IsCourse}
-use Rattle.mob_slice.specs.Slices.{IsSound}
 use Rattle.mob_slice.specs.Look.{IsLooked, IsLookFault}
 use Rattle.mob_slice.specs.declared.slice.Slice.{Slice}
 use Rattle.mob_slice.specs.declared.formula.LookFault.{LookFault}
@@ -16,7 +15,7 @@ use Rattle.mob_slice.specs.declared.formula.LookFault.TheVariants.{Passed, NoMem
 use Rattle.mob_span.proofs.SpanLemmas.{some_upto}
 use Rattle.mob_span.specs.Neighbours.{is_inside}
 use Rattle.mob_slice.specs.Sides.{HasValues, at_ends}
-use Rattle.mob_slice.specs.Cut.{slice_value, slice_parts}
+use Rattle.mob_slice.specs.Cut.{slice_value}
 
 pub inside_has : (s : SpanOf) (t : Ratio) → up_to s.lower t ≡ true → up_to t s.upper ≡ true → same t s.lower ≡ false → same t s.upper ≡ false → has s t ≡ true
 unfolding same

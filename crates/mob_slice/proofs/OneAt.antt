@@ -1,8 +1,8 @@
 -- The slice of an ordered list at one instant.
 use Rattle.std.specs.Prelude.{◌≡◌, ◌⊎◌, Bool, true, false, cond, List, [], ◌∷◌, Some, Contains, refl}
-use Rattle.std.proofs.Common.{ap, sym, ◌∙◌, subst, inl, inr, true≢false, arith}
-use Rattle.std.proofs.lemmas.List.Elements.{Contains-append_left, Contains-append_right, Contains-append_cases, Contains-push, Contains-push_cases}
+use Rattle.std.proofs.Common.{ap, sym, ◌∙◌, subst, inl, inr, true≢false}
 use Rattle.mob_ratio.specs.Ratio.{Ratio}
+use Rattle.mob_list.proofs.Entries.{first_in, later_in, none_in, which_in}
 use Rattle.mob_span.specs.Span.{SpanOf, has}
 use Rattle.mob_span.proofs.Insides.{clear_has}
 use Rattle.mob_span.proofs.Shared.{AreAllClear, all_after}
@@ -11,26 +11,6 @@ use Rattle.mob_slice.specs.Slices.{IsOrdered}
 use Rattle.mob_slice.specs.declared.slice.Slice.{Slice}
 use Rattle.mob_slice.proofs.LookUps.{inside_found, some_same}
 use Rattle.mob_slice.proofs.Orders.{ordered-clear}
-
-none_in : {A : Type 0} (x : A) → Contains [] x → ⊥
-none_in x h = let k = h.1 in absurd (omega arith)
-
-first_in : {A : Type 0} (y : A) (ys : List A) → Contains (y ∷ ys) y
-first_in y ys = Contains-append_left (y ∷ []) ys y (Contains-push [] y)
-
-later_in : {A : Type 0} (y : A) (ys : List A) (x : A) → Contains ys x → Contains (y ∷ ys) x
-later_in y ys x h = Contains-append_right (y ∷ []) ys x h
-
-alone_in : {A : Type 0} (y x : A) → Contains [] x ⊎ (y ≡ x) → y ≡ x
-alone_in y x (inl h) = absurd (none_in x h)
-alone_in y x (inr e) = e
-
-by_case : {A : Type 0} (y : A) (ys : List A) (x : A) → Contains (y ∷ []) x ⊎ Contains ys x → (y ≡ x) ⊎ Contains ys x
-by_case y ys x (inl h) = inl (alone_in y x (Contains-push_cases [] y x h))
-by_case y ys x (inr h) = inr h
-
-which_in : {A : Type 0} (y : A) (ys : List A) (x : A) → Contains (y ∷ ys) x → (y ≡ x) ⊎ Contains ys x
-which_in y ys x h = by_case y ys x (Contains-append_cases (y ∷ []) ys x h)
 
 module _ {C B : Type 0} (start end : C → B) (t : Ratio) where
   -- no slice behind one that has t has it too

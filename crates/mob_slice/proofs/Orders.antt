@@ -1,5 +1,5 @@
 -- Normal lists of slices are ordered, and ordered ones are parts of time in order.
-use Rattle.std.specs.Prelude.{◌≡◌, Bool, true, List, [], ◌∷◌}
+use Rattle.std.specs.Prelude.{Bool, List, [], ◌∷◌}
 use Rattle.std.specs.List.{AllByRecursion}
 use Rattle.mob_ratio.specs.Ratio.{Ratio}
 use Rattle.mob_span.specs.Parts.{PartsAreClear}

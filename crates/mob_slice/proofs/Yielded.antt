@@ -1,6 +1,6 @@
 -- What the calls of an iterator that shows what is left have given.
-use Rattle.std.specs.Prelude.{◌≡◌, true, List, [], ◌∷◌, ◌++◌, map, Some}
-use Rattle.std.proofs.Common.{ap, sym, ◌∙◌, subst, append-nil}
+use Rattle.std.specs.Prelude.{◌≡◌, true, List, [], ◌∷◌, ◌++◌, map}
+use Rattle.std.proofs.Common.{ap, ◌∙◌, subst, append-nil}
 use Rattle.std.specs.Iterator.{Yields, Drains, HoldsAlong, YieldsFirstBy}
 use Rattle.std.specs.List.{AllByRecursion}
 use Rattle.mob_span.specs.Span.{SpanOf}

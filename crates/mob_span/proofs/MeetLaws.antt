@@ -3,6 +3,7 @@ use Rattle.std.specs.Prelude.{◌≡◌, Bool, true, false, cond, ◌&&◌, Opti
 use Rattle.std.specs.List.{filter, AllByRecursion}
 use Rattle.std.specs.Option.{option_zip}
 use Rattle.std.proofs.Common.{ap, sym, ◌∙◌}
+use Rattle.mob_span.proofs.FirstOf.{or_else}
 use Rattle.mob_ratio.specs.Ratio.{Ratio}
 use Rattle.mob_span.specs.Span.{SpanOf, has, has_instant}
 use Rattle.mob_span.specs.Neighbours.{is_clear, is_inside}
@@ -17,10 +18,6 @@ use Rattle.mob_span.proofs.Shared.{AreAllClear, all_after, later, piece, row}
 zip-none : {A B : Type 0} (x : Option A) → option_zip {U = B} x None ≡ None
 zip-none None = refl
 zip-none (Some x) = refl
-
-abbrev or_else : {B : Type 0} → Option B → Option B → Option B
-or_else None y = y
-or_else (Some x) y = Some x
 
 head_all : {P : Type 0} (span : P → SpanOf) (p : P) (xs : List P) → AreAllClear span (span p) xs → OfHead (λ q r. is_clear (span q) (span r) ≡ true) p xs
 head_all span p [] h = tt

@@ -2,9 +2,10 @@
 use Rattle.std.specs.Prelude.{◌≡◌, ◌↔◌, Bool, true, false, cond, refl, ◌||◌, ◌&&◌, not, IsTrue}
 use Rattle.std.proofs.lemmas.Bool.{and_parts, and_from}
 use Rattle.std.proofs.Common.{arith, sym, ◌∙◌, true≢false}
-use Rattle.mob_ratio.specs.Ratio.{Ratio, ◌≤ℚ◌}
+use Rattle.mob_ratio.proofs.Between.{as_test}
+use Rattle.mob_ratio.specs.Ratio.{Ratio}
 use Rattle.mob_ratio.specs.Order.{before, up_to}
-use Rattle.mob_ratio.proofs.Order.{before-self, before-back, before-trans, before-neither, not-up_to-le, le-up_to}
+use Rattle.mob_ratio.proofs.Order.{before-self, before-back, before-trans, before-neither, not-up_to-le}
 use Rattle.mob_span.specs.Span.{SpanOf, InSpan, has, has_instant}
 use Rattle.mob_span.specs.Meet.{meet_of, starts_before, ends_before}
 use Rattle.mob_span.specs.Neighbours.{is_inside}
@@ -17,9 +18,6 @@ use Rattle.mob_plane.proofs.Widening.{smaller_left, smaller_right, greater_left,
 use Rattle.mob_stbox.specs.Areas.{InArea, in_area, is_area, areas_meet, area_over, area_cover, area_between, IsAreaOver}
 use Rattle.mob_stbox.specs.Boxes.{span_cover}
 use Rattle.mob_stbox.specs.declared.area.Area.{Area}
-
-le-true : (s t : Ratio) → s ≤ℚ t → up_to s t ≡ true
-le-true s t h = grind (arith, le-up_to s t h)
 
 pub upto_self : (t : Ratio) → up_to t t ≡ true
 upto_self t = grind (arith, before-self t)
@@ -39,7 +37,7 @@ in_area_exact a p = (
     from_south = not-up_to-le a.ymin p.y k.2;
     to_north = not-up_to-le p.y a.ymax k.3;
   },
-  λ h. all_four (up_to a.xmin p.x) (up_to p.x a.xmax) (up_to a.ymin p.y) (up_to p.y a.ymax) (le-true a.xmin p.x h.from_west) (le-true p.x a.xmax h.to_east) (le-true a.ymin p.y h.from_south) (le-true p.y a.ymax h.to_north),
+  λ h. all_four (up_to a.xmin p.x) (up_to p.x a.xmax) (up_to a.ymin p.y) (up_to p.y a.ymax) (as_test a.xmin p.x h.from_west) (as_test p.x a.xmax h.to_east) (as_test a.ymin p.y h.from_south) (as_test p.y a.ymax h.to_north),
 )
 
 -- on one axis: two ranges of numbers share the greater of their lower ends, or none

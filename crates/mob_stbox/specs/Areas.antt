@@ -1,6 +1,6 @@
 -- Closed rectangles of the plane.
 use Rattle.std.specs.Prelude.{Bool, ◌&&◌}
-use Rattle.mob_ratio.specs.Ratio.{Ratio, ◌≤ℚ◌}
+use Rattle.mob_ratio.specs.Ratio.{◌≤ℚ◌}
 use Rattle.mob_ratio.specs.Order.{up_to, same}
 use Rattle.mob_plane.specs.Corners.{smaller, greater}
 use Rattle.mob_plane.specs.declared.point.Point.{Point}

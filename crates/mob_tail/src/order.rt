@@ -89,7 +89,7 @@ pub fn order(falls: &[bool], rows: &mut Vec<Keyed>) -> Result<(), AllocError>
     ensures ordered { OnOk result (IsOrderedByKeys falls.now rows.old.items rows.new.items) }
 {
     let compare = |a: &Keyed, b: &Keyed| -> Ordering
-        ensures { result ≡ compare_rows falls.entry.now a.now b.now }
+        ensures order { result ≡ compare_rows falls.entry.now a.now b.now }
     { compare_all(falls, a.keys.as_slice(), b.keys.as_slice()) };
     match rows.sort_by(compare) {
         Ok(()) => Ok(()),

@@ -9,7 +9,7 @@ use Rattle.mob_operators.specs.declared.operator.Op.TheVariants as op
 use Rattle.mob_typed.specs.declared.typed.ConstText.{ConstText}
 use Rattle.mob_typed.specs.Trees.{TypedTree, typed, TypedTrees, none, more as more_trees, typed_trees, type_of, types_of, arg_types}
 use Rattle.mob_typed.specs.Statements.{ColumnList, nothing, new_table, new_index, new_rows, rows_from, query, plan_of}
-use Rattle.mob_typed.proofs.Rising.{each_both, each_on}
+use Rattle.mob_list.proofs.Each.{each_both, each_on}
 use Rattle.mob_expression.specs.Names.{entry_from}
 use Rattle.mob_expression.specs.Words.{number_type}
 use Rattle.mob_typing.specs.Selects.{is_bool, is_key}

@@ -7,7 +7,7 @@ use Rattle.mob_ast.specs.declared.refusal.Kind.{Kind}
 use Rattle.mob_grammar.specs.Places.{IsWithin, nothing, same}
 use Rattle.mob_grammar.proofs.Within.{within_both, within_trans}
 use Rattle.mob_typed.specs.declared.typed.ConstText.{ConstText}
-use Rattle.mob_typed.proofs.Rising.{each_both, each_on}
+use Rattle.mob_list.proofs.Each.{each_both, each_on}
 use Rattle.mob_expression.specs.Answers.{Mistake, ◌>>=◌, unless, found}
 
 -- an answer gives what has this property, or stops at such a place

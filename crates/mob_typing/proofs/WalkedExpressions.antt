@@ -20,7 +20,7 @@ use Rattle.mob_operators.specs.Table.{table, is_irrational}
 use Rattle.mob_typed.specs.declared.typed.ConstText.{ConstText}
 use Rattle.mob_typed.specs.Trees.{TypedTree, typed, none, typed_trees, type_of, types_of}
 use Rattle.mob_typed.specs.Statements.{ColumnList}
-use Rattle.mob_typed.proofs.Rising.{each_on}
+use Rattle.mob_list.proofs.Each.{each_on}
 use Rattle.mob_expression.specs.declared.scope.Found.{Found}
 use Rattle.mob_expression.specs.Answers.{◌>>=◌, found, TypingStep}
 use Rattle.mob_expression.specs.Names.{column_of, entry_from}

@@ -17,7 +17,7 @@ use Rattle.mob_typed.specs.declared.typed.ConstText.{ConstText}
 use Rattle.mob_typed.specs.Trees.{TypedTree, type_of}
 use Rattle.mob_typed.specs.Selects.{Output, TypedSelectParts}
 use Rattle.mob_typed.specs.Statements.{ColumnList}
-use Rattle.mob_typed.proofs.Rising.{each_both, each_map, each_on}
+use Rattle.mob_list.proofs.Each.{each_both, each_map, each_on}
 use Rattle.mob_expression.specs.Names.{entry_from, has_entry}
 use Rattle.mob_expression.specs.Scopes.{ScopeTableParts, ScopeParts}
 use Rattle.mob_typing.specs.Names.{table_of}

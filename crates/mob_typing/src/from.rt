@@ -19,7 +19,7 @@ const TABLES: usize = 4;
 
 // Whether a table of FROM goes by this name already.
 fn has_source(sources: &[ScopeTable<'_>], name: &str) -> bool
-    ensures { result ≡ has_entry (sources_of sources.now) name.now }
+    ensures taken { result ≡ has_entry (sources_of sources.now) name.now }
 {
     source_named(sources, name).is_some()
 }
@@ -30,7 +30,7 @@ fn from_name<'a>(
     table: &'a Word,
     alias: &'a Option<Word>,
 ) -> Result<&'a str, Fault>
-    ensures { AnswersAs (λ n. n.now) result (from_name (sources_of sources.now) table.now alias.now) }
+    ensures named { AnswersAs (λ n. n.now) result (from_name (sources_of sources.now) table.now alias.now) }
 {
     match alias {
         None => {
@@ -72,7 +72,7 @@ fn from_table<'a>(
     sources: &[ScopeTable<'_>],
     entry: &'a FromTable,
 ) -> Result<ScopeTable<'a>, Fault>
-    ensures { AnswersAs (λ s. sources_of sources.now ++ source_of s ∷ []) result (from_table names.now.tables (sources_of sources.now) entry.now) }
+    ensures behind { AnswersAs (λ s. sources_of sources.now ++ source_of s ∷ []) result (from_table names.now.tables (sources_of sources.now) entry.now) }
 {
     let Some((table, columns)) = names.find(entry.table.text.as_str()) else {
         return Err(Fault::Wrong {

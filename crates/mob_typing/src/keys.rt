@@ -23,7 +23,7 @@ use std::alloc::Global;
 // The place of an expression as a whole.
 #[tactic(auto, using(mob_expression::proofs::TreeFacts::tree_is))]
 fn tree_place(e: &Expr) -> u32
-    ensures { result ≡ tree_place (tree_of e.now) }
+    ensures own_place { result ≡ tree_place (tree_of e.now) }
 {
     e.place
 }
@@ -51,13 +51,13 @@ pub fn condition(
 }
 
 fn is_bool(ty: SqlType) -> bool
-    ensures { result ≡ is_bool ty }
+    ensures truth { result ≡ is_bool ty }
 {
     matches!(ty, SqlType::Bool)
 }
 
 fn is_key(ty: SqlType) -> bool
-    ensures { result ≡ is_key ty }
+    ensures key { result ≡ is_key ty }
 {
     matches!(
         ty,
@@ -67,7 +67,7 @@ fn is_key(ty: SqlType) -> bool
 
 // The number of the column that has this name behind AS.
 fn alias_index(aliases: &[(&str, usize)], name: &str) -> Option<usize>
-    ensures { result ≡ option_map (λ a. a.1) (entry_from 0 (map (λ a. (a.0.now, a.1)) aliases.now) name.now) }
+    ensures first { result ≡ option_map (λ a. a.1) (entry_from 0 (map (λ a. (a.0.now, a.1)) aliases.now) name.now) }
 {
     for (alias, index) in aliases {
         if name == *alias {
@@ -79,7 +79,7 @@ fn alias_index(aliases: &[(&str, usize)], name: &str) -> Option<usize>
 
 // The expression of the column of this number.
 fn output_at(columns: &[(TExpr, Text)], index: usize) -> Option<&TExpr>
-    ensures { option_map (λ t. typed_of t.now) result ≡ option_map (λ o. o.0) (slice_get (map output_of columns.now) index) }
+    ensures column { option_map (λ t. typed_of t.now) result ≡ option_map (λ o. o.0) (slice_get (map output_of columns.now) index) }
 {
     let (value, _) = columns.get(index)?;
     Some(value)
@@ -88,7 +88,7 @@ fn output_at(columns: &[(TExpr, Text)], index: usize) -> Option<&TExpr>
 // The column of the answer that a bare word means by its name behind AS.
 #[tactic(auto, using(mob_expression::proofs::TreeFacts::tree_is))]
 fn aliased<'a>(outputs: &'a Outputs<'_>, e: &Expr) -> Option<&'a TExpr>
-    ensures { option_map (λ t. typed_of t.now) result ≡ aliased (outputs_seen outputs.now) (tree_of e.now) }
+    ensures by_alias { option_map (λ t. typed_of t.now) result ≡ aliased (outputs_seen outputs.now) (tree_of e.now) }
 {
     match &e.node {
         Node::Column {
@@ -110,7 +110,7 @@ fn key_value(
     outputs: &Outputs<'_>,
     e: &Expr,
 ) -> Result<TExpr, Fault>
-    ensures { TypesTo typed_of result consts.new (or_typed (scope_of scope.now) (tree_of e.now) (aliased (outputs_seen outputs.now) (tree_of e.now)) consts.old) }
+    ensures typed { TypesTo typed_of result consts.new (or_typed (scope_of scope.now) (tree_of e.now) (aliased (outputs_seen outputs.now) (tree_of e.now)) consts.old) }
 {
     match aliased(outputs, e) {
         Some(value) => Ok(copy_of(alloc, value)?),
@@ -126,7 +126,7 @@ fn typed_key(
     outputs: &Outputs<'_>,
     key: &Key,
 ) -> Result<(TExpr, bool), Fault>
-    ensures { TypesTo key_seen result consts.new (typed_key (scope_of scope.now) (outputs_seen outputs.now) (key_of key.now) consts.old) }
+    ensures judged { TypesTo key_seen result consts.new (typed_key (scope_of scope.now) (outputs_seen outputs.now) (key_of key.now) consts.old) }
 {
     let value = key_value(alloc, scope, consts, outputs, &key.value)?;
     if !is_key(type_of(&value)) {
@@ -157,14 +157,14 @@ pub fn typed_keys(
 }
 
 fn is_limit(text: &[u8]) -> bool
-    ensures { result ≡ is_limit text.now }
+    ensures digits { result ≡ is_limit text.now }
 {
     has_digits_alone(text) && text.len() >= 1 && text.len() <= 18
 }
 
 // The number of 1 to 18 digits; None for another text.
 fn limit_value(text: &str) -> Option<u64>
-    ensures { result ≡ limit_value text.now }
+    ensures number { result ≡ limit_value text.now }
 {
     if is_limit(text.as_bytes()) {
         text.parse::<u64>().ok()

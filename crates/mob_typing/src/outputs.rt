@@ -37,7 +37,7 @@ fn push_column(
     name: &str,
     place: u32,
 ) -> Result<(), Fault>
-    ensures { AnswersAs (λ _. map output_of columns.new.items) result (Ok (map output_of columns.old.items ++ (typed op ty place none, name.now) ∷ [])) }
+    ensures last { AnswersAs (λ _. map output_of columns.new.items) result (Ok (map output_of columns.old.items ++ (typed op ty place none, name.now) ∷ [])) }
 {
     let name = Text::from_string(String::from_str(alloc, name)?);
     columns.push((leaf(alloc, op, ty, place), name))?;
@@ -52,7 +52,7 @@ fn push_columns(
     source: &Columns,
     place: u32,
 ) -> Result<(), Fault>
-    ensures { AnswersAs (λ _. map output_of columns.new.items) result (Ok (map output_of columns.old.items ++ columns_of_table from 0 source.now place)) }
+    ensures behind { AnswersAs (λ _. map output_of columns.new.items) result (Ok (map output_of columns.old.items ++ columns_of_table from 0 source.now place)) }
 {
     for index in 0..source.len() {
         let (name, ty) = source.at(index);
@@ -69,7 +69,7 @@ fn push_all(
     from: &[ScopeTable<'_>],
     place: u32,
 ) -> Result<(), Fault>
-    ensures { AnswersAs (λ _. map output_of columns.new.items) result (Ok (map output_of columns.old.items ++ all_outputs 0 (sources_of from.now) place)) }
+    ensures behind { AnswersAs (λ _. map output_of columns.new.items) result (Ok (map output_of columns.old.items ++ all_outputs 0 (sources_of from.now) place)) }
 {
     for (index, source) in from.iter().enumerate() {
         push_columns(alloc, columns, number(index)?, source.columns, place)?;
@@ -80,7 +80,7 @@ fn push_all(
 // The name of an expression without AS.
 #[tactic(auto, using(mob_expression::proofs::TreeFacts::tree_is))]
 fn tree_name(alloc: Global, e: &Expr, position: usize) -> Result<Text, AllocError>
-    ensures { IfOk result (λ t. t ≡ tree_name (tree_of e.now) position) }
+    ensures named { IfOk result (λ t. t ≡ tree_name (tree_of e.now) position) }
 {
     match &e.node {
         Node::Column { column, .. } => column.text.copy(alloc),
@@ -90,7 +90,7 @@ fn tree_name(alloc: Global, e: &Expr, position: usize) -> Result<Text, AllocErro
 
 // `c` and the position from 1.
 fn numbered_name(alloc: Global, position: usize) -> Result<Text, AllocError>
-    ensures { IfOk result (λ t. t ≡ codes "c" ++ decimal (position + 1)) }
+    ensures numbered { IfOk result (λ t. t ≡ codes "c" ++ decimal (position + 1)) }
 {
     let Some(position) = position.checked_add(1) else {
         return Err(AllocError);
@@ -105,7 +105,7 @@ fn output_name(
     e: &Expr,
     position: usize,
 ) -> Result<Text, AllocError>
-    ensures { IfOk result (λ t. t ≡ output_name alias.now (tree_of e.now) position) }
+    ensures named { IfOk result (λ t. t ≡ output_name alias.now (tree_of e.now) position) }
 {
     match alias {
         Some(name) => name.text.copy(alloc),
@@ -119,7 +119,7 @@ fn push_alias<'a>(
     alias: &'a Option<Word>,
     position: usize,
 ) -> Result<(), AllocError>
-    ensures { OnOk result (map (λ a. (a.0.now, a.1)) aliases.new.items ≡ with_alias (map (λ a. (a.0.now, a.1)) aliases.old.items) alias.now position) }
+    ensures noted { OnOk result (map (λ a. (a.0.now, a.1)) aliases.new.items ≡ with_alias (map (λ a. (a.0.now, a.1)) aliases.old.items) alias.now position) }
 {
     if let Some(name) = alias {
         aliases.push((name.text.as_str(), position))?;
@@ -136,7 +136,7 @@ fn push_one<'a>(
     value: &Expr,
     alias: &'a Option<Word>,
 ) -> Result<(), Fault>
-    ensures { TypesTo (λ _. outputs_seen outputs.new) result consts.new (with_item (scope_of scope.now) (outputs_seen outputs.old) (one (tree_of value.now) alias.now) consts.old) }
+    ensures typed { TypesTo (λ _. outputs_seen outputs.new) result consts.new (with_item (scope_of scope.now) (outputs_seen outputs.old) (one (tree_of value.now) alias.now) consts.old) }
 {
     let position = outputs.columns.len();
     let typed = type_expr(alloc, scope, consts, value)?;
@@ -154,7 +154,7 @@ fn push_item<'a>(
     outputs: &mut Outputs<'a>,
     item: &'a Item,
 ) -> Result<(), Fault>
-    ensures { TypesTo (λ _. outputs_seen outputs.new) result consts.new (with_item (scope_of scope.now) (outputs_seen outputs.old) (item_of item.now) consts.old) }
+    ensures typed { TypesTo (λ _. outputs_seen outputs.new) result consts.new (with_item (scope_of scope.now) (outputs_seen outputs.old) (item_of item.now) consts.old) }
 {
     match item {
         Item::All { place } => {

@@ -28,7 +28,7 @@ fn row_constant(
     text: &str,
     place: u32,
 ) -> Result<Option<u32>, Fault>
-    ensures { TypesTo (λ v. v) result consts.new (row_constant statement ty text.now place consts.old) }
+    ensures next { TypesTo (λ v. v) result consts.new (row_constant statement ty text.now place consts.old) }
 {
     let index = number(consts.len())?;
     let text = Text::from_string(String::from_str(alloc, text)?);
@@ -44,7 +44,7 @@ fn row_constant(
 // The digits of a number and their place, where the operands are a number alone.
 #[tactic(auto, using(mob_expression::proofs::TreeFacts::tree_is))]
 fn lone_number(args: &[Expr]) -> Option<(&str, u32)>
-    ensures { option_map (λ r. (r.0.now, r.1)) result ≡ lone_number (trees_of args.now) }
+    ensures alone { option_map (λ r. (r.0.now, r.1)) result ≡ lone_number (trees_of args.now) }
 {
     let only = only(args)?;
     match &only.node {
@@ -63,7 +63,7 @@ fn signed_value(
     place: u32,
     args: &[Expr],
 ) -> Result<Option<u32>, Fault>
-    ensures { TypesTo (λ v. v) result consts.new (signed_value statement ty sign.now place (lone_number (trees_of args.now)) consts.old) }
+    ensures with_sign { TypesTo (λ v. v) result consts.new (signed_value statement ty sign.now place (lone_number (trees_of args.now)) consts.old) }
 {
     let Some((digits, digits_place)) = lone_number(args) else {
         return Err(Fault::Wrong {
@@ -84,7 +84,7 @@ fn signed_value(
 
 // Whether two types are one.
 fn is_same(a: SqlType, b: SqlType) -> bool
-    ensures { result ≡ same_type a b }
+    ensures same { result ≡ same_type a b }
 {
     a == b
 }
@@ -98,7 +98,7 @@ fn bool_value(
     text: &str,
     place: u32,
 ) -> Result<Option<u32>, Fault>
-    ensures { TypesTo (λ v. v) result consts.new (bool_value statement ty text.now place consts.old) }
+    ensures of_bool { TypesTo (λ v. v) result consts.new (bool_value statement ty text.now place consts.old) }
 {
     if !is_same(ty, SqlType::Bool) {
         return Err(Fault::Wrong {
@@ -119,7 +119,7 @@ fn typed_value(
     text: &str,
     place: u32,
 ) -> Result<Option<u32>, Fault>
-    ensures { TypesTo (λ v. v) result consts.new (typed_value statement ty word.now text.now place consts.old) }
+    ensures own_type { TypesTo (λ v. v) result consts.new (typed_value statement ty word.now text.now place consts.old) }
 {
     let Some(own) = literal_type(word, text) else {
         return Err(Fault::Wrong {
@@ -147,7 +147,7 @@ fn node_value(
     place: u32,
     args: &[Expr],
 ) -> Result<Option<u32>, Fault>
-    ensures { TypesTo (λ v. v) result consts.new (node_value statement ty node.now place (trees_of args.now) consts.old) }
+    ensures read { TypesTo (λ v. v) result consts.new (node_value statement ty node.now place (trees_of args.now) consts.old) }
 {
     match node {
         Node::Null => Ok(None),
@@ -179,7 +179,7 @@ fn tree_value(
     ty: SqlType,
     e: &Expr,
 ) -> Result<Option<u32>, Fault>
-    ensures { TypesTo (λ v. v) result consts.new (tree_value statement ty (tree_of e.now) consts.old) }
+    ensures read { TypesTo (λ v. v) result consts.new (tree_value statement ty (tree_of e.now) consts.old) }
 {
     node_value(alloc, statement, consts, ty, &e.node, e.place, &e.args)
 }
@@ -192,8 +192,8 @@ fn row_values(
     columns: &Columns,
     values: &[Expr],
 ) -> Result<Items<Option<u32>>, Fault>
-    requires { length values.now ≡ length columns.now }
-    ensures { TypesTo (λ v. v) result consts.new (row_values statement columns.now (map tree_of values.now) consts.old) }
+    requires one_each { length values.now ≡ length columns.now }
+    ensures in_order { TypesTo (λ v. v) result consts.new (row_values statement columns.now (map tree_of values.now) consts.old) }
 {
     let mut done = Items::new(alloc);
     for (index, value) in values.iter().enumerate() {
@@ -212,7 +212,7 @@ fn typed_row(
     columns: &Columns,
     row: &Row,
 ) -> Result<Items<Option<u32>>, Fault>
-    ensures { TypesTo (λ v. v) result consts.new (typed_row statement columns.now (row_of row.now) consts.old) }
+    ensures row { TypesTo (λ v. v) result consts.new (typed_row statement columns.now (row_of row.now) consts.old) }
 {
     if row.values.len() != columns.len() {
         return Err(Fault::Wrong {
@@ -231,7 +231,7 @@ fn typed_rows(
     columns: &Columns,
     rows: &[Row],
 ) -> Result<Items<Items<Option<u32>>>, Fault>
-    ensures { TypesTo (λ v. v) result consts.new (typed_rows statement columns.now (map row_of rows.now) consts.old) }
+    ensures in_order { TypesTo (λ v. v) result consts.new (typed_rows statement columns.now (map row_of rows.now) consts.old) }
 {
     let mut done = Items::new(alloc);
     for row in rows {
@@ -243,7 +243,7 @@ fn typed_rows(
 
 // The places of the rows' brackets.
 fn places_of(alloc: Global, rows: &[Row]) -> Result<Items<u32>, AllocError>
-    ensures { IfOk result (λ v. v ≡ map (λ r. r.place) (map row_of rows.now)) }
+    ensures places { IfOk result (λ v. v ≡ map (λ r. r.place) (map row_of rows.now)) }
 {
     let mut places = Items::new(alloc);
     for row in rows {
@@ -281,7 +281,7 @@ pub fn inserted(
 
 // The string behind DELIMITER is one comma.
 fn good_delimiter(delimiter: &Option<Quoted>) -> Result<(), Fault>
-    ensures { AnswersAs (λ u. u) result (good_delimiter delimiter.now) }
+    ensures comma { AnswersAs (λ u. u) result (good_delimiter delimiter.now) }
 {
     let Some(string) = delimiter else {
         return Ok(());

@@ -25,7 +25,7 @@ fn type_statement(
     consts: &mut Items<ConstText>,
     statement: &Statement,
 ) -> Result<TypedStatement, Fault>
-    ensures { TypesTo (λ t. record { statement = statement_seen t; names = names.new }) result consts.new (typed_statement number names.old (statement_of statement.now) consts.old) }
+    ensures typed { TypesTo (λ t. record { statement = statement_seen t; names = names.new }) result consts.new (typed_statement number names.old (statement_of statement.now) consts.old) }
 {
     match statement {
         Statement::Empty => Ok(TypedStatement::Empty),
@@ -64,7 +64,7 @@ fn type_statement(
 
 // The refusal of a statement of this number.
 fn refusal_of(fault: Fault, statement: u32) -> Refusal
-    ensures { result ≡ refusal_of fault statement }
+    ensures placed { result ≡ refusal_of fault statement }
 {
     match fault {
         Fault::Wrong { kind, place } => Refusal {

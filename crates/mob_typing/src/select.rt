@@ -24,7 +24,7 @@ fn typed_clauses(
     consts: &mut Items<ConstText>,
     select: &SelectTree,
 ) -> Result<TypedSelect, Fault>
-    ensures { TypesTo select_seen result consts.new (typed_clauses (scope_of scope.now) (select_of select.now) consts.old) }
+    ensures typed { TypesTo select_seen result consts.new (typed_clauses (scope_of scope.now) (select_of select.now) consts.old) }
 {
     let outputs = outputs_of(alloc, scope, consts, select.items.as_slice())?;
     let cond = condition(alloc, scope, consts, &select.cond)?;

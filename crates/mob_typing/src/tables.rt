@@ -23,7 +23,7 @@ const MOST: usize = 64;
 
 // Adds a column.
 fn with_column(alloc: Global, columns: &mut Columns, column: &(Word, TypeWord)) -> Result<(), Fault>
-    ensures { AnswersAs (λ _. columns.new) result (with_column columns.old column.now) }
+    ensures last { AnswersAs (λ _. columns.new) result (with_column columns.old column.now) }
 {
     let (name, word) = column;
     if columns.has(name.text.as_str()) {
@@ -50,7 +50,7 @@ fn with_column(alloc: Global, columns: &mut Columns, column: &(Word, TypeWord)) 
 
 // The columns of a new table.
 fn with_columns(alloc: Global, list: &[(Word, TypeWord)]) -> Result<Columns, Fault>
-    ensures { AnswersAs (λ c. c) result (with_columns [] list.now) }
+    ensures in_order { AnswersAs (λ c. c) result (with_columns [] list.now) }
 {
     let mut columns = Columns::new(alloc);
     for column in list {
@@ -61,7 +61,7 @@ fn with_columns(alloc: Global, list: &[(Word, TypeWord)]) -> Result<Columns, Fau
 
 // The columns as a list.
 fn listed(alloc: Global, columns: &Columns) -> Result<Items<(Text, SqlType)>, AllocError>
-    ensures { IfOk result (λ v. v ≡ columns.now) }
+    ensures all { IfOk result (λ v. v ≡ columns.now) }
 {
     let mut list = Items::new(alloc);
     for index in 0..columns.len() {
@@ -78,7 +78,7 @@ fn added(
     name: &str,
     columns: Columns,
 ) -> Result<Items<(Text, SqlType)>, AllocError>
-    requires { has_entry names.old.tables name.now ≡ false }
+    requires absent { has_entry names.old.tables name.now ≡ false }
     ensures list { IfOk result (λ v. v ≡ columns) }
     ensures last { OnOk result (names.new.tables ≡ names.old.tables ++ (name.now, columns) ∷ []) }
     ensures same_indexes { OnOk result (names.new.indexes ≡ names.old.indexes) }
@@ -121,7 +121,7 @@ pub fn made_table(
 }
 
 fn is_moving_point(ty: SqlType) -> bool
-    ensures { result ≡ same_type ty TPoint }
+    ensures moving_point { result ≡ same_type ty TPoint }
 {
     matches!(ty, SqlType::TPoint)
 }

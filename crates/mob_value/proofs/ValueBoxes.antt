@@ -15,7 +15,7 @@ use Rattle.mob_ratio.proofs.Order.{before-self, before-back, false_unless}
 use Rattle.mob_span.specs.Span.{SpanOf, InSpan, has, has_instant}
 use Rattle.mob_span.specs.Neighbours.{is_inside}
 use Rattle.mob_span.proofs.Ends.{inside_exact}
-use Rattle.mob_span.proofs.Insides.{clear_has}
+use Rattle.mob_span.proofs.Insides.{clear_has, inner_has}
 use Rattle.mob_span.proofs.Shared.{AreAllClear, all_after}
 use Rattle.mob_span.proofs.SpanLemmas.{has_exact, has_upto_lower, has_upto_upper}
 use Rattle.mob_span.proofs.Touching.{upto_trans}
@@ -118,17 +118,14 @@ not_before s t f = rw (false_unless (before s t) f) refl
 no_two : (s t : Ratio) → up_to s t ≡ true → before t s ≡ true → ⊥
 no_two s t h k = true≢false (sym k ∙ grind (arith, h))
 
-inside : (s : SpanOf) (t : Ratio) → before s.lower t ≡ true → before t s.upper ≡ true → has s t ≡ true
-inside s t h k = rw (h, k) refl
-
 has_lower : (s : SpanOf) → before s.lower s.upper ≡ false → has_instant s ≡ true → has s s.lower ≡ true
 has_lower s e h = grind (arith, e, h, before-self s.lower)
 
 -- each value of the line on the span is at least c, so its limits are
 low_limits : (c x0 x1 : Ratio) (s : SpanOf) (b : Bool) → before s.lower s.upper ≡ b → has_instant s ≡ true → (b ≡ false → x0 ≡ x1) → ((t : Ratio) → has s t ≡ true → up_to c (line_at x0 x1 s.lower s.upper t) ≡ true) → (up_to c x0 ≡ true) × (up_to c x1 ≡ true)
 low_limits c x0 x1 s true e i level f = (
-  not_before x0 c (λ k. let m = start_below x0 x1 s.lower s.upper c e k in no_two _ _ (f m.at (inside s m.at m.after m.until)) m.is),
-  not_before x1 c (λ k. let m = end_below x0 x1 s.lower s.upper c e k in no_two _ _ (f m.at (inside s m.at m.after m.until)) m.is),
+  not_before x0 c (λ k. let m = start_below x0 x1 s.lower s.upper c e k in no_two _ _ (f m.at (inner_has s m.at m.after m.until)) m.is),
+  not_before x1 c (λ k. let m = end_below x0 x1 s.lower s.upper c e k in no_two _ _ (f m.at (inner_has s m.at m.after m.until)) m.is),
 )
 low_limits c x0 x1 s false e i level f =
     let here : up_to c x0 ≡ true = subst (λ z. up_to c z ≡ true) (line_at-short x0 x1 s.lower s.upper s.lower e) (f s.lower (has_lower s e i)) in
@@ -136,8 +133,8 @@ low_limits c x0 x1 s false e i level f =
 
 high_limits : (c x0 x1 : Ratio) (s : SpanOf) (b : Bool) → before s.lower s.upper ≡ b → has_instant s ≡ true → (b ≡ false → x0 ≡ x1) → ((t : Ratio) → has s t ≡ true → up_to (line_at x0 x1 s.lower s.upper t) c ≡ true) → (up_to x0 c ≡ true) × (up_to x1 c ≡ true)
 high_limits c x0 x1 s true e i level f = (
-  not_before c x0 (λ k. let m = start_above x0 x1 s.lower s.upper c e k in no_two _ _ (f m.at (inside s m.at m.after m.until)) m.is),
-  not_before c x1 (λ k. let m = end_above x0 x1 s.lower s.upper c e k in no_two _ _ (f m.at (inside s m.at m.after m.until)) m.is),
+  not_before c x0 (λ k. let m = start_above x0 x1 s.lower s.upper c e k in no_two _ _ (f m.at (inner_has s m.at m.after m.until)) m.is),
+  not_before c x1 (λ k. let m = end_above x0 x1 s.lower s.upper c e k in no_two _ _ (f m.at (inner_has s m.at m.after m.until)) m.is),
 )
 high_limits c x0 x1 s false e i level f =
     let here : up_to x0 c ≡ true = subst (λ z. up_to z c ≡ true) (line_at-short x0 x1 s.lower s.upper s.lower e) (f s.lower (has_lower s e i)) in

@@ -1,12 +1,8 @@
-use Rattle.std.proofs.Common.{rules, subst, Ok, Err, Vec, Global, []}
+use Rattle.std.proofs.Common.{[]}
 use Rattle.mob_slice.specs.Sides.{piece_of, operand_of, pieces, HoldsPiece}
 use Rattle.mob_slice.specs.Operands.{steady_value, steady_limit}
-use Rattle.mob_slice.specs.declared.slice.Slice.{Slice}
-use Rattle.mob_slice.specs.declared.steady.Steady.{Steady}
-use Rattle.mob_slice.specs.declared.formula.OpFault.TheVariants.{Passed}
 use Rattle.mob_slice.proofs.Yielded.{clear_along, all_along}
 use Rattle.mob_lift.specs.Pieces.{pieces_left}
-use Rattle.mob_lift.specs.Given.{IsGiven, on_sides}
 use Rattle.mob_lift.proofs.Overall.{whole}
 use Rattle.mob_lift.proofs.OnPieces.{memory_only}
 use Rattle.mob_arith.proofs.operate.steps_of.Goals as goal
@@ -19,22 +15,14 @@ lift-requires-clause-fit g c = all_along piece_of pieces_left (HoldsPiece g.A.Co
 
 pub lift-requires-clause-sound : goal.lift-requires-clause-sound
 lift-requires-clause-sound g c = λ p v s h k.
-    let at : IsGiven {V = Vec (Slice (Steady g.row.O-Value.Denot)) Global} steady_value steady_limit steady_limit (λ v. v.items) (on_sides g.A.Course.value_of g.B.Course.value_of g.O.Operation.result_of (piece_of k.shown.now)) k.shown.now.span [] (Ok v) = search rules in
-    let on = (subst (λ z. IsGiven {V = Vec (Slice (Steady g.row.O-Value.Denot)) Global} steady_value steady_limit steady_limit (λ v. v.items) (on_sides g.A.Course.value_of g.B.Course.value_of g.O.Operation.result_of (piece_of z)) z.span [] (Ok v)) k.shows at).0 in
+    let on = (rw k.shows at k.says.met).0 in
     (on.ordered, on.inside)
 
-pub returns-clause-slices : goal.returns-clause-slices
-returns-clause-slices g c =
-    (whole g.A.Course.value_of g.B.Course.value_of steady_value steady_limit steady_limit (λ v. v.items) g.O.Operation.result_of (λ p. []) pieces_left (λ v. v.items) c.new.result (operand_of c.args.a) (operand_of c.args.b) c.requires.moving c.new.ensures.all _ _ c.lift.result (λ p v k.
-    let at : IsGiven {V = Vec (Slice (Steady g.row.O-Value.Denot)) Global} steady_value steady_limit steady_limit (λ v. v.items) (on_sides g.A.Course.value_of g.B.Course.value_of g.O.Operation.result_of (piece_of k.1.shown.now)) k.1.shown.now.span [] (Ok v) = search rules in
-    subst (λ z. IsGiven {V = Vec (Slice (Steady g.row.O-Value.Denot)) Global} steady_value steady_limit steady_limit (λ v. v.items) (on_sides g.A.Course.value_of g.B.Course.value_of g.O.Operation.result_of (piece_of z)) z.span [] (Ok v)) k.1.shows at) (λ f p k.
-    let at : IsGiven {V = Vec (Slice (Steady g.row.O-Value.Denot)) Global} steady_value steady_limit steady_limit (λ v. v.items) (on_sides g.A.Course.value_of g.B.Course.value_of g.O.Operation.result_of (piece_of k.1.shown.now)) k.1.shown.now.span [] (Err (Passed f)) = search rules in
-    subst (λ z. IsGiven {V = Vec (Slice (Steady g.row.O-Value.Denot)) Global} steady_value steady_limit steady_limit (λ v. v.items) (on_sides g.A.Course.value_of g.B.Course.value_of g.O.Operation.result_of (piece_of z)) z.span [] (Err (Passed f))) k.1.shows at) c.lift.ensures.lifted c.lift.ensures.passed).0
-
-pub returns-clause-memory : goal.returns-clause-memory
-returns-clause-memory g c =
-    memory_only (pieces (operand_of c.args.a) (operand_of c.args.b)) c.lift.result (whole g.A.Course.value_of g.B.Course.value_of steady_value steady_limit steady_limit (λ v. v.items) g.O.Operation.result_of (λ p. []) pieces_left (λ v. v.items) c.new.result (operand_of c.args.a) (operand_of c.args.b) c.requires.moving c.new.ensures.all _ _ c.lift.result (λ p v k.
-    let at : IsGiven {V = Vec (Slice (Steady g.row.O-Value.Denot)) Global} steady_value steady_limit steady_limit (λ v. v.items) (on_sides g.A.Course.value_of g.B.Course.value_of g.O.Operation.result_of (piece_of k.1.shown.now)) k.1.shown.now.span [] (Ok v) = search rules in
-    subst (λ z. IsGiven {V = Vec (Slice (Steady g.row.O-Value.Denot)) Global} steady_value steady_limit steady_limit (λ v. v.items) (on_sides g.A.Course.value_of g.B.Course.value_of g.O.Operation.result_of (piece_of z)) z.span [] (Ok v)) k.1.shows at) (λ f p k.
-    let at : IsGiven {V = Vec (Slice (Steady g.row.O-Value.Denot)) Global} steady_value steady_limit steady_limit (λ v. v.items) (on_sides g.A.Course.value_of g.B.Course.value_of g.O.Operation.result_of (piece_of k.1.shown.now)) k.1.shown.now.span [] (Err (Passed f)) = search rules in
-    subst (λ z. IsGiven {V = Vec (Slice (Steady g.row.O-Value.Denot)) Global} steady_value steady_limit steady_limit (λ v. v.items) (on_sides g.A.Course.value_of g.B.Course.value_of g.O.Operation.result_of (piece_of z)) z.span [] (Err (Passed f))) k.1.shows at) c.lift.ensures.lifted c.lift.ensures.passed).1
+pub returns : goal.returns
+returns g c =
+    let all = whole g.A.Course.value_of g.B.Course.value_of steady_value steady_limit steady_limit (λ v. v.items) g.O.Operation.result_of (λ p. []) pieces_left (λ v. v.items) c.new.result (operand_of c.args.a) (operand_of c.args.b) c.requires.moving c.new.ensures.all
+    _ _ c.lift.result (λ p v k. rw k.1.shows at k.1.says.met) (λ f p k. k.1.says.met) c.lift.ensures.lifted c.lift.ensures.passed in
+    record {
+      slices = all.0;
+      memory = memory_only (pieces (operand_of c.args.a) (operand_of c.args.b)) c.lift.result all.1;
+    }

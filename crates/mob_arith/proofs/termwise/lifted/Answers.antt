@@ -1,10 +1,6 @@
-use Rattle.std.proofs.Common.{rules, subst, Ok, Err, Vec, Global}
 use Rattle.mob_slice.specs.Sides.{piece_of, operand_of, HoldsPiece}
-use Rattle.mob_slice.specs.declared.slice.Slice.{Slice}
-use Rattle.mob_slice.specs.declared.formula.OpFault.TheVariants.{Passed}
 use Rattle.mob_slice.proofs.Yielded.{clear_along, all_along}
 use Rattle.mob_lift.specs.Pieces.{pieces_left}
-use Rattle.mob_lift.specs.Given.{IsGiven, on_sides}
 use Rattle.mob_lift.proofs.Overall.{whole}
 use Rattle.mob_arith.specs.Termwise.{entries_at_ends}
 use Rattle.mob_arith.proofs.termwise.lifted.Goals as goal
@@ -17,25 +13,12 @@ lift-requires-clause-fit g c = all_along piece_of pieces_left (HoldsPiece g.A.Co
 
 pub lift-requires-clause-sound : goal.lift-requires-clause-sound
 lift-requires-clause-sound g c = λ p v s h k.
-    let entries = entries_at_ends g.A.Course.value_of g.A.Course.parts_of g.B.Course.value_of g.B.Course.parts_of g.O.Termwise.parts in
-    let at : IsGiven {V = Vec (Slice g.row.D.Denot) Global} g.D.Course.value_of g.D.Course.start_of g.D.Course.end_of (λ v. v.items) (on_sides g.A.Course.value_of g.B.Course.value_of g.O.Termwise.op (piece_of k.shown.now)) k.shown.now.span (entries (piece_of k.shown.now)) (Ok v) = search rules in
-    let on = (subst (λ z. IsGiven {V = Vec (Slice g.row.D.Denot) Global} g.D.Course.value_of g.D.Course.start_of g.D.Course.end_of (λ v. v.items) (on_sides g.A.Course.value_of g.B.Course.value_of g.O.Termwise.op (piece_of z)) z.span (entries (piece_of z)) (Ok v)) k.shows at).0 in
+    let on = (rw k.shows at k.says.met).0 in
     (on.ordered, on.inside)
 
-pub returns-clause-slices : goal.returns-clause-slices
-returns-clause-slices g c =
+pub returns : goal.returns
+returns g c =
     let entries = entries_at_ends g.A.Course.value_of g.A.Course.parts_of g.B.Course.value_of g.B.Course.parts_of g.O.Termwise.parts in
-    (whole g.A.Course.value_of g.B.Course.value_of g.D.Course.value_of g.D.Course.start_of g.D.Course.end_of (λ v. v.items) g.O.Termwise.op entries pieces_left (λ v. v.items) c.new.result (operand_of c.args.a) (operand_of c.args.b) c.requires.moving c.new.ensures.all _ _ c.lift.result (λ p v k.
-    let at : IsGiven {V = Vec (Slice g.row.D.Denot) Global} g.D.Course.value_of g.D.Course.start_of g.D.Course.end_of (λ v. v.items) (on_sides g.A.Course.value_of g.B.Course.value_of g.O.Termwise.op (piece_of k.1.shown.now)) k.1.shown.now.span (entries (piece_of k.1.shown.now)) (Ok v) = search rules in
-    subst (λ z. IsGiven {V = Vec (Slice g.row.D.Denot) Global} g.D.Course.value_of g.D.Course.start_of g.D.Course.end_of (λ v. v.items) (on_sides g.A.Course.value_of g.B.Course.value_of g.O.Termwise.op (piece_of z)) z.span (entries (piece_of z)) (Ok v)) k.1.shows at) (λ f p k.
-    let at : IsGiven {V = Vec (Slice g.row.D.Denot) Global} g.D.Course.value_of g.D.Course.start_of g.D.Course.end_of (λ v. v.items) (on_sides g.A.Course.value_of g.B.Course.value_of g.O.Termwise.op (piece_of k.1.shown.now)) k.1.shown.now.span (entries (piece_of k.1.shown.now)) (Err (Passed f)) = search rules in
-    subst (λ z. IsGiven {V = Vec (Slice g.row.D.Denot) Global} g.D.Course.value_of g.D.Course.start_of g.D.Course.end_of (λ v. v.items) (on_sides g.A.Course.value_of g.B.Course.value_of g.O.Termwise.op (piece_of z)) z.span (entries (piece_of z)) (Err (Passed f))) k.1.shows at) c.lift.ensures.lifted c.lift.ensures.passed).0
-
-pub returns-clause-first : goal.returns-clause-first
-returns-clause-first g c =
-    let entries = entries_at_ends g.A.Course.value_of g.A.Course.parts_of g.B.Course.value_of g.B.Course.parts_of g.O.Termwise.parts in
-    (whole g.A.Course.value_of g.B.Course.value_of g.D.Course.value_of g.D.Course.start_of g.D.Course.end_of (λ v. v.items) g.O.Termwise.op entries pieces_left (λ v. v.items) c.new.result (operand_of c.args.a) (operand_of c.args.b) c.requires.moving c.new.ensures.all _ _ c.lift.result (λ p v k.
-    let at : IsGiven {V = Vec (Slice g.row.D.Denot) Global} g.D.Course.value_of g.D.Course.start_of g.D.Course.end_of (λ v. v.items) (on_sides g.A.Course.value_of g.B.Course.value_of g.O.Termwise.op (piece_of k.1.shown.now)) k.1.shown.now.span (entries (piece_of k.1.shown.now)) (Ok v) = search rules in
-    subst (λ z. IsGiven {V = Vec (Slice g.row.D.Denot) Global} g.D.Course.value_of g.D.Course.start_of g.D.Course.end_of (λ v. v.items) (on_sides g.A.Course.value_of g.B.Course.value_of g.O.Termwise.op (piece_of z)) z.span (entries (piece_of z)) (Ok v)) k.1.shows at) (λ f p k.
-    let at : IsGiven {V = Vec (Slice g.row.D.Denot) Global} g.D.Course.value_of g.D.Course.start_of g.D.Course.end_of (λ v. v.items) (on_sides g.A.Course.value_of g.B.Course.value_of g.O.Termwise.op (piece_of k.1.shown.now)) k.1.shown.now.span (entries (piece_of k.1.shown.now)) (Err (Passed f)) = search rules in
-    subst (λ z. IsGiven {V = Vec (Slice g.row.D.Denot) Global} g.D.Course.value_of g.D.Course.start_of g.D.Course.end_of (λ v. v.items) (on_sides g.A.Course.value_of g.B.Course.value_of g.O.Termwise.op (piece_of z)) z.span (entries (piece_of z)) (Err (Passed f))) k.1.shows at) c.lift.ensures.lifted c.lift.ensures.passed).1
+    let all = whole g.A.Course.value_of g.B.Course.value_of g.D.Course.value_of g.D.Course.start_of g.D.Course.end_of (λ v. v.items) g.O.Termwise.op entries pieces_left (λ v. v.items) c.new.result (operand_of c.args.a) (operand_of c.args.b) c.requires.moving c.new.ensures.all
+    _ _ c.lift.result (λ p v k. rw k.1.shows at k.1.says.met) (λ f p k. rw k.1.shows at k.1.says.met) c.lift.ensures.lifted c.lift.ensures.passed in
+    record { slices = all.0; first = all.1 }

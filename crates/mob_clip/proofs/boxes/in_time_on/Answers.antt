@@ -1,12 +1,8 @@
-use Rattle.std.proofs.Common.{rules, ◌≡◌, ◌∙◌, sym, ap, subst, true, false}
-use Rattle.mob_frac.specs.Formula.{AllFit}
+use Rattle.std.proofs.Common.{◌≡◌, sym, subst, true, false}
 use Rattle.mob_span.specs.Neighbours.{is_inside}
-use Rattle.mob_span.specs.Span.{has_instant}
-use Rattle.mob_span.specs.Meet.{meet_of}
 use Rattle.mob_span.proofs.Insides.{inside_self, meet_left}
-use Rattle.mob_slice.specs.Sides.{at_ends}
-use Rattle.mob_slice.specs.Cut.{slice_parts, slice_value}
-use Rattle.mob_slice.specs.Lines.{plane_parts_of, plane_value_of}
+use Rattle.mob_slice.specs.Cut.{slice_value}
+use Rattle.mob_slice.specs.Lines.{plane_value_of}
 use Rattle.mob_slice.specs.PlaneLaws.{plane_laws}
 use Rattle.mob_slice.specs.Entries.{IsFirst}
 use Rattle.mob_cells.specs.Kept.{AreKeptOn}
@@ -14,7 +10,7 @@ use Rattle.mob_cells.specs.Restricted.{kept_value}
 use Rattle.mob_cells.proofs.OwnEnds.{own_fit}
 use Rattle.mob_stbox.specs.Boxes.{in_space}
 use Rattle.mob_clip.specs.Boxes.{entries_of_space}
-use Rattle.mob_clip.proofs.InTime.{none_shared, cut_fails, space_fails, time_kept}
+use Rattle.mob_clip.proofs.InTime.{none_shared, cut_fails, time_kept}
 use Rattle.mob_clip.proofs.boxes.in_time_on.Goals as goal
 
 pub piece_on-requires-clause-holds : goal.piece_on-requires-clause-holds

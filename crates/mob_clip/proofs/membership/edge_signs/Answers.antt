@@ -1,5 +1,3 @@
-use Rattle.std.proofs.Common.{◌∙◌}
-use Rattle.mob_clip.specs.Steps.{steps_at}
 use Rattle.mob_clip.proofs.Knowing.{if_ok}
 use Rattle.mob_clip.proofs.membership.edge_signs.Goals as goal
 

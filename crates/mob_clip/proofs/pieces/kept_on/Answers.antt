@@ -5,7 +5,6 @@ use Rattle.mob_slice.specs.Lines.{plane_parts_of}
 use Rattle.mob_slice.specs.PlaneLaws.{plane_laws}
 use Rattle.mob_cells.proofs.Making.{list_read}
 use Rattle.mob_cells.proofs.OwnEnds.{own_fit}
-use Rattle.mob_clip.specs.Pieces.{IsOnSlice}
 use Rattle.mob_clip.specs.Steps.{ChangesFit}
 use Rattle.mob_clip.proofs.Passing.{rest_holds, passing_start, passing_step, passing_ends}
 use Rattle.mob_clip.proofs.pieces.kept_on.Goals as goal
@@ -15,23 +14,23 @@ loop-change-init c =
     let e : c.as_slice-changes.result.now ≡ c.args.steps.now.changes.items = search rules in
     rw (e, c.new-out.ensures.items) (passing_start c.args.slice.now c.args.want c.args.steps.now c.requires.sound (own_fit plane_laws c.args.slice.now) c.requires.fit)
 
-pub pass-requires-in-loop-change-clause-holds : goal.pass-requires-in-loop-change-clause-holds
-pass-requires-in-loop-change-clause-holds c =
+pub push_before-requires-in-loop-change-clause-holds : goal.push_before-requires-in-loop-change-clause-holds
+push_before-requires-in-loop-change-clause-holds c =
     let at = c.loop-change in
     let xs = c.as_slice-changes.result.now in
     let x = c.change-item.result in
     let e = list_read xs at.change-index x (omega arith) c.change-item.is in
     let f = subst (ChangesFit (slice_parts plane_parts_of c.args.slice.now)) e at.invariant.fits in
-    rw c.in-Ok.ensures.passed.0 (rest_holds c.args.slice.now at.rest x.at false at.invariant.left.holds f.0)
+    rw c.in-Ok.ensures.pushed.0 (rest_holds c.args.slice.now at.rest x.at false at.invariant.left.holds f.0)
 
 pub loop-change-preserved : goal.loop-change-preserved
 loop-change-preserved c =
     let at = c.loop-change in
     let xs = c.as_slice-changes.result.now in
     let x = c.change-item.result in
-    let p = c.in-Ok.ensures.passed in
-    let q = c.in-Ok-pass.ensures.passed in
-    passing_step c.args.slice.now c.args.want c.args.steps.now at.rest c.in-Ok.rest c.in-Ok-pass.rest at.now (drop at.change-index xs) (drop (at.change-index + 1) xs) x c.is_kept-front.result c.is_kept-there.result at.out.items c.pass.new.out.items c.pass-in-loop-change.new.out.items p.1 q.1 (list_read xs at.change-index x (omega arith) c.change-item.is)
+    let p = c.in-Ok.ensures.pushed in
+    let q = c.in-Ok-push_before.ensures.pushed in
+    passing_step c.args.slice.now c.args.want c.args.steps.now at.rest c.in-Ok.rest c.in-Ok-push_before.rest at.now (drop at.change-index xs) (drop (at.change-index + 1) xs) x c.is_kept-front.result c.is_kept-there.result at.out.items c.push_before.new.out.items c.push_before-in-loop-change.new.out.items p.1 q.1 (list_read xs at.change-index x (omega arith) c.change-item.is)
     c.is_kept-front.ensures.value p.0 p.2 p.3 c.is_kept-there.ensures.value q.0 q.2 q.3 at.invariant
 
 pub returns : goal.returns

@@ -1,6 +1,5 @@
 use Rattle.std.proofs.Common.{drop}
-use Rattle.std.specs.List.{AllByRecursion}
-use Rattle.mob_cells.specs.Roots.{IsLevel, roots_parts}
+use Rattle.mob_cells.specs.Roots.{roots_parts}
 use Rattle.mob_clip.specs.Roots.{place_edge, listed_ends}
 use Rattle.mob_clip.proofs.Listing.{IsMapping}
 use Rattle.mob_clip.proofs.roots.placed.Given as goal

@@ -1,4 +1,4 @@
-use Rattle.std.proofs.Common.{rules, arith, ◌≡◌, ◌<◌, ◌+◌, drop, length, true, false}
+use Rattle.std.proofs.Common.{rules, ◌≡◌, ◌<◌, ◌+◌, length, true, false}
 use Rattle.mob_ratio.specs.Order.{before}
 use Rattle.mob_cells.proofs.Making.{list_read}
 use Rattle.mob_clip.proofs.Walks.{left_met, right_met, both_met}

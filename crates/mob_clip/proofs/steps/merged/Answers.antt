@@ -1,6 +1,6 @@
-use Rattle.std.proofs.Common.{rules, arith, ◌≡◌, ◌++◌, ◌∷◌, [], ◌≤◌, drop, length}
+use Rattle.std.proofs.Common.{rules, ◌≡◌, ◌++◌, ◌∷◌, [], ◌≤◌, drop, length}
 use Rattle.std.proofs.Math.ListN.{drop_of_length-le}
-use Rattle.mob_clip.proofs.Walks.{merging_start, merging_step, merged_values, merged_fit}
+use Rattle.mob_clip.proofs.Walks.{merging_step, merged_values, merged_fit}
 use Rattle.mob_clip.proofs.steps.merged.Goals as goal
 
 pub loop-i-preserved : goal.loop-i-preserved

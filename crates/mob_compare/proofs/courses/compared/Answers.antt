@@ -1,13 +1,8 @@
-use Rattle.std.proofs.Common.{rules, subst, Ok, Err, Vec, Global, Bool}
 use Rattle.mob_slice.specs.Sides.{piece_of, pieces, operand_of, HoldsPiece}
-use Rattle.mob_slice.specs.declared.slice.Slice.{Slice}
-use Rattle.mob_slice.specs.declared.formula.OpFault.TheVariants.{Passed}
 use Rattle.mob_slice.proofs.Yielded.{clear_along, all_along}
 use Rattle.mob_lift.specs.Pieces.{pieces_left}
-use Rattle.mob_lift.specs.Given.{IsGiven, on_sides}
 use Rattle.mob_lift.proofs.Overall.{whole}
 use Rattle.mob_slice.specs.Operands.{steady_value, steady_limit}
-use Rattle.mob_slice.specs.declared.steady.Steady.{Steady}
 use Rattle.mob_compare.specs.Compared.{entries_of_gaps}
 use Rattle.mob_compare.proofs.Comparing.{memory_alone}
 use Rattle.mob_compare.proofs.courses.compared.Goals as goal
@@ -20,28 +15,16 @@ lift-requires-clause-fit g c = all_along piece_of pieces_left (HoldsPiece g.C.Co
 
 pub lift-requires-clause-sound : goal.lift-requires-clause-sound
 lift-requires-clause-sound g c = λ p v s h k.
-    let entries = entries_of_gaps g.C.Course.value_of g.C.Course.parts_of g.C.Compared.gaps_of in
-    let at : IsGiven {V = Vec (Slice (Steady Bool)) Global} steady_value steady_limit steady_limit (λ v. v.items) (on_sides g.C.Course.value_of g.C.Course.value_of (g.C.Compared.relation c.args.rel) (piece_of k.shown.now)) k.shown.now.span (entries (piece_of k.shown.now)) (Ok v) = search rules in
-    let on = (subst (λ z. IsGiven {V = Vec (Slice (Steady Bool)) Global} steady_value steady_limit steady_limit (λ v. v.items) (on_sides g.C.Course.value_of g.C.Course.value_of (g.C.Compared.relation c.args.rel) (piece_of z)) z.span (entries (piece_of z)) (Ok v)) k.shows at).0 in
+    let on = (rw k.shows at k.says.met).0 in
     (on.ordered, on.inside)
 
-pub returns-clause-slices : goal.returns-clause-slices
-returns-clause-slices g c =
+pub returns : goal.returns
+returns g c =
     let entries = entries_of_gaps g.C.Course.value_of g.C.Course.parts_of g.C.Compared.gaps_of in
-    (whole g.C.Course.value_of g.C.Course.value_of steady_value steady_limit steady_limit (λ v. v.items) (g.C.Compared.relation c.args.rel) entries pieces_left (λ v. v.items) c.new.result (operand_of c.args.a) (operand_of c.args.b) c.requires.moving c.new.ensures.all _ _ c.lift.result (λ p v k.
-    let at : IsGiven {V = Vec (Slice (Steady Bool)) Global} steady_value steady_limit steady_limit (λ v. v.items) (on_sides g.C.Course.value_of g.C.Course.value_of (g.C.Compared.relation c.args.rel) (piece_of k.1.shown.now)) k.1.shown.now.span (entries (piece_of k.1.shown.now)) (Ok v) = search rules in
-    subst (λ z. IsGiven {V = Vec (Slice (Steady Bool)) Global} steady_value steady_limit steady_limit (λ v. v.items) (on_sides g.C.Course.value_of g.C.Course.value_of (g.C.Compared.relation c.args.rel) (piece_of z)) z.span (entries (piece_of z)) (Ok v)) k.1.shows at) (λ f p k.
-    let at : IsGiven {V = Vec (Slice (Steady Bool)) Global} steady_value steady_limit steady_limit (λ v. v.items) (on_sides g.C.Course.value_of g.C.Course.value_of (g.C.Compared.relation c.args.rel) (piece_of k.1.shown.now)) k.1.shown.now.span (entries (piece_of k.1.shown.now)) (Err (Passed f)) = search rules in
-    subst (λ z. IsGiven {V = Vec (Slice (Steady Bool)) Global} steady_value steady_limit steady_limit (λ v. v.items) (on_sides g.C.Course.value_of g.C.Course.value_of (g.C.Compared.relation c.args.rel) (piece_of z)) z.span (entries (piece_of z)) (Err (Passed f))) k.1.shows at) c.lift.ensures.lifted c.lift.ensures.passed).0
-
-pub returns-clause-first : goal.returns-clause-first
-returns-clause-first g c =
-    let entries = entries_of_gaps g.C.Course.value_of g.C.Course.parts_of g.C.Compared.gaps_of in
-    (whole g.C.Course.value_of g.C.Course.value_of steady_value steady_limit steady_limit (λ v. v.items) (g.C.Compared.relation c.args.rel) entries pieces_left (λ v. v.items) c.new.result (operand_of c.args.a) (operand_of c.args.b) c.requires.moving c.new.ensures.all _ _ c.lift.result (λ p v k.
-    let at : IsGiven {V = Vec (Slice (Steady Bool)) Global} steady_value steady_limit steady_limit (λ v. v.items) (on_sides g.C.Course.value_of g.C.Course.value_of (g.C.Compared.relation c.args.rel) (piece_of k.1.shown.now)) k.1.shown.now.span (entries (piece_of k.1.shown.now)) (Ok v) = search rules in
-    subst (λ z. IsGiven {V = Vec (Slice (Steady Bool)) Global} steady_value steady_limit steady_limit (λ v. v.items) (on_sides g.C.Course.value_of g.C.Course.value_of (g.C.Compared.relation c.args.rel) (piece_of z)) z.span (entries (piece_of z)) (Ok v)) k.1.shows at) (λ f p k.
-    let at : IsGiven {V = Vec (Slice (Steady Bool)) Global} steady_value steady_limit steady_limit (λ v. v.items) (on_sides g.C.Course.value_of g.C.Course.value_of (g.C.Compared.relation c.args.rel) (piece_of k.1.shown.now)) k.1.shown.now.span (entries (piece_of k.1.shown.now)) (Err (Passed f)) = search rules in
-    subst (λ z. IsGiven {V = Vec (Slice (Steady Bool)) Global} steady_value steady_limit steady_limit (λ v. v.items) (on_sides g.C.Course.value_of g.C.Course.value_of (g.C.Compared.relation c.args.rel) (piece_of z)) z.span (entries (piece_of z)) (Err (Passed f))) k.1.shows at) c.lift.ensures.lifted c.lift.ensures.passed).1
-
-pub returns-clause-memory : goal.returns-clause-memory
-returns-clause-memory g c = λ s. memory_alone g.met.C.Course.laws g.met.C.Compared.laws s (pieces (operand_of c.args.a) (operand_of c.args.b)) c.lift.result (returns-clause-first g c)
+    let all = whole g.C.Course.value_of g.C.Course.value_of steady_value steady_limit steady_limit (λ v. v.items) (g.C.Compared.relation c.args.rel) entries pieces_left (λ v. v.items) c.new.result (operand_of c.args.a) (operand_of c.args.b) c.requires.moving c.new.ensures.all
+    _ _ c.lift.result (λ p v k. rw k.1.shows at k.1.says.met) (λ f p k. rw k.1.shows at k.1.says.met) c.lift.ensures.lifted c.lift.ensures.passed in
+    record {
+      slices = all.0;
+      first = all.1;
+      memory = λ s. memory_alone g.met.C.Course.laws g.met.C.Compared.laws s (pieces (operand_of c.args.a) (operand_of c.args.b)) c.lift.result all.1;
+    }

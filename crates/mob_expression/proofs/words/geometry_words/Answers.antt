@@ -5,4 +5,4 @@ use Rattle.mob_expression.proofs.words.geometry_words.Goals as goal
 -- computed over the whole list
 pub returns : goal.returns
 unfolding geometry_words
-returns c = refl
+returns c = record { all = refl }

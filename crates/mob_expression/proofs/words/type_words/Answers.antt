@@ -5,4 +5,4 @@ use Rattle.mob_expression.proofs.words.type_words.Goals as goal
 -- computed over the whole list
 pub returns : goal.returns
 unfolding type_words
-returns c = refl
+returns c = record { all = refl }

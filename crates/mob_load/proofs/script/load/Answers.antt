@@ -11,13 +11,13 @@ use Rattle.mob_load.proofs.script.load.Goals as goal
 pub returns-in-Ok-clause-loaded : goal.returns-in-Ok-clause-loaded
 returns-in-Ok-clause-loaded g c =
     let same : map check_seen c.deref.result.now ≡ checks_of (script_seen c.args.typed.now) = ap (map check_seen) c.deref.ensures.value ∙ c.in_ok-checks.ensures.in_order in
-    λ m are. program_loaded c.args.epoch.now m (map check_seen c.deref.result.now) (script_seen c.args.typed.now) (loaded_of c.in-Ok.loading) c.program_of.result same c.program_of.ensures
+    λ m are. program_loaded c.args.epoch.now m (map check_seen c.deref.result.now) (script_seen c.args.typed.now) (loaded_of c.in-Ok.loading) c.program_of.result same c.program_of.ensures.read
     (c.in-Ok.ensures.loaded m (script_files (map check_seen c.deref.result.now) (script_seen c.args.typed.now) (g.F.Files.files c.args.files.now) m same are))
 
 pub returns-in-Ok-clause-reads : goal.returns-in-Ok-clause-reads
 returns-in-Ok-clause-reads g c =
     let same : map check_seen c.deref.result.now ≡ checks_of (script_seen c.args.typed.now) = ap (map check_seen) c.deref.ensures.value ∙ c.in_ok-checks.ensures.in_order in
-    program_read c.args.epoch.now (map check_seen c.deref.result.now) (script_seen c.args.typed.now) (loaded_of c.in-Ok.loading) c.program_of.result same c.program_of.ensures c.in-Ok.ensures.reads
+    program_read c.args.epoch.now (map check_seen c.deref.result.now) (script_seen c.args.typed.now) (loaded_of c.in-Ok.loading) c.program_of.result same c.program_of.ensures.read c.in-Ok.ensures.reads
 
 pub returns-in-Ok-clause-asked : goal.returns-in-Ok-clause-asked
 returns-in-Ok-clause-asked g c =
@@ -53,7 +53,7 @@ load_checks-requires g c =
 pub returns-in-Ok-clause-complete : goal.returns-in-Ok-clause-complete
 returns-in-Ok-clause-complete g c =
     let same : map check_seen c.deref.result.now ≡ checks_of (script_seen c.args.typed.now) = ap (map check_seen) c.deref.ensures.value ∙ c.in_ok-checks.ensures.in_order in
-    λ steady m are. program_loaded c.args.epoch.now m (map check_seen c.deref.result.now) (script_seen c.args.typed.now) (loaded_of c.in-Ok.loading) c.program_of.result same c.program_of.ensures
+    λ steady m are. program_loaded c.args.epoch.now m (map check_seen c.deref.result.now) (script_seen c.args.typed.now) (loaded_of c.in-Ok.loading) c.program_of.result same c.program_of.ensures.read
     (c.in-Ok.ensures.loaded m (script_files (map check_seen c.deref.result.now) (script_seen c.args.typed.now) (g.F.Files.files c.args.files.now) m same are))
 
 pub returns-clause-complete : goal.returns-clause-complete

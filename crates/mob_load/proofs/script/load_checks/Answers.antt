@@ -11,11 +11,11 @@ use Rattle.mob_load.proofs.script.load_checks.Goals as goal
 
 pub loop-check-init : goal.loop-check-init
 loop-check-init g c = record {
-  left = λ m are. all_left c.args.epoch.now m (map check_seen c.args.checks.now) (map check_seen c.args.checks.now) (loaded_of c.nothing_loaded-loading.result) refl c.nothing_loaded-loading.ensures;
-  unread = all_unread c.args.epoch.now (map check_seen c.args.checks.now) (loaded_of c.nothing_loaded-loading.result) c.nothing_loaded-loading.ensures;
+  left = λ m are. all_left c.args.epoch.now m (map check_seen c.args.checks.now) (map check_seen c.args.checks.now) (loaded_of c.nothing_loaded-loading.result) refl c.nothing_loaded-loading.ensures.nothing;
+  unread = all_unread c.args.epoch.now (map check_seen c.args.checks.now) (loaded_of c.nothing_loaded-loading.result) c.nothing_loaded-loading.ensures.nothing;
   files = keeps_same (g.F.Files.files c.args.files.now);
   asked = none_asked (g.F.Files.asked c.args.files.now);
-  narrow = nothing_narrow (loaded_of c.nothing_loaded-loading.result) c.nothing_loaded-loading.ensures;
+  narrow = nothing_narrow (loaded_of c.nothing_loaded-loading.result) c.nothing_loaded-loading.ensures.nothing;
   later = search rules;
 }
 

@@ -5,4 +5,4 @@ use Rattle.mob_operators.proofs.lookup.rows.Goals as goal
 -- computed over the whole table
 pub returns : goal.returns
 unfolding table
-returns c = refl
+returns c = record { all = refl }

@@ -16,7 +16,7 @@ returns-in_err-value c =
     let p = err_from_is_err_and c.from_residual.result c.from_residual.ensures.1 in
     record {
       in_order = rw (p.1, p.2) (entry_fails (λ (k : Key). typed_key s o (key_of k)) (λ (ks : List Key). typed_keys s o (map key_of ks)) (λ k ks cs. refl) (λ cs. refl) c.args.keys.now c.loop-key.key-index
-          (map key_seen c.loop-key.done) c.loop-key.consts _ c.loop-key.invariant c.key-item.result (omega arith) c.key-item.is c.in_err-value.field-0.0 c.in_err-value.ensures);
+          (map key_seen c.loop-key.done) c.loop-key.consts _ c.loop-key.invariant c.key-item.result (omega arith) c.key-item.is c.in_err-value.field-0.0 c.in_err-value.ensures.judged);
     }
 
 pub loop-key-preserved : goal.loop-key-preserved
@@ -25,7 +25,7 @@ loop-key-preserved c =
     let o = outputs_seen c.args.outputs.now in
     let pushed : map key_seen c.push.new.self ≡ map key_seen c.loop-key.done ++ key_seen c.in_ok-value.value ∷ [] = ap (map key_seen) c.in_ok-push.ensures.pushed ∙ map_push key_seen c.loop-key.done c.in_ok-value.value in
     entry_made (λ (k : Key). typed_key s o (key_of k)) (λ (ks : List Key). typed_keys s o (map key_of ks)) (λ k ks cs. refl) (λ cs. refl) c.args.keys.now c.loop-key.key-index
-    (map key_seen c.loop-key.done) c.loop-key.consts _ c.loop-key.invariant c.key-item.result (omega arith) c.key-item.is (key_seen c.in_ok-value.value) c.typed_key.new.consts (map key_seen c.push.new.self) c.in_ok-value.ensures pushed
+    (map key_seen c.loop-key.done) c.loop-key.consts _ c.loop-key.invariant c.key-item.result (omega arith) c.key-item.is (key_seen c.in_ok-value.value) c.typed_key.new.consts (map key_seen c.push.new.self) c.in_ok-value.ensures.judged pushed
 
 pub returns : goal.returns
 returns c =

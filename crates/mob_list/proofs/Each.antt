@@ -1,0 +1,20 @@
+-- Lists of which each element has a property.
+use Rattle.std.specs.List.{AllByRecursion}
+use Rattle.std.proofs.Common.{List, [], ◌∷◌, ◌++◌, map}
+
+-- what holds of each of a list holds of one in it
+pub one_of : {A : Type 0} (P : A → Type 0) (before after : List A) (x : A) → AllByRecursion P (before ++ x ∷ after) → P x
+one_of P [] after x h = h.0
+one_of P (y ∷ before) after x h = one_of P before after x h.1
+
+pub each_on : {A : Type 0} (P Q : A → Type 0) → ((x : A) → P x → Q x) → (xs : List A) → AllByRecursion P xs → AllByRecursion Q xs
+each_on P Q on [] h = tt
+each_on P Q on (x ∷ xs) h = (on x h.0, each_on P Q on xs h.1)
+
+pub each_map : {A B : Type 0} (P : A → Type 0) (Q : B → Type 0) (f : A → B) → ((x : A) → P x → Q (f x)) → (xs : List A) → AllByRecursion P xs → AllByRecursion Q (map f xs)
+each_map P Q f on [] h = tt
+each_map P Q f on (x ∷ xs) h = (on x h.0, each_map P Q f on xs h.1)
+
+pub each_both : {A : Type 0} (P : A → Type 0) (xs ys : List A) → AllByRecursion P xs → AllByRecursion P ys → AllByRecursion P (xs ++ ys)
+each_both P [] ys h k = k
+each_both P (x ∷ xs) ys h k = (h.0, each_both P xs ys h.1 k)
