@@ -6,7 +6,7 @@ mod operate;
 pub mod operation;
 pub mod summed;
 pub mod sums;
-pub mod termwise;
+mod termwise;
 pub mod texts;
 
 pub use logic::{and, not, or};

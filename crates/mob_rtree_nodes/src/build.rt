@@ -6,6 +6,7 @@ ghost use Rattle.mob_rtree_nodes.specs.Tree.{IsTree, IsSoundNode, Kid, EntryOf, 
 ghost use Rattle.mob_rtree_nodes.specs.Builds.{kid_of, IsForest, IsPacking, IsClosed, leaf_sum};
 
 use crate::insert::cover_all;
+use crate::lengths::Axis;
 use crate::node::{Child, Root, TreeNode};
 use crate::places::Ranks;
 use arrayvec::ArrayVec;
@@ -16,9 +17,9 @@ use std::alloc::{AllocError, Global};
 fn keyed(alloc: Global, kids: &[(StBox, Child)]) -> Result<Vec<(u64, (StBox, Child))>, AllocError>
     ensures kids { IfOk result (λ pairs. map (λ p. p.1) pairs.items ≡ kids.now) }
 {
-    let x = Ranks::along(alloc, kids, 0)?;
-    let y = Ranks::along(alloc, kids, 1)?;
-    let time = Ranks::along(alloc, kids, 2)?;
+    let x = Ranks::along(alloc, kids, Axis::X)?;
+    let y = Ranks::along(alloc, kids, Axis::Y)?;
+    let time = Ranks::along(alloc, kids, Axis::Time)?;
     let mut pairs = Vec::new(alloc);
     for (i, kid) in kids.iter().enumerate() {
         let place = x.spread_place(i) | (y.spread_place(i) << 1) | (time.spread_place(i) << 2);

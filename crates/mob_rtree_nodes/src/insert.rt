@@ -5,7 +5,7 @@ ghost use Rattle.arrayvec.specs.ArrayVec.{array_vec_len};
 ghost use Rattle.mob_stbox.specs.Boxes.{contains, is_whole};
 ghost use Rattle.mob_rtree_nodes.specs.Tree.{IsTree, IsSoundNode, Kid, height_at, kids_at, kids_of_more, Ref, IsAttached, IsReplaced, IsGrown, IsLeastOver, IsFree, IsPut, IsReused, is_fit};
 
-use crate::lengths::{growth, longest, middle_of};
+use crate::lengths::{Axis, growth, longest, middle_of};
 use crate::node::{Child, TreeNode};
 use arrayvec::ArrayVec;
 use mob_stbox::StBox;
@@ -50,7 +50,7 @@ pub fn choose(kids: &[(StBox, Child)], area: &StBox) -> usize
 }
 
 /// Orders the children along an axis.
-fn arrange(kids: &mut ArrayVec<(StBox, Child), 16>, axis: u8)
+fn arrange(kids: &mut ArrayVec<(StBox, Child), 16>, axis: Axis)
     ensures kids { (f : Kid → ℕ) → sum_by f kids.new.items ≡ sum_by f kids.old.items }
     ensures len { array_vec_len kids.new ≡ array_vec_len kids.old }
 {
@@ -74,7 +74,7 @@ fn move_last(kids: &mut ArrayVec<(StBox, Child), 16>, second: &mut ArrayVec<(StB
 /// Takes half of the children away, with one more on the side that fits it.
 fn split(
     kids: &mut ArrayVec<(StBox, Child), 16>,
-    axis: u8,
+    axis: Axis,
     kid: (StBox, Child),
 ) -> ArrayVec<(StBox, Child), 16>
     requires full { array_vec_len kids.old ≡ 16 }

@@ -49,54 +49,46 @@ pub fn growth(b: &StBox, other: &StBox) -> i128 {
     }
 }
 
-/// Where a box begins along an axis, 0 and 1 in space and 2 in time.
-pub fn least_of(b: &StBox, axis: u8) -> i128 {
-    if axis == 2 {
-        return match b.time() {
-            None => 0,
-            Some(span) => rounded(span.lower()),
-        };
-    }
-    match b.space() {
-        None => 0,
-        Some(area) => rounded(if axis == 0 { &area.xmin } else { &area.ymin }),
-    }
+/// The axes of a box, two in space.
+#[derive(Clone, Copy)]
+pub enum Axis {
+    X,
+    Y,
+    Time,
 }
 
-/// Where it ends along an axis.
-fn greatest_of(b: &StBox, axis: u8) -> i128 {
-    if axis == 2 {
-        return match b.time() {
-            None => 0,
-            Some(span) => rounded(span.upper()),
-        };
-    }
-    match b.space() {
-        None => 0,
-        Some(area) => rounded(if axis == 0 { &area.xmax } else { &area.ymax }),
+/// Where a box begins and ends along an axis; 0 where it has none.
+pub fn ends_of(b: &StBox, axis: Axis) -> (Frac, Frac) {
+    match (axis, b.space(), b.time()) {
+        (Axis::X, Some(area), _) => (area.xmin, area.xmax),
+        (Axis::Y, Some(area), _) => (area.ymin, area.ymax),
+        (Axis::Time, _, Some(span)) => (*span.lower(), *span.upper()),
+        _ => (Frac::zero(), Frac::zero()),
     }
 }
 
 /// Twice where its middle is along an axis.
-pub fn middle_of(b: &StBox, axis: u8) -> i128 {
-    least_of(b, axis).saturating_add(greatest_of(b, axis))
+pub fn middle_of(b: &StBox, axis: Axis) -> i128 {
+    let (least, greatest) = ends_of(b, axis);
+    rounded(&least).saturating_add(rounded(&greatest))
 }
 
 /// How long its side is along an axis.
-pub fn length_of(b: &StBox, axis: u8) -> u128 {
-    greatest_of(b, axis).abs_diff(least_of(b, axis))
+fn length_of(b: &StBox, axis: Axis) -> u128 {
+    let (least, greatest) = ends_of(b, axis);
+    rounded(&greatest).abs_diff(rounded(&least))
 }
 
 /// The axis of its longest side.
-pub fn longest(b: &StBox) -> u8 {
-    let x = length_of(b, 0);
-    let y = length_of(b, 1);
-    let time = length_of(b, 2);
+pub fn longest(b: &StBox) -> Axis {
+    let x = length_of(b, Axis::X);
+    let y = length_of(b, Axis::Y);
+    let time = length_of(b, Axis::Time);
     if x >= y && x >= time {
-        0
+        Axis::X
     } else if y >= time {
-        1
+        Axis::Y
     } else {
-        2
+        Axis::Time
     }
 }

@@ -1,7 +1,7 @@
 //! Where the children of a tree that is built are packed: by their ranks along each axis, so that no outlier crowds the others together. No clause
 //! speaks of it: a tree finds the same entries wherever they lie.
 
-use crate::lengths::{PARTS, rounded};
+use crate::lengths::{Axis, PARTS, ends_of, rounded};
 use crate::node::Child;
 use mob_frac::Frac;
 use mob_stbox::StBox;
@@ -20,25 +20,16 @@ fn exact(f: &Frac) -> Exact {
     (whole, fine.checked_div(den).unwrap_or(0))
 }
 
-/// Where a box begins and ends along an axis, 0 and 1 in space and 2 in time.
-fn ends_of(b: &StBox, axis: u8) -> (Exact, Exact) {
-    match (axis, b.space(), b.time()) {
-        (0, Some(area), _) => (exact(&area.xmin), exact(&area.xmax)),
-        (1, Some(area), _) => (exact(&area.ymin), exact(&area.ymax)),
-        (2, _, Some(span)) => (exact(span.lower()), exact(span.upper())),
-        _ => ((0, 0), (0, 0)),
-    }
-}
-
 /// The ends of these children along an axis in order, each with the number of its child.
 fn ordered_ends(
     alloc: Global,
     kids: &[(StBox, Child)],
-    axis: u8,
+    axis: Axis,
 ) -> Result<Vec<((Exact, Exact), usize)>, AllocError> {
     let mut ends = Vec::new(alloc);
     for (i, kid) in kids.iter().enumerate() {
-        ends.push((ends_of(&kid.0, axis), i))?;
+        let (least, greatest) = ends_of(&kid.0, axis);
+        ends.push(((exact(&least), exact(&greatest)), i))?;
     }
     ends.sort_unstable();
     Ok(ends)
@@ -53,7 +44,7 @@ pub struct Ranks {
 
 impl Ranks {
     /// The ranks of these children, in their order: children with the same ends have the same one.
-    pub fn along(alloc: Global, kids: &[(StBox, Child)], axis: u8) -> Result<Ranks, AllocError> {
+    pub fn along(alloc: Global, kids: &[(StBox, Child)], axis: Axis) -> Result<Ranks, AllocError> {
         let ends = ordered_ends(alloc, kids, axis)?;
         let mut of = vec![in alloc; 0u64; kids.len()]?;
         let mut greatest = 0u64;
