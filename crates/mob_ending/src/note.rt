@@ -3,7 +3,7 @@ ghost use Rattle.std.specs.Prelude.{◌≡◌, map, OnOk, OnErr};
 ghost use Rattle.std.specs.List.{concat};
 ghost use Rattle.std.specs.Io.KnownBytes.{Appends};
 ghost use Rattle.mob_outside.specs.Faults.{HasCause};
-ghost use Rattle.mob_ending.specs.Lines.{fault_line, formula_name, further_row, note_line, overflow_line, passes_text, read_line, record_text, refusal_line, rows_text, statement_text, table_line};
+ghost use Rattle.mob_ending.specs.Lines.{fault_line, formula_name, further_row, note_line, overflow_line, passes_text, read_line, record_text, refusal_line, row_number, rows_text, statement_text, table_line};
 ghost use Rattle.mob_outside.specs.Streams.{Puts, PutsPart};
 
 use crate::Ending;
@@ -12,6 +12,7 @@ use mob_ast::{Kind, Refusal};
 use mob_list::text::Text;
 use mob_outside::{Failed, Sink, put_all, put_pieces};
 use mob_slice::Formula;
+use mob_tuples::NO_ROW;
 
 const USAGE: &[u8] = b"usage: mobsql [--workers N] [--epoch DATE] [--demo N] < script.sql\n";
 
@@ -71,21 +72,28 @@ fn put_table_refusal<E: Sink>(
     put_record(notes, kind, rec, field)
 }
 
-// The number of a row, from 1, behind a blank.
+// The number of a row, from 1; 0 where a left-joined table has no row.
+fn row_number(row: u32) -> u64
+    ensures number { result ≡ row_number row }
+{
+    if row == NO_ROW {
+        return 0;
+    }
+    u64::from(row) + 1
+}
+
+// The number of a row behind a blank.
 fn put_further_row<E: Sink>(notes: &mut E, row: u32) -> Result<(), Failed>
     ensures whole { OnOk result (Appends (E.held notes.old) (E.held notes.new) (further_row row)) }
     ensures part { OnErr result (PutsPart (further_row row) (E.held notes.old) (E.held notes.new)) }
     ensures cause { HasCause (E.faults notes.old) (E.faults notes.new) result }
 {
     let mut number = Buffer::new();
-    let pieces = [
-        b" ".as_slice(),
-        number.format(u64::from(row) + 1).as_bytes(),
-    ];
+    let pieces = [b" ".as_slice(), number.format(row_number(row)).as_bytes()];
     put_pieces(notes, &pieces)
 }
 
-// The numbers of these rows, from 1, each behind a blank.
+// The numbers of these rows, each behind a blank.
 fn put_further_rows<E: Sink>(notes: &mut E, rows: &[u32]) -> Result<(), Failed>
     ensures whole { OnOk result (Appends (E.held notes.old) (E.held notes.new) (concat (map further_row rows.now))) }
     ensures part { OnErr result (PutsPart (concat (map further_row rows.now)) (E.held notes.old) (E.held notes.new)) }
@@ -97,7 +105,7 @@ fn put_further_rows<E: Sink>(notes: &mut E, rows: &[u32]) -> Result<(), Failed>
     Ok(())
 }
 
-// The numbers of rows, from 1, with blanks between; a hyphen for none.
+// The numbers of rows with blanks between; a hyphen where there is no table.
 fn put_rows<E: Sink>(notes: &mut E, rows: &[u32]) -> Result<(), Failed>
     ensures whole { OnOk result (Appends (E.held notes.old) (E.held notes.new) (rows_text rows.now)) }
     ensures part { OnErr result (PutsPart (rows_text rows.now) (E.held notes.old) (E.held notes.new)) }
@@ -107,7 +115,7 @@ fn put_rows<E: Sink>(notes: &mut E, rows: &[u32]) -> Result<(), Failed>
         return put_all(notes, b"-");
     };
     let mut number = Buffer::new();
-    put_all(notes, number.format(u64::from(*row) + 1).as_bytes())?;
+    put_all(notes, number.format(row_number(*row)).as_bytes())?;
     put_further_rows(notes, further)
 }
 
