@@ -2,7 +2,7 @@ use Rattle.std.proofs.Common.{◌≤◌, map, take}
 use Rattle.std.specs.Io.KnownBytes.{Appends}
 use Rattle.std.specs.List.{concat}
 use Rattle.mob_ending.specs.Lines.{further_row}
-use Rattle.mob_ending.proofs.note.put_further_rows.Given as goal
+use Rattle.mob_ending.proofs.pieces.put_further_rows.Given as goal
 
 abbrev pub invariant-loop-row : goal.invariant-loop-row
 invariant-loop-row g l = record {

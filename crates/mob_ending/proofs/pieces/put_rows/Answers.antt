@@ -4,7 +4,7 @@ use Rattle.std.specs.Prelude.{decimal}
 use Rattle.std.specs.List.{concat}
 use Rattle.mob_ending.specs.Lines.{further_row}
 use Rattle.mob_ending.proofs.Joined.{part_after}
-use Rattle.mob_ending.proofs.note.put_rows.Goals as goal
+use Rattle.mob_ending.proofs.pieces.put_rows.Goals as goal
 
 pub returns-clause-part : goal.returns-clause-part
 returns-clause-part g c =
