@@ -1,9 +1,9 @@
 use Rattle.std.proofs.Common.{◌≡◌, ◌∷◌, map, take, Some}
 use Rattle.std.specs.List.{concat}
 use Rattle.csv.specs.Writing.{text_written}
-use Rattle.mob_tail.specs.AnswerText.{record_line}
-use Rattle.mob_tail.specs.Records.{IsBetweenRecords}
-use Rattle.mob_tail.proofs.text.records_text.Given as goal
+use Rattle.mob_records.specs.AnswerText.{record_line}
+use Rattle.mob_records.specs.Writers.{IsBetweenRecords}
+use Rattle.mob_records.proofs.text.records_text.Given as goal
 
 abbrev pub invariant-loop-row : goal.invariant-loop-row
 invariant-loop-row l = record {
