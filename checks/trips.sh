@@ -3,10 +3,11 @@
 # the program must write, put into its notes and end with, to the byte. Rows have the form that checks/rows.sh describes, with the lines of the
 # table in place of the script's. Then come streams that fail or never end.
 #
-# `sh checks/trips.sh FOLDER` takes the programs from a folder; without an argument it builds them.
+# `sh checks/trips.sh PROGRAM` takes the programs beside PROGRAM, or those in the folders `out` of their crates where there are none; without an
+# argument it builds them.
 set -eu
 folder=${1:-}
-[ -z "$folder" ] || folder=$(realpath "$folder")
+[ -z "$folder" ] || folder=$(dirname "$(realpath "$folder")")
 cd "$(dirname "$0")/.."
 work=$(mktemp -d)
 trap 'rm -rf "$work"' EXIT
@@ -22,6 +23,7 @@ tried=0
 run_rows() {
     name=$(basename "$1" .rows)
     program=$folder/$name
+    [ -x "$program" ] || program=$(realpath "crates/$name/out/$name")
     cut=$work/$name
     mkdir "$cut"
     count=$(cut_rows "$1" "$cut")

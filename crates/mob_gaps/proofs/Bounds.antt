@@ -84,7 +84,7 @@ approach_reaches one other b c m h k (common, near) =
     let j = there_in other c common.0 common.2 k common.4 in
     let off = apart_off b.time c.time common.0 i.in_time j.in_time in
     rw off (up_to_nearest one other m (space_gap b.space c.space) near (λ t p q ep eq.
-        gap_below b.space c.space p q (there_in one b t p h ep).in_space (there_in other c t q k eq).in_space))
+    gap_below b.space c.space p q (there_in one b t p h ep).in_space (there_in other c t q k eq).in_space))
 
 -- a box over another one has what that one has
 pub covers_over : (place : Ratio → Option Point) (a b : BoxOf) → contains a b ≡ true → Covers place b → Covers place a

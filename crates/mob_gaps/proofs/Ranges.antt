@@ -104,8 +104,12 @@ taken_test a b c d true e r s =
     let h = ge_of_cases b d (smaller b d) (smaller_cases b d (before d b) refl) in
     let k = not-up_to-le (greater a c) (smaller b d) e in
     record {
-      x = greater a c; y = greater a c;
-      from_a = l.0; to_b = le_trans _ _ _ k h.0; from_c = l.1; to_d = le_trans _ _ _ k h.1;
+      x = greater a c;
+      y = greater a c;
+      from_a = l.0;
+      to_b = le_trans _ _ _ k h.0;
+      from_c = l.1;
+      to_d = le_trans _ _ _ k h.1;
       square = zero_self (greater a c) ∙ sym nil_square;
     }
 taken_test a b c d false e r s = elim (split a b c d r s e).way [

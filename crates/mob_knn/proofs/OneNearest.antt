@@ -78,14 +78,22 @@ record IsTaken (ys : List (ℕ × Ratio)) (a : ℕ × Ratio) : Type 0 where
 taken : (ys : List (ℕ × Ratio)) (a : ℕ × Ratio) → Contains ys a → IsTaken ys a
 taken [] a c = absurd (none_in a c)
 taken (y ∷ ys) a c = elim (which_in y ys a c) [
-  | inl e ↦ record { rest = ys; count = omega arith; others = λ z d ne. elim (which_in y ys z d) [
-    | inl f ↦ absurd (ne (sym e ∙ f))
-    | inr i ↦ i
-  ] }
-  | inr i ↦ let t = taken ys a i in let n = t.count in record { rest = y ∷ t.rest; count = omega (arith, n); others = λ z d ne. elim (which_in y ys z d) [
-    | inl f ↦ subst (λ w. Contains (y ∷ t.rest) w) f (first_in y t.rest)
-    | inr j ↦ later_in y t.rest z (t.others z j ne)
-  ] }
+  | inl e ↦ record {
+    rest = ys;
+    count = omega arith;
+    others = λ z d ne. elim (which_in y ys z d) [
+      | inl f ↦ absurd (ne (sym e ∙ f))
+      | inr i ↦ i
+    ];
+  }
+  | inr i ↦ let t = taken ys a i in let n = t.count in record {
+    rest = y ∷ t.rest;
+    count = omega (arith, n);
+    others = λ z d ne. elim (which_in y ys z d) [
+      | inl f ↦ subst (λ w. Contains (y ∷ t.rest) w) f (first_in y t.rest)
+      | inr j ↦ later_in y t.rest z (t.others z j ne)
+    ];
+  }
 ]
 
 -- a list that rises is not longer than one that has all of it

@@ -99,10 +99,13 @@ nat_not_less a b false e h = ltb-false a b e
 next_of : (x y : Waiting) → is_lt (waiting_cmp x y) ≡ false → IsNext x y
 next_of x y h = elim (not_less _ _ h) [
   | inl g ↦ inl (ratio_greater y.key x.key _ _ refl refl g)
-  | inr e ↦ inr (ratio_equal y.key x.key _ _ refl refl e.0, elim (not_less _ _ e.1) [
-    | inl g ↦ inl (nat_greater (rank_of y.what) (rank_of x.what) _ _ refl refl g)
-    | inr f ↦ inr (nat_equal (rank_of y.what) (rank_of x.what) _ _ refl refl f.0, nat_not_less (number_of y.what) (number_of x.what) _ refl f.1)
-  ])
+  | inr e ↦ inr (
+    ratio_equal y.key x.key _ _ refl refl e.0,
+    elim (not_less _ _ e.1) [
+      | inl g ↦ inl (nat_greater (rank_of y.what) (rank_of x.what) _ _ refl refl g)
+      | inr f ↦ inr (nat_equal (rank_of y.what) (rank_of x.what) _ _ refl refl f.0, nat_not_less (number_of y.what) (number_of x.what) _ refl f.1)
+    ],
+  )
 ]
 
 pub next_each : (x : Waiting) (rest : List Waiting) → IsUpperBound waiting_cmp x rest → (y : Waiting) → Contains rest y → IsNext x y

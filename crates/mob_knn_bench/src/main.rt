@@ -131,7 +131,13 @@ fn main(rt: HostRuntime) -> anyhow::Result<ExitCode> {
         return Ok(ExitCode::from(3));
     };
     let columns = columns(alloc)?;
-    let Ok(rows) = read_table(alloc, &bytes, columns.as_slice(), &Epoch::standard(), 1000000) else {
+    let Ok(rows) = read_table(
+        alloc,
+        &bytes,
+        columns.as_slice(),
+        &Epoch::standard(),
+        1000000,
+    ) else {
         return Ok(ExitCode::from(6));
     };
     let trips = trips_of(alloc, rows)?;
