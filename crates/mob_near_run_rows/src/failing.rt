@@ -41,13 +41,7 @@ const ANSWER: &str = "id,approach\n7,25\n(1 rows)\n";
 
 static ROWS: [Row; 5] = [
     // An empty table has one call, which meets the end, and is refused.
-    (
-        End::Table,
-        "",
-        "",
-        "read fault: table\n",
-        &[(3, 0, 18)],
-    ),
+    (End::Table, "", "", "read fault: table\n", &[(3, 0, 18)]),
     // The table has 32 bytes, so there are 5 calls: four with bytes, and one that meets the end.
     (
         End::Table,

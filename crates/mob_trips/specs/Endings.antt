@@ -56,7 +56,7 @@ module _ {Settings : Type 0} (p : ProgramOf Settings) where
   IsTripsCause (RowsRefused rows) s = PassLimit s rows × Keeps s.out.told_before s.out.told_now
   IsTripsCause (Overflow rows formula) s = StopsAt s rows formula × Keeps s.out.told_before s.out.told_now
 
-  -- How a run ended: by its cause, by usage where the words ask for it or else by want of memory, with at most one byte past the limit read, and
+  -- How a run ended: by its cause; by usage, or out of memory, where the arguments are not taken; with at most one byte past the limit read, and
   -- counts that do not fall.
   pub record IsTripsEnding (ending : Ending) (s : TripsSeen) : Type 0 where
     pub cause : IsTripsCause ending s
@@ -65,7 +65,7 @@ module _ {Settings : Type 0} (p : ProgramOf Settings) where
     pub read_later : s.table.faults_before ≤ s.table.faults_now
     pub put_later : s.out.faults_before ≤ s.out.faults_now
 
-  -- how a run ends that comes to no text, by the rows that it read
+  -- how a run ends that has read its rows and has no text for them
   abbrev pub EndsOn : Settings → List (List Value) → Ending → Type 0
   EndsOn settings rows (RowsRefused names) = p.limits settings rows names
   EndsOn settings rows (Overflow names formula) = p.stops settings rows names formula

@@ -6,6 +6,7 @@ use Rattle.mob_ending.specs.Lines.{formula_name, record_text, rows_text}
 use Rattle.mob_trips.specs.declared.ending.Ending.{Ending}
 use Rattle.mob_trips.specs.declared.ending.Ending.TheVariants.{Done, Usage, ReadFault, WriteFault, NoMemory, TableRefused, RowsRefused, Overflow}
 
+-- the status of an ending
 abbrev pub trips_status : Ending → ℕ
 trips_status Done = 0
 trips_status Usage = 2
@@ -16,11 +17,11 @@ trips_status (TableRefused kind rec field) = 6
 trips_status (RowsRefused rows) = 6
 trips_status (Overflow rows formula) = 8
 
--- the word before the numbers of rows
+-- what is before the numbers of rows
 abbrev pub rows_word : List ℕ
 rows_word = codes "rows "
 
--- behind them a formula that is passed, or a limit
+-- what is behind them: a formula that is passed, or a limit
 abbrev pub formula_text : Formula → List ℕ
 formula_text formula = codes ": formula " ++ (formula_name formula ++ codes " passes 62 bits\n")
 
@@ -36,7 +37,7 @@ limit_line rows = rows_word ++ (rows_text rows ++ limit_text)
 abbrev pub table_refusal_line : Kind → ℕ → ℕ → List ℕ
 table_refusal_line kind rec field = codes "table" ++ record_text kind rec field
 
--- the line that an ending leaves in the notes; `usage` is that of words that are not taken
+-- the line that an ending leaves in the notes; `usage` is the line of arguments that are not taken
 abbrev pub trips_note : List ℕ → Ending → List ℕ
 trips_note usage Done = []
 trips_note usage Usage = usage

@@ -1,4 +1,4 @@
--- What a run promises: what its status says of what it was given and what it did, and what asks for a status.
+-- What a run promises: what its status says of what it was given and what it did, and which status it must have.
 use Rattle.std.specs.Prelude.{◌≡◌, ◌⊎◌, ◌≤◌, ℕ, List, Some}
 use Rattle.std.specs.Io.KnownBytes.{Keeps}
 use Rattle.mob_ast.specs.declared.refusal.Kind.{Kind}
@@ -31,7 +31,7 @@ module _ {Settings : Type 0} (p : ProgramOf Settings) where
     pub cause : IsTripsCause p ending s
     pub ends : EndsSo usage ending status Noted
 
-  -- the words have settings, the table is told, and this holds of them
+  -- the arguments have settings, the table is told, and this holds of them
   abbrev pub OnTold : TripsSeen → (Settings → List ℕ → Type 0) → Type 0
   OnTold s P = (settings : Settings) × p.says s.words settings × (bytes : List ℕ) × (s.table.told_before ≡ Some bytes) × P settings bytes
 
@@ -39,7 +39,7 @@ module _ {Settings : Type 0} (p : ProgramOf Settings) where
   pub record IsTripsRun (line : List ℕ) (status : ℕ) (s : TripsSeen) (Noted : List ℕ → Type 0) : Type 0 where
     -- 0: the table was read to its end and accepted, and the text for it was written whole
     pub written : status ≡ 0 → WritesAll p s
-    -- 2: exactly where the words are not taken, but for want of memory
+    -- 2: exactly where the arguments are not taken, out of memory aside
     pub usage : status ≡ 2 → IsUntaken p s.words
     pub exactly_usage : IsUntaken p s.words → (status ≡ 2) ⊎ (status ≡ 5)
     -- 3 and 4: only where the count of the table, or of `out`, rose; under 4 `out` took a proper prefix of the text
@@ -52,7 +52,7 @@ module _ {Settings : Type 0} (p : ProgramOf Settings) where
     -- under every other status than 0 and 4 nothing is written, and under 2 nothing is read
     pub silent : (status ≡ 0 → ⊥) → (status ≡ 4 → ⊥) → Keeps s.out.told_before s.out.told_now
     pub untouched : status ≡ 2 → Keeps s.table.told_before s.table.told_now
-    -- The other way, where no count rose and the table is told; want of memory is free.
+    -- The other way, where no count rose and the table is told; out of memory is free.
     pub must_refuse : IsFaultless s → OnTold s (λ settings bytes. (w : FileFault) × IsTripTableRefused (p.day settings) bytes w) → (status ≡ 6) ⊎ (status ≡ 5)
     pub answered : IsFaultless s → OnTold s (OnRows p p.fits) → (status ≡ 0) ⊎ (status ≡ 5)
     -- under every status: at most one byte past the limit is read, and no count falls
@@ -62,7 +62,7 @@ module _ {Settings : Type 0} (p : ProgramOf Settings) where
     -- the note is the line of the ending with this status and this cause
     pub note : IsTripsNote line status s Noted
 
-  -- The other way for a program that is exact, where no count rose and the table is told; want of memory is free.
+  -- The other way for a program that is exact, where no count rose and the table is told; out of memory is free.
   pub record IsExactRun (status : ℕ) (s : TripsSeen) : Type 0 where
     pub must_limit : IsFaultless s → OnTold s (OnRows p (λ settings rows. (names : List ℕ) × p.limits settings rows names)) → (status ≡ 6) ⊎ (status ≡ 5)
     pub must_stop : IsFaultless s → OnTold s (OnRows p (λ settings rows. (names : List ℕ) × (formula : Formula) × p.stops settings rows names formula)) → (status ≡ 8) ⊎ (status ≡ 5)

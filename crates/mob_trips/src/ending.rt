@@ -5,18 +5,18 @@ use mob_ast::Kind;
 use mob_slice::Formula;
 use mob_tuples::Tuple;
 
-/// How a run over a table of trips ended. Each ending has a status, and each but the good one a line for the notes.
+/// How a run over a table of trips ended. Each ending has a status, and each but `Done` a line for the notes.
 #[derive(Drop)]
 pub enum Ending {
-    /// Status 0: the table was read and accepted, and the text for it was written.
+    /// Status 0: the table was read and accepted, and the text for it was written whole.
     Done,
-    /// Status 2: the words of the command line are not taken.
+    /// Status 2: the arguments of the command line are not taken.
     Usage,
     /// Status 3: the table could not be read.
     ReadFault,
     /// Status 4: the text could not be written.
     WriteFault,
-    /// Status 5: there was no memory.
+    /// Status 5: out of memory.
     NoMemory,
     /// Status 6: the table is refused.
     TableRefused {
@@ -27,7 +27,7 @@ pub enum Ending {
         /// The number of the field, from 1; 0 for the record as a whole.
         field: u32,
     },
-    /// Status 6: some rows pass a limit of the program.
+    /// Status 6: rows pass a limit of the program.
     RowsRefused {
         /// The numbers of the rows, from 0.
         rows: Tuple,
@@ -44,7 +44,7 @@ pub enum Ending {
 impl Ending {
     ghost use Rattle.mob_trips.specs.Lines.{trips_status};
 
-    /// The number that the program ends with.
+    /// The exit status of the program.
     pub fn status(&self) -> u8
         ensures number { result ≡ trips_status self.now }
     {
