@@ -8,6 +8,9 @@ use Rattle.mob_near_run.specs.NearProgram.{near_program}
 use Rattle.mob_near_run.proofs.NearLaws.{fault_ends}
 use Rattle.mob_near_run.proofs.decide.answer_table.Goals as goal
 
+pub near_text-requires : goal.near_text-requires
+near_text-requires g c = record { few = c.in-Ok.ensures.rows.table.within }
+
 pub returns-in-Err-read_trips : goal.returns-in-Err-read_trips
 returns-in-Err-read_trips g c =
     let s : List (List ℕ) → TripsSeen = λ words. trips_seen words (stream_seen g.S.Source.left g.S.Source.faults c.args.table.now c.read_trips.new.table) (stream_seen g.K.Sink.held g.K.Sink.faults c.args.out.now c.args.out.now) in
