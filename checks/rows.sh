@@ -1,20 +1,22 @@
 #!/bin/sh
-# Runs each row of checks/rows/*.rows, alone in a fresh folder: a script, and what it must write, put into its notes and end with, to
-# the byte. Rows have an empty line between; a line of a row begins with its mark and a blank:
+# Runs each row of checks/rows/*.rows in a fresh folder. A row has a script and its output, note and
+# status, which are compared to the byte. Rows are separated by an empty line. A line of a row begins
+# with one of these marks and a blank:
 #
-#   <  a line of the script. The lines have line feeds between, and none at the end. A row without one has the script of the row before.
+#   <  a line of the script. Lines are joined by line feeds, with none at the end. A row without such a
+#      line has the script of the row before.
 #   >  a line of the answer, with its line feed. A row without one writes nothing.
-#   !  the status, a blank and the note, which has a line feed. A row without one ends with 0 and notes nothing.
-#   words  words behind the program's name, with blanks between; word  a single one
-#   file  a name, a blank and what is in the file of that name
-#   script, answer  the whole script or answer, without a line feed of its own
-#   ?  a row by itself: an expression, ` → ` and the field that SELECT of it shows
-#   #  a remark
+#   !  the status, a blank and the note, which has a line feed. A row without one ends with status 0
+#      and no note.
+#   words  arguments of the program, separated by blanks; word  a single argument
+#   file  a file name, a blank and the contents of that file
+#   script, answer  the whole script or answer, without a final line feed
+#   ?  a whole row: an expression, ` → ` and the field that SELECT of it prints
+#   #  a comment
 #
-# A row is run once more with `--workers 3`, where it says no workers of its own, and is to do the same.
-#
-# In `file`, `script` and `answer` stand `\n`, `\r`, `\\`, `\xHH` for a byte, and `\{N TEXT}` for N times a text.
-# `sh checks/rows.sh PROGRAM` takes a program that is there; without a word one is built.
+# `file`, `script` and `answer` may contain `\n`, `\r`, `\\`, `\xHH` for a byte, and `\{N TEXT}` for N
+# copies of a text. A row without a number of workers runs again with `--workers 3`.
+# `sh checks/rows.sh PROGRAM` uses that program; without an argument it builds one.
 . "$(dirname "$0")/common"
 . checks/cut
 
