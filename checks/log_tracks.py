@@ -42,7 +42,8 @@ def random_log(chance):
         grain = chance.choice([Fraction(1), Fraction(1), Fraction(1, 1000)])
         for _ in range(chance.randint(1, 12)):
             reports.append((second, x, y))
-            second += chance.choice([1, 7, 180, 600, 1800, 1800, 2600, 2600, 3601, 30000]) + chance.randint(0, 999) * grain
+            second += chance.choice([1, 7, 180, 600, 1800, 1800, 2600, 3600, 3600, 30000])
+            second += chance.choice([0, chance.randint(1, 999) * grain])
             x += Fraction(chance.randint(-40000, 40000), 10)
             y += Fraction(chance.randint(-40000, 40000), 10)
         log[f"ship {ship}"] = reports
@@ -116,7 +117,7 @@ def check_bound(note, square, unit):
 def check_log(seed):
     chance = random.Random(seed)
     log = random_log(chance)
-    every, to = chance.choice([(17, "1"), (60, "1"), (600, "0.1"), (5000, "5"), (0, "0.5"), (600, "")])
+    every, to = chance.choice([(37, "1"), (60, "1"), (600, "0.1"), (5000, "5"), (0, "0.5"), (600, "")])
     lines = [f"{time_text(chance, second)},{ship},{float(x)},{float(y)}"
              for ship, reports in log.items() for second, x, y in reports]
     chance.shuffle(lines)
@@ -138,7 +139,7 @@ def check_log(seed):
 
 def main():
     tracks = 0
-    for seed in range(40):
+    for seed in range(30):
         try:
             tracks += check_log(seed)
         except AssertionError as why:
