@@ -1,8 +1,10 @@
 #!/bin/sh
 # Runs each script of examples/ in its folder: NAME.sql must write NAME.answer, put NAME.note into its notes, and end with the
-# status that NAME.status says. Where such a file is missing, the answer or the note is to be empty, and the status 0. With three workers it
-# is to do the same. A picture NAME.svg is what examples/picture draws of NAME.answer. The tables that are made of a log are what examples/log_to_table makes of
-# it, and corners.csv is what examples/table_to_log makes of corners.answer.
+# status that NAME.status says. Where such a file is missing, the answer or the note is to be empty,
+# and the status 0. With three workers it is to do the same. A picture NAME.svg is what examples/picture
+# draws of NAME.answer, with the title of the picture. The tables that are made of a log are what
+# examples/log_to_table makes of it, and corners.csv is what examples/table_to_log makes of
+# corners.answer.
 # `sh checks/examples.sh PROGRAM` takes a program that is there; without a word one is built.
 . "$(dirname "$0")/common"
 
@@ -31,7 +33,8 @@ done
 for picture in examples/*/*.svg; do
     kind=bars
     [ "$(basename "$picture")" != map.svg ] || kind=map
-    examples/picture "$kind" < "${picture%.svg}.answer" > "$work/picture"
+    title=$(sed -n 's:<title>\(.*\)</title>:\1:p' "$picture")
+    examples/picture "$kind" "$title" < "${picture%.svg}.answer" > "$work/picture"
     cmp "$work/picture" "$picture" || { echo "picture $picture: FAILED"; failed=1; }
 done
 examples/log_to_table track 3600 < examples/harbour/log.csv | cmp - examples/harbour/tracks.csv || { echo "log of harbour: FAILED"; failed=1; }
