@@ -74,10 +74,10 @@ def expanded(path):
 def standing(path):
     """The files and folders that a path of a document stands for.
 
-    mob_x/specs/A leaves crates/ and .antt out, and words in capitals, as CRATE, stand for any name.
+    mob_x/specs/A leaves crates/ and .antt out, and CRATE, NAME, FILE and FUNCTION stand for any name.
     """
     base = f"crates/{path}" if path.startswith("mob_") else path
-    base = "/".join("*" if re.fullmatch(r"[A-Z]{3,}", it) else it for it in base.split("/"))
+    base = re.sub(r"\b(CRATE|NAME|FILE|FUNCTION)\b", "*", base)
     return [it for end in ("", ".antt", ".rt") for it in glob.glob(base.rstrip("/") + end)]
 
 
