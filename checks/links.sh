@@ -29,6 +29,7 @@ SNAKE = re.compile(r"^[a-z][a-z0-9]*(_[a-z0-9]+)+$")
 CAMEL = re.compile(r"^[A-Z][a-z0-9]+([A-Z][a-z0-9]*)+$")
 OF_CRATE = re.compile(r"`([\w:]+)` of `(mob_\w+)`")
 PLACE = r"`(mob_\w+/(?:specs|src|proofs)[\w/.{}, ]*)`(?:\]\([^)]*\)|\]\[[^\]]*\]|\])?"
+OF_PLACE = re.compile(r"`([\w:-]+)` of \[?" + PLACE)
 IN_PLACE = re.compile(PLACE + r" \(((?:`[^`]+`(?:, | and |; )?)+)\)")
 
 
@@ -136,7 +137,8 @@ def wrong_names(path, line, words):
         last = name.split("::")[-1]
         if crate in words.by_crate and last not in words.by_crate[crate] and last not in EXCEPTIONS:
             yield f"no `{last}` in {crate}"
-    for place, names in IN_PLACE.findall(line):
+    listed = [(place, names) for place, names in IN_PLACE.findall(line)] + [(place, f"`{name}`") for name, place in OF_PLACE.findall(line)]
+    for place, names in listed:
         held = words_of([file for it in expanded(place) for top in standing(it) for file in ([top] if os.path.isfile(top) else glob.glob(f"{top}/**/*.*", recursive=True))])
         for name in re.findall(r"`([\w-]+)`", names):
             if name not in held:
