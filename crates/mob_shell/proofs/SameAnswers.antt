@@ -88,18 +88,18 @@ write_the_same one other differ input text h = other_text one other differ input
 -- what WHERE keeps of all tuples of the tables, by the store and the rows that are there
 abbrev AreKeptOn : TypedSelectParts → ℤ → List (List ℕ) → Store → List TableHead → Type 0
 AreKeptOn select day kept store heads =
-    let M : Visit → Type 0 = λ visit. IsMet (condition_at [] select.cond visit.on) (scene store select.from visit.tuple day) in
-    AreKeptOfAny (Keeps M) (AreTuples (Joins (conditions [] select.cond) M (λ table begin rows. rows ≡ live_of heads table)) select.from []) kept
+    let M : Visit → Type 0 = λ visit. IsMet (condition_at select visit.on) (scene store select.from visit.tuple day) in
+    AreKeptOfAny (Keeps M) (AreTuples (Joins (conditions select) M (λ table begin rows. rows ≡ live_of heads table)) select.from []) kept
 
 module _ (select : TypedSelectParts) (one other : Catalogue) (day : ℤ) (differ : DifferInIndexes one other) where
-  kept_on : (kept others : List (List ℕ)) → IsKept select [] one day (Ok kept) → IsKept select [] other day (Ok others) → IsKept select [] one day (Ok others)
+  kept_on : (kept others : List (List ℕ)) → IsKept select one day (Ok kept) → IsKept select other day (Ok others) → IsKept select one day (Ok others)
   kept_on kept others h k =
       let there : AreKeptOn select day others other.store other.heads = k.0 in
       (subst (λ (heads : List TableHead). AreKeptOn select day others one.store heads) (sym differ.heads) (subst (λ (store : Store). AreKeptOn select day others store other.heads) (sym differ.store) there), h.1)
 
 pub keep_the_same : HasOneKept → IndexesKeepTheSame
 keep_the_same once select one other day kept others differ h k =
-    let e = once select [] one day (Ok kept) (Ok others) h (kept_on select one other day differ kept others h k) in
+    let e = once select one day (Ok kept) (Ok others) h (kept_on select one other day differ kept others h k) in
     cc e
 
 pub answer_the_same : OneAnswer → IndexesAnswerTheSame

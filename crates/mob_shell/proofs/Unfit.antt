@@ -1,12 +1,12 @@
 -- The fault of a statement is a part of a formula of its query that does not fit.
 use Rattle.std.proofs.Common.{◌≡◌, ◌∙◌, inl, inr, refl, sym, ap, subst, Bool, ℕ, ℤ, List, [], ◌∷◌, Option, Some, None, Result, Err}
-use Rattle.std.specs.Prelude.{◌⊎◌, slice_get}
+use Rattle.std.specs.Prelude.{◌⊎◌}
 use Rattle.mob_typed.specs.Trees.{TypedTree}
 use Rattle.mob_typed.specs.Selects.{Output, TypedSelectParts}
 use Rattle.mob_typed.specs.Statements.{StatementOut, query}
 use Rattle.mob_catalog.specs.Catalogue.{Catalogue}
 use Rattle.mob_meaning.specs.Scene.{Scene, scene}
-use Rattle.mob_meaning.specs.Evaluation.{Fault, TreeEvaluatesTo}
+use Rattle.mob_meaning.specs.Evaluation.{Fault}
 use Rattle.mob_meaning.specs.Passes.{FaultsPass, TreePasses}
 use Rattle.mob_eval.specs.QueryFaults.{TupleFault}
 use Rattle.mob_tuples.specs.Tuples.{StandsIn}
@@ -58,7 +58,7 @@ module _ (pass : FaultsPass) where
 
     unfit_query : (f : TupleFault) → QueryAnswers select catalogue day (Err f) → ConditionPasses select catalogue day f ⊎ RowPasses select catalogue day f
     unfit_query f (inl h) =
-        let of = unfit_condition (scene catalogue.store select.from f.0 day) (condition_at [] select.cond h.0) f.1 h.1.3 in
+        let of = unfit_condition (scene catalogue.store select.from f.0 day) (condition_at select h.0) f.1 h.1.3 in
         inl (record { on = h.0; before = h.1.0; visited = h.1.1; condition = of.0; is = of.1; unfit = of.2 })
     unfit_query f (inr h) =
         let row = unfit_row h.0 f h.2 in

@@ -1,5 +1,5 @@
 -- What changes no answer: the number of workers, and indexes.
-use Rattle.std.specs.Prelude.{◌≡◌, ℕ, ℤ, List, [], Ok}
+use Rattle.std.specs.Prelude.{◌≡◌, ℕ, ℤ, List, Ok}
 use Rattle.mob_words.specs.declared.options.Settings.{Settings}
 use Rattle.mob_typed.specs.Selects.{TypedSelectParts}
 use Rattle.mob_catalog.specs.Catalogue.{Catalogue}
@@ -34,7 +34,7 @@ pub record DifferInIndexes (one other : Catalogue) : Type 0 where
 
 -- where a query keeps tuples on both of them, without a fault, it keeps the same
 abbrev pub IndexesKeepTheSame : Type 0
-IndexesKeepTheSame = (select : TypedSelectParts) (one other : Catalogue) (day : ℤ) (kept others : List (List ℕ)) → DifferInIndexes one other → IsKept select [] one day (Ok kept) → IsKept select [] other day (Ok others) → kept ≡ others
+IndexesKeepTheSame = (select : TypedSelectParts) (one other : Catalogue) (day : ℤ) (kept others : List (List ℕ)) → DifferInIndexes one other → IsKept select one day (Ok kept) → IsKept select other day (Ok others) → kept ≡ others
 
 -- where it has an answer on both of them, it has the same
 abbrev pub IndexesAnswerTheSame : Type 0
