@@ -9,6 +9,7 @@
 # - A block `sh` with a folder of examples/ behind the word is a shell script. It runs in a copy of that
 #   folder with `mobsql` on the PATH, and the block `answer` that follows is its output.
 #
+# README.md has at most 150 lines. Lines have at most 100 columns, except in a block `answer`.
 # `sh checks/documents.sh PROGRAM` uses that program; without an argument it builds one.
 . "$(dirname "$0")/common"
 
@@ -47,6 +48,14 @@ cat README.md CHANGELOG.md docs/*.md | awk -v folder="$work" '
 
 failed=0
 tried=0
+# UTF-8 continuation bytes are not counted, so a length is a number of characters.
+LC_ALL=C awk '
+    FNR == 1 { kind = "" }
+    /^```/ { kind = kind == "" ? substr($0, 4) " " : ""; next }
+    { line = $0; gsub(/[\200-\277]/, "", line) }
+    kind !~ /^answer/ && length(line) > 100 { print FILENAME ":" FNR ": more than 100 columns"; wide = 1 }
+    FILENAME == "README.md" && FNR == 151 { print FILENAME ": more than 150 lines"; wide = 1 }
+    END { exit wide }' README.md CHANGELOG.md bench/README.md docs/*.md || failed=1
 for script in "$work"/*.sql; do
     tried=$((tried + 1))
     words=$(cat "${script%.sql}.words" 2> /dev/null || true)
