@@ -1,6 +1,7 @@
--- For the map in `map.svg`: the light, the zones, the way of each ship, and where two that came within 50 metres were in the square
--- of 50 metres to each side of one another, with the square of the least distance. This draws it:
--- mobsql < map.sql | ../picture map 'Who came within 50 metres of whom on 5 May 2026 (metres from the light)' > map.svg
+-- For the map in `map.svg`: the light, the zones, the track of each ship, and the pairs that came
+-- within 50 metres. `near` is where the one was in the square of 50 metres to each side of the
+-- other, and `squared` the square of the least distance. This draws it:
+-- mobsql < map.sql | ../picture map 'Who came within 50 metres of whom' > map.svg
 CREATE TABLE tracks (ship text, track tgeompoint);
 CREATE TABLE zones (zone text, area geometry(Polygon));
 COPY tracks FROM 'tracks.csv' WITH (FORMAT csv, HEADER);
@@ -14,7 +15,8 @@ SELECT zone, area FROM zones;
 SELECT ship, track FROM tracks;
 
 SELECT a.ship AS one, b.ship AS other, nearestApproachSquared(a.track, b.track) AS squared,
-    atTime(a.track, whenTrue((getX(a.track) - getX(b.track) #>= -50) & (getX(a.track) - getX(b.track) #<= 50)
-                           & (getY(a.track) - getY(b.track) #>= -50) & (getY(a.track) - getY(b.track) #<= 50))) AS near
+    atTime(a.track, whenTrue(
+        (getX(a.track) - getX(b.track) #>= -50) & (getX(a.track) - getX(b.track) #<= 50)
+        & (getY(a.track) - getY(b.track) #>= -50) & (getY(a.track) - getY(b.track) #<= 50))) AS near
 FROM tracks a, tracks b
 WHERE a.ship < b.ship AND eDwithin(a.track, b.track, 50);
