@@ -35,7 +35,7 @@ def second_of(found):
 
 
 def random_log(chance):
-    """The reports of some ships, as lists of second, x and y; with gaps, and often over a midnight."""
+    """The reports of some ships, as lists of second, x and y, with gaps and midnights."""
     log = {}
     for ship in range(chance.randint(1, 5)):
         second = Fraction(chance.choice([80000, chance.randint(0, 90000)]))
