@@ -14,7 +14,8 @@ from fractions import Fraction
 SCRIPT = "examples/log_to_table"
 START = datetime(2026, 2, 27)
 SILENT = 3600
-POINT = re.compile(r"POINT\((\S+) (\S+)\)@(\d{4}-\d\d-\d\d)[ T](\d\d):(\d\d):(\d\d(?:\.\d+)?)(Z|\+01:30)?")
+POINT = re.compile(r"POINT\((\S+) (\S+)\)@(\d{4}-\d\d-\d\d)[ T]"
+                   r"(\d\d):(\d\d):(\d\d(?:\.\d+)?)(Z|\+01:30)?")
 
 
 def time_text(chance, second):
@@ -34,7 +35,7 @@ def second_of(found):
 
 
 def random_log(chance):
-    """The reports of some ships, as lists of second, x and y; with gaps, and often over a midnight."""
+    """The reports of some ships, as lists of second, x and y, with gaps and midnights."""
     log = {}
     for ship in range(chance.randint(1, 5)):
         second = Fraction(chance.choice([80000, chance.randint(0, 90000)]))
@@ -84,8 +85,9 @@ def tracks_of(table):
     tracks = {}
     for row in table.splitlines()[1:]:
         ship, literal = re.fullmatch(r'(ship \d+),"(.*)"', row).groups()
+        pieces = re.findall(r"\[([^\]]*)\]", literal)
         tracks[ship] = [[(second_of(it), Fraction(it[0]), Fraction(it[1]))
-                         for it in POINT.findall(piece)] for piece in re.findall(r"\[([^\]]*)\]", literal)]
+                         for it in POINT.findall(piece)] for piece in pieces]
     return tracks
 
 
@@ -99,7 +101,8 @@ def check_piece(chance, reported, new, every, unit):
     assert [it[0] for it in new] == [first, *inner, last], "other instants"
     for second, *found in new:
         for value, exact in zip(found, place(reported, second)):
-            assert abs(value - exact) <= unit / 2 and (not unit or value % unit == 0), "another place"
+            assert abs(value - exact) <= unit / 2, "a place that is too far"
+            assert not unit or value % unit == 0, "a place between the units"
     seconds = {it[0] for it in reported + new}
     square = max(square_at(reported, new, it) for it in seconds)
     for _ in range(20):
@@ -117,13 +120,14 @@ def check_bound(note, square, unit):
 def check_log(seed):
     chance = random.Random(seed)
     log = random_log(chance)
-    every, to = chance.choice([(37, "1"), (60, "1"), (600, "0.1"), (5000, "5"), (0, "0.5"), (600, "")])
+    every, to = chance.choice([(37, "1"), (60, "1"), (600, "0.1"), (5000, "5"), (0, "0.5"),
+                               (600, "")])
     lines = [f"{time_text(chance, second)},{ship},{float(x)},{float(y)}"
              for ship, reports in log.items() for second, x, y in reports]
     chance.shuffle(lines)
     words = ["--every", str(every)] * (every > 0) + ["--to", to] * (to != "")
-    ran = subprocess.run([sys.executable, SCRIPT, "track", str(SILENT), *words], text=True,
-                         input="\n".join(["time,ship,x,y", *lines]), capture_output=True, check=True)
+    ran = subprocess.run([sys.executable, SCRIPT, "track", str(SILENT), *words], check=True,
+                         text=True, input="\n".join(["time,ship,x,y", *lines]), capture_output=True)
     tracks, notes = tracks_of(ran.stdout), ran.stderr.splitlines()
     assert list(tracks) == sorted(log) and len(notes) == len(log) + 1, "other ships"
     unit, squares = Fraction(to or 0), []
