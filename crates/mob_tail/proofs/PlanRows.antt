@@ -1,5 +1,5 @@
 -- A walk over steps and names that has come to the end of either has made all lines.
-use Rattle.std.proofs.Common.{◌≡◌, ◌∙◌, ◌+◌, ◌<◌, ◌≤◌, refl, sym, ap, subst, arith, ℕ, zero, suc, List, [], ◌∷◌, ◌++◌, append-nil, append_assoc, drop, get_or, length, map, Bool, Option, Some, None}
+use Rattle.std.proofs.Common.{◌≡◌, ◌∙◌, ◌+◌, ◌<◌, refl, sym, ap, arith, ℕ, zero, suc, List, [], ◌∷◌, ◌++◌, append-nil, append_assoc, drop, get_or, length, map, Option, Some, None}
 use Rattle.std.specs.Prelude.{is_some, slice_get}
 use Rattle.std.proofs.lemmas.List.{drop_more}
 use Rattle.mob_typed.specs.Trees.{TypedTree}
@@ -10,7 +10,7 @@ use Rattle.mob_plan.specs.Plans.{step_seen}
 use Rattle.mob_tail.specs.PlanAnswers.{plan_line, plan_rows}
 
 -- the names behind a place, of which the first is there or is not
-names_there : (names : List (List ℕ)) (place : ℕ) (name : List ℕ) → slice_get names place ≡ Some name → drop place names ≡ name ∷ drop (place + 1) names
+names_there : (names : List (List ℕ)) (place : ℕ) (name : List ℕ) → slice_get names place ≡ Some name → drop place names ≡ name ∷ drop (suc place) names
 names_there [] zero name is = absurd (cc is)
 names_there [] (suc place) name is = absurd (cc is)
 names_there (n ∷ names) zero name is = let same : n ≡ name = cc is in ap (λ m. m ∷ names) same
@@ -21,6 +21,9 @@ names_gone [] zero is = refl
 names_gone [] (suc place) is = refl
 names_gone (n ∷ names) zero is = absurd (cc is)
 names_gone (n ∷ names) (suc place) is = names_gone names place is
+
+one_more : (place : ℕ) → suc place ≡ place + 1
+one_more place = omega arith
 
 module _ (c : Catalogue) (joins : List (Option TypedTree)) (steps : List Step) (names : List (List ℕ)) where
   -- the rows of the steps from a place on
@@ -33,7 +36,7 @@ module _ (c : Catalogue) (joins : List (Option TypedTree)) (steps : List Step) (
   next_made place step name line rows lt is there says h =
       append_assoc rows ((line ∷ []) ∷ []) (rows_behind (place + 1)) ∙ ap (λ l. rows ++ (l ∷ []) ∷ rows_behind (place + 1)) says
       ∙ ap (λ r. rows ++ r) (sym (ap (λ ss. plan_rows c joins place (map step_seen ss) (drop place names)) (drop_more steps place step lt ∙ ap (λ s. s ∷ drop (place + 1) steps) (sym is))
-      ∙ ap (λ ns. plan_rows c joins place (step_seen step ∷ map step_seen (drop (place + 1) steps)) ns) (names_there names place name there))) ∙ h
+      ∙ ap (λ ns. plan_rows c joins place (step_seen step ∷ map step_seen (drop (place + 1) steps)) ns) (names_there names place name there ∙ ap (λ k. name ∷ drop k names) (one_more place)))) ∙ h
 
   -- where names end
   no_name : (ss : List Step) (ns : List (List ℕ)) (place : ℕ) → ns ≡ [] → plan_rows c joins place (map step_seen ss) ns ≡ []

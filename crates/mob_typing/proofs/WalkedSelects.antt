@@ -205,15 +205,15 @@ module _ (At : ℕ → Type 0) (tables : List ColumnList) (s : ScopeParts) (ther
   none_joined (t ∷ from) zero = refl
   none_joined (t ∷ from) (suc place) = none_joined from place
 
-  no_ons_typed : {P : TypedTree → Type 0} (from : List (List ℕ × ScopeTableParts)) → AllByRecursion (λ on. IfSome on P) (no_joins from)
-  no_ons_typed [] = tt
-  no_ons_typed {P} (t ∷ from) = (tt, no_ons_typed {P} from)
+  no_ons_typed : (P : TypedTree → Type 0) (from : List (List ℕ × ScopeTableParts)) → AllByRecursion (λ on. IfSome on P) (no_joins from)
+  no_ons_typed P [] = tt
+  no_ons_typed P (t ∷ from) = (tt, no_ons_typed P from)
 
   no_ons : (cs : List ConstText) → AreOns tables cs (numbers_of s.from) (no_joins s.from)
   no_ons cs = record {
     each = length-map s.from (λ (t : List ℕ × ScopeTableParts). None) ∙ sym (length-map s.from (λ (t : List ℕ × ScopeTableParts). t.1.table));
     first = none_joined s.from 0;
-    typed = no_ons_typed s.from;
+    typed = no_ons_typed _ s.from;
     named = λ place. subst (λ on. IfSome on (λ t. names_before (place + 1) t ≡ true)) (sym (none_joined s.from place)) tt;
   }
 
