@@ -1,11 +1,10 @@
 -- What the options of a command line say.
-use Rattle.std.proofs.Common.{List, ◌≡◌, ◌∙◌, ℕ, ℤ, Bool, true, false, Option, Some, None, Ok, Err, refl, sym, ap, subst, arith, ◌≤◌}
+use Rattle.std.proofs.Common.{List, ◌≡◌, ◌∙◌, ℕ, ℤ, Bool, Option, Some, None, Ok, Err, refl, sym, subst, arith}
 use Rattle.std.specs.Prelude.{◌≢◌, Result, IfOk, IfSome, IsNone, cond, codes}
 use Rattle.clap.specs.Words.{Text}
 use Rattle.mob_ast.specs.declared.types.SqlType.{SqlType}
 use Rattle.mob_ast.specs.declared.types.SqlType.TheVariants as sql
 use Rattle.mob_value.specs.declared.value.Value.{Value}
-use Rattle.mob_value.specs.declared.value.Value.TheVariants as value
 use Rattle.mob_numeral.specs.declared.fault.ReadText.{ReadText}
 use Rattle.mob_numeral.specs.declared.fault.ReadText.TheVariants.{NoMemory}
 use Rattle.mob_literal.specs.SqlText.{SaysAs}

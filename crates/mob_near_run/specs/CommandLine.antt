@@ -1,5 +1,5 @@
 -- The command line `mobnear --k K --to TEXT [--epoch DATE]`: three options that take one value each, no help and no version.
-use Rattle.std.specs.Prelude.{◌≡◌, ◌∷◌, ◌==◌, ℕ, List, [], Option, Some, Ok, codes, cond}
+use Rattle.std.specs.Prelude.{◌≡◌, ◌==◌, ℕ, List, [], Option, Some, Ok, codes, cond}
 use Rattle.std.specs.List.{list_any}
 use Rattle.clap.specs.Words.{App, Text, fault_of, first_of, matches_of, new_app, with_rule}
 use Rattle.mob_ast.specs.declared.types.SqlType.{SqlType}

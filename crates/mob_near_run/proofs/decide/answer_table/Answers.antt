@@ -11,10 +11,10 @@ use Rattle.mob_near_run.proofs.decide.answer_table.Goals as goal
 pub near_text-requires : goal.near_text-requires
 near_text-requires g c = record { few = c.in-Ok.ensures.rows.table.within }
 
-pub returns-in-Err-read_trips : goal.returns-in-Err-read_trips
-returns-in-Err-read_trips g c =
+pub returns-in-Err : goal.returns-in-Err
+returns-in-Err g c =
     let s : List (List ℕ) → TripsSeen = λ words. trips_seen words (stream_seen g.S.Source.left g.S.Source.faults c.args.table.now c.read_trips.new.table) (stream_seen g.K.Sink.held g.K.Sink.faults c.args.out.now c.args.out.now) in
-    record { ends = λ words says. ends_unread near_program (s words) c.args.settings.now says c.read_trips.ensures.part c.read_trips.ensures.later (omega arith) c.in-Err-read_trips.ending c.in-Err-read_trips.ensures.ending (Keeps-refl _) }
+    record { ends = λ words says. ends_unread near_program (s words) c.args.settings.now says c.read_trips.ensures.part c.read_trips.ensures.later (omega arith) c.in-Err.ending c.in-Err.ensures.ending (Keeps-refl _) }
 
 pub returns-in-Err-near_text : goal.returns-in-Err-near_text
 returns-in-Err-near_text g c =

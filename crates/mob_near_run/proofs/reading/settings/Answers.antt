@@ -1,4 +1,4 @@
-use Rattle.std.proofs.Common.{rules, refl, sym, subst, ap, ◌∙◌, ◌≡◌, Some, codes}
+use Rattle.std.proofs.Common.{refl, sym, subst, ap, ◌∙◌, codes}
 use Rattle.std.specs.Prelude.{option_map, map, string_bytes, Ok}
 use Rattle.mob_literal.specs.SqlText.{SaysAs}
 use Rattle.mob_words.specs.CommandLine.{IsEpoch}
