@@ -68,8 +68,8 @@ fn write_record(
     }
 }
 
-// The texts as slices of bytes.
-fn bytes_of<'a>(alloc: Global, fields: &'a [Text]) -> Result<Vec<&'a [u8]>, AllocError>
+/// The texts as slices of bytes, in order. It takes memory for the list alone.
+pub fn bytes_of<'a>(alloc: Global, fields: &'a [Text]) -> Result<Vec<&'a [u8]>, AllocError>
     ensures same { IfOk result (λ v. map (λ b. b.now) v.items ≡ fields.now) }
 {
     let mut bytes = Vec::with_capacity(alloc, fields.len())?;
