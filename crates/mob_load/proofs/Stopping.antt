@@ -11,14 +11,14 @@ use Rattle.mob_load.specs.declared.program.LoadEnd.TheVariants.{Refused, TableRe
 use Rattle.mob_load.proofs.Asked.{asked_last, checks_ask, names_around, opened_last}
 use Rattle.mob_load.proofs.Steps.{loads_behind}
 
-module _ (day : ℤ) (first others : List CheckParts) (told : Option Contents) (a b d : Option (List (List ℕ))) (so_far : AsksForAll (names_in first) a b) (l : Loaded) where
+module _ (day : ℤ) (first others : List CheckParts) (told : Option Contents) (a b d : Option (List (List ℕ))) (so_far : AsksForAll (names_in first) a b) (l after : Loaded) where
   -- the checks before it all pass, on the files of all checks
   abbrev Passed : CheckParts → Type 0
   Passed c = OnFiles (names_in (first ++ c ∷ others)) told (λ m. Loads day m first nothing_loaded (Ok l))
 
   -- it fails so
   abbrev Fails : CheckParts → LoadEnd → Type 0
-  Fails c e = OnFiles (names_in (first ++ c ∷ others)) told (λ m. LoadsTo {A = Unit {0}} (Err e) l (LoadsCheck day m c l))
+  Fails c e = OnFiles (names_in (first ++ c ∷ others)) told (λ m. LoadsTo {A = Unit {0}} (Err e) after (LoadsCheck day m c l))
 
   -- why the checks stop at it
   abbrev StopsHere : CheckParts → LoadEnd → Type 0
@@ -30,6 +30,7 @@ module _ (day : ℤ) (first others : List CheckParts) (told : Option Contents) (
 
     file_refused : (kind : Kind) (rec field : ℕ) → AsksForAll (own ∷ []) b d → Passed (file t own)
         → OnFiles (names_in (first ++ file t own ∷ others)) told (λ m. LoadsFile day t own l (file_of own m) (Err (table_refused own kind rec field))) → StopsHere (file t own) (TableRefused own kind rec field)
+    unfolding here
     file_refused kind rec field asks passed fails = record {
       number = length (names_in first);
       last = subst (λ (ns : List (List ℕ)). IsAskedLast ns (length (names_in first)) (length (names_in first) + 1) a d own) (sym (names_around first (file t own) others))
@@ -66,11 +67,11 @@ module _ (day : ℤ) (first others : List CheckParts) (told : Option Contents) (
 
   -- of all checks
   pub check_stops : (all : List CheckParts) (c : CheckParts) → all ≡ first ++ c ∷ others → (e : LoadEnd) → IsFaultAt c e → AsksForSome (names_of c) b d → OnRead {A = Unit {0}} (Err e) (AsksForAll (names_of c) b d)
-      → OnFiles (names_in all) told (λ m. Loads day m first nothing_loaded (Ok l)) → OnFiles (names_in all) told (λ m. LoadsTo {A = Unit {0}} (Err e) l (LoadsCheck day m c l))
+      → OnFiles (names_in all) told (λ m. Loads day m first nothing_loaded (Ok l)) → OnFiles (names_in all) told (λ m. LoadsTo {A = Unit {0}} (Err e) after (LoadsCheck day m c l))
       → ChecksStopBy day all (names_in all) told a d e
   check_stops all c is e at some asks passed fails =
       let of = λ (cs : List CheckParts). OnFiles (names_in cs) told (λ m. Loads day m first nothing_loaded (Ok l)) in
-      let so = λ (cs : List CheckParts). OnFiles (names_in cs) told (λ m. LoadsTo {A = Unit {0}} (Err e) l (LoadsCheck day m c l)) in
+      let so = λ (cs : List CheckParts). OnFiles (names_in cs) told (λ m. LoadsTo {A = Unit {0}} (Err e) after (LoadsCheck day m c l)) in
       subst (λ (cs : List CheckParts). ChecksStopBy day cs (names_in cs) told a d e) (sym is) (stops_here c e at some asks (subst of is passed) (subst so is fails))
 
 -- of the checks of a script

@@ -47,7 +47,7 @@ returns-in-Err-clause-stopped g c =
     let x = c.check-item.result in
     let at = c.loop-check.invariant in
     check_stops c.args.epoch.now (map check_seen (take i all)) (map check_seen (drop (i + 1) all)) (g.F.Files.files c.args.files.now) (g.F.Files.asked c.args.files.now) (g.F.Files.asked c.loop-check.files)
-    (g.F.Files.asked c.run_check.new.files) at.asked (loaded_of c.loop-check.loading) (map check_seen all) (check_seen x) (around all i x c.loop-check-test.true c.check-item.is) c.in-Err.end c.in-Err.ensures.fault
+    (g.F.Files.asked c.run_check.new.files) at.asked (loaded_of c.loop-check.loading) (loaded_of c.run_check.new.loading) (map check_seen all) (check_seen x) (around all i x c.loop-check-test.true c.check-item.is) c.in-Err.end c.in-Err.ensures.fault
     c.in-Err.ensures.some c.in-Err.ensures.asked at.passed
     (λ m are. c.in-Err.ensures.loads m (files_here all i x c.loop-check-test.true c.check-item.is (g.F.Files.files c.args.files.now) (g.F.Files.files c.loop-check.files) m at.files are))
 
