@@ -1,5 +1,5 @@
--- A walk over steps and names that has come to the end of either has made all lines.
-use Rattle.std.proofs.Common.{◌≡◌, ◌∙◌, ◌+◌, ◌<◌, refl, sym, ap, arith, ℕ, zero, suc, List, [], ◌∷◌, ◌++◌, append-nil, append_assoc, drop, get_or, length, map, Option, Some, None}
+-- A walk over steps and names: each makes a line, and behind the last step all lines are made.
+use Rattle.std.proofs.Common.{◌≡◌, ◌∙◌, ◌+◌, ◌<◌, sym, ap, arith, ℕ, zero, suc, List, [], ◌∷◌, ◌++◌, append-nil, append_assoc, drop, get_or, length, map, Option, Some}
 use Rattle.std.specs.Prelude.{is_some, slice_get}
 use Rattle.std.proofs.lemmas.List.{drop_more}
 use Rattle.mob_typed.specs.Trees.{TypedTree}
@@ -9,18 +9,12 @@ use Rattle.mob_plan.specs.declared.steps.Step.{Step}
 use Rattle.mob_plan.specs.Plans.{step_seen}
 use Rattle.mob_tail.specs.PlanAnswers.{plan_line, plan_rows}
 
--- the names behind a place, of which the first is there or is not
+-- the names from a place on, of which the first is there
 names_there : (names : List (List ℕ)) (place : ℕ) (name : List ℕ) → slice_get names place ≡ Some name → drop place names ≡ name ∷ drop (suc place) names
 names_there [] zero name is = absurd (cc is)
 names_there [] (suc place) name is = absurd (cc is)
 names_there (n ∷ names) zero name is = let same : n ≡ name = cc is in ap (λ m. m ∷ names) same
 names_there (n ∷ names) (suc place) name is = names_there names place name is
-
-names_gone : (names : List (List ℕ)) (place : ℕ) → slice_get names place ≡ None → drop place names ≡ []
-names_gone [] zero is = refl
-names_gone [] (suc place) is = refl
-names_gone (n ∷ names) zero is = absurd (cc is)
-names_gone (n ∷ names) (suc place) is = names_gone names place is
 
 one_more : (place : ℕ) → suc place ≡ place + 1
 one_more place = omega arith
@@ -37,14 +31,6 @@ module _ (c : Catalogue) (joins : List (Option TypedTree)) (steps : List Step) (
       append_assoc rows ((line ∷ []) ∷ []) (rows_behind (place + 1)) ∙ ap (λ l. rows ++ (l ∷ []) ∷ rows_behind (place + 1)) says
       ∙ ap (λ r. rows ++ r) (sym (ap (λ ss. plan_rows c joins place (map step_seen ss) (drop place names)) (drop_more steps place step lt ∙ ap (λ s. s ∷ drop (place + 1) steps) (sym is))
       ∙ ap (λ ns. plan_rows c joins place (step_seen step ∷ map step_seen (drop (place + 1) steps)) ns) (names_there names place name there ∙ ap (λ k. name ∷ drop k names) (one_more place)))) ∙ h
-
-  -- where names end
-  no_name : (ss : List Step) (ns : List (List ℕ)) (place : ℕ) → ns ≡ [] → plan_rows c joins place (map step_seen ss) ns ≡ []
-  no_name [] ns place is = refl
-  no_name (s ∷ ss) ns place is = ap (λ z. plan_rows c joins place (map step_seen (s ∷ ss)) z) is
-
-  pub names_end : (place : ℕ) (rows : List (List (List ℕ))) → slice_get names place ≡ None → rows ++ rows_behind place ≡ plan_rows c joins 0 (map step_seen steps) names → rows ≡ plan_rows c joins 0 (map step_seen steps) names
-  names_end place rows none h = sym (append-nil rows) ∙ ap (λ r. rows ++ r) (sym (no_name (drop place steps) (drop place names) place (names_gone names place none))) ∙ h
 
   -- where steps end
   pub steps_end : (place : ℕ) (rows : List (List (List ℕ))) → drop place steps ≡ [] → rows ++ rows_behind place ≡ plan_rows c joins 0 (map step_seen steps) names → rows ≡ plan_rows c joins 0 (map step_seen steps) names

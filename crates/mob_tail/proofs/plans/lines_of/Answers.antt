@@ -1,6 +1,7 @@
-use Rattle.std.proofs.Common.{rules, ◌∙◌, ◌+◌, ◌++◌, ◌∷◌, [], ap, map, option_map}
+use Rattle.std.proofs.Common.{◌∙◌, ◌+◌, ◌++◌, ◌∷◌, [], ap, length, map, option_map, refl}
 use Rattle.std.specs.Prelude.{is_some}
 use Rattle.std.proofs.lemmas.List.{drop_all}
+use Rattle.std.proofs.lemmas.Option.{slice_get_read}
 use Rattle.mob_typed.specs.Trees.{typed_of}
 use Rattle.mob_typed.specs.Selects.{on_of}
 use Rattle.mob_plan.specs.Plans.{step_seen}
@@ -15,10 +16,11 @@ loop-place-preserved c =
     let place = c.loop-place.place in
     let step = c.index-steps-place.result in
     let left = is_some (on_of joins place) in
+    let there = slice_get_read c.args.names.now (length c.args.names.now) place c.in-Some.name.now refl c.in-Some.ensures.lookup.3.0 c.in-Some.ensures.lookup.1 in
     let says =
     c.in_ok-line.ensures.says ∙ ap (λ b. plan_line catalogue b (step_seen step) c.as_str.result.now) c.is_left.ensures.left ∙ ap (λ n. plan_line catalogue left (step_seen step) n) c.as_str.ensures.same in
     ap (λ rows. rows ++ rows_behind catalogue joins c.args.steps.now c.args.names.now (place + 1)) (c.in_ok-push.ensures.pushed ∙ ap (λ field. c.loop-place.rows ++ field ∷ []) c.in_ok-one_field.ensures.one)
-    ∙ next_made catalogue joins c.args.steps.now c.args.names.now place step c.in-Some.name.now c.in_ok-line.line c.loop-place.rows c.loop-place-test.true c.index-steps-place.is ? says c.loop-place.invariant
+    ∙ next_made catalogue joins c.args.steps.now c.args.names.now place step c.in-Some.name.now c.in_ok-line.line c.loop-place.rows c.loop-place-test.true c.index-steps-place.is there says c.loop-place.invariant
 
 pub returns : goal.returns
 returns c =
