@@ -221,7 +221,14 @@ fn ends_by(
     let Ok(failing) = failing(alloc, End::File, call) else {
         return false;
     };
-    match &run_once(rt, alloc, &[], script.as_bytes(), &[("t.csv", FILE)], failing) {
+    match &run_once(
+        rt,
+        alloc,
+        &[],
+        script.as_bytes(),
+        &[("t.csv", FILE)],
+        failing,
+    ) {
         Ok(seen) => is_cut(seen, "", note, (status, 0, note.len())),
         Err(_) => false,
     }
@@ -231,5 +238,14 @@ fn ends_by(
 #[test]
 fn a_file_that_is_copied_twice_is_read_when_it_is_reached(rt: HostRuntime) {
     assert!(rt; ends_by(&rt, rt.alloc(), TWICE, 4, 3, "read fault: t.csv\n"));
-    assert!(rt; ends_by(&rt, rt.alloc(), TWICE, 5, 7, "statement 4, byte 107: refusal 14 (BadLiteral)\n"));
+    assert!(rt;
+        ends_by(
+            &rt,
+            rt.alloc(),
+            TWICE,
+            5,
+            7,
+            "statement 4, byte 107: refusal 14 (BadLiteral)\n"
+        )
+    );
 }
