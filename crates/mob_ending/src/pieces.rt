@@ -3,13 +3,14 @@ ghost use Rattle.std.specs.Prelude.{◌≡◌, map, OnOk, OnErr};
 ghost use Rattle.std.specs.List.{concat};
 ghost use Rattle.std.specs.Io.KnownBytes.{Appends};
 ghost use Rattle.mob_outside.specs.Faults.{HasCause};
-ghost use Rattle.mob_ending.specs.Lines.{formula_name, further_row, record_text, rows_text};
+ghost use Rattle.mob_ending.specs.Lines.{formula_name, further_row, record_text, row_number, rows_text};
 ghost use Rattle.mob_outside.specs.Streams.{Puts, PutsPart};
 
 use itoa::Buffer;
 use mob_ast::Kind;
 use mob_outside::{Failed, Sink, put_all, put_pieces};
 use mob_slice::Formula;
+use mob_tuples::NO_ROW;
 
 /// Puts where in a table file a refusal is, and why: `: record R, field F: refusal N (Name)` and a line feed.
 pub fn put_record<E: Sink>(notes: &mut E, kind: Kind, rec: u32, field: u32) -> Result<(), Failed>
@@ -32,21 +33,28 @@ pub fn put_record<E: Sink>(notes: &mut E, kind: Kind, rec: u32, field: u32) -> R
     put_pieces(notes, &pieces)
 }
 
-// The number of a row, from 1, behind a blank.
+// The number of a row, from 1; 0 where a left-joined table has no row.
+fn row_number(row: u32) -> u64
+    ensures number { result ≡ row_number row }
+{
+    if row == NO_ROW {
+        return 0;
+    }
+    u64::from(row) + 1
+}
+
+// The number of a row behind a blank.
 fn put_further_row<E: Sink>(notes: &mut E, row: u32) -> Result<(), Failed>
     ensures whole { OnOk result (Appends (E.held notes.old) (E.held notes.new) (further_row row)) }
     ensures part { OnErr result (PutsPart (further_row row) (E.held notes.old) (E.held notes.new)) }
     ensures cause { HasCause (E.faults notes.old) (E.faults notes.new) result }
 {
     let mut number = Buffer::new();
-    let pieces = [
-        b" ".as_slice(),
-        number.format(u64::from(row) + 1).as_bytes(),
-    ];
+    let pieces = [b" ".as_slice(), number.format(row_number(row)).as_bytes()];
     put_pieces(notes, &pieces)
 }
 
-// The numbers of these rows, from 1, each behind a blank.
+// The numbers of these rows, each behind a blank.
 fn put_further_rows<E: Sink>(notes: &mut E, rows: &[u32]) -> Result<(), Failed>
     ensures whole { OnOk result (Appends (E.held notes.old) (E.held notes.new) (concat (map further_row rows.now))) }
     ensures part { OnErr result (PutsPart (concat (map further_row rows.now)) (E.held notes.old) (E.held notes.new)) }
@@ -58,7 +66,7 @@ fn put_further_rows<E: Sink>(notes: &mut E, rows: &[u32]) -> Result<(), Failed>
     Ok(())
 }
 
-/// Puts the numbers of rows, from 1, with blanks between; a hyphen for none.
+/// Puts the numbers of rows with blanks between, from 1, 0 where a left-joined table has no row; a hyphen where there is no table.
 pub fn put_rows<E: Sink>(notes: &mut E, rows: &[u32]) -> Result<(), Failed>
     ensures whole { OnOk result (Appends (E.held notes.old) (E.held notes.new) (rows_text rows.now)) }
     ensures part { OnErr result (PutsPart (rows_text rows.now) (E.held notes.old) (E.held notes.new)) }
@@ -68,7 +76,7 @@ pub fn put_rows<E: Sink>(notes: &mut E, rows: &[u32]) -> Result<(), Failed>
         return put_all(notes, b"-");
     };
     let mut number = Buffer::new();
-    put_all(notes, number.format(u64::from(*row) + 1).as_bytes())?;
+    put_all(notes, number.format(row_number(*row)).as_bytes())?;
     put_further_rows(notes, further)
 }
 
