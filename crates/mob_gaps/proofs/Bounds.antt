@@ -22,7 +22,7 @@ use Rattle.mob_meets.specs.Covers.{Covers}
 use Rattle.mob_meets.proofs.Near.{there_in}
 use Rattle.mob_near.specs.Distances.{distance_squared}
 use Rattle.mob_gaps.specs.declared.kind.Gap.TheVariants.{Apart, AtLeast}
-use Rattle.mob_gaps.specs.Gaps.{area_gap, area_gap_parts, gap_east, all_fit, exact_or_nil, are_apart, space_gap, gap_of, reaches, AreApart, IsGap, IsLeastGap, IsLeastSquare}
+use Rattle.mob_gaps.specs.Gaps.{area_gap, area_gap_parts, gap_east, all_fit, exact_or_nil, are_apart, space_gap, gap_of, gap_reaches, AreApart, IsGap, IsLeastGap, IsLeastSquare}
 use Rattle.mob_gaps.proofs.Fitting.{is_all_fit, is_not_all_fit}
 use Rattle.mob_gaps.proofs.Ranges.{between_below, between_taken}
 
@@ -77,7 +77,7 @@ apart_off (Some s) None t h k = refl
 apart_off (Some s) (Some r) t h k = ap not ((spans_meet_exact s r).1 (t, h, k))
 
 -- The approach of what two boxes hold is not below their gap; where these are apart, there is none.
-pub approach_reaches : (one other : Ratio → Option Point) (b c : BoxOf) (m : Ratio) → Covers one b → Covers other c → IsApproach one other (Some m) → reaches (gap_of b c) m ≡ true
+pub approach_reaches : (one other : Ratio → Option Point) (b c : BoxOf) (m : Ratio) → Covers one b → Covers other c → IsApproach one other (Some m) → gap_reaches (gap_of b c) m ≡ true
 unfolding gap_of
 approach_reaches one other b c m h k (common, near) =
     let i = there_in one b common.0 common.1 h common.3 in

@@ -9,7 +9,7 @@ use Rattle.mob_frac.specs.Fits.{Fits}
 use Rattle.mob_frac.specs.Formula.{AllFit, IsFormula, square_parts}
 use Rattle.mob_frac.proofs.Fitting.{all_both, all_first, all_second}
 use Rattle.mob_near.specs.Distances.{length_squared}
-use Rattle.mob_gaps.specs.Gaps.{fits, all_fit, exact_or_nil}
+use Rattle.mob_gaps.specs.Gaps.{part_fits, all_fit, exact_or_nil}
 
 lt_is : (a b : ℕ) → nat_lt a b ≡ true → a < b
 lt_is a b h = ltb-true a b h
@@ -17,10 +17,10 @@ lt_is a b h = ltb-true a b h
 lt_test : (a b : ℕ) → a < b → nat_lt a b ≡ true
 lt_test a b h = lt-ltb a b h
 
-fits_is : (q : Ratio) → fits q ≡ true → Fits q
+fits_is : (q : Ratio) → part_fits q ≡ true → Fits q
 fits_is q h = let k = and_parts _ _ h in record { num_fits = lt_is (nat_abs q.num) (2 ^ 62) k.0; den_fits = lt_is q.den (2 ^ 62) k.1 }
 
-is_fits : (q : Ratio) → Fits q → fits q ≡ true
+is_fits : (q : Ratio) → Fits q → part_fits q ≡ true
 is_fits q h = and_from _ _ (lt_test (nat_abs q.num) (2 ^ 62) h.num_fits) (lt_test q.den (2 ^ 62) h.den_fits)
 
 pub all_fit_is : (parts : List Ratio) → all_fit parts ≡ true → AllFit parts

@@ -10,7 +10,7 @@ use Rattle.mob_ratio.proofs.Field.{le_trans, le_refl, le_of_lt, mul_comm, sub_se
 use Rattle.mob_ratio.proofs.Order.{not-up_to-le, up_to-le, before-lt}
 use Rattle.mob_quadratic.proofs.Convex.{square_le, le_mul_pos, sub_le}
 use Rattle.mob_plane.specs.Corners.{smaller, greater}
-use Rattle.mob_gaps.specs.Gaps.{between}
+use Rattle.mob_gaps.specs.Gaps.{range_gap}
 
 -- the greater one of two is one of them, and at least both
 greater_cases : (a b : Ratio) (t : Bool) → before a b ≡ t → ((cond t b a ≡ a) × (b ≤ℚ a)) ⊎ ((cond t b a ≡ b) × (a <ℚ b))
@@ -76,7 +76,7 @@ by_test a b c d x y true e ax xb cy yd = subst (λ z. z ≤ℚ ((x -ℚ y) *ℚ 
 by_test a b c d x y false e ax xb cy yd = by_way a b c d (greater a c -ℚ smaller b d) x y (split a b c d (le_trans a x b ax xb) (le_trans c y d cy yd) e) ax xb cy yd
 
 -- two numbers of the ranges are at least so far from one another
-pub between_below : (a b c d x y : Ratio) → a ≤ℚ x → x ≤ℚ b → c ≤ℚ y → y ≤ℚ d → (between a b c d *ℚ between a b c d) ≤ℚ ((x -ℚ y) *ℚ (x -ℚ y))
+pub between_below : (a b c d x y : Ratio) → a ≤ℚ x → x ≤ℚ b → c ≤ℚ y → y ≤ℚ d → (range_gap a b c d *ℚ range_gap a b c d) ≤ℚ ((x -ℚ y) *ℚ (x -ℚ y))
 between_below a b c d x y ax xb cy yd = by_test a b c d x y (up_to (greater a c) (smaller b d)) refl ax xb cy yd
 
 -- ---- and two are
@@ -117,5 +117,5 @@ taken_test a b c d false e r s = elim (split a b c d r s e).way [
   | inr h ↦ record { x = b; y = c; from_a = r; to_b = le_refl b; from_c = le_refl c; to_d = s; square = sym (other_way b c) ∙ ap (λ z. z *ℚ z) (sym h.1) }
 ]
 
-pub between_taken : (a b c d : Ratio) → a ≤ℚ b → c ≤ℚ d → AreTaken a b c d (between a b c d)
+pub between_taken : (a b c d : Ratio) → a ≤ℚ b → c ≤ℚ d → AreTaken a b c d (range_gap a b c d)
 between_taken a b c d r s = taken_test a b c d (up_to (greater a c) (smaller b d)) refl r s

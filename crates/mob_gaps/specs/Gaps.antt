@@ -16,24 +16,24 @@ use Rattle.mob_gaps.specs.declared.kind.Gap.TheVariants.{Apart, AtLeast}
 
 -- The distance of the numbers from a to b to those from c to d: the greater of the two least ones less the smaller of the two greatest
 -- ones. Where the two ranges share a number it is 0, without an operation. Then the part of this difference.
-abbrev pub between : Ratio → Ratio → Ratio → Ratio → Ratio
-between a b c d = cond (up_to (greater a c) (smaller b d)) nil (greater a c -ℚ smaller b d)
+abbrev pub range_gap : Ratio → Ratio → Ratio → Ratio → Ratio
+range_gap a b c d = cond (up_to (greater a c) (smaller b d)) nil (greater a c -ℚ smaller b d)
 
-abbrev pub between_parts : Ratio → Ratio → Ratio → Ratio → List Ratio
-between_parts a b c d = cond (up_to (greater a c) (smaller b d)) [] (difference_parts (greater a c) (smaller b d))
+abbrev pub range_gap_parts : Ratio → Ratio → Ratio → Ratio → List Ratio
+range_gap_parts a b c d = cond (up_to (greater a c) (smaller b d)) [] (difference_parts (greater a c) (smaller b d))
 
 abbrev pub gap_east : Area → Area → Ratio
-gap_east a b = between a.xmin a.xmax b.xmin b.xmax
+gap_east a b = range_gap a.xmin a.xmax b.xmin b.xmax
 
 abbrev pub gap_north : Area → Area → Ratio
-gap_north a b = between a.ymin a.ymax b.ymin b.ymax
+gap_north a b = range_gap a.ymin a.ymax b.ymin b.ymax
 
 -- the square of the distance of two areas, and the parts of its formulas: F2 of both coordinates and F6
 abbrev pub area_gap : Area → Area → Ratio
 area_gap a b = length_squared (gap_east a b) (gap_north a b)
 
 abbrev pub area_gap_parts : Area → Area → List Ratio
-area_gap_parts a b = between_parts a.xmin a.xmax b.xmin b.xmax ++ (between_parts a.ymin a.ymax b.ymin b.ymax ++ square_parts (gap_east a b) (gap_north a b))
+area_gap_parts a b = range_gap_parts a.xmin a.xmax b.xmin b.xmax ++ (range_gap_parts a.ymin a.ymax b.ymin b.ymax ++ square_parts (gap_east a b) (gap_north a b))
 
 -- m is the least squared distance of a point of a and one of b: none is less, and two points have it
 pub record IsLeastSquare (a b : Area) (m : Ratio) : Type 0 where
@@ -58,12 +58,12 @@ IsGap b q (AtLeast m) = IsLeastGap b q m
 -- ---- the same as a function, which computes
 
 -- whether a number fits, and whether all parts do
-abbrev pub fits : Ratio → Bool
-fits q = nat_lt (nat_abs q.num) (2 ^ 62) && nat_lt q.den (2 ^ 62)
+abbrev pub part_fits : Ratio → Bool
+part_fits q = nat_lt (nat_abs q.num) (2 ^ 62) && nat_lt q.den (2 ^ 62)
 
 abbrev pub all_fit : List Ratio → Bool
 all_fit [] = true
-all_fit (q ∷ parts) = fits q && all_fit parts
+all_fit (q ∷ parts) = part_fits q && all_fit parts
 
 -- x where all parts fit, else 0
 unfoldable pub exact_or_nil : List Ratio → Ratio → Ratio
@@ -81,6 +81,6 @@ unfoldable pub gap_of : BoxOf → BoxOf → Gap
 gap_of b q = cond (are_apart b.time q.time) Apart (AtLeast (space_gap b.space q.space))
 
 -- the gap is at most m
-abbrev pub reaches : Gap → Ratio → Bool
-reaches Apart m = false
-reaches (AtLeast g) m = up_to g m
+abbrev pub gap_reaches : Gap → Ratio → Bool
+gap_reaches Apart m = false
+gap_reaches (AtLeast g) m = up_to g m

@@ -2,7 +2,7 @@
 ghost use Rattle.std.specs.Prelude.{◌≡◌, true, is_some};
 ghost use Rattle.mob_frac.specs.Formula.{IsFormula, square_parts};
 ghost use Rattle.mob_near.specs.Distances.{length_squared};
-ghost use Rattle.mob_gaps.specs.Gaps.{between, between_parts, area_gap, area_gap_parts, are_apart, exact_or_nil, gap_of, IsGap};
+ghost use Rattle.mob_gaps.specs.Gaps.{range_gap, range_gap_parts, area_gap, area_gap_parts, are_apart, exact_or_nil, gap_of, IsGap};
 
 use crate::kind::Gap;
 use mob_frac::{Frac, Overflow};
@@ -10,8 +10,8 @@ use mob_plane::{greater, smaller};
 use mob_stbox::{Area, StBox};
 
 // The distance of the numbers from `a` to `b` to those from `c` to `d`: 0 where they share one.
-fn between(a: &Frac, b: &Frac, c: &Frac, d: &Frac) -> Result<Frac, Overflow>
-    ensures value { IsFormula (between_parts a.now b.now c.now d.now) (between a.now b.now c.now d.now) result }
+fn range_gap(a: &Frac, b: &Frac, c: &Frac, d: &Frac) -> Result<Frac, Overflow>
+    ensures value { IsFormula (range_gap_parts a.now b.now c.now d.now) (range_gap a.now b.now c.now d.now) result }
 {
     let low = greater(a, c);
     let high = smaller(b, d);
@@ -34,8 +34,8 @@ fn square(x: &Frac, y: &Frac) -> Result<Frac, Overflow>
 fn area_gap(a: &Area, b: &Area) -> Result<Frac, Overflow>
     ensures value { IsFormula (area_gap_parts a.now b.now) (area_gap a.now b.now) result }
 {
-    let x = between(&a.xmin, &a.xmax, &b.xmin, &b.xmax)?;
-    let y = between(&a.ymin, &a.ymax, &b.ymin, &b.ymax)?;
+    let x = range_gap(&a.xmin, &a.xmax, &b.xmin, &b.xmax)?;
+    let y = range_gap(&a.ymin, &a.ymax, &b.ymin, &b.ymax)?;
     square(&x, &y)
 }
 

@@ -17,8 +17,8 @@ use Rattle.mob_knn.specs.declared.fault.NearFault.TheVariants.{Passed, NoMemory}
 use Rattle.mob_knn.specs.declared.waiting.Waiting.{Waiting}
 use Rattle.mob_knn.specs.declared.waiting.What.{What}
 use Rattle.mob_knn.specs.declared.waiting.What.TheVariants.{Node, Entry, Answer}
-use Rattle.mob_knn.specs.Nearest.{Trip, Asked, HasApproach, AreFirst, AreOfTrips, IsAskedBox, IsPassed, OnPassed}
-use Rattle.mob_knn.specs.Steps.{State, IsAdvanced, IsEntry, IsReachedIn, IsUnfit}
+use Rattle.mob_knn.specs.Nearest.{Trip, Asked, HasApproach, AreFirstRows, AreOfTrips, IsAskedBox, IsPassed, OnNearFault}
+use Rattle.mob_knn.specs.Steps.{State, IsAdvanced, IsEntry, IsReachedIn, HasUnfitPart}
 use Rattle.mob_knn.specs.Waits.{waiting_cmp, entries_in, answers_at}
 use Rattle.mob_knn.proofs.Known.{entry_box, trips_known}
 use Rattle.mob_knn.proofs.Lists.{flat_permuted, in_before}
@@ -29,12 +29,12 @@ pub nil_of : {A : Type 0} (xs : List A) → length xs ≡ 0 → xs ≡ []
 nil_of [] h = refl
 nil_of (x ∷ xs) h = absurd (omega (arith, h))
 
-pub on_passed : (P Q : ℕ → Formula → Type 0) (e : NearFault) → OnPassed P e → ((row : ℕ) (formula : Formula) → P row formula → Q row formula) → OnPassed Q e
+pub on_passed : (P Q : ℕ → Formula → Type 0) (e : NearFault) → OnNearFault P e → ((row : ℕ) (formula : Formula) → P row formula → Q row formula) → OnNearFault Q e
 on_passed P Q (Passed row formula) h f = f row formula h
 on_passed P Q NoMemory h f = tt
 
 module _ {bs : List Branch} {root : Option ℕ} {entries : List EntryOf} {has : ℕ → Ratio → Type 0} {q : BoxOf} (known : IsKnown bs root entries has q) where
-  none_in_empty : (k : ℕ) → entries ≡ [] → AreFirst has k []
+  none_in_empty : (k : ℕ) → entries ≡ [] → AreFirstRows has k []
   none_in_empty k e = record {
     each = tt;
     rising = tt;
@@ -42,8 +42,8 @@ module _ {bs : List Branch} {root : Option ℕ} {entries : List EntryOf} {has : 
     full = λ row m h. let b = known.every row m h in absurd (none_in (b.0, row) (subst (λ l. Contains l (b.0, row)) e b.1));
   }
 
-  pub none_found : (k : ℕ) (rs : List (ℕ × Ratio)) → entries ≡ [] → rs ≡ [] → AreFirst has k rs
-  none_found k rs e f = subst (λ z. AreFirst has k z) (sym f) (none_in_empty k e)
+  pub none_found : (k : ℕ) (rs : List (ℕ × Ratio)) → entries ≡ [] → rs ≡ [] → AreFirstRows has k rs
+  none_found k rs e f = subst (λ z. AreFirstRows has k z) (sym f) (none_in_empty k e)
 
   begun : (k start n : ℕ) (heap : List Waiting) → 0 < k → root ≡ Some n → AreSame (entries_under bs n) entries → IsPermutation (record { key = nil; what = Node n } ∷ []) heap
       → IsSearching bs root entries has q k start (record { heap = heap; found = []; steps = start })
@@ -112,7 +112,7 @@ module _ {bs : List Branch} {root : Option ℕ} {entries : List EntryOf} {has : 
 -- a part does not fit
 pub unfit_row : {bs : List Branch} {root : Option ℕ} (entries : List EntryOf) (trips : List (Option Trip)) (asked : Asked) (q : BoxOf) → AreOfTrips trips entries → IsAskedBox asked q
     → {k start : ℕ} {s : State} → IsSearching bs root entries (HasApproach trips asked) q k start s → {first : Waiting} {rest : List Waiting} → IsPermutation s.heap (first ∷ rest) → IsUpperBound waiting_cmp first rest
-    → (row : ℕ) (formula : Formula) → IsEntry first.what row × IsUnfit trips asked row formula → IsPassed trips asked k row formula
+    → (row : ℕ) (formula : Formula) → IsEntry first.what row × HasUnfitPart trips asked row formula → IsPassed trips asked k row formula
 unfit_row {bs} {root} entries trips asked q of its {k} {start} {s} old {first} {rest} taken top row formula h =
     let known = trips_known bs root trips asked q entries of its in
     let pop : IsPopped bs root entries (HasApproach trips asked) q s.heap first rest = record { taken = taken; next = next_each first rest top } in

@@ -17,7 +17,7 @@ use Rattle.mob_rtree_nodes.specs.Reach.{Branch}
 use Rattle.mob_value.specs.ValueBoxes.{IsBoxOf}
 use Rattle.mob_value.proofs.ValueBoxes.{one_value_box}
 use Rattle.mob_meets.specs.Covers.{Covers}
-use Rattle.mob_gaps.specs.Gaps.{gap_of, reaches}
+use Rattle.mob_gaps.specs.Gaps.{gap_of, gap_reaches}
 use Rattle.mob_gaps.proofs.Bounds.{approach_reaches, covers_over}
 use Rattle.mob_knn.specs.Nearest.{Trip, Asked, IsTrip, HasApproach, AreBoxes, AreOfTrips, IsAskedBox}
 use Rattle.mob_knn.proofs.Lists.{in_same, same_back}
@@ -110,7 +110,7 @@ pub entry_box : (trips : List (Option Trip)) (entries : List EntryOf) → AreOfT
 entry_box trips entries of b row trip c t = let h = entry_known trips entries of (b, row) c in subst (λ v. IsBoxOf v b) (one_trip trips row h.0 trip h.1 t) h.2
 
 trips_bound : (trips : List (Option Trip)) (asked : Asked) (q : BoxOf) (entries : List EntryOf) → AreOfTrips trips entries → IsAskedBox asked q
-    → (b : BoxOf) (e : EntryOf) → Contains entries e → contains b e.0 ≡ true → (m : Ratio) → HasApproach trips asked e.1 m → reaches (gap_of b q) m ≡ true
+    → (b : BoxOf) (e : EntryOf) → Contains entries e → contains b e.0 ≡ true → (m : Ratio) → HasApproach trips asked e.1 m → gap_reaches (gap_of b q) m ≡ true
 trips_bound trips asked q entries of its b e c over m h =
     let i = entry_box trips entries of e.0 e.1 h.0 c h.1 in
     approach_reaches (given_at plane_value_of (Slices h.0)) (given_at plane_value_of asked) b q m (covers_over (given_at plane_value_of (Slices h.0)) b e.0 over i.has) (asked_covers asked q its) h.2

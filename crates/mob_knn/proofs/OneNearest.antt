@@ -8,7 +8,7 @@ use Rattle.mob_ratio.specs.Ratio.{Ratio}
 use Rattle.mob_ratio.specs.Order.{before}
 use Rattle.mob_ratio.proofs.Order.{before-self, before-trans, same_exact}
 use Rattle.mob_list.proofs.Entries.{first_in, later_in, none_in, which_in, each_of_all}
-use Rattle.mob_knn.specs.Nearest.{nearer, IsRising, AreFirst, AreAll}
+use Rattle.mob_knn.specs.Nearest.{nearer, IsRising, AreFirstRows, AreAllRows}
 use Rattle.mob_knn.proofs.Searching.{nearer_before, nearer_level}
 
 or_cases : (a b : Bool) → (a || b) ≡ true → (a ≡ true) ⊎ (b ≡ true)
@@ -105,7 +105,7 @@ not_longer (x ∷ xs) ys h f =
     let k = not_longer xs t.rest h.1 (λ z c. t.others z (f z (later_in x xs z c)) (λ e. not_itself x (subst (λ (w : ℕ × Ratio). nearer x w ≡ true) (sym e) (each_of_all (λ s. nearer x s ≡ true) xs h.0 z c)))) in
     omega (arith, n, k)
 
-module _ (has : ℕ → Ratio → Type 0) (k : ℕ) (rs os : List (ℕ × Ratio)) (first : AreFirst has k rs) (other : AreFirst has k os) where
+module _ (has : ℕ → Ratio → Type 0) (k : ℕ) (rs os : List (ℕ × Ratio)) (first : AreFirstRows has k rs) (other : AreFirstRows has k os) where
   -- what one has and the other has not would make the one longer than k
   among : (x : ℕ × Ratio) → Contains rs x → Contains os x
   among x c = elim (other.full x.0 x.1 (each_of_all (λ r. has r.0 r.1) rs first.each x c)) [
@@ -128,7 +128,7 @@ module _ (has : ℕ → Ratio → Type 0) (k : ℕ) (rs os : List (ℕ × Ratio)
           let l = not_longer os t.rest other.rising (λ o d. t.others o (each_in all o d) (λ e. not_itself x (subst (λ (w : ℕ × Ratio). nearer w x ≡ true) (sym e) (each_of_all (λ o. nearer o x ≡ true) os all o d)))) in
           absurd (omega (arith, n, f, l, full))
 
-pub one_first : (has : ℕ → Ratio → Type 0) (k : ℕ) (rs os : List (ℕ × Ratio)) → AreFirst has k rs → AreFirst has k os → rs ≡ os
+pub one_first : (has : ℕ → Ratio → Type 0) (k : ℕ) (rs os : List (ℕ × Ratio)) → AreFirstRows has k rs → AreFirstRows has k os → rs ≡ os
 one_first has k rs os h i = same_list rs os h.rising i.rising (among has k rs os h i) (among has k os rs i h)
 
 -- ---- the first k of all
@@ -159,7 +159,7 @@ take_full (suc k) (y ∷ ys) x h c = elim (which_in y ys x c) [
   ])
 ]
 
-pub cut_first : (has : ℕ → Ratio → Type 0) (k : ℕ) (all : List (ℕ × Ratio)) → AreAll has all → AreFirst has k (take k all)
+pub cut_first : (has : ℕ → Ratio → Type 0) (k : ℕ) (all : List (ℕ × Ratio)) → AreAllRows has all → AreFirstRows has k (take k all)
 cut_first has k all h = record {
   each = take_all_by (λ r. has r.0 r.1) k all h.each;
   rising = take_rising k all h.rising;
@@ -167,5 +167,5 @@ cut_first has k all h = record {
   full = λ row m i. take_full k all (row, m) h.rising (h.every row m i);
 }
 
-pub first_cut : (has : ℕ → Ratio → Type 0) (k : ℕ) (all rs : List (ℕ × Ratio)) → AreAll has all → AreFirst has k rs → rs ≡ take k all
+pub first_cut : (has : ℕ → Ratio → Type 0) (k : ℕ) (all rs : List (ℕ × Ratio)) → AreAllRows has all → AreFirstRows has k rs → rs ≡ take k all
 first_cut has k all rs h i = one_first has k rs (take k all) i (cut_first has k all h)

@@ -11,11 +11,11 @@ use Rattle.mob_ratio.specs.Order.{before, up_to}
 use Rattle.mob_ratio.proofs.Order.{before-self, before-back, before-trans, before-neither}
 use Rattle.mob_plane.specs.Corners.{greater}
 use Rattle.mob_list.proofs.Entries.{each_of_all}
-use Rattle.mob_gaps.specs.Gaps.{reaches}
+use Rattle.mob_gaps.specs.Gaps.{gap_reaches}
 use Rattle.mob_gaps.specs.declared.kind.Gap.{Gap}
 use Rattle.mob_gaps.specs.declared.kind.Gap.TheVariants.{Apart, AtLeast}
 use Rattle.mob_knn.specs.declared.waiting.Waiting.{Waiting}
-use Rattle.mob_knn.specs.Waits.{rank_of, number_of, waiting_cmp}
+use Rattle.mob_knn.specs.Waits.{rank_of, waiting_number, waiting_cmp}
 
 -- ---- numbers
 
@@ -57,7 +57,7 @@ pub greater_up_to : (a b m : Ratio) → up_to a m ≡ true → up_to b m ≡ tru
 greater_up_to a b m h k = greater_to a b m (before a b) h k
 
 -- a gap that reaches a number reaches each that is not less
-pub reaches_on : (g : Gap) (a b : Ratio) → reaches g a ≡ true → up_to a b ≡ true → reaches g b ≡ true
+pub reaches_on : (g : Gap) (a b : Ratio) → gap_reaches g a ≡ true → up_to a b ≡ true → gap_reaches g b ≡ true
 reaches_on Apart a b h k = absurd (true≢false (sym h))
 reaches_on (AtLeast g) a b h k = up_to-trans g a b h k
 
@@ -65,7 +65,7 @@ reaches_on (AtLeast g) a b h k = up_to-trans g a b h k
 
 -- y is not taken before x
 abbrev pub IsNext : Waiting → Waiting → Type 0
-IsNext x y = (before x.key y.key ≡ true) ⊎ ((y.key ≡ x.key) × ((rank_of x.what < rank_of y.what) ⊎ ((rank_of y.what ≡ rank_of x.what) × (number_of x.what ≤ number_of y.what))))
+IsNext x y = (before x.key y.key ≡ true) ⊎ ((y.key ≡ x.key) × ((rank_of x.what < rank_of y.what) ⊎ ((rank_of y.what ≡ rank_of x.what) × (waiting_number x.what ≤ waiting_number y.what))))
 
 not_less : (a b : Ordering) → is_lt (ordering_then a b) ≡ false → (a ≡ Greater) ⊎ ((a ≡ Equal) × (is_lt b ≡ false))
 not_less Less b h = absurd (true≢false h)
@@ -103,7 +103,7 @@ next_of x y h = elim (not_less _ _ h) [
     ratio_equal y.key x.key _ _ refl refl e.0,
     elim (not_less _ _ e.1) [
       | inl g ↦ inl (nat_greater (rank_of y.what) (rank_of x.what) _ _ refl refl g)
-      | inr f ↦ inr (nat_equal (rank_of y.what) (rank_of x.what) _ _ refl refl f.0, nat_not_less (number_of y.what) (number_of x.what) _ refl f.1)
+      | inr f ↦ inr (nat_equal (rank_of y.what) (rank_of x.what) _ _ refl refl f.0, nat_not_less (waiting_number y.what) (waiting_number x.what) _ refl f.1)
     ],
   )
 ]

@@ -12,7 +12,7 @@ use Rattle.mob_near.specs.Approaches.{IsApproach}
 use Rattle.mob_near.specs.Entries.{entries_of_approach}
 use Rattle.mob_near.proofs.OneApproach.{approach_once}
 use Rattle.mob_knn.specs.Nearest.{Trip, Asked, IsTrip, HasApproach}
-use Rattle.mob_knn.specs.Steps.{IsOnly, IsUnfit}
+use Rattle.mob_knn.specs.Steps.{IsOnly, HasUnfitPart}
 
 -- one trip stands in a row
 inner : Option (Option Trip) → Option Trip
@@ -43,7 +43,7 @@ only_there trips asked row trip (Ok o) h k = only_of trips asked row trip o h k
 only_there trips asked row trip (Err e) h k = tt
 
 pub only_unfit : (trips : List (Option Trip)) (asked : Asked) (row : ℕ) (trip : Trip) (r : Result (Option Ratio) Passed) → IsTrip trips row trip → IfErr r (λ p. IsFirst (flat_map entries_of_approach (pieces (Slices trip) asked)) (Some p.formula))
-    → IfErr r (λ p. IsUnfit trips asked row p.formula)
+    → IfErr r (λ p. HasUnfitPart trips asked row p.formula)
 only_unfit trips asked row trip (Ok o) h k = tt
 only_unfit trips asked row trip (Err e) h k = (trip, h, k)
 

@@ -19,21 +19,21 @@ use Rattle.mob_list.proofs.Entries.{first_in, later_in, none_in, which_in, all_b
 use Rattle.mob_rtree_nodes.specs.Tree.{AreSame, EntryOf, Kid}
 use Rattle.mob_rtree_nodes.specs.Reach.{Branch, IsReachedNode, IsSpread, is_child, children, entries_under, entries_below}
 use Rattle.mob_rtree_nodes.specs.declared.node.Child.TheVariants.{Node as NodeChild, Entry as EntryChild}
-use Rattle.mob_gaps.specs.Gaps.{gap_of, reaches}
+use Rattle.mob_gaps.specs.Gaps.{gap_of, gap_reaches}
 use Rattle.mob_gaps.specs.declared.kind.Gap.{Gap}
 use Rattle.mob_gaps.specs.declared.kind.Gap.TheVariants.{Apart, AtLeast}
 use Rattle.mob_knn.specs.declared.waiting.Waiting.{Waiting}
 use Rattle.mob_knn.specs.declared.waiting.What.{What}
 use Rattle.mob_knn.specs.declared.waiting.What.TheVariants.{Node, Entry, Answer}
-use Rattle.mob_knn.specs.Nearest.{nearer, IsRising, AreFirst, last_approach, reach_of, lies_within, count_within, HasFewBelow}
-use Rattle.mob_knn.specs.Steps.{IsOnly, answer_of, State, IsOpened, IsLooked, IsTold}
-use Rattle.mob_knn.specs.Waits.{rank_of, number_of, what_of, waits_by, waits_at, waits_of, entries_in, answers_at}
+use Rattle.mob_knn.specs.Nearest.{nearer, IsRising, AreFirstRows, last_approach, reach_of, lies_within, count_within, HasFewBelow}
+use Rattle.mob_knn.specs.Steps.{IsOnly, found_answer, State, IsOpened, IsMeasured, IsAnswered}
+use Rattle.mob_knn.specs.Waits.{rank_of, waiting_number, what_of, waits_by, waits_at, waits_of, entries_in, answers_at}
 use Rattle.mob_knn.proofs.Lists.{in_flat, flat_in, flat_permuted, flat_over, in_before, in_same, same_back, count_some}
 use Rattle.mob_knn.proofs.Orders.{up_to-trans, before_up_to, up_to_greater_left, up_to_greater_right, greater_up_to, reaches_on, IsNext, next_key}
 
 -- what is known of the rows that have an approach, and of the entries of the tree
 pub record IsKnown (bs : List Branch) (root : Option ℕ) (entries : List EntryOf) (has : ℕ → Ratio → Type 0) (q : BoxOf) : Type 0 where
-  pub bound : (b : BoxOf) (e : EntryOf) → Contains entries e → contains b e.0 ≡ true → (m : Ratio) → has e.1 m → reaches (gap_of b q) m ≡ true
+  pub bound : (b : BoxOf) (e : EntryOf) → Contains entries e → contains b e.0 ≡ true → (m : Ratio) → has e.1 m → gap_reaches (gap_of b q) m ≡ true
   pub above : (row : ℕ) (m : Ratio) → has row m → up_to nil m ≡ true
   pub one : (row : ℕ) (m n : Ratio) → has row m → has row n → m ≡ n
   pub every : (row : ℕ) (m : Ratio) → has row m → (b : BoxOf) × Contains entries (b, row)
@@ -74,15 +74,15 @@ sum_in p (y ∷ xs) x h = elim (which_in y xs x h) [
 one_sum : {A : Type 0} (p : A → ℕ) (x : A) → sum_by p (x ∷ []) ≡ p x
 one_sum p x = let c = sum_by-cons p x [] in omega (arith, c)
 
-within_some : (G : Gap) (m : Ratio) → reaches G m ≡ true → lies_within (Some m) G ≡ true
+within_some : (G : Gap) (m : Ratio) → gap_reaches G m ≡ true → lies_within (Some m) G ≡ true
 within_some Apart m h = h
 within_some (AtLeast g) m h = h
 
-within_none : (G : Gap) (m : Ratio) → reaches G m ≡ true → lies_within None G ≡ true
+within_none : (G : Gap) (m : Ratio) → gap_reaches G m ≡ true → lies_within None G ≡ true
 within_none Apart m h = h
 within_none (AtLeast g) m h = refl
 
-gap_some : (G : Gap) (m : Ratio) → reaches G m ≡ true → (g : Ratio) × (G ≡ AtLeast g) × (up_to g m ≡ true)
+gap_some : (G : Gap) (m : Ratio) → gap_reaches G m ≡ true → (g : Ratio) × (G ≡ AtLeast g) × (up_to g m ≡ true)
 gap_some Apart m h = absurd (true≢false (sym h))
 gap_some (AtLeast g) m h = (g, refl, h)
 
@@ -110,7 +110,7 @@ module _ (bs : List Branch) (root : Option ℕ) (entries : List EntryOf) (has : 
   -- nothing below it has an approach below its key
   abbrev pub IsHeld : Ratio → What → Type 0
   IsHeld key (Node n) = IsReachedNode bs root n × ((e : EntryOf) → Contains (entries_under bs n) e → (m : Ratio) → has e.1 m → up_to key m ≡ true)
-  IsHeld key (Entry b row) = (reaches (gap_of b q) key ≡ true) × ((m : Ratio) → has row m → up_to key m ≡ true)
+  IsHeld key (Entry b row) = (gap_reaches (gap_of b q) key ≡ true) × ((m : Ratio) → has row m → up_to key m ≡ true)
   IsHeld key (Answer row) = has row key
 
   -- it is behind an answer that was told
@@ -127,7 +127,7 @@ module _ (bs : List Branch) (root : Option ℕ) (entries : List EntryOf) (has : 
     pub none : (e : EntryOf) → Contains gone e → (m : Ratio) → has e.1 m → ⊥
     pub answered : (e : EntryOf) → Contains tried e → (m : Ratio) → has e.1 m → Contains (s.found ++ answers_of s.heap) (e.1, m)
     pub held : (w : Waiting) → Contains s.heap w → (up_to floor w.key ≡ true) × IsHeld w.key w.what
-    pub near : (e : EntryOf) → Contains tried e → reaches (gap_of e.0 q) floor ≡ true
+    pub near : (e : EntryOf) → Contains tried e → gap_reaches (gap_of e.0 q) floor ≡ true
     pub real : (o : ℕ × Ratio) → Contains s.found o → has o.0 o.1
     pub rising : IsRising s.found
     pub later : (o : ℕ × Ratio) → Contains s.found o → (w : Waiting) → Contains s.heap w → IsLater o w.key w.what
@@ -142,7 +142,7 @@ module _ (bs : List Branch) (root : Option ℕ) (entries : List EntryOf) (has : 
 
   -- what is promised at the end
   pub record IsDone (k start : ℕ) (found : List (ℕ × Ratio)) (steps : ℕ) : Type 0 where
-    pub first : AreFirst has k found
+    pub first : AreFirstRows has k found
     pub cost : steps ≤ start + count_within (reach_of k found) q entries
 
   later_entry : (o : ℕ × Ratio) (key : Ratio) (what : What) → IsLater o key what → IsHeld key what → (e : EntryOf) → Contains (entries_in bs what) e → (m : Ratio) → has e.1 m → nearer o (e.1, m) ≡ true
@@ -178,7 +178,7 @@ module _ (bs : List Branch) (root : Option ℕ) (entries : List EntryOf) (has : 
   ]
 
   -- what comes after an answer is behind it
-  next_later : (row : ℕ) (key wkey : Ratio) (what : What) → (before key wkey ≡ true) ⊎ ((wkey ≡ key) × ((2 < rank_of what) ⊎ ((rank_of what ≡ 2) × (row ≤ number_of what)))) → ((r : ℕ) → what ≡ Answer r → row ≡ r → ⊥) → IsLater (row, key) wkey what
+  next_later : (row : ℕ) (key wkey : Ratio) (what : What) → (before key wkey ≡ true) ⊎ ((wkey ≡ key) × ((2 < rank_of what) ⊎ ((rank_of what ≡ 2) × (row ≤ waiting_number what)))) → ((r : ℕ) → what ≡ Answer r → row ≡ r → ⊥) → IsLater (row, key) wkey what
   next_later row key wkey (Node n) (inl h) other = h
   next_later row key wkey (Node n) (inr (e, inl lt)) other = absurd (omega (arith, lt))
   next_later row key wkey (Node n) (inr (e, inr f)) other = let g = f.0 in absurd (omega (arith, g))
@@ -216,7 +216,7 @@ module _ (bs : List Branch) (root : Option ℕ) (entries : List EntryOf) (has : 
     answers_sum : (g : ℕ × Ratio → ℕ) → sum_by g (answers_of s.heap) ≡ sum_by g (answers_at first first.what) + sum_by g (answers_of rest)
     answers_sum g = sym (flat_permuted g (λ w. answers_at w w.what) s.heap (first ∷ rest) pop.taken) ∙ sum_by-append g (answers_at first first.what) (answers_of rest)
 
-    near_on : (e : EntryOf) → Contains old.tried e → reaches (gap_of e.0 q) first.key ≡ true
+    near_on : (e : EntryOf) → Contains old.tried e → gap_reaches (gap_of e.0 q) first.key ≡ true
     near_on e c = reaches_on (gap_of e.0 q) old.floor first.key (old.near e c) (old.held first first_there).0
 
     rest_held : (w : Waiting) → Contains rest w → (up_to first.key w.key ≡ true) × IsHeld w.key w.what
@@ -314,15 +314,15 @@ module _ (bs : List Branch) (root : Option ℕ) (entries : List EntryOf) (has : 
       kid_over : (kid : Kid) → Contains (children bs n) kid → (e : EntryOf) → Contains (entries_below bs kid) e → contains kid.0 e.0 ≡ true
       kid_over kid c e i = All-contains (λ (x : EntryOf). contains kid.0 x.0 ≡ true) (entries_below bs kid) e (All-contains (λ (k : Kid). All (λ (x : EntryOf). contains k.0 x.0 ≡ true) (entries_below bs k)) (children bs n) kid spread.over c) i
 
-      kid_reaches : (kid : Kid) → Contains (children bs n) kid → (e : EntryOf) → Contains (entries_below bs kid) e → (m : Ratio) → has e.1 m → reaches (gap_of kid.0 q) m ≡ true
+      kid_reaches : (kid : Kid) → Contains (children bs n) kid → (e : EntryOf) → Contains (entries_below bs kid) e → (m : Ratio) → has e.1 m → gap_reaches (gap_of kid.0 q) m ≡ true
       kid_reaches kid c e i m h = known.bound kid.0 e (first_entries e (subst (λ z. Contains (entries_in bs z) e) (sym is) (kid_entry kid c e i))) (kid_over kid c e i) m h
 
       kid_bound : (kid : Kid) → Contains (children bs n) kid → (g : Ratio) → gap_of kid.0 q ≡ AtLeast g → (e : EntryOf) → Contains (entries_below bs kid) e → (m : Ratio) → has e.1 m → up_to (greater first.key g) m ≡ true
-      kid_bound kid c g f e i m h = greater_up_to first.key g m (node_held.1 e (kid_entry kid c e i) m h) (subst (λ z. reaches z m ≡ true) f (kid_reaches kid c e i m h))
+      kid_bound kid c g f e i m h = greater_up_to first.key g m (node_held.1 e (kid_entry kid c e i) m h) (subst (λ z. gap_reaches z m ≡ true) f (kid_reaches kid c e i m h))
 
       kid_held : (kid : Kid) → Contains (children bs n) kid → (g : Ratio) → gap_of kid.0 q ≡ AtLeast g → IsHeld (greater first.key g) (what_of kid)
       kid_held (b, NodeChild m) c g f = ((suc node_held.0.0, is_child node_held.0.1 c.1 (sym c.2)), kid_bound (b, NodeChild m) c g f)
-      kid_held (b, EntryChild row) c g f = (subst (λ z. reaches z (greater first.key g) ≡ true) (sym f) (up_to_greater_right first.key g), kid_bound (b, EntryChild row) c g f (b, row) (first_in (b, row) []))
+      kid_held (b, EntryChild row) c g f = (subst (λ z. gap_reaches z (greater first.key g) ≡ true) (sym f) (up_to_greater_right first.key g), kid_bound (b, EntryChild row) c g f (b, row) (first_in (b, row) []))
 
       kid_later : (kid : Kid) (key : Ratio) (o : ℕ × Ratio) → before o.1 key ≡ true → IsLater o key (what_of kid)
       kid_later (b, NodeChild m) key o h = h
@@ -368,7 +368,7 @@ module _ (bs : List Branch) (root : Option ℕ) (entries : List EntryOf) (has : 
       opened_none e c m h =
           let i = in_flat (λ (kd : Kid). apart_at kd (gap_of kd.0 q)) (children bs n) e c in
           let v = apart_in i.0 (gap_of i.0.0 q) e i.2 in
-          true≢false (sym (subst (λ z. reaches z m ≡ true) v.0 (kid_reaches i.0 i.1 e v.1 m h)))
+          true≢false (sym (subst (λ z. gap_reaches z m ≡ true) v.0 (kid_reaches i.0 i.1 e v.1 m h)))
 
       -- the answers that wait are the same
       opened_sum : (g : ℕ × Ratio → ℕ) → sum_by g (answers_of new.heap) ≡ sum_by g (answers_of s.heap)
@@ -426,52 +426,52 @@ module _ (bs : List Branch) (root : Option ℕ) (entries : List EntryOf) (has : 
 
     -- ---- an entry is looked at
 
-    module _ (b : BoxOf) (row : ℕ) (is : first.what ≡ Entry b row) (new : State) (how : IsLooked has row rest_state new) where
+    module _ (b : BoxOf) (row : ℕ) (is : first.what ≡ Entry b row) (new : State) (how : IsMeasured has row rest_state new) where
       entry_held : IsHeld first.key (Entry b row)
       entry_held = subst (λ z. IsHeld first.key z) is first_held
 
       abbrev here : EntryOf
       here = (b, row)
 
-      answer_bound : (o : Option Ratio) → IsOnly (has row) o → (w : Waiting) → Contains (answer_of row o) w → (up_to first.key w.key ≡ true) × IsHeld w.key w.what
+      answer_bound : (o : Option Ratio) → IsOnly (has row) o → (w : Waiting) → Contains (found_answer row o) w → (up_to first.key w.key ≡ true) × IsHeld w.key w.what
       answer_bound None h w c = absurd (none_in w c)
       answer_bound (Some m) h w c = elim (which_in _ [] w c) [
         | inl e ↦ subst (λ (z : Waiting). (up_to first.key z.key ≡ true) × IsHeld z.key z.what) e (entry_held.1 m h, h)
         | inr i ↦ absurd (none_in w i)
       ]
 
-      answer_later : (o : Option Ratio) → IsOnly (has row) o → (x : ℕ × Ratio) → before x.1 first.key ≡ true → (w : Waiting) → Contains (answer_of row o) w → IsLater x w.key w.what
+      answer_later : (o : Option Ratio) → IsOnly (has row) o → (x : ℕ × Ratio) → before x.1 first.key ≡ true → (w : Waiting) → Contains (found_answer row o) w → IsLater x w.key w.what
       answer_later None h x l w c = absurd (none_in w c)
       answer_later (Some m) h x l w c = elim (which_in _ [] w c) [
         | inl e ↦ subst (λ (z : Waiting). IsLater x z.key z.what) e (rw (before_up_to x.1 first.key m l (entry_held.1 m h)) refl)
         | inr i ↦ absurd (none_in w i)
       ]
 
-      answer_there : (o : Option Ratio) → IsOnly (has row) o → (m : Ratio) → has row m → Contains (answers_of (answer_of row o)) (row, m)
+      answer_there : (o : Option Ratio) → IsOnly (has row) o → (m : Ratio) → has row m → Contains (answers_of (found_answer row o)) (row, m)
       answer_there None h m i = absurd (h m i)
       answer_there (Some n) h m i = subst (λ z. Contains {X = ℕ × Ratio} ((row, z) ∷ []) (row, m)) (known.one row m n i h) (first_in (row, m) [])
 
-      answer_entries : (o : Option Ratio) → entries_of (answer_of row o) ≡ []
+      answer_entries : (o : Option Ratio) → entries_of (found_answer row o) ≡ []
       answer_entries None = refl
       answer_entries (Some m) = refl
 
-      answer_sum : (f : ℕ → ℕ) (o : Option Ratio) → sum_by (λ (x : ℕ × Ratio). f x.0) (answers_of (answer_of row o)) ≤ f row
+      answer_sum : (f : ℕ → ℕ) (o : Option Ratio) → sum_by (λ (x : ℕ × Ratio). f x.0) (answers_of (found_answer row o)) ≤ f row
       answer_sum f None = omega arith
       answer_sum f (Some m) = omega arith
 
-      looked_which : (w : Waiting) → Contains new.heap w → Contains (answer_of row how.answer) w ⊎ Contains rest w
-      looked_which w c = Contains-append_cases (answer_of row how.answer) rest w (in_before (answer_of row how.answer ++ rest) new.heap w how.heap c)
+      looked_which : (w : Waiting) → Contains new.heap w → Contains (found_answer row how.answer) w ⊎ Contains rest w
+      looked_which w c = Contains-append_cases (found_answer row how.answer) rest w (in_before (found_answer row how.answer ++ rest) new.heap w how.heap c)
 
-      looked_over : (x : ℕ × Ratio) → Contains (answers_of (answer_of row how.answer ++ rest)) x → Contains (answers_of new.heap) x
-      looked_over x c = flat_over (λ w. answers_at w w.what) (answer_of row how.answer ++ rest) new.heap x how.heap c
+      looked_over : (x : ℕ × Ratio) → Contains (answers_of (found_answer row how.answer ++ rest)) x → Contains (answers_of new.heap) x
+      looked_over x c = flat_over (λ w. answers_at w w.what) (found_answer row how.answer ++ rest) new.heap x how.heap c
 
-      split_answers : answers_of (answer_of row how.answer ++ rest) ≡ answers_of (answer_of row how.answer) ++ answers_of rest
-      split_answers = flat_map-append (λ w. answers_at w w.what) (answer_of row how.answer) rest
+      split_answers : answers_of (found_answer row how.answer ++ rest) ≡ answers_of (found_answer row how.answer) ++ answers_of rest
+      split_answers = flat_map-append (λ w. answers_at w w.what) (found_answer row how.answer) rest
 
       looked_answer : (x : ℕ × Ratio) → Contains (answers_of s.heap) x → Contains (answers_of new.heap) x
       looked_answer x c = elim (answer_left x c) [
         | inl i ↦ absurd (none_in x (subst (λ z. Contains (answers_at first z) x) is i))
-        | inr i ↦ looked_over x (subst (λ l. Contains l x) (sym split_answers) (Contains-append_right (answers_of (answer_of row how.answer)) (answers_of rest) x i))
+        | inr i ↦ looked_over x (subst (λ l. Contains l x) (sym split_answers) (Contains-append_right (answers_of (found_answer row how.answer)) (answers_of rest) x i))
       ]
 
       looked_all : (x : ℕ × Ratio) → Contains (s.found ++ answers_of s.heap) x → Contains (new.found ++ answers_of new.heap) x
@@ -481,7 +481,7 @@ module _ (bs : List Branch) (root : Option ℕ) (entries : List EntryOf) (has : 
       ])
 
       looked_here : (m : Ratio) → has row m → Contains (new.found ++ answers_of new.heap) (row, m)
-      looked_here m h = Contains-append_right new.found (answers_of new.heap) (row, m) (looked_over (row, m) (subst (λ l. Contains l (row, m)) (sym split_answers) (Contains-append_left (answers_of (answer_of row how.answer)) (answers_of rest) (row, m) (answer_there how.answer how.only m h))))
+      looked_here m h = Contains-append_right new.found (answers_of new.heap) (row, m) (looked_over (row, m) (subst (λ l. Contains l (row, m)) (sym split_answers) (Contains-append_left (answers_of (found_answer row how.answer)) (answers_of rest) (row, m) (answer_there how.answer how.only m h))))
 
       looked_same : AreSame ((old.gone ++ (old.tried ++ here ∷ [])) ++ entries_of new.heap) entries
       looked_same g =
@@ -493,8 +493,8 @@ module _ (bs : List Branch) (root : Option ℕ) (entries : List EntryOf) (has : 
           let f = sum_by-append g old.tried (here ∷ []) in
           let h = entries_sum g in
           let i = ap (λ z. sum_by g (entries_in bs z)) is in
-          let l = flat_permuted g (λ w. entries_in bs w.what) (answer_of row how.answer ++ rest) new.heap how.heap in
-          let m = ap (λ l. sum_by g l) (flat_map-append (λ w. entries_in bs w.what) (answer_of row how.answer) rest ∙ ap (λ l. l ++ entries_of rest) (answer_entries how.answer)) in
+          let l = flat_permuted g (λ w. entries_in bs w.what) (found_answer row how.answer ++ rest) new.heap how.heap in
+          let m = ap (λ l. sum_by g l) (flat_map-append (λ w. entries_in bs w.what) (found_answer row how.answer) rest ∙ ap (λ l. l ++ entries_of rest) (answer_entries how.answer)) in
           omega (arith, a, b, c, d, e, f, h, i, l, m)
 
       pub looked : IsSearching k start new
@@ -518,7 +518,7 @@ module _ (bs : List Branch) (root : Option ℕ) (entries : List EntryOf) (has : 
         near = λ e c. elim (Contains-append_cases old.tried (here ∷ []) e c) [
           | inl i ↦ near_on e i
           | inr i ↦ (elim (which_in here [] e i) [
-            | inl j ↦ subst (λ (z : EntryOf). reaches (gap_of z.0 q) first.key ≡ true) j entry_held.0
+            | inl j ↦ subst (λ (z : EntryOf). gap_reaches (gap_of z.0 q) first.key ≡ true) j entry_held.0
             | inr j ↦ absurd (none_in e j)
           ])
         ];
@@ -538,9 +538,9 @@ module _ (bs : List Branch) (root : Option ℕ) (entries : List EntryOf) (has : 
             let e = sum_by-append r old.tried (here ∷ []) in
             let h = answers_sum p in
             let i = ap (λ z. sum_by p (answers_at first z)) is in
-            let l = flat_permuted p (λ w. answers_at w w.what) (answer_of row how.answer ++ rest) new.heap how.heap in
+            let l = flat_permuted p (λ w. answers_at w w.what) (found_answer row how.answer ++ rest) new.heap how.heap in
             let m = ap (λ l. sum_by p l) split_answers in
-            let n = sum_by-append p (answers_of (answer_of row how.answer)) (answers_of rest) in
+            let n = sum_by-append p (answers_of (found_answer row how.answer)) (answers_of rest) in
             let o = answer_sum f how.answer in
             omega (arith, a, b, c, d, e, h, i, l, m, n, o);
         few = subst (λ l. length l < k) (sym how.found) old.few;
@@ -549,7 +549,7 @@ module _ (bs : List Branch) (root : Option ℕ) (entries : List EntryOf) (has : 
 
     -- ---- an answer is told
 
-    module _ (row : ℕ) (is : first.what ≡ Answer row) (new : State) (how : IsTold first.key row rest_state new) where
+    module _ (row : ℕ) (is : first.what ≡ Answer row) (new : State) (how : IsAnswered first.key row rest_state new) where
       abbrev told_here : ℕ × Ratio
       told_here = (row, first.key)
 
@@ -578,8 +578,8 @@ module _ (bs : List Branch) (root : Option ℕ) (entries : List EntryOf) (has : 
       told_later : (w : Waiting) → Contains rest w → IsLater told_here w.key w.what
       told_later w c = next_later row first.key w.key w.what (at (pop.next w c)) (no_other w c)
         where
-          at : IsNext first w → (before first.key w.key ≡ true) ⊎ ((w.key ≡ first.key) × ((2 < rank_of w.what) ⊎ ((rank_of w.what ≡ 2) × (row ≤ number_of w.what))))
-          at h = subst (λ (z : What). (before first.key w.key ≡ true) ⊎ ((w.key ≡ first.key) × ((rank_of z < rank_of w.what) ⊎ ((rank_of w.what ≡ rank_of z) × (number_of z ≤ number_of w.what))))) is h
+          at : IsNext first w → (before first.key w.key ≡ true) ⊎ ((w.key ≡ first.key) × ((2 < rank_of w.what) ⊎ ((rank_of w.what ≡ 2) × (row ≤ waiting_number w.what))))
+          at h = subst (λ (z : What). (before first.key w.key ≡ true) ⊎ ((w.key ≡ first.key) × ((rank_of z < rank_of w.what) ⊎ ((rank_of w.what ≡ rank_of z) × (waiting_number z ≤ waiting_number w.what))))) is h
 
       told_which : (o : ℕ × Ratio) → Contains new.found o → Contains s.found o ⊎ (told_here ≡ o)
       told_which o c = elim (Contains-append_cases s.found (told_here ∷ []) o (subst (λ l. Contains l o) how.found c)) [

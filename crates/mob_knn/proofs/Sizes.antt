@@ -18,7 +18,7 @@ use Rattle.mob_gaps.specs.declared.kind.Gap.TheVariants.{Apart, AtLeast}
 use Rattle.mob_knn.specs.declared.waiting.Waiting.{Waiting}
 use Rattle.mob_knn.specs.declared.waiting.What.{What}
 use Rattle.mob_knn.specs.declared.waiting.What.TheVariants.{Node, Entry, Answer}
-use Rattle.mob_knn.specs.Steps.{answer_of, State, IsAdvanced}
+use Rattle.mob_knn.specs.Steps.{found_answer, State, IsAdvanced}
 use Rattle.mob_knn.specs.Waits.{what_of, waits_by, waits_at, waits_of}
 
 -- a node of height h, with all that is below it
@@ -74,7 +74,7 @@ module _ (bs : List Branch) where
   node_by n (suc h) e s = ap suc (sum_each kid_size (λ k. node_size bs h (target k.1)) (children bs n) (λ kid c.
       inner_kid h n kid (All-contains (λ (k : Kid). is_kind (suc h) k.1 ≡ true) (children bs n) kid (subst (λ z. All (λ (k : Kid). is_kind z k.1 ≡ true) (children bs n)) e s.kind) c) c (λ i m b lt f. s.one_lower i m b lt f ∙ e)))
 
-  answer_size : (row : ℕ) (o : Option Ratio) → size bs (answer_of row o) ≤ 1
+  answer_size : (row : ℕ) (o : Option Ratio) → size bs (found_answer row o) ≤ 1
   answer_size row None = omega arith
   answer_size row (Some m) = let c = sum_by-cons (λ (w : Waiting). what_size bs w.what) (record { key = m; what = Answer row }) [] in omega (arith, c)
 
@@ -98,8 +98,8 @@ module _ (bs : List Branch) where
           let g = ap (what_size bs) e in
           omega (arith, before, a, b, c, d, g)
       by_what (Entry b row) e s h =
-          let a = sum_by-IsPermutation f (answer_of row h.answer ++ rest) new.heap h.heap in
-          let b = sum_by-append f (answer_of row h.answer) rest in
+          let a = sum_by-IsPermutation f (found_answer row h.answer ++ rest) new.heap h.heap in
+          let b = sum_by-append f (found_answer row h.answer) rest in
           let c = answer_size row h.answer in
           let g = ap (what_size bs) e in
           omega (arith, before, a, b, c, g)

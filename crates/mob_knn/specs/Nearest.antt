@@ -48,20 +48,20 @@ IsRising (r ∷ rs) = AllByRecursion (λ s. nearer r s ≡ true) rs × IsRising 
 
 -- The first k of all rows that have an approach, in this order: each has its approach, they rise, and each row that has one is among
 -- them, unless there are k, which are all before it.
-pub record AreFirst (has : ℕ → Ratio → Type 0) (k : ℕ) (rs : List (ℕ × Ratio)) : Type 0 where
+pub record AreFirstRows (has : ℕ → Ratio → Type 0) (k : ℕ) (rs : List (ℕ × Ratio)) : Type 0 where
   pub each : AllByRecursion (λ r. has r.0 r.1) rs
   pub rising : IsRising rs
   pub few : length rs ≤ k
   pub full : (row : ℕ) (m : Ratio) → has row m → Contains rs (row, m) ⊎ ((length rs ≡ k) × AllByRecursion (λ r. nearer r (row, m) ≡ true) rs)
 
 -- all rows that have an approach, each with it, in this order
-pub record AreAll (has : ℕ → Ratio → Type 0) (all : List (ℕ × Ratio)) : Type 0 where
+pub record AreAllRows (has : ℕ → Ratio → Type 0) (all : List (ℕ × Ratio)) : Type 0 where
   pub each : AllByRecursion (λ r. has r.0 r.1) all
   pub rising : IsRising all
   pub every : (row : ℕ) (m : Ratio) → has row m → Contains all (row, m)
 
 abbrev pub AreNearest : List (Option Trip) → Asked → ℕ → List (ℕ × Ratio) → Type 0
-AreNearest trips asked k rs = AreFirst (HasApproach trips asked) k rs
+AreNearest trips asked k rs = AreFirstRows (HasApproach trips asked) k rs
 
 -- ---- the index
 
@@ -127,6 +127,6 @@ pub record IsPassed (trips : List (Option Trip)) (asked : Asked) (k row : ℕ) (
   pub below : HasFewBelow (HasApproach trips asked) k gap
 
 -- the row and the formula of a fault; running out of memory has none
-abbrev pub OnPassed : (ℕ → Formula → Type 0) → NearFault → Type 0
-OnPassed P (Passed row formula) = P row formula
-OnPassed P NoMemory = Unit {0}
+abbrev pub OnNearFault : (ℕ → Formula → Type 0) → NearFault → Type 0
+OnNearFault P (Passed row formula) = P row formula
+OnNearFault P NoMemory = Unit {0}

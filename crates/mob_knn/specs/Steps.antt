@@ -25,9 +25,9 @@ IsReachedIn bs root (Node n) = IsReachedNode bs root n
 IsReachedIn bs root (Entry b row) = Unit {0}
 IsReachedIn bs root (Answer row) = Unit {0}
 
-abbrev pub answer_of : ℕ → Option Ratio → List Waiting
-answer_of row None = []
-answer_of row (Some m) = record { key = m; what = Answer row } ∷ []
+abbrev pub found_answer : ℕ → Option Ratio → List Waiting
+found_answer row None = []
+found_answer row (Some m) = record { key = m; what = Answer row } ∷ []
 
 -- what waits, what was found and how many steps were taken
 pub record State : Type 0 where
@@ -41,26 +41,26 @@ pub record IsOpened (bs : List Branch) (q : BoxOf) (key : Ratio) (n : ℕ) (old 
   pub found : new.found ≡ old.found
   pub steps : new.steps ≡ old.steps
 
-pub record IsLooked (has : ℕ → Ratio → Type 0) (row : ℕ) (old new : State) : Type 0 where
+pub record IsMeasured (has : ℕ → Ratio → Type 0) (row : ℕ) (old new : State) : Type 0 where
   pub answer : Option Ratio
   pub only : IsOnly (has row) answer
-  pub heap : IsPermutation (answer_of row answer ++ old.heap) new.heap
+  pub heap : IsPermutation (found_answer row answer ++ old.heap) new.heap
   pub found : new.found ≡ old.found
   pub steps : new.steps ≡ old.steps + 1
 
-pub record IsTold (key : Ratio) (row : ℕ) (old new : State) : Type 0 where
+pub record IsAnswered (key : Ratio) (row : ℕ) (old new : State) : Type 0 where
   pub heap : new.heap ≡ old.heap
   pub found : new.found ≡ old.found ++ (row, key) ∷ []
   pub steps : new.steps ≡ old.steps
 
 abbrev pub IsAdvanced : List Branch → BoxOf → (ℕ → Ratio → Type 0) → Ratio → What → State → State → Type 0
 IsAdvanced bs q has key (Node n) old new = IsOpened bs q key n old new
-IsAdvanced bs q has key (Entry b row) old new = IsLooked has row old new
-IsAdvanced bs q has key (Answer row) old new = IsTold key row old new
+IsAdvanced bs q has key (Entry b row) old new = IsMeasured has row old new
+IsAdvanced bs q has key (Answer row) old new = IsAnswered key row old new
 
 -- a fault at an entry
-abbrev pub IsUnfit : List (Option Trip) → Asked → ℕ → Formula → Type 0
-IsUnfit trips asked row formula = (trip : Trip) × IsTrip trips row trip × IsFirst (flat_map entries_of_approach (pieces (Slices trip) asked)) (Some formula)
+abbrev pub HasUnfitPart : List (Option Trip) → Asked → ℕ → Formula → Type 0
+HasUnfitPart trips asked row formula = (trip : Trip) × IsTrip trips row trip × IsFirst (flat_map entries_of_approach (pieces (Slices trip) asked)) (Some formula)
 
 abbrev pub IsEntry : What → ℕ → Type 0
 IsEntry what row = (b : BoxOf) × (what ≡ Entry b row)

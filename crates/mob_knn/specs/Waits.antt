@@ -24,21 +24,21 @@ rank_of (Node n) = 0
 rank_of (Entry b row) = 1
 rank_of (Answer row) = 2
 
-abbrev pub number_of : What → ℕ
-number_of (Node n) = n
-number_of (Entry b row) = row
-number_of (Answer row) = row
+abbrev pub waiting_number : What → ℕ
+waiting_number (Node n) = n
+waiting_number (Entry b row) = row
+waiting_number (Answer row) = row
 
 -- by the key, then nodes and entries before answers, then by the number
 abbrev pub first_cmp : Waiting → Waiting → Ordering
-first_cmp = then_cmp (on (λ w. w.key) compare_ratio) (then_cmp (on (λ w. rank_of w.what) nat_cmp) (on (λ w. number_of w.what) nat_cmp))
+first_cmp = then_cmp (on (λ w. w.key) compare_ratio) (then_cmp (on (λ w. rank_of w.what) nat_cmp) (on (λ w. waiting_number w.what) nat_cmp))
 
 -- the greatest is what is taken first
 abbrev pub waiting_cmp : Waiting → Waiting → Ordering
 waiting_cmp = flip_args first_cmp
 
 pub waiting_total : IsTotalOrder waiting_cmp
-waiting_total = back_total (then_total (on_total (λ w. w.key) ranking_ratio.total) (then_total (on_total (λ w. rank_of w.what) nat_cmp_total) (on_total (λ w. number_of w.what) nat_cmp_total)))
+waiting_total = back_total (then_total (on_total (λ w. w.key) ranking_ratio.total) (then_total (on_total (λ w. rank_of w.what) nat_cmp_total) (on_total (λ w. waiting_number w.what) nat_cmp_total)))
 
 -- a child of a node as what waits
 abbrev pub what_of : Kid → What

@@ -7,8 +7,8 @@ ghost use Rattle.std.specs.BinaryHeap.{heap_items, KeepsHeap};
 ghost use Rattle.mob_slice.specs.Sides.{operand_of};
 ghost use Rattle.mob_stbox.specs.Boxes.{BoxOf};
 ghost use Rattle.mob_knn.specs.declared.fault.NearFault.TheVariants.{NoMemory};
-ghost use Rattle.mob_knn.specs.Nearest.{AreNearest, AreOfTrips, HasApproach, IsAskedBox, IsPassed, OnPassed, count_within, reach_of};
-ghost use Rattle.mob_knn.specs.Steps.{IsAdvanced, IsOnly, answer_of, IsEntry, IsReachedIn, IsUnfit};
+ghost use Rattle.mob_knn.specs.Nearest.{AreNearest, AreOfTrips, HasApproach, IsAskedBox, IsPassed, OnNearFault, count_within, reach_of};
+ghost use Rattle.mob_knn.specs.Steps.{IsAdvanced, IsOnly, found_answer, IsEntry, IsReachedIn, HasUnfitPart};
 ghost use Rattle.mob_knn.specs.declared.waiting.What.TheVariants.{Node};
 ghost use Rattle.mob_knn.specs.Waits.{waiting_cmp};
 
@@ -35,10 +35,10 @@ fn look<L: Ledger>(
     heap: &mut BinaryHeap<Waiting>,
     steps: &mut Steps<L>,
 ) -> Result<(), NearFault>
-    ensures looked { OnOk result ((o : Option Ratio) × IsOnly (HasApproach trips.now (operand_of asked.now) row) o × IsPermutation (answer_of row o ++ heap_items heap.old) (heap_items heap.new)) }
+    ensures looked { OnOk result ((o : Option Ratio) × IsOnly (HasApproach trips.now (operand_of asked.now) row) o × IsPermutation (found_answer row o ++ heap_items heap.old) (heap_items heap.new)) }
     ensures order { OnOk result (KeepsHeap waiting_cmp (heap_items heap.old) (heap_items heap.new)) }
     ensures steps { steps.new ≡ steps.old + 1 }
-    ensures err { IfErr result (OnPassed (λ r formula. (r ≡ row) × IsUnfit trips.now (operand_of asked.now) r formula)) }
+    ensures err { IfErr result (OnNearFault (λ r formula. (r ≡ row) × HasUnfitPart trips.now (operand_of asked.now) r formula)) }
 {
     steps.tick();
     match row_approach(alloc, trips, row, asked) {
@@ -78,7 +78,7 @@ fn advance<L: Ledger>(
     ensures ok { OnOk result (IsAdvanced tree.now.nodes area.now (HasApproach trips.now (operand_of asked.now)) first.now.key first.now.what (record { heap = heap_items heap.old; found = found.old.items; steps = steps.old }) (record { heap = heap_items heap.new; found = found.new.items; steps = steps.new })) }
     ensures spread { OnOk result ((n : ℕ) → first.now.what ≡ Node n → IsSpread tree.now.nodes n) }
     ensures order { OnOk result (KeepsHeap waiting_cmp (heap_items heap.old) (heap_items heap.new)) }
-    ensures err { IfErr result (OnPassed (λ row formula. IsEntry first.now.what row × IsUnfit trips.now (operand_of asked.now) row formula)) }
+    ensures err { IfErr result (OnNearFault (λ row formula. IsEntry first.now.what row × HasUnfitPart trips.now (operand_of asked.now) row formula)) }
 {
     match first.what {
         What::Node(n) => open(heap, tree.part(n), &first.key, area),
@@ -102,7 +102,7 @@ fn search<L: Ledger>(
     requires some { 0 < k }
     ensures nearest { IfOk result (λ rs. AreNearest trips.now (operand_of asked.now) k rs.items) }
     ensures cost { IfOk result (λ rs. steps.new ≤ steps.old + count_within (reach_of k rs.items) area.now tree.now.entries) }
-    ensures passed { IfErr result (OnPassed (IsPassed trips.now (operand_of asked.now) k)) }
+    ensures passed { IfErr result (OnNearFault (IsPassed trips.now (operand_of asked.now) k)) }
 {
     let mut found = Vec::new(alloc);
     let Some(root) = tree.root() else {
@@ -145,7 +145,7 @@ pub fn nearest<L: Ledger>(
     requires entries { AreOfTrips trips.now tree.now.entries }
     ensures nearest { IfOk result (λ rs. AreNearest trips.now (operand_of asked.entry) k rs) }
     ensures cost { IfOk result (λ rs. (q : BoxOf) → IsAskedBox (operand_of asked.entry) q → steps.new ≤ steps.old + count_within (reach_of k rs) q tree.now.entries) }
-    ensures passed { IfErr result (OnPassed (IsPassed trips.now (operand_of asked.entry) k)) }
+    ensures passed { IfErr result (OnNearFault (IsPassed trips.now (operand_of asked.entry) k)) }
 {
     if k == 0 {
         let_go(asked);

@@ -7,7 +7,7 @@ ghost use Rattle.mob_slice.specs.Lines.{plane_value_of};
 ghost use Rattle.mob_near.specs.Approaches.{IsApproach};
 ghost use Rattle.mob_near.specs.Entries.{entries_of_approach};
 ghost use Rattle.mob_knn.specs.Nearest.{Trip, IsTrip, HasApproach};
-ghost use Rattle.mob_knn.specs.Steps.{IsOnly, IsUnfit};
+ghost use Rattle.mob_knn.specs.Steps.{IsOnly, HasUnfitPart};
 
 use crate::asked::again;
 use mob_frac::Frac;
@@ -49,7 +49,7 @@ pub fn row_approach(
     asked: &Operand<'_, PlaneLine>,
 ) -> Result<Option<Frac>, Passed>
     ensures value { IfOk result (λ o. IsOnly (HasApproach trips.now (operand_of asked.now) row) o) }
-    ensures unfit { IfErr result (λ p. IsUnfit trips.now (operand_of asked.now) row p.formula) }
+    ensures unfit { IfErr result (λ p. HasUnfitPart trips.now (operand_of asked.now) row p.formula) }
 {
     match trip_at(trips, row) {
         Some(trip) => trip_approach(alloc, trip, asked),

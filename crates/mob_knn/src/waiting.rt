@@ -9,7 +9,7 @@ ghost use Rattle.std.specs.List.Sorted.{IsPermutation};
 ghost use Rattle.std.specs.Ordering.{as_partial_cmp, eq_by_cmp};
 ghost use Rattle.mob_slice.specs.Ranks.{compare_ratio};
 ghost use Rattle.mob_knn.specs.declared.fault.NearFault.TheVariants.{NoMemory};
-ghost use Rattle.mob_knn.specs.Waits.{what_of, waiting_cmp, waiting_total, rank_of, number_of, waits_at, waits_of};
+ghost use Rattle.mob_knn.specs.Waits.{what_of, waiting_cmp, waiting_total, rank_of, waiting_number, waits_at, waits_of};
 
 use crate::fault::NearFault;
 use mob_frac::Frac;
@@ -55,7 +55,7 @@ impl What {
     }
 
     fn number(&self) -> u32
-        ensures value { result ≡ number_of self.now }
+        ensures value { result ≡ waiting_number self.now }
     {
         match self {
             What::Node(n) => *n,

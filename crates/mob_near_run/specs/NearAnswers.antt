@@ -13,9 +13,9 @@ use Rattle.mob_near_run.specs.declared.settings.NearSettings.{NearSettings}
 use Rattle.mob_near_run.specs.declared.settings.Target.{Target}
 use Rattle.mob_near_run.specs.declared.settings.Target.TheVariants.{Moving, Fixed}
 
-abbrev pub asked_of : Target → Asked
-asked_of (Moving v) = Slices v
-asked_of (Fixed p) = Base p
+abbrev pub target_operand : Target → Asked
+target_operand (Moving v) = Slices v
+target_operand (Fixed p) = Base p
 
 -- the moving point that a value is; NULL is none
 abbrev pub moving_point : Value → Option Trip
@@ -51,8 +51,8 @@ near_names = codes "id" ∷ codes "approach" ∷ []
 
 -- the text of the nearest rows
 abbrev pub NearWrites : NearSettings → List (List Value) → List ℕ → Type 0
-NearWrites settings rows text = (near : List (ℕ × Ratio)) × AreNearest (trips_in rows) (asked_of settings.to) settings.k near × (text ≡ answer_text near_names (map (near_fields settings.epoch (map id_of rows)) near))
+NearWrites settings rows text = (near : List (ℕ × Ratio)) × AreNearest (trips_in rows) (target_operand settings.to) settings.k near × (text ≡ answer_text near_names (map (near_fields settings.epoch (map id_of rows)) near))
 
 -- a part of this formula of the nearest approach of this row does not fit, and fewer than K rows are known to be nearer
 abbrev pub IsRowPassed : NearSettings → List (List Value) → ℕ → Formula → Type 0
-IsRowPassed settings rows row formula = IsPassed (trips_in rows) (asked_of settings.to) settings.k row formula
+IsRowPassed settings rows row formula = IsPassed (trips_in rows) (target_operand settings.to) settings.k row formula

@@ -4,8 +4,8 @@ ghost use Rattle.mob_numeral.specs.NumberText.{number_text};
 ghost use Rattle.mob_slice.specs.Sides.{operand_of};
 ghost use Rattle.mob_literal.specs.Fields.{field_text};
 ghost use Rattle.mob_records.specs.AnswerText.{answer_text};
-ghost use Rattle.mob_knn.specs.Nearest.{AreNearest, AreOfTrips, IsPassed, OnPassed};
-ghost use Rattle.mob_near_run.specs.NearAnswers.{IsRowPassed, NearWrites, asked_of, id_at, near_fields, near_names};
+ghost use Rattle.mob_knn.specs.Nearest.{AreNearest, AreOfTrips, IsPassed, OnNearFault};
+ghost use Rattle.mob_near_run.specs.NearAnswers.{IsRowPassed, NearWrites, target_operand, id_at, near_fields, near_names};
 
 use crate::rows::split_rows;
 use crate::settings::{NearSettings, Target};
@@ -27,7 +27,7 @@ use std::sync::ledger::{Blank, Ledger};
 
 // The target as an operand.
 fn asked<'a>(to: &'a Target) -> Operand<'a, PlaneLine>
-    ensures same { operand_of result ≡ asked_of to.entry.now }
+    ensures same { operand_of result ≡ target_operand to.entry.now }
 {
     match to {
         Target::Moving(moving) => Operand::Moving(moving),
@@ -48,8 +48,8 @@ fn nearest_alone<L: Ledger>(
     requires name { blank.name ≡ L.name }
     requires parts { blank.parts ≡ L.parts }
     requires some { 0 < L.parts }
-    ensures nearest { IfOk result (λ rs. AreNearest trips.now (asked_of to.now) k rs) }
-    ensures passed { IfErr result (OnPassed (λ row formula. IsPassed trips.now (asked_of to.now) k row formula)) }
+    ensures nearest { IfOk result (λ rs. AreNearest trips.now (target_operand to.now) k rs) }
+    ensures passed { IfErr result (OnNearFault (λ row formula. IsPassed trips.now (target_operand to.now) k row formula)) }
 {
     let mut steps = Steps::<L>::new(blank);
     nearest(alloc, tree, trips, asked(to), k, &mut steps)
@@ -63,8 +63,8 @@ fn found(
     k: u32,
 ) -> Result<Items<(u32, Frac)>, NearFault>
     requires few { length trips.now ≤ 1000000 }
-    ensures nearest { IfOk result (λ rs. AreNearest trips.now (asked_of to.now) k rs) }
-    ensures passed { IfErr result (OnPassed (λ row formula. IsPassed trips.now (asked_of to.now) k row formula)) }
+    ensures nearest { IfOk result (λ rs. AreNearest trips.now (target_operand to.now) k rs) }
+    ensures passed { IfErr result (OnNearFault (λ row formula. IsPassed trips.now (target_operand to.now) k row formula)) }
 {
     match index_of(alloc, trips) {
         Ok(tree) => nearest_alone::<Brand>(alloc, &tree, trips, to, k, Blank::new(1)),
@@ -161,7 +161,7 @@ pub fn near_text(
 ) -> Result<Vec<u8>, NearFault>
     requires few { length rows ≤ 1000000 }
     ensures writes { IfOk result (λ t. NearWrites settings.now rows t.items) }
-    ensures passed { IfErr result (OnPassed (IsRowPassed settings.now rows)) }
+    ensures passed { IfErr result (OnNearFault (IsRowPassed settings.now rows)) }
 {
     let (ids, trips) = match split_rows(alloc, rows) {
         Ok(split) => split,

@@ -10,14 +10,14 @@ use Rattle.mob_catalog.specs.Outcomes.{HasOneTable, NeverReadAndRefused}
 use Rattle.mob_outside.specs.Faults.{Rose}
 use Rattle.mob_trips.specs.Endings.{WritesAll, CutsShort, IsTableRefused, PassLimit, StopsAt, IsTripsCause, IsTripsEnding}
 use Rattle.mob_trips.specs.Lines.{trips_note, trips_status}
-use Rattle.mob_trips.specs.Program.{ProgramOf, IsProgram, IsExact, IsUntaken, OnTable, OnRows}
+use Rattle.mob_trips.specs.Program.{ProgramOf, IsTripsProgram, IsExactProgram, IsUntaken, OnTable, OnRows}
 use Rattle.mob_trips.specs.Reading.{IsTripTableRefused, trip_columns, row_limit}
-use Rattle.mob_trips.specs.Run.{IsTripsRun, IsExactRun, IsFaultless}
+use Rattle.mob_trips.specs.Run.{IsTripsRun, IsExactRun, IsTripsFaultless}
 use Rattle.mob_trips.specs.Seen.{TripsSeen}
 use Rattle.mob_trips.specs.declared.ending.Ending.{Ending}
 use Rattle.mob_trips.specs.declared.ending.Ending.TheVariants.{Done, Usage, ReadFault, WriteFault, NoMemory, TableRefused, RowsRefused, Overflow}
 
-module _ {Settings : Type 0} (p : ProgramOf Settings) (law : IsProgram p) (one : HasOneTable) (apart : NeverReadAndRefused) (s : TripsSeen) (fine : IsFaultless s)
+module _ {Settings : Type 0} (p : ProgramOf Settings) (law : IsTripsProgram p) (one : HasOneTable) (apart : NeverReadAndRefused) (s : TripsSeen) (fine : IsTripsFaultless s)
     (settings : Settings) (says : p.says s.words settings) (bytes : List ℕ) (told : s.table.told_before ≡ Some bytes) where
   on : (P : Settings → List ℕ → Type 0) → OnTable p s P → P settings bytes
   on P h = subst (λ z. P z bytes) (law.one s.words h.settings settings h.says says) (h.holds bytes told)
@@ -51,7 +51,7 @@ module _ {Settings : Type 0} (p : ProgramOf Settings) (law : IsProgram p) (one :
   refused_ends (RowsRefused names) w h r = inl refl
   refused_ends (Overflow names f) w h r = absurd (read_or_refused (Stops names f) w (on (OnRows p (Stops names f)) h.0.fault) r)
 
-  limited_ends : IsExact p → (ending : Ending) (names : List ℕ) → IsTripsCause p ending s → Rows (Limits names) → (trips_status ending ≡ 6) ⊎ (trips_status ending ≡ 5)
+  limited_ends : IsExactProgram p → (ending : Ending) (names : List ℕ) → IsTripsCause p ending s → Rows (Limits names) → (trips_status ending ≡ 6) ⊎ (trips_status ending ≡ 5)
   limited_ends exact Done names h r = absurd (both (Writes h.text) (Limits names) (λ rows a b. exact.written_limits settings rows h.text names a b) (on (OnRows p (Writes h.text)) h.is) r)
   limited_ends exact Usage names h r = absurd (h.0 settings says)
   limited_ends exact ReadFault names h r = absurd (fine.read h.0)
@@ -61,7 +61,7 @@ module _ {Settings : Type 0} (p : ProgramOf Settings) (law : IsProgram p) (one :
   limited_ends exact (RowsRefused others) names h r = inl refl
   limited_ends exact (Overflow others f) names h r = absurd (both (Stops others f) (Limits names) (λ rows a b. exact.stopped_limits settings rows others names f a b) (on (OnRows p (Stops others f)) h.0.fault) r)
 
-  stopped_ends : IsExact p → (ending : Ending) (names : List ℕ) (f : Formula) → IsTripsCause p ending s → Rows (Stops names f) → (trips_status ending ≡ 8) ⊎ (trips_status ending ≡ 5)
+  stopped_ends : IsExactProgram p → (ending : Ending) (names : List ℕ) (f : Formula) → IsTripsCause p ending s → Rows (Stops names f) → (trips_status ending ≡ 8) ⊎ (trips_status ending ≡ 5)
   stopped_ends exact Done names f h r = absurd (both (Writes h.text) (Stops names f) (λ rows a b. exact.written_stops settings rows h.text names f a b) (on (OnRows p (Writes h.text)) h.is) r)
   stopped_ends exact Usage names f h r = absurd (h.0 settings says)
   stopped_ends exact ReadFault names f h r = absurd (fine.read h.0)
@@ -122,7 +122,7 @@ module _ {Settings : Type 0} (p : ProgramOf Settings) where
   by_words ending (inl e) = inl (ap trips_status e)
   by_words ending (inr e) = inr (ap trips_status e)
 
-  pub is_trips_run : IsProgram p → HasOneTable → NeverReadAndRefused → (line : List ℕ) (ending : Ending) (s : TripsSeen) (Noted : List ℕ → Type 0) → IsTripsEnding p ending s → Noted (trips_note line ending) → IsTripsRun p line (trips_status ending) s Noted
+  pub is_trips_run : IsTripsProgram p → HasOneTable → NeverReadAndRefused → (line : List ℕ) (ending : Ending) (s : TripsSeen) (Noted : List ℕ → Type 0) → IsTripsEnding p ending s → Noted (trips_note line ending) → IsTripsRun p line (trips_status ending) s Noted
   is_trips_run law one apart line ending s Noted h noted = record {
     written = written ending s h.cause;
     usage = λ e. (usage ending s h.cause e).0;
@@ -141,7 +141,7 @@ module _ {Settings : Type 0} (p : ProgramOf Settings) where
     note = record { ending = ending; cause = h.cause; ends = record { number = refl; noted = noted } };
   }
 
-  pub is_exact_run : IsProgram p → IsExact p → HasOneTable → NeverReadAndRefused → (ending : Ending) (s : TripsSeen) → IsTripsEnding p ending s → IsExactRun p (trips_status ending) s
+  pub is_exact_run : IsTripsProgram p → IsExactProgram p → HasOneTable → NeverReadAndRefused → (ending : Ending) (s : TripsSeen) → IsTripsEnding p ending s → IsExactRun p (trips_status ending) s
   is_exact_run law exact one apart ending s h = record {
     must_limit = λ fine t. limited_ends p law one apart s fine t.0 t.1 t.2 t.3 exact ending t.4.2.0 h.cause (t.4.0, t.4.1, t.4.2.1);
     must_stop = λ fine t. stopped_ends p law one apart s fine t.0 t.1 t.2 t.3 exact ending t.4.2.0 t.4.2.1 h.cause (t.4.0, t.4.1, t.4.2.2);

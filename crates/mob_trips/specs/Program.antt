@@ -16,13 +16,13 @@ pub record ProgramOf (Settings : Type 0) : Type 1 where
   pub fits : Settings → List (List Value) → Type 0
 
 -- What has to hold of it: arguments say one thing, and rows that fit have no fault.
-pub record IsProgram {Settings : Type 0} (p : ProgramOf Settings) : Type 0 where
+pub record IsTripsProgram {Settings : Type 0} (p : ProgramOf Settings) : Type 0 where
   pub one : (words : List (List ℕ)) (a b : Settings) → p.says words a → p.says words b → a ≡ b
   pub fits_stops : (s : Settings) (rows : List (List Value)) (names : List ℕ) (f : Formula) → p.fits s rows → p.stops s rows names f → ⊥
   pub fits_limits : (s : Settings) (rows : List (List Value)) (names : List ℕ) → p.fits s rows → p.limits s rows names → ⊥
 
 -- It is exact if rows never have two of these: a text, a limit, a formula. A program that does not visit all rows need not be exact.
-pub record IsExact {Settings : Type 0} (p : ProgramOf Settings) : Type 0 where
+pub record IsExactProgram {Settings : Type 0} (p : ProgramOf Settings) : Type 0 where
   pub written_stops : (s : Settings) (rows : List (List Value)) (text names : List ℕ) (f : Formula) → p.writes s rows text → p.stops s rows names f → ⊥
   pub written_limits : (s : Settings) (rows : List (List Value)) (text names : List ℕ) → p.writes s rows text → p.limits s rows names → ⊥
   pub stopped_limits : (s : Settings) (rows : List (List Value)) (names others : List ℕ) (f : Formula) → p.stops s rows names f → p.limits s rows others → ⊥

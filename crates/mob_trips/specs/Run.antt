@@ -15,12 +15,12 @@ use Rattle.mob_trips.specs.Seen.{TripsSeen}
 use Rattle.mob_trips.specs.declared.ending.Ending.{Ending}
 
 -- no count of faults rose
-pub record IsFaultless (s : TripsSeen) : Type 0 where
+pub record IsTripsFaultless (s : TripsSeen) : Type 0 where
   pub read : Rose s.table.faults_before s.table.faults_now → ⊥
   pub put : Rose s.out.faults_before s.out.faults_now → ⊥
 
 -- the status and the note are those of this ending
-pub record EndsSo (usage : List ℕ) (ending : Ending) (status : ℕ) (Noted : List ℕ → Type 0) : Type 0 where
+pub record EndsTrips (usage : List ℕ) (ending : Ending) (status : ℕ) (Noted : List ℕ → Type 0) : Type 0 where
   pub number : status ≡ trips_status ending
   pub noted : Noted (trips_note usage ending)
 
@@ -29,7 +29,7 @@ module _ {Settings : Type 0} (p : ProgramOf Settings) where
   pub record IsTripsNote (usage : List ℕ) (status : ℕ) (s : TripsSeen) (Noted : List ℕ → Type 0) : Type 0 where
     pub ending : Ending
     pub cause : IsTripsCause p ending s
-    pub ends : EndsSo usage ending status Noted
+    pub ends : EndsTrips usage ending status Noted
 
   -- the arguments have settings, the table is told, and this holds of them
   abbrev pub OnTold : TripsSeen → (Settings → List ℕ → Type 0) → Type 0
@@ -53,8 +53,8 @@ module _ {Settings : Type 0} (p : ProgramOf Settings) where
     pub silent : (status ≡ 0 → ⊥) → (status ≡ 4 → ⊥) → Keeps s.out.told_before s.out.told_now
     pub untouched : status ≡ 2 → Keeps s.table.told_before s.table.told_now
     -- The other way, where no count rose and the table is told; out of memory is free.
-    pub must_refuse : IsFaultless s → OnTold s (λ settings bytes. (w : FileFault) × IsTripTableRefused (p.day settings) bytes w) → (status ≡ 6) ⊎ (status ≡ 5)
-    pub answered : IsFaultless s → OnTold s (OnRows p p.fits) → (status ≡ 0) ⊎ (status ≡ 5)
+    pub must_refuse : IsTripsFaultless s → OnTold s (λ settings bytes. (w : FileFault) × IsTripTableRefused (p.day settings) bytes w) → (status ≡ 6) ⊎ (status ≡ 5)
+    pub answered : IsTripsFaultless s → OnTold s (OnRows p p.fits) → (status ≡ 0) ⊎ (status ≡ 5)
     -- under every status: at most one byte past the limit is read, and no count falls
     pub reads : ReadsPart file_limit s.table.told_before s.table.told_now
     pub read_later : s.table.faults_before ≤ s.table.faults_now
@@ -64,5 +64,5 @@ module _ {Settings : Type 0} (p : ProgramOf Settings) where
 
   -- The other way for a program that is exact, where no count rose and the table is told; out of memory is free.
   pub record IsExactRun (status : ℕ) (s : TripsSeen) : Type 0 where
-    pub must_limit : IsFaultless s → OnTold s (OnRows p (λ settings rows. (names : List ℕ) × p.limits settings rows names)) → (status ≡ 6) ⊎ (status ≡ 5)
-    pub must_stop : IsFaultless s → OnTold s (OnRows p (λ settings rows. (names : List ℕ) × (formula : Formula) × p.stops settings rows names formula)) → (status ≡ 8) ⊎ (status ≡ 5)
+    pub must_limit : IsTripsFaultless s → OnTold s (OnRows p (λ settings rows. (names : List ℕ) × p.limits settings rows names)) → (status ≡ 6) ⊎ (status ≡ 5)
+    pub must_stop : IsTripsFaultless s → OnTold s (OnRows p (λ settings rows. (names : List ℕ) × (formula : Formula) × p.stops settings rows names formula)) → (status ≡ 8) ⊎ (status ≡ 5)

@@ -2,7 +2,7 @@ use Rattle.std.proofs.Common.{rules, sym, ◌∙◌, arith}
 use Rattle.std.specs.BinaryHeap.{heap_items}
 use Rattle.mob_slice.specs.Sides.{operand_of}
 use Rattle.mob_knn.specs.Nearest.{HasApproach, IsPassed}
-use Rattle.mob_knn.specs.Steps.{IsEntry, IsUnfit}
+use Rattle.mob_knn.specs.Steps.{IsEntry, HasUnfitPart}
 use Rattle.mob_knn.proofs.Finishing.{nil_of, on_passed, none_found, begun_from, reached, next_state, last_state, unfit_row}
 use Rattle.mob_knn.proofs.Known.{trips_known}
 use Rattle.mob_knn.proofs.Searching.{nothing_left}
@@ -23,7 +23,7 @@ advance-requires g c = record { reached = reached (trips_known c.args.tree.now.n
 
 pub returns-in-Err-advance-clause-passed : goal.returns-in-Err-advance-clause-passed
 returns-in-Err-advance-clause-passed g c =
-    on_passed (λ row formula. IsEntry c.in-Some-pop.first.what row × IsUnfit c.args.trips.now (operand_of c.args.asked.now) row formula) (IsPassed c.args.trips.now (operand_of c.args.asked.now) c.args.k) c.in-Err-advance.fault c.in-Err-advance.ensures.err
+    on_passed (λ row formula. IsEntry c.in-Some-pop.first.what row × HasUnfitPart c.args.trips.now (operand_of c.args.asked.now) row formula) (IsPassed c.args.trips.now (operand_of c.args.asked.now) c.args.k) c.in-Err-advance.fault c.in-Err-advance.ensures.err
     (unfit_row c.args.tree.now.entries c.args.trips.now (operand_of c.args.asked.now) c.args.area.now c.requires.entries c.requires.asked c.taking.invariant.0 c.in-Some-pop.ensures.permutation (c.in-Some-pop.ensures.below_top c.taking.invariant.1))
 
 pub returns-then-len-k-clause-nearest : goal.returns-then-len-k-clause-nearest
