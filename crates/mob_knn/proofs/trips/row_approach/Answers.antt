@@ -1,5 +1,5 @@
 use Rattle.mob_slice.specs.Sides.{operand_of}
-use Rattle.mob_knn.proofs.Rows.{only_there, only_unfit, only_missing}
+use Rattle.mob_knn.proofs.Rows.{only_there, only_unfit}
 use Rattle.mob_knn.proofs.trips.row_approach.Goals as goal
 
 pub returns-in-Some-clause-value : goal.returns-in-Some-clause-value
