@@ -1,5 +1,5 @@
 #!/usr/bin/env python3
-"""Measures what the gate takes from nothing, by crate, and prints the table of docs/GATE.md.
+"""Measures what the gate takes from nothing, by crate, and prints the part of docs/GATE.md that says it: the whole, the date, and the table.
 
     bench/gate.py [LOG]
 
@@ -7,7 +7,7 @@ It clones the commit that is checked out into a new folder, runs `rt ci --anew` 
 (gate.log in the current folder). Five times a second it reads what each process of the prover has used, so a row lacks at most a
 fifth of a second for each check; the last line is the whole as the system counts it. Nothing else is to run on the machine.
 """
-import os, resource, subprocess, sys, tempfile, time
+import glob, os, resource, subprocess, sys, tempfile, time
 from collections import defaultdict
 
 TICK = os.sysconf("SC_CLK_TCK")
@@ -87,10 +87,11 @@ def main():
         )
         seen = watch(gate)
         minutes = (time.monotonic() - begun) / 60
-        count = lambda crate: len([it for it in os.listdir(f"{clone}/crates/{crate}/must-fail") if it.endswith(".edit")]) if os.path.isdir(f"{clone}/crates/{crate}/must-fail") else 0
-        print("\n".join(table(seen, count)))
     used = resource.getrusage(resource.RUSAGE_CHILDREN)
-    print(f"\n{(used.ru_utime + used.ru_stime) / 60:.1f} processor minutes ({used.ru_utime / 60:.1f} user, {used.ru_stime / 60:.1f} system), {minutes:.1f} minutes on {os.cpu_count()} processors")
+    count = lambda crate: len(glob.glob(f"{top}/crates/{crate}/must-fail/*.edit"))
+    kit = subprocess.run(["rt", "version"], capture_output=True, text=True).stdout.split("\n")[0]
+    print(f"{time.strftime('%Y-%m-%d')}, {kit}: {(used.ru_utime + used.ru_stime) / 60:.0f} processor minutes, {minutes:.0f} minutes on {os.cpu_count()} processors.\n")
+    print("\n".join(table(seen, count)), end="\n\n")
     with open(log) as output:
         print(output.read().rstrip().rpartition("\n")[2])
     return gate.returncode

@@ -1,6 +1,7 @@
 #!/bin/sh
-# Ends of the process that fail or never end: what no clause can say of real streams and folders, and no row can hand in.
-# `sh checks/ends.sh PROGRAM` takes a program that is there; without a word one is built.
+# Tests real streams and files that fail or never end: no contract speaks of them, and no row of
+# checks/rows can provide them.
+# `sh checks/ends.sh PROGRAM` uses that program; without an argument it builds one.
 . "$(dirname "$0")/common"
 
 mkdir "$work/here" "$work/here/folder"
@@ -13,7 +14,7 @@ for name in folder zero.csv nosuch.csv one.sql/x; do
 done
 failed=0
 
-# Wants the status and the note of a run, which writes nothing: wants NAME STATUS NOTE COMMAND.
+# Compares the status and the note of a run that must write nothing: wants NAME STATUS NOTE COMMAND.
 wants() {
     status=0
     : > "$work/note"

@@ -1,12 +1,16 @@
 #!/bin/sh
-# Runs each script of examples/ in its folder: NAME.sql must write NAME.answer, put NAME.note into its notes, and end with the
-# status that NAME.status says. Where such a file is missing, the answer or the note is to be empty, and the status 0. With three workers it
-# is to do the same. A picture NAME.svg is what examples/picture draws of NAME.answer. The tables that are made of a log are what examples/log_to_table makes of
-# it, and corners.csv is what examples/table_to_log makes of corners.answer.
-# `sh checks/examples.sh PROGRAM` takes a program that is there; without a word one is built.
+# Runs each script of examples/ in its folder, with one worker and with three.
+#
+# - NAME.sql must print NAME.answer, put NAME.note on standard error and exit with the status in
+#   NAME.status. A missing file means no answer, no note or status 0.
+# - NAME.svg must be what examples/picture draws of NAME.answer, with the title that NAME.svg has.
+# - The tables that come from logs must be what examples/log_to_table makes of them, and corners.csv
+#   what examples/table_to_log makes of corners.answer.
+#
+# `sh checks/examples.sh PROGRAM` uses that program; without an argument it builds one.
 . "$(dirname "$0")/common"
 
-# what a file says; nothing, where there is none
+# The content of a file, or nothing if there is none.
 text_of() {
     cat "$1" 2> /dev/null || true
 }
@@ -19,8 +23,10 @@ for script in examples/*/*.sql; do
     wanted_status=$(text_of "$name.status")
     for words in "" "--workers 3"; do
         status=0
-        (cd "$(dirname "$script")" && "$program" $words < "$(basename "$script")") > "$work/answer" 2> "$work/note" || status=$?
-        if cmp "$work/answer" "$work/wanted.answer" && cmp "$work/note" "$work/wanted.note" && [ "$status" = "${wanted_status:-0}" ]; then
+        (cd "$(dirname "$script")" && "$program" $words < "$(basename "$script")") \
+            > "$work/answer" 2> "$work/note" || status=$?
+        if cmp "$work/answer" "$work/wanted.answer" && cmp "$work/note" "$work/wanted.note" &&
+            [ "$status" = "${wanted_status:-0}" ]; then
             echo "example $name $words: as expected"
         else
             echo "example $name $words: FAILED with status $status"
@@ -31,10 +37,17 @@ done
 for picture in examples/*/*.svg; do
     kind=bars
     [ "$(basename "$picture")" != map.svg ] || kind=map
-    examples/picture "$kind" < "${picture%.svg}.answer" > "$work/picture"
+    title=$(sed -n 's:<title>\(.*\)</title>:\1:p' "$picture")
+    examples/picture "$kind" "$title" < "${picture%.svg}.answer" > "$work/picture"
     cmp "$work/picture" "$picture" || { echo "picture $picture: FAILED"; failed=1; }
 done
-examples/log_to_table track 3600 < examples/harbour/log.csv | cmp - examples/harbour/tracks.csv || { echo "log of harbour: FAILED"; failed=1; }
-examples/log_to_table celsius 86400 < examples/sensors/readings.csv | cmp - examples/sensors/heat.csv || { echo "log of sensors: FAILED"; failed=1; }
-examples/table_to_log x y < examples/harbour/corners.answer | cmp - examples/harbour/corners.csv || { echo "corners of harbour: FAILED"; failed=1; }
+must_be() {
+    cmp - "$1" || { echo "table $1: FAILED"; failed=1; }
+}
+examples/log_to_table track 3600 < examples/harbour/log.csv > "$work/made"
+must_be examples/harbour/tracks.csv < "$work/made"
+examples/log_to_table celsius 86400 < examples/sensors/readings.csv > "$work/made"
+must_be examples/sensors/heat.csv < "$work/made"
+examples/table_to_log x y < examples/harbour/corners.answer > "$work/made"
+must_be examples/harbour/corners.csv < "$work/made"
 exit $failed

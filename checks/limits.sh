@@ -1,10 +1,10 @@
 #!/bin/sh
-# The limits that need data which differs from line to line: a literal of 100,000 rising instants is taken, in a script and in a table
-# file, and one of 100,001 refused at its place. The other limits stand in `checks/rows/limits.rows`.
-# `sh checks/limits.sh PROGRAM` takes a program that is there; without a word one is built.
+# Tests the limit on instants in a literal: 100,000 rising instants are accepted, in a script and in a
+# table file, and 100,001 are refused at their place. `checks/rows/limits.rows` has the other limits.
+# `sh checks/limits.sh PROGRAM` uses that program; without an argument it builds one.
 . "$(dirname "$0")/common"
 
-# A tint that is 1 at each second from the first of January on, as often as is asked for.
+# Prints a tint that is 1 at each second from 1 January on, with COUNT instants: literal COUNT.
 literal() {
     awk -v count="$1" 'BEGIN {
         printf "["
@@ -16,7 +16,7 @@ literal() {
 
 failed=0
 
-# Wants the status, answer and note of a run that is in the folder `here`: wants NAME STATUS ANSWER NOTE.
+# Compares the status, answer and note of a run in the folder `here`: wants NAME STATUS ANSWER NOTE.
 wants() {
     status=0
     (cd "$work/here" && "$program" < script.sql) > "$work/answer" 2> "$work/note" || status=$?

@@ -1,6 +1,6 @@
 #!/bin/sh
-# Each prefix of a script: it is taken or refused, and what is refused writes nothing.
-# `sh checks/prefixes.sh PROGRAM` takes a program that is there; without a word one is built.
+# Runs each prefix of a script. Each is accepted or refused, and a refused one writes nothing.
+# `sh checks/prefixes.sh PROGRAM` uses that program; without an argument it builds one.
 . "$(dirname "$0")/common"
 
 cat > "$work/script.sql" <<'END'

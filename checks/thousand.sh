@@ -1,7 +1,8 @@
 #!/bin/sh
-# A track of 1,000 legs to and fro over a strip of 2 metres, and the strip, once as a polygon of 1,000 points and once as a box: the
-# track is in it from a quarter to three quarters of each second, both ends included. By one worker and by three.
-# `sh checks/thousand.sh PROGRAM` takes a program that is there; without a word one is built.
+# Tests a track of 1,000 legs to and fro over a strip of 2 metres. The strip is a polygon of 1,000
+# points, and also a box. The track is in it from 0.25 to 0.75 of each second, both ends included. It
+# runs with one worker and with three.
+# `sh checks/thousand.sh PROGRAM` uses that program; without an argument it builds one.
 . "$(dirname "$0")/common"
 
 awk -v folder="$work" '

@@ -1,3 +1,3 @@
--- How many ships lie at the berth, as it was counted. The count of the second of May says what the one before it said, so it
--- is not printed.
+-- How many ships lie at the berth, as it was counted. The count of 2 May repeats the one before it,
+-- so it is not printed.
 SELECT tint '[2@2026-05-01, 2@2026-05-02, 3@2026-05-04, 0@2026-05-06]';

@@ -1,4 +1,5 @@
--- Who was where? The basin has a quay in it, which is no water; its edges belong to both. In the slow water ships keep to 5 knots.
+-- Who was where? The basin has a quay in it, which is not water. Its edges belong to both. In the
+-- slow water ships keep to 5 knots.
 CREATE TABLE tracks (ship text, track tgeompoint);
 CREATE TABLE zones (zone text, area geometry(Polygon));
 COPY tracks FROM 'tracks.csv' WITH (FORMAT csv, HEADER);
@@ -14,8 +15,8 @@ SELECT ship, valueAtTimestamp(track, timestamptz '2026-05-05 12:00') AS place
 FROM tracks, zones
 WHERE zone = 'basin' AND eIntersects(atTime(track, timestamptz '2026-05-05 12:00'), area);
 
--- Which way did each ship go through the slow water? Where it came in, where it turned and where it left, with the instants, tell how fast.
--- Merlin touched the edge at one instant.
+-- Which way did each ship go through the slow water? The places and instants at which it came in,
+-- turned and left give its speed. Merlin touched the edge at one instant.
 SELECT ship, atGeometry(track, area) AS way
 FROM tracks, zones
 WHERE zone = 'slow' AND eIntersects(track, area);

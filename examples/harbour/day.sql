@@ -1,5 +1,5 @@
--- A morning in a harbour: where four ships were, in kilometres from the light, as they reported it. Between two reports a ship
--- goes straight on. Cygnus was not heard of between seven and eight; Delta has told nothing.
+-- A morning in a harbour: the positions of four ships, in kilometres from the light. Between two
+-- reports a ship goes straight on. Cygnus was silent between seven and eight. Delta has no report.
 CREATE TABLE ships (ship text, trip tgeompoint);
 CREATE TABLE berths (berth text, place geometry(Point));
 CREATE TABLE stays (ship text, stay tstzspan);
@@ -25,8 +25,10 @@ SELECT s.ship, minusTime(trip, stay) AS under_way
 FROM ships s, stays b
 WHERE s.ship = b.ship;
 
--- From when to when is the place of a ship known, and how far was it to the east? Aster lay two hours at the berth.
-SELECT ship, getTime(trip) AS known, getX(trip) AS east FROM ships WHERE ship = 'Aster' OR ship = 'Delta';
+-- From when to when is the place of a ship known, and how far east was it? Aster lay two hours at
+-- the berth.
+SELECT ship, getTime(trip) AS known, getX(trip) AS east FROM ships
+WHERE ship = 'Aster' OR ship = 'Delta';
 
 -- When are the places of two ships both known?
 SELECT a.ship || ' and ' || b.ship AS pair, getTime(atTime(a.trip, getTime(b.trip))) AS both

@@ -1,5 +1,6 @@
--- Who came near whom, looked up by an index: the same ships and watches as in near.sql. With an index on the tracks each ship is looked up
--- by where and when the other one was, in place of trying each pair; the answer is the same.
+-- Who came near whom, with an index: the same ships and watches as in near.sql. The index looks
+-- each ship up by where and when the other one was, in place of trying each pair. The answer is the
+-- same.
 CREATE TABLE tracks (ship text, track tgeompoint);
 CREATE TABLE watches (watch text, hours tstzspan);
 CREATE TABLE zones (zone text, area geometry(Polygon));
@@ -8,7 +9,8 @@ COPY watches FROM 'watches.csv' WITH (FORMAT csv, HEADER);
 COPY zones FROM 'zones.csv' WITH (FORMAT csv, HEADER);
 CREATE INDEX by_track ON tracks USING GIST (track);
 
--- The table that is looked up stands behind those that the condition also names; here behind the watches too.
+-- The table with the index comes after those that the condition also names; here after the watches
+-- too.
 EXPLAIN SELECT * FROM tracks a, watches, tracks b
 WHERE a.ship < b.ship AND eDwithin(atTime(a.track, hours), b.track, 50);
 

@@ -1,4 +1,4 @@
--- A column is misspelt: opened is no column of gates.
+-- One column is misspelt: gates has no column opened.
 CREATE TABLE gates (name text, open tbool);
 COPY gates FROM 'gates.csv' WITH (FORMAT csv, HEADER);
 SELECT name, opened FROM gates;

@@ -1,2 +1,2 @@
--- A column is of points or of polygons: geometry(Point) or geometry(Polygon).
+-- The type of a column is geometry(Point) or geometry(Polygon).
 CREATE TABLE zones (zone text, area geometry);

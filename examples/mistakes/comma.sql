@@ -1,4 +1,4 @@
--- There is no comma between the two columns of the select list.
+-- A comma is missing between the two items.
 CREATE TABLE gates (name text, open tbool);
 COPY gates FROM 'gates.csv' WITH (FORMAT csv, HEADER);
 SELECT name open FROM gates;

@@ -1,2 +1,2 @@
--- A day is written as 2026-05-04.
+-- Write a day as 2026-05-04.
 SELECT timestamptz '04.05.2026';

@@ -1,4 +1,4 @@
--- The first column of the file is gate, and that of the table name.
+-- The first column is gate in the file and name in the table.
 CREATE TABLE gates (name text, open tbool);
 COPY gates FROM 'header.csv' WITH (FORMAT csv, HEADER);
 SELECT name FROM gates;

@@ -1,4 +1,4 @@
--- The sum has more than 62 bits. The answer before it stays written.
+-- The sum has more than 62 bits. The answer before it is written.
 CREATE TABLE counts (ships int);
 INSERT INTO counts VALUES (1), (4611686018427387903);
 SELECT ships FROM counts WHERE ships < 10;

@@ -1,2 +1,3 @@
--- A number over time is less than another one at some instants and not at others: that is #<, and whether ever ?<.
+-- A temporal number is less than another at some instants and not at others: write #<, or ?< for
+-- whether it ever is.
 SELECT tfrac '[0@2026-05-04, 4@2026-05-05]' < 2;

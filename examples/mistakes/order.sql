@@ -1,2 +1,2 @@
--- The instants of a literal have to rise.
+-- The instants of a literal must rise.
 SELECT tint '[3@2026-05-04 09:00, 2@2026-05-04 08:00]';

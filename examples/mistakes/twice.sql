@@ -1,3 +1,3 @@
--- The ship tells two places at one second.
+-- The ship reports two positions at one second.
 CREATE TABLE ships (ship text, trip tgeompoint);
 COPY ships FROM 'twice.csv' WITH (FORMAT csv, HEADER);

@@ -1,11 +1,12 @@
 -- The status of an ending, and the line that it leaves in the notes.
-use Rattle.std.specs.Prelude.{◌+◌, ◌++◌, ◌∷◌, ℕ, List, [], Option, Some, None, codes, decimal, map}
+use Rattle.std.specs.Prelude.{◌+◌, ◌++◌, ◌∷◌, ◌==◌, ℕ, List, [], Option, Some, None, codes, decimal, map, if◌then◌else◌}
 use Rattle.std.specs.List.{concat}
 use Rattle.mob_ast.specs.Kinds.{name_of, number_of}
 use Rattle.mob_ast.specs.declared.refusal.Kind.{Kind}
 use Rattle.mob_ast.specs.declared.refusal.Refusal.{Refusal}
 use Rattle.mob_slice.specs.declared.formula.Formula.{Formula}
 use Rattle.mob_slice.specs.declared.formula.Formula.TheVariants.{F1, F2, F3, F4, F5, F6, F7}
+use Rattle.mob_tuples.specs.Tuples.{no_row}
 use Rattle.mob_ending.specs.declared.ending.Ending.{Ending}
 use Rattle.mob_ending.specs.declared.ending.Ending.TheVariants.{Done, Usage, ReadFault, WriteFault, NoMemory, TableRefused, ScriptRefused, Overflow}
 
@@ -36,14 +37,18 @@ record_text kind rec field = codes ": record " ++ (decimal rec ++ (codes ", fiel
 abbrev pub table_line : List ℕ → Kind → ℕ → ℕ → List ℕ
 table_line file kind rec field = file ++ record_text kind rec field
 
--- a row's number, from 1, behind a blank
-abbrev pub further_row : ℕ → List ℕ
-further_row row = 32 ∷ decimal (row + 1)
+-- a row's number, from 1; it is 0 where a left-joined table has no row
+abbrev pub row_number : ℕ → ℕ
+row_number row = if row == no_row then 0 else row + 1
 
--- the numbers of rows, from 1, with blanks between; a hyphen for none
+-- this number behind a blank
+abbrev pub further_row : ℕ → List ℕ
+further_row row = 32 ∷ decimal (row_number row)
+
+-- the numbers of rows with blanks between; a hyphen where there is no table
 abbrev pub rows_text : List ℕ → List ℕ
 rows_text [] = codes "-"
-rows_text (row ∷ rows) = decimal (row + 1) ++ concat (map further_row rows)
+rows_text (row ∷ rows) = decimal (row_number row) ++ concat (map further_row rows)
 
 -- the name of a formula
 abbrev pub formula_name : Formula → List ℕ

@@ -3,6 +3,7 @@
 
 mod ending;
 mod note;
+pub mod pieces;
 
 pub use ending::Ending;
 pub use note::tell;

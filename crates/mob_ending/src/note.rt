@@ -1,12 +1,12 @@
 // The one line that a run which did not end well leaves in its notes.
-ghost use Rattle.std.specs.Prelude.{◌≡◌, map, OnOk, OnErr};
-ghost use Rattle.std.specs.List.{concat};
+ghost use Rattle.std.specs.Prelude.{OnOk, OnErr};
 ghost use Rattle.std.specs.Io.KnownBytes.{Appends};
 ghost use Rattle.mob_outside.specs.Faults.{HasCause};
-ghost use Rattle.mob_ending.specs.Lines.{fault_line, formula_name, further_row, note_line, overflow_line, passes_text, read_line, record_text, refusal_line, rows_text, statement_text, table_line};
+ghost use Rattle.mob_ending.specs.Lines.{fault_line, note_line, overflow_line, passes_text, read_line, refusal_line, statement_text, table_line};
 ghost use Rattle.mob_outside.specs.Streams.{Puts, PutsPart};
 
 use crate::Ending;
+use crate::pieces::{formula_name, put_record, put_rows};
 use itoa::Buffer;
 use mob_ast::{Kind, Refusal};
 use mob_list::text::Text;
@@ -36,27 +36,6 @@ fn put_refusal<E: Sink>(notes: &mut E, refusal: Refusal) -> Result<(), Failed>
     put_pieces(notes, &pieces)
 }
 
-// Where in a table file a refusal is, and why.
-fn put_record<E: Sink>(notes: &mut E, kind: Kind, rec: u32, field: u32) -> Result<(), Failed>
-    ensures puts { Puts (record_text kind rec field) (E.held notes.old) (E.held notes.new) (E.faults notes.old) (E.faults notes.new) }
-{
-    let mut record = Buffer::new();
-    let mut column = Buffer::new();
-    let mut number = Buffer::new();
-    let pieces = [
-        b": record ".as_slice(),
-        record.format(rec).as_bytes(),
-        b", field ".as_slice(),
-        column.format(field).as_bytes(),
-        b": refusal ".as_slice(),
-        number.format(kind.number()).as_bytes(),
-        b" (".as_slice(),
-        kind.name().as_bytes(),
-        b")\n".as_slice(),
-    ];
-    put_pieces(notes, &pieces)
-}
-
 // The line of a refusal of a table file.
 fn put_table_refusal<E: Sink>(
     notes: &mut E,
@@ -69,60 +48,6 @@ fn put_table_refusal<E: Sink>(
 {
     put_all(notes, file.as_bytes())?;
     put_record(notes, kind, rec, field)
-}
-
-// The number of a row, from 1, behind a blank.
-fn put_further_row<E: Sink>(notes: &mut E, row: u32) -> Result<(), Failed>
-    ensures whole { OnOk result (Appends (E.held notes.old) (E.held notes.new) (further_row row)) }
-    ensures part { OnErr result (PutsPart (further_row row) (E.held notes.old) (E.held notes.new)) }
-    ensures cause { HasCause (E.faults notes.old) (E.faults notes.new) result }
-{
-    let mut number = Buffer::new();
-    let pieces = [
-        b" ".as_slice(),
-        number.format(u64::from(row) + 1).as_bytes(),
-    ];
-    put_pieces(notes, &pieces)
-}
-
-// The numbers of these rows, from 1, each behind a blank.
-fn put_further_rows<E: Sink>(notes: &mut E, rows: &[u32]) -> Result<(), Failed>
-    ensures whole { OnOk result (Appends (E.held notes.old) (E.held notes.new) (concat (map further_row rows.now))) }
-    ensures part { OnErr result (PutsPart (concat (map further_row rows.now)) (E.held notes.old) (E.held notes.new)) }
-    ensures cause { HasCause (E.faults notes.old) (E.faults notes.new) result }
-{
-    for row in rows {
-        put_further_row(notes, *row)?;
-    }
-    Ok(())
-}
-
-// The numbers of rows, from 1, with blanks between; a hyphen for none.
-fn put_rows<E: Sink>(notes: &mut E, rows: &[u32]) -> Result<(), Failed>
-    ensures whole { OnOk result (Appends (E.held notes.old) (E.held notes.new) (rows_text rows.now)) }
-    ensures part { OnErr result (PutsPart (rows_text rows.now) (E.held notes.old) (E.held notes.new)) }
-    ensures cause { HasCause (E.faults notes.old) (E.faults notes.new) result }
-{
-    let Some((row, further)) = rows.split_first() else {
-        return put_all(notes, b"-");
-    };
-    let mut number = Buffer::new();
-    put_all(notes, number.format(u64::from(*row) + 1).as_bytes())?;
-    put_further_rows(notes, further)
-}
-
-fn formula_name(formula: Formula) -> &'static str
-    ensures name { result.now ≡ formula_name formula }
-{
-    match formula {
-        Formula::F1 => "F1",
-        Formula::F2 => "F2",
-        Formula::F3 => "F3",
-        Formula::F4 => "F4",
-        Formula::F5 => "F5",
-        Formula::F6 => "F6",
-        Formula::F7 => "F7",
-    }
 }
 
 // The number of a statement, before its rows.

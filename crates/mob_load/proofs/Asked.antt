@@ -6,13 +6,11 @@ use Rattle.std.proofs.lemmas.Grind.{flat_map-append}
 use Rattle.std.proofs.lemmas.List.{append-nil, append_assoc, take-append-le, take_all, take_more, drop_more, map-append}
 use Rattle.mob_typed.specs.declared.typed.ConstText.{ConstText}
 use Rattle.mob_typed.specs.Statements.{ScriptOut, StatementOut, nothing, new_table, new_index, new_rows, rows_from, query, plan_of}
-use Rattle.mob_load.specs.Checks.{CheckParts, check_seen, literal, table, room, file, Checkpoint, bracket, checkpoints_of, checkpoints_from, stands_before, checks_up_to, in_order, checks_of}
+use Rattle.mob_load.specs.Checks.{CheckParts, check_seen, literal, Checkpoint, bracket, checkpoints_of, checkpoints_from, stands_before, checks_up_to, in_order, checks_of}
 use Rattle.mob_load.specs.declared.check.Check.{Check}
 use Rattle.mob_load.specs.Fronts.{AreFilesFor, AsksForAll, AsksForSome, IsAskedLast}
-use Rattle.mob_outside.specs.Told.{Contents, KeepsFiles}
-use Rattle.mob_load.specs.Loads.{names_of, names_in, copied_file, copied_files, IsFaultAt, IsFaultAtLast, IsFile}
-use Rattle.mob_load.specs.declared.program.LoadEnd.{LoadEnd}
-use Rattle.mob_load.specs.declared.program.LoadEnd.TheVariants.{Refused, TableRefused, ReadFault, NoMemory}
+use Rattle.mob_outside.specs.Told.{AsksFor, Contents, KeepsFiles}
+use Rattle.mob_load.specs.Loads.{names_of, names_in, copied_file, copied_files}
 
 -- the names at checkpoints
 abbrev names_at : List Checkpoint → List (List ℕ)
@@ -79,49 +77,49 @@ next_of : (first rest : List (List ℕ)) (name : List ℕ) → slice_get (first 
 next_of [] rest name = refl
 next_of (x ∷ first) rest name = next_of first rest name
 
--- the names behind the first of these were not asked for, but perhaps the next one
-module _ (ns first rest : List (List ℕ)) (a b d : Option (List (List ℕ))) (so_far : AsksForAll first a b) where
-  module _ (name : List ℕ) (is : ns ≡ first ++ (name ∷ rest)) where
-    front : (k : ℕ) → k ≤ 1 → AsksForAll (take k (name ∷ [])) b d → AsksForAll (take (length first + k) ns) a d
-    front k le next =
-        let same : take (length first + k) ns ≡ first ++ take k (name ∷ []) = ap (take (length first + k)) is ∙ take_front first (name ∷ []) rest k le in
-        subst (λ (ms : List (List ℕ)). AsksForAll ms a d) (sym same) (asks_both first (take k (name ∷ [])) a b d so_far next)
+-- told names that grew by the first of these names, and then perhaps by the next one
+module _ (first rest : List (List ℕ)) (name : List ℕ) (a b d : Option (List (List ℕ))) (so_far : AsksForAll first a b) where
+  last_of : (k : ℕ) → k ≤ 1 → AsksForAll (take k (name ∷ [])) b d → IsAskedLast (first ++ name ∷ rest) (length first) (length first + k) a d name
+  last_of k le next = record {
+    there = next_of first rest name;
+    asked = subst (λ (ns : List (List ℕ)). AsksForAll ns a d) (sym (take_front first (name ∷ []) rest k le)) (asks_both first (take k (name ∷ [])) a b d so_far next);
+  }
 
-    none_or_one : (k : ℕ) → k ≤ 1 → AsksForAll (take k (name ∷ [])) b d → AsksForAll (take (length first) ns) a d ⊎ AsksForAll (take (length first + 1) ns) a d
-    none_or_one zero le next = inl (subst (λ (n : ℕ). AsksForAll (take n ns) a d) (omega arith) (front zero le next))
-    none_or_one (suc zero) le next = inr (front 1 le next)
-    none_or_one (suc (suc k)) le next = absurd (omega arith)
+  pub asked_last : AsksForAll (name ∷ []) b d → IsAskedLast (first ++ name ∷ rest) (length first) (length first + 1) a d name
+  asked_last next = last_of 1 (omega arith) next
 
-    asked_last : AsksForSome (name ∷ []) b d → IsAskedLast ns a d name
-    asked_last some = record { before = length first; there = ap (λ xs. slice_get xs (length first)) is ∙ next_of first rest name; asked = none_or_one some.0 some.1 some.2 }
+  none_or_one : (k : ℕ) → k ≤ 1 → AsksForAll (take k (name ∷ [])) b d
+      → IsAskedLast (first ++ name ∷ rest) (length first) (length first) a d name ⊎ IsAskedLast (first ++ name ∷ rest) (length first) (length first + 1) a d name
+  none_or_one zero le next = inl (subst (λ (n : ℕ). IsAskedLast (first ++ name ∷ rest) (length first) n a d name) (omega arith) (last_of zero le next))
+  none_or_one (suc zero) le next = inr (last_of 1 le next)
+  none_or_one (suc (suc k)) le next = absurd (omega arith)
 
-  file_last : (c : CheckParts) (name : List ℕ) → ns ≡ first ++ (names_of c ++ rest) → IsFile c name → AsksForSome (names_of c) b d → IsAskedLast ns a d name
-  file_last (file t own) name is at some = subst (λ n. IsAskedLast ns a d n) at (asked_last own is some)
-  file_last (literal c) name is at some = absurd at
-  file_last (table columns) name is at some = absurd at
-  file_last (room t n p) name is at some = absurd at
+  pub opened_last : AsksForSome (name ∷ []) b d → IsAskedLast (first ++ name ∷ rest) (length first) (length first) a d name ⊎ IsAskedLast (first ++ name ∷ rest) (length first) (length first + 1) a d name
+  opened_last some = none_or_one some.0 some.1 some.2
 
-  check_last : (c : CheckParts) (e : LoadEnd) → ns ≡ first ++ (names_of c ++ rest) → IsFaultAt c e → AsksForSome (names_of c) b d → IsFaultAtLast ns a d e
-  check_last c (ReadFault name) is at some = file_last c name is at some
-  check_last c (Refused e) is at some = tt
-  check_last c (TableRefused name k rec field) is at some = file_last c name is at some
-  check_last c NoMemory is at some = tt
+-- the names of the checks up to one of them, and those behind
+pub names_around : (first : List CheckParts) (c : CheckParts) (others : List CheckParts) → names_in (first ++ c ∷ others) ≡ names_in first ++ (names_of c ++ names_in others)
+names_around first c others = flat_map-append names_of first (c ∷ others)
 
 -- the checks of a list, one after the other: the i-th is c
 module _ (all : List Check) (i : ℕ) (c : Check) (lt : i < length all) (is : c ≡ get_or all i c) where
   abbrev first : List (List ℕ)
   first = names_in (map check_seen (take i all))
 
+  -- the checks up to it, and all of them
+  pub front_more : map check_seen (take (i + 1) all) ≡ map check_seen (take i all) ++ check_seen c ∷ []
+  front_more = ap (map check_seen) (take_more all i c lt ∙ ap (λ x. take i all ++ x ∷ []) (sym is)) ∙ map-append check_seen (take i all) (c ∷ [])
+
+  pub around : map check_seen all ≡ map check_seen (take i all) ++ check_seen c ∷ map check_seen (drop (i + 1) all)
+  around =
+      ap (map check_seen) (sym (take-append-drop i all) ∙ ap (λ ys. take i all ++ ys) (drop_more all i c lt ∙ ap (λ x. x ∷ drop (i + 1) all) (sym is)))
+      ∙ map-append check_seen (take i all) (c ∷ drop (i + 1) all)
+
   first_more : names_in (map check_seen (take (i + 1) all)) ≡ first ++ names_of (check_seen c)
-  first_more =
-      ap (λ xs. names_in (map check_seen xs)) (take_more all i c lt ∙ ap (λ x. take i all ++ x ∷ []) (sym is))
-      ∙ ap names_in (map-append check_seen (take i all) (c ∷ [])) ∙ flat_map-append names_of (map check_seen (take i all)) (check_seen c ∷ [])
-      ∙ ap (λ ns. first ++ ns) (append-nil (names_of (check_seen c)))
+  first_more = ap names_in front_more ∙ names_around (map check_seen (take i all)) (check_seen c) [] ∙ ap (λ ns. first ++ ns) (append-nil (names_of (check_seen c)))
 
   parts : names_in (map check_seen all) ≡ first ++ (names_of (check_seen c) ++ names_in (map check_seen (drop (i + 1) all)))
-  parts =
-      ap (λ xs. names_in (map check_seen xs)) (sym (take-append-drop i all) ∙ ap (λ ys. take i all ++ ys) (drop_more all i c lt ∙ ap (λ x. x ∷ drop (i + 1) all) (sym is)))
-      ∙ ap names_in (map-append check_seen (take i all) (c ∷ drop (i + 1) all)) ∙ flat_map-append names_of (map check_seen (take i all)) (map check_seen (c ∷ drop (i + 1) all))
+  parts = ap names_in around ∙ names_around (map check_seen (take i all)) (check_seen c) (map check_seen (drop (i + 1) all))
 
   -- the files of the whole script are those of the check
   pub files_here : (told now : Option Contents) (files : Contents) → KeepsFiles told now → AreFilesFor (names_in (map check_seen all)) told files → AreFilesFor (names_of (check_seen c)) now files
@@ -139,14 +137,15 @@ module _ (all : List Check) (i : ℕ) (c : Check) (lt : i < length all) (is : c 
       ap (take (length first + k)) parts ∙ take_front first (names_of (check_seen c)) (names_in (map check_seen (drop (i + 1) all))) k next.1 in
       (length first + k, few, subst (λ (ns : List (List ℕ)). AsksForAll ns a d) (sym front) (asks_both first (take k (names_of (check_seen c))) a b d so_far next.2))
 
-  pub fault_last : (a b d : Option (List (List ℕ))) → AsksForAll first a b → (e : LoadEnd) → IsFaultAt (check_seen c) e → AsksForSome (names_of (check_seen c)) b d → IsFaultAtLast (names_in (map check_seen all)) a d e
-  fault_last a b d so_far e at some = check_last (names_in (map check_seen all)) first (names_in (map check_seen (drop (i + 1) all))) a b d so_far (check_seen c) e parts at some
-
 pub asked_all : (all : List Check) (i : ℕ) (a b : Option (List (List ℕ))) → length all ≤ i → AsksForAll (names_in (map check_seen (take i all))) a b → AsksForAll (names_in (map check_seen all)) a b
 asked_all all i a b le asks = subst (λ (xs : List Check). AsksForAll (names_in (map check_seen xs)) a b) (take_all i all le) asks
 
 pub all_some : (ns : List (List ℕ)) (a b : Option (List (List ℕ))) → AsksForAll ns a b → AsksForSome ns a b
 all_some ns a b asks = (length ns, omega arith, subst (λ (ms : List (List ℕ)). AsksForAll ms a b) (sym (take_all (length ns) ns (omega arith))) asks)
+
+pub asks_one : (name : List ℕ) (a b : Option (List (List ℕ))) → AsksFor name a b → AsksForAll (name ∷ []) a b
+asks_one name None b asks = tt
+asks_one name (Some old) b asks = asks
 
 pub none_asked : (a : Option (List (List ℕ))) → AsksForAll [] a a
 none_asked None = tt
@@ -160,6 +159,3 @@ script_asks_some cs out a b same asks = subst (λ (ns : List (List ℕ)). AsksFo
 
 pub script_files : (cs : List CheckParts) (out : ScriptOut) (told : Option Contents) (files : Contents) → cs ≡ checks_of out → AreFilesFor (copied_files out.statements) told files → AreFilesFor (names_in cs) told files
 script_files cs out told files same are = subst (λ (ns : List (List ℕ)). AreFilesFor ns told files) (sym (ap names_in same ∙ checks_ask out)) are
-
-pub script_last : (cs : List CheckParts) (out : ScriptOut) (a b : Option (List (List ℕ))) (e : LoadEnd) → cs ≡ checks_of out → IsFaultAtLast (names_in cs) a b e → IsFaultAtLast (copied_files out.statements) a b e
-script_last cs out a b e same missing = subst (λ (ns : List (List ℕ)). IsFaultAtLast ns a b e) (ap names_in same ∙ checks_ask out) missing

@@ -7,6 +7,7 @@ pub mod Fronts
 pub mod Narrow
 pub mod Reading
 pub mod Steps
+mod Stopping
 pub mod Values
 pub mod OneLoading
 pub mod Checkpoints

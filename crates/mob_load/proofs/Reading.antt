@@ -5,14 +5,30 @@ use Rattle.std.proofs.lemmas.Slice.Eq.{bytes_eq-Decides}
 use Rattle.mob_outside.specs.Told.{Contents, file_of}
 use Rattle.mob_typed.specs.Statements.{ScriptOut}
 use Rattle.mob_load.specs.Checks.{CheckParts, file, checks_of}
-use Rattle.mob_load.specs.Loads.{Loaded, Halt, Loads, LoadsCheck, LoadsFile, LoadsTo, LoadedIsRead, ContinuesBy, ReadsCheck, ReadsChecks, ReadsScript, nothing_loaded}
+use Rattle.mob_load.specs.Loads.{Loaded, Halt, Loads, LoadsCheck, LoadsFile, LoadsTo, LoadedIsRead, ContinuesBy, OnRead, ReadsCheck, ReadsChecks, ReadsScript, nothing_loaded}
 use Rattle.mob_load.specs.declared.program.LoadEnd.{LoadEnd}
+use Rattle.mob_load.specs.declared.program.LoadEnd.TheVariants.{Refused, TableRefused, ReadFault, NoMemory}
 use Rattle.mob_load.specs.declared.program.Program.{Program}
 
 -- what an answer says, where it is good
 pub on_loads : {A : Type 0} (P : Result Loaded Halt → Type 0) (r : Result A LoadEnd) (after : Loaded) → LoadsTo r after P → OnOk r (P (Ok after))
 on_loads P (Ok x) after h = h
 on_loads P (Err e) after h = tt
+
+-- what holds where a file was read, whatever came of it
+pub on_read : {A P : Type 0} (r : Result A LoadEnd) → P → OnRead r P
+on_read (Ok x) p = p
+on_read (Err (Refused e)) p = tt
+on_read (Err (TableRefused name k rec field)) p = p
+on_read (Err (ReadFault name)) p = tt
+on_read (Err NoMemory) p = tt
+
+pub read_on : {A P Q : Type 0} (r : Result A LoadEnd) → (P → Q) → OnRead r P → OnRead r Q
+read_on (Ok x) f p = f p
+read_on (Err (Refused e)) f p = tt
+read_on (Err (TableRefused name k rec field)) f p = f p
+read_on (Err (ReadFault name)) f p = tt
+read_on (Err NoMemory) f p = tt
 
 -- What is left of the checks reads on what was read.
 pub record ReadsOn (day : ℤ) (all rest : List CheckParts) (l : Loaded) : Type 0 where

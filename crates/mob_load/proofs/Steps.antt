@@ -1,5 +1,5 @@
 -- One check after the other.
-use Rattle.std.proofs.Common.{◌≡◌, ◌∙◌, inl, inr, refl, sym, ap, subst, arith, ℕ, ℤ, ◌-◌, ◌+◌, ◌≤◌, rules, List, [], ◌∷◌, take, Option, Some, None, Result, Ok, Err}
+use Rattle.std.proofs.Common.{◌≡◌, ◌∙◌, inl, inr, refl, sym, ap, subst, arith, ℕ, ℤ, ◌-◌, ◌+◌, ◌≤◌, rules, List, [], ◌∷◌, ◌++◌, take, Option, Some, None, Result, Ok, Err}
 use Rattle.std.specs.Prelude.{IfSome}
 use Rattle.std.proofs.lemmas.List.{append-nil}
 use Rattle.mob_ast.specs.declared.refusal.Kind.{Kind}
@@ -8,12 +8,12 @@ use Rattle.mob_outside.specs.Told.{Contents, file_of, KeepsFiles, MayAskFor}
 use Rattle.mob_typed.specs.Statements.{ColumnList}
 use Rattle.mob_typed.specs.Statements.{ScriptOut}
 use Rattle.mob_load.specs.declared.program.Program.{Program}
-use Rattle.mob_load.specs.Checks.{CheckParts, checks_of}
-use Rattle.mob_load.specs.Fronts.{AsksForSome, IsFront, OnFiles}
+use Rattle.mob_load.specs.Checks.{CheckParts, file, checks_of}
+use Rattle.mob_load.specs.Fronts.{AreFilesFor, AsksForSome, IsFront, OnFiles}
 use Rattle.mob_catalog.specs.Faults.{file_fault}
 use Rattle.mob_catalog.specs.TableFile.{file_limit, FileFails}
 use Rattle.mob_load.proofs.Fronts.{table_front, fails_front}
-use Rattle.mob_load.specs.Loads.{LoadsTo, Halt, HasFaultCause, IsOutcome, refused, table_refused, IsFaultAt, Loaded, Loads, LoadsScript, LoadsCheck, LoadsFile, Reaches, ChecksStopBy, loaded_columns, greatest_rows, loaded_row_count, nothing_loaded}
+use Rattle.mob_load.specs.Loads.{LoadsTo, Halt, HasFaultCause, IsOutcome, refused, table_refused, Loaded, Loads, LoadsScript, LoadsCheck, LoadsFile, RefusesFile, ChecksStopBy, ContinuesBy, copied_files, loaded_columns, greatest_rows, loaded_row_count, nothing_loaded}
 use Rattle.mob_load.specs.declared.program.LoadEnd.{LoadEnd}
 use Rattle.mob_load.specs.declared.program.LoadEnd.TheVariants.{Refused, TableRefused, ReadFault, NoMemory}
 
@@ -62,39 +62,29 @@ may_ask_some name None new may = (0, omega arith, tt)
 may_ask_some name (Some old) new (inl kept) = (0, omega arith, kept ∙ ap (λ (ns : List (List ℕ)). Some ns) (sym (append-nil old)))
 may_ask_some name (Some old) new (inr asks) = (1, omega arith, asks)
 
--- What is left of the checks says what they all say.
-pub record IsLeft (day : ℤ) (files : Contents) (all rest : List CheckParts) (l : Loaded) : Type 0 where
-  pub loads : (r : Result Loaded Halt) → Loads day files rest l r → Loads day files all nothing_loaded r
-  pub reaches : (name : List ℕ) → Reaches day files rest l name → Reaches day files all nothing_loaded name
+module _ (day : ℤ) (files : Contents) where
+  goes_behind : (cs rest : List CheckParts) (m : Loaded) (r : Result Loaded Halt) → ((k : Loaded) → Loads day files cs k (Ok m) → Loads day files (cs ++ rest) k r)
+      → (s : Result Loaded Halt) → ContinuesBy (Loads day files cs) s (Ok m) → ContinuesBy (Loads day files (cs ++ rest)) s r
+  goes_behind cs rest m r on (Ok k) passes = on k passes
+  goes_behind cs rest m r on (Err h) passes = absurd (cc)
 
-module _ (day : ℤ) (files : Contents) (all : List CheckParts) where
-  pub all_left : (rest : List CheckParts) (l : Loaded) → rest ≡ all → l ≡ nothing_loaded → IsLeft day files all rest l
-  all_left rest l is nothing =
-      let start : IsLeft day files all all nothing_loaded = record { loads = λ r h. h; reaches = λ name h. h } in
-      subst (λ (cs : List CheckParts). IsLeft day files all cs l) (sym is) (subst (λ (x : Loaded). IsLeft day files all all x) (sym nothing) start)
+  -- checks behind some that all pass
+  pub loads_behind : (first rest : List CheckParts) (l m : Loaded) (r : Result Loaded Halt) → Loads day files first l (Ok m) → Loads day files rest m r → Loads day files (first ++ rest) l r
+  loads_behind [] rest l m r is loads = let same : m ≡ l = cc in subst (λ (x : Loaded). Loads day files rest x r) same loads
+  loads_behind (c ∷ cs) rest l m r passes loads = (passes.0, passes.1, goes_behind cs rest m r (λ k passed. loads_behind cs rest k m r passed loads) passes.0 passes.2)
 
-  pub none_left : (rest : List CheckParts) (l : Loaded) → rest ≡ [] → IsLeft day files all rest l → Loads day files all nothing_loaded (Ok l)
-  none_left rest l is left =
-      let last : IsLeft day files all [] l = subst (λ (cs : List CheckParts). IsLeft day files all cs l) is left in
-      last.loads (Ok l) refl
+  -- one check more that passes, of the checks that come first
+  pub passes_more : (first more : List CheckParts) (c : CheckParts) (l m : Loaded) → more ≡ first ++ c ∷ [] → Loads day files first nothing_loaded (Ok l) → LoadsCheck day files c l (Ok m) → Loads day files more nothing_loaded (Ok m)
+  passes_more first more c l m is passed passes =
+      subst (λ (cs : List CheckParts). Loads day files cs nothing_loaded (Ok m)) (sym is) (loads_behind first (c ∷ []) nothing_loaded l (Ok m) passed (Ok m, passes, refl))
 
-  module _ (rest others : List CheckParts) (c : CheckParts) (is : rest ≡ c ∷ others) (l m : Loaded) (before : IsLeft day files all rest l) where
-    left : IsLeft day files all (c ∷ others) l
-    left = subst (λ (cs : List CheckParts). IsLeft day files all cs l) is before
-
-    -- a check that passes
-    pub check_loads : LoadsCheck day files c l (Ok m) → IsLeft day files all others m
-    check_loads passes = record {
-      loads = λ r h. left.loads r (Ok m, passes, h);
-      reaches = λ name h. left.reaches name (inr (m, passes, h));
-    }
-
-    -- a check that fails decides
-    pub check_stops : (e : LoadEnd) → LoadsTo {A = Unit {0}} (Err e) m (LoadsCheck day files c l) → IsFaultAt c e → ChecksStopBy day files all e
-    check_stops (Refused e) fails at = left.loads (Err (refused e)) (Err (refused e), fails, refl)
-    check_stops (TableRefused name k rec field) fails at = left.loads (Err (table_refused name k rec field)) (Err (table_refused name k rec field), fails, refl)
-    check_stops (ReadFault name) fails at = left.reaches name (inl at)
-    check_stops NoMemory fails at = tt
+  -- a file that is refused decides
+  pub refused_loads : (checks : List CheckParts) (number : ℕ) (name : List ℕ) (kind : Kind) (rec field : ℕ) → RefusesFile day files checks number name kind rec field
+      → Loads day files checks nothing_loaded (Err (table_refused name kind rec field))
+  refused_loads checks number name kind rec field h =
+      let at = h.reached in
+      subst (λ (cs : List CheckParts). Loads day files cs nothing_loaded (Err (table_refused name kind rec field))) (sym at.parts)
+      (loads_behind at.first (file at.target name ∷ at.last) nothing_loaded at.read (Err (table_refused name kind rec field)) at.passed (Err (table_refused name kind rec field), h.refused, refl))
 
 pub keeps_same : (told : Option Contents) → KeepsFiles told told
 keeps_same None = tt
@@ -115,13 +105,10 @@ pub program_loaded : (day : ℤ) (files : Contents) (cs : List CheckParts) (out 
     → Loads day files cs nothing_loaded (Ok l) → LoadsScript day files out (Ok p)
 program_loaded day files cs out l p same is loads = (l, subst (λ (x : List CheckParts). Loads day files x nothing_loaded (Ok l)) same loads, is)
 
-pub script_stops : (day : ℤ) (files : Contents) (cs : List CheckParts) (out : ScriptOut) (e : LoadEnd) → cs ≡ checks_of out → ChecksStopBy day files cs e → ChecksStopBy day files (checks_of out) e
-script_stops day files cs out e same stops = subst (λ (x : List CheckParts). ChecksStopBy day files x e) same stops
-
 -- where no count rose, the answer is what loading gives
-pub stopped_outcome : (day : ℤ) (files : Contents) (out : ScriptOut) (e : LoadEnd) (before now : ℕ) → (Rose before now → ⊥) → HasFaultCause before now e
-    → ChecksStopBy day files (checks_of out) e → IsOutcome day files out (Err e)
-stopped_outcome day files out (Refused e) before now steady cause stops = stops
-stopped_outcome day files out (TableRefused name k rec field) before now steady cause stops = stops
-stopped_outcome day files out (ReadFault name) before now steady cause stops = absurd (steady cause)
-stopped_outcome day files out NoMemory before now steady cause stops = tt
+pub stopped_outcome : (day : ℤ) (out : ScriptOut) (told : Option Contents) (old new : Option (List (List ℕ))) (files : Contents) → AreFilesFor (copied_files out.statements) told files → (e : LoadEnd) (before now : ℕ)
+    → (Rose before now → ⊥) → HasFaultCause before now e → ChecksStopBy day (checks_of out) (copied_files out.statements) told old new e → IsOutcome day files out (Err e)
+stopped_outcome day out told old new files are (Refused e) before now steady cause stops = stops files are
+stopped_outcome day out told old new files are (TableRefused name k rec field) before now steady cause stops = refused_loads day files (checks_of out) stops.number name k rec field (stops.refused files are)
+stopped_outcome day out told old new files are (ReadFault name) before now steady cause stops = absurd (steady cause)
+stopped_outcome day out told old new files are NoMemory before now steady cause stops = tt

@@ -29,9 +29,7 @@ AsksForAll names (Some old) new = new ≡ Some (old ++ names)
 abbrev pub AsksForSome : List (List ℕ) → Option (List (List ℕ)) → Option (List (List ℕ)) → Type 0
 AsksForSome names old new = (k : ℕ) × (k ≤ length names) × AsksForAll (take k names) old new
 
--- This is one of the names, and told names grow by those before it and by it; or, where it could not be opened, perhaps by
--- those before it alone.
-pub record IsAskedLast (names : List (List ℕ)) (old new : Option (List (List ℕ))) (name : List ℕ) : Type 0 where
-  pub before : ℕ
-  pub there : slice_get names before ≡ Some name
-  pub asked : AsksForAll (take before names) old new ⊎ AsksForAll (take (before + 1) names) old new
+-- This is the name of this number, counted from 0, and told names grow by the first `count` of the names.
+pub record IsAskedLast (names : List (List ℕ)) (number count : ℕ) (old new : Option (List (List ℕ))) (name : List ℕ) : Type 0 where
+  pub there : slice_get names number ≡ Some name
+  pub asked : AsksForAll (take count names) old new

@@ -16,7 +16,7 @@ use Rattle.mob_typed.specs.Statements.{ScriptOut, StatementOut, rows_from}
 use Rattle.mob_typing.specs.Statements.{typed_script}
 use Rattle.mob_ast.specs.Trees.{StatementParts}
 use Rattle.mob_load.specs.Checks.{CheckParts, literal, table, room, file, checks_of}
-use Rattle.mob_load.specs.Fronts.{IsAskedLast}
+use Rattle.mob_load.specs.Fronts.{IsAskedLast, OnFiles}
 use Rattle.mob_load.specs.declared.loading.Loading.{Loading}
 use Rattle.mob_load.specs.declared.program.Program.{Program}
 use Rattle.mob_load.specs.declared.program.LoadEnd.{LoadEnd}
@@ -111,14 +111,28 @@ abbrev pub Loads : ℤ → Contents → List CheckParts → Loaded → Result Lo
 Loads day files [] l r = r ≡ Ok l
 Loads day files (c ∷ cs) l r = (s : Result Loaded Halt) × LoadsCheck day files c l s × ContinuesBy (Loads day files cs) s r
 
--- the file of this name is next, behind checks that all pass
-abbrev pub IsFile : CheckParts → List ℕ → Type 0
-IsFile (file t name) asked = name ≡ asked
-IsFile _ asked = ⊥
+-- the names of the files that a check asks for
+abbrev pub names_of : CheckParts → List (List ℕ)
+names_of (file t name) = name ∷ []
+names_of _ = []
 
-abbrev pub Reaches : ℤ → Contents → List CheckParts → Loaded → List ℕ → Type 0
-Reaches day files [] l name = ⊥
-Reaches day files (c ∷ cs) l name = IsFile c name ⊎ ((m : Loaded) × LoadsCheck day files c l (Ok m) × Reaches day files cs m name)
+abbrev pub names_in : List CheckParts → List (List ℕ)
+names_in cs = flat_map names_of cs
+
+-- The file of this number, counted from 0, is reached: it has this name, the checks before its own all pass, and they ask for as many files.
+pub record Reaches (day : ℤ) (files : Contents) (checks : List CheckParts) (number : ℕ) (name : List ℕ) : Type 0 where
+  pub first : List CheckParts
+  pub target : ℕ
+  pub last : List CheckParts
+  pub parts : checks ≡ first ++ file target name ∷ last
+  pub counts : length (names_in first) ≡ number
+  pub read : Loaded
+  pub passed : Loads day files first nothing_loaded (Ok read)
+
+-- The file of this number is reached, and it has this refusal.
+pub record RefusesFile (day : ℤ) (files : Contents) (checks : List CheckParts) (number : ℕ) (name : List ℕ) (kind : Kind) (rec field : ℕ) : Type 0 where
+  pub reached : Reaches day files checks number name
+  pub refused : LoadsFile day reached.target name reached.read (file_of name files) (Err (table_refused name kind rec field))
 
 -- What a check adds to what was read, whatever the files are: what it loads of some files.
 abbrev pub ReadsCheck : ℤ → CheckParts → Loaded → Loaded → Type 0
@@ -146,11 +160,24 @@ abbrev pub IsRead : LoadEnd → Type 0
 IsRead (ReadFault name) = ⊥
 IsRead _ = Unit {0}
 
+-- what holds where a file was read: it was loaded, or it is refused
+abbrev pub OnRead : {A : Type 0} → Result A LoadEnd → Type 0 → Type 0
+OnRead (Ok x) P = P
+OnRead (Err (TableRefused name k rec field)) P = P
+OnRead (Err (Refused e)) P = Unit {0}
+OnRead (Err (ReadFault name)) P = Unit {0}
+OnRead (Err OutOfMemory) P = Unit {0}
+
 -- no file is refused, and each could be read
 abbrev pub IsNoFault : LoadEnd → Type 0
 IsNoFault (TableRefused name k rec field) = ⊥
 IsNoFault (ReadFault name) = ⊥
 IsNoFault _ = Unit {0}
+
+-- a check of the file of this name
+abbrev pub IsFile : CheckParts → List ℕ → Type 0
+IsFile (file t name) asked = name ≡ asked
+IsFile _ asked = ⊥
 
 -- the file that is refused or could not be read is that of this check
 abbrev pub IsFaultAt : CheckParts → LoadEnd → Type 0
@@ -163,26 +190,27 @@ abbrev pub HasFaultCause : ℕ → ℕ → LoadEnd → Type 0
 HasFaultCause before now (ReadFault name) = Rose before now
 HasFaultCause before now _ = Unit {0}
 
--- the file that is refused or could not be read is one of these names, the last that was asked for
-abbrev pub IsFaultAtLast : List (List ℕ) → Option (List (List ℕ)) → Option (List (List ℕ)) → LoadEnd → Type 0
-IsFaultAtLast names old new (TableRefused name k rec field) = IsAskedLast names old new name
-IsFaultAtLast names old new (ReadFault name) = IsAskedLast names old new name
-IsFaultAtLast names old new _ = Unit {0}
+-- A file of these names is refused, which was asked for last: of the file of one number, the checks before it pass, it has this refusal, and told
+-- names grow by those before it and by it.
+pub record StopsAtRefused (day : ℤ) (checks : List CheckParts) (names : List (List ℕ)) (told : Option Contents) (old new : Option (List (List ℕ))) (name : List ℕ) (kind : Kind) (rec field : ℕ) : Type 0 where
+  pub number : ℕ
+  pub last : IsAskedLast names number (number + 1) old new name
+  pub refused : OnFiles names told (λ m. RefusesFile day m checks number name kind rec field)
 
--- the names that a check asks for
-abbrev pub names_of : CheckParts → List (List ℕ)
-names_of (file t name) = name ∷ []
-names_of _ = []
+-- A file of these names could not be read: of the file of one number, the checks before it pass, and told names grow by those before it, and by it
+-- where it could be opened.
+pub record StopsAtUnread (day : ℤ) (checks : List CheckParts) (names : List (List ℕ)) (told : Option Contents) (old new : Option (List (List ℕ))) (name : List ℕ) : Type 0 where
+  pub number : ℕ
+  pub last : IsAskedLast names number number old new name ⊎ IsAskedLast names number (number + 1) old new name
+  pub reached : OnFiles names told (λ m. Reaches day m checks number name)
 
-abbrev pub names_in : List CheckParts → List (List ℕ)
-names_in cs = flat_map names_of cs
-
--- why the checks ended: at the first that fails; or by a fault at a file, before which all pass; want of memory is free
-abbrev pub ChecksStopBy : ℤ → Contents → List CheckParts → LoadEnd → Type 0
-ChecksStopBy day files cs (Refused e) = Loads day files cs nothing_loaded (Err (refused e))
-ChecksStopBy day files cs (TableRefused name k rec field) = Loads day files cs nothing_loaded (Err (table_refused name k rec field))
-ChecksStopBy day files cs (ReadFault name) = Reaches day files cs nothing_loaded name
-ChecksStopBy day files cs OutOfMemory = Unit {0}
+-- Why the checks stop, which ask for these names: at the first that is refused, or at a file that could not be read, before which all pass. Want of
+-- memory is free.
+abbrev pub ChecksStopBy : ℤ → List CheckParts → List (List ℕ) → Option Contents → Option (List (List ℕ)) → Option (List (List ℕ)) → LoadEnd → Type 0
+ChecksStopBy day checks names told old new (Refused e) = OnFiles names told (λ m. Loads day m checks nothing_loaded (Err (refused e)))
+ChecksStopBy day checks names told old new (TableRefused name k rec field) = StopsAtRefused day checks names told old new name k rec field
+ChecksStopBy day checks names told old new (ReadFault name) = StopsAtUnread day checks names told old new name
+ChecksStopBy day checks names told old new OutOfMemory = Unit {0}
 
 -- What a script reads before it runs: the values of its literals and the rows of its files, each in written order; or why it
 -- is refused first, in the script or in a file, or the first file that is not there.

@@ -5,7 +5,7 @@ ghost use Rattle.mob_catalog.specs.Faults.{OnRefused};
 ghost use Rattle.mob_catalog.specs.TableFile.{FileFails, IsTable};
 ghost use Rattle.mob_load.specs.Checks.{check_seen, file};
 ghost use Rattle.mob_load.specs.Fronts.{AsksForAll, AsksForSome, OnFiles};
-ghost use Rattle.mob_load.specs.Loads.{LoadsTo, HasFaultCause, HasNarrow, IsFaultAt, IsNarrow, IsNoFault, IsRead, LoadsCheck, LoadsFile, LoadsLiteral, ReadsCheck, columns_or_none, loaded_of, names_of, one_row, loaded_row_count, with_file, with_made_table};
+ghost use Rattle.mob_load.specs.Loads.{LoadsTo, HasFaultCause, HasNarrow, IsFaultAt, IsNarrow, IsNoFault, IsRead, LoadsCheck, LoadsFile, LoadsLiteral, OnRead, ReadsCheck, columns_or_none, loaded_of, names_of, one_row, loaded_row_count, with_file, with_made_table};
 ghost use Rattle.mob_load.specs.declared.program.LoadEnd.TheVariants.{NoMemory, Refused};
 
 use crate::check::Check;
@@ -199,7 +199,7 @@ fn load_file<F: Files>(
     ensures tables { OnOk result ((loaded_of loading.new).tables ≡ (loaded_of loading.old).tables) }
     ensures cause { IfErr result (HasFaultCause (F.faults files.old) (F.faults files.new)) }
     ensures files { KeepsFiles (F.files files.old) (F.files files.new) }
-    ensures asked { OnOk result (AsksFor name.now (F.asked files.old) (F.asked files.new)) }
+    ensures asked { OnRead result (AsksFor name.now (F.asked files.old) (F.asked files.new)) }
     ensures may_ask { MayAskFor name.now (F.asked files.old) (F.asked files.new) }
     ensures later { F.faults files.old ≤ F.faults files.new }
 {
@@ -228,7 +228,7 @@ pub fn run_check<'a, F: Files>(
     ensures narrow { OnOk result (HasNarrow (loaded_of loading.new).tables) }
     ensures cause { IfErr result (HasFaultCause (F.faults files.old) (F.faults files.new)) }
     ensures files { KeepsFiles (F.files files.old) (F.files files.new) }
-    ensures asked { OnOk result (AsksForAll (names_of (check_seen check.entry)) (F.asked files.old) (F.asked files.new)) }
+    ensures asked { OnRead result (AsksForAll (names_of (check_seen check.entry)) (F.asked files.old) (F.asked files.new)) }
     ensures some { AsksForSome (names_of (check_seen check.entry)) (F.asked files.old) (F.asked files.new) }
     ensures later { F.faults files.old ≤ F.faults files.new }
 {

@@ -5,7 +5,7 @@ ghost use Rattle.mob_outside.specs.Told.{KeepsFiles};
 ghost use Rattle.mob_typed.specs.Statements.{script_seen};
 ghost use Rattle.mob_load.specs.Fronts.{AsksForAll, AsksForSome, OnFiles};
 ghost use Rattle.mob_load.specs.Checks.{check_seen, checks_of};
-ghost use Rattle.mob_load.specs.Loads.{AreNarrow, HasFaultCause, IsFaultAtLast, IsOutcome, IsTypedScript, Loads, LoadsScript, ReadsChecks, ReadsScript, ChecksStopBy, copied_files, loaded_of, names_in, nothing_loaded};
+ghost use Rattle.mob_load.specs.Loads.{AreNarrow, HasFaultCause, IsOutcome, IsTypedScript, Loads, LoadsScript, ReadsChecks, ReadsScript, ChecksStopBy, copied_files, loaded_of, names_in, nothing_loaded};
 
 use crate::check::Check;
 use crate::checking::run_check;
@@ -40,11 +40,10 @@ fn load_checks<'a, F: Files>(
     requires narrow { AreNarrow (map check_seen checks.now) }
     ensures loaded { IfOk result (λ l. OnFiles (names_in (map check_seen checks.now)) (F.files files.old) (λ m. Loads epoch.now m (map check_seen checks.now) nothing_loaded (Ok (loaded_of l)))) }
     ensures reads { IfOk result (λ l. ReadsChecks epoch.now (map check_seen checks.now) nothing_loaded (loaded_of l)) }
-    ensures stopped { IfErr result (λ e. OnFiles (names_in (map check_seen checks.now)) (F.files files.old) (λ m. ChecksStopBy epoch.now m (map check_seen checks.now) e)) }
+    ensures stopped { IfErr result (ChecksStopBy epoch.now (map check_seen checks.now) (names_in (map check_seen checks.now)) (F.files files.old) (F.asked files.old) (F.asked files.new)) }
     ensures cause { IfErr result (HasFaultCause (F.faults files.old) (F.faults files.new)) }
     ensures asked { OnOk result (AsksForAll (names_in (map check_seen checks.now)) (F.asked files.old) (F.asked files.new)) }
     ensures some { AsksForSome (names_in (map check_seen checks.now)) (F.asked files.old) (F.asked files.new) }
-    ensures last { IfErr result (IsFaultAtLast (names_in (map check_seen checks.now)) (F.asked files.old) (F.asked files.new)) }
     ensures files { KeepsFiles (F.files files.old) (F.files files.new) }
     ensures later { F.faults files.old ≤ F.faults files.new }
 {
@@ -78,12 +77,11 @@ pub fn load<F: Files>(
     requires typed { IsTypedScript (script_seen typed.now) }
     ensures loaded { IfOk result (λ p. OnFiles (copied_files (script_seen typed.now).statements) (F.files files.old) (λ m. LoadsScript epoch.now m (script_seen typed.now) (Ok p))) }
     ensures reads { IfOk result (λ p. ReadsScript epoch.now (script_seen typed.now) p) }
-    ensures stopped { IfErr result (λ e. OnFiles (copied_files (script_seen typed.now).statements) (F.files files.old) (λ m. ChecksStopBy epoch.now m (checks_of (script_seen typed.now)) e)) }
+    ensures stopped { IfErr result (ChecksStopBy epoch.now (checks_of (script_seen typed.now)) (copied_files (script_seen typed.now).statements) (F.files files.old) (F.asked files.old) (F.asked files.new)) }
     ensures cause { IfErr result (HasFaultCause (F.faults files.old) (F.faults files.new)) }
     ensures complete { (Rose (F.faults files.old) (F.faults files.new) → ⊥) → OnFiles (copied_files (script_seen typed.now).statements) (F.files files.old) (λ m. IsOutcome epoch.now m (script_seen typed.now) result) }
     ensures asked { OnOk result (AsksForAll (copied_files (script_seen typed.now).statements) (F.asked files.old) (F.asked files.new)) }
     ensures some { AsksForSome (copied_files (script_seen typed.now).statements) (F.asked files.old) (F.asked files.new) }
-    ensures last { IfErr result (IsFaultAtLast (copied_files (script_seen typed.now).statements) (F.asked files.old) (F.asked files.new)) }
     ensures files { KeepsFiles (F.files files.old) (F.files files.new) }
     ensures later { F.faults files.old ≤ F.faults files.new }
 {

@@ -4,7 +4,7 @@ use Rattle.std.specs.Prelude.{Option}
 use Rattle.std.specs.Io.KnownBytes.{Appends, Consumes}
 use Rattle.std.proofs.lemmas.List.{append-nil, append_assoc, length-append, length-drop, length-take, take_all}
 use Rattle.std.proofs.Math.Seq.{take-add}
-use Rattle.mob_outside.specs.Streams.{ReadsPart}
+use Rattle.mob_outside.specs.Streams.{ReadsPart, ReadsTo}
 
 pub puts_nothing : (o : Option (List ℕ)) → Appends o o []
 puts_nothing None = tt
@@ -25,6 +25,20 @@ takes_more None b c x y first next = tt
 takes_more (Some xs) None c x y first next = absurd first
 takes_more (Some xs) (Some ys) None x y first next = absurd next
 takes_more (Some xs) (Some ys) (Some zs) x y first next = first ∙ ap (λ (w : List ℕ). x ++ w) next ∙ sym (append_assoc x y zs)
+
+-- nothing is read
+pub reads_none : (limit : ℕ) (o : Option (List ℕ)) → ReadsPart limit o o
+reads_none limit o = record { bytes = []; taken = takes_nothing o; bound = omega arith }
+
+-- what was read is all that there was, where it is not longer than the limit
+pub read_whole : (limit : ℕ) (old : List ℕ) (new : Option (List ℕ)) (bytes : List ℕ) → ReadsTo limit (Some old) new bytes → length bytes ≤ limit → old ≡ bytes
+read_whole limit old None bytes reads short = absurd reads.taken
+read_whole limit old (Some left) bytes reads short = reads.taken ∙ ap (λ (w : List ℕ). bytes ++ w) (reads.whole short) ∙ append-nil bytes
+
+-- what was there is no shorter than what was read of it
+pub read_within : (limit : ℕ) (old : List ℕ) (new : Option (List ℕ)) (bytes : List ℕ) → ReadsTo limit (Some old) new bytes → length bytes ≤ length old
+read_within limit old None bytes reads = absurd reads.taken
+read_within limit old (Some left) bytes reads = let parts : length old ≡ length bytes + length left = ap length reads.taken ∙ length-append bytes left in omega arith
 
 -- a take that gave n bytes more
 pub reads_more : (limit : ℕ) (old now new : Option (List ℕ)) (text into : List ℕ) (n : ℕ) → Consumes old now text

@@ -1,3 +1,4 @@
+pub mod EndsSeen
 pub mod Faults
 pub mod Memory
 pub mod Streams

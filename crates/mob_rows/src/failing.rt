@@ -31,6 +31,10 @@ const ANSWER: &str = "c1\n5@2001-01-01 00:00:00+00\n(1 rows)\n";
 const COPY: &str =
     "CREATE TABLE t (k int); COPY t FROM 't.csv' WITH (FORMAT csv, HEADER); SELECT k FROM t WHERE k > 2;";
 
+// A file that is copied twice, and between the two a literal that has no value.
+const TWICE: &str =
+    "CREATE TABLE t (k int); CREATE TABLE u (k int); COPY t FROM 't.csv' WITH (FORMAT csv, HEADER); SELECT tint 'bad'; COPY u FROM 't.csv' WITH (FORMAT csv, HEADER);";
+
 const FILE: &[u8] = b"k\n1\n2\n3\n";
 
 static FAILED: [Failed; 7] = [
@@ -203,4 +207,45 @@ fn calls_that_fail(rt: HostRuntime) {
     for row in &FAILED {
         assert!(rt; are_right(&rt, rt.alloc(), row));
     }
+}
+
+// Whether a run in which this call of the files fails writes nothing, and ends with this status and note.
+fn ends_by(
+    rt: &(impl Threads + Sync),
+    alloc: Global,
+    script: &str,
+    call: u64,
+    status: u8,
+    note: &str,
+) -> bool {
+    let Ok(failing) = failing(alloc, End::File, call) else {
+        return false;
+    };
+    match &run_once(
+        rt,
+        alloc,
+        &[],
+        script.as_bytes(),
+        &[("t.csv", FILE)],
+        failing,
+    ) {
+        Ok(seen) => is_cut(seen, "", note, (status, 0, note.len())),
+        Err(_) => false,
+    }
+}
+
+// The first four calls read the file of the first COPY. The fifth would open that of the second, behind the literal.
+#[test]
+fn a_file_that_is_copied_twice_is_read_when_it_is_reached(rt: HostRuntime) {
+    assert!(rt; ends_by(&rt, rt.alloc(), TWICE, 4, 3, "read fault: t.csv\n"));
+    assert!(rt;
+        ends_by(
+            &rt,
+            rt.alloc(),
+            TWICE,
+            5,
+            7,
+            "statement 4, byte 107: refusal 14 (BadLiteral)\n"
+        )
+    );
 }

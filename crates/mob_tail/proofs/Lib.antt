@@ -1,4 +1,3 @@
-mod RecordText
 mod Orders
 mod PlanRows
 mod Seen

@@ -1,6 +1,4 @@
-pub mod AnswerText
 pub mod PlanAnswers
-pub mod Records
 pub mod Order
 pub mod Rows
 pub mod Flags

@@ -1,5 +1,7 @@
 -- What EXPLAIN answers: a plan in one column, a line for each table of FROM.
-use Rattle.std.specs.Prelude.{◌++◌, ℕ, List, [], ◌∷◌, codes}
+use Rattle.std.specs.Prelude.{◌+◌, ◌++◌, ℕ, List, [], ◌∷◌, Bool, Option, codes, is_some, if◌then◌else◌}
+use Rattle.mob_typed.specs.Trees.{TypedTree}
+use Rattle.mob_typed.specs.Selects.{on_of}
 use Rattle.mob_plan.specs.Plans.{PlanStep, scan, probe}
 use Rattle.mob_catalog.specs.Catalogue.{Catalogue}
 use Rattle.mob_catalog.specs.Indexes.{index_name}
@@ -8,13 +10,17 @@ use Rattle.mob_catalog.specs.Indexes.{index_name}
 abbrev pub plan_names : List (List ℕ)
 plan_names = codes "plan" ∷ []
 
--- how a query comes by the rows of the table that goes by this name
-abbrev pub plan_line : Catalogue → PlanStep → List ℕ → List ℕ
-plan_line c scan name = codes "scan " ++ name
-plan_line c (probe index key) name = codes "probe " ++ name ++ codes " by " ++ index_name c index
+-- the word before the step of a left-joined table
+abbrev pub left_word : Bool → List ℕ
+left_word left = if left then codes "left " else []
 
--- The rows of the answer: a line for each step of the plan, with the name that its table goes by.
-abbrev pub plan_rows : Catalogue → List PlanStep → List (List ℕ) → List (List (List ℕ))
-plan_rows c [] names = []
-plan_rows c (step ∷ steps) [] = []
-plan_rows c (step ∷ steps) (name ∷ names) = (plan_line c step name ∷ []) ∷ plan_rows c steps names
+-- how a query comes by the rows of the table that goes by this name, left-joined or not
+abbrev pub plan_line : Catalogue → Bool → PlanStep → List ℕ → List ℕ
+plan_line c left scan name = left_word left ++ codes "scan " ++ name
+plan_line c left (probe index key) name = left_word left ++ codes "probe " ++ name ++ codes " by " ++ index_name c index
+
+-- The rows of the answer: a line for each step of the plan, with the name that its table goes by. The first of these tables has this place of FROM.
+abbrev pub plan_rows : Catalogue → List (Option TypedTree) → ℕ → List PlanStep → List (List ℕ) → List (List (List ℕ))
+plan_rows c joins place [] names = []
+plan_rows c joins place (step ∷ steps) [] = []
+plan_rows c joins place (step ∷ steps) (name ∷ names) = (plan_line c (is_some (on_of joins place)) step name ∷ []) ∷ plan_rows c joins (place + 1) steps names

@@ -3,10 +3,10 @@ ghost use Rattle.std.specs.Prelude.{◌≡◌, [], IfOk};
 ghost use Rattle.mob_tail.specs.Rows.{AreFirst};
 ghost use Rattle.mob_tail.specs.Flags.{flagged};
 
-use crate::text::bytes_of;
 use indexmap::IndexSet;
 use mob_list::items::Items;
 use mob_list::text::Text;
+use mob_records::bytes_of;
 use std::alloc::{AllocError, Global};
 
 // For each row whether it is the first of those that are equal to it.

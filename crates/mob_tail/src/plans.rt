@@ -1,44 +1,71 @@
 // What EXPLAIN answers.
-ghost use Rattle.std.specs.Prelude.{◌≡◌, ◌++◌, ◌∷◌, [], IfOk, codes, map};
-ghost use Rattle.mob_typed.specs.Selects.{select_seen};
+ghost use Rattle.std.specs.Prelude.{◌≡◌, ◌++◌, ◌∷◌, [], IfOk, codes, is_some, map, option_map};
+ghost use Rattle.mob_typed.specs.Trees.{typed_of};
+ghost use Rattle.mob_typed.specs.Selects.{on_of, select_seen};
 ghost use Rattle.mob_plan.specs.Plans.{plan_seen, step_seen};
-ghost use Rattle.mob_tail.specs.PlanAnswers.{plan_line, plan_names, plan_rows};
+ghost use Rattle.mob_tail.specs.PlanAnswers.{left_word, plan_line, plan_names, plan_rows};
 
 use crate::answers::Answer;
 use mob_catalog::Catalog;
 use mob_list::items::Items;
 use mob_list::text::Text;
 use mob_plan::{Plan, Step};
-use mob_typed::TypedSelect;
+use mob_typed::{TExpr, TypedSelect};
 use std::alloc::{AllocError, Global};
 
-// The line of a table of which all rows are taken.
-fn scan_line(alloc: Global, name: &str) -> Result<Text, AllocError>
-    ensures says { IfOk result (λ line. line ≡ codes "scan " ++ name.now) }
+// Whether the table of a place of FROM is left-joined.
+fn is_left(joins: &[Option<TExpr>], place: usize) -> bool
+    ensures left { result ≡ is_some (on_of (map (option_map typed_of) joins.now) place) }
 {
-    let mut line = String::from_str(alloc, "scan ")?;
+    match joins.get(place) {
+        None => false,
+        Some(on) => on.is_some(),
+    }
+}
+
+// The word before the step of a left-joined table.
+fn left_word(left: bool) -> &'static str
+    ensures word { result.now ≡ left_word left }
+{
+    if left { "left " } else { "" }
+}
+
+// The line of a table of which all rows are taken, behind this word.
+fn scan_line(alloc: Global, word: &str, name: &str) -> Result<Text, AllocError>
+    ensures says { IfOk result (λ line. line ≡ word.now ++ codes "scan " ++ name.now) }
+{
+    let mut line = String::from_str(alloc, word)?;
+    line.push_str("scan ")?;
     line.push_str(name)?;
     Ok(Text::from_string(line))
 }
 
-// The line of a table of which an index gives the rows.
-fn probe_line(alloc: Global, name: &str, index: &str) -> Result<Text, AllocError>
-    ensures says { IfOk result (λ line. line ≡ codes "probe " ++ name.now ++ codes " by " ++ index.now) }
+// The line of a table of which an index gives the rows, behind this word.
+fn probe_line(alloc: Global, word: &str, name: &str, index: &str) -> Result<Text, AllocError>
+    ensures says { IfOk result (λ line. line ≡ word.now ++ codes "probe " ++ name.now ++ codes " by " ++ index.now) }
 {
-    let mut line = String::from_str(alloc, "probe ")?;
+    let mut line = String::from_str(alloc, word)?;
+    line.push_str("probe ")?;
     line.push_str(name)?;
     line.push_str(" by ")?;
     line.push_str(index)?;
     Ok(Text::from_string(line))
 }
 
-// The line of a step.
-fn line_of(alloc: Global, step: &Step, name: &str, catalog: &Catalog) -> Result<Text, AllocError>
-    ensures says { IfOk result (λ line. line ≡ plan_line catalog.now (step_seen step.now) name.now) }
+// The line of a step of a table, left-joined or not.
+fn line_of(
+    alloc: Global,
+    left: bool,
+    step: &Step,
+    name: &str,
+    catalog: &Catalog,
+) -> Result<Text, AllocError>
+    ensures says { IfOk result (λ line. line ≡ plan_line catalog.now left (step_seen step.now) name.now) }
 {
+    let word = left_word(left);
     match step {
-        Step::Scan => scan_line(alloc, name),
-        Step::Probe { index, .. } => probe_line(alloc, name, catalog.index_name(*index)),
+        Step::Scan => scan_line(alloc, word, name),
+        Step::Probe { index, .. } => probe_line(alloc, word, name, catalog.index_name(*index)),
     }
 }
 
@@ -55,21 +82,25 @@ fn one_field(alloc: Global, field: Text) -> Result<Items<Text>, AllocError>
 fn lines_of(
     alloc: Global,
     steps: &[Step],
+    joins: &[Option<TExpr>],
     names: &[Text],
     catalog: &Catalog,
 ) -> Result<Items<Items<Text>>, AllocError>
-    ensures rows { IfOk result (λ rows. rows ≡ plan_rows catalog.now (map step_seen steps.now) names.now) }
+    ensures rows { IfOk result (λ rows. rows ≡ plan_rows catalog.now (map (option_map typed_of) joins.now) 0 (map step_seen steps.now) names.now) }
 {
     let mut rows = Items::new(alloc);
-    for (step, name) in steps.iter().zip(names.iter()) {
-        let line = line_of(alloc, step, name.as_str(), catalog)?;
+    for (place, step) in steps.iter().enumerate() {
+        let Some(name) = names.get(place) else {
+            return Ok(rows);
+        };
+        let line = line_of(alloc, is_left(joins, place), step, name.as_str(), catalog)?;
         rows.push(one_field(alloc, line)?)?;
     }
     Ok(rows)
 }
 
 /// What EXPLAIN answers for the plan of a query: one column, `plan`, and for each table of FROM a line, `scan` and the name that the table
-/// goes by, or `probe`, this name, `by` and the name of the index.
+/// goes by, or `probe`, this name, `by` and the name of the index. The line of a left-joined table begins with `left`.
 pub fn plan_answer(
     alloc: Global,
     plan: &Plan,
@@ -77,9 +108,10 @@ pub fn plan_answer(
     catalog: &Catalog,
 ) -> Result<Answer, AllocError>
     ensures names { IfOk result (λ answer. answer.names ≡ plan_names) }
-    ensures rows { IfOk result (λ answer. answer.rows ≡ plan_rows catalog.now (plan_seen plan.now) (select_seen select.now).names) }
+    ensures rows { IfOk result (λ answer. answer.rows ≡ plan_rows catalog.now (select_seen select.now).joins 0 (plan_seen plan.now) (select_seen select.now).names) }
 {
-    let rows = lines_of(alloc, plan.steps(), select.names.as_slice(), catalog)?;
+    let joins = select.joins.as_slice();
+    let rows = lines_of(alloc, plan.steps(), joins, select.names.as_slice(), catalog)?;
     let names = one_field(alloc, Text::from_string(String::from_str(alloc, "plan")?))?;
     Ok(Answer { names, rows })
 }

@@ -1,16 +1,9 @@
 // The text of an answer.
-ghost use Rattle.std.specs.Prelude.{◌≡◌, ◌++◌, ◌∷◌, IfOk, OnOk, OnErr, List, ℕ, Option, Some, map};
-ghost use Rattle.std.specs.List.{concat};
-ghost use Rattle.std.specs.Io.KnownBytes.{Appends};
-ghost use Rattle.csv.specs.Writing.{text_written};
-ghost use Rattle.mob_tail.specs.AnswerText.{count_line, record_line, answer_text};
-ghost use Rattle.mob_tail.specs.Records.{IsBetweenRecords};
+ghost use Rattle.std.specs.Prelude.{◌≡◌, IfOk};
+ghost use Rattle.mob_records.specs.AnswerText.{answer_text};
 
 use crate::Answer;
-use csv::{Writer, WriterBuilder};
-use itoa::Buffer;
-use mob_list::items::Items;
-use mob_list::text::Text;
+use mob_records::counted_text;
 use std::alloc::{AllocError, Global};
 
 /// The text of an answer: a line for its names, a line for each row, and the line `(n rows)`, each with a line feed.
@@ -18,56 +11,5 @@ use std::alloc::{AllocError, Global};
 pub fn answer_text(alloc: Global, answer: &Answer) -> Result<Vec<u8>, AllocError>
     ensures text { IfOk result (λ v. v.items ≡ answer_text answer.now.names answer.now.rows) }
 {
-    let mut text = records_text(alloc, answer.names.as_slice(), answer.rows.as_slice())?;
-    let mut digits = Buffer::new();
-    text.extend_from_slice(b"(")?;
-    text.extend_from_slice(digits.format(answer.rows.len()).as_bytes())?;
-    text.extend_from_slice(b" rows)\n")?;
-    Ok(text)
-}
-
-// The records, written by one writer.
-fn records_text(alloc: Global, names: &[Text], rows: &[Items<Text>]) -> Result<Vec<u8>, AllocError>
-    ensures text { IfOk result (λ v. v.items ≡ concat (map record_line (names.now ∷ rows.now))) }
-{
-    let mut writer = WriterBuilder::new()
-        .flexible(true)
-        .from_writer(Vec::new(alloc));
-    write_record(alloc, &mut writer, names)?;
-    for row in rows {
-        write_record(alloc, &mut writer, row.as_slice())?;
-    }
-    match writer.into_inner() {
-        Ok(text) => Ok(text),
-        Err(_) => Err(AllocError),
-    }
-}
-
-// One record. Over memory the writer fails for want of memory alone, since records may differ in length; `csv` states no cause of
-// an error of a writer, so this is no clause.
-fn write_record(
-    alloc: Global,
-    writer: &mut Writer<Vec<u8>>,
-    fields: &[Text],
-) -> Result<(), AllocError>
-    requires between { IsBetweenRecords writer.old }
-    ensures text { OnOk result (Appends (text_written (λ w. Some w.items) writer.old) (text_written (λ w. Some w.items) writer.new) (record_line fields.now)) }
-    ensures between { OnOk result (IsBetweenRecords writer.new) }
-{
-    let bytes = bytes_of(alloc, fields)?;
-    match writer.write_fields(&bytes) {
-        Ok(()) => Ok(()),
-        Err(_) => Err(AllocError),
-    }
-}
-
-// The texts as slices of bytes.
-pub fn bytes_of<'a>(alloc: Global, fields: &'a [Text]) -> Result<Vec<&'a [u8]>, AllocError>
-    ensures same { IfOk result (λ v. map (λ b. b.now) v.items ≡ fields.now) }
-{
-    let mut bytes = Vec::with_capacity(alloc, fields.len())?;
-    for field in fields {
-        bytes.push(field.as_str().as_bytes())?;
-    }
-    Ok(bytes)
+    counted_text(alloc, answer.names.as_slice(), answer.rows.as_slice())
 }

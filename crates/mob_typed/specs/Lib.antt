@@ -1,3 +1,4 @@
+pub mod Named
 pub mod Selects
 pub mod Statements
 pub mod Trees

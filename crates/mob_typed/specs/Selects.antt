@@ -1,5 +1,5 @@
 -- A typed SELECT as a plain value.
-use Rattle.std.specs.Prelude.{ℕ, List, Bool, Option, map, option_map}
+use Rattle.std.specs.Prelude.{ℕ, List, Bool, Option, map, option_and_then, option_map, slice_get}
 use Rattle.mob_typed.specs.declared.typed.TExpr.{TExpr}
 use Rattle.mob_typed.specs.declared.typed.TypedSelect.{TypedSelect}
 use Rattle.mob_typed.specs.Trees.{TypedTree, typed_of}
@@ -8,15 +8,20 @@ use Rattle.mob_typed.specs.Trees.{TypedTree, typed_of}
 abbrev pub Output : Type 0
 Output = TypedTree × List ℕ
 
--- a typed SELECT
+-- A typed SELECT. For each table of FROM, `joins` has the ON of that table, or None where it is not left-joined.
 pub record TypedSelectParts : Type 0 where
   pub distinct : Bool
   pub items : List Output
   pub from : List ℕ
   pub names : List (List ℕ)
+  pub joins : List (Option TypedTree)
   pub cond : Option TypedTree
   pub keys : List (TypedTree × Bool)
   pub limit : Option ℕ
+
+-- the ON of the table of a place of FROM, where it is left-joined
+abbrev pub on_of : List (Option TypedTree) → ℕ → Option TypedTree
+on_of joins place = option_and_then (λ on. on) (slice_get joins place)
 
 abbrev pub output_of : TExpr × List ℕ → Output
 output_of o = (typed_of o.0, o.1)
@@ -26,4 +31,4 @@ key_seen k = (typed_of k.0, k.1)
 
 -- the program's typed SELECT as such a value
 abbrev pub select_seen : TypedSelect → TypedSelectParts
-select_seen s = record { distinct = s.distinct; items = map output_of s.items; from = s.from; names = s.names; cond = option_map typed_of s.cond; keys = map key_seen s.keys; limit = s.limit }
+select_seen s = record { distinct = s.distinct; items = map output_of s.items; from = s.from; names = s.names; joins = map (option_map typed_of) s.joins; cond = option_map typed_of s.cond; keys = map key_seen s.keys; limit = s.limit }

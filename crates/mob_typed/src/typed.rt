@@ -42,6 +42,8 @@ pub struct TypedSelect {
     pub from: Items<u32>,
     /// The names that the tables of FROM go by.
     pub names: Items<Text>,
+    /// The ON of each table of FROM, a bool; None for a table that is not left-joined.
+    pub joins: Items<Option<TExpr>>,
     /// The condition of WHERE, a bool.
     pub cond: Option<TExpr>,
     /// The keys of ORDER BY; true for DESC.

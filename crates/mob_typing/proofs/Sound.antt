@@ -153,6 +153,10 @@ row_stays [] (v ∷ vs) cs more h = h
 row_stays (c ∷ columns) [] cs more h = h
 row_stays (c ∷ columns) (v ∷ vs) cs more h = (value_stays c v cs more h.0, row_stays columns vs cs more h.1)
 
+-- an expression is a bool whose leaves name what is there, where there is one
+abbrev IsNamedBool : List ColumnList → List ℕ → List ConstText → Option TypedTree → Type 0
+IsNamedBool tables from cs c = IfSome c (λ t. HasNamedTypes tables from cs t × (is_bool (type_of t) ≡ true))
+
 query_stays : (tables : List ColumnList) → Stays (IsTypedQuery tables)
 query_stays tables s cs more h = record {
   there = h.there;
@@ -162,11 +166,17 @@ query_stays tables s cs more h = record {
   operated = all_stay (λ ds t. IsOperated ds t) operated_stays (expressions_of s) cs more h.operated;
   limited = h.limited;
   items = each_on (λ o. HasNamedTypes tables s.from cs o.0) (λ o. HasNamedTypes tables s.from (cs ++ more) o.0) (λ o g. tree_stays tables s.from o.0 cs more g) s.items h.items;
+  joins = record {
+    each = h.joins.each;
+    first = h.joins.first;
+    typed = each_on (IsNamedBool tables s.from cs) (IsNamedBool tables s.from (cs ++ more)) condition_stays s.joins h.joins.typed;
+    named = h.joins.named;
+  };
   condition = condition_stays s.cond h.condition;
   keys = each_on (λ k. HasNamedTypes tables s.from cs k.0 × (is_key (type_of k.0) ≡ true)) (λ k. HasNamedTypes tables s.from (cs ++ more) k.0 × (is_key (type_of k.0) ≡ true)) (λ k g. (tree_stays tables s.from k.0 cs more g.0, g.1)) s.keys h.keys;
 }
   where
-    condition_stays : (c : Option TypedTree) → IfSome c (λ t. HasNamedTypes tables s.from cs t × (is_bool (type_of t) ≡ true)) → IfSome c (λ t. HasNamedTypes tables s.from (cs ++ more) t × (is_bool (type_of t) ≡ true))
+    condition_stays : (c : Option TypedTree) → IsNamedBool tables s.from cs c → IsNamedBool tables s.from (cs ++ more) c
     condition_stays None g = tt
     condition_stays (Some t) g = (tree_stays tables s.from t cs more g.0, g.1)
 

@@ -1,5 +1,5 @@
 -- The walk over a SELECT: its tables, its items, its condition, its keys and its limit.
-use Rattle.std.proofs.Common.{◌≡◌, ◌==◌, ◌≤◌, ◌<◌, ◌+◌, ◌^◌, ◌∙◌, refl, sym, ap, subst, arith, Bool, true, false, ℕ, List, [], ◌∷◌, ◌++◌, append_assoc, length, length-append, map, Option, Some, None}
+use Rattle.std.proofs.Common.{◌≡◌, ◌==◌, ◌≤◌, ◌<◌, ◌+◌, ◌^◌, ◌∙◌, refl, sym, ap, subst, arith, Bool, true, false, ℕ, zero, suc, List, [], ◌∷◌, ◌++◌, append_assoc, length, length-append, map, Option, Some, None}
 use Rattle.std.specs.Prelude.{IfSome, not, nat_le, slice_get, option_map, option_and_then}
 use Rattle.std.specs.List.{AllByRecursion, IsDistinct, flat_map}
 use Rattle.std.specs.Str.{bytes_eq}
@@ -15,15 +15,16 @@ use Rattle.mob_ast.specs.declared.statement.FromTable.{FromTable}
 use Rattle.mob_ast.specs.Trees.{Tree, tree, ItemParts, every, one, KeyParts, SelectParts}
 use Rattle.mob_typed.specs.declared.typed.ConstText.{ConstText}
 use Rattle.mob_typed.specs.Trees.{TypedTree, type_of}
-use Rattle.mob_typed.specs.Selects.{Output, TypedSelectParts}
+use Rattle.mob_typed.specs.Named.{names_before}
+use Rattle.mob_typed.specs.Selects.{Output, TypedSelectParts, on_of}
 use Rattle.mob_typed.specs.Statements.{ColumnList}
 use Rattle.mob_list.proofs.Each.{each_both, each_map, each_on}
 use Rattle.mob_expression.specs.Names.{entry_from, has_entry}
 use Rattle.mob_expression.specs.Scopes.{ScopeTableParts, ScopeParts}
 use Rattle.mob_typing.specs.Names.{table_of}
-use Rattle.mob_typing.specs.Selects.{OutputLists, from_name, from_table, from_tables, columns_of_table, all_outputs, with_item, with_items, condition, is_bool, tree_place, aliased_node, aliased, or_typed, is_key, typed_key, typed_keys, limit_value, limit_of, no_outputs, typed_clauses, typed_select}
+use Rattle.mob_typing.specs.Selects.{OutputLists, from_name, from_table, from_tables, columns_of_table, all_outputs, with_item, with_items, condition, is_bool, tree_place, aliased_node, aliased, or_typed, is_key, typed_key, typed_keys, limit_value, limit_of, no_outputs, no_joins, typed_clauses, typed_select}
 use Rattle.mob_typing.specs.Stands.{operators_in}
-use Rattle.mob_typing.specs.WellTyped.{column_type, from_type, HasNamedTypes, IsOperated, condition_alone, expressions_of, IsTypedQuery}
+use Rattle.mob_typing.specs.WellTyped.{column_type, from_type, HasNamedTypes, IsOperated, condition_alone, AreOns, expressions_of, IsTypedQuery}
 use Rattle.mob_grammar.specs.Places.{tree_places, item_places, condition_places, key_places, select_places}
 use Rattle.mob_grammar.specs.Held.{word_held, tree_held, item_held, from_held, condition_held, key_held, select_held}
 use Rattle.mob_grammar.proofs.Places.{all_parts}
@@ -198,6 +199,28 @@ module _ (At : ℕ → Type 0) (tables : List ColumnList) (s : ScopeParts) (ther
   numbers_there [] h = tt
   numbers_there (t ∷ from) h = (slice_get_within tables t.1.table t.1.columns h.0, numbers_there from h.1)
 
+  -- where no table is left-joined, the ONs are typed, and there is no expression among them
+  none_joined : (from : List (List ℕ × ScopeTableParts)) (place : ℕ) → on_of (no_joins from) place ≡ None
+  none_joined [] place = refl
+  none_joined (t ∷ from) zero = refl
+  none_joined (t ∷ from) (suc place) = none_joined from place
+
+  no_ons_typed : (P : TypedTree → Type 0) (from : List (List ℕ × ScopeTableParts)) → AllByRecursion (λ on. IfSome on P) (no_joins from)
+  no_ons_typed P [] = tt
+  no_ons_typed P (t ∷ from) = (tt, no_ons_typed P from)
+
+  no_ons : (cs : List ConstText) → AreOns tables cs (numbers_of s.from) (no_joins s.from)
+  no_ons cs = record {
+    each = length-map s.from (λ (t : List ℕ × ScopeTableParts). None) ∙ sym (length-map s.from (λ (t : List ℕ × ScopeTableParts). t.1.table));
+    first = none_joined s.from 0;
+    typed = no_ons_typed _ s.from;
+    named = λ place. subst (λ on. IfSome on (λ t. names_before (place + 1) t ≡ true)) (sym (none_joined s.from place)) tt;
+  }
+
+  no_on_trees : (from : List (List ℕ × ScopeTableParts)) → flat_map condition_alone (no_joins from) ≡ []
+  no_on_trees [] = refl
+  no_on_trees (t ∷ from) = no_on_trees from
+
   -- an expression that holds, by its leaves and by its operators
   abbrev LeavesHold : List ConstText → TypedTree → Type 0
   LeavesHold cs t = HasNamedTypes tables (numbers_of s.from) cs t
@@ -219,7 +242,7 @@ module _ (At : ℕ → Type 0) (tables : List ColumnList) (s : ScopeParts) (ther
 
   query_typed : (cs : List ConstText) (distinct : Bool) (o : OutputLists) (c : Option TypedTree) (ks : List (TypedTree × Bool)) (l : Option ℕ) → length s.from ≤ 4 → IsDistinct bytes_eq (names_of s.from)
       → OutputsHold cs o → ConditionHolds cs c → AllByRecursion (KeyHolds cs) ks → IfSome l (λ n. n < 10 ^ 18)
-      → IsQuery cs (record { distinct = distinct; items = o.columns; from = map (λ t. t.1.table) s.from; names = map (λ t. t.0) s.from; cond = c; keys = ks; limit = l })
+      → IsQuery cs (record { distinct = distinct; items = o.columns; from = map (λ t. t.1.table) s.from; names = map (λ t. t.0) s.from; joins = no_joins s.from; cond = c; keys = ks; limit = l })
   query_typed cs distinct o c ks l few apart items condition keys limited = (
     record {
       there = numbers_there s.from there;
@@ -229,6 +252,7 @@ module _ (At : ℕ → Type 0) (tables : List ColumnList) (s : ScopeParts) (ther
       operated = each_on (Holds cs) (IsOperated cs) (λ t h. h.operated) expressions all;
       limited = limited;
       items = each_on (OutputHolds cs) (λ x. LeavesHold cs x.0) (λ x h. h.named) o.columns items;
+      joins = no_ons cs;
       condition = condition_named cs c condition;
       keys = each_on (KeyHolds cs) (λ k. LeavesHold cs k.0 × (is_key (type_of k.0) ≡ true)) (λ k h. (h.0.named, h.1)) ks keys;
     },
@@ -238,13 +262,16 @@ module _ (At : ℕ → Type 0) (tables : List ColumnList) (s : ScopeParts) (ther
       long : length (numbers_of s.from) ≡ length s.from
       long = length-map s.from (λ (t : List ℕ × ScopeTableParts). t.1.table)
 
+      behind : List TypedTree
+      behind = condition_alone c ++ map (λ (k : TypedTree × Bool). k.0) ks
+
       expressions : List TypedTree
-      expressions = map (λ (x : Output). x.0) o.columns ++ (condition_alone c ++ map (λ (k : TypedTree × Bool). k.0) ks)
+      expressions = map (λ (x : Output). x.0) o.columns ++ (flat_map condition_alone (no_joins s.from) ++ behind)
 
       all : AllByRecursion (Holds cs) expressions
       all =
-          each_both (Holds cs) (map (λ (x : Output). x.0) o.columns) (condition_alone c ++ map (λ (k : TypedTree × Bool). k.0) ks) (each_map (OutputHolds cs) (Holds cs) (λ (x : Output). x.0) (λ x h. h) o.columns items)
-          (each_both (Holds cs) (condition_alone c) (map (λ (k : TypedTree × Bool). k.0) ks) (condition_holds cs c condition) (each_map (KeyHolds cs) (Holds cs) (λ (k : TypedTree × Bool). k.0) (λ k h. h.0) ks keys))
+          each_both (Holds cs) (map (λ (x : Output). x.0) o.columns) (flat_map condition_alone (no_joins s.from) ++ behind) (each_map (OutputHolds cs) (Holds cs) (λ (x : Output). x.0) (λ x h. h) o.columns items)
+          (subst (λ ons. AllByRecursion (Holds cs) (ons ++ behind)) (sym (no_on_trees s.from)) (each_both (Holds cs) (condition_alone c) (map (λ (k : TypedTree × Bool). k.0) ks) (condition_holds cs c condition) (each_map (KeyHolds cs) (Holds cs) (λ (k : TypedTree × Bool). k.0) (λ k h. h.0) ks keys)))
 
   clauses_walked : (x : SelectParts) (cs : List ConstText) → length s.from ≤ 4 → IsDistinct bytes_eq (names_of s.from) → AllByRecursion At (select_held x) → GivesOrStops At (Steps n (select_places x) IsQuery cs) (typed_clauses s x cs)
   clauses_walked x cs few apart h =

@@ -143,6 +143,10 @@ outputs_seen o = record { columns = map output_of o.columns.items; aliases = map
 abbrev pub no_outputs : OutputLists
 no_outputs = record { columns = []; aliases = [] }
 
+-- none of these tables is left-joined
+abbrev pub no_joins : List (List ℕ × ScopeTableParts) → List (Option TypedTree)
+no_joins from = map (λ (t : List ℕ × ScopeTableParts). None) from
+
 -- the clauses behind FROM, which sees these tables
 abbrev pub typed_clauses : ScopeParts → SelectParts → TypingStep TypedSelectParts
 typed_clauses scope s cs = do
@@ -150,7 +154,7 @@ typed_clauses scope s cs = do
   c ← condition scope s.cond o.1
   k ← typed_keys scope o.0 s.keys c.1
   l ← limit_of s.limit
-  Ok (record { distinct = s.distinct; items = o.0.columns; from = map (λ t. t.1.table) scope.from; names = map (λ t. t.0) scope.from; cond = c.0; keys = k.0; limit = l }, k.1)
+  Ok (record { distinct = s.distinct; items = o.0.columns; from = map (λ t. t.1.table) scope.from; names = map (λ t. t.0) scope.from; joins = no_joins scope.from; cond = c.0; keys = k.0; limit = l }, k.1)
 
 -- The typed SELECT of the statement of this number, or what is wrong first.
 abbrev pub typed_select : List (List ℕ × ColumnList) → ℕ → SelectParts → TypingStep TypedSelectParts

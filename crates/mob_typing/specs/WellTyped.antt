@@ -1,6 +1,6 @@
 -- What a typed script keeps to, whatever its text: what a number names is there and has the type that is asked of it, each operator has
 -- a row of the table for the types of its arguments, and names are distinct.
-use Rattle.std.specs.Prelude.{◌≡◌, ◌≤◌, ◌<◌, ◌^◌, ◌++◌, ℕ, List, [], ◌∷◌, Bool, true, false, Option, Some, None, Ok, IfSome, length, map, slice_get, option_map, option_and_then}
+use Rattle.std.specs.Prelude.{◌≡◌, ◌≤◌, ◌<◌, ◌^◌, ◌+◌, ◌++◌, ℕ, List, [], ◌∷◌, Bool, true, false, Option, Some, None, Ok, IfSome, length, map, slice_get, option_map, option_and_then}
 use Rattle.std.specs.List.{AllByRecursion, AllZip, IsDistinct, flat_map}
 use Rattle.std.specs.Str.{bytes_eq}
 use Rattle.mob_ast.specs.declared.types.SqlType.{SqlType}
@@ -13,7 +13,8 @@ use Rattle.mob_operators.specs.Lookup.{found_in}
 use Rattle.mob_operators.specs.Table.{table}
 use Rattle.mob_typed.specs.declared.typed.ConstText.{ConstText}
 use Rattle.mob_typed.specs.Trees.{TypedTree, typed, TypedTrees, none, more, type_of, arg_types}
-use Rattle.mob_typed.specs.Selects.{TypedSelectParts}
+use Rattle.mob_typed.specs.Named.{names_before}
+use Rattle.mob_typed.specs.Selects.{TypedSelectParts, on_of}
 use Rattle.mob_typed.specs.Statements.{ColumnList, StatementOut, nothing, new_table, new_index, new_rows, rows_from, query, plan_of, ScriptOut}
 use Rattle.mob_expression.specs.Words.{number_type, is_zero}
 use Rattle.mob_expression.specs.Expressions.{can_cast_all}
@@ -101,12 +102,20 @@ abbrev pub condition_alone : Option TypedTree → List TypedTree
 condition_alone None = []
 condition_alone (Some t) = t ∷ []
 
--- the expressions of a query: its columns, its condition and its keys
+-- the expressions of a query: its columns, its ONs, its condition and its keys
 abbrev pub expressions_of : TypedSelectParts → List TypedTree
-expressions_of s = map (λ o. o.0) s.items ++ (condition_alone s.cond ++ map (λ k. k.0) s.keys)
+expressions_of s = map (λ o. o.0) s.items ++ (flat_map condition_alone s.joins ++ (condition_alone s.cond ++ map (λ k. k.0) s.keys))
 
--- FROM has at most four tables, all of them there, each with a name of its own; the condition is a bool, each key is of a type that has
--- an order, and a limit has at most 18 digits
+-- Each table of FROM has an ON or none, and the first has none. Each leaf of an ON has the type of what it names; the ON is a bool, and names
+-- only tables up to its own.
+pub record AreOns (tables : List ColumnList) (consts : List ConstText) (from : List ℕ) (joins : List (Option TypedTree)) : Type 0 where
+  pub each : length joins ≡ length from
+  pub first : on_of joins 0 ≡ None
+  pub typed : AllByRecursion (λ on. IfSome on (λ t. HasNamedTypes tables from consts t × (is_bool (type_of t) ≡ true))) joins
+  pub named : (place : ℕ) → IfSome (on_of joins place) (λ t. names_before (place + 1) t ≡ true)
+
+-- FROM has at most four tables, all of them there, each with a name of its own; each ON and the condition are bools, each key is of a type
+-- that has an order, and a limit has at most 18 digits
 pub record IsTypedQuery (tables : List ColumnList) (consts : List ConstText) (s : TypedSelectParts) : Type 0 where
   pub there : AllByRecursion (λ t. t < length tables) s.from
   pub few : length s.from ≤ 4
@@ -115,6 +124,7 @@ pub record IsTypedQuery (tables : List ColumnList) (consts : List ConstText) (s 
   pub operated : AllByRecursion (IsOperated consts) (expressions_of s)
   pub limited : IfSome s.limit (λ n. n < 10 ^ 18)
   pub items : AllByRecursion (λ o. HasNamedTypes tables s.from consts o.0) s.items
+  pub joins : AreOns tables consts s.from s.joins
   pub condition : IfSome s.cond (λ t. HasNamedTypes tables s.from consts t × (is_bool (type_of t) ≡ true))
   pub keys : AllByRecursion (λ k. HasNamedTypes tables s.from consts k.0 × (is_key (type_of k.0) ≡ true)) s.keys
 

@@ -1,9 +1,10 @@
 //! The tables of FROM.
-ghost use Rattle.std.specs.Prelude.{◌≡◌, ◌++◌, ◌∷◌, [], map, IfOk};
+ghost use Rattle.std.specs.Prelude.{◌≡◌, ◌++◌, ◌∷◌, [], map, option_map, IfOk};
 ghost use Rattle.mob_expression.specs.Answers.{AnswersAs};
 ghost use Rattle.mob_expression.specs.Scopes.{source_of, sources_of};
 ghost use Rattle.mob_expression.specs.Names.{has_entry};
-ghost use Rattle.mob_typing.specs.Selects.{from_name, from_table, from_tables};
+ghost use Rattle.mob_typed.specs.Trees.{typed_of};
+ghost use Rattle.mob_typing.specs.Selects.{from_name, from_table, from_tables, no_joins};
 
 use crate::names::Names;
 use mob_ast::{FromTable, Kind, Word};
@@ -12,6 +13,7 @@ use mob_expression::fault::Fault;
 use mob_expression::scope::{ScopeTable, number};
 use mob_list::items::Items;
 use mob_list::text::Text;
+use mob_typed::TExpr;
 use std::alloc::{AllocError, Global};
 
 // How many tables there may be in FROM.
@@ -125,4 +127,18 @@ pub fn table_names(alloc: Global, sources: &[ScopeTable<'_>]) -> Result<Items<Te
         names.push(Text::from_string(String::from_str(alloc, source.name)?))?;
     }
     Ok(names)
+}
+
+/// The ON of each table of FROM: none of them is left-joined.
+pub fn no_joins(
+    alloc: Global,
+    sources: &[ScopeTable<'_>],
+) -> Result<Items<Option<TExpr>>, AllocError>
+    ensures joins { IfOk result (λ v. map (option_map typed_of) v ≡ no_joins (sources_of sources.now)) }
+{
+    let mut joins = Items::new(alloc);
+    for _source in sources {
+        joins.push(None)?;
+    }
+    Ok(joins)
 }

@@ -6,7 +6,7 @@ ghost use Rattle.mob_expression.specs.Scopes.{scope_of};
 ghost use Rattle.mob_typed.specs.Selects.{select_seen};
 ghost use Rattle.mob_typing.specs.Selects.{typed_clauses, typed_select};
 
-use crate::from::{from_tables, table_names, table_numbers};
+use crate::from::{from_tables, no_joins, table_names, table_numbers};
 use crate::keys::{condition, limit_of, typed_keys};
 use crate::names::Names;
 use crate::outputs::{Outputs, outputs_of};
@@ -32,6 +32,7 @@ fn typed_clauses(
     let limit = limit_of(&select.limit)?;
     let from = table_numbers(alloc, scope.from)?;
     let names = table_names(alloc, scope.from)?;
+    let joins = no_joins(alloc, scope.from)?;
     let Outputs {
         columns,
         aliases: _,
@@ -42,6 +43,7 @@ fn typed_clauses(
         items,
         from,
         names,
+        joins,
         cond,
         keys,
         limit,

@@ -10,7 +10,7 @@ use Rattle.mob_words.specs.CommandLine.{IsCount, IsDemo, IsEpoch, IsWorkers, opt
 use Rattle.mob_words.specs.Outcomes.{SaysOneThing}
 use Rattle.mob_words.specs.declared.options.Settings.{Settings}
 
-one_count : (most : ℕ) (text : Text) (m n : ℕ) → most ≤ 1000 → IsCount most text m → IsCount most text n → m ≡ n
+pub one_count : (most : ℕ) (text : Text) (m n : ℕ) → most ≤ 1000 → IsCount most text m → IsCount most text n → m ≡ n
 one_count most text m n few h k =
     let least = h.2 in
     let others = k.2 in
@@ -27,7 +27,7 @@ one_demo (Some text) a b h k = h.1 ∙ ap Some (one_count 1000 text h.0 k.0 (ome
 day_known : (day : ℤ) → ◌≡◌ {A = Result ℤ ReadText} (Ok day) (Err NoMemory) → ⊥
 day_known day e = absurd cc
 
-one_day : (value : Option Text) (a b : ℤ) → IsEpoch value a → IsEpoch value b → a ≡ b
+pub one_day : (value : Option Text) (a b : ℤ) → IsEpoch value a → IsEpoch value b → a ≡ b
 one_day None a b h k = h ∙ sym k
 one_day (Some text) a b h k = let e = one_epoch text (Ok a) (Ok b) (day_known a) (day_known b) h k in cc e
 

@@ -7,4 +7,4 @@ mod options;
 mod reading;
 
 pub use options::Settings;
-pub use reading::settings;
+pub use reading::{count_in, epoch_of, settings};

@@ -41,8 +41,8 @@ fn demo_of(value: Option<&str>) -> Option<Option<u32>>
     }
 }
 
-// A whole number from 1 to the greatest that is taken. No sign and no leading zero may stand before it: the text is that of the number.
-fn count_in(text: &str, most: u32) -> Option<u32>
+/// A whole number from 1 to `most`, in decimal digits without a sign or a leading zero; None for every other text.
+pub fn count_in(text: &str, most: u32) -> Option<u32>
     ensures some { IfSome result (λ n. IsCount most text.now n) }
     ensures none { IsNone result → (n : ℕ) → IsCount most text.now n → ⊥ }
 {
@@ -53,8 +53,9 @@ fn count_in(text: &str, most: u32) -> Option<u32>
     }
 }
 
-// The epoch that an option's value says, or the one that goes without.
-fn epoch_of(value: Option<&str>) -> Option<Epoch>
+/// The epoch that the value of `--epoch` says, an existing date `YYYY-MM-DD` of the years 0001 to 9999, or 2000-01-01 without a value;
+/// None for every other text.
+pub fn epoch_of(value: Option<&str>) -> Option<Epoch>
     ensures some { IfSome result (λ epoch. IsEpoch (option_map (λ s. s.now) value.entry) epoch) }
     ensures none { IsNone result → (day : ℤ) → IsEpoch (option_map (λ s. s.now) value.entry) day → ⊥ }
 {

@@ -1,9 +1,10 @@
 use Rattle.std.proofs.Common.{sym, subst, List, ℕ, Some}
 use Rattle.std.specs.Prelude.{IfSome}
+use Rattle.mob_outside.specs.Told.{AsksFor}
 use Rattle.mob_load.specs.Fronts.{IsFront}
 use Rattle.mob_load.specs.Loads.{LoadsFile, loaded_of}
 use Rattle.mob_load.proofs.Narrow.{ok_on}
-use Rattle.mob_load.proofs.Reading.{bytes_read, on_loads}
+use Rattle.mob_load.proofs.Reading.{bytes_read, on_loads, on_read}
 use Rattle.mob_load.proofs.Steps.{file_loads}
 use Rattle.mob_load.proofs.checking.load_file.Goals as goal
 
@@ -19,3 +20,8 @@ pub returns-in-Ok-clause-reads : goal.returns-in-Ok-clause-reads
 returns-in-Ok-clause-reads g c =
     ok_on c.load_bytes.result (λ h. bytes_read c.args.epoch.now c.args.table c.args.name.now c.deref.result.now (loaded_of c.args.loading.now) (loaded_of c.load_bytes.new.loading) h)
     (on_loads (LoadsFile c.args.epoch.now c.args.table c.args.name.now (loaded_of c.args.loading.now) (Some c.deref.result.now)) c.load_bytes.result (loaded_of c.load_bytes.new.loading) c.load_bytes.ensures.loads)
+
+pub returns-in-Ok-clause-asked : goal.returns-in-Ok-clause-asked
+returns-in-Ok-clause-asked g c =
+    let asks = subst (λ (n : List ℕ). AsksFor n (g.F.Files.asked c.args.files.now) (g.F.Files.asked c.read_file.new.files)) c.as_str.ensures.same c.in-Ok.ensures.asked in
+    on_read c.load_bytes.result asks

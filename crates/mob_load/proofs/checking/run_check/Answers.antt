@@ -1,8 +1,9 @@
 use Rattle.std.proofs.Common.{◌≡◌, [], Ok, ap}
 use Rattle.mob_load.specs.Checks.{file}
 use Rattle.mob_load.specs.Loads.{LoadsCheck, LoadsLiteral, LoadsTo, loaded_of, one_row}
+use Rattle.mob_load.proofs.Asked.{asks_one, none_asked}
 use Rattle.mob_load.proofs.Narrow.{made_narrow, ok_on, same_narrow}
-use Rattle.mob_load.proofs.Reading.{on_loads}
+use Rattle.mob_load.proofs.Reading.{on_loads, on_read, read_on}
 use Rattle.mob_load.proofs.Steps.{may_ask_some, of_told}
 use Rattle.mob_load.proofs.checking.run_check.Goals as goal
 
@@ -46,3 +47,16 @@ returns-in-Room-clause-reads g c =
 
 pub returns-in-File-clause-reads : goal.returns-in-File-clause-reads
 returns-in-File-clause-reads g c = rw c.in-File.is c.load_file.ensures.reads
+
+pub returns-in-Literal-clause-asked : goal.returns-in-Literal-clause-asked
+returns-in-Literal-clause-asked g c = rw c.in-Literal.is (on_read c.read_literal.result (none_asked (g.F.Files.asked c.args.files.now)))
+
+pub returns-in-Table-clause-asked : goal.returns-in-Table-clause-asked
+returns-in-Table-clause-asked g c = rw c.in-Table.is (on_read c.make_table.result (none_asked (g.F.Files.asked c.args.files.now)))
+
+pub returns-in-Room-clause-asked : goal.returns-in-Room-clause-asked
+returns-in-Room-clause-asked g c = rw c.in-Room.is (on_read c.take_row.result (none_asked (g.F.Files.asked c.args.files.now)))
+
+pub returns-in-File-clause-asked : goal.returns-in-File-clause-asked
+returns-in-File-clause-asked g c =
+    rw c.in-File.is (read_on c.load_file.result (asks_one c.in-File.name.now (g.F.Files.asked c.args.files.now) (g.F.Files.asked c.load_file.new.files)) c.load_file.ensures.asked)

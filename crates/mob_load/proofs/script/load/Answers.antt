@@ -3,9 +3,10 @@ use Rattle.mob_typed.specs.Statements.{script_seen}
 use Rattle.mob_load.specs.Checks.{check_seen, checks_of}
 use Rattle.mob_load.specs.Loads.{AreNarrow, loaded_of}
 use Rattle.mob_load.proofs.Narrow.{script_narrow}
-use Rattle.mob_load.proofs.Asked.{script_asks, script_asks_some, script_files, script_last}
+use Rattle.mob_load.proofs.Asked.{script_asks, script_asks_some, script_files}
 use Rattle.mob_load.proofs.Reading.{program_read}
-use Rattle.mob_load.proofs.Steps.{program_loaded, script_stops, stopped_outcome}
+use Rattle.mob_load.proofs.Steps.{program_loaded, stopped_outcome}
+use Rattle.mob_load.proofs.Stopping.{script_stops}
 use Rattle.mob_load.proofs.script.load.Goals as goal
 
 pub returns-in-Ok-clause-loaded : goal.returns-in-Ok-clause-loaded
@@ -32,18 +33,13 @@ returns-in-Ok-clause-some g c =
 pub returns-clause-stopped : goal.returns-clause-stopped
 returns-clause-stopped g c =
     let same : map check_seen c.deref.result.now ≡ checks_of (script_seen c.args.typed.now) = ap (map check_seen) c.deref.ensures.value ∙ c.in_ok-checks.ensures.in_order in
-    λ m are. script_stops c.args.epoch.now m (map check_seen c.deref.result.now) (script_seen c.args.typed.now) c.in-Err.end same
-    (c.in-Err.ensures.stopped m (script_files (map check_seen c.deref.result.now) (script_seen c.args.typed.now) (g.F.Files.files c.args.files.now) m same are))
+    script_stops c.args.epoch.now (map check_seen c.deref.result.now) (script_seen c.args.typed.now) (g.F.Files.files c.args.files.now) (g.F.Files.asked c.args.files.now) (g.F.Files.asked c.load_checks.new.files)
+    c.in-Err.end same c.in-Err.ensures.stopped
 
 pub returns-clause-some : goal.returns-clause-some
 returns-clause-some g c =
     let same : map check_seen c.deref.result.now ≡ checks_of (script_seen c.args.typed.now) = ap (map check_seen) c.deref.ensures.value ∙ c.in_ok-checks.ensures.in_order in
     script_asks_some (map check_seen c.deref.result.now) (script_seen c.args.typed.now) (g.F.Files.asked c.args.files.now) (g.F.Files.asked c.load_checks.new.files) same c.in-Err.ensures.some
-
-pub returns-clause-last : goal.returns-clause-last
-returns-clause-last g c =
-    let same : map check_seen c.deref.result.now ≡ checks_of (script_seen c.args.typed.now) = ap (map check_seen) c.deref.ensures.value ∙ c.in_ok-checks.ensures.in_order in
-    script_last (map check_seen c.deref.result.now) (script_seen c.args.typed.now) (g.F.Files.asked c.args.files.now) (g.F.Files.asked c.load_checks.new.files) c.in-Err.end same c.in-Err.ensures.last
 
 pub load_checks-requires : goal.load_checks-requires
 load_checks-requires g c =
@@ -59,6 +55,7 @@ returns-in-Ok-clause-complete g c =
 pub returns-clause-complete : goal.returns-clause-complete
 returns-clause-complete g c =
     let same : map check_seen c.deref.result.now ≡ checks_of (script_seen c.args.typed.now) = ap (map check_seen) c.deref.ensures.value ∙ c.in_ok-checks.ensures.in_order in
-    λ steady m are. stopped_outcome c.args.epoch.now m (script_seen c.args.typed.now) c.in-Err.end (g.F.Files.faults c.args.files.now) (g.F.Files.faults c.load_checks.new.files) steady c.in-Err.ensures.cause
-    (script_stops c.args.epoch.now m (map check_seen c.deref.result.now) (script_seen c.args.typed.now) c.in-Err.end same
-    (c.in-Err.ensures.stopped m (script_files (map check_seen c.deref.result.now) (script_seen c.args.typed.now) (g.F.Files.files c.args.files.now) m same are)))
+    let stops = script_stops c.args.epoch.now (map check_seen c.deref.result.now) (script_seen c.args.typed.now) (g.F.Files.files c.args.files.now) (g.F.Files.asked c.args.files.now)
+    (g.F.Files.asked c.load_checks.new.files) c.in-Err.end same c.in-Err.ensures.stopped in
+    λ steady m are. stopped_outcome c.args.epoch.now (script_seen c.args.typed.now) (g.F.Files.files c.args.files.now) (g.F.Files.asked c.args.files.now) (g.F.Files.asked c.load_checks.new.files) m are c.in-Err.end
+    (g.F.Files.faults c.args.files.now) (g.F.Files.faults c.load_checks.new.files) steady c.in-Err.ensures.cause stops

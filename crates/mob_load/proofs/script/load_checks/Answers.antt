@@ -1,17 +1,18 @@
-use Rattle.std.proofs.Common.{rules, ◌≡◌, ◌∙◌, ◌+◌, ◌∷◌, refl, sym, ap, subst, map, drop}
-use Rattle.std.proofs.lemmas.List.{drop_more, drop_all}
+use Rattle.std.proofs.Common.{rules, ◌≡◌, ◌∙◌, ◌+◌, ◌∷◌, sym, ap, subst, map, drop, take, List, Ok}
+use Rattle.std.proofs.lemmas.List.{drop_more, drop_all, take_all}
 use Rattle.mob_load.specs.Checks.{check_seen}
 use Rattle.mob_load.specs.declared.check.Check.{Check}
-use Rattle.mob_load.specs.Loads.{IsNarrow, loaded_of}
+use Rattle.mob_load.specs.Loads.{IsNarrow, Loads, loaded_of, nothing_loaded}
 use Rattle.mob_load.proofs.Narrow.{check_narrow, nothing_narrow}
-use Rattle.mob_load.proofs.Asked.{asked_on, asked_some, fault_last, files_here, asked_all, all_some, none_asked}
+use Rattle.mob_load.proofs.Asked.{around, asked_on, asked_some, files_here, front_more, asked_all, all_some, none_asked}
 use Rattle.mob_load.proofs.Reading.{all_unread, check_reads, none_unread}
-use Rattle.mob_load.proofs.Steps.{all_left, none_left, check_loads, check_stops, keeps_same, keeps_on, rose_before}
+use Rattle.mob_load.proofs.Steps.{keeps_same, keeps_on, passes_more, rose_before}
+use Rattle.mob_load.proofs.Stopping.{check_stops}
 use Rattle.mob_load.proofs.script.load_checks.Goals as goal
 
 pub loop-check-init : goal.loop-check-init
 loop-check-init g c = record {
-  left = λ m are. all_left c.args.epoch.now m (map check_seen c.args.checks.now) (map check_seen c.args.checks.now) (loaded_of c.nothing_loaded-loading.result) refl c.nothing_loaded-loading.ensures.nothing;
+  passed = λ m are. ap Ok c.nothing_loaded-loading.ensures.nothing;
   unread = all_unread c.args.epoch.now (map check_seen c.args.checks.now) (loaded_of c.nothing_loaded-loading.result) c.nothing_loaded-loading.ensures.nothing;
   files = keeps_same (g.F.Files.files c.args.files.now);
   asked = none_asked (g.F.Files.asked c.args.files.now);
@@ -27,8 +28,8 @@ loop-check-preserved g c =
     let here : map check_seen (drop i all) ≡ check_seen x ∷ map check_seen (drop (i + 1) all) =
     ap (map check_seen) (drop_more all i x c.loop-check-test.true ∙ ap (λ y. y ∷ drop (i + 1) all) (sym c.check-item.is)) in
     record {
-      left = λ m are. check_loads c.args.epoch.now m (map check_seen all) (map check_seen (drop i all)) (map check_seen (drop (i + 1) all)) (check_seen x) here (loaded_of c.loop-check.loading)
-          (loaded_of c.run_check.new.loading) (c.loop-check.invariant.left m are)
+      passed = λ m are. passes_more c.args.epoch.now m (map check_seen (take i all)) (map check_seen (take (i + 1) all)) (check_seen x) (loaded_of c.loop-check.loading) (loaded_of c.run_check.new.loading)
+          (front_more all i x c.loop-check-test.true c.check-item.is) (c.loop-check.invariant.passed m are)
           (c.in-Ok.ensures.loads m (files_here all i x c.loop-check-test.true c.check-item.is (g.F.Files.files c.args.files.now) (g.F.Files.files c.loop-check.files) m c.loop-check.invariant.files are));
       unread = check_reads c.args.epoch.now (map check_seen all) (map check_seen (drop i all)) (map check_seen (drop (i + 1) all)) (check_seen x) here (loaded_of c.loop-check.loading)
           (loaded_of c.run_check.new.loading) c.loop-check.invariant.unread c.in-Ok.ensures.reads;
@@ -44,11 +45,11 @@ returns-in-Err-clause-stopped g c =
     let all = c.args.checks.now in
     let i = c.loop-check.check-index in
     let x = c.check-item.result in
-    let here : map check_seen (drop i all) ≡ check_seen x ∷ map check_seen (drop (i + 1) all) =
-    ap (map check_seen) (drop_more all i x c.loop-check-test.true ∙ ap (λ y. y ∷ drop (i + 1) all) (sym c.check-item.is)) in
-    λ m are. check_stops c.args.epoch.now m (map check_seen all) (map check_seen (drop i all)) (map check_seen (drop (i + 1) all)) (check_seen x) here (loaded_of c.loop-check.loading)
-    (loaded_of c.run_check.new.loading) (c.loop-check.invariant.left m are) c.in-Err.end
-    (c.in-Err.ensures.loads m (files_here all i x c.loop-check-test.true c.check-item.is (g.F.Files.files c.args.files.now) (g.F.Files.files c.loop-check.files) m c.loop-check.invariant.files are)) c.in-Err.ensures.fault
+    let at = c.loop-check.invariant in
+    check_stops c.args.epoch.now (map check_seen (take i all)) (map check_seen (drop (i + 1) all)) (g.F.Files.files c.args.files.now) (g.F.Files.asked c.args.files.now) (g.F.Files.asked c.loop-check.files)
+    (g.F.Files.asked c.run_check.new.files) at.asked (loaded_of c.loop-check.loading) (loaded_of c.run_check.new.loading) (map check_seen all) (check_seen x) (around all i x c.loop-check-test.true c.check-item.is) c.in-Err.end c.in-Err.ensures.fault
+    c.in-Err.ensures.some c.in-Err.ensures.asked at.passed
+    (λ m are. c.in-Err.ensures.loads m (files_here all i x c.loop-check-test.true c.check-item.is (g.F.Files.files c.args.files.now) (g.F.Files.files c.loop-check.files) m at.files are))
 
 pub returns-in-Err-clause-cause : goal.returns-in-Err-clause-cause
 returns-in-Err-clause-cause g c =
@@ -59,19 +60,14 @@ returns-in-Err-clause-some g c =
     asked_some c.args.checks.now c.loop-check.check-index c.check-item.result c.loop-check-test.true c.check-item.is (g.F.Files.asked c.args.files.now) (g.F.Files.asked c.loop-check.files)
     (g.F.Files.asked c.run_check.new.files) c.loop-check.invariant.asked c.in-Err.ensures.some
 
-pub returns-in-Err-clause-last : goal.returns-in-Err-clause-last
-returns-in-Err-clause-last g c =
-    fault_last c.args.checks.now c.loop-check.check-index c.check-item.result c.loop-check-test.true c.check-item.is (g.F.Files.asked c.args.files.now) (g.F.Files.asked c.loop-check.files)
-    (g.F.Files.asked c.run_check.new.files) c.loop-check.invariant.asked c.in-Err.end c.in-Err.ensures.fault c.in-Err.ensures.some
-
 pub returns-in-Err-clause-files : goal.returns-in-Err-clause-files
 returns-in-Err-clause-files g c =
     keeps_on (g.F.Files.files c.args.files.now) (g.F.Files.files c.loop-check.files) (g.F.Files.files c.run_check.new.files) c.loop-check.invariant.files c.in-Err.ensures.files
 
 pub returns-clause-loaded : goal.returns-clause-loaded
 returns-clause-loaded g c =
-    λ m are. none_left c.args.epoch.now m (map check_seen c.args.checks.now) (map check_seen (drop c.loop-check.check-index c.args.checks.now)) (loaded_of c.loop-check.loading)
-    (ap (map check_seen) (drop_all c.loop-check.check-index c.args.checks.now c.loop-check-test.false)) (c.loop-check.invariant.left m are)
+    λ m are. subst (λ (cs : List Check). Loads c.args.epoch.now m (map check_seen cs) nothing_loaded (Ok (loaded_of c.loop-check.loading)))
+    (take_all c.loop-check.check-index c.args.checks.now c.loop-check-test.false) (c.loop-check.invariant.passed m are)
 
 pub returns-clause-reads : goal.returns-clause-reads
 returns-clause-reads g c =

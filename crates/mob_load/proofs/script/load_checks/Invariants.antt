@@ -1,15 +1,14 @@
-use Rattle.std.proofs.Common.{◌≤◌, drop, map, take}
+use Rattle.std.proofs.Common.{◌≤◌, drop, map, take, Ok}
 use Rattle.mob_outside.specs.Told.{KeepsFiles}
 use Rattle.mob_load.specs.Checks.{check_seen}
 use Rattle.mob_load.specs.Fronts.{AsksForAll, OnFiles}
-use Rattle.mob_load.specs.Loads.{HasNarrow, loaded_of, names_in}
+use Rattle.mob_load.specs.Loads.{HasNarrow, Loads, loaded_of, names_in, nothing_loaded}
 use Rattle.mob_load.proofs.Reading.{ReadsOn}
-use Rattle.mob_load.proofs.Steps.{IsLeft}
 use Rattle.mob_load.proofs.script.load_checks.Given as goal
 
 abbrev pub invariant-loop-check : goal.invariant-loop-check
 invariant-loop-check g l = record {
-  left : OnFiles (names_in (map check_seen l.checks)) (g.F.Files.files l.fn.files) (λ m. IsLeft l.epoch m (map check_seen l.checks) (map check_seen (drop l.check-index l.checks)) (loaded_of l.loading));
+  passed : OnFiles (names_in (map check_seen l.checks)) (g.F.Files.files l.fn.files) (λ m. Loads l.epoch m (map check_seen (take l.check-index l.checks)) nothing_loaded (Ok (loaded_of l.loading)));
   unread : ReadsOn l.epoch (map check_seen l.checks) (map check_seen (drop l.check-index l.checks)) (loaded_of l.loading);
   files : KeepsFiles (g.F.Files.files l.fn.files) (g.F.Files.files l.files);
   asked : AsksForAll (names_in (map check_seen (take l.check-index l.checks))) (g.F.Files.asked l.fn.files) (g.F.Files.asked l.files);

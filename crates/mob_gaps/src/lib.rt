@@ -1,0 +1,8 @@
+//! The gap of two boxes: a lower bound of the squared distance of what is in them.
+#![tactic(auto)]
+
+mod kind;
+pub mod laws;
+pub mod measure;
+
+pub use kind::Gap;

@@ -1,0 +1,99 @@
+-- Lists of entries in any order.
+use Rattle.std.proofs.Common.{◌≡◌, inl, inr, ℕ, zero, suc, ◌+◌, ◌<◌, ◌≤◌, Bool, true, false, List, [], ◌∷◌, ◌++◌, length, arith, refl, sym, ap, ◌∙◌, subst}
+use Rattle.std.specs.Prelude.{cond, Contains, sum_by, count_by, ◌==◌, ◌&&◌}
+use Rattle.std.specs.List.{flat_map}
+use Rattle.std.specs.List.Sorted.{IsPermutation}
+use Rattle.std.proofs.lemmas.Bool.{and_parts, and_from}
+use Rattle.std.proofs.lemmas.List.Elements.{Contains-append_cases, Contains-append_left, Contains-append_right}
+use Rattle.std.proofs.lemmas.List.Sorted.{Contains-permutation, IsPermutation-sym, sum_by-IsPermutation}
+use Rattle.std.proofs.lemmas.List.Sums.{sum_by-append, sum_by-cons}
+use borrow.Author.Tests.{eqb-true, eq-eqb}
+use Rattle.mob_stbox.specs.Boxes.{same_box}
+use Rattle.mob_stbox.specs.SameBoxes.{same_self, same_is}
+use Rattle.mob_list.proofs.Entries.{first_in, later_in, none_in, which_in}
+use Rattle.mob_rtree_nodes.specs.Removes.{hit}
+use Rattle.mob_rtree_nodes.specs.Tree.{AreSame, EntryOf}
+
+-- ---- what is made of each
+
+pub in_flat : {A B : Type 0} (f : A → List B) (xs : List A) (b : B) → Contains (flat_map f xs) b → (a : A) × Contains xs a × Contains (f a) b
+in_flat f [] b h = absurd (none_in b h)
+in_flat f (x ∷ xs) b h = elim (Contains-append_cases (f x) (flat_map f xs) b h) [
+  | inl i ↦ (x, first_in x xs, i)
+  | inr i ↦ let w = in_flat f xs b i in (w.0, later_in x xs w.0 w.1, w.2)
+]
+
+pub flat_in : {A B : Type 0} (f : A → List B) (xs : List A) (a : A) (b : B) → Contains xs a → Contains (f a) b → Contains (flat_map f xs) b
+flat_in f [] a b h k = absurd (none_in a h)
+flat_in f (x ∷ xs) a b h k = elim (which_in x xs a h) [
+  | inl e ↦ Contains-append_left (f x) (flat_map f xs) b (subst (λ z. Contains (f z) b) (sym e) k)
+  | inr i ↦ Contains-append_right (f x) (flat_map f xs) b (flat_in f xs a b i k)
+]
+
+pub flat_sum : {A B : Type 0} (g : B → ℕ) (f : A → List B) (xs : List A) → sum_by g (flat_map f xs) ≡ sum_by (λ x. sum_by g (f x)) xs
+flat_sum g f [] = refl
+flat_sum g f (x ∷ xs) = sum_by-append g (f x) (flat_map f xs) ∙ ap (λ n. sum_by g (f x) + n) (flat_sum g f xs) ∙ sym (sum_by-cons (λ x. sum_by g (f x)) x xs)
+
+-- of lists that are one another in another order
+pub flat_permuted : {A B : Type 0} (g : B → ℕ) (f : A → List B) (xs ys : List A) → IsPermutation xs ys → sum_by g (flat_map f ys) ≡ sum_by g (flat_map f xs)
+flat_permuted g f xs ys h = flat_sum g f ys ∙ sum_by-IsPermutation (λ x. sum_by g (f x)) xs ys h ∙ sym (flat_sum g f xs)
+
+pub flat_over : {A B : Type 0} (f : A → List B) (xs ys : List A) (b : B) → IsPermutation xs ys → Contains (flat_map f xs) b → Contains (flat_map f ys) b
+flat_over f xs ys b h k = let w = in_flat f xs b k in flat_in f ys w.0 b (Contains-permutation xs ys w.0 h w.1) w.2
+
+pub in_before : {A : Type 0} (xs ys : List A) (a : A) → IsPermutation xs ys → Contains ys a → Contains xs a
+in_before xs ys a h k = Contains-permutation ys xs a (IsPermutation-sym xs ys h) k
+
+-- ---- entries
+
+hit_self : (e : EntryOf) → hit e e ≡ 1
+hit_self e = ap (λ b. cond b 1 0) (and_from _ _ (same_self e.0) (eq-eqb e.1 e.1 refl))
+
+hit_is : (e x : EntryOf) (t : Bool) → (same_box x.0 e.0 && (x.1 == e.1)) ≡ t → 0 < cond t 1 0 → x ≡ e
+hit_is e x true h k =
+    let p = and_parts _ _ h in
+    let b = same_is x.0 e.0 p.0 in
+    let n = eqb-true x.1 e.1 p.1 in
+    λ i. (b i, n i)
+hit_is e x false h k = absurd (omega (arith, k))
+
+pub one_in : (xs : List EntryOf) (e : EntryOf) → Contains xs e → 0 < sum_by (hit e) xs
+one_in [] e h = absurd (none_in e h)
+one_in (x ∷ xs) e h = elim (which_in x xs e h) [
+  | inl i ↦ let s : ◌≡◌ {A = ℕ} (hit e x) 1 = ap (hit e) i ∙ hit_self e in let c = sum_by-cons (hit e) x xs in omega (arith, s, c)
+  | inr i ↦ let k = one_in xs e i in let c = sum_by-cons (hit e) x xs in omega (arith, k, c)
+]
+
+pub in_one : (xs : List EntryOf) (e : EntryOf) → 0 < sum_by (hit e) xs → Contains xs e
+in_one [] e h = absurd (omega (arith, h))
+in_one (x ∷ xs) e h = by_test (hit e x) refl (λ k. in_one xs e k)
+  where
+    by_test : (n : ℕ) → hit e x ≡ n → (0 < sum_by (hit e) xs → Contains xs e) → Contains (x ∷ xs) e
+    by_test zero f more = later_in x xs e (more (let c = sum_by-cons (hit e) x xs in omega (arith, h, f, c)))
+    by_test (suc n) f more = subst (λ z. Contains (x ∷ xs) z) (hit_is e x _ refl (subst (λ z. 0 < z) (sym f) (omega arith))) (first_in x xs)
+
+pub in_same : (xs ys : List EntryOf) (e : EntryOf) → AreSame xs ys → Contains xs e → Contains ys e
+in_same xs ys e h k = in_one ys e (let p = one_in xs e k in let q = h (hit e) in omega (arith, p, q))
+
+pub same_back : (xs ys : List EntryOf) → AreSame xs ys → AreSame ys xs
+same_back xs ys h g = sym (h g)
+
+-- ---- counts
+
+pub count_all : {A : Type 0} (p : A → Bool) (xs : List A) → ((x : A) → Contains xs x → p x ≡ true) → length xs ≤ sum_by (λ x. cond (p x) 1 0) xs
+count_all p [] h = omega arith
+count_all p (x ∷ xs) h =
+    let e : ◌≡◌ {A = ℕ} (cond (p x) 1 0) 1 = ap (λ b. cond b 1 0) (h x (first_in x xs)) in
+    let k = count_all p xs (λ y c. h y (later_in x xs y c)) in
+    let c = sum_by-cons (λ x. cond (p x) 1 0) x xs in
+    omega (arith, e, k, c)
+
+-- all that pass are counted
+pub count_some : (p : EntryOf → Bool) (gone tried left entries : List EntryOf) → AreSame ((gone ++ tried) ++ left) entries → ((e : EntryOf) → Contains tried e → p e ≡ true) → length tried ≤ count_by p entries
+count_some p gone tried left entries same h =
+    let f : EntryOf → ℕ = λ e. cond (p e) 1 0 in
+    let a = count_all p tried h in
+    let b = same f in
+    let c = sum_by-append f (gone ++ tried) left in
+    let d = sum_by-append f gone tried in
+    omega (arith, a, b, c, d)

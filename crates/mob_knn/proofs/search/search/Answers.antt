@@ -1,0 +1,48 @@
+use Rattle.std.proofs.Common.{rules, sym, ◌∙◌, arith}
+use Rattle.std.specs.BinaryHeap.{heap_items}
+use Rattle.mob_slice.specs.Sides.{operand_of}
+use Rattle.mob_knn.specs.Nearest.{HasApproach, IsPassed}
+use Rattle.mob_knn.specs.Steps.{IsEntry, HasUnfitPart}
+use Rattle.mob_knn.proofs.Finishing.{nil_of, on_passed, none_found, begun_from, reached, next_state, last_state, unfit_row}
+use Rattle.mob_knn.proofs.Known.{trips_known}
+use Rattle.mob_knn.proofs.Searching.{nothing_left}
+use Rattle.mob_knn.proofs.Sizes.{falls}
+use Rattle.mob_knn.proofs.search.search.Goals as goal
+
+pub returns-in_default-clause-nearest : goal.returns-in_default-clause-nearest
+returns-in_default-clause-nearest g c = none_found (trips_known c.args.tree.now.nodes c.args.tree.now.root c.args.trips.now (operand_of c.args.asked.now) c.args.area.now c.args.tree.now.entries c.requires.entries c.requires.asked) c.args.k c.new-found.result.items c.in_default.ensures.none c.new-found.ensures.items
+
+pub taking-init : goal.taking-init
+taking-init g c = (
+  begun_from (trips_known c.args.tree.now.nodes c.args.tree.now.root c.args.trips.now (operand_of c.args.asked.now) c.args.area.now c.args.tree.now.entries c.requires.entries c.requires.asked) c.args.k c.args.steps.now c.in-Some.root c.zero.result (heap_items c.new-heap.result) (heap_items c.wait.new.heap) c.new-found.result.items c.requires.some (sym c.root.ensures.is ∙ c.in-Some.is) c.in-Some.ensures.under c.zero.ensures.value c.new-heap.ensures.items c.new-found.ensures.items c.in-Ok.ensures.more,
+  c.in-Ok.ensures.order c.new-heap.ensures.heap_order,
+)
+
+pub advance-requires : goal.advance-requires
+advance-requires g c = record { reached = reached (trips_known c.args.tree.now.nodes c.args.tree.now.root c.args.trips.now (operand_of c.args.asked.now) c.args.area.now c.args.tree.now.entries c.requires.entries c.requires.asked) c.taking.invariant.0 c.in-Some-pop.ensures.permutation (c.in-Some-pop.ensures.below_top c.taking.invariant.1) }
+
+pub returns-in-Err-advance-clause-passed : goal.returns-in-Err-advance-clause-passed
+returns-in-Err-advance-clause-passed g c =
+    on_passed (λ row formula. IsEntry c.in-Some-pop.first.what row × HasUnfitPart c.args.trips.now (operand_of c.args.asked.now) row formula) (IsPassed c.args.trips.now (operand_of c.args.asked.now) c.args.k) c.in-Err-advance.fault c.in-Err-advance.ensures.err
+    (unfit_row c.args.tree.now.entries c.args.trips.now (operand_of c.args.asked.now) c.args.area.now c.requires.entries c.requires.asked c.taking.invariant.0 c.in-Some-pop.ensures.permutation (c.in-Some-pop.ensures.below_top c.taking.invariant.1))
+
+pub returns-then-len-k-clause-nearest : goal.returns-then-len-k-clause-nearest
+returns-then-len-k-clause-nearest g c = (last_state (trips_known c.args.tree.now.nodes c.args.tree.now.root c.args.trips.now (operand_of c.args.asked.now) c.args.area.now c.args.tree.now.entries c.requires.entries c.requires.asked) c.taking.invariant.0 c.in-Some-pop.ensures.permutation (c.in-Some-pop.ensures.below_top c.taking.invariant.1) _ c.in-Ok-advance.ensures.spread c.in-Ok-advance.ensures.ok (search rules)).first
+
+pub returns-then-len-k-clause-cost : goal.returns-then-len-k-clause-cost
+returns-then-len-k-clause-cost g c = (last_state (trips_known c.args.tree.now.nodes c.args.tree.now.root c.args.trips.now (operand_of c.args.asked.now) c.args.area.now c.args.tree.now.entries c.requires.entries c.requires.asked) c.taking.invariant.0 c.in-Some-pop.ensures.permutation (c.in-Some-pop.ensures.below_top c.taking.invariant.1) _ c.in-Ok-advance.ensures.spread c.in-Ok-advance.ensures.ok (search rules)).cost
+
+pub taking-smaller : goal.taking-smaller
+taking-smaller g c = falls c.args.tree.now.nodes c.args.area.now (HasApproach c.args.trips.now (operand_of c.args.asked.now)) c.in-Some-pop.first (heap_items c.taking.heap) (heap_items c.pop.new.self) c.taking.found.items c.taking.steps _ c.in-Some-pop.ensures.permutation c.in-Ok-advance.ensures.spread c.in-Ok-advance.ensures.ok
+
+pub taking-preserved : goal.taking-preserved
+taking-preserved g c = (
+  next_state (trips_known c.args.tree.now.nodes c.args.tree.now.root c.args.trips.now (operand_of c.args.asked.now) c.args.area.now c.args.tree.now.entries c.requires.entries c.requires.asked) c.taking.invariant.0 c.in-Some-pop.ensures.permutation (c.in-Some-pop.ensures.below_top c.taking.invariant.1) _ c.in-Ok-advance.ensures.spread c.in-Ok-advance.ensures.ok (λ e. c.if-len-k.false (search (rules, e))),
+  c.in-Ok-advance.ensures.order (c.in-Some-pop.ensures.heap_order c.taking.invariant.1).0,
+)
+
+pub returns-clause-nearest : goal.returns-clause-nearest
+returns-clause-nearest g c = (nothing_left _ _ _ _ _ (trips_known c.args.tree.now.nodes c.args.tree.now.root c.args.trips.now (operand_of c.args.asked.now) c.args.area.now c.args.tree.now.entries c.requires.entries c.requires.asked) _ _ _ c.taking.invariant.0 (nil_of (heap_items c.taking.heap) (let n = c.in_default-pop.ensures.none in let o = c.taking.heap.data.ok.0 in omega (arith, n, o)))).first
+
+pub returns-clause-cost : goal.returns-clause-cost
+returns-clause-cost g c = (nothing_left _ _ _ _ _ (trips_known c.args.tree.now.nodes c.args.tree.now.root c.args.trips.now (operand_of c.args.asked.now) c.args.area.now c.args.tree.now.entries c.requires.entries c.requires.asked) _ _ _ c.taking.invariant.0 (nil_of (heap_items c.taking.heap) (let n = c.in_default-pop.ensures.none in let o = c.taking.heap.data.ok.0 in omega (arith, n, o)))).cost

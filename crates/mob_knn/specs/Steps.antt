@@ -1,0 +1,66 @@
+-- The steps of a search.
+use Rattle.std.specs.Prelude.{◌≡◌, ℕ, ◌+◌, List, [], ◌∷◌, ◌++◌, Option, Some, None, MatchOption}
+use Rattle.std.specs.List.{flat_map}
+use Rattle.std.specs.List.Sorted.{IsPermutation}
+use Rattle.mob_ratio.specs.Ratio.{Ratio}
+use Rattle.mob_slice.specs.Entries.{IsFirst}
+use Rattle.mob_slice.specs.Sides.{Slices, pieces}
+use Rattle.mob_slice.specs.declared.formula.Formula.{Formula}
+use Rattle.mob_stbox.specs.Boxes.{BoxOf}
+use Rattle.mob_rtree_nodes.specs.Reach.{Branch, IsReachedNode, children}
+use Rattle.mob_near.specs.Entries.{entries_of_approach}
+use Rattle.mob_knn.specs.declared.waiting.Waiting.{Waiting}
+use Rattle.mob_knn.specs.declared.waiting.What.{What}
+use Rattle.mob_knn.specs.declared.waiting.What.TheVariants.{Node, Entry, Answer}
+use Rattle.mob_knn.specs.Nearest.{Trip, Asked, IsTrip}
+use Rattle.mob_knn.specs.Waits.{waits_of}
+
+-- what there is, if there is one
+abbrev pub IsOnly : (Ratio → Type 0) → Option Ratio → Type 0
+IsOnly has o = MatchOption o ((m : Ratio) → has m → ⊥) has
+
+-- a node that waits is reached
+abbrev pub IsReachedIn : List Branch → Option ℕ → What → Type 0
+IsReachedIn bs root (Node n) = IsReachedNode bs root n
+IsReachedIn bs root (Entry b row) = Unit {0}
+IsReachedIn bs root (Answer row) = Unit {0}
+
+abbrev pub found_answer : ℕ → Option Ratio → List Waiting
+found_answer row None = []
+found_answer row (Some m) = record { key = m; what = Answer row } ∷ []
+
+-- what waits, what was found and how many steps were taken
+pub record State : Type 0 where
+  pub heap : List Waiting
+  pub found : List (ℕ × Ratio)
+  pub steps : ℕ
+
+-- Such a state comes of another one where `first` was taken out of what waits: a node is opened, an entry looked at, an answer told.
+pub record IsOpened (bs : List Branch) (q : BoxOf) (key : Ratio) (n : ℕ) (old new : State) : Type 0 where
+  pub heap : IsPermutation (waits_of key q (children bs n) ++ old.heap) new.heap
+  pub found : new.found ≡ old.found
+  pub steps : new.steps ≡ old.steps
+
+pub record IsMeasured (has : ℕ → Ratio → Type 0) (row : ℕ) (old new : State) : Type 0 where
+  pub answer : Option Ratio
+  pub only : IsOnly (has row) answer
+  pub heap : IsPermutation (found_answer row answer ++ old.heap) new.heap
+  pub found : new.found ≡ old.found
+  pub steps : new.steps ≡ old.steps + 1
+
+pub record IsAnswered (key : Ratio) (row : ℕ) (old new : State) : Type 0 where
+  pub heap : new.heap ≡ old.heap
+  pub found : new.found ≡ old.found ++ (row, key) ∷ []
+  pub steps : new.steps ≡ old.steps
+
+abbrev pub IsAdvanced : List Branch → BoxOf → (ℕ → Ratio → Type 0) → Ratio → What → State → State → Type 0
+IsAdvanced bs q has key (Node n) old new = IsOpened bs q key n old new
+IsAdvanced bs q has key (Entry b row) old new = IsMeasured has row old new
+IsAdvanced bs q has key (Answer row) old new = IsAnswered key row old new
+
+-- a fault at an entry
+abbrev pub HasUnfitPart : List (Option Trip) → Asked → ℕ → Formula → Type 0
+HasUnfitPart trips asked row formula = (trip : Trip) × IsTrip trips row trip × IsFirst (flat_map entries_of_approach (pieces (Slices trip) asked)) (Some formula)
+
+abbrev pub IsEntry : What → ℕ → Type 0
+IsEntry what row = (b : BoxOf) × (what ≡ Entry b row)

@@ -1,0 +1,180 @@
+// What waits in the heap of a search, and the order in which it is taken.
+ghost use Rattle.std.specs.Prelude.{◌≡◌, ◌∷◌, ◌++◌, OnOk, IfErr};
+ghost use Rattle.std.proofs.Common.{rules};
+ghost use Rattle.std.specs.BinaryHeap.{heap_items, KeepsHeap};
+ghost use Rattle.std.specs.Cmp.{partial_order_from_own_ties};
+ghost use Rattle.std.specs.Cmp.Rules.{comparing};
+ghost use Rattle.std.specs.List.{flat_map};
+ghost use Rattle.std.specs.List.Sorted.{IsPermutation};
+ghost use Rattle.std.specs.Ordering.{as_partial_cmp, eq_by_cmp};
+ghost use Rattle.mob_slice.specs.Ranks.{compare_ratio};
+ghost use Rattle.mob_knn.specs.declared.fault.NearFault.TheVariants.{NoMemory};
+ghost use Rattle.mob_knn.specs.Waits.{what_of, waiting_cmp, waiting_total, rank_of, waiting_number, waits_at, waits_of};
+
+use crate::fault::NearFault;
+use mob_frac::Frac;
+use mob_gaps::Gap;
+use mob_gaps::measure::gap;
+use mob_plane::greater;
+use mob_rtree::Child;
+use mob_stbox::StBox;
+use std::alloc::Global;
+use std::cmp::Ordering;
+use std::collections::BinaryHeap;
+
+/// What waits.
+#[derive(Clone, Copy, Drop)]
+pub enum What {
+    /// A node of the tree.
+    Node(u32),
+    /// The box and the row of a trip.
+    Entry(StBox, u32),
+    /// A row whose approach is known.
+    Answer(u32),
+}
+
+/// What waits, with its key.
+#[derive(Clone, Copy, Drop)]
+pub struct Waiting {
+    /// A lower bound of all approaches below a node or of an entry; the approach of an answer.
+    pub key: Frac,
+    /// What waits.
+    pub what: What,
+}
+
+impl What {
+    // Of what has the same key answers come last, so every row that may have the same approach is known by then.
+    fn rank(&self) -> u8
+        ensures value { result ≡ rank_of self.now }
+    {
+        match self {
+            What::Node(_) => 0,
+            What::Entry(_, _) => 1,
+            What::Answer(_) => 2,
+        }
+    }
+
+    fn number(&self) -> u32
+        ensures value { result ≡ waiting_number self.now }
+    {
+        match self {
+            What::Node(n) => *n,
+            What::Entry(_, row) => *row,
+            What::Answer(row) => *row,
+        }
+    }
+}
+
+// The order of two keys.
+fn compare_keys(a: &Frac, b: &Frac) -> Ordering
+    ensures value { result ≡ compare_ratio a.now b.now }
+{
+    if a.is_before(b) {
+        return Ordering::Less;
+    }
+    if b.is_before(a) {
+        return Ordering::Greater;
+    }
+    Ordering::Equal
+}
+
+impl PartialEq for Waiting {
+    ghost eq = { eq_by_cmp waiting_cmp };
+
+    ghost laws = { Prim.search (comparing, rules, waiting_total) };
+
+    fn eq(&self, other: &Waiting) -> bool {
+        self.cmp(other) == Ordering::Equal
+    }
+}
+
+impl Eq for Waiting {
+    ghost laws = { Prim.search (comparing, rules, waiting_total) };
+}
+
+impl Ord for Waiting {
+    ghost cmp = { waiting_cmp };
+
+    ghost total = { waiting_total };
+
+    ghost matches_partial_cmp = { Prim.search (comparing, rules) };
+
+    ghost matches_eq = { Prim.search (comparing, rules) };
+
+    /// A heap takes the greatest first: here the one with the least key.
+    fn cmp(&self, other: &Waiting) -> Ordering {
+        let by_rank = other.what.rank().cmp(&self.what.rank());
+        let by_number = other.what.number().cmp(&self.what.number());
+        compare_keys(&other.key, &self.key).then(by_rank.then(by_number))
+    }
+}
+
+impl PartialOrd for Waiting {
+    ghost partial_cmp = { as_partial_cmp waiting_cmp };
+
+    ghost laws = { partial_order_from_own_ties (Prim.search (comparing, rules, waiting_total)) (Prim.search (comparing, rules)) };
+
+    fn partial_cmp(&self, other: &Waiting) -> Option<Ordering> {
+        Some(self.cmp(other))
+    }
+}
+
+// A child of a node as what waits.
+fn what_of(area: &StBox, child: &Child) -> What
+    ensures value { result ≡ what_of (area.now, child.now) }
+{
+    match child {
+        Child::Node(n) => What::Node(*n),
+        Child::Entry(row) => What::Entry(*area, *row),
+    }
+}
+
+/// Pushes one more onto the heap.
+pub fn wait(heap: &mut BinaryHeap<Waiting>, key: Frac, what: What) -> Result<(), NearFault>
+    ensures more { OnOk result (IsPermutation (record { key = key; what = what } ∷ heap_items heap.old) (heap_items heap.new)) }
+    ensures order { OnOk result (KeepsHeap waiting_cmp (heap_items heap.old) (heap_items heap.new)) }
+    ensures err { IfErr result (λ e. e ≡ NoMemory) }
+{
+    match heap.push(Waiting { key, what }) {
+        Ok(()) => Ok(()),
+        Err(_) => Err(NearFault::NoMemory),
+    }
+}
+
+/// Pushes the children of a node onto the heap, except those that are apart from the asked box. `floor` is the node's key.
+pub fn open(
+    heap: &mut BinaryHeap<Waiting>,
+    kids: &[(StBox, Child)],
+    floor: &Frac,
+    asked: &StBox,
+) -> Result<(), NearFault>
+    ensures more { OnOk result (IsPermutation (waits_of floor.now asked.now kids.now ++ heap_items heap.old) (heap_items heap.new)) }
+    ensures order { OnOk result (KeepsHeap waiting_cmp (heap_items heap.old) (heap_items heap.new)) }
+    ensures err { IfErr result (λ e. e ≡ NoMemory) }
+{
+    for kid in kids {
+        match open_kid(heap, &kid.0, &kid.1, floor, asked) {
+            Ok(()) => (),
+            Err(fault) => return Err(fault),
+        }
+    }
+    Ok(())
+}
+
+// The same for one child.
+fn open_kid(
+    heap: &mut BinaryHeap<Waiting>,
+    area: &StBox,
+    child: &Child,
+    floor: &Frac,
+    asked: &StBox,
+) -> Result<(), NearFault>
+    ensures more { OnOk result (IsPermutation (waits_at floor.now asked.now (area.now, child.now) ++ heap_items heap.old) (heap_items heap.new)) }
+    ensures order { OnOk result (KeepsHeap waiting_cmp (heap_items heap.old) (heap_items heap.new)) }
+    ensures err { IfErr result (λ e. e ≡ NoMemory) }
+{
+    match gap(area, asked) {
+        Gap::Apart => Ok(()),
+        Gap::AtLeast(least) => wait(heap, greater(floor, &least), what_of(area, child)),
+    }
+}

@@ -1,0 +1,73 @@
+-- What the options of a command line say.
+use Rattle.std.proofs.Common.{List, ◌≡◌, ◌∙◌, ℕ, ℤ, Bool, Option, Some, None, Ok, Err, refl, sym, subst, arith}
+use Rattle.std.specs.Prelude.{◌≢◌, Result, IfOk, IfSome, IsNone, cond, codes}
+use Rattle.clap.specs.Words.{Text}
+use Rattle.mob_ast.specs.declared.types.SqlType.{SqlType}
+use Rattle.mob_ast.specs.declared.types.SqlType.TheVariants as sql
+use Rattle.mob_value.specs.declared.value.Value.{Value}
+use Rattle.mob_numeral.specs.declared.fault.ReadText.{ReadText}
+use Rattle.mob_numeral.specs.declared.fault.ReadText.TheVariants.{NoMemory}
+use Rattle.mob_literal.specs.SqlText.{SaysAs}
+use Rattle.mob_literal.proofs.SqlReading.{one_sql_reading}
+use Rattle.mob_words.specs.CommandLine.{IsCount}
+use Rattle.mob_words.proofs.OneSetting.{one_count, one_day}
+use Rattle.mob_near_run.specs.CommandLine.{IsRowCount, NearSays, near_option, target_type, target_value}
+use Rattle.mob_near_run.specs.declared.settings.NearSettings.{NearSettings}
+use Rattle.mob_near_run.specs.declared.settings.Target.{Target}
+use Rattle.mob_near_run.specs.declared.settings.Target.TheVariants.{Moving, Fixed}
+
+known : (v : Value) → ◌≡◌ {A = Result Value ReadText} (Ok v) (Err NoMemory) → ⊥
+known v e = absurd cc
+
+fault_known : (f : ReadText) → f ≢ NoMemory → ◌≡◌ {A = Result Value ReadText} (Err f) (Err NoMemory) → ⊥
+fault_known f ne e = ne cc
+
+apart : (f : ReadText) (v : Value) → ◌≡◌ {A = Result Value ReadText} (Err f) (Ok v) → ⊥
+apart f v e = absurd cc
+
+pub refuses : {E : Type 0} (ty : SqlType) (day : ℤ) (text : Text) (fault : ReadText) (r : Result (Option Target) E) → SaysAs ty day text (Err fault) → IfOk r (λ o. (o ≡ None) × (fault ≢ NoMemory))
+    → IfOk r (λ o. IsNone o → (t : Target) → SaysAs ty day text (Ok (target_value t)) → ⊥)
+refuses ty day text fault (Ok o) h k = λ none t says. apart fault (target_value t) (one_sql_reading ty day text (Err fault) (Ok (target_value t)) (fault_known fault k.1) (known (target_value t)) h says)
+refuses ty day text fault (Err e) h k = tt
+
+pub says_none : {E : Type 0} (P : Target → Type 0) (Q : Type 0) (r : Result (Option Target) E) → IfOk r (λ o. (o ≡ None) × Q) → IfOk r (λ o. IfSome o P)
+says_none P Q (Ok None) h = tt
+says_none P Q (Ok (Some t)) h = absurd (none_some h.0)
+  where
+    none_some : ◌≡◌ {A = Option Target} (Some t) None → ⊥
+    none_some e = absurd cc
+says_none P Q (Err e) h = tt
+
+pub by_type : {E : Type 0} (b : Bool) (t : Bool) (day : ℤ) (text : Text) (r : Result (Option Target) E) → b ≡ t → IfOk r (λ o. IsNone o → (t' : Target) → SaysAs (cond t sql.TPoint sql.Point) day text (Ok (target_value t')) → ⊥)
+    → IfOk r (λ o. IsNone o → (t' : Target) → SaysAs (cond b sql.TPoint sql.Point) day text (Ok (target_value t')) → ⊥)
+by_type b t day text r e h = subst (λ z. IfOk r (λ o. IsNone o → (t' : Target) → SaysAs (cond z sql.TPoint sql.Point) day text (Ok (target_value t')) → ⊥)) (sym e) h
+
+-- ---- one
+
+pub one_text : (o : Option Text) (a b : Text) → o ≡ Some a → o ≡ Some b → a ≡ b
+one_text o a b h k = let e : ◌≡◌ {A = Option Text} (Some a) (Some b) = sym h ∙ k in cc
+
+one_row_count : (o : Option Text) (m n : ℕ) → IsRowCount o m → IsRowCount o n → m ≡ n
+one_row_count o m n h k = one_count 1000 h.0 m n (omega arith) h.2 (subst (λ x. IsCount 1000 x n) (one_text o k.0 h.0 k.1 h.1) k.2)
+
+same_target : (a b : Target) → target_value a ≡ target_value b → a ≡ b
+same_target (Moving v) (Moving w) e = cc
+same_target (Moving v) (Fixed p) e = absurd cc
+same_target (Fixed p) (Moving v) e = absurd cc
+same_target (Fixed p) (Fixed q) e = cc
+
+ok_same : (v w : Value) → ◌≡◌ {A = Result Value ReadText} (Ok v) (Ok w) → v ≡ w
+ok_same v w e = cc
+
+same_settings : (a b : NearSettings) → a.k ≡ b.k → a.epoch ≡ b.epoch → a.to ≡ b.to → a ≡ b
+same_settings a b k e t = rw (k, e, t) refl
+
+-- arguments say one record of settings
+pub near_one : (words : List Text) (a b : NearSettings) → NearSays words a → NearSays words b → a ≡ b
+near_one words a b h k =
+    let e = one_day (near_option (codes "epoch") words) a.epoch b.epoch h.day k.day in
+    let t = one_text (near_option (codes "to") words) h.text k.text h.to k.to in
+    let s = subst (λ d. SaysAs (target_type h.text) d h.text (Ok (target_value a.to))) e h.says in
+    let u = subst (λ x. SaysAs (target_type x) b.epoch x (Ok (target_value b.to))) (sym t) k.says in
+    let v = ok_same (target_value a.to) (target_value b.to) (one_sql_reading (target_type h.text) b.epoch h.text (Ok (target_value a.to)) (Ok (target_value b.to)) (known (target_value a.to)) (known (target_value b.to)) s u) in
+    same_settings a b (one_row_count (near_option (codes "k") words) a.k b.k h.count k.count) e (same_target a.to b.to v)

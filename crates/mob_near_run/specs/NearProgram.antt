@@ -1,0 +1,39 @@
+-- The program mobnear.
+use Rattle.std.specs.Prelude.{◌≡◌, ◌∷◌, ℕ, List, [], codes}
+use Rattle.mob_slice.specs.declared.formula.Formula.{Formula}
+use Rattle.mob_outside.specs.EndsSeen.{StreamSeen}
+use Rattle.mob_knn.specs.declared.fault.NearFault.{NearFault}
+use Rattle.mob_knn.specs.declared.fault.NearFault.TheVariants as near
+use Rattle.mob_trips.specs.Endings.{IsTripsEnding}
+use Rattle.mob_trips.specs.Program.{ProgramOf}
+use Rattle.mob_trips.specs.Seen.{trips_seen}
+use Rattle.mob_trips.specs.declared.ending.Ending.{Ending}
+use Rattle.mob_trips.specs.declared.ending.Ending.TheVariants as end
+use Rattle.mob_near_run.specs.CommandLine.{NearSays}
+use Rattle.mob_near_run.specs.NearAnswers.{NearWrites, IsRowPassed}
+use Rattle.mob_near_run.specs.declared.settings.NearSettings.{NearSettings}
+
+-- It writes the nearest rows. A row whose approach has a part that does not fit may stop it; where there is no such row, it has an answer.
+-- No row passes a limit.
+abbrev pub near_program : ProgramOf NearSettings
+near_program = record {
+  says = NearSays;
+  day = λ settings. settings.epoch;
+  writes = NearWrites;
+  stops = λ settings rows names formula. (row : ℕ) × (names ≡ row ∷ []) × IsRowPassed settings rows row formula;
+  limits = λ settings rows names. ⊥;
+  fits = λ settings rows. (row : ℕ) (formula : Formula) → IsRowPassed settings rows row formula → ⊥;
+}
+
+-- the ending of a fault: that row with its formula, or out of memory
+abbrev pub EndsAt : NearFault → Ending → Type 0
+EndsAt (near.Passed row formula) ending = ending ≡ end.Overflow (row ∷ []) formula
+EndsAt near.NoMemory ending = ending ≡ end.NoMemory
+
+-- so ends a run on these streams, where its arguments say these settings
+abbrev pub NearEnds : NearSettings → StreamSeen → StreamSeen → Ending → Type 0
+NearEnds settings table out ending = (words : List (List ℕ)) → NearSays words settings → IsTripsEnding near_program ending (trips_seen words table out)
+
+-- the line of arguments that are not taken
+abbrev pub near_usage : List ℕ
+near_usage = codes "usage: mobnear --k K --to TEXT [--epoch DATE] < trips.csv\n"

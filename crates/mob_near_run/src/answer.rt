@@ -1,0 +1,178 @@
+// The text of the answer.
+ghost use Rattle.std.specs.Prelude.{◌≡◌, ◌≤◌, ◌<◌, IfOk, IfErr, length, map};
+ghost use Rattle.mob_numeral.specs.NumberText.{number_text};
+ghost use Rattle.mob_slice.specs.Sides.{operand_of};
+ghost use Rattle.mob_literal.specs.Fields.{field_text};
+ghost use Rattle.mob_records.specs.AnswerText.{answer_text};
+ghost use Rattle.mob_knn.specs.Nearest.{AreNearest, AreOfTrips, IsPassed, OnNearFault};
+ghost use Rattle.mob_near_run.specs.NearAnswers.{IsRowPassed, NearWrites, target_operand, id_at, near_fields, near_names};
+
+use crate::rows::split_rows;
+use crate::settings::{NearSettings, Target};
+use mob_frac::Frac;
+use mob_knn::{NearFault, index_of, nearest};
+use mob_list::items::Items;
+use mob_list::text::Text;
+use mob_literal::write_field;
+use mob_numeral::write_number;
+use mob_records::counted_text;
+use mob_rtree::RTree;
+use mob_scalar::Epoch;
+use mob_slice::{Moving, Operand, PlaneLine};
+use mob_steps::Steps;
+use mob_value::Value;
+use std::alloc::{AllocError, Global};
+use std::marker::Brand;
+use std::sync::ledger::{Blank, Ledger};
+
+// The target as an operand.
+fn asked<'a>(to: &'a Target) -> Operand<'a, PlaneLine>
+    ensures same { operand_of result ≡ target_operand to.entry.now }
+{
+    match to {
+        Target::Moving(moving) => Operand::Moving(moving),
+        Target::Fixed(point) => Operand::Fixed(point),
+    }
+}
+
+// The nearest rows, with a step counter of their own.
+fn nearest_alone<L: Ledger>(
+    alloc: Global,
+    tree: &RTree,
+    trips: &[Option<Moving<PlaneLine>>],
+    to: &Target,
+    k: u32,
+    blank: Blank,
+) -> Result<Items<(u32, Frac)>, NearFault>
+    requires entries { AreOfTrips trips.now tree.now.entries }
+    requires name { blank.name ≡ L.name }
+    requires parts { blank.parts ≡ L.parts }
+    requires some { 0 < L.parts }
+    ensures nearest { IfOk result (λ rs. AreNearest trips.now (target_operand to.now) k rs) }
+    ensures passed { IfErr result (OnNearFault (λ row formula. IsPassed trips.now (target_operand to.now) k row formula)) }
+{
+    let mut steps = Steps::<L>::new(blank);
+    nearest(alloc, tree, trips, asked(to), k, &mut steps)
+}
+
+// The nearest rows of these trips.
+fn found(
+    alloc: Global,
+    trips: &[Option<Moving<PlaneLine>>],
+    to: &Target,
+    k: u32,
+) -> Result<Items<(u32, Frac)>, NearFault>
+    requires few { length trips.now ≤ 1000000 }
+    ensures nearest { IfOk result (λ rs. AreNearest trips.now (target_operand to.now) k rs) }
+    ensures passed { IfErr result (OnNearFault (λ row formula. IsPassed trips.now (target_operand to.now) k row formula)) }
+{
+    match index_of(alloc, trips) {
+        Ok(tree) => nearest_alone::<Brand>(alloc, &tree, trips, to, k, Blank::new(1)),
+        Err(_) => Err(NearFault::NoMemory),
+    }
+}
+
+// The id of a row, as a field.
+fn id_text(alloc: Global, ids: &[Value], row: u32, epoch: &Epoch) -> Result<Text, AllocError>
+    ensures text { IfOk result (λ t. t ≡ field_text epoch.now (id_at ids.now row)) }
+{
+    let mut text = String::new(alloc);
+    let index = row as usize;
+    if index >= ids.len() {
+        write_field(&Value::Null, epoch, &mut text)?;
+        return Ok(Text::from_string(text));
+    }
+    write_field(&ids[index], epoch, &mut text)?;
+    Ok(Text::from_string(text))
+}
+
+// An approach, as a field.
+fn number_field(alloc: Global, number: &Frac) -> Result<Text, AllocError>
+    ensures text { IfOk result (λ t. t ≡ number_text number.now) }
+{
+    let mut text = String::new(alloc);
+    write_number(number, &mut text)?;
+    Ok(Text::from_string(text))
+}
+
+// The fields of one row of the answer.
+fn fields_of(
+    alloc: Global,
+    ids: &[Value],
+    row: u32,
+    approach: &Frac,
+    epoch: &Epoch,
+) -> Result<Items<Text>, AllocError>
+    ensures fields { IfOk result (λ f. f ≡ near_fields epoch.now ids.now (row, approach.now)) }
+{
+    let mut fields = Items::new(alloc);
+    fields.push(id_text(alloc, ids, row, epoch)?)?;
+    fields.push(number_field(alloc, approach)?)?;
+    Ok(fields)
+}
+
+// The rows of the answer.
+fn rows_of(
+    alloc: Global,
+    ids: &[Value],
+    found: &[(u32, Frac)],
+    epoch: &Epoch,
+) -> Result<Items<Items<Text>>, AllocError>
+    ensures rows { IfOk result (λ rows. rows ≡ map (near_fields epoch.now ids.now) found.now) }
+{
+    let mut rows = Items::new(alloc);
+    for entry in found {
+        rows.push(fields_of(alloc, ids, entry.0, &entry.1, epoch)?)?;
+    }
+    Ok(rows)
+}
+
+// The names of the columns.
+fn names(alloc: Global) -> Result<Items<Text>, AllocError>
+    ensures names { IfOk result (λ names. names ≡ near_names) }
+{
+    let id = Text::from_string(String::from_str(alloc, "id")?);
+    let approach = Text::from_string(String::from_str(alloc, "approach")?);
+    let mut names = Items::new(alloc);
+    names.push(id)?;
+    names.push(approach)?;
+    Ok(names)
+}
+
+// The text of the rows found.
+fn text_of(
+    alloc: Global,
+    ids: &[Value],
+    found: &[(u32, Frac)],
+    epoch: &Epoch,
+) -> Result<Vec<u8>, AllocError>
+    ensures text { IfOk result (λ t. t.items ≡ answer_text near_names (map (near_fields epoch.now ids.now) found.now)) }
+{
+    let names = names(alloc)?;
+    let rows = rows_of(alloc, ids, found, epoch)?;
+    counted_text(alloc, names.as_slice(), rows.as_slice())
+}
+
+/// The text of the nearest rows of a table.
+pub fn near_text(
+    alloc: Global,
+    settings: &NearSettings,
+    rows: Items<Items<Value>>,
+) -> Result<Vec<u8>, NearFault>
+    requires few { length rows ≤ 1000000 }
+    ensures writes { IfOk result (λ t. NearWrites settings.now rows t.items) }
+    ensures passed { IfErr result (OnNearFault (IsRowPassed settings.now rows)) }
+{
+    let (ids, trips) = match split_rows(alloc, rows) {
+        Ok(split) => split,
+        Err(_) => return Err(NearFault::NoMemory),
+    };
+    let found = match found(alloc, trips.as_slice(), &settings.to, settings.k) {
+        Ok(found) => found,
+        Err(fault) => return Err(fault),
+    };
+    match text_of(alloc, ids.as_slice(), found.as_slice(), &settings.epoch) {
+        Ok(text) => Ok(text),
+        Err(_) => Err(NearFault::NoMemory),
+    }
+}

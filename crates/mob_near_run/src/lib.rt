@@ -1,0 +1,13 @@
+//! The program mobnear as a library: the K trips of a table that come nearest to a point or a moving point.
+#![tactic(auto)]
+
+mod answer;
+mod command;
+mod decide;
+mod reading;
+mod rows;
+mod settings;
+mod top;
+
+pub use settings::{NearSettings, Target};
+pub use top::{run_near, tell_near};

@@ -1,0 +1,113 @@
+-- Workers and indexes change no answer.
+use Rattle.std.proofs.Common.{◌≡◌, sym, subst, inl, inr, take, ℕ, ℤ, List, [], Option, Some, None, Ok, Err}
+use Rattle.mob_words.specs.declared.options.Settings.{Settings}
+use Rattle.mob_typed.specs.Selects.{TypedSelectParts}
+use Rattle.mob_typed.specs.Statements.{ScriptOut}
+use Rattle.mob_value.specs.declared.store.Store.{Store}
+use Rattle.mob_catalog.specs.Catalogue.{Catalogue, live_of}
+use Rattle.mob_catalog.specs.declared.catalog.TableHead.{TableHead}
+use Rattle.mob_meaning.specs.Scene.{scene}
+use Rattle.mob_tuples.specs.Kept.{AreKeptOfAny}
+use Rattle.mob_tuples.specs.Tuples.{AreTuples}
+use Rattle.mob_tuples.specs.Visits.{Joins, Keeps, Visit}
+use Rattle.mob_join.specs.Outcomes.{HasOneKept}
+use Rattle.mob_join.specs.Query.{IsKept, IsMet, condition_at, conditions}
+use Rattle.mob_tail.specs.Answers.{IsAnswerOnKept}
+use Rattle.mob_load.specs.Loads.{Halt, LoadsScript, missing, refused, table_refused}
+use Rattle.mob_load.specs.declared.program.Program.{Program}
+use Rattle.mob_eval.specs.QueryFaults.{TupleFault}
+use Rattle.mob_ending.specs.declared.ending.Ending.{Ending}
+use Rattle.mob_ending.specs.declared.ending.Ending.TheVariants.{Done, Usage, ReadFault, WriteFault, NoMemory, TableRefused, ScriptRefused, Overflow}
+use Rattle.mob_shell.specs.Answers.{QueryAnswers}
+use Rattle.mob_shell.specs.Ending.{IsDue}
+use Rattle.mob_shell.specs.Inputs.{FilesBy, Input, ScriptBy}
+use Rattle.mob_shell.specs.Program.{IsHalted, IsProgram, ProgramWrites, StopsWith}
+use Rattle.mob_shell.specs.Runs.{RunsStatement, Stops, begin}
+use Rattle.mob_shell.specs.SameAnswers.{DifferInIndexes, DifferInWorkers, IndexesAnswerTheSame, IndexesKeepTheSame, WorkersEndTheSame, WorkersReadTheSame, WorkersWriteTheSame}
+use Rattle.mob_shell.specs.Statements.{Ran}
+use Rattle.mob_shell.specs.StepOutcomes.{OneAnswer}
+
+-- ---- workers
+
+pub read_the_same : WorkersReadTheSame
+read_the_same one other differ s input h = record {
+  script = subst (λ (d : Option ℕ). ScriptBy d s input.script) differ.demo h.script;
+  files = subst (λ (d : Option ℕ). FilesBy d s input.script input.files) differ.demo h.files;
+}
+
+module _ (one other : Settings) (differ : DifferInWorkers one other) (input : Input) where
+  other_program : (out : ScriptOut) (program : Program) → IsProgram one input out program → IsProgram other input out program
+  other_program out program h = record { script = h.script; loads = subst (λ (d : ℤ). LoadsScript d input.files out (Ok program)) differ.epoch h.loads }
+
+  other_halt : (halt : Halt) → IsHalted one input halt → IsHalted other input halt
+  other_halt halt h = record { out = h.out; script = h.script; loads = subst (λ (d : ℤ). LoadsScript d input.files h.out (Err halt)) differ.epoch h.loads }
+
+  other_text : (text : List ℕ) → ProgramWrites one input text → ProgramWrites other input text
+  other_text text h = record {
+    out = h.out;
+    program = h.program;
+    is = other_program h.out h.program h.is;
+    stands = h.stands;
+    ran = subst (λ (d : ℤ). Ran (RunsStatement d) (begin h.program) h.out.statements h.stands text) differ.epoch h.ran;
+  }
+
+  other_stop : (text : List ℕ) (number : ℕ) (f : TupleFault) → StopsWith one input text number f → StopsWith other input text number f
+  other_stop text number f h = record {
+    out = h.out;
+    program = h.program;
+    is = other_program h.out h.program h.is;
+    before = h.before;
+    counts = h.counts;
+    stands = h.stands;
+    ran = subst (λ (d : ℤ). Ran (RunsStatement d) (begin h.program) (take h.before h.out.statements) h.stands text) differ.epoch h.ran;
+    statement = h.statement;
+    there = h.there;
+    stops = subst (λ (d : ℤ). Stops d h.stands h.statement f) differ.epoch h.stops;
+  }
+
+  other_due : (ending : Ending) → IsDue one input ending → IsDue other input ending
+  other_due Done h = (h.0, other_text h.0 h.1)
+  other_due Usage h = h
+  other_due (ReadFault None) h = h
+  other_due (ReadFault (Some file)) h = other_halt (missing file) h
+  other_due WriteFault h = h
+  other_due NoMemory h = h
+  other_due (TableRefused name kind rec field) h = other_halt (table_refused name kind rec field) h
+  other_due (ScriptRefused e) (inl text) = inl text
+  other_due (ScriptRefused e) (inr halted) = inr (other_halt (refused e) halted)
+  other_due (Overflow number rows place formula) h = (h.0, other_stop h.0 number (rows, (place, formula)) h.1)
+
+pub end_the_same : WorkersEndTheSame
+end_the_same one other differ input ending h = other_due one other differ input ending h
+
+pub write_the_same : WorkersWriteTheSame
+write_the_same one other differ input text h = other_text one other differ input text h
+
+-- ---- indexes
+
+-- what WHERE keeps of all tuples of the tables, by the store and the rows that are there
+abbrev AreKeptOn : TypedSelectParts → ℤ → List (List ℕ) → Store → List TableHead → Type 0
+AreKeptOn select day kept store heads =
+    let M : Visit → Type 0 = λ visit. IsMet (condition_at select visit.on) (scene store select.from visit.tuple day) in
+    AreKeptOfAny (Keeps M) (AreTuples (Joins (conditions select) M (λ table begin rows. rows ≡ live_of heads table)) select.from []) kept
+
+module _ (select : TypedSelectParts) (one other : Catalogue) (day : ℤ) (differ : DifferInIndexes one other) where
+  kept_on : (kept others : List (List ℕ)) → IsKept select one day (Ok kept) → IsKept select other day (Ok others) → IsKept select one day (Ok others)
+  kept_on kept others h k =
+      let there : AreKeptOn select day others other.store other.heads = k.0 in
+      (subst (λ (heads : List TableHead). AreKeptOn select day others one.store heads) (sym differ.heads) (subst (λ (store : Store). AreKeptOn select day others store other.heads) (sym differ.store) there), h.1)
+
+pub keep_the_same : HasOneKept → IndexesKeepTheSame
+keep_the_same once select one other day kept others differ h k =
+    let e = once select one day (Ok kept) (Ok others) h (kept_on select one other day differ kept others h k) in
+    cc e
+
+pub answer_the_same : OneAnswer → IndexesAnswerTheSame
+answer_the_same once select one other day rows others differ h k =
+    let here : QueryAnswers select one day (Ok others) = (
+      k.0,
+      kept_on select one other day differ h.0 k.0 h.1 k.1,
+      subst (λ (store : Store). IsAnswerOnKept select store day k.0 (Ok others)) (sym differ.store) k.2,
+    ) in
+    let e = once select one day (Ok rows) (Ok others) h here in
+    cc e

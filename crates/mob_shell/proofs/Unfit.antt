@@ -1,0 +1,87 @@
+-- The fault of a statement is a part of a formula of its query that does not fit.
+use Rattle.std.proofs.Common.{◌≡◌, ◌∙◌, inl, inr, refl, sym, ap, subst, Bool, ℕ, ℤ, List, [], ◌∷◌, Option, Some, None, Result, Err}
+use Rattle.std.specs.Prelude.{◌⊎◌}
+use Rattle.mob_typed.specs.Trees.{TypedTree}
+use Rattle.mob_typed.specs.Selects.{Output, TypedSelectParts}
+use Rattle.mob_typed.specs.Statements.{StatementOut, query}
+use Rattle.mob_catalog.specs.Catalogue.{Catalogue}
+use Rattle.mob_meaning.specs.Scene.{Scene, scene}
+use Rattle.mob_meaning.specs.Evaluation.{Fault}
+use Rattle.mob_meaning.specs.Passes.{FaultsPass, TreePasses}
+use Rattle.mob_eval.specs.QueryFaults.{TupleFault}
+use Rattle.mob_tuples.specs.Tuples.{StandsIn}
+use Rattle.mob_join.specs.Query.{FailsBy, condition_at}
+use Rattle.mob_tail.specs.Answers.{IsField, IsKey, IsRowOf, IsTupleRow}
+use Rattle.mob_tail.specs.IsMadeOfEach.{IsMadeOfEach}
+use Rattle.mob_words.specs.declared.options.Settings.{Settings}
+use Rattle.mob_shell.specs.Answers.{QueryAnswers}
+use Rattle.mob_shell.specs.Fits.{ConditionPasses, PassesAt, PassesOn, RowPasses}
+use Rattle.mob_shell.specs.Inputs.{Input}
+use Rattle.mob_shell.specs.Program.{StopsWith}
+use Rattle.mob_shell.specs.Runs.{RunState, Stops}
+
+-- an entry of the rest of a list is one of the list
+stands_behind : {X : Type 0} (x y : X) (xs : List X) → StandsIn y xs → StandsIn y (x ∷ xs)
+stands_behind x y xs h = (x ∷ h.0, h.1, ap (λ zs. x ∷ zs) h.2)
+
+-- what is made of each entry has its first fault by one of them
+failing_entry : {X Y F : Type 0} (R : X → Result Y F → Type 0) (xs : List X) (f : F) → IsMadeOfEach R xs (Err f) → (x : X) × StandsIn x xs × R x (Err f)
+failing_entry R [] f h = absurd h
+failing_entry R (x ∷ xs) f (inl h) = (x, ([], xs, refl), h)
+failing_entry R (x ∷ xs) f (inr h) = let later = failing_entry R xs f h.2 in (later.0, stands_behind x later.0 xs later.1, later.2)
+
+module _ (pass : FaultsPass) where
+  unfit_condition : (s : Scene) (c : Option TypedTree) (f : Fault) → FailsBy c s f → (e : TypedTree) × (c ≡ Some e) × TreePasses s e f
+  unfit_condition s None f h = absurd h
+  unfit_condition s (Some e) f h = (e, refl, pass s e f h)
+
+  module _ (select : TypedSelectParts) (catalogue : Catalogue) (day : ℤ) where
+    -- one of the items or of the keys
+    abbrev PartPasses : TupleFault → Type 0
+    PartPasses f = ((item : Output) × StandsIn item select.items × PassesOn select catalogue day item.0 f) ⊎ ((key : TypedTree × Bool) × StandsIn key select.keys × PassesOn select catalogue day key.0 f)
+
+    unfit_part : (f : TupleFault) → IsRowOf select (scene catalogue.store select.from f.0 day) (Err f.1) → PartPasses f
+    unfit_part f (inl item) =
+        let s = scene catalogue.store select.from f.0 day in
+        let of = failing_entry (IsField s) select.items f.1 item in
+        inl (of.0, of.1, pass s of.0.0 f.1 of.2)
+    unfit_part f (inr key) =
+        let s = scene catalogue.store select.from f.0 day in
+        let of = failing_entry (IsKey s) select.keys f.1 key.2 in
+        inr (of.0, of.1, pass s of.0.0 f.1 of.2)
+
+    unfit_row : (kept : List (List ℕ)) (f : TupleFault) → IsMadeOfEach (IsTupleRow select catalogue.store day) kept (Err f) → StandsIn f.0 kept × PartPasses f
+    unfit_row kept f h =
+        let of = failing_entry (IsTupleRow select catalogue.store day) kept f h in
+        let same = sym of.2.0 in
+        (subst (λ (t : List ℕ). StandsIn t kept) same of.1, unfit_part f (subst (λ (t : List ℕ). IsRowOf select (scene catalogue.store select.from t day) (Err f.1)) same of.2.1))
+
+    unfit_query : (f : TupleFault) → QueryAnswers select catalogue day (Err f) → ConditionPasses select catalogue day f ⊎ RowPasses select catalogue day f
+    unfit_query f (inl h) =
+        let of = unfit_condition (scene catalogue.store select.from f.0 day) (condition_at select h.0) f.1 h.1.3 in
+        inl (record { on = h.0; before = h.1.0; visited = h.1.1; condition = of.0; is = of.1; unfit = of.2 })
+    unfit_query f (inr h) =
+        let row = unfit_row h.0 f h.2 in
+        inr (record { kept = h.0; are = h.1; stands = row.0; unfit = row.1 })
+
+  unfit_statement : (day : ℤ) (s : RunState) (x : StatementOut) (f : TupleFault) → Stops day s x f
+      → (q : TypedSelectParts) × (x ≡ query q) × (ConditionPasses q s.catalogue day f ⊎ RowPasses q s.catalogue day f)
+  unfit_statement day s (query q) f h = (q, refl, unfit_query q s.catalogue day f h)
+  unfit_statement day s _ f h = absurd h
+
+  pub stops_unfit : (settings : Settings) (input : Input) (text : List ℕ) (number : ℕ) (f : TupleFault) → StopsWith settings input text number f → PassesAt settings input number f
+  stops_unfit settings input text number f h =
+      let of = unfit_statement settings.epoch h.stands h.statement f h.stops in
+      record {
+        out = h.out;
+        program = h.program;
+        is = h.is;
+        before = h.before;
+        counts = h.counts;
+        stands = h.stands;
+        text = text;
+        ran = h.ran;
+        select = of.0;
+        there = h.there ∙ ap Some of.1;
+        unfit = of.2;
+      }

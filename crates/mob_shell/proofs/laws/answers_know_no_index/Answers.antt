@@ -1,0 +1,5 @@
+use Rattle.mob_shell.proofs.SameAnswers.{answer_the_same, keep_the_same}
+use Rattle.mob_shell.proofs.laws.answers_know_no_index.Goals as goal
+
+pub returns : goal.returns
+returns c = record { kept = keep_the_same c.one_kept.ensures.outcome; rows = answer_the_same c.one_answer.ensures.outcome }

@@ -1,0 +1,73 @@
+-- Why a run ends as it does.
+use Rattle.std.specs.Prelude.{◌≡◌, ◌⊎◌, ◌≤◌, ◌+◌, ℕ, List, length}
+use Rattle.std.specs.Io.KnownBytes.{Appends, Consumes, IsAtEnd, Keeps}
+use Rattle.mob_ast.specs.declared.refusal.Kind.{Kind}
+use Rattle.mob_slice.specs.declared.formula.Formula.{Formula}
+use Rattle.mob_value.specs.declared.value.Value.{Value}
+use Rattle.mob_catalog.specs.Faults.{file_fault}
+use Rattle.mob_catalog.specs.TableFile.{file_limit}
+use Rattle.mob_outside.specs.Faults.{Rose}
+use Rattle.mob_outside.specs.Streams.{PutsPart, ReadsPart}
+use Rattle.mob_trips.specs.Program.{ProgramOf, IsUntaken, OnTable, OnRows}
+use Rattle.mob_trips.specs.Reading.{IsTripTableRefused}
+use Rattle.mob_trips.specs.Seen.{TripsSeen}
+use Rattle.mob_trips.specs.declared.ending.Ending.{Ending}
+use Rattle.mob_trips.specs.declared.ending.Ending.TheVariants.{Done, Usage, ReadFault, WriteFault, NoMemory, TableRefused, RowsRefused, Overflow}
+
+module _ {Settings : Type 0} (p : ProgramOf Settings) where
+  -- the table was read to its end, and the text for it was written whole
+  pub record WritesAll (s : TripsSeen) : Type 0 where
+    pub ended : IsAtEnd s.table.told_now
+    pub text : List ℕ
+    pub is : OnTable p s (OnRows p (λ settings rows. p.writes settings rows text))
+    pub whole : Appends s.out.told_before s.out.told_now text
+
+  -- a proper prefix of it was written, and the count of `out` rose
+  pub record CutsShort (s : TripsSeen) : Type 0 where
+    pub text : List ℕ
+    pub is : OnTable p s (OnRows p (λ settings rows. p.writes settings rows text))
+    pub part : PutsPart text s.out.told_before s.out.told_now
+    pub rose : Rose s.out.faults_before s.out.faults_now
+
+  -- the table is refused, at this record and field; it was read to its end, or to one byte past the limit
+  pub record IsTableRefused (s : TripsSeen) (kind : Kind) (rec field : ℕ) : Type 0 where
+    pub bytes : List ℕ
+    pub taken : Consumes s.table.told_before s.table.told_now bytes
+    pub through : IsAtEnd s.table.told_now ⊎ (length bytes ≡ file_limit + 1)
+    pub refused : OnTable p s (λ settings bytes. IsTripTableRefused (p.day settings) bytes (file_fault kind rec field))
+
+  -- the table was read to its end, and these rows pass a limit, or have a part of this formula that does not fit
+  pub record PassLimit (s : TripsSeen) (names : List ℕ) : Type 0 where
+    pub ended : IsAtEnd s.table.told_now
+    pub fault : OnTable p s (OnRows p (λ settings rows. p.limits settings rows names))
+
+  pub record StopsAt (s : TripsSeen) (names : List ℕ) (formula : Formula) : Type 0 where
+    pub ended : IsAtEnd s.table.told_now
+    pub fault : OnTable p s (OnRows p (λ settings rows. p.stops settings rows names formula))
+
+  -- Why a run ended so. Nothing was written but under `Done` and `WriteFault`, and under `Usage` nothing was read.
+  abbrev pub IsTripsCause : Ending → TripsSeen → Type 0
+  IsTripsCause Done s = WritesAll s
+  IsTripsCause Usage s = IsUntaken p s.words × Keeps s.table.told_before s.table.told_now × Keeps s.out.told_before s.out.told_now
+  IsTripsCause ReadFault s = Rose s.table.faults_before s.table.faults_now × Keeps s.out.told_before s.out.told_now
+  IsTripsCause WriteFault s = CutsShort s
+  IsTripsCause NoMemory s = Keeps s.out.told_before s.out.told_now
+  IsTripsCause (TableRefused kind rec field) s = IsTableRefused s kind rec field × Keeps s.out.told_before s.out.told_now
+  IsTripsCause (RowsRefused rows) s = PassLimit s rows × Keeps s.out.told_before s.out.told_now
+  IsTripsCause (Overflow rows formula) s = StopsAt s rows formula × Keeps s.out.told_before s.out.told_now
+
+  -- How a run ended: by its cause; by usage, or out of memory, where the arguments are not taken; with at most one byte past the limit read, and
+  -- counts that do not fall.
+  pub record IsTripsEnding (ending : Ending) (s : TripsSeen) : Type 0 where
+    pub cause : IsTripsCause ending s
+    pub usage : IsUntaken p s.words → (ending ≡ Usage) ⊎ (ending ≡ NoMemory)
+    pub read : ReadsPart file_limit s.table.told_before s.table.told_now
+    pub read_later : s.table.faults_before ≤ s.table.faults_now
+    pub put_later : s.out.faults_before ≤ s.out.faults_now
+
+  -- how a run ends that has read its rows and has no text for them
+  abbrev pub EndsOn : Settings → List (List Value) → Ending → Type 0
+  EndsOn settings rows (RowsRefused names) = p.limits settings rows names
+  EndsOn settings rows (Overflow names formula) = p.stops settings rows names formula
+  EndsOn settings rows NoMemory = Unit {0}
+  EndsOn settings rows ending = ⊥

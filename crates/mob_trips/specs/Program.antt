@@ -1,0 +1,42 @@
+-- What tells one program over a table of trips from another.
+use Rattle.std.specs.Prelude.{◌≡◌, ℕ, ℤ, List, Some}
+use Rattle.mob_slice.specs.declared.formula.Formula.{Formula}
+use Rattle.mob_value.specs.declared.value.Value.{Value}
+use Rattle.mob_trips.specs.Reading.{IsTripTable}
+use Rattle.mob_trips.specs.Seen.{TripsSeen}
+
+-- A program: which arguments say which settings, and the day of their epoch. Of the rows of a table it says which text is written for them,
+-- on which rows it stops at a formula with a part that does not fit, which rows pass a limit, and which rows it surely has a text for.
+pub record ProgramOf (Settings : Type 0) : Type 1 where
+  pub says : List (List ℕ) → Settings → Type 0
+  pub day : Settings → ℤ
+  pub writes : Settings → List (List Value) → List ℕ → Type 0
+  pub stops : Settings → List (List Value) → List ℕ → Formula → Type 0
+  pub limits : Settings → List (List Value) → List ℕ → Type 0
+  pub fits : Settings → List (List Value) → Type 0
+
+-- What has to hold of it: arguments say one thing, and rows that fit have no fault.
+pub record IsTripsProgram {Settings : Type 0} (p : ProgramOf Settings) : Type 0 where
+  pub one : (words : List (List ℕ)) (a b : Settings) → p.says words a → p.says words b → a ≡ b
+  pub fits_stops : (s : Settings) (rows : List (List Value)) (names : List ℕ) (f : Formula) → p.fits s rows → p.stops s rows names f → ⊥
+  pub fits_limits : (s : Settings) (rows : List (List Value)) (names : List ℕ) → p.fits s rows → p.limits s rows names → ⊥
+
+-- It is exact if rows never have two of these: a text, a limit, a formula. A program that does not visit all rows need not be exact.
+pub record IsExactProgram {Settings : Type 0} (p : ProgramOf Settings) : Type 0 where
+  pub written_stops : (s : Settings) (rows : List (List Value)) (text names : List ℕ) (f : Formula) → p.writes s rows text → p.stops s rows names f → ⊥
+  pub written_limits : (s : Settings) (rows : List (List Value)) (text names : List ℕ) → p.writes s rows text → p.limits s rows names → ⊥
+  pub stopped_limits : (s : Settings) (rows : List (List Value)) (names others : List ℕ) (f : Formula) → p.stops s rows names f → p.limits s rows others → ⊥
+
+-- the arguments are not taken
+abbrev pub IsUntaken : {Settings : Type 0} → ProgramOf Settings → List (List ℕ) → Type 0
+IsUntaken {Settings} p words = (settings : Settings) → p.says words settings → ⊥
+
+-- The arguments say settings, and this holds of them and of the bytes of the table, where these are told.
+pub record OnTable {Settings : Type 0} (p : ProgramOf Settings) (s : TripsSeen) (P : Settings → List ℕ → Type 0) : Type 0 where
+  pub settings : Settings
+  pub says : p.says s.words settings
+  pub holds : (bytes : List ℕ) → s.table.told_before ≡ Some bytes → P settings bytes
+
+-- the bytes are a table, and this holds of its rows
+abbrev pub OnRows : {Settings : Type 0} → ProgramOf Settings → (Settings → List (List Value) → Type 0) → Settings → List ℕ → Type 0
+OnRows p P settings bytes = (rows : List (List Value)) × IsTripTable (p.day settings) bytes rows × P settings rows

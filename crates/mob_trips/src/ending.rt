@@ -1,0 +1,62 @@
+// How a run ends.
+ghost use Rattle.std.specs.Prelude.{◌≡◌};
+
+use mob_ast::Kind;
+use mob_slice::Formula;
+use mob_tuples::Tuple;
+
+/// How a run over a table of trips ended. Each ending has a status, and each but `Done` a line for the notes.
+#[derive(Drop)]
+pub enum Ending {
+    /// Status 0: the table was read and accepted, and the text for it was written whole.
+    Done,
+    /// Status 2: the arguments of the command line are not taken.
+    Usage,
+    /// Status 3: the table could not be read.
+    ReadFault,
+    /// Status 4: the text could not be written.
+    WriteFault,
+    /// Status 5: out of memory.
+    NoMemory,
+    /// Status 6: the table is refused.
+    TableRefused {
+        /// Why it is refused.
+        kind: Kind,
+        /// The number of the record, from 1; 0 for the file as a whole.
+        rec: u32,
+        /// The number of the field, from 1; 0 for the record as a whole.
+        field: u32,
+    },
+    /// Status 6: rows pass a limit of the program.
+    RowsRefused {
+        /// The numbers of the rows, from 0.
+        rows: Tuple,
+    },
+    /// Status 8: a part of a formula does not fit.
+    Overflow {
+        /// The numbers of the rows, from 0.
+        rows: Tuple,
+        /// The formula.
+        formula: Formula,
+    },
+}
+
+impl Ending {
+    ghost use Rattle.mob_trips.specs.Lines.{trips_status};
+
+    /// The exit status of the program.
+    pub fn status(&self) -> u8
+        ensures number { result ≡ trips_status self.now }
+    {
+        match self {
+            Ending::Done => 0,
+            Ending::Usage => 2,
+            Ending::ReadFault => 3,
+            Ending::WriteFault => 4,
+            Ending::NoMemory => 5,
+            Ending::TableRefused { .. } => 6,
+            Ending::RowsRefused { .. } => 6,
+            Ending::Overflow { .. } => 8,
+        }
+    }
+}

@@ -1,0 +1,70 @@
+// The one line that a run which did not end well leaves in its notes.
+ghost use Rattle.mob_outside.specs.Streams.{Puts};
+ghost use Rattle.mob_trips.specs.Lines.{formula_text, limit_line, passes_line, table_refusal_line, trips_note};
+
+use crate::Ending;
+use mob_ast::Kind;
+use mob_ending::pieces::{formula_name, put_record, put_rows};
+use mob_outside::{Failed, Sink, put_all, put_pieces};
+use mob_slice::Formula;
+
+// The line of a refusal of the table.
+fn put_refusal<E: Sink>(notes: &mut E, kind: Kind, rec: u32, field: u32) -> Result<(), Failed>
+    ensures puts { Puts (table_refusal_line kind rec field) (E.held notes.old) (E.held notes.new) (E.faults notes.old) (E.faults notes.new) }
+{
+    put_all(notes, b"table")?;
+    put_record(notes, kind, rec, field)
+}
+
+// The formula, behind the rows.
+fn put_passes<E: Sink>(notes: &mut E, formula: Formula) -> Result<(), Failed>
+    ensures puts { Puts (formula_text formula) (E.held notes.old) (E.held notes.new) (E.faults notes.old) (E.faults notes.new) }
+{
+    let pieces = [
+        b": formula ".as_slice(),
+        formula_name(formula).as_bytes(),
+        b" passes 62 bits\n".as_slice(),
+    ];
+    put_pieces(notes, &pieces)
+}
+
+// The line of a part of a formula that does not fit.
+fn put_overflow<E: Sink>(notes: &mut E, rows: &[u32], formula: Formula) -> Result<(), Failed>
+    ensures puts { Puts (passes_line rows.now formula) (E.held notes.old) (E.held notes.new) (E.faults notes.old) (E.faults notes.new) }
+{
+    put_all(notes, b"rows ")?;
+    put_rows(notes, rows)?;
+    put_passes(notes, formula)
+}
+
+// The line of rows that pass a limit.
+fn put_limit<E: Sink>(notes: &mut E, rows: &[u32]) -> Result<(), Failed>
+    ensures puts { Puts (limit_line rows.now) (E.held notes.old) (E.held notes.new) (E.faults notes.old) (E.faults notes.new) }
+{
+    put_all(notes, b"rows ")?;
+    put_rows(notes, rows)?;
+    put_all(notes, b": refusal 13 (Limit)\n")
+}
+
+fn put_line<E: Sink>(notes: &mut E, usage: &[u8], ending: &Ending) -> Result<(), Failed>
+    ensures puts { Puts (trips_note usage.now ending.now) (E.held notes.old) (E.held notes.new) (E.faults notes.old) (E.faults notes.new) }
+{
+    match ending {
+        Ending::Done => Ok(()),
+        Ending::Usage => put_all(notes, usage),
+        Ending::ReadFault => put_all(notes, b"read fault: table\n"),
+        Ending::WriteFault => put_all(notes, b"write fault\n"),
+        Ending::NoMemory => put_all(notes, b"no memory\n"),
+        Ending::TableRefused { kind, rec, field } => put_refusal(notes, *kind, *rec, *field),
+        Ending::RowsRefused { rows } => put_limit(notes, rows.as_slice()),
+        Ending::Overflow { rows, formula } => put_overflow(notes, rows.as_slice(), *formula),
+    }
+}
+
+/// Puts the line of an ending, in pieces that take no memory; `usage` is the line of arguments that are not taken. A fault of the notes
+/// cuts it short and changes nothing else.
+pub fn tell<E: Sink>(notes: &mut E, usage: &[u8], ending: &Ending)
+    ensures puts { Puts (trips_note usage.now ending.now) (E.held notes.old) (E.held notes.new) (E.faults notes.old) (E.faults notes.new) }
+{
+    let _ = put_line(notes, usage, ending);
+}

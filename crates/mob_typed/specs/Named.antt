@@ -1,0 +1,19 @@
+-- Which tables of FROM an expression names.
+use Rattle.std.specs.Prelude.{◌&&◌, ℕ, Bool, true, nat_lt}
+use Rattle.mob_operators.specs.declared.operator.Op.{Op}
+use Rattle.mob_operators.specs.declared.operator.Op.TheVariants as op
+use Rattle.mob_typed.specs.Trees.{TypedTree, typed, TypedTrees, none, more}
+
+-- whether what an operator reads, if it reads a table of FROM, stands before this place
+abbrev pub reads_before : ℕ → Op → Bool
+reads_before place (op.Column from column) = nat_lt from place
+reads_before place _ = true
+
+-- whether an expression names only tables of FROM before this place
+abbrev mutual
+  pub names_before : ℕ → TypedTree → Bool
+  names_before place (typed o ty at args) = reads_before place o && all_name_before place args
+
+  pub all_name_before : ℕ → TypedTrees → Bool
+  all_name_before place none = true
+  all_name_before place (more e es) = names_before place e && all_name_before place es
