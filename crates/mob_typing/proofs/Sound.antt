@@ -1,5 +1,5 @@
 -- What is sound stays so beside more constants, and behind its numbers stands what they name.
-use Rattle.std.proofs.Common.{◌≡◌, ◌∙◌, ◌+◌, refl, sym, ap, subst, ℕ, zero, suc, List, [], ◌∷◌, ◌++◌, append_assoc, length, length-append, map, Bool, true, false, ◌&&◌, cond, Option, Some, None}
+use Rattle.std.proofs.Common.{◌≡◌, ◌∙◌, ◌+◌, refl, sym, ap, arith, subst, ℕ, zero, suc, List, [], ◌∷◌, ◌++◌, append_assoc, length, length-append, map, Bool, true, false, ◌&&◌, cond, Option, Some, None}
 use Rattle.std.specs.Prelude.{IfSome, slice_get, option_map}
 use Rattle.std.specs.List.{AllByRecursion, AllZip}
 use Rattle.std.specs.Str.{bytes_eq}
