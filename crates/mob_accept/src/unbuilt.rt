@@ -29,7 +29,9 @@ fn is_built_statement(statement: &TypedStatement) -> bool
         TypedStatement::CreateIndex { .. } => true,
         TypedStatement::Insert { .. } => true,
         TypedStatement::Copy { .. } => true,
-        TypedStatement::Delete(select) | TypedStatement::Select(select) | TypedStatement::Explain(select) => is_built_select(select),
+        TypedStatement::Delete(select)
+        | TypedStatement::Select(select)
+        | TypedStatement::Explain(select) => is_built_select(select),
     }
 }
 
