@@ -108,8 +108,8 @@ pub delete_the_same : IndexesKeepTheSame → IndexesDeleteTheSame
 delete_the_same keeps select one other day left others differ h k =
     let kept : h.0 ≡ k.0 = keeps select one other day h.0 k.0 differ h.1 k.1 in
     let heads : (with_deleted (table_of select) (first_rows h.0) one).heads ≡ (with_deleted (table_of select) (first_rows k.0) other).heads =
-        ap (λ (heads : List TableHead). with_changed (table_of select) (without_rows (first_rows h.0)) heads) differ.heads
-        ∙ ap (λ (rows : List (List ℕ)). with_changed (table_of select) (without_rows (first_rows rows)) other.heads) kept in
+    ap (λ (heads : List TableHead). with_changed (table_of select) (without_rows (first_rows h.0)) heads) differ.heads
+    ∙ ap (λ (rows : List (List ℕ)). with_changed (table_of select) (without_rows (first_rows rows)) other.heads) kept in
     record {
       store = ap (λ (c : Catalogue). c.store) h.2 ∙ differ.store ∙ ap (λ (c : Catalogue). c.store) (sym k.2);
       heads = ap (λ (c : Catalogue). c.heads) h.2 ∙ heads ∙ ap (λ (c : Catalogue). c.heads) (sym k.2);
