@@ -1,0 +1,6 @@
+pub mod Breaks
+pub mod Reaches
+pub mod Runs
+pub mod Tests
+pub mod Thinned
+pub mod Walk
