@@ -11,8 +11,9 @@ use Rattle.mob_value.specs.declared.value.Value.{Value}
 use Rattle.mob_value.specs.declared.value.Value.TheVariants.{MovingPoint}
 use Rattle.mob_simplify.proofs.OneRuns.{one_runs}
 use Rattle.mob_simplify.specs.Thinned.{tests_of_run}
-use Rattle.mob_trips.specs.Program.{IsTripsProgram, IsExactProgram}
+use Rattle.mob_trips.specs.Program.{IsTripsProgram, IsExactWith}
 use Rattle.mob_thin_run.specs.ThinProgram.{thin_program}
+use Rattle.mob_thin_run.specs.declared.settings.ThinSettings.{ThinSettings}
 use Rattle.mob_thin_run.specs.ThinRows.{OnTests, RowTestsFit, RowTestPasses, PassesFirst}
 use Rattle.mob_thin_run.proofs.OneSetting.{one_setting}
 
@@ -43,9 +44,9 @@ is_program = record {
   fits_limits = λ s rows names h k. k;
 }
 
-pub is_exact : IsExactProgram thin_program
-is_exact = record {
-  written_stops = λ s rows text names f h k. fits_apart s.within rows k.0 f h.0 k.2;
-  written_limits = λ s rows text names h k. k;
-  stopped_limits = λ s rows names others f h k. k;
+pub is_exact : (s : ThinSettings) → IsExactWith thin_program s
+is_exact s = record {
+  written_stops = λ rows text names f h k. fits_apart s.within rows k.0 f h.0 k.2;
+  written_limits = λ rows text names h k. k;
+  stopped_limits = λ rows names others f h k. k;
 }
