@@ -10,4 +10,4 @@ div-requires c =
     record { nonzero = λ z. sub_ne-zero c.args.start.now c.args.end.now (before-lt _ _ c.requires.long) (sym whole.0 ∙ z) }
 
 pub returns-in-Ok : goal.returns-in-Ok
-returns-in-Ok c = record { value = part_is c.div.result c.args.start.now c.args.end.now c.args.t.now c.in_ok-gone.gone c.in-Ok.whole.now c.in_ok-gone.ensures.exact (rw c.in-Ok.is at c.requires.time) c.div.ensures.exact }
+returns-in-Ok c = record { value = part_is c.div.result c.args.start.now c.args.end.now c.args.t.now c.in_ok-gone.gone c.in-Ok.whole c.in_ok-gone.ensures.exact (rw c.in-Ok.is at c.requires.time) c.div.ensures.exact }
