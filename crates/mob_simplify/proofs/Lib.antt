@@ -8,4 +8,5 @@ pub mod NearAlong
 pub mod OneRuns
 pub mod Ordered
 pub mod Reaching
+pub mod Tidied
 mod Examples

@@ -57,7 +57,7 @@ module _ (d : Ratio) where
   some_step legs legs' l h true = h
   some_step legs legs' l h false = λ e. cc
 
-  some_along : (s : Slice PlaneLine) (between : List Break) (l : Slice PlaneLine) (rest : List (Slice PlaneLine)) → legs_along d s between l rest ≢ []
+  pub some_along : (s : Slice PlaneLine) (between : List Break) (l : Slice PlaneLine) (rest : List (Slice PlaneLine)) → legs_along d s between l rest ≢ []
   some_along s between l [] = λ e. cc
   some_along s between l (r ∷ rest) = some_step (legs_along d s (between ++ start_of r ∷ []) r rest) (legs_along d r [] r rest) (leg_over s l) (some_along s (between ++ start_of r ∷ []) r rest) (stays d s (between ++ start_of r ∷ []) l r)
 

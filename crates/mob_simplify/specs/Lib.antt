@@ -1,4 +1,5 @@
 pub mod Breaks
+pub mod BreaksOf
 pub mod Reaches
 pub mod Runs
 pub mod Tests
