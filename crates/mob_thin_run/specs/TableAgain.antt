@@ -23,9 +23,8 @@ pub record IsTripRow (day : ℤ) (row : List Value) : Type 0 where
   pub id_again : IsCell Int day id
   pub trip_again : IsCell TPoint day trip
 
--- The text that is written of rows with each trip simplified is read again as these simplified rows, if they are such rows and the text is
--- not longer than a table file may be.
+-- The text that is written of rows with each trip simplified is read again as these simplified rows, if the rows are such rows and the text
+-- is not longer than a table file may be.
 abbrev pub ReadsTableAgain : Type 0
-ReadsTableAgain = (d : Ratio) (day : ℤ) (room : ℕ) (rows : List (List Value)) (text : List ℕ) → IsThinText d day rows text → length rows ≤ room → length text ≤ file_limit
-    → ((thin : List (List Value)) → AreThinRows d rows thin → AllByRecursion (IsTripRow day) thin)
+ReadsTableAgain = (d : Ratio) (day : ℤ) (room : ℕ) (rows : List (List Value)) (text : List ℕ) → IsThinText d day rows text → AllByRecursion (IsTripRow day) rows → length rows ≤ room → length text ≤ file_limit
     → (thin : List (List Value)) × AreThinRows d rows thin × IsTable trip_columns day room text thin
