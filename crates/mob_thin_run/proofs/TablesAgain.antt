@@ -71,7 +71,7 @@ same_length R (x ∷ xs) (y ∷ ys) h = ap suc (same_length R xs ys h.1)
 pub tables_again : ReadsTableAgain
 tables_again d day room rows text is readable few short =
     let thin = is.0 in
-    let are = is.1.0 in
+    let are = is.1 in
     let few_thin : length thin ≤ room = subst (λ n. n ≤ room) (same_length (AllZip (IsThinValue d)) rows thin are) few in
-    let short_thin : length (table_text day thin) ≤ file_limit = subst (λ z. length z ≤ file_limit) is.1.1.1 short in
-    (thin, are, subst (λ z. IsTable trip_columns day room z thin) (sym is.1.1.1) (table_again day room thin (rows_readable day d rows thin readable are) is.1.1.0 few_thin short_thin))
+    let short_thin : length (table_text day thin) ≤ file_limit = subst (λ z. length z ≤ file_limit) is.3 short in
+    (thin, are, subst (λ z. IsTable trip_columns day room z thin) (sym is.3) (table_again day room thin (rows_readable day d rows thin readable are) is.2 few_thin short_thin))

@@ -58,11 +58,11 @@ module _ (day : ℤ) where
 
   -- a slice alone
   alone : (s : Line) → length (instants_of style (s ∷ [])) ≡ 1 + cond (before s.span.lower s.span.upper) 1 0
-  alone s = ap (λ n. 1 + n) (alone_by s (before s.span.lower s.span.upper))
+  alone s = let k = alone_by s (before s.span.lower s.span.upper) in omega (arith, k)
 
   joined_by : (s r : Line) (g : List Line) (gs : List (List Line)) (b : Bool)
       → instants_in style (cond b ((s ∷ r ∷ g) ∷ gs) ((s ∷ []) ∷ (r ∷ g) ∷ gs)) ≡ one_or_two b (before s.span.lower s.span.upper) + instants_in style ((r ∷ g) ∷ gs)
-  joined_by s r g gs true = refl
+  joined_by s r g gs true = omega arith
   joined_by s r g gs false = ap (λ n. n + instants_in style ((r ∷ g) ∷ gs)) (alone s)
 
   put_counts : (s r : Line) (groups : List (List Line)) → BeginsWith r groups → instants_in style (put_in_group plane_course s groups) ≡ one_or_two (shares_group plane_course s r) (before s.span.lower s.span.upper) + instants_in style groups

@@ -87,9 +87,9 @@ thin_rows d day (x ∷ rows) (r ∷ records) h =
     let k = thin_rows d day rows records h.1 in
     record {
       thin = h.0.0 ∷ k.thin;
-      are = (h.0.1.0, k.are);
-      text = (subst AllText h.0.1.1.1 h.0.1.1.0, k.text);
-      fields = ap (λ z. z ∷ records) h.0.1.1.1 ∙ ap (λ z. map (field_text day) h.0.0 ∷ z) k.fields;
+      are = (h.0.1, k.are);
+      text = (subst AllText h.0.3 h.0.2, k.text);
+      fields = ap (λ z. z ∷ records) h.0.3 ∙ ap (λ z. map (field_text day) h.0.0 ∷ z) k.fields;
     }
 
 pub is_thin_text : (d : Ratio) (day : ℤ) (rows : List (List Value)) (records : List (List (List ℕ))) (names : List (List ℕ)) (text : List ℕ) → AllZip (IsThinRecord d day) rows records → names ≡ codes "id" ∷ codes "trip" ∷ [] → text ≡ concat (map record_line (names ∷ records)) → IsThinText d day rows text
