@@ -2,7 +2,7 @@
 use Rattle.std.specs.Prelude.{◌≡◌, ℕ, ℤ, codes, map, List, [], ◌∷◌, ◌++◌, length, get_or, ◌<◌, ◌≤◌, IsUtf8, Some, refl}
 use Rattle.std.specs.List.{AllZip, AllByRecursion, concat}
 use Rattle.std.proofs.Common.{arith, ap, sym, ◌∙◌, subst, inl, inr, take, drop, ◌+◌}
-use Rattle.std.proofs.lemmas.List.{take_more, take_all, take-append-drop, length-take-le}
+use Rattle.std.proofs.lemmas.List.{map-append, take_more, take_all, take-append-drop, length-take-le}
 use Rattle.csv.specs.Records.{AllText}
 use Rattle.mob_cells.proofs.Making.{list_read}
 use Rattle.mob_list.proofs.Each.{each_both}
@@ -33,6 +33,9 @@ module _ {A : Type 0} (xs : List A) (i : ℕ) (x : A) (lt : i < length xs) (is :
 
   pub all_more : (P : A → Type 0) → AllByRecursion P (take i xs) → P x → AllByRecursion P (take (i + 1) xs)
   all_more P h k = subst (AllByRecursion P) (sym more) (each_both P (take i xs) (x ∷ []) h (k, tt))
+
+  pub map_more : {B : Type 0} (f : A → B) (ys next : List B) (y : B) → next ≡ ys ++ y ∷ [] → ys ≡ map f (take i xs) → y ≡ f x → next ≡ map f (take (i + 1) xs)
+  map_more f ys next y e h k = e ∙ ap (λ z. z ++ y ∷ []) h ∙ ap (λ z. map f (take i xs) ++ z ∷ []) k ∙ sym (ap (λ z. map f z) more ∙ map-append f (take i xs) (x ∷ []))
 
   pub parted : xs ≡ take i xs ++ x ∷ drop (i + 1) xs
   parted = sym (take-append-drop i xs) ∙ ap (λ z. take i xs ++ z) (list_read xs i x lt is)
