@@ -1,0 +1,9 @@
+pub mod Causes
+pub mod Forms
+pub mod Meanings
+pub mod Plain
+pub mod Signs
+pub mod Single
+pub mod Table
+pub mod Together
+pub mod Whole
