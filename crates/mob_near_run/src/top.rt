@@ -33,7 +33,7 @@ pub fn tell_near<E: Sink>(notes: &mut E, ending: &Ending)
 /// | 4 | `out` failed, and took a part of the text |
 /// | 5 | out of memory |
 /// | 6 | the table is refused |
-/// | 8 | a part of a formula of a row's nearest approach does not fit, and fewer than K rows are known to be nearer |
+/// | 8 | a part of a formula of a row's nearest approach does not fit, and fewer than K rows have an approach below its gap |
 pub fn run_near<S: Source, K: Sink, E: Sink>(
     alloc: Global,
     words: &[String],

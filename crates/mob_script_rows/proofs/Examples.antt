@@ -96,6 +96,6 @@ the_operand_first = refl
 
 -- SELECT 1.5 AS d: a constant with its type, text, statement and place
 one_constant : typed_script (select (record { distinct = false; items = one (number (codes "1.5") 7) (Some (word (codes "d") 14)) ∷ []; from = []; cond = None; keys = []; limit = None }) ∷ [])
-    ≡ Ok (record { statements = query (record { distinct = false; items = (typed (op.Const 0) sql.Numeric 7 no_args, codes "d") ∷ []; from = []; names = []; cond = None; keys = []; limit = None }) ∷ []; consts = record { ty = sql.Numeric; text = codes "1.5"; statement = 1; place = 7 } ∷ [] })
+    ≡ Ok (record { statements = query (record { distinct = false; items = (typed (op.Const 0) sql.Numeric 7 no_args, codes "d") ∷ []; from = []; names = []; joins = []; cond = None; keys = []; limit = None }) ∷ []; consts = record { ty = sql.Numeric; text = codes "1.5"; statement = 1; place = 7 } ∷ [] })
 unfolding typed_statement typed_expression typed_operands typed_before_operands finished digits_of digits_in table type_words geometry_words
 one_constant = refl

@@ -32,7 +32,7 @@ a_bare_name_of_two_tables = refl
 
 -- SELECT 5 AS n ORDER BY n: the key is the column of this name, and no second constant
 a_key_by_its_name : typed_script (select (record { distinct = false; items = one (number (codes "5") 7) (Some (word (codes "n") 12)) ∷ []; from = []; cond = None; keys = record { value = column (codes "n") 23; descending = false } ∷ []; limit = None }) ∷ [])
-    ≡ Ok (record { statements = query (record { distinct = false; items = (typed (op.Const 0) sql.Int 7 no_args, codes "n") ∷ []; from = []; names = []; cond = None; keys = (typed (op.Const 0) sql.Int 7 no_args, false) ∷ []; limit = None }) ∷ []; consts = record { ty = sql.Int; text = codes "5"; statement = 1; place = 7 } ∷ [] })
+    ≡ Ok (record { statements = query (record { distinct = false; items = (typed (op.Const 0) sql.Int 7 no_args, codes "n") ∷ []; from = []; names = []; joins = []; cond = None; keys = (typed (op.Const 0) sql.Int 7 no_args, false) ∷ []; limit = None }) ∷ []; consts = record { ty = sql.Int; text = codes "5"; statement = 1; place = 7 } ∷ [] })
 unfolding typed_statement typed_expression typed_operands typed_before_operands finished digits_of digits_in node_value table type_words geometry_words
 a_key_by_its_name = refl
 

@@ -35,7 +35,7 @@ module _ {Settings : Type 0} (p : ProgramOf Settings) where
   abbrev pub OnTold : TripsSeen → (Settings → List ℕ → Type 0) → Type 0
   OnTold s P = (settings : Settings) × p.says s.words settings × (bytes : List ℕ) × (s.table.told_before ≡ Some bytes) × P settings bytes
 
-  -- A run with this status, by what was trips_seen of it and of its note.
+  -- A run with this status, by what was seen of it and of its note.
   pub record IsTripsRun (line : List ℕ) (status : ℕ) (s : TripsSeen) (Noted : List ℕ → Type 0) : Type 0 where
     -- 0: the table was read to its end and accepted, and the text for it was written whole
     pub written : status ≡ 0 → WritesAll p s
