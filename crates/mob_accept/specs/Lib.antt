@@ -1,4 +1,5 @@
 pub mod Accepts
 pub mod Numbers
 pub mod Outcomes
+pub mod Unbuilt
 pub mod Written

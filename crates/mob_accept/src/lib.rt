@@ -3,5 +3,6 @@
 
 pub mod laws;
 pub mod text;
+mod unbuilt;
 
 pub use text::{SCRIPT_LIMIT, accept};

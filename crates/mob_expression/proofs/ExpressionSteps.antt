@@ -1,5 +1,5 @@
 -- The typing of an expression in memory, step by step.
-use Rattle.std.proofs.Common.{◌≡◌, ◌∙◌, sym, ap, ℕ, List, [], ◌∷◌, ◌++◌, Option, Some, None, Result, Ok, Err}
+use Rattle.std.proofs.Common.{◌≡◌, ◌∙◌, refl, sym, ap, ℕ, List, [], ◌∷◌, ◌++◌, Option, Some, None, Result, Ok, Err}
 use Rattle.std.specs.Prelude.{option_map}
 use Rattle.mob_ast.specs.declared.expression.Node.{Node}
 use Rattle.mob_ast.specs.declared.expression.Expr.{Expr}
@@ -8,7 +8,7 @@ use Rattle.mob_ast.specs.Trees.{none as no_trees, tree_of, trees_of}
 use Rattle.mob_expression.specs.declared.fault.Fault.{Fault}
 use Rattle.mob_typed.specs.declared.typed.ConstText.{ConstText}
 use Rattle.mob_typed.specs.declared.typed.TExpr.{TExpr}
-use Rattle.mob_expression.specs.Answers.{Mistake, ◌>>=◌, StopsTyping, AnswersAs, TypesTo}
+use Rattle.mob_expression.specs.Answers.{Mistake, ◌>>=◌, one_more, StopsTyping, AnswersAs, TypesTo}
 use Rattle.mob_expression.specs.Scopes.{ScopeParts}
 use Rattle.mob_typed.specs.Trees.{TypedTree, typed_of}
 use Rattle.mob_expression.specs.Expressions.{typed_before_operands, finished, or_later, typed_expression, typed_operands}
@@ -25,6 +25,15 @@ operand_more s x xs ts cs = one_behind (typed_expression s (tree_of x)) (typed_o
 pub operands_done : (s : ScopeParts) (ts : List TypedTree) (cs : List ConstText) → behind ts (typed_operands s no_trees) cs ≡ Ok (ts, cs)
 unfolding typed_operands
 operands_done s ts cs = none_behind ts cs
+
+-- operands by their list
+pub operands_more : (s : ScopeParts) (x : Expr) (xs : List Expr) (cs : List ConstText) → typed_operands s (trees_of (x ∷ xs)) cs ≡ one_more (typed_expression s (tree_of x)) (typed_operands s (trees_of xs)) cs
+unfolding typed_operands
+operands_more s x xs cs = refl
+
+pub operands_none : (s : ScopeParts) (cs : List ConstText) → typed_operands s (trees_of []) cs ≡ Ok ([], cs)
+unfolding typed_operands
+operands_none s cs = refl
 
 module _ (s : ScopeParts) (e : Expr) (cs : List ConstText) (xs : List Expr) (is : xs ≡ (out-Expr e).args.items) where
   abbrev node : Node

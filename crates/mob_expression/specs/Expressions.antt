@@ -17,6 +17,7 @@ use Rattle.mob_operators.specs.declared.operator.Form.{Form}
 use Rattle.mob_operators.specs.declared.operator.Form.TheVariants as form
 use Rattle.mob_operators.specs.Lookup.{same_type, found_in, has_function}
 use Rattle.mob_operators.specs.Table.{table, is_irrational}
+use Rattle.mob_operators.specs.Aggregates.{is_aggregate}
 use Rattle.mob_typed.specs.Trees.{TypedTree, typed, none, more, typed_trees, types_of}
 use Rattle.mob_typed.specs.declared.typed.ConstText.{ConstText}
 use Rattle.mob_expression.specs.Answers.{Mistake, refuse, ◌>>=◌, unless, found, TypingStep, one_more}
@@ -33,7 +34,7 @@ abbrev pub with_first : Option (ℕ × SqlType) → ℕ → List Found → List 
 with_first None n others = others
 with_first (Some c) n others = record { from = n; column = c.0; ty = c.1 } ∷ others
 
--- the columns of this name in the tables of FROM, the first of which has number n
+-- the columns of this name in these tables, the first of which has number n
 abbrev pub matches : ℕ → List (List ℕ × ScopeTableParts) → List ℕ → List Found
 matches n [] name = []
 matches n (s ∷ ss) name = with_first (column_of s.1.columns name) n (matches (n + 1) ss name)
@@ -44,10 +45,18 @@ the_one p [] = refuse kind.UnknownName p
 the_one p (f ∷ []) = Ok f
 the_one p (f ∷ g ∷ fs) = refuse kind.Duplicate p
 
--- the column that a name stands for, with its table before a point or without
+-- the column that a name stands for, with its table before a point or without, among these tables, which are counted from 0
+abbrev pub column_among : List (List ℕ × ScopeTableParts) → Option Word → Word → Result Found Mistake
+column_among tables None c = the_one c.place (matches 0 tables c.text)
+column_among tables (Some t) c = found kind.UnknownName t.place (entry_from 0 tables t.text) >>= λ f. found kind.UnknownName c.place (column_of f.1.columns c.text) >>= λ k. Ok (record { from = f.0; column = k.0; ty = k.1 })
+
+-- that column by the number of its table in FROM, where the first of those tables has this number
+abbrev pub in_from : ℕ → Found → Found
+in_from first f = record { from = first + f.from; column = f.column; ty = f.ty }
+
+-- the column that a name stands for
 abbrev pub column_named : ScopeParts → Option Word → Word → Result Found Mistake
-column_named s None c = the_one c.place (matches 0 s.from c.text)
-column_named s (Some t) c = found kind.UnknownName t.place (entry_from 0 s.from t.text) >>= λ f. found kind.UnknownName c.place (column_of f.1.columns c.text) >>= λ k. Ok (record { from = f.0; column = k.0; ty = k.1 })
+column_named s t c = column_among s.from t c >>= λ f. Ok (in_from s.first f)
 
 -- the string and its place, where a cast has a bare string alone
 abbrev pub string_of : Tree → Option (List ℕ × ℕ)
@@ -132,11 +141,11 @@ are_linear _ = false
 abbrev pub missing_sign : List ℕ → List SqlType → Kind
 missing_sign name ts = if is_irrational form.Sign name then kind.Irrational else if bytes_eq name (codes "*") && are_linear ts then kind.LinearProduct else kind.NoSuchOperator
 
--- why an operator has no line in the table for these types
+-- Why an operator has no line in the table for these types. An aggregate has none inside an expression: it is a whole item of the select list.
 abbrev pub missing : Form → List ℕ → List SqlType → Kind
 missing form.Word name ts = kind.NoSuchOperator
 missing form.Sign name ts = missing_sign name ts
-missing form.Call name ts = if has_function table name then kind.NoSuchOperator else kind.UnknownName
+missing form.Call name ts = if has_function table name || is_aggregate name then kind.NoSuchOperator else kind.UnknownName
 
 abbrev pub applied : Form → List ℕ → ℕ → Option Bool → List TypedTree → Option (Op × SqlType) → Result TypedTree Mistake
 applied f name p divisor ts None = refuse (missing f name (types_of ts)) p

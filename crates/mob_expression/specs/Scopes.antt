@@ -9,9 +9,11 @@ pub record ScopeTableParts : Type 0 where
   pub table : ℕ
   pub columns : ColumnList
 
--- what an expression sees: the tables of FROM under the names that they go by there, and the number of its statement
+-- what an expression sees: tables of FROM that stand side by side, under the names that they go by there, the number of the first of
+-- them in FROM, and the number of its statement
 pub record ScopeParts : Type 0 where
   pub from : List (List ℕ × ScopeTableParts)
+  pub first : ℕ
   pub statement : ℕ
 
 abbrev pub source_of : ScopeTable → List ℕ × ScopeTableParts
@@ -21,4 +23,4 @@ abbrev pub sources_of : List ScopeTable → List (List ℕ × ScopeTableParts)
 sources_of ss = map source_of ss
 
 abbrev pub scope_of : Scope → ScopeParts
-scope_of s = record { from = sources_of s.from.now; statement = s.statement }
+scope_of s = record { from = sources_of s.from.now; first = s.first; statement = s.statement }

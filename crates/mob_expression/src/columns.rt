@@ -1,9 +1,9 @@
 //! The column that a name stands for.
-ghost use Rattle.std.specs.Prelude.{◌≡◌, option_map};
+ghost use Rattle.std.specs.Prelude.{◌≡◌, Ok, option_map};
 ghost use Rattle.mob_expression.specs.Answers.{AnswersAs};
 ghost use Rattle.mob_expression.specs.Names.{entry_from};
 ghost use Rattle.mob_expression.specs.Scopes.{source_of, sources_of, scope_of};
-ghost use Rattle.mob_expression.specs.Expressions.{the_one, matches, column_named};
+ghost use Rattle.mob_expression.specs.Expressions.{the_one, matches, column_among, in_from, column_named};
 
 use crate::fault::Fault;
 use crate::scope::{Found, Scope, ScopeTable, number};
@@ -50,14 +50,18 @@ pub fn source_named<'a>(
     None
 }
 
-/// The column that a name stands for, with its table before a point or without.
-pub fn column_named(scope: &Scope<'_>, table: &Option<Word>, column: &Word) -> Result<Found, Fault>
-    ensures named { AnswersAs (λ f. f) result (column_named (scope_of scope.now) table.now column.now) }
+// The column that a name stands for among these tables, which are counted from 0.
+fn column_among(
+    from: &[ScopeTable<'_>],
+    table: &Option<Word>,
+    column: &Word,
+) -> Result<Found, Fault>
+    ensures named { AnswersAs (λ f. f) result (column_among (sources_of from.now) table.now column.now) }
 {
     let Some(table) = table else {
-        return bare_column(scope.from, column);
+        return bare_column(from, column);
     };
-    let Some((from, source)) = source_named(scope.from, table.text.as_str()) else {
+    let Some((from, source)) = source_named(from, table.text.as_str()) else {
         return Err(Fault::Wrong {
             kind: Kind::UnknownName,
             place: table.place,
@@ -74,4 +78,25 @@ pub fn column_named(scope: &Scope<'_>, table: &Option<Word>, column: &Word) -> R
         column: number(index)?,
         ty,
     })
+}
+
+// A column by the number of its table in FROM. A sum past 32 bits counts as want of memory, as such a number does.
+fn in_from(first: u32, found: Found) -> Result<Found, Fault>
+    ensures counted { AnswersAs (λ f. f) result (Ok (in_from first found)) }
+{
+    let Some(from) = first.checked_add(found.from) else {
+        return Err(Fault::NoMemory);
+    };
+    Ok(Found {
+        from,
+        column: found.column,
+        ty: found.ty,
+    })
+}
+
+/// The column that a name stands for, with its table before a point or without.
+pub fn column_named(scope: &Scope<'_>, table: &Option<Word>, column: &Word) -> Result<Found, Fault>
+    ensures named { AnswersAs (λ f. f) result (column_named (scope_of scope.now) table.now column.now) }
+{
+    in_from(scope.first, column_among(scope.from, table, column)?)
 }

@@ -1,9 +1,10 @@
 //! Names and types of expressions.
-ghost use Rattle.mob_ast.specs.Trees.{tree_of};
+ghost use Rattle.std.specs.Prelude.{map};
+ghost use Rattle.mob_ast.specs.Trees.{tree_of, trees_of};
 ghost use Rattle.mob_expression.specs.Answers.{TypesTo};
 ghost use Rattle.mob_typed.specs.Trees.{typed_of};
 ghost use Rattle.mob_expression.specs.Scopes.{scope_of};
-ghost use Rattle.mob_expression.specs.Expressions.{typed_expression};
+ghost use Rattle.mob_expression.specs.Expressions.{typed_expression, typed_operands};
 
 use crate::constants::typed_before_operands;
 use crate::fault::Fault;
@@ -32,4 +33,21 @@ pub fn type_expr(
         args.push(typed)?;
     }
     finished(alloc, &e.node, e.place, &e.args, args)
+}
+
+/// The typed trees of operands from left to right, or what is wrong first.
+pub fn type_operands(
+    alloc: Global,
+    scope: &Scope<'_>,
+    consts: &mut Items<ConstText>,
+    operands: &[Expr],
+) -> Result<Vec<TExpr>, Fault>
+    ensures in_order { TypesTo (λ v. map typed_of v.items) result consts.new (typed_operands (scope_of scope.now) (trees_of operands.now) consts.old) }
+{
+    let mut args = Vec::new(alloc);
+    for operand in operands {
+        let typed = type_expr(alloc, scope, consts, operand)?;
+        args.push(typed)?;
+    }
+    Ok(args)
 }

@@ -1,5 +1,8 @@
 //! Operators on typed operands.
-ghost use Rattle.std.specs.Prelude.{◌≡◌, option_map, map, IfOk};
+ghost use Rattle.std.specs.Prelude.{◌≡◌, ◌||◌, option_map, map, IfOk};
+ghost use Rattle.mob_operators.specs.Aggregates.{is_aggregate};
+ghost use Rattle.mob_operators.specs.Lookup.{has_function};
+ghost use Rattle.mob_operators.specs.Table.{table};
 ghost use Rattle.mob_ast.specs.Trees.{tree_of, trees_of};
 ghost use Rattle.mob_expression.specs.Answers.{AnswersAs};
 ghost use Rattle.mob_typed.specs.Trees.{typed_of, type_of, types_of};
@@ -10,7 +13,7 @@ use crate::constants::only;
 use crate::fault::Fault;
 use crate::words::{is_zero, type_named};
 use mob_ast::{Expr, Kind, Node, SqlType, TypeWord};
-use mob_operators::{Form, Op, is_function, is_irrational, operator_for};
+use mob_operators::{Form, Op, is_aggregate, is_function, is_irrational, operator_for};
 use mob_typed::{TExpr, with_args};
 use std::alloc::{AllocError, Global};
 
@@ -69,6 +72,13 @@ fn divisor_of(args: &[Expr]) -> Option<bool>
     literal_of(only(others)?)
 }
 
+// Whether a function or an aggregate has this name.
+fn is_known(name: &str) -> bool
+    ensures known { result ≡ (has_function table name.now || is_aggregate name.now) }
+{
+    is_function(name) || is_aggregate(name)
+}
+
 // Why an operator has no line in the table for these types.
 fn missing(form: Form, name: &str, types: &[SqlType]) -> Kind
     ensures cause { result ≡ missing form name.now types.now }
@@ -77,7 +87,7 @@ fn missing(form: Form, name: &str, types: &[SqlType]) -> Kind
         Form::Word => Kind::NoSuchOperator,
         Form::Sign => missing_sign(name, types),
         Form::Call => {
-            if is_function(name) {
+            if is_known(name) {
                 Kind::NoSuchOperator
             } else {
                 Kind::UnknownName

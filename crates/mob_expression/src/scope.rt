@@ -1,4 +1,4 @@
-//! What an expression sees: the tables of FROM and their columns.
+//! What an expression sees: tables of FROM and their columns.
 ghost use Rattle.std.specs.Prelude.{◌≡◌, Ok};
 ghost use Rattle.mob_expression.specs.Answers.{AnswersAs};
 
@@ -17,11 +17,14 @@ pub struct ScopeTable<'a> {
     pub columns: &'a Columns,
 }
 
-/// What an expression sees: the tables of FROM, and the number of its statement.
+/// What an expression sees: tables of FROM, and the number of its statement. A condition of ON sees a part of FROM, all else the
+/// whole.
 #[derive(Clone, Copy)]
 pub struct Scope<'a> {
-    /// The tables of FROM.
+    /// The tables, which stand side by side in FROM.
     pub from: &'a [ScopeTable<'a>],
+    /// The number of the first of them in FROM, from 0.
+    pub first: u32,
     /// The number of the statement, from 1.
     pub statement: u32,
 }

@@ -1,22 +1,22 @@
 -- The walk along the statements of a script: what is counted as one expression is one of the grammar.
 use Rattle.std.proofs.Common.{◌≡◌, ◌==◌, ◌≤◌, ◌⊎◌, ◌↔◌, inl, inr, ℕ, List, [], ◌∷◌, Bool, true, false, cond, Option, refl, sym, ap, subst, ◌∙◌, arith}
+use Rattle.std.specs.Prelude.{codes}
 use Rattle.mob_ast.specs.declared.types.Word.{Word}
-use Rattle.mob_ast.specs.declared.statement.FromTable.{FromTable}
-use Rattle.mob_ast.specs.Trees.{Tree, StatementParts, ItemParts, KeyParts, SelectParts}
+use Rattle.mob_ast.specs.Trees.{Tree, StatementParts, ItemParts, FromParts, KeyParts, SelectParts}
 use Rattle.mob_grammar.specs.declared.mark.Mark.{Mark}
-use Rattle.mob_grammar.specs.declared.mark.Mark.TheVariants.{Select, From, Where, Order, Asc, Desc, Limit, With, Delimiter, As, Times, Open, Close, Comma, Semicolon}
+use Rattle.mob_grammar.specs.declared.mark.Mark.TheVariants.{Select, Delete, Left, On, Group, Dot, From, Where, Order, Asc, Desc, Limit, With, Delimiter, As, Times, Open, Close, Comma, Semicolon}
 use Rattle.mob_grammar.specs.Marks.{is}
-use Rattle.mob_grammar.specs.Symbols.{Symbol, fixed, name, number, quoted, PlacedSymbol, sign, identifier, binding, is_mark, is_sign, is_string_symbol, starts}
+use Rattle.mob_grammar.specs.Symbols.{Symbol, fixed, name, number, quoted, PlacedSymbol, sign, identifier, binding, is_mark, is_sign, is_string_symbol, starts, is_literal}
 use Rattle.mob_grammar.specs.Symbols as grammar
 use Rattle.mob_grammar.specs.Expressions.{disjunction, Phrase, TypeName, plain, inner}
 use Rattle.mob_grammar.specs.Forms.{Production, ◌▸◌, ◌∣◌, Listed, single, several}
-use Rattle.mob_grammar.specs.Scripts.{Const, Row, ColumnType, FromEntry, SecondName, Alias, SelectItem, Direction, OrderKey, OnlyDistinct, FromPart, WherePart, OrderPart, LimitPart, SelectBody, CreateTable, CreateIndex, InsertRows, CopyFile, WithFormat, WithDelimiter, Statement}
+use Rattle.mob_grammar.specs.Scripts.{JoinedEntry, JoinPart, Source, GroupColumn, GroupPart, DeleteRows, Const, Row, ColumnType, FromEntry, SecondName, Alias, SelectItem, Direction, OrderKey, OnlyDistinct, FromPart, WherePart, OrderPart, LimitPart, SelectBody, CreateTable, CreateIndex, InsertRows, CopyFile, WithFormat, WithDelimiter, Statement}
 use Rattle.mob_grammar.proofs.Steps.{told, token_is}
 use Rattle.mob_lexemes.specs.declared.heavy.TokenStanding.{TokenStanding}
 use Rattle.mob_lexemes.specs.Weights.{outside, is_function, counts, mark_counts}
-use Rattle.mob_lexemes.specs.Heavy.{ends, selects_after, no_call_after, standing_after, is_heavy}
-use Rattle.mob_lexemes.specs.Weighed.{phrase_weight, AllLight, IsLightItem, IsLightKey, IsLightWhere, AreLightKeys, IsLightSelect, IsLightStatement, ExpressionsAreTheGrammars}
-use Rattle.mob_lexemes.proofs.Walked.{Light, at, quiet, never, name_quiet, Clear, along, none_light, column_is, symbol_operator, joins}
+use Rattle.mob_lexemes.specs.Heavy.{begins_expressions, ends, selects_after, no_call_after, standing_after, is_heavy}
+use Rattle.mob_lexemes.specs.Weighed.{IsLightJoined, AreLightJoins, IsLightSource, IsLightFrom, IsLightDelete, phrase_weight, AllLight, IsLightItem, IsLightKey, IsLightWhere, AreLightKeys, IsLightSelect, IsLightStatement, ExpressionsAreTheGrammars}
+use Rattle.mob_lexemes.proofs.Walked.{Light, at, behind, quiet, never, name_quiet, Clear, along, none_light, column_is, symbol_operator, joins}
 
 -- ---- where nothing is selected, nothing is counted
 idle_counts : (s : TokenStanding) → s.selects ≡ false → (x : Symbol) (l : List PlacedSymbol) → counts s x l ≡ false
@@ -28,7 +28,26 @@ idle_counts s h (quoted c) l = refl
 idle_heavy : (s : TokenStanding) → s.selects ≡ false → (x : Symbol) (l : List PlacedSymbol) → is_heavy s x l ≡ false
 idle_heavy s h x l = ap (λ b. cond (s.weight == 256) b false) (idle_counts s h x l) ∙ never (s.weight == 256)
 
-idle_after : (x : Symbol) → is_mark Select x ≡ false → selects_after false x ≡ false
+-- a word that begins a statement with expressions
+abbrev starts_counting : Symbol → Bool
+starts_counting (fixed m) = begins_expressions m
+starts_counting (name n) = false
+starts_counting (number n) = false
+starts_counting (quoted c) = false
+
+abbrev is_start : PlacedSymbol → Bool
+is_start t = starts_counting t.symbol
+
+start_symbol : (x : Symbol) → starts_counting x ≡ true → is_mark Select x ≡ false → is_mark Delete x ≡ true
+start_symbol (fixed m) h a = sym (ap (λ b. cond b true (is m Delete)) a) ∙ h
+start_symbol (name n) h a = absurd (cc h)
+start_symbol (number n) h a = absurd (cc h)
+start_symbol (quoted c) h a = absurd (cc h)
+
+start_is : (t : PlacedSymbol) → is_start t ≡ true → (t ≡ sign Select t.place) ⊎ (t ≡ sign Delete t.place)
+start_is t h = elim (told (is_sign Select t)) [ inl a ↦ inl (token_is Select t a) | inr a ↦ inr (token_is Delete t (start_symbol t.symbol h a)) ]
+
+idle_after : (x : Symbol) → starts_counting x ≡ false → selects_after false x ≡ false
 idle_after (fixed m) h = ap (λ b. cond b true (cond (is m Semicolon) false false)) h ∙ never (is m Semicolon)
 idle_after (name n) h = refl
 idle_after (number n) h = refl
@@ -38,13 +57,16 @@ idle_after (quoted c) h = refl
 idle_same : (s z : TokenStanding) (l : List PlacedSymbol) → s.selects ≡ false → z.selects ≡ false → Light s l → Light z l
 idle_same s z [] hs hz k = tt
 idle_same s z (t ∷ l) hs hz k =
-    (idle_heavy z hz t.symbol l, by (told (is_sign Select t)) (λ h. idle_same (standing_after s t.symbol l) (standing_after z t.symbol l) l (ap (λ b. selects_after b t.symbol) hs ∙ idle_after t.symbol h) (ap (λ b. selects_after b t.symbol) hz ∙ idle_after t.symbol h) k.1))
+    (idle_heavy z hz t.symbol l, by (told (is_start t)) (λ h. idle_same (standing_after s t.symbol l) (standing_after z t.symbol l) l (ap (λ b. selects_after b t.symbol) hs ∙ idle_after t.symbol h) (ap (λ b. selects_after b t.symbol) hz ∙ idle_after t.symbol h) k.1))
   where
     selects : {q : PlacedSymbol} → q ≡ sign Select q.place → standing_after s q.symbol l ≡ standing_after z q.symbol l
     selects e = ap (λ q. standing_after s q.symbol l) e ∙ sym (ap (λ q. standing_after z q.symbol l) e)
 
-    by : (is_sign Select t ≡ true) ⊎ (is_sign Select t ≡ false) → (is_sign Select t ≡ false → Light (standing_after z t.symbol l) l) → Light (standing_after z t.symbol l) l
-    by (inl h) f = subst (λ y. Light y l) (selects (token_is Select t h)) k.1
+    deletes : {q : PlacedSymbol} → q ≡ sign Delete q.place → standing_after s q.symbol l ≡ standing_after z q.symbol l
+    deletes e = ap (λ q. standing_after s q.symbol l) e ∙ sym (ap (λ q. standing_after z q.symbol l) e)
+
+    by : (is_start t ≡ true) ⊎ (is_start t ≡ false) → (is_start t ≡ false → Light (standing_after z t.symbol l) l) → Light (standing_after z t.symbol l) l
+    by (inl h) f = elim (start_is t h) [ inl e ↦ subst (λ y. Light y l) (selects e) k.1 | inr e ↦ subst (λ y. Light y l) (deletes e) k.1 ]
     by (inr h) f = f h
 
 -- nothing is counted between two places
@@ -58,21 +80,21 @@ follow a b = record { there = λ k. b.there (a.there k); back = λ k. a.back (b.
 same_tokens : {s : TokenStanding} {l r : List PlacedSymbol} → l ≡ r → Same s l r
 same_tokens {s = s} {l = l} e = subst (λ k. Same s l k) e record { there = λ k. k; back = λ k. k }
 
-skip : (t : PlacedSymbol) (l : List PlacedSymbol) → is_sign Select t ≡ false → Same outside (t ∷ l) l
+skip : (t : PlacedSymbol) (l : List PlacedSymbol) → is_start t ≡ false → Same outside (t ∷ l) l
 skip t l h = record {
   there = λ k. idle_same (standing_after outside t.symbol l) outside l (idle_after t.symbol h) refl k.1;
   back = λ k. (refl, idle_same outside (standing_after outside t.symbol l) l refl (idle_after t.symbol h) k);
 }
 
--- the first token of l is no SELECT, and what stands behind it is m
-skip_at : {t : PlacedSymbol} {l m : List PlacedSymbol} → l ≡ t ∷ m → is_sign Select t ≡ false → Same outside l m
+-- the first token of l begins no expressions, and what stands behind it is m
+skip_at : {t : PlacedSymbol} {l m : List PlacedSymbol} → l ≡ t ∷ m → is_start t ≡ false → Same outside l m
 skip_at {t = t} {m = m} e h = follow (same_tokens e) (skip t m h)
 
 -- a form of other statements
 abbrev Skips : {A : Type 0} → Production A → Type 0
 Skips {A} F = (l : List PlacedSymbol) (x : A) (r : List PlacedSymbol) → F l x r → Same outside l r
 
-skips_listed : {A : Type 0} (m : Mark) (F : Production A) → is m Select ≡ false → Skips F → Skips (Listed m F)
+skips_listed : {A : Type 0} (m : Mark) (F : Production A) → begins_expressions m ≡ false → Skips F → Skips (Listed m F)
 skips_listed m F h f l _ r (single {x = x} d) = f l x r d
 skips_listed m F h f l _ r (several {u = u} {x = x} {xs = xs} {p = p} d ds) = follow (f l x (sign m p ∷ u) d) (follow (skip (sign m p) u h) (skips_listed m F h f u xs r ds))
 
@@ -81,8 +103,8 @@ type_skips _ _ r (plain {n = n} {p = p}) = skip (identifier n p) r refl
 type_skips _ _ r (inner {n = n} {v = v} {p = p} {q = q} {o = o} {s = s}) =
     follow (skip (identifier n p) (sign Open q ∷ identifier v o ∷ sign Close s ∷ r) refl) (follow (skip (sign Open q) (identifier v o ∷ sign Close s ∷ r) refl) (follow (skip (identifier v o) (sign Close s ∷ r) refl) (skip (sign Close s) r refl)))
 
-no_select : (t : PlacedSymbol) → binding t ≡ 8 → is_sign Select t ≡ false
-no_select t h = let o = symbol_operator t.symbol (ap joins h) in ap (is_mark Select) o.1 ∙ o.2.no_select
+no_select : (t : PlacedSymbol) → binding t ≡ 8 → is_start t ≡ false
+no_select t h = let o = symbol_operator t.symbol (ap joins h) in ap starts_counting o.1 ∙ o.2.no_select
 
 const_skips : Skips Const
 const_skips l x r (inl (s, m, e, (y, z))) = follow (skip_at e refl) (same_tokens z)
@@ -197,7 +219,19 @@ where_stops : (l : List PlacedSymbol) (x : Option Tree) (r : List PlacedSymbol) 
 where_stops l x r (inl (p, m, e, d)) s = stops_at e (stop Where refl (λ v. refl) refl)
 where_stops l x r (inr (y, z)) s = stops_same z s
 
-from_stops : (l : List PlacedSymbol) (x : List FromTable) (r : List PlacedSymbol) → FromPart l x r → Stops r → Stops l
+group_stops : (l : List PlacedSymbol) (x : List Tree) (r : List PlacedSymbol) → GroupPart l x r → Stops r → Stops l
+group_stops l x r (inl (p, m, e, d)) s = stops_at e (stop Group refl (λ v. refl) refl)
+group_stops l x r (inr (y, z)) s = stops_same z s
+
+left_stops : (p : ℕ) (l : List PlacedSymbol) → Stops (sign Left p ∷ l)
+unfolding Stops
+left_stops p l = stop Left refl (λ v. refl) refl
+
+joins_stops : (l : List PlacedSymbol) (x : List FromParts) (r : List PlacedSymbol) → JoinPart l x r → Stops r → Stops l
+joins_stops l x r (inl (p, m, e, d)) s = stops_at e (stop Left refl (λ v. refl) refl)
+joins_stops l x r (inr (y, z)) s = stops_same z s
+
+from_stops : (l : List PlacedSymbol) (x : List FromParts) (r : List PlacedSymbol) → FromPart l x r → Stops r → Stops l
 from_stops l x r (inl (p, m, e, d)) s = stops_at e (stop From refl (λ v. refl) refl)
 from_stops l x r (inr (y, z)) s = stops_same z s
 
@@ -247,18 +281,43 @@ second_open l x r (inl (p, m, e, d)) s = ap (starts Open) e
 second_open l x r (inr (inl (w, m, e, d))) s = ap (starts Open) e
 second_open l x r (inr (inr (y, z))) s = no_open z s
 
-entry_calm : (l : List PlacedSymbol) (x : FromTable) (r : List PlacedSymbol) → FromEntry l x r → Stops r → Same (at 0 0) l r
+entry_calm : (l : List PlacedSymbol) (x : FromParts) (r : List PlacedSymbol) → FromEntry l x r → Stops r → Same (at 0 0) l r
 entry_calm l x r (table, m, e, (alias, k, a, (y, z))) s =
     let t = stops_same z s in follow (pass_name e (second_open m alias k a t)) (follow (second_calm m alias k a t) (same_tokens z))
 
-entries_calm : (l : List PlacedSymbol) (xs : List FromTable) (r : List PlacedSymbol) → Listed Comma FromEntry l xs r → Stops r → Same (at 0 0) l r
-entries_calm l _ r (single {x = x} d) s = entry_calm l x r d s
-entries_calm l _ r (several {u = u} {x = x} {xs = xs} {p = p} d ds) s =
-    follow (entry_calm l x (sign Comma p ∷ u) d (comma_stops p u)) (follow (pass {t = sign Comma p} refl refl refl) (entries_calm u xs r ds s))
+-- a column of GROUP BY
+dot_calm : {p o : ℕ} {n : List ℕ} {l k u : List PlacedSymbol} → l ≡ sign Dot p ∷ k → k ≡ identifier n o ∷ u → Same (at 0 0) l u
+dot_calm {p = p} {o = o} {n = n} {u = u} e f =
+    let a = quiet (at 0 0) (behind true 0 0) (sign Dot p) (identifier n o ∷ u) refl refl in
+    let b = name_quiet true 0 0 n o u refl in
+    follow (same_tokens (e ∙ ap (λ v. sign Dot p ∷ v) f)) record { there = λ k. b.0 (a.0 k); back = λ k. a.1 (b.1 k) }
 
-from_calm : (l : List PlacedSymbol) (x : List FromTable) (r : List PlacedSymbol) → FromPart l x r → Stops r → Same (at 0 0) l r
-from_calm l x r (inl (p, m, e, d)) s = follow (pass e refl refl) (entries_calm m x r d s)
-from_calm l x r (inr (y, z)) s = same_tokens z
+column_calm : (l : List PlacedSymbol) (x : Tree) (r : List PlacedSymbol) → GroupColumn l x r → Stops r → Same (at 0 0) l r
+column_calm l x r (w, m, e, inl (p, k, f, (c, n, g, (y, z)))) s = follow (pass_name e (ap (starts Open) f)) (follow (dot_calm f g) (same_tokens z))
+column_calm l x r (w, m, e, inr (y, z)) s = follow (pass_name e (no_open z s)) (same_tokens z)
+
+columns_calm : (l : List PlacedSymbol) (xs : List Tree) (r : List PlacedSymbol) → Listed Comma GroupColumn l xs r → Stops r → Same (at 0 0) l r
+columns_calm l _ r (single {x = x} d) s = column_calm l x r d s
+columns_calm l _ r (several {u = u} {x = x} {xs = xs} {p = p} d ds) s =
+    follow (column_calm l x (sign Comma p ∷ u) d (comma_stops p u)) (follow (pass {t = sign Comma p} refl refl refl) (columns_calm u xs r ds s))
+
+group_calm : (l : List PlacedSymbol) (x : List Tree) (r : List PlacedSymbol) → GroupPart l x r → Stops r → Same (at 0 0) l r
+group_calm l x r (inl (p, m, e, (q, k, f, d))) s = follow (pass e refl refl) (follow (pass f refl refl) (columns_calm k x r d s))
+group_calm l x r (inr (y, z)) s = same_tokens z
+
+-- count(*): three counted tokens
+star_no_literal : (o s : ℕ) (u : List PlacedSymbol) → is_literal (sign Times o ∷ (sign Close s ∷ u)) ≡ false
+star_no_literal o s [] = refl
+star_no_literal o s (t ∷ u) = refl
+
+count_calm : (p q o s : ℕ) (n : List ℕ) (u : List PlacedSymbol) → Stops u → Same (at 0 0) (identifier n p ∷ (sign Open q ∷ (sign Times o ∷ (sign Close s ∷ u)))) u
+count_calm p q o s n u h =
+    let a = quiet (at 0 0) (at 0 1) (identifier n p) (sign Open q ∷ (sign Times o ∷ (sign Close s ∷ u))) refl (ap (λ b. record { selects = true; depth = 0; weight = cond (cond b false true) 1 0; no_call = false }) (star_no_literal o s u)) in
+    let b = quiet (at 0 1) (at 1 2) (sign Open q) (sign Times o ∷ (sign Close s ∷ u)) refl refl in
+    let c = quiet (at 1 2) (at 1 3) (sign Times o) (sign Close s ∷ u) refl refl in
+    let d = quiet (at 1 3) (at 0 3) (sign Close s) u refl refl in
+    let g = reset 3 u h in
+    record { there = λ k. g.0 (d.0 (c.0 (b.0 (a.0 k)))); back = λ k. a.1 (b.1 (c.1 (d.1 (g.1 k)))) }
 
 -- ---- the parts with expressions: they are light, and what stands behind them
 record Walks (A : Type 0) (s : TokenStanding) (l r : List PlacedSymbol) : Type 0 where
@@ -288,7 +347,10 @@ star_calm p m s = let f = quiet (at 0 0) (at 0 1) (sign Times p) m refl refl in 
 
 item_walks : (l : List PlacedSymbol) (x : ItemParts) (r : List PlacedSymbol) (d : SelectItem l x r) → Stops r → Walks (IsLightItem l x r d) (at 0 0) l r
 item_walks l x r (inl (p, m, e, (y, z))) s = none_walks (follow (same_tokens e) (follow (star_calm p m (stops_same z s)) (same_tokens z)))
-item_walks l x r (inr (value, m, d, (alias, k, a, (y, z)))) s =
+item_walks l x r (inr (inl (p, m, e, (q, n, f, (o, h, g, (c, v, i, (alias, k, a, (y, z)))))))) s =
+    let t = stops_same z s in
+    none_walks (follow (same_tokens (e ∙ ap (λ w. identifier (codes "count") p ∷ w) (f ∙ ap (λ w. sign Open q ∷ w) (g ∙ ap (λ w. sign Times o ∷ w) i)))) (follow (count_calm p q o c (codes "count") v (alias_stops v alias k a t)) (follow (alias_calm v alias k a t) (same_tokens z))))
+item_walks l x r (inr (inr (value, m, d, (alias, k, a, (y, z))))) s =
     let t = stops_same z s in walks_then (expression_walks d (alias_stops m alias k a t)) (follow (alias_calm m alias k a t) (same_tokens z))
 
 key_walks : (l : List PlacedSymbol) (x : KeyParts) (r : List PlacedSymbol) (d : OrderKey l x r) → Stops r → Walks (IsLightKey l x r d) (at 0 0) l r
@@ -299,33 +361,66 @@ where_walks : (l : List PlacedSymbol) (x : Option Tree) (r : List PlacedSymbol) 
 where_walks l x r (inl (p, m, e, (c, k, d, (y, z)))) s = then_walks (pass e refl refl) (walks_then (expression_walks d (stops_same z s)) (same_tokens z))
 where_walks l x r (inr (y, z)) s = none_walks (same_tokens z)
 
-listed_walks : {A : Type 0} (F : Production A) (light : (l : List PlacedSymbol) (x : A) (r : List PlacedSymbol) → F l x r → Type 0)
+listed_walks : {A : Type 0} (m : Mark) (F : Production A) (light : (l : List PlacedSymbol) (x : A) (r : List PlacedSymbol) → F l x r → Type 0)
+    → ((p : ℕ) (u : List PlacedSymbol) → Stops (sign m p ∷ u)) → ((p : ℕ) (u : List PlacedSymbol) → Same (at 0 0) (sign m p ∷ u) u)
     → ((l : List PlacedSymbol) (x : A) (r : List PlacedSymbol) (d : F l x r) → Stops r → Walks (light l x r d) (at 0 0) l r)
-    → (l : List PlacedSymbol) (xs : List A) (r : List PlacedSymbol) (ds : Listed Comma F l xs r) → Stops r → Walks (AllLight Comma F light l xs r ds) (at 0 0) l r
-listed_walks F light f l _ r (single {x = x} d) s = f l x r d s
-listed_walks F light f l _ r (several {u = u} {x = x} {xs = xs} {p = p} d ds) s =
-    both_walk (f l x (sign Comma p ∷ u) d (comma_stops p u)) (then_walks (pass {t = sign Comma p} refl refl refl) (listed_walks F light f u xs r ds s))
+    → (l : List PlacedSymbol) (xs : List A) (r : List PlacedSymbol) (ds : Listed m F l xs r) → Stops r → Walks (AllLight m F light l xs r ds) (at 0 0) l r
+listed_walks m F light stops goes f l _ r (single {x = x} d) s = f l x r d s
+listed_walks m F light stops goes f l _ r (several {u = u} {x = x} {xs = xs} {p = p} d ds) s =
+    both_walk (f l x (sign m p ∷ u) d (stops p u)) (then_walks (goes p u) (listed_walks m F light stops goes f u xs r ds s))
+
+comma_goes : (p : ℕ) (u : List PlacedSymbol) → Same (at 0 0) (sign Comma p ∷ u) u
+comma_goes p u = pass {t = sign Comma p} refl refl refl
+
+left_goes : (p : ℕ) (u : List PlacedSymbol) → Same (at 0 0) (sign Left p ∷ u) u
+left_goes p u = pass {t = sign Left p} refl refl refl
+
+joined_walks : (l : List PlacedSymbol) (x : FromParts) (r : List PlacedSymbol) (d : JoinedEntry l x r) → Stops r → Walks (IsLightJoined l x r d) (at 0 0) l r
+joined_walks l x r (p, m, e, (table, n, f, (alias, k, a, (q, o, g, (c, u, d, (y, z)))))) s =
+    let on = stops_at g (stop On refl (λ v. refl) refl) in
+    then_walks (follow (pass e refl refl) (follow (pass_name f (second_open n alias k a on)) (follow (second_calm n alias k a on) (pass g refl refl))))
+    (walks_then (expression_walks d (stops_same z s)) (same_tokens z))
+
+joins_walks : (l : List PlacedSymbol) (x : List FromParts) (r : List PlacedSymbol) (d : JoinPart l x r) → Stops r → Walks (AreLightJoins l x r d) (at 0 0) l r
+joins_walks l x r (inl (p, m, e, d)) s = then_walks (pass e refl refl) (listed_walks Left JoinedEntry IsLightJoined left_stops left_goes joined_walks m x r d s)
+joins_walks l x r (inr (y, z)) s = none_walks (same_tokens z)
+
+source_walks : (l : List PlacedSymbol) (x : List FromParts) (r : List PlacedSymbol) (d : Source l x r) → Stops r → Walks (IsLightSource l x r d) (at 0 0) l r
+source_walks l x r (entry, m, e, (joined, k, d, (y, z))) s =
+    let t = stops_same z s in then_walks (entry_calm l entry m e (joins_stops m joined k d t)) (walks_then (joins_walks m joined k d t) (same_tokens z))
+
+from_walks : (l : List PlacedSymbol) (x : List FromParts) (r : List PlacedSymbol) (d : FromPart l x r) → Stops r → Walks (IsLightFrom l x r d) (at 0 0) l r
+from_walks l x r (inl (p, m, e, (sources, k, d, (y, z)))) s =
+    then_walks (pass e refl refl) (walks_then (listed_walks Comma Source IsLightSource comma_stops comma_goes source_walks m sources k d (stops_same z s)) (same_tokens z))
+from_walks l x r (inr (y, z)) s = none_walks (same_tokens z)
 
 order_walks : (l : List PlacedSymbol) (x : List KeyParts) (r : List PlacedSymbol) (d : OrderPart l x r) → Stops r → Walks (AreLightKeys l x r d) (at 0 0) l r
-order_walks l x r (inl (p, m, e, (q, k, f, d))) s = then_walks (pass e refl refl) (then_walks (pass f refl refl) (listed_walks OrderKey IsLightKey key_walks k x r d s))
+order_walks l x r (inl (p, m, e, (q, k, f, d))) s = then_walks (pass e refl refl) (then_walks (pass f refl refl) (listed_walks Comma OrderKey IsLightKey comma_stops comma_goes key_walks k x r d s))
 order_walks l x r (inr (y, z)) s = none_walks (same_tokens z)
 
 select_walks : (l : List PlacedSymbol) (x : SelectParts) (r : List PlacedSymbol) (d : SelectBody l x r) → Stops r → Walks (IsLightSelect l x r d) (at 0 0) l r
-select_walks l x r (distinct, m, d, (items, n, e, (from, o, f, (c, p, g, (keys, q, h, (limit, t, i, (y, z))))))) s =
+select_walks l x r (distinct, m, d, (items, n, e, (from, o, f, (c, p, g, (groups, b, j, (keys, q, h, (limit, t, i, (y, z)))))))) s =
     let at_limit = limit_stops q limit t i (stops_same z s) in
-    let at_order = order_stops p keys q h at_limit in
-    let at_where = where_stops o c p g at_order in
+    let at_order = order_stops b keys q h at_limit in
+    let at_group = group_stops p groups b j at_order in
+    let at_where = where_stops o c p g at_group in
     let at_from = from_stops n from o f at_where in
-    let a = listed_walks SelectItem IsLightItem item_walks m items n e at_from in
-    let b = where_walks o c p g at_order in
-    let k = order_walks p keys q h at_limit in
+    let in_items = listed_walks Comma SelectItem IsLightItem comma_stops comma_goes item_walks m items n e at_from in
+    let in_from = from_walks n from o f at_where in
+    let in_where = where_walks o c p g at_group in
+    let in_order = order_walks b keys q h at_limit in
     let before = distinct_calm l distinct m d in
-    let between = from_calm n from o f at_where in
+    let between = group_calm p groups b j at_order in
     let after = follow (limit_calm q limit t i) (same_tokens z) in
     record {
-      there = λ u. let v = a.there (before.there u) in let w = b.there (between.there v.1) in let j = k.there w.1 in ((v.0, w.0, j.0), after.there j.1);
-      back = λ u v. before.back (a.back u.0 (between.back (b.back u.1 (k.back u.2 (after.back v)))));
+      there = λ u. let v = in_items.there (before.there u) in let w = in_from.there v.1 in let a = in_where.there w.1 in let k = in_order.there (between.there a.1) in ((v.0, w.0, a.0, k.0), after.there k.1);
+      back = λ u v. before.back (in_items.back u.0 (in_from.back u.1 (in_where.back u.2 (between.back (in_order.back u.3 (after.back v))))));
     }
+
+delete_walks : (l : List PlacedSymbol) (x : StatementParts) (r : List PlacedSymbol) (d : DeleteRows l x r) → Stops r → Walks (IsLightDelete l x r d) (at 0 0) l r
+delete_walks l x r (p, m, e, (table, n, f, (c, k, d, (y, z)))) s =
+    let t = stops_same z s in
+    then_walks (follow (pass e refl refl) (pass_name f (clear n (where_stops n c k d t)).no_bracket)) (walks_then (where_walks n c k d t) (same_tokens z))
 
 -- ---- statements
 -- behind a statement, where it does not matter whether it was a SELECT
@@ -354,14 +449,25 @@ selected {p = p} {l = l} {m = m} x k r e d z s =
       back = λ u v. h.back (f.1 (g.back u (i.back (s.inward v))));
     }
 
+deleted : {p : ℕ} {l m : List PlacedSymbol} (x : StatementParts) (r : List PlacedSymbol) → l ≡ sign Delete p ∷ m → (d : DeleteRows m x r) → IsEnd r → Walks (IsLightDelete m x r d) outside l r
+deleted {p = p} {l = l} {m = m} x r e d s =
+    let f = quiet outside (at 0 0) (sign Delete p) m refl refl in
+    let g = delete_walks m x r d s.stops in
+    let h : Same outside l (sign Delete p ∷ m) = same_tokens e in
+    record {
+      there = λ u. let v = g.there (f.0 (h.there u)) in (v.0, s.outward v.1);
+      back = λ u v. h.back (f.1 (g.back u (s.inward v)));
+    }
+
 statement_walks : (l : List PlacedSymbol) (x : StatementParts) (r : List PlacedSymbol) (d : Statement l x r) → IsEnd r → Walks (IsLightStatement l x r d) outside l r
 statement_walks l x r (inl (p, m, e, inl d)) s = none_walks (follow (skip_at e refl) (table_skips m x r d))
 statement_walks l x r (inl (p, m, e, inr d)) s = none_walks (follow (skip_at e refl) (index_skips m x r d))
 statement_walks l x r (inr (inl (p, m, e, d))) s = none_walks (follow (skip_at e refl) (insert_skips m x r d))
 statement_walks l x r (inr (inr (inl (p, m, e, d)))) s = none_walks (follow (skip_at e refl) (copy_skips m x r d))
-statement_walks l x r (inr (inr (inr (inl (p, m, e, (q, k, d, (y, z))))))) s = selected q k r e d z s
-statement_walks l x r (inr (inr (inr (inr (inl (p, m, e, (q, n, f, (t, k, d, (y, z))))))))) s = then_walks (skip_at e refl) (selected t k r f d z s)
-statement_walks l x r (inr (inr (inr (inr (inr (y, z)))))) s = none_walks (same_tokens z)
+statement_walks l x r (inr (inr (inr (inl (p, m, e, d))))) s = deleted x r e d s
+statement_walks l x r (inr (inr (inr (inr (inl (p, m, e, (q, k, d, (y, z)))))))) s = selected q k r e d z s
+statement_walks l x r (inr (inr (inr (inr (inr (inl (p, m, e, (q, n, f, (t, k, d, (y, z)))))))))) s = then_walks (skip_at e refl) (selected t k r f d z s)
+statement_walks l x r (inr (inr (inr (inr (inr (inr (y, z))))))) s = none_walks (same_tokens z)
 
 script_walks : (l : List PlacedSymbol) (xs : List StatementParts) (r : List PlacedSymbol) (ds : Listed Semicolon Statement l xs r) → IsEnd r → Walks (AllLight Semicolon Statement IsLightStatement l xs r ds) outside l r
 script_walks l _ r (single {x = x} d) s = statement_walks l x r d s

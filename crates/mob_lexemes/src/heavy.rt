@@ -2,7 +2,7 @@
 ghost use Rattle.std.specs.Prelude.{◌≡◌, ◌<◌, ◌≤◌, ◌+◌, ◌^◌, length, IfSome};
 ghost use Rattle.mob_lexemes.specs.Weights.{counts, mark_counts, mark_ends, is_function};
 ghost use Rattle.mob_lexemes.specs.Lexemes.{placed_symbol, placed_symbols};
-ghost use Rattle.mob_lexemes.specs.Heavy.{ends, depth_after, selects_after, weight_after, standing_after, is_heavy, first_heavy};
+ghost use Rattle.mob_lexemes.specs.Heavy.{ends, depth_after, begins_expressions, selects_after, weight_after, standing_after, is_heavy, first_heavy};
 
 use crate::lexeme::{Lexeme, Symbol, begins_literal};
 use mob_grammar::mark::Mark;
@@ -10,7 +10,7 @@ use mob_grammar::mark::Mark;
 /// Where a token stands, as it is told from the tokens before it.
 #[derive(Clone, Copy)]
 pub struct TokenStanding {
-    /// Whether in a SELECT.
+    /// Whether in a SELECT or a DELETE.
     pub selects: bool,
     /// In how many open brackets.
     pub depth: usize,
@@ -43,6 +43,13 @@ fn mark_ends(mark: Mark) -> bool
     }
 }
 
+// Whether a mark begins a statement that has expressions.
+fn begins_expressions(mark: Mark) -> bool
+    ensures exact { result ≡ begins_expressions mark }
+{
+    matches!(mark, Mark::Select | Mark::Delete)
+}
+
 // Whether a name before these tokens is that of a function.
 fn is_function(no_call: bool, after: &[Lexeme<'_>]) -> bool
     ensures exact { result ≡ is_function no_call (placed_symbols after.now) }
@@ -57,7 +64,8 @@ fn is_function(no_call: bool, after: &[Lexeme<'_>]) -> bool
 }
 
 impl TokenStanding {
-    fn counts(&self, lexeme: &Lexeme<'_>, after: &[Lexeme<'_>]) -> bool
+    /// Whether a lexeme that stands so, before these, is a counted token of an expression.
+    pub fn counts(&self, lexeme: &Lexeme<'_>, after: &[Lexeme<'_>]) -> bool
         ensures exact { result ≡ counts self.now (placed_symbol lexeme.now).symbol (placed_symbols after.now) }
     {
         match lexeme.symbol {
@@ -107,7 +115,7 @@ impl TokenStanding {
     {
         match lexeme.symbol {
             Symbol::Fixed(mark) => {
-                if mark.is(Mark::Select) {
+                if begins_expressions(mark) {
                     true
                 } else if mark.is(Mark::Semicolon) {
                     false
@@ -132,8 +140,8 @@ impl TokenStanding {
         }
     }
 
-    // How the token behind the lexeme stands.
-    fn after(&self, lexeme: &Lexeme<'_>, after: &[Lexeme<'_>]) -> TokenStanding
+    /// How the token behind the lexeme stands.
+    pub fn after(&self, lexeme: &Lexeme<'_>, after: &[Lexeme<'_>]) -> TokenStanding
         requires depth { self.now.depth < 2 ^ 62 }
         requires weight { self.now.weight < 2 ^ 62 }
         ensures stands { result ≡ standing_after self.now (placed_symbol lexeme.now).symbol (placed_symbols after.now) }

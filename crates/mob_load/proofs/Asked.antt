@@ -5,7 +5,7 @@ use Rattle.std.specs.List.{flat_map}
 use Rattle.std.proofs.lemmas.Grind.{flat_map-append}
 use Rattle.std.proofs.lemmas.List.{append-nil, append_assoc, take-append-le, take_all, take_more, drop_more, map-append}
 use Rattle.mob_typed.specs.declared.typed.ConstText.{ConstText}
-use Rattle.mob_typed.specs.Statements.{ScriptOut, StatementOut, nothing, new_table, new_index, new_rows, rows_from, query, plan_of}
+use Rattle.mob_typed.specs.Statements.{ScriptOut, StatementOut, nothing, new_table, new_index, new_rows, rows_from, deletion, query, plan_of}
 use Rattle.mob_load.specs.Checks.{CheckParts, check_seen, literal, Checkpoint, bracket, checkpoints_of, checkpoints_from, stands_before, checks_up_to, in_order, checks_of}
 use Rattle.mob_load.specs.declared.check.Check.{Check}
 use Rattle.mob_load.specs.Fronts.{AreFilesFor, AsksForAll, AsksForSome, IsAskedLast}
@@ -43,6 +43,7 @@ statement_asks n (new_table t name columns) = refl
 statement_asks n (new_index t c name) = refl
 statement_asks n (new_rows t rows places) = brackets_ask t n places
 statement_asks n (rows_from t name) = refl
+statement_asks n (deletion s) = refl
 statement_asks n (query s) = refl
 statement_asks n (plan_of s) = refl
 

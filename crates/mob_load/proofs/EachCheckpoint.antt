@@ -2,7 +2,7 @@
 use Rattle.std.proofs.Common.{◌≡◌, refl, ℕ, List, [], ◌∷◌, map}
 use Rattle.std.specs.List.{AllByRecursion}
 use Rattle.mob_typed.specs.Statements.{ColumnList}
-use Rattle.mob_typed.specs.Statements.{StatementOut, nothing, new_table, new_index, new_rows, rows_from, query, plan_of}
+use Rattle.mob_typed.specs.Statements.{StatementOut, nothing, new_table, new_index, new_rows, rows_from, deletion, query, plan_of}
 use Rattle.mob_load.specs.Checks.{Checkpoint, bracket, file, checkpoint, checkpoints_of, table}
 
 -- the checkpoints of a statement are brackets, a file or a new table
@@ -17,5 +17,6 @@ module _ (P : Checkpoint → Type 0) (n : ℕ) (row : (t p : ℕ) → P (bracket
   each_checkpoint (new_index t c name) made = tt
   each_checkpoint (new_rows t rows places) made = each_bracket t places
   each_checkpoint (rows_from t name) made = (copied t name, tt)
+  each_checkpoint (deletion s) made = tt
   each_checkpoint (query s) made = tt
   each_checkpoint (plan_of s) made = tt

@@ -4,7 +4,7 @@ use Rattle.std.specs.Prelude.{◌⊎◌, ◌==◌, ◌&&◌, ◌||◌, filter, n
 use Rattle.std.specs.List.{AllByRecursion}
 use Rattle.std.proofs.lemmas.Bool.{eqb-true, ltb-true, lt-ltb}
 use Rattle.mob_typed.specs.declared.typed.ConstText.{ConstText}
-use Rattle.mob_typed.specs.Statements.{StatementOut, nothing, new_table, new_index, new_rows, rows_from, query, plan_of}
+use Rattle.mob_typed.specs.Statements.{StatementOut, nothing, new_table, new_index, new_rows, rows_from, deletion, query, plan_of}
 use Rattle.mob_load.specs.Checks.{CheckParts, literal, Checkpoint, bracket, checkpoints_of, checkpoints_from, stands_before, checks_up_to, in_order}
 use Rattle.mob_load.specs.Loads.{literal_of}
 use Rattle.mob_typed.specs.Written.{HasRisingRows, IsUpTo, LiteralUpTo, Rises}
@@ -144,6 +144,7 @@ own_rise n (new_table t name columns) h = (tt, tt)
 own_rise n (new_index t c name) h = tt
 own_rise n (new_rows t rows places) h = brackets_rise t n places h
 own_rise n (rows_from t name) h = (tt, tt)
+own_rise n (deletion s) h = tt
 own_rise n (query s) h = tt
 own_rise n (plan_of s) h = tt
 

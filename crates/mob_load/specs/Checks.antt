@@ -2,7 +2,7 @@
 use Rattle.std.specs.Prelude.{◌==◌, ◌&&◌, ◌||◌, ◌+◌, ℕ, List, [], ◌∷◌, ◌++◌, Bool, map, nat_lt, if◌then◌else◌}
 use Rattle.mob_typed.specs.declared.typed.ConstText.{ConstText}
 use Rattle.mob_typed.specs.Statements.{ColumnList}
-use Rattle.mob_typed.specs.Statements.{StatementOut, nothing, new_table, new_index, new_rows, rows_from, query, plan_of, ScriptOut}
+use Rattle.mob_typed.specs.Statements.{StatementOut, nothing, new_table, new_index, new_rows, rows_from, deletion, query, plan_of, ScriptOut}
 use Rattle.mob_load.specs.declared.check.Check.{Check}
 use Rattle.mob_load.specs.declared.check.Check.TheVariants.{Literal, Table, Room, File}
 
@@ -40,6 +40,7 @@ checkpoints_of n (new_table t name columns) = checkpoint n 0 (table columns) ∷
 checkpoints_of n (new_index t c name) = []
 checkpoints_of n (new_rows t rows places) = map (bracket t n) places
 checkpoints_of n (rows_from t name) = checkpoint n 0 (file t name) ∷ []
+checkpoints_of n (deletion s) = []
 checkpoints_of n (query s) = []
 checkpoints_of n (plan_of s) = []
 

@@ -105,7 +105,11 @@ fn push_statement<'a>(
             };
             push_checkpoint(done, literals, put, number, 0, file)
         }
-        _ => Ok(put),
+        TypedStatement::Empty
+        | TypedStatement::CreateIndex { .. }
+        | TypedStatement::Delete(_)
+        | TypedStatement::Select(_)
+        | TypedStatement::Explain(_) => Ok(put),
     }
 }
 

@@ -1,2 +1,3 @@
+pub mod Aggregates
 pub mod Lookup
 pub mod Table

@@ -1,10 +1,12 @@
 //! What holds of every operator. No code runs here.
 
+use crate::aggregate::AggKind;
 use crate::operator::{Form, Op};
 use mob_list::laws::crosses_threads;
 
-/// Operators cross threads.
+/// Operators and aggregates cross threads.
 pub fn operators_cross_threads() {
     crosses_threads::<Op>();
     crosses_threads::<Form>();
+    crosses_threads::<AggKind>();
 }

@@ -16,7 +16,7 @@ fn is_same(a: SqlType, b: SqlType) -> bool
 }
 
 // Whether a type is among these.
-fn has_type(class: &[SqlType], ty: SqlType) -> bool
+pub fn has_type(class: &[SqlType], ty: SqlType) -> bool
     ensures among { result ≡ has_type class.now ty }
 {
     class.iter().any(|t| is_same(*t, ty))

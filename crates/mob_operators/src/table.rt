@@ -46,7 +46,7 @@ const BOOL: &'static [SqlType] = &[SqlType::Bool];
 
 const INT: &'static [SqlType] = &[SqlType::Int];
 
-const NUMBER: &'static [SqlType] = &[SqlType::Int, SqlType::Numeric];
+pub const NUMBER: &'static [SqlType] = &[SqlType::Int, SqlType::Numeric];
 
 const TEXT: &'static [SqlType] = &[SqlType::Text];
 
@@ -58,13 +58,13 @@ const POLYGON: &'static [SqlType] = &[SqlType::Polygon];
 
 const BOX: &'static [SqlType] = &[SqlType::Box];
 
-const TBOOL: &'static [SqlType] = &[SqlType::TBool];
+pub const TBOOL: &'static [SqlType] = &[SqlType::TBool];
 
 const TINT: &'static [SqlType] = &[SqlType::TInt];
 
 const TFRAC: &'static [SqlType] = &[SqlType::TFrac];
 
-const TNUMBER: &'static [SqlType] = &[SqlType::TInt, SqlType::TFrac];
+pub const TNUMBER: &'static [SqlType] = &[SqlType::TInt, SqlType::TFrac];
 
 const TTEXT: &'static [SqlType] = &[SqlType::TText];
 
@@ -84,7 +84,7 @@ const TEXT_KIND: &'static [SqlType] = &[SqlType::Text, SqlType::TText];
 
 const POINT_KIND: &'static [SqlType] = &[SqlType::Point, SqlType::TPoint];
 
-const TEMPORAL: &'static [SqlType] = &[
+pub const TEMPORAL: &'static [SqlType] = &[
     SqlType::TBool,
     SqlType::TInt,
     SqlType::TFrac,

@@ -2,23 +2,27 @@
 ghost use Rattle.std.specs.Prelude.{◌≡◌, ◌≤◌, length, map, OnOk};
 ghost use Rattle.mob_grammar.specs.Reading.{TokenReader, listed};
 ghost use Rattle.mob_parse.specs.Cursors.{left, FollowsReading};
+ghost use Rattle.mob_parse.specs.Orderings.{put_behind};
 
 use crate::cursor::{Cursor, Fault};
 use mob_grammar::mark::Mark;
 use mob_list::items::Items;
 
 /// What stands in a list.
-pub trait Entry: Drop {
+pub trait Entry {
+    /// What it is read as.
+    type Made: Drop;
+
     /// What contracts see of it.
     ghost Parts: { Type 0 };
 
-    ghost parts_of: { Self → Parts };
+    ghost parts_of: { Self.Made → Parts };
 
     /// The reading of one.
     ghost reader: { TokenReader Parts };
 
     /// One, at the front of what is left to read.
-    fn read(cursor: &mut Cursor<'_>) -> Result<Self, Fault>
+    fn read(cursor: &mut Cursor<'_>) -> Result<Self::Made, Fault>
         ensures reads { FollowsReading parts_of result (left cursor.new) (reader (left cursor.old)) }
         ensures within { OnOk result (length (left cursor.new) ≤ length (left cursor.old)) };
 }
@@ -26,11 +30,31 @@ pub trait Entry: Drop {
 impl<'a> Cursor<'a> {
     /// One or more, with that mark between.
     #[tactic(auto, using(mob_grammar::proofs::Steps::listed_goes_on, mob_grammar::proofs::Steps::listed_stops), unfolding(mob_grammar::specs::Reading::listed))]
-    pub fn list<T: Entry>(&mut self, mark: Mark) -> Result<Items<T>, Fault>
+    pub fn list<T: Entry>(&mut self, mark: Mark) -> Result<Items<T::Made>, Fault>
         ensures reads { FollowsReading (map T.parts_of) result (left self.new) (listed mark T.reader (left self.old)) }
         ensures within { OnOk result (length (left self.new) ≤ length (left self.old)) }
     {
         let mut found = Items::new(self.alloc);
+        let first = T::read(self)?;
+        found.push(first)?;
+        'more: while self.skip(mark) {
+            let next = T::read(self)?;
+            found.push(next)?;
+        }
+        Ok(found)
+    }
+
+    /// One or more behind others, with that mark between.
+    #[tactic(auto, using(mob_grammar::proofs::Steps::listed_goes_on, mob_grammar::proofs::Steps::listed_stops), unfolding(mob_grammar::specs::Reading::listed))]
+    pub fn list_onto<T: Entry>(
+        &mut self,
+        mark: Mark,
+        before: Items<T::Made>,
+    ) -> Result<Items<T::Made>, Fault>
+        ensures reads { FollowsReading (map T.parts_of) result (left self.new) (put_behind (map T.parts_of before) (listed mark T.reader) (left self.old)) }
+        ensures within { OnOk result (length (left self.new) ≤ length (left self.old)) }
+    {
+        let mut found = before;
         let first = T::read(self)?;
         found.push(first)?;
         'more: while self.skip(mark) {

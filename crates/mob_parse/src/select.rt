@@ -1,11 +1,10 @@
 //! SELECT, part by part, and whole scripts.
-ghost use Rattle.std.specs.Prelude.{◌≡◌, ◌≤◌, Ok, length, map, IfOk, OnOk, option_map};
-ghost use Rattle.mob_ast.specs.declared.statement.FromTable.{FromTable};
-ghost use Rattle.mob_ast.specs.Trees.{tree_of, ItemParts, item_of, KeyParts, key_of, select_of, StatementParts, statement_of};
-ghost use Rattle.mob_grammar.specs.Symbols.{begins, is_name};
-ghost use Rattle.mob_grammar.specs.Reading.{some_name_at, second_name_at, from_entry_at, alias_at, item_at, direction_at, key_at, distinct_at, from_at, condition_at, order_at, limit_at, select_at, explain_at, statement_at, script_at, listed};
+ghost use Rattle.std.specs.Prelude.{◌≡◌, ◌≤◌, Ok, true, false, length, map, IfOk, MatchOption, OnOk, option_map};
+ghost use Rattle.mob_ast.specs.Trees.{tree_of, Tree, FromParts, from_of, ItemParts, item_of, KeyParts, key_of, select_of, StatementParts, statement_of};
+ghost use Rattle.mob_grammar.specs.Symbols.{begins, is_name, counts_all, first, rest};
+ghost use Rattle.mob_grammar.specs.Reading.{some_name_at, second_name_at, from_entry_at, on_at, joined_entry_at, joins_at, source_at, sources_at, group_column_at, group_at, delete_at, alias_at, item_at, direction_at, key_at, distinct_at, from_at, condition_at, order_at, limit_at, select_at, explain_at, statement_at, script_at, listed};
 ghost use Rattle.mob_parse.specs.Cursors.{left, FollowsReading};
-ghost use Rattle.mob_parse.specs.Orderings.{ordering_at};
+ghost use Rattle.mob_parse.specs.Orderings.{ordering_at, put_behind};
 
 use crate::cursor::{Cursor, Fault};
 use crate::list::Entry;
@@ -13,6 +12,7 @@ use mob_ast::expression::Expr;
 use mob_ast::statement::{FromTable, Item, Key, SelectTree, Statement};
 use mob_ast::types::Word;
 use mob_grammar::mark::Mark;
+use mob_lexemes::lexeme::begins_count;
 use mob_list::items::Items;
 
 impl<'a> Cursor<'a> {
@@ -94,13 +94,81 @@ impl<'a> Cursor<'a> {
         self.skip(Mark::Distinct)
     }
 
+    // Passes the first three tokens of `count(*)`, if they come next, and says the place of the first.
+    fn take_count(&mut self) -> Option<u32>
+        ensures passes { MatchOption result
+            ((counts_all (left self.old) ≡ false) × (left self.new ≡ left self.old))
+            (λ p. (counts_all (left self.old) ≡ true) × (p ≡ (first (left self.old)).place) × (left self.new ≡ rest (rest (rest (left self.old))))) }
+    {
+        match self.lexemes {
+            [first, _, _, rest @ ..] if begins_count(self.lexemes) => {
+                self.lexemes = rest;
+                Some(first.place)
+            }
+            _ => None,
+        }
+    }
+
+    // ON and its condition.
+    #[tactic(auto, unfolding(mob_grammar::specs::Reading::on_at, mob_grammar::specs::Reading::behind_mark))]
+    fn on_part(&mut self, table: Word, alias: Option<Word>) -> Result<FromTable, Fault>
+        ensures reads { FollowsReading from_of result (left self.new) (on_at table alias (left self.old)) }
+        ensures within { OnOk result (length (left self.new) ≤ length (left self.old)) }
+    {
+        self.expect(Mark::On)?;
+        let cond = self.expression()?;
+        Ok(FromTable {
+            table,
+            alias,
+            on: Some(cond),
+        })
+    }
+
+    // The tables that are left-joined behind others, if any are.
+    #[tactic(auto, unfolding(mob_grammar::specs::Reading::joins_at, mob_grammar::specs::Reading::if_mark, crate::specs::Orderings::put_behind))]
+    fn joins(&mut self, found: Items<FromTable>) -> Result<Items<FromTable>, Fault>
+        ensures reads { FollowsReading (map from_of) result (left self.new) (put_behind (map from_of found) joins_at (left self.old)) }
+        ensures within { OnOk result (length (left self.new) ≤ length (left self.old)) }
+    {
+        if self.skip(Mark::Left) {
+            self.list_onto::<Joined>(Mark::Left, found)
+        } else {
+            Ok(found)
+        }
+    }
+
+    // A table and those that are left-joined to it, behind others.
+    #[tactic(auto, unfolding(mob_grammar::specs::Reading::source_at, crate::specs::Orderings::put_behind))]
+    fn source(&mut self, before: Items<FromTable>) -> Result<Items<FromTable>, Fault>
+        ensures reads { FollowsReading (map from_of) result (left self.new) (put_behind (map from_of before) source_at (left self.old)) }
+        ensures within { OnOk result (length (left self.new) ≤ length (left self.old)) }
+    {
+        let mut found = before;
+        let entry = FromTable::read(self)?;
+        found.push(entry)?;
+        self.joins(found)
+    }
+
+    // The tables of FROM.
+    #[tactic(auto, unfolding(mob_grammar::specs::Reading::sources_at))]
+    fn sources(&mut self) -> Result<Items<FromTable>, Fault>
+        ensures reads { FollowsReading (map from_of) result (left self.new) (sources_at (left self.old)) }
+        ensures within { OnOk result (length (left self.new) ≤ length (left self.old)) }
+    {
+        let mut found = self.source(Items::new(self.alloc))?;
+        'more: while self.skip(Mark::Comma) {
+            found = self.source(found)?;
+        }
+        Ok(found)
+    }
+
     #[tactic(auto, unfolding(mob_grammar::specs::Reading::from_at, mob_grammar::specs::Reading::if_mark))]
     fn from_part(&mut self) -> Result<Items<FromTable>, Fault>
-        ensures reads { FollowsReading (λ fs. fs) result (left self.new) (from_at (left self.old)) }
+        ensures reads { FollowsReading (map from_of) result (left self.new) (from_at (left self.old)) }
         ensures within { OnOk result (length (left self.new) ≤ length (left self.old)) }
     {
         if self.skip(Mark::From) {
-            self.list(Mark::Comma)
+            self.sources()
         } else {
             Ok(Items::new(self.alloc))
         }
@@ -125,7 +193,7 @@ impl<'a> Cursor<'a> {
     {
         if self.skip(Mark::Order) {
             self.expect(Mark::By)?;
-            self.list(Mark::Comma)
+            self.list::<Key>(Mark::Comma)
         } else {
             Ok(Items::new(self.alloc))
         }
@@ -143,16 +211,34 @@ impl<'a> Cursor<'a> {
         }
     }
 
-    // What stands in front, the keys and the number.
+    // The columns of GROUP BY, if it is there.
+    #[tactic(auto, unfolding(mob_grammar::specs::Reading::group_at, mob_grammar::specs::Reading::behind_mark, mob_grammar::specs::Reading::if_mark))]
+    fn group_part(&mut self) -> Result<Items<Expr>, Fault>
+        ensures reads { FollowsReading (map tree_of) result (left self.new) (group_at (left self.old)) }
+        ensures within { OnOk result (length (left self.new) ≤ length (left self.old)) }
+    {
+        if self.skip(Mark::Group) {
+            self.expect(Mark::By)?;
+            self.list::<GroupColumn>(Mark::Comma)
+        } else {
+            Ok(Items::new(self.alloc))
+        }
+    }
+
+    // What stands in front, the columns of GROUP BY, the keys and the number.
     #[tactic(auto, unfolding(crate::specs::Orderings::ordering_at))]
-    fn ordered<T: Drop>(&mut self, front: T) -> Result<(T, Items<Key>, Option<Word>), Fault>
-        ensures reads { FollowsReading (λ r. (map key_of r.1, r.2)) result (left self.new) (ordering_at (left self.old)) }
+    fn ordered<T: Drop>(
+        &mut self,
+        front: T,
+    ) -> Result<(T, Items<Expr>, Items<Key>, Option<Word>), Fault>
+        ensures reads { FollowsReading (λ r. (map tree_of r.1, map key_of r.2, r.3)) result (left self.new) (ordering_at (left self.old)) }
         ensures same { IfOk result (λ r. r.0 ≡ front) }
         ensures within { OnOk result (length (left self.new) ≤ length (left self.old)) }
     {
+        let groups = self.group_part()?;
         let keys = self.order_part()?;
         let limit = self.limit_part()?;
-        Ok((front, keys, limit))
+        Ok((front, groups, keys, limit))
     }
 
     // What stands behind SELECT.
@@ -162,18 +248,31 @@ impl<'a> Cursor<'a> {
         ensures within { OnOk result (length (left self.new) ≤ length (left self.old)) }
     {
         let distinct = self.distinct();
-        let items = self.list(Mark::Comma)?;
+        let items = self.list::<Item>(Mark::Comma)?;
         let from = self.from_part()?;
         let cond = self.where_part()?;
-        let ((items, from, cond), keys, limit) = self.ordered((items, from, cond))?;
+        let ((items, from, cond), groups, keys, limit) = self.ordered((items, from, cond))?;
         Ok(SelectTree {
             distinct,
             items,
             from,
             cond,
+            groups,
             keys,
             limit,
         })
+    }
+
+    // What stands behind DELETE.
+    #[tactic(auto, unfolding(mob_grammar::specs::Reading::delete_at, mob_grammar::specs::Reading::delete_table_at, mob_grammar::specs::Reading::behind_mark))]
+    fn delete(&mut self) -> Result<Statement, Fault>
+        ensures reads { FollowsReading statement_of result (left self.new) (delete_at (left self.old)) }
+        ensures within { OnOk result (length (left self.new) ≤ length (left self.old)) }
+    {
+        self.expect(Mark::From)?;
+        let table = self.name()?;
+        let cond = self.where_part()?;
+        Ok(Statement::Delete { table, cond })
     }
 
     // What stands behind EXPLAIN.
@@ -191,15 +290,17 @@ impl<'a> Cursor<'a> {
     pub fn statements(&mut self) -> Result<Items<Statement>, Fault>
         ensures reads { FollowsReading (map statement_of) result (left self.new) (script_at (left self.old)) }
     {
-        self.list(Mark::Semicolon)
+        self.list::<Statement>(Mark::Semicolon)
     }
 }
 
 /// A table of FROM.
 impl Entry for FromTable {
-    ghost Parts = { FromTable };
+    type Made = FromTable;
 
-    ghost parts_of = { λ f. f };
+    ghost Parts = { FromParts };
+
+    ghost parts_of = { from_of };
 
     ghost reader = { from_entry_at };
 
@@ -207,22 +308,77 @@ impl Entry for FromTable {
     fn read(cursor: &mut Cursor<'_>) -> Result<FromTable, Fault> {
         let table = cursor.name()?;
         let alias = cursor.second_name()?;
-        Ok(FromTable { table, alias })
+        Ok(FromTable {
+            table,
+            alias,
+            on: None,
+        })
+    }
+}
+
+/// A table that is left-joined, behind LEFT.
+pub struct Joined;
+
+impl Entry for Joined {
+    type Made = FromTable;
+
+    ghost Parts = { FromParts };
+
+    ghost parts_of = { from_of };
+
+    ghost reader = { joined_entry_at };
+
+    #[tactic(auto, unfolding(mob_grammar::specs::Reading::joined_entry_at, mob_grammar::specs::Reading::behind_mark))]
+    fn read(cursor: &mut Cursor<'_>) -> Result<FromTable, Fault> {
+        cursor.expect(Mark::Join)?;
+        let table = cursor.name()?;
+        let alias = cursor.second_name()?;
+        cursor.on_part(table, alias)
+    }
+}
+
+/// A column of GROUP BY.
+pub struct GroupColumn;
+
+impl Entry for GroupColumn {
+    type Made = Expr;
+
+    ghost Parts = { Tree };
+
+    ghost parts_of = { tree_of };
+
+    ghost reader = { group_column_at };
+
+    #[tactic(auto, unfolding(mob_grammar::specs::Reading::group_column_at, mob_grammar::specs::Reading::if_mark))]
+    fn read(cursor: &mut Cursor<'_>) -> Result<Expr, Fault> {
+        let name = cursor.name()?;
+        if cursor.skip(Mark::Dot) {
+            cursor.table_column(name)
+        } else {
+            cursor.column(name)
+        }
     }
 }
 
 /// An entry of the select list.
 impl Entry for Item {
+    type Made = Item;
+
     ghost Parts = { ItemParts };
 
     ghost parts_of = { item_of };
 
     ghost reader = { item_at };
 
-    #[tactic(auto, unfolding(mob_grammar::specs::Reading::item_at, mob_grammar::specs::Reading::every_at, mob_grammar::specs::Reading::one_item_at, mob_grammar::specs::Reading::mark_at))]
+    #[tactic(auto, unfolding(mob_grammar::specs::Reading::item_at, mob_grammar::specs::Reading::value_item_at, mob_grammar::specs::Reading::count_tail_at, mob_grammar::specs::Reading::count_alias_at, mob_grammar::specs::Reading::behind_mark, mob_grammar::specs::Reading::every_at, mob_grammar::specs::Reading::one_item_at, mob_grammar::specs::Reading::mark_at))]
     fn read(cursor: &mut Cursor<'_>) -> Result<Item, Fault> {
         if let Some(place) = cursor.take(Mark::Times) {
             return Ok(Item::All { place });
+        }
+        if let Some(place) = cursor.take_count() {
+            cursor.expect(Mark::Close)?;
+            let alias = cursor.alias()?;
+            return Ok(Item::CountAll { place, alias });
         }
         let value = cursor.expression()?;
         let (value, alias) = cursor.aliased(value)?;
@@ -232,6 +388,8 @@ impl Entry for Item {
 
 /// A key of ORDER BY.
 impl Entry for Key {
+    type Made = Key;
+
     ghost Parts = { KeyParts };
 
     ghost parts_of = { key_of };
@@ -248,6 +406,8 @@ impl Entry for Key {
 
 /// A statement, or nothing.
 impl Entry for Statement {
+    type Made = Statement;
+
     ghost Parts = { StatementParts };
 
     ghost parts_of = { statement_of };
@@ -262,6 +422,8 @@ impl Entry for Statement {
             cursor.insert()
         } else if cursor.skip(Mark::Copy) {
             cursor.copy()
+        } else if cursor.skip(Mark::Delete) {
+            cursor.delete()
         } else if cursor.skip(Mark::Select) {
             Ok(Statement::Select(cursor.select()?))
         } else if cursor.skip(Mark::Explain) {

@@ -41,7 +41,7 @@ abbrev pub column : List ℕ → ℕ → Tree
 column name p = tree (Column None (word name p)) p none
 
 abbrev pub asked : Tree → Option Word → StatementParts
-asked t limit = select (record { distinct = false; items = one t None ∷ []; from = []; cond = None; keys = []; limit = limit })
+asked t limit = select (record { distinct = false; items = one t None ∷ []; from = []; cond = None; groups = []; keys = []; limit = limit })
 
 abbrev pub refused_in : ℕ → Kind → ℕ → Result ScriptOut Refusal
 refused_in n k p = Err (record { kind = k; statement = n; place = p })
@@ -85,7 +85,7 @@ unfolding typed_statement typed_expression typed_operands typed_before_operands 
 over_zero = refl
 
 -- SELECT 1 + 'x', b: what stands first by the order decides
-the_first_of_two : typed_script (select (record { distinct = false; items = one (tree (Sign (codes "+")) 9 (pair (number (codes "1") 7) (string (codes "x") 11))) None ∷ one (column (codes "b") 16) None ∷ []; from = []; cond = None; keys = []; limit = None }) ∷ []) ≡ refused kind.NoSuchOperator 9
+the_first_of_two : typed_script (select (record { distinct = false; items = one (tree (Sign (codes "+")) 9 (pair (number (codes "1") 7) (string (codes "x") 11))) None ∷ one (column (codes "b") 16) None ∷ []; from = []; cond = None; groups = []; keys = []; limit = None }) ∷ []) ≡ refused kind.NoSuchOperator 9
 unfolding typed_statement typed_expression typed_operands typed_before_operands finished digits_of digits_in table type_words geometry_words
 the_first_of_two = refl
 
@@ -95,7 +95,7 @@ unfolding typed_statement typed_expression typed_operands typed_before_operands 
 the_operand_first = refl
 
 -- SELECT 1.5 AS d: a constant with its type, text, statement and place
-one_constant : typed_script (select (record { distinct = false; items = one (number (codes "1.5") 7) (Some (word (codes "d") 14)) ∷ []; from = []; cond = None; keys = []; limit = None }) ∷ [])
-    ≡ Ok (record { statements = query (record { distinct = false; items = (typed (op.Const 0) sql.Numeric 7 no_args, codes "d") ∷ []; from = []; names = []; joins = []; cond = None; keys = []; limit = None }) ∷ []; consts = record { ty = sql.Numeric; text = codes "1.5"; statement = 1; place = 7 } ∷ [] })
+one_constant : typed_script (select (record { distinct = false; items = one (number (codes "1.5") 7) (Some (word (codes "d") 14)) ∷ []; from = []; cond = None; groups = []; keys = []; limit = None }) ∷ [])
+    ≡ Ok (record { statements = query (record { distinct = false; items = (typed (op.Const 0) sql.Numeric 7 no_args, codes "d") ∷ []; from = []; names = []; joins = []; cond = None; grouped = false; groups = []; aggs = None ∷ []; keys = []; key_items = []; limit = None }) ∷ []; consts = record { ty = sql.Numeric; text = codes "1.5"; statement = 1; place = 7 } ∷ [] })
 unfolding typed_statement typed_expression typed_operands typed_before_operands finished digits_of digits_in table type_words geometry_words
 one_constant = refl

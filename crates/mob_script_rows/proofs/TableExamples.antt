@@ -5,8 +5,7 @@ use Rattle.mob_ast.specs.declared.types.TypeWord.{TypeWord}
 use Rattle.mob_ast.specs.declared.types.SqlType.TheVariants as sql
 use Rattle.mob_ast.specs.declared.refusal.Kind.TheVariants as kind
 use Rattle.mob_ast.specs.declared.expression.Node.TheVariants.{Null, True, Sign}
-use Rattle.mob_ast.specs.declared.statement.FromTable.{FromTable}
-use Rattle.mob_ast.specs.Trees.{Tree, tree, none, every, one, StatementParts, create_table, insert, select}
+use Rattle.mob_ast.specs.Trees.{Tree, tree, none, every, one, FromParts, StatementParts, create_table, insert, select}
 use Rattle.mob_operators.specs.Table.{table}
 use Rattle.mob_operators.specs.declared.operator.Op.TheVariants as op
 use Rattle.mob_expression.specs.Words.{type_words, geometry_words}
@@ -21,23 +20,23 @@ use Rattle.mob_script_rows.proofs.Examples.{word, type_word, leaf, number, strin
 abbrev new_column : List ℕ → ℕ → List ℕ → Word × TypeWord
 new_column name p ty = (word name p, type_word ty (p + 2))
 
-abbrev from_table : List ℕ → ℕ → FromTable
-from_table name p = record { table = word name p; alias = None }
+abbrev from_table : List ℕ → ℕ → FromParts
+from_table name p = record { table = word name p; alias = None; on = None }
 
 -- CREATE TABLE t (a int); CREATE TABLE u (a int); SELECT a FROM t, u
 a_bare_name_of_two_tables : typed_script (create_table (word (codes "t") 13) (new_column (codes "a") 16 (codes "int") ∷ []) ∷ create_table (word (codes "u") 37) (new_column (codes "a") 40 (codes "int") ∷ [])
-    ∷ select (record { distinct = false; items = one (column (codes "a") 55) None ∷ []; from = from_table (codes "t") 62 ∷ from_table (codes "u") 65 ∷ []; cond = None; keys = []; limit = None }) ∷ []) ≡ refused_in 3 kind.Duplicate 55
+    ∷ select (record { distinct = false; items = one (column (codes "a") 55) None ∷ []; from = from_table (codes "t") 62 ∷ from_table (codes "u") 65 ∷ []; cond = None; groups = []; keys = []; limit = None }) ∷ []) ≡ refused_in 3 kind.Duplicate 55
 unfolding typed_statement typed_expression typed_operands typed_before_operands finished digits_of digits_in node_value table type_words geometry_words
 a_bare_name_of_two_tables = refl
 
 -- SELECT 5 AS n ORDER BY n: the key is the column of this name, and no second constant
-a_key_by_its_name : typed_script (select (record { distinct = false; items = one (number (codes "5") 7) (Some (word (codes "n") 12)) ∷ []; from = []; cond = None; keys = record { value = column (codes "n") 23; descending = false } ∷ []; limit = None }) ∷ [])
-    ≡ Ok (record { statements = query (record { distinct = false; items = (typed (op.Const 0) sql.Int 7 no_args, codes "n") ∷ []; from = []; names = []; joins = []; cond = None; keys = (typed (op.Const 0) sql.Int 7 no_args, false) ∷ []; limit = None }) ∷ []; consts = record { ty = sql.Int; text = codes "5"; statement = 1; place = 7 } ∷ [] })
+a_key_by_its_name : typed_script (select (record { distinct = false; items = one (number (codes "5") 7) (Some (word (codes "n") 12)) ∷ []; from = []; cond = None; groups = []; keys = record { value = column (codes "n") 23; descending = false } ∷ []; limit = None }) ∷ [])
+    ≡ Ok (record { statements = query (record { distinct = false; items = (typed (op.Const 0) sql.Int 7 no_args, codes "n") ∷ []; from = []; names = []; joins = []; cond = None; grouped = false; groups = []; aggs = None ∷ []; keys = (typed (op.Const 0) sql.Int 7 no_args, false) ∷ []; key_items = Some 0 ∷ []; limit = None }) ∷ []; consts = record { ty = sql.Int; text = codes "5"; statement = 1; place = 7 } ∷ [] })
 unfolding typed_statement typed_expression typed_operands typed_before_operands finished digits_of digits_in node_value table type_words geometry_words
 a_key_by_its_name = refl
 
 -- SELECT *
-a_star_without_tables : typed_script (select (record { distinct = false; items = every 7 ∷ []; from = []; cond = None; keys = []; limit = None }) ∷ []) ≡ refused kind.UnknownName 7
+a_star_without_tables : typed_script (select (record { distinct = false; items = every 7 ∷ []; from = []; cond = None; groups = []; keys = []; limit = None }) ∷ []) ≡ refused kind.UnknownName 7
 unfolding typed_statement typed_expression typed_operands typed_before_operands finished digits_of digits_in node_value table type_words geometry_words
 a_star_without_tables = refl
 

@@ -1,7 +1,9 @@
 // The look-up in the table of operators.
 
 use mob_ast::{Cmp, SqlType};
-use mob_operators::{Form, Op, is_function, is_irrational, operator_for};
+use mob_operators::{
+    AggKind, Form, Op, aggregate_row, is_aggregate, is_function, is_irrational, operator_for,
+};
 
 type Expected = (
     Form,
@@ -523,4 +525,62 @@ fn each_line_is_looked_up(rt: HostRuntime) {
 fn functions_are_known(rt: HostRuntime) {
     assert!(rt; is_function("edwithin") && !is_function("tdwithin"));
     assert!(rt; is_irrational(Form::Call, "tdwithin") && is_irrational(Form::Sign, "<->"));
+}
+
+// Each aggregate at a type that it takes, and at one that it does not.
+static AGGREGATES: [(&str, SqlType, Option<(AggKind, SqlType)>); 17] = [
+    (
+        "count",
+        SqlType::Polygon,
+        Some((AggKind::Count, SqlType::Int)),
+    ),
+    ("sum", SqlType::Int, Some((AggKind::Sum, SqlType::Int))),
+    (
+        "sum",
+        SqlType::Numeric,
+        Some((AggKind::Sum, SqlType::Numeric)),
+    ),
+    ("sum", SqlType::TInt, None),
+    ("sum", SqlType::Text, None),
+    (
+        "tcount",
+        SqlType::TPoint,
+        Some((AggKind::TCount, SqlType::TInt)),
+    ),
+    (
+        "tcount",
+        SqlType::TText,
+        Some((AggKind::TCount, SqlType::TInt)),
+    ),
+    ("tcount", SqlType::SpanSet, None),
+    ("tsum", SqlType::TInt, Some((AggKind::TSum, SqlType::TInt))),
+    (
+        "tsum",
+        SqlType::TFrac,
+        Some((AggKind::TSum, SqlType::TFrac)),
+    ),
+    ("tsum", SqlType::TPoint, None),
+    (
+        "tand",
+        SqlType::TBool,
+        Some((AggKind::TAnd, SqlType::TBool)),
+    ),
+    ("tand", SqlType::Bool, None),
+    ("tor", SqlType::TBool, Some((AggKind::TOr, SqlType::TBool))),
+    ("tor", SqlType::TInt, None),
+    ("astext", SqlType::TInt, None),
+    ("COUNT", SqlType::Int, None),
+];
+
+#[test]
+fn each_aggregate_is_looked_up(rt: HostRuntime) {
+    for (name, ty, wanted) in &AGGREGATES {
+        assert!(rt; aggregate_row(name, *ty) == *wanted, "{name}");
+    }
+}
+
+#[test]
+fn aggregates_are_no_functions(rt: HostRuntime) {
+    assert!(rt; is_aggregate("tcount") && !is_aggregate("astext"));
+    assert!(rt; !is_function("count") && !is_function("sum"));
 }

@@ -113,6 +113,10 @@ fn show_item(alloc: Global, item: &Item, into: &mut String) -> Result<(), AllocE
             show(alloc, value, into)?;
             show_alias(alloc, alias, into)
         }
+        Item::CountAll { place, alias } => {
+            put(alloc, " count(*)", "", *place, into)?;
+            show_alias(alloc, alias, into)
+        }
     }
 }
 
@@ -123,10 +127,35 @@ fn show_alias(alloc: Global, alias: &Option<Word>, into: &mut String) -> Result<
     into.push(';')
 }
 
+// A condition behind its word.
+fn show_cond(
+    alloc: Global,
+    word: &str,
+    cond: &Option<Expr>,
+    into: &mut String,
+) -> Result<(), AllocError> {
+    if let Some(cond) = cond {
+        into.push_str(word)?;
+        show(alloc, cond, into)?;
+        into.push(';')?;
+    }
+    Ok(())
+}
+
 fn show_from(alloc: Global, from: &[FromTable], into: &mut String) -> Result<(), AllocError> {
     for entry in from {
         put_word(alloc, " from ", &entry.table, into)?;
         show_alias(alloc, &entry.alias, into)?;
+        show_cond(alloc, " on ", &entry.on, into)?;
+    }
+    Ok(())
+}
+
+fn show_groups(alloc: Global, groups: &[Expr], into: &mut String) -> Result<(), AllocError> {
+    for column in groups {
+        into.push_str(" group ")?;
+        show(alloc, column, into)?;
+        into.push(';')?;
     }
     Ok(())
 }
@@ -136,15 +165,6 @@ fn show_keys(alloc: Global, keys: &[Key], into: &mut String) -> Result<(), Alloc
         into.push_str(" by ")?;
         show(alloc, &key.value, into)?;
         into.push_str(if key.descending { " desc;" } else { ";" })?;
-    }
-    Ok(())
-}
-
-fn show_cond(alloc: Global, cond: &Option<Expr>, into: &mut String) -> Result<(), AllocError> {
-    if let Some(cond) = cond {
-        into.push_str(" where ")?;
-        show(alloc, cond, into)?;
-        into.push(';')?;
     }
     Ok(())
 }
@@ -172,7 +192,8 @@ fn show_items(alloc: Global, select: &SelectTree, into: &mut String) -> Result<(
 fn show_select(alloc: Global, select: &SelectTree, into: &mut String) -> Result<(), AllocError> {
     show_items(alloc, select, into)?;
     show_from(alloc, select.from.as_slice(), into)?;
-    show_cond(alloc, &select.cond, into)?;
+    show_cond(alloc, " where ", &select.cond, into)?;
+    show_groups(alloc, select.groups.as_slice(), into)?;
     show_keys(alloc, select.keys.as_slice(), into)?;
     show_limit(alloc, &select.limit, into)
 }
@@ -266,6 +287,11 @@ pub fn show_statement(
             file,
             delimiter,
         } => show_copy(alloc, table, file, delimiter, into),
+        Statement::Delete { table, cond } => {
+            put_word(alloc, "delete ", table, into)?;
+            into.push(';')?;
+            show_cond(alloc, " where ", cond, into)
+        }
         Statement::Select(select) => show_select(alloc, select, into),
         Statement::Explain(select) => {
             into.push_str("explain ")?;

@@ -115,7 +115,7 @@ static SIGNS: [(&str, &str); 31] = [
 ];
 
 // Whole statements and scripts.
-static STATEMENTS: [(&str, &str); 16] = [
+static STATEMENTS: [(&str, &str); 22] = [
     ("", "."),
     (";;", "..."),
     ("-- nothing\nSELECT 1;", "select 1@18;."),
@@ -165,6 +165,27 @@ static STATEMENTS: [(&str, &str); 16] = [
     ),
     ("SELECT a ORDER BY 1", "select a@7; by 1@18;"),
     ("SELECT a b", "refused"),
+    (
+        "SELECT count(*) AS n, Count FROM t LEFT JOIN u v ON a = 1, w",
+        "select count(*)@7 as n@19; count@22; from t@33; from u@45 as v@47; on =@54[ a@52 1@56]; from w@59;",
+    ),
+    (
+        "SELECT 1 FROM a LEFT JOIN b ON TRUE LEFT JOIN c ON FALSE, d",
+        "select 1@7; from a@14; from b@26; on TRUE@31; from c@46; on FALSE@51; from d@58;",
+    ),
+    (
+        "DELETE FROM t WHERE NOT a; DELETE FROM u",
+        "delete t@12; where NOT@20[ a@24];delete u@39;",
+    ),
+    (
+        "SELECT a, sum(b) FROM t GROUP BY a, t.c ORDER BY a",
+        "select a@7; sum@10[ b@14]; from t@22; group a@33; group t@36.c@38@36; by a@49;",
+    ),
+    (
+        "SELECT count (x), COUNT ( * )",
+        "select count@7[ x@14]; count(*)@18;",
+    ),
+    ("SELECT count(*", "refused"),
 ];
 
 fn is_shown(alloc: Global, script: &str, wanted: &str) -> bool {

@@ -1,21 +1,21 @@
 -- The fault of a statement is a part of a formula of its query that does not fit.
-use Rattle.std.proofs.Common.{◌≡◌, ◌∙◌, inl, inr, refl, sym, ap, subst, Bool, ℕ, ℤ, List, [], ◌∷◌, Option, Some, None, Result, Err}
+use Rattle.std.proofs.Common.{◌≡◌, inl, inr, refl, sym, ap, subst, Bool, ℕ, ℤ, List, [], ◌∷◌, Option, Some, None, Result, Err}
 use Rattle.std.specs.Prelude.{◌⊎◌}
 use Rattle.mob_typed.specs.Trees.{TypedTree}
 use Rattle.mob_typed.specs.Selects.{Output, TypedSelectParts}
-use Rattle.mob_typed.specs.Statements.{StatementOut, query}
+use Rattle.mob_typed.specs.Statements.{StatementOut, deletion, query}
 use Rattle.mob_catalog.specs.Catalogue.{Catalogue}
 use Rattle.mob_meaning.specs.Scene.{Scene, scene}
 use Rattle.mob_meaning.specs.Evaluation.{Fault}
 use Rattle.mob_meaning.specs.Passes.{FaultsPass, TreePasses}
 use Rattle.mob_eval.specs.QueryFaults.{TupleFault}
 use Rattle.mob_tuples.specs.Tuples.{StandsIn}
-use Rattle.mob_join.specs.Query.{FailsBy, condition_at}
+use Rattle.mob_join.specs.Query.{FailsBy, IsKept, condition_at}
 use Rattle.mob_tail.specs.Answers.{IsField, IsKey, IsRowOf, IsTupleRow}
 use Rattle.mob_tail.specs.IsMadeOfEach.{IsMadeOfEach}
 use Rattle.mob_words.specs.declared.options.Settings.{Settings}
 use Rattle.mob_shell.specs.Answers.{QueryAnswers}
-use Rattle.mob_shell.specs.Fits.{ConditionPasses, PassesAt, PassesOn, RowPasses}
+use Rattle.mob_shell.specs.Fits.{ConditionPasses, PassesAt, PassesOn, RowPasses, StatementPasses}
 use Rattle.mob_shell.specs.Inputs.{Input}
 use Rattle.mob_shell.specs.Program.{StopsWith}
 use Rattle.mob_shell.specs.Runs.{RunState, Stops}
@@ -56,22 +56,24 @@ module _ (pass : FaultsPass) where
         let same = sym of.2.0 in
         (subst (λ (t : List ℕ). StandsIn t kept) same of.1, unfit_part f (subst (λ (t : List ℕ). IsRowOf select (scene catalogue.store select.from t day) (Err f.1)) same of.2.1))
 
-    unfit_query : (f : TupleFault) → QueryAnswers select catalogue day (Err f) → ConditionPasses select catalogue day f ⊎ RowPasses select catalogue day f
-    unfit_query f (inl h) =
+    unfit_visit : (f : TupleFault) → IsKept select catalogue day (Err f) → ConditionPasses select catalogue day f
+    unfit_visit f h =
         let of = unfit_condition (scene catalogue.store select.from f.0 day) (condition_at select h.0) f.1 h.1.3 in
-        inl (record { on = h.0; before = h.1.0; visited = h.1.1; condition = of.0; is = of.1; unfit = of.2 })
+        record { on = h.0; before = h.1.0; visited = h.1.1; condition = of.0; is = of.1; unfit = of.2 }
+
+    unfit_query : (f : TupleFault) → QueryAnswers select catalogue day (Err f) → ConditionPasses select catalogue day f ⊎ RowPasses select catalogue day f
+    unfit_query f (inl h) = inl (unfit_visit f h)
     unfit_query f (inr h) =
         let row = unfit_row h.0 f h.2 in
         inr (record { kept = h.0; are = h.1; stands = row.0; unfit = row.1 })
 
-  unfit_statement : (day : ℤ) (s : RunState) (x : StatementOut) (f : TupleFault) → Stops day s x f
-      → (q : TypedSelectParts) × (x ≡ query q) × (ConditionPasses q s.catalogue day f ⊎ RowPasses q s.catalogue day f)
-  unfit_statement day s (query q) f h = (q, refl, unfit_query q s.catalogue day f h)
-  unfit_statement day s _ f h = absurd h
+  unfit_statement : (day : ℤ) (s : RunState) (x : StatementOut) (f : TupleFault) → Stops day s x f → StatementPasses x s.catalogue day f
+  unfit_statement day s (query q) f h = unfit_query q s.catalogue day f h
+  unfit_statement day s (deletion q) f h = unfit_visit q s.catalogue day f h
+  unfit_statement day s _ f h = h
 
   pub stops_unfit : (settings : Settings) (input : Input) (text : List ℕ) (number : ℕ) (f : TupleFault) → StopsWith settings input text number f → PassesAt settings input number f
   stops_unfit settings input text number f h =
-      let of = unfit_statement settings.epoch h.stands h.statement f h.stops in
       record {
         out = h.out;
         program = h.program;
@@ -81,7 +83,7 @@ module _ (pass : FaultsPass) where
         stands = h.stands;
         text = text;
         ran = h.ran;
-        select = of.0;
-        there = h.there ∙ ap Some of.1;
-        unfit = of.2;
+        statement = h.statement;
+        there = h.there;
+        unfit = unfit_statement settings.epoch h.stands h.statement f h.stops;
       }

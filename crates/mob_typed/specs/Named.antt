@@ -1,5 +1,5 @@
 -- Which tables of FROM an expression names.
-use Rattle.std.specs.Prelude.{◌&&◌, ℕ, Bool, true, nat_lt}
+use Rattle.std.specs.Prelude.{◌&&◌, ℕ, Bool, true, nat_le, nat_lt}
 use Rattle.mob_operators.specs.declared.operator.Op.{Op}
 use Rattle.mob_operators.specs.declared.operator.Op.TheVariants as op
 use Rattle.mob_typed.specs.Trees.{TypedTree, typed, TypedTrees, none, more}
@@ -17,3 +17,17 @@ abbrev mutual
   pub all_name_before : ℕ → TypedTrees → Bool
   all_name_before place none = true
   all_name_before place (more e es) = names_before place e && all_name_before place es
+
+-- whether what an operator reads, if it reads a table of FROM, stands at this place or behind it
+abbrev pub reads_from : ℕ → Op → Bool
+reads_from place (op.Column from column) = nat_le place from
+reads_from place _ = true
+
+-- whether an expression names only tables of FROM from this place on
+abbrev mutual
+  pub names_from : ℕ → TypedTree → Bool
+  names_from place (typed o ty at args) = reads_from place o && all_name_from place args
+
+  pub all_name_from : ℕ → TypedTrees → Bool
+  all_name_from place none = true
+  all_name_from place (more e es) = names_from place e && all_name_from place es

@@ -1,6 +1,7 @@
 -- A typed SELECT as a plain value.
 use Rattle.std.specs.Prelude.{ℕ, List, Bool, Option, map, option_and_then, option_map, slice_get}
 use Rattle.mob_typed.specs.declared.typed.TExpr.{TExpr}
+use Rattle.mob_typed.specs.declared.typed.Agg.{Agg}
 use Rattle.mob_typed.specs.declared.typed.TypedSelect.{TypedSelect}
 use Rattle.mob_typed.specs.Trees.{TypedTree, typed_of}
 
@@ -8,7 +9,9 @@ use Rattle.mob_typed.specs.Trees.{TypedTree, typed_of}
 abbrev pub Output : Type 0
 Output = TypedTree × List ℕ
 
--- A typed SELECT. For each table of FROM, `joins` has the ON of that table, or None where it is not left-joined.
+-- A typed SELECT. For each table of FROM, `joins` has the ON of that table, or None where it is not left-joined. For each column of the
+-- answer, `aggs` has the aggregate over its expression, where it is one. For each key, `key_items` has the number of the column of the
+-- answer that it means by its name behind AS.
 pub record TypedSelectParts : Type 0 where
   pub distinct : Bool
   pub items : List Output
@@ -16,7 +19,11 @@ pub record TypedSelectParts : Type 0 where
   pub names : List (List ℕ)
   pub joins : List (Option TypedTree)
   pub cond : Option TypedTree
+  pub grouped : Bool
+  pub groups : List TypedTree
+  pub aggs : List (Option Agg)
   pub keys : List (TypedTree × Bool)
+  pub key_items : List (Option ℕ)
   pub limit : Option ℕ
 
 -- the ON of the table of a place of FROM, where it is left-joined
@@ -31,4 +38,17 @@ key_seen k = (typed_of k.0, k.1)
 
 -- the program's typed SELECT as such a value
 abbrev pub select_seen : TypedSelect → TypedSelectParts
-select_seen s = record { distinct = s.distinct; items = map output_of s.items; from = s.from; names = s.names; joins = map (option_map typed_of) s.joins; cond = option_map typed_of s.cond; keys = map key_seen s.keys; limit = s.limit }
+select_seen s = record {
+  distinct = s.distinct;
+  items = map output_of s.items;
+  from = s.from;
+  names = s.names;
+  joins = map (option_map typed_of) s.joins;
+  cond = option_map typed_of s.cond;
+  grouped = s.grouped;
+  groups = map typed_of s.groups;
+  aggs = s.aggs;
+  keys = map key_seen s.keys;
+  key_items = s.key_items;
+  limit = s.limit;
+}

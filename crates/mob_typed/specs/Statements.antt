@@ -18,6 +18,7 @@ pub data StatementOut : Type 0 where
   new_index : ℕ → ℕ → List ℕ → StatementOut
   new_rows : ℕ → List (List (Option ℕ)) → List ℕ → StatementOut
   rows_from : ℕ → List ℕ → StatementOut
+  deletion : TypedSelectParts → StatementOut
   query : TypedSelectParts → StatementOut
   plan_of : TypedSelectParts → StatementOut
 
@@ -27,6 +28,7 @@ statement_seen (typed.CreateTable t n cs) = new_table t n cs
 statement_seen (typed.CreateIndex t c n) = new_index t c n
 statement_seen (typed.Insert t rs ps) = new_rows t rs ps
 statement_seen (typed.Copy t f) = rows_from t f
+statement_seen (typed.Delete s) = deletion (select_seen s)
 statement_seen (typed.Select s) = query (select_seen s)
 statement_seen (typed.Explain s) = plan_of (select_seen s)
 

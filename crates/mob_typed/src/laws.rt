@@ -1,6 +1,6 @@
 //! What holds of every typed script. No code runs here.
 
-use crate::typed::{ConstText, TExpr, Typed, TypedSelect, TypedStatement};
+use crate::typed::{Agg, ConstText, TExpr, Typed, TypedSelect, TypedStatement};
 use mob_list::laws::crosses_threads;
 
 /// Typed scripts and what they are made of cross threads.
@@ -10,4 +10,5 @@ pub fn typed_scripts_cross_threads() {
     crosses_threads::<TypedSelect>();
     crosses_threads::<TExpr>();
     crosses_threads::<ConstText>();
+    crosses_threads::<Agg>();
 }

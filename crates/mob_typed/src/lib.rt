@@ -6,5 +6,5 @@ mod making;
 pub mod typed;
 
 pub use making::{copy_of, with_args};
-pub use mob_operators::Op;
-pub use typed::{ConstText, TExpr, Typed, TypedSelect, TypedStatement};
+pub use mob_operators::{AggKind, Op};
+pub use typed::{Agg, ConstText, TExpr, Typed, TypedSelect, TypedStatement};

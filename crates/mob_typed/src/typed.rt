@@ -3,7 +3,7 @@
 use mob_ast::SqlType;
 use mob_list::items::Items;
 use mob_list::text::Text;
-use mob_operators::Op;
+use mob_operators::{AggKind, Op};
 
 /// A typed expression.
 #[derive(Drop)]
@@ -31,6 +31,17 @@ pub struct ConstText {
     pub place: u32,
 }
 
+/// What a grouped query makes of the values of an item in each group.
+#[derive(Clone, Copy, Debug, PartialEq, Eq)]
+pub struct Agg {
+    /// The aggregate.
+    pub kind: AggKind,
+    /// The type of its result.
+    pub ty: SqlType,
+    /// The place of its name in the script, in bytes from 0.
+    pub place: u32,
+}
+
 /// A typed SELECT.
 #[derive(Drop)]
 pub struct TypedSelect {
@@ -46,8 +57,18 @@ pub struct TypedSelect {
     pub joins: Items<Option<TExpr>>,
     /// The condition of WHERE, a bool.
     pub cond: Option<TExpr>,
+    /// Whether the query is grouped: it has GROUP BY or an aggregate.
+    pub grouped: bool,
+    /// The columns of GROUP BY.
+    pub groups: Items<TExpr>,
+    /// For each column of the answer the aggregate over its expression, where it is one. The expression of `count(*)` is NULL
+    /// and is not evaluated.
+    pub aggs: Items<Option<Agg>>,
     /// The keys of ORDER BY; true for DESC.
     pub keys: Items<(TExpr, bool)>,
+    /// For each key the number of the column of the answer that it means by its AS name, from 0. In a grouped query such a key
+    /// has the value of that column, and its own expression is not evaluated.
+    pub key_items: Items<Option<u32>>,
     /// How many rows there are at most.
     pub limit: Option<u64>,
 }
@@ -91,6 +112,8 @@ pub enum TypedStatement {
         /// The name of the file.
         file: Text,
     },
+    /// Rows that go: those of one table of FROM that meet the condition. There is no column of an answer.
+    Delete(TypedSelect),
     /// A query.
     Select(TypedSelect),
     /// A query whose plan is asked for.

@@ -16,14 +16,14 @@ use Rattle.mob_typed.specs.declared.typed.ConstText.{ConstText}
 use Rattle.mob_typed.specs.Trees.{TypedTree, typed, none, more}
 use Rattle.mob_typed.specs.Statements.{new_table}
 use Rattle.mob_grammar.specs.Held.{statement_held}
-use Rattle.mob_typing.specs.Selects.{limit_value}
+use Rattle.mob_clauses.specs.Keys.{limit_value}
 use Rattle.mob_typing.specs.Stands.{IsHeldIn}
 use Rattle.mob_typing.specs.WellTyped.{IsNumberLiteral, the_number, behind_minus, HasDivisor, HasRow, IsOperated, HasDistinctNames}
 use Rattle.mob_typing.proofs.OperatorRows.{line_passes, first_passes}
 
 -- SELECT b: a place that the one tree does not hold, as that of the blank, is the place of no refusal
 the_select : StatementParts
-the_select = select (record { distinct = false; items = one (tree (node.Column None (record { text = codes "b"; place = 7 })) 7 no_trees) None ∷ []; from = []; cond = None; keys = []; limit = None })
+the_select = select (record { distinct = false; items = one (tree (node.Column None (record { text = codes "b"; place = 7 })) 7 no_trees) None ∷ []; from = []; cond = None; groups = []; keys = []; limit = None })
 
 held_by_one : (s : StatementParts) (p : ℕ) → IsHeldIn (s ∷ []) 1 p → Contains (statement_held s) p
 held_by_one s p h = by h.front h.parts h.number

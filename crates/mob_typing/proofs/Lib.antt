@@ -1,8 +1,6 @@
 pub mod Apart
 mod Examples
-pub mod Limits
 pub mod OperatorRows
-pub mod Pushed
 pub mod RowSteps
 pub mod ScriptSteps
 pub mod Sound

@@ -17,6 +17,7 @@ use Rattle.mob_operators.specs.declared.table.Bond.{Bond}
 use Rattle.mob_operators.specs.declared.table.Bond.TheVariants as bond
 use Rattle.mob_operators.specs.Lookup.{Line, operator_named, operator_in, same_form, types_fit, meets, takes, given, answer_of, found_in}
 use Rattle.mob_operators.specs.Table.{table}
+use Rattle.mob_typed.specs.Named.{reads_before, reads_from}
 use Rattle.mob_typed.specs.declared.typed.ConstText.{ConstText}
 use Rattle.mob_typed.specs.Trees.{TypedTree, typed, TypedTrees, none, more, typed_trees, types_of, arg_types}
 use Rattle.mob_typed.specs.Statements.{ColumnList}
@@ -93,6 +94,10 @@ pub names_nothing : (tables : List ColumnList) (from : List ℕ) (cs : List Cons
 names_nothing tables from cs (op.Const k) ty h = absurd (cc)
 names_nothing tables from cs (op.Column f k) ty h = absurd (cc)
 names_nothing tables from cs _ ty h = tt
+
+pub reads_nothing : (first past : ℕ) (o : Op) → is_of_table o ≡ true → (reads_from first o ≡ true) × (reads_before past o ≡ true)
+reads_nothing first past (op.Column f k) h = absurd (cc)
+reads_nothing first past _ h = (refl, refl)
 
 pub row_fits : (cs : List ConstText) (o : Op) (ty : SqlType) (args : TypedTrees) → is_of_table o ≡ true → HasRow cs o ty args → FitsArguments cs o ty args
 row_fits cs (op.Const k) ty args h row = absurd (cc)

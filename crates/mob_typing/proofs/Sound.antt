@@ -1,5 +1,5 @@
 -- What is sound stays so beside more constants, and behind its numbers stands what they name.
-use Rattle.std.proofs.Common.{◌≡◌, ◌∙◌, ◌+◌, refl, sym, ap, subst, ℕ, zero, suc, List, [], ◌∷◌, ◌++◌, append_assoc, length, length-append, map, Bool, true, false, cond, Option, Some, None}
+use Rattle.std.proofs.Common.{◌≡◌, ◌∙◌, ◌+◌, refl, sym, ap, subst, ℕ, zero, suc, List, [], ◌∷◌, ◌++◌, append_assoc, length, length-append, map, Bool, true, false, ◌&&◌, cond, Option, Some, None}
 use Rattle.std.specs.Prelude.{IfSome, slice_get, option_map}
 use Rattle.std.specs.List.{AllByRecursion, AllZip}
 use Rattle.std.specs.Str.{bytes_eq}
@@ -8,13 +8,15 @@ use Rattle.mob_operators.specs.declared.operator.Op.{Op}
 use Rattle.mob_operators.specs.declared.operator.Op.TheVariants as op
 use Rattle.mob_typed.specs.declared.typed.ConstText.{ConstText}
 use Rattle.mob_typed.specs.Trees.{TypedTree, typed, TypedTrees, none, more as more_trees, typed_trees, type_of, types_of, arg_types}
-use Rattle.mob_typed.specs.Statements.{ColumnList, nothing, new_table, new_index, new_rows, rows_from, query, plan_of}
+use Rattle.mob_typed.specs.Named.{names_before, all_name_before, names_from, all_name_from}
+use Rattle.mob_typed.specs.Statements.{ColumnList, nothing, new_table, new_index, new_rows, rows_from, deletion, query, plan_of}
 use Rattle.mob_list.proofs.Each.{each_both, each_on}
 use Rattle.mob_expression.specs.Names.{entry_from}
 use Rattle.mob_expression.specs.Words.{number_type}
-use Rattle.mob_typing.specs.Selects.{is_bool, is_key}
+use Rattle.mob_clauses.specs.Conditions.{is_bool}
+use Rattle.mob_clauses.specs.Keys.{is_key}
 use Rattle.mob_typing.specs.Stands.{operators_in, operators_among}
-use Rattle.mob_typing.specs.WellTyped.{constant_type, HasNamedType, HasNamedTypes, AllHaveNamedTypes, IsNumberLiteral, the_number, behind_minus, behind_plus, HasDivisor, HasRow, FitsArguments, IsOperated, AreOperated, expressions_of, IsOfColumn, IsTypedQuery, IsTypedStatement}
+use Rattle.mob_typing.specs.WellTyped.{constant_type, HasNamedType, HasNamedTypes, AllHaveNamedTypes, IsNumberLiteral, the_number, behind_minus, behind_plus, HasDivisor, HasRow, FitsArguments, IsOperated, AreOperated, expressions_of, IsGroup, IsOfColumn, IsTypedQuery, IsTypedStatement}
 use Rattle.mob_typing.proofs.Walk.{Stays, all_stay}
 
 -- what stands at a number of a list stands there in a longer one
@@ -27,6 +29,11 @@ pub slice_seam : {A : Type 0} (xs ys : List A) (x : A) → slice_get (xs ++ x �
 slice_seam [] ys x = refl
 slice_seam (y ∷ xs) ys x = slice_seam xs ys x
 
+-- what stands at a number of a list stands behind others at that number and theirs
+pub slice_behind : {A : Type 0} (xs ys : List A) (k : ℕ) (y : A) → slice_get ys k ≡ Some y → slice_get (xs ++ ys) (length xs + k) ≡ Some y
+slice_behind [] ys k y h = let e : 0 + k ≡ k = omega arith in ap (λ n. slice_get ys n) e ∙ h
+slice_behind (x ∷ xs) ys k y h = let e : length (x ∷ xs) + k ≡ suc (length xs + k) = omega arith in ap (λ n. slice_get (x ∷ (xs ++ ys)) n) e ∙ slice_behind xs ys k y h
+
 pub slice_map : {A B : Type 0} (f : A → B) (xs : List A) (k : ℕ) (x : A) → slice_get xs k ≡ Some x → slice_get (map f xs) k ≡ Some (f x)
 slice_map f [] k x h = absurd (cc)
 slice_map f (y ∷ xs) zero x h = let same : y ≡ x = cc in ap (λ z. Some (f z)) same
@@ -36,6 +43,11 @@ pub slice_each : {A : Type 0} (P : A → Type 0) (xs : List A) (k : ℕ) (x : A)
 slice_each P [] k x all h = absurd (cc)
 slice_each P (y ∷ xs) zero x all h = let same : y ≡ x = cc in subst P same all.0
 slice_each P (y ∷ xs) (suc k) x all h = slice_each P xs k x all.1 h
+
+-- what holds of each of two lists together
+pub each_apart : {A : Type 0} (P : A → Type 0) (xs ys : List A) → AllByRecursion P (xs ++ ys) → AllByRecursion P xs × AllByRecursion P ys
+each_apart P [] ys h = (tt, h)
+each_apart P (x ∷ xs) ys h = let others = each_apart P xs ys h.1 in ((h.0, others.0), others.1)
 
 -- this entry, with its number, stands among these
 abbrev pub StandsIn : {A : Type 0} → List (List ℕ × A) → ℕ × A → Type 0
@@ -91,11 +103,26 @@ module _ (tables : List ColumnList) (from : List ℕ) where
   operands_hold cs [] h = tt
   operands_hold cs (t ∷ ts) h = (h.0, operands_hold cs ts h.1)
 
--- an expression is sound: its leaves name what is there, its operators have their rows, and they stand at such places
-pub record IsSound (At : ℕ → Type 0) (tables : List ColumnList) (from : List ℕ) (cs : List ConstText) (t : TypedTree) : Type 0 where
+-- an expression is sound: its leaves name what is there, its operators have their rows, they stand at such places, and it names tables of
+-- FROM from a first one on, before another one
+pub record IsSound (At : ℕ → Type 0) (tables : List ColumnList) (from : List ℕ) (first past : ℕ) (cs : List ConstText) (t : TypedTree) : Type 0 where
   pub named : HasNamedTypes tables from cs t
   pub operated : IsOperated cs t
   pub placed : AllByRecursion At (operators_in t)
+  pub above : names_from first t ≡ true
+  pub below : names_before past t ≡ true
+
+pub both_true : (a b : Bool) → a ≡ true → b ≡ true → (a && b) ≡ true
+both_true true b h k = k
+both_true false b h k = absurd (cc)
+
+pub all_above : (first : ℕ) (ts : List TypedTree) → AllByRecursion (λ t. names_from first t ≡ true) ts → all_name_from first (typed_trees ts) ≡ true
+all_above first [] h = refl
+all_above first (t ∷ ts) h = both_true (names_from first t) (all_name_from first (typed_trees ts)) h.0 (all_above first ts h.1)
+
+pub all_below : (past : ℕ) (ts : List TypedTree) → AllByRecursion (λ t. names_before past t ≡ true) ts → all_name_before past (typed_trees ts) ≡ true
+all_below past [] h = refl
+all_below past (t ∷ ts) h = both_true (names_before past t) (all_name_before past (typed_trees ts)) h.0 (all_below past ts h.1)
 
 -- a number literal stays one
 pub literal_stays : (text : List ℕ) (cs more : List ConstText) {t : TypedTree} → IsNumberLiteral cs text t → IsNumberLiteral (cs ++ more) text t
@@ -140,8 +167,8 @@ pub all_placed : (At : ℕ → Type 0) (ts : List TypedTree) → AllByRecursion 
 all_placed At [] h = tt
 all_placed At (t ∷ ts) h = each_both At (operators_in t) (operators_among (typed_trees ts)) h.0 (all_placed At ts h.1)
 
-pub sound_stays : (At : ℕ → Type 0) (tables : List ColumnList) (from : List ℕ) → Stays (IsSound At tables from)
-sound_stays At tables from t cs more h = record { named = tree_stays tables from t cs more h.named; operated = operated_stays t cs more h.operated; placed = h.placed }
+pub sound_stays : (At : ℕ → Type 0) (tables : List ColumnList) (from : List ℕ) (first past : ℕ) → Stays (IsSound At tables from first past)
+sound_stays At tables from first past t cs more h = record { named = tree_stays tables from t cs more h.named; operated = operated_stays t cs more h.operated; placed = h.placed; above = h.above; below = h.below }
 
 pub value_stays : (column : List ℕ × SqlType) → Stays (λ cs v. IsOfColumn cs column v)
 value_stays column None cs more h = tt
@@ -166,14 +193,15 @@ query_stays tables s cs more h = record {
   operated = all_stay (λ ds t. IsOperated ds t) operated_stays (expressions_of s) cs more h.operated;
   limited = h.limited;
   items = each_on (λ o. HasNamedTypes tables s.from cs o.0) (λ o. HasNamedTypes tables s.from (cs ++ more) o.0) (λ o g. tree_stays tables s.from o.0 cs more g) s.items h.items;
-  joins = record {
-    each = h.joins.each;
-    first = h.joins.first;
-    typed = each_on (IsNamedBool tables s.from cs) (IsNamedBool tables s.from (cs ++ more)) condition_stays s.joins h.joins.typed;
-    named = h.joins.named;
-  };
   condition = condition_stays s.cond h.condition;
-  keys = each_on (λ k. HasNamedTypes tables s.from cs k.0 × (is_key (type_of k.0) ≡ true)) (λ k. HasNamedTypes tables s.from (cs ++ more) k.0 × (is_key (type_of k.0) ≡ true)) (λ k g. (tree_stays tables s.from k.0 cs more g.0, g.1)) s.keys h.keys;
+  joins = record { each = h.joins.each; first = h.joins.first; typed = each_on (IsNamedBool tables s.from cs) (IsNamedBool tables s.from (cs ++ more)) condition_stays s.joins h.joins.typed; named = h.joins.named; sourced = h.joins.sourced };
+  groups = each_on (λ t. HasNamedTypes tables s.from cs t × IsGroup t) (λ t. HasNamedTypes tables s.from (cs ++ more) t × IsGroup t) (λ t g. (tree_stays tables s.from t cs more g.0, g.1)) s.groups h.groups;
+  ungrouped = h.ungrouped;
+  aggs = h.aggs;
+  keys =
+      each_on (λ k. HasNamedTypes tables s.from cs k.0 × (s.grouped ≡ false → is_key (type_of k.0) ≡ true)) (λ k. HasNamedTypes tables s.from (cs ++ more) k.0 × (s.grouped ≡ false → is_key (type_of k.0) ≡ true))
+      (λ k g. (tree_stays tables s.from k.0 cs more g.0, g.1)) s.keys h.keys;
+  judged = h.judged;
 }
   where
     condition_stays : (c : Option TypedTree) → IsNamedBool tables s.from cs c → IsNamedBool tables s.from (cs ++ more) c
@@ -186,5 +214,6 @@ statement_stays tables (new_table t name columns) cs more h = h
 statement_stays tables (new_index t k name) cs more h = h
 statement_stays tables (new_rows t rows places) cs more h = record { columns = h.columns; there = h.there; values = all_stay (λ ds row. AllZip (IsOfColumn ds) h.columns row) (row_stays h.columns) rows cs more h.values; placed = h.placed }
 statement_stays tables (rows_from t name) cs more h = h
+statement_stays tables (deletion s) cs more h = record { query = query_stays tables s cs more h.query; one = h.one; bare = h.bare }
 statement_stays tables (query s) cs more h = query_stays tables s cs more h
 statement_stays tables (plan_of s) cs more h = query_stays tables s cs more h

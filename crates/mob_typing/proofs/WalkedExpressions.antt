@@ -1,8 +1,8 @@
 -- The walk over expressions: their literals are gathered in written order, their leaves name what is there, their operators have their
 -- rows, and what is refused, and each operator, is so at a place of the tree.
-use Rattle.std.specs.Prelude.{IfSome, not, codes, is_some, slice_get, option_map, option_and_then}
+use Rattle.std.specs.Prelude.{IfSome, nat_le, nat_lt, not, codes, is_some, slice_get, option_map, option_and_then}
 use Rattle.std.specs.List.{AllByRecursion}
-use Rattle.std.proofs.Common.{◌≡◌, ◌∙◌, ◌+◌, refl, sym, ap, subst, ℕ, List, [], ◌∷◌, ◌++◌, append_assoc, length, length-append, map, Bool, true, false, cond, Option, Some, None, Ok}
+use Rattle.std.proofs.Common.{◌≡◌, ◌<◌, ◌∙◌, ◌+◌, arith, refl, sym, ap, subst, ℕ, List, [], ◌∷◌, ◌++◌, append_assoc, length, length-append, map, Bool, true, false, cond, Option, Some, None, Ok}
 use Rattle.mob_ast.specs.declared.types.Word.{Word}
 use Rattle.mob_ast.specs.declared.types.TypeWord.{TypeWord}
 use Rattle.mob_ast.specs.declared.types.SqlType.{SqlType}
@@ -20,13 +20,17 @@ use Rattle.mob_operators.specs.Table.{table, is_irrational}
 use Rattle.mob_typed.specs.declared.typed.ConstText.{ConstText}
 use Rattle.mob_typed.specs.Trees.{TypedTree, typed, none, typed_trees, type_of, types_of}
 use Rattle.mob_typed.specs.Statements.{ColumnList}
+use Rattle.std.proofs.lemmas.Bool.Decides.{nat_tests}
+use Rattle.std.proofs.lemmas.List.{length-map, map-append}
+use Rattle.std.proofs.lemmas.Option.{slice_get_within}
+use Rattle.mob_typed.specs.Named.{reads_before, names_before, all_name_before, reads_from, names_from, all_name_from}
 use Rattle.mob_list.proofs.Each.{each_on}
 use Rattle.mob_expression.specs.declared.scope.Found.{Found}
 use Rattle.mob_expression.specs.Answers.{◌>>=◌, found, TypingStep}
 use Rattle.mob_expression.specs.Names.{column_of, entry_from}
 use Rattle.mob_expression.specs.Scopes.{ScopeTableParts, ScopeParts}
 use Rattle.mob_expression.specs.Words.{type_named, literal_type, number_type, is_zero}
-use Rattle.mob_expression.specs.Expressions.{constant, with_first, matches, the_one, column_named, lone_string, cast_of_string, typed_before_operands, is_signed, signed_digits, digits_of, digits_in, divisor_of, divides_by_zero, applied, operated, can_cast_all, finished, or_later, typed_expression, typed_operands}
+use Rattle.mob_expression.specs.Expressions.{constant, with_first, matches, the_one, column_among, in_from, column_named, lone_string, cast_of_string, typed_before_operands, is_signed, signed_digits, digits_of, digits_in, divisor_of, divides_by_zero, applied, operated, can_cast_all, finished, or_later, typed_expression, typed_operands}
 use Rattle.mob_grammar.specs.Places.{IsWithin, nothing, same, literal_place, tree_places, trees_places}
 use Rattle.mob_grammar.specs.Held.{word_held, node_held, tree_held, trees_held}
 use Rattle.mob_grammar.proofs.Within.{within_all, within_back}
@@ -34,8 +38,8 @@ use Rattle.mob_grammar.proofs.Places.{all_parts}
 use Rattle.mob_typing.specs.Stands.{operators_in}
 use Rattle.mob_typing.specs.WellTyped.{column_type, from_type, HasNamedType, HasNamedTypes, IsNumberLiteral, the_number, HasDivisor, is_division, FitsArguments, IsOperated}
 use Rattle.mob_typing.proofs.Walk.{GivesOrStops, gives, stops, then, also, passes, finds, not_false, adds_none, adds_one, adds_within, adds_both, Steps, Stays, still}
-use Rattle.mob_typing.proofs.OperatorRows.{is_of_table, found_of_table, names_nothing, row_fits, division_alone, has_row, own_cast, keeps_number, sign_keeps, behind_sign}
-use Rattle.mob_typing.proofs.Sound.{slice_map, slice_seam, slice_each, entry_stands, part_here, constant_here, literal_stays, operands_hold, all_operated, all_placed, types_are, IsSound, sound_stays}
+use Rattle.mob_typing.proofs.OperatorRows.{is_of_table, found_of_table, names_nothing, reads_nothing, row_fits, division_alone, has_row, own_cast, keeps_number, sign_keeps, behind_sign}
+use Rattle.mob_typing.proofs.Sound.{slice_more, slice_behind, slice_map, slice_seam, slice_each, each_apart, both_true, all_above, all_below, entry_stands, part_here, constant_here, literal_stays, operands_hold, all_operated, all_placed, types_are, IsSound, sound_stays}
 
 -- the tables of FROM are those of their numbers
 abbrev pub AreThere : List ColumnList → List (List ℕ × ScopeTableParts) → Type 0
@@ -51,12 +55,60 @@ lone_stands At (more_trees (tree (node.Str s) p us) no_trees) h = (same nothing,
 lone_stands At (more_trees (tree nd p us) no_trees) h = tt
 lone_stands At (more_trees t (more_trees u us)) h = tt
 
-module _ (At : ℕ → Type 0) (tables : List ColumnList) (s : ScopeParts) (there : AreThere tables s.from) where
+-- columns among tables of FROM that are counted from 0
+module _ (At : ℕ → Type 0) (tables : List ColumnList) (seen : List (List ℕ × ScopeTableParts)) (there : AreThere tables seen) where
+  -- a column that is found has its type
+  abbrev IsAmong : Found → Type 0
+  IsAmong f = from_type tables (numbers_of seen) f.from f.column ≡ Some f.ty
+
+  found_there : (n : ℕ) (t : List ℕ × ScopeTableParts) (name : List ℕ) (k : ℕ × SqlType) → slice_get seen n ≡ Some t → column_of t.1.columns name ≡ Some k → from_type tables (numbers_of seen) n k.0 ≡ Some k.1
+  found_there n t name k at is =
+      let column = entry_stands [] t.1.columns name k is in
+      ap (option_and_then (λ j. column_type tables j k.0)) (slice_map (λ (x : List ℕ × ScopeTableParts). x.1.table) seen n t at)
+      ∙ ap (option_and_then (λ (columns : ColumnList). option_map (λ c. c.1) (slice_get columns k.0))) (slice_each (λ (x : List ℕ × ScopeTableParts). slice_get tables x.1.table ≡ Some x.1.columns) seen n t there at)
+      ∙ ap (option_map (λ (c : List ℕ × SqlType). c.1)) column.1 ∙ ap (λ ty. Some ty) column.2
+
+  matches_there : (before behind : List (List ℕ × ScopeTableParts)) (name : List ℕ) → before ++ behind ≡ seen → AllByRecursion IsAmong (matches (length before) behind name)
+  matches_there before [] name parts = tt
+  matches_there before (t ∷ behind) name parts =
+      by (column_of t.1.columns name) refl (subst (λ n. AllByRecursion IsAmong (matches n behind name)) (length-append before (t ∷ [])) (matches_there (before ++ t ∷ []) behind name (append_assoc before (t ∷ []) behind ∙ parts)))
+    where
+      at : slice_get seen (length before) ≡ Some t
+      at = ap (λ xs. slice_get xs (length before)) (sym parts) ∙ slice_seam before behind t
+
+      by : (o : Option (ℕ × SqlType)) → column_of t.1.columns name ≡ o → AllByRecursion IsAmong (matches (length before + 1) behind name) → AllByRecursion IsAmong (with_first o (length before) (matches (length before + 1) behind name))
+      by None is others = others
+      by (Some k) is others = (found_there (length before) t name k at is, others)
+
+  one_found : (p : ℕ) (fs : List Found) → At p → AllByRecursion IsAmong fs → GivesOrStops At IsAmong (the_one p fs)
+  one_found p [] at h = stops at
+  one_found p (f ∷ []) at h = gives h.0
+  one_found p (f ∷ g ∷ fs) at h = stops at
+
+  among_walked : (t : Option Word) (c : Word) → AllByRecursion At (c.place ∷ word_held t) → GivesOrStops At IsAmong (column_among seen t c)
+  among_walked None c h = one_found c.place (matches 0 seen c.text) h.0 (matches_there [] seen c.text refl)
+  among_walked (Some t) c h =
+      then (finds kind.UnknownName t.place (entry_from 0 seen t.text) h.1.0) (λ f at.
+      then (finds kind.UnknownName c.place (column_of f.1.columns c.text) h.0) (λ k is.
+      let entry = entry_stands [] seen t.text f at in
+      gives (found_there f.0 entry.0 c.text k entry.1 (ap (λ (x : ScopeTableParts). column_of x.columns c.text) entry.2 ∙ is))))
+
+-- what an expression sees is a part of the tables of FROM, from its first on
+pub record IsPart (all : List (List ℕ × ScopeTableParts)) (s : ScopeParts) : Type 0 where
+  pub before : List (List ℕ × ScopeTableParts)
+  pub behind : List (List ℕ × ScopeTableParts)
+  pub parts : before ++ (s.from ++ behind) ≡ all
+  pub number : length before ≡ s.first
+
+module _ (At : ℕ → Type 0) (tables : List ColumnList) (all : List (List ℕ × ScopeTableParts)) (there : AreThere tables all) (s : ScopeParts) (part : IsPart all s) where
   abbrev from : List ℕ
-  from = numbers_of s.from
+  from = numbers_of all
+
+  abbrev past : ℕ
+  past = s.first + length s.from
 
   abbrev Holds : List ConstText → TypedTree → Type 0
-  Holds cs t = IsSound At tables from cs t
+  Holds cs t = IsSound At tables from s.first past cs t
 
   -- and what has these digits is a number literal of this text
   abbrev Reads : Option (List ℕ) → List ConstText → TypedTree → Type 0
@@ -68,41 +120,38 @@ module _ (At : ℕ → Type 0) (tables : List ColumnList) (s : ScopeParts) (ther
   ReadAs (more_trees t us) cs (x ∷ xs) = Reads (digits_of t) cs x × ReadAs us cs xs
   ReadAs _ cs _ = ⊥
 
-  -- a column that is found has its type
-  abbrev IsFound : Found → Type 0
-  IsFound f = from_type tables from f.from f.column ≡ Some f.ty
+  -- a column that is found has its type, and is one of a table that is seen
+  abbrev pub IsFound : Found → Type 0
+  IsFound f = (from_type tables from f.from f.column ≡ Some f.ty) × ((nat_le s.first f.from ≡ true) × (nat_lt f.from past ≡ true))
 
-  found_there : (n : ℕ) (t : List ℕ × ScopeTableParts) (name : List ℕ) (k : ℕ × SqlType) → slice_get s.from n ≡ Some t → column_of t.1.columns name ≡ Some k → from_type tables from n k.0 ≡ Some k.1
-  found_there n t name k at is =
-      let column = entry_stands [] t.1.columns name k is in
-      ap (option_and_then (λ j. column_type tables j k.0)) (slice_map (λ (x : List ℕ × ScopeTableParts). x.1.table) s.from n t at)
-      ∙ ap (option_and_then (λ (columns : ColumnList). option_map (λ c. c.1) (slice_get columns k.0))) (slice_each (λ (x : List ℕ × ScopeTableParts). slice_get tables x.1.table ≡ Some x.1.columns) s.from n t there at)
-      ∙ ap (option_map (λ (c : List ℕ × SqlType). c.1)) column.1 ∙ ap (λ ty. Some ty) column.2
-
-  matches_there : (before behind : List (List ℕ × ScopeTableParts)) (name : List ℕ) → before ++ behind ≡ s.from → AllByRecursion IsFound (matches (length before) behind name)
-  matches_there before [] name parts = tt
-  matches_there before (t ∷ behind) name parts =
-      by (column_of t.1.columns name) refl (subst (λ n. AllByRecursion IsFound (matches n behind name)) (length-append before (t ∷ [])) (matches_there (before ++ t ∷ []) behind name (append_assoc before (t ∷ []) behind ∙ parts)))
+  seen_there : AreThere tables s.from
+  seen_there = (each_apart Named s.from part.behind (each_apart Named part.before (s.from ++ part.behind) (subst (AllByRecursion Named) (sym part.parts) there)).1).0
     where
-      at : slice_get s.from (length before) ≡ Some t
-      at = ap (λ xs. slice_get xs (length before)) (sym parts) ∙ slice_seam before behind t
+      Named : List ℕ × ScopeTableParts → Type 0
+      Named x = slice_get tables x.1.table ≡ Some x.1.columns
 
-      by : (o : Option (ℕ × SqlType)) → column_of t.1.columns name ≡ o → AllByRecursion IsFound (matches (length before + 1) behind name) → AllByRecursion IsFound (with_first o (length before) (matches (length before + 1) behind name))
-      by None is others = others
-      by (Some k) is others = (found_there (length before) t name k at is, others)
+  -- the number of a table that is seen, in FROM
+  number_seen : (n : ℕ) (t : ℕ) → slice_get (numbers_of s.from) n ≡ Some t → slice_get from (s.first + n) ≡ Some t
+  number_seen n t at =
+      let number : List ℕ × ScopeTableParts → ℕ = λ x. x.1.table in
+      let long : length (numbers_of part.before) ≡ s.first = length-map part.before number ∙ part.number in
+      let whole : numbers_of part.before ++ (numbers_of s.from ++ numbers_of part.behind) ≡ from =
+      ap (λ ys. numbers_of part.before ++ ys) (sym (map-append number s.from part.behind)) ∙ sym (map-append number part.before (s.from ++ part.behind)) ∙ ap (map number) part.parts in
+      subst (λ xs. slice_get xs (s.first + n) ≡ Some t) whole
+      (subst (λ k. slice_get (numbers_of part.before ++ (numbers_of s.from ++ numbers_of part.behind)) (k + n) ≡ Some t) long
+      (slice_behind (numbers_of part.before) (numbers_of s.from ++ numbers_of part.behind) n t (slice_more (numbers_of s.from) (numbers_of part.behind) n t at)))
 
-  one_found : (p : ℕ) (fs : List Found) → At p → AllByRecursion IsFound fs → GivesOrStops At IsFound (the_one p fs)
-  one_found p [] at h = stops at
-  one_found p (f ∷ []) at h = gives h.0
-  one_found p (f ∷ g ∷ fs) at h = stops at
+  found_in_from : (f : Found) → from_type tables (numbers_of s.from) f.from f.column ≡ Some f.ty → IsFound (in_from s.first f)
+  found_in_from f is = by (slice_get (numbers_of s.from) f.from) refl
+    where
+      by : (o : Option ℕ) → slice_get (numbers_of s.from) f.from ≡ o → IsFound (in_from s.first f)
+      by None at = let missing : ◌≡◌ {A = Option SqlType} None (Some f.ty) = sym (ap (option_and_then (λ t. column_type tables t f.column)) at) ∙ is in absurd (cc)
+      by (Some t) at =
+          let within : f.from < length s.from = subst (λ k. f.from < k) (length-map s.from (λ (x : List ℕ × ScopeTableParts). x.1.table)) (slice_get_within (numbers_of s.from) f.from t at) in
+          (ap (option_and_then (λ t. column_type tables t f.column)) (number_seen f.from t at) ∙ sym (ap (option_and_then (λ t. column_type tables t f.column)) at) ∙ is, (grind (arith, nat_tests), grind (arith, nat_tests, within)))
 
-  column_walked : (t : Option Word) (c : Word) → AllByRecursion At (c.place ∷ word_held t) → GivesOrStops At IsFound (column_named s t c)
-  column_walked None c h = one_found c.place (matches 0 s.from c.text) h.0 (matches_there [] s.from c.text refl)
-  column_walked (Some t) c h =
-      then (finds kind.UnknownName t.place (entry_from 0 s.from t.text) h.1.0) (λ f at.
-      then (finds kind.UnknownName c.place (column_of f.1.columns c.text) h.0) (λ k is.
-      let entry = entry_stands [] s.from t.text f at in
-      gives (found_there f.0 entry.0 c.text k entry.1 (ap (λ (x : ScopeTableParts). column_of x.columns c.text) entry.2 ∙ is))))
+  pub column_walked : (t : Option Word) (c : Word) → AllByRecursion At (c.place ∷ word_held t) → GivesOrStops At IsFound (column_named s t c)
+  column_walked t c h = then (among_walked At tables s.from seen_there t c h) (λ f is. gives (found_in_from f is))
 
   -- what is typed before its operands adds its literals; where nothing is settled, nothing is added
   abbrev Settled : Option (List ℕ) → List ℕ → List ConstText → Option TypedTree → List ConstText → Type 0
@@ -116,13 +165,13 @@ module _ (At : ℕ → Type 0) (tables : List ColumnList) (s : ScopeParts) (ther
       → Steps s.statement (p ∷ ps) (Reads None) cs (typed (op.Const (length cs)) ty p none, cs ++ record { ty = ty; text = text; statement = s.statement; place = p } ∷ [])
   constant_steps ty text p ps cs at =
       let c : ConstText = record { ty = ty; text = text; statement = s.statement; place = p } in
-      record { adds = adds_one cs c; sound = (record { named = (constant_here cs c, tt); operated = (refl, tt); placed = (at, tt) }, tt) }
+      record { adds = adds_one cs c; sound = (record { named = (constant_here cs c, tt); operated = (refl, tt); placed = (at, tt); above = refl; below = refl }, tt) }
 
   number_steps : (text : List ℕ) (p : ℕ) (ps : List ℕ) (cs : List ConstText) → At p
       → Steps s.statement (p ∷ ps) (Reads (Some text)) cs (typed (op.Const (length cs)) (number_type text) p none, cs ++ record { ty = number_type text; text = text; statement = s.statement; place = p } ∷ [])
   number_steps text p ps cs at =
       let c : ConstText = record { ty = number_type text; text = text; statement = s.statement; place = p } in
-      record { adds = adds_one cs c; sound = (record { named = (constant_here cs c, tt); operated = (refl, tt); placed = (at, tt) }, the_number (part_here (λ (c : ConstText). c.text) cs c, constant_here cs c)) }
+      record { adds = adds_one cs c; sound = (record { named = (constant_here cs c, tt); operated = (refl, tt); placed = (at, tt); above = refl; below = refl }, the_number (part_here (λ (c : ConstText). c.text) cs c, constant_here cs c)) }
 
   literal_settles : (w : TypeWord) (text : List ℕ) (p : ℕ) (ps : List ℕ) (cs : List ConstText) (o : Option SqlType) → At p → At w.name.place
       → GivesOrStops At (Settles None (p ∷ ps) cs) (found kind.UnknownName w.name.place o >>= (λ ty. constant s ty text p cs) >>= λ r. Ok (Some r.0, r.1))
@@ -136,18 +185,18 @@ module _ (At : ℕ → Type 0) (tables : List ColumnList) (s : ScopeParts) (ther
       then (finds kind.UnknownName w.name.place (type_named w.name.text w.inner) named) (λ ty is.
       let inner = constant_steps ty text.0 text.1 [] cs h.1 in
       let own = inner.sound.0 in
-      gives (record { adds = adds_within h.0 inner.adds; sound = (record { named = (tt, (own.named, tt)); operated = (own_cast ty, (own.operated, tt)); placed = (at, (h.1, tt)) }, tt) }))
+      gives (record { adds = adds_within h.0 inner.adds; sound = (record { named = (tt, (own.named, tt)); operated = (own_cast ty, (own.operated, tt)); placed = (at, (h.1, tt)); above = refl; below = refl }, tt) }))
 
   early_settles : (n : Node) (p : ℕ) (args : Trees) (digits : Option (List ℕ)) (cs : List ConstText) → At p → AllByRecursion At (node_held n) → AllByRecursion At (trees_held args)
       → GivesOrStops At (Settles (signed_digits n digits) (literal_place n p ++ trees_places args) cs) (typed_before_operands s n p args cs)
   unfolding typed_before_operands
-  early_settles node.Null p args digits cs at h held = gives (record { adds = adds_none; sound = (record { named = (tt, tt); operated = ((refl, refl), tt); placed = (at, tt) }, tt) })
+  early_settles node.Null p args digits cs at h held = gives (record { adds = adds_none; sound = (record { named = (tt, tt); operated = ((refl, refl), tt); placed = (at, tt); above = refl; below = refl }, tt) })
   early_settles node.True p args digits cs at h held = gives (constant_steps sql.Bool (codes "true") p (trees_places args) cs at)
   early_settles node.False p args digits cs at h held = gives (constant_steps sql.Bool (codes "false") p (trees_places args) cs at)
   early_settles (node.Number n) p args digits cs at h held = gives (number_steps n p (trees_places args) cs at)
   early_settles (node.Str t) p args digits cs at h held = gives (constant_steps sql.Text t p (trees_places args) cs at)
   early_settles (node.Literal w t) p args digits cs at h held = literal_settles w t p (trees_places args) cs (literal_type w.name.text w.inner t) at h.0
-  early_settles (node.Column t c) p args digits cs at h held = then (column_walked t c h) (λ f is. gives (record { adds = adds_none; sound = (record { named = (is, tt); operated = (refl, tt); placed = (at, tt) }, tt) }))
+  early_settles (node.Column t c) p args digits cs at h held = then (column_walked t c h) (λ f is. gives (record { adds = adds_none; sound = (record { named = (is.0, tt); operated = (refl, tt); placed = (at, tt); above = both_true _ true is.1.0 refl; below = both_true _ true is.1.1 refl }, tt) }))
   early_settles (node.Call f) p args digits cs at h held = then (passes (is_irrational form.Call f) kind.Irrational p at) (λ _ rational. gives refl)
   early_settles (node.Sign g) p args digits cs at h held = gives refl
   early_settles (node.Cast w) p args digits cs at h held = cast_settles w p (trees_places args) cs (lone_string args) at h.0 (lone_stands At args held)
@@ -165,13 +214,15 @@ module _ (At : ℕ → Type 0) (tables : List ColumnList) (s : ScopeParts) (ther
   operands_read (more_trees t us) cs (x ∷ xs) h = (h.0.0, operands_read us cs xs h.1)
 
   -- and what is made of them is so by its own node
-  node_sound : (o : Op) (ty : SqlType) (p : ℕ) (args : Trees) (cs : List ConstText) (ts : List TypedTree) → ReadAs args cs ts → HasNamedType tables from cs o ty → FitsArguments cs o ty (typed_trees ts) → At p → Holds cs (typed o ty p (typed_trees ts))
-  node_sound o ty p args cs ts h own fits at =
+  node_sound : (o : Op) (ty : SqlType) (p : ℕ) (args : Trees) (cs : List ConstText) (ts : List TypedTree) → ReadAs args cs ts → HasNamedType tables from cs o ty → (reads_from s.first o ≡ true) × (reads_before past o ≡ true) → FitsArguments cs o ty (typed_trees ts) → At p → Holds cs (typed o ty p (typed_trees ts))
+  node_sound o ty p args cs ts h own reads fits at =
       let all = operands_read args cs ts h in
       record {
         named = (own, operands_hold tables from cs ts (each_on (Holds cs) (HasNamedTypes tables from cs) (λ t g. g.named) ts all));
         operated = (fits, all_operated cs ts (each_on (Holds cs) (IsOperated cs) (λ t g. g.operated) ts all));
         placed = (at, all_placed At ts (each_on (Holds cs) (λ t. AllByRecursion At (operators_in t)) (λ t g. g.placed) ts all));
+        above = both_true (reads_from s.first o) (all_name_from s.first (typed_trees ts)) reads.0 (all_above s.first ts (each_on (Holds cs) (λ t. names_from s.first t ≡ true) (λ t g. g.above) ts all));
+        below = both_true (reads_before past o) (all_name_before past (typed_trees ts)) reads.1 (all_below past ts (each_on (Holds cs) (λ t. names_before past t ≡ true) (λ t g. g.below) ts all));
       }
 
   -- the second of two operands is a number literal that is 0 or not, where there is one
@@ -219,7 +270,7 @@ module _ (At : ℕ → Type 0) (tables : List ColumnList) (s : ScopeParts) (ther
             answer = a;
             row = is;
             is = refl;
-            holds = node_sound a.0 a.1 p args cs ts h (names_nothing tables from cs a.0 a.1 (of_table a is)) (row_fits cs a.0 a.1 (typed_trees ts) (of_table a is) row) at;
+            holds = node_sound a.0 a.1 p args cs ts h (names_nothing tables from cs a.0 a.1 (of_table a is)) (reads_nothing s.first past a.0 (of_table a is)) (row_fits cs a.0 a.1 (typed_trees ts) (of_table a is) row) at;
           }))
 
   -- an operator that is no sign is no number literal
@@ -258,7 +309,7 @@ module _ (At : ℕ → Type 0) (tables : List ColumnList) (s : ScopeParts) (ther
   finished_walked (node.Cast w) p args ts cs at held h =
       then (finds kind.UnknownName w.name.place (type_named w.name.text w.inner) held.0) (λ ty is.
       then (passes (not (can_cast_all (types_of ts) ty)) kind.NoSuchOperator p at) (λ _ can.
-      gives (node_sound op.Cast ty p args cs ts h tt (ap (λ tys. can_cast_all tys ty) (types_are ts) ∙ not_false (can_cast_all (types_of ts) ty) can) at, tt)))
+      gives (node_sound op.Cast ty p args cs ts h tt (refl, refl) (ap (λ tys. can_cast_all tys ty) (types_are ts) ∙ not_false (can_cast_all (types_of ts) ty) can) at, tt)))
   finished_walked node.Not p args ts cs at held h = plainly_applied form.Word (codes "not") p args ts cs at h
   finished_walked node.And p args ts cs at held h = plainly_applied form.Word (codes "and") p args ts cs at h
   finished_walked node.Or p args ts cs at held h = plainly_applied form.Word (codes "or") p args ts cs at h
@@ -274,8 +325,8 @@ module _ (At : ℕ → Type 0) (tables : List ColumnList) (s : ScopeParts) (ther
       also (subst (λ es. GivesOrStops At (Steps s.statement ps (Reads digits) es) (later ds)) h (k ds)) (λ x q. record { adds = adds_within (within_back own (within_all ps)) q.adds; sound = q.sound })
 
   reads_stay : (digits : Option (List ℕ)) → Stays (Reads digits)
-  reads_stay None t cs more h = (sound_stays At tables from t cs more h.0, tt)
-  reads_stay (Some text) t cs more h = (sound_stays At tables from t cs more h.0, literal_stays text cs more h.1)
+  reads_stay None t cs more h = (sound_stays At tables from s.first past t cs more h.0, tt)
+  reads_stay (Some text) t cs more h = (sound_stays At tables from s.first past t cs more h.0, literal_stays text cs more h.1)
 
   mutual
     unfolding typed_expression typed_operands digits_of
@@ -297,3 +348,6 @@ module _ (At : ℕ → Type 0) (tables : List ColumnList) (s : ScopeParts) (ther
 
   pub expression_walked : (t : Tree) (cs : List ConstText) → AllByRecursion At (tree_held t) → GivesOrStops At (Steps s.statement (tree_places t) Holds cs) (typed_expression s t cs)
   expression_walked t cs h = also (tree_walked t cs h) (λ x q. record { adds = q.adds; sound = q.sound.0 })
+
+  pub arguments_walked : (us : Trees) (cs : List ConstText) → AllByRecursion At (trees_held us) → GivesOrStops At (Steps s.statement (trees_places us) (λ ds ts. AllByRecursion (Holds ds) ts) cs) (typed_operands s us cs)
+  arguments_walked us cs h = also (operands_walked us cs h) (λ x q. record { adds = q.adds; sound = operands_read us x.1 x.0 q.sound })

@@ -12,11 +12,11 @@ use Rattle.mob_ast.specs.declared.types.TypeWord.{TypeWord}
 use Rattle.mob_ast.specs.declared.types.SqlType.{SqlType}
 use Rattle.mob_ast.specs.declared.types.SqlType.TheVariants as sql
 use Rattle.mob_ast.specs.declared.refusal.Kind.TheVariants as kind
-use Rattle.mob_ast.specs.Trees.{RowParts, StatementParts, empty, create_table, create_index, insert, copy, select, explain}
+use Rattle.mob_ast.specs.Trees.{RowParts, StatementParts, empty, create_table, create_index, insert, copy, delete, select, explain}
 use Rattle.mob_operators.specs.Lookup.{same_type}
 use Rattle.mob_operators.specs.Table.{is_one_of}
 use Rattle.mob_typed.specs.declared.typed.ConstText.{ConstText}
-use Rattle.mob_typed.specs.Statements.{ColumnList, StatementOut, nothing, new_rows, rows_from, query, plan_of}
+use Rattle.mob_typed.specs.Statements.{ColumnList, StatementOut, nothing, new_rows, rows_from, deletion, query, plan_of}
 use Rattle.mob_typed.specs.Written.{brackets_of}
 use Rattle.mob_expression.specs.Answers.{Mistake}
 use Rattle.mob_expression.specs.Names.{column_of, has_entry}
@@ -33,7 +33,7 @@ use Rattle.mob_typing.proofs.Walk.{GivesOrStops, gives, then, also, passes, find
 use Rattle.mob_typing.proofs.Apart.{name_last, none_named, entry_last}
 use Rattle.mob_typing.proofs.Sound.{entry_stands}
 use Rattle.mob_typing.proofs.WalkedRows.{rows_walked}
-use Rattle.mob_typing.proofs.WalkedSelects.{named, table_there, select_walked}
+use Rattle.mob_typing.proofs.WalkedSelects.{named, table_there, delete_walked, select_walked}
 
 -- at most 64 columns, of distinct names
 record IsRoom (columns : ColumnList) : Type 0 where
@@ -172,5 +172,6 @@ module _ (At : ℕ → Type 0) where
     statement_walked n (create_index name table column) cs h = made_alone n cs (index_walked name table column h.0 h.1.0 h.1.1.0)
     statement_walked n (insert table rows) cs h = insert_walked n table rows cs h.0 h.1
     statement_walked n (copy table file delimiter) cs h = made_alone n cs (copy_walked table file delimiter h.0 h.1.1)
+    statement_walked n (delete table cond) cs h = then (delete_walked At names.tables n table cond cs h) (λ r q. gives (record { adds = q.adds; sound = plain (deletion r.0) q.sound.0 refl refl refl q.sound.1 none_within }))
     statement_walked n (select s) cs h = then (select_walked At names.tables n s cs h) (λ r q. gives (record { adds = q.adds; sound = plain (query r.0) q.sound.0 refl refl refl q.sound.1 none_within }))
     statement_walked n (explain s) cs h = then (select_walked At names.tables n s cs h) (λ r q. gives (record { adds = q.adds; sound = plain (plan_of r.0) q.sound.0 refl refl refl q.sound.1 none_within }))

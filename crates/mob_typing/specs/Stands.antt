@@ -5,7 +5,7 @@ use Rattle.mob_ast.specs.declared.refusal.Refusal.{Refusal}
 use Rattle.mob_ast.specs.Trees.{StatementParts}
 use Rattle.mob_grammar.specs.Held.{statement_held}
 use Rattle.mob_typed.specs.Trees.{TypedTree, typed, TypedTrees, none, more}
-use Rattle.mob_typed.specs.Statements.{StatementOut, query, plan_of, ScriptOut}
+use Rattle.mob_typed.specs.Statements.{StatementOut, nothing, new_table, new_index, new_rows, rows_from, deletion, query, plan_of, ScriptOut}
 use Rattle.mob_typing.specs.Statements.{typed_script}
 use Rattle.mob_typing.specs.WellTyped.{expressions_of}
 
@@ -36,9 +36,14 @@ abbrev mutual
   operators_among (more t ts) = operators_in t ++ operators_among ts
 
 abbrev pub operators_of : StatementOut → List ℕ
+operators_of nothing = []
+operators_of (new_table t name columns) = []
+operators_of (new_index t k name) = []
+operators_of (new_rows t rows places) = []
+operators_of (rows_from t name) = []
+operators_of (deletion s) = flat_map operators_in (expressions_of s)
 operators_of (query s) = flat_map operators_in (expressions_of s)
 operators_of (plan_of s) = flat_map operators_in (expressions_of s)
-operators_of _ = []
 
 -- the operators of the first of these statements stand at such places of statement n, and those of each other of one more
 abbrev pub OperatorsStand : (ℕ → ℕ → Type 0) → ℕ → List StatementOut → Type 0

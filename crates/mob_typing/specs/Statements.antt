@@ -10,11 +10,11 @@ use Rattle.mob_ast.specs.declared.refusal.Kind.TheVariants as kind
 use Rattle.mob_ast.specs.declared.refusal.Refusal.{Refusal}
 use Rattle.mob_ast.specs.declared.expression.Node.{Node}
 use Rattle.mob_ast.specs.declared.expression.Node.TheVariants as node
-use Rattle.mob_ast.specs.Trees.{Tree, tree, Trees, RowParts, StatementParts, empty, create_table, create_index, insert, copy, select, explain}
+use Rattle.mob_ast.specs.Trees.{Tree, tree, Trees, RowParts, StatementParts, empty, create_table, create_index, insert, copy, delete, select, explain}
 use Rattle.mob_operators.specs.Lookup.{same_type}
 use Rattle.mob_typed.specs.declared.typed.ConstText.{ConstText}
 use Rattle.mob_typed.specs.Selects.{TypedSelectParts}
-use Rattle.mob_typed.specs.Statements.{ColumnList, StatementOut, nothing, new_table, new_index, new_rows, rows_from, query, plan_of, ScriptOut}
+use Rattle.mob_typed.specs.Statements.{ColumnList, StatementOut, nothing, new_table, new_index, new_rows, rows_from, deletion, query, plan_of, ScriptOut}
 use Rattle.mob_expression.specs.declared.fault.Fault.{Fault}
 use Rattle.mob_expression.specs.declared.fault.Fault.TheVariants.{Wrong as Refused, NoMemory}
 use Rattle.mob_ast.specs.Kinds.{no_memory}
@@ -24,6 +24,7 @@ use Rattle.mob_expression.specs.Names.{column_of, has_entry}
 use Rattle.mob_operators.specs.Table.{is_one_of}
 use Rattle.mob_expression.specs.Words.{type_named, literal_type}
 use Rattle.mob_expression.specs.Expressions.{only, is_signed}
+use Rattle.mob_clauses.specs.Clauses.{rows_to_go}
 use Rattle.mob_typing.specs.Selects.{typed_select}
 
 -- a new column: its name is new, there are at most 64, and its type is known
@@ -143,6 +144,7 @@ typed_statement n names (create_table name columns) cs = keeping cs (made_table 
 typed_statement n names (create_index name table column) cs = keeping cs (made_index names name table column)
 typed_statement n names (insert table rows) cs = inserted n names table rows cs
 typed_statement n names (copy table file delimiter) cs = keeping cs (copied names table file delimiter)
+typed_statement n names (delete table cond) cs = asked deletion names (typed_select names.tables n (rows_to_go table cond) cs)
 typed_statement n names (select s) cs = asked query names (typed_select names.tables n s cs)
 typed_statement n names (explain s) cs = asked plan_of names (typed_select names.tables n s cs)
 

@@ -1,6 +1,6 @@
 -- What a typed script keeps to, whatever its text: what a number names is there and has the type that is asked of it, each operator has
 -- a row of the table for the types of its arguments, and names are distinct.
-use Rattle.std.specs.Prelude.{◌≡◌, ◌≤◌, ◌<◌, ◌^◌, ◌+◌, ◌++◌, ℕ, List, [], ◌∷◌, Bool, true, false, Option, Some, None, Ok, IfSome, length, map, slice_get, option_map, option_and_then}
+use Rattle.std.specs.Prelude.{◌≡◌, ◌⊎◌, ◌≤◌, ◌<◌, ◌+◌, ◌^◌, ◌++◌, ℕ, List, [], ◌∷◌, Bool, true, false, Option, Some, None, Ok, IfSome, length, map, slice_get, option_map, option_and_then}
 use Rattle.std.specs.List.{AllByRecursion, AllZip, IsDistinct, flat_map}
 use Rattle.std.specs.Str.{bytes_eq}
 use Rattle.mob_ast.specs.declared.types.SqlType.{SqlType}
@@ -11,14 +11,19 @@ use Rattle.mob_operators.specs.declared.operator.Op.TheVariants as op
 use Rattle.mob_operators.specs.declared.operator.Form.{Form}
 use Rattle.mob_operators.specs.Lookup.{found_in}
 use Rattle.mob_operators.specs.Table.{table}
+use Rattle.mob_operators.specs.declared.aggregate.AggKind.TheVariants.{CountAll}
+use Rattle.mob_operators.specs.Aggregates.{aggregate_row}
 use Rattle.mob_typed.specs.declared.typed.ConstText.{ConstText}
 use Rattle.mob_typed.specs.Trees.{TypedTree, typed, TypedTrees, none, more, type_of, arg_types}
-use Rattle.mob_typed.specs.Named.{names_before}
-use Rattle.mob_typed.specs.Selects.{TypedSelectParts, on_of}
-use Rattle.mob_typed.specs.Statements.{ColumnList, StatementOut, nothing, new_table, new_index, new_rows, rows_from, query, plan_of, ScriptOut}
+use Rattle.mob_typed.specs.declared.typed.Agg.{Agg}
+use Rattle.mob_typed.specs.Named.{names_before, names_from}
+use Rattle.mob_typed.specs.Selects.{Output, TypedSelectParts, on_of}
+use Rattle.mob_typed.specs.Statements.{ColumnList, StatementOut, nothing, new_table, new_index, new_rows, rows_from, deletion, query, plan_of, ScriptOut}
 use Rattle.mob_expression.specs.Words.{number_type, is_zero}
 use Rattle.mob_expression.specs.Expressions.{can_cast_all}
-use Rattle.mob_typing.specs.Selects.{is_bool, is_key}
+use Rattle.mob_clauses.specs.Conditions.{is_bool}
+use Rattle.mob_clauses.specs.Outputs.{ColumnNumbers, is_column}
+use Rattle.mob_clauses.specs.Keys.{is_key, value_type}
 use Rattle.mob_typing.specs.Statements.{typed_script}
 
 -- the type of the constant of this number
@@ -102,20 +107,55 @@ abbrev pub condition_alone : Option TypedTree → List TypedTree
 condition_alone None = []
 condition_alone (Some t) = t ∷ []
 
--- the expressions of a query: its columns, its ONs, its condition and its keys
+-- the expressions of a query in written order: its columns, its conditions, its groups and its keys
 abbrev pub expressions_of : TypedSelectParts → List TypedTree
-expressions_of s = map (λ o. o.0) s.items ++ (flat_map condition_alone s.joins ++ (condition_alone s.cond ++ map (λ k. k.0) s.keys))
+expressions_of s = map (λ o. o.0) s.items ++ (flat_map condition_alone s.joins ++ (condition_alone s.cond ++ (s.groups ++ map (λ k. k.0) s.keys)))
 
--- Each table of FROM has an ON or none, and the first has none. Each leaf of an ON has the type of what it names; the ON is a bool, and names
--- only tables up to its own.
+-- Each ON names only tables of its own source, from its first on. The first of these is the ON of table n, and the source of the table
+-- before it begins at table k.
+abbrev pub AreOfSources : ℕ → ℕ → List (Option TypedTree) → Type 0
+AreOfSources k n [] = Unit {0}
+AreOfSources k n (None ∷ joins) = AreOfSources n (n + 1) joins
+AreOfSources k n (Some t ∷ joins) = (names_from k t ≡ true) × AreOfSources k (n + 1) joins
+
+-- There is an entry for each table of FROM; the first table is joined to none; each ON is a bool, and names only the tables of its own
+-- source up to its own.
 pub record AreOns (tables : List ColumnList) (consts : List ConstText) (from : List ℕ) (joins : List (Option TypedTree)) : Type 0 where
   pub each : length joins ≡ length from
   pub first : on_of joins 0 ≡ None
   pub typed : AllByRecursion (λ on. IfSome on (λ t. HasNamedTypes tables from consts t × (is_bool (type_of t) ≡ true))) joins
   pub named : (place : ℕ) → IfSome (on_of joins place) (λ t. names_before (place + 1) t ≡ true)
+  pub sourced : AreOfSources 0 0 joins
 
--- FROM has at most four tables, all of them there, each with a name of its own; each ON and the condition are bools, each key is of a type
--- that has an order, and a limit has at most 18 digits
+-- the columns of FROM that groups are
+abbrev pub column_in : TypedTree → List ColumnNumbers
+column_in (typed (op.Column f k) ty p args) = (f, k) ∷ []
+column_in _ = []
+
+abbrev pub columns_in : List TypedTree → List ColumnNumbers
+columns_in groups = flat_map column_in groups
+
+-- a group is a column of FROM, and has an order
+abbrev pub IsGroup : TypedTree → Type 0
+IsGroup t = (length (column_in t) ≡ 1) × (is_key (type_of t) ≡ true)
+
+-- an aggregate is count(*), or has a row for its argument
+abbrev pub IsAggregateOf : TypedTree → Agg → Type 0
+IsAggregateOf t a = ((a.kind ≡ CountAll) × (a.ty ≡ sql.Int)) ⊎ ((name : List ℕ) × (aggregate_row name (type_of t) ≡ Some (a.kind, a.ty)))
+
+-- in a grouped query a column of the answer that is no aggregate is a group; where a query is not grouped there is no aggregate
+abbrev pub IsTypedItem : Bool → List TypedTree → Output → Option Agg → Type 0
+IsTypedItem grouped groups o None = grouped ≡ true → is_column (columns_in groups) o.0 ≡ true
+IsTypedItem grouped groups o (Some a) = (grouped ≡ true) × IsAggregateOf o.0 a
+
+-- A key that means a column of the answer is its expression, and the value of that column has an order; any other key has one itself, and in a
+-- grouped query it is a group.
+abbrev pub IsTypedKey : TypedSelectParts → TypedTree × Bool → Option ℕ → Type 0
+IsTypedKey s k None = (is_key (type_of k.0) ≡ true) × (s.grouped ≡ true → is_column (columns_in s.groups) k.0 ≡ true)
+IsTypedKey s k (Some i) = (x : Output) × (a : Option Agg) × (slice_get s.items i ≡ Some x) × (slice_get s.aggs i ≡ Some a) × (k.0 ≡ x.0) × (is_key (value_type x.0 a) ≡ true)
+
+-- FROM has at most four tables, all of them there, each with a name of its own; each condition is a bool, each group, and the value of each
+-- key, is of a type that has an order, and a limit has at most 18 digits
 pub record IsTypedQuery (tables : List ColumnList) (consts : List ConstText) (s : TypedSelectParts) : Type 0 where
   pub there : AllByRecursion (λ t. t < length tables) s.from
   pub few : length s.from ≤ 4
@@ -124,9 +164,19 @@ pub record IsTypedQuery (tables : List ColumnList) (consts : List ConstText) (s 
   pub operated : AllByRecursion (IsOperated consts) (expressions_of s)
   pub limited : IfSome s.limit (λ n. n < 10 ^ 18)
   pub items : AllByRecursion (λ o. HasNamedTypes tables s.from consts o.0) s.items
-  pub joins : AreOns tables consts s.from s.joins
   pub condition : IfSome s.cond (λ t. HasNamedTypes tables s.from consts t × (is_bool (type_of t) ≡ true))
-  pub keys : AllByRecursion (λ k. HasNamedTypes tables s.from consts k.0 × (is_key (type_of k.0) ≡ true)) s.keys
+  pub joins : AreOns tables consts s.from s.joins
+  pub groups : AllByRecursion (λ t. HasNamedTypes tables s.from consts t × IsGroup t) s.groups
+  pub ungrouped : s.grouped ≡ false → s.groups ≡ []
+  pub aggs : AllZip (IsTypedItem s.grouped s.groups) s.items s.aggs
+  pub keys : AllByRecursion (λ k. HasNamedTypes tables s.from consts k.0 × (s.grouped ≡ false → is_key (type_of k.0) ≡ true)) s.keys
+  pub judged : AllZip (IsTypedKey s) s.keys s.key_items
+
+-- a DELETE is such a query of one table, without a column of an answer
+pub record IsTypedDeletion (tables : List ColumnList) (consts : List ConstText) (s : TypedSelectParts) : Type 0 where
+  pub query : IsTypedQuery tables consts s
+  pub one : length s.from ≡ 1
+  pub bare : s.items ≡ []
 
 -- a value of a row is NULL, or a constant of its column's type
 abbrev pub IsOfColumn : List ConstText → List ℕ × SqlType → Option ℕ → Type 0
@@ -154,13 +204,20 @@ IsTypedStatement tables consts (new_table t name columns) = IsNextTable tables t
 IsTypedStatement tables consts (new_index t k name) = column_type tables t k ≡ Some sql.TPoint
 IsTypedStatement tables consts (new_rows t rows places) = AreTypedRows tables consts t rows places
 IsTypedStatement tables consts (rows_from t name) = t < length tables
+IsTypedStatement tables consts (deletion s) = IsTypedDeletion tables consts s
 IsTypedStatement tables consts (query s) = IsTypedQuery tables consts s
 IsTypedStatement tables consts (plan_of s) = IsTypedQuery tables consts s
 
 -- the tables behind a statement
 abbrev pub tables_behind : List ColumnList → StatementOut → List ColumnList
+tables_behind tables nothing = tables
 tables_behind tables (new_table t name columns) = tables ++ columns ∷ []
-tables_behind tables _ = tables
+tables_behind tables (new_index t k name) = tables
+tables_behind tables (new_rows t rows places) = tables
+tables_behind tables (rows_from t name) = tables
+tables_behind tables (deletion s) = tables
+tables_behind tables (query s) = tables
+tables_behind tables (plan_of s) = tables
 
 -- each statement keeps to the tables that those before it have made
 abbrev pub AreTypedStatements : List ColumnList → List ConstText → List StatementOut → Type 0
@@ -177,11 +234,23 @@ TypingGivesWellTyped = (ss : List StatementParts) (out : ScriptOut) → typed_sc
 -- the name of the table, and of the index, that a statement makes
 abbrev pub table_made : StatementOut → List (List ℕ)
 table_made (new_table t name columns) = name ∷ []
-table_made _ = []
+table_made nothing = []
+table_made (new_index t k name) = []
+table_made (new_rows t rows places) = []
+table_made (rows_from t name) = []
+table_made (deletion s) = []
+table_made (query s) = []
+table_made (plan_of s) = []
 
 abbrev pub index_made : StatementOut → List (List ℕ)
 index_made (new_index t k name) = name ∷ []
-index_made _ = []
+index_made nothing = []
+index_made (new_table t name columns) = []
+index_made (new_rows t rows places) = []
+index_made (rows_from t name) = []
+index_made (deletion s) = []
+index_made (query s) = []
+index_made (plan_of s) = []
 
 -- no two tables of a script have one name, and no two indexes
 pub record HasDistinctNames (out : ScriptOut) : Type 0 where

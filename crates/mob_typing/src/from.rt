@@ -1,20 +1,17 @@
 //! The tables of FROM.
-ghost use Rattle.std.specs.Prelude.{◌≡◌, ◌++◌, ◌∷◌, [], map, option_map, IfOk};
+ghost use Rattle.std.specs.Prelude.{◌≡◌, ◌++◌, ◌∷◌, [], map};
+ghost use Rattle.mob_ast.specs.Trees.{from_of};
 ghost use Rattle.mob_expression.specs.Answers.{AnswersAs};
 ghost use Rattle.mob_expression.specs.Scopes.{source_of, sources_of};
 ghost use Rattle.mob_expression.specs.Names.{has_entry};
-ghost use Rattle.mob_typed.specs.Trees.{typed_of};
-ghost use Rattle.mob_typing.specs.Selects.{from_name, from_table, from_tables, no_joins};
+ghost use Rattle.mob_typing.specs.Selects.{from_name, from_table, from_tables};
 
 use crate::names::Names;
 use mob_ast::{FromTable, Kind, Word};
 use mob_expression::columns::source_named;
 use mob_expression::fault::Fault;
 use mob_expression::scope::{ScopeTable, number};
-use mob_list::items::Items;
-use mob_list::text::Text;
-use mob_typed::TExpr;
-use std::alloc::{AllocError, Global};
+use std::alloc::Global;
 
 // How many tables there may be in FROM.
 const TABLES: usize = 4;
@@ -68,22 +65,23 @@ fn from_name<'a>(
     }
 }
 
-// A table of FROM behind those that stand before it.
-fn from_table<'a>(
+/// A table of FROM behind those that stand before it.
+pub fn from_table<'a>(
     names: &'a Names,
     sources: &[ScopeTable<'_>],
-    entry: &'a FromTable,
+    table: &'a Word,
+    alias: &'a Option<Word>,
 ) -> Result<ScopeTable<'a>, Fault>
-    ensures behind { AnswersAs (λ s. sources_of sources.now ++ source_of s ∷ []) result (from_table names.now.tables (sources_of sources.now) entry.now) }
+    ensures behind { AnswersAs (λ s. sources_of sources.now ++ source_of s ∷ []) result (from_table names.now.tables (sources_of sources.now) table.now alias.now) }
 {
-    let Some((table, columns)) = names.find(entry.table.text.as_str()) else {
+    let Some((index, columns)) = names.find(table.text.as_str()) else {
         return Err(Fault::Wrong {
             kind: Kind::UnknownName,
-            place: entry.table.place,
+            place: table.place,
         });
     };
-    let name = from_name(sources, &entry.table, &entry.alias)?;
-    let table = number(table)?;
+    let name = from_name(sources, table, alias)?;
+    let table = number(index)?;
     Ok(ScopeTable {
         name,
         table,
@@ -97,48 +95,12 @@ pub fn from_tables<'a>(
     names: &'a Names,
     from: &'a [FromTable],
 ) -> Result<Vec<ScopeTable<'a>>, Fault>
-    ensures named { AnswersAs (λ v. sources_of v.items) result (from_tables names.now.tables [] from.now) }
+    ensures named { AnswersAs (λ v. sources_of v.items) result (from_tables names.now.tables [] (map from_of from.now)) }
 {
     let mut sources = Vec::new(alloc);
     for entry in from {
-        let source = from_table(names, &sources, entry)?;
+        let source = from_table(names, &sources, &entry.table, &entry.alias)?;
         sources.push(source)?;
     }
     Ok(sources)
-}
-
-/// The numbers of the tables of FROM.
-pub fn table_numbers(alloc: Global, sources: &[ScopeTable<'_>]) -> Result<Items<u32>, AllocError>
-    ensures numbers { IfOk result (λ v. v ≡ map (λ t. t.1.table) (sources_of sources.now)) }
-{
-    let mut numbers = Items::new(alloc);
-    for source in sources {
-        numbers.push(source.table)?;
-    }
-    Ok(numbers)
-}
-
-/// The names that the tables of FROM go by.
-pub fn table_names(alloc: Global, sources: &[ScopeTable<'_>]) -> Result<Items<Text>, AllocError>
-    ensures names { IfOk result (λ v. v ≡ map (λ t. t.0) (sources_of sources.now)) }
-{
-    let mut names = Items::new(alloc);
-    for source in sources {
-        names.push(Text::from_string(String::from_str(alloc, source.name)?))?;
-    }
-    Ok(names)
-}
-
-/// The ON of each table of FROM: none of them is left-joined.
-pub fn no_joins(
-    alloc: Global,
-    sources: &[ScopeTable<'_>],
-) -> Result<Items<Option<TExpr>>, AllocError>
-    ensures joins { IfOk result (λ v. map (option_map typed_of) v ≡ no_joins (sources_of sources.now)) }
-{
-    let mut joins = Items::new(alloc);
-    for _source in sources {
-        joins.push(None)?;
-    }
-    Ok(joins)
 }

@@ -3,10 +3,8 @@
 #![tactic(auto)]
 
 mod from;
-mod keys;
 pub mod laws;
 mod names;
-mod outputs;
 mod rows;
 mod script;
 mod select;

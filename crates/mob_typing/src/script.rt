@@ -7,7 +7,7 @@ ghost use Rattle.mob_typing.specs.Statements.{typed_statement, typed_from, typed
 
 use crate::names::Names;
 use crate::rows::{copied, inserted};
-use crate::select::typed_select;
+use crate::select::{typed_delete, typed_select};
 use crate::tables::{made_index, made_table};
 use mob_ast::{Kind, Refusal, Script, Statement};
 use mob_expression::fault::Fault;
@@ -53,6 +53,9 @@ fn type_statement(
             file,
             delimiter,
         } => copied(alloc, names, table, file, delimiter),
+        Statement::Delete { table, cond } => Ok(TypedStatement::Delete(typed_delete(
+            alloc, names, number, consts, table, cond,
+        )?)),
         Statement::Select(select) => Ok(TypedStatement::Select(typed_select(
             alloc, names, number, consts, select,
         )?)),

@@ -1,5 +1,5 @@
 use Rattle.std.proofs.Common.{◌≡◌, ◌∙◌, ◌∷◌, ◌++◌, [], ap}
-use Rattle.mob_typing.proofs.Pushed.{list_more}
+use Rattle.mob_clauses.proofs.Pushed.{list_more}
 use Rattle.mob_typing.proofs.tables.listed.Goals as goal
 
 pub loop-index-preserved : goal.loop-index-preserved

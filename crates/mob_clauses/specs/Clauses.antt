@@ -1,0 +1,67 @@
+-- The clauses of a SELECT behind its FROM in written order: the select list, ON, WHERE, GROUP BY, ORDER BY and LIMIT.
+use Rattle.std.specs.Prelude.{ℕ, List, [], ◌∷◌, Bool, false, Option, None, map, option_map, Ok}
+use Rattle.mob_ast.specs.declared.types.Word.{Word}
+use Rattle.mob_ast.specs.Trees.{Tree, SelectParts}
+use Rattle.mob_typed.specs.Trees.{TypedTree, typed_of}
+use Rattle.mob_typed.specs.Selects.{TypedSelectParts, key_seen}
+use Rattle.mob_expression.specs.Answers.{◌>>=◌, TypingStep}
+use Rattle.mob_expression.specs.Scopes.{ScopeParts}
+use Rattle.mob_clauses.specs.Conditions.{condition, typed_joins}
+use Rattle.mob_clauses.specs.Outputs.{ColumnNumbers, is_grouped, grouping, OutputLists, with_items, no_outputs}
+use Rattle.mob_clauses.specs.Keys.{with_groups, key_item, typed_keys, limit_of}
+use Rattle.mob_clauses.specs.declared.clauses.Conditions.{Conditions as ConditionsOf}
+use Rattle.mob_clauses.specs.declared.clauses.Order.{Order}
+
+-- ON of each table, and WHERE
+pub record ConditionParts : Type 0 where
+  pub joins : List (Option TypedTree)
+  pub cond : Option TypedTree
+
+abbrev pub typed_conditions : ScopeParts → SelectParts → TypingStep ConditionParts
+typed_conditions scope s cs = typed_joins scope s.from cs >>= λ j. condition scope s.cond j.1 >>= λ c. Ok (record { joins = j.0; cond = c.0 }, c.1)
+
+-- GROUP BY, ORDER BY and LIMIT
+pub record OrderParts : Type 0 where
+  pub groups : List TypedTree
+  pub keys : List (TypedTree × Bool)
+  pub key_items : List (Option ℕ)
+  pub limit : Option ℕ
+
+abbrev pub typed_order : ScopeParts → Option (List ColumnNumbers) → OutputLists → SelectParts → TypingStep OrderParts
+typed_order scope g o s cs = with_groups scope [] s.groups >>= λ gs. typed_keys scope g o s.keys cs >>= λ k. limit_of s.limit >>= λ l. Ok (record { groups = gs; keys = k.0; key_items = map (key_item o) s.keys; limit = l }, k.1)
+
+-- what the clauses make together
+abbrev pub select_made : ScopeParts → SelectParts → Bool → OutputLists → ConditionParts → OrderParts → TypedSelectParts
+select_made scope s grouped o c r = record {
+  distinct = s.distinct;
+  items = o.columns;
+  from = map (λ t. t.1.table) scope.from;
+  names = map (λ t. t.0) scope.from;
+  joins = c.joins;
+  cond = c.cond;
+  grouped = grouped;
+  groups = r.groups;
+  aggs = o.aggs;
+  keys = r.keys;
+  key_items = r.key_items;
+  limit = r.limit;
+}
+
+-- The typed SELECT over these tables of FROM, or what is wrong first.
+abbrev pub typed_clauses : ScopeParts → SelectParts → TypingStep TypedSelectParts
+typed_clauses scope s cs = do
+  o ← with_items scope (grouping (is_grouped s) scope s.groups) no_outputs s.items cs
+  c ← typed_conditions scope s o.1
+  r ← typed_order scope (grouping (is_grouped s) scope s.groups) o.0 s c.1
+  Ok (select_made scope s (is_grouped s) o.0 c.0 r.0, r.1)
+
+-- A DELETE is typed as the SELECT of one table with its condition and no item.
+abbrev pub rows_to_go : Word → Option Tree → SelectParts
+rows_to_go table cond = record { distinct = false; items = []; from = record { table = table; alias = None; on = None } ∷ []; cond = cond; groups = []; keys = []; limit = None }
+
+-- the program's conditions, and its order, as such values
+abbrev pub conditions_seen : ConditionsOf → ConditionParts
+conditions_seen c = record { joins = map (option_map typed_of) c.joins; cond = option_map typed_of c.cond }
+
+abbrev pub order_seen : Order → OrderParts
+order_seen r = record { groups = map typed_of r.groups; keys = map key_seen r.keys; key_items = r.key_items; limit = r.limit }

@@ -1,0 +1,46 @@
+-- The conditions of a SELECT: those of WHERE and of ON.
+use Rattle.std.specs.Prelude.{not, ◌+◌, ℕ, Bool, List, [], ◌∷◌, Option, Some, None, Ok, slice_range}
+use Rattle.mob_ast.specs.declared.types.SqlType.{SqlType}
+use Rattle.mob_ast.specs.declared.types.SqlType.TheVariants as sql
+use Rattle.mob_ast.specs.declared.refusal.Kind.TheVariants as kind
+use Rattle.mob_ast.specs.Trees.{Tree, tree, FromParts}
+use Rattle.mob_operators.specs.Lookup.{has_type}
+use Rattle.mob_typed.specs.Trees.{TypedTree, type_of}
+use Rattle.mob_expression.specs.Answers.{◌>>=◌, unless, TypingStep, one_more}
+use Rattle.mob_expression.specs.Scopes.{ScopeParts}
+use Rattle.mob_expression.specs.Expressions.{typed_expression}
+
+-- the place of an expression as a whole
+abbrev pub tree_place : Tree → ℕ
+tree_place (tree n p args) = p
+
+abbrev pub is_bool : SqlType → Bool
+is_bool ty = has_type (sql.Bool ∷ []) ty
+
+-- a condition is a bool
+abbrev pub condition : ScopeParts → Option Tree → TypingStep (Option TypedTree)
+condition s None cs = Ok (None, cs)
+condition s (Some t) cs = typed_expression s t cs >>= λ r. unless (not (is_bool (type_of r.0))) kind.NoSuchOperator (tree_place t) >>= λ _. Ok (Some r.0, r.1)
+
+-- A source of FROM is a table with those that are left-joined to it. That of table n begins at the table itself, or, where the table is
+-- left-joined, where the source of the table before it does: at table k.
+abbrev pub source_start : ℕ → ℕ → Option Tree → ℕ
+source_start k n None = n
+source_start k n (Some on) = k
+
+-- the ON of table n sees the tables of its source, which begins at table k, up to table n itself
+abbrev pub seen_by_on : ScopeParts → ℕ → ℕ → ScopeParts
+seen_by_on s k n = record { from = slice_range s.from k (n + 1); first = k; statement = s.statement }
+
+-- the ON of each of these tables, the first of which is table n; the source of the table before it begins at table k
+abbrev pub joins_from : ScopeParts → ℕ → ℕ → List FromParts → TypingStep (List (Option TypedTree))
+joins_from s k n [] cs = Ok ([], cs)
+joins_from s k n (f ∷ fs) cs = one_more (condition (seen_by_on s (source_start k n f.on) n) f.on) (joins_from s (source_start k n f.on) (n + 1) fs) cs
+
+abbrev pub no_join : TypingStep (Option TypedTree)
+no_join cs = Ok (None, cs)
+
+-- the ON of each table of FROM; the first table is joined to none
+abbrev pub typed_joins : ScopeParts → List FromParts → TypingStep (List (Option TypedTree))
+typed_joins s [] cs = Ok ([], cs)
+typed_joins s (f ∷ fs) cs = one_more no_join (joins_from s 0 1 fs) cs

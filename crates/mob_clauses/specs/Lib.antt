@@ -1,0 +1,4 @@
+pub mod Clauses
+pub mod Conditions
+pub mod Keys
+pub mod Outputs

@@ -1,0 +1,177 @@
+//! The clauses of a SELECT together.
+ghost use Rattle.std.specs.Prelude.{◌≡◌, IfOk, option_map};
+ghost use Rattle.mob_ast.specs.declared.types.Word.{Word};
+ghost use Rattle.mob_ast.specs.Trees.{tree_of, select_of};
+ghost use Rattle.mob_expression.specs.Answers.{TypesTo};
+ghost use Rattle.mob_expression.specs.Scopes.{scope_of};
+ghost use Rattle.mob_typed.specs.Selects.{select_seen};
+ghost use Rattle.mob_clauses.specs.Outputs.{outputs_seen};
+ghost use Rattle.mob_clauses.specs.Clauses.{typed_conditions, conditions_seen, typed_order, order_seen, rows_to_go, select_made, typed_clauses};
+
+use crate::conditions::{condition, typed_joins};
+use crate::groups::{grouping, is_grouped};
+use crate::keys::{key_items, limit_of, typed_groups, typed_keys};
+use crate::outputs::{Outputs, outputs_of};
+use crate::tables::{table_names, table_numbers};
+use mob_ast::{Expr, SelectTree};
+use mob_expression::fault::Fault;
+use mob_expression::scope::Scope;
+use mob_list::items::Items;
+use mob_typed::{ConstText, TExpr, TypedSelect};
+use std::alloc::{AllocError, Global};
+
+/// The conditions of a SELECT.
+#[derive(Drop)]
+pub struct Conditions {
+    /// The ON of each table of FROM.
+    pub joins: Items<Option<TExpr>>,
+    /// The condition of WHERE.
+    pub cond: Option<TExpr>,
+}
+
+/// What a SELECT says of groups and order.
+#[derive(Drop)]
+pub struct Order {
+    /// The columns of GROUP BY.
+    pub groups: Items<TExpr>,
+    /// The keys of ORDER BY; true for DESC.
+    pub keys: Items<(TExpr, bool)>,
+    /// For each key the number of the column of the answer that it means.
+    pub key_items: Items<Option<u32>>,
+    /// The number of LIMIT.
+    pub limit: Option<u64>,
+}
+
+// ON of each table, and WHERE.
+fn typed_conditions(
+    alloc: Global,
+    scope: &Scope<'_>,
+    consts: &mut Items<ConstText>,
+    select: &SelectTree,
+) -> Result<Conditions, Fault>
+    ensures typed { TypesTo conditions_seen result consts.new (typed_conditions (scope_of scope.now) (select_of select.now) consts.old) }
+{
+    let joins = typed_joins(alloc, scope, consts, select.from.as_slice())?;
+    let cond = condition(alloc, scope, consts, &select.cond)?;
+    Ok(Conditions { joins, cond })
+}
+
+// GROUP BY, ORDER BY and LIMIT.
+fn typed_order(
+    alloc: Global,
+    scope: &Scope<'_>,
+    grouping: &Option<Items<(u32, u32)>>,
+    consts: &mut Items<ConstText>,
+    outputs: &Outputs<'_>,
+    select: &SelectTree,
+) -> Result<Order, Fault>
+    ensures typed { TypesTo order_seen result consts.new (typed_order (scope_of scope.now) grouping.now (outputs_seen outputs.now) (select_of select.now) consts.old) }
+{
+    let groups = typed_groups(alloc, scope, select.groups.as_slice())?;
+    let keys = typed_keys(
+        alloc,
+        scope,
+        grouping,
+        consts,
+        outputs,
+        select.keys.as_slice(),
+    )?;
+    let limit = limit_of(&select.limit)?;
+    let key_items = key_items(alloc, outputs, select.keys.as_slice())?;
+    Ok(Order {
+        groups,
+        keys,
+        key_items,
+        limit,
+    })
+}
+
+// What the clauses make together.
+fn select_made(
+    alloc: Global,
+    scope: &Scope<'_>,
+    select: &SelectTree,
+    grouped: bool,
+    outputs: Outputs<'_>,
+    conditions: Conditions,
+    order: Order,
+) -> Result<TypedSelect, AllocError>
+    ensures whole { IfOk result (λ s. select_seen s ≡ select_made (scope_of scope.now) (select_of select.now) grouped (outputs_seen outputs.entry) (conditions_seen conditions) (order_seen order)) }
+{
+    let from = table_numbers(alloc, scope.from)?;
+    let names = table_names(alloc, scope.from)?;
+    let Outputs {
+        columns,
+        aggs,
+        aliases: _,
+    } = outputs;
+    let Conditions { joins, cond } = conditions;
+    let Order {
+        groups,
+        keys,
+        key_items,
+        limit,
+    } = order;
+    Ok(TypedSelect {
+        distinct: select.distinct,
+        items: Items::from_vec(columns),
+        from,
+        names,
+        joins,
+        cond,
+        grouped,
+        groups,
+        aggs: Items::from_vec(aggs),
+        keys,
+        key_items,
+        limit,
+    })
+}
+
+/// The typed SELECT over these tables of FROM, or what is wrong first: the select list, ON, WHERE, GROUP BY, ORDER BY and LIMIT in written
+/// order.
+pub fn typed_clauses(
+    alloc: Global,
+    scope: &Scope<'_>,
+    consts: &mut Items<ConstText>,
+    select: &SelectTree,
+) -> Result<TypedSelect, Fault>
+    ensures typed { TypesTo select_seen result consts.new (typed_clauses (scope_of scope.now) (select_of select.now) consts.old) }
+{
+    let grouped = is_grouped(select);
+    let grouping = grouping(alloc, grouped, scope, select.groups.as_slice())?;
+    let outputs = outputs_of(alloc, scope, &grouping, consts, select.items.as_slice())?;
+    let conditions = typed_conditions(alloc, scope, consts, select)?;
+    let order = typed_order(alloc, scope, &grouping, consts, &outputs, select)?;
+    Ok(select_made(alloc, scope, select, grouped, outputs, conditions, order)?)
+}
+
+/// The typed DELETE over its table, or what is wrong in its condition.
+pub fn clauses_to_go(
+    alloc: Global,
+    scope: &Scope<'_>,
+    consts: &mut Items<ConstText>,
+    cond: &Option<Expr>,
+) -> Result<TypedSelect, Fault>
+    ensures typed { (table : Word) → TypesTo select_seen result consts.new (typed_clauses (scope_of scope.now) (rows_to_go table (option_map tree_of cond.now)) consts.old) }
+{
+    let mut joins = Items::new(alloc);
+    joins.push(None)?;
+    let from = table_numbers(alloc, scope.from)?;
+    let names = table_names(alloc, scope.from)?;
+    let cond = condition(alloc, scope, consts, cond)?;
+    Ok(TypedSelect {
+        distinct: false,
+        items: Items::new(alloc),
+        from,
+        names,
+        joins,
+        cond,
+        grouped: false,
+        groups: Items::new(alloc),
+        aggs: Items::new(alloc),
+        keys: Items::new(alloc),
+        key_items: Items::new(alloc),
+        limit: None,
+    })
+}

@@ -1,8 +1,0 @@
-use Rattle.std.proofs.Common.{◌≡◌, drop, map}
-use Rattle.mob_ast.specs.Trees.{item_of}
-use Rattle.mob_expression.specs.Scopes.{scope_of}
-use Rattle.mob_typing.specs.Selects.{with_items, no_outputs, outputs_seen}
-use Rattle.mob_typing.proofs.outputs.outputs_of.Given as goal
-
-abbrev pub invariant-loop-item : goal.invariant-loop-item
-invariant-loop-item l = with_items (scope_of l.scope) no_outputs (map item_of l.items) l.fn.consts ≡ with_items (scope_of l.scope) (outputs_seen l.outputs) (map item_of (drop l.item-index l.items)) l.consts
