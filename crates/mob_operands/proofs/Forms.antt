@@ -1,8 +1,10 @@
 -- A value of a type is NULL or has the form of the type, and so for two values.
-use Rattle.std.proofs.Common.{◌≡◌, ◌≢◌, ℕ, Bool, true, true≢false, List, [], ◌∷◌, refl, sym, subst}
+use Rattle.std.proofs.Common.{◌≡◌, ◌≢◌, ℕ, Bool, true, true≢false, List, [], ◌∷◌, Option, Some, None, refl, sym, subst}
+use Rattle.std.specs.Prelude.{MatchOption}
 use Rattle.std.specs.List.{AllByRecursion}
 use Rattle.mob_ratio.specs.Ratio.{Ratio}
 use Rattle.mob_plane.specs.declared.point.Point.{Point as PointOf}
+use Rattle.mob_slice.specs.CourseOf.{CourseOf}
 use Rattle.mob_slice.specs.declared.line.Line.{Line}
 use Rattle.mob_slice.specs.declared.line.PlaneLine.{PlaneLine}
 use Rattle.mob_slice.specs.declared.slice.Slice.{Slice}
@@ -15,7 +17,7 @@ use Rattle.mob_operators.specs.declared.operator.Op.{Op}
 use Rattle.mob_value.specs.Types.{is_of_type}
 use Rattle.mob_value.specs.declared.value.Value.{Value}
 use Rattle.mob_value.specs.declared.value.Value.TheVariants.{Null, Bool as Truth, Number, Text, Moment, Point, Polygon, Span, SpanSet, Box, MovingBool, MovingInt, MovingFrac, MovingText, MovingPoint}
-use Rattle.mob_ordinary.specs.Moving.{StepSlices}
+use Rattle.mob_ordinary.specs.Moving.{StepSlices, AreNormalBy, IsFunctionOrNull, or_nothing}
 use Rattle.mob_meaning.specs.Scene.{Scene}
 use Rattle.mob_meaning.specs.Operators.{GivesOfOne, GivesOfTwo, GivesOfThree}
 use Rattle.mob_catalog.specs.OwnTypes.{AreWhole, IsValueOf}
@@ -93,6 +95,17 @@ null_answer o ty vs v d e = subst (IsAnswer o ty vs) (sym e) (record { own = rec
 -- a value of the type that is not NULL
 pub made_answer : (o : Op) (ty : SqlType) (vs : List Value) (v w : Value) → is_of_type ty w ≡ true → AreWhole ty w → w ≢ Null → v ≡ w → IsAnswer o ty vs v
 made_answer o ty vs v w form whole n e = subst (IsAnswer o ty vs) (sym e) (record { own = record { form = form; whole = whole }; null = λ k. absurd (n k) })
+
+pub own_answer : (o : Op) (ty : SqlType) (vs : List Value) (v w : Value) → IsValueOf ty w → w ≢ Null → v ≡ w → IsAnswer o ty vs v
+own_answer o ty vs v w own n e = made_answer o ty vs v w own.form own.whole n e
+
+-- the one normal value that meets a condition, or NULL where none is there
+pub function_answer : {C B : Type 0} (course : CourseOf C B) (make : List (Slice C) → Value) (P : Option (List (Slice C)) → Type 0) (o : Op) (ty : SqlType) (vs : List Value) (v : Value) → ((r : List (Slice C)) → P (Some r) → AreNormalBy course r → IsValueOf ty (make r)) → ((r : List (Slice C)) → make r ≢ Null) → (P None → NullIsDue o ty vs) → IsFunctionOrNull course make P v → IsAnswer o ty vs v
+function_answer {C} course make P o ty vs v own some due g = by g.0 g.1 g.2 g.3
+  where
+    by : (r : Option (List (Slice C))) → P r → MatchOption r (Unit {0}) (AreNormalBy course) → v ≡ or_nothing make r → IsAnswer o ty vs v
+    by None p n e = null_answer o ty vs v (due p) e
+    by (Some r) p n e = own_answer o ty vs v (make r) (own r p n) (some r) e
 
 pub truth_answer : (o : Op) (vs : List Value) (v : Value) (b : Bool) → v ≡ Truth b → IsAnswer o sql.Bool vs v
 truth_answer o vs v b e = made_answer o sql.Bool vs v (Truth b) refl tt (λ k. absurd (cc k)) e

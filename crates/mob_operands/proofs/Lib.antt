@@ -1,7 +1,10 @@
 pub mod Causes
+pub mod Distances
 pub mod Forms
 pub mod Meanings
+pub mod Numbers
 pub mod Plain
+pub mod Restricted
 pub mod Signs
 pub mod Single
 pub mod Table

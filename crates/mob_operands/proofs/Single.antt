@@ -1,8 +1,9 @@
 -- The other operators that take one operand, and those that ask of boxes and polygons.
-use Rattle.std.proofs.Common.{◌≡◌, ◌≢◌, Bool, true, false, true≢false, List, [], ◌∷◌, refl, sym, ap}
+use Rattle.std.proofs.Common.{◌≡◌, ◌∙◌, Bool, true, false, true≢false, List, [], ◌∷◌, Some, inl, inr, refl, sym, ap}
 use Rattle.mob_ratio.specs.Ratio.{Ratio}
 use Rattle.mob_plane.specs.declared.point.Point.{Point as PointOf}
 use Rattle.mob_span.specs.Span.{SpanOf}
+use Rattle.mob_compare.specs.Times.{is_true}
 use Rattle.mob_ast.specs.declared.types.SqlType.{SqlType}
 use Rattle.mob_ast.specs.declared.types.SqlType.TheVariants as sql
 use Rattle.mob_operators.specs.Lookup.{is_temporal}
@@ -10,11 +11,12 @@ use Rattle.mob_operators.specs.declared.operator.Op.{Op}
 use Rattle.mob_operators.specs.declared.operator.Op.TheVariants as op
 use Rattle.mob_value.specs.declared.value.Value.{Value}
 use Rattle.mob_value.specs.declared.value.Value.TheVariants.{Null, Text, SpanSet, Box, MovingBool, MovingFrac, MovingPoint}
+use Rattle.mob_ordinary.specs.Moving.{StepSlices, step_function}
 use Rattle.mob_meaning.specs.Boxes.{IsOverlap}
 use Rattle.mob_meaning.specs.Coordinates.{IsCoordinate}
 use Rattle.mob_meaning.specs.Lifted.{IsLiftedNot}
 use Rattle.mob_meaning.specs.Polygons.{IsIntersecting}
-use Rattle.mob_meaning.specs.Times.{IsDefinedTime, IsTrueTime, set_or_null}
+use Rattle.mob_meaning.specs.Times.{AreInstantsOf, IsDefinedTime, IsTrueTime, set_or_null}
 use Rattle.mob_catalog.specs.OwnTypes.{IsValueOf}
 use Rattle.mob_operands.specs.Rows.{NullIsDue, IsAnswer}
 use Rattle.mob_operands.proofs.Forms.{OnForms, by_type, by_types, null_answer, made_answer, truth_answer, first_null, second_null}
@@ -42,13 +44,17 @@ time_answers sql.TText e = by_time sql.TText (λ m v g. set_made _ v _ g.2)
 time_answers sql.TPoint e = by_time sql.TPoint (λ m v g. set_made _ v _ g.2)
 time_answers _ e = absurd (true≢false (sym e))
 
-true_made : (a v : Value) (spans : List SpanOf) → v ≡ set_or_null spans → IsAnswer op.WhenTrue sql.SpanSet (a ∷ []) v
-true_made a v [] e = null_answer op.WhenTrue sql.SpanSet (a ∷ []) v tt e
-true_made a v (s ∷ spans) e = made_answer op.WhenTrue sql.SpanSet (a ∷ []) v (SpanSet (s ∷ spans)) refl tt (λ n. absurd (cc n)) e
+-- no instant is true where the set of these instants is empty
+never_true : (m : StepSlices Bool) → AreInstantsOf (λ t. is_true (step_function m t)) [] → (t : Ratio) → step_function m t ≡ Some true → ⊥
+never_true m h t e = true≢false (sym (h.1 t ∙ ap is_true e))
+
+true_made : (m : StepSlices Bool) (v : Value) (spans : List SpanOf) → AreInstantsOf (λ t. is_true (step_function m t)) spans → v ≡ set_or_null spans → IsAnswer op.WhenTrue sql.SpanSet (MovingBool m ∷ []) v
+true_made m v [] h e = null_answer op.WhenTrue sql.SpanSet (MovingBool m ∷ []) v (inr (never_true m h)) e
+true_made m v (s ∷ spans) h e = made_answer op.WhenTrue sql.SpanSet (MovingBool m ∷ []) v (SpanSet (s ∷ spans)) refl tt (λ n. absurd (cc n)) e
 
 pub true_time_answers : (a : Value) → IsValueOf sql.TBool a → AnswersOne op.WhenTrue sql.SpanSet IsTrueTime a
 true_time_answers a h = by_type sql.TBool (AnswersOne op.WhenTrue sql.SpanSet IsTrueTime)
-    (λ v e. null_answer op.WhenTrue sql.SpanSet (Null ∷ []) v tt e) (λ m v g. true_made _ v _ g.2) a h
+    (λ v e. null_answer op.WhenTrue sql.SpanSet (Null ∷ []) v (inl refl) e) (λ m v g. true_made m v g.0 g.1 g.2) a h
 
 -- whether a type has boxes
 abbrev pub is_boxed : SqlType → Bool

@@ -9,7 +9,7 @@ use Rattle.mob_operators.specs.declared.table.Bond.{Bond}
 use Rattle.mob_operators.specs.declared.table.Bond.TheVariants as bond
 use Rattle.mob_operators.specs.Lookup.{Line, same_type, has_type, types_fit, meets, given, takes}
 
-both_true : (a b : Bool) → (a && b) ≡ true → (a ≡ true) × (b ≡ true)
+pub both_true : (a b : Bool) → (a && b) ≡ true → (a ≡ true) × (b ≡ true)
 both_true true b h = (refl, h)
 both_true false b h = absurd (true≢false (sym h))
 

@@ -1,6 +1,6 @@
 -- What is taken at each instant gives NULL only where its operands are never together.
 use Rattle.std.proofs.Common.{◌≡◌, ◌≢◌, ◌∙◌, ℕ, Bool, true, false, true≢false, List, [], ◌∷◌, Option, Some, None, map, refl, sym, ap, subst}
-use Rattle.std.specs.Prelude.{is_some}
+use Rattle.std.specs.Prelude.{is_some, MatchOption}
 use Rattle.mob_ratio.specs.Ratio.{Ratio}
 use Rattle.mob_plane.specs.declared.point.Point.{Point as PointOf}
 use Rattle.mob_normal.specs.Widened.{level_line}
@@ -35,13 +35,17 @@ there None h = absurd (true≢false (sym h))
 there (Some x) h = (x, refl)
 
 -- two functions that are there at an instant have it in common
-common : {X Y : Type 0} (f : OverTime X) (g : OverTime Y) (t : Ratio) → is_some (f t) ≡ true → is_some (g t) ≡ true → HaveCommon f g
+pub common : {X Y : Type 0} (f : OverTime X) (g : OverTime Y) (t : Ratio) → is_some (f t) ≡ true → is_some (g t) ≡ true → HaveCommon f g
 common f g t h k = let x = there (f t) h in let y = there (g t) k in (t, x.0, y.0, x.1, y.1, tt)
+
+-- a tint is there as a tfrac where it is as a tint
+pub level_there : (m : StepSlices Ratio) (t : Ratio) → is_some (step_function m t) ≡ true → is_some (line_function (map level_line m) t) ≡ true
+level_there m t h = ap is_some (level_at m (map level_line m) refl t) ∙ h
 
 -- What a row gives on two functions has this type, and is NULL only where they have no common instant.
 pub record IsRow {X Y : Type 0} (ty : SqlType) (row : OverTime X → OverTime Y → Value → Type 0) : Type 0 where
-  own : (left : OverTime X) (right : OverTime Y) (v : Value) → row left right v → IsValueOf ty v
-  null : (left : OverTime X) (right : OverTime Y) (v : Value) → row left right v → v ≡ Null → HaveCommon left right → ⊥
+  pub own : (left : OverTime X) (right : OverTime Y) (v : Value) → row left right v → IsValueOf ty v
+  pub null : (left : OverTime X) (right : OverTime Y) (v : Value) → row left right v → v ≡ Null → HaveCommon left right → ⊥
 
 -- ---- rows
 
@@ -180,6 +184,16 @@ module _ (o : Op) (ty : SqlType) (due : (a b : Value) → AreNeverTogether (a �
   second_missing : (a v : Value) → v ≡ Null → IsAnswer o ty (a ∷ Null ∷ []) v
   second_missing a v e = null_answer o ty (a ∷ Null ∷ []) v (due a Null (λ t h. true≢false (sym h.1.0))) e
 
+  -- what is asked of the pair of two operands, where there is no pair beside NULL
+  module _ {A : Type 0} (pair : Value → Value → Option A) (row : A → Value → Type 0) (left : (b : Value) → pair Null b ≡ None) (right : (a : Value) → pair a Null ≡ None) where
+    abbrev OnBoth : Value → Value → Type 0
+    OnBoth a b = (v : Value) → MatchOption (pair a b) (v ≡ Null) (λ p. row p v) → IsAnswer o ty (a ∷ b ∷ []) v
+
+    pub by_pair : (t u : SqlType) → OnForms t (λ a. OnForms u (OnBoth a)) → (a b : Value) → IsValueOf t a → IsValueOf u b → OnBoth a b
+    by_pair t u f a b h k = by_types t u OnBoth
+        (λ b v g. first_missing b v (subst (λ p. MatchOption p (v ≡ Null) (λ p. row p v)) (left b) g))
+        (λ a v g. second_missing a v (subst (λ p. MatchOption p (v ≡ Null) (λ p. row p v)) (right a) g)) f a b h k
+
   module _ (row : OverTime Bool → OverTime Bool → Value → Type 0) (is : IsRow ty row) where
     abbrev OnTruths : Value → Value → Type 0
     OnTruths a b = (v : Value) → OnPair (truth_pair a b) row v → IsAnswer o ty (a ∷ b ∷ []) v
@@ -233,10 +247,6 @@ module _ (o : Op) (ty : SqlType) (due : (a b : Value) → AreNeverTogether (a �
     point_pair_answers sql.TPoint sql.Point e = by_points sql.TPoint sql.Point (λ x y v g. row_answers row is _ _ _ _ (λ t h. h) (λ t h. h) v g)
     point_pair_answers sql.Point sql.TPoint e = by_points sql.Point sql.TPoint (λ x y v g. row_answers row is _ _ _ _ (λ t h. h) (λ t h. h) v g)
     point_pair_answers _ _ e = absurd (true≢false (sym e))
-
-  -- a tint is there as a tfrac where it is as a tint
-  level_there : (m : StepSlices Ratio) (t : Ratio) → is_some (step_function m t) ≡ true → is_some (line_function (map level_line m) t) ≡ true
-  level_there m t h = ap is_some (level_at m (map level_line m) refl t) ∙ h
 
   module _ (row : OverTime Ratio → OverTime Ratio → Value → Type 0) (is : IsRow ty row) where
     abbrev OnInts : Value → Value → Type 0

@@ -1,13 +1,14 @@
 //! What ties operators and keys to the types of their operands. No code runs here.
 ghost use Rattle.mob_operands.specs.Boxes.{EverythingHasACause};
-ghost use Rattle.mob_operands.specs.Rows.{ComparisonsHaveMeanings, SettledIsTheValue};
+ghost use Rattle.mob_operands.specs.Rows.{RowsHaveMeanings, SettledIsTheValue};
 
-/// The operators that `compares` lists have a meaning on the types that their lines of the table take.
-/// Each gives a value of the line's type. An operator taken over time is NULL only where its
-/// operands have no instant in common. `whenTrue` may be NULL. Any other is NULL only where an
-/// operand is NULL. An operand that settles AND or OR is the value.
-pub fn comparisons_have_meanings()
-    ensures rows { ComparisonsHaveMeanings }
+/// Each operator of the table has a meaning on the types that its lines take. It gives a value of
+/// the line's type, with whole numbers where that asks for them. An operator taken over time is NULL
+/// only where its operands have no instant in common. A restriction is NULL only on a NULL, or where
+/// nothing is left. Any other operator is NULL only on a NULL. For `/` the divisor is not 0. An
+/// operand that settles AND or OR is the value.
+pub fn rows_have_meanings()
+    ensures rows { RowsHaveMeanings }
     ensures settled { SettledIsTheValue }
 {}
 
