@@ -35,7 +35,7 @@ Within a b c = (v : Value) → IsEverWithin a b c v → IsAnswer op.EDwithin sql
 
 -- the two points alone answer, since a number is there at each instant
 beside_distance : (a b : Value) (d : Ratio) (v : Value) → IsAnswer op.EDwithin sql.Bool (a ∷ b ∷ []) v → IsAnswer op.EDwithin sql.Bool (a ∷ b ∷ Number d ∷ []) v
-beside_distance a b d v e = record { own = e.own; null = λ n t h. e.null n t (h.0, h.1.0, tt) }
+beside_distance a b d v e = record { own = e.own; null = λ n t h. e.null n t (h.0, (h.1.0, tt)) }
 
 within_distance : (t u : SqlType) → are_points t u ≡ true → (a b : Value) → IsValueOf t a → IsValueOf u b → (d : Ratio) → Within a b (Number d)
 within_distance t u e a b h k d v g = beside_distance a b d v (point_pair_answers op.EDwithin sql.Bool (λ a b n. n) (IsAsked Ever (are_within d)) (asked_row Ever (are_within d)) t u e a b h k v g)

@@ -16,7 +16,7 @@ use Rattle.mob_operators.specs.declared.operator.Op.{Op}
 use Rattle.mob_operators.specs.declared.operator.Op.TheVariants as op
 use Rattle.mob_value.specs.declared.value.Value.{Value}
 use Rattle.mob_value.specs.declared.value.Value.TheVariants.{Null, Bool as Truth, Number, MovingInt, MovingFrac}
-use Rattle.mob_ordinary.specs.Moving.{OverTime, step_function, line_function}
+use Rattle.mob_ordinary.specs.Moving.{OverTime}
 use Rattle.mob_ordinary.specs.Ordinary.{is_nil}
 use Rattle.mob_meaning.specs.declared.choices.Calculation.{Calculation}
 use Rattle.mob_meaning.specs.declared.choices.Calculation.TheVariants.{Sum, Difference, Product}
@@ -25,7 +25,7 @@ use Rattle.mob_meaning.specs.Calculations.{result_by}
 use Rattle.mob_meaning.specs.Lifted.{OnOperands, OnPair, IsMovingInt, number_pair}
 use Rattle.mob_meaning.specs.Lines.{IsMovingFrac, as_line, product_pair}
 use Rattle.mob_catalog.specs.OwnTypes.{IsValueOf}
-use Rattle.mob_operands.specs.Rows.{is_there, AreNeverTogether, HaveNull, NullByType, NullIsDue, IsAnswer, DividesByOther}
+use Rattle.mob_operands.specs.Rows.{is_there, HaveNull, NullByType, NullIsDue, IsAnswer, DividesByOther}
 use Rattle.mob_operands.proofs.Forms.{OnForms, by_types, null_answer, made_answer, function_answer, first_null, second_null}
 use Rattle.mob_operands.proofs.Plain.{is_plain_number, is_plain_result, number_answers, numeric_made}
 use Rattle.mob_operands.proofs.Together.{are_ints, are_lines, common, level_there, frac_row, by_pair, line_pair_answers}

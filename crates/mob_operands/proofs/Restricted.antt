@@ -1,5 +1,5 @@
 -- What is left of a temporal value is of its type, and is NULL only where nothing is left.
-use Rattle.std.proofs.Common.{◌≡◌, ◌≢◌, ◌∙◌, ℕ, Bool, true, false, true≢false, List, [], ◌∷◌, Option, Some, None, inl, inr, refl, sym, ap, subst}
+use Rattle.std.proofs.Common.{◌≡◌, ◌≢◌, ◌∙◌, ℕ, Bool, true, false, true≢false, List, [], ◌∷◌, Option, Some, None, inl, inr, refl, sym, subst}
 use Rattle.std.specs.Prelude.{◌⊎◌, cond, is_some}
 use Rattle.mob_ratio.specs.Ratio.{Ratio}
 use Rattle.mob_ratio.specs.Order.{same}
@@ -33,7 +33,7 @@ use Rattle.mob_meaning.specs.Polygons.{IsPolygonRestriction}
 use Rattle.mob_meaning.specs.Signs.{number_test, text_test, truth_test}
 use Rattle.mob_meaning.specs.Times.{IsRestriction, IsTimeRestriction, look_up}
 use Rattle.mob_catalog.specs.OwnTypes.{IsValueOf}
-use Rattle.mob_operands.specs.Rows.{is_there, HaveNull, passes, is_asked, is_then, is_within, NothingIsLeft, IsMissing, NullIsDue, IsAnswer}
+use Rattle.mob_operands.specs.Rows.{is_there, HaveNull, passes, is_asked, is_then, is_within, NothingIsLeft, NullIsDue, IsAnswer}
 use Rattle.mob_operands.proofs.Forms.{OnForms, AreInts, by_type, by_types, null_answer, own_answer, function_answer, first_null, second_null}
 use Rattle.mob_operands.proofs.Whole.{ints_there, tint_of}
 
