@@ -21,7 +21,7 @@ use Rattle.mob_eval.specs.declared.keys.Probe.{Probe}
 use Rattle.mob_eval.specs.declared.keys.Probe.TheVariants.{Everything}
 use Rattle.mob_eval.specs.Keys.{ByBox, AsksForMeeting, AsksForWider, UnlessNull, AsksBy, asked_of}
 use Rattle.mob_meaning.specs.Scene.{Scene}
-use Rattle.mob_meaning.specs.Evaluation.{Fault, TreeEvaluatesTo}
+use Rattle.mob_meaning.specs.Evaluation.{TreeEvaluatesTo}
 use Rattle.mob_operands.specs.Boxes.{IsAsStored, IsEitherOf, HasItsTypes, HasFault, HasLaterFault, DoesNotExpand, EverythingHasACause}
 
 never_both : (b : Bool) → (b && false) ≡ true → ⊥

@@ -9,7 +9,6 @@ use Rattle.mob_operators.specs.Lookup.{Line, is_temporal}
 use Rattle.mob_operators.specs.Table.{table}
 use Rattle.mob_operators.specs.declared.operator.Op.{Op}
 use Rattle.mob_operators.specs.declared.operator.Op.TheVariants as op
-use Rattle.mob_value.specs.declared.value.Value.{Value}
 use Rattle.mob_value.specs.declared.value.Value.TheVariants.{Bool as Truth}
 use Rattle.mob_ordinary.specs.Ordinary.{is_null}
 use Rattle.mob_meaning.specs.declared.choices.Calculation.TheVariants.{Sum, Difference, Product}

@@ -28,7 +28,7 @@ use Rattle.mob_catalog.specs.OwnTypes.{IsValueOf}
 use Rattle.mob_operands.specs.Rows.{is_there, HaveNull, NullByType, NullIsDue, IsAnswer, DividesByOther}
 use Rattle.mob_operands.proofs.Forms.{OnForms, by_types, null_answer, made_answer, function_answer, first_null, second_null}
 use Rattle.mob_operands.proofs.Plain.{is_plain_number, is_plain_result, number_answers, numeric_made}
-use Rattle.mob_operands.proofs.Together.{are_ints, are_lines, common, level_there, frac_row, by_pair, line_pair_answers}
+use Rattle.mob_operands.proofs.Together.{are_ints, are_lines, common, level_there, frac_row, int_right, by_pair, line_pair_answers}
 use Rattle.mob_operands.proofs.Whole.{HasInts, ints_there, ints_of_one, tint_of, int_both}
 
 -- two types whose values make a product that changes evenly
@@ -78,11 +78,6 @@ module _ (o : Op) (due : (ty : SqlType) (vs : List Value) → NullByType ty vs �
       (λ m p n. tint_of m n (λ t x q. int_both by (f t) (g t) (h t) (k t) x (sym (p t) ∙ q)))
       (λ m n. absurd (cc n))
       (λ p. due sql.TInt (a ∷ b ∷ []) (λ t c. never_both (result_by by) (f t) (g t) (l t c.0) (r t c.1.0) (p t))) e
-
-  int_right : (a : Value) → number_pair a Null ≡ None
-  int_right Null = refl
-  int_right (Truth x) = refl
-  int_right _ = refl
 
   by_ints : (t u : SqlType) → OnForms t (λ a. OnForms u (Ints a)) → (a b : Value) → IsValueOf t a → IsValueOf u b → Ints a b
   by_ints t u f a b h k = by_pair o sql.TInt (λ a b n. due sql.TInt (a ∷ b ∷ []) n) number_pair (λ p v. IsMovingInt (result_by by) (given_at steady_value p.0) (given_at steady_value p.1) v) (λ b. refl) int_right t u f a b h k

@@ -1,8 +1,6 @@
 -- The operators on values that do not change over time, and those that ask of a whole value.
-use Rattle.std.proofs.Common.{◌≡◌, ◌≢◌, ◌∙◌, ℕ, ℤ, Bool, true, false, not, true≢false, List, [], ◌∷◌, option_map, refl, sym, ap, Option, Some, None}
-use Rattle.std.specs.Prelude.{cond}
+use Rattle.std.proofs.Common.{◌≡◌, ◌∙◌, ℕ, ℤ, Bool, true, false, not, true≢false, List, [], ◌∷◌, option_map, refl, sym, Option, Some, None}
 use Rattle.mob_ratio.specs.Ratio.{Ratio, neg_ℚ}
-use Rattle.mob_stbox.specs.Boxes.{BoxOf}
 use Rattle.mob_written.specs.Values.{is_whole_number}
 use Rattle.mob_ast.specs.declared.types.Cmp.{Cmp}
 use Rattle.mob_ast.specs.declared.types.Cmp.TheVariants as cmp
@@ -11,7 +9,7 @@ use Rattle.mob_ast.specs.declared.types.SqlType.TheVariants as sql
 use Rattle.mob_operators.specs.declared.operator.Op.{Op}
 use Rattle.mob_operators.specs.declared.operator.Op.TheVariants as op
 use Rattle.mob_value.specs.declared.value.Value.{Value}
-use Rattle.mob_value.specs.declared.value.Value.TheVariants.{Null, Bool as Truth, Number, Text, Moment, Point, Polygon, Span, SpanSet, Box}
+use Rattle.mob_value.specs.declared.value.Value.TheVariants.{Null, Bool as Truth, Number, Text, Box}
 use Rattle.mob_slice.specs.declared.comparison.Rel.{Rel}
 use Rattle.mob_ordinary.specs.Ordinary.{truth_of, known, rel_of, IsEquality, ordered, IsTest, IsTruthOf, negated, unchanged, conjunction, disjunction}
 use Rattle.mob_meaning.specs.declared.choices.Calculation.{Calculation}

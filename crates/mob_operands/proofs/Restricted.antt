@@ -25,7 +25,7 @@ use Rattle.mob_operators.specs.Lookup.{is_temporal}
 use Rattle.mob_operators.specs.declared.operator.Op.{Op}
 use Rattle.mob_operators.specs.declared.operator.Op.TheVariants as op
 use Rattle.mob_value.specs.declared.value.Value.{Value}
-use Rattle.mob_value.specs.declared.value.Value.TheVariants.{Null, Bool as Truth, Number, Text, Moment, Point, Polygon, Span, SpanSet, Box, MovingBool, MovingInt, MovingFrac, MovingText, MovingPoint}
+use Rattle.mob_value.specs.declared.value.Value.TheVariants.{Null, Bool as Truth, Number, Text, Moment, Point, Span, SpanSet, MovingBool, MovingInt, MovingFrac, MovingText, MovingPoint}
 use Rattle.mob_ordinary.specs.Moving.{StepSlices, step_function, line_function, plane_function, or_nothing, IsFunctionOrNull}
 use Rattle.mob_meaning.specs.Boxes.{IsBoxRestriction}
 use Rattle.mob_meaning.specs.ByValue.{IsValueRestriction}

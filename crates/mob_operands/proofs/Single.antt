@@ -10,7 +10,7 @@ use Rattle.mob_operators.specs.Lookup.{is_temporal}
 use Rattle.mob_operators.specs.declared.operator.Op.{Op}
 use Rattle.mob_operators.specs.declared.operator.Op.TheVariants as op
 use Rattle.mob_value.specs.declared.value.Value.{Value}
-use Rattle.mob_value.specs.declared.value.Value.TheVariants.{Null, Text, SpanSet, Box, MovingBool, MovingFrac, MovingPoint}
+use Rattle.mob_value.specs.declared.value.Value.TheVariants.{Null, SpanSet, Box, MovingBool, MovingFrac, MovingPoint}
 use Rattle.mob_ordinary.specs.Moving.{StepSlices, step_function}
 use Rattle.mob_meaning.specs.Boxes.{IsOverlap}
 use Rattle.mob_meaning.specs.Coordinates.{IsCoordinate}

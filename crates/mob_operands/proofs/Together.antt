@@ -7,22 +7,21 @@ use Rattle.mob_normal.specs.Widened.{level_line}
 use Rattle.mob_normal.proofs.Widening.{level_at}
 use Rattle.mob_slice.specs.CourseOf.{CourseOf, steady_course, line_course}
 use Rattle.mob_slice.specs.Lines.{line_value_of, plane_value_of}
-use Rattle.mob_slice.specs.Operands.{map_both, IsPointwise}
-use Rattle.mob_slice.specs.Sides.{Slices}
+use Rattle.mob_slice.specs.Operands.{steady_value, map_both, IsPointwise}
+use Rattle.mob_slice.specs.Sides.{given_at}
 use Rattle.mob_slice.specs.declared.slice.Slice.{Slice}
 use Rattle.mob_lift.specs.Sometime.{HaveCommon, IsEver, IsAlways}
 use Rattle.mob_near.specs.Approaches.{IsApproach}
 use Rattle.mob_ast.specs.declared.types.SqlType.{SqlType}
 use Rattle.mob_ast.specs.declared.types.SqlType.TheVariants as sql
 use Rattle.mob_operators.specs.declared.operator.Op.{Op}
-use Rattle.mob_operators.specs.declared.operator.Op.TheVariants as op
 use Rattle.mob_value.specs.declared.value.Value.{Value}
-use Rattle.mob_value.specs.declared.value.Value.TheVariants.{Null, Bool as Truth, Number, Text, Point, MovingBool, MovingFrac, MovingText}
+use Rattle.mob_value.specs.declared.value.Value.TheVariants.{Null, Bool as Truth, Number, MovingBool, MovingFrac, MovingText}
 use Rattle.mob_ordinary.specs.Moving.{StepSlices, OverTime, step_function, line_function, or_nothing, IsFunctionOrNull}
 use Rattle.mob_ordinary.specs.Ordinary.{known}
 use Rattle.mob_meaning.specs.declared.choices.Scope.{Scope}
 use Rattle.mob_meaning.specs.declared.choices.Scope.TheVariants.{Each, Ever, Always}
-use Rattle.mob_meaning.specs.Lifted.{Pair, OnOperands, OnPair, IsMovingBool, IsMovingText, truth_pair, number_pair, text_pair}
+use Rattle.mob_meaning.specs.Lifted.{OnOperands, OnPair, IsMovingBool, IsMovingText, truth_pair, number_pair, text_pair}
 use Rattle.mob_meaning.specs.Lines.{IsMovingFrac, line_pair, plane_pair}
 use Rattle.mob_meaning.specs.Nearness.{IsApproachValue}
 use Rattle.mob_meaning.specs.Signs.{IsAsked}
@@ -169,6 +168,32 @@ are_lines sql.TInt sql.Numeric = true
 are_lines sql.Numeric sql.TInt = true
 are_lines _ _ = false
 
+-- beside NULL there is no pair
+truth_right : (a : Value) → truth_pair a Null ≡ None
+truth_right Null = refl
+truth_right (Truth x) = refl
+truth_right _ = refl
+
+text_right : (a : Value) → text_pair a Null ≡ None
+text_right Null = refl
+text_right (Truth x) = refl
+text_right _ = refl
+
+point_right : (a : Value) → plane_pair a Null ≡ None
+point_right Null = refl
+point_right (Truth x) = refl
+point_right _ = refl
+
+pub int_right : (a : Value) → number_pair a Null ≡ None
+int_right Null = refl
+int_right (Truth x) = refl
+int_right _ = refl
+
+line_right : (a : Value) → line_pair a Null ≡ None
+line_right Null = refl
+line_right (Truth x) = refl
+line_right _ = refl
+
 module _ (o : Op) (ty : SqlType) (due : (a b : Value) → AreNeverTogether (a ∷ b ∷ []) → NullIsDue o ty (a ∷ b ∷ [])) where
   -- a row on two operands that are there where the functions are
   module _ {X Y : Type 0} (row : OverTime X → OverTime Y → Value → Type 0) (is : IsRow ty row) where
@@ -198,13 +223,8 @@ module _ (o : Op) (ty : SqlType) (due : (a b : Value) → AreNeverTogether (a �
     abbrev OnTruths : Value → Value → Type 0
     OnTruths a b = (v : Value) → OnPair (truth_pair a b) row v → IsAnswer o ty (a ∷ b ∷ []) v
 
-    truth_right : (a : Value) → truth_pair a Null ≡ None
-    truth_right Null = refl
-    truth_right (Truth x) = refl
-    truth_right _ = refl
-
     by_truths : (t u : SqlType) → OnForms t (λ a. OnForms u (OnTruths a)) → (a b : Value) → IsValueOf t a → IsValueOf u b → OnTruths a b
-    by_truths t u f a b h k = by_types t u OnTruths (λ b v g. first_missing b v g) (λ a v g. second_missing a v (subst (λ p. OnPair p row v) (truth_right a) g)) f a b h k
+    by_truths t u f = by_pair truth_pair (λ p v. row (given_at steady_value p.0) (given_at steady_value p.1) v) (λ b. refl) truth_right t u f
 
     pub truth_pair_answers : (t u : SqlType) → are_truths t u ≡ true → (a b : Value) → IsValueOf t a → IsValueOf u b → OnTruths a b
     truth_pair_answers sql.TBool sql.TBool e = by_truths sql.TBool sql.TBool (λ x y v g. row_answers row is _ _ _ _ (λ t h. h) (λ t h. h) v g)
@@ -216,13 +236,8 @@ module _ (o : Op) (ty : SqlType) (due : (a b : Value) → AreNeverTogether (a �
     abbrev OnTexts : Value → Value → Type 0
     OnTexts a b = (v : Value) → OnPair (text_pair a b) row v → IsAnswer o ty (a ∷ b ∷ []) v
 
-    text_right : (a : Value) → text_pair a Null ≡ None
-    text_right Null = refl
-    text_right (Truth x) = refl
-    text_right _ = refl
-
     by_texts : (t u : SqlType) → OnForms t (λ a. OnForms u (OnTexts a)) → (a b : Value) → IsValueOf t a → IsValueOf u b → OnTexts a b
-    by_texts t u f a b h k = by_types t u OnTexts (λ b v g. first_missing b v g) (λ a v g. second_missing a v (subst (λ p. OnPair p row v) (text_right a) g)) f a b h k
+    by_texts t u f = by_pair text_pair (λ p v. row (given_at steady_value p.0) (given_at steady_value p.1) v) (λ b. refl) text_right t u f
 
     pub text_pair_answers : (t u : SqlType) → are_texts t u ≡ true → (a b : Value) → IsValueOf t a → IsValueOf u b → OnTexts a b
     text_pair_answers sql.TText sql.TText e = by_texts sql.TText sql.TText (λ x y v g. row_answers row is _ _ _ _ (λ t h. h) (λ t h. h) v g)
@@ -234,13 +249,8 @@ module _ (o : Op) (ty : SqlType) (due : (a b : Value) → AreNeverTogether (a �
     abbrev OnPoints : Value → Value → Type 0
     OnPoints a b = (v : Value) → OnOperands plane_value_of plane_value_of (plane_pair a b) row v → IsAnswer o ty (a ∷ b ∷ []) v
 
-    point_right : (a : Value) → plane_pair a Null ≡ None
-    point_right Null = refl
-    point_right (Truth x) = refl
-    point_right _ = refl
-
     by_points : (t u : SqlType) → OnForms t (λ a. OnForms u (OnPoints a)) → (a b : Value) → IsValueOf t a → IsValueOf u b → OnPoints a b
-    by_points t u f a b h k = by_types t u OnPoints (λ b v g. first_missing b v g) (λ a v g. second_missing a v (subst (λ p. OnOperands plane_value_of plane_value_of p row v) (point_right a) g)) f a b h k
+    by_points t u f = by_pair plane_pair (λ p v. row (given_at plane_value_of p.0) (given_at plane_value_of p.1) v) (λ b. refl) point_right t u f
 
     pub point_pair_answers : (t u : SqlType) → are_points t u ≡ true → (a b : Value) → IsValueOf t a → IsValueOf u b → OnPoints a b
     point_pair_answers sql.TPoint sql.TPoint e = by_points sql.TPoint sql.TPoint (λ x y v g. row_answers row is _ _ _ _ (λ t h. h) (λ t h. h) v g)
@@ -252,13 +262,8 @@ module _ (o : Op) (ty : SqlType) (due : (a b : Value) → AreNeverTogether (a �
     abbrev OnInts : Value → Value → Type 0
     OnInts a b = (v : Value) → OnPair (number_pair a b) row v → IsAnswer o ty (a ∷ b ∷ []) v
 
-    int_right : (a : Value) → number_pair a Null ≡ None
-    int_right Null = refl
-    int_right (Truth x) = refl
-    int_right _ = refl
-
     by_ints : (t u : SqlType) → OnForms t (λ a. OnForms u (OnInts a)) → (a b : Value) → IsValueOf t a → IsValueOf u b → OnInts a b
-    by_ints t u f a b h k = by_types t u OnInts (λ b v g. first_missing b v g) (λ a v g. second_missing a v (subst (λ p. OnPair p row v) (int_right a) g)) f a b h k
+    by_ints t u f = by_pair number_pair (λ p v. row (given_at steady_value p.0) (given_at steady_value p.1) v) (λ b. refl) int_right t u f
 
     pub int_pair_answers : (t u : SqlType) → are_ints t u ≡ true → (a b : Value) → IsValueOf t a → IsValueOf u b → OnInts a b
     int_pair_answers sql.TInt sql.TInt e = by_ints sql.TInt sql.TInt (λ x i y j v g. row_answers row is _ _ _ _ (λ t h. h) (λ t h. h) v g)
@@ -269,13 +274,8 @@ module _ (o : Op) (ty : SqlType) (due : (a b : Value) → AreNeverTogether (a �
     abbrev OnLines : Value → Value → Type 0
     OnLines a b = (v : Value) → OnOperands line_value_of line_value_of (line_pair a b) row v → IsAnswer o ty (a ∷ b ∷ []) v
 
-    line_right : (a : Value) → line_pair a Null ≡ None
-    line_right Null = refl
-    line_right (Truth x) = refl
-    line_right _ = refl
-
     by_lines : (t u : SqlType) → OnForms t (λ a. OnForms u (OnLines a)) → (a b : Value) → IsValueOf t a → IsValueOf u b → OnLines a b
-    by_lines t u f a b h k = by_types t u OnLines (λ b v g. first_missing b v g) (λ a v g. second_missing a v (subst (λ p. OnOperands line_value_of line_value_of p row v) (line_right a) g)) f a b h k
+    by_lines t u f = by_pair line_pair (λ p v. row (given_at line_value_of p.0) (given_at line_value_of p.1) v) (λ b. refl) line_right t u f
 
     pub line_pair_answers : (t u : SqlType) → are_lines t u ≡ true → (a b : Value) → IsValueOf t a → IsValueOf u b → OnLines a b
     line_pair_answers sql.TFrac sql.TFrac e = by_lines sql.TFrac sql.TFrac (λ x y v g. row_answers row is _ _ _ _ (λ t h. h) (λ t h. h) v g)
