@@ -1,0 +1,5 @@
+use Rattle.mob_operands.proofs.Meanings.{rows_have_meanings, settled_is_the_value}
+use Rattle.mob_operands.proofs.laws.rows_have_meanings.Goals as goal
+
+pub returns : goal.returns
+returns c = record { rows = rows_have_meanings; settled = settled_is_the_value }
