@@ -1,35 +1,23 @@
-// What is not built yet: LEFT JOIN, DELETE and grouped queries, as tokens and as typed statements.
-ghost use Rattle.std.specs.Prelude.{◌≡◌, ◌≤◌, not, is_some, length, map, option_map};
+// What is not built yet: grouped queries, as tokens and as typed statements.
+ghost use Rattle.std.specs.Prelude.{◌≡◌, ◌≤◌, length, map};
 ghost use Rattle.std.specs.List.{list_all};
 ghost use Rattle.std.specs.Str.{bytes_eq};
 ghost use Rattle.mob_language.specs.Language.{in_lower_case};
 ghost use Rattle.mob_lexemes.specs.Lexemes.{placed_symbol, placed_symbols};
 ghost use Rattle.mob_operators.specs.Aggregates.{is_aggregate};
-ghost use Rattle.mob_typed.specs.Trees.{typed_of};
 ghost use Rattle.mob_typed.specs.Selects.{select_seen};
 ghost use Rattle.mob_typed.specs.Statements.{statement_seen, script_seen};
-ghost use Rattle.mob_accept.specs.Unbuilt.{is_built_select, is_built_statement, is_built, begins_unbuilt, is_unbuilt, first_unbuilt};
+ghost use Rattle.mob_accept.specs.Unbuilt.{is_built_select, is_built_statement, is_built, is_unbuilt, first_unbuilt};
 
 use mob_grammar::mark::Mark;
 use mob_lexemes::heavy::TokenStanding;
 use mob_lexemes::lexeme::{Lexeme, Symbol};
-use mob_typed::{TExpr, Typed, TypedSelect, TypedStatement};
-
-fn has_joins(joins: &[Option<TExpr>]) -> bool
-    ensures exact { result ≡ not (list_all (λ on. not (is_some on)) (map (option_map typed_of) joins.now)) }
-{
-    for on in joins {
-        if on.is_some() {
-            return true;
-        }
-    }
-    false
-}
+use mob_typed::{Typed, TypedSelect, TypedStatement};
 
 fn is_built_select(select: &TypedSelect) -> bool
     ensures exact { result ≡ is_built_select (select_seen select.now) }
 {
-    !has_joins(select.joins.as_slice()) && !select.grouped
+    !select.grouped
 }
 
 fn is_built_statement(statement: &TypedStatement) -> bool
@@ -41,8 +29,9 @@ fn is_built_statement(statement: &TypedStatement) -> bool
         TypedStatement::CreateIndex { .. } => true,
         TypedStatement::Insert { .. } => true,
         TypedStatement::Copy { .. } => true,
-        TypedStatement::Delete(_) => false,
-        TypedStatement::Select(select) | TypedStatement::Explain(select) => is_built_select(select),
+        TypedStatement::Delete(select)
+        | TypedStatement::Select(select)
+        | TypedStatement::Explain(select) => is_built_select(select),
     }
 }
 
@@ -57,18 +46,11 @@ fn are_built(statements: &[TypedStatement]) -> bool
     true
 }
 
-/// Whether a script has no left-joined table, DELETE, GROUP BY or aggregate.
+/// Whether a script has no GROUP BY and no aggregate.
 pub fn is_built(typed: &Typed) -> bool
     ensures exact { result ≡ is_built (script_seen typed.now) }
 {
     are_built(typed.statements.as_slice())
-}
-
-// Whether a mark begins what is not built.
-fn begins_unbuilt(mark: Mark) -> bool
-    ensures exact { result ≡ begins_unbuilt mark }
-{
-    matches!(mark, Mark::Left | Mark::Delete | Mark::Group)
 }
 
 // Whether a text is this word, in letters of either case.
@@ -106,7 +88,7 @@ fn is_unbuilt(standing: TokenStanding, lexeme: &Lexeme<'_>, after: &[Lexeme<'_>]
     ensures exact { result ≡ is_unbuilt standing (placed_symbol lexeme.now).symbol (placed_symbols after.now) }
 {
     match lexeme.symbol {
-        Symbol::Fixed(mark) => begins_unbuilt(mark),
+        Symbol::Fixed(mark) => matches!(mark, Mark::Group),
         Symbol::Name(text) => standing.counts(lexeme, after) && names_aggregate(text),
         Symbol::Number(_) | Symbol::Quoted(_) => false,
     }
