@@ -1,5 +1,5 @@
-//! Tests of what values over time are made of: steady courses, lists and texts, and numbers and points that change evenly, by themselves and
-//! as values that are asked.
+//! Tests of what values over time are made of: steady courses, lists and texts, lines by themselves, and calls on values over time that
+//! no script reaches.
 #![tactic(auto)]
 
 #[cfg(test)]

@@ -32,14 +32,16 @@ fn line(row: &Row) -> Option<(Span, Line)> {
     }
 }
 
-fn fraction(parts: Parts) -> Option<Frac> {
+/// The fraction with these parts, where the denominator is not 0 and both fit.
+pub fn fraction(parts: Parts) -> Option<Frac> {
     if parts.1 == 0 {
         return None;
     }
     Frac::new(parts.0, parts.1).ok()
 }
 
-fn parts_of(number: &Frac) -> Parts {
+/// The numerator and the denominator.
+pub fn parts_of(number: &Frac) -> Parts {
     (number.num(), number.den())
 }
 

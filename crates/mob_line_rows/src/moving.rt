@@ -1,290 +1,277 @@
-// Values over time, read from their texts, asked by the calls of the library, and printed again. The epoch is 2000-01-01, so that
-// the instant 2 is its second 2.
+// Calls on values over time that no script reaches: the slice at an instant, multiples, and the pieces of an iteration. The epoch is
+// 2000-01-01, so that the instant 2 is its second 2. What scripts say of these values stands in `checks/rows`.
 
+use crate::lines::{fraction, parts_of};
+use mob_arith::{times_const, times_step};
 use mob_ast::SqlType;
-use mob_compare::when_true;
 use mob_frac::Frac;
 use mob_literal::{read_value, write_field};
-use mob_normal::widen;
-use mob_restrict::{at_time, get_time, get_x, get_y, minus_time};
 use mob_scalar::Epoch;
-use mob_slice::{Line, LookFault, Moving, PlaneLine, Steady};
-use mob_span::SpanSet;
+use mob_slice::{Line, Moving, Steady};
+use mob_sync::{Common, Ones};
 use mob_value::Value;
 use std::alloc::Global;
+
+// A fraction by its parts.
+type Parts = (i64, i64);
+
+// The number with which the slice at an instant starts.
+fn start_at(number: &Moving<Line>, instant: Parts) -> Option<Parts> {
+    let Some(t) = fraction(instant) else {
+        return None;
+    };
+    match number.slice_at(&t) {
+        Some(slice) => Some(parts_of(&slice.course.from)),
+        None => None,
+    }
+}
+
+fn starts_with(alloc: Global, text: &str, instant: Parts, wanted: Option<Parts>) -> bool {
+    match &read_value(alloc, SqlType::TFrac, text, &Epoch::standard()) {
+        Ok(Value::MovingFrac(number)) => start_at(number, instant) == wanted,
+        _ => false,
+    }
+}
+
+static STARTS: [(&'static str, Parts, Option<Parts>); 5] = [
+    (
+        "[0@2000-01-01 00:00:00, 1@2000-01-01 00:00:03]",
+        (1, 1),
+        Some((0, 1)),
+    ),
+    // two lines with one slope are one, and it starts where the first does
+    (
+        "{[0@2000-01-01 00:00:00, 1@2000-01-01 00:00:01), [1@2000-01-01 00:00:01, 4@2000-01-01 00:00:04]}",
+        (2, 1),
+        Some((0, 1)),
+    ),
+    // at a jump
+    (
+        "{[0@2000-01-01 00:00:00, 1@2000-01-01 00:00:01), [5@2000-01-01 00:00:01, 6@2000-01-01 00:00:02]}",
+        (1, 1),
+        Some((5, 1)),
+    ),
+    // the end that a value leaves out
+    (
+        "[0@2000-01-01 00:00:00, 1@2000-01-01 00:00:01)",
+        (1, 1),
+        None,
+    ),
+    // a rise that does not fit
+    (
+        "[-4611686018427387903@2000-01-01 00:00:00, 1@2000-01-01 00:00:02]",
+        (1, 1),
+        Some((-4611686018427387903, 1)),
+    ),
+];
+
+#[test]
+fn slices_start(rt: HostRuntime) {
+    for (text, instant, wanted) in &STARTS {
+        assert!(rt; starts_with(rt.alloc(), text, *instant, *wanted));
+    }
+}
 
 fn is_printed(alloc: Global, value: &Value, wanted: &str) -> bool {
     let mut into = String::new(alloc);
     write_field(value, &Epoch::standard(), &mut into).is_ok() && into.as_str() == wanted
 }
 
-// Each row below has what is printed of the answer: NULL where nothing is left, and F1 where a part of that formula does not fit.
-
-fn is_at_time(alloc: Global, trip: &Moving<PlaneLine>, when: &SpanSet, wanted: &str) -> bool {
-    match at_time(alloc, trip, when) {
-        Ok(Some(left)) => is_printed(alloc, &Value::MovingPoint(left), wanted),
-        Ok(None) => wanted == "NULL",
-        Err(_) => wanted == "F1",
-    }
+fn are_steps(alloc: Global, steps: Moving<Steady<Frac>>, wanted: &str) -> bool {
+    is_printed(alloc, &Value::MovingInt(steps), wanted)
 }
 
-fn is_time(alloc: Global, trip: &Moving<PlaneLine>, wanted: &str) -> bool {
-    match get_time(alloc, trip) {
-        Ok(time) => is_printed(alloc, &Value::SpanSet(time), wanted),
+fn is_line(alloc: Global, line: Moving<Line>, wanted: &str) -> bool {
+    is_printed(alloc, &Value::MovingFrac(line), wanted)
+}
+
+fn are_times(alloc: Global, steps: &Moving<Steady<Frac>>, factor: &Frac, wanted: &str) -> bool {
+    match times_const(alloc, steps, factor) {
+        Ok(steps) => are_steps(alloc, steps, wanted),
         Err(_) => false,
     }
 }
 
-fn is_x(alloc: Global, trip: &Moving<PlaneLine>, wanted: &str) -> bool {
-    match get_x(alloc, trip) {
-        Ok(x) => is_printed(alloc, &Value::MovingFrac(x), wanted),
+fn is_times(alloc: Global, line: &Moving<Line>, factor: &Frac, wanted: &str) -> bool {
+    match times_const(alloc, line, factor) {
+        Ok(line) => is_line(alloc, line, wanted),
         Err(_) => false,
     }
 }
 
-fn is_y(alloc: Global, trip: &Moving<PlaneLine>, wanted: &str) -> bool {
-    match get_y(alloc, trip) {
-        Ok(y) => is_printed(alloc, &Value::MovingFrac(y), wanted),
-        Err(_) => false,
-    }
-}
-
-// A trip, a time, the trip at that time, when it is defined, and its coordinates.
-type Trip = (
-    &'static str,
-    &'static str,
-    &'static str,
-    &'static str,
-    &'static str,
-    &'static str,
-);
-
-static TRIPS: [Trip; 4] = [
-    (
-        "[POINT(0 9)@2000-01-01, POINT(1 9)@2000-01-02, POINT(3 9)@2000-01-04)",
-        "{[2000-01-02, 2000-01-03)}",
-        "[POINT(1 9)@2000-01-02 00:00:00+00, POINT(2 9)@2000-01-03 00:00:00+00)",
-        "{[2000-01-01 00:00:00+00, 2000-01-04 00:00:00+00)}",
-        "[0@2000-01-01 00:00:00+00, 3@2000-01-04 00:00:00+00)",
-        "[9@2000-01-01 00:00:00+00, 9@2000-01-04 00:00:00+00)",
-    ),
-    // at a jump the instant belongs to what begins there
-    (
-        "{[POINT(0 0)@2000-01-01, POINT(1 2)@2000-01-02), [POINT(1 0)@2000-01-02, POINT(2 0)@2000-01-03]}",
-        "{[2000-01-02, 2000-01-02], [2000-01-05, 2000-01-06]}",
-        "POINT(1 0)@2000-01-02 00:00:00+00",
-        "{[2000-01-01 00:00:00+00, 2000-01-03 00:00:00+00]}",
-        "[0@2000-01-01 00:00:00+00, 2@2000-01-03 00:00:00+00]",
-        "{[0@2000-01-01 00:00:00+00, 2@2000-01-02 00:00:00+00), [0@2000-01-02 00:00:00+00, 0@2000-01-03 00:00:00+00]}",
-    ),
-    (
-        "{POINT(1 2)@2000-01-01, POINT(3 4)@2000-01-02}",
-        "{(2000-01-01, 2000-01-02)}",
-        "NULL",
-        "{[2000-01-01 00:00:00+00, 2000-01-01 00:00:00+00], [2000-01-02 00:00:00+00, 2000-01-02 00:00:00+00]}",
-        "{1@2000-01-01 00:00:00+00, 3@2000-01-02 00:00:00+00}",
-        "{2@2000-01-01 00:00:00+00, 4@2000-01-02 00:00:00+00}",
-    ),
-    // the rise of the second coordinate does not fit
-    (
-        "[POINT(0 -4611686018427387903)@2000-01-01, POINT(0 1)@2000-01-03]",
-        "{[2000-01-02, 2000-01-03]}",
-        "F1",
-        "{[2000-01-01 00:00:00+00, 2000-01-03 00:00:00+00]}",
-        "[0@2000-01-01 00:00:00+00, 0@2000-01-03 00:00:00+00]",
-        "[-4611686018427387903@2000-01-01 00:00:00+00, 1@2000-01-03 00:00:00+00]",
-    ),
-];
-
-fn is_asked(alloc: Global, trip: &Moving<PlaneLine>, row: &Trip) -> bool {
-    is_time(alloc, trip, row.3) && is_x(alloc, trip, row.4) && is_y(alloc, trip, row.5)
-}
-
-fn is_restricted(alloc: Global, trip: &Moving<PlaneLine>, row: &Trip) -> bool {
-    match &read_value(alloc, SqlType::SpanSet, row.1, &Epoch::standard()) {
-        Ok(Value::SpanSet(when)) => is_at_time(alloc, trip, when, row.2),
+fn are_by_steps(
+    alloc: Global,
+    steps: &Moving<Steady<Frac>>,
+    factor: &Moving<Steady<Frac>>,
+    wanted: &str,
+) -> bool {
+    match times_step(alloc, steps, factor) {
+        Ok(Some(steps)) => are_steps(alloc, steps, wanted),
         _ => false,
     }
 }
 
-fn is_trip(alloc: Global, row: &Trip) -> bool {
-    match &read_value(alloc, SqlType::TPoint, row.0, &Epoch::standard()) {
-        Ok(Value::MovingPoint(trip)) => {
-            is_restricted(alloc, trip, row) && is_asked(alloc, trip, row)
+fn is_by_steps(
+    alloc: Global,
+    steps: &Moving<Steady<Frac>>,
+    line: &Moving<Line>,
+    wanted: &str,
+) -> bool {
+    match times_step(alloc, steps, line) {
+        Ok(Some(line)) => is_line(alloc, line, wanted),
+        Ok(None) => wanted == "NULL",
+        Err(_) => false,
+    }
+}
+
+fn is_product(alloc: Global, left: &Value, right: &Value, wanted: &str) -> bool {
+    match (left, right) {
+        (Value::MovingInt(steps), Value::Number(factor)) => are_times(alloc, steps, factor, wanted),
+        (Value::MovingFrac(line), Value::Number(factor)) => is_times(alloc, line, factor, wanted),
+        (Value::MovingInt(steps), Value::MovingInt(factor)) => {
+            are_by_steps(alloc, steps, factor, wanted)
+        }
+        (Value::MovingInt(steps), Value::MovingFrac(line)) => {
+            is_by_steps(alloc, steps, line, wanted)
         }
         _ => false,
     }
 }
 
-#[test]
-fn points_move_and_are_asked(rt: HostRuntime) {
-    for row in &TRIPS {
-        assert!(rt; is_trip(rt.alloc(), row));
-    }
-}
+// Two values by their types and texts, and their product.
+type Product = (SqlType, &'static str, SqlType, &'static str, &'static str);
 
-fn is_minus_time(alloc: Global, number: &Moving<Line>, when: &SpanSet, wanted: &str) -> bool {
-    match minus_time(alloc, number, when) {
-        Ok(Some(left)) => is_printed(alloc, &Value::MovingFrac(left), wanted),
-        Ok(None) => wanted == "NULL",
-        Err(_) => wanted == "F1",
-    }
-}
-
-fn is_value(alloc: Global, number: &Moving<Line>, t: &Frac, wanted: &str) -> bool {
-    match number.value_at(alloc, t) {
-        Ok(Some(value)) => is_printed(alloc, &Value::Number(value), wanted),
-        Ok(None) => wanted == "NULL",
-        Err(LookFault::Passed { formula: _ }) => wanted == "F1",
-        Err(LookFault::NoMemory) => false,
-    }
-}
-
-// Whether the slice at an instant starts with that number; NULL where there is none.
-fn starts_with(alloc: Global, number: &Moving<Line>, t: &Frac, wanted: &str) -> bool {
-    match number.slice_at(t) {
-        Some(slice) => is_printed(alloc, &Value::Number(slice.course.from), wanted),
-        None => wanted == "NULL",
-    }
-}
-
-// A number over time and a time; what is left at all other times; an instant, the value there and that with which its slice starts.
-type Level = (
-    &'static str,
-    &'static str,
-    &'static str,
-    i64,
-    &'static str,
-    &'static str,
-);
-
-static LEVELS: [Level; 5] = [
+static PRODUCTS: [Product; 10] = [
+    // steps, twice and squared
     (
-        "[0@2000-01-01 00:00:00, 1@2000-01-01 00:00:03]",
-        "{[2000-01-01 00:00:01, 2000-01-01 00:00:01]}",
-        "{[0@2000-01-01 00:00:00+00, 1/3@2000-01-01 00:00:01+00), (1/3@2000-01-01 00:00:01+00, 1@2000-01-01 00:00:03+00]}",
-        1,
-        "1/3",
-        "0",
-    ),
-    // two lines with one slope are one, and it starts where the first does
-    (
-        "{[0@2000-01-01 00:00:00, 1@2000-01-01 00:00:01), [1@2000-01-01 00:00:01, 4@2000-01-01 00:00:04]}",
-        "{[2000-01-01 00:00:03, 2000-01-01 00:00:09]}",
-        "[0@2000-01-01 00:00:00+00, 3@2000-01-01 00:00:03+00)",
-        2,
+        SqlType::TInt,
+        "[3@2001-01-01, 3@2001-01-02]",
+        SqlType::Numeric,
         "2",
-        "0",
+        "[6@2001-01-01 00:00:00+00, 6@2001-01-02 00:00:00+00]",
     ),
-    // at a jump
     (
-        "{[0@2000-01-01 00:00:00, 1@2000-01-01 00:00:01), [5@2000-01-01 00:00:01, 6@2000-01-01 00:00:02]}",
-        "{[2000-01-01 00:00:01, 2000-01-01 00:00:02)}",
-        "{[0@2000-01-01 00:00:00+00, 1@2000-01-01 00:00:01+00), [6@2000-01-01 00:00:02+00]}",
-        1,
-        "5",
-        "5",
+        SqlType::TInt,
+        "{[1@2001-01-01, 2@2001-01-02], [0@2001-01-04, 0@2001-01-05)}",
+        SqlType::Numeric,
+        "2",
+        "{[2@2001-01-01 00:00:00+00, 4@2001-01-02 00:00:00+00], [0@2001-01-04 00:00:00+00, 0@2001-01-05 00:00:00+00)}",
     ),
-    // the end that a value leaves out
     (
-        "[0@2000-01-01 00:00:00, 1@2000-01-01 00:00:01)",
-        "{[2000-01-01, 2000-01-02]}",
-        "NULL",
-        1,
-        "NULL",
+        SqlType::TInt,
+        "[3@2001-01-01, 3@2001-01-02]",
+        SqlType::TInt,
+        "[3@2001-01-01, 3@2001-01-02]",
+        "[9@2001-01-01 00:00:00+00, 9@2001-01-02 00:00:00+00]",
+    ),
+    (
+        SqlType::TInt,
+        "{[1@2001-01-01, 2@2001-01-02], [0@2001-01-04, 0@2001-01-05)}",
+        SqlType::TInt,
+        "{[1@2001-01-01, 2@2001-01-02], [0@2001-01-04, 0@2001-01-05)}",
+        "{[1@2001-01-01 00:00:00+00, 4@2001-01-02 00:00:00+00], [0@2001-01-04 00:00:00+00, 0@2001-01-05 00:00:00+00)}",
+    ),
+    // a line between the steps
+    (
+        SqlType::TInt,
+        "[1@2000-01-01 00:00:00+00, -1@2000-01-01 00:00:02+00, -1@2000-01-01 00:00:04+00]",
+        SqlType::TFrac,
+        "[0@2000-01-01 00:00:00+00, 4@2000-01-01 00:00:04+00]",
+        "{[0@2000-01-01 00:00:00+00, 2@2000-01-01 00:00:02+00), [-2@2000-01-01 00:00:02+00, -4@2000-01-01 00:00:04+00]}",
+    ),
+    (
+        SqlType::TInt,
+        "{1@2000-01-01 00:00:00+00, 2@2000-01-01 00:00:02+00}",
+        SqlType::TFrac,
+        "[0@2000-01-01 00:00:00+00, 4@2000-01-01 00:00:04+00]",
+        "{0@2000-01-01 00:00:00+00, 4@2000-01-01 00:00:02+00}",
+    ),
+    (
+        SqlType::TInt,
+        "[1@2000-01-01 00:00:00+00, 1@2000-01-01 00:00:01+00]",
+        SqlType::TFrac,
+        "[0@2000-01-01 00:00:02+00, 1@2000-01-01 00:00:03+00]",
         "NULL",
     ),
-    // a rise that does not fit
+    // a line by one number, also the least positive one
     (
-        "[-4611686018427387903@2000-01-01 00:00:00, 1@2000-01-01 00:00:02]",
-        "{[2000-01-01 00:00:01, 2000-01-01 00:00:01]}",
-        "F1",
-        1,
-        "F1",
-        "-4611686018427387903",
+        SqlType::TFrac,
+        "[0@2000-01-01 00:00:00+00, 2@2000-01-01 00:00:02+00]",
+        SqlType::Numeric,
+        "-3",
+        "[0@2000-01-01 00:00:00+00, -6@2000-01-01 00:00:02+00]",
+    ),
+    (
+        SqlType::TFrac,
+        "[1@2000-01-01 00:00:00+00, 2@2000-01-01 00:00:02+00)",
+        SqlType::Numeric,
+        "1/2",
+        "[1/2@2000-01-01 00:00:00+00, 1@2000-01-01 00:00:02+00)",
+    ),
+    (
+        SqlType::TFrac,
+        "[1/4611686018427387903@2000-01-01 00:00:00+00, 0@2000-01-01 00:00:03+00]",
+        SqlType::Numeric,
+        "2",
+        "[2/4611686018427387903@2000-01-01 00:00:00+00, 0@2000-01-01 00:00:03+00]",
     ),
 ];
 
-fn is_looked_up(alloc: Global, number: &Moving<Line>, row: &Level) -> bool {
-    match Frac::new(row.3, 1) {
-        Ok(t) => is_value(alloc, number, &t, row.4) && starts_with(alloc, number, &t, row.5),
-        Err(_) => false,
-    }
-}
-
-fn is_left(alloc: Global, number: &Moving<Line>, row: &Level) -> bool {
-    match &read_value(alloc, SqlType::SpanSet, row.1, &Epoch::standard()) {
-        Ok(Value::SpanSet(when)) => is_minus_time(alloc, number, when, row.2),
+fn is_multiplied(alloc: Global, row: &Product) -> bool {
+    let epoch = Epoch::standard();
+    match (
+        &read_value(alloc, row.0, row.1, &epoch),
+        &read_value(alloc, row.2, row.3, &epoch),
+    ) {
+        (Ok(left), Ok(right)) => is_product(alloc, left, right, row.4),
         _ => false,
     }
 }
 
-fn is_level(alloc: Global, row: &Level) -> bool {
-    match &read_value(alloc, SqlType::TFrac, row.0, &Epoch::standard()) {
-        Ok(Value::MovingFrac(number)) => {
-            is_left(alloc, number, row) && is_looked_up(alloc, number, row)
+#[test]
+fn values_are_multiplied(rt: HostRuntime) {
+    for row in &PRODUCTS {
+        assert!(rt; is_multiplied(rt.alloc(), row));
+    }
+}
+
+fn common_pieces(a: &Moving<Steady<Frac>>, b: &Moving<Steady<Frac>>) -> u32 {
+    let mut count: u32 = 0;
+    for _pair in Common::new(a, b) {
+        count = count.saturating_add(1);
+    }
+    count
+}
+
+fn own_pieces(number: &Moving<Steady<Frac>>) -> u32 {
+    let mut count: u32 = 0;
+    for _piece in Ones::new(number) {
+        count = count.saturating_add(1);
+    }
+    count
+}
+
+// Whether a tint has so many pieces, by itself and beside itself.
+fn has_pieces(alloc: Global, text: &str, wanted: u32) -> bool {
+    match &read_value(alloc, SqlType::TInt, text, &Epoch::standard()) {
+        Ok(Value::MovingInt(number)) => {
+            common_pieces(number, number) == wanted && own_pieces(number) == wanted
         }
         _ => false,
     }
 }
 
-#[test]
-fn numbers_change_evenly(rt: HostRuntime) {
-    for row in &LEVELS {
-        assert!(rt; is_level(rt.alloc(), row));
-    }
-}
-
-// When a truth value is true that has this text.
-fn is_true_at(alloc: Global, truths: &Moving<Steady<bool>>, wanted: &str) -> bool {
-    match when_true(alloc, truths) {
-        Ok(Some(time)) => is_printed(alloc, &Value::SpanSet(time), wanted),
-        Ok(None) => wanted == "NULL",
-        Err(_) => false,
-    }
-}
-
-fn are_times(alloc: Global, text: &str, wanted: &str) -> bool {
-    match &read_value(alloc, SqlType::TBool, text, &Epoch::standard()) {
-        Ok(Value::MovingBool(truths)) => is_true_at(alloc, truths, wanted),
-        _ => false,
-    }
-}
-
-fn is_widened(alloc: Global, number: &Moving<Steady<Frac>>, wanted: &str) -> bool {
-    match widen(alloc, number) {
-        Ok(line) => is_printed(alloc, &Value::MovingFrac(line), wanted),
-        Err(_) => false,
-    }
-}
-
-fn goes_by_steps(alloc: Global, text: &str, wanted: &str) -> bool {
-    match &read_value(alloc, SqlType::TInt, text, &Epoch::standard()) {
-        Ok(Value::MovingInt(number)) => is_widened(alloc, number, wanted),
-        _ => false,
-    }
-}
-
-// The text of a truth value, and when it is true; that of a whole number, and the same number as a line.
-static STEPS: [(&str, &str, &str, &str); 2] = [
+static PIECES: [(&'static str, u32); 2] = [
+    ("[3@2001-01-01, 3@2001-01-02]", 1),
     (
-        "[f@2000-01-01, t@2000-01-02, f@2000-01-03]",
-        "{[2000-01-02 00:00:00+00, 2000-01-03 00:00:00+00)}",
-        "[1@2000-01-01, 2@2000-01-02]",
-        "{[1@2000-01-01 00:00:00+00, 1@2000-01-02 00:00:00+00), [2@2000-01-02 00:00:00+00]}",
-    ),
-    (
-        "[f@2000-01-01, f@2000-01-02]",
-        "NULL",
-        "(1@2000-01-01, 1@2000-01-02]",
-        "(1@2000-01-01 00:00:00+00, 1@2000-01-02 00:00:00+00]",
+        "{[1@2001-01-01, 2@2001-01-02], [0@2001-01-04, 0@2001-01-05)}",
+        3,
     ),
 ];
 
 #[test]
-fn steps_are_true_and_level(rt: HostRuntime) {
-    for (truths, times, numbers, lines) in &STEPS {
-        assert!(rt; are_times(rt.alloc(), truths, times));
-        assert!(rt; goes_by_steps(rt.alloc(), numbers, lines));
+fn values_have_pieces(rt: HostRuntime) {
+    for (text, wanted) in &PIECES {
+        assert!(rt; has_pieces(rt.alloc(), text, *wanted));
     }
 }

@@ -1,11 +1,9 @@
-//! Tests of values, as tables: fractions, texts, constants and multiples.
+//! Tests of values, as tables: fractions, texts and constants.
 #![tactic(auto)]
 
 #[cfg(test)]
 mod constants;
 #[cfg(test)]
 mod fractions;
-#[cfg(test)]
-mod multiples;
 #[cfg(test)]
 mod texts;
