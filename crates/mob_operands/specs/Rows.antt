@@ -153,3 +153,15 @@ RowsHaveMeanings = AllByRecursion LineHasMeaning table
 -- an operand that settles AND or OR alone is the value
 abbrev pub SettledIsTheValue : Type 0
 SettledIsTheValue = (s : Scene) (o : Op) (ty : SqlType) (ts : List SqlType) (a v : Value) → stops (stop_of o) a ≡ true → OperatorGives s o ty ts (a ∷ []) v → v ≡ a
+
+-- whether an operator may give a value that is not NULL where an operand is NULL: AND, OR, IS NULL and IS NOT NULL
+abbrev pub knows_null : Op → Bool
+knows_null op.And = true
+knows_null op.Or = true
+knows_null op.IsNull = true
+knows_null op.IsNotNull = true
+knows_null _ = false
+
+-- any other operator gives NULL there, whatever the types
+abbrev pub NullGivesNull : Type 0
+NullGivesNull = (s : Scene) (o : Op) (ty : SqlType) (ts : List SqlType) (vs : List Value) (v : Value) → knows_null o ≡ false → HaveNull vs → OperatorGives s o ty ts vs v → v ≡ Null
