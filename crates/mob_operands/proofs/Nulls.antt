@@ -266,6 +266,7 @@ null_gives_null s o ty ts (a ∷ b ∷ []) v n h g = by (is_first a (b ∷ []) h
     second : (b ≡ Null) ⊎ HaveNull [] → v ≡ Null
     second (inl e) = second_of_two o ty ts a v n (subst (λ b. GivesOfTwo o ty ts a b v) e g)
     second (inr k) = absurd (true≢false (sym k))
+
     by : (a ≡ Null) ⊎ HaveNull (b ∷ []) → v ≡ Null
     by (inl e) = first_of_two o ty ts b v n (subst (λ a. GivesOfTwo o ty ts a b v) e g)
     by (inr k) = second (is_first b [] k)
@@ -274,9 +275,11 @@ null_gives_null s o ty ts (a ∷ b ∷ c ∷ []) v n h g = by (is_first a (b ∷
     third : (c ≡ Null) ⊎ HaveNull [] → v ≡ Null
     third (inl e) = third_of_three o a b v (subst (λ c. GivesOfThree o a b c v) e g)
     third (inr k) = absurd (true≢false (sym k))
+
     second : (b ≡ Null) ⊎ HaveNull (c ∷ []) → v ≡ Null
     second (inl e) = second_of_three o a c v (subst (λ b. GivesOfThree o a b c v) e g)
     second (inr k) = third (is_first c [] k)
+
     by : (a ≡ Null) ⊎ HaveNull (b ∷ c ∷ []) → v ≡ Null
     by (inl e) = first_of_three o b c v (subst (λ a. GivesOfThree o a b c v) e g)
     by (inr k) = second (is_first b (c ∷ []) k)
