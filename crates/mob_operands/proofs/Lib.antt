@@ -1,3 +1,4 @@
+pub mod Casts
 pub mod Causes
 pub mod Distances
 pub mod Forms

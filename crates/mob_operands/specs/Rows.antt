@@ -16,6 +16,7 @@ use Rattle.mob_operators.specs.declared.operator.Op.{Op}
 use Rattle.mob_operators.specs.declared.operator.Op.TheVariants as op
 use Rattle.mob_operators.specs.Lookup.{Line, takes, given}
 use Rattle.mob_operators.specs.Table.{table}
+use Rattle.mob_expression.specs.Expressions.{can_cast}
 use Rattle.mob_value.specs.ValueBoxes.{HasBox}
 use Rattle.mob_value.specs.declared.value.Value.{Value}
 use Rattle.mob_value.specs.declared.value.Value.TheVariants.{Null, Bool as Truth, Number, Text, Moment, Point, Polygon, Span, SpanSet, Box, MovingBool, MovingInt, MovingFrac, MovingText, MovingPoint}
@@ -149,6 +150,10 @@ LineHasMeaning l = (ts : List SqlType) (literal : Bool) (ty : SqlType) → takes
 -- and of each line of the table
 abbrev pub RowsHaveMeanings : Type 0
 RowsHaveMeanings = AllByRecursion LineHasMeaning table
+
+-- so does a cast that typing lets through
+abbrev pub CastsHaveMeanings : Type 0
+CastsHaveMeanings = (from to : SqlType) → can_cast from to ≡ true → HasMeaning op.Cast to (from ∷ [])
 
 -- an operand that settles AND or OR alone is the value
 abbrev pub SettledIsTheValue : Type 0
