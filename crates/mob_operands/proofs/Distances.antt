@@ -63,7 +63,7 @@ are_widened _ _ = false
 abbrev Expands : Value → Value → Type 0
 Expands a b = (v : Value) → IsExpansion a b v → IsAnswer op.ExpandSpace sql.Box (a ∷ b ∷ []) v
 
-expansion_right : (a v : Value) → IsExpansion a Null v → v ≡ Null
+pub expansion_right : (a v : Value) → IsExpansion a Null v → v ≡ Null
 expansion_right (Box b) v g = g
 expansion_right (MovingPoint m) v g = g.2
 expansion_right _ v g = g

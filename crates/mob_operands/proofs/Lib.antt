@@ -1,7 +1,9 @@
+pub mod Casts
 pub mod Causes
 pub mod Distances
 pub mod Forms
 pub mod Meanings
+pub mod Nulls
 pub mod Numbers
 pub mod Plain
 pub mod Restricted

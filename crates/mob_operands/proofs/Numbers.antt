@@ -63,6 +63,11 @@ never_both f None y h k n = true≢false (sym h)
 never_both f (Some x) None h k n = true≢false (sym k)
 never_both f (Some x) (Some y) h k n = absurd (cc n)
 
+pub product_right : (a : Value) → product_pair a Null ≡ None
+product_right Null = refl
+product_right (Truth x) = refl
+product_right _ = refl
+
 module _ (o : Op) (due : (ty : SqlType) (vs : List Value) → NullByType ty vs → NullIsDue o ty vs) (by : Calculation) where
   abbrev Calculated : SqlType → Value → Value → Type 0
   Calculated ty a b = (v : Value) → IsArithmetic by ty a b v → IsAnswer o ty (a ∷ b ∷ []) v
@@ -98,11 +103,6 @@ module _ (o : Op) (due : (ty : SqlType) (vs : List Value) → NullByType ty vs �
     own = (frac_row (result_by Product)).own f g v e;
     null = λ n. due sql.TFrac (a ∷ b ∷ []) (λ t h. let c = there t h.0 h.1.0 in (frac_row (result_by Product)).null f g v e n (common f g t c.0 c.1));
   }
-
-  product_right : (a : Value) → product_pair a Null ≡ None
-  product_right Null = refl
-  product_right (Truth x) = refl
-  product_right _ = refl
 
   by_factors : (t u : SqlType) → OnForms t (λ a. OnForms u (Multiplied a)) → (a b : Value) → IsValueOf t a → IsValueOf u b → Multiplied a b
   by_factors t u f a b h k = by_pair o sql.TFrac (λ a b n. due sql.TFrac (a ∷ b ∷ []) n) product_pair (λ p v. IsMovingFrac (result_by Product) (given_at line_value_of p.0) (given_at steady_value p.1) v) (λ b. refl) product_right t u f a b h k
@@ -145,7 +145,7 @@ is_divided _ _ _ = false
 abbrev Divided : SqlType → Value → Value → Type 0
 Divided ty a b = DividesByOther op.Divide (a ∷ b ∷ []) → (v : Value) → IsDivided ty a b v → IsAnswer op.Divide ty (a ∷ b ∷ []) v
 
-quotient_right : (a : Value) → quotient a Null ≡ Null
+pub quotient_right : (a : Value) → quotient a Null ≡ Null
 quotient_right Null = refl
 quotient_right (Truth x) = refl
 quotient_right _ = refl
@@ -158,16 +158,16 @@ by_plain t u f a b h k = by_types t u (Divided sql.Numeric)
 plain_divided : (x y : Ratio) → Divided sql.Numeric (Number x) (Number y)
 plain_divided x y d v g = numeric_made op.Divide (Number x) (Number y) (x /ℚ y) v (g ∙ ap (λ c. cond c Null (Number (x /ℚ y))) d)
 
-line_right : (a v : Value) → IsLineQuotient (as_line a) Null v → v ≡ Null
-line_right Null v g = g
-line_right (MovingInt m) v g = g
-line_right (MovingFrac m) v g = g
-line_right _ v g = g
+pub dividend_right : (a v : Value) → IsLineQuotient (as_line a) Null v → v ≡ Null
+dividend_right Null v g = g
+dividend_right (MovingInt m) v g = g
+dividend_right (MovingFrac m) v g = g
+dividend_right _ v g = g
 
 by_line : (t u : SqlType) → OnForms t (λ a. OnForms u (Divided sql.TFrac a)) → (a b : Value) → IsValueOf t a → IsValueOf u b → Divided sql.TFrac a b
 by_line t u f a b h k = by_types t u (Divided sql.TFrac)
     (λ b d v g. null_answer op.Divide sql.TFrac (Null ∷ b ∷ []) v (λ t h. true≢false (sym h.0)) g)
-    (λ a d v g. null_answer op.Divide sql.TFrac (a ∷ Null ∷ []) v (λ t h. true≢false (sym h.1.0)) (line_right a v g)) f a b h k
+    (λ a d v g. null_answer op.Divide sql.TFrac (a ∷ Null ∷ []) v (λ t h. true≢false (sym h.1.0)) (dividend_right a v g)) f a b h k
 
 line_divided : (a : Value) (m : List (Slice Line)) (y : Ratio) (v : Value) → DividesByOther op.Divide (a ∷ Number y ∷ []) → IsQuotientOf (is_nil y) m y v → IsAnswer op.Divide sql.TFrac (a ∷ Number y ∷ []) v
 line_divided a m y v d g =

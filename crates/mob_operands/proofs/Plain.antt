@@ -65,7 +65,7 @@ module _ (c : Cmp) (wanted : Bool) where
   no_first : (b : Value) → Equal Null b
   no_first b v g = null_answer (op.Test c) sql.Bool (Null ∷ b ∷ []) v (first_null b) g
 
-  beside_null : (a v : Value) → IsEquality wanted a Null v → v ≡ Null
+  pub beside_null : (a v : Value) → IsEquality wanted a Null v → v ≡ Null
   beside_null Null v g = g
   beside_null (Truth x) v g = g
   beside_null _ v g = g
@@ -117,7 +117,7 @@ truth_made : (o : Op) (a b : Value) (x : Bool) (v : Value) → v ≡ Truth x →
 truth_made o a b x v e = truth_answer o (a ∷ b ∷ []) v x e
 
 module _ (c : Cmp) (r : Rel) where
-  order_right : (a : Value) → ordered r a Null ≡ Null
+  pub order_right : (a : Value) → ordered r a Null ≡ Null
   order_right Null = refl
   order_right (Truth x) = refl
   order_right _ = refl
@@ -150,7 +150,7 @@ test_answers cmp.Ge t u e a b h k v g = order_answers cmp.Ge (rel_of cmp.Ge) t u
 
 -- ---- plain numbers
 
-number_right : (f : Ratio → Ratio → Ratio) (a : Value) → on_numbers f a Null ≡ Null
+pub number_right : (f : Ratio → Ratio → Ratio) (a : Value) → on_numbers f a Null ≡ Null
 number_right f Null = refl
 number_right f (Truth x) = refl
 number_right f _ = refl
@@ -192,7 +192,7 @@ module _ (o : Op) (by : Calculation) (due : (ty : SqlType) → is_plain_number t
 
 -- ---- a text behind a text
 
-join_right : (a : Value) → concatenation a Null ≡ Null
+pub join_right : (a : Value) → concatenation a Null ≡ Null
 join_right Null = refl
 join_right (Truth x) = refl
 join_right _ = refl

@@ -59,6 +59,25 @@ same_left {B} want test (Some y) x e = by (is_wanted want (test y)) e
     by true e = e
     by false e = absurd (cc e)
 
+-- ---- beside NULL
+
+pub value_right : (want : Bool) (a v : Value) → IsValueRestriction want a Null v → v ≡ Null
+value_right want Null v g = g
+value_right want (Truth x) v g = g
+value_right want _ v g = g
+
+pub box_right : (want : Bool) (a v : Value) → IsBoxRestriction want a Null v → v ≡ Null
+box_right want (MovingPoint m) v g = g
+box_right want _ v g = g
+
+pub polygon_right : (want : Bool) (a v : Value) → IsPolygonRestriction want a Null v → v ≡ Null
+polygon_right want (MovingPoint m) v g = g
+polygon_right want _ v g = g
+
+pub look_left : (b : Value) → look_up Null b ≡ Null
+look_left (Moment t) = refl
+look_left _ = refl
+
 -- ---- what is left of each temporal type
 
 module _ (o : Op) (want : Bool) where
@@ -151,15 +170,10 @@ module _ (o : Op) (want : Bool) (due : (ty : SqlType) (vs : List Value) → Have
   abbrev Valued : SqlType → Value → Value → Type 0
   Valued ty a b = (v : Value) → IsValueRestriction want a b v → IsAnswer o ty (a ∷ b ∷ []) v
 
-  value_right : (a v : Value) → IsValueRestriction want a Null v → v ≡ Null
-  value_right Null v g = g
-  value_right (Truth x) v g = g
-  value_right _ v g = g
-
   by_values : (t u : SqlType) → OnForms t (λ a. OnForms u (Valued t a)) → (a b : Value) → IsValueOf t a → IsValueOf u b → Valued t a b
   by_values t u f a b h k = by_types t u (Valued t)
       (λ b v g. null_answer o t (Null ∷ b ∷ []) v (due t (Null ∷ b ∷ []) (inl (first_null b))) g)
-      (λ a v g. null_answer o t (a ∷ Null ∷ []) v (due t (a ∷ Null ∷ []) (inl (second_null a))) (value_right a v g)) f a b h k
+      (λ a v g. null_answer o t (a ∷ Null ∷ []) v (due t (a ∷ Null ∷ []) (inl (second_null a))) (value_right want a v g)) f a b h k
 
   pub value_restricted : (ty t u : SqlType) → are_valued ty t u ≡ true → (a b : Value) → IsValueOf t a → IsValueOf u b → Valued ty a b
   value_restricted sql.TBool sql.TBool sql.Bool e = by_values sql.TBool sql.Bool (λ m x v g. left_bools o want (λ t y. truth_test Eq y x) m _ (λ e. due sql.TBool _ (inr (λ t h. none_left want (λ y. truth_test Eq y x) (step_function m t) (e t) h))) v g)
@@ -182,20 +196,12 @@ module _ (o : Op) (want : Bool) (due : (vs : List Value) → HaveNull vs ⊎ Not
   null_second : (a v : Value) → v ≡ Null → IsAnswer o sql.TPoint (a ∷ Null ∷ []) v
   null_second a v e = null_answer o sql.TPoint (a ∷ Null ∷ []) v (due (a ∷ Null ∷ []) (inl (second_null a))) e
 
-  box_right : (a v : Value) → IsBoxRestriction want a Null v → v ≡ Null
-  box_right (MovingPoint m) v g = g
-  box_right _ v g = g
-
-  polygon_right : (a v : Value) → IsPolygonRestriction want a Null v → v ≡ Null
-  polygon_right (MovingPoint m) v g = g
-  polygon_right _ v g = g
-
   pub box_restricted : (a b : Value) → IsValueOf sql.TPoint a → IsValueOf sql.Box b → Clipped (IsBoxRestriction want) a b
-  box_restricted a b h k = by_types sql.TPoint sql.Box (Clipped (IsBoxRestriction want)) (λ b v g. null_first b v g) (λ a v g. null_second a v (box_right a v g))
+  box_restricted a b h k = by_types sql.TPoint sql.Box (Clipped (IsBoxRestriction want)) (λ b v g. null_first b v g) (λ a v g. null_second a v (box_right want a v g))
       (λ m x v g. left_points o want (λ t p. in_box x t p) m _ (λ e. due _ (inr (λ t h. none_left want (λ p. in_box x t p) (plane_function m t) (e t) h))) v g) a b h k
 
   pub polygon_restricted : (a b : Value) → IsValueOf sql.TPoint a → IsValueOf sql.Polygon b → Clipped (IsPolygonRestriction want) a b
-  polygon_restricted a b h k = by_types sql.TPoint sql.Polygon (Clipped (IsPolygonRestriction want)) (λ b v g. null_first b v g) (λ a v g. null_second a v (polygon_right a v g))
+  polygon_restricted a b h k = by_types sql.TPoint sql.Polygon (Clipped (IsPolygonRestriction want)) (λ b v g. null_first b v g) (λ a v g. null_second a v (polygon_right want a v g))
       (λ m x v g. left_points o want (λ t p. inside x p) m _ (λ e. due _ (inr (λ t h. none_left want (λ p. inside x p) (plane_function m t) (e t) h))) v g) a b h k
 
 -- ---- the value at a moment
@@ -220,10 +226,6 @@ by_moment : (ty t : SqlType) → OnForms t (λ a. (x : Ratio) → Looked ty a (M
 by_moment ty t f a b h k = by_types t sql.Moment (Looked ty)
     (λ b v g. null_answer op.ValueAtTimestamp ty (Null ∷ b ∷ []) v (inl (first_null b)) (g ∙ look_left b))
     (λ a v g. null_answer op.ValueAtTimestamp ty (a ∷ Null ∷ []) v (inl (second_null a)) g) f a b h k
-  where
-    look_left : (b : Value) → look_up Null b ≡ Null
-    look_left (Moment t) = refl
-    look_left _ = refl
 
 pub look_answers : (ty t u : SqlType) → are_looked_up ty t u ≡ true → (a b : Value) → IsValueOf t a → IsValueOf u b → Looked ty a b
 look_answers sql.Bool sql.TBool sql.Moment e = by_moment sql.Bool sql.TBool (λ m x v g. there_answer Truth sql.Bool (MovingBool m) x (step_function m x) (λ y e. record { form = refl; whole = tt }) (λ y n. absurd (cc n)) refl v g)

@@ -65,7 +65,7 @@ is_boxed _ = false
 abbrev Overlaps : Value → Value → Type 0
 Overlaps a b = (v : Value) → IsOverlap a b v → IsAnswer op.Overlap sql.Bool (a ∷ b ∷ []) v
 
-overlap_right : (a v : Value) → IsOverlap a Null v → v ≡ Null
+pub overlap_right : (a v : Value) → IsOverlap a Null v → v ≡ Null
 overlap_right (Box b) v g = g
 overlap_right (MovingPoint m) v g = g.2
 overlap_right _ v g = g
@@ -92,7 +92,7 @@ overlap_answers _ _ e = absurd (true≢false (sym e))
 abbrev Intersects : Value → Value → Type 0
 Intersects a b = (v : Value) → IsIntersecting a b v → IsAnswer op.EIntersects sql.Bool (a ∷ b ∷ []) v
 
-intersecting_right : (a v : Value) → IsIntersecting a Null v → v ≡ Null
+pub intersecting_right : (a v : Value) → IsIntersecting a Null v → v ≡ Null
 intersecting_right (MovingPoint m) v g = g
 intersecting_right _ v g = g
 

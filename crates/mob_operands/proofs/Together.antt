@@ -169,17 +169,17 @@ are_lines sql.Numeric sql.TInt = true
 are_lines _ _ = false
 
 -- beside NULL there is no pair
-truth_right : (a : Value) → truth_pair a Null ≡ None
+pub truth_right : (a : Value) → truth_pair a Null ≡ None
 truth_right Null = refl
 truth_right (Truth x) = refl
 truth_right _ = refl
 
-text_right : (a : Value) → text_pair a Null ≡ None
+pub text_right : (a : Value) → text_pair a Null ≡ None
 text_right Null = refl
 text_right (Truth x) = refl
 text_right _ = refl
 
-point_right : (a : Value) → plane_pair a Null ≡ None
+pub point_right : (a : Value) → plane_pair a Null ≡ None
 point_right Null = refl
 point_right (Truth x) = refl
 point_right _ = refl
@@ -189,7 +189,7 @@ int_right Null = refl
 int_right (Truth x) = refl
 int_right _ = refl
 
-line_right : (a : Value) → line_pair a Null ≡ None
+pub line_right : (a : Value) → line_pair a Null ≡ None
 line_right Null = refl
 line_right (Truth x) = refl
 line_right _ = refl

@@ -16,6 +16,7 @@ use Rattle.mob_operators.specs.declared.operator.Op.{Op}
 use Rattle.mob_operators.specs.declared.operator.Op.TheVariants as op
 use Rattle.mob_operators.specs.Lookup.{Line, takes, given}
 use Rattle.mob_operators.specs.Table.{table}
+use Rattle.mob_expression.specs.Expressions.{can_cast}
 use Rattle.mob_value.specs.ValueBoxes.{HasBox}
 use Rattle.mob_value.specs.declared.value.Value.{Value}
 use Rattle.mob_value.specs.declared.value.Value.TheVariants.{Null, Bool as Truth, Number, Text, Moment, Point, Polygon, Span, SpanSet, Box, MovingBool, MovingInt, MovingFrac, MovingText, MovingPoint}
@@ -150,6 +151,22 @@ LineHasMeaning l = (ts : List SqlType) (literal : Bool) (ty : SqlType) → takes
 abbrev pub RowsHaveMeanings : Type 0
 RowsHaveMeanings = AllByRecursion LineHasMeaning table
 
+-- so does a cast that typing lets through
+abbrev pub CastsHaveMeanings : Type 0
+CastsHaveMeanings = (from to : SqlType) → can_cast from to ≡ true → HasMeaning op.Cast to (from ∷ [])
+
 -- an operand that settles AND or OR alone is the value
 abbrev pub SettledIsTheValue : Type 0
 SettledIsTheValue = (s : Scene) (o : Op) (ty : SqlType) (ts : List SqlType) (a v : Value) → stops (stop_of o) a ≡ true → OperatorGives s o ty ts (a ∷ []) v → v ≡ a
+
+-- whether an operator may give a value that is not NULL where an operand is NULL: AND, OR, IS NULL and IS NOT NULL
+abbrev pub knows_null : Op → Bool
+knows_null op.And = true
+knows_null op.Or = true
+knows_null op.IsNull = true
+knows_null op.IsNotNull = true
+knows_null _ = false
+
+-- any other operator gives NULL there, whatever the types
+abbrev pub NullGivesNull : Type 0
+NullGivesNull = (s : Scene) (o : Op) (ty : SqlType) (ts : List SqlType) (vs : List Value) (v : Value) → knows_null o ≡ false → HaveNull vs → OperatorGives s o ty ts vs v → v ≡ Null
