@@ -9,5 +9,4 @@ mod rows;
 mod settings;
 mod top;
 
-pub use settings::{NearSettings, Target};
 pub use top::{run_near, tell_near};
