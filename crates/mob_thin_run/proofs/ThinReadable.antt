@@ -1,5 +1,5 @@
 -- What a row with each trip simplified prints is read again where the row is one whose text is.
-use Rattle.std.specs.Prelude.{◌≡◌, ◌≤◌, ◌+◌, ◌∷◌, ◌⊎◌, [], ℕ, ℤ, Bool, true, false, cond, List, length, Contains, refl}
+use Rattle.std.specs.Prelude.{◌≡◌, ◌+◌, ◌∷◌, [], ℕ, ℤ, Bool, true, false, cond, List, length, refl}
 use Rattle.std.specs.List.{AllZip, AllByRecursion}
 use Rattle.std.proofs.Common.{arith, ap, sym, ◌∙◌, subst, inl, inr}
 use Rattle.mob_list.proofs.Entries.{all_by_each, each_of_all}
@@ -13,7 +13,7 @@ use Rattle.mob_points.specs.PointText.{point_text}
 use Rattle.mob_slice.specs.CourseOf.{plane_course}
 use Rattle.mob_slice.specs.declared.line.PlaneLine.{PlaneLine}
 use Rattle.mob_slice.specs.declared.slice.Slice.{Slice}
-use Rattle.mob_written.specs.Printed.{Style, groups_of, put_in_group, instants_of, is_long, end_text, shares_group}
+use Rattle.mob_written.specs.Printed.{Style, groups_of, put_in_group, instants_of, end_text, shares_group}
 use Rattle.mob_written.specs.Style.{style_of}
 use Rattle.mob_literal.specs.Readable.{IsReadable, PointFits, instants_in}
 use Rattle.mob_literal.specs.SqlReadable.{IsReadableAs}
