@@ -27,6 +27,6 @@ leaf_or_stop (Some n) p whole behind = Ok (leaf n p, behind)
 leaf_or_stop None p whole behind = Err whole
 
 -- a constant that is the first token
-unfoldable pub constant_at : TokenReader Tree
-constant_at [] = Err []
-constant_at (t ∷ l) = leaf_or_stop (constant_node t.symbol) t.place (t ∷ l) l
+unfoldable pub constant_leaf_at : TokenReader Tree
+constant_leaf_at [] = Err []
+constant_leaf_at (t ∷ l) = leaf_or_stop (constant_node t.symbol) t.place (t ∷ l) l
