@@ -200,7 +200,8 @@ static CHANGED: [Failed; 8] = [
         "read fault: t.csv\n",
         &[(3, 0, 18), (3, 0, 18), (3, 0, 18), (3, 0, 18)],
     ),
-    // The answers have 17 and 13 bytes, so there are 3 and 2 calls. The DELETE between them makes none.
+    // The answers have 17 and 13 bytes, so there are 3 and 2 calls. The DELETE between them makes
+    // none.
     (
         End::Out,
         DELETE,
@@ -215,7 +216,8 @@ static CHANGED: [Failed; 8] = [
             (0, 30, 0),
         ],
     ),
-    // The note of a fault of a DELETE is put in nine pieces of 10, 1, 7, 1, 7, 2, 10, 2 and 16 bytes, so in 13 calls.
+    // The note of a fault of a DELETE is put in nine pieces of 10, 1, 7, 1, 7, 2, 10, 2 and 16
+    // bytes, so in 13 calls.
     (
         End::Notes,
         "CREATE TABLE t (k int); COPY t FROM 't.csv' WITH (FORMAT csv, HEADER); DELETE FROM t WHERE k + 4611686018427387902 > 0;",
@@ -289,7 +291,8 @@ static CHANGED: [Failed; 8] = [
             (0, 30, 0),
         ],
     ),
-    // The note names no row of the left-joined table, in eleven pieces, of which two are ` ` and `0`: in 15 calls.
+    // The note names no row of the left-joined table, in eleven pieces, of which two are ` ` and
+    // `0`: in 15 calls.
     (
         End::Notes,
         "CREATE TABLE t (k int); COPY t FROM 't.csv' WITH (FORMAT csv, HEADER); SELECT a.k AS x FROM t a LEFT JOIN t b ON b.k > 9 WHERE a.k + 4611686018427387902 > 0;",

@@ -37,7 +37,8 @@ pub record DifferInIndexes (one other : Catalogue) : Type 0 where
 abbrev pub IndexesKeepTheSame : Type 0
 IndexesKeepTheSame = (select : TypedSelectParts) (one other : Catalogue) (day : ℤ) (kept others : List (List ℕ)) → DifferInIndexes one other → IsKept select one day (Ok kept) → IsKept select other day (Ok others) → kept ≡ others
 
--- where a DELETE has no fault on either of them, they still differ in their indexes alone behind it: the same rows have gone
+-- where a DELETE has no fault on either of them, they still differ in their indexes alone behind
+-- it: the same rows have gone
 abbrev pub IndexesDeleteTheSame : Type 0
 IndexesDeleteTheSame = (select : TypedSelectParts) (one other : Catalogue) (day : ℤ) (left others : Catalogue) → DifferInIndexes one other → IsDeleted select one day left → IsDeleted select other day others → DifferInIndexes left others
 
