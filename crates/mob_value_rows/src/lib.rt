@@ -1,9 +1,7 @@
-//! Tests of values, as tables: fractions, texts and constants.
+//! Tests of texts of values, as a table, and of calls on values over time that no script reaches.
 #![tactic(auto)]
 
 #[cfg(test)]
-mod constants;
-#[cfg(test)]
-mod fractions;
+mod moving;
 #[cfg(test)]
 mod texts;

@@ -1,9 +1,9 @@
-// The values of constants, and how they are refused.
+// How constants without a value are refused.
 
 use mob_ast::{Kind, Refusal, SqlType};
-use mob_catalog::{constant_refusal, constants};
+use mob_catalog::constant_refusal;
 use mob_list::text::Text;
-use mob_scalar::{Epoch, ReadText};
+use mob_scalar::ReadText;
 use mob_typed::ConstText;
 use std::alloc::{AllocError, Global};
 
@@ -17,29 +17,12 @@ fn truth(alloc: Global, characters: &str, place: u32) -> Result<ConstText, Alloc
     })
 }
 
-// How many values these texts have, at the places 10, 11 and so on; or their first refusal.
-fn truths(alloc: Global, texts: &[&str]) -> Result<usize, Refusal> {
-    let mut literals = Vec::new(alloc);
-    for (place, text) in (10..20).zip(texts.iter()) {
-        literals.push(truth(alloc, *text, place)?)?;
-    }
-    Ok(constants(alloc, &literals, &Epoch::standard())?.len())
-}
-
 fn refusal(kind: Kind, place: u32) -> Refusal {
     Refusal {
         kind,
         statement: 2,
         place,
     }
-}
-
-#[test]
-fn the_first_constant_without_a_value_is_refused(rt: HostRuntime) {
-    let alloc = rt.alloc();
-    assert!(rt; truths(alloc, &[]) == Ok(0));
-    assert!(rt; truths(alloc, &["t", "FALSE"]) == Ok(2));
-    assert!(rt; truths(alloc, &["t", "maybe", "no"]) == Err(refusal(Kind::BadLiteral, 11)));
 }
 
 // The refusal of a literal, for each of its faults.
