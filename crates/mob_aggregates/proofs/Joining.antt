@@ -27,21 +27,21 @@ module _ {B Z : Type 0} (op : Z → Z → Z) (f : List B → Z) (joins : JoinsBy
   made_both (x ∷ xs) [] = ap (made_of f) (append_none (x ∷ xs))
   made_both (x ∷ xs) (y ∷ ys) = ap Some (joins x xs y ys)
 
-values_both : {C B : Type 0} (value : C → Ratio → Ratio → Ratio → B) (vs ws : List (List (Slice C))) (t : Ratio) → values_at value (vs ++ ws) t ≡ values_at value vs t ++ values_at value ws t
-values_both value [] ws t = refl
-values_both {C} {B} value (v ∷ vs) ws t = ap (put_there (value_at value v t)) (values_both value vs ws t) ∙ by (value_at value v t)
+pub values_both : {V B : Type 0} (there : V → Ratio → Option B) (vs ws : List V) (t : Ratio) → values_at there (vs ++ ws) t ≡ values_at there vs t ++ values_at there ws t
+values_both there [] ws t = refl
+values_both {V} {B} there (v ∷ vs) ws t = ap (put_there (there v t)) (values_both there vs ws t) ∙ by (there v t)
   where
-    by : (o : Option B) → put_there o (values_at value vs t ++ values_at value ws t) ≡ put_there o (values_at value vs t) ++ values_at value ws t
+    by : (o : Option B) → put_there o (values_at there vs t ++ values_at there ws t) ≡ put_there o (values_at there vs t) ++ values_at there ws t
     by None = refl
     by (Some x) = refl
 
-module _ {C B D Z : Type 0} (value : C → Ratio → Ratio → Ratio → B) (result : D → Ratio → Ratio → Ratio → Z) (start end : D → Z) (continues : D → D → Ratio → Ratio → Ratio → Bool) (f : List B → Z) where
-  abbrev Of : List (List (Slice C)) → Option (List (Slice D)) → Type 0
-  Of vs r = IsAggregate value result start end continues f vs r
+module _ {V B D Z : Type 0} (there : V → Ratio → Option B) (result : D → Ratio → Ratio → Ratio → Z) (start end : D → Z) (continues : D → D → Ratio → Ratio → Ratio → Bool) (f : List B → Z) where
+  abbrev Of : List V → Option (List (Slice D)) → Type 0
+  Of vs r = IsAggregate there result start end continues f vs r
 
   -- one value
-  pub aggregate_one : (v : List (Slice C)) (w : List (Slice D)) → IsNormal start end continues w → ((t : Ratio) → value_at result w t ≡ option_map (λ x. f (x ∷ [])) (value_at value v t)) → Of (v ∷ []) (Some w)
-  aggregate_one v w n e = (n, λ t. e t ∙ by (value_at value v t))
+  pub aggregate_one : (v : V) (w : List (Slice D)) → IsNormal start end continues w → ((t : Ratio) → value_at result w t ≡ option_map (λ x. f (x ∷ [])) (there v t)) → Of (v ∷ []) (Some w)
+  aggregate_one v w n e = (n, λ t. e t ∙ by (there v t))
     where
       by : (o : Option B) → option_map (λ x. f (x ∷ [])) o ≡ made_of f (put_there o [])
       by None = refl
@@ -52,17 +52,27 @@ module _ {C B D Z : Type 0} (value : C → Ratio → Ratio → Ratio → B) (res
   aggregate_none = λ t. refl
 
   -- Two lists: their aggregates united by the operation are the aggregate of both. A fold is the case of one value behind, and so is any tree.
-  pub aggregate_both : (op : Z → Z → Z) → JoinsBy op f → (vs ws : List (List (Slice C))) (r s u : List (Slice D)) → Of vs (Some r) → Of ws (Some s) → IsNormal start end continues u → AreUnited result op r s u → Of (vs ++ ws) (Some u)
-  aggregate_both op joins vs ws r s u h k n e = (n, λ t. e t ∙ ap (λ z. united_by op z (value_at result s t)) (h.1 t) ∙ ap (λ z. united_by op (made_of f (values_at value vs t)) z) (k.1 t) ∙ sym (made_both op f joins (values_at value vs t) (values_at value ws t)) ∙ ap (made_of f) (sym (values_both value vs ws t)))
+  pub aggregate_both : (op : Z → Z → Z) → JoinsBy op f → (vs ws : List V) (r s u : List (Slice D)) → Of vs (Some r) → Of ws (Some s) → IsNormal start end continues u → AreUnited result op r s u → Of (vs ++ ws) (Some u)
+  aggregate_both op joins vs ws r s u h k n e = (n, λ t. e t ∙ ap (λ z. united_by op z (value_at result s t)) (h.1 t) ∙ ap (λ z. united_by op (made_of f (values_at there vs t)) z) (k.1 t) ∙ sym (made_both op f joins (values_at there vs t) (values_at there ws t)) ∙ ap (made_of f) (sym (values_both there vs ws t)))
 
-  none_here : (vs : List (List (Slice C))) (r : List (Slice D)) → ((t : Ratio) → values_at value vs t ≡ []) → Of vs (Some r) → ⊥
+  -- values that have nothing at any instant add nothing
+  pub aggregate_same : (vs ws : List V) (r : Option (List (Slice D))) → ((t : Ratio) → values_at there ws t ≡ []) → Of vs r → Of (vs ++ ws) r
+  aggregate_same vs ws None e h = λ t. values_both there vs ws t ∙ ap (λ z. z ++ values_at there ws t) (h t) ∙ e t
+  aggregate_same vs ws (Some r) e h = (h.0, λ t. h.1 t ∙ ap (made_of f) (sym (values_both there vs ws t ∙ ap (λ z. values_at there vs t ++ z) (e t) ∙ append_none (values_at there vs t))))
+
+  -- the first values that have something
+  pub aggregate_first : (vs ws : List V) (r : Option (List (Slice D))) → ((t : Ratio) → values_at there vs t ≡ []) → Of ws r → Of (vs ++ ws) r
+  aggregate_first vs ws None e h = λ t. values_both there vs ws t ∙ ap (λ z. z ++ values_at there ws t) (e t) ∙ h t
+  aggregate_first vs ws (Some r) e h = (h.0, λ t. h.1 t ∙ ap (made_of f) (sym (values_both there vs ws t ∙ ap (λ z. z ++ values_at there ws t) (e t))))
+
+  none_here : (vs : List V) (r : List (Slice D)) → ((t : Ratio) → values_at there vs t ≡ []) → Of vs (Some r) → ⊥
   none_here vs [] e h = h.0.some refl
   none_here vs (s ∷ r) e h =
       let i = some_instant s.span h.0.chained.0.some in
       none_some (slice_value result s i.0) (sym (ap (made_of f) (e i.0)) ∙ sym (h.1 i.0) ∙ ap (λ b. cond b (Some (slice_value result s i.0)) (value_at result r i.0)) i.1)
 
   -- a list has one aggregate, or none
-  pub one_aggregate : OneNormal result start end continues → (vs : List (List (Slice C))) (r s : Option (List (Slice D))) → Of vs r → Of vs s → r ≡ s
+  pub one_aggregate : OneNormal result start end continues → (vs : List V) (r s : Option (List (Slice D))) → Of vs r → Of vs s → r ≡ s
   one_aggregate unique vs None None h k = refl
   one_aggregate unique vs None (Some s) h k = absurd (none_here vs s h k)
   one_aggregate unique vs (Some r) None h k = absurd (none_here vs r k h)

@@ -1,5 +1,6 @@
 -- The groups of a list of entries by their keys.
-use Rattle.std.specs.Prelude.{Bool, cond, not, ℕ, zero, suc, List, [], ◌∷◌, ◌++◌, map, filter}
+use Rattle.std.specs.Prelude.{Bool, cond, not, ℕ, List, [], ◌∷◌, map, filter}
+use Rattle.std.specs.List.{position_or_len}
 
 -- of equal keys the first, in the order in which they come
 abbrev pub first_keys : {K : Type 0} → (K → K → Bool) → List K → List K
@@ -18,8 +19,6 @@ groups_of same entries = map (λ k. members same k entries) (first_keys same (ma
 abbrev pub groups_by : {K X : Type 0} → Bool → (K → K → Bool) → List (K × X) → List (List X)
 groups_by keyed same entries = cond keyed (groups_of same entries) (map (λ e. e.1) entries ∷ [])
 
--- x put behind the list of that number
-abbrev pub put_at : {X : Type 0} → ℕ → X → List (List X) → List (List X)
-put_at i x [] = []
-put_at zero x (g ∷ gs) = (g ++ x ∷ []) ∷ gs
-put_at (suc i) x (g ∷ gs) = g ∷ put_at i x gs
+-- the number of the group of a key, from 0, in the order in which the groups begin
+abbrev pub group_number : {K : Type 0} → (K → K → Bool) → List K → K → ℕ
+group_number same keys k = position_or_len (same k) (first_keys same keys)

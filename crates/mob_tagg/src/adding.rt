@@ -92,8 +92,8 @@ where
     normal_of(alloc, slices)
 }
 
-// The number 1.
-fn one() -> Frac
+/// The number 1.
+pub fn one() -> Frac
     ensures value { result ≡ whole (pos 1) }
 {
     match Frac::new(1, 1) {

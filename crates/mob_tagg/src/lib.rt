@@ -6,6 +6,6 @@ pub mod laws;
 mod parts;
 mod taking;
 
-pub use adding::{add_in, and_in, ones_of, or_in};
+pub use adding::{add_in, and_in, one, ones_of, or_in};
 pub use parts::{Part, Uniting, gathered, with_value};
 pub use taking::either;

@@ -1,6 +1,7 @@
 //! What a query answers on the tuples that it keeps, what EXPLAIN answers, and the text in which an answer is written.
 #![tactic(auto)]
 
+mod adding;
 mod answers;
 mod arrange;
 mod distinct;
