@@ -4,3 +4,4 @@ mod Seen
 mod Making
 mod OneOrder
 mod OneAnswer
+mod Aggregating

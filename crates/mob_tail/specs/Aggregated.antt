@@ -4,6 +4,9 @@ use Rattle.mob_ratio.specs.Ratio.{Ratio, whole}
 use Rattle.mob_ratio.specs.Order.{same}
 use Rattle.mob_slice.specs.CourseOf.{CourseOf, steady_course, line_course}
 use Rattle.mob_slice.specs.Entries.{Entry, IsFirst}
+use Rattle.mob_slice.specs.Lines.{line_value_of}
+use Rattle.mob_slice.specs.Operands.{steady_value}
+use Rattle.mob_slice.specs.Slices.{value_at}
 use Rattle.mob_slice.specs.Sameness.{same_bool}
 use Rattle.mob_slice.specs.declared.slice.Slice.{Slice}
 use Rattle.mob_slice.specs.declared.formula.Formula.{Formula}
@@ -22,7 +25,7 @@ use Rattle.mob_meaning.specs.Arithmetic.{arithmetic_entries}
 use Rattle.mob_ordinary.specs.Moving.{AreNormalBy, StepSlices, or_nothing, step_function, line_function, plane_function}
 use Rattle.mob_ordinary.specs.Ordinary.{is_null}
 use Rattle.mob_tagg.specs.United.{AreUnited}
-use Rattle.mob_aggregates.specs.Aggregates.{made_of, IsAggregate, total, count, all_hold, some_holds}
+use Rattle.mob_aggregates.specs.Aggregates.{put_there, made_of, IsAggregate, total, count, all_hold, some_holds}
 
 -- so many, as a value
 abbrev pub counted : ℕ → Value
@@ -32,24 +35,43 @@ counted n = Number (whole (pos n))
 abbrev pub known_of : List Value → List Value
 known_of vs = filter (λ v. not (is_null v)) vs
 
+-- the plain number that a value is
+abbrev pub number_in : Value → Option Ratio
+number_in (Number a) = Some a
+number_in _ = None
+
 -- the plain numbers among values
 abbrev pub numbers_of : List Value → List Ratio
 numbers_of [] = []
-numbers_of (Number a ∷ vs) = a ∷ numbers_of vs
-numbers_of (_ ∷ vs) = numbers_of vs
+numbers_of (v ∷ vs) = put_there (number_in v) (numbers_of vs)
+
+-- the slices of a tbool, a tint or a tfrac
+abbrev pub truths_of : Value → Option (StepSlices Bool)
+truths_of (MovingBool m) = Some m
+truths_of _ = None
+
+abbrev pub steps_of : Value → Option (StepSlices Ratio)
+steps_of (MovingInt m) = Some m
+steps_of _ = None
+
+abbrev pub lines_of : Value → Option (List (Slice Line))
+lines_of (MovingFrac m) = Some m
+lines_of _ = None
+
+-- what slices have at an instant, where there are any
+abbrev pub slices_there : {C B : Type 0} → (C → Ratio → Ratio → Ratio → B) → Option (List (Slice C)) → Ratio → Option B
+slices_there value None t = None
+slices_there value (Some slices) t = value_at value slices t
 
 -- what a value has at an instant: a truth value, a number that goes by steps, a number that changes evenly
 abbrev pub truth_there : Value → Ratio → Option Bool
-truth_there (MovingBool m) t = step_function m t
-truth_there _ t = None
+truth_there v t = slices_there steady_value (truths_of v) t
 
 abbrev pub step_there : Value → Ratio → Option Ratio
-step_there (MovingInt m) t = step_function m t
-step_there _ t = None
+step_there v t = slices_there steady_value (steps_of v) t
 
 abbrev pub line_there : Value → Ratio → Option Ratio
-line_there (MovingFrac m) t = line_function m t
-line_there _ t = None
+line_there v t = slices_there line_value_of (lines_of v) t
 
 -- 1, where a temporal value of any type is defined
 abbrev pub one_where : {B : Type 0} → Option B → Option Ratio
@@ -110,19 +132,6 @@ IsAdding agg before v f = AddingPasses (leaves_out agg.kind v) agg.kind agg.ty b
 
 -- ---- one value more
 
--- what is there of a value that goes by steps or changes evenly
-abbrev pub steps_of : Value → Option (StepSlices Ratio)
-steps_of (MovingInt m) = Some m
-steps_of _ = None
-
-abbrev pub lines_of : Value → Option (List (Slice Line))
-lines_of (MovingFrac m) = Some m
-lines_of _ = None
-
-abbrev pub truths_of : Value → Option (StepSlices Bool)
-truths_of (MovingBool m) = Some m
-truths_of _ = None
-
 -- r is two values over time together, by an operation where both are defined; the first where the second is none, and the second where the
 -- first is none
 abbrev pub IsUnion : {C B : Type 0} → CourseOf C B → (List (Slice C) → Value) → (B → B → B) → Option (List (Slice C)) → Option (List (Slice C)) → Value → Value → Type 0
@@ -130,8 +139,9 @@ IsUnion {C} course make op (Some t) (Some a) before r = (u : List (Slice C)) × 
 IsUnion course make op None (Some a) before r = r ≡ make a
 IsUnion course make op t None before r = r ≡ before
 
--- what holds of the aggregate of values with one more, where `before` is that of the values without it; or of the formula that adding passes
-abbrev pub IsAggregateWith : AggKind → SqlType → Value → Value → Result Value OpFault → Type 0
-IsAggregateWith kind ty before v (Ok r) = (vs : List Value) → IsAggregated kind ty vs before → IsAggregated kind ty (vs ++ v ∷ []) r × AddingPasses (leaves_out kind v) kind ty vs v None
-IsAggregateWith kind ty before v (Err (Passed f)) = (vs : List Value) → IsAggregated kind ty vs before → AddingPasses (leaves_out kind v) kind ty vs v (Some f)
-IsAggregateWith kind ty before v (Err NoMemory) = Unit {0}
+-- What holds of the aggregate of values with one more, where `before` is that of the values without it; or of the formula that adding it
+-- passes. The first argument says whether the value is left out.
+abbrev pub IsAggregateWith : Bool → AggKind → SqlType → Value → Value → Result Value OpFault → Type 0
+IsAggregateWith left_out kind ty before v (Ok r) = (vs : List Value) → IsAggregated kind ty vs before → IsAggregated kind ty (vs ++ v ∷ []) r × AddingPasses left_out kind ty vs v None
+IsAggregateWith left_out kind ty before v (Err (Passed f)) = (vs : List Value) → IsAggregated kind ty vs before → AddingPasses left_out kind ty vs v (Some f)
+IsAggregateWith left_out kind ty before v (Err NoMemory) = Unit {0}

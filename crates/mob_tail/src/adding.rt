@@ -1,15 +1,16 @@
 //! The aggregate of values with one more.
-ghost use Rattle.std.specs.Prelude.{◌≡◌, [], ◌∷◌, IfOk, IfErr, MatchResult, MatchOption, None, Some, true, Ok};
+ghost use Rattle.std.specs.Prelude.{◌≡◌, [], ◌∷◌, IfOk, IfErr, MatchResult, MatchOption, None, Some, false, option_map};
 ghost use Rattle.mob_ratio.specs.Order.{same};
 ghost use Rattle.mob_arith.specs.Operations.{sum_of, both_hold, one_holds};
 ghost use Rattle.mob_slice.specs.CourseOf.{steady_course, line_course};
 ghost use Rattle.mob_slice.specs.Entries.{IsFirst, OnFormula};
 ghost use Rattle.mob_slice.specs.Slices.{value_at};
 ghost use Rattle.mob_slice.specs.Sameness.{same_bool};
-ghost use Rattle.mob_value.specs.declared.value.Value.TheVariants.{MovingBool, MovingInt, MovingFrac};
-ghost use Rattle.mob_meaning.specs.Arithmetic.{arithmetic_entries, on_numbers};
-ghost use Rattle.mob_ordinary.specs.Moving.{AreNormalBy, IsFunction};
-ghost use Rattle.mob_tail.specs.Aggregated.{counted, one_where, leaves_out, IsAggregated, IsAggregateWith, IsUnion, steps_of, lines_of, truths_of};
+ghost use Rattle.mob_value.specs.declared.value.Value.TheVariants.{Number, MovingBool, MovingInt, MovingFrac};
+ghost use Rattle.mob_meaning.specs.Arithmetic.{arithmetic_entries};
+ghost use Rattle.mob_ordinary.specs.Moving.{AreNormalBy, IsFunction, or_nothing};
+ghost use Rattle.mob_ordinary.specs.Ordinary.{is_null};
+ghost use Rattle.mob_tail.specs.Aggregated.{number_in, one_where, leaves_out, IsAggregated, IsAggregateWith, IsUnion, steps_of, lines_of, truths_of};
 
 use mob_ast::SqlType;
 use mob_frac::Frac;
@@ -47,37 +48,79 @@ fn leaves_out(kind: AggKind, value: &Value) -> bool
     }
 }
 
-fn one_value() -> Value
-    ensures value { result ≡ counted 1 }
+// The plain number that a value is.
+fn number_in(value: &Value) -> Option<&Frac>
+    ensures number { option_map (λ a. a.now) result ≡ number_in value.now }
 {
-    Value::Number(one())
+    match value {
+        Value::Number(number) => Some(number),
+        _ => None,
+    }
 }
 
-// The sum of two plain numbers, and NULL where one of the two is none.
-fn number_sum(before: &Value, value: &Value) -> Result<Value, OpFault>
-    ensures value { IfOk result (λ r. r ≡ on_numbers sum_of before.now value.now) }
-    ensures fits { IfOk result (λ _. IsFirst (arithmetic_entries Calculation.Sum SqlType.Numeric before.now value.now) None) }
-    ensures fault { IfErr result (OnFormula (λ f. IsFirst (arithmetic_entries Calculation.Sum SqlType.Numeric before.now value.now) (Some f))) }
+// The slices of a tint, a tfrac and a tbool.
+fn steps_of(value: &Value) -> Option<&Moving<Steady<Frac>>>
+    ensures slices { option_map (λ m. m.now) result ≡ steps_of value.now }
 {
-    match (before, value) {
-        (Value::Number(a), Value::Number(b)) => match a.add(b) {
-            Ok(sum) => Ok(Value::Number(sum)),
-            Err(_) => Err(OpFault::Passed {
-                formula: Formula::F2,
-            }),
-        },
-        _ => Ok(Value::Null),
+    match value {
+        Value::MovingInt(moving) => Some(moving),
+        _ => None,
+    }
+}
+
+fn lines_of(value: &Value) -> Option<&Moving<Line>>
+    ensures slices { option_map (λ m. m.now) result ≡ lines_of value.now }
+{
+    match value {
+        Value::MovingFrac(moving) => Some(moving),
+        _ => None,
+    }
+}
+
+fn truths_of(value: &Value) -> Option<&Moving<Steady<bool>>>
+    ensures slices { option_map (λ m. m.now) result ≡ truths_of value.now }
+{
+    match value {
+        Value::MovingBool(moving) => Some(moving),
+        _ => None,
+    }
+}
+
+// The sum of two numbers.
+fn sum_with(a: &Frac, b: &Frac) -> Result<Value, OpFault>
+    ensures value { IfOk result (λ r. r ≡ Number (sum_of a.now b.now)) }
+    ensures fits { IfOk result (λ _. IsFirst (arithmetic_entries Calculation.Sum SqlType.Numeric (Number a.now) (Number b.now)) None) }
+    ensures fault { IfErr result (OnFormula (λ f. IsFirst (arithmetic_entries Calculation.Sum SqlType.Numeric (Number a.now) (Number b.now)) (Some f))) }
+{
+    match a.add(b) {
+        Ok(sum) => Ok(Value::Number(sum)),
+        Err(_) => Err(OpFault::Passed {
+            formula: Formula::F2,
+        }),
+    }
+}
+
+// A count with one more.
+fn one_more(before: Value) -> Result<Value, OpFault>
+    ensures with { (ty : _) (v : _) → IsAggregateWith false AggKind.CountAll ty before v result }
+    ensures known { (ty : _) (v : _) → is_null v ≡ false → IsAggregateWith false AggKind.Count ty before v result }
+{
+    match number_in(&before) {
+        None => Ok(before),
+        Some(number) => sum_with(number, &one()),
     }
 }
 
 // The sum of numbers, or NULL where there is none, with one more.
 fn number_more(before: Value, value: &Value) -> Result<Value, OpFault>
-    ensures with { (ty : _) → IsAggregateWith AggKind.Sum ty before value.now result }
+    ensures with { (ty : _) → IsAggregateWith false AggKind.Sum ty before value.now result }
 {
-    match (value, &before) {
-        (Value::Number(number), Value::Null) => Ok(Value::Number(*number)),
-        (Value::Number(_), _) => number_sum(&before, value),
-        _ => Ok(before),
+    let Some(number) = number_in(value) else {
+        return Ok(before);
+    };
+    match number_in(&before) {
+        None => Ok(Value::Number(*number)),
+        Some(sum) => sum_with(sum, number),
     }
 }
 
@@ -119,19 +162,19 @@ fn bool_value(moving: Moving<Steady<bool>>) -> Value
 fn steps_more(alloc: Global, before: Value, value: &Value) -> Result<Value, OpFault>
     ensures union { IfOk result (λ r. IsUnion (steady_course same) MovingInt sum_of (steps_of before) (steps_of value.now) before r) }
     ensures normal { MatchOption (steps_of value.now) (Unit {0}) (AreNormalBy (steady_course same)) }
-    ensures fits { IfOk result (λ _. IsFirst (arithmetic_entries Calculation.Sum SqlType.TInt before value.now) None) }
-    ensures fault { IfErr result (OnFormula (λ f. IsFirst (arithmetic_entries Calculation.Sum SqlType.TInt before value.now) (Some f))) }
+    ensures fits { IfOk result (λ _. IsFirst (arithmetic_entries Calculation.Sum SqlType.TInt (or_nothing MovingInt (steps_of before)) (or_nothing MovingInt (steps_of value.now))) None) }
+    ensures fault { IfErr result (OnFormula (λ f. IsFirst (arithmetic_entries Calculation.Sum SqlType.TInt (or_nothing MovingInt (steps_of before)) (or_nothing MovingInt (steps_of value.now))) (Some f))) }
 {
-    let Value::MovingInt(moving) = value else {
+    let Some(moving) = steps_of(value) else {
         return Ok(before);
     };
     let _ = moving.slices();
-    match &before {
-        Value::MovingInt(sum) => match add_in(alloc, sum, moving) {
+    match steps_of(&before) {
+        Some(sum) => match add_in(alloc, sum, moving) {
             Ok(sum) => Ok(int_value(sum)),
             Err(fault) => Err(fault),
         },
-        _ => copied(alloc, value),
+        None => copied(alloc, value),
     }
 }
 
@@ -139,17 +182,19 @@ fn steps_more(alloc: Global, before: Value, value: &Value) -> Result<Value, OpFa
 fn lines_more(alloc: Global, before: Value, value: &Value) -> Result<Value, OpFault>
     ensures union { IfOk result (λ r. IsUnion line_course MovingFrac sum_of (lines_of before) (lines_of value.now) before r) }
     ensures normal { MatchOption (lines_of value.now) (Unit {0}) (AreNormalBy line_course) }
+    ensures fits { IfOk result (λ _. IsFirst (arithmetic_entries Calculation.Sum SqlType.TFrac (or_nothing MovingFrac (lines_of before)) (or_nothing MovingFrac (lines_of value.now))) None) }
+    ensures fault { IfErr result (OnFormula (λ f. IsFirst (arithmetic_entries Calculation.Sum SqlType.TFrac (or_nothing MovingFrac (lines_of before)) (or_nothing MovingFrac (lines_of value.now))) (Some f))) }
 {
-    let Value::MovingFrac(moving) = value else {
+    let Some(moving) = lines_of(value) else {
         return Ok(before);
     };
     let _ = moving.slices();
-    match &before {
-        Value::MovingFrac(sum) => match add_in(alloc, sum, moving) {
+    match lines_of(&before) {
+        Some(sum) => match add_in(alloc, sum, moving) {
             Ok(sum) => Ok(frac_value(sum)),
             Err(fault) => Err(fault),
         },
-        _ => copied(alloc, value),
+        None => copied(alloc, value),
     }
 }
 
@@ -158,16 +203,16 @@ fn all_more(alloc: Global, before: Value, value: &Value) -> Result<Value, OpFaul
     ensures union { MatchResult result (λ r. IsUnion (steady_course same_bool) MovingBool both_hold (truths_of before) (truths_of value.now) before r) (λ e. e ≡ OpFault.NoMemory) }
     ensures normal { MatchOption (truths_of value.now) (Unit {0}) (AreNormalBy (steady_course same_bool)) }
 {
-    let Value::MovingBool(moving) = value else {
+    let Some(moving) = truths_of(value) else {
         return Ok(before);
     };
     let _ = moving.slices();
-    match &before {
-        Value::MovingBool(all) => match and_in(alloc, all, moving) {
+    match truths_of(&before) {
+        Some(all) => match and_in(alloc, all, moving) {
             Ok(all) => Ok(bool_value(all)),
             Err(_) => Err(OpFault::NoMemory),
         },
-        _ => copied(alloc, value),
+        None => copied(alloc, value),
     }
 }
 
@@ -175,16 +220,16 @@ fn some_more(alloc: Global, before: Value, value: &Value) -> Result<Value, OpFau
     ensures union { MatchResult result (λ r. IsUnion (steady_course same_bool) MovingBool one_holds (truths_of before) (truths_of value.now) before r) (λ e. e ≡ OpFault.NoMemory) }
     ensures normal { MatchOption (truths_of value.now) (Unit {0}) (AreNormalBy (steady_course same_bool)) }
 {
-    let Value::MovingBool(moving) = value else {
+    let Some(moving) = truths_of(value) else {
         return Ok(before);
     };
     let _ = moving.slices();
-    match &before {
-        Value::MovingBool(some) => match or_in(alloc, some, moving) {
+    match truths_of(&before) {
+        Some(some) => match or_in(alloc, some, moving) {
             Ok(some) => Ok(bool_value(some)),
             Err(_) => Err(OpFault::NoMemory),
         },
-        _ => copied(alloc, value),
+        None => copied(alloc, value),
     }
 }
 
@@ -215,7 +260,7 @@ fn ones_on(alloc: Global, value: &Value) -> Result<Value, OpFault>
 
 // A count over time with one more value.
 fn ones_more(alloc: Global, before: Value, value: &Value) -> Result<Value, OpFault>
-    ensures with { (ty : _) → IsAggregateWith AggKind.TCount ty before value.now result }
+    ensures with { (ty : _) → IsAggregateWith false AggKind.TCount ty before value.now result }
 {
     match ones_on(alloc, value) {
         Ok(ones) => steps_more(alloc, before, &ones),
@@ -225,7 +270,7 @@ fn ones_more(alloc: Global, before: Value, value: &Value) -> Result<Value, OpFau
 
 // A sum over time of this type with one more value.
 fn sum_more(alloc: Global, ty: SqlType, before: Value, value: &Value) -> Result<Value, OpFault>
-    ensures with { IsAggregateWith AggKind.TSum ty before value.now result }
+    ensures with { IsAggregateWith false AggKind.TSum ty before value.now result }
 {
     match ty {
         SqlType::TInt => steps_more(alloc, before, value),
@@ -244,14 +289,14 @@ pub fn aggregate_with(
     before: Value,
     value: &Value,
 ) -> Result<Value, OpFault>
-    ensures with { IsAggregateWith agg.kind agg.ty before value.now result }
+    ensures with { IsAggregateWith (leaves_out agg.kind value.now) agg.kind agg.ty before value.now result }
 {
     if leaves_out(agg.kind, value) {
         return Ok(before);
     }
     match agg.kind {
-        AggKind::CountAll => number_sum(&before, &one_value()),
-        AggKind::Count => number_sum(&before, &one_value()),
+        AggKind::CountAll => one_more(before),
+        AggKind::Count => one_more(before),
         AggKind::Sum => number_more(before, value),
         AggKind::TCount => ones_more(alloc, before, value),
         AggKind::TSum => sum_more(alloc, agg.ty, before, value),
