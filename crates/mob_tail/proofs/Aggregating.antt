@@ -204,32 +204,51 @@ module _ (ty : SqlType) (before v : Value) (b : Ratio) (is : number_in v ≡ Som
   sum_next a (Err (Passed f)) n h k l = λ vs e. sum_err a f n l vs e
   sum_next a (Err NoMemory) n h k l = tt
 
+-- NULL adds nothing to a number
+no_parts : (r : Value) → parts_on (parts_by Added) r Null ≡ []
+no_parts value.Null = refl
+no_parts (value.Bool b) = refl
+no_parts (value.Number b) = refl
+no_parts (value.Text b) = refl
+no_parts (value.Moment b) = refl
+no_parts (value.Point b) = refl
+no_parts (value.Polygon b) = refl
+no_parts (value.Span b) = refl
+no_parts (value.SpanSet b) = refl
+no_parts (value.Box b) = refl
+no_parts (value.MovingBool b) = refl
+no_parts (value.MovingInt b) = refl
+no_parts (value.MovingFrac b) = refl
+no_parts (value.MovingText b) = refl
+no_parts (value.MovingPoint b) = refl
+
+nothing_passed : (r : Value) → IsFirst (arithmetic_entries Added sql.Numeric r Null) None
+nothing_passed r = inl (subst AllFit (sym (no_parts r)) tt, refl)
+
 -- a value that is no number
 pub no_number_more : (ty : SqlType) (before v : Value) → number_in v ≡ None → IsAggregateWith false Sum ty before v (Ok before)
 no_number_more ty before v n = λ vs e. (
   e ∙ ap (λ z. or_nothing Number (made_of total z)) (sym (numbers_both vs (v ∷ []) ∙ ap (λ o. numbers_of vs ++ put_there o []) n ∙ append-nil (numbers_of vs))),
   (before, e, (Null, ap (λ o. or_nothing Number (made_of total (put_there o []))) (sym n), nothing_passed before)),
 )
-  where
-    nothing_passed : (r : Value) → IsFirst (arithmetic_entries Added sql.Numeric r Null) None
-    nothing_passed r = inl (subst AllFit (sym (no_parts r)) tt, refl)
-      where
-        no_parts : (r : Value) → parts_on (parts_by Added) r Null ≡ []
-        no_parts value.Null = refl
-        no_parts (value.Bool b) = refl
-        no_parts (value.Number b) = refl
-        no_parts (value.Text b) = refl
-        no_parts (value.Moment b) = refl
-        no_parts (value.Point b) = refl
-        no_parts (value.Polygon b) = refl
-        no_parts (value.Span b) = refl
-        no_parts (value.SpanSet b) = refl
-        no_parts (value.Box b) = refl
-        no_parts (value.MovingBool b) = refl
-        no_parts (value.MovingInt b) = refl
-        no_parts (value.MovingFrac b) = refl
-        no_parts (value.MovingText b) = refl
-        no_parts (value.MovingPoint b) = refl
+
+-- a sum over time of a type that has none
+pub other_sum : (ty : SqlType) (before v : Value) → (ty ≡ sql.TInt → ⊥) → (ty ≡ sql.TFrac → ⊥) → IsAggregateWith false TSum ty before v (Ok before)
+other_sum sql.TInt before v n m = absurd (n refl)
+other_sum sql.TFrac before v n m = absurd (m refl)
+other_sum sql.Int before v n m = λ vs e. (e, (before, e, (Null, refl, nothing_passed before)))
+other_sum sql.Numeric before v n m = λ vs e. (e, (before, e, (Null, refl, nothing_passed before)))
+other_sum sql.Bool before v n m = λ vs e. (e, (before, e, (Null, refl, refl)))
+other_sum sql.Text before v n m = λ vs e. (e, (before, e, (Null, refl, refl)))
+other_sum sql.Moment before v n m = λ vs e. (e, (before, e, (Null, refl, refl)))
+other_sum sql.Point before v n m = λ vs e. (e, (before, e, (Null, refl, refl)))
+other_sum sql.Polygon before v n m = λ vs e. (e, (before, e, (Null, refl, refl)))
+other_sum sql.Span before v n m = λ vs e. (e, (before, e, (Null, refl, refl)))
+other_sum sql.SpanSet before v n m = λ vs e. (e, (before, e, (Null, refl, refl)))
+other_sum sql.Box before v n m = λ vs e. (e, (before, e, (Null, refl, refl)))
+other_sum sql.TBool before v n m = λ vs e. (e, (before, e, (Null, refl, refl)))
+other_sum sql.TText before v n m = λ vs e. (e, (before, e, (Null, refl, refl)))
+other_sum sql.TPoint before v n m = λ vs e. (e, (before, e, (Null, refl, refl)))
 
 -- ---- one more over time
 
@@ -360,3 +379,38 @@ null_out TCount ty before h = λ vs e. (over_same (steady_course same) MovingInt
 null_out TSum ty before h = λ vs e. (null_sum ty vs before e, refl)
 null_out TAnd ty before h = λ vs e. (over_same (steady_course same_bool) MovingBool all_hold truth_there vs before Null (λ t. refl) e, refl)
 null_out TOr ty before h = λ vs e. (over_same (steady_course same_bool) MovingBool some_holds truth_there vs before Null (λ t. refl) e, refl)
+
+null_is : (v : Value) → is_null v ≡ true → v ≡ Null
+null_is value.Null h = refl
+null_is (value.Bool b) h = absurd cc
+null_is (value.Number b) h = absurd cc
+null_is (value.Text b) h = absurd cc
+null_is (value.Moment b) h = absurd cc
+null_is (value.Point b) h = absurd cc
+null_is (value.Polygon b) h = absurd cc
+null_is (value.Span b) h = absurd cc
+null_is (value.SpanSet b) h = absurd cc
+null_is (value.Box b) h = absurd cc
+null_is (value.MovingBool b) h = absurd cc
+null_is (value.MovingInt b) h = absurd cc
+null_is (value.MovingFrac b) h = absurd cc
+null_is (value.MovingText b) h = absurd cc
+null_is (value.MovingPoint b) h = absurd cc
+
+left_null : (kind : AggKind) (v : Value) → leaves_out kind v ≡ true → v ≡ Null
+left_null CountAll v h = absurd cc
+left_null Count v h = null_is v h
+left_null Sum v h = null_is v h
+left_null TCount v h = null_is v h
+left_null TSum v h = null_is v h
+left_null TAnd v h = null_is v h
+left_null TOr v h = null_is v h
+
+pub left_out_with : (kind : AggKind) (ty : SqlType) (before v : Value) → true ≡ leaves_out kind v → IsAggregateWith (leaves_out kind v) kind ty before v (Ok before)
+left_out_with kind ty before v h =
+    let null : v ≡ Null = left_null kind v (sym h) in
+    subst (λ b. IsAggregateWith b kind ty before v (Ok before)) h (subst (λ z. IsAggregateWith true kind ty before z (Ok before)) (sym null) (null_out kind ty before (ap (leaves_out kind) (sym null) ∙ sym h)))
+
+-- what holds of a value of one kind holds of it where the kind is that one and the value is not left out
+pub at_kind : (kind one : AggKind) (ty : SqlType) (before v : Value) (r : Result Value OpFault) → kind ≡ one → false ≡ leaves_out kind v → IsAggregateWith false one ty before v r → IsAggregateWith (leaves_out kind v) kind ty before v r
+at_kind kind one ty before v r e f h = subst (λ b. IsAggregateWith b kind ty before v r) f (subst (λ k. IsAggregateWith false k ty before v r) (sym e) h)

@@ -5,3 +5,4 @@ mod Making
 mod OneOrder
 mod OneAnswer
 mod Aggregating
+mod TupleSteps

@@ -1,6 +1,7 @@
 pub mod Aggregated
 pub mod Answers
 pub mod Flags
+pub mod GroupSteps
 pub mod GroupedAnswers
 pub mod Groups
 pub mod IsMadeOfEach
@@ -8,3 +9,4 @@ pub mod Order
 pub mod Outcomes
 pub mod PlanAnswers
 pub mod Rows
+pub mod TextsSeen

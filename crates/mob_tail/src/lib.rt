@@ -4,8 +4,11 @@
 mod adding;
 mod answers;
 mod arrange;
+mod columns;
 mod distinct;
 mod evaluation;
+mod grouped;
+mod grouping;
 mod keyed;
 pub mod laws;
 mod order;
