@@ -35,6 +35,13 @@ const COPY: &str =
 const TWICE: &str =
     "CREATE TABLE t (k int); CREATE TABLE u (k int); COPY t FROM 't.csv' WITH (FORMAT csv, HEADER); SELECT tint 'bad'; COPY u FROM 't.csv' WITH (FORMAT csv, HEADER);";
 
+// Rows go between two queries.
+const DELETE: &str =
+    "CREATE TABLE t (k int); COPY t FROM 't.csv' WITH (FORMAT csv, HEADER); SELECT k FROM t; DELETE FROM t WHERE k < 3; SELECT k FROM t;";
+
+const LEFT: &str =
+    "CREATE TABLE t (k int); COPY t FROM 't.csv' WITH (FORMAT csv, HEADER); SELECT a.k AS a, b.k AS b FROM t a LEFT JOIN t b ON b.k > a.k;";
+
 const FILE: &[u8] = b"k\n1\n2\n3\n";
 
 static FAILED: [Failed; 7] = [
@@ -155,6 +162,163 @@ static FAILED: [Failed; 7] = [
     ),
 ];
 
+// The same with DELETE and with LEFT JOIN.
+static CHANGED: [Failed; 8] = [
+    // The script has 131 bytes, so there are 20 calls.
+    (
+        End::Script,
+        DELETE,
+        "",
+        "read fault: script\n",
+        &[
+            (3, 0, 19),
+            (3, 0, 19),
+            (3, 0, 19),
+            (3, 0, 19),
+            (3, 0, 19),
+            (3, 0, 19),
+            (3, 0, 19),
+            (3, 0, 19),
+            (3, 0, 19),
+            (3, 0, 19),
+            (3, 0, 19),
+            (3, 0, 19),
+            (3, 0, 19),
+            (3, 0, 19),
+            (3, 0, 19),
+            (3, 0, 19),
+            (3, 0, 19),
+            (3, 0, 19),
+            (3, 0, 19),
+            (3, 0, 19),
+        ],
+    ),
+    (
+        End::File,
+        DELETE,
+        "",
+        "read fault: t.csv\n",
+        &[(3, 0, 18), (3, 0, 18), (3, 0, 18), (3, 0, 18)],
+    ),
+    // The answers have 17 and 13 bytes, so there are 3 and 2 calls. The DELETE between them makes
+    // none.
+    (
+        End::Out,
+        DELETE,
+        "k\n1\n2\n3\n(3 rows)\nk\n3\n(1 rows)\n",
+        "write fault\n",
+        &[
+            (4, 0, 12),
+            (4, 7, 12),
+            (4, 14, 12),
+            (4, 17, 12),
+            (4, 24, 12),
+            (0, 30, 0),
+        ],
+    ),
+    // The note of a fault of a DELETE is put in nine pieces of 10, 1, 7, 1, 7, 2, 10, 2 and 16
+    // bytes, so in 13 calls.
+    (
+        End::Notes,
+        "CREATE TABLE t (k int); COPY t FROM 't.csv' WITH (FORMAT csv, HEADER); DELETE FROM t WHERE k + 4611686018427387902 > 0;",
+        "",
+        "statement 3, rows 2, byte 93: formula F2 passes 62 bits\n",
+        &[
+            (8, 0, 0),
+            (8, 0, 7),
+            (8, 0, 10),
+            (8, 0, 11),
+            (8, 0, 18),
+            (8, 0, 19),
+            (8, 0, 26),
+            (8, 0, 28),
+            (8, 0, 35),
+            (8, 0, 38),
+            (8, 0, 40),
+            (8, 0, 47),
+            (8, 0, 54),
+            (8, 0, 56),
+        ],
+    ),
+    // The script has 133 bytes, so there are 20 calls.
+    (
+        End::Script,
+        LEFT,
+        "",
+        "read fault: script\n",
+        &[
+            (3, 0, 19),
+            (3, 0, 19),
+            (3, 0, 19),
+            (3, 0, 19),
+            (3, 0, 19),
+            (3, 0, 19),
+            (3, 0, 19),
+            (3, 0, 19),
+            (3, 0, 19),
+            (3, 0, 19),
+            (3, 0, 19),
+            (3, 0, 19),
+            (3, 0, 19),
+            (3, 0, 19),
+            (3, 0, 19),
+            (3, 0, 19),
+            (3, 0, 19),
+            (3, 0, 19),
+            (3, 0, 19),
+            (3, 0, 19),
+        ],
+    ),
+    (
+        End::File,
+        LEFT,
+        "",
+        "read fault: t.csv\n",
+        &[(3, 0, 18), (3, 0, 18), (3, 0, 18), (3, 0, 18)],
+    ),
+    // The answer has 30 bytes, so there are 5 calls.
+    (
+        End::Out,
+        LEFT,
+        "a,b\n1,2\n1,3\n2,3\n3,\\N\n(4 rows)\n",
+        "write fault\n",
+        &[
+            (4, 0, 12),
+            (4, 7, 12),
+            (4, 14, 12),
+            (4, 21, 12),
+            (4, 28, 12),
+            (0, 30, 0),
+        ],
+    ),
+    // The note names no row of the left-joined table, in eleven pieces, of which two are ` ` and
+    // `0`: in 15 calls.
+    (
+        End::Notes,
+        "CREATE TABLE t (k int); COPY t FROM 't.csv' WITH (FORMAT csv, HEADER); SELECT a.k AS x FROM t a LEFT JOIN t b ON b.k > 9 WHERE a.k + 4611686018427387902 > 0;",
+        "",
+        "statement 3, rows 2 0, byte 131: formula F2 passes 62 bits\n",
+        &[
+            (8, 0, 0),
+            (8, 0, 7),
+            (8, 0, 10),
+            (8, 0, 11),
+            (8, 0, 18),
+            (8, 0, 19),
+            (8, 0, 20),
+            (8, 0, 21),
+            (8, 0, 28),
+            (8, 0, 31),
+            (8, 0, 38),
+            (8, 0, 41),
+            (8, 0, 43),
+            (8, 0, 50),
+            (8, 0, 57),
+            (8, 0, 59),
+        ],
+    ),
+];
+
 // The call with this number fails at this end.
 fn failing(alloc: Global, end: End, call: u64) -> Result<Failing, AllocError> {
     let mut failing = Failing::none(alloc);
@@ -205,6 +369,13 @@ fn are_right(rt: &(impl Threads + Sync), alloc: Global, row: &Failed) -> bool {
 #[test]
 fn calls_that_fail(rt: HostRuntime) {
     for row in &FAILED {
+        assert!(rt; are_right(&rt, rt.alloc(), row));
+    }
+}
+
+#[test]
+fn calls_that_fail_beside_changes(rt: HostRuntime) {
+    for row in &CHANGED {
         assert!(rt; are_right(&rt, rt.alloc(), row));
     }
 }

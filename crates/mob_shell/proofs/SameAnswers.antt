@@ -1,15 +1,16 @@
 -- Workers and indexes change no answer.
-use Rattle.std.proofs.Common.{◌≡◌, sym, subst, inl, inr, take, ℕ, ℤ, List, [], Option, Some, None, Ok, Err}
+use Rattle.std.proofs.Common.{◌≡◌, ◌∙◌, ap, sym, subst, inl, inr, take, ℕ, ℤ, List, [], Option, Some, None, Ok, Err}
 use Rattle.mob_words.specs.declared.options.Settings.{Settings}
 use Rattle.mob_typed.specs.Selects.{TypedSelectParts}
 use Rattle.mob_typed.specs.Statements.{ScriptOut}
 use Rattle.mob_value.specs.declared.store.Store.{Store}
-use Rattle.mob_catalog.specs.Catalogue.{Catalogue, live_of}
+use Rattle.mob_catalog.specs.Catalogue.{Catalogue, live_of, with_changed, with_deleted, without_rows}
 use Rattle.mob_catalog.specs.declared.catalog.TableHead.{TableHead}
 use Rattle.mob_meaning.specs.Scene.{scene}
 use Rattle.mob_tuples.specs.Kept.{AreKeptOfAny}
 use Rattle.mob_tuples.specs.Tuples.{AreTuples}
 use Rattle.mob_tuples.specs.Visits.{Joins, Keeps, Visit}
+use Rattle.mob_join.specs.Deleted.{first_rows}
 use Rattle.mob_join.specs.Outcomes.{HasOneKept}
 use Rattle.mob_join.specs.Query.{IsKept, IsMet, condition_at, conditions}
 use Rattle.mob_tail.specs.Answers.{IsAnswerOnKept}
@@ -19,11 +20,12 @@ use Rattle.mob_eval.specs.QueryFaults.{TupleFault}
 use Rattle.mob_ending.specs.declared.ending.Ending.{Ending}
 use Rattle.mob_ending.specs.declared.ending.Ending.TheVariants.{Done, Usage, ReadFault, WriteFault, NoMemory, TableRefused, ScriptRefused, Overflow}
 use Rattle.mob_shell.specs.Answers.{QueryAnswers}
+use Rattle.mob_shell.specs.Deletes.{table_of}
 use Rattle.mob_shell.specs.Ending.{IsDue}
 use Rattle.mob_shell.specs.Inputs.{FilesBy, Input, ScriptBy}
 use Rattle.mob_shell.specs.Program.{IsHalted, IsProgram, ProgramWrites, StopsWith}
 use Rattle.mob_shell.specs.Runs.{RunsStatement, Stops, begin}
-use Rattle.mob_shell.specs.SameAnswers.{DifferInIndexes, DifferInWorkers, IndexesAnswerTheSame, IndexesKeepTheSame, WorkersEndTheSame, WorkersReadTheSame, WorkersWriteTheSame}
+use Rattle.mob_shell.specs.SameAnswers.{DifferInIndexes, DifferInWorkers, IndexesAnswerTheSame, IndexesDeleteTheSame, IndexesKeepTheSame, WorkersEndTheSame, WorkersReadTheSame, WorkersWriteTheSame}
 use Rattle.mob_shell.specs.Statements.{Ran}
 use Rattle.mob_shell.specs.StepOutcomes.{OneAnswer}
 
@@ -101,6 +103,17 @@ pub keep_the_same : HasOneKept → IndexesKeepTheSame
 keep_the_same once select one other day kept others differ h k =
     let e = once select one day (Ok kept) (Ok others) h (kept_on select one other day differ kept others h k) in
     cc e
+
+pub delete_the_same : IndexesKeepTheSame → IndexesDeleteTheSame
+delete_the_same keeps select one other day left others differ h k =
+    let kept : h.0 ≡ k.0 = keeps select one other day h.0 k.0 differ h.1 k.1 in
+    let heads : (with_deleted (table_of select) (first_rows h.0) one).heads ≡ (with_deleted (table_of select) (first_rows k.0) other).heads =
+    ap (λ (heads : List TableHead). with_changed (table_of select) (without_rows (first_rows h.0)) heads) differ.heads
+    ∙ ap (λ (rows : List (List ℕ)). with_changed (table_of select) (without_rows (first_rows rows)) other.heads) kept in
+    record {
+      store = ap (λ (c : Catalogue). c.store) h.2 ∙ differ.store ∙ ap (λ (c : Catalogue). c.store) (sym k.2);
+      heads = ap (λ (c : Catalogue). c.heads) h.2 ∙ heads ∙ ap (λ (c : Catalogue). c.heads) (sym k.2);
+    }
 
 pub answer_the_same : OneAnswer → IndexesAnswerTheSame
 answer_the_same once select one other day rows others differ h k =

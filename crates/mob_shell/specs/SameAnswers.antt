@@ -6,6 +6,7 @@ use Rattle.mob_catalog.specs.Catalogue.{Catalogue}
 use Rattle.mob_join.specs.Query.{IsKept}
 use Rattle.mob_ending.specs.declared.ending.Ending.{Ending}
 use Rattle.mob_shell.specs.Answers.{QueryAnswers}
+use Rattle.mob_shell.specs.Deletes.{IsDeleted}
 use Rattle.mob_shell.specs.Ending.{IsDue}
 use Rattle.mob_shell.specs.Inputs.{Input, IsInputOf, Seen}
 use Rattle.mob_shell.specs.Program.{ProgramWrites}
@@ -36,6 +37,11 @@ pub record DifferInIndexes (one other : Catalogue) : Type 0 where
 abbrev pub IndexesKeepTheSame : Type 0
 IndexesKeepTheSame = (select : TypedSelectParts) (one other : Catalogue) (day : ℤ) (kept others : List (List ℕ)) → DifferInIndexes one other → IsKept select one day (Ok kept) → IsKept select other day (Ok others) → kept ≡ others
 
--- where it has an answer on both of them, it has the same
+-- where a DELETE has no fault on either of them, they still differ in their indexes alone behind
+-- it: the same rows have gone
+abbrev pub IndexesDeleteTheSame : Type 0
+IndexesDeleteTheSame = (select : TypedSelectParts) (one other : Catalogue) (day : ℤ) (left others : Catalogue) → DifferInIndexes one other → IsDeleted select one day left → IsDeleted select other day others → DifferInIndexes left others
+
+-- where a query has an answer on both of them, it has the same
 abbrev pub IndexesAnswerTheSame : Type 0
 IndexesAnswerTheSame = (select : TypedSelectParts) (one other : Catalogue) (day : ℤ) (rows others : List (List (List ℕ))) → DifferInIndexes one other → QueryAnswers select one day (Ok rows) → QueryAnswers select other day (Ok others) → rows ≡ others

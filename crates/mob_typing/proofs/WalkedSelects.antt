@@ -201,7 +201,8 @@ module _ (At : ℕ → Type 0) (tables : List ColumnList) (s : ScopeParts) (begi
   whole : IsPart s.from s
   whole = whole_part s begins
 
-  -- each ON, of which the first is that of table n; the source of the table before it begins at table k
+  -- each ON, of which the first is that of table n; the source of the table before it begins at
+  -- table k
   abbrev SeesOwn : ℕ → ℕ → List ConstText → TypedTree → Type 0
   SeesOwn k m cs t = IsSound At tables (numbers_of s.from) k (m + 1) cs t × (is_bool (type_of t) ≡ true)
 
@@ -280,7 +281,8 @@ module _ (At : ℕ → Type 0) (tables : List ColumnList) (s : ScopeParts) (begi
     abbrev g : Option (List ColumnNumbers)
     g = grouping grouped s gs
 
-    -- an expression that is no aggregate is in a grouped SELECT a column of GROUP BY, and an aggregate is of a grouped one
+    -- an expression that is no aggregate is in a grouped SELECT a column of GROUP BY, and an
+    -- aggregate is of a grouped one
     abbrev IsValue : TypedTree → Option Agg → Type 0
     IsValue t None = is_ungrouped g t ≡ false
     IsValue t (Some a) = (grouped ≡ true) × IsAggregateOf t a
@@ -382,7 +384,8 @@ module _ (At : ℕ → Type 0) (tables : List ColumnList) (s : ScopeParts) (begi
         then (group_walked t parts.0) (λ x own.
         also (groups_walked (done ++ x ∷ []) ts (each_both GroupHolds done (x ∷ []) so_far (own.0, tt)) parts.1) (λ all is. (is.0, (is.1.0 ∙ columns_more done x t ts own.1, let a = is.1.1 in let b = length-append done (x ∷ []) in omega (arith, a, b)))))
 
-    -- a key that means a column of the answer is its expression, and the value of that column has an order; any other key is judged by itself
+    -- a key that means a column of the answer is its expression, and the value of that column has
+    -- an order; any other key is judged by itself
     abbrev IsJudged : OutputLists → TypedTree × Bool → Option ℕ → Type 0
     IsJudged o k None = (is_key (type_of k.0) ≡ true) × (is_ungrouped g k.0 ≡ false)
     IsJudged o k (Some i) = (x : Output) × (a : Option Agg) × (slice_get o.columns i ≡ Some x) × (slice_get o.aggs i ≡ Some a) × (k.0 ≡ x.0) × (is_key (value_type x.0 a) ≡ true)
@@ -541,7 +544,7 @@ module _ (At : ℕ → Type 0) (tables : List ColumnList) (s : ScopeParts) (begi
     query_typed : (cs : List ConstText) (o : OutputLists) (js : List (Option TypedTree)) (c : Option TypedTree) (gr : List TypedTree) (ks : List (TypedTree × Bool)) (l : Option ℕ) → length s.from ≤ 4 → IsDistinct bytes_eq (names_of s.from) → length x.from ≡ length s.from
         → OutputsHold grouped x.groups cs o → AreAllJoins x.from cs js → ConditionHolds cs c → GroupsHold grouped x.groups [] x.groups gr → KeysHold grouped x.groups o x.keys cs ks → IfSome l (λ n. n < 10 ^ 18)
         → IsStandingQuery At tables cs (made o js c gr ks l)
-    query_typed cs o js c gr ks l few apart as_many items joins condition groups keys limited = (
+    query_typed cs o js c gr ks l few apart as_many items joins filtered groups keys limited = (
       record {
         there = numbers_there s.from there;
         few = subst (λ k. k ≤ 4) (sym long) few;
@@ -550,8 +553,8 @@ module _ (At : ℕ → Type 0) (tables : List ColumnList) (s : ScopeParts) (begi
         operated = each_on (Stands cs) (IsOperated cs) (λ t h. h.0) expressions all;
         limited = limited;
         items = each_on (OutputHolds cs) (λ y. HasNamedTypes tables (numbers_of s.from) cs y.0) (λ y h. h.named) o.columns items.0;
-        condition = condition_named cs c condition;
-        joins = record { each = joins.1.0 ∙ as_many ∙ sym long; first = joins.1.1; typed = joins_typed 0 0 js cs joins.0; named = λ p. joins_named 0 0 js cs joins.0 p; sourced = joins_sourced 0 0 js cs joins.0 };
+        condition = condition_named cs c filtered;
+        joins = record { each = joins.1.0 ∙ as_many ∙ sym long; first = joins.1.1; typed = joins_typed 0 0 js cs joins.0; named = λ p. let e : 0 + p + 1 ≡ p + 1 = omega arith in subst (λ q. IfSome (on_of js p) (λ t. names_before q t ≡ true)) e (joins_named 0 0 js cs joins.0 p); sourced = joins_sourced 0 0 js cs joins.0 };
         groups = each_on (GroupHolds grouped x.groups) (λ t. HasNamedTypes tables (numbers_of s.from) cs t × IsGroup t) (λ t h. ((h.0 cs).named, h.1)) gr groups.0;
         ungrouped = none_grouped;
         aggs = zip_on (IsItem grouped x.groups) (IsTypedItem grouped gr) item_typed o.columns o.aggs items.1;
@@ -579,7 +582,7 @@ module _ (At : ℕ → Type 0) (tables : List ColumnList) (s : ScopeParts) (begi
         none_grouped plain =
             let empty : not (length x.groups == 0) ≡ false = (or_parts (not (length x.groups == 0)) (list_any is_aggregate_item x.items) plain).0 in
             let none : length x.groups ≡ 0 = grind (arith, nat_tests, empty) in
-            nothing_left gr (groups.1.1 ∙ none)
+            let long = groups.1.1 in nothing_left gr (omega (arith, long, none))
 
         expressions : List TypedTree
         expressions = map (λ (y : Output). y.0) o.columns ++ (flat_map condition_alone js ++ (condition_alone c ++ (gr ++ map (λ (k : TypedTree × Bool). k.0) ks)))
@@ -588,7 +591,7 @@ module _ (At : ℕ → Type 0) (tables : List ColumnList) (s : ScopeParts) (begi
         all =
             each_both (Stands cs) (map (λ (y : Output). y.0) o.columns) _ (each_map (OutputHolds cs) (Stands cs) (λ (y : Output). y.0) (λ y h. (h.operated, h.placed)) o.columns items.0)
             (each_both (Stands cs) (flat_map condition_alone js) _ (joins_stand 0 0 js cs joins.0)
-            (each_both (Stands cs) (condition_alone c) _ (condition_stands cs c condition)
+            (each_both (Stands cs) (condition_alone c) _ (condition_stands cs c filtered)
             (each_both (Stands cs) gr _ (each_on (GroupHolds grouped x.groups) (Stands cs) (λ t h. ((h.0 cs).operated, (h.0 cs).placed)) gr groups.0)
             (each_map (KeyHolds grouped x.groups cs) (Stands cs) (λ (k : TypedTree × Bool). k.0) (λ k h. (h.0.operated, h.0.placed)) ks keys.0))))
 
@@ -642,7 +645,7 @@ select_walked At tables n x cs h =
     let items = all_parts At (flat_map item_held x.items) (flat_map from_held x.from ++ (condition_held x.cond ++ (flat_map tree_held x.groups ++ (flat_map key_held x.keys ++ word_held x.limit)))) h in
     let from = all_parts At (flat_map from_held x.from) (condition_held x.cond ++ (flat_map tree_held x.groups ++ (flat_map key_held x.keys ++ word_held x.limit))) items.1 in
     then {P = Steps n (select_places x) (IsStandingQuery At (named tables)) cs} (tables_walked At tables [] x.from (no_tables (named tables)) from.0)
-    (λ f are. clauses_walked At (named tables) (record { from = f; first = 0; statement = n }) refl are.0.there x cs are.0.few are.0.apart (sym are.1) h)
+    (λ f are. let long = are.1 in clauses_walked At (named tables) (record { from = f; first = 0; statement = n }) refl are.0.there x cs are.0.few are.0.apart (omega (arith, long)) h)
 
 -- a DELETE has one table and no column of an answer
 with_fact : {A : Type 0} {At : ℕ → Type 0} {P Q : A → Type 0} {r : Result A Mistake} → GivesOrStops At P r → ((x : A) → r ≡ Ok x → Q x) → GivesOrStops At (λ x. P x × Q x) r
@@ -655,6 +658,9 @@ condition_of_one d = Ok (record { joins = None ∷ []; cond = d.0 }, d.1)
 abbrev made_of_one : ScopeParts → SelectParts → ConditionParts × List ConstText → Result (TypedSelectParts × List ConstText) Mistake
 made_of_one scope row d = typed_order scope None no_outputs row d.1 >>= λ o. Ok (select_made scope row false no_outputs d.0 o.0, o.1)
 
+same_made : {A : Type 0} (x y : A) → ◌≡◌ {A = Result A Mistake} (Ok x) (Ok y) → x ≡ y
+same_made x y h = cc
+
 clauses_bare : (scope : ScopeParts) (table : Word) (c : Option Tree) (cs : List ConstText) (q : TypedSelectParts × List ConstText) → typed_clauses scope (rows_to_go table c) cs ≡ Ok q → (q.0.items ≡ []) × (q.0.from ≡ numbers_of scope.from)
 clauses_bare scope table c cs q is = by (condition scope c cs) refl is
   where
@@ -663,7 +669,10 @@ clauses_bare scope table c cs q is = by (condition scope c cs) refl is
 
     by : (r : Result (Option TypedTree × List ConstText) Mistake) → condition scope c cs ≡ r → (r >>= condition_of_one >>= made_of_one scope row) ≡ Ok q → (q.0.items ≡ []) × (q.0.from ≡ numbers_of scope.from)
     by (Err w) at so = absurd (cc)
-    by (Ok d) at so = (cc, cc)
+    by (Ok d) at so =
+        let nothing_else : OrderParts = record { groups = []; keys = []; key_items = []; limit = None } in
+        let same = same_made (select_made scope row false no_outputs (record { joins = None ∷ []; cond = d.0 }) nothing_else, d.1) q so in
+        (ap (λ z. z.0.items) (sym same), ap (λ z. z.0.from) (sym same))
 
 pub delete_walked : (At : ℕ → Type 0) (tables : List (List ℕ × ColumnList)) (n : ℕ) (table : Word) (c : Option Tree) (cs : List ConstText) → AllByRecursion At (table.place ∷ condition_held c)
     → GivesOrStops At (Steps n (condition_places c) (λ ds q. IsTypedDeletion (named tables) ds q × AllByRecursion At (flat_map operators_in (expressions_of q))) cs) (typed_select tables n (rows_to_go table c) cs)
@@ -673,7 +682,8 @@ delete_walked At tables n table c cs h =
     (tables_walked At tables [] (record { table = table; alias = None; on = None } ∷ []) (no_tables (named tables)) (h.0, tt))
     (λ f are.
     let scope : ScopeParts = record { from = f; first = 0; statement = n } in
-    also (with_fact (clauses_walked At (named tables) scope refl are.0.there (rows_to_go table c) cs are.0.few are.0.apart (sym are.1) (h.0, own)) (λ q is. clauses_bare scope table c cs q is)) (λ q so. record {
+    let long = are.1 in
+    also (with_fact (clauses_walked At (named tables) scope refl are.0.there (rows_to_go table c) cs are.0.few are.0.apart (omega (arith, long)) (h.0, own)) (λ q is. clauses_bare scope table c cs q is)) (λ q so. record {
       adds = subst (λ ps. Adds n ps cs q.1) (append-nil (condition_places c)) so.0.adds;
       sound = (record { query = so.0.sound.0; one = ap (λ ts. length ts) so.1.1 ∙ length-map f (λ (t : List ℕ × ScopeTableParts). t.1.table) ∙ are.1; bare = so.1.0 }, so.0.sound.1);
     }))

@@ -16,6 +16,18 @@ SELECT a.id AS x, b.id AS y FROM a, b WHERE a.trip && b.trip;
 
 const JOINED: &[u8] = b"x,y\n1,7\n1,7\n(2 rows)\n";
 
+// The same tables, of which one loses the row with the box far off and is left-joined.
+const CHANGE: &str = "CREATE TABLE a (id int, trip tgeompoint);
+CREATE TABLE b (id int, trip tgeompoint);
+INSERT INTO a VALUES (1, '[POINT(0 0)@2001-01-01, POINT(2 2)@2001-01-02]'), (2, NULL);
+INSERT INTO b VALUES (7, '[POINT(2 2)@2001-01-02, POINT(3 3)@2001-01-03]'), (7, '[POINT(2 2)@2001-01-02, POINT(3 3)@2001-01-03]'), (8, '[POINT(9 9)@2001-01-02, POINT(9 8)@2001-01-03]');
+DELETE FROM b WHERE trip && stbox 'STBOX X((8,8),(10,10))';
+SELECT a.id AS x, b.id AS y FROM a LEFT JOIN b ON a.trip && b.trip;
+SELECT id FROM b;
+";
+
+const CHANGED: &[u8] = b"x,y\n1,7\n1,7\n2,\\N\n(3 rows)\nid\n7\n7\n(2 rows)\n";
+
 const TWO_SHIPS: &[u8] = b"a,b
 (0 rows)
 id,inside
@@ -28,20 +40,41 @@ fn writes(seen: &Report, answer: &[u8]) -> bool {
     seen.status == 0 && seen.out.as_slice() == answer && seen.notes.is_empty()
 }
 
-// So many workers, whose pieces pass this gate, join the rows.
-fn is_joined(rt: &(impl Threads + Sync), alloc: Global, workers: &str, gate: &impl Gate) -> bool {
+// So many workers, whose pieces pass this gate, write this answer of a script.
+fn is_answered(
+    rt: &(impl Threads + Sync),
+    alloc: Global,
+    workers: &str,
+    script: &str,
+    answer: &[u8],
+    gate: &impl Gate,
+) -> bool {
     let words = ["mobsql", "--workers", workers];
     let failing = Failing::none(alloc);
-    match &run_through(rt, alloc, &words, JOIN.as_bytes(), &[], failing, gate) {
-        Ok(seen) => writes(seen, JOINED),
+    match &run_through(rt, alloc, &words, script.as_bytes(), &[], failing, gate) {
+        Ok(seen) => writes(seen, answer),
         Err(_) => false,
     }
+}
+
+fn is_joined(rt: &(impl Threads + Sync), alloc: Global, workers: &str, gate: &impl Gate) -> bool {
+    is_answered(rt, alloc, workers, JOIN, JOINED, gate)
 }
 
 #[test]
 fn any_number_of_workers_joins_the_same(rt: HostRuntime) {
     for workers in ["1", "3", "64"] {
         assert!(rt; is_joined(&rt, rt.alloc(), workers, &OpenGate), "{workers}");
+    }
+}
+
+#[test]
+fn any_number_of_workers_deletes_and_joins_the_same(rt: HostRuntime) {
+    for workers in ["1", "3", "64"] {
+        assert!(rt;
+            is_answered(&rt, rt.alloc(), workers, CHANGE, CHANGED, &OpenGate),
+            "{workers}"
+        );
     }
 }
 
