@@ -6,3 +6,4 @@ mod OneOrder
 mod OneAnswer
 mod Aggregating
 mod TupleSteps
+mod OneGrouped

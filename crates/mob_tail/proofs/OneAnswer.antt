@@ -53,7 +53,7 @@ one_distinct false xs ks ls h k = h ∙ sym k
 one_ordered : (falls : List Bool) (rows ys zs : List Keyed) → IsOrderedByKeys falls rows ys → IsOrderedByKeys falls rows zs → ys ≡ zs
 one_ordered falls rows ys zs h k = one_order (λ a b. is_lt (compare_rows falls a b)) (rows_ranked falls) ys zs h.sorted k.sorted (λ x. h.stable x ∙ sym (k.stable x))
 
-one_arranged : (falls : List Bool) (distinct : Bool) (limit : Option ℕ) (rows : List Keyed) (a b : List (List (List ℕ))) → AreArranged falls distinct limit rows a → AreArranged falls distinct limit rows b → a ≡ b
+pub one_arranged : (falls : List Bool) (distinct : Bool) (limit : Option ℕ) (rows : List Keyed) (a b : List (List (List ℕ))) → AreArranged falls distinct limit rows a → AreArranged falls distinct limit rows b → a ≡ b
 one_arranged falls distinct limit rows a b h k =
     let ordered : h.ordered ≡ k.ordered = one_ordered falls rows h.ordered k.ordered h.in_order k.in_order in
     let there = subst (λ z. AreDistinct distinct (map (λ row. row.fields) z) h.kept) ordered h.distinct_rows in

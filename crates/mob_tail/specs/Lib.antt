@@ -8,5 +8,6 @@ pub mod IsMadeOfEach
 pub mod Order
 pub mod Outcomes
 pub mod PlanAnswers
+pub mod QueryAnswers
 pub mod Rows
 pub mod TextsSeen
