@@ -6,3 +6,9 @@ mod OneOrder
 mod OneAnswer
 mod Aggregating
 mod TupleSteps
+mod GroupKeys
+mod ColumnValues
+mod GroupLoop
+mod Changing
+mod OneGroup
+mod KeysSeen
