@@ -3,6 +3,7 @@ use Rattle.std.specs.Prelude.{◌≡◌, ◌⊎◌, Bool, true, false, cond, not
 use Rattle.std.specs.List.{AllZip, AllByRecursion, list_any, position_or_len}
 use Rattle.std.proofs.Common.{ap, ap₂, sym, ◌∙◌, subst, inl, inr, arith}
 use Rattle.std.proofs.lemmas.List.{take_more, take_all, take-append-drop}
+use Rattle.std.proofs.lemmas.Slice.Zip.{AllZip-long}
 use Rattle.mob_typed.specs.Selects.{TypedSelectParts}
 use Rattle.mob_value.specs.declared.value.Value.{Value}
 use Rattle.mob_value.specs.declared.store.Store.{Store}
@@ -22,6 +23,15 @@ use Rattle.mob_literal.specs.Fields.{field_text}
 use Rattle.mob_tail.specs.GroupSteps.{column_seen, IsStart, IsStartCell, IsStartGroup, IsCellWith, FailsInCells, first_of, IsCellOf, IsGroupOf, AreGroupsOf, keys_on, number_on}
 use Rattle.mob_tail.proofs.TupleSteps.{cells_ok, cells_err}
 use Rattle.mob_tail.proofs.GroupKeys.{AreApart, firsts_apart, any_first, any_at, texts_equal, With, with_earlier, group_there, group_step, by_keys, no_fields}
+
+-- what is found in a list is found within it
+found_within : {K : Type 0} (p : K → Bool) (ks : List K) → list_any p ks ≡ true → position_or_len p ks < length ks
+found_within p [] h = absurd cc
+found_within p (k ∷ ks) h = by (p k) h (found_within p ks)
+  where
+    by : (b : Bool) → (b || list_any p ks) ≡ true → (list_any p ks ≡ true → position_or_len p ks < length ks) → cond (not b) (1 + position_or_len p ks) 0 < length (k ∷ ks)
+    by true h f = omega arith
+    by false h f = let m = f h in omega (arith, m)
 
 module _ (select : TypedSelectParts) (store : Store) (day : ℤ) where
   -- ---- no tuple
@@ -78,10 +88,14 @@ module _ (select : TypedSelectParts) (store : Store) (day : ℤ) where
     pub held : AreGroupsOf select store day (keys_on select store day kept) (take i kept) all
     pub fits : IsGroupedFault select store day (take i kept) None
 
-  module _ (kept : List (List ℕ)) (i : ℕ) (t : List ℕ) (lt : i < length kept) (is : t ≡ get_or kept i t) (all : List Group) (so_far : IsGroupedSoFar kept i all) (old : Group) (at : old ≡ get_or all (number_on select store day kept t) old) where
-    pub number_fits : number_on select store day kept t < length all
-    number_fits = (group_there select store day (IsGroupOf select store day) (keys_on select store day kept) all (take i kept) t old (key_there kept i t lt is) so_far.held at).0
+  -- the group of a tuple is one of the groups
+  pub number_within : (kept : List (List ℕ)) (i : ℕ) (t : List ℕ) → i < length kept → t ≡ get_or kept i t → (all : List Group) → IsGroupedSoFar kept i all → number_on select store day kept t < length all
+  number_within kept i t lt is all so_far =
+      let there = found_within (same_texts (group_fields select store day t)) (keys_on select store day kept) (key_there kept i t lt is) in
+      let long = AllZip-long _ (keys_on select store day kept) all so_far.held in
+      omega (arith, there, long)
 
+  module _ (kept : List (List ℕ)) (i : ℕ) (t : List ℕ) (lt : i < length kept) (is : t ≡ get_or kept i t) (all : List Group) (so_far : IsGroupedSoFar kept i all) (old : Group) (at : old ≡ get_or all (number_on select store day kept t) old) where
     more : take (i + 1) kept ≡ take i kept ++ t ∷ []
     more = take_more kept i t lt ∙ ap (λ z. take i kept ++ z ∷ []) (sym is)
 
@@ -110,7 +124,9 @@ module _ (select : TypedSelectParts) (store : Store) (day : ℤ) where
     where
       every : (ts : List (List ℕ)) → has_groups select ≡ false → With select store day [] ts ≡ map (λ e. e.1) (under_fields select store day ts)
       every [] e = refl
-      every (t ∷ ts) e = ap (λ b. map (λ e. e.1) (cond b ((group_fields select store day t, t) ∷ _) _)) (ap (same_texts []) (no_fields select store day e t)) ∙ ap (λ z. t ∷ z) (every ts e)
+      every (t ∷ ts) e =
+          ap (λ b. map {A = List (List ℕ) × List ℕ} (λ e. e.1) (cond b ((group_fields select store day t, t) ∷ filter (λ e. same_texts [] e.0) (under_fields select store day ts)) (filter (λ e. same_texts [] e.0) (under_fields select store day ts)))) (ap (same_texts []) (no_fields select store day e t))
+          ∙ ap (λ z. t ∷ z) (every ts e)
 
       entries : (ts : List (List ℕ)) → map (λ e. e.0) (under_fields select store day ts) ≡ map (group_fields select store day) ts
       entries [] = refl

@@ -12,3 +12,4 @@ mod GroupLoop
 mod Changing
 mod OneGroup
 mod KeysSeen
+mod GroupExamples

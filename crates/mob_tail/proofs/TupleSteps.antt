@@ -40,6 +40,11 @@ length_more (y ∷ xs) x = let e = length_more xs x in omega (arith, e)
 pub map_more : {A B : Type 0} (f : A → B) (xs : List A) (i : ℕ) (x : A) → i < length xs → x ≡ get_or xs i x → map f (take i xs) ++ f x ∷ [] ≡ map f (take (i + 1) xs)
 map_more f xs i x lt is = sym (ap (map f) (take_more xs i x lt ∙ ap (λ z. take i xs ++ z ∷ []) (sym is)) ∙ map-append f (take i xs) (x ∷ []))
 
+pub got_map : {A B : Type 0} (f : A → B) (xs : List A) (i : ℕ) (x : A) (d : B) → i < length xs → x ≡ get_or xs i x → get_or (map f xs) i d ≡ f x
+got_map f [] i x d lt is = absurd (omega (arith, lt))
+got_map f (y ∷ xs) zero x d lt is = ap f (sym is)
+got_map f (y ∷ xs) (suc i) x d lt is = got_map f xs i x d (omega (arith, lt)) is
+
 -- the entries of two lists up to one, and that one
 pub zip_next : {A B C : Type 0} (R : A → B → Type 0) (Q : A → C → Type 0) (xs : List A) (ys : List B) (zs : List C) (i : ℕ) (y : B) (z : C) → AllZip R xs ys → AllZip Q (take i xs) zs → i < length ys → y ≡ get_or ys i y → ((x : A) → R x y → Q x z) → AllZip Q (take (i + 1) xs) (zs ++ z ∷ [])
 zip_next R Q xs ys zs i y z h k lt is step = subst (λ n. AllZip Q (take n xs) (zs ++ z ∷ [])) next (by xs ys zs i h k lt is)
