@@ -13,7 +13,7 @@ use Rattle.mob_tuples.specs.Visits.{Joins, Keeps, Visit}
 use Rattle.mob_join.specs.Deleted.{first_rows}
 use Rattle.mob_join.specs.Outcomes.{HasOneKept}
 use Rattle.mob_join.specs.Query.{IsKept, IsMet, condition_at, conditions}
-use Rattle.mob_tail.specs.QueryAnswers.{IsAnswer}
+use Rattle.mob_tail.specs.Answers.{IsAnswerOnKept}
 use Rattle.mob_load.specs.Loads.{Halt, LoadsScript, missing, refused, table_refused}
 use Rattle.mob_load.specs.declared.program.Program.{Program}
 use Rattle.mob_eval.specs.QueryFaults.{TupleFault}
@@ -120,7 +120,7 @@ answer_the_same once select one other day rows others differ h k =
     let here : QueryAnswers select one day (Ok others) = (
       k.0,
       kept_on select one other day differ h.0 k.0 h.1 k.1,
-      subst (λ (store : Store). IsAnswer select store day k.0 (Ok others)) (sym differ.store) k.2,
+      subst (λ (store : Store). IsAnswerOnKept select store day k.0 (Ok others)) (sym differ.store) k.2,
     ) in
     let e = once select one day (Ok rows) (Ok others) h here in
     cc e

@@ -1,23 +1,22 @@
 -- The fault of a statement is a part of a formula of its query that does not fit.
-use Rattle.std.proofs.Common.{◌≡◌, inl, inr, refl, sym, ap, subst, Bool, ℕ, ℤ, List, [], ◌∷◌, Option, Some, None, Result, Err}
+use Rattle.std.proofs.Common.{◌≡◌, inl, inr, refl, sym, subst, Bool, ℕ, ℤ, List, [], ◌∷◌, Option, Some, None, Result, Err}
 use Rattle.std.specs.Prelude.{◌⊎◌, true, false}
 use Rattle.mob_operators.specs.declared.aggregate.AggKind.{AggKind}
 use Rattle.mob_operators.specs.declared.aggregate.AggKind.TheVariants.{CountAll}
 use Rattle.mob_typed.specs.Trees.{TypedTree}
-use Rattle.mob_typed.specs.Selects.{Output, TypedSelectParts}
+use Rattle.mob_typed.specs.Selects.{TypedSelectParts}
 use Rattle.mob_typed.specs.Statements.{StatementOut, deletion, query}
 use Rattle.mob_catalog.specs.Catalogue.{Catalogue}
 use Rattle.mob_meaning.specs.Scene.{Scene, scene}
-use Rattle.mob_meaning.specs.Evaluation.{Fault, TreeEvaluatesTo}
+use Rattle.mob_meaning.specs.Evaluation.{Fault}
 use Rattle.mob_meaning.specs.Passes.{FaultsPass, TreePasses}
 use Rattle.mob_eval.specs.QueryFaults.{TupleFault}
 use Rattle.mob_tuples.specs.Tuples.{StandsIn}
 use Rattle.mob_join.specs.Query.{FailsBy, IsKept, condition_at}
-use Rattle.mob_tail.specs.Answers.{IsField, IsKey, IsRowOf, IsTupleRow}
+use Rattle.mob_tail.specs.Answers.{IsAnswerBy, IsField, IsKey, IsRowOf, IsTupleRow}
 use Rattle.mob_tail.specs.GroupedAnswers.{Column, IsAddingTo, IsArgument, IsArgumentOf, IsArgumentOn, IsGroupedFault, columns_of}
 use Rattle.mob_tail.specs.Groups.{same_group}
 use Rattle.mob_tail.specs.IsMadeOfEach.{IsMadeOfEach}
-use Rattle.mob_tail.specs.QueryAnswers.{IsAnswerBy}
 use Rattle.mob_words.specs.declared.options.Settings.{Settings}
 use Rattle.mob_shell.specs.Answers.{QueryAnswers}
 use Rattle.mob_shell.specs.Fits.{ArgumentOfPasses, ArgumentPasses, ColumnPasses, ConditionPasses, PartPasses, PassesAt, RowPasses, StatementPasses, TuplePasses}

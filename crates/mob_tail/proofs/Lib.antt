@@ -6,4 +6,10 @@ mod OneOrder
 mod OneAnswer
 mod Aggregating
 mod TupleSteps
-mod OneGrouped
+mod GroupKeys
+mod ColumnValues
+mod GroupLoop
+mod Changing
+mod OneGroup
+mod KeysSeen
+mod GroupExamples

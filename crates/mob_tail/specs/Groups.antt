@@ -1,5 +1,5 @@
 -- The groups of the tuples that a grouped query keeps.
-use Rattle.std.specs.Prelude.{not, ◌==◌, Bool, ℕ, ℤ, List, [], ◌∷◌, map, length, nat_eq}
+use Rattle.std.specs.Prelude.{not, Bool, true, false, ℕ, ℤ, List, [], ◌∷◌, map, nat_eq}
 use Rattle.std.specs.Cmp.Lexicographic.{pointwise}
 use Rattle.mob_typed.specs.Trees.{TypedTree, typed, none, more}
 use Rattle.mob_typed.specs.Selects.{TypedSelectParts}
@@ -9,6 +9,11 @@ use Rattle.mob_value.specs.declared.store.Store.{Store}
 use Rattle.mob_literal.specs.Fields.{field_text}
 use Rattle.mob_meaning.specs.Scene.{Scene, scene, leaf_value}
 use Rattle.mob_groups.specs.Groups.{groups_by}
+
+-- whether a list has nothing
+abbrev pub is_bare : {X : Type 0} → List X → Bool
+is_bare [] = true
+is_bare (x ∷ xs) = false
 
 -- the value of a column on a tuple; what has operands is no column
 abbrev pub column_on : Scene → TypedTree → Value
@@ -33,7 +38,7 @@ under_fields select store day tuples = map (λ t. (group_fields select store day
 
 -- whether a query has GROUP BY
 abbrev pub has_groups : TypedSelectParts → Bool
-has_groups select = not (length select.groups == 0)
+has_groups select = not (is_bare select.groups)
 
 -- The groups of the tuples that are kept, in the order of their first tuple; without GROUP BY one group, also where nothing is kept.
 abbrev pub groups_on : TypedSelectParts → Store → ℤ → List (List ℕ) → List (List (List ℕ))

@@ -8,6 +8,5 @@ pub mod IsMadeOfEach
 pub mod Order
 pub mod Outcomes
 pub mod PlanAnswers
-pub mod QueryAnswers
 pub mod Rows
 pub mod TextsSeen

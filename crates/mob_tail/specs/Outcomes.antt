@@ -3,7 +3,7 @@ use Rattle.std.specs.Prelude.{ℕ, ℤ, List}
 use Rattle.mob_typed.specs.Selects.{TypedSelectParts}
 use Rattle.mob_value.specs.declared.store.Store.{Store}
 use Rattle.mob_meaning.specs.Outcomes.{IsOne}
-use Rattle.mob_tail.specs.QueryAnswers.{IsAnswer}
+use Rattle.mob_tail.specs.Answers.{IsAnswerOnKept}
 
 abbrev pub HasOneQueryAnswer : Type 0
-HasOneQueryAnswer = (select : TypedSelectParts) (store : Store) (day : ℤ) (kept : List (List ℕ)) → IsOne (IsAnswer select store day kept)
+HasOneQueryAnswer = (select : TypedSelectParts) (store : Store) (day : ℤ) (kept : List (List ℕ)) → IsOne (IsAnswerOnKept select store day kept)

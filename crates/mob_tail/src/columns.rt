@@ -5,7 +5,7 @@ ghost use Rattle.mob_typed.specs.Selects.{output_of};
 ghost use Rattle.mob_eval.specs.Views.{scene_of};
 ghost use Rattle.mob_eval.specs.Faults.{OnPassed};
 ghost use Rattle.mob_eval.specs.Held.{held};
-ghost use Rattle.mob_tail.specs.Groups.{column_on};
+ghost use Rattle.mob_tail.specs.Groups.{is_bare, column_on};
 ghost use Rattle.mob_tail.specs.GroupedAnswers.{agg_at, columns_from, IsArgumentOf};
 ghost use Rattle.mob_tail.specs.GroupSteps.{column_seen};
 
@@ -51,11 +51,21 @@ pub fn columns_of<'a>(
     Ok(columns)
 }
 
+/// Whether there are no expressions.
+pub fn is_bare(operands: &[TExpr]) -> bool
+    ensures bare { result ≡ is_bare operands.now }
+{
+    match operands.first() {
+        None => true,
+        Some(_) => false,
+    }
+}
+
 /// The value of a column of a table on a tuple; NULL of what has operands. It fails for lack of memory alone.
 pub fn column_on<'a>(alloc: Global, e: &TExpr, view: &View<'a>) -> Result<Held<'a>, AllocError>
     ensures value { IfOk result (λ h. held h ≡ column_on (scene_of view.now) (typed_of e.now)) }
 {
-    if !e.args.is_empty() {
+    if !is_bare(e.args.as_slice()) {
         return Ok(Held::Made(Value::Null));
     }
     match held_value(alloc, e, view) {

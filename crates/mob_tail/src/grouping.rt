@@ -13,7 +13,7 @@ ghost use Rattle.mob_tail.specs.GroupedAnswers.{item_of, key_value, keys_from, I
 ghost use Rattle.mob_tail.specs.TextsSeen.{texts_of};
 ghost use Rattle.mob_tail.specs.GroupSteps.{first_of, IsGroupOf, AreGroupsOf, keys_on, number_on};
 
-use crate::columns::{column_on, columns_of};
+use crate::columns::{column_on, columns_of, is_bare};
 use crate::grouped::{Cell, Group, group_with, no_groups};
 use crate::keyed::Keyed;
 use mob_eval::{QueryFault, View};
@@ -99,7 +99,7 @@ fn numbers_of(alloc: Global, keys: &[Items<Text>]) -> Result<Groups, AllocError>
 fn count_of(select: &TypedSelect, groups: usize) -> usize
     ensures count { result ≡ cond (has_groups (select_seen select.now)) groups 1 }
 {
-    if select.groups.as_slice().is_empty() {
+    if is_bare(select.groups.as_slice()) {
         1
     } else {
         groups

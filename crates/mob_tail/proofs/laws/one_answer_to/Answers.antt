@@ -1,5 +1,5 @@
-use Rattle.mob_tail.proofs.OneGrouped.{one_answer}
+use Rattle.mob_tail.proofs.OneAnswer.{answer_once}
 use Rattle.mob_tail.proofs.laws.one_answer_to.Goals as goal
 
 pub returns : goal.returns
-returns c = record { outcome = one_answer c.one_outcome.ensures.outcome }
+returns c = record { outcome = answer_once c.one_outcome.ensures.outcome }
