@@ -1,7 +1,12 @@
-pub mod PlanAnswers
-pub mod Order
-pub mod Rows
-pub mod Flags
-pub mod IsMadeOfEach
+pub mod Aggregated
 pub mod Answers
+pub mod Flags
+pub mod GroupSteps
+pub mod GroupedAnswers
+pub mod Groups
+pub mod IsMadeOfEach
+pub mod Order
 pub mod Outcomes
+pub mod PlanAnswers
+pub mod Rows
+pub mod TextsSeen
