@@ -1,5 +1,5 @@
 //! What holds of every text of a script. No code runs here.
-ghost use Rattle.mob_accept.specs.Numbers.{OperatorsAreNumbered, TextIsNumbered, TreesAreNumbered, TypingKeepsNumbers, TypingRefusesInside, UnbuiltIsNumbered, WrongNamesAreHeld, WrongNamesAreNumbered, WrongTokensAreNumbered};
+ghost use Rattle.mob_accept.specs.Numbers.{OperatorsAreNumbered, TextIsNumbered, TreesAreNumbered, TypingKeepsNumbers, TypingRefusesInside, WrongNamesAreHeld, WrongNamesAreNumbered, WrongTokensAreNumbered};
 ghost use Rattle.mob_accept.specs.Outcomes.{HasOneScript, NeverTakenAndRefused, HasOneTextRefusal};
 ghost use Rattle.mob_accept.specs.Written.{AreWritten, TreesRise, TypingKeepsOrder};
 
@@ -31,14 +31,11 @@ pub fn text_is_numbered()
     ensures operators { OperatorsAreNumbered }
 {}
 
-/// A refusal of a name, a type or a token, or of what is not built, names the statement in which
-/// its place is. Where the places that trees hold are numbered by the statements of a text, what
-/// typing refuses is. That of a name or a type stands at a place that the tree of its statement
-/// holds.
+/// A refusal of a name, a type or a token names the statement in which its place is. Where the places that trees hold are numbered by
+/// the statements of a text, what typing refuses is. That of a name or a type stands at a place that the tree of its statement holds.
 pub fn refusals_are_numbered()
     ensures typing { TypingRefusesInside }
     ensures names { WrongNamesAreNumbered }
     ensures held { WrongNamesAreHeld }
     ensures tokens { WrongTokensAreNumbered }
-    ensures unbuilt { UnbuiltIsNumbered }
 {}
