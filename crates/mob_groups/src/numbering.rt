@@ -15,10 +15,7 @@ pub struct Groups {
 }
 
 /// The groups of entries with these keys. Entries with equal keys are one group.
-pub fn numbered<K: Eq + Hash + Drop>(
-    alloc: Global,
-    keys: Vec<K>,
-) -> Result<Groups, AllocError>
+pub fn numbered<K: Eq + Hash + Drop>(alloc: Global, keys: Vec<K>) -> Result<Groups, AllocError>
     ensures numbers { IfOk result (λ r. r.numbers.items ≡ map (group_number K.eq keys.items) keys.items) }
     ensures groups { IfOk result (λ r. r.groups ≡ length (first_keys K.eq keys.items)) }
 {

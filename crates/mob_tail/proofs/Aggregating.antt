@@ -1,6 +1,6 @@
 -- Aggregates of values with one more.
-use Rattle.std.specs.Prelude.{◌≡◌, Bool, true, false, cond, not, ℕ, ◌+◌, pos, refl, List, [], ◌∷◌, ◌++◌, filter, length, Option, Some, None, option_map, Result, Ok, Err, IfOk, IfErr, MatchResult, MatchOption}
-use Rattle.std.proofs.Common.{ap, sym, ◌∙◌, subst, inl, inr, arith, append-nil}
+use Rattle.std.specs.Prelude.{◌≡◌, Bool, true, false, cond, not, ℕ, ◌+◌, pos, refl, List, [], ◌∷◌, ◌++◌, length, Option, Some, None, option_map, Result, Ok, Err, IfOk, IfErr, MatchResult, MatchOption}
+use Rattle.std.proofs.Common.{ap, sym, ◌∙◌, subst, inl, arith, append-nil}
 use Rattle.mob_ratio.specs.Ratio.{Ratio, whole, ◌+ℚ◌}
 use Rattle.mob_ratio.specs.Order.{same}
 use Rattle.mob_ratio.proofs.Clear.{clear1, cleared}
@@ -31,8 +31,7 @@ use Rattle.mob_frac.specs.Formula.{AllFit}
 use Rattle.mob_value.specs.declared.value.Value.TheVariants as value
 use Rattle.mob_ordinary.specs.Moving.{AreNormalBy, IsFunction, StepSlices, or_nothing}
 use Rattle.mob_ordinary.specs.Ordinary.{is_null}
-use Rattle.mob_tagg.specs.United.{AreUnited}
-use Rattle.mob_aggregates.specs.Aggregates.{put_there, values_at, made_of, IsAggregate, JoinsBy, total, count, all_hold, some_holds}
+use Rattle.mob_aggregates.specs.Aggregates.{put_there, made_of, IsAggregate, JoinsBy, total, count, all_hold, some_holds}
 use Rattle.mob_aggregates.proofs.Joining.{total_joins, count_joins, all_joins, some_joins, aggregate_one, aggregate_both, aggregate_same, aggregate_first}
 use Rattle.mob_tail.specs.Aggregated.{counted, known_of, number_in, numbers_of, IsOverTime, IsAggregated, leaves_out, AddingPasses, IsUnion, IsAggregateWith, one_where, one_there, slices_there, step_there, line_there, truth_there, steps_of, lines_of, truths_of}
 
@@ -168,8 +167,7 @@ module _ (ty : SqlType) (before v : Value) (b : Ratio) (is : number_in v ≡ Som
     where
       by : (ns : List Ratio) → numbers_of vs ≡ ns → before ≡ or_nothing Number (made_of total (numbers_of vs)) → IsAggregated Sum ty (vs ++ v ∷ []) (Number b) × AddingPasses false Sum ty vs v None
       by [] k e =
-          let none : before ≡ Null = e ∙ ap (λ z. or_nothing Number (made_of total z)) k in
-          (
+          let none : before ≡ Null = e ∙ ap (λ z. or_nothing Number (made_of total z)) k in (
             ap Number (sym (one_total b)) ∙ ap (λ z. or_nothing Number (made_of total (z ++ b ∷ []))) (sym k) ∙ ap (λ z. or_nothing Number (made_of total z)) (sym (sum_of_numbers vs v b is)),
             (before, e, (Number b, alone v b is, subst (λ z. IsFirst (arithmetic_entries Added sql.Numeric z (Number b)) None) (sym none) (inl (tt, refl)))),
           )

@@ -1,10 +1,10 @@
 -- The value of a column on a tuple, and the columns of the answer.
-use Rattle.std.specs.Prelude.{◌≡◌, ◌+◌, ◌<◌, ◌++◌, Bool, true, false, not, ℕ, refl, List, [], ◌∷◌, Option, Some, None, Result, Ok, Err, length, map, drop, get_or}
-use Rattle.std.proofs.Common.{ap, sym, ◌∙◌, subst, inl, inr, true≢false, append_assoc, append-nil}
+use Rattle.std.specs.Prelude.{◌≡◌, ◌+◌, ◌<◌, ◌++◌, true, false, ℕ, refl, List, [], ◌∷◌, Option, Some, None, Ok, Err, length, map, drop, get_or}
+use Rattle.std.proofs.Common.{ap, sym, ◌∙◌, subst, inl, inr, true≢false, append_assoc}
 use Rattle.mob_typed.specs.declared.typed.Agg.{Agg}
 use Rattle.mob_typed.specs.declared.typed.TExpr.{TExpr}
 use Rattle.mob_typed.specs.declared.typed.TExpr.TheViews.{out-TExpr}
-use Rattle.mob_typed.specs.Trees.{TypedTree, typed, none, typed_trees, typed_of}
+use Rattle.mob_typed.specs.Trees.{typed, none, typed_trees, typed_of}
 use Rattle.mob_typed.specs.Selects.{output_of}
 use Rattle.mob_typed.proofs.TreeFacts.{typed_is}
 use Rattle.mob_operators.specs.declared.operator.Op.{Op}
@@ -15,10 +15,8 @@ use Rattle.mob_meaning.specs.Scene.{Scene, leaf_value}
 use Rattle.mob_meaning.specs.Operators.{OperatorGives, IsFirstFormula}
 use Rattle.mob_meaning.specs.Evaluation.{Fault, TreeEvaluatesTo}
 use Rattle.mob_eval.proofs.Loops.{drop_read}
-use Rattle.mob_tail.specs.declared.columns.Column.{Column as ColumnOf}
 use Rattle.mob_tail.specs.Groups.{is_bare, column_on}
 use Rattle.mob_tail.specs.GroupedAnswers.{Column, agg_at, columns_from}
-use Rattle.mob_tail.specs.GroupSteps.{column_seen}
 
 module _ (s : Scene) (o : Op) (ty : SqlType) (place : ℕ) where
   leaf_is : (v : Value) → TreeEvaluatesTo s (typed o ty place none) (Ok v) → v ≡ leaf_value s o ty

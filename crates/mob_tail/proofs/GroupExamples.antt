@@ -1,13 +1,12 @@
 -- Worked groups and aggregates, by the definitions.
-use Rattle.std.proofs.Common.{◌≡◌, true, false, List, [], ◌∷◌, Option, Some, None, refl, tt}
+use Rattle.std.proofs.Common.{◌≡◌, true, false, [], ◌∷◌, None, refl}
 use Rattle.std.specs.Prelude.{pos}
-use Rattle.mob_ratio.specs.Ratio.{whole}
 use Rattle.mob_ast.specs.declared.types.SqlType.TheVariants as sql
 use Rattle.mob_operators.specs.declared.operator.Op.TheVariants as op
 use Rattle.mob_operators.specs.declared.aggregate.AggKind.TheVariants.{CountAll, Count, Sum, TCount, TAnd}
 use Rattle.mob_typed.specs.Trees.{typed, none}
 use Rattle.mob_typed.specs.Selects.{TypedSelectParts}
-use Rattle.mob_value.specs.declared.value.Value.TheVariants.{Null, Bool as Truth, Number}
+use Rattle.mob_value.specs.declared.value.Value.TheVariants.{Null, Bool as Truth}
 use Rattle.mob_value.specs.declared.store.Store.{Store}
 use Rattle.mob_tail.specs.Aggregated.{counted, IsAggregated, AddingPasses}
 use Rattle.mob_tail.specs.Groups.{groups_on}

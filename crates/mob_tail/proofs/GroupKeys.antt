@@ -1,9 +1,9 @@
 -- The groups of tuples by their fields, tuple by tuple.
-use Rattle.std.specs.Prelude.{◌≡◌, ◌⊎◌, Bool, true, false, cond, not, ◌||◌, ◌==◌, ℕ, zero, suc, ◌+◌, ◌<◌, ℤ, refl, List, [], ◌∷◌, ◌++◌, Option, Some, None, map, filter, length, get_or, set, take, nat_eq}
-use Rattle.std.specs.List.{AllZip, AllByRecursion, list_any, position_or_len}
+use Rattle.std.specs.Prelude.{◌≡◌, Bool, true, false, cond, not, ◌||◌, ℕ, zero, suc, ◌+◌, ◌<◌, ℤ, refl, List, [], ◌∷◌, ◌++◌, map, filter, length, get_or, set}
+use Rattle.std.specs.List.{AllZip, list_any, position_or_len}
 use Rattle.std.specs.Cmp.{IsEquivalence}
 use Rattle.std.specs.Cmp.Lexicographic.{lists_equiv, nat_list_eq_equiv}
-use Rattle.std.proofs.Common.{ap, ap₂, sym, ◌∙◌, subst, inl, inr, arith, true≢false}
+use Rattle.std.proofs.Common.{ap, ap₂, sym, ◌∙◌, subst, arith, true≢false}
 use Rattle.mob_typed.specs.Selects.{TypedSelectParts}
 use Rattle.mob_typed.specs.Trees.{TypedTree}
 use Rattle.mob_literal.specs.Fields.{field_text}
@@ -11,12 +11,8 @@ use Rattle.mob_meaning.specs.Scene.{scene}
 use Rattle.mob_value.specs.declared.store.Store.{Store}
 use Rattle.mob_groups.specs.Groups.{first_keys, members}
 use Rattle.mob_aggregates.specs.Rows.{earlier}
-use Rattle.mob_tail.specs.declared.columns.Column.{Column as ColumnOf}
-use Rattle.mob_tail.specs.declared.grouped.Cell.{Cell}
 use Rattle.mob_tail.specs.declared.grouped.Group.{Group}
-use Rattle.mob_tail.specs.Groups.{is_bare, column_on, group_fields, same_texts, same_group, under_fields, has_groups, groups_on}
-use Rattle.mob_tail.specs.GroupedAnswers.{Column, columns_of}
-use Rattle.mob_tail.specs.GroupSteps.{column_seen, IsStart, IsStartCell, IsStartGroup, IsCellOf, IsGroupOf, AreGroupsOf, keys_on, number_on}
+use Rattle.mob_tail.specs.Groups.{is_bare, column_on, group_fields, same_texts, same_group, under_fields, has_groups}
 
 -- each two keys differ
 abbrev pub AreApart : {K : Type 0} → (K → K → Bool) → List K → Type 0

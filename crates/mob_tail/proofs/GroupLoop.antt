@@ -1,8 +1,8 @@
 -- How far a loop is that brings tuples into their groups.
-use Rattle.std.specs.Prelude.{◌≡◌, ◌⊎◌, Bool, true, false, cond, not, ◌||◌, ℕ, ◌+◌, ◌<◌, ℤ, refl, List, [], ◌∷◌, ◌++◌, Option, Some, None, is_none, map, length, get_or, set, take, drop, filter}
+use Rattle.std.specs.Prelude.{◌≡◌, ◌⊎◌, Bool, true, false, cond, not, ◌||◌, ℕ, ◌+◌, ◌<◌, ℤ, refl, List, [], ◌∷◌, ◌++◌, Some, None, is_none, map, length, get_or, set, take, drop, filter}
 use Rattle.std.specs.List.{AllZip, AllByRecursion, list_any, position_or_len}
 use Rattle.std.proofs.Common.{ap, ap₂, sym, ◌∙◌, subst, inl, inr, arith}
-use Rattle.std.proofs.lemmas.List.{take_more, take_all, take-append-drop}
+use Rattle.std.proofs.lemmas.List.{take_more, take-append-drop}
 use Rattle.std.proofs.lemmas.Slice.Zip.{AllZip-long}
 use Rattle.mob_typed.specs.Selects.{TypedSelectParts}
 use Rattle.mob_value.specs.declared.value.Value.{Value}
@@ -11,7 +11,7 @@ use Rattle.mob_meaning.specs.Scene.{Scene, scene}
 use Rattle.mob_meaning.specs.Evaluation.{Fault}
 use Rattle.mob_eval.proofs.Loops.{drop_read}
 use Rattle.mob_groups.specs.Groups.{first_keys, group_number}
-use Rattle.mob_aggregates.specs.Rows.{IsTuple, earlier, IsRowFault}
+use Rattle.mob_aggregates.specs.Rows.{IsTuple}
 use Rattle.mob_aggregates.proofs.RowSteps.{none_more, fault_at}
 use Rattle.mob_tail.specs.declared.columns.Column.{Column as ColumnOf}
 use Rattle.mob_tail.specs.declared.grouped.Cell.{Cell}

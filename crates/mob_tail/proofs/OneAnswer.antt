@@ -13,7 +13,7 @@ use Rattle.mob_tail.specs.IsMadeOfEach.{IsMadeOfEach}
 use Rattle.mob_tail.specs.Order.{IsOrderedByKeys, compare_rows}
 use Rattle.mob_tail.specs.Rows.{AreFirst, AreDistinct, AreArranged, limited}
 use Rattle.mob_tail.specs.Answers.{IsField, IsKey, IsRowOf, IsTupleRow, IsPlainAnswer, IsAnswerBy, IsAnswerOnKept}
-use Rattle.mob_tail.specs.GroupedAnswers.{IsGroupRow, IsGroupedFault, IsGroupedAnswer}
+use Rattle.mob_tail.specs.GroupedAnswers.{IsGroupedAnswer}
 use Rattle.mob_tail.specs.Groups.{groups_on}
 use Rattle.mob_tail.proofs.OneGroup.{fault_once, rows_once}
 use Rattle.mob_tail.proofs.Orders.{rows_ranked}

@@ -1,5 +1,6 @@
 -- A grouped query has one first fault, or none, and one row for each group.
-use Rattle.std.proofs.Common.{◌≡◌, inl, inr, ℕ, ℤ, Bool, true, false, List, [], ◌∷◌, Option, Some, None, Result, Ok, Err, refl, sym, ap, ap₂, subst, ◌∙◌, map}
+use Rattle.std.proofs.Common.{◌≡◌, ℕ, ℤ, Bool, true, false, List, [], ◌∷◌, Option, Some, None, Ok, refl, sym, ap, ap₂, subst, ◌∙◌, map}
+use Rattle.std.specs.Prelude.{option_map}
 use Rattle.std.specs.List.{AllZip}
 use Rattle.mob_ratio.specs.Ratio.{Ratio}
 use Rattle.mob_ratio.specs.Order.{same}
@@ -15,7 +16,6 @@ use Rattle.mob_ast.specs.declared.types.SqlType.{SqlType}
 use Rattle.mob_ast.specs.declared.types.SqlType.TheVariants as sql
 use Rattle.mob_operators.specs.declared.aggregate.AggKind.{AggKind}
 use Rattle.mob_operators.specs.declared.aggregate.AggKind.TheVariants.{CountAll, Count, Sum, TCount, TSum, TAnd, TOr}
-use Rattle.mob_typed.specs.declared.typed.Agg.{Agg}
 use Rattle.mob_typed.specs.Trees.{TypedTree}
 use Rattle.mob_typed.specs.Selects.{TypedSelectParts}
 use Rattle.mob_value.specs.declared.value.Value.{Value}
@@ -32,8 +32,8 @@ use Rattle.mob_aggregates.specs.Aggregates.{total, count, all_hold, some_holds}
 use Rattle.mob_aggregates.proofs.Joining.{one_aggregate}
 use Rattle.mob_aggregates.proofs.OneRow.{one_row_fault}
 use Rattle.mob_tail.specs.declared.keyed.Keyed.{Keyed}
-use Rattle.mob_tail.specs.Aggregated.{IsOverTime, IsAggregated, leaves_out, adding_entries, AddingPasses, IsAdding, one_there, step_there, line_there, truth_there}
-use Rattle.mob_tail.specs.Groups.{same_group, first_value}
+use Rattle.mob_tail.specs.Aggregated.{IsOverTime, IsAggregated, leaves_out, adding_entries, AddingPasses, one_there, step_there, line_there, truth_there}
+use Rattle.mob_tail.specs.Groups.{same_group}
 use Rattle.mob_tail.specs.GroupedAnswers.{Column, columns_of, IsArgumentOf, IsArgument, IsArgumentOn, IsAddingTo, IsColumnValue, keys_from, IsGroupRow, IsGroupedFault}
 
 over_once : {C B Z : Type 0} (course : CourseOf C Z) (one : OneList course) (make : List (Slice C) → Value) (f : List B → Z) (there : Value → Ratio → Option B) (vs : List Value) (v w : Value) → IsOverTime course make f there vs v → IsOverTime course make f there vs w → v ≡ w
@@ -75,7 +75,7 @@ passes_once false kind ty vs v f g h k =
 
 adding_once : (c : Column) (vs : List Value) (v : Value) (f g : Option Fault) → IsAddingTo c vs v f → IsAddingTo c vs v g → f ≡ g
 adding_once (e, None) vs v f g h k = h ∙ sym k
-adding_once (e, Some agg) vs v f g h k = h.2 ∙ ap _ (passes_once (leaves_out agg.kind v) agg.kind agg.ty vs v h.0 k.0 h.1 k.1) ∙ sym k.2
+adding_once (e, Some agg) vs v f g h k = h.2 ∙ ap (option_map (λ formula. (agg.place, formula))) (passes_once (leaves_out agg.kind v) agg.kind agg.ty vs v h.0 k.0 h.1 k.1) ∙ sym k.2
 
 module _ (one : HasOneOutcome) where
   argument_of_once : (kind : AggKind) (s : Scene) (e : TypedTree) → IsOne (IsArgumentOf kind s e)

@@ -1,5 +1,5 @@
 -- Groups with one more tuple.
-use Rattle.std.specs.Prelude.{◌≡◌, ◌<◌, ◌+◌, Bool, true, false, ℕ, zero, suc, ℤ, refl, List, [], ◌∷◌, ◌++◌, Option, Some, None, is_none, Result, Ok, Err, length, get_or}
+use Rattle.std.specs.Prelude.{◌≡◌, ◌<◌, ◌+◌, Bool, true, false, ℕ, zero, suc, ℤ, refl, List, [], ◌∷◌, ◌++◌, Some, None, is_none, Ok, Err, length, get_or}
 use Rattle.std.specs.List.{AllZip, AllByRecursion}
 use Rattle.std.proofs.Common.{ap, sym, ◌∙◌, subst, inl, inr, arith, take, map, ◌≤◌}
 use Rattle.std.proofs.lemmas.List.{take_more, take_all, map-append}
@@ -16,10 +16,8 @@ use Rattle.mob_eval.specs.declared.fault.EvalFault.TheVariants.{Passed, NoMemory
 use Rattle.mob_tail.proofs.Changing.{AreChanged}
 use Rattle.mob_aggregates.specs.Rows.{AreValues, IsItem, IsTuple}
 use Rattle.mob_tail.specs.declared.grouped.Cell.{Cell}
-use Rattle.mob_tail.specs.declared.grouped.Group.{Group}
-use Rattle.mob_tail.specs.Groups.{first_value}
 use Rattle.mob_tail.specs.GroupedAnswers.{Column, IsArgumentOn, IsAddingTo, IsColumnValue}
-use Rattle.mob_tail.specs.GroupSteps.{column_seen, IsColumnWith, IsCellWith, FailsInCells, first_of, IsCellOf, IsGroupOf}
+use Rattle.mob_tail.specs.GroupSteps.{column_seen, IsColumnWith, IsCellWith, FailsInCells, first_of, IsCellOf}
 
 pub zip_more : {A B : Type 0} (R : A → B → Type 0) (xs : List A) (ys : List B) (x : A) (y : B) → AllZip R xs ys → R x y → AllZip R (xs ++ x ∷ []) (ys ++ y ∷ [])
 zip_more R [] [] x y h k = (k, tt)

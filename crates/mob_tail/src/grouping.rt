@@ -73,10 +73,7 @@ fn keys_of(
 }
 
 // The texts of each key.
-fn references<'a>(
-    alloc: Global,
-    keys: &'a [Items<Text>],
-) -> Result<Vec<Vec<&'a [u8]>>, AllocError>
+fn references<'a>(alloc: Global, keys: &'a [Items<Text>]) -> Result<Vec<Vec<&'a [u8]>>, AllocError>
     ensures same { IfOk result (λ v. map texts_of v.items ≡ keys.now) }
 {
     let mut all = Vec::with_capacity(alloc, keys.len())?;
@@ -311,7 +308,15 @@ pub fn grouped_rows(
     let Ok((numbers, mut groups)) = begun(alloc, select, store, kept, epoch) else {
         return Err(QueryFault::NoMemory);
     };
-    match grouped_tuples(alloc, select, store, kept, epoch, numbers.as_slice(), &mut groups) {
+    match grouped_tuples(
+        alloc,
+        select,
+        store,
+        kept,
+        epoch,
+        numbers.as_slice(),
+        &mut groups,
+    ) {
         Ok(()) => {}
         Err(fault) => return Err(fault),
     }

@@ -1,4 +1,4 @@
-use Rattle.std.proofs.Common.{◌≡◌, ◌∙◌, ◌+◌, ◌++◌, ◌∷◌, [], ap, sym, map, drop, append-nil}
+use Rattle.std.proofs.Common.{◌∙◌, ◌+◌, ◌++◌, ◌∷◌, [], ap, sym, map, drop, append-nil}
 use Rattle.std.proofs.lemmas.List.{drop_all, map-append}
 use Rattle.mob_typed.specs.Trees.{typed_of}
 use Rattle.mob_typed.specs.Selects.{output_of}

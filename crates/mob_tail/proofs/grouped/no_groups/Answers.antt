@@ -1,4 +1,4 @@
-use Rattle.std.proofs.Common.{◌≡◌, ◌+◌, sym, ap, subst, arith, length}
+use Rattle.std.proofs.Common.{sym, ap, subst, arith, length}
 use Rattle.std.specs.List.{AllByRecursion}
 use Rattle.mob_tail.specs.GroupSteps.{IsStartGroup}
 use Rattle.mob_tail.proofs.TupleSteps.{each_more, length_more}

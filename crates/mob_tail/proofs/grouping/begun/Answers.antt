@@ -1,4 +1,4 @@
-use Rattle.std.proofs.Common.{sym, ◌∙◌}
+use Rattle.std.proofs.Common.{◌∙◌}
 use Rattle.mob_typed.specs.Selects.{select_seen}
 use Rattle.mob_tail.specs.GroupSteps.{keys_on}
 use Rattle.mob_tail.proofs.GroupLoop.{start_groups}

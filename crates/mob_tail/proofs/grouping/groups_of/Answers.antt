@@ -1,4 +1,4 @@
-use Rattle.std.proofs.Common.{sym, ap, ◌∙◌, map}
+use Rattle.std.proofs.Common.{ap, ◌∙◌, map}
 use Rattle.mob_typed.specs.Selects.{select_seen}
 use Rattle.mob_groups.specs.Groups.{group_number}
 use Rattle.mob_tail.specs.Groups.{same_texts}

@@ -1,4 +1,4 @@
-use Rattle.std.proofs.Common.{◌≡◌, ◌∙◌, ◌++◌, ◌∷◌, [], ap, ap₂, map, take}
+use Rattle.std.proofs.Common.{◌≡◌, ◌∙◌, ◌++◌, ◌∷◌, [], ap₂}
 use Rattle.mob_typed.specs.Selects.{select_seen}
 use Rattle.mob_tail.specs.Groups.{group_fields}
 use Rattle.mob_tail.proofs.TupleSteps.{map_more}
