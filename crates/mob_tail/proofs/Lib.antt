@@ -13,3 +13,4 @@ mod Changing
 mod OneGroup
 mod KeysSeen
 mod GroupExamples
+mod FieldsTell

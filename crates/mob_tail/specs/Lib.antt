@@ -1,6 +1,7 @@
 pub mod Aggregated
 pub mod Answers
 pub mod Flags
+pub mod GroupLaws
 pub mod GroupSteps
 pub mod GroupedAnswers
 pub mod Groups

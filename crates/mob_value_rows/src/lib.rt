@@ -1,4 +1,4 @@
-//! Tests of values, as tables: fractions, texts, constants and multiples.
+//! Tests of values, as tables: fractions, texts, constants, multiples, and values taken together.
 #![tactic(auto)]
 
 #[cfg(test)]
@@ -9,3 +9,5 @@ mod fractions;
 mod multiples;
 #[cfg(test)]
 mod texts;
+#[cfg(test)]
+mod together;
