@@ -1,7 +1,9 @@
-//! Tests of texts of values, as a table, and of calls on values over time that no script reaches.
+//! Tests of texts of values, as a table, and of calls on values over time: those that no script reaches, and values taken together.
 #![tactic(auto)]
 
 #[cfg(test)]
 mod moving;
 #[cfg(test)]
 mod texts;
+#[cfg(test)]
+mod together;
