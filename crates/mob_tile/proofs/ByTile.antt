@@ -26,7 +26,18 @@ use Rattle.mob_tile.specs.declared.pieces.Piece.{Piece}
 use Rattle.mob_tile.specs.Pieces.{slices_of, IsInItsTile, ArePieces}
 use Rattle.mob_tile.specs.Groups.{piece_before, same_tile, IsByTile, group_with, groups_of, IsGroup, IsPartOfGroup, IsPartPushed, AreParts, IsGrouping}
 use Rattle.mob_tile.specs.Split.{IsPart, IsSplit, HasTile}
-use Rattle.mob_tile.proofs.TileOrder.{same_is, same_self, less_differs, less_differs_back, then_less, less_trans, ties_same, Leads, Rises, rises_sorted, tile_itself, tiles_total}
+use Rattle.mob_tile.proofs.TileOrder as order
+use Rattle.mob_tile.proofs.TileOrder.{same_is, same_self, less_differs, less_differs_back, then_less, less_trans, ties_same, rises_sorted, tile_itself, tiles_total}
+
+abbrev tile_in : Piece → Tile
+tile_in q = q.tile
+
+-- no piece has a tile before a, and the tiles of pieces do not fall
+abbrev Leads : Tile → List Piece → Type 0
+Leads a qs = order.Leads tile_in a qs
+
+abbrev pub Rises : List Piece → Type 0
+Rises qs = order.Rises tile_in qs
 
 abbrev Value : Type 0
 Value = List (Slice PlaneLine)
@@ -155,7 +166,7 @@ some_piece a = record { tile = a; slice = record { span = record { lower = nil; 
 pub stays : (a : Tile) (pieces ordered : List Piece) → IsStableBy piece_before pieces ordered → of_tile a ordered ≡ of_tile a pieces
 stays a pieces ordered h =
     let q = some_piece a in
-    let tie : (r : Piece) → same_tile a r.tile ≡ ties piece_before q r = λ r. sym (ties_same q r) in
+    let tie : (r : Piece) → same_tile a r.tile ≡ ties piece_before q r = λ r. sym (ties_same tile_in q r) in
     ap slices_of (filter_same (λ r. same_tile a r.tile) (ties piece_before q) tie ordered ∙ h q ∙ sym (filter_same (λ r. same_tile a r.tile) (ties piece_before q) tie pieces))
 
 -- ---- in order of time
@@ -228,7 +239,7 @@ where_all None = refl
 where_all (Some p) = refl
 
 pub groups_fit : (g : GridOf) (a : Value) (pieces ordered : List Piece) → ArePieces g a pieces → IsByTile pieces ordered → AllByRecursion IsGroup (groups_of ordered)
-groups_fit g a pieces ordered h s = each (groups_of ordered) (groups_are ordered (rises_sorted ordered s.sorted)).each
+groups_fit g a pieces ordered h s = each (groups_of ordered) (groups_are ordered (rises_sorted tile_in ordered s.sorted)).each
   where
     each : (gs : List (Tile × Value)) → AllByRecursion (λ (z : Tile × Value). (z.1 ≡ of_tile z.0 ordered) × (z.1 ≢ [])) gs → AllByRecursion IsGroup gs
     each [] k = tt
@@ -236,7 +247,7 @@ groups_fit g a pieces ordered h s = each (groups_of ordered) (groups_are ordered
 
 pub split_is : (g : GridOf) (a : Value) (pieces ordered : List Piece) (parts : List (Tile × Value)) → IsGrid g → ArePieces g a pieces → IsByTile pieces ordered → AreParts (groups_of ordered) parts → IsSplit g a parts
 split_is g a pieces ordered parts ok h s m =
-    let gs = groups_are ordered (rises_sorted ordered s.sorted) in
+    let gs = groups_are ordered (rises_sorted tile_in ordered s.sorted) in
     record {
       rising = rise (groups_of ordered) parts gs.rise m;
       each = each (groups_of ordered) parts gs.each m;
