@@ -101,7 +101,7 @@ module _ (src : Tile → Value) where
           let none : of_tile a (q ∷ qs) ≡ [] = none_later a q.tile (q ∷ qs) next (own q.tile, up.0) in (
             (sym (append-nil taken) ∙ ap (λ z. taken ++ z) (sym none) ∙ sym e, some),
             other (f q.tile next ∙ passes q.tile q qs (same_self q.tile))
-            (λ b k. f b (less_trans a q.tile b next (not_back q.tile b k)) ∙ fails b q qs (less_differs_back q.tile b k)),
+                (λ b k. f b (less_trans a q.tile b next (not_back q.tile b k)) ∙ fails b q qs (less_differs_back q.tile b k)),
           )
 
 rise_of : (a : Tile) (taken : Value) (qs : List Piece) → Leads a qs → Rises qs → Rise (group_with a taken qs)
@@ -254,7 +254,7 @@ split_is g a pieces ordered parts ok h s m =
       all = λ t p e.
           let b = tile_of g t p in
           let there : value_at plane_value_of (of_tile b ordered) t ≡ Some p =
-              ap (λ v. value_at plane_value_of v t) (stays b pieces ordered s.stable) ∙ value t b ∙ ap (λ z. where_wanted true (in_tile g b t) z) e ∙ ap (λ z. kept_value true z p) ((in_tile_exact g b t p).1 (tile_has g t p ok)) in
+          ap (λ v. value_at plane_value_of v t) (stays b pieces ordered s.stable) ∙ value t b ∙ ap (λ z. where_wanted true (in_tile g b t) z) e ∙ ap (λ z. kept_value true z p) ((in_tile_exact g b t p).1 (tile_has g t p ok)) in
           found b (groups_of ordered) parts (gs.there b (λ z. some_there t p (of_tile b ordered) z there)) m;
     }
   where

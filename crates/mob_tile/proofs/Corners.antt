@@ -103,8 +103,8 @@ module _ (g : GridOf) (r : TileRange) (s : Slice PlaneLine) (f : Reaches g r s) 
       let a = slice_value plane_value_of s c.lower in
       let b = slice_value plane_value_of s c.upper in
       let whole : InRange r (tile_of g c.lower (least_of a b)) = f c.lower (least_of a b)
-          (in_between p q (least_of a b)
-            (among_smaller p.x q.x a.x b.x (value_among p.x q.x s.span c.lower l lu) (value_among p.x q.x s.span c.upper ul u))
-            (among_smaller p.y q.y a.y b.y (value_among p.y q.y s.span c.lower l lu) (value_among p.y q.y s.span c.upper ul u)))
-          (not-up_to-le s.span.lower c.lower l) (not-up_to-le c.lower s.span.upper lu) in
+      (in_between p q (least_of a b)
+      (among_smaller p.x q.x a.x b.x (value_among p.x q.x s.span c.lower l lu) (value_among p.x q.x s.span c.upper ul u))
+      (among_smaller p.y q.y a.y b.y (value_among p.y q.y s.span c.lower l lu) (value_among p.y q.y s.span c.upper ul u)))
+      (not-up_to-le s.span.lower c.lower l) (not-up_to-le c.lower s.span.upper lu) in
       subst (λ z. InRange r (tile_of g c.lower (least_of z part.course.to))) (sym v.from) (subst (λ z. InRange r (tile_of g c.lower (least_of a z))) (sym v.to) whole)

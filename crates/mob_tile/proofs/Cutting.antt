@@ -205,8 +205,8 @@ module _ (g : GridOf) (s : Slice PlaneLine) (ok : IsGrid g) where
           by true e =
               let w = and_parts (before d.lower (edge_of g.width n)) (before (edge_of g.width n) d.upper) e in
               none (edge_of g.width n) (t_there n
-                (le_lt s.span.lower d.lower (edge_of g.width n) (not-up_to-le s.span.lower d.lower o.low) (before-lt d.lower (edge_of g.width n) w.0))
-                (lt_le (edge_of g.width n) d.upper s.span.upper (before-lt (edge_of g.width n) d.upper w.1) (not-up_to-le d.upper s.span.upper o.high)))
+              (le_lt s.span.lower d.lower (edge_of g.width n) (not-up_to-le s.span.lower d.lower o.low) (before-lt d.lower (edge_of g.width n) w.0))
+              (lt_le (edge_of g.width n) d.upper s.span.upper (before-lt (edge_of g.width n) d.upper w.1) (not-up_to-le d.upper s.span.upper o.high)))
 
   each_cell : (cells : List SpanOf) → AllByRecursion (λ c. is_cell_of s.span c ≡ true) cells → ((r : Ratio) → IsIn r (cuts_of g s) → AllByRecursion (NoneWithin r) cells) → IsSound (λ c. c.from) (λ c. c.to) s → AllByRecursion (HasOneTile g s) cells
   each_cell [] a f sound = tt

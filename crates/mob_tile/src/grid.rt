@@ -9,7 +9,7 @@ ghost use Rattle.mob_slice.specs.Computed.{IsComputed};
 ghost use Rattle.mob_slice.specs.declared.formula.Formula.TheVariants.{F2};
 ghost use Rattle.mob_stbox.specs.Boxes.{is_whole};
 ghost use Rattle.mob_tile.specs.Bands.{InBand, floor_of, band_of};
-ghost use Rattle.mob_tile.specs.Tiles.{GridOf, tile_of, InRange, IsRange, range_of, range_parts, OnSides, HasMany};
+ghost use Rattle.mob_tile.specs.Tiles.{GridOf, IsGrid, tile_of, InRange, IsRange, range_of, range_parts, OnSides, HasMany};
 ghost use Rattle.mob_tile.specs.Split.{IsSplit, OnRange, SplitAnswer, IsLimited};
 
 use crate::splitting::{SplitFault, split_by};
@@ -41,8 +41,8 @@ impl Model for Grid {
     ghost inverse = { λ g. record { size = g.size; width = g.width } };
 }
 
-// Whether the number is above 0.
-fn is_positive(x: &Frac) -> bool
+/// Whether the number is above 0.
+pub fn is_positive(x: &Frac) -> bool
     ensures exact { (result ≡ true) ↔ (nil <ℚ x.now) }
 {
     x.sign() == 1
@@ -110,6 +110,7 @@ impl Grid {
     pub fn new(size: Frac, width: Frac) -> Option<Grid>
         ensures none { IsNone result ↔ ((size ≤ℚ nil) ⊎ (width ≤ℚ nil)) }
         ensures value { IfSome result (λ g. g ≡ record { size = size; width = width }) }
+        ensures sides { IfSome result IsGrid }
     {
         if !is_positive(&size) {
             return None;

@@ -6,9 +6,9 @@ ghost use Rattle.mob_tile.specs.Edges.{entries_of_slice};
 ghost use Rattle.mob_tile.specs.Pieces.{Reaches};
 ghost use Rattle.mob_tile.specs.Split.{IsSplit, OnRange, SplitAnswer, IsLimited};
 
+use crate::grid::Grid;
 use crate::groups::{parts_of, sort_pieces};
 use crate::pieces::pieces_of;
-use crate::grid::Grid;
 use crate::tile::{Tile, TileRange};
 use mob_slice::{Formula, Moving, OpFault, PlaneLine};
 use mob_value::box_of;

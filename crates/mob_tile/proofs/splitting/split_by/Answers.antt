@@ -19,8 +19,8 @@ returns-in-Err-clause-limits c =
     let v = c.args.a.now in
     let box = c.box_of.result in
     λ b is area time es et.
-      let e = c.in-Err.ensures.value area time (space_too v box b area c.box_of.ensures.least is es) (time_too v box b time c.box_of.ensures.least is et) in
-      record { quotients_first = λ n. ap (λ f. Err (Passed f)) e.0; limit_then = λ h. absurd (e.1 h.0) }
+    let e = c.in-Err.ensures.value area time (space_too v box b area c.box_of.ensures.least is es) (time_too v box b time c.box_of.ensures.least is et) in
+    record { quotients_first = λ n. ap (λ f. Err (Passed f)) e.0; limit_then = λ h. absurd (e.1 h.0) }
 
 pub has_many-requires : goal.has_many-requires
 has_many-requires c =
@@ -36,16 +36,16 @@ returns-then-has_many-clause-refusals c =
     let v = c.args.a.now in
     let box = c.box_of.result in
     λ b is area time es et.
-      let e = c.in-Ok.ensures.value area time (space_too v box b area c.box_of.ensures.least is es) (time_too v box b time c.box_of.ensures.least is et) in
-      (e.1, subst HasMany e.0 (c.has_many.ensures.exact.0 c.if-has_many.true))
+    let e = c.in-Ok.ensures.value area time (space_too v box b area c.box_of.ensures.least is es) (time_too v box b time c.box_of.ensures.least is et) in
+    (e.1, subst HasMany e.0 (c.has_many.ensures.exact.0 c.if-has_many.true))
 
 pub returns-then-has_many-clause-limits : goal.returns-then-has_many-clause-limits
 returns-then-has_many-clause-limits c =
     let v = c.args.a.now in
     let box = c.box_of.result in
     λ b is area time es et.
-      let e = c.in-Ok.ensures.value area time (space_too v box b area c.box_of.ensures.least is es) (time_too v box b time c.box_of.ensures.least is et) in
-      record { quotients_first = λ n. absurd (n e.1); limit_then = λ h. refl }
+    let e = c.in-Ok.ensures.value area time (space_too v box b area c.box_of.ensures.least is es) (time_too v box b time c.box_of.ensures.least is et) in
+    record { quotients_first = λ n. absurd (n e.1); limit_then = λ h. refl }
 
 pub split_in-requires : goal.split_in-requires
 split_in-requires c =
@@ -61,41 +61,41 @@ returns-in-Ok-split_in-clause-refusals c =
     let v = c.args.a.now in
     let box = c.box_of.result in
     λ b is area time es et.
-      let e = c.in-Ok.ensures.value area time (space_too v box b area c.box_of.ensures.least is es) (time_too v box b time c.box_of.ensures.least is et) in
-      (e.1, (λ h. true≢false (sym (c.has_many.ensures.exact.1 (subst HasMany (sym e.0) h)) ∙ c.if-has_many.false)), c.in-Ok-split_in.ensures.first)
+    let e = c.in-Ok.ensures.value area time (space_too v box b area c.box_of.ensures.least is es) (time_too v box b time c.box_of.ensures.least is et) in
+    (e.1, (λ h. true≢false (sym (c.has_many.ensures.exact.1 (subst HasMany (sym e.0) h)) ∙ c.if-has_many.false)), c.in-Ok-split_in.ensures.first)
 
 pub returns-in-Ok-split_in-clause-limits : goal.returns-in-Ok-split_in-clause-limits
 returns-in-Ok-split_in-clause-limits c =
     let v = c.args.a.now in
     let box = c.box_of.result in
     λ b is area time es et.
-      let e = c.in-Ok.ensures.value area time (space_too v box b area c.box_of.ensures.least is es) (time_too v box b time c.box_of.ensures.least is et) in
-      let few : HasMany (range_of c.args.grid.now area time) → ⊥ = λ h. true≢false (sym (c.has_many.ensures.exact.1 (subst HasMany (sym e.0) h)) ∙ c.if-has_many.false) in
-      record { quotients_first = λ n. absurd (n e.1); limit_then = λ h. absurd (few h.1) }
+    let e = c.in-Ok.ensures.value area time (space_too v box b area c.box_of.ensures.least is es) (time_too v box b time c.box_of.ensures.least is et) in
+    let few : HasMany (range_of c.args.grid.now area time) → ⊥ = λ h. true≢false (sym (c.has_many.ensures.exact.1 (subst HasMany (sym e.0) h)) ∙ c.if-has_many.false) in
+    record { quotients_first = λ n. absurd (n e.1); limit_then = λ h. absurd (few h.1) }
 
 pub returns-in-Err-Passed-clause-refusals : goal.returns-in-Err-Passed-clause-refusals
 returns-in-Err-Passed-clause-refusals c =
     let v = c.args.a.now in
     let box = c.box_of.result in
     λ b is area time es et.
-      let e = c.in-Ok.ensures.value area time (space_too v box b area c.box_of.ensures.least is es) (time_too v box b time c.box_of.ensures.least is et) in
-      let first = rw c.in-Err-Passed.field-0-is at c.in-Err-Passed.ensures.first in
-      inr (e.1, (λ h. true≢false (sym (c.has_many.ensures.exact.1 (subst HasMany (sym e.0) h)) ∙ c.if-has_many.false)), first)
+    let e = c.in-Ok.ensures.value area time (space_too v box b area c.box_of.ensures.least is es) (time_too v box b time c.box_of.ensures.least is et) in
+    let first = rw c.in-Err-Passed.field-0-is at c.in-Err-Passed.ensures.first in
+    inr (e.1, (λ h. true≢false (sym (c.has_many.ensures.exact.1 (subst HasMany (sym e.0) h)) ∙ c.if-has_many.false)), first)
 
 pub returns-in-Err-Passed-clause-limits : goal.returns-in-Err-Passed-clause-limits
 returns-in-Err-Passed-clause-limits c =
     let v = c.args.a.now in
     let box = c.box_of.result in
     λ b is area time es et.
-      let e = c.in-Ok.ensures.value area time (space_too v box b area c.box_of.ensures.least is es) (time_too v box b time c.box_of.ensures.least is et) in
-      let few : HasMany (range_of c.args.grid.now area time) → ⊥ = λ h. true≢false (sym (c.has_many.ensures.exact.1 (subst HasMany (sym e.0) h)) ∙ c.if-has_many.false) in
-      record { quotients_first = λ n. absurd (n e.1); limit_then = λ h. absurd (few h.1) }
+    let e = c.in-Ok.ensures.value area time (space_too v box b area c.box_of.ensures.least is es) (time_too v box b time c.box_of.ensures.least is et) in
+    let few : HasMany (range_of c.args.grid.now area time) → ⊥ = λ h. true≢false (sym (c.has_many.ensures.exact.1 (subst HasMany (sym e.0) h)) ∙ c.if-has_many.false) in
+    record { quotients_first = λ n. absurd (n e.1); limit_then = λ h. absurd (few h.1) }
 
 pub returns-in-Err-NoMemory-clause-limits : goal.returns-in-Err-NoMemory-clause-limits
 returns-in-Err-NoMemory-clause-limits c =
     let v = c.args.a.now in
     let box = c.box_of.result in
     λ b is area time es et.
-      let e = c.in-Ok.ensures.value area time (space_too v box b area c.box_of.ensures.least is es) (time_too v box b time c.box_of.ensures.least is et) in
-      let few : HasMany (range_of c.args.grid.now area time) → ⊥ = λ h. true≢false (sym (c.has_many.ensures.exact.1 (subst HasMany (sym e.0) h)) ∙ c.if-has_many.false) in
-      record { quotients_first = λ n. absurd (n e.1); limit_then = λ h. absurd (few h.1) }
+    let e = c.in-Ok.ensures.value area time (space_too v box b area c.box_of.ensures.least is es) (time_too v box b time c.box_of.ensures.least is et) in
+    let few : HasMany (range_of c.args.grid.now area time) → ⊥ = λ h. true≢false (sym (c.has_many.ensures.exact.1 (subst HasMany (sym e.0) h)) ∙ c.if-has_many.false) in
+    record { quotients_first = λ n. absurd (n e.1); limit_then = λ h. absurd (few h.1) }

@@ -1,8 +1,12 @@
 // The ids and the trips of the rows of a table.
 ghost use Rattle.std.specs.Prelude.{◌≡◌, IfOk, map};
-ghost use Rattle.mob_near_run.specs.NearAnswers.{id_of, moving_point, trip_of};
+ghost use Rattle.mob_literal.specs.Fields.{field_text};
+ghost use Rattle.mob_trips.specs.Rows.{id_at, id_of, moving_point, trip_of};
 
 use mob_list::items::Items;
+use mob_list::text::Text;
+use mob_literal::write_field;
+use mob_scalar::Epoch;
 use mob_slice::{Moving, PlaneLine};
 use mob_value::Value;
 use std::alloc::{AllocError, Global};
@@ -47,4 +51,18 @@ pub fn split_rows(
         trips.push(trip)?;
     }
     Ok((ids, trips))
+}
+
+/// The id of the row of this number, as a field.
+pub fn id_text(alloc: Global, ids: &[Value], row: u32, epoch: &Epoch) -> Result<Text, AllocError>
+    ensures text { IfOk result (λ t. t ≡ field_text epoch.now (id_at ids.now row)) }
+{
+    let mut text = String::new(alloc);
+    let index = row as usize;
+    if index >= ids.len() {
+        write_field(&Value::Null, epoch, &mut text)?;
+        return Ok(Text::from_string(text));
+    }
+    write_field(&ids[index], epoch, &mut text)?;
+    Ok(Text::from_string(text))
 }

@@ -1,7 +1,7 @@
 use Rattle.std.proofs.Common.{◌≡◌, ◌++◌, length, map}
 use Rattle.std.specs.Vec.Iter.{into_iter_items, into_iter_len}
-use Rattle.mob_near_run.specs.NearAnswers.{id_of, trip_of}
-use Rattle.mob_near_run.proofs.rows.split_rows.Given as goal
+use Rattle.mob_trips.specs.Rows.{id_of, trip_of}
+use Rattle.mob_trips.proofs.rows.split_rows.Given as goal
 
 abbrev pub invariant-loop-row : goal.invariant-loop-row
 invariant-loop-row l = record {

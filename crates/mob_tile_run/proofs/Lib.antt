@@ -1,0 +1,4 @@
+pub mod Facts
+pub mod Numbers
+pub mod OneSetting
+pub mod TileLaws
