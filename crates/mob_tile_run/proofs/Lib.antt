@@ -2,3 +2,5 @@ pub mod Facts
 pub mod Numbers
 pub mod OneSetting
 pub mod TileLaws
+pub mod Tiling
+pub mod Usable
