@@ -1,5 +1,5 @@
 -- A text says one number.
-use Rattle.std.specs.Prelude.{◌≡◌, ◌↔◌, ◌≢◌, Bool, true, false, List, ℕ, Result, Ok, Err}
+use Rattle.std.specs.Prelude.{◌≡◌, ◌↔◌, ◌≢◌, Bool, true, false, List, ℕ, Option, Some, None, Result, Ok, Err}
 use Rattle.std.proofs.Common.{arith, sym, ◌∙◌, subst, true≢false}
 use Rattle.mob_ratio.specs.Ratio.{Ratio, ◌<ℚ◌}
 use Rattle.mob_ratio.specs.Order.{before, up_to}
@@ -8,6 +8,7 @@ use Rattle.mob_numeral.specs.Numbers.{numbers}
 use Rattle.mob_numeral.specs.Verdict.{Lit}
 use Rattle.mob_numeral.specs.declared.fault.ReadText.{ReadText}
 use Rattle.mob_numeral.specs.declared.fault.ReadText.TheVariants.{NoMemory}
+use Rattle.mob_tile_run.specs.CommandLine.{IsSide}
 use Rattle.mob_scalar.proofs.OneReadings.{one_number}
 
 known : {V : Type 0} (v : V) → ◌≡◌ {A = Result V ReadText} (Ok v) (Err NoMemory) → ⊥
@@ -33,3 +34,8 @@ not_above text q d b h e f i j = true≢false (sym (e.1 (subst (λ z. nil <ℚ z
 -- what cannot be read says neither
 pub unread : (text : List ℕ) (r : Result Ratio ReadText) (d : Ratio) → r ≢ Err NoMemory → ((v : Ratio) → r ≡ Ok v → ⊥) → Lit numbers text r → Lit numbers text (Ok d) → ⊥
 unread text r d n none h i = none d (one_number text r (Ok d) n (known d) h i)
+
+-- a side is above 0
+pub side_above : (value : Option (List ℕ)) (d : Ratio) → IsSide value d → nil <ℚ d
+side_above None d h = absurd h
+side_above (Some text) d h = h.1

@@ -1,15 +1,18 @@
 -- The splits of all rows, one after another.
 use Rattle.std.specs.Prelude.{length, map}
-use Rattle.std.proofs.Common.{◌≡◌, ℕ, suc, ◌+◌, ◌<◌, ℤ, List, [], ◌∷◌, ◌++◌, arith, refl, sym, ap, subst, ◌∙◌, append_assoc, append-nil, length-append, Option, Some, None}
+use Rattle.std.proofs.Common.{◌≡◌, ℕ, suc, ◌+◌, ◌<◌, ℤ, List, [], ◌∷◌, ◌++◌, arith, refl, sym, ap, subst, ◌∙◌, append_assoc, append-nil, length-append, Option, Some, None, Err}
 use Rattle.std.specs.List.{AllZip}
 use Rattle.mob_value.specs.declared.value.Value.{Value}
+use Rattle.mob_tile.specs.Split.{OnRange, SplitAnswer}
 use Rattle.mob_tile.specs.Tiles.{GridOf}
+use Rattle.mob_tile.specs.declared.splitting.SplitFault.{SplitFault}
+use Rattle.mob_tile.specs.declared.splitting.SplitFault.TheVariants as split
 use Rattle.mob_tile.specs.declared.tile.Tile.{Tile}
 use Rattle.mob_pairs.specs.declared.fault.PairFault.{PairFault}
 use Rattle.mob_pairs.specs.declared.fault.PairFault.TheVariants.{Passed, Limit, NoMemory}
 use Rattle.mob_trips.specs.Rows.{Trip}
 use Rattle.mob_tile_run.specs.TileTexts.{part_fields}
-use Rattle.mob_tile_run.specs.TileParts.{IsSplitOf, IsSplitFault, IsSomeSplitFault, IsFirstSplitFault, records_from, ArePartRecords}
+use Rattle.mob_tile_run.specs.TileParts.{IsSplitOf, IsSplitFault, IsSomeSplitFault, IsFirstSplitFault, row_fault, records_from, ArePartRecords}
 
 -- the rows so far are split, and their parts have their records
 pub record IsTiling (g : GridOf) (day : ℤ) (ids : List Value) (all rest : List (Option Trip)) (records : List (List (List ℕ))) (row : ℕ) : Type 0 where
@@ -19,6 +22,12 @@ pub record IsTiling (g : GridOf) (day : ℤ) (ids : List Value) (all rest : List
   pub count : row ≡ length before
   pub are : AllZip (IsSplitOf g) before splits
   pub made : records ≡ records_from day ids 0 splits
+
+-- the fault of a row for that of its trip
+pub split_fault : (V : Type 0) (g : GridOf) (v : Trip) (row : ℕ) (fault : SplitFault) → OnRange g v (λ quotients range. SplitAnswer {V = V} g v quotients range (Err fault)) → IsSplitFault g (Some v) row (row_fault row fault)
+split_fault V g v row (split.Passed formula) h = (refl, h)
+split_fault V g v row split.Limit h = (refl, h)
+split_fault V g v row split.NoMemory h = tt
 
 zip_push : (R : Option Trip → List (Tile × Trip) → Type 0) (xs : List (Option Trip)) (ys : List (List (Tile × Trip))) (x : Option Trip) (y : List (Tile × Trip)) → AllZip R xs ys → R x y → AllZip R (xs ++ x ∷ []) (ys ++ y ∷ [])
 zip_push R [] [] x y h k = (k, tt)

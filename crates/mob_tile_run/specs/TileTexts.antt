@@ -9,7 +9,7 @@ use Rattle.mob_trips.specs.Rows.{Trip, id_at}
 
 -- a tile: its three numbers, with blanks between them
 abbrev pub tile_text : Tile → List ℕ
-tile_text a = signed_decimal a.i ++ (codes " " ++ (signed_decimal a.j ++ (codes " " ++ signed_decimal a.k)))
+tile_text a = signed_decimal a.i ++ (codes " " ++ signed_decimal a.j) ++ (codes " " ++ signed_decimal a.k)
 
 -- a part of the trip of a row: the id of the row, the tile and the part
 abbrev pub part_fields : ℤ → List Value → ℕ → Tile × Trip → List (List ℕ)

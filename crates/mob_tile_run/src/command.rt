@@ -1,6 +1,7 @@
 // The command, and the values that arguments give to its options.
 ghost use Rattle.std.specs.Prelude.{◌≡◌, IfOk, IfSome, IsNone, codes, map, option_map, string_bytes};
-ghost use Rattle.clap.specs.Words.{app_of};
+ghost use Rattle.clap.specs.Words.{app_of, with_rule};
+ghost use Rattle.mob_words.specs.CommandLine.{option};
 ghost use Rattle.mob_tile_run.specs.CommandLine.{TileTakes, tile_command, tile_option};
 
 use clap::error::ErrorKind;
@@ -17,23 +18,30 @@ pub struct Values<'a> {
     pub epoch: Option<&'a str>,
 }
 
+// The command with an option that takes one value.
+fn with_option<'a>(
+    alloc: Global,
+    command: Command<'a>,
+    name: &'a str,
+) -> Result<Command<'a>, AllocError>
+    ensures added { IfOk result (λ c. app_of c ≡ with_rule (app_of command.entry) (option name.entry.now)) }
+{
+    let option = Arg::new(alloc, name).long(name);
+    command.arg(option)
+}
+
 // The command: five options that take one value each. Help and version are no options of it.
 fn mobtile<'a>(alloc: Global) -> Result<Command<'a>, AllocError>
     ensures command { IfOk result (λ c. app_of c ≡ tile_command) }
 {
-    let size = Arg::new(alloc, "size").long("size");
-    let width = Arg::new(alloc, "width").long("width");
-    let near = Arg::new(alloc, "near").long("near");
-    let workers = Arg::new(alloc, "workers").long("workers");
-    let epoch = Arg::new(alloc, "epoch").long("epoch");
-    Command::new(alloc, "mobtile")
+    let command = Command::new(alloc, "mobtile")
         .disable_help_flag(true)
-        .disable_version_flag(true)
-        .arg(size)?
-        .arg(width)?
-        .arg(near)?
-        .arg(workers)?
-        .arg(epoch)
+        .disable_version_flag(true);
+    let command = with_option(alloc, command, "size")?;
+    let command = with_option(alloc, command, "width")?;
+    let command = with_option(alloc, command, "near")?;
+    let command = with_option(alloc, command, "workers")?;
+    with_option(alloc, command, "epoch")
 }
 
 /// The value of each option, or None where the command does not take the arguments.

@@ -1,7 +1,7 @@
 // The fields of records.
-ghost use Rattle.std.specs.Prelude.{◌≡◌, ◌++◌, ◌∷◌, [], codes, IfOk};
+ghost use Rattle.std.specs.Prelude.{◌≡◌, ◌++◌, codes, string_bytes, IfOk, OnOk};
+ghost use Rattle.std.specs.Fmt.{signed_decimal};
 ghost use Rattle.mob_literal.specs.Fields.{field_text};
-ghost use Rattle.mob_trips.specs.Rows.{id_at};
 ghost use Rattle.mob_tile_run.specs.TileTexts.{tile_text, part_fields, pair_fields, part_names, pair_names};
 ghost use Rattle.mob_value.specs.declared.value.Value.TheVariants.{MovingPoint};
 
@@ -16,19 +16,30 @@ use mob_trips::id_text;
 use mob_value::Value;
 use std::alloc::{AllocError, Global};
 
+// Adds a whole number.
+fn push_number(text: &mut String, n: i64) -> Result<(), AllocError>
+    ensures written { OnOk result (string_bytes text.new ≡ string_bytes text.old ++ signed_decimal n) }
+{
+    let mut digits = Buffer::new();
+    text.push_str(digits.format(n))
+}
+
+// Adds a blank and a whole number.
+fn push_next(text: &mut String, n: i64) -> Result<(), AllocError>
+    ensures written { OnOk result (string_bytes text.new ≡ string_bytes text.old ++ (codes " " ++ signed_decimal n)) }
+{
+    text.push_str(" ")?;
+    push_number(text, n)
+}
+
 // A tile as a field: its three numbers with blanks between them.
 fn tile_field(alloc: Global, tile: &Tile) -> Result<Text, AllocError>
     ensures text { IfOk result (λ t. t ≡ tile_text tile.now) }
 {
     let mut text = String::new(alloc);
-    let mut digits = Buffer::new();
-    text.push_str(digits.format(tile.i))?;
-    text.push_str(" ")?;
-    let mut digits = Buffer::new();
-    text.push_str(digits.format(tile.j))?;
-    text.push_str(" ")?;
-    let mut digits = Buffer::new();
-    text.push_str(digits.format(tile.k))?;
+    push_number(&mut text, tile.i)?;
+    push_next(&mut text, tile.j)?;
+    push_next(&mut text, tile.k)?;
     Ok(Text::from_string(text))
 }
 

@@ -1,5 +1,5 @@
 use Rattle.std.specs.Prelude.{ℕ, List}
-use Rattle.std.proofs.Common.{arith}
+use Rattle.std.proofs.Common.{arith, rules}
 use Rattle.std.proofs.KnownBytes.{Keeps-refl}
 use Rattle.mob_outside.specs.EndsSeen.{stream_seen}
 use Rattle.mob_trips.proofs.Whole.{ends_unread, ends_on, ends_put}
@@ -9,7 +9,7 @@ use Rattle.mob_tile_run.proofs.TileLaws.{fault_ends}
 use Rattle.mob_tile_run.proofs.decide.answer_table.Goals as goal
 
 pub tile_text-requires : goal.tile_text-requires
-tile_text-requires g c = record { usable = c.requires.usable; few = c.in-Ok.ensures.rows.table.within }
+tile_text-requires g c = search (rules, c.requires.usable, c.in-Ok.ensures.rows.table.within)
 
 pub returns-in-Err : goal.returns-in-Err
 returns-in-Err g c =

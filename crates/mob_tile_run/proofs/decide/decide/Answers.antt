@@ -1,5 +1,5 @@
 use Rattle.std.specs.Prelude.{map, string_bytes}
-use Rattle.std.proofs.Common.{arith, refl, inl}
+use Rattle.std.proofs.Common.{rules, arith, refl, inl}
 use Rattle.std.proofs.KnownBytes.{Keeps-refl}
 use Rattle.mob_outside.proofs.Known.{reads_none}
 use Rattle.mob_catalog.specs.TableFile.{file_limit}
@@ -20,4 +20,6 @@ returns-in-Ok-None g c =
     }
 
 pub answer_table-requires : goal.answer_table-requires
-answer_table-requires g c = record { usable = usable (map string_bytes c.args.words.now) c.in-Ok-Some.settings (rw c.in-Ok-Some.field-0-is at c.in-Ok-Some.ensures.said) }
+answer_table-requires g c =
+    let fact = usable (map string_bytes c.args.words.now) c.in-Ok-Some.settings (rw c.in-Ok-Some.field-0-is at c.in-Ok-Some.ensures.said) in
+    search (rules, fact)
