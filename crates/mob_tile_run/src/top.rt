@@ -15,7 +15,8 @@ use std::alloc::Global;
 use std::marker::Sync;
 use std::thread::Threads;
 
-const USAGE: &[u8] = b"usage: mobtile --size S --width W [--near D] [--workers N] [--epoch DATE] < trips.csv\n";
+const USAGE: &[u8] =
+    b"usage: mobtile --size S --width W [--near D] [--workers N] [--epoch DATE] < trips.csv\n";
 
 /// Puts the line of an ending of mobtile.
 pub fn tell_tile<E: Sink>(notes: &mut E, ending: &Ending)

@@ -20,13 +20,7 @@ fn main(rt: HostRuntime) -> ExitCode {
     };
     let status = match words {
         Ok(words) => run_tile(
-            &rt,
-            alloc,
-            &words,
-            &mut table,
-            &mut out,
-            &mut notes,
-            &OpenGate,
+            &rt, alloc, &words, &mut table, &mut out, &mut notes, &OpenGate,
         ),
         Err(ending) => {
             tell_tile(&mut notes, &ending);
