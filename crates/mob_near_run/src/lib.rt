@@ -5,7 +5,6 @@ mod answer;
 mod command;
 mod decide;
 mod reading;
-mod rows;
 mod settings;
 mod top;
 
