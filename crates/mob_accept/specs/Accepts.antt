@@ -24,8 +24,8 @@ pub record IsTypedAs (bytes : List ℕ) (trees : List StatementParts) (out : Scr
   pub read : HasTrees bytes trees
   pub typed : typed_script trees ≡ Ok out
 
--- The text is a script that is taken, and this is what it is with names and types. It has no GROUP BY and no aggregate, since these are
--- not built yet.
+-- The text is a script that is taken, and this is what it is with names and types. It has no
+-- GROUP BY and no aggregate, since these are not built yet.
 pub record IsAccepted (bytes : List ℕ) (out : ScriptOut) : Type 0 where
   pub trees : List StatementParts
   pub script : IsTypedAs bytes trees out

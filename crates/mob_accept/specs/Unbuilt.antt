@@ -1,4 +1,5 @@
--- What is not built yet: grouped queries. A script that has one is refused at its first GROUP or aggregate.
+-- What is not built yet: grouped queries. A script that has one is refused at its first GROUP or
+-- aggregate.
 use Rattle.std.specs.Prelude.{◌≡◌, ◌⊎◌, ◌+◌, not, ℕ, List, [], ◌∷◌, Bool, true, false, cond, length, take, drop}
 use Rattle.std.specs.List.{list_all}
 use Rattle.mob_ast.specs.declared.refusal.Kind.TheVariants.{NotBuilt}
@@ -49,7 +50,8 @@ unbuilt_from s p (t ∷ l) = cond (is_unbuilt s t.symbol l) p (unbuilt_from (sta
 abbrev pub first_unbuilt : List PlacedSymbol → ℕ
 first_unbuilt l = unbuilt_from outside 0 l
 
--- NotBuilt, at the first token that is GROUP, or the name of an aggregate that is counted as a function
+-- NotBuilt, at the first token that is GROUP, or the name of an aggregate that is counted as a
+-- function
 abbrev pub unbuilt_refusal : List PlacedSymbol → ℕ → Refusal
 unbuilt_refusal l end = record { kind = NotBuilt; statement = 1 + ends_among (take (first_unbuilt l) l); place = place_of (drop (first_unbuilt l) l) end }
 

@@ -31,9 +31,10 @@ pub fn text_is_numbered()
     ensures operators { OperatorsAreNumbered }
 {}
 
-/// A refusal of a name, a type or a token, or of what is not built, names the statement in which its place is. Where the places that
-/// trees hold are numbered by the statements of a text, what typing refuses is. That of a name or a type stands at a place that the tree
-/// of its statement holds.
+/// A refusal of a name, a type or a token, or of what is not built, names the statement in which
+/// its place is. Where the places that trees hold are numbered by the statements of a text, what
+/// typing refuses is. That of a name or a type stands at a place that the tree of its statement
+/// holds.
 pub fn refusals_are_numbered()
     ensures typing { TypingRefusesInside }
     ensures names { WrongNamesAreNumbered }

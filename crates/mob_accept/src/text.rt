@@ -96,9 +96,9 @@ fn built(alloc: Global, bytes: &[u8], typed: Typed) -> Result<Typed, Refusal>
 /// the first refusal in this order, with its place.
 ///
 /// A text that is longer than 4,194,304 bytes is refused by `Limit` at that place. The other refusals are those of `parse`
-/// and `type_script`, and behind these `NotBuilt`: GROUP BY and aggregates are not built yet. Its place is that of the first token
-/// that is GROUP, or an aggregate's name that is counted as a function. Out of memory is `NoMemory`, with the statement and the
-/// place 0.
+/// and `type_script`, and behind these `NotBuilt`: GROUP BY and aggregates are not built yet. Its
+/// place is that of the first token that is GROUP, or an aggregate's name that is counted as a
+/// function. Out of memory is `NoMemory`, with the statement and the place 0.
 pub fn accept(alloc: Global, bytes: &[u8]) -> Result<Typed, Refusal>
     ensures accepted { IfOk result (λ t. IsAccepted bytes.now (script_seen t)) }
     ensures only { IfOk result (λ t. (o : ScriptOut) → IsAccepted bytes.now o → o ≡ script_seen t) }

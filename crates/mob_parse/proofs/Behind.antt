@@ -14,6 +14,10 @@ use Rattle.mob_parse.specs.Cursors.{StopsReading}
 use Rattle.mob_parse.specs.Orderings.{put_behind}
 use Rattle.mob_parse.proofs.Steps.{ReadSoFar, stops_through}
 
+given_back : {A : Type 0} (a : Answer (List A)) → (a >>= λ ys. Ok ([] ++ ys.0, ys.1)) ≡ a
+given_back (Ok x) = refl
+given_back (Err r) = refl
+
 pub behind_ok : {A : Type 0} (xs : List A) (s : TokenReader (List A)) (l r : List PlacedSymbol) (ys zs : List A) → s l ≡ Ok (ys, r) → zs ≡ xs ++ ys → put_behind xs s l ≡ Ok (zs, r)
 unfolding put_behind
 behind_ok xs s l r ys zs h e = through (s l) ys r _ h ∙ ap (λ v. Ok (v, r)) (sym e)
@@ -21,6 +25,11 @@ behind_ok xs s l r ys zs h e = through (s l) ys r _ h ∙ ap (λ v. Ok (v, r)) (
 pub behind_stops : {A : Type 0} (xs : List A) (s : TokenReader (List A)) (l r : List PlacedSymbol) (e : Fault) → StopsReading e r (s l) → StopsReading e r (put_behind xs s l)
 unfolding put_behind
 behind_stops xs s l r e h = stops_through e r (s l) (λ ys. Ok (xs ++ ys.0, ys.1)) (put_behind xs s l) refl h
+
+-- behind nothing is read what is read
+pub behind_nothing : {A : Type 0} (s : TokenReader (List A)) (l : List PlacedSymbol) → put_behind [] s l ≡ s l
+unfolding put_behind
+behind_nothing s l = given_back (s l)
 
 -- a list whose items have been read is read
 pub list_over : {A : Type 0} (m : Mark) (s : TokenReader A) (whole l : List PlacedSymbol) (xs : List A) → ReadSoFar m s whole xs l → starts m l ≡ false → listed m s whole ≡ Ok (xs, l)

@@ -29,19 +29,12 @@ pub trait Entry {
 
 impl<'a> Cursor<'a> {
     /// One or more, with that mark between.
-    #[tactic(auto, using(mob_grammar::proofs::Steps::listed_goes_on, mob_grammar::proofs::Steps::listed_stops), unfolding(mob_grammar::specs::Reading::listed))]
+    #[tactic(auto, using(crate::proofs::Behind::behind_nothing))]
     pub fn list<T: Entry>(&mut self, mark: Mark) -> Result<Items<T::Made>, Fault>
         ensures reads { FollowsReading (map T.parts_of) result (left self.new) (listed mark T.reader (left self.old)) }
         ensures within { OnOk result (length (left self.new) ≤ length (left self.old)) }
     {
-        let mut found = Items::new(self.alloc);
-        let first = T::read(self)?;
-        found.push(first)?;
-        'more: while self.skip(mark) {
-            let next = T::read(self)?;
-            found.push(next)?;
-        }
-        Ok(found)
+        self.list_onto::<T>(mark, Items::new(self.alloc))
     }
 
     /// One or more behind others, with that mark between.

@@ -2,7 +2,7 @@
 ghost use Rattle.std.specs.Prelude.{◌≡◌, ◌≤◌, Ok, true, false, length, map, IfOk, MatchOption, OnOk, option_map};
 ghost use Rattle.mob_ast.specs.Trees.{tree_of, Tree, FromParts, from_of, ItemParts, item_of, KeyParts, key_of, select_of, StatementParts, statement_of};
 ghost use Rattle.mob_grammar.specs.Symbols.{begins, is_name, counts_all, first, rest};
-ghost use Rattle.mob_grammar.specs.Reading.{some_name_at, second_name_at, from_entry_at, on_at, joined_entry_at, joins_at, source_at, sources_at, group_column_at, group_at, delete_at, alias_at, item_at, direction_at, key_at, distinct_at, from_at, condition_at, order_at, limit_at, select_at, explain_at, statement_at, script_at, listed};
+ghost use Rattle.mob_grammar.specs.Reading.{some_name_at, second_name_at, from_entry_at, on_at, joined_entry_at, joins_at, source_at, sources_at, group_column_at, group_at, delete_at, alias_at, count_tail_at, one_item_at, item_at, direction_at, key_at, distinct_at, from_at, condition_at, order_at, limit_at, select_at, explain_at, statement_at, script_at, listed};
 ghost use Rattle.mob_parse.specs.Cursors.{left, FollowsReading};
 ghost use Rattle.mob_parse.specs.Orderings.{ordering_at, put_behind};
 
@@ -16,8 +16,8 @@ use mob_lexemes::lexeme::begins_count;
 use mob_list::items::Items;
 
 impl<'a> Cursor<'a> {
-    // Whether a name comes next.
-    fn next_is_name(&self) -> bool
+    /// Whether a name comes next.
+    pub fn next_is_name(&self) -> bool
         ensures exact { result ≡ begins is_name (left self.now) }
     {
         match self.lexemes {
@@ -107,6 +107,28 @@ impl<'a> Cursor<'a> {
             }
             _ => None,
         }
+    }
+
+    // What stands behind the first three tokens of `count(*)`.
+    #[tactic(auto, unfolding(mob_grammar::specs::Reading::count_tail_at, mob_grammar::specs::Reading::count_alias_at, mob_grammar::specs::Reading::behind_mark))]
+    fn count_tail(&mut self, place: u32) -> Result<Item, Fault>
+        ensures reads { FollowsReading item_of result (left self.new) (count_tail_at place (left self.old)) }
+        ensures within { OnOk result (length (left self.new) ≤ length (left self.old)) }
+    {
+        self.expect(Mark::Close)?;
+        let alias = self.alias()?;
+        Ok(Item::CountAll { place, alias })
+    }
+
+    // An expression and the name behind AS, if AS is there.
+    #[tactic(auto, unfolding(mob_grammar::specs::Reading::one_item_at))]
+    fn one_item(&mut self) -> Result<Item, Fault>
+        ensures reads { FollowsReading item_of result (left self.new) (one_item_at (left self.old)) }
+        ensures within { OnOk result (length (left self.new) ≤ length (left self.old)) }
+    {
+        let value = self.expression()?;
+        let (value, alias) = self.aliased(value)?;
+        Ok(Item::One { value, alias })
     }
 
     // ON and its condition.
@@ -370,19 +392,15 @@ impl Entry for Item {
 
     ghost reader = { item_at };
 
-    #[tactic(auto, unfolding(mob_grammar::specs::Reading::item_at, mob_grammar::specs::Reading::value_item_at, mob_grammar::specs::Reading::count_tail_at, mob_grammar::specs::Reading::count_alias_at, mob_grammar::specs::Reading::behind_mark, mob_grammar::specs::Reading::every_at, mob_grammar::specs::Reading::one_item_at, mob_grammar::specs::Reading::mark_at))]
+    #[tactic(auto, unfolding(mob_grammar::specs::Reading::item_at, mob_grammar::specs::Reading::value_item_at, mob_grammar::specs::Reading::every_at, mob_grammar::specs::Reading::mark_at))]
     fn read(cursor: &mut Cursor<'_>) -> Result<Item, Fault> {
         if let Some(place) = cursor.take(Mark::Times) {
-            return Ok(Item::All { place });
+            Ok(Item::All { place })
+        } else if let Some(place) = cursor.take_count() {
+            cursor.count_tail(place)
+        } else {
+            cursor.one_item()
         }
-        if let Some(place) = cursor.take_count() {
-            cursor.expect(Mark::Close)?;
-            let alias = cursor.alias()?;
-            return Ok(Item::CountAll { place, alias });
-        }
-        let value = cursor.expression()?;
-        let (value, alias) = cursor.aliased(value)?;
-        Ok(Item::One { value, alias })
     }
 }
 
