@@ -1,4 +1,5 @@
--- The clauses of a SELECT behind its FROM in written order: the select list, ON, WHERE, GROUP BY, ORDER BY and LIMIT.
+-- The clauses of a SELECT behind its FROM in written order: the select list, ON, WHERE, GROUP BY,
+-- ORDER BY and LIMIT.
 use Rattle.std.specs.Prelude.{ℕ, List, [], ◌∷◌, Bool, false, Option, None, map, option_map, Ok}
 use Rattle.mob_ast.specs.declared.types.Word.{Word}
 use Rattle.mob_ast.specs.Trees.{Tree, SelectParts}

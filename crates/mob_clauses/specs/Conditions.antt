@@ -22,8 +22,9 @@ abbrev pub condition : ScopeParts → Option Tree → TypingStep (Option TypedTr
 condition s None cs = Ok (None, cs)
 condition s (Some t) cs = typed_expression s t cs >>= λ r. unless (not (is_bool (type_of r.0))) kind.NoSuchOperator (tree_place t) >>= λ _. Ok (Some r.0, r.1)
 
--- A source of FROM is a table with those that are left-joined to it. That of table n begins at the table itself, or, where the table is
--- left-joined, where the source of the table before it does: at table k.
+-- A source of FROM is a table with those that are left-joined to it. That of table n begins at the
+-- table itself, or, where the table is left-joined, where the source of the table before it does:
+-- at table k.
 abbrev pub source_start : ℕ → ℕ → Option Tree → ℕ
 source_start k n None = n
 source_start k n (Some on) = k
@@ -32,7 +33,8 @@ source_start k n (Some on) = k
 abbrev pub seen_by_on : ScopeParts → ℕ → ℕ → ScopeParts
 seen_by_on s k n = record { from = slice_range s.from k (n + 1); first = k; statement = s.statement }
 
--- the ON of each of these tables, the first of which is table n; the source of the table before it begins at table k
+-- the ON of each of these tables, the first of which is table n; the source of the table before it
+-- begins at table k
 abbrev pub joins_from : ScopeParts → ℕ → ℕ → List FromParts → TypingStep (List (Option TypedTree))
 joins_from s k n [] cs = Ok ([], cs)
 joins_from s k n (f ∷ fs) cs = one_more (condition (seen_by_on s (source_start k n f.on) n) f.on) (joins_from s (source_start k n f.on) (n + 1) fs) cs

@@ -40,7 +40,8 @@ abbrev pub with_groups : ScopeParts → List TypedTree → List Tree → Result 
 with_groups s done [] = Ok done
 with_groups s done (t ∷ ts) = typed_group s t >>= λ g. with_groups s (done ++ g ∷ []) ts
 
--- the number of the column of the answer that an expression means where it is one bare word: the first of this name behind AS
+-- the number of the column of the answer that an expression means where it is one bare word: the
+-- first of this name behind AS
 abbrev pub alias_node : OutputLists → Node → Option ℕ
 alias_node o (node.Column None c) = option_map (λ a. a.1) (entry_from 0 o.aliases c.text)
 alias_node o _ = None
@@ -64,8 +65,8 @@ aliased o t = option_and_then (output_at o) (alias_number o t)
 abbrev pub key_item : OutputLists → KeyParts → Option ℕ
 key_item o k = option_map (λ x. x.0) (aliased o k.value)
 
--- A key that means a column of the answer is that column. In a grouped SELECT any other key is a column of GROUP BY. A key is typed first and
--- then judged.
+-- A key that means a column of the answer is that column. In a grouped SELECT any other key is a
+-- column of GROUP BY. A key is typed first and then judged.
 abbrev pub plain_key : ScopeParts → Option (List ColumnNumbers) → Tree → TypingStep TypedTree
 plain_key s g t cs = typed_expression s t cs >>= λ r. unless (not (is_key (type_of r.0))) kind.NoSuchOperator (tree_place t) >>= λ _. unless (is_ungrouped g r.0) kind.NoSuchOperator (tree_place t) >>= λ _. Ok r
 

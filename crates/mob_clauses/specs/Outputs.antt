@@ -45,7 +45,8 @@ abbrev pub column_numbers : Result Found Mistake → List ColumnNumbers
 column_numbers (Ok f) = (f.from, f.column) ∷ []
 column_numbers (Err w) = []
 
--- the column that GROUP BY names, where its name is found; where it is not, it is refused in its place
+-- the column that GROUP BY names, where its name is found; where it is not, it is refused in its
+-- place
 abbrev pub group_column : ScopeParts → Tree → List ColumnNumbers
 group_column s (tree (node.Column t c) p args) = column_numbers (column_named s t c)
 group_column s (tree _ p args) = []
@@ -80,7 +81,8 @@ abbrev pub all_outputs : ℕ → List (List ℕ × ScopeTableParts) → ℕ → 
 all_outputs n [] p = []
 all_outputs n (s ∷ ss) p = columns_of_table n 0 s.1.columns p ++ all_outputs (n + 1) ss p
 
--- The name of a column of the answer: the one behind AS, or that of the column, or `c` and its position from 1.
+-- The name of a column of the answer: the one behind AS, or that of the column, or `c` and its
+-- position from 1.
 abbrev pub numbered_name : ℕ → List ℕ
 numbered_name n = codes "c" ++ decimal (n + 1)
 

@@ -29,7 +29,7 @@ pub struct Conditions {
     pub cond: Option<TExpr>,
 }
 
-/// What a SELECT says of groups and order.
+/// GROUP BY, ORDER BY and LIMIT of a SELECT.
 #[derive(Drop)]
 pub struct Order {
     /// The columns of GROUP BY.
@@ -86,7 +86,7 @@ fn typed_order(
     })
 }
 
-// What the clauses make together.
+// The typed SELECT that the clauses make together.
 fn select_made(
     alloc: Global,
     scope: &Scope<'_>,
@@ -128,8 +128,8 @@ fn select_made(
     })
 }
 
-/// The typed SELECT over these tables of FROM, or what is wrong first: the select list, ON, WHERE, GROUP BY, ORDER BY and LIMIT in written
-/// order.
+/// Types a SELECT over its tables of FROM. Clauses are typed in written order: the select list, ON,
+/// WHERE, GROUP BY, ORDER BY and LIMIT. Returns the typed SELECT, or its first refusal.
 pub fn typed_clauses(
     alloc: Global,
     scope: &Scope<'_>,
@@ -146,7 +146,8 @@ pub fn typed_clauses(
     Ok(select_made(alloc, scope, select, grouped, outputs, conditions, order)?)
 }
 
-/// The typed DELETE over its table, or what is wrong in its condition.
+/// Types a DELETE over its table: a SELECT with its condition and no column of an answer. Returns
+/// the first refusal of the condition, where there is one.
 pub fn clauses_to_go(
     alloc: Global,
     scope: &Scope<'_>,

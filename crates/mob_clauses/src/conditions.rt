@@ -24,7 +24,7 @@ pub fn tree_place(e: &Expr) -> u32
     e.place
 }
 
-/// A condition, which is a bool.
+/// A typed condition. It is a bool; an expression of another type is refused at its place.
 pub fn condition(
     alloc: Global,
     scope: &Scope<'_>,
@@ -62,7 +62,8 @@ fn source_start(start: usize, place: usize, on: &Option<Expr>) -> usize
     }
 }
 
-// What the ON of this table of FROM sees. A number past 32 bits counts as want of memory, and so does a table that FROM has not.
+// What the ON of this table of FROM sees: the tables of its source up to the table itself. A number
+// past 32 bits is answered as out of memory, and so is a table that FROM does not have.
 #[tactic(auto, using(crate::proofs::Joined::part_seen))]
 fn seen_by_on<'a>(scope: &Scope<'a>, start: usize, place: usize) -> Result<Scope<'a>, Fault>
     ensures part { AnswersAs scope_of result (Ok (seen_by_on (scope_of scope.now) start place)) }
@@ -99,7 +100,7 @@ fn typed_on(
     condition(alloc, &seen, consts, on)
 }
 
-// The ON of each table of FROM behind the first, behind what there is of the first.
+// The ON of each table of FROM but the first, appended to that of the first.
 fn joins_behind(
     alloc: Global,
     scope: &Scope<'_>,
@@ -124,7 +125,7 @@ fn joins_behind(
     Ok(joins)
 }
 
-/// The ON of each table of FROM, or what is wrong first. The first table is joined to none.
+/// The ON of each table of FROM in order, or the first refusal. The first table has none.
 pub fn typed_joins(
     alloc: Global,
     scope: &Scope<'_>,

@@ -82,7 +82,7 @@ fn push_group_column(
     }
 }
 
-// The columns that GROUP BY names, as far as their names are found.
+// The columns that GROUP BY names. A name that is not found is left out.
 fn group_columns(
     alloc: Global,
     scope: &Scope<'_>,
@@ -97,8 +97,8 @@ fn group_columns(
     Ok(columns)
 }
 
-/// The columns that GROUP BY names, as far as their names are found, each with the number of its table; None where the SELECT is
-/// not grouped.
+/// The columns that GROUP BY names, each by the numbers of its table and column; None where the
+/// SELECT is not grouped. A name that is not found is left out: its clause refuses it later.
 pub fn grouping(
     alloc: Global,
     grouped: bool,
@@ -141,7 +141,7 @@ fn is_column(columns: &[(u32, u32)], e: &TExpr) -> bool
     }
 }
 
-/// Whether a SELECT is grouped, and not by this expression.
+/// Whether a SELECT is grouped and this expression is none of its GROUP BY columns.
 pub fn is_ungrouped(groups: &Option<Items<(u32, u32)>>, e: &TExpr) -> bool
     ensures ungrouped { result ≡ is_ungrouped groups.now (typed_of e.now) }
 {
@@ -151,7 +151,7 @@ pub fn is_ungrouped(groups: &Option<Items<(u32, u32)>>, e: &TExpr) -> bool
     }
 }
 
-/// Whether a SELECT is grouped, and not by each of these columns.
+/// Whether a SELECT is grouped and one of these columns is none of its GROUP BY columns.
 pub fn any_ungrouped(groups: &Option<Items<(u32, u32)>>, columns: &[(TExpr, Text)]) -> bool
     ensures ungrouped { result ≡ any_ungrouped groups.now (map output_of columns.now) }
 {

@@ -69,7 +69,7 @@ fn typed_group(alloc: Global, scope: &Scope<'_>, e: &Expr) -> Result<TExpr, Faul
     }
 }
 
-/// The columns of GROUP BY, or what is wrong first.
+/// The columns of GROUP BY in order, or the first refusal.
 pub fn typed_groups(
     alloc: Global,
     scope: &Scope<'_>,
@@ -235,7 +235,7 @@ fn typed_key(
     Ok((value, key.descending))
 }
 
-/// The keys of ORDER BY, or what is wrong first.
+/// The keys of ORDER BY in order, or the first refusal.
 pub fn typed_keys(
     alloc: Global,
     scope: &Scope<'_>,
@@ -271,7 +271,7 @@ fn limit_value(text: &str) -> Option<u64>
     }
 }
 
-/// The number of LIMIT, which has 1 to 18 digits alone.
+/// The number of LIMIT. A text that is not 1 to 18 digits is refused.
 pub fn limit_of(limit: &Option<Word>) -> Result<Option<u64>, Fault>
     ensures number { AnswersAs (λ n. n) result (limit_of limit.now) }
 {

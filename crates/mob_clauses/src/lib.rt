@@ -1,5 +1,5 @@
-//! Names and types of the clauses of a SELECT behind its FROM: the select list, ON, WHERE, GROUP BY, ORDER BY and LIMIT; or the first thing
-//! that is wrong is said, with its place.
+//! Types the clauses of a SELECT over its tables of FROM: the select list, ON, WHERE, GROUP BY,
+//! ORDER BY and LIMIT. The first error is refused with its place.
 #![tactic(auto)]
 
 pub mod clauses;

@@ -22,7 +22,8 @@ use mob_operators::{AggKind, Op, aggregate_row, is_aggregate};
 use mob_typed::{Agg, ConstText, TExpr};
 use std::alloc::{AllocError, Global};
 
-/// The columns of the answer so far, the aggregate of each, and the names behind AS, each with the number of its column.
+/// The columns of the answer so far, the aggregate of each, and the AS names with the number of
+/// their column.
 #[derive(Drop)]
 pub struct Outputs<'a> {
     /// The columns, each with its name.
@@ -362,7 +363,7 @@ fn push_item<'a>(
     }
 }
 
-/// The columns of the answer, or what is wrong first.
+/// The columns of the answer, or the first refusal of the select list.
 pub fn outputs_of<'a>(
     alloc: Global,
     scope: &Scope<'_>,

@@ -45,7 +45,8 @@ the_one p [] = refuse kind.UnknownName p
 the_one p (f ∷ []) = Ok f
 the_one p (f ∷ g ∷ fs) = refuse kind.Duplicate p
 
--- the column that a name stands for, with its table before a point or without, among these tables, which are counted from 0
+-- the column that a name stands for, with its table before a point or without, among these tables,
+-- which are counted from 0
 abbrev pub column_among : List (List ℕ × ScopeTableParts) → Option Word → Word → Result Found Mistake
 column_among tables None c = the_one c.place (matches 0 tables c.text)
 column_among tables (Some t) c = found kind.UnknownName t.place (entry_from 0 tables t.text) >>= λ f. found kind.UnknownName c.place (column_of f.1.columns c.text) >>= λ k. Ok (record { from = f.0; column = k.0; ty = k.1 })
@@ -141,7 +142,8 @@ are_linear _ = false
 abbrev pub missing_sign : List ℕ → List SqlType → Kind
 missing_sign name ts = if is_irrational form.Sign name then kind.Irrational else if bytes_eq name (codes "*") && are_linear ts then kind.LinearProduct else kind.NoSuchOperator
 
--- Why an operator has no line in the table for these types. An aggregate has none inside an expression: it is a whole item of the select list.
+-- Why an operator has no line in the table for these types. An aggregate has none inside an
+-- expression: it is a whole item of the select list.
 abbrev pub missing : Form → List ℕ → List SqlType → Kind
 missing form.Word name ts = kind.NoSuchOperator
 missing form.Sign name ts = missing_sign name ts

@@ -9,8 +9,8 @@ pub record ScopeTableParts : Type 0 where
   pub table : ℕ
   pub columns : ColumnList
 
--- what an expression sees: tables of FROM that stand side by side, under the names that they go by there, the number of the first of
--- them in FROM, and the number of its statement
+-- what an expression sees: tables of FROM that stand side by side, under the names that they go by
+-- there, the number of the first of them in FROM, and the number of its statement
 pub record ScopeParts : Type 0 where
   pub from : List (List ℕ × ScopeTableParts)
   pub first : ℕ

@@ -80,7 +80,7 @@ fn column_among(
     })
 }
 
-// A column by the number of its table in FROM. A sum past 32 bits counts as want of memory, as such a number does.
+// A column by the number of its table in FROM. A sum past 32 bits is answered as out of memory.
 fn in_from(first: u32, found: Found) -> Result<Found, Fault>
     ensures counted { AnswersAs (λ f. f) result (Ok (in_from first found)) }
 {

@@ -17,8 +17,8 @@ pub struct ScopeTable<'a> {
     pub columns: &'a Columns,
 }
 
-/// What an expression sees: tables of FROM, and the number of its statement. A condition of ON sees a part of FROM, all else the
-/// whole.
+/// What an expression sees: tables of FROM, and the number of its statement. A condition of ON sees
+/// a part of FROM, all else the whole.
 #[derive(Clone, Copy)]
 pub struct Scope<'a> {
     /// The tables, which stand side by side in FROM.

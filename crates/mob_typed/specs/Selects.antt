@@ -9,9 +9,10 @@ use Rattle.mob_typed.specs.Trees.{TypedTree, typed_of}
 abbrev pub Output : Type 0
 Output = TypedTree × List ℕ
 
--- A typed SELECT. For each table of FROM, `joins` has the ON of that table, or None where it is not left-joined. For each column of the
--- answer, `aggs` has the aggregate over its expression, where it is one. For each key, `key_items` has the number of the column of the
--- answer that it means by its name behind AS.
+-- A typed SELECT. For each table of FROM, `joins` has the ON of that table, or None where it is not
+-- left-joined. For each column of the answer, `aggs` has the aggregate over its expression, where
+-- it is one. For each key, `key_items` has the number of the column of the answer that it means by
+-- its name behind AS.
 pub record TypedSelectParts : Type 0 where
   pub distinct : Bool
   pub items : List Output

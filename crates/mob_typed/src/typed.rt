@@ -61,13 +61,14 @@ pub struct TypedSelect {
     pub grouped: bool,
     /// The columns of GROUP BY.
     pub groups: Items<TExpr>,
-    /// For each column of the answer the aggregate over its expression, where it is one. The expression of `count(*)` is NULL
-    /// and is not evaluated.
+    /// For each column of the answer, the aggregate over its expression, or None. The expression of
+    /// `count(*)` is NULL and is not evaluated.
     pub aggs: Items<Option<Agg>>,
     /// The keys of ORDER BY; true for DESC.
     pub keys: Items<(TExpr, bool)>,
-    /// For each key the number of the column of the answer that it means by its AS name, from 0. In a grouped query such a key
-    /// has the value of that column, and its own expression is not evaluated.
+    /// For each key that is an AS name, the number of its column of the answer, from 0; else None.
+    /// In a grouped query such a key has the value of that column, and its own expression is not
+    /// evaluated.
     pub key_items: Items<Option<u32>>,
     /// How many rows there are at most.
     pub limit: Option<u64>,
@@ -112,7 +113,8 @@ pub enum TypedStatement {
         /// The name of the file.
         file: Text,
     },
-    /// Rows that go: those of one table of FROM that meet the condition. There is no column of an answer.
+    /// Deleted rows: those of the one table of FROM that meet the condition. The answer has no
+    /// columns.
     Delete(TypedSelect),
     /// A query.
     Select(TypedSelect),

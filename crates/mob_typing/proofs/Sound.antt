@@ -103,8 +103,8 @@ module _ (tables : List ColumnList) (from : List ℕ) where
   operands_hold cs [] h = tt
   operands_hold cs (t ∷ ts) h = (h.0, operands_hold cs ts h.1)
 
--- an expression is sound: its leaves name what is there, its operators have their rows, they stand at such places, and it names tables of
--- FROM from a first one on, before another one
+-- an expression is sound: its leaves name what is there, its operators have their rows, they stand
+-- at such places, and it names tables of FROM from a first one on, before another one
 pub record IsSound (At : ℕ → Type 0) (tables : List ColumnList) (from : List ℕ) (first past : ℕ) (cs : List ConstText) (t : TypedTree) : Type 0 where
   pub named : HasNamedTypes tables from cs t
   pub operated : IsOperated cs t

@@ -201,7 +201,8 @@ module _ (At : ℕ → Type 0) (tables : List ColumnList) (s : ScopeParts) (begi
   whole : IsPart s.from s
   whole = whole_part s begins
 
-  -- each ON, of which the first is that of table n; the source of the table before it begins at table k
+  -- each ON, of which the first is that of table n; the source of the table before it begins at
+  -- table k
   abbrev SeesOwn : ℕ → ℕ → List ConstText → TypedTree → Type 0
   SeesOwn k m cs t = IsSound At tables (numbers_of s.from) k (m + 1) cs t × (is_bool (type_of t) ≡ true)
 
@@ -280,7 +281,8 @@ module _ (At : ℕ → Type 0) (tables : List ColumnList) (s : ScopeParts) (begi
     abbrev g : Option (List ColumnNumbers)
     g = grouping grouped s gs
 
-    -- an expression that is no aggregate is in a grouped SELECT a column of GROUP BY, and an aggregate is of a grouped one
+    -- an expression that is no aggregate is in a grouped SELECT a column of GROUP BY, and an
+    -- aggregate is of a grouped one
     abbrev IsValue : TypedTree → Option Agg → Type 0
     IsValue t None = is_ungrouped g t ≡ false
     IsValue t (Some a) = (grouped ≡ true) × IsAggregateOf t a
@@ -382,7 +384,8 @@ module _ (At : ℕ → Type 0) (tables : List ColumnList) (s : ScopeParts) (begi
         then (group_walked t parts.0) (λ x own.
         also (groups_walked (done ++ x ∷ []) ts (each_both GroupHolds done (x ∷ []) so_far (own.0, tt)) parts.1) (λ all is. (is.0, (is.1.0 ∙ columns_more done x t ts own.1, let a = is.1.1 in let b = length-append done (x ∷ []) in omega (arith, a, b)))))
 
-    -- a key that means a column of the answer is its expression, and the value of that column has an order; any other key is judged by itself
+    -- a key that means a column of the answer is its expression, and the value of that column has
+    -- an order; any other key is judged by itself
     abbrev IsJudged : OutputLists → TypedTree × Bool → Option ℕ → Type 0
     IsJudged o k None = (is_key (type_of k.0) ≡ true) × (is_ungrouped g k.0 ≡ false)
     IsJudged o k (Some i) = (x : Output) × (a : Option Agg) × (slice_get o.columns i ≡ Some x) × (slice_get o.aggs i ≡ Some a) × (k.0 ≡ x.0) × (is_key (value_type x.0 a) ≡ true)

@@ -1,4 +1,5 @@
--- Names and types of a SELECT: the tables of FROM first, and then the other clauses in written order.
+-- Names and types of a SELECT: the tables of FROM first, and then the other clauses in written
+-- order.
 use Rattle.std.specs.Prelude.{ℕ, List, [], ◌∷◌, ◌++◌, Option, Some, None, Result, Ok, length, nat_le}
 use Rattle.mob_ast.specs.declared.types.Word.{Word}
 use Rattle.mob_ast.specs.declared.refusal.Kind.TheVariants as kind

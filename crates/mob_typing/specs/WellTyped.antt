@@ -111,15 +111,15 @@ condition_alone (Some t) = t ∷ []
 abbrev pub expressions_of : TypedSelectParts → List TypedTree
 expressions_of s = map (λ o. o.0) s.items ++ (flat_map condition_alone s.joins ++ (condition_alone s.cond ++ (s.groups ++ map (λ k. k.0) s.keys)))
 
--- Each ON names only tables of its own source, from its first on. The first of these is the ON of table n, and the source of the table
--- before it begins at table k.
+-- Each ON names only tables of its own source, from its first on. The first of these is the ON of
+-- table n, and the source of the table before it begins at table k.
 abbrev pub AreOfSources : ℕ → ℕ → List (Option TypedTree) → Type 0
 AreOfSources k n [] = Unit {0}
 AreOfSources k n (None ∷ joins) = AreOfSources n (n + 1) joins
 AreOfSources k n (Some t ∷ joins) = (names_from k t ≡ true) × AreOfSources k (n + 1) joins
 
--- There is an entry for each table of FROM; the first table is joined to none; each ON is a bool, and names only the tables of its own
--- source up to its own.
+-- There is an entry for each table of FROM; the first table is joined to none; each ON is a bool,
+-- and names only the tables of its own source up to its own.
 pub record AreOns (tables : List ColumnList) (consts : List ConstText) (from : List ℕ) (joins : List (Option TypedTree)) : Type 0 where
   pub each : length joins ≡ length from
   pub first : on_of joins 0 ≡ None
@@ -143,19 +143,21 @@ IsGroup t = (length (column_in t) ≡ 1) × (is_key (type_of t) ≡ true)
 abbrev pub IsAggregateOf : TypedTree → Agg → Type 0
 IsAggregateOf t a = ((a.kind ≡ CountAll) × (a.ty ≡ sql.Int)) ⊎ ((name : List ℕ) × (aggregate_row name (type_of t) ≡ Some (a.kind, a.ty)))
 
--- in a grouped query a column of the answer that is no aggregate is a group; where a query is not grouped there is no aggregate
+-- in a grouped query a column of the answer that is no aggregate is a group; where a query is not
+-- grouped there is no aggregate
 abbrev pub IsTypedItem : Bool → List TypedTree → Output → Option Agg → Type 0
 IsTypedItem grouped groups o None = grouped ≡ true → is_column (columns_in groups) o.0 ≡ true
 IsTypedItem grouped groups o (Some a) = (grouped ≡ true) × IsAggregateOf o.0 a
 
--- A key that means a column of the answer is its expression, and the value of that column has an order; any other key has one itself, and in a
--- grouped query it is a group.
+-- A key that means a column of the answer is its expression, and the value of that column has an
+-- order; any other key has one itself, and in a grouped query it is a group.
 abbrev pub IsTypedKey : TypedSelectParts → TypedTree × Bool → Option ℕ → Type 0
 IsTypedKey s k None = (is_key (type_of k.0) ≡ true) × (s.grouped ≡ true → is_column (columns_in s.groups) k.0 ≡ true)
 IsTypedKey s k (Some i) = (x : Output) × (a : Option Agg) × (slice_get s.items i ≡ Some x) × (slice_get s.aggs i ≡ Some a) × (k.0 ≡ x.0) × (is_key (value_type x.0 a) ≡ true)
 
--- FROM has at most four tables, all of them there, each with a name of its own; each condition is a bool, each group, and the value of each
--- key, is of a type that has an order, and a limit has at most 18 digits
+-- FROM has at most four tables, all of them there, each with a name of its own; each condition is a
+-- bool, each group, and the value of each key, is of a type that has an order, and a limit has at
+-- most 18 digits
 pub record IsTypedQuery (tables : List ColumnList) (consts : List ConstText) (s : TypedSelectParts) : Type 0 where
   pub there : AllByRecursion (λ t. t < length tables) s.from
   pub few : length s.from ≤ 4

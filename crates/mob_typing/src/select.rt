@@ -16,7 +16,7 @@ use mob_list::items::Items;
 use mob_typed::{ConstText, TypedSelect};
 use std::alloc::Global;
 
-/// The typed SELECT of the statement of this number, or what is wrong first.
+/// Types the SELECT of the statement of this number. Returns it, or its first refusal.
 pub fn typed_select(
     alloc: Global,
     names: &Names,
@@ -35,7 +35,8 @@ pub fn typed_select(
     typed_clauses(alloc, &scope, consts, select)
 }
 
-/// The typed DELETE of the statement of this number, or what is wrong first: a select of one table with its condition and no item.
+/// Types the DELETE of the statement of this number: a SELECT of one table with its condition and
+/// no item. Returns it, or its first refusal.
 pub fn typed_delete(
     alloc: Global,
     names: &Names,
