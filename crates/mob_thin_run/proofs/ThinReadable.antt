@@ -10,23 +10,27 @@ use Rattle.mob_ratio.specs.Order.{before}
 use Rattle.mob_frac.specs.Fits.{Fits}
 use Rattle.mob_language.specs.Language.{Text}
 use Rattle.mob_numeral.specs.NumberValue.{numeral_value}
+use Rattle.mob_numeral.specs.Verdict.{Lit}
 use Rattle.mob_numeral.specs.declared.fault.ReadText.{ReadText}
+use Rattle.mob_scalar.specs.MomentText.{IsDated}
 use Rattle.mob_ast.specs.declared.types.SqlType.{SqlType}
 use Rattle.mob_ast.specs.declared.types.SqlType.TheVariants.{Int, TPoint}
 use Rattle.mob_value.specs.declared.value.Value.{Value}
 use Rattle.mob_value.specs.declared.value.Value.TheVariants.{Null, Number, MovingPoint}
 use Rattle.mob_points.specs.PointText.{point_text}
+use Rattle.mob_points.specs.Points.{point_value}
 use Rattle.mob_slice.specs.CourseOf.{plane_course}
 use Rattle.mob_slice.specs.declared.line.PlaneLine.{PlaneLine}
 use Rattle.mob_slice.specs.declared.slice.Slice.{Slice}
 use Rattle.mob_written.specs.Printed.{Style, groups_of, put_in_group, instants_of, end_text, shares_group}
 use Rattle.mob_written.specs.Style.{style_of}
+use Rattle.mob_written.specs.Values.{any_value}
 use Rattle.mob_written.specs.declared.written.Written.{Written}
 use Rattle.mob_written.specs.declared.written.Sequence.{Sequence}
 use Rattle.mob_literal.specs.Fields.{is_null_field, text_of_field}
 use Rattle.mob_literal.specs.Readable.{IsReadable, IsInt, PointFits, instants_in}
 use Rattle.mob_literal.specs.Sequences.{is_step}
-use Rattle.mob_literal.specs.Sound.{Defines, fitting_all}
+use Rattle.mob_literal.specs.Sound.{Defines, fitting_all, literals}
 use Rattle.mob_literal.specs.SqlText.{SaysAs}
 use Rattle.mob_literal.specs.SqlReadable.{IsReadableAs}
 use Rattle.mob_plane.specs.declared.point.Point.{Point}
@@ -35,10 +39,12 @@ use Rattle.mob_catalog.specs.TableFile.{IsRow}
 use Rattle.mob_simplify.specs.Breaks.{start_of, end_of}
 use Rattle.mob_simplify.specs.BreaksOf.{HaveBreaks, followed, printed_instants}
 use Rattle.mob_simplify.specs.Thinned.{IsThin}
+use Rattle.mob_simplify.specs.declared.breaks.Break.{Break}
 use Rattle.mob_simplify.proofs.Answering.{IsNormalLines}
 use Rattle.mob_simplify.proofs.Tidied.{thin_breaks, thin_prints}
-use Rattle.mob_thin_run.specs.TableAgain.{IsWritable, IsPrintable, IsPrintableValue}
+use Rattle.mob_thin_run.specs.TableAgain.{IsPrintable, IsPrintableValue}
 use Rattle.mob_thin_run.specs.ThinRows.{IsThinValue}
+use Rattle.mob_thin_run.proofs.PlacesFit.{places_fit}
 use Rattle.mob_trips.specs.Reading.{trip_columns}
 
 abbrev Line : Type 0
@@ -104,12 +110,27 @@ module _ (day : ℤ) where
   counted (s ∷ r ∷ rest) = put_counts s r (groups_of plane_course (r ∷ rest)) (begins_put r (groups_of plane_course rest)) ∙ ap (λ n. one_or_two (followed s (r ∷ rest)) (before s.span.lower s.span.upper) + n) (counted (r ∷ rest))
 
   -- ---- a trip
+  -- the instant of a break lies in the years 0001 to 9999, and its coordinates fit
+  record IsWritable (b : Break) : Type 0 where
+    dated : IsDated day b.instant
+    fits : PointFits b.place
+
+  are_writable : (slices : List Line) → HaveBreaks (λ b. IsDated day b.instant) slices → HaveBreaks (λ b. PointFits b.place) slices → HaveBreaks IsWritable slices
+  are_writable [] h k = tt
+  are_writable (s ∷ rest) h k = ((record { dated = h.0.0; fits = k.0.0 }, record { dated = h.0.1; fits = k.0.1 }), are_writable rest h.1 k.1)
+
+  -- a trip that was read, and that can be printed
+  record IsReadTrip (slices : List Line) : Type 0 where
+    normal : IsNormalLines slices
+    breaks : HaveBreaks IsWritable slices
+    short : printed_instants slices ≤ 100000
+
   abbrev IsReadableTrip : List Line → Type 0
   IsReadableTrip slices = IsReadable plane_course day point_text PointFits slices
 
-  readable_by : (slices : List Line) → IsNormalLines slices → HaveBreaks (IsWritable day) slices → printed_instants slices ≤ 100000 → IsReadableTrip slices
+  readable_by : (slices : List Line) → IsNormalLines slices → HaveBreaks IsWritable slices → printed_instants slices ≤ 100000 → IsReadableTrip slices
   readable_by slices normal all most =
-      let each = each_of_all (λ s. IsWritable day (start_of s) × IsWritable day (end_of s)) slices all in
+      let each = each_of_all (λ s. IsWritable (start_of s) × IsWritable (end_of s)) slices all in
       let count = counted slices in
       record {
         normal = normal;
@@ -120,11 +141,11 @@ module _ (day : ℤ) where
         short = omega (arith, most, count);
       }
 
-  thin_readable : (d : Ratio) (slices thin : List Line) → IsNormalLines slices → IsPrintable day slices → IsThin d slices thin → IsReadableTrip thin
-  thin_readable d slices thin n h k =
-      let few = thin_prints d slices thin n k in
+  thin_readable : (d : Ratio) (slices thin : List Line) → IsReadTrip slices → IsThin d slices thin → IsReadableTrip thin
+  thin_readable d slices thin h k =
+      let few = thin_prints d slices thin h.normal k in
       let most = h.short in
-      readable_by thin k.normal (thin_breaks (IsWritable day) d slices thin n k h.breaks) (omega (arith, few, most))
+      readable_by thin k.normal (thin_breaks IsWritable d slices thin h.normal k h.breaks) (omega (arith, few, most))
 
   -- ---- what was read
   normal_in : (slices : List Line) (step : Bool) (o : Option (List (Sequence (Written Point)))) → MatchOption o ⊥ (λ qs. Defines plane_course step qs slices) → IsNormalLines slices
@@ -133,14 +154,21 @@ module _ (day : ℤ) where
 
   -- a trip that can be printed, or NULL
   abbrev IsTripCell : Value → Type 0
-  IsTripCell (MovingPoint slices) = IsNormalLines slices × IsPrintable day slices
+  IsTripCell (MovingPoint slices) = IsReadTrip slices
   IsTripCell v = v ≡ Null
+
+  read_trip : (text : Text) (slices : List Line) → Lit (literals day true point_value any_value plane_course) text (Ok slices) → IsPrintable day slices → IsReadTrip slices
+  read_trip text slices h p = record {
+    normal = normal_in slices (is_step plane_course.steady h.0.says_step) (fitting_all h.0.sequences) h.5;
+    breaks = are_writable slices p.dated (places_fit day text slices h);
+    short = p.short;
+  }
 
   ok_same : (v w : Value) → ◌≡◌ {A = Result Value ReadText} (Ok v) (Ok w) → v ≡ w
   ok_same v w e = cc
 
   trip_said : (text : Text) (v : Value) → SaysAs TPoint day text (Ok v) → IsPrintableValue day v → IsTripCell v
-  trip_said text v h p = subst IsTripCell (sym h.1) (normal_in h.0 (is_step plane_course.steady h.2.0.says_step) (fitting_all h.2.0.sequences) h.2.5, subst (IsPrintableValue day) h.1 p)
+  trip_said text v h p = subst IsTripCell (sym h.1) (read_trip text h.0 h.2 (subst (IsPrintableValue day) h.1 p))
 
   trip_field : (field : Text) (v : Value) (b : Bool) → is_null_field TPoint field ≡ b → FieldSays TPoint day field (Ok v) → IsPrintableValue day v → IsTripCell v
   trip_field field v true e h p = subst IsTripCell (sym (ok_same v Null (h.null e))) refl
@@ -183,7 +211,7 @@ module _ (day : ℤ) where
   id_again d v w (inr r) k = inr (id_by d v w r k)
 
   trip_again : (d : Ratio) (v w : Value) → IsTripCell v → IsThinValue d v w → IsCell TPoint day w
-  trip_again d (MovingPoint slices) (MovingPoint thin) h k = inr (thin_readable d slices thin h.0 h.1 k)
+  trip_again d (MovingPoint slices) (MovingPoint thin) h k = inr (thin_readable d slices thin h k)
   trip_again d (MovingPoint slices) w h k = absurd k
   trip_again d v w h k = inl (null_stays d v w h k)
 

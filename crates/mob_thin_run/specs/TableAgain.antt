@@ -7,21 +7,14 @@ use Rattle.mob_slice.specs.declared.line.PlaneLine.{PlaneLine}
 use Rattle.mob_slice.specs.declared.slice.Slice.{Slice}
 use Rattle.mob_value.specs.declared.value.Value.{Value}
 use Rattle.mob_value.specs.declared.value.Value.TheVariants.{MovingPoint}
-use Rattle.mob_literal.specs.Readable.{PointFits}
 use Rattle.mob_catalog.specs.TableFile.{IsTable, file_limit}
 use Rattle.mob_simplify.specs.BreaksOf.{HaveBreaks, printed_instants}
-use Rattle.mob_simplify.specs.declared.breaks.Break.{Break}
 use Rattle.mob_thin_run.specs.ThinRows.{AreThinRows, IsThinText}
 use Rattle.mob_trips.specs.Reading.{trip_columns}
 
--- the instant of a break lies in the years 0001 to 9999, and its coordinates fit, as those of each point in the code do
-pub record IsWritable (day : ℤ) (b : Break) : Type 0 where
-  pub dated : IsDated day b.instant
-  pub fits : PointFits b.place
-
--- the breaks of a trip can be written, and at most 100,000 instants are
+-- the instants at which a trip has breaks lie in the years 0001 to 9999, and it prints at most 100,000 instants
 pub record IsPrintable (day : ℤ) (slices : List (Slice PlaneLine)) : Type 0 where
-  pub breaks : HaveBreaks (IsWritable day) slices
+  pub dated : HaveBreaks (λ b. IsDated day b.instant) slices
   pub short : printed_instants slices ≤ 100000
 
 -- only a trip is asked
