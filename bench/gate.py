@@ -1,10 +1,10 @@
 #!/usr/bin/env python3
 """Measures what the gate takes from nothing, by crate, and prints the part of docs/GATE.md that says it: the whole, the date, and the table.
 
-    bench/gate.py [LOG]
+    bench/gate.py [LOG [FOLDER]]
 
-It clones the commit that is checked out into a new folder, runs `rt ci --anew` there, and writes what that prints to LOG
-(gate.log in the current folder). Five times a second it reads what each process of the prover has used, so a row lacks at most a
+It clones the commit that is checked out into FOLDER, which is kept (without FOLDER into a new folder, which is not), runs `rt ci`
+there from nothing, and writes what that prints to LOG (gate.log in the current folder). Five times a second it reads what each process of the prover has used, so a row lacks at most a
 fifth of a second for each check; the last line is the whole as the system counts it. Nothing else is to run on the machine.
 """
 import glob, os, resource, subprocess, sys, tempfile, time
@@ -75,15 +75,21 @@ def table(seen, edits):
     return [*lines, f"| all | {sums[0]:.0f} | {sums[1]:.0f} | {sums[2]:.0f} | {sum(edits(it) for it in parts)} | {sum(sums):.0f} |"]
 
 
+def from_nothing():
+    """The command of the gate that trusts nothing of an earlier run: some kits keep what passed, and have a flag against it."""
+    said = subprocess.run(["rt", "help"], capture_output=True, text=True)
+    return ["rt", "ci", "--anew"] if "--anew" in said.stdout + said.stderr else ["rt", "ci"]
+
+
 def main():
     log = sys.argv[1] if len(sys.argv) > 1 else "gate.log"
     top = subprocess.run(["git", "rev-parse", "--show-toplevel"], check=True, capture_output=True, text=True).stdout.strip()
     with tempfile.TemporaryDirectory(prefix="gate-") as folder, open(log, "w") as output:
-        clone = f"{folder}/clone"
+        clone = sys.argv[2] if len(sys.argv) > 2 else f"{folder}/clone"
         subprocess.run(["git", "clone", "--quiet", top, clone], check=True)
         begun = time.monotonic()
         gate = subprocess.Popen(
-            ["rt", "ci", "--anew"], cwd=clone, stdout=output, stderr=subprocess.STDOUT, stdin=subprocess.DEVNULL, start_new_session=True
+            from_nothing(), cwd=clone, stdout=output, stderr=subprocess.STDOUT, stdin=subprocess.DEVNULL, start_new_session=True
         )
         seen = watch(gate)
         minutes = (time.monotonic() - begun) / 60

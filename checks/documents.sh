@@ -7,7 +7,7 @@
 #   behind the word `sql`, with the arguments behind that. The block `answer` that follows is its
 #   output and its note. Scripts run with one worker and with three.
 # - A block `sh` with a folder of examples/ behind the word is a shell script. It runs in a copy of that
-#   folder with `mobsql` and `mobnear` on the PATH, and the block `answer` that follows is its output.
+#   folder with the programs on the PATH, and the block `answer` that follows is its output.
 #
 # README.md has at most 150 lines. Lines have at most 100 columns, except in a block `answer`.
 # `sh checks/documents.sh PROGRAM` uses that program; without an argument it builds one.
@@ -71,9 +71,11 @@ for script in "$work"/*.sql; do
 done
 mkdir "$work/bin"
 ln -s "$program" "$work/bin/mobsql"
-near=$(dirname "$program")/mobnear
-[ -x "$near" ] || near=$PWD/crates/mobnear/out/mobnear
-ln -s "$near" "$work/bin/mobnear"
+for name in mobnear mobthin; do
+    beside=$(dirname "$program")/$name
+    [ -x "$beside" ] || beside=$PWD/crates/$name/out/$name
+    ln -s "$beside" "$work/bin/$name"
+done
 for commands in "$work"/*.sh; do
     tried=$((tried + 1))
     rm -rf "$work/examples"

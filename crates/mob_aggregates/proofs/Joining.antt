@@ -51,7 +51,8 @@ module _ {V B D Z : Type 0} (there : V → Ratio → Option B) (result : D → R
   pub aggregate_none : Of [] None
   aggregate_none = λ t. refl
 
-  -- Two lists: their aggregates united by the operation are the aggregate of both. A fold is the case of one value behind, and so is any tree.
+  -- Two lists: their aggregates united by the operation are the aggregate of both. A fold is the
+  -- case of one value behind, and so is any tree.
   pub aggregate_both : (op : Z → Z → Z) → JoinsBy op f → (vs ws : List V) (r s u : List (Slice D)) → Of vs (Some r) → Of ws (Some s) → IsNormal start end continues u → AreUnited result op r s u → Of (vs ++ ws) (Some u)
   aggregate_both op joins vs ws r s u h k n e = (n, λ t. e t ∙ ap (λ z. united_by op z (value_at result s t)) (h.1 t) ∙ ap (λ z. united_by op (made_of f (values_at there vs t)) z) (k.1 t) ∙ sym (made_both op f joins (values_at there vs t) (values_at there ws t)) ∙ ap (made_of f) (sym (values_both there vs ws t)))
 

@@ -1,6 +1,6 @@
 -- Kept tuples have one first fault, or none.
 use Rattle.std.specs.List.{AllZip}
-use Rattle.std.specs.Prelude.{◌≡◌, Bool, refl, List, [], ◌∷◌, ◌++◌, Option, Some, None, filter, Result, Ok, Err}
+use Rattle.std.specs.Prelude.{◌≡◌, Bool, refl, List, [], ◌∷◌, ◌++◌, Option, Some, None, Result, Ok, Err}
 use Rattle.std.proofs.Common.{ap, ap₂, sym, ◌∙◌, subst, inl, inr}
 use Rattle.mob_aggregates.specs.Rows.{IsAddedTo, IsItem, IsTuple, earlier, IsRowFault}
 

@@ -20,7 +20,7 @@ pub trait Operation<A, B> {
 }
 
 /// Whether both are true.
-pub struct Conjunction;
+pub(crate) struct Conjunction;
 
 impl Operation<bool, bool> for Conjunction {
     type Value = bool;
@@ -33,7 +33,7 @@ impl Operation<bool, bool> for Conjunction {
 }
 
 /// Whether one is true, or both.
-pub struct Disjunction;
+pub(crate) struct Disjunction;
 
 impl Operation<bool, bool> for Disjunction {
     type Value = bool;
@@ -46,7 +46,7 @@ impl Operation<bool, bool> for Disjunction {
 }
 
 /// Whether exactly one is true.
-pub struct Exclusion;
+pub(crate) struct Exclusion;
 
 impl Operation<bool, bool> for Exclusion {
     type Value = bool;

@@ -1,4 +1,5 @@
--- Where the pieces of the walk end: at an end of what they are of, or where the next shared piece begins.
+-- Where the pieces of the walk end: at an end of what they are of, or where the next shared piece
+-- begins.
 use Rattle.std.specs.Prelude.{◌≡◌, ◌⊎◌, Bool, true, false, cond, refl, ◌||◌, ◌&&◌, not, List, [], ◌∷◌, ◌++◌, Option, Some, None}
 use Rattle.std.specs.List.{AllByRecursion}
 use Rattle.std.proofs.Common.{ap, sym, ◌∙◌, subst, arith, true≢false, inl, inr}
@@ -124,7 +125,8 @@ module _ {X Y : Type 0} where
         same_x : the_left r z ≡ the_left s x → z ≡ x
         same_x e = some_same z x (ap (λ q. q.left) (one_share _ _ e))
 
-  -- a piece of the first list alone begins where something of it does and ends where that ends or the next shared piece begins
+  -- a piece of the first list alone begins where something of it does and ends where that ends or
+  -- the next shared piece begins
   pub left_ends : (P : X → Ratio → Type 0) (v : List (CutOf X)) (w : List (CutOf Y)) → PartsAreClear (λ d. d.span) w → AllByRecursion (λ c. P c.of c.span.lower × P c.of c.span.upper) v → (s : SpanOf) (x : X) → next_share v w ≡ Some (record { span = s; left = Some x; right = None }) → P x s.lower × (P x s.upper ⊎ BeginsLeft x s.upper (shared_cuts v w))
   left_ends P [] [] k h s x e = no_left s x e
   left_ends P (c ∷ cs) [] k h s x e = of_left P c.span s c.of x (shared_cuts {Y = Y} (c ∷ cs) []) e (h.0.0, inl h.0.1)

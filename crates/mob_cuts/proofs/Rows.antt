@@ -72,7 +72,8 @@ module _ {X Y : Type 0} where
       ap (λ l. l ++ shared_cuts cs (record { span = s; of = y } ∷ ds)) (put_same (meet_of c.span s) (meet_of c.span (back_of s p)) c.of y (row_of c ds) (row_of c ds) (meets_same' s (back_of s p) c.span (same_behind' s p c.span h.0)) refl)
       ∙ ap (λ l. row_of c (record { span = back_of s p; of = y } ∷ ds) ++ l) (col_behind y s p cs ds h.1)
 
-  -- The first of one list is cut by what comes before all of the other list: nothing that is shared changes.
+  -- The first of one list is cut by what comes before all of the other list: nothing that is shared
+  -- changes.
   pub shared_left : (c : CutOf X) (cs : List (CutOf X)) (w : List (CutOf Y)) (p : SpanOf) → AreAllClear (λ d. d.span) p w → shared_cuts (c ∷ cs) w ≡ shared_cuts (left_after p (c ∷ cs)) w
   shared_left c cs w p h = ap (λ l. l ++ shared_cuts cs w) (row_behind c.of c.span p w h) ∙ sym (kept_row (record { span = back_of c.span p; of = c.of }) cs w)
 

@@ -12,13 +12,14 @@ use Rattle.mob_cuts.specs.Cuts.{CutOf, left_after}
 abbrev pub ShareOf : Type 0 → Type 0 → Type 0
 ShareOf X Y = PieceOf (Option X) (Option Y)
 
--- The pieces are ordered and disjoint, and at each instant the piece there has what the two lists have there: there is none where neither
--- has something.
+-- The pieces are ordered and disjoint, and at each instant the piece there has what the two lists
+-- have there: there is none where neither has something.
 pub record AreShares {X Y : Type 0} (span : X → SpanOf) (span' : Y → SpanOf) (v : List X) (w : List Y) (shares : List (ShareOf X Y)) : Type 0 where
   pub clear : PartsAreClear (λ p. p.span) shares
   pub at_each : (t : Ratio) → MatchOption (part_at (λ p. p.span) shares t) ((part_at span v t ≡ None) × (part_at span' w t ≡ None)) (λ p. (p.left ≡ part_at span v t) × (p.right ≡ part_at span' w t))
 
--- the piece with which two lists begin: what of the first of one comes before that of the other, or what both begin with
+-- the piece with which two lists begin: what of the first of one comes before that of the other, or
+-- what both begin with
 abbrev pub next_share : {X Y : Type 0} → List (CutOf X) → List (CutOf Y) → Option (ShareOf X Y)
 next_share [] [] = None
 next_share (c ∷ cs) [] = Some (record { span = c.span; left = Some c.of; right = None })

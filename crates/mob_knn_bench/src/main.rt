@@ -3,39 +3,26 @@
 //! The arguments are `near`, with a tree that is built once, or `scan`, which computes the approach of each trip, and COUNT.
 #![tactic(auto)]
 
-ghost use Rattle.std.specs.Prelude.{◌≡◌, ◌<◌, ◌≤◌, IfOk, length};
+ghost use Rattle.std.specs.Prelude.{◌≡◌, ◌<◌, ◌≤◌, length};
 ghost use Rattle.mob_knn.specs.Nearest.{AreOfTrips};
 
-use mob_ast::SqlType;
-use mob_catalog::{FILE_LIMIT, read_table};
 use mob_frac::Frac;
 use mob_knn::{index_of, nearest};
 use mob_list::items::Items;
-use mob_list::text::Text;
 use mob_near::approach_squared;
-use mob_outside::{StdSource, read_to};
+use mob_outside::StdSource;
 use mob_plane::Point;
 use mob_rtree::RTree;
 use mob_scalar::Epoch;
 use mob_slice::{Moving, Operand, PlaneLine};
 use mob_steps::Steps;
+use mob_trips::read_trips;
 use mob_value::Value;
 use std::alloc::{AllocError, Global};
 use std::env;
 use std::marker::Brand;
 use std::process::ExitCode;
 use std::sync::ledger::{Blank, Ledger};
-
-fn columns(alloc: Global) -> Result<Vec<(Text, SqlType)>, AllocError>
-    ensures few { IfOk result (λ v. length v.items ≤ 64) }
-{
-    let mut columns = Vec::new(alloc);
-    let id = Text::from_string(String::from_str(alloc, "id")?);
-    let trip = Text::from_string(String::from_str(alloc, "trip")?);
-    columns.push((id, SqlType::Int))?;
-    columns.push((trip, SqlType::TPoint))?;
-    Ok(columns)
-}
 
 fn trip_of(value: Value) -> Option<Moving<PlaneLine>> {
     match value {
@@ -127,18 +114,9 @@ fn main(rt: HostRuntime) -> anyhow::Result<ExitCode> {
         return Ok(ExitCode::from(2));
     };
     let mut source = StdSource::new(rt.stdin());
-    let Ok(bytes) = read_to(alloc, &mut source, FILE_LIMIT) else {
-        return Ok(ExitCode::from(3));
-    };
-    let columns = columns(alloc)?;
-    let Ok(rows) = read_table(
-        alloc,
-        &bytes,
-        columns.as_slice(),
-        &Epoch::standard(),
-        1000000,
-    ) else {
-        return Ok(ExitCode::from(6));
+    let rows = match read_trips(alloc, &mut source, &Epoch::standard()) {
+        Ok(rows) => rows,
+        Err(ending) => return Ok(ExitCode::from(ending.status())),
     };
     let trips = trips_of(alloc, rows)?;
     if trips.len() > 1000000 {

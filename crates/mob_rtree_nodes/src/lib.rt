@@ -3,11 +3,11 @@
 //! A tree is told by what its nodes have, and no contract speaks of how they are chosen. `mob_rtree` has the tree itself.
 #![tactic(auto)]
 
-pub mod build;
-pub mod insert;
+mod build;
+mod insert;
 mod lengths;
 pub mod node;
 mod places;
 pub mod remove;
-pub mod search;
+mod search;
 pub mod whole;

@@ -123,7 +123,7 @@ fn remove_entry(
 }
 
 /// Takes an entry out below a node.
-pub fn remove_at(
+pub(crate) fn remove_at(
     nodes: &mut Vec<TreeNode>,
     free: &mut Vec<u32>,
     node: u32,

@@ -19,7 +19,12 @@ use std::alloc::{AllocError, Global};
 use std::sync::ledger::Ledger;
 
 /// Adds an entry below the root, and answers the new root.
-pub fn put(nodes: &mut Vec<TreeNode>, free: &mut Vec<u32>, root: Root, kid: (StBox, Child)) -> Root
+pub(crate) fn put(
+    nodes: &mut Vec<TreeNode>,
+    free: &mut Vec<u32>,
+    root: Root,
+    kid: (StBox, Child),
+) -> Root
     requires tree { IsTree (ref root) nodes.old.items }
     requires fit { is_fit 0 kid ≡ true }
     requires free { IsFree free.old.items nodes.old.items }
@@ -51,7 +56,7 @@ pub fn put(nodes: &mut Vec<TreeNode>, free: &mut Vec<u32>, root: Root, kid: (StB
 }
 
 /// Puts the first entry in.
-pub fn put_first(nodes: &mut Vec<TreeNode>, kid: (StBox, Child)) -> Root
+pub(crate) fn put_first(nodes: &mut Vec<TreeNode>, kid: (StBox, Child)) -> Root
     requires none { nodes.old.items ≡ [] }
     requires fit { is_fit 0 kid ≡ true }
     requires room { vec_len nodes.old < vec_capacity nodes.old }

@@ -171,7 +171,8 @@ module _ {C B V : Type 0} (value : C → Ratio → Ratio → Ratio → B) (start
       fails_both : (p : Pair C C) (rest : List (PieceOf (Slice C) (Slice C))) → HoldsShare start end (share_of (Both p)) → returns p (Err (Passed f)) → Refused (pair_of p ∷ rest)
       fails_both p rest h r = ⊎_elim (λ m. inl (inl m)) (λ m. inl (inr (m, (p, refl, pair_fit start end p h, r)))) (judged p h r)
 
-      -- the first piece of the walk on which a call was refused makes the first shared piece that is refused
+      -- the first piece of the walk on which a call was refused makes the first shared piece that
+      -- is refused
       refused_from : (xs : List (Share C)) (s t : Shares C) → CanShare s → AtCuts At (rest_of s.lefts) → AtCuts At (rest_of s.rights) → Walk s xs t → IsFirstFailure gives fails xs → Refused (shared_cuts (rest_of s.lefts) (rest_of s.rights))
       refused_from [] s t can l r y h = absurd h
       refused_from (p ∷ xs) s t can l r y h = ⊎_elim (λ m. first p y.1 (step_of s y.0 p can y.1) (failed p m)) (λ m. later p m.0 m.1 y.1 (step_of s y.0 p can y.1) (λ a b. refused_from xs y.0 t (step_of s y.0 p can y.1).clear a b y.2 m.2)) h

@@ -65,8 +65,8 @@ where
 
 /// The sum of two values where both are defined, and the one that is where one is.
 ///
-/// `Passed` names the formula of the first entry of the sum of the two that has a part that does not fit: on each piece that they share,
-/// F1 at its ends, then F2 there.
+/// `Passed` names the formula of the first entry of the sum of the two that has a part that does
+/// not fit: on each piece that they share, F1 at its ends, then F2 there.
 pub fn add_in<C: Summed + Drop>(
     alloc: Global,
     total: &Moving<C>,

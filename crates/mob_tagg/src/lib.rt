@@ -1,4 +1,5 @@
-//! Temporal values taken together: at each instant what one of two has, or what is made of both; and many values, two by two.
+//! Temporal values taken together: at each instant what one of two has, or what is made of both;
+//! and many values, two by two.
 #![tactic(auto)]
 
 mod adding;

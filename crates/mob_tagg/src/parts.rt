@@ -7,7 +7,8 @@ ghost use Rattle.mob_tagg.specs.Gathered.{IsAssociative, united_all, parts_at, w
 use mob_slice::{Course, Moving};
 use std::alloc::{AllocError, Global};
 
-/// An operation by which two values of a course are taken together. Of three it does not matter which two come first.
+/// An operation by which two values of a course are taken together. Of three it does not matter
+/// which two come first.
 pub trait Uniting<C: Course> {
     ghost op: { C.Base → C.Base → C.Base };
 
@@ -25,7 +26,8 @@ pub struct Part<C: Course> {
     value: Moving<C>,
 }
 
-/// One more value behind those of the parts: parts of as many values are taken together, so that few are left.
+/// One more value behind those of the parts: parts of as many values are taken together, so that
+/// few are left.
 pub fn with_value<C: Course + Drop, U: Uniting<C>>(
     alloc: Global,
     parts: Vec<Part<C>>,

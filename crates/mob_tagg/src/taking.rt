@@ -1,4 +1,5 @@
-//! Two temporal values as one: where both are defined what a closure makes of both, else the one that is.
+//! Two temporal values as one: where both are defined what a closure makes of both, else the one
+//! that is.
 
 ghost use Rattle.std.specs.Prelude.{◌≡◌, ◌≢◌, ◌⊎◌, true, [], Ok, Err, IfOk, IfErr, MatchResult};
 ghost use Rattle.std.specs.Fn.{FnReturnsAt};
@@ -36,7 +37,8 @@ where
     }
 }
 
-// Whether all parts of F1 of both slices fit at the ends of a piece. Courses that go by steps have none.
+// Whether all parts of F1 of both slices fit at the ends of a piece. Courses that go by steps have
+// none.
 fn cuts_fit<C: Course + Drop>(alloc: Global, pair: &Pair<'_, C, C>) -> Result<(), OpFault>
 where
     C::Base: Drop,
@@ -76,7 +78,8 @@ where
     }
 }
 
-/// The slices of two values, and what `both` makes of the pieces that they share, where `both` itself judges F1 at the ends of a piece.
+/// The slices of two values, and what `both` makes of the pieces that they share, where `both`
+/// itself judges F1 at the ends of a piece.
 pub fn together<
     'a,
     C: Course + Drop,
@@ -121,10 +124,12 @@ where
     }
 }
 
-/// Two values as one: at each instant at which both are defined what `both` makes of them, where one is, its value, and elsewhere none.
+/// Two values as one: at each instant at which both are defined what `both` makes of them, where
+/// one is, its value, and elsewhere none.
 ///
-/// For each piece that the two share `both` gives ordered slices that have exactly the instants of that piece. `Passed` comes from the
-/// first shared piece on which a part of F1 of one of the two does not fit at an end, and then it is F1, or on which `both` answered it.
+/// For each piece that the two share `both` gives ordered slices that have exactly the instants of
+/// that piece. `Passed` comes from the first shared piece on which a part of F1 of one of the two
+/// does not fit at an end, and then it is F1, or on which `both` answered it.
 pub fn either<
     'a,
     C: Course + Drop,

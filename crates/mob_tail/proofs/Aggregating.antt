@@ -409,6 +409,7 @@ left_out_with kind ty before v h =
     let null : v ≡ Null = left_null kind v (sym h) in
     subst (λ b. IsAggregateWith b kind ty before v (Ok before)) h (subst (λ z. IsAggregateWith true kind ty before z (Ok before)) (sym null) (null_out kind ty before (ap (leaves_out kind) (sym null) ∙ sym h)))
 
--- what holds of a value of one kind holds of it where the kind is that one and the value is not left out
+-- what holds of a value of one kind holds of it where the kind is that one and the value is not
+-- left out
 pub at_kind : (kind one : AggKind) (ty : SqlType) (before v : Value) (r : Result Value OpFault) → kind ≡ one → false ≡ leaves_out kind v → IsAggregateWith false one ty before v r → IsAggregateWith (leaves_out kind v) kind ty before v r
 at_kind kind one ty before v r e f h = subst (λ b. IsAggregateWith b kind ty before v r) f (subst (λ k. IsAggregateWith false k ty before v r) (sym e) h)

@@ -1,4 +1,5 @@
--- What an aggregate makes of the values of its argument in a group, and what adding one more value passes.
+-- What an aggregate makes of the values of its argument in a group, and what adding one more value
+-- passes.
 use Rattle.std.specs.Prelude.{◌≡◌, not, Bool, true, false, ℕ, pos, List, [], ◌∷◌, ◌++◌, filter, length, Option, Some, None, option_map, Result, Ok, Err}
 use Rattle.mob_ratio.specs.Ratio.{Ratio, whole}
 use Rattle.mob_ratio.specs.Order.{same}
@@ -63,7 +64,8 @@ abbrev pub slices_there : {C B : Type 0} → (C → Ratio → Ratio → Ratio �
 slices_there value None t = None
 slices_there value (Some slices) t = value_at value slices t
 
--- what a value has at an instant: a truth value, a number that goes by steps, a number that changes evenly
+-- what a value has at an instant: a truth value, a number that goes by steps, a number that changes
+-- evenly
 abbrev pub truth_there : Value → Ratio → Option Bool
 truth_there v t = slices_there steady_value (truths_of v) t
 
@@ -85,12 +87,14 @@ one_there (MovingText m) t = one_where (step_function m t)
 one_there (MovingPoint m) t = one_where (plane_function m t)
 one_there _ t = None
 
--- v is the one normal value that is at each instant f of what the values have there, or NULL where they have nothing at any instant
+-- v is the one normal value that is at each instant f of what the values have there, or NULL where
+-- they have nothing at any instant
 abbrev pub IsOverTime : {C B Z : Type 0} → CourseOf C Z → (List (Slice C) → Value) → (List B → Z) → (Value → Ratio → Option B) → List Value → Value → Type 0
 IsOverTime {C} course make f there vs v = (r : Option (List (Slice C))) × IsAggregate there course.value course.start course.end course.continues f vs r × (v ≡ or_nothing make r)
 
--- What an aggregate of this type makes of values: count(*) the number of all, count that of those that are not NULL, sum their sum; tCount,
--- tSum, tAnd and tOr at each instant how many are defined there, their sum, whether all are true, and whether one is.
+-- What an aggregate of this type makes of values: count(*) the number of all, count that of those
+-- that are not NULL, sum their sum; tCount, tSum, tAnd and tOr at each instant how many are defined
+-- there, their sum, whether all are true, and whether one is.
 abbrev pub IsAggregated : AggKind → SqlType → List Value → Value → Type 0
 IsAggregated CountAll ty vs v = v ≡ counted (length vs)
 IsAggregated Count ty vs v = v ≡ counted (length (known_of vs))
@@ -110,7 +114,8 @@ adding_type TCount ty = sql.TInt
 adding_type TSum ty = ty
 adding_type _ ty = sql.Numeric
 
--- the entries of adding the second of two aggregates to the first: those of `+`, and none for tAnd and tOr, which add nothing
+-- the entries of adding the second of two aggregates to the first: those of `+`, and none for tAnd
+-- and tOr, which add nothing
 abbrev pub adding_entries : AggKind → SqlType → Value → Value → List Entry
 adding_entries TAnd ty r a = []
 adding_entries TOr ty r a = []
@@ -121,8 +126,9 @@ abbrev pub leaves_out : AggKind → Value → Bool
 leaves_out CountAll v = false
 leaves_out _ v = is_null v
 
--- The first formula that adding a value to the aggregate of those before it passes, or none. What is added is the aggregate of this value
--- alone: 1 for a count, and for tCount 1 where it is defined. A first value is added to NULL or to 0, which passes no formula.
+-- The first formula that adding a value to the aggregate of those before it passes, or none. What
+-- is added is the aggregate of this value alone: 1 for a count, and for tCount 1 where it is
+-- defined. A first value is added to NULL or to 0, which passes no formula.
 abbrev pub AddingPasses : Bool → AggKind → SqlType → List Value → Value → Option Formula → Type 0
 AddingPasses true kind ty before v f = f ≡ None
 AddingPasses false kind ty before v f = (r : Value) × IsAggregated kind ty before r × ((a : Value) × IsAggregated kind ty (v ∷ []) a × IsFirst (adding_entries kind ty r a) f)
@@ -132,15 +138,16 @@ IsAdding agg before v f = AddingPasses (leaves_out agg.kind v) agg.kind agg.ty b
 
 -- ---- one value more
 
--- r is two values over time together, by an operation where both are defined; the first where the second is none, and the second where the
--- first is none
+-- r is two values over time together, by an operation where both are defined; the first where the
+-- second is none, and the second where the first is none
 abbrev pub IsUnion : {C B : Type 0} → CourseOf C B → (List (Slice C) → Value) → (B → B → B) → Option (List (Slice C)) → Option (List (Slice C)) → Value → Value → Type 0
 IsUnion {C} course make op (Some t) (Some a) before r = (u : List (Slice C)) × (r ≡ make u) × AreNormalBy course u × AreUnited course.value op t a u
 IsUnion course make op None (Some a) before r = r ≡ make a
 IsUnion course make op t None before r = r ≡ before
 
--- What holds of the aggregate of values with one more, where `before` is that of the values without it; or of the formula that adding it
--- passes. The first argument says whether the value is left out.
+-- What holds of the aggregate of values with one more, where `before` is that of the values without
+-- it; or of the formula that adding it passes. The first argument says whether the value is left
+-- out.
 abbrev pub IsAggregateWith : Bool → AggKind → SqlType → Value → Value → Result Value OpFault → Type 0
 IsAggregateWith left_out kind ty before v (Ok r) = (vs : List Value) → IsAggregated kind ty vs before → IsAggregated kind ty (vs ++ v ∷ []) r × AddingPasses left_out kind ty vs v None
 IsAggregateWith left_out kind ty before v (Err (Passed f)) = (vs : List Value) → IsAggregated kind ty vs before → AddingPasses left_out kind ty vs v (Some f)

@@ -32,13 +32,15 @@ abbrev pub IsTupleRow : TypedSelectParts → Store → ℤ → List ℕ → Resu
 IsTupleRow select store day tuple (Ok row) = IsRowOf select (scene store select.from tuple day) (Ok row)
 IsTupleRow select store day tuple (Err f) = (f.0 ≡ tuple) × IsRowOf select (scene store select.from tuple day) (Err f.1)
 
--- The rows of the answer of a query that is not grouped on the kept tuples, or the first fault of these tuples in order.
+-- The rows of the answer of a query that is not grouped on the kept tuples, or the first fault of
+-- these tuples in order.
 abbrev pub IsPlainAnswer : TypedSelectParts → Store → ℤ → List (List ℕ) → Result (List (List (List ℕ))) TupleFault → Type 0
 IsPlainAnswer select store day kept (Ok answer) =
     (rows : List Keyed) × IsMadeOfEach (IsTupleRow select store day) kept (Ok rows) × AreArranged (map (λ key. key.1) select.keys) select.distinct select.limit rows answer
 IsPlainAnswer select store day kept (Err f) = IsMadeOfEach (IsTupleRow select store day) kept (Err f)
 
--- The rows of the answer on the kept tuples, or the first fault, where the first argument says whether the query is grouped.
+-- The rows of the answer on the kept tuples, or the first fault, where the first argument says
+-- whether the query is grouped.
 abbrev pub IsAnswerBy : Bool → TypedSelectParts → Store → ℤ → List (List ℕ) → Result (List (List (List ℕ))) TupleFault → Type 0
 IsAnswerBy false select store day kept r = IsPlainAnswer select store day kept r
 IsAnswerBy true select store day kept r = IsGroupedAnswer select store day kept r

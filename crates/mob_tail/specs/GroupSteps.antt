@@ -28,12 +28,14 @@ abbrev pub IsAggregateOn : Scene → TypedTree → Agg → Value → Result Valu
 IsAggregateOn s e agg before (Ok v) = (w : Value) × IsArgumentOf agg.kind s e (Ok w) × IsAggregateWith (leaves_out agg.kind w) agg.kind agg.ty before w (Ok v)
 IsAggregateOn s e agg before (Err f) = IsArgumentOf agg.kind s e (Err f) ⊎ ((w : Value) × IsArgumentOf agg.kind s e (Ok w) × (f.0 ≡ agg.place) × IsAggregateWith (leaves_out agg.kind w) agg.kind agg.ty before w (Err (Passed f.1)))
 
--- the value of a column that is no aggregate with one more tuple: that on the first tuple, and then that before
+-- the value of a column that is no aggregate with one more tuple: that on the first tuple, and then
+-- that before
 abbrev pub IsPlainOn : Scene → TypedTree → Bool → Value → Value → Type 0
 IsPlainOn s e true before v = v ≡ column_on s e
 IsPlainOn s e false before v = v ≡ before
 
--- the same of a column of the answer; the fourth argument says whether the tuple is the first of its group
+-- the same of a column of the answer; the fourth argument says whether the tuple is the first of
+-- its group
 abbrev pub IsColumnWith : Scene → Column → Value → Bool → Result Value Fault → Type 0
 IsColumnWith s (e, Some agg) before first r = IsAggregateOn s e agg before r
 IsColumnWith s (e, None) before first (Ok v) = IsPlainOn s e first before v

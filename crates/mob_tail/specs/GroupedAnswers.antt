@@ -47,7 +47,8 @@ abbrev pub IsArgument : Scene → Column → Result Value Fault → Type 0
 IsArgument s (e, None) r = r ≡ Ok Null
 IsArgument s (e, Some agg) r = IsArgumentOf agg.kind s e r
 
--- the fault of adding a value to those before it in a column, at the place of the aggregate, or none
+-- the fault of adding a value to those before it in a column, at the place of the aggregate, or
+-- none
 abbrev pub IsAddingTo : Column → List Value → Value → Option Fault → Type 0
 IsAddingTo (e, None) before v f = f ≡ None
 IsAddingTo (e, Some agg) before v f = (g : Option Formula) × IsAdding agg before v g × (f ≡ option_map (λ formula. (agg.place, formula)) g)
@@ -56,22 +57,25 @@ IsAddingTo (e, Some agg) before v f = (g : Option Formula) × IsAdding agg befor
 abbrev pub IsArgumentOn : TypedSelectParts → Store → ℤ → List ℕ → Column → Result Value Fault → Type 0
 IsArgumentOn select store day tuple column r = IsArgument (scene store select.from tuple day) column r
 
--- The first fault on the tuples that are kept, or none: tuple by tuple and column by column that of the argument, and then that of adding its
--- value to the aggregate of the column over the earlier tuples of its group.
+-- The first fault on the tuples that are kept, or none: tuple by tuple and column by column that of
+-- the argument, and then that of adding its value to the aggregate of the column over the earlier
+-- tuples of its group.
 abbrev pub IsGroupedFault : TypedSelectParts → Store → ℤ → List (List ℕ) → Option TupleFault → Type 0
 IsGroupedFault select store day kept f = IsRowFault (IsArgumentOn select store day) IsAddingTo (same_group select store day) (columns_of select) [] kept f
 
--- Adding the value of a column on that tuple, behind these, passes a formula, whether or not it is the first fault.
+-- Adding the value of a column on that tuple, behind these, passes a formula, whether or not it is
+-- the first fault.
 abbrev pub AddingFails : TypedSelectParts → Store → ℤ → List (List ℕ) → List ℕ → Column → Fault → Type 0
 AddingFails select store day before tuple column f = Adds (IsArgumentOn select store day) IsAddingTo (same_group select store day) before tuple column f
 
--- The value of a column for a group: the aggregate of its argument over the tuples of the group in order, or the value of a column of GROUP BY
--- on the first of them.
+-- The value of a column for a group: the aggregate of its argument over the tuples of the group in
+-- order, or the value of a column of GROUP BY on the first of them.
 abbrev pub IsColumnValue : TypedSelectParts → Store → ℤ → List (List ℕ) → Column → Value → Type 0
 IsColumnValue select store day group (e, None) v = v ≡ first_value select store day group e
 IsColumnValue select store day group (e, Some agg) v = (vs : List Value) × AllZip (λ t w. IsArgumentOn select store day t (e, Some agg) (Ok w)) group vs × IsAggregated agg.kind agg.ty vs v
 
--- the value of a key for a group with these values of its columns: that of the column it means, or of a column of GROUP BY on the first tuple
+-- the value of a key for a group with these values of its columns: that of the column it means, or
+-- of a column of GROUP BY on the first tuple
 abbrev pub key_value : TypedSelectParts → Store → ℤ → List (List ℕ) → List Value → TypedTree → Option ℕ → Value
 key_value select store day group values e (Some n) = value_or_null (slice_get values n)
 key_value select store day group values e None = first_value select store day group e
@@ -92,7 +96,8 @@ pub record IsGroupRow (select : TypedSelectParts) (store : Store) (day : ℤ) (g
   pub fields : row.fields ≡ map (field_text day) values
   pub keys : row.keys ≡ keys_from select store day group values 0 select.keys
 
--- The rows of the answer on the tuples that are kept, a row for each group in order; or the first fault.
+-- The rows of the answer on the tuples that are kept, a row for each group in order; or the first
+-- fault.
 abbrev pub IsGroupedAnswer : TypedSelectParts → Store → ℤ → List (List ℕ) → Result (List (List (List ℕ))) TupleFault → Type 0
 IsGroupedAnswer select store day kept (Ok answer) =
     IsGroupedFault select store day kept None × ((rows : List Keyed) × AllZip (IsGroupRow select store day) (groups_on select store day kept) rows × AreArranged (map (λ key. key.1) select.keys) select.distinct select.limit rows answer)

@@ -20,7 +20,8 @@ abbrev pub column_on : Scene → TypedTree → Value
 column_on s (typed o ty place none) = leaf_value s o ty
 column_on s (typed o ty place (more e rest)) = Null
 
--- The printed fields of the columns of GROUP BY. Values of one column are the same exactly where their fields are, and NULL is as NULL.
+-- The printed fields of the columns of GROUP BY. Values of one column are the same exactly where
+-- their fields are, and NULL is as NULL.
 abbrev pub group_fields : TypedSelectParts → Store → ℤ → List ℕ → List (List ℕ)
 group_fields select store day tuple = map (λ g. field_text day (column_on (scene store select.from tuple day) g)) select.groups
 
@@ -40,7 +41,8 @@ under_fields select store day tuples = map (λ t. (group_fields select store day
 abbrev pub has_groups : TypedSelectParts → Bool
 has_groups select = not (is_bare select.groups)
 
--- The groups of the tuples that are kept, in the order of their first tuple; without GROUP BY one group, also where nothing is kept.
+-- The groups of the tuples that are kept, in the order of their first tuple; without GROUP BY one
+-- group, also where nothing is kept.
 abbrev pub groups_on : TypedSelectParts → Store → ℤ → List (List ℕ) → List (List (List ℕ))
 groups_on select store day kept = groups_by (has_groups select) same_texts (under_fields select store day kept)
 

@@ -281,8 +281,8 @@ fn sum_more(alloc: Global, ty: SqlType, before: Value, value: &Value) -> Result<
 
 /// An aggregate of values with one more, where `before` is that of the values without it.
 ///
-/// `Passed` names the formula that adding the value passes: F2 of `+` for a count or a sum, and for a sum over time the first formula
-/// of `+` at each instant. NULL is left out but by `count(*)`.
+/// `Passed` names the formula that adding the value passes: F2 of `+` for a count or a sum, and for
+/// a sum over time the first formula of `+` at each instant. NULL is left out but by `count(*)`.
 pub fn aggregate_with(
     alloc: Global,
     agg: Agg,

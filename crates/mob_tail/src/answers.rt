@@ -19,7 +19,8 @@ use mob_typed::{TExpr, TypedSelect};
 use mob_value::Store;
 use std::alloc::{AllocError, Global};
 
-/// What a query answers: the names of its columns, and its rows in order, each with the printed text of its fields.
+/// What a query answers: the names of its columns, and its rows in order, each with the printed
+/// text of its fields.
 #[derive(Drop)]
 pub struct Answer {
     pub names: Items<Text>,
@@ -107,12 +108,14 @@ fn grouped_answer(
 
 /// What a query answers on the tuples that it keeps, or the first fault on these tuples in order.
 ///
-/// In a query that is not grouped the select list is evaluated on each tuple from left to right, and then the keys of ORDER BY. In a
-/// grouped one the argument of each aggregate is evaluated and added on each tuple, and there is a row for each group, in the order of
-/// their first tuples; without GROUP BY there is one group, also where no tuple is kept. The rows are put in the order of the
-/// keys: under ASC numbers rise, texts go by their bytes, false comes before true, and NULL comes last; under DESC all is the other way
-/// round, with NULL first; rows whose keys tie stay in their order. Then, under DISTINCT, of rows with equal fields the first
-/// stays, and then LIMIT cuts.
+/// In a query that is not grouped the select list is evaluated on each tuple from left to right,
+/// and then the keys of ORDER BY. In a grouped one the argument of each aggregate is evaluated and
+/// added on each tuple, and there is a row for each group, in the order of their first tuples;
+/// without GROUP BY there is one group, also where no tuple is kept. The rows are put in the order
+/// of the keys: under ASC numbers rise, texts go by their bytes, false comes before true, and NULL
+/// comes last; under DESC all is the other way round, with NULL first; rows whose keys tie stay in
+/// their order. Then, under DISTINCT, of rows with equal fields the first stays, and then LIMIT
+/// cuts.
 pub fn answer_to(
     alloc: Global,
     select: &TypedSelect,

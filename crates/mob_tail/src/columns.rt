@@ -61,7 +61,8 @@ pub fn is_bare(operands: &[TExpr]) -> bool
     }
 }
 
-/// The value of a column of a table on a tuple; NULL of what has operands. It fails for lack of memory alone.
+/// The value of a column of a table on a tuple; NULL of what has operands. It fails for lack of
+/// memory alone.
 pub fn column_on<'a>(alloc: Global, e: &TExpr, view: &View<'a>) -> Result<Held<'a>, AllocError>
     ensures value { IfOk result (λ h. held h ≡ column_on (scene_of view.now) (typed_of e.now)) }
 {

@@ -24,7 +24,8 @@ pub struct Cell<'a> {
     pub value: Value,
 }
 
-/// A group as it is so far: its first tuple, if it has one, and the columns of the answer with their values.
+/// A group as it is so far: its first tuple, if it has one, and the columns of the answer with
+/// their values.
 #[derive(Drop)]
 pub struct Group<'a> {
     pub first: Option<Tuple>,

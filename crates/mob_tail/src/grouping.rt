@@ -292,8 +292,9 @@ fn begun<'a>(
     Ok((found.numbers, groups))
 }
 
-/// The rows of the groups of these tuples, in the order of their first tuple, or the first fault: tuple by tuple and column by column that
-/// of the argument of an aggregate, and then that of adding its value to those of the earlier tuples of its group.
+/// The rows of the groups of these tuples, in the order of their first tuple, or the first fault:
+/// tuple by tuple and column by column that of the argument of an aggregate, and then that of
+/// adding its value to those of the earlier tuples of its group.
 pub fn grouped_rows(
     alloc: Global,
     select: &TypedSelect,

@@ -10,7 +10,7 @@ use Rattle.mob_catalog.specs.Outcomes.{HasOneTable, NeverReadAndRefused}
 use Rattle.mob_outside.specs.Faults.{Rose}
 use Rattle.mob_trips.specs.Endings.{WritesAll, CutsShort, IsTableRefused, PassLimit, StopsAt, IsTripsCause, IsTripsEnding}
 use Rattle.mob_trips.specs.Lines.{trips_note, trips_status}
-use Rattle.mob_trips.specs.Program.{ProgramOf, IsTripsProgram, IsExactProgram, IsUntaken, OnTable, OnRows}
+use Rattle.mob_trips.specs.Program.{ProgramOf, IsTripsProgram, IsExactWith, IsExactOn, IsUntaken, OnTable, OnRows}
 use Rattle.mob_trips.specs.Reading.{IsTripTableRefused, trip_columns, row_limit}
 use Rattle.mob_trips.specs.Run.{IsTripsRun, IsExactRun, IsTripsFaultless}
 use Rattle.mob_trips.specs.Seen.{TripsSeen}
@@ -51,24 +51,24 @@ module _ {Settings : Type 0} (p : ProgramOf Settings) (law : IsTripsProgram p) (
   refused_ends (RowsRefused names) w h r = inl refl
   refused_ends (Overflow names f) w h r = absurd (read_or_refused (Stops names f) w (on (OnRows p (Stops names f)) h.0.fault) r)
 
-  limited_ends : IsExactProgram p → (ending : Ending) (names : List ℕ) → IsTripsCause p ending s → Rows (Limits names) → (trips_status ending ≡ 6) ⊎ (trips_status ending ≡ 5)
-  limited_ends exact Done names h r = absurd (both (Writes h.text) (Limits names) (λ rows a b. exact.written_limits settings rows h.text names a b) (on (OnRows p (Writes h.text)) h.is) r)
+  limited_ends : IsExactWith p settings → (ending : Ending) (names : List ℕ) → IsTripsCause p ending s → Rows (Limits names) → (trips_status ending ≡ 6) ⊎ (trips_status ending ≡ 5)
+  limited_ends exact Done names h r = absurd (both (Writes h.text) (Limits names) (λ rows a b. exact.written_limits rows h.text names a b) (on (OnRows p (Writes h.text)) h.is) r)
   limited_ends exact Usage names h r = absurd (h.0 settings says)
   limited_ends exact ReadFault names h r = absurd (fine.read h.0)
   limited_ends exact WriteFault names h r = absurd (fine.put h.rose)
   limited_ends exact NoMemory names h r = inr refl
   limited_ends exact (TableRefused kind rec field) names h r = inl refl
   limited_ends exact (RowsRefused others) names h r = inl refl
-  limited_ends exact (Overflow others f) names h r = absurd (both (Stops others f) (Limits names) (λ rows a b. exact.stopped_limits settings rows others names f a b) (on (OnRows p (Stops others f)) h.0.fault) r)
+  limited_ends exact (Overflow others f) names h r = absurd (both (Stops others f) (Limits names) (λ rows a b. exact.stopped_limits rows others names f a b) (on (OnRows p (Stops others f)) h.0.fault) r)
 
-  stopped_ends : IsExactProgram p → (ending : Ending) (names : List ℕ) (f : Formula) → IsTripsCause p ending s → Rows (Stops names f) → (trips_status ending ≡ 8) ⊎ (trips_status ending ≡ 5)
-  stopped_ends exact Done names f h r = absurd (both (Writes h.text) (Stops names f) (λ rows a b. exact.written_stops settings rows h.text names f a b) (on (OnRows p (Writes h.text)) h.is) r)
+  stopped_ends : IsExactWith p settings → (ending : Ending) (names : List ℕ) (f : Formula) → IsTripsCause p ending s → Rows (Stops names f) → (trips_status ending ≡ 8) ⊎ (trips_status ending ≡ 5)
+  stopped_ends exact Done names f h r = absurd (both (Writes h.text) (Stops names f) (λ rows a b. exact.written_stops rows h.text names f a b) (on (OnRows p (Writes h.text)) h.is) r)
   stopped_ends exact Usage names f h r = absurd (h.0 settings says)
   stopped_ends exact ReadFault names f h r = absurd (fine.read h.0)
   stopped_ends exact WriteFault names f h r = absurd (fine.put h.rose)
   stopped_ends exact NoMemory names f h r = inr refl
   stopped_ends exact (TableRefused kind rec field) names f h r = absurd (read_or_refused (Stops names f) (file_fault kind rec field) r (on (λ z b. IsTripTableRefused (p.day z) b (file_fault kind rec field)) h.0.refused))
-  stopped_ends exact (RowsRefused others) names f h r = absurd (both (Stops names f) (Limits others) (λ rows a b. exact.stopped_limits settings rows names others f a b) r (on (OnRows p (Limits others)) h.0.fault))
+  stopped_ends exact (RowsRefused others) names f h r = absurd (both (Stops names f) (Limits others) (λ rows a b. exact.stopped_limits rows names others f a b) r (on (OnRows p (Limits others)) h.0.fault))
   stopped_ends exact (Overflow others g) names f h r = inl refl
 
   answered_ends : (ending : Ending) → IsTripsCause p ending s → Rows p.fits → (trips_status ending ≡ 0) ⊎ (trips_status ending ≡ 5)
@@ -141,8 +141,8 @@ module _ {Settings : Type 0} (p : ProgramOf Settings) where
     note = record { ending = ending; cause = h.cause; ends = record { number = refl; noted = noted } };
   }
 
-  pub is_exact_run : IsTripsProgram p → IsExactProgram p → HasOneTable → NeverReadAndRefused → (ending : Ending) (s : TripsSeen) → IsTripsEnding p ending s → IsExactRun p (trips_status ending) s
-  is_exact_run law exact one apart ending s h = record {
-    must_limit = λ fine t. limited_ends p law one apart s fine t.0 t.1 t.2 t.3 exact ending t.4.2.0 h.cause (t.4.0, t.4.1, t.4.2.1);
-    must_stop = λ fine t. stopped_ends p law one apart s fine t.0 t.1 t.2 t.3 exact ending t.4.2.0 t.4.2.1 h.cause (t.4.0, t.4.1, t.4.2.2);
+  pub is_exact_run : IsTripsProgram p → HasOneTable → NeverReadAndRefused → (ending : Ending) (s : TripsSeen) → IsExactOn p s.words → IsTripsEnding p ending s → IsExactRun p (trips_status ending) s
+  is_exact_run law one apart ending s exact h = record {
+    must_limit = λ fine t. limited_ends p law one apart s fine t.0 t.1 t.2 t.3 (exact t.0 t.1) ending t.4.2.0 h.cause (t.4.0, t.4.1, t.4.2.1);
+    must_stop = λ fine t. stopped_ends p law one apart s fine t.0 t.1 t.2 t.3 (exact t.0 t.1) ending t.4.2.0 t.4.2.1 h.cause (t.4.0, t.4.1, t.4.2.2);
   }

@@ -76,7 +76,7 @@ module _ {Settings : Type 0} (p : ProgramOf Settings) (s : TripsSeen) (settings 
     -- there is, and it was written
     pub ends_put : (text : List ℕ) (ending : Ending) → p.writes settings rows text → PutsText text s.out.told_before s.out.told_now s.out.faults_before s.out.faults_now ending → IsTripsEnding p ending s
     ends_put text Done w h = ending_by Done (record { ended = ended; text = text; is = on_rows (λ settings rows. p.writes settings rows text) rows read w; whole = h })
-    ends_put text WriteFault w h = ending_by WriteFault (record { text = text; is = on_rows (λ settings rows. p.writes settings rows text) rows read w; part = h.0; rose = h.1 })
+    ends_put text WriteFault w h = ending_by WriteFault (record { ended = ended; text = text; is = on_rows (λ settings rows. p.writes settings rows text) rows read w; part = h.0; rose = h.1 })
     ends_put text Usage w h = absurd h
     ends_put text ReadFault w h = absurd h
     ends_put text NoMemory w h = absurd h

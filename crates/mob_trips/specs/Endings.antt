@@ -22,8 +22,9 @@ module _ {Settings : Type 0} (p : ProgramOf Settings) where
     pub is : OnTable p s (OnRows p (λ settings rows. p.writes settings rows text))
     pub whole : Appends s.out.told_before s.out.told_now text
 
-  -- a proper prefix of it was written, and the count of `out` rose
+  -- the table was read to its end, a proper prefix of the text for it was written, and the count of `out` rose
   pub record CutsShort (s : TripsSeen) : Type 0 where
+    pub ended : IsAtEnd s.table.told_now
     pub text : List ℕ
     pub is : OnTable p s (OnRows p (λ settings rows. p.writes settings rows text))
     pub part : PutsPart text s.out.told_before s.out.told_now

@@ -21,11 +21,16 @@ pub record IsTripsProgram {Settings : Type 0} (p : ProgramOf Settings) : Type 0 
   pub fits_stops : (s : Settings) (rows : List (List Value)) (names : List ℕ) (f : Formula) → p.fits s rows → p.stops s rows names f → ⊥
   pub fits_limits : (s : Settings) (rows : List (List Value)) (names : List ℕ) → p.fits s rows → p.limits s rows names → ⊥
 
--- It is exact if rows never have two of these: a text, a limit, a formula. A program that does not visit all rows need not be exact.
-pub record IsExactProgram {Settings : Type 0} (p : ProgramOf Settings) : Type 0 where
-  pub written_stops : (s : Settings) (rows : List (List Value)) (text names : List ℕ) (f : Formula) → p.writes s rows text → p.stops s rows names f → ⊥
-  pub written_limits : (s : Settings) (rows : List (List Value)) (text names : List ℕ) → p.writes s rows text → p.limits s rows names → ⊥
-  pub stopped_limits : (s : Settings) (rows : List (List Value)) (names others : List ℕ) (f : Formula) → p.stops s rows names f → p.limits s rows others → ⊥
+-- With these settings it is exact: rows never have two of a text, a limit and a formula. A program that does not visit all rows need not be, and
+-- one may be exact with some settings alone.
+pub record IsExactWith {Settings : Type 0} (p : ProgramOf Settings) (settings : Settings) : Type 0 where
+  pub written_stops : (rows : List (List Value)) (text names : List ℕ) (f : Formula) → p.writes settings rows text → p.stops settings rows names f → ⊥
+  pub written_limits : (rows : List (List Value)) (text names : List ℕ) → p.writes settings rows text → p.limits settings rows names → ⊥
+  pub stopped_limits : (rows : List (List Value)) (names others : List ℕ) (f : Formula) → p.stops settings rows names f → p.limits settings rows others → ⊥
+
+-- it is exact with the settings that these arguments say
+abbrev pub IsExactOn : {Settings : Type 0} → ProgramOf Settings → List (List ℕ) → Type 0
+IsExactOn {Settings} p words = (settings : Settings) → p.says words settings → IsExactWith p settings
 
 -- the arguments are not taken
 abbrev pub IsUntaken : {Settings : Type 0} → ProgramOf Settings → List (List ℕ) → Type 0

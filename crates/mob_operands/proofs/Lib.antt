@@ -1,0 +1,14 @@
+pub mod Casts
+pub mod Causes
+pub mod Distances
+pub mod Forms
+pub mod Meanings
+pub mod Nulls
+pub mod Numbers
+pub mod Plain
+pub mod Restricted
+pub mod Signs
+pub mod Single
+pub mod Table
+pub mod Together
+pub mod Whole

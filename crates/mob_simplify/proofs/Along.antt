@@ -1,0 +1,119 @@
+-- The walk along the slices, step by step.
+use Rattle.std.specs.Prelude.{◌≡◌, Bool, true, false, cond, ◌&&◌, not, List, [], ◌∷◌, ◌++◌, Option, Some, None, refl}
+use Rattle.std.specs.List.{AllByRecursion}
+use Rattle.std.proofs.Common.{arith, ap, sym, ◌∙◌, subst, append_assoc}
+use Rattle.mob_ratio.specs.Ratio.{Ratio}
+use Rattle.mob_ratio.specs.Order.{before, up_to, same}
+use Rattle.mob_ratio.proofs.Order.{before-self, before-back, before-trans, before-neither, same_exact}
+use Rattle.mob_span.specs.Span.{has_instant}
+use Rattle.mob_list.proofs.Each.{each_on, each_both}
+use Rattle.mob_slice.specs.Entries.{Entry, IsFirst}
+use Rattle.mob_slice.specs.declared.formula.Formula.{Formula}
+use Rattle.mob_slice.specs.declared.line.PlaneLine.{PlaneLine}
+use Rattle.mob_slice.specs.declared.slice.Slice.{Slice}
+use Rattle.mob_lifted.proofs.Firsts.{first_joined, first_front}
+use Rattle.mob_simplify.specs.Breaks.{start_of, end_of}
+use Rattle.mob_simplify.specs.Tests.{tests_of}
+use Rattle.mob_simplify.specs.Walk.{continues_run, stays, leg_over, legs_along, tests_along, all_legs, all_tests}
+use Rattle.mob_simplify.specs.declared.breaks.Break.{Break}
+use Rattle.mob_simplify.proofs.InTurn.{IsWithin}
+
+-- what it takes to go on
+pub record IsGoing (s r : Slice PlaneLine) : Type 0 where
+  pub first_long : before s.span.lower s.span.upper ≡ true
+  pub next_long : before r.span.lower r.span.upper ≡ true
+  pub at_one : s.span.upper ≡ r.span.lower
+
+pub going : (s r : Slice PlaneLine) → continues_run s r ≡ true → IsGoing s r
+unfolding continues_run
+going s r h =
+    let k : same s.span.upper r.span.lower ≡ true = grind (arith, h) in
+    record { first_long = grind (arith, h); next_long = grind (arith, h); at_one = (same_exact s.span.upper r.span.lower).0 k }
+
+-- an instant is reached after l, and u is not before it
+abbrev pub IsReached : Ratio → Ratio → Break → Type 0
+IsReached l u b = (before l b.instant ≡ true) × (up_to b.instant u ≡ true)
+
+-- the slices before the rest are walked
+pub record IsWalking (d : Ratio) (all : List (Slice PlaneLine)) (s : Slice PlaneLine) (between : List Break) (l : Slice PlaneLine) (rest legs : List (Slice PlaneLine)) : Type 0 where
+  pub made : legs ++ legs_along d s between l rest ≡ all_legs d all
+  pub firsts : (f : Option Formula) → IsFirst (tests_along d s between l rest) f → IsFirst (all_tests d all) f
+  pub order : up_to s.span.lower l.span.lower ≡ true
+  pub within : AllByRecursion (IsReached s.span.lower l.span.lower) between
+  pub some : has_instant (leg_over s l).span ≡ true
+
+pub self_upto : (t : Ratio) → up_to t t ≡ true
+self_upto t = ap not (before-self t)
+
+pub walking_start : (d : Ratio) (s : Slice PlaneLine) (rest all : List (Slice PlaneLine)) → all ≡ s ∷ rest → has_instant s.span ≡ true → IsWalking d all s [] s rest []
+walking_start d s rest all e h = subst (λ a. IsWalking d a s [] s rest []) (sym e) (record { made = refl; firsts = λ f k. k; order = self_upto s.span.lower; within = tt; some = h })
+
+pub upto_trans : (a b c : Ratio) → up_to a b ≡ true → up_to b c ≡ true → up_to a c ≡ true
+upto_trans a b c h k = grind (arith, h, k, before-trans c a b, before-neither a b)
+
+pub long_upto : (l u : Ratio) → before l u ≡ true → up_to l u ≡ true
+long_upto l u h = ap not (before-back l u h)
+
+pub upto_before : (a b c : Ratio) → up_to a b ≡ true → before b c ≡ true → before a c ≡ true
+upto_before a b c h k = grind (arith, h, k, before-trans a b c, before-neither a b)
+
+module _ (d : Ratio) (all : List (Slice PlaneLine)) (s : Slice PlaneLine) (between : List Break) (l : Slice PlaneLine) (rest legs : List (Slice PlaneLine)) (m : IsWalking d all s between l rest legs) where
+  module _ (r : Slice PlaneLine) (later : List (Slice PlaneLine)) (e : rest ≡ r ∷ later) where
+    abbrev wide : List Break
+    wide = between ++ start_of r ∷ []
+
+    -- the breaks between lie between, up to the start of the next
+    pub within_next : continues_run l r ≡ true → AllByRecursion (IsReached s.span.lower r.span.lower) wide
+    within_next g =
+        let k = going l r g in
+        let up : up_to l.span.lower r.span.lower ≡ true = subst (λ z. up_to l.span.lower z ≡ true) k.at_one (long_upto l.span.lower l.span.upper k.first_long) in
+        each_both (IsReached s.span.lower r.span.lower) between (start_of r ∷ [])
+        (each_on (IsReached s.span.lower l.span.lower) (IsReached s.span.lower r.span.lower) (λ b w. (w.0, upto_trans b.instant l.span.lower r.span.lower w.1 up)) between m.within)
+        ((upto_before s.span.lower l.span.lower r.span.lower m.order (subst (λ z. before l.span.lower z ≡ true) k.at_one k.first_long), self_upto r.span.lower), tt)
+
+    pub within_end : continues_run l r ≡ true → AllByRecursion (IsWithin s.span.lower r.span.upper) wide
+    within_end g = each_on (IsReached s.span.lower r.span.lower) (IsWithin s.span.lower r.span.upper) (λ b w. (w.0, upto_before b.instant r.span.lower r.span.upper w.1 (going l r g).next_long)) wide (within_next g)
+
+    abbrev front : List Entry
+    front = cond (continues_run l r) (tests_of d (start_of s) wide (end_of r)) []
+
+    abbrev behind : Bool → List Entry
+    behind b = cond b (tests_along d s wide r later) (tests_along d r [] r later)
+
+    firsts_on : (b : Bool) → b ≡ stays d s wide l r → IsFirst front None → (f : Option Formula) → IsFirst (behind b) f → IsFirst (all_tests d all) f
+    firsts_on b h fit f k = m.firsts f (subst (λ z. IsFirst (tests_along d s between l z) f) (sym e) (first_joined front (behind (stays d s wide l r)) f fit (subst (λ z. IsFirst (behind z) f) h k)))
+
+    made_on : (b : Bool) → b ≡ stays d s wide l r → legs ++ cond b (legs_along d s wide r later) (leg_over s l ∷ legs_along d r [] r later) ≡ all_legs d all
+    made_on b h = ap (λ z. legs ++ cond z (legs_along d s wide r later) (leg_over s l ∷ legs_along d r [] r later)) h ∙ ap (λ z. legs ++ legs_along d s between l z) (sym e) ∙ m.made
+
+    pub walking_fails : (f : Formula) → IsFirst front (Some f) → IsFirst (all_tests d all) (Some f)
+    walking_fails f bad = m.firsts (Some f) (subst (λ z. IsFirst (tests_along d s between l z) (Some f)) (sym e) (first_front front (behind (stays d s wide l r)) f bad))
+
+    going_by : (b c : Bool) → true ≡ (b && c) → b ≡ true
+    going_by true c h = refl
+    going_by false c h = sym h
+
+    pub walking_stays : true ≡ stays d s wide l r → IsFirst front None → IsWalking d all s wide r later legs
+    walking_stays h fit =
+        let g = going_by _ _ h in
+        let k = going l r g in
+        let up : up_to s.span.lower r.span.lower ≡ true = upto_trans s.span.lower l.span.lower r.span.lower m.order (subst (λ z. up_to l.span.lower z ≡ true) k.at_one (long_upto l.span.lower l.span.upper k.first_long)) in
+        record {
+          made = made_on true h;
+          firsts = firsts_on true h fit;
+          order = up;
+          within = within_next g;
+          some = let w = upto_before s.span.lower r.span.lower r.span.upper up k.next_long in grind (arith, w);
+        }
+
+    pub walking_breaks : (out : List (Slice PlaneLine)) → out ≡ legs ++ leg_over s l ∷ [] → false ≡ stays d s wide l r → IsFirst front None → has_instant r.span ≡ true → IsWalking d all r [] r later out
+    walking_breaks out o h fit i = record {
+      made = ap (λ z. z ++ legs_along d r [] r later) o ∙ append_assoc legs (leg_over s l ∷ []) (legs_along d r [] r later) ∙ made_on false h;
+      firsts = firsts_on false h fit;
+      order = self_upto r.span.lower;
+      within = tt;
+      some = i;
+    }
+
+  pub walking_end : rest ≡ [] → (legs ++ leg_over s l ∷ [] ≡ all_legs d all) × IsFirst (all_tests d all) None
+  walking_end e = (ap (λ z. legs ++ legs_along d s between l z) (sym e) ∙ m.made, m.firsts None (subst (λ z. IsFirst (tests_along d s between l z) None) (sym e) refl))

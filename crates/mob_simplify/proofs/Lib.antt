@@ -1,0 +1,12 @@
+pub mod Along
+pub mod Answering
+pub mod Chains
+pub mod Convexity
+pub mod Found
+pub mod InTurn
+pub mod NearAlong
+pub mod OneRuns
+pub mod Ordered
+pub mod Reaching
+pub mod Tidied
+mod Examples

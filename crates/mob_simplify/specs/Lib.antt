@@ -1,0 +1,7 @@
+pub mod Breaks
+pub mod BreaksOf
+pub mod Reaches
+pub mod Runs
+pub mod Tests
+pub mod Thinned
+pub mod Walk

@@ -1,0 +1,43 @@
+ghost use Rattle.std.specs.Prelude.{◌≡◌, true, IfOk};
+ghost use Rattle.std.specs.List.{flat_map};
+ghost use Rattle.mob_ratio.specs.Ratio.{Ratio, ◌*ℚ◌};
+ghost use Rattle.mob_ratio.specs.Order.{up_to};
+ghost use Rattle.mob_ratio.specs.Sign.{nil};
+ghost use Rattle.mob_slice.specs.Entries.{IsJudged};
+ghost use Rattle.mob_slice.specs.Lines.{plane_value_of};
+ghost use Rattle.mob_slice.specs.Slices.{value_at};
+ghost use Rattle.mob_simplify.specs.Thinned.{IsThin, AreNear, OnRuns, tests_of_run};
+
+use crate::passing::with_square;
+use crate::walking::walked;
+use mob_frac::Frac;
+use mob_normal::normal;
+use mob_slice::{Moving, OpFault, PlaneLine};
+use std::alloc::Global;
+
+/// The moving point with straight courses in place of its runs, each within the distance `d` of it: a run goes straight from each kept break
+/// to the next, and that is the last one up to which all breaks pass.
+///
+/// At every instant it is within `d` of the point, it is somewhere exactly where the point is, and with `d` 0 it is the point.
+///
+/// `Passed` names the formula of the first test that has a part that does not fit: by run, kept break, break that is tested, and break
+/// between, each F1, the straight course at the break between, F2, the difference by coordinate, and F6, the square of its length and that of
+/// `d`. For a kept break the tests stop at the first that fails.
+pub fn thin(alloc: Global, a: &Moving<PlaneLine>, d: &Frac) -> Result<Moving<PlaneLine>, OpFault>
+    requires not_negative { up_to nil d.now ≡ true }
+    ensures thin { IfOk result (λ thin. IsThin d.now a.now thin) }
+    ensures near { IfOk result (λ thin. (t : Ratio) → AreNear (d.now *ℚ d.now) (value_at plane_value_of thin t) (value_at plane_value_of a.now t)) }
+    ensures same { d.now ≡ nil → IfOk result (λ thin. thin ≡ a.now) }
+    ensures first { OnRuns d.now a.now (λ runs. IsJudged (flat_map (tests_of_run d.now) runs) result) }
+{
+    let limit = with_square(d);
+    let legs = match walked(alloc, a.slices(), &limit) {
+        Ok(legs) => legs,
+        Err(fault) => return Err(fault),
+    };
+    match normal(alloc, legs) {
+        Ok(Some(thin)) => Ok(thin),
+        Ok(None) => unreachable!(),
+        Err(_) => Err(OpFault::NoMemory),
+    }
+}

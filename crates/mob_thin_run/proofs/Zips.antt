@@ -1,0 +1,111 @@
+-- Rows that are made one after another, and the first that fails.
+use Rattle.std.specs.Prelude.{◌≡◌, ℕ, ℤ, codes, map, List, [], ◌∷◌, ◌++◌, length, get_or, ◌<◌, ◌≤◌, IsUtf8, Some, refl}
+use Rattle.std.specs.List.{AllZip, AllByRecursion, concat}
+use Rattle.std.proofs.Common.{arith, ap, sym, ◌∙◌, subst, inl, inr, take, drop, ◌+◌}
+use Rattle.std.proofs.lemmas.List.{map-append, take_more, take_all, take-append-drop, length-take-le}
+use Rattle.csv.specs.Records.{AllText}
+use Rattle.mob_cells.proofs.Making.{list_read}
+use Rattle.mob_list.proofs.Each.{each_both}
+use Rattle.mob_ratio.specs.Ratio.{Ratio}
+use Rattle.mob_slice.specs.Entries.{IsFirst, OnFormula}
+use Rattle.mob_slice.specs.declared.formula.Formula.{Formula}
+use Rattle.mob_value.specs.declared.value.Value.{Value}
+use Rattle.mob_slice.specs.declared.formula.OpFault.{OpFault}
+use Rattle.mob_slice.specs.declared.formula.OpFault.TheVariants.{Passed, NoMemory}
+use Rattle.mob_thin_run.specs.RowFaults.{OnRowFault, row_fault}
+use Rattle.mob_literal.specs.Fields.{field_text}
+use Rattle.mob_records.specs.AnswerText.{record_line}
+use Rattle.mob_thin_run.specs.ThinRows.{HasText, IsThinRecord, IsThinText, AreThinRows, OnTests, RowTestsFit, RowTestPasses, PassesFirst}
+
+zip_push : {A B : Type 0} (R : A → B → Type 0) (xs : List A) (ys : List B) (x : A) (y : B) → AllZip R xs ys → R x y → AllZip R (xs ++ x ∷ []) (ys ++ y ∷ [])
+zip_push R [] [] x y h k = (k, tt)
+zip_push R [] (z ∷ ys) x y h k = absurd h
+zip_push R (w ∷ xs) [] x y h k = absurd h
+zip_push R (w ∷ xs) (z ∷ ys) x y h k = (h.0, zip_push R xs ys x y h.1 k)
+
+-- at the place i of a list
+module _ {A : Type 0} (xs : List A) (i : ℕ) (x : A) (lt : i < length xs) (is : x ≡ get_or xs i x) where
+  more : take (i + 1) xs ≡ take i xs ++ x ∷ []
+  more = take_more xs i x lt ∙ ap (λ z. take i xs ++ z ∷ []) (sym is)
+
+  pub zip_more : {B : Type 0} (R : A → B → Type 0) (ys next : List B) (y : B) → next ≡ ys ++ y ∷ [] → AllZip R (take i xs) ys → R x y → AllZip R (take (i + 1) xs) next
+  zip_more R ys next y e h k = subst (λ z. AllZip R z next) (sym more) (subst (λ z. AllZip R (take i xs ++ x ∷ []) z) (sym e) (zip_push R (take i xs) ys x y h k))
+
+  pub all_more : (P : A → Type 0) → AllByRecursion P (take i xs) → P x → AllByRecursion P (take (i + 1) xs)
+  all_more P h k = subst (AllByRecursion P) (sym more) (each_both P (take i xs) (x ∷ []) h (k, tt))
+
+  pub map_more : {B : Type 0} (f : A → B) (ys next : List B) (y : B) → next ≡ ys ++ y ∷ [] → ys ≡ map f (take i xs) → y ≡ f x → next ≡ map f (take (i + 1) xs)
+  map_more f ys next y e h k = e ∙ ap (λ z. z ++ y ∷ []) h ∙ ap (λ z. map f (take i xs) ++ z ∷ []) k ∙ sym (ap (λ z. map f z) more ∙ map-append f (take i xs) (x ∷ []))
+
+  pub parted : xs ≡ take i xs ++ x ∷ drop (i + 1) xs
+  parted = sym (take-append-drop i xs) ∙ ap (λ z. take i xs ++ z) (list_read xs i x lt is)
+
+pub zip_all : {A B : Type 0} (R : A → B → Type 0) (xs : List A) (i : ℕ) (ys : List B) → length xs ≤ i → AllZip R (take i xs) ys → AllZip R xs ys
+zip_all R xs i ys most h = subst (λ z. AllZip R z ys) (take_all i xs most) h
+
+pub all_all : {A : Type 0} (P : A → Type 0) (xs : List A) (i : ℕ) → length xs ≤ i → AllByRecursion P (take i xs) → AllByRecursion P xs
+all_all P xs i most h = subst (AllByRecursion P) (take_all i xs most) h
+
+-- ---- the first value that fails
+passes_behind : (d : Ratio) (xs rest : List Value) (x : Value) (f : Formula) → RowTestsFit d xs → OnTests d x (λ tests. IsFirst tests (Some f)) → RowTestPasses d (xs ++ x ∷ rest) f
+passes_behind d [] rest x f h k = inl k
+passes_behind d (w ∷ xs) rest x f h k = inr (h.0, passes_behind d xs rest x f h.1 k)
+
+pub passes_at : (d : Ratio) (xs : List Value) (i : ℕ) (x : Value) (f : Formula) → i < length xs → x ≡ get_or xs i x → RowTestsFit d (take i xs) → OnTests d x (λ tests. IsFirst tests (Some f)) → RowTestPasses d xs f
+passes_at d xs i x f lt is h k = subst (λ z. RowTestPasses d z f) (sym (parted xs i x lt is)) (passes_behind d (take i xs) (drop (i + 1) xs) x f h k)
+
+pub first_at : (d : Ratio) (rows : List (List Value)) (i : ℕ) (row : List Value) (n : ℕ) (f : Formula) → i < length rows → row ≡ get_or rows i row → n ≡ i → AllByRecursion (RowTestsFit d) (take i rows) → RowTestPasses d row f → PassesFirst d rows n f
+first_at d rows i row n f lt is e h k = record {
+  before = take i rows;
+  here = row;
+  after = drop (i + 1) rows;
+  parts = parted rows i row lt is;
+  number = e ∙ sym (length-take-le i rows (omega arith));
+  fit = h;
+  passes = k;
+}
+
+-- the same of a fault, whichever it is
+pub fault_at : (d : Ratio) (xs : List Value) (i : ℕ) (x : Value) (e : OpFault) → i < length xs → x ≡ get_or xs i x → RowTestsFit d (take i xs) → OnTests d x (λ tests. OnFormula (λ f. IsFirst tests (Some f)) e) → OnFormula (RowTestPasses d xs) e
+fault_at d xs i x (Passed f) lt is h k = passes_at d xs i x f lt is h k
+fault_at d xs i x NoMemory lt is h k = tt
+
+pub row_fault_at : (d : Ratio) (rows : List (List Value)) (i : ℕ) (row : List Value) (n : ℕ) (e : OpFault) → i < length rows → row ≡ get_or rows i row → n ≡ i → AllByRecursion (RowTestsFit d) (take i rows) → OnFormula (RowTestPasses d row) e → OnRowFault (PassesFirst d rows) (row_fault n e)
+row_fault_at d rows i row n (Passed f) lt is e h k = first_at d rows i row n f lt is e h k
+row_fault_at d rows i row n NoMemory lt is e h k = tt
+
+-- ---- rows and their records
+-- what records are made of
+pub record AreRecordsOf (d : Ratio) (day : ℤ) (rows : List (List Value)) (records : List (List (List ℕ))) : Type 0 where
+  pub thin : List (List Value)
+  pub are : AreThinRows d rows thin
+  pub text : AllByRecursion (HasText day) thin
+  pub fields : records ≡ map (map (field_text day)) thin
+
+pub thin_rows : (d : Ratio) (day : ℤ) (rows : List (List Value)) (records : List (List (List ℕ))) → AllZip (IsThinRecord d day) rows records → AreRecordsOf d day rows records
+thin_rows d day [] [] h = record { thin = []; are = tt; text = tt; fields = refl }
+thin_rows d day [] (r ∷ records) h = absurd h
+thin_rows d day (x ∷ rows) [] h = absurd h
+thin_rows d day (x ∷ rows) (r ∷ records) h =
+    let k = thin_rows d day rows records h.1 in
+    record {
+      thin = h.0.0 ∷ k.thin;
+      are = (h.0.1, k.are);
+      text = (subst AllText h.0.3 h.0.2, k.text);
+      fields = ap (λ z. z ∷ records) h.0.3 ∙ ap (λ z. map (field_text day) h.0.0 ∷ z) k.fields;
+    }
+
+pub is_thin_text : (d : Ratio) (day : ℤ) (rows : List (List Value)) (records : List (List (List ℕ))) (names : List (List ℕ)) (text : List ℕ) → AllZip (IsThinRecord d day) rows records → names ≡ codes "id" ∷ codes "trip" ∷ [] → text ≡ concat (map record_line (names ∷ records)) → IsThinText d day rows text
+is_thin_text d day rows records names text h e is =
+    let k = thin_rows d day rows records h in
+    (k.thin, k.are, k.text, is ∙ ap (λ z. concat (map record_line (z ∷ records))) e ∙ ap (λ z. concat (map record_line ((codes "id" ∷ codes "trip" ∷ []) ∷ z))) k.fields)
+
+-- ---- fields that are UTF-8
+pub no_fields : AllText []
+unfolding AllText
+no_fields = tt
+
+pub one_field_more : (fields : List (List ℕ)) (field : List ℕ) → AllText fields → IsUtf8 field → AllText (fields ++ field ∷ [])
+unfolding AllText
+one_field_more [] field h k = (k, tt)
+one_field_more (f ∷ fields) field h k = (h.0, one_field_more fields field h.1 k)

@@ -1,0 +1,5 @@
+pub mod CommandLine
+pub mod RowFaults
+pub mod TableAgain
+pub mod ThinProgram
+pub mod ThinRows

@@ -1,0 +1,23 @@
+-- The program mobthin.
+use Rattle.std.specs.Prelude.{◌≡◌, ◌∷◌, [], ℕ, List, codes}
+use Rattle.std.specs.List.{AllByRecursion}
+use Rattle.mob_trips.specs.Program.{ProgramOf}
+use Rattle.mob_thin_run.specs.CommandLine.{ThinSays}
+use Rattle.mob_thin_run.specs.ThinRows.{IsThinText, PassesFirst, RowTestsFit}
+use Rattle.mob_thin_run.specs.declared.settings.ThinSettings.{ThinSettings}
+
+-- It writes the table with each trip simplified, where all parts of all tests fit; the first row with one that does not fit stops it; no row
+-- passes a limit.
+abbrev pub thin_program : ProgramOf ThinSettings
+thin_program = record {
+  says = ThinSays;
+  day = λ s. s.epoch;
+  writes = λ s rows text. AllByRecursion (RowTestsFit s.within) rows × IsThinText s.within s.epoch rows text;
+  stops = λ s rows names formula. (row : ℕ) × (names ≡ row ∷ []) × PassesFirst s.within rows row formula;
+  limits = λ s rows names. ⊥;
+  fits = λ s rows. AllByRecursion (RowTestsFit s.within) rows;
+}
+
+-- the line of arguments that are not taken
+abbrev pub thin_usage : List ℕ
+thin_usage = codes "usage: mobthin --within D [--epoch DATE] < trips.csv\n"

@@ -1,0 +1,52 @@
+// What a run does before its note.
+ghost use Rattle.std.specs.Prelude.{map, string_bytes, ◌∷◌, []};
+ghost use Rattle.mob_outside.specs.EndsSeen.{stream_seen};
+ghost use Rattle.mob_trips.specs.Endings.{IsTripsEnding};
+ghost use Rattle.mob_trips.specs.Seen.{trips_seen};
+ghost use Rattle.mob_thin_run.specs.ThinProgram.{thin_program};
+ghost use Rattle.mob_thin_run.specs.RowFaults.{EndsWith};
+
+use crate::command::settings;
+use crate::rows::{RowFault, thin_text};
+use mob_outside::{Sink, Source};
+use mob_trips::{Ending, put_text, read_trips};
+use mob_tuples::Tuple;
+use std::alloc::Global;
+
+// The ending of a fault of a row.
+fn ending_of(fault: RowFault) -> Ending
+    ensures ending { EndsWith fault result }
+{
+    match fault {
+        RowFault::Passed { row, formula } => Ending::Overflow {
+            rows: Tuple::new().with(row),
+            formula,
+        },
+        RowFault::NoMemory => Ending::NoMemory,
+    }
+}
+
+// Judges the arguments, reads the table, simplifies its trips and writes the text.
+pub fn decide<S: Source, K: Sink>(
+    alloc: Global,
+    words: &[String],
+    table: &mut S,
+    out: &mut K,
+) -> Ending
+    ensures ends { IsTripsEnding thin_program result (trips_seen (map string_bytes words.now) (stream_seen S.left S.faults table.old table.new) (stream_seen K.held K.faults out.old out.new)) }
+{
+    let settings = match settings(alloc, words) {
+        Ok(Some(settings)) => settings,
+        Ok(None) => return Ending::Usage,
+        Err(_) => return Ending::NoMemory,
+    };
+    let rows = match read_trips(alloc, table, &settings.epoch) {
+        Ok(rows) => rows,
+        Err(ending) => return ending,
+    };
+    let text = match thin_text(alloc, rows.as_slice(), &settings.within, &settings.epoch) {
+        Ok(text) => text,
+        Err(fault) => return ending_of(fault),
+    };
+    put_text(out, &text)
+}

@@ -1,0 +1,12 @@
+//! The program mobthin as a library: a table of trips in; the table with each trip simplified, a note and a status out.
+#![tactic(auto)]
+
+mod command;
+mod decide;
+pub mod laws;
+mod rows;
+mod settings;
+mod top;
+
+pub use settings::ThinSettings;
+pub use top::{run_thin, tell_thin};

@@ -1,0 +1,194 @@
+// The rows with each trip simplified, as text.
+ghost use Rattle.std.specs.Prelude.{◌≡◌, ◌≤◌, ◌∷◌, [], codes, IfOk, IfErr, IsUtf8, List, length, map, true};
+ghost use Rattle.std.specs.List.{AllZip, AllByRecursion};
+ghost use Rattle.csv.specs.Records.{AllText};
+ghost use Rattle.mob_ratio.specs.Order.{up_to};
+ghost use Rattle.mob_ratio.specs.Sign.{nil};
+ghost use Rattle.mob_slice.specs.Entries.{IsFirst, IsJudged, OnFormula};
+ghost use Rattle.mob_literal.specs.Fields.{field_text};
+ghost use Rattle.mob_value.specs.declared.value.Value.{Value as ValueSeen};
+ghost use Rattle.mob_thin_run.specs.ThinRows.{AreThinRows, IsThinValue, IsThinRecord, IsThinText, OnTests, PassesFirst, RowTestsFit, RowTestPasses, table_text};
+ghost use Rattle.mob_thin_run.specs.RowFaults.{OnRowFault, row_fault};
+
+use mob_frac::Frac;
+use mob_list::items::Items;
+use mob_list::text::Text;
+use mob_literal::write_field;
+use mob_records::records_text;
+use mob_scalar::Epoch;
+use mob_simplify::thin;
+use mob_slice::{Formula, OpFault};
+use mob_value::Value;
+use std::alloc::{AllocError, Global};
+
+/// Why the rows have no text.
+#[derive(Drop)]
+pub enum RowFault {
+    /// A part of this formula does not fit, in a test of the row of this number, from 0.
+    Passed {
+        /// The number of the row.
+        row: u32,
+        /// The formula.
+        formula: Formula,
+    },
+    /// Out of memory.
+    NoMemory,
+}
+
+// The value with a trip simplified.
+fn thinned(alloc: Global, value: &Value, d: &Frac) -> Result<Value, OpFault>
+    requires not_negative { up_to nil d.now ≡ true }
+    ensures thin { IfOk result (λ thin. IsThinValue d.now value.now thin) }
+    ensures first { OnTests d.now value.now (λ tests. IsJudged tests result) }
+{
+    match value {
+        Value::MovingPoint(trip) => match thin(alloc, trip, d) {
+            Ok(thin) => Ok(Value::MovingPoint(thin)),
+            Err(fault) => Err(fault),
+        },
+        _ => match value.copy(alloc) {
+            Ok(copy) => Ok(copy),
+            Err(_) => Err(OpFault::NoMemory),
+        },
+    }
+}
+
+// The row with each trip simplified.
+fn thinned_row(alloc: Global, row: &[Value], d: &Frac) -> Result<Items<Value>, OpFault>
+    requires not_negative { up_to nil d.now ≡ true }
+    ensures thin { IfOk result (AllZip (IsThinValue d.now) row.now) }
+    ensures fit { IfOk result (λ thin. RowTestsFit d.now row.now) }
+    ensures first { IfErr result (OnFormula (RowTestPasses d.now row.now)) }
+{
+    let mut thin = Items::new(alloc);
+    for value in row {
+        let next = match thinned(alloc, value, d) {
+            Ok(next) => next,
+            Err(fault) => return Err(fault),
+        };
+        if thin.push(next).is_err() {
+            return Err(OpFault::NoMemory);
+        }
+    }
+    Ok(thin)
+}
+
+// A value as a field.
+fn field_of(alloc: Global, value: &Value, epoch: &Epoch) -> Result<Text, AllocError>
+    ensures field { IfOk result (λ field. field ≡ field_text epoch.now value.now) }
+    ensures utf8 { IfOk result IsUtf8 }
+{
+    let mut text = String::new(alloc);
+    write_field(value, epoch, &mut text)?;
+    Ok(Text::from_string(text))
+}
+
+// The fields of a row.
+fn fields_of(alloc: Global, row: &[Value], epoch: &Epoch) -> Result<Items<Text>, AllocError>
+    ensures fields { IfOk result (λ fields. fields ≡ map (field_text epoch.now) row.now) }
+    ensures utf8 { IfOk result AllText }
+{
+    let mut fields = Items::new(alloc);
+    for value in row {
+        fields.push(field_of(alloc, value, epoch)?)?;
+    }
+    Ok(fields)
+}
+
+// The fields of the row with each trip simplified.
+fn thin_fields(
+    alloc: Global,
+    row: &[Value],
+    d: &Frac,
+    epoch: &Epoch,
+) -> Result<Items<Text>, OpFault>
+    requires not_negative { up_to nil d.now ≡ true }
+    ensures fields { IfOk result (IsThinRecord d.now epoch.now row.now) }
+    ensures fit { IfOk result (λ fields. RowTestsFit d.now row.now) }
+    ensures first { IfErr result (OnFormula (RowTestPasses d.now row.now)) }
+{
+    let thin = match thinned_row(alloc, row, d) {
+        Ok(thin) => thin,
+        Err(fault) => return Err(fault),
+    };
+    match fields_of(alloc, thin.as_slice(), epoch) {
+        Ok(fields) => Ok(fields),
+        Err(_) => Err(OpFault::NoMemory),
+    }
+}
+
+// The fault of a row with so many rows before it.
+fn row_fault(row: u32, fault: OpFault) -> RowFault
+    ensures same { result ≡ row_fault row fault }
+{
+    match fault {
+        OpFault::Passed { formula } => RowFault::Passed { row, formula },
+        OpFault::NoMemory => RowFault::NoMemory,
+    }
+}
+
+// The fields of all rows with each trip simplified, a row at a time.
+fn thin_records(
+    alloc: Global,
+    rows: &[Items<Value>],
+    d: &Frac,
+    epoch: &Epoch,
+) -> Result<Items<Items<Text>>, RowFault>
+    requires not_negative { up_to nil d.now ≡ true }
+    requires few { length rows.now ≤ 1000000 }
+    ensures records { IfOk result (AllZip (IsThinRecord d.now epoch.now) rows.now) }
+    ensures fit { IfOk result (λ records. AllByRecursion (RowTestsFit d.now) rows.now) }
+    ensures first { IfErr result (OnRowFault (PassesFirst d.now rows.now)) }
+{
+    let mut records = Items::new(alloc);
+    let mut number: u32 = 0;
+    for row in rows {
+        let fields = match thin_fields(alloc, row.as_slice(), d, epoch) {
+            Ok(fields) => fields,
+            Err(fault) => return Err(row_fault(number, fault)),
+        };
+        if records.push(fields).is_err() {
+            return Err(RowFault::NoMemory);
+        }
+        number += 1;
+    }
+    Ok(records)
+}
+
+// The names of the columns.
+fn names(alloc: Global) -> Result<Vec<Text>, AllocError>
+    ensures names { IfOk result (λ v. v.items ≡ codes "id" ∷ codes "trip" ∷ []) }
+{
+    let id = Text::from_string(String::from_str(alloc, "id")?);
+    let trip = Text::from_string(String::from_str(alloc, "trip")?);
+    let mut names = Vec::new(alloc);
+    names.push(id)?;
+    names.push(trip)?;
+    Ok(names)
+}
+
+/// The text of the table with each trip simplified, within `d`, or the first row with a part of a test that does not fit.
+pub fn thin_text(
+    alloc: Global,
+    rows: &[Items<Value>],
+    d: &Frac,
+    epoch: &Epoch,
+) -> Result<Vec<u8>, RowFault>
+    requires not_negative { up_to nil d.now ≡ true }
+    requires few { length rows.now ≤ 1000000 }
+    ensures text { IfOk result (λ v. IsThinText d.now epoch.now rows.now v.items) }
+    ensures fit { IfOk result (λ v. AllByRecursion (RowTestsFit d.now) rows.now) }
+    ensures first { IfErr result (OnRowFault (PassesFirst d.now rows.now)) }
+{
+    let records = match thin_records(alloc, rows, d, epoch) {
+        Ok(records) => records,
+        Err(fault) => return Err(fault),
+    };
+    let Ok(names) = names(alloc) else {
+        return Err(RowFault::NoMemory);
+    };
+    match records_text(alloc, &names, records.as_slice()) {
+        Ok(text) => Ok(text),
+        Err(_) => Err(RowFault::NoMemory),
+    }
+}

@@ -1,0 +1,56 @@
+// The top call.
+ghost use Rattle.std.specs.Prelude.{map, string_bytes};
+ghost use Rattle.mob_outside.specs.EndsSeen.{stream_seen};
+ghost use Rattle.mob_outside.specs.Streams.{Puts};
+ghost use Rattle.mob_trips.specs.Lines.{trips_note};
+ghost use Rattle.mob_trips.specs.Run.{IsExactRun, IsTripsRun};
+ghost use Rattle.mob_trips.specs.Seen.{trips_seen};
+ghost use Rattle.mob_thin_run.specs.ThinProgram.{thin_program, thin_usage};
+
+use crate::decide::decide;
+use mob_catalog::laws::one_table;
+use mob_outside::{Sink, Source};
+use mob_trips::{Ending, tell};
+use std::alloc::Global;
+
+const USAGE: &[u8] = b"usage: mobthin --within D [--epoch DATE] < trips.csv\n";
+
+/// Puts the line of an ending of mobthin.
+pub fn tell_thin<E: Sink>(notes: &mut E, ending: &Ending)
+    ensures puts { Puts (trips_note thin_usage ending.now) (E.held notes.old) (E.held notes.new) (E.faults notes.old) (E.faults notes.new) }
+{
+    tell(notes, USAGE, ending);
+}
+
+/// One run of mobthin, by the arguments of its command line and its streams: it reads the table from `table`, writes the table with each
+/// trip simplified to `out`, and after every status but 0 puts one line into `notes`. It returns the status.
+///
+/// | status | when |
+/// |---|---|
+/// | 0 | the table was read to its end and accepted, and `out` took all of the text |
+/// | 2 | the arguments are not taken |
+/// | 3 | the table could not be read |
+/// | 4 | `out` failed, and took a part of the text |
+/// | 5 | out of memory |
+/// | 6 | the table is refused |
+/// | 8 | a part of a test's formula does not fit; the note names the first such row |
+pub fn run_thin<S: Source, K: Sink, E: Sink>(
+    alloc: Global,
+    words: &[String],
+    table: &mut S,
+    out: &mut K,
+    notes: &mut E,
+) -> u8
+    // `IsTripsRun` has a line for each status and each other promise, by what was seen of the run and of its note. `IsExactRun` adds that
+    // 8 comes exactly where a part of a test's formula does not fit, out of memory aside.
+    ensures promises { IsTripsRun thin_program thin_usage result
+        (trips_seen (map string_bytes words.now) (stream_seen S.left S.faults table.old table.new) (stream_seen K.held K.faults out.old out.new))
+        (λ line. Puts line (E.held notes.old) (E.held notes.new) (E.faults notes.old) (E.faults notes.new)) }
+    ensures exact { IsExactRun thin_program result
+        (trips_seen (map string_bytes words.now) (stream_seen S.left S.faults table.old table.new) (stream_seen K.held K.faults out.old out.new)) }
+{
+    one_table();
+    let ending = decide(alloc, words, table, out);
+    tell_thin(notes, &ending);
+    ending.status()
+}
