@@ -65,7 +65,8 @@ TypingKeepsNumbers = (bytes : List ℕ) (trees : List StatementParts) (out : Scr
 abbrev pub TextIsNumbered : Type 0
 TextIsNumbered = (bytes : List ℕ) (out : ScriptOut) → IsAccepted bytes out → IsNumbered bytes out
 
--- each operator of a text that is taken is in its statement, constants and columns among them
+-- each operator and each aggregate of a text that is taken is in its statement, constants and
+-- columns among them
 abbrev pub OperatorsAreNumbered : Type 0
 OperatorsAreNumbered = (bytes : List ℕ) (out : ScriptOut) → IsAccepted bytes out → OperatorsStand (λ n p. statement_number bytes p ≡ n) 1 out.statements
 

@@ -1,4 +1,5 @@
--- Where a refusal of names and types stands, and each operator and aggregate of a typed script: in the statement whose tree holds its place.
+-- Where a refusal of names and types stands, and each operator and aggregate of a typed script: in
+-- the statement whose tree holds its place.
 use Rattle.std.specs.Prelude.{◌≡◌, ◌+◌, ◌++◌, ℕ, List, [], ◌∷◌, length, Option, Some, None, Ok, Err}
 use Rattle.std.specs.List.{AllByRecursion, Contains, flat_map}
 use Rattle.mob_ast.specs.declared.refusal.Refusal.{Refusal}
@@ -56,11 +57,13 @@ operators_of (deletion s) = query_operators s
 operators_of (query s) = query_operators s
 operators_of (plan_of s) = query_operators s
 
--- the operators and aggregates of the first of these statements stand at such places of statement n, and those of each other of one more
+-- the operators and aggregates of the first of these statements stand at such places of statement
+-- n, and those of each other of one more
 abbrev pub OperatorsStand : (ℕ → ℕ → Type 0) → ℕ → List StatementOut → Type 0
 OperatorsStand At n [] = Unit {0}
 OperatorsStand At n (s ∷ ss) = AllByRecursion (At n) (operators_of s) × OperatorsStand At (n + 1) ss
 
--- each operator and each aggregate of a typed script stands at a place that the tree of its statement holds
+-- each operator and each aggregate of a typed script stands at a place that the tree of its
+-- statement holds
 abbrev pub TypingHoldsOperators : Type 0
 TypingHoldsOperators = (trees : List StatementParts) (out : ScriptOut) → typed_script trees ≡ Ok out → OperatorsStand (IsHeldIn trees) 1 out.statements
