@@ -1,5 +1,5 @@
 -- An expression has the same outcome on tuples that agree at the places that it names.
-use Rattle.std.proofs.Common.{◌≡◌, inl, inr, ℕ, Bool, true, false, List, [], ◌∷◌, Option, Some, sym, ap, ◌∙◌, refl, arith, subst, true≢false}
+use Rattle.std.proofs.Common.{◌≡◌, inl, inr, ℕ, Bool, true, false, List, [], ◌∷◌, Option, Some, None, sym, ap, ◌∙◌, refl, arith, subst, true≢false}
 use Rattle.std.specs.Prelude.{◌||◌, ◌==◌, ℤ, Result, Ok, Err, slice_get, option_and_then}
 use Rattle.mob_ast.specs.declared.types.SqlType.{SqlType}
 use Rattle.mob_operators.specs.declared.operator.Op.{Op}
@@ -12,7 +12,7 @@ use Rattle.mob_value.specs.Types.{read_as}
 use Rattle.mob_meaning.specs.Scene.{scene, rows_of_place, row_of_number, leaf_value}
 use Rattle.mob_meaning.specs.Operators.{GivesOfOne, OperatorGives}
 use Rattle.mob_meaning.specs.Evaluation.{Fault, stop_of, TreeEvaluatesTo, OperandsEvaluateTo}
-use Rattle.mob_remembered.specs.Depends.{reads, names, any_names, AgreeFor, OutcomesDepend, NamesOnly, RowsDecide, NothingDecides}
+use Rattle.mob_remembered.specs.Depends.{reads, names, any_names, AgreeFor, OutcomesDepend, RowsDecide}
 
 either_left : (a b : Bool) → a ≡ true → (a || b) ≡ true
 either_left true b h = refl
@@ -65,13 +65,11 @@ module _ (store : Store) (from : List ℕ) (day : ℤ) (p q : List ℕ) where
 pub depend : OutcomesDepend
 depend store from day p q e r b h = outcome_same store from day p q e r b h
 
-pub rows_decide : RowsDecide
-rows_decide store from day place row tuple e r only there h other says =
-    outcome_same store from day tuple other e r (λ i n. subst (λ j. slice_get tuple j ≡ slice_get other j) (sym (only i n)) (there ∙ sym says)) h
-
 not_both : {X : Type 0} → (b : Bool) → b ≡ false → b ≡ true → X
 not_both true p q = absurd (true≢false p)
 not_both false p q = absurd (true≢false (sym q))
 
-pub nothing_decides : NothingDecides
-nothing_decides store from day p q e r free h = outcome_same store from day p q e r (λ i n. not_both (names i e) (free i) n) h
+pub rows_decide : RowsDecide
+rows_decide store from day (Some place) row tuple e r only there h other says =
+    outcome_same store from day tuple other e r (λ i n. subst (λ j. slice_get tuple j ≡ slice_get other j) (sym (only i n)) (there ∙ sym says)) h
+rows_decide store from day None row tuple e r free there h other says = outcome_same store from day tuple other e r (λ i n. not_both (names i e) (free i) n) h
