@@ -71,7 +71,7 @@ for script in "$work"/*.sql; do
 done
 mkdir "$work/bin"
 ln -s "$program" "$work/bin/mobsql"
-for name in mobnear mobthin; do
+for name in mobnear mobthin mobtile; do
     beside=$(dirname "$program")/$name
     [ -x "$beside" ] || beside=$PWD/crates/$name/out/$name
     ln -s "$beside" "$work/bin/$name"

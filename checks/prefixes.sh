@@ -8,6 +8,8 @@ CREATE TABLE t (id int, k int);
 INSERT INTO t VALUES (1, 5), (2, NULL), (3, 4), (4, 5);
 SELECT id FROM t ORDER BY k DESC;
 SELECT id FROM t ORDER BY k LIMIT 3;
+DELETE FROM t WHERE k = 5;
+SELECT x.id, y.k FROM t x LEFT JOIN t y ON x.id < y.id;
 END
 
 length=$(wc -c < "$work/script.sql")
@@ -23,6 +25,6 @@ while [ "$count" -le "$length" ]; do
     esac
     count=$((count + 1))
 done
-printf 'id\n2\n1\n4\n3\n(4 rows)\nid\n3\n1\n4\n(3 rows)\n' > "$work/wanted"
+printf 'id\n2\n1\n4\n3\n(4 rows)\nid\n3\n1\n4\n(3 rows)\nid,k\n2,4\n3,\\N\n(2 rows)\n' > "$work/wanted"
 cmp "$work/answer" "$work/wanted" || { echo "prefixes: FAILED: the whole script"; exit 1; }
 echo "prefixes: $count tried, as expected"

@@ -6,3 +6,8 @@ EXPLAIN SELECT a.id, b.id FROM ship a, ship b WHERE a.id < b.id AND eDwithin(a.t
 SELECT a.id AS a, b.id AS b, nearestApproachSquared(a.trip, b.trip) AS near FROM ship a, ship b WHERE a.id < b.id AND eDwithin(a.trip, b.trip, 5);
 SELECT id, atGeometry(trip, area) AS inside, atStbox(trip, frame) AS framed, load #> 1 AS over, crew + 1 AS more, call || '!' AS said, ~free AS busy, times, at, share, port, time FROM ship WHERE trip && stbox 'STBOX X((0,0),(4,4))' ORDER BY name DESC, id LIMIT 3;
 SELECT DISTINCT seen FROM ship ORDER BY seen;
+SELECT a.id AS a, b.id AS b FROM ship a LEFT JOIN ship b ON a.id < b.id AND eDwithin(a.trip, b.trip, 50) LEFT JOIN ship c ON c.id = b.id + 9 WHERE c.id IS NULL;
+DELETE FROM ship WHERE trip && stbox 'STBOX X((0,0),(500,500))' AND id <> 2;
+SELECT id FROM ship ORDER BY id;
+DELETE FROM ship;
+SELECT id FROM ship;

@@ -1,4 +1,4 @@
--- COUNT and GROUP BY are not built yet. The last line of an answer has the number of its rows.
+-- Beside an aggregate each item is a column of GROUP BY: add GROUP BY name.
 CREATE TABLE gates (name text, open tbool);
 COPY gates FROM 'gates.csv' WITH (FORMAT csv, HEADER);
-SELECT COUNT(*) FROM gates;
+SELECT name, count(*) FROM gates;

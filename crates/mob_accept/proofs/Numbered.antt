@@ -17,8 +17,7 @@ use Rattle.mob_lexemes.specs.Lexed.{lexed}
 use Rattle.mob_typed.specs.declared.typed.ConstText.{ConstText}
 use Rattle.mob_typed.specs.Statements.{ScriptOut}
 use Rattle.mob_typing.specs.Names.{NameLists}
-use Rattle.mob_accept.specs.Numbers.{statement_number, AreIn, TreesAreIn, RowsAreIn, TreesAreNumbered, TypingKeepsNumbers, TextIsNumbered, OperatorsAreNumbered, TypingRefusesInside, WrongNamesAreHeld, WrongNamesAreNumbered, WrongTokensAreNumbered, UnbuiltIsNumbered}
-use Rattle.mob_accept.specs.Unbuilt.{first_unbuilt}
+use Rattle.mob_accept.specs.Numbers.{statement_number, AreIn, TreesAreIn, RowsAreIn, TreesAreNumbered, TypingKeepsNumbers, TextIsNumbered, OperatorsAreNumbered, TypingRefusesInside, WrongNamesAreHeld, WrongNamesAreNumbered, WrongTokensAreNumbered}
 use Rattle.mob_list.proofs.Each.{each_both, each_on}
 use Rattle.mob_typing.proofs.Walk.{Belongs, places_of}
 use Rattle.mob_typing.proofs.WalkedScripts.{AreMade, none_made, one_made, HoldPlaces, script_made, script_made_at, script_stops_inside, operators_stand, typing_refuses_what_is_held}
@@ -93,12 +92,6 @@ module _ (bytes : List ℕ) (e : Refusal) where
 
   complex_names : IsCause TooComplex bytes e → e.statement ≡ statement_number bytes e.place
   complex_names (u, (l, has, (n, heavy, begins, at, says))) = names_behind l (take n l) (drop n l) has (sym (take-append-drop n l)) at says
-
-pub unbuilt_is_numbered : UnbuiltIsNumbered
-unbuilt_is_numbered bytes e h =
-    let l = h.stands.tokens in
-    let says = h.stands.says in
-    names_behind bytes e l (take (first_unbuilt l) l) (drop (first_unbuilt l) l) h.stands.of_text (sym (take-append-drop (first_unbuilt l) l)) (ap (λ r. r.place) says) (ap (λ r. r.statement) says)
 
 pub wrong_tokens_are_numbered : WrongTokensAreNumbered
 wrong_tokens_are_numbered bytes e h (inl syntax) = syntax_names bytes e (subst (λ k. IsCause k bytes e) syntax h.cause)

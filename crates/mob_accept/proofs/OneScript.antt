@@ -1,5 +1,5 @@
 -- A text is judged in one way.
-use Rattle.std.proofs.Common.{arith, ◌≡◌, ◌∙◌, refl, sym, ap, subst, inl, inr, ℕ, List, [], true, false}
+use Rattle.std.proofs.Common.{arith, ◌≡◌, refl, subst, inl, inr, ℕ, List, []}
 use Rattle.mob_ast.specs.Trees.{StatementParts}
 use Rattle.mob_grammar.specs.Symbols.{PlacedSymbol}
 use Rattle.mob_grammar.specs.Scripts.{IsScript}
@@ -9,7 +9,6 @@ use Rattle.mob_parse.proofs.Refused.{no_tree, same_tokens}
 use Rattle.mob_parse.proofs.Scripts.{script_only}
 use Rattle.mob_typed.specs.Statements.{ScriptOut}
 use Rattle.mob_accept.specs.Accepts.{IsTypedAs}
-use Rattle.mob_accept.specs.Unbuilt.{is_built}
 use Rattle.mob_accept.specs.Outcomes.{HasOneScript, NeverTakenAndRefused}
 
 -- tokens have one tree: what the reading of them gives
@@ -34,11 +33,8 @@ one_script bytes a b h k = (one_typed bytes h.trees k.trees a b h.script k.scrip
 pub never_taken_and_refused : NeverTakenAndRefused
 never_taken_and_refused bytes out e h (inl k) = let long = k.long in let short = h.script.read.short in absurd (omega arith)
 never_taken_and_refused bytes out e h (inr (inl k)) = k.other (no_tree e.kind bytes e k.cause h.trees h.script.read.tree h.script.read.light)
-never_taken_and_refused bytes out e h (inr (inr (inl k))) =
+never_taken_and_refused bytes out e h (inr (inr k)) =
     let trees = one_text bytes h.trees k.trees h.script.read.tree k.read.tree in
     let typed = h.script.typed in
     let wrong = k.first in
-    absurd cc
-never_taken_and_refused bytes out e h (inr (inr (inr k))) =
-    let clash : true ≡ false = sym h.built ∙ ap is_built (one_typed bytes h.trees k.trees out k.out h.script k.script).1 ∙ k.unbuilt in
     absurd cc

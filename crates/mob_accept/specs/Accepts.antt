@@ -1,5 +1,5 @@
 -- Which texts are scripts that are taken, and why a text is refused by itself, before any literal or file is looked at.
-use Rattle.std.specs.Prelude.{◌≡◌, ◌≢◌, ◌⊎◌, ◌<◌, ◌≤◌, ℕ, List, true, false, length, Ok, Err}
+use Rattle.std.specs.Prelude.{◌≡◌, ◌≢◌, ◌⊎◌, ◌<◌, ◌≤◌, ℕ, List, length, Ok, Err}
 use Rattle.mob_ast.specs.declared.refusal.Kind.TheVariants.{NoMemory, Limit}
 use Rattle.mob_ast.specs.declared.refusal.Refusal.{Refusal}
 use Rattle.mob_ast.specs.Kinds.{no_memory}
@@ -7,7 +7,6 @@ use Rattle.mob_ast.specs.Trees.{StatementParts}
 use Rattle.mob_parse.specs.Refusals.{IsTreeOf, IsLightText, ParsesToRefusal as HasNoTree}
 use Rattle.mob_typed.specs.Statements.{ScriptOut}
 use Rattle.mob_typing.specs.Statements.{typed_script}
-use Rattle.mob_accept.specs.Unbuilt.{is_built, StandsAtUnbuilt}
 
 -- the greatest length of a script in bytes
 abbrev pub script_limit : ℕ
@@ -24,12 +23,10 @@ pub record IsTypedAs (bytes : List ℕ) (trees : List StatementParts) (out : Scr
   pub read : HasTrees bytes trees
   pub typed : typed_script trees ≡ Ok out
 
--- The text is a script that is taken, and this is what it is with names and types. It has no
--- GROUP BY and no aggregate, since these are not built yet.
+-- the text is a script that is taken, and this is what it is with names and types
 pub record IsAccepted (bytes : List ℕ) (out : ScriptOut) : Type 0 where
   pub trees : List StatementParts
   pub script : IsTypedAs bytes trees out
-  pub built : is_built out ≡ true
 
 -- the text is longer than the limit
 pub record IsTooLong (bytes : List ℕ) (e : Refusal) : Type 0 where
@@ -48,17 +45,9 @@ pub record IsWrongName (bytes : List ℕ) (e : Refusal) : Type 0 where
   pub read : HasTrees bytes trees
   pub first : typed_script trees ≡ Err e
 
--- names and types are right, and the text has what is not built yet
-pub record IsNotBuilt (bytes : List ℕ) (e : Refusal) : Type 0 where
-  pub trees : List StatementParts
-  pub out : ScriptOut
-  pub script : IsTypedAs bytes trees out
-  pub unbuilt : is_built out ≡ false
-  pub stands : StandsAtUnbuilt bytes e
-
--- why a text is refused: by its length, its characters, tokens and grammar, its names and types, or what is not built yet
+-- why a text is refused: by its length, its characters, tokens and grammar, or its names and types
 abbrev pub IsTextRefused : List ℕ → Refusal → Type 0
-IsTextRefused bytes e = IsTooLong bytes e ⊎ (IsNoScript bytes e ⊎ (IsWrongName bytes e ⊎ IsNotBuilt bytes e))
+IsTextRefused bytes e = IsTooLong bytes e ⊎ (IsNoScript bytes e ⊎ IsWrongName bytes e)
 
 -- the text is no script that is taken
 abbrev pub IsNotTaken : List ℕ → Type 0

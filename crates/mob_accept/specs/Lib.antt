@@ -1,5 +1,4 @@
 pub mod Accepts
 pub mod Numbers
 pub mod Outcomes
-pub mod Unbuilt
 pub mod Written

@@ -16,7 +16,7 @@ use Rattle.mob_typed.specs.Statements.{StatementOut, ScriptOut}
 use Rattle.mob_typed.specs.Written.{brackets_of}
 use Rattle.mob_typing.specs.Statements.{typed_script}
 use Rattle.mob_typing.specs.Stands.{OperatorsStand, IsHeldRefusal}
-use Rattle.mob_accept.specs.Accepts.{IsAccepted, IsNoScript, IsNotBuilt, IsWrongName}
+use Rattle.mob_accept.specs.Accepts.{IsAccepted, IsNoScript, IsWrongName}
 
 -- the tokens, where the text has them
 abbrev pub tokens_in : Result (List Token) ℕ → List Token
@@ -65,7 +65,8 @@ TypingKeepsNumbers = (bytes : List ℕ) (trees : List StatementParts) (out : Scr
 abbrev pub TextIsNumbered : Type 0
 TextIsNumbered = (bytes : List ℕ) (out : ScriptOut) → IsAccepted bytes out → IsNumbered bytes out
 
--- each operator of a text that is taken is in its statement, constants and columns among them
+-- each operator and each aggregate of a text that is taken is in its statement, constants and
+-- columns among them
 abbrev pub OperatorsAreNumbered : Type 0
 OperatorsAreNumbered = (bytes : List ℕ) (out : ScriptOut) → IsAccepted bytes out → OperatorsStand (λ n p. statement_number bytes p ≡ n) 1 out.statements
 
@@ -84,7 +85,3 @@ WrongNamesAreHeld = (bytes : List ℕ) (e : Refusal) → IsWrongName bytes e →
 -- a refusal of a token that goes wrong, or at which an expression is too complex, names the statement of its place, too
 abbrev pub WrongTokensAreNumbered : Type 0
 WrongTokensAreNumbered = (bytes : List ℕ) (e : Refusal) → IsNoScript bytes e → (e.kind ≡ Syntax) ⊎ (e.kind ≡ TooComplex) → e.statement ≡ statement_number bytes e.place
-
--- and so does the refusal of what is not built
-abbrev pub UnbuiltIsNumbered : Type 0
-UnbuiltIsNumbered = (bytes : List ℕ) (e : Refusal) → IsNotBuilt bytes e → e.statement ≡ statement_number bytes e.place

@@ -3,6 +3,5 @@
 
 pub mod laws;
 pub mod text;
-mod unbuilt;
 
 pub use text::{SCRIPT_LIMIT, accept};

@@ -24,8 +24,8 @@ pub fn leaf(alloc: Global, op: Op, ty: SqlType, place: u32) -> TExpr
     with_args(op, ty, place, Vec::new(alloc))
 }
 
-/// A constant of this type and text, which takes the next number.
-pub fn constant(
+// A constant of this type and text, which takes the next number.
+fn constant(
     alloc: Global,
     scope: &Scope<'_>,
     consts: &mut Items<ConstText>,
@@ -131,7 +131,7 @@ fn settled_string(
 /// What is settled before the operands: constants, columns, a cast of a bare string, and functions that are refused for
 /// their irrational results.
 #[tactic(auto, unfolding(crate::specs::Expressions::typed_before_operands))]
-pub fn typed_before_operands(
+pub(crate) fn typed_before_operands(
     alloc: Global,
     scope: &Scope<'_>,
     consts: &mut Items<ConstText>,

@@ -194,7 +194,7 @@ fn can_cast_all(types: &[SqlType], to: SqlType) -> bool
 
 /// The operator on its typed operands.
 #[tactic(auto, unfolding(crate::specs::Expressions::finished))]
-pub fn finished(
+pub(crate) fn finished(
     alloc: Global,
     node: &Node,
     place: u32,

@@ -73,7 +73,7 @@ pub fn type_named(word: &TypeWord) -> Option<SqlType>
 }
 
 /// The type of a number: int where it is of digits alone, else numeric.
-pub fn number_type(text: &str) -> SqlType
+pub(crate) fn number_type(text: &str) -> SqlType
     ensures by_digits { result ≡ number_type text.now }
 {
     if has_digits_alone(text.as_bytes()) {
@@ -91,7 +91,7 @@ pub fn has_digits_alone(text: &[u8]) -> bool
 }
 
 /// Whether a number is 0: no digit of it before any exponent and any slash is another than 0.
-pub fn is_zero(text: &str) -> bool
+pub(crate) fn is_zero(text: &str) -> bool
     ensures zero { result ≡ is_zero text.now }
 {
     !has_figure(text.as_bytes())

@@ -1,10 +1,9 @@
-//! Tests of what values over time are made of: steady courses, lists and texts, lines by themselves, and calls on values over time that
-//! no script reaches.
+//! Tests of what values over time are made of: fractions, steady courses, lists and texts, and lines.
 #![tactic(auto)]
 
 #[cfg(test)]
 mod courses;
 #[cfg(test)]
-mod lines;
+mod fractions;
 #[cfg(test)]
-mod moving;
+mod lines;

@@ -32,16 +32,14 @@ fn line(row: &Row) -> Option<(Span, Line)> {
     }
 }
 
-/// The fraction with these parts, where the denominator is not 0 and both fit.
-pub fn fraction(parts: Parts) -> Option<Frac> {
+fn fraction(parts: Parts) -> Option<Frac> {
     if parts.1 == 0 {
         return None;
     }
     Frac::new(parts.0, parts.1).ok()
 }
 
-/// The numerator and the denominator.
-pub fn parts_of(number: &Frac) -> Parts {
+fn parts_of(number: &Frac) -> Parts {
     (number.num(), number.den())
 }
 

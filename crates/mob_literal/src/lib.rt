@@ -5,8 +5,7 @@ mod fields;
 pub mod laws;
 mod slicing;
 mod sql;
-pub mod temporal;
+mod temporal;
 
 pub use fields::{read_field, write_field};
-pub use mob_written::{WrittenValue, printing, values, written};
 pub use sql::{read_value, write_value};

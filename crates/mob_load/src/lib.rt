@@ -11,6 +11,5 @@ pub mod order_laws;
 mod program;
 mod script;
 
-pub use file::{FileEnd, read_file};
 pub use program::{LoadEnd, Program};
 pub use script::load;

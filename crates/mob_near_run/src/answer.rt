@@ -2,24 +2,22 @@
 ghost use Rattle.std.specs.Prelude.{◌≡◌, ◌≤◌, ◌<◌, IfOk, IfErr, length, map};
 ghost use Rattle.mob_numeral.specs.NumberText.{number_text};
 ghost use Rattle.mob_slice.specs.Sides.{operand_of};
-ghost use Rattle.mob_literal.specs.Fields.{field_text};
 ghost use Rattle.mob_records.specs.AnswerText.{answer_text};
 ghost use Rattle.mob_knn.specs.Nearest.{AreNearest, AreOfTrips, IsPassed, OnNearFault};
-ghost use Rattle.mob_near_run.specs.NearAnswers.{IsRowPassed, NearWrites, target_operand, id_at, near_fields, near_names};
+ghost use Rattle.mob_near_run.specs.NearAnswers.{IsRowPassed, NearWrites, target_operand, near_fields, near_names};
 
-use crate::rows::split_rows;
 use crate::settings::{NearSettings, Target};
 use mob_frac::Frac;
 use mob_knn::{NearFault, index_of, nearest};
 use mob_list::items::Items;
 use mob_list::text::Text;
-use mob_literal::write_field;
 use mob_numeral::write_number;
 use mob_records::counted_text;
 use mob_rtree::RTree;
 use mob_scalar::Epoch;
 use mob_slice::{Moving, Operand, PlaneLine};
 use mob_steps::Steps;
+use mob_trips::{id_text, split_rows};
 use mob_value::Value;
 use std::alloc::{AllocError, Global};
 use std::marker::Brand;
@@ -70,20 +68,6 @@ fn found(
         Ok(tree) => nearest_alone::<Brand>(alloc, &tree, trips, to, k, Blank::new(1)),
         Err(_) => Err(NearFault::NoMemory),
     }
-}
-
-// The id of a row, as a field.
-fn id_text(alloc: Global, ids: &[Value], row: u32, epoch: &Epoch) -> Result<Text, AllocError>
-    ensures text { IfOk result (λ t. t ≡ field_text epoch.now (id_at ids.now row)) }
-{
-    let mut text = String::new(alloc);
-    let index = row as usize;
-    if index >= ids.len() {
-        write_field(&Value::Null, epoch, &mut text)?;
-        return Ok(Text::from_string(text));
-    }
-    write_field(&ids[index], epoch, &mut text)?;
-    Ok(Text::from_string(text))
 }
 
 // An approach, as a field.

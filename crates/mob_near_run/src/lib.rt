@@ -5,9 +5,7 @@ mod answer;
 mod command;
 mod decide;
 mod reading;
-mod rows;
 mod settings;
 mod top;
 
-pub use settings::{NearSettings, Target};
 pub use top::{run_near, tell_near};

@@ -89,16 +89,16 @@ fn is_between(o: Ordering, q: Ordering) -> bool
     !(o.is_lt() && q.is_lt()) && !(o.is_gt() && q.is_gt())
 }
 
-/// Whether the point lies on the edge: it turns neither way from it, and lies between its ends.
-pub fn is_on(signs: &EdgeSigns) -> bool
+// Whether the point lies on the edge: it turns neither way from it, and lies between its ends.
+fn is_on(signs: &EdgeSigns) -> bool
     ensures value { result ≡ is_on signs.now }
 {
     signs.turn.is_eq() && (is_between(signs.x_a, signs.x_b) && is_between(signs.y_a, signs.y_b))
 }
 
-/// Whether the edge passes the height of the point to the right of it: one end is above the point and the other is not, and where
-/// the edge goes down the point lies to the right of its way, where it goes up to the left.
-pub fn crosses(signs: &EdgeSigns) -> bool
+// Whether the edge passes the height of the point to the right of it: one end is above the point and the other is not, and where
+// the edge goes down the point lies to the right of its way, where it goes up to the left.
+fn crosses(signs: &EdgeSigns) -> bool
     ensures value { result ≡ crosses signs.now }
 {
     (signs.y_a.is_lt() && (!signs.y_b.is_lt() && signs.turn.is_lt()))

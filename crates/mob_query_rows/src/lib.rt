@@ -1,6 +1,7 @@
-//! Tests of queries, call by call: a script is read, typed and loaded, and its SELECT is evaluated, kept and answered. What whole scripts
-//! answer stands in `checks/rows`.
+//! Tests of what no script reaches in a query: expressions that are not typed, and each fault of a constant.
 #![tactic(auto)]
 
 #[cfg(test)]
-mod queries;
+mod constants;
+#[cfg(test)]
+mod untyped;

@@ -63,8 +63,7 @@ fn scripts_have_types(rt: HostRuntime) {
     }
 }
 
-static KINDS: [(Kind, u8, &str); 17] = [
-    (Kind::NotBuilt, 0, "NotBuilt"),
+static KINDS: [(Kind, u8, &str); 16] = [
     (Kind::NotUtf8, 1, "NotUtf8"),
     (Kind::Lexical, 2, "Lexical"),
     (Kind::Syntax, 3, "Syntax"),

@@ -1,8 +1,10 @@
 -- The fault of a statement is a part of a formula of its query that does not fit.
-use Rattle.std.proofs.Common.{◌≡◌, inl, inr, refl, sym, ap, subst, Bool, ℕ, ℤ, List, [], ◌∷◌, Option, Some, None, Result, Err}
-use Rattle.std.specs.Prelude.{◌⊎◌}
+use Rattle.std.proofs.Common.{◌≡◌, inl, inr, refl, sym, subst, Bool, ℕ, ℤ, List, [], ◌∷◌, Option, Some, None, Result, Err}
+use Rattle.std.specs.Prelude.{◌⊎◌, true, false}
+use Rattle.mob_operators.specs.declared.aggregate.AggKind.{AggKind}
+use Rattle.mob_operators.specs.declared.aggregate.AggKind.TheVariants.{CountAll}
 use Rattle.mob_typed.specs.Trees.{TypedTree}
-use Rattle.mob_typed.specs.Selects.{Output, TypedSelectParts}
+use Rattle.mob_typed.specs.Selects.{TypedSelectParts}
 use Rattle.mob_typed.specs.Statements.{StatementOut, deletion, query}
 use Rattle.mob_catalog.specs.Catalogue.{Catalogue}
 use Rattle.mob_meaning.specs.Scene.{Scene, scene}
@@ -11,18 +13,17 @@ use Rattle.mob_meaning.specs.Passes.{FaultsPass, TreePasses}
 use Rattle.mob_eval.specs.QueryFaults.{TupleFault}
 use Rattle.mob_tuples.specs.Tuples.{StandsIn}
 use Rattle.mob_join.specs.Query.{FailsBy, IsKept, condition_at}
-use Rattle.mob_tail.specs.Answers.{IsField, IsKey, IsRowOf, IsTupleRow}
+use Rattle.mob_tail.specs.Answers.{IsAnswerBy, IsField, IsKey, IsRowOf, IsTupleRow}
+use Rattle.mob_tail.specs.GroupedAnswers.{Column, IsAddingTo, IsArgument, IsArgumentOf, IsArgumentOn, IsGroupedFault, columns_of}
+use Rattle.mob_tail.specs.Groups.{same_group}
 use Rattle.mob_tail.specs.IsMadeOfEach.{IsMadeOfEach}
 use Rattle.mob_words.specs.declared.options.Settings.{Settings}
 use Rattle.mob_shell.specs.Answers.{QueryAnswers}
-use Rattle.mob_shell.specs.Fits.{ConditionPasses, PassesAt, PassesOn, RowPasses, StatementPasses}
+use Rattle.mob_shell.specs.Fits.{ArgumentOfPasses, ArgumentPasses, ColumnPasses, ConditionPasses, PartPasses, PassesAt, RowPasses, StatementPasses, TuplePasses}
 use Rattle.mob_shell.specs.Inputs.{Input}
 use Rattle.mob_shell.specs.Program.{StopsWith}
 use Rattle.mob_shell.specs.Runs.{RunState, Stops}
-
--- an entry of the rest of a list is one of the list
-stands_behind : {X : Type 0} (x y : X) (xs : List X) → StandsIn y xs → StandsIn y (x ∷ xs)
-stands_behind x y xs h = (x ∷ h.0, h.1, ap (λ zs. x ∷ zs) h.2)
+use Rattle.mob_shell.proofs.GroupFaults.{FailsAt, stands_behind, tuple_fails}
 
 -- what is made of each entry has its first fault by one of them
 failing_entry : {X Y F : Type 0} (R : X → Result Y F → Type 0) (xs : List X) (f : F) → IsMadeOfEach R xs (Err f) → (x : X) × StandsIn x xs × R x (Err f)
@@ -35,12 +36,16 @@ module _ (pass : FaultsPass) where
   unfit_condition s None f h = absurd h
   unfit_condition s (Some e) f h = (e, refl, pass s e f h)
 
-  module _ (select : TypedSelectParts) (catalogue : Catalogue) (day : ℤ) where
-    -- one of the items or of the keys
-    abbrev PartPasses : TupleFault → Type 0
-    PartPasses f = ((item : Output) × StandsIn item select.items × PassesOn select catalogue day item.0 f) ⊎ ((key : TypedTree × Bool) × StandsIn key select.keys × PassesOn select catalogue day key.0 f)
+  unfit_argument_of : (kind : AggKind) (s : Scene) (e : TypedTree) (f : Fault) → IsArgumentOf kind s e (Err f) → ArgumentOfPasses kind s e f
+  unfit_argument_of CountAll s e f h = absurd (cc h)
+  unfit_argument_of _ s e f h = pass s e f h
 
-    unfit_part : (f : TupleFault) → IsRowOf select (scene catalogue.store select.from f.0 day) (Err f.1) → PartPasses f
+  unfit_argument : (s : Scene) (column : Column) (f : Fault) → IsArgument s column (Err f) → ArgumentPasses s column f
+  unfit_argument s (e, None) f h = absurd (cc h)
+  unfit_argument s (e, Some agg) f h = unfit_argument_of agg.kind s e f h
+
+  module _ (select : TypedSelectParts) (catalogue : Catalogue) (day : ℤ) where
+    unfit_part : (f : TupleFault) → IsRowOf select (scene catalogue.store select.from f.0 day) (Err f.1) → PartPasses select catalogue day f
     unfit_part f (inl item) =
         let s = scene catalogue.store select.from f.0 day in
         let of = failing_entry (IsField s) select.items f.1 item in
@@ -50,11 +55,31 @@ module _ (pass : FaultsPass) where
         let of = failing_entry (IsKey s) select.keys f.1 key.2 in
         inr (of.0, of.1, pass s of.0.0 f.1 of.2)
 
-    unfit_row : (kept : List (List ℕ)) (f : TupleFault) → IsMadeOfEach (IsTupleRow select catalogue.store day) kept (Err f) → StandsIn f.0 kept × PartPasses f
+    unfit_row : (kept : List (List ℕ)) (f : TupleFault) → IsMadeOfEach (IsTupleRow select catalogue.store day) kept (Err f) → StandsIn f.0 kept × PartPasses select catalogue day f
     unfit_row kept f h =
         let of = failing_entry (IsTupleRow select catalogue.store day) kept f h in
         let same = sym of.2.0 in
         (subst (λ (t : List ℕ). StandsIn t kept) same of.1, unfit_part f (subst (λ (t : List ℕ). IsRowOf select (scene catalogue.store select.from t day) (Err f.1)) same of.2.1))
+
+    -- a column of a grouped query
+    unfit_column : (kept : List (List ℕ)) (f : TupleFault) → FailsAt (IsArgumentOn select catalogue.store day) IsAddingTo (same_group select catalogue.store day) (columns_of select) kept f → (column : Column) × StandsIn column (columns_of select) × ColumnPasses select catalogue day kept f column
+    unfit_column kept f at = (
+      at.item,
+      at.stands,
+      elim at.fails [
+        | inl argument ↦ inl (unfit_argument (scene catalogue.store select.from f.0 day) at.item f.1 argument)
+        | inr adding ↦ inr (record { before = at.before; behind = at.behind; in_order = at.in_order; unfit = adding })
+      ],
+    )
+
+    unfit_group : (kept : List (List ℕ)) (f : TupleFault) → IsGroupedFault select catalogue.store day kept (Some f) → StandsIn f.0 kept × TuplePasses true select catalogue day kept f
+    unfit_group kept f h =
+        let at = tuple_fails (IsArgumentOn select catalogue.store day) IsAddingTo (same_group select catalogue.store day) (columns_of select) [] kept f h in
+        ((at.before, at.behind, at.in_order), unfit_column kept f at)
+
+    unfit_tuple : (grouped : Bool) (kept : List (List ℕ)) (f : TupleFault) → IsAnswerBy grouped select catalogue.store day kept (Err f) → StandsIn f.0 kept × TuplePasses grouped select catalogue day kept f
+    unfit_tuple true kept f h = unfit_group kept f h
+    unfit_tuple false kept f h = unfit_row kept f h
 
     unfit_visit : (f : TupleFault) → IsKept select catalogue day (Err f) → ConditionPasses select catalogue day f
     unfit_visit f h =
@@ -64,7 +89,7 @@ module _ (pass : FaultsPass) where
     unfit_query : (f : TupleFault) → QueryAnswers select catalogue day (Err f) → ConditionPasses select catalogue day f ⊎ RowPasses select catalogue day f
     unfit_query f (inl h) = inl (unfit_visit f h)
     unfit_query f (inr h) =
-        let row = unfit_row h.0 f h.2 in
+        let row = unfit_tuple select.grouped h.0 f h.2 in
         inr (record { kept = h.0; are = h.1; stands = row.0; unfit = row.1 })
 
   unfit_statement : (day : ℤ) (s : RunState) (x : StatementOut) (f : TupleFault) → Stops day s x f → StatementPasses x s.catalogue day f

@@ -107,8 +107,7 @@ module _ (p n b : Break) (after : before p.instant b.instant ≡ true) (until : 
   -- the course is level in both coordinates
   pub level : same_point p.place n.place ≡ true → (p.place ≡ straight_at p n b.instant) × AllStraight
   level h =
-      let k = and_parts (same p.place.x n.place.x) (same p.place.y n.place.y) h in
-      (
+      let k = and_parts (same p.place.x n.place.x) (same p.place.y n.place.y) h in (
         point_by_coordinates p.place (straight_at p n b.instant) (level_value p.instant n.instant b.instant after until p.place.x n.place.x k.0) (level_value p.instant n.instant b.instant after until p.place.y n.place.y k.1),
         all_both (line_parts p.place.x n.place.x p.instant n.instant b.instant) (line_parts p.place.y n.place.y p.instant n.instant b.instant) (level_fits p.instant n.instant b.instant after until p.place.x n.place.x k.0) (level_fits p.instant n.instant b.instant after until p.place.y n.place.y k.1),
       )
@@ -129,19 +128,18 @@ module _ (p n b : Break) (after : before p.instant b.instant ≡ true) (until : 
     -- it does, and a coordinate does not
     pub place_unfit : (AllMoved q → ⊥) → AllStraight → ⊥
     place_unfit h k = h (subst (λ z. AllMoved z) (sym is)
-          (all_both (moved_parts p.place.x n.place.x gone) (moved_parts p.place.y n.place.y gone)
-          (moved_fits p.instant n.instant b.instant after until p.place.x n.place.x (all_first (line_parts p.place.x n.place.x p.instant n.instant b.instant) (line_parts p.place.y n.place.y p.instant n.instant b.instant) k))
-          (moved_fits p.instant n.instant b.instant after until p.place.y n.place.y (all_second (line_parts p.place.x n.place.x p.instant n.instant b.instant) (line_parts p.place.y n.place.y p.instant n.instant b.instant) k))))
+        (all_both (moved_parts p.place.x n.place.x gone) (moved_parts p.place.y n.place.y gone)
+        (moved_fits p.instant n.instant b.instant after until p.place.x n.place.x (all_first (line_parts p.place.x n.place.x p.instant n.instant b.instant) (line_parts p.place.y n.place.y p.instant n.instant b.instant) k))
+        (moved_fits p.instant n.instant b.instant after until p.place.y n.place.y (all_second (line_parts p.place.x n.place.x p.instant n.instant b.instant) (line_parts p.place.y n.place.y p.instant n.instant b.instant) k))))
 
     -- all do
     pub place : (place : Point) → AllFit (parts_gone p.instant n.instant b.instant) → (place ≡ record { x = moved_at p.place.x n.place.x q; y = moved_at p.place.y n.place.y q }) × AllMoved q → (place ≡ straight_at p n b.instant) × AllStraight
     place a h k =
-        let m = subst (λ z. AllMoved z) is k.1 in
-        (
+        let m = subst (λ z. AllMoved z) is k.1 in (
           k.0 ∙ point_by_coordinates (record { x = moved_at p.place.x n.place.x q; y = moved_at p.place.y n.place.y q }) (straight_at p n b.instant)
-          (ap (λ z. moved_at p.place.x n.place.x z) is ∙ moved_value p.instant n.instant b.instant after until p.place.x n.place.x)
-          (ap (λ z. moved_at p.place.y n.place.y z) is ∙ moved_value p.instant n.instant b.instant after until p.place.y n.place.y),
+              (ap (λ z. moved_at p.place.x n.place.x z) is ∙ moved_value p.instant n.instant b.instant after until p.place.x n.place.x)
+              (ap (λ z. moved_at p.place.y n.place.y z) is ∙ moved_value p.instant n.instant b.instant after until p.place.y n.place.y),
           all_both (line_parts p.place.x n.place.x p.instant n.instant b.instant) (line_parts p.place.y n.place.y p.instant n.instant b.instant)
-          (line_fits p.instant n.instant b.instant after until p.place.x n.place.x h (all_first (moved_parts p.place.x n.place.x gone) (moved_parts p.place.y n.place.y gone) m))
-          (line_fits p.instant n.instant b.instant after until p.place.y n.place.y h (all_second (moved_parts p.place.x n.place.x gone) (moved_parts p.place.y n.place.y gone) m)),
+              (line_fits p.instant n.instant b.instant after until p.place.x n.place.x h (all_first (moved_parts p.place.x n.place.x gone) (moved_parts p.place.y n.place.y gone) m))
+              (line_fits p.instant n.instant b.instant after until p.place.y n.place.y h (all_second (moved_parts p.place.x n.place.x gone) (moved_parts p.place.y n.place.y gone) m)),
         )

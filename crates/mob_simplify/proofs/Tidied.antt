@@ -1,6 +1,5 @@
 -- The simplified moving point has no breaks but those of the point, and prints no more instants.
-use Rattle.std.specs.Prelude.{◌≡◌, ◌≢◌, ◌≤◌, ◌+◌, ◌⊎◌, ℕ, Bool, true, false, cond, ◌&&◌, not, List, [], ◌∷◌, ◌++◌, refl}
-use Rattle.std.specs.List.{AllByRecursion}
+use Rattle.std.specs.Prelude.{◌≡◌, ◌≢◌, ◌≤◌, ◌+◌, ◌⊎◌, Bool, true, false, cond, ◌&&◌, not, List, [], ◌∷◌, ◌++◌, refl}
 use Rattle.std.proofs.Common.{arith, ap, sym, ◌∙◌, subst, inl, inr, true≢false, append_assoc, append-nil}
 use Rattle.std.proofs.lemmas.Bool.{and_parts}
 use Rattle.mob_ratio.specs.Ratio.{Ratio}
@@ -26,7 +25,7 @@ use Rattle.mob_simplify.specs.declared.breaks.Break.{Break}
 use Rattle.mob_simplify.proofs.Along.{going}
 use Rattle.mob_simplify.proofs.Answering.{IsNormalLines, At, legs_ordered}
 use Rattle.mob_simplify.proofs.OneRuns.{same_values}
-use Rattle.mob_simplify.proofs.Ordered.{AreOrderedLines, IsSoundLine, some_along, all_some}
+use Rattle.mob_simplify.proofs.Ordered.{AreOrderedLines, IsSoundLine, some_along}
 
 abbrev AreNormalLines : List (Slice PlaneLine) → Type 0
 AreNormalLines v = AreNormal (λ c. c.from) (λ c. c.to) plane_continued v
@@ -167,6 +166,25 @@ module _ (P : Break → Type 0) where
   tidy [] o s n h = record { made = s ∷ []; some = λ e. cc; normal = n; same = λ t. refl; alike = starts_itself s; breaks = λ b. b; count = omega arith }
   tidy (r ∷ rest) o s n h = made_by o s r rest n h (tidy rest) (meets_or s.span r.span _ _ _ refl refl refl) _ _ _ _ refl refl refl refl
 
+-- ---- the normal slices with the values of ordered ones
+-- they have no breaks but those of v, and print no more instants
+record IsOf (P : Break → Type 0) (v slices : List (Slice PlaneLine)) : Type 0 where
+  breaks : HaveBreaks P v → HaveBreaks P slices
+  count : printed_instants slices ≤ printed_instants v
+
+normal_of : (P : Break → Type 0) (v slices : List (Slice PlaneLine)) → AreOrderedLines v → AreNormalLines slices → ((t : Ratio) → At slices t ≡ At v t) → IsOf P v slices
+normal_of P [] slices o n same =
+    let is : [] ≡ slices = unique plane_laws [] slices tt n (λ t. sym (same t)) in
+    record { breaks = λ b. subst (HaveBreaks P) is b; count = subst (λ z. printed_instants z ≤ 0) is (omega arith) }
+normal_of P (s ∷ rest) slices o n same =
+    let k = tidy P rest [] s (o.0, tt, tt) o in
+    let is : k.made ≡ slices = unique plane_laws k.made slices k.normal n (λ t. k.same t ∙ sym (same t)) in
+    record { breaks = λ b. subst (HaveBreaks P) is (k.breaks b); count = subst (λ z. printed_instants z ≤ printed_instants (s ∷ rest)) is k.count }
+
+-- what holds of all breaks of the ordered slices holds of theirs
+pub normal_breaks : (P : Break → Type 0) (v slices : List (Slice PlaneLine)) → AreOrderedLines v → AreNormalLines slices → ((t : Ratio) → At slices t ≡ At v t) → HaveBreaks P v → HaveBreaks P slices
+normal_breaks P v slices o n same = (normal_of P v slices o n same).breaks
+
 -- ---- the straight courses between kept breaks
 cond_breaks : (P : Break → Type 0) (b : Bool) (v w : List (Slice PlaneLine)) → HaveBreaks P v → HaveBreaks P w → HaveBreaks P (cond b v w)
 cond_breaks P true v w h k = h
@@ -226,19 +244,8 @@ module _ (d : Ratio) where
   leg_count (s ∷ rest) = count_along s [] s rest (λ k. k)
 
   -- ---- the simplified moving point
-  record IsOf (P : Break → Type 0) (v thin : List (Slice PlaneLine)) : Type 0 where
-    breaks : HaveBreaks P v → HaveBreaks P thin
-    count : printed_instants thin ≤ printed_instants v
-
-  of_legs : (P : Break → Type 0) (slices thin v : List (Slice PlaneLine)) → IsThin d slices thin → all_legs d slices ≡ v → AreOrderedLines v → v ≢ [] → IsOf P v thin
-  of_legs P slices thin [] h e o some = absurd (some refl)
-  of_legs P slices thin (s ∷ rest) h e o some =
-      let k = tidy P rest [] s (o.0, tt, tt) o in
-      let is : k.made ≡ thin = unique plane_laws k.made thin k.normal h.normal.chained (λ t. k.same t ∙ ap (λ z. At z t) (sym e) ∙ sym (same_values d slices thin h t)) in
-      record { breaks = λ b. subst (HaveBreaks P) is (k.breaks b); count = subst (λ z. printed_instants z ≤ printed_instants (s ∷ rest)) is k.count }
-
   of_all : (P : Break → Type 0) (slices thin : List (Slice PlaneLine)) → IsNormalLines slices → IsThin d slices thin → IsOf P (all_legs d slices) thin
-  of_all P slices thin n h = of_legs P slices thin (all_legs d slices) h refl (legs_ordered d slices n) (all_some d slices n.some)
+  of_all P slices thin n h = normal_of P (all_legs d slices) thin (legs_ordered d slices n) h.normal.chained (same_values d slices thin h)
 
 -- what holds of all breaks of the point holds of its breaks
 pub thin_breaks : (P : Break → Type 0) (d : Ratio) (slices thin : List (Slice PlaneLine)) → IsNormalLines slices → IsThin d slices thin → HaveBreaks P slices → HaveBreaks P thin

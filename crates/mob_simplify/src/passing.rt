@@ -64,7 +64,12 @@ fn reach_of(p: &Break, n: &Break) -> Reach
 }
 
 // The part of the course's time that has gone at an instant.
-fn part_gone(start: &Frac, end: &Frac, time: &Result<Frac, Overflow>, t: &Frac) -> Result<Frac, Overflow>
+fn part_gone(
+    start: &Frac,
+    end: &Frac,
+    time: &Result<Frac, Overflow>,
+    t: &Frac,
+) -> Result<Frac, Overflow>
     requires time { IsExact (end.now -ℚ start.now) time.now }
     requires long { before start.now end.now ≡ true }
     ensures value { IsFormula (parts_gone start.now end.now t.now) (part_gone start.now end.now t.now) result }
@@ -77,7 +82,12 @@ fn part_gone(start: &Frac, end: &Frac, time: &Result<Frac, Overflow>, t: &Frac) 
 }
 
 // A coordinate of the course where a part of its time has gone.
-fn moved(from: &Frac, to: &Frac, way: &Result<Frac, Overflow>, part: &Frac) -> Result<Frac, Overflow>
+fn moved(
+    from: &Frac,
+    to: &Frac,
+    way: &Result<Frac, Overflow>,
+    part: &Frac,
+) -> Result<Frac, Overflow>
     requires way { IsExact (to.now -ℚ from.now) way.now }
     ensures value { IsFormula (moved_parts from.now to.now part.now) (moved_at from.now to.now part.now) result }
 {

@@ -4,3 +4,13 @@ mod Seen
 mod Making
 mod OneOrder
 mod OneAnswer
+mod Aggregating
+mod TupleSteps
+mod GroupKeys
+mod ColumnValues
+mod GroupLoop
+mod Changing
+mod OneGroup
+mod KeysSeen
+mod GroupExamples
+mod FieldsTell

@@ -1,5 +1,5 @@
 -- Kept tuples have one answer.
-use Rattle.std.proofs.Common.{◌≡◌, inl, inr, ℤ, ℕ, Bool, true, false, List, [], ◌∷◌, ◌++◌, Option, Result, Ok, Err, sym, ap, ap₂, subst, ◌∙◌, map}
+use Rattle.std.proofs.Common.{◌≡◌, inl, inr, ℤ, ℕ, Bool, true, false, List, [], ◌∷◌, ◌++◌, Option, Some, None, Result, Ok, Err, sym, ap, ap₂, subst, ◌∙◌, map}
 use Rattle.std.specs.Ordering.{is_lt}
 use Rattle.mob_typed.specs.Trees.{TypedTree}
 use Rattle.mob_typed.specs.Selects.{TypedSelectParts}
@@ -12,7 +12,10 @@ use Rattle.mob_tail.specs.declared.keyed.Keyed.{Keyed}
 use Rattle.mob_tail.specs.IsMadeOfEach.{IsMadeOfEach}
 use Rattle.mob_tail.specs.Order.{IsOrderedByKeys, compare_rows}
 use Rattle.mob_tail.specs.Rows.{AreFirst, AreDistinct, AreArranged, limited}
-use Rattle.mob_tail.specs.Answers.{IsField, IsKey, IsRowOf, IsTupleRow, IsAnswerOnKept}
+use Rattle.mob_tail.specs.Answers.{IsField, IsKey, IsRowOf, IsTupleRow, IsPlainAnswer, IsAnswerBy, IsAnswerOnKept}
+use Rattle.mob_tail.specs.GroupedAnswers.{IsGroupedAnswer}
+use Rattle.mob_tail.specs.Groups.{groups_on}
+use Rattle.mob_tail.proofs.OneGroup.{fault_once, rows_once}
 use Rattle.mob_tail.proofs.Orders.{rows_ranked}
 use Rattle.mob_tail.proofs.OneOrder.{one_order}
 
@@ -99,11 +102,27 @@ module _ (one : HasOneOutcome) where
         let fault : f.1 ≡ g.1 = row_fault select (scene store select.from tuple day) f.1 g.1 h.1 k.1 in
         λ i. Err (there i, fault i)
 
-    pub answer_once : (kept : List (List ℕ)) → IsOne (IsAnswerOnKept select store day kept)
-    answer_once kept (Ok a) (Ok b) h k =
+    plain_once : (kept : List (List ℕ)) → IsOne (IsPlainAnswer select store day kept)
+    plain_once kept (Ok a) (Ok b) h k =
         let rows : h.0 ≡ k.0 = each_value (IsTupleRow select store day) row_once kept h.0 k.0 h.1 k.1 in
         let falls = map (λ key. key.1) select.keys in
         ap Ok (one_arranged falls select.distinct select.limit k.0 a b (subst (λ z. AreArranged falls select.distinct select.limit z a) rows h.2) k.2)
-    answer_once kept (Ok a) (Err g) h k = absurd (each_told (IsTupleRow select store day) row_once kept h.0 g h.1 k)
-    answer_once kept (Err f) (Ok b) h k = absurd (each_told (IsTupleRow select store day) row_once kept k.0 f k.1 h)
-    answer_once kept (Err f) (Err g) h k = ap Err (each_fault_one (IsTupleRow select store day) row_once kept f g h k)
+    plain_once kept (Ok a) (Err g) h k = absurd (each_told (IsTupleRow select store day) row_once kept h.0 g h.1 k)
+    plain_once kept (Err f) (Ok b) h k = absurd (each_told (IsTupleRow select store day) row_once kept k.0 f k.1 h)
+    plain_once kept (Err f) (Err g) h k = ap Err (each_fault_one (IsTupleRow select store day) row_once kept f g h k)
+
+    grouped_once : (kept : List (List ℕ)) → IsOne (IsGroupedAnswer select store day kept)
+    grouped_once kept (Ok a) (Ok b) h k =
+        let rows : h.1.0 ≡ k.1.0 = rows_once one select store day (groups_on select store day kept) h.1.0 k.1.0 h.1.1 k.1.1 in
+        let falls = map (λ key. key.1) select.keys in
+        ap Ok (one_arranged falls select.distinct select.limit k.1.0 a b (subst (λ z. AreArranged falls select.distinct select.limit z a) rows h.1.2) k.1.2)
+    grouped_once kept (Ok a) (Err g) h k = let e : None ≡ Some g = fault_once one select store day kept None (Some g) h.0 k in absurd cc
+    grouped_once kept (Err f) (Ok b) h k = let e : Some f ≡ None = fault_once one select store day kept (Some f) None h k.0 in absurd cc
+    grouped_once kept (Err f) (Err g) h k = let e : Some f ≡ Some g = fault_once one select store day kept (Some f) (Some g) h k in let same : f ≡ g = cc in ap Err same
+
+    pub answer_once : (kept : List (List ℕ)) → IsOne (IsAnswerOnKept select store day kept)
+    answer_once kept = by select.grouped
+      where
+        by : (b : Bool) → IsOne (IsAnswerBy b select store day kept)
+        by false = plain_once kept
+        by true = grouped_once kept

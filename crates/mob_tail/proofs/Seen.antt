@@ -11,12 +11,9 @@ use Rattle.std.proofs.lemmas.Map.Views.{list_any-from_Contains, Contains-from_an
 use Rattle.std.proofs.lemmas.List.{drop_all, map-append}
 use Rattle.indexmap.specs.IndexSet.{insert_key}
 use Rattle.mob_tail.specs.Flags.{flagged}
+use Rattle.mob_tail.specs.TextsSeen.{texts_of}
 use Rattle.mob_eval.proofs.Loops.{drop_read}
 use Rattle.mob_tail.specs.Rows.{AreFirst}
-
--- the texts that a vector refers to
-abbrev pub texts_of : {A : Type 0} → Vec (Bor (List ℕ)) A → List (List ℕ)
-texts_of v = map (λ b. b.now) v.items
 
 -- whether two lists of texts are one
 same_texts : List (List ℕ) → List (List ℕ) → Bool

@@ -1,5 +1,5 @@
 -- What a query answers.
-use Rattle.std.specs.Prelude.{◌≡◌, ◌⊎◌, ℤ, ℕ, List, Bool, Result, Ok, Err, map}
+use Rattle.std.specs.Prelude.{◌≡◌, ◌⊎◌, ℤ, ℕ, List, Bool, true, false, Result, Ok, Err, map}
 use Rattle.mob_typed.specs.Trees.{TypedTree}
 use Rattle.mob_typed.specs.Selects.{TypedSelectParts}
 use Rattle.mob_value.specs.declared.value.Value.{Value}
@@ -10,6 +10,7 @@ use Rattle.mob_meaning.specs.Evaluation.{Fault, TreeEvaluatesTo}
 use Rattle.mob_eval.specs.QueryFaults.{TupleFault}
 use Rattle.mob_tail.specs.declared.keyed.Keyed.{Keyed}
 use Rattle.mob_tail.specs.IsMadeOfEach.{IsMadeOfEach}
+use Rattle.mob_tail.specs.GroupedAnswers.{IsGroupedAnswer}
 use Rattle.mob_tail.specs.Rows.{AreArranged}
 
 -- the printed field of an entry of the select list
@@ -31,8 +32,18 @@ abbrev pub IsTupleRow : TypedSelectParts → Store → ℤ → List ℕ → Resu
 IsTupleRow select store day tuple (Ok row) = IsRowOf select (scene store select.from tuple day) (Ok row)
 IsTupleRow select store day tuple (Err f) = (f.0 ≡ tuple) × IsRowOf select (scene store select.from tuple day) (Err f.1)
 
--- The rows of the answer on the kept tuples, or the first fault of these tuples in order.
-abbrev pub IsAnswerOnKept : TypedSelectParts → Store → ℤ → List (List ℕ) → Result (List (List (List ℕ))) TupleFault → Type 0
-IsAnswerOnKept select store day kept (Ok answer) =
+-- The rows of the answer of a query that is not grouped on the kept tuples, or the first fault of
+-- these tuples in order.
+abbrev pub IsPlainAnswer : TypedSelectParts → Store → ℤ → List (List ℕ) → Result (List (List (List ℕ))) TupleFault → Type 0
+IsPlainAnswer select store day kept (Ok answer) =
     (rows : List Keyed) × IsMadeOfEach (IsTupleRow select store day) kept (Ok rows) × AreArranged (map (λ key. key.1) select.keys) select.distinct select.limit rows answer
-IsAnswerOnKept select store day kept (Err f) = IsMadeOfEach (IsTupleRow select store day) kept (Err f)
+IsPlainAnswer select store day kept (Err f) = IsMadeOfEach (IsTupleRow select store day) kept (Err f)
+
+-- The rows of the answer on the kept tuples, or the first fault, where the first argument says
+-- whether the query is grouped.
+abbrev pub IsAnswerBy : Bool → TypedSelectParts → Store → ℤ → List (List ℕ) → Result (List (List (List ℕ))) TupleFault → Type 0
+IsAnswerBy false select store day kept r = IsPlainAnswer select store day kept r
+IsAnswerBy true select store day kept r = IsGroupedAnswer select store day kept r
+
+abbrev pub IsAnswerOnKept : TypedSelectParts → Store → ℤ → List (List ℕ) → Result (List (List (List ℕ))) TupleFault → Type 0
+IsAnswerOnKept select store day kept r = IsAnswerBy select.grouped select store day kept r

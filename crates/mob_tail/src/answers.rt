@@ -3,10 +3,12 @@ ghost use Rattle.std.specs.Prelude.{◌≡◌, Ok, Err, IfOk, IfErr, map};
 ghost use Rattle.mob_typed.specs.Selects.{select_seen, output_of, key_seen};
 ghost use Rattle.mob_eval.specs.QueryFaults.{OnTuple};
 ghost use Rattle.mob_tail.specs.Rows.{AreArranged};
-ghost use Rattle.mob_tail.specs.Answers.{IsAnswerOnKept};
+ghost use Rattle.mob_tail.specs.Answers.{IsPlainAnswer, IsAnswerOnKept};
+ghost use Rattle.mob_tail.specs.GroupedAnswers.{IsGroupedAnswer};
 
 use crate::arrange::arranged;
 use crate::evaluation::rows_on;
+use crate::grouping::grouped_rows;
 use crate::keyed::Keyed;
 use mob_eval::QueryFault;
 use mob_list::items::Items;
@@ -17,7 +19,8 @@ use mob_typed::{TExpr, TypedSelect};
 use mob_value::Store;
 use std::alloc::{AllocError, Global};
 
-/// What a query answers: the names of its columns, and its rows in order, each with the printed text of its fields.
+/// What a query answers: the names of its columns, and its rows in order, each with the printed
+/// text of its fields.
 #[derive(Drop)]
 pub struct Answer {
     pub names: Items<Text>,
@@ -61,12 +64,58 @@ fn arranged_answer(
     Ok(Answer { names, rows })
 }
 
+// What a query that is not grouped answers on the tuples that it keeps, or the first fault.
+fn plain_answer(
+    alloc: Global,
+    select: &TypedSelect,
+    store: &Store,
+    kept: &[Tuple],
+    epoch: &Epoch,
+) -> Result<Answer, QueryFault>
+    ensures names { IfOk result (λ answer. answer.names ≡ map (λ item. item.1) (select_seen select.now).items) }
+    ensures rows { IfOk result (λ answer. IsPlainAnswer (select_seen select.now) store.now epoch.now kept.now (Ok answer.rows)) }
+    ensures fault { IfErr result (OnTuple (λ f. IsPlainAnswer (select_seen select.now) store.now epoch.now kept.now (Err f))) }
+{
+    match rows_on(alloc, select, store, kept, epoch) {
+        Ok(rows) => match arranged_answer(alloc, select, rows) {
+            Ok(answer) => Ok(answer),
+            Err(_) => Err(QueryFault::NoMemory),
+        },
+        Err(fault) => Err(fault),
+    }
+}
+
+// What a grouped query answers on the tuples that it keeps, or the first fault.
+fn grouped_answer(
+    alloc: Global,
+    select: &TypedSelect,
+    store: &Store,
+    kept: &[Tuple],
+    epoch: &Epoch,
+) -> Result<Answer, QueryFault>
+    ensures names { IfOk result (λ answer. answer.names ≡ map (λ item. item.1) (select_seen select.now).items) }
+    ensures rows { IfOk result (λ answer. IsGroupedAnswer (select_seen select.now) store.now epoch.now kept.now (Ok answer.rows)) }
+    ensures fault { IfErr result (OnTuple (λ f. IsGroupedAnswer (select_seen select.now) store.now epoch.now kept.now (Err f))) }
+{
+    match grouped_rows(alloc, select, store, kept, epoch) {
+        Ok(rows) => match arranged_answer(alloc, select, rows) {
+            Ok(answer) => Ok(answer),
+            Err(_) => Err(QueryFault::NoMemory),
+        },
+        Err(fault) => Err(fault),
+    }
+}
+
 /// What a query answers on the tuples that it keeps, or the first fault on these tuples in order.
 ///
-/// On each tuple the select list is evaluated from left to right, and then the keys of ORDER BY. The rows are put in the order of the
-/// keys: under ASC numbers rise, texts go by their bytes, false comes before true, and NULL comes last; under DESC all is the other way
-/// round, with NULL first; rows whose keys tie stay in the order of the tuples. Then, under DISTINCT, of rows with equal fields the first
-/// stays, and then LIMIT cuts.
+/// In a query that is not grouped the select list is evaluated on each tuple from left to right,
+/// and then the keys of ORDER BY. In a grouped one the argument of each aggregate is evaluated and
+/// added on each tuple, and there is a row for each group, in the order of their first tuples;
+/// without GROUP BY there is one group, also where no tuple is kept. The rows are put in the order
+/// of the keys: under ASC numbers rise, texts go by their bytes, false comes before true, and NULL
+/// comes last; under DESC all is the other way round, with NULL first; rows whose keys tie stay in
+/// their order. Then, under DISTINCT, of rows with equal fields the first stays, and then LIMIT
+/// cuts.
 pub fn answer_to(
     alloc: Global,
     select: &TypedSelect,
@@ -78,11 +127,9 @@ pub fn answer_to(
     ensures rows { IfOk result (λ answer. IsAnswerOnKept (select_seen select.now) store.now epoch.now kept.now (Ok answer.rows)) }
     ensures fault { IfErr result (OnTuple (λ f. IsAnswerOnKept (select_seen select.now) store.now epoch.now kept.now (Err f))) }
 {
-    match rows_on(alloc, select, store, kept, epoch) {
-        Ok(rows) => match arranged_answer(alloc, select, rows) {
-            Ok(answer) => Ok(answer),
-            Err(_) => Err(QueryFault::NoMemory),
-        },
-        Err(fault) => Err(fault),
+    if select.grouped {
+        grouped_answer(alloc, select, store, kept, epoch)
+    } else {
+        plain_answer(alloc, select, store, kept, epoch)
     }
 }

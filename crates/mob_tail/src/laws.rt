@@ -1,10 +1,17 @@
 //! What holds of every query. No code runs here.
+ghost use Rattle.mob_tail.specs.GroupLaws.{FieldsTellValues};
 ghost use Rattle.mob_tail.specs.Outcomes.{HasOneQueryAnswer};
 
-/// A query has one answer, or one fault, on the tuples that it keeps: the order of the keys, with ties in the order of the tuples,
-/// leaves one order of the rows.
+/// A query has one answer, or one fault, on the tuples that it keeps: the order of the keys, with
+/// ties in the order of the tuples, leaves one order of the rows.
 pub fn one_answer_to()
     ensures outcome { HasOneQueryAnswer }
 {
     mob_meaning::laws::one_outcome();
 }
+
+/// Two values of a type have the same printed field only where they are the same, and NULL has a
+/// field of its own: so the groups of a query are those of the values of its columns of GROUP BY.
+pub fn fields_tell_values()
+    ensures tell { FieldsTellValues }
+{}

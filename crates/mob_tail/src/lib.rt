@@ -1,10 +1,14 @@
 //! What a query answers on the tuples that it keeps, what EXPLAIN answers, and the text in which an answer is written.
 #![tactic(auto)]
 
+mod adding;
 mod answers;
 mod arrange;
+mod columns;
 mod distinct;
 mod evaluation;
+mod grouped;
+mod grouping;
 mod keyed;
 pub mod laws;
 mod order;

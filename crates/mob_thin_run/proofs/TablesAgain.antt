@@ -1,5 +1,5 @@
 -- The file that is written is read again as the table that it was written of.
-use Rattle.std.specs.Prelude.{◌≡◌, ◌≤◌, ◌∷◌, [], ℕ, ℤ, List, Ok, codes, length, map, suc, true, refl}
+use Rattle.std.specs.Prelude.{◌≡◌, ◌≤◌, ◌∷◌, [], ℕ, ℤ, List, Ok, codes, drop, length, map, suc, true, refl}
 use Rattle.std.specs.List.{AllZip, AllByRecursion, zip}
 use Rattle.std.proofs.Common.{ap, sym, ◌∙◌, subst, inl, inr, true≢false}
 use Rattle.csv.specs.Reading.{AreRecords, default_config, strip_bom}
@@ -14,9 +14,9 @@ use Rattle.mob_catalog.specs.Fields.{FieldSays}
 use Rattle.mob_catalog.specs.TableFile.{IsRow, IsTable, file_limit}
 use Rattle.mob_records.specs.ReadAgain.{HasFields}
 use Rattle.mob_records.proofs.ReadAgain.{reads_again}
-use Rattle.mob_thin_run.specs.TableAgain.{IsCell, IsTripRow, ReadsTableAgain}
+use Rattle.mob_thin_run.specs.TableAgain.{ReadsTableAgain}
 use Rattle.mob_thin_run.specs.ThinRows.{HasText, IsThinValue, table_text}
-use Rattle.mob_thin_run.proofs.ThinReadable.{rows_readable}
+use Rattle.mob_thin_run.proofs.ThinReadable.{IsCell, IsTripRow, rows_readable}
 use Rattle.mob_trips.specs.Reading.{trip_columns}
 
 -- NULL is NULL again in these columns
@@ -69,9 +69,10 @@ same_length R (x ∷ xs) [] h = absurd h
 same_length R (x ∷ xs) (y ∷ ys) h = ap suc (same_length R xs ys h.1)
 
 pub tables_again : ReadsTableAgain
-tables_again d day room rows text is readable few short =
+tables_again d day room bytes rows text table printable is short =
     let thin = is.0 in
     let are = is.1 in
-    let few_thin : length thin ≤ room = subst (λ n. n ≤ room) (same_length (AllZip (IsThinValue d)) rows thin are) few in
+    let few_thin : length thin ≤ room = subst (λ n. n ≤ room) (same_length (AllZip (IsThinValue d)) rows thin are) table.within in
     let short_thin : length (table_text day thin) ≤ file_limit = subst (λ z. length z ≤ file_limit) is.3 short in
-    (thin, are, subst (λ z. IsTable trip_columns day room z thin) (sym is.3) (table_again day room thin (rows_readable day d rows thin readable are) is.2 few_thin short_thin))
+    let again = rows_readable day d (drop 1 table.records) rows thin table.read printable are in
+    (thin, are, subst (λ z. IsTable trip_columns day room z thin) (sym is.3) (table_again day room thin again is.2 few_thin short_thin))

@@ -1,33 +1,66 @@
--- What a row with each trip simplified prints is read again where the row is one whose text is.
-use Rattle.std.specs.Prelude.{◌≡◌, ◌≤◌, ◌+◌, ◌∷◌, ◌⊎◌, [], ℕ, ℤ, Bool, true, false, cond, List, length, Contains, refl}
+-- What a row with each trip simplified prints is read again, if the row was read and its trip can be printed.
+use Rattle.std.specs.Prelude.{◌≡◌, ◌≢◌, ◌≤◌, ◌<◌, ◌+◌, ◌^◌, ◌∷◌, ◌⊎◌, [], ℕ, ℤ, Bool, true, false, cond, List, length, nat_lt, nat_eq, nat_abs, Option, Some, None, MatchOption, Result, Ok, refl}
 use Rattle.std.specs.List.{AllZip, AllByRecursion}
-use Rattle.std.proofs.Common.{arith, ap, sym, ◌∙◌, subst, inl, inr}
-use Rattle.mob_list.proofs.Entries.{all_by_each, each_of_all}
+use Rattle.std.proofs.Common.{arith, ap, sym, ◌∙◌, subst, inl, inr, true≢false}
+use Rattle.std.proofs.lemmas.Bool.{eqb-true}
+use borrow.Author.Tests.{ltb-true, ltb-false}
+use Rattle.mob_list.proofs.Entries.{each_of_all}
 use Rattle.mob_ratio.specs.Ratio.{Ratio}
 use Rattle.mob_ratio.specs.Order.{before}
+use Rattle.mob_frac.specs.Fits.{Fits}
+use Rattle.mob_language.specs.Language.{Text}
+use Rattle.mob_numeral.specs.NumberValue.{numeral_value}
+use Rattle.mob_numeral.specs.Verdict.{Lit}
+use Rattle.mob_numeral.specs.declared.fault.ReadText.{ReadText}
+use Rattle.mob_scalar.specs.MomentText.{IsDated}
+use Rattle.mob_ast.specs.declared.types.SqlType.{SqlType}
 use Rattle.mob_ast.specs.declared.types.SqlType.TheVariants.{Int, TPoint}
 use Rattle.mob_value.specs.declared.value.Value.{Value}
 use Rattle.mob_value.specs.declared.value.Value.TheVariants.{Null, Number, MovingPoint}
-use Rattle.mob_scalar.specs.MomentText.{IsDated}
 use Rattle.mob_points.specs.PointText.{point_text}
+use Rattle.mob_points.specs.Points.{point_value}
 use Rattle.mob_slice.specs.CourseOf.{plane_course}
 use Rattle.mob_slice.specs.declared.line.PlaneLine.{PlaneLine}
 use Rattle.mob_slice.specs.declared.slice.Slice.{Slice}
-use Rattle.mob_written.specs.Printed.{Style, groups_of, put_in_group, instants_of, is_long, end_text, shares_group}
+use Rattle.mob_written.specs.Printed.{Style, groups_of, put_in_group, instants_of, end_text, shares_group}
 use Rattle.mob_written.specs.Style.{style_of}
-use Rattle.mob_literal.specs.Readable.{IsReadable, PointFits, instants_in}
+use Rattle.mob_written.specs.Values.{any_value}
+use Rattle.mob_written.specs.declared.written.Written.{Written}
+use Rattle.mob_written.specs.declared.written.Sequence.{Sequence}
+use Rattle.mob_literal.specs.Fields.{is_null_field, text_of_field}
+use Rattle.mob_literal.specs.Readable.{IsReadable, IsInt, PointFits, instants_in}
+use Rattle.mob_literal.specs.Sequences.{is_step}
+use Rattle.mob_literal.specs.Sound.{Defines, fitting_all, literals}
+use Rattle.mob_literal.specs.SqlText.{SaysAs}
 use Rattle.mob_literal.specs.SqlReadable.{IsReadableAs}
 use Rattle.mob_plane.specs.declared.point.Point.{Point}
+use Rattle.mob_catalog.specs.Fields.{FieldSays}
+use Rattle.mob_catalog.specs.TableFile.{IsRow}
 use Rattle.mob_simplify.specs.Breaks.{start_of, end_of}
 use Rattle.mob_simplify.specs.BreaksOf.{HaveBreaks, followed, printed_instants}
 use Rattle.mob_simplify.specs.Thinned.{IsThin}
 use Rattle.mob_simplify.specs.declared.breaks.Break.{Break}
+use Rattle.mob_simplify.proofs.Answering.{IsNormalLines}
 use Rattle.mob_simplify.proofs.Tidied.{thin_breaks, thin_prints}
-use Rattle.mob_thin_run.specs.TableAgain.{IsCell, IsTripRow}
+use Rattle.mob_thin_run.specs.TableAgain.{IsPrintable, IsPrintableValue}
 use Rattle.mob_thin_run.specs.ThinRows.{IsThinValue}
+use Rattle.mob_thin_run.proofs.PlacesFit.{places_fit}
+use Rattle.mob_trips.specs.Reading.{trip_columns}
 
 abbrev Line : Type 0
 Line = Slice PlaneLine
+
+-- NULL, or a value of the type whose printed text is read again
+abbrev pub IsCell : SqlType → ℤ → Value → Type 0
+IsCell type day v = (v ≡ Null) ⊎ IsReadableAs type day v
+
+-- a row with an int and a trip
+pub record IsTripRow (day : ℤ) (row : List Value) : Type 0 where
+  pub id : Value
+  pub trip : Value
+  pub is : row ≡ id ∷ trip ∷ []
+  pub id_again : IsCell Int day id
+  pub trip_again : IsCell TPoint day trip
 
 -- ---- how many instants are printed
 -- the first group begins with the first slice
@@ -77,30 +110,93 @@ module _ (day : ℤ) where
   counted (s ∷ r ∷ rest) = put_counts s r (groups_of plane_course (r ∷ rest)) (begins_put r (groups_of plane_course rest)) ∙ ap (λ n. one_or_two (followed s (r ∷ rest)) (before s.span.lower s.span.upper) + n) (counted (r ∷ rest))
 
   -- ---- a trip
+  -- the instant of a break lies in the years 0001 to 9999, and its coordinates fit
   record IsWritable (b : Break) : Type 0 where
     dated : IsDated day b.instant
     fits : PointFits b.place
 
+  are_writable : (slices : List Line) → HaveBreaks (λ b. IsDated day b.instant) slices → HaveBreaks (λ b. PointFits b.place) slices → HaveBreaks IsWritable slices
+  are_writable [] h k = tt
+  are_writable (s ∷ rest) h k = ((record { dated = h.0.0; fits = k.0.0 }, record { dated = h.0.1; fits = k.0.1 }), are_writable rest h.1 k.1)
+
+  -- a trip that was read, and that can be printed
+  record IsReadTrip (slices : List Line) : Type 0 where
+    normal : IsNormalLines slices
+    breaks : HaveBreaks IsWritable slices
+    short : printed_instants slices ≤ 100000
+
   abbrev IsReadableTrip : List Line → Type 0
   IsReadableTrip slices = IsReadable plane_course day point_text PointFits slices
 
-  thin_readable : (d : Ratio) (slices thin : List Line) → IsReadableTrip slices → IsThin d slices thin → IsReadableTrip thin
-  thin_readable d slices thin h k =
-      let whole : HaveBreaks IsWritable slices = all_by_each (λ s. IsWritable (start_of s) × IsWritable (end_of s)) slices (λ s c. (record { dated = h.lowers s c; fits = h.starts s c }, record { dated = h.uppers s c; fits = h.ends s c })) in
-      let all : HaveBreaks IsWritable thin = thin_breaks IsWritable d slices thin h.normal k whole in
-      let each = each_of_all (λ s. IsWritable (start_of s) × IsWritable (end_of s)) thin all in
-      let few = thin_prints d slices thin h.normal k in
-      let most = h.short in
-      let old = counted slices in
-      let new = counted thin in
+  readable_by : (slices : List Line) → IsNormalLines slices → HaveBreaks IsWritable slices → printed_instants slices ≤ 100000 → IsReadableTrip slices
+  readable_by slices normal all most =
+      let each = each_of_all (λ s. IsWritable (start_of s) × IsWritable (end_of s)) slices all in
+      let count = counted slices in
       record {
-        normal = k.normal;
+        normal = normal;
         starts = λ s c. (each s c).0.fits;
         ends = λ s c. (each s c).1.fits;
         lowers = λ s c. (each s c).0.dated;
         uppers = λ s c. (each s c).1.dated;
-        short = omega (arith, few, most, old, new);
+        short = omega (arith, most, count);
       }
+
+  thin_readable : (d : Ratio) (slices thin : List Line) → IsReadTrip slices → IsThin d slices thin → IsReadableTrip thin
+  thin_readable d slices thin h k =
+      let few = thin_prints d slices thin h.normal k in
+      let most = h.short in
+      readable_by thin k.normal (thin_breaks IsWritable d slices thin h.normal k h.breaks) (omega (arith, few, most))
+
+  -- ---- what was read
+  normal_in : (slices : List Line) (step : Bool) (o : Option (List (Sequence (Written Point)))) → MatchOption o ⊥ (λ qs. Defines plane_course step qs slices) → IsNormalLines slices
+  normal_in slices step None h = absurd h
+  normal_in slices step (Some qs) h = h.normal
+
+  -- a trip that can be printed, or NULL
+  abbrev IsTripCell : Value → Type 0
+  IsTripCell (MovingPoint slices) = IsReadTrip slices
+  IsTripCell v = v ≡ Null
+
+  read_trip : (text : Text) (slices : List Line) → Lit (literals day true point_value any_value plane_course) text (Ok slices) → IsPrintable day slices → IsReadTrip slices
+  read_trip text slices h p = record {
+    normal = normal_in slices (is_step plane_course.steady h.0.says_step) (fitting_all h.0.sequences) h.5;
+    breaks = are_writable slices p.dated (places_fit day text slices h);
+    short = p.short;
+  }
+
+  ok_same : (v w : Value) → ◌≡◌ {A = Result Value ReadText} (Ok v) (Ok w) → v ≡ w
+  ok_same v w e = cc
+
+  trip_said : (text : Text) (v : Value) → SaysAs TPoint day text (Ok v) → IsPrintableValue day v → IsTripCell v
+  trip_said text v h p = subst IsTripCell (sym h.1) (read_trip text h.0 h.2 (subst (IsPrintableValue day) h.1 p))
+
+  trip_field : (field : Text) (v : Value) (b : Bool) → is_null_field TPoint field ≡ b → FieldSays TPoint day field (Ok v) → IsPrintableValue day v → IsTripCell v
+  trip_field field v true e h p = subst IsTripCell (sym (ok_same v Null (h.null e))) refl
+  trip_field field v false e h p = trip_said (text_of_field TPoint field) v (h.text e) p
+
+  lt_by : (a b : ℕ) (t : Bool) → nat_lt a b ≡ t → ((a < b → ⊥) → ⊥) → a < b
+  lt_by a b true e h = ltb-true a b e
+  lt_by a b false e h = let k = ltb-false a b e in absurd (h (λ l. omega (arith, k, l)))
+
+  fits_unless : (q : Ratio) → ((Fits q → ⊥) → ⊥) → Fits q
+  fits_unless q h = record {
+    num_fits = lt_by (nat_abs q.num) (2 ^ 62) _ refl (λ n. h (λ f. n f.num_fits));
+    den_fits = lt_by q.den (2 ^ 62) _ refl (λ n. h (λ f. n f.den_fits));
+  }
+
+  one_unless : (n : ℕ) (b : Bool) → nat_eq n 1 ≡ b → ((n ≢ 1) → ⊥) → n ≡ 1
+  one_unless n true e h = eqb-true n 1 e
+  one_unless n false e h = absurd (h (λ k. true≢false (sym (subst (λ z. nat_eq z 1 ≡ true) (sym k) refl) ∙ e)))
+
+  id_said : (text : Text) (v : Value) → SaysAs Int day text (Ok v) → IsReadableAs Int day v
+  id_said text v h =
+      let value = numeral_value h.2.0 in
+      let number : IsInt value = record { fits = fits_unless value h.2.3; is_whole = one_unless value.den _ refl h.2.4 } in
+      subst (IsReadableAs Int day) (sym h.1) (subst IsInt (sym h.2.5) number)
+
+  id_field : (field : Text) (v : Value) (b : Bool) → is_null_field Int field ≡ b → FieldSays Int day field (Ok v) → IsCell Int day v
+  id_field field v true e h = inl (ok_same v Null (h.null e))
+  id_field field v false e h = inr (id_said (text_of_field Int field) v (h.text e))
 
   -- ---- a row
   null_stays : (d : Ratio) (v w : Value) → v ≡ Null → IsThinValue d v w → w ≡ Null
@@ -114,23 +210,33 @@ module _ (day : ℤ) where
   id_again d v w (inl e) k = inl (null_stays d v w e k)
   id_again d v w (inr r) k = inr (id_by d v w r k)
 
-  trip_by : (d : Ratio) (v w : Value) → IsReadableAs TPoint day v → IsThinValue d v w → IsReadableAs TPoint day w
-  trip_by d (MovingPoint slices) (MovingPoint thin) h k = thin_readable d slices thin h k
-  trip_by d (MovingPoint slices) w h k = absurd k
-  trip_by d v w h k = absurd h
+  trip_again : (d : Ratio) (v w : Value) → IsTripCell v → IsThinValue d v w → IsCell TPoint day w
+  trip_again d (MovingPoint slices) (MovingPoint thin) h k = inr (thin_readable d slices thin h k)
+  trip_again d (MovingPoint slices) w h k = absurd k
+  trip_again d v w h k = inl (null_stays d v w h k)
 
-  trip_again : (d : Ratio) (v w : Value) → IsCell TPoint day v → IsThinValue d v w → IsCell TPoint day w
-  trip_again d v w (inl e) k = inl (null_stays d v w e k)
-  trip_again d v w (inr r) k = inr (trip_by d v w r k)
+  row_readable : (d : Ratio) (fields : List Text) (row thin : List Value) → IsRow trip_columns day fields row → AllByRecursion (IsPrintableValue day) row → AllZip (IsThinValue d) row thin → IsTripRow day thin
+  row_readable d (f ∷ g ∷ []) (v ∷ w ∷ []) (x ∷ y ∷ []) h p k = record {
+    id = x;
+    trip = y;
+    is = refl;
+    id_again = id_again d v x (id_field f v _ refl h.values.0) k.0;
+    trip_again = trip_again d w y (trip_field g w _ refl h.values.1.0 p.1.0) k.1.0;
+  }
+  row_readable d (f ∷ g ∷ []) (v ∷ w ∷ []) [] h p k = absurd k
+  row_readable d (f ∷ g ∷ []) (v ∷ w ∷ []) (x ∷ []) h p k = absurd k.1
+  row_readable d (f ∷ g ∷ []) (v ∷ w ∷ []) (x ∷ y ∷ z ∷ more) h p k = absurd k.1.1
+  row_readable d (f ∷ g ∷ []) [] thin h p k = absurd h.values
+  row_readable d (f ∷ g ∷ []) (v ∷ []) thin h p k = absurd h.values.1
+  row_readable d (f ∷ g ∷ []) (v ∷ w ∷ u ∷ row) thin h p k = absurd h.values.1.1
+  row_readable d [] row thin h p k = let n = h.whole.count in absurd (omega (arith, n))
+  row_readable d (f ∷ []) row thin h p k = let n = h.whole.count in absurd (omega (arith, n))
+  row_readable d (f ∷ g ∷ e ∷ fields) row thin h p k = let n = h.whole.count in absurd (omega (arith, n))
 
-  row_by : (d : Ratio) (id trip : Value) (thin : List Value) → IsCell Int day id → IsCell TPoint day trip → AllZip (IsThinValue d) (id ∷ trip ∷ []) thin → IsTripRow day thin
-  row_by d id trip [] i t h = absurd h
-  row_by d id trip (v ∷ []) i t h = absurd h.1
-  row_by d id trip (v ∷ w ∷ []) i t h = record { id = v; trip = w; is = refl; id_again = id_again d id v i h.0; trip_again = trip_again d trip w t h.1.0 }
-  row_by d id trip (v ∷ w ∷ x ∷ more) i t h = absurd h.1.1
-
-  pub rows_readable : (d : Ratio) (rows thin : List (List Value)) → AllByRecursion (IsTripRow day) rows → AllZip (AllZip (IsThinValue d)) rows thin → AllByRecursion (IsTripRow day) thin
-  rows_readable d [] [] h k = tt
-  rows_readable d [] (t ∷ thin) h k = absurd k
-  rows_readable d (row ∷ rows) [] h k = absurd k
-  rows_readable d (row ∷ rows) (t ∷ thin) h k = (row_by d h.0.id h.0.trip t h.0.id_again h.0.trip_again (subst (λ z. AllZip (IsThinValue d) z t) h.0.is k.0), rows_readable d rows thin h.1 k.1)
+  pub rows_readable : (d : Ratio) (records : List (List Text)) (rows thin : List (List Value)) → AllZip (IsRow trip_columns day) records rows → AllByRecursion (AllByRecursion (IsPrintableValue day)) rows → AllZip (AllZip (IsThinValue d)) rows thin → AllByRecursion (IsTripRow day) thin
+  rows_readable d [] [] [] h p k = tt
+  rows_readable d [] [] (t ∷ thin) h p k = absurd k
+  rows_readable d [] (row ∷ rows) thin h p k = absurd h
+  rows_readable d (r ∷ records) [] thin h p k = absurd h
+  rows_readable d (r ∷ records) (row ∷ rows) [] h p k = absurd k
+  rows_readable d (r ∷ records) (row ∷ rows) (t ∷ thin) h p k = (row_readable d r row t h.0 p.0 k.0, rows_readable d records rows thin h.1 p.1 k.1)

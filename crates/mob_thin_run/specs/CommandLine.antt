@@ -13,11 +13,11 @@ use Rattle.mob_thin_run.specs.declared.settings.ThinSettings.{ThinSettings}
 unfoldable pub thin_command : App
 thin_command = with_rule (with_rule (without_flags (new_app (codes "mobthin"))) (option (codes "within"))) (option (codes "epoch"))
 
--- the command takes these words, the program's name first
+-- the command takes these arguments, the program's name first
 unfoldable pub ThinTakes : List Text → Type 0
 ThinTakes words = fault_of thin_command words ≡ []
 
--- the value that the words give to an option
+-- the value that the arguments give to an option
 unfoldable pub thin_option : Text → List Text → Option Text
 thin_option name words = first_of name (matches_of thin_command words)
 
@@ -26,7 +26,7 @@ abbrev pub IsThinDistance : Option Text → Ratio → Type 0
 IsThinDistance None d = ⊥
 IsThinDistance (Some text) d = Lit numbers text (Ok d) × (up_to nil d ≡ true)
 
--- the words are taken, and say these settings: the distance and the day of the epoch
+-- the arguments are taken, and say these settings: the distance and the day of the epoch
 pub record ThinSays (words : List Text) (settings : ThinSettings) : Type 0 where
   pub taken : ThinTakes words
   pub distance : IsThinDistance (thin_option (codes "within") words) settings.within

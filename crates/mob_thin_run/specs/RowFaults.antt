@@ -13,12 +13,12 @@ abbrev pub row_fault : ℕ → OpFault → RowFault
 row_fault row (trip.Passed formula) = Passed row formula
 row_fault row trip.NoMemory = NoMemory
 
--- want of memory names none
+-- out of memory names none
 abbrev pub OnRowFault : (ℕ → Formula → Type 0) → RowFault → Type 0
 OnRowFault P (Passed row formula) = P row formula
 OnRowFault P NoMemory = Unit {0}
 
--- the ending of a fault: that row, or want of memory
+-- the ending of a fault: that row, or out of memory
 abbrev pub EndsWith : RowFault → Ending → Type 0
 EndsWith (Passed row formula) ending = ending ≡ end.Overflow (row ∷ []) formula
 EndsWith NoMemory ending = ending ≡ end.NoMemory

@@ -18,6 +18,6 @@ thin_program = record {
   fits = λ s rows. AllByRecursion (RowTestsFit s.within) rows;
 }
 
--- the line of words that are not taken
+-- the line of arguments that are not taken
 abbrev pub thin_usage : List ℕ
 thin_usage = codes "usage: mobthin --within D [--epoch DATE] < trips.csv\n"

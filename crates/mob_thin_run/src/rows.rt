@@ -31,7 +31,7 @@ pub enum RowFault {
         /// The formula.
         formula: Formula,
     },
-    /// Memory was refused.
+    /// Out of memory.
     NoMemory,
 }
 

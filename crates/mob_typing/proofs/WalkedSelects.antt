@@ -32,8 +32,8 @@ use Rattle.mob_clauses.specs.Outputs.{is_aggregate_call, is_aggregate_item, is_g
 use Rattle.mob_clauses.specs.Keys.{is_key, group_of, typed_group, with_groups, alias_number, value_type, output_at, aliased, key_item, key_value, typed_key, typed_keys, limit_value, limit_of}
 use Rattle.mob_clauses.specs.Clauses.{ConditionParts, typed_conditions, OrderParts, typed_order, select_made, typed_clauses, rows_to_go}
 use Rattle.mob_typing.specs.Selects.{from_name, from_table, from_tables, typed_select}
-use Rattle.mob_typing.specs.Stands.{operators_in}
-use Rattle.mob_typing.specs.WellTyped.{column_type, from_type, HasNamedTypes, IsOperated, condition_alone, expressions_of, AreOfSources, column_in, columns_in, IsGroup, IsAggregateOf, IsTypedItem, IsTypedKey, IsTypedQuery, IsTypedDeletion}
+use Rattle.mob_typing.specs.Stands.{operators_in, aggregate_place, query_operators}
+use Rattle.mob_typing.specs.WellTyped.{column_type, from_type, HasNamedTypes, IsOperated, condition_alone, AreOfSources, column_in, columns_in, IsGroup, IsAggregateOf, IsTypedItem, IsTypedKey, IsTypedQuery, IsTypedDeletion}
 use Rattle.mob_grammar.specs.Places.{tree_places, trees_places, item_places, from_places, condition_places, key_places, select_places}
 use Rattle.mob_grammar.specs.Held.{word_held, tree_held, trees_held, item_held, from_held, condition_held, key_held, select_held}
 use Rattle.mob_grammar.proofs.Places.{all_parts}
@@ -105,9 +105,9 @@ ons_of At (f ∷ fs) h =
     let parts = all_parts At (from_held f) (flat_map from_held fs) h in
     each_both At (condition_held f.on) (flat_map (λ e. condition_held e.on) fs) (all_parts At (word_held f.alias) (condition_held f.on) parts.0.1).1 (ons_of At fs parts.1)
 
--- a query is typed, and its operators stand at such places
+-- a query is typed, and its operators and aggregates stand at such places
 abbrev pub IsStandingQuery : (ℕ → Type 0) → List ColumnList → List ConstText → TypedSelectParts → Type 0
-IsStandingQuery At tables cs q = IsTypedQuery tables cs q × AllByRecursion At (flat_map operators_in (expressions_of q))
+IsStandingQuery At tables cs q = IsTypedQuery tables cs q × AllByRecursion At (query_operators q)
 
 module _ (At : ℕ → Type 0) (tables : List (List ℕ × ColumnList)) where
   pub name_walked : (from : List (List ℕ × ScopeTableParts)) (table : Word) (alias : Option Word) → AllByRecursion At (table.place ∷ word_held alias) → GivesOrStops At (λ name. (length from < 4) × (has_entry from name ≡ false)) (from_name from table alias)
@@ -282,16 +282,23 @@ module _ (At : ℕ → Type 0) (tables : List ColumnList) (s : ScopeParts) (begi
     g = grouping grouped s gs
 
     -- an expression that is no aggregate is in a grouped SELECT a column of GROUP BY, and an
-    -- aggregate is of a grouped one
+    -- aggregate is of a grouped one, and is at such a place
     abbrev IsValue : TypedTree → Option Agg → Type 0
     IsValue t None = is_ungrouped g t ≡ false
-    IsValue t (Some a) = (grouped ≡ true) × IsAggregateOf t a
+    IsValue t (Some a) = (grouped ≡ true) × (IsAggregateOf t a × At a.place)
 
     abbrev IsItem : Output → Option Agg → Type 0
     IsItem o a = IsValue o.0 a
 
     abbrev OutputsHold : List ConstText → OutputLists → Type 0
     OutputsHold cs o = AllByRecursion (OutputHolds cs) o.columns × AllZip IsItem o.columns o.aggs
+
+    aggregates_placed : (os : List Output) (aggs : List (Option Agg)) → AllZip IsItem os aggs → AllByRecursion At (flat_map aggregate_place aggs)
+    aggregates_placed [] [] h = tt
+    aggregates_placed [] (a ∷ aggs) h = absurd h
+    aggregates_placed (o ∷ os) [] h = absurd h
+    aggregates_placed (o ∷ os) (None ∷ aggs) h = aggregates_placed os aggs h.1
+    aggregates_placed (o ∷ os) (Some a ∷ aggs) h = (h.0.1.1, aggregates_placed os aggs h.1)
 
     outputs_stay : Stays OutputsHold
     outputs_stay o cs more h = (all_stay OutputHolds output_stays o.columns cs more h.0, h.1)
@@ -320,7 +327,7 @@ module _ (At : ℕ → Type 0) (tables : List ColumnList) (s : ScopeParts) (begi
     aggregate_walked f p args cs so at h =
         then (arguments_walked At tables s.from there s whole args cs h) (λ r q.
         then {Q = ValueHolds r.1} (then (finds kind.NoSuchOperator p (lone_operand r.0) at) (λ t is.
-        then (finds kind.NoSuchOperator p (aggregate_row f (type_of t)) at) (λ a row. gives (lone_holds r.1 r.0 t q.sound is, (so, inr (f, row))))))
+        then (finds kind.NoSuchOperator p (aggregate_row f (type_of t)) at) (λ a row. gives (lone_holds r.1 r.0 t q.sound is, (so, (inr (f, row), at))))))
         (λ v held. gives (record { adds = q.adds; sound = held })))
 
     plain_walked : (t : Tree) (cs : List ConstText) → AllByRecursion At (tree_held t) → GivesOrStops At (Steps n (tree_places t) ValueHolds cs) (plain_value s g t cs)
@@ -345,7 +352,7 @@ module _ (At : ℕ → Type 0) (tables : List ColumnList) (s : ScopeParts) (begi
         then (value_walked t cs agg (all_parts At (tree_held t) (word_held a) h).0) (λ r q.
         gives (record { adds = q.adds; sound = output_more r.1 o r.0 _ a (still OutputsHold outputs_stay o q.adds so_far) q.sound }))
     item_walked o (count_all p a) cs so_far agg h =
-        gives (record { adds = adds_none; sound = output_more cs o (counting p) _ a so_far (record { named = (tt, tt); operated = ((refl, refl), tt); placed = (h.0, tt); above = refl; below = refl }, (agg refl, inl (refl, refl))) })
+        gives (record { adds = adds_none; sound = output_more cs o (counting p) _ a so_far (record { named = (tt, tt); operated = ((refl, refl), tt); placed = (h.0, tt); above = refl; below = refl }, (agg refl, (inl (refl, refl), h.0))) })
 
     items_walked : (o : OutputLists) (is : List ItemParts) (cs : List ConstText) → OutputsHold cs o → (list_any is_aggregate_item is ≡ true → grouped ≡ true) → AllByRecursion At (flat_map item_held is) → GivesOrStops At (Steps n (flat_map item_places is) OutputsHold cs) (with_items s g o is cs)
     items_walked o [] cs so_far agg h = gives (record { adds = adds_none; sound = so_far })
@@ -561,7 +568,7 @@ module _ (At : ℕ → Type 0) (tables : List ColumnList) (s : ScopeParts) (begi
         keys = each_on (KeyHolds grouped x.groups cs) (λ k. HasNamedTypes tables (numbers_of s.from) cs k.0 × (grouped ≡ false → is_key (type_of k.0) ≡ true)) (λ k h. (h.0.named, h.1)) ks keys.0;
         judged = zip_on (IsJudged grouped x.groups o) (IsTypedKey (made o js c gr ks l)) key_typed ks (map (key_item o) x.keys) keys.1;
       },
-      all_placed_so cs expressions all,
+      each_both At (flat_map operators_in expressions) (flat_map aggregate_place o.aggs) (all_placed_so cs expressions all) (aggregates_placed grouped x.groups o.columns o.aggs items.1),
     )
       where
         long : length (numbers_of s.from) ≡ length s.from
@@ -572,7 +579,7 @@ module _ (At : ℕ → Type 0) (tables : List ColumnList) (s : ScopeParts) (begi
 
         item_typed : (y : Output) (a : Option Agg) → IsItem grouped x.groups y a → IsTypedItem grouped gr y a
         item_typed y None h = λ so. ap (λ columns. is_column columns y.0) same_columns ∙ of_groups grouped (flat_map (group_column s) x.groups) y.0 h so
-        item_typed y (Some a) h = h
+        item_typed y (Some a) h = (h.0, h.1.0)
 
         key_typed : (k : TypedTree × Bool) (i : Option ℕ) → IsJudged grouped x.groups o k i → IsTypedKey (made o js c gr ks l) k i
         key_typed k None h = (h.0, λ so. ap (λ columns. is_column columns k.0) same_columns ∙ of_groups grouped (flat_map (group_column s) x.groups) k.0 h.1 so)
@@ -675,10 +682,10 @@ clauses_bare scope table c cs q is = by (condition scope c cs) refl is
         (ap (λ z. z.0.items) (sym same), ap (λ z. z.0.from) (sym same))
 
 pub delete_walked : (At : ℕ → Type 0) (tables : List (List ℕ × ColumnList)) (n : ℕ) (table : Word) (c : Option Tree) (cs : List ConstText) → AllByRecursion At (table.place ∷ condition_held c)
-    → GivesOrStops At (Steps n (condition_places c) (λ ds q. IsTypedDeletion (named tables) ds q × AllByRecursion At (flat_map operators_in (expressions_of q))) cs) (typed_select tables n (rows_to_go table c) cs)
+    → GivesOrStops At (Steps n (condition_places c) (λ ds q. IsTypedDeletion (named tables) ds q × AllByRecursion At (query_operators q)) cs) (typed_select tables n (rows_to_go table c) cs)
 delete_walked At tables n table c cs h =
     let own : AllByRecursion At (condition_held c ++ []) = each_both At (condition_held c) [] h.1 tt in
-    then {P = Steps n (condition_places c) (λ ds q. IsTypedDeletion (named tables) ds q × AllByRecursion At (flat_map operators_in (expressions_of q))) cs}
+    then {P = Steps n (condition_places c) (λ ds q. IsTypedDeletion (named tables) ds q × AllByRecursion At (query_operators q)) cs}
     (tables_walked At tables [] (record { table = table; alias = None; on = None } ∷ []) (no_tables (named tables)) (h.0, tt))
     (λ f are.
     let scope : ScopeParts = record { from = f; first = 0; statement = n } in

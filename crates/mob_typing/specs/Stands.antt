@@ -1,10 +1,13 @@
--- Where a refusal of names and types stands, and each operator of a typed script: in the statement whose tree holds its place.
-use Rattle.std.specs.Prelude.{◌≡◌, ◌+◌, ◌++◌, ℕ, List, [], ◌∷◌, length, Ok, Err}
+-- Where a refusal of names and types stands, and each operator and aggregate of a typed script: in
+-- the statement whose tree holds its place.
+use Rattle.std.specs.Prelude.{◌≡◌, ◌+◌, ◌++◌, ℕ, List, [], ◌∷◌, length, Option, Some, None, Ok, Err}
 use Rattle.std.specs.List.{AllByRecursion, Contains, flat_map}
 use Rattle.mob_ast.specs.declared.refusal.Refusal.{Refusal}
 use Rattle.mob_ast.specs.Trees.{StatementParts}
 use Rattle.mob_grammar.specs.Held.{statement_held}
+use Rattle.mob_typed.specs.declared.typed.Agg.{Agg}
 use Rattle.mob_typed.specs.Trees.{TypedTree, typed, TypedTrees, none, more}
+use Rattle.mob_typed.specs.Selects.{TypedSelectParts}
 use Rattle.mob_typed.specs.Statements.{StatementOut, nothing, new_table, new_index, new_rows, rows_from, deletion, query, plan_of, ScriptOut}
 use Rattle.mob_typing.specs.Statements.{typed_script}
 use Rattle.mob_typing.specs.WellTyped.{expressions_of}
@@ -35,21 +38,32 @@ abbrev mutual
   operators_among none = []
   operators_among (more t ts) = operators_in t ++ operators_among ts
 
+-- the place of an aggregate
+abbrev pub aggregate_place : Option Agg → List ℕ
+aggregate_place None = []
+aggregate_place (Some agg) = agg.place ∷ []
+
+-- the places of the operators of a query, and of its aggregates
+abbrev pub query_operators : TypedSelectParts → List ℕ
+query_operators q = flat_map operators_in (expressions_of q) ++ flat_map aggregate_place q.aggs
+
 abbrev pub operators_of : StatementOut → List ℕ
 operators_of nothing = []
 operators_of (new_table t name columns) = []
 operators_of (new_index t k name) = []
 operators_of (new_rows t rows places) = []
 operators_of (rows_from t name) = []
-operators_of (deletion s) = flat_map operators_in (expressions_of s)
-operators_of (query s) = flat_map operators_in (expressions_of s)
-operators_of (plan_of s) = flat_map operators_in (expressions_of s)
+operators_of (deletion s) = query_operators s
+operators_of (query s) = query_operators s
+operators_of (plan_of s) = query_operators s
 
--- the operators of the first of these statements stand at such places of statement n, and those of each other of one more
+-- the operators and aggregates of the first of these statements stand at such places of statement
+-- n, and those of each other of one more
 abbrev pub OperatorsStand : (ℕ → ℕ → Type 0) → ℕ → List StatementOut → Type 0
 OperatorsStand At n [] = Unit {0}
 OperatorsStand At n (s ∷ ss) = AllByRecursion (At n) (operators_of s) × OperatorsStand At (n + 1) ss
 
--- each operator of a typed script stands at a place that the tree of its statement holds
+-- each operator and each aggregate of a typed script stands at a place that the tree of its
+-- statement holds
 abbrev pub TypingHoldsOperators : Type 0
 TypingHoldsOperators = (trees : List StatementParts) (out : ScriptOut) → typed_script trees ≡ Ok out → OperatorsStand (IsHeldIn trees) 1 out.statements

@@ -1,9 +1,9 @@
-//! Tests of values, as tables: fractions, texts and constants.
+//! Tests of texts of values, as a table, and of calls on values over time: those that no script reaches, and values taken together.
 #![tactic(auto)]
 
 #[cfg(test)]
-mod constants;
-#[cfg(test)]
-mod fractions;
+mod moving;
 #[cfg(test)]
 mod texts;
+#[cfg(test)]
+mod together;

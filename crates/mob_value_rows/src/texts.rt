@@ -1,4 +1,5 @@
-// Texts of values, fields, moments, days and values of a ttext: how they are read and printed. The epoch is 2000-01-01.
+// Texts of values, fields, moments, days and values of a ttext: how they are read and printed. The epoch is 2000-01-01. Texts that a
+// SELECT prints are in `checks/rows`; here is what no script tells apart, as the fault of a text that is refused.
 
 use mob_ast::SqlType;
 use mob_frac::{Frac, Overflow};
@@ -28,28 +29,7 @@ enum Reading {
 // A text, and what is printed of what it says, or the name of its fault.
 type Row = (Reading, &'static str, &'static str);
 
-static ROWS: [Row; 146] = [
-    (Reading::Value(SqlType::Numeric), " \t1.50\n", "3/2"),
-    (Reading::Value(SqlType::Numeric), "-.5e1", "-5"),
-    (Reading::Value(SqlType::Numeric), "5.", "5"),
-    (Reading::Value(SqlType::Numeric), "+7/14", "1/2"),
-    (Reading::Value(SqlType::Numeric), "0/5", "0"),
-    (Reading::Value(SqlType::Numeric), "-12e-2", "-3/25"),
-    (
-        Reading::Value(SqlType::Numeric),
-        "1e18",
-        "1000000000000000000",
-    ),
-    (
-        Reading::Value(SqlType::Numeric),
-        ".444089209850062616169452667236328125e-18",
-        "1/2251799813685248000",
-    ),
-    (
-        Reading::Value(SqlType::Numeric),
-        "4611686018427387903",
-        "4611686018427387903",
-    ),
+static ROWS: [Row; 140] = [
     (Reading::Value(SqlType::Numeric), "", "NotText"),
     (Reading::Value(SqlType::Numeric), ".", "NotText"),
     (Reading::Value(SqlType::Numeric), "1/0", "NotText"),
@@ -78,14 +58,6 @@ static ROWS: [Row; 146] = [
         "1/4611686018427387904",
         "TooLarge",
     ),
-    (Reading::Value(SqlType::Numeric), "1.50", "3/2"),
-    (Reading::Value(SqlType::Numeric), "0", "0"),
-    (Reading::Value(SqlType::Numeric), "-6/4", "-3/2"),
-    (Reading::Value(SqlType::Numeric), "7", "7"),
-    (Reading::Value(SqlType::Int), " 7", "7"),
-    (Reading::Value(SqlType::Int), "4/2", "2"),
-    (Reading::Value(SqlType::Int), "-1.5e1", "-15"),
-    (Reading::Value(SqlType::Int), "0.0", "0"),
     (Reading::Value(SqlType::Int), "1/2", "Unsound"),
     (Reading::Value(SqlType::Int), "1e-1", "Unsound"),
     (
@@ -99,7 +71,6 @@ static ROWS: [Row; 146] = [
         "NotText",
     ),
     (Reading::Value(SqlType::Int), "", "NotText"),
-    (Reading::Value(SqlType::Int), "7", "7"),
     (
         Reading::Value(SqlType::Int),
         "4611686018427387904",
@@ -110,17 +81,12 @@ static ROWS: [Row; 146] = [
         "4611686018427387904.5.",
         "NotText",
     ),
-    (Reading::Value(SqlType::Bool), "t", "t"),
-    (Reading::Value(SqlType::Bool), " TRUE ", "t"),
-    (Reading::Value(SqlType::Bool), "f", "f"),
-    (Reading::Value(SqlType::Bool), "False", "f"),
     (Reading::Value(SqlType::Bool), "", "NotText"),
     (Reading::Value(SqlType::Bool), "tr", "NotText"),
     (Reading::Value(SqlType::Bool), "truth", "NotText"),
     (Reading::Value(SqlType::Bool), "t t", "NotText"),
     (Reading::Value(SqlType::Bool), "1", "NotText"),
     (Reading::Value(SqlType::Bool), "falsey", "NotText"),
-    (Reading::Value(SqlType::Bool), " TRUE\n", "t"),
     (Reading::Value(SqlType::Bool), "yes", "NotText"),
     (Reading::Instant, " 2000-01-01  ", "0"),
     (Reading::Instant, "2000-02-29 00:00", "5097600"),
@@ -148,27 +114,7 @@ static ROWS: [Row; 146] = [
         "2000-01-01 00:00:01(1/4611686018427387903)",
         "TooLarge",
     ),
-    (
-        Reading::Value(SqlType::Moment),
-        "2001-01-01 00:00:00.25+01",
-        "2000-12-31 23:00:00.25+00",
-    ),
-    (
-        Reading::Value(SqlType::Moment),
-        "2000-02-29",
-        "2000-02-29 00:00:00+00",
-    ),
     (Reading::Value(SqlType::Moment), "1900-02-29", "NotText"),
-    (
-        Reading::Value(SqlType::Moment),
-        "0001-01-01",
-        "0001-01-01 00:00:00+00",
-    ),
-    (
-        Reading::Value(SqlType::Moment),
-        "9999-12-31 23:59:59",
-        "9999-12-31 23:59:59+00",
-    ),
     (
         Reading::Value(SqlType::Moment),
         "0001-01-01 00:00+01",
@@ -206,26 +152,6 @@ static ROWS: [Row; 146] = [
     (Reading::Value(SqlType::Text), "", ""),
     (Reading::Value(SqlType::Text), "\\N a ", "\\N a "),
     (
-        Reading::Value(SqlType::Polygon),
-        "POLYGON((0 0,1 0,0 1,0 0))",
-        "POLYGON((0 0,1 0,0 1,0 0))",
-    ),
-    (
-        Reading::Value(SqlType::TBool),
-        "T@2001-01-01",
-        "t@2001-01-01 00:00:00+00",
-    ),
-    (
-        Reading::Value(SqlType::TBool),
-        "[T@2001-01-01, false@2001-01-02]",
-        "[t@2001-01-01 00:00:00+00, f@2001-01-02 00:00:00+00]",
-    ),
-    (
-        Reading::Value(SqlType::TInt),
-        "{ 2@2001-01-03 ,3@2001-01-05 }",
-        "{2@2001-01-03 00:00:00+00, 3@2001-01-05 00:00:00+00}",
-    ),
-    (
         Reading::Value(SqlType::TInt),
         "[1@2001-01-01, 2@2001-01-02)",
         "Unsound",
@@ -240,31 +166,6 @@ static ROWS: [Row; 146] = [
         Reading::Value(SqlType::TInt),
         "[4611686018427387904@2001-02-30]",
         "NotText",
-    ),
-    (
-        Reading::Value(SqlType::TInt),
-        "1@2001-01-01",
-        "1@2001-01-01 00:00:00+00",
-    ),
-    (
-        Reading::Value(SqlType::TInt),
-        " { 2@2001-01-03 ,3@2001-01-05 } ",
-        "{2@2001-01-03 00:00:00+00, 3@2001-01-05 00:00:00+00}",
-    ),
-    (
-        Reading::Value(SqlType::TInt),
-        "{[1@2001-01-01, 2@2001-01-02], (2@2001-01-02, 2@2001-01-03]}",
-        "[1@2001-01-01 00:00:00+00, 2@2001-01-02 00:00:00+00, 2@2001-01-03 00:00:00+00]",
-    ),
-    (
-        Reading::Value(SqlType::TInt),
-        "[1@2001-01-01, 1@2001-01-02)",
-        "[1@2001-01-01 00:00:00+00, 1@2001-01-02 00:00:00+00)",
-    ),
-    (
-        Reading::Value(SqlType::TInt),
-        "1.5e1@2001-01-01 08:00+01",
-        "15@2001-01-01 07:00:00+00",
     ),
     (Reading::Value(SqlType::TInt), "(1@2001-01-01]", "Unsound"),
     (
@@ -295,22 +196,7 @@ static ROWS: [Row; 146] = [
     ),
     (Reading::Value(SqlType::TInt), "{}", "NotText"),
     (Reading::Value(SqlType::TInt), "1@2001-02-29", "NotText"),
-    (
-        Reading::Value(SqlType::TText),
-        "{[a b@2001-01-01, \"\\\"\"@2001-01-02], [\"\"@2001-01-03]}",
-        "{[\"a b\"@2001-01-01 00:00:00+00, \"\\\"\"@2001-01-02 00:00:00+00], [\"\"@2001-01-03 00:00:00+00]}",
-    ),
     (Reading::Value(SqlType::TText), "a", "NotText"),
-    (
-        Reading::Value(SqlType::TText),
-        "[a b @2001-01-01, \"c\\\"\\\\\"@2001-01-02]",
-        "[\"a b\"@2001-01-01 00:00:00+00, \"c\\\"\\\\\"@2001-01-02 00:00:00+00]",
-    ),
-    (
-        Reading::Value(SqlType::TText),
-        "\"ż\\\"\\\\\"@2001-01-01",
-        "\"ż\\\"\\\\\"@2001-01-01 00:00:00+00",
-    ),
     (Reading::Field(SqlType::Text), "\\N", "\\N"),
     (Reading::Field(SqlType::Text), "", ""),
     (Reading::Field(SqlType::Text), "\\a", "\\\\a"),
@@ -339,20 +225,6 @@ static ROWS: [Row; 146] = [
     (Reading::TextAt, "\"a", "none"),
     (Reading::TextAt, "\"a\\b\"", "none"),
     (Reading::TextAt, "(a", "none"),
-];
-
-// Points, spans, sets of spans, and numbers and points that change evenly.
-static LINEAR: [Row; 46] = [
-    (
-        Reading::Value(SqlType::Point),
-        " point ( 1/2  -1.50 ) ",
-        "POINT(1/2 -3/2)",
-    ),
-    (
-        Reading::Value(SqlType::Point),
-        "SRID=0;POINT(1 2)",
-        "POINT(1 2)",
-    ),
     (Reading::Value(SqlType::Point), "POINT(1)", "NotText"),
     (Reading::Value(SqlType::Point), "POINT(1 2 3)", "NotText"),
     (
@@ -377,16 +249,6 @@ static LINEAR: [Row; 46] = [
     ),
     (
         Reading::Value(SqlType::Span),
-        " [ 2001-01-01 , 2001-01-02 ) ",
-        "[2001-01-01 00:00:00+00, 2001-01-02 00:00:00+00)",
-    ),
-    (
-        Reading::Value(SqlType::Span),
-        "[2001-01-01,2001-01-01]",
-        "[2001-01-01 00:00:00+00, 2001-01-01 00:00:00+00]",
-    ),
-    (
-        Reading::Value(SqlType::Span),
         "(2001-01-01, 2001-01-01]",
         "Unsound",
     ),
@@ -406,16 +268,6 @@ static LINEAR: [Row; 46] = [
         "[2001-01-02, 2001-01-01 00:00:00.000000000000000001]",
         "TooLarge",
     ),
-    (
-        Reading::Value(SqlType::SpanSet),
-        "{[2001-01-02, 2001-01-03], [2001-01-01, 2001-01-02)}",
-        "{[2001-01-01 00:00:00+00, 2001-01-03 00:00:00+00]}",
-    ),
-    (
-        Reading::Value(SqlType::SpanSet),
-        "{(2001-01-01, 2001-01-02),(2001-01-02, 2001-01-03)}",
-        "{(2001-01-01 00:00:00+00, 2001-01-02 00:00:00+00), (2001-01-02 00:00:00+00, 2001-01-03 00:00:00+00)}",
-    ),
     (Reading::Value(SqlType::SpanSet), "{}", "NotText"),
     (
         Reading::Value(SqlType::SpanSet),
@@ -431,26 +283,6 @@ static LINEAR: [Row; 46] = [
         Reading::Value(SqlType::SpanSet),
         "{(2001-01-01, 2001-01-01], [2001-01-01 00:00:00.000000000000000001, 2001-01-02]}",
         "TooLarge",
-    ),
-    (
-        Reading::Value(SqlType::TFrac),
-        "[0@2001-01-01, 1/2@2001-01-02, 1@2001-01-03]",
-        "[0@2001-01-01 00:00:00+00, 1@2001-01-03 00:00:00+00]",
-    ),
-    (
-        Reading::Value(SqlType::TFrac),
-        "{[0@2001-01-01, 1@2001-01-02], (2@2001-01-02, 3@2001-01-03]}",
-        "{[0@2001-01-01 00:00:00+00, 1@2001-01-02 00:00:00+00], (2@2001-01-02 00:00:00+00, 3@2001-01-03 00:00:00+00]}",
-    ),
-    (
-        Reading::Value(SqlType::TFrac),
-        "[1@2001-01-01, 2@2001-01-02)",
-        "[1@2001-01-01 00:00:00+00, 2@2001-01-02 00:00:00+00)",
-    ),
-    (
-        Reading::Value(SqlType::TFrac),
-        "Interp=Step;[1@2001-01-01, 2@2001-01-02]",
-        "{[1@2001-01-01 00:00:00+00, 1@2001-01-02 00:00:00+00), [2@2001-01-02 00:00:00+00]}",
     ),
     (
         Reading::Value(SqlType::TFrac),
@@ -487,21 +319,6 @@ static LINEAR: [Row; 46] = [
         Reading::Value(SqlType::TPoint),
         "[POINT(0 0)@2001-01-01, Point(1 2)@2001-01-02, POINT(2 4)@2001-01-03]",
         "[POINT(0 0)@2001-01-01 00:00:00+00, POINT(2 4)@2001-01-03 00:00:00+00]",
-    ),
-    (
-        Reading::Value(SqlType::TPoint),
-        "[POINT(0 0)@2001-01-01, Point(1 2)@2001-01-02, POINT(2 2)@2001-01-03]",
-        "[POINT(0 0)@2001-01-01 00:00:00+00, POINT(1 2)@2001-01-02 00:00:00+00, POINT(2 2)@2001-01-03 00:00:00+00]",
-    ),
-    (
-        Reading::Value(SqlType::TPoint),
-        " interp=step ; SRID=0; SRID=0;POINT(1 2)@2001-01-01",
-        "POINT(1 2)@2001-01-01 00:00:00+00",
-    ),
-    (
-        Reading::Value(SqlType::TPoint),
-        "srid=0;Interp=Step;{[POINT(1 2)@2001-01-01, POINT(1 3)@2001-01-02]}",
-        "{[POINT(1 2)@2001-01-01 00:00:00+00, POINT(1 2)@2001-01-02 00:00:00+00), [POINT(1 3)@2001-01-02 00:00:00+00]}",
     ),
     (
         Reading::Value(SqlType::TPoint),
@@ -640,13 +457,6 @@ fn is_said(alloc: Global, row: &Row) -> bool {
 #[test]
 fn texts_are_read_and_printed(rt: HostRuntime) {
     for row in &ROWS {
-        assert!(rt; is_said(rt.alloc(), row), "{}", row.1);
-    }
-}
-
-#[test]
-fn linear_texts_are_read_and_printed(rt: HostRuntime) {
-    for row in &LINEAR {
         assert!(rt; is_said(rt.alloc(), row), "{}", row.1);
     }
 }

@@ -1,7 +1,7 @@
 use Rattle.std.proofs.Common.{◌++◌, List, Bool, [], map, drop}
 use Rattle.mob_tail.specs.Rows.{AreFirst}
 use Rattle.mob_tail.specs.Flags.{flagged}
-use Rattle.mob_tail.proofs.Seen.{texts_of}
+use Rattle.mob_tail.specs.TextsSeen.{texts_of}
 use Rattle.mob_tail.proofs.distinct.flags_of.Given as goal
 
 abbrev pub invariant-loop-row : goal.invariant-loop-row

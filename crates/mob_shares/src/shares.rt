@@ -1,0 +1,162 @@
+//! The walk over all instants that one of two temporal values has.
+
+ghost use Rattle.std.specs.Prelude.{◌≡◌, option_map};
+ghost use Rattle.mob_span.specs.Parts.{PartsAreClear};
+ghost use Rattle.mob_cuts.specs.Cuts.{wholes, head_of, left_after};
+ghost use Rattle.mob_shares.specs.Shares.{cut_of, rest_of, share_span, share_of, HoldsShare, CanShare, GivesShare, shares_left};
+
+use mob_slice::{Course, One, Pair, Part, Slice};
+use mob_span::Span;
+
+// What is left of the slices of a value: all but the first are whole.
+#[derive(Drop)]
+pub struct Rest<'a, C> {
+    slices: &'a [Slice<C>],
+    // what is left of the first, where it is not all
+    first: Option<Span>,
+}
+
+impl<'a, C> Rest<'a, C> {
+    fn new(slices: &'a [Slice<C>]) -> Self
+        ensures all { rest_of result ≡ wholes (λ s. s.span) slices.now }
+    {
+        Rest {
+            slices,
+            first: None,
+        }
+    }
+
+    // The first slice with what is left of it.
+    fn first(&self) -> Option<One<'a, C>>
+        ensures first { option_map cut_of result ≡ head_of (rest_of self.now) }
+    {
+        let Some((slice, _)) = self.slices.split_first() else {
+            return None;
+        };
+        match self.first {
+            Some(span) => Some(One { span, slice }),
+            None => Some(One {
+                span: slice.span,
+                slice,
+            }),
+        }
+    }
+
+    // What is left behind a span with which the first one begins.
+    fn after(&self, span: &Span) -> Self
+        ensures after { rest_of result ≡ left_after span.now (rest_of self.now) }
+    {
+        let Some((slice, rest)) = self.slices.split_first() else {
+            return Rest::new(self.slices);
+        };
+        let back = match self.first {
+            Some(first) => first.back(span),
+            None => slice.span.back(span),
+        };
+        match back {
+            Some(back) => Rest {
+                slices: self.slices,
+                first: Some(back),
+            },
+            None => Rest::new(rest),
+        }
+    }
+}
+
+/// A piece of time at which one of two values has a slice, or each of them.
+#[derive(Drop)]
+pub enum Share<'a, C> {
+    /// The first alone.
+    Left(One<'a, C>),
+    /// The second alone.
+    Right(One<'a, C>),
+    /// Both.
+    Both(Pair<'a, C, C>),
+}
+
+impl<'a, C: Course> Part for Share<'a, C> {
+    ghost span_of = { share_span };
+
+    ghost fits = { λ p. HoldsShare C.start_of C.end_of (share_of p) };
+
+    fn span(&self) -> &Span {
+        match self {
+            Share::Left(one) => &one.span,
+            Share::Right(one) => &one.span,
+            Share::Both(pair) => &pair.span,
+        }
+    }
+}
+
+/// The pieces of time at which one of two values has a slice, or each of them, in order of time.
+#[derive(Drop)]
+pub struct Shares<'a, C> {
+    lefts: Rest<'a, C>,
+    rights: Rest<'a, C>,
+}
+
+impl<'a, C> Shares<'a, C> {
+    /// The walk from the first piece.
+    pub fn new(lefts: &'a [Slice<C>], rights: &'a [Slice<C>]) -> Self
+        requires left_order { PartsAreClear (λ s. s.span) lefts.now }
+        requires right_order { PartsAreClear (λ s. s.span) rights.now }
+        ensures can { CanShare result }
+        ensures left { rest_of result.lefts ≡ wholes (λ s. s.span) lefts.now }
+        ensures right { rest_of result.rights ≡ wholes (λ s. s.span) rights.now }
+    {
+        Shares {
+            lefts: Rest::new(lefts),
+            rights: Rest::new(rights),
+        }
+    }
+}
+
+impl<'a, C> Iterator for Shares<'a, C> {
+    type Item = Share<'a, C>;
+
+    ghost can_next = { CanShare };
+
+    ghost next_gives = { GivesShare };
+
+    ghost remaining = { shares_left };
+
+    fn next(&mut self) -> Option<Share<'a, C>> {
+        let Some(left) = self.lefts.first() else {
+            let Some(right) = self.rights.first() else {
+                return None;
+            };
+            self.rights = self.rights.after(&right.span);
+            return Some(Share::Right(right));
+        };
+        let Some(right) = self.rights.first() else {
+            self.lefts = self.lefts.after(&left.span);
+            return Some(Share::Left(left));
+        };
+        if let Some(span) = left.span.front(&right.span) {
+            self.lefts = self.lefts.after(&span);
+            return Some(Share::Left(One {
+                span,
+                slice: left.slice,
+            }));
+        }
+        if let Some(span) = right.span.front(&left.span) {
+            self.rights = self.rights.after(&span);
+            return Some(Share::Right(One {
+                span,
+                slice: right.slice,
+            }));
+        }
+        match left.span.meet(&right.span) {
+            Some(span) => {
+                self.lefts = self.lefts.after(&span);
+                self.rights = self.rights.after(&span);
+                Some(Share::Both(Pair {
+                    span,
+                    left: left.slice,
+                    right: right.slice,
+                }))
+            }
+            None => unreachable!(),
+        }
+    }
+}

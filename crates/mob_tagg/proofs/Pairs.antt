@@ -1,0 +1,76 @@
+-- What a call on a pair says of the piece.
+use Rattle.std.specs.Prelude.{◌≡◌, Bool, true, List, [], ◌∷◌, Result, Ok}
+use Rattle.std.specs.List.{AllByRecursion}
+use Rattle.std.proofs.Common.{sym, subst}
+use Rattle.mob_ratio.specs.Ratio.{Ratio}
+use Rattle.mob_frac.specs.Formula.{AllFit}
+use Rattle.mob_span.specs.Meets.{PieceOf}
+use Rattle.mob_slice.specs.Course.{IsCourse}
+use Rattle.mob_slice.specs.Cut.{slice_parts}
+use Rattle.mob_slice.specs.Entries.{OnFormula, operator_fault}
+use Rattle.mob_slice.specs.Look.{IsLookFault}
+use Rattle.mob_slice.specs.Sides.{at_ends}
+use Rattle.mob_slice.specs.declared.slice.Slice.{Slice}
+use Rattle.mob_slice.specs.declared.part.Pair.{Pair}
+use Rattle.mob_slice.specs.declared.formula.Formula.TheVariants.{F1}
+use Rattle.mob_slice.specs.declared.formula.OpFault.{OpFault}
+use Rattle.mob_slice.specs.declared.formula.LookFault.{LookFault}
+use Rattle.mob_slice.specs.declared.formula.LookFault.TheVariants.{Passed, NoMemory}
+use Rattle.mob_slice.proofs.Cuts.{all_both, all_first, all_second}
+use Rattle.mob_sync.specs.Common.{pair_of}
+use Rattle.mob_shares.specs.Taken.{piece_parts, AreFull, IsShareGiven}
+use Rattle.mob_shares.specs.Shares.{share_of, share_span, HoldsShare}
+use Rattle.mob_shares.specs.declared.shares.Share.{Share}
+use Rattle.mob_shares.specs.declared.shares.Share.TheVariants.{Left, Right, Both}
+use Rattle.mob_shares.proofs.Together.{pair_fit}
+use Rattle.mob_shares.proofs.Walked.{AreOf}
+use Rattle.mob_cuts.specs.Cuts.{CutOf, wholes}
+use Rattle.mob_cuts.proofs.Sides.{wholes_of}
+use Rattle.mob_span.specs.Span.{has_instant}
+use Rattle.mob_span.specs.Neighbours.{is_inside}
+use Rattle.mob_span.proofs.Insides.{inside_self}
+use Rattle.mob_slice.specs.Parts.{IsPairFit}
+use Rattle.mob_slice.specs.Pieces.{AreInside}
+use Rattle.mob_slice.specs.Slices.{IsSound, IsOrdered}
+use Rattle.mob_slice.proofs.Orders.{all_sound}
+
+module _ {C : Type 0} (parts : C → Ratio → Ratio → Ratio → List Ratio) (q : PieceOf (Slice C) (Slice C)) where
+  abbrev lefts : List Ratio
+  lefts = at_ends (slice_parts parts q.left) q.span
+
+  abbrev rights : List Ratio
+  rights = at_ends (slice_parts parts q.right) q.span
+
+  pub left_unfit : (copies : Bool) (f : LookFault) → IsLookFault copies lefts f → OnFormula (λ f. (f ≡ F1) × (¬ AllFit (piece_parts parts q))) (operator_fault f)
+  left_unfit copies (Passed f) h = (h.0, λ k. h.1 (all_first lefts rights k))
+  left_unfit copies NoMemory h = tt
+
+  pub right_unfit : (copies : Bool) (f : LookFault) → IsLookFault copies rights f → OnFormula (λ f. (f ≡ F1) × (¬ AllFit (piece_parts parts q))) (operator_fault f)
+  right_unfit copies (Passed f) h = (h.0, λ k. h.1 (all_second lefts rights k))
+  right_unfit copies NoMemory h = tt
+
+  pub both_fit : AllFit lefts → AllFit rights → AllFit (piece_parts parts q)
+  both_fit h k = all_both lefts rights h k
+
+module _ {C B : Type 0} {steady copies : Bool} {value : C → Ratio → Ratio → Ratio → B} {start end : C → B} {can_make : B → B → Type 0} {make : B → B → C} {continues : C → C → Ratio → Ratio → Ratio → Bool} {parts : C → Ratio → Ratio → Ratio → List Ratio} (laws : IsCourse steady copies value start end can_make make continues parts) where
+  none_fit : (e : steady ≡ true) (s : Slice C) (t : Ratio) → AllFit (slice_parts parts s t)
+  none_fit e s t = subst AllFit (sym (laws.no_parts e s.course s.span.lower s.span.upper t)) tt
+
+  -- a course that goes by steps has no part
+  pub steady_fit : steady ≡ true → (q : PieceOf (Slice C) (Slice C)) → AllFit (piece_parts parts q)
+  steady_fit e q = both_fit parts q (all_both (slice_parts parts q.left q.span.lower) (slice_parts parts q.left q.span.upper) (none_fit e q.left q.span.lower) (none_fit e q.left q.span.upper)) (all_both (slice_parts parts q.right q.span.lower) (slice_parts parts q.right q.span.upper) (none_fit e q.right q.span.lower) (none_fit e q.right q.span.upper))
+
+-- what is given on a piece of the walk is ordered and lies in the piece
+pub share_sound : {C B V : Type 0} (value : C → Ratio → Ratio → Ratio → B) (start end : C → B) (parts : C → Ratio → Ratio → Ratio → List Ratio) (items : V → List (Slice C)) (returns : Pair C C → Result V OpFault → Type 0) (x : V)
+    → ((p : Pair C C) → has_instant p.span ≡ true → IsPairFit start end start end p → returns p (Ok x) → AreFull value start end p.span (items x) × AllFit (piece_parts parts (pair_of p)))
+    → (p : Share C) → has_instant (share_span p) ≡ true → HoldsShare start end (share_of p) → IsShareGiven value start end parts items returns p (Ok x) → IsOrdered start end (items x) × AreInside (share_span p) (items x)
+share_sound value start end parts items returns x f (Left o) i h k = (k.0.ordered, k.0.inside)
+share_sound value start end parts items returns x f (Right o) i h k = (k.0.ordered, k.0.inside)
+share_sound value start end parts items returns x f (Both p) i h k = let a = f p i (pair_fit start end p h) k in (a.0.ordered, a.0.inside)
+
+pub wholes_are : {C B : Type 0} (start end : C → B) (cs : List (CutOf (Slice C))) (v : List (Slice C)) → cs ≡ wholes (λ s. s.span) v → IsOrdered start end v → AreOf start end cs
+wholes_are {C = C} start end cs v e h = subst (AreOf start end) (sym e) (wholes_of (λ s. s.span) (IsSound start end) v (each v (all_sound start end v h)))
+  where
+    each : (v : List (Slice C)) → AllByRecursion (IsSound start end) v → AllByRecursion (λ s. IsSound start end s × (is_inside s.span s.span ≡ true)) v
+    each [] h = tt
+    each (s ∷ v) h = ((h.0, inside_self s.span), each v h.1)

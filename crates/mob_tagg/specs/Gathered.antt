@@ -1,0 +1,24 @@
+-- Values taken together two by two.
+use Rattle.std.specs.Prelude.{◌≡◌, List, [], ◌∷◌, Option, Some, None}
+use Rattle.mob_ratio.specs.Ratio.{Ratio}
+use Rattle.mob_slice.specs.Slices.{value_at}
+use Rattle.mob_slice.specs.declared.slice.Slice.{Slice}
+use Rattle.mob_tagg.specs.United.{united_by}
+use Rattle.mob_tagg.specs.declared.parts.Part.{Part}
+
+abbrev pub IsAssociative : {B : Type 0} → (B → B → B) → Type 0
+IsAssociative {B} op = (x y z : B) → op (op x y) z ≡ op x (op y z)
+
+-- all that is there, united from the front
+abbrev pub united_all : {B : Type 0} → (B → B → B) → List (Option B) → Option B
+united_all op [] = None
+united_all op (o ∷ os) = united_by op o (united_all op os)
+
+-- what the parts have at the instant t, in order
+abbrev pub parts_at : {C B : Type 0} → (C → Ratio → Ratio → Ratio → B) → List (Part C B) → Ratio → List (Option B)
+parts_at value [] t = []
+parts_at value (p ∷ ps) t = value_at value p.value t ∷ parts_at value ps t
+
+abbrev pub whole_at : {C B : Type 0} → (C → Ratio → Ratio → Ratio → B) → Option (List (Slice C)) → Ratio → Option B
+whole_at value None t = None
+whole_at value (Some v) t = value_at value v t

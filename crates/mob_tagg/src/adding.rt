@@ -1,0 +1,193 @@
+//! What is added to an aggregate over time.
+
+ghost use Rattle.std.specs.Prelude.{◌≡◌, [], ◌∷◌, IfOk, MatchResult, option_map, pos};
+ghost use Rattle.std.specs.List.{flat_map};
+ghost use Rattle.mob_ratio.specs.Ratio.{Ratio, whole};
+ghost use Rattle.mob_frac.specs.Formula.{sum_parts};
+ghost use Rattle.mob_slice.specs.Entries.{IsJudged};
+ghost use Rattle.mob_slice.specs.Operands.{steady_value};
+ghost use Rattle.mob_slice.specs.Parts.{IsPairFit};
+ghost use Rattle.mob_slice.specs.Sides.{pieces, Slices};
+ghost use Rattle.mob_slice.specs.Slices.{value_at};
+ghost use Rattle.mob_lift.specs.Given.{IsGiven, on_sides};
+ghost use Rattle.mob_arith.specs.Operations.{both_hold, one_holds};
+ghost use Rattle.mob_arith.specs.Termwise.{entries_at_ends};
+ghost use Rattle.mob_sync.specs.Common.{pair_of};
+ghost use Rattle.mob_tagg.specs.United.{AreUnited, sides_of};
+
+use crate::taking::{normal_of, together};
+use mob_arith::Summed;
+use mob_frac::Frac;
+use mob_lift::{listed, single};
+use mob_slice::{Course, Moving, OpFault, Pair, Slice, Steady, cut, operator_fault};
+use std::alloc::{AllocError, Global};
+
+// The sum on a piece that two values share.
+fn sum_on<C: Summed + Drop>(alloc: Global, pair: &Pair<'_, C, C>) -> Result<Vec<Slice<C>>, OpFault>
+where
+    C::Base: Drop,
+    requires fit { IsPairFit C.start_of C.end_of C.start_of C.end_of pair.now }
+    ensures given { IsGiven C.value_of C.start_of C.end_of (λ v. v.items) (on_sides C.value_of C.value_of C.added (sides_of (pair_of pair.now))) pair.now.span (entries_at_ends C.value_of C.parts_of C.value_of C.parts_of (λ x y. sum_parts (C.number x) (C.number y)) (sides_of (pair_of pair.now))) result }
+{
+    let left = match cut(alloc, pair.left, &pair.span) {
+        Ok(left) => left,
+        Err(fault) => return Err(operator_fault(fault)),
+    };
+    let right = match cut(alloc, pair.right, &pair.span) {
+        Ok(right) => right,
+        Err(fault) => return Err(operator_fault(fault)),
+    };
+    let from = match C::sum(left.course.start(), right.course.start()) {
+        Ok(from) => from,
+        Err(passed) => {
+            return Err(OpFault::Passed {
+                formula: passed.formula,
+            });
+        }
+    };
+    let to = match C::sum(left.course.end(), right.course.end()) {
+        Ok(to) => to,
+        Err(passed) => {
+            return Err(OpFault::Passed {
+                formula: passed.formula,
+            });
+        }
+    };
+    let _ = pair.span.lower();
+    listed(
+        alloc,
+        Slice {
+            span: pair.span,
+            course: C::of(from, to),
+        },
+    )
+}
+
+/// The sum of two values where both are defined, and the one that is where one is.
+///
+/// `Passed` names the formula of the first entry of the sum of the two that has a part that does
+/// not fit: on each piece that they share, F1 at its ends, then F2 there.
+pub fn add_in<C: Summed + Drop>(
+    alloc: Global,
+    total: &Moving<C>,
+    v: &Moving<C>,
+) -> Result<Moving<C>, OpFault>
+where
+    C::Base: Drop,
+    ensures value { IfOk result (λ r. AreUnited C.value_of C.added total.now v.now r) }
+    ensures first { IsJudged (flat_map (entries_at_ends C.value_of C.parts_of C.value_of C.parts_of (λ x y. sum_parts (C.number x) (C.number y))) (pieces (Slices total.now) (Slices v.now))) result }
+{
+    let slices = match together(
+        alloc,
+        total,
+        v,
+        |pair: &Pair<'_, C, C>| -> Result<Vec<Slice<C>>, OpFault>
+            requires fit { IsPairFit C.start_of C.end_of C.start_of C.end_of pair.now }
+            ensures given { IsGiven C.value_of C.start_of C.end_of (λ v. v.items) (on_sides C.value_of C.value_of C.added (sides_of (pair_of pair.now))) pair.now.span (entries_at_ends C.value_of C.parts_of C.value_of C.parts_of (λ x y. sum_parts (C.number x) (C.number y)) (sides_of (pair_of pair.now))) result }
+        { sum_on::<C>(alloc, pair) },
+    ) {
+        Ok(slices) => slices,
+        Err(fault) => return Err(fault),
+    };
+    normal_of(alloc, slices)
+}
+
+/// The number 1.
+pub fn one() -> Frac
+    ensures value { result ≡ whole (pos 1) }
+{
+    match Frac::new(1, 1) {
+        Ok(one) => one,
+        Err(_) => unreachable!(),
+    }
+}
+
+/// 1 where a value is defined.
+pub fn ones_of<C: Course>(alloc: Global, a: &Moving<C>) -> Result<Moving<Steady<Frac>>, AllocError>
+    ensures value { IfOk result (λ r. (t : Ratio) → value_at steady_value r t ≡ option_map (λ x. whole (pos 1)) (value_at C.value_of a.now t)) }
+{
+    let mut slices = Vec::new(alloc);
+    let given = a.slices();
+    for slice in given {
+        slices.push(Slice {
+            span: slice.span,
+            course: Steady { value: one() },
+        })?;
+    }
+    match normal_of(alloc, slices) {
+        Ok(value) => Ok(value),
+        Err(_) => Err(AllocError),
+    }
+}
+
+// The conjunction on a piece that two values share.
+fn and_on(
+    alloc: Global,
+    pair: &Pair<'_, Steady<bool>, Steady<bool>>,
+) -> Result<Vec<Slice<Steady<bool>>>, OpFault>
+    ensures one { MatchResult result (λ v. v.items ≡ record { span = pair.now.span; course = record { value = both_hold pair.now.left.now.course.value pair.now.right.now.course.value } } ∷ []) (λ e. e ≡ OpFault.NoMemory) }
+{
+    let value = pair.left.course.value && pair.right.course.value;
+    single(alloc, pair.span, value)
+}
+
+/// Whether both are true where both are defined, and the one that is where one is.
+pub fn and_in(
+    alloc: Global,
+    total: &Moving<Steady<bool>>,
+    v: &Moving<Steady<bool>>,
+) -> Result<Moving<Steady<bool>>, AllocError>
+    ensures value { IfOk result (λ r. AreUnited steady_value both_hold total.now v.now r) }
+{
+    let slices = match together(
+        alloc,
+        total,
+        v,
+        |pair: &Pair<'_, Steady<bool>, Steady<bool>>| -> Result<Vec<Slice<Steady<bool>>>, OpFault>
+            ensures one { MatchResult result (λ v. v.items ≡ record { span = pair.now.span; course = record { value = both_hold pair.now.left.now.course.value pair.now.right.now.course.value } } ∷ []) (λ e. e ≡ OpFault.NoMemory) }
+        { and_on(alloc, pair) },
+    ) {
+        Ok(slices) => slices,
+        Err(_) => return Err(AllocError),
+    };
+    match normal_of(alloc, slices) {
+        Ok(value) => Ok(value),
+        Err(_) => Err(AllocError),
+    }
+}
+
+// The disjunction on a piece that two values share.
+fn or_on(
+    alloc: Global,
+    pair: &Pair<'_, Steady<bool>, Steady<bool>>,
+) -> Result<Vec<Slice<Steady<bool>>>, OpFault>
+    ensures one { MatchResult result (λ v. v.items ≡ record { span = pair.now.span; course = record { value = one_holds pair.now.left.now.course.value pair.now.right.now.course.value } } ∷ []) (λ e. e ≡ OpFault.NoMemory) }
+{
+    let value = pair.left.course.value || pair.right.course.value;
+    single(alloc, pair.span, value)
+}
+
+/// Whether one is true where both are defined, and the one that is where one is.
+pub fn or_in(
+    alloc: Global,
+    total: &Moving<Steady<bool>>,
+    v: &Moving<Steady<bool>>,
+) -> Result<Moving<Steady<bool>>, AllocError>
+    ensures value { IfOk result (λ r. AreUnited steady_value one_holds total.now v.now r) }
+{
+    let slices = match together(
+        alloc,
+        total,
+        v,
+        |pair: &Pair<'_, Steady<bool>, Steady<bool>>| -> Result<Vec<Slice<Steady<bool>>>, OpFault>
+            ensures one { MatchResult result (λ v. v.items ≡ record { span = pair.now.span; course = record { value = one_holds pair.now.left.now.course.value pair.now.right.now.course.value } } ∷ []) (λ e. e ≡ OpFault.NoMemory) }
+        { or_on(alloc, pair) },
+    ) {
+        Ok(slices) => slices,
+        Err(_) => return Err(AllocError),
+    };
+    match normal_of(alloc, slices) {
+        Ok(value) => Ok(value),
+        Err(_) => Err(AllocError),
+    }
+}

@@ -1,0 +1,12 @@
+//! Temporal values taken together: at each instant what one of two has, or what is made of both;
+//! and many values, two by two.
+#![tactic(auto)]
+
+mod adding;
+pub mod laws;
+mod parts;
+mod taking;
+
+pub use adding::{add_in, and_in, one, ones_of, or_in};
+pub use parts::{Part, Uniting, gathered, with_value};
+pub use taking::either;

@@ -1,0 +1,72 @@
+ghost use Rattle.std.specs.Prelude.{◌≡◌, IfOk};
+ghost use Rattle.mob_ratio.specs.Ratio.{Ratio};
+ghost use Rattle.mob_slice.specs.Slices.{value_at};
+ghost use Rattle.mob_tagg.specs.United.{united_by, AreUnited};
+ghost use Rattle.mob_tagg.specs.Gathered.{IsAssociative, united_all, parts_at, whole_at};
+
+use mob_slice::{Course, Moving};
+use std::alloc::{AllocError, Global};
+
+/// An operation by which two values of a course are taken together. Of three it does not matter
+/// which two come first.
+pub trait Uniting<C: Course> {
+    ghost op: { C.Base → C.Base → C.Base };
+
+    /// The two together.
+    fn unite(alloc: Global, a: &Moving<C>, b: &Moving<C>) -> Result<Moving<C>, AllocError>
+        ensures united { IfOk result (λ r. AreUnited C.value_of op a.now b.now r) };
+
+    ghost law: { IsAssociative op };
+}
+
+/// So many values, taken together.
+#[derive(Drop)]
+pub struct Part<C: Course> {
+    count: u32,
+    value: Moving<C>,
+}
+
+/// One more value behind those of the parts: parts of as many values are taken together, so that
+/// few are left.
+pub fn with_value<C: Course + Drop, U: Uniting<C>>(
+    alloc: Global,
+    parts: Vec<Part<C>>,
+    count: u32,
+    value: Moving<C>,
+) -> Result<Vec<Part<C>>, AllocError>
+    ensures same { IfOk result (λ r. (t : Ratio) → united_all U.op (parts_at C.value_of r.items t) ≡ united_by U.op (united_all U.op (parts_at C.value_of parts.items t)) (value_at C.value_of value t)) }
+{
+    let mut parts = parts;
+    let Some(top) = parts.pop() else {
+        parts.push(Part { count, value })?;
+        return Ok(parts);
+    };
+    if top.count != count {
+        parts.push(top)?;
+        parts.push(Part { count, value })?;
+        return Ok(parts);
+    }
+    let both = U::unite(alloc, &top.value, &value)?;
+    with_value::<C, U>(alloc, parts, count.saturating_add(count), both)
+}
+
+/// All parts together. None exactly where there is none.
+pub fn gathered<C: Course + Drop, U: Uniting<C>>(
+    alloc: Global,
+    parts: Vec<Part<C>>,
+    last: Option<Moving<C>>,
+) -> Result<Option<Moving<C>>, AllocError>
+    ensures same { IfOk result (λ r. (t : Ratio) → whole_at C.value_of r t ≡ united_by U.op (united_all U.op (parts_at C.value_of parts.items t)) (whole_at C.value_of last t)) }
+{
+    let mut parts = parts;
+    let Some(top) = parts.pop() else {
+        return Ok(last);
+    };
+    match last {
+        None => gathered::<C, U>(alloc, parts, Some(top.value)),
+        Some(value) => {
+            let both = U::unite(alloc, &top.value, &value)?;
+            gathered::<C, U>(alloc, parts, Some(both))
+        }
+    }
+}

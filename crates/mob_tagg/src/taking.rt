@@ -1,0 +1,178 @@
+//! Two temporal values as one: where both are defined what a closure makes of both, else the one
+//! that is.
+
+ghost use Rattle.std.specs.Prelude.{◌≡◌, ◌≢◌, ◌⊎◌, true, [], Ok, Err, IfOk, IfErr, MatchResult};
+ghost use Rattle.std.specs.Fn.{FnReturnsAt};
+ghost use Rattle.mob_ratio.specs.Ratio.{Ratio};
+ghost use Rattle.mob_frac.specs.Formula.{AllFit};
+ghost use Rattle.mob_span.specs.Span.{has_instant};
+ghost use Rattle.mob_slice.specs.Cut.{slice_value};
+ghost use Rattle.mob_slice.specs.Entries.{OnFormula};
+ghost use Rattle.mob_slice.specs.Parts.{IsOneFit, IsPairFit};
+ghost use Rattle.mob_slice.specs.Slices.{value_at, IsOrdered};
+ghost use Rattle.mob_slice.specs.declared.formula.Formula.{Formula};
+ghost use Rattle.mob_slice.specs.declared.formula.Formula.TheVariants.{F1};
+ghost use Rattle.mob_lift.specs.Given.{IsGiven};
+ghost use Rattle.mob_sync.specs.Common.{pair_of};
+ghost use Rattle.mob_shares.specs.Shares.{share_of, HoldsShare};
+ghost use Rattle.mob_tagg.specs.United.{IsChecked};
+ghost use Rattle.mob_shares.specs.Taken.{entry_alone, IsShareGiven, piece_parts, AreFull, AreTaken, IsFirstRefused};
+
+use mob_lift::{lift, listed};
+use mob_normal::normal;
+use mob_shares::{Share, Shares};
+use mob_slice::{Course, Moving, One, OpFault, Pair, Slice, cut, operator_fault};
+use std::alloc::Global;
+
+// A slice on a piece on which it is alone.
+fn on_one<C: Course + Drop>(alloc: Global, one: &One<'_, C>) -> Result<Vec<Slice<C>>, OpFault>
+where
+    C::Base: Drop,
+    requires fit { IsOneFit C.start_of C.end_of one.now }
+    ensures given { IsGiven C.value_of C.start_of C.end_of (λ v. v.items) (slice_value C.value_of one.now.slice.now) one.now.span (entry_alone C.parts_of one.now) result }
+{
+    match cut(alloc, one.slice, &one.span) {
+        Ok(slice) => listed(alloc, slice),
+        Err(fault) => Err(operator_fault(fault)),
+    }
+}
+
+// Whether all parts of F1 of both slices fit at the ends of a piece. Courses that go by steps have
+// none.
+fn cuts_fit<C: Course + Drop>(alloc: Global, pair: &Pair<'_, C, C>) -> Result<(), OpFault>
+where
+    C::Base: Drop,
+    requires fit { IsPairFit C.start_of C.end_of C.start_of C.end_of pair.now }
+    ensures fits { MatchResult result (λ _. AllFit (piece_parts C.parts_of (pair_of pair.now))) (OnFormula (λ f. (f ≡ F1) × (¬ AllFit (piece_parts C.parts_of (pair_of pair.now))))) }
+{
+    if C::STEADY {
+        return Ok(());
+    }
+    match cut(alloc, pair.left, &pair.span) {
+        Ok(_) => {}
+        Err(fault) => return Err(operator_fault(fault)),
+    }
+    match cut(alloc, pair.right, &pair.span) {
+        Ok(_) => {}
+        Err(fault) => return Err(operator_fault(fault)),
+    }
+    Ok(())
+}
+
+// What is given on one piece of the walk.
+fn on_share<'a, C: Course + Drop, F: Fn(&Pair<'a, C, C>) -> Result<Vec<Slice<C>>, OpFault>>(
+    alloc: Global,
+    share: &Share<'a, C>,
+    both: &F,
+) -> Result<Vec<Slice<C>>, OpFault>
+where
+    C::Base: Drop,
+    requires callable { (p : _) → IsPairFit C.start_of C.end_of C.start_of C.end_of p.now → F.pre both.now p }
+    requires holds { HoldsShare C.start_of C.end_of (share_of share.now) }
+    ensures given { IsShareGiven C.value_of C.start_of C.end_of C.parts_of (λ v. v.items) (FnReturnsAt F.Fn both.now) share.now result }
+{
+    match share {
+        Share::Left(one) => on_one(alloc, one),
+        Share::Right(one) => on_one(alloc, one),
+        Share::Both(pair) => both(pair),
+    }
+}
+
+/// The slices of two values, and what `both` makes of the pieces that they share, where `both`
+/// itself judges F1 at the ends of a piece.
+pub fn together<
+    'a,
+    C: Course + Drop,
+    F: Fn(&Pair<'a, C, C>) -> Result<Vec<Slice<C>>, OpFault> + Drop,
+>(alloc: Global, a: &'a Moving<C>, b: &'a Moving<C>, both: F) -> Result<Vec<Slice<C>>, OpFault>
+where
+    C::Base: Drop,
+    requires callable { (p : _) → IsPairFit C.start_of C.end_of C.start_of C.end_of p.now → F.pre both p }
+    requires sound { (p : _) (v : _) → has_instant p.span ≡ true → IsPairFit C.start_of C.end_of C.start_of C.end_of p → FnReturnsAt F.Fn both p (Ok v) → AreFull C.value_of C.start_of C.end_of p.span v.items × AllFit (piece_parts C.parts_of (pair_of p)) }
+    requires passes { (p : _) (f : Formula) → IsPairFit C.start_of C.end_of C.start_of C.end_of p → FnReturnsAt F.Fn both p (Err (OpFault.Passed f)) → ((f ≡ F1) × (¬ AllFit (piece_parts C.parts_of (pair_of p)))) ⊎ AllFit (piece_parts C.parts_of (pair_of p)) }
+    ensures ordered { IfOk result (λ all. IsOrdered C.start_of C.end_of all.items) }
+    ensures some { IfOk result (λ all. all.items ≢ []) }
+    ensures taken { IfOk result (λ all. AreTaken C.value_of C.start_of C.end_of C.parts_of (λ v. v.items) (FnReturnsAt F.Fn both) a.now b.now all.items) }
+    ensures passed { (formula : Formula) → result ≡ Err (OpFault.Passed formula) → IsFirstRefused C.start_of C.end_of C.parts_of (FnReturnsAt F.Fn both) a.now b.now formula }
+{
+    lift(
+        alloc,
+        Shares::new(a.slices(), b.slices()),
+        |share: &Share<'_, C>| -> Result<Vec<Slice<C>>, OpFault>
+            requires callable { (p : _) → IsPairFit C.start_of C.end_of C.start_of C.end_of p.now → F.pre both p }
+            requires holds { HoldsShare C.start_of C.end_of (share_of share.now) }
+            ensures given { IsShareGiven C.value_of C.start_of C.end_of C.parts_of (λ v. v.items) (FnReturnsAt F.Fn both) share.now result }
+        { on_share(alloc, share, &both) },
+    )
+}
+
+// What `both` makes of a piece, where all parts of F1 fit at its ends.
+fn on_pair<'a, C: Course + Drop, F: Fn(&Pair<'a, C, C>) -> Result<Vec<Slice<C>>, OpFault>>(
+    alloc: Global,
+    pair: &Pair<'a, C, C>,
+    both: &F,
+) -> Result<Vec<Slice<C>>, OpFault>
+where
+    C::Base: Drop,
+    requires callable { (p : _) → IsPairFit C.start_of C.end_of C.start_of C.end_of p.now → F.pre both.now p }
+    requires fit { IsPairFit C.start_of C.end_of C.start_of C.end_of pair.now }
+    ensures checked { IsChecked C.parts_of (FnReturnsAt F.Fn both.now) pair.now result }
+{
+    match cuts_fit(alloc, pair) {
+        Ok(()) => both(pair),
+        Err(fault) => Err(fault),
+    }
+}
+
+/// Two values as one: at each instant at which both are defined what `both` makes of them, where
+/// one is, its value, and elsewhere none.
+///
+/// For each piece that the two share `both` gives ordered slices that have exactly the instants of
+/// that piece. `Passed` comes from the first shared piece on which a part of F1 of one of the two
+/// does not fit at an end, and then it is F1, or on which `both` answered it.
+pub fn either<
+    'a,
+    C: Course + Drop,
+    F: Fn(&Pair<'a, C, C>) -> Result<Vec<Slice<C>>, OpFault> + Drop,
+>(alloc: Global, a: &'a Moving<C>, b: &'a Moving<C>, both: F) -> Result<Moving<C>, OpFault>
+where
+    C::Base: Drop,
+    requires callable { (p : _) → IsPairFit C.start_of C.end_of C.start_of C.end_of p.now → F.pre both p }
+    requires sound { (p : _) (v : _) → has_instant p.span ≡ true → IsPairFit C.start_of C.end_of C.start_of C.end_of p → FnReturnsAt F.Fn both p (Ok v) → AreFull C.value_of C.start_of C.end_of p.span v.items }
+    ensures taken { IfOk result (λ r. AreTaken C.value_of C.start_of C.end_of C.parts_of (λ v. v.items) (FnReturnsAt F.Fn both) a.now b.now r) }
+    ensures passed { (formula : Formula) → result ≡ Err (OpFault.Passed formula) → IsFirstRefused C.start_of C.end_of C.parts_of (FnReturnsAt F.Fn both) a.now b.now formula }
+{
+    let slices = match together(
+        alloc,
+        a,
+        b,
+        |pair: &Pair<'_, C, C>| -> Result<Vec<Slice<C>>, OpFault>
+            requires callable { (p : _) → IsPairFit C.start_of C.end_of C.start_of C.end_of p.now → F.pre both p }
+            requires fit { IsPairFit C.start_of C.end_of C.start_of C.end_of pair.now }
+            ensures checked { IsChecked C.parts_of (FnReturnsAt F.Fn both) pair.now result }
+        { on_pair(alloc, pair, &both) },
+    ) {
+        Ok(slices) => slices,
+        Err(fault) => return Err(fault),
+    };
+    normal_of(alloc, slices)
+}
+
+// The normal value of slices of which there is one.
+pub fn normal_of<C: Course + Drop>(
+    alloc: Global,
+    slices: Vec<Slice<C>>,
+) -> Result<Moving<C>, OpFault>
+where
+    C::Base: Drop,
+    requires ordered { IsOrdered C.start_of C.end_of slices.items }
+    requires some { slices.items ≢ [] }
+    ensures same { IfOk result (λ r. (t : Ratio) → value_at C.value_of r t ≡ value_at C.value_of slices.items t) }
+    ensures memory { IfErr result (λ e. e ≡ OpFault.NoMemory) }
+{
+    match normal(alloc, slices) {
+        Ok(Some(value)) => Ok(value),
+        Ok(None) => unreachable!(),
+        Err(_) => Err(OpFault::NoMemory),
+    }
+}

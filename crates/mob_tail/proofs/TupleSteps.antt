@@ -1,0 +1,122 @@
+-- Groups with one more tuple.
+use Rattle.std.specs.Prelude.{◌≡◌, ◌<◌, ◌+◌, Bool, true, false, ℕ, zero, suc, ℤ, refl, List, [], ◌∷◌, ◌++◌, Some, None, is_none, Ok, Err, length, get_or}
+use Rattle.std.specs.List.{AllZip, AllByRecursion}
+use Rattle.std.proofs.Common.{ap, sym, ◌∙◌, subst, inl, inr, arith, take, map, ◌≤◌}
+use Rattle.std.proofs.lemmas.List.{take_more, take_all, map-append}
+use Rattle.std.proofs.lemmas.Slice.Zip.{AllZip-long}
+use Rattle.mob_typed.specs.Selects.{TypedSelectParts}
+use Rattle.mob_value.specs.declared.value.Value.{Value}
+use Rattle.mob_value.specs.declared.value.Value.TheVariants.{Null}
+use Rattle.mob_value.specs.declared.store.Store.{Store}
+use Rattle.mob_meaning.specs.Scene.{Scene, scene}
+use Rattle.mob_meaning.specs.Evaluation.{Fault}
+use Rattle.mob_eval.specs.Faults.{OnPassed}
+use Rattle.mob_eval.specs.declared.fault.EvalFault.{EvalFault}
+use Rattle.mob_eval.specs.declared.fault.EvalFault.TheVariants.{Passed, NoMemory}
+use Rattle.mob_tail.proofs.Changing.{AreChanged}
+use Rattle.mob_aggregates.specs.Rows.{AreValues, IsItem, IsTuple}
+use Rattle.mob_tail.specs.declared.grouped.Cell.{Cell}
+use Rattle.mob_tail.specs.GroupedAnswers.{Column, IsArgumentOn, IsAddingTo, IsColumnValue}
+use Rattle.mob_tail.specs.GroupSteps.{column_seen, IsColumnWith, IsCellWith, FailsInCells, first_of, IsCellOf}
+
+pub zip_more : {A B : Type 0} (R : A → B → Type 0) (xs : List A) (ys : List B) (x : A) (y : B) → AllZip R xs ys → R x y → AllZip R (xs ++ x ∷ []) (ys ++ y ∷ [])
+zip_more R [] [] x y h k = (k, tt)
+zip_more R [] (b ∷ ys) x y h k = absurd h
+zip_more R (a ∷ xs) [] x y h k = absurd h
+zip_more R (a ∷ xs) (b ∷ ys) x y h k = (h.0, zip_more R xs ys x y h.1 k)
+
+-- what holds of each of a list holds with one more
+pub each_more : {A : Type 0} (P : A → Type 0) (xs : List A) (x : A) → AllByRecursion P xs → P x → AllByRecursion P (xs ++ x ∷ [])
+each_more P [] x h k = (k, tt)
+each_more P (y ∷ xs) x h k = (h.0, each_more P xs x h.1 k)
+
+pub length_more : {A : Type 0} (xs : List A) (x : A) → length (xs ++ x ∷ []) ≡ length xs + 1
+length_more [] x = omega arith
+length_more (y ∷ xs) x = let e = length_more xs x in omega (arith, e)
+
+-- what is made of the entries up to one, and of that one
+pub map_more : {A B : Type 0} (f : A → B) (xs : List A) (i : ℕ) (x : A) → i < length xs → x ≡ get_or xs i x → map f (take i xs) ++ f x ∷ [] ≡ map f (take (i + 1) xs)
+map_more f xs i x lt is = sym (ap (map f) (take_more xs i x lt ∙ ap (λ z. take i xs ++ z ∷ []) (sym is)) ∙ map-append f (take i xs) (x ∷ []))
+
+pub got_map : {A B : Type 0} (f : A → B) (xs : List A) (i : ℕ) (x : A) (d : B) → i < length xs → x ≡ get_or xs i x → get_or (map f xs) i d ≡ f x
+got_map f [] i x d lt is = absurd (omega (arith, lt))
+got_map f (y ∷ xs) zero x d lt is = ap f (sym is)
+got_map f (y ∷ xs) (suc i) x d lt is = got_map f xs i x d (omega (arith, lt)) is
+
+-- the entries of two lists up to one, and that one
+pub zip_next : {A B C : Type 0} (R : A → B → Type 0) (Q : A → C → Type 0) (xs : List A) (ys : List B) (zs : List C) (i : ℕ) (y : B) (z : C) → AllZip R xs ys → AllZip Q (take i xs) zs → i < length ys → y ≡ get_or ys i y → ((x : A) → R x y → Q x z) → AllZip Q (take (i + 1) xs) (zs ++ z ∷ [])
+zip_next R Q xs ys zs i y z h k lt is step = subst (λ n. AllZip Q (take n xs) (zs ++ z ∷ [])) next (by xs ys zs i h k lt is)
+  where
+    next : suc i ≡ i + 1
+    next = omega arith
+
+    by : (xs : List _) (ys : List _) (zs : List _) (i : ℕ) → AllZip R xs ys → AllZip Q (take i xs) zs → i < length ys → y ≡ get_or ys i y → AllZip Q (take (suc i) xs) (zs ++ z ∷ [])
+    by [] [] zs i h k lt is = absurd (omega (arith, lt))
+    by [] (b ∷ ys) zs i h k lt is = absurd h
+    by (a ∷ xs) [] zs i h k lt is = absurd h
+    by (a ∷ xs) (b ∷ ys) [] zero h k lt is = (step a (subst (R a) (sym is) h.0), tt)
+    by (a ∷ xs) (b ∷ ys) (c ∷ zs) zero h k lt is = absurd k
+    by (a ∷ xs) (b ∷ ys) [] (suc i) h k lt is = absurd k
+    by (a ∷ xs) (b ∷ ys) (c ∷ zs) (suc i) h k lt is = (k.0, by xs ys zs i h.1 k.1 (omega (arith, lt)) is)
+
+pub zip_end : {A B C : Type 0} (R : A → B → Type 0) (Q : A → C → Type 0) (xs : List A) (ys : List B) (zs : List C) (i : ℕ) → AllZip R xs ys → AllZip Q (take i xs) zs → length ys ≤ i → AllZip Q xs zs
+zip_end R Q xs ys zs i h k le = subst (λ z. AllZip Q z zs) (take_all i xs (omega (arith, le, AllZip-long R xs ys h))) k
+
+-- what a fault says, said of more
+pub passed_weaker : (P Q : Fault → Type 0) → ((f : Fault) → P f → Q f) → (e : EvalFault) → OnPassed P e → OnPassed Q e
+passed_weaker P Q step (Passed place formula) h = step (place, formula) h
+passed_weaker P Q step NoMemory h = tt
+
+module _ (select : TypedSelectParts) (store : Store) (day : ℤ) where
+  -- a column that is no aggregate has no argument
+  abbrev nulls : List (List ℕ) → List Value
+  nulls [] = []
+  nulls (t ∷ ts) = Null ∷ nulls ts
+
+  no_arguments : (group : List (List ℕ)) (c : Column) → c.1 ≡ None → AreValues (IsArgumentOn select store day) IsAddingTo group c (nulls group)
+  no_arguments [] (e, None) n = tt
+  no_arguments (t ∷ group) (e, None) n = (refl, no_arguments group (e, None) n)
+  no_arguments group (e, Some agg) n = absurd cc
+
+  column_ok : (group : List (List ℕ)) (t : List ℕ) (c : Column) (before v : Value) (first : Bool) → first ≡ is_none (first_of group) → IsColumnWith (scene store select.from t day) c before first (Ok v) → IsColumnValue select store day group c before
+      → IsColumnValue select store day (group ++ t ∷ []) c v × IsItem (IsArgumentOn select store day) IsAddingTo group t c None
+  column_ok [] t (e, None) before v true i h k = (h, (Null, refl, ([], tt, refl)))
+  column_ok [] t (e, None) before v false i h k = absurd cc
+  column_ok (u ∷ group) t (e, None) before v true i h k = absurd cc
+  column_ok (u ∷ group) t (e, None) before v false i h k = (h ∙ k, (Null, refl, (nulls (u ∷ group), no_arguments (u ∷ group) (e, None) refl, refl)))
+  column_ok group t (e, Some agg) before v first i h k =
+      let both = h.2 k.0 k.2 in
+      ((k.0 ++ h.0 ∷ [], zip_more _ group k.0 t h.0 k.1 h.1, both.0), (h.0, h.1, (k.0, k.1, (None, both.1, refl))))
+
+  column_err : (group : List (List ℕ)) (t : List ℕ) (c : Column) (before : Value) (first : Bool) (f : Fault) → IsColumnWith (scene store select.from t day) c before first (Err f) → IsColumnValue select store day group c before → IsItem (IsArgumentOn select store day) IsAddingTo group t c (Some f)
+  column_err group t (e, None) before first f h k = absurd h
+  column_err group t (e, Some agg) before first f (inl h) k = inl h
+  column_err group t (e, Some agg) before first f (inr h) k = inr (h.0, h.1, (k.0, k.1, (Some f.1, h.3 k.0 k.2, ap (λ p. Some (p, f.1)) h.2)))
+
+  pub cells_ok : (group : List (List ℕ)) (t : List ℕ) (columns : List Column) (old new : List Cell) (first : Bool) → first ≡ is_none (first_of group) → AllZip (IsCellWith (scene store select.from t day) first) old new → AllZip (IsCellOf select store day group) columns old
+      → AllZip (IsCellOf select store day (group ++ t ∷ [])) columns new × IsTuple (IsArgumentOn select store day) IsAddingTo group t columns None
+  cells_ok group t [] [] [] first i h k = (tt, refl)
+  cells_ok group t [] [] (d ∷ new) first i h k = absurd h
+  cells_ok group t [] (c ∷ old) new first i h k = absurd k
+  cells_ok group t (column ∷ columns) [] new first i h k = absurd k
+  cells_ok group t (column ∷ columns) (c ∷ old) [] first i h k = absurd h
+  cells_ok group t (column ∷ columns) (c ∷ old) (d ∷ new) first i h k =
+      let here = column_ok group t column c.value d.value first i (subst (λ z. IsColumnWith (scene store select.from t day) z c.value first (Ok d.value)) k.0.0 h.0.value) k.0.1 in
+      let rest = cells_ok group t columns old new first i h.1 k.1 in
+      (((h.0.column ∙ k.0.0, here.0), rest.0), inr (here.1, rest.1))
+
+  pub cells_err : (group : List (List ℕ)) (t : List ℕ) (columns : List Column) (old : List Cell) (first : Bool) (f : Fault) → first ≡ is_none (first_of group) → FailsInCells (scene store select.from t day) first old f → AllZip (IsCellOf select store day group) columns old → IsTuple (IsArgumentOn select store day) IsAddingTo group t columns (Some f)
+  cells_err group t [] [] first f i h k = absurd h
+  cells_err group t [] (c ∷ old) first f i h k = absurd k
+  cells_err group t (column ∷ columns) [] first f i h k = absurd k
+  cells_err group t (column ∷ columns) (c ∷ old) first f i (inl h) k = inl (f, column_err group t column c.value first f (subst (λ z. IsColumnWith (scene store select.from t day) z c.value first (Err f)) k.0.0 h) k.0.1, refl)
+  cells_err group t (column ∷ columns) (c ∷ old) first f i (inr h) k =
+      inr ((column_ok group t column c.value h.0 first i (subst (λ z. IsColumnWith (scene store select.from t day) z c.value first (Ok h.0)) k.0.0 h.1) k.0.1).1, cells_err group t columns old first f i h.2 k.1)
+
+-- a fault in a cell behind cells that have none
+pub fails_at : (s : Scene) (first : Bool) (n : ℕ) (old now : List Cell) (c : Cell) (f : Fault) → n < length now → c ≡ get_or now n c → AreChanged (IsCellWith s first) n old now → IsColumnWith s (column_seen c.column) c.value first (Err f) → FailsInCells s first old f
+fails_at s first n [] [] c f lt is h k = absurd (omega (arith, lt))
+fails_at s first n [] (b ∷ now) c f lt is h k = absurd h
+fails_at s first n (a ∷ old) [] c f lt is h k = absurd h
+fails_at s first zero (a ∷ old) (b ∷ now) c f lt is h k = inl (subst (λ z. IsColumnWith s (column_seen z.column) z.value first (Err f)) (is ∙ h.0) k)
+fails_at s first (suc n) (a ∷ old) (b ∷ now) c f lt is h k = inr (b.value, h.0.value, fails_at s first n old now c f (omega (arith, lt)) is h.1 k)

@@ -1,0 +1,9 @@
+use Rattle.std.proofs.Common.{sym}
+use Rattle.mob_tail.proofs.Aggregating.{count_with, count_known_with}
+use Rattle.mob_tail.proofs.adding.one_more.Goals as goal
+
+pub returns-in-Some-clause-with : goal.returns-in-Some-clause-with
+returns-in-Some-clause-with c = λ ty v. count_with ty c.args.before v c.in-Some.number.now c.sum_with.result (sym c.in-Some.ensures.number) (rw c.one.ensures.value at c.sum_with.ensures.value) (rw c.one.ensures.value at c.sum_with.ensures.fits) (rw c.one.ensures.value at c.sum_with.ensures.fault)
+
+pub returns-in-Some-clause-known : goal.returns-in-Some-clause-known
+returns-in-Some-clause-known c = λ ty v u. count_known_with ty c.args.before v c.in-Some.number.now c.sum_with.result u (sym c.in-Some.ensures.number) (rw c.one.ensures.value at c.sum_with.ensures.value) (rw c.one.ensures.value at c.sum_with.ensures.fits) (rw c.one.ensures.value at c.sum_with.ensures.fault)

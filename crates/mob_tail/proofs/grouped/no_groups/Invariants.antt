@@ -1,0 +1,10 @@
+use Rattle.std.proofs.Common.{◌≡◌, length}
+use Rattle.std.specs.List.{AllByRecursion}
+use Rattle.mob_tail.specs.GroupSteps.{IsStartGroup}
+use Rattle.mob_tail.proofs.grouped.no_groups.Given as goal
+
+abbrev pub invariant-loop : goal.invariant-loop
+invariant-loop l = record {
+  start : AllByRecursion (IsStartGroup l.columns) l.groups.items;
+  count : length l.groups.items ≡ l.counter;
+}

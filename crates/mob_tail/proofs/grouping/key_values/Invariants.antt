@@ -1,0 +1,10 @@
+use Rattle.std.proofs.Common.{◌≡◌, ◌++◌, List, ℕ, map, drop}
+use Rattle.mob_typed.specs.Selects.{select_seen, key_seen}
+use Rattle.mob_tail.specs.GroupedAnswers.{keys_from}
+use Rattle.mob_tail.specs.GroupSteps.{first_of}
+use Rattle.mob_tail.proofs.grouping.key_values.Given as goal
+
+abbrev pub invariant-loop-number : goal.invariant-loop-number
+invariant-loop-number l =
+    (tuples : List (List ℕ)) → l.group.first ≡ first_of tuples
+    → l.values.items ++ keys_from (select_seen l.select) l.store l.epoch tuples (map (λ c. c.value) l.group.cells.items) l.number (map key_seen (drop l.number l.keys)) ≡ keys_from (select_seen l.select) l.store l.epoch tuples (map (λ c. c.value) l.group.cells.items) 0 (map key_seen l.keys)

@@ -1,0 +1,52 @@
+-- The groups of the tuples that a grouped query keeps.
+use Rattle.std.specs.Prelude.{not, Bool, true, false, ℕ, ℤ, List, [], ◌∷◌, map, nat_eq}
+use Rattle.std.specs.Cmp.Lexicographic.{pointwise}
+use Rattle.mob_typed.specs.Trees.{TypedTree, typed, none, more}
+use Rattle.mob_typed.specs.Selects.{TypedSelectParts}
+use Rattle.mob_value.specs.declared.value.Value.{Value}
+use Rattle.mob_value.specs.declared.value.Value.TheVariants.{Null}
+use Rattle.mob_value.specs.declared.store.Store.{Store}
+use Rattle.mob_literal.specs.Fields.{field_text}
+use Rattle.mob_meaning.specs.Scene.{Scene, scene, leaf_value}
+use Rattle.mob_groups.specs.Groups.{groups_by}
+
+-- whether a list has nothing
+abbrev pub is_bare : {X : Type 0} → List X → Bool
+is_bare [] = true
+is_bare (x ∷ xs) = false
+
+-- the value of a column on a tuple; what has operands is no column
+abbrev pub column_on : Scene → TypedTree → Value
+column_on s (typed o ty place none) = leaf_value s o ty
+column_on s (typed o ty place (more e rest)) = Null
+
+-- The printed fields of the columns of GROUP BY. Values of one column are the same exactly where
+-- their fields are, and NULL is as NULL.
+abbrev pub group_fields : TypedSelectParts → Store → ℤ → List ℕ → List (List ℕ)
+group_fields select store day tuple = map (λ g. field_text day (column_on (scene store select.from tuple day) g)) select.groups
+
+-- whether two lists of texts are the same
+abbrev pub same_texts : List (List ℕ) → List (List ℕ) → Bool
+same_texts = pointwise (pointwise nat_eq)
+
+-- whether two tuples are of one group
+abbrev pub same_group : TypedSelectParts → Store → ℤ → List ℕ → List ℕ → Bool
+same_group select store day t u = same_texts (group_fields select store day t) (group_fields select store day u)
+
+-- the tuples, each under its fields
+abbrev pub under_fields : TypedSelectParts → Store → ℤ → List (List ℕ) → List (List (List ℕ) × List ℕ)
+under_fields select store day tuples = map (λ t. (group_fields select store day t, t)) tuples
+
+-- whether a query has GROUP BY
+abbrev pub has_groups : TypedSelectParts → Bool
+has_groups select = not (is_bare select.groups)
+
+-- The groups of the tuples that are kept, in the order of their first tuple; without GROUP BY one
+-- group, also where nothing is kept.
+abbrev pub groups_on : TypedSelectParts → Store → ℤ → List (List ℕ) → List (List (List ℕ))
+groups_on select store day kept = groups_by (has_groups select) same_texts (under_fields select store day kept)
+
+-- the value of a column on the first tuple of a group, and NULL where it has none
+abbrev pub first_value : TypedSelectParts → Store → ℤ → List (List ℕ) → TypedTree → Value
+first_value select store day [] column = Null
+first_value select store day (t ∷ group) column = column_on (scene store select.from t day) column

@@ -1,0 +1,212 @@
+//! The values of the columns of the answer for each group, tuple by tuple.
+ghost use Rattle.std.specs.Prelude.{◌≡◌, Ok, Err, Some, IfOk, IfErr, MatchResult, is_none, ◌++◌, ◌∷◌, [], length};
+ghost use Rattle.std.specs.List.{AllByRecursion, AllZip};
+ghost use Rattle.mob_typed.specs.Trees.{typed_of};
+ghost use Rattle.mob_eval.specs.Views.{scene_of};
+ghost use Rattle.mob_eval.specs.Faults.{OnPassed, fault_of};
+ghost use Rattle.mob_tail.specs.Groups.{column_on};
+ghost use Rattle.mob_tail.specs.GroupSteps.{column_seen, IsAggregateOn, IsColumnWith, IsCellWith, FailsInCells, first_of, IsStart, IsStartCell, IsStartGroup};
+
+use crate::adding::{aggregate_with, nothing_yet};
+use crate::columns::{Column, argument_on, column_on};
+use mob_eval::{EvalFault, View};
+use mob_slice::OpFault;
+use mob_tuples::Tuple;
+use mob_typed::{Agg, TExpr};
+use mob_value::Value;
+use std::alloc::{AllocError, Global};
+use std::mem;
+
+/// A column of the answer with its value for one group.
+#[derive(Drop)]
+pub struct Cell<'a> {
+    pub column: Column<'a>,
+    pub value: Value,
+}
+
+/// A group as it is so far: its first tuple, if it has one, and the columns of the answer with
+/// their values.
+#[derive(Drop)]
+pub struct Group<'a> {
+    pub first: Option<Tuple>,
+    pub cells: Vec<Cell<'a>>,
+}
+
+// The fault of an aggregate, at its place.
+fn fault_at(place: u32, fault: OpFault) -> EvalFault
+    ensures same { result ≡ fault_of place fault }
+{
+    match fault {
+        OpFault::Passed { formula } => EvalFault::Passed { place, formula },
+        OpFault::NoMemory => EvalFault::NoMemory,
+    }
+}
+
+// The value of an aggregate with one more tuple.
+fn aggregate_on(
+    alloc: Global,
+    agg: Agg,
+    e: &TExpr,
+    view: &View<'_>,
+    before: Value,
+) -> Result<Value, EvalFault>
+    ensures value { IfOk result (λ v. IsAggregateOn (scene_of view.now) (typed_of e.now) agg before (Ok v)) }
+    ensures fault { IfErr result (OnPassed (λ f. IsAggregateOn (scene_of view.now) (typed_of e.now) agg before (Err f))) }
+{
+    let argument = match argument_on(alloc, agg.kind, e, view) {
+        Ok(argument) => argument,
+        Err(fault) => return Err(fault),
+    };
+    match aggregate_with(alloc, agg, before, argument.get()) {
+        Ok(value) => Ok(value),
+        Err(fault) => Err(fault_at(agg.place, fault)),
+    }
+}
+
+// The value of a column on a tuple, in memory of its own.
+fn value_on(alloc: Global, e: &TExpr, view: &View<'_>) -> Result<Value, EvalFault>
+    ensures value { MatchResult result (λ v. v ≡ column_on (scene_of view.now) (typed_of e.now)) (λ e. e ≡ EvalFault.NoMemory) }
+{
+    match column_on(alloc, e, view) {
+        Ok(held) => match held.own(alloc) {
+            Ok(value) => Ok(value),
+            Err(_) => Err(EvalFault::NoMemory),
+        },
+        Err(_) => Err(EvalFault::NoMemory),
+    }
+}
+
+// The value of a column of the answer with one more tuple, which is the first of its group or not.
+fn value_with(
+    alloc: Global,
+    column: &Column<'_>,
+    view: &View<'_>,
+    is_first: bool,
+    before: Value,
+) -> Result<Value, EvalFault>
+    ensures value { IfOk result (λ v. IsColumnWith (scene_of view.now) (column_seen column.now) before is_first (Ok v)) }
+    ensures fault { IfErr result (OnPassed (λ f. IsColumnWith (scene_of view.now) (column_seen column.now) before is_first (Err f))) }
+{
+    match column.agg {
+        Some(agg) => aggregate_on(alloc, agg, column.expression, view, before),
+        None => {
+            if is_first {
+                value_on(alloc, column.expression, view)
+            } else {
+                Ok(before)
+            }
+        }
+    }
+}
+
+// Brings one more tuple into a cell.
+fn cell_with(
+    alloc: Global,
+    cell: &mut Cell<'_>,
+    view: &View<'_>,
+    is_first: bool,
+) -> Result<(), EvalFault>
+    ensures with { IfOk result (λ _. IsCellWith (scene_of view.now) is_first cell.old cell.new) }
+    ensures fault { IfErr result (OnPassed (λ f. IsColumnWith (scene_of view.now) (column_seen cell.old.column) cell.old.value is_first (Err f))) }
+{
+    let before = mem::replace(&mut cell.value, Value::Null);
+    match value_with(alloc, &cell.column, view, is_first, before) {
+        Ok(value) => {
+            cell.value = value;
+            Ok(())
+        }
+        Err(fault) => Err(fault),
+    }
+}
+
+// Brings one more tuple into each cell, or tells the first fault.
+fn cells_with(
+    alloc: Global,
+    cells: &mut Vec<Cell<'_>>,
+    view: &View<'_>,
+    is_first: bool,
+) -> Result<(), EvalFault>
+    ensures with { IfOk result (λ _. AllZip (IsCellWith (scene_of view.now) is_first) cells.old.items cells.new.items) }
+    ensures fault { IfErr result (OnPassed (λ f. FailsInCells (scene_of view.now) is_first cells.old.items f)) }
+{
+    for number in 0..cells.len() {
+        match cell_with(alloc, &mut cells[number], view, is_first) {
+            Ok(()) => {}
+            Err(fault) => return Err(fault),
+        }
+    }
+    Ok(())
+}
+
+// The first tuple of a group with one more.
+fn first_with(first: &Option<Tuple>, tuple: &Tuple) -> Tuple
+    ensures first { (group : _) → first.now ≡ first_of group → Some result ≡ first_of (group ++ tuple.now ∷ []) }
+{
+    match first {
+        Some(first) => first.copy(),
+        None => tuple.copy(),
+    }
+}
+
+/// Brings one more tuple into a group, or tells the first fault.
+pub fn group_with(
+    alloc: Global,
+    group: &mut Group<'_>,
+    tuple: &Tuple,
+    view: &View<'_>,
+) -> Result<(), EvalFault>
+    ensures first { (tuples : _) → group.old.first ≡ first_of tuples → group.new.first ≡ first_of (tuples ++ tuple.now ∷ []) }
+    ensures with { IfOk result (λ _. AllZip (IsCellWith (scene_of view.now) (is_none group.old.first)) group.old.cells.items group.new.cells.items) }
+    ensures fault { IfErr result (OnPassed (λ f. FailsInCells (scene_of view.now) (is_none group.old.first) group.old.cells.items f)) }
+{
+    let is_first = group.first.is_none();
+    group.first = Some(first_with(&group.first, tuple));
+    cells_with(alloc, &mut group.cells, view, is_first)
+}
+
+// The value of a column for a group of no tuple.
+fn start_of(column: &Column<'_>) -> Value
+    ensures start { IsStart (column_seen column.now) result }
+{
+    match column.agg {
+        Some(agg) => nothing_yet(agg.kind),
+        None => Value::Null,
+    }
+}
+
+// The cells of a group of no tuple.
+fn no_cells<'a>(alloc: Global, columns: &[Column<'a>]) -> Result<Vec<Cell<'a>>, AllocError>
+    ensures start { IfOk result (λ cells. AllZip IsStartCell columns.now cells.items) }
+{
+    let mut cells = Vec::with_capacity(alloc, columns.len())?;
+    for column in columns {
+        cells.push(Cell {
+            column: *column,
+            value: start_of(column),
+        })?;
+    }
+    Ok(cells)
+}
+
+fn no_group<'a>(alloc: Global, columns: &[Column<'a>]) -> Result<Group<'a>, AllocError>
+    ensures start { IfOk result (λ g. IsStartGroup columns.now g) }
+{
+    let cells = no_cells(alloc, columns)?;
+    Ok(Group { first: None, cells })
+}
+
+/// So many groups of no tuple.
+pub fn no_groups<'a>(
+    alloc: Global,
+    columns: &[Column<'a>],
+    count: usize,
+) -> Result<Vec<Group<'a>>, AllocError>
+    ensures start { IfOk result (λ groups. AllByRecursion (IsStartGroup columns.now) groups.items) }
+    ensures count { IfOk result (λ groups. length groups.items ≡ count) }
+{
+    let mut groups = Vec::with_capacity(alloc, count)?;
+    for _ in 0..count {
+        groups.push(no_group(alloc, columns)?)?;
+    }
+    Ok(groups)
+}

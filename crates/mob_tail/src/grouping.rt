@@ -1,0 +1,328 @@
+//! The groups of the tuples that a grouped query keeps, and their rows.
+ghost use Rattle.std.specs.Prelude.{◌≡◌, IfOk, IfErr, Some, None, [], cond, map, length, slice_get};
+ghost use Rattle.std.specs.List.{AllZip};
+ghost use Rattle.mob_typed.specs.Trees.{typed_of};
+ghost use Rattle.mob_typed.specs.Selects.{select_seen};
+ghost use Rattle.mob_literal.specs.Fields.{field_text};
+ghost use Rattle.mob_groups.specs.Groups.{first_keys, group_number};
+ghost use Rattle.mob_eval.specs.Views.{scene_of};
+ghost use Rattle.mob_eval.specs.QueryFaults.{OnTuple};
+ghost use Rattle.mob_tail.specs.Groups.{column_on, same_texts, group_fields, has_groups, groups_on, first_value};
+ghost use Rattle.mob_value.specs.Null.{value_or_null};
+ghost use Rattle.mob_tail.specs.GroupedAnswers.{item_of, key_value, keys_from, IsGroupedFault, IsGroupRow};
+ghost use Rattle.mob_tail.specs.TextsSeen.{texts_of};
+ghost use Rattle.mob_tail.specs.GroupSteps.{first_of, IsGroupOf, AreGroupsOf, keys_on, number_on};
+
+use crate::columns::{column_on, columns_of, is_bare};
+use crate::grouped::{Cell, Group, group_with, no_groups};
+use crate::keyed::Keyed;
+use mob_eval::{QueryFault, View};
+use mob_groups::{Groups, numbered};
+use mob_list::items::Items;
+use mob_list::text::Text;
+use mob_literal::write_field;
+use mob_records::bytes_of;
+use mob_scalar::Epoch;
+use mob_tuples::Tuple;
+use mob_typed::{TExpr, TypedSelect};
+use mob_value::{Store, Value};
+use std::alloc::{AllocError, Global};
+
+// The printed field of a value.
+fn text_of(alloc: Global, value: &Value, epoch: &Epoch) -> Result<Text, AllocError>
+    ensures text { IfOk result (λ text. text ≡ field_text epoch.now value.now) }
+{
+    let mut text = String::new(alloc);
+    write_field(value, epoch, &mut text)?;
+    Ok(Text::from_string(text))
+}
+
+// The printed fields of columns on a tuple.
+fn fields_on(alloc: Global, columns: &[TExpr], view: &View<'_>) -> Result<Items<Text>, AllocError>
+    ensures fields { IfOk result (λ fields. fields ≡ map (λ g. field_text view.now.epoch.now (column_on (scene_of view.now) g)) (map typed_of columns.now)) }
+{
+    let mut fields = Vec::with_capacity(alloc, columns.len())?;
+    for column in columns {
+        let held = column_on(alloc, column, view)?;
+        fields.push(text_of(alloc, held.get(), view.epoch)?)?;
+    }
+    Ok(Items::from_vec(fields))
+}
+
+// The printed fields of the columns of GROUP BY on each tuple.
+fn keys_of(
+    alloc: Global,
+    select: &TypedSelect,
+    store: &Store,
+    kept: &[Tuple],
+    epoch: &Epoch,
+) -> Result<Vec<Items<Text>>, AllocError>
+    ensures keys { IfOk result (λ keys. keys.items ≡ map (group_fields (select_seen select.now) store.now epoch.now) kept.now) }
+{
+    let mut keys = Vec::with_capacity(alloc, kept.len())?;
+    for tuple in kept {
+        let view = View {
+            store,
+            from: select.from.as_slice(),
+            tuple: tuple.as_slice(),
+            epoch,
+        };
+        keys.push(fields_on(alloc, select.groups.as_slice(), &view)?)?;
+    }
+    Ok(keys)
+}
+
+// The texts of each key.
+fn references<'a>(alloc: Global, keys: &'a [Items<Text>]) -> Result<Vec<Vec<&'a [u8]>>, AllocError>
+    ensures same { IfOk result (λ v. map texts_of v.items ≡ keys.now) }
+{
+    let mut all = Vec::with_capacity(alloc, keys.len())?;
+    for key in keys {
+        all.push(bytes_of(alloc, key.as_slice())?)?;
+    }
+    Ok(all)
+}
+
+// The numbers of the groups of entries with these fields.
+fn numbers_of(alloc: Global, keys: &[Items<Text>]) -> Result<Groups, AllocError>
+    ensures numbers { IfOk result (λ r. r.numbers.items ≡ map (group_number same_texts keys.now) keys.now) }
+    ensures groups { IfOk result (λ r. r.groups ≡ length (first_keys same_texts keys.now)) }
+{
+    let all = references(alloc, keys)?;
+    numbered(alloc, all)
+}
+
+// How many groups there are: without GROUP BY one, also where nothing is kept.
+fn count_of(select: &TypedSelect, groups: usize) -> usize
+    ensures count { result ≡ cond (has_groups (select_seen select.now)) groups 1 }
+{
+    if is_bare(select.groups.as_slice()) {
+        1
+    } else {
+        groups
+    }
+}
+
+// Brings each tuple into its group, or tells the first fault.
+fn grouped_tuples(
+    alloc: Global,
+    select: &TypedSelect,
+    store: &Store,
+    kept: &[Tuple],
+    epoch: &Epoch,
+    numbers: &[usize],
+    groups: &mut Vec<Group<'_>>,
+) -> Result<(), QueryFault>
+    requires numbered { numbers.now ≡ map (number_on (select_seen select.now) store.now epoch.now kept.now) kept.now }
+    requires start { AreGroupsOf (select_seen select.now) store.now epoch.now (keys_on (select_seen select.now) store.now epoch.now kept.now) [] groups.old.items }
+    ensures groups { IfOk result (λ _. AreGroupsOf (select_seen select.now) store.now epoch.now (keys_on (select_seen select.now) store.now epoch.now kept.now) kept.now groups.new.items) }
+    ensures fits { IfOk result (λ _. IsGroupedFault (select_seen select.now) store.now epoch.now kept.now None) }
+    ensures fault { IfErr result (OnTuple (λ f. IsGroupedFault (select_seen select.now) store.now epoch.now kept.now (Some f))) }
+{
+    for (place, tuple) in kept.iter().enumerate() {
+        let view = View {
+            store,
+            from: select.from.as_slice(),
+            tuple: tuple.as_slice(),
+            epoch,
+        };
+        match group_with(alloc, &mut groups[numbers[place]], tuple, &view) {
+            Ok(()) => {}
+            Err(fault) => return Err(QueryFault::on(tuple, fault)),
+        }
+    }
+    Ok(())
+}
+
+// The printed values of the columns of a group.
+fn cell_fields(alloc: Global, cells: &[Cell<'_>], epoch: &Epoch) -> Result<Items<Text>, AllocError>
+    ensures fields { IfOk result (λ fields. fields ≡ map (λ c. field_text epoch.now c.value) cells.now) }
+{
+    let mut fields = Vec::with_capacity(alloc, cells.len())?;
+    for cell in cells {
+        fields.push(text_of(alloc, &cell.value, epoch)?)?;
+    }
+    Ok(Items::from_vec(fields))
+}
+
+// The number of the column that a key means.
+fn item_of(numbers: &[Option<u32>], key: usize) -> Option<u32>
+    ensures item { result ≡ item_of numbers.now key }
+{
+    match numbers.get(key) {
+        Some(number) => *number,
+        None => None,
+    }
+}
+
+// The value of the column of a number, and NULL where there is none.
+fn cell_value(alloc: Global, cells: &[Cell<'_>], number: u32) -> Result<Value, AllocError>
+    ensures value { IfOk result (λ v. v ≡ value_or_null (slice_get (map (λ c. c.value) cells.now) number)) }
+{
+    match cells.get(number as usize) {
+        Some(cell) => cell.value.copy(alloc),
+        None => Ok(Value::Null),
+    }
+}
+
+// The value of a column on the first tuple of a group, and NULL where it has none.
+fn first_value(
+    alloc: Global,
+    select: &TypedSelect,
+    store: &Store,
+    first: &Option<Tuple>,
+    e: &TExpr,
+    epoch: &Epoch,
+) -> Result<Value, AllocError>
+    ensures value { (tuples : _) → first.now ≡ first_of tuples → IfOk result (λ v. v ≡ first_value (select_seen select.now) store.now epoch.now tuples (typed_of e.now)) }
+{
+    let Some(tuple) = first else {
+        return Ok(Value::Null);
+    };
+    let view = View {
+        store,
+        from: select.from.as_slice(),
+        tuple: tuple.as_slice(),
+        epoch,
+    };
+    column_on(alloc, e, &view)?.own(alloc)
+}
+
+// The value of a key for a group.
+fn key_value(
+    alloc: Global,
+    select: &TypedSelect,
+    store: &Store,
+    group: &Group<'_>,
+    number: usize,
+    key: &TExpr,
+    epoch: &Epoch,
+) -> Result<Value, AllocError>
+    ensures value { (tuples : _) → group.now.first ≡ first_of tuples → IfOk result (λ v. v ≡ key_value (select_seen select.now) store.now epoch.now tuples (map (λ c. c.value) group.now.cells.items) (typed_of key.now) (item_of (select_seen select.now).key_items number)) }
+{
+    match item_of(select.key_items.as_slice(), number) {
+        Some(item) => cell_value(alloc, group.cells.as_slice(), item),
+        None => first_value(alloc, select, store, &group.first, key, epoch),
+    }
+}
+
+// The values of the keys for a group.
+fn key_values(
+    alloc: Global,
+    select: &TypedSelect,
+    store: &Store,
+    group: &Group<'_>,
+    epoch: &Epoch,
+) -> Result<Items<Value>, AllocError>
+    ensures values { (tuples : _) → group.now.first ≡ first_of tuples → IfOk result (λ values. values ≡ keys_from (select_seen select.now) store.now epoch.now tuples (map (λ c. c.value) group.now.cells.items) 0 (select_seen select.now).keys) }
+{
+    let keys = select.keys.as_slice();
+    let mut values = Vec::with_capacity(alloc, keys.len())?;
+    for (number, key) in keys.iter().enumerate() {
+        values.push(key_value(alloc, select, store, group, number, &key.0, epoch)?)?;
+    }
+    Ok(Items::from_vec(values))
+}
+
+// The row of a group.
+fn row_of(
+    alloc: Global,
+    select: &TypedSelect,
+    store: &Store,
+    group: &Group<'_>,
+    epoch: &Epoch,
+) -> Result<Keyed, AllocError>
+    ensures row { (tuples : _) → IsGroupOf (select_seen select.now) store.now epoch.now tuples group.now → IfOk result (λ row. IsGroupRow (select_seen select.now) store.now epoch.now tuples row) }
+{
+    let fields = cell_fields(alloc, group.cells.as_slice(), epoch)?;
+    let keys = key_values(alloc, select, store, group, epoch)?;
+    Ok(Keyed { fields, keys })
+}
+
+// The rows of groups in order.
+fn rows_of(
+    alloc: Global,
+    select: &TypedSelect,
+    store: &Store,
+    groups: &[Group<'_>],
+    epoch: &Epoch,
+) -> Result<Vec<Keyed>, AllocError>
+    ensures rows { (all : _) → AllZip (IsGroupOf (select_seen select.now) store.now epoch.now) all groups.now → IfOk result (λ rows. AllZip (IsGroupRow (select_seen select.now) store.now epoch.now) all rows.items) }
+{
+    let mut rows = Vec::with_capacity(alloc, groups.len())?;
+    for group in groups {
+        rows.push(row_of(alloc, select, store, group, epoch)?)?;
+    }
+    Ok(rows)
+}
+
+// The numbers of the groups of the tuples, and how many groups there are.
+fn groups_of(
+    alloc: Global,
+    select: &TypedSelect,
+    store: &Store,
+    kept: &[Tuple],
+    epoch: &Epoch,
+) -> Result<Groups, AllocError>
+    ensures numbers { IfOk result (λ r. r.numbers.items ≡ map (number_on (select_seen select.now) store.now epoch.now kept.now) kept.now) }
+    ensures groups { IfOk result (λ r. r.groups ≡ length (keys_on (select_seen select.now) store.now epoch.now kept.now)) }
+{
+    let keys = keys_of(alloc, select, store, kept, epoch)?;
+    let found = numbers_of(alloc, keys.as_slice())?;
+    Ok(Groups {
+        groups: count_of(select, found.groups),
+        numbers: found.numbers,
+    })
+}
+
+// The groups of no tuple yet, and the number of the group of each tuple.
+fn begun<'a>(
+    alloc: Global,
+    select: &'a TypedSelect,
+    store: &Store,
+    kept: &[Tuple],
+    epoch: &Epoch,
+) -> Result<(Vec<usize>, Vec<Group<'a>>), AllocError>
+    ensures numbers { IfOk result (λ r. r.0.items ≡ map (number_on (select_seen select.now) store.now epoch.now kept.now) kept.now) }
+    ensures groups { IfOk result (λ r. AreGroupsOf (select_seen select.now) store.now epoch.now (keys_on (select_seen select.now) store.now epoch.now kept.now) [] r.1.items) }
+{
+    let columns = columns_of(alloc, select.items.as_slice(), select.aggs.as_slice())?;
+    let found = groups_of(alloc, select, store, kept, epoch)?;
+    let groups = no_groups(alloc, columns.as_slice(), found.groups)?;
+    Ok((found.numbers, groups))
+}
+
+/// The rows of the groups of these tuples, in the order of their first tuple, or the first fault:
+/// tuple by tuple and column by column that of the argument of an aggregate, and then that of
+/// adding its value to those of the earlier tuples of its group.
+pub fn grouped_rows(
+    alloc: Global,
+    select: &TypedSelect,
+    store: &Store,
+    kept: &[Tuple],
+    epoch: &Epoch,
+) -> Result<Vec<Keyed>, QueryFault>
+    ensures rows { IfOk result (λ rows. AllZip (IsGroupRow (select_seen select.now) store.now epoch.now) (groups_on (select_seen select.now) store.now epoch.now kept.now) rows.items) }
+    ensures fits { IfOk result (λ _. IsGroupedFault (select_seen select.now) store.now epoch.now kept.now None) }
+    ensures fault { IfErr result (OnTuple (λ f. IsGroupedFault (select_seen select.now) store.now epoch.now kept.now (Some f))) }
+{
+    let Ok((numbers, mut groups)) = begun(alloc, select, store, kept, epoch) else {
+        return Err(QueryFault::NoMemory);
+    };
+    match grouped_tuples(
+        alloc,
+        select,
+        store,
+        kept,
+        epoch,
+        numbers.as_slice(),
+        &mut groups,
+    ) {
+        Ok(()) => {}
+        Err(fault) => return Err(fault),
+    }
+    match rows_of(alloc, select, store, groups.as_slice(), epoch) {
+        Ok(rows) => Ok(rows),
+        Err(_) => Err(QueryFault::NoMemory),
+    }
+}

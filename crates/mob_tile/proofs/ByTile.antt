@@ -1,0 +1,335 @@
+-- The groups of sorted pieces are the pieces tile by tile, and their values are the split.
+use Rattle.std.specs.Prelude.{Option, Some, None}
+use Rattle.std.proofs.Common.{◌≡◌, ◌≢◌, inl, inr, Bool, true, false, true≢false, List, [], ◌∷◌, ◌++◌, refl, sym, ap, subst, ◌∙◌, cond, append_assoc, append-nil}
+use Rattle.std.specs.List.{filter, AllByRecursion}
+use Rattle.std.specs.List.Sorted.{IsStableBy, ties}
+use Rattle.std.specs.Ordering.{is_lt, ordering_reverse}
+use Rattle.std.specs.declared.cmp.Ordering.TheVariants.{Less}
+use Rattle.mob_ratio.specs.Ratio.{Ratio}
+use Rattle.mob_ratio.specs.Sign.{nil}
+use Rattle.mob_span.specs.Span.{SpanOf, has}
+use Rattle.mob_span.specs.Chained.{Chained, OfHead}
+use Rattle.mob_span.proofs.Shared.{AreAllClear, all_after}
+use Rattle.mob_span.proofs.Insides.{clear_has}
+use Rattle.mob_plane.specs.declared.point.Point.{Point}
+use Rattle.mob_slice.specs.Slices.{value_at, IsOrdered, IsClearOf}
+use Rattle.mob_slice.specs.Cut.{slice_value}
+use Rattle.mob_slice.specs.Lines.{plane_value_of}
+use Rattle.mob_slice.specs.declared.slice.Slice.{Slice}
+use Rattle.mob_slice.specs.declared.line.PlaneLine.{PlaneLine}
+use Rattle.mob_slice.proofs.Orders.{ordered-clear}
+use Rattle.mob_cells.specs.Restricted.{where_wanted, kept_value}
+use Rattle.mob_tile.specs.Tiles.{GridOf, IsGrid, InTile, in_tile, tile_of, compare_tiles}
+use Rattle.mob_tile.specs.declared.tile.Tile.{Tile}
+use Rattle.mob_tile.proofs.Ranges.{tile_has, tile_is, in_tile_exact}
+use Rattle.mob_tile.specs.declared.pieces.Piece.{Piece}
+use Rattle.mob_tile.specs.Pieces.{slices_of, IsInItsTile, ArePieces}
+use Rattle.mob_tile.specs.Groups.{piece_before, same_tile, IsByTile, group_with, groups_of, IsGroup, IsPartOfGroup, IsPartPushed, AreParts, IsGrouping}
+use Rattle.mob_tile.specs.Split.{IsPart, IsSplit, HasTile}
+use Rattle.mob_tile.proofs.TileOrder as order
+use Rattle.mob_tile.proofs.TileOrder.{same_is, same_self, less_differs, less_differs_back, then_less, less_trans, ties_same, rises_sorted, tile_itself, tiles_total}
+
+abbrev tile_in : Piece → Tile
+tile_in q = q.tile
+
+-- no piece has a tile before a, and the tiles of pieces do not fall
+abbrev Leads : Tile → List Piece → Type 0
+Leads a qs = order.Leads tile_in a qs
+
+abbrev pub Rises : List Piece → Type 0
+Rises qs = order.Rises tile_in qs
+
+abbrev Value : Type 0
+Value = List (Slice PlaneLine)
+
+-- the slices of one tile
+abbrev pub of_tile : Tile → List Piece → Value
+of_tile a qs = slices_of (filter (λ q. same_tile a q.tile) qs)
+
+passes : (a : Tile) (q : Piece) (qs : List Piece) → same_tile a q.tile ≡ true → of_tile a (q ∷ qs) ≡ q.slice ∷ of_tile a qs
+passes a q qs h = rw h refl
+
+fails : (a : Tile) (q : Piece) (qs : List Piece) → same_tile a q.tile ≡ false → of_tile a (q ∷ qs) ≡ of_tile a qs
+fails a q qs h = rw h refl
+
+-- ---- the groups of a list are its slices by tile
+abbrev AreOf : (Tile → Value) → List (Tile × Value) → Type 0
+AreOf src gs = AllByRecursion (λ (g : Tile × Value). (g.1 ≡ src g.0) × (g.1 ≢ [])) gs
+
+abbrev Rise : List (Tile × Value) → Type 0
+Rise gs = Chained (λ (p : Tile × Value). Unit {0}) (λ p q. compare_tiles p.0 q.0 ≡ Less) gs
+
+none_later : (a b : Tile) (qs : List Piece) → compare_tiles a b ≡ Less → Leads b qs → of_tile a qs ≡ []
+none_later a b [] h l = refl
+none_later a b (q ∷ qs) h l = fails a q qs (less_differs a q.tile (less_trans a b q.tile h l.0)) ∙ none_later a b qs h l.1
+
+not_empty : (xs : Value) (x : Slice PlaneLine) → (xs ++ x ∷ []) ≢ []
+not_empty [] x h = absurd cc
+not_empty (y ∷ xs) x h = absurd cc
+
+-- the first group has the tile that is taken
+group_head : (P : Tile → Type 0) (a : Tile) (taken : Value) (qs : List Piece) → P a → OfHead (λ (p q : Tile × Value). P q.0) (a, taken) (group_with a taken qs)
+group_head P a taken [] p = p
+group_head P a taken (q ∷ qs) p = by (same_tile a q.tile) (group_head P a (taken ++ q.slice ∷ []) qs p)
+  where
+    retaken : (gs : List (Tile × Value)) → OfHead (λ (p q : Tile × Value). P q.0) (a, taken ++ q.slice ∷ []) gs → OfHead (λ (p q : Tile × Value). P q.0) (a, taken) gs
+    retaken [] h = tt
+    retaken (g ∷ gs) h = h
+
+    by : (b : Bool) → OfHead (λ (p q : Tile × Value). P q.0) (a, taken ++ q.slice ∷ []) (group_with a (taken ++ q.slice ∷ []) qs) → OfHead (λ (p q : Tile × Value). P q.0) (a, taken) (cond b (group_with a (taken ++ q.slice ∷ []) qs) ((a, taken) ∷ group_with q.tile (q.slice ∷ []) qs))
+    by true r = retaken (group_with a (taken ++ q.slice ∷ []) qs) r
+    by false r = p
+
+module _ (src : Tile → Value) where
+  made_of : (a : Tile) (taken : Value) (qs : List Piece) → taken ≢ [] → Leads a qs → Rises qs → src a ≡ taken ++ of_tile a qs → ((b : Tile) → compare_tiles a b ≡ Less → src b ≡ of_tile b qs) → AreOf src (group_with a taken qs)
+  made_of a taken [] some l up e f = ((sym (append-nil taken) ∙ sym e, some), tt)
+  made_of a taken (q ∷ qs) some l up e f = by (same_tile a q.tile) refl (λ e' f'. made_of a (taken ++ q.slice ∷ []) qs (not_empty taken q.slice) l.1 up.1 e' f') (λ e' f'. made_of q.tile (q.slice ∷ []) qs (λ z. absurd cc) up.0 up.1 e' f')
+    where
+      own : (c : Tile) → is_lt (compare_tiles c c) ≡ false
+      own c = ap is_lt (tile_itself c)
+
+      not_back : (c b : Tile) → compare_tiles c b ≡ Less → is_lt (compare_tiles b c) ≡ false
+      not_back c b k = ap is_lt (tiles_total.antisymm b c ∙ ap ordering_reverse k)
+
+      by : (b : Bool) → same_tile a q.tile ≡ b → (src a ≡ (taken ++ q.slice ∷ []) ++ of_tile a qs → ((b : Tile) → compare_tiles a b ≡ Less → src b ≡ of_tile b qs) → AreOf src (group_with a (taken ++ q.slice ∷ []) qs)) → (src q.tile ≡ q.slice ∷ of_tile q.tile qs → ((b : Tile) → compare_tiles q.tile b ≡ Less → src b ≡ of_tile b qs) → AreOf src (group_with q.tile (q.slice ∷ []) qs)) → AreOf src (cond b (group_with a (taken ++ q.slice ∷ []) qs) ((a, taken) ∷ group_with q.tile (q.slice ∷ []) qs))
+      by true h same other =
+          let one : a ≡ q.tile = same_is a q.tile h in
+          same (e ∙ ap (λ z. taken ++ z) (passes a q qs h) ∙ sym (append_assoc taken (q.slice ∷ []) (of_tile a qs)))
+          (λ b k. f b k ∙ fails b q qs (less_differs_back q.tile b (subst (λ z. compare_tiles z b ≡ Less) one k)))
+      by false h same other =
+          let next : compare_tiles a q.tile ≡ Less = then_less a q.tile h l.0 in
+          let none : of_tile a (q ∷ qs) ≡ [] = none_later a q.tile (q ∷ qs) next (own q.tile, up.0) in (
+            (sym (append-nil taken) ∙ ap (λ z. taken ++ z) (sym none) ∙ sym e, some),
+            other (f q.tile next ∙ passes q.tile q qs (same_self q.tile))
+                (λ b k. f b (less_trans a q.tile b next (not_back q.tile b k)) ∙ fails b q qs (less_differs_back q.tile b k)),
+          )
+
+rise_of : (a : Tile) (taken : Value) (qs : List Piece) → Leads a qs → Rises qs → Rise (group_with a taken qs)
+rise_of a taken [] l up = (tt, tt, tt)
+rise_of a taken (q ∷ qs) l up = by (same_tile a q.tile) refl (rise_of a (taken ++ q.slice ∷ []) qs l.1 up.1) (rise_of q.tile (q.slice ∷ []) qs up.0 up.1)
+  where
+    ahead : (gs : List (Tile × Value)) → OfHead (λ (p z : Tile × Value). compare_tiles a z.0 ≡ Less) (q.tile, q.slice ∷ []) gs → OfHead (λ (p z : Tile × Value). compare_tiles p.0 z.0 ≡ Less) (a, taken) gs
+    ahead [] h = tt
+    ahead (g ∷ gs) h = h
+
+    by : (b : Bool) → same_tile a q.tile ≡ b → Rise (group_with a (taken ++ q.slice ∷ []) qs) → Rise (group_with q.tile (q.slice ∷ []) qs) → Rise (cond b (group_with a (taken ++ q.slice ∷ []) qs) ((a, taken) ∷ group_with q.tile (q.slice ∷ []) qs))
+    by true h r o = r
+    by false h r o = (tt, ahead (group_with q.tile (q.slice ∷ []) qs) (group_head (λ b. compare_tiles a b ≡ Less) q.tile (q.slice ∷ []) qs (then_less a q.tile h l.0)), o)
+
+-- a tile that some piece has has a group
+abbrev IsThere : Tile → List (Tile × Value) → Type 0
+IsThere b gs = HasTile b gs
+
+own_there : (a : Tile) (taken : Value) (qs : List Piece) → IsThere a (group_with a taken qs)
+own_there a taken [] = inl refl
+own_there a taken (q ∷ qs) = by (same_tile a q.tile) (own_there a (taken ++ q.slice ∷ []) qs)
+  where
+    by : (b : Bool) → IsThere a (group_with a (taken ++ q.slice ∷ []) qs) → IsThere a (cond b (group_with a (taken ++ q.slice ∷ []) qs) ((a, taken) ∷ group_with q.tile (q.slice ∷ []) qs))
+    by true r = r
+    by false r = inl refl
+
+group_there : (b a : Tile) (taken : Value) (qs : List Piece) → of_tile b qs ≢ [] → IsThere b (group_with a taken qs)
+group_there b a taken [] some = absurd (some refl)
+group_there b a taken (q ∷ qs) some = by (same_tile b q.tile) refl (same_tile a q.tile) refl (λ k. group_there b a (taken ++ q.slice ∷ []) qs k) (λ k. group_there b q.tile (q.slice ∷ []) qs k)
+  where
+    by : (c : Bool) → same_tile b q.tile ≡ c → (d : Bool) → same_tile a q.tile ≡ d → (of_tile b qs ≢ [] → IsThere b (group_with a (taken ++ q.slice ∷ []) qs)) → (of_tile b qs ≢ [] → IsThere b (group_with q.tile (q.slice ∷ []) qs)) → IsThere b (cond d (group_with a (taken ++ q.slice ∷ []) qs) ((a, taken) ∷ group_with q.tile (q.slice ∷ []) qs))
+    by true h true k r o = subst (λ z. IsThere z (group_with a (taken ++ q.slice ∷ []) qs)) (same_is a q.tile k ∙ sym (same_is b q.tile h)) (own_there a (taken ++ q.slice ∷ []) qs)
+    by true h false k r o = inr (subst (λ z. IsThere z (group_with q.tile (q.slice ∷ []) qs)) (sym (same_is b q.tile h)) (own_there q.tile (q.slice ∷ []) qs))
+    by false h true k r o = r (λ e. some (fails b q qs h ∙ e))
+    by false h false k r o = inr (o (λ e. some (fails b q qs h ∙ e)))
+
+-- what holds of the groups of sorted pieces
+pub record AreGroups (qs : List Piece) (gs : List (Tile × Value)) : Type 0 where
+  pub rise : Rise gs
+  pub each : AllByRecursion (λ (g : Tile × Value). (g.1 ≡ of_tile g.0 qs) × (g.1 ≢ [])) gs
+  pub there : (b : Tile) → of_tile b qs ≢ [] → HasTile b gs
+
+pub groups_are : (qs : List Piece) → Rises qs → AreGroups qs (groups_of qs)
+groups_are [] up = record { rise = tt; each = tt; there = λ b some. absurd (some refl) }
+groups_are (q ∷ qs) up = record {
+  rise = rise_of q.tile (q.slice ∷ []) qs up.0 up.1;
+  each = made_of (λ b. of_tile b (q ∷ qs)) q.tile (q.slice ∷ []) qs (λ z. absurd cc) up.0 up.1 (passes q.tile q qs (same_self q.tile)) (λ b k. fails b q qs (less_differs_back q.tile b k));
+  there = λ b some. start b some (same_tile b q.tile) refl;
+}
+  where
+    start : (b : Tile) → of_tile b (q ∷ qs) ≢ [] → (c : Bool) → same_tile b q.tile ≡ c → IsThere b (group_with q.tile (q.slice ∷ []) qs)
+    start b some true h = subst (λ z. IsThere z (group_with q.tile (q.slice ∷ []) qs)) (sym (same_is b q.tile h)) (own_there q.tile (q.slice ∷ []) qs)
+    start b some false h = group_there b q.tile (q.slice ∷ []) qs (λ e. some (fails b q qs h ∙ e))
+
+-- ---- sorted or not, the slices of a tile are the same
+filter_same : (f g : Piece → Bool) → ((q : Piece) → f q ≡ g q) → (qs : List Piece) → filter f qs ≡ filter g qs
+filter_same f g e qs = ap (λ (h : Piece → Bool). filter h qs) (λ i q. e q i)
+
+abbrev some_piece : Tile → Piece
+some_piece a = record { tile = a; slice = record { span = record { lower = nil; upper = nil; lower_inc = true; upper_inc = true }; course = record { from = record { x = nil; y = nil }; to = record { x = nil; y = nil } } } }
+
+pub stays : (a : Tile) (pieces ordered : List Piece) → IsStableBy piece_before pieces ordered → of_tile a ordered ≡ of_tile a pieces
+stays a pieces ordered h =
+    let q = some_piece a in
+    let tie : (r : Piece) → same_tile a r.tile ≡ ties piece_before q r = λ r. sym (ties_same tile_in q r) in
+    ap slices_of (filter_same (λ r. same_tile a r.tile) (ties piece_before q) tie ordered ∙ h q ∙ sym (filter_same (λ r. same_tile a r.tile) (ties piece_before q) tie pieces))
+
+-- ---- in order of time
+abbrev start : PlaneLine → Point
+start c = c.from
+
+abbrev end : PlaneLine → Point
+end c = c.to
+
+filter_clear : (s : SpanOf) (a : Tile) (qs : List Piece) → AreAllClear (λ (r : Slice PlaneLine). r.span) s (slices_of qs) → AreAllClear (λ (r : Slice PlaneLine). r.span) s (of_tile a qs)
+filter_clear s a [] h = tt
+filter_clear s a (q ∷ qs) h = by (same_tile a q.tile) (filter_clear s a qs h.1)
+  where
+    by : (b : Bool) → AreAllClear (λ (r : Slice PlaneLine). r.span) s (of_tile a qs) → AreAllClear (λ (r : Slice PlaneLine). r.span) s (slices_of (cond b (q ∷ filter (λ r. same_tile a r.tile) qs) (filter (λ r. same_tile a r.tile) qs)))
+    by true r = (h.0, r)
+    by false r = r
+
+clear_head : (s : Slice PlaneLine) (v : Value) → AreAllClear (λ (r : Slice PlaneLine). r.span) s.span v → OfHead IsClearOf s v
+clear_head s [] h = tt
+clear_head s (r ∷ v) h = h.0
+
+pub of_tile_ordered : (a : Tile) (qs : List Piece) → IsOrdered start end (slices_of qs) → IsOrdered start end (of_tile a qs)
+of_tile_ordered a [] h = tt
+of_tile_ordered a (q ∷ qs) h = by (same_tile a q.tile) (of_tile_ordered a qs h.2)
+  where
+    by : (b : Bool) → IsOrdered start end (of_tile a qs) → IsOrdered start end (slices_of (cond b (q ∷ filter (λ r. same_tile a r.tile) qs) (filter (λ r. same_tile a r.tile) qs)))
+    by true r = (h.0, clear_head q.slice (of_tile a qs) (filter_clear q.slice.span a qs (all_after (λ (r : Slice PlaneLine). r.span) q.slice (slices_of qs) (ordered-clear start end (q.slice ∷ slices_of qs) h))), r)
+    by false r = r
+
+-- ---- the value in a tile
+none_past : (s : SpanOf) (v : Value) (t : Ratio) → AreAllClear (λ (r : Slice PlaneLine). r.span) s v → has s t ≡ true → value_at plane_value_of v t ≡ None
+none_past s [] t h k = refl
+none_past s (r ∷ v) t h k = rw (clear_has s r.span t h.0 k) (none_past s v t h.1 k)
+
+false_unless : (b : Bool) → (b ≡ true → ⊥) → b ≡ false
+false_unless true h = absurd (h refl)
+false_unless false h = refl
+
+abbrev at_piece : Piece → Ratio → Point
+at_piece q t = slice_value plane_value_of q.slice t
+
+module _ (g : GridOf) (ok : IsGrid g) (a : Tile) where
+  abbrev Wanted : Value → Ratio → Option Point
+  Wanted v t = where_wanted true (in_tile g a t) (value_at plane_value_of v t)
+
+  in_same : (q : Piece) (t : Ratio) → IsInItsTile g q → has q.slice.span t ≡ true → same_tile a q.tile ≡ in_tile g a t (slice_value plane_value_of q.slice t)
+  in_same q t own h = by (same_tile a q.tile) refl
+    where
+      by : (b : Bool) → same_tile a q.tile ≡ b → b ≡ in_tile g a t (at_piece q t)
+      by true e = sym ((in_tile_exact g a t (at_piece q t)).1 (subst (λ z. InTile g z t (at_piece q t)) (sym (same_is a q.tile e)) (own t h)))
+      by false e = sym (false_unless (in_tile g a t (at_piece q t)) (λ k.
+          let one : a ≡ q.tile = tile_is g a t (at_piece q t) ok ((in_tile_exact g a t (at_piece q t)).0 k) ∙ sym (tile_is g q.tile t (at_piece q t) ok (own t h)) in
+          true≢false (sym (same_self q.tile) ∙ ap (λ z. same_tile z q.tile) (sym one) ∙ e)))
+
+  pub value_in : (qs : List Piece) (t : Ratio) → IsOrdered start end (slices_of qs) → AllByRecursion (IsInItsTile g) qs → value_at plane_value_of (of_tile a qs) t ≡ Wanted (slices_of qs) t
+  value_in [] t o h = refl
+  value_in (q ∷ qs) t o h = by (value_in qs t o.2 h.1) (has q.slice.span t) refl (same_tile a q.tile) refl
+    where
+      by : value_at plane_value_of (of_tile a qs) t ≡ Wanted (slices_of qs) t → (b : Bool) → has q.slice.span t ≡ b → (c : Bool) → same_tile a q.tile ≡ c → value_at plane_value_of (slices_of (cond c (q ∷ filter (λ r. same_tile a r.tile) qs) (filter (λ r. same_tile a r.tile) qs))) t ≡ where_wanted true (in_tile g a t) (cond b (Some (at_piece q t)) (value_at plane_value_of (slices_of qs) t))
+      by later true e true k = rw e (ap (λ z. kept_value true z (at_piece q t)) (sym k ∙ in_same q t h.0 e))
+      by later true e false k =
+          let clear = all_after (λ (r : Slice PlaneLine). r.span) q.slice (slices_of qs) (ordered-clear start end (q.slice ∷ slices_of qs) o) in
+          later ∙ ap (λ z. where_wanted true (in_tile g a t) z) (none_past q.slice.span (slices_of qs) t clear e) ∙ ap (λ z. kept_value true z (at_piece q t)) (sym k ∙ in_same q t h.0 e)
+      by later false e true k = rw e later
+      by later false e false k = later
+
+-- ---- the split
+where_all : (o : Option Point) → where_wanted true (λ p. true) o ≡ o
+where_all None = refl
+where_all (Some p) = refl
+
+pub groups_fit : (g : GridOf) (a : Value) (pieces ordered : List Piece) → ArePieces g a pieces → IsByTile pieces ordered → AllByRecursion IsGroup (groups_of ordered)
+groups_fit g a pieces ordered h s = each (groups_of ordered) (groups_are ordered (rises_sorted tile_in ordered s.sorted)).each
+  where
+    each : (gs : List (Tile × Value)) → AllByRecursion (λ (z : Tile × Value). (z.1 ≡ of_tile z.0 ordered) × (z.1 ≢ [])) gs → AllByRecursion IsGroup gs
+    each [] k = tt
+    each (z ∷ gs) k = (record { some = k.0.1; ordered = subst (IsOrdered start end) (sym (k.0.0 ∙ stays z.0 pieces ordered s.stable)) (of_tile_ordered z.0 pieces h.kept.ordered) }, each gs k.1)
+
+pub split_is : (g : GridOf) (a : Value) (pieces ordered : List Piece) (parts : List (Tile × Value)) → IsGrid g → ArePieces g a pieces → IsByTile pieces ordered → AreParts (groups_of ordered) parts → IsSplit g a parts
+split_is g a pieces ordered parts ok h s m =
+    let gs = groups_are ordered (rises_sorted tile_in ordered s.sorted) in
+    record {
+      rising = rise (groups_of ordered) parts gs.rise m;
+      each = each (groups_of ordered) parts gs.each m;
+      all = λ t p e.
+          let b = tile_of g t p in
+          let there : value_at plane_value_of (of_tile b ordered) t ≡ Some p =
+          ap (λ v. value_at plane_value_of v t) (stays b pieces ordered s.stable) ∙ value t b ∙ ap (λ z. where_wanted true (in_tile g b t) z) e ∙ ap (λ z. kept_value true z p) ((in_tile_exact g b t p).1 (tile_has g t p ok)) in
+          found b (groups_of ordered) parts (gs.there b (λ z. some_there t p (of_tile b ordered) z there)) m;
+    }
+  where
+    value : (t : Ratio) (b : Tile) → value_at plane_value_of (of_tile b pieces) t ≡ where_wanted true (in_tile g b t) (value_at plane_value_of a t)
+    value t b = value_in g ok b pieces t h.kept.ordered h.tiles ∙ ap (λ z. where_wanted true (in_tile g b t) z) (h.kept.values t ∙ where_all (value_at plane_value_of a t))
+
+    some_there : (t : Ratio) (p : Point) (v : Value) → v ≡ [] → value_at plane_value_of v t ≡ Some p → ⊥
+    some_there t p v z e = absurd (let k : None ≡ Some p = ap (λ v. value_at plane_value_of v t) (sym z) ∙ e in cc k)
+
+    head : (x y : Tile × Value) (gs ps : List (Tile × Value)) → y.0 ≡ x.0 → OfHead (λ (p q : Tile × Value). compare_tiles p.0 q.0 ≡ Less) x gs → AreParts gs ps → OfHead (λ (p q : Tile × Value). compare_tiles p.0 q.0 ≡ Less) y ps
+    head x y [] [] e o m = tt
+    head x y (z ∷ gs) (w ∷ ps) e o m = ap (λ u. compare_tiles u w.0) e ∙ ap (λ u. compare_tiles x.0 u) m.0.tile ∙ o
+    head x y [] (w ∷ ps) e o m = absurd m
+    head x y (z ∷ gs) [] e o m = absurd m
+
+    rise : (gs ps : List (Tile × Value)) → Rise gs → AreParts gs ps → Rise ps
+    rise [] [] r m = tt
+    rise (z ∷ gs) (w ∷ ps) r m = (tt, head z w gs ps m.0.tile r.1 m.1, rise gs ps r.2 m.1)
+    rise [] (w ∷ ps) r m = absurd m
+    rise (z ∷ gs) [] r m = absurd m
+
+    each : (gs ps : List (Tile × Value)) → AllByRecursion (λ (z : Tile × Value). (z.1 ≡ of_tile z.0 ordered) × (z.1 ≢ [])) gs → AreParts gs ps → AllByRecursion (λ p. IsPart g a p.0 p.1) ps
+    each [] [] k m = tt
+    each (z ∷ gs) (w ∷ ps) k m = (
+      record {
+        normal = m.0.normal;
+        same = λ t. m.0.same t ∙ ap (λ v. value_at plane_value_of v t) (k.0.0 ∙ stays z.0 pieces ordered s.stable) ∙ value t z.0 ∙ ap (λ b. where_wanted true (in_tile g b t) (value_at plane_value_of a t)) (sym m.0.tile);
+      },
+      each gs ps k.1 m.1,
+    )
+    each [] (w ∷ ps) k m = absurd m
+    each (z ∷ gs) [] k m = absurd m
+
+    found : (b : Tile) (gs ps : List (Tile × Value)) → HasTile b gs → AreParts gs ps → HasTile b ps
+    found b [] ps y m = absurd y
+    found b (z ∷ gs) [] y m = absurd m
+    found b (z ∷ gs) (w ∷ ps) y m = elim y [ inl e ↦ inl (m.0.tile ∙ e) | inr k ↦ inr (found b gs ps k m.1) ]
+
+-- ---- the loop over sorted pieces
+pub grouping_start : (q : Piece) (rest : List Piece) → IsGrouping (q ∷ rest) rest q.tile (q.slice ∷ []) []
+grouping_start q rest = record { done = []; made = refl; are = tt }
+
+pub grouping_same : (all rest later : List Piece) (q : Piece) (a : Tile) (taken taken' : Value) (parts : List (Tile × Value)) → rest ≡ q ∷ later → same_tile a q.tile ≡ true → taken' ≡ taken ++ q.slice ∷ [] → IsGrouping all rest a taken parts → IsGrouping all later a taken' parts
+grouping_same all rest later q a taken taken' parts e h n m = record {
+  done = m.done;
+  made = ap (λ z. m.done ++ group_with a z later) n ∙ ap (λ b. m.done ++ cond b (group_with a (taken ++ q.slice ∷ []) later) ((a, taken) ∷ group_with q.tile (q.slice ∷ []) later)) (sym h) ∙ ap (λ z. m.done ++ group_with a taken z) (sym e) ∙ m.made;
+  are = m.are;
+}
+
+snoc_parts : (gs ps : List (Tile × Value)) (x p : Tile × Value) → AreParts gs ps → IsPartOfGroup x p → AreParts (gs ++ x ∷ []) (ps ++ p ∷ [])
+snoc_parts [] [] x p m o = (o, tt)
+snoc_parts (z ∷ gs) (w ∷ ps) x p m o = (m.0, snoc_parts gs ps x p m.1 o)
+snoc_parts [] (w ∷ ps) x p m o = absurd m
+snoc_parts (z ∷ gs) [] x p m o = absurd m
+
+pub grouping_next : (all rest later : List Piece) (q : Piece) (a : Tile) (taken : Value) (parts parts' : List (Tile × Value)) → rest ≡ q ∷ later → same_tile a q.tile ≡ false → IsPartPushed (a, taken) parts parts' → IsGrouping all rest a taken parts → IsGrouping all later q.tile (q.slice ∷ []) parts'
+grouping_next all rest later q a taken parts parts' e h n m = record {
+  done = m.done ++ (a, taken) ∷ [];
+  made = append_assoc m.done ((a, taken) ∷ []) (group_with q.tile (q.slice ∷ []) later) ∙ ap (λ b. m.done ++ cond b (group_with a (taken ++ q.slice ∷ []) later) ((a, taken) ∷ group_with q.tile (q.slice ∷ []) later)) (sym h) ∙ ap (λ z. m.done ++ group_with a taken z) (sym e) ∙ m.made;
+  are = subst (AreParts (m.done ++ (a, taken) ∷ [])) (sym n.is) (snoc_parts m.done parts (a, taken) n.part m.are n.of);
+}
+
+one_in : (gs later : List (Tile × Value)) (x : Tile × Value) → AllByRecursion IsGroup (gs ++ x ∷ later) → IsGroup x
+one_in [] later x h = h.0
+one_in (z ∷ gs) later x h = one_in gs later x h.1
+
+-- what is taken before another tile, and at the end, is a group
+pub group_taken : (all rest later : List Piece) (q : Piece) (a : Tile) (taken : Value) (parts : List (Tile × Value)) → rest ≡ q ∷ later → same_tile a q.tile ≡ false → IsGrouping all rest a taken parts → AllByRecursion IsGroup (groups_of all) → IsGroup (a, taken)
+group_taken all rest later q a taken parts e h m k =
+    let made : m.done ++ (a, taken) ∷ group_with q.tile (q.slice ∷ []) later ≡ groups_of all = ap (λ b. m.done ++ cond b (group_with a (taken ++ q.slice ∷ []) later) ((a, taken) ∷ group_with q.tile (q.slice ∷ []) later)) (sym h) ∙ ap (λ z. m.done ++ group_with a taken z) (sym e) ∙ m.made in
+    one_in m.done (group_with q.tile (q.slice ∷ []) later) (a, taken) (subst (AllByRecursion IsGroup) (sym made) k)
+
+pub group_last : (all rest : List Piece) (a : Tile) (taken : Value) (parts : List (Tile × Value)) → rest ≡ [] → IsGrouping all rest a taken parts → AllByRecursion IsGroup (groups_of all) → IsGroup (a, taken)
+group_last all rest a taken parts e m k = one_in m.done [] (a, taken) (subst (AllByRecursion IsGroup) (sym (ap (λ z. m.done ++ group_with a taken z) (sym e) ∙ m.made)) k)
+
+pub grouping_end : (all rest : List Piece) (a : Tile) (taken : Value) (parts parts' : List (Tile × Value)) → rest ≡ [] → IsPartPushed (a, taken) parts parts' → IsGrouping all rest a taken parts → AreParts (groups_of all) parts'
+grouping_end all rest a taken parts parts' e n m =
+    subst (λ z. AreParts z parts') (ap (λ z. m.done ++ group_with a taken z) (sym e) ∙ m.made) (subst (AreParts (m.done ++ (a, taken) ∷ [])) (sym n.is) (snoc_parts m.done parts (a, taken) n.part m.are n.of))

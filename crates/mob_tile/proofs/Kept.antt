@@ -1,0 +1,185 @@
+-- The pieces of a slice on its cells, and of all slices.
+use Rattle.std.proofs.Common.{◌≡◌, ◌⊎◌, inl, inr, true, List, [], ◌∷◌, ◌++◌, refl, sym, ap, subst, ◌∙◌, cond, Some, None, Result, Ok, Err}
+use Rattle.std.specs.Prelude.{MatchResult}
+use Rattle.std.specs.List.{AllByRecursion, flat_map}
+use Rattle.mob_ratio.specs.Ratio.{Ratio}
+use Rattle.mob_frac.specs.Formula.{AllFit}
+use Rattle.mob_span.specs.Span.{SpanOf, has}
+use Rattle.mob_span.specs.Neighbours.{is_inside}
+use Rattle.mob_span.proofs.Insides.{inside_self}
+use Rattle.mob_plane.specs.declared.point.Point.{Point}
+use Rattle.mob_slice.specs.Slices.{IsOrdered}
+use Rattle.mob_slice.specs.Cut.{slice_value, slice_parts}
+use Rattle.mob_slice.specs.Sides.{HasValues, at_ends}
+use Rattle.mob_slice.specs.Lines.{plane_value_of, plane_parts_of}
+use Rattle.mob_slice.specs.PlaneLaws.{plane_laws}
+use Rattle.mob_slice.specs.Entries.{Entry, IsFirst, OnFormula}
+use Rattle.mob_slice.specs.declared.slice.Slice.{Slice}
+use Rattle.mob_slice.specs.declared.line.PlaneLine.{PlaneLine}
+use Rattle.mob_slice.specs.declared.formula.OpFault.{OpFault}
+use Rattle.mob_slice.specs.declared.formula.OpFault.TheVariants.{Passed, NoMemory}
+use Rattle.mob_slice.proofs.Cuts.{all_both, all_first, all_second}
+use Rattle.mob_list.proofs.Each.{each_both}
+use Rattle.mob_cells.specs.Cells.{IsIn, IsCut, IsSomeEnd}
+use Rattle.mob_cells.specs.Kept.{AreKeptOn, IsCellFault}
+use Rattle.mob_cells.proofs.Making.{are_cells}
+use Rattle.mob_cells.proofs.Restricting.{IsMade, made_step, made_end, kept_fault}
+use Rattle.mob_cells.proofs.BySlices.{IsLeft, left_step, left_end, IsFitting, fitting_start, fitting_step, fitting_fails, fitting_end}
+use Rattle.mob_clip.specs.Sides.{IsPartFault}
+use Rattle.mob_tile.specs.Tiles.{GridOf, InTile, tile_of}
+use Rattle.mob_tile.specs.declared.tile.Tile.{Tile}
+use Rattle.mob_tile.specs.declared.tile.TileRange.{TileRange}
+use Rattle.mob_tile.specs.declared.pieces.Piece.{Piece}
+use Rattle.mob_tile.specs.Edges.{cuts_of, entry_of_values, entries_of_slice}
+use Rattle.mob_tile.specs.Pieces.{slices_of, IsInItsTile, HasOneTile, tile_on, least_of, AreTileCells, ArePiecesOf, ArePieces, IsPushed, Reaches}
+
+abbrev start : PlaneLine → Point
+start c = c.from
+
+abbrev end : PlaneLine → Point
+end c = c.to
+
+-- ---- one piece
+-- a part with the values of the slice on a cell lies in the tile of the cell
+pub in_its_tile : (g : GridOf) (s : Slice PlaneLine) (c : SpanOf) (part : Slice PlaneLine) (tile : Tile) → HasValues plane_value_of start end (slice_value plane_value_of s) c part → HasOneTile g s c → tile ≡ tile_of g c.lower (least_of part.course.from part.course.to) → IsInItsTile g (record { tile = tile; slice = part })
+in_its_tile g s c part tile h one e t i =
+    let j : has c t ≡ true = subst (λ z. has z t ≡ true) h.on i in
+    let same : tile ≡ tile_on g s c = e ∙ (λ k. tile_of g c.lower (least_of (h.from k) (h.to k))) in
+    subst (λ z. InTile g z t (slice_value plane_value_of part t)) (sym same) (subst (λ z. InTile g (tile_on g s c) t z) (sym (h.same t j)) (one t j))
+
+gives_one : (s : Slice PlaneLine) (c : SpanOf) (p : Slice PlaneLine) → HasValues plane_value_of start end (slice_value plane_value_of s) c p → AreKeptOn plane_value_of start end (λ t. Some (slice_value plane_value_of s t)) c (p ∷ [])
+gives_one s c p h = record {
+  ordered = (h.sound, tt, tt);
+  inside = (rw h.on (inside_self c), tt);
+  values = λ t i. subst (λ z. cond (has z t) (Some (slice_value plane_value_of p t)) None ≡ Some (slice_value plane_value_of s t)) (sym h.on) (rw i (ap Some (h.same t i)));
+}
+
+slices_both : (ps qs : List Piece) → slices_of (ps ++ qs) ≡ slices_of ps ++ slices_of qs
+slices_both [] qs = refl
+slices_both (p ∷ ps) qs = ap (λ z. p.slice ∷ z) (slices_both ps qs)
+
+-- ---- the formulas at the cuts
+module _ (s : Slice PlaneLine) where
+  abbrev parts : Ratio → List Ratio
+  parts = slice_parts plane_parts_of s
+
+  abbrev pub EndsFit : SpanOf → Type 0
+  EndsFit c = AllFit (at_ends parts c)
+
+  low_fits : AllFit (parts s.span.lower)
+  low_fits = subst AllFit (sym (plane_laws.lower_parts s.course s.span.lower s.span.upper)) tt
+
+  high_fits : AllFit (parts s.span.upper)
+  high_fits = subst AllFit (sym (plane_laws.upper_parts s.course s.span.lower s.span.upper)) tt
+
+  in_fits : (t : Ratio) (rs : List Ratio) → AllFit (flat_map parts rs) → IsIn t rs → AllFit (parts t)
+  in_fits t [] h i = absurd i
+  in_fits t (r ∷ rs) h i = elim i [ inl e ↦ subst (λ z. AllFit (parts z)) (sym e) (all_first (parts r) (flat_map parts rs) h) | inr k ↦ in_fits t rs (all_second (parts r) (flat_map parts rs) h) k ]
+
+  cut_fits : (rs : List Ratio) (t : Ratio) → AllFit (flat_map parts rs) → IsCut s.span rs t → AllFit (parts t)
+  cut_fits rs t h i = elim i [ inl e ↦ subst (λ z. AllFit (parts z)) (sym e) low_fits | inr k ↦ elim k [ inl e ↦ subst (λ z. AllFit (parts z)) (sym e) high_fits | inr j ↦ in_fits t rs h j ] ]
+
+  cells_fit : (rs : List Ratio) (cells : List SpanOf) → AllFit (flat_map parts rs) → AllByRecursion (λ c. IsCut s.span rs c.lower × IsCut s.span rs c.upper) cells → AllByRecursion EndsFit cells
+  cells_fit rs [] h k = tt
+  cells_fit rs (c ∷ cells) h k = (all_both (parts c.lower) (parts c.upper) (cut_fits rs c.lower h k.0.0) (cut_fits rs c.upper h k.0.1), cells_fit rs cells h k.1)
+
+  end_fits : (r : Ratio) (cells : List SpanOf) → AllByRecursion EndsFit cells → IsSomeEnd r cells → AllFit (parts r)
+  end_fits r [] h i = absurd i
+  end_fits r (c ∷ cells) h i = elim i [
+    | inl k ↦ elim k [ inl e ↦ subst (λ z. AllFit (parts z)) e (all_first (parts c.lower) (parts c.upper) h.0) | inr e ↦ subst (λ z. AllFit (parts z)) e (all_second (parts c.lower) (parts c.upper) h.0) ]
+    | inr k ↦ end_fits r cells h.1 k
+  ]
+
+  cuts_fit : (rs : List Ratio) (cells : List SpanOf) → AllByRecursion EndsFit cells → AllByRecursion (λ r. (r ≡ s.span.lower) ⊎ ((r ≡ s.span.upper) ⊎ IsSomeEnd r cells)) rs → AllFit (flat_map parts rs)
+  cuts_fit [] cells h k = tt
+  cuts_fit (r ∷ rs) cells h k = all_both (parts r) (flat_map parts rs) (elim k.0 [
+    | inl e ↦ subst (λ z. AllFit (parts z)) (sym e) low_fits
+    | inr j ↦ elim j [ inl e ↦ subst (λ z. AllFit (parts z)) (sym e) high_fits | inr i ↦ end_fits r cells h i ]
+  ]) (cuts_fit rs cells h k.1)
+
+-- ---- the loop over cells
+-- what the rest of the cells gives, behind what is there, is all; each piece is in its tile; and all cells fit where the rest does
+pub record IsPiecing (g : GridOf) (s : Slice PlaneLine) (cells rest : List SpanOf) (out : List Piece) : Type 0 where
+  pub made : IsMade plane_value_of (λ (c : PlaneLine). c.from) (λ c. c.to) (λ t. Some (slice_value plane_value_of s t)) cells rest (slices_of out)
+  pub tiles : AllByRecursion (IsInItsTile g) out
+  pub fits : AllByRecursion (EndsFit s) rest → AllByRecursion (EndsFit s) cells
+  pub fail : AllByRecursion (EndsFit s) cells → AllByRecursion (EndsFit s) rest
+  pub one : AllByRecursion (HasOneTile g s) rest
+  pub inside : AllByRecursion (λ c. is_inside s.span c ≡ true) rest
+
+module _ (g : GridOf) (s : Slice PlaneLine) where
+  pub piecing_start : (cells : List SpanOf) → AreTileCells g s (cuts_of g s) cells → IsPiecing g s cells cells []
+  piecing_start cells h = record { made = λ v k. k; tiles = tt; fits = λ k. k; fail = λ k. k; one = h.tiles; inside = (are_cells s.span cells h.split).inside }
+
+  pub piecing_one : (cells rest later : List SpanOf) (c : SpanOf) (out : List Piece) → rest ≡ c ∷ later → IsPiecing g s cells rest out → HasOneTile g s c
+  piecing_one cells rest later c out e m = (subst (AllByRecursion (HasOneTile g s)) e m.one).0
+
+  pub piecing_inside : (cells rest later : List SpanOf) (c : SpanOf) (out : List Piece) → rest ≡ c ∷ later → IsPiecing g s cells rest out → is_inside s.span c ≡ true
+  piecing_inside cells rest later c out e m = (subst (AllByRecursion (λ c. is_inside s.span c ≡ true)) e m.inside).0
+
+  pub piecing_step : (cells rest later : List SpanOf) (c : SpanOf) (out out' : List Piece) → rest ≡ c ∷ later → IsPushed g s c out out' → EndsFit s c → IsPiecing g s cells rest out → IsPiecing g s cells later out'
+  piecing_step cells rest later c out out' e n f m = record {
+    made = made_step plane_value_of start end (λ t. Some (slice_value plane_value_of s t)) cells rest later (slices_of out) (slices_of out') (n.piece.slice ∷ []) c e (ap slices_of n.is ∙ slices_both out (n.piece ∷ [])) (gives_one s c n.piece.slice n.values) m.made;
+    tiles = subst (AllByRecursion (IsInItsTile g)) (sym n.is) (each_both (IsInItsTile g) out (n.piece ∷ []) m.tiles (n.tile, tt));
+    fits = λ k. m.fits (subst (AllByRecursion (EndsFit s)) (sym e) (f, k));
+    fail = λ k. (subst (AllByRecursion (EndsFit s)) e (m.fail k)).1;
+    one = (subst (AllByRecursion (HasOneTile g s)) e m.one).1;
+    inside = (subst (AllByRecursion (λ c. is_inside s.span c ≡ true)) e m.inside).1;
+  }
+
+  pub piecing_fails : (cells rest later : List SpanOf) (c : SpanOf) (out : List Piece) (f : OpFault) → rest ≡ c ∷ later → IsCellFault (at_ends (slice_parts plane_parts_of s) c) f → AreTileCells g s (cuts_of g s) cells → IsPiecing g s cells rest out → OnFormula (λ z. IsFirst (entry_of_values g s ∷ []) (Some z)) f
+  piecing_fails cells rest later c out f e h k m =
+      kept_fault (at_ends (slice_parts plane_parts_of s) c) (flat_map (slice_parts plane_parts_of s) (cuts_of g s)) f h (λ n z. n (subst (AllByRecursion (EndsFit s)) e (m.fail (cells_fit s (cuts_of g s) cells z k.cut.only))).0)
+
+  pub piecing_end : (cells rest : List SpanOf) (out : List Piece) → rest ≡ [] → AreTileCells g s (cuts_of g s) cells → IsPiecing g s cells rest out → ArePiecesOf g s out × IsFirst (entry_of_values g s ∷ []) None
+  piecing_end cells rest out e k m = (
+    record {
+      kept = made_end plane_value_of start end (λ t. Some (slice_value plane_value_of s t)) s.span cells rest (slices_of out) e (are_cells s.span cells k.split) m.made;
+      tiles = m.tiles;
+    },
+    inl (cuts_fit s (cuts_of g s) cells (m.fits (rw e tt)) k.cut.each, refl),
+  )
+
+-- ---- the entries of a slice, one after another
+pub fail_first : (e : Entry) (entries : List Entry) (f : OpFault) → IsPartFault e.formula e.parts f → OnFormula (λ z. IsFirst (e ∷ entries) (Some z)) f
+fail_first e entries (Passed z) h = inr (h.1, ap Some h.0)
+fail_first e entries NoMemory h = tt
+
+pub pass_on : (e : Entry) (entries : List Entry) (f : OpFault) → AllFit e.parts → OnFormula (λ z. IsFirst entries (Some z)) f → OnFormula (λ z. IsFirst (e ∷ entries) (Some z)) f
+pass_on e entries (Passed z) a h = inl (a, h)
+pass_on e entries NoMemory a h = tt
+
+pub fits_on : {V : Type 0} (Q : V → Type 0) (e : Entry) (entries : List Entry) (r : Result V OpFault) → AllFit e.parts → MatchResult r (λ v. Q v × IsFirst entries None) (OnFormula (λ z. IsFirst entries (Some z))) → MatchResult r (λ v. Q v × IsFirst (e ∷ entries) None) (OnFormula (λ z. IsFirst (e ∷ entries) (Some z)))
+fits_on Q e entries (Ok v) a h = (h.0, inl (a, h.1))
+fits_on Q e entries (Err f) a h = pass_on e entries f a h
+
+-- ---- the loop over slices
+pub record IsGathering (g : GridOf) (range : TileRange) (all rest : List (Slice PlaneLine)) (out : List Piece) : Type 0 where
+  pub made : IsLeft plane_value_of (λ (c : PlaneLine). c.from) (λ c. c.to) true (λ t p. true) all rest (slices_of out)
+  pub fits : IsFitting (entries_of_slice g) all rest
+  pub tiles : AllByRecursion (IsInItsTile g) out
+  pub reach : AllByRecursion (Reaches g range) rest
+
+module _ (g : GridOf) (range : TileRange) (all : List (Slice PlaneLine)) where
+  pub gathering_start : AllByRecursion (Reaches g range) all → IsGathering g range all all []
+  gathering_start h = record { made = λ v k. k; fits = fitting_start (entries_of_slice g) all; tiles = tt; reach = h }
+
+  pub gathering_reach : (rest later : List (Slice PlaneLine)) (s : Slice PlaneLine) (out : List Piece) → rest ≡ s ∷ later → IsGathering g range all rest out → Reaches g range s
+  gathering_reach rest later s out e m = (subst (AllByRecursion (Reaches g range)) e m.reach).0
+
+  pub gathering_step : (rest later : List (Slice PlaneLine)) (s : Slice PlaneLine) (out out' more : List Piece) → rest ≡ s ∷ later → out' ≡ out ++ more → ArePiecesOf g s more → IsFirst (entries_of_slice g s) None → IsGathering g range all rest out → IsGathering g range all later out'
+  gathering_step rest later s out out' more e n h f m = record {
+    made = left_step plane_value_of start end true (λ t p. true) all rest later (slices_of out) (slices_of out') (slices_of more) s e (ap slices_of n ∙ slices_both out more) h.kept m.made;
+    fits = fitting_step (entries_of_slice g) all rest later s e f m.fits;
+    tiles = subst (AllByRecursion (IsInItsTile g)) (sym n) (each_both (IsInItsTile g) out more m.tiles h.tiles);
+    reach = (subst (AllByRecursion (Reaches g range)) e m.reach).1;
+  }
+
+  pub gathering_fails : (rest later : List (Slice PlaneLine)) (s : Slice PlaneLine) (out : List Piece) (f : OpFault) → rest ≡ s ∷ later → OnFormula (λ z. IsFirst (entries_of_slice g s) (Some z)) f → IsGathering g range all rest out → OnFormula (λ z. IsFirst (flat_map (entries_of_slice g) all) (Some z)) f
+  gathering_fails rest later s out f e h m = fitting_fails (entries_of_slice g) all rest later s f e m.fits h
+
+  pub gathering_end : (rest : List (Slice PlaneLine)) (out : List Piece) → rest ≡ [] → IsOrdered start end all → IsGathering g range all rest out → ArePieces g all out × IsFirst (flat_map (entries_of_slice g) all) None
+  gathering_end rest out e o m = (
+    record { kept = left_end plane_value_of start end true (λ t p. true) all rest (slices_of out) e o m.made; tiles = m.tiles },
+    fitting_end (entries_of_slice g) all rest e m.fits,
+  )

@@ -1,0 +1,115 @@
+-- Each instant of a point lies in one tile, which stands in the range of each box that has it.
+use Rattle.std.proofs.Common.{◌≡◌, ◌↔◌, ◌⊎◌, inl, inr, Bool, true, false, ℤ, pos, ◌+ℤ◌, ◌-ℤ◌, ◌*ℤ◌, ◌≤ℤ◌, ◌<ℤ◌, arith, refl, sym, ap, subst, ◌∙◌, ◌&&◌, int_lt, negsuc, nat_abs, ◌<◌, ◌^◌}
+use Rattle.std.proofs.lemmas.Int.{ints}
+use Rattle.std.proofs.lemmas.Bool.{and_parts, and_from}
+use Rattle.mob_ratio.specs.Ratio.{Ratio, ◌<ℚ◌, ◌≤ℚ◌}
+use Rattle.mob_ratio.specs.Sign.{nil}
+use Rattle.mob_ratio.specs.Order.{before, up_to}
+use Rattle.mob_ratio.proofs.Field.{le_of_lt, le_of_eq, le_trans}
+use Rattle.mob_ratio.proofs.IntRing.{le_mul, mul_comm, products, linear}
+use Rattle.mob_span.specs.Span.{SpanOf, InSpan}
+use Rattle.mob_plane.specs.declared.point.Point.{Point}
+use Rattle.mob_stbox.specs.Areas.{InArea}
+use Rattle.mob_stbox.specs.declared.area.Area.{Area}
+use Rattle.mob_tile.specs.Bands.{InBand, in_band, band_of}
+use Rattle.mob_tile.specs.Tiles.{GridOf, IsGrid, InTile, in_tile, tile_of, InRange, IsRange, range_of, side_of, tiles_in, HasMany}
+use Rattle.mob_tile.specs.declared.tile.Tile.{Tile}
+use Rattle.mob_tile.specs.declared.tile.TileRange.{TileRange}
+use Rattle.mob_tile.proofs.BandNumbers.{band_has, band_is, bands_rise, in_band_exact}
+
+pub tile_has : (g : GridOf) (t : Ratio) (p : Point) → IsGrid g → InTile g (tile_of g t p) t p
+tile_has g t p h = record { in_x = band_has g.size p.x h.some_size; in_y = band_has g.size p.y h.some_size; in_time = band_has g.width t h.some_width }
+
+pub tile_is : (g : GridOf) (a : Tile) (t : Ratio) (p : Point) → IsGrid g → InTile g a t p → a ≡ tile_of g t p
+tile_is g a t p h i =
+    let x = band_is g.size a.i p.x h.some_size i.in_x in
+    let y = band_is g.size a.j p.y h.some_size i.in_y in
+    let z = band_is g.width a.k t h.some_width i.in_time in
+    λ k. record { i = x k; j = y k; k = z k }
+
+pub in_tile_exact : (g : GridOf) (a : Tile) (t : Ratio) (p : Point) → (in_tile g a t p ≡ true) ↔ InTile g a t p
+in_tile_exact g a t p = (
+  (λ h. let w = and_parts (in_band g.size a.i p.x && in_band g.size a.j p.y) (in_band g.width a.k t) h in let v = and_parts (in_band g.size a.i p.x) (in_band g.size a.j p.y) w.0 in
+      record { in_x = (in_band_exact g.size a.i p.x).0 v.0; in_y = (in_band_exact g.size a.j p.y).0 v.1; in_time = (in_band_exact g.width a.k t).0 w.1 }),
+  λ i. and_from (in_band g.size a.i p.x && in_band g.size a.j p.y) (in_band g.width a.k t)
+      (and_from (in_band g.size a.i p.x) (in_band g.size a.j p.y) ((in_band_exact g.size a.i p.x).1 i.in_x) ((in_band_exact g.size a.j p.y).1 i.in_y))
+      ((in_band_exact g.width a.k t).1 i.in_time),
+)
+
+-- the tile of each point of the rectangle, at each instant between the ends of the span or at one of them
+pub closed_reach : (g : GridOf) (a : Area) (s : SpanOf) (t : Ratio) (p : Point) → IsGrid g → InArea a p → s.lower ≤ℚ t → t ≤ℚ s.upper → InRange (range_of g a s) (tile_of g t p)
+closed_reach g a s t p h i l u = record {
+  from_i = bands_rise g.size a.xmin p.x h.some_size i.from_west;
+  to_i = bands_rise g.size p.x a.xmax h.some_size i.to_east;
+  from_j = bands_rise g.size a.ymin p.y h.some_size i.from_south;
+  to_j = bands_rise g.size p.y a.ymax h.some_size i.to_north;
+  from_k = bands_rise g.width s.lower t h.some_width l;
+  to_k = bands_rise g.width t s.upper h.some_width u;
+}
+
+from_lower : (s : SpanOf) (t : Ratio) → InSpan s t → s.lower ≤ℚ t
+from_lower s t i = elim i.from_lower [ inl h ↦ le_of_lt s.lower t h | inr h ↦ le_of_eq s.lower t (sym h.1) ]
+
+to_upper : (s : SpanOf) (t : Ratio) → InSpan s t → t ≤ℚ s.upper
+to_upper s t i = elim i.to_upper [ inl h ↦ le_of_lt t s.upper h | inr h ↦ le_of_eq t s.upper h.1 ]
+
+pub reach : (g : GridOf) (a : Area) (s : SpanOf) (t : Ratio) (p : Point) → IsGrid g → InArea a p → InSpan s t → InRange (range_of g a s) (tile_of g t p)
+reach g a s t p h i j = closed_reach g a s t p h i (from_lower s t j) (to_upper s t j)
+
+-- ---- how many tiles
+pub side_some : (l h : ℤ) → l ≤ℤ h → pos 1 ≤ℤ side_of l h
+side_some l h p = omega (arith, ints)
+
+one_times : (a : ℤ) → pos 1 *ℤ a ≡ a
+one_times a = simp products (omega (arith, linear))
+
+pub times_more : (a b : ℤ) → pos 0 ≤ℤ a → pos 1 ≤ℤ b → a ≤ℤ (a *ℤ b)
+times_more a b h k = subst (λ z. a ≤ℤ z) (mul_comm b a) (subst (λ z. z ≤ℤ (b *ℤ a)) (one_times a) (le_mul (pos 1) b a h k))
+
+-- a range with one long side has many tiles
+module _ (a b c : ℤ) (i : pos 1 ≤ℤ a) (j : pos 1 ≤ℤ b) (k : pos 1 ≤ℤ c) where
+  some : (z : ℤ) → pos 1 ≤ℤ z → pos 0 ≤ℤ z
+  some z h = omega (arith, ints)
+
+  more : (n z w : ℤ) → n <ℤ z → z ≤ℤ w → n <ℤ w
+  more n z w h k = omega (arith, ints)
+
+  two : pos 0 ≤ℤ (a *ℤ b)
+  two = let h = times_more a b (some a i) j in let g = some a i in omega (arith, ints)
+
+  pub long_first : pos 10000 <ℤ a → pos 10000 <ℤ (a *ℤ b *ℤ c)
+  long_first h = more (pos 10000) (a *ℤ b) (a *ℤ b *ℤ c) (more (pos 10000) a (a *ℤ b) h (times_more a b (some a i) j)) (times_more (a *ℤ b) c two k)
+
+  pub long_second : pos 10000 <ℤ b → pos 10000 <ℤ (a *ℤ b *ℤ c)
+  long_second h = more (pos 10000) (a *ℤ b) (a *ℤ b *ℤ c) (subst (λ z. pos 10000 <ℤ z) (mul_comm b a) (more (pos 10000) b (b *ℤ a) h (times_more b a (some b j) i))) (times_more (a *ℤ b) c two k)
+
+  pub long_third : pos 10000 <ℤ c → pos 10000 <ℤ (a *ℤ b *ℤ c)
+  long_third h =
+      let g = times_more a b (some a i) j in
+      let one : pos 1 ≤ℤ (a *ℤ b) = omega (arith, ints) in
+      subst (λ z. pos 10000 <ℤ z) (mul_comm c (a *ℤ b)) (more (pos 10000) c (c *ℤ (a *ℤ b)) h (times_more c (a *ℤ b) (some c k) one))
+
+pub many_first : (r : TileRange) → IsRange r → pos 10000 <ℤ side_of r.low.i r.high.i → HasMany r
+many_first r h = long_first (side_of r.low.i r.high.i) (side_of r.low.j r.high.j) (side_of r.low.k r.high.k) (side_some r.low.i r.high.i h.by_i) (side_some r.low.j r.high.j h.by_j) (side_some r.low.k r.high.k h.by_k)
+
+pub many_second : (r : TileRange) → IsRange r → pos 10000 <ℤ side_of r.low.j r.high.j → HasMany r
+many_second r h = long_second (side_of r.low.i r.high.i) (side_of r.low.j r.high.j) (side_of r.low.k r.high.k) (side_some r.low.i r.high.i h.by_i) (side_some r.low.j r.high.j h.by_j) (side_some r.low.k r.high.k h.by_k)
+
+pub many_third : (r : TileRange) → IsRange r → pos 10000 <ℤ side_of r.low.k r.high.k → HasMany r
+many_third r h = long_third (side_of r.low.i r.high.i) (side_of r.low.j r.high.j) (side_of r.low.k r.high.k) (side_some r.low.i r.high.i h.by_i) (side_some r.low.j r.high.j h.by_j) (side_some r.low.k r.high.k h.by_k)
+
+-- the range of a rectangle that has a point and a span that has an instant
+pub range_stands : (g : GridOf) (a : Area) (s : SpanOf) → IsGrid g → a.xmin ≤ℚ a.xmax → a.ymin ≤ℚ a.ymax → s.lower ≤ℚ s.upper → IsRange (range_of g a s)
+range_stands g a s h x y t = record {
+  by_i = bands_rise g.size a.xmin a.xmax h.some_size x;
+  by_j = bands_rise g.size a.ymin a.ymax h.some_size y;
+  by_k = bands_rise g.width s.lower s.upper h.some_width t;
+}
+
+pub short : (n : ℤ) → pos 1 ≤ℤ n → (pos 10000 <ℤ n → ⊥) → nat_abs n < 2 ^ 14
+short (pos a) h k = by (int_lt (pos 10000) (pos a)) refl
+  where
+    by : (b : Bool) → int_lt (pos 10000) (pos a) ≡ b → a < 2 ^ 14
+    by true e = absurd (k (omega (arith, ints)))
+    by false e = omega (arith, ints)
+short (negsuc a) h k = absurd (omega (arith, ints))

@@ -1,0 +1,10 @@
+use Rattle.std.proofs.Common.{rules, FitsSigned, ◌<ℤ◌, pos, arith}
+use Rattle.std.specs.Int.{w64}
+use Rattle.std.proofs.lemmas.Int.{to_z-of_z, ints}
+use Rattle.mob_ratio.proofs.RatioLemmas.{den_pos}
+use Rattle.mob_tile.specs.Bands.{floor_of}
+use Rattle.mob_tile.proofs.Machine.{nonzero}
+use Rattle.mob_tile.proofs.grid.floor.Goals as goal
+
+pub div_euclid-requires-clause-nonzero : goal.div_euclid-requires-clause-nonzero
+div_euclid-requires-clause-nonzero c = nonzero c.den.result c.args.q.now.den c.den.ensures.value c.den.ensures.size (den_pos c.args.q.now)

@@ -1,0 +1,92 @@
+-- Pieces of a moving point, each in one tile.
+use Rattle.std.specs.Prelude.{◌≡◌, ◌⊎◌, true, List, [], ◌∷◌, ◌++◌, map, Some}
+use Rattle.std.specs.List.{AllByRecursion}
+use Rattle.mob_ratio.specs.Ratio.{Ratio, ◌≤ℚ◌}
+use Rattle.mob_ratio.specs.Order.{up_to}
+use Rattle.mob_span.specs.Span.{SpanOf, has}
+use Rattle.mob_plane.specs.Corners.{smaller, greater}
+use Rattle.mob_plane.specs.declared.point.Point.{Point}
+use Rattle.mob_stbox.specs.Areas.{InArea, area_between}
+use Rattle.mob_slice.specs.Cut.{slice_value}
+use Rattle.mob_slice.specs.Sides.{HasValues}
+use Rattle.mob_slice.specs.Lines.{plane_value_of}
+use Rattle.mob_slice.specs.declared.slice.Slice.{Slice}
+use Rattle.mob_slice.specs.declared.line.PlaneLine.{PlaneLine}
+use Rattle.mob_cells.specs.Cells.{AreSplit, IsCut, IsSomeEnd, split_one, split_at}
+use Rattle.mob_cells.specs.Kept.{AreKeptOn}
+use Rattle.mob_cells.specs.Restricted.{AreRestricted}
+use Rattle.mob_tile.specs.Tiles.{GridOf, InTile, InRange, tile_of}
+use Rattle.mob_tile.specs.declared.tile.Tile.{Tile}
+use Rattle.mob_tile.specs.declared.tile.TileRange.{TileRange}
+use Rattle.mob_tile.specs.declared.pieces.Piece.{Piece}
+
+-- the cells cut at each of the instants
+abbrev pub split_all : List Ratio → List SpanOf → List SpanOf
+split_all [] cells = cells
+split_all (r ∷ cuts) cells = split_all cuts (split_at r cells)
+
+-- each instant is at least q, and at most those behind it
+abbrev pub IsRising : Ratio → List Ratio → Type 0
+IsRising q [] = Unit {0}
+IsRising q (r ∷ cuts) = (up_to q r ≡ true) × IsRising r cuts
+
+-- the least point of the rectangle over two points, and the greatest
+abbrev pub least_of : Point → Point → Point
+least_of p q = record { x = smaller p.x q.x; y = smaller p.y q.y }
+
+abbrev pub greatest_of : Point → Point → Point
+greatest_of p q = record { x = greater p.x q.x; y = greater p.y q.y }
+
+-- the tile of the least corner of a piece, at its lower end
+abbrev pub tile_on : GridOf → Slice PlaneLine → SpanOf → Tile
+tile_on g s c = tile_of g c.lower (least_of (slice_value plane_value_of s c.lower) (slice_value plane_value_of s c.upper))
+
+-- the whole cell lies in one tile
+abbrev pub HasOneTile : GridOf → Slice PlaneLine → SpanOf → Type 0
+HasOneTile g s c = (t : Ratio) → has c t ≡ true → InTile g (tile_on g s c) t (slice_value plane_value_of s t)
+
+-- each position between the limits of a slice, at each instant between its ends, has a tile in the range
+abbrev pub Reaches : GridOf → TileRange → Slice PlaneLine → Type 0
+Reaches g r s = (t : Ratio) (p : Point) → InArea (area_between s.course.from s.course.to) p → s.span.lower ≤ℚ t → t ≤ℚ s.span.upper → InRange r (tile_of g t p)
+
+-- the piece lies in its tile
+abbrev pub IsInItsTile : GridOf → Piece → Type 0
+IsInItsTile g q = (t : Ratio) → has q.slice.span t ≡ true → InTile g q.tile t (slice_value plane_value_of q.slice t)
+
+abbrev pub slices_of : List Piece → List (Slice PlaneLine)
+slices_of pieces = map (λ q. q.slice) pieces
+
+-- the pieces of the slice s: they have its values on its span, and each lies in its tile
+pub record ArePiecesOf (g : GridOf) (s : Slice PlaneLine) (pieces : List Piece) : Type 0 where
+  pub kept : AreKeptOn plane_value_of (λ c. c.from) (λ c. c.to) (λ t. Some (slice_value plane_value_of s t)) s.span (slices_of pieces)
+  pub tiles : AllByRecursion (IsInItsTile g) pieces
+
+-- the pieces of the value a, in order of time: they have its values, and each lies in its tile
+pub record ArePieces (g : GridOf) (a : List (Slice PlaneLine)) (pieces : List Piece) : Type 0 where
+  pub kept : AreRestricted plane_value_of (λ c. c.from) (λ c. c.to) true (λ t p. true) a (slices_of pieces)
+  pub tiles : AllByRecursion (IsInItsTile g) pieces
+
+-- Each cut is an end of the span or of a cell, and each end of a cell is an end of the span or a cut.
+pub record AreCutsOf (s : SpanOf) (cuts : List Ratio) (cells : List SpanOf) : Type 0 where
+  pub each : AllByRecursion (λ r. (r ≡ s.lower) ⊎ ((r ≡ s.upper) ⊎ IsSomeEnd r cells)) cuts
+  pub only : AllByRecursion (λ c. IsCut s cuts c.lower × IsCut s cuts c.upper) cells
+
+-- what holds of the cells of a slice
+pub record AreTileCells (g : GridOf) (s : Slice PlaneLine) (cuts : List Ratio) (cells : List SpanOf) : Type 0 where
+  pub split : AreSplit s.span cells
+  pub cut : AreCutsOf s.span cuts cells
+  pub tiles : AllByRecursion (HasOneTile g s) cells
+
+-- what an instant makes of the rest of a span: what is done came to the old list
+pub record IsAdvance (r : Ratio) (rest : SpanOf) (old new : List SpanOf) (next : SpanOf) : Type 0 where
+  pub front : List SpanOf
+  pub is : new ≡ old ++ front
+  pub passed : AllByRecursion (λ c. up_to c.upper r ≡ true) front
+  pub made : front ++ next ∷ [] ≡ split_one r rest
+
+-- a piece with the values of the slice s on the cell c, and in its tile, came to the others
+pub record IsPushed (g : GridOf) (s : Slice PlaneLine) (c : SpanOf) (old new : List Piece) : Type 0 where
+  pub piece : Piece
+  pub is : new ≡ old ++ piece ∷ []
+  pub values : HasValues plane_value_of (λ c. c.from) (λ c. c.to) (slice_value plane_value_of s) c piece.slice
+  pub tile : IsInItsTile g piece

@@ -1,0 +1,87 @@
+-- Tiles of space and time (D26), and the tiles that a box reaches.
+use Rattle.std.specs.Prelude.{◌≡◌, Bool, ◌&&◌, ℤ, pos, ◌+ℤ◌, ◌-ℤ◌, ◌*ℤ◌, ◌≤ℤ◌, ◌<ℤ◌, List, [], ◌∷◌, Some}
+use Rattle.std.specs.Ordering.{int_cmp, ordering_then}
+use Rattle.std.specs.declared.cmp.Ordering.{Ordering}
+use Rattle.mob_ratio.specs.Ratio.{Ratio, ◌/ℚ◌, ◌<ℚ◌}
+use Rattle.mob_ratio.specs.Sign.{nil}
+use Rattle.mob_span.specs.Span.{SpanOf}
+use Rattle.mob_plane.specs.declared.point.Point.{Point}
+use Rattle.mob_stbox.specs.Boxes.{BoxOf}
+use Rattle.mob_stbox.specs.declared.area.Area.{Area}
+use Rattle.mob_tile.specs.Bands.{InBand, in_band, band_of}
+use Rattle.mob_tile.specs.declared.tile.Tile.{Tile}
+use Rattle.mob_tile.specs.declared.tile.TileRange.{TileRange}
+
+-- the sides of the tiles: `size` in units of length, the same by x and by y, and `width` in seconds
+pub record GridOf : Type 0 where
+  pub size : Ratio
+  pub width : Ratio
+
+pub record IsGrid (g : GridOf) : Type 0 where
+  pub some_size : nil <ℚ g.size
+  pub some_width : nil <ℚ g.width
+
+-- The tile a has the point p at the instant t.
+pub record InTile (g : GridOf) (a : Tile) (t : Ratio) (p : Point) : Type 0 where
+  pub in_x : InBand g.size a.i p.x
+  pub in_y : InBand g.size a.j p.y
+  pub in_time : InBand g.width a.k t
+
+-- the same as a test, which computes
+abbrev pub in_tile : GridOf → Tile → Ratio → Point → Bool
+in_tile g a t p = in_band g.size a.i p.x && in_band g.size a.j p.y && in_band g.width a.k t
+
+-- the tile that has p at t
+abbrev pub tile_of : GridOf → Ratio → Point → Tile
+tile_of g t p = record { i = band_of g.size p.x; j = band_of g.size p.y; k = band_of g.width t }
+
+-- tiles by i, then by j, then by k
+abbrev pub compare_later : Tile → Tile → Ordering
+compare_later a b = ordering_then (int_cmp a.j b.j) (int_cmp a.k b.k)
+
+abbrev pub compare_tiles : Tile → Tile → Ordering
+compare_tiles a b = ordering_then (int_cmp a.i b.i) (compare_later a b)
+
+-- ---- ranges
+
+-- a stands in the range, by each of its numbers
+pub record InRange (r : TileRange) (a : Tile) : Type 0 where
+  pub from_i : r.low.i ≤ℤ a.i
+  pub to_i : a.i ≤ℤ r.high.i
+  pub from_j : r.low.j ≤ℤ a.j
+  pub to_j : a.j ≤ℤ r.high.j
+  pub from_k : r.low.k ≤ℤ a.k
+  pub to_k : a.k ≤ℤ r.high.k
+
+-- the range of a rectangle and a span: the floors of its sides and ends, whether or not they are included
+abbrev pub range_of : GridOf → Area → SpanOf → TileRange
+range_of g a s = record {
+  low = record { i = band_of g.size a.xmin; j = band_of g.size a.ymin; k = band_of g.width s.lower };
+  high = record { i = band_of g.size a.xmax; j = band_of g.size a.ymax; k = band_of g.width s.upper };
+}
+
+-- F2: the six quotients
+abbrev pub range_parts : GridOf → Area → SpanOf → List Ratio
+range_parts g a s = (a.xmin /ℚ g.size) ∷ (a.ymin /ℚ g.size) ∷ (s.lower /ℚ g.width) ∷ (a.xmax /ℚ g.size) ∷ (a.ymax /ℚ g.size) ∷ (s.upper /ℚ g.width) ∷ []
+
+-- what holds of the rectangle and the span of a box that has both
+abbrev pub OnSides : BoxOf → (Area → SpanOf → Type 0) → Type 0
+OnSides b P = (a : Area) (s : SpanOf) → b.space ≡ Some a → b.time ≡ Some s → P a s
+
+-- how many numbers there are from one to another, both with them
+abbrev pub side_of : ℤ → ℤ → ℤ
+side_of low high = (high -ℤ low) +ℤ pos 1
+
+-- how many tiles a range has
+abbrev pub tiles_in : TileRange → ℤ
+tiles_in r = side_of r.low.i r.high.i *ℤ side_of r.low.j r.high.j *ℤ side_of r.low.k r.high.k
+
+-- no low number is above its high one
+pub record IsRange (r : TileRange) : Type 0 where
+  pub by_i : r.low.i ≤ℤ r.high.i
+  pub by_j : r.low.j ≤ℤ r.high.j
+  pub by_k : r.low.k ≤ℤ r.high.k
+
+-- the range has more than 10,000 tiles
+abbrev pub HasMany : TileRange → Type 0
+HasMany r = pos 10000 <ℤ tiles_in r

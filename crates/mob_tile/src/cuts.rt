@@ -1,0 +1,115 @@
+//! Where a slice crosses edges of tiles.
+ghost use Rattle.std.specs.Prelude.{◌≡◌, [], ◌∷◌, ◌++◌, map, pos, ◌+ℤ◌, ◌≤ℤ◌, OnOk, IfOk, MatchResult};
+ghost use Rattle.std.specs.List.{flat_map, AllByRecursion};
+ghost use Rattle.mob_frac.specs.Formula.{AllFit, IsFormula};
+ghost use Rattle.mob_slice.specs.declared.formula.Formula.TheVariants.{F2, F3};
+ghost use Rattle.mob_cells.specs.Roots.{IsLevel, roots, roots_parts, root_of, root_parts, as_list};
+ghost use Rattle.mob_clip.specs.Sides.{IsPartFault};
+ghost use Rattle.mob_tile.specs.Edges.{numbers_between, edge_of, edge_parts, edge_ends, time_parts};
+
+use crate::grid::edge;
+use mob_cells::{Ends, root};
+use mob_frac::{Frac, Overflow};
+use mob_slice::{Formula, OpFault};
+use mob_span::Span;
+use std::alloc::{AllocError, Global};
+
+/// Adds one more at the end.
+pub fn add<T: Drop>(out: &mut Vec<T>, next: T) -> Result<(), AllocError>
+    ensures added { OnOk result (out.new.items ≡ out.old.items ++ next ∷ []) }
+{
+    out.push(next)?;
+    Ok(())
+}
+
+// The difference to an edge, from `x` to `y`.
+fn difference(c: &Frac, x: &Frac, y: &Frac, n: i64) -> Result<Ends, Overflow>
+    ensures value { IsFormula (edge_parts c.now x.now y.now n) (edge_ends c.now x.now y.now n) result }
+{
+    let at = edge(c, n)?;
+    let at_lower = x.sub(&at)?;
+    let at_upper = y.sub(&at)?;
+    Ok(Ends { at_lower, at_upper })
+}
+
+/// The differences to all edges above one number and up to another.
+pub fn differences(
+    alloc: Global,
+    c: &Frac,
+    x: &Frac,
+    y: &Frac,
+    low: i64,
+    high: i64,
+) -> Result<Vec<Ends>, OpFault>
+    ensures made { MatchResult result (λ v. (v.items ≡ map (edge_ends c.now x.now y.now) (numbers_between low high)) × AllFit (flat_map (edge_parts c.now x.now y.now) (numbers_between low high))) (IsPartFault F2 (flat_map (edge_parts c.now x.now y.now) (numbers_between low high))) }
+{
+    let mut out = Vec::new(alloc);
+    for m in low..high {
+        let next = match difference(c, x, y, m + 1) {
+            Ok(next) => next,
+            Err(_) => {
+                return Err(OpFault::Passed {
+                    formula: Formula::F2,
+                });
+            }
+        };
+        if add(&mut out, next).is_err() {
+            return Err(OpFault::NoMemory);
+        }
+    }
+    Ok(out)
+}
+
+/// The edges of time above one number and up to another.
+pub fn times(alloc: Global, c: &Frac, low: i64, high: i64) -> Result<Vec<Frac>, OpFault>
+    ensures made { MatchResult result (λ v. (v.items ≡ map (edge_of c.now) (numbers_between low high)) × AllFit (flat_map (time_parts c.now) (numbers_between low high))) (IsPartFault F2 (flat_map (time_parts c.now) (numbers_between low high))) }
+{
+    let mut out = Vec::new(alloc);
+    for m in low..high {
+        let next = match edge(c, m + 1) {
+            Ok(next) => next,
+            Err(_) => {
+                return Err(OpFault::Passed {
+                    formula: Formula::F2,
+                });
+            }
+        };
+        if add(&mut out, next).is_err() {
+            return Err(OpFault::NoMemory);
+        }
+    }
+    Ok(out)
+}
+
+// Adds the root of a function, if there is one.
+fn push_root(out: &mut Vec<Frac>, span: &Span, f: &Ends) -> Result<(), OpFault>
+    requires level { IsLevel span.now f.now }
+    ensures pushed { MatchResult result (λ _. (out.new.items ≡ out.old.items ++ as_list (root_of span.now f.now)) × AllFit (root_parts span.now f.now)) (IsPartFault F3 (root_parts span.now f.now)) }
+{
+    match root(span, f) {
+        Ok(None) => Ok(()),
+        Ok(Some(r)) => match add(out, r) {
+            Ok(()) => Ok(()),
+            Err(_) => Err(OpFault::NoMemory),
+        },
+        Err(passed) => Err(OpFault::Passed {
+            formula: passed.formula,
+        }),
+    }
+}
+
+/// The roots of some functions on a span.
+pub fn roots_of(alloc: Global, span: &Span, functions: &[Ends]) -> Result<Vec<Frac>, OpFault>
+    requires level { AllByRecursion (IsLevel span.now) functions.now }
+    ensures made { MatchResult result (λ v. (v.items ≡ roots span.now functions.now) × AllFit (roots_parts span.now functions.now)) (IsPartFault F3 (roots_parts span.now functions.now)) }
+{
+    let _lower = span.lower();
+    let mut out = Vec::new(alloc);
+    for f in functions {
+        match push_root(&mut out, span, f) {
+            Ok(()) => {}
+            Err(fault) => return Err(fault),
+        }
+    }
+    Ok(out)
+}

@@ -1,0 +1,215 @@
+//! A grid, and the tiles that a box reaches.
+ghost use Rattle.std.specs.Prelude.{◌≡◌, ◌↔◌, [], ◌∷◌, ◌⊎◌, pos, true, false, IsNone, IfSome, IfOk, ◌<ℤ◌, ◌≤ℤ◌, ◌*ℤ◌};
+ghost use Rattle.std.specs.Int.{int_div_euclid};
+ghost use Rattle.mob_ratio.specs.Ratio.{◌<ℚ◌, ◌≤ℚ◌, whole, ◌*ℚ◌, ◌/ℚ◌};
+ghost use Rattle.mob_ratio.specs.Sign.{nil};
+ghost use Rattle.mob_frac.specs.Fits.{IsExact};
+ghost use Rattle.mob_frac.specs.Formula.{IsFormula};
+ghost use Rattle.mob_slice.specs.Computed.{IsComputed};
+ghost use Rattle.mob_slice.specs.declared.formula.Formula.TheVariants.{F2};
+ghost use Rattle.mob_stbox.specs.Boxes.{is_whole};
+ghost use Rattle.mob_tile.specs.Bands.{InBand, floor_of, band_of};
+ghost use Rattle.mob_tile.specs.Tiles.{GridOf, IsGrid, tile_of, InRange, IsRange, range_of, range_parts, OnSides, HasMany};
+ghost use Rattle.mob_tile.specs.Split.{IsSplit, OnRange, SplitAnswer, IsLimited};
+
+use crate::splitting::{SplitFault, split_by};
+use crate::tile::{Tile, TileRange};
+use mob_frac::{Frac, Overflow};
+use mob_plane::Point;
+use mob_slice::{Formula, Moving, Passed, PlaneLine};
+use mob_span::Span;
+use mob_stbox::{Area, StBox};
+use std::alloc::Global;
+use std::marker::Model;
+
+/// The sides of tiles: one in units of length, for x and for y, and one in seconds. Both are above 0.
+#[derive(Clone, Copy, Debug)]
+pub struct Grid {
+    size: Frac,
+    width: Frac,
+}
+
+impl Model for Grid {
+    ghost use Rattle.mob_tile.specs.Tiles.{GridOf, IsGrid};
+
+    ghost Value = { GridOf };
+
+    ghost view = { λ g. record { size = g.size; width = g.width } };
+
+    ghost invariant = { λ g. IsGrid (record { size = g.size; width = g.width }) };
+
+    ghost inverse = { λ g. record { size = g.size; width = g.width } };
+}
+
+/// Whether the number is above 0.
+pub fn is_positive(x: &Frac) -> bool
+    ensures exact { (result ≡ true) ↔ (nil <ℚ x.now) }
+{
+    x.sign() == 1
+}
+
+// The greatest whole number that is not above it.
+#[tactic(auto, unfolding(crate::specs::Bands::floor_of))]
+fn floor(q: &Frac) -> i64
+    ensures value { result ≡ floor_of q.now }
+{
+    q.num().div_euclid(q.den())
+}
+
+// The product of two parts of fractions.
+fn product(a: i64, b: i64) -> i128
+    ensures value { result ≡ a *ℤ b }
+{
+    a as i128 * b as i128
+}
+
+// The quotient, rounded down.
+fn quotient(a: i128, b: i128) -> i128
+    requires positive { pos 0 <ℤ b }
+    ensures value { result ≡ int_div_euclid a b }
+{
+    a.div_euclid(b)
+}
+
+/// The number of the band of width `c` that has `x`, of any size.
+pub fn band(c: &Frac, x: &Frac) -> i128
+    requires positive { nil <ℚ c.now }
+    ensures value { result ≡ band_of c.now x.now }
+{
+    quotient(product(x.num(), c.den()), product(x.den(), c.num()))
+}
+
+/// The edge before the band of number `n`.
+pub fn edge(c: &Frac, n: i64) -> Result<Frac, Overflow>
+    ensures exact { IsExact (whole n *ℚ c.now) result }
+{
+    Frac::from_wide(product(n, c.num()), c.den() as i128)
+}
+
+// The number of the band that has `x`, where that lies between two numbers.
+fn band_within(c: &Frac, x: &Frac, low: i64, high: i64) -> i64
+    requires positive { nil <ℚ c.now }
+    requires from { low ≤ℤ band_of c.now x.now }
+    requires to { band_of c.now x.now ≤ℤ high }
+    ensures value { result ≡ band_of c.now x.now }
+{
+    band(c, x) as i64
+}
+
+// The number of the band that has `x`, by its quotient.
+fn floor_over(x: &Frac, c: &Frac) -> Result<i64, Overflow>
+    requires positive { nil <ℚ c.now }
+    ensures value { IsFormula ((x.now /ℚ c.now) ∷ []) (band_of c.now x.now) result }
+{
+    let quotient = x.div(c)?;
+    Ok(floor(&quotient))
+}
+
+impl Grid {
+    /// The grid with these sides. None exactly where one of them is not positive.
+    pub fn new(size: Frac, width: Frac) -> Option<Grid>
+        ensures none { IsNone result ↔ ((size ≤ℚ nil) ⊎ (width ≤ℚ nil)) }
+        ensures value { IfSome result (λ g. g ≡ record { size = size; width = width }) }
+        ensures sides { IfSome result IsGrid }
+    {
+        if !is_positive(&size) {
+            return None;
+        }
+        if !is_positive(&width) {
+            return None;
+        }
+        Some(Grid { size, width })
+    }
+
+    /// The side by x and by y.
+    pub fn size(&self) -> &Frac
+        ensures value { result.now ≡ self.now.size }
+        ensures positive { nil <ℚ result.now }
+    {
+        &self.size
+    }
+
+    /// The side by time.
+    pub fn width(&self) -> &Frac
+        ensures value { result.now ≡ self.now.width }
+        ensures positive { nil <ℚ result.now }
+    {
+        &self.width
+    }
+
+    /// The tile that has `p` at `t`, where it stands in a range.
+    pub fn tile_at(&self, range: &TileRange, p: &Point, t: &Frac) -> Tile
+        requires within { InRange range.now (tile_of self.now t.now p.now) }
+        ensures value { result ≡ tile_of self.now t.now p.now }
+    {
+        let size = self.size();
+        Tile {
+            i: band_within(size, &p.x, range.low.i, range.high.i),
+            j: band_within(size, &p.y, range.low.j, range.high.j),
+            k: band_within(self.width(), t, range.low.k, range.high.k),
+        }
+    }
+
+    // The six quotients, and the tiles between their floors.
+    fn between(&self, area: &Area, time: &Span) -> Result<TileRange, Overflow>
+        ensures value { IsFormula (range_parts self.now area.now time.now) (range_of self.now area.now time.now) result }
+    {
+        let size = self.size();
+        let width = self.width();
+        let west = floor_over(&area.xmin, size)?;
+        let south = floor_over(&area.ymin, size)?;
+        let first = floor_over(time.lower(), width)?;
+        let east = floor_over(&area.xmax, size)?;
+        let north = floor_over(&area.ymax, size)?;
+        let last = floor_over(time.upper(), width)?;
+        Ok(TileRange {
+            low: Tile {
+                i: west,
+                j: south,
+                k: first,
+            },
+            high: Tile {
+                i: east,
+                j: north,
+                k: last,
+            },
+        })
+    }
+
+    #[tactic(auto, unfolding(mob_stbox::specs::Boxes::is_whole))]
+    /// All tiles that a box reaches: those between the floors of its sides and ends, divided by those of a tile. An end that is left
+    /// out counts as one that is not. `Passed` names F2, exactly where a quotient does not fit.
+    pub fn range(&self, b: &StBox) -> Result<TileRange, Passed>
+        requires whole { is_whole b.now ≡ true }
+        ensures value { OnSides b.now (λ a s. IsComputed F2 (range_parts self.now a s) (range_of self.now a s) result) }
+    {
+        let Some(area) = b.space() else {
+            unreachable!();
+        };
+        let Some(time) = b.time() else {
+            unreachable!();
+        };
+        match self.between(area, time) {
+            Ok(range) => Ok(range),
+            Err(_) => Err(Passed {
+                formula: Formula::F2,
+            }),
+        }
+    }
+    /// The parts of a moving point in the tiles, by rising tile: all tiles in which it is at some instant, each with the part there.
+    ///
+    /// `Passed` and `Limit` come exactly where they must, in this order: F2, where a quotient of the range of the box of `a` does not fit;
+    /// the limit, where that range has more than 10,000 tiles; the first part of F2, F3 or F1 that does not fit, slice by slice. Among
+    /// these a failed allocation comes only behind the limit.
+    pub fn split(
+        &self,
+        alloc: Global,
+        a: &Moving<PlaneLine>,
+    ) -> Result<Vec<(Tile, Moving<PlaneLine>)>, SplitFault>
+        ensures split { IfOk result (λ v. IsSplit self.now a.now v.items) }
+        ensures refusals { OnRange self.now a.now (λ quotients range. SplitAnswer self.now a.now quotients range result) }
+        ensures limits { OnRange self.now a.now (λ quotients range. IsLimited quotients range result) }
+    {
+        split_by(alloc, self, a)
+    }
+}

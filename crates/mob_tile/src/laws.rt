@@ -1,0 +1,39 @@
+//! What holds of every grid and of every split. No code runs here.
+ghost use Rattle.std.specs.Prelude.{◌≡◌, ◌↔◌, true, Some, List};
+ghost use Rattle.std.specs.List.{AllByRecursion};
+ghost use Rattle.mob_ratio.specs.Ratio.{Ratio};
+ghost use Rattle.mob_span.specs.Span.{SpanOf, InSpan};
+ghost use Rattle.mob_plane.specs.declared.point.Point.{Point};
+ghost use Rattle.mob_stbox.specs.Areas.{InArea};
+ghost use Rattle.mob_stbox.specs.declared.area.Area.{Area};
+ghost use Rattle.mob_slice.specs.Slices.{value_at};
+ghost use Rattle.mob_slice.specs.Lines.{plane_value_of};
+ghost use Rattle.mob_slice.specs.declared.slice.Slice.{Slice};
+ghost use Rattle.mob_slice.specs.declared.line.PlaneLine.{PlaneLine};
+ghost use Rattle.mob_tile.specs.Tiles.{GridOf, IsGrid, InTile, in_tile, tile_of, InRange, range_of};
+ghost use Rattle.mob_tile.specs.Split.{IsSplit, HasPartAt};
+ghost use Rattle.mob_tile.specs.declared.tile.Tile.{Tile as TileOf};
+
+/// Each point is at each instant in exactly one tile, and the test of membership says what it means.
+pub fn one_tile()
+    ensures some { (g : GridOf) (t : Ratio) (p : Point) → IsGrid g → InTile g (tile_of g t p) t p }
+    ensures only { (g : GridOf) (a : TileOf) (t : Ratio) (p : Point) → IsGrid g → InTile g a t p → a ≡ tile_of g t p }
+    ensures test { (g : GridOf) (a : TileOf) (t : Ratio) (p : Point) → (in_tile g a t p ≡ true) ↔ InTile g a t p }
+{}
+
+/// That tile is in the range of each rectangle and span that have the point and the instant.
+pub fn boxes_reach_their_tiles()
+    ensures reach { (g : GridOf) (a : Area) (s : SpanOf) (t : Ratio) (p : Point) → IsGrid g → InArea a p → InSpan s t → InRange (range_of g a s) (tile_of g t p) }
+{}
+
+/// At each instant of a value one part of its split is defined, that of the tile in which the value is then, and it has the value. A part that
+/// is defined at an instant is that one.
+pub fn one_part_at_each_instant()
+    ensures there { (g : GridOf) (a : List (Slice PlaneLine)) (parts : List (TileOf × List (Slice PlaneLine))) (t : Ratio) (p : Point) → IsGrid g → IsSplit g a parts → value_at plane_value_of a t ≡ Some p → HasPartAt (tile_of g t p) t p parts }
+    ensures only { (g : GridOf) (a : List (Slice PlaneLine)) (parts : List (TileOf × List (Slice PlaneLine))) (t : Ratio) (p : Point) → IsGrid g → IsSplit g a parts → AllByRecursion (λ q. value_at plane_value_of q.1 t ≡ Some p → (q.0 ≡ tile_of g t p) × (value_at plane_value_of a t ≡ Some p)) parts }
+{}
+
+/// A value has one split.
+pub fn one_split()
+    ensures one { (g : GridOf) (a : List (Slice PlaneLine)) (ps qs : List (TileOf × List (Slice PlaneLine))) → IsGrid g → IsSplit g a ps → IsSplit g a qs → ps ≡ qs }
+{}

@@ -1,0 +1,15 @@
+//! A grid of tiles of space and time, the tiles that a box reaches, and the parts of a moving point in them.
+#![tactic(auto)]
+
+mod cells;
+mod cuts;
+pub mod grid;
+mod groups;
+pub mod laws;
+mod pieces;
+mod splitting;
+pub mod tile;
+
+pub use grid::Grid;
+pub use splitting::SplitFault;
+pub use tile::{Tile, TileRange};

@@ -1,0 +1,278 @@
+//! Pieces of slices, each in one tile.
+ghost use Rattle.std.specs.Prelude.{◌≡◌, true, false, [], ◌∷◌, ◌++◌, map, Some, None, OnOk, IfOk, MatchResult};
+ghost use Rattle.std.specs.List.{flat_map, AllByRecursion};
+ghost use Rattle.std.specs.List.Sorted.{IsPermutation, IsSortedBy};
+ghost use Rattle.std.specs.Ordering.{is_lt};
+ghost use Rattle.mob_frac.specs.Formula.{AllFit};
+ghost use Rattle.mob_span.specs.Neighbours.{is_inside};
+ghost use Rattle.mob_slice.specs.Ranks.{compare_ratio};
+ghost use Rattle.mob_slice.specs.Slices.{IsSound, IsOrdered};
+ghost use Rattle.mob_slice.specs.Cut.{slice_value, slice_parts};
+ghost use Rattle.mob_slice.specs.Sides.{at_ends, HasValues};
+ghost use Rattle.mob_slice.specs.Lines.{plane_value_of, plane_parts_of};
+ghost use Rattle.mob_slice.specs.Entries.{IsFirst, OnFormula, IsJudged};
+ghost use Rattle.mob_slice.specs.declared.formula.Formula.TheVariants.{F2, F3};
+ghost use Rattle.mob_cells.specs.Kept.{IsCellFault};
+ghost use Rattle.mob_cells.specs.Roots.{IsLevel, roots, roots_parts};
+ghost use Rattle.mob_clip.specs.Sides.{IsPartFault};
+ghost use Rattle.mob_tile.specs.Edges.{x_edges, y_edges, t_edges, differences, cuts_of, edge_of, edge_parts, time_parts, edges_parts, entry_of_values, entries_of_slice};
+ghost use Rattle.mob_tile.specs.Pieces.{least_of, greatest_of, HasOneTile, Reaches, IsInItsTile, ArePiecesOf, ArePieces, AreTileCells, IsPushed};
+
+use crate::cells::cells_at;
+use crate::cuts::{differences, roots_of, times};
+use crate::grid::Grid;
+use crate::tile::{Tile, TileRange};
+use mob_cells::{Ends, append};
+use mob_frac::Frac;
+use mob_plane::{Point, greater, smaller};
+use mob_slice::{OpFault, PlaneLine, Ranked, Slice, cut, operator_fault};
+use mob_span::Span;
+use std::alloc::{AllocError, Global};
+use std::cmp::Ordering;
+
+/// A piece of a moving point, with its tile.
+#[derive(Drop)]
+pub struct Piece {
+    /// The tile in which all of it lies.
+    pub tile: Tile,
+    /// The piece.
+    pub slice: Slice<PlaneLine>,
+}
+
+// The least point of the rectangle over two points.
+fn least(p: &Point, q: &Point) -> Point
+    ensures value { result ≡ least_of p.now q.now }
+{
+    Point {
+        x: smaller(&p.x, &q.x),
+        y: smaller(&p.y, &q.y),
+    }
+}
+
+// And the greatest.
+fn greatest(p: &Point, q: &Point) -> Point
+    ensures value { result ≡ greatest_of p.now q.now }
+{
+    Point {
+        x: greater(&p.x, &q.x),
+        y: greater(&p.y, &q.y),
+    }
+}
+
+// Where a slice may be cut.
+struct Edges {
+    functions: Vec<Ends>,
+    times: Vec<Frac>,
+}
+
+// The edges of a slice: the differences by x and by y, and those of time.
+fn edges_of(
+    alloc: Global,
+    grid: &Grid,
+    range: &TileRange,
+    slice: &Slice<PlaneLine>,
+) -> Result<Edges, OpFault>
+    requires sound { IsSound (λ c. c.from) (λ c. c.to) slice.now }
+    requires reaches { Reaches grid.now range.now slice.now }
+    ensures made { MatchResult result (λ e. (e.functions.items ≡ differences grid.now slice.now) × (e.times.items ≡ map (edge_of grid.now.width) (t_edges grid.now slice.now)) × AllFit (edges_parts grid.now slice.now)) (IsPartFault F2 (edges_parts grid.now slice.now)) }
+{
+    let from = &slice.course.from;
+    let to = &slice.course.to;
+    let low = grid.tile_at(range, &least(from, to), slice.span.lower());
+    let high = grid.tile_at(range, &greatest(from, to), slice.span.upper());
+    let size = grid.size();
+    let mut functions = match differences(alloc, size, &from.x, &to.x, low.i, high.i) {
+        Ok(functions) => functions,
+        Err(fault) => return Err(fault),
+    };
+    let more = match differences(alloc, size, &from.y, &to.y, low.j, high.j) {
+        Ok(more) => more,
+        Err(fault) => return Err(fault),
+    };
+    let times = match times(alloc, grid.width(), low.k, high.k) {
+        Ok(times) => times,
+        Err(fault) => return Err(fault),
+    };
+    if append(&mut functions, more).is_err() {
+        return Err(OpFault::NoMemory);
+    }
+    Ok(Edges { functions, times })
+}
+
+// Where the slice is cut.
+fn cuts_on(alloc: Global, span: &Span, edges: Edges) -> Result<Vec<Frac>, OpFault>
+    requires level { AllByRecursion (IsLevel span.now) edges.functions.items }
+    ensures made { MatchResult result (λ v. (v.items ≡ roots span.now edges.functions.items ++ edges.times.items) × AllFit (roots_parts span.now edges.functions.items)) (IsPartFault F3 (roots_parts span.now edges.functions.items)) }
+{
+    let Edges { functions, times } = edges;
+    let mut cuts = match roots_of(alloc, span, functions.as_slice()) {
+        Ok(cuts) => cuts,
+        Err(fault) => return Err(fault),
+    };
+    match append(&mut cuts, times) {
+        Ok(()) => Ok(cuts),
+        Err(_) => Err(OpFault::NoMemory),
+    }
+}
+
+// Puts instants in order.
+fn sort_cuts(cuts: &mut Vec<Frac>) -> Result<(), AllocError>
+    ensures sorted { OnOk result (IsPermutation cuts.old.items cuts.new.items × IsSortedBy (λ a b. is_lt (compare_ratio a b)) cuts.new.items) }
+{
+    let compare = |a: &Frac, b: &Frac| -> Ordering
+        ensures order { result ≡ compare_ratio a.now b.now }
+    { Ranked::compare(a, b) };
+    match cuts.sort_by(compare) {
+        Ok(()) => Ok(()),
+        Err(error) => Err(error),
+    }
+}
+
+// The cells of a slice, each of which lies in one tile.
+fn cells_of(
+    alloc: Global,
+    grid: &Grid,
+    slice: &Slice<PlaneLine>,
+    cuts: Vec<Frac>,
+) -> Result<Vec<Span>, AllocError>
+    requires sound { IsSound (λ c. c.from) (λ c. c.to) slice.now }
+    requires cuts { cuts.items ≡ cuts_of grid.now slice.now }
+    ensures cells { IfOk result (λ v. AreTileCells grid.now slice.now (cuts_of grid.now slice.now) v.items) }
+{
+    let _size = grid.size();
+    let _width = grid.width();
+    let mut cuts = cuts;
+    match sort_cuts(&mut cuts) {
+        Ok(()) => {}
+        Err(error) => return Err(error),
+    }
+    match cells_at(alloc, &slice.span, cuts.as_slice()) {
+        Ok(cells) => Ok(cells),
+        Err(error) => Err(error),
+    }
+}
+
+// The piece of a slice on a cell that lies in one tile.
+fn piece_on(
+    alloc: Global,
+    grid: &Grid,
+    range: &TileRange,
+    slice: &Slice<PlaneLine>,
+    cell: &Span,
+) -> Result<Piece, OpFault>
+    requires holds { IsSound (λ c. c.from) (λ c. c.to) slice.now × (is_inside slice.now.span cell.now ≡ true) }
+    requires reaches { Reaches grid.now range.now slice.now }
+    requires one { HasOneTile grid.now slice.now cell.now }
+    ensures piece { MatchResult result (λ q. HasValues plane_value_of (λ c. c.from) (λ c. c.to) (slice_value plane_value_of slice.now) cell.now q.slice × IsInItsTile grid.now q × AllFit (at_ends (slice_parts plane_parts_of slice.now) cell.now)) (IsCellFault (at_ends (slice_parts plane_parts_of slice.now) cell.now)) }
+{
+    let part = match cut(alloc, slice, cell) {
+        Ok(part) => part,
+        Err(fault) => return Err(operator_fault(fault)),
+    };
+    let tile = grid.tile_at(
+        range,
+        &least(&part.course.from, &part.course.to),
+        cell.lower(),
+    );
+    Ok(Piece { tile, slice: part })
+}
+
+// Adds a piece.
+fn push_piece(
+    alloc: Global,
+    out: &mut Vec<Piece>,
+    grid: &Grid,
+    range: &TileRange,
+    slice: &Slice<PlaneLine>,
+    cell: &Span,
+) -> Result<(), OpFault>
+    requires holds { IsSound (λ c. c.from) (λ c. c.to) slice.now × (is_inside slice.now.span cell.now ≡ true) }
+    requires reaches { Reaches grid.now range.now slice.now }
+    requires one { HasOneTile grid.now slice.now cell.now }
+    ensures pushed { MatchResult result (λ _. IsPushed grid.now slice.now cell.now out.old.items out.new.items × AllFit (at_ends (slice_parts plane_parts_of slice.now) cell.now)) (IsCellFault (at_ends (slice_parts plane_parts_of slice.now) cell.now)) }
+{
+    let piece = match piece_on(alloc, grid, range, slice, cell) {
+        Ok(piece) => piece,
+        Err(fault) => return Err(fault),
+    };
+    match out.push(piece) {
+        Ok(()) => Ok(()),
+        Err(_) => Err(OpFault::NoMemory),
+    }
+}
+
+// The pieces of a slice on its cells.
+fn pieces_at(
+    alloc: Global,
+    grid: &Grid,
+    range: &TileRange,
+    slice: &Slice<PlaneLine>,
+    cells: &[Span],
+) -> Result<Vec<Piece>, OpFault>
+    requires sound { IsSound (λ c. c.from) (λ c. c.to) slice.now }
+    requires reaches { Reaches grid.now range.now slice.now }
+    requires cells { AreTileCells grid.now slice.now (cuts_of grid.now slice.now) cells.now }
+    ensures pieces { MatchResult result (λ v. ArePiecesOf grid.now slice.now v.items × IsFirst (entry_of_values grid.now slice.now ∷ []) None) (OnFormula (λ f. IsFirst (entry_of_values grid.now slice.now ∷ []) (Some f))) }
+{
+    let mut out = Vec::new(alloc);
+    for cell in cells {
+        match push_piece(alloc, &mut out, grid, range, slice, cell) {
+            Ok(()) => {}
+            Err(fault) => return Err(fault),
+        }
+    }
+    Ok(out)
+}
+
+// The pieces of a slice.
+fn on_slice(
+    alloc: Global,
+    grid: &Grid,
+    range: &TileRange,
+    slice: &Slice<PlaneLine>,
+) -> Result<Vec<Piece>, OpFault>
+    requires sound { IsSound (λ c. c.from) (λ c. c.to) slice.now }
+    requires reaches { Reaches grid.now range.now slice.now }
+    ensures pieces { MatchResult result (λ v. ArePiecesOf grid.now slice.now v.items × IsFirst (entries_of_slice grid.now slice.now) None) (OnFormula (λ f. IsFirst (entries_of_slice grid.now slice.now) (Some f))) }
+{
+    let _size = grid.size();
+    let _width = grid.width();
+    let edges = match edges_of(alloc, grid, range, slice) {
+        Ok(edges) => edges,
+        Err(fault) => return Err(fault),
+    };
+    let cuts = match cuts_on(alloc, &slice.span, edges) {
+        Ok(cuts) => cuts,
+        Err(fault) => return Err(fault),
+    };
+    let cells = match cells_of(alloc, grid, slice, cuts) {
+        Ok(cells) => cells,
+        Err(_) => return Err(OpFault::NoMemory),
+    };
+    pieces_at(alloc, grid, range, slice, cells.as_slice())
+}
+
+/// The pieces of all slices, in order of time. `Passed` names the first formula of a slice that has a part that does not fit.
+pub fn pieces_of(
+    alloc: Global,
+    grid: &Grid,
+    range: &TileRange,
+    slices: &[Slice<PlaneLine>],
+) -> Result<Vec<Piece>, OpFault>
+    requires ordered { IsOrdered (λ c. c.from) (λ c. c.to) slices.now }
+    requires reach { AllByRecursion (Reaches grid.now range.now) slices.now }
+    ensures pieces { IfOk result (λ v. ArePieces grid.now slices.now v.items) }
+    ensures first { IsJudged (flat_map (entries_of_slice grid.now) slices.now) result }
+{
+    let mut out = Vec::new(alloc);
+    for slice in slices {
+        let more = match on_slice(alloc, grid, range, slice) {
+            Ok(more) => more,
+            Err(fault) => return Err(fault),
+        };
+        if append(&mut out, more).is_err() {
+            return Err(OpFault::NoMemory);
+        }
+    }
+    Ok(out)
+}

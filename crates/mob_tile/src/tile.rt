@@ -1,0 +1,115 @@
+//! Tiles, by their three numbers.
+ghost use Rattle.std.specs.Prelude.{◌≡◌, ◌↔◌, pos, true, false, ◌<ℤ◌, ◌≤ℤ◌, ◌*ℤ◌, ℤ, nat_abs, ◌<◌, ◌^◌};
+ghost use Rattle.mob_tile.specs.Tiles.{compare_tiles, compare_later, side_of, HasMany, IsRange};
+
+use std::cmp::Ordering;
+
+/// A tile of a grid: from `i` to `i + 1` by x, from `j` to `j + 1` by y and from `k` to `k + 1` by time, each counted in
+/// sides of a tile and without its end.
+#[derive(Clone, Copy, Debug, Drop)]
+pub struct Tile {
+    /// By x.
+    pub i: i64,
+    /// By y.
+    pub j: i64,
+    /// By time.
+    pub k: i64,
+}
+
+/// All tiles between two of them by each number, both with them.
+#[derive(Clone, Copy, Debug, Drop)]
+pub struct TileRange {
+    /// The least by each number.
+    pub low: Tile,
+    /// The greatest by each number.
+    pub high: Tile,
+}
+
+impl Tile {
+    /// How the two stand: by i, then by j, then by k.
+    pub fn compare(&self, other: &Tile) -> Ordering
+        ensures order { result ≡ compare_tiles self.now other.now }
+    {
+        match self.i.cmp(&other.i) {
+            Ordering::Equal => compare_later(self, other),
+            order => order,
+        }
+    }
+}
+
+// By j, then by k.
+fn compare_later(a: &Tile, b: &Tile) -> Ordering
+    ensures order { result ≡ compare_later a.now b.now }
+{
+    match a.j.cmp(&b.j) {
+        Ordering::Equal => a.k.cmp(&b.k),
+        order => order,
+    }
+}
+
+// How many numbers there are from one to another, both with them.
+fn side(low: i64, high: i64) -> i128
+    requires order { low ≤ℤ high }
+    ensures value { result ≡ side_of low high }
+    ensures some { pos 1 ≤ℤ result }
+{
+    high as i128 - low as i128 + 1
+}
+
+// Whether there are more than 10,000.
+fn is_large(n: i128) -> bool
+    ensures exact { (result ≡ true) ↔ (pos 10000 <ℤ n) }
+{
+    n > 10_000
+}
+
+// The product of two sides that are not long.
+fn area(a: i128, b: i128) -> i128
+    requires left { nat_abs a < 2 ^ 14 }
+    requires right { nat_abs b < 2 ^ 14 }
+    ensures value { result ≡ a *ℤ b }
+    ensures bound { nat_abs result < 2 ^ 28 }
+{
+    a * b
+}
+
+// The same of an area and a side.
+fn volume(a: i128, b: i128) -> i128
+    requires left { nat_abs a < 2 ^ 28 }
+    requires right { nat_abs b < 2 ^ 14 }
+    ensures value { result ≡ a *ℤ b }
+{
+    a * b
+}
+
+// Whether three sides have more than 10,000 tiles.
+fn are_many(i: i128, j: i128, k: i128) -> bool
+    requires by_i { pos 1 ≤ℤ i }
+    requires by_j { pos 1 ≤ℤ j }
+    requires by_k { pos 1 ≤ℤ k }
+    ensures exact { (result ≡ true) ↔ (pos 10000 <ℤ (i *ℤ j *ℤ k)) }
+{
+    if is_large(i) {
+        return true;
+    }
+    if is_large(j) {
+        return true;
+    }
+    if is_large(k) {
+        return true;
+    }
+    is_large(volume(area(i, j), k))
+}
+
+impl TileRange {
+    /// Whether the range has more than 10,000 tiles.
+    pub fn has_many(&self) -> bool
+        requires range { IsRange self.now }
+        ensures exact { (result ≡ true) ↔ HasMany self.now }
+    {
+        let by_i = side(self.low.i, self.high.i);
+        let by_j = side(self.low.j, self.high.j);
+        let by_k = side(self.low.k, self.high.k);
+        are_many(by_i, by_j, by_k)
+    }
+}

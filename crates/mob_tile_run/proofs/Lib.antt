@@ -1,0 +1,6 @@
+pub mod Facts
+pub mod Numbers
+pub mod OneSetting
+pub mod TileLaws
+pub mod Tiling
+pub mod Usable

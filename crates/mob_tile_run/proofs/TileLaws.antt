@@ -1,0 +1,26 @@
+-- mobtile is a program over a table of trips, and its faults end a run.
+use Rattle.std.specs.Prelude.{List, refl, map, ℕ, ◌≡◌, Option, Some, None}
+use Rattle.std.proofs.Common.{sym, subst}
+use Rattle.mob_value.specs.declared.value.Value.{Value}
+use Rattle.mob_pairs.specs.declared.fault.PairFault.{PairFault}
+use Rattle.mob_pairs.specs.declared.fault.PairFault.TheVariants.{Passed, Limit, NoMemory}
+use Rattle.mob_trips.specs.Endings.{EndsOn}
+use Rattle.mob_trips.specs.Program.{IsTripsProgram}
+use Rattle.mob_trips.specs.Rows.{trips_in}
+use Rattle.mob_trips.specs.declared.ending.Ending.{Ending}
+use Rattle.mob_tile_run.specs.TileAnswers.{TileFails}
+use Rattle.mob_tile_run.specs.TileProgram.{EndsAt, tile_program}
+use Rattle.mob_tile_run.specs.declared.settings.TileSettings.{TileSettings}
+use Rattle.mob_tile_run.proofs.OneSetting.{one_setting}
+
+pub fault_ends : (settings : TileSettings) (rows : List (List Value)) (fault : PairFault) (ending : Ending) → EndsAt fault ending → TileFails settings (trips_in rows) fault → EndsOn tile_program settings rows ending
+fault_ends settings rows (Passed names formula) ending e h = subst (λ z. EndsOn tile_program settings rows z) (sym e) h
+fault_ends settings rows (Limit row) ending e h = subst (λ z. EndsOn tile_program settings rows z) (sym e) (row, refl, h)
+fault_ends settings rows NoMemory ending e h = subst (λ z. EndsOn tile_program settings rows z) (sym e) tt
+
+pub is_program : IsTripsProgram tile_program
+is_program = record {
+  one = one_setting;
+  fits_stops = λ settings rows names formula fits stops. fits.0 names formula stops;
+  fits_limits = λ settings rows names fits limits. fits.1 limits.0 limits.2;
+}

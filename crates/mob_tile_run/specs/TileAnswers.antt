@@ -1,0 +1,42 @@
+-- The answer of mobtile on the rows of a table of trips, and why it may have none.
+use Rattle.std.specs.Prelude.{◌≡◌, ◌≤◌, ℕ, ℤ, List, Option, Some, None, map, true, IfSome}
+use Rattle.mob_ratio.specs.Ratio.{Ratio}
+use Rattle.mob_ratio.specs.Order.{up_to}
+use Rattle.mob_ratio.specs.Sign.{nil}
+use Rattle.mob_value.specs.declared.value.Value.{Value}
+use Rattle.mob_pairs.specs.Faults.{IsPairsFault}
+use Rattle.mob_pairs.specs.Pairs.{ArePairs}
+use Rattle.mob_pairs.specs.declared.fault.PairFault.{PairFault}
+use Rattle.mob_records.specs.AnswerText.{answer_text}
+use Rattle.mob_trips.specs.Rows.{Trip}
+use Rattle.mob_tile_run.specs.TileTexts.{pair_fields, pair_names}
+use Rattle.mob_tile_run.specs.TileParts.{PartsText, IsFirstSplitFault}
+use Rattle.mob_tile_run.specs.declared.settings.TileSettings.{TileSettings}
+
+-- the distance is not below 0, and there are from 1 to 64 workers
+pub record IsUsable (settings : TileSettings) : Type 0 where
+  pub distance : IfSome settings.near (λ d. up_to nil d ≡ true)
+  pub some_workers : 1 ≤ settings.workers
+  pub few_workers : settings.workers ≤ 64
+
+-- the text of the pairs of trips that come within d
+pub record PairsText (d : Ratio) (day : ℤ) (ids : List Value) (trips : List (Option Trip)) (text : List ℕ) : Type 0 where
+  pub pairs : List (ℕ × ℕ)
+  pub are : ArePairs trips d pairs
+  pub text_is : text ≡ answer_text pair_names (map (pair_fields day ids) pairs)
+
+-- the text for these trips: with a distance of their pairs, and without one of their parts
+abbrev pub WritesBy : Option Ratio → TileSettings → List Value → List (Option Trip) → List ℕ → Type 0
+WritesBy None settings ids trips text = PartsText settings.grid settings.epoch ids trips text
+WritesBy (Some d) settings ids trips text = PairsText d settings.epoch ids trips text
+
+abbrev pub TileWrites : TileSettings → List Value → List (Option Trip) → List ℕ → Type 0
+TileWrites settings ids trips text = WritesBy settings.near settings ids trips text
+
+-- why there is none
+abbrev pub FailsBy : Option Ratio → TileSettings → List (Option Trip) → PairFault → Type 0
+FailsBy None settings trips fault = IsFirstSplitFault settings.grid trips fault
+FailsBy (Some d) settings trips fault = IsPairsFault settings.grid d trips fault
+
+abbrev pub TileFails : TileSettings → List (Option Trip) → PairFault → Type 0
+TileFails settings trips fault = FailsBy settings.near settings trips fault

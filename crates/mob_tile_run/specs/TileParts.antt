@@ -1,0 +1,72 @@
+-- The parts of the trips of a table, and the first row that has none.
+use Rattle.std.specs.Prelude.{◌≡◌, ◌∷◌, ◌++◌, ◌+◌, ℕ, ℤ, List, [], Option, Some, None, Err, map, length}
+use Rattle.std.specs.List.{AllZip, flat_map}
+use Rattle.mob_frac.specs.Formula.{AllFit}
+use Rattle.mob_slice.specs.Entries.{IsFirst}
+use Rattle.mob_slice.specs.declared.formula.Formula.{Formula}
+use Rattle.mob_value.specs.declared.value.Value.{Value}
+use Rattle.mob_tile.specs.Edges.{entries_of_slice}
+use Rattle.mob_tile.specs.Split.{IsSplit, OnRange, SplitAnswer}
+use Rattle.mob_tile.specs.Tiles.{GridOf, HasMany}
+use Rattle.mob_tile.specs.declared.splitting.SplitFault.{SplitFault}
+use Rattle.mob_tile.specs.declared.splitting.SplitFault.TheVariants as split
+use Rattle.mob_tile.specs.declared.tile.Tile.{Tile}
+use Rattle.mob_pairs.specs.declared.fault.PairFault.{PairFault}
+use Rattle.mob_pairs.specs.declared.fault.PairFault.TheVariants.{Passed, Limit, NoMemory}
+use Rattle.mob_records.specs.AnswerText.{answer_text}
+use Rattle.mob_trips.specs.Rows.{Trip}
+use Rattle.mob_tile_run.specs.TileTexts.{part_fields, part_names}
+
+-- The split of a trip, where all parts of formulas fit and the range of its box has at most 10,000 tiles; a row without a trip has none.
+abbrev pub IsSplitOf : GridOf → Option Trip → List (Tile × Trip) → Type 0
+IsSplitOf g None parts = parts ≡ []
+IsSplitOf g (Some v) parts = IsSplit g v parts × OnRange g v (λ quotients range. AllFit quotients × (¬ HasMany range) × IsFirst (flat_map (entries_of_slice g) v) None)
+
+-- the fault of a row for that of its trip
+abbrev pub row_fault : ℕ → SplitFault → PairFault
+row_fault row (split.Passed formula) = Passed (row ∷ []) formula
+row_fault row split.Limit = Limit row
+row_fault row split.NoMemory = NoMemory
+
+-- why a trip is not split
+abbrev pub SplitFails : GridOf → Trip → SplitFault → Type 0
+SplitFails g v fault = OnRange g v (λ quotients range. SplitAnswer {V = List (Tile × Trip)} g v quotients range (Err fault))
+
+-- The fault of a row: why its trip is not split, on this row. Out of memory has no row.
+abbrev pub IsSplitFault : GridOf → Option Trip → ℕ → PairFault → Type 0
+IsSplitFault g None row fault = ⊥
+IsSplitFault g (Some v) row (Passed rows formula) = (rows ≡ row ∷ []) × SplitFails g v (split.Passed formula)
+IsSplitFault g (Some v) row (Limit r) = (r ≡ row) × SplitFails g v split.Limit
+IsSplitFault g (Some v) row NoMemory = Unit {0}
+
+-- the fault of some row, while all rows before it are split
+pub record IsSomeSplitFault (g : GridOf) (trips : List (Option Trip)) (fault : PairFault) : Type 0 where
+  pub before : List (Option Trip)
+  pub here : Option Trip
+  pub after : List (Option Trip)
+  pub splits : List (List (Tile × Trip))
+  pub is : trips ≡ before ++ here ∷ after
+  pub first : AllZip (IsSplitOf g) before splits
+  pub cause : IsSplitFault g here (length before) fault
+
+abbrev pub IsFirstSplitFault : GridOf → List (Option Trip) → PairFault → Type 0
+IsFirstSplitFault g trips NoMemory = Unit {0}
+IsFirstSplitFault g trips (Passed rows formula) = IsSomeSplitFault g trips (Passed rows formula)
+IsFirstSplitFault g trips (Limit row) = IsSomeSplitFault g trips (Limit row)
+
+-- the records of the parts of rows, from row n on
+abbrev pub records_from : ℤ → List Value → ℕ → List (List (Tile × Trip)) → List (List (List ℕ))
+records_from day ids n [] = []
+records_from day ids n (parts ∷ splits) = map (part_fields day ids n) parts ++ records_from day ids (n + 1) splits
+
+-- the records of the splits of these trips
+pub record ArePartRecords (g : GridOf) (day : ℤ) (ids : List Value) (trips : List (Option Trip)) (records : List (List (List ℕ))) : Type 0 where
+  pub splits : List (List (Tile × Trip))
+  pub are : AllZip (IsSplitOf g) trips splits
+  pub records_are : records ≡ records_from day ids 0 splits
+
+-- their text
+pub record PartsText (g : GridOf) (day : ℤ) (ids : List Value) (trips : List (Option Trip)) (text : List ℕ) : Type 0 where
+  pub records : List (List (List ℕ))
+  pub of : ArePartRecords g day ids trips records
+  pub text_is : text ≡ answer_text part_names records

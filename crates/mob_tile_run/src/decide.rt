@@ -1,0 +1,72 @@
+// What a run does before its note.
+ghost use Rattle.std.specs.Prelude.{map, string_bytes};
+ghost use Rattle.mob_outside.specs.EndsSeen.{stream_seen};
+ghost use Rattle.mob_trips.specs.Endings.{IsTripsEnding};
+ghost use Rattle.mob_trips.specs.Seen.{trips_seen};
+ghost use Rattle.mob_tile_run.specs.TileAnswers.{IsUsable};
+ghost use Rattle.mob_tile_run.specs.TileProgram.{EndsAt, TileEnds, tile_program};
+
+use crate::answer::tile_text;
+use crate::reading::settings;
+use crate::settings::TileSettings;
+use mob_outside::{Gate, Sink, Source};
+use mob_pairs::PairFault;
+use mob_trips::{Ending, put_text, read_trips};
+use mob_tuples::Tuple;
+use std::alloc::Global;
+use std::marker::Sync;
+use std::thread::Threads;
+
+// The ending of a fault.
+fn ending_of(fault: PairFault) -> Ending
+    ensures ending { EndsAt fault result }
+{
+    match fault {
+        PairFault::Passed { rows, formula } => Ending::Overflow { rows, formula },
+        PairFault::Limit { row } => Ending::RowsRefused {
+            rows: Tuple::new().with(row),
+        },
+        PairFault::NoMemory => Ending::NoMemory,
+    }
+}
+
+// Reads the table and writes the answer.
+fn answer_table<R: Threads + Sync, S: Source, K: Sink, G: Gate>(
+    rt: &R,
+    alloc: Global,
+    settings: &TileSettings,
+    table: &mut S,
+    out: &mut K,
+    gate: &G,
+) -> Ending
+    requires usable { IsUsable settings.now }
+    ensures ends { TileEnds settings.now (stream_seen S.left S.faults table.old table.new) (stream_seen K.held K.faults out.old out.new) result }
+{
+    let rows = match read_trips(alloc, table, &settings.epoch) {
+        Ok(rows) => rows,
+        Err(ending) => return ending,
+    };
+    let text = match tile_text(rt, alloc, settings, rows, gate) {
+        Ok(text) => text,
+        Err(fault) => return ending_of(fault),
+    };
+    put_text(out, &text)
+}
+
+/// Judges the arguments, reads the table and writes the parts or the pairs.
+pub fn decide<R: Threads + Sync, S: Source, K: Sink, G: Gate>(
+    rt: &R,
+    alloc: Global,
+    words: &[String],
+    table: &mut S,
+    out: &mut K,
+    gate: &G,
+) -> Ending
+    ensures ends { IsTripsEnding tile_program result (trips_seen (map string_bytes words.now) (stream_seen S.left S.faults table.old table.new) (stream_seen K.held K.faults out.old out.new)) }
+{
+    match settings(alloc, words) {
+        Ok(Some(settings)) => answer_table(rt, alloc, &settings, table, out, gate),
+        Ok(None) => Ending::Usage,
+        Err(_) => Ending::NoMemory,
+    }
+}

@@ -1,0 +1,115 @@
+// The fields of records.
+ghost use Rattle.std.specs.Prelude.{◌≡◌, ◌++◌, codes, string_bytes, IfOk, OnOk};
+ghost use Rattle.std.specs.Fmt.{signed_decimal};
+ghost use Rattle.mob_literal.specs.Fields.{field_text};
+ghost use Rattle.mob_tile_run.specs.TileTexts.{tile_text, part_fields, pair_fields, part_names, pair_names};
+ghost use Rattle.mob_value.specs.declared.value.Value.TheVariants.{MovingPoint};
+
+use itoa::Buffer;
+use mob_list::items::Items;
+use mob_list::text::Text;
+use mob_literal::write_field;
+use mob_scalar::Epoch;
+use mob_slice::{Moving, PlaneLine};
+use mob_tile::Tile;
+use mob_trips::id_text;
+use mob_value::Value;
+use std::alloc::{AllocError, Global};
+
+// Adds a whole number.
+fn push_number(text: &mut String, n: i64) -> Result<(), AllocError>
+    ensures written { OnOk result (string_bytes text.new ≡ string_bytes text.old ++ signed_decimal n) }
+{
+    let mut digits = Buffer::new();
+    text.push_str(digits.format(n))
+}
+
+// Adds a blank and a whole number.
+fn push_next(text: &mut String, n: i64) -> Result<(), AllocError>
+    ensures written { OnOk result (string_bytes text.new ≡ string_bytes text.old ++ (codes " " ++ signed_decimal n)) }
+{
+    text.push_str(" ")?;
+    push_number(text, n)
+}
+
+// A tile as a field: its three numbers with blanks between them.
+fn tile_field(alloc: Global, tile: &Tile) -> Result<Text, AllocError>
+    ensures text { IfOk result (λ t. t ≡ tile_text tile.now) }
+{
+    let mut text = String::new(alloc);
+    push_number(&mut text, tile.i)?;
+    push_next(&mut text, tile.j)?;
+    push_next(&mut text, tile.k)?;
+    Ok(Text::from_string(text))
+}
+
+// A part of a trip as a field.
+fn part_field(alloc: Global, part: Moving<PlaneLine>, epoch: &Epoch) -> Result<Text, AllocError>
+    ensures text { IfOk result (λ t. t ≡ field_text epoch.now (MovingPoint part)) }
+{
+    let value = Value::MovingPoint(part);
+    let mut text = String::new(alloc);
+    write_field(&value, epoch, &mut text)?;
+    Ok(Text::from_string(text))
+}
+
+/// The fields of a part of the trip of a row: the id, the tile and the part.
+pub fn part_fields(
+    alloc: Global,
+    ids: &[Value],
+    row: u32,
+    tile: &Tile,
+    part: Moving<PlaneLine>,
+    epoch: &Epoch,
+) -> Result<Items<Text>, AllocError>
+    ensures fields { IfOk result (λ f. f ≡ part_fields epoch.now ids.now row (tile.now, part)) }
+{
+    let part = part_field(alloc, part, epoch)?;
+    let mut fields = Items::new(alloc);
+    fields.push(id_text(alloc, ids, row, epoch)?)?;
+    fields.push(tile_field(alloc, tile)?)?;
+    fields.push(part)?;
+    Ok(fields)
+}
+
+/// The fields of a pair of rows: their ids.
+pub fn pair_fields(
+    alloc: Global,
+    ids: &[Value],
+    a: u32,
+    b: u32,
+    epoch: &Epoch,
+) -> Result<Items<Text>, AllocError>
+    ensures fields { IfOk result (λ f. f ≡ pair_fields epoch.now ids.now (a, b)) }
+{
+    let mut fields = Items::new(alloc);
+    fields.push(id_text(alloc, ids, a, epoch)?)?;
+    fields.push(id_text(alloc, ids, b, epoch)?)?;
+    Ok(fields)
+}
+
+/// The names of the columns of parts.
+pub fn part_names(alloc: Global) -> Result<Items<Text>, AllocError>
+    ensures names { IfOk result (λ names. names ≡ part_names) }
+{
+    let id = Text::from_string(String::from_str(alloc, "id")?);
+    let tile = Text::from_string(String::from_str(alloc, "tile")?);
+    let part = Text::from_string(String::from_str(alloc, "part")?);
+    let mut names = Items::new(alloc);
+    names.push(id)?;
+    names.push(tile)?;
+    names.push(part)?;
+    Ok(names)
+}
+
+/// The names of the columns of pairs.
+pub fn pair_names(alloc: Global) -> Result<Items<Text>, AllocError>
+    ensures names { IfOk result (λ names. names ≡ pair_names) }
+{
+    let a = Text::from_string(String::from_str(alloc, "a")?);
+    let b = Text::from_string(String::from_str(alloc, "b")?);
+    let mut names = Items::new(alloc);
+    names.push(a)?;
+    names.push(b)?;
+    Ok(names)
+}

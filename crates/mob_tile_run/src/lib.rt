@@ -1,0 +1,14 @@
+//! The program mobtile as a library: the parts of trips in the tiles of a grid, or the pairs of trips that come within a distance.
+#![tactic(auto)]
+
+mod answer;
+mod command;
+mod decide;
+mod fields;
+mod parts;
+mod reading;
+mod settings;
+mod top;
+
+pub use settings::TileSettings;
+pub use top::{run_tile, tell_tile};

@@ -1,0 +1,129 @@
+// What the arguments of a command line say.
+ghost use Rattle.std.specs.Prelude.{◌≡◌, ℕ, Option, IfOk, IfSome, IsNone, Some, map, option_map, string_bytes};
+ghost use Rattle.mob_ratio.specs.Ratio.{Ratio};
+ghost use Rattle.mob_tile.specs.Tiles.{GridOf};
+ghost use Rattle.mob_words.specs.CommandLine.{IsWorkers};
+ghost use Rattle.mob_tile_run.specs.CommandLine.{IsDistance, IsNear, IsSide, IsSides, TileSays};
+ghost use Rattle.mob_tile_run.specs.declared.settings.TileSettings.{TileSettings as SettingsSeen};
+
+use crate::command::given;
+use crate::settings::TileSettings;
+use mob_frac::Frac;
+use mob_numeral::read_number;
+use mob_tile::Grid;
+use mob_tile::grid::is_positive;
+use mob_words::{count_in, epoch_of};
+use std::alloc::{AllocError, Global};
+
+// The greatest number of workers.
+const MOST_WORKERS: u32 = 64;
+
+// The number that a text says, if it is above 0.
+fn side_in(text: &str) -> Option<Frac>
+    ensures some { IfSome result (λ d. IsSide (Some text.now) d) }
+    ensures none { IsNone result → (d : Ratio) → IsSide (Some text.now) d → ⊥ }
+{
+    let Ok(number) = read_number(text) else {
+        return None;
+    };
+    if !is_positive(&number) {
+        return None;
+    }
+    Some(number)
+}
+
+// The side of a tile that the value of an option says; the option is required.
+fn side_of(value: Option<&str>) -> Option<Frac>
+    ensures some { IfSome result (λ d. IsSide (option_map (λ s. s.now) value.entry) d) }
+    ensures none { IsNone result → (d : Ratio) → IsSide (option_map (λ s. s.now) value.entry) d → ⊥ }
+{
+    match value {
+        None => None,
+        Some(text) => side_in(text),
+    }
+}
+
+// The grid that the values of `--size` and `--width` say.
+fn grid_of(size: Option<&str>, width: Option<&str>) -> Option<Grid>
+    ensures some { IfSome result (IsSides (option_map (λ s. s.now) size.entry) (option_map (λ s. s.now) width.entry)) }
+    ensures none { IsNone result → (g : GridOf) → IsSides (option_map (λ s. s.now) size.entry) (option_map (λ s. s.now) width.entry) g → ⊥ }
+{
+    let Some(size) = side_of(size) else {
+        return None;
+    };
+    let Some(width) = side_of(width) else {
+        return None;
+    };
+    Grid::new(size, width)
+}
+
+// The number that a text says, if it is not below 0.
+fn distance_in(text: &str) -> Option<Frac>
+    ensures some { IfSome result (λ d. IsDistance text.now d) }
+    ensures none { IsNone result → (d : Ratio) → IsDistance text.now d → ⊥ }
+{
+    let Ok(number) = read_number(text) else {
+        return None;
+    };
+    if number.is_before(&Frac::zero()) {
+        return None;
+    }
+    Some(number)
+}
+
+// The distance that the value of `--near` says; without a value there is none.
+fn near_of(value: Option<&str>) -> Option<Option<Frac>>
+    ensures some { IfSome result (λ near. IsNear (option_map (λ s. s.now) value.entry) near) }
+    ensures none { IsNone result → (near : Option Ratio) → IsNear (option_map (λ s. s.now) value.entry) near → ⊥ }
+{
+    match value {
+        None => Some(None),
+        Some(text) => match distance_in(text) {
+            Some(near) => Some(Some(near)),
+            None => None,
+        },
+    }
+}
+
+// The number of workers that the value of `--workers` says, or that goes without one.
+fn workers_of(value: Option<&str>) -> Option<u32>
+    ensures some { IfSome result (λ n. IsWorkers (option_map (λ s. s.now) value.entry) n) }
+    ensures none { IsNone result → (n : ℕ) → IsWorkers (option_map (λ s. s.now) value.entry) n → ⊥ }
+{
+    match value {
+        None => Some(1),
+        Some(text) => count_in(text, MOST_WORKERS),
+    }
+}
+
+/// The settings that the arguments say, the first of which is the program's name: `--size S` and `--width W` with numbers above 0,
+/// `--near D` with a number that is not below 0, `--workers N` with a whole number from 1 to 64, and `--epoch DATE`. `--size` and
+/// `--width` are required, and each option may be given once.
+///
+/// None exactly where the arguments are not taken.
+pub fn settings(alloc: Global, words: &[String]) -> Result<Option<TileSettings>, AllocError>
+    ensures said { IfOk result (λ o. IfSome o (TileSays (map string_bytes words.now))) }
+    ensures refused { IfOk result (λ o. IsNone o → (s : SettingsSeen) → TileSays (map string_bytes words.now) s → ⊥) }
+{
+    let Some(given) = given(alloc, words)? else {
+        return Ok(None);
+    };
+    let Some(grid) = grid_of(given.size, given.width) else {
+        return Ok(None);
+    };
+    let Some(near) = near_of(given.near) else {
+        return Ok(None);
+    };
+    let Some(workers) = workers_of(given.workers) else {
+        return Ok(None);
+    };
+    let Some(epoch) = epoch_of(given.epoch) else {
+        return Ok(None);
+    };
+    Ok(Some(TileSettings {
+        grid,
+        near,
+        workers,
+        epoch,
+    }))
+}

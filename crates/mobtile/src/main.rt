@@ -1,0 +1,31 @@
+//! The program: `run_tile` over the arguments and the streams of the process.
+#![tactic(auto)]
+
+use mob_outside::{OpenGate, StdSink, StdSource};
+use mob_tile_run::{run_tile, tell_tile};
+use mob_trips::Ending;
+use std::env;
+use std::io::ErrorKind;
+use std::process::ExitCode;
+
+fn main(rt: HostRuntime) -> ExitCode {
+    let alloc = rt.alloc();
+    let mut table = StdSource::new(rt.stdin());
+    let mut out = StdSink::new(rt.stdout());
+    let mut notes = StdSink::new(rt.stderr());
+    let words: Result<Vec<String>, Ending> = match env::args(&rt) {
+        Ok(args) => args.collect(alloc).map_err(|_| Ending::NoMemory),
+        Err(error) if error.kind() == ErrorKind::OutOfMemory => Err(Ending::NoMemory),
+        Err(_) => Err(Ending::Usage),
+    };
+    let status = match words {
+        Ok(words) => run_tile(
+            &rt, alloc, &words, &mut table, &mut out, &mut notes, &OpenGate,
+        ),
+        Err(ending) => {
+            tell_tile(&mut notes, &ending);
+            ending.status()
+        }
+    };
+    ExitCode::from(status)
+}
