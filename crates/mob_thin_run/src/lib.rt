@@ -8,5 +8,4 @@ mod rows;
 mod settings;
 mod top;
 
-pub use settings::ThinSettings;
 pub use top::{run_thin, tell_thin};
