@@ -47,6 +47,21 @@ fn take_out(part: &mut TreeNode, slot: usize) -> Removed
     Removed::Narrowed(part.area)
 }
 
+/// Writes a child's narrower box down at a node. Where the box is the one that is there, the node stays as it is.
+fn narrow(part: &mut TreeNode, slot: usize, area: StBox) -> Removed
+    requires slot { slot < length part.old.kids.items }
+    requires sound { IsSoundNode part.old }
+    requires whole { is_whole area ≡ true }
+    ensures settled { IsSettled part.old slot (Narrowed area) result part.new }
+{
+    let kid = part.kids.as_slice()[slot];
+    if kid.0.same(&area) {
+        return Removed::Narrowed(part.area);
+    }
+    widen(part, slot, area);
+    Removed::Narrowed(part.area)
+}
+
 /// Writes down at a node what became of a child.
 fn settle(part: &mut TreeNode, slot: usize, removed: Removed) -> Removed
     requires slot { slot < length part.old.kids.items }
@@ -55,10 +70,7 @@ fn settle(part: &mut TreeNode, slot: usize, removed: Removed) -> Removed
     ensures settled { IsSettled part.old slot removed result part.new }
 {
     match removed {
-        Removed::Narrowed(area) => {
-            widen(part, slot, area);
-            Removed::Narrowed(part.area)
-        }
+        Removed::Narrowed(area) => narrow(part, slot, area),
         Removed::Missing => take_out(part, slot),
         Removed::Emptied => take_out(part, slot),
     }
