@@ -4,6 +4,7 @@
 # - NAME.sql must print NAME.answer, put NAME.note on standard error and exit with the status in
 #   NAME.status. A missing file means no answer, no note or status 0.
 # - NAME.svg must be what examples/picture draws of NAME.answer, with the title that NAME.svg has.
+#   A picture without an answer is drawn by a document.
 # - The tables that come from logs must be what examples/log_to_table makes of them, and corners.csv
 #   what examples/table_to_log makes of corners.answer.
 #
@@ -35,6 +36,7 @@ for script in examples/*/*.sql; do
     done
 done
 for picture in examples/*/*.svg; do
+    [ -e "${picture%.svg}.answer" ] || continue
     kind=bars
     [ "$(basename "$picture")" != map.svg ] || kind=map
     title=$(sed -n 's:<title>\(.*\)</title>:\1:p' "$picture")

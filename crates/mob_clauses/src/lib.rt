@@ -3,7 +3,7 @@
 #![tactic(auto)]
 
 pub mod clauses;
-pub mod conditions;
+mod conditions;
 mod groups;
 mod keys;
 mod outputs;

@@ -64,8 +64,8 @@ fn is_function(no_call: bool, after: &[Lexeme<'_>]) -> bool
 }
 
 impl TokenStanding {
-    /// Whether a lexeme that stands so, before these, is a counted token of an expression.
-    pub fn counts(&self, lexeme: &Lexeme<'_>, after: &[Lexeme<'_>]) -> bool
+    // Whether a lexeme that stands so, before these, is a counted token of an expression.
+    fn counts(&self, lexeme: &Lexeme<'_>, after: &[Lexeme<'_>]) -> bool
         ensures exact { result ≡ counts self.now (placed_symbol lexeme.now).symbol (placed_symbols after.now) }
     {
         match lexeme.symbol {
@@ -140,8 +140,8 @@ impl TokenStanding {
         }
     }
 
-    /// How the token behind the lexeme stands.
-    pub fn after(&self, lexeme: &Lexeme<'_>, after: &[Lexeme<'_>]) -> TokenStanding
+    // How the token behind the lexeme stands.
+    fn after(&self, lexeme: &Lexeme<'_>, after: &[Lexeme<'_>]) -> TokenStanding
         requires depth { self.now.depth < 2 ^ 62 }
         requires weight { self.now.weight < 2 ^ 62 }
         ensures stands { result ≡ standing_after self.now (placed_symbol lexeme.now).symbol (placed_symbols after.now) }

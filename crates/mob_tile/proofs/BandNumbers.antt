@@ -1,5 +1,5 @@
 -- Each number lies in one band.
-use Rattle.std.proofs.Common.{◌≡◌, ◌↔◌, ◌⊎◌, inl, inr, ℕ, ◌+◌, ◌*◌, ◌<◌, ◌≤◌, ◌/◌, Bool, true, false, ℤ, pos, negsuc, ◌+ℤ◌, ◌-ℤ◌, ◌*ℤ◌, ◌≤ℤ◌, ◌<ℤ◌, arith, refl, sym, ap, subst, ◌∙◌, ◌&&◌, not}
+use Rattle.std.proofs.Common.{◌≡◌, ◌↔◌, inl, inr, ℕ, ◌*◌, ◌<◌, Bool, true, false, ℤ, pos, negsuc, ◌+ℤ◌, ◌*ℤ◌, ◌≤ℤ◌, ◌<ℤ◌, arith, refl, sym, ap, subst, ◌∙◌, not}
 use Rattle.std.proofs.lemmas.Int.{ints}
 use native.Mathlib.Nat.{mul-pos}
 use Rattle.std.proofs.lemmas.Bool.{and_parts, and_from}
@@ -8,7 +8,7 @@ use Rattle.mob_ratio.specs.Ratio.{Ratio, over, whole, ◌*ℚ◌, ◌/ℚ◌, �
 use Rattle.mob_ratio.specs.Order.{before, up_to}
 use Rattle.mob_ratio.specs.Sign.{nil}
 use Rattle.mob_ratio.proofs.IntRing.{linear, products, add_mul}
-use Rattle.mob_ratio.proofs.Clear.{clear2, clear3, cleared, whole-over, over_le, over_lt, one_positive, same_lt}
+use Rattle.mob_ratio.proofs.Clear.{clear3, cleared, whole-over, over_le, over_lt, one_positive, same_lt}
 use Rattle.mob_ratio.proofs.RatioLemmas.{den_pos, over-self, over-mul}
 use Rattle.mob_ratio.proofs.Field.{cases_lt, not_both, lt_of_mul_pos, lt_mul_pos, le_of_eq, le_trans}
 use Rattle.mob_ratio.proofs.Divide.{div-mul, over-pos}

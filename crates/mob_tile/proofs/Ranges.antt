@@ -1,18 +1,16 @@
 -- Each instant of a point lies in one tile, which stands in the range of each box that has it.
-use Rattle.std.proofs.Common.{◌≡◌, ◌↔◌, ◌⊎◌, inl, inr, Bool, true, false, ℤ, pos, ◌+ℤ◌, ◌-ℤ◌, ◌*ℤ◌, ◌≤ℤ◌, ◌<ℤ◌, arith, refl, sym, ap, subst, ◌∙◌, ◌&&◌, int_lt, negsuc, nat_abs, ◌<◌, ◌^◌}
+use Rattle.std.proofs.Common.{◌≡◌, ◌↔◌, inl, inr, Bool, true, false, ℤ, pos, ◌*ℤ◌, ◌≤ℤ◌, ◌<ℤ◌, arith, refl, sym, subst, ◌&&◌, int_lt, negsuc, nat_abs, ◌<◌, ◌^◌}
 use Rattle.std.proofs.lemmas.Int.{ints}
 use Rattle.std.proofs.lemmas.Bool.{and_parts, and_from}
-use Rattle.mob_ratio.specs.Ratio.{Ratio, ◌<ℚ◌, ◌≤ℚ◌}
-use Rattle.mob_ratio.specs.Sign.{nil}
-use Rattle.mob_ratio.specs.Order.{before, up_to}
-use Rattle.mob_ratio.proofs.Field.{le_of_lt, le_of_eq, le_trans}
+use Rattle.mob_ratio.specs.Ratio.{Ratio, ◌≤ℚ◌}
+use Rattle.mob_ratio.proofs.Field.{le_of_lt, le_of_eq}
 use Rattle.mob_ratio.proofs.IntRing.{le_mul, mul_comm, products, linear}
 use Rattle.mob_span.specs.Span.{SpanOf, InSpan}
 use Rattle.mob_plane.specs.declared.point.Point.{Point}
 use Rattle.mob_stbox.specs.Areas.{InArea}
 use Rattle.mob_stbox.specs.declared.area.Area.{Area}
-use Rattle.mob_tile.specs.Bands.{InBand, in_band, band_of}
-use Rattle.mob_tile.specs.Tiles.{GridOf, IsGrid, InTile, in_tile, tile_of, InRange, IsRange, range_of, side_of, tiles_in, HasMany}
+use Rattle.mob_tile.specs.Bands.{in_band}
+use Rattle.mob_tile.specs.Tiles.{GridOf, IsGrid, InTile, in_tile, tile_of, InRange, IsRange, range_of, side_of, HasMany}
 use Rattle.mob_tile.specs.declared.tile.Tile.{Tile}
 use Rattle.mob_tile.specs.declared.tile.TileRange.{TileRange}
 use Rattle.mob_tile.proofs.BandNumbers.{band_has, band_is, bands_rise, in_band_exact}

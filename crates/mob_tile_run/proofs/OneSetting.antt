@@ -1,5 +1,5 @@
 -- The arguments of a command line say one record of settings.
-use Rattle.std.specs.Prelude.{◌≡◌, List, ℕ, Option, Some, None, Ok, codes}
+use Rattle.std.specs.Prelude.{◌≡◌, List, ℕ, Option, Some, None, codes}
 use Rattle.std.proofs.Common.{arith, refl, sym, ap, ◌∙◌}
 use Rattle.mob_ratio.specs.Ratio.{Ratio}
 use Rattle.mob_words.specs.CommandLine.{IsWorkers}

@@ -1,5 +1,5 @@
 -- mobtile is a program over a table of trips, and its faults end a run.
-use Rattle.std.specs.Prelude.{List, refl, map, ℕ, ◌≡◌, Option, Some, None}
+use Rattle.std.specs.Prelude.{List, refl}
 use Rattle.std.proofs.Common.{sym, subst}
 use Rattle.mob_value.specs.declared.value.Value.{Value}
 use Rattle.mob_pairs.specs.declared.fault.PairFault.{PairFault}

@@ -1,6 +1,6 @@
 -- The splits of all rows, one after another.
 use Rattle.std.specs.Prelude.{length, map}
-use Rattle.std.proofs.Common.{◌≡◌, ℕ, suc, ◌+◌, ◌<◌, ℤ, List, [], ◌∷◌, ◌++◌, arith, refl, sym, ap, subst, ◌∙◌, append_assoc, append-nil, length-append, Option, Some, None, Err}
+use Rattle.std.proofs.Common.{◌≡◌, ℕ, suc, ◌+◌, ◌<◌, ℤ, List, [], ◌∷◌, ◌++◌, arith, refl, sym, ap, subst, ◌∙◌, append_assoc, append-nil, length-append, Option, Some, Err}
 use Rattle.std.specs.List.{AllZip}
 use Rattle.mob_value.specs.declared.value.Value.{Value}
 use Rattle.mob_tile.specs.Split.{OnRange, SplitAnswer}

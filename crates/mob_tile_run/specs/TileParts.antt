@@ -3,7 +3,6 @@ use Rattle.std.specs.Prelude.{◌≡◌, ◌∷◌, ◌++◌, ◌+◌, ℕ, ℤ,
 use Rattle.std.specs.List.{AllZip, flat_map}
 use Rattle.mob_frac.specs.Formula.{AllFit}
 use Rattle.mob_slice.specs.Entries.{IsFirst}
-use Rattle.mob_slice.specs.declared.formula.Formula.{Formula}
 use Rattle.mob_value.specs.declared.value.Value.{Value}
 use Rattle.mob_tile.specs.Edges.{entries_of_slice}
 use Rattle.mob_tile.specs.Split.{IsSplit, OnRange, SplitAnswer}

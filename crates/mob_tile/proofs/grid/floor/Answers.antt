@@ -1,8 +1,4 @@
-use Rattle.std.proofs.Common.{rules, FitsSigned, ◌<ℤ◌, pos, arith}
-use Rattle.std.specs.Int.{w64}
-use Rattle.std.proofs.lemmas.Int.{to_z-of_z, ints}
 use Rattle.mob_ratio.proofs.RatioLemmas.{den_pos}
-use Rattle.mob_tile.specs.Bands.{floor_of}
 use Rattle.mob_tile.proofs.Machine.{nonzero}
 use Rattle.mob_tile.proofs.grid.floor.Goals as goal
 

@@ -1,5 +1,4 @@
-use Rattle.std.proofs.Common.{rules, FitsSigned, refl, true, false, sym, ◌∙◌, true≢false, pos, ◌<ℤ◌}
-use Rattle.std.specs.Int.{w64, w128}
+use Rattle.std.proofs.Common.{refl, sym, ◌∙◌, true≢false}
 use Rattle.std.proofs.lemmas.Int.{to_z-of_z}
 use Rattle.mob_tile.proofs.Ranges.{long_first, long_second, long_third, short}
 use Rattle.mob_tile.proofs.tile.are_many.Goals as goal

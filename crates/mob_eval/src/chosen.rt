@@ -1,0 +1,250 @@
+//! Which operators of a query are remembered.
+ghost use Rattle.std.specs.Prelude.{◌≡◌, ◌==◌, ◌++◌, ◌∷◌, ℕ, List, map, option_map};
+ghost use Rattle.mob_typed.specs.Trees.{TypedTree, typed_of};
+ghost use Rattle.mob_eval.specs.Remembered.{AreNodes, condition_nodes, lone, names_only, nodes_at, nodes_here, nodes_of_conditions, place_of, reads_only};
+
+use crate::memory::Memory;
+use crate::remembered::Remembering;
+use mob_operators::Op;
+use mob_typed::TExpr;
+use mob_value::Store;
+use std::alloc::{AllocError, Global};
+
+// How many operators are remembered at most: each is looked for at each operator.
+const MOST: usize = 8;
+
+/// The nodes at a place of the script.
+#[derive(Clone, Copy)]
+pub enum NodesAt<'a> {
+    /// There is none.
+    Nobody,
+    /// There is just one.
+    Only(&'a TExpr),
+    /// There are several.
+    Several,
+}
+
+// The nodes of two parts.
+fn both<'a>(one: NodesAt<'a>, other: NodesAt<'a>) -> NodesAt<'a>
+    ensures both { (es fs : List TypedTree) → AreNodes one.entry es → AreNodes other.entry fs → AreNodes result (es ++ fs) }
+{
+    match (one, other) {
+        (NodesAt::Nobody, nodes) => nodes,
+        (nodes, NodesAt::Nobody) => nodes,
+        _ => NodesAt::Several,
+    }
+}
+
+// A node by itself.
+fn node_here(e: &TExpr, at: u32) -> NodesAt<'_>
+    ensures nodes { AreNodes result (nodes_here (place_of (typed_of e.now) == at) (typed_of e.now)) }
+{
+    if e.place == at {
+        return NodesAt::Only(e);
+    }
+    NodesAt::Nobody
+}
+
+// The nodes of an expression at a place of the script.
+fn nodes_of(e: &TExpr, at: u32) -> NodesAt<'_>
+    ensures nodes { AreNodes result (nodes_at at (typed_of e.now)) }
+{
+    let mut found = node_here(e, at);
+    for arg in &e.args {
+        found = both(found, nodes_of(arg, at));
+    }
+    found
+}
+
+// Those of a condition.
+fn nodes_of_one(condition: &Option<TExpr>, at: u32) -> NodesAt<'_>
+    ensures nodes { AreNodes result (condition_nodes at (option_map typed_of condition.now)) }
+{
+    match condition {
+        Some(e) => nodes_of(e, at),
+        None => NodesAt::Nobody,
+    }
+}
+
+// Those of WHERE and of each ON.
+fn nodes_of_all<'a>(filter: &'a Option<TExpr>, joins: &'a [Option<TExpr>], at: u32) -> NodesAt<'a>
+    ensures nodes { AreNodes result (nodes_of_conditions at (map (option_map typed_of) (filter.now ∷ joins.now))) }
+{
+    let mut found = nodes_of_one(filter, at);
+    for join in joins {
+        found = both(found, nodes_of_one(join, at));
+    }
+    found
+}
+
+// Whether an operator that reads a table of FROM reads that of this place.
+fn reads_only(op: Op, place: Option<u32>) -> bool
+    ensures only { result ≡ reads_only place op }
+{
+    match (op, place) {
+        (Op::Column { from, column: _ }, Some(place)) => from == place,
+        (Op::Column { from: _, column: _ }, None) => false,
+        _ => true,
+    }
+}
+
+// Whether an expression names no place but this one.
+#[tactic(auto, using(mob_typed::proofs::TreeFacts::typed_is))]
+fn names_only(e: &TExpr, place: Option<u32>) -> bool
+    ensures only { result ≡ names_only place (typed_of e.now) }
+{
+    if !reads_only(e.op, place) {
+        return false;
+    }
+    for arg in &e.args {
+        if !names_only(arg, place) {
+            return false;
+        }
+    }
+    true
+}
+
+// The places that an expression names.
+#[derive(Clone, Copy)]
+enum Reach {
+    Nowhere,
+    At(u32),
+    Far,
+}
+
+fn own_reach(op: Op) -> Reach {
+    match op {
+        Op::Column { from, column: _ } => Reach::At(from),
+        _ => Reach::Nowhere,
+    }
+}
+
+fn wider(one: Reach, other: Reach) -> Reach {
+    match (one, other) {
+        (Reach::Nowhere, reach) => reach,
+        (reach, Reach::Nowhere) => reach,
+        (Reach::At(a), Reach::At(b)) => { if a == b { Reach::At(a) } else { Reach::Far } }
+        _ => Reach::Far,
+    }
+}
+
+fn reach_of(e: &TExpr) -> Reach {
+    let mut reach = own_reach(e.op);
+    for arg in &e.args {
+        reach = wider(reach, reach_of(arg));
+    }
+    reach
+}
+
+// An operator that may be remembered: its place in the script, and the place that it names.
+#[derive(Clone, Copy)]
+struct Chosen {
+    at: u32,
+    place: Option<u32>,
+}
+
+// Which place an expression names, if it names at most one. In a query of one table each row is
+// passed once, and only an operator that names none is of use.
+fn place_named(e: &TExpr, several: bool) -> Option<Option<u32>> {
+    match reach_of(e) {
+        Reach::Nowhere => Some(None),
+        Reach::At(place) => { if several { Some(Some(place)) } else { None } }
+        Reach::Far => None,
+    }
+}
+
+// The largest operators of an expression that may be remembered.
+fn choose(e: &TExpr, several: bool, chosen: &mut Vec<Chosen>) -> Result<(), AllocError> {
+    if e.args.is_empty() || chosen.len() >= MOST {
+        return Ok(());
+    }
+    if let Some(place) = place_named(e, several) {
+        chosen.push(Chosen { at: e.place, place })?;
+        return Ok(());
+    }
+    for arg in &e.args {
+        choose(arg, several, chosen)?;
+    }
+    Ok(())
+}
+
+// Those of WHERE and of each ON.
+fn chosen_of(
+    alloc: Global,
+    several: bool,
+    filter: &Option<TExpr>,
+    joins: &[Option<TExpr>],
+) -> Result<Vec<Chosen>, AllocError> {
+    let mut chosen = Vec::new(alloc);
+    if let Some(e) = filter {
+        choose(e, several, &mut chosen)?;
+    }
+    for join in joins {
+        if let Some(e) = join {
+            choose(e, several, &mut chosen)?;
+        }
+    }
+    Ok(chosen)
+}
+
+// How many rows the table of a place has; one cell is enough where no place is named.
+fn rows_at(store: &Store, from: &[u32], place: Option<u32>) -> usize {
+    let Some(place) = place else {
+        return 1;
+    };
+    let Some(number) = from.get(place as usize) else {
+        return 0;
+    };
+    match store.tables.as_slice().get(*number as usize) {
+        Some(table) => table.rows.len(),
+        None => 0,
+    }
+}
+
+// Remembers an operator that stands alone at its place of the script.
+fn remember_one<K: Remembering>(
+    alloc: Global,
+    filter: &Option<TExpr>,
+    joins: &[Option<TExpr>],
+    chosen: &Chosen,
+    rows: usize,
+    memory: &mut Memory<K>,
+) -> Result<(), AllocError>
+    requires tree { (n : ℕ) → K.recollection.tree n ≡ lone (nodes_of_conditions n (map (option_map typed_of) (filter.now ∷ joins.now))) }
+{
+    match nodes_of_all(filter, joins, chosen.at) {
+        NodesAt::Only(e) => {
+            if names_only(e, chosen.place) {
+                memory.remember(alloc, chosen.at, chosen.place, rows)
+            } else {
+                Ok(())
+            }
+        }
+        _ => Ok(()),
+    }
+}
+
+/// A memory of the operators of WHERE and ON that name at most one table of FROM: of at most eight,
+/// and of none that shares its place in the script with another. If memory is refused there are
+/// fewer.
+pub fn memory_of<K: Remembering>(
+    alloc: Global,
+    store: &Store,
+    from: &[u32],
+    filter: &Option<TExpr>,
+    joins: &[Option<TExpr>],
+) -> Memory<K>
+    requires tree { (n : ℕ) → K.recollection.tree n ≡ lone (nodes_of_conditions n (map (option_map typed_of) (filter.now ∷ joins.now))) }
+{
+    let mut memory = Memory::new(alloc);
+    let Ok(chosen) = chosen_of(alloc, from.len() > 1, filter, joins) else {
+        return memory;
+    };
+    for one in &chosen {
+        let rows = rows_at(store, from, one.place);
+        if remember_one(alloc, filter, joins, one, rows, &mut memory).is_err() {
+            return memory;
+        }
+    }
+    memory
+}

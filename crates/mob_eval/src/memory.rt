@@ -1,0 +1,173 @@
+//! Where the outcomes of remembered operators are kept.
+ghost use Rattle.std.specs.Prelude.{◌≡◌, IfSome};
+ghost use Rattle.mob_remembered.specs.Depends.{HasRow};
+ghost use Rattle.mob_eval.specs.Remembered.{IsOfPlace};
+
+use crate::remembered::{Cell, Remembering, Told};
+use once_cell::race::OnceBox;
+use std::alloc::{AllocError, Global};
+use std::marker::Model;
+use std::sync::atomic::AtomicU64;
+
+// How many cells are made at once.
+const CELLS: usize = 256;
+
+// Cells of neighbouring rows.
+#[derive(Drop)]
+struct Chunk<K: Remembering> {
+    cells: Vec<OnceBox<Told<K>>>,
+}
+
+// The cells of an operator: one for each row of the table that it names, or one if it names none.
+#[derive(Drop)]
+struct Slot<K: Remembering> {
+    at: u32,
+    place: Option<u32>,
+    chunks: Vec<OnceBox<Chunk<K>>>,
+}
+
+impl<K: Remembering> Model for Slot<K> {
+    ghost use Rattle.std.specs.Prelude.{ℕ, Option};
+    ghost use Rattle.mob_eval.specs.Remembered.{IsOfPlace};
+
+    ghost Value = { ℕ × Option ℕ };
+
+    ghost view = { λ s. (s.at, s.place) };
+
+    ghost invariant = { λ s. IsOfPlace K.recollection s.at s.place };
+}
+
+/// What the remembered operators of a query gave. Workers share it; none waits for another.
+#[derive(Drop)]
+pub struct Memory<K: Remembering> {
+    slots: Vec<Slot<K>>,
+    taken: AtomicU64,
+}
+
+fn empty_chunk<K: Remembering>(alloc: Global) -> Result<Chunk<K>, AllocError> {
+    let mut cells = Vec::with_capacity(alloc, CELLS)?;
+    for _cell in 0..CELLS {
+        cells.push(OnceBox::new(alloc))?;
+    }
+    Ok(Chunk { cells })
+}
+
+// The chunk that is kept there. It is made if none is; if memory is refused there is none.
+fn chunk_in<K: Remembering>(alloc: Global, kept: &OnceBox<Chunk<K>>) -> Option<&Chunk<K>> {
+    if let Some(chunk) = kept.get() {
+        return Some(chunk);
+    }
+    let Ok(chunk) = empty_chunk(alloc) else {
+        return None;
+    };
+    let Ok(boxed) = Box::new(alloc, chunk) else {
+        return None;
+    };
+    let _set = kept.set(boxed);
+    kept.get()
+}
+
+// No chunks yet, for so many rows.
+fn no_chunks<K: Remembering>(
+    alloc: Global,
+    rows: usize,
+) -> Result<Vec<OnceBox<Chunk<K>>>, AllocError> {
+    let mut chunks = Vec::new(alloc);
+    for _chunk in 0..rows.div_ceil(CELLS) {
+        chunks.push(OnceBox::new(alloc))?;
+    }
+    Ok(chunks)
+}
+
+// The row of a tuple at a place.
+fn row_at(place: Option<u32>, tuple: &[u32]) -> Option<u32>
+    ensures row { IfSome result (λ row. HasRow place row tuple.now) }
+{
+    match place {
+        Some(place) => Some(*tuple.get(place as usize)?),
+        None => Some(0),
+    }
+}
+
+impl<K: Remembering> Slot<K> {
+    // The cell of the row of a tuple. There is none where the table has no row in the tuple.
+    fn cell<'a>(&'a self, alloc: Global, tuple: &[u32], taken: &'a AtomicU64) -> Option<Cell<'a, K>>
+        ensures at { IfSome result (λ c. c.at ≡ self.now.0) }
+        ensures row { IfSome result (λ c. HasRow c.place c.row tuple.now) }
+        ensures place { IfSome result (λ c. IsOfPlace K.recollection c.at c.place) }
+    {
+        let row = row_at(self.place, tuple)?;
+        let number = row as usize;
+        let chunk = chunk_in(alloc, self.chunks.get(number / CELLS)?)?;
+        let kept = chunk.cells.get(number % CELLS)?;
+        Some(Cell {
+            at: self.at,
+            place: self.place,
+            row,
+            kept,
+            taken,
+        })
+    }
+}
+
+impl<K: Remembering> Memory<K> {
+    /// No operator is remembered yet.
+    pub fn new(alloc: Global) -> Memory<K> {
+        Memory {
+            slots: Vec::new(alloc),
+            taken: AtomicU64::new(0),
+        }
+    }
+
+    /// Whether no operator is remembered.
+    pub fn is_empty(&self) -> bool {
+        self.slots.is_empty()
+    }
+
+    /// Remembers one more operator, by its place in the script. It names one place of FROM alone,
+    /// whose table has so many rows, or it names none.
+    pub fn remember(
+        &mut self,
+        alloc: Global,
+        at: u32,
+        place: Option<u32>,
+        rows: usize,
+    ) -> Result<(), AllocError>
+        requires fits { IsOfPlace K.recollection at place }
+    {
+        let chunks = no_chunks(alloc, rows)?;
+        self.slots.push(Slot { at, place, chunks })?;
+        Ok(())
+    }
+
+    // The cell of the operator at a place of the script, on a tuple, if it is remembered.
+    fn cell<'a>(&'a self, alloc: Global, at: u32, tuple: &[u32]) -> Option<Cell<'a, K>>
+        ensures at { IfSome result (λ c. c.at ≡ at) }
+        ensures row { IfSome result (λ c. HasRow c.place c.row tuple.now) }
+        ensures place { IfSome result (λ c. IsOfPlace K.recollection c.at c.place) }
+    {
+        for slot in &self.slots {
+            if slot.at == at {
+                return slot.cell(alloc, tuple, &self.taken);
+            }
+        }
+        None
+    }
+}
+
+/// The same, where anything is remembered.
+pub fn cell_of<'a, K: Remembering>(
+    alloc: Global,
+    memory: Option<&'a Memory<K>>,
+    at: u32,
+    tuple: &[u32],
+) -> Option<Cell<'a, K>>
+    ensures at { IfSome result (λ c. c.at ≡ at) }
+    ensures row { IfSome result (λ c. HasRow c.place c.row tuple.now) }
+    ensures place { IfSome result (λ c. IsOfPlace K.recollection c.at c.place) }
+{
+    match memory {
+        Some(memory) => memory.cell(alloc, at, tuple),
+        None => None,
+    }
+}
