@@ -8,7 +8,7 @@ exec python3 - <<'PROGRAM'
 import glob, os, re, subprocess, sys
 
 # Pages for users. A name of theirs may stand in an example or in a check instead of a crate.
-USERS = {"README.md", "CHANGELOG.md", "docs/REFERENCE.md", "docs/COOKBOOK.md", "docs/ERRORS.md", "docs/FROM_MOBILITYDB.md", "docs/MOBNEAR.md", "docs/MOBTHIN.md"}
+USERS = {"README.md", "CHANGELOG.md", "docs/REFERENCE.md", "docs/COOKBOOK.md", "docs/ERRORS.md", "docs/FROM_MOBILITYDB.md", "docs/MOBNEAR.md", "docs/MOBTHIN.md", "docs/MOBTILE.md"}
 # This page names the functions of another system, so only its links, paths and crates are looked at.
 FOREIGN = {"docs/FROM_MOBILITYDB.md"}
 # Names that stand in no crate: calls of Rust and of the kit, options, and what a recipe makes up.
