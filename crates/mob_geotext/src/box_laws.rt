@@ -5,9 +5,6 @@ ghost use Rattle.mob_stbox.specs.Boxes.{BoxOf, is_box};
 ghost use Rattle.mob_geotext.specs.Boxes.{boxes};
 ghost use Rattle.mob_geotext.specs.BoxText.{box_text, HasDatedSides};
 
-use crate::boxes::{NotedBox, NotedCorners};
-use mob_list::laws::crosses_threads;
-
 /// A text has one reading as a box.
 pub fn one_box()
     ensures one { (day : ℤ) → HasOneReading (boxes day) }
@@ -17,9 +14,3 @@ pub fn one_box()
 pub fn box_read_again()
     ensures again { (day : ℤ) (b : BoxOf) → is_box b ≡ true → HasDatedSides day b → Lit (boxes day) (box_text day b) (Ok b) }
 {}
-
-/// Boxes as they are written cross threads.
-pub fn noted_boxes_cross_threads() {
-    crosses_threads::<NotedCorners>();
-    crosses_threads::<NotedBox>();
-}

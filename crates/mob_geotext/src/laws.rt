@@ -7,9 +7,6 @@ ghost use Rattle.mob_geotext.specs.Spans.{spans, span_sets};
 ghost use Rattle.mob_geotext.specs.SpanText.{span_text, span_set_text};
 ghost use Rattle.mob_geotext.specs.Printable.{HasDatedEnds, HaveDatedEnds};
 
-use crate::noted::NotedSpan;
-use mob_list::laws::crosses_threads;
-
 /// A text has one reading as a span, and one as a span set.
 pub fn one_reading()
     ensures spans { (day : ℤ) → HasOneReading (spans day) }
@@ -26,8 +23,3 @@ pub fn span_read_again()
 pub fn span_set_read_again()
     ensures again { (day : ℤ) (set : List SpanOf) → set ≢ [] → length set ≤ 50000 → IsSpanSet set → HaveDatedEnds day set → Lit (span_sets day) (span_set_text day set) (Ok set) }
 {}
-
-/// Spans as they are written cross threads.
-pub fn noted_spans_cross_threads() {
-    crosses_threads::<NotedSpan>();
-}

@@ -13,13 +13,12 @@ mod polygons;
 mod printing;
 mod single;
 
-pub use box_laws::{box_read_again, noted_boxes_cross_threads, one_box};
+pub use box_laws::{box_read_again, one_box};
 pub use box_printing::write_stbox;
-pub use boxes::{NotedBox, NotedCorners, read_stbox};
-pub use laws::{noted_spans_cross_threads, one_reading, span_read_again, span_set_read_again};
+pub use boxes::read_stbox;
+pub use laws::{one_reading, span_read_again, span_set_read_again};
 pub use many::read_span_set;
 pub use mob_points::{one_point, point_read_again, read_point, write_point};
-pub use noted::NotedSpan;
 pub use polygon_laws::{one_polygon, polygon_read_again};
 pub use polygon_printing::write_polygon;
 pub use polygons::read_polygon;

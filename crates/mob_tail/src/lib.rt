@@ -16,6 +16,5 @@ mod plans;
 mod text;
 
 pub use answers::{Answer, answer_to};
-pub use keyed::Keyed;
 pub use plans::plan_answer;
 pub use text::answer_text;
