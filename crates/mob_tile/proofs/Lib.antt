@@ -7,6 +7,7 @@ pub mod Kept
 pub mod Limits
 pub mod Machine
 pub mod Numbers
+pub mod OneAnswer
 pub mod OneSplit
 pub mod Parts
 pub mod Ranges

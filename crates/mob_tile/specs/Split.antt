@@ -5,6 +5,7 @@ use Rattle.std.specs.declared.cmp.Ordering.TheVariants.{Less}
 use Rattle.mob_ratio.specs.Ratio.{Ratio}
 use Rattle.mob_frac.specs.Formula.{AllFit}
 use Rattle.mob_span.specs.Chained.{Chained}
+use Rattle.mob_span.specs.Span.{SpanOf}
 use Rattle.mob_plane.specs.declared.point.Point.{Point}
 use Rattle.mob_slice.specs.Slices.{value_at, IsNormal}
 use Rattle.mob_slice.specs.Lines.{plane_value_of, plane_continued}
@@ -13,9 +14,9 @@ use Rattle.mob_slice.specs.declared.slice.Slice.{Slice}
 use Rattle.mob_slice.specs.declared.line.PlaneLine.{PlaneLine}
 use Rattle.mob_slice.specs.declared.formula.Formula.TheVariants.{F2}
 use Rattle.mob_cells.specs.Restricted.{where_wanted}
-use Rattle.mob_stbox.specs.Boxes.{BoxOf}
+use Rattle.mob_stbox.specs.declared.area.Area.{Area}
 use Rattle.mob_value.specs.ValueBoxes.{IsBoxOf}
-use Rattle.mob_tile.specs.Tiles.{GridOf, in_tile, tile_of, compare_tiles, range_of, range_parts, OnSides, HasMany}
+use Rattle.mob_tile.specs.Tiles.{GridOf, in_tile, tile_of, compare_tiles, range_of, range_parts, HasMany}
 use Rattle.mob_tile.specs.declared.tile.Tile.{Tile}
 use Rattle.mob_tile.specs.declared.tile.TileRange.{TileRange}
 use Rattle.mob_tile.specs.declared.splitting.SplitFault.{SplitFault}
@@ -43,9 +44,12 @@ abbrev pub HasPartAt : Tile → Ratio → Point → List (Tile × List (Slice Pl
 HasPartAt tile t p [] = ⊥
 HasPartAt tile t p (q ∷ parts) = ((q.0 ≡ tile) × (value_at plane_value_of q.1 t ≡ Some p)) ⊎ HasPartAt tile t p parts
 
--- the quotients and the range of the box of a
-abbrev pub OnRange : GridOf → List (Slice PlaneLine) → (List Ratio → TileRange → Type 0) → Type 0
-OnRange g a P = (b : BoxOf) → IsBoxOf a b → OnSides b (λ area time. P (range_parts g area time) (range_of g area time))
+-- a has a box, and this holds of the quotients and the range of that box
+pub record OnRange (g : GridOf) (a : List (Slice PlaneLine)) (P : List Ratio → TileRange → Type 0) : Type 0 where
+  pub area : Area
+  pub time : SpanOf
+  pub box : IsBoxOf a (record { space = Some area; time = Some time })
+  pub holds : P (range_parts g area time) (range_of g area time)
 
 -- The refusals of the split, in their order: a quotient of the range of the box of a does not fit; else the range has more than 10,000 tiles; else
 -- the first entry of a slice that has a part that does not fit, slice by slice. An answer is given only where there is none of them.

@@ -1,5 +1,5 @@
 //! What holds of every grid and of every split. No code runs here.
-ghost use Rattle.std.specs.Prelude.{◌≡◌, ◌↔◌, true, Some, List};
+ghost use Rattle.std.specs.Prelude.{◌≡◌, ◌≢◌, ◌↔◌, true, Some, List, Ok, Err};
 ghost use Rattle.std.specs.List.{AllByRecursion};
 ghost use Rattle.mob_ratio.specs.Ratio.{Ratio};
 ghost use Rattle.mob_span.specs.Span.{SpanOf, InSpan};
@@ -11,7 +11,9 @@ ghost use Rattle.mob_slice.specs.Lines.{plane_value_of};
 ghost use Rattle.mob_slice.specs.declared.slice.Slice.{Slice};
 ghost use Rattle.mob_slice.specs.declared.line.PlaneLine.{PlaneLine};
 ghost use Rattle.mob_tile.specs.Tiles.{GridOf, IsGrid, InTile, in_tile, tile_of, InRange, range_of};
-ghost use Rattle.mob_tile.specs.Split.{IsSplit, HasPartAt};
+ghost use Rattle.mob_tile.specs.Split.{IsSplit, HasPartAt, OnRange, SplitAnswer};
+ghost use Rattle.mob_tile.specs.declared.splitting.SplitFault.{SplitFault};
+ghost use Rattle.mob_tile.specs.declared.splitting.SplitFault.TheVariants.{NoMemory};
 ghost use Rattle.mob_tile.specs.declared.tile.Tile.{Tile as TileOf};
 
 /// Each point is at each instant in exactly one tile, and the test of membership says what it means.
@@ -36,4 +38,10 @@ pub fn one_part_at_each_instant()
 /// A value has one split.
 pub fn one_split()
     ensures one { (g : GridOf) (a : List (Slice PlaneLine)) (ps qs : List (TileOf × List (Slice PlaneLine))) → IsGrid g → IsSplit g a ps → IsSplit g a qs → ps ≡ qs }
+{}
+
+/// `split` has one answer on a value, out of memory aside: parts leave no refusal, and there is one refusal.
+pub fn one_answer()
+    ensures apart { (g : GridOf) (a : List (Slice PlaneLine)) (parts : List (TileOf × List (Slice PlaneLine))) (f : SplitFault) → f ≢ NoMemory → OnRange g a (λ quotients range. SplitAnswer g a quotients range (Ok parts)) → OnRange g a (λ quotients range. SplitAnswer {V = List (TileOf × List (Slice PlaneLine))} g a quotients range (Err f)) → ⊥ }
+    ensures one { (g : GridOf) (a : List (Slice PlaneLine)) (e f : SplitFault) → e ≢ NoMemory → f ≢ NoMemory → OnRange g a (λ quotients range. SplitAnswer {V = List (TileOf × List (Slice PlaneLine))} g a quotients range (Err e)) → OnRange g a (λ quotients range. SplitAnswer {V = List (TileOf × List (Slice PlaneLine))} g a quotients range (Err f)) → e ≡ f }
 {}

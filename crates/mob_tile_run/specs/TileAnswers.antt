@@ -4,7 +4,8 @@ use Rattle.mob_ratio.specs.Ratio.{Ratio}
 use Rattle.mob_ratio.specs.Order.{up_to}
 use Rattle.mob_ratio.specs.Sign.{nil}
 use Rattle.mob_value.specs.declared.value.Value.{Value}
-use Rattle.mob_pairs.specs.Faults.{IsPairsFault}
+use Rattle.mob_tile.specs.Tiles.{GridOf}
+use Rattle.mob_pairs.specs.Faults.{PairsFit, IsPairsFault}
 use Rattle.mob_pairs.specs.Pairs.{ArePairs}
 use Rattle.mob_pairs.specs.declared.fault.PairFault.{PairFault}
 use Rattle.mob_records.specs.AnswerText.{answer_text}
@@ -19,16 +20,17 @@ pub record IsUsable (settings : TileSettings) : Type 0 where
   pub some_workers : 1 ≤ settings.workers
   pub few_workers : settings.workers ≤ 64
 
--- the text of the pairs of trips that come within d
-pub record PairsText (d : Ratio) (day : ℤ) (ids : List Value) (trips : List (Option Trip)) (text : List ℕ) : Type 0 where
+-- the text of the pairs of trips that come within d, where all rows have their ranges and all tests of pairs fit
+pub record PairsText (g : GridOf) (d : Ratio) (day : ℤ) (ids : List Value) (trips : List (Option Trip)) (text : List ℕ) : Type 0 where
   pub pairs : List (ℕ × ℕ)
   pub are : ArePairs trips d pairs
+  pub fit : PairsFit g d trips
   pub text_is : text ≡ answer_text pair_names (map (pair_fields day ids) pairs)
 
 -- the text for these trips: with a distance of their pairs, and without one of their parts
 abbrev pub WritesBy : Option Ratio → TileSettings → List Value → List (Option Trip) → List ℕ → Type 0
 WritesBy None settings ids trips text = PartsText settings.grid settings.epoch ids trips text
-WritesBy (Some d) settings ids trips text = PairsText d settings.epoch ids trips text
+WritesBy (Some d) settings ids trips text = PairsText settings.grid d settings.epoch ids trips text
 
 abbrev pub TileWrites : TileSettings → List Value → List (Option Trip) → List ℕ → Type 0
 TileWrites settings ids trips text = WritesBy settings.near settings ids trips text

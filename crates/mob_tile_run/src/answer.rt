@@ -72,7 +72,7 @@ fn pairs_text<R: Threads + Sync, G: Gate>(
     requires few { length trips.now ≤ 1000000 }
     requires some_workers { 1 ≤ workers }
     requires few_workers { workers ≤ 64 }
-    ensures text { IfOk result (λ t. PairsText near.now epoch.now ids.now trips.now t.items) }
+    ensures text { IfOk result (λ t. PairsText grid.now near.now epoch.now ids.now trips.now t.items) }
     ensures fault { IfErr result (IsPairsFault grid.now near.now trips.now) }
 {
     let found = match pairs(rt, alloc, trips, grid, near, workers as usize, gate) {

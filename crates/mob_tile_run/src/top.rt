@@ -3,7 +3,7 @@ ghost use Rattle.std.specs.Prelude.{map, string_bytes};
 ghost use Rattle.mob_outside.specs.EndsSeen.{stream_seen};
 ghost use Rattle.mob_outside.specs.Streams.{Puts};
 ghost use Rattle.mob_trips.specs.Lines.{trips_note};
-ghost use Rattle.mob_trips.specs.Run.{IsTripsRun};
+ghost use Rattle.mob_trips.specs.Run.{IsExactRun, IsTripsRun};
 ghost use Rattle.mob_trips.specs.Seen.{trips_seen};
 ghost use Rattle.mob_tile_run.specs.TileProgram.{tile_program, tile_usage};
 
@@ -47,10 +47,13 @@ pub fn run_tile<R: Threads + Sync, S: Source, K: Sink, E: Sink, G: Gate>(
     notes: &mut E,
     gate: &G,
 ) -> u8
-    // `IsTripsRun` has a line for each status and each other promise, by what was seen of the run and of its note.
+    // `IsTripsRun` has a line for each status and each other promise, by what was seen of the run and of its note. `IsExactRun` adds that
+    // 6 and 8 come exactly where the first fault of the rows, or of the tests of pairs, is a limit or a formula, out of memory aside.
     ensures promises { IsTripsRun tile_program tile_usage result
         (trips_seen (map string_bytes words.now) (stream_seen S.left S.faults table.old table.new) (stream_seen K.held K.faults out.old out.new))
         (λ line. Puts line (E.held notes.old) (E.held notes.new) (E.faults notes.old) (E.faults notes.new)) }
+    ensures exact { IsExactRun tile_program result
+        (trips_seen (map string_bytes words.now) (stream_seen S.left S.faults table.old table.new) (stream_seen K.held K.faults out.old out.new)) }
 {
     one_table();
     let ending = decide(rt, alloc, words, table, out, gate);

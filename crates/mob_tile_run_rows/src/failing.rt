@@ -1,12 +1,9 @@
 // A stream whose k-th call fails, for each k until no call is the k-th.
 
-use mob_outside::{MemSink, MemSource, OpenGate};
-use mob_tile_run::run_tile;
+use crate::runs::{Failing, Report, run_through};
+use mob_outside::OpenGate;
 use std::alloc::{AllocError, Global};
 use std::thread::Threads;
-
-// How many bytes a call moves at most.
-const STEP: usize = 8;
 
 // What is asked for.
 #[derive(Clone, Copy)]
@@ -33,14 +30,6 @@ type Row = (
     &'static str,
     &'static [(u8, usize, usize)],
 );
-
-// What a run gave.
-#[derive(Drop)]
-struct Report {
-    status: u8,
-    out: Vec<u8>,
-    notes: Vec<u8>,
-}
 
 static PARTS_WORDS: [&str; 7] = [
     "mobtile",
@@ -187,19 +176,6 @@ static ROWS: [Row; 7] = [
     ),
 ];
 
-// The arguments of a run.
-fn arguments(alloc: Global, answer: Answer) -> Result<Vec<String>, AllocError> {
-    let words: &[&str] = match answer {
-        Answer::Parts => &PARTS_WORDS,
-        Answer::Pairs => &PAIRS_WORDS,
-    };
-    let mut list = Vec::new(alloc);
-    for word in words {
-        list.push(String::from_str(alloc, word)?)?;
-    }
-    Ok(list)
-}
-
 // The calls of a stream that fail, if it is this one.
 fn calls(alloc: Global, fails: bool, call: u64) -> Result<Vec<u64>, AllocError> {
     let mut calls = Vec::new(alloc);
@@ -218,27 +194,16 @@ fn run_once(
     end: End,
     call: u64,
 ) -> Result<Report, AllocError> {
-    let words = arguments(alloc, answer)?;
-    let of_table = calls(alloc, matches!(end, End::Table), call)?;
-    let of_out = calls(alloc, matches!(end, End::Out), call)?;
-    let of_notes = calls(alloc, matches!(end, End::Notes), call)?;
-    let mut source = MemSource::new(table.as_bytes().to_vec(alloc)?, of_table, STEP);
-    let mut out = MemSink::new(alloc, of_out, STEP);
-    let mut notes = MemSink::new(alloc, of_notes, STEP);
-    let status = run_tile(
-        rt,
-        alloc,
-        &words,
-        &mut source,
-        &mut out,
-        &mut notes,
-        &OpenGate,
-    );
-    Ok(Report {
-        status,
-        out: out.taken().to_vec(alloc)?,
-        notes: notes.taken().to_vec(alloc)?,
-    })
+    let words: &[&str] = match answer {
+        Answer::Parts => &PARTS_WORDS,
+        Answer::Pairs => &PAIRS_WORDS,
+    };
+    let failing = Failing {
+        table: calls(alloc, matches!(end, End::Table), call)?,
+        out: calls(alloc, matches!(end, End::Out), call)?,
+        notes: calls(alloc, matches!(end, End::Notes), call)?,
+    };
+    run_through(rt, alloc, words, table, failing, &OpenGate)
 }
 
 // Whether a run ended so, and wrote and noted so many bytes of these texts.

@@ -5,22 +5,24 @@ use Rattle.mob_ratio.specs.Sign.{nil}
 use Rattle.mob_tile.specs.Tiles.{IsGrid, HasMany, range_of}
 use Rattle.mob_tile.specs.declared.splitting.SplitFault.TheVariants.{Passed}
 use Rattle.mob_tile.specs.Pieces.{Reaches}
-use Rattle.mob_tile.proofs.Limits.{box_sides, space_too, time_too, box_range, all_reach}
+use Rattle.mob_tile.proofs.Limits.{box_sides, box_as, box_range, all_reach}
 use Rattle.mob_tile.proofs.splitting.split_by.Goals as goal
 
 pub returns-in-Err-clause-refusals : goal.returns-in-Err-clause-refusals
 returns-in-Err-clause-refusals c =
     let v = c.args.a.now in
     let box = c.box_of.result in
-    λ b is area time es et. inl (c.in-Err.ensures.value area time (space_too v box b area c.box_of.ensures.least is es) (time_too v box b time c.box_of.ensures.least is et))
+    let h = box_sides v box c.box_of.ensures.least in
+    let e = c.in-Err.ensures.value h.area h.time h.space_is h.time_is in
+    record { area = h.area; time = h.time; box = box_as v box h c.box_of.ensures.least; holds = inl e }
 
 pub returns-in-Err-clause-limits : goal.returns-in-Err-clause-limits
 returns-in-Err-clause-limits c =
     let v = c.args.a.now in
     let box = c.box_of.result in
-    λ b is area time es et.
-    let e = c.in-Err.ensures.value area time (space_too v box b area c.box_of.ensures.least is es) (time_too v box b time c.box_of.ensures.least is et) in
-    record { quotients_first = λ n. ap (λ f. Err (Passed f)) e.0; limit_then = λ h. absurd (e.1 h.0) }
+    let h = box_sides v box c.box_of.ensures.least in
+    let e = c.in-Err.ensures.value h.area h.time h.space_is h.time_is in
+    record { area = h.area; time = h.time; box = box_as v box h c.box_of.ensures.least; holds = record { quotients_first = λ n. ap (λ f. Err (Passed f)) e.0; limit_then = λ m. absurd (e.1 m.0) } }
 
 pub has_many-requires : goal.has_many-requires
 has_many-requires c =
@@ -35,17 +37,17 @@ pub returns-then-has_many-clause-refusals : goal.returns-then-has_many-clause-re
 returns-then-has_many-clause-refusals c =
     let v = c.args.a.now in
     let box = c.box_of.result in
-    λ b is area time es et.
-    let e = c.in-Ok.ensures.value area time (space_too v box b area c.box_of.ensures.least is es) (time_too v box b time c.box_of.ensures.least is et) in
-    (e.1, subst HasMany e.0 (c.has_many.ensures.exact.0 c.if-has_many.true))
+    let h = box_sides v box c.box_of.ensures.least in
+    let e = c.in-Ok.ensures.value h.area h.time h.space_is h.time_is in
+    record { area = h.area; time = h.time; box = box_as v box h c.box_of.ensures.least; holds = (e.1, subst HasMany e.0 (c.has_many.ensures.exact.0 c.if-has_many.true)) }
 
 pub returns-then-has_many-clause-limits : goal.returns-then-has_many-clause-limits
 returns-then-has_many-clause-limits c =
     let v = c.args.a.now in
     let box = c.box_of.result in
-    λ b is area time es et.
-    let e = c.in-Ok.ensures.value area time (space_too v box b area c.box_of.ensures.least is es) (time_too v box b time c.box_of.ensures.least is et) in
-    record { quotients_first = λ n. absurd (n e.1); limit_then = λ h. refl }
+    let h = box_sides v box c.box_of.ensures.least in
+    let e = c.in-Ok.ensures.value h.area h.time h.space_is h.time_is in
+    record { area = h.area; time = h.time; box = box_as v box h c.box_of.ensures.least; holds = record { quotients_first = λ n. absurd (n e.1); limit_then = λ m. refl } }
 
 pub split_in-requires : goal.split_in-requires
 split_in-requires c =
@@ -60,42 +62,51 @@ pub returns-in-Ok-split_in-clause-refusals : goal.returns-in-Ok-split_in-clause-
 returns-in-Ok-split_in-clause-refusals c =
     let v = c.args.a.now in
     let box = c.box_of.result in
-    λ b is area time es et.
-    let e = c.in-Ok.ensures.value area time (space_too v box b area c.box_of.ensures.least is es) (time_too v box b time c.box_of.ensures.least is et) in
-    (e.1, (λ h. true≢false (sym (c.has_many.ensures.exact.1 (subst HasMany (sym e.0) h)) ∙ c.if-has_many.false)), c.in-Ok-split_in.ensures.first)
+    let h = box_sides v box c.box_of.ensures.least in
+    let e = c.in-Ok.ensures.value h.area h.time h.space_is h.time_is in
+    let few : HasMany (range_of c.args.grid.now h.area h.time) → ⊥ = λ m. true≢false (sym (c.has_many.ensures.exact.1 (subst HasMany (sym e.0) m)) ∙ c.if-has_many.false) in
+    record { area = h.area; time = h.time; box = box_as v box h c.box_of.ensures.least; holds = (e.1, few, c.in-Ok-split_in.ensures.first) }
 
 pub returns-in-Ok-split_in-clause-limits : goal.returns-in-Ok-split_in-clause-limits
 returns-in-Ok-split_in-clause-limits c =
     let v = c.args.a.now in
     let box = c.box_of.result in
-    λ b is area time es et.
-    let e = c.in-Ok.ensures.value area time (space_too v box b area c.box_of.ensures.least is es) (time_too v box b time c.box_of.ensures.least is et) in
-    let few : HasMany (range_of c.args.grid.now area time) → ⊥ = λ h. true≢false (sym (c.has_many.ensures.exact.1 (subst HasMany (sym e.0) h)) ∙ c.if-has_many.false) in
-    record { quotients_first = λ n. absurd (n e.1); limit_then = λ h. absurd (few h.1) }
+    let h = box_sides v box c.box_of.ensures.least in
+    let e = c.in-Ok.ensures.value h.area h.time h.space_is h.time_is in
+    let few : HasMany (range_of c.args.grid.now h.area h.time) → ⊥ = λ m. true≢false (sym (c.has_many.ensures.exact.1 (subst HasMany (sym e.0) m)) ∙ c.if-has_many.false) in
+    record { area = h.area; time = h.time; box = box_as v box h c.box_of.ensures.least; holds = record { quotients_first = λ n. absurd (n e.1); limit_then = λ m. absurd (few m.1) } }
 
 pub returns-in-Err-Passed-clause-refusals : goal.returns-in-Err-Passed-clause-refusals
 returns-in-Err-Passed-clause-refusals c =
     let v = c.args.a.now in
     let box = c.box_of.result in
-    λ b is area time es et.
-    let e = c.in-Ok.ensures.value area time (space_too v box b area c.box_of.ensures.least is es) (time_too v box b time c.box_of.ensures.least is et) in
+    let h = box_sides v box c.box_of.ensures.least in
+    let e = c.in-Ok.ensures.value h.area h.time h.space_is h.time_is in
+    let few : HasMany (range_of c.args.grid.now h.area h.time) → ⊥ = λ m. true≢false (sym (c.has_many.ensures.exact.1 (subst HasMany (sym e.0) m)) ∙ c.if-has_many.false) in
     let first = rw c.in-Err-Passed.field-0-is at c.in-Err-Passed.ensures.first in
-    inr (e.1, (λ h. true≢false (sym (c.has_many.ensures.exact.1 (subst HasMany (sym e.0) h)) ∙ c.if-has_many.false)), first)
+    record { area = h.area; time = h.time; box = box_as v box h c.box_of.ensures.least; holds = inr (e.1, few, first) }
 
 pub returns-in-Err-Passed-clause-limits : goal.returns-in-Err-Passed-clause-limits
 returns-in-Err-Passed-clause-limits c =
     let v = c.args.a.now in
     let box = c.box_of.result in
-    λ b is area time es et.
-    let e = c.in-Ok.ensures.value area time (space_too v box b area c.box_of.ensures.least is es) (time_too v box b time c.box_of.ensures.least is et) in
-    let few : HasMany (range_of c.args.grid.now area time) → ⊥ = λ h. true≢false (sym (c.has_many.ensures.exact.1 (subst HasMany (sym e.0) h)) ∙ c.if-has_many.false) in
-    record { quotients_first = λ n. absurd (n e.1); limit_then = λ h. absurd (few h.1) }
+    let h = box_sides v box c.box_of.ensures.least in
+    let e = c.in-Ok.ensures.value h.area h.time h.space_is h.time_is in
+    let few : HasMany (range_of c.args.grid.now h.area h.time) → ⊥ = λ m. true≢false (sym (c.has_many.ensures.exact.1 (subst HasMany (sym e.0) m)) ∙ c.if-has_many.false) in
+    record { area = h.area; time = h.time; box = box_as v box h c.box_of.ensures.least; holds = record { quotients_first = λ n. absurd (n e.1); limit_then = λ m. absurd (few m.1) } }
+
+pub returns-in-Err-NoMemory-clause-refusals : goal.returns-in-Err-NoMemory-clause-refusals
+returns-in-Err-NoMemory-clause-refusals c =
+    let v = c.args.a.now in
+    let box = c.box_of.result in
+    let h = box_sides v box c.box_of.ensures.least in
+    record { area = h.area; time = h.time; box = box_as v box h c.box_of.ensures.least; holds = tt }
 
 pub returns-in-Err-NoMemory-clause-limits : goal.returns-in-Err-NoMemory-clause-limits
 returns-in-Err-NoMemory-clause-limits c =
     let v = c.args.a.now in
     let box = c.box_of.result in
-    λ b is area time es et.
-    let e = c.in-Ok.ensures.value area time (space_too v box b area c.box_of.ensures.least is es) (time_too v box b time c.box_of.ensures.least is et) in
-    let few : HasMany (range_of c.args.grid.now area time) → ⊥ = λ h. true≢false (sym (c.has_many.ensures.exact.1 (subst HasMany (sym e.0) h)) ∙ c.if-has_many.false) in
-    record { quotients_first = λ n. absurd (n e.1); limit_then = λ h. absurd (few h.1) }
+    let h = box_sides v box c.box_of.ensures.least in
+    let e = c.in-Ok.ensures.value h.area h.time h.space_is h.time_is in
+    let few : HasMany (range_of c.args.grid.now h.area h.time) → ⊥ = λ m. true≢false (sym (c.has_many.ensures.exact.1 (subst HasMany (sym e.0) m)) ∙ c.if-has_many.false) in
+    record { area = h.area; time = h.time; box = box_as v box h c.box_of.ensures.least; holds = record { quotients_first = λ n. absurd (n e.1); limit_then = λ m. absurd (few m.1) } }
