@@ -9,7 +9,7 @@ use Rattle.mob_knn.specs.declared.waiting.What.{What}
 use Rattle.mob_knn.specs.declared.waiting.What.TheVariants.{Entry}
 use Rattle.mob_knn.specs.Steps.{IsOnly, found_answer, State, IsAdvanced}
 
-pub looked_advanced : {A E : Type 0} (bs : List Branch) (q : BoxOf) (has : ℕ → Ratio → Type 0) (key : Ratio) (what : What) (b : BoxOf) (row : ℕ) (r : Result A E) (old new : State) → what ≡ Entry b row
+pub looked_advanced : {A E : Type 0} (bs : List Branch) (q : BoxOf) (has : ℕ → Ratio → Type 0) (key : Ratio) (what : What) (row : ℕ) (r : Result A E) (old new : State) → what ≡ Entry row
     → OnOk r ((o : Option Ratio) × IsOnly (has row) o × IsPermutation (found_answer row o ++ old.heap) new.heap) → new.found ≡ old.found → new.steps ≡ old.steps + 1 → OnOk r (IsAdvanced bs q has key what old new)
-looked_advanced bs q has key what b row (Ok u) old new e h f s = subst (λ z. IsAdvanced bs q has key z old new) (sym e) (record { answer = h.0; only = h.1; heap = h.2; found = f; steps = s })
-looked_advanced bs q has key what b row (Err u) old new e h f s = tt
+looked_advanced bs q has key what row (Ok u) old new e h f s = subst (λ z. IsAdvanced bs q has key z old new) (sym e) (record { answer = h.0; only = h.1; heap = h.2; found = f; steps = s })
+looked_advanced bs q has key what row (Err u) old new e h f s = tt

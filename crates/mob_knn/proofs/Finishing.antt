@@ -21,7 +21,7 @@ use Rattle.mob_knn.specs.Nearest.{Trip, Asked, HasApproach, AreFirstRows, AreOfT
 use Rattle.mob_knn.specs.Steps.{State, IsAdvanced, IsEntry, IsReachedIn, HasUnfitPart}
 use Rattle.mob_knn.specs.Waits.{waiting_cmp, entries_in, answers_at}
 use Rattle.mob_knn.proofs.Known.{entry_box, trips_known}
-use Rattle.mob_knn.proofs.Lists.{flat_permuted, in_before}
+use Rattle.mob_knn.proofs.Lists.{box_in, flat_permuted, in_before}
 use Rattle.mob_knn.proofs.Orders.{up_to-self, next_each}
 use Rattle.mob_knn.proofs.Searching.{IsKnown, IsHeld, IsSearching, IsPopped, IsDone, opened, looked, told, told_last, unfit_gap, unfit_entry}
 
@@ -52,7 +52,7 @@ module _ {bs : List Branch} {root : Option ℕ} {entries : List EntryOf} {has : 
     tried = [];
     floor = nil;
     same = λ g.
-        let a = flat_permuted g (λ (w : Waiting). entries_in bs w.what) (record { key = nil; what = Node n } ∷ []) heap perm in
+        let a = flat_permuted g (λ (w : Waiting). entries_in bs (box_in q entries) w.what) (record { key = nil; what = Node n } ∷ []) heap perm in
         let b = sum_by-append g (entries_under bs n) [] in
         let c = under g in
         omega (arith, a, b, c);
@@ -86,7 +86,7 @@ module _ {bs : List Branch} {root : Option ℕ} {entries : List EntryOf} {has : 
       where
         by_what : (what : What) → IsHeld bs root entries has q first.key what → IsReachedIn bs root what
         by_what (Node n) h = h.0
-        by_what (Entry b row) h = tt
+        by_what (Entry row) h = tt
         by_what (Answer row) h = tt
 
     module _ (new : State) (spread : (n : ℕ) → first.what ≡ Node n → IsSpread bs n) (how : IsAdvanced bs q has first.key first.what (record { heap = rest; found = s.found; steps = s.steps }) new) where
@@ -95,7 +95,7 @@ module _ {bs : List Branch} {root : Option ℕ} {entries : List EntryOf} {has : 
         where
           by_what : (what : What) → first.what ≡ what → IsAdvanced bs q has first.key what (record { heap = rest; found = s.found; steps = s.steps }) new → IsSearching bs root entries has q k start new
           by_what (Node n) e h = opened bs root entries has q known k start s old first rest popped n e (spread n e) new h
-          by_what (Entry b row) e h = looked bs root entries has q known k start s old first rest popped b row e new h
+          by_what (Entry row) e h = looked bs root entries has q known k start s old first rest popped row e new h
           by_what (Answer row) e h =
               let a = ap length h.found ∙ length-append s.found ((row, first.key) ∷ []) in
               let b = old.few in
@@ -106,7 +106,7 @@ module _ {bs : List Branch} {root : Option ℕ} {entries : List EntryOf} {has : 
         where
           by_what : (what : What) → first.what ≡ what → IsAdvanced bs q has first.key what (record { heap = rest; found = s.found; steps = s.steps }) new → IsDone bs root entries has q k start new.found new.steps
           by_what (Node n) e h = let a = ap length h.found in let b = old.few in absurd (omega (arith, a, b, full))
-          by_what (Entry b row) e h = let a = ap length h.found in let c = old.few in absurd (omega (arith, a, c, full))
+          by_what (Entry row) e h = let a = ap length h.found in let c = old.few in absurd (omega (arith, a, c, full))
           by_what (Answer row) e h = told_last bs root entries has q known k start s old first rest popped row e new h full
 
 -- a part does not fit
@@ -116,14 +116,14 @@ pub unfit_row : {bs : List Branch} {root : Option ℕ} (entries : List EntryOf) 
 unfit_row {bs} {root} entries trips asked q of its {k} {start} {s} old {first} {rest} taken top row formula h =
     let known = trips_known bs root trips asked q entries of its in
     let pop : IsPopped bs root entries (HasApproach trips asked) q s.heap first rest = record { taken = taken; next = next_each first rest top } in
-    let g = unfit_gap bs root entries (HasApproach trips asked) q known k start s old first rest pop h.0.0 row h.0.1 in
-    let c = unfit_entry bs root entries (HasApproach trips asked) q known k start s old first rest pop h.0.0 row h.0.1 in
+    let g = unfit_gap bs root entries (HasApproach trips asked) q known k start s old first rest pop row h.0 in
+    let c = unfit_entry bs root entries (HasApproach trips asked) q known k start s old first rest pop row h.0 in
     record {
       trip = h.1.0;
       there = h.1.1;
       unfit = h.1.2;
-      box = h.0.0;
-      its = entry_box trips entries of h.0.0 row h.1.0 c h.1.1;
+      box = box_in q entries row;
+      its = entry_box trips entries of (box_in q entries row) row h.1.0 c h.1.1;
       asked_box = q;
       asked_its = its;
       gap = g.0;

@@ -8,7 +8,7 @@ use Rattle.std.proofs.lemmas.List.Elements.{Contains-append_cases, Contains-appe
 use Rattle.std.proofs.lemmas.List.Sorted.{Contains-permutation, IsPermutation-sym, sum_by-IsPermutation}
 use Rattle.std.proofs.lemmas.List.Sums.{sum_by-append, sum_by-cons}
 use borrow.Author.Tests.{eqb-true, eq-eqb}
-use Rattle.mob_stbox.specs.Boxes.{same_box}
+use Rattle.mob_stbox.specs.Boxes.{BoxOf, same_box}
 use Rattle.mob_stbox.specs.SameBoxes.{same_self, same_is}
 use Rattle.mob_list.proofs.Entries.{first_in, later_in, none_in, which_in}
 use Rattle.mob_rtree_nodes.specs.Removes.{hit}
@@ -97,3 +97,52 @@ count_some p gone tried left entries same h =
     let c = sum_by-append f (gone ++ tried) left in
     let d = sum_by-append f gone tried in
     omega (arith, a, b, c, d)
+
+-- ---- the box of a row
+
+pub sum_in : {A : Type 0} (p : A → ℕ) (xs : List A) (x : A) → Contains xs x → p x ≤ sum_by p xs
+sum_in p [] x h = absurd (none_in x h)
+sum_in p (y ∷ xs) x h = elim (which_in y xs x h) [
+  | inl e ↦ let s = ap p e in let c = sum_by-cons p y xs in omega (arith, s, c)
+  | inr i ↦ let k = sum_in p xs x i in let c = sum_by-cons p y xs in omega (arith, k, c)
+]
+
+-- the box of the entry of a row, or another one where there is no entry
+pub box_in : BoxOf → List EntryOf → ℕ → BoxOf
+box_in other [] row = other
+box_in other (e ∷ es) row = cond (e.1 == row) e.0 (box_in other es row)
+
+box_here : (other : BoxOf) (x : EntryOf) (xs : List EntryOf) (row : ℕ) → (x.1 == row) ≡ true → box_in other (x ∷ xs) row ≡ x.0
+unfolding box_in
+box_here other x xs row h = ap (λ z. cond z x.0 (box_in other xs row)) h
+
+box_later : (other : BoxOf) (x : EntryOf) (xs : List EntryOf) (row : ℕ) → (x.1 == row) ≡ false → box_in other (x ∷ xs) row ≡ box_in other xs row
+unfolding box_in
+box_later other x xs row h = ap (λ z. cond z x.0 (box_in other xs row)) h
+
+-- where a row has one entry at most, that one has this box
+abbrev HasFew : List EntryOf → ℕ → Type 0
+HasFew es row = sum_by (λ (e : EntryOf). cond (e.1 == row) 1 0) es ≤ 1
+
+not_twice : (x : EntryOf) (xs : List EntryOf) (e : EntryOf) → Contains xs e → x.1 ≡ e.1 → HasFew (x ∷ xs) e.1 → ⊥
+not_twice x xs e c is few =
+    let p : EntryOf → ℕ = λ y. cond (y.1 == e.1) 1 0 in
+    let a = sum_by-cons p x xs in
+    let b : ◌≡◌ {A = ℕ} (p x) 1 = ap (λ z. cond z 1 0) (eq-eqb x.1 e.1 is) in
+    let d : ◌≡◌ {A = ℕ} (p e) 1 = ap (λ z. cond z 1 0) (eq-eqb e.1 e.1 refl) in
+    let f = sum_in p xs e c in
+    absurd (omega (arith, a, b, d, f, few))
+
+in_later : (other : BoxOf) (x : EntryOf) (xs : List EntryOf) (e : EntryOf) → Contains xs e → (t : Bool) → (x.1 == e.1) ≡ t → HasFew (x ∷ xs) e.1 → box_in other xs e.1 ≡ e.0 → box_in other (x ∷ xs) e.1 ≡ e.0
+in_later other x xs e c true h few k = absurd (not_twice x xs e c (eqb-true x.1 e.1 h) few)
+in_later other x xs e c false h few k = box_later other x xs e.1 h ∙ k
+
+pub in_box : (other : BoxOf) (es : List EntryOf) → ((row : ℕ) → HasFew es row) → (e : EntryOf) → Contains es e → box_in other es e.1 ≡ e.0
+in_box other [] few e c = absurd (none_in e c)
+in_box other (x ∷ xs) few e c = elim (which_in x xs e c) [
+  | inl i ↦ box_here other x xs e.1 (eq-eqb x.1 e.1 (ap (λ (z : EntryOf). z.1) i)) ∙ ap (λ (z : EntryOf). z.0) i
+  | inr i ↦ in_later other x xs e i (x.1 == e.1) refl (few e.1) (in_box other xs (λ row. fewer x xs row (few row)) e i)
+]
+  where
+    fewer : (x : EntryOf) (xs : List EntryOf) (row : ℕ) → HasFew (x ∷ xs) row → HasFew xs row
+    fewer x xs row h = let a = sum_by-cons (λ (e : EntryOf). cond (e.1 == row) 1 0) x xs in omega (arith, a, h)

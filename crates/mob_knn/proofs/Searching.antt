@@ -28,7 +28,7 @@ use Rattle.mob_knn.specs.declared.waiting.What.TheVariants.{Node, Entry, Answer}
 use Rattle.mob_knn.specs.Nearest.{nearer, IsRising, AreFirstRows, last_approach, reach_of, lies_within, count_within, HasFewBelow}
 use Rattle.mob_knn.specs.Steps.{IsOnly, found_answer, State, IsOpened, IsMeasured, IsAnswered}
 use Rattle.mob_knn.specs.Waits.{rank_of, waiting_number, what_of, waits_by, waits_at, waits_of, entries_in, answers_at}
-use Rattle.mob_knn.proofs.Lists.{in_flat, flat_in, flat_permuted, flat_over, in_before, in_same, same_back, count_some}
+use Rattle.mob_knn.proofs.Lists.{box_in, in_box, sum_in, in_flat, flat_in, flat_permuted, flat_over, in_before, in_same, same_back, count_some}
 use Rattle.mob_knn.proofs.Orders.{up_to-trans, before_up_to, up_to_greater_left, up_to_greater_right, greater_up_to, reaches_on, IsNext, next_key}
 
 -- what is known of the rows that have an approach, and of the entries of the tree
@@ -64,13 +64,6 @@ nearer_before o x h = rw h refl
 pub nearer_level : (o x : ℕ × Ratio) → o.1 ≡ x.1 → o.0 < x.0 → nearer o x ≡ true
 nearer_level o x e lt = ap (λ z. before o.1 x.1 || (z && nat_lt o.0 x.0)) ((same_exact o.1 x.1).1 e) ∙ ap (λ z. before o.1 x.1 || z) (lt-ltb o.0 x.0 lt) ∙ or_true (before o.1 x.1)
 
-sum_in : {A : Type 0} (p : A → ℕ) (xs : List A) (x : A) → Contains xs x → p x ≤ sum_by p xs
-sum_in p [] x h = absurd (none_in x h)
-sum_in p (y ∷ xs) x h = elim (which_in y xs x h) [
-  | inl e ↦ let s = ap p e in let c = sum_by-cons p y xs in omega (arith, s, c)
-  | inr i ↦ let k = sum_in p xs x i in let c = sum_by-cons p y xs in omega (arith, k, c)
-]
-
 one_sum : {A : Type 0} (p : A → ℕ) (x : A) → sum_by p (x ∷ []) ≡ p x
 one_sum p x = let c = sum_by-cons p x [] in omega (arith, c)
 
@@ -101,8 +94,12 @@ not_before : (a b : Ratio) → up_to a b ≡ true → before b a ≡ true → �
 not_before a b h k = true≢false (sym h ∙ ap not k)
 
 module _ (bs : List Branch) (root : Option ℕ) (entries : List EntryOf) (has : ℕ → Ratio → Type 0) (q : BoxOf) where
+  -- the box of a row's entry
+  abbrev pub box_at : ℕ → BoxOf
+  box_at = box_in q entries
+
   abbrev pub entries_of : List Waiting → List EntryOf
-  entries_of ws = flat_map (λ w. entries_in bs w.what) ws
+  entries_of ws = flat_map (λ w. entries_in bs box_at w.what) ws
 
   abbrev pub answers_of : List Waiting → List (ℕ × Ratio)
   answers_of ws = flat_map (λ w. answers_at w w.what) ws
@@ -110,13 +107,13 @@ module _ (bs : List Branch) (root : Option ℕ) (entries : List EntryOf) (has : 
   -- nothing below it has an approach below its key
   abbrev pub IsHeld : Ratio → What → Type 0
   IsHeld key (Node n) = IsReachedNode bs root n × ((e : EntryOf) → Contains (entries_under bs n) e → (m : Ratio) → has e.1 m → up_to key m ≡ true)
-  IsHeld key (Entry b row) = (gap_reaches (gap_of b q) key ≡ true) × ((m : Ratio) → has row m → up_to key m ≡ true)
+  IsHeld key (Entry row) = (gap_reaches (gap_of (box_at row) q) key ≡ true) × ((m : Ratio) → has row m → up_to key m ≡ true)
   IsHeld key (Answer row) = has row key
 
   -- it is behind an answer that was told
   abbrev pub IsLater : ℕ × Ratio → Ratio → What → Type 0
   IsLater o key (Node n) = before o.1 key ≡ true
-  IsLater o key (Entry b row) = before o.1 key ≡ true
+  IsLater o key (Entry row) = before o.1 key ≡ true
   IsLater o key (Answer row) = nearer o (row, key) ≡ true
 
   pub record IsSearching (k start : ℕ) (s : State) : Type 0 where
@@ -145,9 +142,9 @@ module _ (bs : List Branch) (root : Option ℕ) (entries : List EntryOf) (has : 
     pub first : AreFirstRows has k found
     pub cost : steps ≤ start + count_within (reach_of k found) q entries
 
-  later_entry : (o : ℕ × Ratio) (key : Ratio) (what : What) → IsLater o key what → IsHeld key what → (e : EntryOf) → Contains (entries_in bs what) e → (m : Ratio) → has e.1 m → nearer o (e.1, m) ≡ true
+  later_entry : (o : ℕ × Ratio) (key : Ratio) (what : What) → IsLater o key what → IsHeld key what → (e : EntryOf) → Contains (entries_in bs box_at what) e → (m : Ratio) → has e.1 m → nearer o (e.1, m) ≡ true
   later_entry o key (Node n) l held e c m h = nearer_before o (e.1, m) (before_up_to o.1 key m l (held.1 e c m h))
-  later_entry o key (Entry b row) l held e c m h = elim (which_in (b, row) [] e c) [
+  later_entry o key (Entry row) l held e c m h = elim (which_in (box_at row, row) [] e c) [
     | inl i ↦ nearer_before o (e.1, m) (before_up_to o.1 key m l (held.1 m (subst (λ (z : EntryOf). has z.1 m) (sym i) h)))
     | inr i ↦ absurd (none_in e i)
   ]
@@ -155,15 +152,15 @@ module _ (bs : List Branch) (root : Option ℕ) (entries : List EntryOf) (has : 
 
   later_answer : (o : ℕ × Ratio) (w : Waiting) (what : What) → IsLater o w.key what → (x : ℕ × Ratio) → Contains (answers_at w what) x → nearer o x ≡ true
   later_answer o w (Node n) l x c = absurd (none_in x c)
-  later_answer o w (Entry b row) l x c = absurd (none_in x c)
+  later_answer o w (Entry row) l x c = absurd (none_in x c)
   later_answer o w (Answer row) l x c = elim (which_in (row, w.key) [] x c) [
     | inl i ↦ subst (λ (z : ℕ × Ratio). nearer o z ≡ true) i l
     | inr i ↦ absurd (none_in x i)
   ]
 
-  held_entry : (key : Ratio) (what : What) → IsHeld key what → (e : EntryOf) → Contains (entries_in bs what) e → (m : Ratio) → has e.1 m → up_to key m ≡ true
+  held_entry : (key : Ratio) (what : What) → IsHeld key what → (e : EntryOf) → Contains (entries_in bs box_at what) e → (m : Ratio) → has e.1 m → up_to key m ≡ true
   held_entry key (Node n) held e c m h = held.1 e c m h
-  held_entry key (Entry b row) held e c m h = elim (which_in (b, row) [] e c) [
+  held_entry key (Entry row) held e c m h = elim (which_in (box_at row, row) [] e c) [
     | inl i ↦ held.1 m (subst (λ (z : EntryOf). has z.1 m) (sym i) h)
     | inr i ↦ absurd (none_in e i)
   ]
@@ -171,7 +168,7 @@ module _ (bs : List Branch) (root : Option ℕ) (entries : List EntryOf) (has : 
 
   held_answer : (w : Waiting) (what : What) (x : ℕ × Ratio) → Contains (answers_at w what) x → w.key ≡ x.1
   held_answer w (Node n) x c = absurd (none_in x c)
-  held_answer w (Entry b row) x c = absurd (none_in x c)
+  held_answer w (Entry row) x c = absurd (none_in x c)
   held_answer w (Answer row) x c = elim (which_in (row, w.key) [] x c) [
     | inl i ↦ ap (λ (z : ℕ × Ratio). z.1) i
     | inr i ↦ absurd (none_in x i)
@@ -182,9 +179,9 @@ module _ (bs : List Branch) (root : Option ℕ) (entries : List EntryOf) (has : 
   next_later row key wkey (Node n) (inl h) other = h
   next_later row key wkey (Node n) (inr (e, inl lt)) other = absurd (omega (arith, lt))
   next_later row key wkey (Node n) (inr (e, inr f)) other = let g = f.0 in absurd (omega (arith, g))
-  next_later row key wkey (Entry b r) (inl h) other = h
-  next_later row key wkey (Entry b r) (inr (e, inl lt)) other = absurd (omega (arith, lt))
-  next_later row key wkey (Entry b r) (inr (e, inr f)) other = let g = f.0 in absurd (omega (arith, g))
+  next_later row key wkey (Entry r) (inl h) other = h
+  next_later row key wkey (Entry r) (inr (e, inl lt)) other = absurd (omega (arith, lt))
+  next_later row key wkey (Entry r) (inr (e, inr f)) other = let g = f.0 in absurd (omega (arith, g))
   next_later row key wkey (Answer r) (inl h) other = nearer_before (row, key) (r, wkey) h
   next_later row key wkey (Answer r) (inr (e, inl lt)) other = absurd (omega (arith, lt))
   next_later row key wkey (Answer r) (inr (e, inr f)) other = let le = f.1 in let ne = other r refl in nearer_level (row, key) (r, wkey) (sym e) (omega (arith, le, ne))
@@ -206,12 +203,12 @@ module _ (bs : List Branch) (root : Option ℕ) (entries : List EntryOf) (has : 
     waits_there : (e : EntryOf) → Contains (entries_of s.heap) e → Contains entries e
     waits_there e c = in_same _ entries e old.same (Contains-append_right (old.gone ++ old.tried) (entries_of s.heap) e c)
 
-    first_entries : (e : EntryOf) → Contains (entries_in bs first.what) e → Contains entries e
-    first_entries e c = waits_there e (flat_in (λ w. entries_in bs w.what) s.heap first e first_there c)
+    first_entries : (e : EntryOf) → Contains (entries_in bs box_at first.what) e → Contains entries e
+    first_entries e c = waits_there e (flat_in (λ w. entries_in bs box_at w.what) s.heap first e first_there c)
 
     -- the sums of what waits
-    entries_sum : (g : EntryOf → ℕ) → sum_by g (entries_of s.heap) ≡ sum_by g (entries_in bs first.what) + sum_by g (entries_of rest)
-    entries_sum g = sym (flat_permuted g (λ w. entries_in bs w.what) s.heap (first ∷ rest) pop.taken) ∙ sum_by-append g (entries_in bs first.what) (entries_of rest)
+    entries_sum : (g : EntryOf → ℕ) → sum_by g (entries_of s.heap) ≡ sum_by g (entries_in bs box_at first.what) + sum_by g (entries_of rest)
+    entries_sum g = sym (flat_permuted g (λ w. entries_in bs box_at w.what) s.heap (first ∷ rest) pop.taken) ∙ sum_by-append g (entries_in bs box_at first.what) (entries_of rest)
 
     answers_sum : (g : ℕ × Ratio → ℕ) → sum_by g (answers_of s.heap) ≡ sum_by g (answers_at first first.what) + sum_by g (answers_of rest)
     answers_sum g = sym (flat_permuted g (λ w. answers_at w w.what) s.heap (first ∷ rest) pop.taken) ∙ sum_by-append g (answers_at first first.what) (answers_of rest)
@@ -230,10 +227,10 @@ module _ (bs : List Branch) (root : Option ℕ) (entries : List EntryOf) (has : 
     ]
 
     -- an entry that waited is the first one's, or is left
-    entry_left : (e : EntryOf) → Contains (entries_of s.heap) e → Contains (entries_in bs first.what) e ⊎ Contains (entries_of rest) e
-    entry_left e c = let w = in_flat (λ w. entries_in bs w.what) s.heap e c in elim (which w.0 w.1) [
-      | inl i ↦ inl (subst (λ (z : Waiting). Contains (entries_in bs z.what) e) (sym i) w.2)
-      | inr i ↦ inr (flat_in (λ w. entries_in bs w.what) rest w.0 e i w.2)
+    entry_left : (e : EntryOf) → Contains (entries_of s.heap) e → Contains (entries_in bs box_at first.what) e ⊎ Contains (entries_of rest) e
+    entry_left e c = let w = in_flat (λ w. entries_in bs box_at w.what) s.heap e c in elim (which w.0 w.1) [
+      | inl i ↦ inl (subst (λ (z : Waiting). Contains (entries_in bs box_at z.what) e) (sym i) w.2)
+      | inr i ↦ inr (flat_in (λ w. entries_in bs box_at w.what) rest w.0 e i w.2)
     ]
 
     -- where each entry is
@@ -256,25 +253,34 @@ module _ (bs : List Branch) (root : Option ℕ) (entries : List EntryOf) (has : 
     apart_of : List Kid → List EntryOf
     apart_of kids = flat_map (λ (kd : Kid). apart_at kd (gap_of kd.0 q)) kids
 
-    below_what : (kid : Kid) → entries_in bs (what_of kid) ≡ entries_below bs kid
-    below_what (b, NodeChild n) = refl
-    below_what (b, EntryChild row) = refl
+    -- its box is the one that stands there
+    at_box : (b : BoxOf) (row : ℕ) → Contains entries (b, row) → box_at row ≡ b
+    at_box b row c = in_box q entries known.once (b, row) c
 
-    kid_sum : (g : EntryOf → ℕ) (kid : Kid) (G : Gap) → sum_by g (apart_at kid G) + sum_by g (entries_of (waits_by first.key kid G)) ≡ sum_by g (entries_below bs kid)
+    abbrev IsBelow : Kid → Type 0
+    IsBelow kid = (e : EntryOf) → Contains (entries_below bs kid) e → Contains entries e
+
+    below_what : (kid : Kid) → IsBelow kid → entries_in bs box_at (what_of kid.1) ≡ entries_below bs kid
+    below_what (b, NodeChild n) below = refl
+    below_what (b, EntryChild row) below =
+        let alone : BoxOf → List EntryOf = λ z. (z, row) ∷ [] in
+        ap alone (at_box b row (below (b, row) (first_in (b, row) [])))
+
+    kid_sum : (g : EntryOf → ℕ) (kid : Kid) → IsBelow kid → (G : Gap) → sum_by g (apart_at kid G) + sum_by g (entries_of (waits_by first.key kid G)) ≡ sum_by g (entries_below bs kid)
     unfolding apart_at
-    kid_sum g kid Apart = omega arith
-    kid_sum g kid (AtLeast x) = let a = sum_by-append g (entries_in bs (what_of kid)) [] in let e = ap (λ l. sum_by g l) (below_what kid) in omega (arith, a, e)
+    kid_sum g kid below Apart = omega arith
+    kid_sum g kid below (AtLeast x) = let a = sum_by-append g (entries_in bs box_at (what_of kid.1)) [] in let e = ap (λ l. sum_by g l) (below_what kid below) in omega (arith, a, e)
 
-    kids_sum : (g : EntryOf → ℕ) (kids : List Kid) → sum_by g (apart_of kids) + sum_by g (entries_of (waits_of first.key q kids)) ≡ sum_by g (flat_map (entries_below bs) kids)
+    kids_sum : (g : EntryOf → ℕ) (kids : List Kid) → ((kid : Kid) → Contains kids kid → IsBelow kid) → sum_by g (apart_of kids) + sum_by g (entries_of (waits_of first.key q kids)) ≡ sum_by g (flat_map (entries_below bs) kids)
     unfolding apart_of
-    kids_sum g [] = refl
-    kids_sum g (kd ∷ kids) =
+    kids_sum g [] below = refl
+    kids_sum g (kd ∷ kids) below =
         let a = sum_by-append g (apart_at kd (gap_of kd.0 q)) (apart_of kids) in
-        let b = ap (λ l. sum_by g l) (flat_map-append (λ w. entries_in bs w.what) (waits_at first.key q kd) (waits_of first.key q kids)) in
+        let b = ap (λ l. sum_by g l) (flat_map-append (λ w. entries_in bs box_at w.what) (waits_at first.key q kd) (waits_of first.key q kids)) in
         let c = sum_by-append g (entries_of (waits_at first.key q kd)) (entries_of (waits_of first.key q kids)) in
         let d = sum_by-append g (entries_below bs kd) (flat_map (entries_below bs) kids) in
-        let e = kid_sum g kd (gap_of kd.0 q) in
-        let f = kids_sum g kids in
+        let e = kid_sum g kd (below kd (first_in kd kids)) (gap_of kd.0 q) in
+        let f = kids_sum g kids (λ kid c. below kid (later_in kd kids kid c)) in
         omega (arith, a, b, c, d, e, f)
 
     no_answer : (kid : Kid) (G : Gap) → answers_of (waits_by first.key kid G) ≡ []
@@ -286,7 +292,7 @@ module _ (bs : List Branch) (root : Option ℕ) (entries : List EntryOf) (has : 
     no_answers [] = refl
     no_answers (kd ∷ kids) = flat_map-append (λ w. answers_at w w.what) (waits_at first.key q kd) (waits_of first.key q kids) ∙ ap (λ l. l ++ answers_of (waits_of first.key q kids)) (no_answer kd (gap_of kd.0 q)) ∙ no_answers kids
 
-    waits_in : (kid : Kid) (G : Gap) (w : Waiting) → Contains (waits_by first.key kid G) w → (g : Ratio) × (G ≡ AtLeast g) × (record { key = greater first.key g; what = what_of kid } ≡ w)
+    waits_in : (kid : Kid) (G : Gap) (w : Waiting) → Contains (waits_by first.key kid G) w → (g : Ratio) × (G ≡ AtLeast g) × (record { key = greater first.key g; what = what_of kid.1 } ≡ w)
     waits_in kid Apart w c = absurd (none_in w c)
     waits_in kid (AtLeast g) w c = elim (which_in _ [] w c) [
       | inl e ↦ (g, refl, e)
@@ -305,8 +311,8 @@ module _ (bs : List Branch) (root : Option ℕ) (entries : List EntryOf) (has : 
       abbrev waits : List Waiting
       waits = waits_of first.key q (children bs n)
 
-      under_is : entries_in bs first.what ≡ flat_map (entries_below bs) (children bs n)
-      under_is = ap (entries_in bs) is ∙ spread.spread
+      under_is : entries_in bs box_at first.what ≡ flat_map (entries_below bs) (children bs n)
+      under_is = ap (entries_in bs box_at) is ∙ spread.spread
 
       kid_entry : (kid : Kid) → Contains (children bs n) kid → (e : EntryOf) → Contains (entries_below bs kid) e → Contains (entries_under bs n) e
       kid_entry kid c e i = subst (λ l. Contains l e) (sym spread.spread) (flat_in (entries_below bs) (children bs n) kid e c i)
@@ -314,17 +320,22 @@ module _ (bs : List Branch) (root : Option ℕ) (entries : List EntryOf) (has : 
       kid_over : (kid : Kid) → Contains (children bs n) kid → (e : EntryOf) → Contains (entries_below bs kid) e → contains kid.0 e.0 ≡ true
       kid_over kid c e i = All-contains (λ (x : EntryOf). contains kid.0 x.0 ≡ true) (entries_below bs kid) e (All-contains (λ (k : Kid). All (λ (x : EntryOf). contains k.0 x.0 ≡ true) (entries_below bs k)) (children bs n) kid spread.over c) i
 
+      kid_there : (kid : Kid) → Contains (children bs n) kid → IsBelow kid
+      kid_there kid c e i = first_entries e (subst (λ z. Contains (entries_in bs box_at z) e) (sym is) (kid_entry kid c e i))
+
       kid_reaches : (kid : Kid) → Contains (children bs n) kid → (e : EntryOf) → Contains (entries_below bs kid) e → (m : Ratio) → has e.1 m → gap_reaches (gap_of kid.0 q) m ≡ true
-      kid_reaches kid c e i m h = known.bound kid.0 e (first_entries e (subst (λ z. Contains (entries_in bs z) e) (sym is) (kid_entry kid c e i))) (kid_over kid c e i) m h
+      kid_reaches kid c e i m h = known.bound kid.0 e (kid_there kid c e i) (kid_over kid c e i) m h
 
       kid_bound : (kid : Kid) → Contains (children bs n) kid → (g : Ratio) → gap_of kid.0 q ≡ AtLeast g → (e : EntryOf) → Contains (entries_below bs kid) e → (m : Ratio) → has e.1 m → up_to (greater first.key g) m ≡ true
       kid_bound kid c g f e i m h = greater_up_to first.key g m (node_held.1 e (kid_entry kid c e i) m h) (subst (λ z. gap_reaches z m ≡ true) f (kid_reaches kid c e i m h))
 
-      kid_held : (kid : Kid) → Contains (children bs n) kid → (g : Ratio) → gap_of kid.0 q ≡ AtLeast g → IsHeld (greater first.key g) (what_of kid)
+      kid_held : (kid : Kid) → Contains (children bs n) kid → (g : Ratio) → gap_of kid.0 q ≡ AtLeast g → IsHeld (greater first.key g) (what_of kid.1)
       kid_held (b, NodeChild m) c g f = ((suc node_held.0.0, is_child node_held.0.1 c.1 (sym c.2)), kid_bound (b, NodeChild m) c g f)
-      kid_held (b, EntryChild row) c g f = (subst (λ z. gap_reaches z (greater first.key g) ≡ true) (sym f) (up_to_greater_right first.key g), kid_bound (b, EntryChild row) c g f (b, row) (first_in (b, row) []))
+      kid_held (b, EntryChild row) c g f =
+          let known_box = at_box b row (kid_there (b, EntryChild row) c (b, row) (first_in (b, row) [])) in
+          (subst (λ z. gap_reaches z (greater first.key g) ≡ true) (sym (ap (λ z. gap_of z q) known_box ∙ f)) (up_to_greater_right first.key g), kid_bound (b, EntryChild row) c g f (b, row) (first_in (b, row) []))
 
-      kid_later : (kid : Kid) (key : Ratio) (o : ℕ × Ratio) → before o.1 key ≡ true → IsLater o key (what_of kid)
+      kid_later : (kid : Kid) (key : Ratio) (o : ℕ × Ratio) → before o.1 key ≡ true → IsLater o key (what_of kid.1)
       kid_later (b, NodeChild m) key o h = h
       kid_later (b, EntryChild row) key o h = h
 
@@ -357,9 +368,9 @@ module _ (bs : List Branch) (root : Option ℕ) (entries : List EntryOf) (has : 
           let f = sum_by-append g old.gone (apart_of (children bs n)) in
           let h = entries_sum g in
           let i = ap (λ l. sum_by g l) under_is in
-          let j = kids_sum g (children bs n) in
-          let l = flat_permuted g (λ w. entries_in bs w.what) (waits ++ rest) new.heap how.heap in
-          let m = ap (λ l. sum_by g l) (flat_map-append (λ w. entries_in bs w.what) waits rest) in
+          let j = kids_sum g (children bs n) kid_there in
+          let l = flat_permuted g (λ w. entries_in bs box_at w.what) (waits ++ rest) new.heap how.heap in
+          let m = ap (λ l. sum_by g l) (flat_map-append (λ w. entries_in bs box_at w.what) waits rest) in
           let o = sum_by-append g (entries_of waits) (entries_of rest) in
           omega (arith, a, b, c, d, e, f, h, i, j, l, m, o)
 
@@ -426,12 +437,12 @@ module _ (bs : List Branch) (root : Option ℕ) (entries : List EntryOf) (has : 
 
     -- ---- an entry is looked at
 
-    module _ (b : BoxOf) (row : ℕ) (is : first.what ≡ Entry b row) (new : State) (how : IsMeasured has row rest_state new) where
-      entry_held : IsHeld first.key (Entry b row)
+    module _ (row : ℕ) (is : first.what ≡ Entry row) (new : State) (how : IsMeasured has row rest_state new) where
+      entry_held : IsHeld first.key (Entry row)
       entry_held = subst (λ z. IsHeld first.key z) is first_held
 
       abbrev here : EntryOf
-      here = (b, row)
+      here = (box_at row, row)
 
       answer_bound : (o : Option Ratio) → IsOnly (has row) o → (w : Waiting) → Contains (found_answer row o) w → (up_to first.key w.key ≡ true) × IsHeld w.key w.what
       answer_bound None h w c = absurd (none_in w c)
@@ -492,9 +503,9 @@ module _ (bs : List Branch) (root : Option ℕ) (entries : List EntryOf) (has : 
           let e = sum_by-append g old.gone (old.tried ++ here ∷ []) in
           let f = sum_by-append g old.tried (here ∷ []) in
           let h = entries_sum g in
-          let i = ap (λ z. sum_by g (entries_in bs z)) is in
-          let l = flat_permuted g (λ w. entries_in bs w.what) (found_answer row how.answer ++ rest) new.heap how.heap in
-          let m = ap (λ l. sum_by g l) (flat_map-append (λ w. entries_in bs w.what) (found_answer row how.answer) rest ∙ ap (λ l. l ++ entries_of rest) (answer_entries how.answer)) in
+          let i = ap (λ z. sum_by g (entries_in bs box_at z)) is in
+          let l = flat_permuted g (λ w. entries_in bs box_at w.what) (found_answer row how.answer ++ rest) new.heap how.heap in
+          let m = ap (λ l. sum_by g l) (flat_map-append (λ w. entries_in bs box_at w.what) (found_answer row how.answer) rest ∙ ap (λ l. l ++ entries_of rest) (answer_entries how.answer)) in
           omega (arith, a, b, c, d, e, f, h, i, l, m)
 
       pub looked : IsSearching k start new
@@ -646,7 +657,7 @@ module _ (bs : List Branch) (root : Option ℕ) (entries : List EntryOf) (has : 
             let b = sum_by-append g (old.gone ++ old.tried) (entries_of s.heap) in
             let c = sum_by-append g (old.gone ++ old.tried) (entries_of new.heap) in
             let d = entries_sum g in
-            let e = ap (λ z. sum_by g (entries_in bs z)) is in
+            let e = ap (λ z. sum_by g (entries_in bs box_at z)) is in
             let f = ap (λ l. sum_by g (entries_of l)) how.heap in
             omega (arith, a, b, c, d, e, f);
         none = old.none;
@@ -676,8 +687,8 @@ module _ (bs : List Branch) (root : Option ℕ) (entries : List EntryOf) (has : 
               ])
             ])
             | inr i ↦ (elim (entry_left (b.0, r) i) [
-              | inl j ↦ absurd (none_in (b.0, r) (subst (λ z. Contains (entries_in bs z) (b.0, r)) is j))
-              | inr j ↦ let w = in_flat (λ w. entries_in bs w.what) rest (b.0, r) j in inr (full, all_by_each (λ o. nearer o (r, m) ≡ true) new.found (λ o d. later_entry o w.0.key w.0.what (told_behind o d w.0 w.1) (rest_held w.0 w.1).1 (b.0, r) w.2 m h))
+              | inl j ↦ absurd (none_in (b.0, r) (subst (λ z. Contains (entries_in bs box_at z) (b.0, r)) is j))
+              | inr j ↦ let w = in_flat (λ w. entries_in bs box_at w.what) rest (b.0, r) j in inr (full, all_by_each (λ o. nearer o (r, m) ≡ true) new.found (λ o d. later_entry o w.0.key w.0.what (told_behind o d w.0 w.1) (rest_held w.0 w.1).1 (b.0, r) w.2 m h))
             ])
           ]
 
@@ -701,8 +712,8 @@ module _ (bs : List Branch) (root : Option ℕ) (entries : List EntryOf) (has : 
 
     -- ---- a part does not fit
 
-    module _ (b : BoxOf) (row : ℕ) (is : first.what ≡ Entry b row) where
-      unfit_held : IsHeld first.key (Entry b row)
+    module _ (row : ℕ) (is : first.what ≡ Entry row) where
+      unfit_held : IsHeld first.key (Entry row)
       unfit_held = subst (λ z. IsHeld first.key z) is first_held
 
       unfit_near : (r : ℕ) (m : Ratio) → has r m → before m first.key ≡ true → Contains s.found (r, m)
@@ -721,17 +732,17 @@ module _ (bs : List Branch) (root : Option ℕ) (entries : List EntryOf) (has : 
             ])
             | inr i ↦ (elim (entry_left (v.0, r) i) [
               | inl j ↦ absurd (not_before first.key m (held_entry first.key first.what first_held (v.0, r) j m h) l)
-              | inr j ↦ let w = in_flat (λ w. entries_in bs w.what) rest (v.0, r) j in absurd (not_before first.key m (up_to-trans first.key w.0.key m (rest_held w.0 w.1).0 (held_entry w.0.key w.0.what (rest_held w.0 w.1).1 (v.0, r) w.2 m h)) l)
+              | inr j ↦ let w = in_flat (λ w. entries_in bs box_at w.what) rest (v.0, r) j in absurd (not_before first.key m (up_to-trans first.key w.0.key m (rest_held w.0 w.1).0 (held_entry w.0.key w.0.what (rest_held w.0 w.1).1 (v.0, r) w.2 m h)) l)
             ])
           ]
 
-      pub unfit_gap : (g : Ratio) × (gap_of b q ≡ AtLeast g) × HasFewBelow has k g
+      pub unfit_gap : (g : Ratio) × (gap_of (box_at row) q ≡ AtLeast g) × HasFewBelow has k g
       unfit_gap =
-          let v = gap_some (gap_of b q) first.key unfit_held.0 in
+          let v = gap_some (gap_of (box_at row) q) first.key unfit_held.0 in
           (v.0, v.1, (map (λ (o : ℕ × Ratio). o.0) s.found, (let a = old.few in let e = length-map s.found (λ (o : ℕ × Ratio). o.0) in omega (arith, a, e)), λ r m h l. in_firsts s.found (r, m) (unfit_near r m h (before_up_to m v.0 first.key l v.2))))
 
-      pub unfit_entry : Contains entries (b, row)
-      unfit_entry = first_entries (b, row) (subst (λ z. Contains (entries_in bs z) (b, row)) (sym is) (first_in (b, row) []))
+      pub unfit_entry : Contains entries (box_at row, row)
+      unfit_entry = first_entries (box_at row, row) (subst (λ z. Contains (entries_in bs box_at z) (box_at row, row)) (sym is) (first_in (box_at row, row) []))
 
   -- ---- nothing is left
 

@@ -28,7 +28,7 @@ node_size bs (suc h) n = suc (sum_by (λ (k : Kid). node_size bs h (target k.1))
 
 abbrev pub what_size : List Branch → What → ℕ
 what_size bs (Node n) = node_size bs (branch_height bs n) n
-what_size bs (Entry b row) = 2
+what_size bs (Entry row) = 2
 what_size bs (Answer row) = 1
 
 abbrev pub size : List Branch → List Waiting → ℕ
@@ -45,11 +45,11 @@ sum_each f g (x ∷ xs) h =
 
 module _ (bs : List Branch) where
   abbrev kid_size : Kid → ℕ
-  kid_size kid = what_size bs (what_of kid)
+  kid_size kid = what_size bs (what_of kid.1)
 
   waits_size : (floor : Ratio) (kid : Kid) (G : Gap) → size bs (waits_by floor kid G) ≤ kid_size kid
   waits_size floor kid Apart = omega arith
-  waits_size floor kid (AtLeast g) = let c = sum_by-cons (λ (w : Waiting). what_size bs w.what) (record { key = greater floor g; what = what_of kid }) [] in omega (arith, c)
+  waits_size floor kid (AtLeast g) = let c = sum_by-cons (λ (w : Waiting). what_size bs w.what) (record { key = greater floor g; what = what_of kid.1 }) [] in omega (arith, c)
 
   all_waits_size : (floor : Ratio) (q : BoxOf) (kids : List Kid) → size bs (waits_of floor q kids) ≤ sum_by kid_size kids
   all_waits_size floor q [] = omega arith
@@ -97,7 +97,7 @@ module _ (bs : List Branch) where
           let d = node_by n (branch_height bs n) refl (s n refl) in
           let g = ap (what_size bs) e in
           omega (arith, before, a, b, c, d, g)
-      by_what (Entry b row) e s h =
+      by_what (Entry row) e s h =
           let a = sum_by-IsPermutation f (found_answer row h.answer ++ rest) new.heap h.heap in
           let b = sum_by-append f (found_answer row h.answer) rest in
           let c = answer_size row h.answer in

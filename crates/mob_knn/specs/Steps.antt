@@ -22,7 +22,7 @@ IsOnly has o = MatchOption o ((m : Ratio) → has m → ⊥) has
 -- a node that waits is reached
 abbrev pub IsReachedIn : List Branch → Option ℕ → What → Type 0
 IsReachedIn bs root (Node n) = IsReachedNode bs root n
-IsReachedIn bs root (Entry b row) = Unit {0}
+IsReachedIn bs root (Entry row) = Unit {0}
 IsReachedIn bs root (Answer row) = Unit {0}
 
 abbrev pub found_answer : ℕ → Option Ratio → List Waiting
@@ -55,7 +55,7 @@ pub record IsAnswered (key : Ratio) (row : ℕ) (old new : State) : Type 0 where
 
 abbrev pub IsAdvanced : List Branch → BoxOf → (ℕ → Ratio → Type 0) → Ratio → What → State → State → Type 0
 IsAdvanced bs q has key (Node n) old new = IsOpened bs q key n old new
-IsAdvanced bs q has key (Entry b row) old new = IsMeasured has row old new
+IsAdvanced bs q has key (Entry row) old new = IsMeasured has row old new
 IsAdvanced bs q has key (Answer row) old new = IsAnswered key row old new
 
 -- a fault at an entry
@@ -63,4 +63,4 @@ abbrev pub HasUnfitPart : List (Option Trip) → Asked → ℕ → Formula → T
 HasUnfitPart trips asked row formula = (trip : Trip) × IsTrip trips row trip × IsFirst (flat_map entries_of_approach (pieces (Slices trip) asked)) (Some formula)
 
 abbrev pub IsEntry : What → ℕ → Type 0
-IsEntry what row = (b : BoxOf) × (what ≡ Entry b row)
+IsEntry what row = what ≡ Entry row

@@ -11,6 +11,7 @@ use Rattle.mob_slice.specs.RankLaws.{ranking_ratio}
 use Rattle.mob_stbox.specs.Boxes.{BoxOf}
 use Rattle.mob_rtree_nodes.specs.Tree.{Kid, EntryOf}
 use Rattle.mob_rtree_nodes.specs.Reach.{Branch, entries_under}
+use Rattle.mob_rtree_nodes.specs.declared.node.Child.{Child}
 use Rattle.mob_rtree_nodes.specs.declared.node.Child.TheVariants.{Node as NodeChild, Entry as EntryChild}
 use Rattle.mob_gaps.specs.Gaps.{gap_of}
 use Rattle.mob_gaps.specs.declared.kind.Gap.{Gap}
@@ -21,12 +22,12 @@ use Rattle.mob_knn.specs.declared.waiting.What.TheVariants.{Node, Entry, Answer}
 
 abbrev pub rank_of : What → ℕ
 rank_of (Node n) = 0
-rank_of (Entry b row) = 1
+rank_of (Entry row) = 1
 rank_of (Answer row) = 2
 
 abbrev pub waiting_number : What → ℕ
 waiting_number (Node n) = n
-waiting_number (Entry b row) = row
+waiting_number (Entry row) = row
 waiting_number (Answer row) = row
 
 -- by the key, then nodes and entries before answers, then by the number
@@ -41,14 +42,14 @@ pub waiting_total : IsTotalOrder waiting_cmp
 waiting_total = back_total (then_total (on_total (λ w. w.key) ranking_ratio.total) (then_total (on_total (λ w. rank_of w.what) nat_cmp_total) (on_total (λ w. waiting_number w.what) nat_cmp_total)))
 
 -- a child of a node as what waits
-abbrev pub what_of : Kid → What
-what_of (b, NodeChild n) = Node n
-what_of (b, EntryChild row) = Entry b row
+abbrev pub what_of : Child → What
+what_of (NodeChild n) = Node n
+what_of (EntryChild row) = Entry row
 
 -- what waits for a child of a node of which no approach is below floor: nothing where it is apart from what is asked
 abbrev pub waits_by : Ratio → Kid → Gap → List Waiting
 waits_by floor kid Apart = []
-waits_by floor kid (AtLeast g) = record { key = greater floor g; what = what_of kid } ∷ []
+waits_by floor kid (AtLeast g) = record { key = greater floor g; what = what_of kid.1 } ∷ []
 
 abbrev pub waits_at : Ratio → BoxOf → Kid → List Waiting
 waits_at floor q kid = waits_by floor kid (gap_of kid.0 q)
@@ -56,14 +57,14 @@ waits_at floor q kid = waits_by floor kid (gap_of kid.0 q)
 abbrev pub waits_of : Ratio → BoxOf → List Kid → List Waiting
 waits_of floor q kids = flat_map (waits_at floor q) kids
 
--- the entries that wait
-abbrev pub entries_in : List Branch → What → List EntryOf
-entries_in bs (Node n) = entries_under bs n
-entries_in bs (Entry b row) = (b, row) ∷ []
-entries_in bs (Answer row) = []
+-- the entries that wait, where these are the boxes of the rows
+abbrev pub entries_in : List Branch → (ℕ → BoxOf) → What → List EntryOf
+entries_in bs box_at (Node n) = entries_under bs n
+entries_in bs box_at (Entry row) = (box_at row, row) ∷ []
+entries_in bs box_at (Answer row) = []
 
 -- the answers that wait
 abbrev pub answers_at : Waiting → What → List (ℕ × Ratio)
 answers_at w (Node n) = []
-answers_at w (Entry b row) = []
+answers_at w (Entry row) = []
 answers_at w (Answer row) = (row, w.key) ∷ []

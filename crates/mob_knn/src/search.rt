@@ -82,7 +82,7 @@ fn advance<L: Ledger>(
 {
     match first.what {
         What::Node(n) => open(heap, tree.part(n), &first.key, area),
-        What::Entry(_, row) => look(alloc, trips, asked, row, heap, steps),
+        What::Entry(row) => look(alloc, trips, asked, row, heap, steps),
         What::Answer(row) => tell(found, row, first.key),
     }
 }

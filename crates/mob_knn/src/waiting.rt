@@ -27,8 +27,8 @@ use std::collections::BinaryHeap;
 pub enum What {
     /// A node of the tree.
     Node(u32),
-    /// The box and the row of a trip.
-    Entry(StBox, u32),
+    /// The row of a trip.
+    Entry(u32),
     /// A row whose approach is known.
     Answer(u32),
 }
@@ -49,7 +49,7 @@ impl What {
     {
         match self {
             What::Node(_) => 0,
-            What::Entry(_, _) => 1,
+            What::Entry(_) => 1,
             What::Answer(_) => 2,
         }
     }
@@ -59,7 +59,7 @@ impl What {
     {
         match self {
             What::Node(n) => *n,
-            What::Entry(_, row) => *row,
+            What::Entry(row) => *row,
             What::Answer(row) => *row,
         }
     }
@@ -120,12 +120,12 @@ impl PartialOrd for Waiting {
 }
 
 // A child of a node as what waits.
-fn what_of(area: &StBox, child: &Child) -> What
-    ensures value { result ≡ what_of (area.now, child.now) }
+fn what_of(child: &Child) -> What
+    ensures value { result ≡ what_of child.now }
 {
     match child {
         Child::Node(n) => What::Node(*n),
-        Child::Entry(row) => What::Entry(*area, *row),
+        Child::Entry(row) => What::Entry(*row),
     }
 }
 
@@ -175,6 +175,6 @@ fn open_kid(
 {
     match gap(area, asked) {
         Gap::Apart => Ok(()),
-        Gap::AtLeast(least) => wait(heap, greater(floor, &least), what_of(area, child)),
+        Gap::AtLeast(least) => wait(heap, greater(floor, &least), what_of(child)),
     }
 }

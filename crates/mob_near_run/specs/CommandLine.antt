@@ -1,31 +1,19 @@
 -- The command line `mobnear --k K --to TEXT [--epoch DATE]`: three options that take one value each, no help and no version.
-use Rattle.std.specs.Prelude.{◌≡◌, ◌==◌, ℕ, List, [], Option, Some, Ok, codes, cond}
+use Rattle.std.specs.Prelude.{◌≡◌, ◌==◌, List, Some, Ok, codes, cond}
 use Rattle.std.specs.List.{list_any}
-use Rattle.clap.specs.Words.{App, Text, fault_of, first_of, matches_of, new_app, with_rule}
+use Rattle.clap.specs.Words.{App, Text, new_app, with_rule}
 use Rattle.mob_ast.specs.declared.types.SqlType.{SqlType}
 use Rattle.mob_ast.specs.declared.types.SqlType.TheVariants as sql
 use Rattle.mob_value.specs.declared.value.Value.{Value}
 use Rattle.mob_value.specs.declared.value.Value.TheVariants as value
 use Rattle.mob_literal.specs.SqlText.{SaysAs}
-use Rattle.mob_words.specs.CommandLine.{option, without_flags, IsCount, IsEpoch}
+use Rattle.mob_words.specs.Arguments.{IsCount, IsEpoch, IsRequired, Takes, option, value_of, without_flags}
 use Rattle.mob_near_run.specs.declared.settings.NearSettings.{NearSettings}
 use Rattle.mob_near_run.specs.declared.settings.Target.{Target}
 use Rattle.mob_near_run.specs.declared.settings.Target.TheVariants.{Moving, Fixed}
 
 unfoldable pub near_command : App
 near_command = with_rule (with_rule (with_rule (without_flags (new_app (codes "mobnear"))) (option (codes "k"))) (option (codes "to"))) (option (codes "epoch"))
-
--- the command takes these arguments, the program's name first
-unfoldable pub NearTakes : List Text → Type 0
-NearTakes words = fault_of near_command words ≡ []
-
--- the value that the arguments give to an option
-unfoldable pub near_option : Text → List Text → Option Text
-near_option name words = first_of name (matches_of near_command words)
-
--- how many rows are asked for: from 1 to 1000; the option has to be there
-abbrev pub IsRowCount : Option Text → ℕ → Type 0
-IsRowCount value k = (text : Text) × (value ≡ Some text) × IsCount 1000 text k
 
 -- a text with an `@` is read as a tgeompoint, every other one as a point
 abbrev pub target_type : Text → SqlType
@@ -35,11 +23,11 @@ abbrev pub target_value : Target → Value
 target_value (Moving v) = value.MovingPoint v
 target_value (Fixed p) = value.Point p
 
--- the arguments are taken and say these settings: how many rows, the day of the epoch, and to what the trips come near
+-- the arguments are taken and say these settings: how many rows, from 1 to 1000, the day of the epoch, and to what the trips come near
 pub record NearSays (words : List Text) (settings : NearSettings) : Type 0 where
-  pub taken : NearTakes words
-  pub count : IsRowCount (near_option (codes "k") words) settings.k
-  pub day : IsEpoch (near_option (codes "epoch") words) settings.epoch
+  pub taken : Takes near_command words
+  pub count : IsRequired (IsCount 1000) (value_of near_command (codes "k") words) settings.k
+  pub day : IsEpoch (value_of near_command (codes "epoch") words) settings.epoch
   pub text : Text
-  pub to : near_option (codes "to") words ≡ Some text
+  pub to : value_of near_command (codes "to") words ≡ Some text
   pub says : SaysAs (target_type text) settings.epoch text (Ok (target_value settings.to))

@@ -1,10 +1,10 @@
 // What the arguments of a command line say.
-ghost use Rattle.std.specs.Prelude.{◌≡◌, ◌≢◌, ◌==◌, ℕ, Ok, None, IfOk, IfSome, IsNone, map, option_map, string_bytes};
+ghost use Rattle.std.specs.Prelude.{◌≡◌, ◌≢◌, ◌==◌, Ok, None, IfOk, IfSome, IsNone, map, string_bytes};
 ghost use Rattle.std.specs.List.{list_any};
 ghost use Rattle.mob_ast.specs.declared.types.SqlType.TheVariants.{TPoint, Point as PointType};
 ghost use Rattle.mob_numeral.specs.declared.fault.ReadText.TheVariants.{NoMemory};
 ghost use Rattle.mob_literal.specs.SqlText.{SaysAs};
-ghost use Rattle.mob_near_run.specs.CommandLine.{IsRowCount, NearSays, target_type, target_value};
+ghost use Rattle.mob_near_run.specs.CommandLine.{NearSays, target_type, target_value};
 ghost use Rattle.mob_near_run.specs.declared.settings.NearSettings.{NearSettings as SettingsSeen};
 ghost use Rattle.mob_near_run.specs.declared.settings.Target.{Target as TargetSeen};
 
@@ -14,22 +14,11 @@ use mob_ast::SqlType;
 use mob_literal::read_value;
 use mob_scalar::{Epoch, ReadText};
 use mob_value::Value;
-use mob_words::{count_in, epoch_of};
+use mob_words::{count_of, epoch_of};
 use std::alloc::{AllocError, Global};
 
 // The greatest number of rows that may be asked for.
 const MOST_ROWS: u32 = 1000;
-
-// How many rows are asked for.
-fn rows_asked(value: Option<&str>) -> Option<u32>
-    ensures some { IfSome result (λ k. IsRowCount (option_map (λ s. s.now) value.entry) k) }
-    ensures none { IsNone result → (k : ℕ) → IsRowCount (option_map (λ s. s.now) value.entry) k → ⊥ }
-{
-    match value {
-        None => None,
-        Some(text) => count_in(text, MOST_ROWS),
-    }
-}
 
 // Whether a text has an `@`.
 fn is_moving(text: &str) -> bool
@@ -95,7 +84,7 @@ pub fn settings(alloc: Global, words: &[String]) -> Result<Option<NearSettings>,
     let Some(given) = given(alloc, words)? else {
         return Ok(None);
     };
-    let Some(k) = rows_asked(given.count) else {
+    let Some(k) = count_of(given.count, MOST_ROWS) else {
         return Ok(None);
     };
     let Some(epoch) = epoch_of(given.epoch) else {

@@ -1,16 +1,15 @@
 // The command, and what the arguments of a command line say.
-ghost use Rattle.std.specs.Prelude.{◌≡◌, IfOk, IfSome, IsNone, Some, codes, map, option_map, string_bytes};
+ghost use Rattle.std.specs.Prelude.{◌≡◌, IfOk, IfSome, IsNone, codes, map, option_map, string_bytes};
 ghost use Rattle.clap.specs.Words.{app_of};
 ghost use Rattle.mob_ratio.specs.Ratio.{Ratio};
-ghost use Rattle.mob_thin_run.specs.CommandLine.{ThinTakes, IsThinDistance, ThinSays, thin_command, thin_option};
+ghost use Rattle.mob_words.specs.Arguments.{IsDistance, IsRequired, Takes, value_of};
+ghost use Rattle.mob_thin_run.specs.CommandLine.{ThinSays, thin_command};
 ghost use Rattle.mob_thin_run.specs.declared.settings.ThinSettings.{ThinSettings as SettingsSeen};
 
 use crate::settings::ThinSettings;
-use clap::error::ErrorKind;
-use clap::{Arg, Command};
+use clap::Command;
 use mob_frac::Frac;
-use mob_numeral::read_number;
-use mob_words::epoch_of;
+use mob_words::{bare_command, distance_in, epoch_of, matched, with_option};
 use std::alloc::{AllocError, Global};
 
 // The values of the options, borrowed from the arguments.
@@ -20,57 +19,36 @@ pub struct Values<'a> {
     pub epoch: Option<&'a str>,
 }
 
-// The command: two options that take one value each. Help and version are no options of it.
+// The command: two options that take one value each.
 fn mobthin<'a>(alloc: Global) -> Result<Command<'a>, AllocError>
     ensures command { IfOk result (λ c. app_of c ≡ thin_command) }
 {
-    let within = Arg::new(alloc, "within").long("within");
-    let epoch = Arg::new(alloc, "epoch").long("epoch");
-    Command::new(alloc, "mobthin")
-        .disable_help_flag(true)
-        .disable_version_flag(true)
-        .arg(within)?
-        .arg(epoch)
+    let command = bare_command(alloc, "mobthin");
+    let command = with_option(alloc, command, "within")?;
+    with_option(alloc, command, "epoch")
 }
 
 // The value of each option, or None where the command does not take the arguments.
 fn given<'a>(alloc: Global, words: &'a [String]) -> Result<Option<Values<'a>>, AllocError>
-    ensures taken { IfOk result (λ o. IfSome o (λ v. ThinTakes (map string_bytes words.entry.now))) }
-    ensures refused { IfOk result (λ o. IsNone o → ThinTakes (map string_bytes words.entry.now) → ⊥) }
-    ensures within { IfOk result (λ o. IfSome o (λ v. option_map (λ s. s.now) v.within ≡ thin_option (codes "within") (map string_bytes words.entry.now))) }
-    ensures epoch { IfOk result (λ o. IfSome o (λ v. option_map (λ s. s.now) v.epoch ≡ thin_option (codes "epoch") (map string_bytes words.entry.now))) }
+    ensures taken { IfOk result (λ o. IfSome o (λ v. Takes thin_command (map string_bytes words.entry.now))) }
+    ensures refused { IfOk result (λ o. IsNone o → Takes thin_command (map string_bytes words.entry.now) → ⊥) }
+    ensures within { IfOk result (λ o. IfSome o (λ v. option_map (λ s. s.now) v.within ≡ value_of thin_command (codes "within") (map string_bytes words.entry.now))) }
+    ensures epoch { IfOk result (λ o. IfSome o (λ v. option_map (λ s. s.now) v.epoch ≡ value_of thin_command (codes "epoch") (map string_bytes words.entry.now))) }
 {
     let command = mobthin(alloc)?;
-    match command.try_get_matches_from(words) {
-        Ok(matches) => Ok(Some(Values {
-            within: matches.get_str("within"),
-            epoch: matches.get_str("epoch"),
-        })),
-        Err(error) => match error.kind() {
-            ErrorKind::OutOfMemory => Err(AllocError),
-            _ => Ok(None),
-        },
-    }
-}
-
-// The number that a text says, if it is not below 0.
-fn distance_in(text: &str) -> Option<Frac>
-    ensures some { IfSome result (λ d. IsThinDistance (Some text.now) d) }
-    ensures none { IsNone result → (d : Ratio) → IsThinDistance (Some text.now) d → ⊥ }
-{
-    let Ok(number) = read_number(text) else {
-        return None;
+    let Some(matches) = matched(command, words)? else {
+        return Ok(None);
     };
-    if number.is_before(&Frac::zero()) {
-        return None;
-    }
-    Some(number)
+    Ok(Some(Values {
+        within: matches.get_str("within"),
+        epoch: matches.get_str("epoch"),
+    }))
 }
 
 // The distance that the value of `--within` says; the option is required.
 fn within_of(value: Option<&str>) -> Option<Frac>
-    ensures some { IfSome result (λ d. IsThinDistance (option_map (λ s. s.now) value.entry) d) }
-    ensures none { IsNone result → (d : Ratio) → IsThinDistance (option_map (λ s. s.now) value.entry) d → ⊥ }
+    ensures some { IfSome result (λ d. IsRequired IsDistance (option_map (λ s. s.now) value.entry) d) }
+    ensures none { IsNone result → (d : Ratio) → IsRequired IsDistance (option_map (λ s. s.now) value.entry) d → ⊥ }
 {
     match value {
         None => None,

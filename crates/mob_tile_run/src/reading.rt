@@ -1,9 +1,9 @@
 // What the arguments of a command line say.
-ghost use Rattle.std.specs.Prelude.{◌≡◌, ℕ, Option, IfOk, IfSome, IsNone, Some, map, option_map, string_bytes};
+ghost use Rattle.std.specs.Prelude.{◌≡◌, Option, IfOk, IfSome, IsNone, map, option_map, string_bytes};
 ghost use Rattle.mob_ratio.specs.Ratio.{Ratio};
 ghost use Rattle.mob_tile.specs.Tiles.{GridOf};
-ghost use Rattle.mob_words.specs.CommandLine.{IsWorkers};
-ghost use Rattle.mob_tile_run.specs.CommandLine.{IsDistance, IsNear, IsSide, IsSides, TileSays};
+ghost use Rattle.mob_words.specs.Arguments.{IsRequired};
+ghost use Rattle.mob_tile_run.specs.CommandLine.{IsNear, IsSide, IsSides, TileSays};
 ghost use Rattle.mob_tile_run.specs.declared.settings.TileSettings.{TileSettings as SettingsSeen};
 
 use crate::command::given;
@@ -12,16 +12,13 @@ use mob_frac::Frac;
 use mob_numeral::read_number;
 use mob_tile::Grid;
 use mob_tile::grid::is_positive;
-use mob_words::{count_in, epoch_of};
+use mob_words::{distance_in, epoch_of, workers_of};
 use std::alloc::{AllocError, Global};
-
-// The greatest number of workers.
-const MOST_WORKERS: u32 = 64;
 
 // The number that a text says, if it is above 0.
 fn side_in(text: &str) -> Option<Frac>
-    ensures some { IfSome result (λ d. IsSide (Some text.now) d) }
-    ensures none { IsNone result → (d : Ratio) → IsSide (Some text.now) d → ⊥ }
+    ensures some { IfSome result (λ d. IsSide text.now d) }
+    ensures none { IsNone result → (d : Ratio) → IsSide text.now d → ⊥ }
 {
     let Ok(number) = read_number(text) else {
         return None;
@@ -34,8 +31,8 @@ fn side_in(text: &str) -> Option<Frac>
 
 // The side of a tile that the value of an option says; the option is required.
 fn side_of(value: Option<&str>) -> Option<Frac>
-    ensures some { IfSome result (λ d. IsSide (option_map (λ s. s.now) value.entry) d) }
-    ensures none { IsNone result → (d : Ratio) → IsSide (option_map (λ s. s.now) value.entry) d → ⊥ }
+    ensures some { IfSome result (λ d. IsRequired IsSide (option_map (λ s. s.now) value.entry) d) }
+    ensures none { IsNone result → (d : Ratio) → IsRequired IsSide (option_map (λ s. s.now) value.entry) d → ⊥ }
 {
     match value {
         None => None,
@@ -57,20 +54,6 @@ fn grid_of(size: Option<&str>, width: Option<&str>) -> Option<Grid>
     Grid::new(size, width)
 }
 
-// The number that a text says, if it is not below 0.
-fn distance_in(text: &str) -> Option<Frac>
-    ensures some { IfSome result (λ d. IsDistance text.now d) }
-    ensures none { IsNone result → (d : Ratio) → IsDistance text.now d → ⊥ }
-{
-    let Ok(number) = read_number(text) else {
-        return None;
-    };
-    if number.is_before(&Frac::zero()) {
-        return None;
-    }
-    Some(number)
-}
-
 // The distance that the value of `--near` says; without a value there is none.
 fn near_of(value: Option<&str>) -> Option<Option<Frac>>
     ensures some { IfSome result (λ near. IsNear (option_map (λ s. s.now) value.entry) near) }
@@ -82,17 +65,6 @@ fn near_of(value: Option<&str>) -> Option<Option<Frac>>
             Some(near) => Some(Some(near)),
             None => None,
         },
-    }
-}
-
-// The number of workers that the value of `--workers` says, or that goes without one.
-fn workers_of(value: Option<&str>) -> Option<u32>
-    ensures some { IfSome result (λ n. IsWorkers (option_map (λ s. s.now) value.entry) n) }
-    ensures none { IsNone result → (n : ℕ) → IsWorkers (option_map (λ s. s.now) value.entry) n → ⊥ }
-{
-    match value {
-        None => Some(1),
-        Some(text) => count_in(text, MOST_WORKERS),
     }
 }
 

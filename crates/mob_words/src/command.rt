@@ -1,50 +1,46 @@
-// The command, and the values that words give to its options.
-ghost use Rattle.std.specs.Prelude.{◌≡◌, IfOk, IfSome, IsNone, codes, map, option_map, string_bytes};
-ghost use Rattle.clap.specs.Words.{app_of};
-ghost use Rattle.mob_words.specs.CommandLine.{IsTaken, command, option_value};
+// Commands whose options each take one value, and the arguments that they take.
+ghost use Rattle.std.specs.Prelude.{◌≡◌, IfOk, IfSome, IsNone, map, string_bytes, true};
+ghost use Rattle.clap.specs.Words.{Text, app_of, first_value, found_of, is_simple_and_free, new_app, with_rule};
+ghost use Rattle.mob_words.specs.Arguments.{Takes, option, value_of, without_flags};
 
 use clap::error::ErrorKind;
-use clap::{Arg, Command};
+use clap::{Arg, ArgMatches, Command};
 use std::alloc::{AllocError, Global};
 
-// The values of the options, where they stand among the words.
-#[derive(Drop, Clone, Copy)]
-pub struct Values<'a> {
-    pub workers: Option<&'a str>,
-    pub epoch: Option<&'a str>,
-    pub demo: Option<&'a str>,
-}
-
-// The command: three options that take one value each. Help and version are no options of it.
-fn mobsql<'a>(alloc: Global) -> Result<Command<'a>, AllocError>
-    ensures command { IfOk result (λ c. app_of c ≡ command) }
+/// The command of a program, without options: help and version are no options of it either.
+pub fn bare_command<'a>(alloc: Global, name: &'a str) -> Command<'a>
+    ensures bare { app_of result ≡ without_flags (new_app name.entry.now) }
 {
-    let workers = Arg::new(alloc, "workers").long("workers");
-    let epoch = Arg::new(alloc, "epoch").long("epoch");
-    let demo = Arg::new(alloc, "demo").long("demo");
-    Command::new(alloc, "mobsql")
+    Command::new(alloc, name)
         .disable_help_flag(true)
         .disable_version_flag(true)
-        .arg(workers)?
-        .arg(epoch)?
-        .arg(demo)
 }
 
-// What the words give to each option, or None where the command does not take them.
-pub fn given<'a>(alloc: Global, words: &'a [String]) -> Result<Option<Values<'a>>, AllocError>
-    ensures taken { IfOk result (λ o. IfSome o (λ v. IsTaken (map string_bytes words.entry.now))) }
-    ensures refused { IfOk result (λ o. IsNone o → IsTaken (map string_bytes words.entry.now) → ⊥) }
-    ensures workers { IfOk result (λ o. IfSome o (λ v. option_map (λ s. s.now) v.workers ≡ option_value (codes "workers") (map string_bytes words.entry.now))) }
-    ensures epoch { IfOk result (λ o. IfSome o (λ v. option_map (λ s. s.now) v.epoch ≡ option_value (codes "epoch") (map string_bytes words.entry.now))) }
-    ensures demo { IfOk result (λ o. IfSome o (λ v. option_map (λ s. s.now) v.demo ≡ option_value (codes "demo") (map string_bytes words.entry.now))) }
+/// The command with one more option, which takes one value.
+pub fn with_option<'a>(
+    alloc: Global,
+    command: Command<'a>,
+    name: &'a str,
+) -> Result<Command<'a>, AllocError>
+    ensures added { IfOk result (λ c. app_of c ≡ with_rule (app_of command.entry) (option name.entry.now)) }
 {
-    let command = mobsql(alloc)?;
+    let option = Arg::new(alloc, name).long(name);
+    command.arg(option)
+}
+
+/// What the arguments give to the options of a command, of which no option has a rule on another one. The first argument is the
+/// program's name. None exactly where the command does not take the arguments. Whether it takes them is what `clap` states.
+pub fn matched<'a>(
+    command: Command<'a>,
+    words: &'a [String],
+) -> Result<Option<ArgMatches<'a>>, AllocError>
+    requires free { is_simple_and_free (app_of command) ≡ true }
+    ensures taken { IfOk result (λ o. IfSome o (λ m. Takes (app_of command.entry) (map string_bytes words.entry.now))) }
+    ensures refused { IfOk result (λ o. IsNone o → Takes (app_of command.entry) (map string_bytes words.entry.now) → ⊥) }
+    ensures values { IfOk result (λ o. IfSome o (λ m. (name : Text) → first_value (found_of m) name ≡ value_of (app_of command.entry) name (map string_bytes words.entry.now))) }
+{
     match command.try_get_matches_from(words) {
-        Ok(matches) => Ok(Some(Values {
-            workers: matches.get_str("workers"),
-            epoch: matches.get_str("epoch"),
-            demo: matches.get_str("demo"),
-        })),
+        Ok(matches) => Ok(Some(matches)),
         Err(error) => match error.kind() {
             ErrorKind::OutOfMemory => Err(AllocError),
             _ => Ok(None),

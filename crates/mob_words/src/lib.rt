@@ -1,10 +1,14 @@
-//! The words of the command line: which are taken, and what they say.
+//! Arguments of the programs: the commands that take them, what their values say, and the settings of mobsql.
 #![tactic(auto)]
 
 mod command;
 pub mod laws;
 mod options;
+mod readers;
 mod reading;
+mod values;
 
+pub use command::{bare_command, matched, with_option};
 pub use options::Settings;
-pub use reading::{count_in, epoch_of, settings};
+pub use readers::{count_in, count_of, distance_in, epoch_of, workers_of};
+pub use reading::settings;

@@ -1,40 +1,35 @@
-use Rattle.std.proofs.Common.{◌≡◌, ◌∙◌, ap, codes, inl, inr, map, string_bytes}
-use Rattle.clap.specs.Words.{App, app_of, first_of, found_of, is_simple, is_simple_and_free, matches_of}
-use Rattle.clap.proofs.WalkLemmas.{first_value-rows}
-use Rattle.mob_thin_run.specs.CommandLine.{thin_command, thin_option}
-use Rattle.mob_thin_run.proofs.Facts.{command_is_simple, command_is_free, taken, not_taken}
+use Rattle.std.proofs.Common.{◌≡◌, ◌∙◌, ap, codes, map, refl, string_bytes, subst, sym}
+use Rattle.clap.specs.Words.{App, app_of, is_simple_and_free}
+use Rattle.mob_words.specs.Arguments.{Takes, value_of}
+use Rattle.mob_thin_run.specs.CommandLine.{thin_command}
+use Rattle.mob_thin_run.proofs.Facts.{command_is_free}
 use Rattle.mob_thin_run.proofs.command.given.Goals as goal
 
-pub returns-in-Ok-clause-taken : goal.returns-in-Ok-clause-taken
-returns-in-Ok-clause-taken c =
+pub matched-requires : goal.matched-requires
+matched-requires c =
     let is : app_of c.in_ok-command.command ≡ thin_command = c.in_ok-command.ensures.command in
-    taken _ _ is (c.in-Ok.ensures.kinds (ap is_simple_and_free is ∙ command_is_free))
+    record { free = ap is_simple_and_free is ∙ command_is_free }
 
-pub returns-in-Ok-clause-within : goal.returns-in-Ok-clause-within
-unfolding thin_option
-returns-in-Ok-clause-within c =
+pub returns-in_default-clause-refused : goal.returns-in_default-clause-refused
+returns-in_default-clause-refused c =
     let is : app_of c.in_ok-command.command ≡ thin_command = c.in_ok-command.ensures.command in
-    let words = map string_bytes c.args.words.now in
-    c.get_str.ensures ∙ first_value-rows (found_of c.in-Ok.matches) (codes "within")
-    ∙ ap (first_of (codes "within")) ((c.in-Ok.ensures.matches (ap is_simple is ∙ command_is_simple)).0 ∙ ap (λ (a : App). matches_of a words) is)
+    let refused = rw c.in_default.is at c.in_ok-matches.ensures.refused in
+    λ _ taken. refused refl (subst (λ (a : App). Takes a (map string_bytes c.args.words.now)) (sym is) taken)
 
-pub returns-in-Ok-clause-epoch : goal.returns-in-Ok-clause-epoch
-unfolding thin_option
-returns-in-Ok-clause-epoch c =
+pub returns-clause-taken : goal.returns-clause-taken
+returns-clause-taken c =
     let is : app_of c.in_ok-command.command ≡ thin_command = c.in_ok-command.ensures.command in
-    let words = map string_bytes c.args.words.now in
-    c.get_str-in-Ok.ensures ∙ first_value-rows (found_of c.in-Ok.matches) (codes "epoch")
-    ∙ ap (first_of (codes "epoch")) ((c.in-Ok.ensures.matches (ap is_simple is ∙ command_is_simple)).0 ∙ ap (λ (a : App). matches_of a words) is)
+    let taken = rw c.in-Some.is at c.in_ok-matches.ensures.taken in
+    subst (λ (a : App). Takes a (map string_bytes c.args.words.now)) is taken
 
-pub returns : goal.returns
-returns c =
+pub returns-clause-within : goal.returns-clause-within
+returns-clause-within c =
     let is : app_of c.in_ok-command.command ≡ thin_command = c.in_ok-command.ensures.command in
-    record {
-      taken = tt;
-      refused = λ _. elim (c.in-Err.ensures.kinds (ap is_simple_and_free is ∙ command_is_free)) [
-        | inl memory ↦ absurd (c.in_default.not-OutOfMemory (c.kind.ensures ∙ memory))
-        | inr among ↦ not_taken _ _ _ is among
-      ];
-      within = tt;
-      epoch = tt;
-    }
+    let values = rw c.in-Some.is at c.in_ok-matches.ensures.values in
+    c.get_str.ensures ∙ values (codes "within") ∙ ap (λ (a : App). value_of a (codes "within") (map string_bytes c.args.words.now)) is
+
+pub returns-clause-epoch : goal.returns-clause-epoch
+returns-clause-epoch c =
+    let is : app_of c.in_ok-command.command ≡ thin_command = c.in_ok-command.ensures.command in
+    let values = rw c.in-Some.is at c.in_ok-matches.ensures.values in
+    c.get_str-2.ensures ∙ values (codes "epoch") ∙ ap (λ (a : App). value_of a (codes "epoch") (map string_bytes c.args.words.now)) is

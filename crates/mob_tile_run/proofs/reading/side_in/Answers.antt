@@ -1,4 +1,5 @@
-use Rattle.mob_tile_run.proofs.Numbers.{not_above, unread}
+use Rattle.mob_words.proofs.Readings.{unread}
+use Rattle.mob_tile_run.proofs.Numbers.{not_above}
 use Rattle.mob_tile_run.proofs.reading.side_in.Goals as goal
 
 pub returns-in_default-clause-none : goal.returns-in_default-clause-none

@@ -1,8 +1,8 @@
 use Rattle.std.proofs.Common.{rules, ◌≡◌, ◌∙◌, ap}
 use Rattle.std.proofs.lemmas.Result.{IfOk-weaker}
 use Rattle.clap.specs.Words.{app_of, rule_of, with_rule}
-use Rattle.mob_words.specs.CommandLine.{option}
-use Rattle.mob_tile_run.proofs.command.with_option.Goals as goal
+use Rattle.mob_words.specs.Arguments.{option}
+use Rattle.mob_words.proofs.command.with_option.Goals as goal
 
 pub returns : goal.returns
 returns c =

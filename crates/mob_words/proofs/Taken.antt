@@ -1,0 +1,14 @@
+-- What `clap` states of a command where no option has a rule on another one.
+use Rattle.std.proofs.Common.{◌≡◌, subst, true, List}
+use Rattle.std.proofs.lemmas.Bool.{and_parts}
+use Rattle.clap.specs.Words.{App, Text, IsAmong, fault_of, is_simple, is_simple_and_free}
+use Rattle.clap.specs.declared.error.kind.ErrorKind.{ErrorKind}
+use Rattle.mob_words.specs.Arguments.{Takes}
+
+pub simple_of : (a : App) → is_simple_and_free a ≡ true → is_simple a ≡ true
+simple_of a h = (and_parts _ _ h).0
+
+-- arguments that are taken have no fault
+pub no_fault : (a : App) (words : List Text) (k : ErrorKind) → IsAmong k (fault_of a words) → Takes a words → ⊥
+unfolding Takes
+no_fault a words k among taken = subst (λ kinds. IsAmong k kinds) taken among

@@ -1,0 +1,60 @@
+-- Arguments of the programs, whose options each take one value: which a command takes, and what values say.
+use Rattle.std.specs.Prelude.{◌≡◌, ◌≤◌, ℕ, ℤ, List, [], Option, Some, None, Ok, decimal, true}
+use Rattle.clap.specs.Words.{App, Rule, Text, fault_of, first_of, matches_of, new_rule}
+use Rattle.mob_ratio.specs.Ratio.{Ratio}
+use Rattle.mob_ratio.specs.Order.{up_to}
+use Rattle.mob_ratio.specs.Sign.{nil}
+use Rattle.mob_numeral.specs.Numbers.{numbers}
+use Rattle.mob_numeral.specs.Verdict.{Lit}
+use Rattle.mob_scalar.specs.Calendar.{standard_day}
+use Rattle.mob_scalar.specs.Epochs.{epochs}
+
+-- ---- what a command takes
+
+-- the option `--NAME VALUE`
+abbrev pub option : Text → Rule
+option name = record (new_rule name) { long = Some name }
+
+-- the command without the two options that `clap` adds by itself
+abbrev pub without_flags : App → App
+without_flags a = record a { top = record a.top { disable_help_flag = true; disable_version_flag = true } }
+
+-- the command takes these arguments, the program's name first
+unfoldable pub Takes : App → List Text → Type 0
+Takes command words = fault_of command words ≡ []
+
+-- the value that the arguments give to an option of the command
+unfoldable pub value_of : App → Text → List Text → Option Text
+value_of command name words = first_of name (matches_of command words)
+
+-- ---- what values say
+
+-- an option that has to be there
+module _ {A : Type 0} where
+  abbrev pub IsRequired : (Text → A → Type 0) → Option Text → A → Type 0
+  IsRequired Says None said = ⊥
+  IsRequired Says (Some text) said = Says text said
+
+-- an option that may be missing
+module _ {A : Type 0} where
+  abbrev pub IsOptional : (Text → A → Type 0) → Option Text → Option A → Type 0
+  IsOptional Says None o = o ≡ None
+  IsOptional Says (Some text) o = (said : A) × (o ≡ Some said) × Says text said
+
+-- a whole number from 1 to the greatest that is taken, in decimal digits, without a sign and a leading zero
+abbrev pub IsCount : ℕ → Text → ℕ → Type 0
+IsCount most text n = (text ≡ decimal n) × (1 ≤ n) × (n ≤ most)
+
+-- a distance: a number as a literal text of type numeric says it, not below 0
+abbrev pub IsDistance : Text → Ratio → Type 0
+IsDistance text d = Lit numbers text (Ok d) × (up_to nil d ≡ true)
+
+-- the number of workers: from 1 to 64; 1 without a value
+abbrev pub IsWorkers : Option Text → ℕ → Type 0
+IsWorkers None n = n ≡ 1
+IsWorkers (Some text) n = IsCount 64 text n
+
+-- the number of the epoch's day: that of an existing date of the years 0001 to 9999; 2000-01-01 without a value
+abbrev pub IsEpoch : Option Text → ℤ → Type 0
+IsEpoch None day = day ≡ standard_day
+IsEpoch (Some text) day = Lit epochs text (Ok day)
