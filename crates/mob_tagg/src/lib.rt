@@ -3,6 +3,7 @@
 #![tactic(auto)]
 
 mod adding;
+mod again;
 pub mod laws;
 mod parts;
 mod taking;
