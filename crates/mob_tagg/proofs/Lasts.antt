@@ -1,5 +1,5 @@
 -- The piece that came last.
-use Rattle.std.specs.Prelude.{◌≡◌, Bool, true, false, List, Some, refl}
+use Rattle.std.specs.Prelude.{◌≡◌, Bool, true, false, List, refl}
 use Rattle.std.proofs.Common.{subst}
 use Rattle.mob_ratio.specs.Ratio.{Ratio}
 use Rattle.mob_slice.specs.Course.{IsCourse}

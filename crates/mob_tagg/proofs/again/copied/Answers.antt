@@ -1,4 +1,3 @@
-use Rattle.std.proofs.Common.{◌∙◌}
 use Rattle.mob_tagg.proofs.again.copied.Goals as goal
 
 pub of-requires : goal.of-requires
