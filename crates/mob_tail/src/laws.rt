@@ -1,5 +1,5 @@
 //! What holds of every query. No code runs here.
-ghost use Rattle.mob_tail.specs.GroupLaws.{FieldsTellValues};
+ghost use Rattle.mob_tail.specs.GroupLaws.{FieldsTellValues, NoCountPasses};
 ghost use Rattle.mob_tail.specs.Outcomes.{HasOneQueryAnswer};
 
 /// A query has one answer, or one fault, on the tuples that it keeps: the order of the keys, with
@@ -14,4 +14,10 @@ pub fn one_answer_to()
 /// field of its own: so the groups of a query are those of the values of its columns of GROUP BY.
 pub fn fields_tell_values()
     ensures tell { FieldsTellValues }
+{}
+
+/// No count passes a formula: adding to a count of fewer than 2^62 - 1 values, `count(*)` or over
+/// time, always fits.
+pub fn no_count_passes()
+    ensures never { NoCountPasses }
 {}
