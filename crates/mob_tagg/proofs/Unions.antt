@@ -56,12 +56,16 @@ module _ {B : Type 0} (is_same : B → B → Bool) (exact : (a b : B) → IsTrue
   Join s r = (d : Steps B) × (l : Slice (Steady B)) × IsJoin steady_value steady_limit steady_limit (goes_on is_same) s r d l
 
   join_apart : (s r : Slice (Steady B)) → IsSound steady_limit steady_limit s → IsSound steady_limit steady_limit r → IsClearOf s r → (Meets s.span r.span → ⊥) → Join s r
-  join_apart s r ss sr clear apart = (s ∷ [], r, record {
-    keeps = λ t. refl;
-    chained = (ss, record { in_order = clear; apart = λ m. absurd (apart m); given_late = λ m. absurd (apart m); own_value = λ m. absurd (apart m) }, (sr, tt, tt));
-    front = λ p sp n. n;
-    back = λ q k. k;
-  })
+  join_apart s r ss sr clear apart = (
+    s ∷ [],
+    r,
+    record {
+      keeps = λ t. refl;
+      chained = (ss, record { in_order = clear; apart = λ m. absurd (apart m); given_late = λ m. absurd (apart m); own_value = λ m. absurd (apart m) }, (sr, tt, tt));
+      front = λ p sp n. n;
+      back = λ q k. k;
+    },
+  )
 
   join_meet : (s r : Slice (Steady B)) → IsSound steady_limit steady_limit s → IsSound steady_limit steady_limit r → IsClearOf s r → Meets s.span r.span → (b : Bool) → is_same s.course.value r.course.value ≡ b → Join s r
   join_meet s r ss sr clear m true e = ([], record { span = joined s.span r.span; course = record { value = s.course.value } }, join_one (steady_laws false is_same exact) s r ss sr m e)
@@ -141,11 +145,14 @@ module _ {B : Type 0} (op : B → B → B) where
       ([], record { in_order = tt; values = λ t. sym (ap₂ (λ a b. both_at (entry_at a t) (entry_at b t)) none.0 none.1); after = λ q a b. tt })
 
   walked_more : (v w : List (CutOf (Slice (Steady B)))) (p : ShareOf (Slice (Steady B)) (Slice (Steady B))) → IsStep v w p (behind p.span p.left v) (behind p.span p.right w) → Walked (behind p.span p.left v) (behind p.span p.right w) → Walked v w
-  walked_more v w p step (slices, h) = (put_step p.span (both_at p.left p.right) slices, record {
-    in_order = put_ordered p.span (both_at p.left p.right) slices step.some next h.in_order;
-    values = λ t. value t (has p.span t) refl;
-    after = λ q a b. let s = step.after q a b in put_after q p.span (both_at p.left p.right) slices s.0 (h.after q s.1 s.2);
-  })
+  walked_more v w p step (slices, h) = (
+    put_step p.span (both_at p.left p.right) slices,
+    record {
+      in_order = put_ordered p.span (both_at p.left p.right) slices step.some next h.in_order;
+      values = λ t. value t (has p.span t) refl;
+      after = λ q a b. let s = step.after q a b in put_after q p.span (both_at p.left p.right) slices s.0 (h.after q s.1 s.2);
+    },
+  )
     where
       next : AreAfter p.span slices
       next = h.after p.span step.next.0 step.next.1

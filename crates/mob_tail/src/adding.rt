@@ -180,10 +180,7 @@ fn ones_value<C: Course>(
 }
 
 /// The count over time of one value. None of what is no value over time.
-pub fn ones_on(
-    alloc: Global,
-    value: &Value,
-) -> Result<Option<Moving<Steady<Frac>>>, AllocError>
+pub fn ones_on(alloc: Global, value: &Value) -> Result<Option<Moving<Steady<Frac>>>, AllocError>
     ensures ones { IfOk result (λ o. (ty : _) → IsAggregated AggKind.TCount ty (value.now ∷ []) (or_nothing MovingInt o)) }
 {
     match value {

@@ -225,9 +225,7 @@ fn key_values(
     let keys = select.keys.as_slice();
     let mut values = Vec::with_capacity(alloc, keys.len())?;
     for (number, key) in keys.iter().enumerate() {
-        values.push(key_value(
-            alloc, select, store, first, columns, number, &key.0, epoch,
-        )?)?;
+        values.push(key_value(alloc, select, store, first, columns, number, &key.0, epoch)?)?;
     }
     Ok(Items::from_vec(values))
 }

@@ -50,12 +50,7 @@ pub fn nothing_yet(alloc: Global, kind: AggKind) -> State
 }
 
 // An aggregate that is held as it is, with one more value.
-fn whole_with(
-    alloc: Global,
-    agg: Agg,
-    before: Value,
-    value: &Value,
-) -> Result<State, OpFault>
+fn whole_with(alloc: Global, agg: Agg, before: Value, value: &Value) -> Result<State, OpFault>
     ensures with { false ≡ leaves_out agg.kind value.now → IsStateWith (leaves_out agg.kind value.now) agg.kind agg.ty (State.Whole before) value.now result }
 {
     match aggregate_with(alloc, agg, before, value) {
@@ -73,7 +68,12 @@ fn counts_with(
     ensures with { (ty : _) → IsStateWith false AggKind.TCount ty (State.Counts parts) value.now result }
 {
     match ones_on(alloc, value) {
-        Ok(Some(ones)) => match with_value::<Steady<Frac>, Counts>(alloc, parts.into_vec(), 1, ones) {
+        Ok(Some(ones)) => match with_value::<Steady<Frac>, Counts>(
+            alloc,
+            parts.into_vec(),
+            1,
+            ones,
+        ) {
             Ok(more) => Ok(State::Counts(Items::from_vec(more))),
             Err(_) => Err(OpFault::NoMemory),
         },
@@ -83,10 +83,7 @@ fn counts_with(
 }
 
 // The slices of a tbool, in memory of their own. None of what is no tbool.
-fn truths_copy(
-    alloc: Global,
-    value: &Value,
-) -> Result<Option<Moving<Steady<bool>>>, AllocError>
+fn truths_copy(alloc: Global, value: &Value) -> Result<Option<Moving<Steady<bool>>>, AllocError>
     ensures copy { IfOk result (λ o. o ≡ truths_of value.now) }
 {
     match value.copy(alloc)? {
@@ -148,12 +145,7 @@ fn any_with(
 ///
 /// `Passed` names the formula that adding the value passes: F2 of `+` for a count or a sum, and for
 /// a sum over time the first formula of `+` at each instant. NULL is left out but by `count(*)`.
-pub fn state_with(
-    alloc: Global,
-    agg: Agg,
-    before: State,
-    value: &Value,
-) -> Result<State, OpFault>
+pub fn state_with(alloc: Global, agg: Agg, before: State, value: &Value) -> Result<State, OpFault>
     ensures with { IsStateWith (leaves_out agg.kind value.now) agg.kind agg.ty before value.now result }
 {
     if leaves_out(agg.kind, value) {
@@ -200,15 +192,27 @@ pub fn value_of(alloc: Global, state: State) -> Result<Value, AllocError>
 {
     match state {
         State::Whole(value) => Ok(value),
-        State::Counts(parts) => match gathered::<Steady<Frac>, Counts>(alloc, parts.into_vec(), None) {
+        State::Counts(parts) => match gathered::<Steady<Frac>, Counts>(
+            alloc,
+            parts.into_vec(),
+            None,
+        ) {
             Ok(all) => Ok(int_or_null(all)),
             Err(_) => Err(AllocError),
         },
-        State::All(parts) => match gathered::<Steady<bool>, Conjunctions>(alloc, parts.into_vec(), None) {
+        State::All(parts) => match gathered::<Steady<bool>, Conjunctions>(
+            alloc,
+            parts.into_vec(),
+            None,
+        ) {
             Ok(all) => Ok(bool_or_null(all)),
             Err(_) => Err(AllocError),
         },
-        State::Any(parts) => match gathered::<Steady<bool>, Disjunctions>(alloc, parts.into_vec(), None) {
+        State::Any(parts) => match gathered::<Steady<bool>, Disjunctions>(
+            alloc,
+            parts.into_vec(),
+            None,
+        ) {
             Ok(all) => Ok(bool_or_null(all)),
             Err(_) => Err(AllocError),
         },
