@@ -18,3 +18,4 @@ mod CountLaw
 mod CountsFit
 mod MadeSoFar
 mod StateSteps
+mod GroupValues
