@@ -1,4 +1,5 @@
 pub mod Lasts
 pub mod Pairs
 pub mod Three
+pub mod Unions
 pub mod United

@@ -14,3 +14,8 @@ mod OneGroup
 mod KeysSeen
 mod GroupExamples
 mod FieldsTell
+mod CountLaw
+mod CountsFit
+mod MadeSoFar
+mod StateSteps
+mod GroupValues

@@ -10,4 +10,5 @@ pub mod Order
 pub mod Outcomes
 pub mod PlanAnswers
 pub mod Rows
+pub mod States
 pub mod TextsSeen

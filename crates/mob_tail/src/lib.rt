@@ -13,6 +13,7 @@ mod keyed;
 pub mod laws;
 mod order;
 mod plans;
+mod state;
 mod text;
 
 pub use answers::{Answer, answer_to};
