@@ -1,6 +1,6 @@
 -- What is known at the end of a piece, taken up again.
 use Rattle.std.specs.Prelude.{◌≡◌}
-use Rattle.std.proofs.Common.{ap, sym, ◌∙◌, subst}
+use Rattle.std.proofs.Common.{subst}
 use Rattle.mob_ratio.specs.Ratio.{Ratio}
 use Rattle.mob_frac.specs.Formula.{AllFit}
 use Rattle.mob_slice.specs.Cut.{slice_value, slice_parts}
