@@ -29,8 +29,8 @@ pub record ApartOf : Type 0 where
   pub y : Ratio
 
 -- they are the differences, and each fits
-abbrev pub IsApart : ApartOf → Type 0
-IsApart a = (a.x ≡ a.left.x -ℚ a.right.x) × (a.y ≡ a.left.y -ℚ a.right.y) × AllFit (gap_parts (point_gaps a.left a.right))
+abbrev pub IsDifference : ApartOf → Type 0
+IsDifference a = (a.x ≡ a.left.x -ℚ a.right.x) × (a.y ≡ a.left.y -ℚ a.right.y) × AllFit (gap_parts (point_gaps a.left a.right))
 
 -- the square of the length of a vector
 pub record SquaredOf : Type 0 where
@@ -39,5 +39,5 @@ pub record SquaredOf : Type 0 where
   pub square : Ratio
 
 -- it is the square, and each part of its formula fits
-abbrev pub IsSquared : SquaredOf → Type 0
-IsSquared s = (s.square ≡ length_squared s.x s.y) × AllFit (square_parts s.x s.y)
+abbrev pub IsSquareOf : SquaredOf → Type 0
+IsSquareOf s = (s.square ≡ length_squared s.x s.y) × AllFit (square_parts s.x s.y)

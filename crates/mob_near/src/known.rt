@@ -50,13 +50,13 @@ pub struct Apart {
 }
 
 impl Model for Apart {
-    ghost use Rattle.mob_near.specs.Known.{ApartOf, IsApart};
+    ghost use Rattle.mob_near.specs.Known.{ApartOf, IsDifference};
 
     ghost Value = { ApartOf };
 
     ghost view = { λ a. record { left = a.left; right = a.right; x = a.x; y = a.y } };
 
-    ghost invariant = { λ a. IsApart (record { left = a.left; right = a.right; x = a.x; y = a.y }) };
+    ghost invariant = { λ a. IsDifference (record { left = a.left; right = a.right; x = a.x; y = a.y }) };
 }
 
 /// The square of the length of a vector.
@@ -68,13 +68,13 @@ pub struct Squared {
 }
 
 impl Model for Squared {
-    ghost use Rattle.mob_near.specs.Known.{SquaredOf, IsSquared};
+    ghost use Rattle.mob_near.specs.Known.{SquaredOf, IsSquareOf};
 
     ghost Value = { SquaredOf };
 
     ghost view = { λ s. record { x = s.x; y = s.y; square = s.square } };
 
-    ghost invariant = { λ s. IsSquared (record { x = s.x; y = s.y; square = s.square }) };
+    ghost invariant = { λ s. IsSquareOf (record { x = s.x; y = s.y; square = s.square }) };
 }
 
 /// What was computed last: the point of either side, their difference, and its square.
