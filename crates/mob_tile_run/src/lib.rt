@@ -5,6 +5,7 @@ mod answer;
 mod command;
 mod decide;
 mod fields;
+pub mod laws;
 mod parts;
 mod reading;
 mod settings;
