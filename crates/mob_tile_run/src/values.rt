@@ -17,7 +17,6 @@ pub struct Values<'a> {
 }
 
 /// The value of each option, or None where the command does not take the arguments.
-#[tactic(auto, using(crate::proofs::Facts::command_is_free))]
 pub fn values_in<'a>(alloc: Global, words: &'a [String]) -> Result<Option<Values<'a>>, AllocError>
     ensures taken { IfOk result (λ o. IfSome o (λ v. Takes tile_command (map string_bytes words.entry.now))) }
     ensures refused { IfOk result (λ o. IsNone o → Takes tile_command (map string_bytes words.entry.now) → ⊥) }
