@@ -2,7 +2,6 @@
 #![tactic(auto)]
 
 mod answer;
-mod command;
 mod decide;
 mod fields;
 pub mod laws;
@@ -10,6 +9,7 @@ mod parts;
 mod reading;
 mod settings;
 mod top;
+mod values;
 
 pub use settings::TileSettings;
 pub use top::{run_tile, tell_tile};

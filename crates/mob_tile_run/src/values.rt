@@ -1,11 +1,9 @@
-// The command, and the values that arguments give to its options.
+// The values that arguments give to the options.
 ghost use Rattle.std.specs.Prelude.{◌≡◌, IfOk, IfSome, IsNone, codes, map, option_map, string_bytes};
-ghost use Rattle.clap.specs.Words.{app_of};
 ghost use Rattle.mob_words.specs.Arguments.{Takes, value_of};
 ghost use Rattle.mob_tile_run.specs.CommandLine.{tile_command};
 
-use clap::Command;
-use mob_words::{bare_command, matched, with_option};
+use mob_words::given;
 use std::alloc::{AllocError, Global};
 
 // The values of the options, borrowed from the arguments.
@@ -18,20 +16,8 @@ pub struct Values<'a> {
     pub epoch: Option<&'a str>,
 }
 
-// The command: five options that take one value each.
-fn mobtile<'a>(alloc: Global) -> Result<Command<'a>, AllocError>
-    ensures command { IfOk result (λ c. app_of c ≡ tile_command) }
-{
-    let command = bare_command(alloc, "mobtile");
-    let command = with_option(alloc, command, "size")?;
-    let command = with_option(alloc, command, "width")?;
-    let command = with_option(alloc, command, "near")?;
-    let command = with_option(alloc, command, "workers")?;
-    with_option(alloc, command, "epoch")
-}
-
 /// The value of each option, or None where the command does not take the arguments.
-pub fn given<'a>(alloc: Global, words: &'a [String]) -> Result<Option<Values<'a>>, AllocError>
+pub fn values_in<'a>(alloc: Global, words: &'a [String]) -> Result<Option<Values<'a>>, AllocError>
     ensures taken { IfOk result (λ o. IfSome o (λ v. Takes tile_command (map string_bytes words.entry.now))) }
     ensures refused { IfOk result (λ o. IsNone o → Takes tile_command (map string_bytes words.entry.now) → ⊥) }
     ensures size { IfOk result (λ o. IfSome o (λ v. option_map (λ s. s.now) v.size ≡ value_of tile_command (codes "size") (map string_bytes words.entry.now))) }
@@ -40,8 +26,13 @@ pub fn given<'a>(alloc: Global, words: &'a [String]) -> Result<Option<Values<'a>
     ensures workers { IfOk result (λ o. IfSome o (λ v. option_map (λ s. s.now) v.workers ≡ value_of tile_command (codes "workers") (map string_bytes words.entry.now))) }
     ensures epoch { IfOk result (λ o. IfSome o (λ v. option_map (λ s. s.now) v.epoch ≡ value_of tile_command (codes "epoch") (map string_bytes words.entry.now))) }
 {
-    let command = mobtile(alloc)?;
-    let Some(matches) = matched(command, words)? else {
+    let Some(matches) = given(
+        alloc,
+        "mobtile",
+        &["size", "width", "near", "workers", "epoch"],
+        words,
+    )?
+    else {
         return Ok(None);
     };
     Ok(Some(Values {

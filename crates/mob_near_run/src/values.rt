@@ -1,11 +1,9 @@
-// The command, and the values that arguments give to its options.
+// The values that arguments give to the options.
 ghost use Rattle.std.specs.Prelude.{◌≡◌, IfOk, IfSome, IsNone, codes, map, option_map, string_bytes};
-ghost use Rattle.clap.specs.Words.{app_of};
 ghost use Rattle.mob_words.specs.Arguments.{Takes, value_of};
 ghost use Rattle.mob_near_run.specs.CommandLine.{near_command};
 
-use clap::Command;
-use mob_words::{bare_command, matched, with_option};
+use mob_words::given;
 use std::alloc::{AllocError, Global};
 
 // The values of the options, borrowed from the arguments.
@@ -16,26 +14,16 @@ pub struct Values<'a> {
     pub to: Option<&'a str>,
 }
 
-// The command: three options that take one value each.
-fn mobnear<'a>(alloc: Global) -> Result<Command<'a>, AllocError>
-    ensures command { IfOk result (λ c. app_of c ≡ near_command) }
-{
-    let command = bare_command(alloc, "mobnear");
-    let command = with_option(alloc, command, "k")?;
-    let command = with_option(alloc, command, "to")?;
-    with_option(alloc, command, "epoch")
-}
-
 // The value of each option, or None where the command does not take the arguments.
-pub fn given<'a>(alloc: Global, words: &'a [String]) -> Result<Option<Values<'a>>, AllocError>
+#[tactic(auto, using(crate::proofs::Facts::command_is_free))]
+pub fn values_in<'a>(alloc: Global, words: &'a [String]) -> Result<Option<Values<'a>>, AllocError>
     ensures taken { IfOk result (λ o. IfSome o (λ v. Takes near_command (map string_bytes words.entry.now))) }
     ensures refused { IfOk result (λ o. IsNone o → Takes near_command (map string_bytes words.entry.now) → ⊥) }
     ensures count { IfOk result (λ o. IfSome o (λ v. option_map (λ s. s.now) v.count ≡ value_of near_command (codes "k") (map string_bytes words.entry.now))) }
     ensures epoch { IfOk result (λ o. IfSome o (λ v. option_map (λ s. s.now) v.epoch ≡ value_of near_command (codes "epoch") (map string_bytes words.entry.now))) }
     ensures to { IfOk result (λ o. IfSome o (λ v. option_map (λ s. s.now) v.to ≡ value_of near_command (codes "to") (map string_bytes words.entry.now))) }
 {
-    let command = mobnear(alloc)?;
-    let Some(matches) = matched(command, words)? else {
+    let Some(matches) = given(alloc, "mobnear", &["k", "to", "epoch"], words)? else {
         return Ok(None);
     };
     Ok(Some(Values {
