@@ -1,21 +1,20 @@
 -- Nodes that are sifted, level by level, and what the whole tree has then.
-use Rattle.std.proofs.Common.{◌≡◌, refl, ℕ, zero, suc, ◌+◌, ◌<◌, ◌≤◌, Bool, true, false, cond, not, ◌==◌, ◌&&◌, List, [], ◌∷◌, ◌++◌, length, get_or, set, take, arith, ap, sym, ◌∙◌, subst, eq-eqb, ◌⊎◌, inl, inr, Option, Some, None}
+use Rattle.std.proofs.Common.{◌≡◌, refl, ℕ, zero, suc, ◌+◌, ◌<◌, ◌≤◌, Bool, true, false, cond, not, ◌==◌, ◌&&◌, List, [], ◌∷◌, ◌++◌, length, get_or, set, take, arith, ap, sym, ◌∙◌, subst, ◌⊎◌, inl, inr, Option, Some, None}
 use Rattle.std.specs.Prelude.{All, sum_by, count_by, slice_get, option_and_then}
 use Rattle.std.specs.List.{cons_option, filter, filter_map}
 use Rattle.std.proofs.lemmas.Bool.{cases_lt, ne_eqb, true≢false}
-use Rattle.std.proofs.lemmas.Bool.Decides.{eqb_tells, nat_tests}
+use Rattle.std.proofs.lemmas.Bool.Decides.{eqb_tells}
 use Rattle.std.proofs.lemmas.List.{length-set, get_or-set_same, get_or-set_other, get_or_default, take_more}
 use Rattle.std.proofs.lemmas.List.Elements.{All-head, All-tail, All-get_or, filter_map-append}
 use Rattle.std.proofs.lemmas.List.Sums.{sum_by-cons}
 use Rattle.std.proofs.lemmas.Option.{get_or_from_slice_get, slice_get_read, slice_get_within}
-use Rattle.mob_stbox.specs.Boxes.{BoxOf, is_whole}
-use Rattle.mob_rtree_nodes.specs.Tree.{Kid, EntryOf, entry_of, target, if_live, is_fit, is_kind, Ref, IsTree, IsSoundNode, AreSame, nodes_sum, kids_sum, refs_sum, entries_sum, entries_list, kids_at, height_at}
+use Rattle.mob_stbox.specs.Boxes.{is_whole}
+use Rattle.mob_rtree_nodes.specs.Tree.{Kid, EntryOf, entry_of, target, if_live, is_fit, is_kind, Ref, IsTree, IsSoundNode, nodes_sum, kids_sum, refs_sum, entries_sum, entries_list, height_at}
 use Rattle.mob_rtree_nodes.specs.Builds.{leaf_sum}
 use Rattle.mob_rtree_nodes.specs.Ids.{is_among, without_ids}
 use Rattle.mob_rtree_nodes.specs.Sifts.{left_entry, left_node, left_kid, IsSiftedNode, IsSifted, IsSiftedAt, IsSiftedUpTo, IsTreeLeft}
 use Rattle.mob_rtree_nodes.specs.declared.node.TreeNode.{TreeNode}
-use Rattle.mob_rtree_nodes.proofs.Sums.{same_sums, kids_of, height_of, node_at, live_is, sound_at}
-use Rattle.mob_rtree_nodes.proofs.Covers.{left_true, right_true}
+use Rattle.mob_rtree_nodes.proofs.Sums.{same_sums, height_of, node_at, live_is}
 use Rattle.mob_rtree_nodes.proofs.Walks.{tied_height, all_dead, entries_of}
 use Rattle.mob_rtree_nodes.proofs.Inserts.{ref_of, live_of, links_of, leaf_of, inner, same_read}
 use Rattle.mob_rtree_nodes.proofs.Roots.{root_there, root_height, entries_listed, passed_sum}
@@ -248,6 +247,15 @@ module _ (ids : List ℕ) (root : Ref) (old : List TreeNode) (tree : IsTree root
 
 -- ---- the whole tree
 
+-- what the entries without some ids sum up to
+pub left_listed : (ids : List ℕ) (g : EntryOf → ℕ) (es : List EntryOf) → sum_by g (without_ids ids es) ≡ sum_by (λ e. cond (is_among e.1 ids) 0 (g e)) es
+left_listed ids g [] = refl
+left_listed ids g (e ∷ es) = omega (arith, sum_by-cons (λ e. cond (is_among e.1 ids) 0 (g e)) e es, by_test (is_among e.1 ids), left_listed ids g es)
+  where
+    by_test : (b : Bool) → sum_by g (cond (not b) (e ∷ without_ids ids es) (without_ids ids es)) ≡ cond b 0 (g e) + sum_by g (without_ids ids es)
+    by_test true = omega arith
+    by_test false = sum_by-cons g e (without_ids ids es)
+
 module _ (ids : List ℕ) (root : Ref) (old : List TreeNode) (tree : IsTree root old) (new : List TreeNode) (by : IsSifted ids old new) where
   -- the entries
   entries_after : (g : EntryOf → ℕ) → entries_sum g new ≡ entries_sum (λ e. cond (is_among e.1 ids) 0 (g e)) old
@@ -362,14 +370,6 @@ module _ (ids : List ℕ) (root : Ref) (old : List TreeNode) (tree : IsTree root
   once_after : (F : Ref → ℕ) → ref_after F root.node + refs_sum F new ≡ nodes_sum F 0 new
   once_after F = omega (arith, tree.once (λ r. ref_after F r.node), refs_after F, nodes_after F)
 
-  left_listed : (g : EntryOf → ℕ) (es : List EntryOf) → sum_by g (without_ids ids es) ≡ sum_by (λ e. cond (is_among e.1 ids) 0 (g e)) es
-  left_listed g [] = refl
-  left_listed g (e ∷ es) = omega (arith, sum_by-cons (λ e. cond (is_among e.1 ids) 0 (g e)) e es, by_test (is_among e.1 ids), left_listed g es)
-    where
-      by_test : (b : Bool) → sum_by g (cond (not b) (e ∷ without_ids ids es) (without_ids ids es)) ≡ cond b 0 (g e) + sum_by g (without_ids ids es)
-      by_test true = omega arith
-      by_test false = sum_by-cons g e (without_ids ids es)
-
   -- an entry is left, and the root has its own box
   pub tree_left : (c : TreeNode) → c ≡ get_or new root.node c → 0 < length c.kids.items → IsTreeLeft root ids old (Some c.area) new
   tree_left c is live = (
@@ -378,7 +378,7 @@ module _ (ids : List ℕ) (root : Ref) (old : List TreeNode) (tree : IsTree root
       sound = sound_after;
       low = low_after;
     },
-    λ g. omega (arith, entries_listed g new, entries_after g, entries_listed (λ e. cond (is_among e.1 ids) 0 (g e)) old, left_listed g (entries_list old)),
+    λ g. omega (arith, entries_listed g new, entries_after g, entries_listed (λ e. cond (is_among e.1 ids) 0 (g e)) old, left_listed ids g (entries_list old)),
   )
     where
       there : root.node < length old
@@ -390,12 +390,12 @@ module _ (ids : List ℕ) (root : Ref) (old : List TreeNode) (tree : IsTree root
           (by.each root.node p.0 c there p.1 is).height ∙ sym (height_of old root.node p.0 there p.1) ∙ root_height root old tree
 
   -- none is
-  pub none_left : (c : TreeNode) → c ≡ get_or new root.node c → length c.kids.items ≡ 0 → IsTreeLeft root ids old None new
-  none_left c is dead g =
+  pub tree_gone : (c : TreeNode) → c ≡ get_or new root.node c → length c.kids.items ≡ 0 → IsTreeLeft root ids old None new
+  tree_gone c is dead g =
       let gone : (kids : List Kid) (n : ℕ) → length kids ≡ 0 → if_live kids n ≡ 0 = λ kids n h. no_live kids n h in
       let dead = all_dead g new root.height sound_after low_after (λ F. omega (arith, once_after F, after_is F root.node c (root_there root old tree) is, gone c.kids.items (F (ref_of c root.node)) dead)) in
       let all : sum_by (entries_of (λ _. true) g) new ≡ entries_sum g new = passed_sum (λ _. true) g new ∙ entries_listed g new in
-      omega (arith, dead, all, entries_after g, entries_listed (λ e. cond (is_among e.1 ids) 0 (g e)) old, left_listed g (entries_list old))
+      omega (arith, dead, all, entries_after g, entries_listed (λ e. cond (is_among e.1 ids) 0 (g e)) old, left_listed ids g (entries_list old))
     where
       no_live : (kids : List Kid) (n : ℕ) → length kids ≡ 0 → if_live kids n ≡ 0
       no_live [] n h = refl
