@@ -154,8 +154,8 @@ impl RTree {
         }
     }
 
-    /// Takes every entry out whose id is one of these, which do not fall. It goes over each node once, whatever the ids, so it is for many of
-    /// them at a time. It takes no memory, and none of what `reserve_one` made.
+    /// Takes every entry out whose id is one of these, which do not fall. It goes over all nodes, whatever the ids, and computes each box
+    /// once, so it is for many ids at a time. It takes no memory, and none of what `reserve_one` made.
     pub fn remove_ids(&mut self, ids: &[u32])
         requires rising { IsNonDecreasing ids.now }
         ensures left { AreSame self.new.entries (without_ids ids.now self.old.entries) }
