@@ -232,7 +232,8 @@ fn difference_of(left: &Point, right: &Point) -> Result<(Frac, Frac), Overflow>
     Ok((x, y))
 }
 
-/// How far the first point is to the east and to the north of the second. They are mostly those at the end of the piece before.
+/// How far the first point is to the east and to the north of the second. They are mostly those at
+/// the end of the piece before.
 pub fn difference(
     left: &Point,
     right: &Point,

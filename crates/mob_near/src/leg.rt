@@ -106,10 +106,11 @@ fn leg_between(
     })
 }
 
-/// How the difference of the two points goes on the piece. What is known of its lower end is taken over, and what is computed at its
-/// upper end is kept.
+/// How the difference of the two points goes on the piece. What is known of its lower end is taken
+/// over, and what is computed at its upper end is kept.
 ///
-/// `Passed` names the formula of the first entry that does not fit: F1 at the ends of the piece, then F2, the differences there.
+/// `Passed` names the formula of the first entry that does not fit: F1 at the ends of the piece,
+/// then F2, the differences there.
 pub fn leg_on(
     alloc: Global,
     piece: &Piece<'_, PlaneLine, PlaneLine>,
@@ -130,7 +131,8 @@ pub fn leg_on(
     leg_between(&left, &right, &mut last.apart)
 }
 
-/// The squares of the distances at both ends. `Passed` names F6, exactly where a part of one does not fit.
+/// The squares of the distances at both ends. `Passed` names F6, exactly where a part of one does
+/// not fit.
 pub fn squares_at_ends(leg: &Leg, squared: &mut Option<Squared>) -> Result<Squares, Passed>
     ensures value { IsComputed F6 (squares_parts leg.now) (squares_of leg.now) result }
 {
