@@ -2,7 +2,7 @@
 ghost use Rattle.std.specs.Prelude.{◌≡◌, Ok, Err, IfOk, IfErr, map};
 ghost use Rattle.mob_typed.specs.Selects.{select_seen, output_of, key_seen};
 ghost use Rattle.mob_eval.specs.QueryFaults.{OnTuple};
-ghost use Rattle.mob_tail.specs.Rows.{AreArranged};
+ghost use Rattle.mob_arrange.specs.Rows.{AreArranged};
 ghost use Rattle.mob_tail.specs.Answers.{IsPlainAnswer, IsAnswerOnKept};
 ghost use Rattle.mob_tail.specs.GroupedAnswers.{IsGroupedAnswer};
 

@@ -10,7 +10,7 @@ ghost use Rattle.mob_eval.specs.QueryFaults.{OnTuple};
 ghost use Rattle.mob_tail.specs.Groups.{column_on, same_texts, group_fields, has_groups, groups_on, first_value};
 ghost use Rattle.mob_value.specs.Null.{value_or_null};
 ghost use Rattle.mob_tail.specs.GroupedAnswers.{item_of, key_value, keys_from, IsGroupedFault, IsGroupRow};
-ghost use Rattle.mob_tail.specs.TextsSeen.{texts_of};
+ghost use Rattle.mob_arrange.specs.TextsSeen.{texts_of};
 ghost use Rattle.mob_tail.specs.GroupSteps.{first_of, IsGroupOf, AreGroupsOf, keys_on, number_on};
 
 use crate::columns::{column_on, columns_of, is_bare};

@@ -1,7 +1,7 @@
 // Of equal rows the first.
 ghost use Rattle.std.specs.Prelude.{◌≡◌, [], IfOk};
-ghost use Rattle.mob_tail.specs.Rows.{AreFirst};
-ghost use Rattle.mob_tail.specs.Flags.{flagged};
+ghost use Rattle.mob_arrange.specs.Rows.{AreFirst};
+ghost use Rattle.mob_arrange.specs.Flags.{flagged};
 
 use indexmap::IndexSet;
 use mob_list::items::Items;

@@ -1,7 +1,7 @@
 use Rattle.std.proofs.Common.{inl, inr, sym, ◌∙◌}
 use Rattle.std.proofs.lemmas.List.{nil_from_length}
-use Rattle.mob_tail.proofs.Seen.{flagged_none}
-use Rattle.mob_tail.proofs.distinct.flagged_rows.Goals as goal
+use Rattle.mob_arrange.proofs.Seen.{flagged_none}
+use Rattle.mob_arrange.proofs.distinct.flagged_rows.Goals as goal
 
 pub returns : goal.returns
 returns c =

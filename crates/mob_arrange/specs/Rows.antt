@@ -1,8 +1,8 @@
 -- The rows of an answer.
 use Rattle.std.specs.Prelude.{◌≡◌, ◌⊎◌, Bool, true, false, ℕ, List, [], ◌∷◌, ◌++◌, map, take, Option, Some, None}
 use Rattle.std.specs.List.{Contains}
-use Rattle.mob_tail.specs.declared.keyed.Keyed.{Keyed}
-use Rattle.mob_tail.specs.Order.{IsOrderedByKeys}
+use Rattle.mob_arrange.specs.Keyed.{Keyed}
+use Rattle.mob_arrange.specs.Order.{IsOrderedByKeys}
 
 -- kept are those of xs, in order, that are equal to none before them, where those of `before` stand before all
 abbrev pub AreFirst : {X : Type 0} → List X → List X → List X → Type 0
@@ -20,6 +20,10 @@ AreDistinct false xs kept = kept ≡ xs
 abbrev pub limited : {X : Type 0} → Option ℕ → List X → List X
 limited None xs = xs
 limited (Some n) xs = take n xs
+
+-- what is given of rows that are in order
+abbrev pub IsGivenOf : {X : Type 0} → Bool → Option ℕ → List X → List X → Type 0
+IsGivenOf {X} distinct limit rows answer = (kept : List X) × AreDistinct distinct rows kept × (answer ≡ limited limit kept)
 
 -- The rows are put in the order of their keys, then the first of equal ones is taken where they are to be distinct, then they are cut.
 pub record AreArranged (falls : List Bool) (distinct : Bool) (limit : Option ℕ) (rows : List Keyed) (answer : List (List (List ℕ))) : Type 0 where

@@ -1,9 +1,9 @@
 use Rattle.std.proofs.Common.{◌≡◌, ◌++◌, [], map, subst, sym, ◌∙◌, arith}
-use Rattle.mob_tail.specs.Rows.{AreFirst}
-use Rattle.mob_tail.specs.Flags.{flagged}
-use Rattle.mob_tail.specs.TextsSeen.{texts_of}
-use Rattle.mob_tail.proofs.Seen.{Taken, seen_or_new, flag_step, flags_end}
-use Rattle.mob_tail.proofs.distinct.flags_of.Goals as goal
+use Rattle.mob_arrange.specs.Rows.{AreFirst}
+use Rattle.mob_arrange.specs.Flags.{flagged}
+use Rattle.mob_arrange.specs.TextsSeen.{texts_of}
+use Rattle.mob_arrange.proofs.Seen.{Taken, seen_or_new, flag_step, flags_end}
+use Rattle.mob_arrange.proofs.distinct.flags_of.Goals as goal
 
 pub loop-row-preserved : goal.loop-row-preserved
 loop-row-preserved c = λ rest k.

@@ -1,5 +1,5 @@
 -- Rows that were seen, as a set of their texts.
-use Rattle.std.proofs.Common.{◌≡◌, ◌⊎◌, inl, inr, ℕ, ◌+◌, ◌<◌, Bool, true, false, List, [], ◌∷◌, ◌++◌, length, get_or, drop, map, nat_eq, Bor, not, ◌||◌, refl, sym, ap, ap₂, ◌∙◌, subst, append_assoc, append-nil, true≢false, arith}
+use Rattle.std.proofs.Common.{◌≡◌, ◌⊎◌, inl, inr, ℕ, ◌+◌, ◌<◌, Bool, true, false, List, [], ◌∷◌, ◌++◌, length, get_or, drop, map, nat_eq, Bor, not, ◌||◌, refl, sym, ap, ap₂, ◌∙◌, subst, append_assoc, append-nil, true≢false, arith, suc, add-one, drop-cons}
 use Rattle.std.specs.declared.vec.Vec.{Vec}
 use Rattle.std.specs.Bool.{Decides}
 use Rattle.std.specs.List.{Contains, list_any}
@@ -10,10 +10,9 @@ use Rattle.std.specs.Cmp.Derive.Mapped.{pointwise-map}
 use Rattle.std.proofs.lemmas.Map.Views.{list_any-from_Contains, Contains-from_any}
 use Rattle.std.proofs.lemmas.List.{drop_all, map-append}
 use Rattle.indexmap.specs.IndexSet.{insert_key}
-use Rattle.mob_tail.specs.Flags.{flagged}
-use Rattle.mob_tail.specs.TextsSeen.{texts_of}
-use Rattle.mob_eval.proofs.Loops.{drop_read}
-use Rattle.mob_tail.specs.Rows.{AreFirst}
+use Rattle.mob_arrange.specs.Flags.{flagged}
+use Rattle.mob_arrange.specs.TextsSeen.{texts_of}
+use Rattle.mob_arrange.specs.Rows.{AreFirst}
 
 -- whether two lists of texts are one
 same_texts : List (List ℕ) → List (List ℕ) → Bool
@@ -52,6 +51,9 @@ seen_or_new {A} k keys next is_new e s = by (list_any (same_row k) keys) refl
       e ∙ ap not h,
       ap (map texts_of) (s ∙ ap (λ (b : Bool). if b then keys else keys ++ k ∷ []) h) ∙ map-append texts_of keys (k ∷ []),
     )
+
+drop_read : {X : Type 0} (xs : List X) (i : ℕ) (x : X) → i < length xs → x ≡ get_or xs i x → drop i xs ≡ x ∷ drop (i + 1) xs
+drop_read xs i x h e = rw add-one (rw (drop-cons xs i x) (ap (λ y. y ∷ drop (suc i) xs) (sym e)))
 
 module _ {X : Type 0} (all : List X) (flags : List Bool) (i : ℕ) (x : X) (before next : List X) (is_new : Bool) (lt : i < length all) (is : x ≡ get_or all i x) where
   -- the marks so far go on with what is still to come

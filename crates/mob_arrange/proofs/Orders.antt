@@ -10,8 +10,8 @@ use Rattle.mob_slice.specs.Ranks.{compare_ratio, compare_bytes}
 use Rattle.mob_slice.specs.RankLaws.{ranking_bytes, ranking_ratio}
 use Rattle.mob_value.specs.declared.value.Value.{Value}
 use Rattle.mob_value.specs.declared.value.Value.TheVariants.{Null, Bool as Truth, Number, Text, Moment, Point, Polygon, Span, SpanSet, Box, MovingBool, MovingInt, MovingFrac, MovingText, MovingPoint}
-use Rattle.mob_tail.specs.declared.keyed.Keyed.{Keyed}
-use Rattle.mob_tail.specs.Order.{type_rank, compare_values, compare_key, first_key, other_keys, compare_keys, compare_rows}
+use Rattle.mob_arrange.specs.Keyed.{Keyed}
+use Rattle.mob_arrange.specs.Order.{type_rank, compare_values, compare_key, first_key, other_keys, compare_keys, compare_rows}
 
 nothing : Ratio
 nothing = over (pos 0) 1
@@ -79,6 +79,10 @@ key_total false = values_total
 keys_total : (falls : List Bool) → IsTotalOrder (compare_keys falls)
 keys_total [] = record { antisymm = λ vs ws. refl; trans = λ us vs ws h k. h; congr = λ us vs ws h. refl }
 keys_total (f ∷ rest) = then_total (on_total first_key (key_total f)) (on_total other_keys (keys_total rest))
+
+-- values before others are those whose keys compare as less
+pub keys_ranked : (falls : List Bool) → IsStrictWeakOrder (λ vs ws. is_lt (compare_keys falls vs ws))
+keys_ranked falls = ranks_by (keys_total falls) (λ (values : List Value). values)
 
 -- a row before another is one whose keys compare as less
 pub rows_ranked : (falls : List Bool) → IsStrictWeakOrder (λ a b. is_lt (compare_rows falls a b))

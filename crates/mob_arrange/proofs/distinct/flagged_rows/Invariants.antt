@@ -1,8 +1,8 @@
 use Rattle.std.proofs.Common.{◌≡◌, ◌++◌, length}
 use Rattle.std.specs.Vec.Iter.{into_iter_items, into_iter_len}
 use Rattle.std.specs.Iterator.Adapters.{zip_first, zip_second}
-use Rattle.mob_tail.specs.Flags.{flagged}
-use Rattle.mob_tail.proofs.distinct.flagged_rows.Given as goal
+use Rattle.mob_arrange.specs.Flags.{flagged}
+use Rattle.mob_arrange.proofs.distinct.flagged_rows.Given as goal
 
 abbrev pub invariant-loop-row : goal.invariant-loop-row
 invariant-loop-row l = record {

@@ -1,8 +1,8 @@
 use Rattle.std.proofs.Common.{◌++◌, List, Bool, [], map, drop}
-use Rattle.mob_tail.specs.Rows.{AreFirst}
-use Rattle.mob_tail.specs.Flags.{flagged}
-use Rattle.mob_tail.specs.TextsSeen.{texts_of}
-use Rattle.mob_tail.proofs.distinct.flags_of.Given as goal
+use Rattle.mob_arrange.specs.Rows.{AreFirst}
+use Rattle.mob_arrange.specs.Flags.{flagged}
+use Rattle.mob_arrange.specs.TextsSeen.{texts_of}
+use Rattle.mob_arrange.proofs.distinct.flags_of.Given as goal
 
 abbrev pub invariant-loop-row : goal.invariant-loop-row
 invariant-loop-row l =

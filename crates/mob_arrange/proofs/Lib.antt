@@ -1,0 +1,5 @@
+mod Carried
+mod OneOrder
+mod Orders
+mod Seen
+mod WholeNumbers

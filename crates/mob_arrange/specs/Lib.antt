@@ -1,0 +1,7 @@
+pub mod FirstNumber
+pub mod Flags
+pub mod Keyed
+pub mod Order
+pub mod RowValues
+pub mod Rows
+pub mod TextsSeen
