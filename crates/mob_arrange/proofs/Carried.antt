@@ -1,5 +1,5 @@
 -- An order of the values of rows is one of the rows.
-use Rattle.std.proofs.Common.{◌≡◌, ◌⊎◌, inl, inr, ℕ, ℤ, suc, ◌+◌, ◌<◌, Bool, true, false, cond, List, [], ◌∷◌, length, get_or, map, take, refl, sym, ap, ap₂, subst, ◌∙◌, true≢false, arith}
+use Rattle.std.proofs.Common.{◌≡◌, ◌⊎◌, inl, inr, ℕ, ℤ, zero, suc, ◌+◌, ◌<◌, Bool, true, false, cond, List, [], ◌∷◌, length, get_or, map, take, refl, sym, ap, ap₂, subst, ◌∙◌, true≢false, arith}
 use Rattle.std.specs.List.{filter}
 use Rattle.std.specs.List.Sorted.{IsPermutation, IsSorted, IsSortedBy, IsStable, ties}
 use Rattle.std.specs.Cmp.{IsStrictWeakOrder}
@@ -25,14 +25,15 @@ same_filter p q e [] = refl
 same_filter p q e (x ∷ xs) = ap₂ (λ (b : Bool) zs. cond b (x ∷ zs) zs) (e x) (same_filter p q e xs)
 
 -- some entry passes, or none is left
-passing : {X : Type 0} (p : X → Bool) (xs : List X) → ((x : X) × (p x ≡ true)) ⊎ (filter p xs ≡ [])
-passing p [] = inr refl
-passing p (x ∷ xs) = by (p x) refl (passing p xs)
-  where
-    by : (b : Bool) → p x ≡ b → ((x : X) × (p x ≡ true)) ⊎ (filter p xs ≡ []) → ((x : X) × (p x ≡ true)) ⊎ (filter p (x ∷ xs) ≡ [])
-    by true e rest = inl (x, e)
-    by false e (inl found) = inl found
-    by false e (inr none) = inr (rw e none)
+module _ {X : Type 0} (p : X → Bool) where
+  passing : (xs : List X) → ((x : X) × (p x ≡ true)) ⊎ (filter p xs ≡ [])
+  passing [] = inr refl
+  passing (x ∷ xs) = by (p x) refl (passing xs)
+    where
+      by : (b : Bool) → p x ≡ b → ((x : X) × (p x ≡ true)) ⊎ (filter p xs ≡ []) → ((x : X) × (p x ≡ true)) ⊎ (filter p (x ∷ xs) ≡ [])
+      by true e rest = inl (x, e)
+      by false e (inl found) = inl found
+      by false e (inr none) = inr (rw e none)
 
 module _ {Y : Type 0} (lt : Y → Y → Bool) (order : IsStrictWeakOrder lt) where
   neither : (y z : Y) → ties lt y z ≡ true → (lt y z ≡ false) × (lt z y ≡ false)
@@ -95,6 +96,10 @@ module _ {Y : Type 0} (lt : Y → Y → Bool) (order : IsStrictWeakOrder lt) whe
         counted [] = refl
         counted (y ∷ ys) = let e = counted ys in omega (arith, e)
 
+none : (n : ℕ) → ◌≡◌ {A = List Value} [] (take n [])
+none zero = refl
+none (suc n) = refl
+
 -- keys are compared no further than there are directions
 taken : (falls : List Bool) (vs ws : List Value) → compare_keys falls (take (length falls) vs) (take (length falls) ws) ≡ compare_keys falls vs ws
 taken [] vs ws = refl
@@ -105,11 +110,7 @@ taken (f ∷ falls) vs ws = ap₂ ordering_then (ap₂ (compare_key f) (first vs
     first (u ∷ us) = refl
 
     others : (us : List Value) → other_keys (take (length (f ∷ falls)) us) ≡ take (length falls) (other_keys us)
-    others [] = by (length falls)
-      where
-        by : (n : ℕ) → [] ≡ take n []
-        by 0 = refl
-        by (suc n) = refl
+    others [] = none (length falls)
     others (u ∷ us) = refl
 
 module _ (falls : List Bool) (day : ℤ) where

@@ -1,4 +1,5 @@
 mod Carried
+mod Given
 mod OneOrder
 mod Orders
 mod Seen

@@ -76,10 +76,20 @@ fn compare_first(falls: bool, a: &[RowValue<'_>], b: &[RowValue<'_>]) -> Orderin
     if falls { compare(b, a) } else { compare(a, b) }
 }
 
+fn compare_ints(a: i64, b: i64) -> Ordering
+    ensures order { result ≡ int_cmp a b }
+{
+    a.cmp(&b)
+}
+
 fn compare_whole(falls: bool, a: i64, b: i64) -> Ordering
     ensures order { result ≡ compare_key falls (Value.Number (whole a)) (Value.Number (whole b)) }
 {
-    if falls { b.cmp(&a) } else { a.cmp(&b) }
+    if falls {
+        compare_ints(b, a)
+    } else {
+        compare_ints(a, b)
+    }
 }
 
 // The order of the first keys, by the whole numbers that the rows have beside their values.

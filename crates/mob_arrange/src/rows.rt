@@ -1,5 +1,5 @@
 //! A row of an answer before it is printed.
-ghost use Rattle.std.specs.Prelude.{◌≡◌, ◌++◌, IfOk, OnSome, map};
+ghost use Rattle.std.specs.Prelude.{◌≡◌, ◌++◌, IfOk, IfSome, map};
 ghost use Rattle.mob_ratio.specs.Ratio.{whole};
 ghost use Rattle.mob_value.specs.declared.value.Value.TheVariants.{Number};
 ghost use Rattle.mob_arrange.specs.Order.{first_key};
@@ -104,7 +104,7 @@ impl<'a> Row<'a> {
 
     /// The first value where it is a whole number, and nothing where this is not known.
     pub fn first(&self) -> Option<i64>
-        ensures whole { OnSome result (λ n. first_key self.now ≡ Number (whole n)) }
+        ensures whole { IfSome result (λ n. first_key self.now ≡ Number (whole n)) }
     {
         if self.first == UNKNOWN {
             None

@@ -176,22 +176,19 @@ pub given_value : {C B V : Type 0} (value : C → Ratio → Ratio → Ratio → 
 given_value value start end parts items returns v w slices r h e op others gives t = e t ∙ given_united value start end parts items returns op others gives v w t (value_at value slices t) (h.values t)
 
 -- where calls give a step on each shared piece, from the values there
-pub step_value : {B V : Type 0} (items : V → List (Slice (Steady B))) (returns : Pair (Steady B) (Steady B) → Result V OpFault → Type 0) (v w slices r : List (Slice (Steady B))) → AreTaken steady_value steady_limit steady_limit steady_parts items returns v w slices → ((t : Ratio) → value_at steady_value r t ≡ value_at steady_value slices t)
+pub step_value : {B V : Type 0} (items : V → List (Slice (Steady B))) (returns : Pair (Steady B) (Steady B) → Result V OpFault → Type 0) (v w r : List (Slice (Steady B))) → AreTaken steady_value steady_limit steady_limit steady_parts items returns v w r
     → (op : B → B → B) → ((p : Pair (Steady B) (Steady B)) (x : V) → returns p (Ok x) → items x ≡ record { span = p.span; course = record { value = op p.left.now.course.value p.right.now.course.value } } ∷ []) → AreUnited steady_value op v w r
-step_value {B} {V} items returns v w slices r h e op gives t = e t ∙ united_at steady_value steady_limit steady_limit steady_parts items returns op each v w t (value_at steady_value slices t) (h.values t)
+step_value {B} {V} items returns v w r h op gives t = united_at steady_value steady_limit steady_limit steady_parts items returns op each v w t (value_at steady_value r t) (h.values t)
   where
     each : (q : PieceOf (Slice (Steady B)) (Slice (Steady B))) (x : V) → IsAnswered steady_limit steady_limit returns q (Ok x) → (t : Ratio) → has q.span t ≡ true → value_at steady_value (items x) t ≡ Some (op (slice_value steady_value q.left t) (slice_value steady_value q.right t))
     each q x a t k = ap (λ z. value_at steady_value z t) (gives a.0 x a.3) ∙ ap (λ b. cond b (Some (op a.0.left.now.course.value a.0.right.now.course.value)) None) (subst (λ z. has z.span t ≡ true) (sym a.1) k) ∙ ap (λ z. Some (op z.left.course.value z.right.course.value)) a.1
 
-pub step_full : {B V : Type 0} (items : V → List (Slice (Steady B))) (p : Pair (Steady B) (Steady B)) (x : V) (y : B) → has_instant p.span ≡ true → items x ≡ record { span = p.span; course = record { value = y } } ∷ [] → AreFull steady_value steady_limit steady_limit p.span (items x) × AllFit (piece_parts steady_parts (pair_of p))
-step_full items p x y i e = (
-  record {
-    ordered = rw e (record { some = i; level = λ n. refl }, tt, tt);
-    inside = rw e (inside_self p.span, tt);
-    full = λ t k n. none_some y (sym n ∙ ap (λ z. value_at steady_value z t) e ∙ ap (λ b. cond b (Some y) None) k);
-  },
-  tt,
-)
+pub step_full : {B V : Type 0} (items : V → List (Slice (Steady B))) (p : Pair (Steady B) (Steady B)) (x : V) (y : B) → has_instant p.span ≡ true → items x ≡ record { span = p.span; course = record { value = y } } ∷ [] → AreFull steady_value steady_limit steady_limit p.span (items x)
+step_full items p x y i e = record {
+  ordered = rw e (record { some = i; level = λ n. refl }, tt, tt);
+  inside = rw e (inside_self p.span, tt);
+  full = λ t k n. none_some y (sym n ∙ ap (λ z. value_at steady_value z t) e ∙ ap (λ b. cond b (Some y) None) k);
+}
 
 -- ones
 module _ {C B : Type 0} (start end : C → B) where
@@ -215,14 +212,6 @@ pub ones_end : {C : Type 0} (given v : List (Slice C)) (o : List (Slice (Steady 
 ones_end given v o i e n h =
     let none : drop i given ≡ [] = drop_all i given (omega (arith, n)) in
     sym (append-nil o) ∙ ap (λ z. o ++ map one_slice z) (sym none) ∙ h ∙ ap (map one_slice) e
-
--- memory alone is refused
-pub memory_passes : {P : Type 0} (f : Formula) → Passed f ≡ NoMemory → P
-memory_passes f e = cc
-
--- a step that is given on a piece fills it
-pub step_fills : {B V : Type 0} (items : V → List (Slice (Steady B))) (returns : Pair (Steady B) (Steady B) → Result V OpFault → Type 0) (p : Pair (Steady B) (Steady B)) (x : V) → has_instant p.span ≡ true → returns p (Ok x) → (op : B → B → B) → ((p : Pair (Steady B) (Steady B)) (x : V) → returns p (Ok x) → items x ≡ record { span = p.span; course = record { value = op p.left.now.course.value p.right.now.course.value } } ∷ []) → AreFull steady_value steady_limit steady_limit p.span (items x) × AllFit (piece_parts steady_parts (pair_of p))
-step_fills items returns p x i h op gives = step_full items p x (op p.left.now.course.value p.right.now.course.value) i (gives p x h)
 
 -- the same with a relation in place of an operation
 module _ {C B V : Type 0} (value : C → Ratio → Ratio → Ratio → B) (start end : C → B) (parts : C → Ratio → Ratio → Ratio → List Ratio) (items : V → List (Slice C)) (returns : Pair C C → Result V OpFault → Type 0) (R : Ratio → B → B → B → Type 0)

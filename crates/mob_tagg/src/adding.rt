@@ -15,7 +15,7 @@ ghost use Rattle.mob_arith.specs.Termwise.{entries_at_ends};
 ghost use Rattle.mob_sync.specs.Common.{pair_of};
 ghost use Rattle.mob_tagg.specs.United.{AreUnited, sides_of};
 
-use crate::taking::{normal_of, together};
+use crate::taking::{either, normal_of, together};
 use mob_arith::Summed;
 use mob_frac::Frac;
 use mob_lift::{listed, single};
@@ -139,7 +139,7 @@ pub fn and_in(
 ) -> Result<Moving<Steady<bool>>, AllocError>
     ensures value { IfOk result (λ r. AreUnited steady_value both_hold total.now v.now r) }
 {
-    let slices = match together(
+    match either(
         alloc,
         total,
         v,
@@ -147,10 +147,6 @@ pub fn and_in(
             ensures one { MatchResult result (λ v. v.items ≡ record { span = pair.now.span; course = record { value = both_hold pair.now.left.now.course.value pair.now.right.now.course.value } } ∷ []) (λ e. e ≡ OpFault.NoMemory) }
         { and_on(alloc, pair) },
     ) {
-        Ok(slices) => slices,
-        Err(_) => return Err(AllocError),
-    };
-    match normal_of(alloc, slices) {
         Ok(value) => Ok(value),
         Err(_) => Err(AllocError),
     }
@@ -175,7 +171,7 @@ pub fn or_in(
 ) -> Result<Moving<Steady<bool>>, AllocError>
     ensures value { IfOk result (λ r. AreUnited steady_value one_holds total.now v.now r) }
 {
-    let slices = match together(
+    match either(
         alloc,
         total,
         v,
@@ -183,10 +179,6 @@ pub fn or_in(
             ensures one { MatchResult result (λ v. v.items ≡ record { span = pair.now.span; course = record { value = one_holds pair.now.left.now.course.value pair.now.right.now.course.value } } ∷ []) (λ e. e ≡ OpFault.NoMemory) }
         { or_on(alloc, pair) },
     ) {
-        Ok(slices) => slices,
-        Err(_) => return Err(AllocError),
-    };
-    match normal_of(alloc, slices) {
         Ok(value) => Ok(value),
         Err(_) => Err(AllocError),
     }

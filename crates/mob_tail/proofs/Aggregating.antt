@@ -1,5 +1,5 @@
 -- Aggregates of values with one more.
-use Rattle.std.specs.Prelude.{◌≡◌, Bool, true, false, cond, not, ℕ, ◌+◌, pos, refl, List, [], ◌∷◌, ◌++◌, length, Option, Some, None, option_map, Result, Ok, Err, IfOk, IfErr, MatchResult, MatchOption}
+use Rattle.std.specs.Prelude.{◌≡◌, Bool, true, false, cond, not, ℕ, ◌+◌, pos, refl, List, [], ◌∷◌, ◌++◌, length, Option, Some, None, option_map, Result, Ok, Err, IfOk, IfErr, MatchOption}
 use Rattle.std.proofs.Common.{ap, sym, ◌∙◌, subst, inl, arith, append-nil}
 use Rattle.mob_ratio.specs.Ratio.{Ratio, whole, ◌+ℚ◌}
 use Rattle.mob_ratio.specs.Order.{same}
@@ -32,7 +32,7 @@ use Rattle.mob_value.specs.declared.value.Value.TheVariants as value
 use Rattle.mob_ordinary.specs.Moving.{AreNormalBy, IsFunction, StepSlices, or_nothing}
 use Rattle.mob_ordinary.specs.Ordinary.{is_null}
 use Rattle.mob_aggregates.specs.Aggregates.{put_there, made_of, IsAggregate, JoinsBy, total, count, all_hold, some_holds}
-use Rattle.mob_aggregates.proofs.Joining.{total_joins, count_joins, all_joins, some_joins, aggregate_one, aggregate_both, aggregate_same, aggregate_first}
+use Rattle.mob_aggregates.proofs.Joining.{total_joins, all_joins, some_joins, aggregate_one, aggregate_both, aggregate_same, aggregate_first}
 use Rattle.mob_tail.specs.Aggregated.{counted, known_of, number_in, numbers_of, IsOverTime, IsAggregated, leaves_out, AddingPasses, IsUnion, IsAggregateWith, one_where, one_there, slices_there, step_there, line_there, truth_there, steps_of, lines_of, truths_of}
 
 -- ---- over time
@@ -316,25 +316,6 @@ frac_sum_with before v (Ok x) n u k l = λ vs e. (
 )
 frac_sum_with before v (Err (Passed f)) n u k l = λ vs e. (before, e, (or_nothing MovingFrac (lines_of v), (lines_of v, frac_alone v n, refl), subst (λ z. IsFirst (FracEntries z (or_nothing MovingFrac (lines_of v))) (Some f)) (before_is line_course MovingFrac lines_of seen_lines total line_there vs before e) l))
 frac_sum_with before v (Err NoMemory) n u k l = tt
-
--- ones are what one value counts
-pub count_over_with : (ty : SqlType) (before v o : Value) (r : Result Value OpFault) → IsAggregated TCount ty (v ∷ []) o → IfOk r (λ x. IsUnion (steady_course same) MovingInt sum_of (steps_of before) (steps_of o) before x) → IfOk r (λ _. IsFirst (IntEntries (or_nothing MovingInt (steps_of before)) (or_nothing MovingInt (steps_of o))) None) → IfErr r (OnFormula (λ f. IsFirst (IntEntries (or_nothing MovingInt (steps_of before)) (or_nothing MovingInt (steps_of o))) (Some f))) → IsAggregateWith false TCount ty before v r
-count_over_with ty before v o (Ok x) h u k l = λ vs e. (
-  over_more (steady_course same) MovingInt steps_of seen_steps sum_of count count_joins one_there vs before v x (steps_of o) e (subst (λ z. IsAggregate one_there steady_value steady_limit steady_limit (steady_course same).continues count (v ∷ []) z) (sym (ap steps_of h.2 ∙ seen_steps h.0)) h.1) u,
-  (before, e, (o, h, subst (λ z. IsFirst (IntEntries before z) None) (before_is (steady_course same) MovingInt steps_of seen_steps count one_there (v ∷ []) o h) (subst (λ z. IsFirst (IntEntries z (or_nothing MovingInt (steps_of o))) None) (before_is (steady_course same) MovingInt steps_of seen_steps count one_there vs before e) k))),
-)
-count_over_with ty before v o (Err (Passed f)) h u k l = λ vs e. (before, e, (o, h, subst (λ z. IsFirst (IntEntries before z) (Some f)) (before_is (steady_course same) MovingInt steps_of seen_steps count one_there (v ∷ []) o h) (subst (λ z. IsFirst (IntEntries z (or_nothing MovingInt (steps_of o))) (Some f)) (before_is (steady_course same) MovingInt steps_of seen_steps count one_there vs before e) l)))
-count_over_with ty before v o (Err NoMemory) h u k l = tt
-
-pub all_with : (ty : SqlType) (before v : Value) (r : Result Value OpFault) → MatchOption (truths_of v) (Unit {0}) (AreNormalBy (steady_course same_bool)) → MatchResult r (λ x. IsUnion (steady_course same_bool) MovingBool both_hold (truths_of before) (truths_of v) before x) (λ e. e ≡ NoMemory) → IsAggregateWith false TAnd ty before v r
-all_with ty before v (Ok x) n u = λ vs e. (over_more (steady_course same_bool) MovingBool truths_of seen_truths both_hold all_hold all_joins truth_there vs before v x (truths_of v) e (all_alone v n) u, (before, e, (or_nothing MovingBool (truths_of v), (truths_of v, all_alone v n, refl), refl)))
-all_with ty before v (Err (Passed f)) n u = λ vs e. absurd cc
-all_with ty before v (Err NoMemory) n u = tt
-
-pub some_with : (ty : SqlType) (before v : Value) (r : Result Value OpFault) → MatchOption (truths_of v) (Unit {0}) (AreNormalBy (steady_course same_bool)) → MatchResult r (λ x. IsUnion (steady_course same_bool) MovingBool one_holds (truths_of before) (truths_of v) before x) (λ e. e ≡ NoMemory) → IsAggregateWith false TOr ty before v r
-some_with ty before v (Ok x) n u = λ vs e. (over_more (steady_course same_bool) MovingBool truths_of seen_truths one_holds some_holds some_joins truth_there vs before v x (truths_of v) e (some_alone v n) u, (before, e, (or_nothing MovingBool (truths_of v), (truths_of v, some_alone v n, refl), refl)))
-some_with ty before v (Err (Passed f)) n u = λ vs e. absurd cc
-some_with ty before v (Err NoMemory) n u = tt
 
 -- the ones of a value are its count
 one_counted : {B : Type 0} (o : Option B) → one_where o ≡ made_of count (put_there (one_where o) [])

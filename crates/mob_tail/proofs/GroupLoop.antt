@@ -1,11 +1,12 @@
 -- How far a loop is that brings tuples into their groups.
-use Rattle.std.specs.Prelude.{◌≡◌, ◌⊎◌, Bool, true, false, cond, not, ◌||◌, ℕ, ◌+◌, ◌<◌, ℤ, refl, List, [], ◌∷◌, ◌++◌, Some, None, is_none, map, length, get_or, set, take, drop, filter}
+use Rattle.std.specs.Prelude.{◌≡◌, ◌⊎◌, Bool, true, false, cond, not, ◌||◌, ℕ, ◌+◌, ◌<◌, ℤ, refl, List, [], ◌∷◌, ◌++◌, Some, None, is_none, map, length, get_or, set, take, drop, filter, ◌≤◌, ◌^◌, zero, suc}
 use Rattle.std.specs.List.{AllZip, AllByRecursion, list_any, position_or_len}
 use Rattle.std.proofs.Common.{ap, ap₂, sym, ◌∙◌, subst, inl, inr, arith}
 use Rattle.std.proofs.lemmas.List.{take_more, take-append-drop}
 use Rattle.std.proofs.lemmas.Slice.Zip.{AllZip-long}
 use Rattle.mob_typed.specs.Selects.{TypedSelectParts}
 use Rattle.mob_value.specs.declared.value.Value.{Value}
+use Rattle.mob_value.specs.declared.value.Value.TheVariants.{Null}
 use Rattle.mob_value.specs.declared.store.Store.{Store}
 use Rattle.mob_meaning.specs.Scene.{Scene, scene}
 use Rattle.mob_meaning.specs.Evaluation.{Fault}
@@ -16,11 +17,12 @@ use Rattle.mob_aggregates.proofs.RowSteps.{none_more, fault_at}
 use Rattle.mob_tail.specs.declared.columns.Column.{Column as ColumnOf}
 use Rattle.mob_tail.specs.declared.grouped.Cell.{Cell}
 use Rattle.mob_tail.specs.declared.grouped.Group.{Group}
+use Rattle.mob_tail.specs.declared.state.State.{State}
 use Rattle.mob_tail.specs.Groups.{group_fields, same_texts, same_group, under_fields, has_groups, groups_on}
 use Rattle.mob_tail.specs.GroupedAnswers.{Column, columns_of, IsArgumentOn, IsAddingTo, IsColumnValue, keys_from, IsGroupRow, IsGroupedFault}
 use Rattle.mob_arrange.specs.Keyed.{Keyed}
 use Rattle.mob_literal.specs.Fields.{field_text}
-use Rattle.mob_tail.specs.GroupSteps.{column_seen, IsStart, IsStartCell, IsStartGroup, IsCellWith, FailsInCells, first_of, IsCellOf, IsGroupOf, AreGroupsOf, keys_on, number_on}
+use Rattle.mob_tail.specs.GroupSteps.{column_seen, IsStart, IsStartCell, IsStartGroup, IsCellWith, FailsInCells, first_of, IsHeldOf, IsCellHeld, IsStateOf, IsCellOf, IsGroupOf, AreGroupsOf, keys_on, number_on}
 use Rattle.mob_tail.proofs.TupleSteps.{cells_ok, cells_err}
 use Rattle.mob_tail.proofs.GroupKeys.{AreApart, firsts_apart, any_first, any_at, texts_equal, With, with_earlier, group_there, group_step, by_keys, no_fields}
 
@@ -33,18 +35,24 @@ found_within p (k ∷ ks) h = by (p k) h (found_within p ks)
     by true h f = omega arith
     by false h f = let m = f h in omega (arith, m)
 
+taken : {A : Type 0} (i : ℕ) (xs : List A) → length (take i xs) ≤ i
+taken zero [] = omega arith
+taken zero (x ∷ xs) = omega arith
+taken (suc i) [] = omega arith
+taken (suc i) (x ∷ xs) = let h = taken i xs in omega (arith, h)
+
 module _ (select : TypedSelectParts) (store : Store) (day : ℤ) where
   -- ---- no tuple
 
-  start_value : (c : Column) (v : Value) → IsStart c v → IsColumnValue select store day [] c v
-  start_value (e, None) v h = h
-  start_value (e, Some agg) v h = ([], tt, h agg.ty)
+  start_state : (c : Column) (x : State) → IsStart c x → IsStateOf select store day [] c x
+  start_state (e, None) x h = (Null, h, refl)
+  start_state (e, Some agg) x h = let s = h agg.ty in (s.0, s.1, ([], tt, s.2))
 
   start_cells : (columns : List ColumnOf) (cells : List Cell) → AllZip IsStartCell columns cells → AllZip (IsCellOf select store day []) (map column_seen columns) cells
   start_cells [] [] h = tt
   start_cells [] (c ∷ cells) h = absurd h
   start_cells (d ∷ columns) [] h = absurd h
-  start_cells (d ∷ columns) (c ∷ cells) h = ((h.0.0, start_value (column_seen d) c.value h.0.1), start_cells columns cells h.1)
+  start_cells (d ∷ columns) (c ∷ cells) h = ((h.0.0, start_state (column_seen d) c.state h.0.1), start_cells columns cells h.1)
 
   pub start_groups : (keys : List (List (List ℕ))) (groups : List Group) (columns : List ColumnOf) → map column_seen columns ≡ columns_of select → AllByRecursion (IsStartGroup columns) groups → length groups ≡ length keys → AreGroupsOf select store day keys [] groups
   start_groups [] [] columns e h n = tt
@@ -57,14 +65,27 @@ module _ (select : TypedSelectParts) (store : Store) (day : ℤ) where
   abbrev There : List ℕ → Scene
   There t = scene store select.from t day
 
-  group_ok : (group : List (List ℕ)) (t : List ℕ) (old new : Group) → IsGroupOf select store day group old → ((ts : List (List ℕ)) → old.first ≡ first_of ts → new.first ≡ first_of (ts ++ t ∷ [])) → AllZip (IsCellWith (There t) (is_none old.first)) old.cells.items new.cells.items
+  group_ok : (group : List (List ℕ)) (t : List ℕ) (old new : Group) → length group + 1 < 2 ^ 62 → IsGroupOf select store day group old → ((ts : List (List ℕ)) → old.first ≡ first_of ts → new.first ≡ first_of (ts ++ t ∷ [])) → AllZip (IsCellWith (There t) (is_none old.first)) old.cells.items new.cells.items
       → IsGroupOf select store day (group ++ t ∷ []) new × IsTuple (IsArgumentOn select store day) IsAddingTo group t (columns_of select) None
-  group_ok group t old new h first with_ =
-      let both = cells_ok select store day group t (columns_of select) old.cells.items new.cells.items (is_none old.first) (ap is_none h.first) with_ h.cells in
+  group_ok group t old new few h first with_ =
+      let both = cells_ok select store day group t (columns_of select) old.cells.items new.cells.items (is_none old.first) (ap is_none h.first) few with_ h.cells in
       (record { first = first group h.first; cells = both.0 }, both.1)
 
-  group_err : (group : List (List ℕ)) (t : List ℕ) (old : Group) (f : Fault) → IsGroupOf select store day group old → FailsInCells (There t) (is_none old.first) old.cells.items f → IsTuple (IsArgumentOn select store day) IsAddingTo group t (columns_of select) (Some f)
-  group_err group t old f h fails = cells_err select store day group t (columns_of select) old.cells.items (is_none old.first) f (ap is_none h.first) fails h.cells
+  group_err : (group : List (List ℕ)) (t : List ℕ) (old : Group) (f : Fault) → length group + 1 < 2 ^ 62 → IsGroupOf select store day group old → FailsInCells (There t) (is_none old.first) old.cells.items f → IsTuple (IsArgumentOn select store day) IsAddingTo group t (columns_of select) (Some f)
+  group_err group t old f few h fails = cells_err select store day group t (columns_of select) old.cells.items (is_none old.first) f (ap is_none h.first) few fails h.cells
+
+  -- a group has no more tuples than there are
+  few_with : (k : List (List ℕ)) (ts : List (List ℕ)) → length (With select store day k ts) ≤ length ts
+  few_with k [] = omega arith
+  few_with k (t ∷ ts) = by (same_texts k (group_fields select store day t)) (few_with k ts)
+    where
+      by : (b : Bool) → length (With select store day k ts) ≤ length ts
+          → length (map {A = List (List ℕ) × List ℕ} (λ e. e.1) (cond b ((group_fields select store day t, t) ∷ filter (λ e. same_texts k e.0) (under_fields select store day ts)) (filter (λ e. same_texts k e.0) (under_fields select store day ts)))) ≤ length (t ∷ ts)
+      by true h = omega (arith, h)
+      by false h = omega (arith, h)
+
+  few_before : (kept : List (List ℕ)) (i : ℕ) (k : List (List ℕ)) → i < length kept → length kept < 2 ^ 62 → length (With select store day k (take i kept)) + 1 < 2 ^ 62
+  few_before kept i k lt few = let h = few_with k (take i kept) in let m = taken i kept in omega (arith, lt, few, h, m)
 
   -- ---- the fields of the groups
 
@@ -95,17 +116,17 @@ module _ (select : TypedSelectParts) (store : Store) (day : ℤ) where
       let long = AllZip-long _ (keys_on select store day kept) all so_far.held in
       omega (arith, there, long)
 
-  module _ (kept : List (List ℕ)) (i : ℕ) (t : List ℕ) (lt : i < length kept) (is : t ≡ get_or kept i t) (all : List Group) (so_far : IsGroupedSoFar kept i all) (old : Group) (at : old ≡ get_or all (number_on select store day kept t) old) where
+  module _ (kept : List (List ℕ)) (i : ℕ) (t : List ℕ) (lt : i < length kept) (few : length kept < 2 ^ 62) (is : t ≡ get_or kept i t) (all : List Group) (so_far : IsGroupedSoFar kept i all) (old : Group) (at : old ≡ get_or all (number_on select store day kept t) old) where
     more : take (i + 1) kept ≡ take i kept ++ t ∷ []
     more = take_more kept i t lt ∙ ap (λ z. take i kept ++ z ∷ []) (sym is)
 
     pub next_grouped : (new : Group) → ((ts : List (List ℕ)) → old.first ≡ first_of ts → new.first ≡ first_of (ts ++ t ∷ [])) → AllZip (IsCellWith (There t) (is_none old.first)) old.cells.items new.cells.items → IsGroupedSoFar kept (i + 1) (set all (number_on select store day kept t) new)
     next_grouped new first with_ =
         let mine = (group_there select store day (IsGroupOf select store day) (keys_on select store day kept) all (take i kept) t old (key_there kept i t lt is) so_far.held at).1 in
-        let tuple = (group_ok (With select store day mine.0 (take i kept)) t old new mine.2 first with_).1 in
+        let tuple = (group_ok (With select store day mine.0 (take i kept)) t old new (few_before kept i mine.0 lt few) mine.2 first with_).1 in
         record {
           held = subst (λ z. AreGroupsOf select store day (keys_on select store day kept) z (set all (number_on select store day kept t) new)) (sym more)
-              (group_step select store day (IsGroupOf select store day) (keys_on select store day kept) all (take i kept) t old new (keys_apart kept) (key_there kept i t lt is) so_far.held at (λ k h e. (group_ok (With select store day k (take i kept)) t old new h first with_).0));
+              (group_step select store day (IsGroupOf select store day) (keys_on select store day kept) all (take i kept) t old new (keys_apart kept) (key_there kept i t lt is) so_far.held at (λ k h e. (group_ok (With select store day k (take i kept)) t old new (few_before kept i k lt few) h first with_).0));
           fits = subst (λ z. IsGroupedFault select store day z None) (sym more)
               (none_more (IsArgumentOn select store day) IsAddingTo (same_group select store day) (columns_of select) [] (take i kept) t so_far.fits (subst (λ z. IsTuple (IsArgumentOn select store day) IsAddingTo z t (columns_of select) None) (with_earlier select store day mine.0 (take i kept) t mine.1) tuple));
         }
@@ -113,7 +134,7 @@ module _ (select : TypedSelectParts) (store : Store) (day : ℤ) where
     pub fault_grouped : (f : Fault) → FailsInCells (There t) (is_none old.first) old.cells.items f → IsGroupedFault select store day kept (Some (t, f))
     fault_grouped f fails =
         let mine = (group_there select store day (IsGroupOf select store day) (keys_on select store day kept) all (take i kept) t old (key_there kept i t lt is) so_far.held at).1 in
-        let tuple = group_err (With select store day mine.0 (take i kept)) t old f mine.2 fails in
+        let tuple = group_err (With select store day mine.0 (take i kept)) t old f (few_before kept i mine.0 lt few) mine.2 fails in
         let whole : kept ≡ take i kept ++ t ∷ drop (i + 1) kept = sym (take-append-drop i kept) ∙ ap (λ z. take i kept ++ z) (drop_read kept i t lt is) in
         subst (λ z. IsGroupedFault select store day z (Some (t, f))) (sym whole)
         (fault_at (IsArgumentOn select store day) IsAddingTo (same_group select store day) (columns_of select) [] (take i kept) t (drop (i + 1) kept) f so_far.fits (subst (λ z. IsTuple (IsArgumentOn select store day) IsAddingTo z t (columns_of select) (Some f)) (with_earlier select store day mine.0 (take i kept) t mine.1) tuple))
@@ -166,15 +187,17 @@ module _ (select : TypedSelectParts) (store : Store) (day : ℤ) where
 
   -- ---- rows
 
-  cells_made : (group : List (List ℕ)) (columns : List Column) (cells : List Cell) → AllZip (IsCellOf select store day group) columns cells → AllZip (IsColumnValue select store day group) columns (map (λ c. c.value) cells)
-  cells_made group [] [] h = tt
+  -- the values that are held for a group
+  cells_made : (group : List (List ℕ)) (columns : List Column) (cells : List Cell) → AllZip (IsCellOf select store day group) columns cells → (values : List Value) × AllZip IsCellHeld values cells × AllZip (IsColumnValue select store day group) columns values
+  cells_made group [] [] h = ([], tt, tt)
   cells_made group [] (c ∷ cells) h = absurd h
   cells_made group (d ∷ columns) [] h = absurd h
-  cells_made group (d ∷ columns) (c ∷ cells) h = (h.0.1, cells_made group columns cells h.1)
+  cells_made group (d ∷ columns) (c ∷ cells) h =
+      let rest = cells_made group columns cells h.1 in
+      (h.0.1.0 ∷ rest.0, (subst (λ z. IsHeldOf z c.state h.0.1.0) (sym h.0.0) h.0.1.1, rest.1), (h.0.1.2, rest.2))
 
-  fields_made : (cells : List Cell) → map (λ c. field_text day c.value) cells ≡ map (field_text day) (map (λ c. c.value) cells)
-  fields_made [] = refl
-  fields_made (c ∷ cells) = ap (λ z. field_text day c.value ∷ z) (fields_made cells)
+  pub values_made : (tuples : List (List ℕ)) (g : Group) → IsGroupOf select store day tuples g → (values : List Value) × AllZip IsCellHeld values g.cells.items × AllZip (IsColumnValue select store day tuples) (columns_of select) values
+  values_made tuples g h = cells_made tuples (columns_of select) g.cells.items h.cells
 
-  pub row_made : (tuples : List (List ℕ)) (g : Group) (row : Keyed) → IsGroupOf select store day tuples g → row.fields ≡ map (λ c. field_text day c.value) g.cells.items → row.keys ≡ keys_from select store day tuples (map (λ c. c.value) g.cells.items) 0 select.keys → IsGroupRow select store day tuples row
-  row_made tuples g row h fields keys = record { values = map (λ c. c.value) g.cells.items; made = cells_made tuples (columns_of select) g.cells.items h.cells; fields = fields ∙ fields_made g.cells.items; keys = keys }
+  pub row_made : (tuples : List (List ℕ)) (values : List Value) (row : Keyed) → AllZip (IsColumnValue select store day tuples) (columns_of select) values → row.fields ≡ map (field_text day) values → row.keys ≡ keys_from select store day tuples values 0 select.keys → IsGroupRow select store day tuples row
+  row_made tuples values row made fields keys = record { values = values; made = made; fields = fields; keys = keys }

@@ -1,8 +1,5 @@
-mod Orders
 mod PlanRows
-mod Seen
 mod Making
-mod OneOrder
 mod OneAnswer
 mod Aggregating
 mod TupleSteps
@@ -14,3 +11,9 @@ mod OneGroup
 mod KeysSeen
 mod GroupExamples
 mod FieldsTell
+mod CountLaw
+mod CountsFit
+mod MadeSoFar
+mod StateSteps
+mod GroupValues
+mod AnswerRows

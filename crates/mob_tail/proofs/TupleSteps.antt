@@ -1,5 +1,5 @@
 -- Groups with one more tuple.
-use Rattle.std.specs.Prelude.{◌≡◌, ◌<◌, ◌+◌, Bool, true, false, ℕ, zero, suc, ℤ, refl, List, [], ◌∷◌, ◌++◌, Some, None, is_none, Ok, Err, length, get_or}
+use Rattle.std.specs.Prelude.{◌≡◌, ◌<◌, ◌+◌, ◌^◌, Bool, true, false, ℕ, zero, suc, ℤ, refl, List, [], ◌∷◌, ◌++◌, Some, None, is_none, Ok, Err, length, get_or}
 use Rattle.std.specs.List.{AllZip, AllByRecursion}
 use Rattle.std.proofs.Common.{ap, sym, ◌∙◌, subst, inl, inr, arith, take, map, ◌≤◌}
 use Rattle.std.proofs.lemmas.List.{take_more, take_all, map-append}
@@ -16,8 +16,13 @@ use Rattle.mob_eval.specs.declared.fault.EvalFault.TheVariants.{Passed, NoMemory
 use Rattle.mob_tail.proofs.Changing.{AreChanged}
 use Rattle.mob_aggregates.specs.Rows.{AreValues, IsItem, IsTuple}
 use Rattle.mob_tail.specs.declared.grouped.Cell.{Cell}
-use Rattle.mob_tail.specs.GroupedAnswers.{Column, IsArgumentOn, IsAddingTo, IsColumnValue}
-use Rattle.mob_tail.specs.GroupSteps.{column_seen, IsColumnWith, IsCellWith, FailsInCells, first_of, IsCellOf}
+use Rattle.mob_tail.specs.GroupedAnswers.{Column, IsArgumentOn, IsAddingTo}
+use Rattle.mob_tail.specs.declared.state.State.{State}
+use Rattle.mob_tail.specs.Groups.{column_on}
+use Rattle.mob_tail.specs.GroupSteps.{column_seen, IsColumnWith, IsCellWith, FailsInCells, first_of, IsHeldOf, IsStateOf, IsCellOf}
+use Rattle.mob_tail.specs.States.{IsHeld}
+use Rattle.mob_operators.specs.declared.aggregate.AggKind.{AggKind}
+use Rattle.mob_operators.specs.declared.aggregate.AggKind.TheVariants.{CountAll}
 
 pub zip_more : {A B : Type 0} (R : A → B → Type 0) (xs : List A) (ys : List B) (x : A) (y : B) → AllZip R xs ys → R x y → AllZip R (xs ++ x ∷ []) (ys ++ y ∷ [])
 zip_more R [] [] x y h k = (k, tt)
@@ -78,45 +83,52 @@ module _ (select : TypedSelectParts) (store : Store) (day : ℤ) where
   no_arguments (t ∷ group) (e, None) n = (refl, no_arguments group (e, None) n)
   no_arguments group (e, Some agg) n = absurd cc
 
-  column_ok : (group : List (List ℕ)) (t : List ℕ) (c : Column) (before v : Value) (first : Bool) → first ≡ is_none (first_of group) → IsColumnWith (scene store select.from t day) c before first (Ok v) → IsColumnValue select store day group c before
-      → IsColumnValue select store day (group ++ t ∷ []) c v × IsItem (IsArgumentOn select store day) IsAddingTo group t c None
-  column_ok [] t (e, None) before v true i h k = (h, (Null, refl, ([], tt, refl)))
-  column_ok [] t (e, None) before v false i h k = absurd cc
-  column_ok (u ∷ group) t (e, None) before v true i h k = absurd cc
-  column_ok (u ∷ group) t (e, None) before v false i h k = (h ∙ k, (Null, refl, (nulls (u ∷ group), no_arguments (u ∷ group) (e, None) refl, refl)))
-  column_ok group t (e, Some agg) before v first i h k =
-      let both = h.2 k.0 k.2 in
-      ((k.0 ++ h.0 ∷ [], zip_more _ group k.0 t h.0 k.1 h.1, both.0), (h.0, h.1, (k.0, k.1, (None, both.1, refl))))
+  column_ok : (group : List (List ℕ)) (t : List ℕ) (c : Column) (before x : State) (first : Bool) → first ≡ is_none (first_of group) → length group + 1 < 2 ^ 62 → IsColumnWith (scene store select.from t day) c before first (Ok x) → IsStateOf select store day group c before
+      → IsStateOf select store day (group ++ t ∷ []) c x × IsItem (IsArgumentOn select store day) IsAddingTo group t c None
+  column_ok [] t (e, None) before x true i few h k = ((column_on (scene store select.from t day) e, h, refl), (Null, refl, ([], tt, refl)))
+  column_ok [] t (e, None) before x false i few h k = absurd cc
+  column_ok (u ∷ group) t (e, None) before x true i few h k = absurd cc
+  column_ok (u ∷ group) t (e, None) before x false i few h k = ((k.0, h ∙ k.1, k.2), (Null, refl, (nulls (u ∷ group), no_arguments (u ∷ group) (e, None) refl, refl)))
+  column_ok group t (e, Some agg) before x first i few h k =
+      let vs = k.2.0 in
+      let long : length vs ≡ length group = AllZip-long _ group vs k.2.1 in
+      let both = h.2 k.0 k.1 vs k.2.2 (omega (arith, few, long)) in
+      ((both.0, both.1, (vs ++ h.0 ∷ [], zip_more _ group vs t h.0 k.2.1 h.1, both.2)), (h.0, h.1, (vs, k.2.1, (None, both.3, refl))))
 
-  column_err : (group : List (List ℕ)) (t : List ℕ) (c : Column) (before : Value) (first : Bool) (f : Fault) → IsColumnWith (scene store select.from t day) c before first (Err f) → IsColumnValue select store day group c before → IsItem (IsArgumentOn select store day) IsAddingTo group t c (Some f)
+  column_err : (group : List (List ℕ)) (t : List ℕ) (c : Column) (before : State) (first : Bool) (f : Fault) → IsColumnWith (scene store select.from t day) c before first (Err f) → IsStateOf select store day group c before → IsItem (IsArgumentOn select store day) IsAddingTo group t c (Some f)
   column_err group t (e, None) before first f h k = absurd h
   column_err group t (e, Some agg) before first f (inl h) k = inl h
-  column_err group t (e, Some agg) before first f (inr h) k = inr (h.0, h.1, (k.0, k.1, (Some f.1, h.3 k.0 k.2, ap (λ p. Some (p, f.1)) h.2)))
+  column_err group t (e, Some agg) before first f (inr h) k = inr (h.0, h.1, (k.2.0, k.2.1, (Some f.1, h.3 k.0 k.1 k.2.0 k.2.2, ap (λ p. Some (p, f.1)) h.2)))
 
-  pub cells_ok : (group : List (List ℕ)) (t : List ℕ) (columns : List Column) (old new : List Cell) (first : Bool) → first ≡ is_none (first_of group) → AllZip (IsCellWith (scene store select.from t day) first) old new → AllZip (IsCellOf select store day group) columns old
+  pub cells_ok : (group : List (List ℕ)) (t : List ℕ) (columns : List Column) (old new : List Cell) (first : Bool) → first ≡ is_none (first_of group) → length group + 1 < 2 ^ 62 → AllZip (IsCellWith (scene store select.from t day) first) old new → AllZip (IsCellOf select store day group) columns old
       → AllZip (IsCellOf select store day (group ++ t ∷ [])) columns new × IsTuple (IsArgumentOn select store day) IsAddingTo group t columns None
-  cells_ok group t [] [] [] first i h k = (tt, refl)
-  cells_ok group t [] [] (d ∷ new) first i h k = absurd h
-  cells_ok group t [] (c ∷ old) new first i h k = absurd k
-  cells_ok group t (column ∷ columns) [] new first i h k = absurd k
-  cells_ok group t (column ∷ columns) (c ∷ old) [] first i h k = absurd h
-  cells_ok group t (column ∷ columns) (c ∷ old) (d ∷ new) first i h k =
-      let here = column_ok group t column c.value d.value first i (subst (λ z. IsColumnWith (scene store select.from t day) z c.value first (Ok d.value)) k.0.0 h.0.value) k.0.1 in
-      let rest = cells_ok group t columns old new first i h.1 k.1 in
+  cells_ok group t [] [] [] first i few h k = (tt, refl)
+  cells_ok group t [] [] (d ∷ new) first i few h k = absurd h
+  cells_ok group t [] (c ∷ old) new first i few h k = absurd k
+  cells_ok group t (column ∷ columns) [] new first i few h k = absurd k
+  cells_ok group t (column ∷ columns) (c ∷ old) [] first i few h k = absurd h
+  cells_ok group t (column ∷ columns) (c ∷ old) (d ∷ new) first i few h k =
+      let here = column_ok group t column c.state d.state first i few (subst (λ z. IsColumnWith (scene store select.from t day) z c.state first (Ok d.state)) k.0.0 h.0.state) k.0.1 in
+      let rest = cells_ok group t columns old new first i few h.1 k.1 in
       (((h.0.column ∙ k.0.0, here.0), rest.0), inr (here.1, rest.1))
 
-  pub cells_err : (group : List (List ℕ)) (t : List ℕ) (columns : List Column) (old : List Cell) (first : Bool) (f : Fault) → first ≡ is_none (first_of group) → FailsInCells (scene store select.from t day) first old f → AllZip (IsCellOf select store day group) columns old → IsTuple (IsArgumentOn select store day) IsAddingTo group t columns (Some f)
-  cells_err group t [] [] first f i h k = absurd h
-  cells_err group t [] (c ∷ old) first f i h k = absurd k
-  cells_err group t (column ∷ columns) [] first f i h k = absurd k
-  cells_err group t (column ∷ columns) (c ∷ old) first f i (inl h) k = inl (f, column_err group t column c.value first f (subst (λ z. IsColumnWith (scene store select.from t day) z c.value first (Err f)) k.0.0 h) k.0.1, refl)
-  cells_err group t (column ∷ columns) (c ∷ old) first f i (inr h) k =
-      inr ((column_ok group t column c.value h.0 first i (subst (λ z. IsColumnWith (scene store select.from t day) z c.value first (Ok h.0)) k.0.0 h.1) k.0.1).1, cells_err group t columns old first f i h.2 k.1)
+  pub cells_err : (group : List (List ℕ)) (t : List ℕ) (columns : List Column) (old : List Cell) (first : Bool) (f : Fault) → first ≡ is_none (first_of group) → length group + 1 < 2 ^ 62 → FailsInCells (scene store select.from t day) first old f → AllZip (IsCellOf select store day group) columns old → IsTuple (IsArgumentOn select store day) IsAddingTo group t columns (Some f)
+  cells_err group t [] [] first f i few h k = absurd h
+  cells_err group t [] (c ∷ old) first f i few h k = absurd k
+  cells_err group t (column ∷ columns) [] first f i few h k = absurd k
+  cells_err group t (column ∷ columns) (c ∷ old) first f i few (inl h) k = inl (f, column_err group t column c.state first f (subst (λ z. IsColumnWith (scene store select.from t day) z c.state first (Err f)) k.0.0 h) k.0.1, refl)
+  cells_err group t (column ∷ columns) (c ∷ old) first f i few (inr h) k =
+      inr ((column_ok group t column c.state h.0 first i few (subst (λ z. IsColumnWith (scene store select.from t day) z c.state first (Ok h.0)) k.0.0 h.1) k.0.1).1, cells_err group t columns old first f i few h.2 k.1)
 
 -- a fault in a cell behind cells that have none
-pub fails_at : (s : Scene) (first : Bool) (n : ℕ) (old now : List Cell) (c : Cell) (f : Fault) → n < length now → c ≡ get_or now n c → AreChanged (IsCellWith s first) n old now → IsColumnWith s (column_seen c.column) c.value first (Err f) → FailsInCells s first old f
+pub fails_at : (s : Scene) (first : Bool) (n : ℕ) (old now : List Cell) (c : Cell) (f : Fault) → n < length now → c ≡ get_or now n c → AreChanged (IsCellWith s first) n old now → IsColumnWith s (column_seen c.column) c.state first (Err f) → FailsInCells s first old f
 fails_at s first n [] [] c f lt is h k = absurd (omega (arith, lt))
 fails_at s first n [] (b ∷ now) c f lt is h k = absurd h
 fails_at s first n (a ∷ old) [] c f lt is h k = absurd h
-fails_at s first zero (a ∷ old) (b ∷ now) c f lt is h k = inl (subst (λ z. IsColumnWith s (column_seen z.column) z.value first (Err f)) (is ∙ h.0) k)
-fails_at s first (suc n) (a ∷ old) (b ∷ now) c f lt is h k = inr (b.value, h.0.value, fails_at s first n old now c f (omega (arith, lt)) is h.1 k)
+fails_at s first zero (a ∷ old) (b ∷ now) c f lt is h k = inl (subst (λ z. IsColumnWith s (column_seen z.column) z.state first (Err f)) (is ∙ h.0) k)
+fails_at s first (suc n) (a ∷ old) (b ∷ now) c f lt is h k = inr (b.state, h.0.state, fails_at s first n old now c f (omega (arith, lt)) is h.1 k)
+
+-- a value is what is held, where that is what is held of it for each kind
+pub held_value : (c : Column) (x : State) (r : Value) → IsHeldOf c x r → (v : Value) → ((kind : AggKind) (r : Value) → IsHeld kind x r → v ≡ r) → v ≡ r
+held_value (e, None) x r h v f = f CountAll r (subst (λ z. IsHeld CountAll z r) (sym h) refl)
+held_value (e, Some agg) x r h v f = f agg.kind r h

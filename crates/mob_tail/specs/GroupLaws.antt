@@ -1,17 +1,48 @@
--- Groups tell values apart.
-use Rattle.std.specs.Prelude.{◌≡◌, ◌⊎◌, ℤ}
+-- Groups tell values apart, and no count passes a formula.
+use Rattle.std.specs.Prelude.{◌≡◌, ◌⊎◌, ◌↔◌, ◌+◌, ◌<◌, ◌^◌, true, ℕ, ℤ, List, Some, length}
+use Rattle.std.specs.List.{AllByRecursion}
 use Rattle.mob_ast.specs.declared.types.SqlType.{SqlType}
 use Rattle.mob_value.specs.declared.value.Value.{Value}
 use Rattle.mob_value.specs.declared.value.Value.TheVariants.{Null}
 use Rattle.mob_literal.specs.Fields.{field_text}
 use Rattle.mob_literal.specs.SqlReadable.{IsReadableAs}
+use Rattle.mob_meaning.specs.Evaluation.{Fault}
+use Rattle.mob_meaning.specs.Scene.{scene}
+use Rattle.mob_typed.specs.declared.typed.Agg.{Agg}
+use Rattle.mob_typed.specs.Trees.{TypedTree, type_of}
+use Rattle.mob_typed.specs.Selects.{TypedSelectParts}
+use Rattle.mob_value.specs.declared.store.Store.{Store}
+use Rattle.mob_clauses.specs.Keys.{is_key}
+use Rattle.mob_catalog.specs.OwnTypes.{IsReadAs}
+use Rattle.mob_tail.specs.Groups.{column_on, same_group}
+use Rattle.mob_tail.specs.GroupedAnswers.{AddingFails}
+use Rattle.mob_tail.specs.States.{is_count}
 
 -- a value of a type that a text can have, or NULL
 abbrev pub IsStoredAs : SqlType → ℤ → Value → Type 0
 IsStoredAs type day v = (v ≡ Null) ⊎ IsReadableAs type day v
 
 -- Two values of one column have the same field only where they are the same value, and NULL has a
--- field of its own. So tuples are of one group exactly where their values in the columns of GROUP
--- BY are the same.
+-- field of its own.
 abbrev pub FieldsTellValues : Type 0
 FieldsTellValues = (type : SqlType) (day : ℤ) (v w : Value) → IsStoredAs type day v → IsStoredAs type day w → field_text day v ≡ field_text day w → v ≡ w
+
+-- a column has a type that a column of GROUP BY may have, and its value on a tuple is one that was
+-- read as one of that type, or NULL
+abbrev pub IsKeyOn : TypedSelectParts → Store → ℤ → List ℕ → TypedTree → Type 0
+IsKeyOn select store day tuple column = (is_key (type_of column) ≡ true) × IsReadAs (type_of column) (column_on (scene store select.from tuple day) column)
+
+-- the value of a column is the same on two tuples, NULL as NULL
+abbrev pub HasSameValue : TypedSelectParts → Store → ℤ → List ℕ → List ℕ → TypedTree → Type 0
+HasSameValue select store day t u column = column_on (scene store select.from t day) column ≡ column_on (scene store select.from u day) column
+
+-- Two tuples with such values in the columns of GROUP BY are of one group exactly where each of
+-- these columns has the same value on both.
+abbrev pub GroupsAreOfValues : Type 0
+GroupsAreOfValues = (select : TypedSelectParts) (store : Store) (day : ℤ) (t u : List ℕ) → AllByRecursion (IsKeyOn select store day t) select.groups → AllByRecursion (IsKeyOn select store day u) select.groups
+    → (same_group select store day t u ≡ true) ↔ AllByRecursion (HasSameValue select store day t u) select.groups
+
+-- Adding to a count of fewer than 2^62 - 1 values passes no formula. So no count has a fault of
+-- adding, over all tuples that a memory holds, and counts may be taken together in any order.
+abbrev pub NoCountPasses : Type 0
+NoCountPasses = (select : TypedSelectParts) (store : Store) (day : ℤ) (before : List (List ℕ)) (tuple : List ℕ) (e : TypedTree) (agg : Agg) (f : Fault) → is_count agg.kind ≡ true → length before + 1 < 2 ^ 62 → AddingFails select store day before tuple (e, Some agg) f → ⊥

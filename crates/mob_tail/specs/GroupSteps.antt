@@ -2,7 +2,6 @@
 use Rattle.std.specs.Prelude.{◌≡◌, ◌⊎◌, Bool, true, false, ℕ, ℤ, List, [], ◌∷◌, Option, Some, None, Result, Ok, Err, cond, map}
 use Rattle.std.specs.List.{AllZip, position_or_len}
 use Rattle.mob_slice.specs.declared.formula.OpFault.TheVariants.{Passed}
-use Rattle.mob_ast.specs.declared.types.SqlType.{SqlType}
 use Rattle.mob_typed.specs.declared.typed.Agg.{Agg}
 use Rattle.mob_typed.specs.Selects.{TypedSelectParts}
 use Rattle.mob_typed.specs.Trees.{TypedTree, typed_of}
@@ -15,7 +14,10 @@ use Rattle.mob_groups.specs.Groups.{first_keys, members}
 use Rattle.mob_tail.specs.declared.columns.Column.{Column as ColumnOf}
 use Rattle.mob_tail.specs.declared.grouped.Cell.{Cell}
 use Rattle.mob_tail.specs.declared.grouped.Group.{Group}
-use Rattle.mob_tail.specs.Aggregated.{IsAggregated, leaves_out, IsAggregateWith}
+use Rattle.mob_tail.specs.declared.state.State.{State}
+use Rattle.mob_tail.specs.declared.state.State.TheVariants.{Whole}
+use Rattle.mob_tail.specs.Aggregated.{leaves_out}
+use Rattle.mob_tail.specs.States.{IsHeld, IsStartState, IsStateWith}
 use Rattle.mob_tail.specs.Groups.{column_on, group_fields, same_texts, has_groups, under_fields}
 use Rattle.mob_tail.specs.GroupedAnswers.{Column, columns_of, IsArgumentOf, IsColumnValue}
 
@@ -23,42 +25,50 @@ use Rattle.mob_tail.specs.GroupedAnswers.{Column, columns_of, IsArgumentOf, IsCo
 abbrev pub column_seen : ColumnOf → Column
 column_seen c = (typed_of c.expression.now, c.agg)
 
--- the value of an aggregate with one more tuple, or its fault there
-abbrev pub IsAggregateOn : Scene → TypedTree → Agg → Value → Result Value Fault → Type 0
-IsAggregateOn s e agg before (Ok v) = (w : Value) × IsArgumentOf agg.kind s e (Ok w) × IsAggregateWith (leaves_out agg.kind w) agg.kind agg.ty before w (Ok v)
-IsAggregateOn s e agg before (Err f) = IsArgumentOf agg.kind s e (Err f) ⊎ ((w : Value) × IsArgumentOf agg.kind s e (Ok w) × (f.0 ≡ agg.place) × IsAggregateWith (leaves_out agg.kind w) agg.kind agg.ty before w (Err (Passed f.1)))
+-- an aggregate with one more tuple, or its fault there
+abbrev pub IsAggregateOn : Scene → TypedTree → Agg → State → Result State Fault → Type 0
+IsAggregateOn s e agg before (Ok x) = (w : Value) × IsArgumentOf agg.kind s e (Ok w) × IsStateWith (leaves_out agg.kind w) agg.kind agg.ty before w (Ok x)
+IsAggregateOn s e agg before (Err f) = IsArgumentOf agg.kind s e (Err f) ⊎ ((w : Value) × IsArgumentOf agg.kind s e (Ok w) × (f.0 ≡ agg.place) × IsStateWith (leaves_out agg.kind w) agg.kind agg.ty before w (Err (Passed f.1)))
 
--- the value of a column that is no aggregate with one more tuple: that on the first tuple, and then
--- that before
-abbrev pub IsPlainOn : Scene → TypedTree → Bool → Value → Value → Type 0
-IsPlainOn s e true before v = v ≡ column_on s e
-IsPlainOn s e false before v = v ≡ before
+-- a column that is no aggregate with one more tuple: its value on the first tuple, and then what
+-- was held before
+abbrev pub IsPlainOn : Scene → TypedTree → Bool → State → State → Type 0
+IsPlainOn s e true before x = x ≡ Whole (column_on s e)
+IsPlainOn s e false before x = x ≡ before
 
 -- the same of a column of the answer; the fourth argument says whether the tuple is the first of
 -- its group
-abbrev pub IsColumnWith : Scene → Column → Value → Bool → Result Value Fault → Type 0
+abbrev pub IsColumnWith : Scene → Column → State → Bool → Result State Fault → Type 0
 IsColumnWith s (e, Some agg) before first r = IsAggregateOn s e agg before r
-IsColumnWith s (e, None) before first (Ok v) = IsPlainOn s e first before v
+IsColumnWith s (e, None) before first (Ok x) = IsPlainOn s e first before x
 IsColumnWith s (e, None) before first (Err f) = ⊥
 
 -- a cell with one more tuple
 pub record IsCellWith (s : Scene) (first : Bool) (old new : Cell) : Type 0 where
   pub column : column_seen new.column ≡ column_seen old.column
-  pub value : IsColumnWith s (column_seen old.column) old.value first (Ok new.value)
+  pub state : IsColumnWith s (column_seen old.column) old.state first (Ok new.state)
 
 -- a fault in a cell, where those before it have none
 abbrev pub FailsInCells : Scene → Bool → List Cell → Fault → Type 0
 FailsInCells s first [] f = ⊥
-FailsInCells s first (c ∷ cells) f = IsColumnWith s (column_seen c.column) c.value first (Err f) ⊎ ((v : Value) × IsColumnWith s (column_seen c.column) c.value first (Ok v) × FailsInCells s first cells f)
+FailsInCells s first (c ∷ cells) f = IsColumnWith s (column_seen c.column) c.state first (Err f) ⊎ ((x : State) × IsColumnWith s (column_seen c.column) c.state first (Ok x) × FailsInCells s first cells f)
 
--- the value of a column for a group of no tuple
-abbrev pub IsStart : Column → Value → Type 0
-IsStart (e, None) v = v ≡ Null
-IsStart (e, Some agg) v = (ty : SqlType) → IsAggregated agg.kind ty [] v
+-- what is held of the value of a column
+abbrev pub IsHeldOf : Column → State → Value → Type 0
+IsHeldOf (e, None) x r = x ≡ Whole r
+IsHeldOf (e, Some agg) x r = IsHeld agg.kind x r
+
+abbrev pub IsCellHeld : Value → Cell → Type 0
+IsCellHeld r cell = IsHeldOf (column_seen cell.column) cell.state r
+
+-- what is held for a group of no tuple
+abbrev pub IsStart : Column → State → Type 0
+IsStart (e, None) x = x ≡ Whole Null
+IsStart (e, Some agg) x = IsStartState agg.kind x
 
 -- a cell for a group of no tuple
 abbrev pub IsStartCell : ColumnOf → Cell → Type 0
-IsStartCell column cell = (column_seen cell.column ≡ column_seen column) × IsStart (column_seen column) cell.value
+IsStartCell column cell = (column_seen cell.column ≡ column_seen column) × IsStart (column_seen column) cell.state
 
 -- what the program has of a group of no tuple
 pub record IsStartGroup (columns : List ColumnOf) (g : Group) : Type 0 where
@@ -70,9 +80,13 @@ abbrev pub first_of : List (List ℕ) → Option (List ℕ)
 first_of [] = None
 first_of (t ∷ group) = Some t
 
--- a cell has the value of its column for a group
+-- what is held of a column is its value for a group
+abbrev pub IsStateOf : TypedSelectParts → Store → ℤ → List (List ℕ) → Column → State → Type 0
+IsStateOf select store day group column x = (r : Value) × IsHeldOf column x r × IsColumnValue select store day group column r
+
+-- a cell holds the value of its column for a group
 abbrev pub IsCellOf : TypedSelectParts → Store → ℤ → List (List ℕ) → Column → Cell → Type 0
-IsCellOf select store day group column cell = (column_seen cell.column ≡ column) × IsColumnValue select store day group column cell.value
+IsCellOf select store day group column cell = (column_seen cell.column ≡ column) × IsStateOf select store day group column cell.state
 
 -- what the program has of a group of these tuples
 pub record IsGroupOf (select : TypedSelectParts) (store : Store) (day : ℤ) (group : List (List ℕ)) (g : Group) : Type 0 where

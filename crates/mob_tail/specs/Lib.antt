@@ -1,13 +1,11 @@
 pub mod Aggregated
 pub mod Answers
-pub mod Flags
 pub mod GroupLaws
 pub mod GroupSteps
 pub mod GroupedAnswers
 pub mod Groups
 pub mod IsMadeOfEach
-pub mod Order
+pub mod AnswerRows
 pub mod Outcomes
 pub mod PlanAnswers
-pub mod Rows
-pub mod TextsSeen
+pub mod States

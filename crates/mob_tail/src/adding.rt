@@ -1,44 +1,29 @@
 //! The aggregate of values with one more.
 ghost use Rattle.std.specs.Prelude.{◌≡◌, [], ◌∷◌, IfOk, IfErr, MatchResult, MatchOption, None, Some, false, option_map};
 ghost use Rattle.mob_ratio.specs.Order.{same};
-ghost use Rattle.mob_arith.specs.Operations.{sum_of, both_hold, one_holds};
+ghost use Rattle.mob_arith.specs.Operations.{sum_of};
 ghost use Rattle.mob_slice.specs.CourseOf.{steady_course, line_course};
 ghost use Rattle.mob_slice.specs.Entries.{IsFirst, OnFormula};
 ghost use Rattle.mob_slice.specs.Slices.{value_at};
-ghost use Rattle.mob_slice.specs.Sameness.{same_bool};
-ghost use Rattle.mob_value.specs.declared.value.Value.TheVariants.{Number, MovingBool, MovingInt, MovingFrac};
+ghost use Rattle.mob_value.specs.declared.value.Value.TheVariants.{Number, MovingInt, MovingFrac};
 ghost use Rattle.mob_meaning.specs.Arithmetic.{arithmetic_entries};
 ghost use Rattle.mob_ordinary.specs.Moving.{AreNormalBy, IsFunction, or_nothing};
 ghost use Rattle.mob_ordinary.specs.Ordinary.{is_null};
-ghost use Rattle.mob_tail.specs.Aggregated.{number_in, one_where, leaves_out, IsAggregated, IsAggregateWith, IsUnion, steps_of, lines_of, truths_of};
+ghost use Rattle.mob_tail.specs.Aggregated.{number_in, one_where, leaves_out, IsAggregated, IsAggregateWith, IsUnion, steps_of, lines_of};
+ghost use Rattle.mob_tail.specs.States.{is_in_parts};
 
 use mob_ast::SqlType;
 use mob_frac::Frac;
 use mob_meaning::Calculation;
 use mob_operators::AggKind;
 use mob_slice::{Course, Formula, Line, Moving, OpFault, Steady};
-use mob_tagg::{add_in, and_in, one, ones_of, or_in};
+use mob_tagg::{add_in, one, ones_of};
 use mob_typed::Agg;
 use mob_value::Value;
 use std::alloc::{AllocError, Global};
 
-/// The aggregate of no value.
-pub fn nothing_yet(kind: AggKind) -> Value
-    ensures value { (ty : _) → IsAggregated kind ty [] result }
-{
-    match kind {
-        AggKind::CountAll => Value::Number(Frac::zero()),
-        AggKind::Count => Value::Number(Frac::zero()),
-        AggKind::Sum => Value::Null,
-        AggKind::TCount => Value::Null,
-        AggKind::TSum => Value::Null,
-        AggKind::TAnd => Value::Null,
-        AggKind::TOr => Value::Null,
-    }
-}
-
-// Whether an aggregate leaves a value out: all but count(*) leave out NULL.
-fn leaves_out(kind: AggKind, value: &Value) -> bool
+/// Whether an aggregate leaves a value out: all but count(*) leave out NULL.
+pub fn leaves_out(kind: AggKind, value: &Value) -> bool
     ensures same { result ≡ leaves_out kind value.now }
 {
     match (kind, value) {
@@ -58,7 +43,7 @@ fn number_in(value: &Value) -> Option<&Frac>
     }
 }
 
-// The slices of a tint, a tfrac and a tbool.
+// The slices of a tint and a tfrac.
 fn steps_of(value: &Value) -> Option<&Moving<Steady<Frac>>>
     ensures slices { option_map (λ m. m.now) result ≡ steps_of value.now }
 {
@@ -73,15 +58,6 @@ fn lines_of(value: &Value) -> Option<&Moving<Line>>
 {
     match value {
         Value::MovingFrac(moving) => Some(moving),
-        _ => None,
-    }
-}
-
-fn truths_of(value: &Value) -> Option<&Moving<Steady<bool>>>
-    ensures slices { option_map (λ m. m.now) result ≡ truths_of value.now }
-{
-    match value {
-        Value::MovingBool(moving) => Some(moving),
         _ => None,
     }
 }
@@ -133,7 +109,7 @@ fn copied(alloc: Global, value: &Value) -> Result<Value, OpFault>
     }
 }
 
-// A tint, a tfrac and a tbool. That the slices of a value are normal is a clause of `slices`.
+// A tint and a tfrac. That the slices of a value are normal is a clause of `slices`.
 fn int_value(moving: Moving<Steady<Frac>>) -> Value
     ensures value { result ≡ MovingInt moving }
     ensures normal { AreNormalBy (steady_course same) moving }
@@ -148,14 +124,6 @@ fn frac_value(moving: Moving<Line>) -> Value
 {
     let _ = moving.slices();
     Value::MovingFrac(moving)
-}
-
-fn bool_value(moving: Moving<Steady<bool>>) -> Value
-    ensures value { result ≡ MovingBool moving }
-    ensures normal { AreNormalBy (steady_course same_bool) moving }
-{
-    let _ = moving.slices();
-    Value::MovingBool(moving)
 }
 
 // A sum of tints, or NULL where there is none, with one more.
@@ -198,55 +166,22 @@ fn lines_more(alloc: Global, before: Value, value: &Value) -> Result<Value, OpFa
     }
 }
 
-// A conjunction or disjunction over time, or NULL where there is none, with one more.
-fn all_more(alloc: Global, before: Value, value: &Value) -> Result<Value, OpFault>
-    ensures union { MatchResult result (λ r. IsUnion (steady_course same_bool) MovingBool both_hold (truths_of before) (truths_of value.now) before r) (λ e. e ≡ OpFault.NoMemory) }
-    ensures normal { MatchOption (truths_of value.now) (Unit {0}) (AreNormalBy (steady_course same_bool)) }
-{
-    let Some(moving) = truths_of(value) else {
-        return Ok(before);
-    };
-    let _ = moving.slices();
-    match truths_of(&before) {
-        Some(all) => match and_in(alloc, all, moving) {
-            Ok(all) => Ok(bool_value(all)),
-            Err(_) => Err(OpFault::NoMemory),
-        },
-        None => copied(alloc, value),
-    }
-}
-
-fn some_more(alloc: Global, before: Value, value: &Value) -> Result<Value, OpFault>
-    ensures union { MatchResult result (λ r. IsUnion (steady_course same_bool) MovingBool one_holds (truths_of before) (truths_of value.now) before r) (λ e. e ≡ OpFault.NoMemory) }
-    ensures normal { MatchOption (truths_of value.now) (Unit {0}) (AreNormalBy (steady_course same_bool)) }
-{
-    let Some(moving) = truths_of(value) else {
-        return Ok(before);
-    };
-    let _ = moving.slices();
-    match truths_of(&before) {
-        Some(some) => match or_in(alloc, some, moving) {
-            Ok(some) => Ok(bool_value(some)),
-            Err(_) => Err(OpFault::NoMemory),
-        },
-        None => copied(alloc, value),
-    }
-}
-
 // 1 where a value over time is defined.
-fn ones_value<C: Course>(alloc: Global, moving: &Moving<C>) -> Result<Value, OpFault>
-    ensures ones { MatchResult result (λ v. IsFunction (steady_course same) MovingInt (λ t. one_where (value_at C.value_of moving.now t)) v) (λ e. e ≡ OpFault.NoMemory) }
+fn ones_value<C: Course>(
+    alloc: Global,
+    moving: &Moving<C>,
+) -> Result<Option<Moving<Steady<Frac>>>, AllocError>
+    ensures ones { IfOk result (λ o. IsFunction (steady_course same) MovingInt (λ t. one_where (value_at C.value_of moving.now t)) (or_nothing MovingInt o)) }
 {
     let _ = moving.slices();
-    match ones_of(alloc, moving) {
-        Ok(ones) => Ok(int_value(ones)),
-        Err(_) => Err(OpFault::NoMemory),
-    }
+    let ones = ones_of(alloc, moving)?;
+    let _ = ones.slices();
+    Ok(Some(ones))
 }
 
-// The count over time of one value.
-fn ones_on(alloc: Global, value: &Value) -> Result<Value, OpFault>
-    ensures ones { MatchResult result (λ r. (ty : _) → IsAggregated AggKind.TCount ty (value.now ∷ []) r) (λ e. e ≡ OpFault.NoMemory) }
+/// The count over time of one value. None of what is no value over time.
+pub fn ones_on(alloc: Global, value: &Value) -> Result<Option<Moving<Steady<Frac>>>, AllocError>
+    ensures ones { IfOk result (λ o. (ty : _) → IsAggregated AggKind.TCount ty (value.now ∷ []) (or_nothing MovingInt o)) }
 {
     match value {
         Value::MovingBool(moving) => ones_value(alloc, moving),
@@ -254,17 +189,7 @@ fn ones_on(alloc: Global, value: &Value) -> Result<Value, OpFault>
         Value::MovingFrac(moving) => ones_value(alloc, moving),
         Value::MovingText(moving) => ones_value(alloc, moving),
         Value::MovingPoint(moving) => ones_value(alloc, moving),
-        _ => Ok(Value::Null),
-    }
-}
-
-// A count over time with one more value.
-fn ones_more(alloc: Global, before: Value, value: &Value) -> Result<Value, OpFault>
-    ensures with { (ty : _) → IsAggregateWith false AggKind.TCount ty before value.now result }
-{
-    match ones_on(alloc, value) {
-        Ok(ones) => steps_more(alloc, before, &ones),
-        Err(fault) => Err(fault),
+        _ => Ok(None),
     }
 }
 
@@ -279,28 +204,23 @@ fn sum_more(alloc: Global, ty: SqlType, before: Value, value: &Value) -> Result<
     }
 }
 
-/// An aggregate of values with one more, where `before` is that of the values without it.
-///
-/// `Passed` names the formula that adding the value passes: F2 of `+` for a count or a sum, and for
-/// a sum over time the first formula of `+` at each instant. NULL is left out but by `count(*)`.
+/// An aggregate that is held as it is with one more value, where `before` is that of the values
+/// without it. What is held in parts stays as it was.
 pub fn aggregate_with(
     alloc: Global,
     agg: Agg,
     before: Value,
     value: &Value,
 ) -> Result<Value, OpFault>
-    ensures with { IsAggregateWith (leaves_out agg.kind value.now) agg.kind agg.ty before value.now result }
+    ensures with { is_in_parts agg.kind ≡ false → false ≡ leaves_out agg.kind value.now → IsAggregateWith (leaves_out agg.kind value.now) agg.kind agg.ty before value.now result }
 {
-    if leaves_out(agg.kind, value) {
-        return Ok(before);
-    }
     match agg.kind {
         AggKind::CountAll => one_more(before),
         AggKind::Count => one_more(before),
         AggKind::Sum => number_more(before, value),
-        AggKind::TCount => ones_more(alloc, before, value),
         AggKind::TSum => sum_more(alloc, agg.ty, before, value),
-        AggKind::TAnd => all_more(alloc, before, value),
-        AggKind::TOr => some_more(alloc, before, value),
+        AggKind::TCount => Ok(before),
+        AggKind::TAnd => Ok(before),
+        AggKind::TOr => Ok(before),
     }
 }

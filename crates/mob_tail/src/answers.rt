@@ -3,13 +3,13 @@ ghost use Rattle.std.specs.Prelude.{◌≡◌, Ok, Err, IfOk, IfErr, map};
 ghost use Rattle.mob_typed.specs.Selects.{select_seen, output_of, key_seen};
 ghost use Rattle.mob_eval.specs.QueryFaults.{OnTuple};
 ghost use Rattle.mob_arrange.specs.Rows.{AreArranged};
+ghost use Rattle.mob_tail.specs.AnswerRows.{falls_of, answer_row};
 ghost use Rattle.mob_tail.specs.Answers.{IsPlainAnswer, IsAnswerOnKept};
 ghost use Rattle.mob_tail.specs.GroupedAnswers.{IsGroupedAnswer};
 
-use crate::arrange::arranged;
 use crate::evaluation::rows_on;
 use crate::grouping::grouped_rows;
-use crate::keyed::Keyed;
+use mob_arrange::{Row, arranged};
 use mob_eval::QueryFault;
 use mob_list::items::Items;
 use mob_list::text::Text;
@@ -53,14 +53,22 @@ fn falls_of(alloc: Global, keys: &[(TExpr, bool)]) -> Result<Vec<bool>, AllocErr
 fn arranged_answer(
     alloc: Global,
     select: &TypedSelect,
-    rows: Vec<Keyed>,
+    rows: Vec<Row<'_>>,
+    epoch: &Epoch,
 ) -> Result<Answer, AllocError>
     ensures names { IfOk result (λ answer. answer.names ≡ map (λ item. item.1) (select_seen select.now).items) }
-    ensures rows { IfOk result (λ answer. AreArranged (map (λ key. key.1) (select_seen select.now).keys) select.now.distinct select.now.limit rows.items answer.rows) }
+    ensures rows { IfOk result (λ answer. AreArranged (falls_of (select_seen select.now)) select.now.distinct select.now.limit (map (answer_row (select_seen select.now) epoch.now) rows.entry.items) answer.rows) }
 {
     let names = names_of(alloc, select.items.as_slice())?;
     let falls = falls_of(alloc, select.keys.as_slice())?;
-    let rows = arranged(alloc, falls.as_slice(), select.distinct, select.limit, rows)?;
+    let rows = arranged(
+        alloc,
+        falls.as_slice(),
+        select.distinct,
+        select.limit,
+        rows,
+        epoch,
+    )?;
     Ok(Answer { names, rows })
 }
 
@@ -77,7 +85,7 @@ fn plain_answer(
     ensures fault { IfErr result (OnTuple (λ f. IsPlainAnswer (select_seen select.now) store.now epoch.now kept.now (Err f))) }
 {
     match rows_on(alloc, select, store, kept, epoch) {
-        Ok(rows) => match arranged_answer(alloc, select, rows) {
+        Ok(rows) => match arranged_answer(alloc, select, rows, epoch) {
             Ok(answer) => Ok(answer),
             Err(_) => Err(QueryFault::NoMemory),
         },
@@ -98,7 +106,7 @@ fn grouped_answer(
     ensures fault { IfErr result (OnTuple (λ f. IsGroupedAnswer (select_seen select.now) store.now epoch.now kept.now (Err f))) }
 {
     match grouped_rows(alloc, select, store, kept, epoch) {
-        Ok(rows) => match arranged_answer(alloc, select, rows) {
+        Ok(rows) => match arranged_answer(alloc, select, rows, epoch) {
             Ok(answer) => Ok(answer),
             Err(_) => Err(QueryFault::NoMemory),
         },

@@ -5,10 +5,10 @@ ghost use Rattle.mob_typed.specs.Trees.{typed_of};
 ghost use Rattle.mob_eval.specs.Views.{scene_of};
 ghost use Rattle.mob_eval.specs.Faults.{OnPassed, fault_of};
 ghost use Rattle.mob_tail.specs.Groups.{column_on};
-ghost use Rattle.mob_tail.specs.GroupSteps.{column_seen, IsAggregateOn, IsColumnWith, IsCellWith, FailsInCells, first_of, IsStart, IsStartCell, IsStartGroup};
+ghost use Rattle.mob_tail.specs.GroupSteps.{column_seen, IsAggregateOn, IsColumnWith, IsCellWith, FailsInCells, first_of, IsStart, IsStartCell, IsStartGroup, IsCellHeld};
 
-use crate::adding::{aggregate_with, nothing_yet};
 use crate::columns::{Column, argument_on, column_on};
+use crate::state::{State, nothing_yet, state_with, value_of};
 use mob_eval::{EvalFault, View};
 use mob_slice::OpFault;
 use mob_tuples::Tuple;
@@ -17,15 +17,15 @@ use mob_value::Value;
 use std::alloc::{AllocError, Global};
 use std::mem;
 
-/// A column of the answer with its value for one group.
+/// A column of the answer with what is held of its value for one group.
 #[derive(Drop)]
 pub struct Cell<'a> {
     pub column: Column<'a>,
-    pub value: Value,
+    pub state: State,
 }
 
 /// A group as it is so far: its first tuple, if it has one, and the columns of the answer with
-/// their values.
+/// what is held of their values.
 #[derive(Drop)]
 pub struct Group<'a> {
     pub first: Option<Tuple>,
@@ -42,14 +42,14 @@ fn fault_at(place: u32, fault: OpFault) -> EvalFault
     }
 }
 
-// The value of an aggregate with one more tuple.
+// An aggregate with one more tuple.
 fn aggregate_on(
     alloc: Global,
     agg: Agg,
     e: &TExpr,
     view: &View<'_>,
-    before: Value,
-) -> Result<Value, EvalFault>
+    before: State,
+) -> Result<State, EvalFault>
     ensures value { IfOk result (λ v. IsAggregateOn (scene_of view.now) (typed_of e.now) agg before (Ok v)) }
     ensures fault { IfErr result (OnPassed (λ f. IsAggregateOn (scene_of view.now) (typed_of e.now) agg before (Err f))) }
 {
@@ -57,8 +57,8 @@ fn aggregate_on(
         Ok(argument) => argument,
         Err(fault) => return Err(fault),
     };
-    match aggregate_with(alloc, agg, before, argument.get()) {
-        Ok(value) => Ok(value),
+    match state_with(alloc, agg, before, argument.get()) {
+        Ok(state) => Ok(state),
         Err(fault) => Err(fault_at(agg.place, fault)),
     }
 }
@@ -76,14 +76,14 @@ fn value_on(alloc: Global, e: &TExpr, view: &View<'_>) -> Result<Value, EvalFaul
     }
 }
 
-// The value of a column of the answer with one more tuple, which is the first of its group or not.
-fn value_with(
+// A column of the answer with one more tuple, which is the first of its group or not.
+fn column_with(
     alloc: Global,
     column: &Column<'_>,
     view: &View<'_>,
     is_first: bool,
-    before: Value,
-) -> Result<Value, EvalFault>
+    before: State,
+) -> Result<State, EvalFault>
     ensures value { IfOk result (λ v. IsColumnWith (scene_of view.now) (column_seen column.now) before is_first (Ok v)) }
     ensures fault { IfErr result (OnPassed (λ f. IsColumnWith (scene_of view.now) (column_seen column.now) before is_first (Err f))) }
 {
@@ -91,7 +91,10 @@ fn value_with(
         Some(agg) => aggregate_on(alloc, agg, column.expression, view, before),
         None => {
             if is_first {
-                value_on(alloc, column.expression, view)
+                match value_on(alloc, column.expression, view) {
+                    Ok(value) => Ok(State::Whole(value)),
+                    Err(fault) => Err(fault),
+                }
             } else {
                 Ok(before)
             }
@@ -107,12 +110,12 @@ fn cell_with(
     is_first: bool,
 ) -> Result<(), EvalFault>
     ensures with { IfOk result (λ _. IsCellWith (scene_of view.now) is_first cell.old cell.new) }
-    ensures fault { IfErr result (OnPassed (λ f. IsColumnWith (scene_of view.now) (column_seen cell.old.column) cell.old.value is_first (Err f))) }
+    ensures fault { IfErr result (OnPassed (λ f. IsColumnWith (scene_of view.now) (column_seen cell.old.column) cell.old.state is_first (Err f))) }
 {
-    let before = mem::replace(&mut cell.value, Value::Null);
-    match value_with(alloc, &cell.column, view, is_first, before) {
-        Ok(value) => {
-            cell.value = value;
+    let before = mem::replace(&mut cell.state, State::Whole(Value::Null));
+    match column_with(alloc, &cell.column, view, is_first, before) {
+        Ok(state) => {
+            cell.state = state;
             Ok(())
         }
         Err(fault) => Err(fault),
@@ -164,13 +167,13 @@ pub fn group_with(
     cells_with(alloc, &mut group.cells, view, is_first)
 }
 
-// The value of a column for a group of no tuple.
-fn start_of(column: &Column<'_>) -> Value
+// A column for a group of no tuple.
+fn start_of(alloc: Global, column: &Column<'_>) -> State
     ensures start { IsStart (column_seen column.now) result }
 {
     match column.agg {
-        Some(agg) => nothing_yet(agg.kind),
-        None => Value::Null,
+        Some(agg) => nothing_yet(alloc, agg.kind),
+        None => State::Whole(Value::Null),
     }
 }
 
@@ -182,7 +185,7 @@ fn no_cells<'a>(alloc: Global, columns: &[Column<'a>]) -> Result<Vec<Cell<'a>>, 
     for column in columns {
         cells.push(Cell {
             column: *column,
-            value: start_of(column),
+            state: start_of(alloc, column),
         })?;
     }
     Ok(cells)
@@ -209,4 +212,15 @@ pub fn no_groups<'a>(
         groups.push(no_group(alloc, columns)?)?;
     }
     Ok(groups)
+}
+
+/// The values of the columns of a group.
+pub fn values_of(alloc: Global, cells: Vec<Cell<'_>>) -> Result<Vec<Value>, AllocError>
+    ensures values { (all : _) → AllZip IsCellHeld all cells.entry.items → IfOk result (λ values. values.items ≡ all) }
+{
+    let mut values = Vec::with_capacity(alloc, cells.len())?;
+    for cell in cells {
+        values.push(value_of(alloc, cell.state)?)?;
+    }
+    Ok(values)
 }

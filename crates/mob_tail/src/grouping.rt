@@ -1,5 +1,5 @@
 //! The groups of the tuples that a grouped query keeps, and their rows.
-ghost use Rattle.std.specs.Prelude.{◌≡◌, IfOk, IfErr, Some, None, [], cond, map, length, slice_get};
+ghost use Rattle.std.specs.Prelude.{◌≡◌, ◌<◌, ◌^◌, IfOk, IfErr, Some, None, [], cond, map, length, slice_get};
 ghost use Rattle.std.specs.List.{AllZip};
 ghost use Rattle.mob_typed.specs.Trees.{typed_of};
 ghost use Rattle.mob_typed.specs.Selects.{select_seen};
@@ -9,13 +9,15 @@ ghost use Rattle.mob_eval.specs.Views.{scene_of};
 ghost use Rattle.mob_eval.specs.QueryFaults.{OnTuple};
 ghost use Rattle.mob_tail.specs.Groups.{column_on, same_texts, group_fields, has_groups, groups_on, first_value};
 ghost use Rattle.mob_value.specs.Null.{value_or_null};
-ghost use Rattle.mob_tail.specs.GroupedAnswers.{item_of, key_value, keys_from, IsGroupedFault, IsGroupRow};
+ghost use Rattle.mob_tail.specs.GroupedAnswers.{columns_of, item_of, key_value, keys_from, IsColumnValue, IsGroupedFault};
+ghost use Rattle.mob_tail.specs.AnswerRows.{IsGroupRowOf};
+ghost use Rattle.mob_arrange.specs.RowValues.{row_value};
 ghost use Rattle.mob_arrange.specs.TextsSeen.{texts_of};
 ghost use Rattle.mob_tail.specs.GroupSteps.{first_of, IsGroupOf, AreGroupsOf, keys_on, number_on};
 
 use crate::columns::{column_on, columns_of, is_bare};
-use crate::grouped::{Cell, Group, group_with, no_groups};
-use crate::keyed::Keyed;
+use crate::grouped::{Group, group_with, no_groups, values_of};
+use mob_arrange::{Row, RowValue};
 use mob_eval::{QueryFault, View};
 use mob_groups::{Groups, numbered};
 use mob_list::items::Items;
@@ -27,6 +29,9 @@ use mob_tuples::Tuple;
 use mob_typed::{TExpr, TypedSelect};
 use mob_value::{Store, Value};
 use std::alloc::{AllocError, Global};
+
+// No memory has so many tuples. Of fewer no count passes a formula.
+const MOST_TUPLES: usize = 4611686018427387904;
 
 // The printed field of a value.
 fn text_of(alloc: Global, value: &Value, epoch: &Epoch) -> Result<Text, AllocError>
@@ -113,6 +118,7 @@ fn grouped_tuples(
     numbers: &[usize],
     groups: &mut Vec<Group<'_>>,
 ) -> Result<(), QueryFault>
+    requires few { length kept.now < 2 ^ 62 }
     requires numbered { numbers.now ≡ map (number_on (select_seen select.now) store.now epoch.now kept.now) kept.now }
     requires start { AreGroupsOf (select_seen select.now) store.now epoch.now (keys_on (select_seen select.now) store.now epoch.now kept.now) [] groups.old.items }
     ensures groups { IfOk result (λ _. AreGroupsOf (select_seen select.now) store.now epoch.now (keys_on (select_seen select.now) store.now epoch.now kept.now) kept.now groups.new.items) }
@@ -134,15 +140,15 @@ fn grouped_tuples(
     Ok(())
 }
 
-// The printed values of the columns of a group.
-fn cell_fields(alloc: Global, cells: &[Cell<'_>], epoch: &Epoch) -> Result<Items<Text>, AllocError>
-    ensures fields { IfOk result (λ fields. fields ≡ map (λ c. field_text epoch.now c.value) cells.now) }
+// Values as those of a row.
+fn row_values<'a>(alloc: Global, values: Vec<Value>) -> Result<Items<RowValue<'a>>, AllocError>
+    ensures values { IfOk result (λ held. map row_value held ≡ values.items) }
 {
-    let mut fields = Vec::with_capacity(alloc, cells.len())?;
-    for cell in cells {
-        fields.push(text_of(alloc, &cell.value, epoch)?)?;
+    let mut held = Vec::with_capacity(alloc, values.len())?;
+    for value in values {
+        held.push(RowValue::made(alloc, value)?)?;
     }
-    Ok(Items::from_vec(fields))
+    Ok(Items::from_vec(held))
 }
 
 // The number of the column that a key means.
@@ -156,11 +162,11 @@ fn item_of(numbers: &[Option<u32>], key: usize) -> Option<u32>
 }
 
 // The value of the column of a number, and NULL where there is none.
-fn cell_value(alloc: Global, cells: &[Cell<'_>], number: u32) -> Result<Value, AllocError>
-    ensures value { IfOk result (λ v. v ≡ value_or_null (slice_get (map (λ c. c.value) cells.now) number)) }
+fn item_value(alloc: Global, values: &[Value], number: u32) -> Result<Value, AllocError>
+    ensures value { IfOk result (λ v. v ≡ value_or_null (slice_get values.now number)) }
 {
-    match cells.get(number as usize) {
-        Some(cell) => cell.value.copy(alloc),
+    match values.get(number as usize) {
+        Some(value) => value.copy(alloc),
         None => Ok(Value::Null),
     }
 }
@@ -188,66 +194,85 @@ fn first_value(
     column_on(alloc, e, &view)?.own(alloc)
 }
 
-// The value of a key for a group.
+// The value of a key for a group with these values of its columns.
 fn key_value(
     alloc: Global,
     select: &TypedSelect,
     store: &Store,
-    group: &Group<'_>,
+    first: &Option<Tuple>,
+    columns: &[Value],
     number: usize,
     key: &TExpr,
     epoch: &Epoch,
 ) -> Result<Value, AllocError>
-    ensures value { (tuples : _) → group.now.first ≡ first_of tuples → IfOk result (λ v. v ≡ key_value (select_seen select.now) store.now epoch.now tuples (map (λ c. c.value) group.now.cells.items) (typed_of key.now) (item_of (select_seen select.now).key_items number)) }
+    ensures value { (tuples : _) → first.now ≡ first_of tuples → IfOk result (λ v. v ≡ key_value (select_seen select.now) store.now epoch.now tuples columns.now (typed_of key.now) (item_of (select_seen select.now).key_items number)) }
 {
     match item_of(select.key_items.as_slice(), number) {
-        Some(item) => cell_value(alloc, group.cells.as_slice(), item),
-        None => first_value(alloc, select, store, &group.first, key, epoch),
+        Some(item) => item_value(alloc, columns, item),
+        None => first_value(alloc, select, store, first, key, epoch),
     }
 }
 
-// The values of the keys for a group.
+// The values of the keys for a group with these values of its columns.
 fn key_values(
     alloc: Global,
     select: &TypedSelect,
     store: &Store,
-    group: &Group<'_>,
+    first: &Option<Tuple>,
+    columns: &[Value],
     epoch: &Epoch,
 ) -> Result<Items<Value>, AllocError>
-    ensures values { (tuples : _) → group.now.first ≡ first_of tuples → IfOk result (λ values. values ≡ keys_from (select_seen select.now) store.now epoch.now tuples (map (λ c. c.value) group.now.cells.items) 0 (select_seen select.now).keys) }
+    ensures values { (tuples : _) → first.now ≡ first_of tuples → IfOk result (λ values. values ≡ keys_from (select_seen select.now) store.now epoch.now tuples columns.now 0 (select_seen select.now).keys) }
 {
     let keys = select.keys.as_slice();
     let mut values = Vec::with_capacity(alloc, keys.len())?;
     for (number, key) in keys.iter().enumerate() {
-        values.push(key_value(alloc, select, store, group, number, &key.0, epoch)?)?;
+        values.push(key_value(alloc, select, store, first, columns, number, &key.0, epoch)?)?;
     }
     Ok(Items::from_vec(values))
 }
 
-// The row of a group.
-fn row_of(
+// The row of a group with these values of its columns.
+fn row_with<'a>(
     alloc: Global,
     select: &TypedSelect,
     store: &Store,
-    group: &Group<'_>,
+    first: &Option<Tuple>,
+    columns: Vec<Value>,
     epoch: &Epoch,
-) -> Result<Keyed, AllocError>
-    ensures row { (tuples : _) → IsGroupOf (select_seen select.now) store.now epoch.now tuples group.now → IfOk result (λ row. IsGroupRow (select_seen select.now) store.now epoch.now tuples row) }
+) -> Result<Row<'a>, AllocError>
+    ensures row { (tuples : _) → first.now ≡ first_of tuples → AllZip (IsColumnValue (select_seen select.now) store.now epoch.now tuples) (columns_of (select_seen select.now)) columns.items → IfOk result (λ row. IsGroupRowOf (select_seen select.now) store.now epoch.now tuples row) }
 {
-    let fields = cell_fields(alloc, group.cells.as_slice(), epoch)?;
-    let keys = key_values(alloc, select, store, group, epoch)?;
-    Ok(Keyed { fields, keys })
+    let keys = key_values(alloc, select, store, first, columns.as_slice(), epoch)?;
+    let keys = row_values(alloc, keys.into_vec())?;
+    let fields = row_values(alloc, columns)?;
+    Row::new(keys, fields)
+}
+
+// The row of a group.
+fn row_of<'a>(
+    alloc: Global,
+    select: &TypedSelect,
+    store: &Store,
+    group: Group<'_>,
+    epoch: &Epoch,
+) -> Result<Row<'a>, AllocError>
+    ensures row { (tuples : _) → IsGroupOf (select_seen select.now) store.now epoch.now tuples group.entry → IfOk result (λ row. IsGroupRowOf (select_seen select.now) store.now epoch.now tuples row) }
+{
+    let Group { first, cells } = group;
+    let columns = values_of(alloc, cells)?;
+    row_with(alloc, select, store, &first, columns, epoch)
 }
 
 // The rows of groups in order.
-fn rows_of(
+fn rows_of<'a>(
     alloc: Global,
     select: &TypedSelect,
     store: &Store,
-    groups: &[Group<'_>],
+    groups: Vec<Group<'_>>,
     epoch: &Epoch,
-) -> Result<Vec<Keyed>, AllocError>
-    ensures rows { (all : _) → AllZip (IsGroupOf (select_seen select.now) store.now epoch.now) all groups.now → IfOk result (λ rows. AllZip (IsGroupRow (select_seen select.now) store.now epoch.now) all rows.items) }
+) -> Result<Vec<Row<'a>>, AllocError>
+    ensures rows { (all : _) → AllZip (IsGroupOf (select_seen select.now) store.now epoch.now) all groups.entry.items → IfOk result (λ rows. AllZip (IsGroupRowOf (select_seen select.now) store.now epoch.now) all rows.items) }
 {
     let mut rows = Vec::with_capacity(alloc, groups.len())?;
     for group in groups {
@@ -295,17 +320,20 @@ fn begun<'a>(
 /// The rows of the groups of these tuples, in the order of their first tuple, or the first fault:
 /// tuple by tuple and column by column that of the argument of an aggregate, and then that of
 /// adding its value to those of the earlier tuples of its group.
-pub fn grouped_rows(
+pub fn grouped_rows<'a>(
     alloc: Global,
     select: &TypedSelect,
     store: &Store,
     kept: &[Tuple],
     epoch: &Epoch,
-) -> Result<Vec<Keyed>, QueryFault>
-    ensures rows { IfOk result (λ rows. AllZip (IsGroupRow (select_seen select.now) store.now epoch.now) (groups_on (select_seen select.now) store.now epoch.now kept.now) rows.items) }
+) -> Result<Vec<Row<'a>>, QueryFault>
+    ensures rows { IfOk result (λ rows. AllZip (IsGroupRowOf (select_seen select.now) store.now epoch.now) (groups_on (select_seen select.now) store.now epoch.now kept.now) rows.items) }
     ensures fits { IfOk result (λ _. IsGroupedFault (select_seen select.now) store.now epoch.now kept.now None) }
     ensures fault { IfErr result (OnTuple (λ f. IsGroupedFault (select_seen select.now) store.now epoch.now kept.now (Some f))) }
 {
+    if kept.len() >= MOST_TUPLES {
+        return Err(QueryFault::NoMemory);
+    }
     let Ok((numbers, mut groups)) = begun(alloc, select, store, kept, epoch) else {
         return Err(QueryFault::NoMemory);
     };
@@ -321,7 +349,7 @@ pub fn grouped_rows(
         Ok(()) => {}
         Err(fault) => return Err(fault),
     }
-    match rows_of(alloc, select, store, groups.as_slice(), epoch) {
+    match rows_of(alloc, select, store, groups, epoch) {
         Ok(rows) => Ok(rows),
         Err(_) => Err(QueryFault::NoMemory),
     }

@@ -1,5 +1,5 @@
 //! What holds of every query. No code runs here.
-ghost use Rattle.mob_tail.specs.GroupLaws.{FieldsTellValues};
+ghost use Rattle.mob_tail.specs.GroupLaws.{FieldsTellValues, GroupsAreOfValues, NoCountPasses};
 ghost use Rattle.mob_tail.specs.Outcomes.{HasOneQueryAnswer};
 
 /// A query has one answer, or one fault, on the tuples that it keeps: the order of the keys, with
@@ -11,7 +11,15 @@ pub fn one_answer_to()
 }
 
 /// Two values of a type have the same printed field only where they are the same, and NULL has a
-/// field of its own: so the groups of a query are those of the values of its columns of GROUP BY.
+/// field of its own. So two tuples are of one group exactly where each column of GROUP BY has the
+/// same value on both.
 pub fn fields_tell_values()
     ensures tell { FieldsTellValues }
+    ensures groups { GroupsAreOfValues }
+{}
+
+/// No count passes a formula: adding to a count of fewer than 2^62 - 1 values, `count(*)` or over
+/// time, always fits.
+pub fn no_count_passes()
+    ensures never { NoCountPasses }
 {}

@@ -3,16 +3,13 @@
 
 mod adding;
 mod answers;
-mod arrange;
 mod columns;
-mod distinct;
 mod evaluation;
 mod grouped;
 mod grouping;
-mod keyed;
 pub mod laws;
-mod order;
 mod plans;
+mod state;
 mod text;
 
 pub use answers::{Answer, answer_to};

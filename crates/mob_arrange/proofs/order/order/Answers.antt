@@ -12,7 +12,7 @@ returns-in-Ok c =
     let ranked = keys_ranked falls in
     record {
       ordered = λ day. values_ordered falls day _ _
-        c.sort_by.ensures.permutation
-        (c.in-Ok.ensures.sorted (λ a b. is_lt (compare_keys falls a b)) ranked (always_returns_same _ _ _ (λ a r q k. search rules)))
-        (c.sort_by.ensures.stable (λ a b. is_lt (compare_keys falls a b)) ranked (always_returns_same _ _ _ (λ a r q k. search rules)));
+          c.sort_by.ensures.permutation
+          (c.in-Ok.ensures.sorted (λ a b. is_lt (compare_keys falls a b)) ranked (always_returns_same _ _ _ (λ a r q k. search rules)))
+          (c.sort_by.ensures.stable (λ a b. is_lt (compare_keys falls a b)) ranked (always_returns_same _ _ _ (λ a r q k. search rules)));
     }

@@ -1,20 +1,21 @@
 use Rattle.std.proofs.Common.{refl}
-use Rattle.std.proofs.lemmas.Result.{MatchResult-weaker}
+use Rattle.std.proofs.lemmas.Result.{IfOk-weaker}
 use Rattle.mob_value.specs.declared.value.Value.TheVariants.{MovingBool, MovingInt, MovingFrac, MovingText, MovingPoint}
+use Rattle.mob_ordinary.specs.Moving.{or_nothing}
 use Rattle.mob_tail.proofs.Aggregating.{ones_over}
 use Rattle.mob_tail.proofs.adding.ones_on.Goals as goal
 
 pub returns-in-MovingBool : goal.returns-in-MovingBool
-returns-in-MovingBool c = rw c.in-MovingBool.is (record { ones = MatchResult-weaker c.ones_value.result c.ones_value.ensures.ones (λ r h ty. ones_over ty (MovingBool c.in-MovingBool.moving) r _ (λ t. refl) h) (λ e h. h) })
+returns-in-MovingBool c = rw c.in-MovingBool.is (record { ones = IfOk-weaker c.ones_value.result _ _ (λ o h ty. ones_over ty (MovingBool c.in-MovingBool.moving) (or_nothing MovingInt o) _ (λ t. refl) h) c.ones_value.ensures.ones })
 
 pub returns-in-MovingInt : goal.returns-in-MovingInt
-returns-in-MovingInt c = rw c.in-MovingInt.is (record { ones = MatchResult-weaker c.ones_value-in-MovingInt.result c.ones_value-in-MovingInt.ensures.ones (λ r h ty. ones_over ty (MovingInt c.in-MovingInt.moving) r _ (λ t. refl) h) (λ e h. h) })
+returns-in-MovingInt c = rw c.in-MovingInt.is (record { ones = IfOk-weaker c.ones_value-in-MovingInt.result _ _ (λ o h ty. ones_over ty (MovingInt c.in-MovingInt.moving) (or_nothing MovingInt o) _ (λ t. refl) h) c.ones_value-in-MovingInt.ensures.ones })
 
 pub returns-in-MovingFrac : goal.returns-in-MovingFrac
-returns-in-MovingFrac c = rw c.in-MovingFrac.is (record { ones = MatchResult-weaker c.ones_value-in-MovingFrac.result c.ones_value-in-MovingFrac.ensures.ones (λ r h ty. ones_over ty (MovingFrac c.in-MovingFrac.moving) r _ (λ t. refl) h) (λ e h. h) })
+returns-in-MovingFrac c = rw c.in-MovingFrac.is (record { ones = IfOk-weaker c.ones_value-in-MovingFrac.result _ _ (λ o h ty. ones_over ty (MovingFrac c.in-MovingFrac.moving) (or_nothing MovingInt o) _ (λ t. refl) h) c.ones_value-in-MovingFrac.ensures.ones })
 
 pub returns-in-MovingText : goal.returns-in-MovingText
-returns-in-MovingText c = rw c.in-MovingText.is (record { ones = MatchResult-weaker c.ones_value-in-MovingText.result c.ones_value-in-MovingText.ensures.ones (λ r h ty. ones_over ty (MovingText c.in-MovingText.moving) r _ (λ t. refl) h) (λ e h. h) })
+returns-in-MovingText c = rw c.in-MovingText.is (record { ones = IfOk-weaker c.ones_value-in-MovingText.result _ _ (λ o h ty. ones_over ty (MovingText c.in-MovingText.moving) (or_nothing MovingInt o) _ (λ t. refl) h) c.ones_value-in-MovingText.ensures.ones })
 
 pub returns-in-MovingPoint : goal.returns-in-MovingPoint
-returns-in-MovingPoint c = rw c.in-MovingPoint.is (record { ones = MatchResult-weaker c.ones_value-in-MovingPoint.result c.ones_value-in-MovingPoint.ensures.ones (λ r h ty. ones_over ty (MovingPoint c.in-MovingPoint.moving) r _ (λ t. refl) h) (λ e h. h) })
+returns-in-MovingPoint c = rw c.in-MovingPoint.is (record { ones = IfOk-weaker c.ones_value-in-MovingPoint.result _ _ (λ o h ty. ones_over ty (MovingPoint c.in-MovingPoint.moving) (or_nothing MovingInt o) _ (λ t. refl) h) c.ones_value-in-MovingPoint.ensures.ones })

@@ -7,4 +7,4 @@ pub returns-in-Ok-rows_of-clause-rows : goal.returns-in-Ok-rows_of-clause-rows
 returns-in-Ok-rows_of-clause-rows c =
     let select = select_seen c.args.select.now in
     c.in-Ok-rows_of.ensures.rows (groups_on select c.args.store.now c.args.epoch.now c.args.kept.now)
-    (rw c.as_slice-2.ensures.value (grouped_all select c.args.store.now c.args.epoch.now c.args.kept.now c.grouped_tuples.new.groups.items c.in-Ok-grouped_tuples.ensures.groups))
+    (grouped_all select c.args.store.now c.args.epoch.now c.args.kept.now c.grouped_tuples.new.groups.items c.in-Ok-grouped_tuples.ensures.groups)

@@ -1,11 +1,14 @@
-use Rattle.std.proofs.Common.{ap, ◌∙◌, map}
+use Rattle.std.proofs.Common.{sym, ◌∙◌, subst}
+use Rattle.std.specs.List.{AllZip}
 use Rattle.mob_typed.specs.Selects.{select_seen}
-use Rattle.mob_literal.specs.Fields.{field_text}
-use Rattle.mob_tail.proofs.GroupLoop.{row_made}
+use Rattle.mob_tail.specs.GroupedAnswers.{columns_of, IsColumnValue}
+use Rattle.mob_tail.proofs.GroupLoop.{values_made}
 use Rattle.mob_tail.proofs.grouping.row_of.Goals as goal
 
 pub returns : goal.returns
 returns c = record {
-  row = λ tuples h. row_made (select_seen c.args.select.now) c.args.store.now c.args.epoch.now tuples c.args.group.now (record { fields = c.in_ok-fields.fields; keys = c.in_ok-keys.keys }) h
-      (c.in_ok-fields.ensures.fields ∙ ap (map (λ c'. field_text c.args.epoch.now c'.value)) c.as_slice.ensures.value) (c.in_ok-keys.ensures.values tuples h.first);
+  row = λ tuples h.
+      let select = select_seen c.args.select.now in
+      let made = values_made select c.args.store.now c.args.epoch.now tuples c.args.group h in
+      c.row_with.ensures.row tuples h.first (subst (λ z. AllZip (IsColumnValue select c.args.store.now c.args.epoch.now tuples) (columns_of select) z) (sym (c.in_ok-columns.ensures.values made.0 made.1)) made.2);
 }

@@ -1,20 +1,42 @@
-use Rattle.std.proofs.Common.{sym, subst, ◌+◌, take}
+use Rattle.std.proofs.Common.{◌≡◌, [], sym, ◌∙◌, subst, rules}
 use Rattle.std.specs.List.{AllZip}
+use Rattle.std.proofs.lemmas.List.{nil_from_length}
+use Rattle.std.specs.Vec.Iter.{into_iter_items}
+use Rattle.mob_span.proofs.Chained.{counted_down}
 use Rattle.mob_typed.specs.Selects.{select_seen}
-use Rattle.mob_tail.specs.GroupedAnswers.{IsGroupRow}
+use Rattle.mob_tail.specs.AnswerRows.{IsGroupRowOf}
 use Rattle.mob_tail.specs.GroupSteps.{IsGroupOf}
-use Rattle.mob_tail.proofs.TupleSteps.{zip_next, zip_end}
+use Rattle.mob_tail.proofs.MadeSoFar.{made_none, made_more, made_all}
 use Rattle.mob_tail.proofs.grouping.rows_of.Goals as goal
 
-pub loop-group-preserved : goal.loop-group-preserved
-loop-group-preserved c = λ all h.
-    let at = c.loop-group in
+pub loop-group-init : goal.loop-group-init
+loop-group-init c =
     let R = IsGroupOf (select_seen c.args.select.now) c.args.store.now c.args.epoch.now in
-    let Q = IsGroupRow (select_seen c.args.select.now) c.args.store.now c.args.epoch.now in
-    subst (AllZip Q (take (at.group-index + 1) all)) (sym c.in_ok-push.ensures.items)
-    (zip_next R Q all c.args.groups.now at.rows.items at.group-index c.group-item.result c.in_ok-row_of.field-0 h (at.invariant all h) c.loop-group-test.true c.group-item.is (λ x r. c.in_ok-row_of.ensures.row x r))
+    let Q = IsGroupRowOf (select_seen c.args.select.now) c.args.store.now c.args.epoch.now in
+    let none : c.in_ok-rows.rows.items ≡ [] = search rules in
+    let whole : into_iter_items c.into_iter-group-iterator.result ≡ c.args.groups.items = search rules in
+    record {
+      goes = tt;
+      ends = tt;
+      counted = search rules;
+      made = λ all h. made_none R Q all c.in_ok-rows.rows.items (into_iter_items c.into_iter-group-iterator.result) none (subst (AllZip R all) (sym whole) h);
+    }
+
+pub loop-group-preserved : goal.loop-group-preserved
+loop-group-preserved c =
+    let left = c.in-Some.ensures.steps.0 in
+    let R = IsGroupOf (select_seen c.args.select.now) c.args.store.now c.args.epoch.now in
+    let Q = IsGroupRowOf (select_seen c.args.select.now) c.args.store.now c.args.epoch.now in
+    record {
+      goes = tt;
+      ends = tt;
+      counted = counted_down _ _ _ _ _ left c.in-Some.ensures.steps.1 c.loop-group.invariant.counted;
+      made = λ all h. made_more R Q all c.loop-group.rows.items c.push.new.self.items (into_iter_items c.loop-group.group-iterator) (into_iter_items c.next.new.self) c.in-Some.group c.in_ok-row_of.field-0 left c.in_ok-push.ensures.items
+          (λ x r. c.in_ok-row_of.ensures.row x r) (c.loop-group.invariant.made all h);
+    }
 
 pub returns : goal.returns
 returns c = record {
-  rows = λ all h. zip_end (IsGroupOf (select_seen c.args.select.now) c.args.store.now c.args.epoch.now) (IsGroupRow (select_seen c.args.select.now) c.args.store.now c.args.epoch.now) all c.args.groups.now c.loop-group.rows.items c.loop-group.group-index h (c.loop-group.invariant all h) c.loop-group-test.false;
+  rows = λ all h.
+      made_all (IsGroupOf (select_seen c.args.select.now) c.args.store.now c.args.epoch.now) (IsGroupRowOf (select_seen c.args.select.now) c.args.store.now c.args.epoch.now) all c.loop-group.rows.items (into_iter_items c.loop-group.group-iterator) (nil_from_length _ (sym c.loop-group.invariant.counted ∙ c.in-None.ensures.steps.0)) (c.loop-group.invariant.made all h);
 }

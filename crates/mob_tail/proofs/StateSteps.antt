@@ -1,0 +1,269 @@
+-- Aggregates as groups hold them, with one more value.
+use Rattle.std.specs.Prelude.{◌≡◌, ◌↔◌, ◌+◌, Bool, true, false, cond, IsTrue, refl, List, [], ◌∷◌, ◌++◌, Option, Some, None, MatchOption, Result, Ok, Err}
+use Rattle.std.proofs.Common.{ap, sym, ◌∙◌, subst}
+use Rattle.mob_ratio.specs.Ratio.{Ratio}
+use Rattle.mob_ratio.specs.Order.{same}
+use Rattle.mob_ratio.proofs.Order.{same_exact}
+use Rattle.mob_arith.specs.Operations.{sum_of, both_hold, one_holds}
+use Rattle.mob_span.proofs.SpanLemmas.{some_instant}
+use Rattle.mob_slice.specs.CourseOf.{steady_course}
+use Rattle.mob_slice.specs.Operands.{steady_value, steady_limit}
+use Rattle.mob_slice.specs.Sameness.{same_bool, same_bool_exact}
+use Rattle.mob_slice.specs.Slices.{value_at}
+use Rattle.mob_slice.specs.declared.formula.OpFault.{OpFault}
+use Rattle.mob_slice.specs.declared.formula.OpFault.TheVariants.{Passed, NoMemory}
+use Rattle.mob_slice.specs.declared.steady.Steady.{Steady}
+use Rattle.mob_ast.specs.declared.types.SqlType.{SqlType}
+use Rattle.mob_operators.specs.declared.aggregate.AggKind.{AggKind}
+use Rattle.mob_operators.specs.declared.aggregate.AggKind.TheVariants.{CountAll, Count, Sum, TCount, TSum, TAnd, TOr}
+use Rattle.mob_value.specs.declared.value.Value.{Value}
+use Rattle.mob_value.specs.declared.value.Value.TheVariants.{Null, MovingBool, MovingInt}
+use Rattle.mob_ordinary.specs.Moving.{AreNormalBy, StepSlices, or_nothing}
+use Rattle.mob_ordinary.proofs.Functions.{one_of_steps}
+use Rattle.mob_tagg.specs.Gathered.{united_all, parts_at, whole_at}
+use Rattle.mob_tagg.specs.United.{united_by}
+use Rattle.mob_tagg.specs.declared.parts.Part.{Part}
+use Rattle.mob_tagg.proofs.Unions.{normal_union}
+use Rattle.mob_aggregates.specs.Aggregates.{IsAggregate, JoinsBy, count, all_hold, some_holds}
+use Rattle.mob_aggregates.proofs.Joining.{count_joins, all_joins, some_joins}
+use Rattle.mob_tail.specs.declared.state.State.{State}
+use Rattle.mob_tail.specs.declared.state.State.TheVariants.{Whole, Counts, All, Any}
+use Rattle.mob_tail.specs.Aggregated.{IsOverTime, IsAggregated, IsUnion, IsAggregateWith, leaves_out, one_there, truth_there, slices_there, steps_of, truths_of}
+use Rattle.mob_tail.specs.States.{AreTogether, is_in_parts, IsHeld, IsStartState, IsStateWith}
+use Rattle.mob_tail.proofs.Aggregating.{over_more, seen_steps, seen_truths, all_alone, some_alone, left_out_with}
+use Rattle.mob_tail.proofs.CountsFit.{count_fits}
+
+none_some : {A R : Type 0} (x : A) → None ≡ Some x → R
+none_some x e = cc
+
+-- ---- parts that are together a value
+
+module _ {B : Type 0} (is_same : B → B → Bool) (exact : (a b : B) → IsTrue (is_same a b) ↔ (a ≡ b)) (make : StepSlices B → Value) (see : Value → Option (StepSlices B)) (seen : (r : Option (StepSlices B)) → see (or_nothing make r) ≡ r) (op : B → B → B) where
+  held_as : (parts : List (Part (Steady B) B)) (o : Option (StepSlices B)) → MatchOption o (Unit {0}) (AreNormalBy (steady_course is_same)) → ((t : Ratio) → united_all op (parts_at steady_value parts t) ≡ slices_there steady_value o t) → AreTogether is_same make see op parts (or_nothing make o)
+  held_as parts o n e = record {
+    seen = ap (or_nothing make) (sym (seen o));
+    normal = subst (λ z. MatchOption z (Unit {0}) (AreNormalBy (steady_course is_same))) (sym (seen o)) n;
+    at_each = λ t. e t ∙ ap (λ z. slices_there steady_value z t) (sym (seen o));
+  }
+
+  -- no part
+  pub none_together : (parts : List (Part (Steady B) B)) → parts ≡ [] → AreTogether is_same make see op parts Null
+  none_together parts e = held_as parts None tt (λ t. ap (λ z. united_all op (parts_at steady_value z t)) e)
+
+  -- one value more among the parts
+  held_more : (parts new : List (Part (Steady B) B)) (r : Value) (w : StepSlices B) → AreTogether is_same make see op parts r → AreNormalBy (steady_course is_same) w
+      → ((t : Ratio) → united_all op (parts_at steady_value new t) ≡ united_by op (united_all op (parts_at steady_value parts t)) (value_at steady_value w t)) → (u : Value) × AreTogether is_same make see op new u × IsUnion (steady_course is_same) make op (see r) (Some w) r u
+  held_more parts new r w h n e = by (see r) h.normal (λ t. e t ∙ ap (λ z. united_by op z (value_at steady_value w t)) (h.at_each t))
+    where
+      by : (o : Option (StepSlices B)) → MatchOption o (Unit {0}) (AreNormalBy (steady_course is_same)) → ((t : Ratio) → united_all op (parts_at steady_value new t) ≡ united_by op (slices_there steady_value o t) (value_at steady_value w t))
+          → (u : Value) × AreTogether is_same make see op new u × IsUnion (steady_course is_same) make op o (Some w) r u
+      by None m f = (make w, held_as new (Some w) n f, refl)
+      by (Some v) m f = let x = normal_union is_same exact op v w m n in (make x.0, held_as new (Some x.0) x.1 (λ t. f t ∙ sym (x.2 t)), (x.0, refl, x.1, x.2))
+
+  union_none : (o : Option (StepSlices B)) (r : Value) → IsUnion (steady_course is_same) make op o None r r
+  union_none None r = refl
+  union_none (Some t) r = refl
+
+  module _ {A : Type 0} (f : List A → B) (joins : JoinsBy op f) (there : Value → Ratio → Option A) where
+    pub more_together : (parts new : List (Part (Steady B) B)) (vs : List Value) (r v : Value) (w : StepSlices B) → AreTogether is_same make see op parts r → IsOverTime (steady_course is_same) make f there vs r → IsAggregate there steady_value steady_limit steady_limit (steady_course is_same).continues f (v ∷ []) (Some w)
+        → ((t : Ratio) → united_all op (parts_at steady_value new t) ≡ united_by op (united_all op (parts_at steady_value parts t)) (value_at steady_value w t)) → (u : Value) × AreTogether is_same make see op new u × IsOverTime (steady_course is_same) make f there (vs ++ v ∷ []) u
+    more_together parts new vs r v w held h one e =
+        let more = held_more parts new r w held one.0 e in
+        (more.0, more.1, over_more (steady_course is_same) make see seen op f joins there vs r v more.0 (Some w) h one more.2)
+
+    pub same_together : (vs : List Value) (r v : Value) → IsOverTime (steady_course is_same) make f there vs r → IsAggregate there steady_value steady_limit steady_limit (steady_course is_same).continues f (v ∷ []) None → IsOverTime (steady_course is_same) make f there (vs ++ v ∷ []) r
+    same_together vs r v h one = over_more (steady_course is_same) make see seen op f joins there vs r v r None h one (union_none (see r) r)
+
+  -- ---- the value of parts
+
+  no_value : (w : StepSlices B) → AreNormalBy (steady_course is_same) w → ((t : Ratio) → None ≡ value_at steady_value w t) → {R : Type 0} → R
+  no_value [] n e = absurd (n.some refl)
+  no_value (s ∷ w) n e = let i = some_instant s.span n.chained.0.some in none_some s.course.value (e i.0 ∙ ap (λ b. cond b (Some s.course.value) (value_at steady_value w i.0)) i.1)
+
+  one_option : (o p : Option (StepSlices B)) → MatchOption o (Unit {0}) (AreNormalBy (steady_course is_same)) → MatchOption p (Unit {0}) (AreNormalBy (steady_course is_same)) → ((t : Ratio) → whole_at steady_value o t ≡ slices_there steady_value p t) → o ≡ p
+  one_option None None n m e = refl
+  one_option None (Some w) n m e = no_value w m e
+  one_option (Some v) None n m e = no_value v n (λ t. sym (e t))
+  one_option (Some v) (Some w) n m e = ap Some (one_of_steps is_same exact v w n.chained m.chained e)
+
+  left_alone : (x : Option B) → united_by op x None ≡ x
+  left_alone None = refl
+  left_alone (Some x) = refl
+
+  -- what the parts are together is that value
+  pub together_is : (parts : List (Part (Steady B) B)) (r : Value) (o : Option (StepSlices B)) → AreTogether is_same make see op parts r → MatchOption o (Unit {0}) (AreNormalBy (steady_course is_same))
+      → ((t : Ratio) → whole_at steady_value o t ≡ united_by op (united_all op (parts_at steady_value parts t)) None) → or_nothing make o ≡ r
+  together_is parts r o h n e = ap (or_nothing make) (one_option o (see r) n h.normal (λ t. e t ∙ left_alone (united_all op (parts_at steady_value parts t)) ∙ h.at_each t)) ∙ sym h.seen
+
+-- ---- what is held as it is
+
+held_whole : (kind : AggKind) (v r : Value) → IsHeld kind (Whole v) r → (is_in_parts kind ≡ false) × (v ≡ r)
+held_whole CountAll v r h = (refl, h)
+held_whole Count v r h = (refl, h)
+held_whole Sum v r h = (refl, h)
+held_whole TSum v r h = (refl, h)
+held_whole TCount v r h = absurd h
+held_whole TAnd v r h = absurd h
+held_whole TOr v r h = absurd h
+
+whole_held : (kind : AggKind) (v : Value) → is_in_parts kind ≡ false → IsHeld kind (Whole v) v
+whole_held CountAll v h = refl
+whole_held Count v h = refl
+whole_held Sum v h = refl
+whole_held TSum v h = refl
+whole_held TCount v h = absurd cc
+whole_held TAnd v h = absurd cc
+whole_held TOr v h = absurd cc
+
+pub whole_is : (kind : AggKind) (v r : Value) → IsHeld kind (Whole v) r → v ≡ r
+whole_is kind v r h = (held_whole kind v r h).1
+
+pub start_whole : (kind : AggKind) (v : Value) → is_in_parts kind ≡ false → ((ty : SqlType) → IsAggregated kind ty [] v) → IsStartState kind (Whole v)
+start_whole kind v p h = λ ty. (v, whole_held kind v p, h ty)
+
+pub whole_ok : (left_out : Bool) (kind : AggKind) (ty : SqlType) (before v w : Value) → (is_in_parts kind ≡ false → IsAggregateWith left_out kind ty before v (Ok w)) → IsStateWith left_out kind ty (Whole before) v (Ok (Whole w))
+whole_ok left_out kind ty before v w f = λ r held vs h few.
+    let is = held_whole kind before r held in
+    let both = f is.0 vs (subst (λ z. IsAggregated kind ty vs z) (sym is.1) h) in
+    (w, whole_held kind w is.0, both.0, both.1)
+
+pub whole_err : (left_out : Bool) (kind : AggKind) (ty : SqlType) (before v : Value) (e : OpFault) → (is_in_parts kind ≡ false → IsAggregateWith left_out kind ty before v (Err e)) → IsStateWith left_out kind ty (Whole before) v (Err e)
+whole_err left_out kind ty before v (Passed g) f = λ r held vs h.
+    let is = held_whole kind before r held in
+    f is.0 vs (subst (λ z. IsAggregated kind ty vs z) (sym is.1) h)
+whole_err left_out kind ty before v NoMemory f = tt
+
+-- a value that is left out
+pub left_out_state : (kind : AggKind) (ty : SqlType) (s : State) (v : Value) → true ≡ leaves_out kind v → IsStateWith (leaves_out kind v) kind ty s v (Ok s)
+left_out_state kind ty s v e = λ r held vs h few. let both = left_out_with kind ty r v e vs h in (r, held, both.0, both.1)
+
+-- ---- what is held in parts
+
+not_held : (left_out : Bool) (kind : AggKind) (ty : SqlType) (s : State) (v : Value) (r : Result State OpFault) → ((x : Value) → IsHeld kind s x → ⊥) → IsStateWith left_out kind ty s v r
+not_held left_out kind ty s v (Ok x) no = λ r held. absurd (no r held)
+not_held left_out kind ty s v (Err (Passed f)) no = λ r held. absurd (no r held)
+not_held left_out kind ty s v (Err NoMemory) no = tt
+
+abbrev CountParts : Type 0
+CountParts = List (Part (Steady Ratio) Ratio)
+
+abbrev TruthParts : Type 0
+TruthParts = List (Part (Steady Bool) Bool)
+
+pub counts_held : (kind : AggKind) (parts : CountParts) (r : Value) → IsHeld kind (Counts parts) r → AreTogether same MovingInt steps_of sum_of parts r
+counts_held TCount parts r h = h
+counts_held CountAll parts r h = absurd h
+counts_held Count parts r h = absurd h
+counts_held Sum parts r h = absurd h
+counts_held TSum parts r h = absurd h
+counts_held TAnd parts r h = absurd h
+counts_held TOr parts r h = absurd h
+
+pub all_held : (kind : AggKind) (parts : TruthParts) (r : Value) → IsHeld kind (All parts) r → AreTogether same_bool MovingBool truths_of both_hold parts r
+all_held TAnd parts r h = h
+all_held CountAll parts r h = absurd h
+all_held Count parts r h = absurd h
+all_held Sum parts r h = absurd h
+all_held TSum parts r h = absurd h
+all_held TCount parts r h = absurd h
+all_held TOr parts r h = absurd h
+
+pub any_held : (kind : AggKind) (parts : TruthParts) (r : Value) → IsHeld kind (Any parts) r → AreTogether same_bool MovingBool truths_of one_holds parts r
+any_held TOr parts r h = h
+any_held CountAll parts r h = absurd h
+any_held Count parts r h = absurd h
+any_held Sum parts r h = absurd h
+any_held TSum parts r h = absurd h
+any_held TCount parts r h = absurd h
+any_held TAnd parts r h = absurd h
+
+-- what holds of the one kind that is held so holds of every kind
+pub counts_at : (kind : AggKind) (ty : SqlType) (parts : CountParts) (v : Value) (r : Result State OpFault) → false ≡ leaves_out kind v → IsStateWith false TCount ty (Counts parts) v r → IsStateWith (leaves_out kind v) kind ty (Counts parts) v r
+counts_at TCount ty parts v r e h = subst (λ b. IsStateWith b TCount ty (Counts parts) v r) e h
+counts_at CountAll ty parts v r e h = not_held (leaves_out CountAll v) CountAll ty (Counts parts) v r (λ x k. k)
+counts_at Count ty parts v r e h = not_held (leaves_out Count v) Count ty (Counts parts) v r (λ x k. k)
+counts_at Sum ty parts v r e h = not_held (leaves_out Sum v) Sum ty (Counts parts) v r (λ x k. k)
+counts_at TSum ty parts v r e h = not_held (leaves_out TSum v) TSum ty (Counts parts) v r (λ x k. k)
+counts_at TAnd ty parts v r e h = not_held (leaves_out TAnd v) TAnd ty (Counts parts) v r (λ x k. k)
+counts_at TOr ty parts v r e h = not_held (leaves_out TOr v) TOr ty (Counts parts) v r (λ x k. k)
+
+pub all_at : (kind : AggKind) (ty : SqlType) (parts : TruthParts) (v : Value) (r : Result State OpFault) → false ≡ leaves_out kind v → IsStateWith false TAnd ty (All parts) v r → IsStateWith (leaves_out kind v) kind ty (All parts) v r
+all_at TAnd ty parts v r e h = subst (λ b. IsStateWith b TAnd ty (All parts) v r) e h
+all_at CountAll ty parts v r e h = not_held (leaves_out CountAll v) CountAll ty (All parts) v r (λ x k. k)
+all_at Count ty parts v r e h = not_held (leaves_out Count v) Count ty (All parts) v r (λ x k. k)
+all_at Sum ty parts v r e h = not_held (leaves_out Sum v) Sum ty (All parts) v r (λ x k. k)
+all_at TSum ty parts v r e h = not_held (leaves_out TSum v) TSum ty (All parts) v r (λ x k. k)
+all_at TCount ty parts v r e h = not_held (leaves_out TCount v) TCount ty (All parts) v r (λ x k. k)
+all_at TOr ty parts v r e h = not_held (leaves_out TOr v) TOr ty (All parts) v r (λ x k. k)
+
+pub any_at : (kind : AggKind) (ty : SqlType) (parts : TruthParts) (v : Value) (r : Result State OpFault) → false ≡ leaves_out kind v → IsStateWith false TOr ty (Any parts) v r → IsStateWith (leaves_out kind v) kind ty (Any parts) v r
+any_at TOr ty parts v r e h = subst (λ b. IsStateWith b TOr ty (Any parts) v r) e h
+any_at CountAll ty parts v r e h = not_held (leaves_out CountAll v) CountAll ty (Any parts) v r (λ x k. k)
+any_at Count ty parts v r e h = not_held (leaves_out Count v) Count ty (Any parts) v r (λ x k. k)
+any_at Sum ty parts v r e h = not_held (leaves_out Sum v) Sum ty (Any parts) v r (λ x k. k)
+any_at TSum ty parts v r e h = not_held (leaves_out TSum v) TSum ty (Any parts) v r (λ x k. k)
+any_at TCount ty parts v r e h = not_held (leaves_out TCount v) TCount ty (Any parts) v r (λ x k. k)
+any_at TAnd ty parts v r e h = not_held (leaves_out TAnd v) TAnd ty (Any parts) v r (λ x k. k)
+
+-- ---- one value more
+
+-- the parts new have at each instant what the others have and the value w
+abbrev IsOneMore : {B : Type 0} → (B → B → B) → List (Part (Steady B) B) → List (Part (Steady B) B) → StepSlices B → Type 0
+IsOneMore op parts new w = (t : Ratio) → united_all op (parts_at steady_value new t) ≡ united_by op (united_all op (parts_at steady_value parts t)) (value_at steady_value w t)
+
+-- what is counted of one value
+counted_as : (ty : SqlType) (v : Value) (o : Option (StepSlices Ratio)) → IsAggregated TCount ty (v ∷ []) (or_nothing MovingInt o) → IsAggregate one_there steady_value steady_limit steady_limit (steady_course same).continues count (v ∷ []) o
+counted_as ty v o a = subst (λ z. IsAggregate one_there steady_value steady_limit steady_limit (steady_course same).continues count (v ∷ []) z) (sym (sym (seen_steps o) ∙ ap steps_of a.2 ∙ seen_steps a.0)) a.1
+
+pub counts_more : (ty : SqlType) (parts new : CountParts) (v : Value) (w : StepSlices Ratio) → IsAggregated TCount ty (v ∷ []) (MovingInt w) → IsOneMore sum_of parts new w → IsStateWith false TCount ty (Counts parts) v (Ok (Counts new))
+counts_more ty parts new v w a e = λ r held vs h few.
+    let more = more_together same same_exact MovingInt steps_of seen_steps sum_of count count_joins one_there parts new vs r v w held h (counted_as ty v (Some w) a) e in
+    (more.0, more.1, more.2, (r, h, (MovingInt w, a, count_fits TCount ty vs v r (MovingInt w) refl few h a)))
+
+pub counts_same : (ty : SqlType) (parts : CountParts) (v : Value) → IsAggregated TCount ty (v ∷ []) Null → IsStateWith false TCount ty (Counts parts) v (Ok (Counts parts))
+counts_same ty parts v a = λ r held vs h few.
+    (r, held, same_together same same_exact MovingInt steps_of seen_steps sum_of count count_joins one_there vs r v h (counted_as ty v None a), (r, h, (Null, a, count_fits TCount ty vs v r Null refl few h a)))
+
+pub all_more : (ty : SqlType) (parts new : TruthParts) (v : Value) (w : StepSlices Bool) → truths_of v ≡ Some w → AreNormalBy (steady_course same_bool) w → IsOneMore both_hold parts new w → IsStateWith false TAnd ty (All parts) v (Ok (All new))
+all_more ty parts new v w is n e = λ r held vs h few.
+    let one = all_alone v (subst (λ z. MatchOption z (Unit {0}) (AreNormalBy (steady_course same_bool))) (sym is) n) in
+    let more = more_together same_bool same_bool_exact MovingBool truths_of seen_truths both_hold all_hold all_joins truth_there parts new vs r v w held h (subst (λ z. IsAggregate truth_there steady_value steady_limit steady_limit (steady_course same_bool).continues all_hold (v ∷ []) z) is one) e in
+    (more.0, more.1, more.2, (r, h, (or_nothing MovingBool (truths_of v), (truths_of v, one, refl), refl)))
+
+pub all_same : (ty : SqlType) (parts : TruthParts) (v : Value) → truths_of v ≡ None → IsStateWith false TAnd ty (All parts) v (Ok (All parts))
+all_same ty parts v is = λ r held vs h few.
+    let one = all_alone v (subst (λ z. MatchOption z (Unit {0}) (AreNormalBy (steady_course same_bool))) (sym is) tt) in
+    (r, held, same_together same_bool same_bool_exact MovingBool truths_of seen_truths both_hold all_hold all_joins truth_there vs r v h (subst (λ z. IsAggregate truth_there steady_value steady_limit steady_limit (steady_course same_bool).continues all_hold (v ∷ []) z) is one), (r, h, (or_nothing MovingBool (truths_of v), (truths_of v, one, refl), refl)))
+
+pub any_more : (ty : SqlType) (parts new : TruthParts) (v : Value) (w : StepSlices Bool) → truths_of v ≡ Some w → AreNormalBy (steady_course same_bool) w → IsOneMore one_holds parts new w → IsStateWith false TOr ty (Any parts) v (Ok (Any new))
+any_more ty parts new v w is n e = λ r held vs h few.
+    let one = some_alone v (subst (λ z. MatchOption z (Unit {0}) (AreNormalBy (steady_course same_bool))) (sym is) n) in
+    let more = more_together same_bool same_bool_exact MovingBool truths_of seen_truths one_holds some_holds some_joins truth_there parts new vs r v w held h (subst (λ z. IsAggregate truth_there steady_value steady_limit steady_limit (steady_course same_bool).continues some_holds (v ∷ []) z) is one) e in
+    (more.0, more.1, more.2, (r, h, (or_nothing MovingBool (truths_of v), (truths_of v, one, refl), refl)))
+
+pub any_same : (ty : SqlType) (parts : TruthParts) (v : Value) → truths_of v ≡ None → IsStateWith false TOr ty (Any parts) v (Ok (Any parts))
+any_same ty parts v is = λ r held vs h few.
+    let one = some_alone v (subst (λ z. MatchOption z (Unit {0}) (AreNormalBy (steady_course same_bool))) (sym is) tt) in
+    (r, held, same_together same_bool same_bool_exact MovingBool truths_of seen_truths one_holds some_holds some_joins truth_there vs r v h (subst (λ z. IsAggregate truth_there steady_value steady_limit steady_limit (steady_course same_bool).continues some_holds (v ∷ []) z) is one), (r, h, (or_nothing MovingBool (truths_of v), (truths_of v, one, refl), refl)))
+
+-- ---- no value
+
+pub start_counts : (parts : CountParts) → parts ≡ [] → IsStartState TCount (Counts parts)
+start_counts parts e = λ ty. (Null, none_together same same_exact MovingInt steps_of seen_steps sum_of parts e, (None, λ t. refl, refl))
+
+pub start_all : (parts : TruthParts) → parts ≡ [] → IsStartState TAnd (All parts)
+start_all parts e = λ ty. (Null, none_together same_bool same_bool_exact MovingBool truths_of seen_truths both_hold parts e, (None, λ t. refl, refl))
+
+pub start_any : (parts : TruthParts) → parts ≡ [] → IsStartState TOr (Any parts)
+start_any parts e = λ ty. (Null, none_together same_bool same_bool_exact MovingBool truths_of seen_truths one_holds parts e, (None, λ t. refl, refl))
+
+-- ---- the value that is held
+
+pub counts_is : (kind : AggKind) (parts : CountParts) (r : Value) (o : Option (StepSlices Ratio)) → IsHeld kind (Counts parts) r → MatchOption o (Unit {0}) (AreNormalBy (steady_course same)) → ((t : Ratio) → whole_at steady_value o t ≡ united_by sum_of (united_all sum_of (parts_at steady_value parts t)) None) → or_nothing MovingInt o ≡ r
+counts_is kind parts r o h n e = together_is same same_exact MovingInt steps_of seen_steps sum_of parts r o (counts_held kind parts r h) n e
+
+pub all_is : (kind : AggKind) (parts : TruthParts) (r : Value) (o : Option (StepSlices Bool)) → IsHeld kind (All parts) r → MatchOption o (Unit {0}) (AreNormalBy (steady_course same_bool)) → ((t : Ratio) → whole_at steady_value o t ≡ united_by both_hold (united_all both_hold (parts_at steady_value parts t)) None) → or_nothing MovingBool o ≡ r
+all_is kind parts r o h n e = together_is same_bool same_bool_exact MovingBool truths_of seen_truths both_hold parts r o (all_held kind parts r h) n e
+
+pub any_is : (kind : AggKind) (parts : TruthParts) (r : Value) (o : Option (StepSlices Bool)) → IsHeld kind (Any parts) r → MatchOption o (Unit {0}) (AreNormalBy (steady_course same_bool)) → ((t : Ratio) → whole_at steady_value o t ≡ united_by one_holds (united_all one_holds (parts_at steady_value parts t)) None) → or_nothing MovingBool o ≡ r
+any_is kind parts r o h n e = together_is same_bool same_bool_exact MovingBool truths_of seen_truths one_holds parts r o (any_held kind parts r h) n e

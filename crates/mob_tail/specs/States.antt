@@ -1,0 +1,68 @@
+-- An aggregate of the values so far, as a group holds it.
+use Rattle.std.specs.Prelude.{◌≡◌, ◌+◌, ◌<◌, ◌^◌, Bool, true, false, List, [], ◌∷◌, ◌++◌, length, Option, Some, None, MatchOption, Result, Ok, Err}
+use Rattle.mob_ratio.specs.Ratio.{Ratio}
+use Rattle.mob_ratio.specs.Order.{same}
+use Rattle.mob_arith.specs.Operations.{sum_of, both_hold, one_holds}
+use Rattle.mob_slice.specs.CourseOf.{steady_course}
+use Rattle.mob_slice.specs.Operands.{steady_value}
+use Rattle.mob_slice.specs.Sameness.{same_bool}
+use Rattle.mob_slice.specs.declared.formula.OpFault.{OpFault}
+use Rattle.mob_slice.specs.declared.formula.OpFault.TheVariants.{Passed, NoMemory}
+use Rattle.mob_slice.specs.declared.steady.Steady.{Steady}
+use Rattle.mob_ast.specs.declared.types.SqlType.{SqlType}
+use Rattle.mob_operators.specs.declared.aggregate.AggKind.{AggKind}
+use Rattle.mob_operators.specs.declared.aggregate.AggKind.TheVariants.{CountAll, Count, TCount, TAnd, TOr}
+use Rattle.mob_value.specs.declared.value.Value.{Value}
+use Rattle.mob_value.specs.declared.value.Value.TheVariants.{MovingBool, MovingInt}
+use Rattle.mob_ordinary.specs.Moving.{AreNormalBy, StepSlices, or_nothing}
+use Rattle.mob_tagg.specs.Gathered.{united_all, parts_at}
+use Rattle.mob_tagg.specs.declared.parts.Part.{Part}
+use Rattle.mob_tail.specs.declared.state.State.{State}
+use Rattle.mob_tail.specs.declared.state.State.TheVariants.{Whole, Counts, All, Any}
+use Rattle.mob_tail.specs.Aggregated.{steps_of, truths_of, slices_there, IsAggregated, AddingPasses}
+
+-- The parts are together, by the operation, the value r: at each instant they have what it has. It
+-- is a normal value or NULL.
+pub record AreTogether {B : Type 0} (is_same : B → B → Bool) (make : StepSlices B → Value) (see : Value → Option (StepSlices B)) (op : B → B → B) (parts : List (Part (Steady B) B)) (r : Value) : Type 0 where
+  pub seen : r ≡ or_nothing make (see r)
+  pub normal : MatchOption (see r) (Unit {0}) (AreNormalBy (steady_course is_same))
+  pub at_each : (t : Ratio) → united_all op (parts_at steady_value parts t) ≡ slices_there steady_value (see r) t
+
+-- the aggregates that are held in parts: those over time for which the order of adding is free
+abbrev pub is_in_parts : AggKind → Bool
+is_in_parts TCount = true
+is_in_parts TAnd = true
+is_in_parts TOr = true
+is_in_parts _ = false
+
+-- the counts
+abbrev pub is_count : AggKind → Bool
+is_count CountAll = true
+is_count Count = true
+is_count TCount = true
+is_count _ = false
+
+-- what is held for an aggregate of this kind is the value r
+abbrev pub IsHeld : AggKind → State → Value → Type 0
+IsHeld TCount (Counts parts) r = AreTogether same MovingInt steps_of sum_of parts r
+IsHeld TCount _ r = ⊥
+IsHeld TAnd (All parts) r = AreTogether same_bool MovingBool truths_of both_hold parts r
+IsHeld TAnd _ r = ⊥
+IsHeld TOr (Any parts) r = AreTogether same_bool MovingBool truths_of one_holds parts r
+IsHeld TOr _ r = ⊥
+IsHeld kind (Whole v) r = v ≡ r
+IsHeld kind _ r = ⊥
+
+-- what is held for the aggregate of no value
+abbrev pub IsStartState : AggKind → State → Type 0
+IsStartState kind s = (ty : SqlType) → (r : Value) × IsHeld kind s r × IsAggregated kind ty [] r
+
+-- What holds of the state of an aggregate of fewer than 2^62 values with one more, where `before`
+-- is that of the values without it; or of the formula that adding it passes. The first argument
+-- says whether the value is left out.
+abbrev pub IsStateWith : Bool → AggKind → SqlType → State → Value → Result State OpFault → Type 0
+IsStateWith left_out kind ty before v (Ok s) =
+    (r : Value) → IsHeld kind before r → (vs : List Value) → IsAggregated kind ty vs r → length vs + 1 < 2 ^ 62
+    → (u : Value) × IsHeld kind s u × IsAggregated kind ty (vs ++ v ∷ []) u × AddingPasses left_out kind ty vs v None
+IsStateWith left_out kind ty before v (Err (Passed f)) = (r : Value) → IsHeld kind before r → (vs : List Value) → IsAggregated kind ty vs r → AddingPasses left_out kind ty vs v (Some f)
+IsStateWith left_out kind ty before v (Err NoMemory) = Unit {0}
