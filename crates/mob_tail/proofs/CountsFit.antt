@@ -88,7 +88,7 @@ module _ (P Q : Ratio → Type 0) (fits : (x y : Ratio) → P x → Q y → Fits
 
   entries_fit : (qs : List Piece) → AllByRecursion Both qs → IsFirst (flat_map (entries_at_ends steady_value steady_parts steady_value steady_parts sum_parts) (map (λ q. record { span = q.span; left = Moves q.left; right = Moves q.right }) qs)) None
   entries_fit [] h = refl
-  entries_fit (q ∷ qs) h = let fit = fits q.left.course.value q.right.course.value h.0.0 h.0.1 in inl (tt, inl ((fit, fit, tt), entries_fit qs h.1))
+  entries_fit (q ∷ qs) h = let fit = fits q.left.course.value q.right.course.value h.0.0 h.0.1 in inl (tt, inl ((fit, (fit, tt)), entries_fit qs h.1))
 
   pub sums_fit : (v w : StepSlices Ratio) → AllByRecursion (λ s. P s.course.value) v → AllByRecursion (λ r. Q r.course.value) w → IsFirst (flat_map (entries_at_ends steady_value steady_parts steady_value steady_parts sum_parts) (pieces (Slices v) (Slices w))) None
   sums_fit v w h k = entries_fit (shared_pieces (λ s. s.span) (λ r. r.span) v w) (shared v w h k)

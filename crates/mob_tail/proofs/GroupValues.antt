@@ -77,7 +77,7 @@ moments_told day t u f g e = by (is_dated day t) (is_dated day u) refl refl
 
 -- no moment is printed as NULL
 no_null : {R : Type 0} (day : ℤ) (t : Ratio) → Fits t → field_text day value.Null ≡ moment_text day t → R
-unfolding is_dated
+unfolding is_dated far_text
 no_null {R} day t f e = by (is_dated day t) refl
   where
     by : (b : Bool) → is_dated day t ≡ b → R
@@ -85,7 +85,6 @@ no_null {R} day t f e = by (is_dated day t) refl
     by false p = no_far (e ∙ far_is day t p)
       where
         no_far : codes "\\N" ≡ far_text t → R
-        unfolding far_text
         no_far k = absurd (cc k)
 
 -- ---- values of a type that a column of GROUP BY may have

@@ -140,9 +140,9 @@ left_out_state kind ty s v e = λ r held vs h few. let both = left_out_with kind
 -- ---- what is held in parts
 
 not_held : (left_out : Bool) (kind : AggKind) (ty : SqlType) (s : State) (v : Value) (r : Result State OpFault) → ((x : Value) → IsHeld kind s x → ⊥) → IsStateWith left_out kind ty s v r
-not_held left_out kind ty s v (Ok x) no = λ r held. absurd (no r held)
-not_held left_out kind ty s v (Err (Passed f)) no = λ r held. absurd (no r held)
-not_held left_out kind ty s v (Err NoMemory) no = tt
+not_held left_out kind ty s v (Ok x) never = λ r held. absurd (never r held)
+not_held left_out kind ty s v (Err (Passed f)) never = λ r held. absurd (never r held)
+not_held left_out kind ty s v (Err NoMemory) never = tt
 
 abbrev CountParts : Type 0
 CountParts = List (Part (Steady Ratio) Ratio)

@@ -22,5 +22,5 @@ returns-in-Ok-gathered c = rw c.in-All.is (record {
 
 pub returns-in-Ok-gathered-2 : goal.returns-in-Ok-gathered-2
 returns-in-Ok-gathered-2 c = rw c.in-Any.is (record {
-  value = λ kind r h. c.bool_or_null-in-Any.ensures.value ∙ any_is kind c.in-Any.parts r c.in-Ok-gathered-2.all h c.bool_or_null-in-Any.ensures.normal (λ t. c.in-Ok-gathered-2.ensures.same t ∙ ap (λ z. united_by one_holds (united_all one_holds (parts_at steady_value z t)) None) c.into_vec-in-Any.ensures.same);
+  value = λ kind r h. c.bool_or_null-in-Ok-gathered-2.ensures.value ∙ any_is kind c.in-Any.parts r c.in-Ok-gathered-2.all h c.bool_or_null-in-Ok-gathered-2.ensures.normal (λ t. c.in-Ok-gathered-2.ensures.same t ∙ ap (λ z. united_by one_holds (united_all one_holds (parts_at steady_value z t)) None) c.into_vec-in-Any.ensures.same);
 })
