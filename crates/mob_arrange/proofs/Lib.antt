@@ -1,6 +1,6 @@
 mod Carried
 mod Given
-mod OneOrder
-mod Orders
-mod Seen
+pub mod OneOrder
+pub mod Orders
+pub mod Seen
 mod WholeNumbers

@@ -150,11 +150,7 @@ fn row_before<'a>(
     }
 }
 
-fn row_on<'a>(
-    alloc: Global,
-    select: &TypedSelect,
-    view: &View<'a>,
-) -> Result<Row<'a>, EvalFault>
+fn row_on<'a>(alloc: Global, select: &TypedSelect, view: &View<'a>) -> Result<Row<'a>, EvalFault>
     ensures row { IfOk result (λ row. IsRowOf (select_seen select.now) (scene_of view.now) (Ok (answer_row (select_seen select.now) view.now.epoch.now row))) }
     ensures fault { IfErr result (OnPassed (λ f. IsRowOf (select_seen select.now) (scene_of view.now) (Err f))) }
 {
