@@ -4,4 +4,5 @@ pub mod Keyed
 pub mod Order
 pub mod RowValues
 pub mod Rows
+pub mod RowsText
 pub mod TextsSeen

@@ -21,10 +21,6 @@ abbrev pub limited : {X : Type 0} → Option ℕ → List X → List X
 limited None xs = xs
 limited (Some n) xs = take n xs
 
--- what is given of rows that are in order
-abbrev pub IsGivenOf : {X : Type 0} → Bool → Option ℕ → List X → List X → Type 0
-IsGivenOf {X} distinct limit rows answer = (kept : List X) × AreDistinct distinct rows kept × (answer ≡ limited limit kept)
-
 -- The rows are put in the order of their keys, then the first of equal ones is taken where they are to be distinct, then they are cut.
 pub record AreArranged (falls : List Bool) (distinct : Bool) (limit : Option ℕ) (rows : List Keyed) (answer : List (List (List ℕ))) : Type 0 where
   pub ordered : List Keyed

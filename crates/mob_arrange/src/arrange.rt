@@ -1,9 +1,10 @@
-// The rows of an answer from the rows with their keys.
+// The text of an answer from its rows.
 ghost use Rattle.std.specs.Prelude.{◌≡◌, IfOk, length, map, drop, true, false};
 ghost use Rattle.mob_literal.specs.Fields.{field_text};
 ghost use Rattle.mob_arrange.specs.Keyed.{row_of_values};
 ghost use Rattle.mob_arrange.specs.RowValues.{row_value};
-ghost use Rattle.mob_arrange.specs.Rows.{AreArranged, IsGivenOf, limited};
+ghost use Rattle.mob_arrange.specs.Rows.{limited};
+ghost use Rattle.mob_arrange.specs.RowsText.{IsTextOfGiven, IsTextOfArranged};
 
 use crate::distinct::distinct;
 use crate::order::order;
@@ -12,6 +13,7 @@ use crate::rows::Row;
 use mob_list::items::Items;
 use mob_list::text::Text;
 use mob_literal::write_field;
+use mob_records::{counted_text, counted_text_by};
 use mob_scalar::Epoch;
 use std::alloc::{AllocError, Global};
 
@@ -85,55 +87,61 @@ fn cut<T: Drop>(limit: Option<u64>, rows: &mut Vec<T>)
     }
 }
 
-// All rows are cut, and what is left is printed.
-fn all_rows(
+// All rows are cut, and what is left is printed, a row where it is written.
+fn all_text(
     alloc: Global,
+    names: &[Text],
     keys: usize,
     limit: Option<u64>,
     mut rows: Vec<Row<'_>>,
     epoch: &Epoch,
-) -> Result<Items<Items<Text>>, AllocError>
-    ensures given { IfOk result (λ answer. IsGivenOf false limit (map (λ row. map (field_text epoch.now) (drop keys row)) rows.entry.items) answer) }
+) -> Result<Vec<u8>, AllocError>
+    ensures text { IfOk result (λ text. IsTextOfGiven names.now false limit (map (λ row. map (field_text epoch.now) (drop keys row)) rows.entry.items) text.items) }
 {
     cut(limit, &mut rows);
-    let fields = printed(alloc, keys, rows, epoch)?;
-    Ok(Items::from_vec(fields))
+    let print = |row: &Row<'_>| -> Result<Items<Text>, AllocError>
+        ensures fields { IfOk result (λ fields. fields ≡ map (field_text epoch.entry.now) (drop keys row.now)) }
+    { fields_of(alloc, keys, row, epoch) };
+    counted_text_by(alloc, names, rows.as_slice(), print)
 }
 
 // All rows are printed, since it is their fields that are told apart, and of equal ones the first
 // is cut.
-fn distinct_rows(
+fn distinct_text(
     alloc: Global,
+    names: &[Text],
     keys: usize,
     limit: Option<u64>,
     rows: Vec<Row<'_>>,
     epoch: &Epoch,
-) -> Result<Items<Items<Text>>, AllocError>
-    ensures given { IfOk result (λ answer. IsGivenOf true limit (map (λ row. map (field_text epoch.now) (drop keys row)) rows.entry.items) answer) }
+) -> Result<Vec<u8>, AllocError>
+    ensures text { IfOk result (λ text. IsTextOfGiven names.now true limit (map (λ row. map (field_text epoch.now) (drop keys row)) rows.entry.items) text.items) }
 {
     let fields = printed(alloc, keys, rows, epoch)?;
     let mut kept = distinct(alloc, fields)?;
     cut(limit, &mut kept);
-    Ok(Items::from_vec(kept))
+    counted_text(alloc, names, kept.as_slice())
 }
 
-/// The rows in the order of their keys, where `falls` says for each key whether it falls; of equal
-/// rows only the first where `is_distinct` is true; and no more than `limit` from the front. Without
-/// `is_distinct` no row is printed that the limit drops.
-pub fn arranged(
+/// The text of an answer with these names and rows: the rows are put in the order of their keys,
+/// where `falls` says for each key whether it falls; of equal ones only the first is given where
+/// `is_distinct` is true; and no more than `limit` are given. Without `is_distinct` a row is printed
+/// where it is written, and none is that the limit drops.
+pub fn arranged_text(
     alloc: Global,
+    names: &[Text],
     falls: &[bool],
     is_distinct: bool,
     limit: Option<u64>,
     mut rows: Vec<Row<'_>>,
     epoch: &Epoch,
-) -> Result<Items<Items<Text>>, AllocError>
-    ensures arranged { IfOk result (λ answer. AreArranged falls.now is_distinct limit (map (row_of_values epoch.now (length falls.now)) rows.entry.items) answer) }
+) -> Result<Vec<u8>, AllocError>
+    ensures text { IfOk result (λ text. IsTextOfArranged names.now falls.now is_distinct limit (map (row_of_values epoch.now (length falls.now)) rows.entry.items) text.items) }
 {
     order(falls, &mut rows)?;
     if is_distinct {
-        distinct_rows(alloc, falls.len(), limit, rows, epoch)
+        distinct_text(alloc, names, falls.len(), limit, rows, epoch)
     } else {
-        all_rows(alloc, falls.len(), limit, rows, epoch)
+        all_text(alloc, names, falls.len(), limit, rows, epoch)
     }
 }

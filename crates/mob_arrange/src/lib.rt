@@ -7,6 +7,6 @@ mod order;
 mod row_values;
 mod rows;
 
-pub use arrange::arranged;
+pub use arrange::arranged_text;
 pub use row_values::RowValue;
 pub use rows::Row;

@@ -1,5 +1,5 @@
 -- Rows as values, and as they are printed.
-use Rattle.std.proofs.Common.{◌≡◌, ℕ, ℤ, ◌+◌, Bool, List, [], ◌∷◌, ◌++◌, Ok, length, map, take, drop, refl, sym, ap, ap₂, subst, ◌∙◌, arith}
+use Rattle.std.proofs.Common.{◌≡◌, ℕ, ℤ, ◌+◌, Bool, List, [], ◌∷◌, ◌++◌, Ok, length, map, take, drop, refl, sym, ap, subst, ◌∙◌, arith}
 use Rattle.std.specs.List.{AllZip}
 use Rattle.std.proofs.Math.Seq.{take-append_seam, drop-append_seam}
 use Rattle.mob_typed.specs.Trees.{TypedTree}
@@ -7,7 +7,6 @@ use Rattle.mob_typed.specs.Selects.{TypedSelectParts}
 use Rattle.mob_value.specs.declared.value.Value.{Value}
 use Rattle.mob_literal.specs.Fields.{field_text}
 use Rattle.mob_meaning.specs.Scene.{Scene}
-use Rattle.mob_arrange.specs.Keyed.{Keyed, row_of_values}
 use Rattle.mob_tail.specs.IsMadeOfEach.{IsMadeOfEach}
 use Rattle.mob_tail.specs.Answers.{IsField, IsKey, IsRowOf}
 use Rattle.mob_value.specs.declared.store.Store.{Store}

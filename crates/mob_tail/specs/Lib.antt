@@ -6,6 +6,7 @@ pub mod GroupedAnswers
 pub mod Groups
 pub mod IsMadeOfEach
 pub mod AnswerRows
+pub mod AnswerTexts
 pub mod Outcomes
 pub mod PlanAnswers
 pub mod States

@@ -1,4 +1,4 @@
-//! What a query answers on the tuples that it keeps, what EXPLAIN answers, and the text in which an answer is written.
+//! The text of what a query answers on the tuples that it keeps, and of what EXPLAIN answers.
 #![tactic(auto)]
 
 mod adding;
@@ -10,8 +10,6 @@ mod grouping;
 pub mod laws;
 mod plans;
 mod state;
-mod text;
 
-pub use answers::{Answer, answer_to};
-pub use plans::plan_answer;
-pub use text::answer_text;
+pub use answers::answered_text;
+pub use plans::plan_text;

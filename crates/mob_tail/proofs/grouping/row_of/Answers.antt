@@ -1,4 +1,4 @@
-use Rattle.std.proofs.Common.{sym, ◌∙◌, subst}
+use Rattle.std.proofs.Common.{sym, subst}
 use Rattle.std.specs.List.{AllZip}
 use Rattle.mob_typed.specs.Selects.{select_seen}
 use Rattle.mob_tail.specs.GroupedAnswers.{columns_of, IsColumnValue}
