@@ -30,9 +30,6 @@ use mob_typed::{TExpr, TypedSelect};
 use mob_value::{Store, Value};
 use std::alloc::{AllocError, Global};
 
-// No memory has so many tuples. Of fewer no count passes a formula.
-const MOST_TUPLES: usize = 4611686018427387904;
-
 // The printed field of a value.
 fn text_of(alloc: Global, value: &Value, epoch: &Epoch) -> Result<Text, AllocError>
     ensures text { IfOk result (λ text. text ≡ field_text epoch.now value.now) }
@@ -331,9 +328,6 @@ pub fn grouped_rows<'a>(
     ensures fits { IfOk result (λ _. IsGroupedFault (select_seen select.now) store.now epoch.now kept.now None) }
     ensures fault { IfErr result (OnTuple (λ f. IsGroupedFault (select_seen select.now) store.now epoch.now kept.now (Some f))) }
 {
-    if kept.len() >= MOST_TUPLES {
-        return Err(QueryFault::NoMemory);
-    }
     let Ok((numbers, mut groups)) = begun(alloc, select, store, kept, epoch) else {
         return Err(QueryFault::NoMemory);
     };
