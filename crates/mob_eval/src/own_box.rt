@@ -2,13 +2,16 @@
 //!
 //! The box of a moving point takes a pass over its slices. The first evaluation that needs the box
 //! of such an operand on a row keeps it, and each later one takes it from there.
-ghost use Rattle.std.specs.Prelude.{◌≡◌, Ok, Some, None, IfSome};
+ghost use Rattle.std.specs.Prelude.{◌≡◌, ◌∷◌, [], Ok, Some, None, IfSome};
 ghost use Rattle.mob_typed.specs.Trees.{typed_of};
 ghost use Rattle.mob_value.specs.ValueBoxes.{OnBox};
-ghost use Rattle.mob_meaning.specs.Evaluation.{EvaluatesTo};
+ghost use Rattle.mob_meaning.specs.Boxes.{IsOverlap};
+ghost use Rattle.mob_meaning.specs.Evaluation.{EvaluatesTo, OperandsEvaluateTo};
 ghost use Rattle.mob_eval.specs.Views.{scene_of};
-ghost use Rattle.mob_eval.specs.Remembered.{Fits, IsBoxTold};
+ghost use Rattle.mob_eval.specs.SoFar.{trees};
+ghost use Rattle.mob_eval.specs.Remembered.{AllFit, Fits, IsBoxTold};
 
+use crate::boxes::{overlap, overlap_of};
 use crate::memory::{Memory, box_cell_of};
 use crate::remembered::{Cell, Remembering, has_room};
 use crate::scene::View;
@@ -93,8 +96,8 @@ fn keep<K: Remembering>(alloc: Global, cell: &Cell<'_, ToldBox<K>>, area: StBox)
     let _set = cell.kept.set(boxed);
 }
 
-/// The box that the value of an operand has, if it has one: from the memory, if it is there.
-pub fn box_with<'a, K: Remembering>(
+// The box that the value of an operand has, if it has one: from the memory, if it is there.
+fn box_with<'a, K: Remembering>(
     alloc: Global,
     operand: &TExpr,
     value: &Value,
@@ -116,4 +119,27 @@ pub fn box_with<'a, K: Remembering>(
     };
     keep(alloc, &cell, area);
     Some(area)
+}
+
+/// `&&` with a memory, from which the boxes of its operands are taken.
+pub fn overlap_with<'a, K: Remembering>(
+    alloc: Global,
+    operands: &[TExpr],
+    left: &Value,
+    right: &Value,
+    view: &View<'a>,
+    memory: Option<&'a Memory<K>>,
+) -> Value
+    requires fits { AllFit K.recollection (scene_of view.now) (trees operands.now) }
+    requires given { OperandsEvaluateTo (scene_of view.now) None (trees operands.now) (Ok (left.now ∷ right.now ∷ [])) }
+    ensures value { IsOverlap left.now right.now result }
+{
+    match operands {
+        [one, other] => {
+            let one = box_with(alloc, one, left, view, memory);
+            let other = box_with(alloc, other, right, view, memory);
+            overlap_of(one, other)
+        }
+        _ => overlap(left, right),
+    }
 }
