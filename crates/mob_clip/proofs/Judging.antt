@@ -32,9 +32,17 @@ use Rattle.mob_list.proofs.Each.{each_both}
 use Rattle.mob_clip.specs.declared.sides.Beside.{Beside}
 use Rattle.mob_clip.specs.declared.sides.EdgeEnds.{EdgeEnds}
 use Rattle.mob_clip.specs.declared.roots.EdgePlaced.{EdgePlaced}
-use Rattle.mob_clip.specs.Sides.{beside, beside_parts, with_turn, turning_parts, IsPartFault}
+use Rattle.mob_clip.specs.Sides.{beside, beside_parts, point_parts, with_turn, turning_parts, IsBeside, IsPartFault}
 use Rattle.mob_clip.specs.Roots.{place_edge, placed_edge, listed_ends, edge_roots, IsBetweenEnds, IsPlacedEdge, CutsFit}
 use Rattle.mob_clip.specs.Polygons.{edge_parts, edges_parts, edge_ends, edges_ends, entries_of_edges}
+
+-- ---- the differences to the first end of each edge
+known_each : (p q : Point) (es : List (Point × Point)) → AllFit (flat_map (beside_parts p q) es) → AllByRecursion (IsBeside p q) (map (beside p q) es)
+known_each p q [] h = tt
+known_each p q (e ∷ es) h = ((refl, all_first (point_parts p q e.0) (point_parts p q e.1) (all_first (beside_parts p q e) (flat_map (beside_parts p q) es) h)), known_each p q es (all_second (beside_parts p q e) (flat_map (beside_parts p q) es) h))
+
+pub all_known : (p q : Point) (es : List (Point × Point)) (bs : List Beside) → bs ≡ map (beside p q) es → AllFit (flat_map (beside_parts p q) es) → AllByRecursion (IsBeside p q) bs
+all_known p q es bs e h = rw e (known_each p q es h)
 
 -- ---- parts of three formulas over one list
 module _ {A : Type 0} (f g h : A → List Ratio) where

@@ -1,16 +1,16 @@
 //! How a point on a straight way lies to edges: the linear functions of which the signs say so.
 
 ghost use Rattle.std.specs.Prelude.{◌≡◌, [], ◌∷◌, ◌++◌, map, OnOk, MatchResult};
-ghost use Rattle.std.specs.List.{flat_map};
+ghost use Rattle.std.specs.List.{AllByRecursion, flat_map};
 ghost use Rattle.mob_frac.specs.Formula.{AllFit, IsFormula};
 ghost use Rattle.mob_plane.specs.Turns.{turn_parts};
-ghost use Rattle.mob_clip.specs.Sides.{point_parts, to_point, beside_parts, beside, turning_parts, turning, with_turn, IsPartFault};
+ghost use Rattle.mob_clip.specs.Sides.{point_parts, to_point, beside_parts, beside, turning_parts, turning, turned_by, turned_parts, with_turn, IsBeside, IsPartFault};
 ghost use Rattle.mob_clip.specs.Known.{IsKnown};
 ghost use Rattle.mob_slice.specs.declared.formula.Formula.TheVariants.{F2, F4};
 
 use mob_cells::Ends;
-use mob_frac::Overflow;
-use mob_plane::{Point, turn};
+use mob_frac::{Frac, Overflow};
+use mob_plane::Point;
 use mob_slice::{Formula, OpFault};
 use std::alloc::{AllocError, Global};
 
@@ -77,12 +77,25 @@ fn to_point(p: &Point, q: &Point, v: &Point) -> Result<ToPoint, Overflow>
     })
 }
 
-// The turns of `p` and of `q` with an edge.
-fn turning(p: &Point, q: &Point, edge: &(Point, Point)) -> Result<Ends, Overflow>
-    ensures value { IsFormula (turning_parts p.now q.now edge.now) (turning p.now q.now edge.now) result }
+// The turn of a vector with another.
+fn turned_by(along: &Frac, rise: &Frac, across: &Frac, up: &Frac) -> Result<Frac, Overflow>
+    ensures value { IsFormula (turned_parts along.now rise.now across.now up.now) (turned_by along.now rise.now across.now up.now) result }
 {
-    let at_lower = turn(&edge.0, &edge.1, p)?;
-    let at_upper = turn(&edge.0, &edge.1, q)?;
+    let left = along.mul(up)?;
+    let right = rise.mul(across)?;
+    left.sub(&right)
+}
+
+// The turns of `p` and of `q` with an edge, by their differences to its first end.
+fn turning(p: &Point, q: &Point, beside: &Beside) -> Result<Ends, Overflow>
+    requires known { IsBeside p.now q.now beside.now }
+    ensures value { IsFormula (turning_parts p.now q.now beside.now.edge) (turning p.now q.now beside.now.edge) result }
+{
+    let along = beside.edge.1.x.sub(&beside.edge.0.x)?;
+    let rise = beside.edge.1.y.sub(&beside.edge.0.y)?;
+    let to = &beside.to_a;
+    let at_lower = turned_by(&along, &rise, &to.x.at_lower, &to.y.at_lower)?;
+    let at_upper = turned_by(&along, &rise, &to.x.at_upper, &to.y.at_upper)?;
     Ok(Ends { at_lower, at_upper })
 }
 
@@ -167,11 +180,12 @@ pub fn turned(
     p: &Point,
     q: &Point,
 ) -> Result<Vec<EdgeEnds>, OpFault>
+    requires known { AllByRecursion (IsBeside p.now q.now) edges.now }
     ensures made { MatchResult result (λ v. (v.items ≡ map (with_turn p.now q.now) edges.now) × AllFit (flat_map (λ b. turning_parts p.now q.now b.edge) edges.now)) (IsPartFault F4 (flat_map (λ b. turning_parts p.now q.now b.edge) edges.now)) }
 {
     let mut out = Vec::new(alloc);
     for beside in edges {
-        let turn = match turning(p, q, &beside.edge) {
+        let turn = match turning(p, q, beside) {
             Ok(turn) => turn,
             Err(_) => {
                 return Err(OpFault::Passed {

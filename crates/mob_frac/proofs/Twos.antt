@@ -121,3 +121,7 @@ gcd_zero_right a b e = same_from_IsGcd a b a (gcd a b) (IsGcd-from_zero a b e) (
 
 pub gcd_zero_left : (a b : ℕ) → a ≡ 0 → b ≡ gcd a b
 gcd_zero_left a b e = gcd_zero_right b a e ∙ gcd_comm b a
+
+-- what a number leaves of another has the same divisor with it
+pub gcd_rest : (a b : ℕ) → gcd b (a % b) ≡ gcd a b
+gcd_rest a b = same_from_IsGcd a b (gcd b (a % b)) (gcd a b) (IsGcd-from_mod a b (gcd b (a % b)) (gcd-is b (a % b))) (gcd-is a b)

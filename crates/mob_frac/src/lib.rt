@@ -10,6 +10,7 @@ mod interpolation;
 pub mod laws;
 mod products;
 mod reduction;
+mod rough;
 mod wide;
 
 pub use fraction::{Frac, Overflow};

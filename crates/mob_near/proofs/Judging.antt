@@ -1,22 +1,38 @@
 -- The entries of a piece, and of all pieces.
 use Rattle.std.specs.Prelude.{◌≡◌, Bool, true, false, cond, List, [], ◌∷◌, ◌++◌, Option, Some, None, Result, Ok, Err, refl}
 use Rattle.std.specs.List.{flat_map}
-use Rattle.std.proofs.Common.{ap, sym, subst, inl, inr, ⊎_elim}
+use Rattle.std.proofs.Common.{ap, sym, ◌∙◌, subst, inl, inr, ⊎_elim}
 use Rattle.mob_ratio.specs.Ratio.{Ratio, ◌*ℚ◌}
 use Rattle.mob_ratio.specs.Order.{before}
 use Rattle.mob_ratio.specs.Sign.{nil}
 use Rattle.mob_frac.specs.Formula.{AllFit, distance_parts}
+use Rattle.mob_slice.specs.Computed.{IsComputed}
 use Rattle.mob_slice.specs.Entries.{Entry, IsFirst, IsDecided}
 use Rattle.mob_slice.specs.LineComparison.{point_gaps}
 use Rattle.mob_slice.specs.Lines.{plane_value_of, plane_parts_of}
+use Rattle.mob_slice.specs.Sides.{side_parts, at_ends}
+use Rattle.mob_slice.specs.declared.line.PlaneLine.{PlaneLine}
 use Rattle.mob_slice.specs.declared.formula.Formula.{Formula}
-use Rattle.mob_slice.specs.declared.formula.Formula.TheVariants.{F5, F6}
+use Rattle.mob_slice.proofs.Cuts.{all_both}
+use Rattle.mob_slice.specs.declared.formula.Formula.TheVariants.{F2, F5, F6}
 use Rattle.mob_slice.specs.declared.formula.Passed.{Passed}
 use Rattle.mob_cells.specs.Gaps.{entries_of_ends}
 use Rattle.mob_lifted.proofs.Firsts.{first_joined, first_front}
 use Rattle.mob_near.specs.Entries.{PointPiece, entries_of_squares, entries_of_reach, entries_of_within}
-use Rattle.mob_near.specs.Legs.{leg_of, squares_parts, are_some}
+use Rattle.mob_near.specs.Legs.{ends_of, leg_between, leg_parts, leg_of, squares_parts, are_some}
 use Rattle.mob_near.specs.declared.leg.Leg.{Leg}
+
+-- the differences at both ends of a piece, once the points there are known
+module _ (p : PointPiece) (l r : PlaneLine) (left : (l ≡ ends_of p.left p.span) × AllFit (at_ends (side_parts plane_parts_of p.left) p.span)) (right : (r ≡ ends_of p.right p.span) × AllFit (at_ends (side_parts plane_parts_of p.right) p.span)) where
+  points_fit : AllFit (at_ends (side_parts plane_parts_of p.left) p.span ++ at_ends (side_parts plane_parts_of p.right) p.span)
+  points_fit = all_both (at_ends (side_parts plane_parts_of p.left) p.span) (at_ends (side_parts plane_parts_of p.right) p.span) left.1 right.1
+
+  same_parts : leg_parts l r ≡ leg_parts (ends_of p.left p.span) (ends_of p.right p.span)
+  same_parts = ap (λ z. leg_parts z r) left.0 ∙ ap (leg_parts (ends_of p.left p.span)) right.0
+
+  pub leg_decided : (q : Result Leg Passed) → IsComputed F2 (leg_parts l r) (leg_between l r) q → IsDecided (entries_of_ends plane_value_of plane_parts_of point_gaps p) q
+  leg_decided (Ok g) h = inl (points_fit, inl (subst AllFit same_parts h.1, refl))
+  leg_decided (Err f) h = inl (points_fit, inr (λ all. h.1 (subst AllFit (sym same_parts) all), ap Some h.0))
 
 module _ (p : PointPiece) (five : List Ratio) where
   abbrev ends : List Entry

@@ -1,4 +1,5 @@
 pub mod Formulas
+pub mod Again
 pub mod Place
 pub mod OnPieces
 pub mod AllNearest

@@ -5,8 +5,13 @@ use Rattle.mob_ratio.specs.Order.{before, up_to, same}
 use Rattle.mob_ratio.specs.Sign.{nil}
 use Rattle.mob_frac.specs.Formula.{square_parts}
 use Rattle.mob_plane.specs.Corners.{smaller}
-use Rattle.mob_slice.specs.declared.comparison.Gaps.{Gaps}
-use Rattle.mob_slice.specs.declared.comparison.Gaps.TheVariants.{Constant, One, Two}
+use Rattle.mob_plane.specs.declared.point.Point.{Point}
+use Rattle.mob_span.specs.Span.{SpanOf}
+use Rattle.mob_slice.specs.Comparison.{gap_parts}
+use Rattle.mob_slice.specs.LineComparison.{point_gaps}
+use Rattle.mob_slice.specs.Lines.{plane_value_of}
+use Rattle.mob_slice.specs.Sides.{SideOf, side_at}
+use Rattle.mob_slice.specs.declared.line.PlaneLine.{PlaneLine}
 use Rattle.mob_quadratic.specs.Quadratic.{square_is_within}
 use Rattle.mob_near.specs.Distances.{length_squared}
 use Rattle.mob_near.specs.Entries.{PointPiece, gap_x, gap_y}
@@ -18,11 +23,16 @@ use Rattle.mob_near.specs.declared.foot.Foot.{Foot}
 abbrev pub leg_of : PointPiece → Leg
 leg_of p = record { x0 = gap_x p p.span.lower; y0 = gap_y p p.span.lower; x1 = gap_x p p.span.upper; y1 = gap_y p p.span.upper }
 
--- the gaps are those of points
-abbrev pub are_two : Gaps → Bool
-are_two Constant = false
-are_two (One g) = false
-are_two (Two g h) = true
+-- where a side is at both ends of a span
+abbrev pub ends_of : SideOf PlaneLine Point → SpanOf → PlaneLine
+ends_of q r = record { from = side_at plane_value_of q r.lower; to = side_at plane_value_of q r.upper }
+
+-- the way of the difference of two points that go evenly, and the parts of its formula
+abbrev pub leg_between : PlaneLine → PlaneLine → Leg
+leg_between c d = record { x0 = c.from.x -ℚ d.from.x; y0 = c.from.y -ℚ d.from.y; x1 = c.to.x -ℚ d.to.x; y1 = c.to.y -ℚ d.to.y }
+
+abbrev pub leg_parts : PlaneLine → PlaneLine → List Ratio
+leg_parts c d = gap_parts (point_gaps c.from d.from) ++ gap_parts (point_gaps c.to d.to)
 
 -- the squares of its lengths at both ends, and the parts of their formula
 abbrev pub squares_of : Leg → Squares

@@ -2,3 +2,4 @@ pub mod Distances
 pub mod Approaches
 pub mod Entries
 pub mod Legs
+pub mod Known

@@ -1,19 +1,22 @@
 ghost use Rattle.std.specs.Prelude.{◌≡◌, true, IfOk};
-ghost use Rattle.mob_frac.specs.Formula.{IsFormula, square_parts};
+ghost use Rattle.mob_span.specs.Neighbours.{is_inside};
 ghost use Rattle.mob_slice.specs.Computed.{IsComputed};
+ghost use Rattle.mob_slice.specs.Cut.{slice_value, slice_parts};
 ghost use Rattle.mob_slice.specs.Entries.{IsDecided};
 ghost use Rattle.mob_slice.specs.LineComparison.{point_gaps};
 ghost use Rattle.mob_slice.specs.Lines.{plane_value_of, plane_parts_of};
-ghost use Rattle.mob_slice.specs.Sides.{HoldsPiece, piece_of};
-ghost use Rattle.mob_slice.specs.declared.comparison.Gaps.TheVariants.{Two};
-ghost use Rattle.mob_slice.specs.declared.formula.Formula.TheVariants.{F6};
+ghost use Rattle.mob_slice.specs.Sides.{HoldsSide, HoldsPiece, piece_of, side_of, side_parts, at_ends};
+ghost use Rattle.mob_slice.specs.Slices.{IsSound};
+ghost use Rattle.mob_slice.specs.declared.formula.Formula.TheVariants.{F1, F2, F6};
 ghost use Rattle.mob_cells.specs.Gaps.{entries_of_ends};
-ghost use Rattle.mob_near.specs.Distances.{length_squared};
-ghost use Rattle.mob_near.specs.Legs.{are_two, leg_of, squares_of, squares_parts};
+ghost use Rattle.mob_near.specs.Legs.{ends_of, leg_between, leg_parts, leg_of, squares_of, squares_parts};
 
-use mob_cells::{EndGaps, gaps_at_ends};
-use mob_frac::{Frac, Overflow};
-use mob_slice::{Formula, Gaps, Passed, Piece, PlaneLine};
+use crate::known::{
+    Apart, Found, Last, Squared, difference, difference_kept, point_at, square, square_kept,
+};
+use mob_frac::Frac;
+use mob_slice::{Formula, Passed, Piece, PlaneLine, Side, Slice};
+use mob_span::Span;
 use std::alloc::Global;
 
 /// The difference of two points on a piece of time: it goes straight from (x0, y0) to (x1, y1).
@@ -38,54 +41,107 @@ pub struct Squares {
     pub last: Frac,
 }
 
-// The leg with these gaps at its ends.
-fn leg_between(gaps: &EndGaps) -> Leg
-    requires lower { are_two gaps.now.at_lower ≡ true }
-    requires upper { are_two gaps.now.at_upper ≡ true }
-    ensures gaps { gaps.now ≡ record { at_lower = Two result.x0 result.y0; at_upper = Two result.x1 result.y1 } }
+// Where a slice is at the two ends of a piece of its span.
+fn ends_on(
+    alloc: Global,
+    slice: &Slice<PlaneLine>,
+    span: &Span,
+    found: &mut Option<Found>,
+) -> Result<PlaneLine, Passed>
+    requires holds { IsSound (λ c. c.from) (λ c. c.to) slice.now × (is_inside slice.now.span span.now ≡ true) }
+    ensures ends { IsComputed F1 (at_ends (slice_parts plane_parts_of slice.now) span.now) (record { from = slice_value plane_value_of slice.now span.now.lower; to = slice_value plane_value_of slice.now span.now.upper }) result }
 {
-    match gaps.at_lower {
-        Gaps::Two(x0, y0) => match gaps.at_upper {
-            Gaps::Two(x1, y1) => Leg { x0, y0, x1, y1 },
-            _ => unreachable!(),
-        },
-        _ => unreachable!(),
-    }
-}
-
-/// How the difference of the two points goes on the piece.
-///
-/// `Passed` names the formula of the first entry that does not fit: F1 at the ends of the piece, then F2, the differences there.
-pub fn leg_on(alloc: Global, piece: &Piece<'_, PlaneLine, PlaneLine>) -> Result<Leg, Passed>
-    requires holds { HoldsPiece (λ c. c.from) (λ c. c.to) (λ c. c.from) (λ c. c.to) (piece_of piece.now) }
-    ensures leg { IfOk result (λ g. g ≡ leg_of (piece_of piece.now)) }
-    ensures first { IsDecided (entries_of_ends plane_value_of plane_parts_of point_gaps (piece_of piece.now)) result }
-{
-    match gaps_at_ends::<PlaneLine>(alloc, piece) {
-        Ok(gaps) => Ok(leg_between(&gaps)),
+    let from = match point_at(alloc, slice, span.lower(), found) {
+        Ok(from) => from,
+        Err(passed) => return Err(passed),
+    };
+    match point_at(alloc, slice, span.upper(), found) {
+        Ok(to) => Ok(PlaneLine { from, to }),
         Err(passed) => Err(passed),
     }
 }
 
-// The square of the length of a vector.
-fn square(x: &Frac, y: &Frac) -> Result<Frac, Overflow>
-    ensures value { IsFormula (square_parts x.now y.now) (length_squared x.now y.now) result }
+// Where a side is at the two ends of a piece.
+fn ends_of(
+    alloc: Global,
+    side: &Side<'_, PlaneLine>,
+    span: &Span,
+    found: &mut Option<Found>,
+) -> Result<PlaneLine, Passed>
+    requires holds { HoldsSide (λ c. c.from) (λ c. c.to) (side_of side.now) span.now }
+    ensures ends { IsComputed F1 (at_ends (side_parts plane_parts_of (side_of side.now)) span.now) (ends_of (side_of side.now) span.now) result }
 {
-    let east = x.mul(x)?;
-    let north = y.mul(y)?;
-    east.add(&north)
+    match *side {
+        Side::Moving(slice) => ends_on(alloc, slice, span, found),
+        Side::Fixed(point) => Ok(PlaneLine {
+            from: *point,
+            to: *point,
+        }),
+    }
 }
 
-/// The squares of the distances at both ends. `Passed` names F6, exactly where a part of one does not fit.
-pub fn squares_at_ends(leg: &Leg) -> Result<Squares, Passed>
+// The leg of the difference of two ways.
+fn leg_between(
+    left: &PlaneLine,
+    right: &PlaneLine,
+    apart: &mut Option<Apart>,
+) -> Result<Leg, Passed>
+    ensures leg { IsComputed F2 (leg_parts left.now right.now) (leg_between left.now right.now) result }
+{
+    let Ok(lower) = difference(&left.from, &right.from, apart) else {
+        return Err(Passed {
+            formula: Formula::F2,
+        });
+    };
+    let Ok(upper) = difference_kept(&left.to, &right.to, apart) else {
+        return Err(Passed {
+            formula: Formula::F2,
+        });
+    };
+    Ok(Leg {
+        x0: lower.0,
+        y0: lower.1,
+        x1: upper.0,
+        y1: upper.1,
+    })
+}
+
+/// How the difference of the two points goes on the piece. What is known of its lower end is taken
+/// over, and what is computed at its upper end is kept.
+///
+/// `Passed` names the formula of the first entry that does not fit: F1 at the ends of the piece,
+/// then F2, the differences there.
+pub fn leg_on(
+    alloc: Global,
+    piece: &Piece<'_, PlaneLine, PlaneLine>,
+    last: &mut Last,
+) -> Result<Leg, Passed>
+    requires holds { HoldsPiece (λ c. c.from) (λ c. c.to) (λ c. c.from) (λ c. c.to) (piece_of piece.now) }
+    ensures leg { IfOk result (λ g. g ≡ leg_of (piece_of piece.now)) }
+    ensures first { IsDecided (entries_of_ends plane_value_of plane_parts_of point_gaps (piece_of piece.now)) result }
+{
+    let left = match ends_of(alloc, &piece.left, &piece.span, &mut last.left) {
+        Ok(left) => left,
+        Err(passed) => return Err(passed),
+    };
+    let right = match ends_of(alloc, &piece.right, &piece.span, &mut last.right) {
+        Ok(right) => right,
+        Err(passed) => return Err(passed),
+    };
+    leg_between(&left, &right, &mut last.apart)
+}
+
+/// The squares of the distances at both ends. `Passed` names F6, exactly where a part of one does
+/// not fit.
+pub fn squares_at_ends(leg: &Leg, squared: &mut Option<Squared>) -> Result<Squares, Passed>
     ensures value { IsComputed F6 (squares_parts leg.now) (squares_of leg.now) result }
 {
-    let Ok(first) = square(&leg.x0, &leg.y0) else {
+    let Ok(first) = square(&leg.x0, &leg.y0, squared) else {
         return Err(Passed {
             formula: Formula::F6,
         });
     };
-    let Ok(last) = square(&leg.x1, &leg.y1) else {
+    let Ok(last) = square_kept(&leg.x1, &leg.y1, squared) else {
         return Err(Passed {
             formula: Formula::F6,
         });

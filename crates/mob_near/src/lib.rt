@@ -3,6 +3,7 @@
 #![tactic(auto)]
 
 mod foot;
+mod known;
 pub mod laws;
 mod leg;
 mod nearness;

@@ -13,6 +13,7 @@ ghost use Rattle.mob_near.specs.Approaches.{IsApproach};
 ghost use Rattle.mob_near.specs.Entries.{entries_of_within, entries_of_reach, entries_of_approach};
 ghost use Rattle.mob_near.specs.Legs.{are_some, nearest_of};
 
+use crate::known::nothing;
 use crate::piece::{piece_approach, piece_reaches};
 use mob_frac::Frac;
 use mob_lift::{Pieces, either};
@@ -66,8 +67,9 @@ fn ever_reaches(
     ensures first { IsDecided (flat_map (entries_of_reach square.now) (pieces (operand_of a.entry) (operand_of b.entry))) result }
 {
     let mut found = None;
+    let mut last = nothing();
     for piece in Pieces::new(a, b) {
-        let here = match piece_reaches(alloc, &piece, square) {
+        let here = match piece_reaches(alloc, &piece, square, &mut last) {
             Ok(here) => here,
             Err(passed) => return Err(passed),
         };
@@ -127,8 +129,9 @@ pub fn approach_squared(
     ensures first { IsDecided (flat_map entries_of_approach (pieces (operand_of a.entry) (operand_of b.entry))) result }
 {
     let mut nearest = None;
+    let mut last = nothing();
     for piece in Pieces::new(a, b) {
-        let here = match piece_approach(alloc, &piece) {
+        let here = match piece_approach(alloc, &piece, &mut last) {
             Ok(here) => here,
             Err(passed) => return Err(passed),
         };

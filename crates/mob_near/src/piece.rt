@@ -8,6 +8,7 @@ ghost use Rattle.mob_near.specs.Entries.{entries_of_reach, entries_of_approach};
 ghost use Rattle.mob_near.specs.Legs.{approach_by, piece_reaches, piece_approach, reaches_by};
 
 use crate::foot::{reaches_between, square_between};
+use crate::known::Last;
 use crate::leg::{Squares, leg_on, squares_at_ends};
 use mob_frac::Frac;
 use mob_plane::smaller;
@@ -37,16 +38,17 @@ pub fn piece_reaches(
     alloc: Global,
     piece: &Piece<'_, PlaneLine, PlaneLine>,
     square: &Frac,
+    last: &mut Last,
 ) -> Result<bool, Passed>
     requires holds { HoldsPiece (λ c. c.from) (λ c. c.to) (λ c. c.from) (λ c. c.to) (piece_of piece.now) }
     ensures value { IfOk result (λ b. b ≡ piece_reaches square.now (piece_of piece.now)) }
     ensures first { IsDecided (entries_of_reach square.now (piece_of piece.now)) result }
 {
-    let leg = match leg_on(alloc, piece) {
+    let leg = match leg_on(alloc, piece, last) {
         Ok(leg) => leg,
         Err(passed) => return Err(passed),
     };
-    let squares = match squares_at_ends(&leg) {
+    let squares = match squares_at_ends(&leg, &mut last.squared) {
         Ok(squares) => squares,
         Err(passed) => return Err(passed),
     };
@@ -77,16 +79,17 @@ fn approach_by(squares: &Squares, between: Option<Frac>) -> Frac
 pub fn piece_approach(
     alloc: Global,
     piece: &Piece<'_, PlaneLine, PlaneLine>,
+    last: &mut Last,
 ) -> Result<Frac, Passed>
     requires holds { HoldsPiece (λ c. c.from) (λ c. c.to) (λ c. c.from) (λ c. c.to) (piece_of piece.now) }
     ensures value { IfOk result (λ m. m ≡ piece_approach (piece_of piece.now)) }
     ensures first { IsDecided (entries_of_approach (piece_of piece.now)) result }
 {
-    let leg = match leg_on(alloc, piece) {
+    let leg = match leg_on(alloc, piece, last) {
         Ok(leg) => leg,
         Err(passed) => return Err(passed),
     };
-    let squares = match squares_at_ends(&leg) {
+    let squares = match squares_at_ends(&leg, &mut last.squared) {
         Ok(squares) => squares,
         Err(passed) => return Err(passed),
     };

@@ -1,19 +1,20 @@
--- The command line `mobnear --k K --to TEXT [--epoch DATE]`: three options that take one value each, no help and no version.
-use Rattle.std.specs.Prelude.{◌≡◌, ◌==◌, List, Some, Ok, codes, cond}
+-- The command line of mobnear: three options that take one value each, no help and no version.
+use Rattle.std.specs.Prelude.{◌∷◌, [], ◌≡◌, ◌==◌, List, Some, Ok, codes, cond}
 use Rattle.std.specs.List.{list_any}
-use Rattle.clap.specs.Words.{App, Text, new_app, with_rule}
+use Rattle.clap.specs.Words.{App, Text}
 use Rattle.mob_ast.specs.declared.types.SqlType.{SqlType}
 use Rattle.mob_ast.specs.declared.types.SqlType.TheVariants as sql
 use Rattle.mob_value.specs.declared.value.Value.{Value}
 use Rattle.mob_value.specs.declared.value.Value.TheVariants as value
 use Rattle.mob_literal.specs.SqlText.{SaysAs}
-use Rattle.mob_words.specs.Arguments.{IsCount, IsEpoch, IsRequired, Takes, option, value_of, without_flags}
+use Rattle.mob_words.specs.Arguments.{IsCount, IsEpoch, IsRequired, Takes, command_of, value_of}
 use Rattle.mob_near_run.specs.declared.settings.NearSettings.{NearSettings}
 use Rattle.mob_near_run.specs.declared.settings.Target.{Target}
 use Rattle.mob_near_run.specs.declared.settings.Target.TheVariants.{Moving, Fixed}
 
-unfoldable pub near_command : App
-near_command = with_rule (with_rule (with_rule (without_flags (new_app (codes "mobnear"))) (option (codes "k"))) (option (codes "to"))) (option (codes "epoch"))
+-- `mobnear --k K --to TEXT [--epoch DATE]`
+abbrev pub near_command : App
+near_command = command_of (codes "mobnear") (codes "k" ∷ codes "to" ∷ codes "epoch" ∷ [])
 
 -- a text with an `@` is read as a tgeompoint, every other one as a point
 abbrev pub target_type : Text → SqlType

@@ -2,10 +2,10 @@
 #![tactic(auto)]
 
 mod answer;
-mod command;
 mod decide;
 mod reading;
 mod settings;
 mod top;
+mod values;
 
 pub use top::{run_near, tell_near};

@@ -8,8 +8,8 @@ ghost use Rattle.mob_near_run.specs.CommandLine.{NearSays, target_type, target_v
 ghost use Rattle.mob_near_run.specs.declared.settings.NearSettings.{NearSettings as SettingsSeen};
 ghost use Rattle.mob_near_run.specs.declared.settings.Target.{Target as TargetSeen};
 
-use crate::command::given;
 use crate::settings::{NearSettings, Target};
+use crate::values::values_in;
 use mob_ast::SqlType;
 use mob_literal::read_value;
 use mob_scalar::{Epoch, ReadText};
@@ -74,23 +74,23 @@ fn target(alloc: Global, text: &str, epoch: &Epoch) -> Result<Option<Target>, Al
 
 /// The settings that the arguments say, the first of which is the program's name: `--k K` with a whole number from 1 to 1000, `--to TEXT` with
 /// a point or a moving point, and `--epoch DATE`. `--k` and `--to` are required, and each option may be given once. `--epoch` applies to TEXT,
-/// wherever it is given.
+/// wherever it is values.
 ///
 /// None exactly where the arguments are not taken.
 pub fn settings(alloc: Global, words: &[String]) -> Result<Option<NearSettings>, AllocError>
     ensures said { IfOk result (λ o. IfSome o (NearSays (map string_bytes words.now))) }
     ensures refused { IfOk result (λ o. IsNone o → (s : SettingsSeen) → NearSays (map string_bytes words.now) s → ⊥) }
 {
-    let Some(given) = given(alloc, words)? else {
+    let Some(values) = values_in(alloc, words)? else {
         return Ok(None);
     };
-    let Some(k) = count_of(given.count, MOST_ROWS) else {
+    let Some(k) = count_of(values.count, MOST_ROWS) else {
         return Ok(None);
     };
-    let Some(epoch) = epoch_of(given.epoch) else {
+    let Some(epoch) = epoch_of(values.epoch) else {
         return Ok(None);
     };
-    let Some(text) = given.to else {
+    let Some(text) = values.to else {
         return Ok(None);
     };
     let Some(to) = target(alloc, text, &epoch)? else {

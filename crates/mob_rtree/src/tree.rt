@@ -1,14 +1,16 @@
 //! The R-tree.
 ghost use Rattle.std.specs.Prelude.{◌≡◌, ◌≢◌, ℕ, ◌+◌, ◌*◌, ◌<◌, ◌≤◌, count_by, length, OnOk, OnErr, IfOk, IfSome, IsOk, MatchOption, All, true, false, List, [], ◌++◌, IsSorted, None};
+ghost use Rattle.std.specs.List.Sorted.{IsNonDecreasing};
 ghost use Rattle.std.specs.Ordering.{nat_cmp};
 ghost use Rattle.mob_stbox.specs.Boxes.{overlaps, is_whole};
 ghost use Rattle.mob_rtree_nodes.specs.Tree.{entry_of, is_fit, IsAdded, AreSame, AreFound};
+ghost use Rattle.mob_rtree_nodes.specs.Ids.{without_ids};
 ghost use Rattle.mob_rtree_nodes.specs.Reach.{HaveOneDepth, IsReachedNode, IsSpread, children, entries_under};
 ghost use Rattle.mob_rtree.specs.Shape.{Shape, IsAsBefore, AreUsedAgain, HasLeastBox, boxes_of};
 
 use mob_rtree_nodes::node::{Child, Root, TreeNode};
 use mob_rtree_nodes::remove::Removed;
-use mob_rtree_nodes::whole::{gather, put_any, raise_entries, take_entry};
+use mob_rtree_nodes::whole::{gather, put_any, raise_entries, take_entry, take_ids};
 use mob_stbox::StBox;
 use mob_steps::Steps;
 use std::alloc::{AllocError, Global};
@@ -37,7 +39,7 @@ impl Model for RTree {
 
     ghost view = { λ t. record { entries = entries_list t.nodes.items; areas = areas_list t.nodes.items; spare = t.spare; nodes = map branch_of t.nodes.items; root = root_number t.nodes.items t.root.node } };
 
-    ghost invariant = { λ t. ((0 < length t.nodes.items) → IsTree (ref t.root) t.nodes.items) × IsFree t.free.items t.nodes.items × (length t.nodes.items ≤ vec_capacity t.free) × ((0 < t.spare) → (length t.nodes.items + t.root.height + 2 ≤ 2 ^ 32) × (vec_len t.nodes + t.root.height + 2 ≤ vec_capacity t.nodes) × (length t.nodes.items + t.root.height + 2 ≤ vec_capacity t.free)) };
+    ghost invariant = { λ t. ((0 < length t.nodes.items) → IsTree (ref t.root) t.nodes.items) × IsFree t.free.items t.nodes.items × (length t.nodes.items ≤ 2 ^ 32) × (length t.nodes.items ≤ vec_capacity t.free) × ((0 < t.spare) → (length t.nodes.items + t.root.height + 2 ≤ 2 ^ 32) × (vec_len t.nodes + t.root.height + 2 ≤ vec_capacity t.nodes) × (length t.nodes.items + t.root.height + 2 ≤ vec_capacity t.free)) };
 }
 
 impl RTree {
@@ -148,6 +150,25 @@ impl RTree {
                 self.nodes.clear();
                 self.free.clear();
                 true
+            }
+        }
+    }
+
+    /// Takes every entry out whose id is one of these, which do not fall. It goes over all nodes, whatever the ids, and computes each box
+    /// once, so it is for many ids at a time. It takes no memory, and none of what `reserve_one` made.
+    pub fn remove_ids(&mut self, ids: &[u32])
+        requires rising { IsNonDecreasing ids.now }
+        ensures left { AreSame self.new.entries (without_ids ids.now self.old.entries) }
+        ensures spare { self.new.spare ≡ self.old.spare }
+    {
+        if self.nodes.is_empty() {
+            return;
+        }
+        match take_ids(&mut self.nodes, &mut self.free, self.root, ids) {
+            Some(area) => self.root.area = area,
+            None => {
+                self.nodes.clear();
+                self.free.clear();
             }
         }
     }

@@ -1,9 +1,9 @@
 -- The numbers of dropped nodes.
-use Rattle.std.proofs.Common.{◌≡◌, refl, ℕ, zero, suc, ◌+◌, ◌<◌, ◌≤◌, Bool, true, false, cond, ◌==◌, List, [], ◌∷◌, ◌++◌, length, get_or, set, arith, ap, sym, ◌∙◌, subst, eq-eqb, inl, inr}
+use Rattle.std.proofs.Common.{◌≡◌, refl, ℕ, zero, suc, ◌+◌, ◌<◌, ◌≤◌, Bool, true, false, cond, ◌==◌, List, [], ◌∷◌, ◌++◌, length, get_or, set, take, arith, ap, sym, ◌∙◌, subst, eq-eqb, inl, inr}
 use Rattle.std.specs.Prelude.{sum_by}
 use Rattle.std.proofs.lemmas.Bool.{cases_lt}
 use Rattle.std.proofs.lemmas.Bool.Decides.{nat_tests}
-use Rattle.std.proofs.lemmas.List.{length-set}
+use Rattle.std.proofs.lemmas.List.{length-set, length-take-le, take_more}
 use Rattle.std.proofs.lemmas.List.Sums.{sum_by-cons, sum_by-append}
 use Rattle.std.proofs.lemmas.List.Elements.{All-head, All-tail, All-set, All-append, All-cons, All-nil}
 use Rattle.mob_rtree_nodes.specs.Tree.{Kid, if_dropped, dropped_sum, IsFree, AreLive, IsReused, kids_at}
@@ -156,3 +156,25 @@ reused_behind ps r one live = record { same = inr (behind live); live = behind }
   where
     behind : AreLive ps → AreLive (ps ++ r ∷ [])
     behind l = All-append IsLive ps (r ∷ []) l (All-cons IsLive r [] one (All-nil IsLive))
+
+-- ---- the numbers of dropped nodes, gone through from the first on
+
+pub dropped_more : (f : ℕ → ℕ) (ps : List TreeNode) (i : ℕ) → i < length ps → dropped_sum f 0 (take (i + 1) ps) ≡ dropped_sum f 0 (take i ps) + if_dropped (kids_at ps i) (f i)
+dropped_more f ps i lt =
+    let p = node_at ps i lt in
+    let long : 0 + length (take i ps) ≡ i = omega (arith, length-take-le i ps (omega (arith, lt))) in
+    omega (
+      arith,
+      ap (dropped_sum f 0) (take_more ps i p.0 lt),
+      dropped_append f 0 (take i ps) (get_or ps i p.0 ∷ []),
+      ap (λ (p : TreeNode). if_dropped p.kids.items (f (0 + length (take i ps)))) (sym p.1),
+      ap (λ (n : ℕ). if_dropped p.0.kids.items (f n)) long,
+      ap (λ (l : List Kid). if_dropped l (f i)) (kids_of ps i p.0 lt p.1),
+    )
+
+pub one_freed : (f : ℕ → ℕ) (kids : List Kid) (n : ℕ) (free new : List ℕ) → length kids ≡ 0 → new ≡ free ++ n ∷ [] → sum_by f new ≡ sum_by f free + if_dropped kids (f n)
+one_freed f [] n free new none e = omega (arith, ap (sum_by f) e, sum_by-append f free (n ∷ []), sum_by-cons f n [])
+one_freed f (k ∷ kids) n free new none e = absurd (omega (arith, none))
+
+pub none_freed : (f : ℕ → ℕ) (kids : List Kid) (n : ℕ) (free : List ℕ) → 0 < length kids → sum_by f free ≡ sum_by f free + if_dropped kids (f n)
+none_freed f kids n free live = omega (arith, not_dropped kids (f n) live)

@@ -76,6 +76,7 @@ fn close(
     requires some { 0 < length waiting.items }
     requires fit { count_by (λ k. not (is_fit height k)) waiting.items ≡ 0 }
     ensures closed { OnOk result (IsClosed height nodes.old.items above.old.items waiting.items nodes.new.items above.new.items) }
+    ensures few { OnOk result (length nodes.new.items ≤ 2 ^ 32) }
 {
     let count = nodes.len();
     if count > 4294967294 {
@@ -128,6 +129,7 @@ fn pack(
     ensures forest { IfOk result (λ above. IsForest (height + 1) above.items nodes.new.items) }
     ensures entries { IfOk result (λ above. (g : EntryOf → ℕ) → entries_sum g nodes.new.items ≡ entries_sum g nodes.old.items + leaf_sum g kids.now height) }
     ensures fewer { IfOk result (λ above. (0 < length above.items) × (16 * length above.items < length kids.now + 16)) }
+    ensures few { OnOk result (length nodes.new.items ≤ 2 ^ 32) }
 {
     let mut above = Vec::new(alloc);
     let mut waiting = ArrayVec::new();
@@ -150,6 +152,7 @@ pub fn raise(
     ensures tree { IfOk result (λ root. IsTree (ref root) nodes.new.items) }
     ensures entries { OnOk result ((g : EntryOf → ℕ) → entries_sum g nodes.new.items ≡ entries_sum g nodes.old.items + leaf_sum g kids.now height) }
     ensures live { OnOk result (AreLive nodes.new.items) }
+    ensures few { OnOk result (length nodes.new.items ≤ 2 ^ 32) }
 {
     if height > 4294967294 {
         return Err(AllocError);

@@ -4,10 +4,12 @@
 #![tactic(auto)]
 
 mod build;
+pub mod ids;
 mod insert;
 mod lengths;
 pub mod node;
 mod places;
 pub mod remove;
 mod search;
+mod sift;
 pub mod whole;

@@ -1,10 +1,12 @@
 //! What is done with a whole tree: entries are put in, looked for and taken out below its root.
 ghost use Rattle.std.specs.Prelude.{◌≡◌, ℕ, ◌+◌, ◌*◌, ◌^◌, ◌<◌, ◌≤◌, count_by, length, OnOk, OnErr, IfOk, All, true, List, [], ◌++◌, IsSorted};
+ghost use Rattle.std.specs.List.Sorted.{IsNonDecreasing};
 ghost use Rattle.std.specs.Ordering.{nat_cmp};
 ghost use Rattle.std.specs.Vec.{vec_len, vec_capacity};
 ghost use Rattle.mob_stbox.specs.Boxes.{overlaps, is_whole};
 ghost use Rattle.mob_rtree_nodes.specs.Tree.{IsTree, ref, entry_of, is_fit, entries_list, areas_list, IsAdded, AreSame, AreFound, AreLive, IsFree, IsReused};
 ghost use Rattle.mob_rtree_nodes.specs.Removes.{IsTakenOut};
+ghost use Rattle.mob_rtree_nodes.specs.Sifts.{IsTreeLeft};
 ghost use Rattle.mob_rtree_nodes.specs.declared.remove.Removed.TheVariants.{Missing};
 
 use crate::build::{gather_near, leaf_kids, raise};
@@ -12,6 +14,7 @@ use crate::insert::{insert_at, put_node};
 use crate::node::{Child, Root, TreeNode};
 use crate::remove::{Removed, remove_at};
 use crate::search::visit;
+use crate::sift::{number_free, sift};
 use arrayvec::ArrayVec;
 use mob_stbox::StBox;
 use mob_steps::Steps;
@@ -153,6 +156,32 @@ pub fn take_entry(
     remove_at(nodes, free, root.node, b, id)
 }
 
+/// Takes the entries of these ids out in one pass over the nodes. It answers the box of the root, or None where no entry is left.
+pub fn take_ids(
+    nodes: &mut Vec<TreeNode>,
+    free: &mut Vec<u32>,
+    root: Root,
+    ids: &[u32],
+) -> Option<StBox>
+    requires tree { IsTree (ref root) nodes.old.items }
+    requires rising { IsNonDecreasing ids.now }
+    requires small { length nodes.old.items ≤ 2 ^ 32 }
+    requires room { length nodes.old.items ≤ vec_capacity free.old }
+    ensures left { IsTreeLeft (ref root) ids.now nodes.old.items result nodes.new.items }
+    ensures free { IsFree free.new.items nodes.new.items }
+    ensures capacity { vec_capacity nodes.new ≡ vec_capacity nodes.old }
+    ensures size { vec_len nodes.new ≡ vec_len nodes.old }
+    ensures free_capacity { vec_capacity free.new ≡ vec_capacity free.old }
+{
+    sift(nodes, root.height, ids);
+    number_free(nodes, free);
+    let part = &nodes[root.node as usize];
+    if part.kids.is_empty() {
+        return None;
+    }
+    Some(part.area)
+}
+
 /// Makes the nodes of these entries, and answers the root.
 pub fn raise_entries(
     alloc: Global,
@@ -165,6 +194,7 @@ pub fn raise_entries(
     ensures tree { IfOk result (λ root. IsTree (ref root) nodes.new.items) }
     ensures entries { OnOk result (AreSame (entries_list nodes.new.items) entries.now) }
     ensures live { OnOk result (AreLive nodes.new.items) }
+    ensures few { OnOk result (length nodes.new.items ≤ 2 ^ 32) }
 {
     let kids = leaf_kids(alloc, entries)?;
     let near = gather_near(alloc, kids.as_slice())?;

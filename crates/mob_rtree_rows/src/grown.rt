@@ -15,7 +15,7 @@ fn puts(tree: &mut RTree, id: u32) -> bool {
     }
 }
 
-fn takes(tree: &mut RTree, id: u32) -> bool {
+pub fn takes(tree: &mut RTree, id: u32) -> bool {
     let at = id as i64;
     match boxed((at, at), (0, 0), (7, 7)) {
         Some(b) => tree.remove(&b, id),
@@ -23,7 +23,7 @@ fn takes(tree: &mut RTree, id: u32) -> bool {
     }
 }
 
-fn all_put(tree: &mut RTree, from: u32, to: u32) -> bool {
+pub fn all_put(tree: &mut RTree, from: u32, to: u32) -> bool {
     for id in from..to {
         if !puts(tree, id) {
             return false;

@@ -8,6 +8,8 @@ mod found;
 #[cfg(test)]
 mod grown;
 #[cfg(test)]
+mod sifted;
+#[cfg(test)]
 mod three;
 #[cfg(test)]
 mod walked;

@@ -1,3 +1,4 @@
+pub mod Lasts
 pub mod Pairs
 pub mod Three
 pub mod Unions

@@ -1,3 +1,4 @@
 pub mod Gathered
+pub mod Last
 pub mod United
 pub mod UnitingLaws

@@ -15,52 +15,50 @@ ghost use Rattle.mob_arith.specs.Termwise.{entries_at_ends};
 ghost use Rattle.mob_sync.specs.Common.{pair_of};
 ghost use Rattle.mob_tagg.specs.United.{AreUnited, sides_of};
 
-use crate::taking::{either, normal_of, together};
+use crate::again::{Last, cut_again, keep, summed, summed_again};
+use crate::taking::{either, merged, normal_of};
 use mob_arith::Summed;
 use mob_frac::Frac;
-use mob_lift::{listed, single};
+use mob_lift::single;
 use mob_slice::{Course, Moving, OpFault, Pair, Slice, Steady, cut, operator_fault};
 use std::alloc::{AllocError, Global};
+use std::cell::Cell;
 
-// The sum on a piece that two values share.
-fn sum_on<C: Summed + Drop>(alloc: Global, pair: &Pair<'_, C, C>) -> Result<Vec<Slice<C>>, OpFault>
+// The sum on a piece that two values share. What the piece before it made at its end is not made
+// twice.
+fn sum_on<C: Summed + Drop>(
+    alloc: Global,
+    pair: &Pair<'_, C, C>,
+    memo: &Cell<Option<Last<C>>>,
+) -> Result<Slice<C>, OpFault>
 where
     C::Base: Drop,
     requires fit { IsPairFit C.start_of C.end_of C.start_of C.end_of pair.now }
-    ensures given { IsGiven C.value_of C.start_of C.end_of (λ v. v.items) (on_sides C.value_of C.value_of C.added (sides_of (pair_of pair.now))) pair.now.span (entries_at_ends C.value_of C.parts_of C.value_of C.parts_of (λ x y. sum_parts (C.number x) (C.number y)) (sides_of (pair_of pair.now))) result }
+    ensures given { IsGiven C.value_of C.start_of C.end_of (λ s. s ∷ []) (on_sides C.value_of C.value_of C.added (sides_of (pair_of pair.now))) pair.now.span (entries_at_ends C.value_of C.parts_of C.value_of C.parts_of (λ x y. sum_parts (C.number x) (C.number y)) (sides_of (pair_of pair.now))) result }
 {
+    let last = memo.replace(None);
     let left = match cut(alloc, pair.left, &pair.span) {
         Ok(left) => left,
         Err(fault) => return Err(operator_fault(fault)),
     };
-    let right = match cut(alloc, pair.right, &pair.span) {
+    let right = match cut_again(alloc, pair.right, &pair.span, &last) {
         Ok(right) => right,
         Err(fault) => return Err(operator_fault(fault)),
     };
-    let from = match C::sum(left.course.start(), right.course.start()) {
+    let from = match summed_again(alloc, left.course.start(), right.course.start(), &last) {
         Ok(from) => from,
-        Err(passed) => {
-            return Err(OpFault::Passed {
-                formula: passed.formula,
-            });
-        }
+        Err(fault) => return Err(fault),
     };
-    let to = match C::sum(left.course.end(), right.course.end()) {
+    let to = match summed::<C>(left.course.end(), right.course.end()) {
         Ok(to) => to,
-        Err(passed) => {
-            return Err(OpFault::Passed {
-                formula: passed.formula,
-            });
-        }
+        Err(fault) => return Err(fault),
     };
+    keep(alloc, memo, pair.right, left, right, &to);
     let _ = pair.span.lower();
-    listed(
-        alloc,
-        Slice {
-            span: pair.span,
-            course: C::of(from, to),
-        },
-    )
+    Ok(Slice {
+        span: pair.span,
+        course: C::of(from, to),
+    })
 }
 
 /// The sum of two values where both are defined, and the one that is where one is.
@@ -77,14 +75,15 @@ where
     ensures value { IfOk result (λ r. AreUnited C.value_of C.added total.now v.now r) }
     ensures first { IsJudged (flat_map (entries_at_ends C.value_of C.parts_of C.value_of C.parts_of (λ x y. sum_parts (C.number x) (C.number y))) (pieces (Slices total.now) (Slices v.now))) result }
 {
-    let slices = match together(
+    let memo = Cell::new(None);
+    let slices = match merged(
         alloc,
         total,
         v,
-        |pair: &Pair<'_, C, C>| -> Result<Vec<Slice<C>>, OpFault>
+        |pair: &Pair<'_, C, C>| -> Result<Slice<C>, OpFault>
             requires fit { IsPairFit C.start_of C.end_of C.start_of C.end_of pair.now }
-            ensures given { IsGiven C.value_of C.start_of C.end_of (λ v. v.items) (on_sides C.value_of C.value_of C.added (sides_of (pair_of pair.now))) pair.now.span (entries_at_ends C.value_of C.parts_of C.value_of C.parts_of (λ x y. sum_parts (C.number x) (C.number y)) (sides_of (pair_of pair.now))) result }
-        { sum_on::<C>(alloc, pair) },
+            ensures given { IsGiven C.value_of C.start_of C.end_of (λ s. s ∷ []) (on_sides C.value_of C.value_of C.added (sides_of (pair_of pair.now))) pair.now.span (entries_at_ends C.value_of C.parts_of C.value_of C.parts_of (λ x y. sum_parts (C.number x) (C.number y)) (sides_of (pair_of pair.now))) result }
+        { sum_on::<C>(alloc, pair, &memo) },
     ) {
         Ok(slices) => slices,
         Err(fault) => return Err(fault),

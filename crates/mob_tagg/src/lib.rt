@@ -3,10 +3,12 @@
 #![tactic(auto)]
 
 mod adding;
+mod again;
 pub mod laws;
 mod parts;
 mod taking;
 mod uniting;
+mod walking;
 
 pub use adding::{add_in, and_in, one, ones_of, or_in};
 pub use parts::{Part, Uniting, gathered, with_value};

@@ -2,8 +2,9 @@
 use Rattle.std.proofs.Common.{◌≡◌, refl, true}
 use Rattle.clap.specs.Words.{is_simple_and_free}
 use Rattle.clap.proofs.OnLiterals.{clap_on_literals}
+use Rattle.mob_words.specs.Arguments.{command_of}
 use Rattle.mob_thin_run.specs.CommandLine.{thin_command}
 
 pub command_is_free : is_simple_and_free thin_command ≡ true
-unfolding thin_command clap_on_literals
+unfolding command_of clap_on_literals
 command_is_free = refl

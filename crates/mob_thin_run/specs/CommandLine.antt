@@ -1,12 +1,12 @@
 -- The command line of mobthin: two options that take one value each, no help and no version.
-use Rattle.std.specs.Prelude.{List, codes}
-use Rattle.clap.specs.Words.{App, Text, new_app, with_rule}
-use Rattle.mob_words.specs.Arguments.{IsDistance, IsEpoch, IsRequired, Takes, option, value_of, without_flags}
+use Rattle.std.specs.Prelude.{◌∷◌, [], List, codes}
+use Rattle.clap.specs.Words.{App, Text}
+use Rattle.mob_words.specs.Arguments.{IsDistance, IsEpoch, IsRequired, Takes, command_of, value_of}
 use Rattle.mob_thin_run.specs.declared.settings.ThinSettings.{ThinSettings}
 
 -- `mobthin --within D [--epoch DATE]`
-unfoldable pub thin_command : App
-thin_command = with_rule (with_rule (without_flags (new_app (codes "mobthin"))) (option (codes "within"))) (option (codes "epoch"))
+abbrev pub thin_command : App
+thin_command = command_of (codes "mobthin") (codes "within" ∷ codes "epoch" ∷ [])
 
 -- the arguments are taken, and say these settings: the distance and the day of the epoch
 pub record ThinSays (words : List Text) (settings : ThinSettings) : Type 0 where

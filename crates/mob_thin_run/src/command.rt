@@ -1,15 +1,13 @@
-// The command, and what the arguments of a command line say.
+// What the arguments of a command line say.
 ghost use Rattle.std.specs.Prelude.{◌≡◌, IfOk, IfSome, IsNone, codes, map, option_map, string_bytes};
-ghost use Rattle.clap.specs.Words.{app_of};
 ghost use Rattle.mob_ratio.specs.Ratio.{Ratio};
 ghost use Rattle.mob_words.specs.Arguments.{IsDistance, IsRequired, Takes, value_of};
 ghost use Rattle.mob_thin_run.specs.CommandLine.{ThinSays, thin_command};
 ghost use Rattle.mob_thin_run.specs.declared.settings.ThinSettings.{ThinSettings as SettingsSeen};
 
 use crate::settings::ThinSettings;
-use clap::Command;
 use mob_frac::Frac;
-use mob_words::{bare_command, distance_in, epoch_of, matched, with_option};
+use mob_words::{distance_in, epoch_of, given};
 use std::alloc::{AllocError, Global};
 
 // The values of the options, borrowed from the arguments.
@@ -19,24 +17,15 @@ pub struct Values<'a> {
     pub epoch: Option<&'a str>,
 }
 
-// The command: two options that take one value each.
-fn mobthin<'a>(alloc: Global) -> Result<Command<'a>, AllocError>
-    ensures command { IfOk result (λ c. app_of c ≡ thin_command) }
-{
-    let command = bare_command(alloc, "mobthin");
-    let command = with_option(alloc, command, "within")?;
-    with_option(alloc, command, "epoch")
-}
-
 // The value of each option, or None where the command does not take the arguments.
-fn given<'a>(alloc: Global, words: &'a [String]) -> Result<Option<Values<'a>>, AllocError>
+#[tactic(auto, using(crate::proofs::Facts::command_is_free))]
+fn values_in<'a>(alloc: Global, words: &'a [String]) -> Result<Option<Values<'a>>, AllocError>
     ensures taken { IfOk result (λ o. IfSome o (λ v. Takes thin_command (map string_bytes words.entry.now))) }
     ensures refused { IfOk result (λ o. IsNone o → Takes thin_command (map string_bytes words.entry.now) → ⊥) }
     ensures within { IfOk result (λ o. IfSome o (λ v. option_map (λ s. s.now) v.within ≡ value_of thin_command (codes "within") (map string_bytes words.entry.now))) }
     ensures epoch { IfOk result (λ o. IfSome o (λ v. option_map (λ s. s.now) v.epoch ≡ value_of thin_command (codes "epoch") (map string_bytes words.entry.now))) }
 {
-    let command = mobthin(alloc)?;
-    let Some(matches) = matched(command, words)? else {
+    let Some(matches) = given(alloc, "mobthin", &["within", "epoch"], words)? else {
         return Ok(None);
     };
     Ok(Some(Values {
@@ -64,13 +53,13 @@ pub fn settings(alloc: Global, words: &[String]) -> Result<Option<ThinSettings>,
     ensures said { IfOk result (λ o. IfSome o (ThinSays (map string_bytes words.now))) }
     ensures refused { IfOk result (λ o. IsNone o → (s : SettingsSeen) → ThinSays (map string_bytes words.now) s → ⊥) }
 {
-    let Some(given) = given(alloc, words)? else {
+    let Some(values) = values_in(alloc, words)? else {
         return Ok(None);
     };
-    let Some(within) = within_of(given.within) else {
+    let Some(within) = within_of(values.within) else {
         return Ok(None);
     };
-    let Some(epoch) = epoch_of(given.epoch) else {
+    let Some(epoch) = epoch_of(values.epoch) else {
         return Ok(None);
     };
     Ok(Some(ThinSettings { within, epoch }))

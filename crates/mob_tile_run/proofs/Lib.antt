@@ -1,5 +1,6 @@
 pub mod Facts
 pub mod Numbers
+pub mod OneAnswer
 pub mod OneFault
 pub mod OneSetting
 pub mod TileLaws

@@ -1,17 +1,17 @@
 -- The command line of mobtile: five options that take one value each, no help and no version.
-use Rattle.std.specs.Prelude.{List, Option, Ok, codes}
-use Rattle.clap.specs.Words.{App, Text, new_app, with_rule}
+use Rattle.std.specs.Prelude.{◌∷◌, [], List, Option, Ok, codes}
+use Rattle.clap.specs.Words.{App, Text}
 use Rattle.mob_ratio.specs.Ratio.{Ratio, ◌<ℚ◌}
 use Rattle.mob_ratio.specs.Sign.{nil}
 use Rattle.mob_numeral.specs.Numbers.{numbers}
 use Rattle.mob_numeral.specs.Verdict.{Lit}
 use Rattle.mob_tile.specs.Tiles.{GridOf}
-use Rattle.mob_words.specs.Arguments.{IsDistance, IsEpoch, IsOptional, IsRequired, IsWorkers, Takes, option, value_of, without_flags}
+use Rattle.mob_words.specs.Arguments.{IsDistance, IsEpoch, IsOptional, IsRequired, IsWorkers, Takes, command_of, value_of}
 use Rattle.mob_tile_run.specs.declared.settings.TileSettings.{TileSettings}
 
 -- `mobtile --size S --width W [--near D] [--workers N] [--epoch DATE]`
-unfoldable pub tile_command : App
-tile_command = with_rule (with_rule (with_rule (with_rule (with_rule (without_flags (new_app (codes "mobtile"))) (option (codes "size"))) (option (codes "width"))) (option (codes "near"))) (option (codes "workers"))) (option (codes "epoch"))
+abbrev pub tile_command : App
+tile_command = command_of (codes "mobtile") (codes "size" ∷ codes "width" ∷ codes "near" ∷ codes "workers" ∷ codes "epoch" ∷ [])
 
 -- a side of the tiles: a number as a literal text of type numeric says it, above 0
 abbrev pub IsSide : Text → Ratio → Type 0

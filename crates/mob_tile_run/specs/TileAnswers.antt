@@ -42,3 +42,9 @@ FailsBy (Some d) settings trips fault = IsPairsFault settings.grid d trips fault
 
 abbrev pub TileFails : TileSettings → List (Option Trip) → PairFault → Type 0
 TileFails settings trips fault = FailsBy settings.near settings trips fault
+
+-- the two differ in the number of workers alone
+pub record AreSameButWorkers (a b : TileSettings) : Type 0 where
+  pub grid : a.grid ≡ b.grid
+  pub near : a.near ≡ b.near
+  pub epoch : a.epoch ≡ b.epoch

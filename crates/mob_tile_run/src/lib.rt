@@ -2,13 +2,14 @@
 #![tactic(auto)]
 
 mod answer;
-mod command;
 mod decide;
 mod fields;
+pub mod laws;
 mod parts;
 mod reading;
 mod settings;
 mod top;
+mod values;
 
 pub use settings::TileSettings;
 pub use top::{run_tile, tell_tile};

@@ -6,8 +6,8 @@ ghost use Rattle.mob_words.specs.Arguments.{IsRequired};
 ghost use Rattle.mob_tile_run.specs.CommandLine.{IsNear, IsSide, IsSides, TileSays};
 ghost use Rattle.mob_tile_run.specs.declared.settings.TileSettings.{TileSettings as SettingsSeen};
 
-use crate::command::given;
 use crate::settings::TileSettings;
+use crate::values::values_in;
 use mob_frac::Frac;
 use mob_numeral::read_number;
 use mob_tile::Grid;
@@ -77,19 +77,19 @@ pub fn settings(alloc: Global, words: &[String]) -> Result<Option<TileSettings>,
     ensures said { IfOk result (λ o. IfSome o (TileSays (map string_bytes words.now))) }
     ensures refused { IfOk result (λ o. IsNone o → (s : SettingsSeen) → TileSays (map string_bytes words.now) s → ⊥) }
 {
-    let Some(given) = given(alloc, words)? else {
+    let Some(values) = values_in(alloc, words)? else {
         return Ok(None);
     };
-    let Some(grid) = grid_of(given.size, given.width) else {
+    let Some(grid) = grid_of(values.size, values.width) else {
         return Ok(None);
     };
-    let Some(near) = near_of(given.near) else {
+    let Some(near) = near_of(values.near) else {
         return Ok(None);
     };
-    let Some(workers) = workers_of(given.workers) else {
+    let Some(workers) = workers_of(values.workers) else {
         return Ok(None);
     };
-    let Some(epoch) = epoch_of(given.epoch) else {
+    let Some(epoch) = epoch_of(values.epoch) else {
         return Ok(None);
     };
     Ok(Some(TileSettings {

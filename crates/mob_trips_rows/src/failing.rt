@@ -42,13 +42,13 @@ struct Report {
     notes: Vec<u8>,
 }
 
-static NEAR_WORDS: [&str; 5] = ["mobnear", "--k", "1", "--to", "POINT(-1 0)"];
+pub static NEAR_WORDS: [&str; 5] = ["mobnear", "--k", "1", "--to", "POINT(-1 0)"];
 
 static THIN_WORDS: [&str; 3] = ["mobthin", "--within", "1"];
 
-const TABLE: &str = "id,trip\n7,POINT(2 4)@2001-01-01\n";
+pub const TABLE: &str = "id,trip\n7,POINT(2 4)@2001-01-01\n";
 
-const NEAREST: &str = "id,approach\n7,25\n(1 rows)\n";
+pub const NEAREST: &str = "id,approach\n7,25\n(1 rows)\n";
 
 const THINNED: &str = "id,trip\n7,POINT(2 4)@2001-01-01 00:00:00+00\n";
 
@@ -240,7 +240,7 @@ fn calls(alloc: Global, fails: bool, call: u64) -> Result<Vec<u64>, AllocError> 
     Ok(calls)
 }
 
-fn strings(alloc: Global, words: &[&str]) -> Result<Vec<String>, AllocError> {
+pub fn strings(alloc: Global, words: &[&str]) -> Result<Vec<String>, AllocError> {
     let mut strings = Vec::new(alloc);
     for word in words {
         strings.push(String::from_str(alloc, word)?)?;

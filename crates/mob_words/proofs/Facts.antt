@@ -2,8 +2,9 @@
 use Rattle.std.proofs.Common.{◌≡◌, refl, true}
 use Rattle.clap.specs.Words.{is_simple_and_free}
 use Rattle.clap.proofs.OnLiterals.{clap_on_literals}
+use Rattle.mob_words.specs.Arguments.{command_of}
 use Rattle.mob_words.specs.CommandLine.{command}
 
 pub command_is_free : is_simple_and_free command ≡ true
-unfolding command clap_on_literals
+unfolding command_of clap_on_literals
 command_is_free = refl

@@ -1,6 +1,6 @@
 -- Arguments of the programs, whose options each take one value: which a command takes, and what values say.
-use Rattle.std.specs.Prelude.{◌≡◌, ◌≤◌, ℕ, ℤ, List, [], Option, Some, None, Ok, decimal, true}
-use Rattle.clap.specs.Words.{App, Rule, Text, fault_of, first_of, matches_of, new_rule}
+use Rattle.std.specs.Prelude.{◌≡◌, ◌≤◌, ℕ, ℤ, List, [], Option, Some, None, Ok, decimal, map, true}
+use Rattle.clap.specs.Words.{App, Rule, Text, fault_of, first_of, matches_of, new_app, new_rule}
 use Rattle.mob_ratio.specs.Ratio.{Ratio}
 use Rattle.mob_ratio.specs.Order.{up_to}
 use Rattle.mob_ratio.specs.Sign.{nil}
@@ -18,6 +18,10 @@ option name = record (new_rule name) { long = Some name }
 -- the command without the two options that `clap` adds by itself
 abbrev pub without_flags : App → App
 without_flags a = record a { top = record a.top { disable_help_flag = true; disable_version_flag = true } }
+
+-- the command of this name with these options, and no other; each takes one value
+unfoldable pub command_of : Text → List Text → App
+command_of name options = let bare = without_flags (new_app name) in record bare { top = record bare.top { rules = map option options } }
 
 -- the command takes these arguments, the program's name first
 unfoldable pub Takes : App → List Text → Type 0

@@ -1,12 +1,12 @@
 -- The command line of mobsql: three options that take one value each, no help and no version.
-use Rattle.std.specs.Prelude.{ℕ, List, Option, codes}
-use Rattle.clap.specs.Words.{App, Text, new_app, with_rule}
-use Rattle.mob_words.specs.Arguments.{IsCount, IsEpoch, IsOptional, IsWorkers, Takes, option, value_of, without_flags}
+use Rattle.std.specs.Prelude.{◌∷◌, [], ℕ, List, Option, codes}
+use Rattle.clap.specs.Words.{App, Text}
+use Rattle.mob_words.specs.Arguments.{IsCount, IsEpoch, IsOptional, IsWorkers, Takes, command_of, value_of}
 use Rattle.mob_words.specs.declared.options.Settings.{Settings}
 
 -- `mobsql [--workers N] [--epoch DATE] [--demo N]`
-unfoldable pub command : App
-command = with_rule (with_rule (with_rule (without_flags (new_app (codes "mobsql"))) (option (codes "workers"))) (option (codes "epoch"))) (option (codes "demo"))
+abbrev pub command : App
+command = command_of (codes "mobsql") (codes "workers" ∷ codes "epoch" ∷ codes "demo" ∷ [])
 
 -- the number of ships of the demo: from 1 to 1000; without a value there is no demo
 abbrev pub IsDemo : Option Text → Option ℕ → Type 0

@@ -1,14 +1,14 @@
 // Commands whose options each take one value, and the arguments that they take.
 ghost use Rattle.std.specs.Prelude.{◌≡◌, IfOk, IfSome, IsNone, map, string_bytes, true};
 ghost use Rattle.clap.specs.Words.{Text, app_of, first_value, found_of, is_simple_and_free, new_app, with_rule};
-ghost use Rattle.mob_words.specs.Arguments.{Takes, option, value_of, without_flags};
+ghost use Rattle.mob_words.specs.Arguments.{Takes, command_of, option, value_of, without_flags};
 
 use clap::error::ErrorKind;
 use clap::{Arg, ArgMatches, Command};
 use std::alloc::{AllocError, Global};
 
-/// The command of a program, without options: help and version are no options of it either.
-pub fn bare_command<'a>(alloc: Global, name: &'a str) -> Command<'a>
+// The command of a program, without options: help and version are no options of it either.
+fn bare_command<'a>(alloc: Global, name: &'a str) -> Command<'a>
     ensures bare { app_of result ≡ without_flags (new_app name.entry.now) }
 {
     Command::new(alloc, name)
@@ -16,8 +16,8 @@ pub fn bare_command<'a>(alloc: Global, name: &'a str) -> Command<'a>
         .disable_version_flag(true)
 }
 
-/// The command with one more option, which takes one value.
-pub fn with_option<'a>(
+// The command with one more option, which takes one value.
+fn with_option<'a>(
     alloc: Global,
     command: Command<'a>,
     name: &'a str,
@@ -28,9 +28,20 @@ pub fn with_option<'a>(
     command.arg(option)
 }
 
-/// What the arguments give to the options of a command, of which no option has a rule on another one. The first argument is the
-/// program's name. None exactly where the command does not take the arguments. Whether it takes them is what `clap` states.
-pub fn matched<'a>(
+// The command of this name with these options, each of which takes one value, and no other.
+fn command<'a>(alloc: Global, name: &'a str, options: &[&'a str]) -> Result<Command<'a>, AllocError>
+    ensures made { IfOk result (λ c. app_of c ≡ command_of name.entry.now (map (λ o. o.now) options.entry.now)) }
+{
+    let mut command = bare_command(alloc, name);
+    for option in options {
+        command = with_option(alloc, command, option)?;
+    }
+    Ok(command)
+}
+
+// What the arguments give to the options of a command, of which no option has a rule on another one. None exactly where the command does
+// not take the arguments.
+fn matched<'a>(
     command: Command<'a>,
     words: &'a [String],
 ) -> Result<Option<ArgMatches<'a>>, AllocError>
@@ -46,4 +57,22 @@ pub fn matched<'a>(
             _ => Ok(None),
         },
     }
+}
+
+/// What the arguments give to the options of the command of this name, which takes these options and no other, each with one value and at
+/// most once. The first argument is the program's name. None exactly where the command does not take the arguments. Whether it takes them
+/// is what `clap` states.
+pub fn given<'a>(
+    alloc: Global,
+    name: &'a str,
+    options: &[&'a str],
+    words: &'a [String],
+) -> Result<Option<ArgMatches<'a>>, AllocError>
+    requires free { is_simple_and_free (command_of name.now (map (λ o. o.now) options.now)) ≡ true }
+    ensures taken { IfOk result (λ o. IfSome o (λ m. Takes (command_of name.entry.now (map (λ o. o.now) options.entry.now)) (map string_bytes words.entry.now))) }
+    ensures refused { IfOk result (λ o. IsNone o → Takes (command_of name.entry.now (map (λ o. o.now) options.entry.now)) (map string_bytes words.entry.now) → ⊥) }
+    ensures values { IfOk result (λ o. IfSome o (λ m. (option : Text) → first_value (found_of m) option ≡ value_of (command_of name.entry.now (map (λ o. o.now) options.entry.now)) option (map string_bytes words.entry.now))) }
+{
+    let command = command(alloc, name, options)?;
+    matched(command, words)
 }

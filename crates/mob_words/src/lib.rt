@@ -8,7 +8,7 @@ mod readers;
 mod reading;
 mod values;
 
-pub use command::{bare_command, matched, with_option};
+pub use command::given;
 pub use options::Settings;
 pub use readers::{count_in, count_of, distance_in, epoch_of, workers_of};
 pub use reading::settings;

@@ -5,7 +5,7 @@ ghost use Rattle.mob_words.specs.declared.options.Settings.{Settings as Settings
 
 use crate::options::Settings;
 use crate::readers::{count_in, epoch_of, workers_of};
-use crate::values::given;
+use crate::values::values_in;
 use std::alloc::{AllocError, Global};
 
 // The greatest number of ships of the demo.
@@ -36,16 +36,16 @@ pub fn settings(alloc: Global, words: &[String]) -> Result<Option<Settings>, All
     ensures said { IfOk result (λ o. IfSome o (WordsSay (map string_bytes words.now))) }
     ensures refused { IfOk result (λ o. IsNone o → (s : SettingsSeen) → WordsSay (map string_bytes words.now) s → ⊥) }
 {
-    let Some(given) = given(alloc, words)? else {
+    let Some(values) = values_in(alloc, words)? else {
         return Ok(None);
     };
-    let Some(workers) = workers_of(given.workers) else {
+    let Some(workers) = workers_of(values.workers) else {
         return Ok(None);
     };
-    let Some(epoch) = epoch_of(given.epoch) else {
+    let Some(epoch) = epoch_of(values.epoch) else {
         return Ok(None);
     };
-    let Some(demo) = demo_of(given.demo) else {
+    let Some(demo) = demo_of(values.demo) else {
         return Ok(None);
     };
     Ok(Some(Settings {

@@ -1,11 +1,9 @@
-// The command mobsql, and the values that arguments give to its options.
+// The values that arguments give to the options of mobsql.
 ghost use Rattle.std.specs.Prelude.{◌≡◌, IfOk, IfSome, IsNone, codes, map, option_map, string_bytes};
-ghost use Rattle.clap.specs.Words.{app_of};
 ghost use Rattle.mob_words.specs.Arguments.{Takes, value_of};
 ghost use Rattle.mob_words.specs.CommandLine.{command};
 
-use crate::command::{bare_command, matched, with_option};
-use clap::Command;
+use crate::command::given;
 use std::alloc::{AllocError, Global};
 
 // The values of the options, borrowed from the arguments.
@@ -16,26 +14,16 @@ pub struct Values<'a> {
     pub demo: Option<&'a str>,
 }
 
-// The command: three options that take one value each.
-fn mobsql<'a>(alloc: Global) -> Result<Command<'a>, AllocError>
-    ensures command { IfOk result (λ c. app_of c ≡ command) }
-{
-    let command = bare_command(alloc, "mobsql");
-    let command = with_option(alloc, command, "workers")?;
-    let command = with_option(alloc, command, "epoch")?;
-    with_option(alloc, command, "demo")
-}
-
 // The value of each option, or None where the command does not take the arguments.
-pub fn given<'a>(alloc: Global, words: &'a [String]) -> Result<Option<Values<'a>>, AllocError>
+#[tactic(auto, using(crate::proofs::Facts::command_is_free))]
+pub fn values_in<'a>(alloc: Global, words: &'a [String]) -> Result<Option<Values<'a>>, AllocError>
     ensures taken { IfOk result (λ o. IfSome o (λ v. Takes command (map string_bytes words.entry.now))) }
     ensures refused { IfOk result (λ o. IsNone o → Takes command (map string_bytes words.entry.now) → ⊥) }
     ensures workers { IfOk result (λ o. IfSome o (λ v. option_map (λ s. s.now) v.workers ≡ value_of command (codes "workers") (map string_bytes words.entry.now))) }
     ensures epoch { IfOk result (λ o. IfSome o (λ v. option_map (λ s. s.now) v.epoch ≡ value_of command (codes "epoch") (map string_bytes words.entry.now))) }
     ensures demo { IfOk result (λ o. IfSome o (λ v. option_map (λ s. s.now) v.demo ≡ value_of command (codes "demo") (map string_bytes words.entry.now))) }
 {
-    let command = mobsql(alloc)?;
-    let Some(matches) = matched(command, words)? else {
+    let Some(matches) = given(alloc, "mobsql", &["workers", "epoch", "demo"], words)? else {
         return Ok(None);
     };
     Ok(Some(Values {

@@ -1,10 +1,13 @@
 use Rattle.std.proofs.Common.{rules, ◌≡◌, map}
 use Rattle.mob_clip.specs.Roots.{place_edge}
-use Rattle.mob_clip.proofs.Judging.{besides_fail, turned_fail, placed_fail, cuts_fail, none_fails, are_ways, level_ways, are_placed}
+use Rattle.mob_clip.proofs.Judging.{all_known, besides_fail, turned_fail, placed_fail, cuts_fail, none_fails, are_ways, level_ways, are_placed}
 use Rattle.mob_clip.proofs.roots.placed_on.Goals as goal
 
 pub returns-in-Err : goal.returns-in-Err
 returns-in-Err c = record { placed = besides_fail c.args.edges.now c.args.slice.now c.requires.sound c.in-Err.fault c.in-Err.ensures.made }
+
+pub turned-requires : goal.turned-requires
+turned-requires c = record { known = all_known c.args.slice.now.course.from c.args.slice.now.course.to c.args.edges.now c.as_slice.result.now (search rules) c.in-Ok.ensures.made.1 }
 
 pub returns-in-Err-turned : goal.returns-in-Err-turned
 returns-in-Err-turned c = record { placed = turned_fail c.args.edges.now c.args.slice.now c.requires.sound c.as_slice.result.now (search rules) c.in-Ok.ensures.made.1 c.in-Err-turned.fault c.in-Err-turned.ensures.made }

@@ -1,0 +1,83 @@
+// Fractions that need not be in lowest terms: steps on the way to a result that is reduced once.
+ghost use Rattle.std.specs.Prelude.{◌≡◌, ◌<◌, ◌^◌, pos, ◌<ℤ◌, nat_abs, IfSome};
+ghost use Rattle.mob_ratio.specs.Ratio.{over, whole, ◌+ℚ◌, ◌-ℚ◌, ◌*ℚ◌, ◌/ℚ◌, ◌<ℚ◌};
+ghost use Rattle.mob_frac.specs.Fits.{Fits, IsExact};
+
+use crate::fraction::{Frac, LIMIT, Overflow, reduced};
+use crate::reduction::product;
+use std::marker::Model;
+
+/// A fraction whose parts fit as those of a `Frac` do, and need not be in lowest terms. What does not fit so may fit in
+/// lowest terms, so there is no result where parts are too large.
+#[derive(Drop)]
+pub struct Rough {
+    num: i64,
+    den: i64,
+}
+
+impl Model for Rough {
+    ghost use Rattle.mob_ratio.specs.Ratio.{Ratio, ratio_code};
+
+    ghost Value = { Ratio };
+
+    ghost coded = { ratio_code };
+
+    ghost use Rattle.mob_frac.specs.RoughInside.{IsRough, rough_value};
+
+    ghost view = { rough_value };
+
+    ghost invariant = { IsRough };
+}
+
+// The fraction, where both parts fit.
+#[inline(always)]
+fn fitting(num: i128, den: i128) -> Option<Rough>
+    requires positive { pos 0 <ℤ den }
+    ensures fits { IfSome result (λ r. (r ≡ over num (nat_abs den)) × Fits r) }
+{
+    if -LIMIT < num && num < LIMIT && den < LIMIT {
+        Some(Rough {
+            num: num as i64,
+            den: den as i64,
+        })
+    } else {
+        None
+    }
+}
+
+impl Rough {
+    /// The difference `a - b`.
+    pub fn difference(a: &Frac, b: &Frac) -> Option<Rough>
+        ensures value { IfSome result (λ r. (r ≡ a.now -ℚ b.now) × Fits (a.now -ℚ b.now)) }
+    {
+        fitting(
+            product(a.num(), b.den()) - product(b.num(), a.den()),
+            product(a.den(), b.den()),
+        )
+    }
+
+    /// The quotient by a number above 0.
+    pub fn over(&self, other: &Rough) -> Option<Rough>
+        requires above { whole (pos 0) <ℚ other.now }
+        ensures value { IfSome result (λ r. (r ≡ self.now /ℚ other.now) × Fits (self.now /ℚ other.now)) }
+    {
+        fitting(product(self.num, other.den), product(self.den, other.num))
+    }
+
+    /// The product.
+    pub fn times(&self, other: &Rough) -> Option<Rough>
+        ensures value { IfSome result (λ r. (r ≡ self.now *ℚ other.now) × Fits (self.now *ℚ other.now)) }
+    {
+        fitting(product(self.num, other.num), product(self.den, other.den))
+    }
+
+    /// The sum with a number before it, in lowest terms.
+    pub fn behind(&self, first: &Frac) -> Result<Frac, Overflow>
+        ensures exact { IsExact (first.now +ℚ self.now) result }
+    {
+        reduced(
+            product(first.num(), self.den) + product(self.num, first.den()),
+            product(first.den(), self.den),
+        )
+    }
+}

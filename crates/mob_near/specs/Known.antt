@@ -1,0 +1,43 @@
+-- What is known at the end of a piece of time, for the piece that begins there.
+use Rattle.std.specs.Prelude.{◌≡◌}
+use Rattle.mob_ratio.specs.Ratio.{Ratio, ◌-ℚ◌}
+use Rattle.mob_frac.specs.Formula.{AllFit, square_parts}
+use Rattle.mob_plane.specs.declared.point.Point.{Point}
+use Rattle.mob_slice.specs.Comparison.{gap_parts}
+use Rattle.mob_slice.specs.LineComparison.{point_gaps}
+use Rattle.mob_slice.specs.Lines.{plane_value_of, plane_parts_of}
+use Rattle.mob_slice.specs.declared.line.PlaneLine.{PlaneLine}
+use Rattle.mob_near.specs.Distances.{length_squared}
+
+-- the point of a course, on the span between two ends, at an instant
+pub record FoundOf : Type 0 where
+  pub lower : Ratio
+  pub upper : Ratio
+  pub course : PlaneLine
+  pub at : Ratio
+  pub point : Point
+
+-- it is the course's own, and each part of its formula fits
+abbrev pub IsFound : FoundOf → Type 0
+IsFound f = (f.point ≡ plane_value_of f.course f.lower f.upper f.at) × AllFit (plane_parts_of f.course f.lower f.upper f.at)
+
+-- how far a point is from another, to the east and to the north
+pub record ApartOf : Type 0 where
+  pub left : Point
+  pub right : Point
+  pub x : Ratio
+  pub y : Ratio
+
+-- they are the differences, and each fits
+abbrev pub IsDifference : ApartOf → Type 0
+IsDifference a = (a.x ≡ a.left.x -ℚ a.right.x) × (a.y ≡ a.left.y -ℚ a.right.y) × AllFit (gap_parts (point_gaps a.left a.right))
+
+-- the square of the length of a vector
+pub record SquaredOf : Type 0 where
+  pub x : Ratio
+  pub y : Ratio
+  pub square : Ratio
+
+-- it is the square, and each part of its formula fits
+abbrev pub IsSquareOf : SquaredOf → Type 0
+IsSquareOf s = (s.square ≡ length_squared s.x s.y) × AllFit (square_parts s.x s.y)

@@ -1,0 +1,10 @@
+use Rattle.std.proofs.Common.{◌≡◌, ◌≤◌}
+use Rattle.std.specs.Prelude.{All}
+use Rattle.std.specs.Vec.{vec_capacity}
+use Rattle.mob_rtree_nodes.specs.Tree.{IsSoundNode, IsTree, Ref}
+use Rattle.mob_rtree_nodes.specs.Sifts.{IsSiftedUpTo}
+use Rattle.mob_rtree_nodes.proofs.sift.sift.Given as goal
+
+abbrev pub invariant-loop-height : goal.invariant-loop-height
+invariant-loop-height l = All IsSoundNode l.nodes.items × (l.height ≤ l.top) × (vec_capacity l.nodes ≡ vec_capacity l.initial.nodes)
+    × ((root : Ref) → IsTree root l.initial.nodes.items → IsSiftedUpTo l.ids l.initial.nodes.items l.height 0 l.nodes.items)

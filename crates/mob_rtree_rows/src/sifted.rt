@@ -1,0 +1,87 @@
+// Entries of many ids that are taken out in one pass, and the same one by one.
+ghost use Rattle.std.specs.Prelude.{◌≡◌, true, IfSome};
+ghost use Rattle.std.specs.List.Sorted.{IsNonDecreasing};
+ghost use Rattle.mob_stbox.specs.Boxes.{is_whole};
+
+use crate::boxes::boxed;
+use crate::found::finds;
+use crate::grown::{all_put, takes};
+use mob_rtree::RTree;
+use std::alloc::Global;
+
+// The ids below a number that three divides, or those that it does not.
+fn ids_below(alloc: Global, end: u32, thirds: bool) -> Option<Vec<u32>>
+    ensures rising { IfSome result (λ ids. IsNonDecreasing ids.items) }
+{
+    let mut ids = Vec::new(alloc);
+    for id in 0..end {
+        if (id % 3 == 0) == thirds {
+            ids.push(id).ok()?;
+        }
+    }
+    ids.sort_unstable();
+    Some(ids)
+}
+
+fn each_taken(tree: &mut RTree, ids: &[u32]) -> bool {
+    for id in ids {
+        if !takes(tree, *id) {
+            return false;
+        }
+    }
+    true
+}
+
+// Whether a search over the whole line finds exactly these ids.
+fn has_only(alloc: Global, tree: &RTree, ids: &[u32]) -> bool {
+    match boxed((0, 1000), (0, 0), (0, 9)) {
+        Some(asked) => finds(alloc, tree, &asked, ids),
+        None => false,
+    }
+}
+
+// Whether a tree of 600 entries has the others left, where each third is taken out in one pass.
+fn sifts(alloc: Global, tree: &mut RTree, gone: &[u32], left: &[u32]) -> bool
+    requires rising { IsNonDecreasing gone.now }
+{
+    if !all_put(tree, 0, 600) {
+        return false;
+    }
+    tree.remove_ids(gone);
+    has_only(alloc, tree, left)
+}
+
+// Whether it has the same left where they are taken out one by one.
+fn takes_each(alloc: Global, tree: &mut RTree, gone: &[u32], left: &[u32]) -> bool {
+    all_put(tree, 0, 600) && each_taken(tree, gone) && has_only(alloc, tree, left)
+}
+
+// Whether nothing is left of these, and an entry can be put in again.
+fn empties(alloc: Global, tree: &mut RTree, left: &[u32]) -> bool
+    requires rising { IsNonDecreasing left.now }
+{
+    tree.remove_ids(left);
+    if !has_only(alloc, tree, [].as_slice()) || tree.root().is_some() {
+        return false;
+    }
+    all_put(tree, 5, 6) && has_only(alloc, tree, [5].as_slice())
+}
+
+fn right(alloc: Global) -> bool {
+    let Some(gone) = ids_below(alloc, 600, true) else {
+        return false;
+    };
+    let Some(left) = ids_below(alloc, 600, false) else {
+        return false;
+    };
+    let mut tree = RTree::new(alloc);
+    let mut other = RTree::new(alloc);
+    sifts(alloc, &mut tree, &gone, &left)
+        && takes_each(alloc, &mut other, &gone, &left)
+        && empties(alloc, &mut tree, &left)
+}
+
+#[test]
+fn each_third_taken_out(rt: HostRuntime) {
+    assert!(rt; right(rt.alloc()));
+}

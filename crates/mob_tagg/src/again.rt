@@ -1,0 +1,251 @@
+//! A piece begins where the one before it ends: what was made there is not made twice.
+
+ghost use Rattle.std.specs.Prelude.{◌≡◌, true, MatchResult, IfSome};
+ghost use Rattle.mob_ratio.specs.Order.{up_to};
+ghost use Rattle.mob_frac.specs.Formula.{AllFit, sum_parts};
+ghost use Rattle.mob_span.specs.Neighbours.{is_inside};
+ghost use Rattle.mob_slice.specs.Cut.{slice_value, slice_parts};
+ghost use Rattle.mob_slice.specs.Entries.{OnFormula};
+ghost use Rattle.mob_slice.specs.Look.{IsLooked, IsLookFault};
+ghost use Rattle.mob_slice.specs.Sides.{HasValues, at_ends};
+ghost use Rattle.mob_slice.specs.Slices.{IsSound};
+ghost use Rattle.mob_slice.specs.declared.formula.Formula.TheVariants.{F2};
+ghost use Rattle.mob_tagg.specs.Last.{IsLast, IsOf};
+
+use mob_arith::Summed;
+use mob_frac::Frac;
+use mob_slice::{Course, LookFault, OpFault, Slice, limit};
+use mob_span::Span;
+use std::alloc::Global;
+use std::cell::Cell;
+use std::marker::Model;
+
+/// A piece of two values: the ends and the course of the slice of the second there, what the two are on
+/// the piece, and a course that ends with their sum.
+#[derive(Drop)]
+pub struct Ends<C> {
+    pub(crate) lower: Frac,
+    pub(crate) upper: Frac,
+    pub(crate) of: C,
+    pub(crate) left: Slice<C>,
+    pub(crate) right: Slice<C>,
+    pub(crate) sum: C,
+}
+
+/// The piece that came last.
+#[derive(Drop)]
+pub struct Last<C: Summed> {
+    ends: Ends<C>,
+}
+
+impl<C: Summed> Model for Last<C> {
+    ghost use Rattle.mob_tagg.specs.declared.again.Ends.{Ends as ends_of};
+    ghost use Rattle.mob_tagg.specs.Last.{IsLast};
+
+    ghost Value = { ends_of C };
+
+    ghost view = { λ l. l.ends };
+
+    ghost invariant = { λ l. IsLast C.value_of C.end_of C.parts_of C.number C.added l.ends };
+}
+
+impl<C: Summed> Last<C> {
+    /// The piece, where the second value and the sum are right.
+    pub fn new(ends: Ends<C>) -> Self
+        requires last { IsLast C.value_of C.end_of C.parts_of C.number C.added ends }
+    {
+        Last { ends }
+    }
+
+    fn ends(&self) -> &Ends<C>
+        ensures last { IsLast C.value_of C.end_of C.parts_of C.number C.added result.now }
+    {
+        &self.ends
+    }
+}
+
+// Whether a piece ends at an instant, on a slice of the second value.
+fn is_of<C: Course>(ends: &Ends<C>, slice: &Slice<C>, t: &Frac) -> bool
+    ensures of { result ≡ true → IsOf ends.now slice.now t.now }
+{
+    if !t.is_same(ends.right.span.upper()) {
+        return false;
+    }
+    if !slice.span.lower().is_same(&ends.lower) {
+        return false;
+    }
+    if !slice.span.upper().is_same(&ends.upper) {
+        return false;
+    }
+    if !C::same(slice.course.start(), ends.of.start()) {
+        return false;
+    }
+    C::same(slice.course.end(), ends.of.end())
+}
+
+// The value of a slice at an instant, as `limit` gives it.
+fn limit_from<C: Summed + Drop>(
+    alloc: Global,
+    slice: &Slice<C>,
+    t: &Frac,
+    ends: &Ends<C>,
+) -> Result<C::Base, LookFault>
+where
+    C::Base: Drop,
+    requires after { up_to slice.now.span.lower t.now ≡ true }
+    requires until { up_to t.now slice.now.span.upper ≡ true }
+    requires last { IsLast C.value_of C.end_of C.parts_of C.number C.added ends.now }
+    ensures value { IsLooked C.copy_allocates (slice_parts C.parts_of slice.now t.now) (slice_value C.value_of slice.now t.now) result }
+{
+    if !is_of(ends, slice, t) {
+        return limit(alloc, slice, t);
+    }
+    match C::copy_base(alloc, ends.right.course.end()) {
+        Ok(value) => Ok(value),
+        Err(_) => Err(LookFault::NoMemory),
+    }
+}
+
+// The same, where a piece came before.
+fn limit_again<C: Summed + Drop>(
+    alloc: Global,
+    slice: &Slice<C>,
+    t: &Frac,
+    last: &Option<Last<C>>,
+) -> Result<C::Base, LookFault>
+where
+    C::Base: Drop,
+    requires after { up_to slice.now.span.lower t.now ≡ true }
+    requires until { up_to t.now slice.now.span.upper ≡ true }
+    ensures value { IsLooked C.copy_allocates (slice_parts C.parts_of slice.now t.now) (slice_value C.value_of slice.now t.now) result }
+{
+    match last {
+        Some(last) => limit_from(alloc, slice, t, last.ends()),
+        None => limit(alloc, slice, t),
+    }
+}
+
+/// The slice on a part of its span, as `cut` gives it.
+pub fn cut_again<C: Summed + Drop>(
+    alloc: Global,
+    slice: &Slice<C>,
+    span: &Span,
+    last: &Option<Last<C>>,
+) -> Result<Slice<C>, LookFault>
+where
+    C::Base: Drop,
+    requires holds { IsSound C.start_of C.end_of slice.now × (is_inside slice.now.span span.now ≡ true) }
+    ensures slice { MatchResult result (λ s. HasValues C.value_of C.start_of C.end_of (slice_value C.value_of slice.now) span.now s × AllFit (at_ends (slice_parts C.parts_of slice.now) span.now)) (IsLookFault C.copy_allocates (at_ends (slice_parts C.parts_of slice.now) span.now)) }
+{
+    let from = match limit_again(alloc, slice, span.lower(), last) {
+        Ok(from) => from,
+        Err(fault) => return Err(fault),
+    };
+    let to = match limit(alloc, slice, span.upper()) {
+        Ok(to) => to,
+        Err(fault) => return Err(fault),
+    };
+    Ok(Slice {
+        span: *span,
+        course: C::of(from, to),
+    })
+}
+
+/// The sum of two values.
+pub fn summed<C: Summed>(x: &C::Base, y: &C::Base) -> Result<C::Base, OpFault>
+    ensures sum { MatchResult result (λ z. (z ≡ C.added x.now y.now) × AllFit (sum_parts (C.number x.now) (C.number y.now))) (OnFormula (λ f. (f ≡ F2) × (¬ AllFit (sum_parts (C.number x.now) (C.number y.now))))) }
+{
+    match C::sum(x, y) {
+        Ok(sum) => Ok(sum),
+        Err(passed) => Err(OpFault::Passed {
+            formula: passed.formula,
+        }),
+    }
+}
+
+// The same, where it may be the one at the end of a piece.
+fn summed_from<C: Summed>(
+    alloc: Global,
+    x: &C::Base,
+    y: &C::Base,
+    ends: &Ends<C>,
+) -> Result<C::Base, OpFault>
+where
+    requires last { IsLast C.value_of C.end_of C.parts_of C.number C.added ends.now }
+    ensures sum { MatchResult result (λ z. (z ≡ C.added x.now y.now) × AllFit (sum_parts (C.number x.now) (C.number y.now))) (OnFormula (λ f. (f ≡ F2) × (¬ AllFit (sum_parts (C.number x.now) (C.number y.now))))) }
+{
+    if !C::same(x, ends.left.course.end()) {
+        return summed::<C>(x, y);
+    }
+    if !C::same(y, ends.right.course.end()) {
+        return summed::<C>(x, y);
+    }
+    match C::copy_base(alloc, ends.sum.end()) {
+        Ok(sum) => Ok(sum),
+        Err(_) => Err(OpFault::NoMemory),
+    }
+}
+
+/// The sum of two values, where a piece may have come before.
+pub fn summed_again<C: Summed>(
+    alloc: Global,
+    x: &C::Base,
+    y: &C::Base,
+    last: &Option<Last<C>>,
+) -> Result<C::Base, OpFault>
+    ensures sum { MatchResult result (λ z. (z ≡ C.added x.now y.now) × AllFit (sum_parts (C.number x.now) (C.number y.now))) (OnFormula (λ f. (f ≡ F2) × (¬ AllFit (sum_parts (C.number x.now) (C.number y.now))))) }
+{
+    match last {
+        Some(last) => summed_from(alloc, x, y, last.ends()),
+        None => summed::<C>(x, y),
+    }
+}
+
+// A course with these limits.
+fn copied<C: Course>(alloc: Global, start: &C::Base, end: &C::Base) -> Option<C>
+where
+    C::Base: Drop,
+    requires possible { C.can_make start.now end.now }
+    ensures start { IfSome result (λ c. C.start_of c ≡ start.now) }
+    ensures end { IfSome result (λ c. C.end_of c ≡ end.now) }
+{
+    let Ok(from) = C::copy_base(alloc, start) else {
+        return None;
+    };
+    let Ok(to) = C::copy_base(alloc, end) else {
+        return None;
+    };
+    Some(C::of(from, to))
+}
+
+/// Keeps a piece for the next one. Nothing is kept where memory is refused.
+pub fn keep<C: Summed + Drop>(
+    alloc: Global,
+    memo: &Cell<Option<Last<C>>>,
+    of: &Slice<C>,
+    left: Slice<C>,
+    right: Slice<C>,
+    to: &C::Base,
+)
+where
+    C::Base: Drop,
+    requires second { C.end_of right.course ≡ slice_value C.value_of of.now right.span.upper }
+    requires second_fits { AllFit (slice_parts C.parts_of of.now right.span.upper) }
+    requires sum { to.now ≡ C.added (C.end_of left.course) (C.end_of right.course) }
+    requires sum_fits { AllFit (sum_parts (C.number (C.end_of left.course)) (C.number (C.end_of right.course))) }
+{
+    let Some(course) = copied::<C>(alloc, of.course.start(), of.course.end()) else {
+        return;
+    };
+    let Some(sum) = copied::<C>(alloc, to, to) else {
+        return;
+    };
+    let _old = memo.replace(Some(Last::new(Ends {
+        lower: *of.span.lower(),
+        upper: *of.span.upper(),
+        of: course,
+        left,
+        right,
+        sum,
+    })));
+}

@@ -1,0 +1,27 @@
+-- Commands that are made one option after the other.
+use Rattle.std.proofs.Common.{◌≡◌, ◌<◌, ◌+◌, ◌++◌, ◌∷◌, [], Bor, List, ℕ, ap, map, take, get_or, length, refl, sym, ◌∙◌}
+use Rattle.std.proofs.lemmas.List.{map-append, take_more}
+use Rattle.clap.specs.Words.{App, Rule, Text, new_app, with_rule}
+use Rattle.mob_words.specs.Arguments.{command_of, option, without_flags}
+
+pub no_option : (name : Text) → command_of name [] ≡ without_flags (new_app name)
+unfolding command_of
+no_option name = refl
+
+abbrev with_rules : App → List Rule → App
+with_rules a rules = record a { top = record a.top { rules = rules } }
+
+one_more : (name : Text) (options : List Text) (next : Text) → with_rule (command_of name options) (option next) ≡ command_of name (options ++ next ∷ [])
+unfolding command_of
+one_more name options next = ap (with_rules (without_flags (new_app name))) (sym (map-append option options (next ∷ [])))
+
+abbrev texts : List (Bor (List ℕ)) → List Text
+texts options = map (λ o. o.now) options
+
+-- with the next of the options that are lent
+pub next_option : (name : Text) (options : List (Bor (List ℕ))) (i : ℕ) (other : Bor (List ℕ)) (before after : App) → i < length options
+    → before ≡ command_of name (map (λ o. o.now) (take i options)) → after ≡ with_rule before (option (get_or options i other).now)
+    → after ≡ command_of name (map (λ o. o.now) (take (i + 1) options))
+next_option name options i other before after below is added =
+    added ∙ ap (λ (a : App). with_rule a (option (get_or options i other).now)) is ∙ one_more name (texts (take i options)) (get_or options i other).now
+    ∙ ap (command_of name) (sym (map-append (λ (o : Bor (List ℕ)). o.now) (take i options) (get_or options i other ∷ [])) ∙ ap texts (sym (take_more options i other below)))
