@@ -5,12 +5,13 @@ ghost use Rattle.mob_eval.specs.Remembered.{AreNodes, condition_nodes, lone, nam
 
 use crate::memory::Memory;
 use crate::remembered::Remembering;
+use mob_ast::SqlType;
 use mob_operators::Op;
 use mob_typed::TExpr;
 use mob_value::Store;
 use std::alloc::{AllocError, Global};
 
-// How many operators are remembered at most: each is looked for at each operator.
+// How many operators are remembered at most, about: each is looked for at each operator.
 const MOST: usize = 8;
 
 /// The nodes at a place of the script.
@@ -136,11 +137,19 @@ fn reach_of(e: &TExpr) -> Reach {
     reach
 }
 
+// What is remembered of an operator.
+#[derive(Clone, Copy)]
+enum What {
+    Outcome,
+    Box,
+}
+
 // An operator that may be remembered: its place in the script, and the place that it names.
 #[derive(Clone, Copy)]
 struct Chosen {
     at: u32,
     place: Option<u32>,
+    what: What,
 }
 
 // Which place an expression names, if it names at most one. In a query of one table each row is
@@ -153,15 +162,37 @@ fn place_named(e: &TExpr, several: bool) -> Option<Option<u32>> {
     }
 }
 
+// The operands of `&&` whose boxes may be remembered: moving points.
+fn choose_boxes(e: &TExpr, several: bool, chosen: &mut Vec<Chosen>) -> Result<(), AllocError> {
+    let Op::Overlap = e.op else {
+        return Ok(());
+    };
+    for arg in &e.args {
+        if let (SqlType::TPoint, Some(place)) = (arg.ty, place_named(arg, several)) {
+            chosen.push(Chosen {
+                at: arg.place,
+                place,
+                what: What::Box,
+            })?;
+        }
+    }
+    Ok(())
+}
+
 // The largest operators of an expression that may be remembered.
 fn choose(e: &TExpr, several: bool, chosen: &mut Vec<Chosen>) -> Result<(), AllocError> {
     if e.args.is_empty() || chosen.len() >= MOST {
         return Ok(());
     }
     if let Some(place) = place_named(e, several) {
-        chosen.push(Chosen { at: e.place, place })?;
+        chosen.push(Chosen {
+            at: e.place,
+            place,
+            what: What::Outcome,
+        })?;
         return Ok(());
     }
+    choose_boxes(e, several, chosen)?;
     for arg in &e.args {
         choose(arg, several, chosen)?;
     }
@@ -214,19 +245,21 @@ fn remember_one<K: Remembering>(
 {
     match nodes_of_all(filter, joins, chosen.at) {
         NodesAt::Only(e) => {
-            if names_only(e, chosen.place) {
-                memory.remember(alloc, chosen.at, chosen.place, rows)
-            } else {
-                Ok(())
+            if !names_only(e, chosen.place) {
+                return Ok(());
+            }
+            match chosen.what {
+                What::Outcome => memory.remember(alloc, chosen.at, chosen.place, rows),
+                What::Box => memory.remember_boxes(alloc, chosen.at, chosen.place, rows),
             }
         }
         _ => Ok(()),
     }
 }
 
-/// A memory of the operators of WHERE and ON that name at most one table of FROM: of at most eight,
-/// and of none that shares its place in the script with another. If memory is refused there are
-/// fewer.
+/// A memory of the operators of WHERE and ON that name at most one table of FROM, and of the boxes
+/// of such operands of `&&`: of about eight, and of none that shares its place in the script with
+/// another. If memory is refused there are fewer.
 pub fn memory_of<K: Remembering>(
     alloc: Global,
     store: &Store,

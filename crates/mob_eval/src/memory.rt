@@ -1,12 +1,13 @@
-//! Where the outcomes of remembered operators are kept.
+//! Where the outcomes of remembered operators, and the boxes of remembered operands, are kept.
 ghost use Rattle.std.specs.Prelude.{◌≡◌, IfSome};
 ghost use Rattle.mob_remembered.specs.Depends.{HasRow};
 ghost use Rattle.mob_eval.specs.Remembered.{IsOfPlace};
 
+use crate::own_box::ToldBox;
 use crate::remembered::{Cell, Remembering, Told};
 use once_cell::race::OnceBox;
 use std::alloc::{AllocError, Global};
-use std::marker::Model;
+use std::marker::{Model, PhantomData};
 use std::sync::atomic::AtomicU64;
 
 // How many cells are made at once.
@@ -14,19 +15,20 @@ const CELLS: usize = 256;
 
 // Cells of neighbouring rows.
 #[derive(Drop)]
-struct Chunk<K: Remembering> {
-    cells: Vec<OnceBox<Told<K>>>,
+struct Chunk<T> {
+    cells: Vec<OnceBox<T>>,
 }
 
 // The cells of an operator: one for each row of the table that it names, or one if it names none.
 #[derive(Drop)]
-struct Slot<K: Remembering> {
+struct Slot<K: Remembering, T> {
     at: u32,
     place: Option<u32>,
-    chunks: Vec<OnceBox<Chunk<K>>>,
+    chunks: Vec<OnceBox<Chunk<T>>>,
+    by: PhantomData<K>,
 }
 
-impl<K: Remembering> Model for Slot<K> {
+impl<K: Remembering, T> Model for Slot<K, T> {
     ghost use Rattle.std.specs.Prelude.{ℕ, Option};
     ghost use Rattle.mob_eval.specs.Remembered.{IsOfPlace};
 
@@ -37,14 +39,16 @@ impl<K: Remembering> Model for Slot<K> {
     ghost invariant = { λ s. IsOfPlace K.recollection s.at s.place };
 }
 
-/// What the remembered operators of a query gave. Workers share it; none waits for another.
+/// What the remembered operators of a query gave, and the boxes of remembered operands. Workers
+/// share it; none waits for another.
 #[derive(Drop)]
 pub struct Memory<K: Remembering> {
-    slots: Vec<Slot<K>>,
+    slots: Vec<Slot<K, Told<K>>>,
+    boxes: Vec<Slot<K, ToldBox<K>>>,
     taken: AtomicU64,
 }
 
-fn empty_chunk<K: Remembering>(alloc: Global) -> Result<Chunk<K>, AllocError> {
+fn empty_chunk<T: Drop>(alloc: Global) -> Result<Chunk<T>, AllocError> {
     let mut cells = Vec::with_capacity(alloc, CELLS)?;
     for _cell in 0..CELLS {
         cells.push(OnceBox::new(alloc))?;
@@ -53,7 +57,7 @@ fn empty_chunk<K: Remembering>(alloc: Global) -> Result<Chunk<K>, AllocError> {
 }
 
 // The chunk that is kept there. It is made if none is; if memory is refused there is none.
-fn chunk_in<K: Remembering>(alloc: Global, kept: &OnceBox<Chunk<K>>) -> Option<&Chunk<K>> {
+fn chunk_in<T: Drop>(alloc: Global, kept: &OnceBox<Chunk<T>>) -> Option<&Chunk<T>> {
     if let Some(chunk) = kept.get() {
         return Some(chunk);
     }
@@ -68,10 +72,7 @@ fn chunk_in<K: Remembering>(alloc: Global, kept: &OnceBox<Chunk<K>>) -> Option<&
 }
 
 // No chunks yet, for so many rows.
-fn no_chunks<K: Remembering>(
-    alloc: Global,
-    rows: usize,
-) -> Result<Vec<OnceBox<Chunk<K>>>, AllocError> {
+fn no_chunks<T: Drop>(alloc: Global, rows: usize) -> Result<Vec<OnceBox<Chunk<T>>>, AllocError> {
     let mut chunks = Vec::new(alloc);
     for _chunk in 0..rows.div_ceil(CELLS) {
         chunks.push(OnceBox::new(alloc))?;
@@ -89,9 +90,27 @@ fn row_at(place: Option<u32>, tuple: &[u32]) -> Option<u32>
     }
 }
 
-impl<K: Remembering> Slot<K> {
+impl<K: Remembering, T: Drop> Slot<K, T> {
+    // No cells yet, for so many rows.
+    fn new(
+        alloc: Global,
+        at: u32,
+        place: Option<u32>,
+        rows: usize,
+    ) -> Result<Slot<K, T>, AllocError>
+        requires fits { IsOfPlace K.recollection at place }
+    {
+        let chunks = no_chunks(alloc, rows)?;
+        Ok(Slot {
+            at,
+            place,
+            chunks,
+            by: PhantomData,
+        })
+    }
+
     // The cell of the row of a tuple. There is none where the table has no row in the tuple.
-    fn cell<'a>(&'a self, alloc: Global, tuple: &[u32], taken: &'a AtomicU64) -> Option<Cell<'a, K>>
+    fn cell<'a>(&'a self, alloc: Global, tuple: &[u32], taken: &'a AtomicU64) -> Option<Cell<'a, T>>
         ensures at { IfSome result (λ c. c.at ≡ self.now.0) }
         ensures row { IfSome result (λ c. HasRow c.place c.row tuple.now) }
         ensures place { IfSome result (λ c. IsOfPlace K.recollection c.at c.place) }
@@ -111,17 +130,21 @@ impl<K: Remembering> Slot<K> {
 }
 
 impl<K: Remembering> Memory<K> {
-    /// No operator is remembered yet.
+    /// Nothing is remembered yet.
     pub fn new(alloc: Global) -> Memory<K> {
         Memory {
             slots: Vec::new(alloc),
+            boxes: Vec::new(alloc),
             taken: AtomicU64::new(0),
         }
     }
 
-    /// Whether no operator is remembered.
+    /// Whether nothing is remembered.
     pub fn is_empty(&self) -> bool {
-        self.slots.is_empty()
+        if !self.slots.is_empty() {
+            return false;
+        }
+        self.boxes.is_empty()
     }
 
     /// Remembers one more operator, by its place in the script. It names one place of FROM alone,
@@ -135,39 +158,77 @@ impl<K: Remembering> Memory<K> {
     ) -> Result<(), AllocError>
         requires fits { IsOfPlace K.recollection at place }
     {
-        let chunks = no_chunks(alloc, rows)?;
-        self.slots.push(Slot { at, place, chunks })?;
+        let slot = Slot::new(alloc, at, place, rows)?;
+        self.slots.push(slot)?;
         Ok(())
     }
 
-    // The cell of the operator at a place of the script, on a tuple, if it is remembered.
-    fn cell<'a>(&'a self, alloc: Global, at: u32, tuple: &[u32]) -> Option<Cell<'a, K>>
-        ensures at { IfSome result (λ c. c.at ≡ at) }
-        ensures row { IfSome result (λ c. HasRow c.place c.row tuple.now) }
-        ensures place { IfSome result (λ c. IsOfPlace K.recollection c.at c.place) }
+    /// Remembers the boxes of one more operand, in the same way.
+    pub fn remember_boxes(
+        &mut self,
+        alloc: Global,
+        at: u32,
+        place: Option<u32>,
+        rows: usize,
+    ) -> Result<(), AllocError>
+        requires fits { IsOfPlace K.recollection at place }
     {
-        for slot in &self.slots {
-            if slot.at == at {
-                return slot.cell(alloc, tuple, &self.taken);
-            }
-        }
-        None
+        let slot = Slot::new(alloc, at, place, rows)?;
+        self.boxes.push(slot)?;
+        Ok(())
     }
 }
 
-/// The same, where anything is remembered.
+// The cell of what stands at a place of the script, on a tuple, if it has a slot.
+fn cell_in<'a, K: Remembering, T: Drop>(
+    alloc: Global,
+    slots: &'a [Slot<K, T>],
+    taken: &'a AtomicU64,
+    at: u32,
+    tuple: &[u32],
+) -> Option<Cell<'a, T>>
+    ensures at { IfSome result (λ c. c.at ≡ at) }
+    ensures row { IfSome result (λ c. HasRow c.place c.row tuple.now) }
+    ensures place { IfSome result (λ c. IsOfPlace K.recollection c.at c.place) }
+{
+    for slot in slots {
+        if slot.at == at {
+            return slot.cell(alloc, tuple, taken);
+        }
+    }
+    None
+}
+
+/// The cell of the operator at a place of the script, on a tuple, if its outcomes are remembered.
 pub fn cell_of<'a, K: Remembering>(
     alloc: Global,
     memory: Option<&'a Memory<K>>,
     at: u32,
     tuple: &[u32],
-) -> Option<Cell<'a, K>>
+) -> Option<Cell<'a, Told<K>>>
     ensures at { IfSome result (λ c. c.at ≡ at) }
     ensures row { IfSome result (λ c. HasRow c.place c.row tuple.now) }
     ensures place { IfSome result (λ c. IsOfPlace K.recollection c.at c.place) }
 {
     match memory {
-        Some(memory) => memory.cell(alloc, at, tuple),
+        Some(memory) => cell_in(alloc, &memory.slots, &memory.taken, at, tuple),
+        None => None,
+    }
+}
+
+/// The cell of the operand at a place of the script, on a tuple, if its boxes are remembered.
+pub fn box_cell_of<'a, K: Remembering>(
+    alloc: Global,
+    memory: Option<&'a Memory<K>>,
+    at: u32,
+    tuple: &[u32],
+) -> Option<Cell<'a, ToldBox<K>>>
+    ensures at { IfSome result (λ c. c.at ≡ at) }
+    ensures row { IfSome result (λ c. HasRow c.place c.row tuple.now) }
+    ensures place { IfSome result (λ c. IsOfPlace K.recollection c.at c.place) }
+{
+    match memory {
+        Some(memory) => cell_in(alloc, &memory.boxes, &memory.taken, at, tuple),
         None => None,
     }
 }

@@ -62,18 +62,29 @@ module _ (flexible : Bool) where
   record_text-csv ((x ∷ xs) ∷ g ∷ rest) = same_body (x ∷ xs) (g ∷ rest)
 
 -- one more row in the text of the records
-pub records_more : (names : List (List ℕ)) (rows : List (List (List ℕ))) (i : ℕ) (d : List (List ℕ)) (old new : List ℕ) → i < length rows
-    → Some old ≡ Some (concat (map record_line (names ∷ take i rows))) → new ≡ old ++ record_line (get_or rows i d)
-    → Some new ≡ Some (concat (map record_line (names ∷ take (i + 1) rows)))
-records_more names rows i d old new lt before next =
-    let row = get_or rows i d in
-    let front = take i rows in
-    let more : concat (map record_line (take (i + 1) rows)) ≡ concat (map record_line front) ++ record_line row =
-    ap (λ (w : List (List (List ℕ))). concat (map record_line w)) (take_more rows i d lt)
-    ∙ ap concat (map-append record_line front (row ∷ []))
+text_more : (names : List (List ℕ)) (front : List (List (List ℕ))) (row : List (List ℕ)) (old new : List ℕ) → Some old ≡ Some (concat (map record_line (names ∷ front))) → new ≡ old ++ record_line row → Some new ≡ Some (concat (map record_line (names ∷ (front ++ row ∷ []))))
+text_more names front row old new before next =
+    let more : concat (map record_line (front ++ row ∷ [])) ≡ concat (map record_line front) ++ record_line row =
+    ap concat (map-append record_line front (row ∷ []))
     ∙ concat-append (map record_line front) (record_line row ∷ [])
     ∙ ap (λ (w : List ℕ). concat (map record_line front) ++ w) (append-nil (record_line row)) in
     let same : old ≡ record_line names ++ concat (map record_line front) = ap (λ (o : Option (List ℕ)). unwrap_or o []) before in
     ap (λ (w : List ℕ). Some w) (next ∙ ap (λ (w : List ℕ). w ++ record_line row) same
     ∙ append_assoc (record_line names) (concat (map record_line front)) (record_line row)
     ∙ ap (λ (w : List ℕ). record_line names ++ w) (sym more))
+
+pub records_more : (names : List (List ℕ)) (rows : List (List (List ℕ))) (i : ℕ) (d : List (List ℕ)) (old new : List ℕ) → i < length rows
+    → Some old ≡ Some (concat (map record_line (names ∷ take i rows))) → new ≡ old ++ record_line (get_or rows i d)
+    → Some new ≡ Some (concat (map record_line (names ∷ take (i + 1) rows)))
+records_more names rows i d old new lt before next =
+    text_more names (take i rows) (get_or rows i d) old new before next
+    ∙ ap (λ (w : List (List (List ℕ))). Some (concat (map record_line (names ∷ w)))) (sym (take_more rows i d lt))
+
+-- and where the row is printed by f
+pub records_more_by : {R : Type 0} (f : R → List (List ℕ)) (names : List (List ℕ)) (rows : List R) (i : ℕ) (x : R) (fields : List (List ℕ)) (old new : List ℕ) → i < length rows → x ≡ get_or rows i x → fields ≡ f x
+    → Some old ≡ Some (concat (map record_line (names ∷ map f (take i rows)))) → new ≡ old ++ record_line fields
+    → Some new ≡ Some (concat (map record_line (names ∷ map f (take (i + 1) rows))))
+records_more_by f names rows i x fields old new lt is printed before next =
+    text_more names (map f (take i rows)) (f x) old new before (next ∙ ap (λ z. old ++ record_line z) printed)
+    ∙ ap (λ (w : List (List (List ℕ))). Some (concat (map record_line (names ∷ w))))
+    (ap (λ z. map f (take i rows) ++ f z ∷ []) is ∙ sym (map-append f (take i rows) (get_or rows i x ∷ [])) ∙ ap (map f) (sym (take_more rows i x lt)))

@@ -1,3 +1,4 @@
 pub mod AnswerText
+pub mod Prints
 pub mod ReadAgain
 pub mod Writers

@@ -4,4 +4,4 @@
 pub mod laws;
 mod text;
 
-pub use text::{bytes_of, counted_text, records_text};
+pub use text::{bytes_of, counted_text, counted_text_by, records_text};

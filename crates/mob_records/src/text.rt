@@ -1,9 +1,11 @@
 // Records as text.
 ghost use Rattle.std.specs.Prelude.{◌≡◌, ◌++◌, ◌∷◌, IfOk, OnOk, List, ℕ, Some, map};
+ghost use Rattle.std.specs.Fn.{FnReturnsAt};
 ghost use Rattle.std.specs.List.{concat};
 ghost use Rattle.std.specs.Io.KnownBytes.{Appends};
 ghost use Rattle.csv.specs.Writing.{text_written};
-ghost use Rattle.mob_records.specs.AnswerText.{answer_text, record_line};
+ghost use Rattle.mob_records.specs.AnswerText.{answer_text, count_line, record_line};
+ghost use Rattle.mob_records.specs.Prints.{PrintsAs};
 ghost use Rattle.mob_records.specs.Writers.{IsBetweenRecords};
 
 use csv::{Writer, WriterBuilder};
@@ -21,10 +23,32 @@ pub fn counted_text(
 ) -> Result<Vec<u8>, AllocError>
     ensures text { IfOk result (λ v. v.items ≡ answer_text names.now rows.now) }
 {
-    let mut text = records_text(alloc, names, rows)?;
+    let text = records_text(alloc, names, rows)?;
+    with_count(text, rows.len())
+}
+
+/// The same of rows that are printed one after the other by `print`, so that no two of them are in
+/// memory at once.
+pub fn counted_text_by<R, F: Fn(&R) -> Result<Items<Text>, AllocError>>(
+    alloc: Global,
+    names: &[Text],
+    rows: &[R],
+    print: F,
+) -> Result<Vec<u8>, AllocError>
+    requires callable { F.IsAlwaysCallable print }
+    ensures text { (f : R → List (List ℕ)) → PrintsAs (FnReturnsAt F.Fn print) f → IfOk result (λ v. v.items ≡ answer_text names.now (map f rows.now)) }
+{
+    let text = records_by(alloc, names, rows, print)?;
+    with_count(text, rows.len())
+}
+
+// The text with the line of the count behind it.
+fn with_count(mut text: Vec<u8>, count: usize) -> Result<Vec<u8>, AllocError>
+    ensures text { IfOk result (λ v. v.items ≡ text.items ++ count_line count) }
+{
     let mut digits = Buffer::new();
     text.extend_from_slice(b"(")?;
-    text.extend_from_slice(digits.format(rows.len()).as_bytes())?;
+    text.extend_from_slice(digits.format(count).as_bytes())?;
     text.extend_from_slice(b" rows)\n")?;
     Ok(text)
 }
@@ -43,6 +67,33 @@ pub fn records_text(
     write_record(alloc, &mut writer, names)?;
     for row in rows {
         write_record(alloc, &mut writer, row.as_slice())?;
+    }
+    match writer.into_inner() {
+        Ok(text) => Ok(text),
+        Err(_) => Err(AllocError),
+    }
+}
+
+// The records of the names and of the rows as `print` prints them.
+fn records_by<R, F: Fn(&R) -> Result<Items<Text>, AllocError>>(
+    alloc: Global,
+    names: &[Text],
+    rows: &[R],
+    print: F,
+) -> Result<Vec<u8>, AllocError>
+    requires callable { F.IsAlwaysCallable print }
+    ensures text { (f : R → List (List ℕ)) → PrintsAs (FnReturnsAt F.Fn print) f → IfOk result (λ v. v.items ≡ concat (map record_line (names.now ∷ map f rows.now))) }
+{
+    let mut writer = WriterBuilder::new()
+        .flexible(true)
+        .from_writer(Vec::new(alloc));
+    write_record(alloc, &mut writer, names)?;
+    for row in rows {
+        let fields = match print(row) {
+            Ok(fields) => fields,
+            Err(error) => return Err(error),
+        };
+        write_record(alloc, &mut writer, fields.as_slice())?;
     }
     match writer.into_inner() {
         Ok(text) => Ok(text),

@@ -1,12 +1,81 @@
 //! The walk over all instants that one of two temporal values has.
 
-ghost use Rattle.std.specs.Prelude.{◌≡◌, option_map};
+ghost use Rattle.std.specs.Prelude.{◌≡◌, true, false, option_map, IfSome, MatchOption};
+ghost use Rattle.mob_span.specs.Meet.{meet_of};
+ghost use Rattle.mob_span.specs.Remainders.{back_of};
+ghost use Rattle.mob_span.specs.Span.{has_instant};
 ghost use Rattle.mob_span.specs.Parts.{PartsAreClear};
 ghost use Rattle.mob_cuts.specs.Cuts.{wholes, head_of, left_after};
+ghost use Rattle.mob_shares.specs.Begins.{BeginTogether, EndTogether};
 ghost use Rattle.mob_shares.specs.Shares.{cut_of, rest_of, share_span, share_of, HoldsShare, CanShare, GivesShare, shares_left};
 
 use mob_slice::{Course, One, Pair, Part, Slice};
 use mob_span::Span;
+
+fn is_like(a: bool, b: bool) -> bool
+    ensures like { result ≡ true → a ≡ b }
+{
+    a == b
+}
+
+// Whether two spans begin with one instant, or both behind it.
+fn begin_together(a: &Span, b: &Span) -> bool
+    ensures together { result ≡ true → BeginTogether a.now b.now }
+{
+    if !a.lower().is_same(b.lower()) {
+        return false;
+    }
+    is_like(a.lower_inc(), b.lower_inc())
+}
+
+// Whether two spans end with one instant, or both before it.
+fn end_together(a: &Span, b: &Span) -> bool
+    ensures together { result ≡ true → EndTogether a.now b.now }
+{
+    if !a.upper().is_same(b.upper()) {
+        return false;
+    }
+    is_like(a.upper_inc(), b.upper_inc())
+}
+
+// What two spans that begin together share: the one that ends first.
+fn shorter(a: &Span, b: &Span) -> Span
+    requires together { BeginTogether a.now b.now }
+    ensures meet { result ≡ meet_of a.now b.now }
+{
+    if a.ends_before(b) {
+        return *a;
+    }
+    *b
+}
+
+// What of a span comes behind another that begins with it.
+fn back_of_longer(span: &Span, first: &Span) -> Option<Span>
+    requires together { BeginTogether first.now span.now }
+    ensures ends { IfSome result (λ p. p ≡ back_of span.now first.now) }
+    ensures test { MatchOption result (has_instant (back_of span.now first.now) ≡ false) (λ p. has_instant p ≡ true) }
+{
+    Span::new(
+        *first.upper(),
+        *span.upper(),
+        !first.upper_inc(),
+        span.upper_inc(),
+    )
+}
+
+// What of a span comes behind another, as `back` gives it. Most often the two begin or end together.
+fn back(span: &Span, first: &Span) -> Option<Span>
+    ensures ends { IfSome result (λ p. p ≡ back_of span.now first.now) }
+    ensures test { MatchOption result (has_instant (back_of span.now first.now) ≡ false) (λ p. has_instant p ≡ true) }
+{
+    if end_together(span, first) {
+        return None;
+    }
+    if begin_together(first, span) {
+        return back_of_longer(span, first);
+    }
+    span.back(first)
+}
 
 // What is left of the slices of a value: all but the first are whole.
 #[derive(Drop)]
@@ -50,8 +119,8 @@ impl<'a, C> Rest<'a, C> {
             return Rest::new(self.slices);
         };
         let back = match self.first {
-            Some(first) => first.back(span),
-            None => slice.span.back(span),
+            Some(first) => back(&first, span),
+            None => back(&slice.span, span),
         };
         match back {
             Some(back) => Rest {
@@ -132,6 +201,16 @@ impl<'a, C> Iterator for Shares<'a, C> {
             self.lefts = self.lefts.after(&left.span);
             return Some(Share::Left(left));
         };
+        if begin_together(&left.span, &right.span) {
+            let span = shorter(&left.span, &right.span);
+            self.lefts = self.lefts.after(&span);
+            self.rights = self.rights.after(&span);
+            return Some(Share::Both(Pair {
+                span,
+                left: left.slice,
+                right: right.slice,
+            }));
+        }
         if let Some(span) = left.span.front(&right.span) {
             self.lefts = self.lefts.after(&span);
             return Some(Share::Left(One {

@@ -16,10 +16,10 @@ ghost use Rattle.mob_sync.specs.Common.{pair_of};
 ghost use Rattle.mob_tagg.specs.United.{AreUnited, sides_of};
 
 use crate::again::{Last, cut_again, keep, summed, summed_again};
-use crate::taking::{either, normal_of, together};
+use crate::taking::{either, merged, normal_of};
 use mob_arith::Summed;
 use mob_frac::Frac;
-use mob_lift::{listed, single};
+use mob_lift::single;
 use mob_slice::{Course, Moving, OpFault, Pair, Slice, Steady, cut, operator_fault};
 use std::alloc::{AllocError, Global};
 use std::cell::Cell;
@@ -30,11 +30,11 @@ fn sum_on<C: Summed + Drop>(
     alloc: Global,
     pair: &Pair<'_, C, C>,
     memo: &Cell<Option<Last<C>>>,
-) -> Result<Vec<Slice<C>>, OpFault>
+) -> Result<Slice<C>, OpFault>
 where
     C::Base: Drop,
     requires fit { IsPairFit C.start_of C.end_of C.start_of C.end_of pair.now }
-    ensures given { IsGiven C.value_of C.start_of C.end_of (λ v. v.items) (on_sides C.value_of C.value_of C.added (sides_of (pair_of pair.now))) pair.now.span (entries_at_ends C.value_of C.parts_of C.value_of C.parts_of (λ x y. sum_parts (C.number x) (C.number y)) (sides_of (pair_of pair.now))) result }
+    ensures given { IsGiven C.value_of C.start_of C.end_of (λ s. s ∷ []) (on_sides C.value_of C.value_of C.added (sides_of (pair_of pair.now))) pair.now.span (entries_at_ends C.value_of C.parts_of C.value_of C.parts_of (λ x y. sum_parts (C.number x) (C.number y)) (sides_of (pair_of pair.now))) result }
 {
     let last = memo.replace(None);
     let left = match cut(alloc, pair.left, &pair.span) {
@@ -55,13 +55,10 @@ where
     };
     keep(alloc, memo, pair.right, left, right, &to);
     let _ = pair.span.lower();
-    listed(
-        alloc,
-        Slice {
-            span: pair.span,
-            course: C::of(from, to),
-        },
-    )
+    Ok(Slice {
+        span: pair.span,
+        course: C::of(from, to),
+    })
 }
 
 /// The sum of two values where both are defined, and the one that is where one is.
@@ -79,13 +76,13 @@ where
     ensures first { IsJudged (flat_map (entries_at_ends C.value_of C.parts_of C.value_of C.parts_of (λ x y. sum_parts (C.number x) (C.number y))) (pieces (Slices total.now) (Slices v.now))) result }
 {
     let memo = Cell::new(None);
-    let slices = match together(
+    let slices = match merged(
         alloc,
         total,
         v,
-        |pair: &Pair<'_, C, C>| -> Result<Vec<Slice<C>>, OpFault>
+        |pair: &Pair<'_, C, C>| -> Result<Slice<C>, OpFault>
             requires fit { IsPairFit C.start_of C.end_of C.start_of C.end_of pair.now }
-            ensures given { IsGiven C.value_of C.start_of C.end_of (λ v. v.items) (on_sides C.value_of C.value_of C.added (sides_of (pair_of pair.now))) pair.now.span (entries_at_ends C.value_of C.parts_of C.value_of C.parts_of (λ x y. sum_parts (C.number x) (C.number y)) (sides_of (pair_of pair.now))) result }
+            ensures given { IsGiven C.value_of C.start_of C.end_of (λ s. s ∷ []) (on_sides C.value_of C.value_of C.added (sides_of (pair_of pair.now))) pair.now.span (entries_at_ends C.value_of C.parts_of C.value_of C.parts_of (λ x y. sum_parts (C.number x) (C.number y)) (sides_of (pair_of pair.now))) result }
         { sum_on::<C>(alloc, pair, &memo) },
     ) {
         Ok(slices) => slices,

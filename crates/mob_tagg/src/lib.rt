@@ -8,6 +8,7 @@ pub mod laws;
 mod parts;
 mod taking;
 mod uniting;
+mod walking;
 
 pub use adding::{add_in, and_in, one, ones_of, or_in};
 pub use parts::{Part, Uniting, gathered, with_value};

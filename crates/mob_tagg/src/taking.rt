@@ -1,7 +1,7 @@
 //! Two temporal values as one: where both are defined what a closure makes of both, else the one
 //! that is.
 
-ghost use Rattle.std.specs.Prelude.{◌≡◌, ◌≢◌, ◌⊎◌, true, [], Ok, Err, IfOk, IfErr, MatchResult};
+ghost use Rattle.std.specs.Prelude.{◌≡◌, ◌≢◌, ◌⊎◌, true, [], ◌∷◌, Ok, Err, IfOk, IfErr, MatchResult};
 ghost use Rattle.std.specs.Fn.{FnReturnsAt};
 ghost use Rattle.mob_ratio.specs.Ratio.{Ratio};
 ghost use Rattle.mob_frac.specs.Formula.{AllFit};
@@ -18,6 +18,7 @@ ghost use Rattle.mob_shares.specs.Shares.{share_of, HoldsShare};
 ghost use Rattle.mob_tagg.specs.United.{IsChecked};
 ghost use Rattle.mob_shares.specs.Taken.{entry_alone, IsShareGiven, piece_parts, AreFull, AreTaken, IsFirstRefused};
 
+use crate::walking::one_each;
 use mob_lift::{lift, listed};
 use mob_normal::normal;
 use mob_shares::{Share, Shares};
@@ -25,6 +26,19 @@ use mob_slice::{Course, Moving, One, OpFault, Pair, Slice, cut, operator_fault};
 use std::alloc::Global;
 
 // A slice on a piece on which it is alone.
+fn cut_one<C: Course + Drop>(alloc: Global, one: &One<'_, C>) -> Result<Slice<C>, OpFault>
+where
+    C::Base: Drop,
+    requires fit { IsOneFit C.start_of C.end_of one.now }
+    ensures given { IsGiven C.value_of C.start_of C.end_of (λ s. s ∷ []) (slice_value C.value_of one.now.slice.now) one.now.span (entry_alone C.parts_of one.now) result }
+{
+    match cut(alloc, one.slice, &one.span) {
+        Ok(slice) => Ok(slice),
+        Err(fault) => Err(operator_fault(fault)),
+    }
+}
+
+// The same as a list.
 fn on_one<C: Course + Drop>(alloc: Global, one: &One<'_, C>) -> Result<Vec<Slice<C>>, OpFault>
 where
     C::Base: Drop,
@@ -103,6 +117,57 @@ where
             requires holds { HoldsShare C.start_of C.end_of (share_of share.now) }
             ensures given { IsShareGiven C.value_of C.start_of C.end_of C.parts_of (λ v. v.items) (FnReturnsAt F.Fn both) share.now result }
         { on_share(alloc, share, &both) },
+    )
+}
+
+// The slice that is given on one piece of the walk.
+fn slice_on_share<'a, C: Course + Drop, F: Fn(&Pair<'a, C, C>) -> Result<Slice<C>, OpFault>>(
+    alloc: Global,
+    share: &Share<'a, C>,
+    both: &F,
+) -> Result<Slice<C>, OpFault>
+where
+    C::Base: Drop,
+    requires callable { (p : _) → IsPairFit C.start_of C.end_of C.start_of C.end_of p.now → F.pre both.now p }
+    requires holds { HoldsShare C.start_of C.end_of (share_of share.now) }
+    ensures given { IsShareGiven C.value_of C.start_of C.end_of C.parts_of (λ s. s ∷ []) (FnReturnsAt F.Fn both.now) share.now result }
+{
+    match share {
+        Share::Left(one) => cut_one(alloc, one),
+        Share::Right(one) => cut_one(alloc, one),
+        Share::Both(pair) => both(pair),
+    }
+}
+
+/// The same as `together`, where `both` makes one slice of a piece. No list is made for a piece.
+pub fn merged<'a, C: Course + Drop, F: Fn(&Pair<'a, C, C>) -> Result<Slice<C>, OpFault> + Drop>(
+    alloc: Global,
+    a: &'a Moving<C>,
+    b: &'a Moving<C>,
+    both: F,
+) -> Result<Vec<Slice<C>>, OpFault>
+where
+    C::Base: Drop,
+    requires callable { (p : _) → IsPairFit C.start_of C.end_of C.start_of C.end_of p.now → F.pre both p }
+    requires sound { (p : _) (s : _) → has_instant p.span ≡ true → IsPairFit C.start_of C.end_of C.start_of C.end_of p → FnReturnsAt F.Fn both p (Ok s) → AreFull C.value_of C.start_of C.end_of p.span (s ∷ []) × AllFit (piece_parts C.parts_of (pair_of p)) }
+    requires passes { (p : _) (f : Formula) → IsPairFit C.start_of C.end_of C.start_of C.end_of p → FnReturnsAt F.Fn both p (Err (OpFault.Passed f)) → ((f ≡ F1) × (¬ AllFit (piece_parts C.parts_of (pair_of p)))) ⊎ AllFit (piece_parts C.parts_of (pair_of p)) }
+    ensures ordered { IfOk result (λ all. IsOrdered C.start_of C.end_of all.items) }
+    ensures some { IfOk result (λ all. all.items ≢ []) }
+    ensures taken { IfOk result (λ all. AreTaken C.value_of C.start_of C.end_of C.parts_of (λ s. s ∷ []) (FnReturnsAt F.Fn both) a.now b.now all.items) }
+    ensures passed { (formula : Formula) → result ≡ Err (OpFault.Passed formula) → IsFirstRefused C.start_of C.end_of C.parts_of (FnReturnsAt F.Fn both) a.now b.now formula }
+{
+    let lefts = a.slices();
+    let rights = b.slices();
+    let expected = lefts.len().saturating_add(rights.len()).saturating_add(1);
+    one_each(
+        alloc,
+        expected,
+        Shares::new(lefts, rights),
+        |share: &Share<'_, C>| -> Result<Slice<C>, OpFault>
+            requires callable { (p : _) → IsPairFit C.start_of C.end_of C.start_of C.end_of p.now → F.pre both p }
+            requires holds { HoldsShare C.start_of C.end_of (share_of share.now) }
+            ensures given { IsShareGiven C.value_of C.start_of C.end_of C.parts_of (λ s. s ∷ []) (FnReturnsAt F.Fn both) share.now result }
+        { slice_on_share(alloc, share, &both) },
     )
 }
 

@@ -20,7 +20,7 @@ use Rattle.mob_tail.specs.declared.grouped.Group.{Group}
 use Rattle.mob_tail.specs.declared.state.State.{State}
 use Rattle.mob_tail.specs.Groups.{group_fields, same_texts, same_group, under_fields, has_groups, groups_on}
 use Rattle.mob_tail.specs.GroupedAnswers.{Column, columns_of, IsArgumentOn, IsAddingTo, IsColumnValue, keys_from, IsGroupRow, IsGroupedFault}
-use Rattle.mob_tail.specs.declared.keyed.Keyed.{Keyed}
+use Rattle.mob_arrange.specs.Keyed.{Keyed}
 use Rattle.mob_literal.specs.Fields.{field_text}
 use Rattle.mob_tail.specs.GroupSteps.{column_seen, IsStart, IsStartCell, IsStartGroup, IsCellWith, FailsInCells, first_of, IsHeldOf, IsCellHeld, IsStateOf, IsCellOf, IsGroupOf, AreGroupsOf, keys_on, number_on}
 use Rattle.mob_tail.proofs.TupleSteps.{cells_ok, cells_err}

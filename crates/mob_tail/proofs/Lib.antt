@@ -1,8 +1,5 @@
-mod Orders
 mod PlanRows
-mod Seen
 mod Making
-mod OneOrder
 mod OneAnswer
 mod Aggregating
 mod TupleSteps
@@ -19,3 +16,4 @@ mod CountsFit
 mod MadeSoFar
 mod StateSteps
 mod GroupValues
+mod AnswerRows

@@ -33,19 +33,24 @@ module _ {X Y F : Type 0} (R : X → Result Y F → Type 0) where
   pub each_all : (xs : List X) (i : ℕ) (ys : List Y) → length xs ≡ i → IsMadeOfEach R (take i xs) (Ok ys) → IsMadeOfEach R xs (Ok ys)
   each_all xs i ys e h = let most : length xs ≤ i = omega arith in subst (λ z. IsMadeOfEach R z (Ok ys)) (take_all i xs most) h
 
--- what is made of the entries of a list is made of what they are seen as, and so is the first fault
-module _ {W X Y : Type 0} (G : W → Result Y EvalFault → Type 0) (R : X → Result Y Fault → Type 0) (see : W → X) where
-  pub each_seen : (ws : List W) (ys : List Y) → IsMadeOfEach G ws (Ok ys) → ((w : W) (y : Y) → G w (Ok y) → R (see w) (Ok y)) → IsMadeOfEach R (map see ws) (Ok ys)
-  each_seen [] ys h good = h
-  each_seen (w ∷ ws) ys h good = (h.0, good w h.0 h.1, (h.2.0, h.2.1, each_seen ws h.2.0 h.2.2 good))
+  pub made_length : (xs : List X) (ys : List Y) → IsMadeOfEach R xs (Ok ys) → length ys ≡ length xs
+  made_length [] ys h = ap length h
+  made_length (x ∷ xs) ys h = let e = made_length xs h.2.0 h.2.2 in let all = ap length h.2.1 in omega (arith, e, all)
 
-  passed_seen : (ws : List W) (place : ℕ) (formula : Formula) → IsMadeOfEach G ws (Err (Passed place formula)) → ((w : W) (y : Y) → G w (Ok y) → R (see w) (Ok y)) → ((w : W) (e : EvalFault) → G w (Err e) → OnPassed (λ f. R (see w) (Err f)) e)
+-- What is made of the entries of a list, as it is seen, is made of what they are seen as, and so is
+-- the first fault.
+module _ {W X Y Z : Type 0} (G : W → Result Y EvalFault → Type 0) (R : X → Result Z Fault → Type 0) (see : W → X) (show : Y → Z) where
+  pub each_seen : (ws : List W) (ys : List Y) → IsMadeOfEach G ws (Ok ys) → ((w : W) (y : Y) → G w (Ok y) → R (see w) (Ok (show y))) → IsMadeOfEach R (map see ws) (Ok (map show ys))
+  each_seen [] ys h good = ap (map show) h
+  each_seen (w ∷ ws) ys h good = (show h.0, good w h.0 h.1, (map show h.2.0, ap (map show) h.2.1, each_seen ws h.2.0 h.2.2 good))
+
+  passed_seen : (ws : List W) (place : ℕ) (formula : Formula) → IsMadeOfEach G ws (Err (Passed place formula)) → ((w : W) (y : Y) → G w (Ok y) → R (see w) (Ok (show y))) → ((w : W) (e : EvalFault) → G w (Err e) → OnPassed (λ f. R (see w) (Err f)) e)
       → IsMadeOfEach R (map see ws) (Err (place, formula))
   passed_seen [] place formula h good bad = h
   passed_seen (w ∷ ws) place formula (inl h) good bad = inl (bad w (Passed place formula) h)
-  passed_seen (w ∷ ws) place formula (inr h) good bad = inr (h.0, good w h.0 h.1, passed_seen ws place formula h.2 good bad)
+  passed_seen (w ∷ ws) place formula (inr h) good bad = inr (show h.0, good w h.0 h.1, passed_seen ws place formula h.2 good bad)
 
-  pub fault_seen : (ws : List W) (e : EvalFault) → IsMadeOfEach G ws (Err e) ⊎ (e ≡ NoMemory) → ((w : W) (y : Y) → G w (Ok y) → R (see w) (Ok y)) → ((w : W) (e : EvalFault) → G w (Err e) → OnPassed (λ f. R (see w) (Err f)) e)
+  pub fault_seen : (ws : List W) (e : EvalFault) → IsMadeOfEach G ws (Err e) ⊎ (e ≡ NoMemory) → ((w : W) (y : Y) → G w (Ok y) → R (see w) (Ok (show y))) → ((w : W) (e : EvalFault) → G w (Err e) → OnPassed (λ f. R (see w) (Err f)) e)
       → OnPassed (λ f. IsMadeOfEach R (map see ws) (Err f)) e
   fault_seen ws (Passed place formula) (inl h) good bad = passed_seen ws place formula h good bad
   fault_seen ws (Passed place formula) (inr h) good bad = absurd cc

@@ -8,16 +8,16 @@ use Rattle.mob_literal.specs.Fields.{field_text}
 use Rattle.mob_meaning.specs.Scene.{Scene, scene}
 use Rattle.mob_meaning.specs.Outcomes.{HasOneOutcome, IsOne}
 use Rattle.mob_meaning.specs.Evaluation.{Fault}
-use Rattle.mob_tail.specs.declared.keyed.Keyed.{Keyed}
+use Rattle.mob_arrange.specs.Keyed.{Keyed}
 use Rattle.mob_tail.specs.IsMadeOfEach.{IsMadeOfEach}
-use Rattle.mob_tail.specs.Order.{IsOrderedByKeys, compare_rows}
-use Rattle.mob_tail.specs.Rows.{AreFirst, AreDistinct, AreArranged, limited}
+use Rattle.mob_arrange.specs.Order.{IsOrderedByKeys, compare_rows}
+use Rattle.mob_arrange.specs.Rows.{AreFirst, AreDistinct, AreArranged, limited}
 use Rattle.mob_tail.specs.Answers.{IsField, IsKey, IsRowOf, IsTupleRow, IsPlainAnswer, IsAnswerBy, IsAnswerOnKept}
 use Rattle.mob_tail.specs.GroupedAnswers.{IsGroupedAnswer}
 use Rattle.mob_tail.specs.Groups.{groups_on}
 use Rattle.mob_tail.proofs.OneGroup.{fault_once, rows_once}
-use Rattle.mob_tail.proofs.Orders.{rows_ranked}
-use Rattle.mob_tail.proofs.OneOrder.{one_order}
+use Rattle.mob_arrange.proofs.Orders.{rows_ranked}
+use Rattle.mob_arrange.proofs.OneOrder.{one_order}
 
 module _ {X Y F : Type 0} (R : X → Result Y F → Type 0) (once : (x : X) → IsOne (R x)) where
   one_value : (x : X) (y z : Y) → R x (Ok y) → R x (Ok z) → y ≡ z

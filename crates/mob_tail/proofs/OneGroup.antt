@@ -31,7 +31,7 @@ use Rattle.mob_eval.specs.QueryFaults.{TupleFault}
 use Rattle.mob_aggregates.specs.Aggregates.{total, count, all_hold, some_holds}
 use Rattle.mob_aggregates.proofs.Joining.{one_aggregate}
 use Rattle.mob_aggregates.proofs.OneRow.{one_row_fault}
-use Rattle.mob_tail.specs.declared.keyed.Keyed.{Keyed}
+use Rattle.mob_arrange.specs.Keyed.{Keyed}
 use Rattle.mob_tail.specs.Aggregated.{IsOverTime, IsAggregated, leaves_out, adding_entries, AddingPasses, one_there, step_there, line_there, truth_there}
 use Rattle.mob_tail.specs.Groups.{same_group}
 use Rattle.mob_tail.specs.GroupedAnswers.{Column, columns_of, IsArgumentOf, IsArgument, IsArgumentOn, IsAddingTo, IsColumnValue, keys_from, IsGroupRow, IsGroupedFault}

@@ -8,10 +8,10 @@ use Rattle.mob_literal.specs.Fields.{field_text}
 use Rattle.mob_meaning.specs.Scene.{Scene, scene}
 use Rattle.mob_meaning.specs.Evaluation.{Fault, TreeEvaluatesTo}
 use Rattle.mob_eval.specs.QueryFaults.{TupleFault}
-use Rattle.mob_tail.specs.declared.keyed.Keyed.{Keyed}
+use Rattle.mob_arrange.specs.Keyed.{Keyed}
 use Rattle.mob_tail.specs.IsMadeOfEach.{IsMadeOfEach}
 use Rattle.mob_tail.specs.GroupedAnswers.{IsGroupedAnswer}
-use Rattle.mob_tail.specs.Rows.{AreArranged}
+use Rattle.mob_arrange.specs.Rows.{AreArranged}
 
 -- the printed field of an entry of the select list
 abbrev pub IsField : Scene → TypedTree × List ℕ → Result (List ℕ) Fault → Type 0

@@ -16,10 +16,10 @@ use Rattle.mob_meaning.specs.Scene.{Scene, scene}
 use Rattle.mob_meaning.specs.Evaluation.{Fault, TreeEvaluatesTo}
 use Rattle.mob_eval.specs.QueryFaults.{TupleFault}
 use Rattle.mob_aggregates.specs.Rows.{IsRowFault, Adds}
-use Rattle.mob_tail.specs.declared.keyed.Keyed.{Keyed}
+use Rattle.mob_arrange.specs.Keyed.{Keyed}
 use Rattle.mob_tail.specs.Aggregated.{IsAggregated, IsAdding}
 use Rattle.mob_tail.specs.Groups.{same_group, groups_on, first_value}
-use Rattle.mob_tail.specs.Rows.{AreArranged}
+use Rattle.mob_arrange.specs.Rows.{AreArranged}
 
 -- a column of the answer: its expression, and the aggregate over it, if it is one
 abbrev pub Column : Type 0

@@ -1,14 +1,12 @@
 pub mod Aggregated
 pub mod Answers
-pub mod Flags
 pub mod GroupLaws
 pub mod GroupSteps
 pub mod GroupedAnswers
 pub mod Groups
 pub mod IsMadeOfEach
-pub mod Order
+pub mod AnswerRows
+pub mod AnswerTexts
 pub mod Outcomes
 pub mod PlanAnswers
-pub mod Rows
 pub mod States
-pub mod TextsSeen

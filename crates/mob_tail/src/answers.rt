@@ -2,14 +2,15 @@
 ghost use Rattle.std.specs.Prelude.{◌≡◌, Ok, Err, IfOk, IfErr, map};
 ghost use Rattle.mob_typed.specs.Selects.{select_seen, output_of, key_seen};
 ghost use Rattle.mob_eval.specs.QueryFaults.{OnTuple};
-ghost use Rattle.mob_tail.specs.Rows.{AreArranged};
+ghost use Rattle.mob_arrange.specs.RowsText.{IsTextOfArranged};
+ghost use Rattle.mob_tail.specs.AnswerRows.{falls_of, answer_row};
+ghost use Rattle.mob_tail.specs.AnswerTexts.{answer_names, IsAnswerText};
 ghost use Rattle.mob_tail.specs.Answers.{IsPlainAnswer, IsAnswerOnKept};
 ghost use Rattle.mob_tail.specs.GroupedAnswers.{IsGroupedAnswer};
 
-use crate::arrange::arranged;
 use crate::evaluation::rows_on;
 use crate::grouping::grouped_rows;
-use crate::keyed::Keyed;
+use mob_arrange::{Row, arranged_text};
 use mob_eval::QueryFault;
 use mob_list::items::Items;
 use mob_list::text::Text;
@@ -18,14 +19,6 @@ use mob_tuples::Tuple;
 use mob_typed::{TExpr, TypedSelect};
 use mob_value::Store;
 use std::alloc::{AllocError, Global};
-
-/// What a query answers: the names of its columns, and its rows in order, each with the printed
-/// text of its fields.
-#[derive(Drop)]
-pub struct Answer {
-    pub names: Items<Text>,
-    pub rows: Items<Items<Text>>,
-}
 
 // The names of the columns.
 fn names_of(alloc: Global, items: &[(TExpr, Text)]) -> Result<Items<Text>, AllocError>
@@ -49,19 +42,26 @@ fn falls_of(alloc: Global, keys: &[(TExpr, bool)]) -> Result<Vec<bool>, AllocErr
     Ok(falls)
 }
 
-// The answer from its rows with their keys.
-fn arranged_answer(
+// The text of the answer from its rows.
+fn text_of(
     alloc: Global,
     select: &TypedSelect,
-    rows: Vec<Keyed>,
-) -> Result<Answer, AllocError>
-    ensures names { IfOk result (λ answer. answer.names ≡ map (λ item. item.1) (select_seen select.now).items) }
-    ensures rows { IfOk result (λ answer. AreArranged (map (λ key. key.1) (select_seen select.now).keys) select.now.distinct select.now.limit rows.items answer.rows) }
+    rows: Vec<Row<'_>>,
+    epoch: &Epoch,
+) -> Result<Vec<u8>, AllocError>
+    ensures text { IfOk result (λ text. IsTextOfArranged (answer_names (select_seen select.now)) (falls_of (select_seen select.now)) select.now.distinct select.now.limit (map (answer_row (select_seen select.now) epoch.now) rows.entry.items) text.items) }
 {
     let names = names_of(alloc, select.items.as_slice())?;
     let falls = falls_of(alloc, select.keys.as_slice())?;
-    let rows = arranged(alloc, falls.as_slice(), select.distinct, select.limit, rows)?;
-    Ok(Answer { names, rows })
+    arranged_text(
+        alloc,
+        names.as_slice(),
+        falls.as_slice(),
+        select.distinct,
+        select.limit,
+        rows,
+        epoch,
+    )
 }
 
 // What a query that is not grouped answers on the tuples that it keeps, or the first fault.
@@ -71,14 +71,13 @@ fn plain_answer(
     store: &Store,
     kept: &[Tuple],
     epoch: &Epoch,
-) -> Result<Answer, QueryFault>
-    ensures names { IfOk result (λ answer. answer.names ≡ map (λ item. item.1) (select_seen select.now).items) }
-    ensures rows { IfOk result (λ answer. IsPlainAnswer (select_seen select.now) store.now epoch.now kept.now (Ok answer.rows)) }
+) -> Result<Vec<u8>, QueryFault>
+    ensures text { IfOk result (λ text. IsAnswerText (select_seen select.now) (IsPlainAnswer (select_seen select.now) store.now epoch.now kept.now) text.items) }
     ensures fault { IfErr result (OnTuple (λ f. IsPlainAnswer (select_seen select.now) store.now epoch.now kept.now (Err f))) }
 {
     match rows_on(alloc, select, store, kept, epoch) {
-        Ok(rows) => match arranged_answer(alloc, select, rows) {
-            Ok(answer) => Ok(answer),
+        Ok(rows) => match text_of(alloc, select, rows, epoch) {
+            Ok(text) => Ok(text),
             Err(_) => Err(QueryFault::NoMemory),
         },
         Err(fault) => Err(fault),
@@ -92,21 +91,21 @@ fn grouped_answer(
     store: &Store,
     kept: &[Tuple],
     epoch: &Epoch,
-) -> Result<Answer, QueryFault>
-    ensures names { IfOk result (λ answer. answer.names ≡ map (λ item. item.1) (select_seen select.now).items) }
-    ensures rows { IfOk result (λ answer. IsGroupedAnswer (select_seen select.now) store.now epoch.now kept.now (Ok answer.rows)) }
+) -> Result<Vec<u8>, QueryFault>
+    ensures text { IfOk result (λ text. IsAnswerText (select_seen select.now) (IsGroupedAnswer (select_seen select.now) store.now epoch.now kept.now) text.items) }
     ensures fault { IfErr result (OnTuple (λ f. IsGroupedAnswer (select_seen select.now) store.now epoch.now kept.now (Err f))) }
 {
     match grouped_rows(alloc, select, store, kept, epoch) {
-        Ok(rows) => match arranged_answer(alloc, select, rows) {
-            Ok(answer) => Ok(answer),
+        Ok(rows) => match text_of(alloc, select, rows, epoch) {
+            Ok(text) => Ok(text),
             Err(_) => Err(QueryFault::NoMemory),
         },
         Err(fault) => Err(fault),
     }
 }
 
-/// What a query answers on the tuples that it keeps, or the first fault on these tuples in order.
+/// The text of what a query answers on the tuples that it keeps, or the first fault on these tuples
+/// in order. Nothing is printed before all of them are evaluated.
 ///
 /// In a query that is not grouped the select list is evaluated on each tuple from left to right,
 /// and then the keys of ORDER BY. In a grouped one the argument of each aggregate is evaluated and
@@ -116,15 +115,14 @@ fn grouped_answer(
 /// comes last; under DESC all is the other way round, with NULL first; rows whose keys tie stay in
 /// their order. Then, under DISTINCT, of rows with equal fields the first stays, and then LIMIT
 /// cuts.
-pub fn answer_to(
+pub fn answered_text(
     alloc: Global,
     select: &TypedSelect,
     store: &Store,
     kept: &[Tuple],
     epoch: &Epoch,
-) -> Result<Answer, QueryFault>
-    ensures names { IfOk result (λ answer. answer.names ≡ map (λ item. item.1) (select_seen select.now).items) }
-    ensures rows { IfOk result (λ answer. IsAnswerOnKept (select_seen select.now) store.now epoch.now kept.now (Ok answer.rows)) }
+) -> Result<Vec<u8>, QueryFault>
+    ensures text { IfOk result (λ text. IsAnswerText (select_seen select.now) (IsAnswerOnKept (select_seen select.now) store.now epoch.now kept.now) text.items) }
     ensures fault { IfErr result (OnTuple (λ f. IsAnswerOnKept (select_seen select.now) store.now epoch.now kept.now (Err f))) }
 {
     if select.grouped {

@@ -9,13 +9,15 @@ ghost use Rattle.mob_eval.specs.Views.{scene_of};
 ghost use Rattle.mob_eval.specs.QueryFaults.{OnTuple};
 ghost use Rattle.mob_tail.specs.Groups.{column_on, same_texts, group_fields, has_groups, groups_on, first_value};
 ghost use Rattle.mob_value.specs.Null.{value_or_null};
-ghost use Rattle.mob_tail.specs.GroupedAnswers.{columns_of, item_of, key_value, keys_from, IsColumnValue, IsGroupedFault, IsGroupRow};
-ghost use Rattle.mob_tail.specs.TextsSeen.{texts_of};
+ghost use Rattle.mob_tail.specs.GroupedAnswers.{columns_of, item_of, key_value, keys_from, IsColumnValue, IsGroupedFault};
+ghost use Rattle.mob_tail.specs.AnswerRows.{IsGroupRowOf};
+ghost use Rattle.mob_arrange.specs.RowValues.{row_value};
+ghost use Rattle.mob_arrange.specs.TextsSeen.{texts_of};
 ghost use Rattle.mob_tail.specs.GroupSteps.{first_of, IsGroupOf, AreGroupsOf, keys_on, number_on};
 
 use crate::columns::{column_on, columns_of, is_bare};
 use crate::grouped::{Group, group_with, no_groups, values_of};
-use crate::keyed::Keyed;
+use mob_arrange::{Row, RowValue};
 use mob_eval::{QueryFault, View};
 use mob_groups::{Groups, numbered};
 use mob_list::items::Items;
@@ -135,15 +137,15 @@ fn grouped_tuples(
     Ok(())
 }
 
-// The printed values of the columns of a group.
-fn value_fields(alloc: Global, values: &[Value], epoch: &Epoch) -> Result<Items<Text>, AllocError>
-    ensures fields { IfOk result (λ fields. fields ≡ map (field_text epoch.now) values.now) }
+// Values as those of a row.
+fn row_values<'a>(alloc: Global, values: Vec<Value>) -> Result<Items<RowValue<'a>>, AllocError>
+    ensures values { IfOk result (λ held. map row_value held ≡ values.items) }
 {
-    let mut fields = Vec::with_capacity(alloc, values.len())?;
+    let mut held = Vec::with_capacity(alloc, values.len())?;
     for value in values {
-        fields.push(text_of(alloc, value, epoch)?)?;
+        held.push(RowValue::made(alloc, value)?)?;
     }
-    Ok(Items::from_vec(fields))
+    Ok(Items::from_vec(held))
 }
 
 // The number of the column that a key means.
@@ -228,45 +230,46 @@ fn key_values(
 }
 
 // The row of a group with these values of its columns.
-fn row_with(
+fn row_with<'a>(
     alloc: Global,
     select: &TypedSelect,
     store: &Store,
     first: &Option<Tuple>,
-    columns: &[Value],
+    columns: Vec<Value>,
     epoch: &Epoch,
-) -> Result<Keyed, AllocError>
-    ensures row { (tuples : _) → first.now ≡ first_of tuples → AllZip (IsColumnValue (select_seen select.now) store.now epoch.now tuples) (columns_of (select_seen select.now)) columns.now → IfOk result (λ row. IsGroupRow (select_seen select.now) store.now epoch.now tuples row) }
+) -> Result<Row<'a>, AllocError>
+    ensures row { (tuples : _) → first.now ≡ first_of tuples → AllZip (IsColumnValue (select_seen select.now) store.now epoch.now tuples) (columns_of (select_seen select.now)) columns.items → IfOk result (λ row. IsGroupRowOf (select_seen select.now) store.now epoch.now tuples row) }
 {
-    let fields = value_fields(alloc, columns, epoch)?;
-    let keys = key_values(alloc, select, store, first, columns, epoch)?;
-    Ok(Keyed { fields, keys })
+    let keys = key_values(alloc, select, store, first, columns.as_slice(), epoch)?;
+    let keys = row_values(alloc, keys.into_vec())?;
+    let fields = row_values(alloc, columns)?;
+    Row::new(keys, fields)
 }
 
 // The row of a group.
-fn row_of(
+fn row_of<'a>(
     alloc: Global,
     select: &TypedSelect,
     store: &Store,
     group: Group<'_>,
     epoch: &Epoch,
-) -> Result<Keyed, AllocError>
-    ensures row { (tuples : _) → IsGroupOf (select_seen select.now) store.now epoch.now tuples group.entry → IfOk result (λ row. IsGroupRow (select_seen select.now) store.now epoch.now tuples row) }
+) -> Result<Row<'a>, AllocError>
+    ensures row { (tuples : _) → IsGroupOf (select_seen select.now) store.now epoch.now tuples group.entry → IfOk result (λ row. IsGroupRowOf (select_seen select.now) store.now epoch.now tuples row) }
 {
     let Group { first, cells } = group;
     let columns = values_of(alloc, cells)?;
-    row_with(alloc, select, store, &first, columns.as_slice(), epoch)
+    row_with(alloc, select, store, &first, columns, epoch)
 }
 
 // The rows of groups in order.
-fn rows_of(
+fn rows_of<'a>(
     alloc: Global,
     select: &TypedSelect,
     store: &Store,
     groups: Vec<Group<'_>>,
     epoch: &Epoch,
-) -> Result<Vec<Keyed>, AllocError>
-    ensures rows { (all : _) → AllZip (IsGroupOf (select_seen select.now) store.now epoch.now) all groups.entry.items → IfOk result (λ rows. AllZip (IsGroupRow (select_seen select.now) store.now epoch.now) all rows.items) }
+) -> Result<Vec<Row<'a>>, AllocError>
+    ensures rows { (all : _) → AllZip (IsGroupOf (select_seen select.now) store.now epoch.now) all groups.entry.items → IfOk result (λ rows. AllZip (IsGroupRowOf (select_seen select.now) store.now epoch.now) all rows.items) }
 {
     let mut rows = Vec::with_capacity(alloc, groups.len())?;
     for group in groups {
@@ -314,14 +317,14 @@ fn begun<'a>(
 /// The rows of the groups of these tuples, in the order of their first tuple, or the first fault:
 /// tuple by tuple and column by column that of the argument of an aggregate, and then that of
 /// adding its value to those of the earlier tuples of its group.
-pub fn grouped_rows(
+pub fn grouped_rows<'a>(
     alloc: Global,
     select: &TypedSelect,
     store: &Store,
     kept: &[Tuple],
     epoch: &Epoch,
-) -> Result<Vec<Keyed>, QueryFault>
-    ensures rows { IfOk result (λ rows. AllZip (IsGroupRow (select_seen select.now) store.now epoch.now) (groups_on (select_seen select.now) store.now epoch.now kept.now) rows.items) }
+) -> Result<Vec<Row<'a>>, QueryFault>
+    ensures rows { IfOk result (λ rows. AllZip (IsGroupRowOf (select_seen select.now) store.now epoch.now) (groups_on (select_seen select.now) store.now epoch.now kept.now) rows.items) }
     ensures fits { IfOk result (λ _. IsGroupedFault (select_seen select.now) store.now epoch.now kept.now None) }
     ensures fault { IfErr result (OnTuple (λ f. IsGroupedFault (select_seen select.now) store.now epoch.now kept.now (Some f))) }
 {

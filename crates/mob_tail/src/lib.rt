@@ -1,21 +1,15 @@
-//! What a query answers on the tuples that it keeps, what EXPLAIN answers, and the text in which an answer is written.
+//! The text of what a query answers on the tuples that it keeps, and of what EXPLAIN answers.
 #![tactic(auto)]
 
 mod adding;
 mod answers;
-mod arrange;
 mod columns;
-mod distinct;
 mod evaluation;
 mod grouped;
 mod grouping;
-mod keyed;
 pub mod laws;
-mod order;
 mod plans;
 mod state;
-mod text;
 
-pub use answers::{Answer, answer_to};
-pub use plans::plan_answer;
-pub use text::answer_text;
+pub use answers::answered_text;
+pub use plans::plan_text;

@@ -3,13 +3,14 @@ ghost use Rattle.std.specs.Prelude.{◌≡◌, ◌++◌, ◌∷◌, [], IfOk, co
 ghost use Rattle.mob_typed.specs.Trees.{typed_of};
 ghost use Rattle.mob_typed.specs.Selects.{on_of, select_seen};
 ghost use Rattle.mob_plan.specs.Plans.{plan_seen, step_seen};
+ghost use Rattle.mob_records.specs.AnswerText.{answer_text};
 ghost use Rattle.mob_tail.specs.PlanAnswers.{left_word, plan_line, plan_names, plan_rows};
 
-use crate::answers::Answer;
 use mob_catalog::Catalog;
 use mob_list::items::Items;
 use mob_list::text::Text;
 use mob_plan::{Plan, Step};
+use mob_records::counted_text;
 use mob_typed::{TExpr, TypedSelect};
 use std::alloc::{AllocError, Global};
 
@@ -99,19 +100,19 @@ fn lines_of(
     Ok(rows)
 }
 
-/// What EXPLAIN answers for the plan of a query: one column, `plan`, and for each table of FROM a line, `scan` and the name that the table
-/// goes by, or `probe`, this name, `by` and the name of the index. The line of a left-joined table begins with `left`.
-pub fn plan_answer(
+/// The text of what EXPLAIN answers for the plan of a query: one column, `plan`, and for each table
+/// of FROM a line, `scan` and the name that the table goes by, or `probe`, this name, `by` and the
+/// name of the index. The line of a left-joined table begins with `left`.
+pub fn plan_text(
     alloc: Global,
     plan: &Plan,
     select: &TypedSelect,
     catalog: &Catalog,
-) -> Result<Answer, AllocError>
-    ensures names { IfOk result (λ answer. answer.names ≡ plan_names) }
-    ensures rows { IfOk result (λ answer. answer.rows ≡ plan_rows catalog.now (select_seen select.now).joins 0 (plan_seen plan.now) (select_seen select.now).names) }
+) -> Result<Vec<u8>, AllocError>
+    ensures text { IfOk result (λ text. text.items ≡ answer_text plan_names (plan_rows catalog.now (select_seen select.now).joins 0 (plan_seen plan.now) (select_seen select.now).names)) }
 {
     let joins = select.joins.as_slice();
     let rows = lines_of(alloc, plan.steps(), joins, select.names.as_slice(), catalog)?;
     let names = one_field(alloc, Text::from_string(String::from_str(alloc, "plan")?))?;
-    Ok(Answer { names, rows })
+    counted_text(alloc, names.as_slice(), rows.as_slice())
 }

@@ -9,5 +9,13 @@ remember-requires g c =
     let conditions = map (option_map typed_of) (c.args.filter.now ∷ c.args.joins.now) in
     let at = c.args.chosen.now.at in
     let e = c.in-Only.e.now in
-    let only : names_only c.args.chosen.now.place (typed_of e) ≡ true = sym c.names_only.ensures.only ∙ c.if-names_only.true in
+    let only : names_only c.args.chosen.now.place (typed_of e) ≡ true = sym c.names_only.ensures.only ∙ c.if-not-names_only.false in
+    record { fits = of_place g.K.Remembering.recollection conditions at c.args.chosen.now.place e c.requires.tree c.in-Only.ensures.nodes only }
+
+pub remember_boxes-requires : goal.remember_boxes-requires
+remember_boxes-requires g c =
+    let conditions = map (option_map typed_of) (c.args.filter.now ∷ c.args.joins.now) in
+    let at = c.args.chosen.now.at in
+    let e = c.in-Only.e.now in
+    let only : names_only c.args.chosen.now.place (typed_of e) ≡ true = sym c.names_only.ensures.only ∙ c.if-not-names_only.false in
     record { fits = of_place g.K.Remembering.recollection conditions at c.args.chosen.now.place e c.requires.tree c.in-Only.ensures.nodes only }

@@ -1,8 +1,9 @@
-use Rattle.std.proofs.Common.{Ok, take}
+use Rattle.std.proofs.Common.{Ok, map, take}
 use Rattle.mob_typed.specs.Selects.{select_seen}
 use Rattle.mob_tail.specs.IsMadeOfEach.{IsMadeOfEach}
 use Rattle.mob_tail.specs.Answers.{IsTupleRow}
+use Rattle.mob_tail.specs.AnswerRows.{answer_row}
 use Rattle.mob_tail.proofs.evaluation.rows_on.Given as goal
 
 abbrev pub invariant-loop-tuple : goal.invariant-loop-tuple
-invariant-loop-tuple l = IsMadeOfEach (IsTupleRow (select_seen l.select) l.store l.epoch) (take l.tuple-index l.kept) (Ok l.rows.items)
+invariant-loop-tuple l = IsMadeOfEach (IsTupleRow (select_seen l.select) l.store l.epoch) (take l.tuple-index l.kept) (Ok (map (answer_row (select_seen l.select) l.epoch) l.rows.items))

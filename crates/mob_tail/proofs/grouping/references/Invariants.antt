@@ -1,5 +1,5 @@
 use Rattle.std.proofs.Common.{◌≡◌, map, take}
-use Rattle.mob_tail.specs.TextsSeen.{texts_of}
+use Rattle.mob_arrange.specs.TextsSeen.{texts_of}
 use Rattle.mob_tail.proofs.grouping.references.Given as goal
 
 abbrev pub invariant-loop-key : goal.invariant-loop-key

@@ -1,4 +1,4 @@
-use Rattle.std.proofs.Common.{sym, ◌∙◌, subst}
+use Rattle.std.proofs.Common.{sym, subst}
 use Rattle.std.specs.List.{AllZip}
 use Rattle.mob_typed.specs.Selects.{select_seen}
 use Rattle.mob_tail.specs.GroupedAnswers.{columns_of, IsColumnValue}
@@ -10,5 +10,5 @@ returns c = record {
   row = λ tuples h.
       let select = select_seen c.args.select.now in
       let made = values_made select c.args.store.now c.args.epoch.now tuples c.args.group h in
-      c.row_with.ensures.row tuples h.first (subst (λ z. AllZip (IsColumnValue select c.args.store.now c.args.epoch.now tuples) (columns_of select) z) (sym (c.as_slice.ensures.value ∙ c.in_ok-columns.ensures.values made.0 made.1)) made.2);
+      c.row_with.ensures.row tuples h.first (subst (λ z. AllZip (IsColumnValue select c.args.store.now c.args.epoch.now tuples) (columns_of select) z) (sym (c.in_ok-columns.ensures.values made.0 made.1)) made.2);
 }

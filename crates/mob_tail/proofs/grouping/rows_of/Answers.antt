@@ -4,7 +4,7 @@ use Rattle.std.proofs.lemmas.List.{nil_from_length}
 use Rattle.std.specs.Vec.Iter.{into_iter_items}
 use Rattle.mob_span.proofs.Chained.{counted_down}
 use Rattle.mob_typed.specs.Selects.{select_seen}
-use Rattle.mob_tail.specs.GroupedAnswers.{IsGroupRow}
+use Rattle.mob_tail.specs.AnswerRows.{IsGroupRowOf}
 use Rattle.mob_tail.specs.GroupSteps.{IsGroupOf}
 use Rattle.mob_tail.proofs.MadeSoFar.{made_none, made_more, made_all}
 use Rattle.mob_tail.proofs.grouping.rows_of.Goals as goal
@@ -12,7 +12,7 @@ use Rattle.mob_tail.proofs.grouping.rows_of.Goals as goal
 pub loop-group-init : goal.loop-group-init
 loop-group-init c =
     let R = IsGroupOf (select_seen c.args.select.now) c.args.store.now c.args.epoch.now in
-    let Q = IsGroupRow (select_seen c.args.select.now) c.args.store.now c.args.epoch.now in
+    let Q = IsGroupRowOf (select_seen c.args.select.now) c.args.store.now c.args.epoch.now in
     let none : c.in_ok-rows.rows.items ≡ [] = search rules in
     let whole : into_iter_items c.into_iter-group-iterator.result ≡ c.args.groups.items = search rules in
     record {
@@ -26,7 +26,7 @@ pub loop-group-preserved : goal.loop-group-preserved
 loop-group-preserved c =
     let left = c.in-Some.ensures.steps.0 in
     let R = IsGroupOf (select_seen c.args.select.now) c.args.store.now c.args.epoch.now in
-    let Q = IsGroupRow (select_seen c.args.select.now) c.args.store.now c.args.epoch.now in
+    let Q = IsGroupRowOf (select_seen c.args.select.now) c.args.store.now c.args.epoch.now in
     record {
       goes = tt;
       ends = tt;
@@ -38,5 +38,5 @@ loop-group-preserved c =
 pub returns : goal.returns
 returns c = record {
   rows = λ all h.
-      made_all (IsGroupOf (select_seen c.args.select.now) c.args.store.now c.args.epoch.now) (IsGroupRow (select_seen c.args.select.now) c.args.store.now c.args.epoch.now) all c.loop-group.rows.items (into_iter_items c.loop-group.group-iterator) (nil_from_length _ (sym c.loop-group.invariant.counted ∙ c.in-None.ensures.steps.0)) (c.loop-group.invariant.made all h);
+      made_all (IsGroupOf (select_seen c.args.select.now) c.args.store.now c.args.epoch.now) (IsGroupRowOf (select_seen c.args.select.now) c.args.store.now c.args.epoch.now) all c.loop-group.rows.items (into_iter_items c.loop-group.group-iterator) (nil_from_length _ (sym c.loop-group.invariant.counted ∙ c.in-None.ensures.steps.0)) (c.loop-group.invariant.made all h);
 }

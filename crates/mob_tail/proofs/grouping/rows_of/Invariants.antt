@@ -2,7 +2,7 @@ use Rattle.std.proofs.Common.{◌≡◌, List, ℕ, length}
 use Rattle.std.specs.List.{AllZip}
 use Rattle.std.specs.Vec.Iter.{into_iter_items, into_iter_len}
 use Rattle.mob_typed.specs.Selects.{select_seen}
-use Rattle.mob_tail.specs.GroupedAnswers.{IsGroupRow}
+use Rattle.mob_tail.specs.AnswerRows.{IsGroupRowOf}
 use Rattle.mob_tail.specs.GroupSteps.{IsGroupOf}
 use Rattle.mob_tail.proofs.MadeSoFar.{IsMadeSoFar}
 use Rattle.mob_tail.proofs.grouping.rows_of.Given as goal
@@ -12,5 +12,5 @@ invariant-loop-group l = record {
   goes : goal.iterator-loop-group.can_next l.group-iterator;
   ends : goal.iterator-loop-group.is_finite l.group-iterator;
   counted : into_iter_len l.group-iterator ≡ length (into_iter_items l.group-iterator);
-  made : (all : List (List (List ℕ))) → AllZip (IsGroupOf (select_seen l.select) l.store l.epoch) all l.fn.groups.items → IsMadeSoFar (IsGroupOf (select_seen l.select) l.store l.epoch) (IsGroupRow (select_seen l.select) l.store l.epoch) all l.rows.items (into_iter_items l.group-iterator);
+  made : (all : List (List (List ℕ))) → AllZip (IsGroupOf (select_seen l.select) l.store l.epoch) all l.fn.groups.items → IsMadeSoFar (IsGroupOf (select_seen l.select) l.store l.epoch) (IsGroupRowOf (select_seen l.select) l.store l.epoch) all l.rows.items (into_iter_items l.group-iterator);
 }

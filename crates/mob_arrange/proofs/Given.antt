@@ -1,0 +1,36 @@
+-- Rows that are cut and printed.
+use Rattle.std.proofs.Common.{◌≡◌, ℕ, ℤ, ◌-◌, Bool, List, [], ◌∷◌, Option, Some, None, length, map, take, drop, refl, sym, ap, subst, ◌∙◌, arith}
+use Rattle.std.proofs.lemmas.List.{take_all, take-map, drop-map, length-drop}
+use Rattle.mob_value.specs.declared.value.Value.{Value}
+use Rattle.mob_literal.specs.Fields.{field_text}
+use Rattle.mob_arrange.specs.Keyed.{Keyed, row_of_values}
+use Rattle.mob_arrange.specs.Order.{IsOrderedByKeys}
+use Rattle.mob_arrange.specs.Rows.{AreDistinct, limited}
+use Rattle.mob_arrange.specs.RowsText.{IsTextOfGiven, IsTextOfArranged}
+
+pub behind_all : {X Y : Type 0} (f : X → Y) (n : ℕ) (xs : List X) → map f (take (length xs - n) (drop n xs)) ≡ drop n (map f xs)
+behind_all f n xs = let count = length-drop n xs in ap (map f) (take_all (length xs - n) (drop n xs) (omega (arith, count))) ∙ sym (drop-map f n xs)
+
+-- what is cut and then printed is what is printed and then cut
+pub cut_before : {X Y : Type 0} (f : X → Y) (limit : Option ℕ) (xs : List X) → map f (limited limit xs) ≡ limited limit (map f xs)
+cut_before f None xs = refl
+cut_before f (Some n) xs = sym (take-map f n xs)
+
+module _ (day : ℤ) (keys : ℕ) where
+  printed_fields : (rows : List (List Value)) → map (λ (row : List Value). map (field_text day) (drop keys row)) rows ≡ map (λ (row : Keyed). row.fields) (map (row_of_values day keys) rows)
+  printed_fields [] = refl
+  printed_fields (row ∷ rows) = ap (λ z. map (field_text day) (drop keys row) ∷ z) (printed_fields rows)
+
+  pub text_arranged : (names : List (List ℕ)) (falls : List Bool) (distinct : Bool) (limit : Option ℕ) (rows ordered : List (List Value)) (text : List ℕ) → IsOrderedByKeys falls (map (row_of_values day keys) rows) (map (row_of_values day keys) ordered)
+      → IsTextOfGiven names distinct limit (map (λ row. map (field_text day) (drop keys row)) ordered) text → IsTextOfArranged names falls distinct limit (map (row_of_values day keys) rows) text
+  text_arranged names falls distinct limit rows ordered text order given = (
+    limited limit given.0,
+    record {
+      ordered = map (row_of_values day keys) ordered;
+      in_order = order;
+      kept = given.0;
+      distinct_rows = subst (λ z. AreDistinct distinct z given.0) (printed_fields ordered) given.1;
+      cut = refl;
+    },
+    given.2,
+  )

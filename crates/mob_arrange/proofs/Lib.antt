@@ -1,0 +1,6 @@
+mod Carried
+mod Given
+pub mod OneOrder
+pub mod Orders
+pub mod Seen
+mod WholeNumbers

@@ -1,0 +1,8 @@
+pub mod FirstNumber
+pub mod Flags
+pub mod Keyed
+pub mod Order
+pub mod RowValues
+pub mod Rows
+pub mod RowsText
+pub mod TextsSeen

@@ -1,0 +1,8 @@
+-- The value that an entry of a row has.
+use Rattle.mob_value.specs.declared.value.Value.{Value}
+use Rattle.mob_arrange.specs.declared.row_values.RowValue.{RowValue}
+use Rattle.mob_arrange.specs.declared.row_values.RowValue.TheVariants.{Stored, Made}
+
+abbrev pub row_value : RowValue → Value
+row_value (Stored r) = r.now
+row_value (Made v) = v

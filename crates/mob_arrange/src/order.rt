@@ -1,0 +1,152 @@
+// The order of rows by their keys.
+ghost use Rattle.std.specs.Prelude.{◌≡◌, OnOk, ℤ, length, map};
+ghost use Rattle.std.specs.Ordering.{int_cmp};
+ghost use Rattle.mob_slice.specs.Ranks.{compare_ratio};
+ghost use Rattle.mob_ratio.specs.Ratio.{whole};
+ghost use Rattle.mob_arrange.specs.Keyed.{row_of_values};
+ghost use Rattle.mob_arrange.specs.RowValues.{row_value};
+ghost use Rattle.mob_arrange.specs.Order.{type_rank, compare_values, compare_key, first_key, other_keys, compare_keys, IsOrderedByKeys};
+
+use crate::row_values::RowValue;
+use crate::rows::Row;
+use mob_frac::Frac;
+use mob_slice::Ranked;
+use mob_value::Value;
+use std::alloc::AllocError;
+use std::cmp::Ordering;
+
+fn place(value: &Value) -> u8
+    ensures place { result ≡ type_rank value.now }
+{
+    match value {
+        Value::Bool(_) => 0,
+        Value::Number(_) => 1,
+        Value::Text(_) => 2,
+        Value::Moment(_) => 3,
+        Value::Point(_) => 4,
+        Value::Polygon(_) => 5,
+        Value::Span(_) => 6,
+        Value::SpanSet(_) => 7,
+        Value::Box(_) => 8,
+        Value::MovingBool(_) => 9,
+        Value::MovingInt(_) => 10,
+        Value::MovingFrac(_) => 11,
+        Value::MovingText(_) => 12,
+        Value::MovingPoint(_) => 13,
+        Value::Null => 14,
+    }
+}
+
+// By one comparison.
+fn compare_numbers(a: &Frac, b: &Frac) -> Ordering
+    ensures order { result ≡ compare_ratio a.now b.now }
+{
+    Frac::compare(a, b)
+}
+
+fn compare(a: &Value, b: &Value) -> Ordering
+    ensures order { result ≡ compare_values a.now b.now }
+{
+    match (a, b) {
+        (Value::Bool(a), Value::Bool(b)) => a.cmp(b),
+        (Value::Number(a), Value::Number(b)) => compare_numbers(a, b),
+        (Value::Text(a), Value::Text(b)) => Ranked::compare(a, b),
+        (Value::Moment(a), Value::Moment(b)) => compare_numbers(a, b),
+        _ => place(a).cmp(&place(b)),
+    }
+}
+
+// The first value, or this NULL where there is none.
+fn first_or<'a>(values: &'a [RowValue<'_>], null: &'a Value) -> &'a Value
+    requires null { null.now ≡ Value.Null }
+    ensures first { result.now ≡ first_key (map row_value values.now) }
+{
+    match values.first() {
+        None => null,
+        Some(value) => value.get(),
+    }
+}
+
+fn compare_first(falls: bool, a: &[RowValue<'_>], b: &[RowValue<'_>]) -> Ordering
+    ensures order { result ≡ compare_key falls (first_key (map row_value a.now)) (first_key (map row_value b.now)) }
+{
+    let null = Value::Null;
+    let a = first_or(a, &null);
+    let b = first_or(b, &null);
+    if falls { compare(b, a) } else { compare(a, b) }
+}
+
+fn compare_ints(a: i64, b: i64) -> Ordering
+    ensures order { result ≡ int_cmp a b }
+{
+    a.cmp(&b)
+}
+
+fn compare_whole(falls: bool, a: i64, b: i64) -> Ordering
+    ensures order { result ≡ compare_key falls (Value.Number (whole a)) (Value.Number (whole b)) }
+{
+    if falls {
+        compare_ints(b, a)
+    } else {
+        compare_ints(a, b)
+    }
+}
+
+// The order of the first keys, by the whole numbers that the rows have beside their values.
+fn compare_rows(falls: bool, a: &Row<'_>, b: &Row<'_>) -> Ordering
+    ensures order { result ≡ compare_key falls (first_key a.now) (first_key b.now) }
+{
+    match (a.first(), b.first()) {
+        (Some(a), Some(b)) => compare_whole(falls, a, b),
+        _ => compare_first(falls, a.values(), b.values()),
+    }
+}
+
+fn others<'a, 'b>(values: &'a [RowValue<'b>]) -> &'a [RowValue<'b>]
+    ensures others { map row_value result.now ≡ other_keys (map row_value values.now) }
+{
+    if values.is_empty() {
+        &values[values.len()..]
+    } else {
+        &values[1..]
+    }
+}
+
+fn compare_all(falls: &[bool], a: &[RowValue<'_>], b: &[RowValue<'_>]) -> Ordering
+    ensures order { result ≡ compare_keys falls.now (map row_value a.now) (map row_value b.now) }
+{
+    let Some((falls, rest)) = falls.split_first() else {
+        return Ordering::Equal;
+    };
+    match compare_first(*falls, a, b) {
+        Ordering::Equal => compare_all(rest, others(a), others(b)),
+        order => order,
+    }
+}
+
+fn compare_by(falls: &[bool], a: &Row<'_>, b: &Row<'_>) -> Ordering
+    ensures order { result ≡ compare_keys falls.now a.now b.now }
+{
+    let Some((falls, rest)) = falls.split_first() else {
+        return Ordering::Equal;
+    };
+    match compare_rows(*falls, a, b) {
+        Ordering::Equal => compare_all(rest, others(a.values()), others(b.values())),
+        order => order,
+    }
+}
+
+/// Puts the rows in the order of their keys: a key falls where its entry in `falls` is true, NULL
+/// stands behind every other value where a key rises and before it where it falls, and rows whose
+/// keys tie stay in their order.
+pub fn order(falls: &[bool], rows: &mut Vec<Row<'_>>) -> Result<(), AllocError>
+    ensures ordered { OnOk result ((day : ℤ) → IsOrderedByKeys falls.now (map (row_of_values day (length falls.now)) rows.old.items) (map (row_of_values day (length falls.now)) rows.new.items)) }
+{
+    let compare = |a: &Row<'_>, b: &Row<'_>| -> Ordering
+        ensures order { result ≡ compare_keys falls.entry.now a.now b.now }
+    { compare_by(falls, a, b) };
+    match rows.sort_by(compare) {
+        Ok(()) => Ok(()),
+        Err(error) => Err(error),
+    }
+}

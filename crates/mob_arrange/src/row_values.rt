@@ -1,0 +1,35 @@
+//! The values of a row.
+ghost use Rattle.std.specs.Prelude.{◌≡◌, IfOk};
+ghost use Rattle.mob_arrange.specs.RowValues.{row_value};
+
+use mob_value::{Boxed, Value};
+use std::alloc::{AllocError, Global};
+
+/// A value of a row: one that lies in the store, or one that was made, behind a pointer, so that a
+/// row of stored values is small.
+#[derive(Drop)]
+pub enum RowValue<'a> {
+    /// A stored value.
+    Stored(&'a Value),
+    /// A made value.
+    Made(Boxed<Value>),
+}
+
+impl<'a> RowValue<'a> {
+    /// A made value, in memory of its own.
+    pub fn made(alloc: Global, value: Value) -> Result<RowValue<'a>, AllocError>
+        ensures value { IfOk result (λ v. row_value v ≡ value) }
+    {
+        Ok(RowValue::Made(Boxed::new(alloc, value)?))
+    }
+
+    /// The value.
+    pub fn get(&self) -> &Value
+        ensures value { result.now ≡ row_value self.now }
+    {
+        match self {
+            RowValue::Stored(value) => value,
+            RowValue::Made(value) => value.get(),
+        }
+    }
+}

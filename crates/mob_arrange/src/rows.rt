@@ -1,0 +1,115 @@
+//! A row of an answer before it is printed.
+ghost use Rattle.std.specs.Prelude.{◌≡◌, ◌++◌, IfOk, IfSome, map};
+ghost use Rattle.mob_ratio.specs.Ratio.{whole};
+ghost use Rattle.mob_value.specs.declared.value.Value.TheVariants.{Number};
+ghost use Rattle.mob_arrange.specs.Order.{first_key};
+ghost use Rattle.mob_arrange.specs.RowValues.{row_value};
+ghost use Rattle.mob_arrange.specs.FirstNumber.{unknown, KnowsFirst};
+
+use crate::row_values::RowValue;
+use mob_frac::Frac;
+use mob_list::items::Items;
+use mob_value::Value;
+use std::alloc::AllocError;
+use std::marker::Model;
+
+// The number of a row whose first value is no whole number. A fraction has no such numerator.
+const UNKNOWN: i64 = i64::MIN;
+
+/// A row of an answer: the values of its keys, and behind them those of its fields. Contracts see
+/// the list of these values.
+///
+/// Where the first value is a whole number, the row has it beside the list, so that most rows are
+/// put in order without a look at their values.
+#[derive(Drop)]
+pub struct Row<'a> {
+    values: Items<RowValue<'a>>,
+    first: i64,
+}
+
+impl<'a> Model for Row<'a> {
+    ghost use Rattle.std.specs.Prelude.{List, map};
+    ghost use Rattle.mob_value.specs.declared.value.Value.{Value as SqlValue};
+    ghost use Rattle.mob_arrange.specs.RowValues.{row_value};
+    ghost use Rattle.mob_arrange.specs.FirstNumber.{KnowsFirst};
+
+    ghost Value = { List SqlValue };
+
+    ghost view = { λ r. map row_value r.values };
+
+    ghost invariant = { λ r. KnowsFirst r.first (map row_value r.values) };
+}
+
+// The number itself where it is whole.
+fn whole_part(number: &Frac) -> i64
+    ensures whole { (result ≡ unknown → ⊥) → number.now ≡ whole result }
+{
+    if number.den() == 1 {
+        number.num()
+    } else {
+        UNKNOWN
+    }
+}
+
+// A value that is a whole number, as that number.
+fn whole_number(value: &Value) -> i64
+    ensures whole { (result ≡ unknown → ⊥) → value.now ≡ Number (whole result) }
+{
+    match value {
+        Value::Number(number) => whole_part(number),
+        _ => UNKNOWN,
+    }
+}
+
+// What is known of the first of these values.
+fn first_number(values: &[RowValue<'_>]) -> i64
+    ensures known { KnowsFirst result (map row_value values.now) }
+{
+    match values.first() {
+        Some(value) => whole_number(value.get()),
+        None => UNKNOWN,
+    }
+}
+
+// One list behind another.
+fn joined<T: Drop>(mut front: Vec<T>, mut back: Vec<T>) -> Result<Vec<T>, AllocError>
+    ensures joined { IfOk result (λ all. all.items ≡ front.items ++ back.items) }
+{
+    front.append(&mut back)?;
+    Ok(front)
+}
+
+impl<'a> Row<'a> {
+    /// The row of these keys and fields.
+    pub fn new(
+        keys: Items<RowValue<'a>>,
+        fields: Items<RowValue<'a>>,
+    ) -> Result<Row<'a>, AllocError>
+        ensures values { IfOk result (λ row. row ≡ map row_value keys.entry ++ map row_value fields.entry) }
+    {
+        let values = joined(keys.into_vec(), fields.into_vec())?;
+        let first = first_number(values.as_slice());
+        Ok(Row {
+            values: Items::from_vec(values),
+            first,
+        })
+    }
+
+    /// The values of the keys, and behind them those of the fields.
+    pub fn values(&self) -> &[RowValue<'a>]
+        ensures values { map row_value result.now ≡ self.now }
+    {
+        self.values.as_slice()
+    }
+
+    /// The first value where it is a whole number, and nothing where this is not known.
+    pub fn first(&self) -> Option<i64>
+        ensures whole { IfSome result (λ n. first_key self.now ≡ Number (whole n)) }
+    {
+        if self.first == UNKNOWN {
+            None
+        } else {
+            Some(self.first)
+        }
+    }
+}

@@ -1,0 +1,13 @@
+-- Spans with one end.
+use Rattle.std.specs.Prelude.{◌≡◌}
+use Rattle.mob_span.specs.Span.{SpanOf}
+
+-- two spans begin with one instant, or both behind it
+pub record BeginTogether (a b : SpanOf) : Type 0 where
+  pub lower : a.lower ≡ b.lower
+  pub with : a.lower_inc ≡ b.lower_inc
+
+-- two spans end with one instant, or both before it
+pub record EndTogether (a b : SpanOf) : Type 0 where
+  pub upper : a.upper ≡ b.upper
+  pub with : a.upper_inc ≡ b.upper_inc

@@ -1,0 +1,19 @@
+-- The rows of an answer before they are printed.
+use Rattle.std.specs.Prelude.{ℤ, ℕ, Bool, List, length, map}
+use Rattle.mob_typed.specs.Selects.{TypedSelectParts}
+use Rattle.mob_value.specs.declared.value.Value.{Value}
+use Rattle.mob_value.specs.declared.store.Store.{Store}
+use Rattle.mob_arrange.specs.Keyed.{Keyed, row_of_values}
+use Rattle.mob_tail.specs.GroupedAnswers.{IsGroupRow}
+
+-- for each key whether it falls
+abbrev pub falls_of : TypedSelectParts → List Bool
+falls_of select = map (λ key. key.1) select.keys
+
+-- the row of the values of its keys, and behind them of those of its fields
+abbrev pub answer_row : TypedSelectParts → ℤ → List Value → Keyed
+answer_row select day values = row_of_values day (length (falls_of select)) values
+
+-- the row of a group, as values
+abbrev pub IsGroupRowOf : TypedSelectParts → Store → ℤ → List (List ℕ) → List Value → Type 0
+IsGroupRowOf select store day group values = IsGroupRow select store day group (answer_row select day values)
