@@ -1,5 +1,5 @@
 // Work divided into pieces, which run side by side.
-ghost use Rattle.std.specs.Prelude.{◌≡◌, ◌+◌, ◌-◌, ◌*◌, ◌/◌, ◌≤◌, Result, IfOk};
+ghost use Rattle.std.specs.Prelude.{◌≡◌, ◌+◌, ◌≤◌, Result, IfOk};
 ghost use Rattle.std.specs.Thread.{IsSend, IsSync};
 ghost use Rattle.mob_fan.specs.Outcomes.{outcome_seen};
 
@@ -53,7 +53,7 @@ fn pieces<R: Threads + Sync, W: Work, G: Gate>(
     let low = count / 2;
     let high = count - low;
     let next = first + low;
-    let middle = part_end(from, to, low, count);
+    let middle = work.share_end(from, to, low, count);
     let front = move || -> Result<Outcome<W::Item, W::Fault>, AllocError>
         requires shared { IsSync R.row × IsSync W.row × IsSync G.row }
         requires sent { IsSend W.Item.row × IsSend W.Fault.row }
@@ -74,22 +74,4 @@ fn pieces<R: Threads + Sync, W: Work, G: Gate>(
     { pieces(rt, alloc, work, gate, middle, to, next, high) };
     let (left, right) = join(rt, front, back);
     both(left?, right?)
-}
-
-// Where the first `low` of `count` pieces of a range end. On both sides of it there is an even share for each piece, rounded down, and at most one
-// more for each: what is left over goes to the first ones, one each.
-fn part_end(from: usize, to: usize, low: usize, count: usize) -> usize
-    requires order { from ≤ to }
-    requires some { 1 ≤ count }
-    requires low { low ≤ count }
-    ensures after { from ≤ result }
-    ensures before { result ≤ to }
-    ensures share { (to - from) / count * low ≤ result - from }
-    ensures share_behind { (to - from) / count * (count - low) ≤ to - result }
-    ensures most { result - from ≤ (to - from) / count * low + low }
-    ensures most_behind { to - result ≤ (to - from) / count * (count - low) + (count - low) }
-{
-    let share = (to - from) / count;
-    let left_over = (to - from) % count;
-    from + share * low + left_over.min(low)
 }

@@ -4,6 +4,7 @@
 mod dividing;
 pub mod laws;
 mod outcomes;
+mod shares;
 mod work;
 
 pub use dividing::fan;

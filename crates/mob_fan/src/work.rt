@@ -2,6 +2,7 @@ ghost use Rattle.std.specs.Prelude.{ℕ, ◌≤◌, List, Result, IfOk};
 ghost use Rattle.mob_fan.specs.Outcomes.{IsWork, outcome_seen};
 
 use crate::outcomes::Outcome;
+use crate::shares::part_end;
 use std::alloc::{AllocError, Global};
 use std::marker::{Send, Sync};
 
@@ -28,6 +29,20 @@ pub trait Work: Sync {
         requires order { from ≤ to }
         requires range { to ≤ size_of self.now }
         ensures outcome { IfOk result (λ o. comes self.now from to (outcome_seen o)) };
+
+    /// Where the first `low` of `count` shares of a range end. Each place within the range is right:
+    /// the outcome is the same, and the place says only how long each piece takes. Without a method
+    /// of its own, work has the same length in each share.
+    fn share_end(&self, from: usize, to: usize, low: usize, count: usize) -> usize
+        requires order { from ≤ to }
+        requires range { to ≤ size_of self.now }
+        requires some { 1 ≤ count }
+        requires low { low ≤ count }
+        ensures after { from ≤ result }
+        ensures before { result ≤ to }
+    {
+        part_end(from, to, low, count)
+    }
 
     ghost law: { IsWork size_of comes };
 }

@@ -1,0 +1,20 @@
+// Even shares of a range.
+ghost use Rattle.std.specs.Prelude.{◌+◌, ◌-◌, ◌*◌, ◌/◌, ◌≤◌};
+
+// Where the first `low` of `count` pieces of a range end. On both sides of it there is an even share for each piece, rounded down, and at most one
+// more for each: what is left over goes to the first ones, one each.
+pub fn part_end(from: usize, to: usize, low: usize, count: usize) -> usize
+    requires order { from ≤ to }
+    requires some { 1 ≤ count }
+    requires low { low ≤ count }
+    ensures after { from ≤ result }
+    ensures before { result ≤ to }
+    ensures share { (to - from) / count * low ≤ result - from }
+    ensures share_behind { (to - from) / count * (count - low) ≤ to - result }
+    ensures most { result - from ≤ (to - from) / count * low + low }
+    ensures most_behind { to - result ≤ (to - from) / count * (count - low) + (count - low) }
+{
+    let share = (to - from) / count;
+    let left_over = (to - from) % count;
+    from + share * low + left_over.min(low)
+}
