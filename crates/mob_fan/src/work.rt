@@ -30,9 +30,9 @@ pub trait Work: Sync {
         requires range { to ≤ size_of self.now }
         ensures outcome { IfOk result (λ o. comes self.now from to (outcome_seen o)) };
 
-    /// Where the first `low` of `count` shares of a range end. Each place within the range is right:
-    /// the outcome is the same, and the place says only how long each piece takes. Without a method
-    /// of its own, work has the same length in each share.
+    /// Where the first `low` of `count` shares of a range end. Any place in the range gives the same
+    /// outcome: the place decides only how long each piece takes. The default makes shares of the
+    /// same length.
     fn share_end(&self, from: usize, to: usize, low: usize, count: usize) -> usize
         requires order { from ≤ to }
         requires range { to ≤ size_of self.now }
