@@ -1,5 +1,4 @@
 pub mod FirstNumber
-pub mod Flags
 pub mod Keyed
 pub mod Order
 pub mod RowValues

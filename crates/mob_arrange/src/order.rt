@@ -8,7 +8,7 @@ ghost use Rattle.mob_arrange.specs.RowValues.{row_value};
 ghost use Rattle.mob_arrange.specs.Order.{type_rank, compare_values, compare_key, first_key, other_keys, compare_keys, IsOrderedByKeys};
 
 use crate::row_values::RowValue;
-use crate::rows::Row;
+use crate::rows::{Row, others};
 use mob_frac::Frac;
 use mob_slice::Ranked;
 use mob_value::Value;
@@ -102,16 +102,6 @@ fn compare_rows(falls: bool, a: &Row<'_>, b: &Row<'_>) -> Ordering
     }
 }
 
-fn others<'a, 'b>(values: &'a [RowValue<'b>]) -> &'a [RowValue<'b>]
-    ensures others { map row_value result.now ≡ other_keys (map row_value values.now) }
-{
-    if values.is_empty() {
-        &values[values.len()..]
-    } else {
-        &values[1..]
-    }
-}
-
 fn compare_all(falls: &[bool], a: &[RowValue<'_>], b: &[RowValue<'_>]) -> Ordering
     ensures order { result ≡ compare_keys falls.now (map row_value a.now) (map row_value b.now) }
 {
@@ -124,6 +114,33 @@ fn compare_all(falls: &[bool], a: &[RowValue<'_>], b: &[RowValue<'_>]) -> Orderi
     }
 }
 
+// The order of the second keys, in the same way.
+fn compare_seconds(falls: bool, a: &Row<'_>, b: &Row<'_>) -> Ordering
+    ensures order { result ≡ compare_key falls (first_key (other_keys a.now)) (first_key (other_keys b.now)) }
+{
+    match (a.second(), b.second()) {
+        (Some(a), Some(b)) => compare_whole(falls, a, b),
+        _ => compare_first(falls, others(a.values()), others(b.values())),
+    }
+}
+
+// The order of the keys behind the first ones.
+fn compare_others(falls: &[bool], a: &Row<'_>, b: &Row<'_>) -> Ordering
+    ensures order { result ≡ compare_keys falls.now (other_keys a.now) (other_keys b.now) }
+{
+    let Some((falls, rest)) = falls.split_first() else {
+        return Ordering::Equal;
+    };
+    match compare_seconds(*falls, a, b) {
+        Ordering::Equal => compare_all(
+            rest,
+            others(others(a.values())),
+            others(others(b.values())),
+        ),
+        order => order,
+    }
+}
+
 fn compare_by(falls: &[bool], a: &Row<'_>, b: &Row<'_>) -> Ordering
     ensures order { result ≡ compare_keys falls.now a.now b.now }
 {
@@ -131,7 +148,7 @@ fn compare_by(falls: &[bool], a: &Row<'_>, b: &Row<'_>) -> Ordering
         return Ordering::Equal;
     };
     match compare_rows(*falls, a, b) {
-        Ordering::Equal => compare_all(rest, others(a.values()), others(b.values())),
+        Ordering::Equal => compare_others(rest, a, b),
         order => order,
     }
 }

@@ -1,8 +1,8 @@
 //! A row of an answer before it is printed.
-ghost use Rattle.std.specs.Prelude.{◌≡◌, ◌++◌, IfOk, IfSome, map};
+ghost use Rattle.std.specs.Prelude.{◌≡◌, ◌++◌, IfOk, IfSome, drop, map};
 ghost use Rattle.mob_ratio.specs.Ratio.{whole};
 ghost use Rattle.mob_value.specs.declared.value.Value.TheVariants.{Number};
-ghost use Rattle.mob_arrange.specs.Order.{first_key};
+ghost use Rattle.mob_arrange.specs.Order.{first_key, other_keys};
 ghost use Rattle.mob_arrange.specs.RowValues.{row_value};
 ghost use Rattle.mob_arrange.specs.FirstNumber.{unknown, KnowsFirst};
 
@@ -19,17 +19,19 @@ const UNKNOWN: i64 = i64::MIN;
 /// A row of an answer: the values of its keys, and behind them those of its fields. Contracts see
 /// the list of these values.
 ///
-/// Where the first value is a whole number, the row has it beside the list, so that most rows are
-/// put in order without a look at their values.
+/// Where the first value is a whole number, the row has it beside the list, and so it has the
+/// second, so that most rows are put in order without a look at their values.
 #[derive(Drop)]
 pub struct Row<'a> {
     values: Items<RowValue<'a>>,
     first: i64,
+    second: i64,
 }
 
 impl<'a> Model for Row<'a> {
     ghost use Rattle.std.specs.Prelude.{List, map};
     ghost use Rattle.mob_value.specs.declared.value.Value.{Value as SqlValue};
+    ghost use Rattle.mob_arrange.specs.Order.{other_keys};
     ghost use Rattle.mob_arrange.specs.RowValues.{row_value};
     ghost use Rattle.mob_arrange.specs.FirstNumber.{KnowsFirst};
 
@@ -37,7 +39,7 @@ impl<'a> Model for Row<'a> {
 
     ghost view = { λ r. map row_value r.values };
 
-    ghost invariant = { λ r. KnowsFirst r.first (map row_value r.values) };
+    ghost invariant = { λ r. KnowsFirst r.first (map row_value r.values) × KnowsFirst r.second (other_keys (map row_value r.values)) };
 }
 
 // The number itself where it is whole.
@@ -58,6 +60,28 @@ fn whole_number(value: &Value) -> i64
     match value {
         Value::Number(number) => whole_part(number),
         _ => UNKNOWN,
+    }
+}
+
+/// The values behind the first one.
+pub fn others<'a, 'b>(values: &'a [RowValue<'b>]) -> &'a [RowValue<'b>]
+    ensures others { map row_value result.now ≡ other_keys (map row_value values.now) }
+{
+    if values.is_empty() {
+        &values[values.len()..]
+    } else {
+        &values[1..]
+    }
+}
+
+/// The values behind the first ones.
+pub fn behind<'a, 'b>(values: &'a [RowValue<'b>], count: usize) -> &'a [RowValue<'b>]
+    ensures behind { map row_value result.now ≡ drop count (map row_value values.now) }
+{
+    if count < values.len() {
+        &values[count..]
+    } else {
+        &values[values.len()..]
     }
 }
 
@@ -89,9 +113,11 @@ impl<'a> Row<'a> {
     {
         let values = joined(keys.into_vec(), fields.into_vec())?;
         let first = first_number(values.as_slice());
+        let second = first_number(others(values.as_slice()));
         Ok(Row {
             values: Items::from_vec(values),
             first,
+            second,
         })
     }
 
@@ -110,6 +136,17 @@ impl<'a> Row<'a> {
             None
         } else {
             Some(self.first)
+        }
+    }
+
+    /// The second value where it is a whole number, and nothing where this is not known.
+    pub fn second(&self) -> Option<i64>
+        ensures whole { IfSome result (λ n. first_key (other_keys self.now) ≡ Number (whole n)) }
+    {
+        if self.second == UNKNOWN {
+            None
+        } else {
+            Some(self.second)
         }
     }
 }
