@@ -1,4 +1,3 @@
-use Rattle.std.proofs.Common.{◌∙◌}
 use Rattle.mob_records.proofs.Within.{all_written}
 use Rattle.mob_records.proofs.text.end_record.Goals.{in-Ok, in-Err}
 use Rattle.mob_records.proofs.text.end_record.Goals as goal
