@@ -1,4 +1,6 @@
 pub mod FirstNumber
+pub mod FoundValue
+pub mod HeldValues
 pub mod Keyed
 pub mod Order
 pub mod RowValues

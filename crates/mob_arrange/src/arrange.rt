@@ -6,11 +6,11 @@ ghost use Rattle.mob_arrange.specs.Rows.{limited as limited_rows};
 ghost use Rattle.mob_arrange.specs.RowsText.{IsTextOfGiven, IsTextOfArranged};
 
 use crate::distinct::distinct;
+use crate::fields::{Fields, Printed};
 use crate::order::order;
-use crate::rows::{Row, behind};
+use crate::rows::Row;
 use mob_list::text::Text;
-use mob_literal::write_field;
-use mob_records::{FieldPrinter, counted_text_by};
+use mob_records::counted_text_by;
 use mob_scalar::Epoch;
 use std::alloc::{AllocError, Global};
 
@@ -26,55 +26,6 @@ fn limited<T>(limit: Option<u64>, rows: &[T]) -> &[T]
         &rows[..most]
     } else {
         rows
-    }
-}
-
-// Prints the fields of rows, which stand behind so many keys.
-#[derive(Clone, Copy)]
-struct Fields<'a> {
-    keys: usize,
-    epoch: &'a Epoch,
-}
-
-impl<'a, 'b> FieldPrinter<Row<'b>> for Fields<'a> {
-    ghost use Rattle.std.specs.Prelude.{map, drop};
-    ghost use Rattle.mob_literal.specs.Fields.{field_text};
-
-    ghost fields = { λ f row. map (field_text f.epoch.now) (drop f.keys row) };
-
-    fn count(&self, row: &Row<'b>) -> usize {
-        behind(row.values(), self.keys).len()
-    }
-
-    fn append(&self, row: &Row<'b>, number: usize, into: &mut String) -> Result<(), AllocError> {
-        write_field(
-            behind(row.values(), self.keys)[number].get(),
-            self.epoch,
-            into,
-        )
-    }
-}
-
-// Prints rows whose fields are printed.
-#[derive(Clone, Copy)]
-struct Printed;
-
-impl FieldPrinter<Vec<String>> for Printed {
-    ghost use Rattle.mob_arrange.specs.TextsSeen.{strings_of};
-
-    ghost fields = { λ _ row. strings_of row };
-
-    fn count(&self, row: &Vec<String>) -> usize {
-        row.len()
-    }
-
-    fn append(
-        &self,
-        row: &Vec<String>,
-        number: usize,
-        into: &mut String,
-    ) -> Result<(), AllocError> {
-        into.push_str(row[number].as_str())
     }
 }
 

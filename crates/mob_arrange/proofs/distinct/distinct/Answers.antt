@@ -14,7 +14,7 @@ loop-row-preserved c =
     let row = c.in_ok-fields.fields in
     let next = c.insert.new.self.keys in
     let choice = seen_or_new row at.seen.keys next c.in_ok-_is_new._is_new c.in_ok-_is_new.ensures.added c.in_ok-_is_new.ensures.keys in
-    let text : strings_of row ≡ print c.row-item.result = c.in_ok-fields.ensures.fields ∙ ap (map (field_text c.args.epoch.now)) (c.behind.ensures.behind ∙ ap (drop c.args.keys) c.values.ensures.values) in
+    let text : strings_of row ≡ print c.row-item.result = c.in_ok-fields.ensures.fields in
     let there : at.row-index < length fields = omega (arith, length-map c.args.rows.now print, c.loop-row-test.true) in
     let is : print c.row-item.result ≡ get_or fields at.row-index (print c.row-item.result) = ap print c.row-item.is ∙ sym (get_or-map print c.args.rows.now at.row-index c.row-item.result (print c.row-item.result) c.loop-row-test.true) in
     seen_step fields at.row-index (print c.row-item.result) (map strings_of at.seen.keys) (map strings_of next) c.in_ok-_is_new._is_new there is

@@ -3,7 +3,7 @@ use Rattle.std.specs.Int.{w64}
 use Rattle.std.proofs.lemmas.Int.{to_z-of_z}
 use Rattle.mob_ratio.specs.Ratio.{whole}
 use Rattle.mob_arrange.proofs.WholeNumbers.{is_whole}
-use Rattle.mob_arrange.proofs.rows.whole_part.Goals as goal
+use Rattle.mob_arrange.proofs.listed.whole_part.Goals as goal
 
 pub returns-then-den-eq1 : goal.returns-then-den-eq1
 returns-then-den-eq1 c =
