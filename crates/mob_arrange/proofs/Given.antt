@@ -1,15 +1,12 @@
 -- Rows that are cut and printed.
-use Rattle.std.proofs.Common.{◌≡◌, ℕ, ℤ, ◌-◌, Bool, List, [], ◌∷◌, Option, Some, None, length, map, take, drop, refl, sym, ap, subst, ◌∙◌, arith}
-use Rattle.std.proofs.lemmas.List.{take_all, take-map, drop-map, length-drop}
+use Rattle.std.proofs.Common.{◌≡◌, ℕ, ℤ, Bool, List, [], ◌∷◌, Option, Some, None, map, drop, refl, sym, ap, subst}
+use Rattle.std.proofs.lemmas.List.{take-map}
 use Rattle.mob_value.specs.declared.value.Value.{Value}
 use Rattle.mob_literal.specs.Fields.{field_text}
 use Rattle.mob_arrange.specs.Keyed.{Keyed, row_of_values}
 use Rattle.mob_arrange.specs.Order.{IsOrderedByKeys}
 use Rattle.mob_arrange.specs.Rows.{AreDistinct, limited}
 use Rattle.mob_arrange.specs.RowsText.{IsTextOfGiven, IsTextOfArranged}
-
-pub behind_all : {X Y : Type 0} (f : X → Y) (n : ℕ) (xs : List X) → map f (take (length xs - n) (drop n xs)) ≡ drop n (map f xs)
-behind_all f n xs = let count = length-drop n xs in ap (map f) (take_all (length xs - n) (drop n xs) (omega (arith, count))) ∙ sym (drop-map f n xs)
 
 -- what is cut and then printed is what is printed and then cut
 pub cut_before : {X Y : Type 0} (f : X → Y) (limit : Option ℕ) (xs : List X) → map f (limited limit xs) ≡ limited limit (map f xs)

@@ -62,8 +62,8 @@ fn distinct_text(
 
 /// The text of an answer with these names and rows: the rows are put in the order of their keys,
 /// where `falls` says for each key whether it falls; of equal ones only the first is given where
-/// `is_distinct` is true; and no more than `limit` are given. Without `is_distinct` a field is printed
-/// where it is written, and no field of a row that the limit drops.
+/// `is_distinct` is true; and no more than `limit` are given. Without `is_distinct` a field is
+/// printed where it is written, and no field of a row that the limit drops.
 pub fn arranged_text(
     alloc: Global,
     names: &[Text],
