@@ -1,8 +1,8 @@
 pub mod FirstNumber
 pub mod FoundValue
-pub mod HeldValues
 pub mod Keyed
 pub mod Order
+pub mod RowForms
 pub mod RowValues
 pub mod Rows
 pub mod RowsText

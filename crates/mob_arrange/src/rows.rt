@@ -14,7 +14,7 @@ use std::marker::Model;
 
 /// How a row has its values.
 #[derive(Drop)]
-pub enum Held<'a> {
+pub enum RowForm<'a> {
     /// In itself: at most four, all of them numbers.
     Numbers(Numbers),
     /// In a list.
@@ -28,17 +28,17 @@ pub enum Held<'a> {
 /// order and printed without a look at another place.
 #[derive(Drop)]
 pub struct Row<'a> {
-    held: Held<'a>,
+    form: RowForm<'a>,
 }
 
 impl<'a> Model for Row<'a> {
     ghost use Rattle.std.specs.Prelude.{List};
     ghost use Rattle.mob_value.specs.declared.value.Value.{Value as SqlValue};
-    ghost use Rattle.mob_arrange.specs.HeldValues.{held_values};
+    ghost use Rattle.mob_arrange.specs.RowForms.{form_values};
 
     ghost Value = { List SqlValue };
 
-    ghost view = { λ r. held_values r.held };
+    ghost view = { λ r. form_values r.form };
 }
 
 // The values of keys and fields, if there are at most four and all are numbers.
@@ -86,11 +86,11 @@ impl<'a> Row<'a> {
     {
         if let Some(numbers) = numbers_of(keys.as_slice(), fields.as_slice()) {
             return Ok(Row {
-                held: Held::Numbers(numbers),
+                form: RowForm::Numbers(numbers),
             });
         }
         Ok(Row {
-            held: Held::Listed(Listed::new(keys, fields)?),
+            form: RowForm::Listed(Listed::new(keys, fields)?),
         })
     }
 
@@ -98,9 +98,9 @@ impl<'a> Row<'a> {
     pub fn len(&self) -> usize
         ensures count { result ≡ length self.now }
     {
-        match &self.held {
-            Held::Numbers(numbers) => numbers.len(),
-            Held::Listed(listed) => listed.values().len(),
+        match &self.form {
+            RowForm::Numbers(numbers) => numbers.len(),
+            RowForm::Listed(listed) => listed.values().len(),
         }
     }
 
@@ -108,9 +108,9 @@ impl<'a> Row<'a> {
     pub fn get(&self, place: usize) -> Found<'_>
         ensures value { found_value result ≡ first_key (drop place self.now) }
     {
-        match &self.held {
-            Held::Numbers(numbers) => number_at(numbers, place),
-            Held::Listed(listed) => value_at(listed.values(), place),
+        match &self.form {
+            RowForm::Numbers(numbers) => number_at(numbers, place),
+            RowForm::Listed(listed) => value_at(listed.values(), place),
         }
     }
 
@@ -118,9 +118,9 @@ impl<'a> Row<'a> {
     pub fn listed(&self) -> Option<&Listed<'a>>
         ensures same { IfSome result (λ listed. listed.now ≡ self.now) }
     {
-        match &self.held {
-            Held::Numbers(_) => None,
-            Held::Listed(listed) => Some(listed),
+        match &self.form {
+            RowForm::Numbers(_) => None,
+            RowForm::Listed(listed) => Some(listed),
         }
     }
 }

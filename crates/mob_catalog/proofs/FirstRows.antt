@@ -106,3 +106,8 @@ module _ (n : ℕ) where
       ∙ ap (λ hs. let k : Catalogue = record d { store = all.store; heads = hs } in k) b
       ∙ ap (λ os. let k : Catalogue = record d { store = all.store; heads = all.heads; indexed = os } in k) (indexed ∙ sym rest.1)
       ∙ ap (λ ms. let k : Catalogue = record all { index_names = ms } in k) (names ∙ sym rest.2)
+
+-- one row more
+pub all_more : (n : ℕ) (rows : List (List Value)) (row : List Value) (c : Catalogue) → with_all_rows n (rows ++ row ∷ []) c ≡ with_row n row (with_all_rows n rows c)
+all_more n [] row c = refl
+all_more n (first ∷ rows) row c = all_more n rows row (with_row n first c)

@@ -26,8 +26,8 @@ pub fn counted_text(
     with_count(text, rows.len())
 }
 
-/// The same of rows that `printer` prints, a field where it is written, so that no printed row is
-/// in memory.
+/// The text of an answer whose rows `printer` prints, a field where it is written, so that no
+/// printed row is in memory.
 pub fn counted_text_by<R, P: FieldPrinter<R>>(
     alloc: Global,
     names: &[Text],

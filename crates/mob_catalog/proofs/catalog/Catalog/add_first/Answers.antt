@@ -35,4 +35,4 @@ invariant_of-self c =
 
 pub returns : goal.returns
 unfolding before after
-returns c = record { added = all_put c ∙ ap (with_all_rows c.args.table c.args.rows) c.self.view_is }
+returns c = record { added = all_put c ∙ ap (with_all_rows c.args.table c.args.rows) c.self.view_is; unchanged = tt }
