@@ -2,6 +2,7 @@
 use Rattle.std.specs.Prelude.{◌≡◌, Bool, false, not, cond, List, [], ◌∷◌, ◌++◌, Option, Some, None}
 use Rattle.mob_span.specs.Span.{SpanOf, has_instant}
 use Rattle.mob_span.specs.Meet.{meet_of}
+use Rattle.mob_span.specs.Flags.{same_bool}
 use Rattle.mob_slice.specs.Sides.{at_ends}
 use Rattle.mob_slice.specs.Cut.{slice_parts}
 use Rattle.mob_slice.specs.Lines.{plane_parts_of}
@@ -10,7 +11,6 @@ use Rattle.mob_slice.specs.declared.slice.Slice.{Slice}
 use Rattle.mob_slice.specs.declared.line.PlaneLine.{PlaneLine}
 use Rattle.mob_slice.specs.declared.formula.Formula.TheVariants.{F1}
 use Rattle.mob_stbox.specs.Boxes.{BoxOf}
-use Rattle.mob_cells.specs.Restricted.{is_wanted}
 use Rattle.mob_clip.specs.Pieces.{some_span, AreAllOrNothing}
 use Rattle.mob_clip.specs.Areas.{entries_of_area}
 use Rattle.mob_stbox.specs.declared.area.Area.{Area}
@@ -40,6 +40,6 @@ back_span s m = record { lower = m.upper; upper = s.upper; lower_inc = not m.upp
 pub record AreAround (s : Slice PlaneLine) (want : Bool) (m : SpanOf) (middle v : List (Slice PlaneLine)) : Type 0 where
   pub front : List (Slice PlaneLine)
   pub back : List (Slice PlaneLine)
-  pub in_front : AreAllOrNothing s (is_wanted want false) (some_span (front_span s.span m)) front
-  pub behind : AreAllOrNothing s (is_wanted want false) (some_span (back_span s.span m)) back
+  pub in_front : AreAllOrNothing s (same_bool want false) (some_span (front_span s.span m)) front
+  pub behind : AreAllOrNothing s (same_bool want false) (some_span (back_span s.span m)) back
   pub all : v ≡ (front ++ middle) ++ back
