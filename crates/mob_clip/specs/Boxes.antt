@@ -29,14 +29,14 @@ entries_in_time (Some r) space s = cond (has_instant (meet_of s.span r)) (record
 abbrev pub entries_of_box : BoxOf → Slice PlaneLine → List Entry
 entries_of_box b s = entries_in_time b.time b.space s
 
--- what of s comes before its part m, and after it
+-- what of s comes before its piece m, and after it
 abbrev pub front_span : SpanOf → SpanOf → SpanOf
 front_span s m = record { lower = s.lower; upper = m.lower; lower_inc = s.lower_inc; upper_inc = not m.lower_inc }
 
 abbrev pub back_span : SpanOf → SpanOf → SpanOf
 back_span s m = record { lower = m.upper; upper = s.upper; lower_inc = not m.upper_inc; upper_inc = s.upper_inc }
 
--- the slices are `middle`, behind what is left in front of the part m, and before what is left after it
+-- the slices are `middle`, behind what is left in front of the piece m, and before what is left after it
 pub record AreAround (s : Slice PlaneLine) (want : Bool) (m : SpanOf) (middle v : List (Slice PlaneLine)) : Type 0 where
   pub front : List (Slice PlaneLine)
   pub back : List (Slice PlaneLine)

@@ -45,7 +45,7 @@ fn in_space_on(
     }
 }
 
-// What of a span comes before a part of it.
+// What of a span comes before a piece of it.
 fn front(span: &Span, part: &Span) -> Option<Span>
     ensures span { result ≡ some_span (front_span span.now part.now) }
 {
@@ -57,7 +57,7 @@ fn front(span: &Span, part: &Span) -> Option<Span>
     )
 }
 
-// What of a span comes after a part of it.
+// What of a span comes after a piece of it.
 fn back(span: &Span, part: &Span) -> Option<Span>
     ensures span { result ≡ some_span (back_span span.now part.now) }
 {
@@ -69,7 +69,7 @@ fn back(span: &Span, part: &Span) -> Option<Span>
     )
 }
 
-// What is left of a slice: some slices on a part of it, and what is left around that part, which lies outside of the time.
+// What is left of a slice: some slices on a piece of it, and what is left around that piece, which lies outside of the time.
 fn around(
     alloc: Global,
     slice: &Slice<PlaneLine>,

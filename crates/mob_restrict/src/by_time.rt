@@ -85,6 +85,7 @@ where
     let Some(time) = whole(slices) else {
         return Ok(Vec::new(alloc));
     };
+    // A call of a method tells the proof what holds of every span.
     let _ = time.lower();
     match remainders(alloc, &time, spans) {
         Ok(left) => within(alloc, a, left.as_slice()),
