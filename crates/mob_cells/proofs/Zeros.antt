@@ -1,5 +1,5 @@
 -- Roots.
-use Rattle.std.specs.Prelude.{◌≡◌, Bool, true, false, ◌&&◌, ◌||◌, [], ◌∷◌, Result, pos, refl}
+use Rattle.std.specs.Prelude.{◌≡◌, Bool, true, false, [], ◌∷◌, Result, pos, refl}
 use Rattle.std.proofs.Common.{arith, ap, sym, ◌∙◌, subst, true≢false, inl, inr}
 use Rattle.std.specs.declared.cmp.Ordering.TheVariants.{Less, Equal, Greater}
 use Rattle.mob_ratio.specs.Ratio.{Ratio, whole, ◌+ℚ◌, ◌-ℚ◌, ◌*ℚ◌, ◌/ℚ◌, ◌<ℚ◌}
@@ -68,10 +68,6 @@ above_by x h = sym (lt-before nil x h)
 
 pub not_above_by : (x : Ratio) → (nil <ℚ x → ⊥) → false ≡ before nil x
 not_above_by x h = sym (false_unless (before nil x) (λ e. h (before-lt nil x e)))
-
-pub opposite_by : (x y : Ratio) → ((before x nil && before nil y) || (before nil x && before y nil)) ≡ opposite x y
-unfolding opposite
-opposite_by x y = refl
 
 -- the sign, as it is looked up
 pub less_by : (x : Ratio) → x <ℚ whole (pos 0) → Less ≡ sign_of x
