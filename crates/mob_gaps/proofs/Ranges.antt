@@ -2,13 +2,14 @@
 use Rattle.std.proofs.Common.{◌≡◌, ◌⊎◌, inl, inr, Bool, true, false, arith, refl, sym, ap, ◌∙◌, subst}
 use Rattle.std.specs.Prelude.{cond, not}
 use Rattle.mob_ratio.specs.Ratio.{Ratio, ◌-ℚ◌, ◌*ℚ◌, ◌<ℚ◌, ◌≤ℚ◌}
-use Rattle.mob_ratio.specs.Order.{before, up_to, smaller, greater}
+use Rattle.mob_ratio.specs.Order.{before, up_to}
 use Rattle.mob_ratio.specs.Sign.{nil}
 use Rattle.mob_ratio.proofs.IntRing.{linear}
 use Rattle.mob_ratio.proofs.Clear.{clear1, clear2, clear4, cleared}
 use Rattle.mob_ratio.proofs.Field.{le_trans, le_refl, le_of_lt, mul_comm, sub_self}
 use Rattle.mob_ratio.proofs.Order.{not-up_to-le, up_to-le, before-lt}
 use Rattle.mob_quadratic.proofs.Convex.{square_le, le_mul_pos, sub_le}
+use Rattle.mob_plane.specs.Corners.{smaller, greater}
 use Rattle.mob_gaps.specs.Gaps.{range_gap}
 
 -- the greater one of two is one of them, and at least both

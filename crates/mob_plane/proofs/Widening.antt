@@ -2,9 +2,9 @@
 use Rattle.std.specs.Prelude.{◌≡◌, refl, Bool, true, false, cond, ◌⊎◌, zero, suc, List, [], ◌∷◌, Any, All, Contains, fold}
 use Rattle.std.proofs.Common.{arith, sym, ◌∙◌, subst, inl, inr}
 use Rattle.mob_ratio.specs.Ratio.{Ratio}
-use Rattle.mob_ratio.specs.Order.{before, up_to, smaller, greater}
+use Rattle.mob_ratio.specs.Order.{before, up_to}
 use Rattle.mob_ratio.proofs.Order.{before-self, before-back, before-trans, before-neither}
-use Rattle.mob_plane.specs.Corners.{IsLeastAmong, IsGreatestAmong, AreCorners, widened}
+use Rattle.mob_plane.specs.Corners.{IsLeastAmong, IsGreatestAmong, AreCorners, smaller, greater, widened}
 use Rattle.mob_plane.specs.declared.point.Point.{Point}
 use Rattle.mob_plane.specs.declared.rectangle.Corners.{Corners}
 

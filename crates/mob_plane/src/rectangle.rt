@@ -1,7 +1,7 @@
 //! The least rectangle that has some points.
 ghost use Rattle.std.specs.Prelude.{◌≡◌, fold};
-ghost use Rattle.mob_ratio.specs.Order.{before, smaller, greater};
-ghost use Rattle.mob_plane.specs.Corners.{all_points, widened};
+ghost use Rattle.mob_ratio.specs.Order.{before};
+ghost use Rattle.mob_plane.specs.Corners.{all_points, widened, smaller, greater};
 ghost use Rattle.mob_plane.specs.Rings.{rings_of};
 
 use crate::Point;

@@ -2,7 +2,7 @@
 -- given by a, b and c: its value at s is `a·s·s + 2·b·s + c`, so c is its value at 0, and b is half its slope there.
 use Rattle.std.specs.Prelude.{◌≡◌, Bool, true, cond, ◌&&◌, ◌||◌, pos, Option, Some, None}
 use Rattle.mob_ratio.specs.Ratio.{Ratio, whole, ◌+ℚ◌, ◌-ℚ◌, ◌*ℚ◌, ◌/ℚ◌, neg_ℚ}
-use Rattle.mob_ratio.specs.Order.{before, up_to, same, smaller}
+use Rattle.mob_ratio.specs.Order.{before, up_to, same}
 use Rattle.mob_ratio.specs.Sign.{nil}
 
 -- the number 1
@@ -40,7 +40,7 @@ reaches a b c d with_nil with_one = reaches_by d c (at_one a b c) with_nil with_
 
 -- the greatest lower bound of the values: a least one between, else the smaller one at an end, whether or not that counts
 abbrev pub infimum_by : Ratio → Ratio → Option Ratio → Ratio
-infimum_by first last None = smaller first last
+infimum_by first last None = cond (before last first) last first
 infimum_by first last (Some least) = least
 
 abbrev pub infimum : Ratio → Ratio → Ratio → Ratio

@@ -4,7 +4,7 @@ use Rattle.std.proofs.lemmas.Bool.{and_parts, and_from}
 use Rattle.std.proofs.Common.{arith, sym, ◌∙◌, true≢false}
 use Rattle.mob_ratio.proofs.Between.{as_test}
 use Rattle.mob_ratio.specs.Ratio.{Ratio}
-use Rattle.mob_ratio.specs.Order.{before, up_to, smaller, greater}
+use Rattle.mob_ratio.specs.Order.{before, up_to}
 use Rattle.mob_ratio.proofs.Order.{before-self, before-back, before-trans, before-neither, not-up_to-le}
 use Rattle.mob_span.specs.Span.{SpanOf, InSpan, has, has_instant}
 use Rattle.mob_span.specs.Meet.{meet_of, starts_before, ends_before}
@@ -12,6 +12,7 @@ use Rattle.mob_span.specs.Neighbours.{is_inside}
 use Rattle.mob_span.proofs.SpanLemmas.{has_exact, some_instant, instant_some, meet_some}
 use Rattle.mob_span.proofs.Insides.{inside_has}
 use Rattle.mob_span.proofs.Touching.{upto_trans}
+use Rattle.mob_plane.specs.Corners.{smaller, greater}
 use Rattle.mob_plane.specs.declared.point.Point.{Point}
 use Rattle.mob_plane.proofs.Widening.{smaller_left, smaller_right, greater_left, greater_right}
 use Rattle.mob_stbox.specs.Areas.{InArea, in_area, is_area, areas_meet, area_over, area_cover, area_between, IsAreaOver}

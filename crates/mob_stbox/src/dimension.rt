@@ -140,6 +140,5 @@ fn is_same_span(s: &Span, r: &Span) -> bool
 {
     s.lower().is_same(r.lower())
         && s.upper().is_same(r.upper())
-        && (same_bool(s.lower_inc(), r.lower_inc())
-            && same_bool(s.upper_inc(), r.upper_inc()))
+        && (same_bool(s.lower_inc(), r.lower_inc()) && same_bool(s.upper_inc(), r.upper_inc()))
 }

@@ -8,7 +8,7 @@ use Rattle.std.specs.List.Sorted.{IsPermutation, IsSortedBy}
 use Rattle.std.specs.Ordering.{is_lt}
 use Rattle.std.specs.declared.cmp.Ordering.TheVariants.{Less, Equal, Greater}
 use Rattle.mob_ratio.specs.Ratio.{Ratio, ◌-ℚ◌, ◌<ℚ◌, ◌≤ℚ◌}
-use Rattle.mob_ratio.specs.Order.{before, up_to, smaller, greater}
+use Rattle.mob_ratio.specs.Order.{before, up_to}
 use Rattle.mob_ratio.specs.Sign.{nil, opposite, root_at}
 use Rattle.mob_ratio.proofs.Order.{before-lt, before-back, before-self, not-up_to-le}
 use Rattle.mob_ratio.proofs.Field.{le_of_lt, le_trans, lt_trans, cases_lt}
@@ -23,6 +23,7 @@ use Rattle.mob_slice.specs.Ranks.{compare_ratio}
 use Rattle.mob_slice.specs.RankLaws.{ranking_ratio}
 use Rattle.mob_cells.proofs.Zeros.{one_root}
 use Rattle.mob_span.specs.Span.{SpanOf, has_instant}
+use Rattle.mob_plane.specs.Corners.{smaller, greater}
 use Rattle.mob_plane.specs.declared.point.Point.{Point}
 use Rattle.mob_plane.proofs.Widening.{smaller_left, smaller_right}
 use Rattle.mob_slice.specs.Slices.{IsSound}

@@ -7,7 +7,7 @@ use Rattle.std.proofs.lemmas.List.{drop_more}
 use Rattle.std.specs.List.{AllByRecursion}
 use Rattle.std.proofs.Common.{arith, ap, sym, ◌∙◌, subst, true≢false}
 use Rattle.mob_ratio.specs.Ratio.{Ratio}
-use Rattle.mob_ratio.specs.Order.{before, up_to, smaller, greater}
+use Rattle.mob_ratio.specs.Order.{before, up_to}
 use Rattle.mob_ratio.specs.Line.{line_at}
 use Rattle.mob_ratio.proofs.Between.{within, start_below, end_below, start_above, end_above}
 use Rattle.mob_ratio.proofs.LineAt.{line_at-short}
@@ -30,6 +30,7 @@ use Rattle.mob_stbox.specs.Areas.{InArea, area_over, area_between, is_area}
 use Rattle.mob_stbox.specs.Boxes.{BoxOf, InBox, is_box, is_whole, contains, lies_in, cover}
 use Rattle.mob_stbox.specs.declared.area.Area.{Area}
 use Rattle.mob_stbox.proofs.BoxLaws.{in_contained, contains_is, over_self, over_trans, cover_over_left, cover_over_right, cover_least, cover_whole, cover_is_box, one_box}
+use Rattle.mob_plane.specs.Corners.{smaller, greater}
 use Rattle.mob_plane.proofs.Widening.{smaller_left, smaller_right, greater_left, greater_right}
 use Rattle.mob_stbox.proofs.Sides.{four, all_four, in_area_exact, between_least, between_is_area}
 use Rattle.mob_value.specs.ValueBoxes.{HasPositions, IsBoxOf, HasBox, OnBox, slice_box, covered, value_box}
