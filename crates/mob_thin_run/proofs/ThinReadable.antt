@@ -6,7 +6,6 @@ use Rattle.std.proofs.lemmas.Bool.{eqb-true}
 use Rattle.mob_list.proofs.Entries.{each_of_all}
 use Rattle.mob_ratio.specs.Ratio.{Ratio}
 use Rattle.mob_ratio.specs.Order.{before}
-use Rattle.mob_frac.specs.Fits.{Fits}
 use Rattle.mob_language.specs.Language.{Text}
 use Rattle.mob_numeral.specs.NumberValue.{numeral_value}
 use Rattle.mob_numeral.specs.Verdict.{Lit}
