@@ -9,7 +9,7 @@ use mob_tagg::{add_in, and_in, ones_of, or_in};
 use mob_value::Value;
 use std::alloc::Global;
 
-fn is_printed(alloc: Global, value: &Value, wanted: &str) -> bool {
+pub fn is_printed(alloc: Global, value: &Value, wanted: &str) -> bool {
     let mut into = String::new(alloc);
     write_field(value, &Epoch::standard(), &mut into).is_ok() && into.as_str() == wanted
 }
