@@ -137,14 +137,17 @@ static PRODUCTS: [Product; 6] = [
     ),
 ];
 
-fn is_multiplied(alloc: Global, row: &Product) -> bool {
-    let epoch = Epoch::standard();
-    match (
-        &read_value(alloc, row.0, row.1, &epoch),
-        &read_value(alloc, SqlType::TFrac, row.2, &epoch),
-    ) {
-        (Ok(factor), Ok(Value::MovingFrac(line))) => is_product(alloc, factor, line, row.3),
+fn is_multiplied_by(alloc: Global, factor: &Value, row: &Product) -> bool {
+    match &read_value(alloc, SqlType::TFrac, row.2, &Epoch::standard()) {
+        Ok(Value::MovingFrac(line)) => is_product(alloc, factor, line, row.3),
         _ => false,
+    }
+}
+
+fn is_multiplied(alloc: Global, row: &Product) -> bool {
+    match &read_value(alloc, row.0, row.1, &Epoch::standard()) {
+        Ok(factor) => is_multiplied_by(alloc, factor, row),
+        Err(_) => false,
     }
 }
 
