@@ -12,7 +12,8 @@ use mob_outside::StdSource;
 use std::env;
 use std::process::ExitCode;
 
-const USAGE: &str = "usage: mob_bench add|subtract|multiply|divide|compare whole|mixed COUNT [near|scan COUNT < trips.csv]";
+const USAGE: &str =
+    "usage: mob_bench add|subtract|multiply|divide|compare whole|mixed COUNT [near|scan COUNT < trips.csv]";
 
 fn main(rt: HostRuntime) -> anyhow::Result<ExitCode> {
     let alloc = rt.alloc();
@@ -29,7 +30,10 @@ fn main(rt: HostRuntime) -> anyhow::Result<ExitCode> {
         return Ok(ExitCode::from(2));
     };
     let operands = fractions::operands(alloc, kind)?;
-    println!(rt; "{}", fractions::checksum(operation, operands.as_slice(), count))?;
+    println!(rt;
+        "{}",
+        fractions::checksum(operation, operands.as_slice(), count)
+    )?;
     if words.len() == 3 {
         return Ok(ExitCode::SUCCESS);
     }

@@ -1,5 +1,7 @@
 // The ends of a run in memory, of which calls fail, and what a run gave.
 
+ghost use Rattle.std.specs.Prelude.{◌<◌};
+
 use mob_fan_rows::gates::TwoFlags;
 use mob_outside::{Gate, MemFiles, MemSink, MemSource};
 use std::alloc::{AllocError, Global};

@@ -158,7 +158,11 @@ static SCRIPTS: [Row; 15] = [
         End::Notes,
         "CREATE TABLE t (k int); COPY t FROM 't.csv' WITH (FORMAT csv, HEADER); DELETE FROM t WHERE k + 4611686018427387902 > 0;",
         (8, ""),
-        (8, "", "statement 3, rows 2, byte 93: formula F2 passes 62 bits\n"),
+        (
+            8,
+            "",
+            "statement 3, rows 2, byte 93: formula F2 passes 62 bits\n",
+        ),
         &[0, 7, 10, 11, 18, 19, 26, 28, 35, 38, 40, 47, 54],
     ),
     // The script has 133 bytes, so there are 20 calls.
@@ -194,7 +198,11 @@ static SCRIPTS: [Row; 15] = [
         End::Notes,
         "CREATE TABLE t (k int); COPY t FROM 't.csv' WITH (FORMAT csv, HEADER); SELECT a.k AS x FROM t a LEFT JOIN t b ON b.k > 9 WHERE a.k + 4611686018427387902 > 0;",
         (8, ""),
-        (8, "", "statement 3, rows 2 0, byte 131: formula F2 passes 62 bits\n"),
+        (
+            8,
+            "",
+            "statement 3, rows 2 0, byte 131: formula F2 passes 62 bits\n",
+        ),
         &[0, 7, 10, 11, 18, 19, 20, 21, 28, 31, 38, 41, 43, 50, 57],
     ),
 ];
@@ -442,7 +450,15 @@ fn run_once(
     let words = arguments(program);
     match over_trips(program) {
         Some(trips) => run_table(rt, alloc, trips, words, input, failing, &gate),
-        None => run_script(rt, alloc, words, input, Some(("t.csv", FILE)), failing, &gate),
+        None => run_script(
+            rt,
+            alloc,
+            words,
+            input,
+            Some(("t.csv", FILE)),
+            failing,
+            &gate,
+        ),
     }
 }
 

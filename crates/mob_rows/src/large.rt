@@ -32,7 +32,15 @@ fn points(alloc: Global, count: u32) -> Result<Vec<u8>, AllocError> {
 
 fn is_joined(rt: &(impl Threads + Sync), alloc: Global, file: &[u8]) -> bool {
     let gate = Watch { flags: None };
-    match &run_script(rt, alloc, &[], SCRIPT, Some(("p.csv", file)), NONE_FAILS, &gate) {
+    match &run_script(
+        rt,
+        alloc,
+        &[],
+        SCRIPT,
+        Some(("p.csv", file)),
+        NONE_FAILS,
+        &gate,
+    ) {
         Ok(seen) => gave(seen, 0, ANSWER, b""),
         Err(_) => false,
     }

@@ -47,9 +47,7 @@ fn with_table(
 ) -> Result<Report, AllocError> {
     let mut out = sink(alloc, failing.out, STEP)?;
     let mut notes = sink(alloc, failing.notes, STEP)?;
-    let status = run(
-        rt, alloc, program, words, table, &mut out, &mut notes, gate,
-    );
+    let status = run(rt, alloc, program, words, table, &mut out, &mut notes, gate);
     Ok(Report { status, out, notes })
 }
 

@@ -1,5 +1,6 @@
 // Runs by many workers, at an open gate and at one where two pieces look for each other.
 
+use crate::demo::{TWO_SHIPS, demo};
 use crate::ends::{NONE_FAILS, Report, Watch, gave};
 use crate::scripts::run_script;
 use crate::tables::{TripsProgram, run_table};
@@ -43,7 +44,40 @@ const PAIRS: &[u8] = b"a,b\n1,2\n(1 rows)\n";
 enum Work {
     Join,
     Change,
+    Demo,
     Pairs,
+}
+
+fn run_by(
+    rt: &(impl Threads + Sync),
+    alloc: Global,
+    workers: &str,
+    script: &str,
+    gate: &Watch,
+) -> Result<Report, AllocError> {
+    let words = ["mobsql", "--workers", workers];
+    run_script(rt, alloc, &words, script, None, NONE_FAILS, gate)
+}
+
+fn pairs_by(
+    rt: &(impl Threads + Sync),
+    alloc: Global,
+    workers: &str,
+    gate: &Watch,
+) -> Result<Report, AllocError> {
+    let words = [
+        "mobtile",
+        "--size",
+        "1",
+        "--width",
+        "100",
+        "--near",
+        "3",
+        "--workers",
+        workers,
+    ];
+    let program = TripsProgram::Tile;
+    run_table(rt, alloc, program, &words, TABLE, NONE_FAILS, gate)
 }
 
 fn run_once(
@@ -53,40 +87,19 @@ fn run_once(
     workers: &str,
     gate: &Watch,
 ) -> Result<Report, AllocError> {
-    let script = match work {
-        Work::Join => JOIN,
-        Work::Change => CHANGE,
-        Work::Pairs => {
-            let words = [
-                "mobtile",
-                "--size",
-                "1",
-                "--width",
-                "100",
-                "--near",
-                "3",
-                "--workers",
-                workers,
-            ];
-            return run_table(
-                rt,
-                alloc,
-                TripsProgram::Tile,
-                &words,
-                TABLE,
-                NONE_FAILS,
-                gate,
-            );
-        }
-    };
-    let words = ["mobsql", "--workers", workers];
-    run_script(rt, alloc, &words, script, None, NONE_FAILS, gate)
+    match work {
+        Work::Join => run_by(rt, alloc, workers, JOIN, gate),
+        Work::Change => run_by(rt, alloc, workers, CHANGE, gate),
+        Work::Demo => demo(rt, alloc, "2", workers, gate),
+        Work::Pairs => pairs_by(rt, alloc, workers, gate),
+    }
 }
 
 fn answer(work: Work) -> &'static [u8] {
     match work {
         Work::Join => JOINED,
         Work::Change => CHANGED,
+        Work::Demo => TWO_SHIPS,
         Work::Pairs => PAIRS,
     }
 }
@@ -105,13 +118,16 @@ fn is_answered(
     }
 }
 
-static OPEN: [(Work, &'static str); 9] = [
+static OPEN: [(Work, &'static str); 12] = [
     (Work::Join, "1"),
     (Work::Join, "3"),
     (Work::Join, "64"),
     (Work::Change, "1"),
     (Work::Change, "3"),
     (Work::Change, "64"),
+    (Work::Demo, "1"),
+    (Work::Demo, "3"),
+    (Work::Demo, "64"),
     (Work::Pairs, "1"),
     (Work::Pairs, "3"),
     (Work::Pairs, "64"),
@@ -129,12 +145,7 @@ fn any_number_of_workers_answers_the_same(rt: HostRuntime) {
 }
 
 // Whether two of so many pieces see each other, and the answer is the same.
-fn see_each_other(
-    rt: &(impl Threads + Sync),
-    alloc: Global,
-    work: Work,
-    workers: &str,
-) -> bool {
+fn see_each_other(rt: &(impl Threads + Sync), alloc: Global, work: Work, workers: &str) -> bool {
     let flags = TwoFlags::new();
     let gate = Watch {
         flags: Some(&flags),
