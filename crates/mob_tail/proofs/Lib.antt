@@ -6,7 +6,6 @@ mod TupleSteps
 mod GroupKeys
 mod ColumnValues
 mod GroupLoop
-mod Changing
 mod OneGroup
 mod KeysSeen
 mod GroupExamples

@@ -1,51 +1,20 @@
-//! Reads a table of trips and asks for the ten trips nearest to `POINT(500 500)`, COUNT times, to be timed from outside.
-//!
-//! The arguments are `near`, with a tree that is built once, or `scan`, which computes the approach of each trip, and COUNT.
-#![tactic(auto)]
-
+// The ten trips nearest to `POINT(500 500)`, and the approach of each trip.
 ghost use Rattle.std.specs.Prelude.{◌≡◌, ◌<◌, ◌≤◌, length};
 ghost use Rattle.mob_knn.specs.Nearest.{AreOfTrips};
 
 use mob_frac::Frac;
 use mob_knn::{index_of, nearest};
-use mob_list::items::Items;
 use mob_near::approach_squared;
-use mob_outside::StdSource;
+use mob_outside::Source;
 use mob_plane::Point;
 use mob_rtree::RTree;
 use mob_scalar::Epoch;
 use mob_slice::{Moving, Operand, PlaneLine};
 use mob_steps::Steps;
-use mob_trips::read_trips;
-use mob_value::Value;
+use mob_trips::{read_trips, split_rows};
 use std::alloc::{AllocError, Global};
-use std::env;
 use std::marker::Brand;
-use std::process::ExitCode;
 use std::sync::ledger::{Blank, Ledger};
-
-fn trip_of(value: Value) -> Option<Moving<PlaneLine>> {
-    match value {
-        Value::MovingPoint(moving) => Some(moving),
-        _other => None,
-    }
-}
-
-fn trips_of(
-    alloc: Global,
-    rows: Items<Items<Value>>,
-) -> Result<Vec<Option<Moving<PlaneLine>>>, AllocError> {
-    let mut trips = Vec::new(alloc);
-    for row in rows.into_vec() {
-        let mut cells = row.into_vec();
-        let trip = match cells.pop() {
-            Some(value) => trip_of(value),
-            None => None,
-        };
-        trips.push(trip)?;
-    }
-    Ok(trips)
-}
 
 // Whether a trip has an approach above 0.
 fn is_away(alloc: Global, trip: &Option<Moving<PlaneLine>>, point: &Point) -> bool {
@@ -104,37 +73,49 @@ fn with_tree(
     Ok(sum)
 }
 
-fn main(rt: HostRuntime) -> anyhow::Result<ExitCode> {
-    let alloc = rt.alloc();
-    let words: Vec<String> = env::args(&rt)?.skip(1).collect(alloc)?;
-    if words.len() != 2 {
-        return Ok(ExitCode::from(2));
-    }
-    let Some(count) = words[1].as_str().parse::<u64>().ok() else {
-        return Ok(ExitCode::from(2));
-    };
-    let mut source = StdSource::new(rt.stdin());
-    let rows = match read_trips(alloc, &mut source, &Epoch::standard()) {
-        Ok(rows) => rows,
-        Err(ending) => return Ok(ExitCode::from(ending.status())),
-    };
-    let trips = trips_of(alloc, rows)?;
+// What the last of `count` searches or scans finds, or the exit status.
+fn found(
+    alloc: Global,
+    trips: &[Option<Moving<PlaneLine>>],
+    way: &str,
+    count: u64,
+) -> Result<usize, u8> {
     if trips.len() > 1000000 {
-        return Ok(ExitCode::from(6));
+        return Err(6);
     }
     let Ok(x) = Frac::new(500, 1) else {
-        return Ok(ExitCode::from(5));
+        return Err(5);
     };
     let point = Point { x, y: x };
-    if words[0].as_str() == "near" {
-        let near = with_tree(alloc, trips.as_slice(), &point, count)?;
-        println!(rt; "{near} of {} trips", trips.len())?;
-        return Ok(ExitCode::SUCCESS);
+    if way == "near" {
+        return match with_tree(alloc, trips, &point, count) {
+            Ok(rows) => Ok(rows),
+            Err(AllocError) => Err(5),
+        };
     }
     let mut away = 0;
     for _ in 0..count {
-        away = scan(alloc, trips.as_slice(), &point);
+        away = scan(alloc, trips, &point);
     }
-    println!(rt; "{away} of {} trips", trips.len())?;
-    Ok(ExitCode::SUCCESS)
+    Ok(away)
+}
+
+/// What the last of `count` searches (`near`), or scans, of the table of trips finds, and the number of trips; or the exit status.
+pub fn timed<S: Source>(
+    alloc: Global,
+    table: &mut S,
+    way: &str,
+    count: u64,
+) -> Result<(usize, usize), u8> {
+    let rows = match read_trips(alloc, table, &Epoch::standard()) {
+        Ok(rows) => rows,
+        Err(ending) => return Err(ending.status()),
+    };
+    let Ok((_ids, trips)) = split_rows(alloc, rows) else {
+        return Err(5);
+    };
+    match found(alloc, trips.as_slice(), way, count) {
+        Ok(rows) => Ok((rows, trips.len())),
+        Err(status) => Err(status),
+    }
 }

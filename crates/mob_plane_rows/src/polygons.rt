@@ -1,7 +1,7 @@
 // Polygons, read from their texts, copied and printed; what is left of a moving point inside one and outside, and whether it ever is inside.
 // The epoch is 2000-01-01.
 
-use crate::printed::{is_decision, is_left};
+use crate::printed::{is_left, is_settled};
 use mob_ast::SqlType;
 use mob_clip::{at_polygon, ever_inside, minus_polygon};
 use mob_geotext::{read_polygon, write_polygon};
@@ -178,7 +178,7 @@ static CLIPS: [Clip; 12] = [
 fn is_clip(alloc: Global, trip: &Moving<PlaneLine>, by: &Polygon, row: &Clip) -> bool {
     is_left(alloc, at_polygon(alloc, trip, by), row.2)
         && is_left(alloc, minus_polygon(alloc, trip, by), row.3)
-        && is_decision(ever_inside(alloc, trip, by), row.4)
+        && is_settled(ever_inside(alloc, trip, by), row.4)
 }
 
 fn is_by_polygon(alloc: Global, trip: &Moving<PlaneLine>, row: &Clip) -> bool {

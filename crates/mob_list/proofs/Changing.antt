@@ -1,4 +1,4 @@
--- How far a loop is that changes each entry of a list.
+-- A loop that changes each entry of a list in its place: how far it is.
 use Rattle.std.proofs.Common.{◌≡◌, ◌∙◌, refl, ap, subst, ℕ, zero, suc, arith, ◌<◌, ◌≤◌, length, List, [], ◌∷◌, get_or, set}
 use Rattle.std.specs.List.{AllZip}
 
@@ -35,3 +35,11 @@ module _ {A : Type 0} (R : A → A → Type 0) where
   changed_length n (x ∷ xs) [] h = absurd h
   changed_length zero (x ∷ xs) (y ∷ ys) h = ap suc (changed_length zero xs ys h.1)
   changed_length (suc n) (x ∷ xs) (y ∷ ys) h = ap suc (changed_length n xs ys h.1)
+
+  -- what is not changed yet is as it was
+  pub still : (n : ℕ) (xs ys : List A) (y : A) → n < length ys → y ≡ get_or ys n y → AreChanged R n xs ys → (n < length xs) × (y ≡ get_or xs n y)
+  still n [] [] y lt is h = absurd (omega (arith, lt))
+  still n [] (b ∷ ys) y lt is h = absurd h
+  still n (x ∷ xs) [] y lt is h = absurd h
+  still zero (x ∷ xs) (b ∷ ys) y lt is h = (omega arith, is ∙ h.0)
+  still (suc n) (x ∷ xs) (b ∷ ys) y lt is h = let k = still n xs ys y (omega (arith, lt)) is h.1 in (omega (arith, k.0), k.1)
