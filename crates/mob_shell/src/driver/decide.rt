@@ -14,7 +14,7 @@ use mob_words::{Settings, settings};
 use std::alloc::Global;
 use std::thread::Threads;
 
-// Judges the words. Without a demo it reads the script, loads it and writes its answers; in one it does so with the demo's.
+// Judges the arguments, and runs the script that is handed in, or with `--demo` that of the demo.
 pub fn decide<R: Threads + Sync, S: Source, F: Files, K: Sink, G: Gate>(
     rt: &R,
     alloc: Global,

@@ -12,7 +12,8 @@ use mob_words::Settings;
 use std::alloc::{AllocError, Global};
 use std::thread::Threads;
 
-// The files of a demo of so many ships: its one table file, whose calls give as many bytes as they are asked for.
+// The files of a demo of so many ships: its one table file, whose calls give as many bytes as they
+// are asked for.
 fn files_of(alloc: Global, ships: u32) -> Result<MemFiles, AllocError>
     requires few { ships ≤ 1000 }
     ensures files { IfOk result (λ f. f.files ≡ demo_files ships) }
@@ -23,7 +24,8 @@ fn files_of(alloc: Global, ships: u32) -> Result<MemFiles, AllocError>
     Ok(MemFiles::new(alloc, files, Vec::new(alloc), usize::MAX))
 }
 
-// The ending of a demo, by that of its text. Its file stands in memory, so where it cannot be read there is no memory.
+// The ending of a demo, by that of its text. Its file stands in memory, so where it cannot be read
+// there is no memory.
 fn ending_of(ending: Ending) -> Ending
     ensures ends { result ≡ demo_ending ending }
 {

@@ -1,4 +1,4 @@
-// From the words of a command line to the ending of a run.
+// From the arguments of a run to its ending.
 
 mod decide;
 mod demo;

@@ -22,7 +22,8 @@ use std::alloc::{AllocError, Global};
 use std::collections::VecDeque;
 use std::thread::Threads;
 
-/// Where a run of statements stands: its tables, and the rows of the files of the COPY statements that are still to come.
+/// Where a run of statements stands: its tables, and the rows of the files of the COPY statements
+/// that are still to come.
 #[derive(Drop)]
 pub struct Session {
     catalog: Catalog,
@@ -31,7 +32,8 @@ pub struct Session {
 }
 
 impl Session {
-    /// A run before its first statement: no table, the values of the script's literals, and the rows of its files.
+    /// A run before its first statement: no table, the values of the script's literals, and the
+    /// rows of its files.
     pub fn new(alloc: Global, program: Program, epoch: Epoch) -> Session
         ensures begins { session_state result ≡ begin program }
         ensures day { session_day result ≡ epoch }
@@ -149,7 +151,8 @@ impl Session {
         }
     }
 
-    /// Runs one statement by so many workers, whose pieces pass the gate, and answers the text of its answer.
+    /// Runs one statement by so many workers, whose pieces pass the gate, and answers the text of
+    /// its answer.
     pub fn execute<R: Threads + Sync, G: Gate>(
         &mut self,
         rt: &R,
