@@ -167,7 +167,8 @@ fn names(alloc: Global) -> Result<Vec<Text>, AllocError>
     Ok(names)
 }
 
-/// The text of the table with each trip simplified, within `d`, or the first row with a part of a test that does not fit.
+/// The text of the table with each trip simplified, within `d`, or the first row with a part of a
+/// test that does not fit.
 pub fn thin_text(
     alloc: Global,
     rows: &[Items<Value>],

@@ -14,7 +14,8 @@ use mob_words::{Settings, settings};
 use std::alloc::Global;
 use std::thread::Threads;
 
-// Judges the arguments, and runs the script that is handed in, or with `--demo` that of the demo.
+/// Judges the arguments, and runs the script that is handed in, or with `--demo` that of the demo.
+/// Returns the ending, `Usage` where the arguments are not accepted.
 pub fn decide<R: Threads + Sync, S: Source, F: Files, K: Sink, G: Gate>(
     rt: &R,
     alloc: Global,
