@@ -9,4 +9,6 @@ pub mod AnswerRows
 pub mod AnswerTexts
 pub mod Outcomes
 pub mod PlanAnswers
+pub mod Recalling
 pub mod States
+pub mod Takes

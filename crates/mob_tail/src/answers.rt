@@ -7,11 +7,13 @@ ghost use Rattle.mob_tail.specs.AnswerRows.{falls_of, answer_row};
 ghost use Rattle.mob_tail.specs.AnswerTexts.{answer_names, IsAnswerText};
 ghost use Rattle.mob_tail.specs.Answers.{IsPlainAnswer, IsAnswerOnKept};
 ghost use Rattle.mob_tail.specs.GroupedAnswers.{IsGroupedAnswer};
+ghost use Rattle.mob_tail.specs.Recalling.{AnswerFits, answer_recollection, roots_of};
 
 use crate::evaluation::rows_on;
 use crate::grouping::grouped_rows;
+use crate::roots::roots_of;
 use mob_arrange::{Row, arranged_text};
-use mob_eval::QueryFault;
+use mob_eval::{Memory, QueryFault, Remembering, memory_of};
 use mob_list::items::Items;
 use mob_list::text::Text;
 use mob_scalar::Epoch;
@@ -19,6 +21,7 @@ use mob_tuples::Tuple;
 use mob_typed::{TExpr, TypedSelect};
 use mob_value::Store;
 use std::alloc::{AllocError, Global};
+use std::marker::Brand;
 
 // The names of the columns.
 fn names_of(alloc: Global, items: &[(TExpr, Text)]) -> Result<Items<Text>, AllocError>
@@ -64,7 +67,61 @@ fn text_of(
     )
 }
 
-// What a query that is not grouped answers on the tuples that it keeps, or the first fault.
+// What a query that is not grouped answers on the tuples that it keeps, or the first fault, with a
+// memory of the operators of its select list and keys.
+fn answer_on<K: Remembering>(
+    alloc: Global,
+    select: &TypedSelect,
+    store: &Store,
+    kept: &[Tuple],
+    epoch: &Epoch,
+    memory: &Memory<K>,
+) -> Result<Vec<u8>, QueryFault>
+    requires fits { AnswerFits K.recollection (select_seen select.now) store.now epoch.now }
+    ensures text { IfOk result (λ text. IsAnswerText (select_seen select.now) (IsPlainAnswer (select_seen select.now) store.now epoch.now kept.now) text.items) }
+    ensures fault { IfErr result (OnTuple (λ f. IsPlainAnswer (select_seen select.now) store.now epoch.now kept.now (Err f))) }
+{
+    match rows_on(alloc, select, store, kept, epoch, Some(memory)) {
+        Ok(rows) => match text_of(alloc, select, rows, epoch) {
+            Ok(text) => Ok(text),
+            Err(_) => Err(QueryFault::NoMemory),
+        },
+        Err(fault) => Err(fault),
+    }
+}
+
+// A memory of the operators of the select list and the keys. If memory is refused it has fewer.
+fn memory_for<K: Remembering>(alloc: Global, select: &TypedSelect, store: &Store) -> Memory<K>
+    requires roots { K.recollection.roots ≡ roots_of (select_seen select.now).items (select_seen select.now).keys }
+{
+    let items = select.items.as_slice();
+    let keys = select.keys.as_slice();
+    match roots_of(alloc, items, keys) {
+        Ok(expressions) => {
+            let roots = expressions.as_slice();
+            memory_of(alloc, store, select.from.as_slice(), roots)
+        }
+        Err(_) => Memory::new(alloc),
+    }
+}
+
+// The same, with a memory that is made for it.
+fn answer_with<K: Remembering>(
+    alloc: Global,
+    select: &TypedSelect,
+    store: &Store,
+    kept: &[Tuple],
+    epoch: &Epoch,
+) -> Result<Vec<u8>, QueryFault>
+    requires recollection { K.recollection ≡ answer_recollection (select_seen select.now) store.now epoch.now }
+    ensures text { IfOk result (λ text. IsAnswerText (select_seen select.now) (IsPlainAnswer (select_seen select.now) store.now epoch.now kept.now) text.items) }
+    ensures fault { IfErr result (OnTuple (λ f. IsPlainAnswer (select_seen select.now) store.now epoch.now kept.now (Err f))) }
+{
+    let memory = memory_for::<K>(alloc, select, store);
+    answer_on(alloc, select, store, kept, epoch, &memory)
+}
+
+// The same. What is remembered is picked here.
 fn plain_answer(
     alloc: Global,
     select: &TypedSelect,
@@ -75,13 +132,7 @@ fn plain_answer(
     ensures text { IfOk result (λ text. IsAnswerText (select_seen select.now) (IsPlainAnswer (select_seen select.now) store.now epoch.now kept.now) text.items) }
     ensures fault { IfErr result (OnTuple (λ f. IsPlainAnswer (select_seen select.now) store.now epoch.now kept.now (Err f))) }
 {
-    match rows_on(alloc, select, store, kept, epoch) {
-        Ok(rows) => match text_of(alloc, select, rows, epoch) {
-            Ok(text) => Ok(text),
-            Err(_) => Err(QueryFault::NoMemory),
-        },
-        Err(fault) => Err(fault),
-    }
+    answer_with::<Brand>(alloc, select, store, kept, epoch)
 }
 
 // What a grouped query answers on the tuples that it keeps, or the first fault.

@@ -8,6 +8,7 @@ ghost use Rattle.mob_value.specs.declared.value.Value.{Value as ValueOf};
 ghost use Rattle.mob_eval.specs.Held.{held};
 ghost use Rattle.mob_eval.specs.Faults.{OnPassed};
 ghost use Rattle.mob_eval.specs.QueryFaults.{OnTuple};
+ghost use Rattle.mob_eval.specs.Remembered.{Fits};
 ghost use Rattle.mob_literal.specs.Fields.{field_text};
 ghost use Rattle.mob_meaning.specs.Evaluation.{TreeEvaluatesTo};
 ghost use Rattle.mob_typed.specs.Trees.{typed_of};
@@ -15,9 +16,11 @@ ghost use Rattle.mob_arrange.specs.RowValues.{row_value};
 ghost use Rattle.mob_tail.specs.AnswerRows.{answer_row};
 ghost use Rattle.mob_tail.specs.IsMadeOfEach.{IsMadeOfEach};
 ghost use Rattle.mob_tail.specs.Answers.{IsField, IsKey, IsRowOf, IsTupleRow};
+ghost use Rattle.mob_tail.specs.Recalling.{AnswerFits, RowFits};
+ghost use Rattle.mob_tail.specs.Takes.{TakesEach};
 
 use mob_arrange::{Row, RowValue};
-use mob_eval::{EvalFault, Held, QueryFault, View, held_value};
+use mob_eval::{EvalFault, Held, Memory, QueryFault, Remembering, View, value_with};
 use mob_list::items::Items;
 use mob_list::text::Text;
 use mob_scalar::Epoch;
@@ -25,6 +28,13 @@ use mob_tuples::Tuple;
 use mob_typed::{TExpr, TypedSelect};
 use mob_value::Store;
 use std::alloc::Global;
+
+// What an expression reads, and a memory of what operators gave.
+#[derive(Drop)]
+struct Reading<'a, K: Remembering> {
+    view: View<'a>,
+    memory: Option<&'a Memory<K>>,
+}
 
 // A value, where it stands or made.
 fn lent<'a>(alloc: Global, found: Held<'a>) -> Result<RowValue<'a>, EvalFault>
@@ -39,39 +49,46 @@ fn lent<'a>(alloc: Global, found: Held<'a>) -> Result<RowValue<'a>, EvalFault>
     }
 }
 
-// The value of an expression. A stored one is not copied.
-fn value_of<'a>(alloc: Global, view: &View<'a>, e: &TExpr) -> Result<RowValue<'a>, EvalFault>
-    ensures value { IfOk result (λ v. TreeEvaluatesTo (scene_of view.now) (typed_of e.now) (Ok (row_value v))) }
-    ensures fault { IfErr result (OnPassed (λ f. TreeEvaluatesTo (scene_of view.now) (typed_of e.now) (Err f))) }
+// The value of an expression. A stored or remembered one is not copied.
+fn value_of<'a, K: Remembering>(
+    alloc: Global,
+    reading: &Reading<'a, K>,
+    e: &TExpr,
+) -> Result<RowValue<'a>, EvalFault>
+    requires fits { Fits K.recollection (scene_of reading.now.view) (typed_of e.now) }
+    ensures value { IfOk result (λ v. TreeEvaluatesTo (scene_of reading.now.view) (typed_of e.now) (Ok (row_value v))) }
+    ensures fault { IfErr result (OnPassed (λ f. TreeEvaluatesTo (scene_of reading.now.view) (typed_of e.now) (Err f))) }
 {
-    match held_value(alloc, e, view) {
+    match value_with(alloc, e, &reading.view, reading.memory) {
         Ok(found) => lent(alloc, found),
         Err(fault) => Err(fault),
     }
 }
 
 // The value of an entry of the select list.
-fn field_of<'a>(
+fn field_of<'a, K: Remembering>(
     alloc: Global,
-    view: &View<'a>,
+    reading: &Reading<'a, K>,
     item: &(TExpr, Text),
 ) -> Result<RowValue<'a>, EvalFault>
-    ensures field { IfOk result (λ v. IsField (scene_of view.now) (output_of item.now) (Ok (field_text view.now.epoch.now (row_value v)))) }
-    ensures fault { IfErr result (OnPassed (λ f. IsField (scene_of view.now) (output_of item.now) (Err f))) }
+    requires fits { Fits K.recollection (scene_of reading.now.view) (typed_of item.now.0) }
+    ensures field { IfOk result (λ v. IsField (scene_of reading.now.view) (output_of item.now) (Ok (field_text reading.now.view.epoch.now (row_value v)))) }
+    ensures fault { IfErr result (OnPassed (λ f. IsField (scene_of reading.now.view) (output_of item.now) (Err f))) }
 {
-    value_of(alloc, view, &item.0)
+    value_of(alloc, reading, &item.0)
 }
 
 // The value of a key.
-fn key_of<'a>(
+fn key_of<'a, K: Remembering>(
     alloc: Global,
-    view: &View<'a>,
+    reading: &Reading<'a, K>,
     key: &(TExpr, bool),
 ) -> Result<RowValue<'a>, EvalFault>
-    ensures key { IfOk result (λ v. IsKey (scene_of view.now) (key_seen key.now) (Ok (row_value v))) }
-    ensures fault { IfErr result (OnPassed (λ f. IsKey (scene_of view.now) (key_seen key.now) (Err f))) }
+    requires fits { Fits K.recollection (scene_of reading.now.view) (typed_of key.now.0) }
+    ensures key { IfOk result (λ v. IsKey (scene_of reading.now.view) (key_seen key.now) (Ok (row_value v))) }
+    ensures fault { IfErr result (OnPassed (λ f. IsKey (scene_of reading.now.view) (key_seen key.now) (Err f))) }
 {
-    value_of(alloc, view, &key.0)
+    value_of(alloc, reading, &key.0)
 }
 
 // What `make` gives for each entry, in order, or its first fault.
@@ -80,7 +97,7 @@ fn each_of<T, V: Drop, F: Fn(&T) -> Result<V, EvalFault>>(
     entries: &[T],
     make: F,
 ) -> Result<Items<V>, EvalFault>
-    requires callable { F.IsAlwaysCallable make }
+    requires callable { TakesEach F.Fn make entries.now }
     ensures made { IfOk result (λ made. IsMadeOfEach (FnReturnsAt F.Fn make) entries.now (Ok made)) }
     ensures fault { IfErr result (λ e. IsMadeOfEach (FnReturnsAt F.Fn make) entries.now (Err e) ⊎ (e ≡ EvalFault.NoMemory)) }
 {
@@ -100,48 +117,51 @@ fn each_of<T, V: Drop, F: Fn(&T) -> Result<V, EvalFault>>(
 }
 
 // The values of the select list.
-fn fields_on<'a>(
+fn fields_on<'a, K: Remembering>(
     alloc: Global,
     select: &TypedSelect,
-    view: &View<'a>,
+    reading: &Reading<'a, K>,
 ) -> Result<Items<RowValue<'a>>, EvalFault>
-    ensures fields { IfOk result (λ fields. IsMadeOfEach (IsField (scene_of view.now)) (select_seen select.now).items (Ok (map (λ v. field_text view.now.epoch.now (row_value v)) fields))) }
-    ensures fault { IfErr result (OnPassed (λ f. IsMadeOfEach (IsField (scene_of view.now)) (select_seen select.now).items (Err f))) }
+    requires fits { RowFits K.recollection (select_seen select.now) (scene_of reading.now.view) }
+    ensures fields { IfOk result (λ fields. IsMadeOfEach (IsField (scene_of reading.now.view)) (select_seen select.now).items (Ok (map (λ v. field_text reading.now.view.epoch.now (row_value v)) fields))) }
+    ensures fault { IfErr result (OnPassed (λ f. IsMadeOfEach (IsField (scene_of reading.now.view)) (select_seen select.now).items (Err f))) }
 {
     each_of(
         alloc,
         select.items.as_slice(),
-        |item| field_of(alloc, view, item),
+        |item| field_of(alloc, reading, item),
     )
 }
 
 // The values of the keys.
-fn keys_on<'a>(
+fn keys_on<'a, K: Remembering>(
     alloc: Global,
     select: &TypedSelect,
-    view: &View<'a>,
+    reading: &Reading<'a, K>,
 ) -> Result<Items<RowValue<'a>>, EvalFault>
-    ensures keys { IfOk result (λ keys. IsMadeOfEach (IsKey (scene_of view.now)) (select_seen select.now).keys (Ok (map row_value keys))) }
-    ensures fault { IfErr result (OnPassed (λ f. IsMadeOfEach (IsKey (scene_of view.now)) (select_seen select.now).keys (Err f))) }
+    requires fits { RowFits K.recollection (select_seen select.now) (scene_of reading.now.view) }
+    ensures keys { IfOk result (λ keys. IsMadeOfEach (IsKey (scene_of reading.now.view)) (select_seen select.now).keys (Ok (map row_value keys))) }
+    ensures fault { IfErr result (OnPassed (λ f. IsMadeOfEach (IsKey (scene_of reading.now.view)) (select_seen select.now).keys (Err f))) }
 {
     each_of(
         alloc,
         select.keys.as_slice(),
-        |key| key_of(alloc, view, key),
+        |key| key_of(alloc, reading, key),
     )
 }
 
 // The row of these fields, with the values of the keys before them.
-fn row_before<'a>(
+fn row_before<'a, K: Remembering>(
     alloc: Global,
     select: &TypedSelect,
-    view: &View<'a>,
+    reading: &Reading<'a, K>,
     fields: Items<RowValue<'a>>,
 ) -> Result<Row<'a>, EvalFault>
-    ensures row { IfOk result (λ row. (keys : List ValueOf) × IsMadeOfEach (IsKey (scene_of view.now)) (select_seen select.now).keys (Ok keys) × (row ≡ keys ++ map row_value fields.entry)) }
-    ensures fault { IfErr result (OnPassed (λ f. IsMadeOfEach (IsKey (scene_of view.now)) (select_seen select.now).keys (Err f))) }
+    requires fits { RowFits K.recollection (select_seen select.now) (scene_of reading.now.view) }
+    ensures row { IfOk result (λ row. (keys : List ValueOf) × IsMadeOfEach (IsKey (scene_of reading.now.view)) (select_seen select.now).keys (Ok keys) × (row ≡ keys ++ map row_value fields.entry)) }
+    ensures fault { IfErr result (OnPassed (λ f. IsMadeOfEach (IsKey (scene_of reading.now.view)) (select_seen select.now).keys (Err f))) }
 {
-    match keys_on(alloc, select, view) {
+    match keys_on(alloc, select, reading) {
         Ok(keys) => match Row::new(keys, fields) {
             Ok(row) => Ok(row),
             Err(_) => Err(EvalFault::NoMemory),
@@ -150,45 +170,58 @@ fn row_before<'a>(
     }
 }
 
-fn row_on<'a>(alloc: Global, select: &TypedSelect, view: &View<'a>) -> Result<Row<'a>, EvalFault>
-    ensures row { IfOk result (λ row. IsRowOf (select_seen select.now) (scene_of view.now) (Ok (answer_row (select_seen select.now) view.now.epoch.now row))) }
-    ensures fault { IfErr result (OnPassed (λ f. IsRowOf (select_seen select.now) (scene_of view.now) (Err f))) }
+fn row_on<'a, K: Remembering>(
+    alloc: Global,
+    select: &TypedSelect,
+    reading: &Reading<'a, K>,
+) -> Result<Row<'a>, EvalFault>
+    requires fits { RowFits K.recollection (select_seen select.now) (scene_of reading.now.view) }
+    ensures row { IfOk result (λ row. IsRowOf (select_seen select.now) (scene_of reading.now.view) (Ok (answer_row (select_seen select.now) reading.now.view.epoch.now row))) }
+    ensures fault { IfErr result (OnPassed (λ f. IsRowOf (select_seen select.now) (scene_of reading.now.view) (Err f))) }
 {
-    match fields_on(alloc, select, view) {
-        Ok(fields) => row_before(alloc, select, view, fields),
+    match fields_on(alloc, select, reading) {
+        Ok(fields) => row_before(alloc, select, reading, fields),
         Err(fault) => Err(fault),
     }
 }
 
 // The row of a tuple.
-fn row_of<'a>(
+fn row_of<'a, K: Remembering>(
     alloc: Global,
     select: &'a TypedSelect,
     store: &'a Store,
     tuple: &'a [u32],
     epoch: &'a Epoch,
+    memory: Option<&'a Memory<K>>,
 ) -> Result<Row<'a>, EvalFault>
+    requires fits { RowFits K.recollection (select_seen select.now) (scene store.now select.now.from tuple.now epoch.now) }
     ensures row { IfOk result (λ row. IsRowOf (select_seen select.now) (scene store.now select.now.from tuple.now epoch.now) (Ok (answer_row (select_seen select.now) epoch.now row))) }
     ensures fault { IfErr result (OnPassed (λ f. IsRowOf (select_seen select.now) (scene store.now select.now.from tuple.now epoch.now) (Err f))) }
 {
-    let view = View {
-        store,
-        from: select.from.as_slice(),
-        tuple,
-        epoch,
+    let reading = Reading {
+        view: View {
+            store,
+            from: select.from.as_slice(),
+            tuple,
+            epoch,
+        },
+        memory,
     };
-    row_on(alloc, select, &view)
+    row_on(alloc, select, &reading)
 }
 
 /// The rows of these tuples, in order, or the first fault: on each tuple the select list is
-/// evaluated, and then the keys. What a row has that stands in the store is not copied.
-pub fn rows_on<'a>(
+/// evaluated, and then the keys. With a memory, what its operators gave is taken from there. What a
+/// row has that stands in the store or in the memory is not copied.
+pub fn rows_on<'a, K: Remembering>(
     alloc: Global,
     select: &'a TypedSelect,
     store: &'a Store,
     kept: &'a [Tuple],
     epoch: &'a Epoch,
+    memory: Option<&'a Memory<K>>,
 ) -> Result<Vec<Row<'a>>, QueryFault>
+    requires fits { AnswerFits K.recollection (select_seen select.now) store.now epoch.now }
     ensures rows { IfOk result (λ rows. IsMadeOfEach (IsTupleRow (select_seen select.now) store.now epoch.now) kept.now (Ok (map (answer_row (select_seen select.now) epoch.now) rows.items))) }
     ensures fault { IfErr result (OnTuple (λ f. IsMadeOfEach (IsTupleRow (select_seen select.now) store.now epoch.now) kept.now (Err f))) }
 {
@@ -196,7 +229,7 @@ pub fn rows_on<'a>(
         return Err(QueryFault::NoMemory);
     };
     for tuple in kept {
-        let row = match row_of(alloc, select, store, tuple.as_slice(), epoch) {
+        let row = match row_of(alloc, select, store, tuple.as_slice(), epoch, memory) {
             Ok(row) => row,
             Err(fault) => return Err(QueryFault::on(tuple, fault)),
         };

@@ -4,6 +4,9 @@ use Rattle.std.proofs.iter.Next.{says_at}
 use Rattle.mob_tail.proofs.Making.{each_next, each_fault, each_all}
 use Rattle.mob_tail.proofs.evaluation.each_of.Goals as goal
 
+pub make-requires : goal.make-requires
+make-requires g c = c.requires.callable c.loop-entry.entry-index c.entry-item.result c.loop-entry-test.true _ c.entry-item.is
+
 pub loop-entry-preserved : goal.loop-entry-preserved
 loop-entry-preserved g c =
     let at = c.loop-entry in

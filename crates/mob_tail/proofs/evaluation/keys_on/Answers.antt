@@ -1,19 +1,30 @@
-use Rattle.std.proofs.Common.{rules}
+use Rattle.std.proofs.Common.{rules, sym, subst, Bool}
 use Rattle.std.specs.Fn.{FnReturnsAt}
 use Rattle.std.proofs.lemmas.Result.{MatchResult-weaker}
+use Rattle.mob_typed.specs.Trees.{TypedTree, typed_of}
 use Rattle.mob_typed.specs.Selects.{key_seen}
 use Rattle.mob_eval.specs.Views.{scene_of}
+use Rattle.mob_eval.specs.Remembered.{Fits}
 use Rattle.mob_arrange.specs.RowValues.{row_value}
 use Rattle.mob_tail.specs.Answers.{IsKey}
+use Rattle.mob_tail.proofs.Fitting.{all_seen_as}
 use Rattle.mob_tail.proofs.Making.{each_seen, fault_seen}
 use Rattle.mob_tail.proofs.evaluation.keys_on.Goals as goal
 
+pub each_of-requires : goal.each_of-requires
+each_of-requires g c =
+    let c_of = g.K.Remembering.recollection in
+    let s = scene_of c.args.reading.now.view in
+    let entries = c.args.select.now.keys in
+    let all = rw c.as_slice.ensures.same (all_seen_as (λ (entry : (TypedTree × Bool)). Fits c_of s entry.0) key_seen entries c.requires.fits.keys) in
+    record { callable = λ k d lt shown is. let fit = subst (λ entry. Fits c_of s (typed_of entry.0)) (sym is) (all k d lt) in search (rules, fit) }
+
 pub returns-clause-keys : goal.returns-clause-keys
-returns-clause-keys c =
+returns-clause-keys g c =
     let made = rw c.as_slice.ensures.same at c.each_of.ensures.made in
-    MatchResult-weaker c.each_of.result made (λ keys h. each_seen (FnReturnsAt _ _) (IsKey (scene_of c.args.view.now)) key_seen row_value _ keys h (λ w y k. search rules)) (λ e h. h)
+    MatchResult-weaker c.each_of.result made (λ keys h. each_seen (FnReturnsAt _ _) (IsKey (scene_of c.args.reading.now.view)) key_seen row_value _ keys h (λ w y k. search rules)) (λ e h. h)
 
 pub returns-clause-fault : goal.returns-clause-fault
-returns-clause-fault c =
+returns-clause-fault g c =
     let fault = rw c.as_slice.ensures.same at c.each_of.ensures.fault in
-    MatchResult-weaker c.each_of.result fault (λ keys h. h) (λ e h. fault_seen (FnReturnsAt _ _) (IsKey (scene_of c.args.view.now)) key_seen row_value _ e h (λ w y k. search rules) (λ w e k. search rules))
+    MatchResult-weaker c.each_of.result fault (λ keys h. h) (λ e h. fault_seen (FnReturnsAt _ _) (IsKey (scene_of c.args.reading.now.view)) key_seen row_value _ e h (λ w y k. search rules) (λ w e k. search rules))
