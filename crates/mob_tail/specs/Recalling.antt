@@ -16,10 +16,10 @@ abbrev pub answer_recollection : TypedSelectParts → Store → ℤ → Recollec
 answer_recollection select store day = recollection_of store select.from day (roots_of select.items select.keys)
 
 -- each expression of the select list and of the keys fits what is remembered
-pub record RowFits (c : Recollection) (select : TypedSelectParts) (s : Scene) : Type 0 where
+pub record SelectFits (c : Recollection) (select : TypedSelectParts) (s : Scene) : Type 0 where
   pub items : AllByRecursion (λ (item : Output). Fits c s item.0) select.items
   pub keys : AllByRecursion (λ (key : TypedTree × Bool). Fits c s key.0) select.keys
 
 -- so it does on each tuple
 abbrev pub AnswerFits : Recollection → TypedSelectParts → Store → ℤ → Type 0
-AnswerFits c select store day = (tuple : List ℕ) → RowFits c select (scene store select.from tuple day)
+AnswerFits c select store day = (tuple : List ℕ) → SelectFits c select (scene store select.from tuple day)

@@ -16,7 +16,7 @@ ghost use Rattle.mob_arrange.specs.RowValues.{row_value};
 ghost use Rattle.mob_tail.specs.AnswerRows.{answer_row};
 ghost use Rattle.mob_tail.specs.IsMadeOfEach.{IsMadeOfEach};
 ghost use Rattle.mob_tail.specs.Answers.{IsField, IsKey, IsRowOf, IsTupleRow};
-ghost use Rattle.mob_tail.specs.Recalling.{AnswerFits, RowFits};
+ghost use Rattle.mob_tail.specs.Recalling.{AnswerFits, SelectFits};
 ghost use Rattle.mob_tail.specs.Takes.{TakesEach};
 
 use mob_arrange::{Row, RowValue};
@@ -122,7 +122,7 @@ fn fields_on<'a, K: Remembering>(
     select: &TypedSelect,
     reading: &Reading<'a, K>,
 ) -> Result<Items<RowValue<'a>>, EvalFault>
-    requires fits { RowFits K.recollection (select_seen select.now) (scene_of reading.now.view) }
+    requires fits { SelectFits K.recollection (select_seen select.now) (scene_of reading.now.view) }
     ensures fields { IfOk result (λ fields. IsMadeOfEach (IsField (scene_of reading.now.view)) (select_seen select.now).items (Ok (map (λ v. field_text reading.now.view.epoch.now (row_value v)) fields))) }
     ensures fault { IfErr result (OnPassed (λ f. IsMadeOfEach (IsField (scene_of reading.now.view)) (select_seen select.now).items (Err f))) }
 {
@@ -139,7 +139,7 @@ fn keys_on<'a, K: Remembering>(
     select: &TypedSelect,
     reading: &Reading<'a, K>,
 ) -> Result<Items<RowValue<'a>>, EvalFault>
-    requires fits { RowFits K.recollection (select_seen select.now) (scene_of reading.now.view) }
+    requires fits { SelectFits K.recollection (select_seen select.now) (scene_of reading.now.view) }
     ensures keys { IfOk result (λ keys. IsMadeOfEach (IsKey (scene_of reading.now.view)) (select_seen select.now).keys (Ok (map row_value keys))) }
     ensures fault { IfErr result (OnPassed (λ f. IsMadeOfEach (IsKey (scene_of reading.now.view)) (select_seen select.now).keys (Err f))) }
 {
@@ -157,7 +157,7 @@ fn row_before<'a, K: Remembering>(
     reading: &Reading<'a, K>,
     fields: Items<RowValue<'a>>,
 ) -> Result<Row<'a>, EvalFault>
-    requires fits { RowFits K.recollection (select_seen select.now) (scene_of reading.now.view) }
+    requires fits { SelectFits K.recollection (select_seen select.now) (scene_of reading.now.view) }
     ensures row { IfOk result (λ row. (keys : List ValueOf) × IsMadeOfEach (IsKey (scene_of reading.now.view)) (select_seen select.now).keys (Ok keys) × (row ≡ keys ++ map row_value fields.entry)) }
     ensures fault { IfErr result (OnPassed (λ f. IsMadeOfEach (IsKey (scene_of reading.now.view)) (select_seen select.now).keys (Err f))) }
 {
@@ -175,7 +175,7 @@ fn row_on<'a, K: Remembering>(
     select: &TypedSelect,
     reading: &Reading<'a, K>,
 ) -> Result<Row<'a>, EvalFault>
-    requires fits { RowFits K.recollection (select_seen select.now) (scene_of reading.now.view) }
+    requires fits { SelectFits K.recollection (select_seen select.now) (scene_of reading.now.view) }
     ensures row { IfOk result (λ row. IsRowOf (select_seen select.now) (scene_of reading.now.view) (Ok (answer_row (select_seen select.now) reading.now.view.epoch.now row))) }
     ensures fault { IfErr result (OnPassed (λ f. IsRowOf (select_seen select.now) (scene_of reading.now.view) (Err f))) }
 {
@@ -194,7 +194,7 @@ fn row_of<'a, K: Remembering>(
     epoch: &'a Epoch,
     memory: Option<&'a Memory<K>>,
 ) -> Result<Row<'a>, EvalFault>
-    requires fits { RowFits K.recollection (select_seen select.now) (scene store.now select.now.from tuple.now epoch.now) }
+    requires fits { SelectFits K.recollection (select_seen select.now) (scene store.now select.now.from tuple.now epoch.now) }
     ensures row { IfOk result (λ row. IsRowOf (select_seen select.now) (scene store.now select.now.from tuple.now epoch.now) (Ok (answer_row (select_seen select.now) epoch.now row))) }
     ensures fault { IfErr result (OnPassed (λ f. IsRowOf (select_seen select.now) (scene store.now select.now.from tuple.now epoch.now) (Err f))) }
 {
