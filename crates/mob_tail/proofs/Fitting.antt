@@ -1,39 +1,36 @@
 -- The select list and the keys of a query fit what is remembered of them.
-use Rattle.std.proofs.Common.{◌++◌, ℤ, Bool, List, [], ◌∷◌, map}
-use Rattle.std.specs.List.{All, AllByRecursion}
-use Rattle.std.proofs.lemmas.List.Elements.{All-from_recursion}
-use Rattle.mob_typed.specs.Trees.{TypedTree}
-use Rattle.mob_typed.specs.Selects.{Output, TypedSelectParts}
+use Rattle.std.proofs.Common.{◌≡◌, ◌<◌, ◌++◌, ℕ, zero, suc, ℤ, List, [], ◌∷◌, length, get_or, map, take, drop, sym, ap, subst, ◌∙◌, arith}
+use Rattle.std.specs.List.{AllByRecursion}
+use Rattle.std.proofs.lemmas.List.{length-map, map-append}
+use Rattle.std.proofs.Math.Seq.{take-append_seam, drop-append_seam}
+use Rattle.mob_typed.specs.Selects.{TypedSelectParts}
 use Rattle.mob_value.specs.declared.store.Store.{Store}
-use Rattle.mob_meaning.specs.Scene.{scene}
-use Rattle.mob_eval.specs.Remembered.{Fits}
 use Rattle.mob_eval.proofs.Fitting.{roots_fit}
-use Rattle.mob_tail.specs.Recalling.{AnswerFits, answer_recollection, roots_of}
+use Rattle.mob_tail.specs.Recalling.{AnswerFits, answer_recollection, item_trees, key_trees}
 
 module _ {X : Type 0} (P : X → Type 0) where
-  each_front : (xs ys : List X) → AllByRecursion P (xs ++ ys) → AllByRecursion P xs
+  pub each_front : (xs ys : List X) → AllByRecursion P (xs ++ ys) → AllByRecursion P xs
   each_front [] ys h = tt
   each_front (x ∷ xs) ys h = (h.0, each_front xs ys h.1)
 
-  each_back : (xs ys : List X) → AllByRecursion P (xs ++ ys) → AllByRecursion P ys
+  pub each_back : (xs ys : List X) → AllByRecursion P (xs ++ ys) → AllByRecursion P ys
   each_back [] ys h = h
   each_back (x ∷ xs) ys h = each_back xs ys h.1
 
-  -- what holds of what each is seen as
-  each_seen_as : {Y : Type 0} (see : Y → X) (ys : List Y) → AllByRecursion P (map see ys) → AllByRecursion (λ y. P (see y)) ys
-  each_seen_as see [] h = tt
-  each_seen_as see (y ∷ ys) h = (h.0, each_seen_as see ys h.1)
+  -- at the place i of a list
+  pub each_at : {W : Type 0} (see : W → X) (ws : List W) (i : ℕ) (w : W) → i < length ws → w ≡ get_or ws i w → AllByRecursion P (map see ws) → P (see w)
+  each_at see [] i w lt is h = absurd (omega (arith, lt))
+  each_at see (x ∷ ws) zero w lt is h = subst (λ z. P (see z)) (sym is) h.0
+  each_at see (x ∷ ws) (suc i) w lt is h = let k : i < length ws = omega (arith, lt) in each_at see ws i w k is h.1
 
-  pub all_seen_as : {Y : Type 0} (see : Y → X) (ys : List Y) → AllByRecursion P (map see ys) → All (λ y. P (see y)) ys
-  all_seen_as see ys h = All-from_recursion (λ y. P (see y)) ys (each_seen_as see ys h)
+-- a list that is seen as two lists, split where the first ends
+pub halves : {W X : Type 0} (see : W → X) (ws front back : List W) (xs ys : List X) → ws ≡ front ++ back → length front ≡ length xs → map see ws ≡ xs ++ ys → (map see front ≡ xs) × (map see back ≡ ys)
+halves see ws front back xs ys parts count seen =
+    let both : map see front ++ map see back ≡ xs ++ ys = sym (map-append see front back) ∙ ap (map see) (sym parts) ∙ seen in
+    let n : length (map see front) ≡ length xs = length-map see front ∙ count in (
+      sym (take-append_seam (map see front) (map see back)) ∙ (λ i. take (n i) (both i)) ∙ take-append_seam xs ys,
+      sym (drop-append_seam (map see front) (map see back)) ∙ (λ i. drop (n i) (both i)) ∙ drop-append_seam xs ys,
+    )
 
 pub answer_fits : (select : TypedSelectParts) (store : Store) (day : ℤ) → AnswerFits (answer_recollection select store day) select store day
-answer_fits select store day tuple =
-    let s = scene store select.from tuple day in
-    let c = answer_recollection select store day in
-    let items = map (λ (item : Output). item.0) select.items in
-    let keys = map (λ (key : TypedTree × Bool). key.0) select.keys in
-    let all = roots_fit store select.from tuple day (roots_of select.items select.keys) in record {
-      items = each_seen_as (Fits c s) (λ (item : Output). item.0) select.items (each_front (Fits c s) items keys all);
-      keys = each_seen_as (Fits c s) (λ (key : TypedTree × Bool). key.0) select.keys (each_back (Fits c s) items keys all);
-    }
+answer_fits select store day tuple = roots_fit store select.from tuple day (item_trees select ++ key_trees select)

@@ -1,5 +1,5 @@
 // What a query answers.
-ghost use Rattle.std.specs.Prelude.{◌≡◌, Ok, Err, IfOk, IfErr, map};
+ghost use Rattle.std.specs.Prelude.{◌≡◌, ◌++◌, Ok, Err, IfOk, IfErr, map};
 ghost use Rattle.mob_typed.specs.Selects.{select_seen, output_of, key_seen};
 ghost use Rattle.mob_eval.specs.QueryFaults.{OnTuple};
 ghost use Rattle.mob_arrange.specs.RowsText.{IsTextOfArranged};
@@ -7,7 +7,8 @@ ghost use Rattle.mob_tail.specs.AnswerRows.{falls_of, answer_row};
 ghost use Rattle.mob_tail.specs.AnswerTexts.{answer_names, IsAnswerText};
 ghost use Rattle.mob_tail.specs.Answers.{IsPlainAnswer, IsAnswerOnKept};
 ghost use Rattle.mob_tail.specs.GroupedAnswers.{IsGroupedAnswer};
-ghost use Rattle.mob_tail.specs.Recalling.{AnswerFits, answer_recollection, roots_of};
+ghost use Rattle.mob_eval.specs.Remembered.{root_seen};
+ghost use Rattle.mob_tail.specs.Recalling.{AnswerFits, answer_recollection, item_trees, key_trees};
 
 use crate::evaluation::rows_on;
 use crate::grouping::grouped_rows;
@@ -68,40 +69,28 @@ fn text_of(
 }
 
 // What a query that is not grouped answers on the tuples that it keeps, or the first fault, with a
-// memory of the operators of its select list and keys.
+// memory of the operators of the expressions of its select list and its keys.
 fn answer_on<K: Remembering>(
     alloc: Global,
     select: &TypedSelect,
+    roots: &[&TExpr],
     store: &Store,
     kept: &[Tuple],
     epoch: &Epoch,
     memory: &Memory<K>,
 ) -> Result<Vec<u8>, QueryFault>
+    requires roots { map root_seen roots.now ≡ item_trees (select_seen select.now) ++ key_trees (select_seen select.now) }
     requires fits { AnswerFits K.recollection (select_seen select.now) store.now epoch.now }
     ensures text { IfOk result (λ text. IsAnswerText (select_seen select.now) (IsPlainAnswer (select_seen select.now) store.now epoch.now kept.now) text.items) }
     ensures fault { IfErr result (OnTuple (λ f. IsPlainAnswer (select_seen select.now) store.now epoch.now kept.now (Err f))) }
 {
-    match rows_on(alloc, select, store, kept, epoch, Some(memory)) {
+    let (items, keys) = roots.split_at(select.items.len());
+    match rows_on(alloc, select, items, keys, store, kept, epoch, Some(memory)) {
         Ok(rows) => match text_of(alloc, select, rows, epoch) {
             Ok(text) => Ok(text),
             Err(_) => Err(QueryFault::NoMemory),
         },
         Err(fault) => Err(fault),
-    }
-}
-
-// A memory of the operators of the select list and the keys. If memory is refused it has fewer.
-fn memory_for<K: Remembering>(alloc: Global, select: &TypedSelect, store: &Store) -> Memory<K>
-    requires roots { K.recollection.roots ≡ roots_of (select_seen select.now).items (select_seen select.now).keys }
-{
-    let items = select.items.as_slice();
-    let keys = select.keys.as_slice();
-    match roots_of(alloc, items, keys) {
-        Ok(expressions) => {
-            let roots = expressions.as_slice();
-            memory_of(alloc, store, select.from.as_slice(), roots)
-        }
-        Err(_) => Memory::new(alloc),
     }
 }
 
@@ -117,8 +106,12 @@ fn answer_with<K: Remembering>(
     ensures text { IfOk result (λ text. IsAnswerText (select_seen select.now) (IsPlainAnswer (select_seen select.now) store.now epoch.now kept.now) text.items) }
     ensures fault { IfErr result (OnTuple (λ f. IsPlainAnswer (select_seen select.now) store.now epoch.now kept.now (Err f))) }
 {
-    let memory = memory_for::<K>(alloc, select, store);
-    answer_on(alloc, select, store, kept, epoch, &memory)
+    let Ok(all) = roots_of(alloc, select) else {
+        return Err(QueryFault::NoMemory);
+    };
+    let roots = all.as_slice();
+    let memory = memory_of::<K>(alloc, store, select.from.as_slice(), roots);
+    answer_on(alloc, select, roots, store, kept, epoch, &memory)
 }
 
 // The same. What is remembered is picked here.

@@ -38,4 +38,4 @@ returns-clause-rows g c =
     each_all (IsTupleRow (select_seen c.args.select.now) c.args.store.now c.args.epoch.now) c.args.kept.now c.loop-tuple.tuple-index (map (answer_row (select_seen c.args.select.now) c.args.epoch.now) c.loop-tuple.rows.items) (omega arith) c.loop-tuple.invariant
 
 pub row_of-requires : goal.row_of-requires
-row_of-requires g c = record { fits = c.requires.fits c.as_slice.result.now }
+row_of-requires g c = record { items = c.requires.items; keys = c.requires.keys; fits = c.requires.fits c.as_slice.result.now }
