@@ -1,7 +1,7 @@
 //! Which operators of a query are remembered.
-ghost use Rattle.std.specs.Prelude.{◌≡◌, ◌==◌, ◌++◌, List, map};
+ghost use Rattle.std.specs.Prelude.{◌≡◌, ◌==◌, ◌++◌, true, List, map};
 ghost use Rattle.mob_typed.specs.Trees.{TypedTree, typed_of, typed_trees};
-ghost use Rattle.mob_eval.specs.Remembered.{AreNodes, all_nodes_at, names_only, nodes_at, nodes_here, place_of, reads_only, root_seen};
+ghost use Rattle.mob_eval.specs.Remembered.{AreCopies, AreNodes, all_nodes_at, names_only, nodes_at, nodes_here, place_of, reads_only, root_seen};
 
 use crate::memory::Memory;
 use crate::remembered::Remembering;
@@ -19,10 +19,53 @@ const MOST: usize = 8;
 pub enum NodesAt<'a> {
     /// There is none.
     Nobody,
-    /// There is just one.
+    /// There is one, or there are copies of one.
     Only(&'a TExpr),
-    /// There are several.
+    /// There are several that differ.
     Several,
+}
+
+// Whether two nodes are the same apart from their operands.
+fn are_alike(one: &TExpr, other: &TExpr) -> bool
+    ensures alike { result ≡ true → (one.now.op ≡ other.now.op) × (one.now.ty ≡ other.now.ty) × (one.now.place ≡ other.now.place) }
+{
+    if one.op != other.op {
+        return false;
+    }
+    if one.ty != other.ty {
+        return false;
+    }
+    one.place == other.place
+}
+
+// Whether two nodes are the same: a key that means an entry of the select list is a copy of it.
+fn are_same(one: &TExpr, other: &TExpr) -> bool
+    ensures same { result ≡ true → typed_of one.now ≡ typed_of other.now }
+{
+    if !are_alike(one, other) {
+        return false;
+    }
+    let ones = one.args.as_slice();
+    let others = other.args.as_slice();
+    if ones.len() != others.len() {
+        return false;
+    }
+    for (number, arg) in ones.iter().enumerate() {
+        if !are_same(arg, &others[number]) {
+            return false;
+        }
+    }
+    true
+}
+
+// The node that two parts have, if they have the same one.
+fn copies<'a>(one: &'a TExpr, other: &'a TExpr) -> NodesAt<'a>
+    ensures both { (es fs : List TypedTree) → AreCopies (typed_of one.now) es → AreCopies (typed_of other.now) fs → AreNodes result (es ++ fs) }
+{
+    if are_same(one, other) {
+        return NodesAt::Only(one);
+    }
+    NodesAt::Several
 }
 
 // The nodes of two parts.
@@ -32,6 +75,7 @@ fn both<'a>(one: NodesAt<'a>, other: NodesAt<'a>) -> NodesAt<'a>
     match (one, other) {
         (NodesAt::Nobody, nodes) => nodes,
         (nodes, NodesAt::Nobody) => nodes,
+        (NodesAt::Only(one), NodesAt::Only(other)) => copies(one, other),
         _ => NodesAt::Several,
     }
 }
@@ -212,7 +256,7 @@ fn rows_at(store: &Store, from: &[u32], place: Option<u32>) -> usize {
     }
 }
 
-// Remembers an operator that stands alone at its place of the script.
+// Remembers an operator that is the only one at its place of the script.
 fn remember_one<K: Remembering>(
     alloc: Global,
     roots: &[&TExpr],
@@ -238,7 +282,7 @@ fn remember_one<K: Remembering>(
 
 /// A memory of the operators of these expressions that name at most one table of FROM, and of the
 /// boxes of such operands of `&&`: of about eight, and of none that shares its place in the script
-/// with another. If memory is refused there are fewer.
+/// with a different one. If memory is refused there are fewer.
 pub fn memory_of<K: Remembering>(
     alloc: Global,
     store: &Store,
