@@ -1,7 +1,7 @@
 //! Which operators of a query are remembered.
-ghost use Rattle.std.specs.Prelude.{◌≡◌, ◌==◌, ◌++◌, true, List, map};
+ghost use Rattle.std.specs.Prelude.{◌≡◌, ◌==◌, ◌++◌, List, map};
 ghost use Rattle.mob_typed.specs.Trees.{TypedTree, typed_of, typed_trees};
-ghost use Rattle.mob_eval.specs.Remembered.{AreCopies, AreNodes, all_nodes_at, names_only, nodes_at, nodes_here, place_of, reads_only, root_seen};
+ghost use Rattle.mob_eval.specs.Remembered.{AreNodes, all_nodes_at, names_only, nodes_at, nodes_here, place_of, reads_only, root_seen};
 
 use crate::memory::Memory;
 use crate::remembered::Remembering;
@@ -25,49 +25,6 @@ pub enum NodesAt<'a> {
     Several,
 }
 
-// Whether two nodes are the same apart from their operands.
-fn are_alike(one: &TExpr, other: &TExpr) -> bool
-    ensures alike { result ≡ true → (one.now.op ≡ other.now.op) × (one.now.ty ≡ other.now.ty) × (one.now.place ≡ other.now.place) }
-{
-    if one.op != other.op {
-        return false;
-    }
-    if one.ty != other.ty {
-        return false;
-    }
-    one.place == other.place
-}
-
-// Whether two nodes are the same: a key that means an entry of the select list is a copy of it.
-fn are_same(one: &TExpr, other: &TExpr) -> bool
-    ensures same { result ≡ true → typed_of one.now ≡ typed_of other.now }
-{
-    if !are_alike(one, other) {
-        return false;
-    }
-    let ones = one.args.as_slice();
-    let others = other.args.as_slice();
-    if ones.len() != others.len() {
-        return false;
-    }
-    for (number, arg) in ones.iter().enumerate() {
-        if !are_same(arg, &others[number]) {
-            return false;
-        }
-    }
-    true
-}
-
-// The node that two parts have, if they have the same one.
-fn copies<'a>(one: &'a TExpr, other: &'a TExpr) -> NodesAt<'a>
-    ensures both { (es fs : List TypedTree) → AreCopies (typed_of one.now) es → AreCopies (typed_of other.now) fs → AreNodes result (es ++ fs) }
-{
-    if are_same(one, other) {
-        return NodesAt::Only(one);
-    }
-    NodesAt::Several
-}
-
 // The nodes of two parts.
 fn both<'a>(one: NodesAt<'a>, other: NodesAt<'a>) -> NodesAt<'a>
     ensures both { (es fs : List TypedTree) → AreNodes one.entry es → AreNodes other.entry fs → AreNodes result (es ++ fs) }
@@ -75,7 +32,6 @@ fn both<'a>(one: NodesAt<'a>, other: NodesAt<'a>) -> NodesAt<'a>
     match (one, other) {
         (NodesAt::Nobody, nodes) => nodes,
         (nodes, NodesAt::Nobody) => nodes,
-        (NodesAt::Only(one), NodesAt::Only(other)) => copies(one, other),
         _ => NodesAt::Several,
     }
 }
@@ -186,6 +142,32 @@ struct Chosen {
     what: What,
 }
 
+fn is_box(what: What) -> bool {
+    match what {
+        What::Outcome => false,
+        What::Box => true,
+    }
+}
+
+// Whether two are of copies of one operator.
+fn is_again(one: &Chosen, other: &Chosen) -> bool {
+    if one.at != other.at {
+        return false;
+    }
+    is_box(one.what) == is_box(other.what)
+}
+
+// Adds an operator, unless a copy of it is there.
+fn add(one: Chosen, chosen: &mut Vec<Chosen>) -> Result<(), AllocError> {
+    for other in chosen.as_slice() {
+        if is_again(&one, other) {
+            return Ok(());
+        }
+    }
+    chosen.push(one)?;
+    Ok(())
+}
+
 // Which place an expression names, if it names at most one. In a query of one table each row is
 // passed once, and only an operator that names none is of use.
 fn place_named(e: &TExpr, several: bool) -> Option<Option<u32>> {
@@ -203,11 +185,12 @@ fn choose_boxes(e: &TExpr, several: bool, chosen: &mut Vec<Chosen>) -> Result<()
     };
     for arg in &e.args {
         if let (SqlType::TPoint, Some(place)) = (arg.ty, place_named(arg, several)) {
-            chosen.push(Chosen {
+            let one = Chosen {
                 at: arg.place,
                 place,
                 what: What::Box,
-            })?;
+            };
+            add(one, chosen)?;
         }
     }
     Ok(())
@@ -219,12 +202,12 @@ fn choose(e: &TExpr, several: bool, chosen: &mut Vec<Chosen>) -> Result<(), Allo
         return Ok(());
     }
     if let Some(place) = place_named(e, several) {
-        chosen.push(Chosen {
+        let one = Chosen {
             at: e.place,
             place,
             what: What::Outcome,
-        })?;
-        return Ok(());
+        };
+        return add(one, chosen);
     }
     choose_boxes(e, several, chosen)?;
     for arg in &e.args {
