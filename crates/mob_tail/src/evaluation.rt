@@ -172,7 +172,16 @@ pub fn rows_on<'a, K: Remembering>(
         return Err(QueryFault::NoMemory);
     };
     for tuple in kept {
-        let row = match row_of(alloc, select, items, keys, store, tuple.as_slice(), epoch, memory) {
+        let row = match row_of(
+            alloc,
+            select,
+            items,
+            keys,
+            store,
+            tuple.as_slice(),
+            epoch,
+            memory,
+        ) {
             Ok(row) => row,
             Err(fault) => return Err(QueryFault::on(tuple, fault)),
         };
