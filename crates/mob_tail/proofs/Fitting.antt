@@ -27,7 +27,7 @@ module _ {X : Type 0} (P : X → Type 0) where
 pub halves : {W X : Type 0} (see : W → X) (ws front back : List W) (xs ys : List X) → ws ≡ front ++ back → length front ≡ length xs → map see ws ≡ xs ++ ys → (map see front ≡ xs) × (map see back ≡ ys)
 halves see ws front back xs ys parts count seen =
     let both : map see front ++ map see back ≡ xs ++ ys = sym (map-append see front back) ∙ ap (map see) (sym parts) ∙ seen in
-    let n : length (map see front) ≡ length xs = length-map see front ∙ count in (
+    let n : length (map see front) ≡ length xs = length-map front see ∙ count in (
       sym (take-append_seam (map see front) (map see back)) ∙ (λ i. take (n i) (both i)) ∙ take-append_seam xs ys,
       sym (drop-append_seam (map see front) (map see back)) ∙ (λ i. drop (n i) (both i)) ∙ drop-append_seam xs ys,
     )
