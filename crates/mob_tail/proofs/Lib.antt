@@ -1,4 +1,5 @@
 mod PlanRows
+mod Fitting
 mod Making
 mod OneAnswer
 mod Aggregating
