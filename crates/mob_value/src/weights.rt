@@ -1,10 +1,11 @@
 //! How much memory a value takes.
 
+use crate::value::Value;
 use mob_frac::Frac;
+use mob_list::text::Text;
 use mob_plane::Point;
 use mob_slice::{Line, PlaneLine, Slice, Steady};
 use mob_span::Span;
-use mob_value::Value;
 use std::mem::size_of;
 
 // So many things of so many bytes each.
@@ -21,14 +22,14 @@ fn points(rings: &[Vec<Point>]) -> u64 {
 }
 
 // The slices of a ttext, each with its text.
-fn texts(slices: &[Slice<Steady<mob_list::text::Text>>]) -> u64 {
+fn texts(slices: &[Slice<Steady<Text>>]) -> u64 {
     let mut sum = 0_u64;
     for slice in slices {
         sum = sum.saturating_add(bytes(slice.course.value.as_str().len(), 1));
     }
     sum.saturating_add(bytes(
         slices.len(),
-        size_of::<Slice<Steady<mob_list::text::Text>>>(),
+        size_of::<Slice<Steady<Text>>>(),
     ))
 }
 
