@@ -1,5 +1,5 @@
 -- Temporal values as values of SQL: slices by the course of their values, and functions of time.
-use Rattle.std.specs.Prelude.{◌≡◌, Bool, List, Option, Some, None, MatchOption}
+use Rattle.std.specs.Prelude.{◌≡◌, List, Option, Some, None, MatchOption}
 use Rattle.mob_ratio.specs.Ratio.{Ratio}
 use Rattle.mob_plane.specs.declared.point.Point.{Point}
 use Rattle.mob_slice.specs.CourseOf.{CourseOf}
@@ -44,10 +44,6 @@ or_nothing make (Some x) = make x
 abbrev pub IsFunction : {C B : Type 0} → CourseOf C B → (List (Slice C) → Value) → OverTime B → Value → Type 0
 IsFunction {C} course make f v = (r : List (Slice C)) × ((t : Ratio) → value_at course.value r t ≡ f t) × AreNormalBy course r × (v ≡ make r)
 
--- v is the one normal value that meets P, or NULL where there is none; normal by these limits and this test of one course
-abbrev pub IsNormalOrNull : {C B : Type 0} → (C → B) → (C → B) → (C → C → Ratio → Ratio → Ratio → Bool) → (List (Slice C) → Value) → (Option (List (Slice C)) → Type 0) → Value → Type 0
-IsNormalOrNull {C} start end continues make P v = (r : Option (List (Slice C))) × P r × MatchOption r (Unit {0}) (IsNormal start end continues) × (v ≡ or_nothing make r)
-
--- the same by a course
+-- v is the one normal value that meets P, or NULL where there is none
 abbrev pub IsFunctionOrNull : {C B : Type 0} → CourseOf C B → (List (Slice C) → Value) → (Option (List (Slice C)) → Type 0) → Value → Type 0
-IsFunctionOrNull course make P v = IsNormalOrNull course.start course.end course.continues make P v
+IsFunctionOrNull {C} course make P v = (r : Option (List (Slice C))) × P r × MatchOption r (Unit {0}) (AreNormalBy course) × (v ≡ or_nothing make r)

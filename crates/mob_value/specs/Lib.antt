@@ -1,4 +1,3 @@
-pub mod Held
 pub mod Memory
 pub mod Null
 pub mod Types

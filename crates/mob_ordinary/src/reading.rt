@@ -1,11 +1,11 @@
 //! Stored values, read as values of a type.
 ghost use Rattle.std.specs.Prelude.{◌≡◌, option_map};
-ghost use Rattle.mob_value.specs.Held.{held};
+ghost use Rattle.mob_ordinary.specs.Held.{held};
 ghost use Rattle.mob_value.specs.Null.{value_or_null};
 ghost use Rattle.mob_value.specs.Types.{is_of_type, read_as};
 
 use crate::held::Held;
-use crate::value::Value;
+use mob_value::Value;
 use mob_ast::SqlType;
 
 // Whether a value is one of a type.

@@ -1,6 +1,6 @@
 //! How much memory a value takes.
 
-use crate::value::Value;
+use mob_value::Value;
 use mob_frac::Frac;
 use mob_list::text::Text;
 use mob_plane::Point;

@@ -1,0 +1,115 @@
+//! Temporal values, and their values at an instant, as values of SQL; NULL for None.
+//!
+//! That the slices of a value are normal is a clause of `slices`, so each function calls it.
+ghost use Rattle.std.specs.Prelude.{◌≡◌, MatchOption};
+ghost use Rattle.mob_ratio.specs.Order.{same};
+ghost use Rattle.mob_slice.specs.Sameness.{same_bool, same_bytes};
+ghost use Rattle.mob_slice.specs.CourseOf.{steady_course, line_course, plane_course};
+ghost use Rattle.mob_value.specs.declared.value.Value.TheVariants.{Number as NumberOf, Text as TextOf, Point as PointOf, MovingBool, MovingInt, MovingFrac, MovingText, MovingPoint};
+ghost use Rattle.mob_ordinary.specs.Moving.{or_nothing, AreNormalBy};
+
+use mob_frac::Frac;
+use mob_list::text::Text;
+use mob_plane::Point;
+use mob_slice::{Line, Moving, PlaneLine, Steady};
+use mob_value::Value;
+
+/// A tbool, or NULL for None.
+pub fn bool_or_null(value: Option<Moving<Steady<bool>>>) -> Value
+    ensures value { result ≡ or_nothing MovingBool value }
+    ensures normal { MatchOption value (Unit {0}) (AreNormalBy (steady_course same_bool)) }
+{
+    match value {
+        Some(moving) => {
+            let _ = moving.slices();
+            Value::MovingBool(moving)
+        }
+        None => Value::Null,
+    }
+}
+
+/// A tint, or NULL for None.
+pub fn int_or_null(value: Option<Moving<Steady<Frac>>>) -> Value
+    ensures value { result ≡ or_nothing MovingInt value }
+    ensures normal { MatchOption value (Unit {0}) (AreNormalBy (steady_course same)) }
+{
+    match value {
+        Some(moving) => {
+            let _ = moving.slices();
+            Value::MovingInt(moving)
+        }
+        None => Value::Null,
+    }
+}
+
+/// A tfrac, or NULL for None.
+pub fn frac_or_null(value: Option<Moving<Line>>) -> Value
+    ensures value { result ≡ or_nothing MovingFrac value }
+    ensures normal { MatchOption value (Unit {0}) (AreNormalBy line_course) }
+{
+    match value {
+        Some(moving) => {
+            let _ = moving.slices();
+            Value::MovingFrac(moving)
+        }
+        None => Value::Null,
+    }
+}
+
+/// A ttext, or NULL for None.
+pub fn text_or_null(value: Option<Moving<Steady<Text>>>) -> Value
+    ensures value { result ≡ or_nothing MovingText value }
+    ensures normal { MatchOption value (Unit {0}) (AreNormalBy (steady_course same_bytes)) }
+{
+    match value {
+        Some(moving) => {
+            let _ = moving.slices();
+            Value::MovingText(moving)
+        }
+        None => Value::Null,
+    }
+}
+
+/// A tgeompoint, or NULL for None.
+pub fn point_or_null(value: Option<Moving<PlaneLine>>) -> Value
+    ensures value { result ≡ or_nothing MovingPoint value }
+    ensures normal { MatchOption value (Unit {0}) (AreNormalBy plane_course) }
+{
+    match value {
+        Some(moving) => {
+            let _ = moving.slices();
+            Value::MovingPoint(moving)
+        }
+        None => Value::Null,
+    }
+}
+
+/// A number, or NULL for None.
+pub fn plain_number(value: Option<Frac>) -> Value
+    ensures value { result ≡ or_nothing NumberOf value }
+{
+    match value {
+        Some(number) => Value::Number(number),
+        None => Value::Null,
+    }
+}
+
+/// A text, or NULL for None.
+pub fn plain_text(value: Option<Text>) -> Value
+    ensures value { result ≡ or_nothing TextOf value }
+{
+    match value {
+        Some(text) => Value::Text(text),
+        None => Value::Null,
+    }
+}
+
+/// A point, or NULL for None.
+pub fn plain_point(value: Option<Point>) -> Value
+    ensures value { result ≡ or_nothing PointOf value }
+{
+    match value {
+        Some(point) => Value::Point(point),
+        None => Value::Null,
+    }
+}
