@@ -1,5 +1,5 @@
 -- What `answered` makes of an answer that a formula may have passed.
-use Rattle.std.proofs.Common.{◌≡◌, Bool, List, Option, Some, None, Result, Ok, Err, refl, sym, subst, true≢false}
+use Rattle.std.proofs.Common.{◌≡◌, Bool, List, Option, Result, Ok, Err, refl, sym, subst, true≢false}
 use Rattle.std.specs.Prelude.{MatchResult, IfOk, IfErr, IsOk}
 use Rattle.mob_slice.specs.Entries.{Entry, IsFirst, IsDecided}
 use Rattle.mob_slice.specs.declared.formula.OpFault.{OpFault}

@@ -5,8 +5,8 @@ ghost use Rattle.mob_value.specs.Null.{value_or_null};
 ghost use Rattle.mob_value.specs.Types.{is_of_type, read_as};
 
 use crate::held::Held;
-use mob_value::Value;
 use mob_ast::SqlType;
+use mob_value::Value;
 
 // Whether a value is one of a type.
 fn is_of_type(ty: SqlType, value: &Value) -> bool

@@ -1,11 +1,11 @@
 //! How much memory a value takes.
 
-use mob_value::Value;
 use mob_frac::Frac;
 use mob_list::text::Text;
 use mob_plane::Point;
 use mob_slice::{Line, PlaneLine, Slice, Steady};
 use mob_span::Span;
+use mob_value::Value;
 use std::mem::size_of;
 
 // So many things of so many bytes each.
@@ -27,10 +27,7 @@ fn texts(slices: &[Slice<Steady<Text>>]) -> u64 {
     for slice in slices {
         sum = sum.saturating_add(bytes(slice.course.value.as_str().len(), 1));
     }
-    sum.saturating_add(bytes(
-        slices.len(),
-        size_of::<Slice<Steady<Text>>>(),
-    ))
+    sum.saturating_add(bytes(slices.len(), size_of::<Slice<Steady<Text>>>()))
 }
 
 fn own(value: &Value) -> u64 {
