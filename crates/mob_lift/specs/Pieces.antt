@@ -2,7 +2,7 @@
 use Rattle.std.specs.Prelude.{◌≡◌, List}
 use Rattle.mob_span.specs.Meets.{PieceOf}
 use Rattle.mob_slice.specs.Slices.{IsOrdered}
-use Rattle.mob_span.specs.Parts.{PartsAreClear}
+use Rattle.mob_span.specs.Pieces.{PiecesAreClear}
 use Rattle.mob_slice.specs.Sides.{OperandOf, Slices, Base, SideOf, pieces}
 use Rattle.mob_lift.specs.declared.pieces.Front.{Front}
 use Rattle.mob_lift.specs.declared.pieces.Front.TheVariants.{Slices as FrontSlices, Fixed as FrontFixed}
@@ -15,7 +15,7 @@ operand_left (FrontFixed b) = Base b.now
 
 -- the slices of an operand are in order of time
 abbrev pub AreInOrder : {C B : Type 0} → OperandOf C B → Type 0
-AreInOrder (Slices v) = PartsAreClear (λ s. s.span) v
+AreInOrder (Slices v) = PiecesAreClear (λ s. s.span) v
 AreInOrder (Base b) = Unit {0}
 
 -- and sound

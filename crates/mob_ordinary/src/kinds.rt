@@ -3,7 +3,8 @@
 //! That the slices of a value are normal is a clause of `slices`, so each function calls it.
 ghost use Rattle.std.specs.Prelude.{◌≡◌, MatchOption};
 ghost use Rattle.mob_ratio.specs.Order.{same};
-ghost use Rattle.mob_slice.specs.Sameness.{same_bool, same_bytes};
+ghost use Rattle.mob_span.specs.Flags.{same_bool};
+ghost use Rattle.mob_slice.specs.Sameness.{same_bytes};
 ghost use Rattle.mob_slice.specs.CourseOf.{steady_course, line_course, plane_course};
 ghost use Rattle.mob_value.specs.declared.value.Value.TheVariants.{Number as NumberOf, Text as TextOf, Point as PointOf, MovingBool, MovingInt, MovingFrac, MovingText, MovingPoint};
 ghost use Rattle.mob_ordinary.specs.Moving.{or_nothing, AreNormalBy};

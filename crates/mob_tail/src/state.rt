@@ -1,8 +1,8 @@
 //! An aggregate of the values so far, as a group holds it.
 ghost use Rattle.std.specs.Prelude.{◌≡◌, IfOk, MatchOption, false};
 ghost use Rattle.mob_ratio.specs.Order.{same};
+ghost use Rattle.mob_span.specs.Flags.{same_bool};
 ghost use Rattle.mob_slice.specs.CourseOf.{steady_course};
-ghost use Rattle.mob_slice.specs.Sameness.{same_bool};
 ghost use Rattle.mob_value.specs.declared.value.Value.TheVariants.{MovingBool, MovingInt};
 ghost use Rattle.mob_ordinary.specs.Moving.{AreNormalBy, or_nothing};
 ghost use Rattle.mob_tail.specs.Aggregated.{leaves_out, truths_of};
