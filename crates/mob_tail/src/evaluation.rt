@@ -5,7 +5,7 @@ ghost use Rattle.mob_typed.specs.Selects.{select_seen};
 ghost use Rattle.mob_meaning.specs.Scene.{scene};
 ghost use Rattle.mob_eval.specs.Views.{scene_of};
 ghost use Rattle.mob_value.specs.declared.value.Value.{Value as ValueOf};
-ghost use Rattle.mob_eval.specs.Held.{held};
+ghost use Rattle.mob_ordinary.specs.Held.{held};
 ghost use Rattle.mob_eval.specs.Faults.{OnPassed};
 ghost use Rattle.mob_eval.specs.QueryFaults.{OnTuple};
 ghost use Rattle.mob_eval.specs.Remembered.{Fits, root_seen};

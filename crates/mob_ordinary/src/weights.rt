@@ -1,6 +1,7 @@
 //! How much memory a value takes.
 
 use mob_frac::Frac;
+use mob_list::text::Text;
 use mob_plane::Point;
 use mob_slice::{Line, PlaneLine, Slice, Steady};
 use mob_span::Span;
@@ -21,15 +22,12 @@ fn points(rings: &[Vec<Point>]) -> u64 {
 }
 
 // The slices of a ttext, each with its text.
-fn texts(slices: &[Slice<Steady<mob_list::text::Text>>]) -> u64 {
+fn texts(slices: &[Slice<Steady<Text>>]) -> u64 {
     let mut sum = 0_u64;
     for slice in slices {
         sum = sum.saturating_add(bytes(slice.course.value.as_str().len(), 1));
     }
-    sum.saturating_add(bytes(
-        slices.len(),
-        size_of::<Slice<Steady<mob_list::text::Text>>>(),
-    ))
+    sum.saturating_add(bytes(slices.len(), size_of::<Slice<Steady<Text>>>()))
 }
 
 fn own(value: &Value) -> u64 {
