@@ -1,7 +1,6 @@
-use Rattle.std.proofs.Common.{rules, ℕ, map, ap, ◌∙◌}
+use Rattle.std.proofs.Common.{rules, ◌∙◌}
 use Rattle.std.proofs.lemmas.Result.{IfOk-weaker}
-use Rattle.mob_records.specs.AnswerText.{answer_text}
-use Rattle.mob_tile_run.specs.TileTexts.{pair_fields, pair_names}
+use Rattle.mob_tile_run.specs.TileTexts.{pair_fields}
 use Rattle.mob_tile_run.proofs.answer.text_of.Goals as goal
 
 pub returns : goal.returns
