@@ -9,7 +9,7 @@ ghost use Rattle.mob_shell.specs.Session.{IsNoDelete, SessionCanRun, SessionRuns
 
 use crate::statements::answers::{answered, explained};
 use crate::statements::deleting::delete_kept;
-use crate::statements::rows::{copy_of_columns, put_constants, put_rows};
+use crate::statements::rows::{copy_of_columns, put_constants};
 use mob_catalog::Catalog;
 use mob_eval::QueryFault;
 use mob_list::items::Items;
@@ -137,7 +137,7 @@ impl Session {
             }
             TypedStatement::Copy { table, .. } => {
                 let rows = self.next_file(alloc);
-                put_rows(&mut self.catalog, *table, rows)
+                self.catalog.add_rows(*table, rows)
             }
             TypedStatement::CreateIndex {
                 table,

@@ -1,5 +1,6 @@
 use Rattle.std.proofs.Common.{◌≡◌, drop, map}
-use Rattle.mob_shell.specs.Runs.{inserted_row, with_all_rows}
+use Rattle.mob_catalog.specs.Catalogue.{with_all_rows}
+use Rattle.mob_shell.specs.Runs.{inserted_row}
 use Rattle.mob_shell.proofs.statements.rows.put_constants.Given as goal
 
 abbrev pub invariant-loop-row : goal.invariant-loop-row
