@@ -1,7 +1,7 @@
 use Rattle.std.proofs.Common.{sym, subst}
 use Rattle.std.specs.List.{AllByRecursion}
 use Rattle.mob_span.specs.Parts.{PartsAreClear}
-use Rattle.mob_lift.specs.Pieces.{pieces_left}
+use Rattle.mob_sync.specs.Pieces.{pieces_left}
 use Rattle.mob_slice.specs.Sameness.{same_bool}
 use Rattle.mob_slice.specs.Sides.{operand_of, pieces, given_at, HoldsPiece}
 use Rattle.mob_cells.specs.Gaps.{entries_of_ends}
