@@ -12,7 +12,7 @@ use Rattle.mob_ratio.proofs.Clear.{clear1, cleared}
 use Rattle.mob_ratio.proofs.IntRing.{linear}
 use Rattle.mob_normal.specs.OneNormal.{OneNormal}
 use Rattle.mob_tagg.specs.United.{united_by, AreUnited}
-use Rattle.mob_aggregates.specs.Aggregates.{put_there, values_at, made_of, IsAggregate, JoinsBy, total, count, all_hold, some_holds}
+use Rattle.mob_tagg.specs.Aggregates.{put_there, values_at, made_of, IsAggregate, JoinsBy, total, count, all_hold, some_holds}
 
 none_some : {A R : Type 0} (x : A) → None ≡ Some x → R
 none_some x e = cc

@@ -12,8 +12,8 @@ use Rattle.mob_span.proofs.SpanLemmas.{no_instant}
 use Rattle.mob_span.proofs.Insides.{clear_has, inside_clear}
 use Rattle.mob_span.proofs.Shared.{AreAllClear, all_after, later}
 use Rattle.mob_span.proofs.Leaving.{back_has, neither_has, clear_back}
-use Rattle.mob_cuts.specs.Cuts.{CutOf, wholes, kept, left_after, entry_at}
-use Rattle.mob_cuts.proofs.Spans.{clear_behind, inside_by, inside_of}
+use Rattle.mob_shares.specs.Cuts.{CutOf, wholes, kept, left_after, entry_at}
+use Rattle.mob_shares.proofs.Spans.{clear_behind, inside_by, inside_of}
 
 module _ {X : Type 0} where
   abbrev pub cut_span : CutOf X → SpanOf

@@ -12,11 +12,11 @@ use Rattle.mob_span.proofs.SpanLemmas.{none_has, meet_has}
 use Rattle.mob_span.proofs.Insides.{clear_trans, clear_inside, inside_clear, meet_left, meet_right}
 use Rattle.mob_span.proofs.Shared.{AreAllClear, all_after, later}
 use Rattle.mob_span.proofs.Leaving.{front_has, back_has}
-use Rattle.mob_cuts.specs.Cuts.{CutOf, left_after, entry_at, shared_cuts}
-use Rattle.mob_cuts.specs.Shares.{ShareOf, next_share, behind, both_of, fronts, most_shares}
-use Rattle.mob_cuts.proofs.Spans.{not_precedes, not_follows, front_clear, begins_left, begins_right, share_some, back_start, none_self, none_clear, inside_by}
-use Rattle.mob_cuts.proofs.Rows.{shared_left, shared_right, shared_both}
-use Rattle.mob_cuts.proofs.Sides.{cut_span, side_gone, side_here, none_here, side_clear, side_behind, side_after, side_length}
+use Rattle.mob_shares.specs.Cuts.{CutOf, left_after, entry_at, shared_cuts}
+use Rattle.mob_shares.specs.Sharing.{ShareOf, next_share, behind, both_of, fronts, most_shares}
+use Rattle.mob_shares.proofs.Spans.{not_precedes, not_follows, front_clear, begins_left, begins_right, share_some, back_start, none_self, none_clear, inside_by}
+use Rattle.mob_shares.proofs.Rows.{shared_left, shared_right, shared_both}
+use Rattle.mob_shares.proofs.Sides.{cut_span, side_gone, side_here, none_here, side_clear, side_behind, side_after, side_length}
 
 both_have : (a b : Bool) → (a && b) ≡ true → (a ≡ true) × (b ≡ true)
 both_have true true e = (refl, refl)

@@ -11,10 +11,10 @@ use Rattle.mob_span.specs.Parts.{PartsAreClear, part_at}
 use Rattle.mob_span.specs.Remainders.{precedes, front_of, back_of}
 use Rattle.mob_span.proofs.Insides.{inside_self, meet_left, meet_right}
 use Rattle.mob_span.proofs.Leaving.{front_has}
-use Rattle.mob_cuts.specs.Cuts.{CutOf, left_after}
-use Rattle.mob_cuts.specs.Shares.{ShareOf, next_share, both_of}
-use Rattle.mob_cuts.proofs.Spans.{inside_by}
-use Rattle.mob_cuts.proofs.Sides.{IsOf, side_of}
+use Rattle.mob_shares.specs.Cuts.{CutOf, left_after}
+use Rattle.mob_shares.specs.Sharing.{ShareOf, next_share, both_of}
+use Rattle.mob_shares.proofs.Spans.{inside_by}
+use Rattle.mob_shares.proofs.Sides.{IsOf, side_of}
 
 -- x is of the first cut, which holds the span
 pub record IsHead {X : Type 0} (v : List (CutOf X)) (p : SpanOf) (x : X) : Type 0 where

@@ -6,7 +6,7 @@ use Rattle.mob_span.specs.Meet.{meet_of}
 use Rattle.mob_span.specs.Meets.{PieceOf}
 use Rattle.mob_span.specs.Parts.{PartsAreClear, part_at}
 use Rattle.mob_span.specs.Remainders.{front_of}
-use Rattle.mob_cuts.specs.Cuts.{CutOf, left_after}
+use Rattle.mob_shares.specs.Cuts.{CutOf, left_after}
 
 -- A piece of time with what each of two lists has there: one of them, or both.
 abbrev pub ShareOf : Type 0 → Type 0 → Type 0

@@ -13,9 +13,9 @@ use Rattle.mob_span.specs.Parts.{PartsAreClear, part_at}
 use Rattle.mob_span.specs.Remainders.{front_of}
 use Rattle.mob_ratio.proofs.Order.{before-back}
 use Rattle.mob_span.proofs.SpanLemmas.{meet_has}
-use Rattle.mob_cuts.specs.Cuts.{CutOf, entry_at, row_of, shared_cuts}
-use Rattle.mob_cuts.specs.Shares.{ShareOf, next_share}
-use Rattle.mob_cuts.proofs.Spans.{front_whole}
+use Rattle.mob_shares.specs.Cuts.{CutOf, entry_at, row_of, shared_cuts}
+use Rattle.mob_shares.specs.Sharing.{ShareOf, next_share}
+use Rattle.mob_shares.proofs.Spans.{front_whole}
 
 -- s starts before r and is not all before it: they share an instant, the first where r starts
 starts_front : (s r : SpanOf) → is_clear s r ≡ false → has_instant (front_of s r) ≡ true → starts_before s r ≡ true

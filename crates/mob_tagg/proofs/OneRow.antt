@@ -2,7 +2,7 @@
 use Rattle.std.specs.List.{AllZip}
 use Rattle.std.specs.Prelude.{◌≡◌, Bool, refl, List, [], ◌∷◌, ◌++◌, Option, Some, None, Result, Ok, Err}
 use Rattle.std.proofs.Common.{ap, ap₂, sym, ◌∙◌, subst, inl, inr}
-use Rattle.mob_aggregates.specs.Rows.{IsAddedTo, IsItem, IsTuple, earlier, IsRowFault}
+use Rattle.mob_tagg.specs.Rows.{IsAddedTo, IsItem, IsTuple, earlier, IsRowFault}
 
 none_some : {A R : Type 0} (x : A) → None ≡ Some x → R
 none_some x e = cc

@@ -9,8 +9,8 @@ use Rattle.mob_span.specs.Meets.{PieceOf, shared_pieces}
 use Rattle.mob_span.specs.Remainders.{back_of}
 use Rattle.mob_span.proofs.SpanLemmas.{no_instant, meet_none}
 use Rattle.mob_span.proofs.Shared.{AreAllClear, row}
-use Rattle.mob_cuts.specs.Cuts.{CutOf, wholes, kept, left_after, row_of, shared_cuts}
-use Rattle.mob_cuts.proofs.Spans.{some_same, one_span, same_behind, same_behind', meets_same, meets_same', none_behind}
+use Rattle.mob_shares.specs.Cuts.{CutOf, wholes, kept, left_after, row_of, shared_cuts}
+use Rattle.mob_shares.proofs.Spans.{some_same, one_span, same_behind, same_behind', meets_same, meets_same', none_behind}
 
 no_meet : (s r : SpanOf) → has_instant s ≡ false → has_instant (meet_of s r) ≡ false
 no_meet s r h = (meet_none s r).1 (λ t. ap (λ b. b && has r t) (no_instant s t h))

@@ -1,7 +1,7 @@
 -- Kept tuples one by one: how far they have no fault.
 use Rattle.std.specs.Prelude.{◌≡◌, Bool, refl, List, [], ◌∷◌, ◌++◌, Option, Some, None, Result}
 use Rattle.std.proofs.Common.{sym, subst, inl, inr, append_assoc, append-nil}
-use Rattle.mob_aggregates.specs.Rows.{IsTuple, earlier, IsRowFault}
+use Rattle.mob_tagg.specs.Rows.{IsTuple, earlier, IsRowFault}
 
 none_some : {A R : Type 0} (x : A) → None ≡ Some x → R
 none_some x e = cc
