@@ -8,8 +8,9 @@ ghost use Rattle.mob_cells.specs.Gaps.{entries_of_ends};
 ghost use Rattle.mob_lift.specs.Sometime.{IsEver, IsAlways};
 
 use crate::piece::piece_meets;
-use mob_lift::{Pieces, either};
+use mob_lift::either;
 use mob_slice::{Compared, Operand, Passed, Rel};
+use mob_sync::Pieces;
 use std::alloc::Global;
 
 // The contrary of an answer, where there is one.

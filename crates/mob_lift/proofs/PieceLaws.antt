@@ -1,38 +1,21 @@
 -- What follows of the pieces of two operands.
 use Rattle.std.specs.Prelude.{◌≡◌, Bool, true, false, cond, ◌||◌, Option, Some, None, option_map, List, [], ◌∷◌, map, refl}
-use Rattle.std.specs.List.{AllByRecursion}
 use Rattle.std.proofs.Common.{ap, sym, ◌∙◌, true≢false}
 use Rattle.mob_ratio.specs.Ratio.{Ratio}
 use Rattle.mob_span.specs.Span.{SpanOf, has}
-use Rattle.mob_span.specs.Neighbours.{is_clear}
 use Rattle.mob_span.specs.Meets.{PieceOf, shared_pieces}
-use Rattle.mob_span.proofs.Insides.{inside_self}
-use Rattle.mob_slice.specs.Slices.{OfHead, IsSound, value_at}
+use Rattle.mob_slice.specs.Slices.{value_at}
 use Rattle.mob_slice.proofs.LookUps.{value_by}
-use Rattle.mob_slice.proofs.Orders.{ordered-clear, all_sound}
-use Rattle.mob_span.specs.Pieces.{piece_at, PiecesAreClear}
+use Rattle.mob_span.specs.Pieces.{piece_at}
 use Rattle.mob_slice.specs.Operands.{map_both}
 use Rattle.mob_slice.specs.Cut.{slice_value}
-use Rattle.mob_slice.specs.Sides.{SideOf, Moves, Stays, OperandOf, Slices, Base, pieces, side_at, has_slices, given_at, HoldsPiece}
+use Rattle.mob_slice.specs.Sides.{SideOf, Moves, Stays, OperandOf, Slices, Base, pieces, side_at, has_slices, given_at}
 use Rattle.mob_slice.specs.declared.slice.Slice.{Slice}
-use Rattle.mob_lift.specs.Pieces.{AreInOrder, AreSound}
 use Rattle.std.specs.Option.{option_zip}
-use Rattle.mob_span.proofs.MeetLaws.{meets_clear, meets_at, meets_hold, HoldsBoth, sides}
-
-pub sound_order : {C B : Type 0} (start end : C → B) (o : OperandOf C B) → AreSound start end o → AreInOrder o
-sound_order start end (Slices v) h = ordered-clear start end v h
-sound_order start end (Base b) h = tt
+use Rattle.mob_span.proofs.MeetLaws.{meets_at, sides}
 
 -- a list of pieces that are made of others on the same spans
 module _ {P Q : Type 0} (span : P → SpanOf) (span' : Q → SpanOf) (f : P → Q) (same : (p : P) → span' (f p) ≡ span p) where
-  map_head : (p : P) (ps : List P) → OfHead (λ q r. is_clear (span q) (span r) ≡ true) p ps → OfHead (λ q r. is_clear (span' q) (span' r) ≡ true) (f p) (map f ps)
-  map_head p [] h = tt
-  map_head p (q ∷ ps) h = rw (same p, same q) h
-
-  map_clear : (ps : List P) → PiecesAreClear span ps → PiecesAreClear span' (map f ps)
-  map_clear [] h = tt
-  map_clear (p ∷ ps) h = (rw (same p) h.0, map_head p ps h.1, map_clear ps h.2)
-
   pub map_at : (ps : List P) (t : Ratio) → piece_at span' (map f ps) t ≡ option_map f (piece_at span ps t)
   map_at [] t = refl
   map_at (p ∷ ps) t = ap (λ b. cond b (Some (f p)) (piece_at span' (map f ps) t)) (ap (λ r. has r t) (same p)) ∙ ap (λ o. cond (has (span p) t) (Some (f p)) o) (map_at ps t) ∙ by (has (span p) t)
@@ -40,26 +23,6 @@ module _ {P Q : Type 0} (span : P → SpanOf) (span' : Q → SpanOf) (f : P → 
       by : (b : Bool) → cond b (Some (f p)) (option_map f (piece_at span ps t)) ≡ option_map f (cond b (Some p) (piece_at span ps t))
       by true = refl
       by false = refl
-
-map_all : {P Q : Type 0} (f : P → Q) (R : P → Type 0) (S : Q → Type 0) → ((p : P) → R p → S (f p)) → (ps : List P) → AllByRecursion R ps → AllByRecursion S (map f ps)
-map_all f R S g [] h = tt
-map_all f R S g (p ∷ ps) h = (g p h.0, map_all f R S g ps h.1)
-
--- The pieces of two operands are ordered and disjoint, and each has an instant.
-pub pieces_clear : {A X B Y : Type 0} (a : OperandOf A X) (b : OperandOf B Y) → AreInOrder a → AreInOrder b → PiecesAreClear (λ p. p.span) (pieces a b)
-pieces_clear (Slices v) (Slices w) h k = map_clear (λ p. p.span) (λ p. p.span) (λ p. record { span = p.span; left = Moves p.left; right = Moves p.right }) (λ p. refl) (shared_pieces (λ s. s.span) (λ s. s.span) v w) (meets_clear (λ s. s.span) (λ s. s.span) v w h k)
-pieces_clear (Slices v) (Base b) h k = map_clear (λ s. s.span) (λ p. p.span) (λ s. record { span = s.span; left = Moves s; right = Stays b }) (λ s. refl) v h
-pieces_clear (Base a) (Slices w) h k = map_clear (λ s. s.span) (λ p. p.span) (λ s. record { span = s.span; left = Stays a; right = Moves s }) (λ s. refl) w k
-pieces_clear (Base a) (Base b) h k = tt
-
--- The slices of each piece hold its span.
-pub pieces_hold : {A X B Y : Type 0} (start end : A → X) (start' end' : B → Y) (a : OperandOf A X) (b : OperandOf B Y) → AreSound start end a → AreSound start' end' b → AllByRecursion (HoldsPiece start end start' end') (pieces a b)
-pieces_hold start end start' end' (Slices v) (Slices w) h k =
-    map_all (λ p. record { span = p.span; left = Moves p.left; right = Moves p.right }) (HoldsBoth (λ s. s.span) (λ s. s.span) (IsSound start end) (IsSound start' end')) (HoldsPiece start end start' end') (λ p m. m) (shared_pieces (λ s. s.span) (λ s. s.span) v w)
-    (meets_hold (λ s. s.span) (λ s. s.span) (IsSound start end) (IsSound start' end') v w (all_sound start end v h) (all_sound start' end' w k))
-pieces_hold start end start' end' (Slices v) (Base b) h k = map_all (λ s. record { span = s.span; left = Moves s; right = Stays b }) (IsSound start end) (HoldsPiece start end start' end') (λ s m. ((m, inside_self s.span), tt)) v (all_sound start end v h)
-pieces_hold start end start' end' (Base a) (Slices w) h k = map_all (λ s. record { span = s.span; left = Stays a; right = Moves s }) (IsSound start' end') (HoldsPiece start end start' end') (λ s m. (tt, (m, inside_self s.span))) w (all_sound start' end' w k)
-pieces_hold start end start' end' (Base a) (Base b) h k = tt
 
 pub twice : {A B C : Type 0} (f : A → B) (g : B → C) (o : Option A) → option_map g (option_map f o) ≡ option_map (λ x. g (f x)) o
 twice f g None = refl

@@ -6,10 +6,10 @@ use Rattle.mob_span.specs.Span.{SpanOf, has_instant}
 use Rattle.mob_span.specs.Meet.{meet_of}
 use Rattle.mob_span.specs.Pieces.{PiecesAreClear}
 use Rattle.mob_span.specs.Remainders.{front_of}
-use Rattle.mob_cuts.specs.Cuts.{CutOf, head_of}
-use Rattle.mob_cuts.specs.Shares.{ShareOf, next_share, most_shares}
-use Rattle.mob_cuts.proofs.Spans.{share_some}
-use Rattle.mob_cuts.proofs.Steps.{next_step, next_fewer}
+use Rattle.mob_shares.specs.Cuts.{CutOf, head_of}
+use Rattle.mob_shares.specs.Sharing.{ShareOf, next_share, most_shares}
+use Rattle.mob_shares.proofs.Spans.{share_some}
+use Rattle.mob_shares.proofs.Steps.{next_step, next_fewer}
 use Rattle.mob_shares.specs.declared.shares.Share.{Share}
 use Rattle.mob_shares.specs.declared.shares.Shares.{Shares}
 use Rattle.mob_shares.specs.Shares.{rest_of, share_of, CanShare, IsShared, shares_left}

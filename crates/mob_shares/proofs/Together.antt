@@ -25,13 +25,13 @@ use Rattle.mob_slice.proofs.LookUps.{value_by}
 use Rattle.mob_lifted.specs.Piecewise.{AreGivenInOrder, IsPiecewise, IsFirstFailure}
 use Rattle.mob_lifted.proofs.Options.{none_some, same_some}
 use Rattle.mob_sync.specs.Common.{pair_of}
-use Rattle.mob_cuts.specs.Cuts.{CutOf, wholes, entry_at, shared_cuts}
-use Rattle.mob_cuts.specs.Shares.{next_share, behind, both_of}
-use Rattle.mob_cuts.proofs.Sides.{cut_span, entry_whole}
-use Rattle.mob_cuts.proofs.Rows.{shared_whole}
-use Rattle.mob_cuts.proofs.Steps.{IsStep}
-use Rattle.mob_cuts.proofs.Ends.{left_ends, right_ends, none_left, none_right}
-use Rattle.mob_cuts.proofs.Heads.{next_heads, both_not, AtCuts, at_behind}
+use Rattle.mob_shares.specs.Cuts.{CutOf, wholes, entry_at, shared_cuts}
+use Rattle.mob_shares.specs.Sharing.{next_share, behind, both_of}
+use Rattle.mob_shares.proofs.Sides.{cut_span, entry_whole}
+use Rattle.mob_shares.proofs.Rows.{shared_whole}
+use Rattle.mob_shares.proofs.Steps.{IsStep}
+use Rattle.mob_shares.proofs.Ends.{left_ends, right_ends, none_left, none_right}
+use Rattle.mob_shares.proofs.Heads.{next_heads, both_not, AtCuts, at_behind}
 use Rattle.mob_shares.specs.declared.shares.Share.{Share}
 use Rattle.mob_shares.specs.declared.shares.Share.TheVariants.{Left, Right, Both}
 use Rattle.mob_shares.specs.declared.shares.Shares.{Shares}

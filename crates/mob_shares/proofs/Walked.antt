@@ -10,12 +10,12 @@ use Rattle.mob_span.specs.Pieces.{PiecesAreClear}
 use Rattle.mob_span.proofs.Shared.{AreAllClear}
 use Rattle.mob_slice.specs.Slices.{IsSound}
 use Rattle.mob_slice.specs.declared.slice.Slice.{Slice}
-use Rattle.mob_cuts.specs.Cuts.{CutOf}
-use Rattle.mob_cuts.specs.Shares.{behind}
-use Rattle.mob_cuts.proofs.Sides.{cut_span, IsOf}
-use Rattle.mob_cuts.proofs.Spans.{inside_by, inside_of}
-use Rattle.mob_cuts.proofs.Steps.{IsStep, next_step}
-use Rattle.mob_cuts.proofs.Heads.{OnHead, next_heads, of_behind}
+use Rattle.mob_shares.specs.Cuts.{CutOf}
+use Rattle.mob_shares.specs.Sharing.{behind}
+use Rattle.mob_shares.proofs.Sides.{cut_span, IsOf}
+use Rattle.mob_shares.proofs.Spans.{inside_by, inside_of}
+use Rattle.mob_shares.proofs.Steps.{IsStep, next_step}
+use Rattle.mob_shares.proofs.Heads.{OnHead, next_heads, of_behind}
 use Rattle.mob_shares.specs.declared.shares.Share.{Share}
 use Rattle.mob_shares.specs.declared.shares.Shares.{Shares}
 use Rattle.mob_shares.specs.Shares.{rest_of, share_of, share_span, CanShare, IsShared, GivesShare, HoldsThere, HoldsShare}

@@ -7,8 +7,8 @@ use Rattle.mob_span.specs.Pieces.{PiecesAreClear}
 use Rattle.mob_slice.specs.Slices.{IsSound}
 use Rattle.mob_slice.specs.declared.slice.Slice.{Slice}
 use Rattle.mob_slice.specs.declared.part.One.{One}
-use Rattle.mob_cuts.specs.Cuts.{CutOf, wholes}
-use Rattle.mob_cuts.specs.Shares.{ShareOf, next_share, behind, most_shares}
+use Rattle.mob_shares.specs.Cuts.{CutOf, wholes}
+use Rattle.mob_shares.specs.Sharing.{ShareOf, next_share, behind, most_shares}
 use Rattle.mob_shares.specs.declared.shares.Rest.{Rest}
 use Rattle.mob_shares.specs.declared.shares.Share.{Share}
 use Rattle.mob_shares.specs.declared.shares.Share.TheVariants.{Left, Right, Both}

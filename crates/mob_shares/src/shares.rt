@@ -5,7 +5,7 @@ ghost use Rattle.mob_span.specs.Meet.{meet_of};
 ghost use Rattle.mob_span.specs.Remainders.{back_of};
 ghost use Rattle.mob_span.specs.Span.{has_instant};
 ghost use Rattle.mob_span.specs.Pieces.{PiecesAreClear};
-ghost use Rattle.mob_cuts.specs.Cuts.{wholes, head_of, left_after};
+ghost use Rattle.mob_shares.specs.Cuts.{wholes, head_of, left_after};
 ghost use Rattle.mob_shares.specs.Begins.{BeginTogether, EndTogether};
 ghost use Rattle.mob_shares.specs.Shares.{cut_of, rest_of, share_span, share_of, HoldsShare, CanShare, GivesShare, shares_left};
 

@@ -22,10 +22,10 @@ use Rattle.mob_normal.specs.Joined.{IsJoin}
 use Rattle.mob_normal.proofs.Joins.{join_one, join_kept}
 use Rattle.mob_normal.proofs.Runs.{step_normal, step_ordered, step_keeps}
 use Rattle.mob_lifted.proofs.Options.{none_some}
-use Rattle.mob_cuts.specs.Cuts.{CutOf, wholes, entry_at}
-use Rattle.mob_cuts.specs.Shares.{ShareOf, next_share, behind, most_shares}
-use Rattle.mob_cuts.proofs.Sides.{cut_span, entry_whole, whole_clear}
-use Rattle.mob_cuts.proofs.Steps.{IsStep, next_step, none_next, next_fewer}
+use Rattle.mob_shares.specs.Cuts.{CutOf, wholes, entry_at}
+use Rattle.mob_shares.specs.Sharing.{ShareOf, next_share, behind, most_shares}
+use Rattle.mob_shares.proofs.Sides.{cut_span, entry_whole, whole_clear}
+use Rattle.mob_shares.proofs.Steps.{IsStep, next_step, none_next, next_fewer}
 use Rattle.mob_tagg.specs.United.{united_by, AreUnited}
 
 abbrev Steps : Type 0 → Type 0

@@ -133,15 +133,6 @@ first_from value start end parts items list wrapped returns v w r taken f h chec
 pub passes_of : {C V : Type 0} (parts : C → Ratio → Ratio → Ratio → List Ratio) (returns : Pair C C → Result V OpFault → Type 0) (p : Pair C C) (f : Formula) → IsChecked parts returns p (Err (Passed f)) → ((f ≡ F1) × (¬ AllFit (piece_parts parts (pair_of p)))) ⊎ AllFit (piece_parts parts (pair_of p))
 passes_of parts returns p f h = ⊎_elim inl (λ m. inr m.0) h
 
-abbrev the_err : (A : Type 0) {E : Type 0} → E → Result A E
-the_err A x = Err x
-
-pub err_as : {A B E : Type 0} {x y : E} → the_err A x ≡ the_err A y → the_err B x ≡ the_err B y
-err_as {A} {B} {E} {x} {y} e = ap (the_err B) (same x y e)
-  where
-    same : (x y : E) → the_err A x ≡ the_err A y → x ≡ y
-    same x y e = cc
-
 pub still_judged : {W : Type 0} (entries : List Entry) (r : Result W OpFault) → IsFirst entries None → IfErr r (λ e. e ≡ NoMemory) → IsJudged entries r
 still_judged entries (Ok x) h k = h
 still_judged entries (Err f) h k = subst (OnFormula (λ f. IsFirst entries (Some f))) (sym k) tt

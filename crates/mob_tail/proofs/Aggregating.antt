@@ -31,8 +31,8 @@ use Rattle.mob_span.specs.Flags.{same_bool}
 use Rattle.mob_value.specs.declared.value.Value.TheVariants as value
 use Rattle.mob_ordinary.specs.Moving.{AreNormalBy, IsFunction, StepSlices, or_nothing}
 use Rattle.mob_ordinary.specs.Ordinary.{is_null}
-use Rattle.mob_aggregates.specs.Aggregates.{put_there, made_of, IsAggregate, JoinsBy, total, count, all_hold, some_holds}
-use Rattle.mob_aggregates.proofs.Joining.{total_joins, all_joins, some_joins, aggregate_one, aggregate_both, aggregate_same, aggregate_first}
+use Rattle.mob_tagg.specs.Aggregates.{put_there, made_of, IsAggregate, JoinsBy, total, count, all_hold, some_holds}
+use Rattle.mob_tagg.proofs.Joining.{total_joins, all_joins, some_joins, aggregate_one, aggregate_both, aggregate_same, aggregate_first}
 use Rattle.mob_tail.specs.Aggregated.{counted, known_of, number_in, numbers_of, IsOverTime, IsAggregated, leaves_out, AddingPasses, IsUnion, IsAggregateWith, one_where, one_there, slices_there, step_there, line_there, truth_there, steps_of, lines_of, truths_of}
 
 -- ---- over time

@@ -28,9 +28,9 @@ use Rattle.mob_meaning.specs.Scene.{Scene, scene}
 use Rattle.mob_meaning.specs.Outcomes.{HasOneOutcome, IsOne}
 use Rattle.mob_meaning.specs.Evaluation.{Fault}
 use Rattle.mob_eval.specs.QueryFaults.{TupleFault}
-use Rattle.mob_aggregates.specs.Aggregates.{total, count, all_hold, some_holds}
-use Rattle.mob_aggregates.proofs.Joining.{one_aggregate}
-use Rattle.mob_aggregates.proofs.OneRow.{one_row_fault}
+use Rattle.mob_tagg.specs.Aggregates.{total, count, all_hold, some_holds}
+use Rattle.mob_tagg.proofs.Joining.{one_aggregate}
+use Rattle.mob_tagg.proofs.OneRow.{one_row_fault}
 use Rattle.mob_arrange.specs.Keyed.{Keyed}
 use Rattle.mob_tail.specs.Aggregated.{IsOverTime, IsAggregated, leaves_out, adding_entries, AddingPasses, one_there, step_there, line_there, truth_there}
 use Rattle.mob_tail.specs.Groups.{same_group}

@@ -24,8 +24,8 @@ use Rattle.mob_tagg.specs.Gathered.{united_all, parts_at, whole_at}
 use Rattle.mob_tagg.specs.United.{united_by}
 use Rattle.mob_tagg.specs.declared.parts.Part.{Part}
 use Rattle.mob_tagg.proofs.Unions.{normal_union}
-use Rattle.mob_aggregates.specs.Aggregates.{IsAggregate, JoinsBy, count, all_hold, some_holds}
-use Rattle.mob_aggregates.proofs.Joining.{count_joins, all_joins, some_joins}
+use Rattle.mob_tagg.specs.Aggregates.{IsAggregate, JoinsBy, count, all_hold, some_holds}
+use Rattle.mob_tagg.proofs.Joining.{count_joins, all_joins, some_joins}
 use Rattle.mob_tail.specs.declared.state.State.{State}
 use Rattle.mob_tail.specs.declared.state.State.TheVariants.{Whole, Counts, All, Any}
 use Rattle.mob_tail.specs.Aggregated.{IsOverTime, IsAggregated, IsUnion, IsAggregateWith, leaves_out, one_there, truth_there, slices_there, steps_of, truths_of}

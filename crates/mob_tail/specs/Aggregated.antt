@@ -26,7 +26,7 @@ use Rattle.mob_meaning.specs.Arithmetic.{arithmetic_entries}
 use Rattle.mob_ordinary.specs.Moving.{AreNormalBy, StepSlices, or_nothing, step_function, line_function, plane_function}
 use Rattle.mob_ordinary.specs.Ordinary.{is_null}
 use Rattle.mob_tagg.specs.United.{AreUnited}
-use Rattle.mob_aggregates.specs.Aggregates.{put_there, made_of, IsAggregate, total, count, all_hold, some_holds}
+use Rattle.mob_tagg.specs.Aggregates.{put_there, made_of, IsAggregate, total, count, all_hold, some_holds}
 
 -- so many, as a value
 abbrev pub counted : ℕ → Value

@@ -1,8 +1,8 @@
 use Rattle.std.proofs.Common.{sym, subst}
 use Rattle.std.specs.List.{AllByRecursion}
 use Rattle.mob_span.specs.Pieces.{PiecesAreClear}
+use Rattle.mob_sync.specs.Pieces.{pieces_left}
 use Rattle.mob_span.specs.Flags.{same_bool}
-use Rattle.mob_lift.specs.Pieces.{pieces_left}
 use Rattle.mob_slice.specs.Sides.{operand_of, pieces, given_at, HoldsPiece}
 use Rattle.mob_cells.specs.Gaps.{entries_of_ends}
 use Rattle.mob_ever.specs.Met.{piece_meets}

@@ -3,7 +3,7 @@ use Rattle.std.specs.List.{AllByRecursion}
 use Rattle.mob_span.specs.Pieces.{PiecesAreClear}
 use Rattle.mob_slice.specs.Lines.{plane_value_of}
 use Rattle.mob_slice.specs.Sides.{operand_of, pieces, piece_of, given_at}
-use Rattle.mob_lift.specs.Pieces.{pieces_left}
+use Rattle.mob_sync.specs.Pieces.{pieces_left}
 use Rattle.mob_lift.proofs.Walking.{walking_end, walking_fails}
 use Rattle.mob_near.specs.Approaches.{IsApproach}
 use Rattle.mob_near.specs.Entries.{entries_of_approach}

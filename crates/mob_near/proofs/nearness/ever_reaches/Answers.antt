@@ -6,7 +6,7 @@ use Rattle.mob_ratio.proofs.Order.{not-up_to-le}
 use Rattle.mob_span.specs.Pieces.{PiecesAreClear}
 use Rattle.mob_slice.specs.Lines.{plane_value_of}
 use Rattle.mob_slice.specs.Sides.{operand_of, pieces, piece_of, given_at}
-use Rattle.mob_lift.specs.Pieces.{pieces_left}
+use Rattle.mob_sync.specs.Pieces.{pieces_left}
 use Rattle.mob_lift.specs.Sometime.{IsEver, either}
 use Rattle.mob_lift.proofs.Walking.{walking_end, walking_fails}
 use Rattle.mob_lift.proofs.AllPieces.{is_ever}
