@@ -18,7 +18,7 @@ use Rattle.mob_span.specs.Flags.{same_bool}
 use Rattle.mob_slice.specs.Pieces.{AreInside}
 use Rattle.mob_cells.specs.Cells.{IsIn}
 use Rattle.mob_slice.specs.Sides.{HasValues, at_ends}
-use Rattle.mob_slice.specs.Entries.{Entry, IsFirst, OnFormula}
+use Rattle.mob_slice.specs.Entries.{Entry, IsFirst, OnFormula, IsPartFault}
 use Rattle.mob_slice.specs.Look.{IsLookFault}
 use Rattle.mob_slice.specs.Operands.{steady_value, steady_limit}
 use Rattle.mob_slice.specs.declared.slice.Slice.{Slice}
@@ -30,7 +30,7 @@ use Rattle.mob_slice.specs.declared.formula.LookFault.{LookFault}
 use Rattle.mob_slice.specs.declared.formula.LookFault.TheVariants.{Passed as LookPassed, NoMemory as LookNoMemory}
 use Rattle.mob_slice.proofs.Cuts.{all_both, all_first, all_second}
 use Rattle.mob_cells.specs.Cells.{AreCells, AreCutAt, IsCut, IsSomeEnd}
-use Rattle.mob_cells.specs.Kept.{AreKeptOn, IsCellFault}
+use Rattle.mob_cells.specs.Kept.{AreKeptOn}
 use Rattle.mob_cells.specs.Restricted.{kept_value}
 use Rattle.mob_slice.specs.Entries.{operator_fault}
 use Rattle.mob_lifted.specs.Piecewise.{AreGivenInOrder, IsPiecewise}
@@ -51,7 +51,7 @@ module _ {C B : Type 0} (value : C → Ratio → Ratio → Ratio → B) (start e
   pub kept_is : (f : Ratio → B) (c : SpanOf) (part : Slice C) (want : Bool) (keeps : List Ordering → Bool) (signs : Ratio → List Ordering) (os : List Ordering) (k : Bool) → HasValues value start end f c part → ((t : Ratio) → has c t ≡ true → os ≡ signs t) → k ≡ same_bool want (keeps os) → AreKeptOn value start end (λ t. kept_value want (keeps (signs t)) (f t)) c (cond k (part ∷ []) [])
   kept_is f c part want keeps signs os k h n e = kept_by f (λ t. kept_value want (keeps (signs t)) (f t)) c part k h (λ t i. ap (λ z. cond (same_bool want (keeps z)) (Some (f t)) None) (sym (n t i)) ∙ ap (λ b. cond b (Some (f t)) None) (sym e))
 
-  pub cell_is : {V : Type 0} (items : V → List (Slice C)) (r : Result V OpFault) (f : Ratio → B) (c : SpanOf) (part : Slice C) (want : Bool) (keeps : List Ordering → Bool) (signs : Ratio → List Ordering) (os : List Ordering) (k : Bool) (fits : List Ratio) → HasValues value start end f c part → AllFit fits → ((t : Ratio) → has c t ≡ true → os ≡ signs t) → k ≡ same_bool want (keeps os) → MatchResult r (λ v. items v ≡ cond k (part ∷ []) []) (λ e. e ≡ NoMemory) → MatchResult r (λ v. AreKeptOn value start end (λ t. kept_value want (keeps (signs t)) (f t)) c (items v) × AllFit fits) (IsCellFault fits)
+  pub cell_is : {V : Type 0} (items : V → List (Slice C)) (r : Result V OpFault) (f : Ratio → B) (c : SpanOf) (part : Slice C) (want : Bool) (keeps : List Ordering → Bool) (signs : Ratio → List Ordering) (os : List Ordering) (k : Bool) (fits : List Ratio) → HasValues value start end f c part → AllFit fits → ((t : Ratio) → has c t ≡ true → os ≡ signs t) → k ≡ same_bool want (keeps os) → MatchResult r (λ v. items v ≡ cond k (part ∷ []) []) (λ e. e ≡ NoMemory) → MatchResult r (λ v. AreKeptOn value start end (λ t. kept_value want (keeps (signs t)) (f t)) c (items v) × AllFit fits) (IsPartFault F1 fits)
   cell_is items (Ok v) f c part want keeps signs os k fits h a n e m = (rw m (kept_is f c part want keeps signs os k h n e), a)
   cell_is items (Err fault) f c part want keeps signs os k fits h a n e m = rw m tt
 
@@ -62,7 +62,7 @@ flag_is c keeps signs os b k n e = record {
   values = λ t i. rw i (ap Some (e ∙ ap keeps (n t i)));
 }
 
-pub cell_fault : (copies : Bool) (fits : List Ratio) (f : LookFault) (e : OpFault) → IsLookFault copies fits f → e ≡ operator_fault f → IsCellFault fits e
+pub cell_fault : (copies : Bool) (fits : List Ratio) (f : LookFault) (e : OpFault) → IsLookFault copies fits f → e ≡ operator_fault f → IsPartFault F1 fits e
 cell_fault copies fits (LookPassed f) e h i = rw i h
 cell_fault copies fits LookNoMemory e h i = rw i tt
 
@@ -174,7 +174,7 @@ module _ (parts : Ratio → List Ratio) where
   pub fits_end : (all rest : List SpanOf) → rest ≡ [] → (AllByRecursion EndsFit rest → AllByRecursion EndsFit all) → AllByRecursion EndsFit all
   fits_end all rest e m = m (rw e tt)
 
-pub kept_fault : (parts : List Ratio) (all : List Ratio) (f : OpFault) → IsCellFault parts f → ((¬ AllFit parts) → ¬ AllFit all) → OnFormula (λ g. IsFirst (record { formula = F1; parts = all } ∷ []) (Some g)) f
+pub kept_fault : (parts : List Ratio) (all : List Ratio) (f : OpFault) → IsPartFault F1 parts f → ((¬ AllFit parts) → ¬ AllFit all) → OnFormula (λ g. IsFirst (record { formula = F1; parts = all } ∷ []) (Some g)) f
 kept_fault parts all (Passed f) h g = inr (g h.1, ap Some h.0)
 kept_fault parts all NoMemory h g = tt
 

@@ -7,13 +7,14 @@ use Rattle.mob_frac.specs.Formula.{AllFit}
 use Rattle.mob_span.specs.Span.{has}
 use Rattle.mob_span.proofs.Insides.{inside_self}
 use Rattle.mob_span.specs.Flags.{same_bool}
+use Rattle.mob_slice.specs.declared.formula.Formula.TheVariants.{F2}
 use Rattle.mob_slice.specs.Course.{IsCourse}
 use Rattle.mob_slice.specs.Slices.{IsSound}
 use Rattle.mob_slice.specs.Comparison.{IsComparison, gap_parts}
 use Rattle.mob_slice.specs.Look.{IsLookFault}
 use Rattle.mob_slice.specs.Cut.{slice_value, slice_parts}
 use Rattle.mob_slice.specs.Sides.{at_ends, HasValues}
-use Rattle.mob_slice.specs.Entries.{IsFirst, OnFormula, operator_fault}
+use Rattle.mob_slice.specs.Entries.{IsFirst, OnFormula, operator_fault, IsPartFault}
 use Rattle.mob_slice.specs.declared.slice.Slice.{Slice}
 use Rattle.mob_slice.specs.declared.comparison.Rel.{Rel}
 use Rattle.mob_slice.specs.declared.comparison.Rel.TheVariants.{Eq}
@@ -28,7 +29,7 @@ use Rattle.mob_cells.specs.Roots.{IsLevel}
 use Rattle.mob_cells.specs.Cells.{signs_of}
 use Rattle.mob_cells.specs.Kept.{AreKeptOn, IsKeptBy, entries_of_cuts}
 use Rattle.mob_cells.specs.Restricted.{kept_value}
-use Rattle.mob_cells.specs.Gaps.{gap_ends, related_by, IsGapFault}
+use Rattle.mob_cells.specs.Gaps.{gap_ends, related_by}
 use Rattle.mob_cells.proofs.GapSigns.{by_gaps, no_gaps, gaps_level}
 use Rattle.mob_cells.proofs.OwnEnds.{own_fit, start_value, end_value, kept_behind}
 use Rattle.mob_restrict.specs.Values.{entries_of_value, slice_gaps}
@@ -47,7 +48,7 @@ module _ {C B : Type 0} {steady copies : Bool} {value : C → Ratio → Ratio �
   same_ends : gap_ends (gaps (start s.course) x) (gaps (end s.course) x) ≡ gap_ends (slice_gaps value gaps x s s.span.lower) (slice_gaps value gaps x s s.span.upper)
   same_ends = ap (λ g. gap_ends g (gaps (end s.course) x)) low ∙ ap (λ g. gap_ends (slice_gaps value gaps x s s.span.lower) g) high
 
-  pub gaps_fail : (f : OpFault) → IsGapFault (gap_parts (gaps (start s.course) x) ++ gap_parts (gaps (end s.course) x)) f → OnFormula (λ g. IsFirst (entries_of_value value parts gaps x s) (Some g)) f
+  pub gaps_fail : (f : OpFault) → IsPartFault F2 (gap_parts (gaps (start s.course) x) ++ gap_parts (gaps (end s.course) x)) f → OnFormula (λ g. IsFirst (entries_of_value value parts gaps x s) (Some g)) f
   gaps_fail (Passed f) h = inr (subst (λ z. ¬ AllFit z) same_parts h.1, ap Some h.0)
   gaps_fail NoMemory h = tt
 
