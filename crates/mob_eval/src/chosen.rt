@@ -1,7 +1,7 @@
 //! Which operators of a query are remembered.
-ghost use Rattle.std.specs.Prelude.{◌≡◌, ◌==◌, ◌++◌, ◌∷◌, ℕ, List, map, option_map};
-ghost use Rattle.mob_typed.specs.Trees.{TypedTree, typed_of};
-ghost use Rattle.mob_eval.specs.Remembered.{AreNodes, condition_nodes, lone, names_only, nodes_at, nodes_here, nodes_of_conditions, place_of, reads_only};
+ghost use Rattle.std.specs.Prelude.{◌≡◌, ◌==◌, ◌++◌, List, map};
+ghost use Rattle.mob_typed.specs.Trees.{TypedTree, typed_of, typed_trees};
+ghost use Rattle.mob_eval.specs.Remembered.{AreNodes, all_nodes_at, names_only, nodes_at, nodes_here, place_of, reads_only, root_seen};
 
 use crate::memory::Memory;
 use crate::remembered::Remembering;
@@ -19,9 +19,9 @@ const MOST: usize = 8;
 pub enum NodesAt<'a> {
     /// There is none.
     Nobody,
-    /// There is just one.
+    /// There is one, or there are copies of one.
     Only(&'a TExpr),
-    /// There are several.
+    /// There are several that differ.
     Several,
 }
 
@@ -57,23 +57,13 @@ fn nodes_of(e: &TExpr, at: u32) -> NodesAt<'_>
     found
 }
 
-// Those of a condition.
-fn nodes_of_one(condition: &Option<TExpr>, at: u32) -> NodesAt<'_>
-    ensures nodes { AreNodes result (condition_nodes at (option_map typed_of condition.now)) }
+// Those of several expressions.
+fn nodes_of_all<'a>(roots: &[&'a TExpr], at: u32) -> NodesAt<'a>
+    ensures nodes { AreNodes result (all_nodes_at at (typed_trees (map root_seen roots.now))) }
 {
-    match condition {
-        Some(e) => nodes_of(e, at),
-        None => NodesAt::Nobody,
-    }
-}
-
-// Those of WHERE and of each ON.
-fn nodes_of_all<'a>(filter: &'a Option<TExpr>, joins: &'a [Option<TExpr>], at: u32) -> NodesAt<'a>
-    ensures nodes { AreNodes result (nodes_of_conditions at (map (option_map typed_of) (filter.now ∷ joins.now))) }
-{
-    let mut found = nodes_of_one(filter, at);
-    for join in joins {
-        found = both(found, nodes_of_one(join, at));
+    let mut found = NodesAt::Nobody;
+    for root in roots {
+        found = both(found, nodes_of(*root, at));
     }
     found
 }
@@ -152,6 +142,32 @@ struct Chosen {
     what: What,
 }
 
+fn is_box(what: What) -> bool {
+    match what {
+        What::Outcome => false,
+        What::Box => true,
+    }
+}
+
+// Whether two are of copies of one operator.
+fn is_again(one: &Chosen, other: &Chosen) -> bool {
+    if one.at != other.at {
+        return false;
+    }
+    is_box(one.what) == is_box(other.what)
+}
+
+// Adds an operator, unless a copy of it is there.
+fn add(one: Chosen, chosen: &mut Vec<Chosen>) -> Result<(), AllocError> {
+    for other in chosen.as_slice() {
+        if is_again(&one, other) {
+            return Ok(());
+        }
+    }
+    chosen.push(one)?;
+    Ok(())
+}
+
 // Which place an expression names, if it names at most one. In a query of one table each row is
 // passed once, and only an operator that names none is of use.
 fn place_named(e: &TExpr, several: bool) -> Option<Option<u32>> {
@@ -169,11 +185,12 @@ fn choose_boxes(e: &TExpr, several: bool, chosen: &mut Vec<Chosen>) -> Result<()
     };
     for arg in &e.args {
         if let (SqlType::TPoint, Some(place)) = (arg.ty, place_named(arg, several)) {
-            chosen.push(Chosen {
+            let one = Chosen {
                 at: arg.place,
                 place,
                 what: What::Box,
-            })?;
+            };
+            add(one, chosen)?;
         }
     }
     Ok(())
@@ -185,12 +202,12 @@ fn choose(e: &TExpr, several: bool, chosen: &mut Vec<Chosen>) -> Result<(), Allo
         return Ok(());
     }
     if let Some(place) = place_named(e, several) {
-        chosen.push(Chosen {
+        let one = Chosen {
             at: e.place,
             place,
             what: What::Outcome,
-        })?;
-        return Ok(());
+        };
+        return add(one, chosen);
     }
     choose_boxes(e, several, chosen)?;
     for arg in &e.args {
@@ -199,21 +216,11 @@ fn choose(e: &TExpr, several: bool, chosen: &mut Vec<Chosen>) -> Result<(), Allo
     Ok(())
 }
 
-// Those of WHERE and of each ON.
-fn chosen_of(
-    alloc: Global,
-    several: bool,
-    filter: &Option<TExpr>,
-    joins: &[Option<TExpr>],
-) -> Result<Vec<Chosen>, AllocError> {
+// Those of several expressions.
+fn chosen_of(alloc: Global, several: bool, roots: &[&TExpr]) -> Result<Vec<Chosen>, AllocError> {
     let mut chosen = Vec::new(alloc);
-    if let Some(e) = filter {
-        choose(e, several, &mut chosen)?;
-    }
-    for join in joins {
-        if let Some(e) = join {
-            choose(e, several, &mut chosen)?;
-        }
+    for root in roots {
+        choose(*root, several, &mut chosen)?;
     }
     Ok(chosen)
 }
@@ -232,18 +239,17 @@ fn rows_at(store: &Store, from: &[u32], place: Option<u32>) -> usize {
     }
 }
 
-// Remembers an operator that stands alone at its place of the script.
+// Remembers an operator that is the only one at its place of the script.
 fn remember_one<K: Remembering>(
     alloc: Global,
-    filter: &Option<TExpr>,
-    joins: &[Option<TExpr>],
+    roots: &[&TExpr],
     chosen: &Chosen,
     rows: usize,
     memory: &mut Memory<K>,
 ) -> Result<(), AllocError>
-    requires tree { (n : ℕ) → K.recollection.tree n ≡ lone (nodes_of_conditions n (map (option_map typed_of) (filter.now ∷ joins.now))) }
+    requires roots { K.recollection.roots ≡ map root_seen roots.now }
 {
-    match nodes_of_all(filter, joins, chosen.at) {
+    match nodes_of_all(roots, chosen.at) {
         NodesAt::Only(e) => {
             if !names_only(e, chosen.place) {
                 return Ok(());
@@ -257,25 +263,24 @@ fn remember_one<K: Remembering>(
     }
 }
 
-/// A memory of the operators of WHERE and ON that name at most one table of FROM, and of the boxes
-/// of such operands of `&&`: of about eight, and of none that shares its place in the script with
-/// another. If memory is refused there are fewer.
+/// A memory of the operators of these expressions that name at most one table of FROM, and of the
+/// boxes of such operands of `&&`: of about eight, and of none that shares its place in the script
+/// with a different one. If memory is refused there are fewer.
 pub fn memory_of<K: Remembering>(
     alloc: Global,
     store: &Store,
     from: &[u32],
-    filter: &Option<TExpr>,
-    joins: &[Option<TExpr>],
+    roots: &[&TExpr],
 ) -> Memory<K>
-    requires tree { (n : ℕ) → K.recollection.tree n ≡ lone (nodes_of_conditions n (map (option_map typed_of) (filter.now ∷ joins.now))) }
+    requires roots { K.recollection.roots ≡ map root_seen roots.now }
 {
     let mut memory = Memory::new(alloc);
-    let Ok(chosen) = chosen_of(alloc, from.len() > 1, filter, joins) else {
+    let Ok(chosen) = chosen_of(alloc, from.len() > 1, roots) else {
         return memory;
     };
     for one in &chosen {
         let rows = rows_at(store, from, one.place);
-        if remember_one(alloc, filter, joins, one, rows, &mut memory).is_err() {
+        if remember_one(alloc, roots, one, rows, &mut memory).is_err() {
             return memory;
         }
     }

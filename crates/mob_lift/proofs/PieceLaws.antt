@@ -6,7 +6,7 @@ use Rattle.mob_span.specs.Span.{SpanOf, has}
 use Rattle.mob_span.specs.Meets.{PieceOf, shared_pieces}
 use Rattle.mob_slice.specs.Slices.{value_at}
 use Rattle.mob_slice.proofs.LookUps.{value_by}
-use Rattle.mob_span.specs.Parts.{part_at}
+use Rattle.mob_span.specs.Pieces.{piece_at}
 use Rattle.mob_slice.specs.Operands.{map_both}
 use Rattle.mob_slice.specs.Cut.{slice_value}
 use Rattle.mob_slice.specs.Sides.{SideOf, Moves, Stays, OperandOf, Slices, Base, pieces, side_at, has_slices, given_at}
@@ -16,11 +16,11 @@ use Rattle.mob_span.proofs.MeetLaws.{meets_at, sides}
 
 -- a list of pieces that are made of others on the same spans
 module _ {P Q : Type 0} (span : P → SpanOf) (span' : Q → SpanOf) (f : P → Q) (same : (p : P) → span' (f p) ≡ span p) where
-  pub map_at : (ps : List P) (t : Ratio) → part_at span' (map f ps) t ≡ option_map f (part_at span ps t)
+  pub map_at : (ps : List P) (t : Ratio) → piece_at span' (map f ps) t ≡ option_map f (piece_at span ps t)
   map_at [] t = refl
-  map_at (p ∷ ps) t = ap (λ b. cond b (Some (f p)) (part_at span' (map f ps) t)) (ap (λ r. has r t) (same p)) ∙ ap (λ o. cond (has (span p) t) (Some (f p)) o) (map_at ps t) ∙ by (has (span p) t)
+  map_at (p ∷ ps) t = ap (λ b. cond b (Some (f p)) (piece_at span' (map f ps) t)) (ap (λ r. has r t) (same p)) ∙ ap (λ o. cond (has (span p) t) (Some (f p)) o) (map_at ps t) ∙ by (has (span p) t)
     where
-      by : (b : Bool) → cond b (Some (f p)) (option_map f (part_at span ps t)) ≡ option_map f (cond b (Some p) (part_at span ps t))
+      by : (b : Bool) → cond b (Some (f p)) (option_map f (piece_at span ps t)) ≡ option_map f (cond b (Some p) (piece_at span ps t))
       by true = refl
       by false = refl
 
@@ -48,28 +48,28 @@ module _ {X Y Z : Type 0} (op : X → Y → Z) where
     sides_value t p = op (side_at value p.left t) (side_at value' p.right t)
 
     -- The operation on the sides of the piece at an instant is that on the two operands there.
-    pub pieces_value : (a : OperandOf A X) (b : OperandOf B Y) → (has_slices a || has_slices b) ≡ true → (t : Ratio) → option_map (sides_value t) (part_at (λ p. p.span) (pieces a b) t) ≡ map_both op (given_at value a t) (given_at value' b t)
+    pub pieces_value : (a : OperandOf A X) (b : OperandOf B Y) → (has_slices a || has_slices b) ≡ true → (t : Ratio) → option_map (sides_value t) (piece_at (λ p. p.span) (pieces a b) t) ≡ map_both op (given_at value a t) (given_at value' b t)
     pieces_value (Slices v) (Slices w) m t =
         let f : PieceOf (Slice A) (Slice B) → PieceOf (SideOf A X) (SideOf B Y) = λ p. record { span = p.span; left = Moves p.left; right = Moves p.right } in
         let h : Slice A × Slice B → Z = λ p. op (slice_value value p.0 t) (slice_value value' p.1 t) in
         let ps = shared_pieces (λ s. s.span) (λ s. s.span) v w in
         ap (option_map (sides_value t)) (map_at (λ p. p.span) (λ p. p.span) f (λ p. refl) ps t)
-        ∙ twice f (sides_value t) (part_at (λ p. p.span) ps t)
-        ∙ sym (twice (sides (λ s. s.span) (λ s. s.span)) h (part_at (λ p. p.span) ps t))
+        ∙ twice f (sides_value t) (piece_at (λ p. p.span) ps t)
+        ∙ sym (twice (sides (λ s. s.span) (λ s. s.span)) h (piece_at (λ p. p.span) ps t))
         ∙ ap (option_map h) (meets_at (λ s. s.span) (λ s. s.span) v w t)
-        ∙ both_map (λ s. slice_value value s t) (λ s. slice_value value' s t) (part_at (λ s. s.span) v t) (part_at (λ s. s.span) w t)
-        ∙ ap (λ o. map_both op o (option_map (λ s. slice_value value' s t) (part_at (λ s. s.span) w t))) (sym (value_by value v t))
+        ∙ both_map (λ s. slice_value value s t) (λ s. slice_value value' s t) (piece_at (λ s. s.span) v t) (piece_at (λ s. s.span) w t)
+        ∙ ap (λ o. map_both op o (option_map (λ s. slice_value value' s t) (piece_at (λ s. s.span) w t))) (sym (value_by value v t))
         ∙ ap (λ o. map_both op (value_at value v t) o) (sym (value_by value' w t))
     pieces_value (Slices v) (Base b) m t =
         let f : Slice A → PieceOf (SideOf A X) (SideOf B Y) = λ s. record { span = s.span; left = Moves s; right = Stays b } in
         ap (option_map (sides_value t)) (map_at (λ s. s.span) (λ p. p.span) f (λ s. refl) v t)
-        ∙ twice f (sides_value t) (part_at (λ s. s.span) v t)
-        ∙ beside_right (λ s. slice_value value s t) b (part_at (λ s. s.span) v t)
+        ∙ twice f (sides_value t) (piece_at (λ s. s.span) v t)
+        ∙ beside_right (λ s. slice_value value s t) b (piece_at (λ s. s.span) v t)
         ∙ ap (λ o. map_both op o (Some b)) (sym (value_by value v t))
     pieces_value (Base a) (Slices w) m t =
         let f : Slice B → PieceOf (SideOf A X) (SideOf B Y) = λ s. record { span = s.span; left = Stays a; right = Moves s } in
         ap (option_map (sides_value t)) (map_at (λ s. s.span) (λ p. p.span) f (λ s. refl) w t)
-        ∙ twice f (sides_value t) (part_at (λ s. s.span) w t)
-        ∙ beside_left (λ s. slice_value value' s t) a (part_at (λ s. s.span) w t)
+        ∙ twice f (sides_value t) (piece_at (λ s. s.span) w t)
+        ∙ beside_left (λ s. slice_value value' s t) a (piece_at (λ s. s.span) w t)
         ∙ ap (λ o. map_both op (Some a) o) (sym (value_by value' w t))
     pieces_value (Base a) (Base b) m t = absurd (true≢false (sym m))

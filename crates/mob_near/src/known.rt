@@ -238,7 +238,7 @@ pub fn difference(
     difference_of(left, right)
 }
 
-/// The same at the end of a piece, where it is kept.
+/// How far the first point is to the east and to the north of the second, at the end of a piece, where it is kept.
 pub fn difference_kept(
     left: &Point,
     right: &Point,
@@ -302,7 +302,7 @@ pub fn square(x: &Frac, y: &Frac, squared: &Option<Squared>) -> Result<Frac, Ove
     square_of(x, y)
 }
 
-/// The same at the end of a piece, where it is kept.
+/// The square of the length of a vector at the end of a piece, where it is kept.
 pub fn square_kept(x: &Frac, y: &Frac, squared: &mut Option<Squared>) -> Result<Frac, Overflow>
     ensures value { IsFormula (square_parts x.now y.now) (length_squared x.now y.now) result }
 {

@@ -9,7 +9,7 @@ use Rattle.mob_span.specs.Span.{SpanOf, has, has_instant}
 use Rattle.mob_span.specs.Meet.{meet_of, starts_before, ends_before}
 use Rattle.mob_span.specs.Meets.{PieceOf}
 use Rattle.mob_span.specs.Neighbours.{is_clear}
-use Rattle.mob_span.specs.Parts.{PartsAreClear, part_at}
+use Rattle.mob_span.specs.Pieces.{PiecesAreClear, piece_at}
 use Rattle.mob_span.specs.Remainders.{front_of}
 use Rattle.mob_ratio.proofs.Order.{before-back}
 use Rattle.mob_span.proofs.SpanLemmas.{meet_has}
@@ -127,7 +127,7 @@ module _ {X Y : Type 0} where
 
   -- a piece of the first list alone begins where something of it does and ends where that ends or
   -- the next shared piece begins
-  pub left_ends : (P : X → Ratio → Type 0) (v : List (CutOf X)) (w : List (CutOf Y)) → PartsAreClear (λ d. d.span) w → AllByRecursion (λ c. P c.of c.span.lower × P c.of c.span.upper) v → (s : SpanOf) (x : X) → next_share v w ≡ Some (record { span = s; left = Some x; right = None }) → P x s.lower × (P x s.upper ⊎ BeginsLeft x s.upper (shared_cuts v w))
+  pub left_ends : (P : X → Ratio → Type 0) (v : List (CutOf X)) (w : List (CutOf Y)) → PiecesAreClear (λ d. d.span) w → AllByRecursion (λ c. P c.of c.span.lower × P c.of c.span.upper) v → (s : SpanOf) (x : X) → next_share v w ≡ Some (record { span = s; left = Some x; right = None }) → P x s.lower × (P x s.upper ⊎ BeginsLeft x s.upper (shared_cuts v w))
   left_ends P [] [] k h s x e = no_left s x e
   left_ends P (c ∷ cs) [] k h s x e = of_left P c.span s c.of x (shared_cuts {Y = Y} (c ∷ cs) []) e (h.0.0, inl h.0.1)
   left_ends P [] (d ∷ ds) k h s x e = not_left d.span s d.of x e
@@ -163,7 +163,7 @@ module _ {X Y : Type 0} where
         same_y : the_right r z ≡ the_right s y → z ≡ y
         same_y e = some_same z y (ap (λ q. q.right) (one_share _ _ e))
 
-  pub right_ends : (P : Y → Ratio → Type 0) (v : List (CutOf X)) (w : List (CutOf Y)) → PartsAreClear (λ c. c.span) v → AllByRecursion (λ d. P d.of d.span.lower × P d.of d.span.upper) w → (s : SpanOf) (y : Y) → next_share v w ≡ Some (record { span = s; left = None; right = Some y }) → P y s.lower × (P y s.upper ⊎ BeginsRight y s.upper (shared_cuts v w))
+  pub right_ends : (P : Y → Ratio → Type 0) (v : List (CutOf X)) (w : List (CutOf Y)) → PiecesAreClear (λ c. c.span) v → AllByRecursion (λ d. P d.of d.span.lower × P d.of d.span.upper) w → (s : SpanOf) (y : Y) → next_share v w ≡ Some (record { span = s; left = None; right = Some y }) → P y s.lower × (P y s.upper ⊎ BeginsRight y s.upper (shared_cuts v w))
   right_ends P [] [] k h s y e = no_right s y e
   right_ends P (c ∷ cs) [] k h s y e = not_right c.span s c.of y e
   right_ends P [] (d ∷ ds) k h s y e = of_right P d.span s d.of y (shared_cuts {X = X} [] (d ∷ ds)) e (h.0.0, inl h.0.1)
@@ -176,41 +176,41 @@ module _ {X Y : Type 0} where
       by false true i j z = of_right P (front_of d.span c.span) s d.of y (shared_cuts (c ∷ cs) (d ∷ ds)) z (right_front_ends P c cs d ds k.0 i j h.0)
       by false false i j z = both_right (meet_of c.span d.span) s c.of d.of y z
 
-  part_put : (m : SpanOf) (x : X) (y : Y) (ps : List (PieceOf X Y)) (t : Ratio) → has m t ≡ false → part_at (λ q. q.span) ps t ≡ None → part_at (λ q. q.span) (cond (has_instant m) (record { span = m; left = x; right = y } ∷ ps) ps) t ≡ None
+  part_put : (m : SpanOf) (x : X) (y : Y) (ps : List (PieceOf X Y)) (t : Ratio) → has m t ≡ false → piece_at (λ q. q.span) ps t ≡ None → piece_at (λ q. q.span) (cond (has_instant m) (record { span = m; left = x; right = y } ∷ ps) ps) t ≡ None
   part_put m x y ps t h k = by (has_instant m)
     where
-      by : (b : Bool) → part_at (λ q. q.span) (cond b (record { span = m; left = x; right = y } ∷ ps) ps) t ≡ None
-      by true = ap (λ b. cond b (Some (record { span = m; left = x; right = y })) (part_at (λ q. q.span) ps t)) h ∙ k
+      by : (b : Bool) → piece_at (λ q. q.span) (cond b (record { span = m; left = x; right = y } ∷ ps) ps) t ≡ None
+      by true = ap (λ b. cond b (Some (record { span = m; left = x; right = y })) (piece_at (λ q. q.span) ps t)) h ∙ k
       by false = k
 
-  part_both : (ps qs : List (PieceOf X Y)) (t : Ratio) → part_at (λ q. q.span) ps t ≡ None → part_at (λ q. q.span) qs t ≡ None → part_at (λ q. q.span) (ps ++ qs) t ≡ None
+  part_both : (ps qs : List (PieceOf X Y)) (t : Ratio) → piece_at (λ q. q.span) ps t ≡ None → piece_at (λ q. q.span) qs t ≡ None → piece_at (λ q. q.span) (ps ++ qs) t ≡ None
   part_both [] qs t h k = k
   part_both (p ∷ ps) qs t h k = by (has p.span t) refl h (λ z. part_both ps qs t z k)
     where
-      by : (b : Bool) → has p.span t ≡ b → cond b (Some p) (part_at (λ q. q.span) ps t) ≡ None → (part_at (λ q. q.span) ps t ≡ None → part_at (λ q. q.span) (ps ++ qs) t ≡ None) → cond b (Some p) (part_at (λ q. q.span) (ps ++ qs) t) ≡ None
+      by : (b : Bool) → has p.span t ≡ b → cond b (Some p) (piece_at (λ q. q.span) ps t) ≡ None → (piece_at (λ q. q.span) ps t ≡ None → piece_at (λ q. q.span) (ps ++ qs) t ≡ None) → cond b (Some p) (piece_at (λ q. q.span) (ps ++ qs) t) ≡ None
       by true i z f = some_none p z
       by false i z f = f z
 
-  none_row : (c : CutOf X) (ds : List (CutOf Y)) (t : Ratio) → has c.span t ≡ false → part_at (λ q. q.span) (row_of c ds) t ≡ None
+  none_row : (c : CutOf X) (ds : List (CutOf Y)) (t : Ratio) → has c.span t ≡ false → piece_at (λ q. q.span) (row_of c ds) t ≡ None
   none_row c [] t h = refl
   none_row c (d ∷ ds) t h = part_put (meet_of c.span d.span) c.of d.of (row_of c ds) t (meet_has c.span d.span t ∙ ap (λ b. b && has d.span t) h) (none_row c ds t h)
 
-  none_row' : (c : CutOf X) (ds : List (CutOf Y)) (t : Ratio) → AllByRecursion (λ d. has d.span t ≡ false) ds → part_at (λ q. q.span) (row_of c ds) t ≡ None
+  none_row' : (c : CutOf X) (ds : List (CutOf Y)) (t : Ratio) → AllByRecursion (λ d. has d.span t ≡ false) ds → piece_at (λ q. q.span) (row_of c ds) t ≡ None
   none_row' c [] t h = refl
   none_row' c (d ∷ ds) t h = part_put (meet_of c.span d.span) c.of d.of (row_of c ds) t (meet_has c.span d.span t ∙ ap (λ b. has c.span t && b) h.0 ∙ and_none (has c.span t)) (none_row' c ds t h.1)
 
-  none_left_by : (v : List (CutOf X)) (w : List (CutOf Y)) (t : Ratio) → AllByRecursion (λ c. has c.span t ≡ false) v → part_at (λ q. q.span) (shared_cuts v w) t ≡ None
+  none_left_by : (v : List (CutOf X)) (w : List (CutOf Y)) (t : Ratio) → AllByRecursion (λ c. has c.span t ≡ false) v → piece_at (λ q. q.span) (shared_cuts v w) t ≡ None
   none_left_by [] w t h = refl
   none_left_by (c ∷ cs) w t h = part_both (row_of c w) (shared_cuts cs w) t (none_row c w t h.0) (none_left_by cs w t h.1)
 
-  none_right_by : (v : List (CutOf X)) (w : List (CutOf Y)) (t : Ratio) → AllByRecursion (λ d. has d.span t ≡ false) w → part_at (λ q. q.span) (shared_cuts v w) t ≡ None
+  none_right_by : (v : List (CutOf X)) (w : List (CutOf Y)) (t : Ratio) → AllByRecursion (λ d. has d.span t ≡ false) w → piece_at (λ q. q.span) (shared_cuts v w) t ≡ None
   none_right_by [] w t h = refl
   none_right_by (c ∷ cs) w t h = part_both (row_of c w) (shared_cuts cs w) t (none_row' c w t h) (none_right_by cs w t h)
 
   -- where one of two lists has nothing, they share no piece
-  pub none_left : (v : List (CutOf X)) (w : List (CutOf Y)) (t : Ratio) → entry_at v t ≡ None → part_at (λ q. q.span) (shared_cuts v w) t ≡ None
+  pub none_left : (v : List (CutOf X)) (w : List (CutOf Y)) (t : Ratio) → entry_at v t ≡ None → piece_at (λ q. q.span) (shared_cuts v w) t ≡ None
   none_left v w t e = none_left_by v w t (all_none v t e)
 
 module _ {X Y : Type 0} where
-  pub none_right : (v : List (CutOf X)) (w : List (CutOf Y)) (t : Ratio) → entry_at w t ≡ None → part_at (λ q. q.span) (shared_cuts v w) t ≡ None
+  pub none_right : (v : List (CutOf X)) (w : List (CutOf Y)) (t : Ratio) → entry_at w t ≡ None → piece_at (λ q. q.span) (shared_cuts v w) t ≡ None
   none_right v w t e = none_right_by v w t (all_none w t e)

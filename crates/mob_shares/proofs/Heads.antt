@@ -7,7 +7,7 @@ use Rattle.mob_span.specs.Span.{SpanOf, has, has_instant}
 use Rattle.mob_span.specs.Meet.{meet_of}
 use Rattle.mob_span.specs.Meets.{PieceOf}
 use Rattle.mob_span.specs.Neighbours.{is_clear, is_inside}
-use Rattle.mob_span.specs.Parts.{PartsAreClear, part_at}
+use Rattle.mob_span.specs.Pieces.{PiecesAreClear, piece_at}
 use Rattle.mob_span.specs.Remainders.{precedes, front_of, back_of}
 use Rattle.mob_span.proofs.Insides.{inside_self, meet_left, meet_right}
 use Rattle.mob_span.proofs.Leaving.{front_has}
@@ -59,13 +59,13 @@ module _ {X Y : Type 0} where
       by false false i j z = same_heads (c ∷ cs) (d ∷ ds) p (record { span = meet_of c.span d.span; left = Some c.of; right = Some d.of }) z (record { first = c; others = cs; list = refl; same = refl; inside = meet_left c.span d.span }, record { first = d; others = ds; list = refl; same = refl; inside = meet_right c.span d.span })
 
   -- what follows a piece that has not the instant
-  pub both_not : (p : ShareOf X Y) (qs : List (PieceOf X Y)) (t : Ratio) → has p.span t ≡ false → part_at (λ q. q.span) (both_of p ++ qs) t ≡ part_at (λ q. q.span) qs t
+  pub both_not : (p : ShareOf X Y) (qs : List (PieceOf X Y)) (t : Ratio) → has p.span t ≡ false → piece_at (λ q. q.span) (both_of p ++ qs) t ≡ piece_at (λ q. q.span) qs t
   both_not p qs t h = by p.left p.right
     where
-      by : (x : Option X) (y : Option Y) → part_at (λ q. q.span) (both_of (record { span = p.span; left = x; right = y }) ++ qs) t ≡ part_at (λ q. q.span) qs t
+      by : (x : Option X) (y : Option Y) → piece_at (λ q. q.span) (both_of (record { span = p.span; left = x; right = y }) ++ qs) t ≡ piece_at (λ q. q.span) qs t
       by None y = refl
       by (Some x) None = refl
-      by (Some x) (Some y) = ap (λ b. cond b (Some (record { span = p.span; left = x; right = y })) (part_at (λ q. q.span) qs t)) h
+      by (Some x) (Some y) = ap (λ b. cond b (Some (record { span = p.span; left = x; right = y })) (piece_at (λ q. q.span) qs t)) h
 
 module _ {X : Type 0} (P : X → Ratio → Type 0) where
   -- something holds of each at both ends of its cut
@@ -84,5 +84,5 @@ module _ {X : Type 0} (P : X → Ratio → Type 0) where
       by false m c = m.1
 
 module _ {X : Type 0} (span : X → SpanOf) (P : X → Type 0) where
-  pub of_behind : (v : List (CutOf X)) (p : SpanOf) (x : X) → IsHead v p x → PartsAreClear (λ c. c.span) v → AllByRecursion (IsOf span P) v → AllByRecursion (IsOf span P) (left_after p v)
-  of_behind v p x h k a = subst (λ z. AllByRecursion (IsOf span P) (left_after p z)) (sym h.list) (side_of span P h.first h.others p (subst (PartsAreClear (λ c. c.span)) h.list k).0 (subst (AllByRecursion (IsOf span P)) h.list a))
+  pub of_behind : (v : List (CutOf X)) (p : SpanOf) (x : X) → IsHead v p x → PiecesAreClear (λ c. c.span) v → AllByRecursion (IsOf span P) v → AllByRecursion (IsOf span P) (left_after p v)
+  of_behind v p x h k a = subst (λ z. AllByRecursion (IsOf span P) (left_after p z)) (sym h.list) (side_of span P h.first h.others p (subst (PiecesAreClear (λ c. c.span)) h.list k).0 (subst (AllByRecursion (IsOf span P)) h.list a))

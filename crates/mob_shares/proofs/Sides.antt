@@ -6,7 +6,7 @@ use Rattle.mob_ratio.specs.Ratio.{Ratio}
 use Rattle.mob_span.specs.Span.{SpanOf, has, has_instant}
 use Rattle.mob_span.specs.Chained.{OfHead}
 use Rattle.mob_span.specs.Neighbours.{is_clear, is_inside}
-use Rattle.mob_span.specs.Parts.{PartsAreClear, part_at}
+use Rattle.mob_span.specs.Pieces.{PiecesAreClear, piece_at}
 use Rattle.mob_span.specs.Remainders.{precedes, follows, back_of}
 use Rattle.mob_span.proofs.SpanLemmas.{no_instant}
 use Rattle.mob_span.proofs.Insides.{clear_has, inside_clear}
@@ -51,15 +51,15 @@ module _ {X : Type 0} where
   head_left c (d ∷ cs) p h = h
 
   -- what is left is in order
-  pub side_clear : (c : CutOf X) (cs : List (CutOf X)) (p : SpanOf) → PartsAreClear cut_span (c ∷ cs) → PartsAreClear cut_span (left_after p (c ∷ cs))
+  pub side_clear : (c : CutOf X) (cs : List (CutOf X)) (p : SpanOf) → PiecesAreClear cut_span (c ∷ cs) → PiecesAreClear cut_span (left_after p (c ∷ cs))
   side_clear c cs p h = by (has_instant (back_of c.span p)) refl
     where
-      by : (b : Bool) → has_instant (back_of c.span p) ≡ b → PartsAreClear cut_span (cond b (record { span = back_of c.span p; of = c.of } ∷ cs) cs)
+      by : (b : Bool) → has_instant (back_of c.span p) ≡ b → PiecesAreClear cut_span (cond b (record { span = back_of c.span p; of = c.of } ∷ cs) cs)
       by true e = (e, head_left c cs p h.1, h.2)
       by false e = h.2
 
   -- and comes after the piece
-  pub side_behind : (c : CutOf X) (cs : List (CutOf X)) (p : SpanOf) → PartsAreClear cut_span (c ∷ cs) → is_inside c.span p ≡ true → AreAllClear cut_span p (left_after p (c ∷ cs))
+  pub side_behind : (c : CutOf X) (cs : List (CutOf X)) (p : SpanOf) → PiecesAreClear cut_span (c ∷ cs) → is_inside c.span p ≡ true → AreAllClear cut_span p (left_after p (c ∷ cs))
   side_behind c cs p h k = by (has_instant (back_of c.span p)) (later cut_span c.span p cs (λ s l. inside_clear c.span s p k l) (all_after cut_span c cs h))
     where
       by : (b : Bool) → AreAllClear cut_span p cs → AreAllClear cut_span p (cond b (record { span = back_of c.span p; of = c.of } ∷ cs) cs)
@@ -109,7 +109,7 @@ module _ {X : Type 0} where
     wholes_of (x ∷ v) h = (record { holds = h.0.0; inside = h.0.1; upper = refl }, wholes_of v h.1)
 
   module _ (span : X → SpanOf) where
-    pub entry_whole : (v : List X) (t : Ratio) → entry_at (wholes span v) t ≡ part_at span v t
+    pub entry_whole : (v : List X) (t : Ratio) → entry_at (wholes span v) t ≡ piece_at span v t
     entry_whole [] t = refl
     entry_whole (x ∷ v) t = ap (λ o. cond (has (span x) t) (Some x) o) (entry_whole v t)
 
@@ -117,6 +117,6 @@ module _ {X : Type 0} where
     whole_head x [] h = tt
     whole_head x (y ∷ v) h = h
 
-    pub whole_clear : (v : List X) → PartsAreClear span v → PartsAreClear cut_span (wholes span v)
+    pub whole_clear : (v : List X) → PiecesAreClear span v → PiecesAreClear cut_span (wholes span v)
     whole_clear [] h = tt
     whole_clear (x ∷ v) h = (h.0, whole_head x v h.1, whole_clear v h.2)

@@ -6,7 +6,7 @@ use Rattle.mob_ratio.specs.Order.{before, up_to}
 use Rattle.mob_span.specs.Span.{SpanOf, has, has_instant}
 use Rattle.mob_span.specs.Meet.{meet_of, ends_before}
 use Rattle.mob_span.specs.Neighbours.{is_clear}
-use Rattle.mob_span.specs.Parts.{PartsAreClear}
+use Rattle.mob_span.specs.Pieces.{PiecesAreClear}
 use Rattle.mob_span.specs.Remainders.{precedes, follows, front_of, back_of}
 use Rattle.mob_span.proofs.SpanLemmas.{none_has, meet_has}
 use Rattle.mob_span.proofs.Insides.{clear_trans, clear_inside, inside_clear, meet_left, meet_right}
@@ -24,7 +24,7 @@ both_have true false e = absurd (true≢false (sym e))
 both_have false b e = absurd (true≢false (sym e))
 
 -- what of the first comes before the first of the other comes before all of the other
-front_all : (s : SpanOf) {Z : Type 0} (d : CutOf Z) (ds : List (CutOf Z)) → PartsAreClear cut_span (d ∷ ds) → AreAllClear cut_span (front_of s d.span) (d ∷ ds)
+front_all : (s : SpanOf) {Z : Type 0} (d : CutOf Z) (ds : List (CutOf Z)) → PiecesAreClear cut_span (d ∷ ds) → AreAllClear cut_span (front_of s d.span) (d ∷ ds)
 front_all s d ds k = (front_clear s d.span, later cut_span d.span (front_of s d.span) ds (λ q l. clear_trans (front_of s d.span) d.span q k.0 (front_clear s d.span) l) (all_after cut_span d ds k))
 
 -- A piece is taken off the front of two lists.
@@ -36,12 +36,12 @@ pub record IsStep {X Y : Type 0} (v : List (CutOf X)) (w : List (CutOf Y)) (p : 
   -- what they share is what both have in it, and what is left of them shares
   pub shared : shared_cuts v w ≡ both_of p ++ shared_cuts v' w'
   -- what is left is in order and comes after it
-  pub clear : PartsAreClear cut_span v' × PartsAreClear cut_span w'
+  pub clear : PiecesAreClear cut_span v' × PiecesAreClear cut_span w'
   pub next : AreAllClear cut_span p.span v' × AreAllClear cut_span p.span w'
   pub after : (q : SpanOf) → AreAllClear cut_span q v → AreAllClear cut_span q w → (is_clear q p.span ≡ true) × AreAllClear cut_span q v' × AreAllClear cut_span q w'
 
 module _ {X Y : Type 0} where
-  left_step : (c : CutOf X) (cs : List (CutOf X)) (w : List (CutOf Y)) (p : SpanOf) → PartsAreClear cut_span (c ∷ cs) → PartsAreClear cut_span w → has_instant p ≡ true → ((t : Ratio) → has p t ≡ true → has c.span t ≡ true) → AreAllClear cut_span p w → ((t : Ratio) → has c.span t ≡ true → precedes t p ≡ false)
+  left_step : (c : CutOf X) (cs : List (CutOf X)) (w : List (CutOf Y)) (p : SpanOf) → PiecesAreClear cut_span (c ∷ cs) → PiecesAreClear cut_span w → has_instant p ≡ true → ((t : Ratio) → has p t ≡ true → has c.span t ≡ true) → AreAllClear cut_span p w → ((t : Ratio) → has c.span t ≡ true → precedes t p ≡ false)
       → IsStep (c ∷ cs) w (record { span = p; left = Some c.of; right = None }) (left_after p (c ∷ cs)) w
   left_step c cs w p h k i f l b =
       let j = inside_by c.span p i f in
@@ -55,7 +55,7 @@ module _ {X Y : Type 0} where
         after = λ q m n. (clear_inside q c.span p m.0 j, side_after q c cs p m, n);
       }
 
-  right_step : (v : List (CutOf X)) (d : CutOf Y) (ds : List (CutOf Y)) (p : SpanOf) → PartsAreClear cut_span v → PartsAreClear cut_span (d ∷ ds) → has_instant p ≡ true → ((t : Ratio) → has p t ≡ true → has d.span t ≡ true) → AreAllClear cut_span p v → ((t : Ratio) → has d.span t ≡ true → precedes t p ≡ false)
+  right_step : (v : List (CutOf X)) (d : CutOf Y) (ds : List (CutOf Y)) (p : SpanOf) → PiecesAreClear cut_span v → PiecesAreClear cut_span (d ∷ ds) → has_instant p ≡ true → ((t : Ratio) → has p t ≡ true → has d.span t ≡ true) → AreAllClear cut_span p v → ((t : Ratio) → has d.span t ≡ true → precedes t p ≡ false)
       → IsStep v (d ∷ ds) (record { span = p; left = None; right = Some d.of }) v (left_after p (d ∷ ds))
   right_step v d ds p h k i f l b =
       let j = inside_by d.span p i f in
@@ -69,7 +69,7 @@ module _ {X Y : Type 0} where
         after = λ q m n. (clear_inside q d.span p n.0 j, m, side_after q d ds p n);
       }
 
-  both_step : (c : CutOf X) (cs : List (CutOf X)) (d : CutOf Y) (ds : List (CutOf Y)) → PartsAreClear cut_span (c ∷ cs) → PartsAreClear cut_span (d ∷ ds) → has_instant (front_of c.span d.span) ≡ false → has_instant (front_of d.span c.span) ≡ false
+  both_step : (c : CutOf X) (cs : List (CutOf X)) (d : CutOf Y) (ds : List (CutOf Y)) → PiecesAreClear cut_span (c ∷ cs) → PiecesAreClear cut_span (d ∷ ds) → has_instant (front_of c.span d.span) ≡ false → has_instant (front_of d.span c.span) ≡ false
       → IsStep (c ∷ cs) (d ∷ ds) (record { span = meet_of c.span d.span; left = Some c.of; right = Some d.of }) (left_after (meet_of c.span d.span) (c ∷ cs)) (left_after (meet_of c.span d.span) (d ∷ ds))
   both_step c cs d ds h k m n =
       let p = meet_of c.span d.span in
@@ -95,7 +95,7 @@ module _ {X Y : Type 0} where
   no_share p e = cc
 
   -- The piece that comes next is taken off the front.
-  pub next_step : (v : List (CutOf X)) (w : List (CutOf Y)) → PartsAreClear cut_span v → PartsAreClear cut_span w → (p : ShareOf X Y) → next_share v w ≡ Some p → IsStep v w p (behind p.span p.left v) (behind p.span p.right w)
+  pub next_step : (v : List (CutOf X)) (w : List (CutOf Y)) → PiecesAreClear cut_span v → PiecesAreClear cut_span w → (p : ShareOf X Y) → next_share v w ≡ Some p → IsStep v w p (behind p.span p.left v) (behind p.span p.right w)
   next_step [] [] h k p e = no_share p e
   next_step (c ∷ cs) [] h k p e = same_step (c ∷ cs) [] p (record { span = c.span; left = Some c.of; right = None }) e (left_step c cs [] c.span h k h.0 (λ t z. z) tt (not_precedes c.span))
   next_step [] (d ∷ ds) h k p e = same_step [] (d ∷ ds) p (record { span = d.span; left = None; right = Some d.of }) e (right_step [] d ds d.span h k k.0 (λ t z. z) tt (not_precedes d.span))

@@ -4,7 +4,7 @@ use Rattle.mob_ratio.specs.Ratio.{Ratio}
 use Rattle.mob_span.specs.Span.{SpanOf, has_instant}
 use Rattle.mob_span.specs.Meet.{meet_of}
 use Rattle.mob_span.specs.Meets.{PieceOf}
-use Rattle.mob_span.specs.Parts.{PartsAreClear, part_at}
+use Rattle.mob_span.specs.Pieces.{PiecesAreClear, piece_at}
 use Rattle.mob_span.specs.Remainders.{front_of}
 use Rattle.mob_shares.specs.Cuts.{CutOf, left_after}
 
@@ -15,8 +15,8 @@ ShareOf X Y = PieceOf (Option X) (Option Y)
 -- The pieces are ordered and disjoint, and at each instant the piece there has what the two lists
 -- have there: there is none where neither has something.
 pub record AreShares {X Y : Type 0} (span : X → SpanOf) (span' : Y → SpanOf) (v : List X) (w : List Y) (shares : List (ShareOf X Y)) : Type 0 where
-  pub clear : PartsAreClear (λ p. p.span) shares
-  pub at_each : (t : Ratio) → MatchOption (part_at (λ p. p.span) shares t) ((part_at span v t ≡ None) × (part_at span' w t ≡ None)) (λ p. (p.left ≡ part_at span v t) × (p.right ≡ part_at span' w t))
+  pub clear : PiecesAreClear (λ p. p.span) shares
+  pub at_each : (t : Ratio) → MatchOption (piece_at (λ p. p.span) shares t) ((piece_at span v t ≡ None) × (piece_at span' w t ≡ None)) (λ p. (p.left ≡ piece_at span v t) × (p.right ≡ piece_at span' w t))
 
 -- the piece with which two lists begin: what of the first of one comes before that of the other, or
 -- what both begin with

@@ -5,7 +5,7 @@ use Rattle.mob_list.proofs.Each.{each_map}
 use Rattle.mob_span.specs.Chained.{OfHead}
 use Rattle.mob_span.specs.Meets.{PieceOf}
 use Rattle.mob_span.specs.Neighbours.{is_clear}
-use Rattle.mob_span.specs.Parts.{PartsAreClear}
+use Rattle.mob_span.specs.Pieces.{PiecesAreClear}
 use Rattle.mob_span.specs.Span.{SpanOf}
 use Rattle.mob_slice.specs.Sides.{HoldsPiece}
 use Rattle.mob_slice.specs.declared.slice.Slice.{Slice}
@@ -19,7 +19,7 @@ module _ {P Q : Type 0} (span : P → SpanOf) (span' : Q → SpanOf) (f : P → 
   map_head p [] h = tt
   map_head p (q ∷ ps) h = rw (same p, same q) h
 
-  pub map_clear : (ps : List P) → PartsAreClear span ps → PartsAreClear span' (map f ps)
+  pub map_clear : (ps : List P) → PiecesAreClear span ps → PiecesAreClear span' (map f ps)
   map_clear [] h = tt
   map_clear (p ∷ ps) h = (rw (same p) h.0, map_head p ps h.1, map_clear ps h.2)
 

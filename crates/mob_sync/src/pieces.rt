@@ -1,7 +1,7 @@
 ghost use Rattle.std.specs.Prelude.{◌≡◌};
 ghost use Rattle.std.specs.Iterator.{YieldsFirstBy, item_count};
 ghost use Rattle.std.specs.List.{AllByRecursion};
-ghost use Rattle.mob_span.specs.Parts.{PartsAreClear};
+ghost use Rattle.mob_span.specs.Pieces.{PiecesAreClear};
 ghost use Rattle.mob_slice.specs.Sides.{operand_of, pieces, piece_of, HoldsPiece};
 ghost use Rattle.mob_sync.specs.Pieces.{CanGo, pieces_left};
 
@@ -41,7 +41,7 @@ impl<'a, A: Course, B: Course> Pieces<'a, A, B> {
     pub fn new(a: Operand<'a, A>, b: Operand<'a, B>) -> Self
         ensures can { CanGo result }
         ensures all { pieces_left result ≡ pieces (operand_of a.entry) (operand_of b.entry) }
-        ensures clear { PartsAreClear (λ p. p.span) (pieces_left result) }
+        ensures clear { PiecesAreClear (λ p. p.span) (pieces_left result) }
         ensures hold { AllByRecursion (HoldsPiece A.start_of A.end_of B.start_of B.end_of) (pieces_left result) }
     {
         match a {

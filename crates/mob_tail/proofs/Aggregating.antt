@@ -10,7 +10,6 @@ use Rattle.mob_arith.specs.Operations.{sum_of, both_hold, one_holds}
 use Rattle.mob_slice.specs.CourseOf.{CourseOf, steady_course, line_course}
 use Rattle.mob_slice.specs.Lines.{line_value_of}
 use Rattle.mob_slice.specs.Operands.{steady_value, steady_limit}
-use Rattle.mob_slice.specs.Sameness.{same_bool}
 use Rattle.mob_slice.specs.declared.line.Line.{Line}
 use Rattle.mob_slice.specs.Entries.{Entry, IsFirst, OnFormula}
 use Rattle.mob_slice.specs.Slices.{value_at}
@@ -28,6 +27,7 @@ use Rattle.mob_meaning.specs.declared.choices.Calculation.TheVariants.{Sum as Ad
 use Rattle.mob_meaning.specs.Arithmetic.{arithmetic_entries, parts_on}
 use Rattle.mob_meaning.specs.Calculations.{parts_by}
 use Rattle.mob_frac.specs.Formula.{AllFit}
+use Rattle.mob_span.specs.Flags.{same_bool}
 use Rattle.mob_value.specs.declared.value.Value.TheVariants as value
 use Rattle.mob_ordinary.specs.Moving.{AreNormalBy, IsFunction, StepSlices, or_nothing}
 use Rattle.mob_ordinary.specs.Ordinary.{is_null}

@@ -5,9 +5,9 @@ use Rattle.std.specs.List.{AllZip}
 use Rattle.mob_ratio.specs.Ratio.{Ratio}
 use Rattle.mob_ratio.specs.Order.{same}
 use Rattle.mob_ratio.proofs.Order.{same_exact}
+use Rattle.mob_span.specs.Flags.{same_bool, same_bool_exact}
 use Rattle.mob_slice.specs.CourseOf.{CourseOf, steady_course, line_course}
 use Rattle.mob_slice.specs.Entries.{IsFirst}
-use Rattle.mob_slice.specs.Sameness.{same_bool, same_bool_exact}
 use Rattle.mob_slice.specs.declared.slice.Slice.{Slice}
 use Rattle.mob_slice.specs.declared.formula.Formula.{Formula}
 use Rattle.mob_slice.proofs.Firsts.{one_first}

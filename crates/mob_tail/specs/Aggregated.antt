@@ -3,12 +3,12 @@
 use Rattle.std.specs.Prelude.{◌≡◌, not, Bool, true, false, ℕ, pos, List, [], ◌∷◌, ◌++◌, filter, length, Option, Some, None, option_map, Result, Ok, Err}
 use Rattle.mob_ratio.specs.Ratio.{Ratio, whole}
 use Rattle.mob_ratio.specs.Order.{same}
+use Rattle.mob_span.specs.Flags.{same_bool}
 use Rattle.mob_slice.specs.CourseOf.{CourseOf, steady_course, line_course}
 use Rattle.mob_slice.specs.Entries.{Entry, IsFirst}
 use Rattle.mob_slice.specs.Lines.{line_value_of}
 use Rattle.mob_slice.specs.Operands.{steady_value}
 use Rattle.mob_slice.specs.Slices.{value_at}
-use Rattle.mob_slice.specs.Sameness.{same_bool}
 use Rattle.mob_slice.specs.declared.slice.Slice.{Slice}
 use Rattle.mob_slice.specs.declared.formula.Formula.{Formula}
 use Rattle.mob_slice.specs.declared.formula.OpFault.{OpFault}

@@ -18,11 +18,11 @@ loop-arg-preserved t c =
     let x = c.arg-item.result in (
       ys ++ nodes_at at (typed_of x),
       c.both-found.ensures.both ys (nodes_at at (typed_of x)) found c.nodes_of.ensures.nodes,
-      next_nodes at (nodes_at at (typed_of c.args.e.now)) ys c.deref-arg-items.result.now c.loop-arg.arg-index x (omega arith) c.arg-item.is is,
+      next_nodes typed_of at (nodes_at at (typed_of c.args.e.now)) ys c.deref-arg-items.result.now c.loop-arg.arg-index x (omega arith) c.arg-item.is is,
     )
 
 pub returns : goal.returns
 returns t c =
     let at = c.args.at in
     let (ys, found, is) = c.loop-arg.invariant in
-    record { nodes = subst (AreNodes c.loop-arg.found) (sym (last_nodes at (nodes_at at (typed_of c.args.e.now)) ys c.deref-arg-items.result.now c.loop-arg.arg-index (omega arith) is)) found }
+    record { nodes = subst (AreNodes c.loop-arg.found) (sym (last_nodes typed_of at (nodes_at at (typed_of c.args.e.now)) ys c.deref-arg-items.result.now c.loop-arg.arg-index (omega arith) is)) found }

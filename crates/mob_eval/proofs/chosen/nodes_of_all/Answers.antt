@@ -1,25 +1,27 @@
-use Rattle.std.proofs.Common.{◌++◌, ◌∷◌, refl, sym, subst, arith, map, option_map}
-use Rattle.mob_typed.specs.Trees.{typed_of}
-use Rattle.mob_eval.specs.Remembered.{AreNodes, condition_nodes, nodes_of_conditions}
-use Rattle.mob_eval.proofs.Choosing.{next_condition, last_condition}
+use Rattle.std.proofs.Common.{◌++◌, [], refl, sym, subst, arith, map}
+use Rattle.mob_typed.specs.Trees.{typed_of, typed_trees}
+use Rattle.mob_eval.specs.Remembered.{AreNodes, nodes_at, all_nodes_at, root_seen}
+use Rattle.mob_eval.proofs.Choosing.{next_nodes, last_nodes}
 use Rattle.mob_eval.proofs.chosen.nodes_of_all.Goals as goal
 
-pub loop-join-init : goal.loop-join-init
-loop-join-init c = (condition_nodes c.args.at (option_map typed_of c.args.filter.now), c.nodes_of_one-found.ensures.nodes, refl)
+pub loop-root-init : goal.loop-root-init
+loop-root-init c = ([], refl, refl)
 
-pub loop-join-preserved : goal.loop-join-preserved
-loop-join-preserved c =
+pub loop-root-preserved : goal.loop-root-preserved
+loop-root-preserved c =
     let at = c.args.at in
-    let (ys, found, is) = c.loop-join.invariant in
-    let o = c.join-item.result in
-    let more = condition_nodes at (option_map typed_of o) in (
+    let roots = c.args.roots.now in
+    let (ys, found, is) = c.loop-root.invariant in
+    let e = c.root-item.result in
+    let more = nodes_at at (typed_of e.now) in (
       ys ++ more,
-      c.both-found.ensures.both ys more found c.nodes_of_one.ensures.nodes,
-      next_condition at (nodes_of_conditions at (map (option_map typed_of) (c.args.filter.now ∷ c.args.joins.now))) ys c.args.joins.now c.loop-join.join-index o (omega arith) c.join-item.is is,
+      c.both-found.ensures.both ys more found c.nodes_of.ensures.nodes,
+      next_nodes root_seen at (all_nodes_at at (typed_trees (map root_seen roots))) ys roots c.loop-root.root-index e (omega arith) c.root-item.is is,
     )
 
 pub returns : goal.returns
 returns c =
     let at = c.args.at in
-    let (ys, found, is) = c.loop-join.invariant in
-    record { nodes = subst (AreNodes c.loop-join.found) (sym (last_condition at (nodes_of_conditions at (map (option_map typed_of) (c.args.filter.now ∷ c.args.joins.now))) ys c.args.joins.now c.loop-join.join-index (omega arith) is)) found }
+    let roots = c.args.roots.now in
+    let (ys, found, is) = c.loop-root.invariant in
+    record { nodes = subst (AreNodes c.loop-root.found) (sym (last_nodes root_seen at (all_nodes_at at (typed_trees (map root_seen roots))) ys roots c.loop-root.root-index (omega arith) is)) found }
