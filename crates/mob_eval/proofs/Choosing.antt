@@ -1,8 +1,6 @@
 -- The nodes of expressions at a place of the script, and the places that an expression names.
-use Rattle.std.proofs.Common.{◌≡◌, ◌<◌, ◌≤◌, ◌+◌, ◌==◌, ◌&&◌, ◌||◌, ◌++◌, ◌∷◌, [], ℕ, Bool, true, false, List, Option, Some, None, length, drop, map, get_or, refl, sym, ap, subst, ◌∙◌, arith, append_assoc, append-nil, true≢false}
-use Rattle.std.specs.List.{AllByRecursion}
+use Rattle.std.proofs.Common.{◌≡◌, ◌<◌, ◌≤◌, ◌+◌, ◌==◌, ◌&&◌, ◌||◌, ◌++◌, ℕ, Bool, true, false, List, Option, Some, None, length, drop, map, get_or, refl, sym, ap, subst, ◌∙◌, arith, append_assoc, append-nil, true≢false}
 use Rattle.std.proofs.lemmas.List.{drop_all}
-use Rattle.mob_list.proofs.Each.{each_both}
 use Rattle.mob_operators.specs.declared.operator.Op.{Op}
 use Rattle.mob_operators.specs.declared.operator.Op.TheVariants as op
 use Rattle.mob_typed.specs.declared.typed.TExpr.{TExpr}
@@ -86,16 +84,3 @@ last_nodes see at whole ys xs i past h = h ∙ ap (λ zs. ys ++ all_nodes_at at 
 
 pub of_place : (c : Recollection) (roots : List TypedTree) (at : ℕ) (place : Option ℕ) (e : TExpr) → c.roots ≡ roots → AreCopies (typed_of e) (all_nodes_at at (typed_trees roots)) → names_only place (typed_of e) ≡ true → IsOfPlace c at place
 of_place c roots at place e same is only = (typed_of e, subst (λ rs. AreCopies (typed_of e) (all_nodes_at at (typed_trees rs))) (sym same) is, names_alone place (typed_of e) only)
-
--- nodes that are the same
-each_same : (e f : TypedTree) (xs : List TypedTree) → e ≡ f → AllByRecursion (λ y. y ≡ f) xs → AllByRecursion (λ y. y ≡ e) xs
-each_same e f xs same = subst (λ z. AllByRecursion (λ y. y ≡ z) xs) (sym same)
-
-pub copies_both : (e f : TypedTree) (xs ys : List TypedTree) → e ≡ f → AreCopies e xs → AreCopies f ys → AreCopies e (xs ++ ys)
-copies_both e f [] ys same h k = elim h [ ]
-copies_both e f (x ∷ xs) [] same h k = elim k [ ]
-copies_both e f (x ∷ xs) (y ∷ ys) same h k = (h.0, each_both (λ z. z ≡ e) xs (y ∷ ys) h.1 (k.0 ∙ sym same, each_same e f ys same k.1))
-
--- two expressions with the same operator, type and place, and the same operands
-pub same_node : (e f : TExpr) → (out-TExpr e).op ≡ (out-TExpr f).op → (out-TExpr e).ty ≡ (out-TExpr f).ty → (out-TExpr e).place ≡ (out-TExpr f).place → map typed_of (out-TExpr e).args.items ≡ map typed_of (out-TExpr f).args.items → typed_of e ≡ typed_of f
-same_node e f o ty p args = typed_is e ∙ (λ i. typed (o i) (ty i) (p i) (typed_trees (args i))) ∙ sym (typed_is f)

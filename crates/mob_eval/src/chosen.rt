@@ -19,9 +19,9 @@ const MOST: usize = 8;
 pub enum NodesAt<'a> {
     /// There is none.
     Nobody,
-    /// There is one, or there are copies of one.
+    /// There is just one.
     Only(&'a TExpr),
-    /// There are several that differ.
+    /// There are several.
     Several,
 }
 
@@ -149,7 +149,7 @@ fn is_box(what: What) -> bool {
     }
 }
 
-// Whether two are of copies of one operator.
+// Whether two are of one place of the script.
 fn is_again(one: &Chosen, other: &Chosen) -> bool {
     if one.at != other.at {
         return false;
@@ -157,7 +157,7 @@ fn is_again(one: &Chosen, other: &Chosen) -> bool {
     is_box(one.what) == is_box(other.what)
 }
 
-// Adds an operator, unless a copy of it is there.
+// Adds an operator, unless one of its place of the script is there.
 fn add(one: Chosen, chosen: &mut Vec<Chosen>) -> Result<(), AllocError> {
     for other in chosen.as_slice() {
         if is_again(&one, other) {
@@ -239,7 +239,7 @@ fn rows_at(store: &Store, from: &[u32], place: Option<u32>) -> usize {
     }
 }
 
-// Remembers an operator that is the only one at its place of the script.
+// Remembers an operator that stands alone at its place of the script.
 fn remember_one<K: Remembering>(
     alloc: Global,
     roots: &[&TExpr],
@@ -265,7 +265,7 @@ fn remember_one<K: Remembering>(
 
 /// A memory of the operators of these expressions that name at most one table of FROM, and of the
 /// boxes of such operands of `&&`: of about eight, and of none that shares its place in the script
-/// with a different one. If memory is refused there are fewer.
+/// with another. If memory is refused there are fewer.
 pub fn memory_of<K: Remembering>(
     alloc: Global,
     store: &Store,
