@@ -44,4 +44,3 @@ turning_parts p q e = turn_parts e.0 e.1 p ++ turn_parts e.0 e.1 q
 -- all functions of an edge
 abbrev pub with_turn : Point → Point → Beside → EdgeEnds
 with_turn p q b = record { turn = turning p q b.edge; x_a = b.to_a.x; x_b = b.to_b.x; y_a = b.to_a.y; y_b = b.to_b.y }
-
