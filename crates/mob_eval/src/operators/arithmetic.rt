@@ -34,7 +34,7 @@ fn calculated(by: Calculation, left: &Frac, right: &Frac) -> Result<Frac, Overfl
     }
 }
 
-// On plain numbers.
+// `+`, `-` or `*` on plain numbers.
 fn plain(by: Calculation, left: &Value, right: &Value) -> Result<Value, OpFault>
     ensures outcome { IsOutcome (λ v. v ≡ on_numbers (result_by by) left.now right.now) (IsFirst (plain_entries (parts_on (parts_by by) left.now right.now))) result }
 {
@@ -49,7 +49,7 @@ fn plain(by: Calculation, left: &Value, right: &Value) -> Result<Value, OpFault>
     }
 }
 
-// At each instant, where one of the two is temporal.
+// The operation on two operands of which one has slices.
 fn lifted(
     alloc: Global,
     by: Calculation,
@@ -67,7 +67,7 @@ fn lifted(
     }
 }
 
-// On two values of which one is a tint.
+// `+`, `-` or `*` at each instant, on two values of which one is a tint.
 fn moving(alloc: Global, by: Calculation, left: &Value, right: &Value) -> Result<Value, OpFault>
     ensures outcome { IsOutcome (OnPair (number_pair left.now right.now) (IsMovingInt (result_by by))) (IsFirst (entries_on (entries_at_ends steady_value steady_parts steady_value steady_parts (parts_by by)) (number_pair left.now right.now))) result }
 {

@@ -33,7 +33,7 @@ where
     }
 }
 
-// The same of a temporal value of any type, as a value of SQL.
+// What is left of a temporal value of any type at the instants of a set, or at the others.
 fn restricted(alloc: Global, want: bool, value: &Value, when: &SpanSet) -> Result<Value, OpFault>
     ensures outcome { IsOutcome (IsRestriction want when.now value.now) (IsFirst (cuts_of when.now value.now)) result }
 {
@@ -62,7 +62,7 @@ fn restricted(alloc: Global, want: bool, value: &Value, when: &SpanSet) -> Resul
     }
 }
 
-// With one span that is asked for.
+// What is left of it at the instants of one span, or at the others.
 fn restricted_to_span(
     alloc: Global,
     want: bool,
@@ -77,8 +77,8 @@ fn restricted_to_span(
     }
 }
 
-/// atTime, where `want` is true, and minusTime, where it is false: the value at the instants for which the second operand asks, or at the
-/// others.
+/// atTime, where `want` is true, and minusTime, where it is false: the value at the instants for
+/// which the second operand asks, or at the others.
 pub fn restriction(
     alloc: Global,
     want: bool,

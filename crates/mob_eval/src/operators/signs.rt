@@ -54,7 +54,7 @@ where
     }
 }
 
-// The same of operands that go by steps, which have no formula.
+// What the sign gives of operands that go by steps, which have no formula.
 fn steps_asked<B: Ranked + Drop>(
     alloc: Global,
     scope: Scope,
@@ -71,6 +71,7 @@ fn steps_asked<B: Ranked + Drop>(
     }
 }
 
+// What the sign gives of two values of which one is a tfrac, and none a tint.
 fn fracs_asked(
     alloc: Global,
     scope: Scope,
@@ -83,7 +84,7 @@ fn fracs_asked(
     asked(alloc, scope, rel, frac_pair(left, right))
 }
 
-// Of numbers that change evenly, a tint among them.
+// What the sign gives of numbers that change evenly, a tint among them.
 fn lines_asked(
     alloc: Global,
     scope: Scope,
@@ -103,7 +104,7 @@ fn lines_asked(
     }
 }
 
-// Of what has an order.
+// What the sign gives of values that have an order.
 fn order(
     alloc: Global,
     scope: Scope,
@@ -122,7 +123,7 @@ fn order(
     }
 }
 
-// Of all that can be the same or not: truth values and points too, which have no order here.
+// What the sign gives of values that are equal or not: truth values and points too, which have no order here.
 fn sameness(
     alloc: Global,
     scope: Scope,
