@@ -1,5 +1,6 @@
 pub mod FirstNumber
-pub mod Flags
+pub mod FoundValue
+pub mod HeldValues
 pub mod Keyed
 pub mod Order
 pub mod RowValues

@@ -1,48 +1,58 @@
 // Of equal rows the first.
-ghost use Rattle.std.specs.Prelude.{◌≡◌, [], IfOk};
+ghost use Rattle.std.specs.Prelude.{◌≡◌, ◌<◌, [], IfOk, drop, get_or, length, map, string_bytes};
+ghost use Rattle.mob_literal.specs.Fields.{field_text};
 ghost use Rattle.mob_arrange.specs.Rows.{AreFirst};
-ghost use Rattle.mob_arrange.specs.Flags.{flagged};
+ghost use Rattle.mob_arrange.specs.TextsSeen.{strings_of};
 
+use crate::fields::Fields;
+use crate::rows::Row;
 use indexmap::IndexSet;
-use mob_list::items::Items;
-use mob_list::text::Text;
-use mob_records::bytes_of;
+use mob_records::FieldPrinter;
+use mob_scalar::Epoch;
 use std::alloc::{AllocError, Global};
 
-// For each row whether it is the first of those that are equal to it.
-fn flags_of(alloc: Global, rows: &[Items<Text>]) -> Result<Vec<bool>, AllocError>
-    ensures first { IfOk result (λ flags. AreFirst [] rows.now (flagged rows.now flags.items)) }
-{
-    let mut seen = IndexSet::new(alloc);
-    let mut flags = Vec::with_capacity(alloc, rows.len())?;
-    for row in rows {
-        let is_new = seen.insert(bytes_of(alloc, row.as_slice())?)?;
-        flags.push(is_new)?;
-    }
-    Ok(flags)
-}
-
-// The rows whose mark is true.
-fn flagged_rows(
+// The printed field of a number.
+fn field_of(
     alloc: Global,
-    rows: Vec<Items<Text>>,
-    flags: &[bool],
-) -> Result<Vec<Items<Text>>, AllocError>
-    ensures flagged { IfOk result (λ kept. kept.items ≡ flagged rows.items flags.now) }
+    printer: &Fields<'_>,
+    row: &Row<'_>,
+    number: usize,
+) -> Result<String, AllocError>
+    requires there { number < length (map (field_text printer.now.epoch.now) (drop printer.now.keys row.now)) }
+    ensures field { IfOk result (λ text. string_bytes text ≡ get_or (map (field_text printer.now.epoch.now) (drop printer.now.keys row.now)) number []) }
 {
-    let mut kept = Vec::new(alloc);
-    for (row, is_first) in rows.into_iter().zip(flags.iter()) {
-        if *is_first {
-            kept.push(row)?;
-        }
-    }
-    Ok(kept)
+    let mut text = String::new(alloc);
+    printer.append(row, number, &mut text)?;
+    Ok(text)
 }
 
-/// Of equal rows the first, in the order of the rows.
-pub fn distinct(alloc: Global, rows: Vec<Items<Text>>) -> Result<Vec<Items<Text>>, AllocError>
-    ensures first { IfOk result (λ kept. AreFirst [] rows.items kept.items) }
+// The printed fields of a row.
+fn fields_of(alloc: Global, printer: &Fields<'_>, row: &Row<'_>) -> Result<Vec<String>, AllocError>
+    ensures fields { IfOk result (λ texts. strings_of texts ≡ map (field_text printer.now.epoch.now) (drop printer.now.keys row.now)) }
 {
-    let flags = flags_of(alloc, rows.as_slice())?;
-    flagged_rows(alloc, rows, flags.as_slice())
+    let count = printer.count(row);
+    let mut texts = Vec::with_capacity(alloc, count)?;
+    for number in 0..count {
+        texts.push(field_of(alloc, printer, row, number)?)?;
+    }
+    Ok(texts)
+}
+
+/// The fields of rows, of equal ones the first, in the order of the rows. The fields of a row stand
+/// behind so many keys.
+pub fn distinct(
+    alloc: Global,
+    keys: usize,
+    rows: &[Row<'_>],
+    epoch: &Epoch,
+) -> Result<IndexSet<Vec<String>>, AllocError>
+    ensures first { IfOk result (λ seen. AreFirst [] (map (λ row. map (field_text epoch.now) (drop keys row)) rows.now) (map strings_of seen.keys)) }
+{
+    let printer = Fields { keys, epoch };
+    let mut seen = IndexSet::new(alloc);
+    for row in rows {
+        let fields = fields_of(alloc, &printer, row)?;
+        let _is_new = seen.insert(fields)?;
+    }
+    Ok(seen)
 }

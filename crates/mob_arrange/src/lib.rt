@@ -3,6 +3,10 @@
 
 mod arrange;
 mod distinct;
+mod fields;
+mod found;
+mod listed;
+mod numbers;
 mod order;
 mod row_values;
 mod rows;

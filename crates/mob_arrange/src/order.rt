@@ -1,12 +1,16 @@
 // The order of rows by their keys.
-ghost use Rattle.std.specs.Prelude.{◌≡◌, OnOk, ℤ, length, map};
+ghost use Rattle.std.specs.Prelude.{◌≡◌, ◌<◌, ◌+◌, ◌^◌, OnOk, ℤ, drop, length, map};
 ghost use Rattle.std.specs.Ordering.{int_cmp};
 ghost use Rattle.mob_slice.specs.Ranks.{compare_ratio};
 ghost use Rattle.mob_ratio.specs.Ratio.{whole};
 ghost use Rattle.mob_arrange.specs.Keyed.{row_of_values};
+ghost use Rattle.mob_value.specs.declared.value.Value.TheVariants.{Number};
 ghost use Rattle.mob_arrange.specs.RowValues.{row_value};
+ghost use Rattle.mob_arrange.specs.FoundValue.{found_value};
 ghost use Rattle.mob_arrange.specs.Order.{type_rank, compare_values, compare_key, first_key, other_keys, compare_keys, IsOrderedByKeys};
 
+use crate::found::Found;
+use crate::listed::{Listed, others};
 use crate::row_values::RowValue;
 use crate::rows::Row;
 use mob_frac::Frac;
@@ -93,22 +97,12 @@ fn compare_whole(falls: bool, a: i64, b: i64) -> Ordering
 }
 
 // The order of the first keys, by the whole numbers that the rows have beside their values.
-fn compare_rows(falls: bool, a: &Row<'_>, b: &Row<'_>) -> Ordering
+fn compare_rows(falls: bool, a: &Listed<'_>, b: &Listed<'_>) -> Ordering
     ensures order { result ≡ compare_key falls (first_key a.now) (first_key b.now) }
 {
     match (a.first(), b.first()) {
         (Some(a), Some(b)) => compare_whole(falls, a, b),
         _ => compare_first(falls, a.values(), b.values()),
-    }
-}
-
-fn others<'a, 'b>(values: &'a [RowValue<'b>]) -> &'a [RowValue<'b>]
-    ensures others { map row_value result.now ≡ other_keys (map row_value values.now) }
-{
-    if values.is_empty() {
-        &values[values.len()..]
-    } else {
-        &values[1..]
     }
 }
 
@@ -124,15 +118,118 @@ fn compare_all(falls: &[bool], a: &[RowValue<'_>], b: &[RowValue<'_>]) -> Orderi
     }
 }
 
-fn compare_by(falls: &[bool], a: &Row<'_>, b: &Row<'_>) -> Ordering
+// The order of the second keys, in the same way.
+fn compare_seconds(falls: bool, a: &Listed<'_>, b: &Listed<'_>) -> Ordering
+    ensures order { result ≡ compare_key falls (first_key (other_keys a.now)) (first_key (other_keys b.now)) }
+{
+    match (a.second(), b.second()) {
+        (Some(a), Some(b)) => compare_whole(falls, a, b),
+        _ => compare_first(falls, others(a.values()), others(b.values())),
+    }
+}
+
+// The order of the keys behind the first ones.
+fn compare_others(falls: &[bool], a: &Listed<'_>, b: &Listed<'_>) -> Ordering
+    ensures order { result ≡ compare_keys falls.now (other_keys a.now) (other_keys b.now) }
+{
+    let Some((falls, rest)) = falls.split_first() else {
+        return Ordering::Equal;
+    };
+    match compare_seconds(*falls, a, b) {
+        Ordering::Equal => compare_all(
+            rest,
+            others(others(a.values())),
+            others(others(b.values())),
+        ),
+        order => order,
+    }
+}
+
+// The order of rows of which both have a list.
+fn compare_listed(falls: &[bool], a: &Listed<'_>, b: &Listed<'_>) -> Ordering
     ensures order { result ≡ compare_keys falls.now a.now b.now }
 {
     let Some((falls, rest)) = falls.split_first() else {
         return Ordering::Equal;
     };
     match compare_rows(*falls, a, b) {
-        Ordering::Equal => compare_all(rest, others(a.values()), others(b.values())),
+        Ordering::Equal => compare_others(rest, a, b),
         order => order,
+    }
+}
+
+fn found_place(found: Found<'_>) -> u8
+    ensures place { result ≡ type_rank (found_value found.entry) }
+{
+    match found {
+        Found::Number(_) => 1,
+        Found::Value(value) => place(value),
+        Found::Nothing => 14,
+    }
+}
+
+// The order of a number and a value.
+fn compare_number(a: &Frac, b: &Value) -> Ordering
+    ensures order { result ≡ compare_values (Number a.now) b.now }
+{
+    match b {
+        Value::Number(b) => compare_numbers(a, b),
+        _ => 1.cmp(&place(b)),
+    }
+}
+
+// The order of a value and a number.
+fn compare_to_number(a: &Value, b: &Frac) -> Ordering
+    ensures order { result ≡ compare_values a.now (Number b.now) }
+{
+    match a {
+        Value::Number(a) => compare_numbers(a, b),
+        _ => place(a).cmp(&1),
+    }
+}
+
+fn compare_found(a: Found<'_>, b: Found<'_>) -> Ordering
+    ensures order { result ≡ compare_values (found_value a.entry) (found_value b.entry) }
+{
+    match (a, b) {
+        (Found::Number(a), Found::Number(b)) => compare_numbers(a, b),
+        (Found::Number(a), Found::Value(b)) => compare_number(a, b),
+        (Found::Value(a), Found::Number(b)) => compare_to_number(a, b),
+        (Found::Value(a), Found::Value(b)) => compare(a, b),
+        _ => found_place(a).cmp(&found_place(b)),
+    }
+}
+
+fn compare_at(falls: bool, place: usize, a: &Row<'_>, b: &Row<'_>) -> Ordering
+    ensures order { result ≡ compare_key falls (first_key (drop place a.now)) (first_key (drop place b.now)) }
+{
+    if falls {
+        compare_found(b.get(place), a.get(place))
+    } else {
+        compare_found(a.get(place), b.get(place))
+    }
+}
+
+// The order of rows by their keys from a place on.
+fn compare_from(falls: &[bool], place: usize, a: &Row<'_>, b: &Row<'_>) -> Ordering
+    requires few { place + length falls.now < 2 ^ 64 }
+    ensures order { result ≡ compare_keys falls.now (drop place a.now) (drop place b.now) }
+{
+    let Some((falls, rest)) = falls.split_first() else {
+        return Ordering::Equal;
+    };
+    match compare_at(*falls, place, a, b) {
+        Ordering::Equal => compare_from(rest, place + 1, a, b),
+        order => order,
+    }
+}
+
+fn compare_by(falls: &[bool], a: &Row<'_>, b: &Row<'_>) -> Ordering
+    ensures order { result ≡ compare_keys falls.now a.now b.now }
+{
+    match (a.listed(), b.listed()) {
+        (Some(a), Some(b)) => compare_listed(falls, a, b),
+        _ => compare_from(falls, 0, a, b),
     }
 }
 

@@ -1,82 +1,79 @@
 //! A row of an answer before it is printed.
-ghost use Rattle.std.specs.Prelude.{◌≡◌, ◌++◌, IfOk, IfSome, map};
-ghost use Rattle.mob_ratio.specs.Ratio.{whole};
-ghost use Rattle.mob_value.specs.declared.value.Value.TheVariants.{Number};
+ghost use Rattle.std.specs.Prelude.{◌≡◌, ◌++◌, IfOk, IfSome, drop, length, map};
 ghost use Rattle.mob_arrange.specs.Order.{first_key};
 ghost use Rattle.mob_arrange.specs.RowValues.{row_value};
-ghost use Rattle.mob_arrange.specs.FirstNumber.{unknown, KnowsFirst};
+ghost use Rattle.mob_arrange.specs.FoundValue.{found_value};
 
+use crate::found::Found;
+use crate::listed::Listed;
+use crate::numbers::Numbers;
 use crate::row_values::RowValue;
-use mob_frac::Frac;
 use mob_list::items::Items;
-use mob_value::Value;
 use std::alloc::AllocError;
 use std::marker::Model;
 
-// The number of a row whose first value is no whole number. A fraction has no such numerator.
-const UNKNOWN: i64 = i64::MIN;
+/// How a row has its values.
+#[derive(Drop)]
+pub enum Held<'a> {
+    /// In itself: at most four, all of them numbers.
+    Numbers(Numbers),
+    /// In a list.
+    Listed(Listed<'a>),
+}
 
 /// A row of an answer: the values of its keys, and behind them those of its fields. Contracts see
 /// the list of these values.
 ///
-/// Where the first value is a whole number, the row has it beside the list, so that most rows are
-/// put in order without a look at their values.
+/// A row of at most four numbers has them in itself and takes no other memory, so that it is put in
+/// order and printed without a look at another place.
 #[derive(Drop)]
 pub struct Row<'a> {
-    values: Items<RowValue<'a>>,
-    first: i64,
+    held: Held<'a>,
 }
 
 impl<'a> Model for Row<'a> {
-    ghost use Rattle.std.specs.Prelude.{List, map};
+    ghost use Rattle.std.specs.Prelude.{List};
     ghost use Rattle.mob_value.specs.declared.value.Value.{Value as SqlValue};
-    ghost use Rattle.mob_arrange.specs.RowValues.{row_value};
-    ghost use Rattle.mob_arrange.specs.FirstNumber.{KnowsFirst};
+    ghost use Rattle.mob_arrange.specs.HeldValues.{held_values};
 
     ghost Value = { List SqlValue };
 
-    ghost view = { λ r. map row_value r.values };
-
-    ghost invariant = { λ r. KnowsFirst r.first (map row_value r.values) };
+    ghost view = { λ r. held_values r.held };
 }
 
-// The number itself where it is whole.
-fn whole_part(number: &Frac) -> i64
-    ensures whole { (result ≡ unknown → ⊥) → number.now ≡ whole result }
+// The values of keys and fields, if there are at most four and all are numbers.
+fn numbers_of(keys: &[RowValue<'_>], fields: &[RowValue<'_>]) -> Option<Numbers>
+    ensures numbers { IfSome result (λ numbers. numbers ≡ map row_value keys.now ++ map row_value fields.now) }
 {
-    if number.den() == 1 {
-        number.num()
+    let mut numbers = Numbers::new();
+    if !numbers.push_all(keys) {
+        return None;
+    }
+    if !numbers.push_all(fields) {
+        return None;
+    }
+    Some(numbers)
+}
+
+// The number at a place.
+fn number_at(numbers: &Numbers, place: usize) -> Found<'_>
+    ensures value { found_value result ≡ first_key (drop place numbers.now) }
+{
+    match numbers.get(place) {
+        Some(number) => Found::Number(number),
+        None => Found::Nothing,
+    }
+}
+
+// The value at a place.
+fn value_at<'a>(values: &'a [RowValue<'_>], place: usize) -> Found<'a>
+    ensures value { found_value result ≡ first_key (drop place (map row_value values.now)) }
+{
+    if place < values.len() {
+        Found::Value(values[place].get())
     } else {
-        UNKNOWN
+        Found::Nothing
     }
-}
-
-// A value that is a whole number, as that number.
-fn whole_number(value: &Value) -> i64
-    ensures whole { (result ≡ unknown → ⊥) → value.now ≡ Number (whole result) }
-{
-    match value {
-        Value::Number(number) => whole_part(number),
-        _ => UNKNOWN,
-    }
-}
-
-// What is known of the first of these values.
-fn first_number(values: &[RowValue<'_>]) -> i64
-    ensures known { KnowsFirst result (map row_value values.now) }
-{
-    match values.first() {
-        Some(value) => whole_number(value.get()),
-        None => UNKNOWN,
-    }
-}
-
-// One list behind another.
-fn joined<T: Drop>(mut front: Vec<T>, mut back: Vec<T>) -> Result<Vec<T>, AllocError>
-    ensures joined { IfOk result (λ all. all.items ≡ front.items ++ back.items) }
-{
-    front.append(&mut back)?;
-    Ok(front)
 }
 
 impl<'a> Row<'a> {
@@ -87,29 +84,43 @@ impl<'a> Row<'a> {
     ) -> Result<Row<'a>, AllocError>
         ensures values { IfOk result (λ row. row ≡ map row_value keys.entry ++ map row_value fields.entry) }
     {
-        let values = joined(keys.into_vec(), fields.into_vec())?;
-        let first = first_number(values.as_slice());
+        if let Some(numbers) = numbers_of(keys.as_slice(), fields.as_slice()) {
+            return Ok(Row {
+                held: Held::Numbers(numbers),
+            });
+        }
         Ok(Row {
-            values: Items::from_vec(values),
-            first,
+            held: Held::Listed(Listed::new(keys, fields)?),
         })
     }
 
-    /// The values of the keys, and behind them those of the fields.
-    pub fn values(&self) -> &[RowValue<'a>]
-        ensures values { map row_value result.now ≡ self.now }
+    /// How many values it has.
+    pub fn len(&self) -> usize
+        ensures count { result ≡ length self.now }
     {
-        self.values.as_slice()
+        match &self.held {
+            Held::Numbers(numbers) => numbers.len(),
+            Held::Listed(listed) => listed.values().len(),
+        }
     }
 
-    /// The first value where it is a whole number, and nothing where this is not known.
-    pub fn first(&self) -> Option<i64>
-        ensures whole { IfSome result (λ n. first_key self.now ≡ Number (whole n)) }
+    /// The value at a place from 0.
+    pub fn get(&self, place: usize) -> Found<'_>
+        ensures value { found_value result ≡ first_key (drop place self.now) }
     {
-        if self.first == UNKNOWN {
-            None
-        } else {
-            Some(self.first)
+        match &self.held {
+            Held::Numbers(numbers) => number_at(numbers, place),
+            Held::Listed(listed) => value_at(listed.values(), place),
+        }
+    }
+
+    /// The values, if they are in a list.
+    pub fn listed(&self) -> Option<&Listed<'a>>
+        ensures same { IfSome result (λ listed. listed.now ≡ self.now) }
+    {
+        match &self.held {
+            Held::Numbers(_) => None,
+            Held::Listed(listed) => Some(listed),
         }
     }
 }

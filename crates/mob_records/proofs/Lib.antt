@@ -1,2 +1,3 @@
 pub mod ReadAgain
 mod RecordText
+mod Within

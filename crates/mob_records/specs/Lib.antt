@@ -1,4 +1,3 @@
 pub mod AnswerText
-pub mod Prints
 pub mod ReadAgain
 pub mod Writers

@@ -2,6 +2,8 @@
 #![tactic(auto)]
 
 pub mod laws;
+mod printer;
 mod text;
 
+pub use printer::FieldPrinter;
 pub use text::{bytes_of, counted_text, counted_text_by, records_text};

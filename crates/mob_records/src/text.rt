@@ -1,13 +1,12 @@
 // Records as text.
-ghost use Rattle.std.specs.Prelude.{◌≡◌, ◌++◌, ◌∷◌, IfOk, OnOk, List, ℕ, Some, map};
-ghost use Rattle.std.specs.Fn.{FnReturnsAt};
+ghost use Rattle.std.specs.Prelude.{◌≡◌, ◌++◌, ◌∷◌, ◌<◌, ◌-◌, ◌^◌, [], IfOk, OnOk, List, Option, ℕ, Some, length, map};
 ghost use Rattle.std.specs.List.{concat};
 ghost use Rattle.std.specs.Io.KnownBytes.{Appends};
-ghost use Rattle.csv.specs.Writing.{text_written};
+ghost use Rattle.csv.specs.Writing.{text_written, writer_setup};
 ghost use Rattle.mob_records.specs.AnswerText.{answer_text, count_line, record_line};
-ghost use Rattle.mob_records.specs.Prints.{PrintsAs};
-ghost use Rattle.mob_records.specs.Writers.{IsBetweenRecords};
+ghost use Rattle.mob_records.specs.Writers.{any_length, IsBetweenRecords, IsWithinRecord};
 
+use crate::printer::FieldPrinter;
 use csv::{Writer, WriterBuilder};
 use itoa::Buffer;
 use mob_list::items::Items;
@@ -27,18 +26,17 @@ pub fn counted_text(
     with_count(text, rows.len())
 }
 
-/// The same of rows that are printed one after the other by `print`, so that no two of them are in
-/// memory at once.
-pub fn counted_text_by<R, F: Fn(&R) -> Result<Items<Text>, AllocError>>(
+/// The same of rows that `printer` prints, a field where it is written, so that no printed row is in
+/// memory.
+pub fn counted_text_by<R, P: FieldPrinter<R>>(
     alloc: Global,
     names: &[Text],
     rows: &[R],
-    print: F,
+    printer: &P,
 ) -> Result<Vec<u8>, AllocError>
-    requires callable { F.IsAlwaysCallable print }
-    ensures text { (f : R → List (List ℕ)) → PrintsAs (FnReturnsAt F.Fn print) f → IfOk result (λ v. v.items ≡ answer_text names.now (map f rows.now)) }
+    ensures text { IfOk result (λ v. v.items ≡ answer_text names.now (map (P.fields printer.now) rows.now)) }
 {
-    let text = records_by(alloc, names, rows, print)?;
+    let text = records_by(alloc, names, rows, printer)?;
     with_count(text, rows.len())
 }
 
@@ -64,9 +62,9 @@ pub fn records_text(
     let mut writer = WriterBuilder::new()
         .flexible(true)
         .from_writer(Vec::new(alloc));
-    write_record(alloc, &mut writer, names)?;
+    write_record(&mut writer, names)?;
     for row in rows {
-        write_record(alloc, &mut writer, row.as_slice())?;
+        write_record(&mut writer, row.as_slice())?;
     }
     match writer.into_inner() {
         Ok(text) => Ok(text),
@@ -74,26 +72,22 @@ pub fn records_text(
     }
 }
 
-// The records of the names and of the rows as `print` prints them.
-fn records_by<R, F: Fn(&R) -> Result<Items<Text>, AllocError>>(
+// The records of the names and of the rows as `printer` prints them.
+fn records_by<R, P: FieldPrinter<R>>(
     alloc: Global,
     names: &[Text],
     rows: &[R],
-    print: F,
+    printer: &P,
 ) -> Result<Vec<u8>, AllocError>
-    requires callable { F.IsAlwaysCallable print }
-    ensures text { (f : R → List (List ℕ)) → PrintsAs (FnReturnsAt F.Fn print) f → IfOk result (λ v. v.items ≡ concat (map record_line (names.now ∷ map f rows.now))) }
+    ensures text { IfOk result (λ v. v.items ≡ concat (map record_line (names.now ∷ map (P.fields printer.now) rows.now))) }
 {
     let mut writer = WriterBuilder::new()
         .flexible(true)
         .from_writer(Vec::new(alloc));
-    write_record(alloc, &mut writer, names)?;
+    let mut text = String::new(alloc);
+    write_record(&mut writer, names)?;
     for row in rows {
-        let fields = match print(row) {
-            Ok(fields) => fields,
-            Err(error) => return Err(error),
-        };
-        write_record(alloc, &mut writer, fields.as_slice())?;
+        print_record(printer, row, &mut text, &mut writer)?;
     }
     match writer.into_inner() {
         Ok(text) => Ok(text),
@@ -101,19 +95,55 @@ fn records_by<R, F: Fn(&R) -> Result<Items<Text>, AllocError>>(
     }
 }
 
-// One record. The writer writes to memory and takes records of any length, so it fails for lack of memory alone. `csv` states no
-// cause of a writer's error, so no clause says this.
-fn write_record(
-    alloc: Global,
+// One record, as `printer` prints the row. Each field is printed into `text` first.
+fn print_record<R, P: FieldPrinter<R>>(
+    printer: &P,
+    row: &R,
+    text: &mut String,
     writer: &mut Writer<Vec<u8>>,
-    fields: &[Text],
 ) -> Result<(), AllocError>
+    requires between { IsBetweenRecords writer.old }
+    ensures text { OnOk result (Appends (text_written (λ w. Some w.items) writer.old) (text_written (λ w. Some w.items) writer.new) (record_line (P.fields printer.now row.now))) }
+    ensures between { OnOk result (IsBetweenRecords writer.new) }
+{
+    for number in 0..printer.count(row) {
+        text.clear();
+        printer.append(row, number, text)?;
+        write_field(writer, text.as_str())?;
+    }
+    end_record(writer)
+}
+
+// One record.
+fn write_record(writer: &mut Writer<Vec<u8>>, fields: &[Text]) -> Result<(), AllocError>
     requires between { IsBetweenRecords writer.old }
     ensures text { OnOk result (Appends (text_written (λ w. Some w.items) writer.old) (text_written (λ w. Some w.items) writer.new) (record_line fields.now)) }
     ensures between { OnOk result (IsBetweenRecords writer.new) }
 {
-    let bytes = bytes_of(alloc, fields)?;
-    match writer.write_fields(&bytes) {
+    for field in fields {
+        write_field(writer, field.as_str())?;
+    }
+    end_record(writer)
+}
+
+// One field more of a record. The writer writes to memory, so it fails for lack of memory alone.
+// `csv` states no cause of a writer's error, so no clause says this.
+fn write_field(writer: &mut Writer<Vec<u8>>, field: &str) -> Result<(), AllocError>
+    ensures within { OnOk result ((before : Option (List ℕ)) (fields : List (List ℕ)) → length fields < 2 ^ 64 - 1 → IsWithinRecord before fields writer.old → IsWithinRecord before (fields ++ field.now ∷ []) writer.new) }
+{
+    match writer.write_field(field.as_bytes()) {
+        Ok(()) => Ok(()),
+        Err(_) => Err(AllocError),
+    }
+}
+
+// The end of a record. It fails for lack of memory alone, since the writer takes records of any
+// length.
+fn end_record(writer: &mut Writer<Vec<u8>>) -> Result<(), AllocError>
+    ensures text { OnOk result ((before : Option (List ℕ)) (fields : List (List ℕ)) → IsWithinRecord before fields writer.old → Appends before (text_written (λ w. Some w.items) writer.new) (record_line fields)) }
+    ensures between { OnOk result (writer_setup writer.old ≡ any_length → IsBetweenRecords writer.new) }
+{
+    match writer.end_record() {
         Ok(()) => Ok(()),
         Err(_) => Err(AllocError),
     }

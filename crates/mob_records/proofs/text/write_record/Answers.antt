@@ -1,13 +1,25 @@
-use Rattle.std.proofs.Common.{◌≢◌, ◌∙◌, ◌++◌, ap, sym, true, List, ℕ}
-use Rattle.csv.specs.declared.writer.QuoteStyle.TheVariants as style
-use Rattle.csv.specs.Writing.{writer_setup}
-use Rattle.mob_records.proofs.RecordText.{record_text-csv}
+use Rattle.std.proofs.Common.{◌≡◌, ◌∙◌, ◌++◌, ◌∷◌, [], ◌<◌, ◌+◌, ◌-◌, ◌^◌, length, subst, sym, ap, take, arith, rules}
+use Rattle.std.proofs.lemmas.List.{take_all, take_more}
+use Rattle.std.proofs.lemmas.Result.{on_ok_weaker}
+use Rattle.mob_records.specs.Writers.{IsWithinRecord}
+use Rattle.mob_records.proofs.Within.{held, none_written}
 use Rattle.mob_records.proofs.text.write_record.Goals as goal
 
-pub returns-in-Ok-clause-text : goal.returns-in-Ok-clause-text
-returns-in-Ok-clause-text c =
-    let old = c.args.writer.now in
-    let plain : (writer_setup old).style ≢ style.NonNumeric = rw c.requires.between.setup (λ e. cc e) in
-    let written = c.in-Ok.ensures.bytes c.requires.between.fields c.requires.between.fresh plain in
-    let text = rw (c.requires.between.setup, c.deref.ensures.value, c.in_ok-bytes.ensures.same) at written in
-    text ∙ ap (λ (w : List ℕ). (old.wtr.inner.items ++ old.wtr.buf) ++ w) (sym (record_text-csv true c.args.fields.now))
+pub loop-field-init : goal.loop-field-init
+loop-field-init c = none_written c.args.writer.now c.requires.between
+
+pub loop-field-preserved : goal.loop-field-preserved
+loop-field-preserved c =
+    let fields = c.args.fields.now in
+    let at = c.loop-field in
+    let few : length (take at.field-index fields) < 2 ^ 64 - 1 = search rules in
+    let text = c.as_str.ensures.same ∙ c.field-item.is in
+    let more : take (at.field-index + 1) fields ≡ take at.field-index fields ++ c.as_str.result.now ∷ [] = take_more fields at.field-index c.field-item.result c.loop-field-test.true ∙ ap (λ f. take at.field-index fields ++ f ∷ []) (sym text) in
+    subst (λ fs. IsWithinRecord (held c.args.writer.now) fs c.write_field.new.writer) (sym more) (c.in_ok-write_field.ensures.within (held c.args.writer.now) (take at.field-index fields) few at.invariant)
+
+pub returns-clause-text : goal.returns-clause-text
+returns-clause-text c =
+    let fields = c.args.fields.now in
+    let at = c.loop-field in
+    let all : take at.field-index fields ≡ fields = take_all at.field-index fields (omega (arith, c.loop-field-test.false)) in
+    on_ok_weaker c.end_record.result (λ h. h (held c.args.writer.now) fields (subst (λ fs. IsWithinRecord (held c.args.writer.now) fs at.writer) all at.invariant)) c.end_record.ensures.text

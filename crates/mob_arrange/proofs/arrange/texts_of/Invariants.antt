@@ -1,7 +1,0 @@
-use Rattle.std.proofs.Common.{◌≡◌, map, take}
-use Rattle.mob_literal.specs.Fields.{field_text}
-use Rattle.mob_arrange.specs.RowValues.{row_value}
-use Rattle.mob_arrange.proofs.arrange.texts_of.Given as goal
-
-abbrev pub invariant-loop-value : goal.invariant-loop-value
-invariant-loop-value l = l.texts.items ≡ map (field_text l.epoch) (map row_value (take l.value-index l.values))

@@ -1,0 +1,140 @@
+//! The values of a row in a list.
+ghost use Rattle.std.specs.Prelude.{◌≡◌, ◌++◌, IfOk, IfSome, map};
+ghost use Rattle.mob_ratio.specs.Ratio.{whole};
+ghost use Rattle.mob_value.specs.declared.value.Value.TheVariants.{Number};
+ghost use Rattle.mob_arrange.specs.Order.{first_key, other_keys};
+ghost use Rattle.mob_arrange.specs.RowValues.{row_value};
+ghost use Rattle.mob_arrange.specs.FirstNumber.{unknown, KnowsFirst};
+
+use crate::row_values::RowValue;
+use mob_frac::Frac;
+use mob_list::items::Items;
+use mob_value::Value;
+use std::alloc::AllocError;
+use std::marker::Model;
+
+// The number of a row whose first value is no whole number. A fraction has no such numerator.
+const UNKNOWN: i64 = i64::MIN;
+
+/// The values of a row in a list, which contracts see.
+///
+/// Where the first value is a whole number, the row has it beside the list, and so it has the
+/// second, so that most rows are put in order without a look at their values.
+#[derive(Drop)]
+pub struct Listed<'a> {
+    values: Items<RowValue<'a>>,
+    first: i64,
+    second: i64,
+}
+
+impl<'a> Model for Listed<'a> {
+    ghost use Rattle.std.specs.Prelude.{List, map};
+    ghost use Rattle.mob_value.specs.declared.value.Value.{Value as SqlValue};
+    ghost use Rattle.mob_arrange.specs.Order.{other_keys};
+    ghost use Rattle.mob_arrange.specs.RowValues.{row_value};
+    ghost use Rattle.mob_arrange.specs.FirstNumber.{KnowsFirst};
+
+    ghost Value = { List SqlValue };
+
+    ghost view = { λ r. map row_value r.values };
+
+    ghost invariant = { λ r. KnowsFirst r.first (map row_value r.values) × KnowsFirst r.second (other_keys (map row_value r.values)) };
+}
+
+// The number itself where it is whole.
+fn whole_part(number: &Frac) -> i64
+    ensures whole { (result ≡ unknown → ⊥) → number.now ≡ whole result }
+{
+    if number.den() == 1 {
+        number.num()
+    } else {
+        UNKNOWN
+    }
+}
+
+// A value that is a whole number, as that number.
+fn whole_number(value: &Value) -> i64
+    ensures whole { (result ≡ unknown → ⊥) → value.now ≡ Number (whole result) }
+{
+    match value {
+        Value::Number(number) => whole_part(number),
+        _ => UNKNOWN,
+    }
+}
+
+/// The values behind the first one.
+pub fn others<'a, 'b>(values: &'a [RowValue<'b>]) -> &'a [RowValue<'b>]
+    ensures others { map row_value result.now ≡ other_keys (map row_value values.now) }
+{
+    if values.is_empty() {
+        &values[values.len()..]
+    } else {
+        &values[1..]
+    }
+}
+
+// What is known of the first of these values.
+fn first_number(values: &[RowValue<'_>]) -> i64
+    ensures known { KnowsFirst result (map row_value values.now) }
+{
+    match values.first() {
+        Some(value) => whole_number(value.get()),
+        None => UNKNOWN,
+    }
+}
+
+// One list behind another.
+fn joined<T: Drop>(mut front: Vec<T>, mut back: Vec<T>) -> Result<Vec<T>, AllocError>
+    ensures joined { IfOk result (λ all. all.items ≡ front.items ++ back.items) }
+{
+    front.append(&mut back)?;
+    Ok(front)
+}
+
+impl<'a> Listed<'a> {
+    /// The values of these keys, and behind them those of these fields.
+    pub fn new(
+        keys: Items<RowValue<'a>>,
+        fields: Items<RowValue<'a>>,
+    ) -> Result<Listed<'a>, AllocError>
+        ensures values { IfOk result (λ values. values ≡ map row_value keys.entry ++ map row_value fields.entry) }
+    {
+        let values = joined(keys.into_vec(), fields.into_vec())?;
+        let first = first_number(values.as_slice());
+        let second = first_number(others(values.as_slice()));
+        Ok(Listed {
+            values: Items::from_vec(values),
+            first,
+            second,
+        })
+    }
+
+    /// The values of the keys, and behind them those of the fields.
+    pub fn values(&self) -> &[RowValue<'a>]
+        ensures values { map row_value result.now ≡ self.now }
+    {
+        self.values.as_slice()
+    }
+
+    /// The first value where it is a whole number, and nothing where this is not known.
+    pub fn first(&self) -> Option<i64>
+        ensures whole { IfSome result (λ n. first_key self.now ≡ Number (whole n)) }
+    {
+        if self.first == UNKNOWN {
+            None
+        } else {
+            Some(self.first)
+        }
+    }
+
+    /// The second value where it is a whole number, and nothing where this is not known.
+    pub fn second(&self) -> Option<i64>
+        ensures whole { IfSome result (λ n. first_key (other_keys self.now) ≡ Number (whole n)) }
+    {
+        if self.second == UNKNOWN {
+            None
+        } else {
+            Some(self.second)
+        }
+    }
+}
