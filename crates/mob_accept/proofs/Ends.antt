@@ -1,4 +1,5 @@
--- The tokens of a text as the grammar sees them begin one behind the other; and how many `;` of them stand before a place.
+-- The tokens of a text as the grammar sees them begin one behind the other; and how many `;` of
+-- them stand before a place.
 use Rattle.std.specs.Prelude.{IfSome}
 use Rattle.std.specs.List.{AllByRecursion}
 use Rattle.std.proofs.Common.{◌≡◌, ◌<◌, ◌≤◌, ◌+◌, ◌∙◌, refl, sym, ap, subst, arith, ℕ, List, [], ◌∷◌, ◌++◌, length, append-nil, cond, Option, Some, None, Ok}
@@ -93,7 +94,8 @@ module _ (text : List ℕ) (ts : List Token) (are : tokens_of text ≡ Ok ts) wh
       number_is p ∙ ap (λ q. 1 + ends_among (symbols_before q (lexed text ts))) (sym h.here) ∙ ap (λ k. 1 + ends_among (symbols_before h.token.place k)) parts
       ∙ ap (λ k. 1 + ends_among k) (before_one h.before h.behind h.token (subst Rise parts stand.1)) ∙ ap (λ m. 1 + m) h.number
 
-  -- the number of the statement of the place behind some tokens: that of the next token, or the end of the text
+  -- the number of the statement of the place behind some tokens: that of the next token, or the end
+  -- of the text
   pub place_behind : (l before r : List PlacedSymbol) → l ≡ lexed text ts → l ≡ before ++ r → statement_number text (place_of r (length text)) ≡ 1 + ends_among before
   place_behind l before [] lexes parts =
       number_is (length text) ∙ ap (λ k. 1 + ends_among k) (all_before (length text) (lexed text ts) stand.2) ∙ ap (λ k. 1 + ends_among k) (sym lexes ∙ parts ∙ append-nil before)

@@ -1,4 +1,5 @@
--- What typing numbers by statements stands so among the `;` tokens: the trees of a text are cut at them, and typing keeps to the trees.
+-- What typing numbers by statements stands so among the `;` tokens: the trees of a text are cut at
+-- them, and typing keeps to the trees.
 use Rattle.std.specs.List.{AllByRecursion}
 use Rattle.std.proofs.Common.{◌≡◌, ◌+◌, ◌∙◌, sym, ap, subst, arith, inl, inr, ℕ, List, [], ◌∷◌, ◌++◌, length, take, drop, append_assoc, append-nil, Ok}
 use Rattle.std.proofs.lemmas.List.{take-append-drop}

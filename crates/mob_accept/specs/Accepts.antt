@@ -1,4 +1,5 @@
--- Which texts are scripts that are taken, and why a text is refused by itself, before any literal or file is looked at.
+-- Which texts are scripts that are taken, and why a text is refused by itself, before any literal
+-- or file is looked at.
 use Rattle.std.specs.Prelude.{◌≡◌, ◌≢◌, ◌⊎◌, ◌<◌, ◌≤◌, ℕ, List, length, Ok, Err}
 use Rattle.mob_ast.specs.declared.refusal.Kind.TheVariants.{NoMemory, Limit}
 use Rattle.mob_ast.specs.declared.refusal.Refusal.{Refusal}

@@ -1,4 +1,5 @@
--- Which statement a place is in; and the number of a statement and a place say one thing: what typing numbers by statements stands so among the `;` tokens.
+-- Which statement a place is in; and the number of a statement and a place say one thing: what
+-- typing numbers by statements stands so among the `;` tokens.
 use Rattle.std.specs.Prelude.{◌≡◌, ◌⊎◌, ◌+◌, ℕ, List, [], ◌∷◌, filter, nat_lt, Result, Ok, Err}
 use Rattle.std.specs.List.{AllByRecursion}
 use Rattle.mob_ast.specs.Trees.{StatementParts}
@@ -38,7 +39,8 @@ statement_number text place = 1 + ends_among (symbols_before place (symbols_in t
 abbrev pub AreIn : List ℕ → ℕ → List ℕ → Type 0
 AreIn bytes n places = AllByRecursion (λ p. statement_number bytes p ≡ n) places
 
--- these places of the first of the statements are in statement n, and those of each other in one more
+-- these places of the first of the statements are in statement n, and those of each other in one
+-- more
 abbrev pub TreesAreIn : (StatementParts → List ℕ) → List ℕ → ℕ → List StatementParts → Type 0
 TreesAreIn places bytes n [] = Unit {0}
 TreesAreIn places bytes n (s ∷ ss) = AreIn bytes n (places s) × TreesAreIn places bytes (n + 1) ss
@@ -53,7 +55,8 @@ pub record IsNumbered (bytes : List ℕ) (out : ScriptOut) : Type 0 where
   pub literals : AllByRecursion (λ c. c.statement ≡ statement_number bytes c.place) out.consts
   pub rows : RowsAreIn bytes 1 out.statements
 
--- the literals and the rows of the trees of a text are in its statements, and so are all places that these trees hold
+-- the literals and the rows of the trees of a text are in its statements, and so are all places
+-- that these trees hold
 abbrev pub TreesAreNumbered : Type 0
 TreesAreNumbered = (bytes : List ℕ) (trees : List StatementParts) → IsTreeOf bytes trees → TreesAreIn statement_places bytes 1 trees × TreesAreIn statement_held bytes 1 trees
 
@@ -82,6 +85,7 @@ WrongNamesAreNumbered = (bytes : List ℕ) (e : Refusal) → IsWrongName bytes e
 abbrev pub WrongNamesAreHeld : Type 0
 WrongNamesAreHeld = (bytes : List ℕ) (e : Refusal) → IsWrongName bytes e → (trees : List StatementParts) × IsTreeOf bytes trees × IsHeldRefusal trees e
 
--- a refusal of a token that goes wrong, or at which an expression is too complex, names the statement of its place, too
+-- a refusal of a token that goes wrong, or at which an expression is too complex, names the
+-- statement of its place, too
 abbrev pub WrongTokensAreNumbered : Type 0
 WrongTokensAreNumbered = (bytes : List ℕ) (e : Refusal) → IsNoScript bytes e → (e.kind ≡ Syntax) ⊎ (e.kind ≡ TooComplex) → e.statement ≡ statement_number bytes e.place

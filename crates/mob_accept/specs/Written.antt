@@ -20,6 +20,7 @@ TreesRise = (bytes : List ℕ) (trees : List StatementParts) → IsTreeOf bytes 
 abbrev pub TypingKeepsOrder : Type 0
 TypingKeepsOrder = (trees : List StatementParts) (out : ScriptOut) → HasRisingPlaces trees → typed_script trees ≡ Ok out → IsWritten out
 
--- the literals of a script that is taken are kept in the order in which they are written, and so are the rows of each INSERT
+-- the literals of a script that is taken are kept in the order in which they are written, and so
+-- are the rows of each INSERT
 abbrev pub AreWritten : Type 0
 AreWritten = (bytes : List ℕ) (out : ScriptOut) → IsAccepted bytes out → IsWritten out

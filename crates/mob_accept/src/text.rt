@@ -37,11 +37,12 @@ fn trees_of(alloc: Global, bytes: &[u8]) -> Result<Script, Refusal>
     parse(alloc, bytes)
 }
 
-/// Judges a script as a text: its length, its characters, tokens and grammar, its names and types. It answers the typed script, or
-/// the first refusal in this order, with its place.
+/// Judges a script as a text: its length, its characters, tokens and grammar, its names and types.
+/// It answers the typed script, or the first refusal in this order, with its place.
 ///
-/// A text that is longer than 4,194,304 bytes is refused by `Limit` at that place. The other refusals are those of `parse`
-/// and `type_script`. Want of memory is `NoMemory`, with the statement and the place 0.
+/// A text that is longer than 4,194,304 bytes is refused by `Limit` at that place. The other
+/// refusals are those of `parse` and `type_script`. Out of memory is `NoMemory`, with the
+/// statement and the place 0.
 pub fn accept(alloc: Global, bytes: &[u8]) -> Result<Typed, Refusal>
     ensures accepted { IfOk result (λ t. IsAccepted bytes.now (script_seen t)) }
     ensures only { IfOk result (λ t. (o : ScriptOut) → IsAccepted bytes.now o → o ≡ script_seen t) }

@@ -6,9 +6,10 @@ ghost use Rattle.mob_slice.specs.Sides.{operand_of, has_slices, given_at, piece_
 ghost use Rattle.mob_lift.specs.Given.{IsGiven, on_sides, AreLifted};
 
 use crate::operation::Operation;
-use mob_lift::{Pieces, lift, single};
+use mob_lift::{lift, single};
 use mob_normal::normal;
 use mob_slice::{Course, Moving, OpFault, Operand, Piece, Slice, Steady};
+use mob_sync::Pieces;
 use std::alloc::{AllocError, Global};
 
 // The operation on one piece.

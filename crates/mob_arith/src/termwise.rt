@@ -17,11 +17,12 @@ ghost use Rattle.mob_arith.specs.Termwise.{entries_at_ends};
 
 use crate::summed::Summed;
 use mob_frac::Frac;
-use mob_lift::{Pieces, lift, listed};
+use mob_lift::{lift, listed};
 use mob_normal::normal;
 use mob_slice::{
     Course, Formula, Line, Moving, OpFault, Operand, Passed, Piece, Slice, Steady, operator_fault,
 };
+use mob_sync::Pieces;
 use std::alloc::Global;
 
 /// An operation on the values of two courses that goes term by term: its result goes as a third course does.

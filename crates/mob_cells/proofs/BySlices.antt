@@ -6,7 +6,7 @@ use Rattle.mob_ratio.specs.Ratio.{Ratio}
 use Rattle.mob_span.specs.Span.{has}
 use Rattle.mob_slice.specs.Slices.{value_at, IsOrdered, IsSound, IsClearOf, OfHead}
 use Rattle.mob_span.specs.Neighbours.{is_clear}
-use Rattle.mob_span.specs.Parts.{part_at, PartsAreClear}
+use Rattle.mob_span.specs.Pieces.{piece_at, PiecesAreClear}
 use Rattle.mob_slice.specs.Cut.{slice_value}
 use Rattle.mob_slice.specs.Entries.{Entry, IsFirst, OnFormula}
 use Rattle.mob_slice.specs.declared.slice.Slice.{Slice}
@@ -16,7 +16,7 @@ use Rattle.mob_slice.specs.declared.formula.OpFault.TheVariants.{Passed, NoMemor
 use Rattle.mob_cells.specs.Kept.{AreKeptOn}
 use Rattle.mob_cells.specs.Restricted.{kept_value}
 use Rattle.mob_cells.specs.Restricted.{where_wanted, AreRestricted}
-use Rattle.mob_lifted.specs.Lifted.{LiftsTo, IsLifted}
+use Rattle.mob_lifted.specs.Piecewise.{AreGivenInOrder, IsPiecewise}
 use Rattle.mob_lifted.proofs.Making.{is_lifted}
 use Rattle.mob_lifted.proofs.Options.{none_some, same_some}
 use Rattle.mob_lifted.proofs.Firsts.{first_joined, first_front}
@@ -25,7 +25,7 @@ module _ {C B : Type 0} (value : C → Ratio → Ratio → Ratio → B) (start e
   abbrev pub GivesSlice : Slice C → List (Slice C) → Type 0
   GivesSlice s v = AreKeptOn value start end (λ t. kept_value want (holds t (slice_value value s t)) (slice_value value s t)) s.span v
 
-  clear_parts : (v : List (Slice C)) → IsOrdered start end v → PartsAreClear (λ s. s.span) v
+  clear_parts : (v : List (Slice C)) → IsOrdered start end v → PiecesAreClear (λ s. s.span) v
   clear_parts [] h = tt
   clear_parts (s ∷ v) h = (h.0.some, head s v h.1, clear_parts v h.2)
     where
@@ -33,24 +33,24 @@ module _ {C B : Type 0} (value : C → Ratio → Ratio → Ratio → B) (start e
       head s [] h = tt
       head s (r ∷ v) h = h
 
-  found_by : (s : Slice C) (v : List (Slice C)) (t : Ratio) (o : Option B) (b : Bool) → has s.span t ≡ b → (MatchOption (part_at (λ s. s.span) v t) (o ≡ None) (λ p. (w : List (Slice C)) × GivesSlice p w × (o ≡ value_at value w t)) → o ≡ where_wanted want (holds t) (value_at value v t)) → MatchOption (cond b (Some s) (part_at (λ s. s.span) v t)) (o ≡ None) (λ p. (w : List (Slice C)) × GivesSlice p w × (o ≡ value_at value w t)) → o ≡ where_wanted want (holds t) (cond b (Some (value s.course s.span.lower s.span.upper t)) (value_at value v t))
+  found_by : (s : Slice C) (v : List (Slice C)) (t : Ratio) (o : Option B) (b : Bool) → has s.span t ≡ b → (MatchOption (piece_at (λ s. s.span) v t) (o ≡ None) (λ p. (w : List (Slice C)) × GivesSlice p w × (o ≡ value_at value w t)) → o ≡ where_wanted want (holds t) (value_at value v t)) → MatchOption (cond b (Some s) (piece_at (λ s. s.span) v t)) (o ≡ None) (λ p. (w : List (Slice C)) × GivesSlice p w × (o ≡ value_at value w t)) → o ≡ where_wanted want (holds t) (cond b (Some (value s.course s.span.lower s.span.upper t)) (value_at value v t))
   found_by s v t o true e f m = m.2 ∙ m.1.values t e
   found_by s v t o false e f m = f m
 
-  found : (v : List (Slice C)) (t : Ratio) (o : Option B) → MatchOption (part_at (λ s. s.span) v t) (o ≡ None) (λ p. (w : List (Slice C)) × GivesSlice p w × (o ≡ value_at value w t)) → o ≡ where_wanted want (holds t) (value_at value v t)
+  found : (v : List (Slice C)) (t : Ratio) (o : Option B) → MatchOption (piece_at (λ s. s.span) v t) (o ≡ None) (λ p. (w : List (Slice C)) × GivesSlice p w × (o ≡ value_at value w t)) → o ≡ where_wanted want (holds t) (value_at value v t)
   found [] t o m = m
   found (s ∷ v) t o m = found_by s v t o (has s.span t) refl (found v t o) m
 
   -- what is left of the rest makes, behind what is there, what is left of all
   abbrev pub IsLeft : List (Slice C) → List (Slice C) → List (Slice C) → Type 0
-  IsLeft all rest out = (v : List (Slice C)) → LiftsTo (λ v. v) GivesSlice rest v → LiftsTo (λ v. v) GivesSlice all (out ++ v)
+  IsLeft all rest out = (v : List (Slice C)) → AreGivenInOrder (λ v. v) GivesSlice rest v → AreGivenInOrder (λ v. v) GivesSlice all (out ++ v)
 
   pub left_step : (all rest later out out' more : List (Slice C)) (s : Slice C) → rest ≡ s ∷ later → out' ≡ out ++ more → GivesSlice s more → IsLeft all rest out → IsLeft all later out'
-  left_step all rest later out out' more s e n g m v k = rw (n, append_assoc out more v) (m (more ++ v) (subst (λ z. LiftsTo (λ v. v) GivesSlice z (more ++ v)) (sym e) (more, v, g, k, refl)))
+  left_step all rest later out out' more s e n g m v k = rw (n, append_assoc out more v) (m (more ++ v) (subst (λ z. AreGivenInOrder (λ v. v) GivesSlice z (more ++ v)) (sym e) (more, v, g, k, refl)))
 
   pub left_end : (all rest out : List (Slice C)) → rest ≡ [] → IsOrdered start end all → IsLeft all rest out → AreRestricted value start end want holds all out
   left_end all rest out e h m =
-      let l : IsLifted value start end (λ s. s.span) (λ v. v) GivesSlice all out = is_lifted value start end (λ s. s.span) (λ v. v) GivesSlice (λ p v k g. (g.ordered, g.inside)) all out (rw append-nil at (m [] (rw e refl))) (clear_parts all h) in
+      let l : IsPiecewise value start end (λ s. s.span) (λ v. v) GivesSlice all out = is_lifted value start end (λ s. s.span) (λ v. v) GivesSlice (λ p v k g. (g.ordered, g.inside)) all out (rw append-nil at (m [] (rw e refl))) (clear_parts all h) in
       record { ordered = l.ordered; values = λ t. found all t (value_at value out t) (l.at_each t) }
 
 -- the entries of the slices so far all fit

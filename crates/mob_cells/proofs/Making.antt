@@ -20,7 +20,7 @@ use Rattle.mob_slice.proofs.Cuts.{all_both, all_first, all_second}
 use Rattle.mob_cells.specs.declared.linear.Ends.{Ends}
 use Rattle.mob_cells.specs.declared.signs.Placed.{Placed}
 use Rattle.mob_cells.specs.Roots.{IsLevel, root_parts, root_of, roots, roots_parts, as_list, function_at}
-use Rattle.mob_cells.specs.Cells.{AreCells, AreCutAt, IsSomeEnd, IsCut, AreSplit, IsPlaced, IsApart, AreSigned, functions_of, cut_at, split_at, start_cells, until, instant_span, beyond, NoneWithin, is_cell, is_cell_of, placed_sign, signs_of}
+use Rattle.mob_cells.specs.Cells.{AreCells, AreCutAt, IsSomeEnd, IsCut, AreSplit, IsPlaced, IsApart, AreSigned, functions_of, cut_at, split_at, start_cells, until, inner, instant_span, beyond, NoneWithin, is_cell, is_cell_of, placed_sign, signs_of}
 use Rattle.mob_lifted.proofs.Options.{none_some, same_some}
 use Rattle.mob_cells.proofs.Splits.{split_are, split_out, split_self, start_are}
 use Rattle.mob_cells.proofs.Keeps.{kept}
@@ -75,14 +75,14 @@ in_back x (z ∷ xs) ys h = inr (in_back x xs ys h)
 cut_front : (s : SpanOf) (xs ys : List Ratio) (t : Ratio) → IsCut s xs t → IsCut s (xs ++ ys) t
 cut_front s xs ys t h = elim h [ inl e ↦ inl e | inr k ↦ inr (elim k [ inl e ↦ inl e | inr i ↦ inr (in_front t xs ys i) ]) ]
 
-abbrev HasEnds : (Ratio → Type 0) → SpanOf → Type 0
+abbrev pub HasEnds : (Ratio → Type 0) → SpanOf → Type 0
 HasEnds P c = P c.lower × P c.upper
 
 ends_by : (P : Ratio → Type 0) (r : Ratio) (c : SpanOf) (rest : List SpanOf) → P r → HasEnds P c → AllByRecursion (HasEnds P) rest → (b : Bool) → AllByRecursion (HasEnds P) (cond b (until c r ∷ instant_span r ∷ beyond c r ∷ []) (c ∷ []) ++ rest)
 ends_by P r c rest p h k true = ((h.0, p), ((p, p), ((p, h.1), k)))
 ends_by P r c rest p h k false = (h, k)
 
-split_ends : (P : Ratio → Type 0) (r : Ratio) (cells : List SpanOf) → P r → AllByRecursion (HasEnds P) cells → AllByRecursion (HasEnds P) (split_at r cells)
+pub split_ends : (P : Ratio → Type 0) (r : Ratio) (cells : List SpanOf) → P r → AllByRecursion (HasEnds P) cells → AllByRecursion (HasEnds P) (split_at r cells)
 split_ends P r [] p h = tt
 split_ends P r (c ∷ cells) p h = ends_by P r c (split_at r cells) p h.0 (split_ends P r cells p h.1) (before c.lower r && before r c.upper)
 
@@ -104,17 +104,17 @@ only_more s placed p cells h =
     subst (λ l. AllByRecursion (HasEnds (IsCut s l)) (cut_at r cells)) (sym (roots_more s placed p))
     (cut_ends (IsCut s (xs ++ as_list r)) r cells (new_cut s xs r) (each_of (HasEnds (IsCut s xs)) (HasEnds (IsCut s (xs ++ as_list r))) (λ c k. (cut_front s xs (as_list r) c.lower k.0, cut_front s xs (as_list r) c.upper k.1)) cells h))
 
-start_only : (s : SpanOf) (b l u : Bool) → AllByRecursion (HasEnds (IsCut s [])) (cond b (cond l (instant_span s.lower ∷ []) [] ++ record { lower = s.lower; upper = s.upper; lower_inc = false; upper_inc = false } ∷ cond u (instant_span s.upper ∷ []) []) (s ∷ []))
-start_only s false l u = ((inl refl, inr (inl refl)), tt)
-start_only s true true true = ((inl refl, inl refl), ((inl refl, inr (inl refl)), ((inr (inl refl), inr (inl refl)), tt)))
-start_only s true true false = ((inl refl, inl refl), ((inl refl, inr (inl refl)), tt))
-start_only s true false true = ((inl refl, inr (inl refl)), ((inr (inl refl), inr (inl refl)), tt))
-start_only s true false false = ((inl refl, inr (inl refl)), tt)
+pub start_ends : (P : Ratio → Type 0) (s : SpanOf) → P s.lower → P s.upper → (b l u : Bool) → AllByRecursion (HasEnds P) (cond b (cond l (instant_span s.lower ∷ []) [] ++ inner s ∷ cond u (instant_span s.upper ∷ []) []) (s ∷ []))
+start_ends P s p q false l u = ((p, q), tt)
+start_ends P s p q true true true = ((p, p), ((p, q), ((q, q), tt)))
+start_ends P s p q true true false = ((p, p), ((p, q), tt))
+start_ends P s p q true false true = ((p, q), ((q, q), tt))
+start_ends P s p q true false false = ((p, q), tt)
 
 -- ---- the loop
 pub making_start : (s : SpanOf) (fs : List Ends) (cells : List SpanOf) → has_instant s ≡ true → cells ≡ start_cells s → AllByRecursion (IsLevel s) fs → IsMaking s fs fs cells []
 making_start s fs cells k e h = rw e (record {
-  signed = record { are = start_are s k; good = tt; apart = tt; only = start_only s (before s.lower s.upper) s.lower_inc s.upper_inc };
+  signed = record { are = start_are s k; good = tt; apart = tt; only = start_ends (IsCut s []) s (inl refl) (inr (inl refl)) (before s.lower s.upper) s.lower_inc s.upper_inc };
   made = refl;
   level = h;
   fit = λ z. z;
@@ -208,7 +208,7 @@ end_of : (c : SpanOf) (r : Ratio) → NoneWithin r c → has c r ≡ true → (b
 end_of c r n h true e = inr (sym (before-neither r c.upper (grind (arith, n, e)) (grind (arith, h, e, before-back r c.upper))))
 end_of c r n h false e = inl (before-neither c.lower r e (grind (arith, h, e, before-back c.lower r)))
 
-some_end : (r : Ratio) (cells : List SpanOf) → AllByRecursion (NoneWithin r) cells → in_some cells r ≡ true → IsSomeEnd r cells
+pub some_end : (r : Ratio) (cells : List SpanOf) → AllByRecursion (NoneWithin r) cells → in_some cells r ≡ true → IsSomeEnd r cells
 some_end r [] n h = absurd (true≢false (sym h))
 some_end r (c ∷ cells) n h = by (has c r) refl h (λ k. some_end r cells n.1 k)
   where

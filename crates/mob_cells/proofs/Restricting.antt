@@ -13,11 +13,12 @@ use Rattle.mob_span.proofs.Insides.{inside_self}
 use Rattle.mob_ratio.specs.Order.{before, up_to}
 use Rattle.mob_ratio.proofs.Order.{before-trans, before-neither}
 use Rattle.mob_slice.specs.Slices.{value_at}
-use Rattle.mob_span.specs.Parts.{part_at}
+use Rattle.mob_span.specs.Pieces.{piece_at}
+use Rattle.mob_span.specs.Flags.{same_bool}
 use Rattle.mob_slice.specs.Pieces.{AreInside}
 use Rattle.mob_cells.specs.Cells.{IsIn}
 use Rattle.mob_slice.specs.Sides.{HasValues, at_ends}
-use Rattle.mob_slice.specs.Entries.{Entry, IsFirst, OnFormula}
+use Rattle.mob_slice.specs.Entries.{Entry, IsFirst, OnFormula, IsPartFault}
 use Rattle.mob_slice.specs.Look.{IsLookFault}
 use Rattle.mob_slice.specs.Operands.{steady_value, steady_limit}
 use Rattle.mob_slice.specs.declared.slice.Slice.{Slice}
@@ -29,10 +30,10 @@ use Rattle.mob_slice.specs.declared.formula.LookFault.{LookFault}
 use Rattle.mob_slice.specs.declared.formula.LookFault.TheVariants.{Passed as LookPassed, NoMemory as LookNoMemory}
 use Rattle.mob_slice.proofs.Cuts.{all_both, all_first, all_second}
 use Rattle.mob_cells.specs.Cells.{AreCells, AreCutAt, IsCut, IsSomeEnd}
-use Rattle.mob_cells.specs.Kept.{AreKeptOn, IsCellFault}
-use Rattle.mob_cells.specs.Restricted.{kept_value, is_wanted}
+use Rattle.mob_cells.specs.Kept.{AreKeptOn}
+use Rattle.mob_cells.specs.Restricted.{kept_value}
 use Rattle.mob_slice.specs.Entries.{operator_fault}
-use Rattle.mob_lifted.specs.Lifted.{LiftsTo, IsLifted}
+use Rattle.mob_lifted.specs.Piecewise.{AreGivenInOrder, IsPiecewise}
 use Rattle.mob_lifted.proofs.Making.{is_lifted}
 use Rattle.mob_lifted.proofs.Options.{none_some}
 use Rattle.mob_cells.proofs.Making.{each_get}
@@ -47,10 +48,10 @@ module _ {C B : Type 0} (value : C → Ratio → Ratio → Ratio → B) (start e
   }
   kept_by f g c part false h e = record { ordered = tt; inside = tt; values = λ t i. sym (e t i) }
 
-  pub kept_is : (f : Ratio → B) (c : SpanOf) (part : Slice C) (want : Bool) (keeps : List Ordering → Bool) (signs : Ratio → List Ordering) (os : List Ordering) (k : Bool) → HasValues value start end f c part → ((t : Ratio) → has c t ≡ true → os ≡ signs t) → k ≡ is_wanted want (keeps os) → AreKeptOn value start end (λ t. kept_value want (keeps (signs t)) (f t)) c (cond k (part ∷ []) [])
-  kept_is f c part want keeps signs os k h n e = kept_by f (λ t. kept_value want (keeps (signs t)) (f t)) c part k h (λ t i. ap (λ z. cond (is_wanted want (keeps z)) (Some (f t)) None) (sym (n t i)) ∙ ap (λ b. cond b (Some (f t)) None) (sym e))
+  pub kept_is : (f : Ratio → B) (c : SpanOf) (part : Slice C) (want : Bool) (keeps : List Ordering → Bool) (signs : Ratio → List Ordering) (os : List Ordering) (k : Bool) → HasValues value start end f c part → ((t : Ratio) → has c t ≡ true → os ≡ signs t) → k ≡ same_bool want (keeps os) → AreKeptOn value start end (λ t. kept_value want (keeps (signs t)) (f t)) c (cond k (part ∷ []) [])
+  kept_is f c part want keeps signs os k h n e = kept_by f (λ t. kept_value want (keeps (signs t)) (f t)) c part k h (λ t i. ap (λ z. cond (same_bool want (keeps z)) (Some (f t)) None) (sym (n t i)) ∙ ap (λ b. cond b (Some (f t)) None) (sym e))
 
-  pub cell_is : {V : Type 0} (items : V → List (Slice C)) (r : Result V OpFault) (f : Ratio → B) (c : SpanOf) (part : Slice C) (want : Bool) (keeps : List Ordering → Bool) (signs : Ratio → List Ordering) (os : List Ordering) (k : Bool) (fits : List Ratio) → HasValues value start end f c part → AllFit fits → ((t : Ratio) → has c t ≡ true → os ≡ signs t) → k ≡ is_wanted want (keeps os) → MatchResult r (λ v. items v ≡ cond k (part ∷ []) []) (λ e. e ≡ NoMemory) → MatchResult r (λ v. AreKeptOn value start end (λ t. kept_value want (keeps (signs t)) (f t)) c (items v) × AllFit fits) (IsCellFault fits)
+  pub cell_is : {V : Type 0} (items : V → List (Slice C)) (r : Result V OpFault) (f : Ratio → B) (c : SpanOf) (part : Slice C) (want : Bool) (keeps : List Ordering → Bool) (signs : Ratio → List Ordering) (os : List Ordering) (k : Bool) (fits : List Ratio) → HasValues value start end f c part → AllFit fits → ((t : Ratio) → has c t ≡ true → os ≡ signs t) → k ≡ same_bool want (keeps os) → MatchResult r (λ v. items v ≡ cond k (part ∷ []) []) (λ e. e ≡ NoMemory) → MatchResult r (λ v. AreKeptOn value start end (λ t. kept_value want (keeps (signs t)) (f t)) c (items v) × AllFit fits) (IsPartFault F1 fits)
   cell_is items (Ok v) f c part want keeps signs os k fits h a n e m = (rw m (kept_is f c part want keeps signs os k h n e), a)
   cell_is items (Err fault) f c part want keeps signs os k fits h a n e m = rw m tt
 
@@ -61,7 +62,7 @@ flag_is c keeps signs os b k n e = record {
   values = λ t i. rw i (ap Some (e ∙ ap keeps (n t i)));
 }
 
-pub cell_fault : (copies : Bool) (fits : List Ratio) (f : LookFault) (e : OpFault) → IsLookFault copies fits f → e ≡ operator_fault f → IsCellFault fits e
+pub cell_fault : (copies : Bool) (fits : List Ratio) (f : LookFault) (e : OpFault) → IsLookFault copies fits f → e ≡ operator_fault f → IsPartFault F1 fits e
 cell_fault copies fits (LookPassed f) e h i = rw i h
 cell_fault copies fits LookNoMemory e h i = rw i tt
 
@@ -92,29 +93,29 @@ module _ {D B : Type 0} (value : D → Ratio → Ratio → Ratio → B) (start e
   abbrev pub Gives : SpanOf → List (Slice D) → Type 0
   Gives c v = AreKeptOn value start end f c v
 
-  kept_inside : (s : SpanOf) (cells : List SpanOf) (slices : List (Slice D)) → LiftsTo (λ v. v) Gives cells slices → AllByRecursion (λ c. is_inside s c ≡ true) cells → AreInside s slices
+  kept_inside : (s : SpanOf) (cells : List SpanOf) (slices : List (Slice D)) → AreGivenInOrder (λ v. v) Gives cells slices → AllByRecursion (λ c. is_inside s c ≡ true) cells → AreInside s slices
   kept_inside s [] slices h k = rw h tt
   kept_inside s (c ∷ cells) slices h k = rw h.4 (more_inside s h.0 h.1 (all_inside s c h.0 k.0 h.2.inside) (kept_inside s cells h.1 h.3 k.1))
 
-  found_by : (c : SpanOf) (cells : List SpanOf) (t : Ratio) (o : Option B) (b : Bool) → has c t ≡ b → (b || in_some cells t) ≡ true → (in_some cells t ≡ true → MatchOption (part_at (λ c. c) cells t) (o ≡ None) (λ p. (v : List (Slice D)) × Gives p v × (o ≡ value_at value v t)) → o ≡ f t) → MatchOption (cond b (Some c) (part_at (λ c. c) cells t)) (o ≡ None) (λ p. (v : List (Slice D)) × Gives p v × (o ≡ value_at value v t)) → o ≡ f t
+  found_by : (c : SpanOf) (cells : List SpanOf) (t : Ratio) (o : Option B) (b : Bool) → has c t ≡ b → (b || in_some cells t) ≡ true → (in_some cells t ≡ true → MatchOption (piece_at (λ c. c) cells t) (o ≡ None) (λ p. (v : List (Slice D)) × Gives p v × (o ≡ value_at value v t)) → o ≡ f t) → MatchOption (cond b (Some c) (piece_at (λ c. c) cells t)) (o ≡ None) (λ p. (v : List (Slice D)) × Gives p v × (o ≡ value_at value v t)) → o ≡ f t
   found_by c cells t o true e h g m = m.2 ∙ m.1.values t e
   found_by c cells t o false e h g m = g h m
 
-  found : (cells : List SpanOf) (t : Ratio) (o : Option B) → in_some cells t ≡ true → MatchOption (part_at (λ c. c) cells t) (o ≡ None) (λ p. (v : List (Slice D)) × Gives p v × (o ≡ value_at value v t)) → o ≡ f t
+  found : (cells : List SpanOf) (t : Ratio) (o : Option B) → in_some cells t ≡ true → MatchOption (piece_at (λ c. c) cells t) (o ≡ None) (λ p. (v : List (Slice D)) × Gives p v × (o ≡ value_at value v t)) → o ≡ f t
   found [] t o h m = absurd (true≢false (sym h))
   found (c ∷ cells) t o h m = found_by c cells t o (has c t) refl h (λ k n. found cells t o k n) m
 
-  pub all_kept : (s : SpanOf) (cells : List SpanOf) (slices : List (Slice D)) → LiftsTo (λ v. v) Gives cells slices → AreCells s cells → AreKeptOn value start end f s slices
+  pub all_kept : (s : SpanOf) (cells : List SpanOf) (slices : List (Slice D)) → AreGivenInOrder (λ v. v) Gives cells slices → AreCells s cells → AreKeptOn value start end f s slices
   all_kept s cells slices h a =
-      let l : IsLifted value start end (λ c. c) (λ v. v) Gives cells slices = is_lifted value start end (λ c. c) (λ v. v) Gives (λ p v k g. (g.ordered, g.inside)) cells slices h a.clear in
+      let l : IsPiecewise value start end (λ c. c) (λ v. v) Gives cells slices = is_lifted value start end (λ c. c) (λ v. v) Gives (λ p v k g. (g.ordered, g.inside)) cells slices h a.clear in
       record { ordered = l.ordered; inside = kept_inside s cells slices h a.inside; values = λ t i. found cells t (value_at value slices t) (a.covers t ∙ i) (l.at_each t) }
 
   -- what is kept of the rest makes, behind what is there, what is kept of all
   abbrev pub IsMade : List SpanOf → List SpanOf → List (Slice D) → Type 0
-  IsMade all rest out = (v : List (Slice D)) → LiftsTo (λ v. v) Gives rest v → LiftsTo (λ v. v) Gives all (out ++ v)
+  IsMade all rest out = (v : List (Slice D)) → AreGivenInOrder (λ v. v) Gives rest v → AreGivenInOrder (λ v. v) Gives all (out ++ v)
 
   pub made_step : (all rest later : List SpanOf) (out out' more : List (Slice D)) (c : SpanOf) → rest ≡ c ∷ later → out' ≡ out ++ more → Gives c more → IsMade all rest out → IsMade all later out'
-  made_step all rest later out out' more c e n g m v k = rw (n, append_assoc out more v) (m (more ++ v) (subst (λ z. LiftsTo (λ v. v) Gives z (more ++ v)) (sym e) (more, v, g, k, refl)))
+  made_step all rest later out out' more c e n g m v k = rw (n, append_assoc out more v) (m (more ++ v) (subst (λ z. AreGivenInOrder (λ v. v) Gives z (more ++ v)) (sym e) (more, v, g, k, refl)))
 
   pub made_end : (s : SpanOf) (all rest : List SpanOf) (out : List (Slice D)) → rest ≡ [] → AreCells s all → IsMade all rest out → AreKeptOn value start end f s out
   made_end s all rest out e a m = all_kept s all out (rw append-nil at (m [] (rw e refl))) a
@@ -173,7 +174,7 @@ module _ (parts : Ratio → List Ratio) where
   pub fits_end : (all rest : List SpanOf) → rest ≡ [] → (AllByRecursion EndsFit rest → AllByRecursion EndsFit all) → AllByRecursion EndsFit all
   fits_end all rest e m = m (rw e tt)
 
-pub kept_fault : (parts : List Ratio) (all : List Ratio) (f : OpFault) → IsCellFault parts f → ((¬ AllFit parts) → ¬ AllFit all) → OnFormula (λ g. IsFirst (record { formula = F1; parts = all } ∷ []) (Some g)) f
+pub kept_fault : (parts : List Ratio) (all : List Ratio) (f : OpFault) → IsPartFault F1 parts f → ((¬ AllFit parts) → ¬ AllFit all) → OnFormula (λ g. IsFirst (record { formula = F1; parts = all } ∷ []) (Some g)) f
 kept_fault parts all (Passed f) h g = inr (g h.1, ap Some h.0)
 kept_fault parts all NoMemory h g = tt
 

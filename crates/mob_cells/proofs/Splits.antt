@@ -10,7 +10,7 @@ use Rattle.mob_span.specs.Span.{SpanOf, has, has_instant}
 use Rattle.mob_span.specs.Neighbours.{is_clear, is_inside}
 use Rattle.mob_span.specs.Sets.{in_some}
 use Rattle.mob_slice.specs.Slices.{OfHead}
-use Rattle.mob_span.specs.Parts.{PartsAreClear}
+use Rattle.mob_span.specs.Pieces.{PiecesAreClear}
 use Rattle.mob_cells.specs.Cells.{instant_span, inner, until, beyond, split_at, start_cells, is_cell, is_cell_of, AreSplit, NoneWithin}
 
 -- ---- one cell
@@ -59,7 +59,7 @@ split_head : (p : SpanOf) (r : Ratio) (cells : List SpanOf) → OfHead (λ c d. 
 split_head p r [] h = tt
 split_head p r (c ∷ cells) h = on_head p c r (split_at r cells) h (before c.lower r && before r c.upper)
 
-clear_by : (c : SpanOf) (r : Ratio) (rest : List SpanOf) → has_instant c ≡ true → OfHead (λ c d. is_clear c d ≡ true) c rest → PartsAreClear (λ c. c) rest → (b : Bool) → (before c.lower r && before r c.upper) ≡ b → PartsAreClear (λ c. c) (cond b (until c r ∷ instant_span r ∷ beyond c r ∷ []) (c ∷ []) ++ rest)
+clear_by : (c : SpanOf) (r : Ratio) (rest : List SpanOf) → has_instant c ≡ true → OfHead (λ c d. is_clear c d ≡ true) c rest → PiecesAreClear (λ c. c) rest → (b : Bool) → (before c.lower r && before r c.upper) ≡ b → PiecesAreClear (λ c. c) (cond b (until c r ∷ instant_span r ∷ beyond c r ∷ []) (c ∷ []) ++ rest)
 clear_by c r rest s h k true e =
     let w = and_parts (before c.lower r) (before r c.upper) e in
     let p = cut_some c r w.0 w.1 in
@@ -67,7 +67,7 @@ clear_by c r rest s h k true e =
     (p.0, q.0, (p.1, q.1, (p.2, to_head c r rest h, k)))
 clear_by c r rest s h k false e = (s, h, k)
 
-pub split_clear : (r : Ratio) (cells : List SpanOf) → PartsAreClear (λ c. c) cells → PartsAreClear (λ c. c) (split_at r cells)
+pub split_clear : (r : Ratio) (cells : List SpanOf) → PiecesAreClear (λ c. c) cells → PiecesAreClear (λ c. c) (split_at r cells)
 split_clear r [] h = tt
 split_clear r (c ∷ cells) h = clear_by c r (split_at r cells) h.0 (split_head c r cells h.1) (split_clear r cells h.2) (before c.lower r && before r c.upper) refl
 

@@ -1,5 +1,5 @@
 -- Roots.
-use Rattle.std.specs.Prelude.{◌≡◌, Bool, true, false, cond, ◌&&◌, ◌||◌, [], ◌∷◌, Result, pos, refl}
+use Rattle.std.specs.Prelude.{◌≡◌, Bool, true, false, [], ◌∷◌, Result, pos, refl}
 use Rattle.std.proofs.Common.{arith, ap, sym, ◌∙◌, subst, true≢false, inl, inr}
 use Rattle.std.specs.declared.cmp.Ordering.TheVariants.{Less, Equal, Greater}
 use Rattle.mob_ratio.specs.Ratio.{Ratio, whole, ◌+ℚ◌, ◌-ℚ◌, ◌*ℚ◌, ◌/ℚ◌, ◌<ℚ◌}
@@ -13,7 +13,7 @@ use Rattle.mob_frac.specs.Formula.{IsFormula, inner_root_parts}
 use Rattle.mob_frac.proofs.PartsOfLines.{last_part}
 use Rattle.mob_span.specs.Span.{SpanOf, has}
 use Rattle.mob_cells.specs.declared.linear.Ends.{Ends}
-use Rattle.mob_cells.specs.Roots.{IsLevel, IsOneRoot, opposes}
+use Rattle.mob_cells.specs.Roots.{IsLevel, IsOneRoot}
 
 opposite_self : (x : Ratio) → opposite x x ≡ false
 unfolding opposite
@@ -56,28 +56,18 @@ one_root s f l o =
 pub opposite_differ : (f0 f1 : Ratio) → opposite f0 f1 ≡ true → f0 -ℚ f1 ≡ nil → ⊥
 opposite_differ f0 f1 h e = elim (opposite_cases f0 f1 h) [ inl k ↦ ne_by f0 f1 (before-trans f0 nil f1 k.0 k.1) e | inr k ↦ ne_by' f0 f1 (before-trans f1 nil f0 k.1 k.0) e ]
 
--- opposite by signs
-opp : (a b c d : Bool) → (a && b) ≡ false → (c && d) ≡ false → opposes (cond a Less (cond b Greater Equal)) (cond c Less (cond d Greater Equal)) ≡ ((a && d) || (b && c))
-opp true true c d h k = absurd (true≢false h)
-opp true false true true h k = absurd (true≢false k)
-opp true false true false h k = refl
-opp true false false true h k = refl
-opp true false false false h k = refl
-opp false true true true h k = absurd (true≢false k)
-opp false true true false h k = refl
-opp false true false true h k = refl
-opp false true false false h k = refl
-opp false false true true h k = absurd (true≢false k)
-opp false false true false h k = refl
-opp false false false true h k = refl
-opp false false false false h k = refl
+-- the tests for a sign, as they are looked up
+pub below_by : (x : Ratio) → x <ℚ nil → true ≡ before x nil
+below_by x h = sym (lt-before x nil h)
 
-not_two : (x y : Ratio) → (before x y && before y x) ≡ false
-not_two x y = grind (arith, before-back x y)
+pub not_below_by : (x : Ratio) → (x <ℚ nil → ⊥) → false ≡ before x nil
+not_below_by x h = sym (false_unless (before x nil) (λ e. h (before-lt x nil e)))
 
-pub opposite_by : (x y : Ratio) → opposes (sign_of x) (sign_of y) ≡ opposite x y
-unfolding sign_of opposite
-opposite_by x y = opp (before x nil) (before nil x) (before y nil) (before nil y) (not_two x nil) (not_two y nil)
+pub above_by : (x : Ratio) → nil <ℚ x → true ≡ before nil x
+above_by x h = sym (lt-before nil x h)
+
+pub not_above_by : (x : Ratio) → (nil <ℚ x → ⊥) → false ≡ before nil x
+not_above_by x h = sym (false_unless (before nil x) (λ e. h (before-lt nil x e)))
 
 -- the sign, as it is looked up
 pub less_by : (x : Ratio) → x <ℚ whole (pos 0) → Less ≡ sign_of x

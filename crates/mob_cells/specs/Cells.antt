@@ -9,7 +9,7 @@ use Rattle.mob_ratio.specs.Sign.{sign_on, sign_of}
 use Rattle.mob_span.specs.Span.{SpanOf, has}
 use Rattle.mob_span.specs.Neighbours.{is_inside}
 use Rattle.mob_span.specs.Sets.{in_some}
-use Rattle.mob_span.specs.Parts.{PartsAreClear}
+use Rattle.mob_span.specs.Pieces.{PiecesAreClear}
 use Rattle.mob_cells.specs.declared.linear.Ends.{Ends}
 use Rattle.mob_cells.specs.declared.signs.Placed.{Placed}
 use Rattle.mob_cells.specs.Roots.{function_at, IsLevel, root_of, roots}
@@ -29,7 +29,7 @@ pub record CellsOf : Type 0 where
 
 -- The cells are ordered and disjoint, lie in the span s, and have all its instants.
 pub record AreCells (s : SpanOf) (cells : List SpanOf) : Type 0 where
-  pub clear : PartsAreClear (λ c. c) cells
+  pub clear : PiecesAreClear (λ c. c) cells
   pub inside : AllByRecursion (λ c. is_inside s c ≡ true) cells
   pub covers : (t : Ratio) → in_some cells t ≡ has s t
 
@@ -97,7 +97,7 @@ is_cell_of s c = is_cell c && is_inside s c
 
 -- the cells so far
 pub record AreSplit (s : SpanOf) (cells : List SpanOf) : Type 0 where
-  pub clear : PartsAreClear (λ c. c) cells
+  pub clear : PiecesAreClear (λ c. c) cells
   pub are : AllByRecursion (λ c. is_cell_of s c ≡ true) cells
   pub covers : (t : Ratio) → in_some cells t ≡ has s t
 

@@ -13,10 +13,11 @@ use Rattle.mob_plane.proofs.TurnsAlong.{line_at-from}
 use Rattle.mob_ratio.proofs.Signs.{sign-diff}
 use Rattle.mob_frac.specs.Formula.{AllFit}
 use Rattle.mob_span.specs.Span.{SpanOf}
+use Rattle.mob_slice.specs.declared.formula.Formula.TheVariants.{F2}
 use Rattle.mob_slice.specs.Sides.{at_ends, HasValues}
 use Rattle.mob_slice.specs.Cut.{slice_value}
 use Rattle.mob_slice.specs.Lines.{plane_value_of, plane_parts_of}
-use Rattle.mob_slice.specs.Entries.{IsFirst, OnFormula}
+use Rattle.mob_slice.specs.Entries.{IsFirst, OnFormula, IsPartFault}
 use Rattle.mob_slice.specs.declared.slice.Slice.{Slice}
 use Rattle.mob_plane.specs.declared.point.Point.{Point}
 use Rattle.mob_slice.specs.declared.line.PlaneLine.{PlaneLine}
@@ -27,7 +28,6 @@ use Rattle.mob_cells.specs.Roots.{IsLevel}
 use Rattle.mob_cells.specs.Cells.{signs_of}
 use Rattle.mob_cells.specs.Kept.{IsKeptBy, entries_of_cuts}
 use Rattle.mob_cells.specs.Restricted.{kept_value}
-use Rattle.mob_cells.specs.Gaps.{IsGapFault}
 use Rattle.mob_cells.proofs.OwnEnds.{kept_behind}
 use Rattle.mob_stbox.specs.declared.area.Area.{Area}
 use Rattle.mob_stbox.specs.Areas.{in_area}
@@ -61,7 +61,7 @@ module _ (a : Area) (s part : Slice PlaneLine) (h : HasValues plane_value_of (λ
   same_ends : area_ends a part.course.from part.course.to ≡ area_ends a (slice_value plane_value_of s part.span.lower) (slice_value plane_value_of s part.span.upper)
   same_ends = ap (λ p. area_ends a p part.course.to) h.from ∙ ap (λ q. area_ends a (slice_value plane_value_of s part.span.lower) q) h.to
 
-  pub sides_fail : (f : OpFault) → IsGapFault (area_parts a part.course.from ++ area_parts a part.course.to) f → OnFormula (λ g. IsFirst (entries_of_area a s part.span) (Some g)) f
+  pub sides_fail : (f : OpFault) → IsPartFault F2 (area_parts a part.course.from ++ area_parts a part.course.to) f → OnFormula (λ g. IsFirst (entries_of_area a s part.span) (Some g)) f
   sides_fail (Passed f) k = inr (subst (λ z. ¬ AllFit z) same_parts k.1, ap Some k.0)
   sides_fail NoMemory k = tt
 

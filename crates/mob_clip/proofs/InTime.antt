@@ -12,6 +12,7 @@ use Rattle.mob_span.specs.Neighbours.{is_clear, is_inside}
 use Rattle.mob_span.specs.Sets.{in_some}
 use Rattle.mob_span.proofs.SpanLemmas.{no_instant, meet_has, meet_none}
 use Rattle.mob_span.proofs.Insides.{meet_left, clear_has, inside_has, low_inside, high_inside}
+use Rattle.mob_span.specs.Flags.{same_bool}
 use Rattle.mob_slice.specs.Slices.{IsSound}
 use Rattle.mob_slice.specs.Look.{IsLookFault}
 use Rattle.mob_slice.specs.Sides.{at_ends, HasValues}
@@ -30,9 +31,9 @@ use Rattle.mob_slice.specs.declared.formula.LookFault.TheVariants.{Passed as Loo
 use Rattle.mob_slice.proofs.Cuts.{all_both, all_first, all_second}
 use Rattle.mob_cells.specs.Cells.{AreCells}
 use Rattle.mob_cells.specs.Kept.{AreKeptOn, IsKeptBy}
-use Rattle.mob_cells.specs.Restricted.{kept_value, is_wanted}
+use Rattle.mob_cells.specs.Restricted.{kept_value}
 use Rattle.mob_slice.specs.Entries.{operator_fault}
-use Rattle.mob_lifted.specs.Lifted.{LiftsTo}
+use Rattle.mob_lifted.specs.Piecewise.{AreGivenInOrder}
 use Rattle.mob_cells.proofs.Restricting.{all_kept}
 use Rattle.mob_cells.proofs.OwnEnds.{kept_same, kept_behind, start_value, end_value}
 use Rattle.mob_stbox.specs.declared.area.Area.{Area}
@@ -153,7 +154,7 @@ module _ (s : Slice PlaneLine) (m : SpanOf) (inside : is_inside s.span m ≡ tru
   in_the_time : (t : Ratio) → has m t ≡ true → has T t ≡ true
   in_the_time t h = (and_parts (has s.span t) (has T t) (sym (shared t) ∙ h)).1
 
-  outside_gives : (r : SpanOf) (v : List (Slice PlaneLine)) → is_inside s.span r ≡ true → ((t : Ratio) → has r t ≡ true → has m t ≡ false) → AreAllOrNothing s (is_wanted want false) (Some r) v → Gives r v
+  outside_gives : (r : SpanOf) (v : List (Slice PlaneLine)) → is_inside s.span r ≡ true → ((t : Ratio) → has r t ≡ true → has m t ≡ false) → AreAllOrNothing s (same_bool want false) (Some r) v → Gives r v
   outside_gives r v i n h = kept_same plane_value_of (λ c. c.from) (λ c. c.to) (λ t. kept_value want false (x t)) f r v (λ t k. ap (λ b. kept_value want b (x t)) (nowhere (in_space space (x t)) (has T t) (no_time t (in_span t k) (n t k)))) h
     where
       in_span : (t : Ratio) → has r t ≡ true → has s.span t ≡ true
@@ -166,11 +167,11 @@ module _ (s : Slice PlaneLine) (m : SpanOf) (inside : is_inside s.span m ≡ tru
   middle_gives : (v : List (Slice PlaneLine)) → AreKeptOn plane_value_of (λ c. c.from) (λ c. c.to) (λ t. kept_value want (in_space space (x t)) (x t)) m v → Gives m v
   middle_gives v h = kept_same plane_value_of (λ c. c.from) (λ c. c.to) (λ t. kept_value want (in_space space (x t)) (x t)) f m v (λ t k. ap (λ b. kept_value want b (x t)) (everywhere (in_space space (x t)) (has T t) (in_the_time t k))) h
 
-  back_lifts : (b : Bool) (v : List (Slice PlaneLine)) → AreAllOrNothing s (is_wanted want false) (cond b (Some (back_span s.span m)) None) v → LiftsTo (λ v. v) Gives (cond b (back_span s.span m ∷ []) []) v
+  back_lifts : (b : Bool) (v : List (Slice PlaneLine)) → AreAllOrNothing s (same_bool want false) (cond b (Some (back_span s.span m)) None) v → AreGivenInOrder (λ v. v) Gives (cond b (back_span s.span m ∷ []) []) v
   back_lifts true v h = (v, [], outside_gives (back_span s.span m) v (back_inside s.span m inside some) (back_not s.span m inside some) h, refl, sym (append-nil v))
   back_lifts false v h = h
 
-  all_lifts : (a b : Bool) (front middle back v : List (Slice PlaneLine)) → AreAllOrNothing s (is_wanted want false) (cond a (Some (front_span s.span m)) None) front → Gives m middle → LiftsTo (λ v. v) Gives (cond b (back_span s.span m ∷ []) []) back → v ≡ (front ++ middle) ++ back → LiftsTo (λ v. v) Gives (cond a (front_span s.span m ∷ []) [] ++ m ∷ cond b (back_span s.span m ∷ []) []) v
+  all_lifts : (a b : Bool) (front middle back v : List (Slice PlaneLine)) → AreAllOrNothing s (same_bool want false) (cond a (Some (front_span s.span m)) None) front → Gives m middle → AreGivenInOrder (λ v. v) Gives (cond b (back_span s.span m ∷ []) []) back → v ≡ (front ++ middle) ++ back → AreGivenInOrder (λ v. v) Gives (cond a (front_span s.span m ∷ []) [] ++ m ∷ cond b (back_span s.span m ∷ []) []) v
   all_lifts true b front middle back v h g k e = (front, middle ++ back, outside_gives (front_span s.span m) front (front_inside s.span m inside some) (front_not s.span m inside some) h, (middle, back, g, k, refl), e ∙ append_assoc front middle back)
   all_lifts false b front middle back v h g k e = (middle, back, g, k, e ∙ ap (λ z. (z ++ middle) ++ back) h)
 
@@ -190,7 +191,7 @@ module _ (s : Slice PlaneLine) (sound : IsSound (λ c. c.from) (λ c. c.to) s) w
     abbrev pub wanted : Ratio → Option Point
     wanted t = kept_value want (in_space space (slice_value plane_value_of s t) && has T t) (slice_value plane_value_of s t)
 
-    pub none_shared : {V : Type 0} (items : V → List (Slice PlaneLine)) (q : Result V OpFault) → has_instant (meet_of s.span T) ≡ false → MatchResult q (λ v. AreAllOrNothing s (is_wanted want false) (Some s.span) (items v)) (λ e. e ≡ NoMemory) → IsKeptBy plane_value_of (λ c. c.from) (λ c. c.to) items wanted s.span (entries_in_time (Some T) space s) q
+    pub none_shared : {V : Type 0} (items : V → List (Slice PlaneLine)) (q : Result V OpFault) → has_instant (meet_of s.span T) ≡ false → MatchResult q (λ v. AreAllOrNothing s (same_bool want false) (Some s.span) (items v)) (λ e. e ≡ NoMemory) → IsKeptBy plane_value_of (λ c. c.from) (λ c. c.to) items wanted s.span (entries_in_time (Some T) space s) q
     none_shared items (Ok v) n h = (kept_same plane_value_of (λ c. c.from) (λ c. c.to) (λ t. kept_value want false (slice_value plane_value_of s t)) wanted s.span (items v) (λ t k. ap (λ b. kept_value want b (slice_value plane_value_of s t)) (nowhere (in_space space (slice_value plane_value_of s t)) (has T t) (out t k))) h, rw n refl)
       where
         out : (t : Ratio) → has s.span t ≡ true → has T t ≡ false

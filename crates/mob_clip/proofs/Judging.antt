@@ -15,7 +15,7 @@ use Rattle.mob_slice.specs.Sides.{at_ends}
 use Rattle.mob_slice.specs.Cut.{slice_value, slice_parts}
 use Rattle.mob_slice.specs.Lines.{plane_value_of, plane_parts_of}
 use Rattle.mob_slice.specs.PlaneLaws.{plane_laws}
-use Rattle.mob_slice.specs.Entries.{IsFirst, OnFormula}
+use Rattle.mob_slice.specs.Entries.{IsFirst, OnFormula, IsPartFault}
 use Rattle.mob_slice.specs.declared.slice.Slice.{Slice}
 use Rattle.mob_slice.specs.declared.line.PlaneLine.{PlaneLine}
 use Rattle.mob_slice.specs.declared.formula.Formula.TheVariants.{F1, F2, F3, F4}
@@ -32,7 +32,7 @@ use Rattle.mob_list.proofs.Each.{each_both}
 use Rattle.mob_clip.specs.declared.sides.Beside.{Beside}
 use Rattle.mob_clip.specs.declared.sides.EdgeEnds.{EdgeEnds}
 use Rattle.mob_clip.specs.declared.roots.EdgePlaced.{EdgePlaced}
-use Rattle.mob_clip.specs.Sides.{beside, beside_parts, point_parts, with_turn, turning_parts, IsBeside, IsPartFault}
+use Rattle.mob_clip.specs.Sides.{beside, beside_parts, point_parts, with_turn, turning_parts, IsBeside}
 use Rattle.mob_clip.specs.Roots.{place_edge, placed_edge, listed_ends, edge_roots, IsBetweenEnds, IsPlacedEdge, CutsFit}
 use Rattle.mob_clip.specs.Polygons.{edge_parts, edges_parts, edge_ends, edges_ends, entries_of_edges}
 

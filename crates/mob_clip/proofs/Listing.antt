@@ -1,4 +1,5 @@
 -- Lists that are made of others, part by part.
+use Rattle.mob_slice.specs.Entries.{IsPartFault}
 use Rattle.std.specs.Prelude.{◌≡◌, List, [], ◌∷◌, ◌++◌, map, refl}
 use Rattle.std.specs.List.{flat_map}
 use Rattle.std.proofs.Common.{ap, sym, ◌∙◌, subst, append_assoc, append-nil}
@@ -8,7 +9,6 @@ use Rattle.mob_slice.specs.declared.formula.Formula.{Formula}
 use Rattle.mob_slice.specs.declared.formula.OpFault.{OpFault}
 use Rattle.mob_slice.specs.declared.formula.OpFault.TheVariants.{Passed, NoMemory}
 use Rattle.mob_slice.proofs.Cuts.{all_both, all_first, all_second}
-use Rattle.mob_clip.specs.Sides.{IsPartFault}
 
 -- the parts of a list that fit where those of the rest do
 pub record IsChecking {A : Type 0} (parts : A → List Ratio) (all rest : List A) : Type 0 where

@@ -11,6 +11,7 @@ use Rattle.mob_span.specs.Span.{SpanOf, has, has_instant}
 use Rattle.mob_span.specs.Neighbours.{is_clear, is_inside}
 use Rattle.mob_span.proofs.SpanLemmas.{no_instant}
 use Rattle.mob_span.proofs.Insides.{clear_inside, inside_clear, clear_has, inside_has, inside_self}
+use Rattle.mob_span.specs.Flags.{same_bool}
 use Rattle.mob_plane.specs.declared.point.Point.{Point}
 use Rattle.mob_slice.specs.Slices.{value_at, IsOrdered, IsSound, IsClearOf, OfHead}
 use Rattle.mob_slice.specs.Pieces.{AreInside}
@@ -23,7 +24,7 @@ use Rattle.mob_slice.specs.declared.formula.OpFault.{OpFault}
 use Rattle.mob_slice.specs.declared.formula.OpFault.TheVariants.{NoMemory}
 use Rattle.mob_slice.proofs.Cuts.{all_both, all_first, all_second}
 use Rattle.mob_cells.specs.Kept.{AreKeptOn}
-use Rattle.mob_cells.specs.Restricted.{kept_value, is_wanted}
+use Rattle.mob_cells.specs.Restricted.{kept_value}
 use Rattle.mob_cells.proofs.Restricting.{inside_trans}
 use Rattle.mob_plane.specs.declared.edges.Tally.{Tally}
 use Rattle.mob_clip.specs.declared.steps.Change.{Change}
@@ -252,8 +253,8 @@ module _ (s : Slice PlaneLine) (want : Bool) (steps : Steps Tally) where
   pub passing_start : IsSound (λ k. k.from) (λ k. k.to) s → AllFit (at_ends (slice_parts plane_parts_of s) s.span) → ChangesFit (slice_parts plane_parts_of s) steps.changes.items → IsPassing (Some s.span) steps.first steps.changes.items []
   passing_start h k l = record { left = left_start s wanted h k; same = λ t i. refl; fits = l }
 
-  keeps_is : (keeps : Bool) (tally : Tally) (t : Ratio) → keeps ≡ is_wanted want (is_known_in tally) → steps_at steps t ≡ tally → cond keeps (Some (slice_value plane_value_of s t)) None ≡ wanted t
-  keeps_is keeps tally t e h = ap (λ b. cond b (Some (slice_value plane_value_of s t)) None) (e ∙ ap (λ z. is_wanted want (is_known_in z)) (sym h))
+  keeps_is : (keeps : Bool) (tally : Tally) (t : Ratio) → keeps ≡ same_bool want (is_known_in tally) → steps_at steps t ≡ tally → cond keeps (Some (slice_value plane_value_of s t)) None ≡ wanted t
+  keeps_is keeps tally t e h = ap (λ b. cond b (Some (slice_value plane_value_of s t)) None) (e ∙ ap (λ z. same_bool want (is_known_in z)) (sym h))
 
   left_of : (rest : Option SpanOf) (r : Ratio) (i : Bool) (t : Ratio) → has_piece (left_piece rest r i) t ≡ true → (has_piece rest t ≡ true) × (is_left r i t ≡ true)
   left_of None r i t h = absurd (true≢false (sym h))
@@ -274,8 +275,8 @@ module _ (s : Slice PlaneLine) (want : Bool) (steps : Steps Tally) where
 
   -- past a change: what is in front of it, what stands there, and what is behind
   pub passing_step : (rest rest' rest'' : Option SpanOf) (now : Tally) (later later' : List (Change Tally)) (c : Change Tally) (front there : Bool) (out out' out'' v w : List (Slice PlaneLine)) → later ≡ c ∷ later'
-      → front ≡ is_wanted want (is_known_in now) → rest' ≡ right_piece rest c.at false → out' ≡ out ++ v → AreAllOrNothing s front (left_piece rest c.at false) v
-      → there ≡ is_wanted want (is_known_in c.there) → rest'' ≡ right_piece rest' c.at true → out'' ≡ out' ++ w → AreAllOrNothing s there (left_piece rest' c.at true) w
+      → front ≡ same_bool want (is_known_in now) → rest' ≡ right_piece rest c.at false → out' ≡ out ++ v → AreAllOrNothing s front (left_piece rest c.at false) v
+      → there ≡ same_bool want (is_known_in c.there) → rest'' ≡ right_piece rest' c.at true → out'' ≡ out' ++ w → AreAllOrNothing s there (left_piece rest' c.at true) w
       → IsPassing rest now later out → IsPassing rest'' c.behind later' out''
   passing_step rest rest' rest'' now later later' c front there out out' out'' v w e kf rf nf hf kt rt nt ht m =
       let fits = subst (ChangesFit (slice_parts plane_parts_of s)) e m.fits in
@@ -288,10 +289,10 @@ module _ (s : Slice PlaneLine) (want : Bool) (steps : Steps Tally) where
         fits = fits.1;
       }
 
-  pub passing_end : (rest : Option SpanOf) (now : Tally) (later : List (Change Tally)) (keeps : Bool) (out all v : List (Slice PlaneLine)) → later ≡ [] → keeps ≡ is_wanted want (is_known_in now) → all ≡ out ++ v → AreAllOrNothing s keeps rest v → IsPassing rest now later out → AreKeptOn plane_value_of (λ k. k.from) (λ k. k.to) wanted s.span all
+  pub passing_end : (rest : Option SpanOf) (now : Tally) (later : List (Change Tally)) (keeps : Bool) (out all v : List (Slice PlaneLine)) → later ≡ [] → keeps ≡ same_bool want (is_known_in now) → all ≡ out ++ v → AreAllOrNothing s keeps rest v → IsPassing rest now later out → AreKeptOn plane_value_of (λ k. k.from) (λ k. k.to) wanted s.span all
   passing_end rest now later keeps out all v e k n h m = finished s wanted rest keeps out all v n h (λ t i. keeps_is keeps now t k (m.same t i ∙ ap (λ z. step_at now z t) e)) m.left
 
-  pub passing_ends : {V : Type 0} (items : V → List (Slice PlaneLine)) (result : Result V OpFault) (rest : Option SpanOf) (now : Tally) (later : List (Change Tally)) (keeps : Bool) (out : List (Slice PlaneLine)) → later ≡ [] → keeps ≡ is_wanted want (is_known_in now) → IsPassing rest now later out
+  pub passing_ends : {V : Type 0} (items : V → List (Slice PlaneLine)) (result : Result V OpFault) (rest : Option SpanOf) (now : Tally) (later : List (Change Tally)) (keeps : Bool) (out : List (Slice PlaneLine)) → later ≡ [] → keeps ≡ same_bool want (is_known_in now) → IsPassing rest now later out
       → MatchResult result (λ all. (v : List (Slice PlaneLine)) × (items all ≡ out ++ v) × AreAllOrNothing s keeps rest v) (λ e. e ≡ NoMemory) → MatchResult result (λ all. AreKeptOn plane_value_of (λ k. k.from) (λ k. k.to) wanted s.span (items all)) (λ e. e ≡ NoMemory)
   passing_ends items (Ok all) rest now later keeps out e k m h = passing_end rest now later keeps out (items all) h.0 e k h.1 h.2 m
   passing_ends items (Err f) rest now later keeps out e k m h = h

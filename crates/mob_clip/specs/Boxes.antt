@@ -2,6 +2,7 @@
 use Rattle.std.specs.Prelude.{◌≡◌, Bool, false, not, cond, List, [], ◌∷◌, ◌++◌, Option, Some, None}
 use Rattle.mob_span.specs.Span.{SpanOf, has_instant}
 use Rattle.mob_span.specs.Meet.{meet_of}
+use Rattle.mob_span.specs.Flags.{same_bool}
 use Rattle.mob_slice.specs.Sides.{at_ends}
 use Rattle.mob_slice.specs.Cut.{slice_parts}
 use Rattle.mob_slice.specs.Lines.{plane_parts_of}
@@ -10,7 +11,6 @@ use Rattle.mob_slice.specs.declared.slice.Slice.{Slice}
 use Rattle.mob_slice.specs.declared.line.PlaneLine.{PlaneLine}
 use Rattle.mob_slice.specs.declared.formula.Formula.TheVariants.{F1}
 use Rattle.mob_stbox.specs.Boxes.{BoxOf}
-use Rattle.mob_cells.specs.Restricted.{is_wanted}
 use Rattle.mob_clip.specs.Pieces.{some_span, AreAllOrNothing}
 use Rattle.mob_clip.specs.Areas.{entries_of_area}
 use Rattle.mob_stbox.specs.declared.area.Area.{Area}
@@ -29,17 +29,17 @@ entries_in_time (Some r) space s = cond (has_instant (meet_of s.span r)) (record
 abbrev pub entries_of_box : BoxOf → Slice PlaneLine → List Entry
 entries_of_box b s = entries_in_time b.time b.space s
 
--- what of s comes before its part m, and after it
+-- what of s comes before its piece m, and after it
 abbrev pub front_span : SpanOf → SpanOf → SpanOf
 front_span s m = record { lower = s.lower; upper = m.lower; lower_inc = s.lower_inc; upper_inc = not m.lower_inc }
 
 abbrev pub back_span : SpanOf → SpanOf → SpanOf
 back_span s m = record { lower = m.upper; upper = s.upper; lower_inc = not m.upper_inc; upper_inc = s.upper_inc }
 
--- the slices are `middle`, behind what is left in front of the part m, and before what is left after it
+-- the slices are `middle`, behind what is left in front of the piece m, and before what is left after it
 pub record AreAround (s : Slice PlaneLine) (want : Bool) (m : SpanOf) (middle v : List (Slice PlaneLine)) : Type 0 where
   pub front : List (Slice PlaneLine)
   pub back : List (Slice PlaneLine)
-  pub in_front : AreAllOrNothing s (is_wanted want false) (some_span (front_span s.span m)) front
-  pub behind : AreAllOrNothing s (is_wanted want false) (some_span (back_span s.span m)) back
+  pub in_front : AreAllOrNothing s (same_bool want false) (some_span (front_span s.span m)) front
+  pub behind : AreAllOrNothing s (same_bool want false) (some_span (back_span s.span m)) back
   pub all : v ≡ (front ++ middle) ++ back

@@ -4,9 +4,6 @@ use Rattle.mob_ratio.specs.Ratio.{Ratio, ◌-ℚ◌, ◌*ℚ◌}
 use Rattle.mob_frac.specs.Formula.{AllFit}
 use Rattle.mob_plane.specs.declared.point.Point.{Point}
 use Rattle.mob_plane.specs.Turns.{turn, turn_parts}
-use Rattle.mob_slice.specs.declared.formula.Formula.{Formula}
-use Rattle.mob_slice.specs.declared.formula.OpFault.{OpFault}
-use Rattle.mob_slice.specs.declared.formula.OpFault.TheVariants.{Passed, NoMemory}
 use Rattle.mob_cells.specs.declared.linear.Ends.{Ends}
 use Rattle.mob_clip.specs.declared.sides.ToPoint.{ToPoint}
 use Rattle.mob_clip.specs.declared.sides.Beside.{Beside}
@@ -47,8 +44,3 @@ turning_parts p q e = turn_parts e.0 e.1 p ++ turn_parts e.0 e.1 q
 -- all functions of an edge
 abbrev pub with_turn : Point → Point → Beside → EdgeEnds
 with_turn p q b = record { turn = turning p q b.edge; x_a = b.to_a.x; x_b = b.to_b.x; y_a = b.to_a.y; y_b = b.to_b.y }
-
--- why a list of formulas was not computed
-abbrev pub IsPartFault : Formula → List Ratio → OpFault → Type 0
-IsPartFault formula parts (Passed f) = (f ≡ formula) × (¬ AllFit parts)
-IsPartFault formula parts NoMemory = Unit {0}

@@ -1,14 +1,14 @@
 //! A moving point and a closed rectangle.
 
+ghost use Rattle.mob_slice.specs.declared.formula.Formula.TheVariants.{F2};
+ghost use Rattle.mob_slice.specs.Entries.{IsMadeBy};
 ghost use Rattle.std.specs.Prelude.{◌≡◌, true, false, [], ◌∷◌, ◌++◌, MatchResult};
-ghost use Rattle.std.specs.List.{AllByRecursion};
 ghost use Rattle.mob_frac.specs.Formula.{AllFit, IsFormula};
 ghost use Rattle.mob_span.specs.Neighbours.{is_inside};
 ghost use Rattle.mob_slice.specs.Slices.{IsSound};
 ghost use Rattle.mob_slice.specs.Sides.{at_ends, HasValues};
 ghost use Rattle.mob_slice.specs.Cut.{slice_value, slice_parts};
 ghost use Rattle.mob_slice.specs.Lines.{plane_value_of, plane_parts_of};
-ghost use Rattle.mob_cells.specs.Gaps.{IsGapFault};
 ghost use Rattle.mob_cells.specs.Kept.{IsKeptBy};
 ghost use Rattle.mob_cells.specs.Restricted.{kept_value};
 ghost use Rattle.mob_stbox.specs.Areas.{in_area};
@@ -50,7 +50,7 @@ fn to_sides(area: &Area, p: &Point) -> Result<Sides, Overflow>
 
 // The linear functions by whose signs a point on the way from `p` to `q` is in the area.
 fn functions(alloc: Global, area: &Area, p: &Point, q: &Point) -> Result<Vec<Ends>, OpFault>
-    ensures functions { MatchResult result (λ v. (v.items ≡ area_ends area.now p.now q.now) × AllFit (area_parts area.now p.now ++ area_parts area.now q.now)) (IsGapFault (area_parts area.now p.now ++ area_parts area.now q.now)) }
+    ensures functions { IsMadeBy F2 (area_parts area.now p.now ++ area_parts area.now q.now) (λ v. v.items ≡ area_ends area.now p.now q.now) result }
 {
     let Ok(from) = to_sides(area, p) else {
         return Err(OpFault::Passed {

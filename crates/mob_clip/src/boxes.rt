@@ -19,10 +19,10 @@ ghost use Rattle.mob_clip.specs.Pieces.{some_span};
 
 use crate::areas::in_area_on;
 use crate::pieces::piece_on;
-use mob_cells::{Restriction, append, is_wanted, listed, restricted};
+use mob_cells::{Restriction, append, listed, restricted};
 use mob_normal::normal;
 use mob_slice::{Moving, OpFault, PlaneLine, Slice, cut, operator_fault};
-use mob_span::Span;
+use mob_span::{Span, same_bool};
 use mob_stbox::{Area, StBox};
 use std::alloc::Global;
 
@@ -45,7 +45,7 @@ fn in_space_on(
     }
 }
 
-// What of a span comes before a part of it.
+// What of a span comes before a piece of it.
 fn front(span: &Span, part: &Span) -> Option<Span>
     ensures span { result ≡ some_span (front_span span.now part.now) }
 {
@@ -57,7 +57,7 @@ fn front(span: &Span, part: &Span) -> Option<Span>
     )
 }
 
-// What of a span comes after a part of it.
+// What of a span comes after a piece of it.
 fn back(span: &Span, part: &Span) -> Option<Span>
     ensures span { result ≡ some_span (back_span span.now part.now) }
 {
@@ -69,7 +69,7 @@ fn back(span: &Span, part: &Span) -> Option<Span>
     )
 }
 
-// What is left of a slice: some slices on a part of it, and what is left around that part, which lies outside of the time.
+// What is left of a slice: some slices on a piece of it, and what is left around that piece, which lies outside of the time.
 fn around(
     alloc: Global,
     slice: &Slice<PlaneLine>,
@@ -86,7 +86,7 @@ fn around(
         alloc,
         slice,
         front(&slice.span, part),
-        is_wanted(want, false),
+        same_bool(want, false),
     ) {
         Ok(out) => out,
         Err(fault) => return Err(fault),
@@ -95,7 +95,7 @@ fn around(
         alloc,
         slice,
         back(&slice.span, part),
-        is_wanted(want, false),
+        same_bool(want, false),
     ) {
         Ok(more) => more,
         Err(fault) => return Err(fault),
@@ -122,7 +122,7 @@ fn in_time_on(
 {
     let shared = match slice.span.meet(time) {
         Some(shared) => shared,
-        None => return piece_on(alloc, slice, Some(slice.span), is_wanted(want, false)),
+        None => return piece_on(alloc, slice, Some(slice.span), same_bool(want, false)),
     };
     let part = match cut(alloc, slice, &shared) {
         Ok(part) => part,

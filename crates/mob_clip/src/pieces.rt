@@ -2,22 +2,23 @@
 
 ghost use Rattle.std.specs.Prelude.{◌≡◌, ◌++◌, List, true, false, MatchResult};
 ghost use Rattle.mob_frac.specs.Formula.{AllFit};
+ghost use Rattle.mob_span.specs.Flags.{same_bool};
 ghost use Rattle.mob_slice.specs.Slices.{IsSound};
 ghost use Rattle.mob_slice.specs.Cut.{slice_value, slice_parts};
 ghost use Rattle.mob_slice.specs.Lines.{plane_value_of, plane_parts_of};
 ghost use Rattle.mob_slice.specs.declared.slice.Slice.{Slice as SliceOf};
 ghost use Rattle.mob_slice.specs.declared.line.PlaneLine.{PlaneLine as PlaneLineOf};
 ghost use Rattle.mob_cells.specs.Kept.{AreKeptOn};
-ghost use Rattle.mob_cells.specs.Restricted.{kept_value, is_wanted};
+ghost use Rattle.mob_cells.specs.Restricted.{kept_value};
 ghost use Rattle.mob_clip.specs.Steps.{steps_at, ChangesFit};
 ghost use Rattle.mob_clip.specs.Pieces.{is_known_in, some_span, left_span, right_span, left_piece, right_piece, IsOnSlice, AreAllOrNothing};
 
 use crate::steps::Steps;
-use mob_cells::{append, is_wanted, listed};
+use mob_cells::{append, listed};
 use mob_frac::Frac;
 use mob_plane::{Tally, is_in};
 use mob_slice::{OpFault, PlaneLine, Slice, cut, operator_fault};
-use mob_span::Span;
+use mob_span::{Span, same_bool};
 use std::alloc::Global;
 
 /// All of a slice on a piece of its span, or nothing.
@@ -117,9 +118,9 @@ fn finish(
 
 // Whether a point of which so much is known is kept.
 fn is_kept(want: bool, tally: &Tally) -> bool
-    ensures value { result ≡ is_wanted want (is_known_in tally.now) }
+    ensures value { result ≡ same_bool want (is_known_in tally.now) }
 {
-    is_wanted(want, is_in(tally))
+    same_bool(want, is_in(tally))
 }
 
 /// What is left of a slice where what is known of it by all edges says what is wanted: its own values there, and nothing elsewhere.

@@ -7,10 +7,9 @@ ghost use Rattle.mob_slice.specs.Slices.{IsSound};
 ghost use Rattle.mob_slice.specs.Computed.{IsComputed};
 ghost use Rattle.mob_slice.specs.Cut.{slice_parts};
 ghost use Rattle.mob_slice.specs.Lines.{plane_parts_of};
-ghost use Rattle.mob_slice.specs.Entries.{IsFirst, OnFormula};
+ghost use Rattle.mob_slice.specs.Entries.{IsFirst, OnFormula, IsPartFault, IsMadeBy};
 ghost use Rattle.mob_slice.specs.declared.formula.Formula.TheVariants.{F1, F3};
 ghost use Rattle.mob_cells.specs.Roots.{IsLevel, root_parts, roots_parts, as_list};
-ghost use Rattle.mob_clip.specs.Sides.{IsPartFault};
 ghost use Rattle.mob_clip.specs.Roots.{place, place_edge, listed_ends, edge_roots, IsBetweenEnds, IsPlacedEdge, placed_edge, CutsFit};
 ghost use Rattle.mob_clip.specs.Polygons.{entries_of_edges};
 
@@ -69,7 +68,7 @@ fn place_edge(span: &Span, edge: &EdgeEnds) -> Result<EdgePlaced, Passed>
 // Adds the functions of an edge with their roots.
 fn push_placed(out: &mut Vec<EdgePlaced>, span: &Span, edge: &EdgeEnds) -> Result<(), OpFault>
     requires level { AllByRecursion (IsLevel span.now) (listed_ends edge.now) }
-    ensures pushed { MatchResult result (λ _. (out.new.items ≡ out.old.items ++ place_edge span.now edge.now ∷ []) × AllFit (roots_parts span.now (listed_ends edge.now))) (IsPartFault F3 (roots_parts span.now (listed_ends edge.now))) }
+    ensures pushed { IsMadeBy F3 (roots_parts span.now (listed_ends edge.now)) (λ _. out.new.items ≡ out.old.items ++ place_edge span.now edge.now ∷ []) result }
 {
     // the types of what is added
     let _types: (Option<Placed>, Frac) = (None, edge.turn.at_lower);
@@ -90,7 +89,7 @@ fn push_placed(out: &mut Vec<EdgePlaced>, span: &Span, edge: &EdgeEnds) -> Resul
 // The functions of all edges with their roots.
 fn placed(alloc: Global, span: &Span, edges: &[EdgeEnds]) -> Result<Vec<EdgePlaced>, OpFault>
     requires level { AllByRecursion (λ g. AllByRecursion (IsLevel span.now) (listed_ends g)) edges.now }
-    ensures made { MatchResult result (λ v. (v.items ≡ map (place_edge span.now) edges.now) × AllFit (flat_map (λ g. roots_parts span.now (listed_ends g)) edges.now)) (IsPartFault F3 (flat_map (λ g. roots_parts span.now (listed_ends g)) edges.now)) }
+    ensures made { IsMadeBy F3 (flat_map (λ g. roots_parts span.now (listed_ends g)) edges.now) (λ v. v.items ≡ map (place_edge span.now) edges.now) result }
 {
     let _lower = span.lower();
     let mut out = Vec::new(alloc);

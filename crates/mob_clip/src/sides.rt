@@ -1,10 +1,10 @@
 //! How a point on a straight way lies to edges: the linear functions of which the signs say so.
 
-ghost use Rattle.std.specs.Prelude.{◌≡◌, [], ◌∷◌, ◌++◌, map, OnOk, MatchResult};
+ghost use Rattle.mob_slice.specs.Entries.{IsMadeBy};
+ghost use Rattle.std.specs.Prelude.{◌≡◌, [], ◌∷◌, ◌++◌, map, OnOk};
 ghost use Rattle.std.specs.List.{AllByRecursion, flat_map};
-ghost use Rattle.mob_frac.specs.Formula.{AllFit, IsFormula};
-ghost use Rattle.mob_plane.specs.Turns.{turn_parts};
-ghost use Rattle.mob_clip.specs.Sides.{point_parts, to_point, beside_parts, beside, turning_parts, turning, turned_by, turned_parts, with_turn, IsBeside, IsPartFault};
+ghost use Rattle.mob_frac.specs.Formula.{IsFormula};
+ghost use Rattle.mob_clip.specs.Sides.{point_parts, to_point, beside_parts, beside, turning_parts, turning, turned_by, turned_parts, with_turn, IsBeside};
 ghost use Rattle.mob_clip.specs.Known.{IsKnown};
 ghost use Rattle.mob_slice.specs.declared.formula.Formula.TheVariants.{F2, F4};
 
@@ -149,7 +149,7 @@ pub fn besides(
     p: &Point,
     q: &Point,
 ) -> Result<Vec<Beside>, OpFault>
-    ensures made { MatchResult result (λ v. (v.items ≡ map (beside p.now q.now) edges.now) × AllFit (flat_map (beside_parts p.now q.now) edges.now)) (IsPartFault F2 (flat_map (beside_parts p.now q.now) edges.now)) }
+    ensures made { IsMadeBy F2 (flat_map (beside_parts p.now q.now) edges.now) (λ v. v.items ≡ map (beside p.now q.now) edges.now) result }
 {
     let mut out = Vec::new(alloc);
     let mut known = None;
@@ -181,7 +181,7 @@ pub fn turned(
     q: &Point,
 ) -> Result<Vec<EdgeEnds>, OpFault>
     requires known { AllByRecursion (IsBeside p.now q.now) edges.now }
-    ensures made { MatchResult result (λ v. (v.items ≡ map (with_turn p.now q.now) edges.now) × AllFit (flat_map (λ b. turning_parts p.now q.now b.edge) edges.now)) (IsPartFault F4 (flat_map (λ b. turning_parts p.now q.now b.edge) edges.now)) }
+    ensures made { IsMadeBy F4 (flat_map (λ b. turning_parts p.now q.now b.edge) edges.now) (λ v. v.items ≡ map (with_turn p.now q.now) edges.now) result }
 {
     let mut out = Vec::new(alloc);
     for beside in edges {

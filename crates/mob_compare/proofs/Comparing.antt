@@ -8,12 +8,13 @@ use Rattle.mob_frac.specs.Formula.{AllFit}
 use Rattle.mob_span.specs.Span.{has, has_instant}
 use Rattle.mob_span.specs.Meets.{PieceOf}
 use Rattle.mob_span.proofs.Insides.{inside_self}
+use Rattle.mob_slice.specs.declared.formula.Formula.TheVariants.{F2}
 use Rattle.mob_slice.specs.Course.{IsCourse}
 use Rattle.mob_slice.specs.Comparison.{IsComparison, MayAsk, gap_parts}
 use Rattle.mob_slice.specs.Look.{IsLookFault}
 use Rattle.mob_slice.specs.Operands.{steady_value, steady_limit}
 use Rattle.mob_slice.specs.Sides.{SideOf, side_at, side_parts, at_ends, HasValues}
-use Rattle.mob_slice.specs.Entries.{IsFirst, IsJudged, OnFormula, operator_fault}
+use Rattle.mob_slice.specs.Entries.{IsFirst, IsJudged, OnFormula, operator_fault, IsPartFault}
 use Rattle.mob_slice.specs.declared.slice.Slice.{Slice}
 use Rattle.mob_slice.specs.declared.steady.Steady.{Steady}
 use Rattle.mob_slice.specs.declared.comparison.Rel.{Rel}
@@ -32,7 +33,7 @@ use Rattle.mob_cells.specs.declared.linear.Ends.{Ends}
 use Rattle.mob_cells.specs.Roots.{IsLevel}
 use Rattle.mob_cells.specs.Cells.{signs_of}
 use Rattle.mob_cells.specs.Kept.{IsKeptBy, entry_of_roots}
-use Rattle.mob_cells.specs.Gaps.{gap_ends, related_by, piece_gaps, IsGapFault, entries_of_ends}
+use Rattle.mob_cells.specs.Gaps.{gap_ends, related_by, piece_gaps, entries_of_ends}
 use Rattle.mob_cells.proofs.GapSigns.{by_gaps, gaps_level}
 use Rattle.mob_cells.proofs.SteadyEnds.{gap_none, steady_ends}
 use Rattle.mob_compare.specs.Compared.{entries_of_gaps}
@@ -63,7 +64,7 @@ module _ {C B : Type 0} (value : C → Ratio → Ratio → Ratio → B) (lines :
     first_fit : AllFit (at_ends (side_parts lines p.left) p.span ++ at_ends (side_parts lines p.right) p.span)
     first_fit = all_both (at_ends (side_parts lines p.left) p.span) (at_ends (side_parts lines p.right) p.span) fl fr
 
-    pub gaps_fail : (f : OpFault) → IsGapFault (gap_parts (gaps (start l.course) (start r.course)) ++ gap_parts (gaps (end l.course) (end r.course))) f → OnFormula (λ g. IsFirst (entries_of_gaps value lines gaps p) (Some g)) f
+    pub gaps_fail : (f : OpFault) → IsPartFault F2 (gap_parts (gaps (start l.course) (start r.course)) ++ gap_parts (gaps (end l.course) (end r.course))) f → OnFormula (λ g. IsFirst (entries_of_gaps value lines gaps p) (Some g)) f
     gaps_fail (Passed f) h = inl (first_fit, inr (subst (λ z. ¬ AllFit z) same_parts h.1, ap Some h.0))
     gaps_fail NoMemory h = tt
 

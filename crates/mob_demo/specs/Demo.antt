@@ -1,4 +1,5 @@
--- The demo: ships that go to and fro in a square, each with a position at every minute of an hour, and a script that asks of them.
+-- The demo: ships that go to and fro in a square, each with a position at every minute of an hour,
+-- and a script that asks of them.
 use Rattle.std.specs.Prelude.{ℕ, ◌+◌, ◌-◌, ◌*◌, ◌/◌, ◌%◌, ◌++◌, map, flat_map, codes, nat_le, if◌then◌else◌}
 use Rattle.std.specs.Fmt.{decimal}
 use Rattle.std.specs.List.{range_with_len}

@@ -14,7 +14,7 @@ fn place_on_way(way: u32) -> u32
     if rest <= SIDE { rest } else { 2 * SIDE - rest }
 }
 
-// The place of a ship at a minute, from west to east.
+/// The place of a ship at a minute, from west to east.
 #[tactic(auto, unfolding(crate::specs::Demo::ship_x))]
 pub fn x_of(ship: u32, minute: u32) -> u32
     requires ships { ship ≤ 1000 }
@@ -24,7 +24,7 @@ pub fn x_of(ship: u32, minute: u32) -> u32
     place_on_way(173 * ship + minute * (20 + 3 * (ship % 11)))
 }
 
-// The place of a ship at a minute, from south to north.
+/// The place of a ship at a minute, from south to north.
 #[tactic(auto, unfolding(crate::specs::Demo::ship_y))]
 pub fn y_of(ship: u32, minute: u32) -> u32
     requires ships { ship ≤ 1000 }

@@ -4,7 +4,8 @@ ghost use Rattle.mob_demo.specs.Demo.{demo_script_text};
 
 use std::alloc::{AllocError, Global};
 
-/// The script: it reads the table file, makes an index, asks which ships come near one another, and when each is in a corner.
+/// The script: it reads the table file, makes an index, asks which ships come near one another, and
+/// when each is in a corner.
 #[tactic(auto, unfolding(crate::specs::Demo::demo_script_text))]
 pub fn demo_script(alloc: Global) -> Result<String, AllocError>
     ensures bytes { IfOk result (λ script. string_bytes script ≡ demo_script_text) }

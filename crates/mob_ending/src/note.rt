@@ -139,10 +139,11 @@ fn put_line<E: Sink>(notes: &mut E, ending: &Ending) -> Result<(), Failed>
     }
 }
 
-/// Puts the line of an ending, in pieces that take no memory. A fault of the notes cuts it short and changes nothing
-/// else.
+/// Puts the line of an ending, in pieces that take no memory. A fault of the notes cuts it short
+/// and changes nothing else.
 pub fn tell<E: Sink>(notes: &mut E, ending: &Ending)
     ensures puts { Puts (note_line ending.now) (E.held notes.old) (E.held notes.new) (E.faults notes.old) (E.faults notes.new) }
 {
+    // A note that failed changes neither the answers nor the status.
     let _ = put_line(notes, ending);
 }

@@ -12,7 +12,8 @@ use mob_outside::{Failed, Sink, put_all, put_pieces};
 use mob_slice::Formula;
 use mob_tuples::NO_ROW;
 
-/// Puts where in a table file a refusal is, and why: `: record R, field F: refusal N (Name)` and a line feed.
+/// Puts where in a table file a refusal is, and why: `: record R, field F: refusal N (Name)` and a
+/// line feed.
 pub fn put_record<E: Sink>(notes: &mut E, kind: Kind, rec: u32, field: u32) -> Result<(), Failed>
     ensures puts { Puts (record_text kind rec field) (E.held notes.old) (E.held notes.new) (E.faults notes.old) (E.faults notes.new) }
 {
@@ -66,8 +67,8 @@ fn put_further_rows<E: Sink>(notes: &mut E, rows: &[u32]) -> Result<(), Failed>
     Ok(())
 }
 
-/// Puts the numbers of rows, from 1, with blanks between: 0 where a left-joined table has no row, a hyphen where there is
-/// no table.
+/// Puts the numbers of rows, from 1, with blanks between: 0 where a left-joined table has no row, a
+/// hyphen where there is no table.
 pub fn put_rows<E: Sink>(notes: &mut E, rows: &[u32]) -> Result<(), Failed>
     ensures whole { OnOk result (Appends (E.held notes.old) (E.held notes.new) (rows_text rows.now)) }
     ensures part { OnErr result (PutsPart (rows_text rows.now) (E.held notes.old) (E.held notes.new)) }

@@ -1,5 +1,5 @@
--- The nodes of conditions at a place of the script, and the places that an expression names.
-use Rattle.std.proofs.Common.{◌≡◌, ◌<◌, ◌≤◌, ◌+◌, ◌==◌, ◌&&◌, ◌||◌, ◌++◌, ◌∷◌, [], ℕ, Bool, true, false, List, Option, Some, None, length, drop, map, get_or, refl, sym, ap, subst, ◌∙◌, arith, append_assoc, append-nil, true≢false, option_map}
+-- The nodes of expressions at a place of the script, and the places that an expression names.
+use Rattle.std.proofs.Common.{◌≡◌, ◌<◌, ◌≤◌, ◌+◌, ◌==◌, ◌&&◌, ◌||◌, ◌++◌, ℕ, Bool, true, false, List, Option, Some, None, length, drop, map, get_or, refl, sym, ap, subst, ◌∙◌, arith, append_assoc, append-nil, true≢false}
 use Rattle.std.proofs.lemmas.List.{drop_all}
 use Rattle.mob_operators.specs.declared.operator.Op.{Op}
 use Rattle.mob_operators.specs.declared.operator.Op.TheVariants as op
@@ -7,10 +7,9 @@ use Rattle.mob_typed.specs.declared.typed.TExpr.{TExpr}
 use Rattle.mob_typed.specs.declared.typed.TExpr.TheViews.{out-TExpr}
 use Rattle.mob_typed.specs.Trees.{TypedTree, typed, TypedTrees, none, more, typed_of, typed_trees}
 use Rattle.mob_typed.proofs.TreeFacts.{typed_is}
-use Rattle.mob_plan.proofs.Lists.{rest_is}
 use Rattle.mob_remembered.specs.Depends.{names, any_names, reads, NamesOnly}
 use Rattle.mob_eval.specs.SoFar.{trees}
-use Rattle.mob_eval.specs.Remembered.{Recollection, IsOfPlace, lone, names_only, all_name_only, reads_only, place_of, nodes_here, nodes_at, all_nodes_at, condition_nodes, nodes_of_conditions}
+use Rattle.mob_eval.specs.Remembered.{Recollection, IsOfPlace, AreCopies, names_only, all_name_only, reads_only, place_of, nodes_here, nodes_at, all_nodes_at}
 use Rattle.mob_eval.proofs.Loops.{drop_read}
 
 both_true : (a b : Bool) → (a && b) ≡ true → (a ≡ true) × (b ≡ true)
@@ -74,23 +73,14 @@ only_are place e h = ap (names_only place) (typed_is e) ∙ ap (λ b. b && all_n
 pub nodes_are : (at : ℕ) (e : TExpr) → nodes_at at (typed_of e) ≡ nodes_here (place_of (typed_of e) == at) (typed_of e) ++ all_nodes_at at (trees (out-TExpr e).args.items)
 nodes_are at e = subst (λ t. nodes_at at t ≡ nodes_here (place_of t == at) t ++ all_nodes_at at (trees (out-TExpr e).args.items)) (sym (typed_is e)) refl
 
-pub next_nodes : (at : ℕ) (whole ys : List TypedTree) (xs : List TExpr) (i : ℕ) (x : TExpr) → i < length xs → x ≡ get_or xs i x → whole ≡ ys ++ all_nodes_at at (trees (drop i xs))
-    → whole ≡ (ys ++ nodes_at at (typed_of x)) ++ all_nodes_at at (trees (drop (i + 1) xs))
-next_nodes at whole ys xs i x lt is h =
-    h ∙ ap (λ ts. ys ++ all_nodes_at at (typed_trees ts)) (rest_is xs i x lt is) ∙ sym (append_assoc ys (nodes_at at (typed_of x)) (all_nodes_at at (trees (drop (i + 1) xs))))
+-- with the nodes of the first i of a list in front
+pub next_nodes : {X : Type 0} → (see : X → TypedTree) (at : ℕ) (whole ys : List TypedTree) (xs : List X) (i : ℕ) (x : X) → i < length xs → x ≡ get_or xs i x → whole ≡ ys ++ all_nodes_at at (typed_trees (map see (drop i xs)))
+    → whole ≡ (ys ++ nodes_at at (see x)) ++ all_nodes_at at (typed_trees (map see (drop (i + 1) xs)))
+next_nodes see at whole ys xs i x lt is h =
+    h ∙ ap (λ zs. ys ++ all_nodes_at at (typed_trees (map see zs))) (drop_read xs i x lt is) ∙ sym (append_assoc ys (nodes_at at (see x)) (all_nodes_at at (typed_trees (map see (drop (i + 1) xs)))))
 
-pub last_nodes : (at : ℕ) (whole ys : List TypedTree) (xs : List TExpr) (i : ℕ) → length xs ≤ i → whole ≡ ys ++ all_nodes_at at (trees (drop i xs)) → whole ≡ ys
-last_nodes at whole ys xs i past h = h ∙ ap (λ zs. ys ++ all_nodes_at at (trees zs)) (drop_all i xs past) ∙ append-nil ys
+pub last_nodes : {X : Type 0} → (see : X → TypedTree) (at : ℕ) (whole ys : List TypedTree) (xs : List X) (i : ℕ) → length xs ≤ i → whole ≡ ys ++ all_nodes_at at (typed_trees (map see (drop i xs))) → whole ≡ ys
+last_nodes see at whole ys xs i past h = h ∙ ap (λ zs. ys ++ all_nodes_at at (typed_trees (map see zs))) (drop_all i xs past) ∙ append-nil ys
 
-pub next_condition : (at : ℕ) (whole ys : List TypedTree) (os : List (Option TExpr)) (i : ℕ) (o : Option TExpr) → i < length os → o ≡ get_or os i o → whole ≡ ys ++ nodes_of_conditions at (map (option_map typed_of) (drop i os))
-    → whole ≡ (ys ++ condition_nodes at (option_map typed_of o)) ++ nodes_of_conditions at (map (option_map typed_of) (drop (i + 1) os))
-next_condition at whole ys os i o lt is h =
-    h ∙ ap (λ zs. ys ++ nodes_of_conditions at (map (option_map typed_of) zs)) (drop_read os i o lt is)
-    ∙ sym (append_assoc ys (condition_nodes at (option_map typed_of o)) (nodes_of_conditions at (map (option_map typed_of) (drop (i + 1) os))))
-
-pub last_condition : (at : ℕ) (whole ys : List TypedTree) (os : List (Option TExpr)) (i : ℕ) → length os ≤ i → whole ≡ ys ++ nodes_of_conditions at (map (option_map typed_of) (drop i os)) → whole ≡ ys
-last_condition at whole ys os i past h = h ∙ ap (λ zs. ys ++ nodes_of_conditions at (map (option_map typed_of) zs)) (drop_all i os past) ∙ append-nil ys
-
-pub of_place : (c : Recollection) (conditions : List (Option TypedTree)) (at : ℕ) (place : Option ℕ) (e : TExpr) → ((n : ℕ) → c.tree n ≡ lone (nodes_of_conditions n conditions))
-    → nodes_of_conditions at conditions ≡ typed_of e ∷ [] → names_only place (typed_of e) ≡ true → IsOfPlace c at place
-of_place c conditions at place e tree is only = (typed_of e, tree at ∙ ap lone is, names_alone place (typed_of e) only)
+pub of_place : (c : Recollection) (roots : List TypedTree) (at : ℕ) (place : Option ℕ) (e : TExpr) → c.roots ≡ roots → AreCopies (typed_of e) (all_nodes_at at (typed_trees roots)) → names_only place (typed_of e) ≡ true → IsOfPlace c at place
+of_place c roots at place e same is only = (typed_of e, subst (λ rs. AreCopies (typed_of e) (all_nodes_at at (typed_trees rs))) (sym same) is, names_alone place (typed_of e) only)

@@ -2,7 +2,7 @@
 use Rattle.std.specs.Prelude.{◌≡◌, Bool, true, false, not, Option, Some, None, option_map, refl}
 use Rattle.std.proofs.Common.{ap, sym, ◌∙◌, true≢false}
 use Rattle.mob_ratio.specs.Ratio.{Ratio}
-use Rattle.mob_slice.specs.Sameness.{same_bool}
+use Rattle.mob_span.specs.Flags.{same_bool}
 use Rattle.mob_lift.specs.Sometime.{IsSometime, IsEver, IsAlways}
 
 same_true : (b : Bool) → same_bool b true ≡ b

@@ -5,11 +5,10 @@ use Rattle.std.proofs.Common.{ap, sym, ◌∙◌, subst}
 use Rattle.mob_ratio.specs.Ratio.{Ratio}
 use Rattle.mob_span.specs.Span.{has, has_instant}
 use Rattle.mob_span.specs.Meets.{PieceOf}
-use Rattle.mob_span.specs.Parts.{PartsAreClear}
+use Rattle.mob_span.specs.Pieces.{PiecesAreClear}
 use Rattle.mob_slice.specs.Comparison.{IsComparison, MayAsk, relates_gaps, gaps_at}
 use Rattle.mob_slice.specs.Course.{IsCourse}
 use Rattle.mob_slice.specs.Ranks.{holds}
-use Rattle.mob_slice.specs.Sameness.{same_bool}
 use Rattle.mob_slice.specs.Sides.{SideOf, Moves, Stays, side_at, side_start, HoldsPiece}
 use Rattle.mob_slice.specs.declared.comparison.Rel.{Rel}
 use Rattle.mob_slice.specs.declared.comparison.Gaps.{Gaps}
@@ -18,6 +17,7 @@ use Rattle.mob_cells.proofs.AtEnds.{gaps_on}
 use Rattle.mob_cells.specs.Gaps.{piece_gaps}
 use Rattle.mob_ever.specs.Met.{order_of, gaps_meet, piece_meets}
 use Rattle.mob_span.proofs.SpanLemmas.{some_instant}
+use Rattle.mob_span.specs.Flags.{same_bool}
 use Rattle.mob_ever.proofs.Meeting.{gaps_exact}
 
 by_order : (rel : Rel) (g : Gaps) → relates_gaps rel g ≡ holds rel (order_of g)
@@ -66,6 +66,6 @@ module _ {C B : Type 0} {steady copies : Bool} {value : C → Ratio → Ratio �
     abbrev pub IsTold : PieceOf (SideOf C B) (SideOf C B) → Type 0
     IsTold p = (piece_meets steady value start relation gaps rel want p ≡ true) ↔ ((t : Ratio) × (has p.span t ≡ true) × (same_bool (relation rel (side_at value p.left t) (side_at value p.right t)) want ≡ true))
 
-    pub all_told : (ps : List (PieceOf (SideOf C B) (SideOf C B))) → PartsAreClear (λ p. p.span) ps → AllByRecursion (HoldsPiece start end start end) ps → AllByRecursion IsTold ps
+    pub all_told : (ps : List (PieceOf (SideOf C B) (SideOf C B))) → PiecesAreClear (λ p. p.span) ps → AllByRecursion (HoldsPiece start end start end) ps → AllByRecursion IsTold ps
     all_told [] c h = tt
     all_told (p ∷ ps) c h = (piece_exact rel asked want p h.0 c.0, all_told ps c.2 h.1)

@@ -7,8 +7,8 @@ use Rattle.mob_ratio.specs.Order.{same}
 use Rattle.mob_ratio.specs.Sign.{nil, sign_of}
 use Rattle.mob_span.specs.Span.{SpanOf}
 use Rattle.mob_span.specs.Meets.{PieceOf}
+use Rattle.mob_span.specs.Flags.{same_bool}
 use Rattle.mob_slice.specs.Ranks.{holds}
-use Rattle.mob_slice.specs.Sameness.{same_bool}
 use Rattle.mob_slice.specs.Sides.{SideOf, side_start}
 use Rattle.mob_slice.specs.declared.comparison.Rel.{Rel}
 use Rattle.mob_slice.specs.declared.comparison.Gaps.{Gaps}

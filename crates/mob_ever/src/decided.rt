@@ -1,15 +1,16 @@
 ghost use Rattle.std.specs.Prelude.{◌≡◌, ◌||◌, true, false, IfOk, IsOk, option_map, not};
 ghost use Rattle.std.specs.List.{flat_map};
+ghost use Rattle.mob_span.specs.Flags.{same_bool};
 ghost use Rattle.mob_slice.specs.Comparison.{MayAsk};
 ghost use Rattle.mob_slice.specs.Entries.{IsDecided};
-ghost use Rattle.mob_slice.specs.Sameness.{same_bool};
 ghost use Rattle.mob_slice.specs.Sides.{given_at, has_slices, operand_of, pieces};
 ghost use Rattle.mob_cells.specs.Gaps.{entries_of_ends};
 ghost use Rattle.mob_lift.specs.Sometime.{IsEver, IsAlways};
 
 use crate::piece::piece_meets;
-use mob_lift::{Pieces, either};
+use mob_lift::either;
 use mob_slice::{Compared, Operand, Passed, Rel};
+use mob_sync::Pieces;
 use std::alloc::Global;
 
 // The contrary of an answer, where there is one.

@@ -3,8 +3,8 @@ ghost use Rattle.std.specs.Prelude.{◌≡◌, ◌≢◌, ◌||◌};
 ghost use Rattle.mob_ratio.specs.Ratio.{◌/ℚ◌};
 ghost use Rattle.mob_ratio.specs.Order.{same};
 ghost use Rattle.mob_ratio.specs.Sign.{nil, opposite};
+ghost use Rattle.mob_span.specs.Flags.{same_bool};
 ghost use Rattle.mob_slice.specs.Ranks.{holds};
-ghost use Rattle.mob_slice.specs.Sameness.{same_bool};
 ghost use Rattle.mob_ever.specs.Taken.{sign_is, takes_inside, takes_sign, is_nil_line, nil_inside, both_nil};
 ghost use Rattle.mob_ever.specs.Met.{line_between, one_meets, two_meet, gaps_meet};
 

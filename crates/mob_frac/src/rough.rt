@@ -1,6 +1,6 @@
 // Fractions that need not be in lowest terms: steps on the way to a result that is reduced once.
 ghost use Rattle.std.specs.Prelude.{◌≡◌, ◌<◌, ◌^◌, pos, ◌<ℤ◌, nat_abs, IfSome};
-ghost use Rattle.mob_ratio.specs.Ratio.{over, whole, ◌+ℚ◌, ◌-ℚ◌, ◌*ℚ◌, ◌/ℚ◌, ◌<ℚ◌};
+ghost use Rattle.mob_ratio.specs.Ratio.{over, whole, ◌+ℚ◌, ◌*ℚ◌, ◌/ℚ◌, ◌<ℚ◌};
 ghost use Rattle.mob_frac.specs.Fits.{Fits, IsExact};
 
 use crate::fraction::{Frac, LIMIT, Overflow, reduced};
@@ -31,7 +31,7 @@ impl Model for Rough {
 
 // The fraction, where both parts fit.
 #[inline(always)]
-fn fitting(num: i128, den: i128) -> Option<Rough>
+pub(crate) fn fitting(num: i128, den: i128) -> Option<Rough>
     requires positive { pos 0 <ℤ den }
     ensures fits { IfSome result (λ r. (r ≡ over num (nat_abs den)) × Fits r) }
 {
@@ -46,16 +46,6 @@ fn fitting(num: i128, den: i128) -> Option<Rough>
 }
 
 impl Rough {
-    /// The difference `a - b`.
-    pub fn difference(a: &Frac, b: &Frac) -> Option<Rough>
-        ensures value { IfSome result (λ r. (r ≡ a.now -ℚ b.now) × Fits (a.now -ℚ b.now)) }
-    {
-        fitting(
-            product(a.num(), b.den()) - product(b.num(), a.den()),
-            product(a.den(), b.den()),
-        )
-    }
-
     /// The quotient by a number above 0.
     pub fn over(&self, other: &Rough) -> Option<Rough>
         requires above { whole (pos 0) <ℚ other.now }

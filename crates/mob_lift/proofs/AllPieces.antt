@@ -4,7 +4,7 @@ use Rattle.std.specs.List.{AllByRecursion}
 use Rattle.std.proofs.Common.{ap, sym, ◌∙◌, subst, true≢false, inl, inr}
 use Rattle.mob_ratio.specs.Ratio.{Ratio}
 use Rattle.mob_span.specs.Span.{SpanOf, has}
-use Rattle.mob_span.specs.Parts.{PartsAreClear, part_at}
+use Rattle.mob_span.specs.Pieces.{PiecesAreClear, piece_at}
 use Rattle.mob_span.specs.Meets.{PieceOf}
 use Rattle.mob_span.proofs.SpanLemmas.{some_instant}
 use Rattle.mob_slice.specs.Sides.{SideOf, OperandOf, side_at, pieces, given_at, has_slices}
@@ -17,7 +17,7 @@ use Rattle.mob_lift.proofs.PieceAt.{first_at, later_at, which_at, there, found, 
 module _ {P : Type 0} (span : P → SpanOf) (holds : P → Ratio → Bool) (meets : P → Bool) where
   -- the piece that has the instant passes there
   abbrev pub PassesAt : List P → Ratio → Type 0
-  PassesAt ps t = (p : P) × (part_at span ps t ≡ Some p) × (holds p t ≡ true)
+  PassesAt ps t = (p : P) × (piece_at span ps t ≡ Some p) × (holds p t ≡ true)
 
   abbrev pub IsExactOn : P → Type 0
   IsExactOn p = (meets p ≡ true) ↔ ((t : Ratio) × (has (span p) t ≡ true) × (holds p t ≡ true))
@@ -40,7 +40,7 @@ module _ {P : Type 0} (span : P → SpanOf) (holds : P → Ratio → Bool) (meet
     | inr k ↦ inr (t, (m.0, k, m.2))
   ]
 
-  said_to : (a : Bool) (p : P) (ps : List P) → PartsAreClear span (p ∷ ps) → IsExactOn p → ((a || meets p) ≡ true) ⊎ ((t : Ratio) × PassesAt ps t) → (a ≡ true) ⊎ ((t : Ratio) × PassesAt (p ∷ ps) t)
+  said_to : (a : Bool) (p : P) (ps : List P) → PiecesAreClear span (p ∷ ps) → IsExactOn p → ((a || meets p) ≡ true) ⊎ ((t : Ratio) × PassesAt ps t) → (a ≡ true) ⊎ ((t : Ratio) × PassesAt (p ∷ ps) t)
   said_to a p ps c e (inl h) = elim (or_cases a (meets p) h) [
     | inl k ↦ inl k
     | inr k ↦ let m = e.0 k in inr (m.0, (p, first_at span p ps m.0 m.1, m.2))
@@ -55,7 +55,7 @@ module _ {P : Type 0} (span : P → SpanOf) (holds : P → Ratio → Bool) (meet
   nothing_said a (inl h) = h
   nothing_said a (inr m) = none_some m.1.0 m.1.1
 
-  pub walked_says : (ps : List P) → PartsAreClear span ps → AllByRecursion IsExactOn ps → (a : Bool) → (b : Bool) × (walked either meets (Some a) ps ≡ Some b) × IsSaid b a ps
+  pub walked_says : (ps : List P) → PiecesAreClear span ps → AllByRecursion IsExactOn ps → (a : Bool) → (b : Bool) × (walked either meets (Some a) ps ≡ Some b) × IsSaid b a ps
   walked_says [] c e a = (a, refl, (λ h. inl h, nothing_said a))
   walked_says (p ∷ ps) c e a =
       let k = walked_says ps c.2 e.1 (a || meets p) in
@@ -81,7 +81,7 @@ module _ {A X B Y : Type 0} (value : A → Ratio → Ratio → Ratio → X) (val
         let w = found value value' a b m h.0 h.1 h.2 h.3 h.4 in
         (h.0, (w.0, w.1, ap (λ (z : X × Y). op z.0 z.1) w.2 ∙ h.5))
 
-    ever_by : (all : List (PieceOf (SideOf A X) (SideOf B Y))) → pieces a b ≡ all → PartsAreClear (λ q. q.span) all → AllByRecursion (IsExactOn (λ q. q.span) holds meets) all → IsEver op left right (walked either meets None all)
+    ever_by : (all : List (PieceOf (SideOf A X) (SideOf B Y))) → pieces a b ≡ all → PiecesAreClear (λ q. q.span) all → AllByRecursion (IsExactOn (λ q. q.span) holds meets) all → IsEver op left right (walked either meets None all)
     ever_by [] e c x = no_common value value' a b m e
     ever_by (p ∷ ps) e c x =
         let k = walked_says (λ q. q.span) holds meets ps c.2 x.1 (meets p) in
@@ -99,5 +99,5 @@ module _ {A X B Y : Type 0} (value : A → Ratio → Ratio → Ratio → X) (val
         sometime_of (inr w) = let u = subst (λ l. (t : Ratio) × PassesAt (λ q. q.span) holds meets l t) (sym e) w in to_sometime u.0 u.1
 
     -- where each piece is exact, the answer over all of them is that of all common instants
-    pub is_ever : PartsAreClear (λ q. q.span) (pieces a b) → AllByRecursion (IsExactOn (λ q. q.span) holds meets) (pieces a b) → IsEver op left right (walked either meets None (pieces a b))
+    pub is_ever : PiecesAreClear (λ q. q.span) (pieces a b) → AllByRecursion (IsExactOn (λ q. q.span) holds meets) (pieces a b) → IsEver op left right (walked either meets None (pieces a b))
     is_ever c x = ever_by (pieces a b) refl c x

@@ -6,3 +6,4 @@ pub mod OnPieces
 pub mod Walking
 pub mod PieceAt
 pub mod AllPieces
+pub mod Errors

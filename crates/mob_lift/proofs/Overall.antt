@@ -7,7 +7,7 @@ use Rattle.std.proofs.lemmas.Result.{IfOk-weaker}
 use Rattle.mob_ratio.specs.Ratio.{Ratio}
 use Rattle.mob_span.specs.Span.{SpanOf}
 use Rattle.mob_span.specs.Meets.{PieceOf}
-use Rattle.mob_span.specs.Parts.{part_at}
+use Rattle.mob_span.specs.Pieces.{piece_at}
 use Rattle.mob_slice.specs.Sides.{SideOf, OperandOf, has_slices, pieces, piece_of}
 use Rattle.mob_slice.specs.Entries.{Entry, IsFirst, IsJudged}
 use Rattle.mob_slice.specs.declared.slice.Slice.{Slice}
@@ -17,7 +17,7 @@ use Rattle.mob_slice.specs.declared.formula.OpFault.{OpFault}
 use Rattle.mob_slice.specs.declared.formula.OpFault.TheVariants.{Passed}
 use Rattle.mob_slice.proofs.Yielded.{drained}
 use Rattle.mob_lift.proofs.PieceLaws.{map_at, twice, pieces_value}
-use Rattle.mob_lifted.specs.Lifted.{IsLifted, IsFirstFailure}
+use Rattle.mob_lifted.specs.Piecewise.{IsPiecewise, IsFirstFailure}
 use Rattle.mob_lift.specs.Given.{AreOn, on_sides, AreLifted}
 use Rattle.mob_lift.proofs.Pointwise.{mapped_at}
 use Rattle.mob_lift.proofs.Judged.{judged}
@@ -28,14 +28,14 @@ module _ {A X B Y D Z V : Type 0} (value : A → Ratio → Ratio → Ratio → X
 
   lifted_values : (a : OperandOf A X) (b : OperandOf B Y) → (has_slices a || has_slices b) ≡ true → (gives : Piece A B X Y → V → Type 0) (ps : List (Piece A B X Y)) (slices : List (Slice D)) → pieces a b ≡ map piece_of ps
       → ((p : Piece A B X Y) (v : V) → gives p v → AreOn result start end (on_sides value value' op (piece_of p)) p.span (items v))
-      → IsLifted result start end span items gives ps slices → AreLifted value value' result start end op a b slices
+      → IsPiecewise result start end span items gives ps slices → AreLifted value value' result start end op a b slices
   lifted_values a b m gives ps slices e gave h = record {
     ordered = h.ordered;
     values = λ t.
         let f : PieceOf (SideOf A X) (SideOf B Y) → Z = λ q. on_sides value value' op q t in
         mapped_at h (λ p t. on_sides value value' op (piece_of p) t) (λ p v t k i. (gave p v i).values t k) t
-        ∙ sym (ap (option_map f) (map_at span (λ q. q.span) piece_of (λ p. refl) ps t) ∙ twice piece_of f (part_at span ps t))
-        ∙ ap (λ qs. option_map f (part_at (λ q. q.span) qs t)) (sym e)
+        ∙ sym (ap (option_map f) (map_at span (λ q. q.span) piece_of (λ p. refl) ps t) ∙ twice piece_of f (piece_at span ps t))
+        ∙ ap (λ qs. option_map f (piece_at (λ q. q.span) qs t)) (sym e)
         ∙ pieces_value op value value' a b m t;
   }
 
@@ -44,7 +44,7 @@ module _ {A X B Y D Z V : Type 0} (value : A → Ratio → Ratio → Ratio → X
   pub whole : (entries : PieceOf (SideOf A X) (SideOf B Y) → List Entry) {I W : Type 0} (rest : I → List (PieceOf (SideOf A X) (SideOf B Y))) (list : W → List (Slice D)) (walk : I) (a : OperandOf A X) (b : OperandOf B Y) → (has_slices a || has_slices b) ≡ true → rest walk ≡ pieces a b → (gives : Piece A B X Y → V → Type 0) (fails : Formula → Piece A B X Y → Type 0) (r : Result W OpFault)
       → ((p : Piece A B X Y) (v : V) → gives p v → AreOn result start end (on_sides value value' op (piece_of p)) p.span (items v) × IsFirst (entries (piece_of p)) None)
       → ((f : Formula) (p : Piece A B X Y) → fails f p → IsFirst (entries (piece_of p)) (Some f))
-      → IfOk r (λ all. (ps : List (Piece A B X Y)) × Drains (YieldsFirstBy piece_of rest) walk ps × IsLifted result start end span items gives ps (list all))
+      → IfOk r (λ all. (ps : List (Piece A B X Y)) × Drains (YieldsFirstBy piece_of rest) walk ps × IsPiecewise result start end span items gives ps (list all))
       → ((f : Formula) → r ≡ Err (Passed f) → (ps : List (Piece A B X Y)) × (t : I) × Yields (YieldsFirstBy piece_of rest) walk ps t × IsFirstFailure gives (fails f) ps)
       → IfOk r (λ all. AreLifted value value' result start end op a b (list all)) × IsJudged (flat_map entries (pieces a b)) r
   whole entries rest list walk a b m e gives fails r gave failed h k = (

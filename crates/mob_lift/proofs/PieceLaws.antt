@@ -1,65 +1,28 @@
 -- What follows of the pieces of two operands.
 use Rattle.std.specs.Prelude.{◌≡◌, Bool, true, false, cond, ◌||◌, Option, Some, None, option_map, List, [], ◌∷◌, map, refl}
-use Rattle.std.specs.List.{AllByRecursion}
 use Rattle.std.proofs.Common.{ap, sym, ◌∙◌, true≢false}
 use Rattle.mob_ratio.specs.Ratio.{Ratio}
 use Rattle.mob_span.specs.Span.{SpanOf, has}
-use Rattle.mob_span.specs.Neighbours.{is_clear}
 use Rattle.mob_span.specs.Meets.{PieceOf, shared_pieces}
-use Rattle.mob_span.proofs.Insides.{inside_self}
-use Rattle.mob_slice.specs.Slices.{OfHead, IsSound, value_at}
+use Rattle.mob_slice.specs.Slices.{value_at}
 use Rattle.mob_slice.proofs.LookUps.{value_by}
-use Rattle.mob_slice.proofs.Orders.{ordered-clear, all_sound}
-use Rattle.mob_span.specs.Parts.{part_at, PartsAreClear}
+use Rattle.mob_span.specs.Pieces.{piece_at}
 use Rattle.mob_slice.specs.Operands.{map_both}
 use Rattle.mob_slice.specs.Cut.{slice_value}
-use Rattle.mob_slice.specs.Sides.{SideOf, Moves, Stays, OperandOf, Slices, Base, pieces, side_at, has_slices, given_at, HoldsPiece}
+use Rattle.mob_slice.specs.Sides.{SideOf, Moves, Stays, OperandOf, Slices, Base, pieces, side_at, has_slices, given_at}
 use Rattle.mob_slice.specs.declared.slice.Slice.{Slice}
-use Rattle.mob_lift.specs.Pieces.{AreInOrder, AreSound}
 use Rattle.std.specs.Option.{option_zip}
-use Rattle.mob_span.proofs.MeetLaws.{meets_clear, meets_at, meets_hold, HoldsBoth, sides}
-
-pub sound_order : {C B : Type 0} (start end : C → B) (o : OperandOf C B) → AreSound start end o → AreInOrder o
-sound_order start end (Slices v) h = ordered-clear start end v h
-sound_order start end (Base b) h = tt
+use Rattle.mob_span.proofs.MeetLaws.{meets_at, sides}
 
 -- a list of pieces that are made of others on the same spans
 module _ {P Q : Type 0} (span : P → SpanOf) (span' : Q → SpanOf) (f : P → Q) (same : (p : P) → span' (f p) ≡ span p) where
-  map_head : (p : P) (ps : List P) → OfHead (λ q r. is_clear (span q) (span r) ≡ true) p ps → OfHead (λ q r. is_clear (span' q) (span' r) ≡ true) (f p) (map f ps)
-  map_head p [] h = tt
-  map_head p (q ∷ ps) h = rw (same p, same q) h
-
-  map_clear : (ps : List P) → PartsAreClear span ps → PartsAreClear span' (map f ps)
-  map_clear [] h = tt
-  map_clear (p ∷ ps) h = (rw (same p) h.0, map_head p ps h.1, map_clear ps h.2)
-
-  pub map_at : (ps : List P) (t : Ratio) → part_at span' (map f ps) t ≡ option_map f (part_at span ps t)
+  pub map_at : (ps : List P) (t : Ratio) → piece_at span' (map f ps) t ≡ option_map f (piece_at span ps t)
   map_at [] t = refl
-  map_at (p ∷ ps) t = ap (λ b. cond b (Some (f p)) (part_at span' (map f ps) t)) (ap (λ r. has r t) (same p)) ∙ ap (λ o. cond (has (span p) t) (Some (f p)) o) (map_at ps t) ∙ by (has (span p) t)
+  map_at (p ∷ ps) t = ap (λ b. cond b (Some (f p)) (piece_at span' (map f ps) t)) (ap (λ r. has r t) (same p)) ∙ ap (λ o. cond (has (span p) t) (Some (f p)) o) (map_at ps t) ∙ by (has (span p) t)
     where
-      by : (b : Bool) → cond b (Some (f p)) (option_map f (part_at span ps t)) ≡ option_map f (cond b (Some p) (part_at span ps t))
+      by : (b : Bool) → cond b (Some (f p)) (option_map f (piece_at span ps t)) ≡ option_map f (cond b (Some p) (piece_at span ps t))
       by true = refl
       by false = refl
-
-map_all : {P Q : Type 0} (f : P → Q) (R : P → Type 0) (S : Q → Type 0) → ((p : P) → R p → S (f p)) → (ps : List P) → AllByRecursion R ps → AllByRecursion S (map f ps)
-map_all f R S g [] h = tt
-map_all f R S g (p ∷ ps) h = (g p h.0, map_all f R S g ps h.1)
-
--- The pieces of two operands are ordered and disjoint, and each has an instant.
-pub pieces_clear : {A X B Y : Type 0} (a : OperandOf A X) (b : OperandOf B Y) → AreInOrder a → AreInOrder b → PartsAreClear (λ p. p.span) (pieces a b)
-pieces_clear (Slices v) (Slices w) h k = map_clear (λ p. p.span) (λ p. p.span) (λ p. record { span = p.span; left = Moves p.left; right = Moves p.right }) (λ p. refl) (shared_pieces (λ s. s.span) (λ s. s.span) v w) (meets_clear (λ s. s.span) (λ s. s.span) v w h k)
-pieces_clear (Slices v) (Base b) h k = map_clear (λ s. s.span) (λ p. p.span) (λ s. record { span = s.span; left = Moves s; right = Stays b }) (λ s. refl) v h
-pieces_clear (Base a) (Slices w) h k = map_clear (λ s. s.span) (λ p. p.span) (λ s. record { span = s.span; left = Stays a; right = Moves s }) (λ s. refl) w k
-pieces_clear (Base a) (Base b) h k = tt
-
--- The slices of each piece hold its span.
-pub pieces_hold : {A X B Y : Type 0} (start end : A → X) (start' end' : B → Y) (a : OperandOf A X) (b : OperandOf B Y) → AreSound start end a → AreSound start' end' b → AllByRecursion (HoldsPiece start end start' end') (pieces a b)
-pieces_hold start end start' end' (Slices v) (Slices w) h k =
-    map_all (λ p. record { span = p.span; left = Moves p.left; right = Moves p.right }) (HoldsBoth (λ s. s.span) (λ s. s.span) (IsSound start end) (IsSound start' end')) (HoldsPiece start end start' end') (λ p m. m) (shared_pieces (λ s. s.span) (λ s. s.span) v w)
-    (meets_hold (λ s. s.span) (λ s. s.span) (IsSound start end) (IsSound start' end') v w (all_sound start end v h) (all_sound start' end' w k))
-pieces_hold start end start' end' (Slices v) (Base b) h k = map_all (λ s. record { span = s.span; left = Moves s; right = Stays b }) (IsSound start end) (HoldsPiece start end start' end') (λ s m. ((m, inside_self s.span), tt)) v (all_sound start end v h)
-pieces_hold start end start' end' (Base a) (Slices w) h k = map_all (λ s. record { span = s.span; left = Stays a; right = Moves s }) (IsSound start' end') (HoldsPiece start end start' end') (λ s m. (tt, (m, inside_self s.span))) w (all_sound start' end' w k)
-pieces_hold start end start' end' (Base a) (Base b) h k = tt
 
 pub twice : {A B C : Type 0} (f : A → B) (g : B → C) (o : Option A) → option_map g (option_map f o) ≡ option_map (λ x. g (f x)) o
 twice f g None = refl
@@ -85,28 +48,28 @@ module _ {X Y Z : Type 0} (op : X → Y → Z) where
     sides_value t p = op (side_at value p.left t) (side_at value' p.right t)
 
     -- The operation on the sides of the piece at an instant is that on the two operands there.
-    pub pieces_value : (a : OperandOf A X) (b : OperandOf B Y) → (has_slices a || has_slices b) ≡ true → (t : Ratio) → option_map (sides_value t) (part_at (λ p. p.span) (pieces a b) t) ≡ map_both op (given_at value a t) (given_at value' b t)
+    pub pieces_value : (a : OperandOf A X) (b : OperandOf B Y) → (has_slices a || has_slices b) ≡ true → (t : Ratio) → option_map (sides_value t) (piece_at (λ p. p.span) (pieces a b) t) ≡ map_both op (given_at value a t) (given_at value' b t)
     pieces_value (Slices v) (Slices w) m t =
         let f : PieceOf (Slice A) (Slice B) → PieceOf (SideOf A X) (SideOf B Y) = λ p. record { span = p.span; left = Moves p.left; right = Moves p.right } in
         let h : Slice A × Slice B → Z = λ p. op (slice_value value p.0 t) (slice_value value' p.1 t) in
         let ps = shared_pieces (λ s. s.span) (λ s. s.span) v w in
         ap (option_map (sides_value t)) (map_at (λ p. p.span) (λ p. p.span) f (λ p. refl) ps t)
-        ∙ twice f (sides_value t) (part_at (λ p. p.span) ps t)
-        ∙ sym (twice (sides (λ s. s.span) (λ s. s.span)) h (part_at (λ p. p.span) ps t))
+        ∙ twice f (sides_value t) (piece_at (λ p. p.span) ps t)
+        ∙ sym (twice (sides (λ s. s.span) (λ s. s.span)) h (piece_at (λ p. p.span) ps t))
         ∙ ap (option_map h) (meets_at (λ s. s.span) (λ s. s.span) v w t)
-        ∙ both_map (λ s. slice_value value s t) (λ s. slice_value value' s t) (part_at (λ s. s.span) v t) (part_at (λ s. s.span) w t)
-        ∙ ap (λ o. map_both op o (option_map (λ s. slice_value value' s t) (part_at (λ s. s.span) w t))) (sym (value_by value v t))
+        ∙ both_map (λ s. slice_value value s t) (λ s. slice_value value' s t) (piece_at (λ s. s.span) v t) (piece_at (λ s. s.span) w t)
+        ∙ ap (λ o. map_both op o (option_map (λ s. slice_value value' s t) (piece_at (λ s. s.span) w t))) (sym (value_by value v t))
         ∙ ap (λ o. map_both op (value_at value v t) o) (sym (value_by value' w t))
     pieces_value (Slices v) (Base b) m t =
         let f : Slice A → PieceOf (SideOf A X) (SideOf B Y) = λ s. record { span = s.span; left = Moves s; right = Stays b } in
         ap (option_map (sides_value t)) (map_at (λ s. s.span) (λ p. p.span) f (λ s. refl) v t)
-        ∙ twice f (sides_value t) (part_at (λ s. s.span) v t)
-        ∙ beside_right (λ s. slice_value value s t) b (part_at (λ s. s.span) v t)
+        ∙ twice f (sides_value t) (piece_at (λ s. s.span) v t)
+        ∙ beside_right (λ s. slice_value value s t) b (piece_at (λ s. s.span) v t)
         ∙ ap (λ o. map_both op o (Some b)) (sym (value_by value v t))
     pieces_value (Base a) (Slices w) m t =
         let f : Slice B → PieceOf (SideOf A X) (SideOf B Y) = λ s. record { span = s.span; left = Stays a; right = Moves s } in
         ap (option_map (sides_value t)) (map_at (λ s. s.span) (λ p. p.span) f (λ s. refl) w t)
-        ∙ twice f (sides_value t) (part_at (λ s. s.span) w t)
-        ∙ beside_left (λ s. slice_value value' s t) a (part_at (λ s. s.span) w t)
+        ∙ twice f (sides_value t) (piece_at (λ s. s.span) w t)
+        ∙ beside_left (λ s. slice_value value' s t) a (piece_at (λ s. s.span) w t)
         ∙ ap (λ o. map_both op (Some a) o) (sym (value_by value' w t))
     pieces_value (Base a) (Base b) m t = absurd (true≢false (sym m))

@@ -6,7 +6,7 @@ use Rattle.std.specs.List.{list_all}
 use Rattle.mob_ratio.specs.Ratio.{Ratio}
 use Rattle.mob_ratio.specs.Order.{same}
 use Rattle.mob_ratio.proofs.Order.{same_exact}
-use Rattle.mob_slice.specs.Sameness.{same_bool, same_bool_exact, same_bytes, same_bytes_exact}
+use Rattle.mob_slice.specs.Sameness.{same_bytes, same_bytes_exact}
 use Rattle.mob_language.specs.Language.{Text}
 use Rattle.mob_language.proofs.Exact.{Stops}
 use Rattle.mob_slice.specs.declared.slice.Slice.{Slice}
@@ -21,6 +21,7 @@ use Rattle.mob_scalar.specs.Quoted.{quoted_text}
 use Rattle.std.proofs.lemmas.List.{length-map}
 use Rattle.std.proofs.lemmas.Bool.{and_parts as both, and_right, not-true as not_true}
 use Rattle.mob_list.proofs.Entries.{all_by_each}
+use Rattle.mob_span.specs.Flags.{same_bool, same_bool_exact}
 use Rattle.mob_numeral.proofs.Fitted.{number_value_said}
 use Rattle.mob_scalar.proofs.TruthAgain.{truth_plain}
 use Rattle.mob_scalar.proofs.BracketsSaid.{moment_said}

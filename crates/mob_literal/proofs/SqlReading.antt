@@ -4,7 +4,8 @@ use Rattle.std.specs.Prelude.{Result}
 use Rattle.mob_ratio.specs.Order.{same}
 use Rattle.mob_ratio.proofs.Order.{same_exact}
 use Rattle.mob_language.specs.Language.{Text}
-use Rattle.mob_slice.specs.Sameness.{same_bool, same_bool_exact, same_bytes, same_bytes_exact}
+use Rattle.mob_span.specs.Flags.{same_bool, same_bool_exact}
+use Rattle.mob_slice.specs.Sameness.{same_bytes, same_bytes_exact}
 use Rattle.mob_slice.specs.SteadyLaws.{steady_laws}
 use Rattle.mob_slice.specs.LineLaws.{line_laws}
 use Rattle.mob_slice.specs.PlaneLaws.{plane_laws}

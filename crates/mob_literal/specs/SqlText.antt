@@ -2,7 +2,8 @@
 use Rattle.std.specs.Prelude.{◌≡◌, ℤ, [], true, false, Result, Ok, Err}
 use Rattle.mob_ratio.specs.Order.{same}
 use Rattle.mob_language.specs.Language.{Text}
-use Rattle.mob_slice.specs.Sameness.{same_bool, same_bytes}
+use Rattle.mob_span.specs.Flags.{same_bool}
+use Rattle.mob_slice.specs.Sameness.{same_bytes}
 use Rattle.mob_slice.specs.CourseOf.{steady_course, line_course, plane_course}
 use Rattle.mob_ast.specs.declared.types.SqlType.{SqlType}
 use Rattle.mob_ast.specs.declared.types.SqlType.TheVariants as sql

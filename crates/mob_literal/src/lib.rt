@@ -1,4 +1,5 @@
-//! Literals of temporal values and texts of SQL values: what they mean, and how the values print.
+//! The values of literals and fields, of all types: what a text means, and how a value prints. Temporal
+//! literals come from `mob_written`, which reads their parts.
 #![tactic(auto)]
 
 mod fields;

@@ -1,8 +1,9 @@
 //! SQL values, read from their texts and printed.
 ghost use Rattle.std.specs.Prelude.{◌≡◌, ◌≢◌, ◌++◌, Err, MatchResult, OnOk, OnErr, false, true, string_bytes};
 ghost use Rattle.mob_ratio.specs.Order.{same};
+ghost use Rattle.mob_span.specs.Flags.{same_bool};
 ghost use Rattle.mob_slice.specs.CourseOf.{line_course, plane_course};
-ghost use Rattle.mob_slice.specs.Sameness.{same_bool, same_bytes};
+ghost use Rattle.mob_slice.specs.Sameness.{same_bytes};
 ghost use Rattle.mob_numeral.specs.Numbers.{numbers, whole_numbers};
 ghost use Rattle.mob_scalar.specs.Moments.{moments};
 ghost use Rattle.mob_scalar.specs.Truth.{truths};

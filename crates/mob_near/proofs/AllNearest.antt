@@ -7,8 +7,9 @@ use Rattle.mob_ratio.specs.Order.{before, up_to}
 use Rattle.mob_ratio.proofs.Order.{before-self, before-trans, not-up_to-le, le-up_to}
 use Rattle.mob_ratio.proofs.Field.{le_trans}
 use Rattle.mob_plane.specs.declared.point.Point.{Point}
-use Rattle.mob_span.specs.Parts.{PartsAreClear, part_at}
+use Rattle.mob_span.specs.Pieces.{PiecesAreClear, piece_at}
 use Rattle.mob_span.proofs.SpanLemmas.{some_instant}
+use Rattle.mob_plane.specs.Corners.{smaller}
 use Rattle.mob_slice.specs.Sides.{OperandOf, side_at, pieces, given_at, has_slices}
 use Rattle.mob_slice.specs.Lines.{plane_value_of}
 use Rattle.mob_slice.specs.declared.line.PlaneLine.{PlaneLine}
@@ -19,7 +20,6 @@ use Rattle.mob_lift.proofs.PieceAt.{first_at, later_at, which_at, there, found, 
 use Rattle.mob_near.specs.Approaches.{IsNearest, IsApproach}
 use Rattle.mob_near.specs.Distances.{distance_squared}
 use Rattle.mob_near.specs.Entries.{PointPiece}
-use Rattle.mob_plane.specs.Corners.{smaller}
 use Rattle.mob_near.specs.Legs.{nearest_of, piece_approach}
 use Rattle.mob_near.proofs.OnPieces.{square_on, IsNearestOn}
 
@@ -43,10 +43,10 @@ up_to_second a b m false e h = h
 -- m is the greatest lower bound of b and of the squares at the instants of the pieces
 record IsLeast (b : Ratio) (ps : List PointPiece) (m : Ratio) : Type 0 where
   pub before_all : up_to m b ≡ true
-  pub lower : (t : Ratio) (p : PointPiece) → part_at (λ q. q.span) ps t ≡ Some p → up_to m (square_on p t) ≡ true
-  pub greatest : (n : Ratio) → before m n ≡ true → (before b n ≡ true) ⊎ ((t : Ratio) × (p : PointPiece) × (part_at (λ q. q.span) ps t ≡ Some p) × (before (square_on p t) n ≡ true))
+  pub lower : (t : Ratio) (p : PointPiece) → piece_at (λ q. q.span) ps t ≡ Some p → up_to m (square_on p t) ≡ true
+  pub greatest : (n : Ratio) → before m n ≡ true → (before b n ≡ true) ⊎ ((t : Ratio) × (p : PointPiece) × (piece_at (λ q. q.span) ps t ≡ Some p) × (before (square_on p t) n ≡ true))
 
-least_step : (b : Ratio) (p : PointPiece) (ps : List PointPiece) (m : Ratio) → PartsAreClear (λ q. q.span) (p ∷ ps) → IsNearestOn p (piece_approach p) → IsLeast (smaller (piece_approach p) b) ps m → IsLeast b (p ∷ ps) m
+least_step : (b : Ratio) (p : PointPiece) (ps : List PointPiece) (m : Ratio) → PiecesAreClear (λ q. q.span) (p ∷ ps) → IsNearestOn p (piece_approach p) → IsLeast (smaller (piece_approach p) b) ps m → IsLeast b (p ∷ ps) m
 least_step b p ps m c near k =
     let a = piece_approach p in
     record {
@@ -64,7 +64,7 @@ least_step b p ps m c near k =
       ];
     }
 
-least_of : (ps : List PointPiece) → PartsAreClear (λ q. q.span) ps → AllByRecursion (λ p. IsNearestOn p (piece_approach p)) ps → (b : Ratio) → (m : Ratio) × (walked nearest_of piece_approach (Some b) ps ≡ Some m) × IsLeast b ps m
+least_of : (ps : List PointPiece) → PiecesAreClear (λ q. q.span) ps → AllByRecursion (λ p. IsNearestOn p (piece_approach p)) ps → (b : Ratio) → (m : Ratio) × (walked nearest_of piece_approach (Some b) ps ≡ Some m) × IsLeast b ps m
 least_of [] c near b = (b, refl, record { before_all = ap not (before-self b); lower = λ t p e. none_some p e; greatest = λ n h. inl h })
 least_of (p ∷ ps) c near b =
     let k = least_of ps c.2 near.1 (smaller (piece_approach p) b) in
@@ -81,11 +81,11 @@ module _ (a b : OperandOf PlaneLine Point) (moving : (has_slices a || has_slices
   abbrev apart : Point × Point → Ratio
   apart z = distance_squared z.0 z.1
 
-  nearest : (p : PointPiece) (ps : List PointPiece) (m : Ratio) → pieces a b ≡ p ∷ ps → PartsAreClear (λ q. q.span) (p ∷ ps) → IsNearestOn p (piece_approach p) → IsLeast (piece_approach p) ps m → IsNearest left right m
+  nearest : (p : PointPiece) (ps : List PointPiece) (m : Ratio) → pieces a b ≡ p ∷ ps → PiecesAreClear (λ q. q.span) (p ∷ ps) → IsNearestOn p (piece_approach p) → IsLeast (piece_approach p) ps m → IsNearest left right m
   nearest p ps m e c near k = record {
     lower = λ t x y ex ey.
         let w = found plane_value_of plane_value_of a b moving t x y ex ey in
-        ap (λ z. up_to m z) (sym (ap apart w.2)) ∙ least.lower t w.0 (ap (λ l. part_at (λ q. q.span) l t) (sym e) ∙ w.1);
+        ap (λ z. up_to m z) (sym (ap apart w.2)) ∙ least.lower t w.0 (ap (λ l. piece_at (λ q. q.span) l t) (sym e) ∙ w.1);
     greatest = λ n h. elim (least.greatest n h) [
       | inl f ↦ let w = near.greatest n f in at n w.0 p (first_at (λ q. q.span) p ps w.0 w.1) w.2
       | inr w ↦ at n w.0 w.1 w.2 w.3
@@ -105,10 +105,10 @@ module _ (a b : OperandOf PlaneLine Point) (moving : (has_slices a || has_slices
         ];
       }
 
-      at : (n t : Ratio) (q : PointPiece) → part_at (λ q. q.span) (p ∷ ps) t ≡ Some q → before (square_on q t) n ≡ true → IsSometime (λ x y. before (distance_squared x y) n ≡ true) left right
-      at n t q f h = let w = there plane_value_of plane_value_of a b moving t q (ap (λ l. part_at (λ q. q.span) l t) e ∙ f) in (t, side_at plane_value_of q.left t, side_at plane_value_of q.right t, w.0, w.1, h)
+      at : (n t : Ratio) (q : PointPiece) → piece_at (λ q. q.span) (p ∷ ps) t ≡ Some q → before (square_on q t) n ≡ true → IsSometime (λ x y. before (distance_squared x y) n ≡ true) left right
+      at n t q f h = let w = there plane_value_of plane_value_of a b moving t q (ap (λ l. piece_at (λ q. q.span) l t) e ∙ f) in (t, side_at plane_value_of q.left t, side_at plane_value_of q.right t, w.0, w.1, h)
 
-  approach_by_pieces : (all : List PointPiece) → pieces a b ≡ all → PartsAreClear (λ q. q.span) all → AllByRecursion (λ p. IsNearestOn p (piece_approach p)) all → IsApproach left right (walked nearest_of piece_approach None all)
+  approach_by_pieces : (all : List PointPiece) → pieces a b ≡ all → PiecesAreClear (λ q. q.span) all → AllByRecursion (λ p. IsNearestOn p (piece_approach p)) all → IsApproach left right (walked nearest_of piece_approach None all)
   approach_by_pieces [] e c near = no_common plane_value_of plane_value_of a b moving e
   approach_by_pieces (p ∷ ps) e c near =
       let k = least_of ps c.2 near.1 (piece_approach p) in
@@ -116,5 +116,5 @@ module _ (a b : OperandOf PlaneLine Point) (moving : (has_slices a || has_slices
       subst (λ o. IsApproach left right o) (sym k.1) (common_by plane_value_of plane_value_of a b moving ps p i.0 e i.1, nearest p ps k.0 e c near.0 k.2)
 
   -- where each piece has its nearest, that of all of them is that of all common instants
-  pub is_approach : PartsAreClear (λ q. q.span) (pieces a b) → AllByRecursion (λ p. IsNearestOn p (piece_approach p)) (pieces a b) → IsApproach left right (walked nearest_of piece_approach None (pieces a b))
+  pub is_approach : PiecesAreClear (λ q. q.span) (pieces a b) → AllByRecursion (λ p. IsNearestOn p (piece_approach p)) (pieces a b) → IsApproach left right (walked nearest_of piece_approach None (pieces a b))
   is_approach c near = approach_by_pieces (pieces a b) refl c near

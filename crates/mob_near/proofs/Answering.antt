@@ -7,7 +7,7 @@ use Rattle.mob_ratio.specs.Order.{before, up_to}
 use Rattle.mob_ratio.specs.Sign.{nil}
 use Rattle.mob_ratio.proofs.Order.{le-up_to}
 use Rattle.mob_plane.specs.declared.point.Point.{Point}
-use Rattle.mob_span.specs.Parts.{PartsAreClear}
+use Rattle.mob_span.specs.Pieces.{PiecesAreClear}
 use Rattle.mob_span.proofs.SpanLemmas.{some_instant}
 use Rattle.mob_slice.specs.Sides.{OperandOf, pieces, given_at, has_slices}
 use Rattle.mob_slice.specs.Lines.{plane_value_of}
@@ -27,12 +27,12 @@ next_tells view None all rest h = sym (ap are_some h.0)
 next_tells view (Some x) all rest h = sym (ap are_some h)
 
 module _ (a b : OperandOf PlaneLine Point) (moving : (has_slices a || has_slices b) ≡ true) where
-  common_of : (all : List PointPiece) → pieces a b ≡ all → PartsAreClear (λ q. q.span) all → IsTrue (are_some all) ↔ HaveCommon (given_at plane_value_of a) (given_at plane_value_of b)
+  common_of : (all : List PointPiece) → pieces a b ≡ all → PiecesAreClear (λ q. q.span) all → IsTrue (are_some all) ↔ HaveCommon (given_at plane_value_of a) (given_at plane_value_of b)
   common_of [] e c = (λ h. absurd (true≢false (sym h)), λ h. absurd (no_common plane_value_of plane_value_of a b moving e h))
   common_of (p ∷ ps) e c = let i = some_instant p.span c.0 in (λ h. common_by plane_value_of plane_value_of a b moving ps p i.0 e i.1, λ h. refl)
 
   -- there is one exactly where there is a piece
-  pub common_exact : (r : Bool) → r ≡ are_some (pieces a b) → PartsAreClear (λ q. q.span) (pieces a b) → IsTrue r ↔ HaveCommon (given_at plane_value_of a) (given_at plane_value_of b)
+  pub common_exact : (r : Bool) → r ≡ are_some (pieces a b) → PiecesAreClear (λ q. q.span) (pieces a b) → IsTrue r ↔ HaveCommon (given_at plane_value_of a) (given_at plane_value_of b)
   common_exact r e c = subst (λ z. IsTrue z ↔ HaveCommon (given_at plane_value_of a) (given_at plane_value_of b)) (sym e) (common_of (pieces a b) refl c)
 
 -- ---- answers without a walk

@@ -8,7 +8,7 @@ use Rattle.mob_ratio.specs.Sign.{nil}
 use Rattle.mob_ratio.proofs.LineAt.{line_at-short}
 use Rattle.mob_ratio.proofs.Order.{before-self}
 use Rattle.mob_span.specs.Span.{SpanOf, has, has_instant}
-use Rattle.mob_span.specs.Parts.{PartsAreClear}
+use Rattle.mob_span.specs.Pieces.{PiecesAreClear}
 use Rattle.mob_slice.specs.Sides.{HoldsPiece, side_at}
 use Rattle.mob_slice.specs.Lines.{plane_value_of}
 use Rattle.mob_slice.specs.LineComparison.{plane_comparison}
@@ -61,7 +61,7 @@ reached_by D p hd held some false e =
       (λ m. rw e (ap (λ z. up_to z D) (sym (at m.0 m.1)) ∙ m.2)),
     )
 
-pub all_reached : (D : Ratio) → nil ≤ℚ D → (ps : List PointPiece) → PartsAreClear (λ p. p.span) ps → AllByRecursion IsHeld ps → AllByRecursion (IsReachedOn D) ps
+pub all_reached : (D : Ratio) → nil ≤ℚ D → (ps : List PointPiece) → PiecesAreClear (λ p. p.span) ps → AllByRecursion IsHeld ps → AllByRecursion (IsReachedOn D) ps
 all_reached D hd [] c h = tt
 all_reached D hd (p ∷ ps) c h = (reached_by D p hd h.0 c.0 (before p.span.lower p.span.upper) refl, all_reached D hd ps c.2 h.1)
 
@@ -85,6 +85,6 @@ nearest_by p held some false e =
       greatest = λ n h. (p.span.lower, i, ap (λ z. before z n) (at p.span.lower i) ∙ h);
     }
 
-pub all_nearest : (ps : List PointPiece) → PartsAreClear (λ p. p.span) ps → AllByRecursion IsHeld ps → AllByRecursion (λ p. IsNearestOn p (piece_approach p)) ps
+pub all_nearest : (ps : List PointPiece) → PiecesAreClear (λ p. p.span) ps → AllByRecursion IsHeld ps → AllByRecursion (λ p. IsNearestOn p (piece_approach p)) ps
 all_nearest [] c h = tt
 all_nearest (p ∷ ps) c h = (nearest_by p h.0 c.0 (before p.span.lower p.span.upper) refl, all_nearest ps c.2 h.1)

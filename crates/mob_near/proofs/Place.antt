@@ -12,7 +12,7 @@ use Rattle.mob_ratio.proofs.Divide.{div-mul, sub_ne-zero}
 use Rattle.mob_ratio.proofs.Ring.{at, lit, ◌⊕◌, ◌⊗◌, ◌⊖◌}
 use Rattle.mob_ratio.proofs.Rings.{ring_ℚ}
 use Rattle.mob_span.specs.Span.{SpanOf, has}
-use Rattle.mob_quadratic.specs.Quadratic.{one, quadratic, at_one, in_unit, dips, scaled_least, falls_to, infimum, square_is_within}
+use Rattle.mob_quadratic.specs.Quadratic.{one, quadratic, at_one, in_unit, dips, scaled_least, reaches, infimum, square_is_within}
 use Rattle.mob_quadratic.proofs.Convex.{square_le, add_le, sub_lt}
 use Rattle.mob_quadratic.proofs.Tests.{decided, bounded, inner}
 use Rattle.mob_quadratic.proofs.Absolute.{inner_test}
@@ -109,7 +109,7 @@ foot_same : (g : Leg) (D : Ratio) → nil ≤ℚ D → (b : Bool) → dips (way 
 foot_same g D h false e = refl
 foot_same g D h true e = inner_test (way g) (foot_of g).across D (inner (way g) (along g) (start g) e).1.positive h ∙ ap (λ z. up_to z (way g *ℚ D)) (sym (as_across g))
 
-same_test : (g : Leg) (D : Ratio) (lower_inc upper_inc : Bool) → nil ≤ℚ D → leg_reaches D lower_inc upper_inc g ≡ falls_to (way g) (along g) (start g) D lower_inc upper_inc
+same_test : (g : Leg) (D : Ratio) (lower_inc upper_inc : Bool) → nil ≤ℚ D → leg_reaches D lower_inc upper_inc g ≡ reaches (way g) (along g) (start g) D lower_inc upper_inc
 same_test g D lower_inc upper_inc h = rw (as_last g, foot_same g D h (dips (way g) (along g)) refl) refl
 
 last_le : (g : Leg) → nil ≤ℚ at_one (way g) (along g) (start g)

@@ -4,22 +4,22 @@ use Rattle.mob_ratio.specs.Ratio.{Ratio, ◌-ℚ◌}
 use Rattle.mob_frac.specs.Formula.{AllFit, square_parts}
 use Rattle.mob_plane.specs.declared.point.Point.{Point}
 use Rattle.mob_slice.specs.Comparison.{gap_parts}
+use Rattle.mob_slice.specs.Cut.{slice_value, slice_parts}
 use Rattle.mob_slice.specs.LineComparison.{point_gaps}
 use Rattle.mob_slice.specs.Lines.{plane_value_of, plane_parts_of}
 use Rattle.mob_slice.specs.declared.line.PlaneLine.{PlaneLine}
+use Rattle.mob_slice.specs.declared.slice.Slice.{Slice}
 use Rattle.mob_near.specs.Distances.{length_squared}
 
--- the point of a course, on the span between two ends, at an instant
+-- the point of a slice at an instant
 pub record FoundOf : Type 0 where
-  pub lower : Ratio
-  pub upper : Ratio
-  pub course : PlaneLine
+  pub slice : Slice PlaneLine
   pub at : Ratio
   pub point : Point
 
--- it is the course's own, and each part of its formula fits
+-- it is the slice's own, and each part of its formula fits
 abbrev pub IsFound : FoundOf → Type 0
-IsFound f = (f.point ≡ plane_value_of f.course f.lower f.upper f.at) × AllFit (plane_parts_of f.course f.lower f.upper f.at)
+IsFound f = (f.point ≡ slice_value plane_value_of f.slice f.at) × AllFit (slice_parts plane_parts_of f.slice f.at)
 
 -- how far a point is from another, to the east and to the north
 pub record ApartOf : Type 0 where

@@ -1,10 +1,9 @@
 -- How the difference of two points goes on a piece of time, straight from (x0, y0) to (x1, y1), and what follows for its length.
-use Rattle.std.specs.Prelude.{Bool, true, false, cond, ◌&&◌, ◌||◌, List, [], ◌∷◌, ◌++◌, Option, Some, None}
+use Rattle.std.specs.Prelude.{Bool, true, false, cond, ◌&&◌, List, [], ◌∷◌, ◌++◌, Option, Some, None}
 use Rattle.mob_ratio.specs.Ratio.{Ratio, ◌+ℚ◌, ◌-ℚ◌, ◌*ℚ◌, ◌/ℚ◌}
 use Rattle.mob_ratio.specs.Order.{before, up_to, same}
 use Rattle.mob_ratio.specs.Sign.{nil}
 use Rattle.mob_frac.specs.Formula.{square_parts}
-use Rattle.mob_plane.specs.Corners.{smaller}
 use Rattle.mob_plane.specs.declared.point.Point.{Point}
 use Rattle.mob_span.specs.Span.{SpanOf}
 use Rattle.mob_slice.specs.Comparison.{gap_parts}
@@ -12,7 +11,8 @@ use Rattle.mob_slice.specs.LineComparison.{point_gaps}
 use Rattle.mob_slice.specs.Lines.{plane_value_of}
 use Rattle.mob_slice.specs.Sides.{SideOf, side_at}
 use Rattle.mob_slice.specs.declared.line.PlaneLine.{PlaneLine}
-use Rattle.mob_quadratic.specs.Quadratic.{square_is_within}
+use Rattle.mob_quadratic.specs.Quadratic.{reaches_by, infimum_by, square_is_within}
+use Rattle.mob_plane.specs.Corners.{smaller}
 use Rattle.mob_near.specs.Distances.{length_squared}
 use Rattle.mob_near.specs.Entries.{PointPiece, gap_x, gap_y}
 use Rattle.mob_near.specs.declared.leg.Leg.{Leg}
@@ -83,23 +83,13 @@ foot_square f = cond (is_on_the_way f) (Some (f.across *ℚ (f.across /ℚ f.len
 abbrev pub square_quotients : Foot → List Ratio
 square_quotients f = cond (is_on_the_way f) ((f.across /ℚ f.length) ∷ (f.across *ℚ (f.across /ℚ f.length)) ∷ []) []
 
--- Whether the square of the length is at most D somewhere on a way that takes longer than an instant. At an end that is left out it has to
--- be less, since so it is near that end; or both ends have at most D, since so has all between them.
-abbrev pub reaches_by : Ratio → Bool → Bool → Squares → Bool → Bool
-reaches_by D lower_inc upper_inc q foot =
-    before q.first D || before q.last D || (lower_inc && up_to q.first D) || (upper_inc && up_to q.last D) || (up_to q.first D && up_to q.last D) || foot
-
+-- whether the square of the length is at most D somewhere on a way that takes longer than an instant
 abbrev pub leg_reaches : Ratio → Bool → Bool → Leg → Bool
-leg_reaches D lower_inc upper_inc g = reaches_by D lower_inc upper_inc (squares_of g) (foot_reaches D (foot_of g))
-
--- the square of the foot's length where there is one, else the smaller one at an end
-abbrev pub approach_by : Squares → Option Ratio → Ratio
-approach_by q None = smaller q.first q.last
-approach_by q (Some m) = m
+leg_reaches D lower_inc upper_inc g = reaches_by D (squares_of g).first (squares_of g).last lower_inc upper_inc (foot_reaches D (foot_of g))
 
 -- the greatest lower bound of the square of the length on such a way, whichever ends are included
 abbrev pub leg_approach : Leg → Ratio
-leg_approach g = approach_by (squares_of g) (foot_square (foot_of g))
+leg_approach g = infimum_by (squares_of g).first (squares_of g).last (foot_square (foot_of g))
 
 -- on a piece of time
 abbrev pub piece_reaches : Ratio → PointPiece → Bool

@@ -17,15 +17,14 @@ ghost use Rattle.mob_near.specs.Distances.{length_squared};
 use mob_frac::{Frac, Overflow};
 use mob_plane::Point;
 use mob_slice::{Course, Formula, LookFault, Passed, PlaneLine, Slice};
+use mob_sync::are_alike;
 use std::alloc::Global;
 use std::marker::Model;
 
 /// Where a moving point is at an instant strictly inside a slice.
 #[derive(Drop)]
 pub struct Found {
-    lower: Frac,
-    upper: Frac,
-    course: PlaneLine,
+    slice: Slice<PlaneLine>,
     at: Frac,
     point: Point,
 }
@@ -35,9 +34,9 @@ impl Model for Found {
 
     ghost Value = { FoundOf };
 
-    ghost view = { λ f. record { lower = f.lower; upper = f.upper; course = f.course; at = f.at; point = f.point } };
+    ghost view = { λ f. record { slice = f.slice; at = f.at; point = f.point } };
 
-    ghost invariant = { λ f. IsFound (record { lower = f.lower; upper = f.upper; course = f.course; at = f.at; point = f.point }) };
+    ghost invariant = { λ f. IsFound (record { slice = f.slice; at = f.at; point = f.point }) };
 }
 
 /// How far a point is from another.
@@ -108,16 +107,7 @@ fn is_found(found: &Found, slice: &Slice<PlaneLine>, t: &Frac) -> bool
     if !found.at.is_same(t) {
         return false;
     }
-    if !found.lower.is_same(slice.span.lower()) {
-        return false;
-    }
-    if !found.upper.is_same(slice.span.upper()) {
-        return false;
-    }
-    if !found.course.from.is_same(&slice.course.from) {
-        return false;
-    }
-    found.course.to.is_same(&slice.course.to)
+    are_alike(slice, &found.slice)
 }
 
 // The point of a slice at an instant, where it is the one that was found last.
@@ -138,7 +128,7 @@ fn found_again(found: &Option<Found>, slice: &Slice<PlaneLine>, t: &Frac) -> Opt
 // The point of a slice at an instant strictly inside, as it is kept.
 fn found_on(alloc: Global, slice: &Slice<PlaneLine>, t: &Frac) -> Result<Found, Passed>
     requires inside { has slice.now.span t.now ≡ true }
-    ensures value { IsComputed F1 (slice_parts plane_parts_of slice.now t.now) (record { lower = slice.now.span.lower; upper = slice.now.span.upper; course = slice.now.course; at = t.now; point = slice_value plane_value_of slice.now t.now }) result }
+    ensures value { IsComputed F1 (slice_parts plane_parts_of slice.now t.now) (record { slice = slice.now; at = t.now; point = slice_value plane_value_of slice.now t.now }) result }
 {
     let point = match slice.course.at(alloc, &slice.span, t) {
         Ok(point) => point,
@@ -146,9 +136,10 @@ fn found_on(alloc: Global, slice: &Slice<PlaneLine>, t: &Frac) -> Result<Found, 
         Err(LookFault::NoMemory) => unreachable!(),
     };
     Ok(Found {
-        lower: *slice.span.lower(),
-        upper: *slice.span.upper(),
-        course: slice.course,
+        slice: Slice {
+            span: slice.span,
+            course: slice.course,
+        },
         at: *t,
         point,
     })
@@ -247,7 +238,7 @@ pub fn difference(
     difference_of(left, right)
 }
 
-/// The same at the end of a piece, where it is kept.
+/// How far the first point is to the east and to the north of the second, at the end of a piece, where it is kept.
 pub fn difference_kept(
     left: &Point,
     right: &Point,
@@ -311,7 +302,7 @@ pub fn square(x: &Frac, y: &Frac, squared: &Option<Squared>) -> Result<Frac, Ove
     square_of(x, y)
 }
 
-/// The same at the end of a piece, where it is kept.
+/// The square of the length of a vector at the end of a piece, where it is kept.
 pub fn square_kept(x: &Frac, y: &Frac, squared: &mut Option<Squared>) -> Result<Frac, Overflow>
     ensures value { IsFormula (square_parts x.now y.now) (length_squared x.now y.now) result }
 {

@@ -16,9 +16,10 @@ ghost use Rattle.mob_near.specs.Legs.{are_some, nearest_of};
 use crate::known::nothing;
 use crate::piece::{piece_approach, piece_reaches};
 use mob_frac::Frac;
-use mob_lift::{Pieces, either};
+use mob_lift::either;
 use mob_plane::smaller;
 use mob_slice::{Formula, Operand, Passed, PlaneLine};
+use mob_sync::Pieces;
 use std::alloc::Global;
 
 // Whether there is a common instant.

@@ -2,10 +2,11 @@
 ghost use Rattle.std.specs.Prelude.{◌≡◌, ◌&&◌, ◌||◌, true, IfOk};
 ghost use Rattle.mob_ratio.specs.Order.{before, up_to};
 ghost use Rattle.mob_ratio.specs.Sign.{nil};
+ghost use Rattle.mob_quadratic.specs.Quadratic.{reaches_by, infimum_by};
 ghost use Rattle.mob_slice.specs.Entries.{IsDecided};
 ghost use Rattle.mob_slice.specs.Sides.{HoldsPiece, piece_of};
 ghost use Rattle.mob_near.specs.Entries.{entries_of_reach, entries_of_approach};
-ghost use Rattle.mob_near.specs.Legs.{approach_by, piece_reaches, piece_approach, reaches_by};
+ghost use Rattle.mob_near.specs.Legs.{piece_reaches, piece_approach};
 
 use crate::foot::{reaches_between, square_between};
 use crate::known::Last;
@@ -18,7 +19,7 @@ use std::alloc::Global;
 
 // Whether the bound is reached at some instant of a span longer than one, by the squares at its ends and whether the nearest point reaches it.
 fn reaches_by(span: &Span, squares: &Squares, square: &Frac, between: bool) -> bool
-    ensures value { result ≡ reaches_by square.now span.now.lower_inc span.now.upper_inc squares.now between }
+    ensures value { result ≡ reaches_by square.now squares.now.first squares.now.last span.now.lower_inc span.now.upper_inc between }
 {
     let at_lower = !square.is_before(&squares.first);
     let at_upper = !square.is_before(&squares.last);
@@ -63,9 +64,9 @@ pub fn piece_reaches(
     }
 }
 
-// The least square: that of the nearest point, else the smaller one at an end.
-fn approach_by(squares: &Squares, between: Option<Frac>) -> Frac
-    ensures value { result ≡ approach_by squares.now between }
+// The greatest lower bound of the squares: that of the nearest point, else the smaller one at an end.
+fn infimum_by(squares: &Squares, between: Option<Frac>) -> Frac
+    ensures value { result ≡ infimum_by squares.now.first squares.now.last between }
 {
     match between {
         Some(square) => square,
@@ -97,7 +98,7 @@ pub fn piece_approach(
         return Ok(squares.first);
     }
     match square_between(&leg) {
-        Ok(between) => Ok(approach_by(&squares, between)),
+        Ok(between) => Ok(infimum_by(&squares, between)),
         Err(_) => Err(Passed {
             formula: Formula::F5,
         }),

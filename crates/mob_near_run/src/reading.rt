@@ -74,7 +74,7 @@ fn target(alloc: Global, text: &str, epoch: &Epoch) -> Result<Option<Target>, Al
 
 /// The settings that the arguments say, the first of which is the program's name: `--k K` with a whole number from 1 to 1000, `--to TEXT` with
 /// a point or a moving point, and `--epoch DATE`. `--k` and `--to` are required, and each option may be given once. `--epoch` applies to TEXT,
-/// wherever it is values.
+/// wherever it is given.
 ///
 /// None exactly where the arguments are not taken.
 pub fn settings(alloc: Global, words: &[String]) -> Result<Option<NearSettings>, AllocError>

@@ -4,7 +4,7 @@ use Rattle.std.specs.Prelude.{cond, MatchOption}
 use Rattle.mob_ratio.specs.Ratio.{Ratio}
 use Rattle.mob_span.specs.Span.{SpanOf}
 use Rattle.mob_plane.specs.declared.point.Point.{Point as PointOf}
-use Rattle.mob_slice.specs.LineComparison.{point_relates}
+use Rattle.mob_slice.specs.LineComparison.{point_relates, number_relates}
 use Rattle.mob_slice.specs.Lines.{line_value_of, plane_value_of}
 use Rattle.mob_slice.specs.Operands.{steady_value}
 use Rattle.mob_slice.specs.declared.comparison.Rel.{Rel}
@@ -32,7 +32,7 @@ use Rattle.mob_meaning.specs.Lines.{IsMovingFrac, line_pair, plane_pair, product
 use Rattle.mob_meaning.specs.Nearness.{IsApproachValue, IsEverWithin}
 use Rattle.mob_meaning.specs.Operators.{IsJoined, GivesOfOne, GivesOfTwo, GivesOfThree}
 use Rattle.mob_meaning.specs.Scene.{Scene}
-use Rattle.mob_meaning.specs.Signs.{number_test, text_test, truth_test, IsAsked, IsOrderTest, IsAnyTest, IsSignTest}
+use Rattle.mob_meaning.specs.Signs.{text_relates, truth_relates, IsAsked, IsOrderTest, IsAnyTest, IsSignTest}
 use Rattle.mob_meaning.specs.Times.{asked_spans, IsRestriction}
 use Rattle.mob_meaning.specs.Types.{meeting, IsCastTo, IsCast}
 use Rattle.mob_operands.specs.Rows.{HaveNull, knows_null, NullGivesNull}
@@ -177,14 +177,14 @@ test_right cmp.Ge a v g = g ∙ order_right cmp.Ge (rel_of cmp.Ge) a
 
 order_sign_right : (scope : Asking) (r : Rel) (met : Option SqlType) (a v : Value) → IsOrderTest scope r met a Null v → v ≡ Null
 order_sign_right scope r None a v g = g
-order_sign_right scope r (Some sql.TInt) a v g = numbers_right (IsAsked scope (number_test r)) a v g
-order_sign_right scope r (Some sql.TFrac) a v g = lines_right (IsAsked scope (number_test r)) a v g
-order_sign_right scope r (Some sql.TText) a v g = texts_right (IsAsked scope (text_test r)) a v g
+order_sign_right scope r (Some sql.TInt) a v g = numbers_right (IsAsked scope (number_relates r)) a v g
+order_sign_right scope r (Some sql.TFrac) a v g = lines_right (IsAsked scope (number_relates r)) a v g
+order_sign_right scope r (Some sql.TText) a v g = texts_right (IsAsked scope (text_relates r)) a v g
 order_sign_right scope r (Some _) a v g = g
 
 any_sign_right : (scope : Asking) (r : Rel) (met : Option SqlType) (a v : Value) → IsAnyTest scope r met a Null v → v ≡ Null
 any_sign_right scope r None a v g = g
-any_sign_right scope r (Some sql.TBool) a v g = truths_right (IsAsked scope (truth_test r)) a v g
+any_sign_right scope r (Some sql.TBool) a v g = truths_right (IsAsked scope (truth_relates r)) a v g
 any_sign_right scope r (Some sql.TPoint) a v g = points_right (IsAsked scope (point_relates r)) a v g
 any_sign_right scope r (Some sql.TInt) a v g = order_sign_right scope r (Some sql.TInt) a v g
 any_sign_right scope r (Some sql.TFrac) a v g = order_sign_right scope r (Some sql.TFrac) a v g

@@ -5,20 +5,21 @@ use Rattle.mob_ratio.specs.Ratio.{Ratio}
 use Rattle.mob_ratio.specs.Order.{same}
 use Rattle.mob_span.specs.Sets.{in_some}
 use Rattle.mob_span.specs.Span.{SpanOf}
+use Rattle.mob_span.specs.Flags.{same_bool}
 use Rattle.mob_plane.specs.declared.point.Point.{Point as PointOf}
 use Rattle.mob_plane.specs.Membership.{inside}
 use Rattle.mob_stbox.specs.Boxes.{in_box}
 use Rattle.mob_slice.specs.CourseOf.{steady_course, line_course, plane_course}
-use Rattle.mob_slice.specs.LineComparison.{point_relates}
+use Rattle.mob_slice.specs.LineComparison.{point_relates, number_relates}
 use Rattle.mob_slice.specs.Lines.{line_value_of, plane_value_of}
 use Rattle.mob_slice.specs.Operands.{steady_value}
-use Rattle.mob_slice.specs.Sameness.{same_bool, same_bytes}
+use Rattle.mob_slice.specs.Sameness.{same_bytes}
 use Rattle.mob_slice.specs.declared.comparison.Rel.TheVariants.{Eq}
 use Rattle.mob_slice.specs.declared.line.Line.{Line}
 use Rattle.mob_slice.specs.declared.line.PlaneLine.{PlaneLine}
 use Rattle.mob_slice.specs.declared.slice.Slice.{Slice}
 use Rattle.mob_cells.specs.Cells.{instant_span}
-use Rattle.mob_cells.specs.Restricted.{is_wanted, where_wanted, IsRestricted}
+use Rattle.mob_cells.specs.Restricted.{where_wanted, IsRestricted}
 use Rattle.mob_ast.specs.declared.types.SqlType.{SqlType}
 use Rattle.mob_ast.specs.declared.types.SqlType.TheVariants as sql
 use Rattle.mob_operators.specs.Lookup.{is_temporal}
@@ -30,7 +31,7 @@ use Rattle.mob_ordinary.specs.Moving.{StepSlices, step_function, line_function, 
 use Rattle.mob_meaning.specs.Boxes.{IsBoxRestriction}
 use Rattle.mob_meaning.specs.ByValue.{IsValueRestriction}
 use Rattle.mob_meaning.specs.Polygons.{IsPolygonRestriction}
-use Rattle.mob_meaning.specs.Signs.{number_test, text_test, truth_test}
+use Rattle.mob_meaning.specs.Signs.{text_relates, truth_relates}
 use Rattle.mob_meaning.specs.Times.{IsRestriction, IsTimeRestriction, look_up}
 use Rattle.mob_catalog.specs.OwnTypes.{IsValueOf}
 use Rattle.mob_operands.specs.Rows.{is_there, HaveNull, passes, is_asked, is_then, is_within, NothingIsLeft, NullIsDue, IsAnswer}
@@ -42,18 +43,18 @@ gone x true e = absurd (cc e)
 gone x false e = refl
 
 -- where nothing is left of a value that is there, it is not wanted
-none_left : {B : Type 0} (want : Bool) (test : B → Bool) (o : Option B) → where_wanted want test o ≡ None → is_some o ≡ true → is_wanted want (passes test o) ≡ false
+none_left : {B : Type 0} (want : Bool) (test : B → Bool) (o : Option B) → where_wanted want test o ≡ None → is_some o ≡ true → same_bool want (passes test o) ≡ false
 none_left want test None e h = absurd (true≢false (sym h))
-none_left want test (Some x) e h = gone x (is_wanted want (test x)) e
+none_left want test (Some x) e h = gone x (same_bool want (test x)) e
 
-none_then : {B : Type 0} (want c : Bool) (o : Option B) → where_wanted want (λ x. c) o ≡ None → is_some o ≡ true → is_wanted want c ≡ false
+none_then : {B : Type 0} (want c : Bool) (o : Option B) → where_wanted want (λ x. c) o ≡ None → is_some o ≡ true → same_bool want c ≡ false
 none_then want c None e h = absurd (true≢false (sym h))
-none_then want c (Some x) e h = gone x (is_wanted want c) e
+none_then want c (Some x) e h = gone x (same_bool want c) e
 
 -- what is left is the value itself
 same_left : {B : Type 0} (want : Bool) (test : B → Bool) (o : Option B) (x : B) → where_wanted want test o ≡ Some x → o ≡ Some x
 same_left want test None x e = e
-same_left {B} want test (Some y) x e = by (is_wanted want (test y)) e
+same_left {B} want test (Some y) x e = by (same_bool want (test y)) e
   where
     by : (b : Bool) → cond b (Some y) None ≡ Some x → Some y ≡ Some x
     by true e = e
@@ -121,7 +122,7 @@ module _ (o : Op) (want : Bool) (due : (ty : SqlType) (vs : List Value) → Have
     Timed ty a = (v : Value) → IsRestriction want spans a v → IsAnswer o ty (a ∷ b ∷ []) v
 
     none_timed : {B : Type 0} (ty : SqlType) (a : Value) (f : Ratio → Option B) → ((t : Ratio) → is_there t a ≡ true → is_some (f t) ≡ true) → ((t : Ratio) → where_wanted want (λ x. in_some spans t) (f t) ≡ None) → NullIsDue o ty (a ∷ b ∷ [])
-    none_timed ty a f there e = due ty (a ∷ b ∷ []) (inr (λ t h. subst (λ c. is_wanted want c ≡ false) (asks a t) (none_then want (in_some spans t) (f t) (e t) (there t h))))
+    none_timed ty a f there e = due ty (a ∷ b ∷ []) (inr (λ t h. subst (λ c. same_bool want c ≡ false) (asks a t) (none_then want (in_some spans t) (f t) (e t) (there t h))))
 
     null_timed : (ty : SqlType) → Timed ty Null
     null_timed ty v g = null_answer o ty (Null ∷ b ∷ []) v (due ty (Null ∷ b ∷ []) (inl (first_null b))) g
@@ -176,11 +177,11 @@ module _ (o : Op) (want : Bool) (due : (ty : SqlType) (vs : List Value) → Have
       (λ a v g. null_answer o t (a ∷ Null ∷ []) v (due t (a ∷ Null ∷ []) (inl (second_null a))) (value_right want a v g)) f a b h k
 
   pub value_restricted : (ty t u : SqlType) → are_valued ty t u ≡ true → (a b : Value) → IsValueOf t a → IsValueOf u b → Valued ty a b
-  value_restricted sql.TBool sql.TBool sql.Bool e = by_values sql.TBool sql.Bool (λ m x v g. left_bools o want (λ t y. truth_test Eq y x) m _ (λ e. due sql.TBool _ (inr (λ t h. none_left want (λ y. truth_test Eq y x) (step_function m t) (e t) h))) v g)
-  value_restricted sql.TInt sql.TInt sql.Int e = by_values sql.TInt sql.Int (λ m i x j v g. left_ints o want (λ t y. number_test Eq y x) m _ i (λ e. due sql.TInt _ (inr (λ t h. none_left want (λ y. number_test Eq y x) (step_function m t) (e t) h))) v g)
-  value_restricted sql.TFrac sql.TFrac sql.Int e = by_values sql.TFrac sql.Int (λ m x j v g. left_fracs o want (λ t y. number_test Eq y x) m _ (λ e. due sql.TFrac _ (inr (λ t h. none_left want (λ y. number_test Eq y x) (line_function m t) (e t) h))) v g)
-  value_restricted sql.TFrac sql.TFrac sql.Numeric e = by_values sql.TFrac sql.Numeric (λ m x v g. left_fracs o want (λ t y. number_test Eq y x) m _ (λ e. due sql.TFrac _ (inr (λ t h. none_left want (λ y. number_test Eq y x) (line_function m t) (e t) h))) v g)
-  value_restricted sql.TText sql.TText sql.Text e = by_values sql.TText sql.Text (λ m x v g. left_texts o want (λ t y. text_test Eq y x) m _ (λ e. due sql.TText _ (inr (λ t h. none_left want (λ y. text_test Eq y x) (step_function m t) (e t) h))) v g)
+  value_restricted sql.TBool sql.TBool sql.Bool e = by_values sql.TBool sql.Bool (λ m x v g. left_bools o want (λ t y. truth_relates Eq y x) m _ (λ e. due sql.TBool _ (inr (λ t h. none_left want (λ y. truth_relates Eq y x) (step_function m t) (e t) h))) v g)
+  value_restricted sql.TInt sql.TInt sql.Int e = by_values sql.TInt sql.Int (λ m i x j v g. left_ints o want (λ t y. number_relates Eq y x) m _ i (λ e. due sql.TInt _ (inr (λ t h. none_left want (λ y. number_relates Eq y x) (step_function m t) (e t) h))) v g)
+  value_restricted sql.TFrac sql.TFrac sql.Int e = by_values sql.TFrac sql.Int (λ m x j v g. left_fracs o want (λ t y. number_relates Eq y x) m _ (λ e. due sql.TFrac _ (inr (λ t h. none_left want (λ y. number_relates Eq y x) (line_function m t) (e t) h))) v g)
+  value_restricted sql.TFrac sql.TFrac sql.Numeric e = by_values sql.TFrac sql.Numeric (λ m x v g. left_fracs o want (λ t y. number_relates Eq y x) m _ (λ e. due sql.TFrac _ (inr (λ t h. none_left want (λ y. number_relates Eq y x) (line_function m t) (e t) h))) v g)
+  value_restricted sql.TText sql.TText sql.Text e = by_values sql.TText sql.Text (λ m x v g. left_texts o want (λ t y. text_relates Eq y x) m _ (λ e. due sql.TText _ (inr (λ t h. none_left want (λ y. text_relates Eq y x) (step_function m t) (e t) h))) v g)
   value_restricted sql.TPoint sql.TPoint sql.Point e = by_values sql.TPoint sql.Point (λ m x v g. left_points o want (λ t y. point_relates Eq y x) m _ (λ e. due sql.TPoint _ (inr (λ t h. none_left want (λ y. point_relates Eq y x) (plane_function m t) (e t) h))) v g)
   value_restricted _ _ _ e = absurd (true≢false (sym e))
 

@@ -1,6 +1,6 @@
 -- The signs that compare over time have the pair of their operands.
 use Rattle.std.proofs.Common.{◌≡◌, Bool, true, false, true≢false, [], ◌∷◌, sym, refl}
-use Rattle.mob_slice.specs.LineComparison.{point_relates}
+use Rattle.mob_slice.specs.LineComparison.{point_relates, number_relates}
 use Rattle.mob_slice.specs.declared.comparison.Rel.{Rel}
 use Rattle.mob_ast.specs.declared.types.Cmp.{Cmp}
 use Rattle.mob_ast.specs.declared.types.Cmp.TheVariants as cmp
@@ -10,7 +10,7 @@ use Rattle.mob_operators.specs.declared.operator.Op.{Op}
 use Rattle.mob_value.specs.declared.value.Value.{Value}
 use Rattle.mob_ordinary.specs.Ordinary.{rel_of}
 use Rattle.mob_meaning.specs.declared.choices.Scope.{Scope}
-use Rattle.mob_meaning.specs.Signs.{IsAsked, IsOrderTest, IsAnyTest, IsSignTest, number_test, text_test, truth_test}
+use Rattle.mob_meaning.specs.Signs.{IsAsked, IsOrderTest, IsAnyTest, IsSignTest, text_relates, truth_relates}
 use Rattle.mob_meaning.specs.Types.{common_type}
 use Rattle.mob_catalog.specs.OwnTypes.{IsValueOf}
 use Rattle.mob_operands.specs.Rows.{AreNeverTogether, NullIsDue, IsAnswer}
@@ -71,27 +71,27 @@ module _ (o : Op) (scope : Scope) (due : (a b : Value) → AreNeverTogether (a �
 
   module _ (r : Rel) where
     order_sign : (t u : SqlType) → are_signed t u ≡ true → (a b : Value) → IsValueOf t a → IsValueOf u b → Compared (IsOrderTest scope r (common_type t u)) a b
-    order_sign sql.TInt sql.TInt e = int_pair_answers o (asked_type scope) due (IsAsked scope (number_test r)) (asked_row scope (number_test r)) sql.TInt sql.TInt refl
-    order_sign sql.TInt sql.Int e = int_pair_answers o (asked_type scope) due (IsAsked scope (number_test r)) (asked_row scope (number_test r)) sql.TInt sql.Int refl
-    order_sign sql.Int sql.TInt e = int_pair_answers o (asked_type scope) due (IsAsked scope (number_test r)) (asked_row scope (number_test r)) sql.Int sql.TInt refl
-    order_sign sql.TFrac sql.TFrac e = line_pair_answers o (asked_type scope) due (IsAsked scope (number_test r)) (asked_row scope (number_test r)) sql.TFrac sql.TFrac refl
-    order_sign sql.TFrac sql.TInt e = line_pair_answers o (asked_type scope) due (IsAsked scope (number_test r)) (asked_row scope (number_test r)) sql.TFrac sql.TInt refl
-    order_sign sql.TInt sql.TFrac e = line_pair_answers o (asked_type scope) due (IsAsked scope (number_test r)) (asked_row scope (number_test r)) sql.TInt sql.TFrac refl
-    order_sign sql.TFrac sql.Int e = line_pair_answers o (asked_type scope) due (IsAsked scope (number_test r)) (asked_row scope (number_test r)) sql.TFrac sql.Int refl
-    order_sign sql.Int sql.TFrac e = line_pair_answers o (asked_type scope) due (IsAsked scope (number_test r)) (asked_row scope (number_test r)) sql.Int sql.TFrac refl
-    order_sign sql.TFrac sql.Numeric e = line_pair_answers o (asked_type scope) due (IsAsked scope (number_test r)) (asked_row scope (number_test r)) sql.TFrac sql.Numeric refl
-    order_sign sql.Numeric sql.TFrac e = line_pair_answers o (asked_type scope) due (IsAsked scope (number_test r)) (asked_row scope (number_test r)) sql.Numeric sql.TFrac refl
-    order_sign sql.TInt sql.Numeric e = line_pair_answers o (asked_type scope) due (IsAsked scope (number_test r)) (asked_row scope (number_test r)) sql.TInt sql.Numeric refl
-    order_sign sql.Numeric sql.TInt e = line_pair_answers o (asked_type scope) due (IsAsked scope (number_test r)) (asked_row scope (number_test r)) sql.Numeric sql.TInt refl
-    order_sign sql.TText sql.TText e = text_pair_answers o (asked_type scope) due (IsAsked scope (text_test r)) (asked_row scope (text_test r)) sql.TText sql.TText refl
-    order_sign sql.TText sql.Text e = text_pair_answers o (asked_type scope) due (IsAsked scope (text_test r)) (asked_row scope (text_test r)) sql.TText sql.Text refl
-    order_sign sql.Text sql.TText e = text_pair_answers o (asked_type scope) due (IsAsked scope (text_test r)) (asked_row scope (text_test r)) sql.Text sql.TText refl
+    order_sign sql.TInt sql.TInt e = int_pair_answers o (asked_type scope) due (IsAsked scope (number_relates r)) (asked_row scope (number_relates r)) sql.TInt sql.TInt refl
+    order_sign sql.TInt sql.Int e = int_pair_answers o (asked_type scope) due (IsAsked scope (number_relates r)) (asked_row scope (number_relates r)) sql.TInt sql.Int refl
+    order_sign sql.Int sql.TInt e = int_pair_answers o (asked_type scope) due (IsAsked scope (number_relates r)) (asked_row scope (number_relates r)) sql.Int sql.TInt refl
+    order_sign sql.TFrac sql.TFrac e = line_pair_answers o (asked_type scope) due (IsAsked scope (number_relates r)) (asked_row scope (number_relates r)) sql.TFrac sql.TFrac refl
+    order_sign sql.TFrac sql.TInt e = line_pair_answers o (asked_type scope) due (IsAsked scope (number_relates r)) (asked_row scope (number_relates r)) sql.TFrac sql.TInt refl
+    order_sign sql.TInt sql.TFrac e = line_pair_answers o (asked_type scope) due (IsAsked scope (number_relates r)) (asked_row scope (number_relates r)) sql.TInt sql.TFrac refl
+    order_sign sql.TFrac sql.Int e = line_pair_answers o (asked_type scope) due (IsAsked scope (number_relates r)) (asked_row scope (number_relates r)) sql.TFrac sql.Int refl
+    order_sign sql.Int sql.TFrac e = line_pair_answers o (asked_type scope) due (IsAsked scope (number_relates r)) (asked_row scope (number_relates r)) sql.Int sql.TFrac refl
+    order_sign sql.TFrac sql.Numeric e = line_pair_answers o (asked_type scope) due (IsAsked scope (number_relates r)) (asked_row scope (number_relates r)) sql.TFrac sql.Numeric refl
+    order_sign sql.Numeric sql.TFrac e = line_pair_answers o (asked_type scope) due (IsAsked scope (number_relates r)) (asked_row scope (number_relates r)) sql.Numeric sql.TFrac refl
+    order_sign sql.TInt sql.Numeric e = line_pair_answers o (asked_type scope) due (IsAsked scope (number_relates r)) (asked_row scope (number_relates r)) sql.TInt sql.Numeric refl
+    order_sign sql.Numeric sql.TInt e = line_pair_answers o (asked_type scope) due (IsAsked scope (number_relates r)) (asked_row scope (number_relates r)) sql.Numeric sql.TInt refl
+    order_sign sql.TText sql.TText e = text_pair_answers o (asked_type scope) due (IsAsked scope (text_relates r)) (asked_row scope (text_relates r)) sql.TText sql.TText refl
+    order_sign sql.TText sql.Text e = text_pair_answers o (asked_type scope) due (IsAsked scope (text_relates r)) (asked_row scope (text_relates r)) sql.TText sql.Text refl
+    order_sign sql.Text sql.TText e = text_pair_answers o (asked_type scope) due (IsAsked scope (text_relates r)) (asked_row scope (text_relates r)) sql.Text sql.TText refl
     order_sign _ _ e = absurd (true≢false (sym e))
 
     any_sign : (t u : SqlType) → are_any t u ≡ true → (a b : Value) → IsValueOf t a → IsValueOf u b → Compared (IsAnyTest scope r (common_type t u)) a b
-    any_sign sql.TBool sql.TBool e = truth_pair_answers o (asked_type scope) due (IsAsked scope (truth_test r)) (asked_row scope (truth_test r)) sql.TBool sql.TBool refl
-    any_sign sql.TBool sql.Bool e = truth_pair_answers o (asked_type scope) due (IsAsked scope (truth_test r)) (asked_row scope (truth_test r)) sql.TBool sql.Bool refl
-    any_sign sql.Bool sql.TBool e = truth_pair_answers o (asked_type scope) due (IsAsked scope (truth_test r)) (asked_row scope (truth_test r)) sql.Bool sql.TBool refl
+    any_sign sql.TBool sql.TBool e = truth_pair_answers o (asked_type scope) due (IsAsked scope (truth_relates r)) (asked_row scope (truth_relates r)) sql.TBool sql.TBool refl
+    any_sign sql.TBool sql.Bool e = truth_pair_answers o (asked_type scope) due (IsAsked scope (truth_relates r)) (asked_row scope (truth_relates r)) sql.TBool sql.Bool refl
+    any_sign sql.Bool sql.TBool e = truth_pair_answers o (asked_type scope) due (IsAsked scope (truth_relates r)) (asked_row scope (truth_relates r)) sql.Bool sql.TBool refl
     any_sign sql.TPoint sql.TPoint e = point_pair_answers o (asked_type scope) due (IsAsked scope (point_relates r)) (asked_row scope (point_relates r)) sql.TPoint sql.TPoint refl
     any_sign sql.TPoint sql.Point e = point_pair_answers o (asked_type scope) due (IsAsked scope (point_relates r)) (asked_row scope (point_relates r)) sql.TPoint sql.Point refl
     any_sign sql.Point sql.TPoint e = point_pair_answers o (asked_type scope) due (IsAsked scope (point_relates r)) (asked_row scope (point_relates r)) sql.Point sql.TPoint refl

@@ -3,13 +3,13 @@ use Rattle.std.specs.Prelude.{◌≡◌, ◌⊎◌, ℕ, Bool, true, false, List
 use Rattle.std.specs.List.{AllByRecursion, AllZip, list_any}
 use Rattle.mob_ratio.specs.Ratio.{Ratio}
 use Rattle.mob_span.specs.Sets.{in_some}
+use Rattle.mob_span.specs.Flags.{same_bool}
 use Rattle.mob_plane.specs.Membership.{inside}
 use Rattle.mob_stbox.specs.Boxes.{BoxOf, in_box}
 use Rattle.mob_stbox.specs.Expansion.{expanded}
-use Rattle.mob_slice.specs.LineComparison.{point_relates}
+use Rattle.mob_slice.specs.LineComparison.{point_relates, number_relates}
 use Rattle.mob_slice.specs.declared.comparison.Rel.TheVariants.{Eq}
 use Rattle.mob_cells.specs.Cells.{instant_span}
-use Rattle.mob_cells.specs.Restricted.{is_wanted}
 use Rattle.mob_ast.specs.declared.types.SqlType.{SqlType}
 use Rattle.mob_ast.specs.declared.types.SqlType.TheVariants as sql
 use Rattle.mob_operators.specs.declared.operator.Op.{Op}
@@ -23,7 +23,7 @@ use Rattle.mob_value.specs.declared.value.Value.TheVariants.{Null, Bool as Truth
 use Rattle.mob_ordinary.specs.Moving.{step_function, line_function, plane_function}
 use Rattle.mob_ordinary.specs.Ordinary.{is_null, is_nil}
 use Rattle.mob_meaning.specs.Scene.{Scene}
-use Rattle.mob_meaning.specs.Signs.{number_test, text_test, truth_test}
+use Rattle.mob_meaning.specs.Signs.{text_relates, truth_relates}
 use Rattle.mob_meaning.specs.Evaluation.{stops, stop_of}
 use Rattle.mob_meaning.specs.Operators.{OperatorGives}
 use Rattle.mob_catalog.specs.OwnTypes.{IsValueOf}
@@ -60,10 +60,10 @@ is_asked a _ t = false
 
 -- whether a temporal value is a base value at an instant
 abbrev pub is_then : Value → Value → Ratio → Bool
-is_then (MovingBool a) (Truth x) t = passes (λ y. truth_test Eq y x) (step_function a t)
-is_then (MovingInt a) (Number x) t = passes (λ y. number_test Eq y x) (step_function a t)
-is_then (MovingFrac a) (Number x) t = passes (λ y. number_test Eq y x) (line_function a t)
-is_then (MovingText a) (Text x) t = passes (λ y. text_test Eq y x) (step_function a t)
+is_then (MovingBool a) (Truth x) t = passes (λ y. truth_relates Eq y x) (step_function a t)
+is_then (MovingInt a) (Number x) t = passes (λ y. number_relates Eq y x) (step_function a t)
+is_then (MovingFrac a) (Number x) t = passes (λ y. number_relates Eq y x) (line_function a t)
+is_then (MovingText a) (Text x) t = passes (λ y. text_relates Eq y x) (step_function a t)
 is_then (MovingPoint a) (Point x) t = passes (λ y. point_relates Eq y x) (plane_function a t)
 is_then _ _ t = false
 
@@ -75,7 +75,7 @@ is_within _ _ t = false
 
 -- At no instant of a temporal value does it meet a condition on the second operand, where `want` is true; or at each, where it is false.
 abbrev pub NothingIsLeft : Bool → (Value → Value → Ratio → Bool) → List Value → Type 0
-NothingIsLeft want meets (a ∷ b ∷ []) = (t : Ratio) → is_there t a ≡ true → is_wanted want (meets a b t) ≡ false
+NothingIsLeft want meets (a ∷ b ∷ []) = (t : Ratio) → is_there t a ≡ true → same_bool want (meets a b t) ≡ false
 NothingIsLeft want meets _ = ⊥
 
 -- a temporal value has none at the moment that is asked for

@@ -7,9 +7,9 @@ use Rattle.mob_ast.specs.declared.types.Cmp.TheVariants as cmp
 use Rattle.mob_slice.specs.declared.comparison.Rel.{Rel}
 use Rattle.mob_slice.specs.declared.comparison.Rel.TheVariants as rel
 use Rattle.mob_slice.specs.Ranks.{holds, compare_ratio, compare_bytes}
-use Rattle.mob_slice.specs.Sameness.{same_bool}
 use Rattle.mob_span.specs.Sets.{in_some}
 use Rattle.mob_span.specs.Span.{SpanOf}
+use Rattle.mob_span.specs.Flags.{same_bool}
 use Rattle.mob_value.specs.declared.value.Value.{Value}
 use Rattle.mob_value.specs.declared.value.Value.TheVariants.{Null, Bool as Truth, Number, Text, Moment, Point, Span, SpanSet, Box, MovingBool, MovingInt, MovingFrac, MovingText, MovingPoint}
 use Rattle.mob_ordinary.specs.Moving.{OverTime, step_function, line_function, plane_function}

@@ -1,7 +1,7 @@
 //! The six plain comparisons.
 ghost use Rattle.std.specs.Prelude.{◌≡◌, ◌↔◌, IsTrue, ◌&&◌, cond, [], ◌∷◌, map};
+ghost use Rattle.mob_span.specs.Flags.{same_bool};
 ghost use Rattle.mob_normal.specs.Widened.{level_line};
-ghost use Rattle.mob_slice.specs.Sameness.{same_bool};
 ghost use Rattle.mob_slice.specs.Slices.{value_at};
 ghost use Rattle.mob_value.specs.declared.value.Value.TheVariants.{Bool as Truth};
 ghost use Rattle.mob_ordinary.specs.Moving.{step_function, line_function};

@@ -4,7 +4,7 @@ use Rattle.mob_ratio.specs.Gcd.{gcd, gcd_steps}
 use Rattle.mob_ratio.specs.Lowest.{in_lowest_terms}
 use Rattle.mob_ratio.specs.Ratio.{over, whole, turned, inverse, ◌+ℚ◌, ◌*ℚ◌, neg_ℚ}
 use Rattle.mob_ratio.specs.Order.{before, same}
-use Rattle.mob_quadratic.specs.Quadratic.{quadratic, dips, falls_to, infimum, absolute, square_is_within}
+use Rattle.mob_quadratic.specs.Quadratic.{quadratic, dips, reaches, infimum, absolute, square_is_within}
 
 -- 4·s·s - 4·s + 2 is 1 at 1/2, its least value
 middle : quadratic (whole (pos 4)) (whole (negsuc 1)) (whole (pos 2)) (over (pos 1) 2) ≡ whole (pos 1)
@@ -20,20 +20,20 @@ unfolding over gcd gcd_steps in_lowest_terms whole ◌+ℚ◌ neg_ℚ ◌*ℚ◌
 least_one = refl
 
 -- it is at most 1, with neither end, and nowhere at most 1/2
-reaches_one : falls_to (whole (pos 4)) (whole (negsuc 1)) (whole (pos 2)) (whole (pos 1)) false false ≡ true
+reaches_one : reaches (whole (pos 4)) (whole (negsuc 1)) (whole (pos 2)) (whole (pos 1)) false false ≡ true
 unfolding over gcd gcd_steps in_lowest_terms whole ◌+ℚ◌ neg_ℚ ◌*ℚ◌ before
 reaches_one = refl
 
-misses_half : falls_to (whole (pos 4)) (whole (negsuc 1)) (whole (pos 2)) (over (pos 1) 2) true true ≡ false
+misses_half : reaches (whole (pos 4)) (whole (negsuc 1)) (whole (pos 2)) (over (pos 1) 2) true true ≡ false
 unfolding over gcd gcd_steps in_lowest_terms whole ◌+ℚ◌ neg_ℚ ◌*ℚ◌ before
 misses_half = refl
 
 -- s·s is 0 at 0 alone: where 0 does not count it is nowhere at most 0, and 0 is its greatest lower bound all the same
-end_counts : falls_to (whole (pos 1)) (whole (pos 0)) (whole (pos 0)) (whole (pos 0)) true false ≡ true
+end_counts : reaches (whole (pos 1)) (whole (pos 0)) (whole (pos 0)) (whole (pos 0)) true false ≡ true
 unfolding over gcd gcd_steps in_lowest_terms whole ◌+ℚ◌ neg_ℚ ◌*ℚ◌ before
 end_counts = refl
 
-end_left_out : falls_to (whole (pos 1)) (whole (pos 0)) (whole (pos 0)) (whole (pos 0)) false true ≡ false
+end_left_out : reaches (whole (pos 1)) (whole (pos 0)) (whole (pos 0)) (whole (pos 0)) false true ≡ false
 unfolding over gcd gcd_steps in_lowest_terms whole ◌+ℚ◌ neg_ℚ ◌*ℚ◌ before
 end_left_out = refl
 
@@ -42,7 +42,7 @@ unfolding over gcd gcd_steps in_lowest_terms whole ◌+ℚ◌ neg_ℚ ◌*ℚ◌
 approached_end = refl
 
 -- a level function at exactly the bound counts everywhere between
-level : falls_to (whole (pos 0)) (whole (pos 0)) (whole (pos 9)) (whole (pos 9)) false false ≡ true
+level : reaches (whole (pos 0)) (whole (pos 0)) (whole (pos 9)) (whole (pos 9)) false false ≡ true
 unfolding over gcd gcd_steps in_lowest_terms whole ◌+ℚ◌ neg_ℚ ◌*ℚ◌ before
 level = refl
 

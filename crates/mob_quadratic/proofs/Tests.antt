@@ -10,7 +10,7 @@ use Rattle.mob_ratio.proofs.Divide.{div-mul}
 use Rattle.mob_ratio.proofs.Ring.{at, lit, minus, ◌⊕◌, ◌⊗◌, ◌⊖◌}
 use Rattle.mob_ratio.proofs.Rings.{ring_ℚ}
 use Rattle.mob_ratio.specs.Sign.{nil}
-use Rattle.mob_quadratic.specs.Quadratic.{one, quadratic, at_one, in_unit, dips, scaled_least, falls_to, IsAtMost, infimum, IsUnderAt, IsInfimum}
+use Rattle.mob_quadratic.specs.Quadratic.{one, quadratic, at_one, in_unit, dips, scaled_least, reaches, IsAtMost, infimum, IsUnderAt, IsInfimum}
 use Rattle.mob_quadratic.proofs.Convex.{above_ne, mul_le, add_le, sub_le, sub_lt, le_lt, le_of_mul_pos, le_mul_pos, one_above, least, taken, rises, rises_above, back, mirror, mirror_last, convex, quadratic-first, quadratic-at_one, IsBelowInside, below_first, below_last}
 
 le-up_to' : (s t : Ratio) → s ≤ℚ t → up_to s t ≡ true
@@ -182,7 +182,7 @@ from_right c e d li ui r f = elim f.how [
   | inr k ↦ (let m = le-up_to e d f.at_most in let n = le-up_to c d k in grind (arith, m, n))
 ]
 
-each_by : (a b c d : Ratio) (li ui : Bool) (s : Ratio) → nil ≤ℚ a → IsAtMost a b c d li ui s → (p q : Bool) → before b nil ≡ p → before nil (a +ℚ b) ≡ q → falls_to a b c d li ui ≡ true
+each_by : (a b c d : Ratio) (li ui : Bool) (s : Ratio) → nil ≤ℚ a → IsAtMost a b c d li ui s → (p q : Bool) → before b nil ≡ p → before nil (a +ℚ b) ≡ q → reaches a b c d li ui ≡ true
 each_by a b c d li ui s ha n false q ep eq =
     from_left c (at_one a b c) d li ui _ (left_by a b c d s li ha (up_to-le nil b ep) (within_lower li ui s n.inside) (within_upper li ui s n.inside) (within_left li ui s n.inside _ refl) (not-up_to-le _ d n.near))
 each_by a b c d li ui s ha n true false ep eq =
@@ -192,7 +192,7 @@ each_by a b c d li ui s ha n true true ep eq =
     grind (arith, m, ep, eq)
 
 -- the table is exact
-pub decided : (a b c d : Ratio) (li ui : Bool) → nil ≤ℚ a → nil ≤ℚ c → nil ≤ℚ at_one a b c → (falls_to a b c d li ui ≡ true) ↔ ((s : Ratio) × IsAtMost a b c d li ui s)
+pub decided : (a b c d : Ratio) (li ui : Bool) → nil ≤ℚ a → nil ≤ℚ c → nil ≤ℚ at_one a b c → (reaches a b c d li ui ≡ true) ↔ ((s : Ratio) × IsAtMost a b c d li ui s)
 decided a b c d li ui ha hc hl = (
   (λ h. some a b c d li ui ha hc hl _ _ refl refl _ _ _ _ refl refl refl refl h),
   (λ f. each_by a b c d li ui f.0 ha f.1 _ _ refl refl),

@@ -7,12 +7,12 @@ ghost use Rattle.std.specs.Prelude.{◌≡◌, ◌↔◌, Bool, true};
 ghost use Rattle.mob_ratio.specs.Ratio.{Ratio, ◌*ℚ◌};
 ghost use Rattle.mob_ratio.specs.Order.{before, up_to};
 ghost use Rattle.mob_ratio.specs.Sign.{nil};
-ghost use Rattle.mob_quadratic.specs.Quadratic.{at_one, falls_to, infimum, square_is_within, IsAtMost, IsInfimum};
+ghost use Rattle.mob_quadratic.specs.Quadratic.{at_one, reaches, infimum, square_is_within, IsAtMost, IsInfimum};
 
 /// Where the function is not below 0 at either end and does not bend downwards, the test is true exactly where some value is at most `d`,
 /// and `infimum` is the greatest lower bound of the values, whichever ends count.
 pub fn tests_decide()
-    ensures reached { (a b c d : Ratio) (with_nil with_one : Bool) → up_to nil a ≡ true → up_to nil c ≡ true → up_to nil (at_one a b c) ≡ true → (falls_to a b c d with_nil with_one ≡ true) ↔ ((s : Ratio) × IsAtMost a b c d with_nil with_one s) }
+    ensures reached { (a b c d : Ratio) (with_nil with_one : Bool) → up_to nil a ≡ true → up_to nil c ≡ true → up_to nil (at_one a b c) ≡ true → (reaches a b c d with_nil with_one ≡ true) ↔ ((s : Ratio) × IsAtMost a b c d with_nil with_one s) }
     ensures bounded { (a b c : Ratio) (with_nil with_one : Bool) → up_to nil a ≡ true → up_to nil c ≡ true → up_to nil (at_one a b c) ≡ true → IsInfimum a b c with_nil with_one (infimum a b c) }
 {}
 

@@ -8,7 +8,7 @@ use Rattle.mob_ratio.specs.Ratio.{Ratio}
 use Rattle.mob_frac.specs.Formula.{AllFit}
 use Rattle.mob_span.specs.Span.{SpanOf}
 use Rattle.mob_span.specs.Meets.{PieceOf, shared_pieces}
-use Rattle.mob_span.specs.Parts.{part_at}
+use Rattle.mob_span.specs.Pieces.{piece_at}
 use Rattle.mob_span.specs.Sets.{in_some}
 use Rattle.mob_span.proofs.MeetLaws.{meets_at, meets_hold, HoldsBoth, sides}
 use Rattle.mob_span.proofs.Sharing.{is_there, there}
@@ -28,7 +28,7 @@ use Rattle.mob_slice.specs.declared.formula.LookFault.TheVariants.{Passed, NoMem
 use Rattle.mob_slice.proofs.LookUps.{value_by}
 use Rattle.mob_slice.proofs.Orders.{all_sound}
 use Rattle.mob_slice.proofs.Yielded.{drained}
-use Rattle.mob_lifted.specs.Lifted.{IsLifted, IsFirstFailure}
+use Rattle.mob_lifted.specs.Piecewise.{IsPiecewise, IsFirstFailure}
 use Rattle.mob_lift.specs.Given.{AreOn, IsGiven}
 use Rattle.mob_lift.proofs.OnPieces.{one_on}
 use Rattle.mob_lift.proofs.PieceLaws.{map_at, twice, both_map}
@@ -74,7 +74,7 @@ module _ {C B P V I W : Type 0} (value : C → Ratio → Ratio → Ratio → B) 
   abbrev span : P → SpanOf
   span p = (view p).span
 
-  within_values : (ps : List P) (slices : List (Slice C)) → rest walk ≡ map view ps → IsLifted value start end span items gives ps slices → AreRestricted value start end true (λ t x. in_some spans t) v slices
+  within_values : (ps : List P) (slices : List (Slice C)) → rest walk ≡ map view ps → IsPiecewise value start end span items gives ps slices → AreRestricted value start end true (λ t x. in_some spans t) v slices
   within_values ps slices i h = record {
     ordered = h.ordered;
     values = λ t.
@@ -82,19 +82,19 @@ module _ {C B P V I W : Type 0} (value : C → Ratio → Ratio → Ratio → B) 
         let ms = shared_pieces (λ s. s.span) (λ r. r) v spans in
         let k : Slice C × SpanOf → B = λ q. slice_value value q.0 t in
         mapped_at h (λ p t. slice_value value (view p).left t) (λ p u t j g. (gave p u g).0.values t j) t
-        ∙ sym (ap (option_map f) (map_at span (λ q. q.span) view (λ p. refl) ps t) ∙ twice view f (part_at span ps t))
-        ∙ ap (λ qs. option_map f (part_at (λ q. q.span) qs t)) (sym i ∙ e)
-        ∙ sym (twice (sides (λ s. s.span) (λ r. r)) k (part_at (λ q. q.span) ms t))
+        ∙ sym (ap (option_map f) (map_at span (λ q. q.span) view (λ p. refl) ps t) ∙ twice view f (piece_at span ps t))
+        ∙ ap (λ qs. option_map f (piece_at (λ q. q.span) qs t)) (sym i ∙ e)
+        ∙ sym (twice (sides (λ s. s.span) (λ r. r)) k (piece_at (λ q. q.span) ms t))
         ∙ ap (option_map k) (meets_at (λ s. s.span) (λ r. r) v spans t)
-        ∙ both_map (λ x r. x) (λ s. slice_value value s t) (λ r. r) (part_at (λ s. s.span) v t) (part_at (λ r. r) spans t)
-        ∙ ap (λ o. map_both (λ x r. x) o (option_map (λ r. r) (part_at (λ r. r) spans t))) (sym (value_by value v t))
-        ∙ ap (λ o. map_both (λ x r. x) (value_at value v t) o) (as_it_is (part_at (λ r. r) spans t))
-        ∙ wanted_there (value_at value v t) (part_at (λ r. r) spans t) (in_some spans t) (there (λ r. r) spans t);
+        ∙ both_map (λ x r. x) (λ s. slice_value value s t) (λ r. r) (piece_at (λ s. s.span) v t) (piece_at (λ r. r) spans t)
+        ∙ ap (λ o. map_both (λ x r. x) o (option_map (λ r. r) (piece_at (λ r. r) spans t))) (sym (value_by value v t))
+        ∙ ap (λ o. map_both (λ x r. x) (value_at value v t) o) (as_it_is (piece_at (λ r. r) spans t))
+        ∙ wanted_there (value_at value v t) (piece_at (λ r. r) spans t) (in_some spans t) (there (λ r. r) spans t);
   }
 
   -- what the cuts of all pieces say of the whole
   pub whole_within : (r : Result W OpFault)
-      → IfOk r (λ all. (ps : List P) × Drains (YieldsFirstBy view rest) walk ps × IsLifted value start end span items gives ps (list all))
+      → IfOk r (λ all. (ps : List P) × Drains (YieldsFirstBy view rest) walk ps × IsPiecewise value start end span items gives ps (list all))
       → ((f : Formula) → r ≡ Err (OpPassed f) → (ps : List P) × (t : I) × Yields (YieldsFirstBy view rest) walk ps t × IsFirstFailure gives (fails f) ps)
       → IfOk r (λ all. AreRestricted value start end true (λ t x. in_some spans t) v (list all)) × IsJudged (flat_map (entry_of_cut lines) (shared_pieces (λ s. s.span) (λ r. r) v spans)) r
   whole_within r h k = (

@@ -6,13 +6,15 @@ use Rattle.mob_ratio.specs.Ratio.{Ratio}
 use Rattle.mob_frac.specs.Formula.{AllFit}
 use Rattle.mob_span.specs.Span.{has}
 use Rattle.mob_span.proofs.Insides.{inside_self}
+use Rattle.mob_span.specs.Flags.{same_bool}
+use Rattle.mob_slice.specs.declared.formula.Formula.TheVariants.{F2}
 use Rattle.mob_slice.specs.Course.{IsCourse}
 use Rattle.mob_slice.specs.Slices.{IsSound}
 use Rattle.mob_slice.specs.Comparison.{IsComparison, gap_parts}
 use Rattle.mob_slice.specs.Look.{IsLookFault}
 use Rattle.mob_slice.specs.Cut.{slice_value, slice_parts}
 use Rattle.mob_slice.specs.Sides.{at_ends, HasValues}
-use Rattle.mob_slice.specs.Entries.{IsFirst, OnFormula, operator_fault}
+use Rattle.mob_slice.specs.Entries.{IsFirst, OnFormula, operator_fault, IsPartFault}
 use Rattle.mob_slice.specs.declared.slice.Slice.{Slice}
 use Rattle.mob_slice.specs.declared.comparison.Rel.{Rel}
 use Rattle.mob_slice.specs.declared.comparison.Rel.TheVariants.{Eq}
@@ -26,8 +28,8 @@ use Rattle.mob_cells.specs.declared.linear.Ends.{Ends}
 use Rattle.mob_cells.specs.Roots.{IsLevel}
 use Rattle.mob_cells.specs.Cells.{signs_of}
 use Rattle.mob_cells.specs.Kept.{AreKeptOn, IsKeptBy, entries_of_cuts}
-use Rattle.mob_cells.specs.Restricted.{kept_value, is_wanted}
-use Rattle.mob_cells.specs.Gaps.{gap_ends, related_by, IsGapFault}
+use Rattle.mob_cells.specs.Restricted.{kept_value}
+use Rattle.mob_cells.specs.Gaps.{gap_ends, related_by}
 use Rattle.mob_cells.proofs.GapSigns.{by_gaps, no_gaps, gaps_level}
 use Rattle.mob_cells.proofs.OwnEnds.{own_fit, start_value, end_value, kept_behind}
 use Rattle.mob_restrict.specs.Values.{entries_of_value, slice_gaps}
@@ -46,7 +48,7 @@ module _ {C B : Type 0} {steady copies : Bool} {value : C → Ratio → Ratio �
   same_ends : gap_ends (gaps (start s.course) x) (gaps (end s.course) x) ≡ gap_ends (slice_gaps value gaps x s s.span.lower) (slice_gaps value gaps x s s.span.upper)
   same_ends = ap (λ g. gap_ends g (gaps (end s.course) x)) low ∙ ap (λ g. gap_ends (slice_gaps value gaps x s s.span.lower) g) high
 
-  pub gaps_fail : (f : OpFault) → IsGapFault (gap_parts (gaps (start s.course) x) ++ gap_parts (gaps (end s.course) x)) f → OnFormula (λ g. IsFirst (entries_of_value value parts gaps x s) (Some g)) f
+  pub gaps_fail : (f : OpFault) → IsPartFault F2 (gap_parts (gaps (start s.course) x) ++ gap_parts (gaps (end s.course) x)) f → OnFormula (λ g. IsFirst (entries_of_value value parts gaps x s) (Some g)) f
   gaps_fail (Passed f) h = inr (subst (λ z. ¬ AllFit z) same_parts h.1, ap Some h.0)
   gaps_fail NoMemory h = tt
 
@@ -80,17 +82,17 @@ module _ {C B : Type 0} {steady copies : Bool} {value : C → Ratio → Ratio �
     value_same : (t : Ratio) → slice_value value s t ≡ start s.course
     value_same t = laws.one_value stays s.course s.span.lower s.span.upper t
 
-    wanted : (want k : Bool) (t : Ratio) → k ≡ is_wanted want (relation Eq (start s.course) x) → cond k (Some (slice_value value s t)) None ≡ kept_value want (relation Eq (slice_value value s t) x) (slice_value value s t)
-    wanted want k t e = ap (λ b. cond b (Some (slice_value value s t)) None) (e ∙ ap (λ y. is_wanted want (relation Eq y x)) (sym (value_same t)))
+    wanted : (want k : Bool) (t : Ratio) → k ≡ same_bool want (relation Eq (start s.course) x) → cond k (Some (slice_value value s t)) None ≡ kept_value want (relation Eq (slice_value value s t) x) (slice_value value s t)
+    wanted want k t e = ap (λ b. cond b (Some (slice_value value s t)) None) (e ∙ ap (λ y. same_bool want (relation Eq y x)) (sym (value_same t)))
 
-    pub steady_nothing : (want k : Bool) (v : List (Slice C)) → k ≡ is_wanted want (relation Eq (start s.course) x) → k ≡ false → v ≡ [] → AreKeptOn value start end (λ t. kept_value want (relation Eq (slice_value value s t) x) (slice_value value s t)) s.span v
+    pub steady_nothing : (want k : Bool) (v : List (Slice C)) → k ≡ same_bool want (relation Eq (start s.course) x) → k ≡ false → v ≡ [] → AreKeptOn value start end (λ t. kept_value want (relation Eq (slice_value value s t) x) (slice_value value s t)) s.span v
     steady_nothing want k v e n m = rw m (record { ordered = tt; inside = tt; values = λ t i. ap (λ b. cond b (Some (slice_value value s t)) None) (sym n) ∙ wanted want k t e })
 
     pub steady_fails : (f : LookFault) → IsLookFault copies (at_ends (slice_parts parts s) s.span) f → OnFormula (λ g. IsFirst (entries_of_value value parts gaps x s) (Some g)) (operator_fault f)
     steady_fails (LookPassed f) h = absurd (h.1 (own_fit laws s))
     steady_fails LookNoMemory h = tt
 
-    pub steady_all : {V : Type 0} (items : V → List (Slice C)) (q : Result V OpFault) (want k : Bool) (p : Slice C) → k ≡ is_wanted want (relation Eq (start s.course) x) → k ≡ true → HasValues value start end (slice_value value s) s.span p → MatchResult q (λ v. items v ≡ p ∷ []) (λ e. e ≡ NoMemory) → IsKeptBy value start end items (λ t. kept_value want (relation Eq (slice_value value s t) x) (slice_value value s t)) s.span (entries_of_value value parts gaps x s) q
+    pub steady_all : {V : Type 0} (items : V → List (Slice C)) (q : Result V OpFault) (want k : Bool) (p : Slice C) → k ≡ same_bool want (relation Eq (start s.course) x) → k ≡ true → HasValues value start end (slice_value value s) s.span p → MatchResult q (λ v. items v ≡ p ∷ []) (λ e. e ≡ NoMemory) → IsKeptBy value start end items (λ t. kept_value want (relation Eq (slice_value value s t) x) (slice_value value s t)) s.span (entries_of_value value parts gaps x s) q
     steady_all items (Ok v) want k p e n h m = (
       rw m (record {
         ordered = (h.sound, tt, tt);

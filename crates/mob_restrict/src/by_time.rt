@@ -1,7 +1,7 @@
 ghost use Rattle.std.specs.Prelude.{true, false, IfOk};
 ghost use Rattle.std.specs.List.{flat_map};
 ghost use Rattle.mob_span.specs.Meets.{shared_pieces};
-ghost use Rattle.mob_span.specs.Parts.{PartsAreClear};
+ghost use Rattle.mob_span.specs.Pieces.{PiecesAreClear};
 ghost use Rattle.mob_span.specs.Sets.{in_some};
 ghost use Rattle.mob_span.specs.Walk.{met_of};
 ghost use Rattle.mob_slice.specs.Parts.{HoldsMet};
@@ -41,7 +41,7 @@ fn within<C: Course + Drop>(
 ) -> Result<Vec<Slice<C>>, OpFault>
 where
     C::Base: Drop,
-    requires order { PartsAreClear (λ r. r) spans.now }
+    requires order { PiecesAreClear (λ r. r) spans.now }
     ensures slices { IfOk result (λ all. AreRestricted C.value_of C.start_of C.end_of true (λ t x. in_some spans.now t) a.now all.items) }
     ensures first { IsJudged (flat_map (entry_of_cut C.parts_of) (shared_pieces (λ s. s.span) (λ r. r) a.now spans.now)) result }
 {
@@ -85,6 +85,7 @@ where
     let Some(time) = whole(slices) else {
         return Ok(Vec::new(alloc));
     };
+    // A call of a method tells the proof what holds of every span.
     let _ = time.lower();
     match remainders(alloc, &time, spans) {
         Ok(left) => within(alloc, a, left.as_slice()),

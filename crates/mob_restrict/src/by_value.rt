@@ -8,10 +8,11 @@ ghost use Rattle.mob_cells.specs.Kept.{IsKeptBy};
 ghost use Rattle.mob_cells.specs.Restricted.{IsRestricted, kept_value};
 ghost use Rattle.mob_restrict.specs.Values.{entries_of_value};
 
-use mob_cells::{ByGaps, Restriction, gap_functions, is_wanted, kept, restricted};
+use mob_cells::{ByGaps, Restriction, gap_functions, kept, restricted};
 use mob_lift::listed;
 use mob_normal::normal;
 use mob_slice::{Compared, Course, Moving, OpFault, Rel, Slice, cut, operator_fault};
+use mob_span::same_bool;
 use std::alloc::Global;
 
 // What is left of a slice of a course that is not steady.
@@ -61,7 +62,7 @@ where
     ensures kept { IsKeptBy C.value_of C.start_of C.end_of (λ v. v.items) (λ t. kept_value want (C.relation Eq (slice_value C.value_of slice.now t) value.now) (slice_value C.value_of slice.now t)) slice.now.span (entries_of_value C.value_of C.parts_of C.gaps_of value.now slice.now) result }
 {
     let keeps = C::relates(Rel::Eq, slice.course.start(), value);
-    if !is_wanted(want, keeps) {
+    if !same_bool(want, keeps) {
         return Ok(Vec::new(alloc));
     }
     match cut(alloc, slice, &slice.span) {

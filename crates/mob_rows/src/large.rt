@@ -1,7 +1,8 @@
 // A large join ends: each of 200,000 points is joined with all of them by an index. A body that tried each box for each point would make
 // 40,000,000,000 tests, which no test has the time for.
 
-use crate::runs::{Failing, Report, run_once};
+use crate::ends::{NONE_FAILS, Watch, gave};
+use crate::scripts::run_script;
 use itoa::Buffer;
 use std::alloc::{AllocError, Global};
 use std::thread::Threads;
@@ -29,21 +30,18 @@ fn points(alloc: Global, count: u32) -> Result<Vec<u8>, AllocError> {
     Ok(file)
 }
 
-fn is_answered(seen: &Report) -> bool {
-    seen.status == 0 && seen.out.as_slice() == ANSWER && seen.notes.is_empty()
-}
-
 fn is_joined(rt: &(impl Threads + Sync), alloc: Global, file: &[u8]) -> bool {
-    let named = [("p.csv", file)];
-    match &run_once(
+    let gate = Watch { flags: None };
+    match &run_script(
         rt,
         alloc,
         &[],
-        SCRIPT.as_bytes(),
-        &named,
-        Failing::none(alloc),
+        SCRIPT,
+        Some(("p.csv", file)),
+        NONE_FAILS,
+        &gate,
     ) {
-        Ok(seen) => is_answered(seen),
+        Ok(seen) => gave(seen, 0, ANSWER, b""),
         Err(_) => false,
     }
 }

@@ -1,13 +1,25 @@
-//! Tests of whole runs: ends whose calls fail, a large join, the ends by themselves, and the words. Runs by many workers and of the demo stand in
-//! `mob_worker_rows`, which takes a run from here, and rows of whole scripts in `checks/rows`.
+//! Tests of whole runs of mobsql, mobnear, mobthin and mobtile over ends in memory: ends whose calls fail, runs by many workers and of the
+//! demo, a large join, the ends by themselves, and the arguments. What whole scripts and tables answer is in `checks/rows` and
+//! `checks/trips`.
 #![tactic(auto)]
 
+#[cfg(test)]
+mod demo;
+#[cfg(test)]
+mod ends;
 #[cfg(test)]
 mod failing;
 #[cfg(test)]
 mod large;
 #[cfg(test)]
 mod outside;
-pub mod runs;
+#[cfg(test)]
+mod scripts;
+#[cfg(test)]
+mod steady;
+#[cfg(test)]
+mod tables;
 #[cfg(test)]
 mod words;
+#[cfg(test)]
+mod workers;

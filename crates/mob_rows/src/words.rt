@@ -1,7 +1,8 @@
 // What the words of the command line say. Which words are not taken stands in `checks/rows`.
 
+use crate::ends::listed;
 use mob_words::settings;
-use std::alloc::{AllocError, Global};
+use std::alloc::Global;
 
 // Words, and the workers, the day of the epoch and the ships of the demo that they say. No ship stands for no demo.
 static ROWS: [(&[&str], u32, i64, u32); 11] = [
@@ -22,14 +23,6 @@ static ROWS: [(&[&str], u32, i64, u32); 11] = [
     (&["mobsql", "--demo=1000"], 1, 10957, 1000),
     (&["mobsql", "--demo", "200", "--workers=64"], 64, 10957, 200),
 ];
-
-fn listed(alloc: Global, words: &[&str]) -> Result<Vec<String>, AllocError> {
-    let mut list = Vec::new(alloc);
-    for word in words {
-        list.push(String::from_str(alloc, word)?)?;
-    }
-    Ok(list)
-}
 
 fn say(alloc: Global, words: &[String], workers: u32, day: i64, ships: u32) -> bool {
     match &settings(alloc, words) {

@@ -9,7 +9,7 @@ use Rattle.mob_span.specs.Neighbours.{is_clear}
 use Rattle.mob_span.specs.Remainders.{precedes, follows, front_of, back_of}
 use Rattle.mob_span.proofs.SpanLemmas.{none_has}
 use Rattle.mob_span.proofs.Leaving.{front_has, back_has}
-use Rattle.mob_cuts.proofs.Spans.{not_precedes, not_follows}
+use Rattle.mob_shares.proofs.Spans.{not_precedes, not_follows}
 use Rattle.mob_shares.specs.Begins.{BeginTogether, EndTogether}
 
 neither_of : (a f : Bool) → (a ≡ true → f ≡ false) → (a && f) ≡ false

@@ -4,12 +4,12 @@ use Rattle.std.specs.Iterator.{MakesProgress}
 use Rattle.std.proofs.Common.{ap, sym, ◌∙◌, subst}
 use Rattle.mob_span.specs.Span.{SpanOf, has_instant}
 use Rattle.mob_span.specs.Meet.{meet_of}
-use Rattle.mob_span.specs.Parts.{PartsAreClear}
+use Rattle.mob_span.specs.Pieces.{PiecesAreClear}
 use Rattle.mob_span.specs.Remainders.{front_of}
-use Rattle.mob_cuts.specs.Cuts.{CutOf, head_of}
-use Rattle.mob_cuts.specs.Shares.{ShareOf, next_share, most_shares}
-use Rattle.mob_cuts.proofs.Spans.{share_some}
-use Rattle.mob_cuts.proofs.Steps.{next_step, next_fewer}
+use Rattle.mob_shares.specs.Cuts.{CutOf, head_of}
+use Rattle.mob_shares.specs.Sharing.{ShareOf, next_share, most_shares}
+use Rattle.mob_shares.proofs.Spans.{share_some}
+use Rattle.mob_shares.proofs.Steps.{next_step, next_fewer}
 use Rattle.mob_shares.specs.declared.shares.Share.{Share}
 use Rattle.mob_shares.specs.declared.shares.Shares.{Shares}
 use Rattle.mob_shares.specs.Shares.{rest_of, share_of, CanShare, IsShared, shares_left}
@@ -66,13 +66,13 @@ module _ {X : Type 0} where
           ∙ ap (λ z. Some (record { span = z; left = Some c.of; right = Some d.of })) (sym i)
 
       -- two that are in order and begin together share an instant
-      pub must_meet : PartsAreClear (λ c. c.span) v → PartsAreClear (λ c. c.span) w → has_instant (front_of d.span c.span) ≡ false → has_instant (meet_of c.span d.span) ≡ true
-      must_meet h k m = share_some c.span d.span (subst (PartsAreClear (λ c. c.span)) (has_head v c e).1 h).0 (subst (PartsAreClear (λ c. c.span)) (has_head w d f).1 k).0 n m
+      pub must_meet : PiecesAreClear (λ c. c.span) v → PiecesAreClear (λ c. c.span) w → has_instant (front_of d.span c.span) ≡ false → has_instant (meet_of c.span d.span) ≡ true
+      must_meet h k m = share_some c.span d.span (subst (PiecesAreClear (λ c. c.span)) (has_head v c e).1 h).0 (subst (PiecesAreClear (λ c. c.span)) (has_head w d f).1 k).0 n m
 
 -- a call that gave the next piece goes on, and fewer pieces are left
 pub goes_on : {C : Type 0} (s t : Shares C) (p : Share C) → CanShare s → IsShared s p t → MakesProgress CanShare shares_left s (Some p) t
 goes_on s t p can h =
     let step = next_step (rest_of s.lefts) (rest_of s.rights) can.0 can.1 (share_of p) h.next in
-    let go : CanShare t = (subst (PartsAreClear (λ c. c.span)) (sym h.left) step.clear.0, subst (PartsAreClear (λ c. c.span)) (sym h.right) step.clear.1) in
+    let go : CanShare t = (subst (PiecesAreClear (λ c. c.span)) (sym h.left) step.clear.0, subst (PiecesAreClear (λ c. c.span)) (sym h.right) step.clear.1) in
     let less : most_shares (rest_of t.lefts) (rest_of t.rights) < most_shares (rest_of s.lefts) (rest_of s.rights) = rw (h.left, h.right) (next_fewer (rest_of s.lefts) (rest_of s.rights) (share_of p) h.next) in
     record { on = λ z. (go, tt, less); keeps = go; rests = λ z. tt }

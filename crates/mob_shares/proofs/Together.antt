@@ -7,7 +7,7 @@ use Rattle.mob_ratio.specs.Ratio.{Ratio}
 use Rattle.mob_frac.specs.Formula.{AllFit}
 use Rattle.mob_span.specs.Span.{has, has_instant}
 use Rattle.mob_span.specs.Meets.{PieceOf, shared_pieces}
-use Rattle.mob_span.specs.Parts.{PartsAreClear, part_at}
+use Rattle.mob_span.specs.Pieces.{PiecesAreClear, piece_at}
 use Rattle.mob_slice.specs.Course.{IsCourse}
 use Rattle.mob_slice.specs.Cut.{slice_value, slice_parts}
 use Rattle.mob_slice.specs.Parts.{IsPairFit}
@@ -22,16 +22,16 @@ use Rattle.mob_slice.specs.declared.formula.OpFault.{OpFault}
 use Rattle.mob_slice.specs.declared.formula.OpFault.TheVariants.{Passed}
 use Rattle.mob_slice.proofs.Cuts.{all_both, all_first, all_second}
 use Rattle.mob_slice.proofs.LookUps.{value_by}
-use Rattle.mob_lifted.specs.Lifted.{LiftsTo, IsLifted, IsFirstFailure}
+use Rattle.mob_lifted.specs.Piecewise.{AreGivenInOrder, IsPiecewise, IsFirstFailure}
 use Rattle.mob_lifted.proofs.Options.{none_some, same_some}
 use Rattle.mob_sync.specs.Common.{pair_of}
-use Rattle.mob_cuts.specs.Cuts.{CutOf, wholes, entry_at, shared_cuts}
-use Rattle.mob_cuts.specs.Shares.{next_share, behind, both_of}
-use Rattle.mob_cuts.proofs.Sides.{cut_span, entry_whole}
-use Rattle.mob_cuts.proofs.Rows.{shared_whole}
-use Rattle.mob_cuts.proofs.Steps.{IsStep}
-use Rattle.mob_cuts.proofs.Ends.{left_ends, right_ends, none_left, none_right}
-use Rattle.mob_cuts.proofs.Heads.{next_heads, both_not, AtCuts, at_behind}
+use Rattle.mob_shares.specs.Cuts.{CutOf, wholes, entry_at, shared_cuts}
+use Rattle.mob_shares.specs.Sharing.{next_share, behind, both_of}
+use Rattle.mob_shares.proofs.Sides.{cut_span, entry_whole}
+use Rattle.mob_shares.proofs.Rows.{shared_whole}
+use Rattle.mob_shares.proofs.Steps.{IsStep}
+use Rattle.mob_shares.proofs.Ends.{left_ends, right_ends, none_left, none_right}
+use Rattle.mob_shares.proofs.Heads.{next_heads, both_not, AtCuts, at_behind}
 use Rattle.mob_shares.specs.declared.shares.Share.{Share}
 use Rattle.mob_shares.specs.declared.shares.Share.TheVariants.{Left, Right, Both}
 use Rattle.mob_shares.specs.declared.shares.Shares.{Shares}
@@ -53,12 +53,12 @@ module _ {C B V : Type 0} (value : C → Ratio → Ratio → Ratio → B) (start
   cut_value v u = option_map (λ s. slice_value value s u) (entry_at v u)
 
   abbrev TakenBy : List (CutOf (Slice C)) → List (CutOf (Slice C)) → Ratio → Option B → Type 0
-  TakenBy v w u o = MatchOption (part_at (λ q. q.span) (shared_cuts v w) u) (o ≡ one_of (cut_value v u) (cut_value w u)) (λ q. (x : V) × IsAnswered start end returns q (Ok x) × (o ≡ value_at value (items x) u))
+  TakenBy v w u o = MatchOption (piece_at (λ q. q.span) (shared_cuts v w) u) (o ≡ one_of (cut_value v u) (cut_value w u)) (λ q. (x : V) × IsAnswered start end returns q (Ok x) × (o ≡ value_at value (items x) u))
 
-  taken_alone : (v w : List (CutOf (Slice C))) (u : Ratio) (o : Option B) → part_at (λ q. q.span) (shared_cuts v w) u ≡ None → o ≡ one_of (cut_value v u) (cut_value w u) → TakenBy v w u o
+  taken_alone : (v w : List (CutOf (Slice C))) (u : Ratio) (o : Option B) → piece_at (λ q. q.span) (shared_cuts v w) u ≡ None → o ≡ one_of (cut_value v u) (cut_value w u) → TakenBy v w u o
   taken_alone v w u o h k = subst (λ z. MatchOption z (o ≡ one_of (cut_value v u) (cut_value w u)) (λ q. (x : V) × IsAnswered start end returns q (Ok x) × (o ≡ value_at value (items x) u))) (sym h) k
 
-  taken_both : (v w : List (CutOf (Slice C))) (u : Ratio) (o : Option B) (q : PieceOf (Slice C) (Slice C)) → part_at (λ q. q.span) (shared_cuts v w) u ≡ Some q → ((x : V) × IsAnswered start end returns q (Ok x) × (o ≡ value_at value (items x) u)) → TakenBy v w u o
+  taken_both : (v w : List (CutOf (Slice C))) (u : Ratio) (o : Option B) (q : PieceOf (Slice C) (Slice C)) → piece_at (λ q. q.span) (shared_cuts v w) u ≡ Some q → ((x : V) × IsAnswered start end returns q (Ok x) × (o ≡ value_at value (items x) u)) → TakenBy v w u o
   taken_both v w u o q h k = subst (λ z. MatchOption z (o ≡ one_of (cut_value v u) (cut_value w u)) (λ q. (x : V) × IsAnswered start end returns q (Ok x) × (o ≡ value_at value (items x) u))) (sym h) k
 
   taken_here : (v w v' w' : List (CutOf (Slice C))) (p : Share C) (u : Ratio) (o : Option B) → IsStep v w (share_of p) v' w' → has (share_span p) u ≡ true → ((x : V) × gives p x × (o ≡ value_at value (items x) u)) → TakenBy v w u o
@@ -72,26 +72,26 @@ module _ {C B V : Type 0} (value : C → Ratio → Ratio → Ratio → B) (start
       (h.2 ∙ (gave (Right r) h.0 h.1).1.0.values u i ∙ sym (ap (λ z. one_of (option_map (λ s. slice_value value s u) z) (cut_value w u)) here.0 ∙ ap (λ z. option_map (λ s. slice_value value s u) z) here.1))
   taken_here v w v' w' (Both p) u o step i h =
       taken_both v w u o (pair_of p)
-      (ap (λ z. part_at (λ q. q.span) z u) step.shared ∙ ap (λ b. cond b (Some (pair_of p)) (part_at (λ q. q.span) (shared_cuts v' w') u)) i)
+      (ap (λ z. piece_at (λ q. q.span) z u) step.shared ∙ ap (λ b. cond b (Some (pair_of p)) (piece_at (λ q. q.span) (shared_cuts v' w') u)) i)
       (h.0, (p, refl, pair_fit start end p (gave (Both p) h.0 h.1).0, (gave (Both p) h.0 h.1).1), h.2)
 
   taken_later : (v w v' w' : List (CutOf (Slice C))) (p : Share C) (u : Ratio) (o : Option B) → IsStep v w (share_of p) v' w' → has (share_span p) u ≡ false → TakenBy v' w' u o → TakenBy v w u o
   taken_later v w v' w' p u o step i h =
       let gone = step.gone u i in
-      let at : part_at (λ q. q.span) (shared_cuts v w) u ≡ part_at (λ q. q.span) (shared_cuts v' w') u = ap (λ z. part_at (λ q. q.span) z u) step.shared ∙ both_not (share_of p) (shared_cuts v' w') u i in
+      let at : piece_at (λ q. q.span) (shared_cuts v w) u ≡ piece_at (λ q. q.span) (shared_cuts v' w') u = ap (λ z. piece_at (λ q. q.span) z u) step.shared ∙ both_not (share_of p) (shared_cuts v' w') u i in
       let old : one_of (cut_value v' u) (cut_value w' u) ≡ one_of (cut_value v u) (cut_value w u) = ap (λ z. one_of (option_map (λ s. slice_value value s u) z) (cut_value w' u)) gone.0 ∙ ap (λ z. one_of (cut_value v u) (option_map (λ s. slice_value value s u) z)) gone.1 in
       subst (λ z. MatchOption z (o ≡ one_of (cut_value v u) (cut_value w u)) (λ q. (x : V) × IsAnswered start end returns q (Ok x) × (o ≡ value_at value (items x) u))) (sym at)
-      (subst (λ z. MatchOption (part_at (λ q. q.span) (shared_cuts v' w') u) (o ≡ z) (λ q. (x : V) × IsAnswered start end returns q (Ok x) × (o ≡ value_at value (items x) u))) old h)
+      (subst (λ z. MatchOption (piece_at (λ q. q.span) (shared_cuts v' w') u) (o ≡ z) (λ q. (x : V) × IsAnswered start end returns q (Ok x) × (o ≡ value_at value (items x) u))) old h)
 
   -- at each instant the walk has what was given on the piece there
-  taken_from : (xs : List (Share C)) (s t : Shares C) → CanShare s → Walk s xs t → rest_of t.lefts ≡ [] → rest_of t.rights ≡ [] → (u : Ratio) (o : Option B) → MatchOption (part_at share_span xs u) (o ≡ None) (λ p. (x : V) × gives p x × (o ≡ value_at value (items x) u)) → TakenBy (rest_of s.lefts) (rest_of s.rights) u o
+  taken_from : (xs : List (Share C)) (s t : Shares C) → CanShare s → Walk s xs t → rest_of t.lefts ≡ [] → rest_of t.rights ≡ [] → (u : Ratio) (o : Option B) → MatchOption (piece_at share_span xs u) (o ≡ None) (λ p. (x : V) × gives p x × (o ≡ value_at value (items x) u)) → TakenBy (rest_of s.lefts) (rest_of s.rights) u o
   taken_from [] s t can y l r u o h =
       let l' : rest_of s.lefts ≡ [] = ap (λ z. rest_of z.lefts) y ∙ l in
       let r' : rest_of s.rights ≡ [] = ap (λ z. rest_of z.rights) y ∙ r in
       subst (λ z. TakenBy z (rest_of s.rights) u o) (sym l') (subst (λ z. TakenBy [] z u o) (sym r') h)
   taken_from (p ∷ xs) s t can y l r u o h = by (has (share_span p) u) refl h (taken_from xs y.0 t (step_of s y.0 p can y.1).clear y.2 l r u o)
     where
-      by : (b : Bool) → has (share_span p) u ≡ b → MatchOption (cond b (Some p) (part_at share_span xs u)) (o ≡ None) (λ p. (x : V) × gives p x × (o ≡ value_at value (items x) u)) → (MatchOption (part_at share_span xs u) (o ≡ None) (λ p. (x : V) × gives p x × (o ≡ value_at value (items x) u)) → TakenBy (rest_of y.0.lefts) (rest_of y.0.rights) u o) → TakenBy (rest_of s.lefts) (rest_of s.rights) u o
+      by : (b : Bool) → has (share_span p) u ≡ b → MatchOption (cond b (Some p) (piece_at share_span xs u)) (o ≡ None) (λ p. (x : V) × gives p x × (o ≡ value_at value (items x) u)) → (MatchOption (piece_at share_span xs u) (o ≡ None) (λ p. (x : V) × gives p x × (o ≡ value_at value (items x) u)) → TakenBy (rest_of y.0.lefts) (rest_of y.0.rights) u o) → TakenBy (rest_of s.lefts) (rest_of s.rights) u o
       by true i k f = taken_here (rest_of s.lefts) (rest_of s.rights) (rest_of y.0.lefts) (rest_of y.0.rights) p u o (step_of s y.0 p can y.1) i k
       by false i k f = taken_later (rest_of s.lefts) (rest_of s.rights) (rest_of y.0.lefts) (rest_of y.0.rights) p u o (step_of s y.0 p can y.1) i (f k)
 
@@ -103,7 +103,7 @@ module _ {C B V : Type 0} (value : C → Ratio → Ratio → Ratio → B) (start
     answered_both p x g i = (fit p x (gave (Both p) x g).0 i (gave (Both p) x g).1, (p, refl, pair_fit start end p (gave (Both p) x g).0, (gave (Both p) x g).1))
 
     -- every shared piece was answered
-    answered_from : (xs : List (Share C)) (s t : Shares C) (slices : List (Slice C)) → CanShare s → Walk s xs t → rest_of t.lefts ≡ [] → LiftsTo items gives xs slices → AllByRecursion (λ q. AllFit (piece_parts parts q) × ((x : V) × IsAnswered start end returns q (Ok x))) (shared_cuts (rest_of s.lefts) (rest_of s.rights))
+    answered_from : (xs : List (Share C)) (s t : Shares C) (slices : List (Slice C)) → CanShare s → Walk s xs t → rest_of t.lefts ≡ [] → AreGivenInOrder items gives xs slices → AllByRecursion (λ q. AllFit (piece_parts parts q) × ((x : V) × IsAnswered start end returns q (Ok x))) (shared_cuts (rest_of s.lefts) (rest_of s.rights))
     answered_from [] s t slices can y l h =
         let l' : rest_of s.lefts ≡ [] = ap (λ z. rest_of z.lefts) y ∙ l in
         subst (λ z. AllByRecursion (λ q. AllFit (piece_parts parts q) × ((x : V) × IsAnswered start end returns q (Ok x))) (shared_cuts z (rest_of s.rights))) (sym l') tt
@@ -150,7 +150,7 @@ module _ {C B V : Type 0} (value : C → Ratio → Ratio → Ratio → B) (start
       alone_fails : (o : One C) → IsShareGiven value start end parts items returns (Left o) (Err (Passed f)) → (f ≡ F1) × (¬ AllFit (at_ends (slice_parts parts o.slice.now) o.span))
       alone_fails o h = ⊎_elim (λ m. none_some f (sym m.1)) (λ m. (same_some m.1, m.0)) h
 
-      fails_left : (v w : List (CutOf (Slice C))) (o : One C) → PartsAreClear cut_span w → AtCuts At v → next_share v w ≡ Some (share_of (Left o)) → IsShareGiven value start end parts items returns (Left o) (Err (Passed f)) → Refused (shared_cuts v w)
+      fails_left : (v w : List (CutOf (Slice C))) (o : One C) → PiecesAreClear cut_span w → AtCuts At v → next_share v w ≡ Some (share_of (Left o)) → IsShareGiven value start end parts items returns (Left o) (Err (Passed f)) → Refused (shared_cuts v w)
       fails_left v w o k a e h =
           let bad = alone_fails o h in
           let ends = left_ends At v w k a o.span o.slice.now e in
@@ -159,7 +159,7 @@ module _ {C B V : Type 0} (value : C → Ratio → Ratio → Ratio → B) (start
           (λ m. subst Refused (sym m.3) (inl (inl (bad.0, λ all. bad.1 (all_both (slice_parts parts o.slice.now o.span.lower) (slice_parts parts o.slice.now o.span.upper) ends.0 (subst (λ z. At o.slice.now z) m.4 (all_first (slice_parts parts o.slice.now m.0.lower) (slice_parts parts o.slice.now m.0.upper) (all_first (at_ends (slice_parts parts o.slice.now) m.0) (at_ends (slice_parts parts m.1) m.0) all))))))))
           ends.1
 
-      fails_right : (v w : List (CutOf (Slice C))) (o : One C) → PartsAreClear cut_span v → AtCuts At w → next_share v w ≡ Some (share_of (Right o)) → IsShareGiven value start end parts items returns (Right o) (Err (Passed f)) → Refused (shared_cuts v w)
+      fails_right : (v w : List (CutOf (Slice C))) (o : One C) → PiecesAreClear cut_span v → AtCuts At w → next_share v w ≡ Some (share_of (Right o)) → IsShareGiven value start end parts items returns (Right o) (Err (Passed f)) → Refused (shared_cuts v w)
       fails_right v w o k a e h =
           let bad = alone_fails o h in
           let ends = right_ends At v w k a o.span o.slice.now e in
@@ -207,14 +207,14 @@ module _ {C B V : Type 0} {steady copies : Bool} {value : C → Ratio → Ratio 
   whole_cuts (x ∷ v) = ((subst AllFit (sym (laws.lower_parts x.course x.span.lower x.span.upper)) tt, subst AllFit (sym (laws.upper_parts x.course x.span.lower x.span.upper)) tt), whole_cuts v)
 
   module _ (fit : (p : Pair C C) (x : V) → HoldsShare start end (share_of (Both p)) → has_instant p.span ≡ true → returns p (Ok x) → AllFit (piece_parts parts (pair_of p))) where
-    pub are_taken : {W : Type 0} (list : W → List (Slice C)) (all : W) → ((ps : List (Share C)) × Drains GivesShare s ps × IsLifted value start end share_span items gives ps (list all)) → AreTaken value start end parts items returns v w (list all)
+    pub are_taken : {W : Type 0} (list : W → List (Slice C)) (all : W) → ((ps : List (Share C)) × Drains GivesShare s ps × IsPiecewise value start end share_span items gives ps (list all)) → AreTaken value start end parts items returns v w (list all)
     are_taken list all h =
         let walk = h.1.1 in
         record {
           answered = subst (λ z. AllByRecursion (λ q. AllFit (piece_parts parts q) × ((x : V) × IsAnswered start end returns q (Ok x))) z) shared_is (answered_from value start end parts items returns gives gave fit h.0 s walk.0 (list all) can walk.1 walk.2.0 h.2.made);
           values = λ u.
-              subst (λ z. MatchOption (part_at (λ q. q.span) z u) (value_at value (list all) u ≡ one_of (value_at value v u) (value_at value w u)) (λ q. (x : V) × IsAnswered start end returns q (Ok x) × (value_at value (list all) u ≡ value_at value (items x) u))) shared_is
-              (subst (λ z. MatchOption (part_at (λ q. q.span) (shared_cuts (rest_of s.lefts) (rest_of s.rights)) u) (value_at value (list all) u ≡ z) (λ q. (x : V) × IsAnswered start end returns q (Ok x) × (value_at value (list all) u ≡ value_at value (items x) u)))
+              subst (λ z. MatchOption (piece_at (λ q. q.span) z u) (value_at value (list all) u ≡ one_of (value_at value v u) (value_at value w u)) (λ q. (x : V) × IsAnswered start end returns q (Ok x) × (value_at value (list all) u ≡ value_at value (items x) u))) shared_is
+              (subst (λ z. MatchOption (piece_at (λ q. q.span) (shared_cuts (rest_of s.lefts) (rest_of s.rights)) u) (value_at value (list all) u ≡ z) (λ q. (x : V) × IsAnswered start end returns q (Ok x) × (value_at value (list all) u ≡ value_at value (items x) u)))
               (ap (λ z. one_of z (option_map (λ s. slice_value value s u) (entry_at (rest_of s.rights) u))) (whole_value (rest_of s.lefts) v left u) ∙ ap (λ z. one_of (value_at value v u) z) (whole_value (rest_of s.rights) w right u))
               (taken_from value start end parts items returns gives gave h.0 s walk.0 can walk.1 walk.2.0 walk.2.1 u (value_at value (list all) u) (h.2.at_each u)));
         }

@@ -6,16 +6,16 @@ use Rattle.std.proofs.Common.{sym, subst}
 use Rattle.mob_span.specs.Span.{SpanOf, has_instant}
 use Rattle.mob_span.specs.Chained.{OfHead}
 use Rattle.mob_span.specs.Neighbours.{is_clear, is_inside}
-use Rattle.mob_span.specs.Parts.{PartsAreClear}
+use Rattle.mob_span.specs.Pieces.{PiecesAreClear}
 use Rattle.mob_span.proofs.Shared.{AreAllClear}
 use Rattle.mob_slice.specs.Slices.{IsSound}
 use Rattle.mob_slice.specs.declared.slice.Slice.{Slice}
-use Rattle.mob_cuts.specs.Cuts.{CutOf}
-use Rattle.mob_cuts.specs.Shares.{behind}
-use Rattle.mob_cuts.proofs.Sides.{cut_span, IsOf}
-use Rattle.mob_cuts.proofs.Spans.{inside_by, inside_of}
-use Rattle.mob_cuts.proofs.Steps.{IsStep, next_step}
-use Rattle.mob_cuts.proofs.Heads.{OnHead, next_heads, of_behind}
+use Rattle.mob_shares.specs.Cuts.{CutOf}
+use Rattle.mob_shares.specs.Sharing.{behind}
+use Rattle.mob_shares.proofs.Sides.{cut_span, IsOf}
+use Rattle.mob_shares.proofs.Spans.{inside_by, inside_of}
+use Rattle.mob_shares.proofs.Steps.{IsStep, next_step}
+use Rattle.mob_shares.proofs.Heads.{OnHead, next_heads, of_behind}
 use Rattle.mob_shares.specs.declared.shares.Share.{Share}
 use Rattle.mob_shares.specs.declared.shares.Shares.{Shares}
 use Rattle.mob_shares.specs.Shares.{rest_of, share_of, share_span, CanShare, IsShared, GivesShare, HoldsThere, HoldsShare}
@@ -31,7 +31,7 @@ module _ {C : Type 0} where
       (next_step (rest_of s.lefts) (rest_of s.rights) can.0 can.1 (share_of p) h.next))
 
   -- the pieces are in order
-  clear_from : (xs : List (Share C)) (s t : Shares C) → CanShare s → Walk s xs t → PartsAreClear share_span xs × ((q : SpanOf) → AreAllClear cut_span q (rest_of s.lefts) → AreAllClear cut_span q (rest_of s.rights) → AreAllClear share_span q xs)
+  clear_from : (xs : List (Share C)) (s t : Shares C) → CanShare s → Walk s xs t → PiecesAreClear share_span xs × ((q : SpanOf) → AreAllClear cut_span q (rest_of s.lefts) → AreAllClear cut_span q (rest_of s.rights) → AreAllClear share_span q xs)
   clear_from [] s t can y = (tt, λ q h k. tt)
   clear_from (p ∷ xs) s t can y =
       let step = step_of s y.0 p can y.1 in
@@ -42,22 +42,22 @@ module _ {C : Type 0} where
       head p [] h = tt
       head p (q ∷ xs) h = h.0
 
-  pub shares_clear : (s : Shares C) → CanShare s → HoldsAlong GivesShare s (PartsAreClear share_span)
+  pub shares_clear : (s : Shares C) → CanShare s → HoldsAlong GivesShare s (PiecesAreClear share_span)
   shares_clear s can xs t y = (clear_from xs s t can y).0
 
   module _ {B : Type 0} (start end : C → B) where
     abbrev pub AreOf : List (CutOf (Slice C)) → Type 0
     AreOf v = AllByRecursion (IsOf (λ s. s.span) (IsSound start end)) v
 
-    pub behind_of : (v : List (CutOf (Slice C))) (p : SpanOf) (o : Option (Slice C)) → OnHead v p o → PartsAreClear cut_span v → AreOf v → AreOf (behind p o v)
+    pub behind_of : (v : List (CutOf (Slice C))) (p : SpanOf) (o : Option (Slice C)) → OnHead v p o → PiecesAreClear cut_span v → AreOf v → AreOf (behind p o v)
     behind_of v p None h k a = a
     behind_of v p (Some x) h k a = of_behind (λ s. s.span) (IsSound start end) v p x h k a
 
-    holds_there : (v : List (CutOf (Slice C))) (p : SpanOf) (o : Option (Slice C)) → has_instant p ≡ true → OnHead v p o → PartsAreClear cut_span v → AreOf v → HoldsThere start end p o
+    holds_there : (v : List (CutOf (Slice C))) (p : SpanOf) (o : Option (Slice C)) → has_instant p ≡ true → OnHead v p o → PiecesAreClear cut_span v → AreOf v → HoldsThere start end p o
     holds_there v p None i h k a = tt
     holds_there v p (Some x) i h k a =
         let first = (subst AreOf h.list a).0 in
-        let some = (subst (PartsAreClear cut_span) h.list k).0 in (
+        let some = (subst (PiecesAreClear cut_span) h.list k).0 in (
           subst (IsSound start end) h.same first.holds,
           subst (λ z. is_inside z.span p ≡ true) h.same (inside_by h.first.of.span p i (λ t m. inside_of h.first.of.span h.first.span some first.inside t (inside_of h.first.span p i h.inside t m))),
         )

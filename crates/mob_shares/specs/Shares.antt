@@ -3,12 +3,12 @@ use Rattle.std.specs.Prelude.{◌≡◌, true, List, [], ◌∷◌, Option, Some
 use Rattle.std.specs.Iterator.{Count, at_most}
 use Rattle.mob_span.specs.Span.{SpanOf}
 use Rattle.mob_span.specs.Neighbours.{is_inside}
-use Rattle.mob_span.specs.Parts.{PartsAreClear}
+use Rattle.mob_span.specs.Pieces.{PiecesAreClear}
 use Rattle.mob_slice.specs.Slices.{IsSound}
 use Rattle.mob_slice.specs.declared.slice.Slice.{Slice}
 use Rattle.mob_slice.specs.declared.part.One.{One}
-use Rattle.mob_cuts.specs.Cuts.{CutOf, wholes}
-use Rattle.mob_cuts.specs.Shares.{ShareOf, next_share, behind, most_shares}
+use Rattle.mob_shares.specs.Cuts.{CutOf, wholes}
+use Rattle.mob_shares.specs.Sharing.{ShareOf, next_share, behind, most_shares}
 use Rattle.mob_shares.specs.declared.shares.Rest.{Rest}
 use Rattle.mob_shares.specs.declared.shares.Share.{Share}
 use Rattle.mob_shares.specs.declared.shares.Share.TheVariants.{Left, Right, Both}
@@ -37,7 +37,7 @@ share_span p = (share_of p).span
 
 -- both lists are in order of time
 abbrev pub CanShare : {C : Type 0} → Shares C → Type 0
-CanShare s = PartsAreClear (λ c. c.span) (rest_of s.lefts) × PartsAreClear (λ c. c.span) (rest_of s.rights)
+CanShare s = PiecesAreClear (λ c. c.span) (rest_of s.lefts) × PiecesAreClear (λ c. c.span) (rest_of s.rights)
 
 -- the piece that comes next is given, and what is behind it is left
 pub record IsShared {C : Type 0} (s : Shares C) (p : Share C) (t : Shares C) : Type 0 where

@@ -5,7 +5,7 @@ use Rattle.mob_ratio.specs.Ratio.{Ratio}
 use Rattle.mob_frac.specs.Formula.{AllFit}
 use Rattle.mob_span.specs.Span.{SpanOf, has}
 use Rattle.mob_span.specs.Meets.{PieceOf, shared_pieces}
-use Rattle.mob_span.specs.Parts.{part_at}
+use Rattle.mob_span.specs.Pieces.{piece_at}
 use Rattle.mob_slice.specs.Cut.{slice_value, slice_parts}
 use Rattle.mob_slice.specs.Parts.{IsPairFit}
 use Rattle.mob_slice.specs.Pieces.{AreInside}
@@ -20,7 +20,7 @@ use Rattle.mob_slice.specs.declared.formula.OpFault.{OpFault}
 use Rattle.mob_slice.specs.declared.formula.OpFault.TheVariants.{Passed}
 use Rattle.mob_slice.specs.Entries.{Entry}
 use Rattle.mob_lift.specs.Given.{IsGiven}
-use Rattle.mob_lifted.specs.Lifted.{IsFirstFailure}
+use Rattle.mob_lifted.specs.Piecewise.{IsFirstFailure}
 use Rattle.mob_sync.specs.Common.{pair_of}
 use Rattle.mob_shares.specs.declared.shares.Share.{Share}
 use Rattle.mob_shares.specs.declared.shares.Share.TheVariants.{Left, Right, Both}
@@ -63,7 +63,7 @@ IsRefused start end parts returns f q = ((f ≡ F1) × (¬ AllFit (piece_parts p
 -- the value at t: what a call answered on the shared piece there, else that of the one of the two
 -- that is defined
 abbrev pub IsTakenAt : {C B V : Type 0} → (C → Ratio → Ratio → Ratio → B) → (C → B) → (C → B) → (V → List (Slice C)) → (Pair C C → Result V OpFault → Type 0) → List (Slice C) → List (Slice C) → Ratio → Option B → Type 0
-IsTakenAt {C} {B} {V} value start end items returns v w t o = MatchOption (part_at (λ q. q.span) (shared_pieces (λ s. s.span) (λ s. s.span) v w) t) (o ≡ one_of (value_at value v t) (value_at value w t)) (λ q. (x : V) × IsAnswered start end returns q (Ok x) × (o ≡ value_at value (items x) t))
+IsTakenAt {C} {B} {V} value start end items returns v w t o = MatchOption (piece_at (λ q. q.span) (shared_pieces (λ s. s.span) (λ s. s.span) v w) t) (o ≡ one_of (value_at value v t) (value_at value w t)) (λ q. (x : V) × IsAnswered start end returns q (Ok x) × (o ≡ value_at value (items x) t))
 
 -- every shared piece was answered, all parts of F1 at its ends fit, and the slices have these
 -- values

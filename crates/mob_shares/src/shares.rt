@@ -4,8 +4,8 @@ ghost use Rattle.std.specs.Prelude.{◌≡◌, true, false, option_map, IfSome, 
 ghost use Rattle.mob_span.specs.Meet.{meet_of};
 ghost use Rattle.mob_span.specs.Remainders.{back_of};
 ghost use Rattle.mob_span.specs.Span.{has_instant};
-ghost use Rattle.mob_span.specs.Parts.{PartsAreClear};
-ghost use Rattle.mob_cuts.specs.Cuts.{wholes, head_of, left_after};
+ghost use Rattle.mob_span.specs.Pieces.{PiecesAreClear};
+ghost use Rattle.mob_shares.specs.Cuts.{wholes, head_of, left_after};
 ghost use Rattle.mob_shares.specs.Begins.{BeginTogether, EndTogether};
 ghost use Rattle.mob_shares.specs.Shares.{cut_of, rest_of, share_span, share_of, HoldsShare, CanShare, GivesShare, shares_left};
 
@@ -167,8 +167,8 @@ pub struct Shares<'a, C> {
 impl<'a, C> Shares<'a, C> {
     /// The walk from the first piece.
     pub fn new(lefts: &'a [Slice<C>], rights: &'a [Slice<C>]) -> Self
-        requires left_order { PartsAreClear (λ s. s.span) lefts.now }
-        requires right_order { PartsAreClear (λ s. s.span) rights.now }
+        requires left_order { PiecesAreClear (λ s. s.span) lefts.now }
+        requires right_order { PiecesAreClear (λ s. s.span) rights.now }
         ensures can { CanShare result }
         ensures left { rest_of result.lefts ≡ wholes (λ s. s.span) lefts.now }
         ensures right { rest_of result.rights ≡ wholes (λ s. s.span) rights.now }

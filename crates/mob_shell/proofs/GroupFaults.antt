@@ -1,7 +1,7 @@
 -- The first fault of a grouped query is on one of the tuples, in one of its columns.
 use Rattle.std.specs.Prelude.{Bool, List, [], ◌∷◌, ◌++◌, Option, Some, None, Result}
 use Rattle.std.proofs.Common.{◌≡◌, sym, ap, subst, inl, inr, refl, append_assoc}
-use Rattle.mob_aggregates.specs.Rows.{IsItem, IsTuple, earlier, IsRowFault}
+use Rattle.mob_tagg.specs.Rows.{IsItem, IsTuple, earlier, IsRowFault}
 use Rattle.mob_tuples.specs.Tuples.{StandsIn}
 
 -- an entry of the rest of a list is one of the list

@@ -28,7 +28,8 @@ WorkersEndTheSame = (one other : Settings) → DifferInWorkers one other → (in
 abbrev pub WorkersWriteTheSame : Type 0
 WorkersWriteTheSame = (one other : Settings) → DifferInWorkers one other → (input : Input) (text : List ℕ) → ProgramWrites one input text → ProgramWrites other input text
 
--- catalogues that differ in their indexes alone: they have one store, and the same tables with the same rows that are there
+-- catalogues that differ in their indexes alone: they have one store, and the same tables with the
+-- same rows that are there
 pub record DifferInIndexes (one other : Catalogue) : Type 0 where
   pub store : one.store ≡ other.store
   pub heads : one.heads ≡ other.heads

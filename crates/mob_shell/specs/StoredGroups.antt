@@ -12,8 +12,8 @@ use Rattle.mob_shell.specs.Inputs.{Input}
 use Rattle.mob_shell.specs.Program.{WritesFirst}
 use Rattle.mob_shell.specs.ReadAsStored.{IsLiveTuple}
 
--- two tuples are of one group exactly where each column of GROUP BY has the same value on both, NULL
--- as NULL
+-- two tuples are of one group exactly where each column of GROUP BY has the same value on both,
+-- NULL as NULL
 abbrev pub IsGroupedByValues : Catalogue → TypedSelectParts → ℤ → List ℕ → List ℕ → Type 0
 IsGroupedByValues c q day t u = (same_group q c.store day t u ≡ true) ↔ AllByRecursion (HasSameValue q c.store day t u) q.groups
 

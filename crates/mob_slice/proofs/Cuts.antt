@@ -142,3 +142,6 @@ module _ (parts : Ratio → List Ratio) (r : SpanOf) where
 
 pub at_of : {C B : Type 0} (value : C → Ratio → Ratio → Ratio → B) (s : Slice C) (t u : Ratio) (b : B) → t ≡ u → b ≡ value s.course s.span.lower s.span.upper t → b ≡ value s.course s.span.lower s.span.upper u
 at_of value s t u b e h = h ∙ ap (λ z. value s.course s.span.lower s.span.upper z) e
+
+pub parts_at : (parts : Ratio → List Ratio) (t u : Ratio) → t ≡ u → AllFit (parts t) → AllFit (parts u)
+parts_at parts t u e h = subst (λ z. AllFit (parts z)) e h

@@ -3,18 +3,18 @@ use Rattle.std.specs.Prelude.{◌≡◌, Bool, true, false, cond, List, [], ◌�
 use Rattle.std.proofs.Common.{ap, ◌∙◌, subst, true≢false}
 use Rattle.mob_ratio.specs.Ratio.{Ratio}
 use Rattle.mob_span.specs.Span.{has}
-use Rattle.mob_span.specs.Parts.{part_at}
+use Rattle.mob_span.specs.Pieces.{piece_at}
 use Rattle.mob_slice.specs.Cut.{slice_value, slice_parts}
 use Rattle.mob_slice.specs.Instants.{slice_at, parts_there, parts_at}
 use Rattle.mob_slice.specs.Slices.{value_at}
 use Rattle.mob_slice.specs.declared.slice.Slice.{Slice}
 
 -- the value at t is that of the slice at t
-pub value_by : {C B : Type 0} (value : C → Ratio → Ratio → Ratio → B) (v : List (Slice C)) (t : Ratio) → value_at value v t ≡ option_map (λ s. slice_value value s t) (part_at (λ s. s.span) v t)
+pub value_by : {C B : Type 0} (value : C → Ratio → Ratio → Ratio → B) (v : List (Slice C)) (t : Ratio) → value_at value v t ≡ option_map (λ s. slice_value value s t) (piece_at (λ s. s.span) v t)
 value_by value [] t = refl
 value_by value (s ∷ v) t = ap (cond (has s.span t) (Some (slice_value value s t))) (value_by value v t) ∙ by (has s.span t)
   where
-    by : (b : Bool) → cond b (Some (slice_value value s t)) (option_map (λ s. slice_value value s t) (part_at (λ s. s.span) v t)) ≡ option_map (λ s. slice_value value s t) (cond b (Some s) (part_at (λ s. s.span) v t))
+    by : (b : Bool) → cond b (Some (slice_value value s t)) (option_map (λ s. slice_value value s t) (piece_at (λ s. s.span) v t)) ≡ option_map (λ s. slice_value value s t) (cond b (Some s) (piece_at (λ s. s.span) v t))
     by true = refl
     by false = refl
 

@@ -2,7 +2,7 @@
 use Rattle.std.specs.Prelude.{Bool, List, [], ◌∷◌}
 use Rattle.std.specs.List.{AllByRecursion}
 use Rattle.mob_ratio.specs.Ratio.{Ratio}
-use Rattle.mob_span.specs.Parts.{PartsAreClear}
+use Rattle.mob_span.specs.Pieces.{PiecesAreClear}
 use Rattle.mob_slice.specs.Slices.{OfHead, IsSound, IsOrdered, IsNormalPair, AreNormal, IsClearOf}
 use Rattle.mob_slice.specs.declared.slice.Slice.{Slice}
 
@@ -16,7 +16,7 @@ ordered start end continues [] h = tt
 ordered start end continues (s ∷ v) h = (h.0, head_ordered start end continues s v h.1, ordered start end continues v h.2)
 
 -- and an ordered list has spans with instants
-pub ordered-clear : {C B : Type 0} (start end : C → B) (v : List (Slice C)) → IsOrdered start end v → PartsAreClear (λ s. s.span) v
+pub ordered-clear : {C B : Type 0} (start end : C → B) (v : List (Slice C)) → IsOrdered start end v → PiecesAreClear (λ s. s.span) v
 ordered-clear start end [] h = tt
 ordered-clear start end (s ∷ v) h = (h.0.some, h.1, ordered-clear start end v h.2)
 

@@ -6,7 +6,7 @@ use Rattle.std.specs.List.{AllByRecursion}
 use Rattle.mob_span.specs.Span.{SpanOf}
 use Rattle.mob_span.specs.Neighbours.{is_clear}
 use Rattle.mob_span.specs.Chained.{OfHead}
-use Rattle.mob_span.specs.Parts.{PartsAreClear}
+use Rattle.mob_span.specs.Pieces.{PiecesAreClear}
 
 module _ {S A B : Type 0} (view : A → B) (rest : S → List B) where
   -- what was given and what is left make up what there was
@@ -23,13 +23,13 @@ module _ {S A B : Type 0} (view : A → B) (rest : S → List B) where
     head_front x [] ys h = tt
     head_front x (z ∷ xs) ys h = h
 
-    front_clear : (xs : List A) (ys : List B) → PartsAreClear span (map view xs ++ ys) → PartsAreClear (λ x. span (view x)) xs
+    front_clear : (xs : List A) (ys : List B) → PiecesAreClear span (map view xs ++ ys) → PiecesAreClear (λ x. span (view x)) xs
     front_clear [] ys h = tt
     front_clear (x ∷ xs) ys h = (h.0, head_front x xs ys h.1, front_clear xs ys h.2)
 
     -- what was given is ordered, where all that there was is
-    pub clear_along : (s : S) → PartsAreClear span (rest s) → HoldsAlong (YieldsFirstBy view rest) s (PartsAreClear (λ x. span (view x)))
-    clear_along s h xs t y = front_clear xs (rest t) (subst (PartsAreClear span) (yielded s xs t y) h)
+    pub clear_along : (s : S) → PiecesAreClear span (rest s) → HoldsAlong (YieldsFirstBy view rest) s (PiecesAreClear (λ x. span (view x)))
+    clear_along s h xs t y = front_clear xs (rest t) (subst (PiecesAreClear span) (yielded s xs t y) h)
 
   module _ (P : B → Type 0) where
     front_all : (xs : List A) (ys : List B) → AllByRecursion P (map view xs ++ ys) → AllByRecursion (λ x. P (view x)) xs

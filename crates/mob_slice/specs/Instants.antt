@@ -2,14 +2,14 @@
 use Rattle.std.specs.Prelude.{◌≡◌, ◌↔◌, true, List, [], Option, Some, None, Contains}
 use Rattle.mob_ratio.specs.Ratio.{Ratio}
 use Rattle.mob_span.specs.Span.{has}
-use Rattle.mob_span.specs.Parts.{part_at}
+use Rattle.mob_span.specs.Pieces.{piece_at}
 use Rattle.mob_slice.specs.Cut.{slice_parts}
 use Rattle.mob_slice.specs.Slices.{IsOrdered}
 use Rattle.mob_slice.specs.declared.slice.Slice.{Slice}
 
 -- the slice whose span has the instant t, and none where no span has it
 abbrev pub slice_at : {C : Type 0} → List (Slice C) → Ratio → Option (Slice C)
-slice_at slices t = part_at (λ s. s.span) slices t
+slice_at slices t = piece_at (λ s. s.span) slices t
 
 -- the parts of the formula of the value at t, where there is a slice
 abbrev pub parts_there : {C : Type 0} → (C → Ratio → Ratio → Ratio → List Ratio) → Ratio → Option (Slice C) → List Ratio

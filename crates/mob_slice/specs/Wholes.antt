@@ -1,4 +1,4 @@
--- What it means that one course has two parts, and that two courses are one on a span.
+-- What it means that one course has two pieces, and that two courses are one on a span.
 use Rattle.std.specs.Prelude.{◌≡◌, ◌↔◌, Bool, true, false}
 use Rattle.mob_ratio.specs.Ratio.{Ratio}
 use Rattle.mob_ratio.specs.Order.{before, up_to}
@@ -16,7 +16,7 @@ pub record AreNeighbours {C B : Type 0} (start end : C → B) (c d : C) (lower m
   pub first_level : before lower middle ≡ false → start c ≡ end c
   pub second_level : before middle upper ≡ false → start d ≡ end d
 
--- on neighbouring spans `continues` is true exactly where some course has both parts
+-- on neighbouring spans `continues` is true exactly where some course has both pieces
 abbrev pub ContinuesAsOne : {C B : Type 0} → (C → Ratio → Ratio → Ratio → B) → (C → B) → (C → B) → (C → C → Ratio → Ratio → Ratio → Bool) → Type 0
 ContinuesAsOne {C} value start end continues = (c d : C) (lower middle upper : Ratio) → AreNeighbours start end c d lower middle upper → (continues c d lower middle upper ≡ true) ↔ ((w : C) × HasBothParts value w c d lower middle upper)
 

@@ -46,7 +46,7 @@ pub fn slices_cross_threads<C: Course + Send + Sync>() {
     crosses_threads::<Moving<C>>();
 }
 
-/// So do operands and the parts of walks, where the course's values do too.
+/// So do operands and the pieces of walks, where the course's values do too.
 pub fn operands_cross_threads<'a, C: Course + Send + Sync + 'a>()
 where
     C::Base: Send + Sync + 'a,

@@ -23,7 +23,7 @@ pub mod steady;
 pub use base_value::BaseValue;
 pub use comparison::{Compared, Gaps, Ranked, Rel};
 pub use course::Course;
-pub use cutting::{cut, limit};
+pub use cutting::{cut, cut_from, limit};
 pub use formula::{Formula, LookFault, OpFault, Passed, operator_fault};
 pub use line::{Line, PlaneLine};
 pub use moving::Moving;

@@ -8,7 +8,7 @@ use Rattle.mob_ratio.specs.Order.{before, up_to}
 use Rattle.mob_ratio.proofs.Order.{before-back, before-trans, before-neither}
 use Rattle.mob_span.specs.Span.{SpanOf, has, has_instant}
 use Rattle.mob_span.specs.Neighbours.{is_clear, is_inside, joined}
-use Rattle.mob_span.specs.Parts.{PartsAreClear}
+use Rattle.mob_span.specs.Pieces.{PiecesAreClear}
 use Rattle.mob_span.specs.Sets.{in_some}
 use Rattle.mob_span.specs.Remainders.{AreRemainders, IsInBoth, IsInFirstAlone}
 use Rattle.mob_span.proofs.SpanLemmas.{some_instant}
@@ -50,24 +50,24 @@ module _ {X : Type 0} (span : X → SpanOf) where
   through_all h [] = h
   through_all h (x ∷ xs) = through_all (joined h (span x)) xs
 
-  keeps : (h s : SpanOf) (xs : List X) → has_instant h ≡ true → AreAllClear span h xs → PartsAreClear span xs → is_inside h s ≡ true → is_inside (through_all h xs) s ≡ true
+  keeps : (h s : SpanOf) (xs : List X) → has_instant h ≡ true → AreAllClear span h xs → PiecesAreClear span xs → is_inside h s ≡ true → is_inside (through_all h xs) s ≡ true
   keeps h s [] i c o k = k
   keeps h s (x ∷ xs) i c o k = keeps (joined h (span x)) s xs (through_some h (span x) c.0 i o.0) (later span (span x) (joined h (span x)) xs (λ r e. e) (all_after span x xs o)) o.2 (wider h (span x) s c.0 o.0 k)
 
   -- it holds each of them
-  holds_all : (h : SpanOf) (xs : List X) → has_instant h ≡ true → AreAllClear span h xs → PartsAreClear span xs → AllByRecursion (λ x. is_inside (through_all h xs) (span x) ≡ true) xs
+  holds_all : (h : SpanOf) (xs : List X) → has_instant h ≡ true → AreAllClear span h xs → PiecesAreClear span xs → AllByRecursion (λ x. is_inside (through_all h xs) (span x) ≡ true) xs
   holds_all h [] i c o = tt
   holds_all h (x ∷ xs) i c o =
       let some = through_some h (span x) c.0 i o.0 in
       let on = later span (span x) (joined h (span x)) xs (λ r e. e) (all_after span x xs o) in
       (keeps (joined h (span x)) (span x) xs some on o.2 (holds_later h (span x) c.0 i o.0), holds_all (joined h (span x)) xs some on o.2)
 
-  holds_from : (x : X) (xs : List X) → PartsAreClear span (x ∷ xs) → AllByRecursion (λ y. is_inside (through_all (span x) xs) (span y) ≡ true) (x ∷ xs)
+  holds_from : (x : X) (xs : List X) → PiecesAreClear span (x ∷ xs) → AllByRecursion (λ y. is_inside (through_all (span x) xs) (span y) ≡ true) (x ∷ xs)
   holds_from x xs o =
       let on = all_after span x xs o in
       (keeps (span x) (span x) xs o.0 on o.2 (inside_self (span x)), holds_all (span x) xs o.0 on o.2)
 
-  some_through : (h : SpanOf) (xs : List X) → has_instant h ≡ true → AreAllClear span h xs → PartsAreClear span xs → has_instant (through_all h xs) ≡ true
+  some_through : (h : SpanOf) (xs : List X) → has_instant h ≡ true → AreAllClear span h xs → PiecesAreClear span xs → has_instant (through_all h xs) ≡ true
   some_through h [] i c o = i
   some_through h (x ∷ xs) i c o = some_through (joined h (span x)) xs (through_some h (span x) c.0 i o.0) (later span (span x) (joined h (span x)) xs (λ r e. e) (all_after span x xs o)) o.2
 
@@ -97,9 +97,9 @@ module _ {X : Type 0} (span : X → SpanOf) where
   whole_by items s (Some h) i a e k = subst (λ z. AllByRecursion (λ x. is_inside z (span x) ≡ true) items) (sym e) a
 
   -- the span with these two ends holds each of a list in order
-  pub whole_holds : (items : List X) (x : X) (xs init : List X) (y : X) (s : SpanOf) (o : Option SpanOf) → items ≡ x ∷ xs → items ≡ init ++ y ∷ [] → PartsAreClear span items → s ≡ joined (span x) (span y) → IfSome o (λ h. h ≡ s) → MatchOption o (has_instant s ≡ false) (λ h. has_instant h ≡ true) → MatchOption o (items ≡ []) (λ h. AllByRecursion (λ x. is_inside h (span x) ≡ true) items)
+  pub whole_holds : (items : List X) (x : X) (xs init : List X) (y : X) (s : SpanOf) (o : Option SpanOf) → items ≡ x ∷ xs → items ≡ init ++ y ∷ [] → PiecesAreClear span items → s ≡ joined (span x) (span y) → IfSome o (λ h. h ≡ s) → MatchOption o (has_instant s ≡ false) (λ h. has_instant h ≡ true) → MatchOption o (items ≡ []) (λ h. AllByRecursion (λ x. is_inside h (span x) ≡ true) items)
   whole_holds items x xs init y s o e f c g k m =
-      let order : PartsAreClear span (x ∷ xs) = subst (PartsAreClear span) e c in
+      let order : PiecesAreClear span (x ∷ xs) = subst (PiecesAreClear span) e c in
       let on = all_after span x xs order in
       let same : through_all (span x) xs ≡ s = through_whole x xs init y (sym e ∙ f) ∙ sym g in
       let some : has_instant s ≡ true = subst (λ z. has_instant z ≡ true) same (some_through (span x) xs order.0 on order.2) in

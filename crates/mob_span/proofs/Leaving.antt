@@ -7,7 +7,7 @@ use Rattle.mob_ratio.proofs.Order.{before-back, before-trans, before-neither, fa
 use Rattle.mob_span.specs.Span.{SpanOf, has, has_instant}
 use Rattle.mob_span.specs.Neighbours.{is_clear}
 use Rattle.mob_span.specs.Chained.{OfHead}
-use Rattle.mob_span.specs.Parts.{PartsAreClear}
+use Rattle.mob_span.specs.Pieces.{PiecesAreClear}
 use Rattle.mob_span.specs.Sets.{in_some, is_apart, IsSpanSet}
 use Rattle.mob_span.specs.Remainders.{precedes, follows, front_of, back_of, remainders_of, AreRemainders}
 use Rattle.mob_span.proofs.SpanLemmas.{some_instant, no_instant}
@@ -58,7 +58,7 @@ left_by true false false w h = refl
 left_by false p f w h = refl
 
 -- The remainders have exactly the instants of the span that none of the spans has.
-pub remainders_in : (s : SpanOf) (w : List SpanOf) → PartsAreClear (λ s. s) w → AreRemainders s w (remainders_of s w)
+pub remainders_in : (s : SpanOf) (w : List SpanOf) → PiecesAreClear (λ s. s) w → AreRemainders s w (remainders_of s w)
 remainders_in s [] h t = grind arith
 remainders_in s (r ∷ w) h t = by (has_instant (front_of s r)) (has_instant (back_of s r)) refl refl (remainders_in (back_of s r) w h.2 t)
   where
@@ -105,11 +105,11 @@ remainders_head q s (r ∷ w) h = by (has_instant (front_of s r)) (has_instant (
     by false false ih = tt
 
 -- The remainders are in order, and each has an instant.
-pub remainders_clear : (s : SpanOf) (w : List SpanOf) → has_instant s ≡ true → PartsAreClear (λ s. s) w → PartsAreClear (λ s. s) (remainders_of s w)
+pub remainders_clear : (s : SpanOf) (w : List SpanOf) → has_instant s ≡ true → PiecesAreClear (λ s. s) w → PiecesAreClear (λ s. s) (remainders_of s w)
 remainders_clear s [] h k = (h, tt, tt)
 remainders_clear s (r ∷ w) h k = by (has_instant (front_of s r)) (has_instant (back_of s r)) refl refl (λ i. remainders_clear (back_of s r) w i k.2)
   where
-    rest : (c : Bool) → has_instant (back_of s r) ≡ c → (has_instant (back_of s r) ≡ true → PartsAreClear (λ s. s) (remainders_of (back_of s r) w)) → PartsAreClear (λ s. s) (cond c (remainders_of (back_of s r) w) [])
+    rest : (c : Bool) → has_instant (back_of s r) ≡ c → (has_instant (back_of s r) ≡ true → PiecesAreClear (λ s. s) (remainders_of (back_of s r) w)) → PiecesAreClear (λ s. s) (cond c (remainders_of (back_of s r) w) [])
     rest true e ih = ih e
     rest false e ih = tt
 
@@ -117,7 +117,7 @@ remainders_clear s (r ∷ w) h k = by (has_instant (front_of s r)) (has_instant 
     head true = remainders_head (front_of s r) (back_of s r) w (front_back s r h k.0)
     head false = tt
 
-    by : (b c : Bool) → has_instant (front_of s r) ≡ b → has_instant (back_of s r) ≡ c → (has_instant (back_of s r) ≡ true → PartsAreClear (λ s. s) (remainders_of (back_of s r) w)) → PartsAreClear (λ s. s) (cond b (front_of s r ∷ cond c (remainders_of (back_of s r) w) []) (cond c (remainders_of (back_of s r) w) []))
+    by : (b c : Bool) → has_instant (front_of s r) ≡ b → has_instant (back_of s r) ≡ c → (has_instant (back_of s r) ≡ true → PiecesAreClear (λ s. s) (remainders_of (back_of s r) w)) → PiecesAreClear (λ s. s) (cond b (front_of s r ∷ cond c (remainders_of (back_of s r) w) []) (cond c (remainders_of (back_of s r) w) []))
     by true c e f ih = (e, head c, rest c f ih)
     by false c e f ih = rest c f ih
 
@@ -135,12 +135,12 @@ set_head s [] h = tt
 set_head s (r ∷ v) h = apart_clear s r h
 
 -- the spans of a set are in order
-pub set_clear : (v : List SpanOf) → IsSpanSet v → PartsAreClear (λ s. s) v
+pub set_clear : (v : List SpanOf) → IsSpanSet v → PiecesAreClear (λ s. s) v
 set_clear [] h = tt
 set_clear (s ∷ v) h = (h.0, set_head s v h.1, set_clear v h.2)
 
-pub remainders_found : (s : SpanOf) (w v : List SpanOf) → v ≡ remainders_of s w → PartsAreClear (λ s. s) w → AreRemainders s w v
+pub remainders_found : (s : SpanOf) (w v : List SpanOf) → v ≡ remainders_of s w → PiecesAreClear (λ s. s) w → AreRemainders s w v
 remainders_found s w v e h t = ap (λ z. in_some z t) e ∙ remainders_in s w h t
 
-pub remainders_order : (s : SpanOf) (w v : List SpanOf) → v ≡ remainders_of s w → has_instant s ≡ true → PartsAreClear (λ s. s) w → PartsAreClear (λ s. s) v
+pub remainders_order : (s : SpanOf) (w v : List SpanOf) → v ≡ remainders_of s w → has_instant s ≡ true → PiecesAreClear (λ s. s) w → PiecesAreClear (λ s. s) v
 remainders_order s w v e h k = rw e (remainders_clear s w h k)

@@ -12,7 +12,7 @@ use Rattle.mob_span.specs.Meets.{PieceOf, shared_pieces, SharedAreCommon}
 use Rattle.mob_span.proofs.SpanLemmas.{meet_has, no_instant}
 use Rattle.mob_span.proofs.Insides.{clear_meet, clear_meet', meet_clear, meet_clear', meet_left, meet_right}
 use Rattle.mob_span.specs.Chained.{OfHead}
-use Rattle.mob_span.specs.Parts.{part_at, PartsAreClear}
+use Rattle.mob_span.specs.Pieces.{piece_at, PiecesAreClear}
 use Rattle.mob_span.proofs.Shared.{AreAllClear, all_after, later, piece, row}
 
 zip-none : {A B : Type 0} (x : Option A) → option_zip {U = B} x None ≡ None
@@ -49,14 +49,14 @@ module _ {X Y : Type 0} (span : X → SpanOf) (span' : Y → SpanOf) where
   meets_after q [] w h = tt
   meets_after q (x ∷ v) w h = all_joined (λ p. p.span) q (row span span' x w) (shared_pieces span span' v w) (row_after q x w h.0) (meets_after q v w h.1)
 
-  row_joined : (x : X) (w : List Y) (ps : List (PieceOf X Y)) → PartsAreClear span' w → PartsAreClear (λ p. p.span) ps → AreAllClear (λ p. p.span) (span x) ps → PartsAreClear (λ p. p.span) (row span span' x w ++ ps)
+  row_joined : (x : X) (w : List Y) (ps : List (PieceOf X Y)) → PiecesAreClear span' w → PiecesAreClear (λ p. p.span) ps → AreAllClear (λ p. p.span) (span x) ps → PiecesAreClear (λ p. p.span) (row span span' x w ++ ps)
   row_joined x [] ps h k l = k
   row_joined x (y ∷ w) ps h k l = by (row_joined x w ps h.2 k l) (has_instant (meet_of (span x) (span' y))) refl
     where
       m : SpanOf
       m = meet_of (span x) (span' y)
 
-      by : PartsAreClear (λ p. p.span) (row span span' x w ++ ps) → (b : Bool) → has_instant m ≡ b → PartsAreClear (λ p. p.span) (map (λ z. piece span span' x z) (cond b (y ∷ filter (λ z. has_instant (meet_of (span x) (span' z))) w) (filter (λ z. has_instant (meet_of (span x) (span' z))) w)) ++ ps)
+      by : PiecesAreClear (λ p. p.span) (row span span' x w ++ ps) → (b : Bool) → has_instant m ≡ b → PiecesAreClear (λ p. p.span) (map (λ z. piece span span' x z) (cond b (y ∷ filter (λ z. has_instant (meet_of (span x) (span' z))) w) (filter (λ z. has_instant (meet_of (span x) (span' z))) w)) ++ ps)
       by ih true e =
           let first = row_clear m x w (later span' (span' y) m w (λ s i. meet_clear' (span x) (span' y) s i) (all_after span' y w h)) in
           let rest = later (λ p. p.span) (span x) m ps (λ s i. meet_clear (span x) (span' y) s i) l in
@@ -64,7 +64,7 @@ module _ {X Y : Type 0} (span : X → SpanOf) (span' : Y → SpanOf) where
       by ih false e = ih
 
   -- The pieces are ordered and disjoint, and each has an instant.
-  pub meets_clear : (v : List X) (w : List Y) → PartsAreClear span v → PartsAreClear span' w → PartsAreClear (λ p. p.span) (shared_pieces span span' v w)
+  pub meets_clear : (v : List X) (w : List Y) → PiecesAreClear span v → PiecesAreClear span' w → PiecesAreClear (λ p. p.span) (shared_pieces span span' v w)
   meets_clear [] w h k = tt
   meets_clear (x ∷ v) w h k = row_joined x w (shared_pieces span span' v w) k (meets_clear v w h.2 k) (meets_after (span x) v w (all_after span x v h))
 
@@ -72,15 +72,15 @@ module _ {X Y : Type 0} (span : X → SpanOf) (span' : Y → SpanOf) where
   abbrev pub sides : PieceOf X Y → X × Y
   sides p = (p.left, p.right)
 
-  part_joined : (ps qs : List (PieceOf X Y)) (t : Ratio) → part_at (λ p. p.span) (ps ++ qs) t ≡ or_else (part_at (λ p. p.span) ps t) (part_at (λ p. p.span) qs t)
+  part_joined : (ps qs : List (PieceOf X Y)) (t : Ratio) → piece_at (λ p. p.span) (ps ++ qs) t ≡ or_else (piece_at (λ p. p.span) ps t) (piece_at (λ p. p.span) qs t)
   part_joined [] qs t = refl
   part_joined (p ∷ ps) qs t = ap (λ o. cond (has p.span t) (Some p) o) (part_joined ps qs t) ∙ by (has p.span t)
     where
-      by : (b : Bool) → cond b (Some p) (or_else (part_at (λ p. p.span) ps t) (part_at (λ p. p.span) qs t)) ≡ or_else (cond b (Some p) (part_at (λ p. p.span) ps t)) (part_at (λ p. p.span) qs t)
+      by : (b : Bool) → cond b (Some p) (or_else (piece_at (λ p. p.span) ps t) (piece_at (λ p. p.span) qs t)) ≡ or_else (cond b (Some p) (piece_at (λ p. p.span) ps t)) (piece_at (λ p. p.span) qs t)
       by true = refl
       by false = refl
 
-  row_at : (x : X) (w : List Y) (t : Ratio) → (b : Bool) → has (span x) t ≡ b → part_at (λ p. p.span) (row span span' x w) t ≡ cond b (option_map (λ y. piece span span' x y) (part_at span' w t)) None
+  row_at : (x : X) (w : List Y) (t : Ratio) → (b : Bool) → has (span x) t ≡ b → piece_at (λ p. p.span) (row span span' x w) t ≡ cond b (option_map (λ y. piece span span' x y) (piece_at span' w t)) None
   row_at x [] t true i = refl
   row_at x [] t false i = refl
   row_at x (y ∷ w) t b i = by (row_at x w t b i) (has_instant (meet_of (span x) (span' y))) (has (span' y) t) refl refl
@@ -91,28 +91,28 @@ module _ {X Y : Type 0} (span : X → SpanOf) (span' : Y → SpanOf) where
       here : (k : Bool) → has (span' y) t ≡ k → has m t ≡ (b && k)
       here k j = meet_has (span x) (span' y) t ∙ (rw (i, j) refl)
 
-      pick : (b k : Bool) (o : Option (PieceOf X Y)) → o ≡ cond b (option_map (λ y. piece span span' x y) (part_at span' w t)) None → cond (b && k) (Some (piece span span' x y)) o ≡ cond b (option_map (λ y. piece span span' x y) (cond k (Some y) (part_at span' w t))) None
+      pick : (b k : Bool) (o : Option (PieceOf X Y)) → o ≡ cond b (option_map (λ y. piece span span' x y) (piece_at span' w t)) None → cond (b && k) (Some (piece span span' x y)) o ≡ cond b (option_map (λ y. piece span span' x y) (cond k (Some y) (piece_at span' w t))) None
       pick true true o e = refl
       pick true false o e = e
       pick false k o e = e
 
-      by : part_at (λ p. p.span) (row span span' x w) t ≡ cond b (option_map (λ y. piece span span' x y) (part_at span' w t)) None → (s k : Bool) → has_instant m ≡ s → has (span' y) t ≡ k → part_at (λ p. p.span) (map (λ z. piece span span' x z) (cond s (y ∷ filter (λ z. has_instant (meet_of (span x) (span' z))) w) (filter (λ z. has_instant (meet_of (span x) (span' z))) w))) t ≡ cond b (option_map (λ y. piece span span' x y) (cond k (Some y) (part_at span' w t))) None
-      by ih true k e j = rw (here k j) (pick b k (part_at (λ p. p.span) (row span span' x w) t) ih)
+      by : piece_at (λ p. p.span) (row span span' x w) t ≡ cond b (option_map (λ y. piece span span' x y) (piece_at span' w t)) None → (s k : Bool) → has_instant m ≡ s → has (span' y) t ≡ k → piece_at (λ p. p.span) (map (λ z. piece span span' x z) (cond s (y ∷ filter (λ z. has_instant (meet_of (span x) (span' z))) w) (filter (λ z. has_instant (meet_of (span x) (span' z))) w))) t ≡ cond b (option_map (λ y. piece span span' x y) (cond k (Some y) (piece_at span' w t))) None
+      by ih true k e j = rw (here k j) (pick b k (piece_at (λ p. p.span) (row span span' x w) t) ih)
       by ih false k e j =
           let no : (b && k) ≡ false = sym (here k j) ∙ no_instant m t e in
-          let q : cond (b && k) (Some (piece span span' x y)) (part_at (λ p. p.span) (row span span' x w) t) ≡ part_at (λ p. p.span) (row span span' x w) t = rw no refl in
-          sym q ∙ pick b k (part_at (λ p. p.span) (row span span' x w) t) ih
+          let q : cond (b && k) (Some (piece span span' x y)) (piece_at (λ p. p.span) (row span span' x w) t) ≡ piece_at (λ p. p.span) (row span span' x w) t = rw no refl in
+          sym q ∙ pick b k (piece_at (λ p. p.span) (row span span' x w) t) ih
 
   -- At each instant the piece there has the two that the lists have there, and there is no piece where one of them has none.
-  pub meets_at : (v : List X) (w : List Y) (t : Ratio) → option_map sides (part_at (λ p. p.span) (shared_pieces span span' v w) t) ≡ option_zip (part_at span v t) (part_at span' w t)
+  pub meets_at : (v : List X) (w : List Y) (t : Ratio) → option_map sides (piece_at (λ p. p.span) (shared_pieces span span' v w) t) ≡ option_zip (piece_at span v t) (piece_at span' w t)
   meets_at [] w t = refl
-  meets_at (x ∷ v) w t = ap (option_map sides) (part_joined (row span span' x w) (shared_pieces span span' v w) t ∙ ap (λ o. or_else o (part_at (λ p. p.span) (shared_pieces span span' v w) t)) (row_at x w t (has (span x) t) refl)) ∙ by (has (span x) t) (part_at span' w t) (meets_at v w t)
+  meets_at (x ∷ v) w t = ap (option_map sides) (part_joined (row span span' x w) (shared_pieces span span' v w) t ∙ ap (λ o. or_else o (piece_at (λ p. p.span) (shared_pieces span span' v w) t)) (row_at x w t (has (span x) t) refl)) ∙ by (has (span x) t) (piece_at span' w t) (meets_at v w t)
     where
       rest : Option (PieceOf X Y)
-      rest = part_at (λ p. p.span) (shared_pieces span span' v w) t
+      rest = piece_at (λ p. p.span) (shared_pieces span span' v w) t
 
-      by : (b : Bool) (o : Option Y) → option_map sides rest ≡ option_zip (part_at span v t) o → option_map sides (or_else (cond b (option_map (λ y. piece span span' x y) o) None) rest) ≡ option_zip (cond b (Some x) (part_at span v t)) o
-      by true None h = h ∙ zip-none (part_at span v t)
+      by : (b : Bool) (o : Option Y) → option_map sides rest ≡ option_zip (piece_at span v t) o → option_map sides (or_else (cond b (option_map (λ y. piece span span' x y) o) None) rest) ≡ option_zip (cond b (Some x) (piece_at span v t)) o
+      by true None h = h ∙ zip-none (piece_at span v t)
       by true (Some y) h = refl
       by false o h = h
 

@@ -9,7 +9,7 @@ use Rattle.mob_ratio.proofs.Order.{before-back, before-trans, before-neither}
 use Rattle.mob_span.specs.Span.{SpanOf, has, has_instant}
 use Rattle.mob_span.specs.Neighbours.{is_clear, is_inside}
 use Rattle.mob_span.specs.Meet.{starts_before, ends_before, meet_of}
-use Rattle.mob_span.specs.Parts.{PartsAreClear}
+use Rattle.mob_span.specs.Pieces.{PiecesAreClear}
 use Rattle.mob_span.specs.Sets.{is_apart, IsSpanSet}
 use Rattle.mob_span.specs.Remainders.{front_of, back_of, remainders_of}
 use Rattle.mob_span.proofs.SpanLemmas.{some_upto, has_upto_lower, has_upto_upper, meet_some}
@@ -99,7 +99,7 @@ head_later h w [] n o = tt
 head_later h w (v ∷ ws) n o = back_later_by h w v (is_clear w h) n o.1
 
 -- each of a list in order has an instant
-all_some : (rs : List SpanOf) → PartsAreClear (λ r. r) rs → AllByRecursion (λ r. has_instant r ≡ true) rs
+all_some : (rs : List SpanOf) → PiecesAreClear (λ r. r) rs → AllByRecursion (λ r. has_instant r ≡ true) rs
 all_some [] h = tt
 all_some (r ∷ rs) h = (h.0, all_some rs h.2)
 
@@ -238,7 +238,7 @@ module _ (P : Ratio → Type 0) (s : SpanOf) (low : P s.lower) (high : P s.upper
   inside_high h k = grind (arith, k, before-back s.upper h.upper)
 
   -- So s, which lies in h, is cut by the remainders of h where it is cut by the spans.
-  pub remainders_cut : (h : SpanOf) (ws : List SpanOf) → is_inside h s ≡ true → PartsAreClear (λ r. r) ws → SharedEnds ws → SharedEnds (remainders_of h ws)
+  pub remainders_cut : (h : SpanOf) (ws : List SpanOf) → is_inside h s ≡ true → PiecesAreClear (λ r. r) ws → SharedEnds ws → SharedEnds (remainders_of h ws)
   remainders_cut h ws i o k = inner_shared (remainders_of h ws) (remainders_inner h ws (λ a b. absurd (not_upto s.lower h.lower a (inside_low h i))) (λ a b. absurd (not_upto h.upper s.upper b (inside_high h i))) (shared_inner ws (all_some ws o) k))
 
   pub spans_cut : (h : SpanOf) (ws : List SpanOf) → is_inside h s ≡ true → has_instant h ≡ true → IsSpanSet ws → SharedEnds (remainders_of h ws) → SharedEnds ws

@@ -9,7 +9,7 @@ use Rattle.mob_span.specs.Meet.{ends_before, meet_of}
 use Rattle.mob_span.specs.Meets.{PieceOf, shared_pieces}
 use Rattle.mob_span.proofs.SpanLemmas.{meet_none}
 use Rattle.mob_span.proofs.Insides.{clear_trans, clear_has, ends_no_later, ends_sooner}
-use Rattle.mob_span.specs.Parts.{PartsAreClear}
+use Rattle.mob_span.specs.Pieces.{PiecesAreClear}
 
 -- all of a list is after the span
 abbrev pub AreAllClear : {X : Type 0} → (X → SpanOf) → SpanOf → List X → Type 0
@@ -17,12 +17,12 @@ AreAllClear span q [] = Unit {0}
 AreAllClear span q (x ∷ xs) = (is_clear q (span x) ≡ true) × AreAllClear span q xs
 
 module _ {X : Type 0} (span : X → SpanOf) where
-  after_from : (q : SpanOf) (x : X) (xs : List X) → is_clear q (span x) ≡ true → PartsAreClear span (x ∷ xs) → AreAllClear span q xs
+  after_from : (q : SpanOf) (x : X) (xs : List X) → is_clear q (span x) ≡ true → PiecesAreClear span (x ∷ xs) → AreAllClear span q xs
   after_from q x [] h k = tt
   after_from q x (y ∷ xs) h k = let l = clear_trans q (span x) (span y) k.0 h k.1 in (l, after_from q y xs l k.2)
 
   -- what follows in an ordered list is after its first
-  pub all_after : (x : X) (xs : List X) → PartsAreClear span (x ∷ xs) → AreAllClear span (span x) xs
+  pub all_after : (x : X) (xs : List X) → PiecesAreClear span (x ∷ xs) → AreAllClear span (span x) xs
   all_after x [] k = tt
   all_after x (y ∷ xs) k = (k.1, after_from (span x) y xs k.1 k.2)
 
@@ -79,7 +79,7 @@ module _ {X Y : Type 0} (span : X → SpanOf) (span' : Y → SpanOf) where
   map_cond x y w false = refl
 
   -- the first of the first list ends no later: nothing else meets it
-  pub step_left : (x : X) (v : List X) (y : Y) (w : List Y) → ends_before (span' y) (span x) ≡ false → PartsAreClear span' (y ∷ w)
+  pub step_left : (x : X) (v : List X) (y : Y) (w : List Y) → ends_before (span' y) (span x) ≡ false → PiecesAreClear span' (y ∷ w)
       → shared_pieces span span' (x ∷ v) (y ∷ w) ≡ cond (has_instant (meet_of (span x) (span' y))) (piece x y ∷ shared_pieces span span' v (y ∷ w)) (shared_pieces span span' v (y ∷ w))
   step_left x v y w e o =
       let none : row x w ≡ [] = row_none x w (later span' (span' y) (span x) w (λ s k. ends_no_later (span x) (span' y) s e k) (all_after span' y w o)) in
@@ -90,7 +90,7 @@ module _ {X Y : Type 0} (span : X → SpanOf) (span' : Y → SpanOf) where
   put_cond p xs ys false = refl
 
   -- the first of the second list ends sooner: nothing else meets it
-  pub step_right : (x : X) (v : List X) (y : Y) (w : List Y) → ends_before (span' y) (span x) ≡ true → PartsAreClear span (x ∷ v)
+  pub step_right : (x : X) (v : List X) (y : Y) (w : List Y) → ends_before (span' y) (span x) ≡ true → PiecesAreClear span (x ∷ v)
       → shared_pieces span span' (x ∷ v) (y ∷ w) ≡ cond (has_instant (meet_of (span x) (span' y))) (piece x y ∷ shared_pieces span span' (x ∷ v) w) (shared_pieces span span' (x ∷ v) w)
   step_right x v y w e o =
       let skip : shared_pieces span span' v (y ∷ w) ≡ shared_pieces span span' v w = skip_right v y w (later span (span x) (span' y) v (λ s k. ends_sooner (span x) (span' y) s e k) (all_after span x v o)) in
@@ -101,26 +101,26 @@ module _ {X Y : Type 0} (span : X → SpanOf) (span' : Y → SpanOf) where
     at_heads : shared_pieces span span' v w ≡ shared_pieces span span' (x ∷ v') (y ∷ w')
     at_heads = ap (λ z. shared_pieces span span' z w) e ∙ ap (λ z. shared_pieces span span' (x ∷ v') z) f
 
-    left_step : ends_before (span' y) (span x) ≡ false → PartsAreClear span' w → (b : Bool) → has_instant (meet_of (span x) (span' y)) ≡ b → shared_pieces span span' v w ≡ cond b (piece x y ∷ shared_pieces span span' v' w) (shared_pieces span span' v' w)
+    left_step : ends_before (span' y) (span x) ≡ false → PiecesAreClear span' w → (b : Bool) → has_instant (meet_of (span x) (span' y)) ≡ b → shared_pieces span span' v w ≡ cond b (piece x y ∷ shared_pieces span span' v' w) (shared_pieces span span' v' w)
     left_step k o b h =
         let l = shared_pieces span span' v' (y ∷ w') in
-        at_heads ∙ step_left x v' y w' k (subst (PartsAreClear span') f o) ∙ ap (λ z. cond z (piece x y ∷ l) l) h ∙ ap (λ z. cond b (piece x y ∷ shared_pieces span span' v' z) (shared_pieces span span' v' z)) (sym f)
+        at_heads ∙ step_left x v' y w' k (subst (PiecesAreClear span') f o) ∙ ap (λ z. cond z (piece x y ∷ l) l) h ∙ ap (λ z. cond b (piece x y ∷ shared_pieces span span' v' z) (shared_pieces span span' v' z)) (sym f)
 
-    right_step : ends_before (span' y) (span x) ≡ true → PartsAreClear span v → (b : Bool) → has_instant (meet_of (span x) (span' y)) ≡ b → shared_pieces span span' v w ≡ cond b (piece x y ∷ shared_pieces span span' v w') (shared_pieces span span' v w')
+    right_step : ends_before (span' y) (span x) ≡ true → PiecesAreClear span v → (b : Bool) → has_instant (meet_of (span x) (span' y)) ≡ b → shared_pieces span span' v w ≡ cond b (piece x y ∷ shared_pieces span span' v w') (shared_pieces span span' v w')
     right_step k o b h =
         let l = shared_pieces span span' (x ∷ v') w' in
-        at_heads ∙ step_right x v' y w' k (subst (PartsAreClear span) e o) ∙ ap (λ z. cond z (piece x y ∷ l) l) h ∙ ap (λ z. cond b (piece x y ∷ shared_pieces span span' z w') (shared_pieces span span' z w')) (sym e)
+        at_heads ∙ step_right x v' y w' k (subst (PiecesAreClear span) e o) ∙ ap (λ z. cond z (piece x y ∷ l) l) h ∙ ap (λ z. cond b (piece x y ∷ shared_pieces span span' z w') (shared_pieces span span' z w')) (sym e)
 
-    pub given_left : ends_before (span' y) (span x) ≡ false → PartsAreClear span' w → has_instant (meet_of (span x) (span' y)) ≡ true → (s : SpanOf) → s ≡ meet_of (span x) (span' y) → shared_pieces span span' v w ≡ record { span = s; left = x; right = y } ∷ shared_pieces span span' v' w
+    pub given_left : ends_before (span' y) (span x) ≡ false → PiecesAreClear span' w → has_instant (meet_of (span x) (span' y)) ≡ true → (s : SpanOf) → s ≡ meet_of (span x) (span' y) → shared_pieces span span' v w ≡ record { span = s; left = x; right = y } ∷ shared_pieces span span' v' w
     given_left k o h s i = left_step k o true h ∙ ap (λ r. record { span = r; left = x; right = y } ∷ shared_pieces span span' v' w) (sym i)
 
-    pub given_right : ends_before (span' y) (span x) ≡ true → PartsAreClear span v → has_instant (meet_of (span x) (span' y)) ≡ true → (s : SpanOf) → s ≡ meet_of (span x) (span' y) → shared_pieces span span' v w ≡ record { span = s; left = x; right = y } ∷ shared_pieces span span' v w'
+    pub given_right : ends_before (span' y) (span x) ≡ true → PiecesAreClear span v → has_instant (meet_of (span x) (span' y)) ≡ true → (s : SpanOf) → s ≡ meet_of (span x) (span' y) → shared_pieces span span' v w ≡ record { span = s; left = x; right = y } ∷ shared_pieces span span' v w'
     given_right k o h s i = right_step k o true h ∙ ap (λ r. record { span = r; left = x; right = y } ∷ shared_pieces span span' v w') (sym i)
 
-    pub passed_left : ends_before (span' y) (span x) ≡ false → PartsAreClear span' w → has_instant (meet_of (span x) (span' y)) ≡ false → shared_pieces span span' v w ≡ shared_pieces span span' v' w
+    pub passed_left : ends_before (span' y) (span x) ≡ false → PiecesAreClear span' w → has_instant (meet_of (span x) (span' y)) ≡ false → shared_pieces span span' v w ≡ shared_pieces span span' v' w
     passed_left k o h = left_step k o false h
 
-    pub passed_right : ends_before (span' y) (span x) ≡ true → PartsAreClear span v → has_instant (meet_of (span x) (span' y)) ≡ false → shared_pieces span span' v w ≡ shared_pieces span span' v w'
+    pub passed_right : ends_before (span' y) (span x) ≡ true → PiecesAreClear span v → has_instant (meet_of (span x) (span' y)) ≡ false → shared_pieces span span' v w ≡ shared_pieces span span' v w'
     passed_right k o h = right_step k o false h
 
 -- a step that gave the first of what was left

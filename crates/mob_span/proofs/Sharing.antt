@@ -5,7 +5,7 @@ use Rattle.std.specs.Option.{option_zip}
 use Rattle.std.proofs.Common.{ap, sym, ◌∙◌, append-nil, append_assoc}
 use Rattle.mob_ratio.specs.Ratio.{Ratio}
 use Rattle.mob_span.specs.Span.{SpanOf, has}
-use Rattle.mob_span.specs.Parts.{part_at}
+use Rattle.mob_span.specs.Pieces.{piece_at}
 use Rattle.mob_span.specs.Meets.{PieceOf, shared_pieces}
 use Rattle.mob_span.specs.Sets.{in_some}
 use Rattle.mob_span.specs.Remainders.{IsInBoth}
@@ -16,11 +16,11 @@ is_there None = false
 is_there (Some x) = true
 
 -- some part has the instant exactly where there is a part there
-pub there : {P : Type 0} (span : P → SpanOf) (ps : List P) (t : Ratio) → list_any (λ p. has (span p) t) ps ≡ is_there (part_at span ps t)
+pub there : {P : Type 0} (span : P → SpanOf) (ps : List P) (t : Ratio) → list_any (λ p. has (span p) t) ps ≡ is_there (piece_at span ps t)
 there span [] t = refl
 there span (p ∷ ps) t = ap (λ b. has (span p) t || b) (there span ps t) ∙ by (has (span p) t)
   where
-    by : (b : Bool) → (b || is_there (part_at span ps t)) ≡ is_there (cond b (Some p) (part_at span ps t))
+    by : (b : Bool) → (b || is_there (piece_at span ps t)) ≡ is_there (cond b (Some p) (piece_at span ps t))
     by true = refl
     by false = refl
 
@@ -43,10 +43,10 @@ pieces_in v w t =
     let ps = shared_pieces (λ s. s) (λ s. s) v w in
     any_map (λ p. p.span) ps t
     ∙ there (λ p. p.span) ps t
-    ∙ mapped (sides (λ s. s) (λ s. s)) (part_at (λ p. p.span) ps t)
+    ∙ mapped (sides (λ s. s) (λ s. s)) (piece_at (λ p. p.span) ps t)
     ∙ ap is_there (meets_at (λ s. s) (λ s. s) v w t)
-    ∙ zipped (part_at (λ s. s) v t) (part_at (λ s. s) w t)
-    ∙ ap (λ b. b && is_there (part_at (λ s. s) w t)) (sym (there (λ s. s) v t))
+    ∙ zipped (piece_at (λ s. s) v t) (piece_at (λ s. s) w t)
+    ∙ ap (λ b. b && is_there (piece_at (λ s. s) w t)) (sym (there (λ s. s) v t))
     ∙ ap (λ b. in_some v t && b) (sym (there (λ s. s) w t))
 
 pub piece_next : (o o' : List SpanOf) (ps qs : List (PieceOf SpanOf SpanOf)) (p : PieceOf SpanOf SpanOf) (s : SpanOf) (all : List SpanOf) → s ≡ p.span → ps ≡ p ∷ qs → o' ≡ o ++ s ∷ [] → o ++ map (λ p. p.span) ps ≡ all → o' ++ map (λ p. p.span) qs ≡ all

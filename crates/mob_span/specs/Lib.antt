@@ -1,9 +1,10 @@
 pub mod Chained
+pub mod Flags
 pub mod Span
 pub mod Remainders
 pub mod Meet
 pub mod Meets
 pub mod Neighbours
-pub mod Parts
+pub mod Pieces
 pub mod Sets
 pub mod Walk

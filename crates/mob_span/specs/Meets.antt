@@ -5,7 +5,7 @@ use Rattle.std.specs.List.{flat_map, filter}
 use Rattle.mob_ratio.specs.Ratio.{Ratio}
 use Rattle.mob_span.specs.Span.{SpanOf, has_instant}
 use Rattle.mob_span.specs.Meet.{meet_of}
-use Rattle.mob_span.specs.Parts.{PartsAreClear, part_at}
+use Rattle.mob_span.specs.Pieces.{PiecesAreClear, piece_at}
 
 -- a piece of time, with what is known there of each of two things
 pub record PieceOf (X Y : Type 0) : Type 0 where
@@ -21,9 +21,9 @@ shared_pieces span span' v w = flat_map (λ x. map (λ y. record { span = meet_o
 -- The pieces are ordered and disjoint, each has an instant, and at each instant the piece there has the two that the lists
 -- have there, where both have one: there is no piece where one of the lists has none.
 pub record AreCommon {X Y : Type 0} (span : X → SpanOf) (span' : Y → SpanOf) (v : List X) (w : List Y) (pieces : List (PieceOf X Y)) : Type 0 where
-  pub clear : PartsAreClear (λ p. p.span) pieces
-  pub at_each : (t : Ratio) → option_map (λ p. (p.left, p.right)) (part_at (λ p. p.span) pieces t) ≡ option_zip (part_at span v t) (part_at span' w t)
+  pub clear : PiecesAreClear (λ p. p.span) pieces
+  pub at_each : (t : Ratio) → option_map (λ p. (p.left, p.right)) (piece_at (λ p. p.span) pieces t) ≡ option_zip (piece_at span v t) (piece_at span' w t)
 
 -- of two lists, each of them ordered and disjoint, the shared pieces are the common ones
 abbrev pub SharedAreCommon : {X Y : Type 0} → (X → SpanOf) → (Y → SpanOf) → Type 0
-SharedAreCommon {X} {Y} span span' = (v : List X) (w : List Y) → PartsAreClear span v → PartsAreClear span' w → AreCommon span span' v w (shared_pieces span span' v w)
+SharedAreCommon {X} {Y} span span' = (v : List X) (w : List Y) → PiecesAreClear span v → PiecesAreClear span' w → AreCommon span span' v w (shared_pieces span span' v w)

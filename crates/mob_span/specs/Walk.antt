@@ -2,7 +2,7 @@
 use Rattle.std.specs.Prelude.{List}
 use Rattle.mob_span.specs.Span.{SpanOf}
 use Rattle.mob_span.specs.Meets.{PieceOf, shared_pieces}
-use Rattle.mob_span.specs.Parts.{PartsAreClear}
+use Rattle.mob_span.specs.Pieces.{PiecesAreClear}
 use Rattle.mob_span.specs.declared.walk.Met.{Met}
 use Rattle.mob_span.specs.declared.walk.SharedPieces.{SharedPieces}
 
@@ -15,7 +15,7 @@ rights_of s = s.rights.now
 
 -- both lists are in order of time
 abbrev pub CanWalk : {X Y : Type 0} → (X → SpanOf) → (Y → SpanOf) → SharedPieces X Y → Type 0
-CanWalk span span' s = PartsAreClear span s.lefts.now × PartsAreClear span' s.rights.now
+CanWalk span span' s = PiecesAreClear span s.lefts.now × PiecesAreClear span' s.rights.now
 
 -- what contracts see of a piece
 abbrev pub met_of : {X Y : Type 0} → Met X Y → PieceOf X Y

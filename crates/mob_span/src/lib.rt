@@ -4,6 +4,7 @@
 //! spans that do not touch.
 #![tactic(auto)]
 
+pub mod flags;
 pub mod laws;
 pub mod remainder;
 pub mod set;
@@ -11,6 +12,7 @@ pub mod span;
 pub mod spanned;
 pub mod walk;
 
+pub use flags::same_bool;
 pub use remainder::{remainders, whole};
 pub use set::SpanSet;
 pub use span::Span;

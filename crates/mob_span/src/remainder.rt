@@ -3,7 +3,7 @@
 ghost use Rattle.std.specs.Prelude.{◌≡◌, true, [], IfOk, MatchOption};
 ghost use Rattle.std.specs.List.{AllByRecursion};
 ghost use Rattle.mob_span.specs.Neighbours.{is_inside};
-ghost use Rattle.mob_span.specs.Parts.{PartsAreClear};
+ghost use Rattle.mob_span.specs.Pieces.{PiecesAreClear};
 ghost use Rattle.mob_span.specs.Remainders.{remainders_of, AreRemainders};
 
 use crate::span::Span;
@@ -12,11 +12,12 @@ use std::alloc::{AllocError, Global};
 
 /// The instants of a span that are in none of the given spans, in order of time. The given spans are in order too.
 pub fn remainders(alloc: Global, span: &Span, spans: &[Span]) -> Result<Vec<Span>, AllocError>
-    requires order { PartsAreClear (λ s. s) spans.now }
+    requires order { PiecesAreClear (λ s. s) spans.now }
     ensures instants { IfOk result (λ v. AreRemainders span.now spans.now v.items) }
-    ensures order { IfOk result (λ v. PartsAreClear (λ s. s) v.items) }
+    ensures order { IfOk result (λ v. PiecesAreClear (λ s. s) v.items) }
     ensures ends { IfOk result (λ v. v.items ≡ remainders_of span.now spans.now) }
 {
+    // A call of a method tells the proof what holds of every span.
     let _ = span.lower();
     left_by(alloc, span, spans)
 }
@@ -25,6 +26,7 @@ pub fn remainders(alloc: Global, span: &Span, spans: &[Span]) -> Result<Vec<Span
 fn left_by(alloc: Global, span: &Span, spans: &[Span]) -> Result<Vec<Span>, AllocError>
     ensures ends { IfOk result (λ v. v.items ≡ remainders_of span.now spans.now) }
 {
+    // A call of a method tells the proof what holds of every span.
     let _ = span.lower();
     let mut found = Vec::new(alloc);
     let mut rest = *span;
@@ -44,7 +46,7 @@ fn left_by(alloc: Global, span: &Span, spans: &[Span]) -> Result<Vec<Span>, Allo
 /// A span that holds all that stands on spans in order of time: from the start of the first to the end of the last. None exactly where
 /// there is nothing.
 pub fn whole<X: Spanned>(items: &[X]) -> Option<Span>
-    requires order { PartsAreClear X.span_of items.now }
+    requires order { PiecesAreClear X.span_of items.now }
     ensures holds { MatchOption result (items.now ≡ []) (λ h. AllByRecursion (λ x. is_inside h (X.span_of x) ≡ true) items.now) }
 {
     let Some((first, _)) = items.split_first() else {

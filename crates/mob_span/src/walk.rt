@@ -1,6 +1,6 @@
 ghost use Rattle.std.specs.Prelude.{◌≡◌, true};
 ghost use Rattle.std.specs.Iterator.{YieldsFirstBy, item_count};
-ghost use Rattle.mob_span.specs.Parts.{PartsAreClear};
+ghost use Rattle.mob_span.specs.Pieces.{PiecesAreClear};
 ghost use Rattle.mob_span.specs.Walk.{CanWalk, met_of, meets_left, lefts_of, rights_of};
 
 use crate::span::Span;
@@ -27,8 +27,8 @@ pub struct SharedPieces<'a, X, Y> {
 impl<'a, X: Spanned, Y: Spanned> SharedPieces<'a, X, Y> {
     /// The walk from the first piece.
     pub fn new(lefts: &'a [X], rights: &'a [Y]) -> Self
-        requires left_order { PartsAreClear X.span_of lefts.now }
-        requires right_order { PartsAreClear Y.span_of rights.now }
+        requires left_order { PiecesAreClear X.span_of lefts.now }
+        requires right_order { PiecesAreClear Y.span_of rights.now }
         ensures can { CanWalk X.span_of Y.span_of result }
         ensures left { lefts_of result ≡ lefts.now }
         ensures right { rights_of result ≡ rights.now }

@@ -2,8 +2,8 @@
 use Rattle.std.specs.Prelude.{Bool, ◌&&◌}
 use Rattle.mob_ratio.specs.Ratio.{◌≤ℚ◌}
 use Rattle.mob_ratio.specs.Order.{up_to, same}
-use Rattle.mob_plane.specs.Corners.{smaller, greater}
 use Rattle.mob_plane.specs.declared.point.Point.{Point}
+use Rattle.mob_plane.specs.Corners.{smaller, greater}
 use Rattle.mob_stbox.specs.declared.area.Area.{Area}
 
 -- The point p lies in the area a: each of its coordinates is between the least and the greatest one of a, or is one of the two.
@@ -13,7 +13,7 @@ pub record InArea (a : Area) (p : Point) : Type 0 where
   pub from_south : a.ymin ≤ℚ p.y
   pub to_north : p.y ≤ℚ a.ymax
 
--- the same as a test, which computes
+-- InArea as a test, which computes
 abbrev pub in_area : Area → Point → Bool
 in_area a p = up_to a.xmin p.x && up_to p.x a.xmax && (up_to a.ymin p.y && up_to p.y a.ymax)
 

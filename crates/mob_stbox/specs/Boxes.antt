@@ -1,11 +1,12 @@
 -- Boxes of the plane and of time, and how two of them lie.
-use Rattle.std.specs.Prelude.{◌≡◌, ◌⊎◌, Bool, true, false, cond, ◌&&◌, ◌||◌, not, Option, Some, None, is_some, IfSome, MatchOption}
+use Rattle.std.specs.Prelude.{◌≡◌, ◌⊎◌, Bool, true, false, cond, ◌&&◌, ◌||◌, Option, Some, None, is_some, IfSome, MatchOption}
 use Rattle.mob_ratio.specs.Ratio.{Ratio, ◌<ℚ◌}
 use Rattle.mob_ratio.specs.Order.{same}
 use Rattle.mob_ratio.specs.Sign.{nil}
 use Rattle.mob_span.specs.Span.{SpanOf, InSpan, has, has_instant}
 use Rattle.mob_span.specs.Meet.{meet_of, starts_before, ends_before}
 use Rattle.mob_span.specs.Neighbours.{is_inside}
+use Rattle.mob_span.specs.Flags.{same_bool}
 use Rattle.mob_plane.specs.declared.point.Point.{Point}
 use Rattle.mob_stbox.specs.Areas.{InArea, in_area, is_area, areas_meet, area_over, area_cover, same_area}
 use Rattle.mob_stbox.specs.declared.area.Area.{Area}
@@ -19,15 +20,17 @@ pub record BoxOf : Type 0 where
 abbrev pub NoBox : Option Area → Option SpanOf → Type 0
 NoBox space time = ((space ≡ None) × (time ≡ None)) ⊎ ((a : Area) × (space ≡ Some a) × ((a.xmax <ℚ a.xmin) ⊎ (a.ymax <ℚ a.ymin)))
 
--- some dimension is there, no least coordinate is above its greatest, and the span has an instant
+-- no least coordinate of the area is above its greatest, if there is an area
 abbrev pub area_stands : Option Area → Bool
 area_stands None = true
 area_stands (Some a) = is_area a
 
+-- the span has an instant, if there is a span
 abbrev pub span_stands : Option SpanOf → Bool
 span_stands None = true
 span_stands (Some s) = has_instant s
 
+-- some dimension is there, no least coordinate is above its greatest, and the span has an instant
 abbrev pub is_box : BoxOf → Bool
 is_box b = (is_some b.space || is_some b.time) && (area_stands b.space && span_stands b.time)
 
@@ -45,15 +48,17 @@ pub record InBox (b : BoxOf) (t : Ratio) (p : Point) : Type 0 where
   pub in_space : IfSome b.space (λ a. InArea a p)
   pub in_time : IfSome b.time (λ s. InSpan s t)
 
--- the same as a test, which computes
+-- the point lies in the area, if there is an area
 abbrev pub in_space : Option Area → Point → Bool
 in_space None p = true
 in_space (Some a) p = in_area a p
 
+-- the instant is in the span, if there is a span
 abbrev pub in_time : Option SpanOf → Ratio → Bool
 in_time None t = true
 in_time (Some s) t = has s t
 
+-- InBox as a test, which computes
 abbrev pub in_box : BoxOf → Ratio → Point → Bool
 in_box b t p = in_space b.space p && in_time b.time t
 
@@ -68,15 +73,17 @@ pub record BoxesMeet (a b : BoxOf) : Type 0 where
   pub in_space : IfSome a.space (λ x. IfSome b.space (λ y. (p : Point) × InArea x p × InArea y p))
   pub in_time : IfSome a.time (λ s. IfSome b.time (λ r. (t : Ratio) × InSpan s t × InSpan r t))
 
--- the same as a test, by the sides
+-- a test of a dimension that both have; it is true where one of them lacks it
 abbrev pub where_both : {A : Type 0} → (A → A → Bool) → Option A → Option A → Bool
 where_both test None b = true
 where_both test (Some x) None = true
 where_both test (Some x) (Some y) = test x y
 
+-- some instant is in both spans
 abbrev pub spans_meet : SpanOf → SpanOf → Bool
 spans_meet s r = has_instant (meet_of s r)
 
+-- BoxesMeet as a test, by the sides
 unfoldable pub overlaps : BoxOf → BoxOf → Bool
 overlaps a b = (both_have a.space b.space || both_have a.time b.time) && (where_both areas_meet a.space b.space && where_both spans_meet a.time b.time)
 
@@ -85,12 +92,13 @@ pub record BoxContains (a b : BoxOf) : Type 0 where
   pub in_space : IfSome a.space (λ x. MatchOption b.space ⊥ (λ y. (p : Point) → InArea y p → InArea x p))
   pub in_time : IfSome a.time (λ s. MatchOption b.time ⊥ (λ r. (t : Ratio) → InSpan r t → InSpan s t))
 
--- the same as a test, by the sides
+-- a test of a dimension that the first has: the second has it too, and lies in the first
 abbrev pub lies_in : {A : Type 0} → (A → A → Bool) → Option A → Option A → Bool
 lies_in over None b = true
 lies_in over (Some x) None = false
 lies_in over (Some x) (Some y) = over x y
 
+-- BoxContains as a test, by the sides
 unfoldable pub contains : BoxOf → BoxOf → Bool
 contains a b = lies_in area_over a.space b.space && lies_in is_inside a.time b.time
 
@@ -100,7 +108,7 @@ pub record IsCover (a b c : BoxOf) : Type 0 where
   pub second : BoxContains c b
   pub least : (d : BoxOf) → BoxContains d a → BoxContains d b → BoxContains d c
 
--- the same by the sides: from the earlier start to the later end, and the least area over both
+-- the least span over both: from the earlier start to the later end
 abbrev pub span_cover : SpanOf → SpanOf → SpanOf
 span_cover s r = record {
   lower = cond (starts_before r s) r.lower s.lower;
@@ -109,22 +117,21 @@ span_cover s r = record {
   upper_inc = cond (ends_before s r) r.upper_inc s.upper_inc;
 }
 
+-- a dimension of the two, made where both have it
 abbrev pub of_both : {A : Type 0} → (A → A → A) → Option A → Option A → Option A
 of_both join None b = None
 of_both join (Some x) None = None
 of_both join (Some x) (Some y) = Some (join x y)
 
+-- the least box over both, by the sides
 unfoldable pub cover : BoxOf → BoxOf → BoxOf
 cover a b = record { space = of_both area_cover a.space b.space; time = of_both span_cover a.time b.time }
 
--- the two spans have the same ends, and the same of them
-abbrev pub same_flag : Bool → Bool → Bool
-same_flag true b = b
-same_flag false b = not b
-
+-- the two spans have the same ends, and include the same of them
 abbrev pub same_span : SpanOf → SpanOf → Bool
-same_span s r = same s.lower r.lower && same s.upper r.upper && (same_flag s.lower_inc r.lower_inc && same_flag s.upper_inc r.upper_inc)
+same_span s r = same s.lower r.lower && same s.upper r.upper && (same_bool s.lower_inc r.lower_inc && same_bool s.upper_inc r.upper_inc)
 
+-- a dimension is missing in both, or is the same in both
 abbrev pub same_part : {A : Type 0} → (A → A → Bool) → Option A → Option A → Bool
 same_part test None None = true
 same_part test None (Some y) = false

@@ -1,23 +1,16 @@
 -- The test whether two boxes are one is exact.
 use Rattle.std.specs.Prelude.{◌≡◌, ◌↔◌, Bool, true, false, IsTrue, refl, Option, Some, None}
 use Rattle.std.proofs.lemmas.Bool.{and_parts, and_from}
-use Rattle.std.proofs.Common.{arith, ap, sym, ◌∙◌, true≢false}
+use Rattle.std.proofs.Common.{ap, sym, ◌∙◌, true≢false}
 use Rattle.std.specs.Cmp.{IsEquivalence}
 use Rattle.mob_ratio.specs.Ratio.{Ratio}
 use Rattle.mob_ratio.specs.Order.{same}
 use Rattle.mob_ratio.proofs.Order.{same_exact, same_truth}
 use Rattle.mob_span.specs.Span.{SpanOf}
+use Rattle.mob_span.specs.Flags.{same_bool_exact}
 use Rattle.mob_stbox.specs.Areas.{same_area}
-use Rattle.mob_stbox.specs.Boxes.{BoxOf, same_flag, same_span, same_part, same_box}
+use Rattle.mob_stbox.specs.Boxes.{BoxOf, same_span, same_part, same_box}
 use Rattle.mob_stbox.specs.declared.area.Area.{Area}
-
-flag_is : (a b : Bool) → same_flag a b ≡ true → a ≡ b
-flag_is true b h = sym h
-flag_is false b h = grind (arith, h)
-
-flag_self : (a : Bool) → same_flag a a ≡ true
-flag_self true = refl
-flag_self false = refl
 
 area_is : (a b : Area) → same_area a b ≡ true → a ≡ b
 area_is a b h =
@@ -43,12 +36,12 @@ span_is s r h =
     let y = and_parts _ _ k.1 in
     let p = (same_exact s.lower r.lower).0 x.0 in
     let q = (same_exact s.upper r.upper).0 x.1 in
-    let u = flag_is s.lower_inc r.lower_inc y.0 in
-    let v = flag_is s.upper_inc r.upper_inc y.1 in
+    let u = (same_bool_exact s.lower_inc r.lower_inc).0 y.0 in
+    let v = (same_bool_exact s.upper_inc r.upper_inc).0 y.1 in
     λ i. record { lower = p i; upper = q i; lower_inc = u i; upper_inc = v i }
 
 span_self : (s : SpanOf) → same_span s s ≡ true
-span_self s = and_from _ _ (and_from _ _ (number_self s.lower) (number_self s.upper)) (and_from _ _ (flag_self s.lower_inc) (flag_self s.upper_inc))
+span_self s = and_from _ _ (and_from _ _ (number_self s.lower) (number_self s.upper)) (and_from _ _ ((same_bool_exact s.lower_inc s.lower_inc).1 refl) ((same_bool_exact s.upper_inc s.upper_inc).1 refl))
 
 part_is : {A : Type 0} (test : A → A → Bool) → ((x y : A) → test x y ≡ true → x ≡ y) → (a b : Option A) → same_part test a b ≡ true → a ≡ b
 part_is test f None None h = refl

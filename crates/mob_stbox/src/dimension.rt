@@ -2,10 +2,10 @@
 ghost use Rattle.std.specs.Prelude.{◌≡◌, ◌&&◌, ◌||◌, true, is_some, Option};
 ghost use Rattle.mob_span.specs.Neighbours.{is_inside};
 ghost use Rattle.mob_stbox.specs.Areas.{areas_meet, area_over, area_cover, same_area};
-ghost use Rattle.mob_stbox.specs.Boxes.{both_have, where_both, spans_meet, lies_in, of_both, span_cover, same_flag, same_span, same_part};
+ghost use Rattle.mob_stbox.specs.Boxes.{both_have, where_both, spans_meet, lies_in, of_both, span_cover, same_span, same_part};
 
 use crate::area::Area;
-use mob_span::Span;
+use mob_span::{Span, same_bool};
 
 // Whether both have space, or both have time.
 pub(crate) fn is_shared(
@@ -50,7 +50,7 @@ pub(crate) fn is_space_over(a: &Option<Area>, b: &Option<Area>) -> bool
     }
 }
 
-// The same of two spans.
+// Whether the second span is there and lies in the first, if the first is there.
 pub(crate) fn is_time_over(s: &Option<Span>, r: &Option<Span>) -> bool
     ensures value { result ≡ lies_in is_inside s.now r.now }
 {
@@ -140,12 +140,5 @@ fn is_same_span(s: &Span, r: &Span) -> bool
 {
     s.lower().is_same(r.lower())
         && s.upper().is_same(r.upper())
-        && (is_same_flag(s.lower_inc(), r.lower_inc())
-            && is_same_flag(s.upper_inc(), r.upper_inc()))
-}
-
-fn is_same_flag(a: bool, b: bool) -> bool
-    ensures value { result ≡ same_flag a b }
-{
-    a == b
+        && (same_bool(s.lower_inc(), r.lower_inc()) && same_bool(s.upper_inc(), r.upper_inc()))
 }

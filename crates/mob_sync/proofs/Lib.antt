@@ -1,1 +1,3 @@
 mod Wholes
+mod Beside
+pub mod OneFunction

@@ -3,7 +3,7 @@ use Rattle.std.specs.Prelude.{◌≡◌, true, List, [], ◌∷◌}
 use Rattle.std.specs.List.{AllByRecursion}
 use Rattle.mob_span.specs.Neighbours.{is_clear}
 use Rattle.mob_span.specs.Chained.{OfHead}
-use Rattle.mob_span.specs.Parts.{PartsAreClear}
+use Rattle.mob_span.specs.Pieces.{PiecesAreClear}
 use Rattle.mob_span.proofs.Insides.{inside_self}
 use Rattle.mob_slice.specs.Slices.{IsSound}
 use Rattle.mob_slice.specs.declared.slice.Slice.{Slice}
@@ -14,7 +14,7 @@ wholes_head s [] h = tt
 wholes_head s (r ∷ v) h = h
 
 -- they are ordered and disjoint where the slices are
-pub wholes_clear : {C : Type 0} (v : List (Slice C)) → PartsAreClear (λ s. s.span) v → PartsAreClear (λ p. p.0) (whole_slices v)
+pub wholes_clear : {C : Type 0} (v : List (Slice C)) → PiecesAreClear (λ s. s.span) v → PiecesAreClear (λ p. p.0) (whole_slices v)
 wholes_clear [] h = tt
 wholes_clear (s ∷ v) h = (h.0, wholes_head s v h.1, wholes_clear v h.2)
 

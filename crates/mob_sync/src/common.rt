@@ -2,7 +2,7 @@ ghost use Rattle.std.specs.Prelude.{◌≡◌};
 ghost use Rattle.std.specs.Iterator.{YieldsFirstBy, item_count};
 ghost use Rattle.std.specs.List.{AllByRecursion};
 ghost use Rattle.mob_span.specs.Meets.{shared_pieces, AreCommon};
-ghost use Rattle.mob_span.specs.Parts.{PartsAreClear};
+ghost use Rattle.mob_span.specs.Pieces.{PiecesAreClear};
 ghost use Rattle.mob_sync.specs.Common.{CanStep, HoldsPair, pair_of, common_left};
 
 use mob_slice::{Course, Moving, Pair, Slice};
@@ -19,7 +19,7 @@ impl<'a, A: Course, B: Course> Common<'a, A, B> {
     /// The walk from the first common piece.
     pub fn new(a: &'a Moving<A>, b: &'a Moving<B>) -> Self
         ensures can { CanStep result }
-        ensures clear { PartsAreClear (λ p. p.span) (common_left result) }
+        ensures clear { PiecesAreClear (λ p. p.span) (common_left result) }
         ensures hold { AllByRecursion (HoldsPair A.start_of A.end_of B.start_of B.end_of) (common_left result) }
         ensures all { common_left result ≡ shared_pieces (λ s. s.span) (λ s. s.span) a.now b.now }
         ensures common { AreCommon (λ s. s.span) (λ s. s.span) a.now b.now (common_left result) }

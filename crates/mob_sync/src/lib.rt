@@ -1,9 +1,15 @@
-//! Walks over the pieces of temporal values, in order of time. A walk takes no memory and has no refusal.
+//! Walks over the pieces of temporal values, in order of time: `Ones` over those of one value,
+//! `Common` over those that two share, and `Pieces` over those of two operands, by one of the others.
+//! A walk takes no memory and has no refusal.
 #![tactic(auto)]
 
+mod alike;
 pub mod common;
 pub mod laws;
 pub mod ones;
+pub mod pieces;
 
+pub use alike::are_alike;
 pub use common::Common;
 pub use ones::Ones;
+pub use pieces::Pieces;

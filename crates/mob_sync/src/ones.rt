@@ -1,7 +1,7 @@
 ghost use Rattle.std.specs.Prelude.{◌≡◌};
 ghost use Rattle.std.specs.Iterator.{YieldsFirstBy, item_count};
 ghost use Rattle.std.specs.List.{AllByRecursion};
-ghost use Rattle.mob_span.specs.Parts.{PartsAreClear};
+ghost use Rattle.mob_span.specs.Pieces.{PiecesAreClear};
 ghost use Rattle.mob_sync.specs.Ones.{CanWalkOne, HoldsOne, one_of, ones_left, whole_slices};
 
 use mob_slice::{Course, Moving, One, Slice};
@@ -16,7 +16,7 @@ impl<'a, C: Course> Ones<'a, C> {
     /// The walk from the first piece.
     pub fn new(a: &'a Moving<C>) -> Self
         ensures can { CanWalkOne result }
-        ensures clear { PartsAreClear (λ p. p.0) (ones_left result) }
+        ensures clear { PiecesAreClear (λ p. p.0) (ones_left result) }
         ensures hold { AllByRecursion (HoldsOne C.start_of C.end_of) (ones_left result) }
         ensures all { ones_left result ≡ whole_slices a.now }
     {

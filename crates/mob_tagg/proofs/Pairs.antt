@@ -24,8 +24,8 @@ use Rattle.mob_shares.specs.declared.shares.Share.{Share}
 use Rattle.mob_shares.specs.declared.shares.Share.TheVariants.{Left, Right, Both}
 use Rattle.mob_shares.proofs.Together.{pair_fit}
 use Rattle.mob_shares.proofs.Walked.{AreOf}
-use Rattle.mob_cuts.specs.Cuts.{CutOf, wholes}
-use Rattle.mob_cuts.proofs.Sides.{wholes_of}
+use Rattle.mob_shares.specs.Cuts.{CutOf, wholes}
+use Rattle.mob_shares.proofs.Sides.{wholes_of}
 use Rattle.mob_span.specs.Span.{has_instant}
 use Rattle.mob_span.specs.Neighbours.{is_inside}
 use Rattle.mob_span.proofs.Insides.{inside_self}

@@ -6,7 +6,7 @@ use Rattle.mob_ratio.specs.Order.{same}
 use Rattle.mob_ratio.proofs.Order.{same_exact}
 use Rattle.mob_span.specs.Span.{SpanOf, has, has_instant}
 use Rattle.mob_span.specs.Neighbours.{Meets, joined, is_clear}
-use Rattle.mob_span.specs.Parts.{PartsAreClear}
+use Rattle.mob_span.specs.Pieces.{PiecesAreClear}
 use Rattle.mob_span.proofs.Insides.{clear_has}
 use Rattle.mob_span.proofs.Shared.{AreAllClear}
 use Rattle.mob_span.proofs.SpanLemmas.{some_instant}
@@ -22,10 +22,10 @@ use Rattle.mob_normal.specs.Joined.{IsJoin}
 use Rattle.mob_normal.proofs.Joins.{join_one, join_kept}
 use Rattle.mob_normal.proofs.Runs.{step_normal, step_ordered, step_keeps}
 use Rattle.mob_lifted.proofs.Options.{none_some}
-use Rattle.mob_cuts.specs.Cuts.{CutOf, wholes, entry_at}
-use Rattle.mob_cuts.specs.Shares.{ShareOf, next_share, behind, most_shares}
-use Rattle.mob_cuts.proofs.Sides.{cut_span, entry_whole, whole_clear}
-use Rattle.mob_cuts.proofs.Steps.{IsStep, next_step, none_next, next_fewer}
+use Rattle.mob_shares.specs.Cuts.{CutOf, wholes, entry_at}
+use Rattle.mob_shares.specs.Sharing.{ShareOf, next_share, behind, most_shares}
+use Rattle.mob_shares.proofs.Sides.{cut_span, entry_whole, whole_clear}
+use Rattle.mob_shares.proofs.Steps.{IsStep, next_step, none_next, next_fewer}
 use Rattle.mob_tagg.specs.United.{united_by, AreUnited}
 
 abbrev Steps : Type 0 → Type 0
@@ -161,12 +161,12 @@ module _ {B : Type 0} (op : B → B → B) where
       value t true i = put_here p.span (both_at p.left p.right) slices t next i ∙ sym (ap₂ both_at (step.here t i).0 (step.here t i).1)
       value t false i = put_gone p.span (both_at p.left p.right) slices t i ∙ h.values t ∙ ap₂ both_at (step.gone t i).0 (step.gone t i).1
 
-  walked_by : (v w : List (CutOf (Slice (Steady B)))) → PartsAreClear cut_span v → PartsAreClear cut_span w → (o : Option (ShareOf (Slice (Steady B)) (Slice (Steady B)))) → next_share v w ≡ o
+  walked_by : (v w : List (CutOf (Slice (Steady B)))) → PiecesAreClear cut_span v → PiecesAreClear cut_span w → (o : Option (ShareOf (Slice (Steady B)) (Slice (Steady B)))) → next_share v w ≡ o
       → ((p : ShareOf (Slice (Steady B)) (Slice (Steady B))) → next_share v w ≡ Some p → Walked (behind p.span p.left v) (behind p.span p.right w)) → Walked v w
   walked_by v w h k None e f = walked_none v w e
   walked_by v w h k (Some p) e f = walked_more v w p (next_step v w h k p e) (f p e)
 
-  walked : (n : ℕ) (v w : List (CutOf (Slice (Steady B)))) → most_shares v w < n → PartsAreClear cut_span v → PartsAreClear cut_span w → Walked v w
+  walked : (n : ℕ) (v w : List (CutOf (Slice (Steady B)))) → most_shares v w < n → PiecesAreClear cut_span v → PiecesAreClear cut_span w → Walked v w
   walked zero v w lt h k = absurd (omega (arith, lt))
   walked (suc n) v w lt h k = walked_by v w h k (next_share v w) refl (λ p e.
       let step = next_step v w h k p e in

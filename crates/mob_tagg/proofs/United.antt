@@ -7,7 +7,7 @@ use Rattle.mob_ratio.specs.Ratio.{Ratio, whole}
 use Rattle.mob_frac.specs.Formula.{AllFit}
 use Rattle.mob_span.specs.Span.{SpanOf, has, has_instant}
 use Rattle.mob_span.specs.Meets.{PieceOf, shared_pieces}
-use Rattle.mob_span.specs.Parts.{part_at}
+use Rattle.mob_span.specs.Pieces.{piece_at}
 use Rattle.mob_span.proofs.MeetLaws.{meets_at, sides}
 use Rattle.mob_span.proofs.SpanLemmas.{some_instant}
 use Rattle.mob_slice.specs.Cut.{slice_value}
@@ -23,7 +23,7 @@ use Rattle.mob_slice.specs.declared.formula.Formula.TheVariants.{F1}
 use Rattle.mob_slice.specs.declared.formula.OpFault.{OpFault}
 use Rattle.mob_slice.specs.declared.formula.OpFault.TheVariants.{Passed, NoMemory}
 use Rattle.mob_slice.proofs.LookUps.{value_by}
-use Rattle.mob_lifted.specs.Lifted.{IsFirstFailure}
+use Rattle.mob_lifted.specs.Piecewise.{IsFirstFailure}
 use Rattle.mob_lifted.proofs.Firsts.{first_joined, first_front}
 use Rattle.mob_lifted.proofs.Options.{none_some, same_some}
 use Rattle.mob_sync.specs.Common.{pair_of}
@@ -34,11 +34,11 @@ use Rattle.mob_slice.specs.Operands.{steady_value, steady_limit, steady_parts}
 use Rattle.mob_slice.specs.declared.steady.Steady.{Steady}
 use Rattle.mob_tagg.specs.United.{united_by, AreUnited, sides_of, IsChecked, one_slice, IsMet}
 
-pub part_here : {P : Type 0} (span : P → SpanOf) (ps : List P) (t : Ratio) (q : P) → part_at span ps t ≡ Some q → has (span q) t ≡ true
+pub part_here : {P : Type 0} (span : P → SpanOf) (ps : List P) (t : Ratio) (q : P) → piece_at span ps t ≡ Some q → has (span q) t ≡ true
 part_here span [] t q e = none_some q e
 part_here {P} span (p ∷ ps) t q e = by (has (span p) t) refl e (part_here span ps t q)
   where
-    by : (b : Bool) → has (span p) t ≡ b → cond b (Some p) (part_at span ps t) ≡ Some q → (part_at span ps t ≡ Some q → has (span q) t ≡ true) → has (span q) t ≡ true
+    by : (b : Bool) → has (span p) t ≡ b → cond b (Some p) (piece_at span ps t) ≡ Some q → (piece_at span ps t ≡ Some q → has (span q) t ≡ true) → has (span q) t ≡ true
     by true h e f = subst (λ (z : P). has (span z) t ≡ true) (same_some e) h
     by false h e f = f e
 
@@ -49,9 +49,9 @@ module _ {C B V : Type 0} (value : C → Ratio → Ratio → Ratio → B) (start
   taken_some full (s ∷ v) w slices n o h e =
       let i = some_instant s.span o.0.some in
       let here : value_at value (s ∷ v) i.0 ≡ Some (slice_value value s i.0) = ap (λ b. cond b (Some (slice_value value s i.0)) (value_at value v i.0)) i.1 in
-      by i.0 (part_at (λ q. q.span) (shared_pieces (λ s. s.span) (λ s. s.span) (s ∷ v) w) i.0) refl here (subst (λ z. IsTakenAt value start end items returns (s ∷ v) w i.0 (value_at value z i.0)) e (h.values i.0))
+      by i.0 (piece_at (λ q. q.span) (shared_pieces (λ s. s.span) (λ s. s.span) (s ∷ v) w) i.0) refl here (subst (λ z. IsTakenAt value start end items returns (s ∷ v) w i.0 (value_at value z i.0)) e (h.values i.0))
     where
-      by : (t : Ratio) (found : Option (PieceOf (Slice C) (Slice C))) → part_at (λ q. q.span) (shared_pieces (λ s. s.span) (λ s. s.span) (s ∷ v) w) t ≡ found → value_at value (s ∷ v) t ≡ Some (slice_value value s t) → MatchOption found (None ≡ one_of (value_at value (s ∷ v) t) (value_at value w t)) (λ q. (x : V) × IsAnswered start end returns q (Ok x) × (None ≡ value_at value (items x) t)) → ⊥
+      by : (t : Ratio) (found : Option (PieceOf (Slice C) (Slice C))) → piece_at (λ q. q.span) (shared_pieces (λ s. s.span) (λ s. s.span) (s ∷ v) w) t ≡ found → value_at value (s ∷ v) t ≡ Some (slice_value value s t) → MatchOption found (None ≡ one_of (value_at value (s ∷ v) t) (value_at value w t)) (λ q. (x : V) × IsAnswered start end returns q (Ok x) × (None ≡ value_at value (items x) t)) → ⊥
       by t None f g m = none_some (slice_value value s t) (m ∙ ap (λ z. one_of z (value_at value w t)) g)
       by t (Some q) f g m = full q m.0 m.1 t (part_here (λ q. q.span) (shared_pieces (λ s. s.span) (λ s. s.span) (s ∷ v) w) t q f) (sym m.2)
 
@@ -59,18 +59,18 @@ module _ {C B V : Type 0} (value : C → Ratio → Ratio → Ratio → B) (start
     -- where calls answered the operation on each shared piece, all is united by the operation
     pub united_at : (v w : List (Slice C)) (t : Ratio) (o : Option B) → IsTakenAt value start end items returns v w t o → o ≡ united_by op (value_at value v t) (value_at value w t)
     united_at v w t o h =
-        by (part_at (λ q. q.span) (shared_pieces (λ s. s.span) (λ s. s.span) v w) t) (part_at (λ s. s.span) v t) (part_at (λ s. s.span) w t) refl (meets_at (λ s. s.span) (λ s. s.span) v w t)
-        (subst (λ z. MatchOption (part_at (λ q. q.span) (shared_pieces (λ s. s.span) (λ s. s.span) v w) t) (o ≡ one_of z (option_map (λ s. slice_value value s t) (part_at (λ s. s.span) w t))) (λ q. (x : V) × IsAnswered start end returns q (Ok x) × (o ≡ value_at value (items x) t))) (value_by value v t)
-        (subst (λ z. MatchOption (part_at (λ q. q.span) (shared_pieces (λ s. s.span) (λ s. s.span) v w) t) (o ≡ one_of (value_at value v t) z) (λ q. (x : V) × IsAnswered start end returns q (Ok x) × (o ≡ value_at value (items x) t))) (value_by value w t) h))
+        by (piece_at (λ q. q.span) (shared_pieces (λ s. s.span) (λ s. s.span) v w) t) (piece_at (λ s. s.span) v t) (piece_at (λ s. s.span) w t) refl (meets_at (λ s. s.span) (λ s. s.span) v w t)
+        (subst (λ z. MatchOption (piece_at (λ q. q.span) (shared_pieces (λ s. s.span) (λ s. s.span) v w) t) (o ≡ one_of z (option_map (λ s. slice_value value s t) (piece_at (λ s. s.span) w t))) (λ q. (x : V) × IsAnswered start end returns q (Ok x) × (o ≡ value_at value (items x) t))) (value_by value v t)
+        (subst (λ z. MatchOption (piece_at (λ q. q.span) (shared_pieces (λ s. s.span) (λ s. s.span) v w) t) (o ≡ one_of (value_at value v t) z) (λ q. (x : V) × IsAnswered start end returns q (Ok x) × (o ≡ value_at value (items x) t))) (value_by value w t) h))
         ∙ ap (λ z. united_by op z (at w)) (sym (value_by value v t)) ∙ ap (λ z. united_by op (value_at value v t) z) (sym (value_by value w t))
       where
         at : List (Slice C) → Option B
-        at v = option_map (λ s. slice_value value s t) (part_at (λ s. s.span) v t)
+        at v = option_map (λ s. slice_value value s t) (piece_at (λ s. s.span) v t)
 
         map_at : Option (Slice C) → Option B
         map_at a = option_map (λ s. slice_value value s t) a
 
-        by : (found : Option (PieceOf (Slice C) (Slice C))) (a b : Option (Slice C)) → part_at (λ q. q.span) (shared_pieces (λ s. s.span) (λ s. s.span) v w) t ≡ found → option_map (sides (λ s. s.span) (λ s. s.span)) found ≡ option_zip a b
+        by : (found : Option (PieceOf (Slice C) (Slice C))) (a b : Option (Slice C)) → piece_at (λ q. q.span) (shared_pieces (λ s. s.span) (λ s. s.span) v w) t ≡ found → option_map (sides (λ s. s.span) (λ s. s.span)) found ≡ option_zip a b
             → MatchOption found (o ≡ one_of (option_map (λ s. slice_value value s t) a) (option_map (λ s. slice_value value s t) b)) (λ q. (x : V) × IsAnswered start end returns q (Ok x) × (o ≡ value_at value (items x) t))
             → o ≡ united_by op (option_map (λ s. slice_value value s t) a) (option_map (λ s. slice_value value s t) b)
         by None None b f e m = m
@@ -111,7 +111,7 @@ module _ {C B V : Type 0} (start end : C → B) (parts : C → Ratio → Ratio �
   pub taken_as : (value : C → Ratio → Ratio → Ratio → B) (items : V → List (Slice C)) (v w slices r : List (Slice C)) → ((t : Ratio) → value_at value r t ≡ value_at value slices t) → AreTaken value start end parts items wrapped v w slices → AreTaken value start end parts items returns v w r
   taken_as value items v w slices r e h = record {
     answered = all_as (shared_pieces (λ s. s.span) (λ s. s.span) v w) h.answered;
-    values = λ t. subst (λ z. IsTakenAt value start end items returns v w t z) (sym (e t)) (by t (part_at (λ q. q.span) (shared_pieces (λ s. s.span) (λ s. s.span) v w) t) (h.values t));
+    values = λ t. subst (λ z. IsTakenAt value start end items returns v w t z) (sym (e t)) (by t (piece_at (λ q. q.span) (shared_pieces (λ s. s.span) (λ s. s.span) v w) t) (h.values t));
   }
     where
       by : (t : Ratio) (found : Option (PieceOf (Slice C) (Slice C))) → MatchOption found (value_at value slices t ≡ one_of (value_at value v t) (value_at value w t)) (λ q. (x : V) × IsAnswered start end wrapped q (Ok x) × (value_at value slices t ≡ value_at value (items x) t)) → MatchOption found (value_at value slices t ≡ one_of (value_at value v t) (value_at value w t)) (λ q. (x : V) × IsAnswered start end returns q (Ok x) × (value_at value slices t ≡ value_at value (items x) t))
@@ -132,15 +132,6 @@ first_from value start end parts items list wrapped returns v w r taken f h chec
 -- a call that is checked says whether F1 fits
 pub passes_of : {C V : Type 0} (parts : C → Ratio → Ratio → Ratio → List Ratio) (returns : Pair C C → Result V OpFault → Type 0) (p : Pair C C) (f : Formula) → IsChecked parts returns p (Err (Passed f)) → ((f ≡ F1) × (¬ AllFit (piece_parts parts (pair_of p)))) ⊎ AllFit (piece_parts parts (pair_of p))
 passes_of parts returns p f h = ⊎_elim inl (λ m. inr m.0) h
-
-abbrev the_err : (A : Type 0) {E : Type 0} → E → Result A E
-the_err A x = Err x
-
-pub err_as : {A B E : Type 0} {x y : E} → the_err A x ≡ the_err A y → the_err B x ≡ the_err B y
-err_as {A} {B} {E} {x} {y} e = ap (the_err B) (same x y e)
-  where
-    same : (x y : E) → the_err A x ≡ the_err A y → x ≡ y
-    same x y e = cc
 
 pub still_judged : {W : Type 0} (entries : List Entry) (r : Result W OpFault) → IsFirst entries None → IfErr r (λ e. e ≡ NoMemory) → IsJudged entries r
 still_judged entries (Ok x) h k = h
@@ -218,12 +209,12 @@ module _ {C B V : Type 0} (value : C → Ratio → Ratio → Ratio → B) (start
     (each : (p : Pair C C) (x : V) (t : Ratio) → IsPairFit start end start end p → returns p (Ok x) → has p.span t ≡ true → (z : B) × (value_at value (items x) t ≡ Some z) × R t (slice_value value p.left.now t) (slice_value value p.right.now t) z) where
   pub met_at : (v w : List (Slice C)) (t : Ratio) (o : Option B) → IsTakenAt value start end items returns v w t o → IsMet R t (value_at value v t) (value_at value w t) o
   met_at v w t o h =
-      subst (λ z. IsMet R t z (value_at value w t) o) (sym (value_by value v t)) (subst (λ z. IsMet R t (option_map (λ s. slice_value value s t) (part_at (λ s. s.span) v t)) z o) (sym (value_by value w t))
-      (by (part_at (λ q. q.span) (shared_pieces (λ s. s.span) (λ s. s.span) v w) t) (part_at (λ s. s.span) v t) (part_at (λ s. s.span) w t) refl (meets_at (λ s. s.span) (λ s. s.span) v w t)
-      (subst (λ z. MatchOption (part_at (λ q. q.span) (shared_pieces (λ s. s.span) (λ s. s.span) v w) t) (o ≡ one_of z (option_map (λ s. slice_value value s t) (part_at (λ s. s.span) w t))) (λ q. (x : V) × IsAnswered start end returns q (Ok x) × (o ≡ value_at value (items x) t))) (value_by value v t)
-      (subst (λ z. MatchOption (part_at (λ q. q.span) (shared_pieces (λ s. s.span) (λ s. s.span) v w) t) (o ≡ one_of (value_at value v t) z) (λ q. (x : V) × IsAnswered start end returns q (Ok x) × (o ≡ value_at value (items x) t))) (value_by value w t) h))))
+      subst (λ z. IsMet R t z (value_at value w t) o) (sym (value_by value v t)) (subst (λ z. IsMet R t (option_map (λ s. slice_value value s t) (piece_at (λ s. s.span) v t)) z o) (sym (value_by value w t))
+      (by (piece_at (λ q. q.span) (shared_pieces (λ s. s.span) (λ s. s.span) v w) t) (piece_at (λ s. s.span) v t) (piece_at (λ s. s.span) w t) refl (meets_at (λ s. s.span) (λ s. s.span) v w t)
+      (subst (λ z. MatchOption (piece_at (λ q. q.span) (shared_pieces (λ s. s.span) (λ s. s.span) v w) t) (o ≡ one_of z (option_map (λ s. slice_value value s t) (piece_at (λ s. s.span) w t))) (λ q. (x : V) × IsAnswered start end returns q (Ok x) × (o ≡ value_at value (items x) t))) (value_by value v t)
+      (subst (λ z. MatchOption (piece_at (λ q. q.span) (shared_pieces (λ s. s.span) (λ s. s.span) v w) t) (o ≡ one_of (value_at value v t) z) (λ q. (x : V) × IsAnswered start end returns q (Ok x) × (o ≡ value_at value (items x) t))) (value_by value w t) h))))
     where
-      by : (found : Option (PieceOf (Slice C) (Slice C))) (a b : Option (Slice C)) → part_at (λ q. q.span) (shared_pieces (λ s. s.span) (λ s. s.span) v w) t ≡ found → option_map (sides (λ s. s.span) (λ s. s.span)) found ≡ option_zip a b
+      by : (found : Option (PieceOf (Slice C) (Slice C))) (a b : Option (Slice C)) → piece_at (λ q. q.span) (shared_pieces (λ s. s.span) (λ s. s.span) v w) t ≡ found → option_map (sides (λ s. s.span) (λ s. s.span)) found ≡ option_zip a b
           → MatchOption found (o ≡ one_of (option_map (λ s. slice_value value s t) a) (option_map (λ s. slice_value value s t) b)) (λ q. (x : V) × IsAnswered start end returns q (Ok x) × (o ≡ value_at value (items x) t))
           → IsMet R t (option_map (λ s. slice_value value s t) a) (option_map (λ s. slice_value value s t) b) o
       by None None b f e m = m

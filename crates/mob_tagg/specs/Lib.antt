@@ -2,3 +2,5 @@ pub mod Gathered
 pub mod Last
 pub mod United
 pub mod UnitingLaws
+pub mod Aggregates
+pub mod Rows

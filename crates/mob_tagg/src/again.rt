@@ -10,23 +10,23 @@ ghost use Rattle.mob_slice.specs.Look.{IsLooked, IsLookFault};
 ghost use Rattle.mob_slice.specs.Sides.{HasValues, at_ends};
 ghost use Rattle.mob_slice.specs.Slices.{IsSound};
 ghost use Rattle.mob_slice.specs.declared.formula.Formula.TheVariants.{F2};
-ghost use Rattle.mob_tagg.specs.Last.{IsLast, IsOf};
+ghost use Rattle.mob_sync.specs.Alike.{AreAlike};
+ghost use Rattle.mob_tagg.specs.Last.{IsLast};
 
 use mob_arith::Summed;
 use mob_frac::Frac;
-use mob_slice::{Course, LookFault, OpFault, Slice, limit};
+use mob_slice::{Course, LookFault, OpFault, Slice, cut_from, limit};
 use mob_span::Span;
+use mob_sync::are_alike;
 use std::alloc::Global;
 use std::cell::Cell;
 use std::marker::Model;
 
-/// A piece of two values: the ends and the course of the slice of the second there, what the two are on
-/// the piece, and a course that ends with their sum.
+/// A piece of two values: the slice of the second there, what the two are on the piece, and a course
+/// that ends with their sum.
 #[derive(Drop)]
 pub struct Ends<C> {
-    pub(crate) lower: Frac,
-    pub(crate) upper: Frac,
-    pub(crate) of: C,
+    pub(crate) of: Slice<C>,
     pub(crate) left: Slice<C>,
     pub(crate) right: Slice<C>,
     pub(crate) sum: C,
@@ -66,21 +66,13 @@ impl<C: Summed> Last<C> {
 
 // Whether a piece ends at an instant, on a slice of the second value.
 fn is_of<C: Course>(ends: &Ends<C>, slice: &Slice<C>, t: &Frac) -> bool
-    ensures of { result ≡ true → IsOf ends.now slice.now t.now }
+    ensures at { result ≡ true → t.now ≡ ends.now.right.span.upper }
+    ensures alike { result ≡ true → AreAlike slice.now ends.now.of }
 {
     if !t.is_same(ends.right.span.upper()) {
         return false;
     }
-    if !slice.span.lower().is_same(&ends.lower) {
-        return false;
-    }
-    if !slice.span.upper().is_same(&ends.upper) {
-        return false;
-    }
-    if !C::same(slice.course.start(), ends.of.start()) {
-        return false;
-    }
-    C::same(slice.course.end(), ends.of.end())
+    are_alike(slice, &ends.of)
 }
 
 // The value of a slice at an instant, as `limit` gives it.
@@ -137,18 +129,10 @@ where
     requires holds { IsSound C.start_of C.end_of slice.now × (is_inside slice.now.span span.now ≡ true) }
     ensures slice { MatchResult result (λ s. HasValues C.value_of C.start_of C.end_of (slice_value C.value_of slice.now) span.now s × AllFit (at_ends (slice_parts C.parts_of slice.now) span.now)) (IsLookFault C.copy_allocates (at_ends (slice_parts C.parts_of slice.now) span.now)) }
 {
-    let from = match limit_again(alloc, slice, span.lower(), last) {
-        Ok(from) => from,
-        Err(fault) => return Err(fault),
-    };
-    let to = match limit(alloc, slice, span.upper()) {
-        Ok(to) => to,
-        Err(fault) => return Err(fault),
-    };
-    Ok(Slice {
-        span: *span,
-        course: C::of(from, to),
-    })
+    match limit_again(alloc, slice, span.lower(), last) {
+        Ok(from) => cut_from(alloc, slice, span, from),
+        Err(fault) => Err(fault),
+    }
 }
 
 /// The sum of two values.
@@ -241,9 +225,10 @@ where
         return;
     };
     let _old = memo.replace(Some(Last::new(Ends {
-        lower: *of.span.lower(),
-        upper: *of.span.upper(),
-        of: course,
+        of: Slice {
+            span: of.span,
+            course,
+        },
         left,
         right,
         sum,

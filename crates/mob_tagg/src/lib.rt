@@ -1,5 +1,5 @@
 //! Temporal values taken together: at each instant what one of two has, or what is made of both;
-//! and many values, two by two.
+//! and many values, two by two. What the aggregate of a list is, is in `specs/Aggregates.antt`.
 #![tactic(auto)]
 
 mod adding;
@@ -8,7 +8,6 @@ pub mod laws;
 mod parts;
 mod taking;
 mod uniting;
-mod walking;
 
 pub use adding::{add_in, and_in, one, ones_of, or_in};
 pub use parts::{Part, Uniting, gathered, with_value};

@@ -18,8 +18,7 @@ ghost use Rattle.mob_shares.specs.Shares.{share_of, HoldsShare};
 ghost use Rattle.mob_tagg.specs.United.{IsChecked};
 ghost use Rattle.mob_shares.specs.Taken.{entry_alone, IsShareGiven, piece_parts, AreFull, AreTaken, IsFirstRefused};
 
-use crate::walking::one_each;
-use mob_lift::{lift, listed};
+use mob_lift::{lift, lift_each, listed};
 use mob_normal::normal;
 use mob_shares::{Share, Shares};
 use mob_slice::{Course, Moving, One, OpFault, Pair, Slice, cut, operator_fault};
@@ -139,6 +138,32 @@ where
     }
 }
 
+// How many pieces two values have where neither has a gap: one for each end of a slice, and one
+// where the first begins before the second, or behind it. A list grows where more come.
+fn expected<C>(lefts: &[Slice<C>], rights: &[Slice<C>]) -> usize {
+    let mut lefts = lefts;
+    let mut rights = rights;
+    let mut count = 1usize;
+    'ends: loop {
+        let Some((left, later_lefts)) = lefts.split_first() else {
+            return count.saturating_add(rights.len());
+        };
+        let Some((right, later_rights)) = rights.split_first() else {
+            return count.saturating_add(lefts.len());
+        };
+        count = count.saturating_add(1);
+        if right.span.ends_before(&left.span) {
+            rights = later_rights;
+            continue 'ends;
+        }
+        lefts = later_lefts;
+        if left.span.ends_before(&right.span) {
+            continue 'ends;
+        }
+        rights = later_rights;
+    }
+}
+
 /// The same as `together`, where `both` makes one slice of a piece. No list is made for a piece.
 pub fn merged<'a, C: Course + Drop, F: Fn(&Pair<'a, C, C>) -> Result<Slice<C>, OpFault> + Drop>(
     alloc: Global,
@@ -158,10 +183,9 @@ where
 {
     let lefts = a.slices();
     let rights = b.slices();
-    let expected = lefts.len().saturating_add(rights.len()).saturating_add(1);
-    one_each(
+    lift_each(
         alloc,
-        expected,
+        expected(lefts, rights),
         Shares::new(lefts, rights),
         |share: &Share<'_, C>| -> Result<Slice<C>, OpFault>
             requires callable { (p : _) → IsPairFit C.start_of C.end_of C.start_of C.end_of p.now → F.pre both p }

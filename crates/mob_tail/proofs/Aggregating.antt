@@ -10,7 +10,6 @@ use Rattle.mob_arith.specs.Operations.{sum_of, both_hold, one_holds}
 use Rattle.mob_slice.specs.CourseOf.{CourseOf, steady_course, line_course}
 use Rattle.mob_slice.specs.Lines.{line_value_of}
 use Rattle.mob_slice.specs.Operands.{steady_value, steady_limit}
-use Rattle.mob_slice.specs.Sameness.{same_bool}
 use Rattle.mob_slice.specs.declared.line.Line.{Line}
 use Rattle.mob_slice.specs.Entries.{Entry, IsFirst, OnFormula}
 use Rattle.mob_slice.specs.Slices.{value_at}
@@ -28,11 +27,12 @@ use Rattle.mob_meaning.specs.declared.choices.Calculation.TheVariants.{Sum as Ad
 use Rattle.mob_meaning.specs.Arithmetic.{arithmetic_entries, parts_on}
 use Rattle.mob_meaning.specs.Calculations.{parts_by}
 use Rattle.mob_frac.specs.Formula.{AllFit}
+use Rattle.mob_span.specs.Flags.{same_bool}
 use Rattle.mob_value.specs.declared.value.Value.TheVariants as value
 use Rattle.mob_ordinary.specs.Moving.{AreNormalBy, IsFunction, StepSlices, or_nothing}
 use Rattle.mob_ordinary.specs.Ordinary.{is_null}
-use Rattle.mob_aggregates.specs.Aggregates.{put_there, made_of, IsAggregate, JoinsBy, total, count, all_hold, some_holds}
-use Rattle.mob_aggregates.proofs.Joining.{total_joins, all_joins, some_joins, aggregate_one, aggregate_both, aggregate_same, aggregate_first}
+use Rattle.mob_tagg.specs.Aggregates.{put_there, made_of, IsAggregate, JoinsBy, total, count, all_hold, some_holds}
+use Rattle.mob_tagg.proofs.Joining.{total_joins, all_joins, some_joins, aggregate_one, aggregate_both, aggregate_same, aggregate_first}
 use Rattle.mob_tail.specs.Aggregated.{counted, known_of, number_in, numbers_of, IsOverTime, IsAggregated, leaves_out, AddingPasses, IsUnion, IsAggregateWith, one_where, one_there, slices_there, step_there, line_there, truth_there, steps_of, lines_of, truths_of}
 
 -- ---- over time

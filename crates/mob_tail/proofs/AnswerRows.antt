@@ -1,14 +1,17 @@
 -- Rows as values, and as they are printed.
-use Rattle.std.proofs.Common.{◌≡◌, ℕ, ℤ, ◌+◌, Bool, List, [], ◌∷◌, ◌++◌, Ok, length, map, take, drop, refl, sym, ap, subst, ◌∙◌, arith}
+use Rattle.std.proofs.Common.{◌≡◌, ℕ, ℤ, ◌+◌, Bool, List, [], ◌∷◌, ◌++◌, Ok, Err, inl, inr, length, map, take, drop, refl, sym, ap, subst, ◌∙◌, arith}
 use Rattle.std.specs.List.{AllZip}
 use Rattle.std.proofs.Math.Seq.{take-append_seam, drop-append_seam}
 use Rattle.mob_typed.specs.Trees.{TypedTree}
-use Rattle.mob_typed.specs.Selects.{TypedSelectParts}
+use Rattle.mob_typed.specs.Selects.{Output, TypedSelectParts}
 use Rattle.mob_value.specs.declared.value.Value.{Value}
 use Rattle.mob_literal.specs.Fields.{field_text}
 use Rattle.mob_meaning.specs.Scene.{Scene}
+use Rattle.mob_meaning.specs.Evaluation.{Fault, TreeEvaluatesTo}
 use Rattle.mob_tail.specs.IsMadeOfEach.{IsMadeOfEach}
 use Rattle.mob_tail.specs.Answers.{IsField, IsKey, IsRowOf}
+use Rattle.mob_tail.specs.Evaluated.{AreEvaluated}
+use Rattle.mob_tail.specs.Recalling.{item_trees, key_trees}
 use Rattle.mob_value.specs.declared.store.Store.{Store}
 use Rattle.mob_tail.specs.GroupedAnswers.{columns_of, keys_from, IsColumnValue, IsGroupRow}
 use Rattle.mob_tail.specs.AnswerRows.{falls_of, answer_row, IsGroupRowOf}
@@ -19,10 +22,6 @@ count_map : {X Y : Type 0} (f : X → Y) (xs : List X) → length (map f xs) ≡
 count_map f [] = refl
 count_map f (x ∷ xs) = let e = count_map f xs in omega (arith, e)
 
-pub map_twice : {X Y Z : Type 0} (f : X → Y) (g : Y → Z) (xs : List X) → map g (map f xs) ≡ map (λ x. g (f x)) xs
-map_twice f g [] = refl
-map_twice f g (x ∷ xs) = ap (λ z. g (f x) ∷ z) (map_twice f g xs)
-
 -- the keys come first, as many as there are
 pub row_is : (select : TypedSelectParts) (day : ℤ) (keys fields : List Value) → length keys ≡ length select.keys → answer_row select day (keys ++ fields) ≡ record { fields = map (field_text day) fields; keys = keys }
 row_is select day keys fields e =
@@ -32,10 +31,43 @@ row_is select day keys fields e =
     λ i. record { fields = map (field_text day) (back i); keys = front i }
 
 -- the row of a tuple
-pub row_evaluated : (select : TypedSelectParts) (s : Scene) (keys fields row : List Value) → IsMadeOfEach (IsField s) select.items (Ok (map (field_text s.day) fields)) → IsMadeOfEach (IsKey s) select.keys (Ok keys) → row ≡ keys ++ fields → IsRowOf select s (Ok (answer_row select s.day row))
+row_evaluated : (select : TypedSelectParts) (s : Scene) (keys fields row : List Value) → IsMadeOfEach (IsField s) select.items (Ok (map (field_text s.day) fields)) → IsMadeOfEach (IsKey s) select.keys (Ok keys) → row ≡ keys ++ fields → IsRowOf select s (Ok (answer_row select s.day row))
 row_evaluated select s keys fields row made kept e =
     let is : answer_row select s.day row ≡ record { fields = map (field_text s.day) fields; keys = keys } = ap (answer_row select s.day) e ∙ row_is select s.day keys fields (made_length (IsKey s) select.keys keys kept) in
     subst (λ r. IsRowOf select s (Ok r)) (sym is) (made, kept)
+
+-- what the expressions of the select list and of the keys give, as fields and as keys
+module _ (s : Scene) where
+  fields_made : (items : List Output) (values : List Value) → IsMadeOfEach (TreeEvaluatesTo s) (map (λ (item : Output). item.0) items) (Ok values) → IsMadeOfEach (IsField s) items (Ok (map (field_text s.day) values))
+  fields_made [] values h = ap (map (field_text s.day)) h
+  fields_made (x ∷ xs) values h = (field_text s.day h.0, (h.0, h.1, refl), (map (field_text s.day) h.2.0, ap (map (field_text s.day)) h.2.1, fields_made xs h.2.0 h.2.2))
+
+  fields_fail : (items : List Output) (f : Fault) → IsMadeOfEach (TreeEvaluatesTo s) (map (λ (item : Output). item.0) items) (Err f) → IsMadeOfEach (IsField s) items (Err f)
+  fields_fail [] f h = h
+  fields_fail (x ∷ xs) f (inl h) = inl h
+  fields_fail (x ∷ xs) f (inr h) = inr (field_text s.day h.0, (h.0, h.1, refl), fields_fail xs f h.2)
+
+  keys_made : (keys : List (TypedTree × Bool)) (values : List Value) → IsMadeOfEach (TreeEvaluatesTo s) (map (λ (key : TypedTree × Bool). key.0) keys) (Ok values) → IsMadeOfEach (IsKey s) keys (Ok values)
+  keys_made [] values h = h
+  keys_made (x ∷ xs) values h = (h.0, h.1, (h.2.0, h.2.1, keys_made xs h.2.0 h.2.2))
+
+  keys_fail : (keys : List (TypedTree × Bool)) (f : Fault) → IsMadeOfEach (TreeEvaluatesTo s) (map (λ (key : TypedTree × Bool). key.0) keys) (Err f) → IsMadeOfEach (IsKey s) keys (Err f)
+  keys_fail [] f h = h
+  keys_fail (x ∷ xs) f (inl h) = inl h
+  keys_fail (x ∷ xs) f (inr h) = inr (h.0, h.1, keys_fail xs f h.2)
+
+  evaluated_fault : (select : TypedSelectParts) (f : Fault) → AreEvaluated s (item_trees select) (key_trees select) (Err f) → IsRowOf select s (Err f)
+  evaluated_fault select f (inl h) = inl (fields_fail select.items f h)
+  evaluated_fault select f (inr h) = inr (map (field_text s.day) h.0, fields_made select.items h.0 h.1, keys_fail select.keys f h.2)
+
+  module _ (select : TypedSelectParts) (items keys : List TypedTree) (these : items ≡ item_trees select) (those : keys ≡ key_trees select) where
+    pub row_seen : (row : List Value) → AreEvaluated s items keys (Ok row) → IsRowOf select s (Ok (answer_row select s.day row))
+    row_seen row (fields, front, made, kept, is) =
+        row_evaluated select s front fields row (fields_made select.items fields (subst (λ es. IsMadeOfEach (TreeEvaluatesTo s) es (Ok fields)) these made))
+        (keys_made select.keys front (subst (λ es. IsMadeOfEach (TreeEvaluatesTo s) es (Ok front)) those kept)) is
+
+    pub row_fails : (f : Fault) → AreEvaluated s items keys (Err f) → IsRowOf select s (Err f)
+    row_fails f h = evaluated_fault select f (subst (λ es. AreEvaluated s es (key_trees select) (Err f)) these (subst (λ es. AreEvaluated s items es (Err f)) those h))
 
 keys_counted : (select : TypedSelectParts) (store : Store) (day : ℤ) (group : List (List ℕ)) (values : List Value) (n : ℕ) (keys : List (TypedTree × Bool)) → length (keys_from select store day group values n keys) ≡ length keys
 keys_counted select store day group values n [] = refl

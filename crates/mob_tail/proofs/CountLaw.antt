@@ -12,7 +12,7 @@ use Rattle.mob_typed.specs.declared.typed.Agg.{Agg}
 use Rattle.mob_value.specs.declared.value.Value.{Value}
 use Rattle.mob_value.specs.declared.store.Store.{Store}
 use Rattle.mob_meaning.specs.Evaluation.{Fault}
-use Rattle.mob_aggregates.specs.Rows.{earlier}
+use Rattle.mob_tagg.specs.Rows.{earlier}
 use Rattle.mob_tail.specs.Aggregated.{leaves_out, adding_entries, AddingPasses}
 use Rattle.mob_tail.specs.Groups.{same_group}
 use Rattle.mob_tail.specs.GroupedAnswers.{AddingFails}

@@ -33,7 +33,7 @@ use Rattle.mob_meaning.specs.Arithmetic.{arithmetic_entries}
 use Rattle.mob_ordinary.specs.Moving.{StepSlices, or_nothing}
 use Rattle.mob_ordinary.specs.Ordinary.{is_null}
 use Rattle.mob_tagg.proofs.Unions.{none_at}
-use Rattle.mob_aggregates.specs.Aggregates.{put_there, values_at, made_of, IsAggregate, count}
+use Rattle.mob_tagg.specs.Aggregates.{put_there, values_at, made_of, IsAggregate, count}
 use Rattle.mob_tail.specs.Aggregated.{counted, known_of, one_there, IsAggregated, adding_entries}
 use Rattle.mob_tail.specs.States.{is_count}
 

@@ -12,8 +12,8 @@ use Rattle.mob_meaning.specs.Scene.{Scene, scene}
 use Rattle.mob_meaning.specs.Evaluation.{Fault}
 use Rattle.mob_eval.proofs.Loops.{drop_read}
 use Rattle.mob_groups.specs.Groups.{first_keys, group_number}
-use Rattle.mob_aggregates.specs.Rows.{IsTuple}
-use Rattle.mob_aggregates.proofs.RowSteps.{none_more, fault_at}
+use Rattle.mob_tagg.specs.Rows.{IsTuple}
+use Rattle.mob_tagg.proofs.RowSteps.{none_more, fault_at}
 use Rattle.mob_tail.specs.declared.columns.Column.{Column as ColumnOf}
 use Rattle.mob_tail.specs.declared.grouped.Cell.{Cell}
 use Rattle.mob_tail.specs.declared.grouped.Group.{Group}

@@ -1,4 +1,5 @@
 mod PlanRows
+mod Fitting
 mod Making
 mod OneAnswer
 mod Aggregating
@@ -6,7 +7,6 @@ mod TupleSteps
 mod GroupKeys
 mod ColumnValues
 mod GroupLoop
-mod Changing
 mod OneGroup
 mod KeysSeen
 mod GroupExamples

@@ -1,9 +1,8 @@
 -- How far a loop is that makes something of each entry of a list.
-use Rattle.std.proofs.Common.{◌≡◌, ◌⊎◌, inl, inr, ℕ, ◌+◌, ◌<◌, List, [], ◌∷◌, ◌++◌, Result, Ok, Err, length, map, take, drop, get_or, ◌≤◌, refl, sym, ap, subst, ◌∙◌, arith}
+use Rattle.std.proofs.Common.{◌≡◌, inl, inr, ℕ, ◌+◌, ◌<◌, List, [], ◌∷◌, ◌++◌, Result, Ok, Err, length, map, take, drop, get_or, ◌≤◌, refl, sym, ap, subst, ◌∙◌, arith}
 use Rattle.std.proofs.lemmas.List.{take_more, take_all, take-append-drop}
 use Rattle.mob_meaning.specs.Evaluation.{Fault}
 use Rattle.mob_eval.specs.Faults.{OnPassed}
-use Rattle.mob_slice.specs.declared.formula.Formula.{Formula}
 use Rattle.mob_eval.specs.declared.fault.EvalFault.{EvalFault}
 use Rattle.mob_eval.specs.declared.fault.EvalFault.TheVariants.{Passed, NoMemory}
 use Rattle.mob_tail.specs.IsMadeOfEach.{IsMadeOfEach}
@@ -37,21 +36,18 @@ module _ {X Y F : Type 0} (R : X → Result Y F → Type 0) where
   made_length [] ys h = ap length h
   made_length (x ∷ xs) ys h = let e = made_length xs h.2.0 h.2.2 in let all = ap length h.2.1 in omega (arith, e, all)
 
--- What is made of the entries of a list, as it is seen, is made of what they are seen as, and so is
--- the first fault.
-module _ {W X Y Z : Type 0} (G : W → Result Y EvalFault → Type 0) (R : X → Result Z Fault → Type 0) (see : W → X) (show : Y → Z) where
-  pub each_seen : (ws : List W) (ys : List Y) → IsMadeOfEach G ws (Ok ys) → ((w : W) (y : Y) → G w (Ok y) → R (see w) (Ok (show y))) → IsMadeOfEach R (map see ws) (Ok (map show ys))
-  each_seen [] ys h good = ap (map show) h
-  each_seen (w ∷ ws) ys h good = (show h.0, good w h.0 h.1, (map show h.2.0, ap (map show) h.2.1, each_seen ws h.2.0 h.2.2 good))
+-- what is made of what each entry is seen as
+module _ {W X Y F : Type 0} (R : X → Result Y F → Type 0) (see : W → X) where
+  pub made_seen : (ws : List W) (ys : List Y) → IsMadeOfEach (λ w. R (see w)) ws (Ok ys) → IsMadeOfEach R (map see ws) (Ok ys)
+  made_seen [] ys h = h
+  made_seen (w ∷ ws) ys h = (h.0, h.1, (h.2.0, h.2.1, made_seen ws h.2.0 h.2.2))
 
-  passed_seen : (ws : List W) (place : ℕ) (formula : Formula) → IsMadeOfEach G ws (Err (Passed place formula)) → ((w : W) (y : Y) → G w (Ok y) → R (see w) (Ok (show y))) → ((w : W) (e : EvalFault) → G w (Err e) → OnPassed (λ f. R (see w) (Err f)) e)
-      → IsMadeOfEach R (map see ws) (Err (place, formula))
-  passed_seen [] place formula h good bad = h
-  passed_seen (w ∷ ws) place formula (inl h) good bad = inl (bad w (Passed place formula) h)
-  passed_seen (w ∷ ws) place formula (inr h) good bad = inr (show h.0, good w h.0 h.1, passed_seen ws place formula h.2 good bad)
+  pub fault_seen : (ws : List W) (f : F) → IsMadeOfEach (λ w. R (see w)) ws (Err f) → IsMadeOfEach R (map see ws) (Err f)
+  fault_seen [] f h = h
+  fault_seen (w ∷ ws) f (inl h) = inl h
+  fault_seen (w ∷ ws) f (inr h) = inr (h.0, h.1, fault_seen ws f h.2)
 
-  pub fault_seen : (ws : List W) (e : EvalFault) → IsMadeOfEach G ws (Err e) ⊎ (e ≡ NoMemory) → ((w : W) (y : Y) → G w (Ok y) → R (see w) (Ok (show y))) → ((w : W) (e : EvalFault) → G w (Err e) → OnPassed (λ f. R (see w) (Err f)) e)
-      → OnPassed (λ f. IsMadeOfEach R (map see ws) (Err f)) e
-  fault_seen ws (Passed place formula) (inl h) good bad = passed_seen ws place formula h good bad
-  fault_seen ws (Passed place formula) (inr h) good bad = absurd cc
-  fault_seen ws NoMemory h good bad = tt
+-- a fault that is one in other words
+pub on_passed : (P Q : Fault → Type 0) → ((f : Fault) → P f → Q f) → (e : EvalFault) → OnPassed P e → OnPassed Q e
+on_passed P Q step (Passed place formula) h = step (place, formula) h
+on_passed P Q step NoMemory h = h

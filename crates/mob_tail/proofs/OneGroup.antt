@@ -5,9 +5,9 @@ use Rattle.std.specs.List.{AllZip}
 use Rattle.mob_ratio.specs.Ratio.{Ratio}
 use Rattle.mob_ratio.specs.Order.{same}
 use Rattle.mob_ratio.proofs.Order.{same_exact}
+use Rattle.mob_span.specs.Flags.{same_bool, same_bool_exact}
 use Rattle.mob_slice.specs.CourseOf.{CourseOf, steady_course, line_course}
 use Rattle.mob_slice.specs.Entries.{IsFirst}
-use Rattle.mob_slice.specs.Sameness.{same_bool, same_bool_exact}
 use Rattle.mob_slice.specs.declared.slice.Slice.{Slice}
 use Rattle.mob_slice.specs.declared.formula.Formula.{Formula}
 use Rattle.mob_slice.proofs.Firsts.{one_first}
@@ -28,9 +28,9 @@ use Rattle.mob_meaning.specs.Scene.{Scene, scene}
 use Rattle.mob_meaning.specs.Outcomes.{HasOneOutcome, IsOne}
 use Rattle.mob_meaning.specs.Evaluation.{Fault}
 use Rattle.mob_eval.specs.QueryFaults.{TupleFault}
-use Rattle.mob_aggregates.specs.Aggregates.{total, count, all_hold, some_holds}
-use Rattle.mob_aggregates.proofs.Joining.{one_aggregate}
-use Rattle.mob_aggregates.proofs.OneRow.{one_row_fault}
+use Rattle.mob_tagg.specs.Aggregates.{total, count, all_hold, some_holds}
+use Rattle.mob_tagg.proofs.Joining.{one_aggregate}
+use Rattle.mob_tagg.proofs.OneRow.{one_row_fault}
 use Rattle.mob_arrange.specs.Keyed.{Keyed}
 use Rattle.mob_tail.specs.Aggregated.{IsOverTime, IsAggregated, leaves_out, adding_entries, AddingPasses, one_there, step_there, line_there, truth_there}
 use Rattle.mob_tail.specs.Groups.{same_group}

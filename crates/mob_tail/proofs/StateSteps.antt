@@ -6,9 +6,9 @@ use Rattle.mob_ratio.specs.Order.{same}
 use Rattle.mob_ratio.proofs.Order.{same_exact}
 use Rattle.mob_arith.specs.Operations.{sum_of, both_hold, one_holds}
 use Rattle.mob_span.proofs.SpanLemmas.{some_instant}
+use Rattle.mob_span.specs.Flags.{same_bool, same_bool_exact}
 use Rattle.mob_slice.specs.CourseOf.{steady_course}
 use Rattle.mob_slice.specs.Operands.{steady_value, steady_limit}
-use Rattle.mob_slice.specs.Sameness.{same_bool, same_bool_exact}
 use Rattle.mob_slice.specs.Slices.{value_at}
 use Rattle.mob_slice.specs.declared.formula.OpFault.{OpFault}
 use Rattle.mob_slice.specs.declared.formula.OpFault.TheVariants.{Passed, NoMemory}
@@ -24,8 +24,8 @@ use Rattle.mob_tagg.specs.Gathered.{united_all, parts_at, whole_at}
 use Rattle.mob_tagg.specs.United.{united_by}
 use Rattle.mob_tagg.specs.declared.parts.Part.{Part}
 use Rattle.mob_tagg.proofs.Unions.{normal_union}
-use Rattle.mob_aggregates.specs.Aggregates.{IsAggregate, JoinsBy, count, all_hold, some_holds}
-use Rattle.mob_aggregates.proofs.Joining.{count_joins, all_joins, some_joins}
+use Rattle.mob_tagg.specs.Aggregates.{IsAggregate, JoinsBy, count, all_hold, some_holds}
+use Rattle.mob_tagg.proofs.Joining.{count_joins, all_joins, some_joins}
 use Rattle.mob_tail.specs.declared.state.State.{State}
 use Rattle.mob_tail.specs.declared.state.State.TheVariants.{Whole, Counts, All, Any}
 use Rattle.mob_tail.specs.Aggregated.{IsOverTime, IsAggregated, IsUnion, IsAggregateWith, leaves_out, one_there, truth_there, slices_there, steps_of, truths_of}

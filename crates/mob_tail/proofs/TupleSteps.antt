@@ -13,8 +13,8 @@ use Rattle.mob_meaning.specs.Evaluation.{Fault}
 use Rattle.mob_eval.specs.Faults.{OnPassed}
 use Rattle.mob_eval.specs.declared.fault.EvalFault.{EvalFault}
 use Rattle.mob_eval.specs.declared.fault.EvalFault.TheVariants.{Passed, NoMemory}
-use Rattle.mob_tail.proofs.Changing.{AreChanged}
-use Rattle.mob_aggregates.specs.Rows.{AreValues, IsItem, IsTuple}
+use Rattle.mob_list.proofs.Changing.{AreChanged}
+use Rattle.mob_tagg.specs.Rows.{AreValues, IsItem, IsTuple}
 use Rattle.mob_tail.specs.declared.grouped.Cell.{Cell}
 use Rattle.mob_tail.specs.GroupedAnswers.{Column, IsArgumentOn, IsAddingTo}
 use Rattle.mob_tail.specs.declared.state.State.{State}

@@ -3,12 +3,12 @@
 use Rattle.std.specs.Prelude.{◌≡◌, not, Bool, true, false, ℕ, pos, List, [], ◌∷◌, ◌++◌, filter, length, Option, Some, None, option_map, Result, Ok, Err}
 use Rattle.mob_ratio.specs.Ratio.{Ratio, whole}
 use Rattle.mob_ratio.specs.Order.{same}
+use Rattle.mob_span.specs.Flags.{same_bool}
 use Rattle.mob_slice.specs.CourseOf.{CourseOf, steady_course, line_course}
 use Rattle.mob_slice.specs.Entries.{Entry, IsFirst}
 use Rattle.mob_slice.specs.Lines.{line_value_of}
 use Rattle.mob_slice.specs.Operands.{steady_value}
 use Rattle.mob_slice.specs.Slices.{value_at}
-use Rattle.mob_slice.specs.Sameness.{same_bool}
 use Rattle.mob_slice.specs.declared.slice.Slice.{Slice}
 use Rattle.mob_slice.specs.declared.formula.Formula.{Formula}
 use Rattle.mob_slice.specs.declared.formula.OpFault.{OpFault}
@@ -26,7 +26,7 @@ use Rattle.mob_meaning.specs.Arithmetic.{arithmetic_entries}
 use Rattle.mob_ordinary.specs.Moving.{AreNormalBy, StepSlices, or_nothing, step_function, line_function, plane_function}
 use Rattle.mob_ordinary.specs.Ordinary.{is_null}
 use Rattle.mob_tagg.specs.United.{AreUnited}
-use Rattle.mob_aggregates.specs.Aggregates.{put_there, made_of, IsAggregate, total, count, all_hold, some_holds}
+use Rattle.mob_tagg.specs.Aggregates.{put_there, made_of, IsAggregate, total, count, all_hold, some_holds}
 
 -- so many, as a value
 abbrev pub counted : ℕ → Value

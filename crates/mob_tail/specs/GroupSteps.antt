@@ -36,8 +36,8 @@ abbrev pub IsPlainOn : Scene → TypedTree → Bool → State → State → Type
 IsPlainOn s e true before x = x ≡ Whole (column_on s e)
 IsPlainOn s e false before x = x ≡ before
 
--- the same of a column of the answer; the fourth argument says whether the tuple is the first of
--- its group
+-- a column of the answer with one more tuple, or its fault there; the fourth argument says whether
+-- the tuple is the first of its group
 abbrev pub IsColumnWith : Scene → Column → State → Bool → Result State Fault → Type 0
 IsColumnWith s (e, Some agg) before first r = IsAggregateOn s e agg before r
 IsColumnWith s (e, None) before first (Ok x) = IsPlainOn s e first before x

@@ -15,7 +15,7 @@ use Rattle.mob_literal.specs.Fields.{field_text}
 use Rattle.mob_meaning.specs.Scene.{Scene, scene}
 use Rattle.mob_meaning.specs.Evaluation.{Fault, TreeEvaluatesTo}
 use Rattle.mob_eval.specs.QueryFaults.{TupleFault}
-use Rattle.mob_aggregates.specs.Rows.{IsRowFault, Adds}
+use Rattle.mob_tagg.specs.Rows.{IsRowFault, Adds}
 use Rattle.mob_arrange.specs.Keyed.{Keyed}
 use Rattle.mob_tail.specs.Aggregated.{IsAggregated, IsAdding}
 use Rattle.mob_tail.specs.Groups.{same_group, groups_on, first_value}

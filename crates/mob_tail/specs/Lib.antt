@@ -7,6 +7,8 @@ pub mod Groups
 pub mod IsMadeOfEach
 pub mod AnswerRows
 pub mod AnswerTexts
+pub mod Evaluated
 pub mod Outcomes
 pub mod PlanAnswers
+pub mod Recalling
 pub mod States

@@ -2,10 +2,10 @@
 use Rattle.std.specs.Prelude.{◌≡◌, ◌+◌, ◌<◌, ◌^◌, Bool, true, false, List, [], ◌∷◌, ◌++◌, length, Option, Some, None, MatchOption, Result, Ok, Err}
 use Rattle.mob_ratio.specs.Ratio.{Ratio}
 use Rattle.mob_ratio.specs.Order.{same}
+use Rattle.mob_span.specs.Flags.{same_bool}
 use Rattle.mob_arith.specs.Operations.{sum_of, both_hold, one_holds}
 use Rattle.mob_slice.specs.CourseOf.{steady_course}
 use Rattle.mob_slice.specs.Operands.{steady_value}
-use Rattle.mob_slice.specs.Sameness.{same_bool}
 use Rattle.mob_slice.specs.declared.formula.OpFault.{OpFault}
 use Rattle.mob_slice.specs.declared.formula.OpFault.TheVariants.{Passed, NoMemory}
 use Rattle.mob_slice.specs.declared.steady.Steady.{Steady}
@@ -57,9 +57,9 @@ IsHeld kind _ r = ⊥
 abbrev pub IsStartState : AggKind → State → Type 0
 IsStartState kind s = (ty : SqlType) → (r : Value) × IsHeld kind s r × IsAggregated kind ty [] r
 
--- What holds of the state of an aggregate of fewer than 2^62 values with one more, where `before`
--- is that of the values without it; or of the formula that adding it passes. The first argument
--- says whether the value is left out.
+-- What holds of the state of an aggregate of some values with one more, fewer than 2^62 with the
+-- new one, where `before` is that of the values without it; or of the formula that adding it
+-- passes. The first argument says whether the value is left out.
 abbrev pub IsStateWith : Bool → AggKind → SqlType → State → Value → Result State OpFault → Type 0
 IsStateWith left_out kind ty before v (Ok s) =
     (r : Value) → IsHeld kind before r → (vs : List Value) → IsAggregated kind ty vs r → length vs + 1 < 2 ^ 62

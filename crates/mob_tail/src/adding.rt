@@ -109,19 +109,22 @@ fn copied(alloc: Global, value: &Value) -> Result<Value, OpFault>
     }
 }
 
-// A tint and a tfrac. That the slices of a value are normal is a clause of `slices`.
+// A tint of its slices.
 fn int_value(moving: Moving<Steady<Frac>>) -> Value
     ensures value { result ≡ MovingInt moving }
     ensures normal { AreNormalBy (steady_course same) moving }
 {
+    // The clause of `slices` says that they are normal.
     let _ = moving.slices();
     Value::MovingInt(moving)
 }
 
+// A tfrac of its slices.
 fn frac_value(moving: Moving<Line>) -> Value
     ensures value { result ≡ MovingFrac moving }
     ensures normal { AreNormalBy line_course moving }
 {
+    // The clause of `slices` says that they are normal.
     let _ = moving.slices();
     Value::MovingFrac(moving)
 }
@@ -136,6 +139,7 @@ fn steps_more(alloc: Global, before: Value, value: &Value) -> Result<Value, OpFa
     let Some(moving) = steps_of(value) else {
         return Ok(before);
     };
+    // The clause of `slices` says that they are normal.
     let _ = moving.slices();
     match steps_of(&before) {
         Some(sum) => match add_in(alloc, sum, moving) {
@@ -156,6 +160,7 @@ fn lines_more(alloc: Global, before: Value, value: &Value) -> Result<Value, OpFa
     let Some(moving) = lines_of(value) else {
         return Ok(before);
     };
+    // The clause of `slices` says that they are normal.
     let _ = moving.slices();
     match lines_of(&before) {
         Some(sum) => match add_in(alloc, sum, moving) {
@@ -173,6 +178,7 @@ fn ones_value<C: Course>(
 ) -> Result<Option<Moving<Steady<Frac>>>, AllocError>
     ensures ones { IfOk result (λ o. IsFunction (steady_course same) MovingInt (λ t. one_where (value_at C.value_of moving.now t)) (or_nothing MovingInt o)) }
 {
+    // The clauses of `slices` say that both lists of slices are normal.
     let _ = moving.slices();
     let ones = ones_of(alloc, moving)?;
     let _ = ones.slices();

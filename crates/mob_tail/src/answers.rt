@@ -1,5 +1,5 @@
 // What a query answers.
-ghost use Rattle.std.specs.Prelude.{◌≡◌, Ok, Err, IfOk, IfErr, map};
+ghost use Rattle.std.specs.Prelude.{◌≡◌, ◌++◌, Ok, Err, IfOk, IfErr, map};
 ghost use Rattle.mob_typed.specs.Selects.{select_seen, output_of, key_seen};
 ghost use Rattle.mob_eval.specs.QueryFaults.{OnTuple};
 ghost use Rattle.mob_arrange.specs.RowsText.{IsTextOfArranged};
@@ -7,11 +7,14 @@ ghost use Rattle.mob_tail.specs.AnswerRows.{falls_of, answer_row};
 ghost use Rattle.mob_tail.specs.AnswerTexts.{answer_names, IsAnswerText};
 ghost use Rattle.mob_tail.specs.Answers.{IsPlainAnswer, IsAnswerOnKept};
 ghost use Rattle.mob_tail.specs.GroupedAnswers.{IsGroupedAnswer};
+ghost use Rattle.mob_eval.specs.Remembered.{root_seen};
+ghost use Rattle.mob_tail.specs.Recalling.{AnswerFits, answer_recollection, item_trees, key_trees};
 
 use crate::evaluation::rows_on;
 use crate::grouping::grouped_rows;
+use crate::roots::roots_of;
 use mob_arrange::{Row, arranged_text};
-use mob_eval::QueryFault;
+use mob_eval::{Memory, QueryFault, Remembering, memory_of};
 use mob_list::items::Items;
 use mob_list::text::Text;
 use mob_scalar::Epoch;
@@ -19,6 +22,7 @@ use mob_tuples::Tuple;
 use mob_typed::{TExpr, TypedSelect};
 use mob_value::Store;
 use std::alloc::{AllocError, Global};
+use std::marker::Brand;
 
 // The names of the columns.
 fn names_of(alloc: Global, items: &[(TExpr, Text)]) -> Result<Items<Text>, AllocError>
@@ -64,7 +68,53 @@ fn text_of(
     )
 }
 
-// What a query that is not grouped answers on the tuples that it keeps, or the first fault.
+// What a query that is not grouped answers on the tuples that it keeps, or the first fault, with a
+// memory of the operators of the expressions of its select list and its keys.
+fn answer_on<K: Remembering>(
+    alloc: Global,
+    select: &TypedSelect,
+    roots: &[&TExpr],
+    store: &Store,
+    kept: &[Tuple],
+    epoch: &Epoch,
+    memory: &Memory<K>,
+) -> Result<Vec<u8>, QueryFault>
+    requires roots { map root_seen roots.now ≡ item_trees (select_seen select.now) ++ key_trees (select_seen select.now) }
+    requires fits { AnswerFits K.recollection (select_seen select.now) store.now epoch.now }
+    ensures text { IfOk result (λ text. IsAnswerText (select_seen select.now) (IsPlainAnswer (select_seen select.now) store.now epoch.now kept.now) text.items) }
+    ensures fault { IfErr result (OnTuple (λ f. IsPlainAnswer (select_seen select.now) store.now epoch.now kept.now (Err f))) }
+{
+    let (items, keys) = roots.split_at(select.items.len());
+    match rows_on(alloc, select, items, keys, store, kept, epoch, Some(memory)) {
+        Ok(rows) => match text_of(alloc, select, rows, epoch) {
+            Ok(text) => Ok(text),
+            Err(_) => Err(QueryFault::NoMemory),
+        },
+        Err(fault) => Err(fault),
+    }
+}
+
+// The text of a plain answer, with a memory that is made for it.
+fn answer_with<K: Remembering>(
+    alloc: Global,
+    select: &TypedSelect,
+    store: &Store,
+    kept: &[Tuple],
+    epoch: &Epoch,
+) -> Result<Vec<u8>, QueryFault>
+    requires recollection { K.recollection ≡ answer_recollection (select_seen select.now) store.now epoch.now }
+    ensures text { IfOk result (λ text. IsAnswerText (select_seen select.now) (IsPlainAnswer (select_seen select.now) store.now epoch.now kept.now) text.items) }
+    ensures fault { IfErr result (OnTuple (λ f. IsPlainAnswer (select_seen select.now) store.now epoch.now kept.now (Err f))) }
+{
+    let Ok(all) = roots_of(alloc, select) else {
+        return Err(QueryFault::NoMemory);
+    };
+    let roots = all.as_slice();
+    let memory = memory_of::<K>(alloc, store, select.from.as_slice(), roots);
+    answer_on(alloc, select, roots, store, kept, epoch, &memory)
+}
+
+// The text of a plain answer. What is remembered is picked here.
 fn plain_answer(
     alloc: Global,
     select: &TypedSelect,
@@ -75,13 +125,7 @@ fn plain_answer(
     ensures text { IfOk result (λ text. IsAnswerText (select_seen select.now) (IsPlainAnswer (select_seen select.now) store.now epoch.now kept.now) text.items) }
     ensures fault { IfErr result (OnTuple (λ f. IsPlainAnswer (select_seen select.now) store.now epoch.now kept.now (Err f))) }
 {
-    match rows_on(alloc, select, store, kept, epoch) {
-        Ok(rows) => match text_of(alloc, select, rows, epoch) {
-            Ok(text) => Ok(text),
-            Err(_) => Err(QueryFault::NoMemory),
-        },
-        Err(fault) => Err(fault),
-    }
+    answer_with::<Brand>(alloc, select, store, kept, epoch)
 }
 
 // What a grouped query answers on the tuples that it keeps, or the first fault.

@@ -4,7 +4,7 @@ ghost use Rattle.mob_typed.specs.Trees.{typed_of};
 ghost use Rattle.mob_typed.specs.Selects.{output_of};
 ghost use Rattle.mob_eval.specs.Views.{scene_of};
 ghost use Rattle.mob_eval.specs.Faults.{OnPassed};
-ghost use Rattle.mob_eval.specs.Held.{held};
+ghost use Rattle.mob_ordinary.specs.Held.{held};
 ghost use Rattle.mob_tail.specs.Groups.{is_bare, column_on};
 ghost use Rattle.mob_tail.specs.GroupedAnswers.{agg_at, columns_from, IsArgumentOf};
 ghost use Rattle.mob_tail.specs.GroupSteps.{column_seen};

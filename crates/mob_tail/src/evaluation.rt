@@ -1,25 +1,26 @@
 // The rows of the kept tuples: the values of their fields and of their keys.
-ghost use Rattle.std.specs.Prelude.{◌≡◌, ◌⊎◌, ◌++◌, List, Ok, Err, IfOk, IfErr, MatchResult, map};
-ghost use Rattle.std.specs.Fn.{FnReturnsAt};
-ghost use Rattle.mob_typed.specs.Selects.{select_seen, output_of, key_seen};
+ghost use Rattle.std.specs.Prelude.{◌≡◌, ◌++◌, List, Ok, Err, IfOk, IfErr, MatchResult, map};
+ghost use Rattle.std.specs.List.{AllByRecursion};
+ghost use Rattle.mob_typed.specs.Selects.{select_seen};
 ghost use Rattle.mob_meaning.specs.Scene.{scene};
 ghost use Rattle.mob_eval.specs.Views.{scene_of};
 ghost use Rattle.mob_value.specs.declared.value.Value.{Value as ValueOf};
-ghost use Rattle.mob_eval.specs.Held.{held};
+ghost use Rattle.mob_ordinary.specs.Held.{held};
 ghost use Rattle.mob_eval.specs.Faults.{OnPassed};
 ghost use Rattle.mob_eval.specs.QueryFaults.{OnTuple};
-ghost use Rattle.mob_literal.specs.Fields.{field_text};
+ghost use Rattle.mob_eval.specs.Remembered.{Fits, root_seen};
 ghost use Rattle.mob_meaning.specs.Evaluation.{TreeEvaluatesTo};
 ghost use Rattle.mob_typed.specs.Trees.{typed_of};
 ghost use Rattle.mob_arrange.specs.RowValues.{row_value};
 ghost use Rattle.mob_tail.specs.AnswerRows.{answer_row};
 ghost use Rattle.mob_tail.specs.IsMadeOfEach.{IsMadeOfEach};
-ghost use Rattle.mob_tail.specs.Answers.{IsField, IsKey, IsRowOf, IsTupleRow};
+ghost use Rattle.mob_tail.specs.Answers.{IsRowOf, IsTupleRow};
+ghost use Rattle.mob_tail.specs.Evaluated.{AreEvaluated};
+ghost use Rattle.mob_tail.specs.Recalling.{AnswerFits, SelectFits, item_trees, key_trees};
 
 use mob_arrange::{Row, RowValue};
-use mob_eval::{EvalFault, Held, QueryFault, View, held_value};
+use mob_eval::{EvalFault, Held, Memory, QueryFault, Remembering, View, value_with};
 use mob_list::items::Items;
-use mob_list::text::Text;
 use mob_scalar::Epoch;
 use mob_tuples::Tuple;
 use mob_typed::{TExpr, TypedSelect};
@@ -39,56 +40,39 @@ fn lent<'a>(alloc: Global, found: Held<'a>) -> Result<RowValue<'a>, EvalFault>
     }
 }
 
-// The value of an expression. A stored one is not copied.
-fn value_of<'a>(alloc: Global, view: &View<'a>, e: &TExpr) -> Result<RowValue<'a>, EvalFault>
+// The value of an expression. A stored or remembered one is not copied.
+fn value_of<'a, K: Remembering>(
+    alloc: Global,
+    e: &TExpr,
+    view: &View<'a>,
+    memory: Option<&'a Memory<K>>,
+) -> Result<RowValue<'a>, EvalFault>
+    requires fits { Fits K.recollection (scene_of view.now) (typed_of e.now) }
     ensures value { IfOk result (λ v. TreeEvaluatesTo (scene_of view.now) (typed_of e.now) (Ok (row_value v))) }
     ensures fault { IfErr result (OnPassed (λ f. TreeEvaluatesTo (scene_of view.now) (typed_of e.now) (Err f))) }
 {
-    match held_value(alloc, e, view) {
+    match value_with(alloc, e, view, memory) {
         Ok(found) => lent(alloc, found),
         Err(fault) => Err(fault),
     }
 }
 
-// The value of an entry of the select list.
-fn field_of<'a>(
+// The values of several expressions, in order, or the first fault.
+fn values_on<'a, K: Remembering>(
     alloc: Global,
+    roots: &[&TExpr],
     view: &View<'a>,
-    item: &(TExpr, Text),
-) -> Result<RowValue<'a>, EvalFault>
-    ensures field { IfOk result (λ v. IsField (scene_of view.now) (output_of item.now) (Ok (field_text view.now.epoch.now (row_value v)))) }
-    ensures fault { IfErr result (OnPassed (λ f. IsField (scene_of view.now) (output_of item.now) (Err f))) }
+    memory: Option<&'a Memory<K>>,
+) -> Result<Items<RowValue<'a>>, EvalFault>
+    requires fit { AllByRecursion (Fits K.recollection (scene_of view.now)) (map root_seen roots.now) }
+    ensures values { IfOk result (λ vs. IsMadeOfEach (TreeEvaluatesTo (scene_of view.now)) (map root_seen roots.now) (Ok (map row_value vs))) }
+    ensures fault { IfErr result (OnPassed (λ f. IsMadeOfEach (TreeEvaluatesTo (scene_of view.now)) (map root_seen roots.now) (Err f))) }
 {
-    value_of(alloc, view, &item.0)
-}
-
-// The value of a key.
-fn key_of<'a>(
-    alloc: Global,
-    view: &View<'a>,
-    key: &(TExpr, bool),
-) -> Result<RowValue<'a>, EvalFault>
-    ensures key { IfOk result (λ v. IsKey (scene_of view.now) (key_seen key.now) (Ok (row_value v))) }
-    ensures fault { IfErr result (OnPassed (λ f. IsKey (scene_of view.now) (key_seen key.now) (Err f))) }
-{
-    value_of(alloc, view, &key.0)
-}
-
-// What `make` gives for each entry, in order, or its first fault.
-fn each_of<T, V: Drop, F: Fn(&T) -> Result<V, EvalFault>>(
-    alloc: Global,
-    entries: &[T],
-    make: F,
-) -> Result<Items<V>, EvalFault>
-    requires callable { F.IsAlwaysCallable make }
-    ensures made { IfOk result (λ made. IsMadeOfEach (FnReturnsAt F.Fn make) entries.now (Ok made)) }
-    ensures fault { IfErr result (λ e. IsMadeOfEach (FnReturnsAt F.Fn make) entries.now (Err e) ⊎ (e ≡ EvalFault.NoMemory)) }
-{
-    let Ok(mut made) = Vec::with_capacity(alloc, entries.len()) else {
+    let Ok(mut made) = Vec::with_capacity(alloc, roots.len()) else {
         return Err(EvalFault::NoMemory);
     };
-    for entry in entries {
-        let value = match make(entry) {
+    for root in roots {
+        let value = match value_of(alloc, *root, view, memory) {
             Ok(value) => value,
             Err(fault) => return Err(fault),
         };
@@ -99,50 +83,20 @@ fn each_of<T, V: Drop, F: Fn(&T) -> Result<V, EvalFault>>(
     Ok(Items::from_vec(made))
 }
 
-// The values of the select list.
-fn fields_on<'a>(
-    alloc: Global,
-    select: &TypedSelect,
-    view: &View<'a>,
-) -> Result<Items<RowValue<'a>>, EvalFault>
-    ensures fields { IfOk result (λ fields. IsMadeOfEach (IsField (scene_of view.now)) (select_seen select.now).items (Ok (map (λ v. field_text view.now.epoch.now (row_value v)) fields))) }
-    ensures fault { IfErr result (OnPassed (λ f. IsMadeOfEach (IsField (scene_of view.now)) (select_seen select.now).items (Err f))) }
-{
-    each_of(
-        alloc,
-        select.items.as_slice(),
-        |item| field_of(alloc, view, item),
-    )
-}
-
-// The values of the keys.
-fn keys_on<'a>(
-    alloc: Global,
-    select: &TypedSelect,
-    view: &View<'a>,
-) -> Result<Items<RowValue<'a>>, EvalFault>
-    ensures keys { IfOk result (λ keys. IsMadeOfEach (IsKey (scene_of view.now)) (select_seen select.now).keys (Ok (map row_value keys))) }
-    ensures fault { IfErr result (OnPassed (λ f. IsMadeOfEach (IsKey (scene_of view.now)) (select_seen select.now).keys (Err f))) }
-{
-    each_of(
-        alloc,
-        select.keys.as_slice(),
-        |key| key_of(alloc, view, key),
-    )
-}
-
 // The row of these fields, with the values of the keys before them.
-fn row_before<'a>(
+fn row_before<'a, K: Remembering>(
     alloc: Global,
-    select: &TypedSelect,
+    keys: &[&TExpr],
     view: &View<'a>,
+    memory: Option<&'a Memory<K>>,
     fields: Items<RowValue<'a>>,
 ) -> Result<Row<'a>, EvalFault>
-    ensures row { IfOk result (λ row. (keys : List ValueOf) × IsMadeOfEach (IsKey (scene_of view.now)) (select_seen select.now).keys (Ok keys) × (row ≡ keys ++ map row_value fields.entry)) }
-    ensures fault { IfErr result (OnPassed (λ f. IsMadeOfEach (IsKey (scene_of view.now)) (select_seen select.now).keys (Err f))) }
+    requires fit { AllByRecursion (Fits K.recollection (scene_of view.now)) (map root_seen keys.now) }
+    ensures row { IfOk result (λ row. (front : List ValueOf) × IsMadeOfEach (TreeEvaluatesTo (scene_of view.now)) (map root_seen keys.now) (Ok front) × (row ≡ front ++ map row_value fields.entry)) }
+    ensures fault { IfErr result (OnPassed (λ f. IsMadeOfEach (TreeEvaluatesTo (scene_of view.now)) (map root_seen keys.now) (Err f))) }
 {
-    match keys_on(alloc, select, view) {
-        Ok(keys) => match Row::new(keys, fields) {
+    match values_on(alloc, keys, view, memory) {
+        Ok(front) => match Row::new(front, fields) {
             Ok(row) => Ok(row),
             Err(_) => Err(EvalFault::NoMemory),
         },
@@ -150,24 +104,39 @@ fn row_before<'a>(
     }
 }
 
-fn row_on<'a>(alloc: Global, select: &TypedSelect, view: &View<'a>) -> Result<Row<'a>, EvalFault>
-    ensures row { IfOk result (λ row. IsRowOf (select_seen select.now) (scene_of view.now) (Ok (answer_row (select_seen select.now) view.now.epoch.now row))) }
-    ensures fault { IfErr result (OnPassed (λ f. IsRowOf (select_seen select.now) (scene_of view.now) (Err f))) }
+// The values of the items, and those of the keys before them.
+fn row_on<'a, K: Remembering>(
+    alloc: Global,
+    items: &[&TExpr],
+    keys: &[&TExpr],
+    view: &View<'a>,
+    memory: Option<&'a Memory<K>>,
+) -> Result<Row<'a>, EvalFault>
+    requires fit { AllByRecursion (Fits K.recollection (scene_of view.now)) (map root_seen items.now) }
+    requires fit_too { AllByRecursion (Fits K.recollection (scene_of view.now)) (map root_seen keys.now) }
+    ensures row { IfOk result (λ row. AreEvaluated (scene_of view.now) (map root_seen items.now) (map root_seen keys.now) (Ok row)) }
+    ensures fault { IfErr result (OnPassed (λ f. AreEvaluated (scene_of view.now) (map root_seen items.now) (map root_seen keys.now) (Err f))) }
 {
-    match fields_on(alloc, select, view) {
-        Ok(fields) => row_before(alloc, select, view, fields),
+    match values_on(alloc, items, view, memory) {
+        Ok(fields) => row_before(alloc, keys, view, memory, fields),
         Err(fault) => Err(fault),
     }
 }
 
 // The row of a tuple.
-fn row_of<'a>(
+fn row_of<'a, K: Remembering>(
     alloc: Global,
     select: &'a TypedSelect,
+    items: &[&TExpr],
+    keys: &[&TExpr],
     store: &'a Store,
     tuple: &'a [u32],
     epoch: &'a Epoch,
+    memory: Option<&'a Memory<K>>,
 ) -> Result<Row<'a>, EvalFault>
+    requires items { map root_seen items.now ≡ item_trees (select_seen select.now) }
+    requires keys { map root_seen keys.now ≡ key_trees (select_seen select.now) }
+    requires fits { SelectFits K.recollection (select_seen select.now) (scene store.now select.now.from tuple.now epoch.now) }
     ensures row { IfOk result (λ row. IsRowOf (select_seen select.now) (scene store.now select.now.from tuple.now epoch.now) (Ok (answer_row (select_seen select.now) epoch.now row))) }
     ensures fault { IfErr result (OnPassed (λ f. IsRowOf (select_seen select.now) (scene store.now select.now.from tuple.now epoch.now) (Err f))) }
 {
@@ -177,18 +146,25 @@ fn row_of<'a>(
         tuple,
         epoch,
     };
-    row_on(alloc, select, &view)
+    row_on(alloc, items, keys, &view, memory)
 }
 
-/// The rows of these tuples, in order, or the first fault: on each tuple the select list is
-/// evaluated, and then the keys. What a row has that stands in the store is not copied.
-pub fn rows_on<'a>(
+/// The rows of these tuples, in order, or the first fault: on each tuple the expressions of the
+/// select list are evaluated, and then those of the keys. With a memory, what its operators gave is
+/// taken from there. What a row has that stands in the store or in the memory is not copied.
+pub fn rows_on<'a, K: Remembering>(
     alloc: Global,
     select: &'a TypedSelect,
+    items: &[&TExpr],
+    keys: &[&TExpr],
     store: &'a Store,
     kept: &'a [Tuple],
     epoch: &'a Epoch,
+    memory: Option<&'a Memory<K>>,
 ) -> Result<Vec<Row<'a>>, QueryFault>
+    requires items { map root_seen items.now ≡ item_trees (select_seen select.now) }
+    requires keys { map root_seen keys.now ≡ key_trees (select_seen select.now) }
+    requires fits { AnswerFits K.recollection (select_seen select.now) store.now epoch.now }
     ensures rows { IfOk result (λ rows. IsMadeOfEach (IsTupleRow (select_seen select.now) store.now epoch.now) kept.now (Ok (map (answer_row (select_seen select.now) epoch.now) rows.items))) }
     ensures fault { IfErr result (OnTuple (λ f. IsMadeOfEach (IsTupleRow (select_seen select.now) store.now epoch.now) kept.now (Err f))) }
 {
@@ -196,7 +172,16 @@ pub fn rows_on<'a>(
         return Err(QueryFault::NoMemory);
     };
     for tuple in kept {
-        let row = match row_of(alloc, select, store, tuple.as_slice(), epoch) {
+        let row = match row_of(
+            alloc,
+            select,
+            items,
+            keys,
+            store,
+            tuple.as_slice(),
+            epoch,
+            memory,
+        ) {
             Ok(row) => row,
             Err(fault) => return Err(QueryFault::on(tuple, fault)),
         };

@@ -9,6 +9,7 @@ mod grouped;
 mod grouping;
 pub mod laws;
 mod plans;
+mod roots;
 mod state;
 
 pub use answers::answered_text;

@@ -1,8 +1,8 @@
 //! An aggregate of the values so far, as a group holds it.
 ghost use Rattle.std.specs.Prelude.{◌≡◌, IfOk, MatchOption, false};
 ghost use Rattle.mob_ratio.specs.Order.{same};
+ghost use Rattle.mob_span.specs.Flags.{same_bool};
 ghost use Rattle.mob_slice.specs.CourseOf.{steady_course};
-ghost use Rattle.mob_slice.specs.Sameness.{same_bool};
 ghost use Rattle.mob_value.specs.declared.value.Value.TheVariants.{MovingBool, MovingInt};
 ghost use Rattle.mob_ordinary.specs.Moving.{AreNormalBy, or_nothing};
 ghost use Rattle.mob_tail.specs.Aggregated.{leaves_out, truths_of};
@@ -92,7 +92,7 @@ fn truths_copy(alloc: Global, value: &Value) -> Result<Option<Moving<Steady<bool
     }
 }
 
-// A tbool among values that are taken together. That its slices are normal is a clause of `slices`.
+// A tbool among values that are taken together. The clause of `slices` says that its own are normal.
 fn is_normal(moving: &Moving<Steady<bool>>)
     ensures normal { AreNormalBy (steady_course same_bool) moving.now }
 {
@@ -166,6 +166,7 @@ fn int_or_null(moving: Option<Moving<Steady<Frac>>>) -> Value
 {
     match moving {
         Some(moving) => {
+            // The clause of `slices` says that they are normal.
             let _ = moving.slices();
             Value::MovingInt(moving)
         }
@@ -179,6 +180,7 @@ fn bool_or_null(moving: Option<Moving<Steady<bool>>>) -> Value
 {
     match moving {
         Some(moving) => {
+            // The clause of `slices` says that they are normal.
             let _ = moving.slices();
             Value::MovingBool(moving)
         }

@@ -1,13 +1,11 @@
 -- What a row with each trip simplified prints is read again, if the row was read and its trip can be printed.
-use Rattle.std.specs.Prelude.{◌≡◌, ◌≢◌, ◌≤◌, ◌<◌, ◌+◌, ◌^◌, ◌∷◌, ◌⊎◌, [], ℕ, ℤ, Bool, true, false, cond, List, length, nat_lt, nat_eq, nat_abs, Option, Some, None, MatchOption, Result, Ok, refl}
+use Rattle.std.specs.Prelude.{◌≡◌, ◌≤◌, ◌+◌, ◌∷◌, ◌⊎◌, [], ℕ, ℤ, Bool, true, false, cond, List, length, Option, Some, None, MatchOption, Result, Ok, refl}
 use Rattle.std.specs.List.{AllZip, AllByRecursion}
-use Rattle.std.proofs.Common.{arith, ap, sym, ◌∙◌, subst, inl, inr, true≢false}
+use Rattle.std.proofs.Common.{arith, ap, sym, ◌∙◌, subst, inl, inr}
 use Rattle.std.proofs.lemmas.Bool.{eqb-true}
-use borrow.Author.Tests.{ltb-true, ltb-false}
 use Rattle.mob_list.proofs.Entries.{each_of_all}
 use Rattle.mob_ratio.specs.Ratio.{Ratio}
 use Rattle.mob_ratio.specs.Order.{before}
-use Rattle.mob_frac.specs.Fits.{Fits}
 use Rattle.mob_language.specs.Language.{Text}
 use Rattle.mob_numeral.specs.NumberValue.{numeral_value}
 use Rattle.mob_numeral.specs.Verdict.{Lit}
@@ -36,6 +34,7 @@ use Rattle.mob_literal.specs.SqlReadable.{IsReadableAs}
 use Rattle.mob_plane.specs.declared.point.Point.{Point}
 use Rattle.mob_catalog.specs.Fields.{FieldSays}
 use Rattle.mob_catalog.specs.TableFile.{IsRow}
+use Rattle.mob_catalog.proofs.OwnTypes.{fits_unless, no_part}
 use Rattle.mob_simplify.specs.Breaks.{start_of, end_of}
 use Rattle.mob_simplify.specs.BreaksOf.{HaveBreaks, followed, printed_instants}
 use Rattle.mob_simplify.specs.Thinned.{IsThin}
@@ -174,24 +173,10 @@ module _ (day : ℤ) where
   trip_field field v true e h p = subst IsTripCell (sym (ok_same v Null (h.null e))) refl
   trip_field field v false e h p = trip_said (text_of_field TPoint field) v (h.text e) p
 
-  lt_by : (a b : ℕ) (t : Bool) → nat_lt a b ≡ t → ((a < b → ⊥) → ⊥) → a < b
-  lt_by a b true e h = ltb-true a b e
-  lt_by a b false e h = let k = ltb-false a b e in absurd (h (λ l. omega (arith, k, l)))
-
-  fits_unless : (q : Ratio) → ((Fits q → ⊥) → ⊥) → Fits q
-  fits_unless q h = record {
-    num_fits = lt_by (nat_abs q.num) (2 ^ 62) _ refl (λ n. h (λ f. n f.num_fits));
-    den_fits = lt_by q.den (2 ^ 62) _ refl (λ n. h (λ f. n f.den_fits));
-  }
-
-  one_unless : (n : ℕ) (b : Bool) → nat_eq n 1 ≡ b → ((n ≢ 1) → ⊥) → n ≡ 1
-  one_unless n true e h = eqb-true n 1 e
-  one_unless n false e h = absurd (h (λ k. true≢false (sym (subst (λ z. nat_eq z 1 ≡ true) (sym k) refl) ∙ e)))
-
   id_said : (text : Text) (v : Value) → SaysAs Int day text (Ok v) → IsReadableAs Int day v
   id_said text v h =
       let value = numeral_value h.2.0 in
-      let number : IsInt value = record { fits = fits_unless value h.2.3; is_whole = one_unless value.den _ refl h.2.4 } in
+      let number : IsInt value = record { fits = fits_unless value h.2.3; is_whole = eqb-true value.den 1 (no_part value h.2.4) } in
       subst (IsReadableAs Int day) (sym h.1) (subst IsInt (sym h.2.5) number)
 
   id_field : (field : Text) (v : Value) (b : Bool) → is_null_field Int field ≡ b → FieldSays Int day field (Ok v) → IsCell Int day v

@@ -10,7 +10,7 @@ use mob_frac::Frac;
 use mob_words::{distance_in, epoch_of, given};
 use std::alloc::{AllocError, Global};
 
-// The values of the options, borrowed from the arguments.
+/// The values of the options, borrowed from the arguments.
 #[derive(Drop, Clone, Copy)]
 pub struct Values<'a> {
     pub within: Option<&'a str>,
@@ -45,8 +45,9 @@ fn within_of(value: Option<&str>) -> Option<Frac>
     }
 }
 
-/// The settings that the arguments say, the first of which is the program's name: `--within D` with a number that is not below 0, and
-/// `--epoch DATE`. `--within` is required, and each option may be given once.
+/// The settings that the arguments say, the first of which is the program's name: `--within D` with
+/// a number that is not below 0, and `--epoch DATE`. `--within` is required, and each option may be
+/// given once.
 ///
 /// None exactly where the arguments are not taken.
 pub fn settings(alloc: Global, words: &[String]) -> Result<Option<ThinSettings>, AllocError>

@@ -26,7 +26,7 @@ fn ending_of(fault: RowFault) -> Ending
     }
 }
 
-// Judges the arguments, reads the table, simplifies its trips and writes the text.
+/// Judges the arguments, reads the table, simplifies its trips and writes the text.
 pub fn decide<S: Source, K: Sink>(
     alloc: Global,
     words: &[String],

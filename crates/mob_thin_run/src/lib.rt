@@ -1,4 +1,5 @@
-//! The program mobthin as a library: a table of trips in; the table with each trip simplified, a note and a status out.
+//! The program mobthin as a library: a table of trips in; the table with each trip simplified, a
+//! note and a status out.
 #![tactic(auto)]
 
 mod command;

@@ -35,6 +35,17 @@ pub enum RowFault {
     NoMemory,
 }
 
+impl From<AllocError> for RowFault {
+    ghost use Rattle.std.specs.Prelude.{◌≡◌};
+    ghost use Rattle.mob_thin_run.specs.declared.rows.RowFault.TheVariants.{NoMemory};
+
+    ghost from_gives = { λ _ e. e ≡ NoMemory };
+
+    fn from(_: AllocError) -> RowFault {
+        RowFault::NoMemory
+    }
+}
+
 // The value with a trip simplified.
 fn thinned(alloc: Global, value: &Value, d: &Frac) -> Result<Value, OpFault>
     requires not_negative { up_to nil d.now ≡ true }
@@ -42,10 +53,7 @@ fn thinned(alloc: Global, value: &Value, d: &Frac) -> Result<Value, OpFault>
     ensures first { OnTests d.now value.now (λ tests. IsJudged tests result) }
 {
     match value {
-        Value::MovingPoint(trip) => match thin(alloc, trip, d) {
-            Ok(thin) => Ok(Value::MovingPoint(thin)),
-            Err(fault) => Err(fault),
-        },
+        Value::MovingPoint(trip) => Ok(Value::MovingPoint(thin(alloc, trip, d)?)),
         _ => match value.copy(alloc) {
             Ok(copy) => Ok(copy),
             Err(_) => Err(OpFault::NoMemory),
@@ -62,10 +70,7 @@ fn thinned_row(alloc: Global, row: &[Value], d: &Frac) -> Result<Items<Value>, O
 {
     let mut thin = Items::new(alloc);
     for value in row {
-        let next = match thinned(alloc, value, d) {
-            Ok(next) => next,
-            Err(fault) => return Err(fault),
-        };
+        let next = thinned(alloc, value, d)?;
         if thin.push(next).is_err() {
             return Err(OpFault::NoMemory);
         }
@@ -107,10 +112,7 @@ fn thin_fields(
     ensures fit { IfOk result (λ fields. RowTestsFit d.now row.now) }
     ensures first { IfErr result (OnFormula (RowTestPasses d.now row.now)) }
 {
-    let thin = match thinned_row(alloc, row, d) {
-        Ok(thin) => thin,
-        Err(fault) => return Err(fault),
-    };
+    let thin = thinned_row(alloc, row, d)?;
     match fields_of(alloc, thin.as_slice(), epoch) {
         Ok(fields) => Ok(fields),
         Err(_) => Err(OpFault::NoMemory),
@@ -147,9 +149,7 @@ fn thin_records(
             Ok(fields) => fields,
             Err(fault) => return Err(row_fault(number, fault)),
         };
-        if records.push(fields).is_err() {
-            return Err(RowFault::NoMemory);
-        }
+        records.push(fields)?;
         number += 1;
     }
     Ok(records)
@@ -167,7 +167,8 @@ fn names(alloc: Global) -> Result<Vec<Text>, AllocError>
     Ok(names)
 }
 
-/// The text of the table with each trip simplified, within `d`, or the first row with a part of a test that does not fit.
+/// The text of the table with each trip simplified, within `d`, or the first row with a part of a
+/// test that does not fit.
 pub fn thin_text(
     alloc: Global,
     rows: &[Items<Value>],
@@ -180,15 +181,7 @@ pub fn thin_text(
     ensures fit { IfOk result (λ v. AllByRecursion (RowTestsFit d.now) rows.now) }
     ensures first { IfErr result (OnRowFault (PassesFirst d.now rows.now)) }
 {
-    let records = match thin_records(alloc, rows, d, epoch) {
-        Ok(records) => records,
-        Err(fault) => return Err(fault),
-    };
-    let Ok(names) = names(alloc) else {
-        return Err(RowFault::NoMemory);
-    };
-    match records_text(alloc, &names, records.as_slice()) {
-        Ok(text) => Ok(text),
-        Err(_) => Err(RowFault::NoMemory),
-    }
+    let records = thin_records(alloc, rows, d, epoch)?;
+    let names = names(alloc)?;
+    Ok(records_text(alloc, &names, records.as_slice())?)
 }

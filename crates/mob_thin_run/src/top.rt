@@ -22,8 +22,9 @@ pub fn tell_thin<E: Sink>(notes: &mut E, ending: &Ending)
     tell(notes, USAGE, ending);
 }
 
-/// One run of mobthin, by the arguments of its command line and its streams: it reads the table from `table`, writes the table with each
-/// trip simplified to `out`, and after every status but 0 puts one line into `notes`. It returns the status.
+/// One run of mobthin, by the arguments of its command line and its streams: it reads the table
+/// from `table`, writes the table with each trip simplified to `out`, and after every status but 0
+/// puts one line into `notes`. It returns the status.
 ///
 /// | status | when |
 /// |---|---|
@@ -41,8 +42,9 @@ pub fn run_thin<S: Source, K: Sink, E: Sink>(
     out: &mut K,
     notes: &mut E,
 ) -> u8
-    // `IsTripsRun` has a line for each status and each other promise, by what was seen of the run and of its note. `IsExactRun` adds that
-    // 8 comes exactly where a part of a test's formula does not fit, out of memory aside.
+    // `IsTripsRun` has a line for each status and each other promise, by what was seen of the run
+    // and of its note. `IsExactRun` adds that 8 comes exactly where a part of a test's formula does
+    // not fit, out of memory aside.
     ensures promises { IsTripsRun thin_program thin_usage result
         (trips_seen (map string_bytes words.now) (stream_seen S.left S.faults table.old table.new) (stream_seen K.held K.faults out.old out.new))
         (λ line. Puts line (E.held notes.old) (E.held notes.new) (E.faults notes.old) (E.faults notes.new)) }

@@ -106,8 +106,8 @@ module _ (c x0 x1 : Ratio) (s d : SpanOf) (level : before s.lower s.upper ≡ fa
   a1 = at d.upper
 
   -- the value inside, by those at the ends of the cell
-  part_at : (t : Ratio) → before d.lower d.upper ≡ true → line_at a0 a1 d.lower d.upper t ≡ at t
-  part_at t h = let o = in_order s d i in line_at-part x0 x1 s.lower s.upper d.lower d.upper t (long_span s.lower d.lower d.upper s.upper o.low h o.high) h
+  piece_at : (t : Ratio) → before d.lower d.upper ≡ true → line_at a0 a1 d.lower d.upper t ≡ at t
+  piece_at t h = let o = in_order s d i in line_at-part x0 x1 s.lower s.upper d.lower d.upper t (long_span s.lower d.lower d.upper s.upper o.low h o.high) h
 
   long_until : (n : ℤ) → IsClear n → (t : Ratio) → has d t ≡ true → before d.lower d.upper ≡ true → before (smaller a0 a1) (edge_of c n) ≡ true → before (at t) (edge_of c n) ≡ true
   long_until n f t h k b = elim (smaller_is a0 a1) [
@@ -116,7 +116,7 @@ module _ (c x0 x1 : Ratio) (s d : SpanOf) (level : before s.lower s.upper ≡ fa
   ]
     where
       from : HasBelow a0 a1 d.lower d.upper (edge_of c n) → before (at t) (edge_of c n) ≡ true
-      from m = one_side n f t m.at h (open_has_back d m.at m.after m.until) (subst (λ z. before z (edge_of c n) ≡ true) (part_at m.at k) m.is)
+      from m = one_side n f t m.at h (open_has_back d m.at m.after m.until) (subst (λ z. before z (edge_of c n) ≡ true) (piece_at m.at k) m.is)
 
   -- the band of the lesser end is that of each value in the cell
   pub one_band_on : nil <ℚ c → ((n : ℤ) → IsClear n) → (t : Ratio) → has d t ≡ true → InBand c (band_of c (smaller a0 a1)) (at t)
@@ -131,7 +131,7 @@ module _ (c x0 x1 : Ratio) (s d : SpanOf) (level : before s.lower s.upper ≡ fa
           let n = band_of c m in
           let own = band_has c m p in
           let ends = open_has d t w e h in
-          let low : up_to m (at t) ≡ true = subst (λ z. up_to m z ≡ true) (part_at t e) (between_ends a0 a1 d.lower d.upper t e (grind (arith, ends.0, before-back d.lower t)) (grind (arith, ends.1, before-back t d.upper))) in
+          let low : up_to m (at t) ≡ true = subst (λ z. up_to m z ≡ true) (piece_at t e) (between_ends a0 a1 d.lower d.upper t e (grind (arith, ends.0, before-back d.lower t)) (grind (arith, ends.1, before-back t d.upper))) in
           record {
             from = le_trans (edge_of c n) m (at t) own.from (not-up_to-le m (at t) low);
             until = before-lt (at t) (edge_of c (n +ℤ pos 1)) (long_until (n +ℤ pos 1) (f (n +ℤ pos 1)) t h e (lt-before m (edge_of c (n +ℤ pos 1)) own.until));

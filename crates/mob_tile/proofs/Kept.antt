@@ -8,12 +8,13 @@ use Rattle.mob_span.specs.Span.{SpanOf, has}
 use Rattle.mob_span.specs.Neighbours.{is_inside}
 use Rattle.mob_span.proofs.Insides.{inside_self}
 use Rattle.mob_plane.specs.declared.point.Point.{Point}
+use Rattle.mob_slice.specs.declared.formula.Formula.TheVariants.{F1}
 use Rattle.mob_slice.specs.Slices.{IsOrdered}
 use Rattle.mob_slice.specs.Cut.{slice_value, slice_parts}
 use Rattle.mob_slice.specs.Sides.{HasValues, at_ends}
 use Rattle.mob_slice.specs.Lines.{plane_value_of, plane_parts_of}
 use Rattle.mob_slice.specs.PlaneLaws.{plane_laws}
-use Rattle.mob_slice.specs.Entries.{Entry, IsFirst, OnFormula}
+use Rattle.mob_slice.specs.Entries.{Entry, IsFirst, OnFormula, IsPartFault}
 use Rattle.mob_slice.specs.declared.slice.Slice.{Slice}
 use Rattle.mob_slice.specs.declared.line.PlaneLine.{PlaneLine}
 use Rattle.mob_slice.specs.declared.formula.OpFault.{OpFault}
@@ -21,11 +22,10 @@ use Rattle.mob_slice.specs.declared.formula.OpFault.TheVariants.{Passed, NoMemor
 use Rattle.mob_slice.proofs.Cuts.{all_both, all_first, all_second}
 use Rattle.mob_list.proofs.Each.{each_both}
 use Rattle.mob_cells.specs.Cells.{IsIn, IsCut, IsSomeEnd}
-use Rattle.mob_cells.specs.Kept.{AreKeptOn, IsCellFault}
+use Rattle.mob_cells.specs.Kept.{AreKeptOn}
 use Rattle.mob_cells.proofs.Making.{are_cells}
 use Rattle.mob_cells.proofs.Restricting.{IsMade, made_step, made_end, kept_fault}
 use Rattle.mob_cells.proofs.BySlices.{IsLeft, left_step, left_end, IsFitting, fitting_start, fitting_step, fitting_fails, fitting_end}
-use Rattle.mob_clip.specs.Sides.{IsPartFault}
 use Rattle.mob_tile.specs.Tiles.{GridOf, InTile, tile_of}
 use Rattle.mob_tile.specs.declared.tile.Tile.{Tile}
 use Rattle.mob_tile.specs.declared.tile.TileRange.{TileRange}
@@ -127,7 +127,7 @@ module _ (g : GridOf) (s : Slice PlaneLine) where
     inside = (subst (AllByRecursion (λ c. is_inside s.span c ≡ true)) e m.inside).1;
   }
 
-  pub piecing_fails : (cells rest later : List SpanOf) (c : SpanOf) (out : List Piece) (f : OpFault) → rest ≡ c ∷ later → IsCellFault (at_ends (slice_parts plane_parts_of s) c) f → AreTileCells g s (cuts_of g s) cells → IsPiecing g s cells rest out → OnFormula (λ z. IsFirst (entry_of_values g s ∷ []) (Some z)) f
+  pub piecing_fails : (cells rest later : List SpanOf) (c : SpanOf) (out : List Piece) (f : OpFault) → rest ≡ c ∷ later → IsPartFault F1 (at_ends (slice_parts plane_parts_of s) c) f → AreTileCells g s (cuts_of g s) cells → IsPiecing g s cells rest out → OnFormula (λ z. IsFirst (entry_of_values g s ∷ []) (Some z)) f
   piecing_fails cells rest later c out f e h k m =
       kept_fault (at_ends (slice_parts plane_parts_of s) c) (flat_map (slice_parts plane_parts_of s) (cuts_of g s)) f h (λ n z. n (subst (AllByRecursion (EndsFit s)) e (m.fail (cells_fit s (cuts_of g s) cells z k.cut.only))).0)
 

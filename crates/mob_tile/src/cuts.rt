@@ -1,10 +1,10 @@
 //! Where a slice crosses edges of tiles.
-ghost use Rattle.std.specs.Prelude.{◌≡◌, [], ◌∷◌, ◌++◌, map, pos, ◌+ℤ◌, ◌≤ℤ◌, OnOk, IfOk, MatchResult};
+ghost use Rattle.mob_slice.specs.Entries.{IsMadeBy};
+ghost use Rattle.std.specs.Prelude.{◌≡◌, [], ◌∷◌, ◌++◌, map, ◌+ℤ◌, ◌≤ℤ◌, OnOk};
 ghost use Rattle.std.specs.List.{flat_map, AllByRecursion};
-ghost use Rattle.mob_frac.specs.Formula.{AllFit, IsFormula};
+ghost use Rattle.mob_frac.specs.Formula.{IsFormula};
 ghost use Rattle.mob_slice.specs.declared.formula.Formula.TheVariants.{F2, F3};
 ghost use Rattle.mob_cells.specs.Roots.{IsLevel, roots, roots_parts, root_of, root_parts, as_list};
-ghost use Rattle.mob_clip.specs.Sides.{IsPartFault};
 ghost use Rattle.mob_tile.specs.Edges.{numbers_between, edge_of, edge_parts, edge_ends, time_parts};
 
 use crate::grid::edge;
@@ -41,7 +41,7 @@ pub fn differences(
     low: i64,
     high: i64,
 ) -> Result<Vec<Ends>, OpFault>
-    ensures made { MatchResult result (λ v. (v.items ≡ map (edge_ends c.now x.now y.now) (numbers_between low high)) × AllFit (flat_map (edge_parts c.now x.now y.now) (numbers_between low high))) (IsPartFault F2 (flat_map (edge_parts c.now x.now y.now) (numbers_between low high))) }
+    ensures made { IsMadeBy F2 (flat_map (edge_parts c.now x.now y.now) (numbers_between low high)) (λ v. v.items ≡ map (edge_ends c.now x.now y.now) (numbers_between low high)) result }
 {
     let mut out = Vec::new(alloc);
     for m in low..high {
@@ -62,7 +62,7 @@ pub fn differences(
 
 /// The edges of time above one number and up to another.
 pub fn times(alloc: Global, c: &Frac, low: i64, high: i64) -> Result<Vec<Frac>, OpFault>
-    ensures made { MatchResult result (λ v. (v.items ≡ map (edge_of c.now) (numbers_between low high)) × AllFit (flat_map (time_parts c.now) (numbers_between low high))) (IsPartFault F2 (flat_map (time_parts c.now) (numbers_between low high))) }
+    ensures made { IsMadeBy F2 (flat_map (time_parts c.now) (numbers_between low high)) (λ v. v.items ≡ map (edge_of c.now) (numbers_between low high)) result }
 {
     let mut out = Vec::new(alloc);
     for m in low..high {
@@ -84,7 +84,7 @@ pub fn times(alloc: Global, c: &Frac, low: i64, high: i64) -> Result<Vec<Frac>, 
 // Adds the root of a function, if there is one.
 fn push_root(out: &mut Vec<Frac>, span: &Span, f: &Ends) -> Result<(), OpFault>
     requires level { IsLevel span.now f.now }
-    ensures pushed { MatchResult result (λ _. (out.new.items ≡ out.old.items ++ as_list (root_of span.now f.now)) × AllFit (root_parts span.now f.now)) (IsPartFault F3 (root_parts span.now f.now)) }
+    ensures pushed { IsMadeBy F3 (root_parts span.now f.now) (λ _. out.new.items ≡ out.old.items ++ as_list (root_of span.now f.now)) result }
 {
     match root(span, f) {
         Ok(None) => Ok(()),
@@ -101,7 +101,7 @@ fn push_root(out: &mut Vec<Frac>, span: &Span, f: &Ends) -> Result<(), OpFault>
 /// The roots of some functions on a span.
 pub fn roots_of(alloc: Global, span: &Span, functions: &[Ends]) -> Result<Vec<Frac>, OpFault>
     requires level { AllByRecursion (IsLevel span.now) functions.now }
-    ensures made { MatchResult result (λ v. (v.items ≡ roots span.now functions.now) × AllFit (roots_parts span.now functions.now)) (IsPartFault F3 (roots_parts span.now functions.now)) }
+    ensures made { IsMadeBy F3 (roots_parts span.now functions.now) (λ v. v.items ≡ roots span.now functions.now) result }
 {
     let _lower = span.lower();
     let mut out = Vec::new(alloc);

@@ -1,21 +1,18 @@
 //! Pieces of slices, each in one tile.
-ghost use Rattle.std.specs.Prelude.{◌≡◌, true, false, [], ◌∷◌, ◌++◌, map, Some, None, OnOk, IfOk, MatchResult};
+ghost use Rattle.std.specs.Prelude.{◌≡◌, true, [], ◌∷◌, ◌++◌, map, Some, None, OnOk, IfOk, MatchResult};
 ghost use Rattle.std.specs.List.{flat_map, AllByRecursion};
 ghost use Rattle.std.specs.List.Sorted.{IsPermutation, IsSortedBy};
 ghost use Rattle.std.specs.Ordering.{is_lt};
-ghost use Rattle.mob_frac.specs.Formula.{AllFit};
 ghost use Rattle.mob_span.specs.Neighbours.{is_inside};
 ghost use Rattle.mob_slice.specs.Ranks.{compare_ratio};
 ghost use Rattle.mob_slice.specs.Slices.{IsSound, IsOrdered};
 ghost use Rattle.mob_slice.specs.Cut.{slice_value, slice_parts};
 ghost use Rattle.mob_slice.specs.Sides.{at_ends, HasValues};
 ghost use Rattle.mob_slice.specs.Lines.{plane_value_of, plane_parts_of};
-ghost use Rattle.mob_slice.specs.Entries.{IsFirst, OnFormula, IsJudged};
-ghost use Rattle.mob_slice.specs.declared.formula.Formula.TheVariants.{F2, F3};
-ghost use Rattle.mob_cells.specs.Kept.{IsCellFault};
+ghost use Rattle.mob_slice.specs.Entries.{IsFirst, OnFormula, IsJudged, IsMadeBy};
+ghost use Rattle.mob_slice.specs.declared.formula.Formula.TheVariants.{F1, F2, F3};
 ghost use Rattle.mob_cells.specs.Roots.{IsLevel, roots, roots_parts};
-ghost use Rattle.mob_clip.specs.Sides.{IsPartFault};
-ghost use Rattle.mob_tile.specs.Edges.{x_edges, y_edges, t_edges, differences, cuts_of, edge_of, edge_parts, time_parts, edges_parts, entry_of_values, entries_of_slice};
+ghost use Rattle.mob_tile.specs.Edges.{t_edges, differences, cuts_of, edge_of, edges_parts, entry_of_values, entries_of_slice};
 ghost use Rattle.mob_tile.specs.Pieces.{least_of, greatest_of, HasOneTile, Reaches, IsInItsTile, ArePiecesOf, ArePieces, AreTileCells, IsPushed};
 
 use crate::cells::cells_at;
@@ -74,7 +71,7 @@ fn edges_of(
 ) -> Result<Edges, OpFault>
     requires sound { IsSound (λ c. c.from) (λ c. c.to) slice.now }
     requires reaches { Reaches grid.now range.now slice.now }
-    ensures made { MatchResult result (λ e. (e.functions.items ≡ differences grid.now slice.now) × (e.times.items ≡ map (edge_of grid.now.width) (t_edges grid.now slice.now)) × AllFit (edges_parts grid.now slice.now)) (IsPartFault F2 (edges_parts grid.now slice.now)) }
+    ensures made { IsMadeBy F2 (edges_parts grid.now slice.now) (λ e. (e.functions.items ≡ differences grid.now slice.now) × (e.times.items ≡ map (edge_of grid.now.width) (t_edges grid.now slice.now))) result }
 {
     let from = &slice.course.from;
     let to = &slice.course.to;
@@ -102,7 +99,7 @@ fn edges_of(
 // Where the slice is cut.
 fn cuts_on(alloc: Global, span: &Span, edges: Edges) -> Result<Vec<Frac>, OpFault>
     requires level { AllByRecursion (IsLevel span.now) edges.functions.items }
-    ensures made { MatchResult result (λ v. (v.items ≡ roots span.now edges.functions.items ++ edges.times.items) × AllFit (roots_parts span.now edges.functions.items)) (IsPartFault F3 (roots_parts span.now edges.functions.items)) }
+    ensures made { IsMadeBy F3 (roots_parts span.now edges.functions.items) (λ v. v.items ≡ roots span.now edges.functions.items ++ edges.times.items) result }
 {
     let Edges { functions, times } = edges;
     let mut cuts = match roots_of(alloc, span, functions.as_slice()) {
@@ -163,7 +160,7 @@ fn piece_on(
     requires holds { IsSound (λ c. c.from) (λ c. c.to) slice.now × (is_inside slice.now.span cell.now ≡ true) }
     requires reaches { Reaches grid.now range.now slice.now }
     requires one { HasOneTile grid.now slice.now cell.now }
-    ensures piece { MatchResult result (λ q. HasValues plane_value_of (λ c. c.from) (λ c. c.to) (slice_value plane_value_of slice.now) cell.now q.slice × IsInItsTile grid.now q × AllFit (at_ends (slice_parts plane_parts_of slice.now) cell.now)) (IsCellFault (at_ends (slice_parts plane_parts_of slice.now) cell.now)) }
+    ensures piece { IsMadeBy F1 (at_ends (slice_parts plane_parts_of slice.now) cell.now) (λ q. HasValues plane_value_of (λ c. c.from) (λ c. c.to) (slice_value plane_value_of slice.now) cell.now q.slice × IsInItsTile grid.now q) result }
 {
     let part = match cut(alloc, slice, cell) {
         Ok(part) => part,
@@ -189,7 +186,7 @@ fn push_piece(
     requires holds { IsSound (λ c. c.from) (λ c. c.to) slice.now × (is_inside slice.now.span cell.now ≡ true) }
     requires reaches { Reaches grid.now range.now slice.now }
     requires one { HasOneTile grid.now slice.now cell.now }
-    ensures pushed { MatchResult result (λ _. IsPushed grid.now slice.now cell.now out.old.items out.new.items × AllFit (at_ends (slice_parts plane_parts_of slice.now) cell.now)) (IsCellFault (at_ends (slice_parts plane_parts_of slice.now) cell.now)) }
+    ensures pushed { IsMadeBy F1 (at_ends (slice_parts plane_parts_of slice.now) cell.now) (λ _. IsPushed grid.now slice.now cell.now out.old.items out.new.items) result }
 {
     let piece = match piece_on(alloc, grid, range, slice, cell) {
         Ok(piece) => piece,

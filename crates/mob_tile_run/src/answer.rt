@@ -16,7 +16,7 @@ use mob_list::items::Items;
 use mob_list::text::Text;
 use mob_outside::Gate;
 use mob_pairs::{PairFault, pairs};
-use mob_records::counted_text;
+use mob_records::counted_text_by;
 use mob_scalar::Epoch;
 use mob_slice::{Moving, PlaneLine};
 use mob_tile::Grid;
@@ -26,23 +26,7 @@ use std::alloc::{AllocError, Global};
 use std::marker::Sync;
 use std::thread::Threads;
 
-// The records of pairs.
-fn pair_records(
-    alloc: Global,
-    ids: &[Value],
-    found: &[(u32, u32)],
-    epoch: &Epoch,
-) -> Result<Items<Items<Text>>, AllocError>
-    ensures records { IfOk result (λ records. records ≡ map (pair_fields epoch.now ids.now) found.now) }
-{
-    let mut records = Items::new(alloc);
-    for pair in found {
-        records.push(pair_fields(alloc, ids, pair.0, pair.1, epoch)?)?;
-    }
-    Ok(records)
-}
-
-// The text of pairs.
+// The text of pairs, each of which is printed where it is written.
 fn text_of(
     alloc: Global,
     ids: &[Value],
@@ -52,8 +36,10 @@ fn text_of(
     ensures text { IfOk result (λ t. t.items ≡ answer_text pair_names (map (pair_fields epoch.now ids.now) found.now)) }
 {
     let names = pair_names(alloc)?;
-    let records = pair_records(alloc, ids, found, epoch)?;
-    counted_text(alloc, names.as_slice(), records.as_slice())
+    let print = |pair: &(u32, u32)| -> Result<Items<Text>, AllocError>
+        ensures fields { IfOk result (λ fields. fields ≡ pair_fields epoch.entry.now ids.entry.now pair.now) }
+    { pair_fields(alloc, ids, pair.0, pair.1, epoch) };
+    counted_text_by(alloc, names.as_slice(), found, print)
 }
 
 // The text of the pairs of trips that come within a distance.

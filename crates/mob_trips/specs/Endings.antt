@@ -22,7 +22,8 @@ module _ {Settings : Type 0} (p : ProgramOf Settings) where
     pub is : OnTable p s (OnRows p (λ settings rows. p.writes settings rows text))
     pub whole : Appends s.out.told_before s.out.told_now text
 
-  -- the table was read to its end, a proper prefix of the text for it was written, and the count of `out` rose
+  -- the table was read to its end, a proper prefix of the text for it was written, and the count of
+  -- `out` rose
   pub record CutsShort (s : TripsSeen) : Type 0 where
     pub ended : IsAtEnd s.table.told_now
     pub text : List ℕ
@@ -30,14 +31,16 @@ module _ {Settings : Type 0} (p : ProgramOf Settings) where
     pub part : PutsPart text s.out.told_before s.out.told_now
     pub rose : Rose s.out.faults_before s.out.faults_now
 
-  -- the table is refused, at this record and field; it was read to its end, or to one byte past the limit
+  -- the table is refused, at this record and field; it was read to its end, or to one byte past the
+  -- limit
   pub record IsTableRefused (s : TripsSeen) (kind : Kind) (rec field : ℕ) : Type 0 where
     pub bytes : List ℕ
     pub taken : Consumes s.table.told_before s.table.told_now bytes
     pub through : IsAtEnd s.table.told_now ⊎ (length bytes ≡ file_limit + 1)
     pub refused : OnTable p s (λ settings bytes. IsTripTableRefused (p.day settings) bytes (file_fault kind rec field))
 
-  -- the table was read to its end, and these rows pass a limit, or have a part of this formula that does not fit
+  -- the table was read to its end, and these rows pass a limit, or have a part of this formula that
+  -- does not fit
   pub record PassLimit (s : TripsSeen) (names : List ℕ) : Type 0 where
     pub ended : IsAtEnd s.table.told_now
     pub fault : OnTable p s (OnRows p (λ settings rows. p.limits settings rows names))
@@ -46,7 +49,8 @@ module _ {Settings : Type 0} (p : ProgramOf Settings) where
     pub ended : IsAtEnd s.table.told_now
     pub fault : OnTable p s (OnRows p (λ settings rows. p.stops settings rows names formula))
 
-  -- Why a run ended so. Nothing was written but under `Done` and `WriteFault`, and under `Usage` nothing was read.
+  -- Why a run ended so. Nothing was written but under `Done` and `WriteFault`, and under `Usage`
+  -- nothing was read.
   abbrev pub IsTripsCause : Ending → TripsSeen → Type 0
   IsTripsCause Done s = WritesAll s
   IsTripsCause Usage s = IsUntaken p s.words × Keeps s.table.told_before s.table.told_now × Keeps s.out.told_before s.out.told_now
@@ -57,8 +61,8 @@ module _ {Settings : Type 0} (p : ProgramOf Settings) where
   IsTripsCause (RowsRefused rows) s = PassLimit s rows × Keeps s.out.told_before s.out.told_now
   IsTripsCause (Overflow rows formula) s = StopsAt s rows formula × Keeps s.out.told_before s.out.told_now
 
-  -- How a run ended: by its cause; by usage, or out of memory, where the arguments are not taken; with at most one byte past the limit read, and
-  -- counts that do not fall.
+  -- How a run ended: by its cause; by usage, or out of memory, where the arguments are not taken;
+  -- with at most one byte past the limit read, and counts that do not fall.
   pub record IsTripsEnding (ending : Ending) (s : TripsSeen) : Type 0 where
     pub cause : IsTripsCause ending s
     pub usage : IsUntaken p s.words → (ending ≡ Usage) ⊎ (ending ≡ NoMemory)

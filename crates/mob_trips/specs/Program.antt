@@ -5,8 +5,9 @@ use Rattle.mob_value.specs.declared.value.Value.{Value}
 use Rattle.mob_trips.specs.Reading.{IsTripTable}
 use Rattle.mob_trips.specs.Seen.{TripsSeen}
 
--- A program: which arguments say which settings, and the day of their epoch. Of the rows of a table it says which text is written for them,
--- on which rows it stops at a formula with a part that does not fit, which rows pass a limit, and which rows it surely has a text for.
+-- A program: which arguments say which settings, and the day of their epoch. Of the rows of a table
+-- it says which text is written for them, on which rows it stops at a formula with a part that does
+-- not fit, which rows pass a limit, and which rows it surely has a text for.
 pub record ProgramOf (Settings : Type 0) : Type 1 where
   pub says : List (List ℕ) → Settings → Type 0
   pub day : Settings → ℤ
@@ -21,8 +22,8 @@ pub record IsTripsProgram {Settings : Type 0} (p : ProgramOf Settings) : Type 0 
   pub fits_stops : (s : Settings) (rows : List (List Value)) (names : List ℕ) (f : Formula) → p.fits s rows → p.stops s rows names f → ⊥
   pub fits_limits : (s : Settings) (rows : List (List Value)) (names : List ℕ) → p.fits s rows → p.limits s rows names → ⊥
 
--- With these settings it is exact: rows never have two of a text, a limit and a formula. A program that does not visit all rows need not be, and
--- one may be exact with some settings alone.
+-- With these settings it is exact: rows never have two of a text, a limit and a formula. A program
+-- that does not visit all rows need not be, and one may be exact with some settings alone.
 pub record IsExactWith {Settings : Type 0} (p : ProgramOf Settings) (settings : Settings) : Type 0 where
   pub written_stops : (rows : List (List Value)) (text names : List ℕ) (f : Formula) → p.writes settings rows text → p.stops settings rows names f → ⊥
   pub written_limits : (rows : List (List Value)) (text names : List ℕ) → p.writes settings rows text → p.limits settings rows names → ⊥
@@ -36,7 +37,8 @@ IsExactOn {Settings} p words = (settings : Settings) → p.says words settings �
 abbrev pub IsUntaken : {Settings : Type 0} → ProgramOf Settings → List (List ℕ) → Type 0
 IsUntaken {Settings} p words = (settings : Settings) → p.says words settings → ⊥
 
--- The arguments say settings, and this holds of them and of the bytes of the table, where these are told.
+-- The arguments say settings, and this holds of them and of the bytes of the table, where these are
+-- told.
 pub record OnTable {Settings : Type 0} (p : ProgramOf Settings) (s : TripsSeen) (P : Settings → List ℕ → Type 0) : Type 0 where
   pub settings : Settings
   pub says : p.says s.words settings

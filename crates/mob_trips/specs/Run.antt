@@ -1,4 +1,5 @@
--- What a run promises: what its status says of what it was given and what it did, and which status it must have.
+-- What a run promises: what its status says of what it was given and what it did, and which status
+-- it must have.
 use Rattle.std.specs.Prelude.{◌≡◌, ◌⊎◌, ◌≤◌, ℕ, List, Some}
 use Rattle.std.specs.Io.KnownBytes.{Keeps}
 use Rattle.mob_ast.specs.declared.refusal.Kind.{Kind}
@@ -42,7 +43,8 @@ module _ {Settings : Type 0} (p : ProgramOf Settings) where
     -- 2: exactly where the arguments are not taken, out of memory aside
     pub usage : status ≡ 2 → IsUntaken p s.words
     pub exactly_usage : IsUntaken p s.words → (status ≡ 2) ⊎ (status ≡ 5)
-    -- 3 and 4: only where the count of the table, or of `out`, rose; under 4 the table was read to its end, and `out` took a proper prefix of the text
+    -- 3 and 4: only where the count of the table, or of `out`, rose; under 4 the table was read to
+    -- its end, and `out` took a proper prefix of the text
     pub read_fault : status ≡ 3 → Rose s.table.faults_before s.table.faults_now
     pub write_fault : status ≡ 4 → CutsShort p s
     -- 6: only where the table is refused, or rows pass a limit
@@ -62,7 +64,8 @@ module _ {Settings : Type 0} (p : ProgramOf Settings) where
     -- the note is the line of the ending with this status and this cause
     pub note : IsTripsNote line status s Noted
 
-  -- The other way where the program is exact on the arguments, no count rose and the table is told; out of memory is free.
+  -- The other way where the program is exact on the arguments, no count rose and the table is told;
+  -- out of memory is free.
   pub record IsExactRun (status : ℕ) (s : TripsSeen) : Type 0 where
     pub must_limit : IsTripsFaultless s → OnTold s (OnRows p (λ settings rows. (names : List ℕ) × p.limits settings rows names)) → (status ≡ 6) ⊎ (status ≡ 5)
     pub must_stop : IsTripsFaultless s → OnTold s (OnRows p (λ settings rows. (names : List ℕ) × (formula : Formula) × p.stops settings rows names formula)) → (status ≡ 8) ⊎ (status ≡ 5)

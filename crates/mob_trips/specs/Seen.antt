@@ -1,4 +1,5 @@
--- What a run was given and what it did: its arguments, and what the table and `out` told before it and after it.
+-- What a run was given and what it did: its arguments, and what the table and `out` told before it
+-- and after it.
 use Rattle.std.specs.Prelude.{ℕ, List}
 use Rattle.mob_outside.specs.EndsSeen.{StreamSeen}
 

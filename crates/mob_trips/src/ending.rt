@@ -5,7 +5,8 @@ use mob_ast::Kind;
 use mob_slice::Formula;
 use mob_tuples::Tuple;
 
-/// How a run over a table of trips ended. Each ending has a status, and each but `Done` a line for the notes.
+/// How a run over a table of trips ended. Each ending has a status, and each but `Done` a line for
+/// the notes.
 #[derive(Drop)]
 pub enum Ending {
     /// Status 0: the table was read and accepted, and the text for it was written whole.

@@ -61,10 +61,11 @@ fn put_line<E: Sink>(notes: &mut E, usage: &[u8], ending: &Ending) -> Result<(),
     }
 }
 
-/// Puts the line of an ending, in pieces that take no memory; `usage` is the line of arguments that are not taken. A fault of the notes
-/// cuts it short and changes nothing else.
+/// Puts the line of an ending, in pieces that take no memory; `usage` is the line of arguments that
+/// are not taken. A fault of the notes cuts it short and changes nothing else.
 pub fn tell<E: Sink>(notes: &mut E, usage: &[u8], ending: &Ending)
     ensures puts { Puts (trips_note usage.now ending.now) (E.held notes.old) (E.held notes.new) (E.faults notes.old) (E.faults notes.new) }
 {
+    // A note that failed changes neither the text nor the status.
     let _ = put_line(notes, usage, ending);
 }

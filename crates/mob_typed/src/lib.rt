@@ -1,4 +1,5 @@
-//! Typed scripts as plain trees: names are numbers, and each expression has its operator, its type and its place.
+//! The trees of typed scripts: what `mob_typing` makes of a script. Names are numbers, and each
+//! expression has its operator, its type and its place.
 #![tactic(auto)]
 
 pub mod laws;

@@ -1,10 +1,11 @@
 // Calls on values over time that no script reaches: the slice at an instant, products by steps and by one number, and the pieces of
 // an iteration. The epoch is 2000-01-01, so that the instant 2 is its second 2. What scripts say of such values stands in `checks/rows`.
 
+use crate::together::is_printed;
 use mob_arith::{times_const, times_step};
 use mob_ast::SqlType;
 use mob_frac::Frac;
-use mob_literal::{read_value, write_field};
+use mob_literal::read_value;
 use mob_scalar::Epoch;
 use mob_slice::{Line, Moving, OpFault, Steady};
 use mob_sync::{Common, Ones};
@@ -65,9 +66,7 @@ fn slices_start(rt: HostRuntime) {
 }
 
 fn is_line(alloc: Global, line: Moving<Line>, wanted: &str) -> bool {
-    let mut into = String::new(alloc);
-    write_field(&Value::MovingFrac(line), &Epoch::standard(), &mut into).is_ok()
-        && into.as_str() == wanted
+    is_printed(alloc, &Value::MovingFrac(line), wanted)
 }
 
 fn is_answer(alloc: Global, answer: Result<Option<Moving<Line>>, OpFault>, wanted: &str) -> bool {
@@ -138,14 +137,17 @@ static PRODUCTS: [Product; 6] = [
     ),
 ];
 
-fn is_multiplied(alloc: Global, row: &Product) -> bool {
-    let epoch = Epoch::standard();
-    match (
-        &read_value(alloc, row.0, row.1, &epoch),
-        &read_value(alloc, SqlType::TFrac, row.2, &epoch),
-    ) {
-        (Ok(factor), Ok(Value::MovingFrac(line))) => is_product(alloc, factor, line, row.3),
+fn is_multiplied_by(alloc: Global, factor: &Value, row: &Product) -> bool {
+    match &read_value(alloc, SqlType::TFrac, row.2, &Epoch::standard()) {
+        Ok(Value::MovingFrac(line)) => is_product(alloc, factor, line, row.3),
         _ => false,
+    }
+}
+
+fn is_multiplied(alloc: Global, row: &Product) -> bool {
+    match &read_value(alloc, row.0, row.1, &Epoch::standard()) {
+        Ok(factor) => is_multiplied_by(alloc, factor, row),
+        Err(_) => false,
     }
 }
 

@@ -9,7 +9,7 @@ use mob_tagg::{add_in, and_in, ones_of, or_in};
 use mob_value::Value;
 use std::alloc::Global;
 
-fn is_printed(alloc: Global, value: &Value, wanted: &str) -> bool {
+pub fn is_printed(alloc: Global, value: &Value, wanted: &str) -> bool {
     let mut into = String::new(alloc);
     write_field(value, &Epoch::standard(), &mut into).is_ok() && into.as_str() == wanted
 }
@@ -80,14 +80,26 @@ static SUMS: [Logic; 2] = [
     ),
 ];
 
-fn are_together(alloc: Global, a: &Value, b: &Value, row: &Logic) -> bool {
-    match (a, b) {
-        (Value::MovingBool(a), Value::MovingBool(b)) => {
+fn are_truths(alloc: Global, a: &Truths, b: &Value, row: &Logic) -> bool {
+    match b {
+        Value::MovingBool(b) => {
             has_conjunction(alloc, a, b, row.2) && has_disjunction(alloc, a, b, row.3)
         }
-        (Value::MovingInt(a), Value::MovingInt(b)) => {
-            has_sum(alloc, a, b, row.2) && has_ones(alloc, a, row.3)
-        }
+        _ => false,
+    }
+}
+
+fn are_numbers(alloc: Global, a: &Numbers, b: &Value, row: &Logic) -> bool {
+    match b {
+        Value::MovingInt(b) => has_sum(alloc, a, b, row.2) && has_ones(alloc, a, row.3),
+        _ => false,
+    }
+}
+
+fn are_together(alloc: Global, a: &Value, b: &Value, row: &Logic) -> bool {
+    match a {
+        Value::MovingBool(a) => are_truths(alloc, a, b, row),
+        Value::MovingInt(a) => are_numbers(alloc, a, b, row),
         _ => false,
     }
 }

@@ -17,7 +17,7 @@ pub piece_on-requires-clause-holds : goal.piece_on-requires-clause-holds
 piece_on-requires-clause-holds c = (inside_self c.args.slice.now.span, own_fit plane_laws c.args.slice.now)
 
 pub returns-in-None : goal.returns-in-None
-returns-in-None c = record { kept = none_shared c.args.slice.now c.requires.sound c.args.want c.args.time.now c.args.space.now (λ v. v.items) c.piece_on.result c.in-None.ensures.test (rw c.is_wanted.ensures.value at c.piece_on.ensures.whole) }
+returns-in-None c = record { kept = none_shared c.args.slice.now c.requires.sound c.args.want c.args.time.now c.args.space.now (λ v. v.items) c.piece_on.result c.in-None.ensures.test (rw c.same_bool.ensures.value at c.piece_on.ensures.whole) }
 
 pub cut-requires : goal.cut-requires
 cut-requires c =

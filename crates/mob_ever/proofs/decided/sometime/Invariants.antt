@@ -1,4 +1,4 @@
-use Rattle.mob_lift.specs.Pieces.{pieces_left}
+use Rattle.mob_sync.specs.Pieces.{pieces_left}
 use Rattle.mob_slice.specs.Sides.{operand_of, pieces, HoldsPiece}
 use Rattle.std.specs.List.{AllByRecursion}
 use Rattle.mob_cells.specs.Gaps.{entries_of_ends}

@@ -8,12 +8,7 @@ pub returns : goal.returns
 returns c =
     let s = c.args.slice.now in
     let t = c.args.t.now in
-    let f : FoundOf = record { lower = c.found.inside.lower; upper = c.found.inside.upper; course = c.found.inside.course; at = c.found.inside.at; point = c.found.inside.point } in
+    let f : FoundOf = record { slice = c.found.inside.slice; at = c.found.inside.at; point = c.found.inside.point } in
     record {
-      value = λ e. subst (IsFoundOn s t) c.found.view_is (same_found f s t c.found.invariant
-          ((same_exact f.at t).0 (sym c.is_same.ensures.value ∙ c.if-not-is_same.false))
-          ((same_exact f.lower c.lower.result.now).0 (sym c.is_same-2.ensures.value ∙ c.if-not-is_same-2.false) ∙ c.lower.ensures.value)
-          ((same_exact f.upper c.upper.result.now).0 (sym c.is_same-3.ensures.value ∙ c.if-not-is_same-3.false) ∙ c.upper.ensures.value)
-          (c.is_same-4.ensures.exact.0 c.if-not-is_same-4.false)
-          (c.is_same-5.ensures.exact.0 e));
+      value = λ e. subst (IsFoundOn s t) c.found.view_is (same_found f s t c.found.invariant ((same_exact f.at t).0 (sym c.is_same.ensures.value ∙ c.if-not-is_same.false)) (c.are_alike.ensures.alike e));
     }

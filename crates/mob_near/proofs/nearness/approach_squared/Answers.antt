@@ -1,9 +1,9 @@
 use Rattle.std.proofs.Common.{sym, subst}
 use Rattle.std.specs.List.{AllByRecursion}
-use Rattle.mob_span.specs.Parts.{PartsAreClear}
+use Rattle.mob_span.specs.Pieces.{PiecesAreClear}
 use Rattle.mob_slice.specs.Lines.{plane_value_of}
 use Rattle.mob_slice.specs.Sides.{operand_of, pieces, piece_of, given_at}
-use Rattle.mob_lift.specs.Pieces.{pieces_left}
+use Rattle.mob_sync.specs.Pieces.{pieces_left}
 use Rattle.mob_lift.proofs.Walking.{walking_end, walking_fails}
 use Rattle.mob_near.specs.Approaches.{IsApproach}
 use Rattle.mob_near.specs.Entries.{entries_of_approach}
@@ -17,7 +17,7 @@ returns-clause-value c =
     let a = operand_of c.args.a in
     let b = operand_of c.args.b in
     let all = pieces a b in
-    let clear = subst (PartsAreClear (λ p. p.span)) c.new-piece-items.ensures.all c.new-piece-items.ensures.clear in
+    let clear = subst (PiecesAreClear (λ p. p.span)) c.new-piece-items.ensures.all c.new-piece-items.ensures.clear in
     let hold = subst (AllByRecursion IsHeld) c.new-piece-items.ensures.all c.new-piece-items.ensures.hold in
     let ended = walking_end nearest_of piece_approach entries_of_approach all (pieces_left c.loop-piece.piece-iterator) c.loop-piece.nearest c.in-None.ensures.steps.0 c.loop-piece.invariant.walking in
     subst (λ o. IsApproach (given_at plane_value_of a) (given_at plane_value_of b) o) (sym ended.0) (is_approach a b c.requires.moving clear (all_nearest all clear hold))

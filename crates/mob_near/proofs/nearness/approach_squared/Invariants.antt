@@ -1,5 +1,5 @@
 use Rattle.std.specs.List.{AllByRecursion}
-use Rattle.mob_lift.specs.Pieces.{pieces_left}
+use Rattle.mob_sync.specs.Pieces.{pieces_left}
 use Rattle.mob_lift.proofs.Walking.{IsWalking}
 use Rattle.mob_slice.specs.Sides.{operand_of, pieces}
 use Rattle.mob_near.specs.Entries.{entries_of_approach}

@@ -3,10 +3,10 @@ use Rattle.std.specs.List.{AllByRecursion}
 use Rattle.mob_ratio.specs.Order.{up_to}
 use Rattle.mob_ratio.specs.Sign.{nil}
 use Rattle.mob_ratio.proofs.Order.{not-up_to-le}
-use Rattle.mob_span.specs.Parts.{PartsAreClear}
+use Rattle.mob_span.specs.Pieces.{PiecesAreClear}
 use Rattle.mob_slice.specs.Lines.{plane_value_of}
 use Rattle.mob_slice.specs.Sides.{operand_of, pieces, piece_of, given_at}
-use Rattle.mob_lift.specs.Pieces.{pieces_left}
+use Rattle.mob_sync.specs.Pieces.{pieces_left}
 use Rattle.mob_lift.specs.Sometime.{IsEver, either}
 use Rattle.mob_lift.proofs.Walking.{walking_end, walking_fails}
 use Rattle.mob_lift.proofs.AllPieces.{is_ever}
@@ -22,7 +22,7 @@ returns-clause-value c =
     let b = operand_of c.args.b in
     let all = pieces a b in
     let D = c.args.square.now in
-    let clear = subst (PartsAreClear (λ p. p.span)) c.new-piece-items.ensures.all c.new-piece-items.ensures.clear in
+    let clear = subst (PiecesAreClear (λ p. p.span)) c.new-piece-items.ensures.all c.new-piece-items.ensures.clear in
     let hold = subst (AllByRecursion IsHeld) c.new-piece-items.ensures.all c.new-piece-items.ensures.hold in
     let ended = walking_end either (piece_reaches D) (entries_of_reach D) all (pieces_left c.loop-piece.piece-iterator) c.loop-piece.found c.in-None.ensures.steps.0 c.loop-piece.invariant.walking in
     subst (λ o. IsEver (λ x y. up_to (distance_squared x y) D) (given_at plane_value_of a) (given_at plane_value_of b) o) (sym ended.0)

@@ -8,5 +8,5 @@ no_truth true h = sym h
 
 pub returns : goal.returns
 returns g c = record {
-  stay = λ h. join_kept g.met.C.Course.laws c.args.first.now c.args.second.now c.requires.first_sound c.requires.second_sound c.requires.clear (search rules) (search rules) (c.is_double.ensures.double (no_truth c.is_double.result h));
+  stay = λ h. join_kept g.met.C.Course.laws c.args.left.now c.args.right.now c.requires.left_sound c.requires.right_sound c.requires.clear (search rules) (search rules) (c.is_double.ensures.double (no_truth c.is_double.result h));
 }

@@ -1,21 +1,21 @@
 use Rattle.std.proofs.Common.{rules, ◌∙◌, ap}
 use Rattle.mob_span.proofs.Insides.{inside_self}
-use Rattle.mob_cells.specs.Restricted.{is_wanted}
+use Rattle.mob_span.specs.Flags.{same_bool}
 use Rattle.mob_restrict.proofs.ToOne.{steady_first, steady_nothing, steady_all, steady_fails}
 use Rattle.mob_restrict.proofs.by_value.on_steps.Goals as goal
 
 pub cut-requires : goal.cut-requires
 cut-requires g c = record { holds = (c.requires.sound, inside_self c.args.slice.now.span) }
 
-pub returns-then-not-is_wanted : goal.returns-then-not-is_wanted
-returns-then-not-is_wanted g c =
-    let e = c.is_wanted.ensures.value ∙ ap (is_wanted c.args.want) (rw c.start.ensures.limit at c.relates-keeps.ensures.value) in
-    record { kept = (steady_nothing g.met.C.Course.laws g.met.C.Compared.laws c.args.slice.now c.requires.sound c.args.value.now c.requires.steady c.args.want c.is_wanted.result _ e (search rules) c.new.ensures.items, steady_first g.met.C.Course.laws g.met.C.Compared.laws c.args.slice.now c.requires.sound c.args.value.now c.requires.steady) }
+pub returns-then-not-same_bool : goal.returns-then-not-same_bool
+returns-then-not-same_bool g c =
+    let e = c.same_bool.ensures.value ∙ ap (same_bool c.args.want) (rw c.start.ensures.limit at c.relates-keeps.ensures.value) in
+    record { kept = (steady_nothing g.met.C.Course.laws g.met.C.Compared.laws c.args.slice.now c.requires.sound c.args.value.now c.requires.steady c.args.want c.same_bool.result _ e (search rules) c.new.ensures.items, steady_first g.met.C.Course.laws g.met.C.Compared.laws c.args.slice.now c.requires.sound c.args.value.now c.requires.steady) }
 
 pub returns-in-Ok : goal.returns-in-Ok
 returns-in-Ok g c =
-    let e = c.is_wanted.ensures.value ∙ ap (is_wanted c.args.want) (rw c.start.ensures.limit at c.relates-keeps.ensures.value) in
-    record { kept = steady_all g.met.C.Course.laws g.met.C.Compared.laws c.args.slice.now c.requires.sound c.args.value.now c.requires.steady (λ v. v.items) c.listed.result c.args.want c.is_wanted.result c.in-Ok.part e (search rules) c.in-Ok.ensures.slice.0 c.listed.ensures.one }
+    let e = c.same_bool.ensures.value ∙ ap (same_bool c.args.want) (rw c.start.ensures.limit at c.relates-keeps.ensures.value) in
+    record { kept = steady_all g.met.C.Course.laws g.met.C.Compared.laws c.args.slice.now c.requires.sound c.args.value.now c.requires.steady (λ v. v.items) c.listed.result c.args.want c.same_bool.result c.in-Ok.part e (search rules) c.in-Ok.ensures.slice.0 c.listed.ensures.one }
 
 pub returns-in-Err : goal.returns-in-Err
 returns-in-Err g c = record { kept = rw c.operator_fault.ensures.same (steady_fails g.met.C.Course.laws g.met.C.Compared.laws c.args.slice.now c.requires.sound c.args.value.now c.requires.steady c.in-Err.fault c.in-Err.ensures.slice) }

@@ -4,7 +4,7 @@ use Rattle.std.proofs.lemmas.Result.{IfOk-weaker}
 use Rattle.mob_slice.proofs.Orders.{ordered, ordered-clear}
 use Rattle.mob_span.specs.Span.{has}
 use Rattle.mob_span.proofs.SpanLemmas.{instant_some}
-use Rattle.mob_cuts.specs.Cuts.{wholes}
+use Rattle.mob_shares.specs.Cuts.{wholes}
 use Rattle.mob_shares.specs.Shares.{rest_of}
 use Rattle.mob_shares.proofs.Walked.{shares_clear, shares_hold}
 use Rattle.mob_shares.proofs.Together.{pair_fit, are_taken, first_refused}
@@ -18,8 +18,8 @@ new-requires-clause-left_order g c = rw c.slices-lefts.ensures.same (ordered-cle
 pub new-requires-clause-right_order : goal.new-requires-clause-right_order
 new-requires-clause-right_order g c = rw c.slices-rights.ensures.same (ordered-clear g.C.Course.start_of g.C.Course.end_of c.args.b.now (ordered g.C.Course.start_of g.C.Course.end_of _ c.args.b.now c.slices-rights.ensures.normal.chained))
 
-pub one_each-requires : goal.one_each-requires
-one_each-requires g c κs = record {
+pub lift_each-requires : goal.lift_each-requires
+lift_each-requires g c κs = record {
   callable = λ p h. ((refl, tt), (c.requires.callable, h));
   can = c.new.ensures.can;
   ends = tt;
@@ -32,21 +32,21 @@ one_each-requires g c κs = record {
 
 pub returns-clause-some : goal.returns-clause-some
 returns-clause-some g c =
-    IfOk-weaker c.one_each.result _ _
+    IfOk-weaker c.lift_each.result _ _
     (λ all n. taken_some g.C.Course.value_of g.C.Course.start_of g.C.Course.end_of g.C.Course.parts_of (λ s. s ∷ []) (FnReturnsAt g.F.Fn c.args.both)
     (λ q x a t k. let p = a.0 in let i : has p.span t ≡ true = subst (λ z. has z.span t ≡ true) (sym a.1) k in (c.requires.sound p x (instant_some p.span t i) a.2 a.3).0.full t i)
     c.args.a.now c.args.b.now all.items c.slices-lefts.ensures.normal.some (ordered g.C.Course.start_of g.C.Course.end_of _ c.args.a.now c.slices-lefts.ensures.normal.chained)
     (are_taken g.met.C.Course.laws (λ s. s ∷ []) (FnReturnsAt g.F.Fn c.args.both) _ (λ p x k. (k.0, rw k.1.shows at k.1.says.met)) c.new.result c.args.a.now c.args.b.now c.new.ensures.can (c.new.ensures.left ∙ ap (wholes (λ s. s.span)) c.slices-lefts.ensures.same) (c.new.ensures.right ∙ ap (wholes (λ s. s.span)) c.slices-rights.ensures.same)
     (λ p x h i r. (c.requires.sound p x i (pair_fit g.C.Course.start_of g.C.Course.end_of p h) r).1) (λ v. v.items) all n))
-    c.one_each.ensures.lifted
+    c.lift_each.ensures.lifted
 
 pub returns-clause-taken : goal.returns-clause-taken
 returns-clause-taken g c =
-    IfOk-weaker c.one_each.result _ _
+    IfOk-weaker c.lift_each.result _ _
     (λ all n. are_taken g.met.C.Course.laws (λ s. s ∷ []) (FnReturnsAt g.F.Fn c.args.both) _ (λ p x k. (k.0, rw k.1.shows at k.1.says.met)) c.new.result c.args.a.now c.args.b.now c.new.ensures.can (c.new.ensures.left ∙ ap (wholes (λ s. s.span)) c.slices-lefts.ensures.same) (c.new.ensures.right ∙ ap (wholes (λ s. s.span)) c.slices-rights.ensures.same)
     (λ p x h i r. (c.requires.sound p x i (pair_fit g.C.Course.start_of g.C.Course.end_of p h) r).1) (λ v. v.items) all n)
-    c.one_each.ensures.lifted
+    c.lift_each.ensures.lifted
 
 pub returns-clause-passed : goal.returns-clause-passed
 returns-clause-passed g c = λ f e. first_refused g.met.C.Course.laws (λ s. s ∷ []) (FnReturnsAt g.F.Fn c.args.both) _ (λ p x k. (k.0, rw k.1.shows at k.1.says.met)) c.new.result c.args.a.now c.args.b.now c.new.ensures.can (c.new.ensures.left ∙ ap (wholes (λ s. s.span)) c.slices-lefts.ensures.same) (c.new.ensures.right ∙ ap (wholes (λ s. s.span)) c.slices-rights.ensures.same)
-    (λ p x h i r. (c.requires.sound p x i (pair_fit g.C.Course.start_of g.C.Course.end_of p h) r).1) f _ (λ p k. (k.0, rw k.1.shows at k.1.says.met)) (λ p h r. c.requires.passes p f (pair_fit g.C.Course.start_of g.C.Course.end_of p h) r) (c.one_each.ensures.passed f e)
+    (λ p x h i r. (c.requires.sound p x i (pair_fit g.C.Course.start_of g.C.Course.end_of p h) r).1) f _ (λ p k. (k.0, rw k.1.shows at k.1.says.met)) (λ p h r. c.requires.passes p f (pair_fit g.C.Course.start_of g.C.Course.end_of p h) r) (c.lift_each.ensures.passed f e)

@@ -4,7 +4,7 @@ use Rattle.std.proofs.lemmas.Result.{IfOk-weaker}
 use Rattle.mob_slice.proofs.Orders.{ordered, ordered-clear}
 use Rattle.mob_span.specs.Span.{has}
 use Rattle.mob_span.proofs.SpanLemmas.{instant_some}
-use Rattle.mob_cuts.specs.Cuts.{wholes}
+use Rattle.mob_shares.specs.Cuts.{wholes}
 use Rattle.mob_shares.specs.Shares.{rest_of}
 use Rattle.mob_shares.proofs.Walked.{shares_clear, shares_hold}
 use Rattle.mob_shares.proofs.Together.{pair_fit, are_taken, first_refused}

@@ -1,17 +1,29 @@
-use Rattle.std.proofs.Common.{Ok, sym, subst}
-use Rattle.std.proofs.lemmas.Result.{MatchResult-weaker}
-use Rattle.mob_typed.specs.Selects.{select_seen}
-use Rattle.mob_literal.specs.Fields.{field_text}
+use Rattle.std.proofs.Common.{inl, inr, Err, map}
+use Rattle.std.proofs.lemmas.Result.{IfErr-weaker, IfOk-weaker}
+use Rattle.mob_meaning.specs.Evaluation.{TreeEvaluatesTo}
 use Rattle.mob_eval.specs.Views.{scene_of}
+use Rattle.mob_eval.specs.Faults.{OnPassed}
+use Rattle.mob_eval.specs.Remembered.{root_seen}
 use Rattle.mob_arrange.specs.RowValues.{row_value}
 use Rattle.mob_tail.specs.IsMadeOfEach.{IsMadeOfEach}
-use Rattle.mob_tail.specs.Answers.{IsField}
-use Rattle.mob_tail.proofs.AnswerRows.{map_twice, row_evaluated}
+use Rattle.mob_tail.specs.Evaluated.{AreEvaluated}
+use Rattle.mob_tail.proofs.Making.{on_passed}
 use Rattle.mob_tail.proofs.evaluation.row_on.Goals as goal
 
 pub returns-in-Ok-clause-row : goal.returns-in-Ok-clause-row
-returns-in-Ok-clause-row c =
-    let select = select_seen c.args.select.now in
+returns-in-Ok-clause-row g c =
+    IfOk-weaker c.row_before.result _ _ (λ row h. (map row_value c.in-Ok.fields, h.0, c.in-Ok.ensures.values, h.1, h.2)) c.row_before.ensures.row
+
+pub returns-in-Ok-clause-fault : goal.returns-in-Ok-clause-fault
+returns-in-Ok-clause-fault g c =
     let s = scene_of c.args.view.now in
-    let made = subst (λ z. IsMadeOfEach (IsField s) select.items (Ok z)) (sym (map_twice row_value (field_text s.day) c.in-Ok.fields)) c.in-Ok.ensures.fields in
-    MatchResult-weaker c.row_before.result c.row_before.ensures.row (λ row h. row_evaluated select s h.0 _ row made h.1 h.2) (λ e h. h)
+    let items = map root_seen c.args.items.now in
+    let keys = map root_seen c.args.keys.now in
+    IfErr-weaker c.row_before.result (OnPassed (λ f. IsMadeOfEach (TreeEvaluatesTo s) keys (Err f))) (OnPassed (λ f. AreEvaluated s items keys (Err f)))
+    (λ e h. on_passed (λ f. IsMadeOfEach (TreeEvaluatesTo s) keys (Err f)) (λ f. AreEvaluated s items keys (Err f)) (λ f k. inr (map row_value c.in-Ok.fields, c.in-Ok.ensures.values, k)) e h) c.row_before.ensures.fault
+
+pub returns-in-Err-clause-fault : goal.returns-in-Err-clause-fault
+returns-in-Err-clause-fault g c =
+    let s = scene_of c.args.view.now in
+    let items = map root_seen c.args.items.now in
+    on_passed (λ f. IsMadeOfEach (TreeEvaluatesTo s) items (Err f)) (λ f. AreEvaluated s items (map root_seen c.args.keys.now) (Err f)) (λ f h. inl h) c.in-Err.fault c.in-Err.ensures.fault

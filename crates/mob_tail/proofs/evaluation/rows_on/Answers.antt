@@ -11,7 +11,7 @@ use Rattle.mob_tail.proofs.Making.{each_next, each_fault, each_all}
 use Rattle.mob_tail.proofs.evaluation.rows_on.Goals as goal
 
 pub loop-tuple-preserved : goal.loop-tuple-preserved
-loop-tuple-preserved c =
+loop-tuple-preserved g c =
     let at = c.loop-tuple in
     let select = select_seen c.args.select.now in
     let R = IsTupleRow select c.args.store.now c.args.epoch.now in
@@ -23,7 +23,7 @@ loop-tuple-preserved c =
     (subst (λ t. IsRowOf select (there t) (Ok (see c.in-Ok-row_of.row))) c.as_slice.ensures.same c.in-Ok-row_of.ensures.row) seen
 
 pub returns-in-Err-clause-fault : goal.returns-in-Err-clause-fault
-returns-in-Err-clause-fault c =
+returns-in-Err-clause-fault g c =
     let at = c.loop-tuple in
     let select = select_seen c.args.select.now in
     let R = IsTupleRow select c.args.store.now c.args.epoch.now in
@@ -34,5 +34,8 @@ returns-in-Err-clause-fault c =
     c.on.ensures.fault
 
 pub returns-clause-rows : goal.returns-clause-rows
-returns-clause-rows c =
+returns-clause-rows g c =
     each_all (IsTupleRow (select_seen c.args.select.now) c.args.store.now c.args.epoch.now) c.args.kept.now c.loop-tuple.tuple-index (map (answer_row (select_seen c.args.select.now) c.args.epoch.now) c.loop-tuple.rows.items) (omega arith) c.loop-tuple.invariant
+
+pub row_of-requires : goal.row_of-requires
+row_of-requires g c = record { items = c.requires.items; keys = c.requires.keys; fits = c.requires.fits c.as_slice.result.now }

@@ -6,4 +6,4 @@ use Rattle.mob_tail.specs.AnswerRows.{answer_row}
 use Rattle.mob_tail.proofs.evaluation.rows_on.Given as goal
 
 abbrev pub invariant-loop-tuple : goal.invariant-loop-tuple
-invariant-loop-tuple l = IsMadeOfEach (IsTupleRow (select_seen l.select) l.store l.epoch) (take l.tuple-index l.kept) (Ok (map (answer_row (select_seen l.select) l.epoch) l.rows.items))
+invariant-loop-tuple g l = IsMadeOfEach (IsTupleRow (select_seen l.select) l.store l.epoch) (take l.tuple-index l.kept) (Ok (map (answer_row (select_seen l.select) l.epoch) l.rows.items))

@@ -1,7 +1,7 @@
 use Rattle.std.proofs.Common.{◌≡◌, ◌+◌, ◌<◌, ◌≤◌, suc, arith, length, set, subst}
 use Rattle.mob_eval.specs.Views.{scene_of}
 use Rattle.mob_tail.specs.GroupSteps.{IsCellWith}
-use Rattle.mob_tail.proofs.Changing.{AreChanged, all_changed, changed_length, next_changed, none_changed}
+use Rattle.mob_list.proofs.Changing.{AreChanged, all_changed, changed_length, next_changed, none_changed}
 use Rattle.mob_tail.proofs.TupleSteps.{passed_weaker, fails_at}
 use Rattle.mob_tail.proofs.grouped.cells_with.Goals as goal
 

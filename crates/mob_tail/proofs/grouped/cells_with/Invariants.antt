@@ -1,4 +1,4 @@
-use Rattle.mob_tail.proofs.Changing.{AreChanged}
+use Rattle.mob_list.proofs.Changing.{AreChanged}
 use Rattle.mob_eval.specs.Views.{scene_of}
 use Rattle.mob_tail.specs.GroupSteps.{IsCellWith}
 use Rattle.mob_tail.proofs.grouped.cells_with.Given as goal

@@ -1,5 +1,0 @@
-//! Tests of linear functions on spans: their roots, and the cells that they make.
-#![tactic(auto)]
-
-#[cfg(test)]
-mod cells;

@@ -1,0 +1,288 @@
+//! Which operators of a query are remembered.
+ghost use Rattle.std.specs.Prelude.{◌≡◌, ◌==◌, ◌++◌, List, map};
+ghost use Rattle.mob_typed.specs.Trees.{TypedTree, typed_of, typed_trees};
+ghost use Rattle.mob_eval.specs.Remembered.{AreNodes, all_nodes_at, names_only, nodes_at, nodes_here, place_of, reads_only, root_seen};
+
+use crate::memory::Memory;
+use crate::memory::remembered::Remembering;
+use mob_ast::SqlType;
+use mob_operators::Op;
+use mob_typed::TExpr;
+use mob_value::Store;
+use std::alloc::{AllocError, Global};
+
+// How many operators are remembered at most, about: each is looked for at each operator.
+const MOST: usize = 8;
+
+/// The nodes at a place of the script.
+#[derive(Clone, Copy)]
+pub enum NodesAt<'a> {
+    /// There is none.
+    Nobody,
+    /// There is just one.
+    Only(&'a TExpr),
+    /// There are several.
+    Several,
+}
+
+// The nodes of two parts.
+fn both<'a>(one: NodesAt<'a>, other: NodesAt<'a>) -> NodesAt<'a>
+    ensures both { (es fs : List TypedTree) → AreNodes one.entry es → AreNodes other.entry fs → AreNodes result (es ++ fs) }
+{
+    match (one, other) {
+        (NodesAt::Nobody, nodes) => nodes,
+        (nodes, NodesAt::Nobody) => nodes,
+        _ => NodesAt::Several,
+    }
+}
+
+// A node by itself.
+fn node_here(e: &TExpr, at: u32) -> NodesAt<'_>
+    ensures nodes { AreNodes result (nodes_here (place_of (typed_of e.now) == at) (typed_of e.now)) }
+{
+    if e.place == at {
+        return NodesAt::Only(e);
+    }
+    NodesAt::Nobody
+}
+
+// The nodes of an expression at a place of the script.
+fn nodes_of(e: &TExpr, at: u32) -> NodesAt<'_>
+    ensures nodes { AreNodes result (nodes_at at (typed_of e.now)) }
+{
+    let mut found = node_here(e, at);
+    for arg in &e.args {
+        found = both(found, nodes_of(arg, at));
+    }
+    found
+}
+
+// Those of several expressions.
+fn nodes_of_all<'a>(roots: &[&'a TExpr], at: u32) -> NodesAt<'a>
+    ensures nodes { AreNodes result (all_nodes_at at (typed_trees (map root_seen roots.now))) }
+{
+    let mut found = NodesAt::Nobody;
+    for root in roots {
+        found = both(found, nodes_of(*root, at));
+    }
+    found
+}
+
+// Whether an operator that reads a table of FROM reads that of this place.
+fn reads_only(op: Op, place: Option<u32>) -> bool
+    ensures only { result ≡ reads_only place op }
+{
+    match (op, place) {
+        (Op::Column { from, column: _ }, Some(place)) => from == place,
+        (Op::Column { from: _, column: _ }, None) => false,
+        _ => true,
+    }
+}
+
+// Whether an expression names no place but this one.
+#[tactic(auto, using(mob_typed::proofs::TreeFacts::typed_is))]
+fn names_only(e: &TExpr, place: Option<u32>) -> bool
+    ensures only { result ≡ names_only place (typed_of e.now) }
+{
+    if !reads_only(e.op, place) {
+        return false;
+    }
+    for arg in &e.args {
+        if !names_only(arg, place) {
+            return false;
+        }
+    }
+    true
+}
+
+// The places that an expression names.
+#[derive(Clone, Copy)]
+enum Reach {
+    Nowhere,
+    At(u32),
+    Far,
+}
+
+fn own_reach(op: Op) -> Reach {
+    match op {
+        Op::Column { from, column: _ } => Reach::At(from),
+        _ => Reach::Nowhere,
+    }
+}
+
+fn wider(one: Reach, other: Reach) -> Reach {
+    match (one, other) {
+        (Reach::Nowhere, reach) => reach,
+        (reach, Reach::Nowhere) => reach,
+        (Reach::At(a), Reach::At(b)) => { if a == b { Reach::At(a) } else { Reach::Far } }
+        _ => Reach::Far,
+    }
+}
+
+fn reach_of(e: &TExpr) -> Reach {
+    let mut reach = own_reach(e.op);
+    for arg in &e.args {
+        reach = wider(reach, reach_of(arg));
+    }
+    reach
+}
+
+// What is remembered of an operator.
+#[derive(Clone, Copy)]
+enum What {
+    Outcome,
+    Box,
+}
+
+// An operator that may be remembered: its place in the script, and the place that it names.
+#[derive(Clone, Copy)]
+struct Chosen {
+    at: u32,
+    place: Option<u32>,
+    what: What,
+}
+
+fn is_box(what: What) -> bool {
+    match what {
+        What::Outcome => false,
+        What::Box => true,
+    }
+}
+
+// Whether two are of one place of the script.
+fn is_again(one: &Chosen, other: &Chosen) -> bool {
+    if one.at != other.at {
+        return false;
+    }
+    is_box(one.what) == is_box(other.what)
+}
+
+// Adds an operator, unless one of its place of the script is there.
+fn add(one: Chosen, chosen: &mut Vec<Chosen>) -> Result<(), AllocError> {
+    for other in chosen.as_slice() {
+        if is_again(&one, other) {
+            return Ok(());
+        }
+    }
+    chosen.push(one)?;
+    Ok(())
+}
+
+// Which place an expression names, if it names at most one. In a query of one table each row is
+// passed once, and only an operator that names none is of use.
+fn place_named(e: &TExpr, several: bool) -> Option<Option<u32>> {
+    match reach_of(e) {
+        Reach::Nowhere => Some(None),
+        Reach::At(place) => { if several { Some(Some(place)) } else { None } }
+        Reach::Far => None,
+    }
+}
+
+// The operands of `&&` whose boxes may be remembered: moving points.
+fn choose_boxes(e: &TExpr, several: bool, chosen: &mut Vec<Chosen>) -> Result<(), AllocError> {
+    let Op::Overlap = e.op else {
+        return Ok(());
+    };
+    for arg in &e.args {
+        if let (SqlType::TPoint, Some(place)) = (arg.ty, place_named(arg, several)) {
+            let one = Chosen {
+                at: arg.place,
+                place,
+                what: What::Box,
+            };
+            add(one, chosen)?;
+        }
+    }
+    Ok(())
+}
+
+// The largest operators of an expression that may be remembered.
+fn choose(e: &TExpr, several: bool, chosen: &mut Vec<Chosen>) -> Result<(), AllocError> {
+    if e.args.is_empty() || chosen.len() >= MOST {
+        return Ok(());
+    }
+    if let Some(place) = place_named(e, several) {
+        let one = Chosen {
+            at: e.place,
+            place,
+            what: What::Outcome,
+        };
+        return add(one, chosen);
+    }
+    choose_boxes(e, several, chosen)?;
+    for arg in &e.args {
+        choose(arg, several, chosen)?;
+    }
+    Ok(())
+}
+
+// Those of several expressions.
+fn chosen_of(alloc: Global, several: bool, roots: &[&TExpr]) -> Result<Vec<Chosen>, AllocError> {
+    let mut chosen = Vec::new(alloc);
+    for root in roots {
+        choose(*root, several, &mut chosen)?;
+    }
+    Ok(chosen)
+}
+
+// How many rows the table of a place has; one cell is enough where no place is named.
+fn rows_at(store: &Store, from: &[u32], place: Option<u32>) -> usize {
+    let Some(place) = place else {
+        return 1;
+    };
+    let Some(number) = from.get(place as usize) else {
+        return 0;
+    };
+    match store.tables.as_slice().get(*number as usize) {
+        Some(table) => table.rows.len(),
+        None => 0,
+    }
+}
+
+// Remembers an operator that stands alone at its place of the script.
+fn remember_one<K: Remembering>(
+    alloc: Global,
+    roots: &[&TExpr],
+    chosen: &Chosen,
+    rows: usize,
+    memory: &mut Memory<K>,
+) -> Result<(), AllocError>
+    requires roots { K.recollection.roots ≡ map root_seen roots.now }
+{
+    match nodes_of_all(roots, chosen.at) {
+        NodesAt::Only(e) => {
+            if !names_only(e, chosen.place) {
+                return Ok(());
+            }
+            match chosen.what {
+                What::Outcome => memory.remember(alloc, chosen.at, chosen.place, rows),
+                What::Box => memory.remember_boxes(alloc, chosen.at, chosen.place, rows),
+            }
+        }
+        _ => Ok(()),
+    }
+}
+
+/// A memory of the operators of these expressions that name at most one table of FROM, and of the
+/// boxes of such operands of `&&`: of about eight, and of none that shares its place in the script
+/// with another. If memory is refused there are fewer.
+pub fn memory_of<K: Remembering>(
+    alloc: Global,
+    store: &Store,
+    from: &[u32],
+    roots: &[&TExpr],
+) -> Memory<K>
+    requires roots { K.recollection.roots ≡ map root_seen roots.now }
+{
+    let mut memory = Memory::new(alloc);
+    let Ok(chosen) = chosen_of(alloc, from.len() > 1, roots) else {
+        return memory;
+    };
+    for one in &chosen {
+        let rows = rows_at(store, from, one.place);
+        if remember_one(alloc, roots, one, rows, &mut memory).is_err() {
+            return memory;
+        }
+    }
+    memory
+}

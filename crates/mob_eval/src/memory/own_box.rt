@@ -1,0 +1,145 @@
+//! The boxes of operands of `&&` that name at most one table.
+//!
+//! The box of a moving point takes a pass over its slices. The first evaluation that needs the box
+//! of such an operand on a row keeps it, and each later one takes it from there.
+ghost use Rattle.std.specs.Prelude.{◌≡◌, ◌∷◌, [], Ok, Some, None, IfSome};
+ghost use Rattle.mob_typed.specs.Trees.{typed_of};
+ghost use Rattle.mob_value.specs.ValueBoxes.{OnBox};
+ghost use Rattle.mob_meaning.specs.Boxes.{IsOverlap};
+ghost use Rattle.mob_meaning.specs.Evaluation.{EvaluatesTo, OperandsEvaluateTo};
+ghost use Rattle.mob_eval.specs.Views.{scene_of};
+ghost use Rattle.mob_eval.specs.SoFar.{trees};
+ghost use Rattle.mob_eval.specs.Remembered.{AllFit, Fits, IsBoxTold};
+
+use crate::memory::remembered::{Cell, Remembering, has_room};
+use crate::memory::{Memory, box_cell_of};
+use crate::operators::boxes::{overlap, overlap_of};
+use crate::scene::View;
+use mob_stbox::StBox;
+use mob_typed::TExpr;
+use mob_value::{Value, box_of_value};
+use std::alloc::Global;
+use std::marker::{Model, PhantomData};
+use std::mem::size_of;
+
+/// The box of the operand at a place of the script: on a row of the table at a place of FROM, or, if
+/// it names no place, on each tuple.
+#[derive(Drop)]
+pub struct OwnBox {
+    at: u32,
+    place: Option<u32>,
+    row: u32,
+    area: StBox,
+}
+
+// A box that is right on each tuple with its row.
+#[derive(Drop)]
+pub struct ToldBox<K: Remembering> {
+    own: OwnBox,
+    by: PhantomData<K>,
+}
+
+impl<K: Remembering> Model for ToldBox<K> {
+    ghost use Rattle.mob_eval.specs.declared.memory.own_box.OwnBox.{OwnBox as own_box_of};
+    ghost use Rattle.mob_eval.specs.Remembered.{IsBoxTold};
+
+    ghost Value = { own_box_of };
+
+    ghost view = { λ t. t.own };
+
+    ghost invariant = { λ t. IsBoxTold K.recollection t.own.at t.own.place t.own.row t.own.area };
+}
+
+impl<K: Remembering> ToldBox<K> {
+    // The box, if it is of the operand and row of a cell.
+    fn area_for(&self, cell: &Cell<'_, ToldBox<K>>) -> Option<StBox>
+        ensures told { IfSome result (IsBoxTold K.recollection cell.now.at cell.now.place cell.now.row) }
+    {
+        let own = &self.own;
+        if cell.is_at(own.at, own.place, own.row) {
+            Some(own.area)
+        } else {
+            None
+        }
+    }
+}
+
+// The box that is kept in a cell, if one is.
+fn kept_box<K: Remembering>(cell: &Cell<'_, ToldBox<K>>) -> Option<StBox>
+    ensures told { IfSome result (IsBoxTold K.recollection cell.now.at cell.now.place cell.now.row) }
+{
+    match cell.kept.get() {
+        Some(told) => told.area_for(cell),
+        None => None,
+    }
+}
+
+// Keeps a box where there is room for it, unless another worker was faster.
+fn keep<K: Remembering>(alloc: Global, cell: &Cell<'_, ToldBox<K>>, area: StBox)
+    requires told { IsBoxTold K.recollection cell.now.at cell.now.place cell.now.row area }
+{
+    if !has_room(cell.taken, size_of::<OwnBox>() as u64) {
+        return;
+    }
+    let told = ToldBox {
+        own: OwnBox {
+            at: cell.at,
+            place: cell.place,
+            row: cell.row,
+            area,
+        },
+        by: PhantomData,
+    };
+    let Ok(boxed) = Box::new(alloc, told) else {
+        return;
+    };
+    let _set = cell.kept.set(boxed);
+}
+
+// The box that the value of an operand has, if it has one: from the memory, if it is there.
+fn box_with<'a, K: Remembering>(
+    alloc: Global,
+    operand: &TExpr,
+    value: &Value,
+    view: &View<'a>,
+    memory: Option<&'a Memory<K>>,
+) -> Option<StBox>
+    requires fits { Fits K.recollection (scene_of view.now) (typed_of operand.now) }
+    requires value { EvaluatesTo (scene_of view.now) operand.now (Ok value.now) }
+    ensures own { OnBox value.now (λ b. result ≡ Some b) (result ≡ None) }
+{
+    let Some(cell) = box_cell_of(alloc, memory, operand.place, view.tuple) else {
+        return box_of_value(value);
+    };
+    if let Some(area) = kept_box(&cell) {
+        return Some(area);
+    }
+    let Some(area) = box_of_value(value) else {
+        return None;
+    };
+    keep(alloc, &cell, area);
+    Some(area)
+}
+
+/// `&&` with a memory, from which the boxes of its operands are taken.
+pub fn overlap_with<'a, K: Remembering>(
+    alloc: Global,
+    operands: &[TExpr],
+    left: &Value,
+    right: &Value,
+    view: &View<'a>,
+    memory: Option<&'a Memory<K>>,
+) -> Value
+    requires fits { AllFit K.recollection (scene_of view.now) (trees operands.now) }
+    requires given { OperandsEvaluateTo (scene_of view.now) None (trees operands.now) (Ok (left.now ∷ right.now ∷ [])) }
+    ensures value { IsOverlap left.now right.now result }
+{
+    match operands {
+        [one, other] => {
+            let one = box_with(alloc, one, left, view, memory);
+            let other = box_with(alloc, other, right, view, memory);
+            overlap_of(one, other)
+        }
+        _ => overlap(left, right),
+    }
+}

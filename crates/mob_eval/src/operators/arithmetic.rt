@@ -1,0 +1,135 @@
+//! Arithmetic, on plain numbers and at each instant.
+ghost use Rattle.std.specs.Prelude.{◌≡◌, ◌||◌, true, IfOk};
+ghost use Rattle.std.specs.List.{flat_map};
+ghost use Rattle.mob_frac.specs.Fits.{IsExact};
+ghost use Rattle.mob_arith.specs.Termwise.{entries_at_ends};
+ghost use Rattle.mob_value.specs.declared.value.Value.TheVariants.{Number};
+ghost use Rattle.mob_slice.specs.Entries.{IsFirst, IsJudged};
+ghost use Rattle.mob_slice.specs.Operands.{steady_value, steady_parts, IsPointwise};
+ghost use Rattle.mob_slice.specs.Sides.{operand_of, has_slices, given_at, pieces};
+ghost use Rattle.mob_meaning.specs.Arithmetic.{IsArithmetic, arithmetic_entries, plain_entries, on_numbers, quotient, IsDivided, divided_parts, divided_entries, parts_on};
+ghost use Rattle.mob_meaning.specs.Calculations.{result_by, parts_by};
+ghost use Rattle.mob_meaning.specs.Lifted.{IsMovingInt, OnPair, entries_on, number_pair};
+ghost use Rattle.mob_eval.specs.Outcomes.{IsOutcome};
+
+use crate::operators::line_arithmetic::{line_calculated, line_divided};
+use crate::operators::pair::number_pair;
+use mob_arith::{minus, plus, times};
+use mob_ast::SqlType;
+use mob_frac::{Frac, Overflow};
+use mob_meaning::Calculation;
+use mob_ordinary::kinds::int_or_null;
+use mob_ordinary::numbers::is_nil;
+use mob_slice::{Formula, Moving, OpFault, Operand, Steady};
+use mob_value::Value;
+use std::alloc::Global;
+
+fn calculated(by: Calculation, left: &Frac, right: &Frac) -> Result<Frac, Overflow>
+    ensures exact { IsExact (result_by by left.now right.now) result }
+{
+    match by {
+        Calculation::Sum => left.add(right),
+        Calculation::Difference => left.sub(right),
+        Calculation::Product => left.mul(right),
+    }
+}
+
+// `+`, `-` or `*` on plain numbers.
+fn plain(by: Calculation, left: &Value, right: &Value) -> Result<Value, OpFault>
+    ensures outcome { IsOutcome (λ v. v ≡ on_numbers (result_by by) left.now right.now) (IsFirst (plain_entries (parts_on (parts_by by) left.now right.now))) result }
+{
+    match (left, right) {
+        (Value::Number(a), Value::Number(b)) => match calculated(by, a, b) {
+            Ok(number) => Ok(Value::Number(number)),
+            Err(_) => Err(OpFault::Passed {
+                formula: Formula::F2,
+            }),
+        },
+        _ => Ok(Value::Null),
+    }
+}
+
+// The operation on two operands of which one has slices.
+fn lifted(
+    alloc: Global,
+    by: Calculation,
+    left: Operand<'_, Steady<Frac>>,
+    right: Operand<'_, Steady<Frac>>,
+) -> Result<Option<Moving<Steady<Frac>>>, OpFault>
+    requires moving { (has_slices (operand_of left) || has_slices (operand_of right)) ≡ true }
+    ensures value { IfOk result (λ r. IsPointwise steady_value (result_by by) (given_at steady_value (operand_of left.entry)) (given_at steady_value (operand_of right.entry)) r) }
+    ensures first { IsJudged (flat_map (entries_at_ends steady_value steady_parts steady_value steady_parts (parts_by by)) (pieces (operand_of left.entry) (operand_of right.entry))) result }
+{
+    match by {
+        Calculation::Sum => plus(alloc, left, right),
+        Calculation::Difference => minus(alloc, left, right),
+        Calculation::Product => times(alloc, left, right),
+    }
+}
+
+// `+`, `-` or `*` at each instant, on two values of which one is a tint.
+fn moving(alloc: Global, by: Calculation, left: &Value, right: &Value) -> Result<Value, OpFault>
+    ensures outcome { IsOutcome (OnPair (number_pair left.now right.now) (IsMovingInt (result_by by))) (IsFirst (entries_on (entries_at_ends steady_value steady_parts steady_value steady_parts (parts_by by)) (number_pair left.now right.now))) result }
+{
+    match number_pair(left, right) {
+        Some((left, right)) => match lifted(alloc, by, left, right) {
+            Ok(value) => Ok(int_or_null(value)),
+            Err(fault) => Err(fault),
+        },
+        None => Ok(Value::Null),
+    }
+}
+
+/// `+`, `-` or `*` between two values, with a result of this type.
+pub fn calculate(
+    alloc: Global,
+    by: Calculation,
+    ty: SqlType,
+    left: &Value,
+    right: &Value,
+) -> Result<Value, OpFault>
+    ensures outcome { IsOutcome (IsArithmetic by ty left.now right.now) (IsFirst (arithmetic_entries by ty left.now right.now)) result }
+{
+    match ty {
+        SqlType::Int => plain(by, left, right),
+        SqlType::Numeric => plain(by, left, right),
+        SqlType::TInt => moving(alloc, by, left, right),
+        SqlType::TFrac => line_calculated(alloc, by, left, right),
+        _ => Ok(Value::Null),
+    }
+}
+
+fn number_division(left: &Frac, right: &Frac) -> Result<Value, OpFault>
+    ensures outcome { IsOutcome (λ v. v ≡ quotient (Number left.now) (Number right.now)) (IsFirst (plain_entries (divided_parts left.now right.now))) result }
+{
+    if is_nil(right) {
+        return Ok(Value::Null);
+    }
+    match left.div(right) {
+        Ok(number) => Ok(Value::Number(number)),
+        Err(_) => Err(OpFault::Passed {
+            formula: Formula::F2,
+        }),
+    }
+}
+
+// `/` between two values. NULL where the divisor is 0.
+fn plain_division(left: &Value, right: &Value) -> Result<Value, OpFault>
+    ensures outcome { IsOutcome (λ v. v ≡ quotient left.now right.now) (IsFirst (plain_entries (parts_on divided_parts left.now right.now))) result }
+{
+    match (left, right) {
+        (Value::Number(a), Value::Number(b)) => number_division(a, b),
+        _ => Ok(Value::Null),
+    }
+}
+
+/// `/` between two values, with a result of this type. NULL where the divisor is 0.
+pub fn division(alloc: Global, ty: SqlType, left: &Value, right: &Value) -> Result<Value, OpFault>
+    ensures outcome { IsOutcome (IsDivided ty left.now right.now) (IsFirst (divided_entries ty left.now right.now)) result }
+{
+    match ty {
+        SqlType::Numeric => plain_division(left, right),
+        SqlType::TFrac => line_divided(alloc, left, right),
+        _ => Ok(Value::Null),
+    }
+}

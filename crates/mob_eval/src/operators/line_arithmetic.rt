@@ -1,0 +1,162 @@
+//! Arithmetic at each instant on numbers that change evenly.
+ghost use Rattle.std.specs.Prelude.{◌≡◌};
+ghost use Rattle.mob_frac.specs.Formula.{sum_parts, difference_parts, product_parts};
+ghost use Rattle.mob_arith.specs.Operations.{sum_of, difference_of, product_of};
+ghost use Rattle.mob_arith.specs.Termwise.{entries_at_ends};
+ghost use Rattle.mob_slice.specs.Entries.{IsFirst};
+ghost use Rattle.mob_slice.specs.Lines.{line_value_of, line_parts_of};
+ghost use Rattle.mob_slice.specs.Operands.{steady_value, steady_parts};
+ghost use Rattle.mob_meaning.specs.Arithmetic.{IsLineArithmetic, IsQuotientOf, IsLineQuotient, line_entries, quotient_entries, line_quotient_entries};
+ghost use Rattle.mob_meaning.specs.Lifted.{OnOperands, entries_on};
+ghost use Rattle.mob_meaning.specs.Lines.{as_line, frac_pair, line_pair, factors, product_pair, IsMovingFrac};
+ghost use Rattle.mob_ordinary.specs.Ordinary.{is_nil};
+ghost use Rattle.mob_eval.specs.Outcomes.{IsOutcome};
+
+use crate::operators::lines::{as_line, as_lines};
+use crate::operators::pair::{factors, frac_pair};
+use mob_arith::{minus, over_const, plus, times};
+use mob_frac::Frac;
+use mob_meaning::Calculation;
+use mob_ordinary::kinds::frac_or_null;
+use mob_ordinary::numbers::is_nil;
+use mob_slice::{Line, Moving, OpFault};
+use mob_value::Value;
+use std::alloc::Global;
+use std::mem::drop;
+
+fn frac_sum(alloc: Global, left: &Value, right: &Value) -> Result<Value, OpFault>
+    ensures outcome { IsOutcome (OnOperands line_value_of line_value_of (frac_pair left.now right.now) (IsMovingFrac sum_of)) (IsFirst (entries_on (entries_at_ends line_value_of line_parts_of line_value_of line_parts_of sum_parts) (frac_pair left.now right.now))) result }
+{
+    match frac_pair(left, right) {
+        Some((left, right)) => match plus(alloc, left, right) {
+            Ok(value) => Ok(frac_or_null(value)),
+            Err(fault) => Err(fault),
+        },
+        None => Ok(Value::Null),
+    }
+}
+
+fn frac_difference(alloc: Global, left: &Value, right: &Value) -> Result<Value, OpFault>
+    ensures outcome { IsOutcome (OnOperands line_value_of line_value_of (frac_pair left.now right.now) (IsMovingFrac difference_of)) (IsFirst (entries_on (entries_at_ends line_value_of line_parts_of line_value_of line_parts_of difference_parts) (frac_pair left.now right.now))) result }
+{
+    match frac_pair(left, right) {
+        Some((left, right)) => match minus(alloc, left, right) {
+            Ok(value) => Ok(frac_or_null(value)),
+            Err(fault) => Err(fault),
+        },
+        None => Ok(Value::Null),
+    }
+}
+
+fn frac_product(alloc: Global, left: &Value, right: &Value) -> Result<Value, OpFault>
+    ensures outcome { IsOutcome (OnOperands line_value_of steady_value (factors left.now right.now) (IsMovingFrac product_of)) (IsFirst (entries_on (entries_at_ends line_value_of line_parts_of steady_value steady_parts product_parts) (factors left.now right.now))) result }
+{
+    match factors(left, right) {
+        Some((line, factor)) => match times(alloc, line, factor) {
+            Ok(value) => Ok(frac_or_null(value)),
+            Err(fault) => Err(fault),
+        },
+        None => Ok(Value::Null),
+    }
+}
+
+fn line_sum(alloc: Global, left: &Value, right: &Value) -> Result<Value, OpFault>
+    ensures outcome { IsOutcome (OnOperands line_value_of line_value_of (line_pair left.now right.now) (IsMovingFrac sum_of)) (IsFirst (entries_on (entries_at_ends line_value_of line_parts_of line_value_of line_parts_of sum_parts) (line_pair left.now right.now))) result }
+{
+    match as_lines(alloc, left, right) {
+        Ok((left, right)) => {
+            let sum = frac_sum(alloc, left.get(), right.get());
+            drop((left, right));
+            sum
+        }
+        Err(_) => Err(OpFault::NoMemory),
+    }
+}
+
+fn line_difference(alloc: Global, left: &Value, right: &Value) -> Result<Value, OpFault>
+    ensures outcome { IsOutcome (OnOperands line_value_of line_value_of (line_pair left.now right.now) (IsMovingFrac difference_of)) (IsFirst (entries_on (entries_at_ends line_value_of line_parts_of line_value_of line_parts_of difference_parts) (line_pair left.now right.now))) result }
+{
+    match as_lines(alloc, left, right) {
+        Ok((left, right)) => {
+            let difference = frac_difference(alloc, left.get(), right.get());
+            drop((left, right));
+            difference
+        }
+        Err(_) => Err(OpFault::NoMemory),
+    }
+}
+
+// The product of a value and a number, where a tint changes evenly.
+fn widened_product(alloc: Global, line: &Value, factor: &Value) -> Result<Value, OpFault>
+    ensures outcome { IsOutcome (OnOperands line_value_of steady_value (factors (as_line line.now) factor.now) (IsMovingFrac product_of)) (IsFirst (entries_on (entries_at_ends line_value_of line_parts_of steady_value steady_parts product_parts) (factors (as_line line.now) factor.now))) result }
+{
+    match as_line(alloc, line) {
+        Ok(line) => {
+            let product = frac_product(alloc, line.get(), factor);
+            drop(line);
+            product
+        }
+        Err(_) => Err(OpFault::NoMemory),
+    }
+}
+
+fn line_product(alloc: Global, left: &Value, right: &Value) -> Result<Value, OpFault>
+    ensures outcome { IsOutcome (OnOperands line_value_of steady_value (product_pair left.now right.now) (IsMovingFrac product_of)) (IsFirst (entries_on (entries_at_ends line_value_of line_parts_of steady_value steady_parts product_parts) (product_pair left.now right.now))) result }
+{
+    match (left, right) {
+        (Value::MovingInt(_), Value::Number(_)) => widened_product(alloc, left, right),
+        (Value::Number(_), Value::MovingInt(_)) => widened_product(alloc, right, left),
+        _ => frac_product(alloc, left, right),
+    }
+}
+
+/// `+`, `-` or `*` with a tfrac as the result.
+pub fn line_calculated(
+    alloc: Global,
+    by: Calculation,
+    left: &Value,
+    right: &Value,
+) -> Result<Value, OpFault>
+    ensures outcome { IsOutcome (IsLineArithmetic by left.now right.now) (IsFirst (line_entries by left.now right.now)) result }
+{
+    match by {
+        Calculation::Sum => line_sum(alloc, left, right),
+        Calculation::Difference => line_difference(alloc, left, right),
+        Calculation::Product => line_product(alloc, left, right),
+    }
+}
+
+fn quotient_of(alloc: Global, a: &Moving<Line>, k: &Frac) -> Result<Value, OpFault>
+    ensures outcome { IsOutcome (IsQuotientOf (is_nil k.now) a.now k.now) (IsFirst (quotient_entries (is_nil k.now) a.now k.now)) result }
+{
+    if is_nil(k) {
+        return Ok(Value::Null);
+    }
+    match over_const(alloc, a, k) {
+        Ok(value) => Ok(frac_or_null(Some(value))),
+        Err(fault) => Err(fault),
+    }
+}
+
+fn frac_quotient(alloc: Global, left: &Value, right: &Value) -> Result<Value, OpFault>
+    ensures outcome { IsOutcome (IsLineQuotient left.now right.now) (IsFirst (line_quotient_entries left.now right.now)) result }
+{
+    match (left, right) {
+        (Value::MovingFrac(a), Value::Number(k)) => quotient_of(alloc, a, k),
+        _ => Ok(Value::Null),
+    }
+}
+
+/// `/` with a tfrac as the result. NULL where the divisor is 0.
+pub fn line_divided(alloc: Global, left: &Value, right: &Value) -> Result<Value, OpFault>
+    ensures outcome { IsOutcome (IsLineQuotient (as_line left.now) right.now) (IsFirst (line_quotient_entries (as_line left.now) right.now)) result }
+{
+    match as_line(alloc, left) {
+        Ok(line) => {
+            let quotient = frac_quotient(alloc, line.get(), right);
+            drop(line);
+            quotient
+        }
+        Err(_) => Err(OpFault::NoMemory),
+    }
+}

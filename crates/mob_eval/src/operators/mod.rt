@@ -1,0 +1,146 @@
+//! Each operator, on the values of its operands.
+ghost use Rattle.std.specs.Prelude.{◌≡◌, IfOk, None};
+ghost use Rattle.mob_eval.specs.Views.{scene_of};
+ghost use Rattle.mob_meaning.specs.Operators.{GivesOfOne, GivesOfTwo, GivesOfThree, OnEntriesOfTwo, entries_of_three};
+ghost use Rattle.mob_eval.specs.SoFar.{operand_types};
+ghost use Rattle.mob_slice.specs.Entries.{IsFirst};
+ghost use Rattle.mob_ordinary.specs.Held.{held};
+ghost use Rattle.mob_eval.specs.Outcomes.{IsOutcome};
+
+mod arithmetic;
+mod asked;
+pub mod boxes;
+mod by_value;
+mod casting;
+mod coordinates;
+mod defined;
+mod lifting;
+mod line_arithmetic;
+mod lines;
+mod look;
+mod meeting;
+mod nearness;
+mod pair;
+mod polygons;
+mod printed;
+mod restriction;
+mod signs;
+
+use crate::operators::arithmetic::{calculate, division};
+use crate::operators::boxes::{box_restriction, box_value, expansion, overlap};
+use crate::operators::by_value::value_restriction;
+use crate::operators::casting::cast;
+use crate::operators::coordinates::{east, north};
+use crate::operators::defined::{defined_time, true_time};
+use crate::operators::lifting::{join, lifted_and, lifted_not, lifted_or};
+use crate::operators::look::look_up;
+use crate::operators::meeting::meeting;
+use crate::operators::nearness::{nearest_approach, within};
+use crate::operators::polygons::{intersects, polygon_restriction};
+use crate::operators::printed::as_text;
+use crate::operators::restriction::restriction;
+use crate::operators::signs::sign_test;
+use crate::scene::View;
+use mob_ast::SqlType;
+use mob_meaning::{Calculation, Scope};
+use mob_operators::Op;
+use mob_ordinary::comparison::test;
+use mob_ordinary::held::{Held, made};
+use mob_ordinary::logic::{
+    conjunction, disjunction, is_null, known, negation as contrary, truth_of,
+};
+use mob_ordinary::numbers::{negation, unchanged};
+use mob_slice::OpFault;
+use mob_typed::TExpr;
+use mob_value::Value;
+use std::alloc::{AllocError, Global};
+
+/// An operator on one operand.
+pub fn of_one<'a>(
+    alloc: Global,
+    view: &View<'a>,
+    op: Op,
+    ty: SqlType,
+    args: &[TExpr],
+    operand: &Held<'a>,
+) -> Result<Held<'a>, AllocError>
+    ensures value { IfOk result (λ h. GivesOfOne (scene_of view.now) op ty (operand_types args.now) (held operand.now) (held h)) }
+{
+    let value = operand.get();
+    match op {
+        Op::And => Ok(Held::Made(known(conjunction(truth_of(value), None)))),
+        Op::Or => Ok(Held::Made(known(disjunction(truth_of(value), None)))),
+        Op::Not => Ok(Held::Made(known(contrary(truth_of(value))))),
+        Op::IsNull => Ok(Held::Made(Value::Bool(is_null(value)))),
+        Op::IsNotNull => Ok(Held::Made(Value::Bool(!is_null(value)))),
+        Op::Negate => Ok(Held::Made(negation(value))),
+        Op::Same => Ok(Held::Made(unchanged(value))),
+        Op::LiftedNot => made(lifted_not(alloc, value)),
+        Op::GetTime => made(defined_time(alloc, value)),
+        Op::WhenTrue => made(true_time(alloc, value)),
+        Op::GetX => made(east(alloc, value)),
+        Op::GetY => made(north(alloc, value)),
+        Op::BoxOf => made(box_value(alloc, value)),
+        Op::AsText => made(as_text(alloc, value, view.epoch)),
+        Op::Cast => cast(alloc, ty, args, operand),
+        _ => Ok(Held::Made(Value::Null)),
+    }
+}
+
+/// An operator on two operands, or its first formula with a part that does not fit.
+pub fn of_two(
+    alloc: Global,
+    op: Op,
+    ty: SqlType,
+    args: &[TExpr],
+    left: &Value,
+    right: &Value,
+) -> Result<Value, OpFault>
+    ensures outcome { IsOutcome (GivesOfTwo op ty (operand_types args.now) left.now right.now) (λ first. OnEntriesOfTwo op ty (operand_types args.now) left.now right.now (λ entries. IsFirst entries first)) result }
+{
+    match op {
+        Op::And => Ok(known(conjunction(truth_of(left), truth_of(right)))),
+        Op::Or => Ok(known(disjunction(truth_of(left), truth_of(right)))),
+        Op::Test(sign) => Ok(test(sign, left, right)),
+        Op::Add => calculate(alloc, Calculation::Sum, ty, left, right),
+        Op::Subtract => calculate(alloc, Calculation::Difference, ty, left, right),
+        Op::Multiply => calculate(alloc, Calculation::Product, ty, left, right),
+        Op::Divide => division(alloc, ty, left, right),
+        Op::Join => join(alloc, ty, left, right),
+        Op::LiftedAnd => lifted_and(alloc, left, right),
+        Op::LiftedOr => lifted_or(alloc, left, right),
+        Op::Lifted(sign) => sign_test(alloc, Scope::Each, sign, meeting(args), left, right),
+        Op::Ever(sign) => sign_test(alloc, Scope::Ever, sign, meeting(args), left, right),
+        Op::Always(sign) => sign_test(alloc, Scope::Always, sign, meeting(args), left, right),
+        Op::AtTime => restriction(alloc, true, left, right),
+        Op::MinusTime => restriction(alloc, false, left, right),
+        Op::AtValues => value_restriction(alloc, true, left, right),
+        Op::MinusValues => value_restriction(alloc, false, left, right),
+        Op::ValueAtTimestamp => look_up(alloc, left, right),
+        Op::Overlap => Ok(overlap(left, right)),
+        Op::ExpandSpace => expansion(alloc, left, right),
+        Op::AtStbox => box_restriction(alloc, true, left, right),
+        Op::MinusStbox => box_restriction(alloc, false, left, right),
+        Op::AtGeometry => polygon_restriction(alloc, true, left, right),
+        Op::MinusGeometry => polygon_restriction(alloc, false, left, right),
+        Op::EIntersects => intersects(alloc, left, right),
+        Op::NearestApproachSquared => nearest_approach(alloc, left, right),
+        _ => Ok(Value::Null),
+    }
+}
+
+/// An operator on three operands, or its first formula with a part that does not fit.
+pub fn of_three(
+    alloc: Global,
+    op: Op,
+    first: &Value,
+    second: &Value,
+    third: &Value,
+) -> Result<Value, OpFault>
+    ensures outcome { IsOutcome (GivesOfThree op first.now second.now third.now) (IsFirst (entries_of_three op first.now second.now third.now)) result }
+{
+    match op {
+        Op::EDwithin => within(alloc, first, second, third),
+        _ => Ok(Value::Null),
+    }
+}

@@ -1,0 +1,96 @@
+//! A temporal value at the instants that are asked for, or at the others.
+ghost use Rattle.std.specs.Prelude.{[], ◌∷◌, IfOk};
+ghost use Rattle.mob_span.specs.Sets.{in_some};
+ghost use Rattle.mob_slice.specs.Entries.{IsFirst, IsJudged};
+ghost use Rattle.mob_cells.specs.Restricted.{IsRestricted};
+ghost use Rattle.mob_meaning.specs.Times.{IsRestriction, IsTimeRestriction, cut_entries, cuts_of, restriction_entries};
+ghost use Rattle.mob_eval.specs.Outcomes.{IsOutcome};
+
+use crate::operators::asked::instant_span;
+use mob_ordinary::kinds::{bool_or_null, frac_or_null, int_or_null, point_or_null, text_or_null};
+use mob_ordinary::sets::one_span;
+use mob_restrict::{at_time, minus_time};
+use mob_slice::{Course, Moving, OpFault};
+use mob_span::{Span, SpanSet};
+use mob_value::Value;
+use std::alloc::Global;
+
+// What is left at the instants of a set, where those are wanted, or at the others.
+fn cut<C: Course + Drop>(
+    alloc: Global,
+    want: bool,
+    a: &Moving<C>,
+    when: &SpanSet,
+) -> Result<Option<Moving<C>>, OpFault>
+where
+    C::Base: Drop,
+    ensures value { IfOk result (λ r. IsRestricted C.value_of want (λ t x. in_some when.now t) a.now r) }
+    ensures first { IsJudged (cut_entries C.parts_of when.now a.now) result }
+{
+    match want {
+        true => at_time(alloc, a, when),
+        false => minus_time(alloc, a, when),
+    }
+}
+
+// What is left of a temporal value of any type at the instants of a set, or at the others.
+fn restricted(alloc: Global, want: bool, value: &Value, when: &SpanSet) -> Result<Value, OpFault>
+    ensures outcome { IsOutcome (IsRestriction want when.now value.now) (IsFirst (cuts_of when.now value.now)) result }
+{
+    match value {
+        Value::MovingBool(a) => match cut(alloc, want, a, when) {
+            Ok(rest) => Ok(bool_or_null(rest)),
+            Err(fault) => Err(fault),
+        },
+        Value::MovingInt(a) => match cut(alloc, want, a, when) {
+            Ok(rest) => Ok(int_or_null(rest)),
+            Err(fault) => Err(fault),
+        },
+        Value::MovingFrac(a) => match cut(alloc, want, a, when) {
+            Ok(rest) => Ok(frac_or_null(rest)),
+            Err(fault) => Err(fault),
+        },
+        Value::MovingText(a) => match cut(alloc, want, a, when) {
+            Ok(rest) => Ok(text_or_null(rest)),
+            Err(fault) => Err(fault),
+        },
+        Value::MovingPoint(a) => match cut(alloc, want, a, when) {
+            Ok(rest) => Ok(point_or_null(rest)),
+            Err(fault) => Err(fault),
+        },
+        _ => Ok(Value::Null),
+    }
+}
+
+// What is left of it at the instants of one span, or at the others.
+fn restricted_to_span(
+    alloc: Global,
+    want: bool,
+    value: &Value,
+    span: &Span,
+) -> Result<Value, OpFault>
+    ensures outcome { IsOutcome (IsRestriction want (span.now ∷ []) value.now) (IsFirst (cuts_of (span.now ∷ []) value.now)) result }
+{
+    match one_span(alloc, span) {
+        Ok(when) => restricted(alloc, want, value, &when),
+        Err(_) => Err(OpFault::NoMemory),
+    }
+}
+
+/// atTime, where `want` is true, and minusTime, where it is false: the value at the instants for
+/// which the second operand asks, or at the others.
+pub fn restriction(
+    alloc: Global,
+    want: bool,
+    value: &Value,
+    asked: &Value,
+) -> Result<Value, OpFault>
+    ensures outcome { IsOutcome (IsTimeRestriction want value.now asked.now) (IsFirst (restriction_entries value.now asked.now)) result }
+{
+    match asked {
+        Value::Moment(t) => restricted_to_span(alloc, want, value, &instant_span(t)),
+        Value::Span(span) => restricted_to_span(alloc, want, value, span.get()),
+        Value::SpanSet(when) => restricted(alloc, want, value, when),
+        _ => Ok(Value::Null),
+    }
+}

@@ -1,0 +1,161 @@
+//! The signs that compare two values over time: `#` at each instant, `?` at some instant, `%` at every instant.
+ghost use Rattle.std.specs.Prelude.{◌≡◌, ◌||◌, true, false, [], Some, IfErr, IfSome, option_map};
+ghost use Rattle.mob_slice.specs.Comparison.{MayAsk};
+ghost use Rattle.mob_slice.specs.Entries.{IsFirst};
+ghost use Rattle.mob_slice.specs.LineComparison.{number_gaps, number_relates};
+ghost use Rattle.mob_slice.specs.Lines.{line_value_of, line_parts_of};
+ghost use Rattle.mob_slice.specs.Ranks.{holds};
+ghost use Rattle.mob_slice.specs.Sides.{operand_of, has_slices};
+ghost use Rattle.mob_meaning.specs.Lifted.{OnPair, OnOperands, entries_on, operands_of};
+ghost use Rattle.mob_meaning.specs.Lines.{frac_pair, line_pair};
+ghost use Rattle.mob_meaning.specs.Signs.{IsAsked, IsOrderTest, IsAnyTest, IsSignTest, entries_asked, order_entries, any_entries, sign_entries};
+ghost use Rattle.mob_eval.specs.Outcomes.{IsOutcome};
+
+use crate::operators::lines::as_lines;
+use crate::operators::pair::{
+    Pair, StepPair, frac_pair, number_pair, plane_pair, text_pair, truth_pair,
+};
+use mob_ast::{Cmp, SqlType};
+use mob_compare::compare;
+use mob_ever::{always, ever};
+use mob_meaning::Scope;
+use mob_ordinary::comparison::rel_of;
+use mob_ordinary::kinds::bool_or_null;
+use mob_ordinary::logic::answered;
+use mob_slice::{Compared, OpFault, Ranked, Rel};
+use mob_value::Value;
+use std::alloc::Global;
+use std::mem::drop;
+
+// What the sign gives of a comparison of two operands. NULL where there are none.
+fn asked<C: Compared + Drop>(
+    alloc: Global,
+    scope: Scope,
+    rel: Rel,
+    pair: Option<Pair<'_, C>>,
+) -> Result<Value, OpFault>
+where
+    C::Base: Drop,
+    requires asked { MayAsk C.ordered rel }
+    requires moving { IfSome pair (λ p. (has_slices (operand_of p.0) || has_slices (operand_of p.1)) ≡ true) }
+    ensures outcome { IsOutcome (OnOperands C.value_of C.value_of (option_map operands_of pair.entry) (IsAsked scope (C.relation rel))) (IsFirst (entries_on (entries_asked scope C.value_of C.parts_of C.gaps_of) (option_map operands_of pair.entry))) result }
+    ensures memory { C.STEADY ≡ true → IfErr result (λ e. e ≡ OpFault.NoMemory) }
+{
+    let Some((left, right)) = pair else {
+        return Ok(Value::Null);
+    };
+    match scope {
+        Scope::Each => match compare(alloc, left, right, rel) {
+            Ok(value) => Ok(bool_or_null(value)),
+            Err(fault) => Err(fault),
+        },
+        Scope::Ever => answered(ever(alloc, left, right, rel)),
+        Scope::Always => answered(always(alloc, left, right, rel)),
+    }
+}
+
+// What the sign gives of operands that go by steps, which have no formula.
+fn steps_asked<B: Ranked + Drop>(
+    alloc: Global,
+    scope: Scope,
+    rel: Rel,
+    pair: Option<StepPair<'_, B>>,
+) -> Result<Value, OpFault>
+    requires moving { IfSome pair (λ p. (has_slices (operand_of p.0) || has_slices (operand_of p.1)) ≡ true) }
+    ensures outcome { IsOutcome (OnPair (option_map operands_of pair.entry) (IsAsked scope (λ x y. holds rel (B.compare_of x y)))) (IsFirst []) result }
+{
+    match asked(alloc, scope, rel, pair) {
+        Ok(value) => Ok(value),
+        Err(OpFault::NoMemory) => Err(OpFault::NoMemory),
+        Err(OpFault::Passed { .. }) => unreachable!(),
+    }
+}
+
+// What the sign gives of two values of which one is a tfrac, and none a tint.
+fn fracs_asked(
+    alloc: Global,
+    scope: Scope,
+    rel: Rel,
+    left: &Value,
+    right: &Value,
+) -> Result<Value, OpFault>
+    ensures outcome { IsOutcome (OnOperands line_value_of line_value_of (frac_pair left.now right.now) (IsAsked scope (number_relates rel))) (IsFirst (entries_on (entries_asked scope line_value_of line_parts_of number_gaps) (frac_pair left.now right.now))) result }
+{
+    asked(alloc, scope, rel, frac_pair(left, right))
+}
+
+// What the sign gives of numbers that change evenly, a tint among them.
+fn lines_asked(
+    alloc: Global,
+    scope: Scope,
+    rel: Rel,
+    left: &Value,
+    right: &Value,
+) -> Result<Value, OpFault>
+    ensures outcome { IsOutcome (OnOperands line_value_of line_value_of (line_pair left.now right.now) (IsAsked scope (number_relates rel))) (IsFirst (entries_on (entries_asked scope line_value_of line_parts_of number_gaps) (line_pair left.now right.now))) result }
+{
+    match as_lines(alloc, left, right) {
+        Ok((left, right)) => {
+            let answer = fracs_asked(alloc, scope, rel, left.get(), right.get());
+            drop((left, right));
+            answer
+        }
+        Err(_) => Err(OpFault::NoMemory),
+    }
+}
+
+// What the sign gives of values that have an order.
+fn order(
+    alloc: Global,
+    scope: Scope,
+    rel: Rel,
+    met: Option<SqlType>,
+    left: &Value,
+    right: &Value,
+) -> Result<Value, OpFault>
+    ensures outcome { IsOutcome (IsOrderTest scope rel met left.now right.now) (IsFirst (order_entries scope met left.now right.now)) result }
+{
+    match met {
+        Some(SqlType::TInt) => steps_asked(alloc, scope, rel, number_pair(left, right)),
+        Some(SqlType::TFrac) => lines_asked(alloc, scope, rel, left, right),
+        Some(SqlType::TText) => steps_asked(alloc, scope, rel, text_pair(left, right)),
+        _ => Ok(Value::Null),
+    }
+}
+
+// What the sign gives of values that are equal or not: truth values and points too, which have no order here.
+fn sameness(
+    alloc: Global,
+    scope: Scope,
+    rel: Rel,
+    met: Option<SqlType>,
+    left: &Value,
+    right: &Value,
+) -> Result<Value, OpFault>
+    requires asked { MayAsk false rel }
+    ensures outcome { IsOutcome (IsAnyTest scope rel met left.now right.now) (IsFirst (any_entries scope met left.now right.now)) result }
+{
+    match met {
+        Some(SqlType::TBool) => steps_asked(alloc, scope, rel, truth_pair(left, right)),
+        Some(SqlType::TPoint) => asked(alloc, scope, rel, plane_pair(left, right)),
+        _ => order(alloc, scope, rel, met, left, right),
+    }
+}
+
+/// A sign on operands that meet in a type or in none. Truth values and points have no order here.
+pub fn sign_test(
+    alloc: Global,
+    scope: Scope,
+    sign: Cmp,
+    met: Option<SqlType>,
+    left: &Value,
+    right: &Value,
+) -> Result<Value, OpFault>
+    ensures outcome { IsOutcome (IsSignTest scope sign met left.now right.now) (IsFirst (sign_entries scope sign met left.now right.now)) result }
+{
+    match sign {
+        Cmp::Eq => sameness(alloc, scope, Rel::Eq, met, left, right),
+        Cmp::Ne => sameness(alloc, scope, Rel::Ne, met, left, right),
+        _ => order(alloc, scope, rel_of(sign), met, left, right),
+    }
+}

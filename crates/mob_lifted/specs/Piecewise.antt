@@ -1,0 +1,29 @@
+-- What is made of the answers of a closure on each piece of time.
+use Rattle.std.specs.Prelude.{◌≡◌, List, [], ◌∷◌, ◌++◌, Option, None, Some, MatchOption, ◌⊎◌}
+use Rattle.mob_ratio.specs.Ratio.{Ratio}
+use Rattle.mob_span.specs.Span.{SpanOf}
+use Rattle.mob_slice.specs.Slices.{value_at, IsOrdered}
+use Rattle.mob_span.specs.Pieces.{piece_at}
+use Rattle.mob_slice.specs.declared.slice.Slice.{Slice}
+
+-- the slices are those that were given for each piece, in order
+abbrev pub AreGivenInOrder : {P D V : Type 0} → (V → List (Slice D)) → (P → V → Type 0) → List P → List (Slice D) → Type 0
+AreGivenInOrder items gives [] slices = slices ≡ []
+AreGivenInOrder {P} {D} {V} items gives (p ∷ pieces) slices = (v : V) × (rest : List (Slice D)) × gives p v × AreGivenInOrder items gives pieces rest × (slices ≡ items v ++ rest)
+
+-- The slices are ordered; at each instant of a piece they have the value of what was given for that piece, and
+-- elsewhere none.
+pub record IsPiecewise {P D B V : Type 0} (value : D → Ratio → Ratio → Ratio → B) (start end : D → B) (span : P → SpanOf) (items : V → List (Slice D)) (gives : P → V → Type 0) (pieces : List P) (slices : List (Slice D)) : Type 0 where
+  pub made : AreGivenInOrder items gives pieces slices
+  pub ordered : IsOrdered start end slices
+  pub at_each : (t : Ratio) → MatchOption (piece_at span pieces t) (value_at value slices t ≡ None) (λ p. (v : V) × gives p v × (value_at value slices t ≡ value_at value (items v) t))
+
+-- what is wanted of the piece that was found
+abbrev pub wanted_at : {P B : Type 0} → (P → Option B) → Option P → Option B
+wanted_at f None = None
+wanted_at f (Some p) = f p
+
+-- the first piece at which a call failed, where the calls before were well
+abbrev pub IsFirstFailure : {P V : Type 0} → (P → V → Type 0) → (P → Type 0) → List P → Type 0
+IsFirstFailure gives fails [] = ⊥
+IsFirstFailure {P} {V} gives fails (p ∷ pieces) = fails p ⊎ ((v : V) × gives p v × IsFirstFailure gives fails pieces)

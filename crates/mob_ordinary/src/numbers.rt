@@ -1,0 +1,33 @@
+//! Plain numbers.
+ghost use Rattle.std.specs.Prelude.{◌≡◌};
+ghost use Rattle.mob_ordinary.specs.Ordinary.{negated, unchanged, is_nil};
+
+use mob_frac::Frac;
+use mob_value::Value;
+
+/// Whether a number is 0.
+pub fn is_nil(number: &Frac) -> bool
+    ensures value { result ≡ is_nil number.now }
+{
+    number.is_zero()
+}
+
+/// A number with its sign turned. NULL where the value is no number.
+pub fn negation(value: &Value) -> Value
+    ensures value { result ≡ negated value.now }
+{
+    match value {
+        Value::Number(a) => Value::Number(a.negate()),
+        _ => Value::Null,
+    }
+}
+
+/// A number. NULL where the value is no number.
+pub fn unchanged(value: &Value) -> Value
+    ensures value { result ≡ unchanged value.now }
+{
+    match value {
+        Value::Number(a) => Value::Number(*a),
+        _ => Value::Null,
+    }
+}

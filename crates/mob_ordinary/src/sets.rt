@@ -1,0 +1,19 @@
+//! Span sets made of one span.
+ghost use Rattle.std.specs.Prelude.{◌≡◌, [], ◌∷◌, IfOk};
+
+use mob_span::{Span, SpanSet};
+use std::alloc::{AllocError, Global};
+
+/// The set of the instants of one span.
+pub fn one_span(alloc: Global, span: &Span) -> Result<SpanSet, AllocError>
+    ensures same { IfOk result (λ set. set ≡ span.now ∷ []) }
+{
+    // That the span has an instant is a clause of this call.
+    let _ = span.lower();
+    let mut spans = Vec::new(alloc);
+    spans.push(*span)?;
+    match SpanSet::of(alloc, spans) {
+        Ok(set) => Ok(set),
+        Err(fault) => Err(fault),
+    }
+}

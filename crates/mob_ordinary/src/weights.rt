@@ -1,0 +1,50 @@
+//! How much memory a value takes.
+
+use mob_frac::Frac;
+use mob_list::text::Text;
+use mob_plane::Point;
+use mob_slice::{Line, PlaneLine, Slice, Steady};
+use mob_span::Span;
+use mob_value::Value;
+use std::mem::size_of;
+
+// So many things of so many bytes each.
+fn bytes(count: usize, each: usize) -> u64 {
+    (count as u64).saturating_mul(each as u64)
+}
+
+fn points(rings: &[Vec<Point>]) -> u64 {
+    let mut sum = 0_u64;
+    for ring in rings {
+        sum = sum.saturating_add(ring.len() as u64);
+    }
+    sum.saturating_mul(size_of::<Point>() as u64)
+}
+
+// The slices of a ttext, each with its text.
+fn texts(slices: &[Slice<Steady<Text>>]) -> u64 {
+    let mut sum = 0_u64;
+    for slice in slices {
+        sum = sum.saturating_add(bytes(slice.course.value.as_str().len(), 1));
+    }
+    sum.saturating_add(bytes(slices.len(), size_of::<Slice<Steady<Text>>>()))
+}
+
+fn own(value: &Value) -> u64 {
+    match value {
+        Value::Text(text) => bytes(text.as_str().len(), 1),
+        Value::Polygon(polygon) => points(polygon.rings()),
+        Value::SpanSet(set) => bytes(set.spans().len(), size_of::<Span>()),
+        Value::MovingBool(a) => bytes(a.slices().len(), size_of::<Slice<Steady<bool>>>()),
+        Value::MovingInt(a) => bytes(a.slices().len(), size_of::<Slice<Steady<Frac>>>()),
+        Value::MovingFrac(a) => bytes(a.slices().len(), size_of::<Slice<Line>>()),
+        Value::MovingText(a) => texts(a.slices()),
+        Value::MovingPoint(a) => bytes(a.slices().len(), size_of::<Slice<PlaneLine>>()),
+        _ => 0,
+    }
+}
+
+/// About how many bytes a value takes where it is kept: its parts, and 128 for all else.
+pub fn weight(value: &Value) -> u64 {
+    own(value).saturating_add(128)
+}

@@ -1,0 +1,24 @@
+use Rattle.std.proofs.Common.{ℕ, List, inl, Ok, Err, subst}
+use Rattle.std.proofs.lemmas.Result.{MatchResult-weaker, err_from_is_err_and}
+use Rattle.mob_typed.specs.Selects.{select_seen}
+use Rattle.mob_eval.proofs.QueryFaults.{of_query}
+use Rattle.mob_join.specs.Query.{IsKept}
+use Rattle.mob_tail.specs.Answers.{IsAnswerOnKept}
+use Rattle.mob_shell.specs.Answers.{QueryAnswers}
+use Rattle.mob_shell.proofs.statements.answers.answered.Goals as goal
+
+pub returns-in_err-kept-clause-fault : goal.returns-in_err-kept-clause-fault
+returns-in_err-kept-clause-fault g c =
+    let p = err_from_is_err_and c.from_residual.result c.from_residual.ensures.1 in
+    let select = select_seen c.args.select.now in
+    let catalogue = c.args.catalog.now in
+    let day = c.args.epoch.now in
+    rw (p.1, p.2) (of_query (λ f. IsKept select catalogue day (Err f)) (λ f. QueryAnswers select catalogue day (Err f)) (λ f h. inl h) c.in_err-kept.field-0.0 c.in_err-kept.ensures.fault)
+
+pub returns-clause-text : goal.returns-clause-text
+returns-clause-text g c =
+    let select = select_seen c.args.select.now in
+    let day = c.args.epoch.now in
+    let there = λ (rows : List (List (List ℕ))) (k : IsAnswerOnKept select c.store.result.now day c.as_slice.result.now (Ok rows)).
+    subst (λ z. IsAnswerOnKept select z day c.in_ok-kept.kept (Ok rows)) c.store.ensures.same (subst (λ z. IsAnswerOnKept select c.store.result.now day z (Ok rows)) c.as_slice.ensures.same k) in
+    MatchResult-weaker c.answered_text.result c.answered_text.ensures.text (λ text h. (h.0, (c.in_ok-kept.kept, c.in_ok-kept.ensures.kept, there h.0 h.1), h.2)) (λ e h. h)

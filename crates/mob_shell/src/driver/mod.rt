@@ -1,0 +1,8 @@
+// From the arguments of a run to its ending.
+
+mod decide;
+mod demo;
+mod judge;
+mod top;
+
+pub use top::run;

@@ -1,0 +1,10 @@
+// The statements of a script: what each answers and does to the tables.
+
+mod answers;
+mod deleting;
+mod engine;
+mod rows;
+mod session;
+
+pub use engine::run_all;
+pub use session::Session;

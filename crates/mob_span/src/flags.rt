@@ -1,0 +1,10 @@
+//! Truth values that are the same.
+ghost use Rattle.std.specs.Prelude.{◌≡◌};
+ghost use Rattle.mob_span.specs.Flags.{same_bool};
+
+/// Whether two truth values are the same.
+pub fn same_bool(a: bool, b: bool) -> bool
+    ensures value { result ≡ same_bool a b }
+{
+    a == b
+}

@@ -1,0 +1,9 @@
+-- Two slices with one function.
+use Rattle.std.specs.Prelude.{◌≡◌}
+use Rattle.mob_slice.specs.declared.slice.Slice.{Slice}
+
+-- they have one course, on spans with the same ends
+pub record AreAlike {C : Type 0} (a b : Slice C) : Type 0 where
+  pub lower : a.span.lower ≡ b.span.lower
+  pub upper : a.span.upper ≡ b.span.upper
+  pub course : a.course ≡ b.course

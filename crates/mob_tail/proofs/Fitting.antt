@@ -1,0 +1,36 @@
+-- The select list and the keys of a query fit what is remembered of them.
+use Rattle.std.proofs.Common.{◌≡◌, ◌<◌, ◌++◌, ℕ, zero, suc, ℤ, List, [], ◌∷◌, length, get_or, map, take, drop, sym, ap, subst, ◌∙◌, arith}
+use Rattle.std.specs.List.{AllByRecursion}
+use Rattle.std.proofs.lemmas.List.{length-map, map-append}
+use Rattle.std.proofs.Math.Seq.{take-append_seam, drop-append_seam}
+use Rattle.mob_typed.specs.Selects.{TypedSelectParts}
+use Rattle.mob_value.specs.declared.store.Store.{Store}
+use Rattle.mob_eval.proofs.Fitting.{roots_fit}
+use Rattle.mob_tail.specs.Recalling.{AnswerFits, answer_recollection, item_trees, key_trees}
+
+module _ {X : Type 0} (P : X → Type 0) where
+  pub each_front : (xs ys : List X) → AllByRecursion P (xs ++ ys) → AllByRecursion P xs
+  each_front [] ys h = tt
+  each_front (x ∷ xs) ys h = (h.0, each_front xs ys h.1)
+
+  pub each_back : (xs ys : List X) → AllByRecursion P (xs ++ ys) → AllByRecursion P ys
+  each_back [] ys h = h
+  each_back (x ∷ xs) ys h = each_back xs ys h.1
+
+  -- at the place i of a list
+  pub each_at : {W : Type 0} (see : W → X) (ws : List W) (i : ℕ) (w : W) → i < length ws → w ≡ get_or ws i w → AllByRecursion P (map see ws) → P (see w)
+  each_at see [] i w lt is h = absurd (omega (arith, lt))
+  each_at see (x ∷ ws) zero w lt is h = subst (λ z. P (see z)) (sym is) h.0
+  each_at see (x ∷ ws) (suc i) w lt is h = let k : i < length ws = omega (arith, lt) in each_at see ws i w k is h.1
+
+-- a list that is seen as two lists, split where the first ends
+pub halves : {W X : Type 0} (see : W → X) (ws front back : List W) (xs ys : List X) → ws ≡ front ++ back → length front ≡ length xs → map see ws ≡ xs ++ ys → (map see front ≡ xs) × (map see back ≡ ys)
+halves see ws front back xs ys parts count seen =
+    let both : map see front ++ map see back ≡ xs ++ ys = sym (map-append see front back) ∙ ap (map see) (sym parts) ∙ seen in
+    let n : length (map see front) ≡ length xs = length-map front see ∙ count in (
+      sym (take-append_seam (map see front) (map see back)) ∙ (λ i. take (n i) (both i)) ∙ take-append_seam xs ys,
+      sym (drop-append_seam (map see front) (map see back)) ∙ (λ i. drop (n i) (both i)) ∙ drop-append_seam xs ys,
+    )
+
+pub answer_fits : (select : TypedSelectParts) (store : Store) (day : ℤ) → AnswerFits (answer_recollection select store day) select store day
+answer_fits select store day tuple = roots_fit store select.from tuple day (item_trees select ++ key_trees select)

@@ -1,0 +1,39 @@
+use Rattle.std.proofs.Common.{ℕ, List, Ok, Err, IfOk, IfErr, sym, subst}
+use Rattle.std.specs.List.{AllByRecursion}
+use Rattle.std.proofs.lemmas.Result.{IfErr-weaker, IfOk-weaker}
+use Rattle.mob_typed.specs.Selects.{select_seen}
+use Rattle.mob_meaning.specs.Scene.{scene}
+use Rattle.mob_eval.specs.Faults.{OnPassed}
+use Rattle.mob_eval.specs.Remembered.{Fits}
+use Rattle.mob_tail.specs.Answers.{IsRowOf}
+use Rattle.mob_tail.specs.AnswerRows.{answer_row}
+use Rattle.mob_tail.specs.Recalling.{SelectFits, item_trees, key_trees}
+use Rattle.mob_tail.proofs.AnswerRows.{row_seen, row_fails}
+use Rattle.mob_tail.proofs.Fitting.{each_front, each_back}
+use Rattle.mob_tail.proofs.Making.{on_passed}
+use Rattle.mob_tail.proofs.evaluation.row_of.Goals as goal
+
+pub row_on-requires : goal.row_on-requires
+row_on-requires g c =
+    let select = select_seen c.args.select.now in
+    let remembered = g.K.Remembering.recollection in
+    let there = λ (from : List ℕ). scene c.args.store.now from c.args.tuple.now c.args.epoch.now in
+    let P = Fits remembered (there c.as_slice.result.now) in
+    let fits = subst (λ from. SelectFits remembered select (there from)) (sym c.as_slice.ensures.same) c.requires.fits in record {
+      fit = subst (AllByRecursion P) (sym c.requires.items) (each_front P (item_trees select) (key_trees select) fits);
+      fit_too = subst (AllByRecursion P) (sym c.requires.keys) (each_back P (item_trees select) (key_trees select) fits);
+    }
+
+pub returns-clause-row : goal.returns-clause-row
+returns-clause-row g c =
+    let select = select_seen c.args.select.now in
+    let there = λ (from : List ℕ). scene c.args.store.now from c.args.tuple.now c.args.epoch.now in
+    subst (λ from. IfOk c.row_on.result (λ row. IsRowOf select (there from) (Ok (answer_row select c.args.epoch.now row)))) c.as_slice.ensures.same
+    (IfOk-weaker c.row_on.result _ _ (λ row h. row_seen (there c.as_slice.result.now) select _ _ c.requires.items c.requires.keys row h) c.row_on.ensures.row)
+
+pub returns-clause-fault : goal.returns-clause-fault
+returns-clause-fault g c =
+    let select = select_seen c.args.select.now in
+    let there = λ (from : List ℕ). scene c.args.store.now from c.args.tuple.now c.args.epoch.now in
+    subst (λ from. IfErr c.row_on.result (OnPassed (λ f. IsRowOf select (there from) (Err f)))) c.as_slice.ensures.same
+    (IfErr-weaker c.row_on.result _ _ (λ e h. on_passed _ _ (λ f k. row_fails (there c.as_slice.result.now) select _ _ c.requires.items c.requires.keys f k) e h) c.row_on.ensures.fault)
