@@ -15,7 +15,7 @@ item_trees select = map (λ item. item.0) select.items
 abbrev pub key_trees : TypedSelectParts → List TypedTree
 key_trees select = map (λ key. key.0) select.keys
 
--- each operator of these that stands alone at its place of the script
+-- what may be remembered of these: an operator at a place of the script at which they have no other
 abbrev pub answer_recollection : TypedSelectParts → Store → ℤ → Recollection
 answer_recollection select store day = recollection_of store select.from day (item_trees select ++ key_trees select)
 

@@ -94,7 +94,7 @@ fn answer_on<K: Remembering>(
     }
 }
 
-// The same, with a memory that is made for it.
+// The text of a plain answer, with a memory that is made for it.
 fn answer_with<K: Remembering>(
     alloc: Global,
     select: &TypedSelect,
@@ -114,7 +114,7 @@ fn answer_with<K: Remembering>(
     answer_on(alloc, select, roots, store, kept, epoch, &memory)
 }
 
-// The same. What is remembered is picked here.
+// The text of a plain answer. What is remembered is picked here.
 fn plain_answer(
     alloc: Global,
     select: &TypedSelect,
