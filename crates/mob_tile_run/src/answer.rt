@@ -8,12 +8,11 @@ ghost use Rattle.mob_trips.specs.Rows.{id_of, trip_of};
 ghost use Rattle.mob_tile_run.specs.TileTexts.{pair_fields, pair_names};
 ghost use Rattle.mob_tile_run.specs.TileAnswers.{PairsText, IsUsable, TileWrites, TileFails};
 
-use crate::fields::{pair_fields, pair_names};
+use crate::fields::{PairPrinter, pair_names};
 use crate::parts::parts_text;
 use crate::settings::TileSettings;
 use mob_frac::Frac;
 use mob_list::items::Items;
-use mob_list::text::Text;
 use mob_outside::Gate;
 use mob_pairs::{PairFault, pairs};
 use mob_records::counted_text_by;
@@ -36,10 +35,8 @@ fn text_of(
     ensures text { IfOk result (λ t. t.items ≡ answer_text pair_names (map (pair_fields epoch.now ids.now) found.now)) }
 {
     let names = pair_names(alloc)?;
-    let print = |pair: &(u32, u32)| -> Result<Items<Text>, AllocError>
-        ensures fields { IfOk result (λ fields. fields ≡ pair_fields epoch.entry.now ids.entry.now pair.now) }
-    { pair_fields(alloc, ids, pair.0, pair.1, epoch) };
-    counted_text_by(alloc, names.as_slice(), found, print)
+    let printer = PairPrinter { ids, epoch };
+    counted_text_by(alloc, names.as_slice(), found, &printer)
 }
 
 // The text of the pairs of trips that come within a distance.

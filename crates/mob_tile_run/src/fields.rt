@@ -2,13 +2,15 @@
 ghost use Rattle.std.specs.Prelude.{◌≡◌, ◌++◌, codes, string_bytes, IfOk, OnOk};
 ghost use Rattle.std.specs.Fmt.{signed_decimal};
 ghost use Rattle.mob_literal.specs.Fields.{field_text};
-ghost use Rattle.mob_tile_run.specs.TileTexts.{tile_text, part_fields, pair_fields, part_names, pair_names};
+ghost use Rattle.mob_trips.specs.Rows.{id_at};
+ghost use Rattle.mob_tile_run.specs.TileTexts.{tile_text, part_fields, part_names, pair_names};
 ghost use Rattle.mob_value.specs.declared.value.Value.TheVariants.{MovingPoint};
 
 use itoa::Buffer;
 use mob_list::items::Items;
 use mob_list::text::Text;
 use mob_literal::write_field;
+use mob_records::FieldPrinter;
 use mob_scalar::Epoch;
 use mob_slice::{Moving, PlaneLine};
 use mob_tile::Tile;
@@ -72,20 +74,46 @@ pub fn part_fields(
     Ok(fields)
 }
 
-/// The fields of a pair of rows: their ids.
-pub fn pair_fields(
-    alloc: Global,
-    ids: &[Value],
-    a: u32,
-    b: u32,
-    epoch: &Epoch,
-) -> Result<Items<Text>, AllocError>
-    ensures fields { IfOk result (λ f. f ≡ pair_fields epoch.now ids.now (a, b)) }
+// Appends the id of a row as a field.
+fn write_id(ids: &[Value], row: u32, epoch: &Epoch, into: &mut String) -> Result<(), AllocError>
+    ensures written { OnOk result (string_bytes into.new ≡ string_bytes into.old ++ field_text epoch.now (id_at ids.now row)) }
 {
-    let mut fields = Items::new(alloc);
-    fields.push(id_text(alloc, ids, a, epoch)?)?;
-    fields.push(id_text(alloc, ids, b, epoch)?)?;
-    Ok(fields)
+    let index = row as usize;
+    if index >= ids.len() {
+        return write_field(&Value::Null, epoch, into);
+    }
+    write_field(&ids[index], epoch, into)
+}
+
+/// Prints pairs of rows: the ids of both.
+#[derive(Clone, Copy)]
+pub struct PairPrinter<'a> {
+    /// The ids of all rows.
+    pub ids: &'a [Value],
+    /// The epoch by which instants are printed.
+    pub epoch: &'a Epoch,
+}
+
+impl<'a> FieldPrinter<(u32, u32)> for PairPrinter<'a> {
+    ghost use Rattle.mob_tile_run.specs.TileTexts.{pair_fields};
+
+    ghost fields = { λ p pair. pair_fields p.epoch.now p.ids.now pair };
+
+    fn count(&self, _pair: &(u32, u32)) -> usize {
+        2
+    }
+
+    fn append(
+        &self,
+        pair: &(u32, u32),
+        number: usize,
+        into: &mut String,
+    ) -> Result<(), AllocError> {
+        if number == 0 {
+            return write_id(self.ids, pair.0, self.epoch, into);
+        }
+        write_id(self.ids, pair.1, self.epoch, into)
+    }
 }
 
 /// The names of the columns of parts.
