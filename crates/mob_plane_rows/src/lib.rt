@@ -1,5 +1,5 @@
-//! Tests of moving points in the plane: boxes, what is left of a point inside and outside of boxes and polygons, and how near two points
-//! come.
+//! Tests of moving points in the plane: boxes, what is left of a point inside and outside of boxes and polygons, how near two points
+//! come, and which of two do by their tiles.
 #![tactic(auto)]
 
 #[cfg(test)]
@@ -12,3 +12,5 @@ mod pairs;
 mod polygons;
 #[cfg(test)]
 mod printed;
+#[cfg(test)]
+mod tiles;
