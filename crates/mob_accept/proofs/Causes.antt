@@ -14,7 +14,7 @@ use Rattle.mob_typed.specs.Statements.{ScriptOut, script_seen}
 use Rattle.mob_typing.specs.Statements.{typed_script, IsTypingRefusal}
 use Rattle.mob_accept.specs.Accepts.{HasTrees, IsAccepted, IsTooLong, IsAcceptRefusal, script_limit}
 
--- a refusal of the parser is want of memory, or another
+-- a refusal of the parser is a failed allocation, or another
 split : (k : Kind) (n p : ℕ) (bytes : List ℕ) → IsCause k bytes (record { kind = k; statement = n; place = p }) → (◌≡◌ {A = Refusal} (record { kind = k; statement = n; place = p }) no_memory) ⊎ (k ≢ NoMemory)
 split NoMemory n p bytes h = inl (rw (h.0, h.1) refl)
 split NotUtf8 n p bytes h = inr (λ e. cc)

@@ -54,6 +54,6 @@ IsTextRefused bytes e = IsTooLong bytes e ⊎ (IsNoScript bytes e ⊎ IsWrongNam
 abbrev pub IsNotTaken : List ℕ → Type 0
 IsNotTaken bytes = (out : ScriptOut) → IsAccepted bytes out → ⊥
 
--- a refusal: want of memory, or that of a text that is no script that is taken, by its cause
+-- a refusal: a failed allocation, or that of a text that is no script that is taken, by its cause
 abbrev pub IsAcceptRefusal : List ℕ → Refusal → Type 0
 IsAcceptRefusal bytes e = (e ≡ no_memory) ⊎ (IsTextRefused bytes e × IsNotTaken bytes)

@@ -1,4 +1,5 @@
--- Lines meet the laws of sums, differences and multiples: each of them is a line between the results at the two ends.
+-- Lines meet the laws of sums, differences and multiples: each of them is a line between the
+-- results at the two ends.
 use Rattle.std.specs.Prelude.{refl, ⊤}
 use Rattle.std.proofs.Common.{sym}
 use Rattle.mob_ratio.specs.Ratio.{Ratio, inverse}

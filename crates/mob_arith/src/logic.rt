@@ -12,7 +12,8 @@ use crate::operation::{Conjunction, Disjunction, Exclusion};
 use mob_slice::{Moving, Operand, Steady};
 use std::alloc::{AllocError, Global};
 
-/// Whether both operands are true, at each instant at which both have a value. None exactly where there is no such instant.
+/// Whether both operands are true, at each instant at which both have a value. None exactly where
+/// there is no such instant.
 pub fn and(
     alloc: Global,
     a: Operand<'_, Steady<bool>>,
@@ -24,7 +25,8 @@ pub fn and(
     operate::<Steady<bool>, Steady<bool>, Conjunction>(alloc, a, b)
 }
 
-/// Whether an operand is true, at each instant at which both have a value. None exactly where there is no such instant.
+/// Whether an operand is true, at each instant at which both have a value. None exactly where there
+/// is no such instant.
 pub fn or(
     alloc: Global,
     a: Operand<'_, Steady<bool>>,

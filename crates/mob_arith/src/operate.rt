@@ -25,6 +25,7 @@ fn on_steps<A: Course, B: Course, O: Operation<A::Base, B::Base>>(
         Ok(value) => value,
         Err(_) => return Err(OpFault::NoMemory),
     };
+    // A call of a method tells the proof what holds of every span.
     let _ = piece.span.lower();
     single(alloc, piece.span, value)
 }

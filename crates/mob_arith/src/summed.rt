@@ -12,11 +12,13 @@ ghost use Rattle.mob_arith.specs.Summed.{IsSummed, steady_summed};
 use mob_frac::{Frac, Overflow};
 use mob_slice::{Course, Formula, Line, Passed, Steady};
 
-/// A course whose values can be added, subtracted and multiplied by a number. Each is the ordinary operation on the numbers
-/// that the values are, and its fault names F2, exactly where the result does not fit.
+/// A course whose values can be added, subtracted and multiplied by a number. Each is the ordinary
+/// operation on the numbers that the values are, and its fault names F2, exactly where the result
+/// does not fit.
 ///
-/// The law says that these go term by term: the course between the sums of the limits of two courses on one span has at
-/// every instant the sum of their values, and so for differences and multiples.
+/// The law says that these go term by term: the course between the sums of the limits of two
+/// courses on one span has at every instant the sum of their values, and so for differences and
+/// multiples.
 pub trait Summed: Course {
     /// The number that a value is.
     ghost number: { Self.Base → Ratio };

@@ -1,7 +1,7 @@
 //! Sums, differences and multiples of numbers over time, on every course whose values can be added.
 //!
-//! `Passed` names the formula of the first entry that has a part that does not fit: on each piece that the operands share, F1 at
-//! its ends, then F2 there.
+//! `Passed` names the formula of the first entry that has a part that does not fit: on each piece
+//! that the operands share, F1 at its ends, then F2 there.
 
 ghost use Rattle.std.specs.Prelude.{◌≡◌, ◌≢◌, true, ◌||◌, IfOk, option_map, pos};
 ghost use Rattle.std.specs.List.{flat_map};
@@ -35,7 +35,8 @@ where
     by_terms::<C, C, C, Sum>(alloc, a, b)
 }
 
-/// The difference of two operands at each instant. None exactly where at no instant both have a value.
+/// The difference of two operands at each instant. None exactly where at no instant both have a
+/// value.
 pub fn minus<C: Summed + Drop>(
     alloc: Global,
     a: Operand<'_, C>,
@@ -50,7 +51,8 @@ where
     by_terms::<C, C, C, Difference>(alloc, a, b)
 }
 
-/// The multiple of an operand by numbers that go by steps, at each instant. None exactly where at no instant both have a value.
+/// The multiple of an operand by numbers that go by steps, at each instant. None exactly where at
+/// no instant both have a value.
 pub fn times<C: Summed + Drop>(
     alloc: Global,
     a: Operand<'_, C>,
@@ -65,8 +67,8 @@ where
     by_terms::<C, Steady<Frac>, C, Multiple>(alloc, a, b)
 }
 
-/// The product of a temporal number that goes by steps and of a temporal value, at each instant. None exactly where at no
-/// instant both have a value.
+/// The product of a temporal number that goes by steps and of a temporal value, at each instant.
+/// None exactly where at no instant both have a value.
 pub fn times_step<C: Summed + Drop>(
     alloc: Global,
     a: &Moving<Steady<Frac>>,
@@ -106,6 +108,7 @@ pub fn over_const(alloc: Global, a: &Moving<Line>, k: &Frac) -> Result<Moving<Li
     ensures value { IfOk result (λ v. (t : Ratio) → value_at line_value_of v t ≡ option_map (λ x. x /ℚ k.now) (value_at line_value_of a.now t)) }
     ensures first { IsJudged (flat_map (entries_at_ends line_value_of line_parts_of steady_value steady_parts quotient_parts) (pieces (Slices a.now) (Base k.now))) result }
 {
+    // That `a` has a slice, so that the result has one, is known by this call.
     let _ = a.slices();
     match by_terms::<Line, Steady<Frac>, Line, Quotient>(
         alloc,

@@ -25,7 +25,8 @@ use mob_slice::{
 use mob_sync::Pieces;
 use std::alloc::Global;
 
-/// An operation on the values of two courses that goes term by term: its result goes as a third course does.
+/// An operation on the values of two courses that goes term by term: its result goes as a third
+/// course does.
 pub trait Termwise<A: Course, B: Course, D: Course> {
     ghost op: { A.Base → B.Base → D.Base };
 
@@ -84,7 +85,7 @@ impl<C: Summed> Termwise<C, Steady<Frac>, C> for Multiple {
     ghost law = { C.Summed.laws.multiples };
 }
 
-/// The same with the number first.
+/// The multiple by a number that goes by steps, which is the first operand.
 pub struct Scaling;
 
 impl<C: Summed> Termwise<Steady<Frac>, C, C> for Scaling {
@@ -165,6 +166,7 @@ where
             });
         }
     };
+    // A call of a method tells the proof what holds of every span.
     let _ = piece.span.lower();
     listed(
         alloc,
@@ -199,10 +201,11 @@ where
     )
 }
 
-/// The operation on two operands at each instant at which both have a value. None exactly where there is no such instant.
+/// The operation on two operands at each instant at which both have a value. None exactly where
+/// there is no such instant.
 ///
-/// `Passed` names the formula of the first entry that has a part that does not fit: on each piece that the operands share,
-/// F1 at its ends, then F2 there.
+/// `Passed` names the formula of the first entry that has a part that does not fit: on each piece
+/// that the operands share, F1 at its ends, then F2 there.
 pub fn by_terms<A: Course + Drop, B: Course + Drop, D: Course + Drop, O: Termwise<A, B, D>>(
     alloc: Global,
     a: Operand<'_, A>,

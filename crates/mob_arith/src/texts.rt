@@ -11,8 +11,8 @@ use mob_list::text::Text;
 use mob_slice::{Moving, Operand, Steady};
 use std::alloc::{AllocError, Global};
 
-/// The first text followed by the second, at each instant at which both have a value. None exactly where there is no such
-/// instant.
+/// The first text followed by the second, at each instant at which both have a value. None exactly
+/// where there is no such instant.
 pub fn join_text(
     alloc: Global,
     a: Operand<'_, Steady<Text>>,

@@ -9,8 +9,8 @@ use Rattle.mob_value.specs.declared.value.Value.{Value}
 use Rattle.mob_value.specs.declared.value.Value.TheVariants.{Null, Bool as Truth, Number, Text, Moment, Point, Polygon, Span, SpanSet, Box, MovingBool, MovingInt, MovingFrac, MovingText, MovingPoint}
 use Rattle.mob_arrange.specs.Keyed.{Keyed}
 
--- The place of a value among values of other types, with NULL behind every other value. A key has one type, so that only NULL stands
--- beside its values.
+-- The place of a value among values of other types, with NULL behind every other value. A key has
+-- one type, so that only NULL stands beside its values.
 abbrev pub type_rank : Value → ℕ
 type_rank (Truth a) = 0
 type_rank (Number a) = 1

@@ -4,7 +4,8 @@ use Rattle.std.specs.List.{Contains}
 use Rattle.mob_arrange.specs.Keyed.{Keyed}
 use Rattle.mob_arrange.specs.Order.{IsOrderedByKeys}
 
--- kept are those of xs, in order, that are equal to none before them, where those of `before` stand before all
+-- kept are those of xs, in order, that are equal to none before them, where those of `before` stand
+-- before all
 abbrev pub AreFirst : {X : Type 0} → List X → List X → List X → Type 0
 AreFirst before [] kept = kept ≡ []
 AreFirst {X} before (x ∷ xs) kept =
@@ -21,7 +22,8 @@ abbrev pub limited : {X : Type 0} → Option ℕ → List X → List X
 limited None xs = xs
 limited (Some n) xs = take n xs
 
--- The rows are put in the order of their keys, then the first of equal ones is taken where they are to be distinct, then they are cut.
+-- The rows are put in the order of their keys, then the first of equal ones is taken where they are
+-- to be distinct, then they are cut.
 pub record AreArranged (falls : List Bool) (distinct : Bool) (limit : Option ℕ) (rows : List Keyed) (answer : List (List (List ℕ))) : Type 0 where
   pub ordered : List Keyed
   pub in_order : IsOrderedByKeys falls rows ordered

@@ -52,6 +52,7 @@ pub fn distinct(
     let mut seen = IndexSet::new(alloc);
     for row in rows {
         let fields = fields_of(alloc, &printer, row)?;
+        // Fields that are there already are not added, which needs no answer here.
         let _is_new = seen.insert(fields)?;
     }
     Ok(seen)

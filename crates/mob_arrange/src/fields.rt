@@ -42,6 +42,7 @@ impl<'a, 'b> FieldPrinter<Row<'b>> for Fields<'a> {
     }
 
     fn append(&self, row: &Row<'b>, number: usize, into: &mut String) -> Result<(), AllocError> {
+        // The clause of `len` says how many values the row has.
         let _count = row.len();
         write_found(row.get(self.keys + number), self.epoch, into)
     }

@@ -1,4 +1,5 @@
-//! The rows of an answer: put in the order of their keys, of equal ones the first, no more than so many, and then printed.
+//! The rows of an answer: put in the order of their keys, of equal ones the first, no more than so
+//! many, and then printed.
 #![tactic(auto)]
 
 mod arrange;

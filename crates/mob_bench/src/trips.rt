@@ -100,7 +100,8 @@ fn found(
     Ok(away)
 }
 
-/// What the last of `count` searches (`near`), or scans, of the table of trips finds, and the number of trips; or the exit status.
+/// What the last of `count` searches (`near`), or scans, of the table of trips finds, and the
+/// number of trips; or the exit status.
 pub fn timed<S: Source>(
     alloc: Global,
     table: &mut S,

@@ -55,7 +55,8 @@ module _ {C B : Type 0} {steady copies : Bool} {value : C → Ratio → Ratio �
   on_side (Moves s) r h k = let v : Ratio → B = λ t. value s.course s.span.lower s.span.upper t in (record { span = r; course = make (v r.lower) (v r.upper) }, cut_is laws s r (v r.lower) (v r.upper) h.1 k refl refl)
   on_side (Stays b) r h k = (record { span = r; course = make b b }, level_is laws b b b r k refl refl)
 
-  -- the gaps of two courses on a piece go evenly from those at its lower end to those at the upper one
+  -- the gaps of two courses on a piece go evenly from those at its lower end to those at the upper
+  -- one
   pub gaps_on : (p : PieceOf (SideOf C B) (SideOf C B)) → HoldsPiece start end start end p → has_instant p.span ≡ true → steady ≡ false → (t : Ratio) → has p.span t ≡ true → gaps (side_at value p.left t) (side_at value p.right t) ≡ gaps_at (piece_gaps value gaps p p.span.lower) (piece_gaps value gaps p p.span.upper) p.span.lower p.span.upper t
   gaps_on p held some e t i =
       let l = on_side p.left p.span held.0 some in

@@ -143,7 +143,8 @@ module _ (parts : Ratio → List Ratio) where
   cut_fits : (s : SpanOf) (rs : List Ratio) (t : Ratio) → AllFit (parts s.lower) → AllFit (parts s.upper) → AllByRecursion (λ t. AllFit (parts t)) rs → IsCut s rs t → AllFit (parts t)
   cut_fits s rs t a b h i = elim i [ inl e ↦ subst (λ z. AllFit (parts z)) (sym e) a | inr k ↦ elim k [ inl e ↦ subst (λ z. AllFit (parts z)) (sym e) b | inr j ↦ in_fits t rs h j ] ]
 
-  -- where the values at the ends of the piece and at the roots fit, so do those at the ends of each cell
+  -- where the values at the ends of the piece and at the roots fit, so do those at the ends of each
+  -- cell
   cells_fit : (s : SpanOf) (rs : List Ratio) (cells : List SpanOf) → EndsFit s → AllByRecursion (λ t. AllFit (parts t)) rs → AllByRecursion (λ c. IsCut s rs c.lower × IsCut s rs c.upper) cells → AllByRecursion EndsFit cells
   cells_fit s rs [] a h k = tt
   cells_fit s rs (c ∷ cells) a h k =

@@ -37,9 +37,11 @@ where
     }
 }
 
-/// The gaps of two operands at the ends of a piece, for courses that are not steady. It takes no memory.
+/// The gaps of two operands at the ends of a piece, for courses that are not steady. It takes no
+/// memory.
 ///
-/// `Passed` names the formula of the first entry that does not fit: F1 at the ends of the piece, then F2, the gaps there.
+/// `Passed` names the formula of the first entry that does not fit: F1 at the ends of the piece,
+/// then F2, the gaps there.
 pub fn gaps_at_ends<C: Compared + Drop>(
     alloc: Global,
     piece: &Piece<'_, C, C>,

@@ -1,4 +1,5 @@
--- How tokens lie in their text: one behind the other, with blanks and comments between them and nothing else.
+-- How tokens lie in their text: one behind the other, with blanks and comments between them and
+-- nothing else.
 use Rattle.std.specs.Prelude.{◌≡◌, ◌+◌, ◌<◌, ◌≤◌, ◌++◌, ℕ, List, [], ◌∷◌, length, drop, true, Some, None, Ok, Err}
 use Rattle.mob_chars.specs.declared.token.TokenKind.{TokenKind}
 use Rattle.mob_chars.specs.declared.token.Token.{Token}
@@ -6,8 +7,8 @@ use Rattle.mob_language.specs.Language.{is_blank}
 use Rattle.mob_chars.specs.Scan.{begins_comment, comment_length, gap_length}
 use Rattle.mob_chars.specs.Tokens.{token_at, token, end_at, tokens_of}
 
--- `Leads p l ts q m`: from the place p, where the text goes on as l, the tokens ts with blanks and comments before,
--- between and behind them lead to the place q, where it goes on as m.
+-- `Leads p l ts q m`: from the place p, where the text goes on as l, the tokens ts with blanks and
+-- comments before, between and behind them lead to the place q, where it goes on as m.
 pub data Leads : ℕ → List ℕ → List Token → ℕ → List ℕ → Type 0 where
   here : {p : ℕ} {l : List ℕ} → Leads p l [] p l
   blank : {p q b : ℕ} {l m : List ℕ} {ts : List Token} → is_blank b ≡ true → Leads (p + 1) l ts q m → Leads p (b ∷ l) ts q m
@@ -22,7 +23,8 @@ pub record IsLaid (text : List ℕ) (ts : List Token) : Type 0 where
   pub parts : ts ≡ all ++ end_at (length text) ∷ []
   pub leads : Leads 0 text all (length text) []
 
--- a text that goes on, but with no gap and no token: a character that begins none, or a string that is not closed
+-- a text that goes on, but with no gap and no token: a character that begins none, or a string that
+-- is not closed
 pub record BeginsNone (l : List ℕ) : Type 0 where
   pub goes_on : 0 < length l
   pub no_gap : gap_length l ≡ 0
@@ -35,7 +37,8 @@ pub record IsStuck (text : List ℕ) (place : ℕ) : Type 0 where
   pub leads : Leads 0 text before place rest
   pub none_begins : BeginsNone rest
 
--- Between the places p and e the tokens stand in order: each begins where the one before it has ended, or later.
+-- Between the places p and e the tokens stand in order: each begins where the one before it has
+-- ended, or later.
 abbrev pub InOrder : ℕ → ℕ → List Token → Type 0
 InOrder p e [] = p ≤ e
 InOrder p e (t ∷ ts) = (p ≤ t.from) × (t.from ≤ t.to) × InOrder t.to e ts

@@ -1,4 +1,5 @@
--- What stands at the front of a text: blanks, comments, words, numbers and strings, and how long they are in bytes.
+-- What stands at the front of a text: blanks, comments, words, numbers and strings, and how long
+-- they are in bytes.
 use Rattle.std.specs.Prelude.{◌==◌, ◌+◌, ◌&&◌, ◌||◌, ℕ, List, [], ◌∷◌, length, drop, Bool, false, not, cond, nat_le, option_map, Option, Some, None, take_while}
 use Rattle.mob_language.specs.Language.{is_blank, is_digit, is_number_sign, is_exponent_letter}
 
@@ -58,7 +59,8 @@ exponent_length (b ∷ l) = cond (is_exponent_letter b) (power_length l) 0
 abbrev pub number_length : List ℕ → ℕ
 number_length l = mantissa_length l + exponent_length (drop (mantissa_length l) l)
 
--- behind an opening quote: the length up to the closing quote, which is the first quote that is not one of a pair
+-- behind an opening quote: the length up to the closing quote, which is the first quote that is not
+-- one of a pair
 abbrev pub quoted_length : List ℕ → Option ℕ
 quoted_length [] = None
 quoted_length (b ∷ []) = cond (is_quote b) (Some 1) None

@@ -1,7 +1,9 @@
-//! Laws of tokens: how they lie in their text. Each is proved for every text; calling one does nothing.
+//! Laws of tokens: how they lie in their text. Each is proved for every text; calling one does
+//! nothing.
 ghost use Rattle.mob_chars.specs.Layout.{TokensAreLaid, FaultsAreStuck, TokensAreInOrder};
 
-/// The tokens of a text lie one behind the other, with blanks and comments alone between them, up to its end.
+/// The tokens of a text lie one behind the other, with blanks and comments alone between them, up
+/// to its end.
 pub fn tokens_are_laid()
     ensures laid { TokensAreLaid }
 {}

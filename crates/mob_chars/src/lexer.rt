@@ -27,9 +27,11 @@ fn token_length(text: &[u8]) -> Option<(TokenKind, usize)>
     }
 }
 
-/// The tokens of a text, in order; the last is its end. Only blanks and comments stand between them.
+/// The tokens of a text, in order; the last is its end. Only blanks and comments stand between
+/// them.
 ///
-/// Answers `Lexical` exactly where a character begins no token or a string is not closed, with the first such place.
+/// Answers `Lexical` exactly where a character begins no token or a string is not closed, with the
+/// first such place.
 pub fn tokens(alloc: Global, text: &str) -> Result<Items<Token>, LexFault>
     requires short { length text.now < 2 ^ 32 }
     ensures all { IfOk result (λ ts. tokens_of text.now ≡ Ok ts) }

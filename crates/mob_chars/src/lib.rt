@@ -1,4 +1,5 @@
-//! The tokens of a script: words, numbers, strings and signs, with blanks and comments between them.
+//! The tokens of a script: words, numbers, strings and signs, with blanks and comments between
+//! them.
 #![tactic(auto)]
 
 pub mod laws;

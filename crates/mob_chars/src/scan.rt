@@ -64,7 +64,8 @@ pub fn mantissa_length(text: &[u8]) -> usize
     }
 }
 
-/// The length of the exponent that comes first: `e` or `E`, an optional sign and one digit or more; 0 where there is none.
+/// The length of the exponent that comes first: `e` or `E`, an optional sign and one digit or more;
+/// 0 where there is none.
 pub fn exponent_length(text: &[u8]) -> usize
     ensures value { result ≡ exponent_length text.now }
     ensures within { result ≤ length text.now }
@@ -93,7 +94,8 @@ pub fn number_length(text: &[u8]) -> usize
     mantissa + exponent_length(&text[mantissa..])
 }
 
-/// The length of a string up to its closing quote, behind its opening quote; none where it is not closed.
+/// The length of a string up to its closing quote, behind its opening quote; none where it is not
+/// closed.
 pub fn quoted_length(text: &[u8]) -> Option<usize>
     ensures value { result ≡ quoted_length text.now }
     ensures within { IfSome result (λ n. (0 < n) × (n ≤ length text.now)) }
@@ -111,7 +113,8 @@ pub fn quoted_length(text: &[u8]) -> Option<usize>
     None
 }
 
-/// The length of a comment up to the line feed that ends it or to the end of the text, the line feed left out.
+/// The length of a comment up to the line feed that ends it or to the end of the text, the line
+/// feed left out.
 pub fn comment_length(text: &[u8]) -> usize
     ensures value { result ≡ comment_length text.now }
 {

@@ -31,7 +31,8 @@ pub struct Token {
 /// Why a text has no tokens.
 #[derive(Clone, Copy, Debug, PartialEq, Eq)]
 pub enum LexFault {
-    /// A character begins no token, or a string is not closed: the place of that character, or of the opening quote.
+    /// A character begins no token, or a string is not closed: the place of that character, or of
+    /// the opening quote.
     Lexical {
         /// The place, in bytes from 0.
         place: u32,

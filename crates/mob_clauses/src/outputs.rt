@@ -287,6 +287,7 @@ fn push_no_aggs(aggs: &mut Vec<Option<Agg>>, columns: &[(TExpr, Text)]) -> Resul
     ensures behind { OnOk result (aggs.new.items ≡ aggs.old.items ++ map no_agg (map output_of columns.now)) }
 {
     for column in columns {
+        // Each column gets one entry, whichever column it is.
         let _value = &column.0;
         aggs.push(None)?;
     }

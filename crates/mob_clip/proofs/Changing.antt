@@ -91,7 +91,8 @@ three x false true c = refl
 three x false false true = refl
 three x false false false = refl
 
--- the change by the signs at the ends, where tl says that t is behind the lower end and tu that it is in front of the upper one
+-- the change by the signs at the ends, where tl says that t is behind the lower end and tu that it
+-- is in front of the upper one
 ends_by : (o u : Ordering) (tl tu : Bool) → (tl ≡ false → tu ≡ false → o ≡ u) → (is_eq o ≡ false → is_eq u ≡ false → o ≡ u) → (s : SpanOf) (t : Ratio) → before t s.lower ≡ false → before s.lower t ≡ tl → before t s.upper ≡ tu → before s.upper t ≡ false
     → changing_sign (ends_change s o u) t ≡ cond (not tl) o (cond (not tu) u (cond (is_eq o) u o))
 ends_by Equal Equal tl tu short one s t a b c d = three Equal (not tl) (not tu) true

@@ -53,7 +53,8 @@ over_then : in_box box (whole (pos 2)) (record { x = whole (pos 2); y = whole (p
 unfolding over gcd gcd_steps in_lowest_terms whole before same
 over_then = refl
 
--- F1 at 2, where the time of the box ends; the differences to the four sides at 0 and at 2; the root 1 of the first of them; F1 at 1
+-- F1 at 2, where the time of the box ends; the differences to the four sides at 0 and at 2; the
+-- root 1 of the first of them; F1 at 1
 trip_entries : entries_of_box box trip
     ≡ record { formula = F1; parts = whole (pos 2) ∷ whole (pos 4) ∷ over (pos 1) 2 ∷ whole (pos 4) ∷ whole (pos 2) ∷ whole (pos 2) ∷ [] }
     ∷ record { formula = F2; parts = whole (negsuc 0) ∷ whole (negsuc 2) ∷ whole (pos 0) ∷ whole (pos 0) ∷ whole (pos 1) ∷ whole (negsuc 0) ∷ whole (pos 0) ∷ whole (pos 0) ∷ [] }

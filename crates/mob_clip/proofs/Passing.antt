@@ -174,7 +174,8 @@ module _ (s : Slice PlaneLine) where
   rest_holds None r i h k = tt
   rest_holds (Some c) r i h k = right_holds c r i h k
 
-  -- the slices have the values f at each instant of s that is not in the piece, which they are before
+  -- the slices have the values f at each instant of s that is not in the piece, which they are
+  -- before
   pub record IsLeft (f : Ratio → Option Point) (rest : Option SpanOf) (out : List (Slice PlaneLine)) : Type 0 where
     pub ordered : IsOrdered (λ k. k.from) (λ k. k.to) out
     pub inside : AreInside s.span out

@@ -38,8 +38,9 @@ abbrev pub in_area_by : List Ordering → Bool
 in_area_by (left ∷ right ∷ low ∷ high ∷ []) = not (is_lt left) && not (is_gt right) && (not (is_lt low) && not (is_gt high))
 in_area_by os = false
 
--- The entries of space on the piece r of the slice s: F2, the differences to the sides at the two ends of the piece, then
--- F3, their roots on the piece, then F1, the values of the slice at these roots.
+-- The entries of space on the piece r of the slice s: F2, the differences to the sides at the two
+-- ends of the piece, then F3, their roots on the piece, then F1, the values of the slice at these
+-- roots.
 abbrev pub entries_of_area : Area → Slice PlaneLine → SpanOf → List Entry
 entries_of_area a s r =
     record { formula = F2; parts = at_ends (λ t. area_parts a (slice_value plane_value_of s t)) r }

@@ -26,8 +26,8 @@ edge_parts p e = (p.x -ℚ e.0.x) ∷ (p.x -ℚ e.1.x) ∷ (p.y -ℚ e.0.y) ∷ 
 abbrev pub edges_parts : Point → List (Point × Point) → List Ratio
 edges_parts p es = flat_map (edge_parts p) es
 
--- the linear functions by whose signs a point on the way from p to q lies to an edge: its turn with it, and its differences to the
--- two ends of the edge
+-- the linear functions by whose signs a point on the way from p to q lies to an edge: its turn with
+-- it, and its differences to the two ends of the edge
 abbrev pub edge_ends : Point → Point → Point × Point → List Ends
 edge_ends p q e =
     record { at_lower = turn e.0 e.1 p; at_upper = turn e.0 e.1 q }
@@ -40,8 +40,9 @@ edge_ends p q e =
 abbrev pub edges_ends : Point → Point → List (Point × Point) → List Ends
 edges_ends p q es = flat_map (edge_ends p q) es
 
--- The entries of one slice: F2, the differences of its positions at its two ends to both ends of each edge, then F4, their turns with
--- each edge, then F3, the roots of all of these on the slice, then F1, the values of the slice at these roots.
+-- The entries of one slice: F2, the differences of its positions at its two ends to both ends of
+-- each edge, then F4, their turns with each edge, then F3, the roots of all of these on the slice,
+-- then F1, the values of the slice at these roots.
 abbrev pub entries_of_edges : List (Point × Point) → Slice PlaneLine → List Entry
 entries_of_edges es s =
     record { formula = F2; parts = at_ends (λ t. edges_parts (slice_value plane_value_of s t) es) s.span }

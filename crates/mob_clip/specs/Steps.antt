@@ -19,8 +19,8 @@ steps_at s t = step_at s.first s.changes.items t
 abbrev pub ChangesFit : {T : Type 0} → (Ratio → List Ratio) → List (Change T) → Type 0
 ChangesFit parts changes = AllByRecursion (λ c. AllFit (parts c.at)) changes
 
--- The change c is the next of two walks, of which left and right stand in front, and left' and right' behind it: where what follows
--- behind it is the two taken together, so is the whole.
+-- The change c is the next of two walks, of which left and right stand in front, and left' and
+-- right' behind it: where what follows behind it is the two taken together, so is the whole.
 pub record IsNextChange {T : Type 0} (mix : T → T → T) (left right : T) (xs ys : List (Change T)) (c : Change T) (left' right' : T) (xs' ys' : List (Change T)) : Type 0 where
   pub whole : (rest : List (Change T)) (t : Ratio) → step_at (mix left' right') rest t ≡ mix (step_at left' xs' t) (step_at right' ys' t) → step_at (mix left right) (c ∷ rest) t ≡ mix (step_at left xs t) (step_at right ys t)
   pub behind : c.behind ≡ mix left' right'

@@ -65,7 +65,8 @@ fn functions(alloc: Global, area: &Area, p: &Point, q: &Point) -> Result<Vec<End
     functions_of(alloc, &from, &to)
 }
 
-// The same, of the differences at both ends.
+// The four linear functions with these differences at the two ends. The one fault is a failed
+// allocation.
 fn functions_of(alloc: Global, from: &Sides, to: &Sides) -> Result<Vec<Ends>, OpFault>
     ensures functions { MatchResult result (λ v. v.items ≡ record { at_lower = from.now.left; at_upper = to.now.left } ∷ record { at_lower = from.now.right; at_upper = to.now.right } ∷ record { at_lower = from.now.low; at_upper = to.now.low } ∷ record { at_lower = from.now.high; at_upper = to.now.high } ∷ []) (λ e. e ≡ OpFault.NoMemory) }
 {
@@ -129,8 +130,8 @@ impl Test for InArea {
     }
 }
 
-/// What is left of a slice on a piece of its span, which is given as a slice too, where being in the area has the wanted
-/// truth value.
+/// What is left of a slice on a piece of its span, which is given as a slice too, where being in
+/// the area has the wanted truth value.
 pub fn in_area_on(
     alloc: Global,
     slice: &Slice<PlaneLine>,

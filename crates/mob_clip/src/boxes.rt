@@ -26,7 +26,8 @@ use mob_span::{Span, same_bool};
 use mob_stbox::{Area, StBox};
 use std::alloc::Global;
 
-// What is left of a slice on a piece of its span, where being in the space has the wanted truth value.
+// What is left of a slice on a piece of its span, where being in the space has the wanted truth
+// value.
 fn in_space_on(
     alloc: Global,
     slice: &Slice<PlaneLine>,
@@ -69,7 +70,8 @@ fn back(span: &Span, part: &Span) -> Option<Span>
     )
 }
 
-// What is left of a slice: some slices on a piece of it, and what is left around that piece, which lies outside of the time.
+// What is left of a slice: some slices on a piece of it, and what is left around that piece, which
+// lies outside of the time.
 fn around(
     alloc: Global,
     slice: &Slice<PlaneLine>,
@@ -81,6 +83,7 @@ fn around(
     requires ends { AllFit (at_ends (slice_parts plane_parts_of slice.now) part.now) }
     ensures around { MatchResult result (λ v. AreAround slice.now want part.now middle.items v.items) (λ e. e ≡ OpFault.NoMemory) }
 {
+    // A call of a method tells the proof what holds of every span.
     let _ = part.lower();
     let mut out = match piece_on(
         alloc,
@@ -198,11 +201,12 @@ fn to_box(
     }
 }
 
-/// The moving point at the instants at which it is in the box. None exactly where there is no such instant.
+/// The moving point at the instants at which it is in the box. None exactly where there is no such
+/// instant.
 ///
-/// `Passed` names the formula of the first entry that has a part that does not fit: on each slice that shares an instant with
-/// the time of the box F1 at the ends of what they share, then F2, the differences to the sides there, then F3, their
-/// roots, then F1 at these roots.
+/// `Passed` names the formula of the first entry that has a part that does not fit: on each slice
+/// that shares an instant with the time of the box F1 at the ends of what they share, then F2, the
+/// differences to the sides there, then F3, their roots, then F1 at these roots.
 pub fn at_box(
     alloc: Global,
     a: &Moving<PlaneLine>,
@@ -214,7 +218,8 @@ pub fn at_box(
     to_box(alloc, a, b, true)
 }
 
-/// The moving point at the instants at which it is not in the box. None exactly where there is no such instant.
+/// The moving point at the instants at which it is not in the box. None exactly where there is no
+/// such instant.
 ///
 /// `Passed` is that of `at_box`: the formulas are the same, whatever is left.
 pub fn minus_box(

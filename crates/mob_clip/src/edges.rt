@@ -18,7 +18,8 @@ fn push_edges(out: &mut Vec<(Point, Point)>, ring: &[Point]) -> Result<(), Alloc
     Ok(())
 }
 
-// The edges of all rings.
+/// The edges of all rings, each as its two ends, ring by ring. A ring that does not close by itself
+/// has no edge from its last point to its first. The one error is a failed allocation.
 pub fn edges_of(alloc: Global, rings: &[Vec<Point>]) -> Result<Vec<(Point, Point)>, AllocError>
     ensures edges { IfOk result (λ v. v.items ≡ all_edges (rings_of rings.now)) }
 {

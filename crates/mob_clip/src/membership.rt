@@ -22,8 +22,8 @@ use mob_span::Span;
 use std::alloc::{AllocError, Global};
 use std::cmp::Ordering;
 
-/// The sign of a linear function on a span: in front of the instant at which it is 0, and behind it; or one sign, if there is no
-/// such instant alone.
+/// The sign of a linear function on a span: in front of the instant at which it is 0, and behind
+/// it; or one sign, if there is no such instant alone.
 #[derive(Clone, Copy, Drop)]
 pub struct SignChange {
     /// In front.
@@ -246,7 +246,7 @@ fn edge_tally(signs: &EdgeSigns) -> Tally
     )
 }
 
-// The same along a walk.
+// What is known of a point by one edge, at each step of the edge's signs.
 fn tallied(alloc: Global, signs: &Steps<EdgeSigns>) -> Result<Steps<Tally>, AllocError>
     ensures tallied { IfOk result (λ s. (s.first ≡ edge_tally signs.now.first) × (s.changes.items ≡ map tally_change signs.now.changes.items)) }
 {
@@ -285,6 +285,7 @@ fn each_edge(
     ensures values { IfOk result (λ v. (t : Ratio) → has span.now t ≡ true → map (λ s. steps_at s t) v.items ≡ map (λ g. edge_tally (signs_on span.now t g)) edges.now) }
     ensures fit { IfOk result (λ v. (parts : Ratio → List Ratio) → AllFit (parts span.now.lower) → AllFit (parts span.now.upper) → AllByRecursion (CutsFit parts) edges.now → AllByRecursion (λ s. ChangesFit parts s.changes.items) v.items) }
 {
+    // A call of a method tells the proof what holds of every span.
     let _lower = span.lower();
     let mut out = Vec::new(alloc);
     for edge in edges {
@@ -307,8 +308,8 @@ fn nothing(alloc: Global) -> Steps<Tally>
     }
 }
 
-// What is known of a point by all edges together: halves are taken together, so that each change is seen as often as there are
-// halves above it.
+// What is known of a point by all edges together: halves are taken together, so that each change is
+// seen as often as there are halves above it.
 fn together(alloc: Global, edges: &[Steps<Tally>]) -> Result<Steps<Tally>, AllocError>
     ensures values { IfOk result (λ s. (t : Ratio) → steps_at s t ≡ tally_all (map (λ e. steps_at e t) edges.now)) }
     ensures fit { IfOk result (λ s. (parts : Ratio → List Ratio) → AllByRecursion (λ e. ChangesFit parts e.changes.items) edges.now → ChangesFit parts s.changes.items) }
@@ -325,8 +326,9 @@ fn together(alloc: Global, edges: &[Steps<Tally>]) -> Result<Steps<Tally>, Alloc
     }
 }
 
-/// What is known of a moving point on a span by all edges: whether it lies on one, and whether it is odd how many pass its height to
-/// the right of it. Changes stand at roots of the functions of the edges, or at ends of the span.
+/// What is known of a moving point on a span by all edges: whether it lies on one, and whether it
+/// is odd how many pass its height to the right of it. Changes stand at roots of the functions of
+/// the edges, or at ends of the span.
 pub fn membership(
     alloc: Global,
     span: &Span,

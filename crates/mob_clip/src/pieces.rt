@@ -64,7 +64,8 @@ fn right_of(span: &Span, r: &Frac, included: bool) -> Option<Span>
     Span::new(*r, *span.upper(), lower_inc, span.upper_inc())
 }
 
-// Adds what is left of a slice on what of a piece is before an instant, and gives what of the piece is behind it.
+// Adds what is left of a slice on what of a piece is before an instant, and gives what of the piece
+// is behind it.
 fn push_before(
     alloc: Global,
     slice: &Slice<PlaneLine>,
@@ -123,7 +124,8 @@ fn is_kept(want: bool, tally: &Tally) -> bool
     same_bool(want, is_in(tally))
 }
 
-/// What is left of a slice where what is known of it by all edges says what is wanted: its own values there, and nothing elsewhere.
+/// What is left of a slice where what is known of it by all edges says what is wanted: its own
+/// values there, and nothing elsewhere.
 pub fn kept_on(
     alloc: Global,
     slice: &Slice<PlaneLine>,

@@ -63,7 +63,8 @@ impl<'a> Restriction<PlaneLine> for ToEdges<'a> {
     }
 }
 
-// The restriction to the instants at which being inside the polygon of some edges has the wanted truth value.
+// The restriction to the instants at which being inside the polygon of some edges has the wanted
+// truth value.
 fn to_edges(
     alloc: Global,
     a: &Moving<PlaneLine>,
@@ -98,12 +99,13 @@ fn to_polygon(
     to_edges(alloc, a, edges.as_slice(), want)
 }
 
-/// The moving point at the instants at which it is inside the polygon or on its boundary (MobilityDB's `atGeometry`). None exactly
-/// where there is no such instant.
+/// The moving point at the instants at which it is inside the polygon or on its boundary
+/// (MobilityDB's `atGeometry`). None exactly where there is no such instant.
 ///
-/// `Passed` names the formula of the first entry that has a part that does not fit: on each slice F2, the differences of the
-/// positions at its two ends to the points of the rings, then F4, their turns with the edges, then F3, the roots of all of these,
-/// then F1 at these roots, whatever is left there.
+/// `Passed` names the formula of the first entry that has a part that does not fit: on each slice
+/// F2, the differences of the positions at its two ends to the points of the rings, then F4, their
+/// turns with the edges, then F3, the roots of all of these, then F1 at these roots, whatever is
+/// left there.
 pub fn at_polygon(
     alloc: Global,
     a: &Moving<PlaneLine>,
@@ -115,8 +117,8 @@ pub fn at_polygon(
     to_polygon(alloc, a, p, true)
 }
 
-/// The moving point at the instants at which it is outside the polygon and not on its boundary (MobilityDB's `minusGeometry`). None
-/// exactly where there is no such instant.
+/// The moving point at the instants at which it is outside the polygon and not on its boundary
+/// (MobilityDB's `minusGeometry`). None exactly where there is no such instant.
 ///
 /// `Passed` is that of `at_polygon`: the formulas are the same, whatever is left.
 pub fn minus_polygon(
@@ -130,16 +132,18 @@ pub fn minus_polygon(
     to_polygon(alloc, a, p, false)
 }
 
-/// Whether the moving point is inside the polygon or on its boundary at some rational instant at which it is defined (MobilityDB's
-/// `eIntersects`).
+/// Whether the moving point is inside the polygon or on its boundary at some rational instant at
+/// which it is defined (MobilityDB's `eIntersects`).
 ///
-/// `Passed` is that of `at_polygon`: the formulas of all slices are asked for, also behind an instant that settles the answer.
+/// `Passed` is that of `at_polygon`: the formulas of all slices are asked for, also behind an
+/// instant that settles the answer.
 pub fn ever_inside(alloc: Global, a: &Moving<PlaneLine>, p: &Polygon) -> Result<bool, OpFault>
     ensures value { IfOk result (λ b. IsTrue b ↔ IsEverInside p.now a.now) }
     ensures first { IsJudged (flat_map (entries_of_polygon p.now) a.now) result }
 {
     match at_polygon(alloc, a, p) {
         Ok(Some(left)) => {
+            // The clause of `slices` says that there is a slice, and so an instant.
             let _slices = left.slices();
             Ok(true)
         }

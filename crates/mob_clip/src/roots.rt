@@ -70,7 +70,7 @@ fn push_placed(out: &mut Vec<EdgePlaced>, span: &Span, edge: &EdgeEnds) -> Resul
     requires level { AllByRecursion (IsLevel span.now) (listed_ends edge.now) }
     ensures pushed { IsMadeBy F3 (roots_parts span.now (listed_ends edge.now)) (λ _. out.new.items ≡ out.old.items ++ place_edge span.now edge.now ∷ []) result }
 {
-    // the types of what is added
+    // The types of what is added are named here for the proof.
     let _types: (Option<Placed>, Frac) = (None, edge.turn.at_lower);
     let next = match place_edge(span, edge) {
         Ok(next) => next,
@@ -91,6 +91,7 @@ fn placed(alloc: Global, span: &Span, edges: &[EdgeEnds]) -> Result<Vec<EdgePlac
     requires level { AllByRecursion (λ g. AllByRecursion (IsLevel span.now) (listed_ends g)) edges.now }
     ensures made { IsMadeBy F3 (flat_map (λ g. roots_parts span.now (listed_ends g)) edges.now) (λ v. v.items ≡ map (place_edge span.now) edges.now) result }
 {
+    // A call of a method tells the proof what holds of every span.
     let _lower = span.lower();
     let mut out = Vec::new(alloc);
     for edge in edges {
@@ -172,7 +173,8 @@ fn roots_fit(alloc: Global, slice: &Slice<PlaneLine>, edges: &[EdgePlaced]) -> R
     all_fit(alloc, slice, roots.as_slice())
 }
 
-/// The functions of all edges with their roots on a slice, where every entry of a restriction by these edges fits.
+/// The functions of all edges with their roots on a slice, where every entry of a restriction by
+/// these edges fits.
 pub fn placed_on(
     alloc: Global,
     slice: &Slice<PlaneLine>,

@@ -141,8 +141,8 @@ fn with_differences(
     })
 }
 
-/// The edges with the differences to their ends, of the way from `p` to `q`. Where an edge begins at the end of the one before, it
-/// takes over the differences to it.
+/// The edges with the differences to their ends, of the way from `p` to `q`. Where an edge begins
+/// at the end of the one before, it takes over the differences to it.
 pub fn besides(
     alloc: Global,
     edges: &[(Point, Point)],

@@ -4,7 +4,7 @@ use Rattle.mob_slice.specs.Entries.{OnFormula}
 use Rattle.mob_slice.specs.declared.formula.Formula.{Formula}
 use Rattle.mob_slice.specs.declared.formula.OpFault.{OpFault}
 
--- A value with P where every part of every formula fits, else the formula of the first part that does not: `first` says which formula
--- that is, None where all fit. (Out of memory says nothing.)
+-- A value with P where every part of every formula fits, else the formula of the first part that
+-- does not: `first` says which formula that is, None where all fit. (Out of memory says nothing.)
 abbrev pub IsOutcome : {V : Type 0} → (V → Type 0) → (Option Formula → Type 0) → Result V OpFault → Type 0
 IsOutcome P first r = MatchResult r (λ v. P v × first None) (OnFormula (λ f. first (Some f)))

@@ -34,7 +34,8 @@ one_meets test s f = (test Less && takes_sign s f Less) || (test Equal && takes_
 abbrev pub two_meet : (Ordering → Bool) → SpanOf → Ends → Ends → Bool
 two_meet test s f e = (test Equal && both_nil s f e) || (test Less && (takes_sign s f Less || takes_sign s f Greater || takes_sign s e Less || takes_sign s e Greater))
 
--- whether courses with the first gaps at the lower end of the span and the second at the upper one meet a test of their order
+-- whether courses with the first gaps at the lower end of the span and the second at the upper one
+-- meet a test of their order
 abbrev pub gaps_meet : (Ordering → Bool) → SpanOf → Gaps → Gaps → Bool
 gaps_meet test s (One f) (One g) = one_meets test s (line_between f g)
 gaps_meet test s (Two f e) (Two g h) = two_meet test s (line_between f g) (line_between e h)

@@ -1,4 +1,5 @@
--- Which signs a linear function takes on a span, by its values at the two ends alone: no root is computed.
+-- Which signs a linear function takes on a span, by its values at the two ends alone: no root is
+-- computed.
 use Rattle.std.specs.Prelude.{Bool, cond, ◌&&◌, ◌||◌}
 use Rattle.std.specs.declared.cmp.Ordering.{Ordering}
 use Rattle.std.specs.declared.cmp.Ordering.TheVariants.{Less, Equal, Greater}
@@ -14,8 +15,8 @@ sign_is Less q = before q nil
 sign_is Equal q = same q nil
 sign_is Greater q = before nil q
 
--- whether the line from f to g takes this sign strictly between its ends: near an end that has it, at the root between ends of opposite
--- signs, and everywhere where both ends are 0
+-- whether the line from f to g takes this sign strictly between its ends: near an end that has it,
+-- at the root between ends of opposite signs, and everywhere where both ends are 0
 abbrev pub takes_inside : Ratio → Ratio → Ordering → Bool
 takes_inside f g Less = before f nil || before g nil
 takes_inside f g Equal = opposite f g || (same f nil && same g nil)
@@ -29,7 +30,8 @@ takes_sign s f o = cond (before s.lower s.upper) (takes_inside f.at_lower f.at_u
 abbrev pub is_nil_line : Ends → Bool
 is_nil_line f = same f.at_lower nil && same f.at_upper nil
 
--- whether two lines are 0 at one instant strictly between their ends: each is somewhere, and one everywhere or both at the same instant
+-- whether two lines are 0 at one instant strictly between their ends: each is somewhere, and one
+-- everywhere or both at the same instant
 abbrev pub nil_inside : Ends → Ends → Bool
 nil_inside f e = takes_inside f.at_lower f.at_upper Equal && takes_inside e.at_lower e.at_upper Equal && (is_nil_line f || is_nil_line e || same (f.at_lower /ℚ f.at_upper) (e.at_lower /ℚ e.at_upper))
 

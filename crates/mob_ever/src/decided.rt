@@ -23,8 +23,9 @@ fn contrary(answer: Option<bool>) -> Option<bool>
     }
 }
 
-// Whether the comparison has the wanted truth value at some common instant. None exactly where there is no such instant. Every piece is
-// walked, also behind one that has settled the answer: each has its formulas.
+// Whether the comparison has the wanted truth value at some common instant. None exactly where
+// there is no such instant. Every piece is walked, also behind one that has settled the answer:
+// each has its formulas.
 fn sometime<C: Compared + Drop>(
     alloc: Global,
     a: Operand<'_, C>,
@@ -51,11 +52,13 @@ where
     Ok(found)
 }
 
-/// Whether the comparison holds at some instant at which both operands have a value (the `?` signs; MobilityDB's ever comparisons). None
-/// exactly where there is no such instant. An order relation is asked only of values that have an order. It takes no memory.
+/// Whether the comparison holds at some instant at which both operands have a value (the `?` signs;
+/// MobilityDB's ever comparisons). None exactly where there is no such instant. An order relation
+/// is asked only of values that have an order. It takes no memory.
 ///
-/// `Passed` names the formula of the first entry that has a part that does not fit: on each piece that the operands share F1 at its ends,
-/// then F2, the gaps there, also on pieces behind one that has settled the answer. Steady courses have no formula, and there is an answer always.
+/// `Passed` names the formula of the first entry that has a part that does not fit: on each piece
+/// that the operands share F1 at its ends, then F2, the gaps there, also on pieces behind one that
+/// has settled the answer. Steady courses have no formula, and there is an answer always.
 pub fn ever<C: Compared + Drop>(
     alloc: Global,
     a: Operand<'_, C>,
@@ -73,8 +76,9 @@ where
     sometime(alloc, a, b, rel, true)
 }
 
-/// Whether the comparison holds at every instant at which both operands have a value (the `%` signs; MobilityDB's always comparisons).
-/// None exactly where there is no such instant. An order relation is asked only of values that have an order. It takes no memory.
+/// Whether the comparison holds at every instant at which both operands have a value (the `%`
+/// signs; MobilityDB's always comparisons). None exactly where there is no such instant. An order
+/// relation is asked only of values that have an order. It takes no memory.
 ///
 /// `Passed` is that of `ever`.
 pub fn always<C: Compared + Drop>(

@@ -10,7 +10,8 @@ use mob_cells::gaps_at_ends;
 use mob_slice::{Compared, Passed, Piece, Rel};
 use std::alloc::Global;
 
-// Whether the comparison has the wanted truth value at some instant of the piece, of courses that are not steady.
+// Whether the comparison has the wanted truth value at some instant of the piece, of courses that
+// are not steady.
 fn lines_meet<C: Compared + Drop>(
     alloc: Global,
     piece: &Piece<'_, C, C>,
@@ -32,7 +33,8 @@ where
 
 /// Whether the comparison has the wanted truth value at some instant of the piece.
 ///
-/// `Passed` names the formula of the first entry that does not fit: F1 at the ends of the piece, then F2, the gaps there.
+/// `Passed` names the formula of the first entry that does not fit: F1 at the ends of the piece,
+/// then F2, the gaps there.
 pub fn piece_meets<C: Compared + Drop>(
     alloc: Global,
     piece: &Piece<'_, C, C>,

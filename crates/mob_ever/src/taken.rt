@@ -1,4 +1,5 @@
-//! The signs that linear functions take on a span, by their values at its ends. No root is computed.
+//! The signs that linear functions take on a span, by their values at its ends. No root is
+//! computed.
 ghost use Rattle.std.specs.Prelude.{◌≡◌, ◌≢◌, ◌||◌};
 ghost use Rattle.mob_ratio.specs.Ratio.{◌/ℚ◌};
 ghost use Rattle.mob_ratio.specs.Order.{same};
@@ -119,7 +120,8 @@ fn is_as_wanted(rel: Rel, want: bool, order: Ordering) -> bool
     rel.holds(order) == want
 }
 
-// Whether the comparison has the wanted truth value at some instant of the span, for courses with this one gap.
+// Whether the comparison has the wanted truth value at some instant of the span, for courses with
+// this one gap.
 fn one_meets(span: &Span, rel: Rel, want: bool, f: &Ends) -> bool
     ensures value { result ≡ one_meets (λ o. same_bool (holds rel o) want) span.now f.now }
 {
@@ -138,7 +140,8 @@ fn some_apart(span: &Span, f: &Ends, e: &Ends) -> bool
         || takes_sign(span, e, Ordering::Greater)
 }
 
-// The same for courses with two gaps, as points.
+// Whether the comparison has the wanted truth value at some instant of the span, for courses with
+// these two gaps, as points.
 fn two_meet(span: &Span, rel: Rel, want: bool, f: &Ends, e: &Ends) -> bool
     ensures value { result ≡ two_meet (λ o. same_bool (holds rel o) want) span.now f.now e.now }
 {
@@ -153,8 +156,8 @@ fn line_between(at_lower: Frac, at_upper: Frac) -> Ends
     Ends { at_lower, at_upper }
 }
 
-/// Whether the comparison has the wanted truth value at some instant of the span, for courses with the first gaps at its lower end and
-/// the second at its upper one.
+/// Whether the comparison has the wanted truth value at some instant of the span, for courses with
+/// the first gaps at its lower end and the second at its upper one.
 pub fn gaps_meet(span: &Span, rel: Rel, want: bool, lower: &Gaps, upper: &Gaps) -> bool
     ensures value { result ≡ gaps_meet (λ o. same_bool (holds rel o) want) span.now lower.now upper.now }
 {

@@ -1,4 +1,5 @@
--- Lists of what steps of typing give: those that are there, and what the steps that follow add to them.
+-- Lists of what steps of typing give: those that are there, and what the steps that follow add to
+-- them.
 use Rattle.std.proofs.Common.{◌≡◌, ◌∙◌, ◌<◌, ◌+◌, refl, sym, ap, ℕ, List, [], ◌∷◌, ◌++◌, length, drop, get_or, Result, Ok, Err}
 use Rattle.std.proofs.lemmas.List.{drop_more}
 use Rattle.mob_typed.specs.declared.typed.ConstText.{ConstText}

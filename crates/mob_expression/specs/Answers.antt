@@ -36,7 +36,7 @@ TypingStep A = List ConstText → Result (A × List ConstText) Mistake
 abbrev pub one_more : {A : Type 0} → TypingStep A → TypingStep (List A) → TypingStep (List A)
 one_more first others cs = first cs >>= λ r. others r.1 >>= λ s. Ok (r.0 ∷ s.0, s.1)
 
--- what the program answers where the definition reads so; want of memory is free
+-- what the program answers where the definition reads so; a failed allocation is free
 abbrev pub StopsTyping : {Y : Type 0} → Fault → Result Y Mistake → Type 0
 StopsTyping (Refused kind place) read = read ≡ Err (record { kind = kind; place = place })
 StopsTyping NoMemory read = Unit {0}

@@ -1,5 +1,5 @@
--- Names and types of expressions: the typed tree of a tree, or what is wrong first. What is settled before the operands
--- comes first, then the operands from left to right, then the operator.
+-- Names and types of expressions: the typed tree of a tree, or what is wrong first. What is settled
+-- before the operands comes first, then the operands from left to right, then the operator.
 use Rattle.std.specs.Prelude.{◌&&◌, ◌||◌, not, ◌+◌, ℕ, List, [], ◌∷◌, ◌++◌, Bool, true, false, Option, Some, None, Result, Ok, codes, length, is_some, option_map, option_and_then, if◌then◌else◌}
 use Rattle.std.specs.Str.{bytes_eq}
 use Rattle.mob_ast.specs.declared.types.Word.{Word}
@@ -85,8 +85,8 @@ typed_string s w text p cs = found kind.UnknownName w.name.place (literal_type w
 abbrev pub settled : TypingStep TypedTree → TypingStep (Option TypedTree)
 settled step cs = step cs >>= λ r. Ok (Some r.0, r.1)
 
--- What is settled before the operands: constants, columns, a cast of a bare string, and functions that are refused for
--- their irrational results.
+-- What is settled before the operands: constants, columns, a cast of a bare string, and functions
+-- that are refused for their irrational results.
 unfoldable pub typed_before_operands : ScopeParts → Node → ℕ → Trees → TypingStep (Option TypedTree)
 typed_before_operands s node.Null p args cs = Ok (Some (typed op.Null sql.Text p none), cs)
 typed_before_operands s node.True p args cs = settled (constant s sql.Bool (codes "true") p) cs
@@ -153,11 +153,13 @@ abbrev pub applied : Form → List ℕ → ℕ → Option Bool → List TypedTre
 applied f name p divisor ts None = refuse (missing f name (types_of ts)) p
 applied f name p divisor ts (Some a) = unless (divides_by_zero a.0 divisor) kind.ZeroDivisor p >>= λ _. Ok (typed a.0 a.1 p (typed_trees ts))
 
--- an operator on typed operands, by the table; the second is a number literal that is 0 or not, or none
+-- an operator on typed operands, by the table; the second is a number literal that is 0 or not, or
+-- none
 abbrev pub operated : Form → List ℕ → ℕ → Option Bool → List TypedTree → Result TypedTree Mistake
 operated f name p divisor ts = applied f name p divisor ts (found_in table f name (types_of ts) (is_some divisor))
 
--- a value of the first type may be made one of the second: an int a numeric, a tint a tfrac, and each one of its own type
+-- a value of the first type may be made one of the second: an int a numeric, a tint a tfrac, and
+-- each one of its own type
 abbrev pub can_cast : SqlType → SqlType → Bool
 can_cast a b = same_type a b || (same_type a sql.Int && same_type b sql.Numeric) || (same_type a sql.TInt && same_type b sql.TFrac)
 

@@ -4,7 +4,8 @@ use Rattle.std.specs.Str.{bytes_eq}
 use Rattle.mob_ast.specs.declared.types.SqlType.{SqlType}
 use Rattle.mob_typed.specs.Statements.{ColumnList}
 
--- the number and the content of the first entry of this name, where the first of the entries has number n
+-- the number and the content of the first entry of this name, where the first of the entries has
+-- number n
 abbrev pub entry_from : {A : Type 0} → ℕ → List (List ℕ × A) → List ℕ → Option (ℕ × A)
 entry_from n [] name = None
 entry_from n (e ∷ es) name = if bytes_eq name e.0 then Some (n, e.1) else entry_from (n + 1) es name

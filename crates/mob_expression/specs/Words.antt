@@ -53,7 +53,8 @@ abbrev pub skip_digits : List ℕ → List ℕ
 skip_digits [] = []
 skip_digits (b ∷ bs) = if is_ascii_digit b then skip_digits bs else b ∷ bs
 
--- behind `SRID=`, a digit or more, `;` and the blanks round it, where the text begins so; else the whole text
+-- behind `SRID=`, a digit or more, `;` and the blanks round it, where the text begins so; else the
+-- whole text
 abbrev pub after_semicolon : List ℕ → List ℕ → List ℕ
 after_semicolon whole [] = whole
 after_semicolon whole (b ∷ bs) = if b == 59 then skip_blanks bs else whole
@@ -65,7 +66,8 @@ after_digits whole (b ∷ bs) = if is_ascii_digit b then after_semicolon whole (
 abbrev pub after_srid : List ℕ → List ℕ
 after_srid s = if begins_with_word s (codes "srid=") then after_digits s (drop 5 s) else s
 
--- whether a text of geometry is a polygon's: behind blanks and an SRID, whatever its number, it begins with `polygon`
+-- whether a text of geometry is a polygon's: behind blanks and an SRID, whatever its number, it
+-- begins with `polygon`
 abbrev pub is_polygon : List ℕ → Bool
 is_polygon s = begins_with_word (after_srid (skip_blanks s)) (codes "polygon")
 

@@ -65,7 +65,8 @@ impl Columns {
         (name.as_str(), *ty)
     }
 
-    /// Adds a column of a new name behind the others. Where memory is refused they stay as they were.
+    /// Adds a column of a new name behind the others. Where memory is refused they stay as they
+    /// were.
     pub fn add(&mut self, alloc: Global, name: &str, ty: SqlType) -> Result<(), AllocError>
         requires absent { has_entry self.old name.now ≡ false }
         ensures last { OnOk result (self.new ≡ self.old ++ (name.now, ty) ∷ []) }

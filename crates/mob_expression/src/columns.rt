@@ -35,7 +35,8 @@ fn bare_column(from: &[ScopeTable<'_>], name: &Word) -> Result<Found, Fault>
     })
 }
 
-// The number and the content of the table of FROM that goes by this name.
+/// The number, from 0, and the content of the first table of FROM that goes by this name. None
+/// where no table does.
 pub fn source_named<'a>(
     from: &'a [ScopeTable<'a>],
     name: &str,

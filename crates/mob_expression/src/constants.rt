@@ -128,8 +128,8 @@ fn settled_string(
     settled_constant(alloc, scope, consts, ty, text, place)
 }
 
-/// What is settled before the operands: constants, columns, a cast of a bare string, and functions that are refused for
-/// their irrational results.
+/// What is settled before the operands: constants, columns, a cast of a bare string, and functions
+/// that are refused for their irrational results.
 #[tactic(auto, unfolding(crate::specs::Expressions::typed_before_operands))]
 pub(crate) fn typed_before_operands(
     alloc: Global,

@@ -15,7 +15,8 @@ use mob_list::items::Items;
 use mob_typed::{ConstText, TExpr};
 use std::alloc::Global;
 
-/// The typed tree of an expression, whose constants come behind those so far, or what is wrong first.
+/// The typed tree of an expression, whose constants come behind those so far, or what is wrong
+/// first.
 pub fn type_expr(
     alloc: Global,
     scope: &Scope<'_>,

@@ -40,7 +40,8 @@ pub struct Found {
     pub ty: SqlType,
 }
 
-/// A number of 32 bits. What is past it cannot be held in memory, so that it counts as want of memory.
+/// A number of 32 bits. What is past it cannot be held in memory, so that it counts as a
+/// failed allocation.
 pub fn number(index: usize) -> Result<u32, Fault>
     ensures same { AnswersAs (λ n. n) result (Ok index) }
 {

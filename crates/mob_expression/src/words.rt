@@ -153,7 +153,8 @@ fn skip_digits(text: &[u8]) -> &[u8]
     rest
 }
 
-// What stands behind a digit or more, `;` and the blanks round it, where `rest` begins so, else the whole text.
+// What stands behind a digit or more, `;` and the blanks round it, where `rest` begins so, else the
+// whole text.
 fn after_digits<'a>(whole: &'a [u8], rest: &'a [u8]) -> &'a [u8]
     ensures behind_number { result.now ≡ after_digits whole.now rest.now }
 {
@@ -169,8 +170,8 @@ fn after_digits<'a>(whole: &'a [u8], rest: &'a [u8]) -> &'a [u8]
     }
 }
 
-// What stands behind `SRID=`, its number, `;` and the blanks round it, where the text begins so, else the text. Whether there is
-// such an SRID is said when the text is read.
+// What stands behind `SRID=`, its number, `;` and the blanks round it, where the text begins so,
+// else the text. Whether there is such an SRID is said when the text is read.
 fn after_srid(text: &[u8]) -> &[u8]
     ensures behind_srid { result.now ≡ after_srid text.now }
 {

@@ -8,7 +8,8 @@ abbrev pub outcome_seen : {I F : Type 0} → Outcome I F → Result (List I) F
 outcome_seen (Items items) = Ok items
 outcome_seen (Stop fault) = Err fault
 
--- what two neighbouring ranges give together: the items of both in order, or the fault of the left one, or else that of the right one
+-- what two neighbouring ranges give together: the items of both in order, or the fault of the left
+-- one, or else that of the right one
 abbrev pub joined_outcomes : {I F : Type 0} → Result (List I) F → Result (List I) F → Result (List I) F
 joined_outcomes (Ok items) (Ok others) = Ok (items ++ others)
 joined_outcomes (Ok items) (Err fault) = Err fault

@@ -10,8 +10,9 @@ use std::alloc::{AllocError, Global};
 use std::marker::{Send, Sync};
 use std::thread::{Threads, join};
 
-/// The outcome of all of the work, by as many pieces as there are workers, but no more than there is work. Piece i passes the gate
-/// with its number before it begins. Where no thread can be made the pieces run one after the other.
+/// The outcome of all of the work, by as many pieces as there are workers, but no more than there
+/// is work. Piece i passes the gate with its number before it begins. Where no thread can be made
+/// the pieces run one after the other.
 pub fn fan<R: Threads + Sync, W: Work, G: Gate>(
     rt: &R,
     alloc: Global,
@@ -28,7 +29,8 @@ pub fn fan<R: Threads + Sync, W: Work, G: Gate>(
     pieces(rt, alloc, work, gate, 0, len, 0, workers.min(len.max(1)))
 }
 
-// The outcome of a range by `count` pieces, of which `first` is the number of the first one. Halves of them run side by side.
+// The outcome of a range by `count` pieces, of which `first` is the number of the first one. Halves
+// of them run side by side.
 #[cycle(pieces)]
 fn pieces<R: Threads + Sync, W: Work, G: Gate>(
     rt: &R,

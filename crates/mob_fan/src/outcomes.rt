@@ -13,7 +13,8 @@ pub enum Outcome<I, F> {
     Stop(F),
 }
 
-// The outcome of two neighbouring ranges: the items of both, or the fault that comes first. What stands behind it does not count.
+/// The outcome of two neighbouring ranges: the items of both, or the fault that comes first. What
+/// stands behind it does not count. The one error is a failed allocation.
 pub fn both<I: Drop, F: Drop>(
     left: Outcome<I, F>,
     right: Outcome<I, F>,

@@ -1,8 +1,9 @@
 // Even shares of a range.
 ghost use Rattle.std.specs.Prelude.{◌+◌, ◌-◌, ◌*◌, ◌/◌, ◌≤◌};
 
-// Where the first `low` of `count` pieces of a range end. On both sides of it there is an even share for each piece, rounded down, and at most one
-// more for each: what is left over goes to the first ones, one each.
+/// Where the first `low` of `count` pieces of the range from `from` to `to` end. On both sides of
+/// it there is an even share for each piece, rounded down, and at most one more for each: what is
+/// left over goes to the first ones, one each.
 pub fn part_end(from: usize, to: usize, low: usize, count: usize) -> usize
     requires order { from ≤ to }
     requires some { 1 ≤ count }

@@ -6,8 +6,8 @@ use crate::shares::part_end;
 use std::alloc::{AllocError, Global};
 use std::marker::{Send, Sync};
 
-/// Work on a range of numbers, from 0 up to its size. Each range within it has an outcome, and that of a range is made of those of
-/// its two neighbouring parts.
+/// Work on a range of numbers, from 0 up to its size. Each range within it has an outcome, and that
+/// of a range is made of those of its two neighbouring parts.
 pub trait Work: Sync {
     /// What the work gives, in order.
     type Item: Send + Drop;
@@ -19,7 +19,7 @@ pub trait Work: Sync {
 
     ghost comes: { Self → ℕ → ℕ → Result (List Self.Item) Self.Fault → Type 0 };
 
-    /// The outcome of the range from `from` up to `to`. Want of memory is no part of it.
+    /// The outcome of the range from `from` up to `to`. A failed allocation is no part of it.
     fn piece(
         &self,
         alloc: Global,
@@ -30,9 +30,9 @@ pub trait Work: Sync {
         requires range { to ≤ size_of self.now }
         ensures outcome { IfOk result (λ o. comes self.now from to (outcome_seen o)) };
 
-    /// Where the first `low` of `count` shares of a range end. Any place in the range gives the same
-    /// outcome: the place decides only how long each piece takes. The default makes shares of the
-    /// same length.
+    /// Where the first `low` of `count` shares of a range end. Any place in the range gives the
+    /// same outcome: the place decides only how long each piece takes. The default makes shares of
+    /// the same length.
     fn share_end(&self, from: usize, to: usize, low: usize, count: usize) -> usize
         requires order { from ≤ to }
         requires range { to ≤ size_of self.now }

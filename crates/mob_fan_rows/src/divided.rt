@@ -1,4 +1,4 @@
-// The same outcome for every number of workers, in as many pieces as there are to be.
+// Divided work has one outcome for every number of workers, in as many pieces as there are to be.
 ghost use Rattle.std.specs.Prelude.{◌≡◌, ◌≤◌};
 
 use crate::gates::{Passing, TwoFlags};

@@ -74,8 +74,9 @@ top_clear m n p q e f =
     let own : d ∣ nat_abs m = dvd_of_coprime d q (nat_abs m) (coprime-dvd p d q is.1 f) first in
     eq-one_of_dvd-one (subst (λ (k : ℕ). d ∣ k) e ((gcd-is (nat_abs m) p).2 d own is.1))
 
--- what is known of the parts of a sum of a and b: s is the greatest common divisor of the denominators, p and q are what they
--- have besides, and t is the numerator over the least common denominator
+-- what is known of the parts of a sum of a and b: s is the greatest common divisor of the
+-- denominators, p and q are what they have besides, and t is the numerator over the least common
+-- denominator
 pub record IsUnlike (a b : Ratio) (s p q : ℕ) (t : ℤ) : Type 0 where
   pub left : p * s ≡ a.den
   pub right : q * s ≡ b.den
@@ -125,7 +126,8 @@ top_value a b s p q t h =
         → x *ℤ pos ((p * s) * (q * s)) ≡ (m *ℤ pos (q * s) +ℤ n *ℤ pos (p * s)) *ℤ pos (p * (q * r))
     cross_value m n x s p q r e = let f = simp products at (ap (λ z. z *ℤ pos (s * p * q)) e) in simp products (omega (arith, linear, f))
 
--- the sum, over the least common denominator, by what the numerator has in common with what the denominators share
+-- the sum, over the least common denominator, by what the numerator has in common with what the
+-- denominators share
 pub summed : (a b : Ratio) (s p q : ℕ) (t : ℤ) → IsUnlike a b s p q t
     → IsLowest (int_div t (pos (gcd (nat_abs t) s))) (pos (p * (b.den / gcd (nat_abs t) s)))
     × (over (int_div t (pos (gcd (nat_abs t) s))) (p * (b.den / gcd (nat_abs t) s)) ≡ a +ℚ b)

@@ -1,6 +1,7 @@
--- Formulas: an operation on numbers is taken step by step, and each step has to fit. The parts of a formula are the results
--- of its operations in lowest terms, in the order in which they are written. The part lists of all formulas stand here, each
--- under the letter and number by which a refusal names it.
+-- Formulas: an operation on numbers is taken step by step, and each step has to fit. The parts of a
+-- formula are the results of its operations in lowest terms, in the order in which they are
+-- written. The part lists of all formulas stand here, each under the letter and number by which a
+-- refusal names it.
 use Rattle.std.specs.Prelude.{◌≡◌, cond, ◌&&◌, ◌||◌, List, [], ◌∷◌, Result, MatchResult}
 use Rattle.mob_ratio.specs.Ratio.{Ratio, ◌+ℚ◌, ◌-ℚ◌, ◌*ℚ◌, ◌/ℚ◌}
 use Rattle.mob_ratio.specs.Order.{before, same}
@@ -16,8 +17,9 @@ AllFit (q ∷ parts) = Fits q × AllFit parts
 abbrev pub IsFormula : {A E : Type 0} → List Ratio → A → Result A E → Type 0
 IsFormula parts x r = MatchResult r (λ y. (y ≡ x) × AllFit parts) (λ _. ¬ AllFit parts)
 
--- F1, the value at t of the line from x0 at l to x1 at u: the linear unit function of Forlizzi, Güting, Nardelli and Schneider
--- (SIGMOD 2000), computed by its slope. Here t is no end and the line is not level.
+-- F1, the value at t of the line from x0 at l to x1 at u: the linear unit function of Forlizzi,
+-- Güting, Nardelli and Schneider (SIGMOD 2000), computed by its slope. Here t is no end and the
+-- line is not level.
 abbrev pub inner_parts : Ratio → Ratio → Ratio → Ratio → Ratio → List Ratio
 inner_parts x0 x1 l u t =
     let a = t -ℚ l in
@@ -27,12 +29,12 @@ inner_parts x0 x1 l u t =
     let e = c *ℚ q in
     a ∷ b ∷ q ∷ c ∷ e ∷ (x0 +ℚ e) ∷ []
 
--- The same at any instant: there is no operation where t is an end, or the line is level.
+-- F1 at any instant: it has no operation where t is an end, or the line is level.
 abbrev pub line_parts : Ratio → Ratio → Ratio → Ratio → Ratio → List Ratio
 line_parts x0 x1 l u t = cond (same t l || same t u || same x0 x1) [] (inner_parts x0 x1 l u t)
 
--- F2, one operation on two numbers: its one part is the result (Knuth, The Art of Computer Programming, volume 2, section
--- 4.5.1, "Fractions").
+-- F2, one operation on two numbers: its one part is the result (Knuth, The Art of Computer
+-- Programming, volume 2, section 4.5.1, "Fractions").
 abbrev pub sum_parts : Ratio → Ratio → List Ratio
 sum_parts x y = (x +ℚ y) ∷ []
 
@@ -46,8 +48,9 @@ product_parts x y = (x *ℚ y) ∷ []
 abbrev pub quotient_parts : Ratio → Ratio → List Ratio
 quotient_parts x y = (x /ℚ y) ∷ []
 
--- F3, the root of the line from f0 at l to f1 at u, where the two have opposite signs: one step of the rule of false position, which is
--- exact on a line (Knuth, The Art of Computer Programming, volume 2, section 4.5.1, for the steps).
+-- F3, the root of the line from f0 at l to f1 at u, where the two have opposite signs: one step of
+-- the rule of false position, which is exact on a line (Knuth, The Art of Computer Programming,
+-- volume 2, section 4.5.1, for the steps).
 abbrev pub inner_root_parts : Ratio → Ratio → Ratio → Ratio → List Ratio
 inner_root_parts f0 f1 l u =
     let d = f0 -ℚ f1 in
@@ -56,8 +59,9 @@ inner_root_parts f0 f1 l u =
     let s = w *ℚ q in
     d ∷ q ∷ w ∷ s ∷ (l +ℚ s) ∷ []
 
--- F4, the turn of the point (x, y) against the way from (x0, y0) to (x1, y1): the cross product of that way and of the way to
--- the point (Cormen, Leiserson, Rivest and Stein, Introduction to Algorithms, section "Line-segment properties").
+-- F4, the turn of the point (x, y) against the way from (x0, y0) to (x1, y1): the cross product of
+-- that way and of the way to the point (Cormen, Leiserson, Rivest and Stein, Introduction to
+-- Algorithms, section "Line-segment properties").
 abbrev pub parts_of_turn : Ratio → Ratio → Ratio → Ratio → Ratio → Ratio → List Ratio
 parts_of_turn x0 y0 x1 y1 x y =
     let c = x1 -ℚ x0 in
@@ -68,9 +72,11 @@ parts_of_turn x0 y0 x1 y1 x y =
     let n = e *ℚ f in
     c ∷ d ∷ m ∷ e ∷ f ∷ n ∷ (m -ℚ n) ∷ []
 
--- F5, the point of the straight line from (x0, y0) to (x1, y1) that is nearest to (0, 0), as the closest approach of two moving points: the
--- foot of the perpendicular. It lies strictly between the ends where the line comes nearer at the first and goes away at the last. There
--- alone are quotients, of A, the square of the line's length, and of K, that length times the distance of the foot.
+-- F5, the point of the straight line from (x0, y0) to (x1, y1) that is nearest to (0, 0), as the
+-- closest approach of two moving points: the foot of the perpendicular. It lies strictly between
+-- the ends where the line comes nearer at the first and goes away at the last. There alone are
+-- quotients, of A, the square of the line's length, and of K, that length times the distance of the
+-- foot.
 abbrev pub foot_parts : (Ratio → Ratio → List Ratio) → Ratio → Ratio → Ratio → Ratio → List Ratio
 foot_parts quotients x0 y0 x1 y1 =
     let ex = x1 -ℚ x0 in
@@ -88,13 +94,15 @@ approach_parts = foot_parts (λ A K. (K /ℚ A) ∷ (K *ℚ (K /ℚ A)) ∷ [])
 abbrev pub within_parts : Ratio → Ratio → Ratio → Ratio → Ratio → List Ratio
 within_parts D = foot_parts (λ A K. (K /ℚ A) ∷ cond (same K nil) [] ((D /ℚ K) ∷ []))
 
--- F6, the square of the distance of two points whose coordinates differ by x and y (Pythagoras); and the square of a distance d
+-- F6, the square of the distance of two points whose coordinates differ by x and y (Pythagoras);
+-- and the square of a distance d
 abbrev pub square_parts : Ratio → Ratio → List Ratio
 square_parts x y = (x *ℚ x) ∷ (y *ℚ y) ∷ (x *ℚ x +ℚ y *ℚ y) ∷ []
 
 abbrev pub distance_parts : Ratio → List Ratio
 distance_parts d = (d *ℚ d) ∷ []
 
--- F7, an area made wider: each of its sides moved outward by d, in the order in which they are written.
+-- F7, an area made wider: each of its sides moved outward by d, in the order in which they are
+-- written.
 abbrev pub expansion_parts : Ratio → Ratio → Ratio → Ratio → Ratio → List Ratio
 expansion_parts xmin xmax ymin ymax d = (xmin -ℚ d) ∷ (xmax +ℚ d) ∷ (ymin -ℚ d) ∷ (ymax +ℚ d) ∷ []

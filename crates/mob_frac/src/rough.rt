@@ -7,8 +7,8 @@ use crate::fraction::{Frac, LIMIT, Overflow, reduced};
 use crate::reduction::product;
 use std::marker::Model;
 
-/// A fraction whose parts fit as those of a `Frac` do, and need not be in lowest terms. What does not fit so may fit in
-/// lowest terms, so there is no result where parts are too large.
+/// A fraction whose parts fit as those of a `Frac` do, and need not be in lowest terms. What does
+/// not fit so may fit in lowest terms, so there is no result where parts are too large.
 #[derive(Drop)]
 pub struct Rough {
     num: i64,

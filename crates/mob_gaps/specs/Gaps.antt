@@ -14,8 +14,9 @@ use Rattle.mob_near.specs.Distances.{length_squared, distance_squared}
 use Rattle.mob_gaps.specs.declared.kind.Gap.{Gap}
 use Rattle.mob_gaps.specs.declared.kind.Gap.TheVariants.{Apart, AtLeast}
 
--- The distance of the numbers from a to b to those from c to d: the greater of the two least ones less the smaller of the two greatest
--- ones. Where the two ranges share a number it is 0, without an operation. Then the part of this difference.
+-- The distance of the numbers from a to b to those from c to d: the greater of the two least ones
+-- less the smaller of the two greatest ones. Where the two ranges share a number it is 0, without
+-- an operation. Then the part of this difference.
 abbrev pub range_gap : Ratio → Ratio → Ratio → Ratio → Ratio
 range_gap a b c d = cond (up_to (greater a c) (smaller b d)) nil (greater a c -ℚ smaller b d)
 
@@ -28,14 +29,16 @@ gap_east a b = range_gap a.xmin a.xmax b.xmin b.xmax
 abbrev pub gap_north : Area → Area → Ratio
 gap_north a b = range_gap a.ymin a.ymax b.ymin b.ymax
 
--- the square of the distance of two areas, and the parts of its formulas: F2 of both coordinates and F6
+-- the square of the distance of two areas, and the parts of its formulas: F2 of both coordinates
+-- and F6
 abbrev pub area_gap : Area → Area → Ratio
 area_gap a b = length_squared (gap_east a b) (gap_north a b)
 
 abbrev pub area_gap_parts : Area → Area → List Ratio
 area_gap_parts a b = range_gap_parts a.xmin a.xmax b.xmin b.xmax ++ (range_gap_parts a.ymin a.ymax b.ymin b.ymax ++ square_parts (gap_east a b) (gap_north a b))
 
--- m is the least squared distance of a point of a and one of b: none is less, and two points have it
+-- m is the least squared distance of a point of a and one of b: none is less, and two points have
+-- it
 pub record IsLeastSquare (a b : Area) (m : Ratio) : Type 0 where
   pub lower : (p q : Point) → InArea a p → InArea b q → up_to m (distance_squared p q) ≡ true
   pub taken : (p : Point) × (q : Point) × InArea a p × InArea b q × (distance_squared p q ≡ m)
@@ -44,8 +47,8 @@ pub record IsLeastSquare (a b : Area) (m : Ratio) : Type 0 where
 abbrev pub AreApart : BoxOf → BoxOf → Type 0
 AreApart b q = (s : SpanOf) × (r : SpanOf) × (b.time ≡ Some s) × (q.time ≡ Some r) × ((t : Ratio) → InSpan s t → InSpan r t → ⊥)
 
--- The gap of two boxes: Apart exactly where both have times that share no instant; else the least squared distance of the two areas,
--- or 0 where a part of its formulas does not fit.
+-- The gap of two boxes: Apart exactly where both have times that share no instant; else the least
+-- squared distance of the two areas, or 0 where a part of its formulas does not fit.
 pub record IsLeastGap (b q : BoxOf) (m : Ratio) : Type 0 where
   pub together : AreApart b q → ⊥
   pub exact : (a c : Area) → b.space ≡ Some a → q.space ≡ Some c → AllFit (area_gap_parts a c) → IsLeastSquare a c m

@@ -7,7 +7,8 @@ ghost use Rattle.mob_near.specs.Approaches.{IsApproach};
 ghost use Rattle.mob_meets.specs.Covers.{Covers};
 ghost use Rattle.mob_gaps.specs.Gaps.{gap_of, gap_reaches};
 
-/// The nearest approach of what is in two boxes is not below their gap. Where the boxes are apart, there is no common instant.
+/// The nearest approach of what is in two boxes is not below their gap. Where the boxes are apart,
+/// there is no common instant.
 pub fn approaches_reach_gaps()
     ensures reach { (one other : Ratio → Option PointOf) (b c : BoxOf) (m : Ratio) → Covers one b → Covers other c → IsApproach one other (Some m) → gap_reaches (gap_of b c) m ≡ true }
 {}

@@ -39,7 +39,7 @@ fn area_gap(a: &Area, b: &Area) -> Result<Frac, Overflow>
     square(&x, &y)
 }
 
-// The same, or 0 where a part of its formulas does not fit.
+// The least squared distance of two areas, or 0 where a part of its formulas does not fit.
 fn area_gap_or_zero(a: &Area, b: &Area) -> Frac
     ensures value { result ≡ exact_or_nil (area_gap_parts a.now b.now) (area_gap a.now b.now) }
 {
@@ -61,10 +61,11 @@ fn are_apart(b: &StBox, q: &StBox) -> bool
 
 /// The gap of two boxes. It takes no memory.
 ///
-/// It is `Apart` exactly where both boxes have times that share no instant. Else it is the least squared distance of their areas, or 0
-/// where a part of its formulas does not fit. These are F2, by coordinate the greater of the two least coordinates less the smaller of the
-/// two greatest ones where the two ranges share no value, and F6, the squares of these two differences and their sum. A box without space
-/// is `Apart` or has the gap 0.
+/// It is `Apart` exactly where both boxes have times that share no instant. Else it is the least
+/// squared distance of their areas, or 0 where a part of its formulas does not fit. These are F2,
+/// by coordinate the greater of the two least coordinates less the smaller of the two greatest ones
+/// where the two ranges share no value, and F6, the squares of these two differences and their sum.
+/// A box without space is `Apart` or has the gap 0.
 pub fn gap(b: &StBox, q: &StBox) -> Gap
     ensures means { is_some b.now.space ≡ true → is_some q.now.space ≡ true → IsGap b.now q.now result }
     ensures value { result ≡ gap_of b.now q.now }

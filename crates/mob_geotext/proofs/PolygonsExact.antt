@@ -61,7 +61,8 @@ close_byte text v said e = word_byte 41 [] said.back v.1 said.second (back_nil s
 pub comma_continues : NoHead comma continues
 comma_continues = means_head (then_head (many_head blank_stops) (word_then_head 44 [] continues refl))
 
--- members in brackets: what stands behind a list of them is no further member, where no comma stands there
+-- members in brackets: what stands behind a list of them is no further member, where no comma
+-- stands there
 bracketed_exact : {A : Type 0} {l : Language A} {H : Text → Type 0} (r : TextReader A) → Exact (Separated l comma) (separated_at r comma_at) H → NoHead l is_blank → HasByte l
     → ((text rest : Text) (v : Text × Unit {0}) → (blanks ▷ Word (codes ")")) text v → H (text ++ rest)) → Exact (within_brackets (Separated l comma)) (bracketed_at r) Any
 unfolding bracketed_at

@@ -1,9 +1,10 @@
 -- The texts of boxes, and their form.
 --
--- A box is the word STBOX, a blank or more, and one of X, T and XT, which says its dimensions. Behind X stand two corners of its
--- rectangle in brackets, behind T a span of time, and behind XT the two corners in brackets of their own, a comma and the span. The
--- corners may be any two opposite ones. Letters may be small or capital, and blanks may stand beside each bracket and each comma,
--- and at both ends of the whole.
+-- A box is the word STBOX, a blank or more, and one of X, T and XT, which says its dimensions.
+-- Behind X stand two corners of its rectangle in brackets, behind T a span of time, and behind XT
+-- the two corners in brackets of their own, a comma and the span. The corners may be any two
+-- opposite ones. Letters may be small or capital, and blanks may stand beside each bracket and each
+-- comma, and at both ends of the whole.
 use Rattle.std.specs.Prelude.{◌≡◌, codes, Bool, false, cond, ◌&&◌, Option, Some, None, is_some, MatchOption, ℤ}
 use Rattle.mob_ratio.specs.Ratio.{Ratio}
 use Rattle.mob_language.specs.Language.{Text, Language, ◌▷◌, ◌∣◌, Means, Word, AnyCase, blanks, spaced, within_blanks}

@@ -29,7 +29,8 @@ abbrev pub HaveFittingCoordinates : List Point → Type 0
 HaveFittingCoordinates [] = Unit {0}
 HaveFittingCoordinates (p ∷ points) = (Fits p.x × Fits p.y) × HaveFittingCoordinates points
 
--- a polygon whose printed text is read again: it has at most 1,000 points, whose coordinates fit as those of each polygon of the code do
+-- a polygon whose printed text is read again: it has at most 1,000 points, whose coordinates fit as
+-- those of each polygon of the code do
 pub record IsReadablePolygon (rings : List (List Point)) : Type 0 where
   pub sound : are_sound rings ≡ true
   pub few : length (all_points rings) ≤ 1000

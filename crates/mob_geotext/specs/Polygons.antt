@@ -1,8 +1,9 @@
 -- The texts of polygons, and their form.
 --
--- A polygon is the word POLYGON, its letters small or capital, and its rings in brackets with commas between. A ring is its points in
--- brackets with commas between, and such a point is its two coordinates with blanks between. Blanks may stand beside each bracket and
--- comma, and at both ends of the whole. `SRID=0;` may stand before it, as before a point.
+-- A polygon is the word POLYGON, its letters small or capital, and its rings in brackets with
+-- commas between. A ring is its points in brackets with commas between, and such a point is its two
+-- coordinates with blanks between. Blanks may stand beside each bracket and comma, and at both ends
+-- of the whole. `SRID=0;` may stand before it, as before a point.
 use Rattle.std.specs.Prelude.{◌≡◌, List, length, Bool, true, false, codes, nat_lt, Option, Some, None, MatchOption, flat_map}
 use Rattle.mob_ratio.specs.Ratio.{Ratio}
 use Rattle.mob_language.specs.Language.{Text, Language, ◌▷◌, Word, AnyCase, Means, Separated, blanks, in_middle, within_blanks}
@@ -54,7 +55,8 @@ has_many_points rings = nat_lt 1000 (length (flat_map (λ r. r) rings))
 abbrev pub rings_said : List (List (Option Point)) → Option (List (List Point))
 rings_said rings = traverse (traverse (λ p. p)) rings
 
--- The form of polygons: long where there are more than 1,000 points, and unsound where a ring is short or open.
+-- The form of polygons: long where there are more than 1,000 points, and unsound where a ring is
+-- short or open.
 abbrev pub polygons : TextForm (List (List (Option Point))) (List (List Point))
 polygons = record {
   shape = within_blanks polygon_value;

@@ -5,7 +5,8 @@ use Rattle.mob_scalar.specs.Brackets.{with_commas, in_braces}
 use Rattle.mob_scalar.specs.MomentText.{moment_text}
 use Rattle.mob_span.specs.Span.{SpanOf}
 
--- two moments with a comma and a space between, in brackets that are square where an end is included
+-- two moments with a comma and a space between, in brackets that are square where an end is
+-- included
 abbrev pub span_text : ℤ → SpanOf → Text
 span_text day s = cond s.lower_inc (codes "[") (codes "(") ++ (moment_text day s.lower ++ (codes ", " ++ (moment_text day s.upper ++ cond s.upper_inc (codes "]") (codes ")"))))
 

@@ -1,8 +1,9 @@
 -- The texts of spans of time and of span sets, and their forms.
 --
--- A span is an opening bracket, two moments with a comma between, and a closing bracket; a square bracket includes its end. A span
--- set is one span or more in braces, with commas between; its spans may overlap, and stand in any order. Blanks may stand beside
--- each of these signs, and at both ends of the whole.
+-- A span is an opening bracket, two moments with a comma between, and a closing bracket; a square
+-- bracket includes its end. A span set is one span or more in braces, with commas between; its
+-- spans may overlap, and stand in any order. Blanks may stand beside each of these signs, and at
+-- both ends of the whole.
 use Rattle.std.specs.Prelude.{◌≡◌, ℕ, List, length, Bool, true, false, ◌&&◌, cond, nat_eq, nat_lt, Option, Some, None, is_some, MatchOption, ℤ}
 use Rattle.std.specs.List.{list_all}
 use Rattle.mob_ratio.specs.Ratio.{Ratio}
@@ -49,7 +50,8 @@ spans day = record {
 abbrev pub has_many_ends : List NotedSpan → Bool
 has_many_ends ss = nat_lt 50000 (length ss)
 
--- The form of span sets: unsound where no instant is in some span; it stands for the set of the instants that some span has.
+-- The form of span sets: unsound where no instant is in some span; it stands for the set of the
+-- instants that some span has.
 abbrev pub span_sets : ℤ → TextForm (List NotedSpan) (List SpanOf)
 span_sets day = record {
   shape = within_blanks (noted_spans day);

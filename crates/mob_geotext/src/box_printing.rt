@@ -70,8 +70,8 @@ fn push_box(stbox: &StBox, epoch: &Epoch, into: &mut String) -> Result<(), Alloc
     }
 }
 
-/// Appends the text of a box, its lesser corner first: `STBOX X((x,y),(x,y))`, `STBOX T(span)` or `STBOX XT(((x,y),(x,y)),span)`.
-/// After `Err` the text is as before.
+/// Appends the text of a box, its lesser corner first: `STBOX X((x,y),(x,y))`, `STBOX T(span)` or
+/// `STBOX XT(((x,y),(x,y)),span)`. After `Err` the text is as before.
 pub fn write_stbox(stbox: &StBox, epoch: &Epoch, into: &mut String) -> Result<(), AllocError>
     ensures ok { OnOk result (string_bytes into.new ≡ string_bytes into.old ++ box_text epoch.now stbox.now) }
     ensures err { OnErr result (string_bytes into.new ≡ string_bytes into.old) }

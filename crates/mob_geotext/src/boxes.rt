@@ -14,7 +14,8 @@ use mob_scalar::{Epoch, ReadText};
 use mob_span::Span;
 use mob_stbox::{Area, StBox};
 
-/// What a text says of two opposite corners of a rectangle. A corner is None where a coordinate of it does not fit.
+/// What a text says of two opposite corners of a rectangle. A corner is None where a coordinate of
+/// it does not fit.
 #[derive(Drop)]
 pub struct NotedCorners {
     /// The one that is written first.
@@ -242,10 +243,11 @@ fn box_of(noted: NotedBox) -> Option<StBox>
 
 /// The box that a text says. Instants count from midnight UTC of the epoch's day.
 ///
-/// A box is `STBOX X((x,y),(x,y))`, `STBOX T(span)` or `STBOX XT(((x,y),(x,y)),span)`, its letters small or capital. The corners
-/// may be any two opposite ones. Blanks may stand beside each bracket and comma and at both ends, and one or more stand behind
-/// `STBOX`. The faults in order: `NotText` for any other text, `TooLarge` where a coordinate or an end has more than 62 bits, and
-/// `Unsound` where no instant is in the span. It takes no memory.
+/// A box is `STBOX X((x,y),(x,y))`, `STBOX T(span)` or `STBOX XT(((x,y),(x,y)),span)`, its letters
+/// small or capital. The corners may be any two opposite ones. Blanks may stand beside each bracket
+/// and comma and at both ends, and one or more stand behind `STBOX`. The faults in order: `NotText`
+/// for any other text, `TooLarge` where a coordinate or an end has more than 62 bits, and `Unsound`
+/// where no instant is in the span. It takes no memory.
 pub fn read_stbox(text: &str, epoch: &Epoch) -> Result<StBox, ReadText>
     ensures reading { Lit (boxes epoch.now) text.now result }
     ensures memory { result ≢ Err NoMemory }

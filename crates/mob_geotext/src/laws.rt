@@ -18,8 +18,8 @@ pub fn span_read_again()
     ensures again { (day : ℤ) (s : SpanOf) → has_instant s ≡ true → HasDatedEnds day s → Lit (spans day) (span_text day s) (Ok s) }
 {}
 
-/// A span set that is printed is read again as itself, where it has a span and at most 100,000 ends, which lie in the years 0001
-/// to 9999.
+/// A span set that is printed is read again as itself, where it has a span and at most 100,000
+/// ends, which lie in the years 0001 to 9999.
 pub fn span_set_read_again()
     ensures again { (day : ℤ) (set : List SpanOf) → set ≢ [] → length set ≤ 50000 → IsSpanSet set → HaveDatedEnds day set → Lit (span_sets day) (span_set_text day set) (Ok set) }
 {}

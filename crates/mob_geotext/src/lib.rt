@@ -1,4 +1,5 @@
-//! Texts of points, of polygons, of spans of time, of span sets and of boxes, each read exactly and printed.
+//! Texts of points, of polygons, of spans of time, of span sets and of boxes, each read exactly and
+//! printed.
 #![tactic(auto)]
 
 mod box_laws;

@@ -86,9 +86,10 @@ fn spans_of(alloc: Global, noted: Vec<NotedSpan>) -> Result<Option<Vec<Span>>, A
 
 /// The set of instants that a text says. Instants count from midnight UTC of the epoch's day.
 ///
-/// A span set is one span or more in braces, with commas between. They may overlap, and stand in any order. The faults in order:
-/// `NotText` for any other text, `Limit` where the spans have more than 100,000 ends, `TooLarge` where an end has more than 62
-/// bits, and `Unsound` where no instant is in some span.
+/// A span set is one span or more in braces, with commas between. They may overlap, and stand in
+/// any order. The faults in order: `NotText` for any other text, `Limit` where the spans have more
+/// than 100,000 ends, `TooLarge` where an end has more than 62 bits, and `Unsound` where no instant
+/// is in some span.
 pub fn read_span_set(alloc: Global, text: &str, epoch: &Epoch) -> Result<SpanSet, ReadText>
     ensures reading { Lit (span_sets epoch.now) text.now result }
 {

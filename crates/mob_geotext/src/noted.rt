@@ -6,7 +6,8 @@ use mob_frac::Frac;
 use mob_scalar::{Epoch, closing_at, moment_value_at, opening_at, spaced_at};
 use mob_span::Span;
 
-/// What a text says of a span, before its ends are known to fit and to hold an instant between them.
+/// What a text says of a span, before its ends are known to fit and to hold an instant between
+/// them.
 #[derive(Drop)]
 pub struct NotedSpan {
     /// The lower end, in seconds since midnight UTC of the epoch's day. None where it does not fit.

@@ -62,7 +62,8 @@ fn push_polygon(rings: &[Vec<Point>], into: &mut String) -> Result<(), AllocErro
     into.push_str(")")
 }
 
-/// Appends the text of a polygon, `POLYGON((x y,x y,x y,x y),(x y,x y,x y,x y))`. After `Err` the text is as before.
+/// Appends the text of a polygon, `POLYGON((x y,x y,x y,x y),(x y,x y,x y,x y))`. After `Err` the
+/// text is as before.
 pub fn write_polygon(polygon: &Polygon, into: &mut String) -> Result<(), AllocError>
     ensures ok { OnOk result (string_bytes into.new ≡ string_bytes into.old ++ polygon_text polygon.now) }
     ensures err { OnErr result (string_bytes into.new ≡ string_bytes into.old) }

@@ -104,7 +104,7 @@ fn written_polygon_at<'a>(
     rings_at(alloc, blanks(rest).1)
 }
 
-/// The same, where `SRID=0;` may stand before it.
+/// The rings of the polygon in front, before which `SRID=0;` may stand, and what stands behind it.
 #[tactic(auto, unfolding(crate::specs::Polygons::polygon_value_at, mob_points::specs::Points::behind_srid_at))]
 fn polygon_value_at<'a>(
     alloc: Global,
@@ -179,11 +179,13 @@ fn fitting_rings(
 
 /// The polygon that a text says.
 ///
-/// A polygon is `POLYGON((x y,x y,x y,x y),(x y,x y,x y,x y))`, its letters small or capital, of one ring or more, each of one point or
-/// more, with numbers as `read_number` reads them. Blanks may stand beside each bracket and comma and at both ends, and one or more
-/// stand between the two numbers of a point. `SRID=0;` may stand before it. The faults in order: `NotText` for any other text,
-/// `Limit` where the rings have more than 1,000 points together, `TooLarge` where a coordinate has more than 62 bits, and `Unsound`
-/// where a ring has fewer than four points, or its first and last points differ.
+/// A polygon is `POLYGON((x y,x y,x y,x y),(x y,x y,x y,x y))`, its letters small or capital, of
+/// one ring or more, each of one point or more, with numbers as `read_number` reads them. Blanks
+/// may stand beside each bracket and comma and at both ends, and one or more stand between the two
+/// numbers of a point. `SRID=0;` may stand before it. The faults in order: `NotText` for any other
+/// text, `Limit` where the rings have more than 1,000 points together, `TooLarge` where a
+/// coordinate has more than 62 bits, and `Unsound` where a ring has fewer than four points, or its
+/// first and last points differ.
 pub fn read_polygon(alloc: Global, text: &str) -> Result<Polygon, ReadText>
     ensures reading { Lit polygons text.now result }
 {

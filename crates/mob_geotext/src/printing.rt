@@ -60,7 +60,8 @@ fn push_span_set(spans: &[Span], epoch: &Epoch, into: &mut String) -> Result<(),
     into.push_str("}")
 }
 
-/// Appends the text of a span: two moments in brackets, of which a square one includes its end. After `Err` the text is as before.
+/// Appends the text of a span: two moments in brackets, of which a square one includes its end.
+/// After `Err` the text is as before.
 pub fn write_span(span: &Span, epoch: &Epoch, into: &mut String) -> Result<(), AllocError>
     ensures ok { OnOk result (string_bytes into.new ≡ string_bytes into.old ++ span_text epoch.now span.now) }
     ensures err { OnErr result (string_bytes into.new ≡ string_bytes into.old) }

@@ -25,9 +25,10 @@ fn noted_in_all(epoch: &Epoch, bytes: &[u8]) -> Option<NotedSpan>
 
 /// The span of time that a text says. Instants count from midnight UTC of the epoch's day.
 ///
-/// A span is `[` or `(`, two moments with a comma between, and `]` or `)`. A square bracket includes its end. Blanks may stand
-/// beside each sign and at both ends. The faults in order: `NotText` for any other text, `TooLarge` where an end has more than
-/// 62 bits, and `Unsound` where no instant is in the span. It takes no memory.
+/// A span is `[` or `(`, two moments with a comma between, and `]` or `)`. A square bracket
+/// includes its end. Blanks may stand beside each sign and at both ends. The faults in order:
+/// `NotText` for any other text, `TooLarge` where an end has more than 62 bits, and `Unsound` where
+/// no instant is in the span. It takes no memory.
 pub fn read_span(text: &str, epoch: &Epoch) -> Result<Span, ReadText>
     ensures reading { Lit (spans epoch.now) text.now result }
     ensures memory { result ≢ Err NoMemory }

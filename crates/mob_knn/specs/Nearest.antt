@@ -46,8 +46,8 @@ abbrev pub IsRising : List (ℕ × Ratio) → Type 0
 IsRising [] = Unit {0}
 IsRising (r ∷ rs) = AllByRecursion (λ s. nearer r s ≡ true) rs × IsRising rs
 
--- The first k of all rows that have an approach, in this order: each has its approach, they rise, and each row that has one is among
--- them, unless there are k, which are all before it.
+-- The first k of all rows that have an approach, in this order: each has its approach, they rise,
+-- and each row that has one is among them, unless there are k, which are all before it.
 pub record AreFirstRows (has : ℕ → Ratio → Type 0) (k : ℕ) (rs : List (ℕ × Ratio)) : Type 0 where
   pub each : AllByRecursion (λ r. has r.0 r.1) rs
   pub rising : IsRising rs
@@ -65,7 +65,8 @@ AreNearest trips asked k rs = AreFirstRows (HasApproach trips asked) k rs
 
 -- ---- the index
 
--- an entry for each trip that is there: its box, with the number of its row; the first trip has the number i
+-- an entry for each trip that is there: its box, with the number of its row; the first trip has the
+-- number i
 abbrev pub AreBoxes : ℕ → List (Option Trip) → List EntryOf → Type 0
 AreBoxes i [] entries = entries ≡ []
 AreBoxes i (None ∷ trips) entries = AreBoxes (i + 1) trips entries
@@ -87,7 +88,8 @@ IsAskedBox (Base p) b = b ≡ box_between p p
 
 -- ---- what a search may cost
 
--- how far an answer reaches: to the approach of its last row where it has k rows, else as far as there are any
+-- how far an answer reaches: to the approach of its last row where it has k rows, else as far as
+-- there are any
 abbrev pub last_approach : List (ℕ × Ratio) → Option Ratio
 last_approach [] = None
 last_approach (r ∷ []) = Some r.1
@@ -112,8 +114,9 @@ count_within reach q entries = count_by (λ e. lies_within reach (gap_of e.0 q))
 abbrev pub HasFewBelow : (ℕ → Ratio → Type 0) → ℕ → Ratio → Type 0
 HasFewBelow has k g = (near : List ℕ) × (length near < k) × ((row : ℕ) (m : Ratio) → has row m → before m g ≡ true → Contains near row)
 
--- The trip of the row is there, and the first formula of its nearest approach with a part that does not fit is this one. The gap of its
--- box and the box of what is asked is some g, and fewer than k rows have an approach below g.
+-- The trip of the row is there, and the first formula of its nearest approach with a part that does
+-- not fit is this one. The gap of its box and the box of what is asked is some g, and fewer than k
+-- rows have an approach below g.
 pub record IsPassed (trips : List (Option Trip)) (asked : Asked) (k row : ℕ) (formula : Formula) : Type 0 where
   pub trip : Trip
   pub there : IsTrip trips row trip

@@ -35,7 +35,8 @@ pub record State : Type 0 where
   pub found : List (ℕ × Ratio)
   pub steps : ℕ
 
--- Such a state comes of another one where `first` was taken out of what waits: a node is opened, an entry looked at, an answer told.
+-- Such a state comes of another one where `first` was taken out of what waits: a node is opened, an
+-- entry looked at, an answer told.
 pub record IsOpened (bs : List Branch) (q : BoxOf) (key : Ratio) (n : ℕ) (old new : State) : Type 0 where
   pub heap : IsPermutation (waits_of key q (children bs n) ++ old.heap) new.heap
   pub found : new.found ≡ old.found

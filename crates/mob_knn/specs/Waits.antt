@@ -46,7 +46,8 @@ abbrev pub what_of : Child → What
 what_of (NodeChild n) = Node n
 what_of (EntryChild row) = Entry row
 
--- what waits for a child of a node of which no approach is below floor: nothing where it is apart from what is asked
+-- what waits for a child of a node of which no approach is below floor: nothing where it is apart
+-- from what is asked
 abbrev pub waits_by : Ratio → Kid → Gap → List Waiting
 waits_by floor kid Apart = []
 waits_by floor kid (AtLeast g) = record { key = greater floor g; what = what_of kid.1 } ∷ []

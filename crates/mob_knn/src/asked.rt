@@ -7,7 +7,7 @@ use mob_slice::{Operand, PlaneLine};
 use mob_stbox::{Area, StBox};
 use mob_value::box_of;
 
-/// The same operand, borrowed once more.
+/// A second borrow of an operand.
 pub fn again<'a>(asked: &Operand<'a, PlaneLine>) -> Operand<'a, PlaneLine>
     ensures same { operand_of result ≡ operand_of asked.now }
 {

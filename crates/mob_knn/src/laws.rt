@@ -3,7 +3,8 @@ ghost use Rattle.std.specs.Prelude.{◌≡◌, ℕ, List, Option, take};
 ghost use Rattle.mob_ratio.specs.Ratio.{Ratio};
 ghost use Rattle.mob_knn.specs.Nearest.{AreAllRows, AreNearest, Asked, HasApproach, Trip};
 
-/// The nearest rows are the first k of all rows that have an approach, ordered by approach and then by row. There is one such list.
+/// The nearest rows are the first k of all rows that have an approach, ordered by approach and then
+/// by row. There is one such list.
 pub fn nearest_rows()
     ensures cut { (trips : List (Option Trip)) (asked : Asked) (k : ℕ) (all : List (ℕ × Ratio)) → AreAllRows (HasApproach trips asked) all → AreNearest trips asked k (take k all) }
     ensures are { (trips : List (Option Trip)) (asked : Asked) (k : ℕ) (all rs : List (ℕ × Ratio)) → AreAllRows (HasApproach trips asked) all → AreNearest trips asked k rs → rs ≡ take k all }

@@ -43,7 +43,8 @@ pub struct Waiting {
 }
 
 impl What {
-    // Of what has the same key answers come last, so every row that may have the same approach is known by then.
+    // Of what has the same key answers come last, so every row that may have the same approach is
+    // known by then.
     fn rank(&self) -> u8
         ensures value { result ≡ rank_of self.now }
     {
@@ -141,7 +142,8 @@ pub fn wait(heap: &mut BinaryHeap<Waiting>, key: Frac, what: What) -> Result<(),
     }
 }
 
-/// Pushes the children of a node onto the heap, except those that are apart from the asked box. `floor` is the node's key.
+/// Pushes the children of a node onto the heap, except those that are apart from the asked box.
+/// `floor` is the node's key.
 pub fn open(
     heap: &mut BinaryHeap<Waiting>,
     kids: &[(StBox, Child)],
@@ -161,7 +163,7 @@ pub fn open(
     Ok(())
 }
 
-// The same for one child.
+// Pushes one child onto the heap, unless it is apart from the asked box.
 fn open_kid(
     heap: &mut BinaryHeap<Waiting>,
     area: &StBox,

@@ -1,9 +1,10 @@
--- A reader is exact for a language where it reads exactly the texts of the language, whatever stands behind them that does not go
--- on with them.
+-- A reader is exact for a language where it reads exactly the texts of the language, whatever
+-- stands behind them that does not go on with them.
 --
--- There is one law here for each way of building a language: where the parts' readers are exact, so is the reader built of them.
--- So the law of a whole text is a term that follows the text's grammar. What is said of the bytes that may stand behind a text,
--- or at its front, is in Heads; lists are in Lists.
+-- There is one law here for each way of building a language: where the parts' readers are exact, so
+-- is the reader built of them. So the law of a whole text is a term that follows the text's
+-- grammar. What is said of the bytes that may stand behind a text, or at its front, is in Heads;
+-- lists are in Lists.
 use Rattle.std.proofs.Common.{◌≡◌, ℕ, [], ◌∷◌, ◌++◌, map, Bool, true, false, cond, Option, Some, None, refl, sym, ap, subst, ◌∙◌, append_assoc, arith, inl, inr, eqb}
 use Rattle.std.proofs.lemmas.Bool.{eqb-true}
 use Rattle.std.proofs.lemmas.List.{append-nil}
@@ -17,8 +18,8 @@ pub record Reads {A : Type 0} (l : Language A) (text rest : Text) (v : A) : Type
   pub whole : text ≡ front ++ rest
   pub said : l front v
 
--- what is read in front is a text of the language (sound); and a text of the language is read, whatever stands behind it that meets
--- `follows` (complete)
+-- what is read in front is a text of the language (sound); and a text of the language is read,
+-- whatever stands behind it that meets `follows` (complete)
 pub record Exact {A : Type 0} (l : Language A) (r : TextReader A) (follows : Text → Type 0) : Type 0 where
   pub sound : (text rest : Text) (v : A) → r text ≡ Some (v, rest) → Reads l text rest v
   pub complete : (text rest : Text) (v : A) → l text v → follows rest → r (text ++ rest) ≡ Some (v, rest)
@@ -247,8 +248,8 @@ all_complete p after text v said = rw (sym (append-nil text), p.complete text []
 pub one_value : {A : Type 0} {l : Language A} {r : TextReader A} {F : Text → Type 0} → Exact l r F → F [] → (text : Text) (v w : A) → l text v → l text w → v ≡ w
 one_value p after text v w a b = some_is v w (sym (all_complete p after text v a) ∙ all_complete p after text w b)
 
--- the readers of whole texts: what they read is said by the text, and where they read nothing the text says nothing. The code has
--- the text as a text and as its bytes.
+-- the readers of whole texts: what they read is said by the text, and where they read nothing the
+-- text says nothing. The code has the text as a text and as its bytes.
 pub is_said : {A : Type 0} {l : Language A} {r : TextReader A} {F : Text → Type 0} → Exact l r F → (text bytes : Text) (v : A) → bytes ≡ text → Some v ≡ all_of r bytes → l text v
 is_said {r = r} p text bytes v e h = all_sound p text v (ap (all_of r) (sym e) ∙ sym h)
 

@@ -1,7 +1,8 @@
 -- Which bytes a text begins with, and what may stand behind it.
 --
--- A reader goes on as far as it can, so a text is read whole only where what stands behind it does not go on with it. Three
--- families of facts say this by the next byte alone, and each has a law for each way of building a language:
+-- A reader goes on as far as it can, so a text is read whole only where what stands behind it does
+-- not go on with it. Three families of facts say this by the next byte alone, and each has a law
+-- for each way of building a language:
 --   NoHead l test    no text of l begins with a byte that passes the test
 --   Nothing r test   the reader r reads nothing where the next byte does not pass the test
 --   HasByte l        each text of l has a byte

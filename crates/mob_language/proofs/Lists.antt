@@ -78,8 +78,8 @@ count_le l s h text (v ∷ w ∷ vs) said =
     some_length [] n = absurd (n refl)
     some_length (c ∷ cs) n = omega arith
 
--- a list. What stands behind it (H) does not begin with a text between, and may stand behind an item; a text between may stand behind
--- an item; and an item behind a text between
+-- a list. What stands behind it (H) does not begin with a text between, and may stand behind an
+-- item; a text between may stand behind an item; and an item behind a text between
 pub separated_exact : {A : Type 0} {l : Language A} {s : Language Unit} {r : TextReader A} {t : TextReader Unit} {F G H : Text → Type 0}
     → Exact l r F → Exact s t G → HasByte s
     → ((rest : Text) → H rest → (t rest ≡ None) × F rest)

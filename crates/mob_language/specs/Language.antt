@@ -1,17 +1,20 @@
 -- Languages of texts.
 --
--- A language says which texts there are, and what each of them stands for. It is a relation between a text and a value, so a
--- definition made of these words is the meaning of a text and names no way of reading it. The words are those of a grammar:
+-- A language says which texts there are, and what each of them stands for. It is a relation between
+-- a text and a value, so a definition made of these words is the meaning of a text and names no way
+-- of reading it. The words are those of a grammar:
 --
---   l ▷ m             a text of l, and behind it a text of m; it stands for the pair of the two values
+-- l ▷ m             a text of l, and behind it a text of m; it stands for the pair of the two
+-- values
 --   l ∣ m             a text of l, or a text of m
 --   Maybe l           a text of l, or nothing at all
 --   Word w            the word w alone
 --   AnyCase w         the word w, each letter of it small or capital
 --   OneOf test        one byte that passes the test; it stands for that byte
 --   Run test          any number of bytes that all pass the test; it stands for these bytes
---   Separated l s     one text of l or more, with a text of s between each two; it stands for the list of the values
---   behind w l        the word w, and behind it a text of l; it stands for what the latter stands for
+-- Separated l s     one text of l or more, with a text of s between each two; it stands for the
+-- list of the values
+-- behind w l        the word w, and behind it a text of l; it stands for what the latter stands for
 --   Means f l         a text of l; where it stands for a there, it stands for f a here
 --   Where test l      a text of l whose value passes the test
 use Rattle.std.specs.Prelude.{◌≡◌, ℕ, List, [], ◌∷◌, ◌++◌, map, Bool, true, ◌&&◌, ◌||◌, nat_le, nat_eq, Option, Some, None, ◌⊎◌}

@@ -1,8 +1,9 @@
 -- Readers from the left, one for each way of building a language.
 --
--- A reader takes a text and answers the value of the text in front and what stands behind it, or None. It reads as far as it
--- can. A reader on lists is the middle between a language, which says what a text means, and the code, which goes through the
--- bytes: `proofs/` shows that each reader reads exactly the texts of its language, and the code answers what the reader does.
+-- A reader takes a text and answers the value of the text in front and what stands behind it, or
+-- None. It reads as far as it can. A reader on lists is the middle between a language, which says
+-- what a text means, and the code, which goes through the bytes: `proofs/` shows that each reader
+-- reads exactly the texts of its language, and the code answers what the reader does.
 use Rattle.std.specs.Prelude.{ℕ, zero, suc, List, [], ◌∷◌, length, Bool, true, false, cond, Option, Some, None, nat_eq}
 use Rattle.std.specs.Char.{to_ascii_lowercase}
 use Rattle.mob_language.specs.Language.{Text, is_blank, in_middle}
@@ -91,7 +92,8 @@ unfoldable pub items_at : {A : Type 0} → ℕ → TextReader A → TextReader (
 items_at zero r s text = None
 items_at (suc most) r s text = r text >>= λ x. more_items x.0 x.1 (s x.1) (items_at most r s)
 
--- a list with another language's texts between; no list has more items than the text has bytes, and one
+-- a list with another language's texts between; no list has more items than the text has bytes, and
+-- one
 unfoldable pub separated_at : {A : Type 0} → TextReader A → TextReader (Unit {0}) → TextReader (List A)
 separated_at r s text = items_at (suc (length text)) r s text
 

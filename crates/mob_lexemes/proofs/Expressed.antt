@@ -1,4 +1,5 @@
--- The walk along the statements of a script: what is counted as one expression is one of the grammar.
+-- The walk along the statements of a script: what is counted as one expression is one of the
+-- grammar.
 use Rattle.std.proofs.Common.{◌≡◌, ◌==◌, ◌≤◌, ◌⊎◌, ◌↔◌, inl, inr, ℕ, List, [], ◌∷◌, Bool, true, false, cond, Option, refl, sym, ap, subst, ◌∙◌, arith}
 use Rattle.std.specs.Prelude.{codes}
 use Rattle.mob_ast.specs.declared.types.Word.{Word}
@@ -150,7 +151,7 @@ copy_skips : Skips CopyFile
 copy_skips l x r (table, m, d, (p, n, e, (file, o, f, (delimiter, q, g, (y, z))))) =
     follow (skip_at d refl) (follow (skip_at e refl) (follow (skip_at f refl) (follow (form_skips o delimiter q g) (same_tokens z))))
 
--- ---- behind an expression of a SELECT stands a word that no expression has, a comma, a `;` or nothing
+-- ---- behind an expression of a SELECT: a word that no expression has, a comma, a `;` or nothing
 record IsStop (x : Symbol) : Type 0 where
   mark : Mark
   is_mark : x ≡ fixed mark

@@ -11,7 +11,8 @@ abbrev pub walked : {P V : Type 0} → (Option V → V → V) → (P → V) → 
 walked more gives found [] = found
 walked more gives found (p ∷ ps) = walked more gives (Some (more found (gives p))) ps
 
--- with these pieces still to come, the answer and the first entry that does not fit are those of all
+-- with these pieces still to come, the answer and the first entry that does not fit are those of
+-- all
 pub record IsWalking {P V : Type 0} (more : Option V → V → V) (gives : P → V) (entries : P → List Entry) (all left : List P) (found : Option V) : Type 0 where
   pub answer : walked more gives found left ≡ walked more gives None all
   pub first : (r : Option Formula) → IsFirst (flat_map entries left) r → IsFirst (flat_map entries all) r

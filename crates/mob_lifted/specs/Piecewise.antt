@@ -11,8 +11,8 @@ abbrev pub AreGivenInOrder : {P D V : Type 0} → (V → List (Slice D)) → (P 
 AreGivenInOrder items gives [] slices = slices ≡ []
 AreGivenInOrder {P} {D} {V} items gives (p ∷ pieces) slices = (v : V) × (rest : List (Slice D)) × gives p v × AreGivenInOrder items gives pieces rest × (slices ≡ items v ++ rest)
 
--- The slices are ordered; at each instant of a piece they have the value of what was given for that piece, and
--- elsewhere none.
+-- The slices are ordered; at each instant of a piece they have the value of what was given for that
+-- piece, and elsewhere none.
 pub record IsPiecewise {P D B V : Type 0} (value : D → Ratio → Ratio → Ratio → B) (start end : D → B) (span : P → SpanOf) (items : V → List (Slice D)) (gives : P → V → Type 0) (pieces : List P) (slices : List (Slice D)) : Type 0 where
   pub made : AreGivenInOrder items gives pieces slices
   pub ordered : IsOrdered start end slices

@@ -18,7 +18,8 @@ type Function = (Parts, Parts);
 // The ends of a span, and whether it includes them.
 type Limits = (i64, i64, bool, bool);
 
-// A cell by its ends, and the sign of a function there. A cell has both ends where they are one instant, and else none.
+// A cell by its ends, and the sign of a function there. A cell has both ends where they are one
+// instant, and else none.
 type Signed = (Parts, Parts, i8);
 
 fn fraction(parts: Parts) -> Option<Frac> {

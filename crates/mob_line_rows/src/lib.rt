@@ -1,5 +1,5 @@
-//! Tests of what values over time are made of: fractions, spans and their sets, steady courses, lists and texts, lines, and the cells of
-//! linear functions.
+//! Tests of what values over time are made of: fractions, spans and their sets, steady courses,
+//! lists and texts, lines, and the cells of linear functions.
 #![tactic(auto)]
 
 #[cfg(test)]

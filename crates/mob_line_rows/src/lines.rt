@@ -43,7 +43,8 @@ fn parts_of(number: &Frac) -> Parts {
     (number.num(), number.den())
 }
 
-// The value of a course at an instant of its span; None where the span does not have it, or a part of F1 does not fit.
+// The value of a course at an instant of its span; None where the span does not have it, or a part
+// of F1 does not fit.
 fn value_in<C: Course>(alloc: Global, course: &C, span: &Span, t: &Frac) -> Option<C::Base>
 where
     C::Base: Drop,
@@ -87,7 +88,8 @@ fn lines_at_instants(rt: HostRuntime) {
     }
 }
 
-// Whether a line goes on as the next one; None where the next span does not begin where the first ends.
+// Whether a line goes on as the next one; None where the next span does not begin where the first
+// ends.
 fn goes_on(first: &Row, next: &Row) -> Option<bool> {
     match (line(first), line(next)) {
         (Some((span, line)), Some((next_span, next_line))) => {

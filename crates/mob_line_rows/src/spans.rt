@@ -34,7 +34,8 @@ static MEETS: [(Ends, Ends, Option<Ends>); 2] = [
     ((1, 3, true, false), (3, 4, true, true), None),
 ];
 
-// Two spans, and whether they overlap, the first meets the second, is clear of it, starts before it and ends before it.
+// Two spans, and whether they overlap, the first meets the second, is clear of it, starts before it
+// and ends before it.
 static ORDERS: [(Ends, Ends, (bool, bool, bool, bool, bool)); 3] = [
     (
         (1, 3, true, false),
@@ -99,7 +100,8 @@ fn spans_between_whole_numbers(rt: HostRuntime) {
     }
 }
 
-// Three spans, the first and the last of the two of their set, and whether it has the instants 2, 3 and 4.
+// Three spans, the first and the last of the two of their set, and whether it has the instants 2, 3
+// and 4.
 type Joined = (Ends, Ends, Ends, Ends, Ends, (bool, bool, bool));
 
 static SETS: [Joined; 2] = [

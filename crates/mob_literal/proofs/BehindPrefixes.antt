@@ -1,4 +1,5 @@
--- What is printed of a value over time is read again as that value behind each of the prefixes that its type admits.
+-- What is printed of a value over time is read again as that value behind each of the prefixes that
+-- its type admits.
 use Rattle.std.proofs.Common.{◌≡◌, ℕ, ℤ, List, [], ◌∷◌, ◌++◌, Bool, true, false, Option, Some, Ok, refl, sym, ap, subst, ◌∙◌}
 use Rattle.std.specs.Prelude.{nat_eq, Contains}
 use Rattle.std.specs.Char.{to_ascii_lowercase}

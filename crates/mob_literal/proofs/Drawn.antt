@@ -42,7 +42,8 @@ module _ {C B : Type 0} (course : CourseOf C B) (laws : IsLawful course) where
   drawn_start true own a b = laws.level_start a
   drawn_start false own a b = laws.moves_from (own refl) a b
 
-  -- a course is drawn again from its start to b, where it ends with b, and under step interpolation where it ends as it starts
+  -- a course is drawn again from its start to b, where it ends with b, and under step interpolation
+  -- where it ends as it starts
   pub drawn_again : (step : Bool) → (step ≡ false → course.steady ≡ false) → (c : C) (b : B) → (step ≡ true → course.start c ≡ course.end c) → (step ≡ false → b ≡ course.end c) → drawn course step (course.start c) b ≡ c
   drawn_again true own c b kept to = laws.by_ends (course.make (course.start c) (course.start c)) c (laws.level_start (course.start c)) (laws.level_end (course.start c) ∙ kept refl)
   drawn_again false own c b kept to = laws.by_ends (course.make (course.start c) b) c (laws.moves_from (own refl) (course.start c) b) (laws.moves_to (own refl) (course.start c) b ∙ to refl)

@@ -1,5 +1,6 @@
--- Worked examples of texts of numbers and points that change evenly, by hand. A number prints here as its digit, a point as
--- the digits of its coordinates in brackets, and a moment as its day and the day's place.
+-- Worked examples of texts of numbers and points that change evenly, by hand. A number prints here
+-- as its digit, a point as the digits of its coordinates in brackets, and a moment as its day and
+-- the day's place.
 use Rattle.std.proofs.Common.{◌≡◌, ℕ, ◌+◌, [], ◌∷◌, ◌++◌, Bool, true, false, Option, Some, None, codes, refl, nat_abs}
 use Rattle.std.specs.Prelude.{option_map, List}
 use Rattle.mob_ratio.specs.Ratio.{Ratio}

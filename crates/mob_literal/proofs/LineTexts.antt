@@ -1,4 +1,5 @@
--- Worked examples of whole texts of a tgeompoint: which of them are literals. Each holds by computing.
+-- Worked examples of whole texts of a tgeompoint: which of them are literals. Each holds by
+-- computing.
 use Rattle.jiff_core.specs.Calendar.{days_from_civil, day_count, days_of_years, days_of_months}
 use Rattle.std.proofs.Common.{◌≡◌, Bool, true, false, pos, codes, refl}
 use Rattle.std.specs.Prelude.{is_some}

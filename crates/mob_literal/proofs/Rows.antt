@@ -1,4 +1,5 @@
--- Worked examples of printed texts and of fields, by hand. A moment prints here as its day and the day's place.
+-- Worked examples of printed texts and of fields, by hand. A moment prints here as its day and the
+-- day's place.
 use Rattle.std.proofs.Common.{◌≡◌, ℕ, ◌+◌, [], ◌∷◌, ◌++◌, Bool, true, false, Some, None, codes, refl, pos, nat_abs, arith}
 use Rattle.mob_ratio.specs.GcdLaws.{gcd_one_right}
 use Rattle.mob_ratio.specs.LowestLaws.{lowest_in}

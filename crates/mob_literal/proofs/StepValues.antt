@@ -1,4 +1,5 @@
--- Each value that the slices of a step literal have is one that the type has, since each is one of those that are written.
+-- Each value that the slices of a step literal have is one that the type has, since each is one of
+-- those that are written.
 use Rattle.std.proofs.Common.{◌≡◌, refl, sym, subst, true≢false, ℤ, List, [], ◌∷◌, Bool, true, false, Option, Some, None, Ok, inl, inr}
 use Rattle.std.proofs.lemmas.Bool.{and_parts as both}
 use Rattle.std.specs.Prelude.{Contains, MatchOption}

@@ -39,7 +39,8 @@ abbrev pub text_of_field : SqlType → Text → Text
 text_of_field sql.Text field = undoubled field
 text_of_field type field = field
 
--- the field of a value: \N for NULL, a text with a backslash more where it begins with one, and else the printed text
+-- the field of a value: \N for NULL, a text with a backslash more where it begins with one, and
+-- else the printed text
 abbrev pub field_text : ℤ → Value → Text
 field_text day value.Null = codes "\\N"
 field_text day (value.Text text) = doubled text

@@ -1,4 +1,5 @@
--- When the printed text of a point, a span, a span set, a box and a temporal value is read again as that value.
+-- When the printed text of a point, a span, a span set, a box and a temporal value is read again as
+-- that value.
 use Rattle.std.specs.Prelude.{◌≡◌, ◌≢◌, ◌+◌, ◌≤◌, ℕ, ℤ, List, [], ◌∷◌, length, Contains, Bool, true, Option, Some}
 use Rattle.std.specs.Str.{is_utf8}
 use Rattle.mob_ratio.specs.Ratio.{Ratio}
@@ -25,7 +26,8 @@ abbrev pub instants_in : {C B : Type 0} → Style C B → List (List (Slice C)) 
 instants_in style [] = 0
 instants_in style (group ∷ groups) = length (instants_of style group) + instants_in style groups
 
--- A normal value whose values can be written, whose instants lie in the years 0001 to 9999, and that prints at most 100,000 of them.
+-- A normal value whose values can be written, whose instants lie in the years 0001 to 9999, and
+-- that prints at most 100,000 of them.
 pub record IsReadable {C B : Type 0} (course : CourseOf C B) (day : ℤ) (text : B → Text) (IsWritten : B → Type 0) (slices : List (Slice C)) : Type 0 where
   pub normal : IsNormal course.start course.end course.continues slices
   pub starts : (s : Slice C) → Contains slices s → IsWritten (course.start s.course)
@@ -38,7 +40,8 @@ pub record IsReadable {C B : Type 0} (course : CourseOf C B) (day : ℤ) (text :
 abbrev pub AreLevel : {C B : Type 0} → CourseOf C B → List (Slice C) → Type 0
 AreLevel course slices = (s : Slice _) → Contains slices s → course.start s.course ≡ course.end s.course
 
--- the printed text of the value is read again as that value, which the type has, and begins with the first letter of no prefix
+-- the printed text of the value is read again as that value, which the type has, and begins with
+-- the first letter of no prefix
 pub record IsReadAgain {B : Type 0} (value : Text → Option B → Type 0) (text : B → Text) (has_value : B → Bool) (prefixes : Prefixes) (v : B) : Type 0 where
   pub read : value (text v) (Some v)
   pub of_type : has_value v ≡ true
@@ -63,15 +66,16 @@ pub record IsReadableSpan (day : ℤ) (s : SpanOf) : Type 0 where
   pub some : has_instant s ≡ true
   pub dated : HasDatedEnds day s
 
--- The spans are a span set that has an instant and at most 100,000 ends, which lie in the years 0001 to 9999.
+-- The spans are a span set that has an instant and at most 100,000 ends, which lie in the years
+-- 0001 to 9999.
 pub record IsReadableSet (day : ℤ) (spans : List SpanOf) : Type 0 where
   pub normal : IsSpanSet spans
   pub some : spans ≢ []
   pub short : length spans ≤ 50000
   pub dated : HaveDatedEnds day spans
 
--- The box has a dimension, no least coordinate above its greatest, and an instant in its span; its coordinates fit, and the ends of its span
--- lie in the years 0001 to 9999.
+-- The box has a dimension, no least coordinate above its greatest, and an instant in its span; its
+-- coordinates fit, and the ends of its span lie in the years 0001 to 9999.
 pub record IsReadableBox (day : ℤ) (b : BoxOf) : Type 0 where
   pub stands : is_box b ≡ true
   pub dated : HasDatedSides day b

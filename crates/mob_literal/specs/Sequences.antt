@@ -1,8 +1,9 @@
 -- What the written instants of a sequence define.
 --
--- Under step interpolation a sequence has, between its first and its last instant, at each instant the value of the last of its
--- written instants that is not later. Else it has at a written instant the value written there, and between two neighbouring ones
--- the value of the course from the one value to the other. Its two brackets say whether the first and the last instant belong to it.
+-- Under step interpolation a sequence has, between its first and its last instant, at each instant
+-- the value of the last of its written instants that is not later. Else it has at a written instant
+-- the value written there, and between two neighbouring ones the value of the course from the one
+-- value to the other. Its two brackets say whether the first and the last instant belong to it.
 use Rattle.std.specs.Prelude.{◌≡◌, List, [], ◌∷◌, Contains, Bool, true, false, cond, ◌&&◌, ◌||◌, ◌⊎◌}
 use Rattle.mob_ratio.specs.Ratio.{Ratio}
 use Rattle.mob_ratio.specs.Order.{before, up_to}
@@ -19,7 +20,8 @@ pub record IsLastBy {B : Type 0} (instants : List (Written B)) (t : Ratio) (i : 
 abbrev pub reaches : Bool → Ratio → Ratio → Bool
 reaches included a b = before a b || (included && up_to a b)
 
--- t lies in the span of the sequence: behind one of its instants and before one of them, or is one that a bracket includes
+-- t lies in the span of the sequence: behind one of its instants and before one of them, or is one
+-- that a bracket includes
 pub record IsInSequence {B : Type 0} (lower_inc : Bool) (instants : List (Written B)) (upper_inc : Bool) (t : Ratio) : Type 0 where
   pub begun : (i : Written B) × Contains instants i × (reaches lower_inc i.instant t ≡ true)
   pub not_ended : (j : Written B) × Contains instants j × (reaches upper_inc t j.instant ≡ true)
@@ -39,7 +41,8 @@ pub record IsWrittenAt {B : Type 0} (i : Written B) (t : Ratio) (v : B) : Type 0
   pub instant : i.instant ≡ t
   pub value : i.value ≡ v
 
--- j is the next written instant behind i, and the course from the value of i to that of j has the value v at t
+-- j is the next written instant behind i, and the course from the value of i to that of j has the
+-- value v at t
 pub record IsOnTheWay {C B : Type 0} (course : CourseOf C B) (instants : List (Written B)) (i : Written B) (t : Ratio) (v : B) : Type 0 where
   pub to : Written B
   pub next : IsNextAfter instants t to

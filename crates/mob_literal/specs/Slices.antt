@@ -27,8 +27,9 @@ slices_of course step lower_inc [] upper_inc = []
 slices_of course step lower_inc (i ∷ []) upper_inc = cond upper_inc (instant_slice course lower_inc i ∷ []) []
 slices_of course step lower_inc (i ∷ j ∷ is) upper_inc = stretch course step lower_inc i j ∷ slices_of course step true (j ∷ is) upper_inc
 
--- The same where the sequence is sound: its instants rise, a sequence of one instant includes both ends, and in one without its upper
--- end the last course ends with the last value. None where it is not. `level` says that the course before the first instant ends so.
+-- The slices of a sequence that is sound: its instants rise, a sequence of one instant includes
+-- both ends, and in one without its upper end the last course ends with the last value. None where
+-- it is not. `level` says that the course before the first instant ends so.
 abbrev pub made : {C B : Type 0} → CourseOf C B → Bool → Bool → Bool → List (Written B) → Bool → Option (List (Slice C))
 made course step level lower_inc [] upper_inc = Some []
 made course step level lower_inc (i ∷ []) upper_inc = cond upper_inc (cond lower_inc (Some (instant_slice course lower_inc i ∷ [])) None) (cond level (Some []) None)

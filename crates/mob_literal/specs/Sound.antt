@@ -55,8 +55,9 @@ is_closed_alone lower_inc upper_inc [] = true
 is_closed_alone lower_inc upper_inc (i ∷ []) = lower_inc && upper_inc
 is_closed_alone lower_inc upper_inc (i ∷ j ∷ is) = true
 
--- A sequence is sound where the type has each of its values, its instants rise, a sequence of one instant includes both ends, and
--- one that leaves its upper end out under step interpolation has one value at its last two instants.
+-- A sequence is sound where the type has each of its values, its instants rise, a sequence of one
+-- instant includes both ends, and one that leaves its upper end out under step interpolation has
+-- one value at its last two instants.
 abbrev pub is_sound_sequence : {C B : Type 0} → (B → Bool) → CourseOf C B → Bool → Sequence (Written B) → Bool
 is_sound_sequence has_value course step q = list_all (λ i. has_value i.value) q.instants && (rises q.instants && (is_closed_alone q.lower_inc q.upper_inc q.instants && (q.upper_inc || ends_level course step q.instants)))
 
@@ -82,7 +83,8 @@ pub record LitAt {C B : Type 0} (course : CourseOf C B) (step : Bool) (qs : List
   pub listed : Contains qs by
   pub at : SequenceAt course step by.lower_inc by.instants by.upper_inc t v
 
--- The slices are normal, and have at each instant the value that the sequences have there, and none where they have none.
+-- The slices are normal, and have at each instant the value that the sequences have there, and none
+-- where they have none.
 pub record Defines {C B : Type 0} (course : CourseOf C B) (step : Bool) (qs : List (Sequence (Written B))) (slices : List (Slice C)) : Type 0 where
   pub normal : IsNormal course.start course.end course.continues slices
   pub same : (t : Ratio) (v : B) → (value_at course.value slices t ≡ Some v) ↔ LitAt course step qs t v
@@ -91,8 +93,8 @@ pub record Defines {C B : Type 0} (course : CourseOf C B) (step : Bool) (qs : Li
 abbrev pub fitting_literal : {B : Type 0} → Literal (Noted B) → Option (Literal (Written B))
 fitting_literal s = fitting_all s.sequences >>= λ qs. Some (record { says_step = s.says_step; sequences = qs })
 
--- The literals of a temporal type that admits these prefixes, as they are written, with instants counted from a day, where each of
--- their numbers fits.
+-- The literals of a temporal type that admits these prefixes, as they are written, with instants
+-- counted from a day, where each of their numbers fits.
 abbrev pub written_literals : {B : Type 0} → ℤ → Prefixes → (Text → Option B → Type 0) → TextForm (Literal (Noted B)) (Literal (Written B))
 written_literals day prefixes value = record {
   shape = temporal prefixes (noted day value);
@@ -102,7 +104,8 @@ written_literals day prefixes value = record {
   means = λ s w. fitting_literal s ≡ Some w;
 }
 
--- The literals of a temporal type, before which `SRID=0;` may stand or not, with instants counted from a day.
+-- The literals of a temporal type, before which `SRID=0;` may stand or not, with instants counted
+-- from a day.
 abbrev pub literals : {C B : Type 0} → ℤ → Bool → (Text → Option B → Type 0) → (B → Bool) → CourseOf C B → TextForm (Literal (Noted B)) (List (Slice C))
 literals day has_srid value has_value course = record {
   shape = temporal (admitted course.steady has_srid) (noted day value);

@@ -1,4 +1,5 @@
--- The texts of SQL values, type by type: what a text says as a value of a type, and what a value prints as.
+-- The texts of SQL values, type by type: what a text says as a value of a type, and what a value
+-- prints as.
 use Rattle.std.specs.Prelude.{◌≡◌, ℤ, [], true, false, Result, Ok, Err}
 use Rattle.mob_ratio.specs.Order.{same}
 use Rattle.mob_language.specs.Language.{Text}

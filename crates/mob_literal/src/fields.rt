@@ -60,8 +60,9 @@ fn text_in(ty: SqlType, field: &str) -> &str
 
 /// The value of a type that a field of a table file says.
 ///
-/// The field `\N` is NULL, and in a column of another type than text an empty field is NULL too. In a text column a field that
-/// begins with two backslashes loses one. Else the field is read whole, as `read_value` reads it, with the same faults.
+/// The field `\N` is NULL, and in a column of another type than text an empty field is NULL too. In
+/// a text column a field that begins with two backslashes loses one. Else the field is read whole,
+/// as `read_value` reads it, with the same faults.
 pub fn read_field(alloc: Global, ty: SqlType, field: &str, epoch: &Epoch) -> Result<Value, ReadText>
     ensures null { is_null_field ty field.now ≡ true → result ≡ Ok Value.Null }
     ensures reading { is_null_field ty field.now ≡ false → SaysAs ty epoch.now (text_of_field ty field.now) result }
@@ -87,8 +88,8 @@ fn write_doubled(text: &str, into: &mut String) -> Result<(), AllocError>
     into.push_str(text)
 }
 
-/// Appends the field of a value: `\N` for NULL, a text with a backslash more in front where it begins with one, and else the
-/// printed text. Where memory is refused `into` stays as it was.
+/// Appends the field of a value: `\N` for NULL, a text with a backslash more in front where it
+/// begins with one, and else the printed text. Where memory is refused `into` stays as it was.
 pub fn write_field(value: &Value, epoch: &Epoch, into: &mut String) -> Result<(), AllocError>
     ensures written { OnOk result (string_bytes into.new ≡ string_bytes into.old ++ field_text epoch.now value.now) }
     ensures unchanged { OnErr result (string_bytes into.new ≡ string_bytes into.old) }

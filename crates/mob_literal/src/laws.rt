@@ -56,8 +56,8 @@ pub fn one_reading_over_every_course<T: WrittenValue, C: Course<Base = T::Base>>
     ensures one { (day : ℤ) → HasOneReading (literals day T.HAS_SRID T.shape T.has_value (course_of C.STEADY C.value_of C.start_of C.end_of C.make C.is_continued T.Base.is_same)) }
 {}
 
-/// What is printed of a step value is read again as that value, where its instants lie in the years 0001 to 9999 and at most
-/// 100,000 of them are printed.
+/// What is printed of a step value is read again as that value, where its instants lie in the years
+/// 0001 to 9999 and at most 100,000 of them are printed.
 pub fn steps_read_again()
     ensures truths { (day : ℤ) (v : List (Slice (Steady Bool))) → IsReadable (steady_course same_bool) day truth_text AnyTruth v
         → Lit (steps day truth_value any_value same_bool) (moving_text (style_of (steady_course same_bool) truth_text day) v) (Ok v) }
@@ -67,9 +67,10 @@ pub fn steps_read_again()
         → Lit (steps day quoted_value any_value same_bytes) (moving_text (style_of (steady_course same_bytes) quoted_text day) v) (Ok v) }
 {}
 
-/// What is printed of a value over time is read again as that value, where what is printed of each of its values is. Prefixes that its
-/// type admits may stand before it: `SRID=0;` says nothing more, and `Interp=Step;` changes nothing where each slice ends with the
-/// value with which it starts.
+/// What is printed of a value over time is read again as that value, where what is printed of each
+/// of its values is. Prefixes that its type admits may stand before it: `SRID=0;` says nothing
+/// more, and `Interp=Step;` changes nothing where each slice ends with the value with which it
+/// starts.
 pub fn literals_read_again<T: WrittenValue, C: Course<Base = T::Base>>()
 where
     T::Base: Printed,
@@ -81,12 +82,14 @@ where
         (front ++ moving_text (style_of (course_of C.STEADY C.value_of C.start_of C.end_of C.make C.is_continued T.Base.is_same) T.Base.text day) v) (Ok v) }
 {}
 
-/// What is printed of a value of a type is read again as that value, under the same conditions on its instants.
+/// What is printed of a value of a type is read again as that value, under the same conditions on
+/// its instants.
 pub fn value_read_again()
     ensures again { (ty : SqlType) (day : ℤ) (v : Value) → IsReadableAs ty day v → SaysAs ty day (value_text day v) (Ok v) }
 {}
 
-/// The field of NULL is NULL, and the field of a value is read again as that value, under the same conditions on its instants.
+/// The field of NULL is NULL, and the field of a value is read again as that value, under the same
+/// conditions on its instants.
 pub fn field_read_again()
     ensures null { (ty : SqlType) (day : ℤ) → is_null_field ty (field_text day Null) ≡ true }
     ensures there { (ty : SqlType) (day : ℤ) (v : Value) → IsReadableAs ty day v → is_null_field ty (field_text day v) ≡ false }

@@ -1,5 +1,5 @@
-//! The values of literals and fields, of all types: what a text means, and how a value prints. Temporal
-//! literals come from `mob_written`, which reads their parts.
+//! The values of literals and fields, of all types: what a text means, and how a value prints.
+//! Temporal literals come from `mob_written`, which reads their parts.
 #![tactic(auto)]
 
 mod fields;

@@ -8,10 +8,10 @@ use mob_span::Span;
 use mob_written::written::Written;
 use std::alloc::{AllocError, Global};
 
-/// The slices of the sequence with these instants and brackets: under step interpolation each value lasts until the next
-/// instant, else a course goes from it to the next value. None exactly where the sequence is not sound: an instant is not
-/// later than the one before it, a sequence of one instant leaves an end out, or one without its upper end does not come
-/// there to its last value.
+/// The slices of the sequence with these instants and brackets: under step interpolation each value
+/// lasts until the next instant, else a course goes from it to the next value. None exactly where
+/// the sequence is not sound: an instant is not later than the one before it, a sequence of one
+/// instant leaves an end out, or one without its upper end does not come there to its last value.
 pub fn slices_of<C: Course + Drop>(
     alloc: Global,
     step: bool,
@@ -73,7 +73,8 @@ where
     Ok(C::of(value, end))
 }
 
-/// The course from a written instant to the next value: under step interpolation the first value all along.
+/// The course from a written instant to the next value: under step interpolation the first value
+/// all along.
 fn drawn<C: Course>(
     alloc: Global,
     step: bool,

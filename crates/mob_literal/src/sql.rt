@@ -146,9 +146,9 @@ fn read_tgeompoint(alloc: Global, text: &str, epoch: &Epoch) -> Result<Value, Re
 
 /// The value of a type that a text says. Instants count from midnight UTC of the epoch's day.
 ///
-/// The first fault in the order `NotText`, `Limit`, `TooLarge` and `Unsound`, or `NoMemory`. A text of each type may have
-/// blanks at its ends, but one of the type text keeps all its characters. Only a text, a polygon, a
-/// span, a span set, a box and a value over time take memory.
+/// The first fault in the order `NotText`, `Limit`, `TooLarge` and `Unsound`, or `NoMemory`. A text
+/// of each type may have blanks at its ends, but one of the type text keeps all its characters.
+/// Only a text, a polygon, a span, a span set, a box and a value over time take memory.
 pub fn read_value(alloc: Global, ty: SqlType, text: &str, epoch: &Epoch) -> Result<Value, ReadText>
     ensures reading { SaysAs ty epoch.now text.now result }
     ensures memory { takes_memory ty ≡ false → result ≢ Err NoMemory }
@@ -172,7 +172,8 @@ pub fn read_value(alloc: Global, ty: SqlType, text: &str, epoch: &Epoch) -> Resu
     }
 }
 
-/// Appends the printed text of a value that is not NULL. Where memory is refused `into` stays as it was.
+/// Appends the printed text of a value that is not NULL. Where memory is refused `into` stays as it
+/// was.
 pub fn write_value(value: &Value, epoch: &Epoch, into: &mut String) -> Result<(), AllocError>
     requires there { value.now ≢ Value.Null }
     ensures written { OnOk result (string_bytes into.new ≡ string_bytes into.old ++ value_text epoch.now value.now) }

@@ -171,8 +171,8 @@ fn fitting_literal<B: Drop>(
 
 /// The literal that a text is, as it is written, of a type whose courses are steady, or are not.
 ///
-/// The faults in order: `NotText` where the text is no literal, `Limit` where it has more than 100,000 instants, and
-/// `TooLarge` where a value or an instant does not fit.
+/// The faults in order: `NotText` where the text is no literal, `Limit` where it has more than
+/// 100,000 instants, and `TooLarge` where a value or an instant does not fit.
 fn read_written<T: WrittenValue>(
     alloc: Global,
     text: &str,
@@ -196,7 +196,8 @@ fn read_written<T: WrittenValue>(
     }
 }
 
-/// Whether a literal has step interpolation: where it says so, and where the courses of its type are steady.
+/// Whether a literal has step interpolation: where it says so, and where the courses of its type
+/// are steady.
 fn is_step(steady: bool, says_step: bool) -> bool
     ensures value { result ≡ is_step_in steady says_step }
     ensures moves { result ≡ false → steady ≡ false }
@@ -219,12 +220,14 @@ fn literal_slices<T: WrittenValue, C: Course<Base = T::Base> + Drop>(
     all_slices::<T, C>(alloc, step, sequences.into_vec())
 }
 
-/// The temporal value that a literal stands for. Instants count from midnight UTC of the epoch's day.
+/// The temporal value that a literal stands for. Instants count from midnight UTC of the epoch's
+/// day.
 ///
-/// The faults in order: `NotText` where the text is no literal, `Limit` where it has more than 100,000 instants,
-/// `TooLarge` where a value or an instant does not fit, and `Unsound` where the type does not have a value, the instants
-/// of a sequence do not rise, a sequence of one instant leaves an end out, one with step interpolation that leaves its
-/// upper end out does not keep its value until there, or two sequences are out of order or share an instant.
+/// The faults in order: `NotText` where the text is no literal, `Limit` where it has more than
+/// 100,000 instants, `TooLarge` where a value or an instant does not fit, and `Unsound` where the
+/// type does not have a value, the instants of a sequence do not rise, a sequence of one instant
+/// leaves an end out, one with step interpolation that leaves its upper end out does not keep its
+/// value until there, or two sequences are out of order or share an instant.
 pub fn read_moving<T: WrittenValue, C: Course<Base = T::Base> + Drop>(
     alloc: Global,
     text: &str,

@@ -45,7 +45,8 @@ short_front n xs short = elim (cases_lt (length xs) (n + 1)) [
   | inr more ↦ let cut = length-take-le (n + 1) xs more in absurd (omega arith)
 ]
 
--- what the front of a file says, the file says: one that is too long is refused whatever stands behind the limit
+-- what the front of a file says, the file says: one that is too long is refused whatever stands
+-- behind the limit
 pub table_front : (columns : List Column) (day : ℤ) (room : ℕ) (whole : List ℕ) (rows : List (List Value)) → IsTable columns day room (take (file_limit + 1) whole) rows → IsTable columns day room whole rows
 table_front columns day room whole rows table = subst (λ (bytes : List ℕ). IsTable columns day room bytes rows) (short_front file_limit whole table.short) table
 

@@ -13,7 +13,7 @@ use Rattle.mob_load.specs.Loads.{Loaded, LoadsLiteral, LoadsTo}
 use Rattle.mob_load.specs.declared.program.LoadEnd.{LoadEnd}
 use Rattle.mob_load.specs.declared.program.LoadEnd.TheVariants.{Refused, NoMemory}
 
--- no text is refused for want of memory
+-- no text is refused for a failed allocation
 never_memory : (f : ReadText) (k : Kind) → IsKindOfFault f k → k ≢ kind.NoMemory
 never_memory text.NotText k is e = absurd cc
 never_memory text.Limit k is e = absurd cc

@@ -6,8 +6,9 @@ use Rattle.mob_typed.specs.Statements.{StatementOut, nothing, new_table, new_ind
 use Rattle.mob_load.specs.declared.check.Check.{Check}
 use Rattle.mob_load.specs.declared.check.Check.TheVariants.{Literal, Table, Room, File}
 
--- What is looked at: a literal; a new table of these columns; whether a table takes one more row, for a row of an INSERT
--- (the table, the statement, and the place of the row's bracket); a file whose rows go into a table.
+-- What is looked at: a literal; a new table of these columns; whether a table takes one more row,
+-- for a row of an INSERT (the table, the statement, and the place of the row's bracket); a file
+-- whose rows go into a table.
 pub data CheckParts : Type 0 where
   literal : ConstText → CheckParts
   table : ColumnList → CheckParts
@@ -20,7 +21,8 @@ check_seen (Table cs) = table cs.now
 check_seen (Room t n p) = room t n p
 check_seen (File t name) = file t name.now
 
--- what is looked at beside the literals, and where it stands: the number of its statement, and its place there
+-- what is looked at beside the literals, and where it stands: the number of its statement, and its
+-- place there
 pub record Checkpoint : Type 0 where
   pub statement : ℕ
   pub place : ℕ
@@ -33,7 +35,8 @@ checkpoint n p check = record { statement = n; place = p; check = check }
 abbrev pub bracket : ℕ → ℕ → ℕ → Checkpoint
 bracket t n p = checkpoint n p (room t n p)
 
--- the checkpoints of a statement of this number: a new table, the brackets of an INSERT, the file of a COPY
+-- the checkpoints of a statement of this number: a new table, the brackets of an INSERT, the file
+-- of a COPY
 abbrev pub checkpoints_of : ℕ → StatementOut → List Checkpoint
 checkpoints_of n nothing = []
 checkpoints_of n (new_table t name columns) = checkpoint n 0 (table columns) ∷ []
@@ -63,7 +66,8 @@ abbrev pub in_order : List Checkpoint → List ConstText → List CheckParts
 in_order [] cs = map literal cs
 in_order (m ∷ ms) cs = checks_up_to (in_order ms) m cs
 
--- What is looked at before a script runs, in written order: statement by statement the new tables, the files, the brackets
--- of rows and the literals, each literal behind the bracket that stands before it.
+-- What is looked at before a script runs, in written order: statement by statement the new tables,
+-- the files, the brackets of rows and the literals, each literal behind the bracket that stands
+-- before it.
 abbrev pub checks_of : ScriptOut → List CheckParts
 checks_of out = in_order (checkpoints_from 1 out.statements) out.consts

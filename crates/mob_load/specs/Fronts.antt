@@ -12,7 +12,8 @@ IsFront name files bytes = (whole : List ℕ) × (file_of name files ≡ Some wh
 abbrev pub IsLeftOf : List ℕ → Contents → Option (List ℕ) → Type 0
 IsLeftOf name files left = (whole : List ℕ) × (file_of name files ≡ Some whole) × ReadsPart file_limit (Some whole) left
 
--- These are the files of a script that copies the files of these names: what the files tell; or any, where it copies none.
+-- These are the files of a script that copies the files of these names: what the files tell; or
+-- any, where it copies none.
 abbrev pub AreFilesFor : List (List ℕ) → Option Contents → Contents → Type 0
 AreFilesFor names told files = (told ≡ Some files) ⊎ (names ≡ [])
 
@@ -29,7 +30,8 @@ AsksForAll names (Some old) new = new ≡ Some (old ++ names)
 abbrev pub AsksForSome : List (List ℕ) → Option (List (List ℕ)) → Option (List (List ℕ)) → Type 0
 AsksForSome names old new = (k : ℕ) × (k ≤ length names) × AsksForAll (take k names) old new
 
--- This is the name of this number, counted from 0, and told names grow by the first `count` of the names.
+-- This is the name of this number, counted from 0, and told names grow by the first `count` of the
+-- names.
 pub record IsAskedLast (names : List (List ℕ)) (number count : ℕ) (old new : Option (List (List ℕ))) (name : List ℕ) : Type 0 where
   pub there : slice_get names number ≡ Some name
   pub asked : AsksForAll (take count names) old new

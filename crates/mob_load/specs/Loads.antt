@@ -22,8 +22,8 @@ use Rattle.mob_load.specs.declared.program.Program.{Program}
 use Rattle.mob_load.specs.declared.program.LoadEnd.{LoadEnd}
 use Rattle.mob_load.specs.declared.program.LoadEnd.TheVariants.{Refused, TableRefused, ReadFault, NoMemory as OutOfMemory}
 
--- what was read so far: the values of the literals, the columns of the tables and how many rows were put into each, and the
--- rows of the files
+-- what was read so far: the values of the literals, the columns of the tables and how many rows
+-- were put into each, and the rows of the files
 pub record Loaded : Type 0 where
   pub values : List Value
   pub tables : List ColumnList
@@ -33,7 +33,8 @@ pub record Loaded : Type 0 where
 abbrev pub nothing_loaded : Loaded
 nothing_loaded = record { values = []; tables = []; rows = []; files = [] }
 
--- why loading stops: a refusal in the script; one in a file of this name, with its record and its field; a file that is not there
+-- why loading stops: a refusal in the script; one in a file of this name, with its record and its
+-- field; a file that is not there
 pub data Halt : Type 0 where
   refused : Refusal → Halt
   table_refused : List ℕ → Kind → ℕ → ℕ → Halt
@@ -73,7 +74,8 @@ abbrev pub LoadsLiteral : ℤ → ConstText → Loaded → Result Loaded Halt �
 LoadsLiteral day c l (Ok m) = (v : Value) × IsConstant day c v × (m ≡ with_value l v)
 LoadsLiteral day c l (Err h) = (e : Refusal) × ConstantFails day c e × (h ≡ refused e)
 
--- a table takes one row more as long as it has fewer than the most; else the row is refused at its bracket
+-- a table takes one row more as long as it has fewer than the most; else the row is refused at its
+-- bracket
 abbrev pub one_row : ℕ → ℕ → ℕ → Loaded → Result Loaded Halt
 one_row t n p l = if nat_lt (loaded_row_count l t) greatest_rows then Ok (with_rows l t 1) else Err (refused (record { kind = kind.Limit; statement = n; place = p }))
 
@@ -119,7 +121,8 @@ names_of _ = []
 abbrev pub names_in : List CheckParts → List (List ℕ)
 names_in cs = flat_map names_of cs
 
--- The file of this number, counted from 0, is reached: it has this name, the checks before its own all pass, and they ask for as many files.
+-- The file of this number, counted from 0, is reached: it has this name, the checks before its own
+-- all pass, and they ask for as many files.
 pub record Reaches (day : ℤ) (files : Contents) (checks : List CheckParts) (number : ℕ) (name : List ℕ) : Type 0 where
   pub first : List CheckParts
   pub target : ℕ
@@ -147,7 +150,8 @@ ReadsChecks day (c ∷ cs) l m = (k : Loaded) × ReadsCheck day c l k × ReadsCh
 abbrev pub loaded_of : Loading → Loaded
 loaded_of l = record { values = l.values; tables = map (λ t. t.now) l.tables.items; rows = l.rows.items; files = l.files }
 
--- the program answers as the definition says; a fault of the files and want of memory are told elsewhere
+-- the program answers as the definition says; a fault of the files and a failed allocation are told
+-- elsewhere
 abbrev pub LoadsTo : {A : Type 0} → Result A LoadEnd → Loaded → (Result Loaded Halt → Type 0) → Type 0
 LoadsTo (Ok x) after says = says (Ok after)
 LoadsTo (Err (Refused e)) after says = says (Err (refused e))
@@ -190,35 +194,37 @@ abbrev pub HasFaultCause : ℕ → ℕ → LoadEnd → Type 0
 HasFaultCause before now (ReadFault name) = Rose before now
 HasFaultCause before now _ = Unit {0}
 
--- A file of these names is refused, which was asked for last: of the file of one number, the checks before it pass, it has this refusal, and told
--- names grow by those before it and by it.
+-- A file of these names is refused, which was asked for last: of the file of one number, the checks
+-- before it pass, it has this refusal, and told names grow by those before it and by it.
 pub record StopsAtRefused (day : ℤ) (checks : List CheckParts) (names : List (List ℕ)) (told : Option Contents) (old new : Option (List (List ℕ))) (name : List ℕ) (kind : Kind) (rec field : ℕ) : Type 0 where
   pub number : ℕ
   pub last : IsAskedLast names number (number + 1) old new name
   pub refused : OnFiles names told (λ m. RefusesFile day m checks number name kind rec field)
 
--- A file of these names could not be read: of the file of one number, the checks before it pass, and told names grow by those before it, and by it
--- where it could be opened.
+-- A file of these names could not be read: of the file of one number, the checks before it pass,
+-- and told names grow by those before it, and by it where it could be opened.
 pub record StopsAtUnread (day : ℤ) (checks : List CheckParts) (names : List (List ℕ)) (told : Option Contents) (old new : Option (List (List ℕ))) (name : List ℕ) : Type 0 where
   pub number : ℕ
   pub last : IsAskedLast names number number old new name ⊎ IsAskedLast names number (number + 1) old new name
   pub reached : OnFiles names told (λ m. Reaches day m checks number name)
 
--- Why the checks stop, which ask for these names: at the first that is refused, or at a file that could not be read, before which all pass. Want of
--- memory is free.
+-- Why the checks stop, which ask for these names: at the first that is refused, or at a file that
+-- could not be read, before which all pass. A failed allocation is free.
 abbrev pub ChecksStopBy : ℤ → List CheckParts → List (List ℕ) → Option Contents → Option (List (List ℕ)) → Option (List (List ℕ)) → LoadEnd → Type 0
 ChecksStopBy day checks names told old new (Refused e) = OnFiles names told (λ m. Loads day m checks nothing_loaded (Err (refused e)))
 ChecksStopBy day checks names told old new (TableRefused name k rec field) = StopsAtRefused day checks names told old new name k rec field
 ChecksStopBy day checks names told old new (ReadFault name) = StopsAtUnread day checks names told old new name
 ChecksStopBy day checks names told old new OutOfMemory = Unit {0}
 
--- What a script reads before it runs: the values of its literals and the rows of its files, each in written order; or why it
--- is refused first, in the script or in a file, or the first file that is not there.
+-- What a script reads before it runs: the values of its literals and the rows of its files, each in
+-- written order; or why it is refused first, in the script or in a file, or the first file that is
+-- not there.
 abbrev pub LoadsScript : ℤ → Contents → ScriptOut → Result Program Halt → Type 0
 LoadsScript day files out (Ok p) = (l : Loaded) × Loads day files (checks_of out) nothing_loaded (Ok l) × (p ≡ record { values = l.values; files = l.files })
 LoadsScript day files out (Err h) = Loads day files (checks_of out) nothing_loaded (Err h)
 
--- What a script has read, whatever its files: the values of its literals and, for each COPY, the rows of some bytes.
+-- What a script has read, whatever its files: the values of its literals and, for each COPY, the
+-- rows of some bytes.
 abbrev pub ReadsScript : ℤ → ScriptOut → Program → Type 0
 ReadsScript day out p = (l : Loaded) × ReadsChecks day (checks_of out) nothing_loaded l × (p ≡ record { values = l.values; files = l.files })
 

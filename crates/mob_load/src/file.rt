@@ -19,8 +19,8 @@ pub enum FileEnd {
     NoMemory,
 }
 
-/// The bytes of the file with this name, up to one byte past 16,777,216, and however it ends, no more are taken of it. `NotOpened` and
-/// `Fault` come only where the files failed.
+/// The bytes of the file with this name, up to one byte past 16,777,216, and however it ends, no
+/// more are taken of it. `NotOpened` and `Fault` come only where the files failed.
 pub fn read_file<F: Files>(alloc: Global, files: &mut F, name: &str) -> Result<Vec<u8>, FileEnd>
     ensures bytes { IfOk result (λ v. IfSome (F.files files.old) (λ m. IsFront name.now m v.items)) }
     ensures part { (result ≡ Err NotOpened) ⊎ IfSome (F.files files.old) (λ m. IsLeftOf name.now m (F.left files.new)) }

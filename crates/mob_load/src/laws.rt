@@ -7,7 +7,8 @@ pub fn literals_are_looked_at()
     ensures once { LooksAtLiterals }
 {}
 
-/// What a script reads of files that are told, it has read; so what holds of all that it reads, whatever its files, holds of that.
+/// What a script reads of files that are told, it has read; so what holds of all that it reads,
+/// whatever its files, holds of that.
 pub fn loaded_is_read()
     ensures read { LoadedIsRead }
 {}

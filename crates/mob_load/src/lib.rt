@@ -1,4 +1,5 @@
-//! What a script reads before it runs: its literals and the files of its COPY statements, in written order.
+//! What a script reads before it runs: its literals and the files of its COPY statements, in
+//! written order.
 #![tactic(auto)]
 
 mod check;

@@ -15,7 +15,8 @@ fn stands_before(literal: &ConstText, statement: u32, place: u32) -> bool
     literal.statement < statement || (literal.statement == statement && literal.place < place)
 }
 
-// Puts the literals from number `put` on that stand before this place. Answers the number of the next one.
+// Puts the literals from number `put` on that stand before this place. Answers the number of the
+// next one.
 fn push_literals<'a>(
     done: &mut Vec<Check<'a>>,
     literals: &'a [ConstText],
@@ -37,8 +38,8 @@ fn push_literals<'a>(
     Ok(at)
 }
 
-// Puts the literals from number `put` on that stand before this place, and then the check of this place. Answers the number
-// of the next literal.
+// Puts the literals from number `put` on that stand before this place, and then the check of this
+// place. Answers the number of the next literal.
 fn push_checkpoint<'a>(
     done: &mut Vec<Check<'a>>,
     literals: &'a [ConstText],

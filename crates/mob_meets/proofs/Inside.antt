@@ -25,7 +25,8 @@ use Rattle.mob_stbox.specs.declared.area.Area.{Area}
 
 -- ---- edges on one side of a point
 
--- the turn by what a and b are from p: p below a and not below b, to the left and to the right of both
+-- the turn by what a and b are from p: p below a and not below b, to the left and to the right of
+-- both
 turn_left : (ax ay bx by px py : Ratio) → (bx -ℚ ax) *ℚ (py -ℚ ay) -ℚ (by -ℚ ay) *ℚ (px -ℚ ax) ≡ neg_ℚ ((bx -ℚ px) *ℚ (ay -ℚ py) +ℚ (py -ℚ by) *ℚ (ax -ℚ px))
 turn_left = clear6 _ (λ D a b c d e f z. simp cleared (omega (arith, linear)))
 

@@ -47,7 +47,8 @@ not_before_side = clear4 _ (λ D l p q d z a b. let a' = simp cleared at a in le
 not_past_side : (h p q d : Ratio) → p ≤ℚ h → (q -ℚ p) ≤ℚ d → q ≤ℚ (h +ℚ d)
 not_past_side = clear4 _ (λ D h p q d z a b. let a' = simp cleared at a in let b' = simp cleared at b in simp cleared (omega (arith, linear)))
 
--- the difference by one coordinate is at most d and_parts ways, where its square and another not below nil are at most that of d
+-- the difference by one coordinate is at most d and_parts ways, where its square and another not
+-- below nil are at most that of d
 pub record AreClose (p q d : Ratio) : Type 0 where
   pub forward : (p -ℚ q) ≤ℚ d
   pub back : (q -ℚ p) ≤ℚ d

@@ -18,8 +18,9 @@ Covers place b = (t : Ratio) → IfSome (place t) (λ p. InBox b t p)
 abbrev pub box_between : PointOf → PointOf → BoxOf
 box_between p q = record { space = Some (area_between p q); time = None }
 
--- The box by which a value is looked for: its own, if it has one; that of a point is the point itself, and that of a polygon the
--- rectangle between its least and its greatest corner, both at all times. Other values have none.
+-- The box by which a value is looked for: its own, if it has one; that of a point is the point
+-- itself, and that of a polygon the rectangle between its least and its greatest corner, both at
+-- all times. Other values have none.
 abbrev pub IsLookedForBy : Value → BoxOf → Type 0
 IsLookedForBy (Point p) b = b ≡ box_between p p
 IsLookedForBy (Polygon rings) b = (are_sound rings ≡ true) × (least : PointOf) × (greatest : PointOf) × AreCorners (all_points rings) least greatest × (b ≡ box_between least greatest)

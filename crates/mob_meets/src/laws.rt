@@ -14,14 +14,15 @@ ghost use Rattle.mob_near.specs.Distances.{are_within};
 ghost use Rattle.mob_value.specs.declared.value.Value.{Value};
 ghost use Rattle.mob_meets.specs.Covers.{Covers, box_between, IsLookedForBy};
 
-/// Where two points are within a distance, each lies in the other's area with its sides moved outward by that distance.
+/// Where two points are within a distance, each lies in the other's area with its sides moved
+/// outward by that distance.
 pub fn near_points_share_areas()
     ensures second { (a : AreaOf) (p q : PointOf) (d : Ratio) → are_within d p q ≡ true → InArea a p → InArea (moved_area a d) q }
     ensures first { (a : AreaOf) (p q : PointOf) (d : Ratio) → are_within d p q ≡ true → InArea a q → InArea (moved_area a d) p }
 {}
 
-/// Where two moving points are within a distance at some instant, a box over one of them, with its sides moved outward by that
-/// distance, is there and meets each box over the other.
+/// Where two moving points are within a distance at some instant, a box over one of them, with its
+/// sides moved outward by that distance, is there and meets each box over the other.
 pub fn near_boxes_meet()
     ensures second { (one other : Ratio → Option PointOf) (c : BoxOf) (d : Ratio) → Covers other c → is_some c.space ≡ true → IsSometime (λ p q. are_within d p q ≡ true) one other
         → (wide : BoxOf) × (expanded c d ≡ Some wide) × ((b : BoxOf) → Covers one b → is_some b.space ≡ true → BoxesMeet b wide) }
@@ -34,7 +35,8 @@ pub fn inside_is_in()
     ensures area { (a : AreaOf) (rings : List (List PointOf)) (p : PointOf) → has_open rings ≡ false → All (InArea a) (all_points rings) → inside rings p ≡ true → InArea a p }
 {}
 
-/// Where a moving point is inside closed rings at some instant, each box over it meets the rectangle between their corners.
+/// Where a moving point is inside closed rings at some instant, each box over it meets the
+/// rectangle between their corners.
 pub fn entered_boxes_meet()
     ensures meet { (place : Ratio → Option PointOf) (b : BoxOf) (rings : List (List PointOf)) (least greatest : PointOf) → Covers place b → is_some b.space ≡ true → has_open rings ≡ false
         → AreCorners (all_points rings) least greatest → (t : Ratio) (p : PointOf) → place t ≡ Some p → inside rings p ≡ true → BoxesMeet b (box_between least greatest) }

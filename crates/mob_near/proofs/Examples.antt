@@ -81,7 +81,8 @@ level : piece_reaches (n 9) beside ≡ true
 unfolding over gcd gcd_steps in_lowest_terms whole ◌+ℚ◌ neg_ℚ ◌*ℚ◌ inverse turned before same line_at line_value absolute
 level = refl
 
--- from 0 to 10 a point passes another one at (5, 2): it is nearest at 5, and its formula has the quotients
+-- from 0 to 10 a point passes another one at (5, 2): it is nearest at 5, and its formula has the
+-- quotients
 abbrev past : PointPiece
 past = record {
   span = record { lower = n 0; upper = n 10; lower_inc = true; upper_inc = true };

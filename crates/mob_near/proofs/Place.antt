@@ -1,4 +1,5 @@
--- The square of the length of a difference that goes evenly is a convex quadratic of the part of the time that has gone.
+-- The square of the length of a difference that goes evenly is a convex quadratic of the part of
+-- the time that has gone.
 use Rattle.std.specs.Prelude.{◌≡◌, ◌↔◌, ◌&&◌, Bool, true, false, [], ◌∷◌, pos, refl}
 use Rattle.std.proofs.Common.{ap, sym, ◌∙◌, subst}
 use Rattle.mob_ratio.specs.Ratio.{Ratio, ◌+ℚ◌, ◌-ℚ◌, ◌*ℚ◌, ◌/ℚ◌, ◌<ℚ◌, ◌≤ℚ◌}

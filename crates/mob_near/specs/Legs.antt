@@ -1,4 +1,5 @@
--- How the difference of two points goes on a piece of time, straight from (x0, y0) to (x1, y1), and what follows for its length.
+-- How the difference of two points goes on a piece of time, straight from (x0, y0) to (x1, y1), and
+-- what follows for its length.
 use Rattle.std.specs.Prelude.{Bool, true, false, cond, ◌&&◌, List, [], ◌∷◌, ◌++◌, Option, Some, None}
 use Rattle.mob_ratio.specs.Ratio.{Ratio, ◌+ℚ◌, ◌-ℚ◌, ◌*ℚ◌, ◌/ℚ◌}
 use Rattle.mob_ratio.specs.Order.{before, up_to, same}
@@ -41,8 +42,9 @@ squares_of g = record { first = length_squared g.x0 g.y0; last = length_squared 
 abbrev pub squares_parts : Leg → List Ratio
 squares_parts g = square_parts g.x0 g.y0 ++ square_parts g.x1 g.y1
 
--- the numbers by which the point of a way that is nearest to (0, 0) is found, from its start and how far it goes on each axis: the square of the
--- way's length, the product of start and way, that of end and way, and that of the start and the way turned by a right angle
+-- the numbers by which the point of a way that is nearest to (0, 0) is found, from its start and
+-- how far it goes on each axis: the square of the way's length, the product of start and way, that
+-- of end and way, and that of the start and the way turned by a right angle
 abbrev pub foot_by : Ratio → Ratio → Ratio → Ratio → Foot
 foot_by x0 y0 ex ey = record {
   length = ex *ℚ ex +ℚ ey *ℚ ey;
@@ -65,7 +67,8 @@ foot_by_parts x0 y0 ex ey = dot_parts ex ex ey ey ++ (dot_parts x0 ex y0 ey ++ (
 abbrev pub foot_of : Leg → Foot
 foot_of g = foot_by g.x0 g.y0 (g.x1 -ℚ g.x0) (g.y1 -ℚ g.y0)
 
--- whether that point lies strictly between the ends: at the start the way comes nearer, at the end it goes away
+-- whether that point lies strictly between the ends: at the start the way comes nearer, at the end
+-- it goes away
 abbrev pub is_on_the_way : Foot → Bool
 is_on_the_way f = before f.along nil && before nil f.beyond
 
@@ -83,7 +86,8 @@ foot_square f = cond (is_on_the_way f) (Some (f.across *ℚ (f.across /ℚ f.len
 abbrev pub square_quotients : Foot → List Ratio
 square_quotients f = cond (is_on_the_way f) ((f.across /ℚ f.length) ∷ (f.across *ℚ (f.across /ℚ f.length)) ∷ []) []
 
--- whether the square of the length is at most D somewhere on a way that takes longer than an instant
+-- whether the square of the length is at most D somewhere on a way that takes longer than an
+-- instant
 abbrev pub leg_reaches : Ratio → Bool → Bool → Leg → Bool
 leg_reaches D lower_inc upper_inc g = reaches_by D (squares_of g).first (squares_of g).last lower_inc upper_inc (foot_reaches D (foot_of g))
 

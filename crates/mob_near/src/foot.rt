@@ -75,7 +75,8 @@ fn absolute(number: &Frac) -> Frac
     *number
 }
 
-// Whether the nearest point lies between the ends, and the square of its length is at most `square`.
+// Whether the nearest point lies between the ends, and the square of its length is at most
+// `square`.
 fn foot_reaches(foot: &Foot, square: &Frac) -> Result<bool, Overflow>
     requires sum { foot.now.beyond ≡ foot.now.length +ℚ foot.now.along }
     ensures value { IsFormula (reach_quotients square.now foot.now) (foot_reaches square.now foot.now) result }
@@ -103,7 +104,8 @@ fn foot_square(foot: &Foot) -> Result<Option<Frac>, Overflow>
     Ok(Some(foot.across.mul(&height)?))
 }
 
-/// Whether the nearest point of a leg lies strictly between its ends, and the square of its length is at most `square`.
+/// Whether the nearest point of a leg lies strictly between its ends, and the square of its length
+/// is at most `square`.
 pub fn reaches_between(leg: &Leg, square: &Frac) -> Result<bool, Overflow>
     ensures value { IsFormula (within_parts square.now leg.now.x0 leg.now.y0 leg.now.x1 leg.now.y1) (foot_reaches square.now (foot_of leg.now)) result }
 {

@@ -103,6 +103,7 @@ pub fn nothing() -> Last {
 fn is_found(found: &Found, slice: &Slice<PlaneLine>, t: &Frac) -> bool
     ensures value { result ≡ true → (found.now.point ≡ slice_value plane_value_of slice.now t.now) × AllFit (slice_parts plane_parts_of slice.now t.now) }
 {
+    // A body that reads a field knows the invariant of `found`.
     let _point = &found.point;
     if !found.at.is_same(t) {
         return false;
@@ -204,6 +205,7 @@ fn apart_again(apart: &Option<Apart>, left: &Point, right: &Point) -> Option<(Fr
 {
     match apart {
         Some(last) => {
+            // A body that reads a field knows the invariant of `last`.
             let _x = &last.x;
             if is_apart(last, left, right) {
                 return Some((last.x, last.y));
@@ -238,7 +240,8 @@ pub fn difference(
     difference_of(left, right)
 }
 
-/// How far the first point is to the east and to the north of the second, at the end of a piece, where it is kept.
+/// How far the first point is to the east and to the north of the second, at the end of a piece,
+/// where it is kept.
 pub fn difference_kept(
     left: &Point,
     right: &Point,
@@ -273,6 +276,7 @@ fn squared_again(squared: &Option<Squared>, x: &Frac, y: &Frac) -> Option<Frac>
 {
     match squared {
         Some(last) => {
+            // A body that reads a field knows the invariant of `last`.
             let _square = &last.square;
             if is_squared(last, x, y) {
                 return Some(last.square);

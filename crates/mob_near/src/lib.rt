@@ -1,5 +1,5 @@
-//! How near two moving points come, excluded ends included: whether they are ever within a distance, and the square of their nearest
-//! approach.
+//! How near two moving points come, excluded ends included: whether they are ever within a
+//! distance, and the square of their nearest approach.
 #![tactic(auto)]
 
 mod foot;

@@ -54,8 +54,8 @@ fn passed_where(shared: bool) -> Result<Option<bool>, Passed>
     Ok(None)
 }
 
-// Whether the square of the distance is at most `square` at some common instant. Every piece is walked, also behind one that has settled the
-// answer: each has its formulas.
+// Whether the square of the distance is at most `square` at some common instant. Every piece is
+// walked, also behind one that has settled the answer: each has its formulas.
 fn ever_reaches(
     alloc: Global,
     a: Operand<'_, PlaneLine>,
@@ -79,13 +79,15 @@ fn ever_reaches(
     Ok(found)
 }
 
-/// Whether the two points are within the distance `d` of each other at some instant at which both are somewhere (MobilityDB's `eDwithin`).
-/// Only actual instants count: an end that is left out does not. For a distance below 0 the answer is false. None exactly where there is no such
+/// Whether the two points are within the distance `d` of each other at some instant at which both
+/// are somewhere (MobilityDB's `eDwithin`). Only actual instants count: an end that is left out
+/// does not. For a distance below 0 the answer is false. None exactly where there is no such
 /// instant. It takes no memory.
 ///
-/// `Passed` names the formula of the first entry that has a part that does not fit: on each piece that the two share F6, `d·d`, then F1, the
-/// points at its ends, F2, their difference there by coordinate, F6, the squares of its length, and F5, the nearest point between, also on
-/// pieces behind one that has settled the answer. A distance below 0 has no formula.
+/// `Passed` names the formula of the first entry that has a part that does not fit: on each piece
+/// that the two share F6, `d·d`, then F1, the points at its ends, F2, their difference there by
+/// coordinate, F6, the squares of its length, and F5, the nearest point between, also on pieces
+/// behind one that has settled the answer. A distance below 0 has no formula.
 pub fn ever_within(
     alloc: Global,
     a: Operand<'_, PlaneLine>,
@@ -115,9 +117,10 @@ fn nearest_of(found: Option<Frac>, here: Frac) -> Frac
     }
 }
 
-/// The greatest lower bound of the square of the distance of the two points over all instants at which both are somewhere: the square of
-/// their nearest approach, also where that is only approached, at an end that is left out. None exactly where there is no such instant. It
-/// takes no memory. (MobilityDB's `nearestApproachDistance` has the distance, which may be irrational.)
+/// The greatest lower bound of the square of the distance of the two points over all instants at
+/// which both are somewhere: the square of their nearest approach, also where that is only
+/// approached, at an end that is left out. None exactly where there is no such instant. It takes no
+/// memory. (MobilityDB's `nearestApproachDistance` has the distance, which may be irrational.)
 ///
 /// `Passed` is that of `ever_within`, without the square of a distance.
 pub fn approach_squared(

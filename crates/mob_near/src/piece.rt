@@ -17,7 +17,8 @@ use mob_slice::{Formula, Passed, Piece, PlaneLine};
 use mob_span::Span;
 use std::alloc::Global;
 
-// Whether the bound is reached at some instant of a span longer than one, by the squares at its ends and whether the nearest point reaches it.
+// Whether the bound is reached at some instant of a span longer than one, by the squares at its
+// ends and whether the nearest point reaches it.
 fn reaches_by(span: &Span, squares: &Squares, square: &Frac, between: bool) -> bool
     ensures value { result ≡ reaches_by square.now squares.now.first squares.now.last span.now.lower_inc span.now.upper_inc between }
 {
@@ -33,8 +34,8 @@ fn reaches_by(span: &Span, squares: &Squares, square: &Frac, between: bool) -> b
 
 /// Whether the square of the distance is at most `square` at some instant of the piece.
 ///
-/// `Passed` names the formula of the first entry that does not fit: F1 at the ends of the piece, F2, the difference there, F6, the squares
-/// there, and F5, the nearest point between.
+/// `Passed` names the formula of the first entry that does not fit: F1 at the ends of the piece,
+/// F2, the difference there, F6, the squares there, and F5, the nearest point between.
 pub fn piece_reaches(
     alloc: Global,
     piece: &Piece<'_, PlaneLine, PlaneLine>,
@@ -64,7 +65,8 @@ pub fn piece_reaches(
     }
 }
 
-// The greatest lower bound of the squares: that of the nearest point, else the smaller one at an end.
+// The greatest lower bound of the squares: that of the nearest point, else the smaller one at an
+// end.
 fn infimum_by(squares: &Squares, between: Option<Frac>) -> Frac
     ensures value { result ≡ infimum_by squares.now.first squares.now.last between }
 {

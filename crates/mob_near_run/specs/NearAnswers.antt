@@ -28,7 +28,7 @@ near_names = codes "id" ∷ codes "approach" ∷ []
 abbrev pub NearWrites : NearSettings → List (List Value) → List ℕ → Type 0
 NearWrites settings rows text = (near : List (ℕ × Ratio)) × AreNearest (trips_in rows) (target_operand settings.to) settings.k near × (text ≡ answer_text near_names (map (near_fields settings.epoch (map id_of rows)) near))
 
--- this is the first formula of the row's nearest approach with a part that does not fit, and fewer than K rows have an approach below the
--- gap of its box
+-- this is the first formula of the row's nearest approach with a part that does not fit, and fewer
+-- than K rows have an approach below the gap of its box
 abbrev pub IsRowPassed : NearSettings → List (List Value) → ℕ → Formula → Type 0
 IsRowPassed settings rows row formula = IsPassed (trips_in rows) (target_operand settings.to) settings.k row formula

@@ -13,8 +13,8 @@ use Rattle.mob_near_run.specs.CommandLine.{NearSays}
 use Rattle.mob_near_run.specs.NearAnswers.{NearWrites, IsRowPassed}
 use Rattle.mob_near_run.specs.declared.settings.NearSettings.{NearSettings}
 
--- It writes the nearest rows. A row whose approach has a part that does not fit may stop it; where there is no such row, it has an answer.
--- No row passes a limit.
+-- It writes the nearest rows. A row whose approach has a part that does not fit may stop it; where
+-- there is no such row, it has an answer. No row passes a limit.
 abbrev pub near_program : ProgramOf NearSettings
 near_program = record {
   says = NearSays;

@@ -1,4 +1,5 @@
-//! The program mobnear as a library: the K trips of a table that come nearest to a point or a moving point.
+//! The program mobnear as a library: the K trips of a table that come nearest to a point or a
+//! moving point.
 #![tactic(auto)]
 
 mod answer;

@@ -72,8 +72,9 @@ fn target(alloc: Global, text: &str, epoch: &Epoch) -> Result<Option<Target>, Al
     fixed_target(alloc, text, epoch)
 }
 
-/// The settings that the arguments say, the first of which is the program's name: `--k K` with a whole number from 1 to 1000, `--to TEXT` with
-/// a point or a moving point, and `--epoch DATE`. `--k` and `--to` are required, and each option may be given once. `--epoch` applies to TEXT,
+/// The settings that the arguments say, the first of which is the program's name: `--k K` with a
+/// whole number from 1 to 1000, `--to TEXT` with a point or a moving point, and `--epoch DATE`.
+/// `--k` and `--to` are required, and each option may be given once. `--epoch` applies to TEXT,
 /// wherever it is given.
 ///
 /// None exactly where the arguments are not taken.

@@ -22,8 +22,9 @@ pub fn tell_near<E: Sink>(notes: &mut E, ending: &Ending)
     tell(notes, USAGE, ending);
 }
 
-/// One run of mobnear, by the arguments of its command line and its streams: it reads the table from `table`, writes the nearest rows to
-/// `out`, and after every status but 0 puts one line into `notes`. It returns the status.
+/// One run of mobnear, by the arguments of its command line and its streams: it reads the table
+/// from `table`, writes the nearest rows to `out`, and after every status but 0 puts one line into
+/// `notes`. It returns the status.
 ///
 /// | status | when |
 /// |---|---|
@@ -33,7 +34,7 @@ pub fn tell_near<E: Sink>(notes: &mut E, ending: &Ending)
 /// | 4 | `out` failed, and took a part of the text |
 /// | 5 | out of memory |
 /// | 6 | the table is refused |
-/// | 8 | a part of a formula of a row's nearest approach does not fit, and fewer than K rows have an approach below its gap |
+/// | 8 | a part of a row's formula does not fit, and fewer than K rows approach below its gap |
 pub fn run_near<S: Source, K: Sink, E: Sink>(
     alloc: Global,
     words: &[String],
@@ -41,7 +42,8 @@ pub fn run_near<S: Source, K: Sink, E: Sink>(
     out: &mut K,
     notes: &mut E,
 ) -> u8
-    // `IsTripsRun` has a line for each status and each other promise, by what was seen of the run and of its note.
+    // `IsTripsRun` has a line for each status and each other promise, by what was seen of the run
+    // and of its note.
     ensures promises { IsTripsRun near_program near_usage result
         (trips_seen (map string_bytes words.now) (stream_seen S.left S.faults table.old table.new) (stream_seen K.held K.faults out.old out.new))
         (λ line. Puts line (E.held notes.old) (E.held notes.new) (E.faults notes.old) (E.faults notes.new)) }

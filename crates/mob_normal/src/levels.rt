@@ -11,8 +11,9 @@ use mob_frac::Frac;
 use mob_slice::{Line, Moving, Slice, Steady};
 use std::alloc::{AllocError, Global};
 
-/// The same function as a temporal number that may change evenly: at every instant it has the same value, or none. No
-/// number is computed, so none can be too large; memory is the one refusal.
+/// A temporal number that changes by steps, as one that may change evenly: at every instant it has
+/// the same value, or none. No number is computed, so none can be too large; a failed allocation is
+/// the one error.
 pub fn widen(alloc: Global, a: &Moving<Steady<Frac>>) -> Result<Moving<Line>, AllocError>
     ensures same { IfOk result (λ b. (t : Ratio) → value_at line_value_of b t ≡ value_at steady_value a.now t) }
     ensures level { IfOk result (λ b. b ≡ map level_line a.now) }

@@ -131,7 +131,8 @@ value_after n (c ∷ cs) each h = elim (either (is_figure c) (list_any is_figure
 pub figure_value : (ds : Text) → AreFigures ds → list_any is_figure ds ≡ true → 0 < digits_value 10 ds
 figure_value ds each h = value_after 0 ds each h
 
--- a figure in digits and what stands behind them: the digits have a value above 0, or it stands behind
+-- a figure in digits and what stands behind them: the digits have a value above 0, or it stands
+-- behind
 pub digits_figure : (text rest : Text) (f : Figures) → digits text f → has_figure (text ++ rest) ≡ true → (0 < f.value) ⊎ (has_figure rest ≡ true)
 digits_figure text rest f d h =
     let ds = d.meant in

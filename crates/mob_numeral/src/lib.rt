@@ -1,4 +1,5 @@
-//! Numbers and their texts, each read exactly and printed, and the parts that the readers of all texts share.
+//! Numbers and their texts, each read exactly and printed, and the parts that the readers of all
+//! texts share.
 #![tactic(auto)]
 
 mod fault;

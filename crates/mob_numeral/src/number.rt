@@ -152,8 +152,9 @@ fn numeral_of(bytes: &[u8]) -> Option<Numeral>
 ///
 /// A number is an optional sign, digits with at most one point, and perhaps an exponent from -18 to
 /// 18; or an optional sign, digits, `/` and digits that are not all 0. Each run of digits, the two
-/// sides of a point together, has at most 36. Blanks may stand at both ends. Any other text is `NotText`, and `TooLarge` a number
-/// whose reduced fraction has a part of more than 62 bits. It takes no memory.
+/// sides of a point together, has at most 36. Blanks may stand at both ends. Any other text is
+/// `NotText`, and `TooLarge` a number whose reduced fraction has a part of more than 62 bits. It
+/// takes no memory.
 pub fn read_number(text: &str) -> Result<Frac, ReadText>
     ensures reading { Lit numbers text.now result }
     ensures memory { result ≢ Err NoMemory }
@@ -167,7 +168,8 @@ pub fn read_number(text: &str) -> Result<Frac, ReadText>
     }
 }
 
-/// The int that a text says: a number as `read_number` reads it, and `Unsound` where it is not whole.
+/// The int that a text says: a number as `read_number` reads it, and `Unsound` where it is not
+/// whole.
 pub fn read_whole(text: &str) -> Result<Frac, ReadText>
     ensures reading { Lit whole_numbers text.now result }
     ensures memory { result ≢ Err NoMemory }

@@ -1,4 +1,5 @@
--- A key over stored values of its types asks for all rows only where an expression has a fault or the box cannot be made wider.
+-- A key over stored values of its types asks for all rows only where an expression has a fault or
+-- the box cannot be made wider.
 use Rattle.std.proofs.Common.{◌≡◌, ◌≢◌, inl, inr, true, false, true≢false, List, [], ◌∷◌, Ok, refl, sym, subst, arith}
 use Rattle.std.specs.Prelude.{◌⊎◌, Bool, ◌&&◌, fold, Option, None, Some}
 use Rattle.mob_ratio.specs.Ratio.{Ratio}

@@ -1,4 +1,5 @@
--- Operators other than AND, OR, IS NULL and IS NOT NULL are NULL where an operand is NULL, whatever the types of the operands.
+-- Operators other than AND, OR, IS NULL and IS NOT NULL are NULL where an operand is NULL, whatever
+-- the types of the operands.
 use Rattle.std.proofs.Common.{◌≡◌, ◌∙◌, ℕ, Bool, true, false, true≢false, List, [], ◌∷◌, Option, Some, None, ◌⊎◌, inl, inr, refl, sym, subst}
 use Rattle.std.specs.Prelude.{cond, MatchOption}
 use Rattle.mob_ratio.specs.Ratio.{Ratio}

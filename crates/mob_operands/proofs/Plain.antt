@@ -102,8 +102,8 @@ module _ (c : Cmp) (wanted : Bool) where
 
 -- ---- operations that compute a value of two
 
--- What an operation makes of two values is an answer where it makes NULL only of a NULL, and of two values of the types one of the
--- result's type.
+-- What an operation makes of two values is an answer where it makes NULL only of a NULL, and of two
+-- values of the types one of the result's type.
 module _ (o : Op) (ty : SqlType) (f : Value → Value → Value) (due : (a b : Value) → HaveNull (a ∷ b ∷ []) → NullIsDue o ty (a ∷ b ∷ [])) (left : (b : Value) → f Null b ≡ Null) (right : (a : Value) → f a Null ≡ Null) where
   abbrev Made : Value → Value → Type 0
   Made a b = Answers o ty (λ a b v. v ≡ f a b) a b

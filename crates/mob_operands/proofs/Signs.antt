@@ -16,7 +16,8 @@ use Rattle.mob_catalog.specs.OwnTypes.{IsValueOf}
 use Rattle.mob_operands.specs.Rows.{AreNeverTogether, NullIsDue, IsAnswer}
 use Rattle.mob_operands.proofs.Together.{asked_type, asked_row, truth_pair_answers, text_pair_answers, point_pair_answers, int_pair_answers, line_pair_answers}
 
--- two types whose values are ordered over time: numbers and texts, of which one at least is temporal
+-- two types whose values are ordered over time: numbers and texts, of which one at least is
+-- temporal
 abbrev pub are_signed : SqlType → SqlType → Bool
 are_signed sql.TInt sql.TInt = true
 are_signed sql.TInt sql.Int = true

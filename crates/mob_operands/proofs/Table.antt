@@ -1,4 +1,5 @@
--- What is asked of each line of a table of operators is asked of the types that its line takes, one by one, by computing.
+-- What is asked of each line of a table of operators is asked of the types that its line takes, one
+-- by one, by computing.
 use Rattle.std.proofs.Common.{◌≡◌, ℕ, Bool, true, false, true≢false, List, [], ◌∷◌, Option, Some, None, refl, sym, ap, subst, ◌∙◌}
 use Rattle.std.specs.Prelude.{◌&&◌, ◌||◌, not}
 use Rattle.std.specs.List.{AllByRecursion, list_all}

@@ -41,7 +41,8 @@ common f g t h k = let x = there (f t) h in let y = there (g t) k in (t, x.0, y.
 pub level_there : (m : StepSlices Ratio) (t : Ratio) → is_some (step_function m t) ≡ true → is_some (line_function (map level_line m) t) ≡ true
 level_there m t h = ap is_some (level_at m (map level_line m) refl t) ∙ h
 
--- What a row gives on two functions has this type, and is NULL only where they have no common instant.
+-- What a row gives on two functions has this type, and is NULL only where they have no common
+-- instant.
 pub record IsRow {X Y : Type 0} (ty : SqlType) (row : OverTime X → OverTime Y → Value → Type 0) : Type 0 where
   pub own : (left : OverTime X) (right : OverTime Y) (v : Value) → row left right v → IsValueOf ty v
   pub null : (left : OverTime X) (right : OverTime Y) (v : Value) → row left right v → v ≡ Null → HaveCommon left right → ⊥

@@ -1,4 +1,5 @@
--- Sums, differences, products and opposites of whole numbers are whole, and so are the values of tints that are made of tints.
+-- Sums, differences, products and opposites of whole numbers are whole, and so are the values of
+-- tints that are made of tints.
 use Rattle.std.proofs.Common.{◌≡◌, ◌∙◌, ℕ, ℤ, ◌+ℤ◌, ◌*ℤ◌, neg_ℤ, nat_abs, Bool, true, false, [], ◌∷◌, Option, Some, None, refl, sym, ap, subst, arith}
 use Rattle.std.specs.Prelude.{nat_eq, cond}
 use Rattle.std.proofs.lemmas.Bool.{eqb-true}
@@ -77,7 +78,8 @@ ints_there (s ∷ m) h t x e = by (has s.span t) e (ints_there m h.1 t x)
 pub ints_of_one : (n : Ratio) → IsInt n → HasInts (λ t. Some n)
 ints_of_one n h t x e = subst IsInt (some_same n x e) h
 
--- ordered slices with whole numbers at all instants are those of a tint, since each slice has an instant
+-- ordered slices with whole numbers at all instants are those of a tint, since each slice has an
+-- instant
 ints_of : (m : StepSlices Ratio) → IsOrdered steady_limit steady_limit m → HasInts (step_function m) → AreInts m
 ints_of m o h = all_by_each (λ s. IsInt s.course.value) m (λ s c.
     let i = some_instant s.span (each_of_all (IsSound steady_limit steady_limit) m (all_sound steady_limit steady_limit m o) s c).some in

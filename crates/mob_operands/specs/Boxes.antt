@@ -19,7 +19,8 @@ use Rattle.mob_eval.specs.Keys.{KeyAsks}
 use Rattle.mob_meaning.specs.Scene.{Scene}
 use Rattle.mob_meaning.specs.Evaluation.{Fault, TreeEvaluatesTo}
 
--- as stored values are: a moving point has a box, and the rings of a polygon are closed and of four points at least
+-- as stored values are: a moving point has a box, and the rings of a polygon are closed and of four
+-- points at least
 abbrev pub IsAsStored : Value → Type 0
 IsAsStored (MovingPoint a) = (b : BoxOf) × IsBoxOf a b
 IsAsStored (Polygon rings) = are_sound rings ≡ true
@@ -34,8 +35,8 @@ pub record IsEitherOf (type other : SqlType) (v : Value) : Type 0 where
 abbrev pub Gives : Scene → TypedTree → (Value → Type 0) → Type 0
 Gives s e P = (v : Value) → TreeEvaluatesTo s e (Ok v) → P v
 
--- The expressions of a key have their types: a box or a moving point for `&&`, a point or a moving point and a number for eDwithin, and a
--- polygon for eIntersects.
+-- The expressions of a key have their types: a box or a moving point for `&&`, a point or a moving
+-- point and a number for eDwithin, and a polygon for eIntersects.
 abbrev pub HasItsTypes : Scene → PlanKey → Type 0
 HasItsTypes s (overlap_key e) = Gives s e (IsEitherOf sql.Box sql.TPoint)
 HasItsTypes s (within_key e d) = Gives s e (IsEitherOf sql.Point sql.TPoint) × Gives s d (λ w. is_of_type sql.Numeric w ≡ true)
@@ -59,7 +60,8 @@ pub record DoesNotExpand (s : Scene) (e d : TypedTree) : Type 0 where
 abbrev pub HasLaterFault : Scene → TypedTree → TypedTree → Type 0
 HasLaterFault s e d = (v : Value) × TreeEvaluatesTo s e (Ok v) × (v ≢ Null) × HasFault s d
 
--- why a key asks for all rows: the expression that decides has a fault, or the box cannot be made wider
+-- why a key asks for all rows: the expression that decides has a fault, or the box cannot be made
+-- wider
 abbrev pub IsWithoutBox : Scene → PlanKey → Type 0
 IsWithoutBox s (overlap_key e) = HasFault s e
 IsWithoutBox s (within_key e d) = HasFault s e ⊎ HasLaterFault s e d ⊎ DoesNotExpand s e d

@@ -28,7 +28,8 @@ use Rattle.mob_meaning.specs.Evaluation.{stops, stop_of}
 use Rattle.mob_meaning.specs.Operators.{OperatorGives}
 use Rattle.mob_catalog.specs.OwnTypes.{IsValueOf}
 
--- whether something is there at an instant: a temporal value where it is defined, any other value at every instant, NULL at none
+-- whether something is there at an instant: a temporal value where it is defined, any other value
+-- at every instant, NULL at none
 abbrev pub is_there : Ratio → Value → Bool
 is_there t Null = false
 is_there t (MovingBool a) = is_some (step_function a t)
@@ -73,7 +74,8 @@ is_within (MovingPoint a) (Box b) t = passes (λ p. in_box b t p) (plane_functio
 is_within (MovingPoint a) (Polygon rings) t = passes (λ p. inside rings p) (plane_function a t)
 is_within _ _ t = false
 
--- At no instant of a temporal value does it meet a condition on the second operand, where `want` is true; or at each, where it is false.
+-- At no instant of a temporal value does it meet a condition on the second operand, where `want` is
+-- true; or at each, where it is false.
 abbrev pub NothingIsLeft : Bool → (Value → Value → Ratio → Bool) → List Value → Type 0
 NothingIsLeft want meets (a ∷ b ∷ []) = (t : Ratio) → is_there t a ≡ true → same_bool want (meets a b t) ≡ false
 NothingIsLeft want meets _ = ⊥
@@ -93,16 +95,17 @@ abbrev pub HasNoExpansion : List Value → Type 0
 HasNoExpansion (a ∷ Number d ∷ []) = (b : BoxOf) × HasBox a b × (expanded b d ≡ None)
 HasNoExpansion _ = ⊥
 
--- an operator on numbers or texts whose result has this type: with a temporal result it is taken at each instant
+-- an operator on numbers or texts whose result has this type: with a temporal result it is taken at
+-- each instant
 abbrev pub NullByType : SqlType → List Value → Type 0
 NullByType sql.TInt vs = AreNeverTogether vs
 NullByType sql.TFrac vs = AreNeverTogether vs
 NullByType sql.TText vs = AreNeverTogether vs
 NullByType _ vs = HaveNull vs
 
--- Where an operator may give NULL. One that is taken at each instant, or asks for some or for every instant, does so only where the
--- operands are never together. One that gives what is left of a value does so only on a NULL, or where nothing is left. Any other does so
--- only on a NULL.
+-- Where an operator may give NULL. One that is taken at each instant, or asks for some or for every
+-- instant, does so only where the operands are never together. One that gives what is left of a
+-- value does so only on a NULL, or where nothing is left. Any other does so only on a NULL.
 abbrev pub NullIsDue : Op → SqlType → List Value → Type 0
 NullIsDue (op.Lifted c) ty vs = AreNeverTogether vs
 NullIsDue (op.Ever c) ty vs = AreNeverTogether vs
@@ -129,7 +132,8 @@ NullIsDue op.WhenTrue ty vs = HaveNull vs ⊎ IsNeverTrue vs
 NullIsDue op.ExpandSpace ty vs = HaveNull vs ⊎ HasNoExpansion vs
 NullIsDue _ ty vs = HaveNull vs
 
--- What an operator gives has the operator's type, with whole numbers where that asks for them, and is NULL only where that is due.
+-- What an operator gives has the operator's type, with whole numbers where that asks for them, and
+-- is NULL only where that is due.
 pub record IsAnswer (o : Op) (ty : SqlType) (vs : List Value) (v : Value) : Type 0 where
   pub own : IsValueOf ty v
   pub null : v ≡ Null → NullIsDue o ty vs
@@ -139,11 +143,13 @@ abbrev pub DividesByOther : Op → List Value → Type 0
 DividesByOther op.Divide (a ∷ Number k ∷ []) = is_nil k ≡ false
 DividesByOther _ vs = Unit {0}
 
--- An operator with a result of this type has a meaning on operands of these types: what it gives on values of the types is such an answer.
+-- An operator with a result of this type has a meaning on operands of these types: what it gives on
+-- values of the types is such an answer.
 abbrev pub HasMeaning : Op → SqlType → List SqlType → Type 0
 HasMeaning o ty ts = (s : Scene) (vs : List Value) (v : Value) → AllZip IsValueOf ts vs → DividesByOther o vs → OperatorGives s o ty ts vs v → IsAnswer o ty vs v
 
--- so it is with each operator of a line, on all types that the line takes, with the type that it gives
+-- so it is with each operator of a line, on all types that the line takes, with the type that it
+-- gives
 abbrev pub LineHasMeaning : Line → Type 0
 LineHasMeaning l = (ts : List SqlType) (literal : Bool) (ty : SqlType) → takes l ts literal ≡ true → given l.gives ts ≡ Some ty → AllByRecursion (λ (n : List ℕ × Op). HasMeaning n.1 ty ts) l.names
 
@@ -159,7 +165,8 @@ CastsHaveMeanings = (from to : SqlType) → can_cast from to ≡ true → HasMea
 abbrev pub SettledIsTheValue : Type 0
 SettledIsTheValue = (s : Scene) (o : Op) (ty : SqlType) (ts : List SqlType) (a v : Value) → stops (stop_of o) a ≡ true → OperatorGives s o ty ts (a ∷ []) v → v ≡ a
 
--- whether an operator may give a value that is not NULL where an operand is NULL: AND, OR, IS NULL and IS NOT NULL
+-- whether an operator may give a value that is not NULL where an operand is NULL: AND, OR, IS NULL
+-- and IS NOT NULL
 abbrev pub knows_null : Op → Bool
 knows_null op.And = true
 knows_null op.Or = true

@@ -1,4 +1,5 @@
--- The aggregates of grouped queries: their names, the types that they take and the types that they give.
+-- The aggregates of grouped queries: their names, the types that they take and the types that they
+-- give.
 use Rattle.std.specs.Prelude.{ℕ, List, [], ◌∷◌, Bool, Option, Some, None, codes, option_map, option_and_then, is_some, if◌then◌else◌}
 use Rattle.std.specs.Str.{bytes_eq}
 use Rattle.mob_ast.specs.declared.types.SqlType.{SqlType}
@@ -23,7 +24,8 @@ aggregate_named name =
 abbrev pub only_of : List SqlType → SqlType → Option SqlType
 only_of class ty = if has_type class ty then Some ty else None
 
--- The type of an aggregate's result for an argument of this type, if it takes it. Rows are counted whatever they hold.
+-- The type of an aggregate's result for an argument of this type, if it takes it. Rows are counted
+-- whatever they hold.
 abbrev pub aggregate_type : AggKind → SqlType → Option SqlType
 aggregate_type CountAll ty = Some Int
 aggregate_type Count ty = Some Int

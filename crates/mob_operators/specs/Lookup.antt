@@ -14,8 +14,9 @@ use Rattle.mob_operators.specs.declared.table.ResultType.{ResultType}
 use Rattle.mob_operators.specs.declared.table.ResultType.TheVariants as gives
 use Rattle.mob_operators.specs.declared.table.Row.{Row}
 
--- A line of the table: how its operators are written, the operators with their names, for each argument the types that
--- are taken, what else the arguments have to meet, and the type of the result.
+-- A line of the table: how its operators are written, the operators with their names, for each
+-- argument the types that are taken, what else the arguments have to meet, and the type of the
+-- result.
 pub record Line : Type 0 where
   pub form : Form
   pub names : List (List ℕ × Op)
@@ -87,7 +88,8 @@ are_same (a ∷ []) = false
 are_same (a ∷ b ∷ []) = same_type a b
 are_same (a ∷ b ∷ c ∷ ts) = false
 
--- whether arguments of these types, the last a number literal or not, meet what a line asks beside its types
+-- whether arguments of these types, the last a number literal or not, meet what a line asks beside
+-- its types
 abbrev pub meets : Bond → List SqlType → Bool → Bool
 meets bond.Free ts literal = true
 meets bond.OneMoving ts literal = list_any is_temporal ts
@@ -117,8 +119,8 @@ takes l ts literal = types_fit l.takes ts && meets l.bond ts literal
 abbrev pub answer_of : Line → Form → List ℕ → List SqlType → Bool → Option (Op × SqlType)
 answer_of l form name ts literal = option_and_then (λ op. if takes l ts literal then option_map (λ ty. (op, ty)) (given l.gives ts) else None) (operator_in l form name)
 
--- The operator and the type of a call of this form and name with arguments of these types, the last a number literal or
--- not: by the first line that gives one.
+-- The operator and the type of a call of this form and name with arguments of these types, the last
+-- a number literal or not: by the first line that gives one.
 abbrev pub found_in : List Line → Form → List ℕ → List SqlType → Bool → Option (Op × SqlType)
 found_in [] form name ts literal = None
 found_in (l ∷ ls) form name ts literal = option_or (answer_of l form name ts literal) (found_in ls form name ts literal)

@@ -112,8 +112,8 @@ to_moving_number = Whole TInt TFrac
 abbrev pub line : Form → names → List types → Bond → ResultType → Line
 line f n ts b g = record { form = f; names = n; takes = ts; bond = b; gives = g }
 
--- The table of operators. A line has how its operators are written, their names, the types of each argument, what else
--- the arguments have to meet, and the type of the result.
+-- The table of operators. A line has how its operators are written, their names, the types of each
+-- argument, what else the arguments have to meet, and the type of the result.
 unfoldable pub table : List Line
 table =
     line Word ((codes "not", Not) ∷ []) ((ABool ∷ []) ∷ []) Free (to ABool)

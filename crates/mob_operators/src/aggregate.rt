@@ -79,8 +79,9 @@ pub fn is_aggregate(name: &str) -> bool
     aggregate_named(name).is_some()
 }
 
-/// The aggregate of this name, in lower case, and the type of its result for an argument of this type. None where there is
-/// none, or it does not take the type. `count(*)` has no name of its own here.
+/// The aggregate of this name, in lower case, and the type of its result for an argument of this
+/// type. None where there is none, or it does not take the type. `count(*)` has no name of its own
+/// here.
 pub fn aggregate_row(name: &str, ty: SqlType) -> Option<(AggKind, SqlType)>
     ensures row { result ≡ aggregate_row name.now ty }
 {

@@ -15,7 +15,7 @@ fn is_same(a: SqlType, b: SqlType) -> bool
     a == b
 }
 
-// Whether a type is among these.
+/// Whether a type is among these.
 pub fn has_type(class: &[SqlType], ty: SqlType) -> bool
     ensures among { result ≡ has_type class.now ty }
 {
@@ -182,8 +182,9 @@ fn rows() -> &'static [Row]
     &ROWS
 }
 
-/// The operator that a call of this form and name stands for, and the type of its result, for arguments of these types, the
-/// last a number literal under any number of signs or not. None where the table has no row for them.
+/// The operator that a call of this form and name stands for, and the type of its result, for
+/// arguments of these types, the last a number literal under any number of signs or not. None where
+/// the table has no row for them.
 pub fn operator_for(
     form: Form,
     name: &str,

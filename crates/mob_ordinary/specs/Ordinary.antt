@@ -60,7 +60,8 @@ rel_of cmp.Ge = rel.Ge
 abbrev pub IsTruthOf : Bool → Type 0 → Value → Type 0
 IsTruthOf wanted P v = (c : Bool) × (IsTrue c ↔ P) × (v ≡ Truth (same_bool wanted c))
 
--- two temporal values are one function of time: at each instant both have the same value, or neither has one
+-- two temporal values are one function of time: at each instant both have the same value, or
+-- neither has one
 abbrev pub AreOneFunction : {B : Type 0} → OverTime B → OverTime B → Type 0
 AreOneFunction f g = (t : Ratio) → f t ≡ g t
 
@@ -68,8 +69,9 @@ AreOneFunction f g = (t : Ratio) → f t ≡ g t
 abbrev pub HaveSameInstants : List SpanOf → List SpanOf → Type 0
 HaveSameInstants a b = (t : Ratio) → in_some a t ≡ in_some b t
 
--- `=` where `wanted` is true, and `<>` where it is false: points by coordinates, boxes by sides, spans and span sets as sets of instants, temporal
--- values as functions of time, whether they go by steps or change evenly
+-- `=` where `wanted` is true, and `<>` where it is false: points by coordinates, boxes by sides,
+-- spans and span sets as sets of instants, temporal values as functions of time, whether they go by
+-- steps or change evenly
 abbrev pub IsEquality : Bool → Value → Value → Value → Type 0
 IsEquality wanted (Truth a) (Truth b) v = IsTruthOf wanted (a ≡ b) v
 IsEquality wanted (Number a) (Number b) v = IsTruthOf wanted (a ≡ b) v

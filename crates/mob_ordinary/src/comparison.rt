@@ -75,6 +75,7 @@ fn same_box(left: &StBox, right: &StBox) -> bool
 fn same_instants(left: &Span, right: &Span) -> bool
     ensures exact { IsTrue result ↔ HaveSameInstants (left.now ∷ []) (right.now ∷ []) }
 {
+    // That each span has an instant is a clause of `lower`.
     let _ = left.lower();
     let _ = right.lower();
     same_span(left, right)
@@ -201,7 +202,8 @@ fn ordered(rel: Rel, left: &Value, right: &Value) -> Value
     }
 }
 
-/// A plain comparison of two values. NULL where one is NULL, and where two such values are not compared.
+/// A plain comparison of two values. NULL where one is NULL, and where two such values are not
+/// compared.
 pub fn test(sign: Cmp, left: &Value, right: &Value) -> Value
     ensures value { IsTest sign left.now right.now result }
 {

@@ -1,5 +1,5 @@
-//! The ordinary operators that have no formula: comparisons of two values of SQL, and logic; and what
-//! is made a value of SQL.
+//! The ordinary operators that have no formula: comparisons of two values of SQL, and logic; and
+//! what is made a value of SQL.
 #![tactic(auto)]
 
 pub mod comparison;

@@ -1,4 +1,5 @@
--- Counts of faults. An end counts the calls that failed in 64 bits, so a count that has reached its last value stays there.
+-- Counts of faults. An end counts the calls that failed in 64 bits, so a count that has reached its
+-- last value stays there.
 use Rattle.std.specs.Prelude.{◌≡◌, ℕ, ◌+◌, ◌-◌, ◌^◌, ◌≤◌, min, Result, MatchResult, OnErr}
 
 -- the count after one more: one higher, or the last value again

@@ -2,8 +2,8 @@
 use Rattle.std.specs.Prelude.{ℕ, List, [], Bool, false}
 use Rattle.mob_outside.specs.Told.{Contents}
 
--- A source in memory: the bytes that are left, the numbers of the calls that fail, the most bytes that a call gives, and
--- how many calls there were and how many of them failed.
+-- A source in memory: the bytes that are left, the numbers of the calls that fail, the most bytes
+-- that a call gives, and how many calls there were and how many of them failed.
 pub record SourceState : Type 0 where
   pub left : List ℕ
   pub failing : List ℕ
@@ -27,8 +27,8 @@ pub record SinkState : Type 0 where
 abbrev pub new_sink : List ℕ → ℕ → SinkState
 new_sink failing step = record { held = []; failing = failing; step = step; calls = 0; faults = 0 }
 
--- Files in memory: the files, the names that were asked for, what the opened file has left, whether one is open, and the
--- rest as for a source, with opens and takes counted together.
+-- Files in memory: the files, the names that were asked for, what the opened file has left, whether
+-- one is open, and the rest as for a source, with opens and takes counted together.
 pub record FilesState : Type 0 where
   pub files : Contents
   pub asked : List (List ℕ)

@@ -1,9 +1,11 @@
--- What reading up to a limit takes, and what putting a text leaves. Where a stream tells nothing, nothing is claimed of it.
+-- What reading up to a limit takes, and what putting a text leaves. Where a stream tells nothing,
+-- nothing is claimed of it.
 use Rattle.std.specs.Prelude.{◌⊎◌, ◌<◌, ◌≤◌, ◌+◌, ℕ, List, length, take, Option}
 use Rattle.std.specs.Io.KnownBytes.{Appends, Consumes, IsAtEnd}
 use Rattle.mob_outside.specs.Faults.{Rose}
 
--- these bytes were taken from the front: at most one past the limit, and no further than the limit only at the end
+-- these bytes were taken from the front: at most one past the limit, and no further than the limit
+-- only at the end
 pub record ReadsTo (limit : ℕ) (old new : Option (List ℕ)) (bytes : List ℕ) : Type 0 where
   pub taken : Consumes old new bytes
   pub bound : length bytes ≤ limit + 1

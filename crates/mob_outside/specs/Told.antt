@@ -1,4 +1,5 @@
--- What files tell: a map from names to bytes, and the names that were asked for. Where nothing is told, nothing is claimed.
+-- What files tell: a map from names to bytes, and the names that were asked for. Where nothing is
+-- told, nothing is claimed.
 use Rattle.std.specs.declared.alloc.Global.{Global}
 use Rattle.std.specs.Prelude.{String, Vec, string_bytes, ◌≡◌, ◌⊎◌, ◌++◌, ◌∷◌, ⊤, ℕ, List, [], Option, Some, None, Bool, IsSome, option_map, find, bytes_eq}
 
@@ -38,7 +39,8 @@ abbrev pub Opens : List ℕ → Option Contents → Option (List ℕ) → Type 0
 Opens name None left = ⊤
 Opens name (Some files) left = left ≡ file_of name files × IsSome left
 
--- An end over a stream of the process: the bytes that it has left or took, where the stream tells them, and its faults.
+-- An end over a stream of the process: the bytes that it has left or took, where the stream tells
+-- them, and its faults.
 pub record Stream : Type 0 where
   pub told : Option (List ℕ)
   pub faults : ℕ
@@ -48,7 +50,8 @@ abbrev pub left_of : {F : Type 0} → (F → Option (List ℕ)) → Option F →
 left_of remaining None = None
 left_of remaining (Some file) = remaining file
 
--- The files of a folder: what the file that was opened last has left, where it tells that, whether one is open, and the faults.
+-- The files of a folder: what the file that was opened last has left, where it tells that, whether
+-- one is open, and the faults.
 pub record Folder : Type 0 where
   pub told : Option (List ℕ)
   pub is_ready : Bool

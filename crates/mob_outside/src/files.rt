@@ -32,7 +32,8 @@ pub trait Files {
     /// How many calls have failed. It never falls.
     ghost faults: { Self → ℕ };
 
-    /// Opens a file at its start. A name that is not there is a fault. After a fault nothing can be taken until a file is opened.
+    /// Opens a file at its start. A name that is not there is a fault. After a fault nothing can be
+    /// taken until a file is opened.
     fn open(&mut self, name: &str) -> Result<(), Failed>
         ensures files { KeepsFiles (files self.old) (files self.new) }
         ensures asked { OnOk result (AsksFor name.now (asked self.old) (asked self.new)) }
@@ -41,8 +42,8 @@ pub trait Files {
         ensures ready { is_ready self.new ≡ is_ok result }
         ensures cause { HasCause (faults self.old) (faults self.new) result };
 
-    /// Moves the first bytes that the opened file has left to the front of `into`, and answers how many. That is 0 only
-    /// at the end. After a fault nothing can be taken until a file is opened.
+    /// Moves the first bytes that the opened file has left to the front of `into`, and answers how
+    /// many. That is 0 only at the end. After a fault nothing can be taken until a file is opened.
     fn take(&mut self, into: &mut [u8]) -> Result<usize, Failed>
         requires ready { is_ready self.old ≡ true }
         requires room { 0 < length into.old }
@@ -54,7 +55,8 @@ pub trait Files {
         ensures cause { HasCause (faults self.old) (faults self.new) result };
 }
 
-/// Files in memory whose calls fail and are cut short as their maker says. Contracts see them as a `FilesState`.
+/// Files in memory whose calls fail and are cut short as their maker says. Contracts see them as a
+/// `FilesState`.
 #[derive(Drop)]
 pub struct MemFiles {
     alloc: Global,
@@ -87,8 +89,9 @@ impl Model for MemFiles {
 }
 
 impl MemFiles {
-    /// These files, none of them open; of two with one name the first counts. The calls whose numbers stand in
-    /// `failing`, opens and takes counted together from 1, fail; each other take gives at most `step` bytes.
+    /// These files, none of them open; of two with one name the first counts. The calls whose
+    /// numbers stand in `failing`, opens and takes counted together from 1, fail; each other take
+    /// gives at most `step` bytes.
     pub fn new(
         alloc: Global,
         files: Vec<(String, Vec<u8>)>,
@@ -119,8 +122,8 @@ impl MemFiles {
         &self.asked
     }
 
-    // Notes the name and copies the file. None where the call is to fail, where there is no such file, and for want of
-    // memory.
+    // Notes the name and copies the file. None where the call is to fail, where there is no such
+    // file, and for a failed allocation.
     fn look(&mut self, name: &str) -> Option<Vec<u8>>
         ensures asked { IfSome result (λ _. self.new.asked ≡ self.old.asked ++ name.now ∷ []) }
         ensures other { IfNone result ((self.new.asked ≡ self.old.asked)
@@ -153,8 +156,8 @@ impl Files for MemFiles {
 
     ghost faults = { λ s. s.faults };
 
-    /// As all files; fails at the calls that their maker named, where no file has this name, and where there is no
-    /// memory to note the name or to copy the file.
+    /// As all files; fails at the calls that their maker named, where no file has this name, and
+    /// where there is no memory to note the name or to copy the file.
     fn open(&mut self, name: &str) -> Result<(), Failed>
         ensures files { KeepsFiles (Some self.old.files) (Some self.new.files) }
         ensures asked { OnOk result (AsksFor name.now (Some self.old.asked) (Some self.new.asked)) }
@@ -223,8 +226,8 @@ fn find<'a>(files: &'a [(String, Vec<u8>)], name: &str) -> Option<&'a [u8]>
     None
 }
 
-/// The files of the current folder. They tell neither which files there are nor the names asked; what the opened file has left they
-/// tell where that file does. Contracts see them as a `Folder`.
+/// The files of the current folder. They tell neither which files there are nor the names asked;
+/// what the opened file has left they tell where that file does. Contracts see them as a `Folder`.
 #[derive(Drop)]
 pub struct DirFiles<D: Disk + Drop> {
     disk: D,

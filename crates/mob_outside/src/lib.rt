@@ -1,8 +1,10 @@
-//! The outside of a run: where its script comes from, the files that it reads, where its answers and its notes go, and
-//! the gate that each piece of its work passes. Whole texts are read and put through the calls of these ends.
+//! The outside of a run: where its script comes from, the files that it reads, where its answers
+//! and its notes go, and the gate that each piece of its work passes. Whole texts are read and put
+//! through the calls of these ends.
 //!
-//! Each end counts its faults, and a call fails only where the count rose. What an end holds or has left is told by the
-//! ends in memory; those over the process's streams and its folder need not tell it.
+//! Each end counts its faults, and a call fails only where the count rose. What an end holds or has
+//! left is told by the ends in memory; those over the process's streams and its folder need not
+//! tell it.
 #![tactic(auto)]
 
 mod fault;

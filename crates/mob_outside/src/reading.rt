@@ -43,7 +43,8 @@ pub trait Taking {
     // How many calls have failed.
     ghost faults: { Self.From → ℕ };
 
-    // Moves the first bytes that are left to the front of `into`, and answers how many. That is 0 only at the end.
+    // Moves the first bytes that are left to the front of `into`, and answers how many. That is 0
+    // only at the end.
     fn take_from(from: &mut Self::From, into: &mut [u8]) -> Result<usize, Failed>
         requires ready { is_ready from.old ≡ true }
         requires room { 0 < length into.old }
@@ -134,8 +135,8 @@ fn read_through<T: Taking>(
     Ok(bytes)
 }
 
-/// Reads to the end, or to one byte past the limit, where it stops. `Fault` comes only where the source failed. However
-/// it ends, no more than one byte past the limit is taken.
+/// Reads to the end, or to one byte past the limit, where it stops. `Fault` comes only where the
+/// source failed. However it ends, no more than one byte past the limit is taken.
 pub fn read_to<S: Source>(alloc: Global, source: &mut S, limit: usize) -> Result<Vec<u8>, ReadEnd>
     requires small { limit < 2 ^ 32 }
     ensures bytes { IfOk result (λ v. ReadsTo limit (S.left source.old) (S.left source.new) v.items) }
@@ -146,8 +147,8 @@ pub fn read_to<S: Source>(alloc: Global, source: &mut S, limit: usize) -> Result
     read_through::<OfSource<S>>(alloc, source, limit)
 }
 
-/// Reads on in the opened file, to its end or to one byte past the limit. `Fault` comes only where the files failed.
-/// However it ends, no more than one byte past the limit is taken.
+/// Reads on in the opened file, to its end or to one byte past the limit. `Fault` comes only where
+/// the files failed. However it ends, no more than one byte past the limit is taken.
 pub fn read_opened<F: Files>(alloc: Global, files: &mut F, limit: usize) -> Result<Vec<u8>, ReadEnd>
     requires small { limit < 2 ^ 32 }
     requires ready { F.is_ready files.old ≡ true }

@@ -18,7 +18,8 @@ pub trait Sink {
     /// How many calls have failed. It never falls.
     ghost faults: { Self → ℕ };
 
-    /// Puts some of the bytes, from the front of `from`, and answers how many. Taking none is a fault.
+    /// Puts some of the bytes, from the front of `from`, and answers how many. Taking none is a
+    /// fault.
     fn put(&mut self, from: &[u8]) -> Result<usize, Failed>
         requires some { 0 < length from.now }
         ensures moves { IfOk result (λ n. 0 < n) }
@@ -27,7 +28,8 @@ pub trait Sink {
         ensures cause { HasCause (faults self.old) (faults self.new) result };
 }
 
-/// A sink in memory whose calls fail and are cut short as its maker says. Contracts see it as a `SinkState`.
+/// A sink in memory whose calls fail and are cut short as its maker says. Contracts see it as a
+/// `SinkState`.
 #[derive(Drop)]
 pub struct MemSink {
     bytes: Vec<u8>,
@@ -52,8 +54,8 @@ impl Model for MemSink {
 }
 
 impl MemSink {
-    /// An empty sink. The calls whose numbers stand in `failing`, counted from 1, fail; each other call takes at most
-    /// `step` bytes.
+    /// An empty sink. The calls whose numbers stand in `failing`, counted from 1, fail; each other
+    /// call takes at most `step` bytes.
     pub fn new(alloc: Global, failing: Vec<u64>, step: usize) -> MemSink
         requires moves { 0 < step }
         ensures starts { result ≡ new_sink failing.items step }
@@ -105,7 +107,8 @@ impl Sink for MemSink {
     }
 }
 
-/// A writer, as standard output. It tells what it took where the writer does. Contracts see it as a `Stream`.
+/// A writer, as standard output. It tells what it took where the writer does. Contracts see it as a
+/// `Stream`.
 #[derive(Drop)]
 pub struct StdSink<W: Write + Drop> {
     writer: W,

@@ -18,7 +18,8 @@ pub trait Source {
     /// How many calls have failed. It never falls.
     ghost faults: { Self → ℕ };
 
-    /// Moves the first bytes that are left to the front of `into`, and answers how many. That is 0 only at the end.
+    /// Moves the first bytes that are left to the front of `into`, and answers how many. That is 0
+    /// only at the end.
     fn take(&mut self, into: &mut [u8]) -> Result<usize, Failed>
         requires room { 0 < length into.old }
         ensures bound { ReadsAtMost result into.new }
@@ -26,7 +27,8 @@ pub trait Source {
         ensures cause { HasCause (faults self.old) (faults self.new) result };
 }
 
-// Copies at most `most` bytes from the front of `rest` to the front of `into`, and answers how many.
+// Copies at most `most` bytes from the front of `rest` to the front of `into`, and answers how
+// many.
 pub(crate) fn give(rest: &[u8], most: usize, into: &mut [u8]) -> usize
     requires some { 0 < most }
     requires room { 0 < length into.old }
@@ -41,7 +43,8 @@ pub(crate) fn give(rest: &[u8], most: usize, into: &mut [u8]) -> usize
     count
 }
 
-/// Bytes in memory whose calls fail and are cut short as its maker says. Contracts see it as a `SourceState`.
+/// Bytes in memory whose calls fail and are cut short as its maker says. Contracts see it as a
+/// `SourceState`.
 #[derive(Drop)]
 pub struct MemSource {
     bytes: Vec<u8>,
@@ -67,8 +70,8 @@ impl Model for MemSource {
 }
 
 impl MemSource {
-    /// A source of these bytes. The calls whose numbers stand in `failing`, counted from 1, fail; each other call gives
-    /// at most `step` bytes.
+    /// A source of these bytes. The calls whose numbers stand in `failing`, counted from 1, fail;
+    /// each other call gives at most `step` bytes.
     pub fn new(bytes: Vec<u8>, failing: Vec<u64>, step: usize) -> MemSource
         requires moves { 0 < step }
         ensures starts { result ≡ new_source bytes.items failing.items step }
@@ -150,8 +153,8 @@ impl Source for SteadySource {
     }
 }
 
-/// The bytes of a reader, as standard input. It tells what is left where the reader does. Contracts see it as a
-/// `Stream`.
+/// The bytes of a reader, as standard input. It tells what is left where the reader does. Contracts
+/// see it as a `Stream`.
 #[derive(Drop)]
 pub struct StdSource<R: Read + Drop> {
     reader: R,

@@ -94,7 +94,8 @@ impl<'a> Cursor<'a> {
         self.skip(Mark::Distinct)
     }
 
-    // Passes the first three tokens of `count(*)`, if they come next, and says the place of the first.
+    // Passes the first three tokens of `count(*)`, if they come next, and says the place of the
+    // first.
     fn take_count(&mut self) -> Option<u32>
         ensures passes { MatchOption result
             ((counts_all (left self.old) ≡ false) × (left self.new ≡ left self.old))

@@ -1,4 +1,5 @@
--- Where an edge crosses the height of a point to the right of it, the point turns from the edge as the edge rises.
+-- Where an edge crosses the height of a point to the right of it, the point turns from the edge as
+-- the edge rises.
 use Rattle.std.specs.Prelude.{◌≡◌, ◌≢◌, refl, Bool, false, true, pos, ◌+ℤ◌, neg_ℤ}
 use Rattle.std.proofs.Common.{arith}
 use Rattle.mob_ratio.specs.Ratio.{Ratio, whole, ◌<ℚ◌, ◌+ℚ◌, ◌-ℚ◌, ◌*ℚ◌}

@@ -1,4 +1,5 @@
--- Membership in a polygon by signs alone: those of the turn of a point with each edge, and of its differences to the ends of the edge.
+-- Membership in a polygon by signs alone: those of the turn of a point with each edge, and of its
+-- differences to the ends of the edge.
 use Rattle.std.specs.Prelude.{Bool, false, not, ◌&&◌, ◌||◌, List, [], ◌∷◌, map}
 use Rattle.std.specs.declared.cmp.Ordering.{Ordering}
 use Rattle.std.specs.declared.cmp.Ordering.TheVariants.{Less, Equal, Greater}
@@ -33,8 +34,8 @@ is_between o q = not (is_lt o && is_lt q) && not (is_gt o && is_gt q)
 abbrev pub is_on : EdgeSigns → Bool
 is_on s = is_eq s.turn && (is_between s.x_a s.x_b && is_between s.y_a s.y_b)
 
--- The edge passes the height of the point to the right of it. Where it goes down the point lies to the right of its way, and
--- where it goes up to the left.
+-- The edge passes the height of the point to the right of it. Where it goes down the point lies to
+-- the right of its way, and where it goes up to the left.
 abbrev pub crosses : EdgeSigns → Bool
 crosses s = (is_lt s.y_a && (not (is_lt s.y_b) && is_lt s.turn)) || (is_lt s.y_b && (not (is_lt s.y_a) && is_gt s.turn))
 

@@ -1,8 +1,10 @@
--- When a point is in a polygon. A polygon is closed, so each point of an edge is in it; and of the other points those are in it
--- from which a ray to the right crosses an odd number of edges, those of all rings together: the even-odd rule of Scalable
--- Vector Graphics (SVG 2, "fill-rule"), by the count of crossings of Shimrat (Algorithm 112, Communications of the ACM 5(8), 1962).
--- An edge counts where one end is above the point and the other is not, so of two edges that meet at the height of the point both
--- count, or none, or just one, as the ring passes that height there or only touches it.
+-- When a point is in a polygon. A polygon is closed, so each point of an edge is in it; and of the
+-- other points those are in it from which a ray to the right crosses an odd number of edges, those
+-- of all rings together: the even-odd rule of Scalable Vector Graphics (SVG 2, "fill-rule"), by the
+-- count of crossings of Shimrat (Algorithm 112, Communications of the ACM 5(8), 1962). An edge
+-- counts where one end is above the point and the other is not, so of two edges that meet at the
+-- height of the point both count, or none, or just one, as the ring passes that height there or
+-- only touches it.
 use Rattle.std.specs.Prelude.{Bool, true, false, not, ◌&&◌, ◌||◌, ◌%◌, ℕ, nat_eq, List, length}
 use Rattle.std.specs.List.{list_any, filter}
 use Rattle.mob_ratio.specs.Ratio.{Ratio}

@@ -41,6 +41,7 @@ is_open_ring ring = not (are_one (slice_get ring 0) (slice_get ring (length ring
 abbrev pub has_open : List (List Point) → Bool
 has_open rings = list_any is_open_ring rings
 
--- rings that bound a polygon: there is one or more, each has four points or more, and ends where it begins
+-- rings that bound a polygon: there is one or more, each has four points or more, and ends where it
+-- begins
 abbrev pub are_sound : List (List Point) → Bool
 are_sound rings = not (has_short rings) && not (has_open rings)

@@ -1,11 +1,13 @@
--- How a point lies to a straight way: the cross product of the way and of the way to the point (Cormen, Leiserson, Rivest and
--- Stein, Introduction to Algorithms, section "Line-segment properties").
+-- How a point lies to a straight way: the cross product of the way and of the way to the point
+-- (Cormen, Leiserson, Rivest and Stein, Introduction to Algorithms, section "Line-segment
+-- properties").
 use Rattle.std.specs.Prelude.{List, [], ◌∷◌, ◌++◌}
 use Rattle.mob_ratio.specs.Ratio.{Ratio, ◌-ℚ◌, ◌*ℚ◌}
 use Rattle.mob_frac.specs.Formula.{parts_of_turn}
 use Rattle.mob_plane.specs.declared.point.Point.{Point}
 
--- above 0 where p lies to the left of the way from a to b, below 0 to the right of it, and 0 on the line through both
+-- above 0 where p lies to the left of the way from a to b, below 0 to the right of it, and 0 on the
+-- line through both
 abbrev pub turn : Point → Point → Point → Ratio
 turn a b p = (b.x -ℚ a.x) *ℚ (p.y -ℚ a.y) -ℚ (b.y -ℚ a.y) *ℚ (p.x -ℚ a.x)
 

@@ -35,9 +35,10 @@ pub struct Tally {
     pub odd: bool,
 }
 
-/// How `p` lies to the way from `a` to `b`: above 0 to the left of it, below 0 to the right, and 0 on the line through both. This is
-/// the cross product of the way and of the way to the point, formula F4. It is `Overflow` exactly where a part of the formula does
-/// not fit. It takes no memory.
+/// How `p` lies to the way from `a` to `b`: above 0 to the left of it, below 0 to the right, and 0
+/// on the line through both. This is the cross product of the way and of the way to the point,
+/// formula F4. It is `Overflow` exactly where a part of the formula does not fit. It takes no
+/// memory.
 pub fn turn(a: &Point, b: &Point, p: &Point) -> Result<Frac, Overflow>
     ensures value { IsFormula (turn_parts a.now b.now p.now) (turn a.now b.now p.now) result }
 {
@@ -96,8 +97,9 @@ fn is_on(signs: &EdgeSigns) -> bool
     signs.turn.is_eq() && (is_between(signs.x_a, signs.x_b) && is_between(signs.y_a, signs.y_b))
 }
 
-// Whether the edge passes the height of the point to the right of it: one end is above the point and the other is not, and where
-// the edge goes down the point lies to the right of its way, where it goes up to the left.
+// Whether the edge passes the height of the point to the right of it: one end is above the point
+// and the other is not, and where the edge goes down the point lies to the right of its way, where
+// it goes up to the left.
 fn crosses(signs: &EdgeSigns) -> bool
     ensures value { result ≡ crosses signs.now }
 {

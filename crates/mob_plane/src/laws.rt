@@ -29,16 +29,18 @@ pub fn polygons_cross_threads() {
     crosses_threads::<Tally>();
 }
 
-/// Where an edge is not level, its crossing with a height is the point of the straight line through its ends that has this height. Where
-/// one end is above a point and the other is not, it crosses the height of the point to the right of it exactly where
-/// the point turns from the edge as the edge rises: to the left where it goes up, to the right where it goes down.
+/// Where an edge is not level, its crossing with a height is the point of the straight line through
+/// its ends that has this height. Where one end is above a point and the other is not, it crosses
+/// the height of the point to the right of it exactly where the point turns from the edge as the
+/// edge rises: to the left where it goes up, to the right where it goes down.
 pub fn crossings_by_turns()
     ensures on_line { (a b : PointOf) (h : Ratio) → a.y ≢ b.y → IsOnLine a.y a.x b.y b.x h (crossing_at (a, b) h) }
     ensures right { (a b p : PointOf) → passes_height p (a, b) ≡ true → before p.x (crossing_at (a, b) p.y) ≡ same_order (sign_of (b.y -ℚ a.y)) (sign_of (turn a b p)) }
 {}
 
-/// Whether a point lies on an edge, passes it and is in a polygon is told by signs alone: those of its turns with the edges, and of
-/// its differences to their ends. So two points that lie in the same ways to all edges are in the polygon or not together.
+/// Whether a point lies on an edge, passes it and is in a polygon is told by signs alone: those of
+/// its turns with the edges, and of its differences to their ends. So two points that lie in the
+/// same ways to all edges are in the polygon or not together.
 pub fn membership_by_signs()
     ensures on { (a b p : PointOf) → lies_on p (a, b) ≡ is_on (signs_at p a b) }
     ensures right { (a b p : PointOf) → passes_right p (a, b) ≡ crosses (signs_at p a b) }

@@ -4,8 +4,8 @@ ghost use Rattle.mob_plane.specs.Points.{same_point, same_point_equivalence};
 
 use mob_frac::Frac;
 
-/// A point of the plane. Contracts see it as its two coordinates, rational numbers, so two points are one exactly where
-/// both coordinates are.
+/// A point of the plane. Contracts see it as its two coordinates, rational numbers, so two points
+/// are one exactly where both coordinates are.
 #[derive(Clone, Copy, Debug, Drop)]
 pub struct Point {
     /// How far it lies to the east.

@@ -24,10 +24,12 @@ pub enum RingFault {
     Open = 2,
 }
 
-/// A closed set of the plane, bounded by rings. Contracts see it as its rings, each as the list of its points.
+/// A closed set of the plane, bounded by rings. Contracts see it as its rings, each as the list of
+/// its points.
 ///
-/// A ring begins and ends at one point, so a triangle has four. Rings may cross themselves and one another: a point is in the
-/// polygon where it lies on an edge, or the number of edges to the right of it is odd, those of all rings together.
+/// A ring begins and ends at one point, so a triangle has four. Rings may cross themselves and one
+/// another: a point is in the polygon where it lies on an edge, or the number of edges to the right
+/// of it is odd, those of all rings together.
 #[derive(Drop)]
 pub struct Polygon {
     rings: Vec<Vec<Point>>,
@@ -109,8 +111,9 @@ fn count_rings(rings: &[Vec<Point>], p: &Point) -> Result<Tally, Overflow>
 }
 
 impl Polygon {
-    /// The polygon of these rings. It is `Short` exactly where there is no ring or one of them has fewer than four points, and `Open`
-    /// exactly where none is short and the first and last points of one differ. It takes no memory.
+    /// The polygon of these rings. It is `Short` exactly where there is no ring or one of them has
+    /// fewer than four points, and `Open` exactly where none is short and the first and last points
+    /// of one differ. It takes no memory.
     pub fn new(rings: Vec<Vec<Point>>) -> Result<Polygon, RingFault>
         ensures made { IfOk result (λ p. p ≡ rings_of rings.items) }
         ensures short { (result ≡ Err RingFault.Short) ↔ (has_short (rings_of rings.items) ≡ true) }
@@ -134,8 +137,8 @@ impl Polygon {
         self.rings.as_slice()
     }
 
-    /// The corners of the least rectangle that has the polygon: the least coordinates of its points, and the greatest. It takes no
-    /// memory.
+    /// The corners of the least rectangle that has the polygon: the least coordinates of its
+    /// points, and the greatest. It takes no memory.
     pub fn corners(&self) -> (Point, Point)
         ensures corners { AreCorners (all_points self.now) result.0 result.1 }
     {
@@ -144,9 +147,10 @@ impl Polygon {
         (corners.least, corners.greatest)
     }
 
-    /// Whether the point is in the polygon: it lies on an edge, or the number of edges with one end above it and the other at its
-    /// height or below, which pass that height to the right of it, is odd. It is `Overflow` exactly where a part of the turn of the
-    /// point with some edge does not fit. It takes no memory.
+    /// Whether the point is in the polygon: it lies on an edge, or the number of edges with one end
+    /// above it and the other at its height or below, which pass that height to the right of it, is
+    /// odd. It is `Overflow` exactly where a part of the turn of the point with some edge does not
+    /// fit. It takes no memory.
     pub fn has(&self, p: &Point) -> Result<bool, Overflow>
         ensures value { IsFormula (turns_parts p.now (all_edges self.now)) (inside self.now p.now) result }
     {

@@ -1,5 +1,5 @@
-// Boxes, read from their texts, asked by the calls of the library, and printed again; and those of points that move. The epoch is
-// 2000-01-01.
+// Boxes, read from their texts, asked by the calls of the library, and printed again; and those of
+// points that move. The epoch is 2000-01-01.
 
 use mob_ast::SqlType;
 use mob_frac::Frac;
@@ -219,7 +219,8 @@ fn boxes_lie(rt: HostRuntime) {
     }
 }
 
-// A trip and its box: that of all of its corners, with those where it turns, and closed where the trip ends before.
+// A trip and its box: that of all of its corners, with those where it turns, and closed where the
+// trip ends before.
 static TRIPS: [(&'static str, &'static str); 4] = [
     (
         "[POINT(0 3)@2000-01-01, POINT(2 1)@2000-01-02)",

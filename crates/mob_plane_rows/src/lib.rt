@@ -1,5 +1,5 @@
-//! Tests of moving points in the plane: boxes, what is left of a point inside and outside of boxes and polygons, how near two points
-//! come, and which of two do by their tiles.
+//! Tests of moving points in the plane: boxes, what is left of a point inside and outside of boxes
+//! and polygons, how near two points come, and which of two do by their tiles.
 #![tactic(auto)]
 
 #[cfg(test)]

@@ -1,4 +1,5 @@
-// Two points, of which one moves: whether they are ever within a distance, and the square of their nearest approach.
+// Two points, of which one moves: whether they are ever within a distance, and the square of their
+// nearest approach.
 
 use crate::printed::{is_answer, is_decision};
 use mob_ast::SqlType;
@@ -10,7 +11,8 @@ use mob_slice::{Moving, Operand, PlaneLine};
 use mob_value::Value;
 use std::alloc::Global;
 
-// A moving point; the other one with its type; a distance; whether they are within it; the square of their nearest approach.
+// A moving point; the other one with its type; a distance; whether they are within it; the square
+// of their nearest approach.
 type Pair = (
     &'static str,
     SqlType,

@@ -1,5 +1,5 @@
-// Polygons, read from their texts, copied and printed; what is left of a moving point inside one and outside, and whether it ever is inside.
-// The epoch is 2000-01-01.
+// Polygons, read from their texts, copied and printed; what is left of a moving point inside one
+// and outside, and whether it ever is inside. The epoch is 2000-01-01.
 
 use crate::printed::{is_left, is_settled};
 use mob_ast::SqlType;
@@ -149,7 +149,8 @@ static CLIPS: [Clip; 12] = [
         "F2",
         "F2",
     ),
-    // the turn with the first edge goes from 2^62 - 1 to -1, so that its root is of a difference of 2^62
+    // the turn with the first edge goes from 2^62 - 1 to -1, so that its root is of a difference of
+    // 2^62
     (
         "[POINT(-4611686018427387903 0)@2000-01-01 00:00:00, POINT(1 0)@2000-01-01 00:00:02]",
         "POLYGON((0 0,0 1,-1 0,0 0))",
@@ -157,7 +158,8 @@ static CLIPS: [Clip; 12] = [
         "F3",
         "F3",
     ),
-    // at x = 0, a fifth of the way, y is 1/(5 * 10^18), also where the point passes the x of a corner and is never inside
+    // at x = 0, a fifth of the way, y is 1/(5 * 10^18), also where the point passes the x of a
+    // corner and is never inside
     (
         "[POINT(-1 0)@2000-01-01 00:00:00, POINT(4 1/1000000000000000000)@2000-01-01 00:00:01]",
         "POLYGON((0 1,2 1,2 2,0 2,0 1))",

@@ -54,7 +54,8 @@ coordinates_byte = means_byte coordinates_said (then_byte (some_blanks ▷ (numb
 first_letter : (c w : ℕ) (cs ws : Text) → c ∷ cs ≡ w ∷ ws → c ≡ w
 first_letter c w cs ws e = cc
 
--- no such word begins with a byte that passes the test, where its first letter, small or capital, passes it not
+-- no such word begins with a byte that passes the test, where its first letter, small or capital,
+-- passes it not
 pub any_case_head : (w : ℕ) (ws : Text) (test : ℕ → Bool) → ((c : ℕ) → to_ascii_lowercase c ≡ w → test c ≡ false) → NoHead (AnyCase (w ∷ ws)) test
 any_case_head w ws test h [] v said = tt
 any_case_head w ws test h (c ∷ cs) v said = h c (first_letter _ w _ ws said)

@@ -1,8 +1,8 @@
 -- The texts of points, and the form of points.
 --
--- A point is the word POINT, its letters small or capital, and its two coordinates in brackets with blanks between. Blanks may stand
--- beside each bracket. `SRID=0;` says that the plane is without a reference system, which each point is here: it may stand before a
--- point, and says nothing more.
+-- A point is the word POINT, its letters small or capital, and its two coordinates in brackets with
+-- blanks between. Blanks may stand beside each bracket. `SRID=0;` says that the plane is without a
+-- reference system, which each point is here: it may stand before a point, and says nothing more.
 use Rattle.std.specs.Prelude.{◌≡◌, codes, Option, Some, None}
 use Rattle.mob_ratio.specs.Ratio.{Ratio}
 use Rattle.mob_language.specs.Language.{Text, Language, ◌▷◌, Maybe, Means, Word, AnyCase, blanks, spaced, within_blanks}

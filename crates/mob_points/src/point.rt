@@ -70,7 +70,8 @@ pub fn srid_zero_at(bytes: &[u8]) -> Option<((), &[u8])>
     Some(((), rest))
 }
 
-/// The point in front, before which `SRID=0;` may stand, where its coordinates fit, and what stands behind it.
+/// The point in front, before which `SRID=0;` may stand, where its coordinates fit, and what stands
+/// behind it.
 #[tactic(auto, unfolding(crate::specs::Points::point_value_at, crate::specs::Points::behind_srid_at))]
 pub fn point_value_at(bytes: &[u8]) -> Option<(Option<Point>, &[u8])>
     ensures read { option_map (λ x. (x.0, x.1.now)) result ≡ point_value_in bytes.now }
@@ -91,9 +92,10 @@ fn point_in_all(bytes: &[u8]) -> Option<Option<Point>>
 
 /// The point that a text says.
 ///
-/// A point is `POINT(x y)`, its letters small or capital, of two numbers as `read_number` reads them. Blanks may stand
-/// beside each bracket and at both ends, and one or more stand between the numbers. `SRID=0;` may stand before it. Any other
-/// text is `NotText`, and `TooLarge` a point of which a coordinate has more than 62 bits. It takes no memory.
+/// A point is `POINT(x y)`, its letters small or capital, of two numbers as `read_number` reads
+/// them. Blanks may stand beside each bracket and at both ends, and one or more stand between the
+/// numbers. `SRID=0;` may stand before it. Any other text is `NotText`, and `TooLarge` a point of
+/// which a coordinate has more than 62 bits. It takes no memory.
 pub fn read_point(text: &str) -> Result<Point, ReadText>
     ensures reading { Lit points text.now result }
     ensures memory { result ≢ Err NoMemory }

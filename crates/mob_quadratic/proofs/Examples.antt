@@ -28,7 +28,8 @@ misses_half : reaches (whole (pos 4)) (whole (negsuc 1)) (whole (pos 2)) (over (
 unfolding over gcd gcd_steps in_lowest_terms whole ◌+ℚ◌ neg_ℚ ◌*ℚ◌ before
 misses_half = refl
 
--- s·s is 0 at 0 alone: where 0 does not count it is nowhere at most 0, and 0 is its greatest lower bound all the same
+-- s·s is 0 at 0 alone: where 0 does not count it is nowhere at most 0, and 0 is its greatest lower
+-- bound all the same
 end_counts : reaches (whole (pos 1)) (whole (pos 0)) (whole (pos 0)) (whole (pos 0)) true false ≡ true
 unfolding over gcd gcd_steps in_lowest_terms whole ◌+ℚ◌ neg_ℚ ◌*ℚ◌ before
 end_counts = refl

@@ -1,5 +1,6 @@
--- Convex quadratic functions of a number that goes from 0 to 1, as the square of the length of a difference that changes evenly. A function is
--- given by a, b and c: its value at s is `a·s·s + 2·b·s + c`, so c is its value at 0, and b is half its slope there.
+-- Convex quadratic functions of a number that goes from 0 to 1, as the square of the length of a
+-- difference that changes evenly. A function is given by a, b and c: its value at s is `a·s·s +
+-- 2·b·s + c`, so c is its value at 0, and b is half its slope there.
 use Rattle.std.specs.Prelude.{◌≡◌, Bool, true, cond, ◌&&◌, ◌||◌, pos, Option, Some, None}
 use Rattle.mob_ratio.specs.Ratio.{Ratio, whole, ◌+ℚ◌, ◌-ℚ◌, ◌*ℚ◌, ◌/ℚ◌, neg_ℚ}
 use Rattle.mob_ratio.specs.Order.{before, up_to, same}
@@ -29,8 +30,9 @@ dips a b = before b nil && before nil (a +ℚ b)
 abbrev pub scaled_least : Ratio → Ratio → Ratio → Ratio
 scaled_least a b c = a *ℚ c -ℚ b *ℚ b
 
--- whether some value is at most d, by the first and the last value, at 0 and 1, and by whether a least one between is. An end that does not
--- count serves where the value there is below d, since so are those near it, or where both ends have at most d, since so have all between.
+-- whether some value is at most d, by the first and the last value, at 0 and 1, and by whether a
+-- least one between is. An end that does not count serves where the value there is below d, since
+-- so are those near it, or where both ends have at most d, since so have all between.
 abbrev pub reaches_by : Ratio → Ratio → Ratio → Bool → Bool → Bool → Bool
 reaches_by d first last with_nil with_one between =
     before first d || before last d || (with_nil && up_to first d) || (with_one && up_to last d) || (up_to first d && up_to last d) || between
@@ -38,7 +40,8 @@ reaches_by d first last with_nil with_one between =
 abbrev pub reaches : Ratio → Ratio → Ratio → Ratio → Bool → Bool → Bool
 reaches a b c d with_nil with_one = reaches_by d c (at_one a b c) with_nil with_one (dips a b && up_to (scaled_least a b c) (a *ℚ d))
 
--- the greatest lower bound of the values: a least one between, else the smaller one at an end, whether or not that counts
+-- the greatest lower bound of the values: a least one between, else the smaller one at an end,
+-- whether or not that counts
 abbrev pub infimum_by : Ratio → Ratio → Option Ratio → Ratio
 infimum_by first last None = cond (before last first) last first
 infimum_by first last (Some least) = least
@@ -56,7 +59,8 @@ pub record IsUnderAt (a b c m : Ratio) (with_nil with_one : Bool) (s : Ratio) : 
   pub inside : in_unit with_nil with_one s ≡ true
   pub under : before (quadratic a b c s) m ≡ true
 
--- m is the greatest lower bound of the values at all s that count: none is below it, and below each greater number is one
+-- m is the greatest lower bound of the values at all s that count: none is below it, and below each
+-- greater number is one
 pub record IsInfimum (a b c : Ratio) (with_nil with_one : Bool) (m : Ratio) : Type 0 where
   pub lower : (s : Ratio) → in_unit with_nil with_one s ≡ true → up_to m (quadratic a b c s) ≡ true
   pub greatest : (n : Ratio) → before m n ≡ true → (s : Ratio) × IsUnderAt a b c n with_nil with_one s

@@ -1,4 +1,5 @@
-//! Tests of what no script reaches in a query: expressions that are not typed, and each fault of a constant.
+//! Tests of what no script reaches in a query: expressions that are not typed, and each fault of a
+//! constant.
 #![tactic(auto)]
 
 #[cfg(test)]

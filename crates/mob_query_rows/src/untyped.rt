@@ -1,4 +1,5 @@
-// Expressions that no script has: operators on operands of other types, NULL, and numbers of no constant, table or column.
+// Expressions that no script has: operators on operands of other types, NULL, and numbers of no
+// constant, table or column.
 
 use mob_ast::{Cmp, SqlType};
 use mob_catalog::Catalog;
@@ -52,8 +53,8 @@ fn node(alloc: Global, op: Op, operands: &[u32]) -> Result<TExpr, AllocError> {
     })
 }
 
-// Operators and numbers of constants that no typed script has, or that are NULL: 0 is the number 1, 1 is a text, 2 is true, 3 is
-// NULL, 4 is the number 0.
+// Operators and numbers of constants that no typed script has, or that are NULL: 0 is the number 1,
+// 1 is a text, 2 is true, 3 is NULL, 4 is the number 0.
 static UNTYPED: [(Op, &[u32]); 13] = [
     (Op::Const(99), &[]),
     (Op::Column { from: 1, column: 0 }, &[]),

@@ -1,4 +1,5 @@
--- The text of an answer: a record of the column names, a record of each row, and a line with the count of the rows.
+-- The text of an answer: a record of the column names, a record of each row, and a line with the
+-- count of the rows.
 use Rattle.std.specs.Prelude.{◌==◌, ◌||◌, ◌++◌, Bool, ℕ, List, [], ◌∷◌, if◌then◌else◌, codes, decimal, length, map}
 use Rattle.std.specs.List.{concat, join_with_byte, list_any}
 
@@ -19,8 +20,8 @@ quoted_field field = 34 ∷ (with_doubled_quotes field ++ 34 ∷ [])
 abbrev pub record_field : List ℕ → List ℕ
 record_field field = if list_any is_special field then quoted_field field else field
 
--- The fields of a record with commas between, and a line feed. No record is an empty line: one empty field, or none,
--- stands as two double quotes.
+-- The fields of a record with commas between, and a line feed. No record is an empty line: one
+-- empty field, or none, stands as two double quotes.
 abbrev pub record_line : List (List ℕ) → List ℕ
 record_line [] = 34 ∷ 34 ∷ 10 ∷ []
 record_line ([] ∷ []) = 34 ∷ 34 ∷ 10 ∷ []

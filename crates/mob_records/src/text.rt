@@ -13,8 +13,8 @@ use mob_list::items::Items;
 use mob_list::text::Text;
 use std::alloc::{AllocError, Global};
 
-/// The text of an answer: a line for its names, a line for each row, and the line `(n rows)`, each with a line feed.
-/// Fields are joined by commas, and stand in double quotes where they need them.
+/// The text of an answer: a line for its names, a line for each row, and the line `(n rows)`, each
+/// with a line feed. Fields are joined by commas, and stand in double quotes where they need them.
 pub fn counted_text(
     alloc: Global,
     names: &[Text],
@@ -51,7 +51,8 @@ fn with_count(mut text: Vec<u8>, count: usize) -> Result<Vec<u8>, AllocError>
     Ok(text)
 }
 
-/// The text of a table file: a line for the names of its columns and a line for each row, each with a line feed.
+/// The text of a table file: a line for the names of its columns and a line for each row, each with
+/// a line feed.
 pub fn records_text(
     alloc: Global,
     names: &[Text],

@@ -30,7 +30,8 @@ rise = record { span = record { lower = whole (pos 0); upper = whole (pos 3); lo
 abbrev at_end : SpanOf
 at_end = record { lower = whole (pos 3); upper = whole (pos 5); lower_inc = true; upper_inc = true }
 
--- the line from 0 at 0 to 1 at 3, at the span [3, 5]: they share the end of the slice, which is given and not computed
+-- the line from 0 at 0 to 1 at 3, at the span [3, 5]: they share the end of the slice, which is
+-- given and not computed
 end_cut : flat_map (entry_of_cut (λ (c : Rise) l u t. line_parts c.from c.to l u t)) (shared_pieces (λ s. s.span) (λ r. r) (rise ∷ []) (at_end ∷ [])) ≡ record { formula = F1; parts = [] } ∷ []
 unfolding over gcd gcd_steps in_lowest_terms whole before same
 end_cut = refl

@@ -1,4 +1,5 @@
--- A temporal value at the instants that a set has not, by the remainders that the set leaves of its time.
+-- A temporal value at the instants that a set has not, by the remainders that the set leaves of its
+-- time.
 use Rattle.std.specs.Prelude.{◌≡◌, ◌⊎◌, Bool, true, false, cond, ◌&&◌, not, List, [], ◌∷◌, ◌++◌, map, Option, Some, None, Result, Ok, Err, refl, suc, ◌^◌, nat_abs}
 use Rattle.std.specs.List.{flat_map, filter, AllByRecursion}
 use Rattle.std.proofs.Common.{ap, sym, ◌∙◌, subst, inl, inr, ⊎_elim, true≢false, arith}
@@ -41,7 +42,8 @@ by_hull o false w f = rw (f refl) refl
 by_hull None true w f = refl
 by_hull (Some x) true w f = refl
 
--- what it has at the remainders that the set leaves of its time is what it has at the instants that the set has not
+-- what it has at the remainders that the set leaves of its time is what it has at the instants that
+-- the set has not
 pub outside_values : {C B : Type 0} (value : C → Ratio → Ratio → Ratio → B) (start end : C → B) (v slices : List (Slice C)) (h : SpanOf) (spans remainders : List SpanOf) → AllByRecursion (λ s. is_inside h s.span ≡ true) v → AreRemainders h spans remainders → AreRestricted value start end true (λ t x. in_some remainders t) v slices → AreRestricted value start end false (λ t x. in_some spans t) v slices
 outside_values value start end v slices h spans remainders a g r = record {
   ordered = r.ordered;
@@ -125,7 +127,8 @@ module _ {C B : Type 0} {steady copies : Bool} {value : C → Ratio → Ratio �
   own_high : (s : Slice C) → AllFit (slice_parts parts s s.span.upper)
   own_high s = subst AllFit (sym (laws.upper_parts s.course s.span.lower s.span.upper)) tt
 
-  -- The remainders that a set leaves of the time of a value cut it where the set does. So what is judged by the ones is judged by the other.
+  -- The remainders that a set leaves of the time of a value cut it where the set does. So what is
+  -- judged by the ones is judged by the other.
   pub judged_by_set : {V : Type 0} (v : List (Slice C)) (spans remainders : List SpanOf) (h : SpanOf) (r : Result V OpFault) → AllByRecursion (λ s. is_inside h s.span ≡ true) v → has_instant h ≡ true → IsSpanSet spans → remainders ≡ remainders_of h spans
       → IsJudged (flat_map (entry_of_cut parts) (shared_pieces (λ s. s.span) (λ r. r) v remainders)) r → IsJudged (flat_map (entry_of_cut parts) (shared_pieces (λ s. s.span) (λ r. r) v spans)) r
   judged_by_set v spans remainders h r a i o e j =

@@ -93,9 +93,11 @@ where
     }
 }
 
-/// The temporal value at the instants of the set (MobilityDB's `atTime`). None exactly where no instant is left.
+/// The temporal value at the instants of the set (MobilityDB's `atTime`). None exactly where no
+/// instant is left.
 ///
-/// `Passed` names F1, exactly where a part of it does not fit at an end of what a slice and a span of the set share.
+/// `Passed` names F1, exactly where a part of it does not fit at an end of what a slice and a span
+/// of the set share.
 pub fn at_time<C: Course + Drop>(
     alloc: Global,
     a: &Moving<C>,
@@ -113,9 +115,11 @@ where
     }
 }
 
-/// The temporal value at the instants that are not of the set (MobilityDB's `minusTime`). None exactly where no instant is left.
+/// The temporal value at the instants that are not of the set (MobilityDB's `minusTime`). None
+/// exactly where no instant is left.
 ///
-/// `Passed` names F1, exactly where `at_time` passes it: the cuts of the one are those of the other.
+/// `Passed` names F1, exactly where `at_time` passes it: the cuts of the one are those of the
+/// other.
 pub fn minus_time<C: Course + Drop>(
     alloc: Global,
     a: &Moving<C>,

@@ -117,10 +117,12 @@ where
     }
 }
 
-/// The temporal value at the instants at which it is that value (MobilityDB's `atValues`). None exactly where there is no such instant.
+/// The temporal value at the instants at which it is that value (MobilityDB's `atValues`). None
+/// exactly where there is no such instant.
 ///
-/// `Passed` names the formula of the first entry that has a part that does not fit: on each slice F2, the gaps to that value
-/// at its ends, then F3, their roots, then F1 at these roots. Steady courses have no formula.
+/// `Passed` names the formula of the first entry that has a part that does not fit: on each slice
+/// F2, the gaps to that value at its ends, then F3, their roots, then F1 at these roots. Steady
+/// courses have no formula.
 pub fn at_value<C: Compared + Drop>(
     alloc: Global,
     a: &Moving<C>,
@@ -134,7 +136,8 @@ where
     to_value::<C>(alloc, a, value, true)
 }
 
-/// The temporal value at the instants at which it is not that value (MobilityDB's `minusValues`). None exactly where there is no such instant.
+/// The temporal value at the instants at which it is not that value (MobilityDB's `minusValues`).
+/// None exactly where there is no such instant.
 ///
 /// `Passed` is that of `at_value`: the formulas are the same, whatever is left.
 pub fn minus_value<C: Compared + Drop>(

@@ -17,8 +17,8 @@ enum Axis {
     Y,
 }
 
-/// How far to the east a moving point is, at each instant at which it is defined (MobilityDB's `getX`). No number is computed, so
-/// memory is the one refusal.
+/// How far to the east a moving point is, at each instant at which it is defined (MobilityDB's
+/// `getX`). No number is computed, so memory is the one refusal.
 pub fn get_x(alloc: Global, a: &Moving<PlaneLine>) -> Result<Moving<Line>, AllocError>
     ensures value { IfOk result (λ r. (t : Ratio) → value_at line_value_of r t ≡ option_map (λ p. p.x) (value_at plane_value_of a.now t)) }
 {

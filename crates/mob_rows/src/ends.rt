@@ -6,7 +6,8 @@ use mob_fan_rows::gates::TwoFlags;
 use mob_outside::{Gate, MemFiles, MemSink, MemSource};
 use std::alloc::{AllocError, Global};
 
-/// The number of the call that fails, for each end, counted from 1; no call is number 0. The input is the script or the table.
+/// The number of the call that fails, for each end, counted from 1; no call is number 0. The input
+/// is the script or the table.
 #[derive(Clone, Copy)]
 pub struct Failing {
     pub input: u64,

@@ -1,6 +1,6 @@
-// Runs in which the k-th call of an end fails, for each k until no call is the k-th. What whole scripts and tables answer stands in
-// `checks/rows` and `checks/trips`. How often an end has failed it tells contracts alone (clauses `fails`, `counts` and `failed` of the
-// ends in memory).
+// Runs in which the k-th call of an end fails, for each k until no call is the k-th. What whole
+// scripts and tables answer stands in `checks/rows` and `checks/trips`. How often an end has failed
+// it tells contracts alone (clauses `fails`, `counts` and `failed` of the ends in memory).
 
 use crate::ends::{Failing, NONE_FAILS, Report, Watch, gave};
 use crate::scripts::run_script;
@@ -27,9 +27,10 @@ enum End {
     Notes,
 }
 
-// A run of which an end fails: the program, the end, and the script or the table. Then the status and the note of a run with a failing
-// call; the status, the answer and the note of a run without one; and for each call that can fail, how many bytes of the answer, or of
-// the note where that end fails, are written before it.
+// A run of which an end fails: the program, the end, and the script or the table. Then the status
+// and the note of a run with a failing call; the status, the answer and the note of a run without
+// one; and for each call that can fail, how many bytes of the answer, or of the note where that end
+// fails, are written before it.
 type Row = (
     Program,
     End,
@@ -78,7 +79,8 @@ static SCRIPTS: [Row; 15] = [
         (0, ANSWER, ""),
         &[0, 0, 0, 0, 0, 0],
     ),
-    // The file has 8 bytes, so there are 4 calls: the one that opens it, two with bytes, and one that meets the end.
+    // The file has 8 bytes, so there are 4 calls: the one that opens it, two with bytes, and one
+    // that meets the end.
     (
         Program::Sql,
         End::File,
@@ -87,7 +89,8 @@ static SCRIPTS: [Row; 15] = [
         (0, "k\n3\n(1 rows)\n", ""),
         &[0, 0, 0, 0],
     ),
-    // The script has 99 bytes, so there are 16 calls: fifteen with bytes, and one that meets the end.
+    // The script has 99 bytes, so there are 16 calls: fifteen with bytes, and one that meets the
+    // end.
     (
         Program::Sql,
         End::Input,
@@ -105,7 +108,8 @@ static SCRIPTS: [Row; 15] = [
         (0, "k\n3\n(1 rows)\n", ""),
         &[0, 7],
     ),
-    // The answer has 37 bytes, so there are 6 calls, of which each before the failing one took 7 bytes.
+    // The answer has 37 bytes, so there are 6 calls, of which each before the failing one took 7
+    // bytes.
     (
         Program::Sql,
         End::Out,
@@ -114,7 +118,8 @@ static SCRIPTS: [Row; 15] = [
         (0, ANSWER, ""),
         &[0, 7, 14, 21, 28, 35],
     ),
-    // The note of a refusal is put in nine pieces of 10, 1, 7, 1, 10, 1, 2, 11 and 2 bytes, so in 12 calls.
+    // The note of a refusal is put in nine pieces of 10, 1, 7, 1, 10, 1, 2, 11 and 2 bytes, so in
+    // 12 calls.
     (
         Program::Sql,
         End::Notes,
@@ -268,7 +273,8 @@ static TABLES: [Row; 17] = [
         (0, NEAREST, ""),
         &[0, 0, 0, 0, 0],
     ),
-    // The answer has 26 bytes, so there are 4 calls, of which each before the failing one took 8 bytes.
+    // The answer has 26 bytes, so there are 4 calls, of which each before the failing one took 8
+    // bytes.
     (
         Program::Near,
         End::Out,
@@ -314,7 +320,8 @@ static TABLES: [Row; 17] = [
         (0, THINNED, ""),
         &[0, 0, 0, 0, 0],
     ),
-    // The text has 44 bytes, so there are 6 calls, of which each before the failing one took 8 bytes.
+    // The text has 44 bytes, so there are 6 calls, of which each before the failing one took 8
+    // bytes.
     (
         Program::Thin,
         End::Out,
@@ -360,7 +367,8 @@ static TABLES: [Row; 17] = [
         (0, PARTS, ""),
         &[0, 0, 0, 0, 0],
     ),
-    // The answer has 64 bytes, so there are 8 calls, of which each before the failing one took 8 bytes.
+    // The answer has 64 bytes, so there are 8 calls, of which each before the failing one took 8
+    // bytes.
     (
         Program::Parts,
         End::Out,
@@ -395,7 +403,8 @@ static TABLES: [Row; 17] = [
         (6, "", "rows 1: refusal 13 (Limit)\n"),
         &[0, 5, 6, 14, 22],
     ),
-    // The note of a part that does not fit, on two rows, is put in pieces of 5, 1, 1, 1, 10, 2 and 16 bytes.
+    // The note of a part that does not fit, on two rows, is put in pieces of 5, 1, 1, 1, 10, 2 and
+    // 16 bytes.
     (
         Program::Pairs,
         End::Notes,
@@ -467,7 +476,8 @@ fn front(text: &str, count: usize) -> &[u8] {
     text.as_bytes().get(..count).unwrap_or(&[])
 }
 
-// Whether a run with a failing call gave what it must, where so many bytes are written before the call.
+// Whether a run with a failing call gave what it must, where so many bytes are written before the
+// call.
 fn is_cut(seen: &Report, row: &Row, moved: usize) -> bool {
     let (status, note) = row.3;
     match row.1 {
@@ -522,7 +532,8 @@ fn calls_of_programs_over_trips_that_fail(rt: HostRuntime) {
     }
 }
 
-// Whether a run in which this call of the files fails writes nothing, and ends with this status and note.
+// Whether a run in which this call of the files fails writes nothing, and ends with this status and
+// note.
 fn ends_by(rt: &(impl Threads + Sync), alloc: Global, call: u64, status: u8, note: &str) -> bool {
     match &run_once(rt, alloc, Program::Sql, TWICE, failing(End::File, call)) {
         Ok(seen) => gave(seen, status, b"", note.as_bytes()),
@@ -530,7 +541,8 @@ fn ends_by(rt: &(impl Threads + Sync), alloc: Global, call: u64, status: u8, not
     }
 }
 
-// The first four calls read the file of the first COPY. The fifth would open that of the second, behind the literal.
+// The first four calls read the file of the first COPY. The fifth would open that of the second,
+// behind the literal.
 #[test]
 fn a_file_that_is_copied_twice_is_read_when_it_is_reached(rt: HostRuntime) {
     let refused = "statement 4, byte 107: refusal 14 (BadLiteral)\n";

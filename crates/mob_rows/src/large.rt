@@ -1,5 +1,5 @@
-// A large join ends: each of 200,000 points is joined with all of them by an index. A body that tried each box for each point would make
-// 40,000,000,000 tests, which no test has the time for.
+// A large join ends: each of 200,000 points is joined with all of them by an index. A body that
+// tried each box for each point would make 40,000,000,000 tests, which no test has the time for.
 
 use crate::ends::{NONE_FAILS, Watch, gave};
 use crate::scripts::run_script;
@@ -15,7 +15,8 @@ SELECT a.id AS a, b.id AS b FROM p a, p b WHERE a.trip && b.trip LIMIT 2;
 
 const ANSWER: &[u8] = b"a,b\n1,1\n2,2\n(2 rows)\n";
 
-// A table file of points beside one another, and of one far from them all: the point of row k stands at (k 0), all at one instant.
+// A table file of points beside one another, and of one far from them all: the point of row k
+// stands at (k 0), all at one instant.
 fn points(alloc: Global, count: u32) -> Result<Vec<u8>, AllocError> {
     let mut file = b"id,trip\n".to_vec(alloc)?;
     let mut digits = Buffer::new();

@@ -24,7 +24,8 @@ fn a_sink_takes_a_step_fails_and_goes_on(rt: HostRuntime) {
     }
 }
 
-// A file is opened and read in steps of 2 bytes; a name that is not there is a fault, and is noted too.
+// A file is opened and read in steps of 2 bytes; a name that is not there is a fault, and is noted
+// too.
 fn are_opened(files: &mut MemFiles) -> bool {
     let mut bytes = [0u8; 4];
     files.open("t.csv") == Ok(())

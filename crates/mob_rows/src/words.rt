@@ -4,7 +4,8 @@ use crate::ends::listed;
 use mob_words::settings;
 use std::alloc::Global;
 
-// Words, and the workers, the day of the epoch and the ships of the demo that they say. No ship stands for no demo.
+// Words, and the workers, the day of the epoch and the ships of the demo that they say. No ship
+// stands for no demo.
 static ROWS: [(&[&str], u32, i64, u32); 11] = [
     (&[], 1, 10957, 0),
     (&["mobsql"], 1, 10957, 0),

@@ -18,7 +18,7 @@ SELECT a.id AS x, b.id AS y FROM a, b WHERE a.trip && b.trip;
 
 const JOINED: &[u8] = b"x,y\n1,7\n1,7\n(2 rows)\n";
 
-// The same tables, of which one loses the row with the box far off and is left-joined.
+// The tables of `JOIN`, of which one loses the row with the box far off and is left-joined.
 const CHANGE: &str = "CREATE TABLE a (id int, trip tgeompoint);
 CREATE TABLE b (id int, trip tgeompoint);
 INSERT INTO a VALUES (1, '[POINT(0 0)@2001-01-01, POINT(2 2)@2001-01-02]'), (2, NULL);
@@ -30,7 +30,8 @@ SELECT id FROM b;
 
 const CHANGED: &[u8] = b"x,y\n1,7\n1,7\n2,\\N\n(3 rows)\nid\n7\n7\n(2 rows)\n";
 
-// Two trips side by side, 3 apart at each instant, and one that is far from both. They reach more than 64 tiles.
+// Two trips side by side, 3 apart at each instant, and one that is far from both. They reach more
+// than 64 tiles.
 const TABLE: &str = "id,trip
 1,\"[POINT(0 0)@2001-01-01 00:00:00, POINT(80 0)@2001-01-01 00:00:04]\"
 2,\"[POINT(0 3)@2001-01-01 00:00:00, POINT(80 3)@2001-01-01 00:00:04]\"

@@ -4,8 +4,9 @@ use Rattle.mob_stbox.specs.Boxes.{BoxOf, contains}
 use Rattle.mob_rtree_nodes.specs.Tree.{EntryOf, IsLeastOver, if_live_list}
 use Rattle.mob_rtree_nodes.specs.Reach.{Branch}
 
--- the entries, in any order, the boxes of the nodes that have a child, for how many more entries there is memory, the nodes by their
--- numbers, dropped ones too, which have no child, and the number of the root
+-- the entries, in any order, the boxes of the nodes that have a child, for how many more entries
+-- there is memory, the nodes by their numbers, dropped ones too, which have no child, and the
+-- number of the root
 pub record Shape : Type 0 where
   pub entries : List EntryOf
   pub areas : List BoxOf
@@ -28,7 +29,8 @@ AreUsedAgain old new = (length new ≡ length old) ⊎ All (λ b. 0 < length b.k
 abbrev pub boxes_of : List Branch → List BoxOf
 boxes_of bs = flat_map (λ b. if_live_list b.kids b.area) bs
 
--- where a node has a child, its box is the least one over those of its children: it contains each, and lies in each box that does
+-- where a node has a child, its box is the least one over those of its children: it contains each,
+-- and lies in each box that does
 pub record HasLeastBox (b : Branch) : Type 0 where
   pub over : All (λ k. contains b.area k.0 ≡ true) b.kids
   pub least : 0 < length b.kids → IsLeastOver b.area b.kids

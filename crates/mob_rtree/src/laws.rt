@@ -7,8 +7,8 @@ ghost use Rattle.mob_rtree.specs.Shape.{HasLeastBox, boxes_of};
 use crate::{Child, RTree};
 use mob_list::laws::crosses_threads;
 
-/// The box of each node is the least one over the boxes of its children, and these are the boxes by which the steps of a search are
-/// bounded.
+/// The box of each node is the least one over the boxes of its children, and these are the boxes by
+/// which the steps of a search are bounded.
 pub fn boxes_are_least(tree: &RTree)
     ensures least { All HasLeastBox tree.now.nodes }
     ensures areas { tree.now.areas ≡ boxes_of tree.now.nodes }

@@ -17,8 +17,9 @@ use std::alloc::{AllocError, Global};
 use std::marker::Model;
 use std::sync::ledger::Ledger;
 
-/// Entries, each a box with space and time and an id, so kept that those whose box meets a given one are found by few tests of boxes.
-/// An entry may be there more than once. No call but `new` takes an allocator: the tree keeps the one that it was made with.
+/// Entries, each a box with space and time and an id, so kept that those whose box meets a given
+/// one are found by few tests of boxes. An entry may be there more than once. No call but `new`
+/// takes an allocator: the tree keeps the one that it was made with.
 #[derive(Drop)]
 pub struct RTree {
     nodes: Vec<TreeNode>,
@@ -55,8 +56,8 @@ impl RTree {
         }
     }
 
-    /// A tree of these entries, with near ones beside one another. It takes less time than as many calls of `insert`, and mostly makes
-    /// a tree that is faster to search.
+    /// A tree of these entries, with near ones beside one another. It takes less time than as many
+    /// calls of `insert`, and mostly makes a tree that is faster to search.
     pub fn build(alloc: Global, entries: Vec<(StBox, u32)>) -> Result<RTree, AllocError>
         requires whole { All (λ e. is_whole e.0 ≡ true) entries.items }
         ensures entries { IfOk result (λ t. AreSame t.entries entries.items) }
@@ -129,7 +130,8 @@ impl RTree {
         Ok(())
     }
 
-    /// Takes one entry of this box and id out, and tells whether it was there. It takes no memory, and none of what `reserve_one` made.
+    /// Takes one entry of this box and id out, and tells whether it was there. It takes no memory,
+    /// and none of what `reserve_one` made.
     pub fn remove(&mut self, b: &StBox, id: u32) -> bool
         ensures found { result ≡ true → IsAdded self.new.entries (b.now, id) self.old.entries }
         ensures missing { result ≡ false → All (λ e. e ≢ (b.now, id)) self.old.entries }
@@ -154,8 +156,9 @@ impl RTree {
         }
     }
 
-    /// Takes every entry out whose id is one of these, which do not fall. It goes over all nodes, whatever the ids, and computes each box
-    /// once, so it is for many ids at a time. It takes no memory, and none of what `reserve_one` made.
+    /// Takes every entry out whose id is one of these, which do not fall. It goes over all nodes,
+    /// whatever the ids, and computes each box once, so it is for many ids at a time. It takes no
+    /// memory, and none of what `reserve_one` made.
     pub fn remove_ids(&mut self, ids: &[u32])
         requires rising { IsNonDecreasing ids.now }
         ensures left { AreSame self.new.entries (without_ids ids.now self.old.entries) }
@@ -173,7 +176,8 @@ impl RTree {
         }
     }
 
-    /// Appends the ids of the entries whose box meets the asked one, in rising order, each as often as it is there.
+    /// Appends the ids of the entries whose box meets the asked one, in rising order, each as often
+    /// as it is there.
     pub fn search<L: Ledger>(
         &self,
         q: &StBox,
@@ -182,7 +186,8 @@ impl RTree {
     ) -> Result<(), AllocError>
         ensures found { OnOk result ((more : List ℕ) × (into.new.items ≡ into.old.items ++ more) × IsSorted nat_cmp more × AreFound q.now self.now.entries more) }
         ensures err { OnErr result (into.new.items ≡ into.old.items) }
-        // A step is a test of one box. There are at most 16 for each node whose box meets the asked one, and one more.
+        // A step is a test of one box. There are at most 16 for each node whose box meets the asked
+        // one, and one more.
         ensures cost { steps.new ≤ steps.old + (1 + 16 * count_by (λ b. overlaps b q.now) self.now.areas) }
     {
         if self.nodes.is_empty() {
@@ -191,7 +196,8 @@ impl RTree {
         gather(&self.nodes, &self.root, q, into, steps)
     }
 
-    /// The number of the root. None exactly where there is no entry. Each entry is below it as often as it is there.
+    /// The number of the root. None exactly where there is no entry. Each entry is below it as
+    /// often as it is there.
     pub fn root(&self) -> Option<u32>
         ensures is { result ≡ self.now.root }
         ensures none { MatchOption result (self.now.entries ≡ []) (λ n. 0 < length self.now.entries) }
@@ -213,7 +219,8 @@ impl RTree {
         self.nodes[node as usize].kids.as_slice()
     }
 
-    // Whether there is a node. What is said of each tree's boxes and leaves is proved here, where its fields are seen.
+    // Whether there is a node. What is said of each tree's boxes and leaves is proved here, where
+    // its fields are seen.
     pub(crate) fn has_root(&self) -> bool
         ensures least { All HasLeastBox self.now.nodes }
         ensures areas { self.now.areas ≡ boxes_of self.now.nodes }

@@ -12,7 +12,8 @@ kid_of e = (e.0, Entry e.1)
 abbrev pub leaf_sum : (EntryOf → ℕ) → List Kid → ℕ → ℕ
 leaf_sum g kids h = cond (h == 0) (sum_by (λ k. g (entry_of k)) kids) 0
 
--- trees beside one another, whose roots could be the children of a node of height h; at height 0 these are entries
+-- trees beside one another, whose roots could be the children of a node of height h; at height 0
+-- these are entries
 pub record IsForest (h : ℕ) (kids : List Kid) (ps : List TreeNode) : Type 0 where
   pub once : (f : Ref → ℕ) → kids_sum f h kids + refs_sum f ps ≡ nodes_sum f 0 ps
   pub sound : All IsSoundNode ps

@@ -61,9 +61,9 @@ IsLeaf bs n = All (λ k. is_kind 0 k.1 ≡ true) (children bs n)
 abbrev pub HaveOneDepth : List Branch → Option ℕ → Type 0
 HaveOneDepth bs root = (depth other n m : ℕ) → StandsAtDepth bs root depth n → StandsAtDepth bs root other m → IsLeaf bs n → IsLeaf bs m → depth ≡ other
 
--- what is said of the children of node n: each entry below it is below one of them, as often as it is there, under a box
--- that covers it; its children are entries where its height is 0, else nodes; and a child that is a node is one lower and has the
--- least box over its own children's
+-- what is said of the children of node n: each entry below it is below one of them, as often as it
+-- is there, under a box that covers it; its children are entries where its height is 0, else nodes;
+-- and a child that is a node is one lower and has the least box over its own children's
 pub record IsSpread (bs : List Branch) (n : ℕ) : Type 0 where
   pub some : 0 < length (children bs n)
   pub spread : entries_under bs n ≡ flat_map (entries_below bs) (children bs n)

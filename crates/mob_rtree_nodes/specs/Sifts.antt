@@ -35,13 +35,15 @@ pub record IsSiftedAt (ids : List ℕ) (old : List TreeNode) (n : ℕ) (new : Li
   pub nodes : new ≡ set old n part
   pub sifted : (p : TreeNode) → p ≡ get_or old n p → IsSiftedNode ids old p part
 
--- each node has that is lower than h, or stands at height h before number n; the others are as they were
+-- each node has that is lower than h, or stands at height h before number n; the others are as they
+-- were
 pub record IsSiftedUpTo (ids : List ℕ) (old : List TreeNode) (h n : ℕ) (ps : List TreeNode) : Type 0 where
   pub size : length ps ≡ length old
   pub done : (i : ℕ) (p q : TreeNode) → i < length old → p ≡ get_or old i p → q ≡ get_or ps i q → (p.height < h) ⊎ ((p.height ≡ h) × (i < n)) → IsSiftedNode ids ps p q
   pub rest : (i : ℕ) (p q : TreeNode) → i < length old → p ≡ get_or old i p → q ≡ get_or ps i q → (h < p.height) ⊎ ((p.height ≡ h) × (n ≤ i)) → q ≡ p
 
--- what is said where the entries of these ids were taken out of a tree: the box of its root, or none where no entry is left
+-- what is said where the entries of these ids were taken out of a tree: the box of its root, or
+-- none where no entry is left
 abbrev pub IsTreeLeft : Ref → List ℕ → List TreeNode → Option BoxOf → List TreeNode → Type 0
 IsTreeLeft root ids old None new = AreSame [] (without_ids ids (entries_list old))
 IsTreeLeft root ids old (Some b) new = IsTree (record { area = b; node = root.node; height = root.height }) new × AreSame (entries_list new) (without_ids ids (entries_list old))

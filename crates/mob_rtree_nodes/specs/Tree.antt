@@ -66,7 +66,8 @@ abbrev pub if_dropped : List Kid → ℕ → ℕ
 if_dropped [] n = n
 if_dropped (k ∷ ks) n = 0
 
--- the sum of f over the numbers of all nodes that have no child, of which the first node has the number i
+-- the sum of f over the numbers of all nodes that have no child, of which the first node has the
+-- number i
 abbrev pub dropped_sum : (ℕ → ℕ) → ℕ → List TreeNode → ℕ
 dropped_sum f i [] = 0
 dropped_sum f i (p ∷ ps) = if_dropped p.kids.items (f i) + dropped_sum f (i + 1) ps
@@ -79,8 +80,8 @@ IsFree free ps = (f : ℕ → ℕ) → sum_by f free ≡ dropped_sum f 0 ps
 abbrev pub AreLive : List TreeNode → Type 0
 AreLive ps = All (λ p. 0 < length p.kids.items) ps
 
--- Nodes are added only where no dropped one is left: the nodes stay as many, unless each has a child. Where each has one before,
--- each has one after.
+-- Nodes are added only where no dropped one is left: the nodes stay as many, unless each has a
+-- child. Where each has one before, each has one after.
 pub record IsReused (old new : List TreeNode) : Type 0 where
   pub same : (length new ≡ length old) ⊎ AreLive new
   pub live : AreLive old → AreLive new
@@ -113,14 +114,15 @@ pub record IsSoundNode (p : TreeNode) : Type 0 where
   pub least : 0 < length p.kids.items → IsLeastOver p.area p.kids.items
   pub fit : count_by (λ k. not (is_fit p.height k)) p.kids.items ≡ 0
 
--- each node that has a child is referred to once, from a node one higher, beside its own box, but for the root;
--- a node that has none is not referred to
+-- each node that has a child is referred to once, from a node one higher, beside its own box, but
+-- for the root; a node that has none is not referred to
 pub record IsTree (root : Ref) (ps : List TreeNode) : Type 0 where
   pub once : (f : Ref → ℕ) → f root + refs_sum f ps ≡ nodes_sum f 0 ps
   pub sound : All IsSoundNode ps
   pub low : All (λ p. p.height ≤ root.height) ps
 
--- what a walk down from node n of height h sums up: own for each node, and g for each entry, whose boxes pass a test
+-- what a walk down from node n of height h sums up: own for each node, and g for each entry, whose
+-- boxes pass a test
 unfoldable pub walk_sum : (BoxOf → Bool) → (own : ℕ) → (g : EntryOf → ℕ) → List TreeNode → ℕ → ℕ → ℕ
 walk_sum test own g ps zero n = own + sum_by (λ k. cond (test k.0) (g (entry_of k)) 0) (kids_at ps n)
 walk_sum test own g ps (suc h) n = own + sum_by (λ k. cond (test k.0) (walk_sum test own g ps h (target k.1)) 0) (kids_at ps n)

@@ -13,7 +13,8 @@ use arrayvec::ArrayVec;
 use mob_stbox::StBox;
 use std::alloc::{AllocError, Global};
 
-/// Children with the places that they are to be ordered by, each computed once: neighbours among these numbers lie near one another.
+/// Children with the places that they are to be ordered by, each computed once: neighbours among
+/// these numbers lie near one another.
 fn keyed(alloc: Global, kids: &[(StBox, Child)]) -> Result<Vec<(u64, (StBox, Child))>, AllocError>
     ensures kids { IfOk result (λ pairs. map (λ p. p.1) pairs.items ≡ kids.now) }
 {

@@ -1,5 +1,6 @@
-//! About how long the sides of boxes are, in whole parts of 2^-62. Where an entry is put in is chosen by these numbers, and no clause speaks of
-//! them: a tree finds the same entries wherever they lie. Lengths tell apart boxes of no area too, as those of points.
+//! About how long the sides of boxes are, in whole parts of 2^-62. Where an entry is put in is
+//! chosen by these numbers, and no clause speaks of them: a tree finds the same entries wherever
+//! they lie. Lengths tell apart boxes of no area too, as those of points.
 
 use mob_frac::Frac;
 use mob_span::Span;

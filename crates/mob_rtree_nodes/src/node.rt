@@ -34,7 +34,8 @@ impl Child {
     }
 }
 
-/// A node: its box, its height above the leaves, and its children. Without children it is no part of the tree.
+/// A node: its box, its height above the leaves, and its children. Without children it is no part
+/// of the tree.
 #[derive(Drop)]
 pub struct TreeNode {
     pub area: StBox,

@@ -1,5 +1,6 @@
-//! Where the children of a tree that is built are packed: by their ranks along each axis, so that no outlier crowds the others together. No clause
-//! speaks of it: a tree finds the same entries wherever they lie.
+//! Where the children of a tree that is built are packed: by their ranks along each axis, so that
+//! no outlier crowds the others together. No clause speaks of it: a tree finds the same entries
+//! wherever they lie.
 
 use crate::lengths::{Axis, PARTS, ends_of, rounded};
 use crate::node::Child;
@@ -7,8 +8,8 @@ use mob_frac::Frac;
 use mob_stbox::StBox;
 use std::alloc::{AllocError, Global};
 
-/// A fraction by which fractions are put in order: its whole parts of 2^-62, and those of 2^-124 in what is left. No two fractions with parts below
-/// 2^62 lie as near to one another as 2^-124.
+/// A fraction by which fractions are put in order: its whole parts of 2^-62, and those of 2^-124 in
+/// what is left. No two fractions with parts below 2^62 lie as near to one another as 2^-124.
 type Exact = (i128, i128);
 
 fn exact(f: &Frac) -> Exact {
@@ -61,7 +62,8 @@ impl Ranks {
         Ok(Ranks { of, greatest })
     }
 
-    /// The place of a child along the axis, from 0 to below 2^21, with its bits taken apart, so that those of two other axes fit between each two.
+    /// The place of a child along the axis, from 0 to below 2^21, with its bits taken apart, so
+    /// that those of two other axes fit between each two.
     pub fn spread_place(&self, kid: usize) -> u64 {
         let rank = match self.of.get(kid) {
             Some(rank) => *rank,

@@ -10,8 +10,8 @@ use crate::insert::{cover_all, widen};
 use crate::node::{Child, TreeNode};
 use mob_stbox::StBox;
 
-/// What became of a node when an entry was to be taken out below it: it was not there, the node has a narrower box,
-/// or it has no child any more.
+/// What became of a node when an entry was to be taken out below it: it was not there, the node has
+/// a narrower box, or it has no child any more.
 #[derive(Clone, Copy)]
 pub enum Removed {
     Missing,
@@ -47,7 +47,8 @@ fn take_out(part: &mut TreeNode, slot: usize) -> Removed
     Removed::Narrowed(part.area)
 }
 
-/// Writes a child's narrower box down at a node. Where the box is the one that is there, the node stays as it is.
+/// Writes a child's narrower box down at a node. Where the box is the one that is there, the node
+/// stays as it is.
 fn narrow(part: &mut TreeNode, slot: usize, area: StBox) -> Removed
     requires slot { slot < length part.old.kids.items }
     requires sound { IsSoundNode part.old }
@@ -76,7 +77,8 @@ fn settle(part: &mut TreeNode, slot: usize, removed: Removed) -> Removed
     }
 }
 
-/// The same at the node of a number, which is free where it has no child any more.
+/// Writes down at the node of this number what became of a child. The number is free where the node
+/// has no child any more.
 fn settle_at(
     nodes: &mut Vec<TreeNode>,
     free: &mut Vec<u32>,

@@ -156,7 +156,8 @@ pub fn take_entry(
     remove_at(nodes, free, root.node, b, id)
 }
 
-/// Takes the entries of these ids out in one pass over the nodes. It answers the box of the root, or None where no entry is left.
+/// Takes the entries of these ids out in one pass over the nodes. It answers the box of the root,
+/// or None where no entry is left.
 pub fn take_ids(
     nodes: &mut Vec<TreeNode>,
     free: &mut Vec<u32>,

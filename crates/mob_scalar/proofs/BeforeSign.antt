@@ -1,4 +1,5 @@
--- Truth values and values of a ttext may stand before a sign with blanks beside it, as before the @ of a temporal text.
+-- Truth values and values of a ttext may stand before a sign with blanks beside it, as before the @
+-- of a temporal text.
 use Rattle.std.proofs.Common.{◌∷◌, ◌++◌, refl, rules, codes}
 use Rattle.std.specs.Char.{is_ascii_alphabetic}
 use Rattle.mob_language.specs.Language.{Text, is_blank, spaced}

@@ -1,4 +1,5 @@
--- Brackets, braces and commas are read exactly, and may stand behind a moment; so are lists with commas between.
+-- Brackets, braces and commas are read exactly, and may stand behind a moment; so are lists with
+-- commas between.
 use Rattle.std.proofs.Common.{◌≡◌, ℕ, [], ◌∷◌, ◌++◌, Bool, true, false, None, refl, sym, ap, subst, ◌∙◌, append_assoc, rules, codes}
 use Rattle.std.specs.Prelude.{nat_eq}
 use Rattle.mob_language.specs.Language.{Text, Language, ◌▷◌, Word, AreAll, Separated, blanks, is_blank}

@@ -1,6 +1,7 @@
 -- Brackets, braces and commas, with blanks beside them.
 --
--- Blanks may stand on both sides of each sign of a text that stands outside a number, a moment and a quoted value.
+-- Blanks may stand on both sides of each sign of a text that stands outside a number, a moment and
+-- a quoted value.
 use Rattle.std.specs.Prelude.{ℕ, List, [], ◌∷◌, ◌++◌, codes, Bool, ◌||◌, nat_eq}
 use Rattle.mob_language.specs.Language.{Text, Language, ◌▷◌, Means, Word, OneOf, blanks, spaced, in_middle}
 use Rattle.mob_language.specs.Readers.{TextReader, then_at, means_at, word_at, one_at, blanks_at, spaced_at}

@@ -1,6 +1,7 @@
 -- Dates of the calendar, of the years 0001 to 9999: their texts, and the date of a day.
 --
--- The calendar is the Gregorian one carried back before its time. A day has a number: 0 is 1970-01-01, and the day before it is -1.
+-- The calendar is the Gregorian one carried back before its time. A day has a number: 0 is
+-- 1970-01-01, and the day before it is -1.
 use Rattle.std.specs.Prelude.{ℕ, zero, suc, ◌+◌, codes, Bool, ◌&&◌, cond, nat_le, nat_eq, unsigned_abs, ℤ, pos, neg_ℤ, ◌-ℤ◌, ◌≤ℤ◌}
 use Rattle.std.specs.Int.Signed.{le_z}
 use Rattle.jiff_core.specs.Calendar.{days_from_civil, days_in_month}

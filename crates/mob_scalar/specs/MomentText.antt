@@ -1,8 +1,9 @@
 -- The text of a moment.
 --
--- A moment is an instant, in seconds since midnight UTC of the epoch's day. Its text is `YYYY-MM-DD HH:MM:SS`, then the part of a
--- second (nothing for a whole second, a point and the fewest digits where at most six digits give it exactly, else the fraction in
--- brackets), then `+00`. Outside the years 0001 to 9999 it is `epoch+(n)`, where n is the number of seconds.
+-- A moment is an instant, in seconds since midnight UTC of the epoch's day. Its text is `YYYY-MM-DD
+-- HH:MM:SS`, then the part of a second (nothing for a whole second, a point and the fewest digits
+-- where at most six digits give it exactly, else the fraction in brackets), then `+00`. Outside the
+-- years 0001 to 9999 it is `epoch+(n)`, where n is the number of seconds.
 use Rattle.std.specs.Prelude.{◌≡◌, true, ℕ, zero, suc, ◌*◌, ◌-◌, ◌/◌, ◌%◌, ◌==◌, List, [], ◌∷◌, ◌++◌, length, codes, replicate, position, ◌^◌, if◌then◌else◌, Option, Some, None, ℤ, pos, unsigned_abs, ◌+ℤ◌, ◌*ℤ◌}
 use Rattle.std.specs.Fmt.{decimal}
 use Rattle.std.specs.Int.{int_div_euclid, int_rem_euclid}
@@ -51,7 +52,8 @@ part_in (Some (suc k)) numerator denominator = decimals_text (suc k) numerator d
 unfoldable pub part_text : ℕ → ℕ → Text
 part_text numerator denominator = part_in (places denominator) numerator denominator
 
--- the greatest whole number of seconds that is not above q, and the numerator of the part of a second beyond it
+-- the greatest whole number of seconds that is not above q, and the numerator of the part of a
+-- second beyond it
 abbrev pub whole_seconds : Ratio → ℤ
 whole_seconds q = int_div_euclid q.num (pos q.den)
 
@@ -63,7 +65,8 @@ unfoldable pub stamp_text : Civil → ℕ → ℕ → ℕ → Text
 stamp_text date clock numerator denominator =
     date_text date ++ (codes " " ++ (clock_text clock ++ (part_text numerator denominator ++ codes "+00")))
 
--- the text of a second of the years 0001 to 9999, counted from 1970-01-01 00:00:00, and a part of a second
+-- the text of a second of the years 0001 to 9999, counted from 1970-01-01 00:00:00, and a part of a
+-- second
 unfoldable pub second_text : ℤ → ℕ → ℕ → Text
 second_text second numerator denominator =
     stamp_text (date_of (int_div_euclid second (pos 86400))) (unsigned_abs (int_rem_euclid second (pos 86400))) numerator denominator

@@ -1,4 +1,5 @@
--- The form of moments: a moment, with blanks at its ends; and moments for the instants that they stand for, where these fit.
+-- The form of moments: a moment, with blanks at its ends; and moments for the instants that they
+-- stand for, where these fit.
 use Rattle.std.specs.Prelude.{◌≡◌, Option, ℤ}
 use Rattle.mob_ratio.specs.Ratio.{Ratio}
 use Rattle.mob_frac.specs.Fits.{Fits}

@@ -1,7 +1,8 @@
 -- The texts of the values of a ttext.
 --
--- A value is written in double quotes, where each double quote and each backslash of it has a backslash before it; or bare, as one
--- character or more without blanks at its ends and without @ , { } [ ] ( ) and double quotes.
+-- A value is written in double quotes, where each double quote and each backslash of it has a
+-- backslash before it; or bare, as one character or more without blanks at its ends and without @ ,
+-- { } [ ] ( ) and double quotes.
 use Rattle.std.specs.Prelude.{◌≡◌, ℕ, [], ◌∷◌, ◌++◌, codes, Bool, true, false, ◌||◌, ◌&&◌, not, cond, nat_eq, Option, Some, None}
 use Rattle.std.specs.Str.{is_utf8}
 use Rattle.mob_language.specs.Language.{Text, Language, ◌∣◌, Where, ManyOf, is_blank}
@@ -52,7 +53,8 @@ text_value = Where is_utf8 (quoted ∣ bare)
 abbrev pub put_first : ℕ → Option (Text × Text) → Option (Text × Text)
 put_first c read = read >>= λ x. Some (c ∷ x.0, x.1)
 
--- the value up to its closing quote, and what stands behind that; a backslash may stand before the first byte
+-- the value up to its closing quote, and what stands behind that; a backslash may stand before the
+-- first byte
 unfoldable pub unescaped_at : Bool → TextReader Text
 unescaped_at pending [] = None
 unescaped_at true (c ∷ cs) = cond (is_escaped c) (put_first c (unescaped_at false cs)) None

@@ -16,7 +16,8 @@ use Rattle.mob_typing.specs.Statements.{node_value, typed_statement, typed_scrip
 use Rattle.mob_typed.specs.Statements.{new_table, new_rows, query}
 use Rattle.mob_script_rows.proofs.Examples.{word, type_word, leaf, number, string, literal, column, refused, refused_in}
 
--- the column of this name and type, whose type stands two bytes behind the beginning of a name of one letter
+-- the column of this name and type, whose type stands two bytes behind the beginning of a name of
+-- one letter
 abbrev new_column : List ℕ → ℕ → List ℕ → Word × TypeWord
 new_column name p ty = (word name p, type_word ty (p + 2))
 
@@ -40,7 +41,8 @@ a_star_without_tables : typed_script (select (record { distinct = false; items =
 unfolding typed_statement typed_expression typed_operands typed_before_operands finished digits_of digits_in node_value table type_words geometry_words
 a_star_without_tables = refl
 
--- c00 int, c01 int, ..: so many columns from the one of number k on, in a table whose first column stands at byte 16
+-- c00 int, c01 int, ..: so many columns from the one of number k on, in a table whose first column
+-- stands at byte 16
 abbrev numbered : ℕ → List ℕ
 numbered k = codes "c" ++ (48 + k / 10) ∷ (48 + k % 10) ∷ []
 

@@ -1,4 +1,5 @@
-//! Trees as text, for tests: each node with its place behind `@`, and behind it its arguments in brackets.
+//! Trees as text, for tests: each node with its place behind `@`, and behind it its arguments in
+//! brackets.
 
 use mob_ast::expression::{Expr, Node};
 use mob_ast::statement::{FromTable, Item, Key, Row, SelectTree, Statement};

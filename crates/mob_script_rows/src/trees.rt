@@ -1,4 +1,5 @@
-// Scripts and their trees, each node with its place. Which scripts are refused, and where, stands in `checks/rows`.
+// Scripts and their trees, each node with its place. Which scripts are refused, and where, stands
+// in `checks/rows`.
 
 use crate::shown::show_statement;
 use mob_grammar::laws::{few_nodes, one_first_wrong, one_tree};

@@ -1,4 +1,5 @@
-// Scripts and the type of their first item, and the names of refusals. Which scripts are refused stands in `checks/rows`.
+// Scripts and the type of their first item, and the names of refusals. Which scripts are refused
+// stands in `checks/rows`.
 
 use mob_ast::{Kind, SqlType};
 use mob_parse::script::parse;

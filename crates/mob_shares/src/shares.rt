@@ -63,7 +63,8 @@ fn back_of_longer(span: &Span, first: &Span) -> Option<Span>
     )
 }
 
-// What of a span comes behind another, as `back` gives it. Most often the two begin or end together.
+// What of a span comes behind another, as `back` gives it. Most often the two begin or end
+// together.
 fn back(span: &Span, first: &Span) -> Option<Span>
     ensures ends { IfSome result (λ p. p ≡ back_of span.now first.now) }
     ensures test { MatchOption result (has_instant (back_of span.now first.now) ≡ false) (λ p. has_instant p ≡ true) }

@@ -1,4 +1,5 @@
--- Where a straight course is at an instant between its ends, from what the ends, the instant and each coordinate give.
+-- Where a straight course is at an instant between its ends, from what the ends, the instant and
+-- each coordinate give.
 use Rattle.std.specs.Prelude.{◌≡◌, Bool, true, false, cond, ◌&&◌, ◌++◌, [], ◌∷◌, Result, Ok, Err, refl}
 use Rattle.std.proofs.Common.{arith, ap, sym, ◌∙◌, subst}
 use Rattle.std.proofs.lemmas.Bool.{and_parts}

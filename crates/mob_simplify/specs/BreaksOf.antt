@@ -22,7 +22,8 @@ abbrev pub followed : Slice PlaneLine → List (Slice PlaneLine) → Bool
 followed s [] = false
 followed s (r ∷ rest) = same s.span.upper r.span.lower && (r.span.lower_inc && not s.span.upper_inc) && same_point s.course.to r.course.from
 
--- A slice prints its start, and its end where it is longer than an instant and the next slice does not print that.
+-- A slice prints its start, and its end where it is longer than an instant and the next slice does
+-- not print that.
 abbrev pub instants_by : Slice PlaneLine → Bool → ℕ
 instants_by s next = cond next 1 (1 + cond (before s.span.lower s.span.upper) 1 0)
 

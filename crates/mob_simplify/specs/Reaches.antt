@@ -1,4 +1,5 @@
--- The formulas of a straight course, cut into what its ends give, what the instant gives, and what each coordinate gives.
+-- The formulas of a straight course, cut into what its ends give, what the instant gives, and what
+-- each coordinate gives.
 use Rattle.std.specs.Prelude.{cond, List, [], ◌∷◌}
 use Rattle.mob_ratio.specs.Ratio.{Ratio, ◌+ℚ◌, ◌-ℚ◌, ◌*ℚ◌, ◌/ℚ◌}
 use Rattle.mob_ratio.specs.Order.{same}

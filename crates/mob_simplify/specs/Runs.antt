@@ -9,8 +9,8 @@ use Rattle.mob_slice.specs.declared.slice.Slice.{Slice}
 use Rattle.mob_simplify.specs.Breaks.{start_of, end_of, passes}
 use Rattle.mob_simplify.specs.declared.breaks.Break.{Break}
 
--- The slice r goes on from s in one run: both are longer than an instant, r holds the instant where they meet, and starts with the limit
--- of s.
+-- The slice r goes on from s in one run: both are longer than an instant, r holds the instant where
+-- they meet, and starts with the limit of s.
 pub record GoesOn (s r : Slice PlaneLine) : Type 0 where
   pub first_long : before s.span.lower s.span.upper ≡ true
   pub next_long : before r.span.lower r.span.upper ≡ true
@@ -28,7 +28,8 @@ abbrev pub IsChain : Slice PlaneLine → List (Slice PlaneLine) → Type 0
 IsChain s [] = Unit {0}
 IsChain s (r ∷ more) = GoesOn s r × IsChain r more
 
--- The breaks of a run after its first: the starts of the slices after the first one, and the end of the last.
+-- The breaks of a run after its first: the starts of the slices after the first one, and the end of
+-- the last.
 abbrev pub later_breaks : Slice PlaneLine → List (Slice PlaneLine) → List Break
 later_breaks s more = map start_of more ++ end_of (last_slice s more) ∷ []
 
@@ -42,7 +43,8 @@ abbrev pub AllPass : Ratio → Break → List Break → List Break → Type 0
 AllPass d p between [] = Unit {0}
 AllPass d p between (n ∷ ns) = (passes d p between n ≡ true) × AllPass d p (between ++ n ∷ []) ns
 
--- The kept break m is the next after p: the last one for which all breaks after p and up to it pass.
+-- The kept break m is the next after p: the last one for which all breaks after p and up to it
+-- pass.
 pub record IsNextKept (d : Ratio) (p m : KeptBreak) : Type 0 where
   pub skipped : List Break
   pub split : p.later ≡ skipped ++ m.at ∷ m.later
@@ -54,8 +56,8 @@ abbrev pub AreKeptBreaks : Ratio → KeptBreak → List KeptBreak → Type 0
 AreKeptBreaks d p [] = p.later ≡ []
 AreKeptBreaks d p (m ∷ kept) = IsNextKept d p m × AreKeptBreaks d m kept
 
--- A run: its first slice, those that go on from it, and the kept breaks after the first break. (A slice of one instant stands alone, as a
--- run of its own, of which both breaks are kept.)
+-- A run: its first slice, those that go on from it, and the kept breaks after the first break. (A
+-- slice of one instant stands alone, as a run of its own, of which both breaks are kept.)
 pub record RunOf : Type 0 where
   pub first : Slice PlaneLine
   pub more : List (Slice PlaneLine)
@@ -65,7 +67,8 @@ pub record RunOf : Type 0 where
 abbrev pub first_kept : RunOf → KeptBreak
 first_kept g = record { at = start_of g.first; later = later_breaks g.first g.more }
 
--- The runs of a list of slices, with their kept breaks: a run is a longest list of neighbours that go on from one another.
+-- The runs of a list of slices, with their kept breaks: a run is a longest list of neighbours that
+-- go on from one another.
 abbrev pub AreRuns : Ratio → List RunOf → List (Slice PlaneLine) → Type 0
 AreRuns d [] slices = slices ≡ []
 AreRuns d (g ∷ runs) slices = (rest : List (Slice PlaneLine))

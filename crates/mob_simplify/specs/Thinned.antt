@@ -15,12 +15,14 @@ use Rattle.mob_simplify.specs.Runs.{KeptBreak, RunOf, first_kept, last_slice, Ar
 use Rattle.mob_simplify.specs.Tests.{tests_after}
 use Rattle.mob_simplify.specs.declared.breaks.Break.{Break}
 
--- the straight course between two breaks, on the instants between them; for each end, whether it is included
+-- the straight course between two breaks, on the instants between them; for each end, whether it is
+-- included
 abbrev pub leg : Bool → Break → Break → Bool → Slice PlaneLine
 leg lower_inc p m upper_inc = record { span = record { lower = p.instant; upper = m.instant; lower_inc = lower_inc; upper_inc = upper_inc }; course = straight p m }
 
--- The straight courses between kept breaks, p the first of them: each has the instant of the break at which it starts, but the first has
--- it where the run has it; the last has the end where the run has it.
+-- The straight courses between kept breaks, p the first of them: each has the instant of the break
+-- at which it starts, but the first has it where the run has it; the last has the end where the run
+-- has it.
 abbrev pub legs_from : Bool → Break → List KeptBreak → Bool → List (Slice PlaneLine)
 legs_from lower_inc p [] upper_inc = []
 legs_from lower_inc p (m ∷ []) upper_inc = leg lower_inc p m.at upper_inc ∷ []
@@ -34,7 +36,8 @@ legs_of g = legs_from g.first.span.lower_inc (first_kept g).at g.kept (last_slic
 abbrev pub tests_of_run : Ratio → RunOf → List Entry
 tests_of_run d g = flat_map (λ k. tests_after d k.at [] k.later) (first_kept g ∷ g.kept)
 
--- The simplified moving point: it is normal, and has at each instant the value of the straight courses between the kept breaks of the runs.
+-- The simplified moving point: it is normal, and has at each instant the value of the straight
+-- courses between the kept breaks of the runs.
 pub record IsThin (d : Ratio) (slices thin : List (Slice PlaneLine)) : Type 0 where
   pub runs : List RunOf
   pub of : AreRuns d runs slices

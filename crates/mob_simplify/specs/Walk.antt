@@ -1,4 +1,5 @@
--- The walk along the slices that finds the kept breaks, as the code takes it. (What it finds is told by Runs.)
+-- The walk along the slices that finds the kept breaks, as the code takes it. (What it finds is
+-- told by Runs.)
 use Rattle.std.specs.Prelude.{Bool, cond, ◌&&◌, not, List, [], ◌∷◌, ◌++◌}
 use Rattle.mob_ratio.specs.Ratio.{Ratio}
 use Rattle.mob_ratio.specs.Order.{before, same}
@@ -15,7 +16,8 @@ use Rattle.mob_simplify.specs.declared.breaks.Break.{Break}
 unfoldable pub continues_run : Slice PlaneLine → Slice PlaneLine → Bool
 continues_run s r = before s.span.lower s.span.upper && before r.span.lower r.span.upper && same s.span.upper r.span.lower && not s.span.upper_inc && r.span.lower_inc && same_point s.course.to r.course.from
 
--- whether r goes on from l, and its end passes after the start of s, `between` being the breaks between
+-- whether r goes on from l, and its end passes after the start of s, `between` being the breaks
+-- between
 abbrev pub stays : Ratio → Slice PlaneLine → List Break → Slice PlaneLine → Slice PlaneLine → Bool
 stays d s between l r = continues_run l r && passes d (start_of s) between (end_of r)
 
@@ -23,7 +25,8 @@ stays d s between l r = continues_run l r && passes d (start_of s) between (end_
 abbrev pub leg_over : Slice PlaneLine → Slice PlaneLine → Slice PlaneLine
 leg_over s l = leg s.span.lower_inc (start_of s) (end_of l) l.span.upper_inc
 
--- s starts at the kept break, `between` are the breaks after it up to the start of l, and all slices to l pass
+-- s starts at the kept break, `between` are the breaks after it up to the start of l, and all
+-- slices to l pass
 abbrev pub legs_along : Ratio → Slice PlaneLine → List Break → Slice PlaneLine → List (Slice PlaneLine) → List (Slice PlaneLine)
 legs_along d s between l [] = leg_over s l ∷ []
 legs_along d s between l (r ∷ rest) = cond (stays d s (between ++ start_of r ∷ []) l r) (legs_along d s (between ++ start_of r ∷ []) r rest) (leg_over s l ∷ legs_along d r [] r rest)

@@ -29,7 +29,8 @@ fn continues_run(slice: &Slice<PlaneLine>, next: &Slice<PlaneLine>) -> bool
         && slice.course.to.is_same(&next.course.from)
 }
 
-// Whether `next` goes on from `last`, and the break at its end passes after the one at which `first` starts.
+// Whether `next` goes on from `last`, and the break at its end passes after the one at which
+// `first` starts.
 fn stays(
     first: &Slice<PlaneLine>,
     between: &[Break],
@@ -70,7 +71,8 @@ fn leg_over(first: &Slice<PlaneLine>, last: &Slice<PlaneLine>) -> Slice<PlaneLin
     }
 }
 
-/// The straight courses that stand for the slices, and the first test that has a part that does not fit.
+/// The straight courses that stand for the slices, and the first test that has a part that does not
+/// fit.
 pub fn walked(
     alloc: Global,
     slices: &[Slice<PlaneLine>],
@@ -84,6 +86,7 @@ pub fn walked(
     let Some((start, rest)) = slices.split_first() else {
         unreachable!()
     };
+    // The clause of `start_of` says that the slice has an instant.
     let _start = start_of(start);
     let mut first = start;
     let mut last = start;

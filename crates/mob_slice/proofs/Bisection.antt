@@ -1,4 +1,5 @@
--- Finding the slice at an instant by halves: the slices that end before it are the first ones, and none behind the next has it.
+-- Finding the slice at an instant by halves: the slices that end before it are the first ones, and
+-- none behind the next has it.
 use Rattle.std.specs.Prelude.{◌≡◌, Bool, true, false, cond, List, [], ◌∷◌, Some, None, ℕ, zero, suc, ◌<◌, length, slice_index_or, refl}
 use Rattle.std.specs.List.{AllWithin}
 use Rattle.std.specs.List.Sorted.{IsPartitionedBy, IsPartitionPoint}
@@ -60,7 +61,8 @@ module _ {C B : Type 0} (start end : C → B) (t : Ratio) where
   parted (s ∷ v) o (suc i) zero d a b p = absurd (omega arith)
   parted (s ∷ v) o (suc i) (suc j) d a b p = parted v o.2 i j d (omega arith) (omega arith) p
 
-  -- what is found behind the slices that end before t: nothing at the end of the list, else the next slice where it has t
+  -- what is found behind the slices that end before t: nothing at the end of the list, else the
+  -- next slice where it has t
   pub at_end : (v w : List (Slice C)) (k : ℕ) → w ≡ v → k ≡ length w → IsPartitionPoint (λ (s : Slice C). follows t s.span ≡ true) (λ (s : Slice C). follows t s.span ≡ false) w k → slice_at v t ≡ None
   at_end v w k e f h = ap (λ z. slice_at z t) (sym e) ∙ all_past w (subst (λ n. AllWithin (λ (s : Slice C). follows t s.span ≡ true) w 0 n) f h.0)
 

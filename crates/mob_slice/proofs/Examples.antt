@@ -42,7 +42,8 @@ no_slice : slice_at rising (whole (pos 3)) ≡ None
 unfolding over gcd gcd_steps in_lowest_terms whole before
 no_slice = refl
 
--- the parts of F1 at 1: 1 - 0, 3 - 0, their quotient, 1 - 0, the product, the value; at an end, and where there is no value, none
+-- the parts of F1 at 1: 1 - 0, 3 - 0, their quotient, 1 - 0, the product, the value; at an end, and
+-- where there is no value, none
 parts_inside : parts_at line_parts_of rising (whole (pos 1)) ≡ whole (pos 1) ∷ whole (pos 3) ∷ over (pos 1) 3 ∷ whole (pos 1) ∷ over (pos 1) 3 ∷ over (pos 1) 3 ∷ []
 unfolding over gcd gcd_steps in_lowest_terms whole ◌+ℚ◌ neg_ℚ ◌*ℚ◌ inverse turned before same
 parts_inside = refl
@@ -68,7 +69,8 @@ point_parts : plane_parts_of climbing (whole (pos 0)) (whole (pos 3)) (whole (po
 unfolding over gcd gcd_steps in_lowest_terms whole ◌+ℚ◌ neg_ℚ ◌*ℚ◌ inverse turned before same
 point_parts = refl
 
--- 0 to 1 and 1 to 3 go on as one line where the second takes twice the time; after a jump, or with another slope, they do not
+-- 0 to 1 and 1 to 3 go on as one line where the second takes twice the time; after a jump, or with
+-- another slope, they do not
 straight : line_continued (line (whole (pos 0)) (whole (pos 1))) (line (whole (pos 1)) (whole (pos 3))) (whole (pos 0)) (whole (pos 1)) (whole (pos 3)) ≡ true
 unfolding over gcd gcd_steps in_lowest_terms whole ◌+ℚ◌ neg_ℚ ◌*ℚ◌ inverse turned before same line_at line_value line_continues
 straight = refl

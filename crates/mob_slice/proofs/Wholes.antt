@@ -42,7 +42,8 @@ module _ {C B : Type 0} {steady copies : Bool} {value : C → Ratio → Ratio �
       by true e = laws.at_upper c l u e
       by false e = subst (λ t. value c l u t ≡ end c) (one_instant l u h e) (laws.at_lower c l u ∙ level e)
 
-  -- a course that has the limits of c at the ends of a span, be it one instant, has its values there
+  -- a course that has the limits of c at the ends of a span, be it one instant, has its values
+  -- there
   has_part : (w c : C) (l u a b : Ratio) → before l u ≡ true → value w l u a ≡ start c → value w l u b ≡ end c → (t : Ratio) → up_to a t ≡ true → up_to t b ≡ true → value w l u t ≡ value c a b t
   has_part w c l u a b h p q t i j = by (before a b) refl
     where

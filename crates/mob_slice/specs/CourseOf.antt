@@ -10,8 +10,8 @@ use Rattle.mob_slice.specs.declared.line.PlaneLine.{PlaneLine}
 use Rattle.mob_slice.specs.declared.steady.Steady.{Steady}
 use Rattle.mob_slice.specs.Operands.{steady_value, steady_limit}
 
--- whether the course is steady, its value on a span and its limits there, the course with two limits, whether two courses are
--- one, and whether two values are
+-- whether the course is steady, its value on a span and its limits there, the course with two
+-- limits, whether two courses are one, and whether two values are
 pub record CourseOf (C B : Type 0) : Type 0 where
   pub steady : Bool
   pub value : C → Ratio → Ratio → Ratio → B

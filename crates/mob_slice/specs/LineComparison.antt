@@ -1,5 +1,5 @@
--- Lines meet the laws of comparisons: two numbers stand as their difference to 0, and two points are one where both of
--- their differences are 0.
+-- Lines meet the laws of comparisons: two numbers stand as their difference to 0, and two points
+-- are one where both of their differences are 0.
 use Rattle.std.specs.Prelude.{◌≡◌, Bool, true, false, not, cond, ◌&&◌, refl}
 use Rattle.std.proofs.Common.{ap, sym, ◌∙◌, true≢false}
 use Rattle.std.specs.Cmp.{Equal-is}
@@ -39,7 +39,8 @@ line_comparison = record {
   linear = λ f c d l u t. ap One (line_at-diff c.from c.to d.from d.to l u t);
 }
 
--- whether two points are one, or not one: they have no order, and no other comparison is asked of them
+-- whether two points are one, or not one: they have no order, and no other comparison is asked of
+-- them
 abbrev pub point_relates : Rel → Point → Point → Bool
 point_relates Eq a b = same_point a b
 point_relates Ne a b = not (same_point a b)

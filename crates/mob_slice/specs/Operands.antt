@@ -22,7 +22,7 @@ map_both f None y = None
 map_both f (Some x) None = None
 map_both f (Some x) (Some y) = Some (f x y)
 
--- The value of an operator is at each instant the operation on the two operands, and there is no value exactly where at
--- no instant both have one. `value` is that of the course of the result.
+-- The value of an operator is at each instant the operation on the two operands, and there is no
+-- value exactly where at no instant both have one. `value` is that of the course of the result.
 abbrev pub IsPointwise : {C X Y Z : Type 0} → (C → Ratio → Ratio → Ratio → Z) → (X → Y → Z) → (Ratio → Option X) → (Ratio → Option Y) → Option (List (Slice C)) → Type 0
 IsPointwise value op left right r = MatchOption r ((t : Ratio) → map_both op (left t) (right t) ≡ None) (λ v. (t : Ratio) → value_at value v t ≡ map_both op (left t) (right t))

@@ -12,8 +12,9 @@ use crate::{
 use mob_list::laws::crosses_threads;
 use std::marker::{Send, Sync};
 
-/// Two courses on neighbouring spans go on as one exactly where some course on both spans has the values of each on its own.
-/// One of the spans may be a single instant, on which a course has equal limits, as in every slice.
+/// Two courses on neighbouring spans go on as one exactly where some course on both spans has the
+/// values of each on its own. One of the spans may be a single instant, on which a course has equal
+/// limits, as in every slice.
 pub fn one_course<C: Course>()
     ensures one { ContinuesAsOne C.value_of C.start_of C.end_of C.is_continued }
 {}
@@ -23,8 +24,8 @@ pub fn two_instants<C: Course>()
     ensures fixed { TwoInstantsFix C.value_of }
 {}
 
-/// Lines are straight at every instant, of numbers and, by coordinate, of points: the value, weighted by the whole time, is
-/// the two limits, each weighted by the time to the other end.
+/// Lines are straight at every instant, of numbers and, by coordinate, of points: the value,
+/// weighted by the whole time, is the two limits, each weighted by the time to the other end.
 pub fn lines_are_straight()
     ensures numbers { NumbersAreStraight }
     ensures points { PointsAreStraight }

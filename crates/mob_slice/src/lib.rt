@@ -1,8 +1,9 @@
-//! Temporal values as lists of slices, in the sliced representation of Forlizzi, Güting, Nardelli and Schneider
-//! ("A Data Model and Data Structures for Moving Objects Databases", SIGMOD 2000).
+//! Temporal values as lists of slices, in the sliced representation of Forlizzi, Güting, Nardelli
+//! and Schneider ("A Data Model and Data Structures for Moving Objects Databases", SIGMOD 2000).
 //!
-//! A slice is a span with a course, which gives the value at each instant of the span. A temporal value is a normal list
-//! of slices: of all lists of slices with the same value at each instant, one is normal.
+//! A slice is a span with a course, which gives the value at each instant of the span. A temporal
+//! value is a normal list of slices: of all lists of slices with the same value at each instant,
+//! one is normal.
 #![tactic(auto)]
 
 pub mod base_value;

@@ -1,5 +1,5 @@
-//! Values that change evenly: from one limit to the other in a straight line, as the unit functions of the sliced
-//! representation.
+//! Values that change evenly: from one limit to the other in a straight line, as the unit functions
+//! of the sliced representation.
 
 ghost use Rattle.std.specs.Prelude.{◌≡◌, true, false, ⊤};
 ghost use Rattle.mob_ratio.specs.Order.{same, up_to};
@@ -19,7 +19,8 @@ use mob_plane::Point;
 use mob_span::Span;
 use std::alloc::{AllocError, Global};
 
-// Whether the line from `x0` at `l` to `y` at `u` passes `x1` at `m`: no step is computed that might not fit.
+// Whether the line from `x0` at `l` to `y` at `u` passes `x1` at `m`: no step is computed that
+// might not fit.
 fn is_straight(x0: &Frac, x1: &Frac, y: &Frac, l: &Frac, m: &Frac, u: &Frac) -> bool
     requires first { up_to l.now m.now ≡ true }
     requires second { up_to m.now u.now ≡ true }
@@ -39,7 +40,8 @@ fn is_straight(x0: &Frac, x1: &Frac, y: &Frac, l: &Frac, m: &Frac, u: &Frac) -> 
     )
 }
 
-// Whether the line from `x0` to `x1` on a span and the one from `y0` to `y1` on the next are one line.
+// Whether the line from `x0` to `x1` on a span and the one from `y0` to `y1` on the next are one
+// line.
 fn goes_on(x0: &Frac, x1: &Frac, y0: &Frac, y1: &Frac, span: &Span, next: &Span) -> bool
     requires meets { Meets span.now next.now }
     ensures value { result ≡ line_continues x0.now x1.now y0.now y1.now span.now.lower span.now.upper next.now.upper }
@@ -124,8 +126,8 @@ impl Course for Line {
     ghost laws = { line_laws };
 }
 
-/// A point that moves evenly on a straight line: each coordinate changes evenly. On a span of one instant both limits are
-/// equal.
+/// A point that moves evenly on a straight line: each coordinate changes evenly. On a span of one
+/// instant both limits are equal.
 #[derive(Clone, Copy, Debug, Drop)]
 pub struct PlaneLine {
     /// The point at the lower end of the span.

@@ -37,7 +37,8 @@ front_has s r t = ap (λ z. (before s.lower t || (s.lower_inc && up_to s.lower t
 pub back_has : (s r : SpanOf) (t : Ratio) → has (back_of s r) t ≡ (has s t && follows t r)
 back_has s r t = ap (λ z. z && (before t s.upper || (s.upper_inc && up_to t s.upper))) (back_start s.lower r.upper t s.lower_inc r.upper_inc (is_clear r s) refl) ∙ turned (before s.lower t || (s.lower_inc && up_to s.lower t)) (before t s.upper || (s.upper_inc && up_to t s.upper)) (follows t r)
 
--- an instant that is in a span comes neither before nor after all of it, and another comes before or after
+-- an instant that is in a span comes neither before nor after all of it, and another comes before
+-- or after
 pub neither_has : (r : SpanOf) (t : Ratio) → has r t ≡ (not (precedes t r) && not (follows t r))
 neither_has r t = grind (arith, before-back t r.lower, before-back r.lower t, before-back r.upper t, before-back t r.upper)
 

@@ -103,7 +103,8 @@ module _ {X Y : Type 0} (span : X → SpanOf) (span' : Y → SpanOf) where
           let q : cond (b && k) (Some (piece span span' x y)) (piece_at (λ p. p.span) (row span span' x w) t) ≡ piece_at (λ p. p.span) (row span span' x w) t = rw no refl in
           sym q ∙ pick b k (piece_at (λ p. p.span) (row span span' x w) t) ih
 
-  -- At each instant the piece there has the two that the lists have there, and there is no piece where one of them has none.
+  -- At each instant the piece there has the two that the lists have there, and there is no piece
+  -- where one of them has none.
   pub meets_at : (v : List X) (w : List Y) (t : Ratio) → option_map sides (piece_at (λ p. p.span) (shared_pieces span span' v w) t) ≡ option_zip (piece_at span v t) (piece_at span' w t)
   meets_at [] w t = refl
   meets_at (x ∷ v) w t = ap (option_map sides) (part_joined (row span span' x w) (shared_pieces span span' v w) t ∙ ap (λ o. or_else o (piece_at (λ p. p.span) (shared_pieces span span' v w) t)) (row_at x w t (has (span x) t) refl)) ∙ by (has (span x) t) (piece_at span' w t) (meets_at v w t)

@@ -1,4 +1,5 @@
--- The ends of what spans leave of a span are theirs: inside a slice of time the one list is cut where the other is.
+-- The ends of what spans leave of a span are theirs: inside a slice of time the one list is cut
+-- where the other is.
 use Rattle.std.specs.Prelude.{◌≡◌, ◌⊎◌, Bool, true, false, cond, ◌||◌, ◌&&◌, not, List, [], ◌∷◌, refl}
 use Rattle.std.proofs.lemmas.Bool.{and_parts, and_from}
 use Rattle.std.specs.List.{AllByRecursion}
@@ -33,7 +34,8 @@ starts_if s r h = grind (arith, h)
 ends_not : (s r : SpanOf) → before r.upper s.upper ≡ true → ends_before s r ≡ false
 ends_not s r h = grind (arith, h, before-back r.upper s.upper)
 
--- a span that starts, or ends, strictly inside another shares an instant with it, and their meet starts, or ends, there
+-- a span that starts, or ends, strictly inside another shares an instant with it, and their meet
+-- starts, or ends, there
 low_meets : (s r : SpanOf) → has_instant r ≡ true → before s.lower r.lower ≡ true → before r.lower s.upper ≡ true → has_instant (meet_of s r) ≡ true
 low_meets s r i a b =
     let m = first_by r s.upper (before r.lower r.upper) (before s.upper r.upper) refl refl i b in
@@ -103,7 +105,8 @@ all_some : (rs : List SpanOf) → PiecesAreClear (λ r. r) rs → AllByRecursion
 all_some [] h = tt
 all_some (r ∷ rs) h = (h.0, all_some rs h.2)
 
--- P holds of each instant at which a slice of time s is cut: of its own ends, and of what else is said
+-- P holds of each instant at which a slice of time s is cut: of its own ends, and of what else is
+-- said
 module _ (P : Ratio → Type 0) (s : SpanOf) (low : P s.lower) (high : P s.upper) where
   -- P holds of e, where e lies strictly inside s
   abbrev pub Inner : Ratio → Type 0
@@ -136,7 +139,8 @@ module _ (P : Ratio → Type 0) (s : SpanOf) (low : P s.lower) (high : P s.upper
       let h = and_parts _ _ m.1 in
       within_by r.upper (before s.lower r.upper) (before r.upper s.upper) refl refl (upto_trans s.lower m.0 r.upper (has_upto_lower s m.0 h.0) (has_upto_upper r m.0 h.1)) (ends_upto s r e) k
 
-  -- what is said of the ends of the spans strictly inside s, and of the ends of what they share with it, is the same
+  -- what is said of the ends of the spans strictly inside s, and of the ends of what they share
+  -- with it, is the same
   inner_shared : (rs : List SpanOf) → InnerEnds rs → SharedEnds rs
   inner_shared [] h = tt
   inner_shared (r ∷ rs) h = (λ i. (shared_low r (starts_before s r) refl i h.0.0, shared_high r (ends_before s r) refl i h.0.1), inner_shared rs h.1)
@@ -195,7 +199,8 @@ module _ (P : Ratio → Type 0) (s : SpanOf) (low : P s.lower) (high : P s.upper
       clear_upto : (p q : SpanOf) → is_clear p q ≡ true → up_to p.upper q.lower ≡ true
       clear_upto p q h = grind (arith, before-back p.upper q.lower)
 
-  -- where the spans lie in the whole, and s does: what is said of the ends of the remainders is said of those of the spans
+  -- where the spans lie in the whole, and s does: what is said of the ends of the remainders is
+  -- said of those of the spans
   spans_inner : (h : SpanOf) (ws : List SpanOf) → IsSpanSet ws → has_instant h ≡ true → (up_to h.lower s.lower ≡ true) ⊎ HeadLater h ws → up_to s.upper h.upper ≡ true → InnerEnds (remainders_of h ws) → InnerEnds ws
   spans_inner h [] o i l u g = tt
   spans_inner h (w ∷ ws) o i l u g = ((starts, ends), by (has_instant (back_of h w)) refl (next_of (has_instant (front_of h w)) (front_of h w) tails g) (λ e d r. spans_inner (back_of h w) ws o.2 e d u r))

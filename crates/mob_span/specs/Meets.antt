@@ -13,13 +13,14 @@ pub record PieceOf (X Y : Type 0) : Type 0 where
   pub left : X
   pub right : Y
 
--- For each x of v, and for each y of w that shares an instant with it: the instants that they share, with the two. Both
--- lists may have anything that has a span.
+-- For each x of v, and for each y of w that shares an instant with it: the instants that they
+-- share, with the two. Both lists may have anything that has a span.
 abbrev pub shared_pieces : {X Y : Type 0} → (X → SpanOf) → (Y → SpanOf) → List X → List Y → List (PieceOf X Y)
 shared_pieces span span' v w = flat_map (λ x. map (λ y. record { span = meet_of (span x) (span' y); left = x; right = y }) (filter (λ y. has_instant (meet_of (span x) (span' y))) w)) v
 
--- The pieces are ordered and disjoint, each has an instant, and at each instant the piece there has the two that the lists
--- have there, where both have one: there is no piece where one of the lists has none.
+-- The pieces are ordered and disjoint, each has an instant, and at each instant the piece there has
+-- the two that the lists have there, where both have one: there is no piece where one of the lists
+-- has none.
 pub record AreCommon {X Y : Type 0} (span : X → SpanOf) (span' : Y → SpanOf) (v : List X) (w : List Y) (pieces : List (PieceOf X Y)) : Type 0 where
   pub clear : PiecesAreClear (λ p. p.span) pieces
   pub at_each : (t : Ratio) → option_map (λ p. (p.left, p.right)) (piece_at (λ p. p.span) pieces t) ≡ option_zip (piece_at span v t) (piece_at span' w t)

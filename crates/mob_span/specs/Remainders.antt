@@ -22,8 +22,8 @@ front_of s r = record { lower = s.lower; upper = cond (is_clear s r) s.upper r.l
 abbrev pub back_of : SpanOf → SpanOf → SpanOf
 back_of s r = record { lower = cond (is_clear r s) s.lower r.upper; upper = s.upper; lower_inc = cond (is_clear r s) s.lower_inc (not r.upper_inc); upper_inc = s.upper_inc }
 
--- Of spans in order, what they leave of s: what of s comes before the first of them, and what the others leave of that which comes
--- after it.
+-- Of spans in order, what they leave of s: what of s comes before the first of them, and what the
+-- others leave of that which comes after it.
 abbrev pub remainders_of : SpanOf → List SpanOf → List SpanOf
 remainders_of s [] = s ∷ []
 remainders_of s (r ∷ spans) = cond (has_instant (front_of s r)) (front_of s r ∷ cond (has_instant (back_of s r)) (remainders_of (back_of s r) spans) []) (cond (has_instant (back_of s r)) (remainders_of (back_of s r) spans) [])

@@ -10,7 +10,8 @@ use crate::span::Span;
 use crate::spanned::Spanned;
 use std::alloc::{AllocError, Global};
 
-/// The instants of a span that are in none of the given spans, in order of time. The given spans are in order too.
+/// The instants of a span that are in none of the given spans, in order of time. The given spans
+/// are in order too.
 pub fn remainders(alloc: Global, span: &Span, spans: &[Span]) -> Result<Vec<Span>, AllocError>
     requires order { PiecesAreClear (λ s. s) spans.now }
     ensures instants { IfOk result (λ v. AreRemainders span.now spans.now v.items) }
@@ -43,8 +44,8 @@ fn left_by(alloc: Global, span: &Span, spans: &[Span]) -> Result<Vec<Span>, Allo
     Ok(found)
 }
 
-/// A span that holds all that stands on spans in order of time: from the start of the first to the end of the last. None exactly where
-/// there is nothing.
+/// A span that holds all that stands on spans in order of time: from the start of the first to the
+/// end of the last. None exactly where there is nothing.
 pub fn whole<X: Spanned>(items: &[X]) -> Option<Span>
     requires order { PiecesAreClear X.span_of items.now }
     ensures holds { MatchOption result (items.now ≡ []) (λ h. AllByRecursion (λ x. is_inside h (X.span_of x) ≡ true) items.now) }

@@ -17,7 +17,8 @@ pub struct Met<'a, X, Y> {
     pub right: &'a Y,
 }
 
-/// The pieces of time that the entries of two lists share, in order of time. Both lists are in order of time.
+/// The pieces of time that the entries of two lists share, in order of time. Both lists are in
+/// order of time.
 #[derive(Drop)]
 pub struct SharedPieces<'a, X, Y> {
     lefts: &'a [X],

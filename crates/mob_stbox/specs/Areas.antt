@@ -6,7 +6,8 @@ use Rattle.mob_plane.specs.declared.point.Point.{Point}
 use Rattle.mob_plane.specs.Corners.{smaller, greater}
 use Rattle.mob_stbox.specs.declared.area.Area.{Area}
 
--- The point p lies in the area a: each of its coordinates is between the least and the greatest one of a, or is one of the two.
+-- The point p lies in the area a: each of its coordinates is between the least and the greatest one
+-- of a, or is one of the two.
 pub record InArea (a : Area) (p : Point) : Type 0 where
   pub from_west : a.xmin ≤ℚ p.x
   pub to_east : p.x ≤ℚ a.xmax

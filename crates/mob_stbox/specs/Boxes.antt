@@ -42,8 +42,8 @@ origin = record { space = Some (record { xmin = nil; xmax = nil; ymin = nil; yma
 unfoldable pub is_whole : BoxOf → Bool
 is_whole b = is_some b.space && is_some b.time
 
--- Who is at the point p at the instant t is in the box: p lies in its area, if the box has space, and t in its span, if it has
--- time.
+-- Who is at the point p at the instant t is in the box: p lies in its area, if the box has space,
+-- and t in its span, if it has time.
 pub record InBox (b : BoxOf) (t : Ratio) (p : Point) : Type 0 where
   pub in_space : IfSome b.space (λ a. InArea a p)
   pub in_time : IfSome b.time (λ s. InSpan s t)
@@ -66,8 +66,9 @@ in_box b t p = in_space b.space p && in_time b.time t
 abbrev pub both_have : {A : Type 0} → Option A → Option A → Bool
 both_have a b = is_some a && is_some b
 
--- Two boxes meet: they share at least one dimension and, on every dimension that both have, a value. So boxes whose sides touch
--- meet, and boxes whose spans end and begin at one instant do where both have it.
+-- Two boxes meet: they share at least one dimension and, on every dimension that both have, a
+-- value. So boxes whose sides touch meet, and boxes whose spans end and begin at one instant do
+-- where both have it.
 pub record BoxesMeet (a b : BoxOf) : Type 0 where
   pub share : (both_have a.space b.space || both_have a.time b.time) ≡ true
   pub in_space : IfSome a.space (λ x. IfSome b.space (λ y. (p : Point) × InArea x p × InArea y p))
@@ -102,7 +103,8 @@ lies_in over (Some x) (Some y) = over x y
 unfoldable pub contains : BoxOf → BoxOf → Bool
 contains a b = lies_in area_over a.space b.space && lies_in is_inside a.time b.time
 
--- The box c covers a and b at the least: it contains both, and each box that contains both contains c.
+-- The box c covers a and b at the least: it contains both, and each box that contains both contains
+-- c.
 pub record IsCover (a b c : BoxOf) : Type 0 where
   pub first : BoxContains c a
   pub second : BoxContains c b

@@ -16,7 +16,8 @@ moved_area a d = record { xmin = a.xmin -ℚ d; xmax = a.xmax +ℚ d; ymin = a.y
 abbrev pub box_over : Area → Option SpanOf → Option BoxOf
 box_over a time = cond (is_area a) (Some (record { space = Some a; time = time })) None
 
--- The box with its area so moved, and its time as it is. There is none where the box has no space, and where no area is left.
+-- The box with its area so moved, and its time as it is. There is none where the box has no space,
+-- and where no area is left.
 abbrev pub moved_space : Option Area → Option SpanOf → Ratio → Option BoxOf
 moved_space None time d = None
 moved_space (Some a) time d = box_over (moved_area a d) time

@@ -7,8 +7,8 @@ ghost use Rattle.mob_stbox.specs.Expansion.{moved_area};
 use mob_frac::{Frac, Overflow};
 use mob_plane::{Point, greater, smaller};
 
-/// A closed rectangle of the plane, by its least and its greatest coordinates. Its sides belong to it. Any four numbers can stand
-/// here; a `StBox` has no least coordinate above its greatest.
+/// A closed rectangle of the plane, by its least and its greatest coordinates. Its sides belong to
+/// it. Any four numbers can stand here; a `StBox` has no least coordinate above its greatest.
 #[derive(Clone, Copy, Debug, Drop)]
 pub struct Area {
     /// The coordinate of its west side.
@@ -22,7 +22,8 @@ pub struct Area {
 }
 
 impl Area {
-    /// The least rectangle over two points, which are opposite corners of it. They may be any two opposite ones.
+    /// The least rectangle over two points, which are opposite corners of it. They may be any two
+    /// opposite ones.
     pub fn between(a: &Point, b: &Point) -> Area
         ensures value { result ≡ area_between a.now b.now }
         ensures area { is_area result ≡ true }

@@ -11,7 +11,8 @@ ghost use Rattle.mob_stbox.specs.declared.area.Area.{Area};
 use crate::{Area, StBox};
 use mob_list::laws::crosses_threads;
 
-/// The tests of membership say what they mean: a point is in an area, and who is at a point at an instant is in a box.
+/// The tests of membership say what they mean: a point is in an area, and who is at a point at an
+/// instant is in a box.
 pub fn membership()
     ensures areas { (a : Area) (p : Point) → IsTrue (in_area a p) ↔ InArea a p }
     ensures boxes { (b : BoxOf) (t : Ratio) (p : Point) → IsTrue (in_box b t p) ↔ InBox b t p }
@@ -27,8 +28,9 @@ pub fn one_box()
     ensures one { (a b : BoxOf) → is_box a ≡ true → is_box b ≡ true → BoxContains a b → BoxContains b a → a ≡ b }
 {}
 
-/// An area whose sides are moved outward has the points that are so near to one of its own, by coordinate; where they are moved
-/// inward it keeps the points of which all that are so near are in it.
+/// An area whose sides are moved outward has the points that are so near to one of its own, by
+/// coordinate; where they are moved inward it keeps the points of which all that are so near are in
+/// it.
 pub fn expansions()
     ensures outward { (a : Area) (d : Ratio) → is_area a ≡ true → whole (pos 0) ≤ℚ d
         → (p : Point) → InArea (moved_area a d) p ↔ ((q : Point) × InArea a q × IsNear p q d) }

@@ -16,9 +16,9 @@ use mob_frac::{Frac, Overflow};
 use mob_span::Span;
 use std::marker::Model;
 
-/// A box: a closed rectangle of the plane, a span of time, or both. No least coordinate is above its greatest, and the span has its
-/// own ends, each included or not. Contracts see it as the record of the two. It is MobilityDB's `stbox` without a third dimension
-/// of space.
+/// A box: a closed rectangle of the plane, a span of time, or both. No least coordinate is above
+/// its greatest, and the span has its own ends, each included or not. Contracts see it as the
+/// record of the two. It is MobilityDB's `stbox` without a third dimension of space.
 #[derive(Clone, Copy)]
 pub struct StBox {
     space: Option<Area>,
@@ -53,7 +53,8 @@ fn with_space(area: Area, time: Option<Span>) -> Option<StBox>
 }
 
 impl StBox {
-    /// The box with these dimensions. None exactly where both are missing or a least coordinate is above its greatest.
+    /// The box with these dimensions. None exactly where both are missing or a least coordinate is
+    /// above its greatest.
     pub fn new(space: Option<Area>, time: Option<Span>) -> Option<StBox>
         ensures none { IsNone result ↔ NoBox space time }
         ensures value { IfSome result (λ b. b ≡ record { space = space; time = time }) }
@@ -95,8 +96,9 @@ impl StBox {
 }
 
 impl StBox {
-    /// Whether the two share at least one dimension and, on every dimension that both have, a value: a point of the plane, an
-    /// instant. Boxes whose sides touch share the points of those sides.
+    /// Whether the two share at least one dimension and, on every dimension that both have, a
+    /// value: a point of the plane, an instant. Boxes whose sides touch share the points of those
+    /// sides.
     #[tactic(auto, unfolding(crate::specs::Boxes::overlaps))]
     pub fn overlaps(&self, other: &StBox) -> bool
         ensures exact { IsTrue result ↔ BoxesMeet self.now other.now }
@@ -129,9 +131,10 @@ impl StBox {
         }
     }
 
-    /// The box with each side of its rectangle moved outward by `d`, or inward where `d` is below 0, and with its time as it is.
-    /// It is `Overflow` exactly where the box has space and a new coordinate does not fit. It is None exactly where the box has no
-    /// space, or each new coordinate fits and no rectangle is left. This is MobilityDB's `expandSpace`.
+    /// The box with each side of its rectangle moved outward by `d`, or inward where `d` is below
+    /// 0, and with its time as it is. It is `Overflow` exactly where the box has space and a new
+    /// coordinate does not fit. It is None exactly where the box has no space, or each new
+    /// coordinate fits and no rectangle is left. This is MobilityDB's `expandSpace`.
     pub fn expand(&self, d: &Frac) -> Result<Option<StBox>, Overflow>
         ensures value { IsFormula (parts_of_expansion self.now d.now) (expanded self.now d.now) result }
     {

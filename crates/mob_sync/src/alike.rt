@@ -5,8 +5,8 @@ use mob_slice::{Course, Slice};
 
 /// Whether two slices have one course, on spans with the same ends.
 ///
-/// Neighbouring pieces share an instant, and mostly a slice: then what was computed at the end of the
-/// one is known at the start of the other.
+/// Neighbouring pieces share an instant, and mostly a slice: then what was computed at the end of
+/// the one is known at the start of the other.
 pub fn are_alike<C: Course>(a: &Slice<C>, b: &Slice<C>) -> bool
     ensures alike { result ≡ true → AreAlike a.now b.now }
 {

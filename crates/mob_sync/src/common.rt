@@ -8,8 +8,9 @@ ghost use Rattle.mob_sync.specs.Common.{CanStep, HoldsPair, pair_of, common_left
 use mob_slice::{Course, Moving, Pair, Slice};
 use mob_span::SharedPieces;
 
-/// The common pieces of two temporal values, in order of time: exactly the pieces that a slice of one and a slice of the other
-/// share. They hold exactly the instants at which both have a value, each with the slices there.
+/// The common pieces of two temporal values, in order of time: exactly the pieces that a slice of
+/// one and a slice of the other share. They hold exactly the instants at which both have a value,
+/// each with the slices there.
 #[derive(Drop)]
 pub struct Common<'a, A, B> {
     walk: SharedPieces<'a, Slice<A>, Slice<B>>,

@@ -1,6 +1,6 @@
 //! Walks over the pieces of temporal values, in order of time: `Ones` over those of one value,
-//! `Common` over those that two share, and `Pieces` over those of two operands, by one of the others.
-//! A walk takes no memory and has no refusal.
+//! `Common` over those that two share, and `Pieces` over those of two operands, by one of the
+//! others. A walk takes no memory and has no refusal.
 #![tactic(auto)]
 
 mod alike;

@@ -29,8 +29,8 @@ enum Walk<'a, A: Course, B: Course> {
     Neither,
 }
 
-/// The pieces of two operands, in order of time: those that two temporal values share, or each slice of one beside a base
-/// value.
+/// The pieces of two operands, in order of time: those that two temporal values share, or each
+/// slice of one beside a base value.
 #[derive(Drop)]
 pub struct Pieces<'a, A: Course, B: Course> {
     walk: Walk<'a, A, B>,

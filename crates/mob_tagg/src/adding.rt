@@ -54,6 +54,7 @@ where
         Err(fault) => return Err(fault),
     };
     keep(alloc, memo, pair.right, left, right, &to);
+    // A call of a method tells the proof what holds of every span.
     let _ = pair.span.lower();
     Ok(Slice {
         span: pair.span,

@@ -22,8 +22,8 @@ use std::alloc::Global;
 use std::cell::Cell;
 use std::marker::Model;
 
-/// A piece of two values: the slice of the second there, what the two are on the piece, and a course
-/// that ends with their sum.
+/// A piece of two values: the slice of the second there, what the two are on the piece, and a
+/// course that ends with their sum.
 #[derive(Drop)]
 pub struct Ends<C> {
     pub(crate) of: Slice<C>,
@@ -98,7 +98,7 @@ where
     }
 }
 
-// The same, where a piece came before.
+// The value of a slice at an instant, as `limit` gives it, where a piece may have come before.
 fn limit_again<C: Summed + Drop>(
     alloc: Global,
     slice: &Slice<C>,
@@ -147,7 +147,7 @@ pub fn summed<C: Summed>(x: &C::Base, y: &C::Base) -> Result<C::Base, OpFault>
     }
 }
 
-// The same, where it may be the one at the end of a piece.
+// The sum of two values, which may be the one at the end of the last piece.
 fn summed_from<C: Summed>(
     alloc: Global,
     x: &C::Base,
@@ -224,6 +224,7 @@ where
     let Some(sum) = copied::<C>(alloc, to, to) else {
         return;
     };
+    // The piece that was kept before is dropped.
     let _old = memo.replace(Some(Last::new(Ends {
         of: Slice {
             span: of.span,

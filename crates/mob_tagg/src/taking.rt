@@ -37,7 +37,7 @@ where
     }
 }
 
-// The same as a list.
+// A slice on a piece on which it is alone, as a list.
 fn on_one<C: Course + Drop>(alloc: Global, one: &One<'_, C>) -> Result<Vec<Slice<C>>, OpFault>
 where
     C::Base: Drop,
@@ -164,7 +164,8 @@ fn expected<C>(lefts: &[Slice<C>], rights: &[Slice<C>]) -> usize {
     }
 }
 
-/// The same as `together`, where `both` makes one slice of a piece. No list is made for a piece.
+/// The slices of two values, and the one slice that `both` makes of each piece that they share. As
+/// in `together`, `both` itself judges F1 at the ends of a piece. No list is made for a piece.
 pub fn merged<'a, C: Course + Drop, F: Fn(&Pair<'a, C, C>) -> Result<Slice<C>, OpFault> + Drop>(
     alloc: Global,
     a: &'a Moving<C>,
@@ -247,7 +248,8 @@ where
     normal_of(alloc, slices)
 }
 
-// The normal value of slices of which there is one.
+/// The normal value of these slices, of which there is at least one: at every instant it has the
+/// value of the slices. The one error is a failed allocation.
 pub fn normal_of<C: Course + Drop>(
     alloc: Global,
     slices: Vec<Slice<C>>,

@@ -19,7 +19,8 @@ abbrev pub plan_line : Catalogue → Bool → PlanStep → List ℕ → List ℕ
 plan_line c left scan name = left_word left ++ codes "scan " ++ name
 plan_line c left (probe index key) name = left_word left ++ codes "probe " ++ name ++ codes " by " ++ index_name c index
 
--- The rows of the answer: a line for each step of the plan, with the name that its table goes by. The first of these tables has this place of FROM.
+-- The rows of the answer: a line for each step of the plan, with the name that its table goes by.
+-- The first of these tables has this place of FROM.
 abbrev pub plan_rows : Catalogue → List (Option TypedTree) → ℕ → List PlanStep → List (List ℕ) → List (List (List ℕ))
 plan_rows c joins place [] names = []
 plan_rows c joins place (step ∷ steps) [] = []

@@ -8,7 +8,7 @@ use mob_list::text::Text;
 use mob_typed::{TExpr, TypedSelect};
 use std::alloc::{AllocError, Global};
 
-// Those of the select list.
+// The expressions of the select list.
 fn item_roots<'a>(alloc: Global, items: &'a [(TExpr, Text)]) -> Result<Vec<&'a TExpr>, AllocError>
     ensures roots { IfOk result (λ v. map root_seen v.items ≡ map (λ item. item.0) (map output_of items.now)) }
 {
@@ -19,7 +19,7 @@ fn item_roots<'a>(alloc: Global, items: &'a [(TExpr, Text)]) -> Result<Vec<&'a T
     Ok(roots)
 }
 
-// The same, and behind them those of the keys.
+// The expressions of the select list, and behind them those of the keys.
 fn roots_in<'a>(
     alloc: Global,
     items: &'a [(TExpr, Text)],

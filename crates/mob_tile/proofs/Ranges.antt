@@ -34,7 +34,8 @@ in_tile_exact g a t p = (
       ((in_band_exact g.width a.k t).1 i.in_time),
 )
 
--- the tile of each point of the rectangle, at each instant between the ends of the span or at one of them
+-- the tile of each point of the rectangle, at each instant between the ends of the span or at one
+-- of them
 pub closed_reach : (g : GridOf) (a : Area) (s : SpanOf) (t : Ratio) (p : Point) → IsGrid g → InArea a p → s.lower ≤ℚ t → t ≤ℚ s.upper → InRange (range_of g a s) (tile_of g t p)
 closed_reach g a s t p h i l u = record {
   from_i = bands_rise g.size a.xmin p.x h.some_size i.from_west;

@@ -32,7 +32,8 @@ numbers_between low high = count_up (low +ℤ pos 1) (natural (high -ℤ low))
 abbrev pub edge_of : Ratio → ℤ → Ratio
 edge_of c n = whole n *ℚ c
 
--- the numbers of the edges from x to y, whichever is the greater: those above the smaller and at most the greater
+-- the numbers of the edges from x to y, whichever is the greater: those above the smaller and at
+-- most the greater
 abbrev pub edges_between : Ratio → Ratio → Ratio → List ℤ
 edges_between c x y = numbers_between (band_of c (smaller x y)) (band_of c (greater x y))
 
@@ -74,6 +75,7 @@ module _ (g : GridOf) (s : Slice PlaneLine) where
   abbrev pub entry_of_values : Entry
   entry_of_values = record { formula = F1; parts = flat_map (slice_parts plane_parts_of s) cuts_of }
 
-  -- The entries of one slice: the edges, then F3, the roots of the differences to them, then the values at the cuts.
+  -- The entries of one slice: the edges, then F3, the roots of the differences to them, then the
+  -- values at the cuts.
   abbrev pub entries_of_slice : List Entry
   entries_of_slice = record { formula = F2; parts = edges_parts } ∷ record { formula = F3; parts = roots_parts s.span differences } ∷ entry_of_values ∷ []

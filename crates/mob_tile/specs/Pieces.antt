@@ -45,7 +45,8 @@ tile_on g s c = tile_of g c.lower (least_of (slice_value plane_value_of s c.lowe
 abbrev pub HasOneTile : GridOf → Slice PlaneLine → SpanOf → Type 0
 HasOneTile g s c = (t : Ratio) → has c t ≡ true → InTile g (tile_on g s c) t (slice_value plane_value_of s t)
 
--- each position between the limits of a slice, at each instant between its ends, has a tile in the range
+-- each position between the limits of a slice, at each instant between its ends, has a tile in the
+-- range
 abbrev pub Reaches : GridOf → TileRange → Slice PlaneLine → Type 0
 Reaches g r s = (t : Ratio) (p : Point) → InArea (area_between s.course.from s.course.to) p → s.span.lower ≤ℚ t → t ≤ℚ s.span.upper → InRange r (tile_of g t p)
 
@@ -66,7 +67,8 @@ pub record ArePieces (g : GridOf) (a : List (Slice PlaneLine)) (pieces : List Pi
   pub kept : AreRestricted plane_value_of (λ c. c.from) (λ c. c.to) true (λ t p. true) a (slices_of pieces)
   pub tiles : AllByRecursion (IsInItsTile g) pieces
 
--- Each cut is an end of the span or of a cell, and each end of a cell is an end of the span or a cut.
+-- Each cut is an end of the span or of a cell, and each end of a cell is an end of the span or a
+-- cut.
 pub record AreCutsOf (s : SpanOf) (cuts : List Ratio) (cells : List SpanOf) : Type 0 where
   pub each : AllByRecursion (λ r. (r ≡ s.lower) ⊎ ((r ≡ s.upper) ⊎ IsSomeEnd r cells)) cuts
   pub only : AllByRecursion (λ c. IsCut s cuts c.lower × IsCut s cuts c.upper) cells

@@ -23,7 +23,8 @@ use Rattle.mob_tile.specs.declared.splitting.SplitFault.{SplitFault}
 use Rattle.mob_tile.specs.declared.splitting.SplitFault.TheVariants.{Passed, Limit, NoMemory}
 use Rattle.mob_tile.specs.Edges.{entries_of_slice}
 
--- The part of the value a in a tile: it is normal, and has at each instant at which a is in the tile the value of a, and none elsewhere.
+-- The part of the value a in a tile: it is normal, and has at each instant at which a is in the
+-- tile the value of a, and none elsewhere.
 pub record IsPart (g : GridOf) (a : List (Slice PlaneLine)) (tile : Tile) (part : List (Slice PlaneLine)) : Type 0 where
   pub normal : IsNormal (λ c. c.from) (λ c. c.to) plane_continued part
   pub same : (t : Ratio) → value_at plane_value_of part t ≡ where_wanted true (in_tile g tile t) (value_at plane_value_of a t)
@@ -51,8 +52,9 @@ pub record OnRange (g : GridOf) (a : List (Slice PlaneLine)) (P : List Ratio →
   pub box : IsBoxOf a (record { space = Some area; time = Some time })
   pub holds : P (range_parts g area time) (range_of g area time)
 
--- The refusals of the split, in their order: a quotient of the range of the box of a does not fit; else the range has more than 10,000 tiles; else
--- the first entry of a slice that has a part that does not fit, slice by slice. An answer is given only where there is none of them.
+-- The refusals of the split, in their order: a quotient of the range of the box of a does not fit;
+-- else the range has more than 10,000 tiles; else the first entry of a slice that has a part that
+-- does not fit, slice by slice. An answer is given only where there is none of them.
 abbrev pub SplitAnswer : {V : Type 0} → GridOf → List (Slice PlaneLine) → List Ratio → TileRange → Result V SplitFault → Type 0
 SplitAnswer g a quotients range (Ok v) = AllFit quotients × (¬ HasMany range) × IsFirst (flat_map (entries_of_slice g) a) None
 SplitAnswer g a quotients range (Err (Passed f)) = ((f ≡ F2) × (¬ AllFit quotients)) ⊎ (AllFit quotients × (¬ HasMany range) × IsFirst (flat_map (entries_of_slice g) a) (Some f))

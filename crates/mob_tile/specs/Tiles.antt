@@ -53,7 +53,8 @@ pub record InRange (r : TileRange) (a : Tile) : Type 0 where
   pub from_k : r.low.k ≤ℤ a.k
   pub to_k : a.k ≤ℤ r.high.k
 
--- the range of a rectangle and a span: the floors of its sides and ends, whether or not they are included
+-- the range of a rectangle and a span: the floors of its sides and ends, whether or not they are
+-- included
 abbrev pub range_of : GridOf → Area → SpanOf → TileRange
 range_of g a s = record {
   low = record { i = band_of g.size a.xmin; j = band_of g.size a.ymin; k = band_of g.width s.lower };

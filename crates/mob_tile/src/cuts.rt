@@ -103,6 +103,7 @@ pub fn roots_of(alloc: Global, span: &Span, functions: &[Ends]) -> Result<Vec<Fr
     requires level { AllByRecursion (IsLevel span.now) functions.now }
     ensures made { IsMadeBy F3 (roots_parts span.now functions.now) (λ v. v.items ≡ roots span.now functions.now) result }
 {
+    // A call of a method tells the proof what holds of every span.
     let _lower = span.lower();
     let mut out = Vec::new(alloc);
     for f in functions {

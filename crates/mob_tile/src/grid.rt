@@ -22,7 +22,8 @@ use mob_stbox::{Area, StBox};
 use std::alloc::Global;
 use std::marker::Model;
 
-/// The sides of tiles: one in units of length, for x and for y, and one in seconds. Both are above 0.
+/// The sides of tiles: one in units of length, for x and for y, and one in seconds. Both are above
+/// 0.
 #[derive(Clone, Copy, Debug)]
 pub struct Grid {
     size: Frac,
@@ -177,8 +178,9 @@ impl Grid {
     }
 
     #[tactic(auto, unfolding(mob_stbox::specs::Boxes::is_whole))]
-    /// All tiles that a box reaches: those between the floors of its sides and ends, divided by those of a tile. An end that is left
-    /// out counts as one that is not. `Passed` names F2, exactly where a quotient does not fit.
+    /// All tiles that a box reaches: those between the floors of its sides and ends, divided by
+    /// those of a tile. An end that is left out counts as one that is not. `Passed` names F2,
+    /// exactly where a quotient does not fit.
     pub fn range(&self, b: &StBox) -> Result<TileRange, Passed>
         requires whole { is_whole b.now ≡ true }
         ensures value { OnSides b.now (λ a s. IsComputed F2 (range_parts self.now a s) (range_of self.now a s) result) }
@@ -196,11 +198,13 @@ impl Grid {
             }),
         }
     }
-    /// The parts of a moving point in the tiles, by rising tile: all tiles in which it is at some instant, each with the part there.
+    /// The parts of a moving point in the tiles, by rising tile: all tiles in which it is at some
+    /// instant, each with the part there.
     ///
-    /// `Passed` and `Limit` come exactly where they must, in this order: F2, where a quotient of the range of the box of `a` does not fit;
-    /// the limit, where that range has more than 10,000 tiles; the first part of F2, F3 or F1 that does not fit, slice by slice. Among
-    /// these a failed allocation comes only behind the limit.
+    /// `Passed` and `Limit` come exactly where they must, in this order: F2, where a quotient of
+    /// the range of the box of `a` does not fit; the limit, where that range has more than 10,000
+    /// tiles; the first part of F2, F3 or F1 that does not fit, slice by slice. Among these a
+    /// failed allocation comes only behind the limit.
     pub fn split(
         &self,
         alloc: Global,

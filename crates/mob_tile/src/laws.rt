@@ -16,7 +16,8 @@ ghost use Rattle.mob_tile.specs.declared.splitting.SplitFault.{SplitFault};
 ghost use Rattle.mob_tile.specs.declared.splitting.SplitFault.TheVariants.{NoMemory};
 ghost use Rattle.mob_tile.specs.declared.tile.Tile.{Tile as TileOf};
 
-/// Each point is at each instant in exactly one tile, and the test of membership says what it means.
+/// Each point is at each instant in exactly one tile, and the test of membership says what it
+/// means.
 pub fn one_tile()
     ensures some { (g : GridOf) (t : Ratio) (p : Point) → IsGrid g → InTile g (tile_of g t p) t p }
     ensures only { (g : GridOf) (a : TileOf) (t : Ratio) (p : Point) → IsGrid g → InTile g a t p → a ≡ tile_of g t p }
@@ -28,8 +29,8 @@ pub fn boxes_reach_their_tiles()
     ensures reach { (g : GridOf) (a : Area) (s : SpanOf) (t : Ratio) (p : Point) → IsGrid g → InArea a p → InSpan s t → InRange (range_of g a s) (tile_of g t p) }
 {}
 
-/// At each instant of a value one part of its split is defined, that of the tile in which the value is then, and it has the value. A part that
-/// is defined at an instant is that one.
+/// At each instant of a value one part of its split is defined, that of the tile in which the value
+/// is then, and it has the value. A part that is defined at an instant is that one.
 pub fn one_part_at_each_instant()
     ensures there { (g : GridOf) (a : List (Slice PlaneLine)) (parts : List (TileOf × List (Slice PlaneLine))) (t : Ratio) (p : Point) → IsGrid g → IsSplit g a parts → value_at plane_value_of a t ≡ Some p → HasPartAt (tile_of g t p) t p parts }
     ensures only { (g : GridOf) (a : List (Slice PlaneLine)) (parts : List (TileOf × List (Slice PlaneLine))) (t : Ratio) (p : Point) → IsGrid g → IsSplit g a parts → AllByRecursion (λ q. value_at plane_value_of q.1 t ≡ Some p → (q.0 ≡ tile_of g t p) × (value_at plane_value_of a t ≡ Some p)) parts }
@@ -40,7 +41,8 @@ pub fn one_split()
     ensures one { (g : GridOf) (a : List (Slice PlaneLine)) (ps qs : List (TileOf × List (Slice PlaneLine))) → IsGrid g → IsSplit g a ps → IsSplit g a qs → ps ≡ qs }
 {}
 
-/// `split` has one answer on a value, out of memory aside: parts leave no refusal, and there is one refusal.
+/// `split` has one answer on a value, out of memory aside: parts leave no refusal, and there is one
+/// refusal.
 pub fn one_answer()
     ensures apart { (g : GridOf) (a : List (Slice PlaneLine)) (parts : List (TileOf × List (Slice PlaneLine))) (f : SplitFault) → f ≢ NoMemory → OnRange g a (λ quotients range. SplitAnswer g a quotients range (Ok parts)) → OnRange g a (λ quotients range. SplitAnswer {V = List (TileOf × List (Slice PlaneLine))} g a quotients range (Err f)) → ⊥ }
     ensures one { (g : GridOf) (a : List (Slice PlaneLine)) (e f : SplitFault) → e ≢ NoMemory → f ≢ NoMemory → OnRange g a (λ quotients range. SplitAnswer {V = List (TileOf × List (Slice PlaneLine))} g a quotients range (Err e)) → OnRange g a (λ quotients range. SplitAnswer {V = List (TileOf × List (Slice PlaneLine))} g a quotients range (Err f)) → e ≡ f }

@@ -1,4 +1,5 @@
-//! A grid of tiles of space and time, the tiles that a box reaches, and the parts of a moving point in them.
+//! A grid of tiles of space and time, the tiles that a box reaches, and the parts of a moving point
+//! in them.
 #![tactic(auto)]
 
 mod cells;

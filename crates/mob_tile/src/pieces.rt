@@ -136,6 +136,7 @@ fn cells_of(
     requires cuts { cuts.items ≡ cuts_of grid.now slice.now }
     ensures cells { IfOk result (λ v. AreTileCells grid.now slice.now (cuts_of grid.now slice.now) v.items) }
 {
+    // The clauses of these two say that the sides of a tile are above 0.
     let _size = grid.size();
     let _width = grid.width();
     let mut cuts = cuts;
@@ -232,6 +233,7 @@ fn on_slice(
     requires reaches { Reaches grid.now range.now slice.now }
     ensures pieces { MatchResult result (λ v. ArePiecesOf grid.now slice.now v.items × IsFirst (entries_of_slice grid.now slice.now) None) (OnFormula (λ f. IsFirst (entries_of_slice grid.now slice.now) (Some f))) }
 {
+    // The clauses of these two say that the sides of a tile are above 0.
     let _size = grid.size();
     let _width = grid.width();
     let edges = match edges_of(alloc, grid, range, slice) {
@@ -249,7 +251,8 @@ fn on_slice(
     pieces_at(alloc, grid, range, slice, cells.as_slice())
 }
 
-/// The pieces of all slices, in order of time. `Passed` names the first formula of a slice that has a part that does not fit.
+/// The pieces of all slices, in order of time. `Passed` names the first formula of a slice that has
+/// a part that does not fit.
 pub fn pieces_of(
     alloc: Global,
     grid: &Grid,

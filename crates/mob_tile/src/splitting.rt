@@ -39,6 +39,7 @@ fn split_in(
     ensures split { IfOk result (λ v. IsSplit grid.now a.now v.items) }
     ensures first { IsJudged (flat_map (entries_of_slice grid.now) a.now) result }
 {
+    // The clauses of these two say that the sides of a tile are above 0.
     let _size = grid.size();
     let _width = grid.width();
     let mut pieces = match pieces_of(alloc, grid, range, a.slices()) {
@@ -65,6 +66,7 @@ pub fn split_by(
     ensures refusals { OnRange grid.now a.now (λ quotients range. SplitAnswer grid.now a.now quotients range result) }
     ensures limits { OnRange grid.now a.now (λ quotients range. IsLimited quotients range result) }
 {
+    // The clauses of these two say that the sides of a tile are above 0.
     let _size = grid.size();
     let _width = grid.width();
     let range = match grid.range(&box_of(a)) {

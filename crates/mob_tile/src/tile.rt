@@ -4,8 +4,8 @@ ghost use Rattle.mob_tile.specs.Tiles.{compare_tiles, compare_later, side_of, Ha
 
 use std::cmp::Ordering;
 
-/// A tile of a grid: from `i` to `i + 1` by x, from `j` to `j + 1` by y and from `k` to `k + 1` by time, each counted in
-/// sides of a tile and without its end.
+/// A tile of a grid: from `i` to `i + 1` by x, from `j` to `j + 1` by y and from `k` to `k + 1` by
+/// time, each counted in sides of a tile and without its end.
 #[derive(Clone, Copy, Debug, Drop)]
 pub struct Tile {
     /// By x.
@@ -73,7 +73,7 @@ fn area(a: i128, b: i128) -> i128
     a * b
 }
 
-// The same of an area and a side.
+// The product of an area and a side that is not long.
 fn volume(a: i128, b: i128) -> i128
     requires left { nat_abs a < 2 ^ 28 }
     requires right { nat_abs b < 2 ^ 14 }

@@ -20,7 +20,8 @@ pub record IsUsable (settings : TileSettings) : Type 0 where
   pub some_workers : 1 ≤ settings.workers
   pub few_workers : settings.workers ≤ 64
 
--- the text of the pairs of trips that come within d, where all rows have their ranges and all tests of pairs fit
+-- the text of the pairs of trips that come within d, where all rows have their ranges and all tests
+-- of pairs fit
 pub record PairsText (g : GridOf) (d : Ratio) (day : ℤ) (ids : List Value) (trips : List (Option Trip)) (text : List ℕ) : Type 0 where
   pub pairs : List (ℕ × ℕ)
   pub are : ArePairs trips d pairs

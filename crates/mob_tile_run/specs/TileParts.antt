@@ -16,7 +16,8 @@ use Rattle.mob_records.specs.AnswerText.{answer_text}
 use Rattle.mob_trips.specs.Rows.{Trip}
 use Rattle.mob_tile_run.specs.TileTexts.{part_fields, part_names}
 
--- The split of a trip, where all parts of formulas fit and the range of its box has at most 10,000 tiles; a row without a trip has none.
+-- The split of a trip, where all parts of formulas fit and the range of its box has at most 10,000
+-- tiles; a row without a trip has none.
 abbrev pub IsSplitOf : GridOf → Option Trip → List (Tile × Trip) → Type 0
 IsSplitOf g None parts = parts ≡ []
 IsSplitOf g (Some v) parts = IsSplit g v parts × OnRange g v (λ quotients range. AllFit quotients × (¬ HasMany range) × IsFirst (flat_map (entries_of_slice g) v) None)

@@ -14,8 +14,9 @@ use Rattle.mob_tile_run.specs.CommandLine.{TileSays}
 use Rattle.mob_tile_run.specs.TileAnswers.{TileWrites, TileFails}
 use Rattle.mob_tile_run.specs.declared.settings.TileSettings.{TileSettings}
 
--- It writes the parts of trips in tiles or, with a distance, the pairs that come within it. A formula with a part that does not fit stops it,
--- and rows with more than 10,000 tiles pass its limit; where there is no such fault, it has a text.
+-- It writes the parts of trips in tiles or, with a distance, the pairs that come within it. A
+-- formula with a part that does not fit stops it, and rows with more than 10,000 tiles pass its
+-- limit; where there is no such fault, it has a text.
 abbrev pub tile_program : ProgramOf TileSettings
 tile_program = record {
   says = TileSays;

@@ -98,7 +98,8 @@ fn answer<R: Threads + Sync, G: Gate>(
     }
 }
 
-/// The text for the rows of a table: the parts of its trips in tiles, or the pairs of rows that come within a distance.
+/// The text for the rows of a table: the parts of its trips in tiles, or the pairs of rows that
+/// come within a distance.
 pub fn tile_text<R: Threads + Sync, G: Gate>(
     rt: &R,
     alloc: Global,

@@ -8,8 +8,8 @@ ghost use Rattle.mob_trips.specs.Rows.{Trip};
 ghost use Rattle.mob_tile_run.specs.TileAnswers.{AreSameButWorkers, TileWrites, TileFails};
 ghost use Rattle.mob_tile_run.specs.declared.settings.TileSettings.{TileSettings};
 
-/// The number of workers changes nothing: settings that differ in it alone ask for one text, or for one fault, and never for both. Out of
-/// memory is aside.
+/// The number of workers changes nothing: settings that differ in it alone ask for one text, or for
+/// one fault, and never for both. Out of memory is aside.
 pub fn workers_change_nothing()
     ensures text { (a b : TileSettings) (ids : List Value) (trips : List (Option Trip)) (t u : List ℕ) → IsGrid a.grid → AreSameButWorkers a b → TileWrites a ids trips t → TileWrites b ids trips u → t ≡ u }
     ensures fault { (a b : TileSettings) (trips : List (Option Trip)) (e f : PairFault) → AreSameButWorkers a b → e ≢ NoMemory → f ≢ NoMemory → TileFails a trips e → TileFails b trips f → e ≡ f }

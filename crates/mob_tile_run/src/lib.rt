@@ -1,4 +1,5 @@
-//! The program mobtile as a library: the parts of trips in the tiles of a grid, or the pairs of trips that come within a distance.
+//! The program mobtile as a library: the parts of trips in the tiles of a grid, or the pairs of
+//! trips that come within a distance.
 #![tactic(auto)]
 
 mod answer;

@@ -102,7 +102,8 @@ fn text_of(alloc: Global, records: &[Items<Text>]) -> Result<Vec<u8>, AllocError
     counted_text(alloc, names.as_slice(), records)
 }
 
-/// The text of the parts of all trips, row by row and then by tile, or the fault of the first row that has no split.
+/// The text of the parts of all trips, row by row and then by tile, or the fault of the first row
+/// that has no split.
 pub fn parts_text(
     alloc: Global,
     grid: &Grid,

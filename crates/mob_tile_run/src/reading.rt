@@ -68,9 +68,10 @@ fn near_of(value: Option<&str>) -> Option<Option<Frac>>
     }
 }
 
-/// The settings that the arguments say, the first of which is the program's name: `--size S` and `--width W` with numbers above 0,
-/// `--near D` with a number that is not below 0, `--workers N` with a whole number from 1 to 64, and `--epoch DATE`. `--size` and
-/// `--width` are required, and each option may be given once.
+/// The settings that the arguments say, the first of which is the program's name: `--size S` and
+/// `--width W` with numbers above 0, `--near D` with a number that is not below 0, `--workers N`
+/// with a whole number from 1 to 64, and `--epoch DATE`. `--size` and `--width` are required, and
+/// each option may be given once.
 ///
 /// None exactly where the arguments are not taken.
 pub fn settings(alloc: Global, words: &[String]) -> Result<Option<TileSettings>, AllocError>

@@ -25,9 +25,10 @@ pub fn tell_tile<E: Sink>(notes: &mut E, ending: &Ending)
     tell(notes, USAGE, ending);
 }
 
-/// One run of mobtile, by the arguments of its command line and its streams: it reads the table from `table`, writes the parts of its trips in
-/// tiles or, with `--near`, the pairs of rows that come within a distance to `out`, and after every status but 0 puts one line into `notes`.
-/// It returns the status.
+/// One run of mobtile, by the arguments of its command line and its streams: it reads the table
+/// from `table`, writes the parts of its trips in tiles or, with `--near`, the pairs of rows that
+/// come within a distance to `out`, and after every status but 0 puts one line into `notes`. It
+/// returns the status.
 ///
 /// | status | when |
 /// |---|---|
@@ -47,8 +48,9 @@ pub fn run_tile<R: Threads + Sync, S: Source, K: Sink, E: Sink, G: Gate>(
     notes: &mut E,
     gate: &G,
 ) -> u8
-    // `IsTripsRun` has a line for each status and each other promise, by what was seen of the run and of its note. `IsExactRun` adds that
-    // 6 and 8 come exactly where the first fault of the rows, or of the tests of pairs, is a limit or a formula, out of memory aside.
+    // `IsTripsRun` has a line for each status and each other promise, by what was seen of the run
+    // and of its note. `IsExactRun` adds that 6 and 8 come exactly where the first fault of the
+    // rows, or of the tests of pairs, is a limit or a formula, out of memory aside.
     ensures promises { IsTripsRun tile_program tile_usage result
         (trips_seen (map string_bytes words.now) (stream_seen S.left S.faults table.old table.new) (stream_seen K.held K.faults out.old out.new))
         (λ line. Puts line (E.held notes.old) (E.held notes.new) (E.faults notes.old) (E.faults notes.new)) }

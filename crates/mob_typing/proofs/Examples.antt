@@ -21,7 +21,8 @@ use Rattle.mob_typing.specs.Stands.{IsHeldIn}
 use Rattle.mob_typing.specs.WellTyped.{IsNumberLiteral, the_number, behind_minus, HasDivisor, HasRow, IsOperated, HasDistinctNames}
 use Rattle.mob_typing.proofs.OperatorRows.{line_passes, first_passes}
 
--- SELECT b: a place that the one tree does not hold, as that of the blank, is the place of no refusal
+-- SELECT b: a place that the one tree does not hold, as that of the blank, is the place of no
+-- refusal
 the_select : StatementParts
 the_select = select (record { distinct = false; items = one (tree (node.Column None (record { text = codes "b"; place = 7 })) 7 no_trees) None ∷ []; from = []; cond = None; groups = []; keys = []; limit = None })
 

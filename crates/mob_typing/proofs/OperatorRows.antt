@@ -1,5 +1,5 @@
--- What the table of operators gives: no leaf and no cast, a division by a number literal alone, and for a sign before one argument the
--- operator that keeps or turns its sign.
+-- What the table of operators gives: no leaf and no cast, a division by a number literal alone, and
+-- for a sign before one argument the operator that keeps or turns its sign.
 use Rattle.std.proofs.Common.{◌≡◌, ◌∙◌, refl, sym, ap, subst, inl, inr, ℕ, List, [], ◌∷◌, Bool, true, false, cond, ◌&&◌, ◌||◌, Option, Some, None}
 use Rattle.std.proofs.lemmas.Bool.{and_parts}
 use Rattle.std.specs.Prelude.{◌⊎◌, IfSome, not, option_map, option_and_then, codes}
@@ -137,7 +137,8 @@ module _ (f : Form) (name : List ℕ) (ts : List SqlType) where
       by None = refl
       by (Some x) = refl
 
-  -- without a literal a line that asks for one gives nothing, and every other gives what it gives with one
+  -- without a literal a line that asks for one gives nothing, and every other gives what it gives
+  -- with one
   abbrev WithoutLiteral : Line → Type 0
   WithoutLiteral l = ((answer_of l f name ts false ≡ None) × Passes is_division (answer_of l f name ts true)) ⊎ ((answer_of l f name ts true ≡ answer_of l f name ts false) × Passes not_division (answer_of l f name ts false))
 

@@ -1,4 +1,5 @@
--- The walk over what typing answers: what holds of what a step gives, and the place at which it stops.
+-- The walk over what typing answers: what holds of what a step gives, and the place at which it
+-- stops.
 use Rattle.std.proofs.Common.{◌≡◌, ◌∙◌, refl, sym, ap, subst, ℕ, List, [], ◌∷◌, ◌++◌, map, append_assoc, append-nil, Bool, true, false, Option, Some, None, Result, Ok, Err}
 use Rattle.std.specs.Prelude.{not}
 use Rattle.std.specs.List.{AllByRecursion}
@@ -46,7 +47,8 @@ Belongs n c = c.statement ≡ n
 abbrev pub places_of : List ConstText → List ℕ
 places_of cs = map (λ c. c.place) cs
 
--- the constants after a step are those before it and new ones, which belong to statement n and stand at places among ps
+-- the constants after a step are those before it and new ones, which belong to statement n and
+-- stand at places among ps
 pub record Adds (n : ℕ) (ps : List ℕ) (before after : List ConstText) : Type 0 where
   pub new : List ConstText
   pub is : after ≡ before ++ new
@@ -70,7 +72,8 @@ adds_both {n} {ps} {qs} {a} h k = record {
   within = subst (λ qs'. IsWithin qs' (ps ++ qs)) (sym (map-append (λ c. c.place) h.new k.new)) (within_both h.within k.within);
 }
 
--- a step of statement n gives what is sound beside the constants after it, and adds to those before it literals at places among ps
+-- a step of statement n gives what is sound beside the constants after it, and adds to those before
+-- it literals at places among ps
 pub record Steps {A : Type 0} (n : ℕ) (ps : List ℕ) (Sound : List ConstText → A → Type 0) (before : List ConstText) (x : A × List ConstText) : Type 0 where
   pub adds : Adds n ps before x.1
   pub sound : Sound x.1 x.0

@@ -1,5 +1,6 @@
--- The walk over expressions: their literals are gathered in written order, their leaves name what is there, their operators have their
--- rows, and what is refused, and each operator, is so at a place of the tree.
+-- The walk over expressions: their literals are gathered in written order, their leaves name what
+-- is there, their operators have their rows, and what is refused, and each operator, is so at a
+-- place of the tree.
 use Rattle.std.specs.Prelude.{IfSome, nat_le, nat_lt, not, codes, is_some, slice_get, option_map, option_and_then}
 use Rattle.std.specs.List.{AllByRecursion}
 use Rattle.std.proofs.Common.{◌≡◌, ◌<◌, ◌∙◌, ◌+◌, arith, refl, sym, ap, subst, ℕ, List, [], ◌∷◌, ◌++◌, append_assoc, length, length-append, map, Bool, true, false, cond, Option, Some, None, Ok}

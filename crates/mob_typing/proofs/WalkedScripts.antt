@@ -20,8 +20,8 @@ use Rattle.mob_typing.proofs.Sound.{statement_stays}
 use Rattle.mob_typing.proofs.WalkedSelects.{named}
 use Rattle.mob_typing.proofs.WalkedStatements.{names_of, KeepsApart, IsMade, statement_walked}
 
--- what a typed script is made of: for each tree in order its statement, with the constants that this adds; operators stand at such
--- places of their statements
+-- what a typed script is made of: for each tree in order its statement, with the constants that
+-- this adds; operators stand at such places of their statements
 pub data AreMade (At : ℕ → ℕ → Type 0) : ℕ → NameLists → List ConstText → List StatementParts → ScriptOut → Type 0 where
   none_made : {n : ℕ} {names : NameLists} {cs : List ConstText} → AreMade At n names cs [] (record { statements = []; consts = cs })
   one_made : {n : ℕ} {names : NameLists} {cs ds : List ConstText} {s : StatementParts} {ss : List StatementParts} {m : Made} {out : ScriptOut}

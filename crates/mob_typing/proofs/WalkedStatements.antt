@@ -1,4 +1,5 @@
--- The walk over statements: what each gives, the literals and the rows that it adds, and the place at which it stops.
+-- The walk over statements: what each gives, the literals and the rows that it adds, and the place
+-- at which it stops.
 use Rattle.std.specs.Prelude.{not, codes, nat_le, slice_get, option_map, option_and_then}
 use Rattle.std.specs.List.{AllByRecursion, IsDistinct, flat_map}
 use Rattle.std.specs.Str.{bytes_eq}
@@ -52,8 +53,8 @@ names_of tables = map (λ t. t.0) tables
 abbrev pub KeepsApart : List (List ℕ) → List (List ℕ) → Type 0
 KeepsApart before new = IsDistinct bytes_eq before → IsDistinct bytes_eq (before ++ new)
 
--- a statement that is made keeps to the tables before it, makes its own, each table and each index under a new name, its operators
--- stand at such places, and its rows at places among these
+-- a statement that is made keeps to the tables before it, makes its own, each table and each index
+-- under a new name, its operators stand at such places, and its rows at places among these
 pub record IsMade (At : ℕ → Type 0) (names : NameLists) (ps : List ℕ) (consts : List ConstText) (m : Made) : Type 0 where
   pub typed : IsTypedStatement (named names.tables) consts m.statement
   pub behind : named m.names.tables ≡ tables_behind (named names.tables) m.statement

@@ -12,8 +12,9 @@ use Rattle.mob_expression.specs.Scopes.{ScopeTableParts}
 use Rattle.mob_clauses.specs.Clauses.{typed_clauses}
 use Rattle.mob_typing.specs.Names.{table_of}
 
--- The name that a table goes by in FROM. There are at most four tables, and no two go by one name. What stands at an
--- earlier place comes first, and at one place a name that is there already comes before the limit.
+-- The name that a table goes by in FROM. There are at most four tables, and no two go by one name.
+-- What stands at an earlier place comes first, and at one place a name that is there already comes
+-- before the limit.
 abbrev pub from_name : List (List ℕ × ScopeTableParts) → Word → Option Word → Result (List ℕ) Mistake
 from_name from table None = do
   _ ← unless (has_entry from table.text) kind.Duplicate table.place

@@ -89,7 +89,8 @@ bool_value n ty text p cs = unless (not (same_type ty sql.Bool)) kind.NoSuchOper
 abbrev pub typed_value : ℕ → SqlType → TypeWord → List ℕ → ℕ → TypingStep (Option ℕ)
 typed_value n ty w text p cs = found kind.UnknownName w.name.place (literal_type w.name.text w.inner text) >>= λ own. unless (not (same_type own ty)) kind.NoSuchOperator p >>= λ _. row_constant n ty text p cs
 
--- A value of a row, which is read as the column's type: the number of its constant, or none for NULL.
+-- A value of a row, which is read as the column's type: the number of its constant, or none for
+-- NULL.
 unfoldable pub node_value : ℕ → SqlType → Node → ℕ → Trees → TypingStep (Option ℕ)
 node_value n ty node.Null p args cs = Ok (None, cs)
 node_value n ty node.True p args cs = bool_value n ty (codes "true") p cs
@@ -137,7 +138,8 @@ keeping cs r = r >>= λ m. Ok (m, cs)
 abbrev pub asked : (TypedSelectParts → StatementOut) → NameLists → Result (TypedSelectParts × List ConstText) Mistake → Result (Made × List ConstText) Mistake
 asked form names r = r >>= λ s. Ok (record { statement = form s.0; names = names }, s.1)
 
--- The statement of this number, typed, with the names and the constants after it, or what is wrong first.
+-- The statement of this number, typed, with the names and the constants after it, or what is wrong
+-- first.
 unfoldable pub typed_statement : ℕ → NameLists → StatementParts → TypingStep Made
 typed_statement n names empty cs = Ok (record { statement = nothing; names = names }, cs)
 typed_statement n names (create_table name columns) cs = keeping cs (made_table names name columns)
@@ -161,7 +163,8 @@ or_refused (Err e) f = Err e
 abbrev pub put_statement : StatementOut → ScriptOut → ScriptOut
 put_statement s out = record { statements = s ∷ out.statements; consts = out.consts }
 
--- the statements from the one of number n on: the first, and then the others with the names and the constants after it
+-- the statements from the one of number n on: the first, and then the others with the names and the
+-- constants after it
 abbrev pub typed_from : ℕ → NameLists → List StatementParts → List ConstText → Result ScriptOut Refusal
 typed_from n names [] cs = Ok (record { statements = []; consts = cs })
 typed_from n names (s ∷ ss) cs = or_refused (in_statement n (typed_statement n names s cs)) (λ r. or_refused (typed_from (n + 1) r.0.names ss r.1) (λ out. Ok (put_statement r.0.statement out)))
@@ -169,11 +172,12 @@ typed_from n names (s ∷ ss) cs = or_refused (in_statement n (typed_statement n
 abbrev pub no_names : NameLists
 no_names = record { tables = []; indexes = [] }
 
--- The typed script, or the first refusal: statement by statement, and within one in the order of what it is made of.
+-- The typed script, or the first refusal: statement by statement, and within one in the order of
+-- what it is made of.
 abbrev pub typed_script : List StatementParts → Result ScriptOut Refusal
 typed_script ss = typed_from 1 no_names ss []
 
--- the program's refusal is this one, or want of memory
+-- the program's refusal is this one, or a failed allocation
 abbrev pub IsTypingRefusal : Refusal → Result ScriptOut Refusal → Type 0
 IsTypingRefusal e read = (e ≡ no_memory) ⊎ (read ≡ Err e)
 

@@ -1,5 +1,6 @@
--- What a typed script keeps to, whatever its text: what a number names is there and has the type that is asked of it, each operator has
--- a row of the table for the types of its arguments, and names are distinct.
+-- What a typed script keeps to, whatever its text: what a number names is there and has the type
+-- that is asked of it, each operator has a row of the table for the types of its arguments, and
+-- names are distinct.
 use Rattle.std.specs.Prelude.{◌≡◌, ◌⊎◌, ◌≤◌, ◌<◌, ◌+◌, ◌^◌, ◌++◌, ℕ, List, [], ◌∷◌, Bool, true, false, Option, Some, None, Ok, IfSome, length, map, slice_get, option_map, option_and_then}
 use Rattle.std.specs.List.{AllByRecursion, AllZip, IsDistinct, flat_map}
 use Rattle.std.specs.Str.{bytes_eq}
@@ -56,7 +57,8 @@ abbrev mutual
 abbrev pub IsNumber : List ConstText → List ℕ → ℕ → Type 0
 IsNumber consts text k = (option_map (λ c. c.text) (slice_get consts k) ≡ Some text) × (constant_type consts k ≡ Some (number_type text))
 
--- `IsBehindSigns is t`: the expression t is a constant, perhaps behind signs, of a number that is so
+-- `IsBehindSigns is t`: the expression t is a constant, perhaps behind signs, of a number that is
+-- so
 pub data IsBehindSigns (is : ℕ → Type 0) : TypedTree → Type 0 where
   the_number : {k p : ℕ} {ty : SqlType} → is k → IsBehindSigns is (typed (op.Const k) ty p none)
   behind_minus : {t : TypedTree} {ty : SqlType} {p : ℕ} → IsBehindSigns is t → IsBehindSigns is (typed op.Negate ty p (more t none))
@@ -66,8 +68,9 @@ pub data IsBehindSigns (is : ℕ → Type 0) : TypedTree → Type 0 where
 abbrev pub IsNumberLiteral : List ConstText → List ℕ → TypedTree → Type 0
 IsNumberLiteral consts text = IsBehindSigns (IsNumber consts text)
 
--- The second of two arguments is a constant of a text with a digit other than 0, before any e and any slash, and of the type that a number
--- literal of this text has; so the number that it says is not 0.
+-- The second of two arguments is a constant of a text with a digit other than 0, before any e and
+-- any slash, and of the type that a number literal of this text has; so the number that it says is
+-- not 0.
 abbrev pub HasDivisor : List ConstText → TypedTrees → Type 0
 HasDivisor consts (more a (more b none)) = (text : List ℕ) × IsNumberLiteral consts text b × (is_zero text ≡ false)
 HasDivisor consts _ = ⊥
@@ -76,16 +79,16 @@ abbrev pub is_division : Op → Bool
 is_division op.Divide = true
 is_division _ = false
 
--- The operator has a row of the table: for arguments of these types that row gives this operator and its type. A division alone asks
--- something of its last argument.
+-- The operator has a row of the table: for arguments of these types that row gives this operator
+-- and its type. A division alone asks something of its last argument.
 pub record HasRow (consts : List ConstText) (o : Op) (ty : SqlType) (args : TypedTrees) : Type 0 where
   pub form : Form
   pub name : List ℕ
   pub row : found_in table form name (arg_types args) (is_division o) ≡ Some (o, ty)
   pub divisor : is_division o ≡ true → HasDivisor consts args
 
--- What a node is by its arguments and their types: a leaf has none, NULL is a text, a cast makes its own type of that of its argument, and
--- every other operator has its row.
+-- What a node is by its arguments and their types: a leaf has none, NULL is a text, a cast makes
+-- its own type of that of its argument, and every other operator has its row.
 abbrev pub FitsArguments : List ConstText → Op → SqlType → TypedTrees → Type 0
 FitsArguments consts (op.Const k) ty args = args ≡ none
 FitsArguments consts (op.Column f k) ty args = args ≡ none
@@ -192,7 +195,8 @@ pub record AreTypedRows (tables : List ColumnList) (consts : List ConstText) (t 
   pub values : AllByRecursion (AllZip (IsOfColumn consts) columns) rows
   pub placed : length places ≡ length rows
 
--- a new table takes the next number below 64, and has at most 64 columns, of which no two have one name
+-- a new table takes the next number below 64, and has at most 64 columns, of which no two have one
+-- name
 pub record IsNextTable (tables : List ColumnList) (t : ℕ) (columns : ColumnList) : Type 0 where
   pub next : t ≡ length tables
   pub few : t < 64

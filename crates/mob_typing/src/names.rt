@@ -66,7 +66,8 @@ impl Names {
         self.indexes.contains(name)
     }
 
-    /// Adds a table of a new name behind the others. Where memory is refused the names stay as they were.
+    /// Adds a table of a new name behind the others. Where memory is refused the names stay as they
+    /// were.
     pub fn add_table(
         &mut self,
         alloc: Global,
@@ -82,7 +83,8 @@ impl Names {
         Ok(())
     }
 
-    /// Adds an index of a new name behind the others. Where memory is refused the names stay as they were.
+    /// Adds an index of a new name behind the others. Where memory is refused the names stay as
+    /// they were.
     pub fn add_index(&mut self, alloc: Global, name: &str) -> Result<(), AllocError>
         requires absent { is_one_of self.old.indexes name.now ≡ false }
         ensures last { OnOk result (self.new.indexes ≡ self.old.indexes ++ name.now ∷ []) }

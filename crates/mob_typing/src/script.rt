@@ -111,9 +111,10 @@ fn typed_statements(
     })
 }
 
-/// The typed script, each constant with its type, text, statement and place in written order; or the first refusal of
-/// UnknownName, Duplicate, NoSuchOperator, LinearProduct, Irrational, ZeroDivisor, BadCount and Limit, statement by statement.
-/// In a statement the tables of FROM or the target table come first, then the rest by place, operands before their operator.
+/// The typed script, each constant with its type, text, statement and place in written order; or
+/// the first refusal of UnknownName, Duplicate, NoSuchOperator, LinearProduct, Irrational,
+/// ZeroDivisor, BadCount and Limit, statement by statement. In a statement the tables of FROM or
+/// the target table come first, then the rest by place, operands before their operator.
 pub fn type_script(alloc: Global, script: Script) -> Result<Typed, Refusal>
     ensures typed { IfOk result (λ t. typed_script (script_of script) ≡ Ok (script_seen t)) }
     ensures first_refusal { IfErr result (λ e. IsTypingRefusal e (typed_script (script_of script))) }

@@ -3,7 +3,8 @@ use Rattle.std.specs.Prelude.{Bool, true, false}
 use Rattle.mob_value.specs.declared.value.Value.{Value}
 use Rattle.mob_value.specs.declared.value.Value.TheVariants as value
 
--- the value is a text, a polygon, a span, a span set, a box or a value over time; every other one is plain data
+-- the value is a text, a polygon, a span, a span set, a box or a value over time; every other one
+-- is plain data
 abbrev pub holds_memory : Value → Bool
 holds_memory value.Null = false
 holds_memory (value.Bool truth) = false

@@ -5,8 +5,8 @@ use Rattle.mob_ast.specs.declared.types.SqlType.TheVariants as sql
 use Rattle.mob_value.specs.declared.value.Value.{Value}
 use Rattle.mob_value.specs.declared.value.Value.TheVariants as value
 
--- Whether a value is one of a type. NULL is one of each, and a number one of int and of numeric: that those of an int are whole is said by
--- `IsValueOf` of `mob_catalog`.
+-- Whether a value is one of a type. NULL is one of each, and a number one of int and of numeric:
+-- that those of an int are whole is said by `IsValueOf` of `mob_catalog`.
 abbrev pub is_of_type : SqlType → Value → Bool
 is_of_type type value.Null = true
 is_of_type sql.Bool (value.Bool truth) = true

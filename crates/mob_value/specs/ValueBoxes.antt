@@ -14,8 +14,9 @@ use Rattle.mob_value.specs.declared.value.Value.TheVariants.{Box, MovingPoint}
 abbrev pub HasPositions : List (Slice PlaneLine) → BoxOf → Type 0
 HasPositions slices b = (t : Ratio) → IfSome (value_at plane_value_of slices t) (λ p. InBox b t p)
 
--- The box of a value has space and time and all positions of the value, each at its instant, and each box that has them contains it: so
--- its rectangle is the least closed one, and its span the least one.
+-- The box of a value has space and time and all positions of the value, each at its instant, and
+-- each box that has them contains it: so its rectangle is the least closed one, and its span the
+-- least one.
 pub record IsBoxOf (slices : List (Slice PlaneLine)) (b : BoxOf) : Type 0 where
   pub sound : is_box b ≡ true
   pub whole : is_whole b ≡ true

@@ -4,7 +4,8 @@ ghost use Rattle.std.specs.Prelude.{◌≡◌, IfOk};
 use std::alloc::{AllocError, Global};
 use std::marker::Model;
 
-/// A value in memory of its own, so that what holds it has the size of a pointer. Contracts see the value itself.
+/// A value in memory of its own, so that what holds it has the size of a pointer. Contracts see the
+/// value itself.
 ///
 /// A variant of `Value` whose parts would make each cell of a table larger stands in one.
 #[derive(Drop)]
@@ -19,7 +20,8 @@ impl<T> Model for Boxed<T> {
 }
 
 impl<T> Boxed<T> {
-    /// Puts a value into memory of its own. An error where memory is refused; the value is then let go.
+    /// Puts a value into memory of its own. An error where memory is refused; the value is then let
+    /// go.
     pub fn new(alloc: Global, value: T) -> Result<Boxed<T>, AllocError>
     where
         T: Drop,

@@ -18,7 +18,8 @@ pub fn one_value_box()
     ensures one { (slices : List (Slice PlaneLine)) (b c : BoxOf) → IsBoxOf slices b → IsBoxOf slices c → b ≡ c }
 {}
 
-/// A moving point has a box: the cover of the boxes of its slices, normal as a value keeps them, is the least one.
+/// A moving point has a box: the cover of the boxes of its slices, normal as a value keeps them, is
+/// the least one.
 pub fn value_boxes_are_least()
     ensures least { (slices : List (Slice PlaneLine)) → IsNormal plane_course.start plane_course.end plane_course.continues slices → IsBoxOf slices (value_box slices) }
 {}

@@ -10,7 +10,8 @@ pub struct Table {
     pub rows: Items<Items<Value>>,
 }
 
-/// The tables, in the order in which they were made, and the constants of the script, in written order.
+/// The tables, in the order in which they were made, and the constants of the script, in written
+/// order.
 #[derive(Drop)]
 pub struct Store {
     /// The tables.

@@ -54,8 +54,8 @@ pub enum Value {
 const _: () = prove!(size_of::<Value>() <= 40);
 
 impl Value {
-    /// A second value, the same, in memory of its own. It asks for memory only where the value holds some: a text, a polygon,
-    /// a span, a span set, a box, or a value over time.
+    /// A second value, the same, in memory of its own. It asks for memory only where the value
+    /// holds some: a text, a polygon, a span, a span set, a box, or a value over time.
     pub fn copy(&self, alloc: Global) -> Result<Value, AllocError>
         ensures same { IfOk result (λ copy. copy ≡ self.now) }
         ensures memory { OnErr result (holds_memory self.now ≡ true) }

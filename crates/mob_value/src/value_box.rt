@@ -32,8 +32,8 @@ fn cover_all(first: StBox, slices: &[Slice<PlaneLine>]) -> StBox
     over
 }
 
-/// The box of a moving point: the least closed rectangle that has all of its positions, and the least span that has each instant at
-/// which it is defined. It takes no memory.
+/// The box of a moving point: the least closed rectangle that has all of its positions, and the
+/// least span that has each instant at which it is defined. It takes no memory.
 pub fn box_of(moving: &Moving<PlaneLine>) -> StBox
     ensures least { IsBoxOf moving.now result }
     ensures value { result ≡ value_box moving.now }
@@ -45,7 +45,8 @@ pub fn box_of(moving: &Moving<PlaneLine>) -> StBox
     }
 }
 
-/// The box that a value has: a box is its own, and a moving point has the least one over it. No other value has one.
+/// The box that a value has: a box is its own, and a moving point has the least one over it. No
+/// other value has one.
 pub fn box_of_value(value: &Value) -> Option<StBox>
     ensures own { OnBox value.now (λ b. result ≡ Some b) (result ≡ None) }
 {

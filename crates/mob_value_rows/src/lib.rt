@@ -1,4 +1,5 @@
-//! Tests of texts of values, as a table, and of calls on values over time: those that no script reaches, and values taken together.
+//! Tests of texts of values, as a table, and of calls on values over time: those that no script
+//! reaches, and values taken together.
 #![tactic(auto)]
 
 #[cfg(test)]

@@ -1,5 +1,6 @@
-// Texts of values, fields, moments, days and values of a ttext: how they are read and printed. The epoch is 2000-01-01. Texts that a
-// SELECT prints are in `checks/rows`; here is what no script tells apart, as the fault of a text that is refused.
+// Texts of values, fields, moments, days and values of a ttext: how they are read and printed. The
+// epoch is 2000-01-01. Texts that a SELECT prints are in `checks/rows`; here is what no script
+// tells apart, as the fault of a text that is refused.
 
 use mob_ast::SqlType;
 use mob_frac::{Frac, Overflow};

@@ -1,4 +1,5 @@
--- Arguments of the programs, whose options each take one value: which a command takes, and what values say.
+-- Arguments of the programs, whose options each take one value: which a command takes, and what
+-- values say.
 use Rattle.std.specs.Prelude.{◌≡◌, ◌≤◌, ℕ, ℤ, List, [], Option, Some, None, Ok, decimal, map, true}
 use Rattle.clap.specs.Words.{App, Rule, Text, fault_of, first_of, matches_of, new_app, new_rule}
 use Rattle.mob_ratio.specs.Ratio.{Ratio}
@@ -45,7 +46,8 @@ module _ {A : Type 0} where
   IsOptional Says None o = o ≡ None
   IsOptional Says (Some text) o = (said : A) × (o ≡ Some said) × Says text said
 
--- a whole number from 1 to the greatest that is taken, in decimal digits, without a sign and a leading zero
+-- a whole number from 1 to the greatest that is taken, in decimal digits, without a sign and a
+-- leading zero
 abbrev pub IsCount : ℕ → Text → ℕ → Type 0
 IsCount most text n = (text ≡ decimal n) × (1 ≤ n) × (n ≤ most)
 
@@ -58,7 +60,8 @@ abbrev pub IsWorkers : Option Text → ℕ → Type 0
 IsWorkers None n = n ≡ 1
 IsWorkers (Some text) n = IsCount 64 text n
 
--- the number of the epoch's day: that of an existing date of the years 0001 to 9999; 2000-01-01 without a value
+-- the number of the epoch's day: that of an existing date of the years 0001 to 9999; 2000-01-01
+-- without a value
 abbrev pub IsEpoch : Option Text → ℤ → Type 0
 IsEpoch None day = day ≡ standard_day
 IsEpoch (Some text) day = Lit epochs text (Ok day)

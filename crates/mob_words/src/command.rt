@@ -39,8 +39,8 @@ fn command<'a>(alloc: Global, name: &'a str, options: &[&'a str]) -> Result<Comm
     Ok(command)
 }
 
-// What the arguments give to the options of a command, of which no option has a rule on another one. None exactly where the command does
-// not take the arguments.
+// What the arguments give to the options of a command, of which no option has a rule on another
+// one. None exactly where the command does not take the arguments.
 fn matched<'a>(
     command: Command<'a>,
     words: &'a [String],
@@ -59,9 +59,10 @@ fn matched<'a>(
     }
 }
 
-/// What the arguments give to the options of the command of this name, which takes these options and no other, each with one value and at
-/// most once. The first argument is the program's name. None exactly where the command does not take the arguments. Whether it takes them
-/// is what `clap` states.
+/// What the arguments give to the options of the command of this name, which takes these options
+/// and no other, each with one value and at most once. The first argument is the program's name.
+/// None exactly where the command does not take the arguments. Whether it takes them is what `clap`
+/// states.
 pub fn given<'a>(
     alloc: Global,
     name: &'a str,

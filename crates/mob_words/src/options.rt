@@ -9,6 +9,7 @@ pub struct Settings {
     pub workers: u32,
     /// The day from whose midnight the instants count: 2000-01-01 where no word says so.
     pub epoch: Epoch,
-    /// How many ships the demo has, from 1 to 1000, or None where the script and the files are those that are handed in.
+    /// How many ships the demo has, from 1 to 1000, or None where the script and the files are
+    /// those that are handed in.
     pub demo: Option<u32>,
 }

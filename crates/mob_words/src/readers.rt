@@ -11,7 +11,8 @@ use mob_scalar::Epoch;
 // The greatest number of workers.
 const MOST_WORKERS: u32 = 64;
 
-/// A whole number from 1 to `most`, in decimal digits without a sign or a leading zero; None for every other text.
+/// A whole number from 1 to `most`, in decimal digits without a sign or a leading zero; None for
+/// every other text.
 pub fn count_in(text: &str, most: u32) -> Option<u32>
     ensures some { IfSome result (λ n. IsCount most text.now n) }
     ensures none { IsNone result → (n : ℕ) → IsCount most text.now n → ⊥ }
@@ -23,7 +24,8 @@ pub fn count_in(text: &str, most: u32) -> Option<u32>
     }
 }
 
-/// The count that the value of a required option says, from 1 to `most`; None without a value and for every other text.
+/// The count that the value of a required option says, from 1 to `most`; None without a value and
+/// for every other text.
 pub fn count_of(value: Option<&str>, most: u32) -> Option<u32>
     ensures some { IfSome result (λ n. IsRequired (IsCount most) (option_map (λ s. s.now) value.entry) n) }
     ensures none { IsNone result → (n : ℕ) → IsRequired (IsCount most) (option_map (λ s. s.now) value.entry) n → ⊥ }
@@ -34,7 +36,8 @@ pub fn count_of(value: Option<&str>, most: u32) -> Option<u32>
     }
 }
 
-/// The number of workers that the value of `--workers` says, from 1 to 64, or 1 without a value; None for every other text.
+/// The number of workers that the value of `--workers` says, from 1 to 64, or 1 without a value;
+/// None for every other text.
 pub fn workers_of(value: Option<&str>) -> Option<u32>
     ensures some { IfSome result (λ n. IsWorkers (option_map (λ s. s.now) value.entry) n) }
     ensures none { IsNone result → (n : ℕ) → IsWorkers (option_map (λ s. s.now) value.entry) n → ⊥ }
@@ -45,7 +48,8 @@ pub fn workers_of(value: Option<&str>) -> Option<u32>
     }
 }
 
-/// A number that is not below 0, as a literal of type numeric is written; None for every other text.
+/// A number that is not below 0, as a literal of type numeric is written; None for every other
+/// text.
 pub fn distance_in(text: &str) -> Option<Frac>
     ensures some { IfSome result (λ d. IsDistance text.now d) }
     ensures none { IsNone result → (d : Ratio) → IsDistance text.now d → ⊥ }
@@ -59,8 +63,8 @@ pub fn distance_in(text: &str) -> Option<Frac>
     Some(number)
 }
 
-/// The epoch that the value of `--epoch` says, an existing date `YYYY-MM-DD` of the years 0001 to 9999, or 2000-01-01 without a value;
-/// None for every other text.
+/// The epoch that the value of `--epoch` says, an existing date `YYYY-MM-DD` of the years 0001 to
+/// 9999, or 2000-01-01 without a value; None for every other text.
 pub fn epoch_of(value: Option<&str>) -> Option<Epoch>
     ensures some { IfSome result (λ epoch. IsEpoch (option_map (λ s. s.now) value.entry) epoch) }
     ensures none { IsNone result → (day : ℤ) → IsEpoch (option_map (λ s. s.now) value.entry) day → ⊥ }

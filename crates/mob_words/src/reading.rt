@@ -26,12 +26,14 @@ fn demo_of(value: Option<&str>) -> Option<Option<u32>>
     }
 }
 
-/// The settings that the arguments say, the first of which is the program's name: `--workers N` with a whole number from 1 to 64 in
-/// decimal digits, `--epoch DATE` with an existing date `YYYY-MM-DD` of the years 0001 to 9999, and `--demo N` with a whole number from
-/// 1 to 1000. Each option may be left out, and may be given once; `--workers=N` says the same as the two arguments.
+/// The settings that the arguments say, the first of which is the program's name: `--workers N`
+/// with a whole number from 1 to 64 in decimal digits, `--epoch DATE` with an existing date
+/// `YYYY-MM-DD` of the years 0001 to 9999, and `--demo N` with a whole number from 1 to 1000. Each
+/// option may be left out, and may be given once; `--workers=N` says the same as the two arguments.
 ///
-/// None exactly where the arguments are not taken: another argument, an option twice or without its value, or a value that is
-/// none. Whether `clap` takes the arguments of this command is that crate's stated meaning.
+/// None exactly where the arguments are not taken: another argument, an option twice or without its
+/// value, or a value that is none. Whether `clap` takes the arguments of this command is that
+/// crate's stated meaning.
 pub fn settings(alloc: Global, words: &[String]) -> Result<Option<Settings>, AllocError>
     ensures said { IfOk result (λ o. IfSome o (WordsSay (map string_bytes words.now))) }
     ensures refused { IfOk result (λ o. IsNone o → (s : SettingsSeen) → WordsSay (map string_bytes words.now) s → ⊥) }

@@ -52,7 +52,8 @@ same_group a b c d e f h = simp append_assoc (ap (λ (x : Text). a ++ (b ++ x)) 
 next_group : (a b c o i d e f : Text) → i ++ d ≡ e ++ f → (a ++ b) ++ (c ++ ((o ++ i) ++ d)) ≡ a ++ (((b ++ c ++ o) ++ e) ++ f)
 next_group a b c o i d e f h = simp append_assoc (ap (λ (x : Text). a ++ (b ++ (c ++ (o ++ x)))) h)
 
--- the first group begins with the first slice, and the text of all groups is the text written from the left
+-- the first group begins with the first slice, and the text of all groups is the text written from
+-- the left
 record IsGrouped {C B : Type 0} (style : Style C B) (s : Slice C) (rest : List (Slice C)) : Type 0 where
   group : List (Slice C)
   groups : List (List (Slice C))

@@ -1,9 +1,10 @@
 -- The texts of temporal literals.
 --
--- A literal is one `value@moment`, a set of them in braces, a sequence of them between brackets, or sequences in braces. Blanks may
--- stand at both ends, and on both sides of each sign that stands outside a value and a moment. An instant that stands alone or in a
--- set stands for the sequence of that instant alone, so each literal stands for a list of sequences. What may stand before a literal
--- says whether its sequences have step interpolation.
+-- A literal is one `value@moment`, a set of them in braces, a sequence of them between brackets, or
+-- sequences in braces. Blanks may stand at both ends, and on both sides of each sign that stands
+-- outside a value and a moment. An instant that stands alone or in a set stands for the sequence of
+-- that instant alone, so each literal stands for a list of sequences. What may stand before a
+-- literal says whether its sequences have step interpolation.
 use Rattle.std.specs.Prelude.{◌≡◌, ℕ, List, [], ◌∷◌, ◌++◌, map, codes, true, ◌&&◌, not, nat_eq, Option, ℤ}
 use Rattle.mob_language.specs.Language.{Text, Language, ◌▷◌, ◌∣◌, Means, Separated, spaced, in_middle, within_blanks}
 use Rattle.mob_language.specs.Readers.{TextReader, ◌>>=◌, then_at, or_at, means_at, separated_at, spaced_at, within_blanks_at}

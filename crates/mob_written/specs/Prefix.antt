@@ -1,9 +1,10 @@
 -- What may stand before a temporal literal.
 --
--- `Interp=Step;` says that the sequences of the literal have step interpolation, and `SRID=0;` says nothing more. A type admits both,
--- one or none of them. Each that it admits may stand there once, in any order, its letters small or capital, with blanks on both
--- sides of its semicolon. A prefix that may stand there belongs to the whole literal and not to its first value, so what stands behind
--- the prefixes begins with the first letter of none that might still stand.
+-- `Interp=Step;` says that the sequences of the literal have step interpolation, and `SRID=0;` says
+-- nothing more. A type admits both, one or none of them. Each that it admits may stand there once,
+-- in any order, its letters small or capital, with blanks on both sides of its semicolon. A prefix
+-- that may stand there belongs to the whole literal and not to its first value, so what stands
+-- behind the prefixes begins with the first letter of none that might still stand.
 use Rattle.std.specs.Prelude.{◌≡◌, ℕ, List, [], ◌∷◌, ◌++◌, codes, Bool, true, false, ◌&&◌, ◌||◌, not, cond, nat_eq, Option, Some, None}
 use Rattle.std.specs.Char.{to_ascii_lowercase}
 use Rattle.mob_language.specs.Language.{Text, Language}
@@ -23,7 +24,8 @@ prefix_word reference = srid_word
 abbrev pub prefix_of : Prefix → Language (Unit {0} × Unit {0})
 prefix_of p = heading (prefix_word p)
 
--- the prefixes that a type admits: `Interp=Step;` where its courses are not steady, and `SRID=0;` where it has a reference system
+-- the prefixes that a type admits: `Interp=Step;` where its courses are not steady, and `SRID=0;`
+-- where it has a reference system
 abbrev pub admitted : Bool → Bool → Prefixes
 admitted steady has_srid = record { step = not steady; srid = has_srid }
 

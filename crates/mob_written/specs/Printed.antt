@@ -1,11 +1,12 @@
 -- The printed text of a temporal value.
 --
--- Neighbouring slices print as one group where the next one holds the instant at which they meet and, where the courses of the type
--- are not steady, begins with the limit of the one there: else the text would say that the one goes on to where the next begins. A
--- group prints between brackets the start of each of its slices and, where its last slice is longer than an instant, the end of that
--- one. Nothing stands before a printed text that says how its values go on. A value of one instant
--- prints as that instant alone, a value of single instants as a set in braces, a value of one group as that group, and every other
--- value as its groups in braces.
+-- Neighbouring slices print as one group where the next one holds the instant at which they meet
+-- and, where the courses of the type are not steady, begins with the limit of the one there: else
+-- the text would say that the one goes on to where the next begins. A group prints between brackets
+-- the start of each of its slices and, where its last slice is longer than an instant, the end of
+-- that one. Nothing stands before a printed text that says how its values go on. A value of one
+-- instant prints as that instant alone, a value of single instants as a set in braces, a value of
+-- one group as that group, and every other value as its groups in braces.
 use Rattle.std.specs.Prelude.{List, [], ◌∷◌, ◌++◌, map, codes, Bool, ◌&&◌, ◌||◌, not, cond}
 use Rattle.std.specs.List.{list_all}
 use Rattle.mob_ratio.specs.Ratio.{Ratio}
@@ -53,7 +54,8 @@ start_text style s = instant_text style (style.course.start s.course) s.span.low
 abbrev pub end_text : {C B : Type 0} → Style C B → Slice C → Text
 end_text style s = instant_text style (style.course.end s.course) s.span.upper
 
--- the instants of a group: the start of each slice, and the end of the last one if that is longer than an instant
+-- the instants of a group: the start of each slice, and the end of the last one if that is longer
+-- than an instant
 abbrev pub instants_of : {C B : Type 0} → Style C B → List (Slice C) → List Text
 instants_of style [] = []
 instants_of style (s ∷ []) = start_text style s ∷ cond (is_long s) (end_text style s ∷ []) []

@@ -11,7 +11,8 @@ use Rattle.mob_written.specs.Literal.{at_sign}
 abbrev pub begins_no_value : ℕ → Bool
 begins_no_value c = is_blank c || (is_open c || nat_eq c 123)
 
--- The reader reads exactly the texts of the values, each of which has a byte, begins with none of these and may stand before the sign @.
+-- The reader reads exactly the texts of the values, each of which has a byte, begins with none of
+-- these and may stand before the sign @.
 pub record IsValueText {B : Type 0} (value : List ℕ → Option B → Type 0) (reader : TextReader (Option B)) (follows : List ℕ → Type 0) : Type 0 where
   pub exact : Exact value reader follows
   pub before_at : (text rest : Text) (u : Unit {0}) → at_sign text u → follows (text ++ rest)

@@ -248,7 +248,8 @@ fn is_said(admitted: bool, left: bool) -> bool
     admitted && !left
 }
 
-/// A literal behind its prefixes, and what stands behind it. `Interp=Step;` may be one where the courses are not steady.
+/// A literal behind its prefixes, and what stands behind it. `Interp=Step;` may be one where the
+/// courses are not steady.
 #[tactic(auto, unfolding(crate::specs::Literal::prefixed_at))]
 fn prefixed_at<'a, T: WrittenValue>(
     alloc: Global,
@@ -274,7 +275,8 @@ fn prefixed_at<'a, T: WrittenValue>(
     Ok(Some((literal, rest)))
 }
 
-/// The literal that all of the bytes are, as it is written, of a type whose courses are steady, or are not.
+/// The literal that all of the bytes are, as it is written, of a type whose courses are steady, or
+/// are not.
 #[tactic(auto, unfolding(crate::specs::Literal::temporal_at))]
 pub fn literal_of<T: WrittenValue>(
     alloc: Global,

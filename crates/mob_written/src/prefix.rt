@@ -28,7 +28,8 @@ fn is_first(letter: u8, admitted: bool, byte: u8) -> bool
     byte.to_ascii_lowercase() == letter && admitted
 }
 
-/// One prefix where its first letter is there: those that may still stand, and what stands behind it.
+/// One prefix where its first letter is there: those that may still stand, and what stands behind
+/// it.
 #[tactic(auto, unfolding(crate::specs::Prefix::one_prefix_at))]
 fn one_prefix_at(admitted: Prefixes, bytes: &[u8]) -> Option<(Prefixes, &[u8])>
     ensures read { option_map (λ x. (x.0, x.1.now)) result ≡ one_prefix_in admitted bytes.now }
@@ -48,8 +49,8 @@ fn one_prefix_at(admitted: Prefixes, bytes: &[u8]) -> Option<(Prefixes, &[u8])>
     Some((Prefixes { step, srid }, bytes))
 }
 
-/// The prefixes in front: those that may still stand, and what stands behind them. None where the first letter of a prefix that may
-/// stand there begins something else.
+/// The prefixes in front: those that may still stand, and what stands behind them. None where the
+/// first letter of a prefix that may stand there begins something else.
 #[tactic(auto, unfolding(crate::specs::Prefix::prefixes_at))]
 pub fn prefixes_at(admitted: Prefixes, bytes: &[u8]) -> Option<(Prefixes, &[u8])>
     ensures read { option_map (λ x. (x.0, x.1.now)) result ≡ prefixes_in admitted bytes.now }

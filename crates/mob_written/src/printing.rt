@@ -46,7 +46,8 @@ fn is_long<C>(slice: &Slice<C>) -> bool
     slice.span.is_long()
 }
 
-/// Whether the next course begins with the limit of the one before it. Of steady courses that is not asked.
+/// Whether the next course begins with the limit of the one before it. Of steady courses that is
+/// not asked.
 fn takes_up<C: Course>(course: &C, next: &C) -> bool
 where
     C::Base: BaseValue,

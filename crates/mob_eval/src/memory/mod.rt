@@ -71,6 +71,7 @@ fn chunk_in<T: Drop>(alloc: Global, kept: &OnceBox<Chunk<T>>) -> Option<&Chunk<T
     let Ok(boxed) = Box::new(alloc, chunk) else {
         return None;
     };
+    // Another worker may have put its chunk there first; then that one is used.
     let _set = kept.set(boxed);
     kept.get()
 }

@@ -22,8 +22,8 @@ use std::alloc::Global;
 use std::marker::{Model, PhantomData};
 use std::mem::size_of;
 
-/// The box of the operand at a place of the script: on a row of the table at a place of FROM, or, if
-/// it names no place, on each tuple.
+/// The box of the operand at a place of the script: on a row of the table at a place of FROM, or,
+/// if it names no place, on each tuple.
 #[derive(Drop)]
 pub struct OwnBox {
     at: u32,
@@ -93,6 +93,7 @@ fn keep<K: Remembering>(alloc: Global, cell: &Cell<'_, ToldBox<K>>, area: StBox)
     let Ok(boxed) = Box::new(alloc, told) else {
         return;
     };
+    // Another worker may have been faster; then its box stays.
     let _set = cell.kept.set(boxed);
 }
 

@@ -33,8 +33,8 @@ impl Remembering for Nothing {
     ghost recollection = { nothing };
 }
 
-/// What the operator at a place of the script gave: on a row of the table at a place of FROM, or, if
-/// it names no place, on each tuple.
+/// What the operator at a place of the script gave: on a row of the table at a place of FROM, or,
+/// if it names no place, on each tuple.
 #[derive(Drop)]
 pub struct Answer {
     at: u32,
@@ -123,7 +123,7 @@ fn lent<'a, K: Remembering>(told: &'a Told<K>) -> Result<Held<'a>, EvalFault>
     }
 }
 
-// The same, of an outcome that is handed over.
+// An outcome that is handed over, as evaluation gives it: a value is held.
 fn handed<'a>(outcome: Result<Value, (u32, Formula)>) -> Result<Held<'a>, EvalFault>
     ensures value { Says (λ r. r ≡ outcome) result }
 {
@@ -137,8 +137,8 @@ fn handed<'a>(outcome: Result<Value, (u32, Formula)>) -> Result<Held<'a>, EvalFa
 }
 
 impl<'a, T> Cell<'a, T> {
-    /// Whether this is the cell of the operator at a place of the script, on a row of the table at a
-    /// place of FROM.
+    /// Whether this is the cell of the operator at a place of the script, on a row of the table at
+    /// a place of FROM.
     pub fn is_at(&self, at: u32, place: Option<u32>, row: u32) -> bool
         ensures same { result ≡ true → (at ≡ self.now.at) × (place ≡ self.now.place) × (row ≡ self.now.row) }
     {

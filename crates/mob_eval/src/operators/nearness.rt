@@ -30,7 +30,8 @@ fn are_within(alloc: Global, pair: Option<Pair<'_, PlaneLine>>, d: &Frac) -> Res
     }
 }
 
-/// eDwithin: whether two points are at most a distance apart at some instant at which both are somewhere.
+/// eDwithin: whether two points are at most a distance apart at some instant at which both are
+/// somewhere.
 pub fn within(
     alloc: Global,
     left: &Value,

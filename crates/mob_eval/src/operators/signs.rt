@@ -1,4 +1,5 @@
-//! The signs that compare two values over time: `#` at each instant, `?` at some instant, `%` at every instant.
+//! The signs that compare two values over time: `#` at each instant, `?` at some instant, `%` at
+//! every instant.
 ghost use Rattle.std.specs.Prelude.{◌≡◌, ◌||◌, true, false, [], Some, IfErr, IfSome, option_map};
 ghost use Rattle.mob_slice.specs.Comparison.{MayAsk};
 ghost use Rattle.mob_slice.specs.Entries.{IsFirst};
@@ -123,7 +124,8 @@ fn order(
     }
 }
 
-// What the sign gives of values that are equal or not: truth values and points too, which have no order here.
+// What the sign gives of values that are equal or not: truth values and points too, which have no
+// order here.
 fn sameness(
     alloc: Global,
     scope: Scope,

@@ -51,8 +51,8 @@ fn unloaded(end: LoadEnd) -> Ending
 }
 
 /// Judges a text. Where it is a script, its literals and files are read and its statements run.
-/// Returns the ending: that of the first refusal, of a file that cannot be read, of a statement with
-/// a fault or of a failed `out`, or out of memory; `Done` where every statement ran.
+/// Returns the ending: that of the first refusal, of a file that cannot be read, of a statement
+/// with a fault or of a failed `out`, or out of memory; `Done` where every statement ran.
 pub fn run_text<R: Threads + Sync, F: Files, K: Sink, G: Gate>(
     rt: &R,
     alloc: Global,
