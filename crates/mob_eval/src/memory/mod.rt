@@ -135,6 +135,15 @@ impl<K: Remembering, T: Drop> Slot<K, T> {
 }
 
 impl<K: Remembering> Memory<K> {
+    /// The memory, if something is remembered, and none if nothing is: then no operator looks for a
+    /// slot.
+    pub fn in_use(&self) -> Option<&Memory<K>> {
+        if self.is_empty() {
+            return None;
+        }
+        Some(self)
+    }
+
     /// Nothing is remembered yet.
     pub fn new(alloc: Global) -> Memory<K> {
         Memory {
