@@ -1,8 +1,9 @@
 //! Lists: phrases of one kind with a mark between.
-ghost use Rattle.std.specs.Prelude.{◌≡◌, ◌≤◌, length, map, OnOk};
+ghost use Rattle.std.specs.Prelude.{◌≡◌, map};
 ghost use Rattle.mob_grammar.specs.Reading.{TokenReader, listed};
 ghost use Rattle.mob_parse.specs.Cursors.{left, FollowsReading};
 ghost use Rattle.mob_parse.specs.Orderings.{put_behind};
+ghost use Rattle.mob_parse.specs.Shrinks.{Shrinks};
 
 use crate::cursor::{Cursor, Fault};
 use mob_grammar::mark::Mark;
@@ -23,8 +24,10 @@ pub trait Entry {
 
     /// One, at the front of what is left to read.
     fn read(cursor: &mut Cursor<'_>) -> Result<Self::Made, Fault>
-        ensures reads { FollowsReading parts_of result (left cursor.new) (reader (left cursor.old)) }
-        ensures within { OnOk result (length (left cursor.new) ≤ length (left cursor.old)) };
+        ensures reads { FollowsReading parts_of result (left cursor.new) (reader (left cursor.old)) };
+
+    /// What is left behind one is no longer than what it was read from.
+    ghost shrinks: { Shrinks reader };
 }
 
 impl<'a> Cursor<'a> {
@@ -32,7 +35,6 @@ impl<'a> Cursor<'a> {
     #[tactic(auto, using(crate::proofs::Behind::behind_nothing))]
     pub fn list<T: Entry>(&mut self, mark: Mark) -> Result<Items<T::Made>, Fault>
         ensures reads { FollowsReading (map T.parts_of) result (left self.new) (listed mark T.reader (left self.old)) }
-        ensures within { OnOk result (length (left self.new) ≤ length (left self.old)) }
     {
         self.list_onto::<T>(mark, Items::new(self.alloc))
     }
@@ -45,7 +47,6 @@ impl<'a> Cursor<'a> {
         before: Items<T::Made>,
     ) -> Result<Items<T::Made>, Fault>
         ensures reads { FollowsReading (map T.parts_of) result (left self.new) (put_behind (map T.parts_of before) (listed mark T.reader) (left self.old)) }
-        ensures within { OnOk result (length (left self.new) ≤ length (left self.old)) }
     {
         let mut found = before;
         let first = T::read(self)?;

@@ -1,10 +1,11 @@
 //! SELECT, part by part, and whole scripts.
-ghost use Rattle.std.specs.Prelude.{◌≡◌, ◌≤◌, Ok, true, false, length, map, IfOk, MatchOption, OnOk, option_map};
+ghost use Rattle.std.specs.Prelude.{◌≡◌, Ok, true, false, map, IfOk, MatchOption, option_map};
 ghost use Rattle.mob_ast.specs.Trees.{tree_of, Tree, FromParts, from_of, ItemParts, item_of, KeyParts, key_of, select_of, StatementParts, statement_of};
 ghost use Rattle.mob_grammar.specs.Symbols.{begins, is_name, counts_all, first, rest};
 ghost use Rattle.mob_grammar.specs.Reading.{some_name_at, second_name_at, from_entry_at, on_at, joined_entry_at, joins_at, source_at, sources_at, group_column_at, group_at, delete_at, alias_at, count_tail_at, one_item_at, item_at, direction_at, key_at, distinct_at, from_at, condition_at, order_at, limit_at, select_at, explain_at, statement_at, script_at, listed};
 ghost use Rattle.mob_parse.specs.Cursors.{left, FollowsReading};
 ghost use Rattle.mob_parse.specs.Orderings.{ordering_at, put_behind};
+ghost use Rattle.mob_parse.specs.Shrinks.{from_entry_shrinks, joined_entry_shrinks, group_column_shrinks, item_shrinks, key_shrinks, statement_shrinks};
 
 use crate::cursor::{Cursor, Fault};
 use crate::list::Entry;
@@ -29,7 +30,6 @@ impl<'a> Cursor<'a> {
     #[tactic(auto, unfolding(mob_grammar::specs::Reading::some_name_at))]
     fn some_name(&mut self) -> Result<Option<Word>, Fault>
         ensures reads { FollowsReading (λ w. w) result (left self.new) (some_name_at (left self.old)) }
-        ensures within { OnOk result (length (left self.new) ≤ length (left self.old)) }
     {
         Ok(Some(self.name()?))
     }
@@ -38,7 +38,6 @@ impl<'a> Cursor<'a> {
     #[tactic(auto, unfolding(mob_grammar::specs::Reading::second_name_at, mob_grammar::specs::Reading::name_or_none_at, mob_grammar::specs::Reading::if_mark))]
     fn second_name(&mut self) -> Result<Option<Word>, Fault>
         ensures reads { FollowsReading (λ w. w) result (left self.new) (second_name_at (left self.old)) }
-        ensures within { OnOk result (length (left self.new) ≤ length (left self.old)) }
     {
         if self.skip(Mark::As) {
             self.some_name()
@@ -53,7 +52,6 @@ impl<'a> Cursor<'a> {
     #[tactic(auto, unfolding(mob_grammar::specs::Reading::alias_at, mob_grammar::specs::Reading::if_mark))]
     fn alias(&mut self) -> Result<Option<Word>, Fault>
         ensures reads { FollowsReading (λ w. w) result (left self.new) (alias_at (left self.old)) }
-        ensures within { OnOk result (length (left self.new) ≤ length (left self.old)) }
     {
         if self.skip(Mark::As) {
             self.some_name()
@@ -66,7 +64,6 @@ impl<'a> Cursor<'a> {
     fn aliased<T: Drop>(&mut self, value: T) -> Result<(T, Option<Word>), Fault>
         ensures reads { FollowsReading (λ r. r.1) result (left self.new) (alias_at (left self.old)) }
         ensures same { IfOk result (λ r. r.0 ≡ value) }
-        ensures within { OnOk result (length (left self.new) ≤ length (left self.old)) }
     {
         let alias = self.alias()?;
         Ok((value, alias))
@@ -76,7 +73,6 @@ impl<'a> Cursor<'a> {
     #[tactic(auto, unfolding(mob_grammar::specs::Reading::direction_at, mob_grammar::specs::Reading::if_mark))]
     fn direction(&mut self) -> bool
         ensures reads { direction_at (left self.old) ≡ Ok (result, left self.new) }
-        ensures within { length (left self.new) ≤ length (left self.old) }
     {
         if self.skip(Mark::Asc) {
             false
@@ -89,7 +85,6 @@ impl<'a> Cursor<'a> {
     #[tactic(auto, unfolding(mob_grammar::specs::Reading::distinct_at, mob_grammar::specs::Reading::if_mark))]
     fn distinct(&mut self) -> bool
         ensures reads { distinct_at (left self.old) ≡ Ok (result, left self.new) }
-        ensures within { length (left self.new) ≤ length (left self.old) }
     {
         self.skip(Mark::Distinct)
     }
@@ -114,7 +109,6 @@ impl<'a> Cursor<'a> {
     #[tactic(auto, unfolding(mob_grammar::specs::Reading::count_tail_at, mob_grammar::specs::Reading::count_alias_at, mob_grammar::specs::Reading::behind_mark))]
     fn count_tail(&mut self, place: u32) -> Result<Item, Fault>
         ensures reads { FollowsReading item_of result (left self.new) (count_tail_at place (left self.old)) }
-        ensures within { OnOk result (length (left self.new) ≤ length (left self.old)) }
     {
         self.expect(Mark::Close)?;
         let alias = self.alias()?;
@@ -125,7 +119,6 @@ impl<'a> Cursor<'a> {
     #[tactic(auto, unfolding(mob_grammar::specs::Reading::one_item_at))]
     fn one_item(&mut self) -> Result<Item, Fault>
         ensures reads { FollowsReading item_of result (left self.new) (one_item_at (left self.old)) }
-        ensures within { OnOk result (length (left self.new) ≤ length (left self.old)) }
     {
         let value = self.expression()?;
         let (value, alias) = self.aliased(value)?;
@@ -136,7 +129,6 @@ impl<'a> Cursor<'a> {
     #[tactic(auto, unfolding(mob_grammar::specs::Reading::on_at, mob_grammar::specs::Reading::behind_mark))]
     fn on_part(&mut self, table: Word, alias: Option<Word>) -> Result<FromTable, Fault>
         ensures reads { FollowsReading from_of result (left self.new) (on_at table alias (left self.old)) }
-        ensures within { OnOk result (length (left self.new) ≤ length (left self.old)) }
     {
         self.expect(Mark::On)?;
         let cond = self.expression()?;
@@ -151,7 +143,6 @@ impl<'a> Cursor<'a> {
     #[tactic(auto, unfolding(mob_grammar::specs::Reading::joins_at, mob_grammar::specs::Reading::if_mark, crate::specs::Orderings::put_behind))]
     fn joins(&mut self, found: Items<FromTable>) -> Result<Items<FromTable>, Fault>
         ensures reads { FollowsReading (map from_of) result (left self.new) (put_behind (map from_of found) joins_at (left self.old)) }
-        ensures within { OnOk result (length (left self.new) ≤ length (left self.old)) }
     {
         if self.skip(Mark::Left) {
             self.list_onto::<Joined>(Mark::Left, found)
@@ -164,7 +155,6 @@ impl<'a> Cursor<'a> {
     #[tactic(auto, unfolding(mob_grammar::specs::Reading::source_at, crate::specs::Orderings::put_behind))]
     fn source(&mut self, before: Items<FromTable>) -> Result<Items<FromTable>, Fault>
         ensures reads { FollowsReading (map from_of) result (left self.new) (put_behind (map from_of before) source_at (left self.old)) }
-        ensures within { OnOk result (length (left self.new) ≤ length (left self.old)) }
     {
         let mut found = before;
         let entry = FromTable::read(self)?;
@@ -176,7 +166,6 @@ impl<'a> Cursor<'a> {
     #[tactic(auto, unfolding(mob_grammar::specs::Reading::sources_at))]
     fn sources(&mut self) -> Result<Items<FromTable>, Fault>
         ensures reads { FollowsReading (map from_of) result (left self.new) (sources_at (left self.old)) }
-        ensures within { OnOk result (length (left self.new) ≤ length (left self.old)) }
     {
         let mut found = self.source(Items::new(self.alloc))?;
         'more: while self.skip(Mark::Comma) {
@@ -188,7 +177,6 @@ impl<'a> Cursor<'a> {
     #[tactic(auto, unfolding(mob_grammar::specs::Reading::from_at, mob_grammar::specs::Reading::if_mark))]
     fn from_part(&mut self) -> Result<Items<FromTable>, Fault>
         ensures reads { FollowsReading (map from_of) result (left self.new) (from_at (left self.old)) }
-        ensures within { OnOk result (length (left self.new) ≤ length (left self.old)) }
     {
         if self.skip(Mark::From) {
             self.sources()
@@ -200,7 +188,6 @@ impl<'a> Cursor<'a> {
     #[tactic(auto, unfolding(mob_grammar::specs::Reading::condition_at, mob_grammar::specs::Reading::some_expression_at, mob_grammar::specs::Reading::if_mark))]
     fn where_part(&mut self) -> Result<Option<Expr>, Fault>
         ensures reads { FollowsReading (option_map tree_of) result (left self.new) (condition_at (left self.old)) }
-        ensures within { OnOk result (length (left self.new) ≤ length (left self.old)) }
     {
         if self.skip(Mark::Where) {
             Ok(Some(self.expression()?))
@@ -212,7 +199,6 @@ impl<'a> Cursor<'a> {
     #[tactic(auto, unfolding(mob_grammar::specs::Reading::order_at, mob_grammar::specs::Reading::behind_mark, mob_grammar::specs::Reading::if_mark))]
     fn order_part(&mut self) -> Result<Items<Key>, Fault>
         ensures reads { FollowsReading (map key_of) result (left self.new) (order_at (left self.old)) }
-        ensures within { OnOk result (length (left self.new) ≤ length (left self.old)) }
     {
         if self.skip(Mark::Order) {
             self.expect(Mark::By)?;
@@ -225,7 +211,6 @@ impl<'a> Cursor<'a> {
     #[tactic(auto, unfolding(mob_grammar::specs::Reading::limit_at, mob_grammar::specs::Reading::some_number_at, mob_grammar::specs::Reading::if_mark))]
     fn limit_part(&mut self) -> Result<Option<Word>, Fault>
         ensures reads { FollowsReading (λ w. w) result (left self.new) (limit_at (left self.old)) }
-        ensures within { OnOk result (length (left self.new) ≤ length (left self.old)) }
     {
         if self.skip(Mark::Limit) {
             Ok(Some(self.number()?))
@@ -238,7 +223,6 @@ impl<'a> Cursor<'a> {
     #[tactic(auto, unfolding(mob_grammar::specs::Reading::group_at, mob_grammar::specs::Reading::behind_mark, mob_grammar::specs::Reading::if_mark))]
     fn group_part(&mut self) -> Result<Items<Expr>, Fault>
         ensures reads { FollowsReading (map tree_of) result (left self.new) (group_at (left self.old)) }
-        ensures within { OnOk result (length (left self.new) ≤ length (left self.old)) }
     {
         if self.skip(Mark::Group) {
             self.expect(Mark::By)?;
@@ -256,7 +240,6 @@ impl<'a> Cursor<'a> {
     ) -> Result<(T, Items<Expr>, Items<Key>, Option<Word>), Fault>
         ensures reads { FollowsReading (λ r. (map tree_of r.1, map key_of r.2, r.3)) result (left self.new) (ordering_at (left self.old)) }
         ensures same { IfOk result (λ r. r.0 ≡ front) }
-        ensures within { OnOk result (length (left self.new) ≤ length (left self.old)) }
     {
         let groups = self.group_part()?;
         let keys = self.order_part()?;
@@ -268,7 +251,6 @@ impl<'a> Cursor<'a> {
     #[tactic(auto, unfolding(mob_grammar::specs::Reading::select_at))]
     fn select(&mut self) -> Result<SelectTree, Fault>
         ensures reads { FollowsReading select_of result (left self.new) (select_at (left self.old)) }
-        ensures within { OnOk result (length (left self.new) ≤ length (left self.old)) }
     {
         let distinct = self.distinct();
         let items = self.list::<Item>(Mark::Comma)?;
@@ -290,7 +272,6 @@ impl<'a> Cursor<'a> {
     #[tactic(auto, unfolding(mob_grammar::specs::Reading::delete_at, mob_grammar::specs::Reading::delete_table_at, mob_grammar::specs::Reading::behind_mark))]
     fn delete(&mut self) -> Result<Statement, Fault>
         ensures reads { FollowsReading statement_of result (left self.new) (delete_at (left self.old)) }
-        ensures within { OnOk result (length (left self.new) ≤ length (left self.old)) }
     {
         self.expect(Mark::From)?;
         let table = self.name()?;
@@ -302,7 +283,6 @@ impl<'a> Cursor<'a> {
     #[tactic(auto, unfolding(mob_grammar::specs::Reading::explain_at, mob_grammar::specs::Reading::behind_mark))]
     fn explain(&mut self) -> Result<Statement, Fault>
         ensures reads { FollowsReading statement_of result (left self.new) (explain_at (left self.old)) }
-        ensures within { OnOk result (length (left self.new) ≤ length (left self.old)) }
     {
         self.expect(Mark::Select)?;
         Ok(Statement::Explain(self.select()?))
@@ -337,6 +317,8 @@ impl Entry for FromTable {
             on: None,
         })
     }
+
+    ghost shrinks = { from_entry_shrinks };
 }
 
 /// A table that is left-joined, behind LEFT.
@@ -358,6 +340,8 @@ impl Entry for Joined {
         let alias = cursor.second_name()?;
         cursor.on_part(table, alias)
     }
+
+    ghost shrinks = { joined_entry_shrinks };
 }
 
 /// A column of GROUP BY.
@@ -381,6 +365,8 @@ impl Entry for GroupColumn {
             cursor.column(name)
         }
     }
+
+    ghost shrinks = { group_column_shrinks };
 }
 
 /// An entry of the select list.
@@ -403,6 +389,8 @@ impl Entry for Item {
             cursor.one_item()
         }
     }
+
+    ghost shrinks = { item_shrinks };
 }
 
 /// A key of ORDER BY.
@@ -421,6 +409,8 @@ impl Entry for Key {
         let descending = cursor.direction();
         Ok(Key { value, descending })
     }
+
+    ghost shrinks = { key_shrinks };
 }
 
 /// A statement, or nothing.
@@ -451,4 +441,6 @@ impl Entry for Statement {
             Ok(Statement::Empty)
         }
     }
+
+    ghost shrinks = { statement_shrinks };
 }
