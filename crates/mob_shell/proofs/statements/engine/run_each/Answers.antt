@@ -4,7 +4,7 @@ use Rattle.mob_outside.specs.Streams.{PutsPart}
 use Rattle.mob_outside.specs.EndsSeen.{stream_seen}
 use Rattle.mob_shell.proofs.Running.{can_next, can_rest, halted, ran_next, puts_front}
 use Rattle.mob_shell.specs.Session.{SessionCanRun, SessionRuns, StopsOn}
-use Rattle.mob_shell.proofs.statements.engine.run_all.Goals as goal
+use Rattle.mob_shell.proofs.statements.engine.run_each.Goals as goal
 
 pub returns-in-Err-clause-ends : goal.returns-in-Err-clause-ends
 returns-in-Err-clause-ends g c =
