@@ -1,6 +1,7 @@
 // Statements that run one after another, each with the text of its answer.
-ghost use Rattle.std.specs.Prelude.{◌≤◌};
+ghost use Rattle.std.specs.Prelude.{◌≤◌, IfErr, OnOk};
 ghost use Rattle.mob_outside.specs.EndsSeen.{stream_seen};
+ghost use Rattle.mob_ending.specs.declared.ending.Ending.TheVariants.{Done};
 ghost use Rattle.mob_shell.specs.Session.{SessionCanRun, SessionRuns, StopsOn};
 ghost use Rattle.mob_shell.specs.Statements.{CanAllRun, StatementsEnd, EndsByFault};
 
@@ -31,22 +32,46 @@ pub fn run_all<R: Threads + Sync, K: Sink, G: Gate>(
     ensures ends { StatementsEnd SessionRuns StopsOn session.old session.new statements.now (stream_seen K.held K.faults out.old out.new) result }
     ensures later { K.faults out.old ≤ K.faults out.new }
 {
+    match run_each(rt, alloc, session, statements, out, workers, gate) {
+        Ok(()) => Ending::Done,
+        Err(ending) => ending,
+    }
+}
+
+// Runs the statements one after another. The error is the ending at the first one that does not
+// run, or whose answer is not put.
+fn run_each<R: Threads + Sync, K: Sink, G: Gate>(
+    rt: &R,
+    alloc: Global,
+    session: &mut Session,
+    statements: &[TypedStatement],
+    out: &mut K,
+    workers: usize,
+    gate: &G,
+) -> Result<(), Ending>
+    requires can { CanAllRun SessionRuns SessionCanRun session.old statements.now }
+    requires some { 1 ≤ workers }
+    requires few { workers ≤ 64 }
+    ensures all { OnOk result (StatementsEnd SessionRuns StopsOn session.old session.new statements.now (stream_seen K.held K.faults out.old out.new) Done) }
+    ensures ends { IfErr result (StatementsEnd SessionRuns StopsOn session.old session.new statements.now (stream_seen K.held K.faults out.old out.new)) }
+    ensures later { K.faults out.old ≤ K.faults out.new }
+{
     let mut number: u32 = 1;
     for statement in statements {
         let text = match session.execute(rt, alloc, statement, workers, gate) {
             Ok(text) => text,
-            Err(fault) => return ended_by(number, fault),
+            Err(fault) => return Err(ended_by(number, fault)),
         };
         match put_all(out, &text) {
             Ok(()) => {}
-            Err(_) => return Ending::WriteFault,
+            Err(_) => return Err(Ending::WriteFault),
         }
         let Some(next) = number.checked_add(1) else {
-            return Ending::NoMemory;
+            return Err(Ending::NoMemory);
         };
         number = next;
     }
-    Ending::Done
+    Ok(())
 }
 
 // The ending where the statement of this number has this fault.

@@ -1,7 +1,7 @@
 use Rattle.std.proofs.Common.{◌≡◌, ◌+◌, ◌≤◌, drop, length}
 use Rattle.mob_shell.specs.Statements.{CanAllRun, RanFirst}
 use Rattle.mob_shell.specs.Session.{SessionCanRun, SessionRuns}
-use Rattle.mob_shell.proofs.statements.engine.run_all.Given as goal
+use Rattle.mob_shell.proofs.statements.engine.run_each.Given as goal
 
 abbrev pub invariant-loop-statement : goal.invariant-loop-statement
 invariant-loop-statement g l = record {
