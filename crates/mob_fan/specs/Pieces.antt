@@ -2,7 +2,7 @@
 use Rattle.std.specs.Prelude.{◌≡◌, ℕ, ◌≤◌, List, Result, All, MatchOption}
 use Rattle.mob_fan.specs.Outcomes.{outcome_seen}
 use Rattle.mob_fan.specs.declared.pieces.Piece.{Piece}
-use Rattle.mob_fan.specs.declared.joining.Joined.{Joined}
+use Rattle.mob_fan.specs.declared.gathering.Joined.{Joined}
 
 module _ {W I F : Type 0} (size : W → ℕ) (comes : W → ℕ → ℕ → Result (List I) F → Type 0) (w : W) where
   -- the outcome of a piece is that of its range

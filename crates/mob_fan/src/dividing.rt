@@ -4,7 +4,7 @@ ghost use Rattle.std.specs.Thread.{IsSend, IsSync};
 ghost use Rattle.mob_fan.specs.Outcomes.{outcome_seen};
 ghost use Rattle.mob_fan.specs.Pieces.{ArePieces};
 
-use crate::joining::outcome_of;
+use crate::gathering::outcome_of;
 use crate::outcomes::Outcome;
 use crate::pieces::{Piece, taken};
 use crate::work::Work;

@@ -3,7 +3,7 @@
 #![tactic(auto)]
 
 mod dividing;
-mod joining;
+mod gathering;
 pub mod laws;
 mod outcomes;
 mod pieces;

@@ -67,7 +67,7 @@ pub fn taken<W: Work>(
     ensures pieces { IfOk result (λ v. ArePieces W.size_of W.comes work.now v.items) }
 {
     let mut out = Vec::new(alloc);
-    for _ in 0..=cuts.len() {
+    for _ in 0..cuts.len() + 1 {
         let number = next.fetch_add(1, Ordering::SeqCst) as usize;
         if number > cuts.len() {
             return Ok(out);
