@@ -1,18 +1,23 @@
-// Work divided into pieces, which run side by side.
-ghost use Rattle.std.specs.Prelude.{◌≡◌, ◌+◌, ◌≤◌, Result, IfOk};
+// Work divided into pieces, which threads take one after another.
+ghost use Rattle.std.specs.Prelude.{◌≡◌, ◌+◌, ◌≤◌, ◌++◌, IfOk};
 ghost use Rattle.std.specs.Thread.{IsSend, IsSync};
 ghost use Rattle.mob_fan.specs.Outcomes.{outcome_seen};
+ghost use Rattle.mob_fan.specs.Pieces.{ArePieces};
 
-use crate::outcomes::{Outcome, both};
+use crate::gathering::outcome_of;
+use crate::outcomes::Outcome;
+use crate::pieces::{Piece, taken};
 use crate::work::Work;
 use mob_outside::Gate;
 use std::alloc::{AllocError, Global};
 use std::marker::{Send, Sync};
+use std::sync::atomic::AtomicU64;
 use std::thread::{Threads, join};
 
-/// The outcome of all of the work, by as many pieces as there are workers, but no more than there
-/// is work. Piece i passes the gate with its number before it begins. Where no thread can be made
-/// the pieces run one after the other.
+/// The outcome of all of the work, by so many workers, but no more than there is work. Worker i
+/// passes the gate with its number before it begins. Each takes one piece after another, always the
+/// next that none has taken, so a worker that is slower takes fewer. Where no thread can be made the
+/// workers run one after the other.
 pub fn fan<R: Threads + Sync, W: Work, G: Gate>(
     rt: &R,
     alloc: Global,
@@ -26,54 +31,99 @@ pub fn fan<R: Threads + Sync, W: Work, G: Gate>(
     requires few { workers ≤ 64 }
     ensures whole { IfOk result (λ o. W.comes work.now 0 len (outcome_seen o)) }
 {
-    pieces(rt, alloc, work, gate, 0, len, 0, workers.min(len.max(1)))
+    let workers = workers.min(len.max(1));
+    if workers == 1 {
+        gate.enter(0);
+        return work.piece(alloc, 0, len);
+    }
+    divided(rt, alloc, work, len, workers, gate)
 }
 
-// The outcome of a range by `count` pieces, of which `first` is the number of the first one. Halves
-// of them run side by side.
+// The outcome of all of the work by some workers.
+fn divided<R: Threads + Sync, W: Work, G: Gate>(
+    rt: &R,
+    alloc: Global,
+    work: &W,
+    len: usize,
+    workers: usize,
+    gate: &G,
+) -> Result<Outcome<W::Item, W::Fault>, AllocError>
+    requires size { len ≡ W.size_of work.now }
+    requires some { 1 ≤ workers }
+    requires few { workers ≤ 64 }
+    ensures whole { IfOk result (λ o. W.comes work.now 0 len (outcome_seen o)) }
+{
+    let cuts = work.cuts(alloc, len, workers)?;
+    let next = AtomicU64::new(0);
+    let done = pieces(
+        rt,
+        alloc,
+        work,
+        gate,
+        cuts.as_slice(),
+        len,
+        &next,
+        0,
+        workers,
+    )?;
+    outcome_of(alloc, work, len, done)
+}
+
+// The pieces of `count` workers, of which `first` is the number of the first one. Halves of them
+// run side by side.
 #[cycle(pieces)]
 fn pieces<R: Threads + Sync, W: Work, G: Gate>(
     rt: &R,
     alloc: Global,
     work: &W,
     gate: &G,
-    from: usize,
-    to: usize,
+    cuts: &[usize],
+    len: usize,
+    next: &AtomicU64,
     first: usize,
     count: usize,
-) -> Result<Outcome<W::Item, W::Fault>, AllocError>
+) -> Result<Vec<Piece<W::Item, W::Fault>>, AllocError>
+    requires size { len ≡ W.size_of work.now }
     requires some { 1 ≤ count }
     requires few { first + count ≤ 64 }
-    requires order { from ≤ to }
-    requires range { to ≤ W.size_of work.now }
-    ensures outcome { IfOk result (λ o. W.comes work.now from to (outcome_seen o)) }
+    ensures pieces { IfOk result (λ v. ArePieces W.size_of W.comes work.now v.items) }
 {
     if count == 1 {
         gate.enter(first);
-        return work.piece(alloc, from, to);
+        return taken(alloc, work, cuts, len, next);
     }
     let low = count / 2;
     let high = count - low;
-    let next = first + low;
-    let middle = work.share_end(from, to, low, count);
-    let front = move || -> Result<Outcome<W::Item, W::Fault>, AllocError>
+    let middle = first + low;
+    let front = move || -> Result<Vec<Piece<W::Item, W::Fault>>, AllocError>
         requires shared { IsSync R.row × IsSync W.row × IsSync G.row }
         requires sent { IsSend W.Item.row × IsSend W.Fault.row }
+        requires size { len ≡ W.size_of work.now }
         requires some { 1 ≤ low }
         requires few { first + low ≤ 64 }
-        requires order { from ≤ middle }
-        requires range { middle ≤ W.size_of work.now }
-        ensures outcome { IfOk result (λ o. W.comes work.entry.now from middle (outcome_seen o)) }
-    { pieces(rt, alloc, work, gate, from, middle, first, low) };
-    let back = move || -> Result<Outcome<W::Item, W::Fault>, AllocError>
+        ensures pieces { IfOk result (λ v. ArePieces W.size_of W.comes work.entry.now v.items) }
+    { pieces(rt, alloc, work, gate, cuts, len, next, first, low) };
+    let back = move || -> Result<Vec<Piece<W::Item, W::Fault>>, AllocError>
         requires shared { IsSync R.row × IsSync W.row × IsSync G.row }
         requires sent { IsSend W.Item.row × IsSend W.Fault.row }
+        requires size { len ≡ W.size_of work.now }
         requires some { 1 ≤ high }
-        requires few { next + high ≤ 64 }
-        requires order { middle ≤ to }
-        requires range { to ≤ W.size_of work.now }
-        ensures outcome { IfOk result (λ o. W.comes work.entry.now middle to (outcome_seen o)) }
-    { pieces(rt, alloc, work, gate, middle, to, next, high) };
+        requires few { middle + high ≤ 64 }
+        ensures pieces { IfOk result (λ v. ArePieces W.size_of W.comes work.entry.now v.items) }
+    { pieces(rt, alloc, work, gate, cuts, len, next, middle, high) };
     let (left, right) = join(rt, front, back);
-    both(left?, right?)
+    both_lists(left?, right?)
+}
+
+// Two lists of pieces as one.
+fn both_lists<I: Drop, F: Drop>(
+    pieces: Vec<Piece<I, F>>,
+    others: Vec<Piece<I, F>>,
+) -> Result<Vec<Piece<I, F>>, AllocError>
+    ensures both { IfOk result (λ all. all.items ≡ pieces.items ++ others.items) }
+{
+    let mut all = pieces;
+    let mut more = others;
+    all.append(&mut more)?;
+    Ok(all)
 }

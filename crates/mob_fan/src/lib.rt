@@ -3,8 +3,10 @@
 #![tactic(auto)]
 
 mod dividing;
+mod gathering;
 pub mod laws;
 mod outcomes;
+mod pieces;
 mod shares;
 mod work;
 

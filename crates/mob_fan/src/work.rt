@@ -1,8 +1,8 @@
-ghost use Rattle.std.specs.Prelude.{ℕ, ◌≤◌, List, Result, IfOk};
+ghost use Rattle.std.specs.Prelude.{ℕ, ◌≡◌, ◌≤◌, List, Result, IfOk};
 ghost use Rattle.mob_fan.specs.Outcomes.{IsWork, outcome_seen};
 
 use crate::outcomes::Outcome;
-use crate::shares::part_end;
+use crate::shares::even_cuts;
 use std::alloc::{AllocError, Global};
 use std::marker::{Send, Sync};
 
@@ -30,18 +30,15 @@ pub trait Work: Sync {
         requires range { to ≤ size_of self.now }
         ensures outcome { IfOk result (λ o. comes self.now from to (outcome_seen o)) };
 
-    /// Where the first `low` of `count` shares of a range end. Any place in the range gives the
-    /// same outcome: the place decides only how long each piece takes. The default makes shares of
-    /// the same length.
-    fn share_end(&self, from: usize, to: usize, low: usize, count: usize) -> usize
-        requires order { from ≤ to }
-        requires range { to ≤ size_of self.now }
-        requires some { 1 ≤ count }
-        requires low { low ≤ count }
-        ensures after { from ≤ result }
-        ensures before { result ≤ to }
+    /// The places at which work of this size is cut into pieces for so many workers, in order. Any
+    /// places give the same outcome: they decide only how long each piece takes. The default makes 32
+    /// pieces for each worker, which differ in length by one at most.
+    fn cuts(&self, alloc: Global, len: usize, workers: usize) -> Result<Vec<usize>, AllocError>
+        requires size { len ≡ size_of self.now }
+        requires some { 1 ≤ workers }
+        requires few { workers ≤ 64 }
     {
-        part_end(from, to, low, count)
+        even_cuts(alloc, len, workers)
     }
 
     ghost law: { IsWork size_of comes };

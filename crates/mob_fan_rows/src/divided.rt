@@ -1,9 +1,9 @@
-// Divided work has one outcome for every number of workers, in as many pieces as there are to be.
+// Divided work has one outcome for every number of workers, as many as there are to be.
 ghost use Rattle.std.specs.Prelude.{◌≡◌, ◌≤◌};
 
 use crate::gates::{Passing, TwoFlags};
 use crate::numbers::Numbers;
-use crate::watched::Watched;
+use crate::watched::{Meeting, Watched};
 use mob_fan::{Outcome, fan};
 use mob_outside::{Gate, OpenGate};
 use std::alloc::Global;
@@ -100,7 +100,7 @@ fn the_left_fault_first(rt: HostRuntime) {
 }
 
 #[test]
-fn each_piece_passes_once(rt: HostRuntime) {
+fn each_worker_passes_once(rt: HostRuntime) {
     let numbers = NUMBERS.as_slice();
     for (workers, want) in [(1, 1), (2, 3), (3, 7), (64, 1023)] {
         let gate = Passing::new();
@@ -115,7 +115,7 @@ fn each_piece_passes_once(rt: HostRuntime) {
     assert_eq!(rt; gate.sum(), 1);
 }
 
-// A piece begins behind the gate: no piece of so many finds that none has passed it.
+// Work begins behind the gate: no piece of so many workers finds that none has passed it.
 fn begins_behind_the_gate<R: Threads + Sync>(rt: &R, alloc: Global, workers: usize) -> bool
     requires some { 1 ≤ workers }
     requires few { workers ≤ 64 }
@@ -142,9 +142,18 @@ fn the_gate_comes_before_the_work(rt: HostRuntime) {
 }
 
 #[test]
-fn two_pieces_see_each_other(rt: HostRuntime) {
+fn two_workers_see_each_other(rt: HostRuntime) {
     let gate = TwoFlags::new();
     let two = [1, 2];
     assert!(rt; gives_items(&rt, rt.alloc(), two.as_slice(), 2, &gate, two.as_slice()));
     assert!(rt; gate.both_saw());
+}
+
+#[test]
+fn two_pieces_run_side_by_side(rt: HostRuntime) {
+    let flags = TwoFlags::new();
+    let work = Meeting { flags: &flags };
+    let outcome = fan(&rt, rt.alloc(), &work, 2, 2, &OpenGate);
+    assert!(rt; matches!(outcome, Ok(Outcome::Items(_))));
+    assert!(rt; flags.both_saw());
 }

@@ -1,0 +1,20 @@
+-- Pieces of work that are done, and what they give together.
+use Rattle.std.specs.Prelude.{◌≡◌, ℕ, ◌≤◌, List, Result, All, MatchOption}
+use Rattle.mob_fan.specs.Outcomes.{outcome_seen}
+use Rattle.mob_fan.specs.declared.pieces.Piece.{Piece}
+use Rattle.mob_fan.specs.declared.gathering.Joined.{Joined}
+
+module _ {W I F : Type 0} (size : W → ℕ) (comes : W → ℕ → ℕ → Result (List I) F → Type 0) (w : W) where
+  -- the outcome of a piece is that of its range
+  pub record IsPiece (p : Piece I F) : Type 0 where
+    pub order : p.from ≤ p.to
+    pub range : p.to ≤ size w
+    pub outcome : comes w p.from p.to (outcome_seen p.outcome)
+
+  abbrev pub ArePieces : List (Piece I F) → Type 0
+  ArePieces ps = All IsPiece ps
+
+  -- the outcome of what is joined is that of the range from 0 to its end
+  pub record IsJoined (j : Joined I F) : Type 0 where
+    pub range : j.to ≤ size w
+    pub outcome : MatchOption j.outcome (j.to ≡ 0) (λ o. comes w 0 j.to (outcome_seen o))

@@ -1,0 +1,99 @@
+// The outcome of all pieces together.
+ghost use Rattle.std.specs.Prelude.{◌≡◌, ◌≤◌, IfOk};
+ghost use Rattle.std.specs.List.Sorted.{IsPermutation};
+ghost use Rattle.mob_fan.specs.Outcomes.{outcome_seen};
+ghost use Rattle.mob_fan.specs.Pieces.{IsPiece, ArePieces, IsJoined};
+
+use crate::outcomes::{Outcome, both};
+use crate::pieces::Piece;
+use crate::work::Work;
+use std::alloc::{AllocError, Global};
+use std::cmp::Ordering;
+
+/// What neighbouring pieces from 0 on give together.
+#[derive(Drop)]
+pub struct Joined<I, F> {
+    /// Where the last of them ends.
+    pub to: usize,
+    /// Their outcome, where there is a piece.
+    pub outcome: Option<Outcome<I, F>>,
+}
+
+// Puts the last piece first.
+fn sort<I: Drop, F: Drop>(pieces: &mut Vec<Piece<I, F>>) -> Result<(), AllocError>
+    ensures same { IsPermutation pieces.old.items pieces.new.items }
+{
+    let by = |a: &Piece<I, F>, b: &Piece<I, F>| -> Ordering { b.from.cmp(&a.from) };
+    match pieces.sort_by(by) {
+        Ok(()) => Ok(()),
+        Err(error) => Err(error),
+    }
+}
+
+// The pieces with the next one. One that is not their neighbour is left out.
+fn next_joined<W: Work>(
+    _work: &W,
+    so_far: Joined<W::Item, W::Fault>,
+    piece: Piece<W::Item, W::Fault>,
+) -> Result<Joined<W::Item, W::Fault>, AllocError>
+    requires so_far { IsJoined W.size_of W.comes _work.now so_far }
+    requires piece { IsPiece W.size_of W.comes _work.now piece }
+    ensures joined { IfOk result (IsJoined W.size_of W.comes _work.now) }
+{
+    if piece.from != so_far.to {
+        return Ok(so_far);
+    }
+    let outcome = match so_far.outcome {
+        Some(outcome) => both(outcome, piece.outcome)?,
+        None => piece.outcome,
+    };
+    Ok(Joined {
+        to: piece.to,
+        outcome: Some(outcome),
+    })
+}
+
+// The pieces with all of the work behind them, which is none where no piece was left out.
+fn with_rest<W: Work>(
+    alloc: Global,
+    work: &W,
+    len: usize,
+    so_far: Joined<W::Item, W::Fault>,
+) -> Result<Outcome<W::Item, W::Fault>, AllocError>
+    requires size { len ≡ W.size_of work.now }
+    requires so_far { IsJoined W.size_of W.comes work.now so_far }
+    ensures whole { IfOk result (λ o. W.comes work.now 0 len (outcome_seen o)) }
+{
+    let to = so_far.to;
+    let Some(outcome) = so_far.outcome else {
+        return work.piece(alloc, 0, len);
+    };
+    if to == len {
+        return Ok(outcome);
+    }
+    let rest = work.piece(alloc, to, len)?;
+    both(outcome, rest)
+}
+
+/// The outcome of all of the work, of which these pieces are done.
+pub fn outcome_of<W: Work>(
+    alloc: Global,
+    work: &W,
+    len: usize,
+    pieces: Vec<Piece<W::Item, W::Fault>>,
+) -> Result<Outcome<W::Item, W::Fault>, AllocError>
+    requires size { len ≡ W.size_of work.now }
+    requires pieces { ArePieces W.size_of W.comes work.now pieces.items }
+    ensures whole { IfOk result (λ o. W.comes work.now 0 len (outcome_seen o)) }
+{
+    let mut pieces = pieces;
+    sort(&mut pieces)?;
+    let mut so_far = Joined {
+        to: 0,
+        outcome: None,
+    };
+    while let Some(piece) = pieces.pop() {
+        so_far = next_joined(work, so_far, piece)?;
+    }
+    with_rest(alloc, work, len, so_far)
+}
