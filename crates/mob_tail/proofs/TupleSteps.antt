@@ -1,7 +1,7 @@
 -- Groups with one more tuple.
-use Rattle.std.specs.Prelude.{◌≡◌, ◌<◌, ◌+◌, ◌^◌, Bool, true, false, ℕ, zero, suc, ℤ, refl, List, [], ◌∷◌, ◌++◌, Some, None, is_none, Ok, Err, length, get_or}
+use Rattle.std.specs.Prelude.{◌≡◌, ◌<◌, ◌+◌, ◌^◌, Bool, true, false, ℕ, zero, suc, ℤ, refl, List, [], ◌∷◌, ◌++◌, Some, None, is_none, Result, Ok, Err, IfErr, length, get_or}
 use Rattle.std.specs.List.{AllZip, AllByRecursion}
-use Rattle.std.proofs.Common.{ap, sym, ◌∙◌, subst, inl, inr, arith, take, map, ◌≤◌}
+use Rattle.std.proofs.Common.{ap, ap₂, sym, ◌∙◌, subst, inl, inr, arith, take, map, ◌≤◌}
 use Rattle.std.proofs.lemmas.List.{take_more, take_all, map-append}
 use Rattle.std.proofs.lemmas.Slice.Zip.{AllZip-long}
 use Rattle.mob_typed.specs.Selects.{TypedSelectParts}
@@ -43,6 +43,11 @@ length_more (y ∷ xs) x = let e = length_more xs x in omega (arith, e)
 pub map_more : {A B : Type 0} (f : A → B) (xs : List A) (i : ℕ) (x : A) → i < length xs → x ≡ get_or xs i x → map f (take i xs) ++ f x ∷ [] ≡ map f (take (i + 1) xs)
 map_more f xs i x lt is = sym (ap (map f) (take_more xs i x lt ∙ ap (λ z. take i xs ++ z ∷ []) (sym is)) ∙ map-append f (take i xs) (x ∷ []))
 
+-- the same of what is made of them in two steps
+pub mapped_more : {A B C : Type 0} (f : A → B) (g : B → C) (xs : List A) (i : ℕ) (x : A) → i < length xs → x ≡ get_or xs i x → (made next : List C) (y : C) → made ≡ map g (map f (take i xs)) → y ≡ g (f x) → next ≡ made ++ y ∷ [] → next ≡ map g (map f (take (i + 1) xs))
+mapped_more f g xs i x lt is made next y h k e =
+    e ∙ ap₂ (λ ys z. ys ++ z ∷ []) h k ∙ sym (map-append g (map f (take i xs)) (f x ∷ [])) ∙ ap (map g) (map_more f xs i x lt is)
+
 pub got_map : {A B : Type 0} (f : A → B) (xs : List A) (i : ℕ) (x : A) (d : B) → i < length xs → x ≡ get_or xs i x → get_or (map f xs) i d ≡ f x
 got_map f [] i x d lt is = absurd (omega (arith, lt))
 got_map f (y ∷ xs) zero x d lt is = ap f (sym is)
@@ -71,6 +76,11 @@ zip_end R Q xs ys zs i h k le = subst (λ z. AllZip Q z zs) (take_all i xs (omeg
 pub passed_weaker : (P Q : Fault → Type 0) → ((f : Fault) → P f → Q f) → (e : EvalFault) → OnPassed P e → OnPassed Q e
 passed_weaker P Q step (Passed place formula) h = step (place, formula) h
 passed_weaker P Q step NoMemory h = tt
+
+-- a failed allocation says nothing
+pub memory_alone : {A : Type 0} (P : Fault → Type 0) (r : Result A EvalFault) → IfErr r (λ e. e ≡ NoMemory) → IfErr r (OnPassed P)
+memory_alone P (Ok x) h = tt
+memory_alone P (Err e) h = subst (OnPassed P) (sym h) tt
 
 module _ (select : TypedSelectParts) (store : Store) (day : ℤ) where
   -- a column that is no aggregate has no argument

@@ -85,7 +85,16 @@ fn answer_on<K: Remembering>(
     ensures fault { IfErr result (OnTuple (λ f. IsPlainAnswer (select_seen select.now) store.now epoch.now kept.now (Err f))) }
 {
     let (items, keys) = roots.split_at(select.items.len());
-    match rows_on(alloc, select, items, keys, store, kept, epoch, memory.in_use()) {
+    match rows_on(
+        alloc,
+        select,
+        items,
+        keys,
+        store,
+        kept,
+        epoch,
+        memory.in_use(),
+    ) {
         Ok(rows) => match text_of(alloc, select, rows, epoch) {
             Ok(text) => Ok(text),
             Err(_) => Err(QueryFault::NoMemory),
