@@ -123,10 +123,10 @@ entries_same : (n : ℕ) (m : Ratio) (before : Value) (f : Option Formula) → m
 entries_same n m before f e h k = subst (λ z. IsFirst (arithmetic_entries Added sql.Numeric z (counted 1)) f) (ap Number e ∙ sym h) k
 
 -- a count that has no number is none
-pub pub no_count : (ty : SqlType) (before v r : Value) → number_in before ≡ None → IsAggregateWith false CountAll ty before v (Ok r)
+pub no_count : (ty : SqlType) (before v r : Value) → number_in before ≡ None → IsAggregateWith false CountAll ty before v (Ok r)
 no_count ty before v r h = λ vs e. no_number before (length vs) h e
 
-pub pub no_count_known : (ty : SqlType) (before v r : Value) → number_in before ≡ None → IsAggregateWith false Count ty before v (Ok r)
+pub no_count_known : (ty : SqlType) (before v r : Value) → number_in before ≡ None → IsAggregateWith false Count ty before v (Ok r)
 no_count_known ty before v r h = λ vs e. no_number before (length (known_of vs)) h e
 
 pub count_with : (ty : SqlType) (before v : Value) (m : Ratio) (r : Result Value OpFault) → number_in before ≡ Some m → IfOk r (λ x. x ≡ Number (sum_of m (whole (pos 1)))) → IfOk r (λ _. IsFirst (arithmetic_entries Added sql.Numeric (Number m) (Number (whole (pos 1)))) None) → IfErr r (OnFormula (λ f. IsFirst (arithmetic_entries Added sql.Numeric (Number m) (Number (whole (pos 1)))) (Some f)))
