@@ -12,5 +12,5 @@ returns-in_default c = record {
 pub returns-in-None : goal.returns-in-None
 returns-in-None c = record { with = λ ty. sum_first ty c.args.before.now c.args.value.now c.in-Some.number.now (sym c.in-Some.ensures.number) (sym c.in-None.ensures.number) }
 
-pub returns : goal.returns
-returns c = record { with = λ ty. sum_next ty c.args.before.now c.args.value.now c.in-Some.number.now (sym c.in-Some.ensures.number) c.in-Some-number_in.sum.now c.sum_with.result (sym c.in-Some-number_in.ensures.number) c.sum_with.ensures.value c.sum_with.ensures.fits c.sum_with.ensures.fault }
+pub returns-in-Some-number_in : goal.returns-in-Some-number_in
+returns-in-Some-number_in c = record { with = λ ty. sum_next ty c.args.before.now c.args.value.now c.in-Some.number.now (sym c.in-Some.ensures.number) c.in-Some-number_in.sum.now c.sum_with.result (sym c.in-Some-number_in.ensures.number) c.sum_with.ensures.value c.sum_with.ensures.fits c.sum_with.ensures.fault }
