@@ -1,5 +1,5 @@
 -- Groups with one more tuple.
-use Rattle.std.specs.Prelude.{◌≡◌, ◌<◌, ◌+◌, ◌^◌, Bool, true, false, ℕ, zero, suc, ℤ, refl, List, [], ◌∷◌, ◌++◌, Some, None, is_none, Result, Ok, Err, IfErr, length, get_or}
+use Rattle.std.specs.Prelude.{◌≡◌, ◌<◌, ◌+◌, ◌^◌, Bool, true, false, ℕ, zero, suc, ℤ, refl, List, [], ◌∷◌, ◌++◌, Some, None, is_none, Ok, Err, length, get_or}
 use Rattle.std.specs.List.{AllZip, AllByRecursion}
 use Rattle.std.proofs.Common.{ap, ap₂, sym, ◌∙◌, subst, inl, inr, arith, take, map, ◌≤◌}
 use Rattle.std.proofs.lemmas.List.{take_more, take_all, map-append}
@@ -76,11 +76,6 @@ zip_end R Q xs ys zs i h k le = subst (λ z. AllZip Q z zs) (take_all i xs (omeg
 pub passed_weaker : (P Q : Fault → Type 0) → ((f : Fault) → P f → Q f) → (e : EvalFault) → OnPassed P e → OnPassed Q e
 passed_weaker P Q step (Passed place formula) h = step (place, formula) h
 passed_weaker P Q step NoMemory h = tt
-
--- a failed allocation says nothing
-pub memory_alone : {A : Type 0} (P : Fault → Type 0) (r : Result A EvalFault) → IfErr r (λ e. e ≡ NoMemory) → IfErr r (OnPassed P)
-memory_alone P (Ok x) h = tt
-memory_alone P (Err e) h = subst (OnPassed P) (sym h) tt
 
 module _ (select : TypedSelectParts) (store : Store) (day : ℤ) where
   -- a column that is no aggregate has no argument
