@@ -1,5 +1,5 @@
 -- Aggregates of values with one more.
-use Rattle.std.specs.Prelude.{◌≡◌, Bool, true, false, cond, not, ℕ, ◌+◌, pos, refl, List, [], ◌∷◌, ◌++◌, length, Option, Some, None, option_map, Result, Ok, Err, IfOk, IfErr, MatchOption}
+use Rattle.std.specs.Prelude.{◌≡◌, Bool, true, false, cond, not, ℕ, ◌+◌, pos, refl, List, [], ◌∷◌, ◌++◌, length, Option, Some, None, option_map, Result, Ok, Err, IfOk, IfErr, MatchOption, MatchResult}
 use Rattle.std.proofs.Common.{ap, sym, ◌∙◌, subst, inl, arith, append-nil}
 use Rattle.mob_ratio.specs.Ratio.{Ratio, whole, ◌+ℚ◌}
 use Rattle.mob_ratio.specs.Order.{same}
@@ -123,11 +123,11 @@ entries_same : (n : ℕ) (m : Ratio) (before : Value) (f : Option Formula) → m
 entries_same n m before f e h k = subst (λ z. IsFirst (arithmetic_entries Added sql.Numeric z (counted 1)) f) (ap Number e ∙ sym h) k
 
 -- a count that has no number is none
-pub no_count : (ty : SqlType) (before v : Value) → number_in before ≡ None → IsAggregateWith false CountAll ty before v (Ok before)
-no_count ty before v h = λ vs e. no_number before (length vs) h e
+pub no_count : (ty : SqlType) (before v r : Value) → number_in before ≡ None → IsAggregateWith false CountAll ty before v (Ok r)
+no_count ty before v r h = λ vs e. no_number before (length vs) h e
 
-pub no_count_known : (ty : SqlType) (before v : Value) → number_in before ≡ None → IsAggregateWith false Count ty before v (Ok before)
-no_count_known ty before v h = λ vs e. no_number before (length (known_of vs)) h e
+pub no_count_known : (ty : SqlType) (before v r : Value) → number_in before ≡ None → IsAggregateWith false Count ty before v (Ok r)
+no_count_known ty before v r h = λ vs e. no_number before (length (known_of vs)) h e
 
 pub count_with : (ty : SqlType) (before v : Value) (m : Ratio) (r : Result Value OpFault) → number_in before ≡ Some m → IfOk r (λ x. x ≡ Number (sum_of m (whole (pos 1)))) → IfOk r (λ _. IsFirst (arithmetic_entries Added sql.Numeric (Number m) (Number (whole (pos 1)))) None) → IfErr r (OnFormula (λ f. IsFirst (arithmetic_entries Added sql.Numeric (Number m) (Number (whole (pos 1)))) (Some f)))
     → IsAggregateWith false CountAll ty before v r
@@ -222,6 +222,11 @@ no_parts (value.MovingPoint b) = refl
 
 nothing_passed : (r : Value) → IsFirst (arithmetic_entries Added sql.Numeric r Null) None
 nothing_passed r = inl (subst AllFit (sym (no_parts r)) tt, refl)
+
+-- what holds of a value and where memory is refused holds of a copy of the value
+pub of_copy : (P : Result Value OpFault → Type 0) (v : Value) (r : Result Value OpFault) → MatchResult r (λ x. x ≡ v) (λ e. e ≡ NoMemory) → P (Ok v) → P (Err NoMemory) → P r
+of_copy P v (Ok x) is h k = subst (λ z. P (Ok z)) (sym is) h
+of_copy P v (Err e) is h k = subst (λ z. P (Err z)) (sym is) k
 
 -- a value that is no number
 pub no_number_more : (ty : SqlType) (before v : Value) → number_in v ≡ None → IsAggregateWith false Sum ty before v (Ok before)

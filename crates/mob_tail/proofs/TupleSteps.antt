@@ -1,7 +1,7 @@
 -- Groups with one more tuple.
 use Rattle.std.specs.Prelude.{◌≡◌, ◌<◌, ◌+◌, ◌^◌, Bool, true, false, ℕ, zero, suc, ℤ, refl, List, [], ◌∷◌, ◌++◌, Some, None, is_none, Ok, Err, length, get_or}
 use Rattle.std.specs.List.{AllZip, AllByRecursion}
-use Rattle.std.proofs.Common.{ap, sym, ◌∙◌, subst, inl, inr, arith, take, map, ◌≤◌}
+use Rattle.std.proofs.Common.{ap, ap₂, sym, ◌∙◌, subst, inl, inr, arith, take, map, ◌≤◌}
 use Rattle.std.proofs.lemmas.List.{take_more, take_all, map-append}
 use Rattle.std.proofs.lemmas.Slice.Zip.{AllZip-long}
 use Rattle.mob_typed.specs.Selects.{TypedSelectParts}
@@ -42,6 +42,11 @@ length_more (y ∷ xs) x = let e = length_more xs x in omega (arith, e)
 -- what is made of the entries up to one, and of that one
 pub map_more : {A B : Type 0} (f : A → B) (xs : List A) (i : ℕ) (x : A) → i < length xs → x ≡ get_or xs i x → map f (take i xs) ++ f x ∷ [] ≡ map f (take (i + 1) xs)
 map_more f xs i x lt is = sym (ap (map f) (take_more xs i x lt ∙ ap (λ z. take i xs ++ z ∷ []) (sym is)) ∙ map-append f (take i xs) (x ∷ []))
+
+-- the same of what is made of them in two steps
+pub mapped_more : {A B C : Type 0} (f : A → B) (g : B → C) (xs : List A) (i : ℕ) (x : A) → i < length xs → x ≡ get_or xs i x → (made next : List C) (y : C) → made ≡ map g (map f (take i xs)) → y ≡ g (f x) → next ≡ made ++ y ∷ [] → next ≡ map g (map f (take (i + 1) xs))
+mapped_more f g xs i x lt is made next y h k e =
+    e ∙ ap₂ (λ ys z. ys ++ z ∷ []) h k ∙ sym (map-append g (map f (take i xs)) (f x ∷ [])) ∙ ap (map g) (map_more f xs i x lt is)
 
 pub got_map : {A B : Type 0} (f : A → B) (xs : List A) (i : ℕ) (x : A) (d : B) → i < length xs → x ≡ get_or xs i x → get_or (map f xs) i d ≡ f x
 got_map f [] i x d lt is = absurd (omega (arith, lt))

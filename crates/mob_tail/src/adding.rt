@@ -76,36 +76,38 @@ fn sum_with(a: &Frac, b: &Frac) -> Result<Value, OpFault>
     }
 }
 
-// A count with one more.
-fn one_more(before: Value) -> Result<Value, OpFault>
-    ensures with { (ty : _) (v : _) → IsAggregateWith false AggKind.CountAll ty before v result }
-    ensures known { (ty : _) (v : _) → is_null v ≡ false → IsAggregateWith false AggKind.Count ty before v result }
-{
-    match number_in(&before) {
-        None => Ok(before),
-        Some(number) => sum_with(number, &one()),
-    }
-}
-
-// The sum of numbers, or NULL where there is none, with one more.
-fn number_more(before: Value, value: &Value) -> Result<Value, OpFault>
-    ensures with { (ty : _) → IsAggregateWith false AggKind.Sum ty before value.now result }
-{
-    let Some(number) = number_in(value) else {
-        return Ok(before);
-    };
-    match number_in(&before) {
-        None => Ok(Value::Number(*number)),
-        Some(sum) => sum_with(sum, number),
-    }
-}
-
+// A value in memory of its own.
 fn copied(alloc: Global, value: &Value) -> Result<Value, OpFault>
     ensures copy { MatchResult result (λ r. r ≡ value.now) (λ e. e ≡ OpFault.NoMemory) }
 {
     match value.copy(alloc) {
         Ok(copy) => Ok(copy),
         Err(_) => Err(OpFault::NoMemory),
+    }
+}
+
+// A count with one more.
+fn one_more(before: &Value) -> Result<Value, OpFault>
+    ensures with { (ty : _) (v : _) → IsAggregateWith false AggKind.CountAll ty before.now v result }
+    ensures known { (ty : _) (v : _) → is_null v ≡ false → IsAggregateWith false AggKind.Count ty before.now v result }
+{
+    match number_in(before) {
+        // A count is a number.
+        None => Ok(Value::Null),
+        Some(number) => sum_with(number, &one()),
+    }
+}
+
+// The sum of numbers, or NULL where there is none, with one more.
+fn number_more(alloc: Global, before: &Value, value: &Value) -> Result<Value, OpFault>
+    ensures with { (ty : _) → IsAggregateWith false AggKind.Sum ty before.now value.now result }
+{
+    let Some(number) = number_in(value) else {
+        return copied(alloc, before);
+    };
+    match number_in(before) {
+        None => Ok(Value::Number(*number)),
+        Some(sum) => sum_with(sum, number),
     }
 }
 
@@ -130,18 +132,18 @@ fn frac_value(moving: Moving<Line>) -> Value
 }
 
 // A sum of tints, or NULL where there is none, with one more.
-fn steps_more(alloc: Global, before: Value, value: &Value) -> Result<Value, OpFault>
-    ensures union { IfOk result (λ r. IsUnion (steady_course same) MovingInt sum_of (steps_of before) (steps_of value.now) before r) }
+fn steps_more(alloc: Global, before: &Value, value: &Value) -> Result<Value, OpFault>
+    ensures union { IfOk result (λ r. IsUnion (steady_course same) MovingInt sum_of (steps_of before.now) (steps_of value.now) before.now r) }
     ensures normal { MatchOption (steps_of value.now) (Unit {0}) (AreNormalBy (steady_course same)) }
-    ensures fits { IfOk result (λ _. IsFirst (arithmetic_entries Calculation.Sum SqlType.TInt (or_nothing MovingInt (steps_of before)) (or_nothing MovingInt (steps_of value.now))) None) }
-    ensures fault { IfErr result (OnFormula (λ f. IsFirst (arithmetic_entries Calculation.Sum SqlType.TInt (or_nothing MovingInt (steps_of before)) (or_nothing MovingInt (steps_of value.now))) (Some f))) }
+    ensures fits { IfOk result (λ _. IsFirst (arithmetic_entries Calculation.Sum SqlType.TInt (or_nothing MovingInt (steps_of before.now)) (or_nothing MovingInt (steps_of value.now))) None) }
+    ensures fault { IfErr result (OnFormula (λ f. IsFirst (arithmetic_entries Calculation.Sum SqlType.TInt (or_nothing MovingInt (steps_of before.now)) (or_nothing MovingInt (steps_of value.now))) (Some f))) }
 {
     let Some(moving) = steps_of(value) else {
-        return Ok(before);
+        return copied(alloc, before);
     };
     // The clause of `slices` says that they are normal.
     let _ = moving.slices();
-    match steps_of(&before) {
+    match steps_of(before) {
         Some(sum) => match add_in(alloc, sum, moving) {
             Ok(sum) => Ok(int_value(sum)),
             Err(fault) => Err(fault),
@@ -151,18 +153,18 @@ fn steps_more(alloc: Global, before: Value, value: &Value) -> Result<Value, OpFa
 }
 
 // A sum of tfracs, or NULL where there is none, with one more.
-fn lines_more(alloc: Global, before: Value, value: &Value) -> Result<Value, OpFault>
-    ensures union { IfOk result (λ r. IsUnion line_course MovingFrac sum_of (lines_of before) (lines_of value.now) before r) }
+fn lines_more(alloc: Global, before: &Value, value: &Value) -> Result<Value, OpFault>
+    ensures union { IfOk result (λ r. IsUnion line_course MovingFrac sum_of (lines_of before.now) (lines_of value.now) before.now r) }
     ensures normal { MatchOption (lines_of value.now) (Unit {0}) (AreNormalBy line_course) }
-    ensures fits { IfOk result (λ _. IsFirst (arithmetic_entries Calculation.Sum SqlType.TFrac (or_nothing MovingFrac (lines_of before)) (or_nothing MovingFrac (lines_of value.now))) None) }
-    ensures fault { IfErr result (OnFormula (λ f. IsFirst (arithmetic_entries Calculation.Sum SqlType.TFrac (or_nothing MovingFrac (lines_of before)) (or_nothing MovingFrac (lines_of value.now))) (Some f))) }
+    ensures fits { IfOk result (λ _. IsFirst (arithmetic_entries Calculation.Sum SqlType.TFrac (or_nothing MovingFrac (lines_of before.now)) (or_nothing MovingFrac (lines_of value.now))) None) }
+    ensures fault { IfErr result (OnFormula (λ f. IsFirst (arithmetic_entries Calculation.Sum SqlType.TFrac (or_nothing MovingFrac (lines_of before.now)) (or_nothing MovingFrac (lines_of value.now))) (Some f))) }
 {
     let Some(moving) = lines_of(value) else {
-        return Ok(before);
+        return copied(alloc, before);
     };
     // The clause of `slices` says that they are normal.
     let _ = moving.slices();
-    match lines_of(&before) {
+    match lines_of(before) {
         Some(sum) => match add_in(alloc, sum, moving) {
             Ok(sum) => Ok(frac_value(sum)),
             Err(fault) => Err(fault),
@@ -200,33 +202,33 @@ pub fn ones_on(alloc: Global, value: &Value) -> Result<Option<Moving<Steady<Frac
 }
 
 // A sum over time of this type with one more value.
-fn sum_more(alloc: Global, ty: SqlType, before: Value, value: &Value) -> Result<Value, OpFault>
-    ensures with { IsAggregateWith false AggKind.TSum ty before value.now result }
+fn sum_more(alloc: Global, ty: SqlType, before: &Value, value: &Value) -> Result<Value, OpFault>
+    ensures with { IsAggregateWith false AggKind.TSum ty before.now value.now result }
 {
     match ty {
         SqlType::TInt => steps_more(alloc, before, value),
         SqlType::TFrac => lines_more(alloc, before, value),
-        _ => Ok(before),
+        _ => copied(alloc, before),
     }
 }
 
 /// An aggregate that is held as it is with one more value, where `before` is that of the values
-/// without it. What is held in parts stays as it was.
+/// without it. NULL of what is held in parts.
 pub fn aggregate_with(
     alloc: Global,
     agg: Agg,
-    before: Value,
+    before: &Value,
     value: &Value,
 ) -> Result<Value, OpFault>
-    ensures with { is_in_parts agg.kind ≡ false → false ≡ leaves_out agg.kind value.now → IsAggregateWith (leaves_out agg.kind value.now) agg.kind agg.ty before value.now result }
+    ensures with { is_in_parts agg.kind ≡ false → false ≡ leaves_out agg.kind value.now → IsAggregateWith (leaves_out agg.kind value.now) agg.kind agg.ty before.now value.now result }
 {
     match agg.kind {
         AggKind::CountAll => one_more(before),
         AggKind::Count => one_more(before),
-        AggKind::Sum => number_more(before, value),
+        AggKind::Sum => number_more(alloc, before, value),
         AggKind::TSum => sum_more(alloc, agg.ty, before, value),
-        AggKind::TCount => Ok(before),
-        AggKind::TAnd => Ok(before),
-        AggKind::TOr => Ok(before),
+        AggKind::TCount => Ok(Value::Null),
+        AggKind::TAnd => Ok(Value::Null),
+        AggKind::TOr => Ok(Value::Null),
     }
 }

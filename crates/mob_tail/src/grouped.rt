@@ -4,18 +4,22 @@ ghost use Rattle.std.specs.List.{AllByRecursion, AllZip};
 ghost use Rattle.mob_typed.specs.Trees.{typed_of};
 ghost use Rattle.mob_eval.specs.Views.{scene_of};
 ghost use Rattle.mob_eval.specs.Faults.{OnPassed, fault_of};
+ghost use Rattle.mob_ordinary.specs.Held.{held};
+ghost use Rattle.mob_tail.specs.Aggregated.{leaves_out};
 ghost use Rattle.mob_tail.specs.Groups.{column_on};
+ghost use Rattle.mob_tail.specs.States.{IsStateWith};
 ghost use Rattle.mob_tail.specs.GroupSteps.{column_seen, IsAggregateOn, IsColumnWith, IsCellWith, FailsInCells, first_of, IsStart, IsStartCell, IsStartGroup, IsCellHeld};
 
 use crate::columns::{Column, argument_on, column_on};
 use crate::state::{State, nothing_yet, state_with, value_of};
-use mob_eval::{EvalFault, View};
+use mob_eval::{EvalFault, Held, View};
 use mob_slice::OpFault;
 use mob_tuples::Tuple;
 use mob_typed::{Agg, TExpr};
 use mob_value::Value;
 use std::alloc::{AllocError, Global};
 use std::mem;
+use std::mem::drop;
 
 /// A column of the answer with what is held of its value for one group.
 #[derive(Drop)]
@@ -42,24 +46,49 @@ fn fault_at(place: u32, fault: OpFault) -> EvalFault
     }
 }
 
-// An aggregate with one more tuple.
+// Replaces what is held. At a type parameter the drop of the old value is one call.
+fn put<T: Drop>(place: &mut T, value: T)
+    ensures put { place.new ≡ value }
+{
+    *place = value;
+}
+
+// Brings the argument of an aggregate on one more tuple into it.
+fn argument_in(
+    alloc: Global,
+    agg: Agg,
+    argument: Held<'_>,
+    state: &mut State,
+) -> Result<(), EvalFault>
+    ensures value { IfOk result (λ _. IsStateWith (leaves_out agg.kind (held argument.entry)) agg.kind agg.ty state.old (held argument.entry) (Ok state.new)) }
+    ensures fault { IfErr result (OnPassed (λ f. (f.0 ≡ agg.place) × IsStateWith (leaves_out agg.kind (held argument.entry)) agg.kind agg.ty state.old (held argument.entry) (Err (OpFault.Passed f.1)))) }
+{
+    let before = mem::replace(state, State::Whole(Value::Null));
+    let more = state_with(alloc, agg, before, argument.get());
+    drop(argument);
+    match more {
+        Ok(more) => {
+            put(state, more);
+            Ok(())
+        }
+        Err(fault) => Err(fault_at(agg.place, fault)),
+    }
+}
+
+// Brings one more tuple into an aggregate.
 fn aggregate_on(
     alloc: Global,
     agg: Agg,
     e: &TExpr,
     view: &View<'_>,
-    before: State,
-) -> Result<State, EvalFault>
-    ensures value { IfOk result (λ v. IsAggregateOn (scene_of view.now) (typed_of e.now) agg before (Ok v)) }
-    ensures fault { IfErr result (OnPassed (λ f. IsAggregateOn (scene_of view.now) (typed_of e.now) agg before (Err f))) }
+    state: &mut State,
+) -> Result<(), EvalFault>
+    ensures value { IfOk result (λ _. IsAggregateOn (scene_of view.now) (typed_of e.now) agg state.old (Ok state.new)) }
+    ensures fault { IfErr result (OnPassed (λ f. IsAggregateOn (scene_of view.now) (typed_of e.now) agg state.old (Err f))) }
 {
-    let argument = match argument_on(alloc, agg.kind, e, view) {
-        Ok(argument) => argument,
-        Err(fault) => return Err(fault),
-    };
-    match state_with(alloc, agg, before, argument.get()) {
-        Ok(state) => Ok(state),
-        Err(fault) => Err(fault_at(agg.place, fault)),
+    match argument_on(alloc, agg.kind, e, view) {
+        Ok(argument) => argument_in(alloc, agg, argument, state),
+        Err(fault) => Err(fault),
     }
 }
 
@@ -76,27 +105,38 @@ fn value_on(alloc: Global, e: &TExpr, view: &View<'_>) -> Result<Value, EvalFaul
     }
 }
 
-// A column of the answer with one more tuple, which is the first of its group or not.
+// Puts the value of a column on a tuple in the place of what is held of it.
+fn plain_on(alloc: Global, e: &TExpr, view: &View<'_>, state: &mut State) -> Result<(), EvalFault>
+    ensures value { IfOk result (λ _. state.new ≡ State.Whole (column_on (scene_of view.now) (typed_of e.now))) }
+    ensures memory { IfErr result (λ e. e ≡ EvalFault.NoMemory) }
+{
+    match value_on(alloc, e, view) {
+        Ok(value) => {
+            put(state, State::Whole(value));
+            Ok(())
+        }
+        Err(fault) => Err(fault),
+    }
+}
+
+// Brings one more tuple, which is the first of its group or not, into a column of the answer.
 fn column_with(
     alloc: Global,
     column: &Column<'_>,
     view: &View<'_>,
     is_first: bool,
-    before: State,
-) -> Result<State, EvalFault>
-    ensures value { IfOk result (λ v. IsColumnWith (scene_of view.now) (column_seen column.now) before is_first (Ok v)) }
-    ensures fault { IfErr result (OnPassed (λ f. IsColumnWith (scene_of view.now) (column_seen column.now) before is_first (Err f))) }
+    state: &mut State,
+) -> Result<(), EvalFault>
+    ensures value { IfOk result (λ _. IsColumnWith (scene_of view.now) (column_seen column.now) state.old is_first (Ok state.new)) }
+    ensures fault { IfErr result (OnPassed (λ f. IsColumnWith (scene_of view.now) (column_seen column.now) state.old is_first (Err f))) }
 {
     match column.agg {
-        Some(agg) => aggregate_on(alloc, agg, column.expression, view, before),
+        Some(agg) => aggregate_on(alloc, agg, column.expression, view, state),
         None => {
             if is_first {
-                match value_on(alloc, column.expression, view) {
-                    Ok(value) => Ok(State::Whole(value)),
-                    Err(fault) => Err(fault),
-                }
+                plain_on(alloc, column.expression, view, state)
             } else {
-                Ok(before)
+                Ok(())
             }
         }
     }
@@ -112,14 +152,7 @@ fn cell_with(
     ensures with { IfOk result (λ _. IsCellWith (scene_of view.now) is_first cell.old cell.new) }
     ensures fault { IfErr result (OnPassed (λ f. IsColumnWith (scene_of view.now) (column_seen cell.old.column) cell.old.state is_first (Err f))) }
 {
-    let before = mem::replace(&mut cell.state, State::Whole(Value::Null));
-    match column_with(alloc, &cell.column, view, is_first, before) {
-        Ok(state) => {
-            cell.state = state;
-            Ok(())
-        }
-        Err(fault) => Err(fault),
-    }
+    column_with(alloc, &cell.column, view, is_first, &mut cell.state)
 }
 
 // Brings one more tuple into each cell, or tells the first fault.

@@ -29,6 +29,7 @@ use mob_tuples::Tuple;
 use mob_typed::{TExpr, TypedSelect};
 use mob_value::{Store, Value};
 use std::alloc::{AllocError, Global};
+use std::mem::drop;
 
 // The printed field of a value.
 fn text_of(alloc: Global, value: &Value, epoch: &Epoch) -> Result<Text, AllocError>
@@ -39,14 +40,27 @@ fn text_of(alloc: Global, value: &Value, epoch: &Epoch) -> Result<Text, AllocErr
     Ok(Text::from_string(text))
 }
 
+// The printed field of a column on a tuple.
+fn field_on(alloc: Global, column: &TExpr, view: &View<'_>) -> Result<Text, AllocError>
+    ensures field { IfOk result (λ text. text ≡ field_text view.now.epoch.now (column_on (scene_of view.now) (typed_of column.now))) }
+{
+    match column_on(alloc, column, view) {
+        Ok(held) => {
+            let text = text_of(alloc, held.get(), view.epoch);
+            drop(held);
+            text
+        }
+        Err(fault) => Err(fault),
+    }
+}
+
 // The printed fields of columns on a tuple.
 fn fields_on(alloc: Global, columns: &[TExpr], view: &View<'_>) -> Result<Items<Text>, AllocError>
     ensures fields { IfOk result (λ fields. fields ≡ map (λ g. field_text view.now.epoch.now (column_on (scene_of view.now) g)) (map typed_of columns.now)) }
 {
     let mut fields = Vec::with_capacity(alloc, columns.len())?;
     for column in columns {
-        let held = column_on(alloc, column, view)?;
-        fields.push(text_of(alloc, held.get(), view.epoch)?)?;
+        fields.push(field_on(alloc, column, view)?)?;
     }
     Ok(Items::from_vec(fields))
 }

@@ -17,6 +17,7 @@ use mob_tagg::{Conjunctions, Counts, Disjunctions, Part, gathered, with_value};
 use mob_typed::Agg;
 use mob_value::Value;
 use std::alloc::{AllocError, Global};
+use std::mem::drop;
 
 /// An aggregate of the values so far.
 ///
@@ -53,7 +54,9 @@ pub fn nothing_yet(alloc: Global, kind: AggKind) -> State
 fn whole_with(alloc: Global, agg: Agg, before: Value, value: &Value) -> Result<State, OpFault>
     ensures with { false ≡ leaves_out agg.kind value.now → IsStateWith (leaves_out agg.kind value.now) agg.kind agg.ty (State.Whole before) value.now result }
 {
-    match aggregate_with(alloc, agg, before, value) {
+    let more = aggregate_with(alloc, agg, &before, value);
+    drop(before);
+    match more {
         Ok(whole) => Ok(State::Whole(whole)),
         Err(fault) => Err(fault),
     }
