@@ -1,5 +1,5 @@
 -- Why a text has no trees, or no types.
-use Rattle.std.proofs.Common.{arith, ◌≡◌, refl, inl, inr, ℕ, ◌≤◌, List, length, Ok, Err}
+use Rattle.std.proofs.Common.{◌≡◌, refl, inl, inr, ℕ, ◌≤◌, List, length, Ok, Err}
 use Rattle.std.specs.Prelude.{◌⊎◌, ◌≢◌, Result, IfOk, IfErr}
 use Rattle.mob_ast.specs.declared.statement.Script.{Script}
 use Rattle.mob_ast.specs.declared.refusal.Kind.{Kind}
@@ -12,7 +12,7 @@ use Rattle.mob_parse.proofs.Refused.{no_tree}
 use Rattle.mob_typed.specs.declared.typed.Typed.{Typed}
 use Rattle.mob_typed.specs.Statements.{ScriptOut, script_seen}
 use Rattle.mob_typing.specs.Statements.{typed_script, IsTypingRefusal}
-use Rattle.mob_accept.specs.Accepts.{HasTrees, IsAccepted, IsTooLong, IsAcceptRefusal, script_limit}
+use Rattle.mob_accept.specs.Accepts.{HasTrees, IsAccepted, IsAcceptRefusal, script_limit}
 
 -- a refusal of the parser is a failed allocation, or another
 split : (k : Kind) (n p : ℕ) (bytes : List ℕ) → IsCause k bytes (record { kind = k; statement = n; place = p }) → (◌≡◌ {A = Refusal} (record { kind = k; statement = n; place = p }) no_memory) ⊎ (k ≢ NoMemory)
@@ -31,9 +31,6 @@ no_script bytes e short cause = elim (split e.kind e.statement e.place bytes cau
     λ out h. other (no_tree e.kind bytes e cause h.trees h.script.read.tree h.script.read.light),
   )
 ]
-
-pub too_long : (bytes : List ℕ) (e : Refusal) → IsTooLong bytes e → IsAcceptRefusal bytes e
-too_long bytes e h = inr (inl h, λ out g. let short = g.script.read.short in let long = h.long in absurd (omega arith))
 
 -- what holds of one answer of the parser holds of it in other words
 pub only_read : (bytes : List ℕ) (r : Result Script Refusal) → IfOk r (λ s. (x : List StatementParts) → IsTreeOf bytes x → x ≡ script_of s) → IfOk r (λ s. (x : List StatementParts) → HasTrees bytes x → x ≡ script_of s)

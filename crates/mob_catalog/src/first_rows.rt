@@ -6,7 +6,7 @@ ghost use Rattle.mob_catalog.specs.Kept.{numbers_from, with_last_rows, with_live
 
 use crate::catalog::TableHead;
 use mob_list::items::Items;
-use mob_value::{Table, Value};
+use mob_value::{Rows, Table, Value};
 use std::alloc::{AllocError, Global};
 use std::mem;
 
@@ -58,7 +58,7 @@ pub fn first_numbers(alloc: Global, count: usize) -> Result<Items<u32>, AllocErr
 }
 
 /// Puts rows into a table that has none. It takes no memory.
-pub fn set_rows(alloc: Global, tables: &mut Items<Table>, table: u32, rows: Items<Items<Value>>)
+pub fn set_rows(alloc: Global, tables: &mut Items<Table>, table: u32, rows: Rows<Value>)
     requires there { table < length tables.old }
     requires none { rows_put table tables.old ≡ 0 }
     ensures put { tables.new ≡ with_changed table (with_last_rows rows) tables.old }

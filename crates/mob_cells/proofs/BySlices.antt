@@ -13,7 +13,7 @@ use Rattle.mob_slice.specs.declared.slice.Slice.{Slice}
 use Rattle.mob_slice.specs.declared.formula.Formula.{Formula}
 use Rattle.mob_slice.specs.declared.formula.OpFault.{OpFault}
 use Rattle.mob_slice.specs.declared.formula.OpFault.TheVariants.{Passed, NoMemory}
-use Rattle.mob_cells.specs.Kept.{AreKeptOn}
+use Rattle.mob_lifted.specs.OnPiece.{AreKeptOn}
 use Rattle.mob_cells.specs.Restricted.{kept_value}
 use Rattle.mob_cells.specs.Restricted.{where_wanted, AreRestricted}
 use Rattle.mob_lifted.specs.Piecewise.{AreGivenInOrder, IsPiecewise}

@@ -16,7 +16,7 @@ use Rattle.mob_span.specs.Span.{SpanOf, has, has_instant}
 use Rattle.mob_span.specs.Sets.{in_some}
 use Rattle.mob_span.specs.Neighbours.{is_inside}
 use Rattle.mob_cells.specs.Cells.{IsIn}
-use Rattle.mob_slice.proofs.Cuts.{all_both, all_first, all_second}
+use Rattle.mob_slice.proofs.Cuts.{all_both, all_second}
 use Rattle.mob_cells.specs.declared.linear.Ends.{Ends}
 use Rattle.mob_cells.specs.declared.signs.Placed.{Placed}
 use Rattle.mob_cells.specs.Roots.{IsLevel, root_parts, root_of, roots, roots_parts, as_list, function_at}
@@ -137,12 +137,6 @@ making_step s fs rest later f r cells cells' placed placed' e er fits ec ep m =
       fit = λ h. m.fit (subst (λ z. AllFit (roots_parts s z)) (sym e) (all_both (root_parts s f) (roots_parts s later) fits h));
       fail = λ h. all_second (root_parts s f) (roots_parts s later) (subst (λ z. AllFit (roots_parts s z)) e (m.fail h));
     })
-
-pub making_fails : (s : SpanOf) (fs rest later : List Ends) (f : Ends) (cells : List SpanOf) (placed : List Placed) → rest ≡ f ∷ later → (¬ AllFit (root_parts s f)) → IsMaking s fs rest cells placed → ¬ AllFit (roots_parts s fs)
-making_fails s fs rest later f cells placed e n m h = n (all_first (root_parts s f) (roots_parts s later) (subst (λ z. AllFit (roots_parts s z)) e (m.fail h)))
-
-pub making_end : (s : SpanOf) (fs rest : List Ends) (cells : List SpanOf) (placed : List Placed) → rest ≡ [] → IsMaking s fs rest cells placed → (functions_of placed ≡ fs) × AllFit (roots_parts s fs)
-making_end s fs rest cells placed e m = (sym (append-nil (functions_of placed)) ∙ ap (λ l. functions_of placed ++ l) (sym e) ∙ m.made, m.fit (rw e tt))
 
 pub level_next : (s : SpanOf) (fs rest later : List Ends) (f : Ends) (cells : List SpanOf) (placed : List Placed) → rest ≡ f ∷ later → IsMaking s fs rest cells placed → IsLevel s f
 level_next s fs rest later f cells placed e m = (subst (λ z. AllByRecursion (IsLevel s) z) e m.level).0

@@ -1,15 +1,14 @@
 -- What is kept on each cell, and on all of them.
-use Rattle.std.specs.Prelude.{◌≡◌, Bool, true, false, cond, not, ◌&&◌, ◌||◌, ℕ, List, [], ◌∷◌, ◌++◌, slice_get, length, get_or, ◌<◌, Option, Some, None, MatchOption, Result, Ok, Err, MatchResult, refl}
+use Rattle.std.specs.Prelude.{◌≡◌, Bool, true, false, cond, not, ◌&&◌, ◌||◌, ℕ, List, [], ◌∷◌, ◌++◌, slice_get, Option, Some, None, MatchOption, Result, Ok, Err, MatchResult, refl}
 use Rattle.std.proofs.lemmas.Bool.{and_parts, and_from}
 use Rattle.std.specs.List.{AllByRecursion, flat_map}
-use Rattle.std.proofs.Common.{arith, ap, sym, ◌∙◌, subst, true≢false, inl, inr, append_assoc, append-nil, drop, ◌+◌, suc, add-one, drop-cons}
+use Rattle.std.proofs.Common.{arith, ap, sym, ◌∙◌, subst, true≢false, inl, inr, append_assoc, append-nil, ◌+◌}
 use Rattle.std.specs.declared.cmp.Ordering.{Ordering}
 use Rattle.mob_ratio.specs.Ratio.{Ratio}
 use Rattle.mob_frac.specs.Formula.{AllFit}
-use Rattle.mob_span.specs.Span.{SpanOf, has, has_instant}
+use Rattle.mob_span.specs.Span.{SpanOf, has}
 use Rattle.mob_span.specs.Neighbours.{is_inside}
 use Rattle.mob_span.specs.Sets.{in_some}
-use Rattle.mob_span.proofs.Insides.{inside_self}
 use Rattle.mob_ratio.specs.Order.{before, up_to}
 use Rattle.mob_ratio.proofs.Order.{before-trans, before-neither}
 use Rattle.mob_slice.specs.Slices.{value_at}
@@ -18,34 +17,24 @@ use Rattle.mob_span.specs.Flags.{same_bool}
 use Rattle.mob_slice.specs.Pieces.{AreInside}
 use Rattle.mob_cells.specs.Cells.{IsIn}
 use Rattle.mob_slice.specs.Sides.{HasValues, at_ends}
-use Rattle.mob_slice.specs.Entries.{Entry, IsFirst, OnFormula, IsPartFault}
-use Rattle.mob_slice.specs.Look.{IsLookFault}
-use Rattle.mob_slice.specs.Operands.{steady_value, steady_limit}
+use Rattle.mob_slice.specs.Entries.{IsFirst, OnFormula, IsPartFault}
 use Rattle.mob_slice.specs.declared.slice.Slice.{Slice}
-use Rattle.mob_slice.specs.declared.steady.Steady.{Steady}
 use Rattle.mob_slice.specs.declared.formula.Formula.TheVariants.{F1}
 use Rattle.mob_slice.specs.declared.formula.OpFault.{OpFault}
 use Rattle.mob_slice.specs.declared.formula.OpFault.TheVariants.{Passed, NoMemory}
-use Rattle.mob_slice.specs.declared.formula.LookFault.{LookFault}
-use Rattle.mob_slice.specs.declared.formula.LookFault.TheVariants.{Passed as LookPassed, NoMemory as LookNoMemory}
 use Rattle.mob_slice.proofs.Cuts.{all_both, all_first, all_second}
 use Rattle.mob_cells.specs.Cells.{AreCells, AreCutAt, IsCut, IsSomeEnd}
-use Rattle.mob_cells.specs.Kept.{AreKeptOn}
+use Rattle.mob_lifted.specs.OnPiece.{AreKeptOn}
 use Rattle.mob_cells.specs.Restricted.{kept_value}
-use Rattle.mob_slice.specs.Entries.{operator_fault}
 use Rattle.mob_lifted.specs.Piecewise.{AreGivenInOrder, IsPiecewise}
 use Rattle.mob_lifted.proofs.Making.{is_lifted}
-use Rattle.mob_lifted.proofs.Options.{none_some}
+use Rattle.mob_lifted.proofs.OnOnePiece.{one_kept}
 use Rattle.mob_cells.proofs.Making.{each_get}
 
 -- ---- one cell
 module _ {C B : Type 0} (value : C → Ratio → Ratio → Ratio → B) (start end : C → B) where
   kept_by : (f : Ratio → B) (g : Ratio → Option B) (c : SpanOf) (part : Slice C) (k : Bool) → HasValues value start end f c part → ((t : Ratio) → has c t ≡ true → g t ≡ cond k (Some (f t)) None) → AreKeptOn value start end g c (cond k (part ∷ []) [])
-  kept_by f g c part true h e = record {
-    ordered = (h.sound, tt, tt);
-    inside = (rw h.on (inside_self c), tt);
-    values = λ t i. subst (λ z. cond (has z t) (Some (value part.course part.span.lower part.span.upper t)) None ≡ g t) (sym h.on) (rw i (ap Some (h.same t i) ∙ sym (e t i)));
-  }
+  kept_by f g c part true h e = one_kept value start end g f c part h (λ t i. sym (e t i))
   kept_by f g c part false h e = record { ordered = tt; inside = tt; values = λ t i. sym (e t i) }
 
   pub kept_is : (f : Ratio → B) (c : SpanOf) (part : Slice C) (want : Bool) (keeps : List Ordering → Bool) (signs : Ratio → List Ordering) (os : List Ordering) (k : Bool) → HasValues value start end f c part → ((t : Ratio) → has c t ≡ true → os ≡ signs t) → k ≡ same_bool want (keeps os) → AreKeptOn value start end (λ t. kept_value want (keeps (signs t)) (f t)) c (cond k (part ∷ []) [])
@@ -54,17 +43,6 @@ module _ {C B : Type 0} (value : C → Ratio → Ratio → Ratio → B) (start e
   pub cell_is : {V : Type 0} (items : V → List (Slice C)) (r : Result V OpFault) (f : Ratio → B) (c : SpanOf) (part : Slice C) (want : Bool) (keeps : List Ordering → Bool) (signs : Ratio → List Ordering) (os : List Ordering) (k : Bool) (fits : List Ratio) → HasValues value start end f c part → AllFit fits → ((t : Ratio) → has c t ≡ true → os ≡ signs t) → k ≡ same_bool want (keeps os) → MatchResult r (λ v. items v ≡ cond k (part ∷ []) []) (λ e. e ≡ NoMemory) → MatchResult r (λ v. AreKeptOn value start end (λ t. kept_value want (keeps (signs t)) (f t)) c (items v) × AllFit fits) (IsPartFault F1 fits)
   cell_is items (Ok v) f c part want keeps signs os k fits h a n e m = (rw m (kept_is f c part want keeps signs os k h n e), a)
   cell_is items (Err fault) f c part want keeps signs os k fits h a n e m = rw m tt
-
-pub flag_is : (c : SpanOf) (keeps : List Ordering → Bool) (signs : Ratio → List Ordering) (os : List Ordering) (b : Bool) → has_instant c ≡ true → ((t : Ratio) → has c t ≡ true → os ≡ signs t) → b ≡ keeps os → AreKeptOn {C = Steady Bool} steady_value steady_limit steady_limit (λ t. Some (keeps (signs t))) c (record { span = c; course = record { value = b } } ∷ [])
-flag_is c keeps signs os b k n e = record {
-  ordered = (record { some = k; level = λ z. refl }, tt, tt);
-  inside = (inside_self c, tt);
-  values = λ t i. rw i (ap Some (e ∙ ap keeps (n t i)));
-}
-
-pub cell_fault : (copies : Bool) (fits : List Ratio) (f : LookFault) (e : OpFault) → IsLookFault copies fits f → e ≡ operator_fault f → IsPartFault F1 fits e
-cell_fault copies fits (LookPassed f) e h i = rw i h
-cell_fault copies fits LookNoMemory e h i = rw i tt
 
 -- ---- all cells
 low_in : (a b c : Ratio) (i j k : Bool) → (before a b || (up_to a b && (i || not j))) ≡ true → (before b c || (up_to b c && (j || not k))) ≡ true → (before a c || (up_to a c && (i || not k))) ≡ true
@@ -119,9 +97,6 @@ module _ {D B : Type 0} (value : D → Ratio → Ratio → Ratio → B) (start e
 
   pub made_end : (s : SpanOf) (all rest : List SpanOf) (out : List (Slice D)) → rest ≡ [] → AreCells s all → IsMade all rest out → AreKeptOn value start end f s out
   made_end s all rest out e a m = all_kept s all out (rw append-nil at (m [] (rw e refl))) a
-
-pub cell_read : (xs : List SpanOf) (i : ℕ) (x : SpanOf) → i < length xs → x ≡ get_or xs i x → drop i xs ≡ x ∷ drop (i + 1) xs
-cell_read xs i x h e = rw add-one (rw (drop-cons xs i x) (ap (λ y. y ∷ drop (suc i) xs) (sym e)))
 
 -- ---- the formulas
 module _ (parts : Ratio → List Ratio) where
@@ -178,13 +153,3 @@ module _ (parts : Ratio → List Ratio) where
 pub kept_fault : (parts : List Ratio) (all : List Ratio) (f : OpFault) → IsPartFault F1 parts f → ((¬ AllFit parts) → ¬ AllFit all) → OnFormula (λ g. IsFirst (record { formula = F1; parts = all } ∷ []) (Some g)) f
 kept_fault parts all (Passed f) h g = inr (g h.1, ap Some h.0)
 kept_fault parts all NoMemory h g = tt
-
--- the entries of the roots, then those of the cuts
-pub roots_first : {V : Type 0} (Q : V → Type 0) (e : Entry) (entries : List Entry) (r : Result V OpFault) → IsFirst (e ∷ []) None → MatchResult r (λ v. Q v × IsFirst entries None) (OnFormula (λ g. IsFirst entries (Some g))) → MatchResult r (λ v. Q v × IsFirst (e ∷ entries) None) (OnFormula (λ g. IsFirst (e ∷ entries) (Some g)))
-roots_first Q e entries (Ok v) h m = (m.0, elim h [ inl k ↦ inl (k.0, m.1) | inr k ↦ inr k ])
-roots_first Q e entries (Err (Passed g)) h m = elim h [ inl k ↦ inl (k.0, m) | inr k ↦ none_some e.formula k.1 ]
-roots_first Q e entries (Err NoMemory) h m = tt
-
-pub roots_fail : (e : Entry) (entries : List Entry) (f : OpFault) → OnFormula (λ g. IsFirst (e ∷ []) (Some g)) f → OnFormula (λ g. IsFirst (e ∷ entries) (Some g)) f
-roots_fail e entries (Passed g) h = elim h [ inl k ↦ none_some g (sym k.1) | inr k ↦ inr k ]
-roots_fail e entries NoMemory h = tt

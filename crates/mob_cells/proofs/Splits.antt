@@ -21,9 +21,6 @@ low_of l c r h k = grind (arith, h, k, before-trans l c r, before-neither l c)
 high_of : (r c u : Ratio) → before r c ≡ true → up_to c u ≡ true → before r u ≡ true
 high_of r c u h k = grind (arith, h, k, before-trans r c u, before-neither c u)
 
-is_cut : Ratio → SpanOf → Bool
-is_cut r c = before c.lower r && before r c.upper
-
 cut_has : (r : Ratio) (c : SpanOf) (t : Ratio) → before c.lower r ≡ true → before r c.upper ≡ true → (has (until c r) t || (has (instant_span r) t || has (beyond c r) t)) ≡ has c t
 cut_has r c t h k = grind (arith, h, k, before-trans c.lower r t, before-trans t r c.upper, before-trans r t c.upper, before-trans c.lower t r, before-back t r, before-back c.lower t, before-back t c.upper, before-neither t r, before-neither c.lower t, before-neither t c.upper)
 

@@ -18,9 +18,9 @@ use Rattle.mob_slice.specs.declared.slice.Slice.{Slice}
 use Rattle.mob_slice.specs.declared.line.PlaneLine.{PlaneLine}
 use Rattle.mob_slice.specs.declared.formula.OpFault.{OpFault}
 use Rattle.mob_slice.specs.declared.formula.OpFault.TheVariants.{NoMemory}
-use Rattle.mob_cells.specs.Kept.{AreKeptOn, IsKeptBy}
+use Rattle.mob_lifted.specs.OnPiece.{AreKeptOn, IsKeptBy}
 use Rattle.mob_cells.specs.Restricted.{kept_value}
-use Rattle.mob_cells.proofs.OwnEnds.{kept_same}
+use Rattle.mob_lifted.proofs.OnOnePiece.{kept_same}
 use Rattle.mob_clip.specs.declared.roots.EdgePlaced.{EdgePlaced}
 use Rattle.mob_clip.specs.Roots.{placed_edge, IsPlacedEdge}
 use Rattle.mob_clip.specs.Signs.{signs_on, edge_tally, tally_all}

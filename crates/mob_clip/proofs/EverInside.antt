@@ -34,12 +34,6 @@ ever_some rings v w h k =
     let m = wanted_meets (λ x. inside rings x) (value_at plane_value_of v i.0) i.1 (sym (k i.0) ∙ i.2) in
     (i.0, m.0, m.1, m.2)
 
-pub ever_none : (rings : List (List Point)) (v : List (Slice PlaneLine)) → ((t : Ratio) → where_wanted true (λ x. inside rings x) (value_at plane_value_of v t) ≡ None) → IsEverInside rings v → ⊥
-ever_none rings v k e = some_none e.1 (sym (ap (λ o. where_wanted true (λ x. inside rings x) o) e.2 ∙ ap (λ b. kept_value true b e.1) e.3) ∙ k e.0)
-  where
-    some_none : (x : Point) → Some x ≡ None → ⊥
-    some_none x e = cc
-
 -- the condition by the edges is that of the polygon
 wanted_same : (m n : Point → Bool) (want : Bool) (o : Option Point) → ((x : Point) → m x ≡ n x) → where_wanted want m o ≡ where_wanted want n o
 wanted_same m n want None h = refl

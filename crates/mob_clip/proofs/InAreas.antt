@@ -26,9 +26,10 @@ use Rattle.mob_slice.specs.declared.formula.OpFault.TheVariants.{Passed, NoMemor
 use Rattle.mob_cells.specs.declared.linear.Ends.{Ends}
 use Rattle.mob_cells.specs.Roots.{IsLevel}
 use Rattle.mob_cells.specs.Cells.{signs_of}
-use Rattle.mob_cells.specs.Kept.{IsKeptBy, entries_of_cuts}
+use Rattle.mob_lifted.specs.OnPiece.{IsKeptBy}
+use Rattle.mob_cells.specs.Kept.{entries_of_cuts}
 use Rattle.mob_cells.specs.Restricted.{kept_value}
-use Rattle.mob_cells.proofs.OwnEnds.{kept_behind}
+use Rattle.mob_lifted.proofs.OnOnePiece.{kept_behind}
 use Rattle.mob_stbox.specs.declared.area.Area.{Area}
 use Rattle.mob_stbox.specs.Areas.{in_area}
 use Rattle.mob_clip.specs.Areas.{in_area_by, area_parts, area_ends, entries_of_area}

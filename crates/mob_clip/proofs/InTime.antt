@@ -30,12 +30,13 @@ use Rattle.mob_slice.specs.declared.formula.LookFault.{LookFault}
 use Rattle.mob_slice.specs.declared.formula.LookFault.TheVariants.{Passed as LookPassed, NoMemory as LookNoMemory}
 use Rattle.mob_slice.proofs.Cuts.{all_both, all_first, all_second}
 use Rattle.mob_cells.specs.Cells.{AreCells}
-use Rattle.mob_cells.specs.Kept.{AreKeptOn, IsKeptBy}
+use Rattle.mob_lifted.specs.OnPiece.{AreKeptOn, IsKeptBy}
 use Rattle.mob_cells.specs.Restricted.{kept_value}
 use Rattle.mob_slice.specs.Entries.{operator_fault}
 use Rattle.mob_lifted.specs.Piecewise.{AreGivenInOrder}
 use Rattle.mob_cells.proofs.Restricting.{all_kept}
-use Rattle.mob_cells.proofs.OwnEnds.{kept_same, kept_behind, start_value, end_value}
+use Rattle.mob_lifted.proofs.OnOnePiece.{kept_same, kept_behind}
+use Rattle.mob_cells.proofs.OwnEnds.{start_value, end_value}
 use Rattle.mob_stbox.specs.declared.area.Area.{Area}
 use Rattle.mob_stbox.specs.Boxes.{BoxOf, in_space, in_time, in_box}
 use Rattle.mob_clip.specs.Boxes.{entries_of_space, entries_in_time, entries_of_box, AreAround, front_span, back_span}

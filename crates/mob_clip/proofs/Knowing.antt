@@ -1,7 +1,7 @@
 -- What is known of a point by edges.
 use Rattle.std.specs.Prelude.{◌≡◌, Bool, true, false, cond, ◌||◌, List, [], ◌∷◌, ◌++◌, map, length, get_or, Result, Ok, Err, IfOk, refl}
 use Rattle.std.specs.List.{AllByRecursion}
-use Rattle.std.proofs.Common.{arith, ap, sym, ◌∙◌, subst, append_assoc, append-nil}
+use Rattle.std.proofs.Common.{arith, ap, sym, ◌∙◌, subst, append_assoc}
 use Rattle.std.specs.declared.cmp.Ordering.{Ordering}
 use Rattle.std.specs.declared.cmp.Ordering.TheVariants.{Less, Equal, Greater}
 use Rattle.mob_ratio.specs.Ratio.{Ratio}
@@ -18,7 +18,7 @@ use Rattle.mob_plane.specs.declared.edges.Tally.{Tally}
 use Rattle.mob_plane.proofs.Counts.{alone_assoc}
 use Rattle.mob_clip.specs.declared.steps.Change.{Change}
 use Rattle.mob_clip.specs.declared.steps.Steps.{Steps}
-use Rattle.mob_clip.specs.declared.membership.EdgeSign.TheVariants.{Turn, XA, XB, YA, YB}
+use Rattle.mob_clip.specs.declared.membership.EdgeSign.TheVariants.{XA, XB, YA, YB}
 use Rattle.mob_clip.specs.declared.roots.EdgePlaced.{EdgePlaced}
 use Rattle.mob_clip.specs.Steps.{step_at, steps_at, ChangesFit}
 use Rattle.mob_clip.specs.Signs.{known_sign, known_signs, one_known, signs_on, signs_beside, edge_tally, tally_change, tally_both, tally_all}
@@ -36,15 +36,6 @@ ends_joined s t g x y h k = rw (h, k) (λ i. record {
   x_a = (joined_end (known_sign (sign_of (function_at s g.x_a.ends t)) Equal) ∙ joined_end (sign_of (function_at s g.x_a.ends t))) i;
   x_b = joined_end (sign_of (function_at s g.x_b.ends t)) i;
   y_a = joined_end (sign_of (function_at s g.y_a.ends t)) i;
-  y_b = sign_of (function_at s g.y_b.ends t);
-})
-
-pub turn_joined : (s : SpanOf) (t : Ratio) (g : EdgePlaced) (x y : EdgeSigns) → x ≡ one_known Turn (sign_of (function_at s g.turn.ends t)) → y ≡ signs_beside s t g → known_signs x y ≡ signs_on s t g
-turn_joined s t g x y h k = rw (h, k) (λ i. record {
-  turn = joined_end (sign_of (function_at s g.turn.ends t)) i;
-  x_a = sign_of (function_at s g.x_a.ends t);
-  x_b = sign_of (function_at s g.x_b.ends t);
-  y_a = sign_of (function_at s g.y_a.ends t);
   y_b = sign_of (function_at s g.y_b.ends t);
 })
 
@@ -127,12 +118,6 @@ pub record IsKnowing (s : SpanOf) (all rest : List EdgePlaced) (out : List (Step
   pub fit : (parts : Ratio → List Ratio) → AllFit (parts s.lower) → AllFit (parts s.upper) → AllByRecursion (CutsFit parts) all → AllByRecursion (λ (x : Steps Tally). ChangesFit parts x.changes.items) out × AllByRecursion (CutsFit parts) rest
   pub placed : AllByRecursion (IsPlacedEdge s) rest
 
-pub knowing_start : (s : SpanOf) (all : List EdgePlaced) → AllByRecursion (IsPlacedEdge s) all → IsKnowing s all all []
-knowing_start s all h = record { values = λ t i. refl; fit = λ parts a b k. (tt, k); placed = h }
-
-pub knowing_next : (s : SpanOf) (all rest later : List EdgePlaced) (g : EdgePlaced) (out : List (Steps Tally)) → rest ≡ g ∷ later → IsKnowing s all rest out → IsPlacedEdge s g
-knowing_next s all rest later g out e m = (subst (AllByRecursion (IsPlacedEdge s)) e m.placed).0
-
 pub knowing_step : (s : SpanOf) (all rest later : List EdgePlaced) (g : EdgePlaced) (out out' : List (Steps Tally)) (x : Steps Tally) → rest ≡ g ∷ later → out' ≡ out ++ x ∷ [] → ((t : Ratio) → has s t ≡ true → steps_at x t ≡ edge_tally (signs_on s t g))
     → ((parts : Ratio → List Ratio) → AllFit (parts s.lower) → AllFit (parts s.upper) → CutsFit parts g → ChangesFit parts x.changes.items) → IsKnowing s all rest out → IsKnowing s all later out'
 knowing_step s all rest later g out out' x e n v w m = record {
@@ -149,9 +134,6 @@ knowing_step s all rest later g out out' x e n v w m = record {
       (subst (AllByRecursion (λ (y : Steps Tally). ChangesFit parts y.changes.items)) (sym n) (each_more (λ (y : Steps Tally). ChangesFit parts y.changes.items) out x f.0 (w parts a b l.0)), l.1);
   placed = (subst (AllByRecursion (IsPlacedEdge s)) e m.placed).1;
 }
-
-pub knowing_values : (s : SpanOf) (all rest : List EdgePlaced) (out : List (Steps Tally)) → rest ≡ [] → IsKnowing s all rest out → (t : Ratio) → has s t ≡ true → map (λ x. steps_at x t) out ≡ map (λ g. edge_tally (signs_on s t g)) all
-knowing_values s all rest out e m t i = sym (append-nil (map (λ x. steps_at x t) out)) ∙ ap (λ z. map (λ x. steps_at x t) out ++ map (λ g. edge_tally (signs_on s t g)) z) (sym e) ∙ m.values t i
 
 pub knowing_fit : (s : SpanOf) (all rest : List EdgePlaced) (out : List (Steps Tally)) → IsKnowing s all rest out → (parts : Ratio → List Ratio) → AllFit (parts s.lower) → AllFit (parts s.upper) → AllByRecursion (CutsFit parts) all → AllByRecursion (λ (x : Steps Tally). ChangesFit parts x.changes.items) out
 knowing_fit s all rest out m parts a b k = (m.fit parts a b k).0

@@ -23,7 +23,8 @@ use Rattle.mob_slice.specs.declared.line.PlaneLine.{PlaneLine}
 use Rattle.mob_slice.specs.declared.formula.OpFault.{OpFault}
 use Rattle.mob_slice.specs.declared.formula.OpFault.TheVariants.{NoMemory}
 use Rattle.mob_slice.proofs.Cuts.{all_both, all_first, all_second}
-use Rattle.mob_cells.specs.Kept.{AreKeptOn}
+use Rattle.mob_lifted.specs.OnPiece.{AreKeptOn}
+use Rattle.mob_lifted.proofs.OnOnePiece.{kept_same}
 use Rattle.mob_cells.specs.Restricted.{kept_value}
 use Rattle.mob_cells.proofs.Restricting.{inside_trans}
 use Rattle.mob_plane.specs.declared.edges.Tally.{Tally}
@@ -188,14 +189,11 @@ module _ (s : Slice PlaneLine) where
     left_start h k = record { ordered = tt; inside = tt; ahead = (h.some, tt); holds = (inside_self s.span, k); values = λ t i n. absurd (true≢false (sym i ∙ n)) }
 
     -- all of a piece, or nothing, has the values f there
-    whole_kept : (keeps : Bool) (c : SpanOf) (v : List (Slice PlaneLine)) → AreAllOrNothing s keeps (Some c) v → ((t : Ratio) → has c t ≡ true → cond keeps (Some (slice_value plane_value_of s t)) None ≡ f t) → AreKeptOn plane_value_of (λ k. k.from) (λ k. k.to) f c v
-    whole_kept keeps c v h k = record { ordered = h.ordered; inside = h.inside; values = λ t i. h.values t i ∙ k t i }
-
     some_kept : (keeps : Bool) (c : SpanOf) (v : List (Slice PlaneLine)) → AreAllOrNothing s keeps (some_span c) v → ((t : Ratio) → has_piece (some_span c) t ≡ true → cond keeps (Some (slice_value plane_value_of s t)) None ≡ f t) → AreKeptOn plane_value_of (λ k. k.from) (λ k. k.to) f c v
     some_kept keeps c v h k = by (has_instant c) refl h k
       where
         by : (b : Bool) → has_instant c ≡ b → AreAllOrNothing s keeps (cond b (Some c) None) v → ((t : Ratio) → has_piece (cond b (Some c) None) t ≡ true → cond keeps (Some (slice_value plane_value_of s t)) None ≡ f t) → AreKeptOn plane_value_of (λ k. k.from) (λ k. k.to) f c v
-        by true e h k = whole_kept keeps c v h k
+        by true e h k = kept_same plane_value_of (λ k. k.from) (λ k. k.to) (λ t. cond keeps (Some (slice_value plane_value_of s t)) None) f c v k h
         by false e h k = rw h (record { ordered = tt; inside = tt; values = λ t i. absurd (true≢false (sym i ∙ no_instant c t e)) })
 
     in_left : (a b : Bool) → (a && not b) ≡ false → a ≡ true → (a && b) ≡ true

@@ -1,5 +1,6 @@
 -- What is left of a slice on pieces of its span, and a piece before and behind an instant.
-use Rattle.std.specs.Prelude.{◌≡◌, Bool, true, cond, not, ◌||◌, ◌&&◌, List, [], Option, Some, None, MatchOption}
+use Rattle.std.specs.Prelude.{◌≡◌, Bool, true, cond, not, ◌||◌, ◌&&◌, ◌++◌, List, [], Option, Some, None, MatchOption, Result, Vec}
+use Rattle.std.specs.declared.alloc.Global.{Global}
 use Rattle.mob_ratio.specs.Ratio.{Ratio}
 use Rattle.mob_ratio.specs.Order.{before}
 use Rattle.mob_frac.specs.Formula.{AllFit}
@@ -8,9 +9,13 @@ use Rattle.mob_span.specs.Neighbours.{is_inside}
 use Rattle.mob_slice.specs.Sides.{at_ends}
 use Rattle.mob_slice.specs.Cut.{slice_value, slice_parts}
 use Rattle.mob_slice.specs.Lines.{plane_value_of, plane_parts_of}
+use Rattle.mob_slice.specs.Entries.{Entry}
+use Rattle.mob_slice.specs.declared.formula.OpFault.{OpFault}
 use Rattle.mob_slice.specs.declared.slice.Slice.{Slice}
 use Rattle.mob_slice.specs.declared.line.PlaneLine.{PlaneLine}
-use Rattle.mob_cells.specs.Kept.{AreKeptOn}
+use Rattle.mob_lifted.specs.OnPiece.{AreKeptOn, IsKeptBy}
+use Rattle.mob_cells.specs.Restricted.{kept_where}
+use Rattle.mob_plane.specs.declared.point.Point.{Point}
 use Rattle.mob_plane.specs.declared.edges.Tally.{Tally}
 
 -- the point is inside the polygon, by what is known of it
@@ -44,3 +49,17 @@ IsOnSlice s piece = MatchOption piece (Unit {0}) (λ r. (is_inside s.span r ≡ 
 abbrev pub AreAllOrNothing : Slice PlaneLine → Bool → Option SpanOf → List (Slice PlaneLine) → Type 0
 AreAllOrNothing s keeps None v = v ≡ []
 AreAllOrNothing s keeps (Some r) v = AreKeptOn plane_value_of (λ c. c.from) (λ c. c.to) (λ t. cond keeps (Some (slice_value plane_value_of s t)) None) r v
+
+-- What of s is before r on the piece, or nothing, is added to the list, and what of the piece is
+-- behind r is left.
+abbrev pub IsPushedBefore : Slice PlaneLine → Bool → Option SpanOf → Ratio → Bool → List (Slice PlaneLine) → List (Slice PlaneLine) → Option SpanOf → Type 0
+IsPushedBefore s keeps piece r included old new rest = (rest ≡ right_piece piece r included) × (v : List (Slice PlaneLine)) × (new ≡ old ++ v) × AreAllOrNothing s keeps (left_piece piece r included) v
+
+-- the slices are what is left of s on the span r, where the instant and the point meet a condition
+-- or do not, as is wanted
+abbrev pub AreKeptInPlane : Bool → (Ratio → Point → Bool) → Slice PlaneLine → SpanOf → List (Slice PlaneLine) → Type 0
+AreKeptInPlane want meets s r v = AreKeptOn plane_value_of (λ c. c.from) (λ c. c.to) (kept_where plane_value_of want meets s) r v
+
+-- so is an answer where every entry fits; else it is the formula of the first that does not
+abbrev pub IsKeptInPlane : Bool → (Ratio → Point → Bool) → Slice PlaneLine → SpanOf → List Entry → Result (Vec (Slice PlaneLine) Global) OpFault → Type 0
+IsKeptInPlane want meets s r entries result = IsKeptBy plane_value_of (λ c. c.from) (λ c. c.to) (λ v. v.items) (kept_where plane_value_of want meets s) r entries result

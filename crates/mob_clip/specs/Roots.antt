@@ -1,11 +1,14 @@
 -- The functions of an edge on a slice, each with its root.
-use Rattle.std.specs.Prelude.{◌≡◌, true, List, [], ◌∷◌, MatchOption}
-use Rattle.std.specs.List.{flat_map}
+use Rattle.std.specs.Prelude.{◌≡◌, true, List, [], ◌∷◌, map, None, MatchOption}
+use Rattle.std.specs.List.{AllByRecursion, flat_map}
 use Rattle.mob_ratio.specs.Ratio.{Ratio}
 use Rattle.mob_ratio.specs.Order.{up_to}
 use Rattle.mob_frac.specs.Formula.{AllFit}
 use Rattle.mob_span.specs.Span.{SpanOf}
 use Rattle.mob_plane.specs.declared.point.Point.{Point}
+use Rattle.mob_slice.specs.Cut.{slice_parts}
+use Rattle.mob_slice.specs.Lines.{plane_parts_of}
+use Rattle.mob_slice.specs.Entries.{IsFirst}
 use Rattle.mob_slice.specs.declared.slice.Slice.{Slice}
 use Rattle.mob_slice.specs.declared.line.PlaneLine.{PlaneLine}
 use Rattle.mob_cells.specs.declared.linear.Ends.{Ends}
@@ -14,6 +17,7 @@ use Rattle.mob_cells.specs.Roots.{root_of, as_list}
 use Rattle.mob_cells.specs.Cells.{IsPlaced}
 use Rattle.mob_clip.specs.declared.sides.EdgeEnds.{EdgeEnds}
 use Rattle.mob_clip.specs.declared.roots.EdgePlaced.{EdgePlaced}
+use Rattle.mob_clip.specs.Polygons.{entries_of_edges}
 use Rattle.mob_clip.specs.Sides.{beside, with_turn}
 
 abbrev pub listed_ends : EdgeEnds → List Ends
@@ -56,3 +60,12 @@ pub record CutsFit (parts : Ratio → List Ratio) (g : EdgePlaced) : Type 0 wher
   pub x_b : FitsRoot parts g.x_b
   pub y_a : FitsRoot parts g.y_a
   pub y_b : FitsRoot parts g.y_b
+
+-- F1: the parts of a slice at the roots of all edges
+abbrev pub parts_at_roots : Slice PlaneLine → List EdgePlaced → List Ratio
+parts_at_roots s edges = flat_map (slice_parts plane_parts_of s) (flat_map edge_roots edges)
+
+-- the edges with their functions and roots on a slice, where every entry fits, and so F1 at each
+-- root
+abbrev pub ArePlacedOn : Slice PlaneLine → List (Point × Point) → List EdgePlaced → Type 0
+ArePlacedOn s edges v = (v ≡ map (placed_edge s) edges) × IsFirst (entries_of_edges edges s) None × AllByRecursion (CutsFit (slice_parts plane_parts_of s)) v

@@ -7,6 +7,7 @@ use Rattle.mob_ratio.specs.Order.{before}
 use Rattle.mob_ratio.specs.Sign.{sign_of}
 use Rattle.mob_frac.specs.Formula.{AllFit}
 use Rattle.mob_span.specs.Span.{SpanOf}
+use Rattle.mob_cells.specs.declared.linear.Ends.{Ends}
 use Rattle.mob_cells.specs.Roots.{function_at}
 use Rattle.mob_plane.specs.Membership.{is_one_alone}
 use Rattle.mob_plane.specs.declared.edges.EdgeSigns.{EdgeSigns}
@@ -47,6 +48,10 @@ one_known XA o = record { turn = Equal; x_a = o; x_b = Equal; y_a = Equal; y_b =
 one_known XB o = record { turn = Equal; x_a = Equal; x_b = o; y_a = Equal; y_b = Equal }
 one_known YA o = record { turn = Equal; x_a = Equal; x_b = Equal; y_a = o; y_b = Equal }
 one_known YB o = record { turn = Equal; x_a = Equal; x_b = Equal; y_a = Equal; y_b = o }
+
+-- the signs of an edge at the instant t of which that of one function is known
+abbrev pub known_at : SpanOf → EdgeSign → Ends → Ratio → EdgeSigns
+known_at s which f t = one_known which (sign_of (function_at s f t))
 
 -- the sign between two ends of these signs, where no root lies between them
 abbrev pub ends_change : SpanOf → Ordering → Ordering → SignChange

@@ -4,6 +4,7 @@ use Rattle.std.specs.List.{AllByRecursion}
 use Rattle.mob_ratio.specs.Ratio.{Ratio}
 use Rattle.mob_ratio.specs.Order.{before}
 use Rattle.mob_frac.specs.Formula.{AllFit}
+use Rattle.mob_span.specs.Span.{SpanOf}
 use Rattle.mob_clip.specs.declared.steps.Change.{Change}
 use Rattle.mob_clip.specs.declared.steps.Steps.{Steps}
 
@@ -18,6 +19,20 @@ steps_at s t = step_at s.first s.changes.items t
 -- the parts of a formula fit at the instant of each change
 abbrev pub ChangesFit : {T : Type 0} → (Ratio → List Ratio) → List (Change T) → Type 0
 ChangesFit parts changes = AllByRecursion (λ c. AllFit (parts c.at)) changes
+
+-- what holds of all parts of a formula that fit at both ends of the span
+abbrev pub WhereEndsFit : SpanOf → ((Ratio → List Ratio) → Type 0) → Type 0
+WhereEndsFit s Holds = (parts : Ratio → List Ratio) → AllFit (parts s.lower) → AllFit (parts s.upper) → Holds parts
+
+-- a change of a walk, while the other stays at a value; and two changes at one instant
+abbrev pub mixed_left : {T : Type 0} → (T → T → T) → Change T → T → Change T
+mixed_left mix x right = record { at = x.at; there = mix x.there right; behind = mix x.behind right }
+
+abbrev pub mixed_right : {T : Type 0} → (T → T → T) → T → Change T → Change T
+mixed_right mix left y = record { at = y.at; there = mix left y.there; behind = mix left y.behind }
+
+abbrev pub mixed_both : {T : Type 0} → (T → T → T) → Change T → Change T → Change T
+mixed_both mix x y = record { at = x.at; there = mix x.there y.there; behind = mix x.behind y.behind }
 
 -- The change c is the next of two walks, of which left and right stand in front, and left' and
 -- right' behind it: where what follows behind it is the two taken together, so is the whole.

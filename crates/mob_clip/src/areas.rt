@@ -2,17 +2,16 @@
 
 ghost use Rattle.mob_slice.specs.declared.formula.Formula.TheVariants.{F2};
 ghost use Rattle.mob_slice.specs.Entries.{IsMadeBy};
-ghost use Rattle.std.specs.Prelude.{◌≡◌, true, false, [], ◌∷◌, ◌++◌, MatchResult};
+ghost use Rattle.std.specs.Prelude.{◌≡◌, true, false, ◌++◌, MatchResult};
 ghost use Rattle.mob_frac.specs.Formula.{AllFit, IsFormula};
 ghost use Rattle.mob_span.specs.Neighbours.{is_inside};
 ghost use Rattle.mob_slice.specs.Slices.{IsSound};
 ghost use Rattle.mob_slice.specs.Sides.{at_ends, HasValues};
 ghost use Rattle.mob_slice.specs.Cut.{slice_value, slice_parts};
 ghost use Rattle.mob_slice.specs.Lines.{plane_value_of, plane_parts_of};
-ghost use Rattle.mob_cells.specs.Kept.{IsKeptBy};
-ghost use Rattle.mob_cells.specs.Restricted.{kept_value};
 ghost use Rattle.mob_stbox.specs.Areas.{in_area};
-ghost use Rattle.mob_clip.specs.Areas.{area_parts, sides_of, area_ends, in_area_by, entries_of_area};
+ghost use Rattle.mob_clip.specs.Areas.{area_parts, sides_of, area_ends, in_area_by, entries_of_area, ends_of_sides};
+ghost use Rattle.mob_clip.specs.Pieces.{IsKeptInPlane};
 
 use mob_cells::{Ends, Test, kept};
 use mob_frac::{Frac, Overflow};
@@ -68,7 +67,7 @@ fn functions(alloc: Global, area: &Area, p: &Point, q: &Point) -> Result<Vec<End
 // The four linear functions with these differences at the two ends. The one fault is a failed
 // allocation.
 fn functions_of(alloc: Global, from: &Sides, to: &Sides) -> Result<Vec<Ends>, OpFault>
-    ensures functions { MatchResult result (λ v. v.items ≡ record { at_lower = from.now.left; at_upper = to.now.left } ∷ record { at_lower = from.now.right; at_upper = to.now.right } ∷ record { at_lower = from.now.low; at_upper = to.now.low } ∷ record { at_lower = from.now.high; at_upper = to.now.high } ∷ []) (λ e. e ≡ OpFault.NoMemory) }
+    ensures functions { MatchResult result (λ v. v.items ≡ ends_of_sides from.now to.now) (λ e. e ≡ OpFault.NoMemory) }
 {
     let mut functions = Vec::new(alloc);
     if functions
@@ -142,7 +141,7 @@ pub fn in_area_on(
     requires holds { IsSound (λ c. c.from) (λ c. c.to) slice.now × (is_inside slice.now.span part.now.span ≡ true) }
     requires ends { AllFit (at_ends (slice_parts plane_parts_of slice.now) part.now.span) }
     requires part { HasValues plane_value_of (λ c. c.from) (λ c. c.to) (slice_value plane_value_of slice.now) part.now.span part.now }
-    ensures kept { IsKeptBy plane_value_of (λ c. c.from) (λ c. c.to) (λ v. v.items) (λ t. kept_value want (in_area area.now (slice_value plane_value_of slice.now t)) (slice_value plane_value_of slice.now t)) part.now.span (entries_of_area area.now slice.now part.now.span) result }
+    ensures kept { IsKeptInPlane want (λ t p. in_area area.now p) slice.now part.now.span (entries_of_area area.now slice.now part.now.span) result }
 {
     let functions = match functions(alloc, area, &part.course.from, &part.course.to) {
         Ok(functions) => functions,

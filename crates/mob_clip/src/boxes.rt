@@ -10,12 +10,11 @@ ghost use Rattle.mob_slice.specs.Sides.{at_ends, HasValues};
 ghost use Rattle.mob_slice.specs.Cut.{slice_value, slice_parts};
 ghost use Rattle.mob_slice.specs.Entries.{IsJudged};
 ghost use Rattle.mob_slice.specs.Lines.{plane_value_of, plane_parts_of};
-ghost use Rattle.mob_cells.specs.Kept.{IsKeptBy, AreKeptOn};
-ghost use Rattle.mob_cells.specs.Restricted.{kept_value};
+ghost use Rattle.mob_lifted.specs.OnPiece.{AreKeptOn};
 ghost use Rattle.mob_cells.specs.Restricted.{IsRestricted};
 ghost use Rattle.mob_stbox.specs.Boxes.{in_box, in_space};
 ghost use Rattle.mob_clip.specs.Boxes.{entries_of_space, entries_of_box, entries_in_time, AreAround, front_span, back_span};
-ghost use Rattle.mob_clip.specs.Pieces.{some_span};
+ghost use Rattle.mob_clip.specs.Pieces.{some_span, IsKeptInPlane};
 
 use crate::areas::in_area_on;
 use crate::pieces::piece_on;
@@ -38,7 +37,7 @@ fn in_space_on(
     requires holds { IsSound (λ c. c.from) (λ c. c.to) slice.now × (is_inside slice.now.span part.span ≡ true) }
     requires ends { AllFit (at_ends (slice_parts plane_parts_of slice.now) part.span) }
     requires part { HasValues plane_value_of (λ c. c.from) (λ c. c.to) (slice_value plane_value_of slice.now) part.span part }
-    ensures kept { IsKeptBy plane_value_of (λ c. c.from) (λ c. c.to) (λ v. v.items) (λ t. kept_value want (in_space space.now (slice_value plane_value_of slice.now t)) (slice_value plane_value_of slice.now t)) part.span (entries_of_space space.now slice.now part.span) result }
+    ensures kept { IsKeptInPlane want (λ t p. in_space space.now p) slice.now part.span (entries_of_space space.now slice.now part.span) result }
 {
     match space {
         Some(area) => in_area_on(alloc, slice, &part, area, want),
@@ -121,7 +120,7 @@ fn in_time_on(
     want: bool,
 ) -> Result<Vec<Slice<PlaneLine>>, OpFault>
     requires sound { IsSound (λ c. c.from) (λ c. c.to) slice.now }
-    ensures kept { IsKeptBy plane_value_of (λ c. c.from) (λ c. c.to) (λ v. v.items) (λ t. kept_value want (in_space space.now (slice_value plane_value_of slice.now t) && has time.now t) (slice_value plane_value_of slice.now t)) slice.now.span (entries_in_time (Some time.now) space.now slice.now) result }
+    ensures kept { IsKeptInPlane want (λ t p. in_space space.now p && has time.now t) slice.now slice.now.span (entries_in_time (Some time.now) space.now slice.now) result }
 {
     let shared = match slice.span.meet(time) {
         Some(shared) => shared,

@@ -9,8 +9,8 @@ ghost use Rattle.mob_span.specs.Span.{has};
 ghost use Rattle.mob_cells.specs.Roots.{function_at};
 ghost use Rattle.mob_cells.specs.Cells.{IsPlaced};
 ghost use Rattle.mob_clip.specs.Roots.{IsPlacedEdge, FitsRoot, CutsFit};
-ghost use Rattle.mob_clip.specs.Steps.{steps_at, ChangesFit};
-ghost use Rattle.mob_clip.specs.Signs.{changing_sign, known_sign, known_signs, one_known, ends_change, tally_both, tally_all, edge_tally, tally_change, signs_on, signs_beside, FitsChange};
+ghost use Rattle.mob_clip.specs.Steps.{steps_at, ChangesFit, WhereEndsFit};
+ghost use Rattle.mob_clip.specs.Signs.{changing_sign, known_sign, known_signs, one_known, ends_change, tally_both, tally_all, edge_tally, tally_change, signs_on, signs_beside, FitsChange, known_at};
 
 use crate::roots::EdgePlaced;
 use crate::steps::{Change, Mix, Steps, merged};
@@ -189,8 +189,8 @@ fn two_signs(
 ) -> Result<Steps<EdgeSigns>, AllocError>
     requires placed_a { IsPlaced span.now a.now }
     requires placed_b { IsPlaced span.now b.now }
-    ensures values { IfOk result (λ s. (t : Ratio) → has span.now t ≡ true → steps_at s t ≡ known_signs (one_known first (sign_of (function_at span.now a.now.ends t))) (one_known second (sign_of (function_at span.now b.now.ends t)))) }
-    ensures fit { IfOk result (λ s. (parts : Ratio → List Ratio) → AllFit (parts span.now.lower) → AllFit (parts span.now.upper) → FitsRoot parts a.now → FitsRoot parts b.now → ChangesFit parts s.changes.items) }
+    ensures values { IfOk result (λ s. (t : Ratio) → has span.now t ≡ true → steps_at s t ≡ known_signs (known_at span.now first a.now.ends t) (known_at span.now second b.now.ends t)) }
+    ensures fit { IfOk result (λ s. WhereEndsFit span.now (λ parts. FitsRoot parts a.now → FitsRoot parts b.now → ChangesFit parts s.changes.items)) }
 {
     let left = one_sign(alloc, &change_of(span, a), first)?;
     let right = one_sign(alloc, &change_of(span, b), second)?;
@@ -201,7 +201,7 @@ fn two_signs(
 fn end_signs(alloc: Global, span: &Span, edge: &EdgePlaced) -> Result<Steps<EdgeSigns>, AllocError>
     requires placed { IsPlacedEdge span.now edge.now }
     ensures values { IfOk result (λ s. (t : Ratio) → has span.now t ≡ true → steps_at s t ≡ signs_beside span.now t edge.now) }
-    ensures fit { IfOk result (λ s. (parts : Ratio → List Ratio) → AllFit (parts span.now.lower) → AllFit (parts span.now.upper) → CutsFit parts edge.now → ChangesFit parts s.changes.items) }
+    ensures fit { IfOk result (λ s. WhereEndsFit span.now (λ parts. CutsFit parts edge.now → ChangesFit parts s.changes.items)) }
 {
     let xs = two_signs(
         alloc,
@@ -226,7 +226,7 @@ fn end_signs(alloc: Global, span: &Span, edge: &EdgePlaced) -> Result<Steps<Edge
 fn edge_signs(alloc: Global, span: &Span, edge: &EdgePlaced) -> Result<Steps<EdgeSigns>, AllocError>
     requires placed { IsPlacedEdge span.now edge.now }
     ensures values { IfOk result (λ s. (t : Ratio) → has span.now t ≡ true → steps_at s t ≡ signs_on span.now t edge.now) }
-    ensures fit { IfOk result (λ s. (parts : Ratio → List Ratio) → AllFit (parts span.now.lower) → AllFit (parts span.now.upper) → CutsFit parts edge.now → ChangesFit parts s.changes.items) }
+    ensures fit { IfOk result (λ s. WhereEndsFit span.now (λ parts. CutsFit parts edge.now → ChangesFit parts s.changes.items)) }
 {
     let turn = one_sign(alloc, &change_of(span, &edge.turn), EdgeSign::Turn)?;
     let ends = end_signs(alloc, span, edge)?;
@@ -269,7 +269,7 @@ fn tallied(alloc: Global, signs: &Steps<EdgeSigns>) -> Result<Steps<Tally>, Allo
 fn edge_steps(alloc: Global, span: &Span, edge: &EdgePlaced) -> Result<Steps<Tally>, AllocError>
     requires placed { IsPlacedEdge span.now edge.now }
     ensures values { IfOk result (λ s. (t : Ratio) → has span.now t ≡ true → steps_at s t ≡ edge_tally (signs_on span.now t edge.now)) }
-    ensures fit { IfOk result (λ s. (parts : Ratio → List Ratio) → AllFit (parts span.now.lower) → AllFit (parts span.now.upper) → CutsFit parts edge.now → ChangesFit parts s.changes.items) }
+    ensures fit { IfOk result (λ s. WhereEndsFit span.now (λ parts. CutsFit parts edge.now → ChangesFit parts s.changes.items)) }
 {
     let signs = edge_signs(alloc, span, edge)?;
     tallied(alloc, &signs)
@@ -283,7 +283,7 @@ fn each_edge(
 ) -> Result<Vec<Steps<Tally>>, AllocError>
     requires placed { AllByRecursion (IsPlacedEdge span.now) edges.now }
     ensures values { IfOk result (λ v. (t : Ratio) → has span.now t ≡ true → map (λ s. steps_at s t) v.items ≡ map (λ g. edge_tally (signs_on span.now t g)) edges.now) }
-    ensures fit { IfOk result (λ v. (parts : Ratio → List Ratio) → AllFit (parts span.now.lower) → AllFit (parts span.now.upper) → AllByRecursion (CutsFit parts) edges.now → AllByRecursion (λ s. ChangesFit parts s.changes.items) v.items) }
+    ensures fit { IfOk result (λ v. WhereEndsFit span.now (λ parts. AllByRecursion (CutsFit parts) edges.now → AllByRecursion (λ s. ChangesFit parts s.changes.items) v.items)) }
 {
     // A call of a method tells the proof what holds of every span.
     let _lower = span.lower();
@@ -336,7 +336,7 @@ pub fn membership(
 ) -> Result<Steps<Tally>, AllocError>
     requires placed { AllByRecursion (IsPlacedEdge span.now) edges.now }
     ensures values { IfOk result (λ s. (t : Ratio) → has span.now t ≡ true → steps_at s t ≡ tally_all (map (λ g. edge_tally (signs_on span.now t g)) edges.now)) }
-    ensures fit { IfOk result (λ s. (parts : Ratio → List Ratio) → AllFit (parts span.now.lower) → AllFit (parts span.now.upper) → AllByRecursion (CutsFit parts) edges.now → ChangesFit parts s.changes.items) }
+    ensures fit { IfOk result (λ s. WhereEndsFit span.now (λ parts. AllByRecursion (CutsFit parts) edges.now → ChangesFit parts s.changes.items)) }
 {
     let each = each_edge(alloc, span, edges)?;
     together(alloc, each.as_slice())

@@ -4,14 +4,12 @@ ghost use Rattle.std.specs.Prelude.{◌≡◌, ◌++◌, List, true, false, Matc
 ghost use Rattle.mob_frac.specs.Formula.{AllFit};
 ghost use Rattle.mob_span.specs.Flags.{same_bool};
 ghost use Rattle.mob_slice.specs.Slices.{IsSound};
-ghost use Rattle.mob_slice.specs.Cut.{slice_value, slice_parts};
-ghost use Rattle.mob_slice.specs.Lines.{plane_value_of, plane_parts_of};
+ghost use Rattle.mob_slice.specs.Cut.{slice_parts};
+ghost use Rattle.mob_slice.specs.Lines.{plane_parts_of};
 ghost use Rattle.mob_slice.specs.declared.slice.Slice.{Slice as SliceOf};
 ghost use Rattle.mob_slice.specs.declared.line.PlaneLine.{PlaneLine as PlaneLineOf};
-ghost use Rattle.mob_cells.specs.Kept.{AreKeptOn};
-ghost use Rattle.mob_cells.specs.Restricted.{kept_value};
 ghost use Rattle.mob_clip.specs.Steps.{steps_at, ChangesFit};
-ghost use Rattle.mob_clip.specs.Pieces.{is_known_in, some_span, left_span, right_span, left_piece, right_piece, IsOnSlice, AreAllOrNothing};
+ghost use Rattle.mob_clip.specs.Pieces.{is_known_in, some_span, left_span, right_span, IsOnSlice, AreAllOrNothing, IsPushedBefore, AreKeptInPlane};
 
 use crate::steps::Steps;
 use mob_cells::{append, listed};
@@ -78,7 +76,7 @@ fn push_before(
     requires sound { IsSound (λ c. c.from) (λ c. c.to) slice.now }
     requires holds { IsOnSlice slice.now piece }
     requires fits { AllFit (slice_parts plane_parts_of slice.now r.now) }
-    ensures pushed { MatchResult result (λ rest. (rest ≡ right_piece piece r.now included) × (v : List (SliceOf PlaneLineOf)) × (out.new.items ≡ out.old.items ++ v) × AreAllOrNothing slice.now keeps (left_piece piece r.now included) v) (λ e. e ≡ OpFault.NoMemory) }
+    ensures pushed { MatchResult result (IsPushedBefore slice.now keeps piece r.now included out.old.items out.new.items) (λ e. e ≡ OpFault.NoMemory) }
 {
     let span = match piece {
         Some(span) => span,
@@ -134,7 +132,7 @@ pub fn kept_on(
 ) -> Result<Vec<Slice<PlaneLine>>, OpFault>
     requires sound { IsSound (λ c. c.from) (λ c. c.to) slice.now }
     requires fit { ChangesFit (slice_parts plane_parts_of slice.now) steps.now.changes.items }
-    ensures kept { MatchResult result (λ v. AreKeptOn plane_value_of (λ c. c.from) (λ c. c.to) (λ t. kept_value want (is_known_in (steps_at steps.now t)) (slice_value plane_value_of slice.now t)) slice.now.span v.items) (λ e. e ≡ OpFault.NoMemory) }
+    ensures kept { MatchResult result (λ v. AreKeptInPlane want (λ t p. is_known_in (steps_at steps.now t)) slice.now slice.now.span v.items) (λ e. e ≡ OpFault.NoMemory) }
 {
     let mut out = Vec::new(alloc);
     let mut rest = Some(slice.span);

@@ -3,13 +3,12 @@
 ghost use Rattle.std.specs.Prelude.{◌≡◌, ◌↔◌, true, false, IsTrue, IfOk};
 ghost use Rattle.std.specs.List.{flat_map};
 ghost use Rattle.mob_slice.specs.Slices.{IsSound};
-ghost use Rattle.mob_slice.specs.Cut.{slice_value};
 ghost use Rattle.mob_slice.specs.Entries.{IsJudged};
 ghost use Rattle.mob_slice.specs.Lines.{plane_value_of};
-ghost use Rattle.mob_cells.specs.Kept.{IsKeptBy};
-ghost use Rattle.mob_cells.specs.Restricted.{IsRestricted, kept_value};
+ghost use Rattle.mob_cells.specs.Restricted.{IsRestricted};
 ghost use Rattle.mob_plane.specs.Membership.{inside};
 ghost use Rattle.mob_clip.specs.Polygons.{is_inside_edges, entries_of_edges, entries_of_polygon, IsEverInside};
+ghost use Rattle.mob_clip.specs.Pieces.{IsKeptInPlane};
 
 use crate::edges::edges_of;
 use crate::membership::membership;
@@ -29,7 +28,7 @@ fn edges_on(
     want: bool,
 ) -> Result<Vec<Slice<PlaneLine>>, OpFault>
     requires sound { IsSound (λ c. c.from) (λ c. c.to) slice.now }
-    ensures kept { IsKeptBy plane_value_of (λ c. c.from) (λ c. c.to) (λ v. v.items) (λ t. kept_value want (is_inside_edges edges.now (slice_value plane_value_of slice.now t)) (slice_value plane_value_of slice.now t)) slice.now.span (entries_of_edges edges.now slice.now) result }
+    ensures kept { IsKeptInPlane want (λ t p. is_inside_edges edges.now p) slice.now slice.now.span (entries_of_edges edges.now slice.now) result }
 {
     let placed = match placed_on(alloc, slice, edges) {
         Ok(placed) => placed,

@@ -10,7 +10,7 @@ ghost use Rattle.mob_slice.specs.Lines.{plane_parts_of};
 ghost use Rattle.mob_slice.specs.Entries.{IsFirst, OnFormula, IsPartFault, IsMadeBy};
 ghost use Rattle.mob_slice.specs.declared.formula.Formula.TheVariants.{F1, F3};
 ghost use Rattle.mob_cells.specs.Roots.{IsLevel, root_parts, roots_parts, as_list};
-ghost use Rattle.mob_clip.specs.Roots.{place, place_edge, listed_ends, edge_roots, IsBetweenEnds, IsPlacedEdge, placed_edge, CutsFit};
+ghost use Rattle.mob_clip.specs.Roots.{place, place_edge, listed_ends, edge_roots, IsBetweenEnds, IsPlacedEdge, parts_at_roots, ArePlacedOn};
 ghost use Rattle.mob_clip.specs.Polygons.{entries_of_edges};
 
 use crate::sides::{EdgeEnds, add, besides, turned};
@@ -164,7 +164,7 @@ fn all_fit(alloc: Global, slice: &Slice<PlaneLine>, roots: &[Frac]) -> Result<()
 // Whether the positions at the roots of all edges fit.
 fn roots_fit(alloc: Global, slice: &Slice<PlaneLine>, edges: &[EdgePlaced]) -> Result<(), OpFault>
     requires placed { AllByRecursion (IsPlacedEdge slice.now.span) edges.now }
-    ensures fits { MatchResult result (λ _. AllFit (flat_map (slice_parts plane_parts_of slice.now) (flat_map edge_roots edges.now))) (IsPartFault F1 (flat_map (slice_parts plane_parts_of slice.now) (flat_map edge_roots edges.now))) }
+    ensures fits { MatchResult result (λ _. AllFit (parts_at_roots slice.now edges.now)) (IsPartFault F1 (parts_at_roots slice.now edges.now)) }
 {
     let roots = match roots_of(alloc, edges) {
         Ok(roots) => roots,
@@ -181,7 +181,7 @@ pub fn placed_on(
     edges: &[(Point, Point)],
 ) -> Result<Vec<EdgePlaced>, OpFault>
     requires sound { IsSound (λ c. c.from) (λ c. c.to) slice.now }
-    ensures placed { MatchResult result (λ v. (v.items ≡ map (placed_edge slice.now) edges.now) × IsFirst (entries_of_edges edges.now slice.now) None × AllByRecursion (CutsFit (slice_parts plane_parts_of slice.now)) v.items) (OnFormula (λ g. IsFirst (entries_of_edges edges.now slice.now) (Some g))) }
+    ensures placed { MatchResult result (λ v. ArePlacedOn slice.now edges.now v.items) (OnFormula (λ g. IsFirst (entries_of_edges edges.now slice.now) (Some g))) }
 {
     let p = &slice.course.from;
     let q = &slice.course.to;

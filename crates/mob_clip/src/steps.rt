@@ -2,7 +2,7 @@
 
 ghost use Rattle.std.specs.Prelude.{◌≡◌, ◌<◌, ◌≤◌, ◌+◌, length, drop, map, List, IfOk};
 ghost use Rattle.mob_ratio.specs.Ratio.{Ratio};
-ghost use Rattle.mob_clip.specs.Steps.{steps_at, ChangesFit, IsNextChange};
+ghost use Rattle.mob_clip.specs.Steps.{steps_at, ChangesFit, IsNextChange, mixed_left, mixed_right, mixed_both};
 
 use mob_frac::Frac;
 use std::alloc::{AllocError, Global};
@@ -49,7 +49,7 @@ struct Met<T> {
 
 // A change of the first walk alone.
 fn take_left<T: Mix>(x: &Change<T>, right: &T, i: usize, j: usize) -> Met<T>
-    ensures met { result ≡ record { change = record { at = x.now.at; there = T.mix x.now.there right.now; behind = T.mix x.now.behind right.now }; left = x.now.behind; right = right.now; i = i; j = j } }
+    ensures met { result ≡ record { change = mixed_left T.mix x.now right.now; left = x.now.behind; right = right.now; i = i; j = j } }
 {
     Met {
         change: Change {
@@ -66,7 +66,7 @@ fn take_left<T: Mix>(x: &Change<T>, right: &T, i: usize, j: usize) -> Met<T>
 
 // A change of the second walk alone.
 fn take_right<T: Mix>(left: &T, y: &Change<T>, i: usize, j: usize) -> Met<T>
-    ensures met { result ≡ record { change = record { at = y.now.at; there = T.mix left.now y.now.there; behind = T.mix left.now y.now.behind }; left = left.now; right = y.now.behind; i = i; j = j } }
+    ensures met { result ≡ record { change = mixed_right T.mix left.now y.now; left = left.now; right = y.now.behind; i = i; j = j } }
 {
     Met {
         change: Change {
@@ -83,7 +83,7 @@ fn take_right<T: Mix>(left: &T, y: &Change<T>, i: usize, j: usize) -> Met<T>
 
 // A change of both, at one instant.
 fn take_both<T: Mix>(x: &Change<T>, y: &Change<T>, i: usize, j: usize) -> Met<T>
-    ensures met { result ≡ record { change = record { at = x.now.at; there = T.mix x.now.there y.now.there; behind = T.mix x.now.behind y.now.behind }; left = x.now.behind; right = y.now.behind; i = i; j = j } }
+    ensures met { result ≡ record { change = mixed_both T.mix x.now y.now; left = x.now.behind; right = y.now.behind; i = i; j = j } }
 {
     Met {
         change: Change {

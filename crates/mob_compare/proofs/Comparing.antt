@@ -7,7 +7,6 @@ use Rattle.mob_ratio.specs.Order.{before}
 use Rattle.mob_frac.specs.Formula.{AllFit}
 use Rattle.mob_span.specs.Span.{has, has_instant}
 use Rattle.mob_span.specs.Meets.{PieceOf}
-use Rattle.mob_span.proofs.Insides.{inside_self}
 use Rattle.mob_slice.specs.declared.formula.Formula.TheVariants.{F2}
 use Rattle.mob_slice.specs.Course.{IsCourse}
 use Rattle.mob_slice.specs.Comparison.{IsComparison, MayAsk, gap_parts}
@@ -26,13 +25,15 @@ use Rattle.mob_slice.specs.declared.formula.LookFault.{LookFault}
 use Rattle.mob_slice.specs.declared.formula.LookFault.TheVariants.{Passed as LookPassed, NoMemory as LookNoMemory}
 use Rattle.mob_slice.proofs.Cuts.{all_both, all_first, all_second}
 use Rattle.mob_slice.proofs.Firsts.{one_first}
+use Rattle.mob_lifted.proofs.OnOnePiece.{kept_behind, one_steady}
 use Rattle.mob_lifted.proofs.Options.{none_some}
 use Rattle.mob_lifted.proofs.Firsts.{first_joined}
 use Rattle.mob_lift.specs.Given.{IsGiven, on_sides}
 use Rattle.mob_cells.specs.declared.linear.Ends.{Ends}
 use Rattle.mob_cells.specs.Roots.{IsLevel}
 use Rattle.mob_cells.specs.Cells.{signs_of}
-use Rattle.mob_cells.specs.Kept.{IsKeptBy, entry_of_roots}
+use Rattle.mob_lifted.specs.OnPiece.{IsKeptBy}
+use Rattle.mob_cells.specs.Kept.{entry_of_roots}
 use Rattle.mob_cells.specs.Gaps.{gap_ends, related_by, piece_gaps, entries_of_ends}
 use Rattle.mob_cells.proofs.GapSigns.{by_gaps, gaps_level}
 use Rattle.mob_cells.proofs.SteadyEnds.{gap_none, steady_ends}
@@ -85,9 +86,7 @@ module _ {C B : Type 0} (value : C → Ratio → Ratio → Ratio → B) (lines :
       behind r h = inl (first_fit, inl (subst AllFit same_parts fits, subst (λ z. IsFirst (entry_of_roots p.span z ∷ []) r) (e ∙ same_ends) h))
 
       pub lines_given : {V : Type 0} (items : V → List (Slice (Steady Bool))) (q : Result V OpFault) → IsKeptBy steady_value steady_limit steady_limit items (λ t. Some (related_by rel (signs_of p.span fs t))) p.span (entry_of_roots p.span fs ∷ []) q → IsGiven steady_value steady_limit steady_limit items (on_sides value value (relation rel) p) p.span (entries_of_gaps value lines gaps p) q
-      lines_given items (Ok v) m = (record { ordered = m.0.ordered; inside = m.0.inside; values = λ t i. m.0.values t i ∙ ap Some (related t i) }, behind None m.1)
-      lines_given items (Err (Passed f)) m = behind (Some f) m
-      lines_given items (Err NoMemory) m = tt
+      lines_given items q m = kept_behind steady_value steady_limit steady_limit items (λ t. Some (related_by rel (signs_of p.span fs t))) (λ t. Some (on_sides value value (relation rel) p t)) p.span (entries_of_gaps value lines gaps p) (entry_of_roots p.span fs ∷ []) q (λ t i. ap Some (related t i)) behind m
 
 -- ---- steady courses
 module _ {C B : Type 0} {steady copies : Bool} {value : C → Ratio → Ratio → Ratio → B} {start end : C → B} {can_make : B → B → Type 0} {make : B → B → C} {continues : C → C → Ratio → Ratio → Ratio → Bool} {parts : C → Ratio → Ratio → Ratio → List Ratio} (laws : IsCourse steady copies value start end can_make make continues parts)
@@ -97,7 +96,7 @@ module _ {C B : Type 0} {steady copies : Bool} {value : C → Ratio → Ratio �
       (subst (λ z. IsFirst (entry_of_roots p.span z ∷ []) None) (sym (ap (λ h. gap_ends h (piece_gaps value gaps p p.span.upper)) (gap_none laws comparison s p p.span.lower))) (inl (tt, refl)))
 
   pub steady_given : (p : PieceOf (SideOf C B) (SideOf C B)) {V : Type 0} (items : V → List (Slice (Steady Bool))) (rel : Rel) (q : Result V OpFault) (b : Bool) → has_instant p.span ≡ true → ((t : Ratio) → b ≡ relation rel (side_at value p.left t) (side_at value p.right t)) → MatchResult q (λ v. items v ≡ record { span = p.span; course = record { value = b } } ∷ []) (λ e. e ≡ NoMemory) → IsGiven steady_value steady_limit steady_limit items (on_sides value value (relation rel) p) p.span (entries_of_gaps value parts gaps p) q
-  steady_given p items rel (Ok v) b k h m = (rw m (record { ordered = (record { some = k; level = λ n. refl }, tt, tt); inside = (inside_self p.span, tt); values = λ t i. rw i (ap Some (h t)) }), steady_first p)
+  steady_given p items rel (Ok v) b k h m = (rw m (one_steady (λ t. Some (on_sides value value (relation rel) p t)) p.span b k (λ t i. ap Some (h t))), steady_first p)
   steady_given p items rel (Err f) b k h m = rw m tt
 
   steady_fits : (ps : List (PieceOf (SideOf C B) (SideOf C B))) → IsFirst (flat_map (entries_of_gaps value parts gaps) ps) None

@@ -65,9 +65,6 @@ pub names_alone : (place : Option ℕ) (e : TypedTree) → names_only place e �
 names_alone (Some place) e h = λ other n. named_there place other e h n
 names_alone None e h = λ other. is_false (names other e) (named_nowhere other e h)
 
-pub only_are : (place : Option ℕ) (e : TExpr) → reads_only place (out-TExpr e).op ≡ true → names_only place (typed_of e) ≡ all_name_only place (trees (out-TExpr e).args.items)
-only_are place e h = ap (names_only place) (typed_is e) ∙ ap (λ b. b && all_name_only place (trees (out-TExpr e).args.items)) h
-
 -- ---- the nodes at a place
 
 pub nodes_are : (at : ℕ) (e : TExpr) → nodes_at at (typed_of e) ≡ nodes_here (place_of (typed_of e) == at) (typed_of e) ++ all_nodes_at at (trees (out-TExpr e).args.items)

@@ -1,21 +1,14 @@
 -- Trees and typed trees as they stand in memory, one level at a time.
-use Rattle.std.proofs.Common.{◌≡◌, ◌<◌, ◌≤◌, length, get_or, arith, ◌∙◌, refl, sym, ap, ℕ, List, [], ◌∷◌, map, Option, None, Bool, true, false, cond}
+use Rattle.std.proofs.Common.{◌≡◌, ◌<◌, ◌≤◌, length, get_or, arith, ◌∙◌, refl, sym, ap, ℕ, List, [], ◌∷◌, Option, None, Bool, true, false, cond}
 use Rattle.mob_ast.specs.declared.expression.Expr.{Expr}
 use Rattle.mob_ast.specs.declared.expression.Expr.TheViews.{out-Expr}
 use Rattle.mob_ast.specs.declared.expression.Expr.TheFolds.{fold_out-Expr}
 use Rattle.mob_ast.specs.Trees.{Tree, tree, tree_step, tree_of, trees_of}
-use Rattle.mob_typed.specs.declared.typed.TExpr.{TExpr}
-use Rattle.mob_typed.specs.Trees.{typed_of, type_of, types_of}
 use Rattle.mob_expression.specs.Expressions.{is_signed, digits_of, digits_in, signed_digits}
 use Rattle.mob_ast.specs.declared.expression.Node.TheVariants.{Sign}
 
 pub tree_is : (e : Expr) → tree_of e ≡ tree (out-Expr e).node (out-Expr e).place (trees_of (out-Expr e).args.items)
 tree_is = fold_out-Expr Tree tree_step
-
--- the types of typed expressions, one by one
-pub types_are : (ts : List TExpr) → types_of (map typed_of ts) ≡ map (λ t. type_of (typed_of t)) ts
-types_are [] = refl
-types_are (t ∷ ts) = ap (λ xs. type_of (typed_of t) ∷ xs) (types_are ts)
 
 pub digits_is : (e : Expr) → digits_of (tree_of e) ≡ signed_digits (out-Expr e).node (digits_in (trees_of (out-Expr e).args.items))
 unfolding digits_of

@@ -32,7 +32,7 @@ pub trait Work: Sync {
 
     /// The places at which work of this size is cut into pieces for so many workers, in order. Any
     /// places give the same outcome: they decide only how long each piece takes. The default makes 32
-    /// pieces for each worker, which differ in length by one at most.
+    /// pieces for each worker, about as long as each other.
     fn cuts(&self, alloc: Global, len: usize, workers: usize) -> Result<Vec<usize>, AllocError>
         requires size { len ≡ size_of self.now }
         requires some { 1 ≤ workers }

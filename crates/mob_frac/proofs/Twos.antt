@@ -5,7 +5,7 @@ use Rattle.std.proofs.lemmas.Nat.{shr_split, mod-pow-add, pow_pos, pow-add}
 use Rattle.std.proofs.lemmas.Nat.Bits.{bit_at_lowest, bit_at-suc, bit_at-trailing_zeros}
 use Rattle.std.proofs.lemmas.Nat.Gcd.{dvd_refl, IsGcd-swap, IsGcd-from_sub, IsGcd-from_mod, IsGcd-from_zero, same_from_IsGcd}
 use Rattle.std.proofs.lemmas.Bool.{cases_lt}
-use native.Mathlib.Nat.{dvd-mul_right_of_dvd, mul-le-mul_left}
+use native.Mathlib.Nat.{dvd-mul_right_of_dvd}
 use Rattle.mob_ratio.specs.Gcd.{gcd}
 use Rattle.mob_ratio.specs.GcdLaws.{gcd-is, gcd_comm, gcd-mul, gcd_one_right, gcd_le, dvd_of_coprime}
 use Rattle.mob_ratio.proofs.ProductLemmas.{coprime-mul, coprime-dvd}
@@ -26,9 +26,6 @@ odd_part_is n some fits =
     let t = trailing_zeros w64 n in
     let low : n % 2 ^ t ≡ 0 = low_zero t n h.2 in
     (h.1, (let e = shr_split n t in omega (arith, e, low)))
-
-pub shift_below : (n : ℕ) → 0 < n → n < 2 ^ 64 → trailing_zeros w64 n < 64
-shift_below n some fits = (bit_at-trailing_zeros w64 n some fits).0
 
 odd_two : (x : ℕ) → x % 2 ≡ 1 → gcd x 2 ≡ 1
 odd_two x h =
@@ -102,13 +99,6 @@ shifted i j m x y r a b some fits hx hy ea eb er em =
     let l : gcd a b ≤ b = gcd_le a b some in
     let below : gcd a b < 2 ^ 64 = omega (arith, l) in
     ap (λ (n : ℕ). n % 2 ^ 64) e ∙ mod-eq_of_lt below
-
--- a step makes the sum of the two numbers less
-pub falls : (x y rest k : ℕ) → x % 2 ≡ 1 → y % 2 ≡ 1 → rest * 2 ^ k ≡ (x - y) + (y - x) → min x y + rest < x + y
-falls x y rest k hx hy e =
-    let p : 0 < 2 ^ k = pow_pos k in
-    let l : rest * 1 ≤ rest * 2 ^ k = mul-le-mul_left rest p in
-    omega (arith, l, e)
 
 -- two equal numbers are their divisor
 pub gcd_same : (a b x y : ℕ) → x ≡ y → ((g : ℕ) → IsGcd x y g → IsGcd a b g) → x ≡ gcd a b

@@ -7,7 +7,7 @@ use Rattle.mob_ratio.specs.Ratio.{Ratio}
 use Rattle.mob_ratio.specs.Sign.{nil}
 use Rattle.mob_frac.specs.Fits.{Fits}
 use Rattle.mob_frac.specs.Formula.{AllFit, IsFormula, square_parts}
-use Rattle.mob_frac.proofs.Fitting.{all_both, all_first, all_second}
+use Rattle.mob_frac.proofs.Fitting.{all_both, all_second}
 use Rattle.mob_near.specs.Distances.{length_squared}
 use Rattle.mob_gaps.specs.Gaps.{part_fits, all_fit, exact_or_nil}
 
@@ -55,9 +55,3 @@ pub behind_both : {E : Type 0} (p q : List Ratio) (gx gy x y : Ratio) (r : Resul
 behind_both p q gx gy x y r h k i =
     subst (λ z. IsFormula (p ++ (q ++ square_parts z gy)) (length_squared z gy) r) h.0
     (subst (λ z. IsFormula (p ++ (q ++ square_parts x z)) (length_squared x z) r) k.0 (behind p q (square_parts x y) (length_squared x y) r h.1 k.1 i))
-
-pub first_unfit : (p q s : List Ratio) → (AllFit p → ⊥) → AllFit (p ++ (q ++ s)) → ⊥
-first_unfit p q s h all = h (all_first p (q ++ s) all)
-
-pub second_unfit : (p q s : List Ratio) → (AllFit q → ⊥) → AllFit (p ++ (q ++ s)) → ⊥
-second_unfit p q s h all = h (all_first q s (all_second p (q ++ s) all))

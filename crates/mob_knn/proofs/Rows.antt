@@ -1,6 +1,5 @@
 -- The approach of one row.
-use Rattle.std.proofs.lemmas.Option.{slice_get_within, slice_get_read}
-use Rattle.std.proofs.Common.{◌≡◌, ◌<◌, ◌≤◌, length, get_or, arith, ℕ, List, Option, Some, None, refl, sym, ap, ◌∙◌, subst}
+use Rattle.std.proofs.Common.{◌≡◌, ℕ, List, Option, Some, None, sym, ap, ◌∙◌, subst}
 use Rattle.std.specs.Prelude.{Result, Ok, Err, IfOk, IfErr, unwrap_or}
 use Rattle.std.specs.List.{flat_map}
 use Rattle.mob_ratio.specs.Ratio.{Ratio}
@@ -46,20 +45,3 @@ pub only_unfit : (trips : List (Option Trip)) (asked : Asked) (row : ℕ) (trip 
     → IfErr r (λ p. HasUnfitPart trips asked row p.formula)
 only_unfit trips asked row trip (Ok o) h k = tt
 only_unfit trips asked row trip (Err e) h k = (trip, h, k)
-
-pub only_missing : (trips : List (Option Trip)) (asked : Asked) (row : ℕ) → ((trip : Trip) → IsTrip trips row trip → ⊥) → (m : Ratio) → HasApproach trips asked row m → ⊥
-only_missing trips asked row h m i = h i.0 i.1
-
--- what stands at an index
-pub no_trip_past : (trips : List (Option Trip)) (row : ℕ) → length trips ≤ row → (trip : Trip) → IsTrip trips row trip → ⊥
-no_trip_past trips row h trip k = let lt = slice_get_within trips row (Some trip) k in absurd (omega arith)
-
-pub trip_read : (trips : List (Option Trip)) (row : ℕ) (trip : Trip) (o : Option Trip) → row < length trips → o ≡ get_or trips row o → o ≡ Some trip → IsTrip trips row trip
-trip_read trips row trip o lt e f = slice_get_read trips (length trips) row o refl lt e ∙ ap Some f
-
-pub no_trip_read : (trips : List (Option Trip)) (row : ℕ) (o : Option Trip) → row < length trips → o ≡ get_or trips row o → o ≡ None → (trip : Trip) → IsTrip trips row trip → ⊥
-unfolding inner
-no_trip_read trips row o lt e f trip k = none_some trip (sym f ∙ ap inner (sym (slice_get_read trips (length trips) row o refl lt e) ∙ k))
-  where
-    none_some : (t : Trip) → None ≡ Some t → ⊥
-    none_some t e = cc

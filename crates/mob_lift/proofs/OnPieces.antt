@@ -1,12 +1,10 @@
 -- What an operator gives on one piece, where it gives one slice.
 use Rattle.std.specs.Prelude.{◌≡◌, true, List, [], ◌∷◌, Some, None, Result, Ok, Err, MatchResult, IfErr, refl}
 use Rattle.std.specs.List.{flat_map}
-use Rattle.std.proofs.Common.{ap, sym, ◌∙◌, subst}
+use Rattle.std.proofs.Common.{ap, sym, ◌∙◌}
 use Rattle.mob_ratio.specs.Ratio.{Ratio}
-use Rattle.mob_span.specs.Span.{SpanOf, has, has_instant}
-use Rattle.mob_span.specs.Neighbours.{is_inside}
+use Rattle.mob_span.specs.Span.{SpanOf, has_instant}
 use Rattle.mob_span.specs.Meets.{PieceOf}
-use Rattle.mob_span.proofs.Insides.{inside_self}
 use Rattle.mob_slice.specs.Operands.{steady_value, steady_limit}
 use Rattle.mob_slice.specs.Sides.{SideOf, side_at, HasValues}
 use Rattle.mob_slice.specs.Entries.{Entry, IsFirst, IsJudged}
@@ -15,16 +13,13 @@ use Rattle.mob_slice.specs.declared.steady.Steady.{Steady}
 use Rattle.mob_slice.specs.declared.formula.Formula.{Formula}
 use Rattle.mob_slice.specs.declared.formula.OpFault.{OpFault}
 use Rattle.mob_slice.specs.declared.formula.OpFault.TheVariants.{Passed, NoMemory}
+use Rattle.mob_lifted.proofs.OnOnePiece.{one_kept, one_steady}
 use Rattle.mob_lifted.proofs.Options.{none_some}
 use Rattle.mob_lift.specs.Given.{AreOn, IsGiven, on_sides}
 
 -- one slice on a span, as a list
 pub one_on : {C B : Type 0} (value : C → Ratio → Ratio → Ratio → B) (start end : C → B) (f : Ratio → B) (r : SpanOf) (s : Slice C) (slices : List (Slice C)) → slices ≡ s ∷ [] → HasValues value start end f r s → AreOn value start end f r slices
-one_on value start end f r s slices e h = record {
-  ordered = rw e (h.sound, tt, tt);
-  inside = rw e (subst (λ z. is_inside r z ≡ true) (sym h.on) (inside_self r), tt);
-  values = λ t k. let on : has s.span t ≡ true = subst (λ z. has z t ≡ true) (sym h.on) k in rw e (rw on (ap Some (h.same t k)));
-}
+one_on value start end f r s slices e h = rw e (one_kept value start end (λ t. Some (f t)) f r s h (λ t k. refl))
 
 -- what one slice as a list says of a piece
 pub on_one : {C B V : Type 0} (value : C → Ratio → Ratio → Ratio → B) (start end : C → B) (items : V → List (Slice C)) (f : Ratio → B) (span : SpanOf) (entries : List Entry) (r : Result V OpFault) (made c : C) → c ≡ made
@@ -38,14 +33,8 @@ on_one value start end items f span entries (Err g) made c e h k m = rw m tt
 pub step_given : {A X B Y Z V : Type 0} (value : A → Ratio → Ratio → Ratio → X) (value' : B → Ratio → Ratio → Ratio → Y) (p : PieceOf (SideOf A X) (SideOf B Y)) (x : X) (y : Y) → ((t : Ratio) → x ≡ side_at value p.left t) → ((t : Ratio) → y ≡ side_at value' p.right t)
     → (op : X → Y → Z) (items : V → List (Slice (Steady Z))) (z : Z) (r : Result V OpFault) → has_instant p.span ≡ true → z ≡ op x y
     → MatchResult r (λ v. items v ≡ record { span = p.span; course = record { value = z } } ∷ []) (λ e. e ≡ NoMemory) → IsGiven steady_value steady_limit steady_limit items (on_sides value value' op p) p.span [] r
-step_given value value' p x y left right op items z (Ok v) s e m = (
-  record {
-    ordered = rw m (record { some = s; level = λ n. refl }, tt, tt);
-    inside = rw m (inside_self p.span, tt);
-    values = λ t k. rw m (rw k (ap Some (e ∙ ap (λ a. op a y) (left t) ∙ ap (λ b. op (side_at value p.left t) b) (right t))));
-  },
-  refl,
-)
+step_given value value' p x y left right op items z (Ok v) s e m =
+    (rw m (one_steady (λ t. Some (on_sides value value' op p t)) p.span z s (λ t k. ap Some (e ∙ ap (λ a. op a y) (left t) ∙ ap (λ b. op (side_at value p.left t) b) (right t)))), refl)
 step_given value value' p x y left right op items z (Err g) s e m = rw m tt
 
 no_first : {P : Type 0} (f : Formula) (ps : List P) → IsFirst (flat_map (λ p. []) ps) (Some f) → ⊥

@@ -1,3 +1,4 @@
 pub mod Making
+pub mod OnOnePiece
 pub mod Options
 pub mod Firsts

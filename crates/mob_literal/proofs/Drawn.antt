@@ -4,7 +4,7 @@ use Rattle.std.specs.Prelude.{IsTrue, ◌↔◌}
 use Rattle.mob_ratio.specs.Ratio.{Ratio}
 use Rattle.mob_ratio.specs.Order.{before}
 use Rattle.mob_slice.specs.Course.{IsCourse}
-use Rattle.mob_slice.specs.CourseOf.{CourseOf, course_of}
+use Rattle.mob_slice.specs.CourseOf.{CourseOf, plain_course}
 use Rattle.mob_literal.specs.Slices.{drawn, arrives}
 
 -- the laws that the texts of a course need
@@ -22,7 +22,7 @@ pub record IsLawful {C B : Type 0} (course : CourseOf C B) : Type 0 where
   pub one_end : course.steady ≡ true → (c : C) → course.start c ≡ course.end c
 
 pub lawful : {C B : Type 0} {steady copies : Bool} {value : C → Ratio → Ratio → Ratio → B} {start end : C → B} {can_make : B → B → Type 0} {make : B → B → C} {continues : C → C → Ratio → Ratio → Ratio → Bool} {parts : C → Ratio → Ratio → Ratio → List Ratio} (is_same : B → B → Bool)
-    → ((a b : B) → IsTrue (is_same a b) ↔ (a ≡ b)) → IsCourse steady copies value start end can_make make continues parts → IsLawful (course_of steady value start end make continues is_same)
+    → ((a b : B) → IsTrue (is_same a b) ↔ (a ≡ b)) → IsCourse steady copies value start end can_make make continues parts → IsLawful (plain_course steady value start end make continues is_same)
 lawful is_same exact laws = record {
   exact = exact;
   at_lower = laws.at_lower;

@@ -7,7 +7,7 @@ use Rattle.mob_normal.proofs.Unique.{unique, OneList}
 use Rattle.mob_numeral.specs.Verdict.{HasOneReading}
 use Rattle.mob_numeral.proofs.Settled.{settled}
 use Rattle.mob_slice.specs.declared.slice.Slice.{Slice}
-use Rattle.mob_slice.specs.CourseOf.{CourseOf, course_of}
+use Rattle.mob_slice.specs.CourseOf.{CourseOf, plain_course}
 use Rattle.mob_ratio.specs.Ratio.{Ratio}
 use Rattle.mob_slice.specs.Slices.{value_at}
 use Rattle.mob_slice.specs.Course.{IsCourse}
@@ -39,7 +39,7 @@ one_meaning course one step (Some qs) v w a b = one_defined course one step qs v
 pub one_reading : {C B : Type 0} (day : ℤ) {steady copies : Bool} {moves : C → Ratio → Ratio → Ratio → B} {start end : C → B} {can_make : B → B → Type 0} {make : B → B → C} {continues : C → C → Ratio → Ratio → Ratio → Bool} {parts : C → Ratio → Ratio → Ratio → List Ratio} (is_same : B → B → Bool)
     → IsCourse steady copies moves start end can_make make continues parts
     → {value : List ℕ → Option B → Type 0} {reader : TextReader (Option B)} {F : List ℕ → Type 0} → IsValueText value reader F → (has_srid : Bool) → (has_value : B → Bool)
-    → HasOneReading (literals day has_srid value has_value (course_of steady moves start end make continues is_same))
+    → HasOneReading (literals day has_srid value has_value (plain_course steady moves start end make continues is_same))
 one_reading {C} {B} day {steady} {copies} {moves} {start} {end} {can_make} {make} {continues} {parts} is_same laws {value} {reader} {F} law has_srid has_value text =
-    let course = course_of steady moves start end make continues is_same in
+    let course = plain_course steady moves start end make continues is_same in
     settled (literals day has_srid value has_value course) text (one_value (temporal_exact (admitted steady has_srid) (noted_entry day law)) refl text) (λ s. one_meaning course (λ v w a b e. unique laws v w a b e) (is_step steady s.says_step) (fitting_all s.sequences))

@@ -8,7 +8,7 @@ use Rattle.mob_ratio.specs.Order.{before, same}
 use Rattle.mob_language.specs.Language.{Text}
 use Rattle.mob_slice.specs.declared.slice.Slice.{Slice}
 use Rattle.mob_slice.specs.declared.steady.Steady.{Steady}
-use Rattle.mob_slice.specs.CourseOf.{course_of, steady_course}
+use Rattle.mob_slice.specs.CourseOf.{plain_course, steady_course}
 use Rattle.mob_slice.specs.Sameness.{same_bytes}
 use Rattle.mob_ast.specs.declared.types.SqlType.TheVariants as sql
 use Rattle.mob_value.specs.declared.value.Value.TheVariants as value
@@ -78,7 +78,7 @@ a_point_of_others = refl
 -- ---- courses that are not steady, each given by its two ends
 
 abbrev ends : Style (Text × Text) Text
-ends = record { course = course_of false (λ c l u t. c.0) (λ c. c.0) (λ c. c.1) (λ a b. (a, b)) (λ c d l m u. false) same_bytes; value_text = λ v. v; moment_text = λ t. codes "day " ++ (48 + nat_abs t.num) ∷ [] }
+ends = record { course = plain_course false (λ c l u t. c.0) (λ c. c.0) (λ c. c.1) (λ a b. (a, b)) (λ c d l m u. false) same_bytes; value_text = λ v. v; moment_text = λ t. codes "day " ++ (48 + nat_abs t.num) ∷ [] }
 
 abbrev from : Bool → Ratio → Ratio → Bool → Text → Text → Slice (Text × Text)
 from lower_inc lower upper upper_inc v w = record { span = record { lower = lower; upper = upper; lower_inc = lower_inc; upper_inc = upper_inc }; course = (v, w) }

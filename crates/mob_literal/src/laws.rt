@@ -53,7 +53,7 @@ pub fn one_reading()
 
 /// So has a literal of a type of values over any course.
 pub fn one_reading_over_every_course<T: WrittenValue, C: Course<Base = T::Base>>()
-    ensures one { (day : ℤ) → HasOneReading (literals day T.HAS_SRID T.shape T.has_value (course_of C.STEADY C.value_of C.start_of C.end_of C.make C.is_continued T.Base.is_same)) }
+    ensures one { (day : ℤ) → HasOneReading (literals day T.HAS_SRID T.shape T.has_value (course_of C.Course T.Base.is_same)) }
 {}
 
 /// What is printed of a step value is read again as that value, where its instants lie in the years
@@ -75,11 +75,11 @@ pub fn literals_read_again<T: WrittenValue, C: Course<Base = T::Base>>()
 where
     T::Base: Printed,
     ensures again { (day : ℤ) (v : List (Slice C)) (before : List Prefix) (front : Text)
-        → IsReadable (course_of C.STEADY C.value_of C.start_of C.end_of C.make C.is_continued T.Base.is_same) day T.Base.text (IsReadAgain T.shape T.Base.text T.has_value (admitted C.STEADY T.HAS_SRID)) v
+        → IsReadable (course_of C.Course T.Base.is_same) day T.Base.text (IsReadAgain T.shape T.Base.text T.has_value (admitted C.STEADY T.HAS_SRID)) v
         → ArePrefixes (admitted C.STEADY T.HAS_SRID) front before
-        → (says_step before ≡ true → AreLevel (course_of C.STEADY C.value_of C.start_of C.end_of C.make C.is_continued T.Base.is_same) v)
-        → Lit (literals day T.HAS_SRID T.shape T.has_value (course_of C.STEADY C.value_of C.start_of C.end_of C.make C.is_continued T.Base.is_same))
-        (front ++ moving_text (style_of (course_of C.STEADY C.value_of C.start_of C.end_of C.make C.is_continued T.Base.is_same) T.Base.text day) v) (Ok v) }
+        → (says_step before ≡ true → AreLevel (course_of C.Course T.Base.is_same) v)
+        → Lit (literals day T.HAS_SRID T.shape T.has_value (course_of C.Course T.Base.is_same))
+        (front ++ moving_text (style_of (course_of C.Course T.Base.is_same) T.Base.text day) v) (Ok v) }
 {}
 
 /// What is printed of a value of a type is read again as that value, under the same conditions on

@@ -22,7 +22,7 @@ pub fn slices_of<C: Course + Drop>(
 where
     C::Base: BaseValue + Drop,
     requires moves { step ≡ false → C.STEADY ≡ false }
-    ensures made { IfOk result (λ o. option_map (λ slices. slices.items) o ≡ made (course_of C.STEADY C.value_of C.start_of C.end_of C.make C.is_continued C.Base.is_same) step false lower_inc instants.items upper_inc) }
+    ensures made { IfOk result (λ o. option_map (λ slices. slices.items) o ≡ made (course_of C.Course C.Base.is_same) step false lower_inc instants.items upper_inc) }
 {
     let mut slices = Vec::new(alloc);
     let mut rest = instants.into_iter();

@@ -117,7 +117,7 @@ fn sequence_slices<T: WrittenValue, C: Course<Base = T::Base> + Drop>(
     sequence: Sequence<Written<T::Base>>,
 ) -> Result<Option<Vec<Slice<C>>>, AllocError>
     requires moves { step ≡ false → C.STEADY ≡ false }
-    ensures made { IfOk result (λ o. option_map (λ v. v.items) o ≡ made_sequence T.has_value (course_of C.STEADY C.value_of C.start_of C.end_of C.make C.is_continued T.Base.is_same) step sequence) }
+    ensures made { IfOk result (λ o. option_map (λ v. v.items) o ≡ made_sequence T.has_value (course_of C.Course T.Base.is_same) step sequence) }
 {
     let Sequence {
         lower_inc,
@@ -137,7 +137,7 @@ fn all_slices<T: WrittenValue, C: Course<Base = T::Base> + Drop>(
     sequences: Vec<Sequence<Written<T::Base>>>,
 ) -> Result<Option<Vec<Slice<C>>>, AllocError>
     requires moves { step ≡ false → C.STEADY ≡ false }
-    ensures made { IfOk result (λ o. option_map (λ v. v.items) o ≡ made_all T.has_value (course_of C.STEADY C.value_of C.start_of C.end_of C.make C.is_continued T.Base.is_same) step sequences.items) }
+    ensures made { IfOk result (λ o. option_map (λ v. v.items) o ≡ made_all T.has_value (course_of C.Course T.Base.is_same) step sequences.items) }
 {
     let mut all = Vec::new(alloc);
     for sequence in sequences {
@@ -210,7 +210,7 @@ fn literal_slices<T: WrittenValue, C: Course<Base = T::Base> + Drop>(
     alloc: Global,
     literal: Literal<Written<T::Base>>,
 ) -> Result<Option<Vec<Slice<C>>>, AllocError>
-    ensures made { IfOk result (λ o. option_map (λ v. v.items) o ≡ made_all T.has_value (course_of C.STEADY C.value_of C.start_of C.end_of C.make C.is_continued T.Base.is_same) (is_step_in C.STEADY literal.says_step) literal.sequences) }
+    ensures made { IfOk result (λ o. option_map (λ v. v.items) o ≡ made_all T.has_value (course_of C.Course T.Base.is_same) (is_step_in C.STEADY literal.says_step) literal.sequences) }
 {
     let Literal {
         says_step,
@@ -233,7 +233,7 @@ pub fn read_moving<T: WrittenValue, C: Course<Base = T::Base> + Drop>(
     text: &str,
     epoch: &Epoch,
 ) -> Result<Moving<C>, ReadText>
-    ensures reading { Lit (literals epoch.now T.HAS_SRID T.shape T.has_value (course_of C.STEADY C.value_of C.start_of C.end_of C.make C.is_continued T.Base.is_same)) text.now result }
+    ensures reading { Lit (literals epoch.now T.HAS_SRID T.shape T.has_value (course_of C.Course T.Base.is_same)) text.now result }
 {
     let written = match read_written::<T>(alloc, text, epoch, C::STEADY) {
         Ok(written) => written,

@@ -14,12 +14,11 @@ use crate::loading::Loading;
 use crate::program::LoadEnd;
 use mob_ast::{Kind, Refusal, SqlType};
 use mob_catalog::{LoadFault, constant, read_table};
-use mob_list::items::Items;
 use mob_list::text::Text;
 use mob_outside::Files;
 use mob_scalar::Epoch;
 use mob_typed::ConstText;
-use mob_value::Value;
+use mob_value::{Rows, Value};
 use std::alloc::Global;
 
 // The most rows that a script puts into one table.
@@ -129,7 +128,7 @@ fn rows_of_bytes(
     columns: Option<&[(Text, SqlType)]>,
     epoch: &Epoch,
     room: u32,
-) -> Result<Items<Items<Value>>, LoadFault>
+) -> Result<Rows<Value>, LoadFault>
     requires narrow { length (columns_or_none (option_map (λ c. c.now) columns)) ≤ 64 }
     ensures table { IfOk result (IsTable (columns_or_none (option_map (λ c. c.now) columns.entry)) epoch.now room bytes.now) }
     ensures first_fault { IfErr result (OnRefused (FileFails (columns_or_none (option_map (λ c. c.now) columns.entry)) epoch.now room bytes.now)) }
@@ -144,7 +143,7 @@ fn rows_of_bytes(
 }
 
 // Puts the rows of a file into the table of this number.
-fn put_rows(loading: &mut Loading<'_>, table: u32, rows: Items<Items<Value>>) -> Result<(), LoadEnd>
+fn put_rows(loading: &mut Loading<'_>, table: u32, rows: Rows<Value>) -> Result<(), LoadEnd>
     requires fits { loaded_row_count (loaded_of loading.old) table + length rows < 2 ^ 32 }
     ensures put { OnOk result (loaded_of loading.new ≡ with_file (loaded_of loading.old) table rows) }
     ensures memory { IfErr result (λ e. e ≡ NoMemory) }

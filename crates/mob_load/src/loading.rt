@@ -3,7 +3,7 @@
 use mob_ast::SqlType;
 use mob_list::items::Items;
 use mob_list::text::Text;
-use mob_value::Value;
+use mob_value::{Rows, Value};
 
 /// What was read so far.
 #[derive(Drop)]
@@ -15,5 +15,5 @@ pub struct Loading<'a> {
     /// How many rows were put into each table.
     pub rows: Vec<u32>,
     /// The rows of the files.
-    pub files: Items<Items<Items<Value>>>,
+    pub files: Items<Rows<Value>>,
 }

@@ -4,7 +4,7 @@ ghost use Rattle.std.specs.Prelude.{◌≡◌};
 use mob_ast::{Kind, Refusal};
 use mob_list::items::Items;
 use mob_list::text::Text;
-use mob_value::Value;
+use mob_value::{Rows, Value};
 use std::alloc::{AllocError, AllocFailed};
 
 /// What a script reads before it runs.
@@ -13,7 +13,7 @@ pub struct Program {
     /// The values of its literals, in written order.
     pub values: Items<Value>,
     /// The rows of the files of its COPY statements, in written order.
-    pub files: Items<Items<Items<Value>>>,
+    pub files: Items<Rows<Value>>,
 }
 
 /// Why a script is not loaded.

@@ -18,7 +18,7 @@ use mob_scalar::Epoch;
 use mob_slice::{Moving, Operand, PlaneLine};
 use mob_steps::Steps;
 use mob_trips::{id_text, split_rows};
-use mob_value::Value;
+use mob_value::{Rows, Value};
 use std::alloc::{AllocError, Global};
 use std::marker::Brand;
 use std::sync::ledger::{Blank, Ledger};
@@ -141,7 +141,7 @@ fn text_of(
 pub fn near_text(
     alloc: Global,
     settings: &NearSettings,
-    rows: Items<Items<Value>>,
+    rows: Rows<Value>,
 ) -> Result<Vec<u8>, NearFault>
     requires few { length rows ≤ 1000000 }
     ensures writes { IfOk result (λ t. NearWrites settings.now rows t.items) }

@@ -77,10 +77,6 @@ over_exact : Exact (Means Over (behind (codes "/") digits)) over_at (Stops conti
 unfolding over_at
 over_exact = means_exact Over (means_exact (λ (v : Unit × Figures). v.1) (after_any (word_exact (codes "/")) digits_exact))
 
-point_exact : Exact (behind (codes ".") digits) point_at (Stops continues)
-unfolding point_at
-point_exact = means_exact (λ (v : Unit × Figures). v.1) (after_any (word_exact (codes ".")) digits_exact)
-
 -- a point, or what digits go on with
 point_on : ℕ → Bool
 point_on c = is_digit c || nat_eq c 46

@@ -1,6 +1,6 @@
 -- Splitting off a run, as a loop does.
-use Rattle.std.proofs.Common.{◌≡◌, ℕ, ◌+◌, ◌<◌, [], ◌∷◌, ◌++◌, length, get_or, take, drop, Bool, true, false, refl, sym, ap, ◌∙◌, append_assoc, add-one, drop-cons}
-use Rattle.std.proofs.lemmas.List.{append-nil, take_more}
+use Rattle.std.proofs.Common.{◌≡◌, ℕ, ◌+◌, ◌<◌, [], ◌∷◌, ◌++◌, length, get_or, take, drop, Bool, true, refl, sym, ap, ◌∙◌, append_assoc, add-one, drop-cons}
+use Rattle.std.proofs.lemmas.List.{take_more}
 use Rattle.mob_language.specs.Language.{Text}
 use Rattle.mob_language.specs.Readers.{split_while}
 
@@ -11,9 +11,6 @@ IsSplit test text i = split_while test text ≡ (take i text ++ (split_while tes
 many_step : (test : ℕ → Bool) (c : ℕ) (cs : Text) → test c ≡ true → split_while test (c ∷ cs) ≡ (c ∷ (split_while test cs).0, (split_while test cs).1)
 many_step test c cs e = rw e refl
 
-many_stop : (test : ℕ → Bool) (c : ℕ) (cs : Text) → test c ≡ false → split_while test (c ∷ cs) ≡ ([], c ∷ cs)
-many_stop test c cs e = rw e refl
-
 pub split_more : (test : ℕ → Bool) (text : Text) (i : ℕ) → i < length text → test (get_or text i 0) ≡ true → IsSplit test text i → IsSplit test text (i + 1)
 split_more test text i lt e so_far =
     let c = get_or text i 0 in
@@ -21,15 +18,3 @@ split_more test text i lt e so_far =
     let grows : take (i + 1) text ≡ take i text ++ c ∷ [] = take_more text i 0 lt in
     let one = ap (split_while test) cut ∙ many_step test c (drop (i + 1) text) e in
     so_far ∙ rw (one, grows) (ap (λ (t : Text). (t, (split_while test (drop (i + 1) text)).1)) (sym (append_assoc (take i text) (c ∷ []) (split_while test (drop (i + 1) text)).0)))
-
-pub split_here : (test : ℕ → Bool) (text : Text) (i : ℕ) → i < length text → test (get_or text i 0) ≡ false → IsSplit test text i → split_while test text ≡ (take i text, drop i text)
-split_here test text i lt e so_far =
-    let c = get_or text i 0 in
-    let cut : drop i text ≡ c ∷ drop (i + 1) text = rw (add-one, drop-cons text i 0 lt) refl in
-    let one : split_while test (drop i text) ≡ ([], drop i text) = ap (split_while test) cut ∙ many_stop test c (drop (i + 1) text) e ∙ ap (λ (t : Text). ([], t)) (sym cut) in
-    so_far ∙ rw one (ap (λ (t : Text). (t, drop i text)) (append-nil (take i text)))
-
-pub split_end : (test : ℕ → Bool) (text : Text) (i : ℕ) → drop i text ≡ [] → IsSplit test text i → split_while test text ≡ (take i text, drop i text)
-split_end test text i e so_far =
-    let one : split_while test (drop i text) ≡ ([], drop i text) = rw e refl in
-    so_far ∙ rw one (ap (λ (t : Text). (t, drop i text)) (append-nil (take i text)))

@@ -56,12 +56,6 @@ pub true_time_answers : (a : Value) → IsValueOf sql.TBool a → AnswersOne op.
 true_time_answers a h = by_type sql.TBool (AnswersOne op.WhenTrue sql.SpanSet IsTrueTime)
     (λ v e. null_answer op.WhenTrue sql.SpanSet (Null ∷ []) v (inl refl) e) (λ m v g. true_made m v g.0 g.1 g.2) a h
 
--- whether a type has boxes
-abbrev pub is_boxed : SqlType → Bool
-is_boxed sql.Box = true
-is_boxed sql.TPoint = true
-is_boxed _ = false
-
 abbrev Overlaps : Value → Value → Type 0
 Overlaps a b = (v : Value) → IsOverlap a b v → IsAnswer op.Overlap sql.Bool (a ∷ b ∷ []) v
 

@@ -1,10 +1,10 @@
-// What each piece of work passes as it starts.
+// What each worker passes as it starts.
 
-/// A gate that each piece of a job passes as it starts. It answers nothing, so no result can depend
+/// A gate that each worker passes as it starts. It answers nothing, so no result can depend
 /// on it.
 pub trait Gate: Sync {
-    /// Piece number `piece`, counted from 0, starts now.
-    fn enter(&self, piece: usize);
+    /// Worker number `worker`, counted from 0, starts now.
+    fn enter(&self, worker: usize);
 }
 
 /// The gate that does nothing.
@@ -12,5 +12,5 @@ pub trait Gate: Sync {
 pub struct OpenGate;
 
 impl Gate for OpenGate {
-    fn enter(&self, _piece: usize) {}
+    fn enter(&self, _worker: usize) {}
 }

@@ -1,5 +1,5 @@
 //! The outside of a run: where its script comes from, the files that it reads, where its answers
-//! and its notes go, and the gate that each piece of its work passes. Whole texts are read and put
+//! and its notes go, and the gate that each of its workers passes. Whole texts are read and put
 //! through the calls of these ends.
 //!
 //! Each end counts its faults, and a call fails only where the count rose. What an end holds or has

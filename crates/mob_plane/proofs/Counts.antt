@@ -46,18 +46,12 @@ pub record IsCounting (p : Point) (all rest : List (Point × Point)) (first now 
   pub fit : AllFit (turns_parts p rest) → AllFit (turns_parts p all)
   pub fail : AllFit (turns_parts p all) → AllFit (turns_parts p rest)
 
-pub counting_start : (p : Point) (all rest : List (Point × Point)) (t : Tally) → rest ≡ all → IsCounting p all rest t t
-counting_start p all rest t e = rw e (record { told = refl; fit = λ h. h; fail = λ h. h })
-
 pub counting_step : (p : Point) (all rest later : List (Point × Point)) (a b : Point) (first now next : Tally) → rest ≡ (a, b) ∷ later → next ≡ with_edge now (signs_at p a b) → AllFit (turn_parts a b p) → IsCounting p all rest first now → IsCounting p all later first next
 counting_step p all rest later a b first now next e n f m = rw n (record {
   told = subst (λ r. counted now (signs_to r p) ≡ counted first (signs_to all p)) e m.told;
   fit = λ h. m.fit (subst (λ r. AllFit (turns_parts p r)) (sym e) (all_both (turn_parts a b p) (turns_parts p later) f h));
   fail = λ h. all_second (turn_parts a b p) (turns_parts p later) (subst (λ r. AllFit (turns_parts p r)) e (m.fail h));
 })
-
-pub counting_fails : (p : Point) (all rest later : List (Point × Point)) (a b : Point) (first now : Tally) → rest ≡ (a, b) ∷ later → (¬ AllFit (turn_parts a b p)) → IsCounting p all rest first now → ¬ AllFit (turns_parts p all)
-counting_fails p all rest later a b first now e n m h = n (all_first (turn_parts a b p) (turns_parts p later) (subst (λ r. AllFit (turns_parts p r)) e (m.fail h)))
 
 pub counting_ends : (p : Point) (all rest : List (Point × Point)) (first now : Tally) → rest ≡ [] → IsCounting p all rest first now → (now ≡ counted first (signs_to all p)) × AllFit (turns_parts p all)
 counting_ends p all rest first now e m = (subst (λ r. counted now (signs_to r p) ≡ counted first (signs_to all p)) e m.told, m.fit (subst (λ r. AllFit (turns_parts p r)) (sym e) tt))

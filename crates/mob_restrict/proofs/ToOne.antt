@@ -4,8 +4,6 @@ use Rattle.std.specs.List.{AllByRecursion}
 use Rattle.std.proofs.Common.{ap, sym, ◌∙◌, subst, inl, inr}
 use Rattle.mob_ratio.specs.Ratio.{Ratio}
 use Rattle.mob_frac.specs.Formula.{AllFit}
-use Rattle.mob_span.specs.Span.{has}
-use Rattle.mob_span.proofs.Insides.{inside_self}
 use Rattle.mob_span.specs.Flags.{same_bool}
 use Rattle.mob_slice.specs.declared.formula.Formula.TheVariants.{F2}
 use Rattle.mob_slice.specs.Course.{IsCourse}
@@ -27,11 +25,13 @@ use Rattle.mob_slice.specs.declared.formula.LookFault.TheVariants.{Passed as Loo
 use Rattle.mob_cells.specs.declared.linear.Ends.{Ends}
 use Rattle.mob_cells.specs.Roots.{IsLevel}
 use Rattle.mob_cells.specs.Cells.{signs_of}
-use Rattle.mob_cells.specs.Kept.{AreKeptOn, IsKeptBy, entries_of_cuts}
+use Rattle.mob_lifted.specs.OnPiece.{AreKeptOn, IsKeptBy}
+use Rattle.mob_cells.specs.Kept.{entries_of_cuts}
 use Rattle.mob_cells.specs.Restricted.{kept_value}
 use Rattle.mob_cells.specs.Gaps.{gap_ends, related_by}
 use Rattle.mob_cells.proofs.GapSigns.{by_gaps, no_gaps, gaps_level}
-use Rattle.mob_cells.proofs.OwnEnds.{own_fit, start_value, end_value, kept_behind}
+use Rattle.mob_lifted.proofs.OnOnePiece.{kept_behind, one_kept}
+use Rattle.mob_cells.proofs.OwnEnds.{own_fit, start_value, end_value}
 use Rattle.mob_restrict.specs.Values.{entries_of_value, slice_gaps}
 
 module _ {C B : Type 0} {steady copies : Bool} {value : C → Ratio → Ratio → Ratio → B} {start end : C → B} {can_make : B → B → Type 0} {make : B → B → C} {continues : C → C → Ratio → Ratio → Ratio → Bool} {parts : C → Ratio → Ratio → Ratio → List Ratio} (laws : IsCourse steady copies value start end can_make make continues parts)
@@ -93,12 +93,6 @@ module _ {C B : Type 0} {steady copies : Bool} {value : C → Ratio → Ratio �
     steady_fails LookNoMemory h = tt
 
     pub steady_all : {V : Type 0} (items : V → List (Slice C)) (q : Result V OpFault) (want k : Bool) (p : Slice C) → k ≡ same_bool want (relation Eq (start s.course) x) → k ≡ true → HasValues value start end (slice_value value s) s.span p → MatchResult q (λ v. items v ≡ p ∷ []) (λ e. e ≡ NoMemory) → IsKeptBy value start end items (λ t. kept_value want (relation Eq (slice_value value s t) x) (slice_value value s t)) s.span (entries_of_value value parts gaps x s) q
-    steady_all items (Ok v) want k p e n h m = (
-      rw m (record {
-        ordered = (h.sound, tt, tt);
-        inside = (rw h.on (inside_self s.span), tt);
-        values = λ t i. subst (λ z. cond (has z t) (Some (value p.course p.span.lower p.span.upper t)) None ≡ kept_value want (relation Eq (slice_value value s t) x) (slice_value value s t)) (sym h.on) (rw i (ap Some (h.same t i) ∙ ap (λ b. cond b (Some (slice_value value s t)) None) (sym n) ∙ wanted want k t e));
-      }),
-      steady_first,
-    )
+    steady_all items (Ok v) want k p e n h m =
+        (rw m (one_kept value start end (λ t. kept_value want (relation Eq (slice_value value s t) x) (slice_value value s t)) (slice_value value s) s.span p h (λ t i. ap (λ b. cond b (Some (slice_value value s t)) None) (sym n) ∙ wanted want k t e)), steady_first)
     steady_all items (Err f) want k p e n h m = rw m tt

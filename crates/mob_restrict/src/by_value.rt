@@ -1,11 +1,10 @@
 ghost use Rattle.std.specs.Prelude.{◌≡◌, true, false, IfOk};
 ghost use Rattle.std.specs.List.{flat_map};
 ghost use Rattle.mob_slice.specs.Slices.{IsSound};
-ghost use Rattle.mob_slice.specs.Cut.{slice_value};
 ghost use Rattle.mob_slice.specs.Entries.{IsJudged};
 ghost use Rattle.mob_slice.specs.declared.comparison.Rel.TheVariants.{Eq};
-ghost use Rattle.mob_cells.specs.Kept.{IsKeptBy};
-ghost use Rattle.mob_cells.specs.Restricted.{IsRestricted, kept_value};
+ghost use Rattle.mob_cells.specs.Kept.{IsKeptWhere};
+ghost use Rattle.mob_cells.specs.Restricted.{IsRestricted};
 ghost use Rattle.mob_restrict.specs.Values.{entries_of_value};
 
 use mob_cells::{ByGaps, Restriction, gap_functions, kept, restricted};
@@ -26,7 +25,7 @@ where
     C::Base: Drop,
     requires moves { C.STEADY ≡ false }
     requires sound { IsSound C.start_of C.end_of slice.now }
-    ensures kept { IsKeptBy C.value_of C.start_of C.end_of (λ v. v.items) (λ t. kept_value want (C.relation Eq (slice_value C.value_of slice.now t) value.now) (slice_value C.value_of slice.now t)) slice.now.span (entries_of_value C.value_of C.parts_of C.gaps_of value.now slice.now) result }
+    ensures kept { IsKeptWhere C.Course (λ v. v.items) want (λ t x. C.relation Eq x value.now) slice.now slice.now.span (entries_of_value C.value_of C.parts_of C.gaps_of value.now slice.now) result }
 {
     let functions = match gap_functions::<C>(
         alloc,
@@ -59,7 +58,7 @@ where
     C::Base: Drop,
     requires steady { C.STEADY ≡ true }
     requires sound { IsSound C.start_of C.end_of slice.now }
-    ensures kept { IsKeptBy C.value_of C.start_of C.end_of (λ v. v.items) (λ t. kept_value want (C.relation Eq (slice_value C.value_of slice.now t) value.now) (slice_value C.value_of slice.now t)) slice.now.span (entries_of_value C.value_of C.parts_of C.gaps_of value.now slice.now) result }
+    ensures kept { IsKeptWhere C.Course (λ v. v.items) want (λ t x. C.relation Eq x value.now) slice.now slice.now.span (entries_of_value C.value_of C.parts_of C.gaps_of value.now slice.now) result }
 {
     let keeps = C::relates(Rel::Eq, slice.course.start(), value);
     if !same_bool(want, keeps) {

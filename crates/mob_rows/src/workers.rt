@@ -1,4 +1,4 @@
-// Runs by many workers, at an open gate and at one where two pieces look for each other.
+// Runs by many workers, at an open gate and at one where two workers look for each other.
 
 use crate::demo::{TWO_SHIPS, demo};
 use crate::ends::{NONE_FAILS, Report, Watch, gave};
@@ -105,7 +105,7 @@ fn answer(work: Work) -> &'static [u8] {
     }
 }
 
-// So many workers, whose pieces pass this gate, write the answer.
+// So many workers, which pass this gate, write the answer.
 fn is_answered(
     rt: &(impl Threads + Sync),
     alloc: Global,
@@ -145,7 +145,7 @@ fn any_number_of_workers_answers_the_same(rt: HostRuntime) {
     }
 }
 
-// Whether two of so many pieces see each other, and the answer is the same.
+// Whether two of so many workers see each other, and the answer is the same.
 fn see_each_other(rt: &(impl Threads + Sync), alloc: Global, work: Work, workers: &str) -> bool {
     let flags = TwoFlags::new();
     let gate = Watch {
@@ -155,7 +155,7 @@ fn see_each_other(rt: &(impl Threads + Sync), alloc: Global, work: Work, workers
 }
 
 #[test]
-fn two_pieces_see_each_other(rt: HostRuntime) {
+fn two_workers_see_each_other(rt: HostRuntime) {
     assert!(rt; see_each_other(&rt, rt.alloc(), Work::Join, "2"));
     assert!(rt; see_each_other(&rt, rt.alloc(), Work::Pairs, "2"));
     assert!(rt; see_each_other(&rt, rt.alloc(), Work::Pairs, "64"));

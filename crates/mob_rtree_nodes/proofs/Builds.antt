@@ -1,12 +1,11 @@
 -- How sums over a forest change where a level is packed.
-use Rattle.std.proofs.Common.{◌≡◌, refl, ℕ, zero, suc, ◌+◌, ◌<◌, ◌≤◌, Bool, true, false, cond, not, ◌==◌, ◌&&◌, List, [], ◌∷◌, ◌++◌, length, get_or, map, arith, ap, sym, ◌∙◌, subst}
+use Rattle.std.proofs.Common.{◌≡◌, refl, ℕ, zero, suc, ◌+◌, ◌<◌, ◌≤◌, Bool, true, false, cond, not, ◌==◌, ◌&&◌, List, [], ◌∷◌, ◌++◌, length, map, arith, ap, sym, ◌∙◌, subst}
 use Rattle.std.specs.Prelude.{All, sum_by, count_by, Result, Ok, Err, OnOk, IfOk}
-use Rattle.std.proofs.lemmas.Bool.{ne_eqb}
 use Rattle.std.proofs.lemmas.Bool.Decides.{nat_tests}
 use Rattle.std.proofs.lemmas.List.Sums.{sum_by-cons, sum_by-append}
 use Rattle.std.proofs.lemmas.List.Elements.{All-head, All-tail, All-append, All-cons, All-nil, All-weaker}
 use Rattle.mob_stbox.specs.Boxes.{is_whole}
-use Rattle.mob_rtree_nodes.specs.Tree.{Kid, EntryOf, entry_of, target, Ref, IsTree, IsSoundNode, AreLive, is_fit, nodes_sum, kids_sum, refs_sum, entries_sum, entries_list, AreSame}
+use Rattle.mob_rtree_nodes.specs.Tree.{Kid, EntryOf, entry_of, target, Ref, IsSoundNode, AreLive, is_fit, nodes_sum, kids_sum, refs_sum, entries_sum, entries_list, AreSame}
 use Rattle.mob_rtree_nodes.specs.Builds.{kid_of, leaf_sum, IsForest, IsPacking, IsClosed}
 use Rattle.mob_rtree_nodes.specs.declared.node.Child.TheVariants.{Node}
 use Rattle.mob_rtree_nodes.specs.declared.node.TreeNode.{TreeNode}
@@ -114,26 +113,9 @@ forest_up h kids old ps above from by =
       fit = by.fit;
     })
 
-pub forest_root : (h : ℕ) (k : Kid) (kids : List Kid) (ps : List TreeNode) → kids ≡ k ∷ [] → IsForest (h + 1) kids ps → IsTree (record { area = k.0; node = target k.1; height = h }) ps
-forest_root h k kids ps one by =
-    let up : h + 1 ≡ suc h = omega arith in
-    record {
-      once = λ f. omega (arith, by.once f, ap (λ n. kids_sum f n kids) up, ap (kids_sum f (suc h)) one, sum_by-cons (λ k. f (record { area = k.0; node = target k.1; height = h })) k []);
-      sound = by.sound;
-      low = All-weaker (λ p. p.height < h + 1) (λ p. p.height ≤ h) (λ p l. omega (arith, l)) ps by.low;
-    }
-
 -- entries are a forest of no node
 pub forest_start : (kids : List Kid) → count_by (λ k. not (is_fit 0 k)) kids ≡ 0 → IsForest 0 kids []
 forest_start kids fit = record { once = λ f. refl; sound = All-nil IsSoundNode; low = All-nil (λ p. p.height < 0); live = All-nil (λ p. 0 < length p.kids.items); fit = fit }
-
-pub leaf_above : (g : EntryOf → ℕ) (kids : List Kid) (h : ℕ) → leaf_sum g kids (h + 1) ≡ 0
-leaf_above g kids h = ap (λ b. cond b (sum_by (λ k. g (entry_of k)) kids) 0) (ne_eqb (h + 1) 0 (λ z. absurd (omega (arith, z))))
-
-pub one_of : (kids : List Kid) (k : Kid) → length kids ≡ 1 → k ≡ get_or kids 0 k → kids ≡ k ∷ []
-one_of [] k len at = absurd (omega (arith, len))
-one_of (x ∷ []) k len at = ap (λ k. k ∷ []) (sym at)
-one_of (x ∷ y ∷ ys) k len at = absurd (omega (arith, len))
 
 pub full_some : (n : ℕ) → (n == 16) ≡ true → 0 < n
 full_some n h = grind (arith, nat_tests)

@@ -346,9 +346,6 @@ pub inner : (m : ℕ) → (m ≡ 0 → ⊥) → (h : ℕ) × (m ≡ suc h)
 inner zero z = absurd (z refl)
 inner (suc h) z = (h, refl)
 
-pub read_kid : (xs ys : List Kid) (i : ℕ) (d : Kid) → xs ≡ ys → i < length ys → get_or xs i d ≡ get_or ys i (get_or xs i d)
-read_kid xs ys i d e h = ap (λ l. get_or l i d) e ∙ get_or_default ys i d (get_or xs i d) h
-
 -- the child at a slot of an inner node
 pub record Lower (ps : List TreeNode) (n i : ℕ) (p : TreeNode) (k : Kid) (number : ℕ) : Type 0 where
   pub h : ℕ

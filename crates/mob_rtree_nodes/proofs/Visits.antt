@@ -12,11 +12,6 @@ use Rattle.mob_rtree_nodes.proofs.Walks.{tied_height, walk_steps}
 abbrev pub by_id : (ℕ → ℕ) → EntryOf → ℕ
 by_id f e = f e.1
 
-pub at_self : {X : Type 0} (xs : List X) (i : ℕ) (d : X) → i < length xs → get_or xs i d ≡ get_or xs i (get_or xs i d)
-at_self [] i d h = absurd (omega arith)
-at_self (x ∷ xs) zero d h = refl
-at_self (x ∷ xs) (suc i) d h = at_self xs i d (omega arith)
-
 -- a child of an inner node is a node, one lower
 pub down : (root : Ref) (ps : List TreeNode) → IsTree root ps → (n i : ℕ) (p : TreeNode) (kids : List Kid) (k : Kid) → n < length ps → p ≡ get_or ps n p → kids ≡ p.kids.items → i < length kids → k ≡ get_or kids i k → (p.height ≡ 0 → ⊥)
     → (target k.1 < length ps) × (height_at ps (target k.1) + 1 ≡ p.height) × (height_at ps n ≡ p.height)

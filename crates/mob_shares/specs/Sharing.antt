@@ -1,22 +1,14 @@
 -- The pieces of time at which one of two lists has something.
-use Rattle.std.specs.Prelude.{◌≡◌, cond, ℕ, ◌+◌, List, [], ◌∷◌, length, Option, Some, None, MatchOption}
-use Rattle.mob_ratio.specs.Ratio.{Ratio}
+use Rattle.std.specs.Prelude.{cond, ℕ, ◌+◌, List, [], ◌∷◌, length, Option, Some, None}
 use Rattle.mob_span.specs.Span.{SpanOf, has_instant}
 use Rattle.mob_span.specs.Meet.{meet_of}
 use Rattle.mob_span.specs.Meets.{PieceOf}
-use Rattle.mob_span.specs.Pieces.{PiecesAreClear, piece_at}
 use Rattle.mob_span.specs.Remainders.{front_of}
 use Rattle.mob_shares.specs.Cuts.{CutOf, left_after}
 
 -- A piece of time with what each of two lists has there: one of them, or both.
 abbrev pub ShareOf : Type 0 → Type 0 → Type 0
 ShareOf X Y = PieceOf (Option X) (Option Y)
-
--- The pieces are ordered and disjoint, and at each instant the piece there has what the two lists
--- have there: there is none where neither has something.
-pub record AreShares {X Y : Type 0} (span : X → SpanOf) (span' : Y → SpanOf) (v : List X) (w : List Y) (shares : List (ShareOf X Y)) : Type 0 where
-  pub clear : PiecesAreClear (λ p. p.span) shares
-  pub at_each : (t : Ratio) → MatchOption (piece_at (λ p. p.span) shares t) ((piece_at span v t ≡ None) × (piece_at span' w t ≡ None)) (λ p. (p.left ≡ piece_at span v t) × (p.right ≡ piece_at span' w t))
 
 -- the piece with which two lists begin: what of the first of one comes before that of the other, or
 -- what both begin with

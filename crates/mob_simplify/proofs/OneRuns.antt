@@ -28,9 +28,6 @@ none_some : {A : Type 0} {x : A} {xs : List A} → [] ≡ x ∷ xs → ⊥
 none_some e = cc
 
 -- ---- the slices of a run
-Ends : Slice PlaneLine → List (Slice PlaneLine) → Type 0
-Ends l rest = OfHead (λ s r. ¬ GoesOn s r) l rest
-
 more_same : (s : Slice PlaneLine) (xs ys rest rest' : List (Slice PlaneLine)) → xs ++ rest ≡ ys ++ rest' → IsChain s xs → IsChain s ys → OfHead (λ s r. ¬ GoesOn s r) (last_slice s xs) rest → OfHead (λ s r. ¬ GoesOn s r) (last_slice s ys) rest' → (xs ≡ ys) × (rest ≡ rest')
 more_same s [] [] rest rest' e c k h i = (refl, e)
 more_same s [] (y ∷ ys) rest rest' e c k h i = absurd ((subst (λ z. OfHead (λ s r. ¬ GoesOn s r) s z) e h) k.0)

@@ -14,6 +14,7 @@ pub mod Entries
 pub mod Cut
 pub mod Instants
 pub mod Sides
+pub mod SliceOn
 pub mod Wholes
 pub mod CourseOf
 pub mod Lines

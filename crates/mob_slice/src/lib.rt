@@ -4,16 +4,16 @@
 //! A slice is a span with a course, which gives the value at each instant of the span. A temporal
 //! value is a normal list of slices: of all lists of slices with the same value at each instant,
 //! one is normal.
+//!
+//! `course` has what every course meets, with the base values that a steady course may hold; `line`
+//! has lines and how they are compared; `slice` has a slice and a piece of one.
 #![tactic(auto)]
 
-pub mod base_value;
 pub mod comparison;
 pub mod course;
-pub mod cutting;
 pub mod formula;
 pub mod laws;
 pub mod line;
-mod line_comparison;
 pub mod moving;
 pub mod operand;
 pub mod part;
@@ -21,10 +21,9 @@ pub mod side;
 pub mod slice;
 pub mod steady;
 
-pub use base_value::BaseValue;
 pub use comparison::{Compared, Gaps, Ranked, Rel};
 pub use course::Course;
-pub use cutting::{cut, cut_from, limit};
+pub use course::base_value::BaseValue;
 pub use formula::{Formula, LookFault, OpFault, Passed, operator_fault};
 pub use line::{Line, PlaneLine};
 pub use moving::Moving;
@@ -32,4 +31,5 @@ pub use operand::Operand;
 pub use part::{One, Pair, Part};
 pub use side::{Piece, Side};
 pub use slice::Slice;
+pub use slice::cutting::{cut, cut_from, limit};
 pub use steady::Steady;

@@ -2,7 +2,7 @@
 use Rattle.std.specs.Prelude.{◌≡◌, Bool, true, false, cond, refl, ◌||◌, ◌&&◌, List, [], ◌∷◌, ◌++◌, map, Option, Some, None, option_map}
 use Rattle.std.specs.List.{list_any}
 use Rattle.std.specs.Option.{option_zip}
-use Rattle.std.proofs.Common.{ap, sym, ◌∙◌, append-nil, append_assoc}
+use Rattle.std.proofs.Common.{ap, sym, ◌∙◌, append-nil}
 use Rattle.mob_ratio.specs.Ratio.{Ratio}
 use Rattle.mob_span.specs.Span.{SpanOf, has}
 use Rattle.mob_span.specs.Pieces.{piece_at}
@@ -48,9 +48,6 @@ pieces_in v w t =
     ∙ zipped (piece_at (λ s. s) v t) (piece_at (λ s. s) w t)
     ∙ ap (λ b. b && is_there (piece_at (λ s. s) w t)) (sym (there (λ s. s) v t))
     ∙ ap (λ b. in_some v t && b) (sym (there (λ s. s) w t))
-
-pub piece_next : (o o' : List SpanOf) (ps qs : List (PieceOf SpanOf SpanOf)) (p : PieceOf SpanOf SpanOf) (s : SpanOf) (all : List SpanOf) → s ≡ p.span → ps ≡ p ∷ qs → o' ≡ o ++ s ∷ [] → o ++ map (λ p. p.span) ps ≡ all → o' ++ map (λ p. p.span) qs ≡ all
-piece_next o o' ps qs p s all i e f h = rw (f, append_assoc, i) (rw e at h)
 
 pub pieces_all : (o : List SpanOf) (ps : List (PieceOf SpanOf SpanOf)) (all : List SpanOf) → ps ≡ [] → o ++ map (λ p. p.span) ps ≡ all → o ≡ all
 pieces_all o ps all e h = sym (append-nil o) ∙ (rw e at h)

@@ -10,7 +10,7 @@ use Rattle.mob_ratio.proofs.IntRing.{linear}
 use Rattle.mob_ratio.proofs.Order.{before-lt, up_to-le, not-up_to-le}
 use Rattle.mob_plane.specs.declared.point.Point.{Point}
 use Rattle.mob_stbox.specs.Areas.{InArea, is_area}
-use Rattle.mob_stbox.specs.Expansion.{moved_area, IsNear}
+use Rattle.mob_stbox.specs.Expansion.{moved_area, AreWithin}
 use Rattle.mob_stbox.specs.declared.area.Area.{Area}
 
 -- ---- one coordinate
@@ -60,7 +60,7 @@ near_by l u d p false false e f h k m n = record { near = p; from = up_to-le l p
 
 -- ---- areas
 
-pub moved_outward : (a : Area) (d : Ratio) → is_area a ≡ true → whole (pos 0) ≤ℚ d → (p : Point) → InArea (moved_area a d) p ↔ ((q : Point) × InArea a q × IsNear p q d)
+pub moved_outward : (a : Area) (d : Ratio) → is_area a ≡ true → whole (pos 0) ≤ℚ d → (p : Point) → InArea (moved_area a d) p ↔ ((q : Point) × InArea a q × AreWithin p q d)
 moved_outward a d h k p = (
   λ i.
       let s = and_parts (up_to a.xmin a.xmax) (up_to a.ymin a.ymax) h in
@@ -80,7 +80,7 @@ moved_outward a d h k p = (
       },
 )
 
-pub moved_inward : (a : Area) (d : Ratio) → d ≤ℚ whole (pos 0) → (p : Point) → InArea (moved_area a d) p ↔ ((q : Point) → IsNear q p (neg_ℚ d) → InArea a q)
+pub moved_inward : (a : Area) (d : Ratio) → d ≤ℚ whole (pos 0) → (p : Point) → InArea (moved_area a d) p ↔ ((q : Point) → AreWithin q p (neg_ℚ d) → InArea a q)
 moved_inward a d h p = (
   λ i q n. record {
     from_west = low_in a.xmin d p.x q.x i.from_west n.from_west;

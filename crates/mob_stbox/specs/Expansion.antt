@@ -34,7 +34,7 @@ abbrev pub parts_of_expansion : BoxOf → Ratio → List Ratio
 parts_of_expansion b d = parts_of_space b.space d
 
 -- the points p and q are at most d apart, by coordinate
-pub record IsNear (p q : Point) (d : Ratio) : Type 0 where
+pub record AreWithin (p q : Point) (d : Ratio) : Type 0 where
   pub from_west : q.x -ℚ d ≤ℚ p.x
   pub to_east : p.x ≤ℚ q.x +ℚ d
   pub from_south : q.y -ℚ d ≤ℚ p.y

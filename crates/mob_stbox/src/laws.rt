@@ -5,7 +5,7 @@ ghost use Rattle.mob_ratio.specs.Ratio.{Ratio, ◌≤ℚ◌, neg_ℚ, whole};
 ghost use Rattle.mob_plane.specs.declared.point.Point.{Point};
 ghost use Rattle.mob_stbox.specs.Areas.{InArea, in_area, is_area};
 ghost use Rattle.mob_stbox.specs.Boxes.{BoxOf, InBox, in_box, is_box, BoxContains};
-ghost use Rattle.mob_stbox.specs.Expansion.{moved_area, IsNear};
+ghost use Rattle.mob_stbox.specs.Expansion.{moved_area, AreWithin};
 ghost use Rattle.mob_stbox.specs.declared.area.Area.{Area};
 
 use crate::{Area, StBox};
@@ -33,9 +33,9 @@ pub fn one_box()
 /// it.
 pub fn expansions()
     ensures outward { (a : Area) (d : Ratio) → is_area a ≡ true → whole (pos 0) ≤ℚ d
-        → (p : Point) → InArea (moved_area a d) p ↔ ((q : Point) × InArea a q × IsNear p q d) }
+        → (p : Point) → InArea (moved_area a d) p ↔ ((q : Point) × InArea a q × AreWithin p q d) }
     ensures inward { (a : Area) (d : Ratio) → d ≤ℚ whole (pos 0)
-        → (p : Point) → InArea (moved_area a d) p ↔ ((q : Point) → IsNear q p (neg_ℚ d) → InArea a q) }
+        → (p : Point) → InArea (moved_area a d) p ↔ ((q : Point) → AreWithin q p (neg_ℚ d) → InArea a q) }
 {}
 
 /// Areas and boxes cross threads.

@@ -19,6 +19,10 @@ abbrev pub parts_at : {C B : Type 0} → (C → Ratio → Ratio → Ratio → B)
 parts_at value [] t = []
 parts_at value (p ∷ ps) t = value_at value p.value t ∷ parts_at value ps t
 
+-- and what that is, united
+abbrev pub united_parts : {C B : Type 0} → (B → B → B) → (C → Ratio → Ratio → Ratio → B) → List (Part C B) → Ratio → Option B
+united_parts op value ps t = united_all op (parts_at value ps t)
+
 abbrev pub whole_at : {C B : Type 0} → (C → Ratio → Ratio → Ratio → B) → Option (List (Slice C)) → Ratio → Option B
 whole_at value None t = None
 whole_at value (Some v) t = value_at value v t

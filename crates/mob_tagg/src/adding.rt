@@ -9,11 +9,10 @@ ghost use Rattle.mob_slice.specs.Operands.{steady_value};
 ghost use Rattle.mob_slice.specs.Parts.{IsPairFit};
 ghost use Rattle.mob_slice.specs.Sides.{pieces, Slices};
 ghost use Rattle.mob_slice.specs.Slices.{value_at};
-ghost use Rattle.mob_lift.specs.Given.{IsGiven, on_sides};
 ghost use Rattle.mob_arith.specs.Operations.{both_hold, one_holds};
 ghost use Rattle.mob_arith.specs.Termwise.{entries_at_ends};
-ghost use Rattle.mob_sync.specs.Common.{pair_of};
-ghost use Rattle.mob_tagg.specs.United.{AreUnited, sides_of};
+ghost use Rattle.mob_tagg.specs.United.{AreUnited};
+ghost use Rattle.mob_tagg.specs.Sums.{IsSumGiven, steady_on};
 
 use crate::again::{Last, cut_again, keep, summed, summed_again};
 use crate::taking::{either, merged, normal_of};
@@ -34,7 +33,7 @@ fn sum_on<C: Summed + Drop>(
 where
     C::Base: Drop,
     requires fit { IsPairFit C.start_of C.end_of C.start_of C.end_of pair.now }
-    ensures given { IsGiven C.value_of C.start_of C.end_of (λ s. s ∷ []) (on_sides C.value_of C.value_of C.added (sides_of (pair_of pair.now))) pair.now.span (entries_at_ends C.value_of C.parts_of C.value_of C.parts_of (λ x y. sum_parts (C.number x) (C.number y)) (sides_of (pair_of pair.now))) result }
+    ensures given { IsSumGiven C.value_of C.start_of C.end_of C.parts_of C.number C.added pair.now result }
 {
     let last = memo.replace(None);
     let left = match cut(alloc, pair.left, &pair.span) {
@@ -83,7 +82,7 @@ where
         v,
         |pair: &Pair<'_, C, C>| -> Result<Slice<C>, OpFault>
             requires fit { IsPairFit C.start_of C.end_of C.start_of C.end_of pair.now }
-            ensures given { IsGiven C.value_of C.start_of C.end_of (λ s. s ∷ []) (on_sides C.value_of C.value_of C.added (sides_of (pair_of pair.now))) pair.now.span (entries_at_ends C.value_of C.parts_of C.value_of C.parts_of (λ x y. sum_parts (C.number x) (C.number y)) (sides_of (pair_of pair.now))) result }
+            ensures given { IsSumGiven C.value_of C.start_of C.end_of C.parts_of C.number C.added pair.now result }
         { sum_on::<C>(alloc, pair, &memo) },
     ) {
         Ok(slices) => slices,
@@ -125,7 +124,7 @@ fn and_on(
     alloc: Global,
     pair: &Pair<'_, Steady<bool>, Steady<bool>>,
 ) -> Result<Vec<Slice<Steady<bool>>>, OpFault>
-    ensures one { MatchResult result (λ v. v.items ≡ record { span = pair.now.span; course = record { value = both_hold pair.now.left.now.course.value pair.now.right.now.course.value } } ∷ []) (λ e. e ≡ OpFault.NoMemory) }
+    ensures one { MatchResult result (λ v. v.items ≡ steady_on both_hold pair.now ∷ []) (λ e. e ≡ OpFault.NoMemory) }
 {
     let value = pair.left.course.value && pair.right.course.value;
     single(alloc, pair.span, value)
@@ -144,7 +143,7 @@ pub fn and_in(
         total,
         v,
         |pair: &Pair<'_, Steady<bool>, Steady<bool>>| -> Result<Vec<Slice<Steady<bool>>>, OpFault>
-            ensures one { MatchResult result (λ v. v.items ≡ record { span = pair.now.span; course = record { value = both_hold pair.now.left.now.course.value pair.now.right.now.course.value } } ∷ []) (λ e. e ≡ OpFault.NoMemory) }
+            ensures one { MatchResult result (λ v. v.items ≡ steady_on both_hold pair.now ∷ []) (λ e. e ≡ OpFault.NoMemory) }
         { and_on(alloc, pair) },
     ) {
         Ok(value) => Ok(value),
@@ -157,7 +156,7 @@ fn or_on(
     alloc: Global,
     pair: &Pair<'_, Steady<bool>, Steady<bool>>,
 ) -> Result<Vec<Slice<Steady<bool>>>, OpFault>
-    ensures one { MatchResult result (λ v. v.items ≡ record { span = pair.now.span; course = record { value = one_holds pair.now.left.now.course.value pair.now.right.now.course.value } } ∷ []) (λ e. e ≡ OpFault.NoMemory) }
+    ensures one { MatchResult result (λ v. v.items ≡ steady_on one_holds pair.now ∷ []) (λ e. e ≡ OpFault.NoMemory) }
 {
     let value = pair.left.course.value || pair.right.course.value;
     single(alloc, pair.span, value)
@@ -176,7 +175,7 @@ pub fn or_in(
         total,
         v,
         |pair: &Pair<'_, Steady<bool>, Steady<bool>>| -> Result<Vec<Slice<Steady<bool>>>, OpFault>
-            ensures one { MatchResult result (λ v. v.items ≡ record { span = pair.now.span; course = record { value = one_holds pair.now.left.now.course.value pair.now.right.now.course.value } } ∷ []) (λ e. e ≡ OpFault.NoMemory) }
+            ensures one { MatchResult result (λ v. v.items ≡ steady_on one_holds pair.now ∷ []) (λ e. e ≡ OpFault.NoMemory) }
         { or_on(alloc, pair) },
     ) {
         Ok(value) => Ok(value),

@@ -1,17 +1,16 @@
 //! A piece begins where the one before it ends: what was made there is not made twice.
 
-ghost use Rattle.std.specs.Prelude.{◌≡◌, true, MatchResult, IfSome};
+ghost use Rattle.std.specs.Prelude.{◌≡◌, true, IfSome};
 ghost use Rattle.mob_ratio.specs.Order.{up_to};
 ghost use Rattle.mob_frac.specs.Formula.{AllFit, sum_parts};
 ghost use Rattle.mob_span.specs.Neighbours.{is_inside};
 ghost use Rattle.mob_slice.specs.Cut.{slice_value, slice_parts};
-ghost use Rattle.mob_slice.specs.Entries.{OnFormula};
-ghost use Rattle.mob_slice.specs.Look.{IsLooked, IsLookFault};
-ghost use Rattle.mob_slice.specs.Sides.{HasValues, at_ends};
+ghost use Rattle.mob_slice.specs.Look.{IsLooked};
 ghost use Rattle.mob_slice.specs.Slices.{IsSound};
-ghost use Rattle.mob_slice.specs.declared.formula.Formula.TheVariants.{F2};
+ghost use Rattle.mob_slice.specs.SliceOn.{IsCutOn};
 ghost use Rattle.mob_sync.specs.Alike.{AreAlike};
 ghost use Rattle.mob_tagg.specs.Last.{IsLast};
+ghost use Rattle.mob_tagg.specs.Sums.{IsSumOf};
 
 use mob_arith::Summed;
 use mob_frac::Frac;
@@ -127,7 +126,7 @@ pub fn cut_again<C: Summed + Drop>(
 where
     C::Base: Drop,
     requires holds { IsSound C.start_of C.end_of slice.now × (is_inside slice.now.span span.now ≡ true) }
-    ensures slice { MatchResult result (λ s. HasValues C.value_of C.start_of C.end_of (slice_value C.value_of slice.now) span.now s × AllFit (at_ends (slice_parts C.parts_of slice.now) span.now)) (IsLookFault C.copy_allocates (at_ends (slice_parts C.parts_of slice.now) span.now)) }
+    ensures slice { IsCutOn C.Course slice.now span.now result }
 {
     match limit_again(alloc, slice, span.lower(), last) {
         Ok(from) => cut_from(alloc, slice, span, from),
@@ -137,7 +136,7 @@ where
 
 /// The sum of two values.
 pub fn summed<C: Summed>(x: &C::Base, y: &C::Base) -> Result<C::Base, OpFault>
-    ensures sum { MatchResult result (λ z. (z ≡ C.added x.now y.now) × AllFit (sum_parts (C.number x.now) (C.number y.now))) (OnFormula (λ f. (f ≡ F2) × (¬ AllFit (sum_parts (C.number x.now) (C.number y.now))))) }
+    ensures sum { IsSumOf C.added C.number x.now y.now result }
 {
     match C::sum(x, y) {
         Ok(sum) => Ok(sum),
@@ -156,7 +155,7 @@ fn summed_from<C: Summed>(
 ) -> Result<C::Base, OpFault>
 where
     requires last { IsLast C.value_of C.end_of C.parts_of C.number C.added ends.now }
-    ensures sum { MatchResult result (λ z. (z ≡ C.added x.now y.now) × AllFit (sum_parts (C.number x.now) (C.number y.now))) (OnFormula (λ f. (f ≡ F2) × (¬ AllFit (sum_parts (C.number x.now) (C.number y.now))))) }
+    ensures sum { IsSumOf C.added C.number x.now y.now result }
 {
     if !C::same(x, ends.left.course.end()) {
         return summed::<C>(x, y);
@@ -177,7 +176,7 @@ pub fn summed_again<C: Summed>(
     y: &C::Base,
     last: &Option<Last<C>>,
 ) -> Result<C::Base, OpFault>
-    ensures sum { MatchResult result (λ z. (z ≡ C.added x.now y.now) × AllFit (sum_parts (C.number x.now) (C.number y.now))) (OnFormula (λ f. (f ≡ F2) × (¬ AllFit (sum_parts (C.number x.now) (C.number y.now))))) }
+    ensures sum { IsSumOf C.added C.number x.now y.now result }
 {
     match last {
         Some(last) => summed_from(alloc, x, y, last.ends()),

@@ -2,7 +2,7 @@ ghost use Rattle.std.specs.Prelude.{◌≡◌, IfOk};
 ghost use Rattle.mob_ratio.specs.Ratio.{Ratio};
 ghost use Rattle.mob_slice.specs.Slices.{value_at};
 ghost use Rattle.mob_tagg.specs.United.{united_by, AreUnited};
-ghost use Rattle.mob_tagg.specs.Gathered.{IsAssociative, united_all, parts_at, whole_at};
+ghost use Rattle.mob_tagg.specs.Gathered.{IsAssociative, united_parts, whole_at};
 
 use mob_slice::{Course, Moving};
 use std::alloc::{AllocError, Global};
@@ -34,7 +34,7 @@ pub fn with_value<C: Course + Drop, U: Uniting<C>>(
     count: u32,
     value: Moving<C>,
 ) -> Result<Vec<Part<C>>, AllocError>
-    ensures same { IfOk result (λ r. (t : Ratio) → united_all U.op (parts_at C.value_of r.items t) ≡ united_by U.op (united_all U.op (parts_at C.value_of parts.items t)) (value_at C.value_of value t)) }
+    ensures same { IfOk result (λ r. (t : Ratio) → united_parts U.op C.value_of r.items t ≡ united_by U.op (united_parts U.op C.value_of parts.items t) (value_at C.value_of value t)) }
 {
     let mut parts = parts;
     let Some(top) = parts.pop() else {
@@ -56,7 +56,7 @@ pub fn gathered<C: Course + Drop, U: Uniting<C>>(
     parts: Vec<Part<C>>,
     last: Option<Moving<C>>,
 ) -> Result<Option<Moving<C>>, AllocError>
-    ensures same { IfOk result (λ r. (t : Ratio) → whole_at C.value_of r t ≡ united_by U.op (united_all U.op (parts_at C.value_of parts.items t)) (whole_at C.value_of last t)) }
+    ensures same { IfOk result (λ r. (t : Ratio) → whole_at C.value_of r t ≡ united_by U.op (united_parts U.op C.value_of parts.items t) (whole_at C.value_of last t)) }
 {
     let mut parts = parts;
     let Some(top) = parts.pop() else {

@@ -1,11 +1,10 @@
 //! Two temporal values as one: where both are defined what a closure makes of both, else the one
 //! that is.
 
-ghost use Rattle.std.specs.Prelude.{◌≡◌, ◌≢◌, ◌⊎◌, true, [], ◌∷◌, Ok, Err, IfOk, IfErr, MatchResult};
+ghost use Rattle.std.specs.Prelude.{◌≡◌, ◌≢◌, [], ◌∷◌, Ok, Err, IfOk, IfErr, MatchResult};
 ghost use Rattle.std.specs.Fn.{FnReturnsAt};
 ghost use Rattle.mob_ratio.specs.Ratio.{Ratio};
 ghost use Rattle.mob_frac.specs.Formula.{AllFit};
-ghost use Rattle.mob_span.specs.Span.{has_instant};
 ghost use Rattle.mob_slice.specs.Cut.{slice_value};
 ghost use Rattle.mob_slice.specs.Entries.{OnFormula};
 ghost use Rattle.mob_slice.specs.Parts.{IsOneFit, IsPairFit};
@@ -15,8 +14,8 @@ ghost use Rattle.mob_slice.specs.declared.formula.Formula.TheVariants.{F1};
 ghost use Rattle.mob_lift.specs.Given.{IsGiven};
 ghost use Rattle.mob_sync.specs.Common.{pair_of};
 ghost use Rattle.mob_shares.specs.Shares.{share_of, HoldsShare};
-ghost use Rattle.mob_tagg.specs.United.{IsChecked};
-ghost use Rattle.mob_shares.specs.Taken.{entry_alone, IsShareGiven, piece_parts, AreFull, AreTaken, IsFirstRefused};
+ghost use Rattle.mob_tagg.specs.United.{IsChecked, AnswersFull, AnswersFullWhereFit, JudgesEnds};
+ghost use Rattle.mob_shares.specs.Taken.{entry_alone, IsShareGiven, piece_parts, AreTaken, IsFirstRefused};
 
 use mob_lift::{lift, lift_each, listed};
 use mob_normal::normal;
@@ -101,8 +100,8 @@ pub fn together<
 where
     C::Base: Drop,
     requires callable { (p : _) → IsPairFit C.start_of C.end_of C.start_of C.end_of p.now → F.pre both p }
-    requires sound { (p : _) (v : _) → has_instant p.span ≡ true → IsPairFit C.start_of C.end_of C.start_of C.end_of p → FnReturnsAt F.Fn both p (Ok v) → AreFull C.value_of C.start_of C.end_of p.span v.items × AllFit (piece_parts C.parts_of (pair_of p)) }
-    requires passes { (p : _) (f : Formula) → IsPairFit C.start_of C.end_of C.start_of C.end_of p → FnReturnsAt F.Fn both p (Err (OpFault.Passed f)) → ((f ≡ F1) × (¬ AllFit (piece_parts C.parts_of (pair_of p)))) ⊎ AllFit (piece_parts C.parts_of (pair_of p)) }
+    requires sound { AnswersFullWhereFit C.value_of C.start_of C.end_of C.parts_of (λ v. v.items) (FnReturnsAt F.Fn both) }
+    requires passes { JudgesEnds C.start_of C.end_of C.parts_of (FnReturnsAt F.Fn both) }
     ensures ordered { IfOk result (λ all. IsOrdered C.start_of C.end_of all.items) }
     ensures some { IfOk result (λ all. all.items ≢ []) }
     ensures taken { IfOk result (λ all. AreTaken C.value_of C.start_of C.end_of C.parts_of (λ v. v.items) (FnReturnsAt F.Fn both) a.now b.now all.items) }
@@ -175,8 +174,8 @@ pub fn merged<'a, C: Course + Drop, F: Fn(&Pair<'a, C, C>) -> Result<Slice<C>, O
 where
     C::Base: Drop,
     requires callable { (p : _) → IsPairFit C.start_of C.end_of C.start_of C.end_of p.now → F.pre both p }
-    requires sound { (p : _) (s : _) → has_instant p.span ≡ true → IsPairFit C.start_of C.end_of C.start_of C.end_of p → FnReturnsAt F.Fn both p (Ok s) → AreFull C.value_of C.start_of C.end_of p.span (s ∷ []) × AllFit (piece_parts C.parts_of (pair_of p)) }
-    requires passes { (p : _) (f : Formula) → IsPairFit C.start_of C.end_of C.start_of C.end_of p → FnReturnsAt F.Fn both p (Err (OpFault.Passed f)) → ((f ≡ F1) × (¬ AllFit (piece_parts C.parts_of (pair_of p)))) ⊎ AllFit (piece_parts C.parts_of (pair_of p)) }
+    requires sound { AnswersFullWhereFit C.value_of C.start_of C.end_of C.parts_of (λ s. s ∷ []) (FnReturnsAt F.Fn both) }
+    requires passes { JudgesEnds C.start_of C.end_of C.parts_of (FnReturnsAt F.Fn both) }
     ensures ordered { IfOk result (λ all. IsOrdered C.start_of C.end_of all.items) }
     ensures some { IfOk result (λ all. all.items ≢ []) }
     ensures taken { IfOk result (λ all. AreTaken C.value_of C.start_of C.end_of C.parts_of (λ s. s ∷ []) (FnReturnsAt F.Fn both) a.now b.now all.items) }
@@ -228,7 +227,7 @@ pub fn either<
 where
     C::Base: Drop,
     requires callable { (p : _) → IsPairFit C.start_of C.end_of C.start_of C.end_of p.now → F.pre both p }
-    requires sound { (p : _) (v : _) → has_instant p.span ≡ true → IsPairFit C.start_of C.end_of C.start_of C.end_of p → FnReturnsAt F.Fn both p (Ok v) → AreFull C.value_of C.start_of C.end_of p.span v.items }
+    requires sound { AnswersFull C.value_of C.start_of C.end_of (λ v. v.items) (FnReturnsAt F.Fn both) }
     ensures taken { IfOk result (λ r. AreTaken C.value_of C.start_of C.end_of C.parts_of (λ v. v.items) (FnReturnsAt F.Fn both) a.now b.now r) }
     ensures passed { (formula : Formula) → result ≡ Err (OpFault.Passed formula) → IsFirstRefused C.start_of C.end_of C.parts_of (FnReturnsAt F.Fn both) a.now b.now formula }
 {

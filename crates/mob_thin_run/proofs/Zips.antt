@@ -1,8 +1,9 @@
 -- Rows that are made one after another, and the first that fails.
-use Rattle.std.specs.Prelude.{◌≡◌, ℕ, ℤ, codes, map, List, [], ◌∷◌, ◌++◌, length, get_or, ◌<◌, ◌≤◌, IsUtf8, Some, refl}
+use Rattle.std.specs.Prelude.{◌≡◌, ℕ, ℤ, codes, map, List, [], ◌∷◌, ◌++◌, length, get_or, ◌<◌, ◌≤◌, IsUtf8, None, Some, refl, slice_get, suc, zero}
 use Rattle.std.specs.List.{AllZip, AllByRecursion, concat}
 use Rattle.std.proofs.Common.{arith, ap, sym, ◌∙◌, subst, inl, inr, take, drop, ◌+◌}
 use Rattle.std.proofs.lemmas.List.{map-append, take_more, take_all, take-append-drop, length-take-le}
+use Rattle.std.proofs.lemmas.Option.{none-some, same_Some}
 use Rattle.csv.specs.Records.{AllText}
 use Rattle.mob_cells.proofs.Making.{list_read}
 use Rattle.mob_list.proofs.Each.{each_both}
@@ -12,7 +13,7 @@ use Rattle.mob_slice.specs.declared.formula.Formula.{Formula}
 use Rattle.mob_value.specs.declared.value.Value.{Value}
 use Rattle.mob_slice.specs.declared.formula.OpFault.{OpFault}
 use Rattle.mob_slice.specs.declared.formula.OpFault.TheVariants.{Passed, NoMemory}
-use Rattle.mob_thin_run.specs.RowFaults.{OnRowFault, row_fault}
+use Rattle.mob_thin_run.specs.RowFaults.{OnRowFault, thin_row_fault}
 use Rattle.mob_literal.specs.Fields.{field_text}
 use Rattle.mob_records.specs.AnswerText.{record_line}
 use Rattle.mob_thin_run.specs.ThinRows.{HasText, IsThinRecord, IsThinText, AreThinRows, OnTests, RowTestsFit, RowTestPasses, PassesFirst}
@@ -46,6 +47,17 @@ zip_all R xs i ys most h = subst (λ z. AllZip R z ys) (take_all i xs most) h
 pub all_all : {A : Type 0} (P : A → Type 0) (xs : List A) (i : ℕ) → length xs ≤ i → AllByRecursion P (take i xs) → AllByRecursion P xs
 all_all P xs i most h = subst (AllByRecursion P) (take_all i xs most) h
 
+-- the row that a look-up by its number finds, and that there are no more where it finds none
+pub row_found : {A : Type 0} (xs : List A) (i : ℕ) (x : A) → Some x ≡ slice_get xs i → (i < length xs) × (x ≡ get_or xs i x)
+row_found [] i x h = absurd (none-some x (sym h))
+row_found (y ∷ xs) zero x h = (omega arith, same_Some x y h)
+row_found (y ∷ xs) (suc i) x h = let later = row_found xs i x h in (let lt = later.0 in omega (arith, lt), later.1)
+
+pub no_more : {A : Type 0} (xs : List A) (i : ℕ) → None ≡ slice_get xs i → length xs ≤ i
+no_more [] i h = omega arith
+no_more (y ∷ xs) zero h = absurd (none-some y h)
+no_more (y ∷ xs) (suc i) h = let most = no_more xs i h in omega (arith, most)
+
 -- ---- the first value that fails
 passes_behind : (d : Ratio) (xs rest : List Value) (x : Value) (f : Formula) → RowTestsFit d xs → OnTests d x (λ tests. IsFirst tests (Some f)) → RowTestPasses d (xs ++ x ∷ rest) f
 passes_behind d [] rest x f h k = inl k
@@ -71,7 +83,7 @@ pub fault_at : (d : Ratio) (xs : List Value) (i : ℕ) (x : Value) (e : OpFault)
 fault_at d xs i x (Passed f) lt is h k = passes_at d xs i x f lt is h k
 fault_at d xs i x NoMemory lt is h k = tt
 
-pub row_fault_at : (d : Ratio) (rows : List (List Value)) (i : ℕ) (row : List Value) (n : ℕ) (e : OpFault) → i < length rows → row ≡ get_or rows i row → n ≡ i → AllByRecursion (RowTestsFit d) (take i rows) → OnFormula (RowTestPasses d row) e → OnRowFault (PassesFirst d rows) (row_fault n e)
+pub row_fault_at : (d : Ratio) (rows : List (List Value)) (i : ℕ) (row : List Value) (n : ℕ) (e : OpFault) → i < length rows → row ≡ get_or rows i row → n ≡ i → AllByRecursion (RowTestsFit d) (take i rows) → OnFormula (RowTestPasses d row) e → OnRowFault (PassesFirst d rows) (thin_row_fault n e)
 row_fault_at d rows i row n (Passed f) lt is e h k = first_at d rows i row n f lt is e h k
 row_fault_at d rows i row n NoMemory lt is e h k = tt
 

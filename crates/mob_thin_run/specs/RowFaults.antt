@@ -9,9 +9,9 @@ use Rattle.mob_thin_run.specs.declared.rows.RowFault.{RowFault}
 use Rattle.mob_thin_run.specs.declared.rows.RowFault.TheVariants.{Passed, NoMemory}
 
 -- the fault of a row for that of its trip
-abbrev pub row_fault : ℕ → OpFault → RowFault
-row_fault row (trip.Passed formula) = Passed row formula
-row_fault row trip.NoMemory = NoMemory
+abbrev pub thin_row_fault : ℕ → OpFault → RowFault
+thin_row_fault row (trip.Passed formula) = Passed row formula
+thin_row_fault row trip.NoMemory = NoMemory
 
 -- out of memory names none
 abbrev pub OnRowFault : (ℕ → Formula → Type 0) → RowFault → Type 0

@@ -44,7 +44,7 @@ pub fn decide<S: Source, K: Sink>(
         Ok(rows) => rows,
         Err(ending) => return ending,
     };
-    let text = match thin_text(alloc, rows.as_slice(), &settings.within, &settings.epoch) {
+    let text = match thin_text(alloc, &rows, &settings.within, &settings.epoch) {
         Ok(text) => text,
         Err(fault) => return ending_of(fault),
     };

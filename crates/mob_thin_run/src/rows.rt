@@ -8,7 +8,7 @@ ghost use Rattle.mob_slice.specs.Entries.{IsFirst, IsJudged, OnFormula};
 ghost use Rattle.mob_literal.specs.Fields.{field_text};
 ghost use Rattle.mob_value.specs.declared.value.Value.{Value as ValueSeen};
 ghost use Rattle.mob_thin_run.specs.ThinRows.{AreThinRows, IsThinValue, IsThinRecord, IsThinText, OnTests, PassesFirst, RowTestsFit, RowTestPasses, table_text};
-ghost use Rattle.mob_thin_run.specs.RowFaults.{OnRowFault, row_fault};
+ghost use Rattle.mob_thin_run.specs.RowFaults.{OnRowFault, thin_row_fault};
 
 use mob_frac::Frac;
 use mob_list::items::Items;
@@ -18,7 +18,7 @@ use mob_records::records_text;
 use mob_scalar::Epoch;
 use mob_simplify::thin;
 use mob_slice::{Formula, OpFault};
-use mob_value::Value;
+use mob_value::{Rows, Value};
 use std::alloc::{AllocError, Global};
 
 /// Why the rows have no text.
@@ -120,8 +120,8 @@ fn thin_fields(
 }
 
 // The fault of a row with so many rows before it.
-fn row_fault(row: u32, fault: OpFault) -> RowFault
-    ensures same { result ≡ row_fault row fault }
+fn thin_row_fault(row: u32, fault: OpFault) -> RowFault
+    ensures same { result ≡ thin_row_fault row fault }
 {
     match fault {
         OpFault::Passed { formula } => RowFault::Passed { row, formula },
@@ -132,7 +132,7 @@ fn row_fault(row: u32, fault: OpFault) -> RowFault
 // The fields of all rows with each trip simplified, a row at a time.
 fn thin_records(
     alloc: Global,
-    rows: &[Items<Value>],
+    rows: &Rows<Value>,
     d: &Frac,
     epoch: &Epoch,
 ) -> Result<Items<Items<Text>>, RowFault>
@@ -144,10 +144,10 @@ fn thin_records(
 {
     let mut records = Items::new(alloc);
     let mut number: u32 = 0;
-    for row in rows {
-        let fields = match thin_fields(alloc, row.as_slice(), d, epoch) {
+    while let Some(row) = rows.get(number as usize) {
+        let fields = match thin_fields(alloc, row, d, epoch) {
             Ok(fields) => fields,
-            Err(fault) => return Err(row_fault(number, fault)),
+            Err(fault) => return Err(thin_row_fault(number, fault)),
         };
         records.push(fields)?;
         number += 1;
@@ -171,7 +171,7 @@ fn names(alloc: Global) -> Result<Vec<Text>, AllocError>
 /// test that does not fit.
 pub fn thin_text(
     alloc: Global,
-    rows: &[Items<Value>],
+    rows: &Rows<Value>,
     d: &Frac,
     epoch: &Epoch,
 ) -> Result<Vec<u8>, RowFault>

@@ -24,7 +24,7 @@ use Rattle.mob_tile.specs.declared.tile.Tile.{Tile}
 use Rattle.mob_tile.proofs.Ranges.{tile_has, tile_is, in_tile_exact}
 use Rattle.mob_tile.specs.declared.pieces.Piece.{Piece}
 use Rattle.mob_tile.specs.Pieces.{slices_of, IsInItsTile, ArePieces}
-use Rattle.mob_tile.specs.Groups.{piece_before, same_tile, IsByTile, group_with, groups_of, IsGroup, IsPartOfGroup, IsPartPushed, AreParts, IsGrouping}
+use Rattle.mob_tile.specs.Groups.{piece_before, same_tile, IsByTile, group_with, groups_of, IsTileGroup, IsPartOfGroup, IsPartPushed, AreParts, IsGrouping}
 use Rattle.mob_tile.specs.Split.{IsPart, IsSplit, HasTile}
 use Rattle.mob_tile.proofs.TileOrder as order
 use Rattle.mob_tile.proofs.TileOrder.{same_is, same_self, less_differs, less_differs_back, then_less, less_trans, ties_same, rises_sorted, tile_itself, tiles_total}
@@ -238,10 +238,10 @@ where_all : (o : Option Point) → where_wanted true (λ p. true) o ≡ o
 where_all None = refl
 where_all (Some p) = refl
 
-pub groups_fit : (g : GridOf) (a : Value) (pieces ordered : List Piece) → ArePieces g a pieces → IsByTile pieces ordered → AllByRecursion IsGroup (groups_of ordered)
+pub groups_fit : (g : GridOf) (a : Value) (pieces ordered : List Piece) → ArePieces g a pieces → IsByTile pieces ordered → AllByRecursion IsTileGroup (groups_of ordered)
 groups_fit g a pieces ordered h s = each (groups_of ordered) (groups_are ordered (rises_sorted tile_in ordered s.sorted)).each
   where
-    each : (gs : List (Tile × Value)) → AllByRecursion (λ (z : Tile × Value). (z.1 ≡ of_tile z.0 ordered) × (z.1 ≢ [])) gs → AllByRecursion IsGroup gs
+    each : (gs : List (Tile × Value)) → AllByRecursion (λ (z : Tile × Value). (z.1 ≡ of_tile z.0 ordered) × (z.1 ≢ [])) gs → AllByRecursion IsTileGroup gs
     each [] k = tt
     each (z ∷ gs) k = (record { some = k.0.1; ordered = subst (IsOrdered start end) (sym (k.0.0 ∙ stays z.0 pieces ordered s.stable)) (of_tile_ordered z.0 pieces h.kept.ordered) }, each gs k.1)
 
@@ -294,9 +294,6 @@ split_is g a pieces ordered parts ok h s m =
     found b (z ∷ gs) (w ∷ ps) y m = elim y [ inl e ↦ inl (m.0.tile ∙ e) | inr k ↦ inr (found b gs ps k m.1) ]
 
 -- ---- the loop over sorted pieces
-pub grouping_start : (q : Piece) (rest : List Piece) → IsGrouping (q ∷ rest) rest q.tile (q.slice ∷ []) []
-grouping_start q rest = record { done = []; made = refl; are = tt }
-
 pub grouping_same : (all rest later : List Piece) (q : Piece) (a : Tile) (taken taken' : Value) (parts : List (Tile × Value)) → rest ≡ q ∷ later → same_tile a q.tile ≡ true → taken' ≡ taken ++ q.slice ∷ [] → IsGrouping all rest a taken parts → IsGrouping all later a taken' parts
 grouping_same all rest later q a taken taken' parts e h n m = record {
   done = m.done;
@@ -317,18 +314,18 @@ grouping_next all rest later q a taken parts parts' e h n m = record {
   are = subst (AreParts (m.done ++ (a, taken) ∷ [])) (sym n.is) (snoc_parts m.done parts (a, taken) n.part m.are n.of);
 }
 
-one_in : (gs later : List (Tile × Value)) (x : Tile × Value) → AllByRecursion IsGroup (gs ++ x ∷ later) → IsGroup x
+one_in : (gs later : List (Tile × Value)) (x : Tile × Value) → AllByRecursion IsTileGroup (gs ++ x ∷ later) → IsTileGroup x
 one_in [] later x h = h.0
 one_in (z ∷ gs) later x h = one_in gs later x h.1
 
 -- what is taken before another tile, and at the end, is a group
-pub group_taken : (all rest later : List Piece) (q : Piece) (a : Tile) (taken : Value) (parts : List (Tile × Value)) → rest ≡ q ∷ later → same_tile a q.tile ≡ false → IsGrouping all rest a taken parts → AllByRecursion IsGroup (groups_of all) → IsGroup (a, taken)
+pub group_taken : (all rest later : List Piece) (q : Piece) (a : Tile) (taken : Value) (parts : List (Tile × Value)) → rest ≡ q ∷ later → same_tile a q.tile ≡ false → IsGrouping all rest a taken parts → AllByRecursion IsTileGroup (groups_of all) → IsTileGroup (a, taken)
 group_taken all rest later q a taken parts e h m k =
     let made : m.done ++ (a, taken) ∷ group_with q.tile (q.slice ∷ []) later ≡ groups_of all = ap (λ b. m.done ++ cond b (group_with a (taken ++ q.slice ∷ []) later) ((a, taken) ∷ group_with q.tile (q.slice ∷ []) later)) (sym h) ∙ ap (λ z. m.done ++ group_with a taken z) (sym e) ∙ m.made in
-    one_in m.done (group_with q.tile (q.slice ∷ []) later) (a, taken) (subst (AllByRecursion IsGroup) (sym made) k)
+    one_in m.done (group_with q.tile (q.slice ∷ []) later) (a, taken) (subst (AllByRecursion IsTileGroup) (sym made) k)
 
-pub group_last : (all rest : List Piece) (a : Tile) (taken : Value) (parts : List (Tile × Value)) → rest ≡ [] → IsGrouping all rest a taken parts → AllByRecursion IsGroup (groups_of all) → IsGroup (a, taken)
-group_last all rest a taken parts e m k = one_in m.done [] (a, taken) (subst (AllByRecursion IsGroup) (sym (ap (λ z. m.done ++ group_with a taken z) (sym e) ∙ m.made)) k)
+pub group_last : (all rest : List Piece) (a : Tile) (taken : Value) (parts : List (Tile × Value)) → rest ≡ [] → IsGrouping all rest a taken parts → AllByRecursion IsTileGroup (groups_of all) → IsTileGroup (a, taken)
+group_last all rest a taken parts e m k = one_in m.done [] (a, taken) (subst (AllByRecursion IsTileGroup) (sym (ap (λ z. m.done ++ group_with a taken z) (sym e) ∙ m.made)) k)
 
 pub grouping_end : (all rest : List Piece) (a : Tile) (taken : Value) (parts parts' : List (Tile × Value)) → rest ≡ [] → IsPartPushed (a, taken) parts parts' → IsGrouping all rest a taken parts → AreParts (groups_of all) parts'
 grouping_end all rest a taken parts parts' e n m =

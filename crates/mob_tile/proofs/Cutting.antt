@@ -129,9 +129,6 @@ rising_on : (x : Ratio) (xs : List Ratio) → Leads x xs → Rises xs → IsRisi
 rising_on x [] h up = tt
 rising_on x (y ∷ xs) h up = (grind (arith, h.0), rising_on y xs up.0 up.1)
 
-earlier : Ratio → Ratio → Bool
-earlier a b = is_lt (compare_ratio a b)
-
 not_before : (a b : Ratio) → is_lt (compare_ratio a b) ≡ false → before a b ≡ false
 not_before a b h = by (before a b) refl h
   where

@@ -1,12 +1,10 @@
 -- The pieces of a slice on its cells, and of all slices.
-use Rattle.std.proofs.Common.{◌≡◌, ◌⊎◌, inl, inr, true, List, [], ◌∷◌, ◌++◌, refl, sym, ap, subst, ◌∙◌, cond, Some, None, Result, Ok, Err}
-use Rattle.std.specs.Prelude.{MatchResult}
+use Rattle.std.proofs.Common.{◌≡◌, ◌⊎◌, inl, inr, true, List, [], ◌∷◌, ◌++◌, refl, sym, ap, subst, ◌∙◌, Some, None}
 use Rattle.std.specs.List.{AllByRecursion, flat_map}
 use Rattle.mob_ratio.specs.Ratio.{Ratio}
 use Rattle.mob_frac.specs.Formula.{AllFit}
 use Rattle.mob_span.specs.Span.{SpanOf, has}
 use Rattle.mob_span.specs.Neighbours.{is_inside}
-use Rattle.mob_span.proofs.Insides.{inside_self}
 use Rattle.mob_plane.specs.declared.point.Point.{Point}
 use Rattle.mob_slice.specs.declared.formula.Formula.TheVariants.{F1}
 use Rattle.mob_slice.specs.Slices.{IsOrdered}
@@ -14,15 +12,15 @@ use Rattle.mob_slice.specs.Cut.{slice_value, slice_parts}
 use Rattle.mob_slice.specs.Sides.{HasValues, at_ends}
 use Rattle.mob_slice.specs.Lines.{plane_value_of, plane_parts_of}
 use Rattle.mob_slice.specs.PlaneLaws.{plane_laws}
-use Rattle.mob_slice.specs.Entries.{Entry, IsFirst, OnFormula, IsPartFault}
+use Rattle.mob_slice.specs.Entries.{IsFirst, OnFormula, IsPartFault}
 use Rattle.mob_slice.specs.declared.slice.Slice.{Slice}
 use Rattle.mob_slice.specs.declared.line.PlaneLine.{PlaneLine}
 use Rattle.mob_slice.specs.declared.formula.OpFault.{OpFault}
-use Rattle.mob_slice.specs.declared.formula.OpFault.TheVariants.{Passed, NoMemory}
 use Rattle.mob_slice.proofs.Cuts.{all_both, all_first, all_second}
 use Rattle.mob_list.proofs.Each.{each_both}
 use Rattle.mob_cells.specs.Cells.{IsIn, IsCut, IsSomeEnd}
-use Rattle.mob_cells.specs.Kept.{AreKeptOn}
+use Rattle.mob_lifted.specs.OnPiece.{AreKeptOn}
+use Rattle.mob_lifted.proofs.OnOnePiece.{one_kept}
 use Rattle.mob_cells.proofs.Making.{are_cells}
 use Rattle.mob_cells.proofs.Restricting.{IsMade, made_step, made_end, kept_fault}
 use Rattle.mob_cells.proofs.BySlices.{IsLeft, left_step, left_end, IsFitting, fitting_start, fitting_step, fitting_fails, fitting_end}
@@ -48,11 +46,7 @@ in_its_tile g s c part tile h one e t i =
     subst (λ z. InTile g z t (slice_value plane_value_of part t)) (sym same) (subst (λ z. InTile g (tile_on g s c) t z) (sym (h.same t j)) (one t j))
 
 gives_one : (s : Slice PlaneLine) (c : SpanOf) (p : Slice PlaneLine) → HasValues plane_value_of start end (slice_value plane_value_of s) c p → AreKeptOn plane_value_of start end (λ t. Some (slice_value plane_value_of s t)) c (p ∷ [])
-gives_one s c p h = record {
-  ordered = (h.sound, tt, tt);
-  inside = (rw h.on (inside_self c), tt);
-  values = λ t i. subst (λ z. cond (has z t) (Some (slice_value plane_value_of p t)) None ≡ Some (slice_value plane_value_of s t)) (sym h.on) (rw i (ap Some (h.same t i)));
-}
+gives_one s c p h = one_kept plane_value_of start end (λ t. Some (slice_value plane_value_of s t)) (slice_value plane_value_of s) c p h (λ t i. refl)
 
 slices_both : (ps qs : List Piece) → slices_of (ps ++ qs) ≡ slices_of ps ++ slices_of qs
 slices_both [] qs = refl
@@ -140,19 +134,6 @@ module _ (g : GridOf) (s : Slice PlaneLine) where
     },
     inl (cuts_fit s (cuts_of g s) cells (m.fits (rw e tt)) k.cut.each, refl),
   )
-
--- ---- the entries of a slice, one after another
-pub fail_first : (e : Entry) (entries : List Entry) (f : OpFault) → IsPartFault e.formula e.parts f → OnFormula (λ z. IsFirst (e ∷ entries) (Some z)) f
-fail_first e entries (Passed z) h = inr (h.1, ap Some h.0)
-fail_first e entries NoMemory h = tt
-
-pub pass_on : (e : Entry) (entries : List Entry) (f : OpFault) → AllFit e.parts → OnFormula (λ z. IsFirst entries (Some z)) f → OnFormula (λ z. IsFirst (e ∷ entries) (Some z)) f
-pass_on e entries (Passed z) a h = inl (a, h)
-pass_on e entries NoMemory a h = tt
-
-pub fits_on : {V : Type 0} (Q : V → Type 0) (e : Entry) (entries : List Entry) (r : Result V OpFault) → AllFit e.parts → MatchResult r (λ v. Q v × IsFirst entries None) (OnFormula (λ z. IsFirst entries (Some z))) → MatchResult r (λ v. Q v × IsFirst (e ∷ entries) None) (OnFormula (λ z. IsFirst (e ∷ entries) (Some z)))
-fits_on Q e entries (Ok v) a h = (h.0, inl (a, h.1))
-fits_on Q e entries (Err f) a h = pass_on e entries f a h
 
 -- ---- the loop over slices
 pub record IsGathering (g : GridOf) (range : TileRange) (all rest : List (Slice PlaneLine)) (out : List Piece) : Type 0 where

@@ -10,9 +10,8 @@ use Rattle.mob_plane.specs.declared.point.Point.{Point}
 use Rattle.mob_stbox.specs.Areas.{InArea}
 use Rattle.mob_stbox.specs.declared.area.Area.{Area}
 use Rattle.mob_tile.specs.Bands.{in_band}
-use Rattle.mob_tile.specs.Tiles.{GridOf, IsGrid, InTile, in_tile, tile_of, InRange, IsRange, range_of, side_of, HasMany}
+use Rattle.mob_tile.specs.Tiles.{GridOf, IsGrid, InTile, in_tile, tile_of, InRange, IsRange, range_of}
 use Rattle.mob_tile.specs.declared.tile.Tile.{Tile}
-use Rattle.mob_tile.specs.declared.tile.TileRange.{TileRange}
 use Rattle.mob_tile.proofs.BandNumbers.{band_has, band_is, bands_rise, in_band_exact}
 
 pub tile_has : (g : GridOf) (t : Ratio) (p : Point) → IsGrid g → InTile g (tile_of g t p) t p
@@ -56,9 +55,6 @@ pub reach : (g : GridOf) (a : Area) (s : SpanOf) (t : Ratio) (p : Point) → IsG
 reach g a s t p h i j = closed_reach g a s t p h i (from_lower s t j) (to_upper s t j)
 
 -- ---- how many tiles
-pub side_some : (l h : ℤ) → l ≤ℤ h → pos 1 ≤ℤ side_of l h
-side_some l h p = omega (arith, ints)
-
 one_times : (a : ℤ) → pos 1 *ℤ a ≡ a
 one_times a = simp products (omega (arith, linear))
 
@@ -87,15 +83,6 @@ module _ (a b c : ℤ) (i : pos 1 ≤ℤ a) (j : pos 1 ≤ℤ b) (k : pos 1 ≤�
       let g = times_more a b (some a i) j in
       let one : pos 1 ≤ℤ (a *ℤ b) = omega (arith, ints) in
       subst (λ z. pos 10000 <ℤ z) (mul_comm c (a *ℤ b)) (more (pos 10000) c (c *ℤ (a *ℤ b)) h (times_more c (a *ℤ b) (some c k) one))
-
-pub many_first : (r : TileRange) → IsRange r → pos 10000 <ℤ side_of r.low.i r.high.i → HasMany r
-many_first r h = long_first (side_of r.low.i r.high.i) (side_of r.low.j r.high.j) (side_of r.low.k r.high.k) (side_some r.low.i r.high.i h.by_i) (side_some r.low.j r.high.j h.by_j) (side_some r.low.k r.high.k h.by_k)
-
-pub many_second : (r : TileRange) → IsRange r → pos 10000 <ℤ side_of r.low.j r.high.j → HasMany r
-many_second r h = long_second (side_of r.low.i r.high.i) (side_of r.low.j r.high.j) (side_of r.low.k r.high.k) (side_some r.low.i r.high.i h.by_i) (side_some r.low.j r.high.j h.by_j) (side_some r.low.k r.high.k h.by_k)
-
-pub many_third : (r : TileRange) → IsRange r → pos 10000 <ℤ side_of r.low.k r.high.k → HasMany r
-many_third r h = long_third (side_of r.low.i r.high.i) (side_of r.low.j r.high.j) (side_of r.low.k r.high.k) (side_some r.low.i r.high.i h.by_i) (side_some r.low.j r.high.j h.by_j) (side_some r.low.k r.high.k h.by_k)
 
 -- the range of a rectangle that has a point and a span that has an instant
 pub range_stands : (g : GridOf) (a : Area) (s : SpanOf) → IsGrid g → a.xmin ≤ℚ a.xmax → a.ymin ≤ℚ a.ymax → s.lower ≤ℚ s.upper → IsRange (range_of g a s)

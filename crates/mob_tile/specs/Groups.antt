@@ -34,7 +34,7 @@ groups_of [] = []
 groups_of (q ∷ rest) = group_with q.tile (q.slice ∷ []) rest
 
 -- slices that can be made a value
-pub record IsGroup (group : Tile × List (Slice PlaneLine)) : Type 0 where
+pub record IsTileGroup (group : Tile × List (Slice PlaneLine)) : Type 0 where
   pub some : group.1 ≢ []
   pub ordered : IsOrdered (λ c. c.from) (λ c. c.to) group.1
 

@@ -13,7 +13,7 @@ use Rattle.mob_slice.specs.Lines.{plane_value_of}
 use Rattle.mob_slice.specs.declared.slice.Slice.{Slice}
 use Rattle.mob_slice.specs.declared.line.PlaneLine.{PlaneLine}
 use Rattle.mob_cells.specs.Cells.{AreSplit, IsCut, IsSomeEnd, split_one, split_at}
-use Rattle.mob_cells.specs.Kept.{AreKeptOn}
+use Rattle.mob_lifted.specs.OnPiece.{AreKeptOn}
 use Rattle.mob_cells.specs.Restricted.{AreRestricted}
 use Rattle.mob_tile.specs.Tiles.{GridOf, InTile, InRange, tile_of}
 use Rattle.mob_tile.specs.declared.tile.Tile.{Tile}

@@ -1,5 +1,5 @@
 //! Pieces of slices, each in one tile.
-ghost use Rattle.std.specs.Prelude.{◌≡◌, true, [], ◌∷◌, ◌++◌, map, Some, None, OnOk, IfOk, MatchResult};
+ghost use Rattle.std.specs.Prelude.{◌≡◌, true, [], ◌∷◌, ◌++◌, map, OnOk, IfOk};
 ghost use Rattle.std.specs.List.{flat_map, AllByRecursion};
 ghost use Rattle.std.specs.List.Sorted.{IsPermutation, IsSortedBy};
 ghost use Rattle.std.specs.Ordering.{is_lt};
@@ -9,7 +9,7 @@ ghost use Rattle.mob_slice.specs.Slices.{IsSound, IsOrdered};
 ghost use Rattle.mob_slice.specs.Cut.{slice_value, slice_parts};
 ghost use Rattle.mob_slice.specs.Sides.{at_ends, HasValues};
 ghost use Rattle.mob_slice.specs.Lines.{plane_value_of, plane_parts_of};
-ghost use Rattle.mob_slice.specs.Entries.{IsFirst, OnFormula, IsJudged, IsMadeBy};
+ghost use Rattle.mob_slice.specs.Entries.{IsJudged, IsMadeBy, IsMadeByAll};
 ghost use Rattle.mob_slice.specs.declared.formula.Formula.TheVariants.{F1, F2, F3};
 ghost use Rattle.mob_cells.specs.Roots.{IsLevel, roots, roots_parts};
 ghost use Rattle.mob_tile.specs.Edges.{t_edges, differences, cuts_of, edge_of, edges_parts, entry_of_values, entries_of_slice};
@@ -210,7 +210,7 @@ fn pieces_at(
     requires sound { IsSound (λ c. c.from) (λ c. c.to) slice.now }
     requires reaches { Reaches grid.now range.now slice.now }
     requires cells { AreTileCells grid.now slice.now (cuts_of grid.now slice.now) cells.now }
-    ensures pieces { MatchResult result (λ v. ArePiecesOf grid.now slice.now v.items × IsFirst (entry_of_values grid.now slice.now ∷ []) None) (OnFormula (λ f. IsFirst (entry_of_values grid.now slice.now ∷ []) (Some f))) }
+    ensures pieces { IsMadeByAll (entry_of_values grid.now slice.now ∷ []) (λ v. ArePiecesOf grid.now slice.now v.items) result }
 {
     let mut out = Vec::new(alloc);
     for cell in cells {
@@ -231,7 +231,7 @@ fn on_slice(
 ) -> Result<Vec<Piece>, OpFault>
     requires sound { IsSound (λ c. c.from) (λ c. c.to) slice.now }
     requires reaches { Reaches grid.now range.now slice.now }
-    ensures pieces { MatchResult result (λ v. ArePiecesOf grid.now slice.now v.items × IsFirst (entries_of_slice grid.now slice.now) None) (OnFormula (λ f. IsFirst (entries_of_slice grid.now slice.now) (Some f))) }
+    ensures pieces { IsMadeByAll (entries_of_slice grid.now slice.now) (λ v. ArePiecesOf grid.now slice.now v.items) result }
 {
     // The clauses of these two say that the sides of a tile are above 0.
     let _size = grid.size();

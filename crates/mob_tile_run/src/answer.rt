@@ -12,7 +12,6 @@ use crate::fields::{PairPrinter, pair_names};
 use crate::parts::parts_text;
 use crate::settings::TileSettings;
 use mob_frac::Frac;
-use mob_list::items::Items;
 use mob_outside::Gate;
 use mob_pairs::{PairFault, pairs};
 use mob_records::counted_text_by;
@@ -20,7 +19,7 @@ use mob_scalar::Epoch;
 use mob_slice::{Moving, PlaneLine};
 use mob_tile::Grid;
 use mob_trips::split_rows;
-use mob_value::Value;
+use mob_value::{Rows, Value};
 use std::alloc::{AllocError, Global};
 use std::marker::Sync;
 use std::thread::Threads;
@@ -104,7 +103,7 @@ pub fn tile_text<R: Threads + Sync, G: Gate>(
     rt: &R,
     alloc: Global,
     settings: &TileSettings,
-    rows: Items<Items<Value>>,
+    rows: Rows<Value>,
     gate: &G,
 ) -> Result<Vec<u8>, PairFault>
     requires usable { IsUsable settings.now }

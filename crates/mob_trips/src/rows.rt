@@ -8,7 +8,7 @@ use mob_list::text::Text;
 use mob_literal::write_field;
 use mob_scalar::Epoch;
 use mob_slice::{Moving, PlaneLine};
-use mob_value::Value;
+use mob_value::{Rows, Value};
 use std::alloc::{AllocError, Global};
 
 // The moving point that a value is; NULL is none.
@@ -38,14 +38,15 @@ fn split_row(row: Items<Value>) -> (Value, Option<Moving<PlaneLine>>)
 /// The ids and the trips of the rows.
 pub fn split_rows(
     alloc: Global,
-    rows: Items<Items<Value>>,
+    rows: Rows<Value>,
 ) -> Result<(Vec<Value>, Vec<Option<Moving<PlaneLine>>>), AllocError>
     ensures ids { IfOk result (λ r. r.0.items ≡ map id_of rows) }
     ensures trips { IfOk result (λ r. r.1.items ≡ map trip_of rows) }
 {
     let mut ids = Vec::new(alloc);
     let mut trips = Vec::new(alloc);
-    for row in rows.into_vec() {
+    let mut left = rows.into_left();
+    while let Some(row) = left.next(alloc)? {
         let (id, trip) = split_row(row);
         ids.push(id)?;
         trips.push(trip)?;

@@ -24,9 +24,6 @@ agg_send = search (sendable, crosses, type_send, kind_send) depth 60 fits 20000
 agg_sync : IsSync agg.the_row
 agg_sync = search (sendable, crosses, type_sync, kind_sync) depth 60 fits 20000
 
-pub select_send : IsSend select.the_row
-select_send = search (sendable, crosses, texpr_send, agg_send, items_send, text_send) depth 60 fits 20000
-
 pub select_sync : IsSync select.the_row
 select_sync = search (sendable, crosses, texpr_sync, agg_sync, items_sync, text_sync) depth 60 fits 20000
 

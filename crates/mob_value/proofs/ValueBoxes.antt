@@ -241,9 +241,3 @@ pub on_box : (value : Value) (found : Option BoxOf) (P : BoxOf → Type 0) (none
 on_box (Box a) found P none h k = subst (λ o. MatchOption o none P) h k
 on_box (MovingPoint a) found P none h k = (h.0, h.1, subst (λ o. MatchOption o none P) h.2 k)
 on_box _ found P none h k = subst (λ o. MatchOption o none P) h k
-
--- what holds on the box of a value holds of each box that it has
-pub of_own_box : (value : Value) (b : BoxOf) (P : BoxOf → Type 0) (none : Type 0) → HasBox value b → OnBox value P none → P b
-of_own_box (Box a) b P none h k = subst P (sym h) k
-of_own_box (MovingPoint a) b P none h k = subst P (one_value_box a k.0 b k.1 h) k.2
-of_own_box _ b P none h k = absurd h

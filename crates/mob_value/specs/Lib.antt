@@ -1,3 +1,4 @@
+pub mod Cuts
 pub mod Memory
 pub mod Null
 pub mod Types

@@ -4,11 +4,13 @@
 mod boxed;
 mod copies;
 pub mod laws;
+mod rows;
 mod store;
 mod value;
 mod value_box;
 
 pub use boxed::Boxed;
+pub use rows::{Rows, RowsLeft};
 pub use store::{Store, Table};
 pub use value::Value;
 pub use value_box::{box_of, box_of_value};

@@ -1,5 +1,6 @@
 //! What queries read: the rows of the tables, and the constants of the script.
 
+use crate::rows::Rows;
 use crate::value::Value;
 use mob_list::items::Items;
 
@@ -7,7 +8,7 @@ use mob_list::items::Items;
 #[derive(Drop)]
 pub struct Table {
     /// The rows.
-    pub rows: Items<Items<Value>>,
+    pub rows: Rows<Value>,
 }
 
 /// The tables, in the order in which they were made, and the constants of the script, in written

@@ -32,7 +32,7 @@ fn write_instant<C: Course>(
 ) -> Result<(), AllocError>
 where
     C::Base: BaseValue + Printed,
-    ensures written { OnOk result (string_bytes into.new ≡ string_bytes into.old ++ instant_text (style_of (course_of C.STEADY C.value_of C.start_of C.end_of C.make C.is_continued C.Base.is_same) C.Base.text epoch.now) value.now instant.now) }
+    ensures written { OnOk result (string_bytes into.new ≡ string_bytes into.old ++ instant_text (style_of (course_of C.Course C.Base.is_same) C.Base.text epoch.now) value.now instant.now) }
 {
     value.write(into)?;
     into.push_str("@")?;
@@ -51,7 +51,7 @@ fn is_long<C>(slice: &Slice<C>) -> bool
 fn takes_up<C: Course>(course: &C, next: &C) -> bool
 where
     C::Base: BaseValue,
-    ensures value { result ≡ takes_up_in (course_of C.STEADY C.value_of C.start_of C.end_of C.make C.is_continued C.Base.is_same) course.now next.now }
+    ensures value { result ≡ takes_up_in (course_of C.Course C.Base.is_same) course.now next.now }
 {
     C::STEADY || course.end().same(next.start())
 }
@@ -61,7 +61,7 @@ where
 fn shares_group<C: Course>(slice: &Slice<C>, next: &Slice<C>) -> bool
 where
     C::Base: BaseValue,
-    ensures value { result ≡ shares_group (course_of C.STEADY C.value_of C.start_of C.end_of C.make C.is_continued C.Base.is_same) slice.now next.now }
+    ensures value { result ≡ shares_group (course_of C.Course C.Base.is_same) slice.now next.now }
 {
     slice.span.upper().is_same(next.span.lower())
         && next.span.lower_inc()
@@ -76,7 +76,7 @@ fn write_start<C: Course>(
 ) -> Result<(), AllocError>
 where
     C::Base: BaseValue + Printed,
-    ensures written { OnOk result (string_bytes into.new ≡ string_bytes into.old ++ start_text (style_of (course_of C.STEADY C.value_of C.start_of C.end_of C.make C.is_continued C.Base.is_same) C.Base.text epoch.now) slice.now) }
+    ensures written { OnOk result (string_bytes into.new ≡ string_bytes into.old ++ start_text (style_of (course_of C.Course C.Base.is_same) C.Base.text epoch.now) slice.now) }
 {
     write_instant::<C>(slice.course.start(), slice.span.lower(), epoch, into)
 }
@@ -108,7 +108,7 @@ fn write_end<C: Course>(
 ) -> Result<(), AllocError>
 where
     C::Base: BaseValue + Printed,
-    ensures written { OnOk result (string_bytes into.new ≡ string_bytes into.old ++ end_part (style_of (course_of C.STEADY C.value_of C.start_of C.end_of C.make C.is_continued C.Base.is_same) C.Base.text epoch.now) slice.now) }
+    ensures written { OnOk result (string_bytes into.new ≡ string_bytes into.old ++ end_part (style_of (course_of C.Course C.Base.is_same) C.Base.text epoch.now) slice.now) }
 {
     if is_long(slice) {
         into.push_str(", ")?;
@@ -125,7 +125,7 @@ fn write_between<C: Course>(
 ) -> Result<(), AllocError>
 where
     C::Base: BaseValue + Printed,
-    ensures written { OnOk result (string_bytes into.new ≡ string_bytes into.old ++ gap (style_of (course_of C.STEADY C.value_of C.start_of C.end_of C.make C.is_continued C.Base.is_same) C.Base.text epoch.now) slice.now next.now) }
+    ensures written { OnOk result (string_bytes into.new ≡ string_bytes into.old ++ gap (style_of (course_of C.Course C.Base.is_same) C.Base.text epoch.now) slice.now next.now) }
 {
     if shares_group(slice, next) {
         return into.push_str(", ");
@@ -143,7 +143,7 @@ fn write_groups<C: Course>(
 ) -> Result<(), AllocError>
 where
     C::Base: BaseValue + Printed,
-    ensures written { OnOk result (string_bytes into.new ≡ string_bytes into.old ++ with_commas (map (group_text (style_of (course_of C.STEADY C.value_of C.start_of C.end_of C.make C.is_continued C.Base.is_same) C.Base.text epoch.now)) (groups_of (course_of C.STEADY C.value_of C.start_of C.end_of C.make C.is_continued C.Base.is_same) slices.now))) }
+    ensures written { OnOk result (string_bytes into.new ≡ string_bytes into.old ++ with_commas (map (group_text (style_of (course_of C.Course C.Base.is_same) C.Base.text epoch.now)) (groups_of (course_of C.Course C.Base.is_same) slices.now))) }
 {
     let [first, rest @ ..] = slices else {
         return Ok(());
@@ -167,7 +167,7 @@ fn write_starts<C: Course>(
 ) -> Result<(), AllocError>
 where
     C::Base: BaseValue + Printed,
-    ensures written { OnOk result (string_bytes into.new ≡ string_bytes into.old ++ with_commas (map (start_text (style_of (course_of C.STEADY C.value_of C.start_of C.end_of C.make C.is_continued C.Base.is_same) C.Base.text epoch.now)) slices.now)) }
+    ensures written { OnOk result (string_bytes into.new ≡ string_bytes into.old ++ with_commas (map (start_text (style_of (course_of C.Course C.Base.is_same) C.Base.text epoch.now)) slices.now)) }
 {
     let [first, rest @ ..] = slices else {
         return Ok(());
@@ -191,7 +191,7 @@ fn is_set<C>(slices: &[Slice<C>]) -> bool
 fn is_group<C: Course>(slices: &[Slice<C>]) -> bool
 where
     C::Base: BaseValue,
-    ensures value { result ≡ is_one_group (course_of C.STEADY C.value_of C.start_of C.end_of C.make C.is_continued C.Base.is_same) slices.now }
+    ensures value { result ≡ is_one_group (course_of C.Course C.Base.is_same) slices.now }
 {
     match slices {
         [] => false,
@@ -207,7 +207,7 @@ fn write_set<C: Course>(
 ) -> Result<(), AllocError>
 where
     C::Base: BaseValue + Printed,
-    ensures written { OnOk result (string_bytes into.new ≡ string_bytes into.old ++ set_text (style_of (course_of C.STEADY C.value_of C.start_of C.end_of C.make C.is_continued C.Base.is_same) C.Base.text epoch.now) slices.now) }
+    ensures written { OnOk result (string_bytes into.new ≡ string_bytes into.old ++ set_text (style_of (course_of C.Course C.Base.is_same) C.Base.text epoch.now) slices.now) }
 {
     match slices {
         [only] => write_start(only, epoch, into),
@@ -227,7 +227,7 @@ fn write_sequences<C: Course>(
 ) -> Result<(), AllocError>
 where
     C::Base: BaseValue + Printed,
-    ensures written { OnOk result (string_bytes into.new ≡ string_bytes into.old ++ groups_text (style_of (course_of C.STEADY C.value_of C.start_of C.end_of C.make C.is_continued C.Base.is_same) C.Base.text epoch.now) (groups_of (course_of C.STEADY C.value_of C.start_of C.end_of C.make C.is_continued C.Base.is_same) slices.now)) }
+    ensures written { OnOk result (string_bytes into.new ≡ string_bytes into.old ++ groups_text (style_of (course_of C.Course C.Base.is_same) C.Base.text epoch.now) (groups_of (course_of C.Course C.Base.is_same) slices.now)) }
 {
     if is_group(slices) {
         return write_groups(slices, epoch, into);
@@ -244,7 +244,7 @@ fn write_slices<C: Course>(
 ) -> Result<(), AllocError>
 where
     C::Base: BaseValue + Printed,
-    ensures written { OnOk result (string_bytes into.new ≡ string_bytes into.old ++ moving_text (style_of (course_of C.STEADY C.value_of C.start_of C.end_of C.make C.is_continued C.Base.is_same) C.Base.text epoch.now) slices.now) }
+    ensures written { OnOk result (string_bytes into.new ≡ string_bytes into.old ++ moving_text (style_of (course_of C.Course C.Base.is_same) C.Base.text epoch.now) slices.now) }
 {
     if is_set(slices) {
         write_set(slices, epoch, into)
@@ -261,7 +261,7 @@ pub fn write_moving<C: Course>(
 ) -> Result<(), AllocError>
 where
     C::Base: BaseValue + Printed,
-    ensures written { OnOk result (string_bytes into.new ≡ string_bytes into.old ++ moving_text (style_of (course_of C.STEADY C.value_of C.start_of C.end_of C.make C.is_continued C.Base.is_same) C.Base.text epoch.now) value.now) }
+    ensures written { OnOk result (string_bytes into.new ≡ string_bytes into.old ++ moving_text (style_of (course_of C.Course C.Base.is_same) C.Base.text epoch.now) value.now) }
     ensures unchanged { OnErr result (string_bytes into.new ≡ string_bytes into.old) }
 {
     let mut text = String::new(*into.allocator());

@@ -19,8 +19,8 @@ use std::thread::Threads;
 /// `script` and its table files from `files`, the answers go to `out`, and after every status but 0
 /// one line goes to `notes`. With `--demo` the script and the only file are those of the demo, and
 /// neither `script` nor `files` is touched. With `--workers` the outer rows of each query are
-/// divided into so many pieces, which run side by side and pass `gate` as they start; the answers
-/// are the same.
+/// divided into pieces, which so many workers take in turn; each passes `gate` as it starts. The
+/// answers are the same.
 ///
 /// | status | when |
 /// |---|---|

@@ -13,7 +13,7 @@ use mob_typed::TypedStatement;
 use std::alloc::Global;
 use std::thread::Threads;
 
-/// Runs all statements by so many workers, whose pieces pass the gate, and puts each answer before
+/// Runs all statements by so many workers, which pass the gate, and puts each answer before
 /// the next statement runs. Where all ran, the session is left as the last of them left it. Each
 /// has to be one that can be run in every state that those before it may leave. It ends by `Done`,
 /// by the fault of a statement, by a fault of `out` or out of memory.

@@ -12,12 +12,11 @@ use crate::statements::deleting::delete_kept;
 use crate::statements::rows::{copy_of_columns, put_constants};
 use mob_catalog::Catalog;
 use mob_eval::QueryFault;
-use mob_list::items::Items;
 use mob_load::Program;
 use mob_outside::Gate;
 use mob_scalar::Epoch;
 use mob_typed::{TypedSelect, TypedStatement};
-use mob_value::Value;
+use mob_value::{Rows, Value};
 use std::alloc::{AllocError, Global};
 use std::collections::VecDeque;
 use std::thread::Threads;
@@ -27,7 +26,7 @@ use std::thread::Threads;
 #[derive(Drop)]
 pub struct Session {
     catalog: Catalog,
-    files: VecDeque<Items<Items<Value>>>,
+    files: VecDeque<Rows<Value>>,
     epoch: Epoch,
 }
 
@@ -47,7 +46,7 @@ impl Session {
     }
 
     // The rows of the next file.
-    fn next_file(&mut self, alloc: Global) -> Items<Items<Value>>
+    fn next_file(&mut self, alloc: Global) -> Rows<Value>
         ensures rows { result ≡ next_rows self.old.files.items }
         ensures left { self.new.files.items ≡ later_files self.old.files.items }
         ensures catalog { self.new.catalog ≡ self.old.catalog }
@@ -55,7 +54,7 @@ impl Session {
     {
         match self.files.pop_front() {
             Some(rows) => rows,
-            None => Items::new(alloc),
+            None => Rows::new(alloc),
         }
     }
 
@@ -151,7 +150,7 @@ impl Session {
         }
     }
 
-    /// Runs one statement by so many workers, whose pieces pass the gate, and answers the text of
+    /// Runs one statement by so many workers, which pass the gate, and answers the text of
     /// its answer.
     pub fn execute<R: Threads + Sync, G: Gate>(
         &mut self,

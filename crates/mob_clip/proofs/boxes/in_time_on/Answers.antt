@@ -5,7 +5,7 @@ use Rattle.mob_slice.specs.Cut.{slice_value}
 use Rattle.mob_slice.specs.Lines.{plane_value_of}
 use Rattle.mob_slice.specs.PlaneLaws.{plane_laws}
 use Rattle.mob_slice.specs.Entries.{IsFirst}
-use Rattle.mob_cells.specs.Kept.{AreKeptOn}
+use Rattle.mob_lifted.specs.OnPiece.{AreKeptOn}
 use Rattle.mob_cells.specs.Restricted.{kept_value}
 use Rattle.mob_cells.proofs.OwnEnds.{own_fit}
 use Rattle.mob_stbox.specs.Boxes.{in_space}

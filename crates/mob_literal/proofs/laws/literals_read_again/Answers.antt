@@ -6,6 +6,6 @@ use Rattle.mob_literal.proofs.laws.literals_read_again.Goals as goal
 pub returns : goal.returns
 returns g c = record {
   again = λ day v before front r are level.
-      behind_prefixes (course_of g.C.Course.STEADY g.C.Course.value_of g.C.Course.start_of g.C.Course.end_of g.C.Course.make g.C.Course.is_continued g.T.Base.BaseValue.is_same)
+      behind_prefixes (course_of g.C.Course g.T.Base.BaseValue.is_same)
       (lawful g.T.Base.BaseValue.is_same g.met.T.Base.BaseValue.exact g.met.C.Course.laws) day g.T.WrittenValue.HAS_SRID g.T.WrittenValue.shape g.met.T.WrittenValue.exact.has_byte g.T.Base.Printed.text g.T.WrittenValue.has_value v r before front are level;
 }

@@ -12,7 +12,7 @@ loop-next-init g c = record {
   goes = tt;
   ends = tt;
   counted = search rules;
-  together = made_begins (course_of g.C.Course.STEADY g.C.Course.value_of g.C.Course.start_of g.C.Course.end_of g.C.Course.make g.C.Course.is_continued g.C.Base.BaseValue.is_same) c.args.step c.new-slices.result.items c.args.lower_inc c.args.upper_inc c.in-Some.last (into_iter_items c.into_iter-next-iterator.result) c.args.instants.items c.new-slices.ensures.items (rw c.into_iter-next-iterator.ensures.into_iter_gives (sym c.into_iter-rest.ensures.rest ∙ c.in-Some.ensures.items));
+  together = made_begins (course_of g.C.Course g.C.Base.BaseValue.is_same) c.args.step c.new-slices.result.items c.args.lower_inc c.args.upper_inc c.in-Some.last (into_iter_items c.into_iter-next-iterator.result) c.args.instants.items c.new-slices.ensures.items (rw c.into_iter-next-iterator.ensures.into_iter_gives (sym c.into_iter-rest.ensures.rest ∙ c.in-Some.ensures.items));
 }
 
 pub loop-next-preserved : goal.loop-next-preserved
@@ -23,7 +23,7 @@ loop-next-preserved g c =
       goes = tt;
       ends = tt;
       counted = counted_down _ _ _ _ _ left c.in-Some-next.ensures.steps.1 c.loop-next.invariant.counted;
-      together = made_more (course_of g.C.Course.STEADY g.C.Course.value_of g.C.Course.start_of g.C.Course.end_of g.C.Course.make g.C.Course.is_continued g.C.Base.BaseValue.is_same) c.args.step c.loop-next.slices.items c.push.new.self.items c.loop-next.level c.arrives-level.result c.loop-next.included c.args.upper_inc c.loop-next.last c.in-Some-next.next (into_iter_items c.next-in-loop-next.new.self) first c.arrives-level.ensures.exact (rw (c.in_ok-push.ensures.items, c.in_ok-course.ensures.made, c.in-Some-new.ensures.ends) refl) ∙ (rw left at c.loop-next.invariant.together);
+      together = made_more (course_of g.C.Course g.C.Base.BaseValue.is_same) c.args.step c.loop-next.slices.items c.push.new.self.items c.loop-next.level c.arrives-level.result c.loop-next.included c.args.upper_inc c.loop-next.last c.in-Some-next.next (into_iter_items c.next-in-loop-next.new.self) first c.arrives-level.ensures.exact (rw (c.in_ok-push.ensures.items, c.in_ok-course.ensures.made, c.in-Some-new.ensures.ends) refl) ∙ (rw left at c.loop-next.invariant.together);
     }
 
 pub returns : goal.returns
@@ -31,5 +31,5 @@ returns g c =
     let none = nil_from_length (into_iter_items c.loop-next.next-iterator) (sym c.loop-next.invariant.counted ∙ c.in-None.ensures.steps.0) in
     let included = point_included c.loop-next.included c.loop-next.last.instant (rw c.in-Some-new-2.ensures.ends at c.in-Some-new-2.ensures.test) in
     record {
-      made = made_ends (course_of g.C.Course.STEADY g.C.Course.value_of g.C.Course.start_of g.C.Course.end_of g.C.Course.make g.C.Course.is_continued g.C.Base.BaseValue.is_same) c.args.step c.loop-next.slices.items c.push-2.new.self.items c.loop-next.level c.loop-next.included c.args.upper_inc c.loop-next.last (into_iter_items c.loop-next.next-iterator) (made (course_of g.C.Course.STEADY g.C.Course.value_of g.C.Course.start_of g.C.Course.end_of g.C.Course.make g.C.Course.is_continued g.C.Base.BaseValue.is_same) c.args.step false c.args.lower_inc c.args.instants.items c.args.upper_inc) c.loop-next.invariant.together none (search rules) included (rw (c.in_ok-push-2.ensures.items, c.in_ok-course-2.ensures.made, c.in-Some-new-2.ensures.ends) refl);
+      made = made_ends (course_of g.C.Course g.C.Base.BaseValue.is_same) c.args.step c.loop-next.slices.items c.push-2.new.self.items c.loop-next.level c.loop-next.included c.args.upper_inc c.loop-next.last (into_iter_items c.loop-next.next-iterator) (made (course_of g.C.Course g.C.Base.BaseValue.is_same) c.args.step false c.args.lower_inc c.args.instants.items c.args.upper_inc) c.loop-next.invariant.together none (search rules) included (rw (c.in_ok-push-2.ensures.items, c.in_ok-course-2.ensures.made, c.in-Some-new-2.ensures.ends) refl);
     }

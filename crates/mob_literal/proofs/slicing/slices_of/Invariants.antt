@@ -11,5 +11,5 @@ invariant-loop-next g l = record {
   goes : (goal.iterator-loop-next g).can_next l.next-iterator;
   ends : (goal.iterator-loop-next g).is_finite l.next-iterator;
   counted : into_iter_len l.next-iterator ≡ length (into_iter_items l.next-iterator);
-  together : with_list l.slices.items (made (course_of g.C.Course.STEADY g.C.Course.value_of g.C.Course.start_of g.C.Course.end_of g.C.Course.make g.C.Course.is_continued g.C.Base.BaseValue.is_same) l.step l.level l.included (l.last ∷ into_iter_items l.next-iterator) l.upper_inc) ≡ made (course_of g.C.Course.STEADY g.C.Course.value_of g.C.Course.start_of g.C.Course.end_of g.C.Course.make g.C.Course.is_continued g.C.Base.BaseValue.is_same) l.step false l.fn.lower_inc l.fn.instants.items l.upper_inc;
+  together : with_list l.slices.items (made (course_of g.C.Course g.C.Base.BaseValue.is_same) l.step l.level l.included (l.last ∷ into_iter_items l.next-iterator) l.upper_inc) ≡ made (course_of g.C.Course g.C.Base.BaseValue.is_same) l.step false l.fn.lower_inc l.fn.instants.items l.upper_inc;
 }

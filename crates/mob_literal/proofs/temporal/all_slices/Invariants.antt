@@ -11,5 +11,5 @@ invariant-loop-sequence g l = record {
   goes : (goal.iterator-loop-sequence g).can_next l.sequence-iterator;
   ends : (goal.iterator-loop-sequence g).is_finite l.sequence-iterator;
   counted : into_iter_len l.sequence-iterator ≡ length (into_iter_items l.sequence-iterator);
-  together : with_list l.all.items (made_all g.T.WrittenValue.has_value (course_of g.C.Course.STEADY g.C.Course.value_of g.C.Course.start_of g.C.Course.end_of g.C.Course.make g.C.Course.is_continued g.T.Base.BaseValue.is_same) l.step (into_iter_items l.sequence-iterator)) ≡ made_all g.T.WrittenValue.has_value (course_of g.C.Course.STEADY g.C.Course.value_of g.C.Course.start_of g.C.Course.end_of g.C.Course.make g.C.Course.is_continued g.T.Base.BaseValue.is_same) l.step l.fn.sequences.items;
+  together : with_list l.all.items (made_all g.T.WrittenValue.has_value (course_of g.C.Course g.T.Base.BaseValue.is_same) l.step (into_iter_items l.sequence-iterator)) ≡ made_all g.T.WrittenValue.has_value (course_of g.C.Course g.T.Base.BaseValue.is_same) l.step l.fn.sequences.items;
 }

@@ -8,30 +8,30 @@ use Rattle.mob_literal.proofs.Drawn.{lawful}
 use Rattle.mob_literal.proofs.temporal.read_moving.Goals as goal
 
 pub returns-in-Err : goal.returns-in-Err
-returns-in-Err g c = record { reading = same_fault c.args.epoch.now g.T.WrittenValue.HAS_SRID g.T.WrittenValue.shape g.T.WrittenValue.has_value (course_of g.C.Course.STEADY g.C.Course.value_of g.C.Course.start_of g.C.Course.end_of g.C.Course.make g.C.Course.is_continued g.T.Base.BaseValue.is_same) c.args.text.now c.in-Err.fault (subst (λ (b : Bool). Lit (written_literals c.args.epoch.now (admitted b g.T.WrittenValue.HAS_SRID) g.T.WrittenValue.shape) c.args.text.now (Err c.in-Err.fault)) c.STEADY.ensures c.in-Err.ensures.reading) }
+returns-in-Err g c = record { reading = same_fault c.args.epoch.now g.T.WrittenValue.HAS_SRID g.T.WrittenValue.shape g.T.WrittenValue.has_value (course_of g.C.Course g.T.Base.BaseValue.is_same) c.args.text.now c.in-Err.fault (subst (λ (b : Bool). Lit (written_literals c.args.epoch.now (admitted b g.T.WrittenValue.HAS_SRID) g.T.WrittenValue.shape) c.args.text.now (Err c.in-Err.fault)) c.STEADY.ensures c.in-Err.ensures.reading) }
 
 pub returns-in-Ok-None : goal.returns-in-Ok-None
 returns-in-Ok-None g c =
     let order = rw c.as_slice.ensures.same at (sym c.are_in_order.ensures.value ∙ c.if-not-are_in_order.false) in
-    record { reading = not_sound c.args.epoch.now g.T.WrittenValue.HAS_SRID g.T.WrittenValue.shape g.T.WrittenValue.has_value (course_of g.C.Course.STEADY g.C.Course.value_of g.C.Course.start_of g.C.Course.end_of g.C.Course.make g.C.Course.is_continued g.T.Base.BaseValue.is_same) c.args.text.now c.in-Ok.written (rw c.STEADY.ensures at c.in-Ok.ensures.reading) order (rw c.in-Ok-None.field-0-is at c.in-Ok-None.ensures.made) }
+    record { reading = not_sound c.args.epoch.now g.T.WrittenValue.HAS_SRID g.T.WrittenValue.shape g.T.WrittenValue.has_value (course_of g.C.Course g.T.Base.BaseValue.is_same) c.args.text.now c.in-Ok.written (rw c.STEADY.ensures at c.in-Ok.ensures.reading) order (rw c.in-Ok-None.field-0-is at c.in-Ok-None.ensures.made) }
 
 pub normal-requires : goal.normal-requires
 normal-requires g c =
     let order = rw c.as_slice.ensures.same at (sym c.are_in_order.ensures.value ∙ c.if-not-are_in_order.false) in
-    let m = made_of c.args.epoch.now g.T.WrittenValue.HAS_SRID g.T.WrittenValue.shape g.T.WrittenValue.has_value (course_of g.C.Course.STEADY g.C.Course.value_of g.C.Course.start_of g.C.Course.end_of g.C.Course.make g.C.Course.is_continued g.T.Base.BaseValue.is_same) c.args.text.now (lawful g.T.Base.BaseValue.is_same g.met.T.Base.BaseValue.exact g.met.C.Course.laws) c.in-Ok.written c.in-Ok-Some.slices.items (rw c.STEADY.ensures at c.in-Ok.ensures.reading) order (rw c.in-Ok-Some.field-0-is at c.in-Ok-Some.ensures.made) in
+    let m = made_of c.args.epoch.now g.T.WrittenValue.HAS_SRID g.T.WrittenValue.shape g.T.WrittenValue.has_value (course_of g.C.Course g.T.Base.BaseValue.is_same) c.args.text.now (lawful g.T.Base.BaseValue.is_same g.met.T.Base.BaseValue.exact g.met.C.Course.laws) c.in-Ok.written c.in-Ok-Some.slices.items (rw c.STEADY.ensures at c.in-Ok.ensures.reading) order (rw c.in-Ok-Some.field-0-is at c.in-Ok-Some.ensures.made) in
     record { ordered = m.flat_so.ordered }
 
 pub returns-in-Ok-Some-normal : goal.returns-in-Ok-Some-normal
 returns-in-Ok-Some-normal g c =
     let order = rw c.as_slice.ensures.same at (sym c.are_in_order.ensures.value ∙ c.if-not-are_in_order.false) in
-    let m = made_of c.args.epoch.now g.T.WrittenValue.HAS_SRID g.T.WrittenValue.shape g.T.WrittenValue.has_value (course_of g.C.Course.STEADY g.C.Course.value_of g.C.Course.start_of g.C.Course.end_of g.C.Course.make g.C.Course.is_continued g.T.Base.BaseValue.is_same) c.args.text.now (lawful g.T.Base.BaseValue.is_same g.met.T.Base.BaseValue.exact g.met.C.Course.laws) c.in-Ok.written c.in-Ok-Some.slices.items (rw c.STEADY.ensures at c.in-Ok.ensures.reading) order (rw c.in-Ok-Some.field-0-is at c.in-Ok-Some.ensures.made) in
+    let m = made_of c.args.epoch.now g.T.WrittenValue.HAS_SRID g.T.WrittenValue.shape g.T.WrittenValue.has_value (course_of g.C.Course g.T.Base.BaseValue.is_same) c.args.text.now (lawful g.T.Base.BaseValue.is_same g.met.T.Base.BaseValue.exact g.met.C.Course.laws) c.in-Ok.written c.in-Ok-Some.slices.items (rw c.STEADY.ensures at c.in-Ok.ensures.reading) order (rw c.in-Ok-Some.field-0-is at c.in-Ok-Some.ensures.made) in
     let normal = rw c.in-Ok-Some-normal.field-0-is at c.in-Ok-Some-normal.ensures.normal in
     let same = rw c.in-Ok-Some-normal.field-0-is at c.in-Ok-Some-normal.ensures.same in
-    record { reading = defined c.args.epoch.now g.T.WrittenValue.HAS_SRID g.T.WrittenValue.shape g.T.WrittenValue.has_value (course_of g.C.Course.STEADY g.C.Course.value_of g.C.Course.start_of g.C.Course.end_of g.C.Course.make g.C.Course.is_continued g.T.Base.BaseValue.is_same) c.args.text.now c.in-Ok.written c.in-Ok-Some.slices.items c.in-Ok-Some-normal.value m normal same }
+    record { reading = defined c.args.epoch.now g.T.WrittenValue.HAS_SRID g.T.WrittenValue.shape g.T.WrittenValue.has_value (course_of g.C.Course g.T.Base.BaseValue.is_same) c.args.text.now c.in-Ok.written c.in-Ok-Some.slices.items c.in-Ok-Some-normal.value m normal same }
 
 pub returns-in-Ok-None-normal : goal.returns-in-Ok-None-normal
 returns-in-Ok-None-normal g c =
     let order = rw c.as_slice.ensures.same at (sym c.are_in_order.ensures.value ∙ c.if-not-are_in_order.false) in
-    let m = made_of c.args.epoch.now g.T.WrittenValue.HAS_SRID g.T.WrittenValue.shape g.T.WrittenValue.has_value (course_of g.C.Course.STEADY g.C.Course.value_of g.C.Course.start_of g.C.Course.end_of g.C.Course.make g.C.Course.is_continued g.T.Base.BaseValue.is_same) c.args.text.now (lawful g.T.Base.BaseValue.is_same g.met.T.Base.BaseValue.exact g.met.C.Course.laws) c.in-Ok.written c.in-Ok-Some.slices.items (rw c.STEADY.ensures at c.in-Ok.ensures.reading) order (rw c.in-Ok-Some.field-0-is at c.in-Ok-Some.ensures.made) in
+    let m = made_of c.args.epoch.now g.T.WrittenValue.HAS_SRID g.T.WrittenValue.shape g.T.WrittenValue.has_value (course_of g.C.Course g.T.Base.BaseValue.is_same) c.args.text.now (lawful g.T.Base.BaseValue.is_same g.met.T.Base.BaseValue.exact g.met.C.Course.laws) c.in-Ok.written c.in-Ok-Some.slices.items (rw c.STEADY.ensures at c.in-Ok.ensures.reading) order (rw c.in-Ok-Some.field-0-is at c.in-Ok-Some.ensures.made) in
     let none = rw c.in-Ok-None-normal.field-0-is at c.in-Ok-None-normal.ensures.none in
-    absurd (some_slices c.args.epoch.now g.T.WrittenValue.HAS_SRID g.T.WrittenValue.shape g.T.WrittenValue.has_value (course_of g.C.Course.STEADY g.C.Course.value_of g.C.Course.start_of g.C.Course.end_of g.C.Course.make g.C.Course.is_continued g.T.Base.BaseValue.is_same) c.args.text.now c.in-Ok.written c.in-Ok-Some.slices.items m (none.0 (search rules)))
+    absurd (some_slices c.args.epoch.now g.T.WrittenValue.HAS_SRID g.T.WrittenValue.shape g.T.WrittenValue.has_value (course_of g.C.Course g.T.Base.BaseValue.is_same) c.args.text.now c.in-Ok.written c.in-Ok-Some.slices.items m (none.0 (search rules)))

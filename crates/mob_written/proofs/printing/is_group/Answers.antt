@@ -5,4 +5,4 @@ use Rattle.mob_written.proofs.Groups.{one_group}
 use Rattle.mob_written.proofs.printing.is_group.Goals as goal
 
 pub returns-in-len1-up : goal.returns-in-len1-up
-returns-in-len1-up g c = record { value = c.all_neighbours.ensures.value (shares_group (course_of g.C.Course.STEADY g.C.Course.value_of g.C.Course.start_of g.C.Course.end_of g.C.Course.make g.C.Course.is_continued g.C.Base.BaseValue.is_same)) (λ item next passed p. search rules) ∙ one_group (course_of g.C.Course.STEADY g.C.Course.value_of g.C.Course.start_of g.C.Course.end_of g.C.Course.make g.C.Course.is_continued g.C.Base.BaseValue.is_same) c.args.slices.now c.in-len1-up.len_at_least }
+returns-in-len1-up g c = record { value = c.all_neighbours.ensures.value (shares_group (course_of g.C.Course g.C.Base.BaseValue.is_same)) (λ item next passed p. search rules) ∙ one_group (course_of g.C.Course g.C.Base.BaseValue.is_same) c.args.slices.now c.in-len1-up.len_at_least }

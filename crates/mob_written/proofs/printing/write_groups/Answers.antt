@@ -7,7 +7,7 @@ use Rattle.mob_written.proofs.printing.write_groups.Goals as goal
 
 pub returns : goal.returns
 returns g c =
-    let style = style_of (course_of g.C.Course.STEADY g.C.Course.value_of g.C.Course.start_of g.C.Course.end_of g.C.Course.make g.C.Course.is_continued g.C.Base.BaseValue.is_same) g.C.Base.Printed.text c.args.epoch.now in
+    let style = style_of (course_of g.C.Course g.C.Base.BaseValue.is_same) g.C.Base.Printed.text c.args.epoch.now in
     record {
       written = on_ok c.write_end.result (λ ends. groups_done style c.args.slices.now c.first-item.result c.loop-next.last.now _ c.loop-next.next-index (string_bytes c.args.into.now) (string_bytes c.write_opening.new.into) (string_bytes c.write_start.new.into) (string_bytes c.loop-next.into) (string_bytes c.write_end.new.into)
           (parted c.args.slices.now c.first-item.result c.first-item.is (omega arith)) (omega arith) c.in_ok-write_opening.ensures.written c.in_ok-write_start.ensures.written c.loop-next.invariant ends) c.write_end.ensures.written;

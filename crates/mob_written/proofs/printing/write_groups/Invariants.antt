@@ -7,5 +7,5 @@ use Rattle.mob_written.proofs.printing.write_groups.Given as goal
 -- what is written, and what is still to be written
 abbrev pub invariant-loop-next : goal.invariant-loop-next
 invariant-loop-next g l =
-    let style = style_of (course_of g.C.Course.STEADY g.C.Course.value_of g.C.Course.start_of g.C.Course.end_of g.C.Course.make g.C.Course.is_continued g.C.Base.BaseValue.is_same) g.C.Base.Printed.text l.epoch in
+    let style = style_of (course_of g.C.Course g.C.Base.BaseValue.is_same) g.C.Base.Printed.text l.epoch in
     string_bytes l.into ++ text_behind style l.last (drop l.next-index l.rest) ≡ string_bytes l.initial.into ++ text_behind style l.initial.last l.rest

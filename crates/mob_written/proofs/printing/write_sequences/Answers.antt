@@ -6,7 +6,7 @@ use Rattle.mob_written.proofs.Groups.{group-alone, groups-braced}
 use Rattle.mob_written.proofs.printing.write_sequences.Goals as goal
 
 pub returns-then-is_group : goal.returns-then-is_group
-returns-then-is_group g c = record { written = rw (group-alone (style_of (course_of g.C.Course.STEADY g.C.Course.value_of g.C.Course.start_of g.C.Course.end_of g.C.Course.make g.C.Course.is_continued g.C.Base.BaseValue.is_same) g.C.Base.Printed.text c.args.epoch.now) c.args.slices.now (search rules)) c.write_groups.ensures.written }
+returns-then-is_group g c = record { written = rw (group-alone (style_of (course_of g.C.Course g.C.Base.BaseValue.is_same) g.C.Base.Printed.text c.args.epoch.now) c.args.slices.now (search rules)) c.write_groups.ensures.written }
 
 pub returns : goal.returns
-returns g c = record { written = rw (groups-braced (style_of (course_of g.C.Course.STEADY g.C.Course.value_of g.C.Course.start_of g.C.Course.end_of g.C.Course.make g.C.Course.is_continued g.C.Base.BaseValue.is_same) g.C.Base.Printed.text c.args.epoch.now) c.args.slices.now (search rules)) (grind (arith, common_steps)) }
+returns g c = record { written = rw (groups-braced (style_of (course_of g.C.Course g.C.Base.BaseValue.is_same) g.C.Base.Printed.text c.args.epoch.now) c.args.slices.now (search rules)) (grind (arith, common_steps)) }

@@ -8,7 +8,7 @@ use Rattle.mob_written.proofs.printing.write_starts.Goals as goal
 
 pub returns : goal.returns
 returns g c =
-    let style = style_of (course_of g.C.Course.STEADY g.C.Course.value_of g.C.Course.start_of g.C.Course.end_of g.C.Course.make g.C.Course.is_continued g.C.Base.BaseValue.is_same) g.C.Base.Printed.text c.args.epoch.now in
+    let style = style_of (course_of g.C.Course g.C.Base.BaseValue.is_same) g.C.Base.Printed.text c.args.epoch.now in
     record {
       written = commas_done (start_text style) c.args.slices.now c.first-item.result _ c.loop-next.next-index (string_bytes c.args.into.now) (string_bytes c.write_start.new.into) (string_bytes c.loop-next.into)
           (parted c.args.slices.now c.first-item.result c.first-item.is (omega arith)) (omega arith) c.in_ok-write_start.ensures.written c.loop-next.invariant;

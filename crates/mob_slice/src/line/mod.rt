@@ -12,6 +12,8 @@ ghost use Rattle.mob_slice.specs.Lines.{line_value_of, line_continued, line_part
 ghost use Rattle.mob_slice.specs.LineLaws.{line_laws};
 ghost use Rattle.mob_slice.specs.PlaneLaws.{plane_laws};
 
+mod comparison;
+
 use crate::course::Course;
 use crate::formula::{Formula, LookFault};
 use mob_frac::{Frac, Wide, interpolated, same_ratio};

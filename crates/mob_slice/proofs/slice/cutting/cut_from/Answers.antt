@@ -1,7 +1,7 @@
 use Rattle.std.proofs.Common.{refl}
 use Rattle.mob_slice.proofs.Cuts.{high_after, high_until, second_fault, both_fit, at_of, can_cut, cut_is}
 use Rattle.mob_slice.specs.Cut.{slice_parts}
-use Rattle.mob_slice.proofs.cutting.cut_from.Goals as goal
+use Rattle.mob_slice.proofs.slice.cutting.cut_from.Goals as goal
 
 pub limit-requires-clause-after : goal.limit-requires-clause-after
 limit-requires-clause-after g c = high_after c.args.slice.now.span c.args.span.now _ c.requires.holds.1 c.upper.ensures.some c.upper.ensures.value

@@ -1,0 +1,200 @@
+//! Rows of items in one piece of memory.
+ghost use Rattle.std.specs.Prelude.{◌≡◌, ◌<◌, ◌≤◌, ◌++◌, ◌∷◌, ◌==◌, [], IfOk, IfSome, IsNone, OnErr, OnOk, drop, length, option_map, slice_get, slice_index_or, take};
+ghost use Rattle.mob_value.specs.Cuts.{AreCuts, cut, start_at};
+
+use mob_list::items::Items;
+use std::alloc::{AllocError, Global};
+use std::collections::VecDeque;
+use std::marker::Model;
+
+/// Rows of items, which contracts see as the list of these rows.
+///
+/// The items of all rows are in one allocation, one row behind the other, and the places where rows
+/// end are in a second one. So a row takes the memory of its items and of one number.
+#[derive(Drop)]
+pub struct Rows<T> {
+    items: Vec<T>,
+    ends: Vec<usize>,
+}
+
+impl<T> Model for Rows<T> {
+    ghost use Rattle.std.specs.Prelude.{List, length};
+    ghost use Rattle.mob_value.specs.Cuts.{AreCuts, cut};
+
+    ghost Value = { List (List T) };
+
+    ghost view = { λ r. cut 0 r.ends.items r.items.items };
+
+    ghost invariant = { λ r. AreCuts 0 r.ends.items (length r.items.items) };
+}
+
+/// Rows that are taken out one after the other, from the first. Contracts see them as the list of
+/// the rows that are left.
+#[derive(Drop)]
+pub struct RowsLeft<T> {
+    items: VecDeque<T>,
+    ends: VecDeque<usize>,
+    start: usize,
+}
+
+impl<T> Model for RowsLeft<T> {
+    ghost use Rattle.std.specs.Prelude.{List};
+    ghost use Rattle.mob_value.specs.Cuts.{cut};
+
+    ghost Value = { List (List T) };
+
+    ghost view = { λ r. cut r.start r.ends.items r.items.items };
+}
+
+// Where the row of a number begins.
+fn start_of(ends: &[usize], number: usize) -> usize
+    requires there { number < length ends.now }
+    ensures start { result ≡ start_at 0 ends.now number }
+{
+    if number == 0 {
+        return 0;
+    }
+    ends[number - 1]
+}
+
+// Where the row of a number begins and ends.
+fn bounds_of(ends: &[usize], most: usize, number: usize) -> (usize, usize)
+    requires cuts { AreCuts 0 ends.now most }
+    requires there { number < length ends.now }
+    ensures start { result.0 ≡ start_at 0 ends.now number }
+    ensures end { result.1 ≡ slice_index_or ends.now number 0 }
+    ensures order { result.0 ≤ result.1 }
+    ensures within { result.1 ≤ most }
+{
+    (start_of(ends, number), ends[number])
+}
+
+// The row of a number.
+fn row_at<'a, T>(items: &'a [T], ends: &[usize], number: usize) -> Option<&'a [T]>
+    requires cuts { AreCuts 0 ends.now (length items.now) }
+    ensures row { option_map (λ row. row.now) result ≡ slice_get (cut 0 ends.now items.now) number }
+{
+    if number >= ends.len() {
+        return None;
+    }
+    let (start, end) = bounds_of(ends, items.len(), number);
+    Some(&items[start..end])
+}
+
+// Puts a row behind the others. Where memory is refused all stays as it was.
+fn push_row<T: Drop>(
+    items: &mut Vec<T>,
+    ends: &mut Vec<usize>,
+    row: Items<T>,
+) -> Result<(), AllocError>
+    requires cuts { AreCuts 0 ends.old.items (length items.old.items) }
+    ensures cuts { AreCuts 0 ends.new.items (length items.new.items) }
+    ensures pushed { OnOk result (cut 0 ends.new.items items.new.items ≡ cut 0 ends.old.items items.old.items ++ row ∷ []) }
+    ensures unchanged { OnErr result (cut 0 ends.new.items items.new.items ≡ cut 0 ends.old.items items.old.items) }
+{
+    let mut row = row.into_vec();
+    ends.reserve(1)?;
+    items.append(&mut row)?;
+    ends.push_reserved(items.len());
+    Ok(())
+}
+
+impl<T> Rows<T> {
+    /// No row. It takes memory only when a row is pushed.
+    pub fn new(alloc: Global) -> Rows<T>
+        ensures empty { result ≡ [] }
+    {
+        Rows {
+            items: Vec::new(alloc),
+            ends: Vec::new(alloc),
+        }
+    }
+
+    /// How many rows there are.
+    pub fn len(&self) -> usize
+        ensures count { result ≡ length self.now }
+    {
+        self.ends.len()
+    }
+
+    /// Whether there is no row.
+    pub fn is_empty(&self) -> bool
+        ensures empty { result ≡ (length self.now == 0) }
+    {
+        self.ends.is_empty()
+    }
+
+    /// The items of the row of this number, counted from 0; `None` where there are fewer rows.
+    pub fn get(&self, number: usize) -> Option<&[T]>
+        ensures row { option_map (λ row. row.now) result ≡ slice_get self.now number }
+    {
+        row_at(self.items.as_slice(), self.ends.as_slice(), number)
+    }
+
+    /// Puts a row behind the others. Where memory is refused the rows stay as they were.
+    pub fn push(&mut self, row: Items<T>) -> Result<(), AllocError>
+    where
+        T: Drop,
+        ensures pushed { OnOk result (self.new ≡ self.old ++ row ∷ []) }
+        ensures unchanged { OnErr result (self.new ≡ self.old) }
+    {
+        push_row(&mut self.items, &mut self.ends, row)
+    }
+
+    /// Makes room for these rows behind the others. The room is no part of what contracts see.
+    pub fn reserve_for(&mut self, more: &Rows<T>) -> Result<(), AllocError>
+        ensures same { self.new ≡ self.old }
+    {
+        self.ends.reserve(more.ends.len())?;
+        self.items.reserve(more.items.len())
+    }
+
+    /// The rows, to be taken out one after the other. It takes no memory.
+    pub fn into_left(self) -> RowsLeft<T>
+        ensures same { result ≡ self }
+    {
+        let Rows { items, ends } = self;
+        RowsLeft {
+            items: VecDeque::from_vec(items),
+            ends: VecDeque::from_vec(ends),
+            start: 0,
+        }
+    }
+}
+
+// Takes so many items out, from the first; all where there are fewer.
+fn first_items<T: Drop>(
+    alloc: Global,
+    items: &mut VecDeque<T>,
+    count: usize,
+) -> Result<Items<T>, AllocError>
+    ensures taken { IfOk result (λ taken. taken ≡ take count items.old.items) }
+    ensures left { OnOk result (items.new.items ≡ drop count items.old.items) }
+{
+    let mut taken = Vec::with_capacity(alloc, count)?;
+    for _place in 0..count {
+        match items.pop_front() {
+            Some(item) => taken.push(item)?,
+            None => return Ok(Items::from_vec(taken)),
+        }
+    }
+    Ok(Items::from_vec(taken))
+}
+
+impl<T> RowsLeft<T> {
+    /// Takes the first row out; `None` where no row is left. Where memory is refused the row is
+    /// lost.
+    pub fn next(&mut self, alloc: Global) -> Result<Option<Items<T>>, AllocError>
+    where
+        T: Drop,
+        ensures row { IfOk result (λ next. IfSome next (λ row. self.old ≡ row ∷ self.new)) }
+        ensures none { IfOk result (λ next. IsNone next → self.old ≡ []) }
+    {
+        let Some(end) = self.ends.pop_front() else {
+            return Ok(None);
+        };
+        let row = first_items(alloc, &mut self.items, end.saturating_sub(self.start))?;
+        self.start = end;
+        Ok(Some(row))
+    }
+}
