@@ -1,7 +1,6 @@
 // The places that cut columns of tiles into pieces in which about as many rows begin.
 
-use mob_pairs::Reach;
-use mob_pairs::places::even_places;
+use mob_pairs::{Reach, even_places};
 use mob_tile::{Tile, TileRange};
 use std::alloc::{AllocError, Global};
 
