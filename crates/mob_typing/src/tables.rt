@@ -5,7 +5,7 @@ ghost use Rattle.mob_operators.specs.Table.{is_one_of};
 ghost use Rattle.mob_ast.specs.declared.types.SqlType.TheVariants.{TPoint};
 ghost use Rattle.mob_expression.specs.Answers.{AnswersAs};
 ghost use Rattle.mob_expression.specs.Names.{has_entry};
-ghost use Rattle.mob_typing.specs.Statements.{with_column, with_columns, made_table, with_index, made_index};
+ghost use Rattle.mob_typing.specs.Statements.{Made, with_column, with_columns, made_table, with_index, made_index};
 ghost use Rattle.mob_typed.specs.Statements.{statement_seen, new_index};
 
 use crate::names::Names;
@@ -136,7 +136,7 @@ fn added_index(
     column: usize,
 ) -> Result<TypedStatement, Fault>
     requires absent { is_one_of names.old.indexes name.now.text ≡ false }
-    ensures added { AnswersAs (λ t. record { statement = statement_seen t; names = names.new }) result (Ok (record { statement = new_index table column name.now.text; names = with_index names.old name.now.text })) }
+    ensures added { AnswersAs {Y = Made} (λ t. record { statement = statement_seen t; names = names.new }) result (Ok (record { statement = new_index table column name.now.text; names = with_index names.old name.now.text })) }
 {
     let table = number(table)?;
     let column = number(column)?;
