@@ -26,8 +26,8 @@ static PLACES: [Row; 12] = [
     (&[7, 7, 7], 7, 1, 4, &[]),
     (&[], 0, 5, 3, &[]),
     (&[0, 1, 2, 3], 0, 4, 1, &[]),
-    // those behind the last column count as it
-    (&[0, 1, 900, 1000], 0, 3, 2, &[2]),
+    // one before the first column counts for it, and those behind the last for that
+    (&[-9, 0, 1, 900, 1000], 0, 3, 2, &[2]),
 ];
 
 // The range of one tile of a column.
