@@ -1,7 +1,7 @@
 //! Which operators of a query are remembered.
-ghost use Rattle.std.specs.Prelude.{◌≡◌, ◌==◌, ◌++◌, List, map};
+ghost use Rattle.std.specs.Prelude.{◌≡◌, ◌==◌, ◌++◌, true, List, map};
 ghost use Rattle.mob_typed.specs.Trees.{TypedTree, typed_of, typed_trees};
-ghost use Rattle.mob_eval.specs.Remembered.{AreNodes, all_nodes_at, names_only, nodes_at, nodes_here, place_of, reads_only, root_seen};
+ghost use Rattle.mob_eval.specs.Remembered.{AreCopies, AreNodes, all_nodes_at, names_only, nodes_at, nodes_here, place_of, reads_only, root_seen};
 
 use crate::memory::Memory;
 use crate::memory::remembered::Remembering;
@@ -19,10 +19,60 @@ const MOST: usize = 8;
 pub enum NodesAt<'a> {
     /// There is none.
     Nobody,
-    /// There is just one.
+    /// There is this one, and each other one is equal to it.
     Only(&'a TExpr),
-    /// There are several.
+    /// There are several that differ.
     Several,
+}
+
+fn same_op(one: Op, other: Op) -> bool
+    ensures same { result ≡ true → one ≡ other }
+{
+    one == other
+}
+
+fn same_type(one: SqlType, other: SqlType) -> bool
+    ensures same { result ≡ true → one ≡ other }
+{
+    one == other
+}
+
+// Whether two nodes are equal. A key that names a column of the answer is a copy of its expression,
+// at the same places of the script.
+#[tactic(auto, using(mob_typed::proofs::TreeFacts::typed_is))]
+fn are_same(one: &TExpr, other: &TExpr) -> bool
+    ensures same { result ≡ true → typed_of one.now ≡ typed_of other.now }
+{
+    if !same_op(one.op, other.op) {
+        return false;
+    }
+    if !same_type(one.ty, other.ty) {
+        return false;
+    }
+    if one.place != other.place {
+        return false;
+    }
+    let mut rest = other.args.as_slice();
+    for arg in &one.args {
+        let Some((first, behind)) = rest.split_first() else {
+            return false;
+        };
+        if !are_same(arg, first) {
+            return false;
+        }
+        rest = behind;
+    }
+    rest.is_empty()
+}
+
+// The nodes of two parts that each have one, and perhaps copies of it.
+fn both_only<'a>(one: &'a TExpr, other: &'a TExpr) -> NodesAt<'a>
+    ensures both { (es fs : List TypedTree) → AreCopies (typed_of one.now) es → AreCopies (typed_of other.now) fs → AreNodes result (es ++ fs) }
+{
+    if are_same(one, other) {
+        return NodesAt::Only(one);
+    }
+    NodesAt::Several
 }
 
 // The nodes of two parts.
@@ -32,6 +82,7 @@ fn both<'a>(one: NodesAt<'a>, other: NodesAt<'a>) -> NodesAt<'a>
     match (one, other) {
         (NodesAt::Nobody, nodes) => nodes,
         (nodes, NodesAt::Nobody) => nodes,
+        (NodesAt::Only(one), NodesAt::Only(other)) => both_only(one, other),
         _ => NodesAt::Several,
     }
 }
@@ -239,7 +290,7 @@ fn rows_at(store: &Store, from: &[u32], place: Option<u32>) -> usize {
     }
 }
 
-// Remembers an operator that stands alone at its place of the script.
+// Remembers an operator, unless its place of the script has another one too.
 fn remember_one<K: Remembering>(
     alloc: Global,
     roots: &[&TExpr],
@@ -265,7 +316,7 @@ fn remember_one<K: Remembering>(
 
 /// A memory of the operators of these expressions that name at most one table of FROM, and of the
 /// boxes of such operands of `&&`: of about eight, and of none that shares its place in the script
-/// with another. If memory is refused there are fewer.
+/// with a different one. If memory is refused there are fewer.
 pub fn memory_of<K: Remembering>(
     alloc: Global,
     store: &Store,
