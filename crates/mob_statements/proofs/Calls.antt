@@ -1,22 +1,56 @@
--- What a call tells by its answer.
-use Rattle.std.proofs.Common.{refl, ℕ, Result, Ok, Err, IfOk, IfErr}
+-- What a call tells by its answer, and what follows for a closure of which each call is known.
+use Rattle.std.proofs.Common.{refl, sym, subst, ℕ, List, Result, Ok, Err, IfOk, IfErr}
 use Rattle.std.specs.Borrow.{Bor, MutBor}
 use Rattle.std.specs.Fn.{Shared}
 use Rattle.std.specs.declared.vec.Vec.{Vec}
-use Rattle.mob_eval.specs.QueryFaults.{OnTuple}
+use Rattle.mob_outside.specs.EndsSeen.{StreamSeen}
+use Rattle.mob_eval.specs.QueryFaults.{OnTuple, TupleFault}
 use Rattle.mob_eval.specs.declared.query_fault.QueryFault.{QueryFault}
 use Rattle.mob_eval.specs.declared.query_fault.QueryFault.TheVariants.{Passed, NoMemory}
-use Rattle.mob_statements.specs.Calls.{CallGives, CallRuns, CallStops}
+use Rattle.mob_ending.specs.declared.ending.Ending.{Ending}
+use Rattle.mob_statements.specs.Calls.{CallCanRun, CallGives, CallRuns, CallStops}
+use Rattle.mob_statements.specs.Statements.{CanAllRun, StatementsEnd}
+use Rattle.mob_statements.proofs.Alike.{can_narrower, ends_wider}
 
-module _ {F S X A : Type 0} (g : Shared F (MutBor S × (Bor X × Unit {0})) (Result (Vec ℕ A) QueryFault × (MutBor S × Unit {0}))) (f : F) (p : MutBor S) (q : Bor X) (left : MutBor S) where
-  gives : (given : Result (Vec ℕ A) QueryFault) → g.post f (p, (q, tt)) (given, (left, tt)) → CallGives g f p.now q.now given left.now
-  gives given met = record { shown = p; statement = q; left = left; shows = refl; reads = refl; met = met; leaves = refl }
+module _ {F S X A : Type 0} (g : Shared F (A × (MutBor S × (Bor X × Unit {0}))) (Result (Vec ℕ A) QueryFault × (MutBor S × Unit {0}))) (f : F) where
+  module _ (a : A) (p : MutBor S) (q : Bor X) (left : MutBor S) where
+    gives : (given : Result (Vec ℕ A) QueryFault) → g.post f (a, (p, (q, tt))) (given, (left, tt)) → CallGives g f p.now q.now given left.now
+    gives given met = record { alloc = a; shown = p; statement = q; left = left; shows = refl; reads = refl; met = met; leaves = refl }
 
-  pub runs : (given : Result (Vec ℕ A) QueryFault) → g.post f (p, (q, tt)) (given, (left, tt)) → IfOk given (λ text. CallRuns g f p.now q.now left.now text.items)
-  runs (Ok answer) met = (answer, gives (Ok answer) met, refl)
-  runs (Err e) met = tt
+    pub runs : (given : Result (Vec ℕ A) QueryFault) → g.post f (a, (p, (q, tt))) (given, (left, tt)) → IfOk given (λ text. CallRuns g f p.now q.now left.now text.items)
+    runs (Ok answer) met = (answer, gives (Ok answer) met, refl)
+    runs (Err e) met = tt
 
-  pub stops : (given : Result (Vec ℕ A) QueryFault) → g.post f (p, (q, tt)) (given, (left, tt)) → IfErr given (OnTuple (λ fault. CallStops g f p.now q.now fault))
-  stops (Ok answer) met = tt
-  stops (Err (Passed tuple place formula)) met = (left.now, gives (Err (Passed tuple place formula)) met)
-  stops (Err NoMemory) met = tt
+    pub stops : (given : Result (Vec ℕ A) QueryFault) → g.post f (a, (p, (q, tt))) (given, (left, tt)) → IfErr given (OnTuple (λ fault. CallStops g f p.now q.now fault))
+    stops (Ok answer) met = tt
+    stops (Err (Passed tuple place formula)) met = (left.now, gives (Err (Passed tuple place formula)) met)
+    stops (Err NoMemory) met = tt
+
+  -- each call of the closure does a step, or has a fault
+  module _ (step : S → X → S → List ℕ → Type 0) (can : S → X → Type 0) (faults : S → X → TupleFault → Type 0)
+      (does : (a : A) (p : MutBor S) (q : Bor X) (left : MutBor S) (given : Result (Vec ℕ A) QueryFault) → g.post f (a, (p, (q, tt))) (given, (left, tt)) → IfOk given (λ text. step p.now q.now left.now text.items) × IfErr given (OnTuple (λ fault. faults p.now q.now fault))) where
+    does_step : (s : S) (x : X) (t : S) (text : List ℕ) → CallRuns g f s x t text → step s x t text
+    does_step s x t text h =
+        let k = h.1 in
+        subst (λ z. step z x t text) k.shows
+        (subst (λ z. step k.shown.now z t text) k.reads
+        (subst (λ z. step k.shown.now k.statement.now z text) k.leaves
+        (subst (λ z. step k.shown.now k.statement.now k.left.now z) h.2
+        (does k.alloc k.shown k.statement k.left (Ok h.0) k.met).0)))
+
+    has_fault : (s : S) (x : X) (fault : TupleFault) → CallStops g f s x fault → faults s x fault
+    has_fault s x (rows, (place, formula)) h =
+        let k = h.1 in
+        subst (λ z. faults z x (rows, (place, formula))) k.shows
+        (subst (λ z. faults k.shown.now z (rows, (place, formula))) k.reads
+        (does k.alloc k.shown k.statement k.left (Err (Passed rows place formula)) k.met).1)
+
+    -- so statements that can be run by steps can be run by its calls
+    pub can_by_calls : ((a : A) (p : MutBor S) (q : Bor X) → can p.now q.now → g.pre f (a, (p, (q, tt)))) → (xs : List X) (s : S) → CanAllRun step can s xs → CanAllRun (CallRuns g f) (CallCanRun g f) s xs
+    can_by_calls takes xs s h =
+        can_narrower (CallRuns g f) step does_step can (CallCanRun g f)
+        (λ u x may a p q is reads. takes a p q (subst (λ z. can z q.now) (sym is) (subst (λ z. can u z) (sym reads) may))) xs s h
+
+    -- and where its calls end them, so do the steps
+    pub end_by_calls : (s left : S) (all : List X) (out : StreamSeen) (ending : Ending) → StatementsEnd (CallRuns g f) (CallStops g f) s left all out ending → StatementsEnd step faults s left all out ending
+    end_by_calls s left all out ending h = ends_wider (CallRuns g f) step does_step (CallStops g f) faults has_fault s left all out ending h

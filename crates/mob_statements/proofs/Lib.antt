@@ -1,2 +1,3 @@
-mod Calls
+mod Alike
+pub mod Calls
 mod Running

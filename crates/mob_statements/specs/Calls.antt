@@ -7,19 +7,20 @@ use Rattle.mob_eval.specs.QueryFaults.{TupleFault}
 use Rattle.mob_eval.specs.declared.query_fault.QueryFault.{QueryFault}
 use Rattle.mob_eval.specs.declared.query_fault.QueryFault.TheVariants.{Passed}
 
-module _ {F S X A : Type 0} (g : Shared F (MutBor S × (Bor X × Unit {0})) (Result (Vec ℕ A) QueryFault × (MutBor S × Unit {0}))) (f : F) where
+module _ {F S X A : Type 0} (g : Shared F (A × (MutBor S × (Bor X × Unit {0}))) (Result (Vec ℕ A) QueryFault × (MutBor S × Unit {0}))) (f : F) where
   -- it may be called at a state and a statement
   abbrev pub CallCanRun : S → X → Type 0
-  CallCanRun s x = (p : MutBor S) (q : Bor X) → p.now ≡ s → q.now ≡ x → g.pre f (p, (q, tt))
+  CallCanRun s x = (a : A) (p : MutBor S) (q : Bor X) → p.now ≡ s → q.now ≡ x → g.pre f (a, (p, (q, tt)))
 
   -- a call at s and x may give this, and leave t
   pub record CallGives (s : S) (x : X) (given : Result (Vec ℕ A) QueryFault) (t : S) : Type 0 where
+    pub alloc : A
     pub shown : MutBor S
     pub statement : Bor X
     pub left : MutBor S
     pub shows : shown.now ≡ s
     pub reads : statement.now ≡ x
-    pub met : g.post f (shown, (statement, tt)) (given, (left, tt))
+    pub met : g.post f (alloc, (shown, (statement, tt))) (given, (left, tt))
     pub leaves : left.now ≡ t
 
   -- it runs the statement x, takes s to t, and answers the text

@@ -9,22 +9,24 @@ ghost use Rattle.mob_statements.specs.Statements.{CanAllRun, StatementsEnd, Ends
 use mob_ending::Ending;
 use mob_eval::QueryFault;
 use mob_outside::{Sink, put_all};
+use std::alloc::Global;
 
 /// Runs all statements by calls of `execute`, and puts each answer before the next statement runs.
 /// Where all ran, the state is left as the last of them left it. Each has to be one that can be run
 /// in every state that those before it may leave. It ends by `Done`, by the fault of a statement,
 /// by a fault of `out` or out of memory.
-pub fn run_all<S, X, F: Fn(&mut S, &X) -> Result<Vec<u8>, QueryFault>, K: Sink>(
-    execute: &F,
+pub fn run_all<S, X, F: Fn(Global, &mut S, &X) -> Result<Vec<u8>, QueryFault>, K: Sink>(
+    alloc: Global,
     state: &mut S,
     statements: &[X],
     out: &mut K,
+    execute: &F,
 ) -> Ending
     requires can { CanAllRun (CallRuns F.Fn execute.now) (CallCanRun F.Fn execute.now) state.old statements.now }
     ensures ends { StatementsEnd (CallRuns F.Fn execute.now) (CallStops F.Fn execute.now) state.old state.new statements.now (stream_seen K.held K.faults out.old out.new) result }
     ensures later { K.faults out.old ≤ K.faults out.new }
 {
-    match run_each(execute, state, statements, out) {
+    match run_each(alloc, state, statements, out, execute) {
         Ok(()) => Ending::Done,
         Err(ending) => ending,
     }
@@ -32,11 +34,12 @@ pub fn run_all<S, X, F: Fn(&mut S, &X) -> Result<Vec<u8>, QueryFault>, K: Sink>(
 
 // Runs the statements one after another. The error is the ending at the first one that does not
 // run, or whose answer is not put.
-fn run_each<S, X, F: Fn(&mut S, &X) -> Result<Vec<u8>, QueryFault>, K: Sink>(
-    execute: &F,
+fn run_each<S, X, F: Fn(Global, &mut S, &X) -> Result<Vec<u8>, QueryFault>, K: Sink>(
+    alloc: Global,
     state: &mut S,
     statements: &[X],
     out: &mut K,
+    execute: &F,
 ) -> Result<(), Ending>
     requires can { CanAllRun (CallRuns F.Fn execute.now) (CallCanRun F.Fn execute.now) state.old statements.now }
     ensures all { OnOk result (StatementsEnd (CallRuns F.Fn execute.now) (CallStops F.Fn execute.now) state.old state.new statements.now (stream_seen K.held K.faults out.old out.new) Done) }
@@ -45,7 +48,7 @@ fn run_each<S, X, F: Fn(&mut S, &X) -> Result<Vec<u8>, QueryFault>, K: Sink>(
 {
     let mut number: u32 = 1;
     for statement in statements {
-        let text = match run_one(execute, state, statement) {
+        let text = match run_one(alloc, state, statement, execute) {
             Ok(text) => text,
             Err(fault) => return Err(ended_by(number, fault)),
         };
@@ -62,16 +65,17 @@ fn run_each<S, X, F: Fn(&mut S, &X) -> Result<Vec<u8>, QueryFault>, K: Sink>(
 }
 
 // Runs one statement, and answers the text of its answer.
-fn run_one<S, X, F: Fn(&mut S, &X) -> Result<Vec<u8>, QueryFault>>(
-    execute: &F,
+fn run_one<S, X, F: Fn(Global, &mut S, &X) -> Result<Vec<u8>, QueryFault>>(
+    alloc: Global,
     state: &mut S,
     statement: &X,
+    execute: &F,
 ) -> Result<Vec<u8>, QueryFault>
     requires can { CallCanRun F.Fn execute.now state.old statement.now }
     ensures step { IfOk result (λ text. CallRuns F.Fn execute.now state.old statement.now state.new text.items) }
     ensures fault { IfErr result (OnTuple (λ f. CallStops F.Fn execute.now state.old statement.now f)) }
 {
-    execute(state, statement)
+    execute(alloc, state, statement)
 }
 
 // The ending where the statement of this number has this fault.
