@@ -12,6 +12,10 @@ use Rattle.mob_statements.specs.Calls.{CallCanRun, CallGives, CallRuns, CallStop
 use Rattle.mob_statements.specs.Statements.{CanAllRun, StatementsEnd}
 use Rattle.mob_statements.proofs.Alike.{can_narrower, ends_wider}
 
+-- the second of two facts, where the type is found later
+pub second : {P Q : Type 0} → P × Q → Q
+second h = h.1
+
 module _ {F S X A : Type 0} (g : Shared F (A × (MutBor S × (Bor X × Unit {0}))) (Result (Vec ℕ A) QueryFault × (MutBor S × Unit {0}))) (f : F) where
   module _ (a : A) (p : MutBor S) (q : Bor X) (left : MutBor S) where
     gives : (given : Result (Vec ℕ A) QueryFault) → g.post f (a, (p, (q, tt))) (given, (left, tt)) → CallGives g f p.now q.now given left.now
