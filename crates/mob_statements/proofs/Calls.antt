@@ -1,5 +1,5 @@
 -- What a call tells by its answer, and what follows for a closure of which each call is known.
-use Rattle.std.proofs.Common.{refl, sym, subst, ℕ, List, Result, Ok, Err, IfOk, IfErr}
+use Rattle.std.proofs.Common.{refl, subst, ℕ, List, take, Result, Ok, Err, IfOk, IfErr}
 use Rattle.std.specs.Borrow.{Bor, MutBor}
 use Rattle.std.specs.Fn.{Shared}
 use Rattle.std.specs.declared.vec.Vec.{Vec}
@@ -8,9 +8,9 @@ use Rattle.mob_eval.specs.QueryFaults.{OnTuple, TupleFault}
 use Rattle.mob_eval.specs.declared.query_fault.QueryFault.{QueryFault}
 use Rattle.mob_eval.specs.declared.query_fault.QueryFault.TheVariants.{Passed, NoMemory}
 use Rattle.mob_ending.specs.declared.ending.Ending.{Ending}
-use Rattle.mob_statements.specs.Calls.{CallCanRun, CallGives, CallRuns, CallStops}
-use Rattle.mob_statements.specs.Statements.{CanAllRun, StatementsEnd}
-use Rattle.mob_statements.proofs.Alike.{can_narrower, ends_wider}
+use Rattle.mob_statements.specs.Calls.{CallGives, CallRuns, CallStops}
+use Rattle.mob_statements.specs.Statements.{CanAllRun, CanRunEach, StatementsEnd}
+use Rattle.mob_statements.proofs.Alike.{can_at, ends_wider, ran_wider}
 
 -- the second of two facts, where the type is found later
 pub second : {P Q : Type 0} → P × Q → Q
@@ -49,11 +49,9 @@ module _ {F S X A : Type 0} (g : Shared F (A × (MutBor S × (Bor X × Unit {0})
         (subst (λ z. faults k.shown.now z (rows, (place, formula))) k.reads
         (does k.alloc k.shown k.statement k.left (Err (Passed rows place formula)) k.met).1)
 
-    -- so statements that can be run by steps can be run by its calls
-    pub can_by_calls : ((a : A) (p : MutBor S) (q : Bor X) → can p.now q.now → g.pre f (a, (p, (q, tt)))) → (xs : List X) (s : S) → CanAllRun step can s xs → CanAllRun (CallRuns g f) (CallCanRun g f) s xs
-    can_by_calls takes xs s h =
-        can_narrower (CallRuns g f) step does_step can (CallCanRun g f)
-        (λ u x may a p q is reads. takes a p q (subst (λ z. can z q.now) (sym is) (subst (λ z. can u z) (sym reads) may))) xs s h
+    -- so where its calls have taken the state, statements that can be run by steps can be run
+    pub can_by_calls : (all : List X) (s : S) → CanAllRun step can s all → CanRunEach (CallRuns g f) can s all
+    can_by_calls all s h j t text x ran at = can_at step can all s h j t text x (ran_wider (CallRuns g f) step does_step (take j all) s t text ran) at
 
     -- and where its calls end them, so do the steps
     pub end_by_calls : (s left : S) (all : List X) (out : StreamSeen) (ending : Ending) → StatementsEnd (CallRuns g f) (CallStops g f) s left all out ending → StatementsEnd step faults s left all out ending

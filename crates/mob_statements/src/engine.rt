@@ -4,7 +4,7 @@ ghost use Rattle.mob_outside.specs.EndsSeen.{stream_seen};
 ghost use Rattle.mob_eval.specs.QueryFaults.{OnTuple};
 ghost use Rattle.mob_ending.specs.declared.ending.Ending.TheVariants.{Done};
 ghost use Rattle.mob_statements.specs.Calls.{CallCanRun, CallRuns, CallStops};
-ghost use Rattle.mob_statements.specs.Statements.{CanAllRun, StatementsEnd, EndsByFault};
+ghost use Rattle.mob_statements.specs.Statements.{CanRunEach, StatementsEnd, EndsByFault};
 
 use mob_ending::Ending;
 use mob_eval::QueryFault;
@@ -13,7 +13,7 @@ use std::alloc::Global;
 
 /// Runs all statements by calls of `execute`, and puts each answer before the next statement runs.
 /// Where all ran, the state is left as the last of them left it. Each has to be one that can be run
-/// in every state that those before it may leave. It ends by `Done`, by the fault of a statement,
+/// wherever those before it have taken the state. It ends by `Done`, by the fault of a statement,
 /// by a fault of `out` or out of memory.
 pub fn run_all<S, X, F: Fn(Global, &mut S, &X) -> Result<Vec<u8>, QueryFault>, K: Sink>(
     alloc: Global,
@@ -22,7 +22,7 @@ pub fn run_all<S, X, F: Fn(Global, &mut S, &X) -> Result<Vec<u8>, QueryFault>, K
     out: &mut K,
     execute: &F,
 ) -> Ending
-    requires can { CanAllRun (CallRuns F.Fn execute.now) (CallCanRun F.Fn execute.now) state.old statements.now }
+    requires can { CanRunEach (CallRuns F.Fn execute.now) (CallCanRun F.Fn execute.now) state.old statements.now }
     ensures ends { StatementsEnd (CallRuns F.Fn execute.now) (CallStops F.Fn execute.now) state.old state.new statements.now (stream_seen K.held K.faults out.old out.new) result }
     ensures later { K.faults out.old ≤ K.faults out.new }
 {
@@ -41,7 +41,7 @@ fn run_each<S, X, F: Fn(Global, &mut S, &X) -> Result<Vec<u8>, QueryFault>, K: S
     out: &mut K,
     execute: &F,
 ) -> Result<(), Ending>
-    requires can { CanAllRun (CallRuns F.Fn execute.now) (CallCanRun F.Fn execute.now) state.old statements.now }
+    requires can { CanRunEach (CallRuns F.Fn execute.now) (CallCanRun F.Fn execute.now) state.old statements.now }
     ensures all { OnOk result (StatementsEnd (CallRuns F.Fn execute.now) (CallStops F.Fn execute.now) state.old state.new statements.now (stream_seen K.held K.faults out.old out.new) Done) }
     ensures ends { IfErr result (StatementsEnd (CallRuns F.Fn execute.now) (CallStops F.Fn execute.now) state.old state.new statements.now (stream_seen K.held K.faults out.old out.new)) }
     ensures later { K.faults out.old ≤ K.faults out.new }

@@ -1,9 +1,10 @@
-use Rattle.std.proofs.Common.{rules, subst, ◌+◌}
+use Rattle.std.proofs.Common.{rules, refl, subst, ◌+◌, length}
+use Rattle.std.proofs.lemmas.Option.{slice_get_read}
 use Rattle.std.specs.Io.KnownBytes.{Appends}
 use Rattle.mob_outside.specs.Streams.{PutsPart}
 use Rattle.mob_outside.specs.EndsSeen.{stream_seen}
-use Rattle.mob_statements.specs.Calls.{CallCanRun, CallRuns, CallStops}
-use Rattle.mob_statements.proofs.Running.{can_next, can_rest, halted, ran_next, puts_front}
+use Rattle.mob_statements.specs.Calls.{CallRuns, CallStops}
+use Rattle.mob_statements.proofs.Running.{halted, ran_next, puts_front}
 use Rattle.mob_statements.proofs.engine.run_each.Goals as goal
 
 pub returns-in-Err-clause-ends : goal.returns-in-Err-clause-ends
@@ -42,12 +43,12 @@ loop-statement-preserved g c =
       within = search rules;
       ran = ran_next (CallRuns g.F.Fn execute) c.args.state.now c.args.statements.now (g.K.Sink.held c.args.out.now) at.statement-index c.statement-item.result at.state c.run_one.new.state c.in-Ok.text.items
           (g.K.Sink.held at.out) (g.K.Sink.held c.put_all.new.sink) c.loop-statement-test.true c.statement-item.is at.invariant.ran c.in-Ok.ensures.step put;
-      can = can_rest (CallRuns g.F.Fn execute) (CallCanRun g.F.Fn execute) c.args.statements.now at.statement-index c.statement-item.result c.loop-statement-test.true c.statement-item.is at.state at.invariant.can
-          c.run_one.new.state c.in-Ok.text.items c.in-Ok.ensures.step;
       later = search rules;
     }
 
 pub run_one-requires : goal.run_one-requires
 run_one-requires g c =
-    let can = can_next (CallRuns g.F.Fn c.args.execute.now) (CallCanRun g.F.Fn c.args.execute.now) c.args.statements.now c.loop-statement.statement-index c.statement-item.result c.loop-statement-test.true c.statement-item.is c.loop-statement.state c.loop-statement.invariant.can in
+    let at = c.loop-statement in
+    let xs = c.args.statements.now in
+    let can = c.requires.can at.statement-index at.state at.invariant.ran.text c.statement-item.result at.invariant.ran.ran (slice_get_read xs (length xs) at.statement-index c.statement-item.result refl c.loop-statement-test.true c.statement-item.is) in
     search (rules, can)
