@@ -27,7 +27,7 @@ pub fn run_all<S, X, F: Fn(Global, &mut S, &X) -> Result<Vec<u8>, QueryFault>, K
     ensures later { K.faults out.old ≤ K.faults out.new }
 {
     match run_each(alloc, state, statements, out, execute) {
-        Ok(()) => Ending::ScriptRefused { refusal: mob_ast::Refusal { kind: mob_ast::Kind::NotUtf8, statement: 1, place: 0 } },
+        Ok(()) => Ending::Done,
         Err(ending) => ending,
     }
 }
