@@ -219,23 +219,23 @@ fn add(one: Chosen, chosen: &mut Vec<Chosen>) -> Result<(), AllocError> {
     Ok(())
 }
 
-// Which place an expression names, if it names at most one. In a query of one table each row is
-// passed once, and only an operator that names none is of use.
-fn place_named(e: &TExpr, several: bool) -> Option<Option<u32>> {
+// Which place an expression names, if it names at most one. Where each row is passed once, and the
+// expression is evaluated once on it, only one that names none is of use.
+fn place_named(e: &TExpr, again: bool) -> Option<Option<u32>> {
     match reach_of(e) {
         Reach::Nowhere => Some(None),
-        Reach::At(place) => { if several { Some(Some(place)) } else { None } }
+        Reach::At(place) => { if again { Some(Some(place)) } else { None } }
         Reach::Far => None,
     }
 }
 
 // The operands of `&&` whose boxes may be remembered: moving points.
-fn choose_boxes(e: &TExpr, several: bool, chosen: &mut Vec<Chosen>) -> Result<(), AllocError> {
+fn choose_boxes(e: &TExpr, again: bool, chosen: &mut Vec<Chosen>) -> Result<(), AllocError> {
     let Op::Overlap = e.op else {
         return Ok(());
     };
     for arg in &e.args {
-        if let (SqlType::TPoint, Some(place)) = (arg.ty, place_named(arg, several)) {
+        if let (SqlType::TPoint, Some(place)) = (arg.ty, place_named(arg, again)) {
             let one = Chosen {
                 at: arg.place,
                 place,
@@ -248,11 +248,11 @@ fn choose_boxes(e: &TExpr, several: bool, chosen: &mut Vec<Chosen>) -> Result<()
 }
 
 // The largest operators of an expression that may be remembered.
-fn choose(e: &TExpr, several: bool, chosen: &mut Vec<Chosen>) -> Result<(), AllocError> {
+fn choose(e: &TExpr, again: bool, chosen: &mut Vec<Chosen>) -> Result<(), AllocError> {
     if e.args.is_empty() || chosen.len() >= MOST {
         return Ok(());
     }
-    if let Some(place) = place_named(e, several) {
+    if let Some(place) = place_named(e, again) {
         let one = Chosen {
             at: e.place,
             place,
@@ -260,18 +260,42 @@ fn choose(e: &TExpr, several: bool, chosen: &mut Vec<Chosen>) -> Result<(), Allo
         };
         return add(one, chosen);
     }
-    choose_boxes(e, several, chosen)?;
+    choose_boxes(e, again, chosen)?;
     for arg in &e.args {
-        choose(arg, several, chosen)?;
+        choose(arg, again, chosen)?;
     }
     Ok(())
 }
 
-// Those of several expressions.
+// The places of some expressions in the script, in order.
+fn places_of(alloc: Global, roots: &[&TExpr]) -> Result<Vec<u32>, AllocError> {
+    let mut places = Vec::new(alloc);
+    for root in roots {
+        places.push(root.place)?;
+    }
+    places.sort_unstable();
+    Ok(places)
+}
+
+// Whether one of some places in order is there twice.
+fn is_twice(places: &[u32], place: u32) -> bool {
+    let Ok(found) = places.binary_search(&place) else {
+        return false;
+    };
+    if found > 0 && places[found - 1] == place {
+        return true;
+    }
+    places.get(found + 1) == Some(&place)
+}
+
+// Those of several expressions. In a query of one table, only an expression that is there twice, as
+// that of a column which a key names, is evaluated again on a row.
 fn chosen_of(alloc: Global, several: bool, roots: &[&TExpr]) -> Result<Vec<Chosen>, AllocError> {
+    let places = places_of(alloc, roots)?;
     let mut chosen = Vec::new(alloc);
     for root in roots {
-        choose(*root, several, &mut chosen)?;
+        let again = several || is_twice(places.as_slice(), root.place);
+        choose(*root, again, &mut chosen)?;
     }
     Ok(chosen)
 }
