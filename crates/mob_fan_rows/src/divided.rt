@@ -3,7 +3,7 @@ ghost use Rattle.std.specs.Prelude.{◌≡◌, ◌≤◌};
 
 use crate::gates::{Passing, TwoFlags};
 use crate::numbers::Numbers;
-use crate::watched::{Meeting, Watched};
+use crate::watched::{Asked, Meeting, Noted, Watched};
 use mob_fan::{Outcome, fan};
 use mob_outside::{Gate, OpenGate};
 use std::alloc::Global;
@@ -156,4 +156,43 @@ fn two_pieces_run_side_by_side(rt: HostRuntime) {
     let outcome = fan(&rt, rt.alloc(), &work, 2, 2, &OpenGate);
     assert!(rt; matches!(outcome, Ok(Outcome::Items(_))));
     assert!(rt; flags.both_saw());
+}
+
+// Work of this size by so many workers is asked for in so many pieces, of which each number is in
+// one alone.
+fn is_done_once<R: Threads + Sync>(
+    rt: &R,
+    alloc: Global,
+    size: usize,
+    workers: usize,
+    pieces: u64,
+) -> bool
+    requires some { 1 ≤ workers }
+    requires few { workers ≤ 64 }
+{
+    let asked = Asked::new();
+    let work = Noted {
+        asked: &asked,
+        size,
+    };
+    let outcome = fan(rt, alloc, &work, size, workers, &OpenGate);
+    matches!(&outcome, Ok(Outcome::Items(_)))
+        && asked.lengths() == size as u64
+        && asked.pieces() == pieces
+}
+
+#[test]
+fn no_work_is_done_twice(rt: HostRuntime) {
+    for size in [0, 1, 5, 70, 5000] {
+        assert!(rt; is_done_once(&rt, rt.alloc(), size, 1, 1), "{size}");
+    }
+    for (size, pieces) in [(0, 1), (1, 1), (5, 5), (70, 64), (5000, 64)] {
+        assert!(rt; is_done_once(&rt, rt.alloc(), size, 2, pieces), "{size}");
+    }
+    for (size, pieces) in [(0, 1), (1, 1), (5, 5), (70, 70), (5000, 96)] {
+        assert!(rt; is_done_once(&rt, rt.alloc(), size, 3, pieces), "{size}");
+    }
+    for (size, pieces) in [(0, 1), (1, 1), (5, 5), (70, 70), (5000, 2048)] {
+        assert!(rt; is_done_once(&rt, rt.alloc(), size, 64, pieces), "{size}");
+    }
 }

@@ -92,9 +92,17 @@ fn spans_between_whole_numbers(rt: HostRuntime) {
     assert!(rt; span((1, 2, false, false)).is_some());
     assert!(rt; has((1, 3, true, false)) == Some((true, false, true)));
     assert!(rt; has((2, 5, false, true)) == Some((false, true, true)));
+}
+
+#[test]
+fn spans_that_meet_share_a_span(rt: HostRuntime) {
     for (a, b, wanted) in &MEETS {
         assert!(rt; meet(*a, *b) == *wanted);
     }
+}
+
+#[test]
+fn spans_are_in_order(rt: HostRuntime) {
     for (a, b, wanted) in &ORDERS {
         assert!(rt; order_of(*a, *b) == Some(*wanted));
     }

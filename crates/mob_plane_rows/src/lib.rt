@@ -1,5 +1,6 @@
 //! Tests of moving points in the plane: boxes, what is left of a point inside and outside of boxes
-//! and polygons, how near two points come, and which of two do by their tiles.
+//! and polygons, how near two points come, which of two do by their tiles, and where columns of
+//! tiles are cut.
 #![tactic(auto)]
 
 #[cfg(test)]
@@ -8,6 +9,8 @@ mod boxes;
 mod clipped;
 #[cfg(test)]
 mod pairs;
+#[cfg(test)]
+mod places;
 #[cfg(test)]
 mod polygons;
 #[cfg(test)]

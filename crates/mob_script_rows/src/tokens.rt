@@ -115,10 +115,14 @@ fn fault_of(alloc: Global, text: &str) -> Option<u32> {
 }
 
 #[test]
-fn texts_have_their_tokens_and_faults(rt: HostRuntime) {
+fn texts_have_their_tokens(rt: HostRuntime) {
     for (text, wanted) in &TEXTS {
         assert!(rt; has_tokens(rt.alloc(), text, wanted), "{text}");
     }
+}
+
+#[test]
+fn faults_have_their_places(rt: HostRuntime) {
     for (text, place) in &FAULTS {
         assert!(rt; fault_of(rt.alloc(), text) == Some(*place), "{text}");
     }

@@ -197,15 +197,23 @@ fn is_shown(alloc: Global, script: &str, wanted: &str) -> bool {
 }
 
 #[test]
-fn scripts_have_their_trees(rt: HostRuntime) {
-    for rows in [
-        EXPRESSIONS.as_slice(),
-        SIGNS.as_slice(),
-        STATEMENTS.as_slice(),
-    ] {
-        for (script, wanted) in rows {
-            assert!(rt; is_shown(rt.alloc(), script, wanted), "{script}");
-        }
+fn expressions_have_their_trees(rt: HostRuntime) {
+    for (script, wanted) in &EXPRESSIONS {
+        assert!(rt; is_shown(rt.alloc(), script, wanted), "{script}");
+    }
+}
+
+#[test]
+fn signs_have_their_trees(rt: HostRuntime) {
+    for (script, wanted) in &SIGNS {
+        assert!(rt; is_shown(rt.alloc(), script, wanted), "{script}");
+    }
+}
+
+#[test]
+fn statements_have_their_trees(rt: HostRuntime) {
+    for (script, wanted) in &STATEMENTS {
+        assert!(rt; is_shown(rt.alloc(), script, wanted), "{script}");
     }
 }
 

@@ -1,8 +1,8 @@
 -- Rows that are made one after another, and the first that fails.
-use Rattle.std.specs.Prelude.{◌≡◌, ℕ, ℤ, codes, map, List, [], ◌∷◌, ◌++◌, length, get_or, ◌<◌, ◌≤◌, IsUtf8, None, Some, refl, slice_get, suc, zero}
+use Rattle.std.specs.Prelude.{◌≡◌, ℕ, ℤ, codes, map, List, [], ◌∷◌, ◌++◌, length, get_or, ◌<◌, IsUtf8, Some, refl, slice_get, suc, zero}
 use Rattle.std.specs.List.{AllZip, AllByRecursion, concat}
 use Rattle.std.proofs.Common.{arith, ap, sym, ◌∙◌, subst, inl, inr, take, drop, ◌+◌}
-use Rattle.std.proofs.lemmas.List.{map-append, take_more, take_all, take-append-drop, length-take-le}
+use Rattle.std.proofs.lemmas.List.{map-append, take_more, take-append-drop, length-take-le}
 use Rattle.std.proofs.lemmas.Option.{none-some, same_Some}
 use Rattle.csv.specs.Records.{AllText}
 use Rattle.mob_cells.proofs.Making.{list_read}
@@ -41,22 +41,11 @@ module _ {A : Type 0} (xs : List A) (i : ℕ) (x : A) (lt : i < length xs) (is :
   pub parted : xs ≡ take i xs ++ x ∷ drop (i + 1) xs
   parted = sym (take-append-drop i xs) ∙ ap (λ z. take i xs ++ z) (list_read xs i x lt is)
 
-pub zip_all : {A B : Type 0} (R : A → B → Type 0) (xs : List A) (i : ℕ) (ys : List B) → length xs ≤ i → AllZip R (take i xs) ys → AllZip R xs ys
-zip_all R xs i ys most h = subst (λ z. AllZip R z ys) (take_all i xs most) h
-
-pub all_all : {A : Type 0} (P : A → Type 0) (xs : List A) (i : ℕ) → length xs ≤ i → AllByRecursion P (take i xs) → AllByRecursion P xs
-all_all P xs i most h = subst (AllByRecursion P) (take_all i xs most) h
-
--- the row that a look-up by its number finds, and that there are no more where it finds none
+-- the row that a look-up by its number finds
 pub row_found : {A : Type 0} (xs : List A) (i : ℕ) (x : A) → Some x ≡ slice_get xs i → (i < length xs) × (x ≡ get_or xs i x)
 row_found [] i x h = absurd (none-some x (sym h))
 row_found (y ∷ xs) zero x h = (omega arith, same_Some x y h)
 row_found (y ∷ xs) (suc i) x h = let later = row_found xs i x h in (let lt = later.0 in omega (arith, lt), later.1)
-
-pub no_more : {A : Type 0} (xs : List A) (i : ℕ) → None ≡ slice_get xs i → length xs ≤ i
-no_more [] i h = omega arith
-no_more (y ∷ xs) zero h = absurd (none-some y h)
-no_more (y ∷ xs) (suc i) h = let most = no_more xs i h in omega (arith, most)
 
 -- ---- the first value that fails
 passes_behind : (d : Ratio) (xs rest : List Value) (x : Value) (f : Formula) → RowTestsFit d xs → OnTests d x (λ tests. IsFirst tests (Some f)) → RowTestPasses d (xs ++ x ∷ rest) f

@@ -7,11 +7,10 @@ ghost use Rattle.mob_typing.specs.Statements.{typed_statement, typed_from, typed
 
 use crate::names::Names;
 use crate::rows::{copied, inserted};
-use crate::select::{typed_delete, typed_select};
+use crate::select::{deleted, explained, selected};
 use crate::tables::{made_index, made_table};
 use mob_ast::{Kind, Refusal, Script, Statement};
 use mob_expression::fault::Fault;
-use mob_expression::scope::number;
 use mob_list::items::Items;
 use mob_typed::{ConstText, Typed, TypedStatement};
 use std::alloc::Global;
@@ -53,15 +52,9 @@ fn type_statement(
             file,
             delimiter,
         } => copied(alloc, names, table, file, delimiter),
-        Statement::Delete { table, cond } => Ok(TypedStatement::Delete(typed_delete(
-            alloc, names, number, consts, table, cond,
-        )?)),
-        Statement::Select(select) => Ok(TypedStatement::Select(typed_select(
-            alloc, names, number, consts, select,
-        )?)),
-        Statement::Explain(select) => Ok(TypedStatement::Explain(typed_select(
-            alloc, names, number, consts, select,
-        )?)),
+        Statement::Delete { table, cond } => deleted(alloc, number, names, consts, table, cond),
+        Statement::Select(select) => selected(alloc, number, names, consts, select),
+        Statement::Explain(select) => explained(alloc, number, names, consts, select),
     }
 }
 

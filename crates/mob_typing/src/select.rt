@@ -1,10 +1,12 @@
-//! Names and types of a SELECT and of a DELETE.
+//! SELECT, EXPLAIN and DELETE.
 ghost use Rattle.std.specs.Prelude.{option_map};
 ghost use Rattle.mob_ast.specs.Trees.{tree_of, select_of};
 ghost use Rattle.mob_expression.specs.Answers.{TypesTo};
 ghost use Rattle.mob_typed.specs.Selects.{select_seen};
+ghost use Rattle.mob_typed.specs.Statements.{statement_seen, deletion, query, plan_of};
 ghost use Rattle.mob_clauses.specs.Clauses.{rows_to_go};
 ghost use Rattle.mob_typing.specs.Selects.{typed_select};
+ghost use Rattle.mob_typing.specs.Statements.{asked};
 
 use crate::from::{from_table, from_tables};
 use crate::names::Names;
@@ -13,11 +15,11 @@ use mob_clauses::clauses::{clauses_to_go, typed_clauses};
 use mob_expression::fault::Fault;
 use mob_expression::scope::Scope;
 use mob_list::items::Items;
-use mob_typed::{ConstText, TypedSelect};
+use mob_typed::{ConstText, TypedSelect, TypedStatement};
 use std::alloc::Global;
 
-/// Types the SELECT of the statement of this number. Returns it, or its first refusal.
-pub fn typed_select(
+// Types the query of the statement of this number. Returns it, or its first refusal.
+fn typed_select(
     alloc: Global,
     names: &Names,
     statement: u32,
@@ -35,9 +37,9 @@ pub fn typed_select(
     typed_clauses(alloc, &scope, consts, select)
 }
 
-/// Types the DELETE of the statement of this number: a SELECT of one table with its condition and
-/// no item. Returns it, or its first refusal.
-pub fn typed_delete(
+// Types the DELETE of the statement of this number as a query of one table with its condition and
+// no item. Returns it, or its first refusal.
+fn typed_delete(
     alloc: Global,
     names: &Names,
     statement: u32,
@@ -55,4 +57,47 @@ pub fn typed_delete(
         statement,
     };
     clauses_to_go(alloc, &scope, consts, cond)
+}
+
+/// The SELECT of the statement of this number, or what is wrong first.
+pub fn selected(
+    alloc: Global,
+    statement: u32,
+    names: &Names,
+    consts: &mut Items<ConstText>,
+    select: &SelectTree,
+) -> Result<TypedStatement, Fault>
+    ensures made { TypesTo (λ t. record { statement = statement_seen t; names = names.now }) result consts.new (asked query names.now (typed_select names.now.tables statement (select_of select.now) consts.old)) }
+{
+    let select = typed_select(alloc, names, statement, consts, select)?;
+    Ok(TypedStatement::Select(select))
+}
+
+/// The EXPLAIN of the statement of this number, or what is wrong first.
+pub fn explained(
+    alloc: Global,
+    statement: u32,
+    names: &Names,
+    consts: &mut Items<ConstText>,
+    select: &SelectTree,
+) -> Result<TypedStatement, Fault>
+    ensures made { TypesTo (λ t. record { statement = statement_seen t; names = names.now }) result consts.new (asked plan_of names.now (typed_select names.now.tables statement (select_of select.now) consts.old)) }
+{
+    let select = typed_select(alloc, names, statement, consts, select)?;
+    Ok(TypedStatement::Explain(select))
+}
+
+/// The DELETE of the statement of this number, or what is wrong first.
+pub fn deleted(
+    alloc: Global,
+    statement: u32,
+    names: &Names,
+    consts: &mut Items<ConstText>,
+    table: &Word,
+    cond: &Option<Expr>,
+) -> Result<TypedStatement, Fault>
+    ensures made { TypesTo (λ t. record { statement = statement_seen t; names = names.now }) result consts.new (asked deletion names.now (typed_select names.now.tables statement (rows_to_go table.now (option_map tree_of cond.now)) consts.old)) }
+{
+    let delete = typed_delete(alloc, names, statement, consts, table, cond)?;
+    Ok(TypedStatement::Delete(delete))
 }

@@ -1,11 +1,12 @@
 //! CREATE TABLE and CREATE INDEX.
-ghost use Rattle.std.specs.Prelude.{◌≡◌, ◌∷◌, ◌++◌, [], false, IfOk, OnOk};
+ghost use Rattle.std.specs.Prelude.{◌≡◌, ◌∷◌, ◌++◌, [], Ok, false, IfOk, OnOk};
 ghost use Rattle.mob_operators.specs.Lookup.{same_type};
+ghost use Rattle.mob_operators.specs.Table.{is_one_of};
 ghost use Rattle.mob_ast.specs.declared.types.SqlType.TheVariants.{TPoint};
 ghost use Rattle.mob_expression.specs.Answers.{AnswersAs};
 ghost use Rattle.mob_expression.specs.Names.{has_entry};
-ghost use Rattle.mob_typing.specs.Statements.{with_column, with_columns, made_table, made_index};
-ghost use Rattle.mob_typed.specs.Statements.{statement_seen};
+ghost use Rattle.mob_typing.specs.Statements.{Made, with_column, with_columns, made_table, with_index, made_index};
+ghost use Rattle.mob_typed.specs.Statements.{statement_seen, new_index};
 
 use crate::names::Names;
 use mob_ast::{Kind, SqlType, TypeWord, Word};
@@ -126,6 +127,28 @@ fn is_moving_point(ty: SqlType) -> bool
     matches!(ty, SqlType::TPoint)
 }
 
+// Adds an index of a new name on a column of a table, each by its number.
+fn added_index(
+    alloc: Global,
+    names: &mut Names,
+    name: &Word,
+    table: usize,
+    column: usize,
+) -> Result<TypedStatement, Fault>
+    requires absent { is_one_of names.old.indexes name.now.text ≡ false }
+    ensures added { AnswersAs {Y = Made} (λ t. record { statement = statement_seen t; names = names.new }) result (Ok (record { statement = new_index table column name.now.text; names = with_index names.old name.now.text })) }
+{
+    let table = number(table)?;
+    let column = number(column)?;
+    let text = name.text.copy(alloc)?;
+    names.add_index(alloc, name.text.as_str())?;
+    Ok(TypedStatement::CreateIndex {
+        table,
+        column,
+        name: text,
+    })
+}
+
 /// A new index.
 pub fn made_index(
     alloc: Global,
@@ -160,13 +183,5 @@ pub fn made_index(
             place: column.place,
         });
     }
-    let table = number(table_index)?;
-    let column = number(column_index)?;
-    let text = name.text.copy(alloc)?;
-    names.add_index(alloc, name.text.as_str())?;
-    Ok(TypedStatement::CreateIndex {
-        table,
-        column,
-        name: text,
-    })
+    added_index(alloc, names, name, table_index, column_index)
 }

@@ -1,0 +1,6 @@
+//! Pairs that are tested tile by tile, and found in the order of their rows.
+pub mod index;
+pub mod near;
+mod shares;
+mod sorting;
+mod walk;
