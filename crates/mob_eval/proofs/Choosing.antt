@@ -1,6 +1,8 @@
 -- The nodes of expressions at a place of the script, and the places that an expression names.
-use Rattle.std.proofs.Common.{◌≡◌, ◌<◌, ◌≤◌, ◌+◌, ◌==◌, ◌&&◌, ◌||◌, ◌++◌, ℕ, Bool, true, false, List, Option, Some, None, length, drop, map, get_or, refl, sym, ap, subst, ◌∙◌, arith, append_assoc, append-nil, true≢false}
+use Rattle.std.proofs.Common.{◌≡◌, ◌<◌, ◌≤◌, ◌+◌, ◌==◌, ◌&&◌, ◌||◌, ◌++◌, ◌∷◌, [], ℕ, Bool, true, false, List, Option, Some, None, length, drop, map, get_or, refl, sym, ap, subst, ◌∙◌, arith, append_assoc, append-nil, true≢false}
 use Rattle.std.proofs.lemmas.List.{drop_all}
+use Rattle.std.specs.List.{AllByRecursion}
+use Rattle.mob_list.proofs.Each.{each_both}
 use Rattle.mob_operators.specs.declared.operator.Op.{Op}
 use Rattle.mob_operators.specs.declared.operator.Op.TheVariants as op
 use Rattle.mob_typed.specs.declared.typed.TExpr.{TExpr}
@@ -12,7 +14,7 @@ use Rattle.mob_eval.specs.SoFar.{trees}
 use Rattle.mob_eval.specs.Remembered.{Recollection, IsOfPlace, AreCopies, names_only, all_name_only, reads_only, place_of, nodes_here, nodes_at, all_nodes_at}
 use Rattle.mob_eval.proofs.Loops.{drop_read}
 
-both_true : (a b : Bool) → (a && b) ≡ true → (a ≡ true) × (b ≡ true)
+pub both_true : (a b : Bool) → (a && b) ≡ true → (a ≡ true) × (b ≡ true)
 both_true true b h = (refl, h)
 both_true false b h = absurd (true≢false (sym h))
 
@@ -22,7 +24,7 @@ either_true false b f g h = g h
 
 -- ---- the places that are named
 
-same_if : (a b : ℕ) → (a == b) ≡ true → a ≡ b
+pub same_if : (a b : ℕ) → (a == b) ≡ true → a ≡ b
 same_if a b h = grind (arith, h)
 
 reads_there : (place other : ℕ) (o : Op) → reads_only (Some place) o ≡ true → reads other o ≡ true → other ≡ place
@@ -81,3 +83,18 @@ last_nodes see at whole ys xs i past h = h ∙ ap (λ zs. ys ++ all_nodes_at at 
 
 pub of_place : (c : Recollection) (roots : List TypedTree) (at : ℕ) (place : Option ℕ) (e : TExpr) → c.roots ≡ roots → AreCopies (typed_of e) (all_nodes_at at (typed_trees roots)) → names_only place (typed_of e) ≡ true → IsOfPlace c at place
 of_place c roots at place e same is only = (typed_of e, subst (λ rs. AreCopies (typed_of e) (all_nodes_at at (typed_trees rs))) (sym same) is, names_alone place (typed_of e) only)
+
+-- ---- nodes that are equal
+
+copies_of : (e f : TypedTree) (xs : List TypedTree) → e ≡ f → AreCopies f xs → AllByRecursion (λ y. y ≡ e) xs
+copies_of e f [] same h = elim h [ ]
+copies_of e f (x ∷ xs) same h = subst (λ z. AllByRecursion (λ y. y ≡ z) (x ∷ xs)) (sym same) h
+
+pub copies_both : (e f : TypedTree) (xs ys : List TypedTree) → e ≡ f → AreCopies e xs → AreCopies f ys → AreCopies e (xs ++ ys)
+copies_both e f [] ys same h k = elim h [ ]
+copies_both e f (x ∷ xs) ys same h k = (h.0, each_both (λ z. z ≡ e) xs ys h.1 (copies_of e f ys same k))
+
+-- two expressions with the same operator, type and place, and equal arguments
+pub same_node : (e f : TExpr) → (out-TExpr e).op ≡ (out-TExpr f).op → (out-TExpr e).ty ≡ (out-TExpr f).ty → (out-TExpr e).place ≡ (out-TExpr f).place
+    → map typed_of (out-TExpr e).args.items ≡ map typed_of (out-TExpr f).args.items → typed_of e ≡ typed_of f
+same_node e f o ty p args = typed_is e ∙ (λ i. typed (o i) (ty i) (p i) (typed_trees (args i))) ∙ sym (typed_is f)

@@ -1,7 +1,7 @@
 //! Which operators of a query are remembered.
-ghost use Rattle.std.specs.Prelude.{◌≡◌, ◌==◌, ◌++◌, List, map};
+ghost use Rattle.std.specs.Prelude.{◌≡◌, ◌==◌, ◌++◌, true, List, map};
 ghost use Rattle.mob_typed.specs.Trees.{TypedTree, typed_of, typed_trees};
-ghost use Rattle.mob_eval.specs.Remembered.{AreNodes, all_nodes_at, names_only, nodes_at, nodes_here, place_of, reads_only, root_seen};
+ghost use Rattle.mob_eval.specs.Remembered.{AreCopies, AreNodes, all_nodes_at, names_only, nodes_at, nodes_here, place_of, reads_only, root_seen};
 
 use crate::memory::Memory;
 use crate::memory::remembered::Remembering;
@@ -19,10 +19,60 @@ const MOST: usize = 8;
 pub enum NodesAt<'a> {
     /// There is none.
     Nobody,
-    /// There is just one.
+    /// There is this one, and each other one is equal to it.
     Only(&'a TExpr),
-    /// There are several.
+    /// There are several that differ.
     Several,
+}
+
+fn same_op(one: Op, other: Op) -> bool
+    ensures same { result ≡ true → one ≡ other }
+{
+    one == other
+}
+
+fn same_type(one: SqlType, other: SqlType) -> bool
+    ensures same { result ≡ true → one ≡ other }
+{
+    one == other
+}
+
+// Whether two nodes are equal. A key that names a column of the answer is a copy of its expression,
+// at the same places of the script.
+#[tactic(auto, using(mob_typed::proofs::TreeFacts::typed_is))]
+fn are_same(one: &TExpr, other: &TExpr) -> bool
+    ensures same { result ≡ true → typed_of one.now ≡ typed_of other.now }
+{
+    if !same_op(one.op, other.op) {
+        return false;
+    }
+    if !same_type(one.ty, other.ty) {
+        return false;
+    }
+    if one.place != other.place {
+        return false;
+    }
+    let mut rest = other.args.as_slice();
+    for arg in &one.args {
+        let Some((first, behind)) = rest.split_first() else {
+            return false;
+        };
+        if !are_same(arg, first) {
+            return false;
+        }
+        rest = behind;
+    }
+    rest.is_empty()
+}
+
+// The nodes of two parts that each have one, and perhaps copies of it.
+fn both_only<'a>(one: &'a TExpr, other: &'a TExpr) -> NodesAt<'a>
+    ensures both { (es fs : List TypedTree) → AreCopies (typed_of one.now) es → AreCopies (typed_of other.now) fs → AreNodes result (es ++ fs) }
+{
+    if are_same(one, other) {
+        return NodesAt::Only(one);
+    }
+    NodesAt::Several
 }
 
 // The nodes of two parts.
@@ -32,6 +82,7 @@ fn both<'a>(one: NodesAt<'a>, other: NodesAt<'a>) -> NodesAt<'a>
     match (one, other) {
         (NodesAt::Nobody, nodes) => nodes,
         (nodes, NodesAt::Nobody) => nodes,
+        (NodesAt::Only(one), NodesAt::Only(other)) => both_only(one, other),
         _ => NodesAt::Several,
     }
 }
@@ -168,23 +219,23 @@ fn add(one: Chosen, chosen: &mut Vec<Chosen>) -> Result<(), AllocError> {
     Ok(())
 }
 
-// Which place an expression names, if it names at most one. In a query of one table each row is
-// passed once, and only an operator that names none is of use.
-fn place_named(e: &TExpr, several: bool) -> Option<Option<u32>> {
+// Which place an expression names, if it names at most one. Where each row is passed once, and the
+// expression is evaluated once on it, only one that names none is of use.
+fn place_named(e: &TExpr, again: bool) -> Option<Option<u32>> {
     match reach_of(e) {
         Reach::Nowhere => Some(None),
-        Reach::At(place) => { if several { Some(Some(place)) } else { None } }
+        Reach::At(place) => { if again { Some(Some(place)) } else { None } }
         Reach::Far => None,
     }
 }
 
 // The operands of `&&` whose boxes may be remembered: moving points.
-fn choose_boxes(e: &TExpr, several: bool, chosen: &mut Vec<Chosen>) -> Result<(), AllocError> {
+fn choose_boxes(e: &TExpr, again: bool, chosen: &mut Vec<Chosen>) -> Result<(), AllocError> {
     let Op::Overlap = e.op else {
         return Ok(());
     };
     for arg in &e.args {
-        if let (SqlType::TPoint, Some(place)) = (arg.ty, place_named(arg, several)) {
+        if let (SqlType::TPoint, Some(place)) = (arg.ty, place_named(arg, again)) {
             let one = Chosen {
                 at: arg.place,
                 place,
@@ -197,11 +248,11 @@ fn choose_boxes(e: &TExpr, several: bool, chosen: &mut Vec<Chosen>) -> Result<()
 }
 
 // The largest operators of an expression that may be remembered.
-fn choose(e: &TExpr, several: bool, chosen: &mut Vec<Chosen>) -> Result<(), AllocError> {
+fn choose(e: &TExpr, again: bool, chosen: &mut Vec<Chosen>) -> Result<(), AllocError> {
     if e.args.is_empty() || chosen.len() >= MOST {
         return Ok(());
     }
-    if let Some(place) = place_named(e, several) {
+    if let Some(place) = place_named(e, again) {
         let one = Chosen {
             at: e.place,
             place,
@@ -209,18 +260,42 @@ fn choose(e: &TExpr, several: bool, chosen: &mut Vec<Chosen>) -> Result<(), Allo
         };
         return add(one, chosen);
     }
-    choose_boxes(e, several, chosen)?;
+    choose_boxes(e, again, chosen)?;
     for arg in &e.args {
-        choose(arg, several, chosen)?;
+        choose(arg, again, chosen)?;
     }
     Ok(())
 }
 
-// Those of several expressions.
+// The places of some expressions in the script, in order.
+fn places_of(alloc: Global, roots: &[&TExpr]) -> Result<Vec<u32>, AllocError> {
+    let mut places = Vec::new(alloc);
+    for root in roots {
+        places.push(root.place)?;
+    }
+    places.sort_unstable();
+    Ok(places)
+}
+
+// Whether one of some places in order is there twice.
+fn is_twice(places: &[u32], place: u32) -> bool {
+    let Ok(found) = places.binary_search(&place) else {
+        return false;
+    };
+    if found > 0 && places[found - 1] == place {
+        return true;
+    }
+    places.get(found + 1) == Some(&place)
+}
+
+// Those of several expressions. In a query of one table, only an expression that is there twice, as
+// that of a column which a key names, is evaluated again on a row.
 fn chosen_of(alloc: Global, several: bool, roots: &[&TExpr]) -> Result<Vec<Chosen>, AllocError> {
+    let places = places_of(alloc, roots)?;
     let mut chosen = Vec::new(alloc);
     for root in roots {
-        choose(*root, several, &mut chosen)?;
+        let again = several || is_twice(places.as_slice(), root.place);
+        choose(*root, again, &mut chosen)?;
     }
     Ok(chosen)
 }
@@ -239,7 +314,7 @@ fn rows_at(store: &Store, from: &[u32], place: Option<u32>) -> usize {
     }
 }
 
-// Remembers an operator that stands alone at its place of the script.
+// Remembers an operator, unless its place of the script has another one too.
 fn remember_one<K: Remembering>(
     alloc: Global,
     roots: &[&TExpr],
@@ -265,7 +340,7 @@ fn remember_one<K: Remembering>(
 
 /// A memory of the operators of these expressions that name at most one table of FROM, and of the
 /// boxes of such operands of `&&`: of about eight, and of none that shares its place in the script
-/// with another. If memory is refused there are fewer.
+/// with a different one. If memory is refused there are fewer.
 pub fn memory_of<K: Remembering>(
     alloc: Global,
     store: &Store,

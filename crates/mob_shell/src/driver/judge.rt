@@ -4,7 +4,7 @@ ghost use Rattle.mob_outside.specs.Told.{KeepsFiles};
 ghost use Rattle.mob_outside.specs.EndsSeen.{files_seen, stream_seen};
 ghost use Rattle.mob_shell.specs.Parts.{IsEndingOfRefusal, TextEnds, unloaded};
 
-use crate::statements::{Session, run_all};
+use crate::statements::{Session, run_session};
 use mob_accept::accept;
 use mob_ast::{Kind, Refusal};
 use mob_catalog::laws::values_have_their_types;
@@ -84,5 +84,5 @@ pub fn run_text<R: Threads + Sync, F: Files, K: Sink, G: Gate>(
     let mut session = Session::new(alloc, program, settings.epoch);
     let statements = typed.statements.as_slice();
     let workers = settings.workers as usize;
-    run_all(rt, alloc, &mut session, statements, out, workers, gate)
+    run_session(rt, alloc, &mut session, statements, out, workers, gate)
 }

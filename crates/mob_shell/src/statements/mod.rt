@@ -6,5 +6,5 @@ mod engine;
 mod rows;
 mod session;
 
-pub use engine::run_all;
+pub use engine::run_session;
 pub use session::Session;

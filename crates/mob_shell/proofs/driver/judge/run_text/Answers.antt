@@ -3,14 +3,14 @@ use Rattle.mob_outside.specs.EndsSeen.{files_seen, stream_seen}
 use Rattle.mob_typed.specs.Statements.{script_seen}
 use Rattle.mob_load.specs.Loads.{IsTypedScript}
 use Rattle.mob_shell.specs.Session.{SessionCanRun, SessionRuns}
-use Rattle.mob_shell.specs.Statements.{CanAllRun}
+use Rattle.mob_statements.specs.Statements.{CanAllRun}
 use Rattle.mob_shell.proofs.Runnable.{script_can}
 use Rattle.mob_shell.proofs.Seen.{can_all, loaded_ends, unloaded_ends}
 use Rattle.mob_shell.proofs.Whole.{asks_none, keeps_all, refused_says}
 use Rattle.mob_shell.proofs.driver.judge.run_text.Goals as goal
 
-pub run_all-requires : goal.run_all-requires
-run_all-requires g c =
+pub run_session-requires : goal.run_session-requires
+run_session-requires g c =
     let out = script_seen c.in-Ok.typed in
     let day = c.args.settings.epoch in
     let program = c.in-Ok-load.program in
@@ -41,11 +41,11 @@ returns-in-Err-load-clause-ends g c =
 pub returns-clause-ends : goal.returns-clause-ends
 returns-clause-ends g c =
     let files = files_seen g.F.Files.files g.F.Files.asked g.F.Files.faults c.args.files.now c.load.new.files in
-    let out = stream_seen g.K.Sink.held g.K.Sink.faults c.args.out.now c.run_all.new.out in
-    let ends = rw c.as_slice-statements.ensures.same at c.run_all.ensures.ends in
+    let out = stream_seen g.K.Sink.held g.K.Sink.faults c.args.out.now c.run_session.new.out in
+    let ends = rw c.as_slice-statements.ensures.same at c.run_session.ensures.ends in
     inl (record {
       script = script_seen c.in-Ok.typed;
       accepted = c.in-Ok.ensures.accepted;
-      ends = loaded_ends c.args.settings.epoch c.in-Ok-load.program c.in-Ok.typed c.new-session.result c.new-session.ensures.begins c.new-session.ensures.day files out _ c.run_all.result c.in-Ok-load.ensures.loaded ends;
+      ends = loaded_ends c.args.settings.epoch c.in-Ok-load.program c.in-Ok.typed c.new-session.result c.new-session.ensures.begins c.new-session.ensures.day files out _ c.run_session.result c.in-Ok-load.ensures.loaded ends;
       asks = c.load.ensures.some;
     })

@@ -1,4 +1,4 @@
-use Rattle.mob_shell.proofs.statements.engine.run_all.Goals as goal
+use Rattle.mob_statements.proofs.engine.run_all.Goals as goal
 
 pub returns-in-Ok-clause-ends : goal.returns-in-Ok-clause-ends
 returns-in-Ok-clause-ends g c = c.in-Ok.ensures.all

@@ -1,0 +1,98 @@
+// Statements that run one after another, each with the text of its answer.
+ghost use Rattle.std.specs.Prelude.{◌≤◌, IfOk, IfErr, OnOk};
+ghost use Rattle.mob_outside.specs.EndsSeen.{stream_seen};
+ghost use Rattle.mob_eval.specs.QueryFaults.{OnTuple};
+ghost use Rattle.mob_ending.specs.declared.ending.Ending.TheVariants.{Done};
+ghost use Rattle.mob_statements.specs.Calls.{CallCanRun, CallRuns, CallStops};
+ghost use Rattle.mob_statements.specs.Statements.{CanRunEach, StatementsEnd, EndsByFault};
+
+use mob_ending::Ending;
+use mob_eval::QueryFault;
+use mob_outside::{Sink, put_all};
+use std::alloc::Global;
+
+/// Runs all statements by calls of `execute`, and puts each answer before the next statement runs.
+/// Where all ran, the state is left as the last of them left it. Each has to be one that can be run
+/// wherever those before it have taken the state. It ends by `Done`, by the fault of a statement,
+/// by a fault of `out` or out of memory.
+pub fn run_all<S, X, F: Fn(Global, &mut S, &X) -> Result<Vec<u8>, QueryFault>, K: Sink>(
+    alloc: Global,
+    state: &mut S,
+    statements: &[X],
+    out: &mut K,
+    execute: &F,
+) -> Ending
+    requires can { CanRunEach (CallRuns F.Fn execute.now) (CallCanRun F.Fn execute.now) state.old statements.now }
+    ensures ends { StatementsEnd (CallRuns F.Fn execute.now) (CallStops F.Fn execute.now) state.old state.new statements.now (stream_seen K.held K.faults out.old out.new) result }
+    ensures later { K.faults out.old ≤ K.faults out.new }
+{
+    match run_each(alloc, state, statements, out, execute) {
+        Ok(()) => Ending::Done,
+        Err(ending) => ending,
+    }
+}
+
+// Runs the statements one after another. The error is the ending at the first one that does not
+// run, or whose answer is not put.
+fn run_each<S, X, F: Fn(Global, &mut S, &X) -> Result<Vec<u8>, QueryFault>, K: Sink>(
+    alloc: Global,
+    state: &mut S,
+    statements: &[X],
+    out: &mut K,
+    execute: &F,
+) -> Result<(), Ending>
+    requires can { CanRunEach (CallRuns F.Fn execute.now) (CallCanRun F.Fn execute.now) state.old statements.now }
+    ensures all { OnOk result (StatementsEnd (CallRuns F.Fn execute.now) (CallStops F.Fn execute.now) state.old state.new statements.now (stream_seen K.held K.faults out.old out.new) Done) }
+    ensures ends { IfErr result (StatementsEnd (CallRuns F.Fn execute.now) (CallStops F.Fn execute.now) state.old state.new statements.now (stream_seen K.held K.faults out.old out.new)) }
+    ensures later { K.faults out.old ≤ K.faults out.new }
+{
+    let mut number: u32 = 1;
+    for statement in statements {
+        let text = match run_one(alloc, state, statement, execute) {
+            Ok(text) => text,
+            Err(fault) => return Err(ended_by(number, fault)),
+        };
+        match put_all(out, &text) {
+            Ok(()) => {}
+            Err(_) => return Err(Ending::WriteFault),
+        }
+        let Some(next) = number.checked_add(1) else {
+            return Err(Ending::NoMemory);
+        };
+        number = next;
+    }
+    Ok(())
+}
+
+// Runs one statement, and answers the text of its answer.
+fn run_one<S, X, F: Fn(Global, &mut S, &X) -> Result<Vec<u8>, QueryFault>>(
+    alloc: Global,
+    state: &mut S,
+    statement: &X,
+    execute: &F,
+) -> Result<Vec<u8>, QueryFault>
+    requires can { CallCanRun F.Fn execute.now state.old statement.now }
+    ensures step { IfOk result (λ text. CallRuns F.Fn execute.now state.old statement.now state.new text.items) }
+    ensures fault { IfErr result (OnTuple (λ f. CallStops F.Fn execute.now state.old statement.now f)) }
+{
+    execute(alloc, state, statement)
+}
+
+// The ending where the statement of this number has this fault.
+fn ended_by(statement: u32, fault: QueryFault) -> Ending
+    ensures end { EndsByFault statement fault result }
+{
+    match fault {
+        QueryFault::Passed {
+            tuple,
+            place,
+            formula,
+        } => Ending::Overflow {
+            statement,
+            rows: tuple,
+            place,
+            formula,
+        },
+        QueryFault::NoMemory => Ending::NoMemory,
+    }
+}
